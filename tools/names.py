@@ -1,6 +1,6 @@
 #!/usr/bin/env python3
 """What proofs and contracts bring in is there, by a look at the text alone, in two seconds: each name that a `use` line takes from
-the specs or proofs of a crate here stands in that module, each file of proofs/ has another name than the modules of its crate, and
+the specs or proofs of a crate here stands in that module, or is passed on by the root, which passes on what is there; each file of proofs/ has another name than the modules of its crate, and
 `if .. then ..` is brought in where it stands. It proves nothing; run it after crates were merged or lemmas removed, before a gate that
 would find the first such line in ten minutes. Ends with 1 where something is missing.
 
@@ -12,7 +12,8 @@ import re
 import sys
 
 TOP = os.path.dirname(os.path.dirname(os.path.abspath(__file__)))
-USE = re.compile(r"use\s+Rattle\.(\w+)\.(specs|proofs)\.([\w.+-]+?)\.\{([^}]*)\}")
+USE = re.compile(r"use\s+Rattle\.(\w+)\.(specs|proofs)\.(?:([\w.+-]+?)\.)?\{([^}]*)\}")
+PASSED_ON = re.compile(r"(?m)^(?:unfoldable )?pub use ([\w.]+)\.\{([^}]*)\}")
 MODIFIERS = r"(?:(?:pub|abbrev|unfoldable|opaque|data|record|ruleset)\s+)*"
 DEFINED = re.compile(r"(?m)^\s*" + MODIFIERS + r"([^\s:(){},]+(?: [^\s:(){},]+)*)\s*(?:\{[^}]*\}\s*|\([^)]*\)\s*)*:(?=\s)")
 HEADED = re.compile(r"(?m)^\s*(?:pub\s+)?(?:data|record|ruleset|module)\s+([^\s:(){},]+)")
@@ -52,20 +53,43 @@ def begins_a_line(path, name):
     return re.search(r"(?m)^\s*(?:pub\s+)?" + re.escape(name) + r"(?=[\s:])", text_of(path)) is not None
 
 
+def split(names):
+    return [name for name in (each.split(" as ")[0].strip().strip("«»") for each in names.split(",")) if name]
+
+
+def lost_from_root(top, crate):
+    """What the crate's roots pass on that isn't there."""
+    for part in ("specs", "proofs"):
+        root = os.path.join(top, "crates", crate, part, "Lib.antt")
+        for module, names in PASSED_ON.findall(text_of(root)) if os.path.isfile(root) else []:
+            home = os.path.join(top, "crates", crate, part, *module.split(".")) + ".antt"
+            if module.startswith("declared"):
+                continue
+            for name in split(names):
+                if not os.path.isfile(home) or name not in defined_in(home) and not begins_a_line(home, name):
+                    yield f"{os.path.relpath(root, top)}: {module} has no {name}"
+
+
 def lost_names(top, crate, known):
     """What the crate's files bring in from crates of the repository, where it isn't there."""
+    yield from lost_from_root(top, crate)
     for path in sources(top, crate):
         shown = os.path.relpath(path, top)
         for other, part, module, names in USE.findall(text_of(path)):
             if other not in known or module.startswith(("declared", "contracts")) or module.split(".")[-1] in WRITTEN:
+                continue
+            if not module:
+                root = os.path.join(top, "crates", other, part, "Lib.antt")
+                passed = {name for _, on in PASSED_ON.findall(text_of(root) if os.path.isfile(root) else "") for name in split(on)}
+                yield from (f"{shown}: the root of the {part} of {other} passes on no {name}" for name in split(names) if name not in passed)
                 continue
             home = os.path.join(top, "crates", other, part, *module.split(".")) + ".antt"
             if not os.path.isfile(home):
                 yield f"{shown}: there is no module {module} in the {part} of {other}"
                 continue
             there = defined_in(home)
-            for name in (each.split(" as ")[0].strip().strip("«»") for each in names.split(",")):
-                if name and name not in there and not begins_a_line(home, name):
+            for name in split(names):
+                if name not in there and not begins_a_line(home, name):
                     yield f"{shown}: {module} of {other} has no {name}"
 
 

@@ -12,6 +12,7 @@ FILES = {
     "crates.txt": "low:\nhigh: low\n",
     "crates/low/src/lib.rt": "pub mod rows;\n",
     "crates/low/specs/Counts.antt": "-- how many: all\nabbrev pub count : List ℕ → ℕ\ncount [] = 0\n\npub data End : Type 0 where\n  Whole Partial : End\n",
+    "crates/low/specs/Lib.antt": "pub mod Counts\npub use Counts.{count, Whole}\n",
     "crates/high/src/lib.rt": "ghost use Rattle.low.specs.Counts.{count, Partial};\n",
     "crates/high/proofs/Choosing.antt": "use Rattle.std.proofs.Common.{ℕ, if◌then◌else◌}\nuse Rattle.low.specs.Counts.{count}\npick : ℕ\npick = if b then 1 else 2\n",
 }
@@ -43,6 +44,21 @@ class Names(unittest.TestCase):
         self.assertEqual(
             found({"crates/high/src/lib.rt": "ghost use Rattle.low.specs.Sums.{sum};\n"}),
             ["crates/high/src/lib.rt: there is no module Sums in the specs of low"],
+        )
+
+    def test_what_the_root_passes_on(self) -> None:
+        self.assertEqual(found({"crates/high/src/lib.rt": "ghost use Rattle.low.specs.{count, Whole};\n"}), [])
+
+    def test_a_name_that_the_root_does_not_pass_on(self) -> None:
+        self.assertEqual(
+            found({"crates/high/src/lib.rt": "ghost use Rattle.low.specs.{count, Partial};\n"}),
+            ["crates/high/src/lib.rt: the root of the specs of low passes on no Partial"],
+        )
+
+    def test_a_name_that_went_and_is_passed_on(self) -> None:
+        self.assertEqual(
+            found({"crates/low/specs/Lib.antt": "pub mod Counts\npub use Counts.{counts}\n"}),
+            ["crates/low/specs/Lib.antt: Counts has no counts"],
         )
 
     def test_a_choice_that_is_not_brought_in(self) -> None:

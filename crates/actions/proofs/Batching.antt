@@ -1,30 +1,16 @@
 -- What a batch feeds, place by place.
-use Rattle.std.proofs.Common.{ℕ, zero, suc, ◌≡◌, ◌≤◌, ◌<◌, ◌+◌, All, List, [], ◌∷◌, ◌++◌, length, map, take, drop, get_or, refl, ap, sym, subst, ◌∙◌, append-nil, append_assoc, arith, length-append, lit≤, ◌*◌, ℤ, pos}
-use Rattle.std.specs.Prelude.{flat_map, Option, Some, None, nat_abs, ◌^◌}
+use Rattle.std.proofs.Common.{ℕ, zero, suc, ◌≡◌, ◌≤◌, ◌<◌, ◌+◌, All, List, [], ◌∷◌, ◌++◌, length, map, take, drop, get_or, refl, ap, sym, subst, ◌∙◌, append-nil, append_assoc, arith, length-append, lit≤, ◌*◌, ℤ, pos, flat_map, Option, Some, None, nat_abs, ◌^◌}
 use Rattle.std.specs.List.{range_with_len}
 use Rattle.std.proofs.lemmas.List.{drop_more, length-map, map-append, take_all, take_more}
 use Rattle.std.proofs.lemmas.List.FromFn.{get_or-range_with_len, length-range_with_len}
 use Rattle.std.proofs.lemmas.Grind.{flat_map-append}
 use Rattle.std.proofs.lemmas.List.Elements.{All-append, All-cons, All-head, All-tail}
-use Rattle.rdf_values.specs.declared.action.ActionKind.{ActionKind}
-use Rattle.rdf_values.specs.declared.action.ActionKind.TheVariants as kind
-use Rattle.rdf_values.specs.declared.item.Item.{Item}
+use Rattle.rdf_values.specs.{ActionKind, feed_fault, Item, numbers, Scalar, spread, Value}
 use Rattle.rdf_values.specs.declared.item.Item.TheVariants.{Number, Point, Point2, Single, Unit}
-use Rattle.rdf_values.specs.declared.value.Scalar.{Scalar}
-use Rattle.rdf_values.specs.declared.value.Value.{Value}
-use Rattle.rdf_values.specs.declared.value.Value.TheVariants as val
-use Rattle.rdf_values.specs.Spread.{feed_fault, numbers, spread}
-use Rattle.actions.specs.declared.batch.Sources.{Sources}
+use Rattle.actions.specs.{fault_or_later, Fed, first_fault_in, first_lane, first_numbers, first_scalar, from_cluster, IsNumeric, IsWithin, Lane, lane_value, numbers_in, Sources, SuitsAt, values_at, values_from}
 use Rattle.actions.specs.declared.batch.Sources.TheVariants.{Entry, One, Weighted, Pair, WeightedPair}
-use Rattle.actions.specs.declared.lane.Lane.{Lane}
 use Rattle.actions.specs.declared.state.State.{State}
-use Rattle.actions.specs.declared.state.State.TheVariants as state
-use Rattle.actions.specs.Batches.{SuitsAt, fault_or_later, first_fault_in, first_lane, lane_value, numbers_in, values_at}
-use Rattle.actions.specs.Feeding.{Fed, from_cluster}
-use Rattle.actions.specs.Holding.{IsWithin}
-use Rattle.actions.specs.Parts.{IsNumeric, first_numbers, first_scalar}
 use Rattle.actions.proofs.Points.{points_of_ones}
-use Rattle.actions.specs.Values.{values_from}
 
 -- ---- places
 
@@ -45,34 +31,34 @@ one_more_fed fed cluster is js all e =
     ∙ ap (λ l. fed ++ l) (sym (map-append (λ (i : Item). record { cluster = cluster; item = i }) is js) ∙ ap (from_cluster cluster) (sym e))
 
 pub within_more : (s : State) (m n : ℕ) → m ≤ n → IsWithin m s → IsWithin n s
-within_more (state.Count k) m n h w = omega (arith, h, w)
-within_more (state.Sum c z) m n h w = omega (arith, h, w)
-within_more (state.Min c o) m n h w = tt
-within_more (state.Max c o) m n h w = tt
-within_more (state.Take c vs) m n h w = omega (arith, h, w)
-within_more (state.Reduce c r) m n h w = tt
-within_more (state.Histo1D g x w') m n h w = omega (arith, h, w)
-within_more (state.Histo2D g x y w') m n h w = omega (arith, h, w)
+within_more (State.Count k) m n h w = omega (arith, h, w)
+within_more (State.Sum c z) m n h w = omega (arith, h, w)
+within_more (State.Min c o) m n h w = tt
+within_more (State.Max c o) m n h w = tt
+within_more (State.Take c vs) m n h w = omega (arith, h, w)
+within_more (State.Reduce c r) m n h w = tt
+within_more (State.Histo1D g x w') m n h w = omega (arith, h, w)
+within_more (State.Histo2D g x y w') m n h w = omega (arith, h, w)
 
 -- ---- a Take
 
-spread_taken : (c : List ℕ) (vs : List Value) → spread (kind.Take c) vs ≡ map Single (first_scalar vs)
+spread_taken : (c : List ℕ) (vs : List Value) → spread (ActionKind.Take c) vs ≡ map Single (first_scalar vs)
 spread_taken c [] = refl
 spread_taken c (v ∷ vs) = refl
 
-pub taken_items : (c : List ℕ) (s : Sources) (ps : List ℕ) → flat_map (λ p. spread (kind.Take c) (values_at s p)) ps ≡ map Single (flat_map (λ p. first_scalar (values_at s p)) ps)
+pub taken_items : (c : List ℕ) (s : Sources) (ps : List ℕ) → flat_map (λ p. spread (ActionKind.Take c) (values_at s p)) ps ≡ map Single (flat_map (λ p. first_scalar (values_at s p)) ps)
 taken_items c s [] = refl
 taken_items c s (p ∷ ps) =
-    ap (λ l. l ++ flat_map (λ q. spread (kind.Take c) (values_at s q)) ps) (spread_taken c (values_at s p))
+    ap (λ l. l ++ flat_map (λ q. spread (ActionKind.Take c) (values_at s q)) ps) (spread_taken c (values_at s p))
     ∙ ap (λ l. map Single (first_scalar (values_at s p)) ++ l) (taken_items c s ps)
     ∙ sym (map-append Single (first_scalar (values_at s p)) (flat_map (λ q. first_scalar (values_at s q)) ps))
 
 -- one value more, or none
 few_scalars : (vs : List Value) → length (first_scalar vs) ≤ 1
 few_scalars [] = lit≤ tt
-few_scalars (val.Int z ∷ vs) = lit≤ tt
-few_scalars (val.Bool b ∷ vs) = lit≤ tt
-few_scalars (val.Vect zs ∷ vs) = lit≤ tt
+few_scalars (Value.Int z ∷ vs) = lit≤ tt
+few_scalars (Value.Bool b ∷ vs) = lit≤ tt
+few_scalars (Value.Vect zs ∷ vs) = lit≤ tt
 
 -- each place gives one value at most
 pub few_values : (cluster : ℕ) (s : Sources) (ps : List ℕ) → length (values_from cluster (flat_map (λ p. first_scalar (values_at s p)) ps)) ≤ length ps
@@ -209,7 +195,7 @@ light_all zs ps i h all = subst (All (λ p. nat_abs (get_or zs p (pos 0)) < 2 ^ 
 
 -- a lane holds numbers
 abbrev pub HoldsNumbers : Lane → (ℕ → ℤ) → Type 0
-HoldsNumbers x f = (p : ℕ) → lane_value x p ≡ val.Int (f p)
+HoldsNumbers x f = (p : ℕ) → lane_value x p ≡ Value.Int (f p)
 
 -- ---- points
 
@@ -225,49 +211,49 @@ one_point_more before f ps i item h e =
 
 -- a histogram without weights is filled with a point for each number
 pub lane_points : (edges : List ℤ) (c : List ℕ) (o : Option (List ℕ)) (s : Sources) (x : Lane) (ps : List ℕ) → s ≡ One x
-    → flat_map (λ p. spread (kind.Histo1D edges c o) (values_at s p)) ps ≡ map (λ z. Point z (pos 1)) (numbers_in x ps)
+    → flat_map (λ p. spread (ActionKind.Histo1D edges c o) (values_at s p)) ps ≡ map (λ z. Point z (pos 1)) (numbers_in x ps)
 lane_points edges c o s x [] e = refl
 lane_points edges c o s x (p ∷ ps) e =
-    ap (λ l. l ++ flat_map (λ q. spread (kind.Histo1D edges c o) (values_at s q)) ps) (ap (λ t. spread (kind.Histo1D edges c o) (values_at t p)) e ∙ points_of_ones (numbers (lane_value x p)))
+    ap (λ l. l ++ flat_map (λ q. spread (ActionKind.Histo1D edges c o) (values_at s q)) ps) (ap (λ t. spread (ActionKind.Histo1D edges c o) (values_at t p)) e ∙ points_of_ones (numbers (lane_value x p)))
     ∙ ap (λ l. map (λ z. Point z (pos 1)) (numbers (lane_value x p)) ++ l) (lane_points edges c o s x ps e)
     ∙ sym (map-append (λ z. Point z (pos 1)) (numbers (lane_value x p)) (numbers_in x ps))
 
 -- such a place has few numbers
 numeric_short : (v : Value) → IsNumeric v → length (numbers v) ≤ 4096
-numeric_short (val.Int z) h = lit≤ tt
-numeric_short (val.Bool b) h = absurd h
-numeric_short (val.Vect zs) h = h
+numeric_short (Value.Int z) h = lit≤ tt
+numeric_short (Value.Bool b) h = absurd h
+numeric_short (Value.Vect zs) h = h
 
-pub few_points : (edges : List ℤ) (c : List ℕ) (o : Option (List ℕ)) (s : Sources) (x : Lane) (ps : List ℕ) → s ≡ One x → All (SuitsAt (kind.Histo1D edges c o) s) ps → length (numbers_in x ps) ≤ length ps * 4096
+pub few_points : (edges : List ℤ) (c : List ℕ) (o : Option (List ℕ)) (s : Sources) (x : Lane) (ps : List ℕ) → s ≡ One x → All (SuitsAt (ActionKind.Histo1D edges c o) s) ps → length (numbers_in x ps) ≤ length ps * 4096
 few_points edges c o s x [] e h = omega arith
 few_points edges c o s x (p ∷ ps) e h =
-    let one = numeric_short (lane_value x p) (subst (λ t. SuitsAt (kind.Histo1D edges c o) t p) e (All-head (SuitsAt (kind.Histo1D edges c o) s) p ps h)) in
+    let one = numeric_short (lane_value x p) (subst (λ t. SuitsAt (ActionKind.Histo1D edges c o) t p) e (All-head (SuitsAt (ActionKind.Histo1D edges c o) s) p ps h)) in
     let all = length-append (numbers (lane_value x p)) (numbers_in x ps) in
-    let rest = few_points edges c o s x ps e (All-tail (SuitsAt (kind.Histo1D edges c o) s) p ps h) in omega (arith, one, all, rest)
+    let rest = few_points edges c o s x ps e (All-tail (SuitsAt (ActionKind.Histo1D edges c o) s) p ps h) in omega (arith, one, all, rest)
 
 pub weighted_points : (edges : List ℤ) (c : List ℕ) (o : Option (List ℕ)) (s : Sources) (x w : Lane) (ps : List ℕ) (f g : ℕ → ℤ) → s ≡ Weighted x w → HoldsNumbers x f → HoldsNumbers w g
-    → flat_map (λ p. spread (kind.Histo1D edges c o) (values_at s p)) ps ≡ map (λ p. Point (f p) (g p)) ps
+    → flat_map (λ p. spread (ActionKind.Histo1D edges c o) (values_at s p)) ps ≡ map (λ p. Point (f p) (g p)) ps
 weighted_points edges c o s x w ps f g e h k =
-    same_each (λ p. spread (kind.Histo1D edges c o) (values_at s p)) (λ p. Point (f p) (g p) ∷ []) ps
-    (λ p. ap (λ t. spread (kind.Histo1D edges c o) (values_at t p)) e ∙ ap (λ v. spread (kind.Histo1D edges c o) (v ∷ lane_value w p ∷ [])) (h p)
-    ∙ ap (λ v. spread (kind.Histo1D edges c o) (val.Int (f p) ∷ v ∷ [])) (k p))
+    same_each (λ p. spread (ActionKind.Histo1D edges c o) (values_at s p)) (λ p. Point (f p) (g p) ∷ []) ps
+    (λ p. ap (λ t. spread (ActionKind.Histo1D edges c o) (values_at t p)) e ∙ ap (λ v. spread (ActionKind.Histo1D edges c o) (v ∷ lane_value w p ∷ [])) (h p)
+    ∙ ap (λ v. spread (ActionKind.Histo1D edges c o) (Value.Int (f p) ∷ v ∷ [])) (k p))
     ∙ singles_mapped (λ p. Point (f p) (g p)) ps
 
 -- a histogram of two axes is filled with the pairs of numbers
 pub paired_points : (xs ys : List ℤ) (c d : List ℕ) (o : Option (List ℕ)) (s : Sources) (x y : Lane) (ps : List ℕ) (f g : ℕ → ℤ) → s ≡ Pair x y → HoldsNumbers x f → HoldsNumbers y g
-    → flat_map (λ p. spread (kind.Histo2D xs ys c d o) (values_at s p)) ps ≡ map (λ p. Point2 (f p) (g p) (pos 1)) ps
+    → flat_map (λ p. spread (ActionKind.Histo2D xs ys c d o) (values_at s p)) ps ≡ map (λ p. Point2 (f p) (g p) (pos 1)) ps
 paired_points xs ys c d o s x y ps f g e h k =
-    same_each (λ p. spread (kind.Histo2D xs ys c d o) (values_at s p)) (λ p. Point2 (f p) (g p) (pos 1) ∷ []) ps
-    (λ p. ap (λ t. spread (kind.Histo2D xs ys c d o) (values_at t p)) e ∙ ap (λ v. spread (kind.Histo2D xs ys c d o) (v ∷ lane_value y p ∷ [])) (h p)
-    ∙ ap (λ v. spread (kind.Histo2D xs ys c d o) (val.Int (f p) ∷ v ∷ [])) (k p))
+    same_each (λ p. spread (ActionKind.Histo2D xs ys c d o) (values_at s p)) (λ p. Point2 (f p) (g p) (pos 1) ∷ []) ps
+    (λ p. ap (λ t. spread (ActionKind.Histo2D xs ys c d o) (values_at t p)) e ∙ ap (λ v. spread (ActionKind.Histo2D xs ys c d o) (v ∷ lane_value y p ∷ [])) (h p)
+    ∙ ap (λ v. spread (ActionKind.Histo2D xs ys c d o) (Value.Int (f p) ∷ v ∷ [])) (k p))
     ∙ singles_mapped (λ p. Point2 (f p) (g p) (pos 1)) ps
 
 -- or with these and their weights
 pub weighted_pair_points : (xs ys : List ℤ) (c d : List ℕ) (o : Option (List ℕ)) (s : Sources) (x y w : Lane) (ps : List ℕ) (f g j : ℕ → ℤ) → s ≡ WeightedPair x y w
-    → HoldsNumbers x f → HoldsNumbers y g → HoldsNumbers w j → flat_map (λ p. spread (kind.Histo2D xs ys c d o) (values_at s p)) ps ≡ map (λ p. Point2 (f p) (g p) (j p)) ps
+    → HoldsNumbers x f → HoldsNumbers y g → HoldsNumbers w j → flat_map (λ p. spread (ActionKind.Histo2D xs ys c d o) (values_at s p)) ps ≡ map (λ p. Point2 (f p) (g p) (j p)) ps
 weighted_pair_points xs ys c d o s x y w ps f g j e h k l =
-    same_each (λ p. spread (kind.Histo2D xs ys c d o) (values_at s p)) (λ p. Point2 (f p) (g p) (j p) ∷ []) ps
-    (λ p. ap (λ t. spread (kind.Histo2D xs ys c d o) (values_at t p)) e ∙ ap (λ v. spread (kind.Histo2D xs ys c d o) (v ∷ lane_value y p ∷ lane_value w p ∷ [])) (h p)
-    ∙ ap (λ v. spread (kind.Histo2D xs ys c d o) (val.Int (f p) ∷ v ∷ lane_value w p ∷ [])) (k p)
-    ∙ ap (λ v. spread (kind.Histo2D xs ys c d o) (val.Int (f p) ∷ val.Int (g p) ∷ v ∷ [])) (l p))
+    same_each (λ p. spread (ActionKind.Histo2D xs ys c d o) (values_at s p)) (λ p. Point2 (f p) (g p) (j p) ∷ []) ps
+    (λ p. ap (λ t. spread (ActionKind.Histo2D xs ys c d o) (values_at t p)) e ∙ ap (λ v. spread (ActionKind.Histo2D xs ys c d o) (v ∷ lane_value y p ∷ lane_value w p ∷ [])) (h p)
+    ∙ ap (λ v. spread (ActionKind.Histo2D xs ys c d o) (Value.Int (f p) ∷ v ∷ lane_value w p ∷ [])) (k p)
+    ∙ ap (λ v. spread (ActionKind.Histo2D xs ys c d o) (Value.Int (f p) ∷ Value.Int (g p) ∷ v ∷ [])) (l p))
     ∙ singles_mapped (λ p. Point2 (f p) (g p) (j p)) ps

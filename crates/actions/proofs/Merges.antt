@@ -1,20 +1,14 @@
 -- What a state holds after the items of another.
-use Rattle.std.proofs.Common.{ℕ, ◌≡◌, ◌+◌, map, length, List, [], ◌∷◌, ◌++◌, ℤ, ◌+ℤ◌, refl, ap, sym, ◌∙◌, length-append}
-use Rattle.std.specs.Prelude.{flat_map, Option, None, fold}
+use Rattle.std.proofs.Common.{ℕ, ◌≡◌, ◌+◌, map, length, List, [], ◌∷◌, ◌++◌, ℤ, ◌+ℤ◌, refl, ap, sym, ◌∙◌, length-append, flat_map, Option, None, fold}
 use Rattle.std.specs.Int.{int_max, int_min}
-use Rattle.rdf_values.specs.declared.action.ReduceOp.{ReduceOp}
-use Rattle.rdf_values.specs.declared.item.Item.{Item}
-use Rattle.rdf_values.specs.Fold.{Count, Extreme, Flat, Reduced, Square, Sum, Taken, extreme, integer_sum, number_of, numbers_of, reduce_start, reduce_step, scalar_of}
-use Rattle.histograms.specs.OneAxis.{HasFilled}
+use Rattle.rdf_values.specs.{Extreme, extreme, Flat, integer_sum, Item, number_of, numbers_of, reduce_start, reduce_step, Reduced, ReduceOp, scalar_of, Square, Taken}
+use Rattle.rdf_values.specs.Fold.{Count, Sum}
+use Rattle.histograms.specs.{HasFilled, HasFilled2}
 use Rattle.histograms.specs.OneAxis as one
-use Rattle.histograms.specs.TwoAxes.{HasFilled2}
 use Rattle.histograms.specs.TwoAxes as two
 use Rattle.actions.specs.declared.taken.TakenValue.{TakenValue}
-use Rattle.actions.specs.declared.state.State.TheVariants as state
-use Rattle.actions.specs.Extremes.{better_of, better_of_two}
-use Rattle.actions.specs.Feeding.{Fed, by_cluster, in_file_order}
-use Rattle.actions.specs.Holding.{Holds}
-use Rattle.actions.specs.Values.{fed_value}
+use Rattle.actions.specs.declared.state.State.{State}
+use Rattle.actions.specs.{better_of, better_of_two, by_cluster, Fed, fed_value, Holds, in_file_order}
 use Rattle.actions.proofs.Folds.{extreme_fold}
 use Rattle.actions.proofs.Operations.{extreme_from, max_comm, max_swap, min_comm, min_swap, option_swaps}
 use Rattle.actions.proofs.Reductions.{reduce_both}
@@ -26,13 +20,13 @@ plain_values [] = refl
 plain_values (v ∷ vs) = ap (λ l. v.value ∷ l) (plain_values vs)
 
 module _ (a b : List Fed) where
-  pub merge_count : (n m : ℕ) → Holds (state.Count n) a → Holds (state.Count m) b → Holds (state.Count (n + m)) (a ++ b)
+  pub merge_count : (n m : ℕ) → Holds (State.Count n) a → Holds (State.Count m) b → Holds (State.Count (n + m)) (a ++ b)
   merge_count n m h k = record {
     made = ap Count (ap (λ x. x + m) (ap the_count h.made ∙ length-in_file_order a) ∙ ap (λ y. length a + y) (ap the_count k.made ∙ length-in_file_order b) ∙ sym (length-in_file_order (a ++ b) ∙ length-append a b));
     kept = refl;
   }
 
-  pub merge_sum : (c d : List ℕ) (x y z : ℤ) → z ≡ x +ℤ y → Holds (state.Sum c x) a → Holds (state.Sum d y) b → Holds (state.Sum c z) (a ++ b)
+  pub merge_sum : (c d : List ℕ) (x y z : ℤ) → z ≡ x +ℤ y → Holds (State.Sum c x) a → Holds (State.Sum d y) b → Holds (State.Sum c z) (a ++ b)
   merge_sum c d x y z e h k = record {
     made = ap Sum (e ∙ ap (λ s. s +ℤ y) (ap (λ f. the_sum f x) h.made) ∙ ap (λ s. integer_sum (numbers_of (in_file_order a)) +ℤ s) (ap (λ f. the_sum f y) k.made) ∙ sym (sum_both number_of a b));
     kept = refl;
@@ -46,20 +40,20 @@ module _ (a b : List Fed) where
       extreme_fold better (numbers_of (in_file_order (a ++ b))) ∙ both_same (better_of better) (option_swaps better swap comm) number_of a b None ∙ extreme_from better swap comm (fold (better_of better) None xs) ys
       ∙ ap (λ o. better_of_two better o (extreme better ys)) (sym (extreme_fold better xs))
 
-  pub merge_min : (c d : List ℕ) (x y z : Option ℤ) → z ≡ better_of_two int_min x y → Holds (state.Min c x) a → Holds (state.Min d y) b → Holds (state.Min c z) (a ++ b)
+  pub merge_min : (c d : List ℕ) (x y z : Option ℤ) → z ≡ better_of_two int_min x y → Holds (State.Min c x) a → Holds (State.Min d y) b → Holds (State.Min c z) (a ++ b)
   merge_min c d x y z e h k = record {
     made = ap Extreme (e ∙ ap (λ o. better_of_two int_min o y) (ap the_extreme h.made) ∙ ap (better_of_two int_min (extreme int_min (numbers_of (in_file_order a)))) (ap the_extreme k.made) ∙ sym (extreme_both int_min min_swap min_comm));
     kept = refl;
   }
 
-  pub merge_max : (c d : List ℕ) (x y z : Option ℤ) → z ≡ better_of_two int_max x y → Holds (state.Max c x) a → Holds (state.Max d y) b → Holds (state.Max c z) (a ++ b)
+  pub merge_max : (c d : List ℕ) (x y z : Option ℤ) → z ≡ better_of_two int_max x y → Holds (State.Max c x) a → Holds (State.Max d y) b → Holds (State.Max c z) (a ++ b)
   merge_max c d x y z e h k = record {
     made = ap Extreme (e ∙ ap (λ o. better_of_two int_max o y) (ap the_extreme h.made) ∙ ap (better_of_two int_max (extreme int_max (numbers_of (in_file_order a)))) (ap the_extreme k.made) ∙ sym (extreme_both int_max max_swap max_comm));
     kept = refl;
   }
 
-  pub merge_reduce : (c d : List ℕ) (o p : ReduceOp) (x y z : ℤ) → p ≡ o → z ≡ reduce_step o x y → Holds (state.Reduce c (record { op = o; value = x })) a → Holds (state.Reduce d (record { op = p; value = y })) b
-      → Holds (state.Reduce c (record { op = o; value = z })) (a ++ b)
+  pub merge_reduce : (c d : List ℕ) (o p : ReduceOp) (x y z : ℤ) → p ≡ o → z ≡ reduce_step o x y → Holds (State.Reduce c (record { op = o; value = x })) a → Holds (State.Reduce d (record { op = p; value = y })) b
+      → Holds (State.Reduce c (record { op = o; value = z })) (a ++ b)
   merge_reduce c d o p x y z same e h k =
       let second : y ≡ fold (reduce_step o) (reduce_start o) (numbers_of (in_file_order b)) = ap (λ f. the_sum f y) k.made ∙ ap (λ q. fold (reduce_step q) (reduce_start q) (numbers_of (in_file_order b))) same in
       record {
@@ -67,20 +61,20 @@ module _ (a b : List Fed) where
         kept = refl;
       }
 
-  pub merge_take : (c d : List ℕ) (vs ws all : List TakenValue) → (map fed_value vs ≡ by_cluster a → map fed_value ws ≡ by_cluster b → map fed_value all ≡ by_cluster (a ++ b)) → Holds (state.Take c vs) a → Holds (state.Take d ws) b → Holds (state.Take c all) (a ++ b)
+  pub merge_take : (c d : List ℕ) (vs ws all : List TakenValue) → (map fed_value vs ≡ by_cluster a → map fed_value ws ≡ by_cluster b → map fed_value all ≡ by_cluster (a ++ b)) → Holds (State.Take c vs) a → Holds (State.Take d ws) b → Holds (State.Take c all) (a ++ b)
   merge_take c d vs ws all order h k =
       let kept = order h.kept k.kept in
       record { made = ap Taken (plain_values all ∙ ap (λ l. flat_map scalar_of (items_of l)) kept); kept = kept }
 
   pub merge_flat : (g k g' : one.Flat) (x y : List ℕ) (o p : Option (List ℕ)) → ((points more : List Item) → HasFilled g points → HasFilled k more → HasFilled g' (points ++ more))
-      → Holds (state.Histo1D g x o) a → Holds (state.Histo1D k y p) b → Holds (state.Histo1D g' x o) (a ++ b)
+      → Holds (State.Histo1D g x o) a → Holds (State.Histo1D k y p) b → Holds (State.Histo1D g' x o) (a ++ b)
   merge_flat g k g' x y o p fill h l = record {
     made = ap Flat ((fill (in_file_order a) (in_file_order b) (record { cells = ap the_flat h.made }) (record { cells = ap the_flat l.made })).cells ∙ flat_joined g'.edges a b);
     kept = refl;
   }
 
   pub merge_square : (g k g' : two.Square) (x y z w : List ℕ) (o p : Option (List ℕ)) → ((points more : List Item) → HasFilled2 g points → HasFilled2 k more → HasFilled2 g' (points ++ more))
-      → Holds (state.Histo2D g x y o) a → Holds (state.Histo2D k z w p) b → Holds (state.Histo2D g' x y o) (a ++ b)
+      → Holds (State.Histo2D g x y o) a → Holds (State.Histo2D k z w p) b → Holds (State.Histo2D g' x y o) (a ++ b)
   merge_square g k g' x y z w o p fill h l = record {
     made = ap Square ((fill (in_file_order a) (in_file_order b) (record { cells = ap the_square h.made }) (record { cells = ap the_square l.made })).cells ∙ square_joined g'.x_edges g'.y_edges a b);
     kept = refl;

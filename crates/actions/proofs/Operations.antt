@@ -1,10 +1,9 @@
 -- The operations of a Reduce, and extremes, over two lists.
-use Rattle.std.proofs.Common.{◌≡◌, List, [], ◌∷◌, ℤ, arith, refl, ap, sym, ◌∙◌}
-use Rattle.std.specs.Prelude.{Option, Some, None, fold}
+use Rattle.std.proofs.Common.{◌≡◌, List, [], ◌∷◌, ℤ, arith, refl, ap, sym, ◌∙◌, Option, Some, None, fold}
 use Rattle.std.specs.Int.{int_max, int_min}
 use Rattle.std.proofs.lemmas.Int.{clamps, ints}
-use Rattle.rdf_values.specs.Fold.{extreme}
-use Rattle.actions.specs.Extremes.{better_of, better_of_two}
+use Rattle.rdf_values.specs.{extreme}
+use Rattle.actions.specs.{better_of, better_of_two}
 
 pub min_swap : (a x y : ℤ) → int_min (int_min a x) y ≡ int_min (int_min a y) x
 min_swap a x y = omega (arith, ints, clamps)

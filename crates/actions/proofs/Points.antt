@@ -1,11 +1,9 @@
 -- The points of an entry, one more at a time.
-use Rattle.std.proofs.Common.{ℕ, zero, map, suc, ◌≡◌, ◌+◌, ◌<◌, length, get_or, take, List, [], ◌∷◌, ◌++◌, ℤ, pos, arith, refl, ap, sym, ◌∙◌, add-one, append_assoc, append-nil, subst}
-use Rattle.std.specs.Prelude.{replicate}
+use Rattle.std.proofs.Common.{ℕ, zero, map, suc, ◌≡◌, ◌+◌, ◌<◌, length, get_or, take, List, [], ◌∷◌, ◌++◌, ℤ, pos, arith, refl, ap, sym, ◌∙◌, add-one, append_assoc, append-nil, subst, replicate}
 use Rattle.std.proofs.lemmas.List.{map-append, take_more}
-use Rattle.rdf_values.specs.declared.item.Item.{Item}
+use Rattle.rdf_values.specs.{Item, points, points2}
 use Rattle.rdf_values.specs.declared.item.Item.TheVariants.{Point, Point2}
-use Rattle.rdf_values.specs.Spread.{points, points2}
-use Rattle.histograms.specs.OneAxis.{Flat, HasFilled}
+use Rattle.histograms.specs.{Flat, HasFilled}
 
 points_next : (xs ws : List ℤ) (i : ℕ) → i < length xs → length ws ≡ length xs → points (take (suc i) xs) ws ≡ points (take i xs) ws ++ Point (get_or xs i (pos 0)) (get_or ws i (pos 0)) ∷ []
 points_next [] ws i l e = absurd (omega arith)

@@ -1,15 +1,12 @@
 -- The operations of a Reduce over two lists of numbers that have 64 bits.
-use Rattle.std.proofs.Common.{ℕ, suc, ◌≡◌, ◌+◌, ◌-◌, ◌<◌, ◌^◌, ◌%◌, List, ◌++◌, ℤ, pos, negsuc, arith, refl, ap, sym, ◌∙◌, w64, FitsSigned}
-use Rattle.std.specs.Prelude.{fold, bit_and, bit_or, bit_xor}
+use Rattle.std.proofs.Common.{ℕ, suc, ◌≡◌, ◌+◌, ◌-◌, ◌<◌, ◌^◌, ◌%◌, List, ◌++◌, ℤ, pos, negsuc, arith, refl, ap, sym, ◌∙◌, w64, FitsSigned, fold, bit_and, bit_or, bit_xor}
 use Rattle.std.specs.Int.{cast_signed, cast_unsigned, int_wrapping_add}
 use Rattle.std.proofs.lemmas.Int.{of_z-to_z}
 use Rattle.std.proofs.lemmas.Nat.{and_comm, and_le_l, or_comm, or_lt, xor_comm, xor_lt}
 use Rattle.std.proofs.lemmas.Nat.Bits.{bit_at_and, bit_at_or, bit_at_xor, same_from_bits}
 use Rattle.std.proofs.Math.Nat.{mod-eq_of_lt, mod-add-mod}
-use Rattle.rdf_values.specs.declared.action.ReduceOp.{ReduceOp}
-use Rattle.rdf_values.specs.declared.action.ReduceOp.TheVariants as op
-use Rattle.rdf_values.specs.Fold.{number_of, numbers_of, on_bits, reduce_start, reduce_step}
-use Rattle.actions.specs.Feeding.{Fed, in_file_order}
+use Rattle.rdf_values.specs.{number_of, numbers_of, on_bits, reduce_start, reduce_step, ReduceOp}
+use Rattle.actions.specs.{Fed, in_file_order}
 use Rattle.actions.proofs.Operations.{fold_both, max_swap, min_swap, min_comm, max_comm}
 use Rattle.actions.proofs.Unordered.{both_same}
 
@@ -50,28 +47,28 @@ wrap_swap a x y =
     ∙ sym (ap (λ n. cast_signed w64 ((n + q) % 2 ^ 64)) (of_z-to_z w64 ((p + r) % 2 ^ 64) (omega arith)))
 
 step_swap : (o : ReduceOp) (a x y : ℤ) → reduce_step o (reduce_step o a x) y ≡ reduce_step o (reduce_step o a y) x
-step_swap op.Min a x y = min_swap a x y
-step_swap op.Max a x y = max_swap a x y
-step_swap op.And a x y = bits_swap bit_and and_lt and_swap a x y
-step_swap op.Or a x y = bits_swap bit_or (or_lt 64) or_swap a x y
-step_swap op.Xor a x y = bits_swap bit_xor (xor_lt 64) xor_swap a x y
-step_swap op.WrapAdd a x y = wrap_swap a x y
+step_swap ReduceOp.Min a x y = min_swap a x y
+step_swap ReduceOp.Max a x y = max_swap a x y
+step_swap ReduceOp.And a x y = bits_swap bit_and and_lt and_swap a x y
+step_swap ReduceOp.Or a x y = bits_swap bit_or (or_lt 64) or_swap a x y
+step_swap ReduceOp.Xor a x y = bits_swap bit_xor (xor_lt 64) xor_swap a x y
+step_swap ReduceOp.WrapAdd a x y = wrap_swap a x y
 
 step_comm : (o : ReduceOp) (x y : ℤ) → reduce_step o x y ≡ reduce_step o y x
-step_comm op.Min x y = min_comm x y
-step_comm op.Max x y = max_comm x y
-step_comm op.And x y = ap (cast_signed w64) (and_comm (cast_unsigned w64 x % 2 ^ 64) (cast_unsigned w64 y % 2 ^ 64))
-step_comm op.Or x y = ap (cast_signed w64) (or_comm (cast_unsigned w64 x % 2 ^ 64) (cast_unsigned w64 y % 2 ^ 64))
-step_comm op.Xor x y = ap (cast_signed w64) (xor_comm (cast_unsigned w64 x % 2 ^ 64) (cast_unsigned w64 y % 2 ^ 64))
-step_comm op.WrapAdd x y = ap (λ n. cast_signed w64 (n % 2 ^ 64)) (let e : cast_unsigned w64 x + cast_unsigned w64 y ≡ cast_unsigned w64 y + cast_unsigned w64 x = omega arith in e)
+step_comm ReduceOp.Min x y = min_comm x y
+step_comm ReduceOp.Max x y = max_comm x y
+step_comm ReduceOp.And x y = ap (cast_signed w64) (and_comm (cast_unsigned w64 x % 2 ^ 64) (cast_unsigned w64 y % 2 ^ 64))
+step_comm ReduceOp.Or x y = ap (cast_signed w64) (or_comm (cast_unsigned w64 x % 2 ^ 64) (cast_unsigned w64 y % 2 ^ 64))
+step_comm ReduceOp.Xor x y = ap (cast_signed w64) (xor_comm (cast_unsigned w64 x % 2 ^ 64) (cast_unsigned w64 y % 2 ^ 64))
+step_comm ReduceOp.WrapAdd x y = ap (λ n. cast_signed w64 (n % 2 ^ 64)) (let e : cast_unsigned w64 x + cast_unsigned w64 y ≡ cast_unsigned w64 y + cast_unsigned w64 x = omega arith in e)
 
 start_stays : (o : ReduceOp) → reduce_step o (reduce_start o) (reduce_start o) ≡ reduce_start o
-start_stays op.Min = refl
-start_stays op.Max = refl
-start_stays op.And = refl
-start_stays op.Or = refl
-start_stays op.Xor = refl
-start_stays op.WrapAdd = refl
+start_stays ReduceOp.Min = refl
+start_stays ReduceOp.Max = refl
+start_stays ReduceOp.And = refl
+start_stays ReduceOp.Or = refl
+start_stays ReduceOp.Xor = refl
+start_stays ReduceOp.WrapAdd = refl
 
 -- ---- the bits of a number of 64 bits
 

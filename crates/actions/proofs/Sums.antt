@@ -1,9 +1,8 @@
 -- Sums in 128 bits.
-use Rattle.std.proofs.Common.{ℕ, ◌+◌, ◌*◌, ◌^◌, ◌<◌, ◌≤◌, ℤ, pos, negsuc, ◌+ℤ◌, arith, w64, FitsSigned}
-use Rattle.std.specs.Prelude.{nat_abs}
+use Rattle.std.proofs.Common.{ℕ, ◌+◌, ◌*◌, ◌^◌, ◌<◌, ◌≤◌, ℤ, pos, negsuc, ◌+ℤ◌, arith, w64, FitsSigned, nat_abs}
 use Rattle.std.specs.Int.{w128}
 use Rattle.std.proofs.lemmas.Int.{fits_signed_from_abs}
-use Rattle.lemmas.proofs.Orders.{abs_add}
+use Rattle.lemmas.proofs.{abs_add}
 
 pub abs_of_fit : (w : ℤ) → FitsSigned w64 w → nat_abs w ≤ 2 ^ 63
 abs_of_fit (pos n) h = let s = h.sfits in omega arith

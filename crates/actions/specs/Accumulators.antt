@@ -1,7 +1,6 @@
 -- Accumulators.
 use Rattle.std.specs.Prelude.{ℕ, ◌≡◌, ◌≤◌, List, All}
-use Rattle.rdf_values.specs.declared.action.ActionKind.{ActionKind}
-use Rattle.rdf_values.specs.Fold.{Filled, fold_items}
+use Rattle.rdf_values.specs.{ActionKind, Filled, fold_items}
 use Rattle.actions.specs.declared.state.State.{State}
 use Rattle.actions.specs.Feeding.{Fed, in_file_order}
 use Rattle.actions.specs.Holding.{IsWithin, kept_of}

@@ -1,20 +1,12 @@
 -- What the entries of a block feed to an action.
 use Rattle.std.specs.Prelude.{ℕ, zero, ◌+◌, ◌<◌, ◌≤◌, ⊤, Bool, true, false, List, [], ◌∷◌, length, ℤ, pos, Option, Some, None, All, slice_index_or, slice_range, flat_map}
 use Rattle.std.specs.List.{range_with_len}
-use Rattle.rdf_values.specs.Spread.{feed_fault, numbers, spread}
-use Rattle.rdf_values.specs.declared.action.ActionKind.{ActionKind}
-use Rattle.rdf_values.specs.declared.action.ActionKind.TheVariants as kind
-use Rattle.rdf_values.specs.declared.fault.EntryFault.{EntryFault}
-use Rattle.rdf_values.specs.declared.item.Item.{Item}
-use Rattle.rdf_values.specs.declared.span.Span.{Span}
-use Rattle.rdf_values.specs.declared.value.Value.{Value}
-use Rattle.rdf_values.specs.declared.value.Value.TheVariants as val
+use Rattle.rdf_values.specs.{ActionKind, EntryFault, feed_fault, Item, numbers, Span, spread, Value}
 use Rattle.actions.specs.declared.batch.Batch.{Batch}
 use Rattle.actions.specs.declared.batch.PlaceFault.{PlaceFault}
 use Rattle.actions.specs.declared.batch.Sources.{Sources}
 use Rattle.actions.specs.declared.batch.Sources.TheVariants.{Entry, One, Weighted, Pair, WeightedPair}
 use Rattle.actions.specs.declared.lane.Lane.{Lane}
-use Rattle.actions.specs.declared.lane.Lane.TheVariants as lane
 use Rattle.actions.specs.declared.places.Places.{Places}
 use Rattle.actions.specs.declared.places.Places.TheVariants.{First, Listed}
 use Rattle.actions.specs.Parts.{AreAlike, IsInteger, IsNumeric, IsSingle, WeightSuits, first_numbers}
@@ -41,18 +33,18 @@ span_at spans p = slice_index_or spans p (record { lo = 0; hi = 0 })
 
 -- the value of a place
 abbrev pub lane_value : Lane → ℕ → Value
-lane_value (lane.Int zs) p = val.Int (slice_index_or zs.now p (pos 0))
-lane_value (lane.Bool zs) p = val.Bool (truth_of (slice_index_or zs.now p (pos 0)))
-lane_value (lane.Vects elements spans) p = val.Vect (slice_range elements.now (span_at spans.now p).lo (span_at spans.now p).hi)
-lane_value (lane.Column vectors first) p = val.Vect (slice_index_or vectors.now (first + p) [])
+lane_value (Lane.Int zs) p = Value.Int (slice_index_or zs.now p (pos 0))
+lane_value (Lane.Bool zs) p = Value.Bool (truth_of (slice_index_or zs.now p (pos 0)))
+lane_value (Lane.Vects elements spans) p = Value.Vect (slice_range elements.now (span_at spans.now p).lo (span_at spans.now p).hi)
+lane_value (Lane.Column vectors first) p = Value.Vect (slice_index_or vectors.now (first + p) [])
 
 -- there is one at the place
 abbrev pub HasPlace : Lane → ℕ → Type 0
-HasPlace (lane.Int zs) p = p < length zs.now
-HasPlace (lane.Bool zs) p = p < length zs.now
-HasPlace (lane.Vects elements spans) p =
+HasPlace (Lane.Int zs) p = p < length zs.now
+HasPlace (Lane.Bool zs) p = p < length zs.now
+HasPlace (Lane.Vects elements spans) p =
     (p < length spans.now) × ((span_at spans.now p).lo ≤ (span_at spans.now p).hi) × ((span_at spans.now p).hi ≤ length elements.now)
-HasPlace (lane.Column vectors first) p = first + p < length vectors.now
+HasPlace (Lane.Column vectors first) p = first + p < length vectors.now
 
 -- the values of the columns at a place, in written order
 abbrev pub values_at : Sources → ℕ → List Value
@@ -103,15 +95,15 @@ first_fault_in k s (p ∷ ps) = fault_or_later p (feed_fault k (values_at s p)) 
 
 -- the values of a place suit the action
 abbrev pub SuitsAt : ActionKind → Sources → ℕ → Type 0
-SuitsAt kind.Count Entry p = ⊤
-SuitsAt (kind.Sum c) (One x) p = IsNumeric (lane_value x p)
-SuitsAt (kind.Min c) (One x) p = IsNumeric (lane_value x p)
-SuitsAt (kind.Max c) (One x) p = IsNumeric (lane_value x p)
-SuitsAt (kind.Take c) (One x) p = IsSingle (lane_value x p)
-SuitsAt (kind.Reduce o c) (One x) p = IsInteger (lane_value x p)
-SuitsAt (kind.Histo1D edges c o) (One x) p = IsNumeric (lane_value x p)
-SuitsAt (kind.Histo1D edges c o) (Weighted x w) p = IsNumeric (lane_value x p) × WeightSuits (lane_value x p) (lane_value w p)
-SuitsAt (kind.Histo2D xs ys c d o) (Pair x y) p = IsNumeric (lane_value x p) × IsNumeric (lane_value y p) × AreAlike (lane_value x p) (lane_value y p)
-SuitsAt (kind.Histo2D xs ys c d o) (WeightedPair x y w) p =
+SuitsAt ActionKind.Count Entry p = ⊤
+SuitsAt (ActionKind.Sum c) (One x) p = IsNumeric (lane_value x p)
+SuitsAt (ActionKind.Min c) (One x) p = IsNumeric (lane_value x p)
+SuitsAt (ActionKind.Max c) (One x) p = IsNumeric (lane_value x p)
+SuitsAt (ActionKind.Take c) (One x) p = IsSingle (lane_value x p)
+SuitsAt (ActionKind.Reduce o c) (One x) p = IsInteger (lane_value x p)
+SuitsAt (ActionKind.Histo1D edges c o) (One x) p = IsNumeric (lane_value x p)
+SuitsAt (ActionKind.Histo1D edges c o) (Weighted x w) p = IsNumeric (lane_value x p) × WeightSuits (lane_value x p) (lane_value w p)
+SuitsAt (ActionKind.Histo2D xs ys c d o) (Pair x y) p = IsNumeric (lane_value x p) × IsNumeric (lane_value y p) × AreAlike (lane_value x p) (lane_value y p)
+SuitsAt (ActionKind.Histo2D xs ys c d o) (WeightedPair x y w) p =
     IsNumeric (lane_value x p) × IsNumeric (lane_value y p) × AreAlike (lane_value x p) (lane_value y p) × WeightSuits (lane_value x p) (lane_value w p)
 SuitsAt k s p = ⊥

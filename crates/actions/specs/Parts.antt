@@ -1,20 +1,14 @@
 -- What an entry feeds to an action, as values.
 use Rattle.std.specs.Prelude.{ℕ, ◌≤◌, ◌<◌, ⊤, List, [], ◌∷◌, length, ℤ, Option, Some, None}
-use Rattle.rdf_values.specs.declared.value.Scalar.{Scalar}
-use Rattle.rdf_values.specs.Spread.{numbers, scalar_value}
-use Rattle.rdf_values.specs.declared.value.Value.{Value}
-use Rattle.rdf_values.specs.declared.value.Value.TheVariants as val
-use Rattle.rdf_values.specs.declared.action.ActionKind.{ActionKind}
-use Rattle.rdf_values.specs.declared.action.ActionKind.TheVariants as kind
+use Rattle.rdf_values.specs.{ActionKind, numbers, Scalar, scalar_value, Value}
 use Rattle.actions.specs.declared.items.Part.{Part}
-use Rattle.actions.specs.declared.items.Part.TheVariants as part
 use Rattle.actions.specs.declared.items.Items.{Items}
 use Rattle.actions.specs.declared.items.Items.TheVariants.{Entry, One, Weighted, Pair, WeightedPair}
 
 abbrev pub part_value : Part → Value
-part_value (part.Int z) = val.Int z
-part_value (part.Bool b) = val.Bool b
-part_value (part.Vect zs) = val.Vect zs.now
+part_value (Part.Int z) = Value.Int z
+part_value (Part.Bool b) = Value.Bool b
+part_value (Part.Vect zs) = Value.Vect zs.now
 
 -- the values of the columns, in written order
 abbrev pub values_of : Items → List Value
@@ -58,52 +52,52 @@ weight_part (WeightedPair x y w) = Some w
 -- there is a weight for the point of this place
 abbrev pub HasWeight : ℕ → Option Part → Type 0
 HasWeight i None = ⊤
-HasWeight i (Some (part.Int w)) = ⊤
-HasWeight i (Some (part.Bool b)) = ⊥
-HasWeight i (Some (part.Vect ws)) = i < length ws.now
+HasWeight i (Some (Part.Int w)) = ⊤
+HasWeight i (Some (Part.Bool b)) = ⊥
+HasWeight i (Some (Part.Vect ws)) = i < length ws.now
 
 -- ---- the values that a kind takes
 
 -- a number, or a vector of at most 4,096 elements
 abbrev pub IsNumeric : Value → Type 0
-IsNumeric (val.Int z) = ⊤
-IsNumeric (val.Bool b) = ⊥
-IsNumeric (val.Vect zs) = length zs ≤ 4096
+IsNumeric (Value.Int z) = ⊤
+IsNumeric (Value.Bool b) = ⊥
+IsNumeric (Value.Vect zs) = length zs ≤ 4096
 
 -- a number or a truth value
 abbrev pub IsSingle : Value → Type 0
-IsSingle (val.Int z) = ⊤
-IsSingle (val.Bool b) = ⊤
-IsSingle (val.Vect zs) = ⊥
+IsSingle (Value.Int z) = ⊤
+IsSingle (Value.Bool b) = ⊤
+IsSingle (Value.Vect zs) = ⊥
 
 abbrev pub IsInteger : Value → Type 0
-IsInteger (val.Int z) = ⊤
-IsInteger (val.Bool b) = ⊥
-IsInteger (val.Vect zs) = ⊥
+IsInteger (Value.Int z) = ⊤
+IsInteger (Value.Bool b) = ⊥
+IsInteger (Value.Vect zs) = ⊥
 
 -- two numbers, or two vectors
 abbrev pub AreAlike : Value → Value → Type 0
-AreAlike (val.Int y) (val.Int z) = ⊤
-AreAlike (val.Vect ys) (val.Vect zs) = ⊤
+AreAlike (Value.Int y) (Value.Int z) = ⊤
+AreAlike (Value.Vect ys) (Value.Vect zs) = ⊤
 AreAlike v u = ⊥
 
 -- a number, or a vector beside a vector
 abbrev pub WeightSuits : Value → Value → Type 0
-WeightSuits v (val.Int w) = ⊤
-WeightSuits (val.Vect zs) (val.Vect ws) = length ws ≤ 4096
+WeightSuits v (Value.Int w) = ⊤
+WeightSuits (Value.Vect zs) (Value.Vect ws) = length ws ≤ 4096
 WeightSuits v w = ⊥
 
 -- what an entry feeds to an action of the kind
 abbrev pub Suits : ActionKind → Items → Type 0
-Suits kind.Count Entry = ⊤
-Suits (kind.Sum c) (One x) = IsNumeric (part_value x)
-Suits (kind.Min c) (One x) = IsNumeric (part_value x)
-Suits (kind.Max c) (One x) = IsNumeric (part_value x)
-Suits (kind.Take c) (One x) = IsSingle (part_value x)
-Suits (kind.Reduce o c) (One x) = IsInteger (part_value x)
-Suits (kind.Histo1D edges c o) (One x) = IsNumeric (part_value x)
-Suits (kind.Histo1D edges c o) (Weighted x w) = IsNumeric (part_value x) × WeightSuits (part_value x) (part_value w)
-Suits (kind.Histo2D xs ys c d o) (Pair x y) = IsNumeric (part_value x) × IsNumeric (part_value y) × AreAlike (part_value x) (part_value y)
-Suits (kind.Histo2D xs ys c d o) (WeightedPair x y w) =
+Suits ActionKind.Count Entry = ⊤
+Suits (ActionKind.Sum c) (One x) = IsNumeric (part_value x)
+Suits (ActionKind.Min c) (One x) = IsNumeric (part_value x)
+Suits (ActionKind.Max c) (One x) = IsNumeric (part_value x)
+Suits (ActionKind.Take c) (One x) = IsSingle (part_value x)
+Suits (ActionKind.Reduce o c) (One x) = IsInteger (part_value x)
+Suits (ActionKind.Histo1D edges c o) (One x) = IsNumeric (part_value x)
+Suits (ActionKind.Histo1D edges c o) (Weighted x w) = IsNumeric (part_value x) × WeightSuits (part_value x) (part_value w)
+Suits (ActionKind.Histo2D xs ys c d o) (Pair x y) = IsNumeric (part_value x) × IsNumeric (part_value y) × AreAlike (part_value x) (part_value y)
+Suits (ActionKind.Histo2D xs ys c d o) (WeightedPair x y w) =
     IsNumeric (part_value x) × IsNumeric (part_value y) × AreAlike (part_value x) (part_value y) × WeightSuits (part_value x) (part_value w)
 Suits k items = ⊥

@@ -38,9 +38,7 @@ impl Model for Acc {
 
 impl Acc {
     ghost use Rattle.std.specs.Prelude.{◌≡◌, ◌↔◌, ◌≤◌, ◌<◌, ◌+◌, ◌++◌, [], List, None, Some, Err, IfOk, OnErr, OnOk, length, max};
-    ghost use Rattle.rdf_values.specs.declared.fault.EntryFault.{EntryFault};
-    ghost use Rattle.rdf_values.specs.Spread.{feed_fault, spread};
-    ghost use Rattle.rdf_values.specs.Fold.{fold_items};
+    ghost use Rattle.rdf_values.specs.{EntryFault, feed_fault, fold_items, spread};
     ghost use Rattle.actions.specs.Accumulators.{HasFed};
     ghost use Rattle.actions.specs.Batches.{EachPlace, HasValues, SuitsAt, batch_items, places_of, values_at};
     ghost use Rattle.actions.specs.Feeding.{Fed, from_cluster, in_file_order};

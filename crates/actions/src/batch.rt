@@ -1,9 +1,7 @@
 // What the entries of a block feed to an action, all at once.
 ghost use Rattle.std.specs.Prelude.{◌≡◌, ◌≤◌, ◌<◌, ◌^◌, None, false, length, nat_abs, pos, slice_index_or};
-ghost use Rattle.rdf_values.specs.Spread.{feed_fault};
-ghost use Rattle.rdf_values.specs.declared.action.ActionKind.{ActionKind};
-ghost use Rattle.actions.specs.Batches.{EachPlace, HasValues, SuitsAt, first_fault_in, first_lane, places_of, values_at};
-ghost use Rattle.actions.specs.Parts.{Suits, values_of};
+ghost use Rattle.rdf_values.specs.{ActionKind, feed_fault};
+ghost use Rattle.actions.specs.{EachPlace, first_fault_in, first_lane, HasValues, places_of, Suits, SuitsAt, values_at, values_of};
 
 use crate::items::Items;
 use crate::lane::Lane;

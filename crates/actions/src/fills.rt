@@ -1,13 +1,9 @@
 // Filling histograms with the points of an entry.
 ghost use Rattle.std.specs.Prelude.{◌≡◌, ◌<◌, ◌≤◌, ◌+◌, ◌^◌, ◌++◌, ℕ, List, length, map, All, pos, slice_index_or};
-ghost use Rattle.rdf_values.specs.declared.item.Item.{Item};
+ghost use Rattle.rdf_values.specs.{Item, points, points2, weights};
 ghost use Rattle.rdf_values.specs.declared.item.Item.TheVariants.{Point, Point2};
-ghost use Rattle.rdf_values.specs.Spread.{points, points2, weights};
-ghost use Rattle.histograms.specs.Cells.{IsWeight};
-ghost use Rattle.histograms.specs.OneAxis.{HasFilled};
-ghost use Rattle.histograms.specs.TwoAxes.{HasFilled2};
-ghost use Rattle.actions.specs.Batches.{EachPlace, places_of};
-ghost use Rattle.actions.specs.Parts.{HasWeight, part_values};
+ghost use Rattle.histograms.specs.{HasFilled, HasFilled2, IsWeight};
+ghost use Rattle.actions.specs.{EachPlace, HasWeight, part_values, places_of};
 
 use crate::items::Part;
 use crate::places::Places;

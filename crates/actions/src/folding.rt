@@ -1,7 +1,7 @@
 // Folding the numbers of a lane.
 ghost use Rattle.std.specs.Prelude.{◌≡◌, ◌+◌, ◌-◌, ◌*◌, ◌^◌, ◌<◌, ◌≤◌, ◌++◌, ◌+ℤ◌, ℕ, ℤ, All, List, fold, length, map, nat_abs, pos, slice_index_or};
 ghost use Rattle.std.specs.Int.{int_max, int_min};
-ghost use Rattle.rdf_values.specs.Fold.{reduce_step};
+ghost use Rattle.rdf_values.specs.{reduce_step};
 ghost use Rattle.actions.specs.Batches.{EachPlace, HasPlace, HasValues, first_numbers_in, numbers_in, places_of, values_at};
 ghost use Rattle.actions.specs.Parts.{first_numbers};
 ghost use Rattle.actions.specs.Extremes.{better_of};
@@ -91,9 +91,9 @@ impl Folds for Reduction {
 
 impl Folds for Hist1 {
     ghost use Rattle.std.specs.Prelude.{◌≡◌, ◌+◌, ◌-◌, ◌*◌, ◌^◌, ◌++◌, List, length, map, pos};
-    ghost use Rattle.rdf_values.specs.declared.item.Item.{Item};
+    ghost use Rattle.rdf_values.specs.{Item};
     ghost use Rattle.rdf_values.specs.declared.item.Item.TheVariants.{Point};
-    ghost use Rattle.histograms.specs.OneAxis.{HasFilled};
+    ghost use Rattle.histograms.specs.{HasFilled};
 
     ghost folded = { λ a b zs. (b.edges ≡ a.edges) × (b.fills ≡ a.fills + length zs) × ((before : List Item) → HasFilled a before → HasFilled b (before ++ map (λ z. Point z (pos 1)) zs)) };
 

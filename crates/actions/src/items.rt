@@ -2,9 +2,8 @@
 ghost use Rattle.std.specs.Prelude.{◌≡◌, if◌then◌else◌, Some};
 ghost use Rattle.rdf_values.specs.declared.fault.EntryFault.TheVariants.{Lengths};
 ghost use Rattle.std.specs.Option.{option_to_list};
-ghost use Rattle.rdf_values.specs.declared.action.ActionKind.{ActionKind};
-ghost use Rattle.rdf_values.specs.Spread.{as_long_as, feed_fault, is_weight, numbers, scalar_value, weight_fault};
-ghost use Rattle.actions.specs.Parts.{Suits, first_numbers, first_scalar, part_value, second_part, values_of, weight_part};
+ghost use Rattle.rdf_values.specs.{ActionKind, as_long_as, feed_fault, is_weight, numbers, scalar_value, weight_fault};
+ghost use Rattle.actions.specs.{first_numbers, first_scalar, part_value, second_part, Suits, values_of, weight_part};
 
 use rdf_values::{EntryFault, Scalar};
 use std::slice;

@@ -1,8 +1,7 @@
 // What an action reads of one column over a block.
 ghost use Rattle.std.specs.Prelude.{◌≡◌};
-ghost use Rattle.rdf_values.specs.Spread.{numbers};
-ghost use Rattle.actions.specs.Batches.{HasPlace, lane_value};
-ghost use Rattle.actions.specs.Parts.{part_value};
+ghost use Rattle.rdf_values.specs.{numbers};
+ghost use Rattle.actions.specs.{HasPlace, lane_value, part_value};
 
 use crate::items::Part;
 use rdf_values::{Span, Vects};

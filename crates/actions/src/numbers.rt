@@ -1,8 +1,8 @@
 // Folds of numbers.
 ghost use Rattle.std.specs.Prelude.{◌≡◌, ◌+◌, ◌*◌, ◌≤◌, ◌<◌, ◌^◌, ◌+ℤ◌, nat_abs, All, FitsSigned, length, fold};
 ghost use Rattle.std.specs.Int.{int_max, int_min, w64};
-ghost use Rattle.rdf_values.specs.Fold.{reduce_start, reduce_step};
-ghost use Rattle.actions.specs.Extremes.{better_of, better_of_two};
+ghost use Rattle.rdf_values.specs.{reduce_start, reduce_step};
+ghost use Rattle.actions.specs.{better_of, better_of_two};
 
 use rdf_values::ReduceOp;
 

@@ -1,6 +1,6 @@
 // The places of a block that are fed.
 ghost use Rattle.std.specs.Prelude.{◌≡◌, ◌<◌, ◌≤◌, length, slice_index_or};
-ghost use Rattle.actions.specs.Batches.{places_of};
+ghost use Rattle.actions.specs.{places_of};
 
 /// Places of a block in their order: the first so many, or those that are listed.
 #[derive(Clone, Copy, Debug)]

@@ -1,6 +1,6 @@
 // What an accumulator holds.
 ghost use Rattle.std.specs.Prelude.{◌≡◌, IfOk};
-ghost use Rattle.histograms.specs.Axis.{IsAxis};
+ghost use Rattle.histograms.specs.{IsAxis};
 
 use crate::batch::{Batch, Sources};
 use crate::filled::Filled;
@@ -81,12 +81,8 @@ fn copy_of(alloc: Global, name: &Option<Name>) -> Result<Option<Name>, Memory>
 
 impl State {
     ghost use Rattle.std.specs.Prelude.{◌≡◌, ◌≤◌, ◌+◌, ◌-◌, ◌++◌, [], ℕ, List, All, None, IfOk, OnErr, OnOk, false, length, true};
-    ghost use Rattle.rdf_values.specs.Spread.{feed_fault, spread};
-    ghost use Rattle.actions.specs.Batches.{EachPlace, HasValues, SuitsAt, batch_items, places_of, values_at};
-    ghost use Rattle.actions.specs.Feeding.{Fed, from_cluster};
-    ghost use Rattle.actions.specs.Holding.{HasEdges, Holds, IsTake, IsWithin, kind_of, made};
-    ghost use Rattle.actions.specs.Fillings.{filled_seen};
-    ghost use Rattle.actions.specs.Parts.{Suits, values_of};
+    ghost use Rattle.rdf_values.specs.{feed_fault, spread};
+    ghost use Rattle.actions.specs.{batch_items, EachPlace, Fed, filled_seen, from_cluster, HasEdges, HasValues, Holds, IsTake, IsWithin, kind_of, made, places_of, Suits, SuitsAt, values_at, values_of};
 
     /// The state of an action to which nothing was fed.
     pub fn new(alloc: Global, kind: &ActionKind) -> Result<State, Memory>

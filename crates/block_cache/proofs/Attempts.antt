@@ -1,36 +1,19 @@
 -- What one evaluation of a site at the places of a group comes to.
-use Rattle.std.proofs.Common.{◌≡◌, ◌<◌, ◌≤◌, ◌+◌, ◌⊎◌, inl, inr, ℕ, zero, suc, true, false, List, [], ◌∷◌, length, take, Option, Some, None, refl, sym, ◌∙◌, ap, subst, arith, slice_get}
-use Rattle.std.specs.Prelude.{Contains}
+use Rattle.std.proofs.Common.{◌≡◌, ◌<◌, ◌≤◌, ◌+◌, ◌⊎◌, inl, inr, ℕ, zero, suc, true, false, List, [], ◌∷◌, length, take, Option, Some, None, refl, sym, ◌∙◌, ap, subst, arith, slice_get, Contains}
 use Rattle.std.proofs.lemmas.Bool.{ltb-true}
-use Rattle.lemmas.proofs.Answers.{same_some}
-use Rattle.lemmas.proofs.Booleans.{never_true, or_left}
+use Rattle.lemmas.proofs.{never_true, or_left, same_some, something_at}
 use Rattle.std.proofs.lemmas.List.Elements.{All-contains}
-use Rattle.lemmas.proofs.Places.{something_at}
-use Rattle.rdf_values.specs.declared.fault.EntryFault.{EntryFault}
-use Rattle.rdf_values.specs.declared.value.Value.{Value}
-use Rattle.rdf_model.specs.Evaluation.{Outcome, Gives, Faults, Needs}
-use Rattle.rdf_model.specs.Results.{fault_in}
-use Rattle.expr_eval.specs.declared.stop.ScalarStop.{ScalarStop}
+use Rattle.rdf_values.specs.{EntryFault, Value}
+use Rattle.rdf_model.specs.{fault_in, Faults, Gives, Needs, Outcome}
+use Rattle.expr_eval.specs.{ScalarStop}
 use Rattle.expr_eval.specs.declared.stop.ScalarStop.TheVariants.{Fault, Need}
-use Rattle.expr_lanes.specs.Places.{EachPlace, is_given, is_in, stopped}
-use Rattle.expr_lanes.specs.declared.stopped.Stopped.{Stopped}
+use Rattle.expr_lanes.specs.{EachPlace, is_given, is_in, Stopped, stopped}
 use Rattle.expr_lanes.proofs.Sequence.{filtered_out}
-use Rattle.graph_numbers.specs.Graphs.{GraphView, graph_sites, graph_variations}
-use Rattle.graph_numbers.specs.declared.source.Source.{Source}
-use Rattle.graph_numbers.specs.declared.source.Source.TheVariants as from
-use Rattle.block_cache.specs.Lanes.{LaneView, is_held}
-use Rattle.loop_keys.specs.Jobs.{JobView, job_graph}
-use Rattle.loop_keys.specs.Keys.{key, key_count, keys_before, slot_at}
-use Rattle.loop_keys.specs.Store.{IsMissingSource, IsSiteOf, source_at}
+use Rattle.graph_numbers.specs.{graph_sites, graph_variations, GraphView, Source}
+use Rattle.block_cache.specs.{begun_at, block_job, cells_at, fault_of, held_at, holds_at, is_below, is_held, IsAttemptedFor, IsFaultOf, IsLeastFault, IsSameAt, IsTelling, IsTriedFor, IsWaiting, lane_holds, LaneView, need_at, own_key, PlaceFault, site_fault}
+use Rattle.loop_keys.specs.{IsMissingSource, IsSiteOf, job_graph, JobView, key, key_count, keys_before, slot_at, source_at}
 use Rattle.loop_keys.proofs.KeyLaws.{key_below}
-use Rattle.block_cache.specs.Blocks.{IsTelling, cells_at, held_at}
-use Rattle.block_cache.specs.Faults.{IsLeastFault, fault_of}
-use Rattle.block_cache.specs.Fills.{IsSameAt, begun_at, holds_at, is_below, lane_holds, site_fault}
-use Rattle.block_cache.specs.ForSites.{IsAttemptedFor, IsTriedFor, own_key}
-use Rattle.block_cache.specs.OverBlocks.{block_job}
-use Rattle.block_cache.specs.Turns.{IsFaultOf, IsWaiting, need_at}
 use Rattle.block_cache.specs.declared.wanted.Wanted.{Wanted}
-use Rattle.block_cache.specs.declared.faults.PlaceFault.{PlaceFault}
 use Rattle.block_cache.proofs.BegunLanes.{all_grown, all_newly, all_same, own_begun}
 use Rattle.block_cache.proofs.Knowns.{holds_nothing, same_holds}
 use Rattle.block_cache.proofs.Members.{filter_in}
@@ -56,9 +39,9 @@ abbrev MissingSite : JobView → Option ℕ → ℕ → (ℕ → Type 0) → Sou
 MissingSite j u s Lacks x = (t : ℕ) × IsSiteOf t x × (t < s) × Lacks t
 
 missing_site : (j : JobView) (u : Option ℕ) (s : ℕ) (lanes : List LaneView) (p : ℕ) (x : Source) → IsMissingSource j u (cells_at (key_count (job_graph j)) lanes p) s x → MissingSite j u s (λ t. holds_at lanes (key (job_graph j) t u) p ≡ false) x
-missing_site j u s lanes p (from.Cell col) h = elim h [ ]
-missing_site j u s lanes p (from.Site t) h = (t, refl, h.0, holds_nothing (key_count (job_graph j)) lanes (key (job_graph j) t u) p h.1)
-missing_site j u s lanes p (from.Element t k tags) h = (t, refl, h.0, holds_nothing (key_count (job_graph j)) lanes (key (job_graph j) t u) p h.1)
+missing_site j u s lanes p (Source.Cell col) h = elim h [ ]
+missing_site j u s lanes p (Source.Site t) h = (t, refl, h.0, holds_nothing (key_count (job_graph j)) lanes (key (job_graph j) t u) p h.1)
+missing_site j u s lanes p (Source.Element t k tags) h = (t, refl, h.0, holds_nothing (key_count (job_graph j)) lanes (key (job_graph j) t u) p h.1)
 
 of_fault : (o : Outcome ℕ Value) (k : EntryFault) → told_stop o ≡ Some (Fault k) → o ≡ Faults k
 of_fault (Gives v) k e = cc e

@@ -1,19 +1,12 @@
 -- A site whose evaluation was begun at the places of a group, over the lanes of all keys.
-use Rattle.std.proofs.Common.{◌≡◌, ◌≤◌, ◌+◌, ◌||◌, ◌⊎◌, inl, inr, not, ℕ, Bool, true, false, List, length, Option, arith, refl, sym, ◌∙◌, ap, slice_get}
-use Rattle.std.specs.Prelude.{count_by}
+use Rattle.std.proofs.Common.{◌≡◌, ◌≤◌, ◌+◌, ◌||◌, ◌⊎◌, inl, inr, not, ℕ, Bool, true, false, List, length, Option, arith, refl, sym, ◌∙◌, ap, slice_get, count_by}
 use Rattle.std.proofs.Math.Seq.{map-set_same}
 use Rattle.std.proofs.lemmas.List.Sums.{sum_by-set}
 use Rattle.std.proofs.lemmas.Option.{slice_get_within, get_or_from_slice_get}
-use Rattle.lemmas.proofs.Booleans.{or_right}
-use Rattle.expr_lanes.specs.Places.{EachPlace, is_in}
-use Rattle.block_cache.specs.Lanes.{IsBegunAt, LaneView, is_held, kinds_of, room_of, rooms_of, tried_count}
-use Rattle.loop_keys.specs.Jobs.{JobView, job_graph}
-use Rattle.loop_keys.specs.Keys.{key, key_count}
-use Rattle.loop_keys.specs.Store.{held_in, is_held as has_held}
-use Rattle.block_cache.specs.Blocks.{IsLaneSet, cells_at, held_at, held_value}
-use Rattle.block_cache.specs.Fills.{IsGrownOver, IsOnlyCalled, IsSameAt, begun_at, begun_count, lane_begun, lane_holds}
-use Rattle.block_cache.specs.ForSites.{IsBegunFor, IsBrokenOffFor, own_key}
-use Rattle.block_cache.specs.OverBlocks.{block_job}
+use Rattle.lemmas.proofs.{or_right}
+use Rattle.expr_lanes.specs.{EachPlace, is_in}
+use Rattle.block_cache.specs.{begun_at, begun_count, block_job, cells_at, held_at, held_value, is_held, IsBegunAt, IsBegunFor, IsBrokenOffFor, IsGrownOver, IsLaneSet, IsOnlyCalled, IsSameAt, kinds_of, lane_begun, lane_holds, LaneView, own_key, room_of, rooms_of, tried_count}
+use Rattle.loop_keys.specs.{held_in, is_held as has_held, job_graph, JobView, key, key_count}
 use Rattle.block_cache.specs.declared.wanted.Wanted.{Wanted}
 use Rattle.block_cache.proofs.BlockLaws.{held_of_lane, lane_held}
 use Rattle.block_cache.proofs.Knowns.{holds_is}

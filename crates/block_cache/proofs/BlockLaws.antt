@@ -1,34 +1,27 @@
 -- What is held of the entries of a block, key by key.
 use Rattle.std.proofs.Common.{◌≡◌, ◌≤◌, ◌+◌, ◌-◌, ◌++◌, ℕ, zero, suc, true, List, [], ◌∷◌, length, map, take, replicate, get_or, Option, Some, None, refl, sym, ◌∙◌, ap, subst, arith, slice_get}
 use Rattle.std.proofs.lemmas.List.{length-replicate}
-use Rattle.rdf_values.specs.declared.value.Value.{Value}
-use Rattle.rdf_values.specs.declared.value.Value.TheVariants as val
-use Rattle.rdf_model.specs.Evaluation.{Outcome, Gives, Faults, Needs, evaluate, call_outcome}
-use Rattle.rdf_values.specs.Tree.{NumTree}
-use Rattle.expr_check.specs.NumKinds.{CheckedExpr}
-use Rattle.graph_numbers.specs.Graphs.{IsSiteExpr}
-use Rattle.block_cache.specs.Lanes.{LaneView}
-use Rattle.loop_keys.specs.Jobs.{JobView, IsJob, job_graph}
-use Rattle.loop_keys.specs.Keys.{key}
-use Rattle.loop_keys.specs.Store.{IsRight, IsSound, held_in, held_or_need, is_held as has_held, look_at, site_in}
-use Rattle.loop_keys.specs.declared.held.Held.{Held}
-use Rattle.loop_keys.specs.declared.held.Held.TheVariants as held
+use Rattle.rdf_values.specs.{NumTree, Value}
+use Rattle.rdf_model.specs.{call_outcome, evaluate, Faults, Gives, Needs, Outcome}
+use Rattle.expr_check.specs.{CheckedExpr}
+use Rattle.graph_numbers.specs.{IsSiteExpr}
+use Rattle.block_cache.specs.{cells_at, held_at, held_value, IsTelling, LaneView}
+use Rattle.loop_keys.specs.{Held, held_in, held_or_need, is_held as has_held, IsJob, IsRight, IsSound, job_graph, JobView, key, look_at, site_in}
 use Rattle.loop_keys.proofs.EvaluateLaws.{found_right, needed_met, needed_missing}
 use Rattle.loop_keys.proofs.FillLaws.{HasTree, has_tree}
-use Rattle.block_cache.specs.Blocks.{IsTelling, cells_at, held_at, held_value}
 
 -- ---- one key at a place
 
 abbrev pub lane_held : Option LaneView → ℕ → Held
-lane_held None p = held.Nothing
+lane_held None p = Held.Nothing
 lane_held (Some l) p = held_at l p
 
-none_held : (m i : ℕ) → get_or (replicate m held.Nothing) i held.Nothing ≡ held.Nothing
+none_held : (m i : ℕ) → get_or (replicate m Held.Nothing) i Held.Nothing ≡ Held.Nothing
 none_held zero i = refl
 none_held (suc m) zero = refl
 none_held (suc m) (suc i) = none_held m i
 
-held_then : (m : ℕ) (lanes : List LaneView) (p i : ℕ) → get_or (map (λ (l : LaneView). held_at l p) lanes ++ replicate m held.Nothing) i held.Nothing ≡ lane_held (slice_get lanes i) p
+held_then : (m : ℕ) (lanes : List LaneView) (p i : ℕ) → get_or (map (λ (l : LaneView). held_at l p) lanes ++ replicate m Held.Nothing) i Held.Nothing ≡ lane_held (slice_get lanes i) p
 held_then m [] p i = none_held m i
 held_then m (l ∷ lanes) p zero = refl
 held_then m (l ∷ lanes) p (suc i) = held_then m lanes p i
@@ -36,8 +29,8 @@ held_then m (l ∷ lanes) p (suc i) = held_then m lanes p i
 pub held_of_lane : (n : ℕ) (lanes : List LaneView) (p i : ℕ) → held_in (cells_at n lanes p) i ≡ lane_held (slice_get lanes i) p
 held_of_lane n lanes p i = held_then (n - length lanes) lanes p i
 
-long_then : (m : ℕ) (lanes : List LaneView) (p : ℕ) → length (map (λ (l : LaneView). held_at l p) lanes ++ replicate m held.Nothing) ≡ length lanes + m
-long_then m [] p = length-replicate m held.Nothing ∙ omega arith
+long_then : (m : ℕ) (lanes : List LaneView) (p : ℕ) → length (map (λ (l : LaneView). held_at l p) lanes ++ replicate m Held.Nothing) ≡ length lanes + m
+long_then m [] p = length-replicate m Held.Nothing ∙ omega arith
 long_then m (l ∷ lanes) p = omega (arith, long_then m lanes p)
 
 pub cells_long : (n : ℕ) (lanes : List LaneView) (p : ℕ) → length lanes ≤ n → length (cells_at n lanes p) ≡ n
@@ -45,7 +38,7 @@ cells_long n lanes p few = omega (arith, long_then (n - length lanes) lanes p)
 
 -- ---- the lanes of the first keys alone
 
-taken : (lanes : List LaneView) (k i p : ℕ) (h : Held) (P : Held → Type 0) → P held.Nothing → P (lane_held (slice_get lanes i) p) → P (lane_held (slice_get (take k lanes) i) p)
+taken : (lanes : List LaneView) (k i p : ℕ) (h : Held) (P : Held → Type 0) → P Held.Nothing → P (lane_held (slice_get lanes i) p) → P (lane_held (slice_get (take k lanes) i) p)
 taken lanes zero i p h P none is = none
 taken [] (suc k) i p h P none is = is
 taken (l ∷ lanes) (suc k) zero p h P none is = is
@@ -57,7 +50,7 @@ sound_below j entry n k p lanes sound = record {
   each = λ u s inside.
       let i = key (job_graph j) s u in
       subst (λ (h : Held). IsRight (site_in j entry u s) h) (sym (held_of_lane n (take k lanes) p i))
-      (taken lanes k i p held.Nothing (IsRight (site_in j entry u s)) tt (subst (λ (h : Held). IsRight (site_in j entry u s) h) (held_of_lane n lanes p i) (sound.each u s inside)));
+      (taken lanes k i p Held.Nothing (IsRight (site_in j entry u s)) tt (subst (λ (h : Held). IsRight (site_in j entry u s) h) (held_of_lane n lanes p i) (sound.each u s inside)));
 }
 
 -- what is held alike is right alike
@@ -67,19 +60,19 @@ sound_alike j entry a b same sound = record { each = λ u s inside. subst (λ (h
 -- ---- what an evaluation tells
 
 pub value_held : (v : Value) → has_held (held_value v) ≡ true
-value_held (val.Int z) = refl
-value_held (val.Bool b) = refl
-value_held (val.Vect zs) = refl
+value_held (Value.Int z) = refl
+value_held (Value.Bool b) = refl
+value_held (Value.Vect zs) = refl
 
 pub value_told : (c : ℕ) (v : Value) → held_or_need c (held_value v) ≡ Gives v
-value_told c (val.Int z) = refl
-value_told c (val.Bool b) = refl
-value_told c (val.Vect zs) = refl
+value_told c (Value.Int z) = refl
+value_told c (Value.Bool b) = refl
+value_told c (Value.Vect zs) = refl
 
 pub right_value : (o : Outcome ⊥ Value) (v : Value) → IsRight o (held_value v) → o ≡ Gives v
-right_value o (val.Int z) h = sym h
-right_value o (val.Bool b) h = sym h
-right_value o (val.Vect zs) h = sym h
+right_value o (Value.Int z) h = sym h
+right_value o (Value.Bool b) h = sym h
+right_value o (Value.Vect zs) h = sym h
 
 module _ (j : JobView) (job : IsJob j) (entry : ℕ) (u : Option ℕ) (cells : List Held) (sound : IsSound j entry cells) (s : ℕ) (e : CheckedExpr) (its : IsSiteExpr (job_graph j) s e) where
   abbrev looked : Outcome ℕ Value
@@ -96,10 +89,10 @@ module _ (j : JobView) (job : IsJob j) (entry : ℕ) (u : Option ℕ) (cells : L
 
       go : (o : Outcome ℕ Value) → looked ≡ o → IsTelling j entry u cells s o
       go (Gives v) is = right_value (site_in j entry u s) v (found_right j job entry u cells sound s x.0 x.1 (held_value v) (value_held v) (value_told 0 v ∙ of_tree (Gives v) is))
-      go (Faults k) is = sym (found_right j job entry u cells sound s x.0 x.1 (held.Faulted k) refl (of_tree (Faults k) is))
+      go (Faults k) is = sym (found_right j job entry u cells sound s x.0 x.1 (Held.Faulted k) refl (of_tree (Faults k) is))
       go (Needs c) is = ((needed_missing j job entry u cells sound s x.0 x.1 c (of_tree (Needs c) is)).1, needed_met j job entry u cells sound s x.0 x.1 c (of_tree (Needs c) is))
 
 pub given_right : (o : Outcome ⊥ Value) (v : Value) → o ≡ Gives v → IsRight o (held_value v)
-given_right o (val.Int z) h = sym h
-given_right o (val.Bool b) h = sym h
-given_right o (val.Vect zs) h = sym h
+given_right o (Value.Int z) h = sym h
+given_right o (Value.Bool b) h = sym h
+given_right o (Value.Vect zs) h = sym h

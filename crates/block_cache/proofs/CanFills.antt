@@ -1,29 +1,18 @@
 -- The sites that a site meets can be filled where it can.
 use Rattle.std.proofs.Common.{◌≡◌, ◌<◌, ◌≤◌, ◌+◌, ℕ, ℤ, Bool, true, false, List, [], length, Option, Some, refl, sym, ◌∙◌, ap, subst, arith, nat_eq, slice_get, if◌then◌else◌}
 use Rattle.std.proofs.lemmas.Bool.Decides.{Decides-eqb}
-use Rattle.rdf_values.specs.EachColumn.{EachColumn}
-use Rattle.rdf_values.specs.Path.{history}
-use Rattle.rdf_values.specs.declared.value.ColType.{ColType}
-use Rattle.rdf_values.specs.declared.value.Value.{Value}
-use Rattle.rdf_model.specs.Demanded.{with_needs}
-use Rattle.rdf_model.specs.Evaluation.{Outcome, Gives, Faults, Needs, call_outcome, is_need, without}
+use Rattle.rdf_values.specs.{ColType, EachColumn, history, Value}
+use Rattle.rdf_model.specs.{call_outcome, Faults, Gives, is_need, Needs, Outcome, with_needs, without}
 use Rattle.rdf_model.proofs.Close as close
 use Rattle.rdf_model.proofs.KnownColumns.{each_weaker}
 use Rattle.graph_numbers.proofs.Equations.{columns_below}
-use Rattle.graph_numbers.specs.Graphs.{graph_sites, graph_under}
-use Rattle.graph_numbers.specs.Sites.{SiteAt}
-use Rattle.graph_numbers.specs.Sources.{IsBelow}
-use Rattle.graph_numbers.specs.Versions.{version_count}
-use Rattle.graph_numbers.specs.declared.source.Source.{Source}
-use Rattle.graph_numbers.specs.declared.source.Source.TheVariants as from
-use Rattle.loop_keys.specs.Jobs.{JobView, IsJob, job_graph}
-use Rattle.loop_keys.specs.Plain.{ArePlain}
-use Rattle.loop_keys.specs.Store.{IsSiteOf, IsSound, IsSourceIn, MeetsAt, site_in, source_at, version_in}
+use Rattle.graph_numbers.specs.{graph_sites, graph_under, IsBelow, SiteAt, Source, version_count}
+use Rattle.loop_keys.specs.{ArePlain, IsJob, IsSiteOf, IsSound, IsSourceIn, job_graph, JobView, MeetsAt, site_in, source_at, version_in}
 use Rattle.loop_keys.proofs.EvaluateLaws.{accepted_of, whole}
 use Rattle.loop_keys.proofs.FillLaws.{in_source}
 use Rattle.loop_keys.proofs.PlainLaws.{plain_closed}
-use Rattle.expr_lanes.specs.Depths.{depth}
-use Rattle.block_cache.specs.Fills.{AreSiteKinds, CanFill, IsLoaded, IsRankedBelow}
+use Rattle.expr_lanes.specs.{depth}
+use Rattle.block_cache.specs.{AreSiteKinds, CanFill, IsLoaded, IsRankedBelow}
 
 known_never : (o : Outcome ⊥ Value) → is_need (with_needs {M = ℕ} o) ≡ true → ⊥
 known_never (Gives v) e = cc e
@@ -53,9 +42,9 @@ pub met_used : (j : JobView) (job : IsJob j) (entry : ℕ) (u : Option ℕ) (s c
 met_used j job entry u s c t used plain has met site = in_source used t (source_at j u c) site ((plain_closed j job entry u used plain).each s c has met)
 
 pub ranked : (rank : ℕ → ℕ) (m t : ℕ) (x : Source) → IsSiteOf t x → IsRankedBelow rank m x → rank t < m
-ranked rank m t (from.Cell col) site h = elim site [ ]
-ranked rank m t (from.Site s) site h = subst (λ (n : ℕ). rank n < m) site h
-ranked rank m t (from.Element s k tags) site h = subst (λ (n : ℕ). rank n < m) site h
+ranked rank m t (Source.Cell col) site h = elim site [ ]
+ranked rank m t (Source.Site s) site h = subst (λ (n : ℕ). rank n < m) site h
+ranked rank m t (Source.Element s k tags) site h = subst (λ (n : ℕ). rank n < m) site h
 
 -- with one level fewer
 pub can_below : (j : JobView) (job : IsJob j) {first : ℕ} {u : Option ℕ} {count s : ℕ} (c t p : ℕ) {kinds : List ColType} {cells : List (List ℤ)} {scratch levels : ℕ} (fewer : ℕ)
@@ -85,14 +74,14 @@ falls_by_number j job u s x at =
     each_weaker (λ c. (c < version_count j.dataset.columns (history j.script)) × IsBelow (length j.dataset.columns) s (source_at j u c)) _ (λ c below. lower (source_at j u c) below.1) x.tree (columns_below j.dataset.fns j.dataset.columns (graph_under (job_graph j) u) (history j.script) (accepted_of j job) s x at)
   where
     lower : (src : Source) → IsBelow (length j.dataset.columns) s src → IsRankedBelow (λ n. n) s src
-    lower (from.Cell col) below = tt
-    lower (from.Site t) below = below
-    lower (from.Element t k tags) below = below
+    lower (Source.Cell col) below = tt
+    lower (Source.Site t) below = below
+    lower (Source.Element t k tags) below = below
 
 in_all : (x : Source) → IsSourceIn (λ t. true) x
-in_all (from.Cell col) = tt
-in_all (from.Site t) = refl
-in_all (from.Element t k tags) = refl
+in_all (Source.Cell col) = tt
+in_all (Source.Site t) = refl
+in_all (Source.Element t k tags) = refl
 
 -- each site can be filled, with vectors or without, where the levels of scratch are enough for each expression, the columns are there, and
 -- there is a level for each site

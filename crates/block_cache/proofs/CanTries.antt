@@ -1,32 +1,17 @@
 -- A site that can be filled can be tried.
-use Rattle.std.proofs.Common.{◌≡◌, ◌<◌, ◌≤◌, ℕ, ℤ, zero, suc, Bool, true, false, not, List, [], ◌∷◌, length, map, take, All, get_or, Option, Some, None, refl, sym, ◌∙◌, ap, subst, arith, nat_eq, slice_get, if◌then◌else◌}
-use Rattle.std.specs.Prelude.{filter, option_map}
+use Rattle.std.proofs.Common.{◌≡◌, ◌<◌, ◌≤◌, ℕ, ℤ, zero, suc, Bool, true, false, not, List, [], ◌∷◌, length, map, take, All, get_or, Option, Some, None, refl, sym, ◌∙◌, ap, subst, arith, nat_eq, slice_get, if◌then◌else◌, filter, option_map}
 use Rattle.std.proofs.lemmas.Option.{get_or_from_slice_get}
-use Rattle.lemmas.proofs.Places.{mapped_at, something_at}
-use Rattle.rdf_values.specs.Depends.{columns_in}
-use Rattle.rdf_values.specs.Path.{history}
-use Rattle.rdf_values.specs.Tree.{NumTree}
-use Rattle.rdf_values.specs.declared.value.ColType.{ColType}
-use Rattle.expr_check.specs.NumKinds.{CheckedExpr, distinct}
-use Rattle.expr_lanes.specs.Depths.{depth}
-use Rattle.graph_numbers.specs.Graphs.{GraphView, IsSiteExpr, graph_sites, graph_under}
-use Rattle.graph_numbers.specs.Sites.{SiteAt}
-use Rattle.graph_numbers.specs.Sources.{IsBelow}
-use Rattle.graph_numbers.specs.Versions.{version_count}
-use Rattle.graph_numbers.specs.declared.source.Source.{Source}
-use Rattle.graph_numbers.specs.declared.source.Source.TheVariants as from
+use Rattle.lemmas.proofs.{mapped_at, something_at}
+use Rattle.rdf_values.specs.{ColType, columns_in, history, NumTree}
+use Rattle.expr_check.specs.{CheckedExpr, distinct}
+use Rattle.expr_lanes.specs.{depth}
+use Rattle.graph_numbers.specs.{graph_sites, graph_under, GraphView, IsBelow, IsSiteExpr, SiteAt, Source, version_count}
 use Rattle.graph_numbers.proofs.Equations.{columns_below}
 use Rattle.graph_numbers.proofs.Meeting.{In, here, there as further, each_at}
-use Rattle.block_cache.specs.Lanes.{LaneView, kinds_of}
-use Rattle.loop_keys.specs.Jobs.{JobView, job_graph}
-use Rattle.loop_keys.specs.Keys.{key}
-use Rattle.loop_keys.specs.Store.{source_at}
+use Rattle.block_cache.specs.{AreReadyOver, block_job, CanFillFor, HasLane, HasSource, IsLoaded, IsTriable, kinds_of, LaneView}
+use Rattle.loop_keys.specs.{job_graph, JobView, key, source_at}
 use Rattle.loop_keys.proofs.EvaluateLaws.{accepted_of}
 use Rattle.loop_keys.proofs.KeyLaws.{key_small}
-use Rattle.block_cache.specs.Blocks.{HasLane, HasSource, IsTriable}
-use Rattle.block_cache.specs.Fills.{IsLoaded}
-use Rattle.block_cache.specs.ForSites.{CanFillFor}
-use Rattle.block_cache.specs.OverBlocks.{AreReadyOver, block_job}
 use Rattle.block_cache.specs.declared.wanted.Wanted.{Wanted}
 use Rattle.block_cache.proofs.Attempts.{get_take, key_lower}
 
@@ -102,9 +87,9 @@ module _
         (l.0, get_take lanes (key (job_graph j) s u) (key (job_graph j) t u) lower ∙ l.1, counted l.0 (key (job_graph j) t u) l.1 among)
 
     source_of : (src : Source) → IsLoaded j first count cells src → IsBelow (length j.dataset.columns) s src → HasSource j first u count (take (key (job_graph j) s u) lanes) cells src
-    source_of (from.Cell col) loaded below = loaded
-    source_of (from.Site t) loaded below = lane_below t below
-    source_of (from.Element t k tags) loaded below = lane_below t below
+    source_of (Source.Cell col) loaded below = loaded
+    source_of (Source.Site t) loaded below = lane_below t below
+    source_of (Source.Element t k tags) loaded below = lane_below t below
 
     sources : All (λ (c : ℕ × ColType). HasSource j first u count (take (key (job_graph j) s u) lanes) cells (source_at j u c.0)) e.kinds
     sources k d low =

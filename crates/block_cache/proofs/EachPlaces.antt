@@ -2,21 +2,14 @@
 use Rattle.std.proofs.Common.{◌≡◌, ◌<◌, ◌≤◌, ◌+◌, ◌++◌, ◌⊎◌, inl, inr, not, ℕ, ℤ, Bool, true, false, List, [], ◌∷◌, length, get_or, take, ◌∙◌, refl, ap, sym, subst, arith, append_assoc, cond}
 use Rattle.std.specs.List.{filter}
 use Rattle.std.proofs.lemmas.List.{take_more, length-append}
-use Rattle.rdf_values.specs.Tables.{FitsKind}
-use Rattle.rdf_values.specs.declared.value.ColType.{ColType}
-use Rattle.rdf_values.specs.declared.value.ColType.TheVariants as kind
-use Rattle.rdf_values.specs.declared.value.Value.{Value}
-use Rattle.rdf_values.specs.declared.value.Value.TheVariants as val
-use Rattle.rdf_model.specs.Evaluation.{Outcome, Gives, Faults, Needs, is_set, mark}
-use Rattle.expr_check.specs.NumKinds.{is_vector}
-use Rattle.expr_lanes.specs.Marks.{lane_number}
-use Rattle.expr_lanes.specs.Places.{EachPlace, at_place, given_in, is_given, is_in, is_marked, stopped, stops_in, times, with_stop}
+use Rattle.rdf_values.specs.{ColType, FitsKind, Value}
+use Rattle.rdf_model.specs.{Faults, Gives, is_set, mark, Needs, Outcome}
+use Rattle.expr_check.specs.{is_vector}
+use Rattle.expr_lanes.specs.{at_place, EachPlace, given_in, is_given, is_in, is_marked, lane_number, Stopped, stopped, stops_in, times, with_stop}
 use Rattle.expr_eval.specs.declared.stop.ScalarStop.TheVariants.{Fault, Need}
-use Rattle.expr_lanes.specs.declared.stopped.Stopped.{Stopped}
 use Rattle.expr_lanes.proofs.Selected.{in_more, is_in_at}
 use Rattle.expr_lanes.proofs.Sequence.{first_in, rest_in}
-use Rattle.block_cache.specs.EachPlace.{HaveCome, IsTurned, IsWritten}
-use Rattle.block_cache.specs.Values.{AreKept, AreWritten, HasNumber, HasNumbered, IsNumberOf, value_for}
+use Rattle.block_cache.specs.{AreKept, AreWritten, HasNumber, HasNumbered, HaveCome, IsNumberOf, IsTurned, IsWritten, value_for}
 use Rattle.block_cache.proofs.VectorLists.{kept_on}
 
 -- ---- the number of a value
@@ -27,45 +20,45 @@ set_mark false = refl
 
 -- is read back as the value
 pub read_back : (k : ColType) (vectors : List (List ℤ)) (v : Value) (z : ℤ) → FitsKind k v → IsNumberOf vectors v z → value_for k vectors z ≡ v
-read_back kind.Int vectors (val.Int x) z fits is = ap val.Int is
-read_back kind.Int vectors (val.Bool b) z fits is = elim fits [ ]
-read_back kind.Int vectors (val.Vect xs) z fits is = elim fits [ ]
-read_back kind.Bool vectors (val.Int x) z fits is = elim fits [ ]
-read_back kind.Bool vectors (val.Bool b) z fits is = ap (λ y. val.Bool (is_set y)) is ∙ ap val.Bool (set_mark b)
-read_back kind.Bool vectors (val.Vect xs) z fits is = elim fits [ ]
-read_back kind.Vect vectors (val.Int x) z fits is = elim fits [ ]
-read_back kind.Vect vectors (val.Bool b) z fits is = elim fits [ ]
-read_back kind.Vect vectors (val.Vect xs) z fits is = ap val.Vect is.1
+read_back ColType.Int vectors (Value.Int x) z fits is = ap Value.Int is
+read_back ColType.Int vectors (Value.Bool b) z fits is = elim fits [ ]
+read_back ColType.Int vectors (Value.Vect xs) z fits is = elim fits [ ]
+read_back ColType.Bool vectors (Value.Int x) z fits is = elim fits [ ]
+read_back ColType.Bool vectors (Value.Bool b) z fits is = ap (λ y. Value.Bool (is_set y)) is ∙ ap Value.Bool (set_mark b)
+read_back ColType.Bool vectors (Value.Vect xs) z fits is = elim fits [ ]
+read_back ColType.Vect vectors (Value.Int x) z fits is = elim fits [ ]
+read_back ColType.Vect vectors (Value.Bool b) z fits is = elim fits [ ]
+read_back ColType.Vect vectors (Value.Vect xs) z fits is = ap Value.Vect is.1
 
 pub is_there : (k : ColType) (vectors : List (List ℤ)) (v : Value) (z : ℤ) → FitsKind k v → IsNumberOf vectors v z → HasNumbered k vectors z
-is_there kind.Int vectors v z fits is = tt
-is_there kind.Bool vectors v z fits is = tt
-is_there kind.Vect vectors (val.Int x) z fits is = elim fits [ ]
-is_there kind.Vect vectors (val.Bool b) z fits is = elim fits [ ]
-is_there kind.Vect vectors (val.Vect xs) z fits is = is.0
+is_there ColType.Int vectors v z fits is = tt
+is_there ColType.Bool vectors v z fits is = tt
+is_there ColType.Vect vectors (Value.Int x) z fits is = elim fits [ ]
+is_there ColType.Vect vectors (Value.Bool b) z fits is = elim fits [ ]
+is_there ColType.Vect vectors (Value.Vect xs) z fits is = is.0
 
 pub number_read : (k : ColType) (vectors : List (List ℤ)) (v : Value) (z : ℤ) → is_vector k ≡ false → FitsKind k v → IsNumberOf vectors v z → lane_number v ≡ z
-number_read k vectors (val.Int x) z scalar fits is = sym is
-number_read k vectors (val.Bool b) z scalar fits is = sym is
-number_read kind.Int vectors (val.Vect xs) z scalar fits is = elim fits [ ]
-number_read kind.Bool vectors (val.Vect xs) z scalar fits is = elim fits [ ]
-number_read kind.Vect vectors (val.Vect xs) z scalar fits is = cc scalar
+number_read k vectors (Value.Int x) z scalar fits is = sym is
+number_read k vectors (Value.Bool b) z scalar fits is = sym is
+number_read ColType.Int vectors (Value.Vect xs) z scalar fits is = elim fits [ ]
+number_read ColType.Bool vectors (Value.Vect xs) z scalar fits is = elim fits [ ]
+number_read ColType.Vect vectors (Value.Vect xs) z scalar fits is = cc scalar
 
 -- among more vectors it is the same
 number_more : (vectors more : List (List ℤ)) (v : Value) (z : ℤ) → AreKept vectors more → IsNumberOf vectors v z → IsNumberOf more v z
-number_more vectors more (val.Int x) z kept is = is
-number_more vectors more (val.Bool b) z kept is = is
-number_more vectors more (val.Vect xs) z kept is = let k = kept _ is.0 in (k.0, k.1 ∙ is.1)
+number_more vectors more (Value.Int x) z kept is = is
+number_more vectors more (Value.Bool b) z kept is = is
+number_more vectors more (Value.Vect xs) z kept is = let k = kept _ is.0 in (k.0, k.1 ∙ is.1)
 
 pub value_more : (k : ColType) (vectors more : List (List ℤ)) (z : ℤ) → AreKept vectors more → HasNumbered k vectors z → value_for k more z ≡ value_for k vectors z
-value_more kind.Int vectors more z kept there = refl
-value_more kind.Bool vectors more z kept there = refl
-value_more kind.Vect vectors more z kept there = ap val.Vect (kept _ there).1
+value_more ColType.Int vectors more z kept there = refl
+value_more ColType.Bool vectors more z kept there = refl
+value_more ColType.Vect vectors more z kept there = ap Value.Vect (kept _ there).1
 
 pub there_more : (k : ColType) (vectors more : List (List ℤ)) (z : ℤ) → AreKept vectors more → HasNumbered k vectors z → HasNumbered k more z
-there_more kind.Int vectors more z kept there = tt
-there_more kind.Bool vectors more z kept there = tt
-there_more kind.Vect vectors more z kept there = (kept _ there).0
+there_more ColType.Int vectors more z kept there = tt
+there_more ColType.Bool vectors more z kept there = tt
+there_more ColType.Vect vectors more z kept there = (kept _ there).0
 
 number_moved : (k : ColType) (o : Outcome ℕ Value) (vectors more : List (List ℤ)) (a b : ℤ) → AreKept vectors more → b ≡ a → HasNumber k o vectors a → HasNumber k o more b
 number_moved k o vectors more a b kept same h = record { value = h.value; gives = h.gives; fits = h.fits; numbered = number_more vectors more h.value b kept (subst (λ (z : ℤ). IsNumberOf vectors h.value z) (sym same) h.numbered) }

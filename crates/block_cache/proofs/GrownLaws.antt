@@ -1,17 +1,10 @@
 -- What is known over a block grows, one step after another.
 use Rattle.std.proofs.Common.{◌≡◌, ◌<◌, ◌≤◌, ◌+◌, ◌⊎◌, inl, inr, ℕ, Bool, true, false, List, length, Option, refl, sym, ◌∙◌, ap, arith}
-use Rattle.graph_numbers.specs.Graphs.{graph_sites}
-use Rattle.graph_numbers.specs.declared.source.Source.{Source}
-use Rattle.graph_numbers.specs.declared.source.Source.TheVariants as from
-use Rattle.expr_lanes.specs.Places.{EachPlace, is_in}
-use Rattle.block_cache.specs.Lanes.{LaneView}
-use Rattle.loop_keys.specs.Jobs.{JobView, job_graph}
-use Rattle.loop_keys.specs.Keys.{key, key_count}
-use Rattle.loop_keys.specs.Store.{IsClosed, IsSiteOf, IsSourceIn, MeetsAt, source_at}
+use Rattle.graph_numbers.specs.{graph_sites, Source}
+use Rattle.expr_lanes.specs.{EachPlace, is_in}
+use Rattle.block_cache.specs.{begun_at, cells_at, holds_at, IsGrownOver, IsOnlyCalled, IsSameAt, IsSettled, IsSettledTo, LaneView}
+use Rattle.loop_keys.specs.{IsClosed, IsSiteOf, IsSourceIn, job_graph, JobView, key, key_count, MeetsAt, source_at}
 use Rattle.loop_keys.proofs.FillLaws.{grows_on, in_source}
-use Rattle.block_cache.specs.Blocks.{cells_at}
-use Rattle.block_cache.specs.Fills.{IsGrownOver, IsOnlyCalled, IsSameAt, IsSettled, begun_at, holds_at}
-use Rattle.block_cache.specs.Turns.{IsSettledTo}
 use Rattle.block_cache.proofs.Attempts.{key_lower}
 use Rattle.block_cache.proofs.Knowns.{holds_on, same_on}
 
@@ -20,9 +13,9 @@ pub all_closed : (j : JobView) (entry : ℕ) (u : Option ℕ) → IsClosed j ent
 all_closed j entry u = record { each = λ s c d met. go (source_at j u c) }
   where
     go : (x : Source) → IsSourceIn (λ t. true) x
-    go (from.Cell col) = tt
-    go (from.Site t) = refl
-    go (from.Element t k tags) = refl
+    go (Source.Cell col) = tt
+    go (Source.Site t) = refl
+    go (Source.Element t k tags) = refl
 
 module _ (j : JobView) (first : ℕ) (u : Option ℕ) (s : ℕ) (sel : List ℕ) where
   abbrev n : ℕ

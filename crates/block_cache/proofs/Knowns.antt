@@ -2,18 +2,11 @@
 use Rattle.std.proofs.Common.{if◌then◌else◌, ◌≡◌, ◌<◌, ◌+◌, not, ℕ, Bool, true, false, List, length, Option, Some, None, refl, sym, ◌∙◌, ap, subst, slice_get, get_or}
 use Rattle.std.specs.List.{filter}
 use Rattle.std.proofs.lemmas.Option.{slice_get-get_or}
-use Rattle.rdf_values.specs.declared.value.Value.{Value}
-use Rattle.rdf_model.specs.Evaluation.{Gives}
-use Rattle.rdf_model.specs.Results.{fault_in}
-use Rattle.graph_numbers.specs.Graphs.{graph_sites}
-use Rattle.block_cache.specs.Lanes.{LaneView, is_held, value_of}
-use Rattle.loop_keys.specs.Jobs.{JobView, job_graph}
-use Rattle.loop_keys.specs.Keys.{key, key_count}
-use Rattle.loop_keys.specs.Store.{Grows, IsRight, held_in, is_held as has_held, site_in}
-use Rattle.loop_keys.specs.declared.held.Held.{Held}
-use Rattle.loop_keys.specs.declared.held.Held.TheVariants as held
-use Rattle.block_cache.specs.Blocks.{AreReady, cells_at, held_value}
-use Rattle.block_cache.specs.Fills.{IsSameAt, holds_at, lane_holds, site_fault}
+use Rattle.rdf_values.specs.{Value}
+use Rattle.rdf_model.specs.{fault_in, Gives}
+use Rattle.graph_numbers.specs.{graph_sites}
+use Rattle.block_cache.specs.{AreReady, cells_at, held_value, holds_at, is_held, IsSameAt, lane_holds, LaneView, site_fault, value_of}
+use Rattle.loop_keys.specs.{Grows, Held, held_in, is_held as has_held, IsRight, job_graph, JobView, key, key_count, site_in}
 use Rattle.block_cache.proofs.BlockLaws.{held_of_lane, lane_held, right_value, value_held}
 use Rattle.block_cache.proofs.OverLaws.{held_true}
 
@@ -23,7 +16,7 @@ lane_says : (o : Option LaneView) (p : ℕ) → has_held (lane_held o p) ≡ lan
 lane_says None p = refl
 lane_says (Some l) p = go (is_held l p) (value_of l p)
   where
-    go : (b : Bool) (v : Value) → has_held (if b then held_value v else held.Nothing) ≡ b
+    go : (b : Bool) (v : Value) → has_held (if b then held_value v else Held.Nothing) ≡ b
     go true v = value_held v
     go false v = refl
 
@@ -36,7 +29,7 @@ same_holds n a b k p same = sym (holds_is n b k p) ∙ ap has_held same.1 ∙ ho
 pub same_on : (n : ℕ) (a b c : List LaneView) (k p : ℕ) → IsSameAt n a b k p → IsSameAt n b c k p → IsSameAt n a c k p
 same_on n a b c k p h i = (i.0 ∙ h.0, i.1 ∙ h.1)
 
-pub holds_nothing : (n : ℕ) (lanes : List LaneView) (k p : ℕ) → held_in (cells_at n lanes p) k ≡ held.Nothing → holds_at lanes k p ≡ false
+pub holds_nothing : (n : ℕ) (lanes : List LaneView) (k p : ℕ) → held_in (cells_at n lanes p) k ≡ Held.Nothing → holds_at lanes k p ≡ false
 holds_nothing n lanes k p none = sym (holds_is n lanes k p) ∙ ap has_held none
 
 pub holds_on : (n : ℕ) (a b : List LaneView) (k p : ℕ) → Grows (cells_at n a p) (cells_at n b p) → holds_at a k p ≡ true → holds_at b k p ≡ true

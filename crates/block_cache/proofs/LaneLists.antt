@@ -4,9 +4,9 @@ use Rattle.std.specs.List.{All, AllWithin}
 use Rattle.std.proofs.lemmas.List.{take_more}
 use Rattle.std.proofs.Math.Seq.{map-set_same}
 use Rattle.std.proofs.lemmas.List.Elements.{All-push, All-set, AllWithin-more_set}
-use Rattle.lemmas.proofs.Appended.{map_next}
-use Rattle.rdf_values.specs.declared.value.ColType.{ColType}
-use Rattle.block_cache.specs.Lanes.{AreUnknown, HaveRoom, IsSameLane, IsUnknown, LaneView, kinds_of, room_of, rooms_of}
+use Rattle.lemmas.proofs.{map_next}
+use Rattle.rdf_values.specs.{ColType}
+use Rattle.block_cache.specs.{AreUnknown, HaveRoom, IsSameLane, IsUnknown, kinds_of, LaneView, room_of, rooms_of}
 
 -- ---- lanes that are made
 

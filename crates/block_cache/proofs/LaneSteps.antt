@@ -1,23 +1,15 @@
 -- A lane before and after an evaluation.
-use Rattle.std.proofs.Common.{◌≡◌, ◌<◌, ◌≤◌, ◌+◌, ◌||◌, ◌++◌, not, ℕ, ℤ, Bool, true, false, List, [], ◌∷◌, length, take, drop, ◌∙◌, refl, ap, sym, subst, cond, arith}
-use Rattle.std.specs.Prelude.{count_by}
+use Rattle.std.proofs.Common.{◌≡◌, ◌<◌, ◌≤◌, ◌+◌, ◌||◌, ◌++◌, not, ℕ, ℤ, Bool, true, false, List, [], ◌∷◌, length, take, drop, ◌∙◌, refl, ap, sym, subst, cond, arith, count_by}
 use Rattle.std.specs.List.{filter}
 use Rattle.std.proofs.Math.Seq.{take-append_seam}
-use Rattle.lemmas.proofs.Booleans.{left_false, never_true, or_fails, right_false}
-use Rattle.rdf_values.specs.declared.value.ColType.{ColType}
-use Rattle.rdf_values.specs.declared.value.ColType.TheVariants as kinds
-use Rattle.rdf_values.specs.declared.value.Value.{Value}
-use Rattle.rdf_model.specs.Evaluation.{Outcome, Gives}
-use Rattle.expr_check.specs.NumKinds.{is_vector}
-use Rattle.expr_lanes.specs.Marks.{lane_number, lane_outcome, lane_value}
-use Rattle.expr_lanes.specs.Places.{EachPlace, IsJoined, at_place, given_in, is_given, is_in, is_marked, stops_in, times}
-use Rattle.expr_lanes.specs.Values.{HasValues}
+use Rattle.lemmas.proofs.{left_false, never_true, or_fails, right_false}
+use Rattle.rdf_values.specs.{ColType, Value}
+use Rattle.rdf_model.specs.{Gives, Outcome}
+use Rattle.expr_check.specs.{is_vector}
+use Rattle.expr_lanes.specs.{at_place, EachPlace, given_in, HasValues, is_given, is_in, is_marked, IsJoined, lane_number, lane_outcome, lane_value, Stopped, stops_in, times}
 use Rattle.expr_lanes.specs.declared.TheConstants.{MAX_PLACES}
-use Rattle.expr_lanes.specs.declared.stopped.Stopped.{Stopped}
 use Rattle.expr_lanes.proofs.Sequence.{filtered_in, filtered_out, first_in, rest_in}
-use Rattle.block_cache.specs.EachPlace.{HaveCome}
-use Rattle.block_cache.specs.Lanes.{LaneView, IsBegun, IsBegunAt, IsEvaluated, IsLane, IsUnknown, is_held, room_of}
-use Rattle.block_cache.specs.Values.{AreWritten, HasNumber, HasNumbered, value_for}
+use Rattle.block_cache.specs.{AreWritten, HasNumber, HasNumbered, HaveCome, is_held, IsBegun, IsBegunAt, IsEvaluated, IsLane, IsUnknown, LaneView, room_of, value_for}
 use Rattle.block_cache.proofs.EachPlaces.{is_there, number_read, read_back, there_more, times_append, value_more}
 use Rattle.block_cache.proofs.Members.{filter_passes}
 use Rattle.block_cache.proofs.VectorLists.{kept_all}
@@ -150,9 +142,9 @@ module _
 -- ---- at all places at once
 
 scalar_number : (k : ColType) (f : ℕ → Outcome ℕ Value) (p : ℕ) (vectors : List (List ℤ)) (z : ℤ) → is_vector k ≡ false → f p ≡ Gives (lane_value k z) → lane_outcome (f p) ≡ Gives z → HasNumber k (f p) vectors z
-scalar_number kinds.Int f p vectors z scalar gives exact = record { value = lane_value kinds.Int z; gives = gives; fits = tt; numbered = refl }
-scalar_number kinds.Bool f p vectors z scalar gives exact = record { value = lane_value kinds.Bool z; gives = gives; fits = tt; numbered = sym (same_given (ap lane_outcome (sym gives) ∙ exact)) }
-scalar_number kinds.Vect f p vectors z scalar gives exact = cc scalar
+scalar_number ColType.Int f p vectors z scalar gives exact = record { value = lane_value ColType.Int z; gives = gives; fits = tt; numbered = refl }
+scalar_number ColType.Bool f p vectors z scalar gives exact = record { value = lane_value ColType.Bool z; gives = gives; fits = tt; numbered = sym (same_given (ap lane_outcome (sym gives) ∙ exact)) }
+scalar_number ColType.Vect f p vectors z scalar gives exact = cc scalar
 
 module _ {k : ColType} {f : ℕ → Outcome ℕ Value} {sel left : List ℕ} {numbers0 numbers : List ℤ} {stops more : List Stopped} (come : HasValues k f sel left numbers0 numbers stops more) (vectors : List (List ℤ)) where
   pub scalar_written : length numbers ≡ length numbers0 → AreWritten sel numbers0 numbers vectors vectors

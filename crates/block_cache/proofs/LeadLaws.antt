@@ -3,40 +3,18 @@ use Rattle.std.proofs.Common.{if◌then◌else◌, ◌≡◌, ◌<◌, ◌≤◌
 use Rattle.std.specs.List.{filter}
 use Rattle.std.proofs.lemmas.Bool.{lt-ltb, ltb-true}
 use Rattle.std.proofs.lemmas.Bool.Decides.{Decides-eqb}
-use Rattle.rdf_values.specs.Functions.{fn_names}
-use Rattle.rdf_values.specs.Path.{history}
-use Rattle.rdf_values.specs.Tree.{Tree, Trees, Lit, Truth, Col, Neg, Not, Bin, Cond, Pick, Call, End, More}
-use Rattle.rdf_values.specs.declared.expr.BinOp.{BinOp}
-use Rattle.rdf_values.specs.declared.expr.BinOp.TheVariants as op
-use Rattle.rdf_values.specs.declared.value.ColType.{ColType}
-use Rattle.rdf_values.specs.declared.value.Value.{Value}
-use Rattle.rdf_values.specs.declared.value.Value.TheVariants as val
-use Rattle.rdf_model.specs.Evaluation.{Outcome, Gives, Faults, Needs, ◌>>=◌, evaluate, evaluate_all, operation, call_outcome, is_need, without}
-use Rattle.rdf_model.specs.Results.{fault_in}
-use Rattle.expr_check.specs.NumKinds.{CheckedExpr}
-use Rattle.expr_lanes.specs.Places.{AreRising, EachPlace, IsSelected, is_in}
+use Rattle.rdf_values.specs.{Bin, BinOp, Call, Col, ColType, Cond, End, fn_names, history, Lit, More, Neg, Not, Pick, Tree, Trees, Value}
+use Rattle.rdf_values.specs.Expressions.{Truth}
+use Rattle.rdf_model.specs.{◌>>=◌, call_outcome, evaluate, evaluate_all, fault_in, Faults, Gives, is_need, Needs, operation, Outcome, without}
+use Rattle.expr_check.specs.{CheckedExpr}
+use Rattle.expr_lanes.specs.{AreRising, EachPlace, is_in, IsSelected}
 use Rattle.graph_numbers.proofs.Equations.{columns_below}
 use Rattle.graph_numbers.proofs.Extending.{versions_count}
-use Rattle.graph_numbers.specs.Graphs.{IsSiteExpr, graph_sites, graph_under, graph_versions}
-use Rattle.graph_numbers.specs.Sites.{SiteAt}
-use Rattle.graph_numbers.specs.Sources.{IsBelow}
-use Rattle.graph_numbers.specs.Versions.{version_count}
-use Rattle.graph_numbers.specs.declared.source.Source.{Source}
-use Rattle.graph_numbers.specs.declared.source.Source.TheVariants as from
-use Rattle.block_cache.specs.Lanes.{LaneView}
-use Rattle.loop_keys.specs.Jobs.{JobView, IsJob, job_graph}
-use Rattle.loop_keys.specs.Keys.{key, key_count, place_of}
-use Rattle.loop_keys.specs.Plain.{ArePlain}
-use Rattle.loop_keys.specs.Store.{IsSiteOf, MeetsAt, site_in, source_at, version_in}
-use Rattle.loop_keys.specs.declared.rows.Place.TheVariants as stands
+use Rattle.graph_numbers.specs.{graph_sites, graph_under, graph_versions, IsBelow, IsSiteExpr, SiteAt, Source, version_count}
+use Rattle.block_cache.specs.{AreReadyOver, below_fault, block_graph, block_job, CanFill, CanFillFor, first_read, first_read_in, found_or, holds_at, is_below, IsFaultOf, IsFilledFor, IsFilledTo, IsGrownOver, IsLeadFor, IsRankedBelow, IsSameAt, IsSpentFor, IsSpentOver, key_over, LaneView, own_key, PlaceFault, site_fault}
+use Rattle.loop_keys.specs.{ArePlain, IsJob, IsSiteOf, job_graph, JobView, key, key_count, MeetsAt, Place, place_of, site_in, source_at, version_in}
 use Rattle.loop_keys.proofs.EvaluateLaws.{accepted_of}
 use Rattle.loop_keys.proofs.KeyLaws.{key_small}
-use Rattle.block_cache.specs.Fills.{CanFill, IsFilledTo, IsGrownOver, IsRankedBelow, IsSameAt, IsSpentOver, below_fault, holds_at, is_below, site_fault}
-use Rattle.block_cache.specs.ForSites.{CanFillFor, IsFilledFor, IsLeadFor, IsSpentFor, own_key}
-use Rattle.block_cache.specs.Leads.{first_read, first_read_in}
-use Rattle.block_cache.specs.OverBlocks.{AreReadyOver, block_graph, block_job, key_over}
-use Rattle.block_cache.specs.Turns.{IsFaultOf, found_or}
-use Rattle.block_cache.specs.declared.faults.PlaceFault.{PlaceFault}
 use Rattle.block_cache.specs.declared.wanted.Wanted.{Wanted}
 use Rattle.block_cache.proofs.CanFills.{can_below, falls_by_number, met_each, met_used, ranked}
 use Rattle.block_cache.proofs.CanTries.{site_tree}
@@ -48,15 +26,15 @@ use Rattle.block_cache.proofs.UnderwayLaws.{below_both, below_found, fault_lift,
 
 -- ---- where what is read stands
 
-pub key_site : (f : ℕ → ℕ) (x : Source) (k : ℕ) → place_of f x ≡ stands.Key k → (t : ℕ) × IsSiteOf t x × (k ≡ f t)
-key_site f (from.Cell col) k e = cc e
-key_site f (from.Site s) k e = (s, refl, cc e)
-key_site f (from.Element s i n) k e = cc e
+pub key_site : (f : ℕ → ℕ) (x : Source) (k : ℕ) → place_of f x ≡ Place.Key k → (t : ℕ) × IsSiteOf t x × (k ≡ f t)
+key_site f (Source.Cell col) k e = cc e
+key_site f (Source.Site s) k e = (s, refl, cc e)
+key_site f (Source.Element s i n) k e = cc e
 
-pub element_site : (f : ℕ → ℕ) (x : Source) (k i n : ℕ) → place_of f x ≡ stands.Element k i n → (t : ℕ) × IsSiteOf t x × (k ≡ f t)
-element_site f (from.Cell col) k i n e = cc e
-element_site f (from.Site s) k i n e = cc e
-element_site f (from.Element s a b) k i n e = (s, refl, cc e)
+pub element_site : (f : ℕ → ℕ) (x : Source) (k i n : ℕ) → place_of f x ≡ Place.Element k i n → (t : ℕ) × IsSiteOf t x × (k ≡ f t)
+element_site f (Source.Cell col) k i n e = cc e
+element_site f (Source.Site s) k i n e = cc e
+element_site f (Source.Element s a b) k i n e = (s, refl, cc e)
 
 -- ---- what is read first is met
 
@@ -68,15 +46,15 @@ bind_needs (Needs m) f h = refl
 operation_needs : {M : Type 0} (o : BinOp) (l r : Outcome M Value) → is_need l ≡ true → is_need (operation o l r) ≡ true
 operation_needs o (Gives a) r h = cc h
 operation_needs o (Faults k) r h = cc h
-operation_needs op.And (Needs m) r h = refl
-operation_needs op.Or (Needs m) r h = refl
+operation_needs BinOp.And (Needs m) r h = refl
+operation_needs BinOp.Or (Needs m) r h = refl
 operation_needs o (Needs m) r h = refl
 
-behind_needs : {M : Type 0} (o : BinOp) (z : ℤ) (r : Outcome M Value) → is_need r ≡ true → is_need (operation o (Gives (val.Int z)) r) ≡ true
+behind_needs : {M : Type 0} (o : BinOp) (z : ℤ) (r : Outcome M Value) → is_need r ≡ true → is_need (operation o (Gives (Value.Int z)) r) ≡ true
 behind_needs o z (Gives a) h = cc h
 behind_needs o z (Faults k) h = cc h
-behind_needs op.And z (Needs m) h = refl
-behind_needs op.Or z (Needs m) h = refl
+behind_needs BinOp.And z (Needs m) h = refl
+behind_needs BinOp.Or z (Needs m) h = refl
 behind_needs o z (Needs m) h = refl
 
 module _ {M F : Type 0} (look : ℕ → Outcome M Value) (call : F → List Value → Outcome M Value) (c : ℕ) (missing : is_need (look c) ≡ true) where

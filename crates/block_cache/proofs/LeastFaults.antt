@@ -1,15 +1,12 @@
 -- The least fault so far, one stop after another.
-use Rattle.std.proofs.Common.{◌≡◌, ◌<◌, ◌≤◌, ◌+◌, ◌++◌, ℕ, Bool, true, false, List, [], ◌∷◌, length, take, get_or, Option, Some, None, refl, sym, subst, arith, if◌then◌else◌}
-use Rattle.std.specs.Prelude.{nat_le}
+use Rattle.std.proofs.Common.{◌≡◌, ◌<◌, ◌≤◌, ◌+◌, ◌++◌, ℕ, Bool, true, false, List, [], ◌∷◌, length, take, get_or, Option, Some, None, refl, sym, subst, arith, if◌then◌else◌, nat_le}
 use Rattle.std.proofs.lemmas.Bool.{leb-true, leb-false}
 use Rattle.std.proofs.lemmas.List.{take_more}
 use Rattle.std.proofs.lemmas.List.Elements.{All-push, Contains-append_left, Contains-push}
-use Rattle.expr_eval.specs.declared.stop.ScalarStop.{ScalarStop}
+use Rattle.expr_eval.specs.{ScalarStop}
 use Rattle.expr_eval.specs.declared.stop.ScalarStop.TheVariants.{Fault, Need}
-use Rattle.expr_lanes.specs.Places.{stopped}
-use Rattle.expr_lanes.specs.declared.stopped.Stopped.{Stopped}
-use Rattle.block_cache.specs.declared.faults.PlaceFault.{PlaceFault}
-use Rattle.block_cache.specs.Faults.{IsLeastFault, IsNotBelow, fault_at, fault_of, lesser_fault}
+use Rattle.expr_lanes.specs.{Stopped, stopped}
+use Rattle.block_cache.specs.{fault_at, fault_of, IsLeastFault, IsNotBelow, lesser_fault, PlaceFault}
 
 no_fault : (p : ℕ) (s : Stopped) → fault_of s.stop ≡ None → IsNotBelow p s
 no_fault p s none k h = absurd (cc (none, h))

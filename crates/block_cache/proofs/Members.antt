@@ -1,18 +1,14 @@
 -- Places of selections that a test keeps, and the first fault among them.
-use Rattle.std.proofs.Common.{◌≡◌, ◌≤◌, ◌||◌, not, ℕ, Bool, true, false, List, [], ◌∷◌, length, Option, Some, None, refl, sym, ◌∙◌, ap, arith, cond}
-use Rattle.std.specs.Prelude.{nat_eq, nat_lt}
+use Rattle.std.proofs.Common.{◌≡◌, ◌≤◌, ◌||◌, not, ℕ, Bool, true, false, List, [], ◌∷◌, length, Option, Some, None, refl, sym, ◌∙◌, ap, arith, cond, nat_eq, nat_lt}
 use Rattle.std.specs.List.{filter}
 use Rattle.std.proofs.lemmas.Bool.{lt-ltb}
 use Rattle.std.proofs.lemmas.Bool.Decides.{Decides-eqb}
 use Rattle.std.proofs.lemmas.List.Sums.{length-filter, count_by-le-length}
-use Rattle.lemmas.proofs.Booleans.{not_true}
-use Rattle.rdf_values.specs.declared.fault.EntryFault.{EntryFault}
-use Rattle.expr_lanes.specs.Places.{AreRising, EachPlace, IsSelected, is_in}
+use Rattle.lemmas.proofs.{not_true}
+use Rattle.rdf_values.specs.{EntryFault}
+use Rattle.expr_lanes.specs.{AreRising, EachPlace, is_in, IsSelected}
 use Rattle.expr_lanes.proofs.Sequence.{filtered_in, first_in, rest_in}
-use Rattle.block_cache.specs.Faults.{fault_at}
-use Rattle.block_cache.specs.Fills.{below_fault, fault_before, fault_over, is_below}
-use Rattle.block_cache.specs.Turns.{IsFaultOf}
-use Rattle.block_cache.specs.declared.faults.PlaceFault.{PlaceFault}
+use Rattle.block_cache.specs.{below_fault, fault_at, fault_before, fault_over, is_below, IsFaultOf, PlaceFault}
 
 -- ---- filters
 

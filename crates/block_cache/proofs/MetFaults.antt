@@ -1,26 +1,12 @@
 -- A version that an evaluation meets and that faults gives its fault to the site.
 use Rattle.std.proofs.Common.{◌≡◌, ℕ, Bool, true, false, List, [], refl, sym, ◌∙◌, ap, subst, nat_eq, slice_get, Option, Some, None, if◌then◌else◌}
 use Rattle.std.proofs.lemmas.Bool.Decides.{Decides-eqb}
-use Rattle.rdf_values.specs.Tree.{Tree, Trees, Lit, Truth, Col, Neg, Not, Bin, Cond, Pick, Call, End, More}
-use Rattle.rdf_values.specs.declared.expr.BinOp.{BinOp}
-use Rattle.rdf_values.specs.declared.expr.BinOp.TheVariants as op
-use Rattle.rdf_values.specs.declared.fault.EntryFault.{EntryFault}
-use Rattle.rdf_values.specs.declared.value.Value.{Value}
-use Rattle.rdf_values.specs.declared.value.Value.TheVariants as val
-use Rattle.rdf_model.specs.Demanded.{with_needs}
-use Rattle.rdf_model.specs.Evaluation.{Outcome, Gives, Faults, Needs, ◌>>=◌, evaluate, evaluate_all, operation, in_order, chosen_side, picked, value_operation, call_outcome, is_need, without}
-use Rattle.graph_numbers.specs.Graphs.{graph_sites}
-use Rattle.graph_numbers.specs.Sites.{SiteAt}
-use Rattle.graph_numbers.specs.Sources.{source_value}
-use Rattle.graph_numbers.specs.declared.source.Source.{Source}
-use Rattle.graph_numbers.specs.declared.source.Source.TheVariants as from
-use Rattle.loop_keys.specs.Jobs.{JobView, IsJob, job_graph}
-use Rattle.loop_keys.specs.Store.{IsSiteOf, IsSound, MeetsAt, row_of, site_in, source_at, version_in}
-use Rattle.rdf_model.specs.ColumnValues.{tag_element}
+use Rattle.rdf_values.specs.{Bin, BinOp, Call, Col, Cond, End, EntryFault, Lit, More, Neg, Not, Pick, Tree, Trees, Value}
+use Rattle.rdf_values.specs.Expressions.{Truth}
+use Rattle.rdf_model.specs.{◌>>=◌, call_outcome, chosen_side, evaluate, evaluate_all, Faults, Gives, in_order, is_need, Needs, operation, Outcome, picked, tag_element, value_operation, with_needs, without}
+use Rattle.graph_numbers.specs.{graph_sites, graph_under, site_outcome, site_value, SiteAt, Source, source_value}
+use Rattle.loop_keys.specs.{IsJob, IsSiteOf, IsSound, job_graph, JobView, MeetsAt, row_of, site_in, source_at, version_in}
 use Rattle.rdf_model.proofs.Missing.{site_alike, alike_is}
-use Rattle.graph_numbers.specs.Graphs.{graph_under}
-use Rattle.graph_numbers.specs.Sites.{site_outcome}
-use Rattle.graph_numbers.specs.Sources.{site_value}
 use Rattle.loop_keys.proofs.EvaluateLaws.{whole}
 
 module _ {M : Type 0} (k : EntryFault) where
@@ -42,20 +28,20 @@ module _ {M : Type 0} (k : EntryFault) where
   in_order_stands f c e = bind_stands _ _ c (λ v. bind_stands _ _ e (λ w. same))
 
   operation_needs : (o : BinOp) (d : M) (p : Outcome M Value) → operation o (Needs d) p ≡ Needs d
-  operation_needs op.And d p = refl
-  operation_needs op.Or d p = refl
+  operation_needs BinOp.And d p = refl
+  operation_needs BinOp.Or d p = refl
   operation_needs o d p = refl
 
   operation_faults : (o : BinOp) (e : EntryFault) (p : Outcome M Value) → operation o (Faults e) p ≡ Faults e
-  operation_faults op.And e p = refl
-  operation_faults op.Or e p = refl
+  operation_faults BinOp.And e p = refl
+  operation_faults BinOp.Or e p = refl
   operation_faults o e p = refl
 
   operation_same : (o : BinOp) (l p p' : Outcome M Value) → Stands p p' → Stands (operation o l p) (operation o l p')
-  operation_same op.And (Gives (val.Bool false)) p p' e = same
-  operation_same op.And l p p' e = in_order_stands {o = l} {o' = l} (value_operation op.And) same e
-  operation_same op.Or (Gives (val.Bool true)) p p' e = same
-  operation_same op.Or l p p' e = in_order_stands {o = l} {o' = l} (value_operation op.Or) same e
+  operation_same BinOp.And (Gives (Value.Bool false)) p p' e = same
+  operation_same BinOp.And l p p' e = in_order_stands {o = l} {o' = l} (value_operation BinOp.And) same e
+  operation_same BinOp.Or (Gives (Value.Bool true)) p p' e = same
+  operation_same BinOp.Or l p p' e = in_order_stands {o = l} {o' = l} (value_operation BinOp.Or) same e
   operation_same o l p p' e = in_order_stands {o = l} {o' = l} (value_operation o) same e
 
   operation_stands : (o : BinOp) {l l' p p' : Outcome M Value} → Stands l l' → Stands p p' → Stands (operation o l p) (operation o l' p')
@@ -64,10 +50,10 @@ module _ {M : Type 0} (k : EntryFault) where
       subst (λ (x : Outcome M Value). Stands x (operation o (Faults k) p')) (sym (operation_needs o d p)) (subst (λ (x : Outcome M Value). Stands (Needs d) x) (sym (operation_faults o k p')) stood)
 
   chosen_side_stands : (v : Value) {a a' b b' : Outcome M Value} → Stands a a' → Stands b b' → Stands (chosen_side v a b) (chosen_side v a' b')
-  chosen_side_stands (val.Bool true) c e = c
-  chosen_side_stands (val.Bool false) c e = e
-  chosen_side_stands (val.Int z) c e = same
-  chosen_side_stands (val.Vect zs) c e = same
+  chosen_side_stands (Value.Bool true) c e = c
+  chosen_side_stands (Value.Bool false) c e = e
+  chosen_side_stands (Value.Int z) c e = same
+  chosen_side_stands (Value.Vect zs) c e = same
 
   module _ {C F : Type 0} (look look' : C → Outcome M Value) (call : F → List Value → Outcome M Value) (each : (c : C) → Stands (look c) (look' c)) where
     mutual
@@ -110,9 +96,9 @@ site_known j entry u t = go (slice_get (graph_sites (job_graph j)) t)
     go (Some x) = alike_is _ _ (site_alike ⊥ ℕ j.dataset.fns j.dataset.columns (row_of j entry) x.at (graph_under (job_graph j) u) x.expr)
 
 fault_through : (k : EntryFault) (j : JobView) (entry : ℕ) (u : Option ℕ) (t : ℕ) (x : Source) → IsSiteOf t x → site_in {M = ⊥} j entry u t ≡ Faults k → source_value {M = ℕ} (row_of j entry) (site_in j entry u) x ≡ Faults k
-fault_through k j entry u t (from.Cell col) at faults = elim at [ ]
-fault_through k j entry u t (from.Site s) at faults = ap (λ n. site_in {M = ℕ} j entry u n) at ∙ site_known j entry u t ∙ ap with_needs faults
-fault_through k j entry u t (from.Element s i tags) at faults =
+fault_through k j entry u t (Source.Cell col) at faults = elim at [ ]
+fault_through k j entry u t (Source.Site s) at faults = ap (λ n. site_in {M = ℕ} j entry u n) at ∙ site_known j entry u t ∙ ap with_needs faults
+fault_through k j entry u t (Source.Element s i tags) at faults =
     ap (λ o. o >>= tag_element tags i) (ap (λ n. site_in {M = ℕ} j entry u n) at ∙ site_known j entry u t ∙ ap with_needs faults)
 
 module _ (j : JobView) (job : IsJob j) (entry : ℕ) (u : Option ℕ) (s c t : ℕ) where

@@ -1,14 +1,12 @@
 -- What is noted of stops, one after another.
-use Rattle.std.proofs.Common.{◌≡◌, ◌<◌, ◌+◌, ◌++◌, ◌⊎◌, inl, inr, All, ℕ, Bool, true, false, List, [], ◌∷◌, length, length-set, take, set, get_or, sym, ◌∙◌, ap, subst, arith, get_or-set_same, get_or-set_other}
-use Rattle.std.specs.Prelude.{Contains}
+use Rattle.std.proofs.Common.{◌≡◌, ◌<◌, ◌+◌, ◌++◌, ◌⊎◌, inl, inr, All, ℕ, Bool, true, false, List, [], ◌∷◌, length, length-set, take, set, get_or, sym, ◌∙◌, ap, subst, arith, get_or-set_same, get_or-set_other, Contains}
 use Rattle.std.proofs.lemmas.Bool.{cases_eq}
 use Rattle.std.proofs.lemmas.List.Elements.{Contains-append_left, Contains-push, Contains-push_cases}
 use Rattle.std.proofs.lemmas.List.{take_more}
 use Rattle.expr_eval.specs.declared.stop.ScalarStop.TheVariants.{Need}
-use Rattle.expr_lanes.specs.Places.{EachPlace, is_in, is_marked, stopped}
-use Rattle.expr_lanes.specs.declared.stopped.Stopped.{Stopped}
+use Rattle.expr_lanes.specs.{EachPlace, is_in, is_marked, Stopped, stopped}
 use Rattle.expr_lanes.proofs.Selected.{in_more}
-use Rattle.block_cache.specs.Turns.{need_at}
+use Rattle.block_cache.specs.{need_at}
 
 -- so far each need is noted, and all else is as it was
 pub record IsNotedTo (stops : List Stopped) (before needs : List ℕ) : Type 0 where

@@ -5,27 +5,18 @@ use Rattle.std.proofs.lemmas.Bool.{cases_eq}
 use Rattle.std.proofs.lemmas.List.{length-append, set-append_right}
 use Rattle.std.proofs.lemmas.List.Elements.{All-set}
 use Rattle.std.proofs.lemmas.Option.{slice_get_within, get_or_from_slice_get}
-use Rattle.lemmas.proofs.Places.{set_at}
-use Rattle.rdf_values.specs.declared.value.Value.{Value}
-use Rattle.rdf_values.specs.declared.value.ColType.{ColType}
-use Rattle.rdf_model.specs.Evaluation.{Outcome, Gives}
-use Rattle.expr_check.specs.NumKinds.{CheckedExpr}
-use Rattle.expr_lanes.specs.Places.{EachPlace, is_in}
-use Rattle.expr_lanes.specs.declared.stopped.Stopped.{Stopped}
-use Rattle.graph_numbers.specs.Graphs.{IsSiteExpr}
-use Rattle.block_cache.specs.Lanes.{IsBegun, IsEvaluated, LaneView, is_held, value_of}
-use Rattle.loop_keys.specs.Jobs.{JobView, job_graph}
-use Rattle.loop_keys.specs.Keys.{key_count}
-use Rattle.loop_keys.specs.Store.{CanEvaluate, CanLook, IsFilled, IsSound, held_count, held_in, site_in, source_at}
-use Rattle.loop_keys.specs.declared.held.Held.{Held}
-use Rattle.loop_keys.specs.declared.held.Held.TheVariants as held
+use Rattle.lemmas.proofs.{set_at}
+use Rattle.rdf_values.specs.{ColType, Value}
+use Rattle.rdf_model.specs.{Gives, Outcome}
+use Rattle.expr_check.specs.{CheckedExpr}
+use Rattle.expr_lanes.specs.{EachPlace, is_in, Stopped}
+use Rattle.graph_numbers.specs.{IsSiteExpr}
+use Rattle.block_cache.specs.{AreReadOver, AreReadyOver, block_job, cells_at, FitAt, HasSource, held_at, held_value, is_held, IsBegun, IsBegunFor, IsEvaluated, IsLaneSet, IsTelling, IsTriedFor, LaneView, outcome_over, own_key, value_of}
+use Rattle.loop_keys.specs.{CanEvaluate, CanLook, Held, held_count, held_in, IsFilled, IsSound, job_graph, JobView, key_count, site_in, source_at}
 use Rattle.block_cache.proofs.LaneSteps.{given_among}
 use Rattle.loop_keys.proofs.ColumnLaws.{can_evaluate}
 use Rattle.loop_keys.proofs.FillLaws.{written}
 use Rattle.loop_keys.proofs.KeyLaws.{key_small}
-use Rattle.block_cache.specs.Blocks.{HasSource, IsLaneSet, IsTelling, cells_at, held_at, held_value}
-use Rattle.block_cache.specs.ForSites.{IsBegunFor, IsTriedFor, own_key}
-use Rattle.block_cache.specs.OverBlocks.{AreReadOver, AreReadyOver, FitAt, block_job, outcome_over}
 use Rattle.block_cache.specs.declared.wanted.Wanted.{Wanted}
 use Rattle.block_cache.proofs.BlockLaws.{cells_long, given_right, held_of_lane, lane_held, sound_alike, sound_below, tells, value_held}
 
@@ -54,10 +45,10 @@ by_key own P here other k = elim (cases_eq k own) [
 -- ---- what it holds
 
 pub held_true : (l : LaneView) (p : ℕ) → is_held l p ≡ true → held_at l p ≡ held_value (value_of l p)
-held_true l p h = ap (λ b. if b then held_value (value_of l p) else held.Nothing) h
+held_true l p h = ap (λ b. if b then held_value (value_of l p) else Held.Nothing) h
 
-pub held_false : (l : LaneView) (p : ℕ) → is_held l p ≡ false → held_at l p ≡ held.Nothing
-held_false l p h = ap (λ b. if b then held_value (value_of l p) else held.Nothing) h
+pub held_false : (l : LaneView) (p : ℕ) → is_held l p ≡ false → held_at l p ≡ Held.Nothing
+held_false l p h = ap (λ b. if b then held_value (value_of l p) else Held.Nothing) h
 
 -- a place that came to no value holds what it held
 pub same_held : (f : ℕ → Outcome ℕ Value) (sel left : List ℕ) (own lane : LaneView) (stops more : List Stopped) → IsEvaluated f sel left own lane stops more → EachPlace sel (λ p. is_held own p ≡ false) → (p : ℕ) → is_in p left ≡ false → held_at own p ≡ held_at lane p
@@ -192,7 +183,7 @@ module _ {V : Type 0} {D : V → Type 0} {g : _} (w : Wanted V D g) (below rest 
               can : CanLook j (first + p) (cells_at keys lanes p)
               can = record { sized = cells_long keys lanes p (omega (arith, ready.many)); within = omega (arith, ready.within, low) }
 
-              empty : held_in (cells_at keys lanes p) own_place ≡ held.Nothing
+              empty : held_in (cells_at keys lanes p) own_place ≡ Held.Nothing
               empty = own_before p ∙ held_false own p (unknown p (given_among _ sel left ev.left_in p is_left))
 
               filled : IsFilled j (first + p) u w.site (cells_at keys lanes p) (set (cells_at keys lanes p) own_place h) × (held_count (set (cells_at keys lanes p) own_place h) ≡ held_count (cells_at keys lanes p) + 1)
@@ -201,8 +192,8 @@ module _ {V : Type 0} {D : V → Type 0} {g : _} (w : Wanted V D g) (below rest 
 
               same : (i : ℕ) → held_in (set (cells_at keys lanes p) own_place h) i ≡ held_in (cells_at keys new p) i
               same = by_key own_place (λ i. held_in (set (cells_at keys lanes p) own_place h) i ≡ held_in (cells_at keys new p) i)
-                  (get_or-set_same (cells_at keys lanes p) own_place h held.Nothing (omega (arith, can.sized, small)) ∙ sym (own_after p ∙ held_true lane p (ev.held p ∙ ap (λ b. b || is_held own p) is_left)))
-                  (λ i n. get_or-set_other (cells_at keys lanes p) own_place i h held.Nothing n ∙ other_held p i n)
+                  (get_or-set_same (cells_at keys lanes p) own_place h Held.Nothing (omega (arith, can.sized, small)) ∙ sym (own_after p ∙ held_true lane p (ev.held p ∙ ap (λ b. b || is_held own p) is_left)))
+                  (λ i n. get_or-set_other (cells_at keys lanes p) own_place i h Held.Nothing n ∙ other_held p i n)
 
           ready_after : AreReadyOver w.block.now new
           ready_after = record {

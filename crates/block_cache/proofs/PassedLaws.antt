@@ -2,26 +2,14 @@
 use Rattle.std.proofs.Common.{◌≡◌, ◌<◌, ◌+◌, ℕ, true, false, List, [], length, get_or, Option, Some, sym, ◌∙◌, ap, subst, slice_get}
 use Rattle.std.proofs.lemmas.Option.{slice_get-get_or}
 use Rattle.std.specs.List.{filter}
-use Rattle.lemmas.proofs.Answers.{same_some}
-use Rattle.rdf_values.specs.declared.value.ColType.TheVariants as kind
-use Rattle.rdf_model.specs.EntryOutcomes.{truth_of}
-use Rattle.rdf_model.specs.Evaluation.{Gives, ◌>>=◌, is_set}
-use Rattle.rdf_model.specs.Results.{is_true}
-use Rattle.expr_check.specs.NumKinds.{is_vector}
-use Rattle.expr_lanes.specs.Places.{IsSelected, at_place}
+use Rattle.lemmas.proofs.{same_some}
+use Rattle.rdf_values.specs.{ColType}
+use Rattle.rdf_model.specs.{◌>>=◌, Gives, is_set, is_true, truth_of}
+use Rattle.expr_check.specs.{is_vector}
+use Rattle.expr_lanes.specs.{at_place, IsSelected}
 use Rattle.expr_lanes.proofs.PartSteps.{filter_alike}
-use Rattle.block_cache.specs.Lanes.{LaneView, is_held, kinds_of, value_of}
-use Rattle.block_cache.specs.Values.{value_for}
-use Rattle.loop_keys.specs.Jobs.{JobView, job_graph}
-use Rattle.loop_keys.specs.Keys.{key_count}
-use Rattle.loop_keys.specs.Known.{truth_in}
-use Rattle.loop_keys.specs.Store.{IsRight, held_in, site_in}
-use Rattle.loop_keys.specs.declared.held.Held.{Held}
-use Rattle.block_cache.specs.Blocks.{cells_at}
-use Rattle.block_cache.specs.Fills.{IsSettled, holds_at, lane_holds}
-use Rattle.block_cache.specs.ForSites.{IsFilledFor, IsPassedFor, own_key}
-use Rattle.block_cache.specs.OverBlocks.{block_job}
-use Rattle.block_cache.specs.declared.faults.PlaceFault.{PlaceFault}
+use Rattle.block_cache.specs.{block_job, cells_at, holds_at, is_held, IsFilledFor, IsPassedFor, IsSettled, kinds_of, lane_holds, LaneView, own_key, PlaceFault, value_for, value_of}
+use Rattle.loop_keys.specs.{Held, held_in, IsRight, job_graph, JobView, key_count, site_in, truth_in}
 use Rattle.block_cache.specs.declared.wanted.Wanted.{Wanted}
 use Rattle.block_cache.proofs.BlockLaws.{held_of_lane, lane_held, right_value}
 use Rattle.block_cache.proofs.CanTries.{got_kind}
@@ -31,7 +19,7 @@ use Rattle.block_cache.proofs.OverLaws.{held_true}
 module _
     {V : Type 0} {D : V → Type 0} {g : _} (w : Wanted V D g) {sel between : List ℕ} {lanes : List LaneView} {fault : Option PlaceFault} (filled : IsFilledFor w sel between lanes fault) (k : ℕ) (d : LaneView)
     (same : k ≡ own_key w) (among : k < length lanes)
-    (truth : slice_get (kinds_of lanes) (own_key w) ≡ Some kind.Bool)
+    (truth : slice_get (kinds_of lanes) (own_key w) ≡ Some ColType.Bool)
   where
     abbrev j : JobView
     j = block_job w.block.now
@@ -53,7 +41,7 @@ module _
         let cell : held_in (cells_at (key_count (job_graph j)) lanes p) (own_key w) ≡ lane_held (Some l) p = held_of_lane (key_count (job_graph j)) lanes p (own_key w) ∙ ap (λ o. lane_held o p) at in
         right_value (site_in j (first + p) u w.site) (value_of l p) (subst (λ (h : Held). IsRight (site_in j (first + p) u w.site) h) (cell ∙ held_true l p holds) ((filled.ready.sound p low).each u w.site w.there))
 
-    is_bool : l.kind ≡ kind.Bool
+    is_bool : l.kind ≡ ColType.Bool
     is_bool = same_some (sym (got_kind lanes (own_key w) l at) ∙ truth)
 
     -- the lane of a key with truths has no vectors

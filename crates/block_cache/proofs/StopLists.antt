@@ -1,49 +1,45 @@
 -- The stops of a group: one for each place that came to no value.
-use Rattle.std.proofs.Common.{◌≡◌, ◌<◌, ◌+◌, ◌&&◌, ◌||◌, not, ℕ, zero, suc, Bool, true, false, List, [], ◌∷◌, length, Option, Some, None, refl, sym, ◌∙◌, ap, subst, arith, cond, nat_eq, get_or}
-use Rattle.std.specs.Prelude.{Contains}
+use Rattle.std.proofs.Common.{◌≡◌, ◌<◌, ◌+◌, ◌&&◌, ◌||◌, not, ℕ, zero, suc, Bool, true, false, List, [], ◌∷◌, length, Option, Some, None, refl, sym, ◌∙◌, ap, subst, arith, cond, nat_eq, get_or, Contains}
 use Rattle.std.proofs.lemmas.Bool.Decides.{Decides-eqb}
-use Rattle.lemmas.proofs.Booleans.{both_true, not_false}
-use Rattle.rdf_values.specs.declared.fault.EntryFault.{EntryFault}
-use Rattle.rdf_values.specs.declared.fault.EntryFault.TheVariants as kind
-use Rattle.rdf_values.specs.declared.value.Value.{Value}
-use Rattle.rdf_model.specs.Evaluation.{Outcome, Gives, Faults, Needs}
-use Rattle.expr_eval.specs.declared.stop.ScalarStop.{ScalarStop}
+use Rattle.lemmas.proofs.{both_true, not_false}
+use Rattle.rdf_values.specs.{EntryFault, Value}
+use Rattle.rdf_model.specs.{Faults, Gives, Needs, Outcome}
+use Rattle.expr_eval.specs.{ScalarStop}
 use Rattle.expr_eval.specs.declared.stop.ScalarStop.TheVariants.{Fault, Need}
-use Rattle.expr_lanes.specs.Places.{EachPlace, IsJoined, is_in, stopped, stops_in, times, with_stop}
-use Rattle.expr_lanes.specs.declared.stopped.Stopped.{Stopped}
+use Rattle.expr_lanes.specs.{EachPlace, is_in, IsJoined, Stopped, stopped, stops_in, times, with_stop}
 use Rattle.expr_lanes.proofs.Sequence.{first_in, rest_in, times_with}
 
 -- ---- stops that are the same
 
 abbrev fault_number : EntryFault → ℕ
-fault_number kind.Overflow = 0
-fault_number kind.ZeroDivisor = 1
-fault_number kind.Index = 2
-fault_number kind.EmptyVector = 3
-fault_number kind.Lengths = 4
-fault_number kind.VaryCount = 5
-fault_number kind.Weight = 6
-fault_number kind.Function = 7
+fault_number EntryFault.Overflow = 0
+fault_number EntryFault.ZeroDivisor = 1
+fault_number EntryFault.Index = 2
+fault_number EntryFault.EmptyVector = 3
+fault_number EntryFault.Lengths = 4
+fault_number EntryFault.VaryCount = 5
+fault_number EntryFault.Weight = 6
+fault_number EntryFault.Function = 7
 
 abbrev fault_back : ℕ → EntryFault
-fault_back zero = kind.Overflow
-fault_back (suc zero) = kind.ZeroDivisor
-fault_back (suc (suc zero)) = kind.Index
-fault_back (suc (suc (suc zero))) = kind.EmptyVector
-fault_back (suc (suc (suc (suc zero)))) = kind.Lengths
-fault_back (suc (suc (suc (suc (suc zero))))) = kind.VaryCount
-fault_back (suc (suc (suc (suc (suc (suc zero)))))) = kind.Weight
-fault_back (suc (suc (suc (suc (suc (suc (suc n))))))) = kind.Function
+fault_back zero = EntryFault.Overflow
+fault_back (suc zero) = EntryFault.ZeroDivisor
+fault_back (suc (suc zero)) = EntryFault.Index
+fault_back (suc (suc (suc zero))) = EntryFault.EmptyVector
+fault_back (suc (suc (suc (suc zero)))) = EntryFault.Lengths
+fault_back (suc (suc (suc (suc (suc zero))))) = EntryFault.VaryCount
+fault_back (suc (suc (suc (suc (suc (suc zero)))))) = EntryFault.Weight
+fault_back (suc (suc (suc (suc (suc (suc (suc n))))))) = EntryFault.Function
 
 fault_again : (k : EntryFault) → fault_back (fault_number k) ≡ k
-fault_again kind.Overflow = refl
-fault_again kind.ZeroDivisor = refl
-fault_again kind.Index = refl
-fault_again kind.EmptyVector = refl
-fault_again kind.Lengths = refl
-fault_again kind.VaryCount = refl
-fault_again kind.Weight = refl
-fault_again kind.Function = refl
+fault_again EntryFault.Overflow = refl
+fault_again EntryFault.ZeroDivisor = refl
+fault_again EntryFault.Index = refl
+fault_again EntryFault.EmptyVector = refl
+fault_again EntryFault.Lengths = refl
+fault_again EntryFault.VaryCount = refl
+fault_again EntryFault.Weight = refl
+fault_again EntryFault.Function = refl
 
 abbrev same_scalar : ScalarStop → ScalarStop → Bool
 same_scalar (Fault a) (Fault b) = nat_eq (fault_number a) (fault_number b)

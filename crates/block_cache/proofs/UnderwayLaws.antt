@@ -1,31 +1,18 @@
 -- The filling of a site, from its first evaluation to the last.
-use Rattle.std.proofs.Common.{◌≡◌, ◌<◌, ◌≤◌, ◌+◌, ◌⊎◌, inl, inr, not, ℕ, Bool, true, false, List, [], ◌∷◌, length, Option, Some, None, Result, Ok, Err, IfOk, OnOk, refl, sym, ◌∙◌, ap, subst, arith, cond}
-use Rattle.std.specs.Prelude.{count_by, nat_eq}
+use Rattle.std.proofs.Common.{◌≡◌, ◌<◌, ◌≤◌, ◌+◌, ◌⊎◌, inl, inr, not, ℕ, Bool, true, false, List, [], ◌∷◌, length, Option, Some, None, Result, Ok, Err, IfOk, OnOk, refl, sym, ◌∙◌, ap, subst, arith, cond, count_by, nat_eq}
 use Rattle.std.specs.List.{filter}
 use Rattle.std.proofs.lemmas.Bool.{cases_lt, lt-ltb, ltb-true}
 use Rattle.std.proofs.lemmas.Bool.Decides.{Decides-eqb}
 use Rattle.std.proofs.lemmas.List.Sums.{length-filter, sum_by-cons}
-use Rattle.lemmas.proofs.Answers.{same_some}
-use Rattle.lemmas.proofs.Booleans.{not_true}
-use Rattle.rdf_values.specs.declared.fault.EntryFault.{EntryFault}
-use Rattle.rdf_values.specs.declared.memory.Memory.{Memory}
-use Rattle.rdf_values.specs.declared.value.Value.{Value}
-use Rattle.rdf_model.specs.Evaluation.{Outcome, Gives, Faults, Needs}
-use Rattle.rdf_model.specs.Results.{fault_in}
-use Rattle.expr_lanes.specs.Places.{AreRising, EachPlace, IsSelected, is_in}
+use Rattle.lemmas.proofs.{not_true, same_some}
+use Rattle.rdf_values.specs.{EntryFault, Memory, Value}
+use Rattle.rdf_model.specs.{fault_in, Faults, Gives, Needs, Outcome}
+use Rattle.expr_lanes.specs.{AreRising, EachPlace, is_in, IsSelected}
 use Rattle.expr_lanes.proofs.Sequence.{filtered_in, first_in, rest_in}
-use Rattle.graph_numbers.specs.declared.source.Source.{Source}
-use Rattle.graph_numbers.specs.declared.source.Source.TheVariants as from
-use Rattle.block_cache.specs.Lanes.{LaneView}
+use Rattle.graph_numbers.specs.{Source}
+use Rattle.block_cache.specs.{AreReadyOver, begun_at, below_fault, block_job, found_or, holds_at, is_below, IsAttemptedFor, IsBrokenOffFor, IsFaultOf, IsGrownOver, IsPaidFor, IsPaidOver, IsResumedFor, IsSameAt, IsSettled, IsSettledFor, IsSettledTo, IsSpentFor, IsSpentOver, IsUnderwayFor, IsWaiting, LaneView, left_to_begin, need_at, own_key, PlaceFault, site_fault}
 use Rattle.block_cache.proofs.LaneSteps.{filter_none}
-use Rattle.loop_keys.specs.Jobs.{JobView, IsJob, job_graph}
-use Rattle.loop_keys.specs.Keys.{key, key_count}
-use Rattle.loop_keys.specs.Store.{IsSiteOf, MeetsAt, site_in, source_at}
-use Rattle.block_cache.specs.Fills.{IsGrownOver, IsPaidOver, IsSameAt, IsSettled, IsSpentOver, below_fault, begun_at, holds_at, is_below, site_fault}
-use Rattle.block_cache.specs.ForSites.{IsAttemptedFor, IsBrokenOffFor, IsPaidFor, IsResumedFor, IsSettledFor, IsSpentFor, IsUnderwayFor, own_key}
-use Rattle.block_cache.specs.OverBlocks.{AreReadyOver, block_job}
-use Rattle.block_cache.specs.Turns.{IsFaultOf, IsSettledTo, IsWaiting, found_or, left_to_begin, need_at}
-use Rattle.block_cache.specs.declared.faults.PlaceFault.{PlaceFault}
+use Rattle.loop_keys.specs.{IsJob, IsSiteOf, job_graph, JobView, key, key_count, MeetsAt, site_in, source_at}
 use Rattle.block_cache.specs.declared.wanted.Wanted.{Wanted}
 use Rattle.block_cache.proofs.Attempts.{key_lower}
 use Rattle.block_cache.proofs.GrownLaws.{grown_below, grown_on, later_keys, other_places, settled_all}
@@ -44,9 +31,9 @@ count_all (p ∷ ps) f each =
 
 -- the site of a source is one
 pub same_site : (t r : ℕ) (x : Source) → IsSiteOf t x → IsSiteOf r x → t ≡ r
-same_site t r (from.Cell col) h i = elim h [ ]
-same_site t r (from.Site s) h i = sym h ∙ i
-same_site t r (from.Element s k tags) h i = sym h ∙ i
+same_site t r (Source.Cell col) h i = elim h [ ]
+same_site t r (Source.Site s) h i = sym h ∙ i
+same_site t r (Source.Element s k tags) h i = sym h ∙ i
 
 pub fault_lift : (f : ℕ → Option EntryFault) (group sel : List ℕ) (found : Option PlaceFault) → EachPlace group (λ p. is_in p sel ≡ true) → IsFaultOf f group found → IsFaultOf f sel found
 fault_lift f group sel None sub h = tt

@@ -1,16 +1,14 @@
 -- The marks of a block, of which all may be set without being written.
-use Rattle.std.proofs.Common.{◌≡◌, ◌<◌, ◌≤◌, ◌+◌, ◌||◌, not, ℕ, zero, suc, Bool, true, false, List, [], ◌∷◌, length, get_or, set, ◌∙◌, refl, ap, sym, subst, arith, cond}
-use Rattle.std.specs.Prelude.{count_by}
+use Rattle.std.proofs.Common.{◌≡◌, ◌<◌, ◌≤◌, ◌+◌, ◌||◌, not, ℕ, zero, suc, Bool, true, false, List, [], ◌∷◌, length, get_or, set, ◌∙◌, refl, ap, sym, subst, arith, cond, count_by}
 use Rattle.std.specs.List.{range_with_len}
 use Rattle.std.proofs.lemmas.List.{take_all}
 use Rattle.std.proofs.lemmas.List.FromFn.{length-range_with_len, get_or-range_with_len}
 use Rattle.std.proofs.lemmas.List.Sums.{sum_by-cons}
-use Rattle.expr_lanes.specs.Places.{is_in, is_marked, EachPlace}
+use Rattle.expr_lanes.specs.{EachPlace, is_in, is_marked}
 use Rattle.expr_lanes.proofs.Rising.{rising_range}
 use Rattle.expr_lanes.proofs.Sequence.{first_in, rest_in}
-use Rattle.block_cache.specs.BlockMarks.{AreWrittenMarks, IsBare, MarksView, marked_to, marks_of}
+use Rattle.block_cache.specs.{AreWrittenMarks, IsBare, marked_to, marks_of, MarksView}
 use Rattle.block_cache.specs.declared.block_marks.Extent.{Extent}
-use Rattle.block_cache.specs.declared.block_marks.Extent.TheVariants as extent
 use Rattle.block_cache.proofs.Marking.{IsMarkedTo, mark_one, marked_all, marked_to_none, newly_all}
 
 -- ---- a list with its first places marked
@@ -74,13 +72,13 @@ none_newly marks sel each = let none = none_counted sel (λ p. not (is_marked ma
 -- ---- as they are seen
 
 module _ (e : Extent) (count : ℕ) (written : List Bool) (v : MarksView) (view_is : ◌≡◌ {A = MarksView} (record { count = count; marks = marks_of e count written }) v) (are : AreWrittenMarks e count written) where
-  pub nothing_is : e ≡ extent.Nothing → v.marks ≡ written
+  pub nothing_is : e ≡ Extent.Nothing → v.marks ≡ written
   nothing_is h = ap (λ (x : MarksView). x.marks) (sym view_is) ∙ ap (λ (x : Extent). marks_of x count written) h
 
-  pub nothing_seen : e ≡ extent.Nothing → (p : ℕ) → is_marked v.marks p ≡ false
+  pub nothing_seen : e ≡ Extent.Nothing → (p : ℕ) → is_marked v.marks p ≡ false
   nothing_seen h p = ap (λ l. is_marked l p) (nothing_is h) ∙ subst (λ (x : Extent). IsBare x written) h are.bare p
 
-  pub all_seen : e ≡ extent.All → (p : ℕ) → p < v.count → is_marked v.marks p ≡ true
+  pub all_seen : e ≡ Extent.All → (p : ℕ) → p < v.count → is_marked v.marks p ≡ true
   all_seen h p low =
       let same : count ≡ v.count = ap (λ (x : MarksView). x.count) view_is in
       ap (λ (x : MarksView). is_marked x.marks p) (sym view_is) ∙ ap (λ (x : Extent). is_marked (marks_of x count written) p) h ∙ marked_below written count p (omega (arith, low, same)) are.within
@@ -89,6 +87,6 @@ module _ (e : Extent) (count : ℕ) (written : List Bool) (v : MarksView) (view_
   long_seen = sym (marks_long e written) ∙ ap (λ (x : MarksView). length x.marks) view_is
     where
       marks_long : (x : Extent) (l : List Bool) → length (marks_of x count l) ≡ length l
-      marks_long extent.Nothing l = refl
-      marks_long extent.Some l = refl
-      marks_long extent.All l = marked_long l count
+      marks_long Extent.Nothing l = refl
+      marks_long Extent.Some l = refl
+      marks_long Extent.All l = marked_long l count

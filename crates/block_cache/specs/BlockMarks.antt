@@ -1,8 +1,7 @@
 -- Marks of the places of a block.
 use Rattle.std.specs.Prelude.{◌≡◌, ◌≤◌, ℕ, zero, suc, Bool, true, false, List, [], ◌∷◌, length}
-use Rattle.expr_lanes.specs.Places.{is_marked}
+use Rattle.expr_lanes.specs.{is_marked}
 use Rattle.block_cache.specs.declared.block_marks.Extent.{Extent}
-use Rattle.block_cache.specs.declared.block_marks.Extent.TheVariants as extent
 
 -- how many places the block has, and for each that a block can have whether it is marked
 pub record MarksView : Type 0 where
@@ -17,13 +16,13 @@ marked_to (suc n) (m ∷ marks) = true ∷ marked_to n marks
 
 -- the marks of a block of so many places, by those that are written: none need be where all of it is marked
 abbrev pub marks_of : Extent → ℕ → List Bool → List Bool
-marks_of extent.Nothing count written = written
-marks_of extent.Some count written = written
-marks_of extent.All count written = marked_to count written
+marks_of Extent.Nothing count written = written
+marks_of Extent.Some count written = written
+marks_of Extent.All count written = marked_to count written
 
 -- unless some places are marked and others may not be, none is written
 abbrev pub IsBare : Extent → List Bool → Type 0
-IsBare extent.Some written = Unit {0}
+IsBare Extent.Some written = Unit {0}
 IsBare e written = (p : ℕ) → is_marked written p ≡ false
 
 -- and none behind the block

@@ -1,47 +1,33 @@
 -- What is held of the entries of a block.
 use Rattle.std.specs.Prelude.{◌≡◌, ◌<◌, ◌≤◌, ◌+◌, ◌-◌, ◌++◌, ℕ, ℤ, false, List, length, map, take, replicate, All, Option, Some, if◌then◌else◌, slice_get, slice_set}
-use Rattle.rdf_values.specs.Tables.{kind_at}
-use Rattle.rdf_values.specs.Tree.{NumTree}
-use Rattle.rdf_values.specs.declared.value.ColType.{ColType}
-use Rattle.rdf_values.specs.declared.value.ColType.TheVariants as kind
-use Rattle.rdf_values.specs.declared.value.Value.{Value}
-use Rattle.rdf_values.specs.declared.value.Value.TheVariants as val
-use Rattle.rdf_model.specs.ColumnValues.{tag_element}
-use Rattle.rdf_model.specs.Evaluation.{Outcome, Gives, Faults, Needs, call_outcome, evaluate, ◌>>=◌}
-use Rattle.expr_check.specs.NumKinds.{CheckedExpr, is_vector}
-use Rattle.expr_lanes.specs.Depths.{depth}
-use Rattle.expr_lanes.specs.declared.stopped.Stopped.{Stopped}
-use Rattle.graph_numbers.specs.Graphs.{IsSiteExpr}
-use Rattle.graph_numbers.specs.declared.source.Source.{Source}
-use Rattle.graph_numbers.specs.declared.source.Source.TheVariants as from
-use Rattle.expr_lanes.specs.Places.{at_place}
+use Rattle.rdf_values.specs.{ColType, kind_at, NumTree, Value}
+use Rattle.rdf_model.specs.{◌>>=◌, call_outcome, evaluate, Faults, Gives, Needs, Outcome, tag_element}
+use Rattle.expr_check.specs.{CheckedExpr, is_vector}
+use Rattle.expr_lanes.specs.{at_place, depth, Stopped}
+use Rattle.graph_numbers.specs.{IsSiteExpr, Source}
 use Rattle.block_cache.specs.Lanes.{IsBegun, IsEvaluated, LaneView, is_held, value_of}
-use Rattle.loop_keys.specs.Jobs.{JobView, job_graph}
-use Rattle.loop_keys.specs.Keys.{key, key_count}
-use Rattle.loop_keys.specs.Store.{IsMissing, IsReadable, IsSound, MeetsAt, look_at, row_in, site_in, source_at}
-use Rattle.loop_keys.specs.declared.held.Held.{Held}
-use Rattle.loop_keys.specs.declared.held.Held.TheVariants as held
+use Rattle.loop_keys.specs.{Held, IsMissing, IsReadable, IsSound, job_graph, JobView, key, key_count, look_at, MeetsAt, row_in, site_in, source_at}
 
 -- a value that is held
 abbrev pub held_value : Value → Held
-held_value (val.Int z) = held.Int z
-held_value (val.Bool b) = held.Bool b
-held_value (val.Vect zs) = held.Vect zs
+held_value (Value.Int z) = Held.Int z
+held_value (Value.Bool b) = Held.Bool b
+held_value (Value.Vect zs) = Held.Vect zs
 
 -- what a lane holds at a place
 abbrev pub held_at : LaneView → ℕ → Held
-held_at l p = if is_held l p then held_value (value_of l p) else held.Nothing
+held_at l p = if is_held l p then held_value (value_of l p) else Held.Nothing
 
 -- what so many keys hold of the entry at a place, by the lanes of the first of them: nothing of the others
 abbrev pub cells_at : ℕ → List LaneView → ℕ → List Held
-cells_at keys lanes p = map (λ (l : LaneView). held_at l p) lanes ++ replicate (keys - length lanes) held.Nothing
+cells_at keys lanes p = map (λ (l : LaneView). held_at l p) lanes ++ replicate (keys - length lanes) Held.Nothing
 
 -- ---- the table's columns
 
 -- the numbers of a column at so many entries, from one on
 pub record IsColumn (rows : List (List Value)) (first count col : ℕ) (numbers : List ℤ) : Type 0 where
   pub long : count ≤ length numbers
-  pub each : (p : ℕ) → p < count → slice_get (row_in rows (first + p)) col ≡ Some (val.Int (at_place numbers p))
+  pub each : (p : ℕ) → p < count → slice_get (row_in rows (first + p)) col ≡ Some (Value.Int (at_place numbers p))
 
 -- the column is there, as numbers
 abbrev pub HasColumn : JobView → ℕ → ℕ → List (List ℤ) → ℕ → Type 0
@@ -55,9 +41,9 @@ HasLane count lanes k = (l : LaneView) × (slice_get lanes k ≡ Some l) × (l.c
 
 -- a column of numbers is there, and a site has a lane
 abbrev pub HasSource : JobView → ℕ → Option ℕ → ℕ → List LaneView → List (List ℤ) → Source → Type 0
-HasSource j first u count lanes cells (from.Cell col) = kind_at j.dataset.columns col ≡ Some kind.Int → HasColumn j first count cells col
-HasSource j first u count lanes cells (from.Site s) = HasLane count lanes (key (job_graph j) s u)
-HasSource j first u count lanes cells (from.Element s k tags) = HasLane count lanes (key (job_graph j) s u)
+HasSource j first u count lanes cells (Source.Cell col) = kind_at j.dataset.columns col ≡ Some ColType.Int → HasColumn j first count cells col
+HasSource j first u count lanes cells (Source.Site s) = HasLane count lanes (key (job_graph j) s u)
+HasSource j first u count lanes cells (Source.Element s k tags) = HasLane count lanes (key (job_graph j) s u)
 
 -- the lane is there, and has no vectors
 abbrev pub HasNumberLane : ℕ → List LaneView → ℕ → Type 0
@@ -65,9 +51,9 @@ HasNumberLane count lanes k = (l : LaneView) × (slice_get lanes k ≡ Some l) �
 
 -- the source can be read at all places at once: a column of numbers, or a site with a lane without vectors
 abbrev pub HasNumbers : JobView → ℕ → Option ℕ → ℕ → List LaneView → List (List ℤ) → Source → Type 0
-HasNumbers j first u count lanes cells (from.Cell col) = HasColumn j first count cells col
-HasNumbers j first u count lanes cells (from.Site s) = HasNumberLane count lanes (key (job_graph j) s u)
-HasNumbers j first u count lanes cells (from.Element s k tags) = ⊥
+HasNumbers j first u count lanes cells (Source.Cell col) = HasColumn j first count cells col
+HasNumbers j first u count lanes cells (Source.Site s) = HasNumberLane count lanes (key (job_graph j) s u)
+HasNumbers j first u count lanes cells (Source.Element s k tags) = ⊥
 
 -- the version can be read over the block
 pub record CanRead (j : JobView) (first : ℕ) (u : Option ℕ) (count : ℕ) (lanes : List LaneView) (cells : List (List ℤ)) (c : ℕ) : Type 0 where

@@ -1,10 +1,8 @@
 -- How far an evaluation at one place after another has come.
 use Rattle.std.specs.Prelude.{◌≡◌, ◌≤◌, ◌+◌, ◌++◌, ℕ, ℤ, Bool, true, not, List, [], length}
-use Rattle.rdf_values.specs.declared.value.ColType.{ColType}
-use Rattle.rdf_values.specs.declared.value.Value.{Value}
-use Rattle.rdf_model.specs.Evaluation.{Outcome}
-use Rattle.expr_lanes.specs.Places.{EachPlace, at_place, is_given, is_marked, stops_in, with_stop}
-use Rattle.expr_lanes.specs.declared.stopped.Stopped.{Stopped}
+use Rattle.rdf_values.specs.{ColType, Value}
+use Rattle.rdf_model.specs.{Outcome}
+use Rattle.expr_lanes.specs.{at_place, EachPlace, is_given, is_marked, Stopped, stops_in, with_stop}
 use Rattle.block_cache.specs.Values.{AreKept, HasNumber}
 
 -- a number was written at the place alone, if at all, and no vector was lost

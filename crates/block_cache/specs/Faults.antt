@@ -1,10 +1,9 @@
 -- The first fault among places that came to no value.
 use Rattle.std.specs.Prelude.{◌≡◌, ◌≤◌, ℕ, List, Option, Some, None, All, Contains, if◌then◌else◌, nat_le}
-use Rattle.rdf_values.specs.declared.fault.EntryFault.{EntryFault}
-use Rattle.expr_eval.specs.declared.stop.ScalarStop.{ScalarStop}
+use Rattle.rdf_values.specs.{EntryFault}
+use Rattle.expr_eval.specs.{ScalarStop}
 use Rattle.expr_eval.specs.declared.stop.ScalarStop.TheVariants.{Fault, Need}
-use Rattle.expr_lanes.specs.Places.{stopped}
-use Rattle.expr_lanes.specs.declared.stopped.Stopped.{Stopped}
+use Rattle.expr_lanes.specs.{Stopped, stopped}
 use Rattle.block_cache.specs.declared.faults.PlaceFault.{PlaceFault}
 
 -- the fault of a stop, if it is one

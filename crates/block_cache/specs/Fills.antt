@@ -1,24 +1,13 @@
 -- What filling a site over a block does.
 use Rattle.std.specs.Prelude.{◌≡◌, ◌⊎◌, ◌<◌, ◌≤◌, ◌+◌, ◌*◌, ⊤, ℕ, ℤ, Bool, true, false, not, List, [], ◌∷◌, Option, Some, None, count_by, nat_lt, slice_get}
 use Rattle.std.specs.List.{filter, sum_by}
-use Rattle.rdf_values.specs.EachColumn.{EachColumn}
-use Rattle.rdf_values.specs.Tables.{kind_at}
-use Rattle.rdf_values.specs.declared.fault.EntryFault.{EntryFault}
-use Rattle.rdf_values.specs.declared.value.ColType.{ColType}
-use Rattle.rdf_values.specs.declared.value.ColType.TheVariants as kind
-use Rattle.rdf_model.specs.Results.{fault_in, is_true}
-use Rattle.expr_check.specs.NumKinds.{CheckedExpr}
-use Rattle.expr_lanes.specs.Depths.{depth}
-use Rattle.expr_lanes.specs.Places.{EachPlace, is_in}
-use Rattle.graph_numbers.specs.Graphs.{GraphView, IsSiteExpr, graph_sites}
-use Rattle.graph_numbers.specs.Sites.{SiteAt}
-use Rattle.graph_numbers.specs.declared.source.Source.{Source}
-use Rattle.graph_numbers.specs.declared.source.Source.TheVariants as from
+use Rattle.rdf_values.specs.{ColType, EachColumn, EntryFault, kind_at}
+use Rattle.rdf_model.specs.{fault_in, is_true}
+use Rattle.expr_check.specs.{CheckedExpr}
+use Rattle.expr_lanes.specs.{depth, EachPlace, is_in}
+use Rattle.graph_numbers.specs.{graph_sites, GraphView, IsSiteExpr, SiteAt, Source}
 use Rattle.block_cache.specs.Lanes.{LaneView, is_held, is_tried, kinds_of, rooms_of, tried_count}
-use Rattle.loop_keys.specs.Jobs.{JobView, job_graph}
-use Rattle.loop_keys.specs.Keys.{key, key_count}
-use Rattle.loop_keys.specs.Known.{truth_in}
-use Rattle.loop_keys.specs.Store.{Grows, IsClosed, IsSourceIn, held_in, site_in, source_at}
+use Rattle.loop_keys.specs.{Grows, held_in, IsClosed, IsSourceIn, job_graph, JobView, key, key_count, site_in, source_at, truth_in}
 use Rattle.block_cache.specs.Blocks.{AreReady, HasColumn, cells_at}
 use Rattle.block_cache.specs.Faults.{fault_at}
 use Rattle.block_cache.specs.declared.faults.PlaceFault.{PlaceFault}
@@ -87,15 +76,15 @@ AreSiteKinds g kinds = (t : ℕ) (w : Option ℕ) (e : CheckedExpr) (k : ColType
 
 -- a column of numbers is there
 abbrev pub IsLoaded : JobView → ℕ → ℕ → List (List ℤ) → Source → Type 0
-IsLoaded j first count cells (from.Cell col) = kind_at j.dataset.columns col ≡ Some kind.Int → HasColumn j first count cells col
-IsLoaded j first count cells (from.Site t) = ⊤
-IsLoaded j first count cells (from.Element t k tags) = ⊤
+IsLoaded j first count cells (Source.Cell col) = kind_at j.dataset.columns col ≡ Some ColType.Int → HasColumn j first count cells col
+IsLoaded j first count cells (Source.Site t) = ⊤
+IsLoaded j first count cells (Source.Element t k tags) = ⊤
 
 -- the source is no site, or one of a lower rank
 abbrev pub IsRankedBelow : (ℕ → ℕ) → ℕ → Source → Type 0
-IsRankedBelow rank n (from.Cell col) = ⊤
-IsRankedBelow rank n (from.Site t) = rank t < n
-IsRankedBelow rank n (from.Element t k tags) = rank t < n
+IsRankedBelow rank n (Source.Cell col) = ⊤
+IsRankedBelow rank n (Source.Site t) = rank t < n
+IsRankedBelow rank n (Source.Element t k tags) = rank t < n
 
 -- the levels of scratch are enough for the site's expression; the columns that it reads are there; and its sites are of the set, of lower ranks
 pub record IsFillable (j : JobView) (first : ℕ) (u : Option ℕ) (count : ℕ) (cells : List (List ℤ)) (scratch : ℕ) (used : ℕ → Bool) (rank : ℕ → ℕ) (s : ℕ) (x : SiteAt) : Type 0 where

@@ -1,9 +1,8 @@
 -- What filling a site does, from the struct that says which site is wanted over which block.
 use Rattle.std.specs.Prelude.{◌≡◌, ℕ, Bool, true, List, Option}
-use Rattle.rdf_values.specs.declared.value.ColType.{ColType}
-use Rattle.expr_lanes.specs.declared.stopped.Stopped.{Stopped}
-use Rattle.loop_keys.specs.Jobs.{JobView}
-use Rattle.loop_keys.specs.Plain.{ArePlain}
+use Rattle.rdf_values.specs.{ColType}
+use Rattle.expr_lanes.specs.{Stopped}
+use Rattle.loop_keys.specs.{ArePlain, JobView}
 use Rattle.block_cache.specs.Blocks.{CanTry, IsBegunOver, IsTriedOver}
 use Rattle.block_cache.specs.Fills.{CanFill, IsFilledTo, IsPaidOver, IsPassedOver, IsSpentOver}
 use Rattle.block_cache.specs.Lanes.{LaneView}

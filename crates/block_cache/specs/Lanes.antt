@@ -1,13 +1,10 @@
 -- What is known of keys over a block.
 use Rattle.std.specs.Prelude.{◌≡◌, ◌≤◌, ◌+◌, ℕ, ℤ, Bool, true, false, ◌||◌, not, List, length, map, All, count_by}
-use Rattle.rdf_values.specs.declared.value.ColType.{ColType}
-use Rattle.rdf_values.specs.declared.value.Value.{Value}
-use Rattle.rdf_model.specs.Evaluation.{Outcome, Gives}
-use Rattle.expr_check.specs.NumKinds.{is_vector}
-use Rattle.expr_lanes.specs.Marks.{lane_number}
-use Rattle.expr_lanes.specs.Places.{at_place, is_in, is_marked, given_in, stops_in, EachPlace, IsJoined}
+use Rattle.rdf_values.specs.{ColType, Value}
+use Rattle.rdf_model.specs.{Gives, Outcome}
+use Rattle.expr_check.specs.{is_vector}
+use Rattle.expr_lanes.specs.{at_place, EachPlace, given_in, is_in, is_marked, IsJoined, lane_number, Stopped, stops_in}
 use Rattle.expr_lanes.specs.declared.TheConstants.{MAX_PLACES}
-use Rattle.expr_lanes.specs.declared.stopped.Stopped.{Stopped}
 use Rattle.block_cache.specs.Values.{HasNumbered, value_for}
 
 -- the kind of the key's values and how many places the block has; for each place that a block can have a number, whether the

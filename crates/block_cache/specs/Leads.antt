@@ -1,8 +1,8 @@
 -- What the evaluation of a site reads first.
 use Rattle.std.specs.Prelude.{ℕ, Option, None, Some}
-use Rattle.rdf_values.specs.Tree.{Tree, Trees, Lit, Truth, Col, Neg, Not, Bin, Cond, Pick, Call, End, More}
-use Rattle.loop_keys.specs.Jobs.{JobView}
-use Rattle.loop_keys.specs.Store.{IsSiteOf, MeetsAt, source_at}
+use Rattle.rdf_values.specs.{Bin, Call, Col, Cond, End, Lit, More, Neg, Not, Pick, Tree, Trees}
+use Rattle.rdf_values.specs.Expressions.{Truth}
+use Rattle.loop_keys.specs.{IsSiteOf, JobView, MeetsAt, source_at}
 
 -- a number reads nothing, and what stands behind it is read next
 abbrev pub or_behind : {C F : Type 0} → Tree C F → Option C → Option C → Option C

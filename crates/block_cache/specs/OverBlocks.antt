@@ -1,19 +1,10 @@
 -- What is known of a block, from the struct that carries it.
 use Rattle.std.specs.Prelude.{◌+◌, ℕ, List, All, slice_get}
-use Rattle.rdf_values.specs.Functions.{fn_names}
-use Rattle.rdf_values.specs.Tree.{NumTree}
-use Rattle.rdf_values.specs.declared.column.Column.{Column}
-use Rattle.rdf_values.specs.declared.value.ColType.{ColType}
-use Rattle.rdf_values.specs.declared.value.Value.{Value}
-use Rattle.rdf_model.specs.Evaluation.{Outcome}
-use Rattle.rdf_model.specs.Laws.{FitsOutcome}
-use Rattle.expr_check.specs.NumKinds.{CallsFit, CheckedExpr}
-use Rattle.graph_numbers.specs.Graphs.{GraphView}
-use Rattle.graph_numbers.specs.Sources.{cell_value}
-use Rattle.graph_numbers.specs.declared.source.Source.{Source}
-use Rattle.loop_keys.specs.Jobs.{JobView, job_graph, job_of}
-use Rattle.loop_keys.specs.Keys.{key, key_count}
-use Rattle.loop_keys.specs.Store.{look_at, row_of, source_at}
+use Rattle.rdf_values.specs.{ColType, Column, fn_names, NumTree, Value}
+use Rattle.rdf_model.specs.{FitsOutcome, Outcome}
+use Rattle.expr_check.specs.{CallsFit, CheckedExpr}
+use Rattle.graph_numbers.specs.{cell_value, GraphView, Source}
+use Rattle.loop_keys.specs.{job_graph, job_of, JobView, key, key_count, look_at, row_of, source_at}
 use Rattle.block_cache.specs.Blocks.{AreReady, CanRead, CanReadWhole, HasColumn, cells_at, outcome_at}
 use Rattle.block_cache.specs.Lanes.{LaneView}
 use Rattle.block_cache.specs.declared.block.Block.{Block}

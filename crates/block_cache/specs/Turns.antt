@@ -1,14 +1,12 @@
 -- How far the filling of a site over a block has come.
 use Rattle.std.specs.Prelude.{◌≡◌, ◌⊎◌, ◌<◌, ◌≤◌, ◌+◌, ◌*◌, ⊤, ℕ, true, false, not, List, length, Option, Some, None, count_by, slice_index}
 use Rattle.std.specs.List.{filter, range_with_len, sum_by}
-use Rattle.rdf_values.specs.declared.fault.EntryFault.{EntryFault}
-use Rattle.expr_lanes.specs.Places.{EachPlace, is_in}
+use Rattle.rdf_values.specs.{EntryFault}
+use Rattle.expr_lanes.specs.{EachPlace, is_in}
 use Rattle.expr_lanes.specs.declared.TheConstants.{MAX_PLACES}
-use Rattle.graph_numbers.specs.Graphs.{graph_versions}
+use Rattle.graph_numbers.specs.{graph_versions}
 use Rattle.block_cache.specs.Lanes.{LaneView, is_tried}
-use Rattle.loop_keys.specs.Jobs.{JobView, job_graph}
-use Rattle.loop_keys.specs.Keys.{key, key_count}
-use Rattle.loop_keys.specs.Store.{IsSiteOf, MeetsAt, source_at}
+use Rattle.loop_keys.specs.{IsSiteOf, job_graph, JobView, key, key_count, MeetsAt, source_at}
 use Rattle.block_cache.specs.Blocks.{AreReady}
 use Rattle.block_cache.specs.Fills.{IsGrownOver, IsSameAt, below_fault, begun_at, begun_count, holds_at, is_below, site_fault}
 use Rattle.block_cache.specs.declared.faults.PlaceFault.{PlaceFault}

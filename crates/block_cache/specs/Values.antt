@@ -1,14 +1,10 @@
 -- The values of a lane's places.
 use Rattle.std.specs.Prelude.{◌≡◌, ◌≤◌, ◌<◌, ◌-◌, ⊤, ℕ, ℤ, List, [], length, take, drop, nat_abs, Result, Ok, Err, slice_index_or, false}
-use Rattle.rdf_values.specs.Tables.{FitsKind}
-use Rattle.rdf_values.specs.declared.value.ColType.{ColType}
-use Rattle.rdf_values.specs.declared.value.ColType.TheVariants as kind
-use Rattle.rdf_values.specs.declared.value.Value.{Value}
-use Rattle.rdf_values.specs.declared.value.Value.TheVariants as val
-use Rattle.rdf_model.specs.Evaluation.{Outcome, Gives, is_set, mark}
-use Rattle.expr_eval.specs.declared.stop.EvalStop.{EvalStop}
+use Rattle.rdf_values.specs.{ColType, FitsKind, Value}
+use Rattle.rdf_model.specs.{Gives, is_set, mark, Outcome}
+use Rattle.expr_eval.specs.{EvalStop}
 use Rattle.expr_eval.specs.declared.stop.EvalStop.TheVariants.{Memory}
-use Rattle.expr_lanes.specs.Places.{at_place, is_in}
+use Rattle.expr_lanes.specs.{at_place, is_in}
 use Rattle.block_cache.specs.declared.vectors.Cells.{Cells}
 
 -- the cells of one vector among those of all
@@ -21,20 +17,20 @@ AreThere all c = (c.from ≤ c.to) × (c.to ≤ length all)
 
 -- the value of that kind with the number of a place: a vector's number is its own among those of the block
 abbrev pub value_for : ColType → List (List ℤ) → ℤ → Value
-value_for kind.Int vectors z = val.Int z
-value_for kind.Bool vectors z = val.Bool (is_set z)
-value_for kind.Vect vectors z = val.Vect (slice_index_or vectors (nat_abs z) [])
+value_for ColType.Int vectors z = Value.Int z
+value_for ColType.Bool vectors z = Value.Bool (is_set z)
+value_for ColType.Vect vectors z = Value.Vect (slice_index_or vectors (nat_abs z) [])
 
 -- a value of that kind with the number is there
 abbrev pub HasNumbered : ColType → List (List ℤ) → ℤ → Type 0
-HasNumbered kind.Vect vectors z = nat_abs z < length vectors
+HasNumbered ColType.Vect vectors z = nat_abs z < length vectors
 HasNumbered k vectors z = ⊤
 
 -- the number is that of the value
 abbrev pub IsNumberOf : List (List ℤ) → Value → ℤ → Type 0
-IsNumberOf vectors (val.Int x) z = z ≡ x
-IsNumberOf vectors (val.Bool b) z = z ≡ mark b
-IsNumberOf vectors (val.Vect xs) z = (nat_abs z < length vectors) × (slice_index_or vectors (nat_abs z) [] ≡ xs)
+IsNumberOf vectors (Value.Int x) z = z ≡ x
+IsNumberOf vectors (Value.Bool b) z = z ≡ mark b
+IsNumberOf vectors (Value.Vect xs) z = (nat_abs z < length vectors) × (slice_index_or vectors (nat_abs z) [] ≡ xs)
 
 -- the vectors that were there are there still, with their numbers
 abbrev pub AreKept : List (List ℤ) → List (List ℤ) → Type 0
@@ -49,7 +45,7 @@ pub record HasNumber (kind : ColType) (o : Outcome ℕ Value) (vectors : List (L
 
 -- no vector
 abbrev pub IsScalar : Value → Type 0
-IsScalar (val.Vect xs) = ⊥
+IsScalar (Value.Vect xs) = ⊥
 IsScalar v = ⊤
 
 -- the answer is no vector, and no want of memory

@@ -1,9 +1,8 @@
 // Expressions that are seen to be evaluated at all places of a block at once.
 ghost use Rattle.std.specs.Prelude.{◌≡◌, true, false, All};
-ghost use Rattle.rdf_values.specs.EachColumn.{EachColumn};
-ghost use Rattle.rdf_values.specs.NumExprTree.{num_tree};
-ghost use Rattle.expr_check.specs.NumKinds.{is_vector};
-ghost use Rattle.expr_lanes.specs.Folds.{CanLane};
+ghost use Rattle.rdf_values.specs.{EachColumn, num_tree};
+ghost use Rattle.expr_check.specs.{is_vector};
+ghost use Rattle.expr_lanes.specs.{CanLane};
 
 use expr_check::Checked;
 use expr_lanes::{LaneInputs, can_eval_lane};

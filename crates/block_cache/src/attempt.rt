@@ -1,11 +1,8 @@
 // One evaluation of a site over a block.
 ghost use Rattle.std.specs.Prelude.{◌≡◌, ◌+◌, ◌++◌, ◌<◌, ◌≤◌, ℕ, true, false, length, slice_get, Some, OnOk, OnErr};
-ghost use Rattle.expr_check.specs.NumKinds.{is_plain};
-ghost use Rattle.expr_lanes.specs.Depths.{depth};
-ghost use Rattle.expr_lanes.specs.Places.{EachPlace, IsSelected};
-ghost use Rattle.block_cache.specs.Lanes.{IsBegun, IsEvaluated, LaneView, is_held};
-ghost use Rattle.block_cache.specs.ForSites.{CanTryFor, IfPlain, IsBegunFor, IsTriedFor, own_key};
-ghost use Rattle.block_cache.specs.OverBlocks.{AreReadOver, AreReadyOver, CallsFitOver, FitAt, key_over, outcome_over};
+ghost use Rattle.expr_check.specs.{is_plain};
+ghost use Rattle.expr_lanes.specs.{depth, EachPlace, IsSelected};
+ghost use Rattle.block_cache.specs.{AreReadOver, AreReadyOver, CallsFitOver, CanTryFor, FitAt, IfPlain, is_held, IsBegun, IsBegunFor, IsEvaluated, IsTriedFor, key_over, LaneView, outcome_over, own_key};
 
 use crate::Lane;
 use crate::able::can_evaluate;

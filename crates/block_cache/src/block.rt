@@ -1,7 +1,6 @@
 // A block of entries.
 ghost use Rattle.std.specs.Prelude.{◌≤◌, ◌+◌, length};
-ghost use Rattle.loop_keys.specs.Jobs.{Fits, job_graph, job_of};
-ghost use Rattle.loop_keys.specs.Keys.{IsRow};
+ghost use Rattle.loop_keys.specs.{Fits, IsRow, job_graph, job_of};
 ghost use Rattle.block_cache.specs.OneProof.{fits-prop, row-prop};
 
 use crate::cells::CellLane;

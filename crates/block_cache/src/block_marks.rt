@@ -1,8 +1,7 @@
 // Marks of the places of a block.
 ghost use Rattle.std.specs.Prelude.{◌≡◌, ◌<◌, ◌≤◌, ◌+◌, ℕ, ◌||◌, not, true, false, length, count_by, IfOk};
 ghost use Rattle.std.specs.List.{filter, range_with_len};
-ghost use Rattle.expr_lanes.specs.LaneInputs.{is_known, HasMarks};
-ghost use Rattle.expr_lanes.specs.Places.{is_in, is_marked, EachPlace};
+ghost use Rattle.expr_lanes.specs.{EachPlace, HasMarks, is_in, is_known, is_marked};
 ghost use Rattle.block_cache.specs.BlockMarks.{AreWrittenMarks};
 
 use crate::marks::{are_marked, mark};

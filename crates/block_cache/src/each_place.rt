@@ -1,13 +1,10 @@
 // Evaluation at one place after another.
 ghost use Rattle.std.specs.Prelude.{◌≡◌, ◌<◌, ◌≤◌, ◌+◌, ◌++◌, [], ◌∷◌, ℕ, true, length, slice_set, IfOk, OnOk, OnErr};
-ghost use Rattle.rdf_values.specs.Tables.{FitsKind};
-ghost use Rattle.rdf_values.specs.declared.value.Value.{Value as ValueOf};
-ghost use Rattle.rdf_values.specs.declared.value.ColType.{ColType as KindOf};
-ghost use Rattle.rdf_model.specs.Evaluation.{Outcome};
-ghost use Rattle.expr_eval.specs.EvalAnswers.{AnswersAs};
-ghost use Rattle.expr_lanes.specs.Places.{stopped as stopped_at, EachPlace};
-ghost use Rattle.block_cache.specs.Values.{AreWritten, IsScalarAnswer};
-ghost use Rattle.block_cache.specs.EachPlace.{HaveCome, IsTurned, IsWritten};
+ghost use Rattle.rdf_values.specs.{ColType as KindOf, FitsKind, Value as ValueOf};
+ghost use Rattle.rdf_model.specs.{Outcome};
+ghost use Rattle.expr_eval.specs.{AnswersAs};
+ghost use Rattle.expr_lanes.specs.{EachPlace, stopped as stopped_at};
+ghost use Rattle.block_cache.specs.{AreWritten, HaveCome, IsScalarAnswer, IsTurned, IsWritten};
 
 use crate::place_values::PlaceValues;
 use crate::values::Values;

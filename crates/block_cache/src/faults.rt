@@ -1,6 +1,6 @@
 // The first fault among places that came to no value.
 ghost use Rattle.std.specs.Prelude.{◌≡◌};
-ghost use Rattle.block_cache.specs.Faults.{IsLeastFault, lesser_fault};
+ghost use Rattle.block_cache.specs.{IsLeastFault, lesser_fault};
 
 use expr_eval::ScalarStop;
 use expr_lanes::Stopped;

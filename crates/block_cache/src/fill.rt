@@ -1,14 +1,10 @@
 // Filling sites over a block, one with those that its evaluation meets.
 ghost use Rattle.std.specs.Prelude.{◌≡◌, ◌+◌, ◌<◌, ◌≤◌, ℕ, true, false, not, [], length, IfOk, OnOk, OnErr};
 ghost use Rattle.std.specs.List.{filter};
-ghost use Rattle.graph_numbers.specs.Graphs.{graph_versions};
-ghost use Rattle.expr_lanes.specs.Places.{AreRising, EachPlace, IsSelected};
-ghost use Rattle.block_cache.specs.Lanes.{kinds_of};
-ghost use Rattle.loop_keys.specs.Store.{IsSiteOf};
-ghost use Rattle.block_cache.specs.Fills.{IsSettled, begun_at, below_fault, holds_at};
-ghost use Rattle.block_cache.specs.Turns.{found_or};
-ghost use Rattle.block_cache.specs.ForSites.{CanFillFor, CanTryFor, IfPlain, IsAttemptedFor, IsBrokenOffFor, IsPaidFor, IsResumedFor, IsSettledFor, IsSpentFor, IsUnderwayFor, own_key};
-ghost use Rattle.block_cache.specs.OverBlocks.{AreReadyOver, block_graph, source_over};
+ghost use Rattle.graph_numbers.specs.{graph_versions};
+ghost use Rattle.expr_lanes.specs.{AreRising, EachPlace, IsSelected};
+ghost use Rattle.block_cache.specs.{AreReadyOver, begun_at, below_fault, block_graph, CanFillFor, CanTryFor, found_or, holds_at, IfPlain, IsAttemptedFor, IsBrokenOffFor, IsPaidFor, IsResumedFor, IsSettled, IsSettledFor, IsSpentFor, IsUnderwayFor, kinds_of, own_key, source_over};
+ghost use Rattle.loop_keys.specs.{IsSiteOf};
 
 use crate::Lane;
 use crate::attempt::try_lane;

@@ -1,16 +1,12 @@
 // What is known of one key over a block.
 ghost use Rattle.std.specs.Prelude.{◌≡◌, ◌<◌, ◌≤◌, ◌+◌, ℕ, true, false, not, length, All, IfOk, OnOk, OnErr, if◌then◌else◌};
 ghost use Rattle.std.specs.List.{filter};
-ghost use Rattle.rdf_values.specs.Functions.{fn_names};
-ghost use Rattle.rdf_model.specs.Evaluation.{Gives, Needs, evaluate as evaluate_at, call_outcome};
-ghost use Rattle.rdf_model.specs.Laws.{FitsOutcome};
-ghost use Rattle.entry_fns.specs.Lists.{functions_in};
-ghost use Rattle.expr_check.specs.NumKinds.{is_vector, CallsFit};
-ghost use Rattle.expr_eval.specs.Inputs.{input_outcome};
-ghost use Rattle.expr_lanes.specs.Depths.{depth};
-ghost use Rattle.expr_lanes.specs.Folds.{CanLane};
-ghost use Rattle.expr_lanes.specs.LaneInputs.{is_known, HasMarks};
-ghost use Rattle.expr_lanes.specs.Places.{EachPlace, IsSelected};
+ghost use Rattle.rdf_values.specs.{fn_names};
+ghost use Rattle.rdf_model.specs.{call_outcome, evaluate as evaluate_at, FitsOutcome, Gives, Needs};
+ghost use Rattle.entry_fns.specs.{functions_in};
+ghost use Rattle.expr_check.specs.{CallsFit, is_vector};
+ghost use Rattle.expr_eval.specs.{input_outcome};
+ghost use Rattle.expr_lanes.specs.{CanLane, depth, EachPlace, HasMarks, is_known, IsSelected};
 ghost use Rattle.block_cache.specs.Lanes.{is_held, room_of, value_of, AreNumbers, IsBegun, IsEvaluated, IsSameLane, IsUnknown, LaneView};
 
 use crate::block_marks::BlockMarks;

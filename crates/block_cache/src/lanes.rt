@@ -1,6 +1,6 @@
 // What is known of all keys over a block.
 ghost use Rattle.std.specs.Prelude.{◌≡◌, ◌≤◌, All, IfOk};
-ghost use Rattle.block_cache.specs.Lanes.{AreUnknown, HaveRoom, kinds_of, room_of, rooms_of};
+ghost use Rattle.block_cache.specs.{AreUnknown, HaveRoom, kinds_of, room_of, rooms_of};
 
 use crate::lane::Lane;
 use expr_lanes::MAX_PLACES;

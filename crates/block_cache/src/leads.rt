@@ -1,14 +1,10 @@
 // Filling a site behind what its evaluation reads first.
 ghost use Rattle.std.specs.Prelude.{◌≡◌, ◌<◌, ℕ, true, [], length, IfOk, IfSome, OnErr, OnOk};
-ghost use Rattle.rdf_values.specs.NumExprTree.{num_tree, num_trees};
-ghost use Rattle.graph_numbers.specs.Graphs.{graph_versions};
-ghost use Rattle.expr_lanes.specs.Places.{EachPlace, IsSelected};
-ghost use Rattle.block_cache.specs.Lanes.{kinds_of};
-ghost use Rattle.loop_keys.specs.Store.{IsSiteOf};
-ghost use Rattle.block_cache.specs.Fills.{IsSettled, holds_at};
-ghost use Rattle.block_cache.specs.Leads.{first_read, first_read_in};
-ghost use Rattle.block_cache.specs.ForSites.{CanFillFor, IfPlain, IsFilledFor, IsLeadFor, IsSpentFor};
-ghost use Rattle.block_cache.specs.OverBlocks.{AreReadyOver, block_graph, key_over, source_over};
+ghost use Rattle.rdf_values.specs.{num_tree, num_trees};
+ghost use Rattle.graph_numbers.specs.{graph_versions};
+ghost use Rattle.expr_lanes.specs.{EachPlace, IsSelected};
+ghost use Rattle.block_cache.specs.{AreReadyOver, block_graph, CanFillFor, first_read, first_read_in, holds_at, IfPlain, IsFilledFor, IsLeadFor, IsSettled, IsSpentFor, key_over, kinds_of, source_over};
+ghost use Rattle.loop_keys.specs.{IsSiteOf};
 
 use crate::Lane;
 use crate::block::Block;

@@ -2,9 +2,8 @@
 ghost use Rattle.std.specs.Prelude.{◌≡◌, ◌<◌, ℕ, not, true, Some, nat_eq, length, slice_index, All, Contains};
 ghost use Rattle.std.specs.List.{filter};
 ghost use Rattle.expr_eval.specs.declared.stop.ScalarStop.TheVariants.{Need};
-ghost use Rattle.expr_lanes.specs.Places.{is_in, is_marked, stopped, EachPlace};
-ghost use Rattle.expr_lanes.specs.declared.stopped.Stopped.{Stopped as StoppedPlace};
-ghost use Rattle.block_cache.specs.Turns.{need_at};
+ghost use Rattle.expr_lanes.specs.{EachPlace, is_in, is_marked, stopped, Stopped as StoppedPlace};
+ghost use Rattle.block_cache.specs.{need_at};
 
 use arrayvec::ArrayVec;
 use expr_eval::ScalarStop;

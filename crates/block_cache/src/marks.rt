@@ -1,7 +1,7 @@
 // Marks of places.
 ghost use Rattle.std.specs.Prelude.{◌≡◌, ◌<◌, ◌≤◌, ◌+◌, ℕ, ◌||◌, not, true, false, length, count_by};
 ghost use Rattle.std.specs.List.{range_with_len};
-ghost use Rattle.expr_lanes.specs.Places.{is_in, is_marked, AreRising, EachPlace};
+ghost use Rattle.expr_lanes.specs.{AreRising, EachPlace, is_in, is_marked};
 
 use expr_lanes::Selection;
 

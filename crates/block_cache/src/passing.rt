@@ -1,11 +1,8 @@
 // Filters over a block.
 ghost use Rattle.std.specs.Prelude.{◌≡◌, ℕ, Bool, true, [], Some, length, slice_get, IfOk, OnErr};
 ghost use Rattle.rdf_values.specs.declared.value.ColType.TheVariants as kind;
-ghost use Rattle.expr_lanes.specs.Places.{IsSelected};
-ghost use Rattle.block_cache.specs.Lanes.{kinds_of};
-ghost use Rattle.block_cache.specs.Fills.{IsSettled};
-ghost use Rattle.block_cache.specs.ForSites.{CanFillFor, IfPlain, IsPassedFor, IsSpentFor, own_key};
-ghost use Rattle.block_cache.specs.OverBlocks.{AreReadyOver};
+ghost use Rattle.expr_lanes.specs.{IsSelected};
+ghost use Rattle.block_cache.specs.{AreReadyOver, CanFillFor, IfPlain, IsPassedFor, IsSettled, IsSpentFor, kinds_of, own_key};
 
 use crate::Lane;
 use crate::faults::PlaceFault;

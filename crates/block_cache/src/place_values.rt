@@ -1,10 +1,8 @@
 // What a lane's key comes to, place by place.
 ghost use Rattle.std.specs.Prelude.{◌≡◌, ◌+◌, ℕ, IfOk};
-ghost use Rattle.rdf_values.specs.Tables.{FitsKind};
-ghost use Rattle.rdf_values.specs.declared.value.ColType.{ColType as KindOf};
-ghost use Rattle.rdf_values.specs.declared.value.Value.{Value as ValueOf};
-ghost use Rattle.rdf_model.specs.Evaluation.{Outcome};
-ghost use Rattle.expr_eval.specs.EvalAnswers.{AnswersAs};
+ghost use Rattle.rdf_values.specs.{ColType as KindOf, FitsKind, Value as ValueOf};
+ghost use Rattle.rdf_model.specs.{Outcome};
+ghost use Rattle.expr_eval.specs.{AnswersAs};
 ghost use Rattle.block_cache.specs.Values.{IsScalarAnswer};
 
 use expr_eval::{EvalStop, Steps};

@@ -1,14 +1,13 @@
 // The columns of an evaluation at one place of a block, by what is held.
 ghost use Rattle.std.specs.Prelude.{◌≡◌, ◌<◌, ◌+◌, ℕ, ℤ, List, Some, length, slice_get};
-ghost use Rattle.rdf_values.specs.Tables.{kind_at};
+ghost use Rattle.rdf_values.specs.{kind_at, Value};
 ghost use Rattle.rdf_values.specs.declared.value.ColType.TheVariants as kind;
-ghost use Rattle.expr_lanes.specs.Places.{at_place};
-ghost use Rattle.rdf_values.specs.declared.value.Value.{Value};
-ghost use Rattle.rdf_model.specs.ColumnValues.{tag_element};
-ghost use Rattle.expr_eval.specs.Inputs.{input_outcome};
-ghost use Rattle.graph_numbers.specs.Sources.{cell_value};
+ghost use Rattle.expr_lanes.specs.{at_place};
+ghost use Rattle.rdf_model.specs.{tag_element};
+ghost use Rattle.expr_eval.specs.{input_outcome};
+ghost use Rattle.graph_numbers.specs.{cell_value};
 ghost use Rattle.block_cache.specs.Lanes.{LaneView};
-ghost use Rattle.loop_keys.specs.Store.{held_in, held_or_need, row_in};
+ghost use Rattle.loop_keys.specs.{held_in, held_or_need, row_in};
 ghost use Rattle.block_cache.specs.Blocks.{cells_at, element_of};
 ghost use Rattle.block_cache.specs.OverBlocks.{HasNumbersOver, IsReadOver, cell_over, columns_over, look_over};
 

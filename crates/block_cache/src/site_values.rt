@@ -1,10 +1,8 @@
 // A site's evaluation at one place of a block after another.
 ghost use Rattle.std.specs.Prelude.{◌≡◌, ◌<◌, ◌+◌, ℕ, true, IfOk};
-ghost use Rattle.rdf_values.specs.Tables.{FitsKind};
-ghost use Rattle.rdf_values.specs.declared.value.ColType.{ColType as KindOf};
-ghost use Rattle.expr_check.specs.NumKinds.{is_plain};
-ghost use Rattle.expr_eval.specs.Answers.{scalar_outcome, scalar_value};
-ghost use Rattle.expr_eval.specs.EvalAnswers.{AnswersAs};
+ghost use Rattle.rdf_values.specs.{ColType as KindOf, FitsKind};
+ghost use Rattle.expr_check.specs.{is_plain};
+ghost use Rattle.expr_eval.specs.{AnswersAs, scalar_outcome, scalar_value};
 ghost use Rattle.block_cache.specs.Values.{IsScalarAnswer};
 ghost use Rattle.block_cache.specs.OverBlocks.{AreReadOver, CallsFitOver, FitAt, outcome_over};
 

@@ -1,6 +1,6 @@
 // How many places a block has.
 ghost use Rattle.std.specs.Prelude.{◌≡◌, ◌<◌, ◌≤◌, ◌+◌, ◌*◌};
-ghost use Rattle.block_cache.specs.Sizes.{size_for};
+ghost use Rattle.block_cache.specs.{size_for};
 
 use expr_lanes::MAX_PLACES;
 

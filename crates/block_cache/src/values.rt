@@ -1,9 +1,9 @@
 // The values of a lane's places.
 ghost use Rattle.std.specs.Prelude.{◌≡◌, ◌<◌, ℕ, length, OnOk, OnErr, Some, slice_get};
-ghost use Rattle.rdf_model.specs.Evaluation.{Gives};
-ghost use Rattle.expr_eval.specs.Inputs.{input_outcome};
-ghost use Rattle.expr_lanes.specs.Places.{at_place};
-ghost use Rattle.block_cache.specs.Values.{AreKept, IsNumberOf, IsScalar, value_for};
+ghost use Rattle.rdf_model.specs.{Gives};
+ghost use Rattle.expr_eval.specs.{input_outcome};
+ghost use Rattle.expr_lanes.specs.{at_place};
+ghost use Rattle.block_cache.specs.{AreKept, IsNumberOf, IsScalar, value_for};
 
 use crate::vectors::Vectors;
 use expr_eval::Input;

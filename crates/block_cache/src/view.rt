@@ -1,6 +1,6 @@
 // The columns of an evaluation over a block, by what is held.
 ghost use Rattle.std.specs.Prelude.{◌<◌, ◌+◌, ℕ, IfSome};
-ghost use Rattle.expr_lanes.specs.LaneInputs.{IsVectorAt};
+ghost use Rattle.expr_lanes.specs.{IsVectorAt};
 ghost use Rattle.block_cache.specs.OverBlocks.{IsReadOver, IsWholeOver, look_over};
 
 use crate::Lane;

@@ -1,7 +1,7 @@
 // A site over a block.
 ghost use Rattle.std.specs.Prelude.{◌<◌, length};
-ghost use Rattle.graph_numbers.specs.Graphs.{graph_sites};
-ghost use Rattle.loop_keys.specs.Jobs.{job_graph, job_of};
+ghost use Rattle.graph_numbers.specs.{graph_sites};
+ghost use Rattle.loop_keys.specs.{job_graph, job_of};
 
 use crate::block::Block;
 

@@ -1,6 +1,6 @@
 // Versions that are read at all places of a block at once.
 ghost use Rattle.std.specs.Prelude.{◌≡◌, true};
-ghost use Rattle.block_cache.specs.OverBlocks.{IsReadOver, IsWholeOver};
+ghost use Rattle.block_cache.specs.{IsReadOver, IsWholeOver};
 
 use crate::Lane;
 use crate::block::Block;

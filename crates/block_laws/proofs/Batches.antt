@@ -1,21 +1,10 @@
 -- Batches are appended, and are what each pass by itself gives.
-use Rattle.std.proofs.Common.{◌≡◌, ℕ, suc, ◌+◌, Bool, true, false, List, [], ◌∷◌, ◌++◌, length, map, Some, None, refl, ◌∙◌, ap, ap₂, arith, if◌then◌else◌}
-use Rattle.std.specs.Prelude.{slice_get, flat_map, count_by}
+use Rattle.std.proofs.Common.{◌≡◌, ℕ, suc, ◌+◌, Bool, true, false, List, [], ◌∷◌, ◌++◌, length, map, Some, None, refl, ◌∙◌, ap, ap₂, arith, if◌then◌else◌, slice_get, flat_map, count_by}
 use Rattle.std.proofs.lemmas.List.Sums.{sum_by-cons}
-use Rattle.rdf_values.specs.Bookings.{Booking, ActionAt, ReportOn, Pass, columns_of}
-use Rattle.rdf_values.specs.Path.{Path, Under}
-use Rattle.rdf_values.specs.declared.action.ActionKind.{ActionKind}
-use Rattle.rdf_values.specs.declared.statement.Statement.{Statement}
+use Rattle.rdf_values.specs.{ActionAt, ActionKind, Booking, columns_of, Pass, Path, ReportOn, Statement, Under, Value}
 use Rattle.rdf_values.specs.declared.statement.Statement.TheVariants.{Filter}
-use Rattle.rdf_values.specs.declared.value.Value.{Value}
-use Rattle.rdf_model.specs.Evaluation.{Outcome, Gives, Faults, Needs, ◌>>=◌, for_all}
-use Rattle.rdf_model.specs.ColumnValues.{column_value, expression_value}
-use Rattle.rdf_model.specs.EntryOutcomes.{Skip, feed_outcome, through, truth_of}
-use Rattle.rdf_model.specs.Laws.{action_pass}
-use Rattle.rdf_model.specs.LoopFacts.{filter_reach, reach_of, is_passed, is_reached, kind_in, kinds_in, list_at, spread_in, spreads_of}
-use Rattle.rdf_model.specs.Results.{Dataset, fault_in, is_true, items_fed, items_of}
-use Rattle.rdf_model.specs.declared.loop_facts.Reach.{Reach}
-use Rattle.block_laws.specs.Feeds.{selected}
+use Rattle.rdf_model.specs.{◌>>=◌, action_pass, column_value, Dataset, expression_value, fault_in, Faults, feed_outcome, filter_reach, for_all, Gives, is_passed, is_reached, is_true, items_fed, items_of, kind_in, kinds_in, list_at, Needs, Outcome, Reach, reach_of, Skip, spread_in, spreads_of, through, truth_of}
+use Rattle.block_laws.specs.{selected}
 
 -- ---- what the batch is
 

@@ -1,12 +1,9 @@
 -- Blocks lead through their entries, and each is as long as it may be.
-use Rattle.std.proofs.Common.{◌≡◌, ◌⊎◌, inl, inr, ℕ, zero, suc, ◌+◌, ◌<◌, ◌≤◌, Bool, true, false, List, [], ◌∷◌, length, map, take, drop, refl, sym, subst, ◌∙◌, ap, arith, if◌then◌else◌, min}
-use Rattle.std.specs.Prelude.{sum}
+use Rattle.std.proofs.Common.{◌≡◌, ◌⊎◌, inl, inr, ℕ, zero, suc, ◌+◌, ◌<◌, ◌≤◌, Bool, true, false, List, [], ◌∷◌, length, map, take, drop, refl, sym, subst, ◌∙◌, ap, arith, if◌then◌else◌, min, sum}
 use Rattle.std.proofs.lemmas.List.Sums.{sum_by-cons}
-use Rattle.lemmas.proofs.Appended.{map_length}
-use Rattle.rdf_values.specs.Cuts.{Lead}
-use Rattle.rdf_values.specs.declared.span.Span.{Span}
-use Rattle.rdf_values.specs.declared.value.Value.{Value}
-use Rattle.block_laws.specs.Blocks.{IsFirst, blocks_from, blocks_of, first_length, more_fit, one_more_fits, row_elements}
+use Rattle.lemmas.proofs.{map_length}
+use Rattle.rdf_values.specs.{Lead, Span, Value}
+use Rattle.block_laws.specs.{blocks_from, blocks_of, first_length, IsFirst, more_fit, one_more_fits, row_elements}
 
 sum_more : (c : ℕ) (cs : List ℕ) → sum (c ∷ cs) ≡ c + sum cs
 sum_more c cs = sum_by-cons (λ n. n) c cs

@@ -1,15 +1,10 @@
 -- The first fault of the passes of a loop, block after block.
-use Rattle.std.proofs.Common.{◌≡◌, ℕ, zero, suc, ◌+◌, ◌-◌, ◌≤◌, List, [], ◌∷◌, ◌++◌, length, length-drop, map, take, drop, Option, Some, refl, sym, ◌∙◌, ap, arith}
-use Rattle.std.specs.Prelude.{slice_get, slice_range}
+use Rattle.std.proofs.Common.{◌≡◌, ℕ, zero, suc, ◌+◌, ◌-◌, ◌≤◌, List, [], ◌∷◌, ◌++◌, length, length-drop, map, take, drop, Option, Some, refl, sym, ◌∙◌, ap, arith, slice_get, slice_range}
 use Rattle.std.specs.List.{enumerate_from}
-use Rattle.lemmas.proofs.Parts.{drop_plus, range_length, take_plus}
-use Rattle.rdf_values.specs.Bookings.{Pass}
-use Rattle.rdf_values.specs.declared.fault.EntryFault.{EntryFault}
-use Rattle.rdf_values.specs.Cuts.{Lead}
-use Rattle.rdf_values.specs.declared.span.Span.{Span}
-use Rattle.rdf_values.specs.declared.value.Value.{Value}
-use Rattle.rdf_model.specs.Results.{Dataset, fault_at, fault_or, first_of, first_fault_in, first_fault_from}
-use Rattle.block_laws.specs.PassMajor.{Search, Trials, after_trial, trial_major, pass_major, block_major, row_fault, row_major}
+use Rattle.lemmas.proofs.{drop_plus, range_length, take_plus}
+use Rattle.rdf_values.specs.{EntryFault, Lead, Pass, Span, Value}
+use Rattle.rdf_model.specs.{Dataset, fault_at, fault_or, first_fault_from, first_fault_in, first_of}
+use Rattle.block_laws.specs.{after_trial, block_major, pass_major, row_fault, row_major, Search, trial_major, Trials}
 use Rattle.block_laws.proofs.Searches.{search_is_row_major, row_major-append}
 
 -- ---- a loop over the trials

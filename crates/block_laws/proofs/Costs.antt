@@ -1,20 +1,13 @@
 -- What blocks demand, one after another.
-use Rattle.std.proofs.Common.{◌≡◌, ℕ, ◌+◌, ◌-◌, ◌<◌, ◌≤◌, Bool, true, false, List, [], ◌∷◌, ◌++◌, length, map, take, drop, Option, Some, None, refl, sym, ◌∙◌, ap, arith, if◌then◌else◌}
-use Rattle.std.specs.Prelude.{is_some, slice_range}
+use Rattle.std.proofs.Common.{◌≡◌, ℕ, ◌+◌, ◌-◌, ◌<◌, ◌≤◌, Bool, true, false, List, [], ◌∷◌, ◌++◌, length, map, take, drop, Option, Some, None, refl, sym, ◌∙◌, ap, arith, if◌then◌else◌, is_some, slice_range}
 use Rattle.std.specs.List.{sum_by}
 use Rattle.std.proofs.Math.Seq.{drop-append_seam}
 use Rattle.std.proofs.lemmas.List.{drop-map}
 use Rattle.std.proofs.lemmas.List.Sums.{sum_by-cons}
-use Rattle.lemmas.proofs.Appended.{map_length}
-use Rattle.lemmas.proofs.Parts.{range_length}
-use Rattle.rdf_values.specs.Bookings.{Pass}
-use Rattle.rdf_values.specs.declared.fault.EntryFault.{EntryFault}
-use Rattle.rdf_values.specs.declared.fault.Fault.{Fault}
-use Rattle.rdf_values.specs.declared.span.Span.{Span}
-use Rattle.rdf_values.specs.declared.value.Value.{Value}
-use Rattle.rdf_model.specs.Results.{Dataset, fault_at, fault_or, first_of, first_fault_in, first_fault_from}
-use Rattle.block_laws.specs.Blocks.{blocks_of, cluster_blocks, first_length, row_elements}
-use Rattle.block_laws.specs.Counts.{blocks_demand, cluster_demands, rows_demand, up_to_fault}
+use Rattle.lemmas.proofs.{map_length, range_length}
+use Rattle.rdf_values.specs.{EntryFault, Fault, Pass, Span, Value}
+use Rattle.rdf_model.specs.{Dataset, fault_at, fault_or, first_fault_from, first_fault_in, first_of}
+use Rattle.block_laws.specs.{blocks_demand, blocks_of, cluster_blocks, cluster_demands, first_length, row_elements, rows_demand, up_to_fault}
 use Rattle.block_laws.proofs.BlockCuts.{blocks_go_on}
 use Rattle.block_laws.proofs.BlockFaults.{range_split}
 

@@ -1,6 +1,5 @@
 -- Members of lists: a list without repetition whose members are all in another is no longer than that.
-use Rattle.std.proofs.Common.{◌≡◌, ◌⊎◌, inl, inr, ℕ, zero, suc, Bool, true, false, ◌||◌, List, [], ◌∷◌, ◌++◌, Some, refl, sym, subst, arith, slice_get}
-use Rattle.std.specs.Prelude.{flat_map, Contains}
+use Rattle.std.proofs.Common.{◌≡◌, ◌⊎◌, inl, inr, ℕ, zero, suc, Bool, true, false, ◌||◌, List, [], ◌∷◌, ◌++◌, Some, refl, sym, subst, arith, slice_get, flat_map, Contains}
 use Rattle.std.specs.List.{list_any, AllByRecursion}
 
 -- the element is one of the list

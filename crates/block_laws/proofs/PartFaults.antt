@@ -1,18 +1,9 @@
 -- Trying passes in parts finds what trying them whole finds.
 use Rattle.std.proofs.Common.{◌≡◌, ℕ, Bool, true, false, List, [], ◌∷◌, ◌++◌, map, take, arith, Option, Some, None, refl, sym, ◌∙◌, ap, if◌then◌else◌}
-use Rattle.lemmas.proofs.Parts.{take_at_most}
-use Rattle.rdf_values.specs.Bookings.{Booking, ActionAt, ReportOn, Pass, columns_of}
-use Rattle.rdf_values.specs.Path.{Path, Under}
-use Rattle.rdf_values.specs.Spread.{feed_fault}
-use Rattle.rdf_values.specs.declared.action.ActionKind.{ActionKind}
-use Rattle.rdf_values.specs.declared.fault.EntryFault.{EntryFault}
-use Rattle.rdf_values.specs.declared.value.Value.{Value}
-use Rattle.rdf_model.specs.Evaluation.{Outcome, Gives, Faults, Needs, ◌>>=◌, for_all}
-use Rattle.rdf_model.specs.ColumnValues.{column_value}
-use Rattle.rdf_model.specs.EntryOutcomes.{Entry, Skip, through, unless_fault, feed_outcome, report_outcome, booking_outcome}
-use Rattle.rdf_model.specs.Results.{Dataset, fault_in, fault_at}
-use Rattle.block_laws.specs.PassMajor.{RowFault, Search, one_further, in_front_or, lowered, first_row, after_trial, trial_major}
-use Rattle.block_laws.specs.PassParts.{kind_or, first_kind, Filters, Input, Feeding, booking_parts, pass_parts, given_fault, part_fault}
+use Rattle.lemmas.proofs.{take_at_most}
+use Rattle.rdf_values.specs.{ActionAt, ActionKind, Booking, columns_of, EntryFault, feed_fault, Pass, Path, ReportOn, Under, Value}
+use Rattle.rdf_model.specs.{◌>>=◌, booking_outcome, column_value, Dataset, Entry, fault_at, fault_in, Faults, feed_outcome, for_all, Gives, Needs, Outcome, report_outcome, Skip, through, unless_fault}
+use Rattle.block_laws.specs.{after_trial, booking_parts, Feeding, Filters, first_kind, first_row, given_fault, in_front_or, Input, kind_or, lowered, one_further, part_fault, pass_parts, RowFault, Search, trial_major}
 use Rattle.block_laws.proofs.Searches.{rows_left, first_within, take-take_low}
 
 -- ---- the parts of one pass

@@ -1,8 +1,7 @@
 -- The blocks of a cluster, as long as they may be: of so many entries, and fewer where their vectors hold many elements.
 use Rattle.std.specs.Prelude.{◌≡◌, ◌⊎◌, ◌<◌, ◌≤◌, ℕ, suc, ◌+◌, ◌*◌, Bool, ◌&&◌, List, [], ◌∷◌, length, map, take, if◌then◌else◌, nat_le, nat_lt, sum, slice_range}
 use Rattle.std.specs.List.{sum_by}
-use Rattle.rdf_values.specs.declared.span.Span.{Span}
-use Rattle.rdf_values.specs.declared.value.Value.{Value}
+use Rattle.rdf_values.specs.{Span, Value}
 use Rattle.rdf_values.specs.declared.value.Value.TheVariants.{Vect}
 
 -- the elements of a cell

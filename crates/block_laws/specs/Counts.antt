@@ -1,12 +1,8 @@
 -- How much the entries of a cluster demand, block by block up to a fault: pairs of a site and a variation.
 use Rattle.std.specs.Prelude.{Bool, false, ◌≡◌, ◌+◌, ◌<◌, ◌≤◌, ℕ, List, [], ◌∷◌, length, map, Some, None, is_some, if◌then◌else◌, slice_get, slice_range, All, Contains, count_by, slice_index_or}
 use Rattle.std.specs.List.{sum_by}
-use Rattle.rdf_values.specs.Bookings.{Pass}
-use Rattle.rdf_values.specs.declared.fault.Fault.{Fault}
-use Rattle.rdf_values.specs.declared.span.Span.{Span}
-use Rattle.rdf_values.specs.declared.value.Value.{Value}
-use Rattle.rdf_model.specs.Demanded.{demanded, pass_demands}
-use Rattle.rdf_model.specs.Results.{Dataset, first_fault_from}
+use Rattle.rdf_values.specs.{Fault, Pass, Span, Value}
+use Rattle.rdf_model.specs.{Dataset, demanded, first_fault_from, pass_demands}
 use Rattle.block_laws.specs.Blocks.{cluster_blocks, first_length, row_elements}
 
 -- ---- what is demanded

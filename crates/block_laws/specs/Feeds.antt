@@ -1,14 +1,7 @@
 -- What the rows of a block feed and reach, in one batch for each pass and each filter.
 use Rattle.std.specs.Prelude.{◌≡◌, ℕ, List, None, Some, ◌∷◌, ◌++◌, length, map, filter, flat_map, slice_get, count_by}
-use Rattle.rdf_values.specs.Bookings.{Pass}
-use Rattle.rdf_values.specs.Path.{Path, Under}
-use Rattle.rdf_values.specs.declared.action.ActionKind.{ActionKind}
-use Rattle.rdf_values.specs.declared.statement.Statement.{Statement}
-use Rattle.rdf_values.specs.declared.value.Value.{Value}
-use Rattle.rdf_model.specs.EntryOutcomes.{through}
-use Rattle.rdf_model.specs.Laws.{action_pass}
-use Rattle.rdf_model.specs.LoopFacts.{filter_reach, is_passed, is_reached, kinds_in, list_at, spreads_of}
-use Rattle.rdf_model.specs.Results.{Dataset, fault_in, is_true, items_of}
+use Rattle.rdf_values.specs.{ActionKind, Pass, Path, Statement, Under, Value}
+use Rattle.rdf_model.specs.{action_pass, Dataset, fault_in, filter_reach, is_passed, is_reached, is_true, items_of, kinds_in, list_at, spreads_of, through}
 
 -- what the rows feed to a pass among others is what the pass by itself gives there
 abbrev pub BatchIsOfThePass : Type 0

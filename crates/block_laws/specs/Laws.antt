@@ -1,11 +1,7 @@
 -- Laws of blocks.
 use Rattle.std.specs.Prelude.{◌≡◌, ◌+◌, ◌≤◌, ℕ, List, ◌∷◌, Option, Some, length, drop, min, slice_get, slice_range, map}
-use Rattle.rdf_values.specs.Bookings.{Pass}
-use Rattle.rdf_values.specs.declared.fault.EntryFault.{EntryFault}
-use Rattle.rdf_values.specs.Cuts.{Lead}
-use Rattle.rdf_values.specs.declared.span.Span.{Span}
-use Rattle.rdf_values.specs.declared.value.Value.{Value}
-use Rattle.rdf_model.specs.Results.{Dataset, fault_at, first_of, first_fault_from}
+use Rattle.rdf_values.specs.{EntryFault, Lead, Pass, Span, Value}
+use Rattle.rdf_model.specs.{Dataset, fault_at, first_fault_from, first_of}
 use Rattle.block_laws.specs.Blocks.{IsFirst, blocks_of, first_length, row_elements}
 use Rattle.block_laws.specs.PassMajor.{Search, Trials, after_trial, trial_major, pass_major, block_major, IsFalling}
 use Rattle.block_laws.specs.PassParts.{first_kind, pass_parts, part_fault}

@@ -2,9 +2,8 @@
 -- below each row that an earlier pass faulted in.
 use Rattle.std.specs.Prelude.{◌≡◌, ◌<◌, ◌≤◌, ◌+◌, ℕ, suc, List, [], ◌∷◌, length, take, Option, Some, None}
 use Rattle.std.specs.List.{enumerate_from}
-use Rattle.rdf_values.specs.declared.fault.EntryFault.{EntryFault}
-use Rattle.rdf_values.specs.declared.fault.Fault.{Fault}
-use Rattle.rdf_model.specs.Results.{fault_or, first_of}
+use Rattle.rdf_values.specs.{EntryFault, Fault}
+use Rattle.rdf_model.specs.{fault_or, first_of}
 
 -- the place of a row in a block, and the kind of its fault
 pub record RowFault : Type 0 where

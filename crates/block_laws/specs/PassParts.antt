@@ -1,15 +1,7 @@
 -- What a pass tries in a row, one part after another: its filters, its columns, and whether what they give can be fed.
 use Rattle.std.specs.Prelude.{ℕ, List, [], ◌∷◌, ◌++◌, map, Option, Some, None, if◌then◌else◌}
-use Rattle.rdf_values.specs.Bookings.{Booking, ActionAt, ReportOn, Pass, columns_of}
-use Rattle.rdf_values.specs.Path.{Path, Under}
-use Rattle.rdf_values.specs.Spread.{feed_fault}
-use Rattle.rdf_values.specs.declared.action.ActionKind.{ActionKind}
-use Rattle.rdf_values.specs.declared.fault.EntryFault.{EntryFault}
-use Rattle.rdf_values.specs.declared.value.Value.{Value}
-use Rattle.rdf_model.specs.Evaluation.{Outcome, Gives, Faults, Needs, for_all}
-use Rattle.rdf_model.specs.ColumnValues.{column_value}
-use Rattle.rdf_model.specs.EntryOutcomes.{through}
-use Rattle.rdf_model.specs.Results.{Dataset, fault_in, is_true}
+use Rattle.rdf_values.specs.{ActionAt, ActionKind, Booking, columns_of, EntryFault, feed_fault, Pass, Path, ReportOn, Under, Value}
+use Rattle.rdf_model.specs.{column_value, Dataset, fault_in, Faults, for_all, Gives, is_true, Needs, Outcome, through}
 
 -- the former kind, or else the latter
 abbrev pub kind_or : Option EntryFault → Option EntryFault → Option EntryFault

@@ -1,5 +1,5 @@
 // Laws of how a cluster is cut into blocks. Each function does nothing; its contract is the law, and its proof the law's.
-ghost use Rattle.block_laws.specs.Laws.{BlocksGoOn, BlocksLead, FirstBlockIsWhole, PlainBlocksAreEven};
+ghost use Rattle.block_laws.specs.{BlocksGoOn, BlocksLead, FirstBlockIsWhole, PlainBlocksAreEven};
 
 /// The blocks of some entries lead through them.
 pub fn blocks_lead()

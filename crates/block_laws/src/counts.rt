@@ -1,5 +1,5 @@
 // Laws of how much is evaluated. Each function does nothing; its contract is the law, and its proof the law's.
-ghost use Rattle.block_laws.specs.Counts.{CountGoesOn, MarkedAreWithin, PassDemandsAreDemanded};
+ghost use Rattle.block_laws.specs.{CountGoesOn, MarkedAreWithin, PassDemandsAreDemanded};
 
 /// What a pass demands of a row is among what all passes demand of it.
 pub fn pass_demands_are_demanded()

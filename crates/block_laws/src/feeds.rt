@@ -1,5 +1,5 @@
 // Laws of what a block feeds. Each function does nothing; its contract is the law, and its proof the law's.
-ghost use Rattle.block_laws.specs.Feeds.{BatchIsOfThePass, SelectedAloneFeed, SelectionNarrows, SelectionsAreCounted};
+ghost use Rattle.block_laws.specs.{BatchIsOfThePass, SelectedAloneFeed, SelectionNarrows, SelectionsAreCounted};
 
 /// A batch is what the pass by itself gives over the rows of the block.
 pub fn batch_is_of_the_pass()

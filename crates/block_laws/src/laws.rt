@@ -1,5 +1,5 @@
 // Laws of the search for a block's first fault. Each function does nothing; its contract is the law, and its proof the law's.
-ghost use Rattle.block_laws.specs.Laws.{BlockThenRest, LeadingBlocksHaveFirstFault, LimitFalls, PartsAreThePass, PartsGiveThePass, PassMajorIsFirstFault, SearchGoesOn};
+ghost use Rattle.block_laws.specs.{BlockThenRest, LeadingBlocksHaveFirstFault, LimitFalls, PartsAreThePass, PartsGiveThePass, PassMajorIsFirstFault, SearchGoesOn};
 
 /// The limit never rises, and is that of the best fault.
 pub fn limit_falls<R, P>()

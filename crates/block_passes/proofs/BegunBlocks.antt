@@ -3,51 +3,30 @@ use Rattle.std.proofs.Common.{◌≡◌, ℕ, List, [], ◌∷◌, length, sym, 
 use Rattle.std.specs.List.{AllByRecursion}
 use Rattle.std.proofs.lemmas.List.{length-map, length-take}
 use Rattle.std.proofs.lemmas.List.Elements.{All-from_recursion, recursion_from_All, All-weaker}
-use Rattle.rdf_values.specs.declared.value.ColType.{ColType}
-use Rattle.block_cache.specs.Lanes.{HaveRoom, LaneView, kinds_of, room_of, rooms_of, AreUnknown, IsUnknown, is_tried, value_of, tried_count}
-use Rattle.loop_keys.specs.Jobs.{JobView, job_graph, IsJob, passes_in}
-use Rattle.graph_numbers.specs.Graphs.{graph_sites, GraphView, graph_under}
-use Rattle.block_passes.specs.States.{AreDeepEnough, HaveKinds, IsStateOf, StateView, HaveCells, AreLoaded, IsBegunBlock}
+use Rattle.rdf_values.specs.{ColType, EachColumn, history, Value}
+use Rattle.block_cache.specs.{AreReady, AreUnknown, begun_at, begun_count, CanFill, HaveRoom, held_value, holds_at, is_tried, IsLoaded, IsUnknown, kinds_of, lane_begun, LaneView, room_of, rooms_of, size_for, tried_count, value_of}
+use Rattle.loop_keys.specs.{AreKeys, AreReadable, entry_demands, Held, IsJob, IsRight, job_graph, JobView, key, key_count, keys_in, passes_in, row_of, site_in, source_at}
+use Rattle.graph_numbers.specs.{graph_sites, graph_under, GraphView, IsBelow, SiteAt, Source, version_count}
+use Rattle.block_passes.specs.{AreDeepEnough, AreLoaded, block_demands, CanSelect, CanServe, CanServeAll, entries_from, HaveCells, HaveKinds, IsBegunBlock, IsFilterStep, IsPlan, IsReadyBelow, IsServable, IsSettledAt, IsStateOf, longer, StateView}
 use Rattle.block_passes.specs.declared.found.Found.{Found}
 use Rattle.block_passes.specs.declared.kept.Kept.{Kept}
 use Rattle.std.proofs.lemmas.Option.{get_or_from_slice_get, slice_get_within}
-use Rattle.rdf_values.specs.EachColumn.{EachColumn}
-use Rattle.rdf_values.specs.Path.{history}
 use Rattle.rdf_model.proofs.KnownColumns.{each_weaker}
-use Rattle.block_cache.specs.Sizes.{size_for}
 use Rattle.expr_lanes.specs.declared.TheConstants.{MAX_PLACES}
-use Rattle.graph_numbers.specs.Sites.{SiteAt}
-use Rattle.graph_numbers.specs.Sources.{IsBelow}
-use Rattle.graph_numbers.specs.Versions.{version_count}
-use Rattle.graph_numbers.specs.declared.source.Source.{Source}
-use Rattle.graph_numbers.specs.declared.source.Source.TheVariants as from
 use Rattle.graph_numbers.proofs.Equations.{columns_below}
-use Rattle.loop_keys.specs.Keys.{AreKeys, key, key_count}
-use Rattle.loop_keys.specs.Passes.{AreReadable}
-use Rattle.loop_keys.specs.Store.{IsRight, site_in, source_at, keys_in, row_of}
-use Rattle.loop_keys.specs.declared.held.Held.{Held}
-use Rattle.loop_keys.specs.declared.held.Held.TheVariants as held
 use Rattle.loop_keys.proofs.EvaluateLaws.{accepted_of}
-use Rattle.block_cache.specs.Blocks.{AreReady, held_value}
-use Rattle.block_cache.specs.Fills.{CanFill, IsLoaded, holds_at, lane_begun, begun_at, begun_count}
 use Rattle.block_cache.proofs.BlockLaws.{held_of_lane, lane_held}
 use Rattle.block_cache.proofs.CanFills.{can_fill_site}
-use Rattle.block_passes.specs.Inputs.{CanServe, IsServable}
-use Rattle.block_passes.specs.Plans.{IsPlan, IsFilterStep, longer}
-use Rattle.block_passes.specs.Tries.{CanSelect, IsReadyBelow, CanServeAll}
-use Rattle.block_passes.specs.Spends.{IsSettledAt, Spends}
-use Rattle.block_passes.specs.declared.steps.Step.TheVariants as step
+use Rattle.block_passes.specs.Spends.{Spends}
+use Rattle.block_passes.specs.declared.steps.Step.{Step}
 use Rattle.block_passes.proofs.SiteKinds.{filter_kind, site_kinds}
 use Rattle.block_passes.proofs.Demanding.{inputs_readable, site_there}
 use Rattle.std.proofs.lemmas.List.Sums.{sum_by-cons}
-use Rattle.lemmas.proofs.Parts.{range_length}
-use Rattle.rdf_values.specs.declared.value.Value.{Value}
-use Rattle.expr_lanes.specs.Places.{is_marked}
-use Rattle.block_laws.specs.Counts.{marked_at, marked_in, row_demands}
+use Rattle.lemmas.proofs.{range_length}
+use Rattle.expr_lanes.specs.{is_marked}
+use Rattle.block_laws.specs.{marked_at, marked_in, row_demands}
 use Rattle.block_laws.proofs.Lanes.{marked_within}
-use Rattle.loop_keys.specs.Entries.{entry_demands}
 use Rattle.loop_keys.proofs.DemandCounts.{few_keys, has_all, keys_of_all}
-use Rattle.block_passes.specs.Clusters.{block_demands, entries_from}
 use Rattle.block_passes.proofs.Searching.{row_in_block}
 
 same_rooms : (n : ℕ) (before after : List LaneView) → rooms_of after ≡ rooms_of before → AllByRecursion (λ (l : LaneView). room_of l ≡ n) before → AllByRecursion (λ (l : LaneView). room_of l ≡ n) after
@@ -101,12 +80,12 @@ module _ (count : ℕ) (lanes : List LaneView) (unknown : AreUnknown count lanes
       go None q b = cc b
       go (Some l) q b = let u = all_get (IsUnknown count) lanes unknown k l q in let n : is_tried l p ≡ false = u.tried p in absurd (cc (sym n ∙ b))
 
-  nothing_held : (k p : ℕ) → lane_held (slice_get lanes k) p ≡ held.Nothing
+  nothing_held : (k p : ℕ) → lane_held (slice_get lanes k) p ≡ Held.Nothing
   nothing_held k p = go (slice_get lanes k) refl
     where
-      go : (o : Option LaneView) → slice_get lanes k ≡ o → lane_held o p ≡ held.Nothing
+      go : (o : Option LaneView) → slice_get lanes k ≡ o → lane_held o p ≡ Held.Nothing
       go None q = refl
-      go (Some l) q = let u = all_get (IsUnknown count) lanes unknown k l q in ap (λ b. if b then held_value (value_of l p) else held.Nothing) (u.held p)
+      go (Some l) q = let u = all_get (IsUnknown count) lanes unknown k l q in ap (λ b. if b then held_value (value_of l p) else Held.Nothing) (u.held p)
 
   pub unknown_ready : (j : JobView) (first : ℕ) → length lanes ≡ key_count (job_graph j) → 0 < count → first + count ≤ length j.dataset.rows → AreReady j first count lanes
   unknown_ready j first many some within = record {
@@ -157,9 +136,9 @@ module _ (j : JobView) (job : IsJob j) (first count : ℕ) (s : StateView) (stat
       never made e = cc e
 
   source_loaded : (x : Source) → IsLoaded j first count s.cells x
-  source_loaded (from.Cell col) = loaded col
-  source_loaded (from.Site t) = tt
-  source_loaded (from.Element t k tags) = tt
+  source_loaded (Source.Cell col) = loaded col
+  source_loaded (Source.Site t) = tt
+  source_loaded (Source.Element t k tags) = tt
 
   -- each site can be filled
   pub can_fill : (u : Option ℕ) (t : ℕ) → t < length (graph_sites (job_graph j)) → CanFill j first u count (kinds_of s.lanes) s.cells s.scratch s.levels t
@@ -181,19 +160,19 @@ module _ (j : JobView) (job : IsJob j) (first count : ℕ) (s : StateView) (stat
         h.2 ∙ ap Some (filter_kind j job (longer f.up site u) f.up.sites site refl (state.plan.tried k (longer f.up site u) f.own) h.0 h.1));
   }
     where
-      its_step : (k parent site : ℕ) (u : Option ℕ) → slice_get s.plan.steps k ≡ Some (step.Filter parent site u) → IsFilterStep state.plan.chains k parent site u
-      its_step k parent site u at = state.plan.steps.each k (step.Filter parent site u) at
+      its_step : (k parent site : ℕ) (u : Option ℕ) → slice_get s.plan.steps k ≡ Some (Step.Filter parent site u) → IsFilterStep state.plan.chains k parent site u
+      its_step k parent site u at = state.plan.steps.each k (Step.Filter parent site u) at
 
-      inside : (k parent site : ℕ) (u : Option ℕ) → slice_get s.plan.steps k ≡ Some (step.Filter parent site u) → site < length (graph_sites (job_graph j))
+      inside : (k parent site : ℕ) (u : Option ℕ) → slice_get s.plan.steps k ≡ Some (Step.Filter parent site u) → site < length (graph_sites (job_graph j))
       inside k parent site u at = let f = its_step k parent site u at in site_there j job (longer f.up site u) f.up.sites site refl (state.plan.tried k (longer f.up site u) f.own)
 
   serve : CanServeAll j first count (kinds_of s.lanes) s.cells s.scratch s.levels
   serve n k inputs u read = each inputs (inputs_readable j job n k inputs u read)
     where
       servable : (x : Source) → IsBelow (length j.dataset.columns) (length (graph_sites (job_graph j))) x → IsServable j first u count (kinds_of s.lanes) s.cells s.scratch s.levels x
-      servable (from.Cell col) below = (below, loaded col)
-      servable (from.Site t) below = (below, can_fill u t below)
-      servable (from.Element t i tags) below = (below, can_fill u t below)
+      servable (Source.Cell col) below = (below, loaded col)
+      servable (Source.Site t) below = (below, can_fill u t below)
+      servable (Source.Element t i tags) below = (below, can_fill u t below)
 
       each : (cs : List ℕ) → AreReadable j u cs → AllByRecursion (CanServe j first u count (kinds_of s.lanes) s.cells s.scratch s.levels) cs
       each [] h = tt

@@ -1,43 +1,30 @@
 -- A block that was searched without a fault is clear, and is taken in.
 use Rattle.std.proofs.Common.{◌≡◌, ℕ, ◌+◌, ◌-◌, ◌*◌, ◌≤◌, List, length, None, Some, Ok, Err, refl, ◌∙◌, ap, subst, arith, slice_get, ◌<◌, map, Option, sym, Result, slice_range}
 use Rattle.std.proofs.lemmas.Option.{slice_get_within}
-use Rattle.lemmas.proofs.Places.{something_at}
-use Rattle.rdf_model.specs.LoopFacts.{kinds_in, spreads_of}
-use Rattle.rdf_model.specs.Results.{first_fault_from, first_of}
-use Rattle.graph_numbers.specs.Graphs.{graph_filters}
-use Rattle.block_cache.specs.Lanes.{LaneView}
-use Rattle.cluster_tally.specs.Blocks.{BlockStage, HoldsIn, block_begin}
-use Rattle.cluster_tally.specs.Stages.{Stage, at_begin}
-use Rattle.cluster_tally.specs.Tallies.{Holds, TallyView}
+use Rattle.lemmas.proofs.{map_length, range_length, something_at}
+use Rattle.rdf_model.specs.{first_fault_from, first_of, kinds_in, span_rows, spreads_of}
+use Rattle.graph_numbers.specs.{graph_filters}
+use Rattle.block_cache.specs.{LaneView}
+use Rattle.cluster_tally.specs.{at_begin, block_begin, BlockStage, Holds, HoldsIn, Stage, TallyView}
 use Rattle.cluster_tally.proofs.BlockFeeds.{begins_block, ends_block}
-use Rattle.loop_keys.specs.Jobs.{JobView, job_graph, passes_in, IsJob}
+use Rattle.loop_keys.specs.{facts_in, IsJob, job_graph, job_spans, JobView, passes_in}
 use Rattle.loop_keys.proofs.PassTies.{pass_of}
-use Rattle.loop_keys.specs.Entries.{facts_in, job_spans}
-use Rattle.block_passes.specs.Clusters.{IsBefore, IsBlockAnswer, IsBlockTried, after_block, block_demands, block_rows, entries_from, IsBlockOf, IsClusterAnswer, at_end, at_entry, demands_in, span_demands}
-use Rattle.block_passes.specs.Fed.{IsClear, IsAmid, IsOverAll, at_filter, at_pass}
-use Rattle.block_passes.specs.Plans.{IsPlan, PlanView}
-use Rattle.block_passes.specs.Tries.{IsMadeAt, IsReadyBelow, IsPlanMade, IsSearchedTo}
+use Rattle.block_passes.specs.{after_block, at_end, at_entry, at_filter, at_pass, block_demands, block_rows, demands_in, entries_from, IsBefore, IsBlockAnswer, IsBlockOf, IsBlockTried, IsClear, IsClusterAnswer, IsMadeAt, IsOverAll, IsPlan, IsPlanMade, IsReadyBelow, IsSearchedTo, PlanView, span_demands}
+use Rattle.block_passes.specs.Fed.{IsAmid}
 use Rattle.block_passes.specs.declared.found.Found.{Found}
 use Rattle.block_passes.specs.declared.kept.Kept.{Kept}
 use Rattle.block_passes.specs.declared.stop.BlockStop.{BlockStop}
 use Rattle.block_passes.proofs.Feeding.{filters_many}
 use Rattle.std.proofs.lemmas.List.{length-map}
-use Rattle.lemmas.proofs.Appended.{map_length}
-use Rattle.lemmas.proofs.Parts.{range_length}
 use Rattle.rdf_values.proofs.Leading.{cuts_lead}
-use Rattle.rdf_values.specs.declared.fault.Fault.{Fault}
-use Rattle.rdf_values.specs.declared.span.Span.{Span}
-use Rattle.rdf_model.specs.PartialResults.{span_rows}
+use Rattle.rdf_values.specs.{Fault, Span, Value}
 use Rattle.columns.proofs.Joining.{span_within}
-use Rattle.loop_pieces.specs.Whole.{begin_of, cluster_fault}
+use Rattle.loop_pieces.specs.{begin_of, cluster_fault}
 use Rattle.loop_pieces.proofs.Places.{range_none}
-use Rattle.block_laws.specs.Blocks.{IsFirst, first_length, row_elements}
-use Rattle.block_laws.specs.Counts.{cluster_demands}
+use Rattle.block_laws.specs.{cluster_demands, first_length, IsFirst, row_elements}
 use Rattle.block_laws.proofs.BlockCuts.{first_is}
 use Rattle.block_laws.proofs.BlockFaults.{block_then_rest, is_first_fault}
 use Rattle.block_laws.proofs.Costs.{count_goes_on}
-use Rattle.block_passes.specs.declared.stop.BlockStop.TheVariants as stop
-use Rattle.rdf_values.specs.declared.value.Value.{Value}
 
 -- ---- the search
 
@@ -206,8 +193,8 @@ module _ (j : JobView) (job : IsJob j) (cluster size keys : ℕ) (some : 1 ≤ s
     cost_here last bound = let c = counts.2 in let a = at.cost in let e = demands_are in omega (arith, c, a, e, bound)
 
     pub answer_here : (why : BlockStop) → IsBlockAnswer j b (Err why) → IsClusterAnswer j cluster (Err why)
-    answer_here (stop.Fault f) h = at.fault ∙ rest_fault ∙ ap (λ o. first_of o (first_fault_from j.dataset hi (slice_range j.dataset.rows hi span.hi) (passes_in j))) h
-    answer_here stop.Memory h = tt
+    answer_here (BlockStop.Fault f) h = at.fault ∙ rest_fault ∙ ap (λ o. first_of o (first_fault_from j.dataset hi (slice_range j.dataset.rows hi span.hi) (passes_in j))) h
+    answer_here BlockStop.Memory h = tt
 
   -- ---- the end
 

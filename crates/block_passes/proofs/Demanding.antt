@@ -1,39 +1,21 @@
 -- The sites that a loop tries are there.
 use Rattle.std.proofs.Common.{◌≡◌, inl, inr, ℕ, ◌<◌, true, List, [], ◌∷◌, ◌++◌, length, sym, ◌∙◌, ap, subst, append_assoc, Option, Bool, false, None, Some, slice_get, unwrap_or, if◌then◌else◌, All}
 use Rattle.std.specs.List.{AllByRecursion}
-use Rattle.rdf_values.specs.Bookings.{Booking, ActionAt}
-use Rattle.rdf_values.specs.Functions.{fn_names}
-use Rattle.rdf_values.specs.Path.{history}
-use Rattle.graph_numbers.specs.Graphs.{graph_sites, graph_under, graph_filters}
+use Rattle.rdf_values.specs.{ActionAt, ActionKind, Booking, fn_names, history, Value}
+use Rattle.graph_numbers.specs.{FilterAt, graph_filters, graph_sites, graph_under, HasFilters, IfPassed, Pass as NumberedPass, ResultAt, through_sites}
 use Rattle.graph_numbers.proofs.Extending.{itself, versions_count}
 use Rattle.graph_numbers.proofs.Ranges.{filters_below}
 use Rattle.std.proofs.lemmas.List.Elements.{recursion_from_All}
-use Rattle.loop_keys.specs.Caches.{IsPlainLoop, IsCovered}
-use Rattle.loop_keys.specs.Jobs.{IsJob, JobView, job_graph}
+use Rattle.loop_keys.specs.{AreReadable, demand_key, HasAllDemands, HasPassed, HasTried, IsCovered, IsJob, IsPlainLoop, job_graph, JobView, row_of, site_in}
 use Rattle.loop_keys.proofs.ActionNumbers.{IsSoundBooking, result_sound, IsGivenBelow, IsSoundAction}
 use Rattle.loop_keys.proofs.EvaluateLaws.{accepted_of}
-use Rattle.block_passes.specs.Plans.{IsTried, IsActionOf, Chain}
-use Rattle.rdf_values.specs.declared.action.ActionKind.{ActionKind}
-use Rattle.loop_keys.specs.Passes.{AreReadable}
-use Rattle.block_passes.specs.Tries.{IsReadOf}
-use Rattle.rdf_values.specs.declared.value.Value.{Value}
-use Rattle.rdf_model.specs.Demanded.{Demand, booking_demands, filter_demands}
-use Rattle.rdf_model.specs.Evaluation.{Outcome, Gives, Faults, Needs, ◌>>=◌}
-use Rattle.rdf_model.specs.EntryOutcomes.{truth_of}
-use Rattle.rdf_model.specs.Results.{is_true}
-use Rattle.graph_numbers.specs.Meets.{HasFilters, IfPassed}
-use Rattle.graph_numbers.specs.Outcomes.{through_sites}
-use Rattle.graph_numbers.specs.Results.{FilterAt, ResultAt}
-use Rattle.graph_numbers.specs.declared.pass.Pass.{Pass as NumberedPass}
+use Rattle.block_passes.specs.{Chain, Demands, IsActionOf, IsDemandedAt, IsReadOf, IsTried}
+use Rattle.rdf_model.specs.{◌>>=◌, booking_demands, Demand, Faults, filter_demands, Gives, is_true, Needs, Outcome, truth_of}
 use Rattle.graph_numbers.proofs.Closing.{IsDemanded, then_wider, wider_filters, wider_inputs}
 use Rattle.graph_numbers.proofs.Reporting.{IsActionDemanded, IsFilterDemanded, filter_demanded, result_demanded}
-use Rattle.loop_keys.specs.Keys.{demand_key}
-use Rattle.loop_keys.specs.Store.{HasPassed, HasTried, row_of, site_in}
 use Rattle.loop_keys.proofs.DemandSets.{demanded_in, demands_closed, demands_keys, in_demands}
 use Rattle.loop_keys.proofs.PassTies.{pass_of}
-use Rattle.loop_keys.specs.Turns.{HasAllDemands}
 use Rattle.loop_keys.proofs.ReportTies.{has_filter}
-use Rattle.block_passes.specs.Spends.{Demands, IsDemandedAt}
 
 pub all_at : (P : ℕ → Type 0) (up rest : List ℕ) (s : ℕ) → AllByRecursion P (up ++ s ∷ rest) → P s
 all_at P [] rest s h = h.0

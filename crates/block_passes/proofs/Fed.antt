@@ -4,49 +4,24 @@ use Rattle.std.specs.List.{range_with_len}
 use Rattle.std.proofs.lemmas.Bool.Decides.{Decides-eqb, Decides-ltb}
 use Rattle.std.proofs.lemmas.List.Elements.{All-cons, All-nil, All-get_or}
 use Rattle.std.proofs.lemmas.List.FromFn.{length-range_with_len}
-use Rattle.rdf_values.specs.Spread.{feed_fault, spread}
-use Rattle.rdf_values.specs.declared.action.ActionKind.{ActionKind}
-use Rattle.rdf_values.specs.declared.action.ActionKind.TheVariants as kind
-use Rattle.rdf_values.specs.declared.fault.EntryFault.{EntryFault}
-use Rattle.rdf_values.specs.declared.value.Value.{Value}
-use Rattle.rdf_model.specs.Evaluation.{Outcome, Gives, Faults, Needs, ◌>>=◌, for_all}
-use Rattle.actions.specs.Batches.{HasValues, SuitsAt, fault_or_later, first_fault_in, values_at, batch_items, places_of}
-use Rattle.actions.specs.declared.batch.PlaceFault.{PlaceFault as BatchFault}
-use Rattle.actions.specs.declared.batch.Sources.{Sources}
-use Rattle.expr_lanes.specs.Places.{AreRising, EachPlace, is_in}
-use Rattle.block_cache.specs.Lanes.{LaneView}
-use Rattle.loop_keys.specs.Jobs.{JobView, IsJob, passes_in}
-use Rattle.block_cache.specs.Blocks.{AreReady}
-use Rattle.block_cache.specs.Fills.{fault_before, fault_over}
-use Rattle.block_cache.specs.declared.faults.PlaceFault.{PlaceFault}
-use Rattle.block_passes.specs.Feeds.{AreLanesOf, of_batch}
-use Rattle.block_passes.specs.Inputs.{IsServedTo, AreAtHand}
-use Rattle.block_passes.specs.Searches.{feeding_fault, Lowers, noted, where_in}
-use Rattle.block_passes.specs.Tries.{IsNarrowed, AreKept, IsReadOf}
-use Rattle.block_passes.specs.Spends.{IsSettledAt}
+use Rattle.rdf_values.specs.{ActionKind, EntryFault, feed_fault, Memory, Pass, spread, Value}
+use Rattle.rdf_model.specs.{◌>>=◌, Faults, for_all, Gives, is_true, kinds_in, Needs, Outcome}
+use Rattle.actions.specs.{Batch, batch_items, fault_or_later, first_fault_in, HasValues, IsTake, PlaceFault as BatchFault, places_of, Sources, SuitsAt, values_at}
+use Rattle.expr_lanes.specs.{AreRising, EachPlace, is_in}
+use Rattle.block_cache.specs.{AreReady, fault_before, fault_over, LaneView, PlaceFault}
+use Rattle.loop_keys.specs.{actions_before, facts_in, IsActionBooking, IsActionPass, IsJob, IsNoTake, JobView, passes_in, site_in, version_in}
+use Rattle.block_passes.specs.{AreAtHand, AreKept, AreLanesOf, at_pass, CanFeedAny, feeding_fault, IsClear, IsFeedable, IsLast, IsNarrowed, IsPlan, IsReadOf, IsServedTo, IsSettledAt, Lowers, noted, of_batch, PlanView, where_in}
 use Rattle.block_passes.specs.declared.found.Found.{Found}
 use Rattle.block_passes.specs.declared.kept.Kept.{Kept}
 use Rattle.block_passes.proofs.Places.{over_lowers, chosen_below, in_chosen}
-use Rattle.lemmas.proofs.Booleans.{or_true}
+use Rattle.lemmas.proofs.{or_true}
 use Rattle.block_cache.proofs.LaneSteps.{filter_all}
 use Rattle.std.proofs.lemmas.Option.{slice_get-get_or, slice_get_within}
-use Rattle.rdf_values.specs.declared.memory.Memory.{Memory}
-use Rattle.rdf_model.specs.Results.{is_true}
-use Rattle.actions.specs.Holding.{IsTake}
-use Rattle.actions.specs.declared.batch.Batch.{Batch}
-use Rattle.graph_numbers.specs.Outcomes.{through_sites}
-use Rattle.cluster_tally.specs.Blocks.{BlockStage, CanFeedBatch, HoldsIn, block_items, pass_done}
-use Rattle.cluster_tally.specs.Tallies.{TallyView}
-use Rattle.loop_keys.specs.Store.{site_in, version_in}
-use Rattle.loop_keys.specs.Entries.{facts_in, IsNoTake}
-use Rattle.loop_keys.specs.Turns.{actions_before}
+use Rattle.graph_numbers.specs.{through_sites}
+use Rattle.cluster_tally.specs.{block_items, BlockStage, CanFeedBatch, HoldsIn, pass_done, TallyView}
 use Rattle.block_cache.proofs.Members.{filter_short}
-use Rattle.block_passes.specs.Fed.{IsAmid, at_pass, CanFeedAny, IsFeedable, IsClear}
-use Rattle.block_passes.specs.Plans.{IsLast, IsPlan, PlanView}
+use Rattle.block_passes.specs.Fed.{IsAmid}
 use Rattle.block_passes.proofs.Feeding.{block_within, its_places, block_kind, feeds}
-use Rattle.rdf_values.specs.Bookings.{Pass}
-use Rattle.rdf_model.specs.LoopFacts.{kinds_in}
-use Rattle.loop_keys.specs.Caches.{IsActionBooking, IsActionPass}
 use Rattle.loop_keys.proofs.PassNumbers.{some_same}
 use Rattle.loop_keys.proofs.PassTies.{pass_of}
 use Rattle.loop_keys.proofs.EntryLaws.{all_actions}
@@ -120,24 +95,24 @@ module _ (k : ActionKind) (s : Sources) (o : ℕ → Outcome ⊥ (List Value)) (
 -- ---- an action that reads fewer than two columns
 
 nothing_weighed : (k : ActionKind) (v : Value) → feed_fault k (v ∷ []) ≡ None
-nothing_weighed kind.Count v = refl
-nothing_weighed (kind.Sum c) v = refl
-nothing_weighed (kind.Min c) v = refl
-nothing_weighed (kind.Max c) v = refl
-nothing_weighed (kind.Take c) v = refl
-nothing_weighed (kind.Reduce o c) v = refl
-nothing_weighed (kind.Histo1D edges x w) v = refl
-nothing_weighed (kind.Histo2D xs ys x y w) v = refl
+nothing_weighed ActionKind.Count v = refl
+nothing_weighed (ActionKind.Sum c) v = refl
+nothing_weighed (ActionKind.Min c) v = refl
+nothing_weighed (ActionKind.Max c) v = refl
+nothing_weighed (ActionKind.Take c) v = refl
+nothing_weighed (ActionKind.Reduce o c) v = refl
+nothing_weighed (ActionKind.Histo1D edges x w) v = refl
+nothing_weighed (ActionKind.Histo2D xs ys x y w) v = refl
 
 nothing_fed : (k : ActionKind) → feed_fault k [] ≡ None
-nothing_fed kind.Count = refl
-nothing_fed (kind.Sum c) = refl
-nothing_fed (kind.Min c) = refl
-nothing_fed (kind.Max c) = refl
-nothing_fed (kind.Take c) = refl
-nothing_fed (kind.Reduce o c) = refl
-nothing_fed (kind.Histo1D edges x w) = refl
-nothing_fed (kind.Histo2D xs ys x y w) = refl
+nothing_fed ActionKind.Count = refl
+nothing_fed (ActionKind.Sum c) = refl
+nothing_fed (ActionKind.Min c) = refl
+nothing_fed (ActionKind.Max c) = refl
+nothing_fed (ActionKind.Take c) = refl
+nothing_fed (ActionKind.Reduce o c) = refl
+nothing_fed (ActionKind.Histo1D edges x w) = refl
+nothing_fed (ActionKind.Histo2D xs ys x y w) = refl
 
 -- one value that is there can be fed
 pub few_fed : (k : ActionKind) (f : ℕ → Outcome ⊥ Value) (cs : List ℕ) → length cs < 2 → feeding_fault k (for_all f cs) ≡ None
@@ -265,14 +240,14 @@ read_action j n k inputs u own =
     subst (λ (o : Option Pass). MatchOption o ⊥ (λ (p : Pass). IsActionBooking p.result.booking)) (sym (pass_of j n own.numbered own.action.its_pass own.result own.action.its_result)) (subst IsActionBooking (sym own.action.booking) tt)
 
 no_take : (k : ActionKind) → IsNoTake k → IsTake k → ⊥
-no_take (kind.Take c) h take = h
-no_take kind.Count h take = take
-no_take (kind.Sum c) h take = take
-no_take (kind.Min c) h take = take
-no_take (kind.Max c) h take = take
-no_take (kind.Reduce o c) h take = take
-no_take (kind.Histo1D edges c w) h take = take
-no_take (kind.Histo2D xs ys c d w) h take = take
+no_take (ActionKind.Take c) h take = h
+no_take ActionKind.Count h take = take
+no_take (ActionKind.Sum c) h take = take
+no_take (ActionKind.Min c) h take = take
+no_take (ActionKind.Max c) h take = take
+no_take (ActionKind.Reduce o c) h take = take
+no_take (ActionKind.Histo1D edges c w) h take = take
+no_take (ActionKind.Histo2D xs ys c d w) h take = take
 
 -- no pass of a loop without Takes takes
 pub takes_none : (j : JobView) (n : ℕ) (k : ActionKind) (inputs : List ℕ) (u : Option ℕ) → IsReadOf j n k inputs u → All IsNoTake (kinds_in (passes_in j)) → IsTake k → ⊥

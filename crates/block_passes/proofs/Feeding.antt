@@ -3,49 +3,26 @@ use Rattle.std.proofs.Common.{◌≡◌, ℕ, zero, suc, ◌+◌, ◌<◌, ◌�
 use Rattle.std.specs.List.{range_with_len}
 use Rattle.std.proofs.lemmas.List.{length-map}
 use Rattle.std.proofs.lemmas.List.Sums.{sum_by-cons}
-use Rattle.lemmas.proofs.Parts.{range_length}
-use Rattle.lemmas.proofs.Places.{mapped_at, something_at}
-use Rattle.rdf_values.specs.Bookings.{Booking, Pass, named_before}
-use Rattle.rdf_values.specs.Path.{history}
-use Rattle.rdf_values.specs.Spread.{feed_fault, spread}
-use Rattle.rdf_values.specs.declared.action.ActionKind.{ActionKind}
-use Rattle.rdf_values.specs.declared.fault.EntryFault.{EntryFault}
-use Rattle.rdf_values.specs.declared.item.Item.{Item}
-use Rattle.rdf_values.specs.declared.span.Span.{Span}
-use Rattle.rdf_values.specs.declared.value.Value.{Value}
-use Rattle.rdf_model.specs.EntryOutcomes.{Entry, Skip, action_outcome, feed_outcome, truth_of, unless_fault}
-use Rattle.rdf_model.specs.Evaluation.{Outcome, Faults, Gives, Needs, ◌>>=◌, for_all}
-use Rattle.rdf_model.specs.LoopFacts.{filter_reach, if_there, is_covered, is_passed, is_reached, list_at, reaches_of, spreads_of}
-use Rattle.rdf_model.specs.PartialResults.{span_rows}
-use Rattle.rdf_model.specs.Results.{fault_in, is_true, items_fed, items_of}
-use Rattle.rdf_model.specs.declared.loop_facts.Reach.{Reach}
+use Rattle.lemmas.proofs.{mapped_at, range_length, something_at}
+use Rattle.rdf_values.specs.{ActionKind, Booking, EntryFault, feed_fault, history, Item, named_before, Pass, Span, spread, Value}
+use Rattle.rdf_model.specs.{◌>>=◌, action_outcome, Entry, fault_in, Faults, feed_outcome, filter_reach, for_all, Gives, if_there, is_covered, is_passed, is_reached, is_true, items_fed, items_of, list_at, Needs, Outcome, Reach, reaches_of, Skip, span_rows, spreads_of, truth_of, unless_fault}
 use Rattle.rdf_model.specs.declared.loop_facts.Reach.TheVariants.{Failed, Passed, Stopped}
-use Rattle.graph_numbers.specs.Graphs.{graph_filters, graph_under}
-use Rattle.graph_numbers.specs.Outcomes.{action_numbers, booking_numbers, through_sites}
-use Rattle.graph_numbers.specs.Results.{FilterAt, ResultAt}
-use Rattle.graph_numbers.specs.declared.pass.Pass.{Pass as NumberedPass}
-use Rattle.cluster_tally.specs.Blocks.{BlockStage, block_items, block_reaches, CanNoteCounts, HoldsIn, IsWithin}
-use Rattle.cluster_tally.specs.Stages.{counted}
-use Rattle.loop_keys.specs.Jobs.{IsJob, JobView, job_graph, outcome_of, pass_outcome, passes_in}
-use Rattle.loop_keys.specs.Store.{row_of, site_in, version_in}
+use Rattle.graph_numbers.specs.{action_numbers, booking_numbers, FilterAt, graph_filters, graph_under, Pass as NumberedPass, ResultAt, through_sites}
+use Rattle.cluster_tally.specs.{block_items, block_reaches, BlockStage, CanNoteCounts, counted, HoldsIn, IsWithin, TallyView}
+use Rattle.loop_keys.specs.{actions_before, covered_in, facts_in, IsJob, job_graph, job_spans, JobView, outcome_of, pass_outcome, passes_in, row_of, site_in, version_in}
 use Rattle.loop_keys.proofs.NamedLaws.{stopped_answer, tried_answer}
 use Rattle.loop_keys.proofs.PassTies.{pass_answer, pass_of}
 use Rattle.loop_keys.proofs.TableLaws.{row_there}
-use Rattle.loop_keys.specs.Entries.{facts_in, job_spans}
-use Rattle.loop_keys.specs.Turns.{actions_before}
 use Rattle.loop_keys.proofs.Covered.{cover_at, covered_count}
 use Rattle.loop_keys.proofs.Taken.{at_place, covered_reach, uncovered_reach}
-use Rattle.loop_keys.specs.Plans.{covered_in}
 use Rattle.block_passes.specs.Laws as law
-use Rattle.block_passes.specs.Plans.{IsActionOf, IsLast, IsNamed, IsPlan, PlanView, through_chain, Chain}
+use Rattle.block_passes.specs.{AreCountable, AreKept, at_filter, Chain, IsActionOf, IsLast, IsMade, IsNamed, IsPlan, PlanView, through_chain}
 use Rattle.block_passes.proofs.Searching.{get_dropped, row_in_block, through_more, last_through}
 use Rattle.block_passes.proofs.Places.{filter_alike, flat_filtered_range, flat_first}
 use Rattle.loop_keys.proofs.PassNumbers.{some_same}
 use Rattle.std.proofs.lemmas.Option.{slice_get-get_or, slice_get_within}
-use Rattle.loop_pieces.specs.declared.flow.Counts.{Counts}
-use Rattle.cluster_tally.specs.Tallies.{TallyView}
-use Rattle.block_passes.specs.Fed.{AreCountable, IsAmid, at_filter}
-use Rattle.block_passes.specs.Tries.{AreKept, IsMade}
+use Rattle.loop_pieces.specs.{Counts}
+use Rattle.block_passes.specs.Fed.{IsAmid}
 use Rattle.block_passes.specs.declared.kept.Kept.{Kept}
 use Rattle.block_passes.specs.declared.plan.NamedSteps.{NamedSteps}
 

@@ -2,16 +2,10 @@
 use Rattle.std.proofs.Common.{◌≡◌, ◌⊎◌, inl, inr, ℕ, ℤ, zero, suc, ◌+◌, ◌-◌, ◌*◌, ◌<◌, ◌≤◌, Bool, true, false, ◌&&◌, List, [], ◌∷◌, length, map, min, take, drop, Some, refl, sym, ◌∙◌, ap, subst, arith, slice_get, if◌then◌else◌, nat_le, option_and_then, option_map, slice_range, sum_by, unwrap_or, drop-cons}
 use Rattle.std.proofs.lemmas.Bool.{le-leb, le-ltb, lt-leb, lt-ltb}
 use Rattle.std.proofs.lemmas.List.Sums.{sum_by-cons, sum_by-append}
-use Rattle.lemmas.proofs.Parts.{range_length, take_next}
-use Rattle.lemmas.proofs.Places.{something_at}
-use Rattle.rdf_values.specs.Tables.{FitsColumn, FitsKind, FitRows, FitsRow, IsTable, TableView, cell, kind_at}
-use Rattle.rdf_values.specs.declared.column.Column.{Column}
-use Rattle.rdf_values.specs.declared.value.ColType.{ColType}
-use Rattle.rdf_values.specs.declared.value.ColType.TheVariants as kind
-use Rattle.rdf_values.specs.declared.value.Value.{Value}
-use Rattle.rdf_values.specs.declared.value.Value.TheVariants as val
+use Rattle.lemmas.proofs.{range_length, something_at, take_next}
+use Rattle.rdf_values.specs.{cell, ColType, Column, FitRows, FitsColumn, FitsKind, FitsRow, IsTable, kind_at, TableView, Value}
 use Rattle.loop_pieces.proofs.Places.{range_none}
-use Rattle.block_laws.specs.Blocks.{elements_in, first_length, more_fit, one_more_fits, row_elements}
+use Rattle.block_laws.specs.{elements_in, first_length, more_fit, one_more_fits, row_elements}
 use Rattle.block_laws.proofs.BlockCuts.{plain_first}
 use Rattle.std.proofs.lemmas.List.{take_all}
 use Rattle.rdf_values.proofs.Rows.{fits_length}
@@ -31,39 +25,39 @@ fits_at (c ∷ cs) [] i h lt = elim h [ ]
 fits_at (c ∷ cs) (v ∷ vs) zero h lt = (c, v, refl, refl, h.0)
 fits_at (c ∷ cs) (v ∷ vs) (suc i) h lt = fits_at cs vs i h.1 (omega (arith, lt))
 
-no_elements : (v : Value) → FitsKind kind.Int v → elements_in v ≡ 0
-no_elements (val.Int z) h = refl
-no_elements (val.Bool b) h = refl
-no_elements (val.Vect zs) h = elim h [ ]
+no_elements : (v : Value) → FitsKind ColType.Int v → elements_in v ≡ 0
+no_elements (Value.Int z) h = refl
+no_elements (Value.Bool b) h = refl
+no_elements (Value.Vect zs) h = elim h [ ]
 
-no_truths : (v : Value) → FitsKind kind.Bool v → elements_in v ≡ 0
-no_truths (val.Int z) h = refl
-no_truths (val.Bool b) h = refl
-no_truths (val.Vect zs) h = elim h [ ]
+no_truths : (v : Value) → FitsKind ColType.Bool v → elements_in v ≡ 0
+no_truths (Value.Int z) h = refl
+no_truths (Value.Bool b) h = refl
+no_truths (Value.Vect zs) h = elim h [ ]
 
 module _ (t : TableView) (table : IsTable t) (e i : ℕ) (inside : i < length t.columns) where
   -- a cell of another column than one of vectors has no elements
-  pub plain_cell : (k : ColType) → kind_at t.columns i ≡ Some k → (k ≡ kind.Vect → ⊥) → (row : List Value) (v : Value) → slice_get t.rows e ≡ Some row → slice_get row i ≡ Some v → 0 ≡ elements_in v
+  pub plain_cell : (k : ColType) → kind_at t.columns i ≡ Some k → (k ≡ ColType.Vect → ⊥) → (row : List Value) (v : Value) → slice_get t.rows e ≡ Some row → slice_get row i ≡ Some v → 0 ≡ elements_in v
   plain_cell k its other row v here at =
       let w = fits_at t.columns row i (row_fits t.columns t.rows e row table.fit here) inside in
       let same : w.0.kind ≡ k = some_same w.0.kind k (sym (ap (option_map (λ (c : Column). c.kind)) w.2) ∙ its) in
       let is : w.1 ≡ v = some_same w.1 v (sym w.3 ∙ at) in
       go k other (subst (λ (q : ColType). FitsKind q v) same (subst (λ (x : Value). FitsKind w.0.kind x) is w.4.0))
     where
-      go : (q : ColType) → (q ≡ kind.Vect → ⊥) → FitsKind q v → 0 ≡ elements_in v
-      go kind.Int o f = sym (no_elements v f)
-      go kind.Bool o f = sym (no_truths v f)
-      go kind.Vect o f = absurd (o refl)
+      go : (q : ColType) → (q ≡ ColType.Vect → ⊥) → FitsKind q v → 0 ≡ elements_in v
+      go ColType.Int o f = sym (no_elements v f)
+      go ColType.Bool o f = sym (no_truths v f)
+      go ColType.Vect o f = absurd (o refl)
 
   -- a vector has few
-  pub vect_cell : kind_at t.columns i ≡ Some kind.Vect → e < length t.rows → (zs : List ℤ) → cell t e i ≡ Some (val.Vect zs) → length zs ≤ 4096
+  pub vect_cell : kind_at t.columns i ≡ Some ColType.Vect → e < length t.rows → (zs : List ℤ) → cell t e i ≡ Some (Value.Vect zs) → length zs ≤ 4096
   vect_cell its lt zs at =
       let r = something_at t.rows e lt in
       let w = fits_at t.columns r.0 i (row_fits t.columns t.rows e r.0 table.fit r.1) inside in
-      let same : w.0.kind ≡ kind.Vect = some_same w.0.kind kind.Vect (sym (ap (option_map (λ (c : Column). c.kind)) w.2) ∙ its) in
-      let here : slice_get r.0 i ≡ Some (val.Vect zs) = sym (ap (option_and_then (λ (row : List Value). slice_get row i)) r.1) ∙ at in
-      let is : w.1 ≡ val.Vect zs = some_same w.1 (val.Vect zs) (sym w.3 ∙ here) in
-      subst (λ (q : ColType). FitsKind q (val.Vect zs)) same (subst (λ (x : Value). FitsKind w.0.kind x) is w.4.0)
+      let same : w.0.kind ≡ ColType.Vect = some_same w.0.kind ColType.Vect (sym (ap (option_map (λ (c : Column). c.kind)) w.2) ∙ its) in
+      let here : slice_get r.0 i ≡ Some (Value.Vect zs) = sym (ap (option_and_then (λ (row : List Value). slice_get row i)) r.1) ∙ at in
+      let is : w.1 ≡ Value.Vect zs = some_same w.1 (Value.Vect zs) (sym w.3 ∙ here) in
+      subst (λ (q : ColType). FitsKind q (Value.Vect zs)) same (subst (λ (x : Value). FitsKind w.0.kind x) is w.4.0)
 
   -- one cell more
   pub next_cells : (row : List Value) → slice_get t.rows e ≡ Some row → (n m : ℕ) → n ≡ sum_by elements_in (take i row)

@@ -2,39 +2,21 @@
 use Rattle.std.proofs.Common.{◌≡◌, ◌<◌, ℕ, ℤ, List, [], length, Option, None, Some, get_or, map, slice_get, ap, arith, zero, suc, ◌∷◌, sym, ◌∙◌, subst, ◌≤◌, ◌+◌, pos, negsuc, true, refl, IfSome, option_and_then, unwrap_or}
 use Rattle.std.proofs.lemmas.Option.{slice_get-get_or, get_or_from_slice_get, slice_get_within}
 use Rattle.rdf_values.proofs.KeptLemmas.{cell_of_column, column_length}
-use Rattle.rdf_values.specs.declared.value.Value.{Value}
-use Rattle.rdf_values.specs.declared.value.Value.TheVariants as val
-use Rattle.rdf_model.specs.Evaluation.{Gives, Outcome, ◌>>=◌, for_all, is_set}
-use Rattle.graph_numbers.specs.Sources.{cell_value, source_value}
-use Rattle.loop_keys.specs.Store.{row_in, row_of, site_in}
+use Rattle.rdf_values.specs.{ActionKind, ColType, columns_of, Value}
+use Rattle.rdf_model.specs.{◌>>=◌, FitsFeed, for_all, Gives, is_set, Outcome}
+use Rattle.graph_numbers.specs.{cell_value, graph_sites, Source, source_value}
+use Rattle.loop_keys.specs.{job_graph, JobView, key, key_under, Place, place_of, row_in, row_of, site_in}
 use Rattle.std.specs.List.{AllByRecursion}
-use Rattle.rdf_values.specs.Bookings.{columns_of}
-use Rattle.rdf_values.specs.declared.action.ActionKind.{ActionKind}
-use Rattle.rdf_values.specs.declared.action.ActionKind.TheVariants as action
-use Rattle.rdf_model.specs.Laws.{FitsFeed}
-use Rattle.actions.specs.Batches.{SuitsAt, lane_value, truth_of}
+use Rattle.actions.specs.{Lane, lane_value, SuitsAt, truth_of}
 use Rattle.actions.specs.declared.batch.Sources.TheVariants.{One, Weighted, Pair, WeightedPair}
-use Rattle.actions.specs.declared.lane.Lane.{Lane}
-use Rattle.block_passes.specs.Feeds.{AreLanesOf, IsLaneOf, HasHeld}
+use Rattle.block_passes.specs.{AreLanesOf, HasHeld, IsAtHand, IsLaneOf, IsServable, IsWhole, source_fault}
 use Rattle.loop_keys.proofs.SuitsLaws.{integer_fits, numeric_fits, pair_fits, single_fits, triple_fits, weighted_fits}
-use Rattle.lemmas.proofs.Places.{something_at}
-use Rattle.rdf_values.specs.declared.value.ColType.{ColType}
-use Rattle.rdf_values.specs.declared.value.ColType.TheVariants as kind
-use Rattle.block_cache.specs.Values.{value_for}
-use Rattle.expr_lanes.specs.Places.{EachPlace, at_place}
-use Rattle.graph_numbers.specs.Graphs.{graph_sites}
-use Rattle.graph_numbers.specs.declared.source.Source.{Source}
-use Rattle.graph_numbers.specs.declared.source.Source.TheVariants as from
-use Rattle.block_cache.specs.Lanes.{LaneView, kinds_of, value_of}
-use Rattle.loop_keys.specs.Jobs.{JobView, job_graph}
-use Rattle.loop_keys.specs.Keys.{key, key_under, place_of}
-use Rattle.loop_keys.specs.declared.rows.Place.TheVariants as stands
+use Rattle.lemmas.proofs.{something_at}
+use Rattle.block_cache.specs.{AreReady, holds_at, kinds_of, LaneView, value_for, value_of}
+use Rattle.expr_lanes.specs.{at_place, EachPlace}
 use Rattle.loop_keys.proofs.KeyLaws.{key_small}
-use Rattle.block_cache.specs.Blocks.{AreReady}
-use Rattle.block_cache.specs.Fills.{holds_at}
 use Rattle.block_cache.proofs.CanTries.{got_kind}
 use Rattle.block_cache.proofs.Knowns.{held_no_fault}
-use Rattle.block_passes.specs.Inputs.{IsAtHand, IsServable, IsWhole, source_fault}
 use Rattle.block_passes.proofs.Serving.{lane_gives as site_gives}
 use Rattle.std.proofs.lemmas.List.Elements.{All-from_recursion}
 
@@ -42,12 +24,12 @@ cell_given : (o : Option (List Value)) (col : ℕ) (v : Value) → option_and_th
 cell_given None col v h = cc h
 cell_given (Some row) col v h = ap (cell_value {M = ⊥}) h
 
-module _ (rows : List (List Value)) (col : ℕ) (vectors : List (List ℤ)) (are : map (λ row. slice_get row col) rows ≡ map (λ zs. Some (val.Vect zs)) vectors) (e : ℕ) (inside : e < length rows) where
+module _ (rows : List (List Value)) (col : ℕ) (vectors : List (List ℤ)) (are : map (λ row. slice_get row col) rows ≡ map (λ zs. Some (Value.Vect zs)) vectors) (e : ℕ) (inside : e < length rows) where
   pub vector_there : e < length vectors
-  vector_there = let l = column_length rows col (λ zs. val.Vect zs) vectors are in omega (arith, l, inside)
+  vector_there = let l = column_length rows col (λ zs. Value.Vect zs) vectors are in omega (arith, l, inside)
 
-  pub vector_given : cell_value {M = ⊥} (slice_get (row_in rows e) col) ≡ Gives (val.Vect (get_or vectors e []))
-  vector_given = cell_given (slice_get rows e) col _ (cell_of_column rows col e (λ zs. val.Vect zs) vectors (get_or vectors e []) are (slice_get-get_or vectors e [] vector_there))
+  pub vector_given : cell_value {M = ⊥} (slice_get (row_in rows e) col) ≡ Gives (Value.Vect (get_or vectors e []))
+  vector_given = cell_given (slice_get rows e) col _ (cell_of_column rows col e (λ zs. Value.Vect zs) vectors (get_or vectors e []) are (slice_get-get_or vectors e [] vector_there))
 
 -- ---- The lanes that are gathered for an action suit it.
 
@@ -84,16 +66,16 @@ module _ (f : ℕ → Outcome ⊥ Value) (cs : List ℕ) where
     suits_one x n g = go k n g
       where
         go : (k : ActionKind) → length (columns_of k) ≡ 1 → FitsFeed k (lane_value x place ∷ []) → SuitsAt k (One x) place
-        go action.Count n f = absurd (omega (arith, n))
-        go (action.Sum c) n f = numeric_fits f.kinds (lane_value x place) f.permitted f.fit
-        go (action.Min c) n f = numeric_fits f.kinds (lane_value x place) f.permitted f.fit
-        go (action.Max c) n f = numeric_fits f.kinds (lane_value x place) f.permitted f.fit
-        go (action.Take c) n f = single_fits f.kinds (lane_value x place) f.permitted f.fit
-        go (action.Reduce o c) n f = integer_fits f.kinds (lane_value x place) f.permitted f.fit
-        go (action.Histo1D edges c None) n f = numeric_fits f.kinds (lane_value x place) f.permitted f.fit
-        go (action.Histo1D edges c (Some w)) n f = absurd (omega (arith, n))
-        go (action.Histo2D xs ys c d None) n f = absurd (omega (arith, n))
-        go (action.Histo2D xs ys c d (Some w)) n f = absurd (omega (arith, n))
+        go ActionKind.Count n f = absurd (omega (arith, n))
+        go (ActionKind.Sum c) n f = numeric_fits f.kinds (lane_value x place) f.permitted f.fit
+        go (ActionKind.Min c) n f = numeric_fits f.kinds (lane_value x place) f.permitted f.fit
+        go (ActionKind.Max c) n f = numeric_fits f.kinds (lane_value x place) f.permitted f.fit
+        go (ActionKind.Take c) n f = single_fits f.kinds (lane_value x place) f.permitted f.fit
+        go (ActionKind.Reduce o c) n f = integer_fits f.kinds (lane_value x place) f.permitted f.fit
+        go (ActionKind.Histo1D edges c None) n f = numeric_fits f.kinds (lane_value x place) f.permitted f.fit
+        go (ActionKind.Histo1D edges c (Some w)) n f = absurd (omega (arith, n))
+        go (ActionKind.Histo2D xs ys c d None) n f = absurd (omega (arith, n))
+        go (ActionKind.Histo2D xs ys c d (Some w)) n f = absurd (omega (arith, n))
 
     pub lanes_one : length cs ≡ 1 → (x : Lane) → (P (get_or cs 0 0) → IsLaneOf (f (get_or cs 0 0)) x place) → AreLanesOf (for_all f cs) k (One x) place
     lanes_one e x lx =
@@ -101,35 +83,35 @@ module _ (f : ℕ → Outcome ⊥ Value) (cs : List ℕ) where
         let given = one_given e (lane_value x place) a.value in
         record { there = a.there; values = given; suits = suits_one x (sym count ∙ e) (fits (lane_value x place ∷ []) given) }
 
-    pub lanes_weighted : (edges : List ℤ) (c n : List ℕ) → k ≡ action.Histo1D edges c (Some n) → (x w : Lane) → (P (get_or cs 0 0) → IsLaneOf (f (get_or cs 0 0)) x place) → (P (get_or cs 1 0) → IsLaneOf (f (get_or cs 1 0)) w place)
+    pub lanes_weighted : (edges : List ℤ) (c n : List ℕ) → k ≡ ActionKind.Histo1D edges c (Some n) → (x w : Lane) → (P (get_or cs 0 0) → IsLaneOf (f (get_or cs 0 0)) x place) → (P (get_or cs 1 0) → IsLaneOf (f (get_or cs 1 0)) w place)
         → AreLanesOf (for_all f cs) k (Weighted x w) place
     lanes_weighted edges c n e x w lx lw =
         let l : length cs ≡ 2 = count ∙ ap (λ (z : ActionKind). length (columns_of z)) e in
         let a = lx (All-from_recursion P cs hand 0 0 (omega (arith, l))) in
         let b = lw (All-from_recursion P cs hand 1 0 (omega (arith, l))) in
         let given = two_given l (lane_value x place) (lane_value w place) a.value b.value in
-        let g : FitsFeed (action.Histo1D edges c (Some n)) (lane_value x place ∷ lane_value w place ∷ []) = subst (λ (z : ActionKind). FitsFeed z (lane_value x place ∷ lane_value w place ∷ [])) e (fits _ given) in
+        let g : FitsFeed (ActionKind.Histo1D edges c (Some n)) (lane_value x place ∷ lane_value w place ∷ []) = subst (λ (z : ActionKind). FitsFeed z (lane_value x place ∷ lane_value w place ∷ [])) e (fits _ given) in
         record {
           there = (a.there, b.there);
           values = given;
           suits = subst (λ (z : ActionKind). SuitsAt z (Weighted x w) place) (sym e) (weighted_fits g.kinds (lane_value x place) (lane_value w place) g.permitted g.fit);
         }
 
-    pub lanes_pair : (xs ys : List ℤ) (c d : List ℕ) → k ≡ action.Histo2D xs ys c d None → (x y : Lane) → (P (get_or cs 0 0) → IsLaneOf (f (get_or cs 0 0)) x place) → (P (get_or cs 1 0) → IsLaneOf (f (get_or cs 1 0)) y place)
+    pub lanes_pair : (xs ys : List ℤ) (c d : List ℕ) → k ≡ ActionKind.Histo2D xs ys c d None → (x y : Lane) → (P (get_or cs 0 0) → IsLaneOf (f (get_or cs 0 0)) x place) → (P (get_or cs 1 0) → IsLaneOf (f (get_or cs 1 0)) y place)
         → AreLanesOf (for_all f cs) k (Pair x y) place
     lanes_pair xs ys c d e x y lx ly =
         let l : length cs ≡ 2 = count ∙ ap (λ (z : ActionKind). length (columns_of z)) e in
         let a = lx (All-from_recursion P cs hand 0 0 (omega (arith, l))) in
         let b = ly (All-from_recursion P cs hand 1 0 (omega (arith, l))) in
         let given = two_given l (lane_value x place) (lane_value y place) a.value b.value in
-        let g : FitsFeed (action.Histo2D xs ys c d None) (lane_value x place ∷ lane_value y place ∷ []) = subst (λ (z : ActionKind). FitsFeed z (lane_value x place ∷ lane_value y place ∷ [])) e (fits _ given) in
+        let g : FitsFeed (ActionKind.Histo2D xs ys c d None) (lane_value x place ∷ lane_value y place ∷ []) = subst (λ (z : ActionKind). FitsFeed z (lane_value x place ∷ lane_value y place ∷ [])) e (fits _ given) in
         record {
           there = (a.there, b.there);
           values = given;
           suits = subst (λ (z : ActionKind). SuitsAt z (Pair x y) place) (sym e) (pair_fits g.kinds (lane_value x place) (lane_value y place) g.permitted g.fit);
         }
 
-    pub lanes_triple : (xs ys : List ℤ) (c d n : List ℕ) → k ≡ action.Histo2D xs ys c d (Some n) → (x y w : Lane)
+    pub lanes_triple : (xs ys : List ℤ) (c d n : List ℕ) → k ≡ ActionKind.Histo2D xs ys c d (Some n) → (x y w : Lane)
         → (P (get_or cs 0 0) → IsLaneOf (f (get_or cs 0 0)) x place) → (P (get_or cs 1 0) → IsLaneOf (f (get_or cs 1 0)) y place) → (P (get_or cs 2 0) → IsLaneOf (f (get_or cs 2 0)) w place)
         → AreLanesOf (for_all f cs) k (WeightedPair x y w) place
     lanes_triple xs ys c d n e x y w lx ly lw =
@@ -138,7 +120,7 @@ module _ (f : ℕ → Outcome ⊥ Value) (cs : List ℕ) where
         let b = ly (All-from_recursion P cs hand 1 0 (omega (arith, l))) in
         let o = lw (All-from_recursion P cs hand 2 0 (omega (arith, l))) in
         let given = three_given l (lane_value x place) (lane_value y place) (lane_value w place) a.value b.value o.value in
-        let g : FitsFeed (action.Histo2D xs ys c d (Some n)) (lane_value x place ∷ lane_value y place ∷ lane_value w place ∷ []) =
+        let g : FitsFeed (ActionKind.Histo2D xs ys c d (Some n)) (lane_value x place ∷ lane_value y place ∷ lane_value w place ∷ []) =
         subst (λ (z : ActionKind). FitsFeed z (lane_value x place ∷ lane_value y place ∷ lane_value w place ∷ [])) e (fits _ given) in
         record {
           there = (a.there, b.there, o.there);
@@ -162,41 +144,41 @@ module _ (lanes : List LaneView) (k : ℕ) (r : LaneView) (its : slice_get lanes
   inside : (l : LaneView) → slice_get lanes k ≡ Some l → (p : ℕ) → p < l.count → p < length numbers
   inside l at p low = let e = ap (λ (x : LaneView). x.count) (same_lane l at) in omega (arith, e, long, low)
 
-  pub int_held : r.kind ≡ kind.Int → (l : LaneView) → slice_get lanes k ≡ Some l → (p : ℕ) → p < l.count → (p < length numbers) × (val.Int (at_place numbers p) ≡ value_of l p)
+  pub int_held : r.kind ≡ ColType.Int → (l : LaneView) → slice_get lanes k ≡ Some l → (p : ℕ) → p < l.count → (p < length numbers) × (Value.Int (at_place numbers p) ≡ value_of l p)
   int_held is l at p low = (
     inside l at p low,
-    ap (λ (zs : List ℤ). val.Int (at_place zs p)) are ∙ ap (λ t. value_for t r.vectors (at_place r.numbers p)) (sym is) ∙ ap (λ (x : LaneView). value_of x p) (same_lane l at),
+    ap (λ (zs : List ℤ). Value.Int (at_place zs p)) are ∙ ap (λ t. value_for t r.vectors (at_place r.numbers p)) (sym is) ∙ ap (λ (x : LaneView). value_of x p) (same_lane l at),
   )
 
-  pub bool_held : r.kind ≡ kind.Bool → (l : LaneView) → slice_get lanes k ≡ Some l → (p : ℕ) → p < l.count → (p < length numbers) × (val.Bool (truth_of (at_place numbers p)) ≡ value_of l p)
+  pub bool_held : r.kind ≡ ColType.Bool → (l : LaneView) → slice_get lanes k ≡ Some l → (p : ℕ) → p < l.count → (p < length numbers) × (Value.Bool (truth_of (at_place numbers p)) ≡ value_of l p)
   bool_held is l at p low = (
     inside l at p low,
-    ap val.Bool (sym (same_truth (at_place numbers p))) ∙ ap (λ (zs : List ℤ). val.Bool (is_set (at_place zs p))) are ∙ ap (λ t. value_for t r.vectors (at_place r.numbers p)) (sym is) ∙ ap (λ (x : LaneView). value_of x p) (same_lane l at),
+    ap Value.Bool (sym (same_truth (at_place numbers p))) ∙ ap (λ (zs : List ℤ). Value.Bool (is_set (at_place zs p))) are ∙ ap (λ t. value_for t r.vectors (at_place r.numbers p)) (sym is) ∙ ap (λ (x : LaneView). value_of x p) (same_lane l at),
   )
 
-pub vector_kind : (lanes : List LaneView) (k : ℕ) (r : LaneView) → slice_get lanes k ≡ Some r → r.kind ≡ kind.Vect → slice_get (kinds_of lanes) k ≡ Some kind.Vect
+pub vector_kind : (lanes : List LaneView) (k : ℕ) (r : LaneView) → slice_get lanes k ≡ Some r → r.kind ≡ ColType.Vect → slice_get (kinds_of lanes) k ≡ Some ColType.Vect
 vector_kind lanes k r there is = got_kind lanes k r there ∙ ap Some is
 
 -- ---- where a version stands
 
-pub cell_source : (f : ℕ → ℕ) (x : Source) (col : ℕ) → place_of f x ≡ stands.Cell col → x ≡ from.Cell col
-cell_source f (from.Cell c) col e = let same : c ≡ col = cc e in ap from.Cell same
-cell_source f (from.Site s) col e = cc e
-cell_source f (from.Element s i n) col e = cc e
+pub cell_source : (f : ℕ → ℕ) (x : Source) (col : ℕ) → place_of f x ≡ Place.Cell col → x ≡ Source.Cell col
+cell_source f (Source.Cell c) col e = let same : c ≡ col = cc e in ap Source.Cell same
+cell_source f (Source.Site s) col e = cc e
+cell_source f (Source.Element s i n) col e = cc e
 
-pub key_source : (f : ℕ → ℕ) (x : Source) (k : ℕ) → place_of f x ≡ stands.Key k → (s : ℕ) × (x ≡ from.Site s) × (f s ≡ k)
-key_source f (from.Cell c) k e = cc e
-key_source f (from.Site s) k e = (s, refl, cc e)
-key_source f (from.Element s i n) k e = cc e
+pub key_source : (f : ℕ → ℕ) (x : Source) (k : ℕ) → place_of f x ≡ Place.Key k → (s : ℕ) × (x ≡ Source.Site s) × (f s ≡ k)
+key_source f (Source.Cell c) k e = cc e
+key_source f (Source.Site s) k e = (s, refl, cc e)
+key_source f (Source.Element s i n) k e = cc e
 
-pub element_source : (f : ℕ → ℕ) (x : Source) (k i n : ℕ) → place_of f x ≡ stands.Element k i n → (s : ℕ) × (x ≡ from.Element s i n)
-element_source f (from.Cell c) k i n e = cc e
-element_source f (from.Site s) k i n e = cc e
-element_source f (from.Element s a b) k i n e = let first : a ≡ i = cc e in let second : b ≡ n = cc e in (s, λ t. from.Element s (first t) (second t))
+pub element_source : (f : ℕ → ℕ) (x : Source) (k i n : ℕ) → place_of f x ≡ Place.Element k i n → (s : ℕ) × (x ≡ Source.Element s i n)
+element_source f (Source.Cell c) k i n e = cc e
+element_source f (Source.Site s) k i n e = cc e
+element_source f (Source.Element s a b) k i n e = let first : a ≡ i = cc e in let second : b ≡ n = cc e in (s, λ t. Source.Element s (first t) (second t))
 
 -- a site that is read
-module _ (j : JobView) (first count : ℕ) (u : Option ℕ) (kinds : List ColType) (cells : List (List ℤ)) (scratch levels : ℕ) (x : Source) (can : IsServable j first u count kinds cells scratch levels x) (k : ℕ) (stood : place_of (key_under (job_graph j) u) x ≡ stands.Key k) where
-  pub site_is : (s : ℕ) × (x ≡ from.Site s) × (key (job_graph j) s u ≡ k)
+module _ (j : JobView) (first count : ℕ) (u : Option ℕ) (kinds : List ColType) (cells : List (List ℤ)) (scratch levels : ℕ) (x : Source) (can : IsServable j first u count kinds cells scratch levels x) (k : ℕ) (stood : place_of (key_under (job_graph j) u) x ≡ Place.Key k) where
+  pub site_is : (s : ℕ) × (x ≡ Source.Site s) × (key (job_graph j) s u ≡ k)
   site_is = key_source (key_under (job_graph j) u) x k stood
 
   pub site_inside : site_is.0 < length (graph_sites (job_graph j))
@@ -223,7 +205,7 @@ module _ (j : JobView) (first count : ℕ) (u : Option ℕ) (kinds : List ColTyp
   lanes_give lanes ready None has = tt
   lanes_give lanes ready (Some fed) has = lane_gives lanes ready fed has
 
-  pub no_vectors : IsWhole j u kinds x → slice_get kinds k ≡ Some kind.Vect → ⊥
+  pub no_vectors : IsWhole j u kinds x → slice_get kinds k ≡ Some ColType.Vect → ⊥
   no_vectors whole vector = subst (IsWhole j u kinds) site_is.1 whole (ap (slice_get kinds) site_is.2 ∙ vector)
 
   -- where its value is held it is at hand, and faults not

@@ -1,25 +1,18 @@
 -- Places of a block in their order, and those among them that pass a test.
 use Rattle.std.proofs.Common.{◌≡◌, ℕ, zero, suc, ◌+◌, ◌<◌, ◌≤◌, Bool, true, false, ◌&&◌, cond, List, [], ◌∷◌, ◌++◌, length, take, refl, ◌∙◌, ap, ap₂, arith, nat_lt, ◌⊎◌, inl, inr, ◌||◌, Option, None, Some, sym, subst, nat_eq, if◌then◌else◌, ℤ, length-set, set, get_or, get_or-set_same, get_or-set_other, pos, flat_map, slice_get, filter}
 use Rattle.std.specs.List.{range_with_len}
-use Rattle.lemmas.proofs.Orders.{lt_false, lt_true, eq_says, lt_or_last}
-use Rattle.lemmas.proofs.Booleans.{and_false, and_true, and_left, or_true}
+use Rattle.lemmas.proofs.{and_false, and_left, and_true, eq_says, lt_false, lt_or_last, lt_true, or_true}
 use Rattle.std.proofs.lemmas.Bool.Decides.{Decides-eqb, Decides-ltb}
-use Rattle.rdf_values.specs.declared.fault.EntryFault.{EntryFault}
-use Rattle.expr_lanes.specs.Places.{AreRising, EachPlace, is_in, at_place}
+use Rattle.rdf_values.specs.{EntryFault, Span, Value}
+use Rattle.expr_lanes.specs.{AreRising, at_place, EachPlace, is_in}
 use Rattle.expr_lanes.proofs.Dense.{below_range, first_in_range}
-use Rattle.block_cache.specs.Fills.{below_fault, fault_before, fault_over}
-use Rattle.block_cache.specs.declared.faults.PlaceFault.{PlaceFault}
-use Rattle.block_passes.specs.Searches.{Lowers, noted, where_in}
+use Rattle.block_cache.specs.{below_fault, fault_at, fault_before, fault_over, PlaceFault}
+use Rattle.block_passes.specs.{GivesNumber, GivesVector, HasVector, Lowers, noted, where_in}
 use Rattle.block_passes.specs.declared.found.Found.{Found}
 use Rattle.block_passes.proofs.Searching.{fault_lowers, none_lowers}
 use Rattle.block_cache.proofs.LaneSteps.{filter_all}
 use Rattle.std.proofs.lemmas.Bool.{cases_eq}
-use Rattle.rdf_values.specs.declared.span.Span.{Span}
-use Rattle.rdf_values.specs.declared.value.Value.{Value}
-use Rattle.rdf_values.specs.declared.value.Value.TheVariants as val
-use Rattle.rdf_model.specs.Evaluation.{Outcome, Gives}
-use Rattle.block_cache.specs.Faults.{fault_at}
-use Rattle.block_passes.specs.Feeds.{GivesNumber, GivesVector, HasVector}
+use Rattle.rdf_model.specs.{Gives, Outcome}
 use Rattle.expr_lanes.proofs.Choices.{in_filter}
 
 -- ---- filters
@@ -196,7 +189,7 @@ each_at (x ∷ xs) P h p i = place_or_rest P p x xs (h 0 (omega arith)) (each_at
 -- ---- numbers
 
 module _ (o : ℕ → Outcome ⊥ Value) (sel : List ℕ) (i q : ℕ) (here : q ≡ get_or sel i 0) where
-  pub numbers_more : (numbers after : List ℤ) (z : ℤ) → after ≡ set numbers q z → q < length numbers → o q ≡ Gives (val.Int z) → ((m : ℕ) → m < i → GivesNumber numbers (get_or sel m 0) (o (get_or sel m 0)))
+  pub numbers_more : (numbers after : List ℤ) (z : ℤ) → after ≡ set numbers q z → q < length numbers → o q ≡ Gives (Value.Int z) → ((m : ℕ) → m < i → GivesNumber numbers (get_or sel m 0) (o (get_or sel m 0)))
       → (m : ℕ) → m < i + 1 → GivesNumber after (get_or sel m 0) (o (get_or sel m 0))
   numbers_more numbers after z is inside given before m lt = go (cases_eq (get_or sel m 0) q)
     where
@@ -210,16 +203,16 @@ module _ (o : ℕ → Outcome ⊥ Value) (sel : List ℕ) (i q : ℕ) (here : q 
       other p n = ap (λ (l : List ℤ). at_place l p) is ∙ get_or-set_other numbers q p z (pos 0) n
 
       kept : (get_or sel m 0 ≡ q → ⊥) → (m < i) ⊎ (m ≡ i) → GivesNumber after (get_or sel m 0) (o (get_or sel m 0))
-      kept n (inl l) = let b = before m l in let low = b.0 in (omega (arith, long, low), b.1 ∙ ap (λ y. Gives (val.Int y)) (sym (other (get_or sel m 0) n)))
+      kept n (inl l) = let b = before m l in let low = b.0 in (omega (arith, long, low), b.1 ∙ ap (λ y. Gives (Value.Int y)) (sym (other (get_or sel m 0) n)))
       kept n (inr e) = absurd (n (ap (λ x. get_or sel x 0) e ∙ sym here))
 
       go : (get_or sel m 0 ≡ q) ⊎ (get_or sel m 0 ≡ q → ⊥) → GivesNumber after (get_or sel m 0) (o (get_or sel m 0))
-      go (inl e) = subst (λ (n : ℕ). GivesNumber after n (o n)) (sym e) (omega (arith, long, inside), given ∙ ap (λ y. Gives (val.Int y)) (sym written))
+      go (inl e) = subst (λ (n : ℕ). GivesNumber after n (o n)) (sym e) (omega (arith, long, inside), given ∙ ap (λ y. Gives (Value.Int y)) (sym written))
       go (inr n) = kept n (lt_or_last m i lt)
 
   -- ---- vectors
 
-  pub vectors_more : (elements more : List ℤ) (spans after : List Span) (vector : List ℤ) → o q ≡ Gives (val.Vect vector) → HasVector more after q vector
+  pub vectors_more : (elements more : List ℤ) (spans after : List Span) (vector : List ℤ) → o q ≡ Gives (Value.Vect vector) → HasVector more after q vector
       → ((p : ℕ) (zs : List ℤ) → (p ≡ q → ⊥) → HasVector elements spans p zs → HasVector more after p zs) → ((m : ℕ) → m < i → GivesVector elements spans (get_or sel m 0) (o (get_or sel m 0)))
       → (m : ℕ) → m < i + 1 → GivesVector more after (get_or sel m 0) (o (get_or sel m 0))
   vectors_more elements more spans after vector given own others before m lt = go (cases_eq (get_or sel m 0) q)

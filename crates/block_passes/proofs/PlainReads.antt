@@ -3,57 +3,34 @@ use Rattle.std.proofs.Common.{◌≡◌, ◌⊎◌, inl, inr, ℕ, Bool, zero, s
 use Rattle.std.specs.List.{AllByRecursion}
 use Rattle.std.proofs.lemmas.List.Elements.{recursion_from_All}
 use Rattle.std.proofs.lemmas.Option.{get_or_from_slice_get}
-use Rattle.rdf_values.specs.Bookings.{ActionAt, ReportOn, columns_of, covered}
-use Rattle.rdf_values.specs.Functions.{fn_names}
-use Rattle.rdf_values.specs.Kinds.{scope_of}
-use Rattle.rdf_values.specs.Path.{Under, history, path}
-use Rattle.rdf_values.specs.Tables.{FitsKind, FitsRow, kind_at}
-use Rattle.rdf_values.specs.Verdict.{AreAccepted}
-use Rattle.rdf_values.specs.declared.action.ActionKind.{ActionKind}
-use Rattle.rdf_values.specs.declared.column.Column.{Column}
-use Rattle.rdf_values.specs.declared.statement.Statement.{Statement}
+use Rattle.rdf_values.specs.{ActionAt, ActionKind, AreAccepted, ColType, Column, columns_of, covered, FitsKind, FitsRow, fn_names, history, kind_at, path, ReportOn, scope_of, Statement, Under, Value}
 use Rattle.rdf_values.specs.declared.statement.Statement.TheVariants.{Action, Report}
-use Rattle.rdf_values.specs.declared.value.ColType.{ColType}
-use Rattle.rdf_values.specs.declared.value.ColType.TheVariants as kind
-use Rattle.rdf_values.specs.declared.value.Value.{Value}
-use Rattle.rdf_values.specs.declared.value.Value.TheVariants as val
-use Rattle.expr_check.specs.NumKinds.{CheckedExpr, is_vector}
+use Rattle.expr_check.specs.{CheckedExpr, is_vector}
 use Rattle.expr_check.proofs.Plain.{columns_scalar, plain_typed}
-use Rattle.rdf_model.specs.Laws.{FitsOutcome}
-use Rattle.rdf_model.specs.Results.{Dataset}
-use Rattle.graph_numbers.specs.Graphs.{IsSiteExpr, graph_under}
-use Rattle.graph_numbers.specs.Results.{ResultAt, covered_at, own_results, results}
-use Rattle.graph_numbers.specs.Sites.{filter_sites}
-use Rattle.graph_numbers.specs.Sources.{cell_value, source_value}
-use Rattle.graph_numbers.specs.Versions.{version_at}
-use Rattle.graph_numbers.specs.declared.source.Source.{Source}
-use Rattle.graph_numbers.specs.declared.source.Source.TheVariants as from
+use Rattle.rdf_model.specs.{Dataset, FitsOutcome}
+use Rattle.graph_numbers.specs.{cell_value, covered_at, filter_sites, graph_under, IsSiteExpr, own_results, ResultAt, results, Source, source_value, version_at}
 use Rattle.graph_numbers.proofs.Extending.{Extends, itself, shorter}
 use Rattle.graph_numbers.proofs.Listed.{of_joined}
 use Rattle.graph_numbers.proofs.Passing.{AreVisible, action_visible}
 use Rattle.graph_numbers.proofs.VersionKinds.{FitsVersion, visible_fits}
-use Rattle.loop_keys.specs.Caches.{IsPlainLoop}
-use Rattle.loop_keys.specs.Jobs.{IsJob, JobView, job_graph}
-use Rattle.loop_keys.specs.Plain.{ArePlain, IsPlainVersion}
-use Rattle.loop_keys.specs.Store.{IsSourceIn, row_of, site_in, source_at}
+use Rattle.loop_keys.specs.{ArePlain, IsJob, IsPlainLoop, IsPlainVersion, IsSourceIn, job_graph, JobView, row_of, site_in, source_at}
 use Rattle.loop_keys.proofs.ColumnLaws.{fits_at}
 use Rattle.loop_keys.proofs.EvaluateLaws.{accepted_of}
 use Rattle.loop_keys.proofs.PlainLaws.{plain_expr}
 use Rattle.loop_keys.proofs.TableLaws.{not_stored}
-use Rattle.block_passes.specs.Inputs.{ArePlainSources, CanServe, IsPlainSource, IsServable}
-use Rattle.block_passes.specs.Tries.{IsReadOf}
+use Rattle.block_passes.specs.{ArePlainSources, CanServe, IsPlainSource, IsReadOf, IsServable}
 use Rattle.block_passes.proofs.FirstLengths.{fits_at as cell_fits}
 
 -- ---- a site without vectors
 
-pub no_vector : (t : ColType) → (t ≡ kind.Int) ⊎ (t ≡ kind.Bool) → t ≡ kind.Vect → ⊥
-no_vector t (inl a) b = let f : kind.Int ≡ kind.Vect = sym a ∙ b in cc f
-no_vector t (inr a) b = let f : kind.Bool ≡ kind.Vect = sym a ∙ b in cc f
+pub no_vector : (t : ColType) → (t ≡ ColType.Int) ⊎ (t ≡ ColType.Bool) → t ≡ ColType.Vect → ⊥
+no_vector t (inl a) b = let f : ColType.Int ≡ ColType.Vect = sym a ∙ b in cc f
+no_vector t (inr a) b = let f : ColType.Bool ≡ ColType.Vect = sym a ∙ b in cc f
 
-pub no_vector_kind : (k : ColType) → is_vector k ≡ false → k ≡ kind.Vect → ⊥
+pub no_vector_kind : (k : ColType) → is_vector k ≡ false → k ≡ ColType.Vect → ⊥
 no_vector_kind k h e = let f : true ≡ false = sym (ap is_vector e) ∙ h in cc f
 
-pub site_no_vector : (j : JobView) (used : ℕ → Bool) (s : ℕ) (e : CheckedExpr) → IsSiteExpr (job_graph j) s e → ArePlain j used → used s ≡ true → e.kind ≡ kind.Vect → ⊥
+pub site_no_vector : (j : JobView) (used : ℕ → Bool) (s : ℕ) (e : CheckedExpr) → IsSiteExpr (job_graph j) s e → ArePlain j used → used s ≡ true → e.kind ≡ ColType.Vect → ⊥
 site_no_vector j used s e its plain u =
     no_vector_kind e.kind (plain_typed e.kinds (job_graph j).names e.tree e.kind its.typed.typed (columns_scalar e.kinds e.tree (plain_expr j used s e plain u its))).1
 
@@ -96,16 +73,16 @@ module _ (d : Dataset) (row : List Value) (u : Under) (fits : FitsRow d.columns 
 
 -- ---- a column that a version without vectors is given by
 
-both_fit : (t k : ColType) (v : Value) → FitsKind t v → FitsKind k v → is_vector t ≡ false → (k ≡ kind.Bool → ⊥) → k ≡ kind.Int
-both_fit t kind.Int v f g scalar nb = refl
-both_fit t kind.Bool v f g scalar nb = absurd (nb refl)
-both_fit kind.Vect kind.Vect v f g scalar nb = cc scalar
-both_fit kind.Int kind.Vect (val.Int z) f g scalar nb = elim g [ ]
-both_fit kind.Int kind.Vect (val.Bool b) f g scalar nb = elim g [ ]
-both_fit kind.Int kind.Vect (val.Vect zs) f g scalar nb = elim f [ ]
-both_fit kind.Bool kind.Vect (val.Int z) f g scalar nb = elim g [ ]
-both_fit kind.Bool kind.Vect (val.Bool b) f g scalar nb = elim g [ ]
-both_fit kind.Bool kind.Vect (val.Vect zs) f g scalar nb = elim f [ ]
+both_fit : (t k : ColType) (v : Value) → FitsKind t v → FitsKind k v → is_vector t ≡ false → (k ≡ ColType.Bool → ⊥) → k ≡ ColType.Int
+both_fit t ColType.Int v f g scalar nb = refl
+both_fit t ColType.Bool v f g scalar nb = absurd (nb refl)
+both_fit ColType.Vect ColType.Vect v f g scalar nb = cc scalar
+both_fit ColType.Int ColType.Vect (Value.Int z) f g scalar nb = elim g [ ]
+both_fit ColType.Int ColType.Vect (Value.Bool b) f g scalar nb = elim g [ ]
+both_fit ColType.Int ColType.Vect (Value.Vect zs) f g scalar nb = elim f [ ]
+both_fit ColType.Bool ColType.Vect (Value.Int z) f g scalar nb = elim g [ ]
+both_fit ColType.Bool ColType.Vect (Value.Bool b) f g scalar nb = elim g [ ]
+both_fit ColType.Bool ColType.Vect (Value.Vect zs) f g scalar nb = elim f [ ]
 
 module _ (j : JobView) (job : IsJob j) (first : ℕ) (within : first < length j.dataset.rows) (u : Option ℕ) (loop : IsPlainLoop j) where
   row_fits : FitsRow j.dataset.columns (row_of j first)
@@ -114,7 +91,7 @@ module _ (j : JobView) (job : IsJob j) (first : ℕ) (within : first < length j.
   abbrev Fitting : ℕ → Type 0
   Fitting c = FitsVersion j.dataset (row_of j first) (graph_under (job_graph j) u) row_fits (history j.script) c
 
-  cell_int : (col : ℕ) (t : ColType) → is_vector t ≡ false → col < length j.dataset.columns → FitsOutcome t (source_value {M = ℕ} (row_of j first) (site_in j first u) (from.Cell col)) → kind_at j.dataset.columns col ≡ Some kind.Int
+  cell_int : (col : ℕ) (t : ColType) → is_vector t ≡ false → col < length j.dataset.columns → FitsOutcome t (source_value {M = ℕ} (row_of j first) (site_in j first u) (Source.Cell col)) → kind_at j.dataset.columns col ≡ Some ColType.Int
   cell_int col t scalar lt fit =
       let c = cell_fits j.dataset.columns (row_of j first) col row_fits lt in
       ap (option_map (λ (x : Column). x.kind)) c.2
@@ -129,12 +106,12 @@ module _ (j : JobView) (job : IsJob j) (first : ℕ) (within : first < length j.
       go (source_at j u c) fit.2 can.1 (plain.1 u)
     where
       plain_kind : is_vector fit.0 ≡ false
-      plain_kind = sym (ap (λ (o : Option ColType). is_vector (unwrap_or o kind.Int)) fit.1) ∙ plain.0
+      plain_kind = sym (ap (λ (o : Option ColType). is_vector (unwrap_or o ColType.Int)) fit.1) ∙ plain.0
 
       go : (x : Source) → FitsOutcome fit.0 (source_value {M = ℕ} (row_of j first) (site_in j first u) x) → IsServable j first u count kinds cells scratch levels x → IsSourceIn loop.used x → IsPlainSource j loop.used x
-      go (from.Cell col) f there i = cell_int col fit.0 plain_kind there.0 f
-      go (from.Site s) f there i = i
-      go (from.Element s k tags) f there i = i
+      go (Source.Cell col) f there i = cell_int col fit.0 plain_kind there.0 f
+      go (Source.Site s) f there i = i
+      go (Source.Element s k tags) f there i = i
 
   -- an action of a loop without vectors reads columns of numbers and sites without vectors
   pub plain_reads : (pass : ℕ) (k : ActionKind) (inputs : List ℕ) → IsReadOf j pass k inputs u → (count : ℕ) (kinds : List ColType) (cells : _) (scratch levels : ℕ) → AllByRecursion (CanServe j first u count kinds cells scratch levels) inputs → ArePlainSources j loop.used u inputs

@@ -2,23 +2,14 @@
 use Rattle.std.proofs.Common.{◌≡◌, ◌⊎◌, inl, inr, ℕ, zero, suc, ◌+◌, ◌<◌, List, [], ◌∷◌, ◌++◌, length, length-append, Option, None, Some, refl, sym, ◌∙◌, ap, subst, arith, append_assoc, Bool, true, false, option_map, slice_get}
 use Rattle.std.proofs.lemmas.List.{append-nil}
 use Rattle.std.proofs.lemmas.Option.{slice_get_within}
-use Rattle.lemmas.proofs.Places.{before_or_last, kept_at, last_at, something_at}
-use Rattle.block_passes.specs.Plans.{AreSteps, Chain, IsBegin, IsFilterStep, IsLed, IsStep, IsStepped, longer, ArePlanned, AreStepsOf, IsActionOf, IsFilterPlanned, IsLast, IsNamed, IsPlanned, IsPassLast, IsPlan, IsPlannedFilter, IsTried}
+use Rattle.lemmas.proofs.{before_or_last, kept_at, last_at, something_at}
+use Rattle.block_passes.specs.{ArePlanned, AreSteps, AreStepsOf, Chain, IsActionOf, IsBegin, IsFilterPlanned, IsFilterStep, IsLast, IsLed, IsNamed, IsPassLast, IsPlan, IsPlanned, IsPlannedFilter, IsStep, IsStepped, IsTried, longer}
 use Rattle.block_passes.specs.declared.steps.Step.{Step}
-use Rattle.block_passes.specs.declared.steps.Step.TheVariants as step
 use Rattle.loop_keys.proofs.PassNumbers.{some_same, result_inside, result_there}
 use Rattle.std.specs.List.{list_any}
-use Rattle.rdf_values.specs.Bookings.{ActionAt, Booking, ReportOn}
-use Rattle.rdf_values.specs.declared.action.ActionKind.{ActionKind}
-use Rattle.graph_numbers.specs.Graphs.{GraphView, graph_filters, graph_results}
-use Rattle.graph_numbers.specs.Results.{FilterAt, ResultAt, kind_of_booking}
-use Rattle.graph_numbers.specs.declared.pass.Pass.{Pass as NumberedPass}
-use Rattle.graph_numbers.specs.declared.result_kind.ResultKind.{ResultKind}
-use Rattle.graph_numbers.specs.declared.result_kind.ResultKind.TheVariants as what
-use Rattle.loop_keys.specs.Caches.{numbered_in}
-use Rattle.loop_keys.specs.Jobs.{IsJob, JobView, job_graph, passes_in}
-use Rattle.loop_keys.specs.Plans.{covered_in}
-use Rattle.loop_keys.specs.Turns.{is_covering, numbered_passes}
+use Rattle.rdf_values.specs.{ActionAt, ActionKind, Booking, ReportOn}
+use Rattle.graph_numbers.specs.{FilterAt, graph_filters, graph_results, GraphView, kind_of_booking, Pass as NumberedPass, ResultAt, ResultKind}
+use Rattle.loop_keys.specs.{covered_in, is_covering, IsJob, job_graph, JobView, numbered_in, numbered_passes, passes_in}
 use Rattle.loop_keys.proofs.Covered.{cover_at, cover_is}
 use Rattle.loop_keys.proofs.FilterLaws.{plan_covered}
 use Rattle.block_passes.specs.declared.plan.NamedSteps.{NamedSteps}
@@ -34,14 +25,14 @@ get_joined (z ∷ xs) ys (suc k) x h = get_joined xs ys k x h
 -- ---- steps
 
 pub step_kept : (chains more : List Chain) (k : ℕ) (x : Step) → IsStep chains k x → IsStep (chains ++ more) k x
-step_kept chains more k step.Block h = kept_at chains more k _ h
-step_kept chains more k (step.Filter parent site u) h = record { before = h.before; up = h.up; its_up = kept_at chains more parent h.up h.its_up; alike = h.alike; own = kept_at chains more k _ h.own }
+step_kept chains more k Step.Block h = kept_at chains more k _ h
+step_kept chains more k (Step.Filter parent site u) h = record { before = h.before; up = h.up; its_up = kept_at chains more parent h.up h.its_up; alike = h.alike; own = kept_at chains more k _ h.own }
 
 module _ (chains : List Chain) (steps : List Step) (are : AreSteps chains steps) (parent site : ℕ) (u : Option ℕ) (up : Chain) (its : slice_get chains parent ≡ Some up) (alike : (up.sites ≡ []) ⊎ (up.under ≡ u)) where
   -- the step is there
-  pub step_found : (now : List Step) (k : ℕ) → now ≡ steps → slice_get steps k ≡ Some (step.Filter parent site u) → IsStepped chains (longer up site u) now k
+  pub step_found : (now : List Step) (k : ℕ) → now ≡ steps → slice_get steps k ≡ Some (Step.Filter parent site u) → IsStepped chains (longer up site u) now k
   step_found now k e h =
-      let s = are.each k (step.Filter parent site u) h in
+      let s = are.each k (Step.Filter parent site u) h in
       let same : s.up ≡ up = some_same s.up up (sym s.its_up ∙ its) in
       let none : chains ++ [] ≡ chains = append-nil chains in
       record {
@@ -52,7 +43,7 @@ module _ (chains : List Chain) (steps : List Step) (are : AreSteps chains steps)
       }
 
   -- or it is added
-  pub added : (now : List Step) → now ≡ steps ++ step.Filter parent site u ∷ [] → IsStepped chains (longer up site u) now (length steps)
+  pub added : (now : List Step) → now ≡ steps ++ Step.Filter parent site u ∷ [] → IsStepped chains (longer up site u) now (length steps)
   added now e = record {
     more = longer up site u ∷ [];
     are = subst (λ (x : List Step). AreSteps (chains ++ longer up site u ∷ []) x) (sym e) all;
@@ -73,15 +64,15 @@ module _ (chains : List Chain) (steps : List Step) (are : AreSteps chains steps)
         own = ap (slice_get (chains ++ longer up site u ∷ [])) (sym are.many) ∙ last_at chains (longer up site u);
       }
 
-      each : (k : ℕ) (x : Step) → (slice_get steps k ≡ Some x) ⊎ ((k ≡ length steps) × (step.Filter parent site u ≡ x)) → IsStep (chains ++ longer up site u ∷ []) k x
+      each : (k : ℕ) (x : Step) → (slice_get steps k ≡ Some x) ⊎ ((k ≡ length steps) × (Step.Filter parent site u ≡ x)) → IsStep (chains ++ longer up site u ∷ []) k x
       each k x (inl q) = step_kept chains _ k x (are.each k x q)
       each k x (inr q) = subst (λ (y : Step). IsStep (chains ++ longer up site u ∷ []) k y) q.1 (subst (λ (n : ℕ). IsFilterStep (chains ++ longer up site u ∷ []) n parent site u) (sym q.0) own)
 
-      all : AreSteps (chains ++ longer up site u ∷ []) (steps ++ step.Filter parent site u ∷ [])
+      all : AreSteps (chains ++ longer up site u ∷ []) (steps ++ Step.Filter parent site u ∷ [])
       all = record {
-        many = (let a = length-append chains (longer up site u ∷ []) in let b = length-append steps (step.Filter parent site u ∷ []) in let m = are.many in omega (arith, a, b, m));
-        whole = kept_at steps _ 0 step.Block are.whole;
-        each = λ k x q. each k x (before_or_last steps (step.Filter parent site u) k x q);
+        many = (let a = length-append chains (longer up site u ∷ []) in let b = length-append steps (Step.Filter parent site u ∷ []) in let m = are.many in omega (arith, a, b, m));
+        whole = kept_at steps _ 0 Step.Block are.whole;
+        each = λ k x q. each k x (before_or_last steps (Step.Filter parent site u) k x q);
       }
 
 -- ---- paths
@@ -93,7 +84,7 @@ path_begins chains u steps are =
       more = [];
       are = subst (λ (cs : List Chain). AreSteps cs steps) (sym none) are;
       last = record { sites = []; under = None };
-      its = ap (λ cs. slice_get cs 0) none ∙ are.each 0 step.Block are.whole;
+      its = ap (λ cs. slice_get cs 0) none ∙ are.each 0 Step.Block are.whole;
       sites = refl;
       alike = inl refl;
       only = λ n d q. cc q;
@@ -200,7 +191,7 @@ module _ (j : JobView) (n : ℕ) (m : NumberedPass) (its : numbered_in j n ≡ S
       some_same kind (kind_of_booking r.booked.booking)
       (sym q ∙ ap (λ (v : GraphView). option_map (λ (x : ResultAt). kind_of_booking x.booked.booking) (slice_get (graph_results v) m.result)) e ∙ ap (option_map (λ (x : ResultAt). kind_of_booking x.booked.booking)) there_is)
 
-  pub pass_led : (l : ActionKind) → kind ≡ what.Action l → (path : List ℕ) → option_map (λ (x : ResultAt). x.filters) (slice_get (graph_results g) m.result) ≡ Some path
+  pub pass_led : (l : ActionKind) → kind ≡ ResultKind.Action l → (path : List ℕ) → option_map (λ (x : ResultAt). x.filters) (slice_get (graph_results g) m.result) ≡ Some path
       → (chains : List Chain) (steps : List Step) (k : ℕ) → IsLed chains path m.variation steps k → IsPlanned j (λ (cs : List Chain). IsPassLast j cs n) chains steps k
   pass_led l of path p chains steps k led = go r.booked.booking refl (sym kind_is ∙ of)
     where
@@ -219,7 +210,7 @@ module _ (j : JobView) (n : ℕ) (m : NumberedPass) (its : numbered_in j n ≡ S
             alike = subst (λ (x : NumberedPass). (led.last.sites ≡ []) ⊎ (led.last.under ≡ x.variation)) same.0 led.alike;
           }
 
-      go : (b : Booking) → r.booked.booking ≡ b → kind_of_booking b ≡ what.Action l → IsPlanned j (λ (cs : List Chain). IsPassLast j cs n) chains steps k
+      go : (b : Booking) → r.booked.booking ≡ b → kind_of_booking b ≡ ResultKind.Action l → IsPlanned j (λ (cs : List Chain). IsPassLast j cs n) chains steps k
       go (ReportOn fs) s h = cc h
       go (ActionAt t at) s h = record {
         more = led.more;
@@ -239,13 +230,13 @@ module _ (j : JobView) (n : ℕ) (m : NumberedPass) (its : numbered_in j n ≡ S
         right = each;
       }
 
-  pub report_led : kind ≡ what.Report → (chains : List Chain) (steps : List Step) → AreSteps chains steps → IsPlanned j (λ (cs : List Chain). IsPassLast j cs n) chains steps 0
+  pub report_led : kind ≡ ResultKind.Report → (chains : List Chain) (steps : List Step) → AreSteps chains steps → IsPlanned j (λ (cs : List Chain). IsPassLast j cs n) chains steps 0
   report_led of chains steps are = record { more = []; steps_of = none_more j chains steps are; right = λ a s t act. absurd (none a s t act) }
     where
       none : (a : NumberedPass) (s : ResultAt) (t : ActionKind) → IsActionOf j n a s t → ⊥
       none a s t act =
           let same = (one_result j n m a r s its act.its_pass there_is act.its_result).1 in
-          let w : what.Report ≡ what.Action t = sym of ∙ kind_is ∙ ap (λ (x : ResultAt). kind_of_booking x.booked.booking) same ∙ ap kind_of_booking act.booking in
+          let w : ResultKind.Report ≡ ResultKind.Action t = sym of ∙ kind_is ∙ ap (λ (x : ResultAt). kind_of_booking x.booked.booking) same ∙ ap kind_of_booking act.booking in
           cc w
 
 -- ---- named filters
@@ -307,11 +298,11 @@ uncovered_step j chains steps f b h e are = record { more = []; steps_of = none_
 abbrev pub root : List Chain
 root = record { sites = []; under = None } ∷ []
 
-pub root_steps : (steps : List Step) → steps ≡ step.Block ∷ [] → AreSteps root steps
+pub root_steps : (steps : List Step) → steps ≡ Step.Block ∷ [] → AreSteps root steps
 root_steps steps e = subst (λ (x : List Step). AreSteps root x) (sym e) (record { many = refl; whole = refl; each = each })
   where
-    each : (k : ℕ) (x : Step) → slice_get (step.Block ∷ []) k ≡ Some x → IsStep root k x
-    each zero x q = let i : step.Block ≡ x = cc q in subst (λ (y : Step). IsStep root 0 y) i refl
+    each : (k : ℕ) (x : Step) → slice_get (Step.Block ∷ []) k ≡ Some x → IsStep root k x
+    each zero x q = let i : Step.Block ≡ x = cc q in subst (λ (y : Step). IsStep root 0 y) i refl
     each (suc k) x q = cc q
 
 pub planned : (j : JobView) (mid last : List Step) (passes : List ℕ) (filters : List (Option NamedSteps))

@@ -1,34 +1,23 @@
 -- Selections that were made stay made.
 use Rattle.std.proofs.Common.{◌≡◌, ◌⊎◌, inl, inr, ℕ, ◌<◌, List, [], ◌∷◌, ◌++◌, Option, Some, sym, ◌∙◌, ap, subst, slice_get, length, zero, suc, true, refl, arith, ◌-◌, ◌+◌, ◌≤◌, None, slice_set, slice_range}
 use Rattle.std.specs.List.{AllByRecursion, list_any}
-use Rattle.lemmas.proofs.Places.{set_at}
-use Rattle.block_cache.specs.Lanes.{LaneView}
-use Rattle.loop_keys.specs.Jobs.{JobView, IsJob, job_graph, passes_in, outcome_of}
-use Rattle.block_passes.specs.Tries.{AreRemade, IsMadeAt, IsMadeBelow, IsSelectedTo, IsNamedMade, IsPassMade, IsPlanMade, IsPassTried, IsReadBelow, IsSearchedTo}
-use Rattle.block_passes.specs.Plans.{PlanView, IsPlan, Chain}
+use Rattle.lemmas.proofs.{lt_or_last, range_length, set_at}
+use Rattle.block_cache.specs.{LaneView}
+use Rattle.loop_keys.specs.{is_covering, IsCovered, IsJob, IsReportPass, job_graph, JobView, numbered_passes, outcome_of, pass_fault, passes_in, source_at}
+use Rattle.block_passes.specs.{AreAtHand, AreRemade, Chain, fault_of, IsMadeAt, IsMadeBelow, IsNamedMade, IsPassMade, IsPassTried, IsPlan, IsPlanMade, IsReadBelow, IsSearched, IsSearchedTo, IsSelectedTo, PlanView}
 use Rattle.block_passes.specs.declared.found.Found.{Found}
 use Rattle.block_passes.specs.declared.kept.Kept.{Kept}
 use Rattle.block_passes.specs.declared.plan.NamedSteps.{NamedSteps}
 use Rattle.block_passes.proofs.Selecting.{set_behind, set_other}
 use Rattle.loop_keys.proofs.PassNumbers.{some_same}
 use Rattle.std.proofs.lemmas.Option.{slice_get_within}
-use Rattle.graph_numbers.specs.Graphs.{graph_filters, graph_results}
-use Rattle.graph_numbers.specs.Results.{FilterAt}
-use Rattle.loop_keys.specs.Caches.{IsCovered}
-use Rattle.loop_keys.specs.Turns.{IsReportPass, is_covering, numbered_passes, pass_fault}
+use Rattle.graph_numbers.specs.{FilterAt, graph_filters, graph_results}
 use Rattle.loop_keys.proofs.Covered.{covered_there, passes_count}
 use Rattle.loop_keys.proofs.ReportTies.{contained_at, of_report}
 use Rattle.block_passes.proofs.PlanSteps.{covered_is}
-use Rattle.lemmas.proofs.Orders.{lt_or_last}
-use Rattle.lemmas.proofs.Parts.{range_length}
-use Rattle.rdf_values.specs.Bookings.{Pass}
-use Rattle.rdf_values.specs.declared.fault.EntryFault.{EntryFault}
-use Rattle.rdf_values.specs.declared.value.Value.{Value}
-use Rattle.rdf_model.specs.Results.{fault_in, first_fault_from}
-use Rattle.loop_keys.specs.Store.{source_at}
-use Rattle.block_passes.specs.Inputs.{AreAtHand}
+use Rattle.rdf_values.specs.{EntryFault, Pass, Value}
+use Rattle.rdf_model.specs.{fault_in, first_fault_from}
 use Rattle.block_passes.specs.Spends.{Spends}
-use Rattle.block_passes.specs.Searches.{IsSearched, fault_of}
 use Rattle.block_passes.proofs.Searching.{row_in_block, searched, searched_as, or_else, part_tried, pass_begins, pass_ends}
 use Rattle.block_passes.proofs.Serving.{still_at_hand}
 

@@ -1,23 +1,13 @@
 -- How the search goes on, part after part and pass after pass.
 use Rattle.std.proofs.Common.{◌≡◌, ◌⊎◌, inl, inr, ℕ, ◌+◌, ◌<◌, Option, None, Some, refl, sym, ◌∙◌, ap, subst, arith, if◌then◌else◌, Bool, true, false, ◌&&◌, List, [], ◌∷◌, ◌++◌, slice_get, zero, suc, ◌-◌, length, take, drop, slice_range}
-use Rattle.rdf_values.specs.declared.fault.EntryFault.{EntryFault}
-use Rattle.rdf_values.specs.declared.fault.Fault.{Fault}
-use Rattle.block_passes.specs.Searches.{IsAmid, IsSearched, Lowers, fault_at, fault_of, feeding_fault, where_passed}
+use Rattle.rdf_values.specs.{ActionKind, EntryFault, Fault, feed_fault, Pass, Value}
+use Rattle.block_passes.specs.{Chain, fault_at, fault_of, feeding_fault, IsLast, IsSearched, Lowers, through_chain, where_passed}
+use Rattle.block_passes.specs.Searches.{IsAmid}
 use Rattle.block_passes.specs.declared.found.Found.{Found}
-use Rattle.rdf_values.specs.Spread.{feed_fault}
-use Rattle.rdf_values.specs.declared.action.ActionKind.{ActionKind}
-use Rattle.rdf_values.specs.declared.value.Value.{Value}
-use Rattle.rdf_values.specs.declared.value.Value.TheVariants as val
-use Rattle.rdf_model.specs.Evaluation.{Outcome, Gives, Faults, Needs, ◌>>=◌, for_all}
-use Rattle.rdf_model.specs.EntryOutcomes.{Entry, Skip, feed_outcome, truth_of, unless_fault}
-use Rattle.rdf_model.specs.Results.{fault_in, is_true, Dataset, fault_or, first_of, first_fault_from, first_fault_in}
-use Rattle.graph_numbers.specs.Outcomes.{action_numbers, report_numbers, through_filter, through_sites}
-use Rattle.graph_numbers.specs.Results.{FilterAt, ResultAt}
-use Rattle.loop_keys.specs.Jobs.{JobView}
-use Rattle.loop_keys.specs.Store.{site_in}
-use Rattle.block_passes.specs.Plans.{IsLast, through_chain, Chain}
-use Rattle.rdf_values.specs.Bookings.{Pass}
-use Rattle.lemmas.proofs.Orders.{lt_or_last}
+use Rattle.rdf_model.specs.{◌>>=◌, Dataset, Entry, fault_in, fault_or, Faults, feed_outcome, first_fault_from, first_fault_in, first_of, for_all, Gives, is_true, Needs, Outcome, Skip, truth_of, unless_fault}
+use Rattle.graph_numbers.specs.{action_numbers, FilterAt, report_numbers, ResultAt, through_filter, through_sites}
+use Rattle.loop_keys.specs.{JobView, site_in}
+use Rattle.lemmas.proofs.{lt_or_last}
 
 -- the former fault, or else the latter
 abbrev pub or_else : Option EntryFault → Option EntryFault → Option EntryFault
@@ -148,9 +138,9 @@ module _ (fault : ℕ → ℕ → Option EntryFault) (first count : ℕ) where
 
 -- the truth of a value is no fault
 pub truth_fault : (o : Outcome ⊥ Value) → fault_in (o >>= truth_of) ≡ fault_in o
-truth_fault (Gives (val.Int z)) = refl
-truth_fault (Gives (val.Bool b)) = refl
-truth_fault (Gives (val.Vect zs)) = refl
+truth_fault (Gives (Value.Int z)) = refl
+truth_fault (Gives (Value.Bool b)) = refl
+truth_fault (Gives (Value.Vect zs)) = refl
 truth_fault (Faults k) = refl
 truth_fault (Needs m) = elim m [ ]
 

@@ -1,21 +1,14 @@
 -- A step's selection from that of the step above it.
 use Rattle.std.proofs.Common.{◌≡◌, ◌⊎◌, inl, inr, ℕ, ◌+◌, ◌≤◌, Bool, true, ◌&&◌, List, [], length, Option, None, Some, refl, sym, ◌∙◌, ap, subst, arith, nat_lt, if◌then◌else◌, zero, suc, ◌<◌, false, ◌∷◌, slice_get, get_or, ◌++◌, length-append, filter, slice_set}
 use Rattle.std.specs.List.{range_with_len}
-use Rattle.rdf_model.specs.Evaluation.{Outcome}
-use Rattle.rdf_model.specs.Results.{fault_in, is_true}
-use Rattle.graph_numbers.specs.Outcomes.{through_sites}
-use Rattle.expr_lanes.specs.Places.{is_in, EachPlace, AreRising, IsSelected}
-use Rattle.block_cache.specs.Lanes.{LaneView}
-use Rattle.loop_keys.specs.Jobs.{IsJob, JobView}
-use Rattle.loop_keys.specs.Known.{truth_in}
-use Rattle.loop_keys.specs.Store.{site_in}
+use Rattle.rdf_model.specs.{fault_in, is_true, Outcome}
+use Rattle.graph_numbers.specs.{through_sites}
+use Rattle.expr_lanes.specs.{AreRising, EachPlace, is_in, IsSelected}
+use Rattle.block_cache.specs.{fault_over, IsPassedOver, IsSpentOver, LaneView, PlaceFault}
+use Rattle.loop_keys.specs.{HasAllDemands, IsJob, JobView, site_in, truth_in}
 use Rattle.loop_keys.proofs.TableLaws.{row_there}
-use Rattle.loop_keys.specs.Turns.{HasAllDemands}
-use Rattle.block_cache.specs.Fills.{IsSpentOver, IsPassedOver, fault_over}
-use Rattle.block_passes.specs.Spends.{Demands, Spends, IsSettledAt}
-use Rattle.block_passes.specs.Searches.{where_passed, Lowers, where_in, noted}
-use Rattle.block_passes.specs.Plans.{IsTried, through_chain, IsPlan, PlanView, Chain, longer, AreSteps, IsFilterStep}
-use Rattle.block_passes.specs.Tries.{AreKept, IsFilteredTo, IsMade, IsNarrowed, chosen, IsNextSelected, IsReadyBelow, IsSelectedTo}
+use Rattle.block_passes.specs.{AreKept, AreSteps, Chain, chosen, Demands, IsFilteredTo, IsFilterStep, IsMade, IsNarrowed, IsNextSelected, IsPlan, IsReadyBelow, IsSelectedTo, IsSettledAt, IsTried, longer, Lowers, noted, PlanView, through_chain, where_in, where_passed}
+use Rattle.block_passes.specs.Spends.{Spends}
 use Rattle.block_passes.specs.declared.found.Found.{Found}
 use Rattle.block_passes.specs.declared.kept.Kept.{Kept}
 use Rattle.block_passes.proofs.Demanding.{step_demanded}
@@ -23,12 +16,10 @@ use Rattle.block_passes.proofs.Places.{chosen_below, in_chosen, all_pass, filter
 use Rattle.block_passes.proofs.Searching.{step_fault, step_true, truth_fault, chain_through, both_lower, lowers_as, or_else, none_lowers}
 use Rattle.block_passes.proofs.Spending.{spends_filled}
 use Rattle.std.proofs.lemmas.Option.{slice_get_within, slice_get-get_or}
-use Rattle.lemmas.proofs.Places.{set_at, set_length, kept_at}
+use Rattle.lemmas.proofs.{kept_at, set_at, set_length}
 use Rattle.block_passes.specs.declared.steps.Step.{Step}
 use Rattle.loop_keys.proofs.PassNumbers.{some_same}
-use Rattle.block_passes.specs.declared.steps.Step.TheVariants as step
 use Rattle.expr_lanes.specs.declared.TheConstants.{MAX_PLACES}
-use Rattle.block_cache.specs.declared.faults.PlaceFault.{PlaceFault}
 use Rattle.block_passes.proofs.Serving.{filled_over}
 
 module _ (j : JobView) (first : ℕ) (up : Chain) (site : ℕ) (u : Option ℕ) (alike : (up.sites ≡ []) ⊎ (up.under ≡ u)) where
@@ -246,11 +237,11 @@ set_there (w ∷ xs) ys y h = set_there xs ys y h
 
 -- ---- the step
 
-module _ (j : JobView) (job : IsJob j) (first count pass : ℕ) (plan : PlanView) (p : IsPlan j plan) (k parent site : ℕ) (u : Option ℕ) (its : slice_get plan.steps k ≡ Some (step.Filter parent site u))
+module _ (j : JobView) (job : IsJob j) (first count pass : ℕ) (plan : PlanView) (p : IsPlan j plan) (k parent site : ℕ) (u : Option ℕ) (its : slice_get plan.steps k ≡ Some (Step.Filter parent site u))
     (within : first + count ≤ length j.dataset.rows) (above own : List Kept) (from : Kept) (here : slice_get above parent ≡ Some from) (many : length above ≡ k)
     (before : List LaneView) (f1 : Found) (ready : IsReadyBelow j first count p.chains f1.limit before (above ++ own)) (made : from.limit ≡ Some f1.limit) where
   abbrev s : IsFilterStep p.chains k parent site u
-  s = p.steps.each k (step.Filter parent site u) its
+  s = p.steps.each k (Step.Filter parent site u) its
 
   tried : IsTried j (longer s.up site u)
   tried = p.tried k (longer s.up site u) s.own

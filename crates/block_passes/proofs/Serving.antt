@@ -2,62 +2,33 @@
 use Rattle.std.proofs.Common.{◌≡◌, ℕ, ◌+◌, ◌<◌, ◌≤◌, Bool, true, false, ◌&&◌, List, Option, None, Some, sym, ◌∙◌, ap, subst, arith, nat_lt, refl, slice_get, if◌then◌else◌, ◌⊎◌, inl, inr, ℤ, get_or, option_map, Result, [], length, pos, ◌∷◌, filter, nat_abs, slice_index_or}
 use Rattle.std.specs.List.{AllByRecursion}
 use Rattle.std.proofs.lemmas.Bool.Decides.{Decides-ltb}
-use Rattle.rdf_model.specs.Results.{fault_in}
-use Rattle.graph_numbers.specs.Sources.{cell_value}
-use Rattle.graph_numbers.specs.declared.source.Source.{Source}
-use Rattle.graph_numbers.specs.declared.source.Source.TheVariants as from
-use Rattle.expr_lanes.specs.Places.{AreRising, EachPlace, is_in, at_place}
-use Rattle.block_cache.specs.Lanes.{LaneView, is_held, kinds_of, value_of}
-use Rattle.loop_keys.specs.Jobs.{JobView, job_graph}
-use Rattle.loop_keys.specs.Store.{row_of, IsSourceIn, IsRight, held_element, held_in, site_in, is_held as is_known, source_at, version_in}
-use Rattle.rdf_values.specs.declared.value.Value.{Value}
-use Rattle.loop_keys.specs.Turns.{HasAllDemands}
-use Rattle.block_cache.specs.Blocks.{AreReady, cells_at, held_value}
-use Rattle.block_cache.specs.Fills.{IsFilledTo, IsSettled, IsSpentOver, site_fault, below_fault, fault_over, holds_at, lane_holds, AreSiteKinds}
-use Rattle.block_cache.specs.declared.faults.PlaceFault.{PlaceFault}
-use Rattle.block_passes.specs.Inputs.{DemandsSource, IsAtHand, IsServedTo, source_fault, element_fault, AreAtHand, CanServe, DemandsInputs, inputs_fault}
-use Rattle.block_passes.specs.Searches.{Lowers, noted, where_in}
-use Rattle.block_passes.specs.Spends.{IsSettledAt, Spends}
+use Rattle.rdf_model.specs.{◌>>=◌, fault_in, Faults, Gives, Needs, Outcome, tag_element, with_needs}
+use Rattle.graph_numbers.specs.{cell_value, graph_sites, HasInputs, HasSourceIn, IfGiven, IsSiteExpr, Source}
+use Rattle.expr_lanes.specs.{AreRising, at_place, EachPlace, is_in}
+use Rattle.block_cache.specs.{AreReady, AreSiteKinds, below_fault, cells_at, fault_over, held_value, holds_at, is_held, IsFilledTo, IsSettled, IsSpentOver, kinds_of, lane_holds, LaneView, PlaceFault, site_fault, value_for, value_of}
+use Rattle.loop_keys.specs.{ArePlainVersions, HasAllDemands, Held, held_element, held_in, is_held as is_known, IsRight, IsSourceIn, job_graph, JobView, key, key_count, row_of, site_in, source_at, version_in}
+use Rattle.rdf_values.specs.{ColType, Column, EntryFault, kind_at, Value}
+use Rattle.block_passes.specs.{AreAtHand, CanServe, DemandsInputs, DemandsSource, element_fault, inputs_fault, IsAtHand, IsNumberOf, IsServedTo, IsSettledAt, Lowers, noted, source_fault, where_in}
+use Rattle.block_passes.specs.Spends.{Spends}
 use Rattle.block_passes.specs.declared.found.Found.{Found}
 use Rattle.block_passes.specs.declared.kept.Kept.{Kept}
 use Rattle.block_passes.proofs.Places.{left_below, over_lowers, selected_or_none, filter_twice}
 use Rattle.block_passes.proofs.Searching.{none_lowers, both_lower, lowers_as, or_else, inputs_fault as all_fault}
 use Rattle.block_passes.proofs.Spending.{settled_outside, spends_filled}
-use Rattle.lemmas.proofs.Booleans.{and_false, and_true}
-use Rattle.rdf_values.specs.declared.fault.EntryFault.{EntryFault}
+use Rattle.lemmas.proofs.{and_false, and_true, lt_says, something_at}
 use Rattle.block_cache.proofs.LaneSteps.{filter_all}
 use Rattle.std.proofs.lemmas.Option.{slice_get-get_or, slice_get_read}
-use Rattle.rdf_values.specs.Tables.{kind_at}
-use Rattle.rdf_values.specs.declared.column.Column.{Column}
-use Rattle.lemmas.proofs.Places.{something_at}
-use Rattle.rdf_values.specs.declared.value.ColType.{ColType}
-use Rattle.rdf_values.specs.declared.value.ColType.TheVariants as kind
-use Rattle.rdf_values.specs.declared.value.Value.TheVariants as val
-use Rattle.rdf_model.specs.ColumnValues.{tag_element}
-use Rattle.rdf_model.specs.Demanded.{with_needs}
-use Rattle.rdf_model.specs.Evaluation.{Outcome, Gives, Faults, Needs, ◌>>=◌}
 use Rattle.rdf_model.proofs.Missing.{alike_is, tag_alike}
-use Rattle.expr_eval.specs.Inputs.{input_outcome}
-use Rattle.expr_eval.specs.declared.inputs.Input.{Input}
-use Rattle.expr_eval.specs.declared.inputs.Input.TheVariants as told
-use Rattle.graph_numbers.specs.Graphs.{graph_sites, IsSiteExpr}
-use Rattle.block_cache.specs.Values.{value_for}
+use Rattle.expr_eval.specs.{Input, input_outcome}
 use Rattle.loop_keys.proofs.KeyLaws.{key_small}
-use Rattle.loop_keys.specs.Keys.{key, key_count}
-use Rattle.loop_keys.specs.declared.held.Held.{Held}
-use Rattle.loop_keys.specs.declared.held.Held.TheVariants as held
 use Rattle.block_cache.proofs.BlockLaws.{held_of_lane, lane_held, right_value, value_told}
 use Rattle.block_cache.proofs.CanTries.{got_kind}
 use Rattle.block_cache.proofs.OverLaws.{held_true}
-use Rattle.block_passes.specs.Feeds.{IsNumberOf}
-use Rattle.expr_check.specs.NumKinds.{CheckedExpr}
-use Rattle.graph_numbers.specs.Meets.{HasInputs, HasSourceIn, IfGiven}
-use Rattle.loop_keys.specs.Plain.{ArePlainVersions}
+use Rattle.expr_check.specs.{CheckedExpr}
 use Rattle.block_cache.proofs.Knowns.{holds_is, holds_on}
 use Rattle.expr_lanes.proofs.Choices.{in_filter}
 use Rattle.expr_lanes.proofs.Sequence.{filtered_in}
 use Rattle.block_cache.proofs.Members.{filter_passes}
-use Rattle.lemmas.proofs.Orders.{lt_says}
 
 -- ---- one site
 
@@ -112,7 +83,7 @@ none_served j first count part pass to lanes s ready made inside settled none = 
 }
 
 -- a column is at hand, and never faults
-module _ (j : JobView) (first : ℕ) (u : Option ℕ) (col : ℕ) (x : Source) (e : x ≡ from.Cell col) where
+module _ (j : JobView) (first : ℕ) (u : Option ℕ) (col : ℕ) (x : Source) (e : x ≡ Source.Cell col) where
   pub column_clear : (sel : List ℕ) → EachPlace sel (λ p. source_fault j first u x p ≡ None)
   column_clear sel p i = ap (λ (y : Source). source_fault j first u y p) e ∙ none (slice_get (row_of j (first + p)) col)
     where
@@ -181,15 +152,15 @@ given_none (Faults k) h = cc h
 given_none (Needs m) h = elim m [ ]
 
 pub known_held : (h : Held) (n tags : ℕ) (v : Value) → held_element 0 h n tags ≡ Gives v → is_known h ≡ true
-known_held held.Nothing n tags v e = cc e
-known_held (held.Int z) n tags v e = refl
-known_held (held.Bool b) n tags v e = refl
-known_held (held.Vect zs) n tags v e = refl
-known_held (held.Faulted k) n tags v e = refl
+known_held Held.Nothing n tags v e = cc e
+known_held (Held.Int z) n tags v e = refl
+known_held (Held.Bool b) n tags v e = refl
+known_held (Held.Vect zs) n tags v e = refl
+known_held (Held.Faulted k) n tags v e = refl
 
 -- a value that an input tells
-vect_told : (i : Input) (w : Value) → input_outcome 0 i ≡ Gives w → (zs : _) → i ≡ told.Vect zs → w ≡ val.Vect zs.now
-vect_told i w e zs is = let f : ◌≡◌ {A = Outcome ℕ Value} (Gives (val.Vect zs.now)) (Gives w) = sym (ap (input_outcome 0) is) ∙ e in cc f
+vect_told : (i : Input) (w : Value) → input_outcome 0 i ≡ Gives w → (zs : _) → i ≡ Input.Vect zs → w ≡ Value.Vect zs.now
+vect_told i w e zs is = let f : ◌≡◌ {A = Outcome ℕ Value} (Gives (Value.Vect zs.now)) (Gives w) = sym (ap (input_outcome 0) is) ∙ e in cc f
 
 module _ (j : JobView) (first count : ℕ) (u : Option ℕ) (s : ℕ) (inside : s < length (graph_sites (job_graph j))) (lanes : List LaneView) (ready : AreReady j first count lanes) (p : ℕ) (low : p < count) where
   abbrev k : ℕ
@@ -215,36 +186,36 @@ module _ (j : JobView) (first count : ℕ) (u : Option ℕ) (s : ℕ) (inside : 
       pub input_given : input_outcome 0 i ≡ Gives (value_of l p)
       input_given = input 0 ∙ ap (λ b. if b then Gives (value_of l p) else Needs 0) lane_is_held
 
-      pub input_vect : (zs : _) → i ≡ told.Vect zs → site_in {M = ⊥} j (first + p) u s ≡ Gives (val.Vect zs.now)
+      pub input_vect : (zs : _) → i ≡ Input.Vect zs → site_in {M = ⊥} j (first + p) u s ≡ Gives (Value.Vect zs.now)
       input_vect zs is = lane_gives ∙ ap Gives (vect_told i (value_of l p) input_given zs is)
 
-      pub input_other : (tags n : ℕ) (v : Value) → input_outcome 0 i ≡ Gives v → tag_element {M = ⊥} tags n v ≡ Gives (val.Int (pos 0)) → (site_in {M = ⊥} j (first + p) u s >>= tag_element tags n) ≡ Gives (val.Int (pos 0))
+      pub input_other : (tags n : ℕ) (v : Value) → input_outcome 0 i ≡ Gives v → tag_element {M = ⊥} tags n v ≡ Gives (Value.Int (pos 0)) → (site_in {M = ⊥} j (first + p) u s >>= tag_element tags n) ≡ Gives (Value.Int (pos 0))
       input_other tags n v is none =
           let same : value_of l p ≡ v = (let f : ◌≡◌ {A = Outcome ℕ Value} (Gives (value_of l p)) (Gives v) = sym input_given ∙ is in cc f) in
           ap (λ (o : Outcome ⊥ Value). o >>= tag_element tags n) (lane_gives ∙ ap Gives same) ∙ none
 
       -- a lane of vectors tells a vector
-      pub vect_only : slice_get (kinds_of lanes) k ≡ Some kind.Vect → ((x : ℤ) × (i ≡ told.Int x)) ⊎ (((x : Bool) × (i ≡ told.Bool x)) ⊎ (((x : EntryFault) × (i ≡ told.Faulted x)) ⊎ (i ≡ told.Missing))) → ⊥
+      pub vect_only : slice_get (kinds_of lanes) k ≡ Some ColType.Vect → ((x : ℤ) × (i ≡ Input.Int x)) ⊎ (((x : Bool) × (i ≡ Input.Bool x)) ⊎ (((x : EntryFault) × (i ≡ Input.Faulted x)) ⊎ (i ≡ Input.Missing))) → ⊥
       vect_only vectors other = go other
         where
-          kind_is : l.kind ≡ kind.Vect
-          kind_is = let f : ◌≡◌ {A = Option ColType} (Some l.kind) (Some kind.Vect) = sym (got_kind lanes k l at) ∙ vectors in cc f
+          kind_is : l.kind ≡ ColType.Vect
+          kind_is = let f : ◌≡◌ {A = Option ColType} (Some l.kind) (Some ColType.Vect) = sym (got_kind lanes k l at) ∙ vectors in cc f
 
-          tells : input_outcome 0 i ≡ Gives (value_for kind.Vect l.vectors (at_place l.numbers p))
+          tells : input_outcome 0 i ≡ Gives (value_for ColType.Vect l.vectors (at_place l.numbers p))
           tells = input_given ∙ ap (λ t. Gives (value_for t l.vectors (at_place l.numbers p))) kind_is
 
-          go : ((x : ℤ) × (i ≡ told.Int x)) ⊎ (((x : Bool) × (i ≡ told.Bool x)) ⊎ (((x : EntryFault) × (i ≡ told.Faulted x)) ⊎ (i ≡ told.Missing))) → ⊥
-          go (inl x) = let f : ◌≡◌ {A = Outcome ℕ Value} (Gives (val.Int x.0)) (Gives (val.Vect (slice_index_or l.vectors (nat_abs (at_place l.numbers p)) []))) = sym (ap (input_outcome 0) x.1) ∙ tells in cc f
-          go (inr (inl x)) = let f : ◌≡◌ {A = Outcome ℕ Value} (Gives (val.Bool x.0)) (Gives (val.Vect (slice_index_or l.vectors (nat_abs (at_place l.numbers p)) []))) = sym (ap (input_outcome 0) x.1) ∙ tells in cc f
+          go : ((x : ℤ) × (i ≡ Input.Int x)) ⊎ (((x : Bool) × (i ≡ Input.Bool x)) ⊎ (((x : EntryFault) × (i ≡ Input.Faulted x)) ⊎ (i ≡ Input.Missing))) → ⊥
+          go (inl x) = let f : ◌≡◌ {A = Outcome ℕ Value} (Gives (Value.Int x.0)) (Gives (Value.Vect (slice_index_or l.vectors (nat_abs (at_place l.numbers p)) []))) = sym (ap (input_outcome 0) x.1) ∙ tells in cc f
+          go (inr (inl x)) = let f : ◌≡◌ {A = Outcome ℕ Value} (Gives (Value.Bool x.0)) (Gives (Value.Vect (slice_index_or l.vectors (nat_abs (at_place l.numbers p)) []))) = sym (ap (input_outcome 0) x.1) ∙ tells in cc f
           go (inr (inr (inl x))) = let f : ◌≡◌ {A = Outcome ℕ Value} (Faults x.0) (Gives (value_of l p)) = sym (ap (input_outcome 0) x.1) ∙ input_given in cc f
           go (inr (inr (inr x))) = let f : ◌≡◌ {A = Outcome ℕ Value} (Needs 0) (Gives (value_of l p)) = sym (ap (input_outcome 0) x) ∙ input_given in cc f
 
       -- what has no elements has 0 for each
-      pub scalar_input : (tags n : ℕ) → ((x : ℤ) × (i ≡ told.Int x)) ⊎ ((x : Bool) × (i ≡ told.Bool x)) → (site_in {M = ⊥} j (first + p) u s >>= tag_element tags n) ≡ Gives (val.Int (pos 0))
-      scalar_input tags n (inl x) = input_other tags n (val.Int x.0) (ap (input_outcome 0) x.1) refl
-      scalar_input tags n (inr x) = input_other tags n (val.Bool x.0) (ap (input_outcome 0) x.1) refl
+      pub scalar_input : (tags n : ℕ) → ((x : ℤ) × (i ≡ Input.Int x)) ⊎ ((x : Bool) × (i ≡ Input.Bool x)) → (site_in {M = ⊥} j (first + p) u s >>= tag_element tags n) ≡ Gives (Value.Int (pos 0))
+      scalar_input tags n (inl x) = input_other tags n (Value.Int x.0) (ap (input_outcome 0) x.1) refl
+      scalar_input tags n (inr x) = input_other tags n (Value.Bool x.0) (ap (input_outcome 0) x.1) refl
 
-      pub never_stops : ((x : EntryFault) × (i ≡ told.Faulted x)) ⊎ (i ≡ told.Missing) → ⊥
+      pub never_stops : ((x : EntryFault) × (i ≡ Input.Faulted x)) ⊎ (i ≡ Input.Missing) → ⊥
       never_stops (inl x) = let f : ◌≡◌ {A = Outcome ℕ Value} (Faults x.0) (Gives (value_of l p)) = sym (ap (input_outcome 0) x.1) ∙ input_given in cc f
       never_stops (inr x) = let f : ◌≡◌ {A = Outcome ℕ Value} (Needs 0) (Gives (value_of l p)) = sym (ap (input_outcome 0) x) ∙ input_given in cc f
 
@@ -258,7 +229,7 @@ module _ (j : JobView) (first count : ℕ) (u : Option ℕ) (s : ℕ) (inside : 
   -- ---- its elements
 
   module _ (n tags : ℕ) where
-    pub hand_given : holds_at lanes k p ≡ true → (v : Value) → (site_in {M = ⊥} j (first + p) u s >>= tag_element tags n) ≡ Gives v → IsAtHand j lanes u p (from.Element s n tags)
+    pub hand_given : holds_at lanes k p ≡ true → (v : Value) → (site_in {M = ⊥} j (first + p) u s >>= tag_element tags n) ≡ Gives v → IsAtHand j lanes u p (Source.Element s n tags)
     hand_given holds v e =
         let w = held_site holds in (
           v,
@@ -266,10 +237,10 @@ module _ (j : JobView) (first count : ℕ) (u : Option ℕ) (s : ℕ) (inside : 
               ∙ ap (with_needs {M = ℕ}) (sym (ap (λ (o : Outcome ⊥ Value). o >>= tag_element tags n) w.2) ∙ e),
         )
 
-    pub hand_holds : IsAtHand j lanes u p (from.Element s n tags) → holds_at lanes k p ≡ true
+    pub hand_holds : IsAtHand j lanes u p (Source.Element s n tags) → holds_at lanes k p ≡ true
     hand_holds h = sym (holds_is (key_count (job_graph j)) lanes k p) ∙ known_held cell n tags h.0 h.1
 
-    pub hand_value : IsAtHand j lanes u p (from.Element s n tags) → (v : Value) × ((site_in {M = ⊥} j (first + p) u s >>= tag_element tags n) ≡ Gives v)
+    pub hand_value : IsAtHand j lanes u p (Source.Element s n tags) → (v : Value) × ((site_in {M = ⊥} j (first + p) u s >>= tag_element tags n) ≡ Gives v)
     hand_value h =
         let w = held_site (hand_holds h) in (
           h.0,
@@ -278,7 +249,7 @@ module _ (j : JobView) (first count : ℕ) (u : Option ℕ) (s : ℕ) (inside : 
         )
 
 -- the number of an element
-pub number_of : (o : Outcome ⊥ Value) (tags n : ℕ) (zs : List ℤ) (r : Result ℤ EntryFault) → o ≡ Gives (val.Vect zs) → IsNumberOf (tag_element {M = ⊥} tags n (val.Vect zs)) r → IsNumberOf (o >>= tag_element tags n) r
+pub number_of : (o : Outcome ⊥ Value) (tags n : ℕ) (zs : List ℤ) (r : Result ℤ EntryFault) → o ≡ Gives (Value.Vect zs) → IsNumberOf (tag_element {M = ⊥} tags n (Value.Vect zs)) r → IsNumberOf (o >>= tag_element tags n) r
 number_of o tags n zs r e h = subst (λ (x : Outcome ⊥ Value). IsNumberOf (x >>= tag_element tags n) r) (sym e) h
 
 pub no_number : (o : Outcome ⊥ Value) (k : EntryFault) → (v : Value) × (o ≡ Gives v) → o ≡ Faults k → ⊥
@@ -321,7 +292,7 @@ module _ (j : JobView) (first count : ℕ) (u : Option ℕ) (s n tags pass : ℕ
       (λ p. element_or (site_in {M = ⊥} j (first + p) u s) tags n)
 
   -- the elements that are left are at hand
-  pub element_held : s < length (graph_sites (job_graph j)) → f2.limit ≤ count → EachPlace mid.places (λ p. holds_at lanes (key (job_graph j) s u) p ≡ true) → EachPlace to.places (λ p. IsAtHand j lanes u p (from.Element s n tags))
+  pub element_held : s < length (graph_sites (job_graph j)) → f2.limit ≤ count → EachPlace mid.places (λ p. holds_at lanes (key (job_graph j) s u) p ≡ true) → EachPlace to.places (λ p. IsAtHand j lanes u p (Source.Element s n tags))
   element_held inside le holds p i =
       let was = served_among j first count (element_fault j first u s n tags) pass mid.places to lanes f1 f2 k p i in
       let lt = served_inside j first count (element_fault j first u s n tags) pass mid.places to lanes f1 f2 k p i in
@@ -333,18 +304,18 @@ module _ (j : JobView) (first count : ℕ) (u : Option ℕ) (s n tags pass : ℕ
 
 -- what is at hand stays so
 pub still_at_hand : (j : JobView) (first count : ℕ) (before after : List LaneView) (start end : ℕ) → Spends j first count before after start end → (u : Option ℕ) (p : ℕ) (x : Source) → IsAtHand j before u p x → IsAtHand j after u p x
-still_at_hand j first count before after start end spends u p (from.Cell col) h = tt
-still_at_hand j first count before after start end spends u p (from.Site s) h = holds_on (key_count (job_graph j)) before after (key (job_graph j) s u) p (spends.grows p) h
-still_at_hand j first count before after start end spends u p (from.Element s k tags) h =
+still_at_hand j first count before after start end spends u p (Source.Cell col) h = tt
+still_at_hand j first count before after start end spends u p (Source.Site s) h = holds_on (key_count (job_graph j)) before after (key (job_graph j) s u) p (spends.grows p) h
+still_at_hand j first count before after start end spends u p (Source.Element s k tags) h =
     let cell = held_in (cells_at (key_count (job_graph j)) before p) (key (job_graph j) s u) in (
       h.0,
       ap (λ (x : Held). held_element 0 x k tags) (spends.grows p (key (job_graph j) s u) (known_held cell k tags h.0 h.1)) ∙ h.1,
     )
 
 of_set : (D : ℕ → Bool) (x : Source) → HasSourceIn (λ s. D s ≡ true) x → IsSourceIn D x
-of_set D (from.Cell col) h = tt
-of_set D (from.Site s) h = h
-of_set D (from.Element s k tags) h = h
+of_set D (Source.Cell col) h = tt
+of_set D (Source.Site s) h = h
+of_set D (Source.Element s k tags) h = h
 
 none_given : (o : Outcome ⊥ Value) (X : Type 0) → fault_in o ≡ None → IfGiven o X → X
 none_given (Gives v) X h x = x

@@ -4,64 +4,38 @@ use Rattle.std.specs.List.{AllByRecursion}
 use Rattle.std.proofs.lemmas.Bool.Decides.{Decides-eqb}
 use Rattle.std.proofs.lemmas.List.{append-nil, length-replicate, get_or-replicate}
 use Rattle.std.proofs.lemmas.List.Elements.{recursion_from_All}
-use Rattle.lemmas.proofs.Places.{kept_at, something_at}
-use Rattle.rdf_values.specs.Depends.{columns_in}
-use Rattle.rdf_values.specs.Kinds.{FunctionNames, column_kind, kind_by, kind_of, scope_of, shape_of}
-use Rattle.rdf_values.specs.Numbered.{callee, renamed}
-use Rattle.rdf_values.specs.Bookings.{ActionAt, ReportOn, columns_of, covered}
-use Rattle.rdf_values.specs.Functions.{fn_names}
-use Rattle.rdf_values.specs.Path.{history, makes, parent_of, path, Under}
-use Rattle.rdf_values.specs.Verdict.{AreAccepted, check_node, expect_kind, scope_at, check_vector_column, refuse_unless}
-use Rattle.rdf_values.specs.declared.column.Column.{Column}
-use Rattle.rdf_values.specs.declared.graph_cause.GraphCause.{GraphCause}
-use Rattle.rdf_values.specs.declared.graph_cause.GraphCause.TheVariants as cause
-use Rattle.rdf_values.specs.declared.statement.Statement.{Statement}
+use Rattle.lemmas.proofs.{kept_at, something_at}
+use Rattle.rdf_values.specs.{ActionAt, AreAccepted, callee, check_node, check_vector_column, ColType, Column, column_kind, columns_in, columns_of, covered, expect_kind, fn_names, FunctionNames, GraphCause, history, kind_by, kind_of, makes, NamedTree, NumTree, parent_of, path, refuse_unless, renamed, ReportOn, scope_at, scope_of, shape_of, Statement, Under, VaryValues}
 use Rattle.rdf_values.specs.declared.statement.Statement.TheVariants.{Action, Filter, Report, Define, Redefine, Vary}
-use Rattle.rdf_values.specs.declared.value.ColType.{ColType}
-use Rattle.rdf_values.specs.declared.value.ColType.TheVariants as kind
-use Rattle.rdf_model.specs.Demanded.{site_at, Site}
+use Rattle.rdf_model.specs.{own_place, Site, site_at}
 use Rattle.rdf_model.proofs.Accepted.{both_none, kind_expected, checked_of}
-use Rattle.expr_check.specs.NumKinds.{CheckedExpr, IsWellTyped, callee_shape, number_kind, distinct, num_kind}
+use Rattle.expr_check.specs.{callee_shape, CheckedExpr, distinct, IsWellTyped, num_kind, number_kind}
 use Rattle.expr_check.proofs.Callees.{callee_shape-callee}
 use Rattle.expr_check.proofs.Distinct.{each_from_distinct}
 use Rattle.expr_check.proofs.Typed.{columns_known, kind_by-renamed, kind_by-same}
-use Rattle.graph_numbers.specs.Graphs.{IsSiteExpr, graph_under, GraphView, graph_kinds, graph_sites, graph_variations, holds_at, site_depends_at}
-use Rattle.graph_numbers.specs.Kinds.{version_kinds}
-use Rattle.graph_numbers.specs.Results.{FilterAt, ResultAt, covered_at, filters, own_filters, own_results, results}
-use Rattle.graph_numbers.specs.Sites.{SiteAt, filter_sites, own_filter_site, own_sites, site_count, site_in, sites, depends_on}
-use Rattle.graph_numbers.specs.Versions.{version_at, named_version}
+use Rattle.graph_numbers.specs.{cell_sources, covered_at, depends_on, filter_sites, FilterAt, filters, graph_kinds, graph_sites, graph_under, graph_variations, GraphView, holds_at, IsSiteExpr, named_version, own_filter_site, own_filters, own_results, own_sites, own_source, own_sources, ResultAt, results, site_count, site_depends_at, site_in, SiteAt, sites, Source, source_in, sources, varied_sources, version_at, version_kinds}
 use Rattle.graph_numbers.proofs.Extending.{further, itself}
 use Rattle.graph_numbers.proofs.Listed.{next_at, of_joined}
 use Rattle.graph_numbers.proofs.Placing.{IsPlaced}
 use Rattle.graph_numbers.proofs.VersionKinds.{kind_later, visible_kind}
-use Rattle.loop_keys.specs.Jobs.{IsJob, JobView, job_graph}
+use Rattle.loop_keys.specs.{IsJob, job_graph, JobView, key, keys_before, own_keys, slot, slot_at, source_at}
 use Rattle.loop_keys.proofs.EvaluateLaws.{accepted_of}
-use Rattle.block_passes.specs.Plans.{IsTried, Chain}
+use Rattle.block_passes.specs.{Chain, HaveKinds, IsTried}
 use Rattle.block_passes.proofs.Demanding.{in_list, not_empty}
-use Rattle.rdf_values.specs.Tree.{NamedTree, NumTree}
 use Rattle.loop_keys.proofs.PassNumbers.{some_same}
-use Rattle.rdf_values.specs.declared.vary_values.VaryValues.{VaryValues}
 use Rattle.rdf_values.specs.declared.vary_values.VaryValues.TheVariants.{Lists, Vector}
-use Rattle.rdf_model.specs.ColumnValues.{own_place}
-use Rattle.graph_numbers.specs.Sources.{cell_sources, own_source, own_sources, source_in, sources, varied_sources}
-use Rattle.graph_numbers.specs.declared.source.Source.{Source}
-use Rattle.graph_numbers.specs.declared.source.Source.TheVariants as from
-use Rattle.loop_keys.specs.Store.{source_at}
 use Rattle.std.proofs.lemmas.Bool.{cases_eq}
 use Rattle.std.proofs.lemmas.Option.{slice_get_within, slice_get-get_or}
-use Rattle.graph.specs.Sets.{has, members_below}
-use Rattle.graph.specs.declared.var_set.VarSet.{VarSet}
-use Rattle.loop_keys.specs.Keys.{key, keys_before, own_keys, slot, slot_at}
+use Rattle.graph.specs.{has, members_below, VarSet}
 use Rattle.loop_keys.proofs.KeptKeys.{members_all}
 use Rattle.loop_keys.proofs.KeyLaws.{keys_next, slot_small}
-use Rattle.block_cache.specs.Fills.{AreSiteKinds}
-use Rattle.block_passes.specs.States.{HaveKinds}
+use Rattle.block_cache.specs.{AreSiteKinds}
 use Rattle.block_cache.proofs.CanTries.{site_tree}
 
 -- ---- the kinds of versions, as an expression lists them
 
 abbrev known : Option ColType → Result ColType GraphCause
-known None = Err cause.UnknownColumn
+known None = Err GraphCause.UnknownColumn
 known (Some k) = Ok k
 
 module _ (all : List ColType) where
@@ -159,11 +133,11 @@ module _ (header : List Column) (names : FunctionNames) where
   -- ---- the sites of filters
 
   abbrev pub IsFilterSite : List Statement → ℕ → Type 0
-  IsFilterSite before s = IsSiteOf kind.Bool before s
+  IsFilterSite before s = IsSiteOf ColType.Bool before s
 
   further_sites : (before : List Statement) (t : Statement) (ss : List ℕ) → AllByRecursion (IsFilterSite before) ss → AllByRecursion (IsFilterSite (t ∷ before)) ss
   further_sites before t [] h = tt
-  further_sites before t (s ∷ ss) h = (further_site kind.Bool before t s h.0, further_sites before t ss h.1)
+  further_sites before t (s ∷ ss) h = (further_site ColType.Bool before t s h.0, further_sites before t ss h.1)
 
   one_more : (P : ℕ → Type 0) (ss : List ℕ) (s : ℕ) → AllByRecursion P ss → P s → AllByRecursion P (ss ++ s ∷ [])
   one_more P [] s h p = (p, tt)
@@ -171,9 +145,9 @@ module _ (header : List Column) (names : FunctionNames) where
 
   filter_own : (before : List Statement) (node parent : List ℕ) (expr : _) (label : _) → AreAccepted names (scope_of header) (Filter node parent expr label ∷ before) → IsFilterSite (Filter node parent expr label ∷ before) (site_count header names before)
   filter_own before node parent expr label good =
-      let p = both_none (check_node before node parent) (expect_kind kind.Bool (kind_of (scope_at names (scope_of header) before parent) names expr) ∷ []) good.0 in
-      let q = both_none (expect_kind kind.Bool (kind_of (scope_at names (scope_of header) before parent) names expr)) [] p.1 in
-      first_site kind.Bool before (Filter node parent expr label) parent (site_at node) expr refl good.1 q.0
+      let p = both_none (check_node before node parent) (expect_kind ColType.Bool (kind_of (scope_at names (scope_of header) before parent) names expr) ∷ []) good.0 in
+      let q = both_none (expect_kind ColType.Bool (kind_of (scope_at names (scope_of header) before parent) names expr)) [] p.1 in
+      first_site ColType.Bool before (Filter node parent expr label) parent (site_at node) expr refl good.1 q.0
 
   -- a statement's own filter, and those above it
   with_own : (before : List Statement) (s : Statement) (ss : List ℕ) → AreAccepted names (scope_of header) (s ∷ before) → AllByRecursion (IsFilterSite before) ss
@@ -258,12 +232,12 @@ module _ (j : JobView) (job : IsJob j) (c : Chain) (up : List ℕ) (s : ℕ) (e 
       in_list j job c up s e IsTruth f.named.sites f.begins.rest f.begins.begins (named_filters j.dataset.columns (fn_names j.dataset.fns) (history j.script) (accepted_of j job) f.filter f.named f.its_filter)
 
   -- comes to truth values
-  pub filter_kind : IsTried j c → (x : CheckedExpr) → IsSiteExpr (job_graph j) s x → x.kind ≡ kind.Bool
-  filter_kind tried x its = kind_of_site j kind.Bool s (filter_site tried) x its
+  pub filter_kind : IsTried j c → (x : CheckedExpr) → IsSiteExpr (job_graph j) s x → x.kind ≡ ColType.Bool
+  filter_kind tried x its = kind_of_site j ColType.Bool s (filter_site tried) x its
 
 -- ---- The site of an element is one of vectors.
 
-of_some : (xs : List Source) (c t k tags : ℕ) → source_in xs c ≡ from.Element t k tags → slice_get xs c ≡ Some (from.Element t k tags)
+of_some : (xs : List Source) (c t k tags : ℕ) → source_in xs c ≡ Source.Element t k tags → slice_get xs c ≡ Some (Source.Element t k tags)
 of_some [] c t k tags h = cc h
 of_some (x ∷ xs) zero t k tags h = ap Some h
 of_some (x ∷ xs) (suc c) t k tags h = of_some xs c t k tags h
@@ -271,28 +245,28 @@ of_some (x ∷ xs) (suc c) t k tags h = of_some xs c t k tags h
 module _ (header : List Column) (names : FunctionNames) where
   -- the site is there, of an expression that was accepted as one of vectors
   abbrev IsVectorSite : List Statement → ℕ → Type 0
-  IsVectorSite before s = IsSiteOf header names kind.Vect before s
+  IsVectorSite before s = IsSiteOf header names ColType.Vect before s
 
   vector_own : (before : List Statement) (node parent : List ℕ) (columns : List (List ℕ)) (expr : _) (tags : _) (vary : _) → AreAccepted names (scope_of header) (Vary node parent columns (Vector expr) tags vary ∷ before)
       → IsVectorSite (Vary node parent columns (Vector expr) tags vary ∷ before) (site_count header names before)
   vector_own before node parent columns expr tags vary good =
       let c = checked_of names (scope_of header) before (Vary node parent columns (Vector expr) tags vary) good.0 in
-      let p = both_none (refuse_unless (nat_eq (length columns) 1) cause.WrongCount)
-      (expect_kind kind.Vect (kind_of (scope_at names (scope_of header) before parent) names expr) ∷ check_vector_column (scope_at names (scope_of header) before parent) columns ∷ []) c.1 in
-      let q = both_none (expect_kind kind.Vect (kind_of (scope_at names (scope_of header) before parent) names expr)) (check_vector_column (scope_at names (scope_of header) before parent) columns ∷ []) p.1 in
-      first_site header names kind.Vect before (Vary node parent columns (Vector expr) tags vary) parent (site_at node) expr refl good.1 q.0
+      let p = both_none (refuse_unless (nat_eq (length columns) 1) GraphCause.WrongCount)
+      (expect_kind ColType.Vect (kind_of (scope_at names (scope_of header) before parent) names expr) ∷ check_vector_column (scope_at names (scope_of header) before parent) columns ∷ []) c.1 in
+      let q = both_none (expect_kind ColType.Vect (kind_of (scope_at names (scope_of header) before parent) names expr)) (check_vector_column (scope_at names (scope_of header) before parent) columns ∷ []) p.1 in
+      first_site header names ColType.Vect before (Vary node parent columns (Vector expr) tags vary) parent (site_at node) expr refl good.1 q.0
 
   module _ (u : Under) where
-    no_cell : (n : ℕ) (cs : List Column) (c t k tags : ℕ) → slice_get (cell_sources n cs) c ≡ Some (from.Element t k tags) → ⊥
+    no_cell : (n : ℕ) (cs : List Column) (c t k tags : ℕ) → slice_get (cell_sources n cs) c ≡ Some (Source.Element t k tags) → ⊥
     no_cell n [] c t k tags h = cc h
     no_cell n (d ∷ cs) zero t k tags h = cc h
     no_cell n (d ∷ cs) (suc c) t k tags h = no_cell (suc n) cs c t k tags h
 
     abbrev OfVectors : List Statement → List Statement → Type 0
-    OfVectors before after = (c t k tags : ℕ) → slice_get (sources header names u before) c ≡ Some (from.Element t k tags) → IsVectorSite after t
+    OfVectors before after = (c t k tags : ℕ) → slice_get (sources header names u before) c ≡ Some (Source.Element t k tags) → IsVectorSite after t
 
     from_own : (before after : List Statement) (values : VaryValues) → OfVectors before after → ((e : _) → values ≡ Vector e → IsVectorSite after (site_count header names before))
-        → (i n : ℕ) (o : Option ℕ) (v t k tags : ℕ) → own_source values (site_count header names before) i n o (source_in (sources header names u before) v) ≡ from.Element t k tags → IsVectorSite after t
+        → (i n : ℕ) (o : Option ℕ) (v t k tags : ℕ) → own_source values (site_count header names before) i n o (source_in (sources header names u before) v) ≡ Source.Element t k tags → IsVectorSite after t
     from_own before after (Lists lists) old own i n None v t k tags h = old v t k tags (of_some (sources header names u before) v t k tags h)
     from_own before after (Vector e) old own i n None v t k tags h = old v t k tags (of_some (sources header names u before) v t k tags h)
     from_own before after (Lists lists) old own i n (Some m) v t k tags h = cc h
@@ -301,14 +275,14 @@ module _ (header : List Column) (names : FunctionNames) where
         subst (IsVectorSite after) is (own e refl)
 
     from_varied : (before after : List Statement) (parent : List ℕ) (values : VaryValues) (names_of : List (List ℕ)) (vary : _) → OfVectors before after → ((e : _) → values ≡ Vector e → IsVectorSite after (site_count header names before))
-        → (i : ℕ) (columns : List (List ℕ)) (c t k tags : ℕ) → slice_get (varied_sources header names u before (sources header names u before) parent values names_of vary i columns) c ≡ Some (from.Element t k tags) → IsVectorSite after t
+        → (i : ℕ) (columns : List (List ℕ)) (c t k tags : ℕ) → slice_get (varied_sources header names u before (sources header names u before) parent values names_of vary i columns) c ≡ Some (Source.Element t k tags) → IsVectorSite after t
     from_varied before after parent values names_of vary old own i [] c t k tags h = cc h
     from_varied before after parent values names_of vary old own i (name ∷ columns) zero t k tags h =
         from_own before after values old own i (length names_of) (own_place u vary names_of) (named_version header before parent name) t k tags (cc h)
     from_varied before after parent values names_of vary old own i (name ∷ columns) (suc c) t k tags h = from_varied before after parent values names_of vary old own (suc i) columns c t k tags h
 
     from_statement : (before : List Statement) (s : Statement) → AreAccepted names (scope_of header) (s ∷ before) → OfVectors before (s ∷ before)
-        → (c t k tags : ℕ) → slice_get (own_sources header names u before (sources header names u before) s) c ≡ Some (from.Element t k tags) → IsVectorSite (s ∷ before) t
+        → (c t k tags : ℕ) → slice_get (own_sources header names u before (sources header names u before) s) c ≡ Some (Source.Element t k tags) → IsVectorSite (s ∷ before) t
     from_statement before (Define node parent column expr) good old zero t k tags h = cc h
     from_statement before (Define node parent column expr) good old (suc c) t k tags h = cc h
     from_statement before (Redefine node parent column expr) good old zero t k tags h = cc h
@@ -326,21 +300,21 @@ module _ (header : List Column) (names : FunctionNames) where
     of_elements : (before : List Statement) → AreAccepted names (scope_of header) before → OfVectors before before
     of_elements [] good c t k tags h = absurd (no_cell 0 header c t k tags h)
     of_elements (s ∷ before) good c t k tags h =
-        go (λ d n m l q. further_site header names kind.Vect before s n (of_elements before good.1 d n m l q))
-        (of_joined (sources header names u before) (own_sources header names u before (sources header names u before) s) c (from.Element t k tags) h)
+        go (λ d n m l q. further_site header names ColType.Vect before s n (of_elements before good.1 d n m l q))
+        (of_joined (sources header names u before) (own_sources header names u before (sources header names u before) s) c (Source.Element t k tags) h)
       where
-        go : OfVectors before (s ∷ before) → (slice_get (sources header names u before) c ≡ Some (from.Element t k tags))
-            ⊎ ((n : ℕ) × (c ≡ length (sources header names u before) + n) × (slice_get (own_sources header names u before (sources header names u before) s) n ≡ Some (from.Element t k tags))) → IsVectorSite (s ∷ before) t
+        go : OfVectors before (s ∷ before) → (slice_get (sources header names u before) c ≡ Some (Source.Element t k tags))
+            ⊎ ((n : ℕ) × (c ≡ length (sources header names u before) + n) × (slice_get (own_sources header names u before (sources header names u before) s) n ≡ Some (Source.Element t k tags))) → IsVectorSite (s ∷ before) t
         go old (inl q) = old c t k tags q
         go old (inr q) = from_statement before s good old q.0 t k tags q.2
 
 -- the site of an element that gives a version its value is one of vectors
-pub element_kind : (j : JobView) → IsJob j → (u : Option ℕ) (c t k tags : ℕ) → source_at j u c ≡ from.Element t k tags → (e : CheckedExpr) → IsSiteExpr (job_graph j) t e → e.kind ≡ kind.Vect
+pub element_kind : (j : JobView) → IsJob j → (u : Option ℕ) (c t k tags : ℕ) → source_at j u c ≡ Source.Element t k tags → (e : CheckedExpr) → IsSiteExpr (job_graph j) t e → e.kind ≡ ColType.Vect
 element_kind j job u c t k tags is e its =
     let h =
     of_elements j.dataset.columns (fn_names j.dataset.fns) (graph_under (job_graph j) u) (history j.script) (accepted_of j job) c t k tags
     (of_some (sources j.dataset.columns (fn_names j.dataset.fns) (graph_under (job_graph j) u) (history j.script)) c t k tags is) in
-    kind_of_site j kind.Vect t h e its
+    kind_of_site j ColType.Vect t h e its
 
 -- ---- The kinds of keys, site by site.
 

@@ -1,15 +1,10 @@
 -- What filling sites spends.
 use Rattle.std.proofs.Common.{◌≡◌, ◌⊎◌, inl, inr, ℕ, ◌+◌, ◌<◌, ◌≤◌, Bool, true, false, List, Option, refl, sym, ◌∙◌, ap, arith, subst}
-use Rattle.block_cache.specs.Lanes.{LaneView}
-use Rattle.loop_keys.specs.Jobs.{JobView, job_graph, job_of}
-use Rattle.loop_keys.specs.Keys.{key, key_count}
-use Rattle.loop_keys.specs.Store.{IsClosed, held_in}
-use Rattle.expr_lanes.specs.Places.{EachPlace, is_in}
-use Rattle.loop_keys.specs.Turns.{HasAllDemands}
-use Rattle.block_cache.specs.Blocks.{cells_at}
-use Rattle.block_cache.specs.Fills.{IsSpentOver, begun_at}
-use Rattle.block_passes.specs.Spends.{Demands, IsSettledAt, Spends}
-use Rattle.block_passes.specs.InTurn.{KeepsRoom, Leaves}
+use Rattle.block_cache.specs.{begun_at, cells_at, IsSpentOver, LaneView}
+use Rattle.loop_keys.specs.{HasAllDemands, held_in, IsClosed, job_graph, job_of, JobView, key, key_count}
+use Rattle.expr_lanes.specs.{EachPlace, is_in}
+use Rattle.block_passes.specs.{Demands, IsSettledAt, KeepsRoom, Leaves}
+use Rattle.block_passes.specs.Spends.{Spends}
 use Rattle.block_passes.specs.declared.turn.Turn.{Turn}
 use Rattle.block_passes.specs.declared.turn.Work.{Work}
 use Rattle.block_cache.proofs.GrownLaws.{other_places}

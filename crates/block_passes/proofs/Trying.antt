@@ -2,33 +2,17 @@
 use Rattle.std.proofs.Common.{◌≡◌, ℕ, ◌+◌, ◌<◌, ◌≤◌, ℤ, Bool, true, false, List, [], ◌∷◌, length, Option, None, Some, refl, sym, ◌∙◌, ap, subst, arith, slice_get, nat_lt, if◌then◌else◌, nat_eq, slice_set, filter}
 use Rattle.std.specs.List.{AllByRecursion, list_any}
 use Rattle.std.proofs.lemmas.Option.{slice_get_within}
-use Rattle.rdf_values.specs.declared.action.ActionKind.{ActionKind}
-use Rattle.rdf_values.specs.declared.fault.EntryFault.{EntryFault}
-use Rattle.rdf_values.specs.declared.value.ColType.{ColType}
-use Rattle.rdf_model.specs.Evaluation.{Outcome, Gives, Faults, Needs}
-use Rattle.rdf_model.specs.Results.{fault_in, is_true}
-use Rattle.graph_numbers.specs.Graphs.{graph_filters, graph_results}
-use Rattle.graph_numbers.specs.Meets.{IfPassed}
-use Rattle.graph_numbers.specs.Outcomes.{booking_numbers, through_sites, through_filter}
-use Rattle.graph_numbers.specs.Results.{ResultAt, FilterAt}
-use Rattle.graph_numbers.specs.declared.pass.Pass.{Pass as NumberedPass}
-use Rattle.expr_lanes.specs.Places.{EachPlace, is_in}
-use Rattle.block_cache.specs.Lanes.{LaneView}
-use Rattle.loop_keys.specs.Jobs.{IsJob, JobView, job_graph, passes_in}
-use Rattle.loop_keys.specs.Store.{site_in, version_in}
+use Rattle.rdf_values.specs.{ActionAt, ActionKind, ColType, EntryFault, ReportOn}
+use Rattle.rdf_model.specs.{fault_in, Faults, Gives, is_true, Needs, Outcome}
+use Rattle.graph_numbers.specs.{booking_numbers, FilterAt, graph_filters, graph_results, IfPassed, Pass as NumberedPass, ResultAt, through_filter, through_sites}
+use Rattle.expr_lanes.specs.{EachPlace, is_in}
+use Rattle.block_cache.specs.{LaneView}
+use Rattle.loop_keys.specs.{ArePlainVersions, covered_in, covers_of, HasAllDemands, is_covering, IsActionAt, IsCovered, IsJob, IsPlainLoop, IsPlainVersion, IsReportPass, job_graph, JobView, numbered_passes, pass_fault, passes_in, site_in, version_in}
 use Rattle.std.proofs.lemmas.List.Elements.{recursion_from_All}
-use Rattle.loop_keys.specs.Caches.{IsPlainLoop, IsCovered}
-use Rattle.loop_keys.specs.Passes.{IsActionAt}
-use Rattle.loop_keys.specs.Plain.{ArePlainVersions, IsPlainVersion}
 use Rattle.loop_keys.proofs.ActionLaws.{can_act}
 use Rattle.loop_keys.proofs.PassTies.{pass_answer, pass_of}
 use Rattle.loop_keys.proofs.TableLaws.{row_there}
-use Rattle.loop_keys.specs.Turns.{HasAllDemands, pass_fault, IsReportPass, covers_of, is_covering, numbered_passes}
-use Rattle.block_passes.specs.Feeds.{CanGather, unfed}
-use Rattle.block_passes.specs.Inputs.{AreAtHand, CanServe, DemandsInputs, IsServedTo, inputs_fault}
-use Rattle.block_passes.specs.Searches.{where_passed, Lowers, where_in}
-use Rattle.block_passes.specs.Plans.{IsLast, IsPlan, PlanView, through_chain, IsActionOf, IsNamed, Chain}
-use Rattle.block_passes.specs.Tries.{AreKept, IsMade, IsReadyBelow, IsSelectedTo, chosen, IsPassTried, IsReadBelow, IsReadOf, IsTriedTo, filter_fault, filters_fault}
+use Rattle.block_passes.specs.{AreAtHand, AreKept, CanGather, CanServe, Chain, chosen, DemandsInputs, filter_fault, filters_fault, inputs_fault, IsActionOf, IsLast, IsMade, IsNamed, IsPassTried, IsPlan, IsReadBelow, IsReadOf, IsReadyBelow, IsSelectedTo, IsServedTo, IsTriedTo, Lowers, PlanView, through_chain, unfed, where_in, where_passed}
 use Rattle.block_passes.specs.declared.found.Found.{Found}
 use Rattle.block_passes.specs.declared.kept.Kept.{Kept}
 use Rattle.block_passes.proofs.Demanding.{pass_set}
@@ -37,9 +21,7 @@ use Rattle.block_passes.proofs.Searching.{action_fault, where_split, last_throug
 use Rattle.block_passes.proofs.Selecting.{written_selected, kept_lower}
 use Rattle.loop_keys.proofs.PassNumbers.{some_same}
 use Rattle.std.proofs.lemmas.Bool.Decides.{Decides-eqb}
-use Rattle.lemmas.proofs.Places.{any_at}
-use Rattle.rdf_values.specs.Bookings.{ActionAt, ReportOn}
-use Rattle.loop_keys.specs.Plans.{covered_in}
+use Rattle.lemmas.proofs.{any_at}
 use Rattle.loop_keys.proofs.ReportTies.{contained_at, filter_there, report_fault as its_fault}
 use Rattle.block_passes.specs.declared.plan.NamedSteps.{NamedSteps}
 use Rattle.block_passes.proofs.PlanSteps.{covered_is, one_result}

@@ -1,18 +1,13 @@
 -- What comes of the blocks of a cluster.
 use Rattle.std.specs.Prelude.{◌≡◌, ⊤, ℕ, List, None, Option, Some, Result, Ok, Err, length, slice_get, ◌≤◌, ◌<◌, ◌+◌, ◌-◌, ◌*◌, OnOk, slice_range}
-use Rattle.rdf_values.specs.declared.span.Span.{Span}
-use Rattle.rdf_model.specs.PartialResults.{span_rows}
+use Rattle.rdf_values.specs.{Span, Value}
+use Rattle.rdf_model.specs.{first_fault_from, span_rows}
 use Rattle.rdf_model.specs.declared.loop_facts.LoopFacts.{LoopFacts}
-use Rattle.cluster_tally.specs.Stages.{Stage}
-use Rattle.block_laws.specs.Counts.{cluster_demands, rows_demand}
-use Rattle.loop_keys.specs.Jobs.{JobView, passes_in}
-use Rattle.loop_keys.specs.Entries.{job_spans, facts_in}
-use Rattle.loop_pieces.specs.Whole.{cluster_fault}
+use Rattle.cluster_tally.specs.{Holds, Stage, TallyView}
+use Rattle.block_laws.specs.{cluster_demands, rows_demand}
+use Rattle.loop_keys.specs.{facts_in, job_spans, JobView, passes_in}
+use Rattle.loop_pieces.specs.{cluster_fault}
 use Rattle.block_passes.specs.declared.stop.BlockStop.{BlockStop}
-use Rattle.block_passes.specs.declared.stop.BlockStop.TheVariants as stop
-use Rattle.rdf_values.specs.declared.value.Value.{Value}
-use Rattle.rdf_model.specs.Results.{first_fault_from}
-use Rattle.cluster_tally.specs.Tallies.{Holds, TallyView}
 
 -- how many pairs of a site and a variation the passes demand of the entries of a cluster's blocks, up to and with the first block in which
 -- one faults
@@ -33,8 +28,8 @@ at_end f done cluster = at_entry done cluster (length (span_rows f.spreads (slic
 -- no pass faults in the cluster; its first fault; or want of memory
 abbrev pub IsClusterAnswer : JobView → ℕ → Result (Unit {0}) BlockStop → Type 0
 IsClusterAnswer j cluster (Ok u) = cluster_fault j.dataset (job_spans j) (passes_in j) cluster ≡ None
-IsClusterAnswer j cluster (Err (stop.Fault fault)) = cluster_fault j.dataset (job_spans j) (passes_in j) cluster ≡ Some fault
-IsClusterAnswer j cluster (Err stop.Memory) = ⊤
+IsClusterAnswer j cluster (Err (BlockStop.Fault fault)) = cluster_fault j.dataset (job_spans j) (passes_in j) cluster ≡ Some fault
+IsClusterAnswer j cluster (Err BlockStop.Memory) = ⊤
 
 -- ---- What a block gives to a loop.
 
@@ -74,8 +69,8 @@ after_block s b = at_entry s.done s.cluster (s.entries + (b.hi - b.lo))
 -- no pass faults in the block; its first fault; or want of memory
 abbrev pub IsBlockAnswer : JobView → Span → Result (Unit {0}) BlockStop → Type 0
 IsBlockAnswer j b (Ok u) = first_fault_from j.dataset b.lo (block_rows j b) (passes_in j) ≡ None
-IsBlockAnswer j b (Err (stop.Fault f)) = first_fault_from j.dataset b.lo (block_rows j b) (passes_in j) ≡ Some f
-IsBlockAnswer j b (Err stop.Memory) = ⊤
+IsBlockAnswer j b (Err (BlockStop.Fault f)) = first_fault_from j.dataset b.lo (block_rows j b) (passes_in j) ≡ Some f
+IsBlockAnswer j b (Err BlockStop.Memory) = ⊤
 
 -- its passes were tried: the answer, what the tally took in where no pass faults, and at most two evaluations for each pair that is
 -- demanded; of the tally after a fault or want of memory nothing is said

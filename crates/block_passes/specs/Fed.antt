@@ -1,25 +1,19 @@
 -- What a block comes to at the named filters.
 use Rattle.std.specs.Prelude.{◌≡◌, ◌+◌, ℕ, List, Some, slice_get, ◌<◌, Option, None, length, true}
-use Rattle.graph_numbers.specs.Graphs.{graph_filters}
-use Rattle.graph_numbers.specs.Results.{FilterAt}
-use Rattle.cluster_tally.specs.Blocks.{BlockStage, CanFeedBatch}
-use Rattle.loop_keys.specs.Jobs.{JobView, job_graph, passes_in}
+use Rattle.graph_numbers.specs.{FilterAt, graph_filters}
+use Rattle.cluster_tally.specs.{BlockStage, CanFeedBatch, TallyView}
+use Rattle.loop_keys.specs.{job_graph, JobView, pass_fault, passes_in, version_in}
 use Rattle.block_passes.specs.Laws.{IsInCluster}
 use Rattle.block_passes.specs.Plans.{PlanView, Chain}
 use Rattle.block_passes.specs.Tries.{AreKept, IsReadBelow, IsReadOf}
 use Rattle.block_passes.specs.declared.kept.Kept.{Kept}
 use Rattle.block_passes.specs.declared.plan.NamedSteps.{NamedSteps}
-use Rattle.rdf_values.specs.declared.action.ActionKind.{ActionKind}
-use Rattle.block_cache.specs.Lanes.{LaneView}
-use Rattle.loop_keys.specs.Turns.{pass_fault}
-use Rattle.block_cache.specs.Blocks.{AreReady}
-use Rattle.rdf_model.specs.Evaluation.{for_all}
+use Rattle.rdf_values.specs.{ActionKind}
+use Rattle.block_cache.specs.{AreReady, LaneView}
+use Rattle.rdf_model.specs.{for_all}
 use Rattle.rdf_model.specs.declared.loop_facts.LoopFacts.{LoopFacts}
-use Rattle.actions.specs.Batches.{places_of}
-use Rattle.actions.specs.declared.batch.Batch.{Batch}
-use Rattle.expr_lanes.specs.Places.{EachPlace, is_in}
-use Rattle.cluster_tally.specs.Tallies.{TallyView}
-use Rattle.loop_keys.specs.Store.{version_in}
+use Rattle.actions.specs.{Batch, places_of}
+use Rattle.expr_lanes.specs.{EachPlace, is_in}
 use Rattle.block_passes.specs.Feeds.{AreLanesOf, unfed}
 use Rattle.block_passes.specs.Inputs.{AreAtHand}
 

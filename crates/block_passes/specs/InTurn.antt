@@ -1,27 +1,19 @@
 -- What stands while the passes of a loop are tried over a block.
 use Rattle.std.specs.Prelude.{◌≡◌, ◌<◌, ◌≤◌, ◌+◌, ℕ, List, Some, length, Bool, Option}
-use Rattle.expr_lanes.specs.Places.{EachPlace}
+use Rattle.expr_lanes.specs.{EachPlace}
 use Rattle.expr_lanes.specs.declared.TheConstants.{MAX_PLACES}
-use Rattle.block_cache.specs.Lanes.{LaneView, kinds_of}
-use Rattle.loop_keys.specs.Jobs.{Fits, job_graph, job_of, JobView}
-use Rattle.loop_keys.specs.Keys.{AreKeys}
-use Rattle.loop_keys.specs.declared.job.Job.{Job}
-use Rattle.loop_keys.specs.declared.rows.Row.{Row}
-use Rattle.block_cache.specs.Blocks.{AreReady}
+use Rattle.block_cache.specs.{AreReady, IsSpentOver, kinds_of, LaneView}
+use Rattle.loop_keys.specs.{AreKeys, Fits, IsPlainLoop, Job, job_graph, job_of, JobView, Row, source_at}
 use Rattle.block_passes.specs.Plans.{IsPlan, PlanView, Chain}
 use Rattle.block_passes.specs.Spends.{IsSettledAt, Spends}
 use Rattle.block_passes.specs.declared.kept.Kept.{Kept}
 use Rattle.block_passes.specs.declared.turn.Turn.{Turn}
 use Rattle.block_passes.specs.declared.turn.Work.{Work}
-use Rattle.rdf_values.specs.declared.fault.EntryFault.{EntryFault}
+use Rattle.rdf_values.specs.{EntryFault}
 use Rattle.rdf_model.specs.declared.loop_facts.LoopFacts.{LoopFacts}
-use Rattle.actions.specs.declared.batch.Sources.{Sources}
-use Rattle.cluster_tally.specs.Blocks.{BlockStage}
-use Rattle.cluster_tally.specs.Tallies.{TallyView}
-use Rattle.graph_numbers.specs.declared.source.Source.{Source}
-use Rattle.loop_keys.specs.Caches.{IsPlainLoop}
-use Rattle.loop_keys.specs.Store.{source_at}
-use Rattle.block_cache.specs.Fills.{IsSpentOver}
+use Rattle.actions.specs.{Sources}
+use Rattle.cluster_tally.specs.{BlockStage, TallyView}
+use Rattle.graph_numbers.specs.{Source}
 use Rattle.block_passes.specs.Fed.{IsClear, IsAmid, CanFeedAny, IsFeedable}
 use Rattle.block_passes.specs.Feeds.{AreCopied, IsCopyOf, AreInPlace, CanGather, unfed}
 use Rattle.block_passes.specs.Inputs.{AreAtHand, ArePlainSources, AreWhole, CanServe, IsServedTo, element_fault, inputs_fault, source_fault}

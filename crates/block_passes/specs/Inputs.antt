@@ -1,24 +1,11 @@
 -- What the passes of a block read.
 use Rattle.std.specs.Prelude.{◌≡◌, ◌<◌, ◌+◌, ⊤, ℕ, ℤ, Bool, true, List, Option, Some, nat_lt, length, slice_get}
 use Rattle.std.specs.List.{filter, AllByRecursion}
-use Rattle.rdf_values.specs.declared.fault.EntryFault.{EntryFault}
-use Rattle.rdf_values.specs.declared.value.ColType.{ColType}
-use Rattle.rdf_values.specs.declared.value.ColType.TheVariants as kind
-use Rattle.rdf_values.specs.declared.value.Value.{Value}
-use Rattle.rdf_values.specs.Tables.{kind_at}
-use Rattle.rdf_model.specs.Evaluation.{Gives, for_all}
-use Rattle.rdf_model.specs.Results.{fault_in}
-use Rattle.graph_numbers.specs.Graphs.{graph_sites, graph_versions}
-use Rattle.graph_numbers.specs.Meets.{HasInputs}
-use Rattle.graph_numbers.specs.Sources.{source_value}
-use Rattle.graph_numbers.specs.declared.source.Source.{Source}
-use Rattle.graph_numbers.specs.declared.source.Source.TheVariants as from
-use Rattle.block_cache.specs.Lanes.{LaneView}
-use Rattle.loop_keys.specs.Jobs.{JobView, job_graph}
-use Rattle.loop_keys.specs.Keys.{key, key_count}
-use Rattle.loop_keys.specs.Store.{IsSourceIn, held_element, held_in, row_of, site_in, source_at, version_in}
-use Rattle.block_cache.specs.Blocks.{AreReady, HasColumn, cells_at}
-use Rattle.block_cache.specs.Fills.{CanFill, holds_at}
+use Rattle.rdf_values.specs.{ColType, EntryFault, kind_at, Value}
+use Rattle.rdf_model.specs.{fault_in, for_all, Gives}
+use Rattle.graph_numbers.specs.{graph_sites, graph_versions, HasInputs, Source, source_value}
+use Rattle.block_cache.specs.{AreReady, CanFill, cells_at, HasColumn, holds_at, LaneView}
+use Rattle.loop_keys.specs.{held_element, held_in, IsSourceIn, job_graph, JobView, key, key_count, row_of, site_in, source_at, version_in}
 use Rattle.block_passes.specs.Spends.{IsDemandedAt, IsSettledAt}
 use Rattle.block_passes.specs.Searches.{Lowers, where_in}
 use Rattle.block_passes.specs.declared.found.Found.{Found}
@@ -29,9 +16,9 @@ use Rattle.block_passes.specs.declared.kept.Kept.{Kept}
 -- what gives a version its value is at hand at a place: a column of the table is, a site where its value is held, and an element of a
 -- site's vector where that is held and has one element for each tag
 abbrev pub IsAtHand : JobView → List LaneView → Option ℕ → ℕ → Source → Type 0
-IsAtHand j lanes u p (from.Cell col) = ⊤
-IsAtHand j lanes u p (from.Site s) = holds_at lanes (key (job_graph j) s u) p ≡ true
-IsAtHand j lanes u p (from.Element s k tags) = (v : Value) × (held_element 0 (held_in (cells_at (key_count (job_graph j)) lanes p) (key (job_graph j) s u)) k tags ≡ Gives v)
+IsAtHand j lanes u p (Source.Cell col) = ⊤
+IsAtHand j lanes u p (Source.Site s) = holds_at lanes (key (job_graph j) s u) p ≡ true
+IsAtHand j lanes u p (Source.Element s k tags) = (v : Value) × (held_element 0 (held_in (cells_at (key_count (job_graph j)) lanes p) (key (job_graph j) s u)) k tags ≡ Gives v)
 
 -- so are all versions that are read
 abbrev pub AreAtHand : JobView → List LaneView → Option ℕ → List ℕ → ℕ → Type 0
@@ -39,13 +26,13 @@ AreAtHand j lanes u inputs p = AllByRecursion (λ c. IsAtHand j lanes u p (sourc
 
 -- the key's lane holds no vectors
 abbrev pub IsScalarLane : List ColType → ℕ → Type 0
-IsScalarLane kinds k = slice_get kinds k ≡ Some kind.Vect → ⊥
+IsScalarLane kinds k = slice_get kinds k ≡ Some ColType.Vect → ⊥
 
 -- the source is read in place: a column of the table, or the lane of a site that holds numbers or truths
 abbrev pub IsWhole : JobView → Option ℕ → List ColType → Source → Type 0
-IsWhole j u kinds (from.Cell col) = ⊤
-IsWhole j u kinds (from.Site s) = IsScalarLane kinds (key (job_graph j) s u)
-IsWhole j u kinds (from.Element s k tags) = ⊥
+IsWhole j u kinds (Source.Cell col) = ⊤
+IsWhole j u kinds (Source.Site s) = IsScalarLane kinds (key (job_graph j) s u)
+IsWhole j u kinds (Source.Element s k tags) = ⊥
 
 -- so are the sources of all versions that are read
 abbrev pub AreWhole : JobView → Option ℕ → List ColType → List ℕ → Type 0
@@ -53,9 +40,9 @@ AreWhole j u kinds inputs = AllByRecursion (λ c. IsWhole j u kinds (source_at j
 
 -- a column of numbers, or a source of a site of the set
 abbrev pub IsPlainSource : JobView → (ℕ → Bool) → Source → Type 0
-IsPlainSource j used (from.Cell col) = kind_at j.dataset.columns col ≡ Some kind.Int
-IsPlainSource j used (from.Site s) = used s ≡ true
-IsPlainSource j used (from.Element s k tags) = used s ≡ true
+IsPlainSource j used (Source.Cell col) = kind_at j.dataset.columns col ≡ Some ColType.Int
+IsPlainSource j used (Source.Site s) = used s ≡ true
+IsPlainSource j used (Source.Element s k tags) = used s ≡ true
 
 -- so are the sources of all versions that are read
 abbrev pub ArePlainSources : JobView → (ℕ → Bool) → Option ℕ → List ℕ → Type 0
@@ -67,9 +54,9 @@ IsFillableSite j first u count kinds cells scratch levels s = (s < length (graph
 
 -- a column is there, as numbers if it is one of numbers; or the site can be filled
 abbrev pub IsServable : JobView → ℕ → Option ℕ → ℕ → List ColType → List (List ℤ) → ℕ → ℕ → Source → Type 0
-IsServable j first u count kinds cells scratch levels (from.Cell col) = (col < length j.dataset.columns) × (kind_at j.dataset.columns col ≡ Some kind.Int → HasColumn j first count cells col)
-IsServable j first u count kinds cells scratch levels (from.Site s) = IsFillableSite j first u count kinds cells scratch levels s
-IsServable j first u count kinds cells scratch levels (from.Element s k tags) = IsFillableSite j first u count kinds cells scratch levels s
+IsServable j first u count kinds cells scratch levels (Source.Cell col) = (col < length j.dataset.columns) × (kind_at j.dataset.columns col ≡ Some ColType.Int → HasColumn j first count cells col)
+IsServable j first u count kinds cells scratch levels (Source.Site s) = IsFillableSite j first u count kinds cells scratch levels s
+IsServable j first u count kinds cells scratch levels (Source.Element s k tags) = IsFillableSite j first u count kinds cells scratch levels s
 
 -- the version is there, and so is what gives it its value
 abbrev pub CanServe : JobView → ℕ → Option ℕ → ℕ → List ColType → List (List ℤ) → ℕ → ℕ → ℕ → Type 0
@@ -91,7 +78,7 @@ source_fault j first u x p = fault_in (source_value {M = ⊥} (row_of j (first +
 
 -- likewise of an element of a site's vector, at the place of a tag among so many
 abbrev pub element_fault : JobView → ℕ → Option ℕ → ℕ → ℕ → ℕ → ℕ → Option EntryFault
-element_fault j first u s k tags p = source_fault j first u (from.Element s k tags) p
+element_fault j first u s k tags p = source_fault j first u (Source.Element s k tags) p
 
 abbrev pub inputs_fault : JobView → ℕ → Option ℕ → List ℕ → ℕ → Option EntryFault
 inputs_fault j first u inputs p = fault_in (for_all (version_in {M = ⊥} j (first + p) u) inputs)

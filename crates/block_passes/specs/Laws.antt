@@ -1,24 +1,11 @@
 -- Laws of a block by numbers.
 use Rattle.std.specs.Prelude.{◌≡◌, ◌<◌, ◌≤◌, ◌+◌, ℕ, Bool, true, List, [], ◌∷◌, ◌++◌, None, Some, flat_map, length, slice_get}
 use Rattle.std.specs.List.{filter, range_with_len}
-use Rattle.rdf_values.specs.Bookings.{Pass}
-use Rattle.rdf_values.specs.Spread.{feed_fault, spread}
-use Rattle.rdf_values.specs.declared.action.ActionKind.{ActionKind}
-use Rattle.rdf_values.specs.declared.span.Span.{Span}
-use Rattle.rdf_values.specs.declared.value.Value.{Value}
-use Rattle.rdf_model.specs.Evaluation.{Gives, for_all}
-use Rattle.rdf_model.specs.Results.{Dataset, fault_in, first_fault_from, is_true}
-use Rattle.graph_numbers.specs.Graphs.{graph_filters}
-use Rattle.graph_numbers.specs.Outcomes.{through_sites}
-use Rattle.graph_numbers.specs.Results.{FilterAt, ResultAt}
-use Rattle.graph_numbers.specs.declared.pass.Pass.{Pass as NumberedPass}
-use Rattle.cluster_tally.specs.Blocks.{BlockStage, block_items, block_reaches}
-use Rattle.cluster_tally.specs.Stages.{counted}
-use Rattle.loop_keys.specs.Jobs.{IsJob, JobView, job_graph}
-use Rattle.loop_keys.specs.Store.{site_in, version_in}
-use Rattle.loop_keys.specs.Entries.{facts_in, job_spans}
-use Rattle.loop_keys.specs.Plans.{covered_in}
-use Rattle.loop_keys.specs.Turns.{HasAllDemands, actions_before}
+use Rattle.rdf_values.specs.{ActionKind, feed_fault, Pass, Span, spread, Value}
+use Rattle.rdf_model.specs.{Dataset, fault_in, first_fault_from, for_all, Gives, is_true}
+use Rattle.graph_numbers.specs.{FilterAt, graph_filters, Pass as NumberedPass, ResultAt, through_sites}
+use Rattle.cluster_tally.specs.{block_items, block_reaches, BlockStage, counted}
+use Rattle.loop_keys.specs.{actions_before, covered_in, facts_in, HasAllDemands, IsJob, job_graph, job_spans, JobView, site_in, version_in}
 use Rattle.block_passes.specs.Spends.{Demands}
 use Rattle.block_passes.specs.Plans.{IsActionOf, IsTried, Chain}
 use Rattle.block_passes.specs.Searches.{IsSearched, fault_of}

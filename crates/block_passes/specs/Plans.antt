@@ -1,19 +1,10 @@
 -- The selections that the passes of a loop share, each made from the one above it.
 use Rattle.std.specs.Prelude.{◌≡◌, ◌⊎◌, ◌<◌, ℕ, List, [], ◌∷◌, ◌++◌, Option, None, Some, length, slice_get, Bool, true, false}
 use Rattle.block_passes.specs.declared.steps.Step.{Step}
-use Rattle.block_passes.specs.declared.steps.Step.TheVariants as step
-use Rattle.rdf_values.specs.Bookings.{ActionAt}
-use Rattle.rdf_values.specs.Path.{Path}
-use Rattle.rdf_values.specs.declared.action.ActionKind.{ActionKind}
-use Rattle.rdf_model.specs.Evaluation.{Outcome}
-use Rattle.graph_numbers.specs.Graphs.{graph_filters, graph_results}
-use Rattle.graph_numbers.specs.Outcomes.{through_sites}
-use Rattle.graph_numbers.specs.Results.{FilterAt, ResultAt}
-use Rattle.graph_numbers.specs.declared.pass.Pass.{Pass as NumberedPass}
-use Rattle.loop_keys.specs.Caches.{IsCovered, numbered_in}
-use Rattle.loop_keys.specs.Jobs.{JobView, job_graph, passes_in}
-use Rattle.loop_keys.specs.Store.{site_in}
-use Rattle.loop_keys.specs.Plans.{covered_in}
+use Rattle.rdf_values.specs.{ActionAt, ActionKind, Path}
+use Rattle.rdf_model.specs.{Outcome}
+use Rattle.graph_numbers.specs.{FilterAt, graph_filters, graph_results, Pass as NumberedPass, ResultAt, through_sites}
+use Rattle.loop_keys.specs.{covered_in, IsCovered, job_graph, JobView, numbered_in, passes_in, site_in}
 use Rattle.block_passes.specs.declared.plan.NamedSteps.{NamedSteps}
 
 -- filters by their sites, head first, under nominal or a variation
@@ -34,13 +25,13 @@ pub record IsFilterStep (chains : List Chain) (k parent site : ℕ) (u : Option 
   pub own : slice_get chains k ≡ Some (longer up site u)
 
 abbrev pub IsStep : List Chain → ℕ → Step → Type 0
-IsStep chains k step.Block = slice_get chains k ≡ Some (record { sites = []; under = None })
-IsStep chains k (step.Filter parent site u) = IsFilterStep chains k parent site u
+IsStep chains k Step.Block = slice_get chains k ≡ Some (record { sites = []; under = None })
+IsStep chains k (Step.Filter parent site u) = IsFilterStep chains k parent site u
 
 -- these are the filters of each step, and the first step has none
 pub record AreSteps (chains : List Chain) (steps : List Step) : Type 0 where
   pub many : length chains ≡ length steps
-  pub whole : slice_get steps 0 ≡ Some step.Block
+  pub whole : slice_get steps 0 ≡ Some Step.Block
   pub each : (k : ℕ) (x : Step) → slice_get steps k ≡ Some x → IsStep chains k x
 
 -- the step of that number has these filters; no other was added

@@ -1,16 +1,10 @@
 -- The search for the first fault of a block: pass after pass over the places below a limit, which falls to each place that faults.
 use Rattle.std.specs.Prelude.{◌≡◌, ◌<◌, ◌≤◌, ◌+◌, ℕ, List, Option, None, Some, if◌then◌else◌, Bool}
-use Rattle.rdf_values.specs.Bookings.{Pass}
-use Rattle.rdf_values.specs.declared.fault.EntryFault.{EntryFault}
-use Rattle.rdf_values.specs.declared.fault.Fault.{Fault}
-use Rattle.rdf_values.specs.declared.value.Value.{Value}
-use Rattle.rdf_model.specs.Results.{Dataset, fault_at as fault_in_pass, is_true}
-use Rattle.expr_lanes.specs.Places.{is_in}
-use Rattle.block_cache.specs.declared.faults.PlaceFault.{PlaceFault}
+use Rattle.rdf_values.specs.{ActionKind, EntryFault, Fault, feed_fault, Pass, Value}
+use Rattle.rdf_model.specs.{Dataset, fault_at as fault_in_pass, Faults, Gives, is_true, Needs, Outcome}
+use Rattle.expr_lanes.specs.{is_in}
+use Rattle.block_cache.specs.{PlaceFault}
 use Rattle.block_passes.specs.declared.found.Found.{Found}
-use Rattle.rdf_values.specs.Spread.{feed_fault}
-use Rattle.rdf_values.specs.declared.action.ActionKind.{ActionKind}
-use Rattle.rdf_model.specs.Evaluation.{Outcome, Gives, Faults, Needs}
 
 -- the search with a fault of a pass at a place of a block that begins at this entry
 abbrev pub fault_at : ℕ → ℕ → ℕ → EntryFault → Found

@@ -1,12 +1,7 @@
 -- What evaluations over a block do to what is known of it.
 use Rattle.std.specs.Prelude.{◌≡◌, ◌⊎◌, ◌<◌, ◌≤◌, ◌+◌, ◌*◌, ℕ, Bool, true, List, Option}
-use Rattle.block_cache.specs.Lanes.{LaneView, kinds_of, rooms_of}
-use Rattle.loop_keys.specs.Jobs.{JobView, job_graph}
-use Rattle.loop_keys.specs.Keys.{key_count}
-use Rattle.loop_keys.specs.Store.{Grows, HasAllKeys, IsClosed}
-use Rattle.loop_keys.specs.Turns.{HasAllDemands}
-use Rattle.block_cache.specs.Blocks.{cells_at}
-use Rattle.block_cache.specs.Fills.{begun_at, begun_count, holds_at}
+use Rattle.block_cache.specs.{begun_at, begun_count, cells_at, holds_at, kinds_of, LaneView, rooms_of}
+use Rattle.loop_keys.specs.{Grows, HasAllDemands, HasAllKeys, IsClosed, job_graph, JobView, key_count}
 
 -- what was begun stays so, what was held is held as it was, only what the loop demands is newly begun, and each evaluation that is newly
 -- begun was made twice at most

@@ -1,19 +1,12 @@
 -- What a slot of a loop reserves for its blocks.
 use Rattle.std.specs.Prelude.{◌≡◌, ◌<◌, ◌≤◌, ℕ, ℤ, List, All, Option, None, Some, count_by, length, slice_get}
-use Rattle.rdf_values.specs.Tables.{kind_at}
-use Rattle.rdf_values.specs.declared.value.ColType.{ColType}
-use Rattle.rdf_values.specs.declared.value.ColType.TheVariants as kind
-use Rattle.expr_check.specs.NumKinds.{CheckedExpr, is_vector}
-use Rattle.expr_lanes.specs.Depths.{depth}
+use Rattle.rdf_values.specs.{ColType, kind_at}
+use Rattle.expr_check.specs.{CheckedExpr, is_vector}
+use Rattle.expr_lanes.specs.{depth}
 use Rattle.expr_lanes.specs.declared.TheConstants.{MAX_PLACES}
-use Rattle.block_cache.specs.Lanes.{AreUnknown, HaveRoom, LaneView, kinds_of}
-use Rattle.block_cache.specs.Sizes.{size_for}
-use Rattle.graph_numbers.specs.Graphs.{GraphView, IsSiteExpr, graph_sites}
-use Rattle.graph_numbers.specs.Sites.{SiteAt}
-use Rattle.loop_keys.specs.Jobs.{JobView, job_graph}
-use Rattle.loop_keys.specs.Keys.{AreKeys, key, key_count}
-use Rattle.loop_keys.specs.declared.rows.Row.{Row}
-use Rattle.block_cache.specs.Blocks.{HasColumn}
+use Rattle.block_cache.specs.{AreUnknown, HasColumn, HaveRoom, kinds_of, LaneView, size_for}
+use Rattle.graph_numbers.specs.{graph_sites, GraphView, IsSiteExpr, SiteAt}
+use Rattle.loop_keys.specs.{AreKeys, job_graph, JobView, key, key_count, Row}
 use Rattle.block_passes.specs.Plans.{IsPlan, PlanView}
 use Rattle.block_passes.specs.Tries.{CanSelect, IsReadyBelow, CanServeAll}
 use Rattle.block_passes.specs.declared.found.Found.{Found}
@@ -70,7 +63,7 @@ pub record IsStateOf (j : JobView) (s : StateView) : Type 0 where
 
 -- the numbers of each column of numbers are there
 abbrev pub AreLoaded : JobView → ℕ → ℕ → List (List ℤ) → Type 0
-AreLoaded j first count cells = (col : ℕ) → kind_at j.dataset.columns col ≡ Some kind.Int → HasColumn j first count cells col
+AreLoaded j first count cells = (col : ℕ) → kind_at j.dataset.columns col ≡ Some ColType.Int → HasColumn j first count cells col
 
 -- a block of so many entries was begun at an entry: nothing is known of it, no selection was made, its filters can be tried, and all that
 -- the actions read can be served

@@ -1,29 +1,17 @@
 -- Selections that the passes of a block share.
 use Rattle.std.specs.Prelude.{◌≡◌, ◌⊎◌, ◌<◌, ◌≤◌, ◌+◌, ℕ, ℤ, List, Option, None, Some, length, nat_lt, slice_get, true}
 use Rattle.std.specs.List.{filter, range_with_len, AllByRecursion}
-use Rattle.rdf_values.specs.declared.value.ColType.{ColType}
-use Rattle.rdf_values.specs.declared.value.ColType.TheVariants as kind
-use Rattle.rdf_model.specs.Results.{fault_in, is_true}
-use Rattle.block_cache.specs.Lanes.{LaneView}
-use Rattle.loop_keys.specs.Jobs.{JobView, job_graph}
-use Rattle.loop_keys.specs.Keys.{key}
-use Rattle.loop_keys.specs.Known.{truth_in}
-use Rattle.block_cache.specs.Blocks.{AreReady}
-use Rattle.block_cache.specs.Fills.{CanFill}
+use Rattle.rdf_values.specs.{ActionKind, ColType, EntryFault}
+use Rattle.rdf_model.specs.{fault_in, is_true}
+use Rattle.block_cache.specs.{AreReady, CanFill, LaneView}
+use Rattle.loop_keys.specs.{IsReportPass, job_graph, JobView, key, pass_fault, site_in, truth_in}
 use Rattle.block_passes.specs.Searches.{where_passed, Lowers, where_in, IsSearched}
 use Rattle.block_passes.specs.Plans.{PlanView, through_chain, Chain, IsActionOf}
 use Rattle.block_passes.specs.Spends.{IsSettledAt}
 use Rattle.block_passes.specs.declared.found.Found.{Found}
 use Rattle.block_passes.specs.declared.kept.Kept.{Kept}
-use Rattle.block_passes.specs.declared.steps.Step.TheVariants as step
-use Rattle.rdf_values.specs.declared.action.ActionKind.{ActionKind}
-use Rattle.rdf_values.specs.declared.fault.EntryFault.{EntryFault}
-use Rattle.graph_numbers.specs.Graphs.{graph_filters}
-use Rattle.graph_numbers.specs.Outcomes.{report_numbers, through_filter, through_sites}
-use Rattle.graph_numbers.specs.Results.{FilterAt, ResultAt}
-use Rattle.graph_numbers.specs.declared.pass.Pass.{Pass as NumberedPass}
-use Rattle.loop_keys.specs.Store.{site_in}
-use Rattle.loop_keys.specs.Turns.{IsReportPass, pass_fault}
+use Rattle.block_passes.specs.declared.steps.Step.{Step}
+use Rattle.graph_numbers.specs.{FilterAt, graph_filters, Pass as NumberedPass, report_numbers, ResultAt, through_filter, through_sites}
 use Rattle.block_passes.specs.Inputs.{AreAtHand, AreWhole, CanServe}
 use Rattle.block_passes.specs.declared.plan.NamedSteps.{NamedSteps}
 
@@ -81,8 +69,8 @@ pub record IsFilteredTo (j : JobView) (first count : ℕ) (u : Option ℕ) (s pa
 
 -- what a selection is made of, for each step with a filter: its site can be filled, and its lane holds truths
 pub record CanSelect (j : JobView) (first count : ℕ) (plan : PlanView) (kinds : List ColType) (cells : List (List ℤ)) (scratch levels : ℕ) : Type 0 where
-  pub each : (k parent site : ℕ) (u : Option ℕ) → slice_get plan.steps k ≡ Some (step.Filter parent site u) → CanFill j first u count kinds cells scratch levels site
-  pub truths : (k parent site : ℕ) (u : Option ℕ) → slice_get plan.steps k ≡ Some (step.Filter parent site u) → slice_get kinds (key (job_graph j) site u) ≡ Some kind.Bool
+  pub each : (k parent site : ℕ) (u : Option ℕ) → slice_get plan.steps k ≡ Some (Step.Filter parent site u) → CanFill j first u count kinds cells scratch levels site
+  pub truths : (k parent site : ℕ) (u : Option ℕ) → slice_get plan.steps k ≡ Some (Step.Filter parent site u) → slice_get kinds (key (job_graph j) site u) ≡ Some ColType.Bool
 
 -- a step's selection was made below the limit, which its filters lowered; below the new limit all is as before
 pub record IsSelectedTo (j : JobView) (first count : ℕ) (chains : List Chain) (pass step : ℕ) (lanes : List LaneView) (kept : List Kept) (old new : Found) : Type 0 where

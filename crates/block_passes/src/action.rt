@@ -1,8 +1,7 @@
 // Trying an action's pass over a block.
 ghost use Rattle.std.specs.Prelude.{◌≡◌, ◌<◌, ℕ, OnOk, Some, slice_get, OnErr};
 ghost use Rattle.std.specs.List.{AllByRecursion};
-ghost use Rattle.block_passes.specs.Tries.{AreRemade, IsMadeAt};
-ghost use Rattle.block_passes.specs.InTurn.{IsTurn, Leaves, CanSelectInTurn, CanServeInTurn, IsPassTriedInTurn, IsPlainTurn, IsPlanOfTurn, IsReadInTurn, IsReadyInTurn};
+ghost use Rattle.block_passes.specs.{AreRemade, CanSelectInTurn, CanServeInTurn, IsMadeAt, IsPassTriedInTurn, IsPlainTurn, IsPlanOfTurn, IsReadInTurn, IsReadyInTurn, IsTurn, Leaves};
 
 use crate::inputs::serve_inputs;
 use crate::kept::Kept;

@@ -1,9 +1,8 @@
 // Where the blocks of a cluster end.
 ghost use Rattle.std.specs.Prelude.{◌≡◌, ◌⊎◌, ◌<◌, ◌≤◌, ◌+◌, List, Some, length, map, slice_get, slice_range};
 ghost use Rattle.std.specs.List.{sum_by};
-ghost use Rattle.rdf_values.specs.Tables.{kind_at};
-ghost use Rattle.rdf_values.specs.declared.value.Value.{Value as CellValue};
-ghost use Rattle.block_laws.specs.Blocks.{elements_in, first_length, row_elements};
+ghost use Rattle.rdf_values.specs.{kind_at, Value as CellValue};
+ghost use Rattle.block_laws.specs.{elements_in, first_length, row_elements};
 
 use columns::Columns;
 use rdf_values::{ColType, Span};

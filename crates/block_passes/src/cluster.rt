@@ -1,13 +1,9 @@
 // The blocks of a cluster, one after the other.
 ghost use Rattle.std.specs.Prelude.{◌≡◌, ◌≢◌, ◌<◌, ◌≤◌, ◌+◌, ◌*◌, ◌-◌, ℕ, All, Err, List, OnOk, Some, length, slice_get};
-ghost use Rattle.rdf_model.specs.LoopFacts.{kinds_in};
-ghost use Rattle.cluster_tally.specs.Stages.{Stage, at_begin};
-ghost use Rattle.cluster_tally.specs.Tallies.{Holds};
-ghost use Rattle.loop_keys.specs.Caches.{IsPlainLoop};
-ghost use Rattle.loop_keys.specs.Jobs.{Fits, job_of, passes_in};
-ghost use Rattle.loop_keys.specs.Entries.{IsNoTake, facts_in, job_spans};
-ghost use Rattle.block_passes.specs.Clusters.{IsBefore, IsBlockTried, IsClusterAnswer, at_end, span_demands};
-ghost use Rattle.block_passes.specs.States.{IsStateOf};
+ghost use Rattle.rdf_model.specs.{kinds_in};
+ghost use Rattle.cluster_tally.specs.{at_begin, Holds, Stage};
+ghost use Rattle.loop_keys.specs.{facts_in, Fits, IsNoTake, IsPlainLoop, job_of, job_spans, passes_in};
+ghost use Rattle.block_passes.specs.{at_end, IsBefore, IsBlockTried, IsClusterAnswer, IsStateOf, span_demands};
 
 use crate::block_ends::block_end;
 use crate::ending::try_begun;

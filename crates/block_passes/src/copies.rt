@@ -3,21 +3,14 @@ ghost use Rattle.std.specs.Prelude.{◌≡◌, ◌<◌, ◌+◌, ℕ, Bool, ℤ,
 ghost use Rattle.std.specs.List.{AllByRecursion};
 ghost use Rattle.rdf_values.specs.declared.value.ColType.TheVariants as kind;
 ghost use Rattle.rdf_values.specs.declared.value.Value.TheVariants as val;
-ghost use Rattle.rdf_model.specs.Evaluation.{Gives};
-ghost use Rattle.expr_check.specs.NumKinds.{CheckedExpr};
-ghost use Rattle.graph_numbers.specs.Graphs.{IsSiteExpr, graph_sites};
-ghost use Rattle.graph_numbers.specs.Sources.{source_value};
-ghost use Rattle.expr_lanes.specs.Places.{EachPlace};
-ghost use Rattle.block_cache.specs.Lanes.{kinds_of};
-ghost use Rattle.loop_keys.specs.Plain.{ArePlain};
-ghost use Rattle.loop_keys.specs.Jobs.{job_graph};
-ghost use Rattle.loop_keys.specs.Keys.{key as key_of};
-ghost use Rattle.loop_keys.specs.Store.{row_of, site_in};
+ghost use Rattle.rdf_model.specs.{Gives};
+ghost use Rattle.expr_check.specs.{CheckedExpr};
+ghost use Rattle.graph_numbers.specs.{graph_sites, IsSiteExpr, source_value};
+ghost use Rattle.expr_lanes.specs.{EachPlace};
+ghost use Rattle.block_cache.specs.{holds_at, kinds_of};
+ghost use Rattle.loop_keys.specs.{ArePlain, job_graph, key as key_of, row_of, site_in};
 ghost use Rattle.graph_numbers.specs.declared.source.Source.TheVariants as source;
-ghost use Rattle.block_cache.specs.Fills.{holds_at};
-ghost use Rattle.block_passes.specs.Feeds.{GivesNumber, GivesVector, HasVector};
-ghost use Rattle.block_passes.specs.Inputs.{IsAtHand, IsPlainSource, IsWhole};
-ghost use Rattle.block_passes.specs.InTurn.{IsOver, IsTurn, AreCopiedInTurn, AreHeldInTurn, ArePlainInTurn, AreWholeInTurn, CanServeWith, IsCopyInTurn, source_in_turn, turn_job};
+ghost use Rattle.block_passes.specs.{AreCopiedInTurn, AreHeldInTurn, ArePlainInTurn, AreWholeInTurn, CanServeWith, GivesNumber, GivesVector, HasVector, IsAtHand, IsCopyInTurn, IsOver, IsPlainSource, IsTurn, IsWhole, source_in_turn, turn_job};
 
 use crate::elements::{SiteElement, element_at};
 use crate::inputs::source_under;

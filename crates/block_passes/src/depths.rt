@@ -1,7 +1,7 @@
 // How many levels of scratch the evaluations of a graph's sites take.
 ghost use Rattle.std.specs.Prelude.{◌≤◌, IfOk, IfSome};
-ghost use Rattle.expr_lanes.specs.Depths.{depth};
-ghost use Rattle.block_passes.specs.States.{AreDeepEnough};
+ghost use Rattle.expr_lanes.specs.{depth};
+ghost use Rattle.block_passes.specs.{AreDeepEnough};
 
 use expr_check::Checked;
 use expr_lanes::is_deep_enough;

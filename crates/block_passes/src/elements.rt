@@ -1,17 +1,13 @@
 // The elements of a site's vector that are the values of a Vary.
 ghost use Rattle.std.specs.Prelude.{◌≡◌, ◌<◌, ◌+◌, length, true, Some};
 ghost use Rattle.rdf_values.specs.declared.value.Value.TheVariants as val;
-ghost use Rattle.rdf_model.specs.ColumnValues.{tag_element};
-ghost use Rattle.graph_numbers.specs.Graphs.{graph_sites};
-ghost use Rattle.graph_numbers.specs.Sources.{source_value};
+ghost use Rattle.rdf_model.specs.{tag_element};
+ghost use Rattle.graph_numbers.specs.{graph_sites, source_value};
 ghost use Rattle.graph_numbers.specs.declared.source.Source.TheVariants as source;
-ghost use Rattle.expr_lanes.specs.Places.{EachPlace};
-ghost use Rattle.loop_keys.specs.Jobs.{job_graph};
-ghost use Rattle.loop_keys.specs.Keys.{key as key_of};
-ghost use Rattle.loop_keys.specs.Store.{row_of, site_in};
-ghost use Rattle.block_cache.specs.Fills.{fault_over, holds_at};
-ghost use Rattle.block_passes.specs.Feeds.{IsNumberOf};
-ghost use Rattle.block_passes.specs.InTurn.{IsKnown, IsOver, IsSelected, KeepsRoom, IsServedInTurn, element_fault_in_turn, turn_job};
+ghost use Rattle.expr_lanes.specs.{EachPlace};
+ghost use Rattle.loop_keys.specs.{job_graph, key as key_of, row_of, site_in};
+ghost use Rattle.block_cache.specs.{fault_over, holds_at};
+ghost use Rattle.block_passes.specs.{element_fault_in_turn, IsKnown, IsNumberOf, IsOver, IsSelected, IsServedInTurn, KeepsRoom, turn_job};
 
 use crate::kept::Kept;
 use crate::turn::{Turn, Work};

@@ -1,13 +1,10 @@
 // The end of a block: what its search comes to, and what the tally takes in of it.
 ghost use Rattle.std.specs.Prelude.{◌≡◌, ◌≢◌, ◌<◌, ℕ, All, Err, List, OnErr, OnOk, None, length};
-ghost use Rattle.rdf_model.specs.LoopFacts.{kinds_in};
-ghost use Rattle.block_cache.specs.Lanes.{AreUnknown, kinds_of, rooms_of};
-ghost use Rattle.cluster_tally.specs.Stages.{Stage};
-ghost use Rattle.cluster_tally.specs.Tallies.{Holds};
-ghost use Rattle.loop_keys.specs.Jobs.{passes_in};
-ghost use Rattle.loop_keys.specs.Entries.{IsNoTake, facts_in};
-ghost use Rattle.block_passes.specs.Clusters.{IsBefore, IsBlockTried, after_block, entries_from};
-ghost use Rattle.block_passes.specs.InTurn.{IsTurn, KeepsRoom, CanSelectInTurn, CanServeAllInTurn, CanServeAllWith, IsClearInTurn, IsPlainTurn, IsPlanOfTurn, IsReadyInTurn, turn_job};
+ghost use Rattle.rdf_model.specs.{kinds_in};
+ghost use Rattle.block_cache.specs.{AreUnknown, kinds_of, rooms_of};
+ghost use Rattle.cluster_tally.specs.{Holds, Stage};
+ghost use Rattle.loop_keys.specs.{facts_in, IsNoTake, passes_in};
+ghost use Rattle.block_passes.specs.{after_block, CanSelectInTurn, CanServeAllInTurn, CanServeAllWith, entries_from, IsBefore, IsBlockTried, IsClearInTurn, IsPlainTurn, IsPlanOfTurn, IsReadyInTurn, IsTurn, KeepsRoom, turn_job};
 
 use crate::feed::feed_passes;
 use crate::kept::Kept;

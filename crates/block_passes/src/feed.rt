@@ -1,19 +1,13 @@
 // Feeding what the passes of a block give.
 ghost use Rattle.std.specs.Prelude.{◌≡◌, ◌<◌, ◌+◌, ℕ, All, Bool, List, IfOk, OnErr, OnOk, length, slice_get, Some};
-ghost use Rattle.rdf_model.specs.LoopFacts.{kinds_in};
+ghost use Rattle.rdf_model.specs.{kinds_in};
 ghost use Rattle.rdf_model.specs.declared.loop_facts.LoopFacts.{LoopFacts};
-ghost use Rattle.expr_lanes.specs.Places.{EachPlace};
-ghost use Rattle.block_cache.specs.Lanes.{kinds_of};
-ghost use Rattle.cluster_tally.specs.Blocks.{BlockStage, HoldsIn, pass_done};
-ghost use Rattle.actions.specs.Holding.{IsTake};
-ghost use Rattle.loop_keys.specs.Caches.{numbered_in};
-ghost use Rattle.loop_keys.specs.Plain.{ArePlain};
-ghost use Rattle.loop_keys.specs.Jobs.{passes_in};
-ghost use Rattle.loop_keys.specs.Entries.{IsNoTake, facts_in};
-ghost use Rattle.loop_keys.specs.Turns.{actions_before};
-ghost use Rattle.block_passes.specs.Fed.{at_pass};
-ghost use Rattle.block_passes.specs.Tries.{AreKept, AreAllWhole};
-ghost use Rattle.block_passes.specs.InTurn.{IsOver, IsTurn, AreHeldInTurn, ArePlainInTurn, AreWholeInTurn, CanFeedInTurn, CanGatherInTurn, CanServeAllWith, IsAmidTurn, IsClearInTurn, IsFeedableInTurn, IsPlainTurn, IsPlanOfTurn, IsReadInTurn, turn_job};
+ghost use Rattle.expr_lanes.specs.{EachPlace};
+ghost use Rattle.block_cache.specs.{kinds_of};
+ghost use Rattle.cluster_tally.specs.{BlockStage, HoldsIn, pass_done};
+ghost use Rattle.actions.specs.{IsTake};
+ghost use Rattle.loop_keys.specs.{actions_before, ArePlain, facts_in, IsNoTake, numbered_in, passes_in};
+ghost use Rattle.block_passes.specs.{AreAllWhole, AreHeldInTurn, AreKept, ArePlainInTurn, AreWholeInTurn, at_pass, CanFeedInTurn, CanGatherInTurn, CanServeAllWith, IsAmidTurn, IsClearInTurn, IsFeedableInTurn, IsOver, IsPlainTurn, IsPlanOfTurn, IsReadInTurn, IsTurn, turn_job};
 
 use crate::copies::copy_inputs;
 use crate::in_place::lanes_in_place;

@@ -1,7 +1,7 @@
 // How far the search for a block's first fault has come.
 ghost use Rattle.std.specs.Prelude.{◌≡◌, ◌<◌, ◌+◌, ◌^◌, None, Some};
-ghost use Rattle.block_cache.specs.declared.faults.PlaceFault.{PlaceFault as FaultAt};
-ghost use Rattle.block_passes.specs.Searches.{noted};
+ghost use Rattle.block_cache.specs.{PlaceFault as FaultAt};
+ghost use Rattle.block_passes.specs.{noted};
 
 use block_cache::faults::PlaceFault;
 use rdf_values::Fault;

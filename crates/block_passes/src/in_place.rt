@@ -1,7 +1,7 @@
 // The lanes that an action reads, where all of them are read in place: nearly always.
 ghost use Rattle.std.specs.Prelude.{◌≡◌, ℤ, ℕ, List, None, Some, length, true};
 ghost use Rattle.rdf_values.specs.declared.action.ActionKind.TheVariants as action;
-ghost use Rattle.block_passes.specs.InTurn.{IsOver, AreInPlaceInTurn, CanGatherInTurn};
+ghost use Rattle.block_passes.specs.{AreInPlaceInTurn, CanGatherInTurn, IsOver};
 
 use crate::sources::lane_in_place;
 use crate::turn::{ActionRead, Turn};

@@ -1,19 +1,12 @@
 // Filling what an action reads.
 ghost use Rattle.std.specs.Prelude.{◌≡◌, ◌<◌, ◌+◌, ℕ, Bool, None, OnOk, Some, length, true, OnErr};
 ghost use Rattle.std.specs.List.{AllByRecursion};
-ghost use Rattle.graph_numbers.specs.Graphs.{graph_sites, graph_versions};
+ghost use Rattle.graph_numbers.specs.{graph_sites, graph_versions};
 ghost use Rattle.graph_numbers.specs.declared.source.Source.TheVariants as source;
-ghost use Rattle.expr_lanes.specs.Places.{EachPlace, is_in};
-ghost use Rattle.block_cache.specs.Lanes.{kinds_of};
-ghost use Rattle.loop_keys.specs.Plain.{ArePlain, ArePlainVersions};
-ghost use Rattle.loop_keys.specs.Jobs.{job_graph};
-ghost use Rattle.loop_keys.specs.Keys.{key};
-ghost use Rattle.loop_keys.specs.Store.{IsSourceIn};
-ghost use Rattle.loop_keys.specs.Turns.{HasAllDemands};
-ghost use Rattle.block_cache.specs.Blocks.{AreReady};
-ghost use Rattle.block_cache.specs.Fills.{CanFill, holds_at, site_fault};
-ghost use Rattle.block_passes.specs.Inputs.{AreAtHand, DemandsInputs, DemandsSource, IsAtHand};
-ghost use Rattle.block_passes.specs.InTurn.{IsKnown, IsOver, IsSelected, IsTurn, KeepsRoom, Leaves, CanServeInTurn, CanServeWith, IsServedInTurn, IsSpentInTurn, element_fault_in_turn, inputs_fault_in_turn, source_fault_in_turn, source_in_turn, turn_job};
+ghost use Rattle.expr_lanes.specs.{EachPlace, is_in};
+ghost use Rattle.block_cache.specs.{AreReady, CanFill, holds_at, kinds_of, site_fault};
+ghost use Rattle.loop_keys.specs.{ArePlain, ArePlainVersions, HasAllDemands, IsSourceIn, job_graph, key};
+ghost use Rattle.block_passes.specs.{AreAtHand, CanServeInTurn, CanServeWith, DemandsInputs, DemandsSource, element_fault_in_turn, inputs_fault_in_turn, IsAtHand, IsKnown, IsOver, IsSelected, IsServedInTurn, IsSpentInTurn, IsTurn, KeepsRoom, Leaves, source_fault_in_turn, source_in_turn, turn_job};
 
 use crate::elements::{SiteElement, test_elements};
 use crate::kept::Kept;

@@ -2,7 +2,7 @@
 ghost use Rattle.std.specs.Prelude.{◌≡◌, ◌≤◌, ℕ, None, Some, false, true};
 ghost use Rattle.std.specs.List.{range_with_len};
 ghost use Rattle.expr_lanes.specs.declared.TheConstants.{MAX_PLACES};
-ghost use Rattle.block_passes.specs.Tries.{IsNarrowed};
+ghost use Rattle.block_passes.specs.{IsNarrowed};
 
 use expr_lanes::Selection;
 

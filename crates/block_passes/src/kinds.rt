@@ -1,8 +1,8 @@
 // Of which kinds the values of a graph's keys are.
 ghost use Rattle.std.specs.Prelude.{◌≡◌, ◌<◌, ◌++◌, IfOk, OnOk, length, replicate};
-ghost use Rattle.graph_numbers.specs.Graphs.{graph_sites};
-ghost use Rattle.loop_keys.specs.Keys.{key_count};
-ghost use Rattle.block_passes.specs.States.{CountsVectors, HaveKinds};
+ghost use Rattle.graph_numbers.specs.{graph_sites};
+ghost use Rattle.loop_keys.specs.{key_count};
+ghost use Rattle.block_passes.specs.{CountsVectors, HaveKinds};
 
 use graph::Graph;
 use rdf_values::{ColType, ListOf, Memory};

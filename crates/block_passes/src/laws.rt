@@ -1,5 +1,5 @@
 // Laws of a block by numbers. Each function does nothing; its contract is the law, and its proof the law's.
-ghost use Rattle.block_passes.specs.Laws.{BlockFeeds, FilterCounts, SearchIsFirstFault, StepIsDemanded};
+ghost use Rattle.block_passes.specs.{BlockFeeds, FilterCounts, SearchIsFirstFault, StepIsDemanded};
 
 /// Where all passes were tried, the best fault is the first one of the block.
 pub fn search_is_first_fault()

@@ -1,12 +1,9 @@
 // Counting what a block does at the named filters.
 ghost use Rattle.std.specs.Prelude.{◌≡◌, ◌<◌, List, ℕ, length, Some};
-ghost use Rattle.graph_numbers.specs.Graphs.{graph_filters};
-ghost use Rattle.cluster_tally.specs.Blocks.{BlockStage, HoldsIn, block_reaches};
-ghost use Rattle.cluster_tally.specs.Stages.{counted};
-ghost use Rattle.loop_keys.specs.Jobs.{job_graph};
-ghost use Rattle.loop_keys.specs.Entries.{facts_in};
-ghost use Rattle.block_passes.specs.Fed.{AreCountable, at_filter};
-ghost use Rattle.block_passes.specs.InTurn.{IsTurn, IsAmidTurn, IsPlanOfTurn, turn_job};
+ghost use Rattle.graph_numbers.specs.{graph_filters};
+ghost use Rattle.cluster_tally.specs.{block_reaches, BlockStage, counted, HoldsIn};
+ghost use Rattle.loop_keys.specs.{facts_in, job_graph};
+ghost use Rattle.block_passes.specs.{AreCountable, at_filter, IsAmidTurn, IsPlanOfTurn, IsTurn, turn_job};
 
 use crate::kept::Kept;
 use crate::turn::Turn;

@@ -1,11 +1,8 @@
 // Trying the passes of a loop over a block.
 ghost use Rattle.std.specs.Prelude.{◌≡◌, ◌<◌, ◌+◌, IfSome, None, OnOk, Some, length, slice_range, OnErr};
-ghost use Rattle.rdf_model.specs.Results.{first_fault_from};
-ghost use Rattle.loop_keys.specs.Caches.{numbered_in};
-ghost use Rattle.loop_keys.specs.Jobs.{Fits, job_of, passes_in};
-ghost use Rattle.loop_keys.specs.Turns.{IsReportPass};
-ghost use Rattle.block_passes.specs.Tries.{AreRemade, IsPassMade, IsPlanMade, IsReadOf, IsSearchedTo};
-ghost use Rattle.block_passes.specs.InTurn.{IsTurn, Leaves, CanSelectInTurn, CanServeAllInTurn, IsPassTriedInTurn, IsPlainTurn, IsPlanOfTurn, IsReadyInTurn, turn_job};
+ghost use Rattle.rdf_model.specs.{first_fault_from};
+ghost use Rattle.loop_keys.specs.{Fits, IsReportPass, job_of, numbered_in, passes_in};
+ghost use Rattle.block_passes.specs.{AreRemade, CanSelectInTurn, CanServeAllInTurn, IsPassMade, IsPassTriedInTurn, IsPlainTurn, IsPlanMade, IsPlanOfTurn, IsReadOf, IsReadyInTurn, IsSearchedTo, IsTurn, Leaves, turn_job};
 
 use crate::action::try_action;
 use crate::kept::Kept;

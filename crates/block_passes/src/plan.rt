@@ -1,11 +1,8 @@
 // What is the same for each block of a loop.
 ghost use Rattle.std.specs.Prelude.{◌≡◌, ◌<◌, ◌^◌, List, IfOk, Some, length, slice_get, true, nat_eq};
 ghost use Rattle.std.specs.List.{list_any};
-ghost use Rattle.graph_numbers.specs.Graphs.{graph_filters};
-ghost use Rattle.loop_keys.specs.Caches.{numbered_in};
-ghost use Rattle.loop_keys.specs.Jobs.{Fits, job_graph, job_of, passes_in};
-ghost use Rattle.loop_keys.specs.Plans.{covered_in};
-ghost use Rattle.loop_keys.specs.Turns.{numbered_passes};
+ghost use Rattle.graph_numbers.specs.{graph_filters};
+ghost use Rattle.loop_keys.specs.{covered_in, Fits, job_graph, job_of, numbered_in, numbered_passes, passes_in};
 ghost use Rattle.block_passes.specs.Plans.{ArePlanned, IsFilterPlanned, IsPassLast, IsPlan, IsPlanned, AreSteps, Chain};
 
 use crate::steps::{Step, next_step, path_steps};

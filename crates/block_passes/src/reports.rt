@@ -1,9 +1,8 @@
 // Trying a report's pass over a block.
 ghost use Rattle.std.specs.Prelude.{◌<◌, OnOk, Some, OnErr};
 ghost use Rattle.std.specs.List.{AllByRecursion};
-ghost use Rattle.loop_keys.specs.Caches.{IsCovered};
-ghost use Rattle.block_passes.specs.Tries.{AreRemade, IsNamedMade, filter_fault, filters_fault};
-ghost use Rattle.block_passes.specs.InTurn.{IsTurn, Leaves, CanSelectInTurn, IsPlainTurn, IsPlanOfTurn, IsReadyInTurn, IsTriedInTurn, turn_job};
+ghost use Rattle.loop_keys.specs.{IsCovered};
+ghost use Rattle.block_passes.specs.{AreRemade, CanSelectInTurn, filter_fault, filters_fault, IsNamedMade, IsPlainTurn, IsPlanOfTurn, IsReadyInTurn, IsTriedInTurn, IsTurn, Leaves, turn_job};
 
 use crate::kept::Kept;
 use crate::select::select_again;

@@ -1,7 +1,7 @@
 // The memory that a slot reserves for its blocks.
 ghost use Rattle.std.specs.Prelude.{◌≡◌, ◌≤◌, ◌-◌, All, IfOk, None, length};
-ghost use Rattle.loop_keys.specs.Jobs.{Fits, job_of};
-ghost use Rattle.block_passes.specs.States.{AreLoaded, HaveCells};
+ghost use Rattle.loop_keys.specs.{Fits, job_of};
+ghost use Rattle.block_passes.specs.{AreLoaded, HaveCells};
 ghost use Rattle.block_passes.specs.declared.kept.Kept.{Kept as KeptPlaces};
 
 use crate::kept::Kept;

@@ -1,16 +1,12 @@
 // Selecting the places of a block that pass filters.
 ghost use Rattle.std.specs.Prelude.{◌≡◌, ◌<◌, ◌+◌, ◌++◌, ℕ, OnOk, Some, length, slice_get, OnErr, Bool, true};
 ghost use Rattle.rdf_values.specs.declared.value.ColType.TheVariants as kind;
-ghost use Rattle.graph_numbers.specs.Graphs.{graph_sites};
-ghost use Rattle.expr_lanes.specs.Places.{EachPlace};
-ghost use Rattle.block_cache.specs.Lanes.{kinds_of};
-ghost use Rattle.loop_keys.specs.Plain.{ArePlain};
-ghost use Rattle.loop_keys.specs.Jobs.{job_graph};
-ghost use Rattle.loop_keys.specs.Keys.{key};
-ghost use Rattle.block_cache.specs.Fills.{CanFill};
-ghost use Rattle.block_passes.specs.Tries.{AreRemade};
+ghost use Rattle.graph_numbers.specs.{graph_sites};
+ghost use Rattle.expr_lanes.specs.{EachPlace};
+ghost use Rattle.block_cache.specs.{CanFill, kinds_of};
+ghost use Rattle.loop_keys.specs.{ArePlain, job_graph, key};
+ghost use Rattle.block_passes.specs.{AreRemade, CanSelectInTurn, IsFilteredInTurn, IsKnown, IsNextSelectedInTurn, IsPlainTurn, IsPlanOfTurn, IsReadyInTurn, IsSelectedInTurn, IsSpentInTurn, IsTurn, KeepsRoom, Leaves, turn_job};
 ghost use Rattle.block_passes.specs.declared.kept.Kept.{Kept as KeptView};
-ghost use Rattle.block_passes.specs.InTurn.{IsKnown, IsTurn, KeepsRoom, Leaves, CanSelectInTurn, IsFilteredInTurn, IsNextSelectedInTurn, IsPlainTurn, IsPlanOfTurn, IsReadyInTurn, IsSelectedInTurn, IsSpentInTurn, turn_job};
 
 use crate::kept::Kept;
 use crate::steps::Step;

@@ -1,17 +1,14 @@
 // The lanes that an action reads.
 ghost use Rattle.std.specs.Prelude.{◌≡◌, ◌<◌, ◌+◌, ℕ, IfSome, None, Some, length, slice_get, true};
-ghost use Rattle.rdf_values.specs.Tables.{kind_at};
+ghost use Rattle.rdf_values.specs.{kind_at};
 ghost use Rattle.rdf_values.specs.declared.value.ColType.TheVariants as kind;
-ghost use Rattle.rdf_model.specs.Evaluation.{for_all};
-ghost use Rattle.graph_numbers.specs.Sources.{source_value};
+ghost use Rattle.rdf_model.specs.{for_all};
+ghost use Rattle.graph_numbers.specs.{source_value};
 ghost use Rattle.graph_numbers.specs.declared.source.Source.TheVariants as source;
-ghost use Rattle.block_cache.specs.Lanes.{LaneView, kinds_of};
-ghost use Rattle.expr_lanes.specs.Places.{is_in};
-ghost use Rattle.loop_keys.specs.Store.{row_of, site_in, version_in};
-ghost use Rattle.block_cache.specs.Blocks.{HasColumn};
-ghost use Rattle.block_passes.specs.Feeds.{AreLanesOf, HasHeld, IsLaneOf};
-ghost use Rattle.block_passes.specs.Inputs.{IsAtHand, IsWhole};
-ghost use Rattle.block_passes.specs.InTurn.{IsOver, IsTurn, AreCopiedInTurn, AreHeldInTurn, CanGatherInTurn, CanServeWith, IsCopyInTurn, source_in_turn, turn_job};
+ghost use Rattle.block_cache.specs.{HasColumn, kinds_of, LaneView};
+ghost use Rattle.expr_lanes.specs.{is_in};
+ghost use Rattle.loop_keys.specs.{row_of, site_in, version_in};
+ghost use Rattle.block_passes.specs.{AreCopiedInTurn, AreHeldInTurn, AreLanesOf, CanGatherInTurn, CanServeWith, HasHeld, IsAtHand, IsCopyInTurn, IsLaneOf, IsOver, IsTurn, IsWhole, source_in_turn, turn_job};
 
 use crate::copies::{Copied, Copies};
 use crate::turn::{ActionRead, Turn};

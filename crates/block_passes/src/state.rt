@@ -1,6 +1,6 @@
 // What a slot of a loop reserves for its blocks.
 ghost use Rattle.std.specs.Prelude.{◌≡◌, ◌<◌, ◌≤◌, ◌-◌, IfOk, length};
-ghost use Rattle.loop_keys.specs.Jobs.{Fits, job_of};
+ghost use Rattle.loop_keys.specs.{Fits, job_of};
 ghost use Rattle.block_passes.specs.States.{IsBegunBlock, IsStateOf};
 
 use crate::depths::deepest;

@@ -1,6 +1,6 @@
 // The selections that the passes of a loop share.
 ghost use Rattle.std.specs.Prelude.{◌≡◌, ◌⊎◌, ◌<◌, ◌^◌, [], ◌++◌, ◌∷◌, List, IfOk, IfSome, Some, length, slice_get, true};
-ghost use Rattle.block_passes.specs.Plans.{AreSteps, Chain, IsLed, IsStepped};
+ghost use Rattle.block_passes.specs.{AreSteps, Chain, IsLed, IsStepped};
 
 use rdf_values::{ListOf, Memory};
 

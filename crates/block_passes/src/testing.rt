@@ -1,11 +1,10 @@
 // Whether what an action reads can be fed.
 ghost use Rattle.std.specs.Prelude.{◌≡◌, ◌<◌, ℕ, Bool, IfOk, OnErr, OnOk, Some};
-ghost use Rattle.expr_lanes.specs.Places.{EachPlace};
-ghost use Rattle.actions.specs.Batches.{places_of};
-ghost use Rattle.loop_keys.specs.Plain.{ArePlain};
-ghost use Rattle.block_cache.specs.Fills.{fault_over};
-ghost use Rattle.block_passes.specs.Feeds.{of_batch};
-ghost use Rattle.block_passes.specs.InTurn.{IsKnown, IsOver, IsSelected, KeepsRoom, AreHeldInTurn, ArePlainInTurn, CanGatherInTurn, IsServedInTurn, turn_job, unfed_in_turn};
+ghost use Rattle.expr_lanes.specs.{EachPlace};
+ghost use Rattle.actions.specs.{places_of};
+ghost use Rattle.loop_keys.specs.{ArePlain};
+ghost use Rattle.block_cache.specs.{fault_over};
+ghost use Rattle.block_passes.specs.{AreHeldInTurn, ArePlainInTurn, CanGatherInTurn, IsKnown, IsOver, IsSelected, IsServedInTurn, KeepsRoom, of_batch, turn_job, unfed_in_turn};
 
 use crate::copies::copy_inputs;
 use crate::in_place::lanes_in_place;

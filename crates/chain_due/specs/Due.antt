@@ -1,28 +1,19 @@
 -- What is due to the words, the files and the caller's functions: a status and the bytes that are written with it.
 use Rattle.std.specs.Prelude.{◌≡◌, ◌⊎◌, ◌+◌, ℕ, List, [], ◌∷◌, ◌++◌, length, map, Option, Some, None, nat_lt, MatchOption, MatchResult, unwrap_or, slice_get}
 use Rattle.std.specs.Bool.{MatchBool}
-use Rattle.rdf_values.specs.Functions.{Function, fn_names}
-use Rattle.rdf_values.specs.RefusalLines.{graph_cause_line, long_table_line, table_cause_line}
-use Rattle.rdf_values.specs.TableText.{MarkedTable, table_of}
-use Rattle.rdf_values.specs.Verdict.{verdict}
-use Rattle.rdf_values.specs.declared.column.Column.{Column}
-use Rattle.rdf_values.specs.declared.script.Script.{Script}
-use Rattle.rdf_model.specs.Transcript.{Printed}
-use Rattle.table_csv.specs.Csv.{csv_records}
-use Rattle.graph_numbers.specs.Graphs.{GraphView}
-use Rattle.input_files.specs.Due.{Due, WithFile, WithScript, due_of, max_table}
-use Rattle.shard_files.specs.Merging.{same_columns}
-use Rattle.shard_spans.specs.Spans.{loops_of}
-use Rattle.graph_shapes.specs.GraphShapes.{graph_shapes}
-use Rattle.chain_files.specs.Covering.{IsFirstOther, first_uncovered, in_order}
-use Rattle.chain_files.specs.Digests.{digest_of}
-use Rattle.chain_files.specs.Joining.{joined_parts}
-use Rattle.chain_files.specs.Parts.{BreaksAt, IsPartText, PartView, part_text}
-use Rattle.chain_files.specs.Refusing.{first_differing, first_misshapen}
-use Rattle.chain_runs.specs.Chains.{Chain, chain_loops, chain_part}
-use Rattle.chain_text.specs.ChainPrints.{chain_text}
-use Rattle.chain_words.specs.Asked.{asked_of}
-use Rattle.chain_words.specs.declared.command.ChainCommand.{ChainCommand}
+use Rattle.rdf_values.specs.{Column, fn_names, Function, graph_cause_line, long_table_line, MarkedTable, Script, table_cause_line, table_of, verdict}
+use Rattle.rdf_model.specs.{Printed}
+use Rattle.table_csv.specs.{csv_records}
+use Rattle.graph_numbers.specs.{GraphView}
+use Rattle.input_files.specs.{due_of, max_table, WithFile, WithScript}
+use Rattle.input_files.specs.Due.{Due}
+use Rattle.shard_files.specs.{same_columns}
+use Rattle.shard_spans.specs.{loops_of}
+use Rattle.graph_shapes.specs.{graph_shapes}
+use Rattle.chain_files.specs.{BreaksAt, digest_of, first_differing, first_misshapen, first_uncovered, in_order, IsFirstOther, IsPartText, joined_parts, part_text, PartView}
+use Rattle.chain_runs.specs.{Chain, chain_loops, chain_part}
+use Rattle.chain_text.specs.{chain_text}
+use Rattle.chain_words.specs.{asked_of, ChainCommand}
 use Rattle.chain_words.specs.declared.command.ChainCommand.TheVariants.{Run, Map, Join, Print}
 use Rattle.chain_due.specs.Lines.{differs_line, file_refused_line, long_files_line, long_part_line, table_line, uncovered_line, usage_line}
 use Rattle.chain_due.specs.Statuses.{printed_status, statuses}

@@ -1,8 +1,8 @@
 -- Laws of what is due. Each is the contract of a function of this crate, and so proved.
 use Rattle.std.specs.Prelude.{◌≡◌, ℕ, List, None}
-use Rattle.rdf_values.specs.Functions.{Function}
-use Rattle.input_files.specs.Due.{due_of}
-use Rattle.chain_words.specs.Asked.{asked_of}
+use Rattle.rdf_values.specs.{Function}
+use Rattle.input_files.specs.{due_of}
+use Rattle.chain_words.specs.{asked_of}
 use Rattle.chain_due.specs.Due.{Files, IsDue}
 use Rattle.chain_due.specs.Lines.{usage_line}
 use Rattle.chain_due.specs.declared.status.ChainStatus.TheVariants.{Words}

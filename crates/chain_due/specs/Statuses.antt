@@ -1,6 +1,6 @@
 -- Statuses as numbers.
 use Rattle.std.specs.Prelude.{ℕ, zero, suc}
-use Rattle.input_files.specs.Due.{FileStatuses}
+use Rattle.input_files.specs.{FileStatuses}
 use Rattle.chain_due.specs.declared.status.ChainStatus.{ChainStatus}
 use Rattle.chain_due.specs.declared.status.ChainStatus.TheVariants.{Done, Memory, Words, ReadFault, WriteFault, NoFile, ScriptRefused, TableRefused, LoopFault, FileRefused, FilesDiffer, NotCovered, TooLong, FileChanged}
 

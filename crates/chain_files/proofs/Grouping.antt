@@ -2,17 +2,10 @@
 use Rattle.std.proofs.Common.{◌≡◌, ◌+◌, ◌+ℤ◌, ℕ, ℤ, Option, None, Some, List, [], ◌∷◌, ◌++◌, fold, refl, ap, ap₂, ◌∙◌, sym, arith, append_assoc}
 use Rattle.std.proofs.lemmas.Int.{ints}
 use Rattle.std.specs.Int.{int_max, int_min}
-use Rattle.loop_pieces.specs.declared.flow.Counts.{Counts}
-use Rattle.histograms.specs.declared.cell_sum.CellSum.{CellSum}
-use Rattle.shard_lines.specs.Joining.{added_cells, added_counts, better_of, cells_of, count_of, counts_of, extreme_of, joined_line, joined_lines, number_of, sum_of, taken_of}
-use Rattle.shard_lines.specs.declared.pass_shape.PassShape.{PassShape}
-use Rattle.shard_lines.specs.declared.pass_shape.PassShape.TheVariants as shape
-use Rattle.shard_lines.specs.declared.shard_line.ShardLine.{ShardLine}
-use Rattle.shard_lines.specs.declared.shard_line.ShardLine.TheVariants as pass
-use Rattle.chain_files.specs.Joining.{joined_loops, joined_part, joined_parts}
-use Rattle.chain_files.specs.Laws.{JoiningIsAssociative, GroupsAreFree}
-use Rattle.chain_files.specs.Parts.{PartView}
-use Rattle.chain_files.specs.declared.part_loop.PartLoop.{PartLoop}
+use Rattle.loop_pieces.specs.{Counts}
+use Rattle.histograms.specs.{CellSum}
+use Rattle.shard_lines.specs.{added_cells, added_counts, better_of, cells_of, count_of, counts_of, extreme_of, joined_line, joined_lines, number_of, PassShape, ShardLine, sum_of, taken_of}
+use Rattle.chain_files.specs.{GroupsAreFree, joined_loops, joined_part, joined_parts, JoiningIsAssociative, PartLoop, PartView}
 use Rattle.chain_files.specs.declared.part_loop.PartLoop.TheVariants.{Whole, Faulted}
 use Rattle.chain_files.proofs.Reductions.{max_assoc, min_assoc, step_assoc}
 
@@ -51,14 +44,14 @@ counts (c ∷ cs) (d ∷ ds) (e ∷ es) = ap₂ (λ x xs. x ∷ xs) (ap₂ count
 -- ---- lines and loops
 
 one_line : (s : PassShape) (p q r : ShardLine) → joined_line s (joined_line s p q) r ≡ joined_line s p (joined_line s q r)
-one_line shape.Count p q r = ap pass.Count (numbers (count_of p) (count_of q) (count_of r))
-one_line shape.Sum p q r = ap pass.Sum (sums (sum_of p) (sum_of q) (sum_of r))
-one_line shape.Least p q r = ap pass.Extreme (best int_min min_assoc (extreme_of p) (extreme_of q) (extreme_of r))
-one_line shape.Greatest p q r = ap pass.Extreme (best int_max max_assoc (extreme_of p) (extreme_of q) (extreme_of r))
-one_line (shape.Take column) p q r = ap pass.Take (append_assoc (taken_of p) (taken_of q) (taken_of r))
-one_line (shape.Number o) p q r = ap pass.Number (step_assoc o (number_of p) (number_of q) (number_of r))
-one_line (shape.Cells n) p q r = ap pass.Cells (cells (cells_of p) (cells_of q) (cells_of r))
-one_line (shape.Report n) p q r = ap pass.Report (counts (counts_of p) (counts_of q) (counts_of r))
+one_line PassShape.Count p q r = ap ShardLine.Count (numbers (count_of p) (count_of q) (count_of r))
+one_line PassShape.Sum p q r = ap ShardLine.Sum (sums (sum_of p) (sum_of q) (sum_of r))
+one_line PassShape.Least p q r = ap ShardLine.Extreme (best int_min min_assoc (extreme_of p) (extreme_of q) (extreme_of r))
+one_line PassShape.Greatest p q r = ap ShardLine.Extreme (best int_max max_assoc (extreme_of p) (extreme_of q) (extreme_of r))
+one_line (PassShape.Take column) p q r = ap ShardLine.Take (append_assoc (taken_of p) (taken_of q) (taken_of r))
+one_line (PassShape.Number o) p q r = ap ShardLine.Number (step_assoc o (number_of p) (number_of q) (number_of r))
+one_line (PassShape.Cells n) p q r = ap ShardLine.Cells (cells (cells_of p) (cells_of q) (cells_of r))
+one_line (PassShape.Report n) p q r = ap ShardLine.Report (counts (counts_of p) (counts_of q) (counts_of r))
 
 lines : (ss : List PassShape) (ps qs rs : List ShardLine) → joined_lines ss (joined_lines ss ps qs) rs ≡ joined_lines ss ps (joined_lines ss qs rs)
 lines [] ps qs rs = refl

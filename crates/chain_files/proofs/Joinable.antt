@@ -1,21 +1,13 @@
 -- Parts that nothing refuses can be joined.
-use Rattle.std.proofs.Common.{◌≡◌, ◌+◌, ℕ, Bool, true, false, ◌&&◌, cond, Option, None, Some, List, [], ◌∷◌, refl, ap, ap₂, ◌∙◌, sym, subst}
-use Rattle.std.specs.Prelude.{not, position}
+use Rattle.std.proofs.Common.{◌≡◌, ◌+◌, ℕ, Bool, true, false, ◌&&◌, cond, Option, None, Some, List, [], ◌∷◌, refl, ap, ap₂, ◌∙◌, sym, subst, not, position}
 use Rattle.std.specs.List.{list_all, position_from}
 use Rattle.std.proofs.lemmas.Iterator.Adapters.{position_from-zero}
 use Rattle.std.proofs.lemmas.Slice.Eq.{bytes_eq-Decides}
-use Rattle.lemmas.proofs.Booleans.{both_true}
-use Rattle.rdf_values.specs.Names.{same}
-use Rattle.rdf_values.specs.declared.column.Column.{Column}
-use Rattle.rdf_values.specs.declared.value.ColType.{ColType}
-use Rattle.rdf_values.specs.declared.value.ColType.TheVariants as k
-use Rattle.shard_lines.specs.declared.pass_shape.PassShape.{PassShape}
-use Rattle.shard_files.specs.Merging.{same_column, same_columns, same_kind}
-use Rattle.chain_files.specs.Covering.{AreNext, first_uncovered, in_order, not_behind, placed}
-use Rattle.chain_files.specs.Joining.{CanJoin, CanJoinAll, are_loops}
-use Rattle.chain_files.specs.Laws.{AcceptedCanJoin}
-use Rattle.chain_files.specs.Parts.{PartView}
-use Rattle.chain_files.specs.Refusing.{first_differing, first_misshapen, is_of}
+use Rattle.lemmas.proofs.{both_true}
+use Rattle.rdf_values.specs.{ColType, Column, same}
+use Rattle.shard_lines.specs.{PassShape}
+use Rattle.shard_files.specs.{same_column, same_columns, same_kind}
+use Rattle.chain_files.specs.{AcceptedCanJoin, are_loops, AreNext, CanJoin, CanJoinAll, first_differing, first_misshapen, first_uncovered, in_order, is_of, not_behind, PartView, placed}
 use Rattle.chain_files.proofs.Covered.{covered_are_next}
 
 -- ---- what is the same
@@ -24,15 +16,15 @@ names_equal : (a b : List ℕ) → same a b ≡ true → a ≡ b
 names_equal a b h = (bytes_eq-Decides a b).0 h
 
 kinds_equal : (a b : ColType) → same_kind a b ≡ true → a ≡ b
-kinds_equal k.Int k.Int h = refl
-kinds_equal k.Int k.Bool h = cc h
-kinds_equal k.Int k.Vect h = cc h
-kinds_equal k.Bool k.Int h = cc h
-kinds_equal k.Bool k.Bool h = refl
-kinds_equal k.Bool k.Vect h = cc h
-kinds_equal k.Vect k.Int h = cc h
-kinds_equal k.Vect k.Bool h = cc h
-kinds_equal k.Vect k.Vect h = refl
+kinds_equal ColType.Int ColType.Int h = refl
+kinds_equal ColType.Int ColType.Bool h = cc h
+kinds_equal ColType.Int ColType.Vect h = cc h
+kinds_equal ColType.Bool ColType.Int h = cc h
+kinds_equal ColType.Bool ColType.Bool h = refl
+kinds_equal ColType.Bool ColType.Vect h = cc h
+kinds_equal ColType.Vect ColType.Int h = cc h
+kinds_equal ColType.Vect ColType.Bool h = cc h
+kinds_equal ColType.Vect ColType.Vect h = refl
 
 column_equal : (c d : Column) → same_column c d ≡ true → c ≡ d
 column_equal c d h =

@@ -1,9 +1,8 @@
 -- Where joining the loops of two parts ends.
 use Rattle.std.proofs.Common.{◌≡◌, ◌≤◌, ◌⊎◌, ℕ, zero, suc, List, [], ◌∷◌, ◌++◌, length, drop, refl, ap, ◌∙◌, sym, arith, append-nil, inl, inr}
-use Rattle.lemmas.proofs.Parts.{dropped_all}
-use Rattle.shard_lines.specs.declared.pass_shape.PassShape.{PassShape}
-use Rattle.chain_files.specs.declared.part_loop.PartLoop.{PartLoop}
-use Rattle.chain_files.specs.Joining.{joined_loops}
+use Rattle.lemmas.proofs.{dropped_all}
+use Rattle.shard_lines.specs.{PassShape}
+use Rattle.chain_files.specs.{joined_loops, PartLoop}
 
 no_earlier : (ss : List (List PassShape)) (ms : List PartLoop) → joined_loops ss [] ms ≡ []
 no_earlier [] ms = refl

@@ -1,34 +1,17 @@
 -- What two parts come to is within the limits of their entries together.
-use Rattle.std.proofs.Common.{◌≡◌, ◌≤◌, ◌<◌, ◌+◌, ◌*◌, ◌-◌, ◌^◌, ◌+ℤ◌, ℕ, ℤ, pos, negsuc, Bool, true, false, ◌&&◌, cond, Option, None, Some, List, [], ◌∷◌, ◌++◌, length, refl, ap, ap₂, ◌∙◌, sym, subst, arith, length-append, w64}
-use Rattle.std.specs.Prelude.{◌||◌, nat_abs, nat_eq, nat_lt, int_lt}
+use Rattle.std.proofs.Common.{◌≡◌, ◌≤◌, ◌<◌, ◌+◌, ◌*◌, ◌-◌, ◌^◌, ◌+ℤ◌, ℕ, ℤ, pos, negsuc, Bool, true, false, ◌&&◌, cond, Option, None, Some, List, [], ◌∷◌, ◌++◌, length, refl, ap, ap₂, ◌∙◌, sym, subst, arith, length-append, w64, ◌||◌, nat_abs, nat_eq, nat_lt, int_lt}
 use Rattle.std.specs.Int.{cast_signed, int_max, int_min}
 use Rattle.std.specs.List.{list_all}
 use Rattle.std.proofs.lemmas.Bool.Decides.{nat_tests}
 use Rattle.std.proofs.lemmas.Int.{ints}
-use Rattle.lemmas.proofs.Booleans.{both_true, or_true}
-use Rattle.lemmas.proofs.Orders.{abs_add}
+use Rattle.lemmas.proofs.{abs_add, both_true, or_true}
 use borrow.Author.Differences.{read_fits, up, down}
-use Rattle.rdf_values.specs.Fold.{reduce_step}
-use Rattle.rdf_values.specs.Words.{Has64Bits}
-use Rattle.rdf_values.specs.declared.action.ReduceOp.{ReduceOp}
-use Rattle.rdf_values.specs.declared.action.ReduceOp.TheVariants as op
-use Rattle.rdf_values.specs.declared.value.ColType.{ColType}
-use Rattle.rdf_values.specs.declared.value.ColType.TheVariants as k
-use Rattle.rdf_values.specs.declared.value.Scalar.{Scalar}
-use Rattle.loop_pieces.specs.declared.flow.Counts.{Counts}
-use Rattle.histograms.specs.declared.cell_sum.CellSum.{CellSum}
-use Rattle.shard_lines.specs.Joining.{added_cells, added_counts, better_of, cells_of, count_of, counts_of, extreme_of, joined_line, joined_lines, number_of, sum_of, taken_of}
-use Rattle.shard_lines.specs.Lines.{EachFits, FitLines, FitsCell, FitsCount, FitsExtreme, FitsLine, FitsScalar, FitsTake, are_alike, is_number, is_truth}
-use Rattle.shard_lines.specs.Shapes.{are_cells, has_shape, have_shapes, is_report, is_take_from, is_taken_from}
-use Rattle.shard_lines.specs.declared.pass_shape.PassShape.{PassShape}
-use Rattle.shard_lines.specs.declared.pass_shape.PassShape.TheVariants as shape
-use Rattle.shard_lines.specs.declared.shard_line.ShardLine.{ShardLine}
-use Rattle.shard_lines.specs.declared.shard_line.ShardLine.TheVariants as pass
-use Rattle.chain_files.specs.Joining.{CanJoin, CanJoinAll, are_loops, joined_loops, joined_part, joined_parts}
-use Rattle.chain_files.specs.Laws.{JoinedIsPart, JoinedKeepsShape}
-use Rattle.chain_files.specs.Parts.{FitLoops, IsPart, PartView, part_limits, view_of}
+use Rattle.rdf_values.specs.{ColType, Has64Bits, reduce_step, ReduceOp, Scalar}
+use Rattle.loop_pieces.specs.{Counts}
+use Rattle.histograms.specs.{CellSum}
+use Rattle.shard_lines.specs.{added_cells, added_counts, are_alike, are_cells, better_of, cells_of, count_of, counts_of, EachFits, extreme_of, FitLines, FitsCell, FitsCount, FitsExtreme, FitsLine, FitsScalar, FitsTake, has_shape, have_shapes, is_number, is_report, is_take_from, is_taken_from, is_truth, joined_line, joined_lines, number_of, PassShape, ShardLine, sum_of, taken_of}
+use Rattle.chain_files.specs.{are_loops, CanJoin, CanJoinAll, FitLoops, IsPart, joined_loops, joined_part, joined_parts, JoinedIsPart, JoinedKeepsShape, part_limits, PartLoop, PartView, view_of}
 use Rattle.chain_files.specs.declared.part.PartFields.{PartFields}
-use Rattle.chain_files.specs.declared.part_loop.PartLoop.{PartLoop}
 use Rattle.chain_files.specs.declared.part_loop.PartLoop.TheVariants.{Whole, Faulted}
 
 -- ---- numbers of 64 bits
@@ -51,12 +34,12 @@ greatest_fits : (x y : ℤ) → Has64Bits x → Has64Bits y → Has64Bits (int_m
 greatest_fits x y h g = either (int_lt y x) x y h g
 
 step_fits : (o : ReduceOp) (x y : ℤ) → Has64Bits x → Has64Bits y → Has64Bits (reduce_step o x y)
-step_fits op.Min x y h g = least_fits x y h g
-step_fits op.Max x y h g = greatest_fits x y h g
-step_fits op.And x y h g = word_fits _
-step_fits op.Or x y h g = word_fits _
-step_fits op.Xor x y h g = word_fits _
-step_fits op.WrapAdd x y h g = word_fits _
+step_fits ReduceOp.Min x y h g = least_fits x y h g
+step_fits ReduceOp.Max x y h g = greatest_fits x y h g
+step_fits ReduceOp.And x y h g = word_fits _
+step_fits ReduceOp.Or x y h g = word_fits _
+step_fits ReduceOp.Xor x y h g = word_fits _
+step_fits ReduceOp.WrapAdd x y h g = word_fits _
 
 better_fits : (better : ℤ → ℤ → ℤ) → ((x y : ℤ) → Has64Bits x → Has64Bits y → Has64Bits (better x y)) → (o p : Option ℤ) → FitsExtreme o → FitsExtreme p → FitsExtreme (better_of better o p)
 better_fits better f None p h g = g
@@ -67,67 +50,67 @@ better_fits better f (Some x) (Some y) h g = f x y h g
 
 module _ (n : ℕ) where
   count_held : (p : ShardLine) → FitsLine (part_limits n) p → count_of p ≤ n
-  count_held (pass.Count c) h = h
-  count_held (pass.Sum z) h = omega arith
-  count_held (pass.Number z) h = omega arith
-  count_held (pass.Extreme z) h = omega arith
-  count_held (pass.Take xs) h = omega arith
-  count_held (pass.Cells cs) h = omega arith
-  count_held (pass.Report cs) h = omega arith
+  count_held (ShardLine.Count c) h = h
+  count_held (ShardLine.Sum z) h = omega arith
+  count_held (ShardLine.Number z) h = omega arith
+  count_held (ShardLine.Extreme z) h = omega arith
+  count_held (ShardLine.Take xs) h = omega arith
+  count_held (ShardLine.Cells cs) h = omega arith
+  count_held (ShardLine.Report cs) h = omega arith
 
   sum_held : (p : ShardLine) → FitsLine (part_limits n) p → nat_abs (sum_of p) ≤ n * 2 ^ 75
-  sum_held (pass.Count c) h = omega arith
-  sum_held (pass.Sum z) h = h
-  sum_held (pass.Number z) h = omega arith
-  sum_held (pass.Extreme z) h = omega arith
-  sum_held (pass.Take xs) h = omega arith
-  sum_held (pass.Cells cs) h = omega arith
-  sum_held (pass.Report cs) h = omega arith
+  sum_held (ShardLine.Count c) h = omega arith
+  sum_held (ShardLine.Sum z) h = h
+  sum_held (ShardLine.Number z) h = omega arith
+  sum_held (ShardLine.Extreme z) h = omega arith
+  sum_held (ShardLine.Take xs) h = omega arith
+  sum_held (ShardLine.Cells cs) h = omega arith
+  sum_held (ShardLine.Report cs) h = omega arith
 
   number_held : (p : ShardLine) → FitsLine (part_limits n) p → Has64Bits (number_of p)
-  number_held (pass.Count c) h = omega arith
-  number_held (pass.Sum z) h = omega arith
-  number_held (pass.Number z) h = h
-  number_held (pass.Extreme z) h = omega arith
-  number_held (pass.Take xs) h = omega arith
-  number_held (pass.Cells cs) h = omega arith
-  number_held (pass.Report cs) h = omega arith
+  number_held (ShardLine.Count c) h = omega arith
+  number_held (ShardLine.Sum z) h = omega arith
+  number_held (ShardLine.Number z) h = h
+  number_held (ShardLine.Extreme z) h = omega arith
+  number_held (ShardLine.Take xs) h = omega arith
+  number_held (ShardLine.Cells cs) h = omega arith
+  number_held (ShardLine.Report cs) h = omega arith
 
   extreme_held : (p : ShardLine) → FitsLine (part_limits n) p → FitsExtreme (extreme_of p)
-  extreme_held (pass.Count c) h = tt
-  extreme_held (pass.Sum z) h = tt
-  extreme_held (pass.Number z) h = tt
-  extreme_held (pass.Extreme z) h = h
-  extreme_held (pass.Take xs) h = tt
-  extreme_held (pass.Cells cs) h = tt
-  extreme_held (pass.Report cs) h = tt
+  extreme_held (ShardLine.Count c) h = tt
+  extreme_held (ShardLine.Sum z) h = tt
+  extreme_held (ShardLine.Number z) h = tt
+  extreme_held (ShardLine.Extreme z) h = h
+  extreme_held (ShardLine.Take xs) h = tt
+  extreme_held (ShardLine.Cells cs) h = tt
+  extreme_held (ShardLine.Report cs) h = tt
 
   cells_held : (p : ShardLine) → FitsLine (part_limits n) p → EachFits (FitsCell (part_limits n)) (cells_of p)
-  cells_held (pass.Count c) h = tt
-  cells_held (pass.Sum z) h = tt
-  cells_held (pass.Number z) h = tt
-  cells_held (pass.Extreme z) h = tt
-  cells_held (pass.Take xs) h = tt
-  cells_held (pass.Cells cs) h = h
-  cells_held (pass.Report cs) h = tt
+  cells_held (ShardLine.Count c) h = tt
+  cells_held (ShardLine.Sum z) h = tt
+  cells_held (ShardLine.Number z) h = tt
+  cells_held (ShardLine.Extreme z) h = tt
+  cells_held (ShardLine.Take xs) h = tt
+  cells_held (ShardLine.Cells cs) h = h
+  cells_held (ShardLine.Report cs) h = tt
 
   counts_held : (p : ShardLine) → FitsLine (part_limits n) p → EachFits (FitsCount (part_limits n)) (counts_of p)
-  counts_held (pass.Count c) h = tt
-  counts_held (pass.Sum z) h = tt
-  counts_held (pass.Number z) h = tt
-  counts_held (pass.Extreme z) h = tt
-  counts_held (pass.Take xs) h = tt
-  counts_held (pass.Cells cs) h = tt
-  counts_held (pass.Report cs) h = h
+  counts_held (ShardLine.Count c) h = tt
+  counts_held (ShardLine.Sum z) h = tt
+  counts_held (ShardLine.Number z) h = tt
+  counts_held (ShardLine.Extreme z) h = tt
+  counts_held (ShardLine.Take xs) h = tt
+  counts_held (ShardLine.Cells cs) h = tt
+  counts_held (ShardLine.Report cs) h = h
 
   taken_held : (column : ColType) (p : ShardLine) → is_take_from column p ≡ true → FitsLine (part_limits n) p → (list_all (is_taken_from column) (taken_of p) ≡ true) × EachFits FitsScalar (taken_of p) × (length (taken_of p) ≤ n)
-  taken_held column (pass.Count c) e h = cc e
-  taken_held column (pass.Sum z) e h = cc e
-  taken_held column (pass.Number z) e h = cc e
-  taken_held column (pass.Extreme z) e h = cc e
-  taken_held column (pass.Take xs) e h = (e, h.fit, h.short)
-  taken_held column (pass.Cells cs) e h = cc e
-  taken_held column (pass.Report cs) e h = cc e
+  taken_held column (ShardLine.Count c) e h = cc e
+  taken_held column (ShardLine.Sum z) e h = cc e
+  taken_held column (ShardLine.Number z) e h = cc e
+  taken_held column (ShardLine.Extreme z) e h = cc e
+  taken_held column (ShardLine.Take xs) e h = (e, h.fit, h.short)
+  taken_held column (ShardLine.Cells cs) e h = cc e
+  taken_held column (ShardLine.Report cs) e h = cc e
 
 -- ---- lists
 
@@ -136,9 +119,9 @@ same_tests f g h [] = refl
 same_tests f g h (x ∷ xs) = ap₂ (λ a b. a && b) (h x) (same_tests f g h xs)
 
 alike : (column : ColType) (xs : List Scalar) → list_all (is_taken_from column) xs ≡ true → are_alike xs ≡ true
-alike k.Int xs h = ap (λ b. b || list_all is_truth xs) (sym (same_tests (is_taken_from k.Int) is_number (λ x. refl) xs) ∙ h)
-alike k.Bool xs h = ap (λ b. list_all is_number xs || b) (sym (same_tests (is_taken_from k.Bool) is_truth (λ x. refl) xs) ∙ h) ∙ or_true (list_all is_number xs)
-alike k.Vect xs h = ap (λ b. b || list_all is_truth xs) (sym (same_tests (is_taken_from k.Vect) is_number (λ x. refl) xs) ∙ h)
+alike ColType.Int xs h = ap (λ b. b || list_all is_truth xs) (sym (same_tests (is_taken_from ColType.Int) is_number (λ x. refl) xs) ∙ h)
+alike ColType.Bool xs h = ap (λ b. list_all is_number xs || b) (sym (same_tests (is_taken_from ColType.Bool) is_truth (λ x. refl) xs) ∙ h) ∙ or_true (list_all is_number xs)
+alike ColType.Vect xs h = ap (λ b. b || list_all is_truth xs) (sym (same_tests (is_taken_from ColType.Vect) is_number (λ x. refl) xs) ∙ h)
 
 all_joined : (f : Scalar → Bool) (xs ys : List Scalar) → list_all f xs ≡ true → list_all f ys ≡ true → list_all f (xs ++ ys) ≡ true
 all_joined f [] ys h g = g
@@ -176,11 +159,11 @@ module _ (n m : ℕ) where
       ((omega arith, omega arith), counts_fit cs ds h.1 g.1)
 
   line_fits : (s : PassShape) (p q : ShardLine) → has_shape s p ≡ true → has_shape s q ≡ true → FitsLine (part_limits n) p → FitsLine (part_limits m) q → FitsLine (part_limits (n + m)) (joined_line s p q)
-  line_fits shape.Count p q e f h g = let a = count_held n p h in let b = count_held m q g in omega arith
-  line_fits shape.Sum p q e f h g = let a = sum_held n p h in let b = sum_held m q g in let s = abs_add (sum_of p) (sum_of q) in omega arith
-  line_fits shape.Least p q e f h g = better_fits int_min least_fits (extreme_of p) (extreme_of q) (extreme_held n p h) (extreme_held m q g)
-  line_fits shape.Greatest p q e f h g = better_fits int_max greatest_fits (extreme_of p) (extreme_of q) (extreme_held n p h) (extreme_held m q g)
-  line_fits (shape.Take column) p q e f h g =
+  line_fits PassShape.Count p q e f h g = let a = count_held n p h in let b = count_held m q g in omega arith
+  line_fits PassShape.Sum p q e f h g = let a = sum_held n p h in let b = sum_held m q g in let s = abs_add (sum_of p) (sum_of q) in omega arith
+  line_fits PassShape.Least p q e f h g = better_fits int_min least_fits (extreme_of p) (extreme_of q) (extreme_held n p h) (extreme_held m q g)
+  line_fits PassShape.Greatest p q e f h g = better_fits int_max greatest_fits (extreme_of p) (extreme_of q) (extreme_held n p h) (extreme_held m q g)
+  line_fits (PassShape.Take column) p q e f h g =
       let a = taken_held n column p e h in
       let b = taken_held m column q f g in
       let few = a.2 in
@@ -190,9 +173,9 @@ module _ (n m : ℕ) where
         fit = fits_joined (taken_of p) (taken_of q) a.1 b.1;
         short = omega (arith, length-append (taken_of p) (taken_of q), few, more);
       }
-  line_fits (shape.Number o) p q e f h g = step_fits o (number_of p) (number_of q) (number_held n p h) (number_held m q g)
-  line_fits (shape.Cells c) p q e f h g = cells_fit (cells_of p) (cells_of q) (cells_held n p h) (cells_held m q g)
-  line_fits (shape.Report c) p q e f h g = counts_fit (counts_of p) (counts_of q) (counts_held n p h) (counts_held m q g)
+  line_fits (PassShape.Number o) p q e f h g = step_fits o (number_of p) (number_of q) (number_held n p h) (number_held m q g)
+  line_fits (PassShape.Cells c) p q e f h g = cells_fit (cells_of p) (cells_of q) (cells_held n p h) (cells_held m q g)
+  line_fits (PassShape.Report c) p q e f h g = counts_fit (counts_of p) (counts_of q) (counts_held n p h) (counts_held m q g)
 
   lines_fit : (ss : List PassShape) (ps qs : List ShardLine) → have_shapes ss ps ≡ true → have_shapes ss qs ≡ true → FitLines (part_limits n) ps → FitLines (part_limits m) qs → FitLines (part_limits (n + m)) (joined_lines ss ps qs)
   lines_fit [] ps qs e f h g = tt
@@ -278,41 +261,41 @@ counts_long cs ds n h g = ap (λ m. nat_eq m n) (as_long cs ds (same (length cs)
     as_long (c ∷ cs) (d ∷ ds) e = let rest = as_long cs ds (omega (arith, e)) in omega (arith, rest)
 
 taken_alone : (column : ColType) (p : ShardLine) → is_take_from column p ≡ true → list_all (is_taken_from column) (taken_of p) ≡ true
-taken_alone column (pass.Take xs) e = e
-taken_alone column (pass.Count c) e = refl
-taken_alone column (pass.Sum z) e = refl
-taken_alone column (pass.Number z) e = refl
-taken_alone column (pass.Extreme z) e = refl
-taken_alone column (pass.Cells cs) e = refl
-taken_alone column (pass.Report cs) e = refl
+taken_alone column (ShardLine.Take xs) e = e
+taken_alone column (ShardLine.Count c) e = refl
+taken_alone column (ShardLine.Sum z) e = refl
+taken_alone column (ShardLine.Number z) e = refl
+taken_alone column (ShardLine.Extreme z) e = refl
+taken_alone column (ShardLine.Cells cs) e = refl
+taken_alone column (ShardLine.Report cs) e = refl
 
 so_many_cells : (n : ℕ) (p : ShardLine) → are_cells n p ≡ true → nat_eq (length (cells_of p)) n ≡ true
-so_many_cells n (pass.Cells cs) e = e
-so_many_cells n (pass.Count c) e = cc e
-so_many_cells n (pass.Sum z) e = cc e
-so_many_cells n (pass.Number z) e = cc e
-so_many_cells n (pass.Extreme z) e = cc e
-so_many_cells n (pass.Take xs) e = cc e
-so_many_cells n (pass.Report cs) e = cc e
+so_many_cells n (ShardLine.Cells cs) e = e
+so_many_cells n (ShardLine.Count c) e = cc e
+so_many_cells n (ShardLine.Sum z) e = cc e
+so_many_cells n (ShardLine.Number z) e = cc e
+so_many_cells n (ShardLine.Extreme z) e = cc e
+so_many_cells n (ShardLine.Take xs) e = cc e
+so_many_cells n (ShardLine.Report cs) e = cc e
 
 so_many_counts : (n : ℕ) (p : ShardLine) → is_report n p ≡ true → nat_eq (length (counts_of p)) n ≡ true
-so_many_counts n (pass.Report cs) e = e
-so_many_counts n (pass.Count c) e = cc e
-so_many_counts n (pass.Sum z) e = cc e
-so_many_counts n (pass.Number z) e = cc e
-so_many_counts n (pass.Extreme z) e = cc e
-so_many_counts n (pass.Take xs) e = cc e
-so_many_counts n (pass.Cells cs) e = cc e
+so_many_counts n (ShardLine.Report cs) e = e
+so_many_counts n (ShardLine.Count c) e = cc e
+so_many_counts n (ShardLine.Sum z) e = cc e
+so_many_counts n (ShardLine.Number z) e = cc e
+so_many_counts n (ShardLine.Extreme z) e = cc e
+so_many_counts n (ShardLine.Take xs) e = cc e
+so_many_counts n (ShardLine.Cells cs) e = cc e
 
 line_keeps : (s : PassShape) (p q : ShardLine) → has_shape s p ≡ true → has_shape s q ≡ true → has_shape s (joined_line s p q) ≡ true
-line_keeps shape.Count p q e f = refl
-line_keeps shape.Sum p q e f = refl
-line_keeps shape.Least p q e f = refl
-line_keeps shape.Greatest p q e f = refl
-line_keeps (shape.Take column) p q e f = all_joined (is_taken_from column) (taken_of p) (taken_of q) (taken_alone column p e) (taken_alone column q f)
-line_keeps (shape.Number o) p q e f = refl
-line_keeps (shape.Cells n) p q e f = cells_long (cells_of p) (cells_of q) n (so_many_cells n p e) (so_many_cells n q f)
-line_keeps (shape.Report n) p q e f = counts_long (counts_of p) (counts_of q) n (so_many_counts n p e) (so_many_counts n q f)
+line_keeps PassShape.Count p q e f = refl
+line_keeps PassShape.Sum p q e f = refl
+line_keeps PassShape.Least p q e f = refl
+line_keeps PassShape.Greatest p q e f = refl
+line_keeps (PassShape.Take column) p q e f = all_joined (is_taken_from column) (taken_of p) (taken_of q) (taken_alone column p e) (taken_alone column q f)
+line_keeps (PassShape.Number o) p q e f = refl
+line_keeps (PassShape.Cells n) p q e f = cells_long (cells_of p) (cells_of q) n (so_many_cells n p e) (so_many_cells n q f)
+line_keeps (PassShape.Report n) p q e f = counts_long (counts_of p) (counts_of q) n (so_many_counts n p e) (so_many_counts n q f)
 
 lines_keep : (ss : List PassShape) (ps qs : List ShardLine) → have_shapes ss ps ≡ true → have_shapes ss qs ≡ true → have_shapes ss (joined_lines ss ps qs) ≡ true
 lines_keep [] ps qs e f = refl

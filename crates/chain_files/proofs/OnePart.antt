@@ -1,10 +1,8 @@
 -- A text is of one part at most, and it breaks nowhere.
 use Rattle.std.proofs.Common.{◌≡◌, Some, List, [], ◌∷◌, ◌++◌, ap, ◌∙◌, refl, sym, append-nil, subst}
-use Rattle.shard_lines.specs.Lines.{EachFits}
+use Rattle.shard_lines.specs.{EachFits}
 use Rattle.chain_files.specs.declared.part_line.PartLine.{PartLine}
-use Rattle.chain_files.specs.Laws.{TextBreaksNowhere, TextIsOfOnePart}
-use Rattle.chain_files.specs.Reading.{part_of}
-use Rattle.chain_files.specs.Parts.{IsPart, PartView, part_lines, lines_text, part_text}
+use Rattle.chain_files.specs.{IsPart, lines_text, part_lines, part_of, part_text, PartView, TextBreaksNowhere, TextIsOfOnePart}
 use Rattle.chain_files.proofs.PartLines.{FitsPartLine}
 use Rattle.chain_files.proofs.Running.{ended, run, start, whole_runs}
 use Rattle.chain_files.proofs.Splitting.{begins_with, fit_front, lines_fit, nothing}

@@ -1,14 +1,11 @@
 -- The operations of a Reduce may be grouped in any way.
-use Rattle.std.proofs.Common.{ℕ, ◌≡◌, ◌+◌, ◌<◌, ◌^◌, ◌%◌, ℤ, arith, ap, sym, ◌∙◌, w64}
-use Rattle.std.specs.Prelude.{bit_and, bit_or, bit_xor}
+use Rattle.std.proofs.Common.{ℕ, ◌≡◌, ◌+◌, ◌<◌, ◌^◌, ◌%◌, ℤ, arith, ap, sym, ◌∙◌, w64, bit_and, bit_or, bit_xor}
 use Rattle.std.specs.Int.{cast_signed, cast_unsigned, int_max, int_min, int_wrapping_add}
 use Rattle.std.proofs.lemmas.Int.{clamps, ints, of_z-to_z}
 use Rattle.std.proofs.lemmas.Nat.{and_comm, and_le_l, or_comm, or_lt, xor_comm, xor_lt}
 use Rattle.std.proofs.lemmas.Nat.Bits.{bit_at_and, bit_at_or, bit_at_xor, same_from_bits}
 use Rattle.std.proofs.Math.Nat.{mod-eq_of_lt, mod-add-mod}
-use Rattle.rdf_values.specs.declared.action.ReduceOp.{ReduceOp}
-use Rattle.rdf_values.specs.declared.action.ReduceOp.TheVariants as op
-use Rattle.rdf_values.specs.Fold.{on_bits, reduce_step}
+use Rattle.rdf_values.specs.{on_bits, reduce_step, ReduceOp}
 
 pub min_assoc : (a x y : ℤ) → int_min (int_min a x) y ≡ int_min a (int_min x y)
 min_assoc a x y = omega (arith, ints, clamps)
@@ -69,9 +66,9 @@ module _ (f : ℤ → ℤ → ℤ) (swap : (a x y : ℤ) → f (f a x) y ≡ f (
   grouped a x y = ap (λ z. f z y) (turn a x) ∙ swap x a y ∙ turn (f x y) a
 
 pub step_assoc : (o : ReduceOp) (a x y : ℤ) → reduce_step o (reduce_step o a x) y ≡ reduce_step o a (reduce_step o x y)
-step_assoc op.Min a x y = min_assoc a x y
-step_assoc op.Max a x y = max_assoc a x y
-step_assoc op.And a x y = grouped (on_bits bit_and) (bits_swap bit_and and_lt and_swap) and_turned a x y
-step_assoc op.Or a x y = grouped (on_bits bit_or) (bits_swap bit_or (or_lt 64) or_swap) or_turned a x y
-step_assoc op.Xor a x y = grouped (on_bits bit_xor) (bits_swap bit_xor (xor_lt 64) xor_swap) xor_turned a x y
-step_assoc op.WrapAdd a x y = grouped (int_wrapping_add w64) wrap_swap wrap_turned a x y
+step_assoc ReduceOp.Min a x y = min_assoc a x y
+step_assoc ReduceOp.Max a x y = max_assoc a x y
+step_assoc ReduceOp.And a x y = grouped (on_bits bit_and) (bits_swap bit_and and_lt and_swap) and_turned a x y
+step_assoc ReduceOp.Or a x y = grouped (on_bits bit_or) (bits_swap bit_or (or_lt 64) or_swap) or_turned a x y
+step_assoc ReduceOp.Xor a x y = grouped (on_bits bit_xor) (bits_swap bit_xor (xor_lt 64) xor_swap) xor_turned a x y
+step_assoc ReduceOp.WrapAdd a x y = grouped (int_wrapping_add w64) wrap_swap wrap_turned a x y

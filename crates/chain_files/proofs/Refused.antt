@@ -1,16 +1,13 @@
 -- Reading a part: what holds before each line, and what is refused.
-use Rattle.std.proofs.Common.{◌≡◌, ◌≢◌, ◌≤◌, ◌<◌, ◌+◌, ◌↔◌, IsTrue, ℕ, Bool, true, false, Option, None, Some, List, [], ◌∷◌, ◌++◌, length, refl, ap, ◌∙◌, sym, subst, arith, append_assoc, append-nil, length-append}
-use Rattle.std.specs.Prelude.{option_and_then}
-use Rattle.shard_lines.specs.Lines.{EachFits, joined_words}
-use Rattle.shard_lines.specs.Reading.{words_in}
+use Rattle.std.proofs.Common.{◌≡◌, ◌≢◌, ◌≤◌, ◌<◌, ◌+◌, ◌↔◌, IsTrue, ℕ, Bool, true, false, Option, None, Some, List, [], ◌∷◌, ◌++◌, length, refl, ap, ◌∙◌, sym, subst, arith, append_assoc, append-nil, length-append, option_and_then}
+use Rattle.shard_lines.specs.{EachFits, joined_words, words_in}
 use Rattle.shard_lines.proofs.Runs.{joins}
 use Rattle.shard_files.specs.Endless.{Endless}
 use Rattle.shard_files.proofs.Splitting.{ends_same, joined_again, no_line}
-use Rattle.chain_files.specs.Reading.{part_line_of, step, step_on}
-use Rattle.chain_files.specs.Parts.{Begins, BreaksAt, IsAll, line_text, lines_text, words_of}
+use Rattle.chain_files.specs.{Begins, BreaksAt, IsAll, line_text, lines_text, part_line_of, step, step_on, words_of}
 use Rattle.chain_files.specs.declared.part_line.PartLine.{PartLine}
 use Rattle.chain_files.specs.declared.progress.Progress.{Progress}
-use Rattle.chain_files.specs.declared.progress.Stage.TheVariants as at
+use Rattle.chain_files.specs.declared.progress.Stage.{Stage}
 use Rattle.chain_files.proofs.PartLines.{FitsPartLine, part_reads, part_says}
 use Rattle.chain_files.proofs.Following.{IsProgress, begins, follows, lines_so_far}
 use Rattle.chain_files.proofs.Running.{agrees, ended, run, runs_on, start}
@@ -76,7 +73,7 @@ module _ (bytes : List ℕ) (p : Progress) (rest line more : List ℕ) (number :
 
 module _ (bytes : List ℕ) (p : Progress) (rest : List ℕ) (number : ℕ) (so : Read bytes p rest number) where
   -- no line is left, but the end wasn't read, or bytes are left
-  pub breaks_at_end : Endless rest → (rest ≡ [] → p.stage ≢ at.Ended) → BreaksAt bytes number
+  pub breaks_at_end : Endless rest → (rest ≡ [] → p.stage ≢ Stage.Ended) → BreaksAt bytes number
   breaks_at_end endless unended =
       record {
         before = lines_so_far p;
@@ -88,7 +85,7 @@ module _ (bytes : List ℕ) (p : Progress) (rest : List ℕ) (number : ℕ) (so 
         not_over = λ e all. unended e (over all);
       }
     where
-      over : IsAll (lines_so_far p) → p.stage ≡ at.Ended
+      over : IsAll (lines_so_far p) → p.stage ≡ Stage.Ended
       over all =
           let goes : Some p ≡ Some (ended all.part all.part.loops) = agrees (lines_so_far p) [] p all.part so.ran all.valid (all.lines ∙ sym (append-nil (lines_so_far p))) in
           let same : p ≡ ended all.part all.part.loops = cc goes in

@@ -1,20 +1,13 @@
 -- The lines of each part are read, one after the other.
-use Rattle.std.proofs.Common.{◌≡◌, ◌≤◌, ◌<◌, ◌+◌, ◌*◌, ◌-◌, true, false, ◌&&◌, Option, None, Some, List, [], ◌∷◌, ◌++◌, length, map, flat_map, refl, ap, ap₂, ◌∙◌, sym, arith, append_assoc, append-nil, length-append}
-use Rattle.std.specs.Prelude.{◌||◌, if◌then◌else◌, nat_eq, nat_le, nat_lt, option_and_then}
+use Rattle.std.proofs.Common.{◌≡◌, ◌≤◌, ◌<◌, ◌+◌, ◌*◌, ◌-◌, true, false, ◌&&◌, Option, None, Some, List, [], ◌∷◌, ◌++◌, length, map, flat_map, refl, ap, ap₂, ◌∙◌, sym, arith, append_assoc, append-nil, length-append, ◌||◌, if◌then◌else◌, nat_eq, nat_le, nat_lt, option_and_then}
 use Rattle.std.proofs.lemmas.Bool.Decides.{nat_tests}
-use Rattle.rdf_values.specs.Tables.{AreColumns}
-use Rattle.rdf_values.specs.declared.column.Column.{Column}
-use Rattle.shard_lines.specs.declared.shard_line.ShardLine.{ShardLine}
-use Rattle.shard_lines.specs.Lines.{FitLines}
-use Rattle.chain_files.specs.Reading.{is_within, step}
+use Rattle.rdf_values.specs.{AreColumns, Column}
+use Rattle.shard_lines.specs.{FitLines, ShardLine}
+use Rattle.chain_files.specs.{ChainFault, FitLoops, FitsFault, is_within, IsPart, loop_lines, part_limits, part_lines, PartLoop, PartView, step}
 use Rattle.chain_files.proofs.Within.{is_within_true}
-use Rattle.chain_files.specs.Parts.{FitLoops, FitsFault, IsPart, PartView, part_limits, part_lines, loop_lines}
-use Rattle.chain_files.specs.declared.chain_fault.ChainFault.{ChainFault}
 use Rattle.chain_files.specs.declared.part_line.PartLine.{PartLine}
-use Rattle.chain_files.specs.declared.part_line.PartLine.TheVariants as on
 use Rattle.chain_files.specs.declared.progress.Progress.{Progress}
-use Rattle.chain_files.specs.declared.progress.Stage.TheVariants as at
-use Rattle.chain_files.specs.declared.part_loop.PartLoop.{PartLoop}
+use Rattle.chain_files.specs.declared.progress.Stage.{Stage}
 use Rattle.chain_files.specs.declared.part_loop.PartLoop.TheVariants.{Whole, Faulted}
 
 -- what is read after these lines
@@ -31,57 +24,57 @@ run_append p (l ∷ ls) ms = by (step p l) (λ q. run_append q ls ms)
     by (Some q) f = f q
 
 abbrev pub start : Progress
-start = record { stage = at.First; first_file = 0; end_file = 0; entries = 0; script = []; columns = []; loops = []; lines = [] }
+start = record { stage = Stage.First; first_file = 0; end_file = 0; entries = 0; script = []; columns = []; loops = []; lines = [] }
 
 module _ (s : PartView) where
   abbrev at_columns : List Column → Progress
-  at_columns cs = record { stage = at.Columns; first_file = s.first_file; end_file = s.end_file; entries = s.entries; script = s.script; columns = cs; loops = []; lines = [] }
+  at_columns cs = record { stage = Stage.Columns; first_file = s.first_file; end_file = s.end_file; entries = s.entries; script = s.script; columns = cs; loops = []; lines = [] }
 
   abbrev within : List PartLoop → List ShardLine → Progress
-  within loops lines = record { stage = at.Within; first_file = s.first_file; end_file = s.end_file; entries = s.entries; script = s.script; columns = s.columns; loops = loops; lines = lines }
+  within loops lines = record { stage = Stage.Within; first_file = s.first_file; end_file = s.end_file; entries = s.entries; script = s.script; columns = s.columns; loops = loops; lines = lines }
 
   abbrev pub ended : List PartLoop → Progress
-  ended loops = record { stage = at.Ended; first_file = s.first_file; end_file = s.end_file; entries = s.entries; script = s.script; columns = s.columns; loops = loops; lines = [] }
+  ended loops = record { stage = Stage.Ended; first_file = s.first_file; end_file = s.end_file; entries = s.entries; script = s.script; columns = s.columns; loops = loops; lines = [] }
 
   abbrev faulted : List PartLoop → Progress
-  faulted loops = record { stage = at.Faulted; first_file = s.first_file; end_file = s.end_file; entries = s.entries; script = s.script; columns = s.columns; loops = loops; lines = [] }
+  faulted loops = record { stage = Stage.Faulted; first_file = s.first_file; end_file = s.end_file; entries = s.entries; script = s.script; columns = s.columns; loops = loops; lines = [] }
 
-  columns_run : (done cs : List Column) (tail : List PartLine) → AreColumns done cs → length done + length cs ≤ 64 → run (at_columns done) (map on.Column cs ++ tail) ≡ run (at_columns (done ++ cs)) tail
+  columns_run : (done cs : List Column) (tail : List PartLine) → AreColumns done cs → length done + length cs ≤ 64 → run (at_columns done) (map PartLine.Column cs ++ tail) ≡ run (at_columns (done ++ cs)) tail
   columns_run done [] tail h l = ap (λ t. run (at_columns t) tail) (sym (append-nil done))
   columns_run done (c ∷ cs) tail h l =
       let room : nat_le 64 (length done) ≡ false = grind (arith, nat_tests) in
-      let taken : step (at_columns done) (on.Column c) ≡ Some (at_columns (done ++ c ∷ [])) = ap₂ (λ a b. if a || b then None else Some (at_columns (done ++ c ∷ []))) h.0 room in
-      ap (option_and_then (λ q. run q (map on.Column cs ++ tail))) taken ∙ columns_run (done ++ c ∷ []) cs tail h.2 (omega (arith, l, length-append done (c ∷ [])))
+      let taken : step (at_columns done) (PartLine.Column c) ≡ Some (at_columns (done ++ c ∷ [])) = ap₂ (λ a b. if a || b then None else Some (at_columns (done ++ c ∷ []))) h.0 room in
+      ap (option_and_then (λ q. run q (map PartLine.Column cs ++ tail))) taken ∙ columns_run (done ++ c ∷ []) cs tail h.2 (omega (arith, l, length-append done (c ∷ [])))
       ∙ ap (λ t. run (at_columns t) tail) (append_assoc done (c ∷ []) cs)
 
-  lines_run : (loops : List PartLoop) (done ls : List ShardLine) (tail : List PartLine) → FitLines (part_limits s.entries) ls → run (within loops done) (map on.Pass ls ++ tail) ≡ run (within loops (done ++ ls)) tail
+  lines_run : (loops : List PartLoop) (done ls : List ShardLine) (tail : List PartLine) → FitLines (part_limits s.entries) ls → run (within loops done) (map PartLine.Pass ls ++ tail) ≡ run (within loops (done ++ ls)) tail
   lines_run loops done [] tail h = ap (λ t. run (within loops t) tail) (sym (append-nil done))
   lines_run loops done (l ∷ ls) tail h =
-      ap (λ b. option_and_then (λ q. run q (map on.Pass ls ++ tail)) (if b then Some (within loops (done ++ l ∷ [])) else None)) (is_within_true s.entries l h.0)
+      ap (λ b. option_and_then (λ q. run q (map PartLine.Pass ls ++ tail)) (if b then Some (within loops (done ++ l ∷ [])) else None)) (is_within_true s.entries l h.0)
       ∙ lines_run loops (done ++ l ∷ []) ls tail h.1 ∙ ap (λ t. run (within loops t) tail) (append_assoc done (l ∷ []) ls)
 
   abbrev end_of : List PartLoop → List PartLine
-  end_of ls = flat_map loop_lines ls ++ on.End ∷ []
+  end_of ls = flat_map loop_lines ls ++ PartLine.End ∷ []
 
   some_line : (lines : List ShardLine) → 0 < length lines → nat_lt 0 (length lines) ≡ true
   some_line lines l = grind (arith, nat_tests)
 
-  fault_run : (loops : List PartLoop) (f : ChainFault) → FitsFault s.first_file s.end_file f → run (within loops []) (on.Fault f ∷ on.End ∷ []) ≡ Some (ended (loops ++ Faulted f ∷ []))
+  fault_run : (loops : List PartLoop) (f : ChainFault) → FitsFault s.first_file s.end_file f → run (within loops []) (PartLine.Fault f ∷ PartLine.End ∷ []) ≡ Some (ended (loops ++ Faulted f ∷ []))
   fault_run loops f h =
       let low : nat_le s.first_file f.file ≡ true = let l = h.0 in grind (arith, nat_tests) in
       let high : nat_lt f.file s.end_file ≡ true = let l = h.1 in grind (arith, nat_tests) in
-      ap₂ (λ a b. option_and_then (λ q. run q (on.End ∷ [])) (if a && b then Some (faulted (loops ++ Faulted f ∷ [])) else None)) low high
+      ap₂ (λ a b. option_and_then (λ q. run q (PartLine.End ∷ [])) (if a && b then Some (faulted (loops ++ Faulted f ∷ [])) else None)) low high
 
   loops_run : (loops : List PartLoop) (lines : List ShardLine) (ls : List PartLoop) → 0 < length lines → FitLoops s.first_file s.end_file s.entries ls → run (within loops lines) (end_of ls) ≡ Some (ended (loops ++ Whole lines ∷ ls))
   loops_run loops lines [] l h = ap (λ b. option_and_then (λ q. run q []) (if b then Some (ended (loops ++ Whole lines ∷ [])) else None)) (some_line lines l)
   loops_run loops lines (Whole ms ∷ ls) l h =
       let before = loops ++ Whole lines ∷ [] in
-      ap (λ b. option_and_then (λ q. run q ((map on.Pass ms ++ flat_map loop_lines ls) ++ on.End ∷ [])) (if b then Some (within before []) else None)) (some_line lines l)
-      ∙ ap (run (within before [])) (append_assoc (map on.Pass ms) (flat_map loop_lines ls) (on.End ∷ [])) ∙ lines_run before [] ms (end_of ls) h.1 ∙ loops_run before ms ls h.0 h.2
+      ap (λ b. option_and_then (λ q. run q ((map PartLine.Pass ms ++ flat_map loop_lines ls) ++ PartLine.End ∷ [])) (if b then Some (within before []) else None)) (some_line lines l)
+      ∙ ap (run (within before [])) (append_assoc (map PartLine.Pass ms) (flat_map loop_lines ls) (PartLine.End ∷ [])) ∙ lines_run before [] ms (end_of ls) h.1 ∙ loops_run before ms ls h.0 h.2
       ∙ ap (λ t. Some (ended t)) (append_assoc loops (Whole lines ∷ []) (Whole ms ∷ ls))
   loops_run loops lines (Faulted f ∷ []) l h =
       let before = loops ++ Whole lines ∷ [] in
-      ap (λ b. option_and_then (λ q. run q (on.Fault f ∷ on.End ∷ [])) (if b then Some (within before []) else None)) (some_line lines l) ∙ fault_run before f h
+      ap (λ b. option_and_then (λ q. run q (PartLine.Fault f ∷ PartLine.End ∷ [])) (if b then Some (within before []) else None)) (some_line lines l) ∙ fault_run before f h
       ∙ ap (λ t. Some (ended t)) (append_assoc loops (Whole lines ∷ []) (Faulted f ∷ []))
   loops_run loops lines (Faulted f ∷ next ∷ ls) l h = absurd h
 
@@ -92,22 +85,22 @@ module _ (s : PartView) where
   first_run : (ls : List PartLoop) → 0 < length s.columns → FitLoops s.first_file s.end_file s.entries ls → run (at_columns s.columns) (end_of ls) ≡ Some (ended ls)
   first_run [] l h = ap (λ b. option_and_then (λ q. run q []) (if b then Some (ended []) else None)) (some_column l)
   first_run (Whole ms ∷ ls) l h =
-      ap (λ b. option_and_then (λ q. run q ((map on.Pass ms ++ flat_map loop_lines ls) ++ on.End ∷ [])) (if b then Some (within [] []) else None)) (some_column l)
-      ∙ ap (run (within [] [])) (append_assoc (map on.Pass ms) (flat_map loop_lines ls) (on.End ∷ [])) ∙ lines_run [] [] ms (end_of ls) h.1 ∙ loops_run [] ms ls h.0 h.2
-  first_run (Faulted f ∷ []) l h = ap (λ b. option_and_then (λ q. run q (on.Fault f ∷ on.End ∷ [])) (if b then Some (within [] []) else None)) (some_column l) ∙ fault_run [] f h
+      ap (λ b. option_and_then (λ q. run q ((map PartLine.Pass ms ++ flat_map loop_lines ls) ++ PartLine.End ∷ [])) (if b then Some (within [] []) else None)) (some_column l)
+      ∙ ap (run (within [] [])) (append_assoc (map PartLine.Pass ms) (flat_map loop_lines ls) (PartLine.End ∷ [])) ∙ lines_run [] [] ms (end_of ls) h.1 ∙ loops_run [] ms ls h.0 h.2
+  first_run (Faulted f ∷ []) l h = ap (λ b. option_and_then (λ q. run q (PartLine.Fault f ∷ PartLine.End ∷ [])) (if b then Some (within [] []) else None)) (some_column l) ∙ fault_run [] f h
   first_run (Faulted f ∷ next ∷ ls) l h = absurd h
 
   abbrev behind_files : List PartLine
-  behind_files = on.Entries s.entries ∷ on.Script s.script ∷ (map on.Column s.columns ++ end_of s.loops)
+  behind_files = PartLine.Entries s.entries ∷ PartLine.Script s.script ∷ (map PartLine.Column s.columns ++ end_of s.loops)
 
   abbrev behind_entries : List PartLine
-  behind_entries = on.Script s.script ∷ (map on.Column s.columns ++ end_of s.loops)
+  behind_entries = PartLine.Script s.script ∷ (map PartLine.Column s.columns ++ end_of s.loops)
 
   abbrev at_entries : Progress
-  at_entries = record { stage = at.Entries; first_file = s.first_file; end_file = s.end_file; entries = 0; script = []; columns = []; loops = []; lines = [] }
+  at_entries = record { stage = Stage.Entries; first_file = s.first_file; end_file = s.end_file; entries = 0; script = []; columns = []; loops = []; lines = [] }
 
   abbrev at_script : Progress
-  at_script = record { stage = at.Script; first_file = s.first_file; end_file = s.end_file; entries = s.entries; script = []; columns = []; loops = []; lines = [] }
+  at_script = record { stage = Stage.Script; first_file = s.first_file; end_file = s.end_file; entries = s.entries; script = []; columns = []; loops = []; lines = [] }
 
   pub whole_runs : IsPart s → run start (part_lines s) ≡ Some (ended s.loops)
   whole_runs v =

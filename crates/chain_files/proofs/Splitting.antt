@@ -1,23 +1,16 @@
 -- A text is split into lines, and a line into words, in one way.
-use Rattle.std.proofs.Common.{◌≡◌, ◌≢◌, ◌≤◌, ◌<◌, ◌*◌, ◌-◌, ℕ, true, List, [], ◌∷◌, ◌++◌, length, map, flat_map, refl, ap, ap₂, ◌∙◌, sym, arith, append_assoc, codes}
-use Rattle.std.specs.Prelude.{nat_eq}
+use Rattle.std.proofs.Common.{◌≡◌, ◌≢◌, ◌≤◌, ◌<◌, ◌*◌, ◌-◌, ℕ, true, List, [], ◌∷◌, ◌++◌, length, map, flat_map, refl, ap, ap₂, ◌∙◌, sym, arith, append_assoc, codes, nat_eq}
 use Rattle.std.specs.List.{list_all}
 use Rattle.std.proofs.lemmas.Bool.Decides.{nat_tests}
-use Rattle.lemmas.proofs.Booleans.{and_left, and_right}
-use Rattle.rdf_values.specs.Names.{is_name}
-use Rattle.rdf_values.specs.Tables.{AreColumns}
-use Rattle.rdf_values.specs.declared.column.Column.{Column}
-use Rattle.shard_lines.specs.Lines.{EachFits, FitLines, joined_words}
-use Rattle.shard_lines.specs.Reading.{words_in}
-use Rattle.shard_lines.specs.declared.shard_line.ShardLine.{ShardLine}
+use Rattle.lemmas.proofs.{and_left, and_right}
+use Rattle.rdf_values.specs.{AreColumns, Column, is_name}
+use Rattle.shard_lines.specs.{EachFits, FitLines, joined_words, ShardLine, words_in}
 use Rattle.shard_lines.proofs.Plain.{AllPlain, Plain, decimal_plain, line_plain, line_some, words_found, written}
 use Rattle.shard_files.specs.Endless.{Endless}
-use Rattle.shard_files.specs.Shards.{fault_number}
+use Rattle.shard_files.specs.{fault_number}
 use Rattle.shard_files.proofs.Splitting.{ends_same, endless_words, kind_plain, name_plain}
-use Rattle.chain_files.specs.Parts.{FitLoops, IsPart, PartView, is_digest, is_hex, line_text, lines_text, loop_lines, part_limits, part_lines, words_of}
+use Rattle.chain_files.specs.{FitLoops, is_digest, is_hex, IsPart, line_text, lines_text, loop_lines, part_limits, part_lines, PartLoop, PartView, words_of}
 use Rattle.chain_files.specs.declared.part_line.PartLine.{PartLine}
-use Rattle.chain_files.specs.declared.part_line.PartLine.TheVariants as on
-use Rattle.chain_files.specs.declared.part_loop.PartLoop.{PartLoop}
 use Rattle.chain_files.specs.declared.part_loop.PartLoop.TheVariants.{Whole, Faulted}
 use Rattle.chain_files.proofs.PartLines.{FitsPartLine, same_line}
 use Rattle.chain_files.proofs.Within.{lines_grow}
@@ -35,26 +28,26 @@ digest_plain : (w : List ℕ) → is_digest w ≡ true → Plain w
 digest_plain w h = hexes_plain w (and_right (nat_eq (length w) 16) (list_all is_hex w) h)
 
 part_plain : (l : PartLine) → FitsPartLine l → AllPlain (words_of l)
-part_plain on.Version h = (written (codes "rdfpart") refl, (written (codes "1") refl, tt))
-part_plain (on.Files a b) h = (written (codes "files") refl, (decimal_plain a, (decimal_plain b, tt)))
-part_plain (on.Entries n) h = (written (codes "entries") refl, (decimal_plain n, tt))
-part_plain (on.Script w) h = (written (codes "script") refl, (digest_plain w h, tt))
-part_plain (on.Column c) h = (written (codes "column") refl, (name_plain c.name h.0, (kind_plain c.kind, tt)))
-part_plain on.Loop h = (written (codes "loop") refl, tt)
-part_plain (on.Pass l) h = line_plain l
-part_plain (on.Fault f) h = (written (codes "fault") refl, (decimal_plain f.file, (decimal_plain f.entry, (decimal_plain f.pass, (decimal_plain (fault_number f.kind), tt)))))
-part_plain on.End h = (written (codes "end") refl, tt)
+part_plain PartLine.Version h = (written (codes "rdfpart") refl, (written (codes "1") refl, tt))
+part_plain (PartLine.Files a b) h = (written (codes "files") refl, (decimal_plain a, (decimal_plain b, tt)))
+part_plain (PartLine.Entries n) h = (written (codes "entries") refl, (decimal_plain n, tt))
+part_plain (PartLine.Script w) h = (written (codes "script") refl, (digest_plain w h, tt))
+part_plain (PartLine.Column c) h = (written (codes "column") refl, (name_plain c.name h.0, (kind_plain c.kind, tt)))
+part_plain PartLine.Loop h = (written (codes "loop") refl, tt)
+part_plain (PartLine.Pass l) h = line_plain l
+part_plain (PartLine.Fault f) h = (written (codes "fault") refl, (decimal_plain f.file, (decimal_plain f.entry, (decimal_plain f.pass, (decimal_plain (fault_number f.kind), tt)))))
+part_plain PartLine.End h = (written (codes "end") refl, tt)
 
 part_some : (l : PartLine) → words_of l ≢ []
-part_some on.Version e = cc e
-part_some (on.Files a b) e = cc e
-part_some (on.Entries n) e = cc e
-part_some (on.Script w) e = cc e
-part_some (on.Column c) e = cc e
-part_some on.Loop e = cc e
-part_some (on.Pass l) e = line_some l e
-part_some (on.Fault f) e = cc e
-part_some on.End e = cc e
+part_some PartLine.Version e = cc e
+part_some (PartLine.Files a b) e = cc e
+part_some (PartLine.Entries n) e = cc e
+part_some (PartLine.Script w) e = cc e
+part_some (PartLine.Column c) e = cc e
+part_some PartLine.Loop e = cc e
+part_some (PartLine.Pass l) e = line_some l e
+part_some (PartLine.Fault f) e = cc e
+part_some PartLine.End e = cc e
 
 -- the words of a line are found again
 pub found_again : (l : PartLine) → FitsPartLine l → words_in (joined_words (words_of l)) ≡ words_of l
@@ -109,22 +102,22 @@ pub fit_last : (ls : List PartLine) (l : PartLine) → AllFit (ls ++ l ∷ []) �
 fit_last [] l f = f.0
 fit_last (m ∷ ls) l f = fit_last ls l f.1
 
-columns_fit : (seen cs : List Column) → AreColumns seen cs → list_all (λ (c : Column). is_name c.name) cs ≡ true → AllFit (map on.Column cs)
+columns_fit : (seen cs : List Column) → AreColumns seen cs → list_all (λ (c : Column). is_name c.name) cs ≡ true → AllFit (map PartLine.Column cs)
 columns_fit seen [] a h = tt
 columns_fit seen (c ∷ cs) a h =
     ((and_left (is_name c.name) (list_all (λ (d : Column). is_name d.name) cs) h, a.1), columns_fit (seen ++ c ∷ []) cs a.2 (and_right (is_name c.name) (list_all (λ (d : Column). is_name d.name) cs) h))
 
 module _ (first end n : ℕ) (low : end ≤ 16777216) (few : n ≤ 16777216000000) where
-  passes_fit : (ls : List ShardLine) → FitLines (part_limits n) ls → AllFit (map on.Pass ls)
+  passes_fit : (ls : List ShardLine) → FitLines (part_limits n) ls → AllFit (map PartLine.Pass ls)
   passes_fit ls h = by ls (lines_grow n ls few h)
     where
-      by : (ls : List ShardLine) → EachFits (λ l. FitsPartLine (on.Pass l)) ls → AllFit (map on.Pass ls)
+      by : (ls : List ShardLine) → EachFits (λ l. FitsPartLine (PartLine.Pass l)) ls → AllFit (map PartLine.Pass ls)
       by [] h = tt
       by (l ∷ ls) h = (h.0, by ls h.1)
 
   loops_fit : (ls : List PartLoop) → FitLoops first end n ls → AllFit (flat_map loop_lines ls)
   loops_fit [] h = tt
-  loops_fit (Whole ms ∷ ls) h = (tt, fit_append (map on.Pass ms) (flat_map loop_lines ls) (passes_fit ms h.1) (loops_fit ls h.2))
+  loops_fit (Whole ms ∷ ls) h = (tt, fit_append (map PartLine.Pass ms) (flat_map loop_lines ls) (passes_fit ms h.1) (loops_fit ls h.2))
   loops_fit (Faulted f ∷ []) h = let below = h.1 in (tt, ((omega arith, h.2, h.3), tt))
   loops_fit (Faulted f ∷ l ∷ ls) h = absurd h
 
@@ -147,8 +140,8 @@ lines_fit s v =
           few,
           (
             v.digest,
-            fit_append (map on.Column s.columns) (flat_map loop_lines s.loops ++ on.End ∷ []) (columns_fit [] s.columns header.distinct v.named)
-                (fit_append (flat_map loop_lines s.loops) (on.End ∷ []) (loops_fit s.first_file s.end_file s.entries most few s.loops v.loops) (tt, tt)),
+            fit_append (map PartLine.Column s.columns) (flat_map loop_lines s.loops ++ PartLine.End ∷ []) (columns_fit [] s.columns header.distinct v.named)
+                (fit_append (flat_map loop_lines s.loops) (PartLine.End ∷ []) (loops_fit s.first_file s.end_file s.entries most few s.loops v.loops) (tt, tt)),
           ),
         ),
       ),

@@ -1,17 +1,12 @@
 -- Lines that so many entries can come to.
-use Rattle.std.proofs.Common.{◌≡◌, ◌≤◌, ◌*◌, ◌^◌, ℕ, ℤ, Bool, true, false, ◌&&◌, List, [], ◌∷◌, length, refl, ap₂, arith}
-use Rattle.std.specs.Prelude.{nat_abs, nat_le}
+use Rattle.std.proofs.Common.{◌≡◌, ◌≤◌, ◌*◌, ◌^◌, ℕ, ℤ, Bool, true, false, ◌&&◌, List, [], ◌∷◌, length, refl, ap₂, arith, nat_abs, nat_le}
 use Rattle.std.specs.List.{list_all}
 use Rattle.std.proofs.lemmas.Bool.Decides.{nat_tests}
-use Rattle.lemmas.proofs.Booleans.{both_true}
-use Rattle.lemmas.proofs.Orders.{le_says, le_true}
-use Rattle.loop_pieces.specs.declared.flow.Counts.{Counts}
-use Rattle.histograms.specs.declared.cell_sum.CellSum.{CellSum}
-use Rattle.shard_lines.specs.Lines.{EachFits, FitLines, FitsCell, FitsCount, FitsLine}
-use Rattle.shard_lines.specs.declared.shard_line.ShardLine.{ShardLine}
-use Rattle.shard_lines.specs.declared.shard_line.ShardLine.TheVariants as pass
-use Rattle.chain_files.specs.Parts.{part_limits, widest}
-use Rattle.chain_files.specs.Reading.{is_cell_within, is_count_within, is_within}
+use Rattle.lemmas.proofs.{both_true, le_says, le_true}
+use Rattle.loop_pieces.specs.{Counts}
+use Rattle.histograms.specs.{CellSum}
+use Rattle.shard_lines.specs.{EachFits, FitLines, FitsCell, FitsCount, FitsLine, ShardLine}
+use Rattle.chain_files.specs.{is_cell_within, is_count_within, is_within, part_limits, widest}
 
 all_says : {A : Type 0} (test : A → Bool) (Fits : A → Type 0) (xs : List A) → ((x : A) → test x ≡ true → Fits x) → list_all test xs ≡ true → EachFits Fits xs
 all_says test Fits [] f h = tt
@@ -28,16 +23,16 @@ all_grow Fits More (x ∷ xs) f h = (f x h.0, all_grow Fits More xs f h.1)
 -- ---- a part's limits are within the widest
 
 pub grows : (n : ℕ) (l : ShardLine) → n ≤ 16777216000000 → FitsLine (part_limits n) l → FitsLine widest l
-grows n (pass.Count k) l h = omega arith
-grows n (pass.Sum z) l h = let a = nat_abs z in omega arith
-grows n (pass.Number z) l h = h
-grows n (pass.Extreme z) l h = h
-grows n (pass.Take xs) l h = let short = h.short in record { alike = h.alike; fit = h.fit; short = omega arith }
-grows n (pass.Cells cs) l h = all_grow (FitsCell (part_limits n)) (FitsCell widest) cs cell h
+grows n (ShardLine.Count k) l h = omega arith
+grows n (ShardLine.Sum z) l h = let a = nat_abs z in omega arith
+grows n (ShardLine.Number z) l h = h
+grows n (ShardLine.Extreme z) l h = h
+grows n (ShardLine.Take xs) l h = let short = h.short in record { alike = h.alike; fit = h.fit; short = omega arith }
+grows n (ShardLine.Cells cs) l h = all_grow (FitsCell (part_limits n)) (FitsCell widest) cs cell h
   where
     cell : (c : CellSum) → FitsCell (part_limits n) c → FitsCell widest c
     cell c f = let s = f.0 in let q = f.1 in (omega arith, omega arith)
-grows n (pass.Report cs) l h = all_grow (FitsCount (part_limits n)) (FitsCount widest) cs count h
+grows n (ShardLine.Report cs) l h = all_grow (FitsCount (part_limits n)) (FitsCount widest) cs count h
   where
     count : (c : Counts) → FitsCount (part_limits n) c → FitsCount widest c
     count c f = let a = f.0 in let b = f.1 in (omega arith, omega arith)
@@ -48,33 +43,33 @@ lines_grow n ls l h = all_grow (FitsLine (part_limits n)) (FitsLine widest) ls (
 -- ---- what the test says
 
 pub within_says : (n : ℕ) (l : ShardLine) → FitsLine widest l → is_within n l ≡ true → FitsLine (part_limits n) l
-within_says n (pass.Count k) f h = le_says k n h
-within_says n (pass.Sum z) f h = le_says (nat_abs z) (n * 2 ^ 75) h
-within_says n (pass.Number z) f h = f
-within_says n (pass.Extreme z) f h = f
-within_says n (pass.Take xs) f h = record { alike = f.alike; fit = f.fit; short = le_says (length xs) n h }
-within_says n (pass.Cells cs) f h = all_says (is_cell_within n) (FitsCell (part_limits n)) cs cell h
+within_says n (ShardLine.Count k) f h = le_says k n h
+within_says n (ShardLine.Sum z) f h = le_says (nat_abs z) (n * 2 ^ 75) h
+within_says n (ShardLine.Number z) f h = f
+within_says n (ShardLine.Extreme z) f h = f
+within_says n (ShardLine.Take xs) f h = record { alike = f.alike; fit = f.fit; short = le_says (length xs) n h }
+within_says n (ShardLine.Cells cs) f h = all_says (is_cell_within n) (FitsCell (part_limits n)) cs cell h
   where
     cell : (c : CellSum) → is_cell_within n c ≡ true → FitsCell (part_limits n) c
     cell c t =
         let both = both_true (nat_le (nat_abs c.sum) (n * 2 ^ 43)) (nat_le (nat_abs c.squares) (n * 2 ^ 74)) t in
         (le_says (nat_abs c.sum) (n * 2 ^ 43) both.0, le_says (nat_abs c.squares) (n * 2 ^ 74) both.1)
-within_says n (pass.Report cs) f h = all_says (is_count_within n) (FitsCount (part_limits n)) cs count h
+within_says n (ShardLine.Report cs) f h = all_says (is_count_within n) (FitsCount (part_limits n)) cs count h
   where
     count : (c : Counts) → is_count_within n c ≡ true → FitsCount (part_limits n) c
     count c t = let both = both_true (nat_le c.all n) (nat_le c.pass n) t in (le_says c.all n both.0, le_says c.pass n both.1)
 
 pub is_within_true : (n : ℕ) (l : ShardLine) → FitsLine (part_limits n) l → is_within n l ≡ true
-is_within_true n (pass.Count k) h = le_true k n h
-is_within_true n (pass.Sum z) h = le_true (nat_abs z) (n * 2 ^ 75) h
-is_within_true n (pass.Number z) h = refl
-is_within_true n (pass.Extreme z) h = refl
-is_within_true n (pass.Take xs) h = le_true (length xs) n h.short
-is_within_true n (pass.Cells cs) h = all_true (is_cell_within n) (FitsCell (part_limits n)) cs cell h
+is_within_true n (ShardLine.Count k) h = le_true k n h
+is_within_true n (ShardLine.Sum z) h = le_true (nat_abs z) (n * 2 ^ 75) h
+is_within_true n (ShardLine.Number z) h = refl
+is_within_true n (ShardLine.Extreme z) h = refl
+is_within_true n (ShardLine.Take xs) h = le_true (length xs) n h.short
+is_within_true n (ShardLine.Cells cs) h = all_true (is_cell_within n) (FitsCell (part_limits n)) cs cell h
   where
     cell : (c : CellSum) → FitsCell (part_limits n) c → is_cell_within n c ≡ true
     cell c f = ap₂ (λ a b. a && b) (le_true (nat_abs c.sum) (n * 2 ^ 43) f.0) (le_true (nat_abs c.squares) (n * 2 ^ 74) f.1)
-is_within_true n (pass.Report cs) h = all_true (is_count_within n) (FitsCount (part_limits n)) cs count h
+is_within_true n (ShardLine.Report cs) h = all_true (is_count_within n) (FitsCount (part_limits n)) cs count h
   where
     count : (c : Counts) → FitsCount (part_limits n) c → is_count_within n c ≡ true
     count c f = ap₂ (λ a b. a && b) (le_true c.all n f.0) (le_true c.pass n f.1)

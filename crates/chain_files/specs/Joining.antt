@@ -1,8 +1,6 @@
 -- Parts of one script, joined in the order of their files.
 use Rattle.std.specs.Prelude.{◌≡◌, ◌+◌, ⊤, ℕ, Bool, true, false, ◌&&◌, List, [], ◌∷◌, ◌++◌, length, fold, nat_lt}
-use Rattle.shard_lines.specs.Joining.{joined_lines}
-use Rattle.shard_lines.specs.Shapes.{have_shapes}
-use Rattle.shard_lines.specs.declared.pass_shape.PassShape.{PassShape}
+use Rattle.shard_lines.specs.{have_shapes, joined_lines, PassShape}
 use Rattle.chain_files.specs.Parts.{PartView}
 use Rattle.chain_files.specs.declared.part_loop.PartLoop.{PartLoop}
 use Rattle.chain_files.specs.declared.part_loop.PartLoop.TheVariants.{Whole, Faulted}

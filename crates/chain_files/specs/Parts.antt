@@ -1,16 +1,11 @@
 -- Part files: which values are a part of a chain, the lines of its text, and where bytes are no part.
 use Rattle.std.specs.Prelude.{◌≡◌, ◌≤◌, ◌<◌, ◌+◌, ◌-◌, ◌*◌, ◌^◌, ⊤, ℕ, Bool, true, ◌&&◌, ◌||◌, List, [], ◌∷◌, ◌++◌, length, map, flat_map, Some, nat_eq, nat_le, codes, decimal}
 use Rattle.std.specs.List.{list_all}
-use Rattle.rdf_values.specs.Names.{is_name}
-use Rattle.rdf_values.specs.RefusalLines.{line}
-use Rattle.rdf_values.specs.Tables.{IsHeader}
-use Rattle.rdf_values.specs.declared.column.Column.{Column}
-use Rattle.shard_lines.specs.Lines.{FitLines, joined_words, line_words}
-use Rattle.shard_lines.specs.declared.limits.LineLimits.{LineLimits}
-use Rattle.shard_files.specs.Shards.{fault_number, kind_word}
+use Rattle.rdf_values.specs.{Column, is_name, IsHeader, line}
+use Rattle.shard_lines.specs.{FitLines, joined_words, line_words, LineLimits}
+use Rattle.shard_files.specs.{fault_number, kind_word}
 use Rattle.chain_files.specs.declared.chain_fault.ChainFault.{ChainFault}
 use Rattle.chain_files.specs.declared.part_line.PartLine.{PartLine}
-use Rattle.chain_files.specs.declared.part_line.PartLine.TheVariants as on
 use Rattle.chain_files.specs.declared.refusal.PartRefusal.{PartRefusal}
 use Rattle.chain_files.specs.declared.refusal.PartRefusal.TheVariants.{Memory, Syntax}
 use Rattle.chain_files.specs.declared.part.PartFields.{PartFields}
@@ -74,15 +69,15 @@ pub record IsPart (s : PartView) : Type 0 where
 
 -- the words of a line
 abbrev pub words_of : PartLine → List (List ℕ)
-words_of on.Version = codes "rdfpart" ∷ codes "1" ∷ []
-words_of (on.Files first end) = codes "files" ∷ decimal first ∷ decimal end ∷ []
-words_of (on.Entries n) = codes "entries" ∷ decimal n ∷ []
-words_of (on.Script w) = codes "script" ∷ w ∷ []
-words_of (on.Column c) = codes "column" ∷ c.name ∷ kind_word c.kind ∷ []
-words_of on.Loop = codes "loop" ∷ []
-words_of (on.Pass l) = line_words l
-words_of (on.Fault f) = codes "fault" ∷ decimal f.file ∷ decimal f.entry ∷ decimal f.pass ∷ decimal (fault_number f.kind) ∷ []
-words_of on.End = codes "end" ∷ []
+words_of PartLine.Version = codes "rdfpart" ∷ codes "1" ∷ []
+words_of (PartLine.Files first end) = codes "files" ∷ decimal first ∷ decimal end ∷ []
+words_of (PartLine.Entries n) = codes "entries" ∷ decimal n ∷ []
+words_of (PartLine.Script w) = codes "script" ∷ w ∷ []
+words_of (PartLine.Column c) = codes "column" ∷ c.name ∷ kind_word c.kind ∷ []
+words_of PartLine.Loop = codes "loop" ∷ []
+words_of (PartLine.Pass l) = line_words l
+words_of (PartLine.Fault f) = codes "fault" ∷ decimal f.file ∷ decimal f.entry ∷ decimal f.pass ∷ decimal (fault_number f.kind) ∷ []
+words_of PartLine.End = codes "end" ∷ []
 
 -- the words with one space between, and LF
 unfoldable pub line_text : PartLine → List ℕ
@@ -91,15 +86,15 @@ line_text l = line (joined_words (words_of l))
 -- ---- the text of a part
 
 abbrev pub loop_lines : PartLoop → List PartLine
-loop_lines (Whole ls) = on.Loop ∷ map on.Pass ls
-loop_lines (Faulted f) = on.Loop ∷ on.Fault f ∷ []
+loop_lines (Whole ls) = PartLine.Loop ∷ map PartLine.Pass ls
+loop_lines (Faulted f) = PartLine.Loop ∷ PartLine.Fault f ∷ []
 
 -- up to the columns
 abbrev pub head_lines : PartView → List PartLine
-head_lines s = on.Version ∷ on.Files s.first_file s.end_file ∷ on.Entries s.entries ∷ on.Script s.script ∷ map on.Column s.columns
+head_lines s = PartLine.Version ∷ PartLine.Files s.first_file s.end_file ∷ PartLine.Entries s.entries ∷ PartLine.Script s.script ∷ map PartLine.Column s.columns
 
 abbrev pub part_lines : PartView → List PartLine
-part_lines s = head_lines s ++ (flat_map loop_lines s.loops ++ on.End ∷ [])
+part_lines s = head_lines s ++ (flat_map loop_lines s.loops ++ PartLine.End ∷ [])
 
 abbrev pub lines_text : List PartLine → List ℕ
 lines_text ls = flat_map line_text ls

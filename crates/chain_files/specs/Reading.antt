@@ -1,39 +1,31 @@
 -- Reading a part: the line that words are, and what was read so far, line after line.
 use Rattle.std.specs.Prelude.{ℕ, ℤ, nat_abs, Bool, true, ◌&&◌, ◌||◌, ◌*◌, ◌-◌, ◌^◌, List, [], ◌∷◌, ◌++◌, length, Option, Some, None, option_map, if◌then◌else◌, nat_eq, nat_le, nat_lt, codes}
 use Rattle.std.specs.List.{list_all}
-use Rattle.rdf_values.specs.Integers.{magnitude_of}
-use Rattle.rdf_values.specs.Names.{same}
-use Rattle.rdf_values.specs.Tables.{has_name}
-use Rattle.rdf_values.specs.declared.fault.EntryFault.{EntryFault}
-use Rattle.loop_pieces.specs.declared.flow.Counts.{Counts}
-use Rattle.histograms.specs.declared.cell_sum.CellSum.{CellSum}
-use Rattle.shard_lines.specs.Reading.{both_of, line_of_words, lone}
-use Rattle.shard_lines.specs.declared.shard_line.ShardLine.{ShardLine}
-use Rattle.shard_lines.specs.declared.shard_line.ShardLine.TheVariants as pass
-use Rattle.shard_files.specs.Reading.{fault_kind_of, name_of, stored_kind_of}
+use Rattle.rdf_values.specs.{EntryFault, has_name, magnitude_of, same}
+use Rattle.loop_pieces.specs.{Counts}
+use Rattle.histograms.specs.{CellSum}
+use Rattle.shard_lines.specs.{both_of, line_of_words, lone, ShardLine}
+use Rattle.shard_files.specs.{fault_kind_of, name_of, stored_kind_of}
 use Rattle.chain_files.specs.Parts.{PartView, is_digest, widest}
 use Rattle.chain_files.specs.declared.part_line.PartLine.{PartLine}
-use Rattle.chain_files.specs.declared.part_line.PartLine.TheVariants as on
 use Rattle.chain_files.specs.declared.part_word.PartWord.{PartWord}
-use Rattle.chain_files.specs.declared.part_word.PartWord.TheVariants as is
 use Rattle.chain_files.specs.declared.progress.Progress.{Progress}
 use Rattle.chain_files.specs.declared.progress.Stage.{Stage}
-use Rattle.chain_files.specs.declared.progress.Stage.TheVariants as at
 use Rattle.chain_files.specs.declared.part_loop.PartLoop.TheVariants.{Whole, Faulted}
 
 -- ---- lines
 
 abbrev pub files_of_words : List ℕ → List ℕ → Option PartLine
-files_of_words w v = both_of on.Files (magnitude_of 16777216 w) (magnitude_of 16777216 v)
+files_of_words w v = both_of PartLine.Files (magnitude_of 16777216 w) (magnitude_of 16777216 v)
 
 abbrev pub entries_of_word : List ℕ → Option PartLine
-entries_of_word w = option_map on.Entries (magnitude_of 16777216000000 w)
+entries_of_word w = option_map PartLine.Entries (magnitude_of 16777216000000 w)
 
 abbrev pub script_of_word : List ℕ → Option PartLine
-script_of_word w = if is_digest w then Some (on.Script w) else None
+script_of_word w = if is_digest w then Some (PartLine.Script w) else None
 
 abbrev pub column_of_words : List ℕ → List ℕ → Option PartLine
-column_of_words w v = both_of (λ name kind. on.Column (record { name = name; kind = kind })) (name_of w) (stored_kind_of v)
+column_of_words w v = both_of (λ name kind. PartLine.Column (record { name = name; kind = kind })) (name_of w) (stored_kind_of v)
 
 -- a fault, where its parts are there
 abbrev pub fault_from : Option ℕ → Option ℕ → Option ℕ → Option EntryFault → Option PartLine
@@ -41,13 +33,13 @@ fault_from None entry number kind = None
 fault_from (Some f) None number kind = None
 fault_from (Some f) (Some entry) None kind = None
 fault_from (Some f) (Some entry) (Some number) None = None
-fault_from (Some f) (Some entry) (Some number) (Some kind) = Some (on.Fault (record { file = f; entry = entry; pass = number; kind = kind }))
+fault_from (Some f) (Some entry) (Some number) (Some kind) = Some (PartLine.Fault (record { file = f; entry = entry; pass = number; kind = kind }))
 
 abbrev pub fault_of_words : List ℕ → List ℕ → List ℕ → List ℕ → Option PartLine
 fault_of_words w v u t = fault_from (magnitude_of 16777215 w) (magnitude_of 999999 v) (magnitude_of 8255 u) (fault_kind_of t)
 
 abbrev pub version_of_word : List ℕ → Option PartLine
-version_of_word w = if same w (codes "1") then Some on.Version else None
+version_of_word w = if same w (codes "1") then Some PartLine.Version else None
 
 -- a line without further words
 abbrev pub bare : PartLine → List (List ℕ) → Option PartLine
@@ -72,28 +64,28 @@ four_of read (w ∷ v ∷ u ∷ t ∷ s ∷ ws) = None
 
 abbrev pub part_word_of : List ℕ → Option PartWord
 part_word_of w =
-    if same w (codes "rdfpart") then Some is.Version
-    else (if same w (codes "files") then Some is.Files
-    else (if same w (codes "entries") then Some is.Entries
-    else (if same w (codes "script") then Some is.Script
-    else (if same w (codes "column") then Some is.Column
-    else (if same w (codes "loop") then Some is.Loop
-    else (if same w (codes "fault") then Some is.Fault
-    else (if same w (codes "end") then Some is.End else None)))))))
+    if same w (codes "rdfpart") then Some PartWord.Version
+    else (if same w (codes "files") then Some PartWord.Files
+    else (if same w (codes "entries") then Some PartWord.Entries
+    else (if same w (codes "script") then Some PartWord.Script
+    else (if same w (codes "column") then Some PartWord.Column
+    else (if same w (codes "loop") then Some PartWord.Loop
+    else (if same w (codes "fault") then Some PartWord.Fault
+    else (if same w (codes "end") then Some PartWord.End else None)))))))
 
 -- the line with that first word, by its other words
 abbrev pub part_line_behind : PartWord → List (List ℕ) → Option PartLine
-part_line_behind is.Version ws = lone version_of_word ws
-part_line_behind is.Files ws = two_of files_of_words ws
-part_line_behind is.Entries ws = lone entries_of_word ws
-part_line_behind is.Script ws = lone script_of_word ws
-part_line_behind is.Column ws = two_of column_of_words ws
-part_line_behind is.Loop ws = bare on.Loop ws
-part_line_behind is.Fault ws = four_of fault_of_words ws
-part_line_behind is.End ws = bare on.End ws
+part_line_behind PartWord.Version ws = lone version_of_word ws
+part_line_behind PartWord.Files ws = two_of files_of_words ws
+part_line_behind PartWord.Entries ws = lone entries_of_word ws
+part_line_behind PartWord.Script ws = lone script_of_word ws
+part_line_behind PartWord.Column ws = two_of column_of_words ws
+part_line_behind PartWord.Loop ws = bare PartLine.Loop ws
+part_line_behind PartWord.Fault ws = four_of fault_of_words ws
+part_line_behind PartWord.End ws = bare PartLine.End ws
 
 abbrev pub part_line_by : Option PartWord → List ℕ → List (List ℕ) → Option PartLine
-part_line_by None w ws = option_map on.Pass (line_of_words widest (w ∷ ws))
+part_line_by None w ws = option_map PartLine.Pass (line_of_words widest (w ∷ ws))
 part_line_by (Some word) w ws = part_line_behind word ws
 
 -- the line that the words are
@@ -114,30 +106,30 @@ is_count_within n c = nat_le c.all n && nat_le c.pass n
 
 -- so many entries can come to the line
 abbrev pub is_within : ℕ → ShardLine → Bool
-is_within n (pass.Count k) = nat_le k n
-is_within n (pass.Sum z) = is_small (n * 2 ^ 75) z
-is_within n (pass.Number z) = true
-is_within n (pass.Extreme z) = true
-is_within n (pass.Take xs) = nat_le (length xs) n
-is_within n (pass.Cells cs) = list_all (is_cell_within n) cs
-is_within n (pass.Report cs) = list_all (is_count_within n) cs
+is_within n (ShardLine.Count k) = nat_le k n
+is_within n (ShardLine.Sum z) = is_small (n * 2 ^ 75) z
+is_within n (ShardLine.Number z) = true
+is_within n (ShardLine.Extreme z) = true
+is_within n (ShardLine.Take xs) = nat_le (length xs) n
+is_within n (ShardLine.Cells cs) = list_all (is_cell_within n) cs
+is_within n (ShardLine.Report cs) = list_all (is_count_within n) cs
 
 -- ---- what was read so far
 
 abbrev pub on_first : Progress → PartLine → Option Progress
-on_first p on.Version = Some (record p { stage = at.Files })
+on_first p PartLine.Version = Some (record p { stage = Stage.Files })
 on_first p l = None
 
 abbrev pub on_files : Progress → PartLine → Option Progress
-on_files p (on.Files first end) = if nat_lt first end then Some (record p { stage = at.Entries; first_file = first; end_file = end }) else None
+on_files p (PartLine.Files first end) = if nat_lt first end then Some (record p { stage = Stage.Entries; first_file = first; end_file = end }) else None
 on_files p l = None
 
 abbrev pub on_entries : Progress → PartLine → Option Progress
-on_entries p (on.Entries n) = if nat_le n (1000000 * (p.end_file - p.first_file)) then Some (record p { stage = at.Script; entries = n }) else None
+on_entries p (PartLine.Entries n) = if nat_le n (1000000 * (p.end_file - p.first_file)) then Some (record p { stage = Stage.Script; entries = n }) else None
 on_entries p l = None
 
 abbrev pub on_script : Progress → PartLine → Option Progress
-on_script p (on.Script w) = Some (record p { stage = at.Columns; script = w })
+on_script p (PartLine.Script w) = Some (record p { stage = Stage.Columns; script = w })
 on_script p l = None
 
 -- the columns are read, and there is one
@@ -145,9 +137,9 @@ abbrev pub behind_columns : Stage → Progress → Option Progress
 behind_columns next p = if nat_lt 0 (length p.columns) then Some (record p { stage = next }) else None
 
 abbrev pub on_columns : Progress → PartLine → Option Progress
-on_columns p (on.Column c) = if has_name p.columns c.name || nat_le 64 (length p.columns) then None else Some (record p { columns = p.columns ++ c ∷ [] })
-on_columns p on.Loop = behind_columns at.Within p
-on_columns p on.End = behind_columns at.Ended p
+on_columns p (PartLine.Column c) = if has_name p.columns c.name || nat_le 64 (length p.columns) then None else Some (record p { columns = p.columns ++ c ∷ [] })
+on_columns p PartLine.Loop = behind_columns Stage.Within p
+on_columns p PartLine.End = behind_columns Stage.Ended p
 on_columns p l = None
 
 -- the loop is whole
@@ -155,26 +147,26 @@ abbrev pub closed : Stage → Progress → Option Progress
 closed next p = if nat_lt 0 (length p.lines) then Some (record p { stage = next; loops = p.loops ++ Whole p.lines ∷ []; lines = [] }) else None
 
 abbrev pub on_within : Progress → PartLine → Option Progress
-on_within p (on.Pass l) = if is_within p.entries l then Some (record p { lines = p.lines ++ l ∷ [] }) else None
-on_within p (on.Fault f) =
-    if nat_eq (length p.lines) 0 && (nat_le p.first_file f.file && nat_lt f.file p.end_file) then Some (record p { stage = at.Faulted; loops = p.loops ++ Faulted f ∷ [] }) else None
-on_within p on.Loop = closed at.Within p
-on_within p on.End = closed at.Ended p
+on_within p (PartLine.Pass l) = if is_within p.entries l then Some (record p { lines = p.lines ++ l ∷ [] }) else None
+on_within p (PartLine.Fault f) =
+    if nat_eq (length p.lines) 0 && (nat_le p.first_file f.file && nat_lt f.file p.end_file) then Some (record p { stage = Stage.Faulted; loops = p.loops ++ Faulted f ∷ [] }) else None
+on_within p PartLine.Loop = closed Stage.Within p
+on_within p PartLine.End = closed Stage.Ended p
 on_within p l = None
 
 abbrev pub on_faulted : Progress → PartLine → Option Progress
-on_faulted p on.End = Some (record p { stage = at.Ended })
+on_faulted p PartLine.End = Some (record p { stage = Stage.Ended })
 on_faulted p l = None
 
 abbrev pub step_at : Stage → Progress → PartLine → Option Progress
-step_at at.First p l = on_first p l
-step_at at.Files p l = on_files p l
-step_at at.Entries p l = on_entries p l
-step_at at.Script p l = on_script p l
-step_at at.Columns p l = on_columns p l
-step_at at.Within p l = on_within p l
-step_at at.Faulted p l = on_faulted p l
-step_at at.Ended p l = None
+step_at Stage.First p l = on_first p l
+step_at Stage.Files p l = on_files p l
+step_at Stage.Entries p l = on_entries p l
+step_at Stage.Script p l = on_script p l
+step_at Stage.Columns p l = on_columns p l
+step_at Stage.Within p l = on_within p l
+step_at Stage.Faulted p l = on_faulted p l
+step_at Stage.Ended p l = None
 
 -- what was read with one more line, where it may follow
 abbrev pub step : Progress → PartLine → Option Progress

@@ -1,9 +1,8 @@
 -- Which parts can't be joined.
 use Rattle.std.specs.Prelude.{ℕ, Bool, not, ◌&&◌, List, [], ◌∷◌, position, Option, None}
-use Rattle.rdf_values.specs.Names.{same}
-use Rattle.rdf_values.specs.declared.column.Column.{Column}
-use Rattle.shard_lines.specs.declared.pass_shape.PassShape.{PassShape}
-use Rattle.shard_files.specs.Merging.{same_columns}
+use Rattle.rdf_values.specs.{Column, same}
+use Rattle.shard_lines.specs.{PassShape}
+use Rattle.shard_files.specs.{same_columns}
 use Rattle.chain_files.specs.Joining.{are_loops}
 use Rattle.chain_files.specs.Parts.{PartView}
 

@@ -1,7 +1,6 @@
 // The digest of a script.
 ghost use Rattle.std.specs.Prelude.{◌≡◌, ◌<◌, ◌++◌, true, IfOk, OnOk};
-ghost use Rattle.chain_files.specs.Digests.{digest_of, hash_of, hex_digit, hex_digits};
-ghost use Rattle.chain_files.specs.Parts.{is_digest};
+ghost use Rattle.chain_files.specs.{digest_of, hash_of, hex_digit, hex_digits, is_digest};
 
 use rdf_values::{Memory, Text};
 use std::alloc::Global;

@@ -1,6 +1,6 @@
 // The text of a part.
 ghost use Rattle.std.specs.Prelude.{◌≡◌, ◌++◌, IfOk, OnOk, flat_map, map};
-ghost use Rattle.chain_files.specs.Parts.{line_text, lines_text, loop_lines, part_text};
+ghost use Rattle.chain_files.specs.{line_text, lines_text, loop_lines, part_text};
 
 use crate::chain_fault::ChainFault;
 use crate::part::Part;

@@ -13,7 +13,7 @@ ghost use Rattle.chain_files.specs.Reading.{
   part_of,
   step,
 };
-ghost use Rattle.chain_files.specs.Parts.{IsPart};
+ghost use Rattle.chain_files.specs.{IsPart};
 
 use crate::chain_fault::ChainFault;
 use crate::limits::is_within;

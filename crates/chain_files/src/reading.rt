@@ -1,8 +1,7 @@
 // Reading a part.
 ghost use Rattle.std.specs.Prelude.{◌≡◌, ◌≤◌, IfOk, MatchResult, length};
-ghost use Rattle.shard_lines.specs.Reading.{words_in};
-ghost use Rattle.chain_files.specs.Reading.{part_line_of, step_on};
-ghost use Rattle.chain_files.specs.Parts.{IsPartText, IsRefusal};
+ghost use Rattle.shard_lines.specs.{words_in};
+ghost use Rattle.chain_files.specs.{IsPartText, IsRefusal, part_line_of, step_on};
 
 use crate::part::Part;
 use crate::part_words::read_part_line;

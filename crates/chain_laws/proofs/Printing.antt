@@ -1,47 +1,27 @@
 -- Parts of a run, joined in whatever groups, and what is printed of them.
-use Rattle.std.proofs.Common.{Result, Ok, Err, ◌≡◌, ◌≤◌, ◌<◌, ◌+◌, ◌-◌, inl, inr, ℕ, zero, suc, Bool, true, false, ◌&&◌, cond, List, [], ◌∷◌, ◌++◌, length, map, take, drop, nat_lt, Option, None, Some, refl, sym, ap, ap₂, ◌∙◌, subst, arith, append_assoc, append-nil}
-use Rattle.std.specs.Prelude.{MatchOption, MatchResult, slice_get, slice_range}
+use Rattle.std.proofs.Common.{Result, Ok, Err, ◌≡◌, ◌≤◌, ◌<◌, ◌+◌, ◌-◌, inl, inr, ℕ, zero, suc, Bool, true, false, ◌&&◌, cond, List, [], ◌∷◌, ◌++◌, length, map, take, drop, nat_lt, Option, None, Some, refl, sym, ap, ap₂, ◌∙◌, subst, arith, append_assoc, append-nil, MatchOption, MatchResult, slice_get, slice_range}
 use Rattle.std.specs.Bool.{MatchBool}
 use Rattle.std.specs.List.{AllByRecursion}
 use Rattle.std.proofs.lemmas.Bool.{le-ltb}
 use Rattle.std.proofs.lemmas.List.{length-map}
 use Rattle.std.proofs.lemmas.List.Elements.{All-from_recursion, recursion_from_All}
-use Rattle.lemmas.proofs.Orders.{le_true, lt_not}
-use Rattle.lemmas.proofs.Parts.{range_length}
-use Rattle.rdf_values.specs.Functions.{Function, fn_names}
-use Rattle.rdf_values.specs.RefusalLines.{graph_cause_line, long_table_line, table_cause_line}
-use Rattle.rdf_values.specs.TableText.{MarkedTable, table_of}
-use Rattle.rdf_values.specs.Verdict.{verdict}
-use Rattle.rdf_values.specs.declared.column.Column.{Column}
-use Rattle.rdf_values.specs.declared.graph_cause.GraphCause.{GraphCause}
-use Rattle.rdf_values.specs.declared.script.Script.{Script}
-use Rattle.rdf_values.specs.declared.span.Span.{Span}
-use Rattle.rdf_values.specs.declared.table_cause.TableCause.{TableCause}
-use Rattle.rdf_values.specs.declared.value.Value.{Value}
-use Rattle.table_csv.specs.Csv.{csv_records}
-use Rattle.shard_runs.specs.Laws.{IsChecked}
-use Rattle.graph_shapes.specs.GraphShapes.{graph_shapes, pass_kind}
-use Rattle.input_files.specs.Due.{WithFile, due_of, max_table}
-use Rattle.input_files.specs.Reading.{HoldsTheTable}
-use Rattle.chain_files.specs.Covering.{AreNext, end_file_of, first_file_of, first_uncovered, holds, in_order, not_behind, placed}
-use Rattle.chain_files.specs.Digests.{digest_of}
-use Rattle.chain_files.specs.Joining.{joined_parts}
-use Rattle.chain_files.specs.Parts.{IsPart, IsPartText, PartView, part_text}
-use Rattle.chain_files.specs.Refusing.{first_differing, first_misshapen}
+use Rattle.lemmas.proofs.{le_true, lt_not, range_length}
+use Rattle.rdf_values.specs.{Column, fn_names, Function, graph_cause_line, GraphCause, long_table_line, MarkedTable, Script, Span, table_cause_line, table_of, TableCause, Value, verdict}
+use Rattle.table_csv.specs.{csv_records}
+use Rattle.shard_runs.specs.{IsChecked}
+use Rattle.graph_shapes.specs.{graph_shapes, pass_kind}
+use Rattle.input_files.specs.{due_of, HoldsTheTable, max_table, WithFile}
+use Rattle.chain_files.specs.{AreNext, digest_of, end_file_of, first_differing, first_file_of, first_misshapen, first_uncovered, holds, in_order, IsPart, IsPartText, joined_parts, not_behind, part_text, PartView, placed}
 use Rattle.chain_files.proofs.Covered.{covered_are_next}
 use Rattle.chain_files.proofs.OnePart.{a_text_is_of_one_part}
-use Rattle.chain_runs.specs.Chains.{Chain, chain_part, part_over, tables_in, with_rows}
-use Rattle.chain_runs.specs.Laws.{AreChecked, AreFiles}
+use Rattle.chain_runs.specs.{AreChecked, AreFiles, Chain, chain_part, part_over, tables_in, with_rows}
 use Rattle.chain_runs.proofs.Groups.{only_files_are_refused, parts_join_to_one_run}
 use Rattle.chain_runs.proofs.Joining.{all_files_are_the_chain}
 use Rattle.chain_runs.proofs.Parts.{chains_are_part}
 use Rattle.chain_transcripts.proofs.WholeText.{chain_prints_the_transcript}
-use Rattle.chain_due.specs.Due.{ChainDue, Files, IsEachPrinted, IsJoined, IsPrintDue, IsText, ReadsPart, WithAccepted, WithFitting, WithParts, WithTable, WithTableFile, chain_of, graph_over, max_part, max_parts, name_at, printed_over}
-use Rattle.chain_due.specs.Lines.{differs_line, file_refused_line, long_files_line, long_part_line, table_line, uncovered_line}
-use Rattle.chain_due.specs.Statuses.{printed_status, statuses}
-use Rattle.chain_due.specs.declared.status.ChainStatus.{ChainStatus}
+use Rattle.chain_due.specs.{chain_of, ChainDue, ChainStatus, differs_line, file_refused_line, Files, graph_over, IsEachPrinted, IsJoined, IsPrintDue, IsText, long_files_line, long_part_line, max_part, max_parts, name_at, printed_over, printed_status, ReadsPart, statuses, table_line, uncovered_line, WithAccepted, WithFitting, WithParts, WithTable, WithTableFile}
 use Rattle.chain_due.specs.declared.status.ChainStatus.TheVariants.{Done, FileRefused, FilesDiffer, NotCovered, ScriptRefused, TableRefused, TooLong}
-use Rattle.chain_laws.specs.Laws.{HoldTexts, IsJoinOf, IsMapped, IsPartOf, PrintIsDueTheTranscript, tables_of}
+use Rattle.chain_laws.specs.{HoldTexts, IsJoinOf, IsMapped, IsPartOf, PrintIsDueTheTranscript, tables_of}
 
 -- ---- stages that go on
 

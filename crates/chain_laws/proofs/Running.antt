@@ -1,26 +1,15 @@
 -- A run over a chain, stage by stage.
-use Rattle.std.proofs.Common.{Result, Ok, Err, ◌≡◌, ℕ, Bool, true, false, List, [], ◌∷◌, ◌++◌, length, nat_lt, Option, None, Some, refl, sym, subst, append_assoc, append-nil}
-use Rattle.std.specs.Prelude.{MatchOption, MatchResult}
+use Rattle.std.proofs.Common.{Result, Ok, Err, ◌≡◌, ℕ, Bool, true, false, List, [], ◌∷◌, ◌++◌, length, nat_lt, Option, None, Some, refl, sym, subst, append_assoc, append-nil, MatchOption, MatchResult}
 use Rattle.std.specs.Bool.{MatchBool}
 use Rattle.std.proofs.lemmas.Bool.{le-ltb}
-use Rattle.rdf_values.specs.Functions.{Function, fn_names}
-use Rattle.rdf_values.specs.RefusalLines.{graph_cause_line, long_table_line, table_cause_line}
-use Rattle.rdf_values.specs.TableText.{MarkedTable, table_of}
-use Rattle.rdf_values.specs.Verdict.{verdict}
-use Rattle.rdf_values.specs.declared.column.Column.{Column}
-use Rattle.rdf_values.specs.declared.graph_cause.GraphCause.{GraphCause}
-use Rattle.rdf_values.specs.declared.script.Script.{Script}
-use Rattle.rdf_values.specs.declared.table_cause.TableCause.{TableCause}
-use Rattle.table_csv.specs.Csv.{csv_records}
-use Rattle.shard_files.specs.Merging.{same_columns}
-use Rattle.input_files.specs.Due.{WithFile, due_of, max_table}
-use Rattle.input_files.specs.Reading.{HoldsTheTable}
+use Rattle.rdf_values.specs.{Column, fn_names, Function, graph_cause_line, GraphCause, long_table_line, MarkedTable, Script, table_cause_line, table_of, TableCause, verdict}
+use Rattle.table_csv.specs.{csv_records}
+use Rattle.shard_files.specs.{same_columns}
+use Rattle.input_files.specs.{due_of, HoldsTheTable, max_table, WithFile}
 use Rattle.chain_transcripts.proofs.WholeText.{chain_prints_the_transcript}
-use Rattle.chain_due.specs.Due.{ChainDue, Files, WithAccepted, WithTable, WithTableFile, WithTables, chain_of, printed_over}
-use Rattle.chain_due.specs.Lines.{differs_line, table_line}
-use Rattle.chain_due.specs.Statuses.{printed_status, statuses}
+use Rattle.chain_due.specs.{chain_of, ChainDue, differs_line, Files, printed_over, printed_status, statuses, table_line, WithAccepted, WithTable, WithTableFile, WithTables}
 use Rattle.chain_due.specs.declared.status.ChainStatus.TheVariants.{FilesDiffer, ScriptRefused, TableRefused}
-use Rattle.chain_laws.specs.Laws.{HoldTables, RunIsDueTheTranscript}
+use Rattle.chain_laws.specs.{HoldTables, RunIsDueTheTranscript}
 
 if_true : (b : Bool) (P Q : Type 0) → b ≡ true → P → MatchBool b P Q
 if_true true P Q e p = p

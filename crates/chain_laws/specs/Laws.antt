@@ -1,25 +1,16 @@
 -- Laws of what is due. Each is the contract of a function of this crate, and so proved.
 use Rattle.std.specs.Prelude.{◌≡◌, ◌≤◌, ◌+◌, ◌⊎◌, ⊤, ℕ, zero, suc, true, List, [], ◌∷◌, Some, MatchOption, length, map, slice_get}
-use Rattle.rdf_values.specs.Functions.{Function}
-use Rattle.rdf_values.specs.TableText.{MarkedTable}
-use Rattle.rdf_values.specs.declared.column.Column.{Column}
-use Rattle.rdf_values.specs.declared.script.Script.{Script}
-use Rattle.rdf_values.specs.declared.span.Span.{Span}
-use Rattle.rdf_model.specs.PartialResults.{Course}
-use Rattle.rdf_model.specs.Transcript.{transcript}
-use Rattle.graph_numbers.specs.Graphs.{IsGraph}
-use Rattle.shard_files.specs.Merging.{same_columns}
-use Rattle.shard_spans.specs.Spans.{loops_of}
-use Rattle.shard_transcripts.specs.Laws.{IsUnwatched}
-use Rattle.input_files.specs.Due.{due_of}
-use Rattle.input_files.specs.Reading.{HoldsTheTable}
-use Rattle.chain_files.specs.Covering.{end_file_of, first_file_of, in_order}
-use Rattle.chain_files.specs.Parts.{PartView}
-use Rattle.chain_runs.specs.Chains.{chain_loops, one_table, part_over}
-use Rattle.chain_runs.specs.Laws.{AreChecked}
-use Rattle.chain_transcripts.specs.Laws.{PrintAs}
-use Rattle.chain_due.specs.Due.{ChainDue, Files, IsJoinDue, IsMapDue, IsPrintDue, IsRunDue, IsText, chain_of, graph_over, printed_over}
-use Rattle.chain_due.specs.Statuses.{printed_status}
+use Rattle.rdf_values.specs.{Column, Function, MarkedTable, Script, Span}
+use Rattle.rdf_model.specs.{Course, transcript}
+use Rattle.graph_numbers.specs.{IsGraph}
+use Rattle.shard_files.specs.{same_columns}
+use Rattle.shard_spans.specs.{loops_of}
+use Rattle.shard_transcripts.specs.{IsUnwatched}
+use Rattle.input_files.specs.{due_of, HoldsTheTable}
+use Rattle.chain_files.specs.{end_file_of, first_file_of, in_order, PartView}
+use Rattle.chain_runs.specs.{AreChecked, chain_loops, one_table, part_over}
+use Rattle.chain_transcripts.specs.{PrintAs}
+use Rattle.chain_due.specs.{chain_of, ChainDue, Files, graph_over, IsJoinDue, IsMapDue, IsPrintDue, IsRunDue, IsText, printed_over, printed_status}
 use Rattle.chain_due.specs.declared.status.ChainStatus.TheVariants.{Done}
 
 -- the files of these names hold these tables, in order, with the same columns

@@ -1,14 +1,13 @@
 -- The loops of a graph over a table, one after another.
 use Rattle.std.proofs.Common.{◌≡◌, ℕ, ◌+◌, ◌<◌, ◌≤◌, true, false, List, [], ◌∷◌, ◌++◌, length, drop, refl, sym, ap, ◌∙◌, append-nil, append_assoc}
-use Rattle.lemmas.proofs.Parts.{none_left}
-use Rattle.rdf_values.specs.declared.script.Script.{Script}
-use Rattle.shard_spans.specs.Spans.{loops_of}
-use Rattle.shard_loop.specs.LoopSpans.{loop_in}
+use Rattle.lemmas.proofs.{none_left}
+use Rattle.rdf_values.specs.{Script}
+use Rattle.shard_spans.specs.{loops_of}
+use Rattle.shard_loop.specs.{loop_in}
 use Rattle.shard_loop.proofs.Looping.{loop_there, one_left}
-use Rattle.chain_files.specs.Joining.{is_faulty, up_to_fault}
-use Rattle.chain_files.specs.declared.part_loop.PartLoop.{PartLoop}
+use Rattle.chain_files.specs.{is_faulty, PartLoop, up_to_fault}
 use Rattle.chain_files.specs.declared.part_loop.PartLoop.TheVariants.{Whole, Faulted}
-use Rattle.chain_runs.specs.Chains.{Chain, chain_loop, chain_loops}
+use Rattle.chain_runs.specs.{Chain, chain_loop, chain_loops}
 
 module _ (c : Chain) (file : ℕ) (script : Script) where
   -- what is there, and what follows

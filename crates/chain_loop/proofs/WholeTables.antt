@@ -1,35 +1,22 @@
 -- A loop over all clusters of a table.
-use Rattle.std.proofs.Common.{◌≡◌, ℕ, ◌+◌, ◌-◌, List, [], ◌∷◌, length, map, Option, None, Some, refl, sym, ap, ap₂, ◌∙◌, subst, arith, append-nil}
-use Rattle.std.specs.Prelude.{option_map}
+use Rattle.std.proofs.Common.{◌≡◌, ℕ, ◌+◌, ◌-◌, List, [], ◌∷◌, length, map, Option, None, Some, refl, sym, ap, ap₂, ◌∙◌, subst, arith, append-nil, option_map}
 use Rattle.std.proofs.lemmas.List.{length-map}
-use Rattle.rdf_values.specs.Bookings.{Pass}
-use Rattle.rdf_values.specs.Cuts.{Lead, below}
-use Rattle.rdf_values.specs.Machine.{first_in}
-use Rattle.rdf_values.specs.declared.fault.Fault.{Fault}
+use Rattle.rdf_values.specs.{below, Fault, first_in, Lead, Pass}
 use Rattle.rdf_values.proofs.Below.{length-below}
 use Rattle.rdf_values.proofs.Leading.{cuts_lead}
-use Rattle.rdf_model.specs.PartialResults.{over_clusters}
-use Rattle.rdf_model.specs.Results.{Dataset, first_fault}
-use Rattle.loop_keys.specs.Jobs.{IsJob, JobView, passes_in}
-use Rattle.loop_keys.specs.Entries.{facts_in, job_spans}
-use Rattle.loop_pieces.specs.LoopPieces.{StandsFor}
-use Rattle.loop_pieces.specs.Whole.{cluster_fault}
-use Rattle.loop_pieces.specs.declared.loop_piece.LoopPiece.{LoopPiece}
+use Rattle.rdf_model.specs.{Dataset, first_fault, over_clusters}
+use Rattle.loop_keys.specs.{facts_in, IsJob, job_spans, JobView, passes_in}
+use Rattle.loop_pieces.specs.{cluster_fault, LoopPiece, StandsFor}
 use Rattle.loop_pieces.proofs.ClusterFaults.{first_cluster_has_first_fault}
 use Rattle.loop_pieces.proofs.WholeLoops.{all_clusters_are_the_table}
-use Rattle.event_loop.specs.Jobs.{job_facts}
-use Rattle.event_loop.specs.Ends.{HasEnded, IsFilled}
-use Rattle.event_loop.specs.declared.end.FilledLoop.{FilledLoop}
-use Rattle.event_loop.specs.declared.end.LoopEnd.{LoopEnd}
-use Rattle.event_loop.specs.declared.end.LoopEnd.TheVariants as end
-use Rattle.shard_lines.specs.declared.shard_line.ShardLine.{ShardLine}
-use Rattle.shard_spans.specs.Spans.{clusters_from, clusters_in, pass_line, span_fault}
+use Rattle.event_loop.specs.{FilledLoop, HasEnded, IsFilled, job_facts, LoopEnd}
+use Rattle.shard_lines.specs.{ShardLine}
+use Rattle.shard_spans.specs.{clusters_from, clusters_in, pass_line, span_fault}
 use Rattle.shard_spans.proofs.SpanFaults.{first_faulty_cluster_has_the_fault}
-use Rattle.shard_loop.specs.LoopSpans.{IsSpanPiece, span_rows_of}
-use Rattle.chain_files.specs.declared.chain_fault.ChainFault.{ChainFault}
-use Rattle.chain_files.specs.declared.part_loop.PartLoop.{PartLoop}
+use Rattle.shard_loop.specs.{IsSpanPiece, span_rows_of}
+use Rattle.chain_files.specs.{ChainFault, PartLoop}
 use Rattle.chain_files.specs.declared.part_loop.PartLoop.TheVariants.{Whole, Faulted}
-use Rattle.chain_runs.specs.Chains.{alone, chain_loop, fault_or_lines, first_of, in_file, with_rows}
+use Rattle.chain_runs.specs.{alone, chain_loop, fault_or_lines, first_of, in_file, with_rows}
 
 from_zero : (cs : List ℕ) → map (λ c. 0 + c) cs ≡ cs
 from_zero [] = refl
@@ -68,11 +55,11 @@ module _ (j : JobView) (job : IsJob j) where
       sym (first_faulty_cluster_has_the_fault j.dataset (job_spans j) (passes_in j) 0 (length (job_spans j)) leads (omega arith) (omega arith))
       ∙ ap (λ l. first_in (map (cluster_fault j.dataset (job_spans j) (passes_in j)) l)) (all_clusters (length (job_spans j)))
 
-  filled_at : (k : ℕ) (e : LoopEnd) (filled : FilledLoop) → e ≡ end.Filled filled → HasEnded (job_facts j) k e → IsFilled (job_facts j) k filled
+  filled_at : (k : ℕ) (e : LoopEnd) (filled : FilledLoop) → e ≡ LoopEnd.Filled filled → HasEnded (job_facts j) k e → IsFilled (job_facts j) k filled
   filled_at k e filled is h = subst (HasEnded (job_facts j) k) is h
 
   -- the piece of all clusters
-  pub is_piece : (k : ℕ) (e : LoopEnd) (filled : FilledLoop) (piece : LoopPiece) → e ≡ end.Filled filled → filled.piece ≡ piece → HasEnded (job_facts j) k e → IsSpanPiece j 0 (length (job_spans j)) piece
+  pub is_piece : (k : ℕ) (e : LoopEnd) (filled : FilledLoop) (piece : LoopPiece) → e ≡ LoopEnd.Filled filled → filled.piece ≡ piece → HasEnded (job_facts j) k e → IsSpanPiece j 0 (length (job_spans j)) piece
   is_piece k e filled piece is own h =
       let at = filled_at k e filled is h in
       subst (IsSpanPiece j 0 (length (job_spans j))) own
@@ -82,7 +69,7 @@ module _ (j : JobView) (job : IsJob j) where
       })
 
   -- a loop without a fault is its lines
-  pub whole_loop : (k file : ℕ) (e : LoopEnd) (filled : FilledLoop) (lines : List ShardLine) → e ≡ end.Filled filled → HasEnded (job_facts j) k e → lines ≡ map (pass_line (span_rows_of j 0 (length (job_spans j)))) (passes_in j)
+  pub whole_loop : (k file : ℕ) (e : LoopEnd) (filled : FilledLoop) (lines : List ShardLine) → e ≡ LoopEnd.Filled filled → HasEnded (job_facts j) k e → lines ≡ map (pass_line (span_rows_of j 0 (length (job_spans j)))) (passes_in j)
       → ◌≡◌ {A = PartLoop} (Whole lines) (chain_loop (alone j.dataset) file (passes_in j))
   whole_loop k file e filled lines is h own =
       let at = filled_at k e filled is h in
@@ -90,7 +77,7 @@ module _ (j : JobView) (job : IsJob j) where
       ∙ sym (loop_is j.dataset file (passes_in j) ∙ ap (λ o. fault_or_lines (option_map (in_file file) o) (map (pass_line j.dataset) (passes_in j))) (sym first_is ∙ at.sound))
 
   -- a loop with a fault is that
-  pub faulted_loop : (k file : ℕ) (e : LoopEnd) (fault : Fault) → e ≡ end.Faulted fault → HasEnded (job_facts j) k e → ◌≡◌ {A = PartLoop} (Faulted (in_file file fault)) (chain_loop (alone j.dataset) file (passes_in j))
+  pub faulted_loop : (k file : ℕ) (e : LoopEnd) (fault : Fault) → e ≡ LoopEnd.Faulted fault → HasEnded (job_facts j) k e → ◌≡◌ {A = PartLoop} (Faulted (in_file file fault)) (chain_loop (alone j.dataset) file (passes_in j))
   faulted_loop k file e fault is h =
       let first = subst (HasEnded (job_facts j) k) is h in
       sym (loop_is j.dataset file (passes_in j) ∙ ap (λ o. fault_or_lines (option_map (in_file file) o) (map (pass_line j.dataset) (passes_in j))) (sym first_is ∙ first))

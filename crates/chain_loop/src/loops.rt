@@ -1,14 +1,12 @@
 // The loops of a graph over one table of a chain, in order.
 ghost use Rattle.std.specs.Prelude.{◌≡◌, ◌<◌, ◌≤◌, IfOk, length};
-ghost use Rattle.entry_fns.specs.Lists.{functions_in};
-ghost use Rattle.rdf_values.specs.Functions.{fn_names};
-ghost use Rattle.rdf_values.specs.Path.{history};
-ghost use Rattle.rdf_values.specs.Words.{StatementsHaveWords};
-ghost use Rattle.graph_numbers.specs.Graphs.{graph_loops};
-ghost use Rattle.chain_files.specs.Joining.{is_faulty};
-ghost use Rattle.shard_spans.specs.Spans.{loops_of};
-ghost use Rattle.shard_loop.specs.LoopSpans.{loop_in, table_of};
-ghost use Rattle.chain_runs.specs.Chains.{alone, chain_loop, chain_loops};
+ghost use Rattle.entry_fns.specs.{functions_in};
+ghost use Rattle.rdf_values.specs.{fn_names, history, StatementsHaveWords};
+ghost use Rattle.graph_numbers.specs.{graph_loops};
+ghost use Rattle.chain_files.specs.{is_faulty};
+ghost use Rattle.shard_spans.specs.{loops_of};
+ghost use Rattle.shard_loop.specs.{loop_in, table_of};
+ghost use Rattle.chain_runs.specs.{alone, chain_loop, chain_loops};
 
 use crate::one_loop::run_table;
 use crate::table_run::TableRun;

@@ -1,9 +1,8 @@
 // One loop over a whole table.
 ghost use Rattle.std.specs.Prelude.{◌≡◌, ◌<◌, ◌≤◌, IfOk};
-ghost use Rattle.rdf_values.specs.Path.{history};
-ghost use Rattle.rdf_values.specs.Words.{StatementsHaveWords};
-ghost use Rattle.loop_keys.specs.Jobs.{Fits, job_of, passes_in};
-ghost use Rattle.chain_runs.specs.Chains.{alone, chain_loop, in_file};
+ghost use Rattle.rdf_values.specs.{history, StatementsHaveWords};
+ghost use Rattle.loop_keys.specs.{Fits, job_of, passes_in};
+ghost use Rattle.chain_runs.specs.{alone, chain_loop, in_file};
 
 use chain_files::{ChainFault, PartLoop};
 use event_loop::{LoopEnd, run_loop};

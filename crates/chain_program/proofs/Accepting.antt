@@ -1,23 +1,15 @@
 -- Scripts that are booked over columns, or refused.
 use Rattle.std.proofs.Common.{Result, Ok, Err, ◌≡◌, inl, inr, ℕ, List, Option, None, Some, ap₂, refl, sym, ◌∙◌}
-use Rattle.rdf_values.specs.Answers.{Refuses}
-use Rattle.rdf_values.specs.Functions.{Function, fn_names}
-use Rattle.rdf_values.specs.Kinds.{FunctionNames}
-use Rattle.rdf_values.specs.RefusalLines.{graph_cause_line}
-use Rattle.rdf_values.specs.Verdict.{verdict}
-use Rattle.rdf_values.specs.declared.column.Column.{Column}
-use Rattle.rdf_values.specs.declared.graph_cause.GraphCause.{GraphCause}
-use Rattle.rdf_values.specs.declared.script.Script.{Script}
-use Rattle.graph_numbers.specs.Graphs.{GraphView, booked, booked_unless}
-use Rattle.graph.specs.Refusals.{refused_at}
-use Rattle.graph.specs.declared.refusal.GraphRefusal.{GraphRefusal}
-use Rattle.graph.specs.declared.refusal.GraphRefusal.TheVariants as graph
-use Rattle.chain_due.specs.Due.{WithAccepted, graph_over}
+use Rattle.rdf_values.specs.Answered.{Refuses}
+use Rattle.rdf_values.specs.{Column, fn_names, Function, FunctionNames, graph_cause_line, GraphCause, Script, verdict}
+use Rattle.graph_numbers.specs.{booked, booked_unless, GraphView}
+use Rattle.graph.specs.{GraphRefusal, refused_at}
+use Rattle.chain_due.specs.{graph_over, WithAccepted}
 use Rattle.chain_due.specs.declared.status.ChainStatus.TheVariants.{ScriptRefused}
 use Rattle.chain_program.specs.Answers.{Answers}
 use Rattle.chain_program.specs.declared.answer.Answer.{Answer}
 
-refusal_of : (wanted : Result GraphView (ℕ × GraphCause)) (line : ℕ) (cause : GraphCause) → Refuses refused_at graph.Memory wanted (graph.At line cause) → wanted ≡ Err (line, cause)
+refusal_of : (wanted : Result GraphView (ℕ × GraphCause)) (line : ℕ) (cause : GraphCause) → Refuses refused_at GraphRefusal.Memory wanted (GraphRefusal.At line cause) → wanted ≡ Err (line, cause)
 refusal_of wanted line cause (inl e) = absurd (cc e)
 refusal_of wanted line cause (inr h) =
     let e = h.1 in
@@ -35,7 +27,7 @@ accepted_verdict g h (Some d) e = absurd (cc e)
 
 -- a script that can't be booked over the columns is refused
 pub not_booked : (fns : List Function) (script : Script) (header columns : List Column) (names : FunctionNames) (refusal : GraphRefusal) (line line' : ℕ) (cause cause' : GraphCause) (a : Answer) → header ≡ columns → names ≡ fn_names fns
-    → refusal ≡ graph.At line cause → Refuses refused_at graph.Memory (booked script header names) refusal → line' ≡ line → cause' ≡ cause → (a.status ≡ ScriptRefused) × (a.text ≡ graph_cause_line line' cause')
+    → refusal ≡ GraphRefusal.At line cause → Refuses refused_at GraphRefusal.Memory (booked script header names) refusal → line' ≡ line → cause' ≡ cause → (a.status ≡ ScriptRefused) × (a.text ≡ graph_cause_line line' cause')
     → Answers (λ d. WithAccepted fns script columns (λ e. ⊥) d) a
 not_booked fns script header columns names refusal line line' cause cause' a h n is refused l k e =
     let v = refused_verdict _ (verdict names header script) (line, cause) (refusal_of _ line cause (rw is at refused)) in

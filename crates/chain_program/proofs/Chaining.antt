@@ -1,53 +1,32 @@
 -- Tables of a chain, one after the other.
-use Rattle.std.proofs.Common.{◌≡◌, ◌≤◌, ◌<◌, ◌+◌, inl, ℕ, zero, suc, Bool, true, false, List, [], ◌∷◌, ◌++◌, length, drop, map, Option, None, Some, IfSome, arith, ap, ap₂, refl, sym, subst, ◌∙◌}
-use Rattle.std.specs.Prelude.{slice_get}
+use Rattle.std.proofs.Common.{◌≡◌, ◌≤◌, ◌<◌, ◌+◌, inl, ℕ, zero, suc, Bool, true, false, List, [], ◌∷◌, ◌++◌, length, drop, map, Option, None, Some, IfSome, arith, ap, ap₂, refl, sym, subst, ◌∙◌, slice_get}
 use Rattle.std.specs.Bool.{MatchBool}
 use Rattle.std.specs.List.{AllByRecursion, list_all}
 use Rattle.std.proofs.lemmas.List.{length-append, length-map, map-append}
 use Rattle.std.proofs.lemmas.List.Elements.{All-from_recursion}
 use Rattle.std.proofs.lemmas.Slice.Eq.{bytes_eq-Decides}
-use Rattle.lemmas.proofs.Booleans.{both_true}
-use Rattle.rdf_values.specs.Functions.{Function, fn_names}
-use Rattle.rdf_values.specs.Names.{is_name, same}
-use Rattle.rdf_values.specs.Path.{history}
-use Rattle.rdf_values.specs.TableText.{MarkedTable}
-use Rattle.rdf_values.specs.Tables.{FitRows, IsHeader, IsTable, TableView}
-use Rattle.rdf_values.specs.Verdict.{verdict}
-use Rattle.rdf_values.specs.Words.{AnswerIn64Bits, StatementsHaveWords}
-use Rattle.rdf_values.specs.declared.column.Column.{Column}
-use Rattle.rdf_values.specs.declared.script.Script.{Script}
-use Rattle.rdf_values.specs.declared.value.ColType.{ColType}
-use Rattle.rdf_values.specs.declared.value.ColType.TheVariants as k
-use Rattle.rdf_values.specs.declared.value.Value.{Value}
-use Rattle.rdf_model.specs.Transcript.{Printed}
-use Rattle.graph_numbers.specs.Graphs.{GraphView}
-use Rattle.shard_files.specs.Merging.{same_column, same_columns, same_kind}
+use Rattle.lemmas.proofs.{both_true}
+use Rattle.rdf_values.specs.{AnswerIn64Bits, ColType, Column, FitRows, fn_names, Function, history, is_name, IsHeader, IsTable, MarkedTable, same, Script, StatementsHaveWords, TableView, Value, verdict}
+use Rattle.rdf_model.specs.{Printed}
+use Rattle.graph_numbers.specs.{GraphView}
+use Rattle.shard_files.specs.{same_column, same_columns, same_kind}
 use Rattle.columns.specs.ColumnsView.{ColumnsView}
-use Rattle.shard_loop.specs.LoopSpans.{table_of}
-use Rattle.shard_spans.specs.Laws.{pass_shapes}
-use Rattle.shard_spans.specs.Spans.{loops_of}
+use Rattle.shard_loop.specs.{table_of}
+use Rattle.shard_spans.specs.{loops_of, pass_shapes}
 use Rattle.shard_runs.specs.Kinds as runs
-use Rattle.shard_runs.specs.Laws.{IsChecked}
-use Rattle.graph_shapes.specs.GraphShapes.{graph_shapes, pass_kind}
-use Rattle.input_files.specs.Due.{due_of}
-use Rattle.input_files.specs.Fetching.{Tells}
-use Rattle.input_files.specs.Reading.{HoldsTheTable}
-use Rattle.chain_files.specs.Joining.{are_loops, joined_loops}
-use Rattle.chain_files.specs.Parts.{IsPart, PartView}
-use Rattle.chain_files.specs.declared.part_loop.PartLoop.{PartLoop}
-use Rattle.chain_runs.specs.Chains.{Chain, alone, chain_loops, chain_part, one_table, with_rows}
-use Rattle.chain_runs.specs.Laws.{AreChecked}
+use Rattle.shard_runs.specs.{IsChecked}
+use Rattle.graph_shapes.specs.{graph_shapes, pass_kind}
+use Rattle.input_files.specs.{due_of, HoldsTheTable, Tells}
+use Rattle.chain_files.specs.{are_loops, IsPart, joined_loops, PartLoop, PartView}
+use Rattle.chain_runs.specs.{alone, AreChecked, Chain, chain_loops, chain_part, one_table, with_rows}
 use Rattle.chain_runs.proofs.Joining.{chains_join}
 use Rattle.chain_runs.proofs.Parts.{chains_are_part}
 use Rattle.chain_runs.proofs.Shapes.{chains_have_shapes}
-use Rattle.chain_text.specs.ChainPrints.{FitGraph, chain_text}
+use Rattle.chain_text.specs.{chain_text, FitGraph}
 use Rattle.chain_text.proofs.Fitting.{shaped_loops_fit}
-use Rattle.chain_due.specs.Due.{ChainDue, Files, IsRunOver, WithAccepted, WithTableFile, WithTables, chain_of, graph_over, printed_over}
-use Rattle.chain_due.specs.Lines.{differs_line}
-use Rattle.chain_due.specs.Statuses.{printed_status}
+use Rattle.chain_due.specs.{chain_of, ChainDue, differs_line, Files, graph_over, IsRunOver, printed_over, printed_status, WithAccepted, WithTableFile, WithTables}
 use Rattle.chain_due.specs.declared.status.ChainStatus.TheVariants.{FilesDiffer}
-use Rattle.chain_program.specs.Answers.{IsAnswer, IsOfFiles}
-use Rattle.chain_program.specs.TableFiles.{AreRun, IsBookedOver, IsFirstOf, IsNext, IsOver, IsRunEnd}
+use Rattle.chain_program.specs.{AreRun, IsAnswer, IsBookedOver, IsFirstOf, IsNext, IsOfFiles, IsOver, IsRunEnd}
 use Rattle.chain_program.specs.declared.answer.Answer.{Answer}
 use Rattle.chain_program.specs.declared.booking.Booked.{Booked}
 use Rattle.chain_program.specs.declared.first_table.FirstTable.{FirstTable}
@@ -57,15 +36,15 @@ use Rattle.chain_program.proofs.Turning.{left_from, none_from}
 -- ---- columns that are the same
 
 kinds_equal : (a b : ColType) → same_kind a b ≡ true → a ≡ b
-kinds_equal k.Int k.Int h = refl
-kinds_equal k.Int k.Bool h = cc h
-kinds_equal k.Int k.Vect h = cc h
-kinds_equal k.Bool k.Int h = cc h
-kinds_equal k.Bool k.Bool h = refl
-kinds_equal k.Bool k.Vect h = cc h
-kinds_equal k.Vect k.Int h = cc h
-kinds_equal k.Vect k.Bool h = cc h
-kinds_equal k.Vect k.Vect h = refl
+kinds_equal ColType.Int ColType.Int h = refl
+kinds_equal ColType.Int ColType.Bool h = cc h
+kinds_equal ColType.Int ColType.Vect h = cc h
+kinds_equal ColType.Bool ColType.Int h = cc h
+kinds_equal ColType.Bool ColType.Bool h = refl
+kinds_equal ColType.Bool ColType.Vect h = cc h
+kinds_equal ColType.Vect ColType.Int h = cc h
+kinds_equal ColType.Vect ColType.Bool h = cc h
+kinds_equal ColType.Vect ColType.Vect h = refl
 
 column_equal : (c d : Column) → same_column c d ≡ true → c ≡ d
 column_equal c d h =

@@ -1,12 +1,10 @@
 -- Commands by their scripts.
 use Rattle.std.proofs.Common.{◌≡◌, ◌≤◌, ℕ, List, [], ◌∷◌, ◌++◌, Option, None, Some}
-use Rattle.rdf_values.specs.Functions.{Function}
-use Rattle.chain_words.specs.declared.command.ChainCommand.{ChainCommand}
+use Rattle.rdf_values.specs.{Function}
+use Rattle.chain_words.specs.{ChainCommand}
 use Rattle.chain_words.specs.declared.command.ChainCommand.TheVariants.{Run, Map, Join, Print}
-use Rattle.chain_due.specs.Due.{ChainDue, Files, IsDueToCommand, IsJoinDue, IsMapDue, IsPrintDue, IsRunOver}
-use Rattle.chain_program.specs.Answers.{IsAnswer}
-use Rattle.chain_program.specs.Scripts.{HoldsTheText, IsDueToText, IsText, WithText}
-use Rattle.chain_program.specs.Turns.{AreCommandsTurns, AreTurned, HoldsScript, IsFileRead, IsOtherRead, others_in, script_in}
+use Rattle.chain_due.specs.{ChainDue, Files, IsDueToCommand, IsJoinDue, IsMapDue, IsPrintDue, IsRunOver}
+use Rattle.chain_program.specs.{AreCommandsTurns, AreTurned, HoldsScript, HoldsTheText, IsAnswer, IsDueToText, IsFileRead, IsOtherRead, IsText, others_in, script_in, WithText}
 use Rattle.chain_program.specs.declared.answer.Answer.{Answer}
 use Rattle.chain_program.specs.declared.scripts.ScriptText.{ScriptText}
 use Rattle.chain_program.proofs.Staging.{all_told, from_told, goes_on, script_goes, script_stops, stands}

@@ -1,25 +1,17 @@
 -- Parts of a script, joined or printed.
-use Rattle.std.proofs.Common.{◌≡◌, ◌<◌, ◌+◌, ℕ, suc, Bool, true, false, ◌&&◌, cond, None, Some, List, [], ◌∷◌, length, refl, ap, ap₂, ◌∙◌, sym, subst, arith}
-use Rattle.std.specs.Prelude.{not, position, slice_get}
+use Rattle.std.proofs.Common.{◌≡◌, ◌<◌, ◌+◌, ℕ, suc, Bool, true, false, ◌&&◌, cond, None, Some, List, [], ◌∷◌, length, refl, ap, ap₂, ◌∙◌, sym, subst, arith, not, position, slice_get}
 use Rattle.std.specs.List.{AllByRecursion, list_all, position_from}
 use Rattle.std.proofs.lemmas.Iterator.Adapters.{position_from-zero}
-use Rattle.lemmas.proofs.Booleans.{both_true}
-use Rattle.rdf_values.specs.Functions.{Function}
-use Rattle.rdf_values.specs.Names.{same}
-use Rattle.rdf_values.specs.declared.column.Column.{Column}
-use Rattle.rdf_values.specs.declared.script.Script.{Script}
-use Rattle.graph_numbers.specs.Graphs.{GraphView}
-use Rattle.shard_files.specs.Merging.{same_columns}
-use Rattle.graph_shapes.specs.GraphShapes.{graph_shapes, pass_kind}
-use Rattle.chain_files.specs.Covering.{in_order, not_behind, placed}
-use Rattle.chain_files.specs.Digests.{digest_of}
-use Rattle.chain_files.specs.Joining.{are_loops}
-use Rattle.chain_files.specs.Parts.{IsPart, PartView}
-use Rattle.chain_files.specs.Refusing.{first_misshapen, is_of}
-use Rattle.chain_text.specs.ChainPrints.{FitGraph}
+use Rattle.lemmas.proofs.{both_true}
+use Rattle.rdf_values.specs.{Column, Function, same, Script}
+use Rattle.graph_numbers.specs.{GraphView}
+use Rattle.shard_files.specs.{same_columns}
+use Rattle.graph_shapes.specs.{graph_shapes, pass_kind}
+use Rattle.chain_files.specs.{are_loops, digest_of, first_misshapen, in_order, is_of, IsPart, not_behind, PartView, placed}
+use Rattle.chain_text.specs.{FitGraph}
 use Rattle.chain_text.proofs.Fitting.{shaped_loops_fit}
-use Rattle.chain_due.specs.Due.{ChainDue, IsEachPrinted, IsJoined, graph_over}
-use Rattle.chain_program.specs.PartFiles.{AllFitScript, AreJoinable, CanPrint, IsJoinedBy, IsPrintedBy}
+use Rattle.chain_due.specs.{ChainDue, graph_over, IsEachPrinted, IsJoined}
+use Rattle.chain_program.specs.{AllFitScript, AreJoinable, CanPrint, IsJoinedBy, IsPrintedBy}
 use Rattle.chain_program.specs.declared.fitting.Fitting.{Fitting}
 use Rattle.chain_program.proofs.Chaining.{columns_equal}
 

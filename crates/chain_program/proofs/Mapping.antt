@@ -1,23 +1,13 @@
 -- The part of one table.
 use Rattle.std.proofs.Common.{◌≡◌, ◌<◌, ◌+◌, ◌⊎◌, inl, inr, ℕ, List, [], ◌∷◌, ◌++◌, length, Option, arith, ap, refl, sym, subst, ◌∙◌, append-nil}
-use Rattle.rdf_values.specs.Functions.{Function}
-use Rattle.rdf_values.specs.Path.{history}
-use Rattle.rdf_values.specs.TableText.{MarkedTable}
-use Rattle.rdf_values.specs.Words.{AnswerIn64Bits, StatementsHaveWords}
-use Rattle.rdf_values.specs.declared.script.Script.{Script}
-use Rattle.rdf_values.specs.declared.value.Value.{Value}
-use Rattle.input_files.specs.Due.{due_of}
-use Rattle.input_files.specs.Fetching.{Tells}
-use Rattle.input_files.specs.Reading.{HoldsTheTable}
-use Rattle.chain_files.specs.Digests.{digest_of}
-use Rattle.chain_files.specs.Parts.{IsPart, PartView, part_text}
-use Rattle.chain_runs.specs.Chains.{chain_part}
+use Rattle.rdf_values.specs.{AnswerIn64Bits, Function, history, MarkedTable, Script, StatementsHaveWords, Value}
+use Rattle.input_files.specs.{due_of, HoldsTheTable, Tells}
+use Rattle.chain_files.specs.{digest_of, IsPart, part_text, PartView}
+use Rattle.chain_runs.specs.{chain_part}
 use Rattle.chain_runs.proofs.Parts.{chains_are_part}
-use Rattle.chain_due.specs.Due.{Files, IsMapDue, IsText, WithAccepted, chain_of}
-use Rattle.chain_due.specs.declared.status.ChainStatus.{ChainStatus}
+use Rattle.chain_due.specs.{chain_of, ChainStatus, Files, IsMapDue, IsText, WithAccepted}
 use Rattle.chain_due.specs.declared.status.ChainStatus.TheVariants.{Done, TooLong}
-use Rattle.chain_program.specs.Answers.{IsAnswer, IsOfFiles}
-use Rattle.chain_program.specs.TableFiles.{IsOver}
+use Rattle.chain_program.specs.{IsAnswer, IsOfFiles, IsOver}
 use Rattle.chain_program.specs.declared.answer.Answer.{Answer}
 use Rattle.chain_program.specs.declared.first_table.FirstTable.{FirstTable}
 use Rattle.chain_program.proofs.Chaining.{checked}

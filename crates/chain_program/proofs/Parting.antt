@@ -1,30 +1,19 @@
 -- Part files, one after the other, and parts of a script.
-use Rattle.std.proofs.Common.{◌≡◌, ◌≤◌, ◌<◌, ◌+◌, inl, inr, ℕ, Bool, true, false, nat_lt, List, [], ◌∷◌, ◌++◌, length, drop, Option, None, Some, IfSome, arith, ap, refl, sym, subst, ◌∙◌, append_assoc, append-nil}
-use Rattle.std.specs.Prelude.{MatchOption, get_or, not, position, slice_get, unwrap_or}
+use Rattle.std.proofs.Common.{◌≡◌, ◌≤◌, ◌<◌, ◌+◌, inl, inr, ℕ, Bool, true, false, nat_lt, List, [], ◌∷◌, ◌++◌, length, drop, Option, None, Some, IfSome, arith, ap, refl, sym, subst, ◌∙◌, append_assoc, append-nil, MatchOption, get_or, not, position, slice_get, unwrap_or}
 use Rattle.std.specs.Bool.{MatchBool}
 use Rattle.std.specs.List.{AllByRecursion}
 use Rattle.std.proofs.lemmas.Bool.{le-ltb}
 use Rattle.std.proofs.lemmas.List.{length-append}
-use Rattle.rdf_values.specs.Functions.{Function, fn_names}
-use Rattle.rdf_values.specs.RefusalLines.{graph_cause_line}
-use Rattle.rdf_values.specs.Verdict.{verdict}
-use Rattle.rdf_values.specs.declared.column.Column.{Column}
-use Rattle.rdf_values.specs.declared.graph_cause.GraphCause.{GraphCause}
-use Rattle.rdf_values.specs.declared.script.Script.{Script}
-use Rattle.graph_numbers.specs.Graphs.{GraphView}
-use Rattle.shard_lines.specs.declared.pass_shape.PassShape.{PassShape}
-use Rattle.input_files.specs.Due.{WithFile, due_of}
-use Rattle.graph_shapes.specs.GraphShapes.{graph_shapes}
-use Rattle.chain_files.specs.Digests.{digest_of}
-use Rattle.chain_files.specs.Parts.{IsPart, IsPartText, PartView}
-use Rattle.chain_files.specs.Refusing.{first_differing, first_misshapen, is_of}
-use Rattle.chain_due.specs.Due.{ChainDue, Files, ReadsPart, WithAccepted, WithFitting, WithParts, graph_over, max_parts, name_at}
-use Rattle.chain_due.specs.Lines.{differs_line, long_files_line}
-use Rattle.chain_due.specs.Statuses.{statuses}
+use Rattle.rdf_values.specs.{Column, fn_names, Function, graph_cause_line, GraphCause, Script, verdict}
+use Rattle.graph_numbers.specs.{GraphView}
+use Rattle.shard_lines.specs.{PassShape}
+use Rattle.input_files.specs.{due_of, WithFile}
+use Rattle.graph_shapes.specs.{graph_shapes}
+use Rattle.chain_files.specs.{digest_of, first_differing, first_misshapen, is_of, IsPart, IsPartText, PartView}
+use Rattle.chain_due.specs.{ChainDue, differs_line, Files, graph_over, long_files_line, max_parts, name_at, ReadsPart, statuses, WithAccepted, WithFitting, WithParts}
 use Rattle.chain_due.specs.declared.status.ChainStatus.TheVariants.{FilesDiffer, ScriptRefused, TooLong}
-use Rattle.chain_program.specs.Answers.{Answers, IsAnswer}
-use Rattle.chain_program.specs.PartFiles.{AllFitScript, ArePartsOf, AreRead, HoldParts, HoldsThePart, IsReadPart, WithPart}
-use Rattle.chain_program.specs.Turns.{HoldsPart, IsPartFile}
+use Rattle.chain_program.specs.{AllFitScript, ArePartsOf, AreRead, HoldParts, HoldsPart, HoldsThePart, IsAnswer, IsPartFile, IsReadPart, WithPart}
+use Rattle.chain_program.specs.Answers.{Answers}
 use Rattle.chain_program.specs.declared.answer.Answer.{Answer}
 use Rattle.chain_program.specs.declared.fitting.Fitting.{Fitting}
 use Rattle.chain_program.specs.declared.parts.PartFile.{PartFile}

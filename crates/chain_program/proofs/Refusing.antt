@@ -1,16 +1,11 @@
 -- Answers of the stages of tables and parts that refuse a file.
 use Rattle.std.proofs.Common.{◌≡◌, ℕ, List, [], ◌∷◌, Option}
-use Rattle.rdf_values.specs.Functions.{Function}
-use Rattle.rdf_values.specs.TableText.{MarkedTable}
-use Rattle.rdf_values.specs.declared.script.Script.{Script}
-use Rattle.input_files.specs.Due.{due_of}
-use Rattle.input_files.specs.Fetching.{Tells}
-use Rattle.input_files.specs.Reading.{HoldsTheTable}
-use Rattle.chain_files.specs.Covering.{in_order}
-use Rattle.chain_files.specs.Parts.{PartView}
-use Rattle.chain_due.specs.Due.{ChainDue, Files, IsEachPrinted, IsJoinDue, IsJoined, IsPrintDue, WithFitting, WithParts, WithTableFile}
-use Rattle.chain_program.specs.Answers.{Answers, IsAnswer}
-use Rattle.chain_program.specs.PartFiles.{AllFitScript, ArePartsOf, HoldParts, IsJoinedBy, IsPrintedBy}
+use Rattle.rdf_values.specs.{Function, MarkedTable, Script}
+use Rattle.input_files.specs.{due_of, HoldsTheTable, Tells}
+use Rattle.chain_files.specs.{in_order, PartView}
+use Rattle.chain_due.specs.{ChainDue, Files, IsEachPrinted, IsJoinDue, IsJoined, IsPrintDue, WithFitting, WithParts, WithTableFile}
+use Rattle.chain_program.specs.{AllFitScript, ArePartsOf, HoldParts, IsAnswer, IsJoinedBy, IsPrintedBy}
+use Rattle.chain_program.specs.Answers.{Answers}
 use Rattle.chain_program.specs.declared.answer.Answer.{Answer}
 use Rattle.chain_program.specs.declared.fitting.Fitting.{Fitting}
 use Rattle.chain_program.proofs.Joining.{joined_is_due, printed_is_due}

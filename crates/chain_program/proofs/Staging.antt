@@ -1,29 +1,15 @@
 -- Answers from stage to stage.
-use Rattle.std.proofs.Common.{Result, Ok, Err, IfOk, ◌≡◌, ◌≤◌, inl, inr, ℕ, Bool, true, false, List, [], ◌∷◌, ◌++◌, length, nat_lt, Option, None, Some, IfSome, arith, sym, subst}
-use Rattle.std.specs.Prelude.{MatchOption, MatchResult, OnOk}
+use Rattle.std.proofs.Common.{Result, Ok, Err, IfOk, ◌≡◌, ◌≤◌, inl, inr, ℕ, Bool, true, false, List, [], ◌∷◌, ◌++◌, length, nat_lt, Option, None, Some, IfSome, arith, sym, subst, MatchOption, MatchResult, OnOk}
 use Rattle.std.specs.Bool.{MatchBool}
 use Rattle.std.proofs.lemmas.Bool.{le-ltb}
-use Rattle.rdf_outside.specs.Outside.{Rose}
-use Rattle.rdf_values.specs.Functions.{Function, fn_names}
-use Rattle.rdf_values.specs.RefusalLines.{graph_cause_line, long_script_line, long_table_line, read_failed_line, table_cause_line}
-use Rattle.rdf_values.specs.Scripts.{IsScript}
-use Rattle.rdf_values.specs.TableText.{MarkedTable, table_of}
-use Rattle.rdf_values.specs.Verdict.{verdict}
-use Rattle.rdf_values.specs.declared.column.Column.{Column}
-use Rattle.rdf_values.specs.declared.graph_cause.GraphCause.{GraphCause}
-use Rattle.rdf_values.specs.declared.script.Script.{Script}
-use Rattle.rdf_values.specs.declared.table_cause.TableCause.{TableCause}
-use Rattle.table_csv.specs.Csv.{csv_records}
-use Rattle.input_files.specs.Due.{ReadsScript, WithFile, WithScript, due_of, max_script, max_table}
-use Rattle.input_files.specs.Fetching.{Tells}
-use Rattle.input_files.specs.Reading.{HoldsTheTable}
-use Rattle.chain_due.specs.Due.{ChainDue, Files, WithAccepted, WithTable, WithTableFile}
-use Rattle.chain_due.specs.Lines.{table_line}
-use Rattle.chain_due.specs.Statuses.{statuses}
-use Rattle.chain_due.specs.declared.status.ChainStatus.{ChainStatus}
+use Rattle.rdf_outside.specs.{Rose}
+use Rattle.rdf_values.specs.{Column, fn_names, Function, graph_cause_line, GraphCause, IsScript, long_script_line, long_table_line, MarkedTable, read_failed_line, Script, table_cause_line, table_of, TableCause, verdict}
+use Rattle.table_csv.specs.{csv_records}
+use Rattle.input_files.specs.{due_of, HoldsTheTable, max_script, max_table, ReadsScript, Tells, WithFile, WithScript}
+use Rattle.chain_due.specs.{ChainDue, ChainStatus, Files, statuses, table_line, WithAccepted, WithTable, WithTableFile}
 use Rattle.chain_due.specs.declared.status.ChainStatus.TheVariants.{ReadFault, ScriptRefused, TableRefused}
-use Rattle.chain_program.specs.Answers.{Answers, IsAnswer, IsOfFiles, IsUnread}
-use Rattle.chain_program.specs.Scripts.{HoldsTheText, WithText}
+use Rattle.chain_program.specs.{HoldsTheText, IsAnswer, IsOfFiles, IsUnread, WithText}
+use Rattle.chain_program.specs.Answers.{Answers}
 use Rattle.chain_program.specs.declared.answer.Answer.{Answer}
 use Rattle.chain_program.specs.declared.scripts.ScriptText.{ScriptText}
 

@@ -1,8 +1,7 @@
 -- The files that the shelf was turned to, from stage to stage.
-use Rattle.std.proofs.Common.{◌≡◌, ◌≤◌, ◌<◌, ◌+◌, inl, inr, ℕ, zero, suc, List, [], ◌∷◌, ◌++◌, length, drop, Some, arith, ap, refl, sym, subst, ◌∙◌, append_assoc, append-nil}
-use Rattle.std.specs.Prelude.{MatchOption, slice_get}
-use Rattle.input_files.specs.Answers.{AreTurnedTo}
-use Rattle.chain_program.specs.Turns.{AreTurned}
+use Rattle.std.proofs.Common.{◌≡◌, ◌≤◌, ◌<◌, ◌+◌, inl, inr, ℕ, zero, suc, List, [], ◌∷◌, ◌++◌, length, drop, Some, arith, ap, refl, sym, subst, ◌∙◌, append_assoc, append-nil, MatchOption, slice_get}
+use Rattle.input_files.specs.{AreTurnedTo}
+use Rattle.chain_program.specs.{AreTurned}
 
 module _ (IsRead : List ℕ → Type 0) where
   -- the first one alone

@@ -1,18 +1,12 @@
 -- What is written of an answer to the words.
-use Rattle.std.proofs.Common.{◌≡◌, ◌⊎◌, inl, inr, ℕ, List, Option, None, Some, IfSome, refl, sym, subst}
-use Rattle.std.specs.Prelude.{MatchOption}
-use Rattle.rdf_outside.specs.Outside.{Appends, AppendsPart}
-use Rattle.rdf_values.specs.Functions.{Function}
-use Rattle.input_files.specs.Answers.{WritesDue, WritesDuePart, WritesPart, WritesReadFailed}
-use Rattle.input_files.specs.Due.{due_of}
-use Rattle.chain_words.specs.Asked.{asked_of}
-use Rattle.chain_words.specs.declared.command.ChainCommand.{ChainCommand}
-use Rattle.chain_due.specs.Due.{Files, IsDue, IsDueToCommand}
-use Rattle.chain_due.specs.Lines.{usage_line}
-use Rattle.chain_due.specs.Statuses.{IsFinal}
+use Rattle.std.proofs.Common.{◌≡◌, ◌⊎◌, inl, inr, ℕ, List, Option, None, Some, IfSome, refl, sym, subst, MatchOption}
+use Rattle.rdf_outside.specs.{Appends, AppendsPart}
+use Rattle.rdf_values.specs.{Function}
+use Rattle.input_files.specs.{due_of, WritesDue, WritesDuePart, WritesPart, WritesReadFailed}
+use Rattle.chain_words.specs.{asked_of, ChainCommand}
+use Rattle.chain_due.specs.{Files, IsDue, IsDueToCommand, IsFinal, usage_line}
 use Rattle.chain_due.specs.declared.status.ChainStatus.TheVariants.{Memory, Words, ReadFault, WriteFault, FileChanged}
-use Rattle.chain_program.specs.Answers.{IsAnswer, IsOfFiles, IsUnread}
-use Rattle.chain_program.specs.Top.{AnswersWords}
+use Rattle.chain_program.specs.{AnswersWords, IsAnswer, IsOfFiles, IsUnread}
 use Rattle.chain_program.specs.declared.answer.Answer.{Answer}
 use Rattle.chain_program.proofs.Staging.{all_told, as_due, each_told}
 

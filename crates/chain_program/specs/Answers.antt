@@ -1,11 +1,9 @@
 -- What the program answers before anything is written.
 use Rattle.std.specs.Prelude.{◌≡◌, ◌⊎◌, ℕ, List, Option, IfSome}
-use Rattle.rdf_outside.specs.Outside.{Rose}
-use Rattle.rdf_values.specs.RefusalLines.{read_failed_line}
-use Rattle.input_files.specs.Answers.{IsLast}
-use Rattle.input_files.specs.Due.{due_of}
-use Rattle.chain_due.specs.Due.{ChainDue, Files}
-use Rattle.chain_due.specs.declared.status.ChainStatus.{ChainStatus}
+use Rattle.rdf_outside.specs.{Rose}
+use Rattle.rdf_values.specs.{read_failed_line}
+use Rattle.input_files.specs.{due_of, IsLast}
+use Rattle.chain_due.specs.{ChainDue, ChainStatus, Files}
 use Rattle.chain_due.specs.declared.status.ChainStatus.TheVariants.{Memory, Words, ReadFault, WriteFault, FileChanged}
 use Rattle.chain_program.specs.declared.answer.Answer.{Answer}
 

@@ -2,23 +2,14 @@
 use Rattle.std.specs.Prelude.{◌≡◌, ◌≤◌, ◌<◌, ◌+◌, ⊤, ℕ, true, List, [], ◌∷◌, ◌++◌, drop, length, nat_lt, Option, Some, None, IfSome, MatchOption}
 use Rattle.std.specs.Bool.{MatchBool}
 use Rattle.std.specs.List.{AllByRecursion}
-use Rattle.rdf_values.specs.Functions.{Function, fn_names}
-use Rattle.rdf_values.specs.Verdict.{verdict}
-use Rattle.rdf_values.specs.declared.script.Script.{Script}
-use Rattle.graph_numbers.specs.Graphs.{GraphView}
-use Rattle.input_files.specs.Due.{WithFile, due_of}
-use Rattle.input_files.specs.Fetching.{Tells}
-use Rattle.graph_shapes.specs.GraphShapes.{graph_shapes}
-use Rattle.shard_lines.specs.declared.pass_shape.PassShape.{PassShape}
-use Rattle.chain_files.specs.Covering.{IsFirstOther, first_uncovered}
-use Rattle.chain_files.specs.Digests.{digest_of}
-use Rattle.chain_files.specs.Joining.{are_loops, joined_parts}
-use Rattle.chain_files.specs.Parts.{IsPart, IsPartText, PartView, part_text}
-use Rattle.chain_files.specs.Refusing.{first_differing, first_misshapen}
-use Rattle.chain_text.specs.ChainPrints.{chain_text}
-use Rattle.chain_due.specs.Due.{ChainDue, Files, IsText, ReadsPart, WithFitting, WithParts, graph_over, max_parts}
-use Rattle.chain_due.specs.Lines.{long_files_line, uncovered_line}
-use Rattle.chain_due.specs.Statuses.{printed_status, statuses}
+use Rattle.rdf_values.specs.{fn_names, Function, Script, verdict}
+use Rattle.graph_numbers.specs.{GraphView}
+use Rattle.input_files.specs.{due_of, Tells, WithFile}
+use Rattle.graph_shapes.specs.{graph_shapes}
+use Rattle.shard_lines.specs.{PassShape}
+use Rattle.chain_files.specs.{are_loops, digest_of, first_differing, first_misshapen, first_uncovered, IsFirstOther, IsPart, IsPartText, joined_parts, part_text, PartView}
+use Rattle.chain_text.specs.{chain_text}
+use Rattle.chain_due.specs.{ChainDue, Files, graph_over, IsText, long_files_line, max_parts, printed_status, ReadsPart, statuses, uncovered_line, WithFitting, WithParts}
 use Rattle.chain_due.specs.declared.status.ChainStatus.TheVariants.{Done, NotCovered, TooLong}
 use Rattle.chain_program.specs.Answers.{Answers, IsAnswer}
 use Rattle.chain_program.specs.declared.answer.Read.{Read}

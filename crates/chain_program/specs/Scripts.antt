@@ -1,16 +1,9 @@
 -- What the stages of a script come to.
 use Rattle.std.specs.Prelude.{◌≡◌, ◌≤◌, ℕ, List, Option, Some, None, length}
-use Rattle.rdf_values.specs.Bookable.{IsBookable}
-use Rattle.rdf_values.specs.Functions.{Function}
-use Rattle.rdf_values.specs.Path.{history}
-use Rattle.rdf_values.specs.Scripts.{IsScript}
-use Rattle.rdf_values.specs.Words.{StatementsHaveWords}
-use Rattle.rdf_values.specs.declared.script.Script.{Script}
-use Rattle.input_files.specs.Due.{WithFile, WithScript, max_script}
-use Rattle.input_files.specs.Fetching.{Tells}
-use Rattle.chain_due.specs.Due.{ChainDue, Files, IsJoinDue, IsMapDue, IsPrintDue, IsRunOver}
-use Rattle.chain_due.specs.Statuses.{statuses}
-use Rattle.chain_words.specs.declared.command.ChainCommand.{ChainCommand}
+use Rattle.rdf_values.specs.{Function, history, IsBookable, IsScript, Script, StatementsHaveWords}
+use Rattle.input_files.specs.{max_script, Tells, WithFile, WithScript}
+use Rattle.chain_due.specs.{ChainDue, Files, IsJoinDue, IsMapDue, IsPrintDue, IsRunOver, statuses}
+use Rattle.chain_words.specs.{ChainCommand}
 use Rattle.chain_words.specs.declared.command.ChainCommand.TheVariants.{Run, Map, Join, Print}
 use Rattle.chain_program.specs.Answers.{IsAnswer}
 use Rattle.chain_program.specs.declared.answer.Read.{Read}

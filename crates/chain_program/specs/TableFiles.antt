@@ -2,26 +2,16 @@
 use Rattle.std.specs.Prelude.{◌≡◌, ℕ, true, List, [], ◌∷◌, drop, length, Option, None, IfSome}
 use Rattle.std.specs.Bool.{MatchBool}
 use Rattle.std.specs.List.{AllByRecursion, list_all}
-use Rattle.rdf_values.specs.Functions.{Function, fn_names}
-use Rattle.rdf_values.specs.Names.{is_name}
-use Rattle.rdf_values.specs.TableText.{MarkedTable}
-use Rattle.rdf_values.specs.Tables.{IsTable}
-use Rattle.rdf_values.specs.Verdict.{verdict}
-use Rattle.rdf_values.specs.declared.column.Column.{Column}
-use Rattle.rdf_values.specs.declared.script.Script.{Script}
-use Rattle.table_csv.specs.ColumnsOver.{columns_over, marked_in}
+use Rattle.rdf_values.specs.{Column, fn_names, Function, is_name, IsTable, MarkedTable, Script, verdict}
+use Rattle.table_csv.specs.{columns_over, marked_in}
 use Rattle.columns.specs.ColumnsView.{ColumnsView}
-use Rattle.shard_files.specs.Merging.{same_columns}
-use Rattle.shard_loop.specs.LoopSpans.{table_of}
-use Rattle.shard_spans.specs.Spans.{loops_of}
-use Rattle.input_files.specs.Due.{due_of}
-use Rattle.input_files.specs.Fetching.{Tells}
-use Rattle.input_files.specs.Reading.{HoldsTheTable}
-use Rattle.chain_files.specs.declared.part_loop.PartLoop.{PartLoop}
-use Rattle.chain_runs.specs.Chains.{alone, chain_loops}
-use Rattle.chain_due.specs.Due.{ChainDue, Files, IsRunOver, WithAccepted, WithTableFile, WithTables, chain_of, graph_over, printed_over}
-use Rattle.chain_due.specs.Lines.{differs_line}
-use Rattle.chain_due.specs.Statuses.{printed_status}
+use Rattle.shard_files.specs.{same_columns}
+use Rattle.shard_loop.specs.{table_of}
+use Rattle.shard_spans.specs.{loops_of}
+use Rattle.input_files.specs.{due_of, HoldsTheTable, Tells}
+use Rattle.chain_files.specs.{PartLoop}
+use Rattle.chain_runs.specs.{alone, chain_loops}
+use Rattle.chain_due.specs.{chain_of, ChainDue, differs_line, Files, graph_over, IsRunOver, printed_over, printed_status, WithAccepted, WithTableFile, WithTables}
 use Rattle.chain_due.specs.declared.status.ChainStatus.TheVariants.{FilesDiffer}
 use Rattle.chain_program.specs.Answers.{Answers, IsAnswer}
 use Rattle.chain_program.specs.declared.answer.Read.{Read}

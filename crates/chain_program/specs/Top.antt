@@ -1,10 +1,9 @@
 -- What the program answers to its words.
 use Rattle.std.specs.Prelude.{◌≡◌, ℕ, List, Option, MatchOption}
-use Rattle.rdf_values.specs.Functions.{Function}
-use Rattle.chain_due.specs.Due.{Files, IsDueToCommand}
-use Rattle.chain_due.specs.Lines.{usage_line}
+use Rattle.rdf_values.specs.{Function}
+use Rattle.chain_due.specs.{Files, IsDueToCommand, usage_line}
 use Rattle.chain_due.specs.declared.status.ChainStatus.TheVariants.{Words}
-use Rattle.chain_words.specs.Asked.{asked_of}
+use Rattle.chain_words.specs.{asked_of}
 use Rattle.chain_program.specs.Answers.{IsAnswer}
 use Rattle.chain_program.specs.declared.answer.Answer.{Answer}
 

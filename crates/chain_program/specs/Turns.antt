@@ -1,13 +1,10 @@
 -- The files that the shelf was turned to.
 use Rattle.std.specs.Prelude.{◌≡◌, ◌⊎◌, ℕ, zero, suc, List, [], ◌∷◌, ◌++◌, Option, Some, None, IfSome, MatchOption, slice_get}
-use Rattle.rdf_values.specs.TableText.{MarkedTable}
-use Rattle.rdf_values.specs.declared.script.Script.{Script}
-use Rattle.input_files.specs.Answers.{AreTurnedTo}
-use Rattle.input_files.specs.Reading.{HoldsTheScript, HoldsTheTable}
-use Rattle.chain_files.specs.Parts.{IsPartText, PartView}
-use Rattle.chain_due.specs.Due.{Files}
-use Rattle.chain_words.specs.Asked.{asked_of}
-use Rattle.chain_words.specs.declared.command.ChainCommand.{ChainCommand}
+use Rattle.rdf_values.specs.{MarkedTable, Script}
+use Rattle.input_files.specs.{AreTurnedTo, HoldsTheScript, HoldsTheTable}
+use Rattle.chain_files.specs.{IsPartText, PartView}
+use Rattle.chain_due.specs.{Files}
+use Rattle.chain_words.specs.{asked_of, ChainCommand}
 use Rattle.chain_words.specs.declared.command.ChainCommand.TheVariants.{Run, Map, Join, Print}
 
 -- ---- files that were read

@@ -1,7 +1,7 @@
 // What the program answers.
 ghost use Rattle.std.specs.Prelude.{◌≡◌};
-ghost use Rattle.chain_due.specs.Statuses.{statuses};
-ghost use Rattle.input_files.specs.Reading.{status_for};
+ghost use Rattle.chain_due.specs.{statuses};
+ghost use Rattle.input_files.specs.{status_for};
 
 use chain_due::ChainStatus;
 use input_files::{FileCause, FileRefusal};

@@ -1,9 +1,9 @@
 // A script over the columns of a table.
 ghost use Rattle.std.specs.Prelude.{IfOk};
-ghost use Rattle.entry_fns.specs.Lists.{functions_in};
-ghost use Rattle.table_csv.specs.ColumnsOver.{marked_in};
-ghost use Rattle.rdf_values.specs.Bookable.{IsBookable};
-ghost use Rattle.chain_program.specs.TableFiles.{BooksOver};
+ghost use Rattle.entry_fns.specs.{functions_in};
+ghost use Rattle.table_csv.specs.{marked_in};
+ghost use Rattle.rdf_values.specs.{IsBookable};
+ghost use Rattle.chain_program.specs.{BooksOver};
 
 use crate::answer::Read;
 use crate::lines::refused_script;

@@ -1,13 +1,9 @@
 // The answer to a command whose script was read.
 ghost use Rattle.std.specs.Prelude.{◌≡◌, ◌≤◌, IfOk, OnOk};
-ghost use Rattle.entry_fns.specs.Lists.{functions_in};
-ghost use Rattle.rdf_values.specs.Bookable.{IsBookable};
-ghost use Rattle.rdf_values.specs.Path.{history};
-ghost use Rattle.rdf_values.specs.Words.{StatementsHaveWords};
-ghost use Rattle.chain_program.specs.Answers.{IsAnswer};
-ghost use Rattle.chain_words.specs.Limits.{AreWithinLimits};
-ghost use Rattle.chain_program.specs.Scripts.{IsDueToText};
-ghost use Rattle.chain_program.specs.Turns.{AreTurned, IsOtherRead, others_in, script_in};
+ghost use Rattle.entry_fns.specs.{functions_in};
+ghost use Rattle.rdf_values.specs.{history, IsBookable, StatementsHaveWords};
+ghost use Rattle.chain_program.specs.{AreTurned, IsAnswer, IsDueToText, IsOtherRead, others_in, script_in};
+ghost use Rattle.chain_words.specs.{AreWithinLimits};
 
 use crate::answer::Answer;
 use crate::join::join_files;

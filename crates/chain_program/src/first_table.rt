@@ -1,16 +1,12 @@
 // The first table of a chain, over which the script is booked.
 ghost use Rattle.std.specs.Prelude.{◌≡◌, ◌≤◌, ◌++◌, ◌∷◌, [], IfOk};
-ghost use Rattle.entry_fns.specs.Lists.{functions_in};
-ghost use Rattle.rdf_values.specs.Bookable.{IsBookable};
-ghost use Rattle.rdf_values.specs.Functions.{fn_names};
-ghost use Rattle.rdf_values.specs.Path.{history};
-ghost use Rattle.rdf_values.specs.Tables.{IsTable};
-ghost use Rattle.rdf_values.specs.Words.{StatementsHaveWords};
-ghost use Rattle.shard_loop.specs.LoopSpans.{table_of};
-ghost use Rattle.shard_spans.specs.Spans.{loops_of};
-ghost use Rattle.chain_runs.specs.Chains.{alone, chain_loops};
-ghost use Rattle.chain_words.specs.Limits.{AreSettings};
-ghost use Rattle.chain_program.specs.TableFiles.{IsFirstOf, ReadsFirst};
+ghost use Rattle.entry_fns.specs.{functions_in};
+ghost use Rattle.rdf_values.specs.{fn_names, history, IsBookable, IsTable, StatementsHaveWords};
+ghost use Rattle.shard_loop.specs.{table_of};
+ghost use Rattle.shard_spans.specs.{loops_of};
+ghost use Rattle.chain_runs.specs.{alone, chain_loops};
+ghost use Rattle.chain_words.specs.{AreSettings};
+ghost use Rattle.chain_program.specs.{IsFirstOf, ReadsFirst};
 
 use crate::answer::Read;
 use crate::booking::{Booked, book_over};

@@ -1,11 +1,10 @@
 // Parts of a script.
 ghost use Rattle.std.specs.Prelude.{◌≡◌, ◌<◌, IfOk, IfSome, length, not, position};
-ghost use Rattle.entry_fns.specs.Lists.{functions_in};
-ghost use Rattle.rdf_values.specs.Bookable.{IsBookable};
+ghost use Rattle.entry_fns.specs.{functions_in};
+ghost use Rattle.rdf_values.specs.{IsBookable};
 ghost use Rattle.std.specs.List.{AllByRecursion};
-ghost use Rattle.chain_files.specs.Parts.{IsPart};
-ghost use Rattle.chain_files.specs.Refusing.{first_misshapen, is_of};
-ghost use Rattle.chain_program.specs.PartFiles.{FitsScript};
+ghost use Rattle.chain_files.specs.{first_misshapen, is_of, IsPart};
+ghost use Rattle.chain_program.specs.{FitsScript};
 
 use crate::answer::Read;
 use crate::lines::{differs, refused_script};

@@ -1,12 +1,11 @@
 // The joining of parts.
 ghost use Rattle.std.specs.Prelude.{◌≡◌, ◌≤◌, ◌<◌, IfOk, OnOk, length};
-ghost use Rattle.entry_fns.specs.Lists.{functions_in};
-ghost use Rattle.rdf_values.specs.Bookable.{IsBookable};
-ghost use Rattle.chain_due.specs.Due.{IsJoinDue};
-ghost use Rattle.chain_files.specs.Covering.{in_order};
-ghost use Rattle.chain_program.specs.Answers.{Answers, IsAnswer};
-ghost use Rattle.chain_program.specs.PartFiles.{AreJoinable, IsJoinedBy};
-ghost use Rattle.chain_program.specs.Turns.{AreTurned, IsPartFile};
+ghost use Rattle.entry_fns.specs.{functions_in};
+ghost use Rattle.rdf_values.specs.{IsBookable};
+ghost use Rattle.chain_due.specs.{IsJoinDue};
+ghost use Rattle.chain_files.specs.{in_order};
+ghost use Rattle.chain_program.specs.{AreJoinable, AreTurned, IsAnswer, IsJoinedBy, IsPartFile};
+ghost use Rattle.chain_program.specs.Answers.{Answers};
 
 use crate::answer::{Answer, Read};
 use crate::fitting::{Fitting, fit_script};

@@ -1,10 +1,8 @@
 // The lines that are this program's own, with their statuses.
 ghost use Rattle.std.specs.Prelude.{◌≡◌, ◌⊎◌, ◌++◌, IfOk, decimal, if◌then◌else◌};
-ghost use Rattle.rdf_values.specs.RefusalLines.{graph_cause_line, line, long_script_line, long_table_line};
-ghost use Rattle.chain_due.specs.Due.{IsText};
-ghost use Rattle.chain_due.specs.Lines.{differs_line, file_refused_line, long_files_line, long_part_line, table_line, uncovered_line, usage_line};
-ghost use Rattle.chain_due.specs.Statuses.{printed_status};
-ghost use Rattle.input_files.specs.Due.{due_of};
+ghost use Rattle.rdf_values.specs.{graph_cause_line, line, long_script_line, long_table_line};
+ghost use Rattle.chain_due.specs.{differs_line, file_refused_line, IsText, long_files_line, long_part_line, printed_status, table_line, uncovered_line, usage_line};
+ghost use Rattle.input_files.specs.{due_of};
 
 use crate::answer::Answer;
 use chain_due::ChainStatus;

@@ -1,13 +1,10 @@
 // The tables of a chain behind the first one.
 ghost use Rattle.std.specs.Prelude.{◌≡◌, ◌≤◌, ◌<◌, ◌++◌, ◌∷◌, [], IfOk, OnOk, drop, length};
-ghost use Rattle.entry_fns.specs.Lists.{functions_in};
-ghost use Rattle.graph_shapes.specs.GraphShapes.{graph_shapes};
-ghost use Rattle.rdf_values.specs.Functions.{fn_names};
-ghost use Rattle.rdf_values.specs.Path.{history};
-ghost use Rattle.rdf_values.specs.Words.{StatementsHaveWords};
-ghost use Rattle.chain_words.specs.Limits.{AreSettings};
-ghost use Rattle.chain_program.specs.TableFiles.{AreRun, ReadsAll, ReadsNext};
-ghost use Rattle.chain_program.specs.Turns.{AreTurned, IsTableFile};
+ghost use Rattle.entry_fns.specs.{functions_in};
+ghost use Rattle.graph_shapes.specs.{graph_shapes};
+ghost use Rattle.rdf_values.specs.{fn_names, history, StatementsHaveWords};
+ghost use Rattle.chain_words.specs.{AreSettings};
+ghost use Rattle.chain_program.specs.{AreRun, AreTurned, IsTableFile, ReadsAll, ReadsNext};
 
 use crate::answer::Read;
 use crate::first_table::loops_over;

@@ -1,7 +1,6 @@
 // Part files.
 ghost use Rattle.std.specs.Prelude.{◌≡◌, ◌≤◌, ◌++◌, ◌∷◌, [], IfOk, OnOk, length};
-ghost use Rattle.chain_program.specs.PartFiles.{ReadsParts, ReadsThePart};
-ghost use Rattle.chain_program.specs.Turns.{AreTurned, IsPartFile};
+ghost use Rattle.chain_program.specs.{AreTurned, IsPartFile, ReadsParts, ReadsThePart};
 
 use crate::answer::{Answer, Read};
 use crate::lines::{long_files, refused_file};

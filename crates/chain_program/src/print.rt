@@ -1,12 +1,11 @@
 // The printing of a part.
 ghost use Rattle.std.specs.Prelude.{◌≡◌, ◌≤◌, ◌<◌, ◌∷◌, [], IfOk, OnOk, length};
-ghost use Rattle.entry_fns.specs.Lists.{functions_in};
-ghost use Rattle.rdf_values.specs.Bookable.{IsBookable};
-ghost use Rattle.chain_due.specs.Due.{IsPrintDue};
-ghost use Rattle.chain_files.specs.Parts.{IsPart};
-ghost use Rattle.chain_program.specs.Answers.{Answers, IsAnswer};
-ghost use Rattle.chain_program.specs.PartFiles.{CanPrint, IsPrintedBy};
-ghost use Rattle.chain_program.specs.Turns.{AreTurned, IsPartFile};
+ghost use Rattle.entry_fns.specs.{functions_in};
+ghost use Rattle.rdf_values.specs.{IsBookable};
+ghost use Rattle.chain_due.specs.{IsPrintDue};
+ghost use Rattle.chain_files.specs.{IsPart};
+ghost use Rattle.chain_program.specs.{AreTurned, CanPrint, IsAnswer, IsPartFile, IsPrintedBy};
+ghost use Rattle.chain_program.specs.Answers.{Answers};
 
 use crate::answer::{Answer, Read};
 use crate::fitting::{Fitting, fit_script};

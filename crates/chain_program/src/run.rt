@@ -1,13 +1,10 @@
 // A run over a chain of tables.
 ghost use Rattle.std.specs.Prelude.{◌≡◌, ◌≤◌, ◌<◌, IfOk, OnOk, length};
-ghost use Rattle.entry_fns.specs.Lists.{functions_in};
-ghost use Rattle.rdf_values.specs.Bookable.{IsBookable};
-ghost use Rattle.rdf_values.specs.Path.{history};
-ghost use Rattle.rdf_values.specs.Words.{StatementsHaveWords};
-ghost use Rattle.chain_due.specs.Due.{IsRunOver};
-ghost use Rattle.chain_program.specs.Answers.{IsAnswer};
-ghost use Rattle.chain_words.specs.Limits.{AreSettings};
-ghost use Rattle.chain_program.specs.Turns.{AreTurned, IsTableFile};
+ghost use Rattle.entry_fns.specs.{functions_in};
+ghost use Rattle.rdf_values.specs.{history, IsBookable, StatementsHaveWords};
+ghost use Rattle.chain_due.specs.{IsRunOver};
+ghost use Rattle.chain_program.specs.{AreTurned, IsAnswer, IsTableFile};
+ghost use Rattle.chain_words.specs.{AreSettings};
 
 use crate::answer::{Answer, Read};
 use crate::first_table::first_table;

@@ -1,6 +1,6 @@
 // The script of a command.
 ghost use Rattle.std.specs.Prelude.{◌≡◌, ◌≤◌, ◌++◌, ◌∷◌, [], IfOk};
-ghost use Rattle.chain_program.specs.Scripts.{ReadsText};
+ghost use Rattle.chain_program.specs.{ReadsText};
 
 use crate::answer::{Answer, Read};
 use crate::lines::long_script;

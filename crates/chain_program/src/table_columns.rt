@@ -1,8 +1,7 @@
 // Copies of columns.
 ghost use Rattle.std.specs.Prelude.{◌≡◌, ◌+◌, true, IfOk};
 ghost use Rattle.std.specs.List.{list_all};
-ghost use Rattle.rdf_values.specs.Names.{is_name};
-ghost use Rattle.rdf_values.specs.declared.column.Column.{Column};
+ghost use Rattle.rdf_values.specs.{Column, is_name};
 
 use rdf_values::{Column, ListOf, Memory, Name};
 use std::alloc::Global;

@@ -1,6 +1,6 @@
 // Tables of a chain.
 ghost use Rattle.std.specs.Prelude.{◌≡◌, ◌≤◌, ◌++◌, ◌∷◌, [], IfOk};
-ghost use Rattle.chain_program.specs.TableFiles.{ReadsTable};
+ghost use Rattle.chain_program.specs.{ReadsTable};
 
 use crate::answer::{Answer, Read};
 use crate::lines::{long_table, refused_table};

@@ -1,13 +1,11 @@
 // The top call.
 ghost use Rattle.std.specs.Prelude.{◌≡◌, ◌⊎◌, [], IfSome, None};
-ghost use Rattle.entry_fns.specs.Lists.{functions_in};
-ghost use Rattle.rdf_outside.specs.Outside.{Appends, Rose};
-ghost use Rattle.input_files.specs.Answers.{WritesDue, WritesPart, WritesReadFailed};
-ghost use Rattle.chain_due.specs.Due.{IsDue};
-ghost use Rattle.chain_due.specs.Lines.{usage_line};
-ghost use Rattle.chain_due.specs.Statuses.{IsFinal};
-ghost use Rattle.chain_words.specs.Asked.{asked_of};
-ghost use Rattle.chain_program.specs.Turns.{TurnsBesides};
+ghost use Rattle.entry_fns.specs.{functions_in};
+ghost use Rattle.rdf_outside.specs.{Appends, Rose};
+ghost use Rattle.input_files.specs.{WritesDue, WritesPart, WritesReadFailed};
+ghost use Rattle.chain_due.specs.{IsDue, IsFinal, usage_line};
+ghost use Rattle.chain_words.specs.{asked_of};
+ghost use Rattle.chain_program.specs.{TurnsBesides};
 
 use crate::means::Means;
 use crate::words::answer_words;

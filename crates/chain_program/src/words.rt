@@ -1,11 +1,9 @@
 // What the program answers to its words, before anything is written.
 ghost use Rattle.std.specs.Prelude.{IfOk, OnOk};
-ghost use Rattle.entry_fns.specs.Lists.{functions_in};
-ghost use Rattle.chain_due.specs.Due.{IsDueToCommand};
-ghost use Rattle.chain_program.specs.Answers.{IsAnswer};
-ghost use Rattle.chain_words.specs.Limits.{AreWithinLimits};
-ghost use Rattle.chain_program.specs.Top.{AnswersWords};
-ghost use Rattle.chain_program.specs.Turns.{AreCommandsTurns, TurnsBesides};
+ghost use Rattle.entry_fns.specs.{functions_in};
+ghost use Rattle.chain_due.specs.{IsDueToCommand};
+ghost use Rattle.chain_program.specs.{AnswersWords, AreCommandsTurns, IsAnswer, TurnsBesides};
+ghost use Rattle.chain_words.specs.{AreWithinLimits};
 
 use crate::answer::{Answer, Read};
 use crate::command::{answer_command, script_in};

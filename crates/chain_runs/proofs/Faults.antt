@@ -1,17 +1,12 @@
 -- The first fault of a chain is that of its rows.
-use Rattle.std.proofs.Common.{◌≡◌, ℕ, suc, ◌+◌, ◌-◌, ◌<◌, ◌≤◌, List, [], ◌∷◌, ◌++◌, length, take, Option, None, Some, refl, sym, ap, ap₂, ◌∙◌, arith, length-append}
-use Rattle.std.specs.Prelude.{option_map}
+use Rattle.std.proofs.Common.{◌≡◌, ℕ, suc, ◌+◌, ◌-◌, ◌<◌, ◌≤◌, List, [], ◌∷◌, ◌++◌, length, take, Option, None, Some, refl, sym, ap, ap₂, ◌∙◌, arith, length-append, option_map}
 use Rattle.std.specs.List.{AllByRecursion}
-use Rattle.rdf_values.specs.Bookings.{Pass}
-use Rattle.rdf_values.specs.declared.fault.EntryFault.{EntryFault}
-use Rattle.rdf_values.specs.declared.fault.Fault.{Fault}
-use Rattle.rdf_values.specs.declared.value.Value.{Value}
-use Rattle.rdf_model.specs.Results.{Dataset, fault_at, fault_or, first_fault, first_fault_from, first_fault_in}
+use Rattle.rdf_values.specs.{EntryFault, Fault, Pass, Value}
+use Rattle.rdf_model.specs.{Dataset, fault_at, fault_or, first_fault, first_fault_from, first_fault_in}
 use Rattle.rdf_model.specs.Results as rows
-use Rattle.chain_files.specs.declared.chain_fault.ChainFault.{ChainFault}
+use Rattle.chain_files.specs.{ChainFault}
 use Rattle.shard_runs.proofs.Rows.{fault_within}
-use Rattle.chain_runs.specs.Chains.{Chain, all_rows, fault_from, first_of, in_file, with_rows}
-use Rattle.chain_runs.specs.Laws.{FaultIsOfTheRows, in_rows}
+use Rattle.chain_runs.specs.{all_rows, Chain, fault_from, FaultIsOfTheRows, first_of, in_file, in_rows, with_rows}
 
 -- ---- the rows of a table don't change the fault of a row
 

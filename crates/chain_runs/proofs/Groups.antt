@@ -1,29 +1,19 @@
 -- Parts over some files each of one chain, named in any order.
-use Rattle.std.proofs.Common.{◌≡◌, ℕ, zero, suc, ◌+◌, ◌-◌, ◌<◌, ◌≤◌, Bool, true, false, not, ◌&&◌, List, [], ◌∷◌, length, map, drop, take, fold, None, refl, sym, ap, ap₂, ◌∙◌, subst, arith, if◌then◌else◌}
-use Rattle.std.specs.Prelude.{⊤, slice_range}
+use Rattle.std.proofs.Common.{◌≡◌, ℕ, zero, suc, ◌+◌, ◌-◌, ◌<◌, ◌≤◌, Bool, true, false, not, ◌&&◌, List, [], ◌∷◌, length, map, drop, take, fold, None, refl, sym, ap, ap₂, ◌∙◌, subst, arith, if◌then◌else◌, slice_range}
+use Rattle.std.specs.Prelude.{⊤}
 use Rattle.std.specs.List.{AllByRecursion}
 use Rattle.std.proofs.lemmas.List.Elements.{All-from_recursion, recursion_from_All}
-use Rattle.lemmas.proofs.Parts.{range_length}
-use Rattle.rdf_values.specs.Bookings.{Pass}
-use Rattle.rdf_values.specs.declared.script.Script.{Script}
-use Rattle.rdf_values.specs.declared.span.Span.{Span}
-use Rattle.rdf_values.specs.declared.value.ColType.{ColType}
-use Rattle.rdf_values.specs.declared.value.Value.{Value}
+use Rattle.lemmas.proofs.{range_length}
+use Rattle.rdf_values.specs.{ColType, Pass, Script, Span, Value}
 use Rattle.rdf_model.proofs.Accepted.{itself}
 use Rattle.loop_pieces.proofs.Places.{ranges_join}
-use Rattle.shard_lines.specs.declared.pass_shape.PassShape.{PassShape}
-use Rattle.shard_spans.specs.Laws.{pass_shapes}
-use Rattle.shard_spans.specs.Spans.{loops_of}
-use Rattle.shard_runs.specs.Laws.{IsChecked, script_shapes}
+use Rattle.shard_lines.specs.{PassShape}
+use Rattle.shard_spans.specs.{loops_of, pass_shapes}
+use Rattle.shard_runs.specs.{IsChecked, script_shapes}
 use Rattle.shard_runs.proofs.Merged.{columns_itself, none_at}
-use Rattle.chain_files.specs.Covering.{AreNext, end_file_of, first_uncovered, in_order, not_behind, placed}
-use Rattle.chain_files.specs.Digests.{digest_of}
-use Rattle.chain_files.specs.Joining.{are_loops, joined_part, joined_parts}
-use Rattle.chain_files.specs.Parts.{PartView}
-use Rattle.chain_files.specs.Refusing.{first_differing, is_of}
+use Rattle.chain_files.specs.{are_loops, AreNext, digest_of, end_file_of, first_differing, first_uncovered, in_order, is_of, joined_part, joined_parts, not_behind, PartView, placed}
 use Rattle.chain_files.proofs.Covered.{covered_are_next}
-use Rattle.chain_runs.specs.Chains.{Chain, all_rows, chain_part, one_table, part_over, tables_in, with_rows}
-use Rattle.chain_runs.specs.Laws.{AreChecked, AreFiles, OnlyFilesAreRefused, PartsJoinToOneRun}
+use Rattle.chain_runs.specs.{all_rows, AreChecked, AreFiles, Chain, chain_part, one_table, OnlyFilesAreRefused, part_over, PartsJoinToOneRun, tables_in, with_rows}
 use Rattle.chain_runs.proofs.Joining.{chains_join}
 use Rattle.chain_runs.proofs.Shapes.{chains_have_shapes, same_shapes}
 

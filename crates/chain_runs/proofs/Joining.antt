@@ -1,23 +1,14 @@
 -- The parts of chains that follow each other join to the part of all their tables.
 use Rattle.std.proofs.Common.{◌≡◌, ℕ, ◌+◌, List, [], ◌∷◌, ◌++◌, length, map, Option, None, Some, refl, sym, ap, ap₂, ◌∙◌, arith, length-append}
 use Rattle.std.proofs.lemmas.Grind.{flat_map-append}
-use Rattle.rdf_values.specs.Bookings.{Pass}
-use Rattle.rdf_values.specs.declared.value.ColType.{ColType}
-use Rattle.rdf_values.specs.declared.value.Value.{Value}
-use Rattle.rdf_model.specs.Results.{Dataset}
+use Rattle.rdf_values.specs.{ColType, Pass, Value}
+use Rattle.rdf_model.specs.{Dataset}
 use Rattle.loop_pieces.proofs.Places.{range_whole}
-use Rattle.shard_lines.specs.Joining.{joined_lines}
-use Rattle.shard_lines.specs.declared.pass_shape.PassShape.{PassShape}
-use Rattle.shard_lines.specs.declared.shard_line.ShardLine.{ShardLine}
-use Rattle.shard_spans.specs.Laws.{pass_shapes}
-use Rattle.shard_spans.specs.Spans.{loops_of, pass_line}
+use Rattle.shard_lines.specs.{joined_lines, PassShape, ShardLine}
+use Rattle.shard_spans.specs.{loops_of, pass_line, pass_shapes}
 use Rattle.shard_spans.proofs.LinesOfBoth.{line_of_both}
-use Rattle.chain_files.specs.Digests.{digest_of}
-use Rattle.chain_files.specs.Joining.{joined_loop, joined_loops, up_to_fault}
-use Rattle.chain_files.specs.declared.chain_fault.ChainFault.{ChainFault}
-use Rattle.chain_files.specs.declared.part_loop.PartLoop.{PartLoop}
-use Rattle.chain_runs.specs.Chains.{Chain, all_rows, chain_fault, chain_loop, chain_loops, chain_part, fault_or_lines, first_of, one_table, with_rows}
-use Rattle.chain_runs.specs.Laws.{AllFilesAreTheChain, ChainsJoin, LoopsJoin}
+use Rattle.chain_files.specs.{ChainFault, digest_of, joined_loop, joined_loops, PartLoop, up_to_fault}
+use Rattle.chain_runs.specs.{all_rows, AllFilesAreTheChain, Chain, chain_fault, chain_loop, chain_loops, chain_part, ChainsJoin, fault_or_lines, first_of, LoopsJoin, one_table, with_rows}
 use Rattle.chain_runs.proofs.Faults.{faults_split}
 
 rows_of_both : (ts us : List (List (List Value))) → all_rows (ts ++ us) ≡ all_rows ts ++ all_rows us

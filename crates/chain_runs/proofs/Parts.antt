@@ -1,74 +1,58 @@
 -- What a run over a chain finds is a part.
-use Rattle.std.proofs.Common.{◌≡◌, ℕ, ◌+◌, ◌-◌, ◌*◌, ◌<◌, ◌≤◌, List, [], ◌∷◌, ◌++◌, length, map, Option, None, Some, refl, ap, ◌∙◌, arith, length-append}
-use Rattle.std.specs.Prelude.{flat_map}
+use Rattle.std.proofs.Common.{◌≡◌, ℕ, ◌+◌, ◌-◌, ◌*◌, ◌<◌, ◌≤◌, List, [], ◌∷◌, ◌++◌, length, map, Option, None, Some, refl, ap, ◌∙◌, arith, length-append, flat_map}
 use Rattle.std.specs.List.{AllByRecursion}
 use Rattle.std.proofs.lemmas.Grind.{flat_map-append}
 use Rattle.std.proofs.lemmas.List.{length-map}
 use Rattle.std.proofs.lemmas.List.Elements.{recursion_from_All}
 use Rattle.std.proofs.lemmas.List.Sums.{count_by-le-length}
-use Rattle.rdf_values.specs.Bookings.{ActionAt, Booking, Pass, ReportOn}
-use Rattle.rdf_values.specs.Fold.{scalar_of}
-use Rattle.rdf_values.specs.Path.{Path, Under}
-use Rattle.rdf_values.specs.Tables.{FitRows}
-use Rattle.rdf_values.specs.declared.action.ActionKind.{ActionKind}
-use Rattle.rdf_values.specs.declared.action.ActionKind.TheVariants as kind
-use Rattle.rdf_values.specs.declared.item.Item.{Item}
-use Rattle.rdf_values.specs.declared.script.Script.{Script}
-use Rattle.rdf_values.specs.declared.value.Value.{Value}
-use Rattle.rdf_values.specs.declared.value.Value.TheVariants as val
-use Rattle.rdf_model.specs.EntryOutcomes.{Entry, Feed, Skip, action_outcome}
-use Rattle.rdf_model.specs.Evaluation.{Faults, Gives, Needs, Outcome}
-use Rattle.rdf_model.specs.Results.{Dataset, cutflow, items_fed, items_of, passes_filters}
-use Rattle.loop_pieces.specs.Whole.{counts_of}
-use Rattle.shard_lines.specs.Lines.{EachFits, FitLines, FitsCount, FitsLine}
-use Rattle.shard_spans.specs.Spans.{booking_line, loops_of, pass_line}
-use Rattle.shard_runs.specs.Kinds.{booking_kind}
-use Rattle.shard_runs.specs.Laws.{IsChecked}
+use Rattle.rdf_values.specs.{ActionAt, ActionKind, Booking, FitRows, Item, Pass, Path, ReportOn, scalar_of, Script, Under, Value}
+use Rattle.rdf_model.specs.{action_outcome, cutflow, Dataset, Entry, Faults, Feed, Gives, items_fed, items_of, Needs, Outcome, passes_filters, Skip}
+use Rattle.loop_pieces.specs.{counts_of}
+use Rattle.shard_lines.specs.{EachFits, FitLines, FitsCount, FitsLine}
+use Rattle.shard_spans.specs.{booking_line, loops_of, pass_line}
+use Rattle.shard_runs.specs.{booking_kind, IsChecked}
 use Rattle.shard_runs.proofs.Lines.{AreFew, AreWide, items_line}
 use Rattle.shard_runs.proofs.Rows.{rows_both}
 use Rattle.shard_runs.proofs.Runs.{ArePasses, all_passes, fed}
 use Rattle.shard_runs.proofs.Takes.{FeedsWell}
 use Rattle.chain_files.proofs.HexDigits.{are_digits}
 use Rattle.chain_files.proofs.OnePart.{a_text_breaks_nowhere, a_text_is_of_one_part}
-use Rattle.chain_files.specs.Joining.{up_to_fault}
-use Rattle.chain_files.specs.Parts.{FitLoops, IsPart, part_limits}
-use Rattle.chain_files.specs.declared.chain_fault.ChainFault.{ChainFault}
-use Rattle.chain_runs.specs.Chains.{Chain, all_rows, chain_fault, chain_loops, chain_part, fault_or_lines, one_table, with_rows}
-use Rattle.chain_runs.specs.Laws.{ChainsArePart, WrittenPartsReadBack}
+use Rattle.chain_files.specs.{ChainFault, FitLoops, IsPart, part_limits, up_to_fault}
+use Rattle.chain_runs.specs.{all_rows, Chain, chain_fault, chain_loops, chain_part, ChainsArePart, fault_or_lines, one_table, with_rows, WrittenPartsReadBack}
 use Rattle.chain_runs.proofs.Faults.{fault_is_in}
 
 -- ---- one row of a Count or a Take
 
-one_count : (o : Outcome ⊥ Entry) → length (items_fed kind.Count o) ≤ 1
+one_count : (o : Outcome ⊥ Entry) → length (items_fed ActionKind.Count o) ≤ 1
 one_count (Gives (Feed vs)) = omega arith
 one_count (Gives Skip) = omega arith
 one_count (Faults fault) = omega arith
 one_count (Needs m) = omega arith
 
-one_value : (c : List ℕ) (o : Outcome ⊥ Entry) → length (flat_map scalar_of (items_fed (kind.Take c) o)) ≤ 1
+one_value : (c : List ℕ) (o : Outcome ⊥ Entry) → length (flat_map scalar_of (items_fed (ActionKind.Take c) o)) ≤ 1
 one_value c (Gives (Feed [])) = omega arith
-one_value c (Gives (Feed (val.Int z ∷ vs))) = omega arith
-one_value c (Gives (Feed (val.Bool b ∷ vs))) = omega arith
-one_value c (Gives (Feed (val.Vect zs ∷ vs))) = omega arith
+one_value c (Gives (Feed (Value.Int z ∷ vs))) = omega arith
+one_value c (Gives (Feed (Value.Bool b ∷ vs))) = omega arith
+one_value c (Gives (Feed (Value.Vect zs ∷ vs))) = omega arith
 one_value c (Gives Skip) = omega arith
 one_value c (Faults fault) = omega arith
 one_value c (Needs m) = omega arith
 
 module _ (d : Dataset) where
-  counts_few : (at : Path) (u : Under) (rows : List (List Value)) → length (flat_map (items_of d kind.Count at u) rows) ≤ length rows
+  counts_few : (at : Path) (u : Under) (rows : List (List Value)) → length (flat_map (items_of d ActionKind.Count at u) rows) ≤ length rows
   counts_few at u [] = omega arith
   counts_few at u (row ∷ rows) =
-      let one = one_count (action_outcome d.fns d.columns row kind.Count at u) in
+      let one = one_count (action_outcome d.fns d.columns row ActionKind.Count at u) in
       let rest = counts_few at u rows in
-      let long = length-append (items_of d kind.Count at u row) (flat_map (items_of d kind.Count at u) rows) in
+      let long = length-append (items_of d ActionKind.Count at u row) (flat_map (items_of d ActionKind.Count at u) rows) in
       omega arith
 
-  values_few : (c : List ℕ) (at : Path) (u : Under) (rows : List (List Value)) → length (flat_map scalar_of (flat_map (items_of d (kind.Take c) at u) rows)) ≤ length rows
+  values_few : (c : List ℕ) (at : Path) (u : Under) (rows : List (List Value)) → length (flat_map scalar_of (flat_map (items_of d (ActionKind.Take c) at u) rows)) ≤ length rows
   values_few c at u [] = omega arith
   values_few c at u (row ∷ rows) =
-      let first : List Item = items_of d (kind.Take c) at u row in
-      let others : List Item = flat_map (items_of d (kind.Take c) at u) rows in
-      let one = one_value c (action_outcome d.fns d.columns row (kind.Take c) at u) in
+      let first : List Item = items_of d (ActionKind.Take c) at u row in
+      let others : List Item = flat_map (items_of d (ActionKind.Take c) at u) rows in
+      let one = one_value c (action_outcome d.fns d.columns row (ActionKind.Take c) at u) in
       let rest = values_few c at u rows in
       let both : length (flat_map scalar_of (first ++ others)) ≡ length (flat_map scalar_of first) + length (flat_map scalar_of others)
       = ap length (flat_map-append scalar_of first others) ∙ length-append (flat_map scalar_of first) (flat_map scalar_of others) in
@@ -80,8 +64,8 @@ module _ (d : Dataset) where
   wide n = record { sum = omega arith; cell_sum = omega arith; cell_squares = omega arith }
 
   are_few : (k : ActionKind) (at : Path) (u : Under) (rows : List (List Value)) → AreFew (part_limits (length rows)) k (flat_map (items_of d k at u) rows)
-  are_few kind.Count at u rows = counts_few at u rows
-  are_few (kind.Take c) at u rows = values_few c at u rows
+  are_few ActionKind.Count at u rows = counts_few at u rows
+  are_few (ActionKind.Take c) at u rows = values_few c at u rows
   are_few k at u rows = tt
 
   module _ (rows : List (List Value)) (fit : FitRows d.columns rows) where

@@ -3,23 +3,15 @@ use Rattle.std.proofs.Common.{◌≡◌, ℕ, ◌<◌, true, ◌&&◌, List, [],
 use Rattle.std.specs.List.{AllByRecursion}
 use Rattle.std.proofs.lemmas.List.{length-map}
 use Rattle.std.proofs.lemmas.List.Elements.{recursion_from_All}
-use Rattle.lemmas.proofs.Orders.{lt_true}
-use Rattle.rdf_values.specs.Bookings.{ActionAt, Booking, Pass, ReportOn}
-use Rattle.rdf_values.specs.declared.script.Script.{Script}
-use Rattle.rdf_values.specs.declared.value.ColType.{ColType}
-use Rattle.rdf_values.specs.declared.value.Value.{Value}
-use Rattle.shard_lines.specs.Shapes.{booking_shape}
-use Rattle.shard_lines.specs.declared.pass_shape.PassShape.{PassShape}
-use Rattle.shard_spans.specs.Laws.{pass_shapes}
-use Rattle.shard_spans.specs.Spans.{loops_of, pass_line}
-use Rattle.shard_runs.specs.Kinds.{booking_kind, pass_kind}
-use Rattle.shard_runs.specs.Laws.{IsChecked, script_shapes}
+use Rattle.lemmas.proofs.{lt_true}
+use Rattle.rdf_values.specs.{ActionAt, Booking, ColType, Pass, ReportOn, Script, Value}
+use Rattle.shard_lines.specs.{booking_shape, PassShape}
+use Rattle.shard_spans.specs.{loops_of, pass_line, pass_shapes}
+use Rattle.shard_runs.specs.{booking_kind, IsChecked, pass_kind, script_shapes}
 use Rattle.shard_runs.proofs.Runs.{ArePasses, all_passes}
 use Rattle.shard_runs.proofs.Shapes.{lines_shaped}
-use Rattle.chain_files.specs.Joining.{are_loops, up_to_fault}
-use Rattle.chain_files.specs.declared.chain_fault.ChainFault.{ChainFault}
-use Rattle.chain_runs.specs.Chains.{Chain, all_rows, chain_fault, chain_loops, fault_or_lines, one_table, with_rows}
-use Rattle.chain_runs.specs.Laws.{ChainsHaveShapes}
+use Rattle.chain_files.specs.{are_loops, ChainFault, up_to_fault}
+use Rattle.chain_runs.specs.{all_rows, Chain, chain_fault, chain_loops, ChainsHaveShapes, fault_or_lines, one_table, with_rows}
 use Rattle.chain_runs.proofs.Faults.{fault_is_in}
 use Rattle.chain_runs.proofs.Parts.{each_few, rows_fit}
 

@@ -1,20 +1,10 @@
 -- What a run over a chain of tables finds.
 use Rattle.std.specs.Prelude.{ℕ, ◌+◌, List, [], ◌∷◌, flat_map, length, map, Option, Some, None, option_map, slice_range}
-use Rattle.rdf_values.specs.Bookings.{Pass}
-use Rattle.rdf_values.specs.Functions.{Function}
-use Rattle.rdf_values.specs.declared.column.Column.{Column}
-use Rattle.rdf_values.specs.declared.fault.Fault.{Fault}
-use Rattle.rdf_values.specs.declared.script.Script.{Script}
-use Rattle.rdf_values.specs.declared.span.Span.{Span}
-use Rattle.rdf_values.specs.declared.value.Value.{Value}
-use Rattle.rdf_model.specs.Results.{Dataset, first_fault}
-use Rattle.shard_lines.specs.declared.shard_line.ShardLine.{ShardLine}
-use Rattle.shard_spans.specs.Spans.{loops_of, pass_line}
-use Rattle.chain_files.specs.Digests.{digest_of}
-use Rattle.chain_files.specs.Joining.{up_to_fault}
-use Rattle.chain_files.specs.Parts.{PartView}
-use Rattle.chain_files.specs.declared.chain_fault.ChainFault.{ChainFault}
-use Rattle.chain_files.specs.declared.part_loop.PartLoop.{PartLoop}
+use Rattle.rdf_values.specs.{Column, Fault, Function, Pass, Script, Span, Value}
+use Rattle.rdf_model.specs.{Dataset, first_fault}
+use Rattle.shard_lines.specs.{ShardLine}
+use Rattle.shard_spans.specs.{loops_of, pass_line}
+use Rattle.chain_files.specs.{ChainFault, digest_of, PartLoop, PartView, up_to_fault}
 use Rattle.chain_files.specs.declared.part_loop.PartLoop.TheVariants.{Whole, Faulted}
 
 -- ---- chains

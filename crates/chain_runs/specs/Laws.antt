@@ -1,21 +1,10 @@
 -- Laws of chains. Each is the contract of a function of this crate, and so proved.
 use Rattle.std.specs.Prelude.{◌≡◌, ◌≤◌, ◌<◌, ◌+◌, ◌-◌, ◌++◌, ℕ, true, All, List, ◌∷◌, None, length, map, option_map, take}
-use Rattle.rdf_values.specs.Bookings.{Pass}
-use Rattle.rdf_values.specs.declared.fault.Fault.{Fault}
-use Rattle.rdf_values.specs.declared.script.Script.{Script}
-use Rattle.rdf_values.specs.declared.span.Span.{Span}
-use Rattle.rdf_values.specs.declared.value.ColType.{ColType}
-use Rattle.rdf_values.specs.declared.value.Value.{Value}
-use Rattle.rdf_model.specs.Results.{first_fault}
-use Rattle.shard_spans.specs.Laws.{pass_shapes}
-use Rattle.shard_spans.specs.Spans.{loops_of}
-use Rattle.shard_runs.specs.Laws.{IsChecked, script_shapes}
-use Rattle.chain_files.specs.Covering.{end_file_of, first_uncovered, in_order}
-use Rattle.chain_files.specs.Digests.{digest_of}
-use Rattle.chain_files.specs.Joining.{are_loops, joined_loop, joined_part, joined_parts}
-use Rattle.chain_files.specs.Parts.{BreaksAt, IsPart, IsPartText, PartView, part_text}
-use Rattle.chain_files.specs.Refusing.{first_differing, first_misshapen}
-use Rattle.chain_files.specs.declared.chain_fault.ChainFault.{ChainFault}
+use Rattle.rdf_values.specs.{ColType, Fault, Pass, Script, Span, Value}
+use Rattle.rdf_model.specs.{first_fault}
+use Rattle.shard_spans.specs.{loops_of, pass_shapes}
+use Rattle.shard_runs.specs.{IsChecked, script_shapes}
+use Rattle.chain_files.specs.{are_loops, BreaksAt, ChainFault, digest_of, end_file_of, first_differing, first_misshapen, first_uncovered, in_order, IsPart, IsPartText, joined_loop, joined_part, joined_parts, part_text, PartView}
 use Rattle.chain_runs.specs.Chains.{Chain, all_rows, chain_fault, chain_loop, chain_part, one_table, part_over, with_rows}
 
 -- ---- faults

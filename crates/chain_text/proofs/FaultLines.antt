@@ -1,13 +1,11 @@
 -- The line of a fault with its file, from the line without.
-use Rattle.std.proofs.Common.{◌≡◌, ◌-◌, ◌++◌, ℕ, List, [], ◌∷◌, length, drop, take, sym, ap, ◌∙◌, append_assoc, codes, decimal}
-use Rattle.std.specs.Prelude.{slice_get}
+use Rattle.std.proofs.Common.{◌≡◌, ◌-◌, ◌++◌, ℕ, List, [], ◌∷◌, length, drop, take, sym, ap, ◌∙◌, append_assoc, codes, decimal, slice_get}
 use Rattle.std.proofs.Math.Seq.{take-length}
 use Rattle.std.proofs.lemmas.List.{length-drop}
-use Rattle.rdf_values.specs.Bookings.{Pass}
-use Rattle.rdf_values.specs.declared.fault.Fault.{Fault}
-use Rattle.rdf_model.specs.ResultLines.{fault_line, fault_name, pass_label}
-use Rattle.chain_files.specs.declared.chain_fault.ChainFault.{ChainFault}
-use Rattle.chain_text.specs.ChainPrints.{chain_fault_line}
+use Rattle.rdf_values.specs.{Fault, Pass}
+use Rattle.rdf_model.specs.{fault_line, fault_name, pass_label}
+use Rattle.chain_files.specs.{ChainFault}
+use Rattle.chain_text.specs.{chain_fault_line}
 
 -- the fault in its table
 abbrev pub in_table : ChainFault → Fault

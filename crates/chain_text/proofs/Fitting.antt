@@ -1,30 +1,20 @@
 -- Loops with the shapes of a graph's passes fit the graph.
-use Rattle.std.proofs.Common.{◌≡◌, ℕ, zero, suc, ◌<◌, ◌≤◌, Bool, true, false, ◌&&◌, List, [], ◌∷◌, length, map, Option, None, Some, refl, sym, ap, ◌∙◌, arith}
-use Rattle.std.specs.Prelude.{nat_lt, option_map, slice_get, unwrap_or}
+use Rattle.std.proofs.Common.{◌≡◌, ℕ, zero, suc, ◌<◌, ◌≤◌, Bool, true, false, ◌&&◌, List, [], ◌∷◌, length, map, Option, None, Some, refl, sym, ap, ◌∙◌, arith, nat_lt, option_map, slice_get, unwrap_or}
 use Rattle.std.proofs.lemmas.Bool.Decides.{nat_tests}
 use Rattle.std.proofs.lemmas.List.{length-map}
 use Rattle.std.proofs.lemmas.Option.{same_Some, slice_get-map}
-use Rattle.lemmas.proofs.Booleans.{and_right}
-use Rattle.lemmas.proofs.Orders.{lt_says}
-use Rattle.rdf_values.specs.Bookings.{Booked, Pass}
-use Rattle.rdf_values.specs.Path.{history}
-use Rattle.rdf_values.specs.declared.value.ColType.{ColType}
-use Rattle.rdf_model.specs.Loops.{loop_passes, loop_results}
-use Rattle.graph_numbers.specs.Graphs.{GraphView, graph_loops}
-use Rattle.graph_numbers.specs.Results.{pass_at}
+use Rattle.lemmas.proofs.{and_right, lt_says}
+use Rattle.rdf_values.specs.{Booked, ColType, history, Pass}
+use Rattle.rdf_model.specs.{loop_passes, loop_results}
+use Rattle.graph_numbers.specs.{graph_loops, GraphView, pass_at}
 use Rattle.graph_numbers.proofs.Extending.{itself}
 use Rattle.graph_numbers.proofs.Looping.{loops_are}
-use Rattle.result_text.specs.FilledLines.{passes_at}
-use Rattle.shard_lines.specs.Shapes.{booking_shape, have_shapes}
-use Rattle.shard_lines.specs.declared.pass_shape.PassShape.{PassShape}
-use Rattle.shard_spans.specs.Laws.{pass_shapes}
-use Rattle.shard_spans.specs.Spans.{loops_of}
-use Rattle.chain_files.specs.Joining.{are_loops}
-use Rattle.chain_files.specs.Parts.{FitLoops}
-use Rattle.chain_files.specs.declared.chain_fault.ChainFault.{ChainFault}
-use Rattle.chain_files.specs.declared.part_loop.PartLoop.{PartLoop}
+use Rattle.result_text.specs.{passes_at}
+use Rattle.shard_lines.specs.{booking_shape, have_shapes, PassShape}
+use Rattle.shard_spans.specs.{loops_of, pass_shapes}
+use Rattle.chain_files.specs.{are_loops, ChainFault, FitLoops, PartLoop}
 use Rattle.chain_files.specs.declared.part_loop.PartLoop.TheVariants.{Whole, Faulted}
-use Rattle.chain_text.specs.Laws.{ShapedLoopsFit}
+use Rattle.chain_text.specs.{ShapedLoopsFit}
 
 module _ (column : Pass → ColType) (first end n : ℕ) where
   few_loops : (L : List (List Pass)) (loops : List PartLoop) → are_loops (map (pass_shapes column) L) loops ≡ true → FitLoops first end n loops → length loops ≤ length L

@@ -1,19 +1,16 @@
 -- The Prints in order, and what each gives.
-use Rattle.std.proofs.Common.{◌≡◌, ℕ, ◌+◌, ◌≤◌, List, [], ◌++◌, length, drop, Option, Some, sym, ap, ◌∙◌, append_assoc, append-nil}
-use Rattle.std.specs.Prelude.{option_map, slice_get}
+use Rattle.std.proofs.Common.{◌≡◌, ℕ, ◌+◌, ◌≤◌, List, [], ◌++◌, length, drop, Option, Some, sym, ap, ◌∙◌, append_assoc, append-nil, option_map, slice_get}
 use Rattle.std.proofs.lemmas.Option.{same_Some}
-use Rattle.lemmas.proofs.Parts.{none_left}
-use Rattle.rdf_model.specs.Loops.{Access, accesses, loop_of}
-use Rattle.rdf_model.specs.Transcript.{Printed, in_front_of}
-use Rattle.graph_numbers.specs.Graphs.{GraphView, booked_statements}
-use Rattle.result_text.specs.FilledLines.{passes_at}
+use Rattle.lemmas.proofs.{none_left}
+use Rattle.rdf_model.specs.{Access, accesses, in_front_of, loop_of, Printed}
+use Rattle.graph_numbers.specs.{booked_statements, GraphView}
+use Rattle.result_text.specs.{passes_at}
 use Rattle.result_text.proofs.Lists.{one_left}
-use Rattle.shard_lines.specs.declared.shard_line.ShardLine.{ShardLine}
-use Rattle.merged_text.specs.MergedPrints.{lines_of_result}
-use Rattle.chain_files.specs.declared.chain_fault.ChainFault.{ChainFault}
-use Rattle.chain_files.specs.declared.part_loop.PartLoop.{PartLoop}
+use Rattle.shard_lines.specs.{ShardLine}
+use Rattle.merged_text.specs.{lines_of_result}
+use Rattle.chain_files.specs.{ChainFault, PartLoop}
 use Rattle.chain_files.specs.declared.part_loop.PartLoop.TheVariants.{Whole, Faulted}
-use Rattle.chain_text.specs.ChainPrints.{access_printed, chain_fault_line, loop_printed, prints_text}
+use Rattle.chain_text.specs.{access_printed, chain_fault_line, loop_printed, prints_text}
 
 in_front-twice : (a b : List ℕ) (p : Printed) → in_front_of a (in_front_of b p) ≡ in_front_of (a ++ b) p
 in_front-twice a b p = ap (λ l. record { bytes = l; status = p.status }) (sym (append_assoc a b p.bytes))

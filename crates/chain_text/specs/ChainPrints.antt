@@ -1,15 +1,11 @@
 -- What the loops of a part print.
 use Rattle.std.specs.Prelude.{◌≡◌, ◌≤◌, ◌<◌, ◌++◌, ℕ, List, [], ◌∷◌, length, Option, Some, None, codes, decimal, slice_get}
-use Rattle.rdf_values.specs.Bookings.{Pass}
-use Rattle.rdf_values.specs.RefusalLines.{line}
-use Rattle.rdf_model.specs.Loops.{Access, accesses, loop_of}
-use Rattle.rdf_model.specs.ResultLines.{fault_name, pass_label}
-use Rattle.rdf_model.specs.Transcript.{Printed, in_front_of}
-use Rattle.graph_numbers.specs.Graphs.{GraphView, booked_statements, graph_loops}
-use Rattle.result_text.specs.FilledLines.{passes_at}
-use Rattle.merged_text.specs.MergedPrints.{lines_of_result}
-use Rattle.chain_files.specs.declared.chain_fault.ChainFault.{ChainFault}
-use Rattle.chain_files.specs.declared.part_loop.PartLoop.{PartLoop}
+use Rattle.rdf_values.specs.{line, Pass}
+use Rattle.rdf_model.specs.{Access, accesses, fault_name, in_front_of, loop_of, pass_label, Printed}
+use Rattle.graph_numbers.specs.{booked_statements, graph_loops, GraphView}
+use Rattle.result_text.specs.{passes_at}
+use Rattle.merged_text.specs.{lines_of_result}
+use Rattle.chain_files.specs.{ChainFault, PartLoop}
 use Rattle.chain_files.specs.declared.part_loop.PartLoop.TheVariants.{Whole, Faulted}
 
 -- the line of a fault in one of the passes, with its file

@@ -1,12 +1,9 @@
 -- A law of what is printed. It is the contract of a function of this crate, and so proved.
 use Rattle.std.specs.Prelude.{◌≡◌, true, map}
-use Rattle.rdf_values.specs.Bookings.{Pass}
-use Rattle.rdf_values.specs.declared.value.ColType.{ColType}
-use Rattle.graph_numbers.specs.Graphs.{GraphView}
-use Rattle.shard_spans.specs.Laws.{pass_shapes}
-use Rattle.shard_spans.specs.Spans.{loops_of}
-use Rattle.chain_files.specs.Joining.{are_loops}
-use Rattle.chain_files.specs.Parts.{IsPart, PartView}
+use Rattle.rdf_values.specs.{ColType, Pass}
+use Rattle.graph_numbers.specs.{GraphView}
+use Rattle.shard_spans.specs.{loops_of, pass_shapes}
+use Rattle.chain_files.specs.{are_loops, IsPart, PartView}
 use Rattle.chain_text.specs.ChainPrints.{FitGraph}
 
 -- the loops of a part that have the shapes of a graph's passes can be printed for the graph

@@ -1,11 +1,9 @@
 // The Prints of a script, in order, over the loops of a part.
 ghost use Rattle.std.specs.Prelude.{◌≡◌, ◌<◌, ◌++◌, ℕ, List, IfOk, OnOk, Ok, Some, false, if◌then◌else◌, length, slice_get, true};
-ghost use Rattle.graph_numbers.specs.Graphs.{booked_statements, graph_loops, graph_prints};
-ghost use Rattle.graph_numbers.specs.declared.pass.Pass.{Pass};
-ghost use Rattle.rdf_model.specs.Loops.{Access, accesses};
-ghost use Rattle.rdf_model.specs.Transcript.{Printed, in_front_of};
-ghost use Rattle.result_text.specs.FilledLines.{passes_at};
-ghost use Rattle.chain_text.specs.ChainPrints.{FitGraph, access_printed, chain_fault_line, chain_text};
+ghost use Rattle.graph_numbers.specs.{booked_statements, graph_loops, graph_prints, Pass};
+ghost use Rattle.rdf_model.specs.{Access, accesses, in_front_of, Printed};
+ghost use Rattle.result_text.specs.{passes_at};
+ghost use Rattle.chain_text.specs.{access_printed, chain_fault_line, chain_text, FitGraph};
 
 use chain_files::{ChainFault, PartLoop};
 use graph::Graph;

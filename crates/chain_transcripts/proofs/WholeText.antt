@@ -1,45 +1,33 @@
 -- What the loops of a chain print, beside what those of one table with all its rows print.
-use Rattle.std.proofs.Common.{◌≡◌, ◌⊎◌, inl, inr, ℕ, List, [], ◌∷◌, ◌++◌, length, map, Option, None, Some, refl, sym, ap, ap₂, ◌∙◌, subst, append_assoc, append-nil}
-use Rattle.std.specs.Prelude.{option_map, slice_get}
+use Rattle.std.proofs.Common.{◌≡◌, ◌⊎◌, inl, inr, ℕ, List, [], ◌∷◌, ◌++◌, length, map, Option, None, Some, refl, sym, ap, ap₂, ◌∙◌, subst, append_assoc, append-nil, option_map, slice_get}
 use Rattle.std.proofs.lemmas.Option.{slice_get-map}
-use Rattle.rdf_values.specs.Bookings.{Pass}
-use Rattle.rdf_values.specs.Cuts.{Lead, cut}
-use Rattle.rdf_values.specs.declared.span.Span.{Span}
+use Rattle.rdf_values.specs.{cut, Lead, Pass, Span}
 use Rattle.rdf_values.proofs.Leading.{cuts_lead}
-use Rattle.rdf_model.specs.Loops.{Access, accesses, loop_of}
-use Rattle.rdf_model.specs.ResultLines.{fault_line}
-use Rattle.rdf_model.specs.Results.{Dataset, first_fault}
-use Rattle.rdf_model.specs.Transcript.{Printed, in_front_of, transcript}
-use Rattle.graph_numbers.specs.Graphs.{GraphView, booked_statements}
-use Rattle.graph_numbers.specs.Laws.{graph_of}
-use Rattle.result_text.specs.FilledLines.{passes_at}
-use Rattle.shard_lines.specs.declared.shard_line.ShardLine.{ShardLine}
+use Rattle.rdf_model.specs.{Access, accesses, Dataset, fault_line, first_fault, in_front_of, loop_of, Printed, transcript}
+use Rattle.graph_numbers.specs.{booked_statements, graph_of, GraphView}
+use Rattle.result_text.specs.{passes_at}
+use Rattle.shard_lines.specs.{ShardLine}
 use Rattle.shard_files.specs.Merging as shard
-use Rattle.shard_files.specs.declared.shard_loop.ShardLoop.{ShardLoop}
-use Rattle.shard_files.specs.declared.shard_loop.ShardLoop.TheVariants as loop
-use Rattle.shard_spans.specs.Spans.{loops_of, pass_line, span_loops}
+use Rattle.shard_files.specs.{ShardLoop}
+use Rattle.shard_spans.specs.{loops_of, pass_line, span_loops}
 use Rattle.merged_text.specs.MergedPrints as merged
-use Rattle.merged_text.specs.MergedPrints.{lines_of_result}
+use Rattle.merged_text.specs.{lines_of_result}
 use Rattle.shard_transcripts.proofs.WholeText.{loop_is, merged_run_prints_the_transcript}
-use Rattle.chain_files.specs.Joining.{up_to_fault}
-use Rattle.chain_files.specs.Parts.{PartView}
-use Rattle.chain_files.specs.declared.chain_fault.ChainFault.{ChainFault}
-use Rattle.chain_files.specs.declared.part_loop.PartLoop.{PartLoop}
+use Rattle.chain_files.specs.{ChainFault, PartLoop, PartView, up_to_fault}
 use Rattle.chain_files.specs.declared.part_loop.PartLoop.TheVariants.{Whole, Faulted}
-use Rattle.chain_runs.specs.Chains.{Chain, all_rows, alone, chain_fault, chain_loop, chain_loops, fault_or_lines, one_table, part_over}
-use Rattle.chain_runs.specs.Laws.{in_rows}
+use Rattle.chain_runs.specs.{all_rows, alone, Chain, chain_fault, chain_loop, chain_loops, fault_or_lines, in_rows, one_table, part_over}
 use Rattle.chain_runs.proofs.Faults.{fault_is_of_the_rows}
 use Rattle.chain_runs.proofs.Groups.{parts_join_to_one_run}
 use Rattle.chain_runs.proofs.Joining.{all_files_are_the_chain}
-use Rattle.chain_text.specs.ChainPrints.{access_printed, chain_fault_line, chain_text, loop_printed, prints_text}
-use Rattle.chain_transcripts.specs.Laws.{ChainPrintsTheTranscript, DifferInPlace, OneTablePrintsTheTranscript, PartsPrintTheTranscript, PrintAs}
+use Rattle.chain_text.specs.{access_printed, chain_fault_line, chain_text, loop_printed, prints_text}
+use Rattle.chain_transcripts.specs.{ChainPrintsTheTranscript, DifferInPlace, OneTablePrintsTheTranscript, PartsPrintTheTranscript, PrintAs}
 
 module _ (c : Chain) where
   -- ---- the loops of all rows
 
   abbrev as_rows : PartLoop → ShardLoop
-  as_rows (Whole ls) = loop.Whole ls
-  as_rows (Faulted f) = loop.Faulted (in_rows c.tables 0 f)
+  as_rows (Whole ls) = ShardLoop.Whole ls
+  as_rows (Faulted f) = ShardLoop.Faulted (in_rows c.tables 0 f)
 
   one_loop : (o : Option ChainFault) (ls : List ShardLine) → as_rows (fault_or_lines o ls) ≡ shard.fault_or_lines (option_map (in_rows c.tables 0) o) ls
   one_loop None ls = refl

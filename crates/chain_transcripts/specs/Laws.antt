@@ -1,28 +1,15 @@
 -- Laws of chains and transcripts. Each is the contract of a function of this crate, and so proved.
 use Rattle.std.specs.Prelude.{◌≡◌, ◌++◌, ◌⊎◌, ℕ, All, List, ◌∷◌, None, Some, length, map, slice_get}
-use Rattle.rdf_values.specs.Bookings.{Pass}
-use Rattle.rdf_values.specs.declared.script.Script.{Script}
-use Rattle.rdf_values.specs.declared.span.Span.{Span}
-use Rattle.rdf_values.specs.declared.value.ColType.{ColType}
-use Rattle.rdf_model.specs.PartialResults.{Course}
-use Rattle.rdf_model.specs.ResultLines.{fault_line}
-use Rattle.rdf_model.specs.Results.{Dataset}
-use Rattle.rdf_model.specs.Transcript.{Printed, transcript}
-use Rattle.graph_numbers.specs.Graphs.{GraphView, IsGraph}
-use Rattle.graph_numbers.specs.Laws.{graph_of}
-use Rattle.result_text.specs.FilledLines.{passes_at}
-use Rattle.shard_spans.specs.Laws.{pass_shapes}
-use Rattle.shard_spans.specs.Spans.{loops_of}
-use Rattle.shard_transcripts.specs.Laws.{IsUnwatched}
-use Rattle.chain_files.specs.Covering.{end_file_of, first_uncovered, in_order}
-use Rattle.chain_files.specs.Joining.{joined_parts}
-use Rattle.chain_files.specs.Parts.{PartView}
-use Rattle.chain_files.specs.declared.chain_fault.ChainFault.{ChainFault}
-use Rattle.chain_files.specs.declared.part_loop.PartLoop.{PartLoop}
+use Rattle.rdf_values.specs.{ColType, Pass, Script, Span}
+use Rattle.rdf_model.specs.{Course, Dataset, fault_line, Printed, transcript}
+use Rattle.graph_numbers.specs.{graph_of, GraphView, IsGraph}
+use Rattle.result_text.specs.{passes_at}
+use Rattle.shard_spans.specs.{loops_of, pass_shapes}
+use Rattle.shard_transcripts.specs.{IsUnwatched}
+use Rattle.chain_files.specs.{ChainFault, end_file_of, first_uncovered, in_order, joined_parts, PartLoop, PartView}
 use Rattle.chain_files.specs.declared.part_loop.PartLoop.TheVariants.{Faulted}
-use Rattle.chain_runs.specs.Chains.{Chain, alone, chain_loops, one_table, part_over}
-use Rattle.chain_runs.specs.Laws.{AreFiles, in_rows}
-use Rattle.chain_text.specs.ChainPrints.{chain_fault_line, chain_text}
+use Rattle.chain_runs.specs.{alone, AreFiles, Chain, chain_loops, in_rows, one_table, part_over}
+use Rattle.chain_text.specs.{chain_fault_line, chain_text}
 
 -- both print the same up to the line of the fault of one of the loops, in which the first names its file and its entry there,
 -- and the second its entry in the rows of all tables

@@ -1,5 +1,5 @@
 // Laws of chains and transcripts. Each function does nothing; its contract is the law, and its proof the law's.
-ghost use Rattle.chain_transcripts.specs.Laws.{ChainPrintsTheTranscript, OneTablePrintsTheTranscript, PartsPrintTheTranscript};
+ghost use Rattle.chain_transcripts.specs.{ChainPrintsTheTranscript, OneTablePrintsTheTranscript, PartsPrintTheTranscript};
 
 /// The loops of a run over a chain print the transcript over the rows of all tables.
 pub fn chain_prints_the_transcript()

@@ -1,19 +1,13 @@
 -- The numbers of a command are within their limits.
-use Rattle.std.proofs.Common.{◌≡◌, ◌≤◌, ◌<◌, ℕ, ℤ, pos, negsuc, Bool, true, false, not, ◌&&◌, ◌==◌, leb, List, [], ◌∷◌, ◌++◌, length, drop, nat_lt, Option, None, Some, if◌then◌else◌, codes, refl, arith, subst}
-use Rattle.std.specs.Prelude.{unwrap_or}
+use Rattle.std.proofs.Common.{◌≡◌, ◌≤◌, ◌<◌, ℕ, ℤ, pos, negsuc, Bool, true, false, not, ◌&&◌, ◌==◌, leb, List, [], ◌∷◌, ◌++◌, length, drop, nat_lt, Option, None, Some, if◌then◌else◌, codes, refl, arith, subst, unwrap_or}
 use Rattle.std.proofs.lemmas.Bool.Decides.{nat_tests}
-use Rattle.rdf_values.specs.Integers.{integer_of}
-use Rattle.rdf_values.specs.Names.{same}
-use Rattle.command_words.specs.Asked.{within}
-use Rattle.chain_words.specs.Asked.{asked_of, command_by, command_of, has_options, is_over, join_of, map_of, map_with, print_of, print_with, run_of, settings_of}
-use Rattle.chain_words.specs.Reading.{after, any_word, awaiting, begins, cluster_by, is_plain, joined_word, named, no_words, number_in, once, option_word, slots_by, with_cluster, with_slots, word_read, words_read}
-use Rattle.chain_words.specs.declared.command.ChainCommand.{ChainCommand}
+use Rattle.rdf_values.specs.{integer_of, same}
+use Rattle.command_words.specs.{within}
+use Rattle.chain_words.specs.{after, any_word, AreSettings, AreWithinLimits, asked_of, awaiting, begins, ChainCommand, cluster_by, command_by, command_of, has_options, is_over, is_plain, join_of, joined_word, map_of, map_with, named, no_words, number_in, once, option_word, print_of, print_with, run_of, settings_of, slots_by, with_cluster, with_slots, word_read, words_read}
 use Rattle.chain_words.specs.declared.command.ChainCommand.TheVariants.{Run, Map, Join, Print}
 use Rattle.chain_words.specs.declared.command.Settings.{Settings}
 use Rattle.chain_words.specs.declared.reading.Awaits.{Awaits}
-use Rattle.chain_words.specs.declared.reading.Awaits.TheVariants as next
 use Rattle.chain_words.specs.declared.reading.Reading.{Reading}
-use Rattle.chain_words.specs.Limits.{AreSettings, AreWithinLimits}
 
 -- a number that stands in an option
 abbrev Is : ℕ → ℕ → Option ℕ → Type 0
@@ -48,11 +42,11 @@ one_fits r h = λ q e. (let same : r ≡ q = cc e in subst Fits same h)
 
 slots_fit : (r : Reading) (o : Option ℕ) → Fits r → Is 1 16 o → AllFit (with_slots r o)
 slots_fit r None h i = none_fits
-slots_fit r (Some n) h i = one_fits (record { awaits = next.Any; names = r.names; slots = Some n; cluster = r.cluster }) (i, h.1)
+slots_fit r (Some n) h i = one_fits (record { awaits = Awaits.Any; names = r.names; slots = Some n; cluster = r.cluster }) (i, h.1)
 
 cluster_fits : (r : Reading) (o : Option ℕ) → Fits r → Is 1 1000000 o → AllFit (with_cluster r o)
 cluster_fits r None h i = none_fits
-cluster_fits r (Some n) h i = one_fits (record { awaits = next.Any; names = r.names; slots = r.slots; cluster = Some n }) (h.0, i)
+cluster_fits r (Some n) h i = one_fits (record { awaits = Awaits.Any; names = r.names; slots = r.slots; cluster = Some n }) (h.0, i)
 
 once_fits : (o : Option ℕ) (r : Option Reading) → AllFit r → AllFit (once o r)
 once_fits None r h = h
@@ -69,15 +63,15 @@ joined_fits r w h =
 
 option_fits : (r : Reading) (w : List ℕ) → Fits r → AllFit (option_word r w)
 option_fits r w h =
-    by_test (same w (codes "--slots")) _ _ (once_fits r.slots (Some (awaiting next.Slots r)) (one_fits (awaiting next.Slots r) h))
-    (by_test (same w (codes "--cluster")) _ _ (once_fits r.cluster (Some (awaiting next.Cluster r)) (one_fits (awaiting next.Cluster r) h)) (joined_fits r w h))
+    by_test (same w (codes "--slots")) _ _ (once_fits r.slots (Some (awaiting Awaits.Slots r)) (one_fits (awaiting Awaits.Slots r) h))
+    (by_test (same w (codes "--cluster")) _ _ (once_fits r.cluster (Some (awaiting Awaits.Cluster r)) (one_fits (awaiting Awaits.Cluster r) h)) (joined_fits r w h))
 
 word_fits : (a : Awaits) (r : Reading) (w : List ℕ) → Fits r → AllFit (word_read a r w)
-word_fits next.Any r w h =
-    by_test (same w (codes "--")) _ _ (one_fits (awaiting next.Name r) h) (by_test (is_plain w) _ _ (one_fits (named r w) h) (option_fits r w h))
-word_fits next.Name r w h = one_fits (named r w) h
-word_fits next.Slots r w h = by_test (is_plain w) _ _ (slots_fit r (number_in 1 16 w) h (is_number 1 16 w)) none_fits
-word_fits next.Cluster r w h = by_test (is_plain w) _ _ (cluster_fits r (number_in 1 1000000 w) h (is_number 1 1000000 w)) none_fits
+word_fits Awaits.Any r w h =
+    by_test (same w (codes "--")) _ _ (one_fits (awaiting Awaits.Name r) h) (by_test (is_plain w) _ _ (one_fits (named r w) h) (option_fits r w h))
+word_fits Awaits.Name r w h = one_fits (named r w) h
+word_fits Awaits.Slots r w h = by_test (is_plain w) _ _ (slots_fit r (number_in 1 16 w) h (is_number 1 16 w)) none_fits
+word_fits Awaits.Cluster r w h = by_test (is_plain w) _ _ (cluster_fits r (number_in 1 1000000 w) h (is_number 1 1000000 w)) none_fits
 
 words_fit : (ws : List (List ℕ)) (r : Reading) → Fits r → AllFit (words_read r ws)
 words_fit [] r h = one_fits r h

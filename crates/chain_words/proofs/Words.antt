@@ -1,8 +1,6 @@
 -- Words read one after another.
 use Rattle.std.proofs.Common.{◌≡◌, ℕ, zero, suc, ◌+◌, ◌<◌, Bool, true, false, List, [], ◌∷◌, length, drop, get_or, Option, None, Some, sym, ap, ◌∙◌, arith, if◌then◌else◌}
-use Rattle.chain_words.specs.Asked.{asked_of, command_by, command_of, is_over}
-use Rattle.chain_words.specs.Reading.{after, no_words, word_read, words_read}
-use Rattle.chain_words.specs.declared.command.ChainCommand.{ChainCommand}
+use Rattle.chain_words.specs.{after, asked_of, ChainCommand, command_by, command_of, is_over, no_words, word_read, words_read}
 use Rattle.chain_words.specs.declared.reading.Reading.{Reading}
 
 pub one_left : (words : List (List ℕ)) (i : ℕ) (w : List ℕ) → i < length words → ((d : List ℕ) → w ≡ get_or words i d) → drop i words ≡ w ∷ drop (i + 1) words

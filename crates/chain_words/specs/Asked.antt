@@ -1,12 +1,11 @@
 -- What the words ask for.
 use Rattle.std.specs.Prelude.{ℕ, Bool, true, false, ◌||◌, List, [], ◌∷◌, Option, Some, None, is_some, if◌then◌else◌, codes, length, nat_lt, unwrap_or}
-use Rattle.rdf_values.specs.Names.{same}
+use Rattle.rdf_values.specs.{same}
 use Rattle.chain_words.specs.Reading.{no_words, number_in, words_read}
 use Rattle.chain_words.specs.declared.command.ChainCommand.{ChainCommand}
 use Rattle.chain_words.specs.declared.command.ChainCommand.TheVariants.{Run, Map, Join, Print}
 use Rattle.chain_words.specs.declared.command.Settings.{Settings}
 use Rattle.chain_words.specs.declared.reading.Awaits.{Awaits}
-use Rattle.chain_words.specs.declared.reading.Awaits.TheVariants as next
 use Rattle.chain_words.specs.declared.reading.Reading.{Reading}
 
 abbrev pub settings_of : Reading → Settings
@@ -57,10 +56,10 @@ command_by word r =
 
 -- an option at the end lacks its value
 abbrev pub is_over : Awaits → Bool
-is_over next.Any = true
-is_over next.Name = true
-is_over next.Slots = false
-is_over next.Cluster = false
+is_over Awaits.Any = true
+is_over Awaits.Name = true
+is_over Awaits.Slots = false
+is_over Awaits.Cluster = false
 
 abbrev pub command_of : List ℕ → Option Reading → Option ChainCommand
 command_of word None = None

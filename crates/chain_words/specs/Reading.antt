@@ -1,10 +1,8 @@
 -- Reading the words behind the command: names, and options that are set once.
 use Rattle.std.specs.Prelude.{ℕ, Bool, true, not, drop, List, [], ◌∷◌, ◌++◌, Option, Some, None, length, take, if◌then◌else◌, ◌==◌, codes}
-use Rattle.rdf_values.specs.Names.{same}
-use Rattle.command_words.specs.Asked.{within}
-use Rattle.rdf_values.specs.Integers.{integer_of}
+use Rattle.rdf_values.specs.{integer_of, same}
+use Rattle.command_words.specs.{within}
 use Rattle.chain_words.specs.declared.reading.Awaits.{Awaits}
-use Rattle.chain_words.specs.declared.reading.Awaits.TheVariants as next
 use Rattle.chain_words.specs.declared.reading.Reading.{Reading}
 
 -- the number that the text is canonical for, within the limits
@@ -13,7 +11,7 @@ number_in least most text = within least most (integer_of text)
 
 -- nothing was read yet
 abbrev pub no_words : Reading
-no_words = record { awaits = next.Any; names = []; slots = None; cluster = None }
+no_words = record { awaits = Awaits.Any; names = []; slots = None; cluster = None }
 
 -- the word is a name or a value: it doesn't begin with '-', or is that alone
 abbrev pub is_plain : List ℕ → Bool
@@ -32,11 +30,11 @@ awaiting a r = record { awaits = a; names = r.names; slots = r.slots; cluster = 
 
 abbrev pub with_slots : Reading → Option ℕ → Option Reading
 with_slots r None = None
-with_slots r (Some n) = Some (record { awaits = next.Any; names = r.names; slots = Some n; cluster = r.cluster })
+with_slots r (Some n) = Some (record { awaits = Awaits.Any; names = r.names; slots = Some n; cluster = r.cluster })
 
 abbrev pub with_cluster : Reading → Option ℕ → Option Reading
 with_cluster r None = None
-with_cluster r (Some n) = Some (record { awaits = next.Any; names = r.names; slots = r.slots; cluster = Some n })
+with_cluster r (Some n) = Some (record { awaits = Awaits.Any; names = r.names; slots = r.slots; cluster = Some n })
 
 -- the values: 1 to 16 slots, and clusters of 1 to 1,000,000 entries
 abbrev pub slots_by : Reading → List ℕ → Option Reading
@@ -58,17 +56,17 @@ joined_word r w =
 -- an option: its value is the next word, or stands behind '='
 abbrev pub option_word : Reading → List ℕ → Option Reading
 option_word r w =
-    if same w (codes "--slots") then once r.slots (Some (awaiting next.Slots r)) else (if same w (codes "--cluster") then once r.cluster (Some (awaiting next.Cluster r)) else joined_word r w)
+    if same w (codes "--slots") then once r.slots (Some (awaiting Awaits.Slots r)) else (if same w (codes "--cluster") then once r.cluster (Some (awaiting Awaits.Cluster r)) else joined_word r w)
 
 -- `--` ends the options
 abbrev pub any_word : Reading → List ℕ → Option Reading
-any_word r w = if same w (codes "--") then Some (awaiting next.Name r) else (if is_plain w then Some (named r w) else option_word r w)
+any_word r w = if same w (codes "--") then Some (awaiting Awaits.Name r) else (if is_plain w then Some (named r w) else option_word r w)
 
 abbrev pub word_read : Awaits → Reading → List ℕ → Option Reading
-word_read next.Any r w = any_word r w
-word_read next.Name r w = Some (named r w)
-word_read next.Slots r w = if is_plain w then slots_by r w else None
-word_read next.Cluster r w = if is_plain w then cluster_by r w else None
+word_read Awaits.Any r w = any_word r w
+word_read Awaits.Name r w = Some (named r w)
+word_read Awaits.Slots r w = if is_plain w then slots_by r w else None
+word_read Awaits.Cluster r w = if is_plain w then cluster_by r w else None
 
 abbrev pub after : Option Reading → (Reading → Option Reading) → Option Reading
 after None go = None

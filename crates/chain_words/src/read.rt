@@ -1,7 +1,6 @@
 // Reading the command's words.
 ghost use Rattle.std.specs.Prelude.{◌≡◌, ◌≤◌, ◌<◌, IfOk, drop, length};
-ghost use Rattle.chain_words.specs.Asked.{asked_of, command_by, has_options, is_over, join_of, map_of, print_of, run_of, settings_of};
-ghost use Rattle.chain_words.specs.Reading.{no_words, words_read};
+ghost use Rattle.chain_words.specs.{asked_of, command_by, has_options, is_over, join_of, map_of, no_words, print_of, run_of, settings_of, words_read};
 
 use crate::command::{ChainCommand, Joining, Mapping, Printing, Running, Settings};
 use crate::reading::{Awaits, Reading, number, word_read};

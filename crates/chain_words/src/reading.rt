@@ -1,6 +1,6 @@
 // Reading the words behind the command, one after another.
 ghost use Rattle.std.specs.Prelude.{◌≡◌, ◌≤◌, IfOk, drop, length};
-ghost use Rattle.chain_words.specs.Reading.{any_word, awaiting, begins, cluster_by, is_plain, joined_word, named, number_in, option_word, slots_by, word_read};
+ghost use Rattle.chain_words.specs.{any_word, awaiting, begins, cluster_by, is_plain, joined_word, named, number_in, option_word, slots_by, word_read};
 
 use command_words::FileName;
 use rdf_values::{ListOf, Memory, read_integer};

@@ -1,37 +1,28 @@
 -- A tally after a block fed a pass, and at the ends of a block.
-use Rattle.std.proofs.Common.{◌≡◌, ℕ, ◌+◌, ◌<◌, ◌≤◌, List, [], ◌++◌, length, map, Option, None, Some, inl, inr, refl, sym, ap, ap₂, ◌∙◌, subst, arith, append_assoc}
-use Rattle.std.specs.Prelude.{Err, Ok, OnOk, Result, slice_get, slice_set}
+use Rattle.std.proofs.Common.{◌≡◌, ℕ, ◌+◌, ◌<◌, ◌≤◌, List, [], ◌++◌, length, map, Option, None, Some, inl, inr, refl, sym, ap, ap₂, ◌∙◌, subst, arith, append_assoc, Err, Ok, OnOk, Result, slice_get, slice_set}
 use Rattle.std.proofs.lemmas.List.{length-map, length-set}
 use Rattle.std.proofs.lemmas.Option.{same_Some, slice_get_within}
-use Rattle.lemmas.proofs.Places.{mapped_at, something_at}
+use Rattle.lemmas.proofs.{mapped_at, something_at}
 use Rattle.rdf_values.proofs.Below.{map-below}
-use Rattle.rdf_values.specs.Spread.{feed_fault}
-use Rattle.rdf_values.specs.declared.action.ActionKind.{ActionKind}
-use Rattle.rdf_values.specs.declared.action.ActionKind.TheVariants as kind
+use Rattle.rdf_values.specs.{ActionKind, feed_fault}
 use Rattle.rdf_model.specs.declared.loop_facts.LoopFacts.{LoopFacts}
-use Rattle.actions.specs.Accumulators.{Accumulator, HasFed}
-use Rattle.actions.specs.Batches.{EachPlace, SuitsAt, batch_items, places_of, values_at}
-use Rattle.actions.specs.Feeding.{Fed, from_cluster}
-use Rattle.actions.specs.Holding.{IsTake}
-use Rattle.actions.specs.declared.batch.Batch.{Batch}
-use Rattle.loop_pieces.specs.LoopPieces.{entries_over, fed_over}
-use Rattle.cluster_tally.specs.Blocks.{BlockStage, CanFeedBatch, CanTakeIn, TakesIn, TookIn, TookInIfThere, HoldsIn, block_items, pass_done}
+use Rattle.actions.specs.{Accumulator, Batch, batch_items, EachPlace, Fed, from_cluster, HasFed, IsTake, places_of, SuitsAt, values_at}
+use Rattle.loop_pieces.specs.{entries_over, fed_over}
+use Rattle.cluster_tally.specs.{block_items, BlockStage, CanFeedBatch, CanTakeIn, CanWatch, counts_by, fed_by, first_items, HoldsIn, HoldsUpTo, IsFedAlone, IsFedBy, pass_done, places_there, taken_in, TakesIn, TallyView, TookIn, TookInIfThere}
 use Rattle.cluster_tally.specs.Laws as law
-use Rattle.cluster_tally.specs.Stages.{counts_by, fed_by, first_items, taken_in}
-use Rattle.cluster_tally.specs.Tallies.{CanWatch, HoldsUpTo, IsFedAlone, IsFedBy, TallyView, places_there}
 use Rattle.cluster_tally.proofs.ListPlaces.{at_set, kind_at, map_set_same, of_mapped, places_kept}
 use Rattle.cluster_tally.proofs.Steps.{entries_room, in_before, in_from, in_same, items_next}
 
 -- an action that is watched keeps no values
 pub none_kept : (k : ActionKind) → CanWatch k → IsTake k → ⊥
-none_kept kind.Count w t = t
-none_kept (kind.Sum c) w t = t
-none_kept (kind.Min c) w t = t
-none_kept (kind.Max c) w t = t
-none_kept (kind.Take c) w t = w
-none_kept (kind.Reduce o c) w t = w
-none_kept (kind.Histo1D e x w') w t = w
-none_kept (kind.Histo2D e d x y w') w t = w
+none_kept ActionKind.Count w t = t
+none_kept (ActionKind.Sum c) w t = t
+none_kept (ActionKind.Min c) w t = t
+none_kept (ActionKind.Max c) w t = t
+none_kept (ActionKind.Take c) w t = w
+none_kept (ActionKind.Reduce o c) w t = w
+none_kept (ActionKind.Histo1D e x w') w t = w
+none_kept (ActionKind.Histo2D e d x y w') w t = w
 
 -- ---- the ends of a block
 

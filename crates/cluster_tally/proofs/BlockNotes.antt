@@ -1,21 +1,16 @@
 -- A tally after a block's counts were noted of a filter.
-use Rattle.std.proofs.Common.{◌≡◌, ℕ, ◌+◌, ◌<◌, ◌≤◌, ◌^◌, cond, List, [], ◌∷◌, length, map, set, get_or, sym, ap, ◌∙◌, subst, ⊎_elim, arith, get_or-set_same, get_or-set_other}
-use Rattle.std.specs.Prelude.{count_by}
+use Rattle.std.proofs.Common.{◌≡◌, ℕ, ◌+◌, ◌<◌, ◌≤◌, ◌^◌, cond, List, [], ◌∷◌, length, map, set, get_or, sym, ap, ◌∙◌, subst, ⊎_elim, arith, get_or-set_same, get_or-set_other, count_by}
 use Rattle.std.proofs.lemmas.Bool.{cases_eq}
 use Rattle.std.proofs.lemmas.List.{get_or-map, length-map, length-set, same_lists}
 use Rattle.std.proofs.lemmas.List.Sums.{sum_by-cons}
 use Rattle.std.proofs.lemmas.Option.{get_or_from_slice_get}
 use Rattle.rdf_values.proofs.Below.{length-below, slice_get-below}
-use Rattle.rdf_values.specs.Cuts.{below}
-use Rattle.rdf_model.specs.LoopFacts.{is_passed, is_reached}
+use Rattle.rdf_values.specs.{below}
+use Rattle.rdf_model.specs.{is_passed, is_reached, Reach}
 use Rattle.rdf_model.specs.declared.loop_facts.LoopFacts.{LoopFacts}
-use Rattle.rdf_model.specs.declared.loop_facts.Reach.{Reach}
 use Rattle.rdf_model.specs.declared.loop_facts.Reach.TheVariants.{Failed, Passed, Stopped}
-use Rattle.loop_pieces.specs.Flows.{AreCounts, both, nothing}
-use Rattle.loop_pieces.specs.declared.flow.Counts.{Counts}
-use Rattle.cluster_tally.specs.Blocks.{BlockStage, CanNoteCounts, HoldsIn, block_reaches, counts_in, filter_done}
-use Rattle.cluster_tally.specs.Stages.{counted}
-use Rattle.cluster_tally.specs.Tallies.{TallyView}
+use Rattle.loop_pieces.specs.{AreCounts, both, Counts, nothing}
+use Rattle.cluster_tally.specs.{block_reaches, BlockStage, CanNoteCounts, counted, counts_in, filter_done, HoldsIn, TallyView}
 use Rattle.cluster_tally.proofs.Steps.{counts_next, counts_room, counts_same}
 
 passed_one : (r : Reach) → cond (is_passed r) 1 0 ≤ cond (is_reached r) 1 0

@@ -1,6 +1,5 @@
 -- The end of a cluster.
-use Rattle.std.proofs.Common.{◌≡◌, ℕ, zero, suc, ◌+◌, ◌<◌, List, [], ◌∷◌, ◌++◌, length, map, take, drop, set, get_or, Option, None, Some, refl, sym, ap, ap₂, ◌∙◌, subst, arith, append_assoc, append-nil}
-use Rattle.std.specs.Prelude.{All, Err, Ok, OnOk, Result, flat_map, slice_get}
+use Rattle.std.proofs.Common.{◌≡◌, ℕ, zero, suc, ◌+◌, ◌<◌, List, [], ◌∷◌, ◌++◌, length, map, take, drop, set, get_or, Option, None, Some, refl, sym, ap, ap₂, ◌∙◌, subst, arith, append_assoc, append-nil, All, Err, Ok, OnOk, Result, flat_map, slice_get}
 use Rattle.std.specs.List.Sorted.{IsStrictlyIncreasing}
 use Rattle.std.proofs.lemmas.List.{drop-drop, drop-set-lt, drop_more, length-map, length-set, map-append, map_more, take_all, take_more_set}
 use Rattle.std.proofs.lemmas.List.Concat.{flat_map-append}
@@ -8,28 +7,14 @@ use Rattle.std.proofs.lemmas.List.Elements.{All-push, All-weaker}
 use Rattle.std.proofs.lemmas.Option.{same_Some, slice_get-get_or}
 use Rattle.rdf_values.proofs.Below.{map-below}
 use Rattle.rdf_values.proofs.DrawCounts.{rises_push}
-use Rattle.rdf_values.specs.Fold.{fold_items}
-use Rattle.rdf_values.specs.declared.action.ActionKind.{ActionKind}
-use Rattle.rdf_values.specs.declared.action.ActionKind.TheVariants as kind
-use Rattle.rdf_values.specs.declared.item.Item.{Item}
-use Rattle.rdf_values.specs.declared.span.Span.{Span}
-use Rattle.rdf_model.specs.LoopFacts.{if_there, list_at, reaches_over}
-use Rattle.rdf_model.specs.PartialResults.{rows_in, span_rows}
+use Rattle.rdf_values.specs.{ActionKind, fold_items, Item, Span}
+use Rattle.rdf_model.specs.{if_there, list_at, Reach, reaches_over, rows_in, span_rows}
 use Rattle.rdf_model.specs.declared.loop_facts.LoopFacts.{LoopFacts}
-use Rattle.rdf_model.specs.declared.loop_facts.Reach.{Reach}
-use Rattle.actions.specs.Accumulators.{Accumulator, HasFed}
-use Rattle.actions.specs.Feeding.{from_cluster, in_file_order}
-use Rattle.loop_pieces.specs.Flows.{both}
-use Rattle.merge_core.specs.declared.noted.Noted.{Noted}
-use Rattle.loop_pieces.specs.LoopPieces.{cluster_items, counts_at, fed_over}
-use Rattle.loop_pieces.specs.Trails.{IsTrail, watch_facts}
-use Rattle.loop_pieces.specs.Watching.{IsOfKind, WatchStandsFor, watch_filled}
-use Rattle.loop_pieces.specs.declared.watch_piece.WatchPiece.{WatchPiece}
+use Rattle.actions.specs.{Accumulator, from_cluster, HasFed, in_file_order}
+use Rattle.loop_pieces.specs.{both, cluster_items, counts_at, fed_over, IsOfKind, IsTrail, watch_facts, watch_filled, WatchPiece, WatchStandsFor}
+use Rattle.merge_core.specs.{Noted}
 use Rattle.loop_pieces.proofs.FedOver.{items_in_order}
-use Rattle.cluster_tally.specs.Closings.{note_of, noted_all, noted_at, piece_for, renewed, times_there}
-use Rattle.cluster_tally.specs.Feedings.{IsAtEnd, fresh_acc}
-use Rattle.cluster_tally.specs.Stages.{Stage, at_begin, counted, counts_by, fed_by, first_items, first_reaches, taken_in}
-use Rattle.cluster_tally.specs.Tallies.{CanWatch, Holds, IsFedAlone, TallyView, places_there}
+use Rattle.cluster_tally.specs.{at_begin, CanWatch, counted, counts_by, fed_by, first_items, first_reaches, fresh_acc, Holds, IsAtEnd, IsFedAlone, note_of, noted_all, noted_at, piece_for, places_there, renewed, Stage, taken_in, TallyView, times_there}
 use Rattle.cluster_tally.proofs.ListPlaces.{of_mapped, ranges_same}
 use Rattle.cluster_tally.proofs.Stagings.{counts_at_begin, fed_at_begin, fresh_alone}
 use Rattle.cluster_tally.proofs.Steps.{counted_both, entries_with, in_from}
@@ -156,14 +141,14 @@ noted_there c place (Some a ∷ ws) n (t ∷ ts) (suc w) trail at is =
     record { i = suc r.i; its_place = omega (arith, r.its_place); acc = r.acc; its_acc = r.its_acc; before = r.before; was = r.was; now = r.now }
 
 piece_is : (k : ActionKind) (items : List Item) → CanWatch k → IsOfKind k (piece_for k (fold_items k items)) × (watch_filled (piece_for k (fold_items k items)) ≡ fold_items k items)
-piece_is kind.Count items w = (tt, refl)
-piece_is (kind.Sum c) items w = (tt, refl)
-piece_is (kind.Min c) items w = (tt, refl)
-piece_is (kind.Max c) items w = (tt, refl)
-piece_is (kind.Take c) items w = absurd w
-piece_is (kind.Reduce o c) items w = absurd w
-piece_is (kind.Histo1D e x o) items w = absurd w
-piece_is (kind.Histo2D e d x y o) items w = absurd w
+piece_is ActionKind.Count items w = (tt, refl)
+piece_is (ActionKind.Sum c) items w = (tt, refl)
+piece_is (ActionKind.Min c) items w = (tt, refl)
+piece_is (ActionKind.Max c) items w = (tt, refl)
+piece_is (ActionKind.Take c) items w = absurd w
+piece_is (ActionKind.Reduce o c) items w = absurd w
+piece_is (ActionKind.Histo1D e x o) items w = absurd w
+piece_is (ActionKind.Histo2D e d x y o) items w = absurd w
 
 -- ---- the whole tally
 

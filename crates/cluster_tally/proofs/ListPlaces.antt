@@ -1,11 +1,9 @@
 -- Lists by their places.
-use Rattle.std.proofs.Common.{◌≡◌, ℕ, zero, suc, ◌+◌, List, [], ◌∷◌, ◌++◌, length, map, drop, set, Option, None, Some, ◌⊎◌, inl, inr, refl, sym, ap, ◌∙◌, arith}
-use Rattle.std.specs.Prelude.{◌-◌, slice_get, slice_range}
+use Rattle.std.proofs.Common.{◌≡◌, ℕ, zero, suc, ◌+◌, List, [], ◌∷◌, ◌++◌, length, map, drop, set, Option, None, Some, ◌⊎◌, inl, inr, refl, sym, ap, ◌∙◌, arith, ◌-◌, slice_get, slice_range}
 use Rattle.std.proofs.lemmas.List.{length-drop, length-take}
-use Rattle.rdf_values.specs.declared.span.Span.{Span}
-use Rattle.rdf_values.specs.declared.action.ActionKind.{ActionKind}
-use Rattle.actions.specs.Accumulators.{Accumulator}
-use Rattle.cluster_tally.specs.Tallies.{places_there}
+use Rattle.rdf_values.specs.{ActionKind, Span}
+use Rattle.actions.specs.{Accumulator}
+use Rattle.cluster_tally.specs.{places_there}
 
 abbrev pub kind_at : Accumulator → ActionKind
 kind_at acc = acc.kind

@@ -1,18 +1,14 @@
 -- A tally's first and last moments.
-use Rattle.std.proofs.Common.{◌≡◌, ℕ, ◌+◌, List, [], ◌∷◌, ◌++◌, length, map, Bool, true, false, Option, Some, inl, inr, refl, sym, ap, ap₂, ◌∙◌, subst, arith, append-nil}
-use Rattle.std.specs.Prelude.{slice_get}
+use Rattle.std.proofs.Common.{◌≡◌, ℕ, ◌+◌, List, [], ◌∷◌, ◌++◌, length, map, Bool, true, false, Option, Some, inl, inr, refl, sym, ap, ap₂, ◌∙◌, subst, arith, append-nil, slice_get}
 use Rattle.std.proofs.lemmas.List.{length_push, map-append}
 use Rattle.std.proofs.lemmas.Option.{same_Some, slice_get-get_or}
-use Rattle.lemmas.proofs.Places.{before_or_last, kept_at, last_at}
+use Rattle.lemmas.proofs.{before_or_last, kept_at, last_at}
 use Rattle.rdf_values.proofs.Below.{map-below}
-use Rattle.rdf_values.specs.declared.action.ActionKind.{ActionKind}
+use Rattle.rdf_values.specs.{ActionKind}
 use Rattle.rdf_model.specs.declared.loop_facts.LoopFacts.{LoopFacts}
-use Rattle.actions.specs.Accumulators.{Accumulator, HasFed}
-use Rattle.loop_pieces.specs.LoopPieces.{StandsFor, counts_at}
-use Rattle.loop_pieces.specs.declared.loop_piece.LoopPiece.{LoopPiece}
-use Rattle.cluster_tally.specs.Feedings.{IsFresh, acc_if, fresh_acc, place_if, with_trail}
-use Rattle.cluster_tally.specs.Stages.{at_begin, counts_by, taken_in}
-use Rattle.cluster_tally.specs.Tallies.{CanWatch, Holds, TallyView, places_there}
+use Rattle.actions.specs.{Accumulator, HasFed}
+use Rattle.loop_pieces.specs.{counts_at, LoopPiece, StandsFor}
+use Rattle.cluster_tally.specs.{acc_if, at_begin, CanWatch, counts_by, fresh_acc, Holds, IsFresh, place_if, places_there, taken_in, TallyView, with_trail}
 use Rattle.cluster_tally.proofs.ListPlaces.{places_more}
 use Rattle.cluster_tally.proofs.Stagings.{counts_at_begin, fed_at_begin}
 use Rattle.cluster_tally.proofs.Steps.{in_from}

@@ -1,24 +1,16 @@
 -- The beginning of clusters.
-use Rattle.std.proofs.Common.{◌≡◌, ℕ, ◌<◌, List, [], ◌∷◌, length, map, replicate, Some, refl, sym, ap, ap₂, ◌∙◌, subst, arith, add-zero, append-nil}
-use Rattle.std.specs.Prelude.{slice_get}
+use Rattle.std.proofs.Common.{◌≡◌, ℕ, ◌<◌, List, [], ◌∷◌, length, map, replicate, Some, refl, sym, ap, ap₂, ◌∙◌, subst, arith, add-zero, append-nil, slice_get}
 use Rattle.std.proofs.lemmas.List.{length-map}
 use Rattle.std.proofs.lemmas.List.Elements.{All-nil}
 use Rattle.rdf_values.proofs.Below.{length-below, map-below}
 use Rattle.rdf_values.proofs.UnionLemmas.{none_rises}
-use Rattle.rdf_values.specs.Cuts.{below}
-use Rattle.rdf_values.specs.declared.action.ActionKind.{ActionKind}
+use Rattle.rdf_values.specs.{ActionKind, below}
 use Rattle.rdf_model.specs.declared.loop_facts.LoopFacts.{LoopFacts}
-use Rattle.actions.specs.Accumulators.{HasFed}
-use Rattle.loop_pieces.specs.Flows.{nothing}
-use Rattle.loop_pieces.specs.LoopPieces.{counts_at, fed_over}
-use Rattle.loop_pieces.specs.Trails.{HaveTrails, IsTrail, watch_facts}
-use Rattle.loop_pieces.specs.Watching.{WatchStandsFor}
-use Rattle.loop_pieces.specs.declared.watch_piece.WatchPiece.{WatchPiece}
-use Rattle.merge_core.specs.declared.noted.Noted.{Noted}
-use Rattle.cluster_tally.specs.Feedings.{fresh_acc}
+use Rattle.actions.specs.{HasFed}
+use Rattle.loop_pieces.specs.{counts_at, fed_over, HaveTrails, IsTrail, nothing, watch_facts, WatchPiece, WatchStandsFor}
+use Rattle.merge_core.specs.{Noted}
+use Rattle.cluster_tally.specs.{CanWatch, counts_by, fed_by, fresh_acc, IsFedAlone, IsFedBy, taken_in}
 use Rattle.cluster_tally.specs.Laws as law
-use Rattle.cluster_tally.specs.Stages.{counts_by, fed_by, taken_in}
-use Rattle.cluster_tally.specs.Tallies.{CanWatch, IsFedAlone, IsFedBy}
 use Rattle.cluster_tally.proofs.ListPlaces.{kind_at, of_mapped}
 use Rattle.cluster_tally.proofs.Steps.{in_from}
 

@@ -1,26 +1,18 @@
 -- What is taken in of a cluster, and what a block adds.
-use Rattle.std.proofs.Common.{◌≡◌, ℕ, ◌+◌, ◌<◌, ◌≤◌, ◌^◌, List, [], ◌∷◌, ◌++◌, length, take, drop, cond, true, false, Option, None, Some, sym, ap, ap₂, ◌∙◌, ⊎_elim, arith, append-nil, add_assoc, length-append}
-use Rattle.std.specs.Prelude.{◌-◌, count_by, flat_map, nat_lt, slice_get}
+use Rattle.std.proofs.Common.{◌≡◌, ℕ, ◌+◌, ◌<◌, ◌≤◌, ◌^◌, List, [], ◌∷◌, ◌++◌, length, take, drop, cond, true, false, Option, None, Some, sym, ap, ap₂, ◌∙◌, ⊎_elim, arith, append-nil, add_assoc, length-append, ◌-◌, count_by, flat_map, nat_lt, slice_get}
 use Rattle.std.proofs.lemmas.Bool.{cases_lt, cond-false, cond-true, le-ltb, lt-ltb}
 use Rattle.std.proofs.lemmas.List.{length-drop, length-take, map-append}
 use Rattle.std.proofs.lemmas.List.Concat.{flat_map-append}
 use Rattle.std.proofs.lemmas.List.Sums.{sum_by-append}
-use Rattle.lemmas.proofs.Parts.{take_plus}
+use Rattle.lemmas.proofs.{take_plus}
 use Rattle.rdf_values.proofs.DrawCounts.{rises_push}
-use Rattle.rdf_values.specs.declared.item.Item.{Item}
-use Rattle.rdf_values.specs.declared.span.Span.{Span}
-use Rattle.rdf_model.specs.LoopFacts.{if_there, is_passed, is_reached, list_at}
-use Rattle.rdf_model.specs.PartialResults.{rows_in, span_rows}
+use Rattle.rdf_values.specs.{Item, Span}
+use Rattle.rdf_model.specs.{if_there, is_passed, is_reached, list_at, Reach, rows_in, span_rows}
 use Rattle.rdf_model.specs.declared.loop_facts.LoopFacts.{LoopFacts}
-use Rattle.rdf_model.specs.declared.loop_facts.Reach.{Reach}
-use Rattle.actions.specs.Feeding.{from_cluster}
-use Rattle.loop_pieces.specs.Flows.{both}
-use Rattle.loop_pieces.specs.declared.flow.Counts.{Counts}
-use Rattle.loop_pieces.specs.LoopPieces.{counts_at, entries_over}
+use Rattle.actions.specs.{from_cluster}
+use Rattle.loop_pieces.specs.{both, Counts, counts_at, entries_over}
 use Rattle.loop_pieces.proofs.Rows.{counts_few, entries_few}
-use Rattle.cluster_tally.specs.Blocks.{BlockStage, HoldsIn, IsWithin, block_items, block_reaches, counts_in, filter_done}
-use Rattle.cluster_tally.specs.Stages.{counted, counts_by, first_items, first_reaches, taken_in}
-use Rattle.cluster_tally.specs.Tallies.{TallyView}
+use Rattle.cluster_tally.specs.{block_items, block_reaches, BlockStage, counted, counts_by, counts_in, filter_done, first_items, first_reaches, HoldsIn, IsWithin, taken_in, TallyView}
 
 -- ---- how many entries are taken in
 

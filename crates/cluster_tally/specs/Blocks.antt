@@ -1,17 +1,10 @@
 -- A tally in the midst of a block of entries: each pass and each filter takes in the whole block at once.
 use Rattle.std.specs.Prelude.{◌≡◌, ◌+◌, ◌<◌, ◌≤◌, ℕ, List, Option, None, Some, ◌++◌, flat_map, length, slice_get, slice_set, take, drop}
-use Rattle.rdf_values.specs.Spread.{feed_fault}
-use Rattle.rdf_values.specs.declared.action.ActionKind.{ActionKind}
-use Rattle.rdf_values.specs.declared.item.Item.{Item}
-use Rattle.rdf_model.specs.LoopFacts.{if_there, list_at}
-use Rattle.rdf_model.specs.PartialResults.{span_rows}
+use Rattle.rdf_values.specs.{ActionKind, feed_fault, Item}
+use Rattle.rdf_model.specs.{if_there, list_at, Reach, span_rows}
 use Rattle.rdf_model.specs.declared.loop_facts.LoopFacts.{LoopFacts}
-use Rattle.rdf_model.specs.declared.loop_facts.Reach.{Reach}
-use Rattle.actions.specs.Accumulators.{Accumulator, HasFed}
-use Rattle.actions.specs.Batches.{EachPlace, HasValues, SuitsAt, batch_items, places_of, values_at}
-use Rattle.actions.specs.Feeding.{Fed, from_cluster}
-use Rattle.actions.specs.declared.batch.Batch.{Batch}
-use Rattle.loop_pieces.specs.declared.flow.Counts.{Counts}
+use Rattle.actions.specs.{Accumulator, Batch, batch_items, EachPlace, Fed, from_cluster, HasFed, HasValues, places_of, SuitsAt, values_at}
+use Rattle.loop_pieces.specs.{Counts}
 use Rattle.cluster_tally.specs.Stages.{Stage, counted, counts_by, taken_in}
 use Rattle.cluster_tally.specs.Tallies.{HoldsUpTo, TallyView}
 

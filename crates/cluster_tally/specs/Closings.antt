@@ -1,20 +1,19 @@
 -- What the end of a cluster makes of the watched results.
 use Rattle.std.specs.Prelude.{ℕ, List, [], ◌∷◌, ◌++◌, Option, None, Some, slice_index_or, slice_set}
 use Rattle.rdf_values.specs.Fold as fold
-use Rattle.rdf_values.specs.declared.action.ActionKind.{ActionKind}
-use Rattle.rdf_values.specs.declared.action.ActionKind.TheVariants as kind
-use Rattle.actions.specs.Accumulators.{Accumulator}
-use Rattle.merge_core.specs.declared.noted.Noted.{Noted}
-use Rattle.loop_pieces.specs.declared.watch_piece.WatchPiece.{WatchPiece}
+use Rattle.rdf_values.specs.{ActionKind}
+use Rattle.actions.specs.{Accumulator}
+use Rattle.merge_core.specs.{Noted}
+use Rattle.loop_pieces.specs.{WatchPiece}
 use Rattle.loop_pieces.specs.declared.watch_piece.WatchPiece.TheVariants.{Count, Sum, Least, Greatest}
 use Rattle.cluster_tally.specs.Feedings.{fresh_acc}
 
 -- what an accumulator of a kind that can be watched holds
 abbrev pub piece_for : ActionKind → fold.Filled → WatchPiece
-piece_for kind.Count (fold.Count n) = Count n
-piece_for (kind.Sum c) (fold.Sum z) = Sum z
-piece_for (kind.Min c) (fold.Extreme z) = Least z
-piece_for (kind.Max c) (fold.Extreme z) = Greatest z
+piece_for ActionKind.Count (fold.Count n) = Count n
+piece_for (ActionKind.Sum c) (fold.Sum z) = Sum z
+piece_for (ActionKind.Min c) (fold.Extreme z) = Least z
+piece_for (ActionKind.Max c) (fold.Extreme z) = Greatest z
 piece_for k x = Count 0
 
 -- the piece of a cluster

@@ -1,13 +1,11 @@
 -- What a tally is told, and what it is when nothing was told.
 use Rattle.std.specs.Prelude.{◌≡◌, ℕ, Bool, List, [], ◌∷◌, ◌++◌, Option, None, Some, if◌then◌else◌, length, map, slice_get}
-use Rattle.rdf_values.specs.Fold.{fold_items}
-use Rattle.rdf_values.specs.declared.action.ActionKind.{ActionKind}
-use Rattle.rdf_model.specs.PartialResults.{span_rows}
+use Rattle.rdf_values.specs.{ActionKind, fold_items}
+use Rattle.rdf_model.specs.{span_rows}
 use Rattle.rdf_model.specs.declared.loop_facts.LoopFacts.{LoopFacts}
-use Rattle.actions.specs.Accumulators.{Accumulator}
-use Rattle.actions.specs.Holding.{kept_of}
-use Rattle.merge_core.specs.declared.noted.Noted.{Noted}
-use Rattle.loop_pieces.specs.declared.watch_piece.WatchPiece.{WatchPiece}
+use Rattle.actions.specs.{Accumulator, kept_of}
+use Rattle.merge_core.specs.{Noted}
+use Rattle.loop_pieces.specs.{WatchPiece}
 use Rattle.cluster_tally.specs.Stages.{Stage}
 use Rattle.cluster_tally.specs.Tallies.{CanWatch, TallyView, places_there}
 

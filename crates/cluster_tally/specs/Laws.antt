@@ -1,8 +1,8 @@
 -- How a tally that was told nothing comes to a later stage.
 use Rattle.std.specs.Prelude.{◌≡◌, ℕ, List, [], length, replicate}
-use Rattle.rdf_model.specs.LoopFacts.{IsLoopFacts}
+use Rattle.rdf_model.specs.{IsLoopFacts}
 use Rattle.rdf_model.specs.declared.loop_facts.LoopFacts.{LoopFacts}
-use Rattle.loop_pieces.specs.Flows.{nothing}
+use Rattle.loop_pieces.specs.{nothing}
 use Rattle.cluster_tally.specs.Blocks.{BlockStage, HoldsIn, block_begin, block_end}
 use Rattle.cluster_tally.specs.Feedings.{IsFresh}
 use Rattle.cluster_tally.specs.Stages.{Stage, at_begin}

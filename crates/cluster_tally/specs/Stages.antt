@@ -1,14 +1,10 @@
 -- How far a slot has come in a loop, and what its clusters and entries so far feed and reach.
 use Rattle.std.specs.Prelude.{◌+◌, ℕ, List, ◌++◌, count_by, flat_map, if◌then◌else◌, nat_lt, slice_get, take}
-use Rattle.rdf_values.specs.declared.item.Item.{Item}
-use Rattle.rdf_model.specs.LoopFacts.{if_there, is_passed, is_reached, list_at}
-use Rattle.rdf_model.specs.PartialResults.{span_rows}
+use Rattle.rdf_values.specs.{Item}
+use Rattle.rdf_model.specs.{if_there, is_passed, is_reached, list_at, Reach, span_rows}
 use Rattle.rdf_model.specs.declared.loop_facts.LoopFacts.{LoopFacts}
-use Rattle.rdf_model.specs.declared.loop_facts.Reach.{Reach}
-use Rattle.actions.specs.Feeding.{Fed, from_cluster}
-use Rattle.loop_pieces.specs.Flows.{both}
-use Rattle.loop_pieces.specs.declared.flow.Counts.{Counts}
-use Rattle.loop_pieces.specs.LoopPieces.{counts_at, fed_over}
+use Rattle.actions.specs.{Fed, from_cluster}
+use Rattle.loop_pieces.specs.{both, Counts, counts_at, fed_over}
 
 -- the clusters that were finished, the cluster that is worked on, how many of its entries are taken in, and of the next one the
 -- action passes and the named filters before these places

@@ -1,17 +1,12 @@
 -- What a tally holds.
 use Rattle.std.specs.Prelude.{◌≡◌, ◌≤◌, ◌<◌, ◌+◌, ⊤, ℕ, List, [], ◌∷◌, All, Option, None, Some, length, map, slice_get}
 use Rattle.std.specs.List.Sorted.{IsStrictlyIncreasing}
-use Rattle.rdf_values.specs.Cuts.{below}
-use Rattle.rdf_values.specs.declared.action.ActionKind.{ActionKind}
-use Rattle.rdf_values.specs.declared.action.ActionKind.TheVariants as kind
-use Rattle.rdf_model.specs.LoopFacts.{IsLoopFacts}
+use Rattle.rdf_values.specs.{ActionKind, below}
+use Rattle.rdf_model.specs.{IsLoopFacts}
 use Rattle.rdf_model.specs.declared.loop_facts.LoopFacts.{LoopFacts}
-use Rattle.actions.specs.Accumulators.{Accumulator, HasFed}
-use Rattle.loop_pieces.specs.declared.flow.Counts.{Counts}
-use Rattle.merge_core.specs.declared.noted.Noted.{Noted}
-use Rattle.loop_pieces.specs.LoopPieces.{entries_over}
-use Rattle.loop_pieces.specs.Trails.{HaveTrails}
-use Rattle.loop_pieces.specs.declared.watch_piece.WatchPiece.{WatchPiece}
+use Rattle.actions.specs.{Accumulator, HasFed}
+use Rattle.loop_pieces.specs.{Counts, entries_over, HaveTrails, WatchPiece}
+use Rattle.merge_core.specs.{Noted}
 use Rattle.cluster_tally.specs.Stages.{Stage, counts_by, fed_by, taken_in}
 
 -- the accumulator of each action pass, for each that is watched one of the current cluster alone, the counts of the named filters, and the trails
@@ -23,10 +18,10 @@ pub record TallyView : Type 0 where
 
 -- an action whose result can be watched
 abbrev pub CanWatch : ActionKind → Type 0
-CanWatch kind.Count = ⊤
-CanWatch (kind.Sum c) = ⊤
-CanWatch (kind.Min c) = ⊤
-CanWatch (kind.Max c) = ⊤
+CanWatch ActionKind.Count = ⊤
+CanWatch (ActionKind.Sum c) = ⊤
+CanWatch (ActionKind.Min c) = ⊤
+CanWatch (ActionKind.Max c) = ⊤
 CanWatch k = ⊥
 
 -- an accumulator of an action pass, which was fed what clusters and the first n entries of another feed to the pass

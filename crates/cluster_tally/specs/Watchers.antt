@@ -1,7 +1,7 @@
 -- What a watcher keeps.
 use Rattle.std.specs.Prelude.{◌≡◌}
-use Rattle.rdf_values.specs.declared.action.ActionKind.{ActionKind}
-use Rattle.actions.specs.Accumulators.{Accumulator}
+use Rattle.rdf_values.specs.{ActionKind}
+use Rattle.actions.specs.{Accumulator}
 use Rattle.cluster_tally.specs.Tallies.{CanWatch}
 
 -- the accumulator is of the kind, which can be watched

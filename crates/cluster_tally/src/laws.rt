@@ -1,5 +1,5 @@
 // Laws of stages. Each function does nothing; its contract is the law.
-ghost use Rattle.cluster_tally.specs.Laws.{BeginsBlock, EndsBlock, FreshHolds};
+ghost use Rattle.cluster_tally.specs.{BeginsBlock, EndsBlock, FreshHolds};
 
 /// A fresh tally of all passes holds what no cluster gives.
 pub fn fresh_holds()

@@ -1,14 +1,9 @@
 // Tallies.
 ghost use Rattle.std.specs.Prelude.{◌≡◌, ◌<◌, ◌+◌, ◌++◌, ◌∷◌, [], ℕ, Bool, IsTrue, List, IfOk, OnErr, OnOk, Some, length, map, replicate, slice_get};
-ghost use Rattle.rdf_values.specs.declared.action.ActionKind.{ActionKind};
+ghost use Rattle.rdf_values.specs.{ActionKind};
 ghost use Rattle.rdf_model.specs.declared.loop_facts.LoopFacts.{LoopFacts};
-ghost use Rattle.actions.specs.Accumulators.{Accumulator, HasFed};
-ghost use Rattle.actions.specs.Feeding.{Fed};
-ghost use Rattle.actions.specs.Holding.{HasEdges, IsTake};
-ghost use Rattle.loop_pieces.specs.Flows.{nothing};
-ghost use Rattle.loop_pieces.specs.LoopPieces.{StandsFor};
-ghost use Rattle.loop_pieces.specs.Trails.{HaveTrails};
-ghost use Rattle.actions.specs.Batches.{EachPlace, HasValues};
+ghost use Rattle.actions.specs.{Accumulator, EachPlace, Fed, HasEdges, HasFed, HasValues, IsTake};
+ghost use Rattle.loop_pieces.specs.{HaveTrails, nothing, StandsFor};
 ghost use Rattle.cluster_tally.specs.Blocks.{BlockStage, CanFeedBatch, CanNoteCounts, CanTakeIn, HoldsIn, TookIn, TookInIfThere, filter_done, pass_done};
 ghost use Rattle.cluster_tally.specs.Closings.{noted_all, noted_at, renewed, times_there};
 ghost use Rattle.cluster_tally.specs.Feedings.{IsAtEnd, IsFresh, acc_if, place_if, with_trail};

@@ -1,12 +1,8 @@
 // The accumulator of a watched result over one cluster.
 ghost use Rattle.std.specs.Prelude.{◌≡◌, ◌<◌, ◌≤◌, ◌+◌, ◌++◌, [], List, None, IfOk, OnErr, OnOk, length};
-ghost use Rattle.rdf_values.specs.Fold.{fold_items};
-ghost use Rattle.rdf_values.specs.Spread.{feed_fault, spread};
-ghost use Rattle.actions.specs.Accumulators.{HasFed};
-ghost use Rattle.actions.specs.Batches.{EachPlace, HasValues, SuitsAt, places_of, values_at};
-ghost use Rattle.actions.specs.Feeding.{Fed, from_cluster};
-ghost use Rattle.actions.specs.Parts.{Suits, values_of};
-ghost use Rattle.loop_pieces.specs.Watching.{IsOfKind, watch_filled};
+ghost use Rattle.rdf_values.specs.{feed_fault, fold_items, spread};
+ghost use Rattle.actions.specs.{EachPlace, Fed, from_cluster, HasFed, HasValues, places_of, Suits, SuitsAt, values_at, values_of};
+ghost use Rattle.loop_pieces.specs.{IsOfKind, watch_filled};
 ghost use Rattle.cluster_tally.specs.Blocks.{TakesIn};
 ghost use Rattle.cluster_tally.specs.Feedings.{fresh_acc};
 ghost use Rattle.cluster_tally.specs.Tallies.{CanWatch};
@@ -26,7 +22,7 @@ pub struct Watcher {
 
 impl Model for Watcher {
     ghost use Rattle.std.specs.Prelude.{◌≡◌};
-    ghost use Rattle.actions.specs.Accumulators.{Accumulator};
+    ghost use Rattle.actions.specs.{Accumulator};
     ghost use Rattle.cluster_tally.specs.Watchers.{IsWatcher};
 
     ghost Value = { Accumulator };

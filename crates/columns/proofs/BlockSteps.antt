@@ -9,9 +9,7 @@ use mir.Val.{to_z, of_z}
 use Rattle.std.proofs.lemmas.Int.{ints}
 use native.Mathlib.Nat.{add-mul, mul-le-mul_right}
 use Rattle.std.proofs.lemmas.Option.{slice_get-get_or}
-use Rattle.columns.specs.Packings.{low_bytes, number_in, packed_by, packed_of, packing_of}
-use Rattle.columns.specs.Blocks.{AreBlocks, IsBlock, block_values}
-use Rattle.columns.specs.Widths.{IsWidth}
+use Rattle.columns.specs.{AreBlocks, block_values, IsBlock, IsWidth, low_bytes, number_in, packed_by, packed_of, packing_of}
 use Rattle.columns.specs.declared.block.Block.{Block}
 use Rattle.columns.specs.declared.packing.Packing.{Packing}
 use Rattle.columns.proofs.Unpacking.{drop_two, length-packed, packing_fits, packing_width, packing_word, value_at, values_back}

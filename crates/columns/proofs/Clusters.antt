@@ -1,6 +1,5 @@
 -- The ranges of clusters of one size.
-use Rattle.std.proofs.Common.{◌≡◌, ◌≤◌, ◌<◌, ◌+◌, ◌*◌, ◌/◌, ℕ, List, [], length, min, Some, arith, refl, ◌∙◌, ap}
-use Rattle.std.specs.Prelude.{slice_get}
+use Rattle.std.proofs.Common.{◌≡◌, ◌≤◌, ◌<◌, ◌+◌, ◌*◌, ◌/◌, ℕ, List, [], length, min, Some, arith, refl, ◌∙◌, ap, slice_get}
 use Rattle.std.specs.Int.{div_ceil}
 use Rattle.std.proofs.lemmas.Grind.{div_ceil_times}
 use Rattle.std.proofs.lemmas.List.{length-map}
@@ -10,8 +9,8 @@ use native.Mathlib.Nat.{add-mul}
 use Rattle.std.proofs.Math.Nat.{mul_comm}
 use Rattle.rdf_values.proofs.Below.{length-below, slice_get-below}
 use Rattle.rdf_values.proofs.Evenly.{unmarked_cuts_are_even}
-use Rattle.rdf_values.specs.Cuts.{below, cut, even_cut}
-use Rattle.columns.specs.Ranges.{Holds}
+use Rattle.rdf_values.specs.{below, cut, even_cut}
+use Rattle.columns.specs.{Holds}
 
 pub length-even : (n size : ℕ) → length (even_cut n size) ≡ div_ceil n size
 length-even n size = length-map (below (div_ceil n size)) _ ∙ length-below (div_ceil n size)

@@ -1,13 +1,10 @@
 -- Ranges by their ends.
-use Rattle.std.proofs.Common.{◌≡◌, ◌≢◌, ◌≤◌, ◌<◌, ◌-◌, ℕ, zero, suc, true, false, leb, List, [], ◌∷◌, ◌++◌, length, get_or, Some, arith, refl, ap, sym, ◌∙◌, ◌⊎◌, inl, inr}
-use Rattle.std.specs.Prelude.{slice_get}
+use Rattle.std.proofs.Common.{◌≡◌, ◌≢◌, ◌≤◌, ◌<◌, ◌-◌, ℕ, zero, suc, true, false, leb, List, [], ◌∷◌, ◌++◌, length, get_or, Some, arith, refl, ap, sym, ◌∙◌, ◌⊎◌, inl, inr, slice_get}
 use Rattle.std.specs.List.{AllWithin}
 use Rattle.std.proofs.lemmas.Bool.Decides.{nat_tests}
-use Rattle.lemmas.proofs.Orders.{le_or_lt}
-use Rattle.rdf_values.specs.Cuts.{Lead}
-use Rattle.rdf_values.specs.declared.span.Span.{Span}
-use Rattle.columns.specs.CutsView.{ranges_to}
-use Rattle.columns.specs.Ranges.{Holds}
+use Rattle.lemmas.proofs.{le_or_lt}
+use Rattle.rdf_values.specs.{Lead, Span}
+use Rattle.columns.specs.{Holds, ranges_to}
 
 pub length-ranges_to : (ends : List ℕ) (lo : ℕ) → length (ranges_to lo ends) ≡ length ends
 length-ranges_to [] lo = refl

@@ -5,7 +5,7 @@ use Rattle.std.proofs.lemmas.List.{drop-append-le, drop-drop, length-drop, lengt
 use Rattle.std.proofs.lemmas.Slice.{take-put_mid}
 use Rattle.std.proofs.lemmas.Grind.{flat_map-append}
 use Rattle.std.proofs.Math.Seq.{drop-append-add, take-add}
-use Rattle.columns.specs.Wholes.{joined}
+use Rattle.columns.specs.{joined}
 
 -- ---- the first pieces
 

@@ -1,11 +1,9 @@
 -- The numbers of the clusters are those of the column.
 use Rattle.std.proofs.Common.{◌≡◌, ◌≤◌, ◌<◌, ◌+◌, ◌-◌, ℕ, zero, suc, ℤ, List, [], ◌∷◌, ◌++◌, length, drop, take, Some, refl, sym, ap, ◌∙◌, arith, slice_get}
 use Rattle.std.proofs.lemmas.List.{take_all}
-use Rattle.rdf_values.specs.Cuts.{Lead, cut}
-use Rattle.rdf_values.specs.declared.span.Span.{Span}
+use Rattle.rdf_values.specs.{cut, Lead, Span}
 use Rattle.rdf_values.proofs.Leading.{cuts_lead}
-use Rattle.columns.specs.Blocks.{cluster_values}
-use Rattle.columns.specs.Wholes.{joined}
+use Rattle.columns.specs.{cluster_values, joined}
 
 drop_none : (k : ℕ) → drop {A = ℤ} k [] ≡ []
 drop_none zero = refl

@@ -1,21 +1,10 @@
 -- Columns of a table with those of another behind them.
 use Rattle.std.proofs.Common.{◌≡◌, ◌≤◌, ◌<◌, ◌+◌, ℕ, zero, suc, pos, List, [], ◌∷◌, ◌++◌, length, get_or, set, drop, map, arith, refl, ap, ap₂, ◌∙◌, sym, subst, length-append, add-one, append-nil, append_assoc}
 use Rattle.std.proofs.lemmas.List.{get_or-append-add, get_or_append_left, get_or-map, length-drop, length-map, length-set, map-append, map-set}
-use Rattle.rdf_values.specs.Cuts.{below}
-use Rattle.rdf_values.specs.Kept.{AreKept, HoldsTable, IsKept, cell_at, rows_kept}
-use Rattle.rdf_values.specs.Tables.{FitRows}
-use Rattle.rdf_values.specs.declared.cells.Cells.{Cells}
-use Rattle.rdf_values.specs.declared.cells.Cells.TheVariants as kept
-use Rattle.rdf_values.specs.declared.column.Column.{Column}
-use Rattle.rdf_values.specs.declared.value.ColType.{ColType}
-use Rattle.rdf_values.specs.declared.value.ColType.TheVariants as k
-use Rattle.rdf_values.specs.declared.value.Value.{Value}
-use Rattle.rdf_values.specs.declared.value.Value.TheVariants as v
+use Rattle.rdf_values.specs.{AreKept, below, cell_at, Cells, ColType, Column, FitRows, HoldsTable, IsKept, rows_kept, Value}
 use Rattle.rdf_values.proofs.Below.{map-below}
 use Rattle.rdf_values.proofs.RowPushed.{kept_length}
-use Rattle.columns.specs.Joins.{cells_joined, columns_joined}
-use Rattle.columns.specs.Wholes.{whole}
-use Rattle.columns.specs.declared.column_pieces.ColumnPieces.{ColumnPieces}
+use Rattle.columns.specs.{cells_joined, ColumnPieces, columns_joined, whole}
 
 -- ---- the first columns are joined
 
@@ -49,13 +38,13 @@ joined_all (suc i) (x ∷ xs) (y ∷ more) h l = ap (λ t. cells_joined x y ∷ 
 -- ---- the rows of the second stand behind those of the first
 
 kept_join : (kind : ColType) (x y : Cells) (n m : ℕ) → IsKept kind n x → IsKept kind m y → IsKept kind (n + m) (cells_joined x y)
-kept_join k.Int (kept.Ints ns) (kept.Ints ms) n m h l = omega (arith, h, l, length-append ns ms)
-kept_join k.Int (kept.Ints ns) (kept.Vects ws) n m h l = absurd l
-kept_join k.Int (kept.Vects vs) y n m h l = absurd h
-kept_join k.Bool x y n m h l = absurd h
-kept_join k.Vect (kept.Ints ns) y n m h l = absurd h
-kept_join k.Vect (kept.Vects vs) (kept.Ints ms) n m h l = absurd l
-kept_join k.Vect (kept.Vects vs) (kept.Vects ws) n m h l = omega (arith, h, l, length-append vs ws)
+kept_join ColType.Int (Cells.Ints ns) (Cells.Ints ms) n m h l = omega (arith, h, l, length-append ns ms)
+kept_join ColType.Int (Cells.Ints ns) (Cells.Vects ws) n m h l = absurd l
+kept_join ColType.Int (Cells.Vects vs) y n m h l = absurd h
+kept_join ColType.Bool x y n m h l = absurd h
+kept_join ColType.Vect (Cells.Ints ns) y n m h l = absurd h
+kept_join ColType.Vect (Cells.Vects vs) (Cells.Ints ms) n m h l = absurd l
+kept_join ColType.Vect (Cells.Vects vs) (Cells.Vects ws) n m h l = omega (arith, h, l, length-append vs ws)
 
 are_kept_join : (columns : List Column) (xs ys : List Cells) (n m : ℕ) → AreKept n columns xs → AreKept m columns ys → AreKept (n + m) columns (columns_joined xs ys)
 are_kept_join [] [] ys n m h l = tt
@@ -65,22 +54,22 @@ are_kept_join (c ∷ cs) (x ∷ xs) [] n m h l = absurd l
 are_kept_join (c ∷ cs) (x ∷ xs) (y ∷ ys) n m h l = (kept_join c.kind x y n m h.0 l.0, are_kept_join cs xs ys n m h.1 l.1)
 
 cell_first : (kind : ColType) (x y : Cells) (n m e : ℕ) → IsKept kind n x → IsKept kind m y → e < n → cell_at e (cells_joined x y) ≡ cell_at e x
-cell_first k.Int (kept.Ints ns) (kept.Ints ms) n m e h l t = ap v.Int (get_or_append_left ns ms (pos 0) e (omega (arith, h)))
-cell_first k.Int (kept.Ints ns) (kept.Vects ws) n m e h l t = absurd l
-cell_first k.Int (kept.Vects vs) y n m e h l t = absurd h
-cell_first k.Bool x y n m e h l t = absurd h
-cell_first k.Vect (kept.Ints ns) y n m e h l t = absurd h
-cell_first k.Vect (kept.Vects vs) (kept.Ints ms) n m e h l t = absurd l
-cell_first k.Vect (kept.Vects vs) (kept.Vects ws) n m e h l t = ap v.Vect (get_or_append_left vs ws [] e (omega (arith, h)))
+cell_first ColType.Int (Cells.Ints ns) (Cells.Ints ms) n m e h l t = ap Value.Int (get_or_append_left ns ms (pos 0) e (omega (arith, h)))
+cell_first ColType.Int (Cells.Ints ns) (Cells.Vects ws) n m e h l t = absurd l
+cell_first ColType.Int (Cells.Vects vs) y n m e h l t = absurd h
+cell_first ColType.Bool x y n m e h l t = absurd h
+cell_first ColType.Vect (Cells.Ints ns) y n m e h l t = absurd h
+cell_first ColType.Vect (Cells.Vects vs) (Cells.Ints ms) n m e h l t = absurd l
+cell_first ColType.Vect (Cells.Vects vs) (Cells.Vects ws) n m e h l t = ap Value.Vect (get_or_append_left vs ws [] e (omega (arith, h)))
 
 cell_second : (kind : ColType) (x y : Cells) (n m e : ℕ) → IsKept kind n x → IsKept kind m y → cell_at (n + e) (cells_joined x y) ≡ cell_at e y
-cell_second k.Int (kept.Ints ns) (kept.Ints ms) n m e h l = rw (← h) (ap v.Int (get_or-append-add ns ms e (pos 0)))
-cell_second k.Int (kept.Ints ns) (kept.Vects ws) n m e h l = absurd l
-cell_second k.Int (kept.Vects vs) y n m e h l = absurd h
-cell_second k.Bool x y n m e h l = absurd h
-cell_second k.Vect (kept.Ints ns) y n m e h l = absurd h
-cell_second k.Vect (kept.Vects vs) (kept.Ints ms) n m e h l = absurd l
-cell_second k.Vect (kept.Vects vs) (kept.Vects ws) n m e h l = rw (← h) (ap v.Vect (get_or-append-add vs ws e []))
+cell_second ColType.Int (Cells.Ints ns) (Cells.Ints ms) n m e h l = rw (← h) (ap Value.Int (get_or-append-add ns ms e (pos 0)))
+cell_second ColType.Int (Cells.Ints ns) (Cells.Vects ws) n m e h l = absurd l
+cell_second ColType.Int (Cells.Vects vs) y n m e h l = absurd h
+cell_second ColType.Bool x y n m e h l = absurd h
+cell_second ColType.Vect (Cells.Ints ns) y n m e h l = absurd h
+cell_second ColType.Vect (Cells.Vects vs) (Cells.Ints ms) n m e h l = absurd l
+cell_second ColType.Vect (Cells.Vects vs) (Cells.Vects ws) n m e h l = rw (← h) (ap Value.Vect (get_or-append-add vs ws e []))
 
 row_first : (columns : List Column) (xs ys : List Cells) (n m e : ℕ) → AreKept n columns xs → AreKept m columns ys → e < n → map (cell_at e) (columns_joined xs ys) ≡ map (cell_at e) xs
 row_first [] [] ys n m e h l t = refl

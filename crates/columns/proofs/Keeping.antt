@@ -3,23 +3,11 @@ use Rattle.std.proofs.Common.{◌≡◌, ◌≤◌, ◌<◌, ◌-◌, ◌+◌, �
 use Rattle.std.specs.List.{AllByRecursion}
 use Rattle.std.proofs.lemmas.List.{length-drop, length-map, length-take, map-append, take-append-drop}
 use Rattle.std.proofs.lemmas.Option.{slice_get-get_or, slice_get-map, slice_get_within}
-use Rattle.rdf_values.specs.Kept.{AreKept, Keep, count, rows_kept}
-use Rattle.rdf_values.specs.Cuts.{cut}
+use Rattle.rdf_values.specs.{AreKept, ColType, Column, count, cut, IsIntColumn, Keep, kind_at, rows_kept, Span, TableView, Value}
 use Rattle.rdf_values.proofs.Leading.{cuts_lead}
-use Rattle.columns.specs.Ranges.{Holds}
-use Rattle.rdf_values.specs.Tables.{IsIntColumn, TableView, kind_at}
-use Rattle.rdf_values.specs.declared.column.Column.{Column}
-use Rattle.rdf_values.specs.declared.span.Span.{Span}
-use Rattle.rdf_values.specs.declared.value.ColType.{ColType}
-use Rattle.rdf_values.specs.declared.value.ColType.TheVariants as k
-use Rattle.rdf_values.specs.declared.value.Value.TheVariants as v
+use Rattle.columns.specs.{cells_of, cluster_values, ColumnPieces, Holds, IsByCluster, joined, whole}
 use Rattle.rdf_values.proofs.KeptLemmas.{ints_column, kept_within, no_ints, no_vects, vects_column}
-use Rattle.columns.specs.Wholes.{joined, whole}
-use Rattle.columns.specs.declared.column_pieces.ColumnPieces.{ColumnPieces}
-use Rattle.columns.specs.Blocks.{cluster_values}
-use Rattle.columns.specs.KeptColumns.{IsByCluster, cells_of}
 use Rattle.columns.specs.declared.kept.Kept.{Kept}
-use Rattle.columns.specs.declared.kept.Kept.TheVariants as kept
 use Rattle.columns.proofs.Joining.{span_within, values_of_cluster}
 
 pub col_within : (columns : List Column) (all : List Kept) (n col : ℕ) (kind : ColType) → AreKept n columns (map cells_of all) → kind_at columns col ≡ Some kind → col < length all
@@ -30,30 +18,30 @@ found columns all n col kind x h e q =
     let there : slice_get all col ≡ Some x = slice_get-get_or all col x (col_within columns all n col kind h e) ∙ ap Some (sym q) in
     slice_get-map cells_of all col ∙ rw there refl
 
-pub ints_found : (columns : List Column) (all : List Kept) (n col : ℕ) (x : Kept) (values : List (List ℤ)) → AreKept n columns (map cells_of all) → kind_at columns col ≡ Some k.Int → x ≡ get_or all col x → x ≡ kept.Ints values
-    → map (λ row. slice_get row col) (rows_kept n (map cells_of all)) ≡ map (λ z. Some (v.Int z)) (joined values)
-ints_found columns all n col x values h e q i = ints_column columns (map cells_of all) n col (cells_of x) (joined values) h e (found columns all n col k.Int x h e q) (ap cells_of i)
+pub ints_found : (columns : List Column) (all : List Kept) (n col : ℕ) (x : Kept) (values : List (List ℤ)) → AreKept n columns (map cells_of all) → kind_at columns col ≡ Some ColType.Int → x ≡ get_or all col x → x ≡ Kept.Ints values
+    → map (λ row. slice_get row col) (rows_kept n (map cells_of all)) ≡ map (λ z. Some (Value.Int z)) (joined values)
+ints_found columns all n col x values h e q i = ints_column columns (map cells_of all) n col (cells_of x) (joined values) h e (found columns all n col ColType.Int x h e q) (ap cells_of i)
 
-pub vects_found : (columns : List Column) (all : List Kept) (n col : ℕ) (x : Kept) (vectors : List (List ℤ)) → AreKept n columns (map cells_of all) → kind_at columns col ≡ Some k.Vect → x ≡ get_or all col x → x ≡ kept.Vects vectors
-    → map (λ row. slice_get row col) (rows_kept n (map cells_of all)) ≡ map (λ zs. Some (v.Vect zs)) vectors
-vects_found columns all n col x vectors h e q i = vects_column columns (map cells_of all) n col (cells_of x) vectors h e (found columns all n col k.Vect x h e q) (ap cells_of i)
+pub vects_found : (columns : List Column) (all : List Kept) (n col : ℕ) (x : Kept) (vectors : List (List ℤ)) → AreKept n columns (map cells_of all) → kind_at columns col ≡ Some ColType.Vect → x ≡ get_or all col x → x ≡ Kept.Vects vectors
+    → map (λ row. slice_get row col) (rows_kept n (map cells_of all)) ≡ map (λ zs. Some (Value.Vect zs)) vectors
+vects_found columns all n col x vectors h e q i = vects_column columns (map cells_of all) n col (cells_of x) vectors h e (found columns all n col ColType.Vect x h e q) (ap cells_of i)
 
-pub not_vects : (columns : List Column) (all : List Kept) (n col : ℕ) (x : Kept) (vectors : List (List ℤ)) → AreKept n columns (map cells_of all) → kind_at columns col ≡ Some k.Int → x ≡ get_or all col x → x ≡ kept.Vects vectors → ⊥
-not_vects columns all n col x vectors h e q i = no_vects columns (map cells_of all) n col (cells_of x) vectors h e (found columns all n col k.Int x h e q) (ap cells_of i)
+pub not_vects : (columns : List Column) (all : List Kept) (n col : ℕ) (x : Kept) (vectors : List (List ℤ)) → AreKept n columns (map cells_of all) → kind_at columns col ≡ Some ColType.Int → x ≡ get_or all col x → x ≡ Kept.Vects vectors → ⊥
+not_vects columns all n col x vectors h e q i = no_vects columns (map cells_of all) n col (cells_of x) vectors h e (found columns all n col ColType.Int x h e q) (ap cells_of i)
 
-pub not_ints : (columns : List Column) (all : List Kept) (n col : ℕ) (x : Kept) (values : List (List ℤ)) → AreKept n columns (map cells_of all) → kind_at columns col ≡ Some k.Vect → x ≡ get_or all col x → x ≡ kept.Ints values → ⊥
-not_ints columns all n col x values h e q i = no_ints columns (map cells_of all) n col (cells_of x) (joined values) h e (found columns all n col k.Vect x h e q) (ap cells_of i)
+pub not_ints : (columns : List Column) (all : List Kept) (n col : ℕ) (x : Kept) (values : List (List ℤ)) → AreKept n columns (map cells_of all) → kind_at columns col ≡ Some ColType.Vect → x ≡ get_or all col x → x ≡ Kept.Ints values → ⊥
+not_ints columns all n col x values h e q i = no_ints columns (map cells_of all) n col (cells_of x) (joined values) h e (found columns all n col ColType.Vect x h e q) (ap cells_of i)
 
 at_by : (P : Kept → Type 0) (all : List Kept) (col : ℕ) (d : Kept) → AllByRecursion P all → col < length all → P (get_or all col d)
 at_by P [] col d h l = absurd (omega (arith, l))
 at_by P (x ∷ xs) zero d h l = h.0
 at_by P (x ∷ xs) (suc col) d h l = at_by P xs col d h.1 (omega (arith, l))
 
-pub by_cluster : (columns : List Column) (all : List Kept) (n col : ℕ) (x : Kept) (values : List (List ℤ)) (spans : List Span) → AreKept n columns (map cells_of all) → kind_at columns col ≡ Some k.Int → x ≡ get_or all col x → x ≡ kept.Ints values
+pub by_cluster : (columns : List Column) (all : List Kept) (n col : ℕ) (x : Kept) (values : List (List ℤ)) (spans : List Span) → AreKept n columns (map cells_of all) → kind_at columns col ≡ Some ColType.Int → x ≡ get_or all col x → x ≡ Kept.Ints values
     → AllByRecursion (IsByCluster spans) all → values ≡ cluster_values spans (joined values)
 by_cluster columns all n col x values spans h e q i a =
-    let here = at_by (IsByCluster spans) all col x a (col_within columns all n col k.Int h e) in
-    let same : get_or all col x ≡ kept.Ints values = sym q ∙ i in
+    let here = at_by (IsByCluster spans) all col x a (col_within columns all n col ColType.Int h e) in
+    let same : get_or all col x ≡ Kept.Ints values = sym q ∙ i in
     rw same at here
 
 -- ---- one number
@@ -105,13 +93,13 @@ entry_here n size marks numbers values entry c s e l held at =
     let few : s.hi ≤ length numbers = omega (arith, top, l) in
     rw (e, cluster_at spans numbers c s at) (cluster_there spans numbers c s at, from, place_here numbers s entry from below few, number_here numbers s entry from below)
 
-one_list : (xs ys : List ℤ) → map (λ z. Some (v.Int z)) xs ≡ map (λ z. Some (v.Int z)) ys → xs ≡ ys
+one_list : (xs ys : List ℤ) → map (λ z. Some (Value.Int z)) xs ≡ map (λ z. Some (Value.Int z)) ys → xs ≡ ys
 one_list [] [] h = refl
 one_list [] (y ∷ ys) h = cc h
 one_list (x ∷ xs) [] h = cc h
 one_list (x ∷ xs) (y ∷ ys) h =
     let first : x ≡ y = cc h in
-    let rest : map (λ z. Some (v.Int z)) xs ≡ map (λ z. Some (v.Int z)) ys = cc h in
+    let rest : map (λ z. Some (Value.Int z)) xs ≡ map (λ z. Some (Value.Int z)) ys = cc h in
     ap₂ (λ a b. a ∷ b) first (one_list xs ys rest)
 
 pub cluster_numbers : (table : TableView) (col : ℕ) (spans : List Span) (values : List (List ℤ)) (numbers : List ℤ) (c : ℕ) (s : Span) → IsIntColumn table col (joined values) → IsIntColumn table col numbers

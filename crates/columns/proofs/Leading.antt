@@ -1,10 +1,8 @@
 -- Ranges that follow one another hold each number once.
-use Rattle.std.proofs.Common.{◌≡◌, ◌≤◌, ◌<◌, ◌+◌, ℕ, zero, suc, List, [], ◌∷◌, length, Some, arith, refl, ap, ◌⊎◌, inl, inr}
-use Rattle.std.specs.Prelude.{slice_get}
-use Rattle.lemmas.proofs.Orders.{lt_or_le}
-use Rattle.rdf_values.specs.Cuts.{Lead}
-use Rattle.rdf_values.specs.declared.span.Span.{Span}
-use Rattle.columns.specs.Ranges.{Holds, IsInOne}
+use Rattle.std.proofs.Common.{◌≡◌, ◌≤◌, ◌<◌, ◌+◌, ℕ, zero, suc, List, [], ◌∷◌, length, Some, arith, refl, ap, ◌⊎◌, inl, inr, slice_get}
+use Rattle.lemmas.proofs.{lt_or_le}
+use Rattle.rdf_values.specs.{Lead, Span}
+use Rattle.columns.specs.{Holds, IsInOne}
 
 -- no range begins before the first
 begins_after : (rs : List Span) (from to place : ℕ) (r : Span) → Lead from to rs → slice_get rs place ≡ Some r → from ≤ r.lo

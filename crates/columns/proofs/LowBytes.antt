@@ -1,8 +1,7 @@
 -- The lowest bytes of a number, one after another.
 use Rattle.std.proofs.Common.{◌≡◌, ◌≤◌, ◌⊎◌, ℕ, zero, suc, List, [], ◌∷◌, length, take, inl, inr, arith, refl}
 use Rattle.std.specs.Int.{to_le_bytes, w64}
-use Rattle.columns.specs.Packings.{low_bytes}
-use Rattle.columns.specs.Widths.{IsWidth}
+use Rattle.columns.specs.{IsWidth, low_bytes}
 
 pub taken_size : (n : ℕ) (xs : List ℕ) → length (take n xs) ≤ n
 taken_size zero xs = omega arith

@@ -2,10 +2,9 @@
 use Rattle.std.proofs.Common.{◌≡◌, ◌≤◌, ◌<◌, ℕ, true, false, leb, List, length, arith, ap, sym, ◌∙◌}
 use Rattle.std.specs.List.{AllWithin}
 use Rattle.std.specs.List.Sorted.{IsNonDecreasingBy}
-use Rattle.rdf_values.specs.Cuts.{Lead, cut}
+use Rattle.rdf_values.specs.{cut, Lead}
 use Rattle.rdf_values.proofs.Leading.{cuts_lead}
-use Rattle.columns.specs.CutsView.{ranges_to}
-use Rattle.columns.specs.Ranges.{Holds}
+use Rattle.columns.specs.{Holds, ranges_to}
 use Rattle.columns.proofs.Ends.{ends_rise, first_above, length-ranges_to}
 use Rattle.columns.proofs.Leading.{few_ranges, in_one}
 

@@ -9,12 +9,9 @@ use Rattle.std.proofs.lemmas.List.{get_or_append_left, length-drop, length-take,
 use Rattle.std.proofs.lemmas.List.Elements.{All-drop, All-take}
 use Rattle.std.proofs.lemmas.Option.{slice_get-get_or}
 use native.Mathlib.Nat.{add-mul, mul-le-mul_right}
-use Rattle.rdf_values.specs.Cuts.{cut}
-use Rattle.rdf_values.specs.declared.span.Span.{Span}
+use Rattle.rdf_values.specs.{cut, Span}
 use Rattle.rdf_values.proofs.Leading.{cuts_lead}
-use Rattle.columns.specs.Blocks.{AreBlocks, IsBlock, block_values, cluster_values}
-use Rattle.columns.specs.Packings.{number_in, values_in}
-use Rattle.columns.specs.Widths.{IsWidth}
+use Rattle.columns.specs.{AreBlocks, block_values, cluster_values, IsBlock, IsWidth, number_in, values_in}
 use Rattle.columns.specs.declared.block.Block.{Block}
 use Rattle.columns.proofs.BlockSteps.{block_back, block_least, block_of, block_size, block_width}
 use Rattle.columns.proofs.Joining.{span_within}

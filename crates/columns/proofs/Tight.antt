@@ -4,8 +4,7 @@ use Rattle.std.specs.Int.{int_max, int_min}
 use Rattle.std.specs.Int.RustNames.{FitsSigned}
 use mir.Syntax.{w64}
 use Rattle.std.proofs.lemmas.Bool.Decides.{nat_tests}
-use Rattle.columns.specs.Packings.{IsTight, greatest_from, least_from, packing_of, width_of}
-use Rattle.columns.specs.Widths.{IsWidth}
+use Rattle.columns.specs.{greatest_from, IsTight, IsWidth, least_from, packing_of, width_of}
 use Rattle.columns.proofs.Unpacking.{packing_fits, packing_width}
 
 cond_is : (b : Bool) (x y : ℤ) → (cond b x y ≡ x) ⊎ (cond b x y ≡ y)

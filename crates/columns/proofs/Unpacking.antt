@@ -9,8 +9,7 @@ use Rattle.std.proofs.lemmas.Bool.Decides.{nat_tests}
 use Rattle.std.proofs.lemmas.List.Elements.{All-from_recursion, All-head, All-tail, recursion_from_All}
 use Rattle.std.proofs.lemmas.Nat.{from_le_bytes-to_le_bytes_2, from_le_bytes-to_le_bytes_4, from_le_bytes-to_le_bytes_8}
 use native.Mathlib.Nat.{add-mul}
-use Rattle.columns.specs.Packings.{greatest_from, least_from, low_bytes, number_in, packed_by, packing_of, values_in, width_of}
-use Rattle.columns.specs.Widths.{IsWidth}
+use Rattle.columns.specs.{greatest_from, IsWidth, least_from, low_bytes, number_in, packed_by, packing_of, values_in, width_of}
 use Rattle.columns.specs.declared.packing.Packing.{Packing}
 
 -- ---- widths

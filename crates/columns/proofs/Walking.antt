@@ -4,11 +4,9 @@ use Rattle.std.specs.List.{list_any}
 use Rattle.std.specs.List.Sorted.{IsStrictlyIncreasing}
 use Rattle.std.proofs.lemmas.Bool.Decides.{Decides-eqb, nat_tests}
 use Rattle.std.proofs.lemmas.List.Kept.{AllPairs-from_increasing}
-use Rattle.lemmas.proofs.Booleans.{or_fails, or_left, or_right, or_true}
-use Rattle.rdf_values.specs.Cuts.{begins_at, cut, cut_from}
-use Rattle.rdf_values.specs.declared.span.Span.{Span}
-use Rattle.columns.specs.CutsView.{ranges_to}
-use Rattle.columns.specs.Walk.{IsAhead, IsPassed}
+use Rattle.lemmas.proofs.{or_fails, or_left, or_right, or_true}
+use Rattle.rdf_values.specs.{begins_at, cut, cut_from, Span}
+use Rattle.columns.specs.{IsAhead, IsPassed, ranges_to}
 use Rattle.columns.proofs.Ends.{last_or, last_push, ranges_push}
 
 -- ---- marks

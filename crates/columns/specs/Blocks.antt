@@ -2,7 +2,7 @@
 use Rattle.std.specs.Prelude.{◌≡◌, ◌≤◌, ◌+◌, ⊤, ℕ, ℤ, List, [], ◌∷◌, All, length, drop, take, map, slice_range}
 use Rattle.std.specs.Int.RustNames.{FitsSigned}
 use mir.Syntax.{w64}
-use Rattle.rdf_values.specs.declared.span.Span.{Span}
+use Rattle.rdf_values.specs.{Span}
 use Rattle.columns.specs.Packings.{packed_of, packing_of, values_in}
 use Rattle.columns.specs.declared.block.Block.{Block}
 

@@ -1,9 +1,7 @@
 -- What a contract sees of cuts, and how their ranges are kept.
 use Rattle.std.specs.Prelude.{◌≡◌, ℕ, ◌≤◌, ◌<◌, List, [], ◌∷◌, All}
-use Rattle.rdf_values.specs.Cuts.{AreMarks, cut}
-use Rattle.rdf_values.specs.declared.span.Span.{Span}
+use Rattle.rdf_values.specs.{AreMarks, cut, Span}
 use Rattle.columns.specs.declared.ranges.Ranges.{Ranges}
-use Rattle.columns.specs.declared.ranges.Ranges.TheVariants as kept
 
 -- so many entries, cut at the marks into clusters of at most this size
 pub record CutsView : Type 0 where
@@ -25,8 +23,8 @@ ranges_to lo (hi ∷ his) = record { lo = lo; hi = hi } ∷ ranges_to hi his
 
 -- without a mark the ranges are computed, with one their ends are kept
 abbrev pub HoldRanges : CutsView → Ranges → Type 0
-HoldRanges c kept.Even = c.marks ≡ []
-HoldRanges c (kept.Marked ends) = ranges_to 0 ends ≡ cut c.entries c.size c.marks
+HoldRanges c Ranges.Even = c.marks ≡ []
+HoldRanges c (Ranges.Marked ends) = ranges_to 0 ends ≡ cut c.entries c.size c.marks
 
 pub record HoldCuts (c : CutsView) (ranges : Ranges) : Type 0 where
   pub valid : AreCuts c

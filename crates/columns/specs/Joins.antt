@@ -1,15 +1,13 @@
 -- Tables of the same columns, one behind the other.
 use Rattle.std.specs.Prelude.{List, [], ◌∷◌, ◌++◌}
-use Rattle.rdf_values.specs.Tables.{TableView}
-use Rattle.rdf_values.specs.declared.cells.Cells.{Cells}
-use Rattle.rdf_values.specs.declared.cells.Cells.TheVariants as kept
+use Rattle.rdf_values.specs.{Cells, TableView}
 
 -- the values of a column, with more of its type behind them
 abbrev pub cells_joined : Cells → Cells → Cells
-cells_joined (kept.Ints ns) (kept.Ints more) = kept.Ints (ns ++ more)
-cells_joined (kept.Ints ns) (kept.Vects more) = kept.Ints ns
-cells_joined (kept.Vects vs) (kept.Ints more) = kept.Vects vs
-cells_joined (kept.Vects vs) (kept.Vects more) = kept.Vects (vs ++ more)
+cells_joined (Cells.Ints ns) (Cells.Ints more) = Cells.Ints (ns ++ more)
+cells_joined (Cells.Ints ns) (Cells.Vects more) = Cells.Ints ns
+cells_joined (Cells.Vects vs) (Cells.Ints more) = Cells.Vects vs
+cells_joined (Cells.Vects vs) (Cells.Vects more) = Cells.Vects (vs ++ more)
 
 -- the same of each column
 abbrev pub columns_joined : List Cells → List Cells → List Cells

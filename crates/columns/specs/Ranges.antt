@@ -1,6 +1,6 @@
 -- Which range holds a number.
 use Rattle.std.specs.Prelude.{◌≡◌, ◌≤◌, ◌<◌, ℕ, List, slice_get, Some}
-use Rattle.rdf_values.specs.declared.span.Span.{Span}
+use Rattle.rdf_values.specs.{Span}
 
 -- the range at this place holds the number
 pub record Holds (ranges : List Span) (number place : ℕ) : Type 0 where

@@ -1,7 +1,6 @@
 // A column in pieces.
 ghost use Rattle.std.specs.Prelude.{◌≡◌, IfOk, OnOk};
-ghost use Rattle.columns.specs.Joins.{cells_joined};
-ghost use Rattle.columns.specs.Wholes.{whole};
+ghost use Rattle.columns.specs.{cells_joined, whole};
 
 use rdf_values::{Cells, Memory, Numbers, Vects};
 use std::alloc::Global;

@@ -1,8 +1,6 @@
 // The columns of a table over its clusters.
 ghost use Rattle.std.specs.Prelude.{◌≡◌, ◌<◌, ℤ, List, IfOk, Some, length, slice_get, slice_range};
-ghost use Rattle.rdf_values.specs.Cuts.{cut};
-ghost use Rattle.rdf_values.specs.Tables.{IsIntColumn, IsTable, IsVectColumn, cell, kind_at};
-ghost use Rattle.rdf_values.specs.declared.span.Span.{Span};
+ghost use Rattle.rdf_values.specs.{cell, cut, IsIntColumn, IsTable, IsVectColumn, kind_at, Span};
 ghost use Rattle.rdf_values.specs.declared.value.ColType.TheVariants as k;
 ghost use Rattle.rdf_values.specs.declared.value.Value.TheVariants as v;
 ghost use Rattle.columns.specs.Blocks.{cluster_values};
@@ -29,7 +27,7 @@ pub struct Columns {
 
 impl Model for Columns {
     ghost use Rattle.std.specs.Prelude.{map};
-    ghost use Rattle.rdf_values.specs.Kept.{rows_kept};
+    ghost use Rattle.rdf_values.specs.{rows_kept};
     ghost use Rattle.columns.specs.ColumnsView.{ColumnsView};
     ghost use Rattle.columns.specs.KeptColumns.{HoldColumns, cells_of};
 

@@ -1,6 +1,6 @@
 // How entries are cut into clusters.
 ghost use Rattle.std.specs.Prelude.{◌≡◌, ◌≤◌, ◌<◌, All, IfOk, length, slice_get};
-ghost use Rattle.rdf_values.specs.Cuts.{Lead, cut};
+ghost use Rattle.rdf_values.specs.{cut, Lead};
 ghost use Rattle.columns.specs.CutsView.{AreCuts};
 ghost use Rattle.columns.specs.Ranges.{Holds, IsInOne};
 

@@ -2,10 +2,8 @@
 ghost use Rattle.std.specs.Prelude.{◌≡◌, ◌≤◌, IfOk, length, map};
 ghost use Rattle.std.specs.List.{AllByRecursion};
 ghost use Rattle.std.specs.Thread.{IsSync};
-ghost use Rattle.rdf_values.specs.Cuts.{cut};
-ghost use Rattle.rdf_values.specs.Kept.{Keep, count};
-ghost use Rattle.columns.specs.KeptColumns.{IsByCluster, cells_of};
-ghost use Rattle.columns.specs.Wholes.{joined, whole};
+ghost use Rattle.rdf_values.specs.{count, cut, Keep};
+ghost use Rattle.columns.specs.{cells_of, IsByCluster, joined, whole};
 
 use crate::column_pieces::ColumnPieces;
 use crate::cuts::Cuts;

@@ -2,9 +2,8 @@
 ghost use Rattle.std.specs.Prelude.{◌≡◌, ◌<◌, ◌-◌, length, IfOk, nat_eq};
 ghost use Rattle.std.specs.List.{list_any};
 ghost use Rattle.std.specs.List.Sorted.{IsStrictlyIncreasing};
-ghost use Rattle.rdf_values.specs.Cuts.{cut};
-ghost use Rattle.columns.specs.CutsView.{ranges_to};
-ghost use Rattle.columns.specs.Walk.{IsAhead, IsPassed};
+ghost use Rattle.rdf_values.specs.{cut};
+ghost use Rattle.columns.specs.{IsAhead, IsPassed, ranges_to};
 
 use rdf_values::{ListOf, Memory};
 use std::alloc::Global;

@@ -1,8 +1,7 @@
 // The columns over one cluster.
 ghost use Rattle.std.specs.Prelude.{◌≡◌, ◌≤◌, ◌<◌, ◌-◌, Some, length, slice_get};
 ghost use Rattle.columns.specs.ReadInts.{AreInts};
-ghost use Rattle.rdf_values.specs.Cuts.{cut};
-ghost use Rattle.rdf_values.specs.Tables.{cell, kind_at};
+ghost use Rattle.rdf_values.specs.{cell, cut, kind_at};
 ghost use Rattle.rdf_values.specs.declared.value.ColType.TheVariants as k;
 ghost use Rattle.rdf_values.specs.declared.value.Value.TheVariants as v;
 

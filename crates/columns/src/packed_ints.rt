@@ -1,6 +1,6 @@
 // The numbers of an int column, packed.
 ghost use Rattle.std.specs.Prelude.{◌≡◌, ◌≤◌, ◌<◌, ◌+◌, ◌++◌, [], IfOk, Some, length, slice_get, slice_index_or, slice_range, drop, take};
-ghost use Rattle.rdf_values.specs.Cuts.{cut};
+ghost use Rattle.rdf_values.specs.{cut};
 ghost use Rattle.columns.specs.Blocks.{IsBlock, cluster_values};
 ghost use Rattle.columns.specs.Packings.{packed_of, packing_of};
 ghost use Rattle.columns.specs.Wholes.{joined};

@@ -1,7 +1,7 @@
 // How the numbers of a cluster are packed.
 ghost use Rattle.std.specs.Prelude.{◌≡◌, ◌<◌, All, FitsSigned, List, ℤ, length};
 ghost use Rattle.std.specs.Int.{w64};
-ghost use Rattle.columns.specs.Packings.{IsTight, packing_of, width_of};
+ghost use Rattle.columns.specs.{IsTight, packing_of, width_of};
 
 /// The least of some numbers, and the fewest bytes (0, 1, 2, 4 or 8) in which each one's difference to it fits.
 #[derive(Clone, Copy, Debug, PartialEq, Eq)]
@@ -29,7 +29,7 @@ pub fn packings_are_tight()
 {}
 
 impl Packing {
-    ghost use Rattle.columns.specs.Packings.{packing_of};
+    ghost use Rattle.columns.specs.{packing_of};
 
     /// How numbers are packed.
     pub fn of(values: &[i64]) -> Packing

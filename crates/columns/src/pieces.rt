@@ -1,6 +1,6 @@
 // The numbers of an int column in pieces.
 ghost use Rattle.std.specs.Prelude.{◌≡◌, ◌≤◌, ◌+◌, OnOk, drop, length, slice_range, take};
-ghost use Rattle.columns.specs.Wholes.{joined};
+ghost use Rattle.columns.specs.{joined};
 
 use rdf_values::{Memory, Numbers};
 

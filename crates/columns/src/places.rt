@@ -1,7 +1,7 @@
 // The range at a place.
 ghost use Rattle.std.specs.Prelude.{◌≡◌, ◌≤◌, ◌<◌, Some, length, slice_get};
-ghost use Rattle.rdf_values.specs.Cuts.{even_cut};
-ghost use Rattle.columns.specs.CutsView.{ranges_to};
+ghost use Rattle.rdf_values.specs.{even_cut};
+ghost use Rattle.columns.specs.{ranges_to};
 
 use rdf_values::Span;
 

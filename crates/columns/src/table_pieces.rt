@@ -1,7 +1,6 @@
 // A table in pieces.
 ghost use Rattle.std.specs.Prelude.{◌≡◌, ◌≤◌, ◌+◌, IfOk, length, map};
-ghost use Rattle.rdf_values.specs.Kept.{HoldsTable, rows_kept};
-ghost use Rattle.rdf_values.specs.Tables.{IsTable};
+ghost use Rattle.rdf_values.specs.{HoldsTable, IsTable, rows_kept};
 ghost use Rattle.columns.specs.Joins.{columns_joined, table_joined};
 ghost use Rattle.columns.specs.Wholes.{whole};
 
@@ -21,8 +20,7 @@ pub struct TablePieces {
 
 impl Model for TablePieces {
     ghost use Rattle.std.specs.Prelude.{map};
-    ghost use Rattle.rdf_values.specs.Kept.{HoldsTable, rows_kept};
-    ghost use Rattle.rdf_values.specs.Tables.{TableView};
+    ghost use Rattle.rdf_values.specs.{HoldsTable, rows_kept, TableView};
     ghost use Rattle.columns.specs.Wholes.{whole};
 
     ghost Value = { TableView };

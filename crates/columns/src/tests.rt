@@ -1,6 +1,6 @@
 ghost use Rattle.std.specs.Prelude.{◌≡◌, ⊤, [], ◌∷◌, length, pos, IfOk, MatchOption, Some};
-ghost use Rattle.rdf_values.specs.Tables.{kind_at};
-ghost use Rattle.columns.specs.Wholes.{joined};
+ghost use Rattle.rdf_values.specs.{kind_at};
+ghost use Rattle.columns.specs.{joined};
 
 use crate::cuts::cut;
 use crate::pieces::gather;

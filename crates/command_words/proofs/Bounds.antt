@@ -1,13 +1,8 @@
 -- The numbers of a command are within their limits.
 use Rattle.std.proofs.Common.{◌≡◌, ◌≤◌, ℕ, ℤ, pos, negsuc, Bool, true, false, ◌&&◌, leb, List, Option, None, Some, if◌then◌else◌, refl, arith, subst}
-use Rattle.rdf_values.specs.Integers.{integer_of}
+use Rattle.rdf_values.specs.{integer_of}
 use Rattle.clap.specs.Words.{Row, Text, matches_of}
-use Rattle.command_words.specs.Arguments.{is_taken, rdf_command}
-use Rattle.command_words.specs.Asked.{asked_by, asked_in, asked_of, generated_by, input_from, input_of, input_with, number_of, setting_of, within}
-use Rattle.command_words.specs.Limits.{AreWithinLimits, IsWithin}
-use Rattle.command_words.specs.declared.command.Command.{Command}
-use Rattle.command_words.specs.declared.command.Friend.{Friend}
-use Rattle.command_words.specs.declared.command.Input.{Input}
+use Rattle.command_words.specs.{AreWithinLimits, asked_by, asked_in, asked_of, Command, Friend, generated_by, Input, input_from, input_of, input_with, is_taken, IsWithin, number_of, rdf_command, setting_of, within}
 
 -- a number that stands in an option
 abbrev Is : ℕ → ℕ → Option ℕ → Type 0

@@ -3,12 +3,8 @@ use Rattle.std.proofs.Common.{◌≡◌, [], ◌∷◌, Option, None, Some, refl
 use Rattle.clap.specs.Words.{fault_of}
 use Rattle.clap.specs.declared.error.kind.ErrorKind.TheVariants as kind
 use Rattle.clap.proofs.OnLiterals.{clap_on_literals}
-use Rattle.rdf_values.specs.Integers.{integer_of, magnitude_of}
-use Rattle.rdf_values.specs.Names.{is_name}
-use Rattle.command_words.specs.Arguments.{is_taken, rdf_command}
-use Rattle.command_words.specs.Asked.{asked_in, asked_of, input_of, number_of}
-use Rattle.command_words.specs.declared.command.Command.{Command}
-use Rattle.command_words.specs.declared.command.Input.{Input}
+use Rattle.rdf_values.specs.{integer_of, is_name, magnitude_of}
+use Rattle.command_words.specs.{asked_in, asked_of, Command, Input, input_of, is_taken, number_of, rdf_command}
 use Rattle.command_words.specs.declared.command.Input.TheVariants.{Files, Generated}
 
 abbrev asks : ℕ → ℕ → ℕ → Input → Option Command

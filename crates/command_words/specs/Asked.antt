@@ -1,8 +1,7 @@
 -- What the command's words ask for.
 use Rattle.std.specs.Prelude.{ℕ, ℤ, pos, negsuc, Bool, true, false, ◌&&◌, leb, List, Option, Some, None, option_map, if◌then◌else◌, codes, bytes_eq}
 use Rattle.clap.specs.Words.{Row, Text, first_of, matches_of}
-use Rattle.rdf_values.specs.Integers.{integer_of}
-use Rattle.rdf_values.specs.Names.{is_name}
+use Rattle.rdf_values.specs.{integer_of, is_name}
 use Rattle.command_words.specs.Arguments.{is_taken, rdf_command}
 use Rattle.command_words.specs.declared.command.Command.{Command}
 use Rattle.command_words.specs.declared.command.Friend.{Friend}

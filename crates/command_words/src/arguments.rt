@@ -1,7 +1,7 @@
 // The arguments that the command takes.
 ghost use Rattle.std.specs.Prelude.{◌≡◌, IfOk, codes, false};
 ghost use Rattle.clap.specs.Words.{app_of, rule_of};
-ghost use Rattle.command_words.specs.Arguments.{flag, option, positional, rdf_command};
+ghost use Rattle.command_words.specs.{flag, option, positional, rdf_command};
 
 use clap::{Arg, ArgAction, Command};
 use std::alloc::{AllocError, Global};

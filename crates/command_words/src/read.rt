@@ -1,7 +1,7 @@
 // Reading the command's words.
 ghost use Rattle.std.specs.Prelude.{◌≡◌, IfOk, option_map, map};
 ghost use Rattle.clap.specs.Words.{first_of, found_of, rows_of};
-ghost use Rattle.command_words.specs.Asked.{asked_in, asked_of, friend_from, friend_with, input_from, is_set, missing_of, number_of, setting_of};
+ghost use Rattle.command_words.specs.{asked_in, asked_of, friend_from, friend_with, input_from, is_set, missing_of, number_of, setting_of};
 
 use crate::arguments::arguments;
 use crate::command::{Command, Friend, Input};

@@ -1,17 +1,8 @@
 -- What a booked graph keeps of its script.
 use Rattle.std.proofs.Common.{Result, Ok, Err, ◌≡◌, ℕ, List, Option, None, Some, subst}
-use Rattle.rdf_values.specs.Answers.{Answers}
-use Rattle.rdf_values.specs.Kinds.{FunctionNames}
-use Rattle.rdf_values.specs.Path.{history}
-use Rattle.rdf_values.specs.Verdict.{verdict}
-use Rattle.rdf_values.specs.Words.{StatementsHaveWords}
-use Rattle.rdf_values.specs.declared.column.Column.{Column}
-use Rattle.rdf_values.specs.declared.graph_cause.GraphCause.{GraphCause}
-use Rattle.rdf_values.specs.declared.script.Script.{Script}
-use Rattle.graph_numbers.specs.Graphs.{GraphView, booked, booked_unless}
-use Rattle.graph.specs.Refusals.{refused_at}
-use Rattle.graph.specs.declared.refusal.GraphRefusal.{GraphRefusal}
-use Rattle.graph.specs.declared.refusal.GraphRefusal.TheVariants as graph
+use Rattle.rdf_values.specs.{Answers, Column, FunctionNames, GraphCause, history, Script, StatementsHaveWords, verdict}
+use Rattle.graph_numbers.specs.{booked, booked_unless, GraphView}
+use Rattle.graph.specs.{GraphRefusal, refused_at}
 
 abbrev HasWords : GraphView → Type 0
 HasWords g = StatementsHaveWords (history g.script)
@@ -24,7 +15,7 @@ words_unless g h (Some refused) e words = absurd (cc e)
 
 -- the graph of a script with words has them
 pub keeps_words : (script : Script) (header : List Column) (names : FunctionNames) (answer : Result GraphView GraphRefusal) (g : GraphView)
-    → answer ≡ Ok g → Answers refused_at graph.Memory (booked script header names) answer → StatementsHaveWords (history script) → HasWords g
+    → answer ≡ Ok g → Answers refused_at GraphRefusal.Memory (booked script header names) answer → StatementsHaveWords (history script) → HasWords g
 keeps_words script header names (Err refusal) g same booking words = absurd (cc same)
 keeps_words script header names (Ok h) g same booking words =
     let alike : h ≡ g = cc same in

@@ -1,25 +1,15 @@
 -- Columns of a test that are of the kinds that a scope says.
-use Rattle.std.proofs.Common.{◌≡◌, ◌≤◌, ◌+◌, ℕ, Bool, true, false, List, [], ◌∷◌, ◌++◌, Some, Result, Ok, All, refl, subst, cond, nat_eq, nat_le, length, arith}
+use Rattle.std.proofs.Common.{◌≡◌, ◌≤◌, ◌+◌, ℕ, Bool, true, false, List, [], ◌∷◌, ◌++◌, Some, Result, Ok, All, refl, subst, cond, nat_eq, nat_le, length, arith, slice_get}
 use Rattle.std.specs.List.{AllByRecursion}
-use Rattle.std.specs.Prelude.{slice_get}
 use Rattle.std.proofs.lemmas.Bool.Decides.{Decides-eqb}
 use Rattle.std.proofs.lemmas.List.Elements.{recursion_from_All, All-from_recursion}
 use Rattle.expr_check.proofs.ScopeKinds.{each_weaker}
-use Rattle.rdf_values.specs.Numbered.{ScopeColumn}
-use Rattle.rdf_values.specs.declared.value.ColType.{ColType}
-use Rattle.rdf_values.specs.declared.value.ColType.TheVariants as kind
-use Rattle.rdf_values.specs.declared.value.Value.{Value}
-use Rattle.rdf_values.specs.declared.graph_cause.GraphCause.{GraphCause}
-use Rattle.rdf_model.specs.Evaluation.{Outcome, Needs}
-use Rattle.rdf_model.specs.Laws.{FitsOutcome}
-use Rattle.expr_check.specs.NumKinds.{number_kind}
-use Rattle.expr_check.specs.Scopes.{NumberHasKind, numbers_in}
-use Rattle.expr_eval.specs.declared.inputs.Input.{Input}
-use Rattle.expr_eval.specs.declared.inputs.Input.TheVariants as told
-use Rattle.expr_eval.specs.Inputs.{input_outcome}
+use Rattle.rdf_values.specs.{ColType, GraphCause, ScopeColumn, Value}
+use Rattle.rdf_model.specs.{FitsOutcome, Needs, Outcome}
+use Rattle.expr_check.specs.{number_kind, NumberHasKind, numbers_in}
+use Rattle.expr_eval.specs.{Input, input_outcome}
 use Rattle.engine_tests.specs.declared.cells.Cell.{Cell}
-use Rattle.engine_tests.specs.Cells.{fits, cell_outcome, look_in, AllFit}
-use Rattle.engine_tests.specs.Scopes.{IsBefore, AreBefore}
+use Rattle.engine_tests.specs.{AllFit, AreBefore, cell_outcome, fits, IsBefore, look_in}
 
 -- ---- one column
 
@@ -27,21 +17,21 @@ le_from : (m : ℕ) → nat_le m 4096 ≡ true → m ≤ 4096
 le_from m e = grind arith
 
 input_fits : (c : ℕ) (k : ColType) (input : Input) → fits k input ≡ true → FitsOutcome k (input_outcome c input)
-input_fits c kind.Int (told.Int z) e = tt
-input_fits c kind.Int (told.Bool b) e = cc e
-input_fits c kind.Int (told.Vect zs) e = cc e
-input_fits c kind.Int (told.Faulted f) e = tt
-input_fits c kind.Int told.Missing e = tt
-input_fits c kind.Bool (told.Int z) e = cc e
-input_fits c kind.Bool (told.Bool b) e = tt
-input_fits c kind.Bool (told.Vect zs) e = cc e
-input_fits c kind.Bool (told.Faulted f) e = tt
-input_fits c kind.Bool told.Missing e = tt
-input_fits c kind.Vect (told.Int z) e = cc e
-input_fits c kind.Vect (told.Bool b) e = cc e
-input_fits c kind.Vect (told.Vect zs) e = le_from (length zs.now) e
-input_fits c kind.Vect (told.Faulted f) e = tt
-input_fits c kind.Vect told.Missing e = tt
+input_fits c ColType.Int (Input.Int z) e = tt
+input_fits c ColType.Int (Input.Bool b) e = cc e
+input_fits c ColType.Int (Input.Vect zs) e = cc e
+input_fits c ColType.Int (Input.Faulted f) e = tt
+input_fits c ColType.Int Input.Missing e = tt
+input_fits c ColType.Bool (Input.Int z) e = cc e
+input_fits c ColType.Bool (Input.Bool b) e = tt
+input_fits c ColType.Bool (Input.Vect zs) e = cc e
+input_fits c ColType.Bool (Input.Faulted f) e = tt
+input_fits c ColType.Bool Input.Missing e = tt
+input_fits c ColType.Vect (Input.Int z) e = cc e
+input_fits c ColType.Vect (Input.Bool b) e = cc e
+input_fits c ColType.Vect (Input.Vect zs) e = le_from (length zs.now) e
+input_fits c ColType.Vect (Input.Faulted f) e = tt
+input_fits c ColType.Vect Input.Missing e = tt
 
 cell_fits : (c : ℕ) (cell : Cell) → FitsOutcome cell.kind (cell_outcome c (Some cell))
 cell_fits c cell = by_test (fits cell.kind cell.input) (input_fits c cell.kind cell.input)

@@ -1,22 +1,17 @@
 -- The columns of a test.
 use Rattle.std.specs.Prelude.{ℕ, Bool, true, false, List, length, Option, Some, None, slice_get, nat_le, if◌then◌else◌, All}
-use Rattle.rdf_values.specs.declared.value.ColType.{ColType}
-use Rattle.rdf_values.specs.declared.value.ColType.TheVariants as kind
-use Rattle.rdf_values.specs.declared.value.Value.{Value}
-use Rattle.rdf_model.specs.Evaluation.{Outcome, Needs}
-use Rattle.rdf_model.specs.Laws.{FitsOutcome}
-use Rattle.expr_eval.specs.declared.inputs.Input.{Input}
-use Rattle.expr_eval.specs.declared.inputs.Input.TheVariants as told
-use Rattle.expr_eval.specs.Inputs.{input_outcome}
+use Rattle.rdf_values.specs.{ColType, Value}
+use Rattle.rdf_model.specs.{FitsOutcome, Needs, Outcome}
+use Rattle.expr_eval.specs.{Input, input_outcome}
 use Rattle.engine_tests.specs.declared.cells.Cell.{Cell}
 
 -- what is known is of the kind, and a vector has at most 4,096 elements
 abbrev pub fits : ColType → Input → Bool
-fits k (told.Faulted fault) = true
-fits k told.Missing = true
-fits kind.Int (told.Int z) = true
-fits kind.Bool (told.Bool b) = true
-fits kind.Vect (told.Vect zs) = nat_le (length zs.now) 4096
+fits k (Input.Faulted fault) = true
+fits k Input.Missing = true
+fits ColType.Int (Input.Int z) = true
+fits ColType.Bool (Input.Bool b) = true
+fits ColType.Vect (Input.Vect zs) = nat_le (length zs.now) 4096
 fits k input = false
 
 -- what is told of a column; one whose value isn't of its kind counts as missing

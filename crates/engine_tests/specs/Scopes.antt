@@ -1,7 +1,7 @@
 -- The columns of a test as a scope.
 use Rattle.std.specs.Prelude.{◌<◌, ℕ, List, All}
-use Rattle.rdf_values.specs.Numbered.{ScopeColumn}
-use Rattle.rdf_model.specs.Laws.{FitsOutcome}
+use Rattle.rdf_values.specs.{ScopeColumn}
+use Rattle.rdf_model.specs.{FitsOutcome}
 use Rattle.engine_tests.specs.declared.cells.Cell.{Cell}
 use Rattle.engine_tests.specs.Cells.{look_in}
 

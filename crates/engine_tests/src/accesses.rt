@@ -1,9 +1,7 @@
 // What the Prints of a script answer, in order.
 ghost use Rattle.std.specs.Prelude.{◌<◌, ◌≤◌, IfOk};
-ghost use Rattle.rdf_values.specs.Bookable.{IsBookable};
-ghost use Rattle.rdf_values.specs.Path.{history};
-ghost use Rattle.rdf_values.specs.Words.{StatementsHaveWords};
-ghost use Rattle.event_loop.specs.Sessions.{IsSession, session_of};
+ghost use Rattle.rdf_values.specs.{history, IsBookable, StatementsHaveWords};
+ghost use Rattle.event_loop.specs.{IsSession, session_of};
 
 use columns::{Columns, cut};
 use entry_fns::FnList;

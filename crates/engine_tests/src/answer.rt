@@ -1,9 +1,9 @@
 // What an expression comes to.
 ghost use Rattle.std.specs.Prelude.{◌≡◌, ◌<◌, true, IfOk};
-ghost use Rattle.rdf_values.specs.Functions.{fn_names};
-ghost use Rattle.entry_fns.specs.Lists.{functions_in};
-ghost use Rattle.expr_check.specs.NumKinds.{CallsFit, is_plain};
-ghost use Rattle.engine_tests.specs.Cells.{AllFit};
+ghost use Rattle.rdf_values.specs.{fn_names};
+ghost use Rattle.entry_fns.specs.{functions_in};
+ghost use Rattle.expr_check.specs.{CallsFit, is_plain};
+ghost use Rattle.engine_tests.specs.{AllFit};
 
 use crate::cells::{Cell, Cells, scope_of};
 use crate::words::{scalar_words, value_words};

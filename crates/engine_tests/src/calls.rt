@@ -1,6 +1,6 @@
 // Functions that the caller hands in.
 ghost use Rattle.std.specs.Prelude.{◌≡◌, length};
-ghost use Rattle.entry_fns.specs.Shipped.{square_of, hyp2_of};
+ghost use Rattle.entry_fns.specs.{hyp2_of, square_of};
 
 use crate::answer::{scalar_answer, value_answer};
 use crate::cells::{int, missing, truth, vect};

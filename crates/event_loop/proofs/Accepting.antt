@@ -4,29 +4,15 @@ use Rattle.std.specs.List.{AllByRecursion, list_any}
 use Rattle.std.proofs.lemmas.Bool.{and_parts, or_cases, or_left, or_right}
 use Rattle.std.proofs.lemmas.List.{reverse-append}
 use Rattle.std.proofs.lemmas.List.Elements.{recursion_from_All}
-use Rattle.lemmas.proofs.Answers.{same_some}
-use Rattle.lemmas.proofs.Parts.{take_front}
-use Rattle.rdf_values.specs.Bookable.{IsBookable, IsShort}
-use Rattle.rdf_values.specs.Bookings.{ActionAt, Booked, ReportOn, booked_by, bookings, is_watched, names_of, results_named}
-use Rattle.rdf_values.specs.Edges.{are_edges}
-use Rattle.rdf_values.specs.Kinds.{FunctionNames, Scope}
-use Rattle.rdf_values.specs.Names.{among, same}
-use Rattle.rdf_values.specs.Path.{Path, history}
-use Rattle.rdf_values.specs.Verdict.{AreAccepted, can_watch, check, check_columns, check_edges, check_node, check_passes, check_results, is_result, permitted_kinds, refuse_unless, result_is, scope_at}
-use Rattle.rdf_values.specs.Bookings.{columns_of}
-use Rattle.rdf_values.specs.declared.action.ActionKind.{ActionKind}
-use Rattle.rdf_values.specs.declared.action.ActionKind.TheVariants as kind
-use Rattle.rdf_values.specs.declared.graph_cause.GraphCause.TheVariants as cause
-use Rattle.rdf_values.specs.declared.script.Line.{Line}
-use Rattle.rdf_values.specs.declared.script.Script.{Script}
-use Rattle.rdf_values.specs.declared.statement.Statement.{Statement}
+use Rattle.lemmas.proofs.{same_some, take_front}
+use Rattle.rdf_values.specs.{ActionAt, ActionKind, among, are_edges, AreAccepted, Booked, booked_by, bookings, can_watch, check, check_columns, check_edges, check_node, check_passes, check_results, columns_of, FunctionNames, GraphCause, history, is_result, is_watched, IsBookable, IsShort, Line, names_of, Path, permitted_kinds, refuse_unless, ReportOn, result_is, results_named, same, Scope, scope_at, Script, Statement}
 use Rattle.rdf_values.specs.declared.statement.Statement.TheVariants.{Action, Report, Watch}
 use Rattle.rdf_model.proofs.Accepted.{both_none, names_equal, third, unless_holds}
-use Rattle.histograms.specs.Axis.{IsAxis}
-use Rattle.actions.specs.Holding.{HasEdges}
+use Rattle.histograms.specs.{IsAxis}
+use Rattle.actions.specs.{HasEdges}
 use Rattle.graph_numbers.proofs.Listed.{of_joined}
 use Rattle.graph.proofs.Filled.{all_in_turn, later_named}
-use Rattle.cluster_tally.specs.Tallies.{CanWatch}
+use Rattle.cluster_tally.specs.{CanWatch}
 use Rattle.event_loop.proofs.LoopResults.{one_number}
 
 -- ---- edges
@@ -36,15 +22,15 @@ module _ (names : FunctionNames) (header : Scope) where
   axis edges rise few = record { rise = rise; few = omega (arith, few) }
 
   of_kind : (k : ActionKind) (result parent : List ℕ) → check_edges k ≡ None → IsShort (Action result parent k) → HasEdges k
-  of_kind kind.Count r p h short = tt
-  of_kind (kind.Sum c) r p h short = tt
-  of_kind (kind.Min c) r p h short = tt
-  of_kind (kind.Max c) r p h short = tt
-  of_kind (kind.Take c) r p h short = tt
-  of_kind (kind.Reduce o c) r p h short = tt
-  of_kind (kind.Histo1D edges x w) r p h short = axis edges (unless_holds (are_edges edges) cause.BadEdges h) short
-  of_kind (kind.Histo2D xs ys x y w) r p h short =
-      let both = and_parts (are_edges xs) (are_edges ys) (unless_holds (are_edges xs && are_edges ys) cause.BadEdges h) in
+  of_kind ActionKind.Count r p h short = tt
+  of_kind (ActionKind.Sum c) r p h short = tt
+  of_kind (ActionKind.Min c) r p h short = tt
+  of_kind (ActionKind.Max c) r p h short = tt
+  of_kind (ActionKind.Take c) r p h short = tt
+  of_kind (ActionKind.Reduce o c) r p h short = tt
+  of_kind (ActionKind.Histo1D edges x w) r p h short = axis edges (unless_holds (are_edges edges) GraphCause.BadEdges h) short
+  of_kind (ActionKind.Histo2D xs ys x y w) r p h short =
+      let both = and_parts (are_edges xs) (are_edges ys) (unless_holds (are_edges xs && are_edges ys) GraphCause.BadEdges h) in
       (axis xs both.0 short.0, axis ys both.1 short.1)
 
   edges_kept : (before : List Statement) (result parent : List ℕ) (k : ActionKind) → check names header before (Action result parent k) ≡ None → check_edges k ≡ None
@@ -129,7 +115,7 @@ module _ (names : FunctionNames) (header : Scope) where
   watched_named : (st : List Statement) → AreAccepted names header st → (name : List ℕ) → is_watched st name ≡ true → is_result st name ≡ true
   watched_named [] acc name h = cc h
   watched_named (Watch r ∷ before) acc name h = among_more (bookings before) [] name (elim (or_cases (same r name) (is_watched before name) h) [
-    | inl p ↦ subst (λ n. is_result before n ≡ true) (names_equal r name p) (unless_holds (is_result before r) cause.UnknownName (both_none (refuse_unless (is_result before r) cause.UnknownName) _ acc.0).0)
+    | inl p ↦ subst (λ n. is_result before n ≡ true) (names_equal r name p) (unless_holds (is_result before r) GraphCause.UnknownName (both_none (refuse_unless (is_result before r) GraphCause.UnknownName) _ acc.0).0)
     | inr p ↦ watched_named before acc.1 name p
   ])
   watched_named (s ∷ before) acc name h = among_more (bookings before) (booked_by before s) name (watched_named before acc.1 name h)
@@ -140,8 +126,8 @@ module _ (names : FunctionNames) (header : Scope) where
       let here : slice_get (bookings before) n ≡ Some b = ap (λ l. slice_get l n) (sym (append-nil (bookings before))) ∙ is in
       elim (or_cases (same r b.name) (is_watched before b.name) h) [
         | inl p ↦ (
-            let known = (both_none (refuse_unless (is_result before r) cause.UnknownName) _ acc.0).1 in
-            let can = unless_holds (result_is can_watch before r) cause.WrongKind (both_none (refuse_unless (result_is can_watch before r) cause.WrongKind) _ known).0 in
+            let known = (both_none (refuse_unless (is_result before r) GraphCause.UnknownName) _ acc.0).1 in
+            let can = unless_holds (result_is can_watch before r) GraphCause.WrongKind (both_none (refuse_unless (result_is can_watch before r) GraphCause.WrongKind) _ known).0 in
             let c = any_named (bookings before) r can in
             let same_name : same c.booked.name b.name ≡ true = ap (λ (m : List ℕ). same m b.name) c.named ∙ p in
             let number = one_number before (all_in_turn names header before acc.1) c.place n c.booked b c.there_is here same_name in
@@ -155,10 +141,10 @@ module _ (names : FunctionNames) (header : Scope) where
   ]
 
 kind_can : (k : ActionKind) (at : Path) → can_watch (ActionAt k at) ≡ true → CanWatch k
-kind_can kind.Count at h = tt
-kind_can (kind.Sum c) at h = tt
-kind_can (kind.Min c) at h = tt
-kind_can (kind.Max c) at h = tt
+kind_can ActionKind.Count at h = tt
+kind_can (ActionKind.Sum c) at h = tt
+kind_can (ActionKind.Min c) at h = tt
+kind_can (ActionKind.Max c) at h = tt
 kind_can k at h = cc h
 
 -- what is watched can be

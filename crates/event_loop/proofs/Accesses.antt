@@ -1,31 +1,17 @@
 -- What a session is after an access.
-use Rattle.std.proofs.Common.{if◌then◌else◌, ◌≡◌, ◌⊎◌, inl, inr, ℕ, ◌+◌, ◌<◌, ◌≤◌, Bool, true, List, [], ◌∷◌, ◌++◌, take, length, Option, Some, None, refl, sym, ◌∙◌, ap, subst, arith, length-append}
-use Rattle.std.specs.Prelude.{IfSome, filter_map, option_map, slice_get, unwrap_or}
+use Rattle.std.proofs.Common.{if◌then◌else◌, ◌≡◌, ◌⊎◌, inl, inr, ℕ, ◌+◌, ◌<◌, ◌≤◌, Bool, true, List, [], ◌∷◌, ◌++◌, take, length, Option, Some, None, refl, sym, ◌∙◌, ap, subst, arith, length-append, IfSome, filter_map, option_map, slice_get, unwrap_or}
 use Rattle.std.specs.List.{cons_option}
 use Rattle.std.proofs.lemmas.Option.{IfSome_then, slice_get_within}
-use Rattle.lemmas.proofs.Answers.{same_some}
-use Rattle.lemmas.proofs.Parts.{take_next}
-use Rattle.lemmas.proofs.Places.{before_or_last, kept_at}
-use Rattle.rdf_values.specs.Bookings.{Booked}
-use Rattle.rdf_values.specs.Cuts.{Lead, cut}
-use Rattle.rdf_values.specs.Machine.{first_in}
-use Rattle.rdf_values.specs.Path.{history}
-use Rattle.rdf_values.specs.declared.fault.Fault.{Fault}
-use Rattle.rdf_values.specs.declared.statement.Statement.{Statement}
+use Rattle.lemmas.proofs.{before_or_last, kept_at, same_some, take_next}
+use Rattle.rdf_values.specs.{Booked, cut, Fault, first_in, history, Lead, Statement}
 use Rattle.rdf_values.specs.declared.statement.Statement.TheVariants.{Print}
 use Rattle.rdf_values.proofs.Leading.{cuts_lead}
-use Rattle.rdf_model.specs.Laws.{ComesInTurn, loops_before}
-use Rattle.rdf_model.specs.Loops.{Access, accesses, filled_by, loop_of, loop_passes, loop_results}
-use Rattle.rdf_model.specs.Results.{Dataset, first_fault, first_fault_from}
+use Rattle.rdf_model.specs.{Access, accesses, ComesInTurn, Dataset, filled_by, first_fault, first_fault_from, loop_of, loop_passes, loop_results, loops_before}
 use Rattle.rdf_model.proofs.Turns.{loops_come_in_turn}
-use Rattle.graph_numbers.specs.Graphs.{graph_prints}
-use Rattle.loop_keys.specs.Jobs.{passes_in}
+use Rattle.graph_numbers.specs.{graph_prints}
+use Rattle.loop_keys.specs.{passes_in}
 use Rattle.loop_pieces.proofs.ClusterFaults.{first_cluster_has_first_fault}
-use Rattle.event_loop.specs.Jobs.{job_facts}
-use Rattle.event_loop.specs.Ends.{IsFilled}
-use Rattle.event_loop.specs.declared.end.FilledLoop.{FilledLoop}
-use Rattle.event_loop.specs.Places.{loop_filling}
-use Rattle.event_loop.specs.Sessions.{IsAccessed, IsFaulted, IsFilledIn, IsKept, IsRefused, IsSession, IsUnfilled, SessionView, passes_run, session_job}
+use Rattle.event_loop.specs.{FilledLoop, IsAccessed, IsFaulted, IsFilled, IsFilledIn, IsKept, IsRefused, IsSession, IsUnfilled, job_facts, loop_filling, passes_run, session_job, SessionView}
 use Rattle.event_loop.specs.declared.kept.Kept.{Kept}
 use Rattle.event_loop.proofs.LoopResults.{filter_map-append}
 use Rattle.event_loop.proofs.Found.{in_turn, statements_few}

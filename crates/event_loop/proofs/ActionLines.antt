@@ -1,23 +1,14 @@
 -- The lines of an action's accumulators are those of its passes by themselves.
-use Rattle.std.proofs.Common.{◌≡◌, ℕ, zero, suc, ◌+◌, ◌<◌, List, [], ◌∷◌, ◌++◌, length, Some, refl, sym, ◌∙◌, ap, ap₂, subst, arith, append_assoc, length-append}
-use Rattle.std.specs.Prelude.{flat_map, slice_get}
+use Rattle.std.proofs.Common.{◌≡◌, ℕ, zero, suc, ◌+◌, ◌<◌, List, [], ◌∷◌, ◌++◌, length, Some, refl, sym, ◌∙◌, ap, ap₂, subst, arith, append_assoc, length-append, flat_map, slice_get}
 use Rattle.std.proofs.lemmas.List.{length-map}
-use Rattle.lemmas.proofs.Places.{something_at}
-use Rattle.rdf_values.specs.Path.{Path}
-use Rattle.rdf_values.specs.Bookings.{Booked, Booking, ActionAt, Pass}
-use Rattle.rdf_values.specs.declared.action.ActionKind.{ActionKind}
-use Rattle.rdf_values.specs.declared.span.Span.{Span}
-use Rattle.rdf_model.specs.Laws.{action_pass}
-use Rattle.rdf_model.specs.LoopFacts.{kind_in, kinds_in, loop_facts}
-use Rattle.rdf_model.specs.PartialResults.{over_clusters}
-use Rattle.rdf_model.specs.ResultLines.{booking_lines, filled_lines, label, pass_lines}
-use Rattle.rdf_model.specs.Results.{Dataset, pass_result}
-use Rattle.actions.specs.Accumulators.{Accumulator}
+use Rattle.lemmas.proofs.{something_at}
+use Rattle.rdf_values.specs.{ActionAt, ActionKind, Booked, Booking, Pass, Path, Span}
+use Rattle.rdf_model.specs.{action_pass, booking_lines, Dataset, filled_lines, kind_in, kinds_in, label, loop_facts, over_clusters, pass_lines, pass_result}
+use Rattle.actions.specs.{Accumulator}
 use Rattle.graph_numbers.proofs.Listed.{next_at}
-use Rattle.loop_pieces.specs.LoopPieces.{StandsFor}
-use Rattle.loop_pieces.specs.declared.loop_piece.LoopPiece.{LoopPiece}
+use Rattle.loop_pieces.specs.{LoopPiece, StandsFor}
 use Rattle.loop_pieces.proofs.WholeLoops.{piece_holds_results}
-use Rattle.result_text.specs.FilledLines.{acc_lines, lines_from}
+use Rattle.result_text.specs.{acc_lines, lines_from}
 use Rattle.event_loop.proofs.Found.{AreOf, kinds-append}
 
 module _ (b : Booked) (k : ActionKind) (at : Path) (action : b.booking ≡ ActionAt k at) where

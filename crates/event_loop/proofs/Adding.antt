@@ -1,41 +1,27 @@
 -- One more pass.
-use Rattle.std.proofs.Common.{◌≡◌, ℕ, zero, suc, ◌+◌, ◌<◌, ◌≤◌, ◌^◌, Bool, true, false, ◌&&◌, List, [], ◌∷◌, ◌++◌, length, map, take, get_or, Option, None, Some, refl, sym, ◌∙◌, ap, ap₂, subst, arith, slice_get, unwrap_or, option_map, if◌then◌else◌, append-nil, length-append}
+use Rattle.std.proofs.Common.{◌≡◌, ℕ, zero, suc, ◌+◌, ◌<◌, ◌≤◌, ◌^◌, Bool, true, false, ◌&&◌, List, [], ◌∷◌, ◌++◌, length, map, take, get_or, Option, None, Some, refl, sym, ◌∙◌, ap, ap₂, subst, arith, slice_get, unwrap_or, option_map, if◌then◌else◌, append-nil, length-append, is_none}
 use mir.Val.{bool_byte}
-use Rattle.std.specs.Prelude.{is_none}
 use Rattle.std.proofs.lemmas.List.Concat.{flat_map-append}
 use Rattle.std.proofs.lemmas.List.{length-map, length-take}
 use Rattle.std.proofs.lemmas.Option.{same_Some}
-use Rattle.lemmas.proofs.Parts.{take_next}
-use Rattle.lemmas.proofs.Places.{mapped_at}
-use Rattle.rdf_values.specs.Bookings.{ActionAt, Booking, Pass, ReportOn, bookings, is_watched, named_before}
-use Rattle.rdf_values.specs.Functions.{fn_names}
-use Rattle.rdf_values.specs.Kinds.{scope_of}
-use Rattle.rdf_values.specs.Path.{Path, Variation, history, variations}
-use Rattle.rdf_values.specs.declared.action.ActionKind.{ActionKind}
-use Rattle.rdf_values.specs.declared.statement.Statement.{Statement}
-use Rattle.rdf_model.specs.LoopFacts.{is_covered, kind_in, kinds_in}
-use Rattle.graph_numbers.specs.Graphs.{GraphView, graph_filters, graph_loops, graph_results, graph_under, graph_variations}
-use Rattle.graph_numbers.specs.Results.{ResultAt, kind_of_booking, under_at}
-use Rattle.graph_numbers.specs.declared.pass.Pass.{Pass as NumberedPass}
-use Rattle.graph_numbers.specs.declared.result_kind.ResultKind.{ResultKind}
-use Rattle.graph_numbers.specs.declared.result_kind.ResultKind.TheVariants as what
+use Rattle.lemmas.proofs.{mapped_at, take_next}
+use Rattle.rdf_values.specs.{ActionAt, ActionKind, Booking, bookings, fn_names, history, is_watched, named_before, Pass, Path, ReportOn, scope_of, Statement, Variation, variations}
+use Rattle.rdf_model.specs.{is_covered, kind_in, kinds_in}
+use Rattle.graph_numbers.specs.{graph_filters, graph_loops, graph_results, graph_under, graph_variations, GraphView, kind_of_booking, Pass as NumberedPass, ResultAt, ResultKind, under_at}
 use Rattle.graph_numbers.proofs.Resulting.{booked_are}
-use Rattle.loop_keys.specs.Caches.{numbered_in}
-use Rattle.loop_keys.specs.Jobs.{IsJob, JobView, job_graph, passes_in}
+use Rattle.loop_keys.specs.{IsJob, job_graph, JobView, numbered_in, numbered_passes, passes_in}
 use Rattle.loop_keys.proofs.EvaluateLaws.{accepted_of}
 use Rattle.loop_keys.proofs.PassNumbers.{result_inside, result_there}
 use Rattle.loop_keys.proofs.PassTies.{pass_of}
 use Rattle.loop_keys.proofs.Elements.{of_chosen}
-use Rattle.loop_keys.specs.Turns.{numbered_passes}
 use Rattle.loop_keys.proofs.Covered.{covered_count, passes_count}
 use Rattle.loop_keys.proofs.EntryLaws.{read_pass}
 use Rattle.loop_keys.proofs.PassCounts.{few_passes}
-use Rattle.actions.specs.Holding.{HasEdges}
-use Rattle.cluster_tally.specs.Feedings.{IsFresh, place_if}
-use Rattle.cluster_tally.specs.Tallies.{CanWatch, TallyView}
-use Rattle.loop_pieces.specs.Trails.{place_if_watched, watched_from, watched_places}
+use Rattle.actions.specs.{HasEdges}
+use Rattle.cluster_tally.specs.{CanWatch, IsFresh, place_if, TallyView}
+use Rattle.loop_pieces.specs.{place_if_watched, watched_from, watched_places}
 use Rattle.result_text.proofs.Within.{IsIn, variation_within}
-use Rattle.event_loop.specs.Passes.{IsOfPasses, is_watched_pass, places_before, watched_before}
+use Rattle.event_loop.specs.{is_watched_pass, IsOfPasses, places_before, watched_before}
 use Rattle.event_loop.proofs.Accepting.{all_short, can_be_watched, has_edges}
 use Rattle.event_loop.proofs.Decoding.{watched-append}
 
@@ -114,26 +100,26 @@ module _ (j : JobView) (n : ℕ) (m : NumberedPass) (its : numbered_in j n ≡ S
     kind_is = same_Some _ kind (sym (ap (option_map (λ (x : ResultAt). kind_of_booking x.booked.booking)) result_is)
         ∙ ap (λ (h : GraphView). option_map (λ (x : ResultAt). kind_of_booking x.booked.booking) (slice_get (graph_results h) m.result)) (sym same) ∙ is)
 
-    pub of_action : (k : ActionKind) → kind ≡ what.Action k → (at : Path) × (its_result.booked.booking ≡ ActionAt k at)
+    pub of_action : (k : ActionKind) → kind ≡ ResultKind.Action k → (at : Path) × (its_result.booked.booking ≡ ActionAt k at)
     of_action k e = go its_result.booked.booking refl (kind_is ∙ e)
       where
-        go : (b : Booking) → its_result.booked.booking ≡ b → kind_of_booking b ≡ what.Action k → (at : Path) × (its_result.booked.booking ≡ ActionAt k at)
+        go : (b : Booking) → its_result.booked.booking ≡ b → kind_of_booking b ≡ ResultKind.Action k → (at : Path) × (its_result.booked.booking ≡ ActionAt k at)
         go (ActionAt l at) q h = (at, q ∙ ap (λ x. ActionAt x at) (cc h))
         go (ReportOn fs) q h = cc h
 
-    pub of_report : kind ≡ what.Report → kind_in its_result.booked.booking ≡ []
+    pub of_report : kind ≡ ResultKind.Report → kind_in its_result.booked.booking ≡ []
     of_report e = go its_result.booked.booking (kind_is ∙ e)
       where
-        go : (b : Booking) → kind_of_booking b ≡ what.Report → kind_in b ≡ []
+        go : (b : Booking) → kind_of_booking b ≡ ResultKind.Report → kind_in b ≡ []
         go (ActionAt l at) h = cc h
         go (ReportOn fs) h = refl
 
-    pub edges : (job : IsJob j) (k : ActionKind) → kind ≡ what.Action k → HasEdges k
+    pub edges : (job : IsJob j) (k : ActionKind) → kind ≡ ResultKind.Action k → HasEdges k
     edges job k e =
         let b = of_action k e in
         has_edges (fn_names j.dataset.fns) (scope_of j.dataset.columns) (history j.script) (accepted_of j job) (all_short j.script job.graph.bookable) m.result its_result.booked k b.0 booked_is b.1
 
-    pub can_watch : (job : IsJob j) (k : ActionKind) → kind ≡ what.Action k → is_watched_pass (history j.script) (record { result = its_result.booked; under = graph_under (job_graph j) m.variation }) ≡ true → CanWatch k
+    pub can_watch : (job : IsJob j) (k : ActionKind) → kind ≡ ResultKind.Action k → is_watched_pass (history j.script) (record { result = its_result.booked; under = graph_under (job_graph j) m.variation }) ≡ true → CanWatch k
     can_watch job k e on =
         let b = of_action k e in
         can_be_watched (fn_names j.dataset.fns) (scope_of j.dataset.columns) (history j.script) (accepted_of j job) m.result its_result.booked k b.0 booked_is b.1

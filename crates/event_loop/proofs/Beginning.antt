@@ -1,33 +1,21 @@
 -- A slot that finished no cluster.
 use Rattle.std.proofs.Common.{◌≡◌, ◌≤◌, ◌<◌, List, [], length, map, replicate, Some, sym, ◌∙◌, ap, subst, arith, slice_get, unwrap_or}
 use Rattle.std.proofs.lemmas.List.{length-map}
-use Rattle.lemmas.proofs.Places.{something_at}
+use Rattle.lemmas.proofs.{something_at}
 use Rattle.rdf_values.proofs.Below.{length-below}
-use Rattle.rdf_values.specs.Bookings.{Booked, Pass, named_before}
-use Rattle.rdf_values.specs.Cuts.{below}
-use Rattle.rdf_values.specs.Path.{history}
-use Rattle.rdf_values.specs.Words.{AnswerIn64Bits, StatementsHaveWords}
-use Rattle.rdf_model.specs.LoopFacts.{IsLoopFacts, kinds_in, loop_facts}
-use Rattle.rdf_model.specs.Loops.{loop_passes, loop_results}
+use Rattle.rdf_values.specs.{AnswerIn64Bits, below, Booked, history, named_before, Pass, StatementsHaveWords}
+use Rattle.rdf_model.specs.{IsLoopFacts, kinds_in, loop_facts, loop_passes, loop_results}
 use Rattle.rdf_model.proofs.Limits.{cuts_are_in_order, loops_meet_limits}
-use Rattle.graph_numbers.specs.Graphs.{graph_loops}
-use Rattle.graph_numbers.specs.Results.{pass_at}
+use Rattle.graph_numbers.specs.{graph_loops, pass_at}
 use Rattle.graph_numbers.proofs.Extending.{itself}
 use Rattle.graph_numbers.proofs.Looping.{loops_are}
-use Rattle.loop_pieces.specs.Flows.{nothing}
-use Rattle.block_passes.specs.States.{CountsVectors, IsStateOf}
-use Rattle.loop_keys.specs.Jobs.{IsJob, JobView, job_graph, passes_in}
-use Rattle.loop_keys.specs.Entries.{facts_in, job_spans}
+use Rattle.loop_pieces.specs.{cluster_fault, nothing, watched_places}
+use Rattle.block_passes.specs.{CountsVectors, IsStateOf}
+use Rattle.loop_keys.specs.{facts_in, IsJob, job_graph, job_spans, JobView, passes_in}
 use Rattle.loop_keys.proofs.EntryLaws.{all_taken}
-use Rattle.cluster_tally.specs.Feedings.{IsFresh}
-use Rattle.cluster_tally.specs.Stages.{at_begin}
-use Rattle.cluster_tally.specs.Tallies.{Holds}
+use Rattle.cluster_tally.specs.{at_begin, Holds, IsFresh}
 use Rattle.cluster_tally.proofs.Stagings.{fresh_holds}
-use Rattle.loop_pieces.specs.Trails.{watched_places}
-use Rattle.loop_pieces.specs.Whole.{cluster_fault}
-use Rattle.event_loop.specs.Jobs.{job_facts}
-use Rattle.event_loop.specs.Passes.{IsOfPasses}
-use Rattle.event_loop.specs.Slots.{IsFreshSlot, SlotView}
+use Rattle.event_loop.specs.{IsFreshSlot, IsOfPasses, job_facts, SlotView}
 use Rattle.event_loop.specs.declared.progress.Phase.TheVariants.{Going}
 
 module _ (j : JobView) (job : IsJob j) where

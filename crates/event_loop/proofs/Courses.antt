@@ -1,27 +1,14 @@
 -- The course of a run, and its whole text.
-use Rattle.std.proofs.Common.{if◌then◌else◌, ◌≡◌, ℕ, zero, suc, ◌+◌, ◌<◌, ◌≤◌, Bool, true, false, List, [], ◌∷◌, drop, length, Option, Some, None, refl, sym, ◌∙◌, ap, ap₂, subst, arith, append-nil, add-one}
-use Rattle.std.specs.Prelude.{slice_get}
+use Rattle.std.proofs.Common.{if◌then◌else◌, ◌≡◌, ℕ, zero, suc, ◌+◌, ◌<◌, ◌≤◌, Bool, true, false, List, [], ◌∷◌, drop, length, Option, Some, None, refl, sym, ◌∙◌, ap, ap₂, subst, arith, append-nil, add-one, slice_get}
 use Rattle.std.proofs.lemmas.List.{length-map}
 use Rattle.std.proofs.lemmas.Option.{slice_get_within}
-use Rattle.lemmas.proofs.Answers.{same_some}
-use Rattle.lemmas.proofs.Places.{something_at}
-use Rattle.rdf_values.specs.Cuts.{cut, stride}
-use Rattle.rdf_values.specs.Path.{history}
-use Rattle.rdf_values.specs.declared.span.Span.{Span}
-use Rattle.rdf_model.specs.Loops.{Access, accesses}
-use Rattle.rdf_model.specs.PartialResults.{Course, IsChain, IsCourse}
-use Rattle.rdf_model.specs.Results.{Dataset, first_fault}
-use Rattle.rdf_model.specs.Transcript.{Printed, access_passes, access_printed, in_front_of, printed}
+use Rattle.lemmas.proofs.{same_some, something_at}
+use Rattle.rdf_values.specs.{cut, history, Span, stride}
+use Rattle.rdf_model.specs.{Access, access_passes, access_printed, accesses, Course, Dataset, first_fault, in_front_of, IsChain, IsCourse, Printed, printed}
 use Rattle.columns.specs.CutsView.{CutsView}
-use Rattle.graph_numbers.specs.Graphs.{GraphView, graph_prints}
-use Rattle.graph_numbers.specs.Results.{result_number}
-use Rattle.loop_pieces.specs.PartialLines.{ArePartialLines}
-use Rattle.loop_pieces.specs.declared.filled_result.PartialLine.{PartialLine}
-use Rattle.event_loop.specs.Jobs.{job_facts}
-use Rattle.event_loop.specs.declared.end.FilledLoop.{FilledLoop}
-use Rattle.event_loop.specs.Sessions.{HasSameParts, IsSession, SessionView, session_job}
-use Rattle.event_loop.specs.Transcripts.{IsTranscript}
-use Rattle.event_loop.specs.Turns.{EndsAt, FitsCourse, GoesOn, print_gives}
+use Rattle.graph_numbers.specs.{graph_prints, GraphView, result_number}
+use Rattle.loop_pieces.specs.{ArePartialLines, PartialLine}
+use Rattle.event_loop.specs.{EndsAt, FilledLoop, FitsCourse, GoesOn, HasSameParts, IsSession, IsTranscript, job_facts, print_gives, session_job, SessionView}
 use Rattle.event_loop.proofs.SomeChain.{first_sets, first_sets_are_a_chain}
 use Rattle.event_loop.proofs.Turning.{fits_before}
 

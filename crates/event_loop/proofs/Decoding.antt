@@ -1,24 +1,17 @@
 -- The passes of a loop by numbers and by names.
-use Rattle.std.proofs.Common.{if◌then◌else◌, ◌≡◌, ℕ, zero, suc, ◌+◌, ◌<◌, Bool, true, false, ◌&&◌, List, [], ◌∷◌, ◌++◌, map, take, length, Option, None, Some, refl, sym, ap, ◌∙◌, arith, length-append, append_assoc, add-one}
-use Rattle.std.specs.Prelude.{is_none, option_map, slice_get}
+use Rattle.std.proofs.Common.{if◌then◌else◌, ◌≡◌, ℕ, zero, suc, ◌+◌, ◌<◌, Bool, true, false, ◌&&◌, List, [], ◌∷◌, ◌++◌, map, take, length, Option, None, Some, refl, sym, ap, ◌∙◌, arith, length-append, append_assoc, add-one, is_none, option_map, slice_get}
 use Rattle.std.proofs.lemmas.List.{length-map}
 use Rattle.std.proofs.lemmas.List.Concat.{flat_map-append}
 use Rattle.std.proofs.lemmas.Option.{slice_get-map}
-use Rattle.lemmas.proofs.Answers.{same_some}
-use Rattle.lemmas.proofs.Places.{something_at}
-use Rattle.rdf_values.specs.Bookings.{Booked, Pass, bookings, is_watched}
-use Rattle.rdf_values.specs.Path.{Under}
-use Rattle.rdf_values.specs.declared.statement.Statement.{Statement}
-use Rattle.rdf_model.specs.LoopFacts.{kind_in, kinds_in}
-use Rattle.rdf_model.specs.Loops.{loop_passes, loop_results}
-use Rattle.graph_numbers.specs.Graphs.{GraphView, booked_statements, graph_loops, graph_results, graph_variations}
-use Rattle.graph_numbers.specs.Results.{ResultAt, pass_at, under_at}
-use Rattle.graph_numbers.specs.declared.pass.Pass.{Pass as NumberedPass}
+use Rattle.lemmas.proofs.{same_some, something_at}
+use Rattle.rdf_values.specs.{Booked, bookings, is_watched, Pass, Statement, Under}
+use Rattle.rdf_model.specs.{kind_in, kinds_in, loop_passes, loop_results}
+use Rattle.graph_numbers.specs.{booked_statements, graph_loops, graph_results, graph_variations, GraphView, Pass as NumberedPass, pass_at, ResultAt, under_at}
 use Rattle.graph_numbers.proofs.Extending.{itself}
 use Rattle.graph_numbers.proofs.Looping.{loops_are}
 use Rattle.graph_numbers.proofs.Resulting.{booked_are}
-use Rattle.loop_pieces.specs.Trails.{place_if_watched, watched_from, watched_places}
-use Rattle.event_loop.specs.Places.{IsPassOf}
+use Rattle.loop_pieces.specs.{place_if_watched, watched_from, watched_places}
+use Rattle.event_loop.specs.{IsPassOf}
 
 -- the passes of some numbers have these names
 abbrev pub AreDecoded : List Statement → List NumberedPass → List Pass → Type 0

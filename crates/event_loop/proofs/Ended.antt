@@ -1,29 +1,20 @@
 -- What the slots of a loop tell once all have stopped.
-use Rattle.std.proofs.Common.{◌≡◌, ◌⊎◌, ℕ, zero, suc, ◌<◌, ◌≤◌, min, List, [], ◌∷◌, ◌++◌, length, map, Option, None, Some, refl, sym, ap, ◌∙◌, subst, inl, inr, ⊎_elim, arith}
-use Rattle.std.specs.Prelude.{flat_map, slice_get, IfSome, IsSomeAnd}
+use Rattle.std.proofs.Common.{◌≡◌, ◌⊎◌, ℕ, zero, suc, ◌<◌, ◌≤◌, min, List, [], ◌∷◌, ◌++◌, length, map, Option, None, Some, refl, sym, ap, ◌∙◌, subst, inl, inr, ⊎_elim, arith, flat_map, slice_get, IfSome, IsSomeAnd}
 use Rattle.std.specs.List.{All, concat}
 use Rattle.std.proofs.lemmas.Bool.{cases_lt}
 use Rattle.std.proofs.lemmas.List.Elements.{All-nil, All-cons, All-head, All-tail}
 use Rattle.std.proofs.lemmas.Option.{slice_get-get_or}
-use Rattle.rdf_values.specs.Draws.{DrawnBy}
-use Rattle.rdf_values.specs.Machine.{least_fault, first_in}
-use Rattle.rdf_values.specs.Times.{times, once_below}
-use Rattle.rdf_values.specs.declared.fault.Fault.{Fault}
+use Rattle.rdf_values.specs.{DrawnBy, Fault, first_in, least_fault, once_below, times}
 use Rattle.rdf_values.proofs.DrawCounts.{times_concat, times_push, counts_by_drawn, once_inside, inside_once, times_self}
 use Rattle.rdf_values.proofs.UnionLemmas.{drawn_lists_unite}
 use Rattle.merge_core.proofs.Faults.{Among, Told, told_nothing, told_both, first_told, among_left, among_right}
 use Rattle.merge_core.proofs.Holding.{only}
-use Rattle.slot_words.specs.Seats.{ClaimsSeen, SeatSeen, IsLeast, IsPassed, last_of}
-use Rattle.slot_words.specs.Shares.{BookSeen}
-use Rattle.slot_words.specs.SeatEnds.{MetBar, RanOut}
-use Rattle.event_loop.specs.Jobs.{JobFacts}
-use Rattle.event_loop.specs.Slots.{SlotView}
+use Rattle.slot_words.specs.{BookSeen, ClaimsSeen, IsLeast, IsPassed, last_of, MetBar, RanOut, SeatSeen}
+use Rattle.event_loop.specs.{AreDone, AreFacts, done_in, done_or_none, end_faults, fault_of, finished_by, HasMemory, HasStopped, HasWorked, IsDone, IsServed, JobFacts, seat_in, SlotView, Stopped}
 use Rattle.event_loop.specs.declared.workers.Finished.{Finished}
 use Rattle.event_loop.specs.declared.workers.Slot.{Slot}
 use Rattle.event_loop.specs.declared.workers.End.{End}
 use Rattle.event_loop.specs.declared.workers.End.TheVariants.{Over, Faulted, NoMemory}
-use Rattle.event_loop.specs.Workers.{HasWorked, Stopped}
-use Rattle.event_loop.specs.Gathered.{AreDone, AreFacts, HasMemory, HasStopped, IsDone, IsServed, done_in, done_or_none, end_faults, fault_of, finished_by, seat_in}
 
 -- the clusters that each slot drew
 abbrev pub drawn_in : List Finished → List (List ℕ)

@@ -1,23 +1,17 @@
 -- The completed loop that fills a result.
-use Rattle.std.proofs.Common.{if◌then◌else◌, ◌≡◌, ◌⊎◌, inl, inr, ℕ, ◌+◌, ◌<◌, ◌≤◌, Bool, true, false, List, [], ◌∷◌, ◌++◌, length, Option, Some, None, sym, ◌∙◌, ap, subst, arith}
-use Rattle.std.specs.Prelude.{slice_get, unwrap_or}
+use Rattle.std.proofs.Common.{if◌then◌else◌, ◌≡◌, ◌⊎◌, inl, inr, ℕ, ◌+◌, ◌<◌, ◌≤◌, Bool, true, false, List, [], ◌∷◌, ◌++◌, length, Option, Some, None, sym, ◌∙◌, ap, subst, arith, slice_get, unwrap_or}
 use Rattle.std.proofs.lemmas.Bool.{cases_lt}
 use Rattle.std.proofs.lemmas.Option.{slice_get_within}
-use Rattle.lemmas.proofs.Places.{something_at}
-use Rattle.rdf_values.specs.Bookings.{Booked, Pass, passes_of}
-use Rattle.rdf_values.specs.Path.{history}
-use Rattle.rdf_model.specs.LoopFacts.{kind_in, kinds_in}
-use Rattle.rdf_model.specs.Loops.{loop_passes, loop_results}
-use Rattle.graph_numbers.specs.Graphs.{graph_loops, graph_results}
-use Rattle.graph_numbers.specs.Results.{ResultAt}
+use Rattle.lemmas.proofs.{something_at}
+use Rattle.rdf_values.specs.{Booked, history, Pass, passes_of}
+use Rattle.rdf_model.specs.{kind_in, kinds_in, loop_passes, loop_results}
+use Rattle.graph_numbers.specs.{graph_loops, graph_results, ResultAt}
 use Rattle.graph_numbers.proofs.Extending.{itself}
 use Rattle.graph_numbers.proofs.Listed.{next_at}
-use Rattle.loop_keys.specs.Jobs.{passes_in}
-use Rattle.loop_pieces.specs.Trails.{place_if_watched, watched_from, watched_places}
+use Rattle.loop_keys.specs.{passes_in}
+use Rattle.loop_pieces.specs.{place_if_watched, watched_from, watched_places}
 use Rattle.graph.proofs.Looped.{loops_few}
-use Rattle.event_loop.specs.declared.end.FilledLoop.{FilledLoop}
-use Rattle.event_loop.specs.Places.{IsFilledPlace, IsPlaced, fills}
-use Rattle.event_loop.specs.Sessions.{ArePartials, IsFilledAt, IsFoundAt, IsSession, IsUnfilled, SessionView, session_job}
+use Rattle.event_loop.specs.{ArePartials, FilledLoop, fills, IsFilledAt, IsFilledPlace, IsFoundAt, IsPlaced, IsSession, IsUnfilled, session_job, SessionView}
 use Rattle.event_loop.specs.declared.place.Place.{Place}
 use Rattle.event_loop.proofs.Decoding.{watched-append}
 use Rattle.event_loop.proofs.LoopResults.{many}

@@ -1,33 +1,24 @@
 -- The place of a result in a loop, as it is found among the loop's passes.
-use Rattle.std.proofs.Common.{if◌then◌else◌, ◌≡◌, ◌⊎◌, inl, inr, ℕ, zero, suc, ◌+◌, ◌*◌, ◌≤◌, Bool, true, false, cond, List, [], ◌∷◌, ◌++◌, map, take, length, Some, None, refl, sym, ◌∙◌, ap, ap₂, arith, length-append}
-use Rattle.std.specs.Prelude.{⊤, count_by, filter, nat_lt, option_map, slice_get}
+use Rattle.std.proofs.Common.{if◌then◌else◌, ◌≡◌, ◌⊎◌, inl, inr, ℕ, zero, suc, ◌+◌, ◌*◌, ◌≤◌, Bool, true, false, cond, List, [], ◌∷◌, ◌++◌, map, take, length, Some, None, refl, sym, ◌∙◌, ap, ap₂, arith, length-append, count_by, filter, nat_lt, option_map, slice_get}
+use Rattle.std.specs.Prelude.{⊤}
 use Rattle.std.specs.List.{position, position_or_len}
 use Rattle.std.proofs.lemmas.Bool.Decides.{nat_tests}
 use Rattle.std.proofs.lemmas.List.{length-map, length-reverse}
 use Rattle.std.proofs.lemmas.List.Concat.{flat_map-append}
 use Rattle.std.proofs.lemmas.Option.{slice_get_within}
-use Rattle.lemmas.proofs.Answers.{same_some}
-use Rattle.lemmas.proofs.Parts.{take_front}
-use Rattle.lemmas.proofs.Places.{something_at}
+use Rattle.lemmas.proofs.{same_some, something_at, take_front}
 use native.Mathlib.Nat.{mul-le-mul_right}
-use Rattle.rdf_values.specs.Bookings.{Booked, Booking, ActionAt, ReportOn, Pass, has_variations, passes_of, result_depends, varied_passes}
-use Rattle.rdf_values.specs.Kinds.{scope_of}
-use Rattle.rdf_values.specs.Path.{Variation, variations}
-use Rattle.rdf_values.specs.declared.script.Line.{Line}
-use Rattle.rdf_values.specs.declared.statement.Statement.{Statement}
-use Rattle.rdf_model.specs.LoopFacts.{kind_in, kinds_in}
-use Rattle.rdf_model.specs.Loops.{loop_passes, loop_results}
+use Rattle.rdf_values.specs.{ActionAt, Booked, Booking, has_variations, Line, Pass, passes_of, ReportOn, result_depends, scope_of, Statement, Variation, variations, varied_passes}
+use Rattle.rdf_model.specs.{kind_in, kinds_in, loop_passes, loop_results}
 use Rattle.rdf_model.proofs.Verdicts.{verdict_is_the_first_refusal}
-use Rattle.graph_numbers.specs.Graphs.{GraphView, IsGraph, booked_statements, graph_loops, graph_results, graph_variations}
-use Rattle.graph_numbers.specs.Results.{ResultAt, pass_at, result_passes}
-use Rattle.graph_numbers.specs.declared.pass.Pass.{Pass as NumberedPass}
+use Rattle.graph_numbers.specs.{booked_statements, graph_loops, graph_results, graph_variations, GraphView, IsGraph, Pass as NumberedPass, pass_at, result_passes, ResultAt}
 use Rattle.graph_numbers.proofs.Extending.{itself}
-use Rattle.loop_pieces.specs.Trails.{watched_places}
-use Rattle.graph.specs.LoopRows.{AreNamedInTurn}
+use Rattle.loop_pieces.specs.{watched_places}
+use Rattle.graph.specs.{AreNamedInTurn}
 use Rattle.graph.proofs.Filled.{all_in_turn}
 use Rattle.result_text.proofs.Passes.{is_pass_at, result_within}
 use Rattle.result_text.proofs.Within.{is_in_for, variation_within}
-use Rattle.event_loop.specs.Places.{IsFilledPlace, IsPassOf, fills}
+use Rattle.event_loop.specs.{fills, IsFilledPlace, IsPassOf}
 use Rattle.event_loop.proofs.Decoding.{AreDecoded, booked_row, decoded, decoded_front, of_row}
 use Rattle.event_loop.proofs.LoopResults.{IsFound, IsMissed, found_or_missed, many}
 use Rattle.event_loop.proofs.Sizes.{passes_few}

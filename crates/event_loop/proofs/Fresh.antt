@@ -1,17 +1,13 @@
 -- What the slots of a loop begin with.
-use Rattle.std.proofs.Common.{◌≡◌, ℕ, ◌+◌, List, [], ◌∷◌, ◌++◌, length, Option, None, Some, refl, sym, ap, ◌∙◌, subst, arith, append-nil, length-append}
-use Rattle.std.specs.Prelude.{MatchOption, option_to_list}
+use Rattle.std.proofs.Common.{◌≡◌, ℕ, ◌+◌, List, [], ◌∷◌, ◌++◌, length, Option, None, Some, refl, sym, ap, ◌∙◌, subst, arith, append-nil, length-append, MatchOption, option_to_list}
 use Rattle.std.specs.List.{All, range_with_len}
 use Rattle.std.proofs.lemmas.List.{length-map}
 use Rattle.std.proofs.lemmas.List.FromFn.{length-range_with_len}
 use Rattle.std.proofs.lemmas.List.Elements.{All-map, All-nil, All-push, All-pop}
-use Rattle.slot_words.specs.Seats.{SeatSeen}
-use Rattle.slot_words.specs.Shares.{BookSeen, ShareSeen, fresh_share, fresh_shares}
-use Rattle.slot_words.specs.SeatEnds.{IsReady}
+use Rattle.slot_words.specs.{BookSeen, fresh_share, fresh_shares, IsReady, SeatSeen, ShareSeen}
 use Rattle.event_loop.specs.declared.workers.Shared.{Shared}
 use Rattle.event_loop.specs.declared.workers.Slot.{Slot}
-use Rattle.event_loop.specs.Seated.{AreBlank, IsBlank}
-use Rattle.event_loop.specs.Workers.{HasNoted, IsFresh}
+use Rattle.event_loop.specs.{AreBlank, HasNoted, IsBlank, IsFresh}
 
 many_shares : (b : BookSeen) (n : ℕ) → length (fresh_shares b n) ≡ n
 many_shares b n = length-map (range_with_len 0 n) (fresh_share b) ∙ length-range_with_len 0 n

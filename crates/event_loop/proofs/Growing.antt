@@ -1,12 +1,10 @@
 -- Clusters without a fault, one after another.
-use Rattle.std.proofs.Common.{◌≡◌, ℕ, ◌<◌, ◌≤◌, List, [], ◌∷◌, ◌++◌, Option, None, Some, ap, subst, ⊎_elim, arith}
-use Rattle.std.specs.Prelude.{slice_get}
+use Rattle.std.proofs.Common.{◌≡◌, ℕ, ◌<◌, ◌≤◌, List, [], ◌∷◌, ◌++◌, Option, None, Some, ap, subst, ⊎_elim, arith, slice_get}
 use Rattle.std.proofs.lemmas.Bool.{cases_lt}
-use Rattle.rdf_values.specs.Times.{times}
-use Rattle.rdf_values.specs.declared.fault.Fault.{Fault}
+use Rattle.rdf_values.specs.{Fault, times}
 use Rattle.rdf_values.proofs.DrawCounts.{times_push}
 use Rattle.merge_core.proofs.Holding.{only}
-use Rattle.event_loop.specs.Workers.{AreSound}
+use Rattle.event_loop.specs.{AreSound}
 
 -- one more cluster without a fault
 pub sound_more : (faults : List (Option Fault)) (done more : List ℕ) (n : ℕ) → AreSound faults done → slice_get faults n ≡ Some None → more ≡ done ++ n ∷ [] → AreSound faults more

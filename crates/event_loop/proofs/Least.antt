@@ -2,13 +2,11 @@
 use Rattle.std.proofs.Common.{◌≡◌, ℕ, suc, ◌-◌, ◌<◌, ◌≤◌, List, ◌∷◌, ◌++◌, length, get_or, drop, Option, Some, sym, ap, ◌∙◌, subst, arith, drop-cons}
 use Rattle.std.specs.List.{All}
 use Rattle.std.proofs.lemmas.List.Elements.{All-cons}
-use Rattle.rdf_values.specs.declared.fault.Fault.{Fault}
-use Rattle.rdf_values.specs.Machine.{least_fault, lesser_fault}
-use Rattle.event_loop.specs.Slots.{SlotView}
+use Rattle.rdf_values.specs.{Fault, least_fault, lesser_fault}
+use Rattle.event_loop.specs.{end_faults, fault_of, HasMemory, IsServed, SlotView}
 use Rattle.event_loop.specs.declared.workers.Finished.{Finished}
 use Rattle.event_loop.specs.declared.workers.End.{End}
 use Rattle.event_loop.specs.declared.workers.End.TheVariants.{Over, Faulted}
-use Rattle.event_loop.specs.Gathered.{HasMemory, IsServed, fault_of, end_faults}
 
 -- what is known of the slots from place i on
 pub record IsLeast (fs : List Finished) (i : ℕ) (least : Option Fault) : Type 0 where

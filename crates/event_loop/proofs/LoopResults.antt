@@ -4,21 +4,17 @@ use Rattle.std.specs.List.{cons_option}
 use Rattle.std.proofs.lemmas.Bool.{cases_lt, or_right}
 use Rattle.std.proofs.lemmas.List.{append-nil, length-map}
 use Rattle.std.proofs.lemmas.Option.{slice_get_within}
-use Rattle.lemmas.proofs.Answers.{same_some}
-use Rattle.lemmas.proofs.Places.{before_or_last, kept_at}
-use Rattle.rdf_values.specs.Bookings.{Booked, Pass, bookings, booked_by, filled, names_of, passes_of, waiting}
-use Rattle.rdf_values.specs.Names.{among, same}
-use Rattle.rdf_values.specs.declared.statement.Statement.{Statement}
+use Rattle.lemmas.proofs.{before_or_last, kept_at, same_some}
+use Rattle.rdf_values.specs.{among, Booked, booked_by, bookings, filled, names_of, Pass, passes_of, same, Statement, waiting}
 use Rattle.rdf_values.specs.declared.statement.Statement.TheVariants.{Print}
-use Rattle.rdf_model.specs.Loops.{Access, accesses, filled_by, loop_passes, loop_results}
+use Rattle.rdf_model.specs.{Access, accesses, filled_by, loop_passes, loop_results}
 use Rattle.rdf_model.proofs.Accepted.{itself, names_equal}
-use Rattle.graph_numbers.specs.Results.{loops, pass_at, passes_from, result_passes}
-use Rattle.graph_numbers.specs.declared.pass.Pass.{Pass as NumberedPass}
+use Rattle.graph_numbers.specs.{loops, Pass as NumberedPass, pass_at, passes_from, result_passes}
 use Rattle.graph_numbers.proofs.Extending.{Extends, itself as all_of_it, further, shorter}
 use Rattle.graph_numbers.proofs.Looping.{loops_are}
-use Rattle.graph.specs.LoopRows.{AreNamedInTurn}
+use Rattle.graph.specs.{AreNamedInTurn}
 use Rattle.graph.proofs.Filled.{later_named}
-use Rattle.event_loop.specs.Places.{fills}
+use Rattle.event_loop.specs.{fills}
 use Rattle.event_loop.proofs.Splits.{NoneOf, refused_none, split_at}
 
 -- ---- lists

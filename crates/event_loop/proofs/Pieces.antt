@@ -1,13 +1,12 @@
 -- Pieces that are made of slots, one after another.
-use Rattle.std.proofs.Common.{◌≡◌, ◌<◌, List, [], ◌∷◌, ◌++◌, length, get_or, sym, ap, ◌∙◌, subst, arith, append_assoc, append-nil}
-use Rattle.std.specs.Prelude.{flat_map}
+use Rattle.std.proofs.Common.{◌≡◌, ◌<◌, List, [], ◌∷◌, ◌++◌, length, get_or, sym, ap, ◌∙◌, subst, arith, append_assoc, append-nil, flat_map}
 use Rattle.std.specs.List.{remove}
 use Rattle.std.proofs.lemmas.List.Elements.{All-tail}
 use Rattle.std.proofs.lemmas.List.Concat.{flat_map-append}
-use Rattle.loop_pieces.specs.declared.loop_piece.LoopPiece.{LoopPiece}
-use Rattle.slot_words.specs.Shares.{ShareSeen}
+use Rattle.loop_pieces.specs.{LoopPiece}
+use Rattle.slot_words.specs.{ShareSeen}
 use Rattle.event_loop.specs.declared.gather.Done.{Done}
-use Rattle.event_loop.specs.Filling.{AllAreGoing, ArePieces, IsGoing, IsPieceOf, shares_in, share_or_none}
+use Rattle.event_loop.specs.{AllAreGoing, ArePieces, IsGoing, IsPieceOf, share_or_none, shares_in}
 
 -- the first slots are pieces and shares, the others are left
 pub record AreMade (slots left : List Done) (pieces : List LoopPiece) (shares : List ShareSeen) : Type 0 where

@@ -2,16 +2,14 @@
 use Rattle.std.proofs.Common.{◌≡◌, ◌⊎◌, inl, inr, ℕ, zero, suc, ◌<◌, Bool, true, false, not, ◌||◌, List, [], ◌∷◌, ◌++◌, take, length, Option, Some, None, option_map, refl, sym, ◌∙◌, ap, subst, arith, slice_get, if◌then◌else◌, filter}
 use Rattle.std.specs.List.{cons_option}
 use Rattle.std.proofs.lemmas.List.{append-nil}
-use Rattle.lemmas.proofs.Places.{before_or_last}
-use Rattle.rdf_values.specs.Bookings.{Booked, bookings, filled, names_of, waiting}
-use Rattle.rdf_values.specs.Names.{among, place, same}
-use Rattle.rdf_values.specs.declared.statement.Statement.{Statement}
+use Rattle.lemmas.proofs.{before_or_last}
+use Rattle.rdf_values.specs.{among, Booked, bookings, filled, names_of, place, same, Statement, waiting}
 use Rattle.rdf_values.specs.declared.statement.Statement.TheVariants.{Print}
-use Rattle.rdf_model.specs.Loops.{Access, accesses, filled_by, loop_results}
+use Rattle.rdf_model.specs.{Access, accesses, filled_by, loop_results}
 use Rattle.rdf_model.proofs.Accepted.{names_equal}
-use Rattle.graph.specs.LoopRows.{AreNamedInTurn, filled_count}
+use Rattle.graph.specs.{AreNamedInTurn, filled_count}
 use Rattle.graph.proofs.Filled.{filled_first}
-use Rattle.event_loop.specs.Places.{fills, loop_filling}
+use Rattle.event_loop.specs.{fills, loop_filling}
 use Rattle.event_loop.proofs.LoopResults.{filter_map-append}
 
 -- ---- places

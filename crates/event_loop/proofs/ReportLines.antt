@@ -1,34 +1,19 @@
 -- The lines of a report's counts are those of its filters by themselves.
-use Rattle.std.proofs.Common.{◌≡◌, ◌⊎◌, inl, inr, ℕ, zero, suc, ◌+◌, Bool, true, false, List, [], ◌∷◌, ◌++◌, length, map, Option, Some, None, refl, sym, ◌∙◌, ap, ap₂, subst, arith, append_assoc, if◌then◌else◌}
-use Rattle.std.specs.Prelude.{filter, option_map, slice_get, unwrap_or}
+use Rattle.std.proofs.Common.{◌≡◌, ◌⊎◌, inl, inr, ℕ, zero, suc, ◌+◌, Bool, true, false, List, [], ◌∷◌, ◌++◌, length, map, Option, Some, None, refl, sym, ◌∙◌, ap, ap₂, subst, arith, append_assoc, if◌then◌else◌, filter, option_map, slice_get, unwrap_or}
 use Rattle.std.proofs.lemmas.List.{append-nil, length-map, map-append}
 use Rattle.std.proofs.lemmas.Option.{slice_get-map}
-use Rattle.lemmas.proofs.Answers.{same_some}
-use Rattle.rdf_values.specs.Cuts.{below}
+use Rattle.lemmas.proofs.{same_some}
+use Rattle.rdf_values.specs.{ActionAt, below, Booked, Booking, Column, covered, fn_names, Function, FunctionNames, has_variations, named_before, Pass, passes_of, Path, path, ReportOn, result_depends, Span, Statement, Variation, variations, varied_passes}
 use Rattle.rdf_values.proofs.Below.{length-below}
-use Rattle.rdf_values.specs.Functions.{Function, fn_names}
-use Rattle.rdf_values.specs.Kinds.{FunctionNames}
-use Rattle.rdf_values.specs.Path.{Path, Variation, path, variations}
-use Rattle.rdf_values.specs.Bookings.{Booked, Booking, ActionAt, ReportOn, Pass, covered, has_variations, named_before, passes_of, result_depends, varied_passes}
-use Rattle.rdf_values.specs.declared.column.Column.{Column}
-use Rattle.rdf_values.specs.declared.span.Span.{Span}
-use Rattle.rdf_values.specs.declared.statement.Statement.{Statement}
 use Rattle.rdf_values.specs.declared.statement.Statement.TheVariants.{Action, Filter, Report}
-use Rattle.rdf_model.specs.LoopFacts.{loop_facts}
-use Rattle.rdf_model.specs.PartialResults.{over_clusters}
-use Rattle.rdf_model.specs.ResultLines.{filter_label}
-use Rattle.rdf_model.specs.Results.{Dataset, cutflow, first_fault}
-use Rattle.loop_pieces.specs.declared.flow.Counts.{Counts}
-use Rattle.graph_numbers.specs.Graphs.{GraphView, graph_filters}
-use Rattle.graph_numbers.specs.Results.{FilterAt, ResultAt, covered_at, filters, own_filters, own_results, results}
+use Rattle.rdf_model.specs.{cutflow, Dataset, filter_label, first_fault, loop_facts, over_clusters}
+use Rattle.loop_pieces.specs.{Counts, counts_at, counts_of, LoopPiece, StandsFor}
+use Rattle.graph_numbers.specs.{covered_at, FilterAt, filters, graph_filters, GraphView, own_filters, own_results, ResultAt, results}
 use Rattle.graph_numbers.proofs.Covering.{AreNumbersOf, covered_numbers, numbers_later}
 use Rattle.graph_numbers.proofs.Extending.{Extends, itself, shorter}
 use Rattle.graph_numbers.proofs.Listed.{next_at, of_joined}
-use Rattle.loop_pieces.specs.LoopPieces.{StandsFor, counts_at}
-use Rattle.loop_pieces.specs.Whole.{counts_of}
-use Rattle.loop_pieces.specs.declared.loop_piece.LoopPiece.{LoopPiece}
 use Rattle.loop_pieces.proofs.WholeLoops.{piece_holds_counts}
-use Rattle.result_text.specs.FilledLines.{counts_seen, flow_at}
+use Rattle.result_text.specs.{counts_seen, flow_at}
 
 -- what stands before and behind an element
 pub record IsBetween {A : Type 0} (xs : List A) (n : ℕ) (x : A) : Type 0 where

@@ -1,44 +1,21 @@
 -- The lines of what a session filled.
-use Rattle.std.proofs.Common.{◌≡◌, ◌⊎◌, inl, inr, ℕ, ◌+◌, ◌<◌, ◌≤◌, ◌^◌, Bool, true, false, List, [], ◌∷◌, ◌++◌, length, map, Option, Some, None, refl, sym, ◌∙◌, ap, ap₂, subst, arith, if◌then◌else◌, append-nil, append_assoc}
-use Rattle.std.specs.Prelude.{Result, Ok, Err, OnOk, All, flat_map, option_map, slice_get, unwrap_or}
+use Rattle.std.proofs.Common.{◌≡◌, ◌⊎◌, inl, inr, ℕ, ◌+◌, ◌<◌, ◌≤◌, ◌^◌, Bool, true, false, List, [], ◌∷◌, ◌++◌, length, map, Option, Some, None, refl, sym, ◌∙◌, ap, ap₂, subst, arith, if◌then◌else◌, append-nil, append_assoc, Result, Ok, Err, OnOk, All, flat_map, option_map, slice_get, unwrap_or}
 use Rattle.std.proofs.lemmas.List.{length-map}
-use Rattle.lemmas.proofs.Places.{something_at}
-use Rattle.rdf_values.specs.Bookings.{Booked, Booking, ActionAt, ReportOn, Pass, is_watched, named_before, passes_of, varied_passes, has_variations}
-use Rattle.rdf_values.specs.Cuts.{Lead, below, cut}
-use Rattle.rdf_values.specs.Path.{Path, history}
-use Rattle.rdf_values.specs.declared.action.ActionKind.{ActionKind}
-use Rattle.rdf_values.specs.declared.span.Span.{Span}
-use Rattle.rdf_values.specs.declared.statement.Statement.{Statement}
+use Rattle.lemmas.proofs.{something_at}
+use Rattle.rdf_values.specs.{ActionAt, ActionKind, below, Booked, Booking, cut, fn_names, has_variations, history, is_watched, Lead, named_before, Pass, passes_of, Path, ReportOn, Span, Statement, varied_passes}
 use Rattle.rdf_values.proofs.Below.{length-below}
 use Rattle.rdf_values.proofs.Leading.{cuts_lead}
-use Rattle.rdf_model.specs.Laws.{action_pass}
-use Rattle.rdf_model.specs.LoopFacts.{kind_in, kinds_in, loop_facts}
-use Rattle.rdf_model.specs.Loops.{loop_of}
-use Rattle.rdf_model.specs.PartialResults.{Course, over_clusters, partial_line, partial_result}
-use Rattle.rdf_model.specs.ResultLines.{booking_lines, flow_lines, pass_lines}
-use Rattle.rdf_model.specs.Results.{first_fault}
-use Rattle.rdf_model.specs.Transcript.{partial_lines}
-use Rattle.graph_numbers.specs.Graphs.{graph_filters, graph_results}
-use Rattle.graph_numbers.specs.Results.{ResultAt}
+use Rattle.rdf_model.specs.{action_pass, booking_lines, Course, first_fault, flow_lines, kind_in, kinds_in, loop_facts, loop_of, over_clusters, partial_line, partial_lines, partial_result, pass_lines}
+use Rattle.graph_numbers.specs.{graph_filters, graph_results, ResultAt}
 use Rattle.graph_numbers.proofs.Listed.{next_at}
-use Rattle.rdf_values.specs.Functions.{fn_names}
-use Rattle.loop_keys.specs.Jobs.{passes_in}
-use Rattle.loop_pieces.specs.LoopPieces.{StandsFor}
-use Rattle.loop_pieces.specs.PartialLines.{ArePartialLines}
-use Rattle.loop_pieces.specs.Trails.{place_if_watched}
-use Rattle.loop_pieces.specs.Whole.{cluster_fault}
-use Rattle.loop_pieces.specs.declared.filled_result.FilledResult.{FilledResult}
-use Rattle.loop_pieces.specs.declared.filled_result.PartialLine.{PartialLine}
+use Rattle.loop_keys.specs.{passes_in}
+use Rattle.loop_pieces.specs.{ArePartialLines, cluster_fault, FilledResult, PartialLine, place_if_watched, StandsFor}
 use Rattle.loop_pieces.proofs.WholeLoops.{all_clusters_are_the_table}
-use Rattle.result_text.specs.FilledLines.{FitsBooking, FitsResult, booking_text, filled_text}
-use Rattle.result_text.specs.PartialText.{AreRuns, watch_lines}
-use Rattle.event_loop.specs.Jobs.{job_facts}
-use Rattle.event_loop.specs.Places.{IsPlaced, loop_filling}
-use Rattle.event_loop.specs.Sessions.{ArePartials, HasNoPartials, IsFilledIn, IsResult, IsSession, IsUnfilled, SessionView, session_job}
+use Rattle.result_text.specs.{AreRuns, booking_text, filled_text, FitsBooking, FitsResult, watch_lines}
+use Rattle.event_loop.specs.{ArePartials, FitsCourse, HasNoPartials, IsFilledIn, IsPlaced, IsResult, IsSession, IsUnfilled, job_facts, loop_filling, session_job, SessionView}
 use Rattle.event_loop.proofs.Accesses.{job_fault}
 use Rattle.event_loop.proofs.Finding.{noted_at}
 use Rattle.event_loop.proofs.Found.{passes_are_of}
-use Rattle.event_loop.specs.Turns.{FitsCourse}
 use Rattle.event_loop.proofs.ActionLines.{kind_at, lines_are, own_count}
 use Rattle.event_loop.proofs.ReportLines.{covers_are, filter_count, flow_length, flows_are, report_pass}
 use Rattle.event_loop.proofs.WatchLines.{each_has_runs, watched_are}

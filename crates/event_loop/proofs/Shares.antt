@@ -1,31 +1,20 @@
 -- The shares and the trails of slots that finished all clusters.
-use Rattle.std.proofs.Common.{◌≡◌, ℕ, zero, suc, ◌<◌, List, [], ◌∷◌, ◌++◌, length, map, Option, None, Some, refl, sym, ap, ap₂, ◌∙◌, subst, arith}
-use Rattle.std.specs.Prelude.{flat_map, slice_get, slice_index_or}
+use Rattle.std.proofs.Common.{◌≡◌, ℕ, zero, suc, ◌<◌, List, [], ◌∷◌, ◌++◌, length, map, Option, None, Some, refl, sym, ap, ap₂, ◌∙◌, subst, arith, flat_map, slice_get, slice_index_or}
 use Rattle.std.specs.List.{All, concat, sum_by}
 use Rattle.std.proofs.lemmas.List.Concat.{concat_is, length-flat_map}
 use Rattle.std.proofs.lemmas.List.Elements.{All-nil, All-cons, All-head, All-tail}
 use Rattle.std.proofs.lemmas.List.Sorted.{length_permutation}
 use Rattle.std.proofs.lemmas.List.Sums.{sum_by-cons}
-use Rattle.rdf_values.specs.Cuts.{below}
-use Rattle.rdf_values.specs.Draws.{DrawnBy, IsUnion}
+use Rattle.rdf_values.specs.{below, DrawnBy, IsUnion}
 use Rattle.rdf_values.proofs.Below.{length-below}
-use Rattle.actions.specs.Accumulators.{Accumulator}
-use Rattle.loop_pieces.specs.LoopPieces.{IsPass, StandsFor}
-use Rattle.loop_pieces.specs.Trails.{HaveTrails}
-use Rattle.loop_pieces.specs.declared.filled_result.PartialLine.{PartialLine}
-use Rattle.loop_pieces.specs.declared.loop_piece.LoopPiece.{LoopPiece}
-use Rattle.merge_core.specs.Pieces.{Stand}
+use Rattle.actions.specs.{Accumulator}
+use Rattle.loop_pieces.specs.{HaveTrails, IsPass, LoopPiece, PartialLine, StandsFor}
+use Rattle.merge_core.specs.{Stand}
 use Rattle.rdf_model.specs.declared.loop_facts.LoopFacts.{LoopFacts}
-use Rattle.slot_words.specs.Chains.{AreNoted, HavePartialsOver, noted_sets}
-use Rattle.slot_words.specs.Trails.{HasSameBody, HaveAllTrails, HaveSameBodies}
-use Rattle.slot_words.specs.Shares.{BookSeen, ShareSeen, many_in}
+use Rattle.slot_words.specs.{AreNoted, BookSeen, HasSameBody, HaveAllTrails, HavePartialsOver, HaveSameBodies, many_in, noted_sets, ShareSeen}
 use Rattle.slot_words.specs.Shares as book
-use Rattle.event_loop.specs.Jobs.{JobFacts}
+use Rattle.event_loop.specs.{AreNotedPartials, ArePieces, CanFill, dones_of, finished_by, HasNoted, IsBookOf, IsDone, IsPieceOf, JobFacts, orders_of, share_or_none, shares_in}
 use Rattle.event_loop.specs.declared.gather.Done.{Done}
-use Rattle.event_loop.specs.Ends.{AreNotedPartials}
-use Rattle.event_loop.specs.Workers.{HasNoted}
-use Rattle.event_loop.specs.Gathered.{IsDone, finished_by}
-use Rattle.event_loop.specs.Filling.{ArePieces, CanFill, IsBookOf, IsPieceOf, dones_of, orders_of, share_or_none, shares_in}
 
 abbrev numbers_in : ShareSeen → List ℕ
 numbers_in s = s.numbers

@@ -3,12 +3,9 @@ use Rattle.std.proofs.Common.{◌≡◌, ℕ, suc, ◌+◌, ◌*◌, ◌≤◌, 
 use Rattle.std.proofs.lemmas.List.{length-map}
 use Rattle.std.proofs.lemmas.List.Sums.{count_by-le-length, length-filter}
 use native.Mathlib.Nat.{mul-le-mul_right}
-use Rattle.rdf_values.specs.Bookings.{Booked, Pass, bookings, has_variations, passes_of, result_depends, varied_passes}
-use Rattle.rdf_values.specs.Path.{Variation, variations}
-use Rattle.rdf_values.specs.declared.statement.Statement.{Statement}
-use Rattle.rdf_model.specs.Loops.{loop_results}
-use Rattle.graph_numbers.specs.Results.{loops, passes_from, result_passes}
-use Rattle.graph_numbers.specs.declared.pass.Pass.{Pass as NumberedPass}
+use Rattle.rdf_values.specs.{Booked, bookings, has_variations, Pass, passes_of, result_depends, Statement, Variation, variations, varied_passes}
+use Rattle.rdf_model.specs.{loop_results}
+use Rattle.graph_numbers.specs.{loops, Pass as NumberedPass, passes_from, result_passes}
 use Rattle.graph_numbers.proofs.Extending.{Extends, itself, further}
 use Rattle.graph.proofs.Looped.{bookings_few}
 use Rattle.event_loop.proofs.LoopResults.{loop_at, waits}

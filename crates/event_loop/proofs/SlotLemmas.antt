@@ -1,27 +1,18 @@
 -- A slot before and after a cluster.
-use Rattle.std.proofs.Common.{◌≡◌, ℕ, ◌+◌, ◌<◌, ◌≤◌, List, [], ◌∷◌, ◌++◌, length, map, Option, Some, refl, sym, ap, ◌∙◌, subst, arith, slice_get}
-use Rattle.std.specs.Prelude.{All}
+use Rattle.std.proofs.Common.{◌≡◌, ℕ, ◌+◌, ◌<◌, ◌≤◌, List, [], ◌∷◌, ◌++◌, length, map, Option, Some, refl, sym, ap, ◌∙◌, subst, arith, slice_get, All}
 use Rattle.std.specs.List.Sorted.{IsStrictlyIncreasing}
 use Rattle.std.proofs.lemmas.List.{length-map, map-append}
 use Rattle.std.proofs.lemmas.List.Elements.{All-cons, All-contains, All-head, All-nil, All-tail, All-weaker, Contains-push}
 use Rattle.std.specs.declared.snapshot.Snapshot.{Snapshot}
-use Rattle.lemmas.proofs.Places.{mapped_at}
+use Rattle.lemmas.proofs.{mapped_at}
 use Rattle.rdf_values.proofs.Below.{length-below, slice_get-below}
 use Rattle.rdf_values.proofs.UnionLemmas.{Rises, rises_from}
-use Rattle.rdf_values.specs.Cuts.{below}
-use Rattle.rdf_values.specs.declared.fault.Fault.{Fault}
-use Rattle.block_passes.specs.Clusters.{at_end}
-use Rattle.block_passes.specs.States.{CountsVectors, IsStateOf}
-use Rattle.loop_keys.specs.Jobs.{JobView, job_graph, passes_in}
-use Rattle.loop_keys.specs.Entries.{facts_in, job_spans}
-use Rattle.cluster_tally.specs.Feedings.{IsAtEnd}
-use Rattle.cluster_tally.specs.Stages.{at_begin}
-use Rattle.cluster_tally.specs.Tallies.{Holds}
-use Rattle.loop_pieces.specs.Whole.{cluster_fault}
-use Rattle.event_loop.specs.Jobs.{job_facts}
-use Rattle.event_loop.specs.Slots.{IsSlotOf, SlotView}
-use Rattle.event_loop.specs.declared.progress.Phase.{Phase}
-use Rattle.event_loop.specs.declared.progress.Phase.TheVariants as phase
+use Rattle.rdf_values.specs.{below, Fault}
+use Rattle.block_passes.specs.{at_end, CountsVectors, IsStateOf}
+use Rattle.loop_keys.specs.{facts_in, job_graph, job_spans, JobView, passes_in}
+use Rattle.cluster_tally.specs.{at_begin, Holds, IsAtEnd}
+use Rattle.loop_pieces.specs.{cluster_fault}
+use Rattle.event_loop.specs.{IsSlotOf, job_facts, Phase, SlotView}
 
 -- there is a number above all of them
 pub one_above : (xs : List ℕ) → (c : ℕ) × All (λ d. d < c) xs
@@ -47,10 +38,10 @@ seen_with done more cluster s shows is = ap (map (λ (d : Snapshot ℕ). d.value
 
 -- ---- phases
 
-pub goes_on : (p : Phase) → (p ≡ phase.NoMemory → ⊥) → (p ≡ phase.Faulted → ⊥) → p ≡ phase.Going
-goes_on phase.Going a b = refl
-goes_on phase.Faulted a b = absurd (b refl)
-goes_on phase.NoMemory a b = absurd (a refl)
+pub goes_on : (p : Phase) → (p ≡ Phase.NoMemory → ⊥) → (p ≡ Phase.Faulted → ⊥) → p ≡ Phase.Going
+goes_on Phase.Going a b = refl
+goes_on Phase.Faulted a b = absurd (b refl)
+goes_on Phase.NoMemory a b = absurd (a refl)
 
 -- ---- faults
 
@@ -67,7 +58,7 @@ cluster_within j cluster lt = omega (arith, length-map (below (length (job_spans
 
 module _ (j : JobView) (s : SlotView) (h : IsSlotOf (job_facts j) s) where
   -- one that doesn't go on
-  pub stopped : (t : SlotView) → IsStateOf j t.blocks → t.vectors ≡ s.vectors → t.room ≡ s.room → (t.phase ≡ phase.Going → ⊥) → IsSlotOf (job_facts j) t
+  pub stopped : (t : SlotView) → IsStateOf j t.blocks → t.vectors ≡ s.vectors → t.room ≡ s.room → (t.phase ≡ Phase.Going → ⊥) → IsSlotOf (job_facts j) t
   stopped t state vectors room ended = record {
     blocks = state;
     vectors = subst (CountsVectors (job_graph j)) (sym vectors) h.vectors;
@@ -76,7 +67,7 @@ module _ (j : JobView) (s : SlotView) (h : IsSlotOf (job_facts j) s) where
     holds = λ going. absurd (ended going);
   }
 
-  module _ (going : s.phase ≡ phase.Going) (cluster : ℕ) (within : cluster < length (job_facts j).faults) (above : All (λ c. c < cluster) s.done) where
+  module _ (going : s.phase ≡ Phase.Going) (cluster : ℕ) (within : cluster < length (job_facts j).faults) (above : All (λ c. c < cluster) s.done) where
     pub begins : Holds (facts_in j) (job_facts j).watched (at_begin s.done cluster) s.tally
     begins = h.holds going cluster above
 

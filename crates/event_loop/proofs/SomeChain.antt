@@ -1,15 +1,14 @@
 -- Each loop can note some chain of sets.
-use Rattle.std.proofs.Common.{◌≡◌, ℕ, ◌+◌, ◌*◌, ◌/◌, ◌%◌, ◌<◌, ◌≤◌, List, map, length, get_or, Some, sym, ◌∙◌, ap, subst, arith}
-use Rattle.std.specs.Prelude.{All, Contains, option_map, slice_get}
+use Rattle.std.proofs.Common.{◌≡◌, ℕ, ◌+◌, ◌*◌, ◌/◌, ◌%◌, ◌<◌, ◌≤◌, List, map, length, get_or, Some, sym, ◌∙◌, ap, subst, arith, All, Contains, option_map, slice_get}
 use Rattle.std.specs.List.Sorted.{IsStrictlyIncreasing}
 use Rattle.std.proofs.lemmas.List.{length-map}
 use Rattle.std.proofs.lemmas.Option.{get_or_from_slice_get, slice_get-map, slice_get_within}
-use Rattle.lemmas.proofs.Answers.{same_some}
+use Rattle.lemmas.proofs.{same_some}
 use native.Mathlib.Nat.{div-add-mod', mul-le-mul_right}
-use Rattle.rdf_values.specs.Cuts.{below}
+use Rattle.rdf_values.specs.{below}
 use Rattle.rdf_values.proofs.Below.{length-below, slice_get-below}
 use Rattle.rdf_values.proofs.UnionLemmas.{below_rises}
-use Rattle.rdf_model.specs.PartialResults.{IsChain}
+use Rattle.rdf_model.specs.{IsChain}
 
 -- the first so many clusters
 abbrev first_clusters : ℕ → ℕ → List ℕ

@@ -1,16 +1,13 @@
 -- The passes of a result in a loop, by the numbers of results and by names.
-use Rattle.std.proofs.Common.{◌≡◌, ◌≢◌, ℕ, zero, suc, ◌+◌, ◌<◌, Bool, true, false, cond, List, [], ◌∷◌, ◌++◌, map, length, Some, refl, sym, ◌∙◌, ap, ap₂, arith, slice_get, if◌then◌else◌, length-append, append_assoc}
-use Rattle.std.specs.Prelude.{⊤, count_by, filter, nat_eq}
+use Rattle.std.proofs.Common.{◌≡◌, ◌≢◌, ℕ, zero, suc, ◌+◌, ◌<◌, Bool, true, false, cond, List, [], ◌∷◌, ◌++◌, map, length, Some, refl, sym, ◌∙◌, ap, ap₂, arith, slice_get, if◌then◌else◌, length-append, append_assoc, count_by, filter, nat_eq}
+use Rattle.std.specs.Prelude.{⊤}
 use Rattle.std.specs.List.{position_or_len}
 use Rattle.std.proofs.lemmas.Bool.{eq-eqb, ne_eqb}
 use Rattle.std.proofs.lemmas.List.{length-map}
 use Rattle.std.proofs.lemmas.List.Sums.{sum_by-cons}
-use Rattle.rdf_values.specs.Bookings.{Booked, Pass, has_variations, result_depends, passes_of, varied_passes}
-use Rattle.rdf_values.specs.Path.{Variation, variations}
-use Rattle.rdf_values.specs.declared.statement.Statement.{Statement}
-use Rattle.rdf_model.specs.Loops.{loop_passes}
-use Rattle.graph_numbers.specs.Results.{numbered_pass, passes_from, places_from, result_passes}
-use Rattle.graph_numbers.specs.declared.pass.Pass.{Pass as NumberedPass}
+use Rattle.rdf_values.specs.{Booked, has_variations, Pass, passes_of, result_depends, Statement, Variation, variations, varied_passes}
+use Rattle.rdf_model.specs.{loop_passes}
+use Rattle.graph_numbers.specs.{numbered_pass, Pass as NumberedPass, passes_from, places_from, result_passes}
 
 -- the pass is of the result of that number
 abbrev pub is_of : ℕ → NumberedPass → Bool

@@ -1,34 +1,22 @@
 -- What one Print adds to a text.
-use Rattle.std.proofs.Common.{if◌then◌else◌, ◌≡◌, ℕ, zero, suc, ◌<◌, Bool, true, false, List, [], ◌∷◌, ◌++◌, length, filter, Option, Some, None, refl, sym, ◌∙◌, ap, ap₂, subst, arith, append-nil, append_assoc}
-use Rattle.std.specs.Prelude.{IfSome, flat_map, option_map, slice_get, unwrap_or}
+use Rattle.std.proofs.Common.{if◌then◌else◌, ◌≡◌, ℕ, zero, suc, ◌<◌, Bool, true, false, List, [], ◌∷◌, ◌++◌, length, filter, Option, Some, None, refl, sym, ◌∙◌, ap, ap₂, subst, arith, append-nil, append_assoc, IfSome, flat_map, option_map, slice_get, unwrap_or}
 use Rattle.std.proofs.lemmas.List.{length-map}
 use Rattle.std.proofs.lemmas.Option.{slice_get-map, slice_get_within}
-use Rattle.lemmas.proofs.Answers.{same_some}
-use Rattle.lemmas.proofs.Places.{something_at}
-use Rattle.rdf_values.specs.Bookings.{Booked, Pass, bookings, results_named}
-use Rattle.rdf_values.specs.Names.{same}
-use Rattle.rdf_values.specs.Path.{history}
-use Rattle.rdf_values.specs.declared.fault.Fault.{Fault}
-use Rattle.rdf_model.specs.Loops.{Access, accesses, loop_passes, loop_results}
-use Rattle.rdf_model.specs.PartialResults.{Course}
-use Rattle.rdf_model.specs.Results.{Dataset}
-use Rattle.rdf_model.specs.Transcript.{Printed, access_printed, in_front_of, named_lines, result_lines}
+use Rattle.lemmas.proofs.{same_some, something_at}
+use Rattle.rdf_values.specs.{Booked, bookings, Fault, history, Pass, results_named, same}
+use Rattle.rdf_model.specs.{Access, access_printed, accesses, Course, Dataset, in_front_of, loop_passes, loop_results, named_lines, Printed, result_lines}
 use Rattle.rdf_model.proofs.Accepted.{names_equal}
 use Rattle.rdf_model.proofs.Faults.{first_fault_is_least}
-use Rattle.graph_numbers.specs.Graphs.{GraphView, graph_loops, graph_prints, graph_results}
-use Rattle.graph_numbers.specs.Results.{ResultAt, pass_at, result_number}
-use Rattle.graph_numbers.specs.declared.pass.Pass.{Pass as NumberedPass}
+use Rattle.graph_numbers.specs.{graph_loops, graph_prints, graph_results, GraphView, Pass as NumberedPass, pass_at, result_number, ResultAt}
 use Rattle.graph_numbers.proofs.Extending.{itself as all_of_it}
 use Rattle.graph_numbers.proofs.Resulting.{booked_are}
-use Rattle.loop_keys.specs.Jobs.{passes_in}
-use Rattle.event_loop.specs.declared.end.FilledLoop.{FilledLoop}
-use Rattle.event_loop.specs.Sessions.{HasSameParts, IsAccessed, IsFilledIn, IsKept, IsSession, SessionView, session_job}
+use Rattle.loop_keys.specs.{passes_in}
+use Rattle.event_loop.specs.{FilledLoop, FitsCourse, GoesOn, HasSameParts, IsAccessed, IsFilledIn, IsKept, IsSession, session_job, SessionView}
 use Rattle.event_loop.specs.declared.kept.Kept.{Kept}
 use Rattle.event_loop.proofs.Decoding.{booked_row, decoded}
 use Rattle.event_loop.proofs.LoopResults.{many, one_number}
 use Rattle.event_loop.proofs.Found.{in_turn}
 use Rattle.event_loop.proofs.Printed.{place_at}
-use Rattle.event_loop.specs.Turns.{FitsCourse, GoesOn}
 
 -- ---- the only one that passes a test
 

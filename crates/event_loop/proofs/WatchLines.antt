@@ -1,23 +1,13 @@
 -- The lines of a watched result are those of its partial results by themselves.
-use Rattle.std.proofs.Common.{◌≡◌, ℕ, ◌+◌, ◌-◌, ◌<◌, ◌≤◌, Bool, true, false, List, [], ◌∷◌, ◌++◌, length, map, None, refl, sym, ◌∙◌, ap, ap₂, subst, arith, if◌then◌else◌}
-use Rattle.std.specs.Prelude.{All, codes, flat_map, nat_eq}
+use Rattle.std.proofs.Common.{◌≡◌, ℕ, ◌+◌, ◌-◌, ◌<◌, ◌≤◌, Bool, true, false, List, [], ◌∷◌, ◌++◌, length, map, None, refl, sym, ◌∙◌, ap, ap₂, subst, arith, if◌then◌else◌, All, codes, flat_map, nat_eq}
 use Rattle.std.specs.List.{AllByRecursion, join_with_byte}
 use Rattle.std.proofs.lemmas.Bool.{eqb-true}
 use Rattle.std.proofs.lemmas.List.Elements.{All-from_recursion}
-use Rattle.rdf_values.specs.Path.{Path}
-use Rattle.rdf_values.specs.Bookings.{Pass}
-use Rattle.rdf_values.specs.RefusalLines.{line}
-use Rattle.rdf_values.specs.declared.action.ActionKind.{ActionKind}
-use Rattle.rdf_values.specs.declared.span.Span.{Span}
-use Rattle.rdf_model.specs.Laws.{action_pass}
-use Rattle.rdf_model.specs.LoopFacts.{kinds_in, loop_facts}
-use Rattle.rdf_model.specs.PartialResults.{Run, in_front, maximal_runs, partial_line, partial_result, run_text, value_text}
-use Rattle.rdf_model.specs.Results.{Dataset}
-use Rattle.rdf_values.specs.Fold.{Filled}
-use Rattle.loop_pieces.specs.PartialLines.{ArePartialLines, IsPartialLine, span_of}
-use Rattle.loop_pieces.specs.declared.filled_result.PartialLine.{PartialLine}
+use Rattle.rdf_values.specs.{ActionKind, Filled, line, Pass, Path, Span}
+use Rattle.rdf_model.specs.{action_pass, Dataset, in_front, kinds_in, loop_facts, maximal_runs, partial_line, partial_result, Run, run_text, value_text}
+use Rattle.loop_pieces.specs.{ArePartialLines, IsPartialLine, PartialLine, span_of}
 use Rattle.loop_pieces.proofs.WholeLoops.{watch_piece_is_partial_result}
-use Rattle.result_text.specs.PartialText.{AreRuns, run_of, runs_text, watch_line, watch_lines}
+use Rattle.result_text.specs.{AreRuns, run_of, runs_text, watch_line, watch_lines}
 
 -- ---- runs
 

@@ -1,28 +1,17 @@
 -- What is known of a whole loop.
 use Rattle.std.proofs.Common.{◌≡◌, ℕ, ◌<◌, ◌≤◌, List, length, Option, None, Some, sym, ◌∙◌, subst, arith}
 use Rattle.std.proofs.lemmas.List.{length-map}
-use Rattle.rdf_values.specs.Cuts.{Lead, below}
-use Rattle.rdf_values.specs.Machine.{first_in}
-use Rattle.rdf_values.specs.declared.fault.Fault.{Fault}
+use Rattle.rdf_values.specs.{below, Fault, first_in, Lead}
 use Rattle.rdf_values.proofs.Below.{length-below}
 use Rattle.rdf_values.proofs.Leading.{cuts_lead}
 use Rattle.columns.proofs.Leading.{few_ranges}
-use Rattle.slot_words.specs.Seats.{ClaimsSeen}
-use Rattle.slot_words.specs.Shares.{BookSeen}
-use Rattle.loop_keys.specs.Jobs.{IsJob, JobView, passes_in}
-use Rattle.loop_pieces.specs.Whole.{cluster_fault}
+use Rattle.slot_words.specs.{BookSeen, ClaimsSeen}
+use Rattle.loop_keys.specs.{IsJob, job_spans, JobView, passes_in}
+use Rattle.loop_pieces.specs.{cluster_fault}
 use Rattle.loop_pieces.proofs.ClusterFaults.{lower_clusters_fault_first}
-use Rattle.loop_keys.specs.Entries.{job_spans}
-use Rattle.event_loop.specs.Jobs.{JobFacts, job_facts}
-use Rattle.event_loop.specs.declared.end.FilledLoop.{FilledLoop}
+use Rattle.event_loop.specs.{AreFacts, AreFilled, CanFill, dones_of, FilledLoop, HasRoom, IsBookOf, IsFilled, IsOpened, IsOutcome, job_facts, JobFacts, orders_of}
 use Rattle.event_loop.specs.declared.gather.Done.{Done}
 use Rattle.event_loop.specs.declared.gather.Outcome.{Outcome}
-use Rattle.event_loop.specs.declared.gather.Outcome.TheVariants as outcome
-use Rattle.event_loop.specs.Ends.{IsFilled}
-use Rattle.event_loop.specs.Filling.{AreFilled, CanFill, IsBookOf, dones_of, orders_of}
-use Rattle.event_loop.specs.Gathered.{AreFacts, IsOutcome}
-use Rattle.event_loop.specs.Seated.{IsOpened}
-use Rattle.event_loop.specs.Workers.{HasRoom}
 
 -- no more clusters than entries
 pub few_clusters : (j : JobView) (n : ℕ) → n ≡ length (job_spans j) → j.cuts.entries ≤ 1000000 → n ≤ 1000000
@@ -46,14 +35,14 @@ has_room (Some b) watched slots clusters n h is = let same = h.1 in omega arith
 
 -- the outcome where all clusters are processed
 pub can_fill : (o : Option BookSeen) (c : ClaimsSeen) (watched slots clusters : ℕ) (job : JobFacts) (end : Outcome) (ds : _)
-    → AreFacts c.clusters job → c.clusters ≡ clusters → c.slots ≡ slots → IsOutcome o job c.slots end → end ≡ outcome.Processed ds → 0 < slots → length job.watched ≡ watched → IsOpened watched slots clusters o
+    → AreFacts c.clusters job → c.clusters ≡ clusters → c.slots ≡ slots → IsOutcome o job c.slots end → end ≡ Outcome.Processed ds → 0 < slots → length job.watched ≡ watched → IsOpened watched slots clusters o
     → CanFill o watched clusters job ds.items
 can_fill o c watched slots clusters job end ds facts same many ended is some watches opened =
     let e = subst (IsOutcome o job c.slots) is ended in
     record { facts = subst (λ (n : ℕ). AreFacts n job) same facts; done = e.1; some = omega (arith, e.2); watches = watches; booked = booked_for o watched slots clusters (length ds.items) opened (e.2 ∙ many) }
 
-pub first_is : (o : Option BookSeen) (n : ℕ) (job : JobFacts) (end : Outcome) (fault : Fault) → IsOutcome o job n end → end ≡ outcome.Faulted fault → first_in job.faults ≡ Some fault
+pub first_is : (o : Option BookSeen) (n : ℕ) (job : JobFacts) (end : Outcome) (fault : Fault) → IsOutcome o job n end → end ≡ Outcome.Faulted fault → first_in job.faults ≡ Some fault
 first_is o n job end fault ended is = subst (IsOutcome o job n) is ended
 
-pub is_filled : (o : Option BookSeen) (n k : ℕ) (job : JobFacts) (end : Outcome) (ds : _) (filled : FilledLoop) → IsOutcome o job n end → end ≡ outcome.Processed ds → (slots : List Done) → AreFilled job k slots filled → IsFilled job k filled
+pub is_filled : (o : Option BookSeen) (n k : ℕ) (job : JobFacts) (end : Outcome) (ds : _) (filled : FilledLoop) → IsOutcome o job n end → end ≡ Outcome.Processed ds → (slots : List Done) → AreFilled job k slots filled → IsFilled job k filled
 is_filled o n k job end ds filled ended is slots h = record { sound = (subst (IsOutcome o job n) is ended).0; stands = h.stands; orders = orders_of slots; dones = dones_of slots; partials = h.partials }

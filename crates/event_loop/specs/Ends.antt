@@ -1,10 +1,8 @@
 -- What an event loop comes to.
 use Rattle.std.specs.Prelude.{◌≡◌, ◌<◌, ℕ, List, Some, None, length}
-use Rattle.rdf_values.specs.Cuts.{below}
-use Rattle.rdf_values.specs.Machine.{first_in}
-use Rattle.loop_pieces.specs.LoopPieces.{StandsFor}
-use Rattle.loop_pieces.specs.declared.filled_result.PartialLine.{PartialLine}
-use Rattle.slot_words.specs.Chains.{AreNoted, HavePartialsOver, noted_sets}
+use Rattle.rdf_values.specs.{below, first_in}
+use Rattle.loop_pieces.specs.{PartialLine, StandsFor}
+use Rattle.slot_words.specs.{AreNoted, HavePartialsOver, noted_sets}
 use Rattle.event_loop.specs.Jobs.{JobFacts}
 use Rattle.event_loop.specs.declared.end.FilledLoop.{FilledLoop}
 use Rattle.event_loop.specs.declared.end.LoopEnd.{LoopEnd}

@@ -1,13 +1,11 @@
 -- What a loop without a fault is filled with.
 use Rattle.std.specs.Prelude.{◌≡◌, ◌<◌, ℕ, List, [], ◌∷◌, Option, Some, None, All, flat_map, length, map}
-use Rattle.rdf_values.specs.Cuts.{below}
-use Rattle.loop_pieces.specs.LoopPieces.{StandsFor}
-use Rattle.loop_pieces.specs.Trails.{HaveTrails}
-use Rattle.loop_pieces.specs.declared.loop_piece.LoopPiece.{LoopPiece}
-use Rattle.slot_words.specs.Shares.{BookSeen, ShareSeen}
+use Rattle.rdf_values.specs.{below}
+use Rattle.loop_pieces.specs.{HaveTrails, LoopPiece, StandsFor}
+use Rattle.slot_words.specs.{BookSeen, ShareSeen}
 use Rattle.event_loop.specs.Jobs.{JobFacts}
 use Rattle.event_loop.specs.Slots.{IsSlotOf, SlotView}
-use Rattle.event_loop.specs.declared.progress.Phase.TheVariants as phase
+use Rattle.event_loop.specs.declared.progress.Phase.{Phase}
 use Rattle.event_loop.specs.Ends.{AreNotedPartials}
 use Rattle.event_loop.specs.Gathered.{AreDone, AreFacts, finished_by}
 use Rattle.event_loop.specs.declared.end.FilledLoop.{FilledLoop}
@@ -15,7 +13,7 @@ use Rattle.event_loop.specs.declared.gather.Done.{Done}
 
 -- the slot goes on
 abbrev pub IsGoing : Done → Type 0
-IsGoing d = d.state.phase ≡ phase.Going
+IsGoing d = d.state.phase ≡ Phase.Going
 
 -- each of the slots
 abbrev pub AllAreGoing : List Done → Type 0

@@ -1,18 +1,13 @@
 -- What the slots of a loop give back.
 use Rattle.std.specs.Prelude.{◌≡◌, ⊤, ℕ, List, [], ◌∷◌, Option, Some, None, All, flat_map, length, map}
-use Rattle.rdf_values.specs.Cuts.{below}
-use Rattle.rdf_values.specs.Draws.{IsUnion}
-use Rattle.rdf_values.specs.Machine.{AreInEntryOrder, first_in}
-use Rattle.rdf_values.specs.declared.fault.Fault.{Fault}
-use Rattle.slot_words.specs.Seats.{SeatSeen}
-use Rattle.slot_words.specs.Shares.{BookSeen, ShareSeen}
+use Rattle.rdf_values.specs.{AreInEntryOrder, below, Fault, first_in, IsUnion}
+use Rattle.slot_words.specs.{BookSeen, SeatSeen, ShareSeen}
 use Rattle.event_loop.specs.Jobs.{JobFacts}
 use Rattle.event_loop.specs.Slots.{IsSlotOf}
-use Rattle.event_loop.specs.declared.progress.Phase.TheVariants as phase
+use Rattle.event_loop.specs.declared.progress.Phase.{Phase}
 use Rattle.event_loop.specs.Workers.{HasNoted, HasRun}
 use Rattle.event_loop.specs.declared.gather.Done.{Done}
 use Rattle.event_loop.specs.declared.gather.Outcome.{Outcome}
-use Rattle.event_loop.specs.declared.gather.Outcome.TheVariants as outcome
 use Rattle.event_loop.specs.declared.workers.Finished.{Finished}
 use Rattle.event_loop.specs.declared.workers.End.{End}
 use Rattle.event_loop.specs.declared.workers.End.TheVariants.{Over, Faulted, NoMemory}
@@ -64,7 +59,7 @@ pub record AreFacts (clusters : ℕ) (job : JobFacts) : Type 0 where
 -- the slot goes on, and noted the clusters that it finished
 pub record IsDone (b : Option BookSeen) (job : JobFacts) (d : Done) : Type 0 where
   pub slot : IsSlotOf job d.state
-  pub going : d.state.phase ≡ phase.Going
+  pub going : d.state.phase ≡ Phase.Going
   pub noted : HasNoted b (length d.state.done) d.share
 
 -- the clusters that a slot finished
@@ -78,5 +73,5 @@ pub record AreDone (b : Option BookSeen) (job : JobFacts) (ds : List Done) : Typ
 
 -- so many slots finished all clusters, of which none has a fault, or the fault is that of the first cluster that has one
 abbrev pub IsOutcome : Option BookSeen → JobFacts → ℕ → Outcome → Type 0
-IsOutcome b job n (outcome.Processed slots) = (first_in job.faults ≡ None) × AreDone b job slots.items × (length slots.items ≡ n)
-IsOutcome b job n (outcome.Faulted fault) = first_in job.faults ≡ Some fault
+IsOutcome b job n (Outcome.Processed slots) = (first_in job.faults ≡ None) × AreDone b job slots.items × (length slots.items ≡ n)
+IsOutcome b job n (Outcome.Faulted fault) = first_in job.faults ≡ Some fault

@@ -1,12 +1,9 @@
 -- What a loop is to give, as plain data.
 use Rattle.std.specs.Prelude.{ℕ, List, Option}
-use Rattle.rdf_values.specs.Path.{history}
-use Rattle.rdf_values.specs.declared.fault.Fault.{Fault}
+use Rattle.rdf_values.specs.{Fault, history}
 use Rattle.rdf_model.specs.declared.loop_facts.LoopFacts.{LoopFacts}
-use Rattle.loop_keys.specs.Jobs.{JobView, passes_in}
-use Rattle.loop_keys.specs.Entries.{facts_in, job_spans}
-use Rattle.loop_pieces.specs.Trails.{watched_places}
-use Rattle.loop_pieces.specs.Whole.{cluster_faults}
+use Rattle.loop_keys.specs.{facts_in, job_spans, JobView, passes_in}
+use Rattle.loop_pieces.specs.{cluster_faults, watched_places}
 
 -- the facts of a loop, for each cluster its first fault or none, the places of the watched passes among the action passes, and what the
 -- loop works on

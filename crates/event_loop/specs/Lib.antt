@@ -11,3 +11,20 @@ pub mod Slots
 pub mod Transcripts
 pub mod Turns
 pub mod Workers
+-- what other crates name of these
+pub use Ends.{AreNotedPartials, HasEnded, IsFilled}
+pub use Filling.{AllAreGoing, AreFilled, ArePieces, CanFill, dones_of, IsBookOf, IsGoing, IsPieceOf, orders_of, share_or_none, shares_in}
+pub use Gathered.{AreDone, AreFacts, done_in, done_or_none, end_faults, fault_of, finished_by, HasMemory, HasStopped, IsDone, IsOutcome, IsServed, seat_in}
+pub use Jobs.{job_facts, JobFacts}
+pub use Parts.{job_with}
+pub use Passes.{is_watched_pass, IsOfPasses, places_before, watched_before}
+pub use Places.{fills, IsFilledPlace, IsPassOf, IsPlaced, loop_filling}
+pub use Seated.{AreBlank, IsBlank, IsOpened}
+pub use Sessions.{ArePartials, dataset_of, fresh_session, HasNoPartials, HasSameParts, IsAccessed, IsFaulted, IsFilledAt, IsFilledIn, IsFoundAt, IsKept, IsRefused, IsResult, IsSession, IsUnfilled, passes_run, session_job, session_of, SessionView}
+pub use Slots.{IsFreshSlot, IsSlotOf, SlotView}
+pub use Transcripts.{IsTranscript}
+pub use Turns.{EndsAt, FitsCourse, GoesOn, print_gives}
+pub use Workers.{AreSound, CanRun, HasNoted, HasRoom, HasRun, HasWorked, IsFresh, Stopped}
+pub use declared.end.FilledLoop.{FilledLoop}
+pub use declared.end.LoopEnd.{LoopEnd}
+pub use declared.progress.Phase.{Phase}

@@ -1,13 +1,10 @@
 -- The passes of a loop, as they are added to a tally.
 use Rattle.std.specs.Prelude.{◌&&◌, ℕ, Bool, List, is_none, length, take}
-use Rattle.rdf_values.specs.Bookings.{Pass, is_watched}
-use Rattle.rdf_values.specs.Path.{history}
-use Rattle.rdf_values.specs.declared.statement.Statement.{Statement}
-use Rattle.rdf_model.specs.LoopFacts.{kinds_in}
-use Rattle.loop_keys.specs.Jobs.{JobView, passes_in}
-use Rattle.cluster_tally.specs.Feedings.{IsFresh}
-use Rattle.cluster_tally.specs.Tallies.{TallyView}
-use Rattle.loop_pieces.specs.Trails.{watched_places}
+use Rattle.rdf_values.specs.{history, is_watched, Pass, Statement}
+use Rattle.rdf_model.specs.{kinds_in}
+use Rattle.loop_keys.specs.{JobView, passes_in}
+use Rattle.cluster_tally.specs.{IsFresh, TallyView}
+use Rattle.loop_pieces.specs.{watched_places}
 
 -- the nominal pass of a result that the script watches
 abbrev pub is_watched_pass : List Statement → Pass → Bool

@@ -1,14 +1,10 @@
 -- Which loop fills a result, and where the result's passes stand in it.
 use Rattle.std.specs.Prelude.{◌≡◌, ℕ, ◌<◌, Bool, true, List, ◌++◌, Option, length, ◌+◌, ◌≤◌, ◌^◌}
 use Rattle.std.specs.Option.{ForSome}
-use Rattle.rdf_values.specs.Names.{among, place}
-use Rattle.rdf_values.specs.Bookings.{Booked, Pass, names_of, passes_of}
-use Rattle.rdf_values.specs.declared.statement.Statement.{Statement}
-use Rattle.rdf_model.specs.LoopFacts.{kinds_in}
-use Rattle.rdf_model.specs.Loops.{loop_passes, loop_results}
-use Rattle.graph_numbers.specs.Graphs.{GraphView, graph_results, graph_variations}
-use Rattle.graph_numbers.specs.declared.pass.Pass.{Pass as NumberedPass}
-use Rattle.loop_pieces.specs.Trails.{watched_places}
+use Rattle.rdf_values.specs.{among, Booked, names_of, Pass, passes_of, place, Statement}
+use Rattle.rdf_model.specs.{kinds_in, loop_passes, loop_results}
+use Rattle.graph_numbers.specs.{graph_results, graph_variations, GraphView, Pass as NumberedPass}
+use Rattle.loop_pieces.specs.{watched_places}
 use Rattle.event_loop.specs.declared.place.Place.{Place}
 
 -- the pass is of a result of the graph, under nominal or one of its variations

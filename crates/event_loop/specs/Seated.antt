@@ -1,6 +1,6 @@
 -- What the slots of a loop begin with.
 use Rattle.std.specs.Prelude.{◌≡◌, ℕ, List, [], Option, Some, None, All, length}
-use Rattle.slot_words.specs.Shares.{BookSeen, ShareSeen}
+use Rattle.slot_words.specs.{BookSeen, ShareSeen}
 use Rattle.slot_words.specs.Shares as book
 
 -- a share of this book that noted nothing

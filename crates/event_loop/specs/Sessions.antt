@@ -1,24 +1,13 @@
 -- What a contract sees of a session.
 use Rattle.std.specs.Prelude.{◌≡◌, ℕ, ◌+◌, ◌<◌, ◌≤◌, ◌⊎◌, List, [], ◌∷◌, Option, None, Some, IfSome, length, slice_get, unwrap_or}
-use Rattle.rdf_values.specs.Functions.{Function}
-use Rattle.rdf_values.specs.Bookings.{Booked, Pass}
-use Rattle.rdf_values.specs.Path.{history}
-use Rattle.rdf_values.specs.Tables.{IsTable}
-use Rattle.rdf_values.specs.Words.{StatementsHaveWords}
-use Rattle.rdf_values.specs.declared.fault.Fault.{Fault}
-use Rattle.rdf_values.specs.declared.statement.Statement.{Statement}
-use Rattle.rdf_model.specs.Laws.{loops_before}
-use Rattle.rdf_model.specs.Loops.{Access, accesses, loop_passes, loop_results}
-use Rattle.rdf_model.specs.Results.{Dataset, first_fault}
+use Rattle.rdf_values.specs.{Booked, Fault, Function, history, IsTable, Pass, Statement, StatementsHaveWords}
+use Rattle.rdf_model.specs.{Access, accesses, Dataset, first_fault, loop_passes, loop_results, loops_before}
 use Rattle.columns.specs.CutsView.{CutsView}
 use Rattle.columns.specs.ColumnsView.{ColumnsView}
-use Rattle.entry_fns.specs.Lists.{functions_in}
-use Rattle.graph_numbers.specs.Graphs.{GraphView, IsGraph, graph_prints}
-use Rattle.graph_numbers.specs.Laws.{graph_of}
-use Rattle.loop_keys.specs.Jobs.{JobView, passes_in}
-use Rattle.loop_pieces.specs.Trails.{place_if_watched}
-use Rattle.loop_pieces.specs.declared.filled_result.FilledResult.{FilledResult}
-use Rattle.loop_pieces.specs.declared.filled_result.PartialLine.{PartialLine}
+use Rattle.entry_fns.specs.{functions_in}
+use Rattle.graph_numbers.specs.{graph_of, graph_prints, GraphView, IsGraph}
+use Rattle.loop_keys.specs.{JobView, passes_in}
+use Rattle.loop_pieces.specs.{FilledResult, PartialLine, place_if_watched}
 use Rattle.event_loop.specs.Jobs.{job_facts}
 use Rattle.event_loop.specs.Ends.{IsFilled}
 use Rattle.event_loop.specs.declared.end.FilledLoop.{FilledLoop}

@@ -1,12 +1,9 @@
 -- What a contract sees of a slot.
 use Rattle.std.specs.Prelude.{◌≡◌, ◌≤◌, ◌<◌, ℕ, List, [], All, length}
-use Rattle.rdf_model.specs.LoopFacts.{kinds_in}
-use Rattle.loop_keys.specs.Caches.{IsPlainLoop}
-use Rattle.loop_keys.specs.Jobs.{JobView, job_graph, passes_in}
-use Rattle.loop_keys.specs.Entries.{IsNoTake}
-use Rattle.block_passes.specs.States.{CountsVectors, IsStateOf, StateView}
-use Rattle.cluster_tally.specs.Stages.{at_begin}
-use Rattle.cluster_tally.specs.Tallies.{Holds, TallyView}
+use Rattle.rdf_model.specs.{kinds_in}
+use Rattle.loop_keys.specs.{IsNoTake, IsPlainLoop, job_graph, JobView, passes_in}
+use Rattle.block_passes.specs.{CountsVectors, IsStateOf, StateView}
+use Rattle.cluster_tally.specs.{at_begin, Holds, TallyView}
 use Rattle.event_loop.specs.Jobs.{JobFacts, job_facts}
 use Rattle.event_loop.specs.declared.progress.Phase.{Phase}
 use Rattle.event_loop.specs.declared.progress.Phase.TheVariants.{Going}

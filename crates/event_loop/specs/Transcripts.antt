@@ -1,10 +1,7 @@
 -- When a text is what a script prints.
 use Rattle.std.specs.Prelude.{◌≡◌, ℕ, length, if◌then◌else◌}
-use Rattle.rdf_values.specs.Path.{history}
-use Rattle.rdf_values.specs.declared.script.Script.{Script}
-use Rattle.rdf_model.specs.PartialResults.{Course, IsCourse}
-use Rattle.rdf_model.specs.Results.{Dataset}
-use Rattle.rdf_model.specs.Transcript.{transcript}
+use Rattle.rdf_values.specs.{history, Script}
+use Rattle.rdf_model.specs.{Course, Dataset, IsCourse, transcript}
 use Rattle.columns.specs.CutsView.{CutsView}
 use Rattle.event_loop.specs.declared.transcript.Transcript.{Transcript}
 

@@ -1,13 +1,8 @@
 -- What one Print adds to a text.
 use Rattle.std.specs.Prelude.{◌≡◌, ℕ, ◌+◌, List, None, Some, slice_get}
-use Rattle.rdf_values.specs.Cuts.{cut}
-use Rattle.rdf_values.specs.Path.{history}
-use Rattle.rdf_model.specs.Loops.{Access, accesses}
-use Rattle.rdf_model.specs.PartialResults.{Course}
-use Rattle.rdf_model.specs.Results.{first_fault}
-use Rattle.rdf_model.specs.Transcript.{Printed, access_passes, access_printed, in_front_of}
-use Rattle.loop_pieces.specs.PartialLines.{ArePartialLines}
-use Rattle.loop_pieces.specs.declared.filled_result.PartialLine.{PartialLine}
+use Rattle.rdf_values.specs.{cut, history}
+use Rattle.rdf_model.specs.{Access, access_passes, access_printed, accesses, Course, first_fault, in_front_of, Printed}
+use Rattle.loop_pieces.specs.{ArePartialLines, PartialLine}
 use Rattle.event_loop.specs.Jobs.{job_facts}
 use Rattle.event_loop.specs.declared.end.FilledLoop.{FilledLoop}
 use Rattle.event_loop.specs.Sessions.{SessionView, session_job}

@@ -1,18 +1,13 @@
 -- What a worker is given, and what it gives back.
 use Rattle.std.specs.Prelude.{◌≡◌, ◌<◌, ◌≤◌, ◌⊎◌, ⊤, ℕ, List, [], ◌∷◌, ◌++◌, Option, Some, None, length, slice_get}
-use Rattle.rdf_values.specs.Path.{history}
-use Rattle.rdf_values.specs.Times.{times}
-use Rattle.rdf_values.specs.Words.{StatementsHaveWords}
-use Rattle.rdf_values.specs.declared.fault.Fault.{Fault}
-use Rattle.loop_keys.specs.Jobs.{JobView}
-use Rattle.slot_words.specs.Seats.{ClaimsSeen}
+use Rattle.rdf_values.specs.{Fault, history, StatementsHaveWords, times}
+use Rattle.loop_keys.specs.{JobView}
+use Rattle.slot_words.specs.{BookSeen, ClaimsSeen, IsReady, MetBar, RanOut, ShareSeen}
 use Rattle.slot_words.specs.Seats as claims
-use Rattle.slot_words.specs.Shares.{BookSeen, ShareSeen}
 use Rattle.slot_words.specs.Shares as book
-use Rattle.slot_words.specs.SeatEnds.{IsReady, MetBar, RanOut}
 use Rattle.event_loop.specs.Jobs.{JobFacts, job_facts}
 use Rattle.event_loop.specs.Slots.{IsSlotOf, SlotView}
-use Rattle.event_loop.specs.declared.progress.Phase.TheVariants as phase
+use Rattle.event_loop.specs.declared.progress.Phase.{Phase}
 use Rattle.event_loop.specs.declared.workers.Shared.{Shared}
 use Rattle.event_loop.specs.declared.workers.Slot.{Slot}
 use Rattle.event_loop.specs.declared.workers.End.{End}
@@ -47,7 +42,7 @@ pub record IsFresh (shared : Shared) (s : Slot) : Type 0 where
 -- the slot's state goes on, and the clusters that it finished are sound and noted
 pub record HasWorked (b : Option BookSeen) (job : JobFacts) (share : Option ShareSeen) (state : SlotView) : Type 0 where
   pub slot : IsSlotOf job state
-  pub going : state.phase ≡ phase.Going
+  pub going : state.phase ≡ Phase.Going
   pub sound : AreSound job.faults state.done
   pub noted : HasNoted b (length state.done) share
 
@@ -56,7 +51,7 @@ pub record HasWorked (b : Option BookSeen) (job : JobFacts) (share : Option Shar
 pub record MetFault (b : Option BookSeen) (job : JobFacts) (s : Slot) (state : SlotView) (fault : Fault) : Type 0 where
   pub last : ℕ
   pub slot : IsSlotOf job state
-  pub phase : state.phase ≡ phase.Faulted
+  pub phase : state.phase ≡ Phase.Faulted
   pub others : s.seat.drawn ≡ state.done ++ last ∷ []
   pub sound : AreSound job.faults state.done
   pub noted : HasNoted b (length state.done) s.share

@@ -1,6 +1,6 @@
 // What a loop without a fault is filled with.
 ghost use Rattle.std.specs.Prelude.{◌≡◌, ◌<◌, ◌≤◌, ◌++◌, List, Option, IfOk, OnOk, flat_map};
-ghost use Rattle.slot_words.specs.Trails.{HaveSameBodies};
+ghost use Rattle.slot_words.specs.{HaveSameBodies};
 ghost use Rattle.event_loop.specs.Jobs.{JobFacts};
 ghost use Rattle.event_loop.specs.Ends.{AreNotedPartials};
 ghost use Rattle.event_loop.specs.Filling.{AllAreGoing, AreFilled, ArePieces, CanFill, dones_of, orders_of, share_or_none, shares_in};

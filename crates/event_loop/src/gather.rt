@@ -1,10 +1,9 @@
 // What the slots of a loop give back.
 ghost use Rattle.std.specs.Prelude.{◌≡◌, ◌<◌, ◌++◌, All, flat_map, map, IfOk, OnOk, vec_len, Option};
-ghost use Rattle.rdf_values.specs.Machine.{least_fault, lesser_fault};
+ghost use Rattle.rdf_values.specs.{least_fault, lesser_fault};
 ghost use Rattle.slot_words.specs.Seats.{IsOf};
-ghost use Rattle.slot_words.specs.Shares.{BookSeen};
-ghost use Rattle.event_loop.specs.Jobs.{JobFacts};
-ghost use Rattle.event_loop.specs.Gathered.{AreFacts, HasMemory, HasStopped, IsOutcome, done_in, done_or_none, end_faults, seat_in};
+ghost use Rattle.slot_words.specs.{BookSeen};
+ghost use Rattle.event_loop.specs.{AreFacts, done_in, done_or_none, end_faults, HasMemory, HasStopped, IsOutcome, JobFacts, seat_in};
 
 use crate::SlotState;
 use crate::workers::{End, Finished, Slot};

@@ -1,11 +1,8 @@
 // One event loop over all clusters.
 ghost use Rattle.std.specs.Prelude.{◌≡◌, ◌<◌, ◌≤◌, IfOk, length};
-ghost use Rattle.rdf_values.specs.Path.{history};
-ghost use Rattle.rdf_values.specs.Words.{StatementsHaveWords};
-ghost use Rattle.loop_keys.specs.Jobs.{Fits, job_of};
-ghost use Rattle.loop_keys.specs.Entries.{job_spans};
-ghost use Rattle.event_loop.specs.Jobs.{job_facts};
-ghost use Rattle.event_loop.specs.Ends.{HasEnded};
+ghost use Rattle.rdf_values.specs.{history, StatementsHaveWords};
+ghost use Rattle.loop_keys.specs.{Fits, job_of, job_spans};
+ghost use Rattle.event_loop.specs.{HasEnded, job_facts};
 
 use crate::end::LoopEnd;
 use crate::filling::{Noting, filled};

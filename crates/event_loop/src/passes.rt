@@ -1,11 +1,9 @@
 // The passes of a loop.
 ghost use Rattle.std.specs.Prelude.{◌≡◌, ◌<◌, ◌+◌, ℕ, Some, length, slice_get};
 ghost use Rattle.rdf_values.specs.Bookings as bookings;
-ghost use Rattle.rdf_values.specs.Path.{history};
-ghost use Rattle.loop_keys.specs.Caches.{numbered_in};
-ghost use Rattle.loop_keys.specs.Jobs.{Fits, job_of, passes_in};
-ghost use Rattle.event_loop.specs.Jobs.{job_facts};
-ghost use Rattle.event_loop.specs.Passes.{is_watched_pass, watched_before};
+ghost use Rattle.rdf_values.specs.{history};
+ghost use Rattle.loop_keys.specs.{Fits, job_of, numbered_in, passes_in};
+ghost use Rattle.event_loop.specs.{is_watched_pass, job_facts, watched_before};
 
 use graph_numbers::{Pass, ResultKind};
 use loop_keys::Job;

@@ -1,14 +1,11 @@
 // Where the passes of a result stand in a loop.
 ghost use Rattle.std.specs.Prelude.{◌≡◌, ◌<◌, ◌≤◌, ◌^◌, ◌∷◌, [], ℕ, List, MatchOption, None, Some, if◌then◌else◌, count_by, false, length, map, nat_eq, option_map, slice_get};
 ghost use Rattle.std.specs.List.{position};
-ghost use Rattle.rdf_values.specs.Bookings.{Booked, Pass as NamedPass};
-ghost use Rattle.rdf_model.specs.LoopFacts.{kind_in, kinds_in};
-ghost use Rattle.rdf_model.specs.Loops.{loop_passes, loop_results};
-ghost use Rattle.graph_numbers.specs.Graphs.{IsGraph, booked_statements, graph_loops, graph_results};
-ghost use Rattle.graph_numbers.specs.Results.{ResultAt, pass_at};
-ghost use Rattle.graph_numbers.specs.declared.pass.Pass.{Pass as NumberedPass};
-ghost use Rattle.loop_pieces.specs.Trails.{place_if_watched, watched_places};
-ghost use Rattle.event_loop.specs.Places.{IsFilledPlace, IsPassOf, fills};
+ghost use Rattle.rdf_values.specs.{Booked, Pass as NamedPass};
+ghost use Rattle.rdf_model.specs.{kind_in, kinds_in, loop_passes, loop_results};
+ghost use Rattle.graph_numbers.specs.{booked_statements, graph_loops, graph_results, IsGraph, Pass as NumberedPass, pass_at, ResultAt};
+ghost use Rattle.loop_pieces.specs.{place_if_watched, watched_places};
+ghost use Rattle.event_loop.specs.{fills, IsFilledPlace, IsPassOf};
 
 use graph::Graph;
 use graph_numbers::{Pass, ResultKind};

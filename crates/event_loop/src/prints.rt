@@ -1,13 +1,9 @@
 // The Prints of a script, in order.
 ghost use Rattle.std.specs.Prelude.{◌≡◌, ◌<◌, ◌≤◌, ◌++◌, ℕ, IfOk, None, Ok, OnOk, Some, false, length, slice_get, true};
-ghost use Rattle.entry_fns.specs.Lists.{functions_in};
-ghost use Rattle.rdf_values.specs.Functions.{fn_names};
-ghost use Rattle.rdf_values.specs.Path.{history};
-ghost use Rattle.rdf_values.specs.Words.{StatementsHaveWords};
-ghost use Rattle.rdf_model.specs.Loops.{accesses};
-ghost use Rattle.event_loop.specs.Sessions.{HasSameParts, IsSession, dataset_of, session_of};
-ghost use Rattle.event_loop.specs.Transcripts.{IsTranscript};
-ghost use Rattle.event_loop.specs.Turns.{EndsAt, GoesOn};
+ghost use Rattle.entry_fns.specs.{functions_in};
+ghost use Rattle.rdf_values.specs.{fn_names, history, StatementsHaveWords};
+ghost use Rattle.rdf_model.specs.{accesses};
+ghost use Rattle.event_loop.specs.{dataset_of, EndsAt, GoesOn, HasSameParts, IsSession, IsTranscript, session_of};
 
 use crate::booked::BookedGraph;
 use crate::refusal::LoopRefusal;

@@ -1,14 +1,9 @@
 // The lines of a result that a session filled.
 ghost use Rattle.std.specs.Prelude.{◌≡◌, ◌<◌, ◌++◌, [], OnOk, Some, flat_map, if◌then◌else◌, length, slice_get};
-ghost use Rattle.rdf_values.specs.Bookings.{is_watched, passes_of};
-ghost use Rattle.rdf_values.specs.Path.{history};
-ghost use Rattle.rdf_model.specs.PartialResults.{Course};
-ghost use Rattle.rdf_model.specs.ResultLines.{pass_lines};
-ghost use Rattle.rdf_model.specs.Transcript.{partial_lines, result_lines};
-ghost use Rattle.graph_numbers.specs.Graphs.{graph_results};
-ghost use Rattle.graph_numbers.specs.Results.{ResultAt};
-ghost use Rattle.event_loop.specs.Sessions.{IsFilledIn, IsSession, session_of};
-ghost use Rattle.event_loop.specs.Turns.{FitsCourse};
+ghost use Rattle.rdf_values.specs.{history, is_watched, passes_of};
+ghost use Rattle.rdf_model.specs.{Course, partial_lines, pass_lines, result_lines};
+ghost use Rattle.graph_numbers.specs.{graph_results, ResultAt};
+ghost use Rattle.event_loop.specs.{FitsCourse, IsFilledIn, IsSession, session_of};
 
 use crate::session::Session;
 use rdf_values::{Memory, Text};

@@ -1,9 +1,8 @@
 // What the slots of a loop begin with.
 ghost use Rattle.std.specs.Prelude.{◌≡◌, ◌<◌, ◌≤◌, All, IfOk, length, vec_len};
-ghost use Rattle.event_loop.specs.Seated.{AreBlank, IsOpened};
-ghost use Rattle.event_loop.specs.Workers.{IsFresh};
+ghost use Rattle.event_loop.specs.{AreBlank, IsFresh, IsOpened};
 ghost use Rattle.event_loop.specs.declared.workers.Shared.{Shared};
-ghost use Rattle.slot_words.specs.SeatEnds.{IsReady};
+ghost use Rattle.slot_words.specs.{IsReady};
 
 use crate::workers::Slot;
 use rdf_values::Memory;

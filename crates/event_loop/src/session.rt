@@ -1,17 +1,10 @@
 // The loops of a graph, each run at the first access that needs it.
 ghost use Rattle.std.specs.Prelude.{◌≡◌, ◌<◌, ◌≤◌, ◌⊎◌, [], ℕ, IfOk, None, Some, Ok, Err, MatchOption, length, slice_get};
-ghost use Rattle.entry_fns.specs.Lists.{functions_in};
-ghost use Rattle.rdf_values.specs.Functions.{fn_names};
-ghost use Rattle.rdf_values.specs.Path.{history};
-ghost use Rattle.rdf_values.specs.Words.{StatementsHaveWords};
-ghost use Rattle.rdf_values.specs.declared.fault.Fault.{Fault};
-ghost use Rattle.rdf_model.specs.Loops.{accesses, loop_results};
-ghost use Rattle.graph_numbers.specs.Graphs.{graph_results};
-ghost use Rattle.graph_numbers.specs.Results.{ResultAt};
-ghost use Rattle.event_loop.specs.Jobs.{job_facts};
-ghost use Rattle.event_loop.specs.Ends.{HasEnded};
-ghost use Rattle.event_loop.specs.declared.end.FilledLoop.{FilledLoop};
-ghost use Rattle.event_loop.specs.Sessions.{ArePartials, HasNoPartials, HasSameParts, IsAccessed, IsFaulted, IsFoundAt, IsRefused, IsResult, IsSession, IsUnfilled, fresh_session, session_job, session_of};
+ghost use Rattle.entry_fns.specs.{functions_in};
+ghost use Rattle.rdf_values.specs.{Fault, fn_names, history, StatementsHaveWords};
+ghost use Rattle.rdf_model.specs.{accesses, loop_results};
+ghost use Rattle.graph_numbers.specs.{graph_results, ResultAt};
+ghost use Rattle.event_loop.specs.{ArePartials, FilledLoop, fresh_session, HasEnded, HasNoPartials, HasSameParts, IsAccessed, IsFaulted, IsFoundAt, IsRefused, IsResult, IsSession, IsUnfilled, job_facts, session_job, session_of};
 
 use crate::booked::BookedGraph;
 use crate::end::{FilledLoop, LoopEnd};

@@ -1,14 +1,10 @@
 // The state of one slot.
 ghost use Rattle.std.specs.Prelude.{◌≡◌, ◌≢◌, ◌<◌, ◌≤◌, ◌+◌, ◌*◌, ◌++◌, ◌∷◌, [], ℕ, All, IfOk, None, Some, Ok, Err, length, slice_get};
-ghost use Rattle.rdf_values.specs.Path.{history};
-ghost use Rattle.rdf_values.specs.Words.{StatementsHaveWords};
-ghost use Rattle.rdf_values.specs.declared.fault.Fault.{Fault};
-ghost use Rattle.loop_keys.specs.Jobs.{Fits, job_graph, job_of};
-ghost use Rattle.loop_keys.specs.Keys.{key_count};
-ghost use Rattle.block_cache.specs.Sizes.{size_for};
-ghost use Rattle.block_passes.specs.Clusters.{span_demands};
-ghost use Rattle.loop_pieces.specs.LoopPieces.{StandsFor};
-ghost use Rattle.loop_pieces.specs.Trails.{HaveTrails};
+ghost use Rattle.rdf_values.specs.{Fault, history, StatementsHaveWords};
+ghost use Rattle.loop_keys.specs.{Fits, job_graph, job_of, key_count};
+ghost use Rattle.block_cache.specs.{size_for};
+ghost use Rattle.block_passes.specs.{span_demands};
+ghost use Rattle.loop_pieces.specs.{HaveTrails, StandsFor};
 ghost use Rattle.event_loop.specs.Jobs.{JobFacts, job_facts};
 ghost use Rattle.event_loop.specs.Slots.{IsFreshSlot, IsPlainSlot, IsSlotOf};
 

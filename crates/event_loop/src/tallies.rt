@@ -1,10 +1,9 @@
 // The tally of a loop's passes.
 ghost use Rattle.std.specs.Prelude.{◌≡◌, ◌<◌, ◌+◌, IfOk, OnOk, length, replicate};
-ghost use Rattle.rdf_values.specs.Bookings.{named_before};
-ghost use Rattle.rdf_values.specs.Path.{history};
-ghost use Rattle.loop_pieces.specs.Flows.{nothing};
-ghost use Rattle.loop_keys.specs.Jobs.{Fits, job_of, passes_in};
-ghost use Rattle.event_loop.specs.Passes.{IsOfPasses};
+ghost use Rattle.rdf_values.specs.{history, named_before};
+ghost use Rattle.loop_pieces.specs.{nothing};
+ghost use Rattle.loop_keys.specs.{Fits, job_of, passes_in};
+ghost use Rattle.event_loop.specs.{IsOfPasses};
 
 use crate::passes::{is_watched, pass_at, pass_count};
 use cluster_tally::Tally;

@@ -1,12 +1,9 @@
 // The work of one slot, and the slots side by side.
 ghost use Rattle.std.specs.Prelude.{◌≡◌, ℕ, ◌<◌, ◌+◌, IfOk, slice_index_or, vec_len};
 ghost use Rattle.std.specs.List.{All};
-ghost use Rattle.entry_fns.specs.Lists.{functions_in};
-ghost use Rattle.loop_keys.specs.Jobs.{Fits, IsJob, job_graph, job_of};
-ghost use Rattle.event_loop.specs.Jobs.{job_facts};
-ghost use Rattle.event_loop.specs.Gathered.{HasStopped};
-ghost use Rattle.event_loop.specs.Parts.{job_with};
-ghost use Rattle.event_loop.specs.Workers.{CanRun, HasNoted, HasRoom, HasRun, IsFresh};
+ghost use Rattle.entry_fns.specs.{functions_in};
+ghost use Rattle.loop_keys.specs.{Fits, IsJob, job_graph, job_of};
+ghost use Rattle.event_loop.specs.{CanRun, HasNoted, HasRoom, HasRun, HasStopped, IsFresh, job_facts, job_with};
 ghost use Rattle.event_loop.specs.declared.workers.Finished.{Finished};
 
 use crate::{Progress, SlotState, SlotStop};

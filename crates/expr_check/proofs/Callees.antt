@@ -1,21 +1,12 @@
 -- Which function a name calls, and its shape.
-use Rattle.std.proofs.Common.{◌≡◌, ◌≢◌, ℕ, zero, suc, ◌+◌, ◌<◌, ◌≤◌, take, Bool, true, false, List, [], ◌∷◌, length, Some, None, Result, Ok, Err, refl, sym, ap, ◌∙◌, cond, arith}
-use Rattle.std.specs.Prelude.{slice_get, HoldsAt, replicate}
+use Rattle.std.proofs.Common.{◌≡◌, ◌≢◌, ℕ, zero, suc, ◌+◌, ◌<◌, ◌≤◌, take, Bool, true, false, List, [], ◌∷◌, length, Some, None, Result, Ok, Err, refl, sym, ap, ◌∙◌, cond, arith, slice_get, HoldsAt, replicate}
 use Rattle.std.proofs.lemmas.Bool.{false_from_ne_true}
 use Rattle.std.proofs.lemmas.List.{take-replicate}
 use Rattle.std.proofs.lemmas.List.Elements.{All-head, All-tail}
 use Rattle.std.proofs.lemmas.Slice.Eq.{bytes_eq-Decides}
-use Rattle.rdf_values.specs.Names.{same}
-use Rattle.rdf_values.specs.Kinds.{Shape, shape, FunctionNames, shape_in, shapes, shape_of, built_in_shapes}
-use Rattle.rdf_values.specs.Numbered.{callee_in, given_from, callee, built_in}
-use Rattle.rdf_values.specs.FunctionNames.{LacksName, HaveDistinctNames, AreFnNames}
-use Rattle.rdf_values.specs.declared.fn_names.FnName.{FnName}
-use Rattle.rdf_values.specs.declared.value.ColType.TheVariants as kind
-use Rattle.rdf_values.specs.declared.num_expr.Callee.{Callee}
-use Rattle.rdf_values.specs.declared.num_expr.Callee.TheVariants as fn
-use Rattle.rdf_values.specs.declared.graph_cause.GraphCause.{GraphCause}
+use Rattle.rdf_values.specs.{AreFnNames, built_in, built_in_shapes, Callee, callee, callee_in, ColType, FnName, FunctionNames, given_from, GraphCause, HaveDistinctNames, LacksName, same, Shape, shape, shape_in, shape_of, shapes}
 use Rattle.rdf_values.specs.declared.graph_cause.GraphCause.TheVariants.{UnknownFunction}
-use Rattle.expr_check.specs.NumKinds.{callee_shape, given_shape}
+use Rattle.expr_check.specs.{callee_shape, given_shape}
 
 differ : (x y : List ℕ) → x ≢ y → same x y ≡ false
 differ x y n = false_from_ne_true (same x y) (λ e. n ((bytes_eq-Decides x y).0 e))
@@ -29,12 +20,12 @@ callee_in-none (f ∷ fs) n name other l =
     let isnt = differ f.name name (All-head (λ (g : FnName). g.name ≢ name) f fs l) in
     rw isnt (callee_in-none fs (suc n) name other (All-tail (λ (g : FnName). g.name ≢ name) f fs l))
 
-pub callee_in-at : (fs : FunctionNames) (n i : ℕ) (name : List ℕ) (other : Callee) → HaveDistinctNames fs → i < length fs → HoldsAt (λ (f : FnName). f.name ≡ name) fs i → callee_in (given_from n fs) name other ≡ fn.Given (n + i)
+pub callee_in-at : (fs : FunctionNames) (n i : ℕ) (name : List ℕ) (other : Callee) → HaveDistinctNames fs → i < length fs → HoldsAt (λ (f : FnName). f.name ≡ name) fs i → callee_in (given_from n fs) name other ≡ Callee.Given (n + i)
 callee_in-at [] n i name other d within at = absurd (omega arith)
-callee_in-at (f ∷ fs) n zero name other d within at = rw (agree f.name name (at f)) (ap fn.Given (omega arith))
+callee_in-at (f ∷ fs) n zero name other d within at = rw (agree f.name name (at f)) (ap Callee.Given (omega arith))
 callee_in-at (f ∷ fs) n (suc i) name other d within at =
     let isnt : f.name ≢ name = λ e. d.0 i f (omega arith) (at f ∙ sym e) in
-    rw (differ f.name name isnt) (callee_in-at fs (suc n) i name other d.1 (omega arith) at ∙ ap fn.Given (omega arith))
+    rw (differ f.name name isnt) (callee_in-at fs (suc n) i name other d.1 (omega arith) at ∙ ap Callee.Given (omega arith))
 
 -- each of the callees has the shape beside it, under the same name
 abbrev AreShaped : FunctionNames → List (List ℕ × Callee) → List (List ℕ × Shape) → Type 0
@@ -69,26 +60,26 @@ none_past (f ∷ fs) = none_past fs
 pub callee_shape-callee : (names : FunctionNames) (name : List ℕ) → callee_shape names (callee names name) ≡ shape_of names name
 callee_shape-callee names name =
     callee_shape-callee_in built_in built_in_shapes names name _ _ (refl, refl, (refl, refl, (refl, refl, (refl, refl, (refl, refl, (refl, refl, (refl, refl, (refl, refl, tt))))))))
-    (callee_shape-callee_in (given_from 0 names) (shapes names) names name (fn.Given (length names)) (Err UnknownFunction) (given_are_shaped names names 0 (λ k. grind arith)) (ap given_shape (none_past names)))
+    (callee_shape-callee_in (given_from 0 names) (shapes names) names name (Callee.Given (length names)) (Err UnknownFunction) (given_are_shaped names names 0 (λ k. grind arith)) (ap given_shape (none_past names)))
 
 pub found_built_in : (names : FunctionNames) (name text : List ℕ) (f : Callee) → text ≡ name → ((other : Callee) → f ≡ callee_in built_in text other) → callee names name ≡ f
 found_built_in names name text f is found = rw (← is) (sym (found _))
 
 pub found_none : (names : FunctionNames) (name text : List ℕ) → text ≡ name → ((other : Callee) → other ≡ callee_in built_in text other) → LacksName name names → shape_of names name ≡ Err UnknownFunction
 found_none names name text is found lacks =
-    let e : callee names name ≡ fn.Given (length names) =
-    ap (λ x. callee_in built_in x (callee_in (given_from 0 names) name (fn.Given (length names)))) (sym is)
-    ∙ sym (found _) ∙ callee_in-none names 0 name (fn.Given (length names)) lacks in
+    let e : callee names name ≡ Callee.Given (length names) =
+    ap (λ x. callee_in built_in x (callee_in (given_from 0 names) name (Callee.Given (length names)))) (sym is)
+    ∙ sym (found _) ∙ callee_in-none names 0 name (Callee.Given (length names)) lacks in
     sym (callee_shape-callee names name) ∙ ap (callee_shape names) e ∙ ap given_shape (none_past names)
 
-pub found_given : (names : FunctionNames) (name text : List ℕ) (i : ℕ) → text ≡ name → ((other : Callee) → other ≡ callee_in built_in text other) → AreFnNames names → i < length names → HoldsAt (λ (f : FnName). f.name ≡ name) names i → callee names name ≡ fn.Given i
+pub found_given : (names : FunctionNames) (name text : List ℕ) (i : ℕ) → text ≡ name → ((other : Callee) → other ≡ callee_in built_in text other) → AreFnNames names → i < length names → HoldsAt (λ (f : FnName). f.name ≡ name) names i → callee names name ≡ Callee.Given i
 found_given names name text i is found valid within at =
-    ap (λ x. callee_in built_in x (callee_in (given_from 0 names) name (fn.Given (length names)))) (sym is)
-    ∙ sym (found _) ∙ callee_in-at names 0 i name (fn.Given (length names)) valid.distinct within at ∙ (let none_before : 0 + i ≡ i = omega arith in ap fn.Given none_before)
+    ap (λ x. callee_in built_in x (callee_in (given_from 0 names) name (Callee.Given (length names)))) (sym is)
+    ∙ sym (found _) ∙ callee_in-at names 0 i name (Callee.Given (length names)) valid.distinct within at ∙ (let none_before : 0 + i ≡ i = omega arith in ap Callee.Given none_before)
 
-pub given_shape-take : (names : FunctionNames) (i n : ℕ) → n ≤ 8 → given_shape (slice_get names i) ≡ Ok (shape (replicate n kind.Int) kind.Int)
-    → given_shape (slice_get names i) ≡ Ok (shape (take n (replicate 8 kind.Int)) kind.Int)
-given_shape-take names i n few is = rw (take-replicate n 8 kind.Int few) is
+pub given_shape-take : (names : FunctionNames) (i n : ℕ) → n ≤ 8 → given_shape (slice_get names i) ≡ Ok (shape (replicate n ColType.Int) ColType.Int)
+    → given_shape (slice_get names i) ≡ Ok (shape (take n (replicate 8 ColType.Int)) ColType.Int)
+given_shape-take names i n few is = rw (take-replicate n 8 ColType.Int few) is
 
 pub shape_of-callee : (names : FunctionNames) (name : List ℕ) (f : Callee) (s : Result Shape GraphCause) → callee names name ≡ f → callee_shape names f ≡ s → shape_of names name ≡ s
 shape_of-callee names name f s is has = sym (callee_shape-callee names name) ∙ ap (callee_shape names) is ∙ has

@@ -1,11 +1,10 @@
 -- The numbers of a list, each once.
-use Rattle.std.proofs.Common.{◌≡◌, ℕ, Bool, true, false, List, [], ◌∷◌, ◌++◌, refl, ap, subst, sym, ◌∙◌, cond, arith, take, length, get_or, ◌<◌, ◌+◌}
-use Rattle.std.specs.Prelude.{nat_eq, not}
+use Rattle.std.proofs.Common.{◌≡◌, ℕ, Bool, true, false, List, [], ◌∷◌, ◌++◌, refl, ap, subst, sym, ◌∙◌, cond, arith, take, length, get_or, ◌<◌, ◌+◌, nat_eq, not}
 use Rattle.std.specs.List.{AllByRecursion, filter, list_any}
 use Rattle.std.proofs.lemmas.Grind.{common_steps}
 use Rattle.std.proofs.lemmas.Bool.Decides.{Decides-eqb}
 use Rattle.std.proofs.lemmas.List.{take_more}
-use Rattle.expr_check.specs.NumKinds.{distinct, with_new}
+use Rattle.expr_check.specs.{distinct, with_new}
 
 -- what a filter by another number keeps
 any-filter_other : (xs : List ℕ) (x y : ℕ) → nat_eq y x ≡ false → list_any (nat_eq x) (filter (λ z. not (nat_eq y z)) xs) ≡ list_any (nat_eq x) xs

@@ -1,17 +1,12 @@
 -- The first column of a scope with a name or a number.
-use Rattle.std.proofs.Common.{◌≡◌, ◌≢◌, ℕ, Bool, true, false, cond, List, [], ◌∷◌, Option, Some, None, Ok, Err, refl, nat_eq, arith}
-use Rattle.std.specs.Prelude.{find}
+use Rattle.std.proofs.Common.{◌≡◌, ◌≢◌, ℕ, Bool, true, false, cond, List, [], ◌∷◌, Option, Some, None, Ok, Err, refl, nat_eq, arith, find}
 use Rattle.std.specs.List.{AllByRecursion}
 use Rattle.std.proofs.lemmas.Bool.Decides.{Decides-eqb}
 use Rattle.std.proofs.lemmas.List.Elements.{All-from_recursion, recursion_from_All}
 use Rattle.std.proofs.lemmas.Slice.Eq.{bytes_eq-Decides}
-use Rattle.rdf_values.specs.Names.{same}
-use Rattle.rdf_values.specs.Kinds.{column_kind}
-use Rattle.rdf_values.specs.Numbered.{ScopeColumn, kinds_in, number_in}
-use Rattle.rdf_values.specs.declared.value.ColType.{ColType}
+use Rattle.rdf_values.specs.{ColType, column_kind, kinds_in, number_in, same, ScopeColumn}
 use Rattle.rdf_values.specs.declared.graph_cause.GraphCause.TheVariants.{UnknownColumn}
-use Rattle.expr_check.specs.NumKinds.{number_kind}
-use Rattle.expr_check.specs.Scopes.{LacksColumn, NumberHasKind, NumbersHaveKinds, numbers_in}
+use Rattle.expr_check.specs.{LacksColumn, number_kind, NumberHasKind, numbers_in, NumbersHaveKinds}
 
 -- what a search by name found: nothing, or the column that the name means
 abbrev pub IsNamed : List ScopeColumn → List ℕ → Option ScopeColumn → Type 0

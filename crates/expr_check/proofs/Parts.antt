@@ -1,15 +1,11 @@
 -- No part of a plain expression is a vector.
-use Rattle.std.proofs.Common.{◌≡◌, ◌↔◌, ℕ, Bool, true, false, List, ◌++◌, length, Ok, refl, ap, sym, ◌∙◌}
-use Rattle.std.specs.Prelude.{nat_eq, ◌&&◌, All}
+use Rattle.std.proofs.Common.{◌≡◌, ◌↔◌, ℕ, Bool, true, false, List, ◌++◌, length, Ok, refl, ap, sym, ◌∙◌, nat_eq, ◌&&◌, All}
 use Rattle.std.specs.List.{AllByRecursion}
 use Rattle.std.proofs.lemmas.List.Elements.{recursion_from_All, All-from_recursion}
-use Rattle.lemmas.proofs.Booleans.{and_left, and_right}
-use Rattle.rdf_values.specs.Tree.{Trees, NumTree, Lit, Truth, Col, Neg, Not, Bin, Cond, Pick, Call, End, More}
-use Rattle.rdf_values.specs.Depends.{columns_in, columns_in_all}
-use Rattle.rdf_values.specs.Kinds.{FunctionNames, kinds_by, args_count}
-use Rattle.rdf_values.specs.declared.value.ColType.{ColType}
-use Rattle.rdf_values.specs.declared.num_expr.Callee.{Callee}
-use Rattle.expr_check.specs.NumKinds.{number_kind, callee_shape, num_kind, gives_vector, takes_no_vector, HasNoVector, is_plain, all_are_plain, parts, parts_of_all}
+use Rattle.lemmas.proofs.{and_left, and_right}
+use Rattle.rdf_values.specs.{args_count, Bin, Call, Callee, Col, ColType, columns_in, columns_in_all, Cond, End, FunctionNames, kinds_by, Lit, More, Neg, Not, NumTree, Pick, Trees}
+use Rattle.rdf_values.specs.Expressions.{Truth}
+use Rattle.expr_check.specs.{all_are_plain, callee_shape, gives_vector, HasNoVector, is_plain, num_kind, number_kind, parts, parts_of_all, takes_no_vector}
 use Rattle.expr_check.proofs.Each.{each_left, each_right, each_append}
 use Rattle.expr_check.proofs.Plain.{plain_typed, columns_scalar}
 use Rattle.expr_check.proofs.Typed.{bind_ok, call_ok}

@@ -1,118 +1,108 @@
 -- A well typed expression is plain where none of its columns is a vector.
-use Rattle.std.proofs.Common.{◌≡◌, ℕ, Bool, true, false, List, [], ◌∷◌, ◌++◌, length, Option, Some, None, Result, Ok, Err, refl, ap, sym, ◌∙◌, subst, cond, arith}
-use Rattle.std.specs.Prelude.{nat_eq, not, ◌&&◌, ◌||◌, slice_get, replicate, if◌then◌else◌}
+use Rattle.std.proofs.Common.{◌≡◌, ℕ, Bool, true, false, List, [], ◌∷◌, ◌++◌, length, Option, Some, None, Result, Ok, Err, refl, ap, sym, ◌∙◌, subst, cond, arith, nat_eq, not, ◌&&◌, ◌||◌, slice_get, replicate, if◌then◌else◌}
 use Rattle.std.specs.List.{AllByRecursion, zip, list_any}
 use Rattle.std.proofs.lemmas.Bool.{false_from_ne_true}
 use Rattle.std.proofs.lemmas.Bool.Decides.{Decides-eqb}
 use Rattle.std.proofs.lemmas.Slice.Zip.{firsts-zip}
-use Rattle.lemmas.proofs.Booleans.{and_holds, and_left, and_right, left_false, not_true, right_false}
-use Rattle.rdf_values.specs.Tree.{Trees, NumTree, Lit, Truth, Col, Neg, Not, Bin, Cond, Pick, Call, End, More}
-use Rattle.rdf_values.specs.Depends.{columns_in, columns_in_all}
-use Rattle.rdf_values.specs.Kinds.{Shape, shape, ◌>>=◌, FunctionNames, kinds_by, args_count, same_kind, same_kinds, arithmetic_kind, logical_kind, equality_kind, operator_kind, negated_kind, inverted_kind, chosen_kind, picked_kind}
-use Rattle.rdf_values.specs.declared.expr.BinOp.{BinOp}
-use Rattle.rdf_values.specs.declared.expr.BinOp.TheVariants as op
-use Rattle.rdf_values.specs.declared.value.ColType.{ColType}
-use Rattle.rdf_values.specs.declared.value.ColType.TheVariants as kind
-use Rattle.rdf_values.specs.declared.fn_names.FnName.{FnName}
-use Rattle.rdf_values.specs.declared.num_expr.Callee.{Callee}
-use Rattle.rdf_values.specs.declared.num_expr.Callee.TheVariants as fn
-use Rattle.rdf_values.specs.declared.graph_cause.GraphCause.{GraphCause}
+use Rattle.lemmas.proofs.{and_holds, and_left, and_right, left_false, not_true, right_false}
+use Rattle.rdf_values.specs.{◌>>=◌, args_count, arithmetic_kind, Bin, BinOp, Call, Callee, chosen_kind, Col, ColType, columns_in, columns_in_all, Cond, End, equality_kind, FnName, FunctionNames, GraphCause, inverted_kind, kinds_by, Lit, logical_kind, More, Neg, negated_kind, Not, NumTree, operator_kind, Pick, picked_kind, same_kind, same_kinds, Shape, shape, Trees}
+use Rattle.rdf_values.specs.Expressions.{Truth}
 use Rattle.rdf_values.specs.declared.graph_cause.GraphCause.TheVariants.{WrongType, WrongCount}
-use Rattle.expr_check.specs.NumKinds.{number_kind, callee_shape, given_shape, num_kind, distinct, checked_expr, IsWellTyped, is_vector, gives_vector, takes_no_vector, is_plain, all_are_plain}
+use Rattle.expr_check.specs.{all_are_plain, callee_shape, checked_expr, distinct, given_shape, gives_vector, is_plain, is_vector, IsWellTyped, num_kind, number_kind, takes_no_vector}
 use Rattle.expr_check.proofs.Each.{each_left, each_right, each_append}
 use Rattle.expr_check.proofs.Distinct.{each_distinct, NoTwice, NoTwice-distinct}
 use Rattle.expr_check.proofs.Typed.{bind_ok, call_ok}
 
 negated_scalar : (s k : ColType) → negated_kind s ≡ Ok k → is_vector s ≡ false → is_vector k ≡ false
-negated_scalar kind.Int k h p = ap gives_vector (sym h)
-negated_scalar kind.Bool k h p = cc h
-negated_scalar kind.Vect k h p = cc p
+negated_scalar ColType.Int k h p = ap gives_vector (sym h)
+negated_scalar ColType.Bool k h p = cc h
+negated_scalar ColType.Vect k h p = cc p
 
 inverted_scalar : (s k : ColType) → inverted_kind s ≡ Ok k → is_vector s ≡ false → is_vector k ≡ false
-inverted_scalar kind.Int k h p = cc h
-inverted_scalar kind.Bool k h p = ap gives_vector (sym h)
-inverted_scalar kind.Vect k h p = cc p
+inverted_scalar ColType.Int k h p = cc h
+inverted_scalar ColType.Bool k h p = ap gives_vector (sym h)
+inverted_scalar ColType.Vect k h p = cc p
 
 arithmetic_scalar : (and_holds s t k : ColType) → is_vector and_holds ≡ false → arithmetic_kind and_holds s t ≡ Ok k → is_vector s ≡ false → is_vector t ≡ false → is_vector k ≡ false
-arithmetic_scalar and_holds kind.Int kind.Int k b h p q = ap gives_vector (sym h) ∙ b
-arithmetic_scalar and_holds kind.Int kind.Bool k b h p q = cc h
-arithmetic_scalar and_holds kind.Bool t k b h p q = cc h
-arithmetic_scalar and_holds kind.Vect t k b h p q = cc p
-arithmetic_scalar and_holds s kind.Vect k b h p q = cc q
+arithmetic_scalar and_holds ColType.Int ColType.Int k b h p q = ap gives_vector (sym h) ∙ b
+arithmetic_scalar and_holds ColType.Int ColType.Bool k b h p q = cc h
+arithmetic_scalar and_holds ColType.Bool t k b h p q = cc h
+arithmetic_scalar and_holds ColType.Vect t k b h p q = cc p
+arithmetic_scalar and_holds s ColType.Vect k b h p q = cc q
 
 logical_scalar : (s t k : ColType) → logical_kind s t ≡ Ok k → is_vector s ≡ false → is_vector t ≡ false → is_vector k ≡ false
-logical_scalar kind.Bool kind.Bool k h p q = ap gives_vector (sym h)
-logical_scalar kind.Bool kind.Int k h p q = cc h
-logical_scalar kind.Int t k h p q = cc h
-logical_scalar kind.Vect t k h p q = cc p
-logical_scalar s kind.Vect k h p q = cc q
+logical_scalar ColType.Bool ColType.Bool k h p q = ap gives_vector (sym h)
+logical_scalar ColType.Bool ColType.Int k h p q = cc h
+logical_scalar ColType.Int t k h p q = cc h
+logical_scalar ColType.Vect t k h p q = cc p
+logical_scalar s ColType.Vect k h p q = cc q
 
 equality_scalar : (s t k : ColType) → equality_kind s t ≡ Ok k → is_vector s ≡ false → is_vector t ≡ false → is_vector k ≡ false
-equality_scalar kind.Bool kind.Bool k h p q = ap gives_vector (sym h)
-equality_scalar kind.Bool kind.Int k h p q = cc h
-equality_scalar kind.Int kind.Int k h p q = ap gives_vector (sym h)
-equality_scalar kind.Int kind.Bool k h p q = cc h
-equality_scalar kind.Vect t k h p q = cc p
-equality_scalar s kind.Vect k h p q = cc q
+equality_scalar ColType.Bool ColType.Bool k h p q = ap gives_vector (sym h)
+equality_scalar ColType.Bool ColType.Int k h p q = cc h
+equality_scalar ColType.Int ColType.Int k h p q = ap gives_vector (sym h)
+equality_scalar ColType.Int ColType.Bool k h p q = cc h
+equality_scalar ColType.Vect t k h p q = cc p
+equality_scalar s ColType.Vect k h p q = cc q
 
 operator_scalar : (o : BinOp) (s t k : ColType) → operator_kind o s t ≡ Ok k → is_vector s ≡ false → is_vector t ≡ false → is_vector k ≡ false
-operator_scalar op.And s t k h p q = logical_scalar s t k h p q
-operator_scalar op.Or s t k h p q = logical_scalar s t k h p q
-operator_scalar op.Eq s t k h p q = equality_scalar s t k h p q
-operator_scalar op.Ne s t k h p q = equality_scalar s t k h p q
-operator_scalar op.Lt s t k h p q = arithmetic_scalar kind.Bool s t k refl h p q
-operator_scalar op.Le s t k h p q = arithmetic_scalar kind.Bool s t k refl h p q
-operator_scalar op.Gt s t k h p q = arithmetic_scalar kind.Bool s t k refl h p q
-operator_scalar op.Ge s t k h p q = arithmetic_scalar kind.Bool s t k refl h p q
-operator_scalar op.Mul s t k h p q = arithmetic_scalar kind.Int s t k refl h p q
-operator_scalar op.Div s t k h p q = arithmetic_scalar kind.Int s t k refl h p q
-operator_scalar op.Rem s t k h p q = arithmetic_scalar kind.Int s t k refl h p q
-operator_scalar op.Add s t k h p q = arithmetic_scalar kind.Int s t k refl h p q
-operator_scalar op.Sub s t k h p q = arithmetic_scalar kind.Int s t k refl h p q
+operator_scalar BinOp.And s t k h p q = logical_scalar s t k h p q
+operator_scalar BinOp.Or s t k h p q = logical_scalar s t k h p q
+operator_scalar BinOp.Eq s t k h p q = equality_scalar s t k h p q
+operator_scalar BinOp.Ne s t k h p q = equality_scalar s t k h p q
+operator_scalar BinOp.Lt s t k h p q = arithmetic_scalar ColType.Bool s t k refl h p q
+operator_scalar BinOp.Le s t k h p q = arithmetic_scalar ColType.Bool s t k refl h p q
+operator_scalar BinOp.Gt s t k h p q = arithmetic_scalar ColType.Bool s t k refl h p q
+operator_scalar BinOp.Ge s t k h p q = arithmetic_scalar ColType.Bool s t k refl h p q
+operator_scalar BinOp.Mul s t k h p q = arithmetic_scalar ColType.Int s t k refl h p q
+operator_scalar BinOp.Div s t k h p q = arithmetic_scalar ColType.Int s t k refl h p q
+operator_scalar BinOp.Rem s t k h p q = arithmetic_scalar ColType.Int s t k refl h p q
+operator_scalar BinOp.Add s t k h p q = arithmetic_scalar ColType.Int s t k refl h p q
+operator_scalar BinOp.Sub s t k h p q = arithmetic_scalar ColType.Int s t k refl h p q
 
 if_scalar : (b : Bool) (s k : ColType) → (if b then Ok s else Err WrongType) ≡ Ok k → is_vector s ≡ false → is_vector k ≡ false
 if_scalar true s k h p = ap gives_vector (sym h) ∙ p
 if_scalar false s k h p = cc h
 
 chosen_scalar : (c s t k : ColType) → chosen_kind c s t ≡ Ok k → is_vector s ≡ false → is_vector k ≡ false
-chosen_scalar kind.Bool s t k h p = if_scalar (same_kind s t) s k h p
-chosen_scalar kind.Int s t k h p = cc h
-chosen_scalar kind.Vect s t k h p = cc h
+chosen_scalar ColType.Bool s t k h p = if_scalar (same_kind s t) s k h p
+chosen_scalar ColType.Int s t k h p = cc h
+chosen_scalar ColType.Vect s t k h p = cc h
 
 -- nothing is picked from what is no vector
 picked_from_vector : (s t k : ColType) → picked_kind s t ≡ Ok k → is_vector s ≡ false → ⊥
-picked_from_vector kind.Int t k h p = cc h
-picked_from_vector kind.Bool t k h p = cc h
-picked_from_vector kind.Vect t k h p = cc p
+picked_from_vector ColType.Int t k h p = cc h
+picked_from_vector ColType.Bool t k h p = cc h
+picked_from_vector ColType.Vect t k h p = cc p
 
 -- nothing that is no vector is taken as one
-taken_as_vector : (ts rest : List ColType) → AllByRecursion (λ t. is_vector t ≡ false) ts → same_kinds ts (kind.Vect ∷ rest) ≡ true → ⊥
+taken_as_vector : (ts rest : List ColType) → AllByRecursion (λ t. is_vector t ≡ false) ts → same_kinds ts (ColType.Vect ∷ rest) ≡ true → ⊥
 taken_as_vector [] rest each h = cc h
-taken_as_vector (kind.Int ∷ ts) rest each h = cc h
-taken_as_vector (kind.Bool ∷ ts) rest each h = cc h
-taken_as_vector (kind.Vect ∷ ts) rest each h = cc each.0
+taken_as_vector (ColType.Int ∷ ts) rest each h = cc h
+taken_as_vector (ColType.Bool ∷ ts) rest each h = cc h
+taken_as_vector (ColType.Vect ∷ ts) rest each h = cc each.0
 
-vector_taken : (s : Shape) (ts rest : List ColType) (gives : ColType) → (let r : Result Shape GraphCause = Ok s in Ok (shape (kind.Vect ∷ rest) gives) ≡ r) → AllByRecursion (λ t. is_vector t ≡ false) ts → same_kinds ts s.takes ≡ true → ⊥
+vector_taken : (s : Shape) (ts rest : List ColType) (gives : ColType) → (let r : Result Shape GraphCause = Ok s in Ok (shape (ColType.Vect ∷ rest) gives) ≡ r) → AllByRecursion (λ t. is_vector t ≡ false) ts → same_kinds ts s.takes ≡ true → ⊥
 vector_taken s ts rest gives h each fit =
-    let same_shape : shape (kind.Vect ∷ rest) gives ≡ s = cc h in
+    let same_shape : shape (ColType.Vect ∷ rest) gives ≡ s = cc h in
     let P : Shape → Type 0 = λ t. same_kinds ts t.takes ≡ true in
     taken_as_vector ts rest each (subst P (sym same_shape) fit)
 
 given_scalar : (o : Option FnName) (s : Shape) → given_shape o ≡ Ok s → is_vector s.gives ≡ false
 given_scalar None s h = cc h
-given_scalar (Some f) s h = let same_shape : shape (replicate f.arity kind.Int) kind.Int ≡ s = cc h in ap (λ (t : Shape). is_vector t.gives) (sym same_shape)
+given_scalar (Some f) s h = let same_shape : shape (replicate f.arity ColType.Int) ColType.Int ≡ s = cc h in ap (λ (t : Shape). is_vector t.gives) (sym same_shape)
 
 -- a function that is called on no vector takes none and gives none
 called_scalar : (names : FunctionNames) (f : Callee) (s : Shape) (ts : List ColType) → callee_shape names f ≡ Ok s → AllByRecursion (λ t. is_vector t ≡ false) ts → same_kinds ts s.takes ≡ true → (takes_no_vector f ≡ true) × (is_vector s.gives ≡ false)
-called_scalar names fn.Sum s ts h each fit = absurd (vector_taken s ts [] kind.Int h each fit)
-called_scalar names fn.Min s ts h each fit = absurd (vector_taken s ts [] kind.Int h each fit)
-called_scalar names fn.Max s ts h each fit = absurd (vector_taken s ts [] kind.Int h each fit)
-called_scalar names fn.Size s ts h each fit = absurd (vector_taken s ts [] kind.Int h each fit)
-called_scalar names fn.Any s ts h each fit = absurd (vector_taken s ts [] kind.Bool h each fit)
-called_scalar names fn.All s ts h each fit = absurd (vector_taken s ts [] kind.Bool h each fit)
-called_scalar names fn.At s ts h each fit = absurd (vector_taken s ts (kind.Int ∷ []) kind.Int h each fit)
-called_scalar names fn.Abs s ts h each fit = (refl, let same_shape : shape (kind.Int ∷ []) kind.Int ≡ s = cc h in ap (λ (t : Shape). is_vector t.gives) (sym same_shape))
-called_scalar names (fn.Given i) s ts h each fit = (refl, given_scalar (slice_get names i) s h)
+called_scalar names Callee.Sum s ts h each fit = absurd (vector_taken s ts [] ColType.Int h each fit)
+called_scalar names Callee.Min s ts h each fit = absurd (vector_taken s ts [] ColType.Int h each fit)
+called_scalar names Callee.Max s ts h each fit = absurd (vector_taken s ts [] ColType.Int h each fit)
+called_scalar names Callee.Size s ts h each fit = absurd (vector_taken s ts [] ColType.Int h each fit)
+called_scalar names Callee.Any s ts h each fit = absurd (vector_taken s ts [] ColType.Bool h each fit)
+called_scalar names Callee.All s ts h each fit = absurd (vector_taken s ts [] ColType.Bool h each fit)
+called_scalar names Callee.At s ts h each fit = absurd (vector_taken s ts (ColType.Int ∷ []) ColType.Int h each fit)
+called_scalar names Callee.Abs s ts h each fit = (refl, let same_shape : shape (ColType.Int ∷ []) ColType.Int ≡ s = cc h in ap (λ (t : Shape). is_vector t.gives) (sym same_shape))
+called_scalar names (Callee.Given i) s ts h each fit = (refl, given_scalar (slice_get names i) s h)
 
 call_gives : (counted : Bool) (kinds : Result (List ColType) GraphCause) (takes : List ColType) (gives k : ColType)
     → (if counted then (kinds >>= λ ts. if same_kinds ts takes then Ok gives else Err WrongType) else Err WrongCount) ≡ Ok k → is_vector gives ≡ false → is_vector k ≡ false

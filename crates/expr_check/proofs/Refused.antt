@@ -1,10 +1,8 @@
 -- A refusal of the first step is the refusal of the whole.
 use Rattle.std.proofs.Common.{Result, ap}
-use Rattle.rdf_values.specs.Kinds.{◌>>=◌}
-use Rattle.rdf_values.specs.declared.graph_cause.GraphCause.{GraphCause}
-use Rattle.expr_check.specs.declared.refusal.CheckRefusal.{CheckRefusal}
+use Rattle.rdf_values.specs.{◌>>=◌, GraphCause}
+use Rattle.expr_check.specs.{CheckRefusal, RefusedAs}
 use Rattle.expr_check.specs.declared.refusal.CheckRefusal.TheVariants.{UnknownColumn, UnknownFunction, WrongType, WrongCount, Memory}
-use Rattle.expr_check.specs.CheckAnswers.{RefusedAs}
 
 pub refused_then : {A B : Type 0} (e : CheckRefusal) (r : Result A GraphCause) (f : A → Result B GraphCause) → RefusedAs e r → RefusedAs e (r >>= f)
 refused_then UnknownColumn r f h = ap (λ s. s >>= f) h

@@ -1,17 +1,11 @@
 -- The kinds of a scope's columns by their names and by their numbers.
-use Rattle.std.proofs.Common.{◌≡◌, ℕ, Bool, true, false, List, [], ◌∷◌, map, Result, Ok, Err, IsOk, refl, ap, sym, ◌∙◌, cond}
-use Rattle.std.specs.Prelude.{nat_eq}
+use Rattle.std.proofs.Common.{◌≡◌, ℕ, Bool, true, false, List, [], ◌∷◌, map, Result, Ok, Err, IsOk, refl, ap, sym, ◌∙◌, cond, nat_eq}
 use Rattle.std.specs.List.{AllByRecursion, zip}
 use Rattle.std.proofs.lemmas.Bool.Decides.{Decides-eqb}
 use Rattle.std.proofs.lemmas.List.Elements.{recursion_from_All}
-use Rattle.lemmas.proofs.Orders.{eq_itself}
-use Rattle.rdf_values.specs.Names.{same}
-use Rattle.rdf_values.specs.Kinds.{column_kind}
-use Rattle.rdf_values.specs.Numbered.{ScopeColumn, kinds_in, number_in}
-use Rattle.rdf_values.specs.declared.value.ColType.{ColType}
-use Rattle.rdf_values.specs.declared.graph_cause.GraphCause.{GraphCause}
-use Rattle.expr_check.specs.NumKinds.{number_kind}
-use Rattle.expr_check.specs.Scopes.{NumberHasKind, NumbersHaveKinds, numbers_in}
+use Rattle.lemmas.proofs.{eq_itself}
+use Rattle.rdf_values.specs.{ColType, column_kind, GraphCause, kinds_in, number_in, same, ScopeColumn}
+use Rattle.expr_check.specs.{number_kind, NumberHasKind, numbers_in, NumbersHaveKinds}
 
 -- the column that a name means, with all that holds of each column
 named : (cs : List ScopeColumn) (name : List ℕ) (k : ColType) (P : ScopeColumn → Type 0) → AllByRecursion P cs → column_kind (kinds_in cs) name ≡ Ok k

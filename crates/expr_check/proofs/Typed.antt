@@ -1,13 +1,8 @@
 -- Kinds of an expression under other kinds of columns, and of the expression numbered.
-use Rattle.std.proofs.Common.{◌≡◌, ◌+◌, Bool, true, false, List, ◌++◌, length, Result, Ok, Err, IsOk, refl, ap}
-use Rattle.std.specs.Prelude.{nat_eq, if◌then◌else◌}
+use Rattle.std.proofs.Common.{◌≡◌, ◌+◌, Bool, true, false, List, ◌++◌, length, Result, Ok, Err, IsOk, refl, ap, nat_eq, if◌then◌else◌}
 use Rattle.std.specs.List.{AllByRecursion}
-use Rattle.rdf_values.specs.Tree.{Tree, Trees, Lit, Truth, Col, Neg, Not, Bin, Cond, Pick, Call, End, More}
-use Rattle.rdf_values.specs.Depends.{columns_in, columns_in_all}
-use Rattle.rdf_values.specs.Kinds.{Shape, kind_by, kinds_by, args_count, same_kinds, ◌>>=◌}
-use Rattle.rdf_values.specs.Numbered.{renamed, all_renamed}
-use Rattle.rdf_values.specs.declared.value.ColType.{ColType}
-use Rattle.rdf_values.specs.declared.graph_cause.GraphCause.{GraphCause}
+use Rattle.rdf_values.specs.{◌>>=◌, all_renamed, args_count, Bin, Call, Col, ColType, columns_in, columns_in_all, Cond, End, GraphCause, kind_by, kinds_by, Lit, More, Neg, Not, Pick, renamed, same_kinds, Shape, Tree, Trees}
+use Rattle.rdf_values.specs.Expressions.{Truth}
 use Rattle.rdf_values.specs.declared.graph_cause.GraphCause.TheVariants.{WrongType, WrongCount}
 use Rattle.expr_check.proofs.Each.{each_left, each_right, each_append}
 

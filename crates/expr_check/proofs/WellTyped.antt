@@ -1,23 +1,13 @@
 -- A checked expression is well typed.
-use Rattle.std.proofs.Common.{◌≡◌, ℕ, true, List, [], ◌∷◌, length, map, Option, Some, None, Result, Ok, IsOk, refl, ap, sym, ◌∙◌, subst}
-use Rattle.std.specs.Prelude.{nat_eq, All, slice_get, replicate, MatchOption}
+use Rattle.std.proofs.Common.{◌≡◌, ℕ, true, List, [], ◌∷◌, length, map, Option, Some, None, Result, Ok, IsOk, refl, ap, sym, ◌∙◌, subst, nat_eq, All, slice_get, replicate, MatchOption}
 use Rattle.std.specs.List.{AllByRecursion, zip}
 use Rattle.std.proofs.lemmas.Bool.Decides.{Decides-eqb}
 use Rattle.std.proofs.lemmas.List.{length-replicate, length-map}
 use Rattle.std.proofs.lemmas.Slice.Zip.{firsts-zip}
 use Rattle.std.proofs.lemmas.List.Elements.{All-from_recursion}
-use Rattle.rdf_values.specs.Tree.{Trees, NamedTree, NumTree, Lit, Truth, Col, Neg, Not, Bin, Cond, Pick, Call, End, More}
-use Rattle.rdf_values.specs.Depends.{columns_in}
-use Rattle.rdf_values.specs.Kinds.{Shape, shape, FunctionNames, column_kind, shape_of, kind_of, kind_by, kinds_by, args_count}
-use Rattle.rdf_values.specs.Numbered.{ScopeColumn, kinds_in, number_in, callee, numbered}
-use Rattle.rdf_values.specs.declared.value.ColType.{ColType}
-use Rattle.rdf_values.specs.declared.value.ColType.TheVariants as kind
-use Rattle.rdf_values.specs.declared.fn_names.FnName.{FnName}
-use Rattle.rdf_values.specs.declared.num_expr.Callee.{Callee}
-use Rattle.rdf_values.specs.declared.num_expr.Callee.TheVariants as fn
-use Rattle.rdf_values.specs.declared.graph_cause.GraphCause.{GraphCause}
-use Rattle.expr_check.specs.NumKinds.{number_kind, callee_shape, given_shape, num_kind, distinct, CheckedExpr, checked_expr, IsWellTyped, IsCallOf, CallsFit, AllCallsFit}
-use Rattle.expr_check.specs.Scopes.{NumbersHaveKinds, numbers_in}
+use Rattle.rdf_values.specs.{args_count, Bin, Call, Callee, callee, Col, ColType, column_kind, columns_in, Cond, End, FnName, FunctionNames, GraphCause, kind_by, kind_of, kinds_by, kinds_in, Lit, More, NamedTree, Neg, Not, number_in, numbered, NumTree, Pick, ScopeColumn, Shape, shape, shape_of, Trees}
+use Rattle.rdf_values.specs.Expressions.{Truth}
+use Rattle.expr_check.specs.{AllCallsFit, callee_shape, CallsFit, checked_expr, CheckedExpr, distinct, given_shape, IsCallOf, IsWellTyped, num_kind, number_kind, numbers_in, NumbersHaveKinds}
 use Rattle.expr_check.proofs.Callees.{callee_shape-callee}
 use Rattle.expr_check.proofs.Distinct.{each_distinct, each_from_distinct}
 use Rattle.expr_check.proofs.ScopeKinds.{number_kind-number_in, each_weaker, each_by_zip}
@@ -61,19 +51,19 @@ kinds_known reads kinds kind_at is = All-from_recursion (λ (c : ℕ × ColType)
 given_fits : (o : Option FnName) (s : Shape) (count : ℕ) → given_shape o ≡ Ok s → count ≡ length s.takes → MatchOption o ⊥ (λ f. f.arity ≡ count)
 given_fits None s count is counts = cc is
 given_fits (Some f) s count is counts =
-    let same_shape : shape (replicate f.arity kind.Int) kind.Int ≡ s = cc is in
-    sym (length-replicate f.arity kind.Int) ∙ ap (λ (t : Shape). length t.takes) same_shape ∙ sym counts
+    let same_shape : shape (replicate f.arity ColType.Int) ColType.Int ≡ s = cc is in
+    sym (length-replicate f.arity ColType.Int) ∙ ap (λ (t : Shape). length t.takes) same_shape ∙ sym counts
 
 call_fits : (names : FunctionNames) (f : Callee) (s : Shape) (count : ℕ) → callee_shape names f ≡ Ok s → nat_eq count (length s.takes) ≡ true → IsCallOf names f count
-call_fits names (fn.Given i) s count is counts = given_fits (slice_get names i) s count is ((Decides-eqb count (length s.takes)).0 counts)
-call_fits names fn.Sum s count is counts = tt
-call_fits names fn.Min s count is counts = tt
-call_fits names fn.Max s count is counts = tt
-call_fits names fn.Size s count is counts = tt
-call_fits names fn.Any s count is counts = tt
-call_fits names fn.All s count is counts = tt
-call_fits names fn.At s count is counts = tt
-call_fits names fn.Abs s count is counts = tt
+call_fits names (Callee.Given i) s count is counts = given_fits (slice_get names i) s count is ((Decides-eqb count (length s.takes)).0 counts)
+call_fits names Callee.Sum s count is counts = tt
+call_fits names Callee.Min s count is counts = tt
+call_fits names Callee.Max s count is counts = tt
+call_fits names Callee.Size s count is counts = tt
+call_fits names Callee.Any s count is counts = tt
+call_fits names Callee.All s count is counts = tt
+call_fits names Callee.At s count is counts = tt
+call_fits names Callee.Abs s count is counts = tt
 
 -- each call of an expression that has a kind is a call of its function
 module _ (col : ℕ → Result ColType GraphCause) (names : FunctionNames) where

@@ -1,18 +1,15 @@
 -- What a check answers.
 use Rattle.std.specs.Prelude.{◌≡◌, Bool, List, Result, Ok, Err}
-use Rattle.rdf_values.specs.Kinds.{same_kinds, ◌>>=◌}
-use Rattle.rdf_values.specs.declared.value.ColType.{ColType}
-use Rattle.rdf_values.specs.declared.graph_cause.GraphCause.{GraphCause}
-use Rattle.rdf_values.specs.declared.graph_cause.GraphCause.TheVariants as cause
+use Rattle.rdf_values.specs.{◌>>=◌, ColType, GraphCause, same_kinds}
 use Rattle.expr_check.specs.declared.refusal.CheckRefusal.{CheckRefusal}
 use Rattle.expr_check.specs.declared.refusal.CheckRefusal.TheVariants.{UnknownColumn, UnknownFunction, WrongType, WrongCount, Memory}
 
 -- the refusal is the one that is wanted, or want of memory
 abbrev pub RefusedAs : {A : Type 0} → CheckRefusal → Result A GraphCause → Type 0
-RefusedAs UnknownColumn wanted = wanted ≡ Err cause.UnknownColumn
-RefusedAs UnknownFunction wanted = wanted ≡ Err cause.UnknownFunction
-RefusedAs WrongType wanted = wanted ≡ Err cause.WrongType
-RefusedAs WrongCount wanted = wanted ≡ Err cause.WrongCount
+RefusedAs UnknownColumn wanted = wanted ≡ Err GraphCause.UnknownColumn
+RefusedAs UnknownFunction wanted = wanted ≡ Err GraphCause.UnknownFunction
+RefusedAs WrongType wanted = wanted ≡ Err GraphCause.WrongType
+RefusedAs WrongCount wanted = wanted ≡ Err GraphCause.WrongCount
 RefusedAs Memory wanted = Unit {0}
 
 -- the answer is the one that is wanted, or want of memory

@@ -1,16 +1,9 @@
 -- Kinds of numbered expressions.
 use Rattle.std.specs.Prelude.{◌≡◌, ℕ, ◌<◌, Bool, true, false, not, ◌&&◌, List, [], ◌∷◌, ◌++◌, map, filter, length, replicate, if◌then◌else◌, nat_eq, All, Option, Some, None, MatchOption, Result, Ok, Err, slice_get}
 use Rattle.std.specs.List.{list_any}
-use Rattle.rdf_values.specs.Tree.{Tree, Trees, NumTree, Lit, Truth, Col, Neg, Not, Bin, Cond, Pick, Call, End, More}
-use Rattle.rdf_values.specs.Depends.{columns_in}
-use Rattle.rdf_values.specs.Kinds.{Shape, shape, FunctionNames, args_count, kind_by}
-use Rattle.rdf_values.specs.declared.fn_names.FnName.{FnName}
-use Rattle.rdf_values.specs.declared.value.ColType.{ColType}
-use Rattle.rdf_values.specs.declared.value.ColType.TheVariants as kind
-use Rattle.rdf_values.specs.declared.graph_cause.GraphCause.{GraphCause}
+use Rattle.rdf_values.specs.{args_count, Bin, Call, Callee, Col, ColType, columns_in, Cond, End, FnName, FunctionNames, GraphCause, kind_by, Lit, More, Neg, Not, NumTree, Pick, Shape, shape, Tree, Trees}
+use Rattle.rdf_values.specs.Expressions.{Truth}
 use Rattle.rdf_values.specs.declared.graph_cause.GraphCause.TheVariants.{UnknownColumn, UnknownFunction}
-use Rattle.rdf_values.specs.declared.num_expr.Callee.{Callee}
-use Rattle.rdf_values.specs.declared.num_expr.Callee.TheVariants as fn
 
 -- the kind of the column of that number
 abbrev pub number_kind : List (ℕ × ColType) → ℕ → Result ColType GraphCause
@@ -20,19 +13,19 @@ number_kind (c ∷ cs) number = if nat_eq c.0 number then Ok c.1 else number_kin
 -- what a function of the list takes and gives
 abbrev pub given_shape : Option FnName → Result Shape GraphCause
 given_shape None = Err UnknownFunction
-given_shape (Some f) = Ok (shape (replicate f.arity kind.Int) kind.Int)
+given_shape (Some f) = Ok (shape (replicate f.arity ColType.Int) ColType.Int)
 
 -- what a call takes and gives
 abbrev pub callee_shape : FunctionNames → Callee → Result Shape GraphCause
-callee_shape names fn.Sum = Ok (shape (kind.Vect ∷ []) kind.Int)
-callee_shape names fn.Min = Ok (shape (kind.Vect ∷ []) kind.Int)
-callee_shape names fn.Max = Ok (shape (kind.Vect ∷ []) kind.Int)
-callee_shape names fn.Size = Ok (shape (kind.Vect ∷ []) kind.Int)
-callee_shape names fn.Any = Ok (shape (kind.Vect ∷ []) kind.Bool)
-callee_shape names fn.All = Ok (shape (kind.Vect ∷ []) kind.Bool)
-callee_shape names fn.At = Ok (shape (kind.Vect ∷ kind.Int ∷ []) kind.Int)
-callee_shape names fn.Abs = Ok (shape (kind.Int ∷ []) kind.Int)
-callee_shape names (fn.Given i) = given_shape (slice_get names i)
+callee_shape names Callee.Sum = Ok (shape (ColType.Vect ∷ []) ColType.Int)
+callee_shape names Callee.Min = Ok (shape (ColType.Vect ∷ []) ColType.Int)
+callee_shape names Callee.Max = Ok (shape (ColType.Vect ∷ []) ColType.Int)
+callee_shape names Callee.Size = Ok (shape (ColType.Vect ∷ []) ColType.Int)
+callee_shape names Callee.Any = Ok (shape (ColType.Vect ∷ []) ColType.Bool)
+callee_shape names Callee.All = Ok (shape (ColType.Vect ∷ []) ColType.Bool)
+callee_shape names Callee.At = Ok (shape (ColType.Vect ∷ ColType.Int ∷ []) ColType.Int)
+callee_shape names Callee.Abs = Ok (shape (ColType.Int ∷ []) ColType.Int)
+callee_shape names (Callee.Given i) = given_shape (slice_get names i)
 
 -- the kind of a numbered expression, by the kinds of its columns and the functions that it may call
 abbrev pub num_kind : List (ℕ × ColType) → FunctionNames → NumTree → Result ColType GraphCause
@@ -67,12 +60,12 @@ IsTyped e = (names : FunctionNames) × IsWellTyped names e
 
 -- the callee is built in, or at a place of the list
 abbrev pub IsCallable : FunctionNames → Callee → Type 0
-IsCallable names (fn.Given i) = i < length names
+IsCallable names (Callee.Given i) = i < length names
 IsCallable names f = Unit {0}
 
 -- a call of the list is at a place of the list, with as many arguments as its function takes
 abbrev pub IsCallOf : FunctionNames → Callee → ℕ → Type 0
-IsCallOf names (fn.Given i) count = MatchOption (slice_get names i) ⊥ (λ f. f.arity ≡ count)
+IsCallOf names (Callee.Given i) count = MatchOption (slice_get names i) ⊥ (λ f. f.arity ≡ count)
 IsCallOf names f count = Unit {0}
 
 -- each call of the list is so
@@ -93,7 +86,7 @@ abbrev mutual
   AllCallsFit names (More a rest) = CallsFit names a × AllCallsFit names rest
 
 abbrev pub is_vector : ColType → Bool
-is_vector kind.Vect = true
+is_vector ColType.Vect = true
 is_vector k = false
 
 abbrev pub gives_vector : Result ColType GraphCause → Bool
@@ -123,8 +116,8 @@ HasNoVector kinds names e = All (λ p. gives_vector (num_kind kinds names p) ≡
 
 -- the function takes no vector
 abbrev pub takes_no_vector : Callee → Bool
-takes_no_vector fn.Abs = true
-takes_no_vector (fn.Given i) = true
+takes_no_vector Callee.Abs = true
+takes_no_vector (Callee.Given i) = true
 takes_no_vector f = false
 
 -- no column is a vector, and nothing picks from one or calls a function of one

@@ -1,7 +1,6 @@
 -- Columns that can be read, with their kinds and numbers.
 use Rattle.std.specs.Prelude.{◌≡◌, ◌≢◌, ℕ, List, map, All}
-use Rattle.rdf_values.specs.Numbered.{ScopeColumn}
-use Rattle.rdf_values.specs.declared.value.ColType.{ColType}
+use Rattle.rdf_values.specs.{ColType, ScopeColumn}
 
 -- no column has the name
 abbrev pub LacksColumn : List ℕ → List ScopeColumn → Type 0

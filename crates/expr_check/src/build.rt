@@ -1,7 +1,6 @@
 // Numbered expressions from their parts.
 ghost use Rattle.std.specs.Prelude.{◌≡◌, IfOk};
-ghost use Rattle.rdf_values.specs.Tree.{Neg as NegTree, Not as NotTree, Bin as BinTree, Cond as CondTree, Pick as PickTree, More as MoreTrees};
-ghost use Rattle.rdf_values.specs.NumExprTree.{num_tree, num_trees};
+ghost use Rattle.rdf_values.specs.{Bin as BinTree, Cond as CondTree, More as MoreTrees, Neg as NegTree, Not as NotTree, num_tree, num_trees, Pick as PickTree};
 
 use rdf_values::{BinOp, Memory, NumArgs, NumNode};
 use std::alloc::Global;

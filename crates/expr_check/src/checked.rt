@@ -1,9 +1,7 @@
 // Expressions that have a kind.
 ghost use Rattle.std.specs.Prelude.{◌≡◌, ◌↔◌, IsTrue, All, Ok, map, IfOk, IfErr};
 ghost use Rattle.std.specs.List.{list_any};
-ghost use Rattle.rdf_values.specs.Depends.{columns_in};
-ghost use Rattle.rdf_values.specs.Kinds.{kind_of};
-ghost use Rattle.rdf_values.specs.Numbered.{kinds_in, numbered};
+ghost use Rattle.rdf_values.specs.{columns_in, kind_of, kinds_in, numbered};
 ghost use Rattle.expr_check.specs.NumKinds.{number_kind, distinct, IsTyped, IsWellTyped, CallsFit, HasNoVector, is_vector, is_plain};
 ghost use Rattle.expr_check.specs.Scopes.{numbers_in};
 ghost use Rattle.expr_check.specs.CheckAnswers.{RefusedAs};
@@ -29,7 +27,7 @@ impl Model for Checked {
     ghost use Rattle.std.specs.Prelude.{◌≡◌, length};
     ghost use Rattle.std.specs.List.{zip};
     ghost use Rattle.std.specs.Coded.{codes};
-    ghost use Rattle.rdf_values.specs.TreeCode.{num_code};
+    ghost use Rattle.rdf_values.specs.{num_code};
     ghost use Rattle.expr_check.specs.NumKinds.{CheckedExpr, checked_expr, IsTyped};
 
     ghost Value = { CheckedExpr };

@@ -1,6 +1,6 @@
 // The kinds that the parts of an expression give.
-ghost use Rattle.rdf_values.specs.Kinds.{operator_kind, arithmetic_kind, logical_kind, equality_kind, negated_kind, inverted_kind, chosen_kind, picked_kind};
-ghost use Rattle.expr_check.specs.CheckAnswers.{Answers};
+ghost use Rattle.rdf_values.specs.{arithmetic_kind, chosen_kind, equality_kind, inverted_kind, logical_kind, negated_kind, operator_kind, picked_kind};
+ghost use Rattle.expr_check.specs.{Answers};
 
 use crate::refusal::CheckRefusal;
 use rdf_values::{BinOp, ColType};

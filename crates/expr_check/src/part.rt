@@ -1,11 +1,7 @@
 // The kinds of the parts of an expression, and the parts with their columns and functions numbered.
 ghost use Rattle.std.specs.Prelude.{◌≡◌, ◌≤◌, nat_eq, length, Ok, IfOk, IfErr};
-ghost use Rattle.rdf_values.specs.Tree.{Call as CallTree};
-ghost use Rattle.rdf_values.specs.ExprTree.{tree_of, trees_of};
-ghost use Rattle.rdf_values.specs.NumExprTree.{num_tree, num_trees};
-ghost use Rattle.rdf_values.specs.Kinds.{column_kind, shape_of, kind_of, kinds_by, same_kind, args_count};
-ghost use Rattle.rdf_values.specs.Numbered.{kinds_in, number_in, callee, numbered, all_renamed};
-ghost use Rattle.expr_check.specs.CheckAnswers.{RefusedAs, arguments_fit};
+ghost use Rattle.rdf_values.specs.{all_renamed, args_count, Call as CallTree, callee, column_kind, kind_of, kinds_by, kinds_in, num_tree, num_trees, number_in, numbered, same_kind, shape_of, tree_of, trees_of};
+ghost use Rattle.expr_check.specs.{arguments_fit, RefusedAs};
 
 use crate::build;
 use crate::callee::{find_callee, signature_of};

@@ -1,9 +1,8 @@
 // The columns that a numbered expression names.
 ghost use Rattle.std.specs.Prelude.{◌≡◌, ◌++◌, ◌∷◌, [], nat_eq, OnOk, IfOk};
 ghost use Rattle.std.specs.List.{list_any};
-ghost use Rattle.rdf_values.specs.Depends.{columns_in, columns_in_all};
-ghost use Rattle.rdf_values.specs.NumExprTree.{num_tree, num_trees};
-ghost use Rattle.expr_check.specs.NumKinds.{distinct, with_new};
+ghost use Rattle.rdf_values.specs.{columns_in, columns_in_all, num_tree, num_trees};
+ghost use Rattle.expr_check.specs.{distinct, with_new};
 
 use rdf_values::{Memory, NumArgs, NumNode};
 use std::alloc::Global;

@@ -1,9 +1,7 @@
 // Columns that an expression may read.
 ghost use Rattle.std.specs.Prelude.{◌≡◌, ◌≢◌, ℕ, List, [], ◌∷◌, ◌++◌, All, Ok, Err, IsOk, IfOk, IfNone, IfSome, map, OnOk, OnErr, MatchOption, find, nat_eq};
 ghost use Rattle.std.specs.Option.{option_copied};
-ghost use Rattle.rdf_values.specs.Names.{same};
-ghost use Rattle.rdf_values.specs.Kinds.{column_kind};
-ghost use Rattle.rdf_values.specs.Numbered.{ScopeColumn, kinds_in, number_in};
+ghost use Rattle.rdf_values.specs.{column_kind, kinds_in, number_in, same, ScopeColumn};
 ghost use Rattle.rdf_values.specs.declared.graph_cause.GraphCause.TheVariants.{UnknownColumn};
 ghost use Rattle.expr_check.specs.NumKinds.{number_kind};
 ghost use Rattle.expr_check.specs.Scopes.{LacksColumn, NumberHasKind, NumbersHaveKinds, numbers_in};
@@ -20,7 +18,7 @@ struct Known {
 }
 
 impl Model for Known {
-    ghost use Rattle.rdf_values.specs.Numbered.{ScopeColumn};
+    ghost use Rattle.rdf_values.specs.{ScopeColumn};
 
     ghost Value = { ScopeColumn };
 
@@ -36,7 +34,7 @@ pub struct Scope {
 
 impl Model for Scope {
     ghost use Rattle.std.specs.Prelude.{List};
-    ghost use Rattle.rdf_values.specs.Numbered.{ScopeColumn};
+    ghost use Rattle.rdf_values.specs.{ScopeColumn};
     ghost use Rattle.expr_check.specs.Scopes.{NumbersHaveKinds};
 
     ghost Value = { List ScopeColumn };

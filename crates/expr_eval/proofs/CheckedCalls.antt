@@ -1,22 +1,14 @@
 -- The calls of a checked expression can be made.
-use Rattle.std.proofs.Common.{◌≡◌, ◌≤◌, ◌<◌, ℕ, suc, zero, true, List, [], ◌∷◌, length, Result, Ok, arith, sym, subst}
-use Rattle.std.specs.Prelude.{nat_eq, HoldsAt, slice_get, MatchOption}
+use Rattle.std.proofs.Common.{◌≡◌, ◌≤◌, ◌<◌, ℕ, suc, zero, true, List, [], ◌∷◌, length, Result, Ok, arith, sym, subst, nat_eq, HoldsAt, slice_get, MatchOption}
 use Rattle.std.specs.List.{AllByRecursion}
 use Rattle.std.proofs.lemmas.Bool.Decides.{Decides-eqb}
 use Rattle.std.proofs.lemmas.List.Elements.{recursion_from_All}
-use Rattle.rdf_values.specs.Functions.{Function, fn_names}
-use Rattle.rdf_values.specs.FunctionNames.{AreFnNames}
-use Rattle.rdf_values.specs.Kinds.{Shape, shape, FunctionNames, args_count, kind_by, kinds_by}
-use Rattle.rdf_values.specs.Tree.{Trees, NumTree, Lit, Truth, Col, Neg, Not, Bin, Cond, Pick, Call, End, More}
-use Rattle.rdf_values.specs.declared.fn_names.FnName.{FnName}
-use Rattle.rdf_values.specs.declared.value.ColType.{ColType}
-use Rattle.rdf_values.specs.declared.value.ColType.TheVariants as kind
-use Rattle.rdf_values.specs.declared.graph_cause.GraphCause.{GraphCause}
-use Rattle.rdf_values.specs.declared.num_expr.Callee.{Callee}
-use Rattle.rdf_values.specs.declared.num_expr.Callee.TheVariants as fn
-use Rattle.expr_check.specs.NumKinds.{callee_shape, number_kind, CheckedExpr, IsTyped, IsCallOf, CallsFit, AllCallsFit}
+use Rattle.rdf_values.specs.{AreFnNames, args_count, Bin, Call, Callee, Col, ColType, Cond, End, fn_names, FnName, Function, FunctionNames, GraphCause, kind_by, kinds_by, Lit, More, Neg, Not, NumTree, Pick, Shape, shape, Trees}
+use Rattle.rdf_values.specs.Expressions.{Truth}
+use Rattle.expr_check.specs.{AllCallsFit, callee_shape, CallsFit, CheckedExpr, IsCallOf, IsTyped, number_kind}
 use Rattle.expr_check.proofs.Typed.{bind_ok, call_ok}
-use Rattle.expr_eval.specs.CanCall.{CallFits, CanCall, ArgumentsCanCall}
+use Rattle.expr_eval.specs.{ArgumentsCanCall, CallFits}
+use Rattle.expr_eval.specs.CanCall.{CanCall}
 
 -- a call at a place of the list has as many arguments as the function there takes
 given_can : (functions : List Function) (i count : ℕ) → AllByRecursion (λ (f : FnName). f.arity ≤ 8) (fn_names functions) → MatchOption (slice_get (fn_names functions) i) ⊥ (λ f. f.arity ≡ count)
@@ -35,15 +27,15 @@ few_taken takes gives s count few is counts =
 
 module _ (functions : List Function) (few : AllByRecursion (λ (f : FnName). f.arity ≤ 8) (fn_names functions)) where
   call_can : (names : FunctionNames) (f : Callee) (s : Shape) (count : ℕ) → callee_shape names f ≡ Ok s → nat_eq count (length s.takes) ≡ true → IsCallOf (fn_names functions) f count → CallFits functions f count × (count ≤ 8)
-  call_can names (fn.Given i) s count is counts h = let r = given_can functions i count few h in ((r.0, r.1), r.2)
-  call_can names fn.Sum s count is counts h = (tt, few_taken (kind.Vect ∷ []) kind.Int s count (omega arith) is counts)
-  call_can names fn.Min s count is counts h = (tt, few_taken (kind.Vect ∷ []) kind.Int s count (omega arith) is counts)
-  call_can names fn.Max s count is counts h = (tt, few_taken (kind.Vect ∷ []) kind.Int s count (omega arith) is counts)
-  call_can names fn.Size s count is counts h = (tt, few_taken (kind.Vect ∷ []) kind.Int s count (omega arith) is counts)
-  call_can names fn.Any s count is counts h = (tt, few_taken (kind.Vect ∷ []) kind.Bool s count (omega arith) is counts)
-  call_can names fn.All s count is counts h = (tt, few_taken (kind.Vect ∷ []) kind.Bool s count (omega arith) is counts)
-  call_can names fn.At s count is counts h = (tt, few_taken (kind.Vect ∷ kind.Int ∷ []) kind.Int s count (omega arith) is counts)
-  call_can names fn.Abs s count is counts h = (tt, few_taken (kind.Int ∷ []) kind.Int s count (omega arith) is counts)
+  call_can names (Callee.Given i) s count is counts h = let r = given_can functions i count few h in ((r.0, r.1), r.2)
+  call_can names Callee.Sum s count is counts h = (tt, few_taken (ColType.Vect ∷ []) ColType.Int s count (omega arith) is counts)
+  call_can names Callee.Min s count is counts h = (tt, few_taken (ColType.Vect ∷ []) ColType.Int s count (omega arith) is counts)
+  call_can names Callee.Max s count is counts h = (tt, few_taken (ColType.Vect ∷ []) ColType.Int s count (omega arith) is counts)
+  call_can names Callee.Size s count is counts h = (tt, few_taken (ColType.Vect ∷ []) ColType.Int s count (omega arith) is counts)
+  call_can names Callee.Any s count is counts h = (tt, few_taken (ColType.Vect ∷ []) ColType.Bool s count (omega arith) is counts)
+  call_can names Callee.All s count is counts h = (tt, few_taken (ColType.Vect ∷ []) ColType.Bool s count (omega arith) is counts)
+  call_can names Callee.At s count is counts h = (tt, few_taken (ColType.Vect ∷ ColType.Int ∷ []) ColType.Int s count (omega arith) is counts)
+  call_can names Callee.Abs s count is counts h = (tt, few_taken (ColType.Int ∷ []) ColType.Int s count (omega arith) is counts)
 
   module _ (col : ℕ → Result ColType GraphCause) (names : FunctionNames) where
     mutual

@@ -1,23 +1,18 @@
 -- Operations whose left side may decide.
 use Rattle.std.proofs.Common.{◌≡◌, ℕ, Bool, true, false, None, Result, refl}
-use Rattle.rdf_values.specs.declared.expr.BinOp.{BinOp}
-use Rattle.rdf_values.specs.declared.expr.BinOp.TheVariants as op
-use Rattle.rdf_values.specs.declared.value.Value.{Value}
-use Rattle.rdf_values.specs.declared.value.Value.TheVariants as val
-use Rattle.rdf_model.specs.Evaluation.{Outcome, Gives, ◌>>=◌, operation, value_operation}
-use Rattle.expr_eval.specs.EvalAnswers.{AnswersAs}
-use Rattle.expr_eval.specs.Operands.{decision}
-use Rattle.expr_eval.specs.declared.stop.EvalStop.{EvalStop}
+use Rattle.rdf_values.specs.{BinOp, Value}
+use Rattle.rdf_model.specs.{◌>>=◌, Gives, operation, Outcome, value_operation}
+use Rattle.expr_eval.specs.{AnswersAs, decision, EvalStop}
 
 leaves_open : (o : BinOp) (v : Value) (p : Outcome ℕ Value) → decision o v ≡ None → operation o (Gives v) p ≡ (p >>= value_operation o v)
-leaves_open op.And (val.Bool false) p e = absurd (cc)
-leaves_open op.And (val.Bool true) p e = refl
-leaves_open op.And (val.Int z) p e = refl
-leaves_open op.And (val.Vect zs) p e = refl
-leaves_open op.Or (val.Bool true) p e = absurd (cc)
-leaves_open op.Or (val.Bool false) p e = refl
-leaves_open op.Or (val.Int z) p e = refl
-leaves_open op.Or (val.Vect zs) p e = refl
+leaves_open BinOp.And (Value.Bool false) p e = absurd (cc)
+leaves_open BinOp.And (Value.Bool true) p e = refl
+leaves_open BinOp.And (Value.Int z) p e = refl
+leaves_open BinOp.And (Value.Vect zs) p e = refl
+leaves_open BinOp.Or (Value.Bool true) p e = absurd (cc)
+leaves_open BinOp.Or (Value.Bool false) p e = refl
+leaves_open BinOp.Or (Value.Int z) p e = refl
+leaves_open BinOp.Or (Value.Vect zs) p e = refl
 leaves_open o v p e = refl
 
 module _ (o : BinOp) (v : Value) (left right : Outcome ℕ Value) (given : left ≡ Gives v) where

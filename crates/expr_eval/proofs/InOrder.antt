@@ -1,11 +1,9 @@
 -- Elements one after the other.
 use Rattle.std.proofs.Common.{◌≡◌, ◌<◌, ◌+◌, ℕ, zero, suc, ℤ, pos, negsuc, List, [], ◌∷◌, ◌++◌, length, drop, get_or, ◌∙◌, append_assoc, refl, ap, sym, ◌+ℤ◌, fold, Bool, true, false, if◌then◌else◌}
 use Rattle.std.proofs.lemmas.List.{at_drop_more}
-use Rattle.rdf_model.specs.Evaluation.{Outcome, Gives, Faults, Needs, ◌>>=◌, for_all, pairs, sum_from, checked, marked, is_set, gives_int}
-use Rattle.rdf_values.specs.declared.value.Value.{Value}
-use Rattle.rdf_values.specs.declared.fault.EntryFault.{EntryFault}
-use Rattle.expr_eval.specs.EvalAnswers.{following, StopsAs}
-use Rattle.expr_eval.specs.declared.stop.EvalStop.{EvalStop}
+use Rattle.rdf_model.specs.{◌>>=◌, checked, Faults, for_all, Gives, gives_int, is_set, marked, Needs, Outcome, pairs, sum_from}
+use Rattle.rdf_values.specs.{EntryFault, Value}
+use Rattle.expr_eval.specs.{EvalStop, following, StopsAs}
 use Rattle.expr_eval.specs.declared.stop.EvalStop.TheVariants.{Fault, Need, Memory}
 
 following_one : {A : Type 0} (out : List A) (y : A) (o : Outcome ℕ (List A)) → following out (o >>= λ ys. Gives (y ∷ ys)) ≡ following (out ++ y ∷ []) o

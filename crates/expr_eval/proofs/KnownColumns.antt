@@ -1,25 +1,17 @@
 -- What holds of the columns whose kinds a checked expression has holds of each column that stands in it.
-use Rattle.std.proofs.Common.{◌≡◌, ℕ, Bool, true, false, List, [], ◌∷◌, ◌++◌, map, Result, Ok, Err, IsOk, refl, subst, cond}
-use Rattle.std.specs.Prelude.{nat_eq, All}
+use Rattle.std.proofs.Common.{◌≡◌, ℕ, Bool, true, false, List, [], ◌∷◌, ◌++◌, map, Result, Ok, Err, IsOk, refl, subst, cond, nat_eq, All}
 use Rattle.std.specs.List.{AllByRecursion}
 use Rattle.std.proofs.lemmas.Bool.Decides.{Decides-eqb}
 use Rattle.std.proofs.lemmas.List.Elements.{recursion_from_All}
-use Rattle.rdf_values.specs.Depends.{columns_in, columns_in_all}
-use Rattle.rdf_values.specs.EachColumn.{EachColumn, EachArgument}
-use Rattle.rdf_values.specs.Tree.{Tree, Trees, Lit, Truth, Col, Neg, Not, Bin, Cond, Pick, Call, End, More}
-use Rattle.rdf_values.specs.declared.value.ColType.{ColType}
-use Rattle.rdf_values.specs.declared.value.ColType.TheVariants as kind
-use Rattle.rdf_values.specs.declared.value.Value.{Value}
-use Rattle.rdf_values.specs.declared.value.Value.TheVariants as val
-use Rattle.rdf_values.specs.declared.graph_cause.GraphCause.{GraphCause}
-use Rattle.rdf_model.specs.Evaluation.{Outcome, Gives, Faults, Needs}
-use Rattle.rdf_model.specs.Laws.{FitsOutcome}
-use Rattle.expr_check.specs.NumKinds.{number_kind, callee_shape, CheckedExpr, IsTyped, gives_vector, is_plain}
+use Rattle.rdf_values.specs.{Bin, Call, Col, ColType, columns_in, columns_in_all, Cond, EachArgument, EachColumn, End, GraphCause, Lit, More, Neg, Not, Pick, Tree, Trees, Value}
+use Rattle.rdf_values.specs.Expressions.{Truth}
+use Rattle.rdf_model.specs.{Faults, FitsOutcome, Gives, Needs, Outcome}
+use Rattle.expr_check.specs.{callee_shape, CheckedExpr, gives_vector, is_plain, IsTyped, number_kind}
 use Rattle.expr_check.proofs.Each.{each_left, each_right}
 use Rattle.expr_check.proofs.Distinct.{each_from_distinct}
 use Rattle.expr_check.proofs.Plain.{columns_scalar}
 use Rattle.expr_check.proofs.Typed.{columns_known}
-use Rattle.expr_eval.specs.Scalars.{GivesScalar}
+use Rattle.expr_eval.specs.{GivesScalar}
 
 module _ {C F : Type 0} (P : C → Type 0) where
   mutual
@@ -77,11 +69,11 @@ module _ (look : ℕ → Outcome ℕ Value) where
   fits_at kinds fit = fits_by_number kinds (recursion_from_All (λ (c : ℕ × ColType). FitsOutcome c.1 (look c.0)) kinds fit)
 
   scalar_of_kind : (t : ColType) (o : Outcome ℕ Value) → gives_vector (Ok t) ≡ false → FitsOutcome t o → GivesScalar o
-  scalar_of_kind kind.Vect o p f = cc p
-  scalar_of_kind t (Gives (val.Int z)) p f = tt
-  scalar_of_kind t (Gives (val.Bool b)) p f = tt
-  scalar_of_kind kind.Int (Gives (val.Vect zs)) p f = absurd f
-  scalar_of_kind kind.Bool (Gives (val.Vect zs)) p f = absurd f
+  scalar_of_kind ColType.Vect o p f = cc p
+  scalar_of_kind t (Gives (Value.Int z)) p f = tt
+  scalar_of_kind t (Gives (Value.Bool b)) p f = tt
+  scalar_of_kind ColType.Int (Gives (Value.Vect zs)) p f = absurd f
+  scalar_of_kind ColType.Bool (Gives (Value.Vect zs)) p f = absurd f
   scalar_of_kind t (Faults k) p f = tt
   scalar_of_kind t (Needs m) p f = tt
 

@@ -1,18 +1,14 @@
 -- What an evaluation answers, as an outcome.
 use Rattle.std.specs.Prelude.{ℕ, ℤ, pos, List, Result, Ok, Err}
-use Rattle.rdf_values.specs.declared.value.Value.{Value}
-use Rattle.rdf_values.specs.declared.value.Value.TheVariants as val
-use Rattle.rdf_values.specs.declared.value.Scalar.{Scalar}
-use Rattle.rdf_values.specs.declared.value.Scalar.TheVariants as scalar
-use Rattle.rdf_values.specs.declared.fault.EntryFault.{EntryFault}
-use Rattle.rdf_model.specs.Evaluation.{Outcome, Gives, Faults, Needs, ◌>>=◌, gives_int, sum_from}
+use Rattle.rdf_values.specs.{EntryFault, Scalar, Value}
+use Rattle.rdf_model.specs.{◌>>=◌, Faults, Gives, gives_int, Needs, Outcome, sum_from}
 use Rattle.expr_eval.specs.declared.stop.ScalarStop.{ScalarStop}
 use Rattle.expr_eval.specs.declared.stop.ScalarStop.TheVariants.{Fault, Need}
 
 -- a number or truth value, as a value
 abbrev pub scalar_value : Scalar → Value
-scalar_value (scalar.Int z) = val.Int z
-scalar_value (scalar.Bool b) = val.Bool b
+scalar_value (Scalar.Int z) = Value.Int z
+scalar_value (Scalar.Bool b) = Value.Bool b
 
 -- the answer of an evaluation without vectors
 abbrev pub scalar_outcome : Result Scalar ScalarStop → Outcome ℕ Value
@@ -27,7 +23,7 @@ number_outcome (Err kind) = Faults kind
 
 -- the number as a value, or the fault
 abbrev pub number_value : Result ℤ EntryFault → Outcome ℕ Value
-number_value (Ok z) = Gives (val.Int z)
+number_value (Ok z) = Gives (Value.Int z)
 number_value (Err kind) = Faults kind
 
 -- the sum of a vector, as a value

@@ -1,19 +1,16 @@
 -- Calls that a list of functions can answer.
 use Rattle.std.specs.Prelude.{◌≡◌, ◌<◌, ◌≤◌, ℕ, List, length, HoldsAt}
-use Rattle.rdf_values.specs.Functions.{Function}
-use Rattle.rdf_values.specs.Kinds.{args_count}
-use Rattle.rdf_values.specs.Tree.{NumTree, Trees, Lit, Truth, Col, Neg, Not, Bin, Cond, Pick, Call, End, More}
-use Rattle.rdf_values.specs.declared.num_expr.Callee.{Callee}
-use Rattle.rdf_values.specs.declared.num_expr.Callee.TheVariants as fn
+use Rattle.rdf_values.specs.{args_count, Bin, Call, Callee, Col, Cond, End, Function, Lit, More, Neg, Not, NumTree, Pick, Trees}
+use Rattle.rdf_values.specs.Expressions.{Truth}
 
 -- a call of a built-in function
 abbrev pub IsBuiltIn : Callee → Type 0
-IsBuiltIn (fn.Given i) = ⊥
+IsBuiltIn (Callee.Given i) = ⊥
 IsBuiltIn callee = Unit {0}
 
 -- a function of the list is one of its places, and takes that many numbers
 abbrev pub CallFits : List Function → Callee → ℕ → Type 0
-CallFits functions (fn.Given i) count = (i < length functions) × HoldsAt (λ f. count ≡ f.arity) functions i
+CallFits functions (Callee.Given i) count = (i < length functions) × HoldsAt (λ f. count ≡ f.arity) functions i
 CallFits functions callee count = Unit {0}
 
 module _ (functions : List Function) where

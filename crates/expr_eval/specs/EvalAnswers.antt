@@ -1,7 +1,7 @@
 -- What an evaluation that may want memory answers.
 use Rattle.std.specs.Prelude.{◌≡◌, ℕ, ℤ, List, ◌++◌, Result, Ok, Err}
-use Rattle.rdf_model.specs.Evaluation.{Outcome, Gives, Faults, Needs, ◌>>=◌, gives_vect}
-use Rattle.rdf_values.specs.declared.value.Value.{Value}
+use Rattle.rdf_model.specs.{◌>>=◌, Faults, Gives, gives_vect, Needs, Outcome}
+use Rattle.rdf_values.specs.{Value}
 use Rattle.expr_eval.specs.declared.stop.EvalStop.{EvalStop}
 use Rattle.expr_eval.specs.declared.stop.EvalStop.TheVariants.{Fault, Need, Memory}
 

@@ -1,20 +1,14 @@
 -- Evaluations without vectors.
 use Rattle.std.specs.Prelude.{◌≡◌, Bool, true, false, ℕ, ℤ, pos, nat_abs, List, [], ◌∷◌, ◌++◌, map, slice_get, Result, Ok, Err}
-use Rattle.rdf_values.specs.Functions.{Function}
-use Rattle.rdf_values.specs.Tree.{NumTree, Lit, Col, Bin}
-use Rattle.rdf_values.specs.declared.num_expr.Callee.{Callee}
-use Rattle.rdf_values.specs.declared.num_expr.Callee.TheVariants as fn
-use Rattle.rdf_values.specs.declared.value.Value.{Value}
-use Rattle.rdf_values.specs.declared.value.Value.TheVariants as val
-use Rattle.rdf_model.specs.Evaluation.{Outcome, Gives, Faults, Needs, ◌>>=◌, checked, gives_int, untyped, argument, given_call}
+use Rattle.rdf_values.specs.{Bin, Callee, Col, Function, Lit, NumTree, Value}
+use Rattle.rdf_model.specs.{◌>>=◌, argument, checked, Faults, given_call, Gives, gives_int, Needs, Outcome, untyped}
 use Rattle.expr_eval.specs.declared.scalar_answer.ScalarAnswer.{ScalarAnswer}
-use Rattle.expr_eval.specs.declared.scalar_answer.ScalarAnswer.TheVariants as part
 use Rattle.expr_eval.specs.declared.stop.ScalarStop.{ScalarStop}
 use Rattle.expr_eval.specs.declared.stop.ScalarStop.TheVariants.{Fault, Need}
 
 -- a value is no vector
 abbrev pub IsScalar : Value → Type 0
-IsScalar (val.Vect zs) = ⊥
+IsScalar (Value.Vect zs) = ⊥
 IsScalar v = Unit {0}
 
 -- an outcome gives no vector
@@ -29,15 +23,15 @@ AreScalars (v ∷ vs) = IsScalar v × AreScalars vs
 
 -- what a part comes to, as an outcome
 abbrev pub answered : ScalarAnswer → Outcome ℕ Value
-answered (part.Int z) = Gives (val.Int z)
-answered (part.Bool b) = Gives (val.Bool b)
-answered (part.Fault kind) = Faults kind
-answered (part.Need c) = Needs c
+answered (ScalarAnswer.Int z) = Gives (Value.Int z)
+answered (ScalarAnswer.Bool b) = Gives (Value.Bool b)
+answered (ScalarAnswer.Fault kind) = Faults kind
+answered (ScalarAnswer.Need c) = Needs c
 
 -- a call of a function with numbers
 abbrev pub number_call : List Function → Callee → List ℤ → Outcome ℕ Value
-number_call functions fn.Abs (z ∷ []) = checked (pos (nat_abs z)) >>= gives_int
-number_call functions (fn.Given i) zs = given_call (slice_get functions i) zs
+number_call functions Callee.Abs (z ∷ []) = checked (pos (nat_abs z)) >>= gives_int
+number_call functions (Callee.Given i) zs = given_call (slice_get functions i) zs
 number_call functions f zs = untyped
 
 -- the arguments came to these values, which were appended as numbers, or to that fault or need

@@ -1,10 +1,9 @@
 // What an evaluation needs of a list of functions.
 ghost use Rattle.std.specs.Prelude.{◌≡◌, ◌<◌, ℕ, ℤ, List, Option, length, HoldsAt, slice_get};
-ghost use Rattle.rdf_values.specs.Functions.{Function, fn_names};
-ghost use Rattle.rdf_values.specs.NumExprTree.{num_tree};
-ghost use Rattle.rdf_model.specs.Evaluation.{given_call};
-ghost use Rattle.entry_fns.specs.Lists.{functions_in};
-ghost use Rattle.expr_check.specs.NumKinds.{IsTyped, CallsFit};
+ghost use Rattle.rdf_values.specs.{fn_names, Function, num_tree};
+ghost use Rattle.rdf_model.specs.{given_call};
+ghost use Rattle.entry_fns.specs.{functions_in};
+ghost use Rattle.expr_check.specs.{CallsFit, IsTyped};
 ghost use Rattle.expr_eval.specs.Answers.{number_value};
 ghost use Rattle.expr_eval.specs.CanCall.{CallFits, CanCall};
 

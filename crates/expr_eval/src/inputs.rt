@@ -1,7 +1,7 @@
 // What an evaluation reads its columns from.
 ghost use Rattle.std.specs.Prelude.{◌≡◌, ℕ};
-ghost use Rattle.rdf_model.specs.Evaluation.{Outcome};
-ghost use Rattle.rdf_values.specs.declared.value.Value.{Value};
+ghost use Rattle.rdf_model.specs.{Outcome};
+ghost use Rattle.rdf_values.specs.{Value};
 ghost use Rattle.expr_eval.specs.Inputs.{input_outcome};
 
 use rdf_values::EntryFault;

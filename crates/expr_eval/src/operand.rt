@@ -1,8 +1,7 @@
 // Values in the midst of an evaluation, which need not own their elements.
 ghost use Rattle.std.specs.Prelude.{◌≡◌};
-ghost use Rattle.rdf_model.specs.Evaluation.{Gives, argument};
-ghost use Rattle.expr_eval.specs.EvalAnswers.{AnswersAs};
-ghost use Rattle.expr_eval.specs.Operands.{operand_value, view_value};
+ghost use Rattle.rdf_model.specs.{argument, Gives};
+ghost use Rattle.expr_eval.specs.{AnswersAs, operand_value, view_value};
 
 use crate::stop::EvalStop;
 use rdf_values::{IntList, Value};

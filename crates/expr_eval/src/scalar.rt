@@ -1,20 +1,12 @@
 // Evaluation without vectors.
 ghost use Rattle.std.specs.Prelude.{◌≡◌, ◌+◌, ◌<◌, ◌≤◌, ℕ, ℤ, true, length, All, OnOk, IfOk};
-ghost use Rattle.rdf_values.specs.Kinds.{args_count};
-ghost use Rattle.rdf_values.specs.NumExprTree.{num_tree, num_trees};
-ghost use Rattle.rdf_values.specs.Tree.{Neg as NegTree, Not as NotTree, Call as CallTree};
-ghost use Rattle.rdf_values.specs.EachColumn.{EachColumn, EachArgument};
-ghost use Rattle.rdf_values.specs.Functions.{fn_names};
-ghost use Rattle.rdf_values.specs.Tables.{FitsKind};
+ghost use Rattle.rdf_values.specs.{args_count, Call as CallTree, EachArgument, EachColumn, FitsKind, fn_names, Neg as NegTree, Not as NotTree, num_tree, num_trees};
 ghost use Rattle.rdf_values.specs.declared.value.Value.TheVariants.{Int as ValueInt, Bool as ValueBool};
-ghost use Rattle.rdf_model.specs.Evaluation.{Gives, evaluate, evaluate_all, call_outcome, operation, value_operation, of_numbers, argument};
-ghost use Rattle.rdf_model.specs.Laws.{FitsOutcome};
-ghost use Rattle.entry_fns.specs.Lists.{functions_in};
-ghost use Rattle.expr_check.specs.NumKinds.{is_plain, CallsFit};
-ghost use Rattle.expr_eval.specs.Answers.{scalar_outcome, scalar_value, number_value};
-ghost use Rattle.expr_eval.specs.CanCall.{CallFits, CanCall, ArgumentsCanCall};
-ghost use Rattle.expr_eval.specs.Inputs.{input_outcome};
-ghost use Rattle.expr_eval.specs.Scalars.{is_other, answered, GivesScalar, Gathers, number_call};
+ghost use Rattle.rdf_model.specs.{argument, call_outcome, evaluate, evaluate_all, FitsOutcome, Gives, of_numbers, operation, value_operation};
+ghost use Rattle.entry_fns.specs.{functions_in};
+ghost use Rattle.expr_check.specs.{CallsFit, is_plain};
+ghost use Rattle.expr_eval.specs.{answered, ArgumentsCanCall, CallFits, Gathers, GivesScalar, input_outcome, is_other, number_call, number_value, scalar_outcome, scalar_value};
+ghost use Rattle.expr_eval.specs.CanCall.{CanCall};
 
 use crate::calls::{Calls, answer, callable};
 use crate::inputs::{Input, Inputs};

@@ -1,7 +1,6 @@
 // What a part comes to in an evaluation without vectors.
 ghost use Rattle.std.specs.Prelude.{◌≡◌};
-ghost use Rattle.expr_eval.specs.Answers.{scalar_outcome};
-ghost use Rattle.expr_eval.specs.Scalars.{answered};
+ghost use Rattle.expr_eval.specs.{answered, scalar_outcome};
 
 use crate::stop::ScalarStop;
 use rdf_values::{EntryFault, Scalar};

@@ -1,19 +1,11 @@
 // Evaluation with vectors.
 ghost use Rattle.std.specs.Prelude.{◌≡◌, ◌+◌, ◌≤◌, ℕ, List, [], ◌∷◌, length, map, All, OnOk, IfOk};
-ghost use Rattle.rdf_values.specs.Kinds.{args_count};
-ghost use Rattle.rdf_values.specs.NumExprTree.{num_tree, num_trees};
-ghost use Rattle.rdf_values.specs.EachColumn.{EachColumn, EachArgument};
-ghost use Rattle.rdf_values.specs.Functions.{fn_names};
-ghost use Rattle.rdf_values.specs.Tables.{FitsKind};
-ghost use Rattle.rdf_model.specs.Evaluation.{argument, for_all, evaluate, evaluate_all, call_outcome, value_operation, negation, inversion, of_numbers, picked, vector_operation};
-ghost use Rattle.rdf_model.specs.Laws.{FitsOutcome};
-ghost use Rattle.entry_fns.specs.Lists.{functions_in};
-ghost use Rattle.expr_check.specs.NumKinds.{CallsFit};
-ghost use Rattle.expr_eval.specs.CanCall.{IsBuiltIn, CallFits, CanCall, ArgumentsCanCall};
-ghost use Rattle.expr_eval.specs.Answers.{number_value};
-ghost use Rattle.expr_eval.specs.EvalAnswers.{AnswersAs, AppendsAs, vector_outcome};
-ghost use Rattle.expr_eval.specs.Inputs.{input_outcome};
-ghost use Rattle.expr_eval.specs.Operands.{operand_value, view_value, decision as decided};
+ghost use Rattle.rdf_values.specs.{args_count, EachArgument, EachColumn, FitsKind, fn_names, num_tree, num_trees};
+ghost use Rattle.rdf_model.specs.{argument, call_outcome, evaluate, evaluate_all, FitsOutcome, for_all, inversion, negation, of_numbers, picked, value_operation, vector_operation};
+ghost use Rattle.entry_fns.specs.{functions_in};
+ghost use Rattle.expr_check.specs.{CallsFit};
+ghost use Rattle.expr_eval.specs.{AnswersAs, AppendsAs, ArgumentsCanCall, CallFits, decision as decided, input_outcome, IsBuiltIn, number_value, operand_value, vector_outcome, view_value};
+ghost use Rattle.expr_eval.specs.CanCall.{CanCall};
 
 use crate::calls::{Calls, answer, callable};
 use crate::elements::{

@@ -1,12 +1,8 @@
 -- What is known of a lane's numbers, said of values.
 use Rattle.std.proofs.Common.{◌≡◌, ◌+◌, ℕ, ℤ, List, ◌∙◌, refl, ap, sym}
-use Rattle.rdf_values.specs.declared.value.ColType.{ColType}
-use Rattle.rdf_values.specs.declared.value.Value.{Value}
-use Rattle.rdf_model.specs.Evaluation.{Outcome, Gives}
-use Rattle.expr_lanes.specs.declared.stopped.Stopped.{Stopped}
-use Rattle.expr_lanes.specs.Marks.{lane_outcome, lane_value}
-use Rattle.expr_lanes.specs.Places.{EachPlace, at_place, is_given, with_stop, times, Evaluated}
-use Rattle.expr_lanes.specs.Values.{HasValues}
+use Rattle.rdf_values.specs.{ColType, Value}
+use Rattle.rdf_model.specs.{Gives, Outcome}
+use Rattle.expr_lanes.specs.{at_place, EachPlace, Evaluated, HasValues, is_given, lane_outcome, lane_value, Stopped, times, with_stop}
 use Rattle.expr_lanes.proofs.Sequence.{come_from, same_given, same_stops}
 
 given_alike : (o : Outcome ℕ Value) → is_given (lane_outcome o) ≡ is_given o

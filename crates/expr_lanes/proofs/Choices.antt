@@ -1,12 +1,10 @@
 -- Evaluations of which each place takes one of two.
-use Rattle.std.proofs.Common.{◌≡◌, ◌+◌, ℕ, ℤ, Bool, true, false, not, ◌||◌, ◌&&◌, List, [], ◌∷◌, inl, inr, ◌∙◌, refl, ap, sym, subst, cond, if◌then◌else◌, arith}
-use Rattle.std.specs.Prelude.{nat_eq}
+use Rattle.std.proofs.Common.{◌≡◌, ◌+◌, ℕ, ℤ, Bool, true, false, not, ◌||◌, ◌&&◌, List, [], ◌∷◌, inl, inr, ◌∙◌, refl, ap, sym, subst, cond, if◌then◌else◌, arith, nat_eq}
 use Rattle.std.specs.List.{filter}
 use Rattle.std.proofs.lemmas.Bool.Decides.{eqb_tells}
-use Rattle.lemmas.proofs.Booleans.{and_false, and_left, and_right, and_true, or_false}
-use Rattle.rdf_model.specs.Evaluation.{Outcome, Gives, ◌>>=◌, is_zero}
-use Rattle.expr_lanes.specs.declared.stopped.Stopped.{Stopped}
-use Rattle.expr_lanes.specs.Places.{is_in, at_place, is_given, with_stop, given_in, stops_in, times, EachPlace, Evaluated}
+use Rattle.lemmas.proofs.{and_false, and_left, and_right, and_true, or_false}
+use Rattle.rdf_model.specs.{◌>>=◌, Gives, is_zero, Outcome}
+use Rattle.expr_lanes.specs.{at_place, EachPlace, Evaluated, given_in, is_given, is_in, Stopped, stops_in, times, with_stop}
 use Rattle.expr_lanes.proofs.Sequence.{alike, come_told, filtered_out, go_on, times_with}
 use Rattle.expr_lanes.proofs.PartSteps.{filter_alike}
 

@@ -1,26 +1,13 @@
 -- What a node's parts come to, put together.
-use Rattle.std.proofs.Common.{◌≡◌, ◌<◌, ℕ, ℤ, pos, negsuc, neg_ℤ, ◌-ℤ◌, zero, suc, false, None, ◌&&◌, ◌∙◌, List, refl, ap, sym, subst, arith}
+use Rattle.std.proofs.Common.{◌≡◌, ◌<◌, ℕ, ℤ, pos, negsuc, neg_ℤ, ◌-ℤ◌, zero, suc, false, None, ◌&&◌, ◌∙◌, List, refl, ap, sym, subst, arith, int_le}
 use Prim.Native.Nat.compare
-use Rattle.std.specs.Prelude.{int_le}
 use Rattle.std.proofs.lemmas.Int.{ints}
-use Rattle.rdf_values.specs.Functions.{Function}
-use Rattle.rdf_values.specs.NumExprTree.{num_tree}
-use Rattle.rdf_values.specs.Tree.{NumTree, Trees, Neg, Not, Call}
-use Rattle.rdf_values.specs.declared.expr.BinOp.{BinOp}
-use Rattle.rdf_values.specs.declared.expr.BinOp.TheVariants as op
-use Rattle.rdf_values.specs.declared.num_expr.Callee.{Callee}
-use Rattle.rdf_values.specs.declared.value.Value.{Value}
-use Rattle.rdf_model.specs.Evaluation.{Outcome, Gives, ◌>>=◌, checked, mark, is_zero, number_operation}
+use Rattle.rdf_values.specs.{BinOp, Call, Callee, Function, Neg, Not, num_tree, NumTree, Trees, Value}
+use Rattle.rdf_model.specs.{◌>>=◌, checked, Gives, is_zero, mark, number_operation, Outcome}
 use Rattle.expr_lanes.specs.declared.numbers.Side.{Side}
-use Rattle.expr_lanes.specs.declared.stopped.Stopped.{Stopped}
+use Rattle.expr_lanes.specs.{called_at, depth, EachPlace, Evaluated, fold_or, fold_read, HasCome, HasNumber, is_decider, IsAble, IsAtHand, lane_at, lane_operation, side_number, Stopped, with_zero}
 use Rattle.expr_lanes.specs.declared.parts.Branch.{Branch}
 use Rattle.expr_lanes.specs.declared.parts.Branch.TheVariants.{Node, Same}
-use Rattle.expr_lanes.specs.Able.{IsAble}
-use Rattle.expr_lanes.specs.Depths.{depth, is_decider}
-use Rattle.expr_lanes.specs.Folds.{fold_read}
-use Rattle.expr_lanes.specs.Marks.{called_at, fold_or, lane_at, lane_operation}
-use Rattle.expr_lanes.specs.Places.{EachPlace, Evaluated, HasCome}
-use Rattle.expr_lanes.specs.Sides.{with_zero, side_number, HasNumber, IsAtHand}
 use Rattle.expr_lanes.proofs.Sequence.{alike, come_alike, come_told, go_on, told}
 
 -- ---- sides at hand
@@ -34,8 +21,8 @@ has_at_hand size f side sel hand inside p h = (hand p (inside p h)).0
 -- ---- operators
 
 both_taken : (o : BinOp) (l r : Outcome ℕ ℤ) → is_decider o ≡ false → (l >>= λ x. r >>= λ y. number_operation o x y) ≡ lane_operation o l r
-both_taken op.And l r h = absurd (cc h)
-both_taken op.Or l r h = absurd (cc h)
+both_taken BinOp.And l r h = absurd (cc h)
+both_taken BinOp.Or l r h = absurd (cc h)
 both_taken o l r h = refl
 
 pub operated : (o : BinOp) (f g : ℕ → Outcome ℕ ℤ) (sel left right last : List ℕ) (x y : ℕ → ℤ) (before after : List ℤ) (s0 s1 s2 s3 : List Stopped) → is_decider o ≡ false → HasCome f sel left x s0 s1 → HasCome g left right y s1 s2

@@ -5,9 +5,8 @@ use Rattle.std.proofs.lemmas.Bool.{cases_lt}
 use Rattle.std.proofs.lemmas.Bool.Decides.{eqb_tells}
 use Rattle.std.proofs.lemmas.List.{take_more_set}
 use Rattle.std.proofs.lemmas.List.FromFn.{length-range_with_len, get_or-range_with_len}
-use Rattle.rdf_model.specs.Evaluation.{Outcome, Gives}
-use Rattle.expr_lanes.specs.declared.stopped.Stopped.{Stopped}
-use Rattle.expr_lanes.specs.Places.{is_in, at_place, EachPlace, Evaluated}
+use Rattle.rdf_model.specs.{Gives, Outcome}
+use Rattle.expr_lanes.specs.{at_place, EachPlace, Evaluated, is_in, Stopped}
 use Rattle.expr_lanes.proofs.Selected.{is_in_at}
 use Rattle.expr_lanes.proofs.Sequence.{come_told, come_alike, told}
 

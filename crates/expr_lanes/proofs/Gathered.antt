@@ -1,8 +1,7 @@
 -- The arguments of a call, each in a lane of its own.
 use Rattle.std.proofs.Common.{ℕ, ℤ, List, ◌∷◌}
-use Rattle.rdf_model.specs.Evaluation.{Outcome, Gives, ◌>>=◌}
-use Rattle.expr_lanes.specs.declared.stopped.Stopped.{Stopped}
-use Rattle.expr_lanes.specs.Places.{HasCome}
+use Rattle.rdf_model.specs.{◌>>=◌, Gives, Outcome}
+use Rattle.expr_lanes.specs.{HasCome, Stopped}
 use Rattle.expr_lanes.proofs.Sequence.{come_on, come_told}
 
 -- one more argument

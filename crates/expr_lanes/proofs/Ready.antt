@@ -2,9 +2,8 @@
 use Rattle.std.proofs.Common.{◌≡◌, ◌+◌, ℕ, ℤ, Bool, true, not, List, [], ◌∷◌, ◌∙◌, length, refl, ap, subst, cond, arith}
 use Rattle.std.specs.List.{filter}
 use Rattle.std.proofs.lemmas.List.Filters.{length-filter_both}
-use Rattle.rdf_model.specs.Evaluation.{Outcome, Gives}
-use Rattle.expr_lanes.specs.declared.stopped.Stopped.{Stopped}
-use Rattle.expr_lanes.specs.Places.{at_place, is_in, is_given, with_stop, given_in, stops_in, times, Evaluated, HasCome, IsSelected}
+use Rattle.rdf_model.specs.{Gives, Outcome}
+use Rattle.expr_lanes.specs.{at_place, Evaluated, given_in, HasCome, is_given, is_in, IsSelected, Stopped, stops_in, times, with_stop}
 use Rattle.expr_lanes.proofs.Sequence.{come_from, filtered_in}
 
 all_times : (stops : List Stopped) → times (λ s. true) stops ≡ length stops

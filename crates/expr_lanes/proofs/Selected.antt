@@ -1,12 +1,11 @@
 -- Places of selections.
-use Rattle.std.proofs.Common.{◌≡◌, ◌≢◌, ◌<◌, ℕ, ℤ, pos, true, false, ◌||◌, List, [], ◌∷◌, ◌++◌, length, get_or, set, ◌∙◌, refl, ap, sym, subst, ◌⊎◌, inl, inr, get_or-set_same, get_or-set_other}
-use Rattle.std.specs.Prelude.{nat_eq}
+use Rattle.std.proofs.Common.{◌≡◌, ◌≢◌, ◌<◌, ℕ, ℤ, pos, true, false, ◌||◌, List, [], ◌∷◌, ◌++◌, length, get_or, set, ◌∙◌, refl, ap, sym, subst, ◌⊎◌, inl, inr, get_or-set_same, get_or-set_other, nat_eq}
 use Rattle.std.proofs.lemmas.Bool.{eq-eqb}
 use Rattle.std.proofs.lemmas.Bool.Decides.{eqb_tells}
 use Rattle.std.proofs.lemmas.List.Folds.{list_any-append, list_any_at}
-use Rattle.lemmas.proofs.Booleans.{or_false}
-use Rattle.rdf_model.specs.Evaluation.{Outcome, Gives}
-use Rattle.expr_lanes.specs.Places.{is_in, EachPlace, at_place}
+use Rattle.lemmas.proofs.{or_false}
+use Rattle.rdf_model.specs.{Gives, Outcome}
+use Rattle.expr_lanes.specs.{at_place, EachPlace, is_in}
 
 -- a place of the list is in it
 pub is_in_at : (xs : List ℕ) (i d : ℕ) → i < length xs → is_in (get_or xs i d) xs ≡ true

@@ -1,12 +1,10 @@
 -- Evaluations one after the other.
-use Rattle.std.proofs.Common.{◌≡◌, ◌+◌, ℕ, ℤ, Bool, true, false, ◌||◌, List, [], ◌∷◌, ◌∙◌, refl, ap, sym, subst, cond, arith}
+use Rattle.std.proofs.Common.{◌≡◌, ◌+◌, ℕ, ℤ, Bool, true, false, ◌||◌, List, [], ◌∷◌, ◌∙◌, refl, ap, sym, subst, cond, arith, nat_eq}
 use Rattle.std.specs.List.{filter}
 use Rattle.std.proofs.lemmas.Bool.{eq-eqb}
-use Rattle.std.specs.Prelude.{nat_eq}
-use Rattle.lemmas.proofs.Booleans.{or_right}
-use Rattle.rdf_model.specs.Evaluation.{Outcome, Gives, Faults, Needs, ◌>>=◌}
-use Rattle.expr_lanes.specs.declared.stopped.Stopped.{Stopped}
-use Rattle.expr_lanes.specs.Places.{is_in, EachPlace, at_place, is_given, with_stop, given_in, stops_in, times, Evaluated, HasCome}
+use Rattle.lemmas.proofs.{or_right}
+use Rattle.rdf_model.specs.{◌>>=◌, Faults, Gives, Needs, Outcome}
+use Rattle.expr_lanes.specs.{at_place, EachPlace, Evaluated, given_in, HasCome, is_given, is_in, Stopped, stops_in, times, with_stop}
 
 -- ---- places of lists
 

@@ -2,11 +2,10 @@
 use Rattle.std.proofs.Common.{◌≡◌, ◌≢◌, ◌<◌, ◌≤◌, ◌+◌, ℕ, ℤ, Bool, true, false, List, [], ◌∷◌, ◌++◌, length, get_or, take, drop, set, ◌∙◌, refl, ap, sym, subst, append_assoc, add-zero, arith, Result, Err}
 use Rattle.std.proofs.lemmas.List.{take_more, take_more_set, get_or-drop, get_or-take, length-take-le, length-append, append-nil}
 use Rattle.std.proofs.lemmas.List.Filters.{FiltersInPlace, FiltersInPlace-more_no, FiltersInPlace-more_set}
-use Rattle.rdf_model.specs.Evaluation.{Outcome, Gives, Faults, Needs}
-use Rattle.expr_eval.specs.declared.stop.ScalarStop.{ScalarStop}
+use Rattle.rdf_model.specs.{Faults, Gives, Needs, Outcome}
+use Rattle.expr_eval.specs.{ScalarStop}
 use Rattle.expr_eval.specs.declared.stop.ScalarStop.TheVariants.{Fault, Need}
-use Rattle.expr_lanes.specs.declared.stopped.Stopped.{Stopped}
-use Rattle.expr_lanes.specs.Places.{is_in, EachPlace, at_place, is_given, answered_at, stopped, with_stop, given_in, stops_in, times, Evaluated}
+use Rattle.expr_lanes.specs.{answered_at, at_place, EachPlace, Evaluated, given_in, is_given, is_in, Stopped, stopped, stops_in, times, with_stop}
 use Rattle.expr_lanes.proofs.Selected.{is_in_at, values_more, kept_at}
 
 -- what wasn't reached yet is as it was

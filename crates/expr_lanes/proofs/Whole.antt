@@ -1,9 +1,8 @@
 -- Sides of a choice that kept all their places.
 use Rattle.std.proofs.Common.{◌≡◌, ◌≤◌, ◌+◌, ℕ, ℤ, Bool, true, false, not, ◌||◌, ◌&&◌, List, [], ◌∷◌, ◌∙◌, length, refl, ap, sym, cond, arith}
 use Rattle.std.specs.List.{filter}
-use Rattle.rdf_model.specs.Evaluation.{Outcome}
-use Rattle.expr_lanes.specs.declared.stopped.Stopped.{Stopped}
-use Rattle.expr_lanes.specs.Places.{is_in, is_given, EachPlace, HasCome}
+use Rattle.rdf_model.specs.{Outcome}
+use Rattle.expr_lanes.specs.{EachPlace, HasCome, is_given, is_in, Stopped}
 use Rattle.expr_lanes.proofs.Choices.{in_filter}
 use Rattle.expr_lanes.proofs.Ready.{parts_of}
 use Rattle.expr_lanes.proofs.Rising.{filter_whole, short}

@@ -1,11 +1,8 @@
 -- What an evaluation over a block asks of an expression.
 use Rattle.std.specs.Prelude.{ℕ, ◌+◌, ◌≤◌, List}
-use Rattle.rdf_values.specs.Functions.{Function}
-use Rattle.rdf_values.specs.Kinds.{args_count}
-use Rattle.rdf_values.specs.NumExprTree.{num_tree}
-use Rattle.rdf_values.specs.Tree.{NumTree, Trees}
-use Rattle.rdf_values.specs.declared.num_expr.Callee.{Callee}
-use Rattle.expr_eval.specs.CanCall.{CanCall, ArgumentsCanCall}
+use Rattle.rdf_values.specs.{args_count, Callee, Function, num_tree, NumTree, Trees}
+use Rattle.expr_eval.specs.{ArgumentsCanCall}
+use Rattle.expr_eval.specs.CanCall.{CanCall}
 use Rattle.expr_lanes.specs.declared.parts.Branch.{Branch}
 use Rattle.expr_lanes.specs.declared.parts.Branch.TheVariants.{Node, Same}
 use Rattle.expr_lanes.specs.Depths.{depth, depth_of_all}

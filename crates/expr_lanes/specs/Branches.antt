@@ -1,10 +1,7 @@
 -- The sides of choices.
 use Rattle.std.specs.Prelude.{ℕ, ℤ, List, if◌then◌else◌}
-use Rattle.rdf_values.specs.Functions.{Function}
-use Rattle.rdf_values.specs.NumExprTree.{num_tree}
-use Rattle.rdf_values.specs.Tree.{NumTree}
-use Rattle.rdf_values.specs.declared.value.Value.{Value}
-use Rattle.rdf_model.specs.Evaluation.{Outcome, Gives, ◌>>=◌, is_zero}
+use Rattle.rdf_values.specs.{Function, num_tree, NumTree, Value}
+use Rattle.rdf_model.specs.{◌>>=◌, Gives, is_zero, Outcome}
 use Rattle.expr_lanes.specs.declared.parts.Branch.{Branch}
 use Rattle.expr_lanes.specs.declared.parts.Branch.TheVariants.{Node, Same}
 use Rattle.expr_lanes.specs.Marks.{lane_at}

@@ -1,10 +1,7 @@
 -- How many levels of scratch an evaluation takes.
 use Rattle.std.specs.Prelude.{ℕ, ◌+◌, max, Bool, true, false}
-use Rattle.rdf_values.specs.Kinds.{args_count}
-use Rattle.rdf_values.specs.Tree.{NumTree, Trees, Lit, Truth, Col, Neg, Not, Bin, Cond, Pick, Call, End, More}
-use Rattle.rdf_values.specs.declared.expr.BinOp.{BinOp}
-use Rattle.rdf_values.specs.declared.expr.BinOp.TheVariants as op
-use Rattle.rdf_values.specs.declared.num_expr.Callee.{Callee}
+use Rattle.rdf_values.specs.{args_count, Bin, BinOp, Call, Callee, Col, Cond, End, Lit, More, Neg, Not, NumTree, Pick, Trees}
+use Rattle.rdf_values.specs.Expressions.{Truth}
 
 abbrev mutual
   -- one for each part that stands in another, at the deepest
@@ -26,6 +23,6 @@ abbrev mutual
 
 -- the left side may decide
 abbrev pub is_decider : BinOp → Bool
-is_decider op.And = true
-is_decider op.Or = true
+is_decider BinOp.And = true
+is_decider BinOp.Or = true
 is_decider o = false

@@ -1,27 +1,24 @@
 -- Built-in functions of a vector that give a number.
 use Rattle.std.specs.Prelude.{◌≡◌, ℕ, true, [], ◌∷◌, Option, Some, None, MatchOption}
-use Rattle.rdf_values.specs.Tree.{NumTree, Trees, Lit, Truth, Col, Neg, Not, Bin, Cond, Pick, Call, End, More}
-use Rattle.rdf_values.specs.declared.num_expr.Callee.{Callee}
-use Rattle.rdf_values.specs.declared.num_expr.Callee.TheVariants as fn
-use Rattle.rdf_values.specs.declared.value.Value.{Value}
-use Rattle.rdf_model.specs.Evaluation.{Outcome, ◌>>=◌, call_outcome}
-use Rattle.expr_check.specs.NumKinds.{takes_no_vector}
+use Rattle.rdf_values.specs.{Bin, Call, Callee, Col, Cond, End, Lit, More, Neg, Not, NumTree, Pick, Trees, Value}
+use Rattle.rdf_values.specs.Expressions.{Truth}
+use Rattle.rdf_model.specs.{◌>>=◌, call_outcome, Outcome}
+use Rattle.expr_check.specs.{takes_no_vector}
 use Rattle.expr_lanes.specs.declared.folds.Fold.{Fold}
-use Rattle.expr_lanes.specs.declared.folds.Fold.TheVariants as fold
 use Rattle.expr_lanes.specs.declared.folds.FoldCall.{FoldCall}
 
 -- the function by its name in expressions
 abbrev pub callee_of : Fold → Callee
-callee_of fold.Sum = fn.Sum
-callee_of fold.Size = fn.Size
-callee_of fold.Least = fn.Min
-callee_of fold.Greatest = fn.Max
+callee_of Fold.Sum = Callee.Sum
+callee_of Fold.Size = Callee.Size
+callee_of Fold.Least = Callee.Min
+callee_of Fold.Greatest = Callee.Max
 
 abbrev pub fold_named : Callee → Option Fold
-fold_named fn.Sum = Some fold.Sum
-fold_named fn.Size = Some fold.Size
-fold_named fn.Min = Some fold.Least
-fold_named fn.Max = Some fold.Greatest
+fold_named Callee.Sum = Some Fold.Sum
+fold_named Callee.Size = Some Fold.Size
+fold_named Callee.Min = Some Fold.Least
+fold_named Callee.Max = Some Fold.Greatest
 fold_named f = None
 
 -- the column that an argument is

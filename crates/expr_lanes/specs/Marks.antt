@@ -1,16 +1,8 @@
 -- Expressions over numbers, where a truth value is its mark: what a lane holds of them.
 use Rattle.std.specs.Prelude.{ℕ, ℤ, pos, neg_ℤ, nat_abs, List, [], ◌∷◌, map, if◌then◌else◌, slice_get, Option, Some, None}
-use Rattle.rdf_values.specs.Functions.{Function}
-use Rattle.rdf_values.specs.Tree.{NumTree, Trees, Lit, Truth, Col, Neg, Not, Bin, Cond, Pick, Call, End, More}
-use Rattle.rdf_values.specs.declared.expr.BinOp.{BinOp}
-use Rattle.rdf_values.specs.declared.expr.BinOp.TheVariants as op
-use Rattle.rdf_values.specs.declared.num_expr.Callee.{Callee}
-use Rattle.rdf_values.specs.declared.num_expr.Callee.TheVariants as fn
-use Rattle.rdf_values.specs.declared.value.Value.{Value}
-use Rattle.rdf_values.specs.declared.value.Value.TheVariants as val
-use Rattle.rdf_values.specs.declared.value.ColType.{ColType}
-use Rattle.rdf_values.specs.declared.value.ColType.TheVariants as kind
-use Rattle.rdf_model.specs.Evaluation.{Outcome, Gives, Faults, Needs, ◌>>=◌, checked, mark, is_zero, is_set, number_operation, answer_outcome}
+use Rattle.rdf_values.specs.{Bin, BinOp, Call, Callee, Col, ColType, Cond, End, Function, Lit, More, Neg, Not, NumTree, Pick, Trees, Value}
+use Rattle.rdf_values.specs.Expressions.{Truth}
+use Rattle.rdf_model.specs.{◌>>=◌, answer_outcome, checked, Faults, Gives, is_set, is_zero, mark, Needs, number_operation, Outcome}
 use Rattle.expr_lanes.specs.declared.folds.FoldCall.{FoldCall}
 use Rattle.expr_lanes.specs.declared.scratch.Scratch.{Scratch}
 use Rattle.expr_lanes.specs.Folds.{fold_read, fold_told}
@@ -18,15 +10,15 @@ use Rattle.expr_lanes.specs.Places.{at_place}
 
 -- the number that a lane holds for a value: 1 or 0 for a truth value
 abbrev pub lane_number : Value → ℤ
-lane_number (val.Int z) = z
-lane_number (val.Bool b) = mark b
-lane_number (val.Vect zs) = pos 0
+lane_number (Value.Int z) = z
+lane_number (Value.Bool b) = mark b
+lane_number (Value.Vect zs) = pos 0
 
 -- the value of that kind for which a lane holds the number
 abbrev pub lane_value : ColType → ℤ → Value
-lane_value kind.Int z = val.Int z
-lane_value kind.Bool z = val.Bool (is_set z)
-lane_value kind.Vect z = val.Vect []
+lane_value ColType.Int z = Value.Int z
+lane_value ColType.Bool z = Value.Bool (is_set z)
+lane_value ColType.Vect z = Value.Vect []
 
 -- an outcome as a lane holds it
 abbrev pub lane_outcome : {M : Type 0} → Outcome M Value → Outcome M ℤ
@@ -36,8 +28,8 @@ lane_outcome (Needs m) = Needs m
 
 -- an operator on marks: && and || take the right side only where the left doesn't decide
 abbrev pub lane_operation : BinOp → Outcome ℕ ℤ → Outcome ℕ ℤ → Outcome ℕ ℤ
-lane_operation op.And l r = l >>= λ x. if is_zero x then Gives x else r
-lane_operation op.Or l r = l >>= λ x. if is_zero x then r else Gives x
+lane_operation BinOp.And l r = l >>= λ x. if is_zero x then Gives x else r
+lane_operation BinOp.Or l r = l >>= λ x. if is_zero x then r else Gives x
 lane_operation o l r = l >>= λ x. r >>= λ y. number_operation o x y
 
 -- the answer of a function of the list, or a fault where it has none
@@ -51,8 +43,8 @@ given_number (Some f) zs = answer_number (f.answer zs)
 
 -- a call with numbers
 abbrev pub lane_call : List Function → Callee → List ℤ → Outcome ℕ ℤ
-lane_call functions fn.Abs (z ∷ []) = checked (pos (nat_abs z))
-lane_call functions (fn.Given i) zs = given_number (slice_get functions i) zs
+lane_call functions Callee.Abs (z ∷ []) = checked (pos (nat_abs z))
+lane_call functions (Callee.Given i) zs = given_number (slice_get functions i) zs
 lane_call functions f zs = Gives (pos 0)
 
 -- an argument before others

@@ -1,9 +1,7 @@
 -- The sides of operators.
 use Rattle.std.specs.Prelude.{◌≡◌, ◌<◌, ℕ, ℤ, Bool, true, false, pos, length}
-use Rattle.rdf_values.specs.NumExprTree.{num_tree}
-use Rattle.rdf_values.specs.Tree.{NumTree, Lit, Neg, Not, Bin}
-use Rattle.rdf_values.specs.declared.expr.BinOp.TheVariants as op
-use Rattle.rdf_model.specs.Evaluation.{Outcome, Gives}
+use Rattle.rdf_values.specs.{Bin, BinOp, Lit, Neg, Not, num_tree, NumTree}
+use Rattle.rdf_model.specs.{Gives, Outcome}
 use Rattle.expr_lanes.specs.declared.numbers.Side.{Side}
 use Rattle.expr_lanes.specs.declared.numbers.Side.TheVariants.{Number, Lane}
 use Rattle.expr_lanes.specs.declared.parts.Sides.{Sides}
@@ -35,6 +33,6 @@ is_unary e = false
 
 -- the other sign is a difference from 0, and the other truth value an equality with 0
 abbrev pub with_zero : NumTree → NumTree
-with_zero (Neg a) = Bin op.Sub (Lit (pos 0)) a
-with_zero (Not a) = Bin op.Eq a (Lit (pos 0))
+with_zero (Neg a) = Bin BinOp.Sub (Lit (pos 0)) a
+with_zero (Not a) = Bin BinOp.Eq a (Lit (pos 0))
 with_zero e = e

@@ -1,8 +1,7 @@
 -- What an expression's evaluation over a block comes to.
 use Rattle.std.specs.Prelude.{◌≡◌, ℕ, ℤ, List, false}
-use Rattle.rdf_values.specs.declared.value.ColType.{ColType}
-use Rattle.rdf_values.specs.declared.value.Value.{Value}
-use Rattle.rdf_model.specs.Evaluation.{Outcome, Gives}
+use Rattle.rdf_values.specs.{ColType, Value}
+use Rattle.rdf_model.specs.{Gives, Outcome}
 use Rattle.expr_lanes.specs.declared.stopped.Stopped.{Stopped}
 use Rattle.expr_lanes.specs.Marks.{lane_outcome, lane_value}
 use Rattle.expr_lanes.specs.Places.{at_place, given_in, is_in, stops_in, EachPlace, IsJoined}

@@ -1,10 +1,8 @@
 // Expressions that can be evaluated over a block.
 ghost use Rattle.std.specs.Prelude.{◌≡◌, true, false, All};
-ghost use Rattle.rdf_values.specs.EachColumn.{EachColumn, EachArgument};
-ghost use Rattle.rdf_values.specs.NumExprTree.{num_tree, num_trees};
-ghost use Rattle.rdf_values.specs.Tree.{Call as CallTree};
-ghost use Rattle.expr_check.specs.NumKinds.{is_vector, takes_no_vector};
-ghost use Rattle.expr_lanes.specs.Folds.{CanLane, CanLaneAll};
+ghost use Rattle.rdf_values.specs.{Call as CallTree, EachArgument, EachColumn, num_tree, num_trees};
+ghost use Rattle.expr_check.specs.{is_vector, takes_no_vector};
+ghost use Rattle.expr_lanes.specs.{CanLane, CanLaneAll};
 
 use crate::folds::fold_call;
 use crate::lane_inputs::LaneInputs;

@@ -1,6 +1,6 @@
 // The values of a column.
 ghost use Rattle.std.specs.Prelude.{◌≡◌, ◌<◌, true, false, length};
-ghost use Rattle.rdf_model.specs.Evaluation.{Gives};
+ghost use Rattle.rdf_model.specs.{Gives};
 ghost use Rattle.expr_lanes.specs.Marks.{lane_outcome};
 ghost use Rattle.expr_lanes.specs.Places.{at_place, is_given, is_marked, IsReady, Evaluated};
 

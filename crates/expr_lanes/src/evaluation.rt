@@ -1,5 +1,5 @@
 // Expressions with what they are evaluated with.
-ghost use Rattle.entry_fns.specs.Lists.{functions_in};
+ghost use Rattle.entry_fns.specs.{functions_in};
 
 use crate::lane_inputs::{LaneColumn, LaneInputs, LaneVectors};
 use entry_fns::FnList;

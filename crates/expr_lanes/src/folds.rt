@@ -1,12 +1,10 @@
 // Built-in functions of a vector that give a number.
 ghost use Rattle.std.specs.Prelude.{◌≡◌, ◌+◌, ◌<◌, ◌≤◌, ℕ, true, List, [], ◌∷◌, length};
 ghost use Rattle.std.specs.Int.{int_max, int_min};
-ghost use Rattle.rdf_values.specs.NumExprTree.{num_tree, num_trees};
-ghost use Rattle.rdf_values.specs.Tree.{End};
+ghost use Rattle.rdf_values.specs.{End, num_tree, num_trees};
 ghost use Rattle.rdf_values.specs.declared.value.Value.TheVariants as val;
-ghost use Rattle.rdf_model.specs.Evaluation.{extreme_element};
-ghost use Rattle.expr_eval.specs.Answers.{number_value, sum_of};
-ghost use Rattle.expr_eval.specs.Inputs.{input_outcome};
+ghost use Rattle.rdf_model.specs.{extreme_element};
+ghost use Rattle.expr_eval.specs.{input_outcome, number_value, sum_of};
 ghost use Rattle.expr_lanes.specs.Folds.{column_of, fold_named, fold_outcome, fold_read, fold_told, only_column};
 ghost use Rattle.expr_lanes.specs.LaneInputs.{IsVectorAt};
 ghost use Rattle.expr_lanes.specs.Marks.{lane_outcome};

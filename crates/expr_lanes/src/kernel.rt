@@ -1,6 +1,6 @@
 // One operation over the places of a selection.
 ghost use Rattle.std.specs.Prelude.{◌≡◌, ◌+◌, ◌<◌, ◌≤◌, ℕ, ℤ, true, false, length, take};
-ghost use Rattle.rdf_model.specs.Evaluation.{Outcome, Gives};
+ghost use Rattle.rdf_model.specs.{Gives, Outcome};
 ghost use Rattle.expr_lanes.specs.Places.{answered_at, at_place, is_in, EachPlace, Evaluated};
 
 use crate::MAX_PLACES;

@@ -1,8 +1,8 @@
 // What an evaluation over a block reads its columns from.
 ghost use Rattle.std.specs.Prelude.{◌≡◌, ◌<◌, ◌≤◌, ◌+◌, ℕ, true, false, length, IfSome};
-ghost use Rattle.rdf_model.specs.Evaluation.{Outcome, Gives};
-ghost use Rattle.rdf_values.specs.declared.value.Value.{Value};
-ghost use Rattle.expr_eval.specs.Inputs.{input_outcome};
+ghost use Rattle.rdf_model.specs.{Gives, Outcome};
+ghost use Rattle.rdf_values.specs.{Value};
+ghost use Rattle.expr_eval.specs.{input_outcome};
 ghost use Rattle.expr_lanes.specs.LaneInputs.{is_known, HasMarks, IsVectorAt};
 ghost use Rattle.expr_lanes.specs.Marks.{lane_outcome};
 ghost use Rattle.expr_lanes.specs.Places.{at_place, is_given, answered_at};

@@ -1,14 +1,10 @@
 // Evaluation of an expression over a block.
 ghost use Rattle.std.specs.Prelude.{◌≡◌, ◌+◌, ◌<◌, ◌≤◌, ℕ, false, length, All};
-ghost use Rattle.rdf_values.specs.Functions.{fn_names};
-ghost use Rattle.rdf_model.specs.Evaluation.{Gives, evaluate, call_outcome};
-ghost use Rattle.rdf_model.specs.Laws.{FitsOutcome};
-ghost use Rattle.entry_fns.specs.Lists.{functions_in};
-ghost use Rattle.expr_check.specs.NumKinds.{is_vector, CallsFit};
-ghost use Rattle.expr_lanes.specs.Depths.{depth};
-ghost use Rattle.expr_lanes.specs.Folds.{CanLane};
-ghost use Rattle.expr_lanes.specs.Places.{IsReady};
-ghost use Rattle.expr_lanes.specs.Values.{HasValues};
+ghost use Rattle.rdf_values.specs.{fn_names};
+ghost use Rattle.rdf_model.specs.{call_outcome, evaluate, FitsOutcome, Gives};
+ghost use Rattle.entry_fns.specs.{functions_in};
+ghost use Rattle.expr_check.specs.{CallsFit, is_vector};
+ghost use Rattle.expr_lanes.specs.{CanLane, depth, HasValues, IsReady};
 
 use crate::MAX_PLACES;
 use crate::evaluation::Evaluation;

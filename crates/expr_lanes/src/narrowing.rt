@@ -1,7 +1,7 @@
 // Selections that are narrowed by a test.
 ghost use Rattle.std.specs.Prelude.{◌≡◌, ◌<◌, ◌≤◌, ℕ, Bool, nat_lt, not, length, take};
 ghost use Rattle.std.specs.List.{filter};
-ghost use Rattle.rdf_model.specs.Evaluation.{is_set};
+ghost use Rattle.rdf_model.specs.{is_set};
 ghost use Rattle.expr_lanes.specs.Places.{at_place, is_marked, EachPlace};
 
 /// A test of places.

@@ -1,16 +1,8 @@
 // Evaluation over the places of a selection.
 ghost use Rattle.std.specs.Prelude.{◌≡◌, ◌+◌, ◌<◌, ◌≤◌, ◌∷◌, true, false, length, take, IfSome};
-ghost use Rattle.rdf_values.specs.NumExprTree.{num_tree, num_trees};
-ghost use Rattle.rdf_values.specs.Kinds.{args_count};
-ghost use Rattle.rdf_values.specs.Tree.{Call as CallTree};
-ghost use Rattle.rdf_model.specs.Evaluation.{Gives};
-ghost use Rattle.expr_lanes.specs.Able.{AreAble, IsAble, IsAbleBranch};
-ghost use Rattle.expr_lanes.specs.Branches.{branch_at, choice_at};
-ghost use Rattle.expr_lanes.specs.Depths.{is_decider};
-ghost use Rattle.expr_lanes.specs.Folds.{CanLane};
-ghost use Rattle.expr_lanes.specs.Marks.{lane_at, lanes_at, numbers_at, one_more};
-ghost use Rattle.expr_lanes.specs.Places.{at_place, EachPlace, Evaluated, HasCome, IsReady, IsSelected};
-ghost use Rattle.expr_lanes.specs.Sides.{IsAtHand, is_unary, side_number, sides_tree, HasNumber};
+ghost use Rattle.rdf_values.specs.{args_count, Call as CallTree, num_tree, num_trees};
+ghost use Rattle.rdf_model.specs.{Gives};
+ghost use Rattle.expr_lanes.specs.{AreAble, at_place, branch_at, CanLane, choice_at, EachPlace, Evaluated, HasCome, HasNumber, is_decider, is_unary, IsAble, IsAbleBranch, IsAtHand, IsReady, IsSelected, lane_at, lanes_at, numbers_at, one_more, side_number, sides_tree};
 
 use crate::MAX_PLACES;
 use crate::arguments::call_lanes;

@@ -1,8 +1,7 @@
 // Operators over the places of a selection.
 ghost use Rattle.std.specs.Prelude.{◌<◌, ◌≤◌, ◌+◌, length};
-ghost use Rattle.rdf_model.specs.Evaluation.{number_operation};
-ghost use Rattle.expr_lanes.specs.Places.{EachPlace, Evaluated};
-ghost use Rattle.expr_lanes.specs.Sides.{side_number, HasNumber};
+ghost use Rattle.rdf_model.specs.{number_operation};
+ghost use Rattle.expr_lanes.specs.{EachPlace, Evaluated, HasNumber, side_number};
 
 use crate::MAX_PLACES;
 use crate::kernel::run;

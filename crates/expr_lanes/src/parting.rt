@@ -1,8 +1,8 @@
 // Selections that part and come together again.
 ghost use Rattle.std.specs.Prelude.{◌≡◌, ◌+◌, ◌-◌, ◌<◌, ◌≤◌, ℕ, ◌||◌, not, if◌then◌else◌, length, take};
 ghost use Rattle.std.specs.List.{filter};
-ghost use Rattle.rdf_model.specs.Evaluation.{is_zero};
-ghost use Rattle.expr_lanes.specs.Places.{at_place, is_in, is_marked, EachPlace};
+ghost use Rattle.rdf_model.specs.{is_zero};
+ghost use Rattle.expr_lanes.specs.{at_place, EachPlace, is_in, is_marked};
 
 use crate::narrowing::{Marked, keep_places};
 use crate::selection::Selection;

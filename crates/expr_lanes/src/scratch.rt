@@ -1,8 +1,7 @@
 // What the parts of an expression are evaluated into.
 ghost use Rattle.std.specs.Prelude.{◌≡◌, ◌<◌, ◌≤◌, ◌+◌, ◌↔◌, IsTrue, IfSome, IfNone};
-ghost use Rattle.rdf_values.specs.Kinds.{args_count};
-ghost use Rattle.rdf_values.specs.NumExprTree.{num_tree, num_trees};
-ghost use Rattle.expr_lanes.specs.Depths.{depth as depth_of, depth_of_all};
+ghost use Rattle.rdf_values.specs.{args_count, num_tree, num_trees};
+ghost use Rattle.expr_lanes.specs.{depth as depth_of, depth_of_all};
 
 use crate::MAX_PLACES;
 use crate::selection::Selection;

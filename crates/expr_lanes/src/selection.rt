@@ -1,7 +1,7 @@
 // Places of a block.
 ghost use Rattle.std.specs.Prelude.{◌≡◌, ◌<◌, ◌≤◌, [], nat_lt, not, length, take, IfSome};
 ghost use Rattle.std.specs.List.{filter, range_with_len};
-ghost use Rattle.rdf_model.specs.Evaluation.{is_set};
+ghost use Rattle.rdf_model.specs.{is_set};
 ghost use Rattle.expr_lanes.specs.Places.{at_place, is_marked, AreRising, EachPlace};
 
 use crate::MAX_PLACES;

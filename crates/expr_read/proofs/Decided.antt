@@ -1,18 +1,10 @@
 -- Each text reads as one thing, or has one refusal.
-use Rattle.std.proofs.Common.{◌≡◌, ◌∙◌, ℕ, List, Ok, inl, inr, sym, subst, length, refl, Err, ap}
-use Rattle.rdf_values.specs.Tree.{NamedTree}
-use Rattle.rdf_values.specs.Tokens.{Token, Placed, Refusal, tokens}
-use Rattle.rdf_values.specs.Grammar.{Reads, ReadsValues, bare}
-use Rattle.rdf_values.specs.declared.vary_values.VaryValues.{VaryValues}
-use Rattle.rdf_values.specs.Scans.{ScanState, Whole, scan, begin_expr, begin_values, IsText, ReadsText, ReadsValuesText, Refuses, at_token, at_scan, at_end, ScanEnd, Partial, Refused}
-use Rattle.expr_read.specs.declared.refusal.ExprRefusal.{ExprRefusal}
-use Rattle.expr_read.specs.declared.refusal.ExprRefusal.TheVariants as no
-use Rattle.expr_read.specs.Views.{IsRefusalOf}
-use Rattle.expr_read.specs.Answers.{RefusesTokensAs, RefusesTextAs}
+use Rattle.std.proofs.Common.{◌≡◌, ◌∙◌, ℕ, List, Ok, inl, inr, sym, subst, length, refl, Err, ap, Result, ◌⊎◌}
+use Rattle.rdf_values.specs.{at_end, at_scan, at_token, bare, begin_expr, begin_values, ExprCause, IsText, NamedTree, Partial, Placed, Reads, ReadsText, ReadsValues, ReadsValuesText, Refusal, Refused, scan, ScanEnd, ScanState, Token, tokens, VaryValues, Whole}
+use Rattle.rdf_values.specs.Scans.{Refuses}
+use Rattle.expr_read.specs.{ExprRefusal, IsRefusalOf, RefusesTextAs, RefusesTokensAs}
 use Rattle.expr_read.proofs.Whole.{whole, whole_values}
 use Rattle.expr_read.proofs.Unique.{unique, unique_values}
-use Rattle.std.specs.Prelude.{Result, ◌⊎◌}
-use Rattle.rdf_values.specs.declared.expr_cause.ExprCause.TheVariants as cause
 
 -- what reads by the grammar is refused by no scan that begins so, and leaves nothing open
 abbrev pub IsWhole : {T : Type 0} → (List Token → T → Type 0) → ScanState → Type 0
@@ -20,13 +12,13 @@ IsWhole {T} reads begin = (ts : List Placed) (x : T) → reads (bare ts) x → s
 
 module _ {T : Type 0} (reads : List Token → T → Type 0) (begin : ScanState) (whole : IsWhole reads begin) where
   pub tokens_refused : (text : List ℕ) (e : ExprRefusal) → IsRefusalOf (tokens text) e → RefusesTextAs reads begin text e
-  tokens_refused text no.Memory h = tt
-  tokens_refused text (no.At why place) h = at_token h
+  tokens_refused text ExprRefusal.Memory h = tt
+  tokens_refused text (ExprRefusal.At why place) h = at_token h
 
   pub text_refused : (text : List ℕ) (ts : List Placed) (e : ExprRefusal) → tokens text ≡ Ok ts → RefusesTokensAs begin ts (length text) e → RefusesTextAs reads begin text e
-  text_refused text ts no.Memory same h = tt
-  text_refused text ts (no.At why place) same (unexpected, inl refused) = rw unexpected (at_scan same refused)
-  text_refused text ts (no.At why place) same (unexpected, inr (open_end, there)) =
+  text_refused text ts ExprRefusal.Memory same h = tt
+  text_refused text ts (ExprRefusal.At why place) same (unexpected, inl refused) = rw unexpected (at_scan same refused)
+  text_refused text ts (ExprRefusal.At why place) same (unexpected, inr (open_end, there)) =
       rw (unexpected, there) (at_end same (λ p h. let never = sym open_end ∙ h in cc never) (λ x r. let never = sym open_end ∙ whole ts x r in cc never))
 
   pub reads_these : (text : List ℕ) (ts : List Placed) (x : T) → tokens text ≡ Ok ts → IsText reads text x → reads (bare ts) x
@@ -38,9 +30,9 @@ module _ {T : Type 0} (reads : List Token → T → Type 0) (begin : ScanState) 
   not_both text x r t (at_end {ts} e none h) = h x (reads_these text ts x e t)
 
   -- a text that reads is refused for want of memory alone
-  pub memory_alone : (text : List ℕ) (x : T) (e : ExprRefusal) → IsText reads text x → RefusesTextAs reads begin text e → e ≡ no.Memory
-  memory_alone text x no.Memory t h = refl
-  memory_alone text x (no.At why place) t h = absurd (not_both text x _ t h)
+  pub memory_alone : (text : List ℕ) (x : T) (e : ExprRefusal) → IsText reads text x → RefusesTextAs reads begin text e → e ≡ ExprRefusal.Memory
+  memory_alone text x ExprRefusal.Memory t h = refl
+  memory_alone text x (ExprRefusal.At why place) t h = absurd (not_both text x _ t h)
 
 pub one_tree : (text : List ℕ) (ts : List Placed) (a b : NamedTree) → tokens text ≡ Ok ts → Reads 0 (bare ts) a → ReadsText text b → a ≡ b
 one_tree text ts a b same r q = unique (bare ts) a b r (reads_these (Reads 0) begin_expr whole text ts b same q)
@@ -67,7 +59,7 @@ module _ {T : Type 0} (reads : List Token → T → Type 0) (begin : ScanState) 
   one_refusal text r s (at_scan {ts} {p} e g) (at_scan {ts = us} {p = q} f h) =
       let same : Refused p ≡ Refused q = sym g ∙ ap (scan begin) (same_tokens text ts us e f) ∙ h in
       let there : p ≡ q = cc same in
-      ap (λ (n : ℕ). record { cause = cause.Unexpected; place = n }) there
+      ap (λ (n : ℕ). record { cause = ExprCause.Unexpected; place = n }) there
   one_refusal text r s (at_scan {ts} {p} e g) (at_end {ts = us} f none h) = absurd (none p (ap (scan begin) (sym (same_tokens text ts us e f)) ∙ g))
   one_refusal text r s (at_end {ts = us} f none h) (at_scan {ts} {p} e g) = absurd (none p (ap (scan begin) (sym (same_tokens text ts us e f)) ∙ g))
   one_refusal text r s (at_end e g h) (at_end f k l) = refl
@@ -77,9 +69,9 @@ module _ {T : Type 0} (reads : List Token → T → Type 0) (begin : ScanState) 
 
   by_end : Completes reads begin → (text : List ℕ) (ts : List Placed) (end : ScanEnd) → tokens text ≡ Ok ts → scan begin ts ≡ end → Answered text
   by_end completes text ts Whole e h = let x = completes ts h in inl (x.0, record { found = ts; tokens_are = e; reads_as = x.1 })
-  by_end completes text ts (Refused p) e h = inr (record { cause = cause.Unexpected; place = p }, at_scan e h)
+  by_end completes text ts (Refused p) e h = inr (record { cause = ExprCause.Unexpected; place = p }, at_scan e h)
   by_end completes text ts Partial e h =
-      inr (record { cause = cause.Unexpected; place = length text }, at_end e (λ p k. let never = sym h ∙ k in cc never) (λ x r. let never = sym h ∙ whole ts x r in cc never))
+      inr (record { cause = ExprCause.Unexpected; place = length text }, at_end e (λ p k. let never = sym h ∙ k in cc never) (λ x r. let never = sym h ∙ whole ts x r in cc never))
 
   by_tokens : Completes reads begin → (text : List ℕ) (found : Result (List Placed) Refusal) → tokens text ≡ found → Answered text
   by_tokens completes text (Ok ts) e = by_end completes text ts (scan begin ts) e refl

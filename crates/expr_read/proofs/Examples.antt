@@ -1,23 +1,15 @@
 -- Some texts, worked out by hand.
-use Rattle.std.proofs.Common.{◌≡◌, ℕ, pos, List, [], ◌∷◌, ◌++◌, arith, refl, ap}
-use Rattle.std.specs.Prelude.{codes}
+use Rattle.std.proofs.Common.{◌≡◌, ℕ, pos, List, [], ◌∷◌, ◌++◌, arith, refl, ap, codes}
 use Rattle.std.proofs.lemmas.Fmt.{decimal_digit}
-use Rattle.rdf_values.specs.Integers.{magnitude_of}
-use Rattle.rdf_values.specs.Tree.{NamedTree, Lit, Col, Neg, Bin}
-use Rattle.rdf_values.specs.Tokens.{Token, Word, Number, Op, Punct, Placed, Refusal, tokens_at, first_token, word_first, number_first, long_mark, short_mark}
-use Rattle.rdf_values.specs.Grammar.{Reads, number, name, parenthesized, minus_sign, binary, tighter, bare}
-use Rattle.rdf_values.specs.Scans.{Whole, Partial, ReadsText, RefusesText, at_token, at_end}
-use Rattle.rdf_values.specs.Canonical.{text_of}
-use Rattle.rdf_values.specs.declared.expr.BinOp.TheVariants as op
-use Rattle.rdf_values.specs.declared.expr.Mark.TheVariants as mark
-use Rattle.rdf_values.specs.declared.expr_cause.ExprCause.TheVariants as cause
+use Rattle.rdf_values.specs.{at_end, at_token, bare, Bin, binary, BinOp, Col, ExprCause, first_token, Lit, long_mark, magnitude_of, Mark, minus_sign, name, NamedTree, Neg, number, number_first, Op, parenthesized, Partial, Placed, Punct, Reads, ReadsText, Refusal, RefusesText, short_mark, text_of, tighter, Token, tokens_at, Whole, word_first}
+use Rattle.rdf_values.specs.Tokens.{Word, Number}
 use Rattle.expr_read.proofs.Whole.{whole}
 
 abbrev at : ℕ → Token → Placed
 at place t = record { token = t; place = place }
 
 abbrev refusal : ℕ → Refusal
-refusal place = record { cause = cause.Unexpected; place = place }
+refusal place = record { cause = ExprCause.Unexpected; place = place }
 
 abbrev a : List ℕ
 a = codes "a"
@@ -29,15 +21,15 @@ abbrev c : List ℕ
 c = codes "c"
 
 abbrev tree : NamedTree
-tree = Bin op.Sub (Bin op.Mul (Bin op.Add (Col a) (Col b)) (Col c)) (Neg (Lit (pos 1)))
+tree = Bin BinOp.Sub (Bin BinOp.Mul (Bin BinOp.Add (Col a) (Col b)) (Col c)) (Neg (Lit (pos 1)))
 
 abbrev found : List Placed
-found = at 0 (Punct mark.Open) ∷ at 1 (Word a) ∷ at 2 (Op op.Add) ∷ at 3 (Word b) ∷ at 4 (Punct mark.Close) ∷ at 5 (Op op.Mul) ∷ at 6 (Word c) ∷ at 8 (Op op.Sub) ∷ at 10 (Op op.Sub) ∷ at 11 (Number (pos 1)) ∷ []
+found = at 0 (Punct Mark.Open) ∷ at 1 (Word a) ∷ at 2 (Op BinOp.Add) ∷ at 3 (Word b) ∷ at 4 (Punct Mark.Close) ∷ at 5 (Op BinOp.Mul) ∷ at 6 (Word c) ∷ at 8 (Op BinOp.Sub) ∷ at 10 (Op BinOp.Sub) ∷ at 11 (Number (pos 1)) ∷ []
 
-sum : Reads 5 (Word a ∷ Op op.Add ∷ Word b ∷ []) (Bin op.Add (Col a) (Col b))
+sum : Reads 5 (Word a ∷ Op BinOp.Add ∷ Word b ∷ []) (Bin BinOp.Add (Col a) (Col b))
 sum = binary (tighter (tighter (tighter (tighter name)))) (tighter (tighter (tighter name))) refl refl
 
-product : Reads 6 (Punct mark.Open ∷ Word a ∷ Op op.Add ∷ Word b ∷ Punct mark.Close ∷ Op op.Mul ∷ Word c ∷ []) (Bin op.Mul (Bin op.Add (Col a) (Col b)) (Col c))
+product : Reads 6 (Punct Mark.Open ∷ Word a ∷ Op BinOp.Add ∷ Word b ∷ Punct Mark.Close ∷ Op BinOp.Mul ∷ Word c ∷ []) (Bin BinOp.Mul (Bin BinOp.Add (Col a) (Col b)) (Col c))
 product = binary (tighter (tighter (tighter (parenthesized (tighter (tighter (tighter (tighter (tighter sum))))) refl)))) (tighter (tighter name)) refl refl
 
 difference : Reads 5 (bare found) tree
@@ -52,12 +44,12 @@ canonical : text_of tree ≡ codes "(a + b) * c - -1"
 canonical = ap (λ (digits : List ℕ). codes "(a + b) * c - -" ++ digits) (decimal_digit 1 (omega arith))
 
 -- `a & b` has no token at 2
-lone_mark : RefusesText (codes "a & b") (record { cause = cause.BadByte; place = 2 })
+lone_mark : RefusesText (codes "a & b") (record { cause = ExprCause.BadByte; place = 2 })
 unfolding tokens_at first_token word_first long_mark short_mark
 lone_mark = at_token refl
 
 -- `07` is no number
-leading_zero : RefusesText (codes "07") (record { cause = cause.BadNumber; place = 0 })
+leading_zero : RefusesText (codes "07") (record { cause = ExprCause.BadNumber; place = 0 })
 unfolding tokens_at first_token number_first magnitude_of
 leading_zero = at_token refl
 
@@ -65,5 +57,5 @@ leading_zero = at_token refl
 wants_operand : RefusesText (codes "a +") (refusal 3)
 unfolding tokens_at first_token word_first long_mark short_mark
 wants_operand =
-    let ts : List Placed = at 0 (Word a) ∷ at 2 (Op op.Add) ∷ [] in
+    let ts : List Placed = at 0 (Word a) ∷ at 2 (Op BinOp.Add) ∷ [] in
     at_end {ts = ts} refl (λ p h. cc h) (λ x r. let never : Partial ≡ Whole = whole ts x r in cc never)

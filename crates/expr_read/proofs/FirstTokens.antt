@@ -1,17 +1,15 @@
 -- The first token of a text: how many bytes it takes, and what holds of it.
-use Rattle.std.proofs.Common.{◌≡◌, ◌≤◌, ◌<◌, ◌+◌, ℕ, Bool, true, false, List, [], ◌∷◌, length, Option, Some, None, Ok, Err, arith, refl, sym, ap, subst, ◌∙◌, length-take, length-drop, ◌-◌, get_or, drop, take}
+use Rattle.std.proofs.Common.{◌≡◌, ◌≤◌, ◌<◌, ◌+◌, ℕ, Bool, true, false, List, [], ◌∷◌, length, Option, Some, None, Ok, Err, arith, refl, sym, ap, subst, ◌∙◌, length-take, length-drop, ◌-◌, get_or, drop, take, take_while, nat_le, codes, ◌||◌, MatchResult, IfSome, if◌then◌else◌}
 use Rattle.std.proofs.lemmas.List.{drop_more}
 use Rattle.std.proofs.lemmas.List.Sums.{take_while-cons}
 use Rattle.std.proofs.lemmas.Grind.{common_steps}
-use Rattle.std.specs.Prelude.{take_while, nat_le, codes, ◌||◌, MatchResult, IfSome, if◌then◌else◌}
 use Rattle.std.specs.List.{prefix_len, list_all}
 use Rattle.std.proofs.lemmas.Bool.Decides.{nat_tests}
-use Rattle.lemmas.proofs.Booleans.{both_true}
-use Rattle.rdf_values.specs.Integers.{magnitude_of}
-use Rattle.rdf_values.specs.Names.{same, is_word, is_name, is_word_start, is_word_byte, is_digit}
-use Rattle.rdf_values.specs.Tokens.{Token, First, Refusal, word_token, word_first, number_first, number_found, short_first, short_mark, short_marks, long_first, long_mark, long_marks, mark_first, mark_in, first_token}
+use Rattle.lemmas.proofs.{both_true}
+use Rattle.rdf_values.specs.{First, first_token, is_digit, is_name, is_word, is_word_byte, is_word_start, long_first, long_mark, long_marks, magnitude_of, mark_first, number_first, number_found, Refusal, same, short_first, short_mark, short_marks, Token, word_first, word_token}
+use Rattle.rdf_values.specs.Tokens.{mark_in}
 use Rattle.rdf_values.proofs.OneText.{magnitude_bound}
-use Rattle.expr_read.specs.Valid.{is_valid}
+use Rattle.expr_read.specs.{is_valid}
 
 -- a token has at least one byte, no more than there are, and is valid; a refusal stands within them
 abbrev pub IsFine : ℕ → First → Type 0

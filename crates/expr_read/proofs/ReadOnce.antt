@@ -1,6 +1,5 @@
 -- What the laws of scripts ask of the texts of expressions.
-use Rattle.rdf_values.specs.Grammar.{Reads, ReadsValues}
-use Rattle.rdf_values.specs.Scans.{begin_expr, begin_values}
+use Rattle.rdf_values.specs.{begin_expr, begin_values, Reads, ReadsValues}
 use Rattle.rdf_values.proofs.OneScript.{AreReadOnce}
 use Rattle.expr_read.proofs.Decided.{one_tree, one_value, not_both}
 use Rattle.expr_read.proofs.Whole.{whole, whole_values}

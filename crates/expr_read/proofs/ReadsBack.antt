@@ -1,14 +1,11 @@
 -- The canonical text of an expression that was read from a text reads as this expression.
 use Rattle.std.proofs.Common.{◌≡◌, ℕ, true, List, [], ◌∷◌, ◌++◌, subst, ◌≤◌, ◌+◌, ◌-◌, ◌∙◌, length, Ok, arith, refl, sym, ap}
-use Rattle.lemmas.proofs.Booleans.{both_true}
-use Rattle.rdf_values.specs.Tree.{NamedTree}
-use Rattle.rdf_values.specs.Tokens.{Token, Placed, before, tokens, tokens_within}
-use Rattle.rdf_values.specs.Grammar.{NamedTrees, Reads, ReadsArgs, number, truth, name, parenthesized, call, pick, minus_sign, not_sign, binary, conditional, tighter, no_arguments, last_argument, more_arguments, bare}
-use Rattle.expr_read.specs.Valid.{is_valid, are_valid}
+use Rattle.lemmas.proofs.{both_true}
+use Rattle.rdf_values.specs.{bare, before, binary, conditional, last_argument, minus_sign, more_arguments, name, NamedTree, NamedTrees, no_arguments, not_sign, number, parenthesized, pick, Placed, Reads, ReadsArgs, ReadsText, text_of, tighter, Token, tokens, tokens_of, tokens_within, truth}
+use Rattle.rdf_values.specs.Grammar.{call}
+use Rattle.expr_read.specs.{are_valid, is_valid}
 use Rattle.expr_read.proofs.SpelledTree.{IsReadable, AreReadable, spells_tree}
 use Rattle.std.proofs.lemmas.List.{append-nil, length-map}
-use Rattle.rdf_values.specs.Scans.{ReadsText}
-use Rattle.rdf_values.specs.Canonical.{tokens_of, text_of}
 use Rattle.expr_read.proofs.Shown.{reads_shown, no_fewer, shown_whole}
 use Rattle.expr_read.proofs.TokenSteps.{no_tokens}
 use Rattle.expr_read.proofs.ValidTokens.{valid_tokens, few_tokens}

@@ -1,15 +1,11 @@
 -- The canonical tokens read as the tree, and no tokens that do are fewer.
-use Rattle.std.proofs.Common.{◌≡◌, ◌≤◌, ◌<◌, ◌+◌, ◌-◌, ℕ, zero, suc, zero-add, add-zero, Bool, true, false, List, [], ◌∷◌, length, arith, refl, sym, ap, subst, length-append}
+use Rattle.std.proofs.Common.{◌≡◌, ◌≤◌, ◌<◌, ◌+◌, ◌-◌, ℕ, zero, suc, zero-add, add-zero, Bool, true, false, List, [], ◌∷◌, length, arith, refl, sym, ap, subst, length-append, nat_le}
 use Rattle.std.proofs.lemmas.List.{append-nil}
-use Rattle.std.specs.Prelude.{nat_le}
-use Rattle.lemmas.proofs.Orders.{le_not, le_says, le_true}
-use Rattle.rdf_values.specs.Tree.{NamedTree, Lit, Col, Neg, Not, Bin, Cond, Pick, Call, End, More}
-use Rattle.rdf_values.specs.Tree as e
-use Rattle.rdf_values.specs.Tokens.{Token, Punct}
-use Rattle.rdf_values.specs.Grammar.{NamedTrees, Reads, ReadsArgs, number, truth, name, parenthesized, call, pick, minus_sign, not_sign, binary, conditional, tighter, no_arguments, last_argument, more_arguments, level_of}
+use Rattle.lemmas.proofs.{le_not, le_says, le_true}
+use Rattle.rdf_values.specs.{args_tokens, Bin, binary, Call, Col, Cond, conditional, enclosed, End, last_argument, level_of, Lit, Mark, minus_sign, More, more_arguments, name, NamedTree, NamedTrees, Neg, no_arguments, Not, not_sign, number, parenthesized, Pick, pick, Punct, Reads, ReadsArgs, tighter, Token, tokens_at_level, tokens_of, tree_level, truth}
+use Rattle.rdf_values.specs.Expressions as e
+use Rattle.rdf_values.specs.Grammar.{call}
 use Rattle.expr_read.proofs.Scanned.{level_low}
-use Rattle.rdf_values.specs.Canonical.{tree_level, enclosed, tokens_of, args_tokens, tokens_at_level}
-use Rattle.rdf_values.specs.declared.expr.Mark.TheVariants as mark
 
 -- an expression reads at each looser level
 looser_by : (k n : ℕ) (ts : List Token) (a : NamedTree) → Reads (k + n) ts a → Reads n ts a
@@ -56,7 +52,7 @@ extra false = 2
 
 enclosed_size : (b : Bool) (ts : List Token) → length (enclosed b ts) ≡ length ts + extra b
 enclosed_size true ts = sym (add-zero (length ts))
-enclosed_size false ts = omega (arith, length-append ts (Punct mark.Close ∷ []))
+enclosed_size false ts = omega (arith, length-append ts (Punct Mark.Close ∷ []))
 
 extra_low : (b : Bool) → extra b ≤ 2
 extra_low true = omega arith
@@ -82,7 +78,7 @@ mutual
   fewest number = omega arith
   fewest truth = omega arith
   fewest name = omega arith
-  fewest (parenthesized {ts} {a = a} r e) = rw e (omega (arith, shown_most 9 0 a, fewest r, length-append ts (Punct mark.Close ∷ [])))
+  fewest (parenthesized {ts} {a = a} r e) = rw e (omega (arith, shown_most 9 0 a, fewest r, length-append ts (Punct Mark.Close ∷ [])))
   fewest (call r e) = omega (arith, ap length e, length-append {A = Token}, fewest_args r)
   fewest (pick {a = a} {b = b} r q e) = omega (arith, ap length e, length-append {A = Token}, fewest r, fewest q, own_level 0 b (omega arith))
   fewest (minus_sign {ts} {a} r) = omega (arith, fewest r)

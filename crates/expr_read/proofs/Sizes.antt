@@ -1,7 +1,6 @@
 -- How many bytes a first token takes.
-use Rattle.std.proofs.Common.{◌≤◌, ◌<◌, ◌+◌, ℕ, List, length, Ok, Err}
-use Rattle.std.specs.Prelude.{MatchResult}
-use Rattle.rdf_values.specs.Tokens.{First, first_token}
+use Rattle.std.proofs.Common.{◌≤◌, ◌<◌, ◌+◌, ℕ, List, length, Ok, Err, MatchResult}
+use Rattle.rdf_values.specs.{First, first_token}
 use Rattle.expr_read.proofs.FirstTokens.{IsFine, fine}
 
 -- a token has at least one byte, and no more than there are; a refusal stands within them

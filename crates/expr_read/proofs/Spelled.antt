@@ -1,29 +1,21 @@
 -- Texts that spell tokens.
-use Rattle.std.proofs.Common.{◌≡◌, ◌+◌, ◌∙◌, ℕ, suc, Bool, true, false, List, [], ◌∷◌, ◌++◌, length, drop, Ok, arith, refl, sym, ap, subst, append_assoc, add-zero, zero-add, nat_eq, length-append, ◌≤◌, ◌<◌, ◌^◌, ℤ, pos, negsuc, Some}
-use Rattle.std.specs.Prelude.{not, codes, take_while, nat_le, ◌&&◌, ◌||◌, decimal}
+use Rattle.std.proofs.Common.{◌≡◌, ◌+◌, ◌∙◌, ℕ, suc, Bool, true, false, List, [], ◌∷◌, ◌++◌, length, drop, Ok, arith, refl, sym, ap, subst, append_assoc, add-zero, zero-add, nat_eq, length-append, ◌≤◌, ◌<◌, ◌^◌, ℤ, pos, negsuc, Some, not, codes, take_while, nat_le, ◌&&◌, ◌||◌, decimal}
 use Rattle.std.proofs.lemmas.List.{map-append}
-use Rattle.rdf_values.specs.Names.{is_word_byte, is_word_start, is_digit, is_word, is_name, same}
-use Rattle.rdf_values.specs.Tokens.{Token, Placed, Op, Punct, is_blank, first_token, long_mark, short_mark, before, tokens_within, Word, Truth, word_token, word_first, Number, number_first}
-use Rattle.rdf_values.specs.Grammar.{bare}
-use Rattle.rdf_values.specs.Canonical.{op_text, truth_text}
-use Rattle.rdf_values.specs.declared.expr.BinOp.{BinOp}
-use Rattle.rdf_values.specs.declared.expr.BinOp.TheVariants as op
-use Rattle.rdf_values.specs.declared.expr.Mark.TheVariants as mark
+use Rattle.rdf_values.specs.{bare, before, BinOp, first_token, is_blank, is_digit, is_name, is_word, is_word_byte, is_word_start, long_mark, magnitude_of, Mark, number_first, Op, op_text, Placed, Punct, same, short_mark, Token, tokens_within, truth_text, word_first, word_token}
+use Rattle.rdf_values.specs.Tokens.{Word, Truth, Number}
 use Rattle.expr_read.proofs.TokenSteps.{before_more, before_none, first_blank, first_found}
 use Rattle.std.specs.List.{prefix_len, list_all}
 use Rattle.std.proofs.Math.Seq.{take-append_seam}
 use Rattle.std.proofs.lemmas.Bool.Decides.{nat_tests}
-use Rattle.lemmas.proofs.Booleans.{both_true, not_true, right_false}
-use Rattle.lemmas.proofs.Orders.{eq_says, le_false, le_says}
+use Rattle.lemmas.proofs.{both_true, eq_says, le_false, le_says, not_true, right_false}
 use Rattle.expr_read.proofs.FirstTokens.{first_word, first_number}
 use Rattle.std.specs.Fmt.{signed_decimal}
 use Rattle.std.specs.Str.{all_ascii_digits}
 use Rattle.std.specs.Str.Parse.{digits_value}
 use Rattle.std.proofs.lemmas.Str.Parse.{IsNumeralModel, numerals_by_value, tells_all_ascii_digits}
 use Rattle.std.proofs.lemmas.Fmt.{decimal_nonempty, digits_decimal}
-use Rattle.rdf_values.specs.Integers.{magnitude_of}
 use Rattle.rdf_values.proofs.OneText.{magnitude_decimal}
-use Rattle.expr_read.specs.Valid.{is_number}
+use Rattle.expr_read.specs.{is_number}
 
 -- before the rest, the text spells these tokens
 pub record Spells (text : List ℕ) (ts : List Token) (rest : List ℕ) : Type 0 where
@@ -72,42 +64,42 @@ is_unequal (c ∷ cs) = not (nat_eq c 61)
 
 -- ---- the texts of operators and marks
 
-pub minus : (rest : List ℕ) → Spells (45 ∷ []) (Op op.Sub ∷ []) rest
+pub minus : (rest : List ℕ) → Spells (45 ∷ []) (Op BinOp.Sub ∷ []) rest
 unfolding first_token long_mark short_mark
-minus [] = token 45 [] (Op op.Sub) [] refl refl
-minus (d ∷ rest) = token 45 [] (Op op.Sub) (d ∷ rest) refl refl
+minus [] = token 45 [] (Op BinOp.Sub) [] refl refl
+minus (d ∷ rest) = token 45 [] (Op BinOp.Sub) (d ∷ rest) refl refl
 
-pub open_paren : (rest : List ℕ) → Spells (40 ∷ []) (Punct mark.Open ∷ []) rest
+pub open_paren : (rest : List ℕ) → Spells (40 ∷ []) (Punct Mark.Open ∷ []) rest
 unfolding first_token long_mark short_mark
-open_paren [] = token 40 [] (Punct mark.Open) [] refl refl
-open_paren (d ∷ rest) = token 40 [] (Punct mark.Open) (d ∷ rest) refl refl
+open_paren [] = token 40 [] (Punct Mark.Open) [] refl refl
+open_paren (d ∷ rest) = token 40 [] (Punct Mark.Open) (d ∷ rest) refl refl
 
-pub close_paren : (rest : List ℕ) → Spells (41 ∷ []) (Punct mark.Close ∷ []) rest
+pub close_paren : (rest : List ℕ) → Spells (41 ∷ []) (Punct Mark.Close ∷ []) rest
 unfolding first_token long_mark short_mark
-close_paren [] = token 41 [] (Punct mark.Close) [] refl refl
-close_paren (d ∷ rest) = token 41 [] (Punct mark.Close) (d ∷ rest) refl refl
+close_paren [] = token 41 [] (Punct Mark.Close) [] refl refl
+close_paren (d ∷ rest) = token 41 [] (Punct Mark.Close) (d ∷ rest) refl refl
 
-pub open_bracket : (rest : List ℕ) → Spells (91 ∷ []) (Punct mark.OpenBracket ∷ []) rest
+pub open_bracket : (rest : List ℕ) → Spells (91 ∷ []) (Punct Mark.OpenBracket ∷ []) rest
 unfolding first_token long_mark short_mark
-open_bracket [] = token 91 [] (Punct mark.OpenBracket) [] refl refl
-open_bracket (d ∷ rest) = token 91 [] (Punct mark.OpenBracket) (d ∷ rest) refl refl
+open_bracket [] = token 91 [] (Punct Mark.OpenBracket) [] refl refl
+open_bracket (d ∷ rest) = token 91 [] (Punct Mark.OpenBracket) (d ∷ rest) refl refl
 
-pub close_bracket : (rest : List ℕ) → Spells (93 ∷ []) (Punct mark.CloseBracket ∷ []) rest
+pub close_bracket : (rest : List ℕ) → Spells (93 ∷ []) (Punct Mark.CloseBracket ∷ []) rest
 unfolding first_token long_mark short_mark
-close_bracket [] = token 93 [] (Punct mark.CloseBracket) [] refl refl
-close_bracket (d ∷ rest) = token 93 [] (Punct mark.CloseBracket) (d ∷ rest) refl refl
+close_bracket [] = token 93 [] (Punct Mark.CloseBracket) [] refl refl
+close_bracket (d ∷ rest) = token 93 [] (Punct Mark.CloseBracket) (d ∷ rest) refl refl
 
-pub comma : (rest : List ℕ) → Spells (codes ", ") (Punct mark.Comma ∷ []) rest
+pub comma : (rest : List ℕ) → Spells (codes ", ") (Punct Mark.Comma ∷ []) rest
 unfolding first_token long_mark short_mark
-comma rest = joined (token 44 [] (Punct mark.Comma) (32 ∷ rest) refl refl) (blank rest)
+comma rest = joined (token 44 [] (Punct Mark.Comma) (32 ∷ rest) refl refl) (blank rest)
 
-pub question : (rest : List ℕ) → Spells (codes " ? ") (Punct mark.Question ∷ []) rest
+pub question : (rest : List ℕ) → Spells (codes " ? ") (Punct Mark.Question ∷ []) rest
 unfolding first_token long_mark short_mark
-question rest = joined (blank (63 ∷ 32 ∷ rest)) (joined (token 63 [] (Punct mark.Question) (32 ∷ rest) refl refl) (blank rest))
+question rest = joined (blank (63 ∷ 32 ∷ rest)) (joined (token 63 [] (Punct Mark.Question) (32 ∷ rest) refl refl) (blank rest))
 
-pub colon : (rest : List ℕ) → Spells (codes " : ") (Punct mark.Colon ∷ []) rest
+pub colon : (rest : List ℕ) → Spells (codes " : ") (Punct Mark.Colon ∷ []) rest
 unfolding first_token long_mark short_mark
-colon rest = joined (blank (58 ∷ 32 ∷ rest)) (joined (token 58 [] (Punct mark.Colon) (32 ∷ rest) refl refl) (blank rest))
+colon rest = joined (blank (58 ∷ 32 ∷ rest)) (joined (token 58 [] (Punct Mark.Colon) (32 ∷ rest) refl refl) (blank rest))
 
 short : (c : ℕ) (o : BinOp) (rest : List ℕ) → is_blank c ≡ false → first_token c (32 ∷ rest) ≡ Ok (Op o, 1) → Spells (32 ∷ c ∷ 32 ∷ []) (Op o ∷ []) rest
 short c o rest b e = joined (blank (c ∷ 32 ∷ rest)) (joined (token c [] (Op o) (32 ∷ rest) b e) (blank rest))
@@ -117,19 +109,19 @@ long c d o rest b e = joined (blank (c ∷ d ∷ 32 ∷ rest)) (joined (token c 
 
 pub operator : (o : BinOp) (rest : List ℕ) → Spells (op_text o) (Op o ∷ []) rest
 unfolding first_token long_mark short_mark
-operator op.Mul rest = short 42 op.Mul rest refl refl
-operator op.Div rest = short 47 op.Div rest refl refl
-operator op.Rem rest = short 37 op.Rem rest refl refl
-operator op.Add rest = short 43 op.Add rest refl refl
-operator op.Sub rest = short 45 op.Sub rest refl refl
-operator op.Lt rest = short 60 op.Lt rest refl refl
-operator op.Le rest = long 60 61 op.Le rest refl refl
-operator op.Gt rest = short 62 op.Gt rest refl refl
-operator op.Ge rest = long 62 61 op.Ge rest refl refl
-operator op.Eq rest = long 61 61 op.Eq rest refl refl
-operator op.Ne rest = long 33 61 op.Ne rest refl refl
-operator op.And rest = long 38 38 op.And rest refl refl
-operator op.Or rest = long 124 124 op.Or rest refl refl
+operator BinOp.Mul rest = short 42 BinOp.Mul rest refl refl
+operator BinOp.Div rest = short 47 BinOp.Div rest refl refl
+operator BinOp.Rem rest = short 37 BinOp.Rem rest refl refl
+operator BinOp.Add rest = short 43 BinOp.Add rest refl refl
+operator BinOp.Sub rest = short 45 BinOp.Sub rest refl refl
+operator BinOp.Lt rest = short 60 BinOp.Lt rest refl refl
+operator BinOp.Le rest = long 60 61 BinOp.Le rest refl refl
+operator BinOp.Gt rest = short 62 BinOp.Gt rest refl refl
+operator BinOp.Ge rest = long 62 61 BinOp.Ge rest refl refl
+operator BinOp.Eq rest = long 61 61 BinOp.Eq rest refl refl
+operator BinOp.Ne rest = long 33 61 BinOp.Ne rest refl refl
+operator BinOp.And rest = long 38 38 BinOp.And rest refl refl
+operator BinOp.Or rest = long 124 124 BinOp.Or rest refl refl
 
 -- ---- words
 
@@ -174,10 +166,10 @@ pub truth : (b : Bool) (rest : List ℕ) → is_apart rest ≡ true → Spells (
 truth true rest h = word 116 (codes "rue") rest refl refl (omega arith) h
 truth false rest h = word 102 (codes "alse") rest refl refl (omega arith) h
 
-pub bang : (rest : List ℕ) → is_unequal rest ≡ true → Spells (codes "!") (Punct mark.Bang ∷ []) rest
+pub bang : (rest : List ℕ) → is_unequal rest ≡ true → Spells (codes "!") (Punct Mark.Bang ∷ []) rest
 unfolding first_token long_mark short_mark
-bang [] h = token 33 [] (Punct mark.Bang) [] refl refl
-bang (d ∷ rest) h = let other : nat_eq d 61 ≡ false = not_true (nat_eq d 61) h in token 33 [] (Punct mark.Bang) (d ∷ rest) refl (rw other refl)
+bang [] h = token 33 [] (Punct Mark.Bang) [] refl refl
+bang (d ∷ rest) h = let other : nat_eq d 61 ≡ false = not_true (nat_eq d 61) h in token 33 [] (Punct Mark.Bang) (d ∷ rest) refl (rw other refl)
 
 name_by : (a b c d : Bool) → (a && b && c && d) ≡ true → (a ≡ true) × (b ≡ true) × (c ≡ true) × (d ≡ true)
 name_by true true true true h = (refl, refl, refl, refl)

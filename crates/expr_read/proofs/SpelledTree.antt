@@ -1,16 +1,8 @@
 -- The canonical text of an expression spells its canonical tokens.
-use Rattle.std.proofs.Common.{◌≡◌, ◌+◌, ℕ, suc, Bool, true, false, List, [], ◌∷◌, ◌++◌, refl, ap, subst, append_assoc, add-one}
-use Rattle.std.specs.Prelude.{nat_le}
-use Rattle.rdf_values.specs.Names.{is_name}
-use Rattle.rdf_values.specs.Tree.{NamedTree, Lit, Col, Neg, Not, Bin, Cond, Pick, Call, End, More}
-use Rattle.rdf_values.specs.Tree as e
-use Rattle.rdf_values.specs.Tokens.{Token, Punct}
-use Rattle.rdf_values.specs.Grammar.{NamedTrees, level_of}
-use Rattle.rdf_values.specs.Canonical.{tree_level, enclosed, tokens_of, args_tokens, more_tokens, in_parens, op_text, text_of, args_text, more_text}
-use Rattle.rdf_values.specs.declared.expr.BinOp.{BinOp}
-use Rattle.rdf_values.specs.declared.expr.BinOp.TheVariants as op
-use Rattle.rdf_values.specs.declared.expr.Mark.TheVariants as mark
-use Rattle.expr_read.specs.Valid.{is_number}
+use Rattle.std.proofs.Common.{◌≡◌, ◌+◌, ℕ, suc, Bool, true, false, List, [], ◌∷◌, ◌++◌, refl, ap, subst, append_assoc, add-one, nat_le}
+use Rattle.rdf_values.specs.{args_text, args_tokens, Bin, BinOp, Call, Col, Cond, enclosed, End, in_parens, is_name, level_of, Lit, Mark, More, more_text, more_tokens, NamedTree, NamedTrees, Neg, Not, op_text, Pick, Punct, text_of, Token, tokens_of, tree_level}
+use Rattle.rdf_values.specs.Expressions as e
+use Rattle.expr_read.specs.{is_number}
 use Rattle.expr_read.proofs.Spelled.{Spells, joined, nothing, spells_as, is_apart, is_unequal, minus, open_paren, close_paren, open_bracket, close_bracket, comma, question, colon, operator, name, name_head, truth, bang, number, number_head}
 
 abbrev mutual
@@ -32,7 +24,7 @@ abbrev mutual
 
 enclosed_spells : (b : Bool) (text : List ℕ) (ts : List Token) (rest : List ℕ) → is_apart rest ≡ true → ((rest : List ℕ) → is_apart rest ≡ true → Spells text ts rest) → Spells (in_parens b text) (enclosed b ts) rest
 enclosed_spells true text ts rest h k = k rest h
-enclosed_spells false text ts rest h k = subst (λ (x : List ℕ). Spells x (Punct mark.Open ∷ (ts ++ Punct mark.Close ∷ [])) rest) refl (joined (open_paren ((text ++ 41 ∷ []) ++ rest)) (joined (k (41 ∷ rest) refl) (close_paren rest)))
+enclosed_spells false text ts rest h k = subst (λ (x : List ℕ). Spells x (Punct Mark.Open ∷ (ts ++ Punct Mark.Close ∷ [])) rest) refl (joined (open_paren ((text ++ 41 ∷ []) ++ rest)) (joined (k (41 ∷ rest) refl) (close_paren rest)))
 
 head_enclosed : (b : Bool) (text : List ℕ) → ((rest : List ℕ) → is_unequal (text ++ rest) ≡ true) → (rest : List ℕ) → is_unequal (in_parens b text ++ rest) ≡ true
 head_enclosed true text h rest = h rest
@@ -51,7 +43,7 @@ head_tree (Pick v i) r rest = simp append_assoc (head_enclosed (nat_le 8 (tree_l
 head_tree (Call f args) r rest = simp append_assoc (name_head f _ r.0)
 
 apart_op : (o : BinOp) (rest : List ℕ) → is_apart (op_text o ++ rest) ≡ true
-apart_op op.Mul rest = refl
+apart_op BinOp.Mul rest = refl
 apart_op o rest = refl
 
 apart_more : (args : NamedTrees) (rest : List ℕ) → is_apart rest ≡ true → is_apart (more_text args ++ rest) ≡ true

@@ -1,9 +1,9 @@
 -- One more token of a text.
-use Rattle.std.proofs.Common.{◌≡◌, ◌≤◌, ◌<◌, ◌+◌, ◌-◌, ◌∙◌, ℕ, suc, true, false, List, [], ◌∷◌, ◌++◌, length, get_or, drop, Ok, Err, arith, refl, ap, sym, add-zero, append_assoc, length-append}
-use Rattle.std.specs.Prelude.{Result}
+use Rattle.std.proofs.Common.{◌≡◌, ◌≤◌, ◌<◌, ◌+◌, ◌-◌, ◌∙◌, ℕ, suc, true, false, List, [], ◌∷◌, ◌++◌, length, get_or, drop, Ok, Err, arith, refl, ap, sym, add-zero, append_assoc, length-append, Result}
 use Rattle.std.specs.List.{prefix_len}
 use Rattle.std.proofs.lemmas.List.{drop_more, drop_all, drop-drop, append-nil}
-use Rattle.rdf_values.specs.Tokens.{Token, Placed, Refusal, First, is_blank, from, too_many, before, and_then, first_token, tokens_at, tokens_within}
+use Rattle.rdf_values.specs.{and_then, before, First, first_token, from, is_blank, Placed, Refusal, Token, tokens_at, tokens_within}
+use Rattle.rdf_values.specs.Tokens.{too_many}
 
 pub before_more : (ts us : List Placed) (r : Result (List Placed) Refusal) → before ts (before us r) ≡ before (ts ++ us) r
 before_more ts us (Ok vs) = ap Ok (sym (append_assoc ts us vs))

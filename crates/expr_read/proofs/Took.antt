@@ -1,14 +1,10 @@
 -- What was read, from what its parts read.
 use Rattle.std.proofs.Common.{◌≡◌, ◌<◌, ◌+◌, ◌∙◌, ℕ, suc, ℤ, Bool, List, [], ◌∷◌, ◌++◌, length, arith, refl, sym, ap, subst, append_assoc, add-one, None}
-use Rattle.rdf_values.specs.Tree.{NamedTree, End, More}
-use Rattle.rdf_values.specs.Tree as e
-use Rattle.rdf_values.specs.Tokens.{Token, Word, Truth, Number, Op, Punct, Placed}
-use Rattle.rdf_values.specs.Grammar.{NamedTrees, Reads, ReadsArgs, number, truth, name, parenthesized, call, pick, minus_sign, not_sign, binary, conditional, tighter, no_arguments, last_argument, more_arguments, level_of, bare, last_item, more_items, last_list, more_lists, one_list, several_lists, vector}
-use Rattle.rdf_values.specs.Scans.{InParens, InIndex, InChoice, InCall, Operand, FirstArgument, AfterName, Operator, OpenMark, InList, InLists, AfterBrace, AfterList, NextList, Nothing, scan, begin_values, after_list, operand, beginning, after_brace, between_lists, next_list}
-use Rattle.rdf_values.specs.declared.expr.BinOp.{BinOp}
-use Rattle.rdf_values.specs.declared.expr.BinOp.TheVariants as op
-use Rattle.rdf_values.specs.declared.expr.Mark.TheVariants as mark
-use Rattle.expr_read.specs.Parsing.{Begins, BeginsNot, Took, TookArgs, Stops, Listing, TookList, Listings, TookLists, TookValues, in_list, stuck_at, ends_at}
+use Rattle.rdf_values.specs.{after_brace, after_list, AfterBrace, AfterList, AfterName, bare, begin_values, beginning, between_lists, binary, BinOp, conditional, End, FirstArgument, InCall, InChoice, InIndex, InList, InLists, InParens, last_argument, last_item, last_list, level_of, Mark, minus_sign, More, more_arguments, more_items, more_lists, name, NamedTree, NamedTrees, next_list, NextList, no_arguments, not_sign, Nothing, number, one_list, Op, OpenMark, Operand, operand, Operator, parenthesized, pick, Placed, Punct, Reads, ReadsArgs, scan, several_lists, tighter, Token, truth, vector}
+use Rattle.rdf_values.specs.Expressions as e
+use Rattle.rdf_values.specs.Tokens.{Word, Truth, Number}
+use Rattle.rdf_values.specs.Grammar.{call}
+use Rattle.expr_read.specs.{Begins, BeginsNot, ends_at, in_list, Listing, Listings, Stops, stuck_at, Took, TookArgs, TookList, TookLists, TookValues}
 use Rattle.expr_read.proofs.Scanned.{scan_after, name_ends, argument_first, first_is_not, refused_at, same_step, refused_end}
 use Rattle.rdf_values.specs.declared.vary_values.VaryValues.TheVariants.{Lists as ListsOf, Vector as VectorOf}
 
@@ -30,7 +26,7 @@ took_number {z} b = record { tokens = Number z ∷ []; split = bare_after b; rea
 pub took_truth : {v : Bool} {old new : List Placed} → Begins (Truth v) old new → Took 9 (e.Truth v) old new
 took_truth {v} b = record { tokens = Truth v ∷ []; split = bare_after b; reads = truth; scans = λ s. scan_after (Operand, s) (Operator, s) b refl; fewer = fewer_after b }
 
-pub took_name : {x : List ℕ} {old new : List Placed} → Begins (Word x) old new → BeginsNot (Punct mark.Open) new → Took 9 (e.Col x) old new
+pub took_name : {x : List ℕ} {old new : List Placed} → Begins (Word x) old new → BeginsNot (Punct Mark.Open) new → Took 9 (e.Col x) old new
 took_name {x} b isnt = record {
   tokens = Word x ∷ [];
   split = bare_after b;
@@ -39,19 +35,19 @@ took_name {x} b isnt = record {
   fewer = fewer_after b;
 }
 
-pub took_minus_sign : {a : NamedTree} {old mid new : List Placed} → Begins (Op op.Sub) old mid → Took 7 a mid new → Took 7 (e.Neg a) old new
+pub took_minus_sign : {a : NamedTree} {old mid new : List Placed} → Begins (Op BinOp.Sub) old mid → Took 7 a mid new → Took 7 (e.Neg a) old new
 took_minus_sign b k = record {
-  tokens = Op op.Sub ∷ k.tokens;
-  split = bare_after b ∙ ap (λ ts. Op op.Sub ∷ ts) k.split;
+  tokens = Op BinOp.Sub ∷ k.tokens;
+  split = bare_after b ∙ ap (λ ts. Op BinOp.Sub ∷ ts) k.split;
   reads = minus_sign k.reads;
   scans = λ s. scan_after (Operand, s) (Operand, s) b refl ∙ k.scans s;
   fewer = omega (arith, fewer_after b, k.fewer);
 }
 
-pub took_not_sign : {a : NamedTree} {old mid new : List Placed} → Begins (Punct mark.Bang) old mid → Took 7 a mid new → Took 7 (e.Not a) old new
+pub took_not_sign : {a : NamedTree} {old mid new : List Placed} → Begins (Punct Mark.Bang) old mid → Took 7 a mid new → Took 7 (e.Not a) old new
 took_not_sign b k = record {
-  tokens = Punct mark.Bang ∷ k.tokens;
-  split = bare_after b ∙ ap (λ ts. Punct mark.Bang ∷ ts) k.split;
+  tokens = Punct Mark.Bang ∷ k.tokens;
+  split = bare_after b ∙ ap (λ ts. Punct Mark.Bang ∷ ts) k.split;
   reads = not_sign k.reads;
   scans = λ s. scan_after (Operand, s) (Operand, s) b refl ∙ k.scans s;
   fewer = omega (arith, fewer_after b, k.fewer);
@@ -68,54 +64,54 @@ took_binary {o = o} k l b r = record {
 }
 
 pub took_conditional : {t a c : NamedTree} {old m1 m2 m3 m4 new : List Placed}
-    → Took 1 t old m1 → Begins (Punct mark.Question) m1 m2 → Took 0 a m2 m3 → Begins (Punct mark.Colon) m3 m4 → Took 0 c m4 new → Took 0 (e.Cond t a c) old new
+    → Took 1 t old m1 → Begins (Punct Mark.Question) m1 m2 → Took 0 a m2 m3 → Begins (Punct Mark.Colon) m3 m4 → Took 0 c m4 new → Took 0 (e.Cond t a c) old new
 took_conditional k b1 x b2 y = record {
-  tokens = k.tokens ++ (Punct mark.Question ∷ (x.tokens ++ Punct mark.Colon ∷ y.tokens));
-  split = k.split ∙ ap (λ ts. k.tokens ++ ts) (bare_after b1 ∙ ap (λ ts. Punct mark.Question ∷ ts) (x.split ∙ ap (λ ts. x.tokens ++ ts) (bare_after b2 ∙ ap (λ ts. Punct mark.Colon ∷ ts) y.split))) ∙ simp append_assoc;
+  tokens = k.tokens ++ (Punct Mark.Question ∷ (x.tokens ++ Punct Mark.Colon ∷ y.tokens));
+  split = k.split ∙ ap (λ ts. k.tokens ++ ts) (bare_after b1 ∙ ap (λ ts. Punct Mark.Question ∷ ts) (x.split ∙ ap (λ ts. x.tokens ++ ts) (bare_after b2 ∙ ap (λ ts. Punct Mark.Colon ∷ ts) y.split))) ∙ simp append_assoc;
   reads = conditional k.reads x.reads y.reads refl;
   scans = λ s. k.scans s ∙ scan_after (Operator, s) (Operand, InChoice ∷ s) b1 refl ∙ x.scans (InChoice ∷ s) ∙ scan_after (Operator, InChoice ∷ s) (Operand, s) b2 refl ∙ y.scans s;
   fewer = omega (arith, k.fewer, fewer_after b1, x.fewer, fewer_after b2, y.fewer);
 }
 
 pub took_pick : {v i : NamedTree} {old m1 m2 m3 new : List Placed}
-    → Took 8 v old m1 → Begins (Punct mark.OpenBracket) m1 m2 → Took 0 i m2 m3 → Begins (Punct mark.CloseBracket) m3 new → Took 8 (e.Pick v i) old new
+    → Took 8 v old m1 → Begins (Punct Mark.OpenBracket) m1 m2 → Took 0 i m2 m3 → Begins (Punct Mark.CloseBracket) m3 new → Took 8 (e.Pick v i) old new
 took_pick k b1 x b2 = record {
-  tokens = k.tokens ++ (Punct mark.OpenBracket ∷ (x.tokens ++ Punct mark.CloseBracket ∷ []));
-  split = k.split ∙ ap (λ ts. k.tokens ++ ts) (bare_after b1 ∙ ap (λ ts. Punct mark.OpenBracket ∷ ts) (x.split ∙ ap (λ ts. x.tokens ++ ts) (bare_after b2))) ∙ simp append_assoc;
+  tokens = k.tokens ++ (Punct Mark.OpenBracket ∷ (x.tokens ++ Punct Mark.CloseBracket ∷ []));
+  split = k.split ∙ ap (λ ts. k.tokens ++ ts) (bare_after b1 ∙ ap (λ ts. Punct Mark.OpenBracket ∷ ts) (x.split ∙ ap (λ ts. x.tokens ++ ts) (bare_after b2))) ∙ simp append_assoc;
   reads = pick k.reads x.reads refl;
   scans = λ s. k.scans s ∙ scan_after (Operator, s) (Operand, InIndex ∷ s) b1 refl ∙ x.scans (InIndex ∷ s) ∙ scan_after (Operator, InIndex ∷ s) (Operator, s) b2 refl;
   fewer = omega (arith, k.fewer, fewer_after b1, x.fewer, fewer_after b2);
 }
 
-pub took_parens : {a : NamedTree} {old m1 m2 new : List Placed} → Begins (Punct mark.Open) old m1 → Took 0 a m1 m2 → Begins (Punct mark.Close) m2 new → Took 9 a old new
+pub took_parens : {a : NamedTree} {old m1 m2 new : List Placed} → Begins (Punct Mark.Open) old m1 → Took 0 a m1 m2 → Begins (Punct Mark.Close) m2 new → Took 9 a old new
 took_parens b1 x b2 = record {
-  tokens = Punct mark.Open ∷ (x.tokens ++ Punct mark.Close ∷ []);
-  split = bare_after b1 ∙ ap (λ ts. Punct mark.Open ∷ ts) (x.split ∙ ap (λ ts. x.tokens ++ ts) (bare_after b2)) ∙ simp append_assoc;
+  tokens = Punct Mark.Open ∷ (x.tokens ++ Punct Mark.Close ∷ []);
+  split = bare_after b1 ∙ ap (λ ts. Punct Mark.Open ∷ ts) (x.split ∙ ap (λ ts. x.tokens ++ ts) (bare_after b2)) ∙ simp append_assoc;
   reads = parenthesized x.reads refl;
   scans = λ s. scan_after (Operand, s) (Operand, InParens ∷ s) b1 refl ∙ x.scans (InParens ∷ s) ∙ scan_after (Operator, InParens ∷ s) (Operator, s) b2 refl;
   fewer = omega (arith, fewer_after b1, x.fewer, fewer_after b2);
 }
 
-pub took_call_none : {f : List ℕ} {old m1 m2 new : List Placed} → Begins (Word f) old m1 → Begins (Punct mark.Open) m1 m2 → Begins (Punct mark.Close) m2 new → Took 9 (e.Call f End) old new
+pub took_call_none : {f : List ℕ} {old m1 m2 new : List Placed} → Begins (Word f) old m1 → Begins (Punct Mark.Open) m1 m2 → Begins (Punct Mark.Close) m2 new → Took 9 (e.Call f End) old new
 took_call_none {f} b1 b2 b3 = record {
-  tokens = Word f ∷ Punct mark.Open ∷ Punct mark.Close ∷ [];
-  split = bare_after b1 ∙ ap (λ ts. Word f ∷ ts) (bare_after b2 ∙ ap (λ ts. Punct mark.Open ∷ ts) (bare_after b3));
+  tokens = Word f ∷ Punct Mark.Open ∷ Punct Mark.Close ∷ [];
+  split = bare_after b1 ∙ ap (λ ts. Word f ∷ ts) (bare_after b2 ∙ ap (λ ts. Punct Mark.Open ∷ ts) (bare_after b3));
   reads = call no_arguments refl;
   scans = λ s. scan_after (Operand, s) (AfterName, s) b1 refl ∙ scan_after (AfterName, s) (FirstArgument, InCall ∷ s) b2 refl ∙ scan_after (FirstArgument, InCall ∷ s) (Operator, s) b3 refl;
   fewer = omega (arith, fewer_after b1, fewer_after b2, fewer_after b3);
 }
 
 pub took_call : {f : List ℕ} {args : NamedTrees} {old m1 m2 new : List Placed}
-    → Begins (Word f) old m1 → Begins (Punct mark.Open) m1 m2 → BeginsNot (Punct mark.Close) m2 → TookArgs args m2 new → Took 9 (e.Call f args) old new
+    → Begins (Word f) old m1 → Begins (Punct Mark.Open) m1 m2 → BeginsNot (Punct Mark.Close) m2 → TookArgs args m2 new → Took 9 (e.Call f args) old new
 took_call {f} b1 b2 isnt x = record {
-  tokens = Word f ∷ Punct mark.Open ∷ (x.tokens ++ Punct mark.Close ∷ []);
-  split = bare_after b1 ∙ ap (λ ts. Word f ∷ ts) (bare_after b2 ∙ ap (λ ts. Punct mark.Open ∷ ts) x.split) ∙ simp append_assoc;
+  tokens = Word f ∷ Punct Mark.Open ∷ (x.tokens ++ Punct Mark.Close ∷ []);
+  split = bare_after b1 ∙ ap (λ ts. Word f ∷ ts) (bare_after b2 ∙ ap (λ ts. Punct Mark.Open ∷ ts) x.split) ∙ simp append_assoc;
   reads = call x.reads refl;
   scans = λ s. scan_after (Operand, s) (AfterName, s) b1 refl ∙ scan_after (AfterName, s) (FirstArgument, InCall ∷ s) b2 refl ∙ argument_first s _ isnt ∙ x.scans s;
   fewer = omega (arith, fewer_after b1, fewer_after b2, x.fewer);
 }
 
-pub took_last : {a : NamedTree} {old mid new : List Placed} → Took 0 a old mid → Begins (Punct mark.Close) mid new → TookArgs (More a End) old new
+pub took_last : {a : NamedTree} {old mid new : List Placed} → Took 0 a old mid → Begins (Punct Mark.Close) mid new → TookArgs (More a End) old new
 took_last k b = record {
   tokens = k.tokens;
   split = k.split ∙ ap (λ ts. k.tokens ++ ts) (bare_after b);
@@ -125,15 +121,15 @@ took_last k b = record {
   fewer = omega (arith, k.fewer, fewer_after b);
 }
 
-reads_more : {a : NamedTree} {ts us : List Token} → (r : NamedTrees) → (r ≡ End → ⊥) → Reads 0 ts a → ReadsArgs us r → ReadsArgs (ts ++ Punct mark.Comma ∷ us) (More a r)
+reads_more : {a : NamedTree} {ts us : List Token} → (r : NamedTrees) → (r ≡ End → ⊥) → Reads 0 ts a → ReadsArgs us r → ReadsArgs (ts ++ Punct Mark.Comma ∷ us) (More a r)
 reads_more End some x y = absurd (some refl)
 reads_more (More b r) some x y = more_arguments x y refl
 
 pub took_more : {a : NamedTree} {r : NamedTrees} {old mid next new : List Placed}
-    → Took 0 a old mid → Begins (Punct mark.Comma) mid next → TookArgs r next new → TookArgs (More a r) old new
+    → Took 0 a old mid → Begins (Punct Mark.Comma) mid next → TookArgs r next new → TookArgs (More a r) old new
 took_more {r = r} k b x = record {
-  tokens = k.tokens ++ Punct mark.Comma ∷ x.tokens;
-  split = k.split ∙ ap (λ ts. k.tokens ++ ts) (bare_after b ∙ ap (λ ts. Punct mark.Comma ∷ ts) x.split) ∙ simp append_assoc;
+  tokens = k.tokens ++ Punct Mark.Comma ∷ x.tokens;
+  split = k.split ∙ ap (λ ts. k.tokens ++ ts) (bare_after b ∙ ap (λ ts. Punct Mark.Comma ∷ ts) x.split) ∙ simp append_assoc;
   reads = reads_more r x.some k.reads x.reads;
   some = λ h. cc h;
   scans = λ s. k.scans (InCall ∷ s) ∙ scan_after (Operator, InCall ∷ s) (Operand, InCall ∷ s) b refl ∙ x.scans s;
@@ -153,16 +149,16 @@ begins_seen {k} {t} {old} {next} {new} e b same = record { place = b.place; is =
 
 -- ---- the values of a Vary
 
-pub list_more : {items : List NamedTree} {a : NamedTree} {old m1 m2 new : List Placed} → Listing items old m1 → Took 0 a m1 m2 → Begins (Punct mark.Comma) m2 new → Listing (items ++ a ∷ []) old new
+pub list_more : {items : List NamedTree} {a : NamedTree} {old m1 m2 new : List Placed} → Listing items old m1 → Took 0 a m1 m2 → Begins (Punct Mark.Comma) m2 new → Listing (items ++ a ∷ []) old new
 list_more {items} {a} l k b = record {
-  tokens = l.tokens ++ (k.tokens ++ Punct mark.Comma ∷ []);
+  tokens = l.tokens ++ (k.tokens ++ Punct Mark.Comma ∷ []);
   split = l.split ∙ ap (λ ts. l.tokens ++ ts) (k.split ∙ ap (λ ts. k.tokens ++ ts) (bare_after b)) ∙ simp append_assoc;
-  completes = λ us es r. simp append_assoc (l.completes (k.tokens ++ Punct mark.Comma ∷ us) (a ∷ es) (more_items k.reads r refl));
+  completes = λ us es r. simp append_assoc (l.completes (k.tokens ++ Punct Mark.Comma ∷ us) (a ∷ es) (more_items k.reads r refl));
   scans = λ s. l.scans s ∙ k.scans (InList ∷ s) ∙ scan_after (Operator, InList ∷ s) (Operand, InList ∷ s) b refl;
   within = omega (arith, l.within, k.fewer, fewer_after b);
 }
 
-pub list_done : {items : List NamedTree} {a : NamedTree} {old m1 m2 new : List Placed} → Listing items old m1 → Took 0 a m1 m2 → Begins (Punct mark.CloseBrace) m2 new → TookList (items ++ a ∷ []) old new
+pub list_done : {items : List NamedTree} {a : NamedTree} {old m1 m2 new : List Placed} → Listing items old m1 → Took 0 a m1 m2 → Begins (Punct Mark.CloseBrace) m2 new → TookList (items ++ a ∷ []) old new
 list_done {items} {a} l k b = record {
   tokens = l.tokens ++ k.tokens;
   split = l.split ∙ ap (λ ts. l.tokens ++ ts) (k.split ∙ ap (λ ts. k.tokens ++ ts) (bare_after b)) ∙ simp append_assoc;
@@ -172,59 +168,59 @@ list_done {items} {a} l k b = record {
 }
 
 pub lists_more : {ls : List (List NamedTree)} {es : List NamedTree} {old m1 m2 m3 new : List Placed}
-    → Listings ls old m1 → TookList es m1 m2 → Begins (Punct mark.Comma) m2 m3 → Begins (Punct mark.OpenBrace) m3 new → Listings (ls ++ es ∷ []) old new
+    → Listings ls old m1 → TookList es m1 m2 → Begins (Punct Mark.Comma) m2 m3 → Begins (Punct Mark.OpenBrace) m3 new → Listings (ls ++ es ∷ []) old new
 lists_more {es = es} l k b c = record {
-  tokens = l.tokens ++ (k.tokens ++ Punct mark.CloseBrace ∷ Punct mark.Comma ∷ Punct mark.OpenBrace ∷ []);
-  split = l.split ∙ ap (λ ts. l.tokens ++ ts) (k.split ∙ ap (λ ts. k.tokens ++ Punct mark.CloseBrace ∷ ts) (bare_after b ∙ ap (λ ts. Punct mark.Comma ∷ ts) (bare_after c))) ∙ simp append_assoc;
-  completes = λ us rest r. simp append_assoc (l.completes (k.tokens ++ Punct mark.CloseBrace ∷ Punct mark.Comma ∷ Punct mark.OpenBrace ∷ us) (es ∷ rest) (more_lists k.reads r refl));
+  tokens = l.tokens ++ (k.tokens ++ Punct Mark.CloseBrace ∷ Punct Mark.Comma ∷ Punct Mark.OpenBrace ∷ []);
+  split = l.split ∙ ap (λ ts. l.tokens ++ ts) (k.split ∙ ap (λ ts. k.tokens ++ Punct Mark.CloseBrace ∷ ts) (bare_after b ∙ ap (λ ts. Punct Mark.Comma ∷ ts) (bare_after c))) ∙ simp append_assoc;
+  completes = λ us rest r. simp append_assoc (l.completes (k.tokens ++ Punct Mark.CloseBrace ∷ Punct Mark.Comma ∷ Punct Mark.OpenBrace ∷ us) (es ∷ rest) (more_lists k.reads r refl));
   scans = l.scans ∙ k.scans (InLists ∷ []) ∙ scan_after (AfterList, InLists ∷ []) (NextList, InLists ∷ []) b refl ∙ scan_after (NextList, InLists ∷ []) in_list c refl;
 }
 
 pub lists_done : {ls : List (List NamedTree)} {es : List NamedTree} {old m1 m2 new : List Placed}
-    → Listings ls old m1 → TookList es m1 m2 → Begins (Punct mark.CloseBrace) m2 new → TookLists (ls ++ es ∷ []) old new
+    → Listings ls old m1 → TookList es m1 m2 → Begins (Punct Mark.CloseBrace) m2 new → TookLists (ls ++ es ∷ []) old new
 lists_done {es = es} l k b = record {
-  tokens = l.tokens ++ (k.tokens ++ Punct mark.CloseBrace ∷ []);
-  split = l.split ∙ ap (λ ts. l.tokens ++ ts) (k.split ∙ ap (λ ts. k.tokens ++ Punct mark.CloseBrace ∷ ts) (bare_after b)) ∙ simp append_assoc;
-  reads = l.completes (k.tokens ++ Punct mark.CloseBrace ∷ []) (es ∷ []) (last_list k.reads refl);
+  tokens = l.tokens ++ (k.tokens ++ Punct Mark.CloseBrace ∷ []);
+  split = l.split ∙ ap (λ ts. l.tokens ++ ts) (k.split ∙ ap (λ ts. k.tokens ++ Punct Mark.CloseBrace ∷ ts) (bare_after b)) ∙ simp append_assoc;
+  reads = l.completes (k.tokens ++ Punct Mark.CloseBrace ∷ []) (es ∷ []) (last_list k.reads refl);
   scans = l.scans ∙ k.scans (InLists ∷ []) ∙ scan_after (AfterList, InLists ∷ []) (Nothing, []) b refl;
 }
 
 -- ---- where the scan stops
 
-between_step : (s : List OpenMark) (t : Token) → (t ≡ Punct mark.Comma → ⊥) → (t ≡ Punct mark.CloseBrace → ⊥) → between_lists t s ≡ None
-between_step s (Punct mark.Comma) isnt nor = absurd (isnt refl)
-between_step s (Punct mark.CloseBrace) isnt nor = absurd (nor refl)
+between_step : (s : List OpenMark) (t : Token) → (t ≡ Punct Mark.Comma → ⊥) → (t ≡ Punct Mark.CloseBrace → ⊥) → between_lists t s ≡ None
+between_step s (Punct Mark.Comma) isnt nor = absurd (isnt refl)
+between_step s (Punct Mark.CloseBrace) isnt nor = absurd (nor refl)
 between_step s t isnt nor = refl
 
-pub stuck_between : (ts : List Placed) → BeginsNot (Punct mark.Comma) ts → BeginsNot (Punct mark.CloseBrace) ts → scan (AfterList, InLists ∷ []) ts ≡ stuck_at ts
+pub stuck_between : (ts : List Placed) → BeginsNot (Punct Mark.Comma) ts → BeginsNot (Punct Mark.CloseBrace) ts → scan (AfterList, InLists ∷ []) ts ≡ stuck_at ts
 stuck_between [] isnt nor = refl
-stuck_between (p ∷ ts) isnt nor = refused_at (AfterList, InLists ∷ []) p ts (between_step (InLists ∷ []) p.token (first_is_not (Punct mark.Comma) p ts isnt) (first_is_not (Punct mark.CloseBrace) p ts nor))
+stuck_between (p ∷ ts) isnt nor = refused_at (AfterList, InLists ∷ []) p ts (between_step (InLists ∷ []) p.token (first_is_not (Punct Mark.Comma) p ts isnt) (first_is_not (Punct Mark.CloseBrace) p ts nor))
 
-next_step : (s : List OpenMark) (t : Token) → (t ≡ Punct mark.OpenBrace → ⊥) → next_list t s ≡ None
-next_step s (Punct mark.OpenBrace) isnt = absurd (isnt refl)
+next_step : (s : List OpenMark) (t : Token) → (t ≡ Punct Mark.OpenBrace → ⊥) → next_list t s ≡ None
+next_step s (Punct Mark.OpenBrace) isnt = absurd (isnt refl)
 next_step s t isnt = refl
 
-pub stuck_next : (ts : List Placed) → BeginsNot (Punct mark.OpenBrace) ts → scan (NextList, InLists ∷ []) ts ≡ stuck_at ts
+pub stuck_next : (ts : List Placed) → BeginsNot (Punct Mark.OpenBrace) ts → scan (NextList, InLists ∷ []) ts ≡ stuck_at ts
 stuck_next [] isnt = refl
-stuck_next (p ∷ ts) isnt = refused_at (NextList, InLists ∷ []) p ts (next_step (InLists ∷ []) p.token (first_is_not (Punct mark.OpenBrace) p ts isnt))
+stuck_next (p ∷ ts) isnt = refused_at (NextList, InLists ∷ []) p ts (next_step (InLists ∷ []) p.token (first_is_not (Punct Mark.OpenBrace) p ts isnt))
 
 -- ---- the values
 
-beginning_step : (s : List OpenMark) (t : Token) → (t ≡ Punct mark.OpenBrace → ⊥) → beginning t s ≡ operand t s
-beginning_step s (Punct mark.OpenBrace) isnt = absurd (isnt refl)
+beginning_step : (s : List OpenMark) (t : Token) → (t ≡ Punct Mark.OpenBrace → ⊥) → beginning t s ≡ operand t s
+beginning_step s (Punct Mark.OpenBrace) isnt = absurd (isnt refl)
 beginning_step s t isnt = refl
 
-pub vector_first : (ts : List Placed) → BeginsNot (Punct mark.OpenBrace) ts → scan begin_values ts ≡ scan (Operand, []) ts
+pub vector_first : (ts : List Placed) → BeginsNot (Punct Mark.OpenBrace) ts → scan begin_values ts ≡ scan (Operand, []) ts
 vector_first [] isnt = refl
-vector_first (p ∷ ts) isnt = same_step begin_values (Operand, []) p ts (beginning_step [] p.token (first_is_not (Punct mark.OpenBrace) p ts isnt))
+vector_first (p ∷ ts) isnt = same_step begin_values (Operand, []) p ts (beginning_step [] p.token (first_is_not (Punct Mark.OpenBrace) p ts isnt))
 
-brace_step : (s : List OpenMark) (t : Token) → (t ≡ Punct mark.OpenBrace → ⊥) → after_brace t s ≡ operand t s
-brace_step s (Punct mark.OpenBrace) isnt = absurd (isnt refl)
+brace_step : (s : List OpenMark) (t : Token) → (t ≡ Punct Mark.OpenBrace → ⊥) → after_brace t s ≡ operand t s
+brace_step s (Punct Mark.OpenBrace) isnt = absurd (isnt refl)
 brace_step s t isnt = refl
 
-pub item_first : (ts : List Placed) → BeginsNot (Punct mark.OpenBrace) ts → scan (AfterBrace, InList ∷ []) ts ≡ scan (Operand, InList ∷ []) ts
+pub item_first : (ts : List Placed) → BeginsNot (Punct Mark.OpenBrace) ts → scan (AfterBrace, InList ∷ []) ts ≡ scan (Operand, InList ∷ []) ts
 item_first [] isnt = refl
-item_first (p ∷ ts) isnt = same_step (AfterBrace, InList ∷ []) (Operand, InList ∷ []) p ts (brace_step (InList ∷ []) p.token (first_is_not (Punct mark.OpenBrace) p ts isnt))
+item_first (p ∷ ts) isnt = same_step (AfterBrace, InList ∷ []) (Operand, InList ∷ []) p ts (brace_step (InList ∷ []) p.token (first_is_not (Punct Mark.OpenBrace) p ts isnt))
 
 pub ends_operator : (ts : List Placed) → Stops 0 ts → scan (Operator, []) ts ≡ ends_at ts
 ends_operator [] h = refl
@@ -234,21 +230,21 @@ ends_nothing : (ts : List Placed) → scan (Nothing, []) ts ≡ ends_at ts
 ends_nothing [] = refl
 ends_nothing (p ∷ ts) = refl
 
-pub took_vector : {a : NamedTree} {old new : List Placed} → BeginsNot (Punct mark.OpenBrace) old → Took 0 a old new → Stops 0 new → TookValues (VectorOf a) old new
+pub took_vector : {a : NamedTree} {old new : List Placed} → BeginsNot (Punct Mark.OpenBrace) old → Took 0 a old new → Stops 0 new → TookValues (VectorOf a) old new
 took_vector {old = old} {new = new} isnt k h = record { tokens = k.tokens; split = k.split; reads = vector k.reads; ends = vector_first old isnt ∙ k.scans [] ∙ ends_operator new h }
 
-pub took_lists : {ls : List (List NamedTree)} {old m1 m2 new : List Placed} → Begins (Punct mark.OpenBrace) old m1 → Begins (Punct mark.OpenBrace) m1 m2 → TookLists ls m2 new → TookValues (ListsOf ls) old new
+pub took_lists : {ls : List (List NamedTree)} {old m1 m2 new : List Placed} → Begins (Punct Mark.OpenBrace) old m1 → Begins (Punct Mark.OpenBrace) m1 m2 → TookLists ls m2 new → TookValues (ListsOf ls) old new
 took_lists {new = new} b c k = record {
-  tokens = Punct mark.OpenBrace ∷ (Punct mark.OpenBrace ∷ k.tokens ++ Punct mark.CloseBrace ∷ []);
-  split = bare_after b ∙ ap (λ ts. Punct mark.OpenBrace ∷ ts) (bare_after c ∙ ap (λ ts. Punct mark.OpenBrace ∷ ts) k.split) ∙ simp append_assoc;
+  tokens = Punct Mark.OpenBrace ∷ (Punct Mark.OpenBrace ∷ k.tokens ++ Punct Mark.CloseBrace ∷ []);
+  split = bare_after b ∙ ap (λ ts. Punct Mark.OpenBrace ∷ ts) (bare_after c ∙ ap (λ ts. Punct Mark.OpenBrace ∷ ts) k.split) ∙ simp append_assoc;
   reads = several_lists k.reads refl;
   ends = scan_after begin_values (AfterBrace, InList ∷ []) b refl ∙ scan_after (AfterBrace, InList ∷ []) in_list c refl ∙ k.scans ∙ ends_nothing new;
 }
 
-pub took_list : {es : List NamedTree} {old m1 new : List Placed} → Begins (Punct mark.OpenBrace) old m1 → BeginsNot (Punct mark.OpenBrace) m1 → TookList es m1 new → TookValues (ListsOf (es ∷ [])) old new
+pub took_list : {es : List NamedTree} {old m1 new : List Placed} → Begins (Punct Mark.OpenBrace) old m1 → BeginsNot (Punct Mark.OpenBrace) m1 → TookList es m1 new → TookValues (ListsOf (es ∷ [])) old new
 took_list {m1 = m1} {new = new} b isnt k = record {
-  tokens = Punct mark.OpenBrace ∷ (k.tokens ++ Punct mark.CloseBrace ∷ []);
-  split = bare_after b ∙ ap (λ ts. Punct mark.OpenBrace ∷ ts) k.split ∙ simp append_assoc;
+  tokens = Punct Mark.OpenBrace ∷ (k.tokens ++ Punct Mark.CloseBrace ∷ []);
+  split = bare_after b ∙ ap (λ ts. Punct Mark.OpenBrace ∷ ts) k.split ∙ simp append_assoc;
   reads = one_list k.reads refl;
   ends = scan_after begin_values (AfterBrace, InList ∷ []) b refl ∙ item_first m1 isnt ∙ k.scans [] ∙ ends_nothing new;
 }

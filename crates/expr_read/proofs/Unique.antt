@@ -1,15 +1,11 @@
 -- Tokens read as one tree, and as one value of a Vary: a machine that shifts and reduces comes to it.
-use Rattle.std.proofs.Common.{◌≡◌, ◌<◌, ◌≤◌, ◌∙◌, ℕ, suc, true, List, [], ◌∷◌, ◌++◌, arith, refl, sym, ap, append_assoc, nat_eq}
-use Rattle.std.specs.Prelude.{nat_le, if◌then◌else◌}
+use Rattle.std.proofs.Common.{◌≡◌, ◌<◌, ◌≤◌, ◌∙◌, ℕ, suc, true, List, [], ◌∷◌, ◌++◌, arith, refl, sym, ap, append_assoc, nat_eq, nat_le, if◌then◌else◌}
 use Rattle.std.proofs.lemmas.Bool.Decides.{nat_tests}
-use Rattle.lemmas.proofs.Orders.{le_false, le_true}
-use Rattle.rdf_values.specs.Tree.{NamedTree, Lit, Col, Neg, Not, Bin, Cond, Pick, Call, End, More}
-use Rattle.rdf_values.specs.Tree as e
-use Rattle.rdf_values.specs.Tokens.{Token, Word, Truth, Number, Op, Punct}
-use Rattle.rdf_values.specs.Grammar.{NamedTrees, Reads, ReadsArgs, number, truth, name, parenthesized, call, pick, minus_sign, not_sign, binary, conditional, tighter, no_arguments, last_argument, more_arguments, level_of, ReadsList, ReadsLists, ReadsValues, last_item, more_items, last_list, more_lists, one_list, several_lists, vector}
-use Rattle.rdf_values.specs.declared.expr.BinOp.{BinOp}
-use Rattle.rdf_values.specs.declared.expr.Mark.TheVariants as mark
-use Rattle.rdf_values.specs.declared.vary_values.VaryValues.{VaryValues}
+use Rattle.lemmas.proofs.{le_false, le_true}
+use Rattle.rdf_values.specs.{Bin, binary, BinOp, Call, Col, Cond, conditional, End, last_argument, last_item, last_list, level_of, Lit, Mark, minus_sign, More, more_arguments, more_items, more_lists, name, NamedTree, NamedTrees, Neg, no_arguments, Not, not_sign, number, one_list, Op, parenthesized, Pick, pick, Punct, Reads, ReadsArgs, ReadsList, ReadsLists, ReadsValues, several_lists, tighter, Token, truth, VaryValues, vector}
+use Rattle.rdf_values.specs.Expressions as e
+use Rattle.rdf_values.specs.Tokens.{Word, Truth, Number}
+use Rattle.rdf_values.specs.Grammar.{call}
 use Rattle.rdf_values.specs.declared.vary_values.VaryValues.TheVariants.{Lists, Vector}
 use Rattle.expr_read.proofs.Scanned.{positive, level_low, level_high}
 
@@ -97,22 +93,22 @@ feed (Want fs) (Number z) = Have (Lit z) fs
 feed (Want fs) (Truth b) = Have (e.Truth b) fs
 feed (Want fs) (Word x) = Have (Col x) fs
 feed (Want fs) (Op o) = Want (Minus ∷ fs)
-feed (Want fs) (Punct mark.Bang) = Want (Bang ∷ fs)
-feed (Want fs) (Punct mark.Open) = Want (Paren ∷ fs)
-feed (Want fs) (Punct mark.Close) = at_once fs
-feed (Want fs) (Punct mark.OpenBrace) = on_brace fs
+feed (Want fs) (Punct Mark.Bang) = Want (Bang ∷ fs)
+feed (Want fs) (Punct Mark.Open) = Want (Paren ∷ fs)
+feed (Want fs) (Punct Mark.Close) = at_once fs
+feed (Want fs) (Punct Mark.OpenBrace) = on_brace fs
 feed (Have t fs) (Op o) = on_side o (reduce (level_of o) fs t)
-feed (Have t fs) (Punct mark.OpenBracket) = on_index (reduce 8 fs t)
-feed (Have t fs) (Punct mark.Question) = on_question (reduce 1 fs t)
-feed (Have t fs) (Punct mark.Colon) = on_colon (reduce 0 fs t)
-feed (Have t fs) (Punct mark.Close) = on_close (reduce 0 fs t)
-feed (Have t fs) (Punct mark.CloseBracket) = on_bracket (reduce 0 fs t)
-feed (Have t fs) (Punct mark.Comma) = on_comma (reduce 0 fs t)
-feed (Have t fs) (Punct mark.Open) = on_open t fs
-feed (Have t fs) (Punct mark.CloseBrace) = on_end (reduce 0 fs t)
-feed (Closed es (Outer before ∷ [])) (Punct mark.Comma) = Next (before ++ es ∷ [])
-feed (Closed es (Outer before ∷ [])) (Punct mark.CloseBrace) = All (before ++ es ∷ [])
-feed (Next before) (Punct mark.OpenBrace) = Want (Items [] ∷ Outer before ∷ [])
+feed (Have t fs) (Punct Mark.OpenBracket) = on_index (reduce 8 fs t)
+feed (Have t fs) (Punct Mark.Question) = on_question (reduce 1 fs t)
+feed (Have t fs) (Punct Mark.Colon) = on_colon (reduce 0 fs t)
+feed (Have t fs) (Punct Mark.Close) = on_close (reduce 0 fs t)
+feed (Have t fs) (Punct Mark.CloseBracket) = on_bracket (reduce 0 fs t)
+feed (Have t fs) (Punct Mark.Comma) = on_comma (reduce 0 fs t)
+feed (Have t fs) (Punct Mark.Open) = on_open t fs
+feed (Have t fs) (Punct Mark.CloseBrace) = on_end (reduce 0 fs t)
+feed (Closed es (Outer before ∷ [])) (Punct Mark.Comma) = Next (before ++ es ∷ [])
+feed (Closed es (Outer before ∷ [])) (Punct Mark.CloseBrace) = All (before ++ es ∷ [])
+feed (Next before) (Punct Mark.OpenBrace) = Want (Items [] ∷ Outer before ∷ [])
 feed s t = stuck
 
 abbrev feeds : State → List Token → State
@@ -187,7 +183,7 @@ mutual
       let x = built r fs h in
       let y = built q (Bracket a ∷ fs) tt in
       let here : reduce 8 x.frames x.top ≡ (a, fs) = x.folds 8 (omega arith) ∙ waits_postfix fs a in
-      have (rw e (through (Want fs) _ ts _ x.state ∙ fed on_index (us ++ Punct mark.CloseBracket ∷ []) here ∙ through (Want (Bracket a ∷ fs)) _ us (Punct mark.CloseBracket ∷ []) y.state ∙ fed on_bracket [] (y.folds 0 (omega arith))))
+      have (rw e (through (Want fs) _ ts _ x.state ∙ fed on_index (us ++ Punct Mark.CloseBracket ∷ []) here ∙ through (Want (Bracket a ∷ fs)) _ us (Punct Mark.CloseBracket ∷ []) y.state ∙ fed on_bracket [] (y.folds 0 (omega arith))))
   built (minus_sign {a = a} r) fs h =
       let x = built r (Minus ∷ fs) (omega arith) in
       record { top = x.top; frames = x.frames; state = x.state; folds = λ m k. x.folds m k ∙ rw (le_true m 7 k) refl }
@@ -212,38 +208,38 @@ mutual
       record {
         top = z.top;
         frames = z.frames;
-        state = rw e (through (Want fs) _ ts _ x.state ∙ fed on_question (us ++ Punct mark.Colon ∷ ws) here ∙ through (Want (Ask c ∷ fs)) _ us (Punct mark.Colon ∷ ws) y.state ∙ fed on_colon ws (y.folds 0 (omega arith)) ∙ z.state);
+        state = rw e (through (Want fs) _ ts _ x.state ∙ fed on_question (us ++ Punct Mark.Colon ∷ ws) here ∙ through (Want (Ask c ∷ fs)) _ us (Punct Mark.Colon ∷ ws) y.state ∙ fed on_colon ws (y.folds 0 (omega arith)) ∙ z.state);
         folds = λ m k. z.folds m k ∙ rw (zero_is m k) refl;
       }
   built (tighter {n} r) fs h = let x = built r fs (looser n fs h) in record { top = x.top; frames = x.frames; state = x.state; folds = λ m k. x.folds m (omega arith) }
 
-  built_args : {ts : List Token} {args : NamedTrees} → ReadsArgs ts args → (f : List ℕ) (before : List NamedTree) (fs : List Frame) → feeds (Want (Args f before ∷ fs)) (ts ++ Punct mark.Close ∷ []) ≡ Have (Call f (onto before args)) fs
+  built_args : {ts : List Token} {args : NamedTrees} → ReadsArgs ts args → (f : List ℕ) (before : List NamedTree) (fs : List Frame) → feeds (Want (Args f before ∷ fs)) (ts ++ Punct Mark.Close ∷ []) ≡ Have (Call f (onto before args)) fs
   built_args no_arguments f before fs = refl
   built_args (last_argument {ts} {a} r) f before fs =
       let x = built r (Args f before ∷ fs) tt in
       through (Want (Args f before ∷ fs)) _ ts _ x.state ∙ fed on_close [] (x.folds 0 (omega arith))
   built_args (more_arguments {ts} {us} {a = a} {b = b} {args = args} r q e) f before fs =
       let x = built r (Args f before ∷ fs) tt in
-      rw (e, append_assoc) (through (Want (Args f before ∷ fs)) _ ts _ x.state ∙ fed on_comma (us ++ Punct mark.Close ∷ []) (x.folds 0 (omega arith)) ∙ built_args q f (before ++ a ∷ []) fs ∙ ap (λ (xs : NamedTrees). Have (Call f xs) fs) (onto_more before a (More b args)))
+      rw (e, append_assoc) (through (Want (Args f before ∷ fs)) _ ts _ x.state ∙ fed on_comma (us ++ Punct Mark.Close ∷ []) (x.folds 0 (omega arith)) ∙ built_args q f (before ++ a ∷ []) fs ∙ ap (λ (xs : NamedTrees). Have (Call f xs) fs) (onto_more before a (More b args)))
 
 built_list : {ts : List Token} {es : List NamedTree} → ReadsList ts es → (before : List NamedTree) (fs : List Frame) (us : List Token)
-    → feeds (Want (Items before ∷ fs)) (ts ++ Punct mark.CloseBrace ∷ us) ≡ feeds (Closed (before ++ es) fs) us
+    → feeds (Want (Items before ∷ fs)) (ts ++ Punct Mark.CloseBrace ∷ us) ≡ feeds (Closed (before ++ es) fs) us
 built_list (last_item {ts} r) before fs us =
     let x = built r (Items before ∷ fs) tt in
     through (Want (Items before ∷ fs)) _ ts _ x.state ∙ fed on_end us (x.folds 0 (omega arith))
 built_list (more_items {ts} {us = vs} {a = a} {es = es} r q e) before fs us =
     let x = built r (Items before ∷ fs) tt in
-    rw (e, append_assoc) (through (Want (Items before ∷ fs)) _ ts _ x.state ∙ fed on_comma (vs ++ Punct mark.CloseBrace ∷ us) (x.folds 0 (omega arith)) ∙ built_list q (before ++ a ∷ []) fs us
+    rw (e, append_assoc) (through (Want (Items before ∷ fs)) _ ts _ x.state ∙ fed on_comma (vs ++ Punct Mark.CloseBrace ∷ us) (x.folds 0 (omega arith)) ∙ built_list q (before ++ a ∷ []) fs us
     ∙ ap (λ (xs : List NamedTree). feeds (Closed xs fs) us) (append_assoc before (a ∷ []) es))
 
 -- lists, from where the `{` of the first is taken
-built_lists : {ts : List Token} {ls : List (List NamedTree)} → ReadsLists ts ls → (s : State) (before : List (List NamedTree)) → feed s (Punct mark.OpenBrace) ≡ Want (Items [] ∷ Outer before ∷ [])
-    → feeds s (ts ++ Punct mark.CloseBrace ∷ []) ≡ All (before ++ ls)
+built_lists : {ts : List Token} {ls : List (List NamedTree)} → ReadsLists ts ls → (s : State) (before : List (List NamedTree)) → feed s (Punct Mark.OpenBrace) ≡ Want (Items [] ∷ Outer before ∷ [])
+    → feeds s (ts ++ Punct Mark.CloseBrace ∷ []) ≡ All (before ++ ls)
 built_lists (last_list {ts} r e) s before h =
-    rw (e, append_assoc) (ap (λ (x : State). feeds x (ts ++ Punct mark.CloseBrace ∷ Punct mark.CloseBrace ∷ [])) h ∙ built_list r [] (Outer before ∷ []) (Punct mark.CloseBrace ∷ []))
+    rw (e, append_assoc) (ap (λ (x : State). feeds x (ts ++ Punct Mark.CloseBrace ∷ Punct Mark.CloseBrace ∷ [])) h ∙ built_list r [] (Outer before ∷ []) (Punct Mark.CloseBrace ∷ []))
 built_lists (more_lists {ts} {us} {es = es} {ls = ls} r q e) s before h =
-    let more = Punct mark.Comma ∷ (us ++ Punct mark.CloseBrace ∷ []) in
-    rw (e, append_assoc) (ap (λ (x : State). feeds x (ts ++ Punct mark.CloseBrace ∷ more)) h ∙ built_list r [] (Outer before ∷ []) more
+    let more = Punct Mark.Comma ∷ (us ++ Punct Mark.CloseBrace ∷ []) in
+    rw (e, append_assoc) (ap (λ (x : State). feeds x (ts ++ Punct Mark.CloseBrace ∷ more)) h ∙ built_list r [] (Outer before ∷ []) more
     ∙ built_lists q (Next (before ++ es ∷ [])) (before ++ es ∷ []) refl ∙ ap All (append_assoc before (es ∷ []) ls))
 
 abbrev value : State → VaryValues

@@ -1,12 +1,10 @@
 -- The tokens of a text are at most 256 and stand in it; their words are names, and their numbers have 64 bits. A refusal stands in the text, or at its end.
-use Rattle.std.proofs.Common.{◌≡◌, ◌≤◌, ◌+◌, ℕ, zero, suc, Bool, true, false, List, [], ◌∷◌, length, drop, Ok, Err, arith, refl, subst, length-drop}
-use Rattle.std.specs.Prelude.{Result, MatchResult, nat_le}
+use Rattle.std.proofs.Common.{◌≡◌, ◌≤◌, ◌+◌, ℕ, zero, suc, Bool, true, false, List, [], ◌∷◌, length, drop, Ok, Err, arith, refl, subst, length-drop, Result, MatchResult, nat_le}
 use Rattle.std.proofs.lemmas.List.Sums.{prefix_len-le-length}
-use Rattle.lemmas.proofs.Booleans.{and_holds}
-use Rattle.rdf_values.specs.Tokens.{Placed, Refusal, First, is_blank, blanks, behind, from, earlier, too_many, before, and_then, first_token, tokens_at, tokens}
-use Rattle.rdf_values.specs.Grammar.{bare}
-use Rattle.rdf_values.specs.declared.expr_cause.ExprCause.TheVariants as cause
-use Rattle.expr_read.specs.Valid.{is_valid, are_valid}
+use Rattle.lemmas.proofs.{and_holds}
+use Rattle.rdf_values.specs.{and_then, bare, before, behind, blanks, earlier, ExprCause, First, first_token, from, is_blank, Placed, Refusal, tokens, tokens_at}
+use Rattle.rdf_values.specs.Tokens.{too_many}
+use Rattle.expr_read.specs.{are_valid, is_valid}
 use Rattle.expr_read.proofs.FirstTokens.{IsFine, fine}
 
 -- each token stands before a place, or at it
@@ -27,7 +25,7 @@ many_below place size (Ok t) h = omega arith
 many_below place size (Err e) h =
     let a : place + e.place ≤ place + size = omega arith in
     let b : place ≤ place + size = omega arith in
-    earlier_below (from place e) (record { cause = cause.TooLong; place = place }) (place + size) _ refl a b
+    earlier_below (from place e) (record { cause = ExprCause.TooLong; place = place }) (place + size) _ refl a b
 
 before_fine : (most end : ℕ) (t : Placed) (tokens : Result (List Placed) Refusal) → is_valid t.token ≡ true → t.place ≤ end → AreFine most end tokens → AreFine (suc most) end (before (t ∷ []) tokens)
 before_fine most end t (Ok ts) v h k = (and_holds (is_valid t.token) (are_valid (bare ts)) v k.0, omega (arith, k.1), more_tokens h k.2)

@@ -1,19 +1,11 @@
 -- Tokens that a scan takes whole, with nothing left open, read by the grammar: a descent from the left comes through them, or is stuck where the scan stops.
-use Rattle.std.proofs.Common.{◌≡◌, ◌<◌, ◌≤◌, ◌+◌, ◌∙◌, ℕ, zero, suc, true, List, [], ◌∷◌, ◌++◌, length, inl, inr, arith, refl, sym, ap, subst, append-nil, add-one}
-use Rattle.std.specs.Prelude.{◌⊎◌}
+use Rattle.std.proofs.Common.{◌≡◌, ◌<◌, ◌≤◌, ◌+◌, ◌∙◌, ℕ, zero, suc, true, List, [], ◌∷◌, ◌++◌, length, inl, inr, arith, refl, sym, ap, subst, append-nil, add-one, ◌⊎◌}
 use Rattle.std.proofs.lemmas.Bool.{cases_eq, cases_Bool}
-use Rattle.rdf_values.specs.Tree.{NamedTree, End, More}
-use Rattle.rdf_values.specs.Tree as e
-use Rattle.rdf_values.specs.Tokens.{Token, Word, Truth, Number, Op, Punct, Placed}
-use Rattle.rdf_values.specs.Grammar.{NamedTrees, Reads, ReadsValues, level_of, bare}
-use Rattle.rdf_values.specs.Scans.{OpenMark, InParens, InIndex, InChoice, InCall, InList, InLists, Operand, FirstArgument, AfterName, Operator, AfterBrace, AfterList, NextList, Whole, scan, begin_expr, begin_values}
-use Rattle.rdf_values.specs.declared.expr.BinOp.{BinOp}
-use Rattle.rdf_values.specs.declared.expr.BinOp.TheVariants as op
-use Rattle.rdf_values.specs.declared.expr.Mark.{Mark}
-use Rattle.rdf_values.specs.declared.expr.Mark.TheVariants as mark
-use Rattle.rdf_values.specs.declared.vary_values.VaryValues.{VaryValues}
+use Rattle.rdf_values.specs.{AfterBrace, AfterList, AfterName, bare, begin_expr, begin_values, BinOp, End, FirstArgument, InCall, InChoice, InIndex, InList, InLists, InParens, level_of, Mark, More, NamedTree, NamedTrees, NextList, Op, OpenMark, Operand, Operator, Placed, Punct, Reads, ReadsValues, scan, Token, VaryValues, Whole}
+use Rattle.rdf_values.specs.Expressions as e
+use Rattle.rdf_values.specs.Tokens.{Word, Truth, Number}
 use Rattle.rdf_values.specs.declared.vary_values.VaryValues.TheVariants.{Lists, Vector}
-use Rattle.expr_read.specs.Parsing.{Begins, BeginsNot, Stops, Took, TookArgs, Listing, TookList, Listings, TookLists, TookValues, IsStuckFrom, at_expr, at_more, at_item, in_list, stuck_at, ends_at}
+use Rattle.expr_read.specs.{at_expr, at_item, at_more, Begins, BeginsNot, ends_at, in_list, IsStuckFrom, Listing, Listings, Stops, stuck_at, Took, TookArgs, TookList, TookLists, TookValues}
 use Rattle.expr_read.proofs.Scanned.{scan_after, argument_first, closing, takes_comma, stuck_inside, stops_postfix, stops_binary, stops_expr}
 use Rattle.expr_read.proofs.Took.{fewer_after, took_tighter, took_number, took_truth, took_name, took_minus_sign, took_not_sign, took_binary, took_conditional, took_pick, took_parens, took_call_none, took_call, took_last, took_more, list_more, list_done, lists_more, lists_done, stuck_between, stuck_next, vector_first, item_first, ends_operator, took_vector, took_lists, took_list}
 
@@ -24,16 +16,16 @@ data First (t : Token) (old : List Placed) : Type 0 where
   isnt : BeginsNot t old → First t old
 
 seen : (m : Mark) (t : Token) → (t ≡ Punct m) ⊎ (t ≡ Punct m → ⊥)
-seen mark.Open (Punct mark.Open) = inl refl
-seen mark.Close (Punct mark.Close) = inl refl
-seen mark.OpenBracket (Punct mark.OpenBracket) = inl refl
-seen mark.CloseBracket (Punct mark.CloseBracket) = inl refl
-seen mark.OpenBrace (Punct mark.OpenBrace) = inl refl
-seen mark.CloseBrace (Punct mark.CloseBrace) = inl refl
-seen mark.Comma (Punct mark.Comma) = inl refl
-seen mark.Question (Punct mark.Question) = inl refl
-seen mark.Colon (Punct mark.Colon) = inl refl
-seen mark.Bang (Punct mark.Bang) = inl refl
+seen Mark.Open (Punct Mark.Open) = inl refl
+seen Mark.Close (Punct Mark.Close) = inl refl
+seen Mark.OpenBracket (Punct Mark.OpenBracket) = inl refl
+seen Mark.CloseBracket (Punct Mark.CloseBracket) = inl refl
+seen Mark.OpenBrace (Punct Mark.OpenBrace) = inl refl
+seen Mark.CloseBrace (Punct Mark.CloseBrace) = inl refl
+seen Mark.Comma (Punct Mark.Comma) = inl refl
+seen Mark.Question (Punct Mark.Question) = inl refl
+seen Mark.Colon (Punct Mark.Colon) = inl refl
+seen Mark.Bang (Punct Mark.Bang) = inl refl
 seen m t = inr (λ e. cc e)
 
 eat : (m : Mark) (old : List Placed) → First (Punct m) old
@@ -76,7 +68,7 @@ Reader k n = (old : List Placed) → length old ≤ k → Comes n old
 -- an expression directly after an open mark, with what closes it or a comma, or the descent is stuck
 data Inside (o : OpenMark) (old : List Placed) : Type 0 where
   closed : (a : NamedTree) (mid new : List Placed) → Took 0 a old mid → Begins (Punct (closing o)) mid new → Inside o old
-  comma : (a : NamedTree) (mid new : List Placed) → takes_comma o ≡ true → Took 0 a old mid → Begins (Punct mark.Comma) mid new → Inside o old
+  comma : (a : NamedTree) (mid new : List Placed) → takes_comma o ≡ true → Took 0 a old mid → Begins (Punct Mark.Comma) mid new → Inside o old
   no_end : (new : List Placed) → ((s : List OpenMark) → scan (Operand, o ∷ s) old ≡ stuck_at new) → Inside o old
 
 module _ (k : ℕ) (expr : (old : List Placed) → length old < k → Comes 0 old) where
@@ -84,11 +76,11 @@ module _ (k : ℕ) (expr : (old : List Placed) → length old < k → Comes 0 ol
   inside o old h = elim (expr old h) [
     | stuck new x ↦ no_end new (λ s. x (o ∷ s))
     | taken a mid x ↦
-        let no_more : BeginsNot (Punct (closing o)) mid → (takes_comma o ≡ true → BeginsNot (Punct mark.Comma) mid) → Inside o old
+        let no_more : BeginsNot (Punct (closing o)) mid → (takes_comma o ≡ true → BeginsNot (Punct Mark.Comma) mid) → Inside o old
         = λ other nor. no_end mid (λ s. x.0.scans (o ∷ s) ∙ stuck_inside o s mid x.1 other nor) in
         elim (eat (closing o) mid) [
           | is new b ↦ closed a mid new x.0 b
-          | isnt other ↦ elim (eat mark.Comma mid) [
+          | isnt other ↦ elim (eat Mark.Comma mid) [
             | isnt nor ↦ no_more other (λ _. nor)
             | is new b ↦ elim (cases_Bool (takes_comma o)) [ inl takes ↦ comma a mid new takes x.0 b | inr not ↦ no_more other (λ takes. absurd (cc (takes, not))) ]
           ]
@@ -110,7 +102,7 @@ module _ (k : ℕ) (expr : (old : List Placed) → length old < k → Comes 0 ol
   -- the indexes after an operand
   indexed : (j : ℕ) (old mid : List Placed) (a : NamedTree) → Took 8 a old mid → length mid ≤ k → length mid < j → Comes 7 old
   indexed zero old mid a x h l = absurd (omega arith)
-  indexed (suc j) old mid a x h l = elim (eat mark.OpenBracket mid) [
+  indexed (suc j) old mid a x h l = elim (eat Mark.OpenBracket mid) [
     | isnt other ↦ taken a mid (took_tighter x, stops_postfix 7 mid (omega arith) (omega arith) other)
     | is next b ↦ elim (inside InIndex next (omega (arith, fewer_after b))) [
       | closed i last new y c ↦ indexed j old new (e.Pick a i) (took_pick x b y c) (omega (arith, fewer_after b, y.fewer, fewer_after c)) (omega (arith, fewer_after b, y.fewer, fewer_after c))
@@ -128,9 +120,9 @@ module _ (k : ℕ) (expr : (old : List Placed) → length old < k → Comes 0 ol
   first (Truth v) place ps h below = operand (e.Truth v) (took_truth (record { place = place; is = refl })) (omega arith)
   first (Word x) place ps h below =
       let b : Begins (Word x) (record { token = Word x; place = place } ∷ ps) ps = record { place = place; is = refl } in
-      elim (eat mark.Open ps) [
+      elim (eat Mark.Open ps) [
         | isnt other ↦ operand (e.Col x) (took_name b other) (omega arith)
-        | is args c ↦ elim (eat mark.Close args) [
+        | is args c ↦ elim (eat Mark.Close args) [
           | is new d ↦ operand (e.Call x End) (took_call_none b c d) (omega (arith, fewer_after c, fewer_after d))
           | isnt other ↦ elim (arguments k args (omega (arith, fewer_after c)) (omega (arith, fewer_after c))) [
             | taken r new y ↦ operand (e.Call x r) (took_call b c other y) (omega (arith, fewer_after c, y.fewer))
@@ -138,9 +130,9 @@ module _ (k : ℕ) (expr : (old : List Placed) → length old < k → Comes 0 ol
           ]
         ]
       ]
-  first (Op op.Sub) place ps h below = elim below [ taken a new x ↦ taken (e.Neg a) new (took_minus_sign (record { place = place; is = refl }) x.0, x.1) | stuck new x ↦ stuck new (λ s. x s) ]
-  first (Punct mark.Bang) place ps h below = elim below [ taken a new x ↦ taken (e.Not a) new (took_not_sign (record { place = place; is = refl }) x.0, x.1) | stuck new x ↦ stuck new (λ s. x s) ]
-  first (Punct mark.Open) place ps h below = elim (inside InParens ps h) [
+  first (Op BinOp.Sub) place ps h below = elim below [ taken a new x ↦ taken (e.Neg a) new (took_minus_sign (record { place = place; is = refl }) x.0, x.1) | stuck new x ↦ stuck new (λ s. x s) ]
+  first (Punct Mark.Bang) place ps h below = elim below [ taken a new x ↦ taken (e.Not a) new (took_not_sign (record { place = place; is = refl }) x.0, x.1) | stuck new x ↦ stuck new (λ s. x s) ]
+  first (Punct Mark.Open) place ps h below = elim (inside InParens ps h) [
     | closed a mid new y c ↦ operand a (took_parens (record { place = place; is = refl }) y c) (omega (arith, y.fewer, fewer_after c))
     | comma a mid new takes y c ↦ absurd (cc takes)
     | no_end new y ↦ stuck new (λ s. y s)
@@ -174,7 +166,7 @@ module _ (k : ℕ) (expr : (old : List Placed) → length old < k → Comes 0 ol
   conditional : Reader k 0
   conditional old h = elim (binary 6 1 refl (omega arith) old h) [
     | stuck new x ↦ stuck new x
-    | taken c m1 x ↦ elim (eat mark.Question m1) [
+    | taken c m1 x ↦ elim (eat Mark.Question m1) [
       | isnt other ↦ taken c m1 (took_tighter x.0, stops_expr m1 x.1 other)
       | is m2 b ↦ elim (inside InChoice m2 (omega (arith, x.0.fewer, fewer_after b))) [
         | closed a m3 m4 y d ↦ elim (expr m4 (omega (arith, x.0.fewer, fewer_after b, y.fewer, fewer_after d))) [
@@ -211,12 +203,12 @@ lists : (j : ℕ) (ls : List (List NamedTree)) (old mid : List Placed) → Listi
 lists zero ls old mid l h = absurd (omega arith)
 lists (suc j) ls old mid l h = elim (one_list mid) [
   | stuck new y ↦ stuck new (l.scans ∙ y (InLists ∷ []))
-  | taken es m1 y ↦ elim (eat mark.Comma m1) [
-    | is m2 b ↦ elim (eat mark.OpenBrace m2) [
+  | taken es m1 y ↦ elim (eat Mark.Comma m1) [
+    | is m2 b ↦ elim (eat Mark.OpenBrace m2) [
       | is m3 c ↦ lists j (ls ++ es ∷ []) old m3 (lists_more l y b c) (omega (arith, y.fewer, fewer_after b, fewer_after c))
       | isnt other ↦ stuck m2 (l.scans ∙ y.scans (InLists ∷ []) ∙ scan_after (AfterList, InLists ∷ []) (NextList, InLists ∷ []) b refl ∙ stuck_next m2 other)
     ]
-    | isnt other ↦ elim (eat mark.CloseBrace m1) [
+    | isnt other ↦ elim (eat Mark.CloseBrace m1) [
       | is new b ↦ taken (ls ++ es ∷ []) new (lists_done l y b)
       | isnt nor ↦ stuck m1 (l.scans ∙ y.scans (InLists ∷ []) ∙ stuck_between m1 other nor)
     ]
@@ -224,12 +216,12 @@ lists (suc j) ls old mid l h = elim (one_list mid) [
 ]
 
 values : (old : List Placed) → Outcome (λ (v : VaryValues) (new : List Placed). TookValues v old new) (λ (new : List Placed). scan begin_values old ≡ stuck_at new)
-values old = elim (eat mark.OpenBrace old) [
+values old = elim (eat Mark.OpenBrace old) [
   | isnt other ↦ elim (expr (suc (length old)) old (omega arith)) [
     | taken a new x ↦ taken (Vector a) new (took_vector other x.0 x.1)
     | stuck new x ↦ stuck new (vector_first old other ∙ x [])
   ]
-  | is m1 b ↦ elim (eat mark.OpenBrace m1) [
+  | is m1 b ↦ elim (eat Mark.OpenBrace m1) [
     | is m2 c ↦ elim (lists (suc (length m2)) [] m2 m2 (record { tokens = []; split = refl; completes = λ us ls r. r; scans = refl }) (omega arith)) [
       | taken ls new x ↦ taken (Lists ls) new (took_lists b c x)
       | stuck new x ↦ stuck new (scan_after begin_values (AfterBrace, InList ∷ []) b refl ∙ scan_after (AfterBrace, InList ∷ []) in_list c refl ∙ x)

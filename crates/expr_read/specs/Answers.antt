@@ -1,10 +1,8 @@
 -- What a refusal says.
 use Rattle.std.specs.Prelude.{◌≡◌, ℕ, List, [], ◌∷◌, ◌⊎◌}
-use Rattle.rdf_values.specs.Tokens.{Token, Placed}
-use Rattle.rdf_values.specs.Scans.{ScanState, Partial, Refused, scan, Refuses}
-use Rattle.rdf_values.specs.declared.expr_cause.ExprCause.TheVariants as cause
+use Rattle.rdf_values.specs.{ExprCause, Partial, Placed, Refused, scan, ScanState, Token}
+use Rattle.rdf_values.specs.Scans.{Refuses}
 use Rattle.expr_read.specs.declared.refusal.ExprRefusal.{ExprRefusal}
-use Rattle.expr_read.specs.declared.refusal.ExprRefusal.TheVariants as no
 
 -- the place of the first token, or the end
 abbrev pub place_from : List Placed → ℕ → ℕ
@@ -13,10 +11,10 @@ place_from (t ∷ ts) end = t.place
 
 -- the scan, begun so, refuses a token at the place, or wants more than there are and the place is the end
 abbrev pub RefusesTokensAs : ScanState → List Placed → ℕ → ExprRefusal → Type 0
-RefusesTokensAs begin ts end no.Memory = Unit {0}
-RefusesTokensAs begin ts end (no.At why place) = (why ≡ cause.Unexpected) × ((scan begin ts ≡ Refused place) ⊎ ((scan begin ts ≡ Partial) × (place ≡ end)))
+RefusesTokensAs begin ts end ExprRefusal.Memory = Unit {0}
+RefusesTokensAs begin ts end (ExprRefusal.At why place) = (why ≡ ExprCause.Unexpected) × ((scan begin ts ≡ Refused place) ⊎ ((scan begin ts ≡ Partial) × (place ≡ end)))
 
 -- this is the first refusal of the text, or there was no memory
 abbrev pub RefusesTextAs : {T : Type 0} → (List Token → T → Type 0) → ScanState → List ℕ → ExprRefusal → Type 0
-RefusesTextAs reads begin text no.Memory = Unit {0}
-RefusesTextAs reads begin text (no.At why place) = Refuses reads begin text (record { cause = why; place = place })
+RefusesTextAs reads begin text ExprRefusal.Memory = Unit {0}
+RefusesTextAs reads begin text (ExprRefusal.At why place) = Refuses reads begin text (record { cause = why; place = place })

@@ -1,6 +1,6 @@
 -- What a parser has left.
 use Rattle.std.specs.Prelude.{List, map}
-use Rattle.rdf_values.specs.Tokens.{Placed}
+use Rattle.rdf_values.specs.{Placed}
 use Rattle.expr_read.specs.Views.{placed_of}
 use Rattle.expr_read.specs.declared.parser.Parser.{Parser}
 

@@ -1,13 +1,6 @@
 -- What the parser takes of the tokens that are left.
 use Rattle.std.specs.Prelude.{◌≡◌, ◌<◌, ◌≤◌, ℕ, Bool, true, false, nat_le, nat_eq, List, [], ◌∷◌, ◌++◌, length, drop, Option, Some, None}
-use Rattle.rdf_values.specs.Tree.{NamedTree, End}
-use Rattle.rdf_values.specs.Tokens.{Token, Op, Punct, Placed}
-use Rattle.rdf_values.specs.Grammar.{NamedTrees, Reads, ReadsArgs, ReadsList, ReadsLists, ReadsValues, level_of, bare}
-use Rattle.rdf_values.specs.declared.vary_values.VaryValues.{VaryValues}
-use Rattle.rdf_values.specs.Scans.{OpenMark, InCall, InList, InLists, Nothing, Whole, after_list, begin_values, Operand, AfterName, Operator, ScanState, ScanEnd, Partial, Refused, scan}
-use Rattle.rdf_values.specs.declared.expr.BinOp.{BinOp}
-use Rattle.rdf_values.specs.declared.expr.BinOp.TheVariants as op
-use Rattle.rdf_values.specs.declared.expr.Mark.TheVariants as mark
+use Rattle.rdf_values.specs.{after_list, AfterName, bare, begin_values, BinOp, End, InCall, InList, InLists, level_of, Mark, NamedTree, NamedTrees, Nothing, Op, OpenMark, Operand, Operator, Partial, Placed, Punct, Reads, ReadsArgs, ReadsList, ReadsLists, ReadsValues, Refused, scan, ScanEnd, ScanState, Token, VaryValues, Whole}
 use Rattle.expr_read.specs.declared.token.Token.{Token as Seen}
 use Rattle.expr_read.specs.Views.{token_of}
 
@@ -22,7 +15,7 @@ BeginsNot t old = (new : List Placed) → Begins t old new → ⊥
 
 -- neither `-` nor `!` comes first
 abbrev pub HasNoSign : List Placed → Type 0
-HasNoSign old = BeginsNot (Op op.Sub) old × BeginsNot (Punct mark.Bang) old
+HasNoSign old = BeginsNot (Op BinOp.Sub) old × BeginsNot (Punct Mark.Bang) old
 
 -- the first of the tokens
 abbrev pub Sees : List Placed → Option Seen → Type 0
@@ -42,8 +35,8 @@ IsOpOf n (Some o) old new = (level_of o ≡ n) × Begins (Op o) old new
 -- whether an expression of the level goes on with the token
 abbrev pub continues : ℕ → Token → Bool
 continues n (Op o) = nat_le n (level_of o)
-continues n (Punct mark.Question) = nat_eq n 0
-continues n (Punct mark.OpenBracket) = nat_le n 8
+continues n (Punct Mark.Question) = nat_eq n 0
+continues n (Punct Mark.OpenBracket) = nat_le n 8
 continues n t = false
 
 abbrev pub Stops : ℕ → List Placed → Type 0
@@ -61,7 +54,7 @@ pub record Took (n : ℕ) (a : NamedTree) (old new : List Placed) : Type 0 where
 -- one argument of a call at least and its `)` were read
 pub record TookArgs (args : NamedTrees) (old new : List Placed) : Type 0 where
   pub tokens : List Token
-  pub split : bare old ≡ tokens ++ Punct mark.Close ∷ bare new
+  pub split : bare old ≡ tokens ++ Punct Mark.Close ∷ bare new
   pub reads : ReadsArgs tokens args
   pub some : (args ≡ End) → ⊥
   pub scans : (s : List OpenMark) → scan (Operand, InCall ∷ s) old ≡ scan (Operator, s) new
@@ -98,7 +91,7 @@ pub record Listing (items : List NamedTree) (old new : List Placed) : Type 0 whe
 -- the items of a list and its `}` were read
 pub record TookList (items : List NamedTree) (old new : List Placed) : Type 0 where
   pub tokens : List Token
-  pub split : bare old ≡ tokens ++ Punct mark.CloseBrace ∷ bare new
+  pub split : bare old ≡ tokens ++ Punct Mark.CloseBrace ∷ bare new
   pub reads : ReadsList tokens items
   pub scans : (s : List OpenMark) → scan (Operand, InList ∷ s) old ≡ scan (after_list s) new
   pub fewer : length new < length old
@@ -114,14 +107,14 @@ in_list = (Operand, InList ∷ InLists ∷ [])
 pub record Listings (lists : List (List NamedTree)) (old new : List Placed) : Type 0 where
   pub tokens : List Token
   pub split : bare old ≡ tokens ++ bare new
-  pub completes : (us : List Token) (ls : List (List NamedTree)) → ReadsLists (Punct mark.OpenBrace ∷ us) ls → ReadsLists (Punct mark.OpenBrace ∷ (tokens ++ us)) (lists ++ ls)
+  pub completes : (us : List Token) (ls : List (List NamedTree)) → ReadsLists (Punct Mark.OpenBrace ∷ us) ls → ReadsLists (Punct Mark.OpenBrace ∷ (tokens ++ us)) (lists ++ ls)
   pub scans : scan in_list old ≡ scan in_list new
 
 -- lists were read, after the `{` of the first, and the outer `}`
 pub record TookLists (lists : List (List NamedTree)) (old new : List Placed) : Type 0 where
   pub tokens : List Token
-  pub split : bare old ≡ tokens ++ Punct mark.CloseBrace ∷ bare new
-  pub reads : ReadsLists (Punct mark.OpenBrace ∷ tokens) lists
+  pub split : bare old ≡ tokens ++ Punct Mark.CloseBrace ∷ bare new
+  pub reads : ReadsLists (Punct Mark.OpenBrace ∷ tokens) lists
   pub scans : scan in_list old ≡ scan (Nothing, []) new
 
 -- how a scan ends that wants nothing more

@@ -1,8 +1,8 @@
 -- Tokens that a text can give.
 use Rattle.std.specs.Prelude.{ℤ, pos, negsuc, Bool, true, false, List, nat_lt}
 use Rattle.std.specs.List.{list_all}
-use Rattle.rdf_values.specs.Names.{is_name}
-use Rattle.rdf_values.specs.Tokens.{Token, Word, Number}
+use Rattle.rdf_values.specs.{is_name, Token}
+use Rattle.rdf_values.specs.Tokens.{Word, Number}
 
 -- a number of a token isn't below 0, and is below 2 ^ 63
 abbrev pub is_number : ℤ → Bool

@@ -1,13 +1,13 @@
 -- What tokens and refusals are to the definitions.
 use Rattle.std.specs.Prelude.{◌≡◌, Result, Ok, Err}
-use Rattle.rdf_values.specs.Tokens.{Token, Word, Truth, Number, Op, Punct, Placed, Refusal, First}
+use Rattle.rdf_values.specs.{First, Op, Placed, Punct, Refusal, Token}
+use Rattle.rdf_values.specs.Tokens.{Word, Truth, Number}
 use Rattle.expr_read.specs.declared.token.Token.{Token as Seen}
 use Rattle.expr_read.specs.declared.token.Token.TheVariants as seen
 use Rattle.expr_read.specs.declared.token.Placed.{Placed as SeenAt}
 use Rattle.expr_read.specs.declared.lexeme.Lexeme.{Lexeme}
 use Rattle.expr_read.specs.declared.lexeme.Misread.{Misread}
 use Rattle.expr_read.specs.declared.refusal.ExprRefusal.{ExprRefusal}
-use Rattle.expr_read.specs.declared.refusal.ExprRefusal.TheVariants as no
 
 abbrev pub token_of : Seen → Token
 token_of (seen.Word w) = Word w.now
@@ -25,5 +25,5 @@ first_of (Err m) = Err (record { cause = m.cause; place = m.offset })
 
 -- a refusal is the wanted one, or there was no memory
 abbrev pub IsRefusalOf : {A : Type 0} → Result A Refusal → ExprRefusal → Type 0
-IsRefusalOf wanted (no.At cause place) = wanted ≡ Err (record { cause = cause; place = place })
-IsRefusalOf wanted no.Memory = Unit {0}
+IsRefusalOf wanted (ExprRefusal.At cause place) = wanted ≡ Err (record { cause = cause; place = place })
+IsRefusalOf wanted ExprRefusal.Memory = Unit {0}

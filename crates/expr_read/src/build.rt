@@ -1,8 +1,6 @@
 // Expressions from their parts.
 ghost use Rattle.std.specs.Prelude.{◌≡◌, true, IfOk, IfErr};
-ghost use Rattle.rdf_values.specs.Names.{is_name};
-ghost use Rattle.rdf_values.specs.Tree.{Neg as NegTree, Not as NotTree, Bin as BinTree, Cond as CondTree, Pick as PickTree, More as MoreTrees};
-ghost use Rattle.rdf_values.specs.ExprTree.{tree_of, trees_of};
+ghost use Rattle.rdf_values.specs.{Bin as BinTree, Cond as CondTree, is_name, More as MoreTrees, Neg as NegTree, Not as NotTree, Pick as PickTree, tree_of, trees_of};
 
 use crate::fail::Fail;
 use rdf_values::{Args, BinOp, ExprNode, Name};

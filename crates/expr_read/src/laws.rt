@@ -1,10 +1,6 @@
 // What holds of the grammar of expressions and of its scan; the functions do nothing, and their contracts are the laws.
 ghost use Rattle.std.specs.Prelude.{◌≡◌, ◌⊎◌, ℕ, List};
-ghost use Rattle.rdf_values.specs.Tree.{NamedTree};
-ghost use Rattle.rdf_values.specs.declared.vary_values.VaryValues.{VaryValues};
-ghost use Rattle.rdf_values.specs.Tokens.{Placed, Refusal};
-ghost use Rattle.rdf_values.specs.Grammar.{Reads, ReadsValues, bare};
-ghost use Rattle.rdf_values.specs.Scans.{Whole, scan, begin_expr, begin_values, ReadsText, ReadsValuesText, RefusesText, RefusesValuesText};
+ghost use Rattle.rdf_values.specs.{bare, begin_expr, begin_values, NamedTree, Placed, Reads, ReadsText, ReadsValues, ReadsValuesText, Refusal, RefusesText, RefusesValuesText, scan, VaryValues, Whole};
 
 /// A text reads as one expression at most, and as one value at most.
 pub fn one_tree()

@@ -1,6 +1,6 @@
 // How tight operators bind.
 ghost use Rattle.std.specs.Prelude.{◌≡◌};
-ghost use Rattle.rdf_values.specs.Grammar.{level_of};
+ghost use Rattle.rdf_values.specs.{level_of};
 
 use rdf_values::BinOp;
 

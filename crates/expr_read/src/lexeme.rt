@@ -1,7 +1,7 @@
 // The token that a text begins with.
 ghost use Rattle.std.specs.Prelude.{◌≡◌, ◌<◌, ◌∷◌, List, ℕ, length, option_map};
-ghost use Rattle.rdf_values.specs.Tokens.{word_first, number_first, long_mark, short_mark, mark_first, first_token};
-ghost use Rattle.expr_read.specs.Views.{first_of, token_of};
+ghost use Rattle.rdf_values.specs.{first_token, long_mark, mark_first, number_first, short_mark, word_first};
+ghost use Rattle.expr_read.specs.{first_of, token_of};
 
 use crate::token::Token;
 use rdf_values::name::is_word_start;

@@ -1,12 +1,9 @@
 // Reads tokens as an expression, from the left with one token in hand.
 ghost use Rattle.std.specs.Prelude.{◌≡◌, ◌≤◌, ◌<◌, [], ◌∷◌, List, ℕ, length, drop, OnOk, IfOk, IfErr, IfSome, map, true};
-ghost use Rattle.rdf_values.specs.ExprTree.{tree_of, trees_of};
-ghost use Rattle.rdf_values.specs.Tokens.{Placed as At, Word, Op, Punct};
-ghost use Rattle.rdf_values.specs.Names.{is_name};
-ghost use Rattle.rdf_values.specs.Grammar.{bare};
-ghost use Rattle.expr_read.specs.Views.{token_of, placed_of};
-ghost use Rattle.expr_read.specs.Valid.{is_valid, are_valid};
-ghost use Rattle.expr_read.specs.Parsing.{Begins, BeginsNot, HasNoSign, Ate, Sees, IsOpOf, Took, TookArgs, Stops, IsStuckFrom, at_expr, after_name, at_more};
+ghost use Rattle.rdf_values.specs.{bare, is_name, Op, Placed as At, Punct, tree_of, trees_of};
+ghost use Rattle.rdf_values.specs.Tokens.{Word};
+ghost use Rattle.expr_read.specs.Valid.{are_valid};
+ghost use Rattle.expr_read.specs.Views.{placed_of};
 
 use crate::build;
 use crate::fail::Fail;
@@ -28,7 +25,7 @@ pub(crate) struct Parser<'a> {
 }
 
 impl<'a> Parser<'a> {
-    ghost use Rattle.expr_read.specs.Left.{left_of};
+    ghost use Rattle.expr_read.specs.{after_name, at_expr, at_more, Ate, Begins, BeginsNot, HasNoSign, is_valid, IsOpOf, IsStuckFrom, left_of, Sees, Stops, token_of, Took, TookArgs};
 
     // The next token.
     fn peek(&self) -> Option<Token<'a>>

@@ -1,9 +1,7 @@
 // Prints expressions.
 ghost use Rattle.std.specs.Prelude.{◌≡◌, ◌++◌, ◌≤◌, nat_le, codes, OnOk, IfOk, List, ℕ};
 ghost use Rattle.std.specs.Fmt.{signed_decimal};
-ghost use Rattle.rdf_values.specs.ExprTree.{tree_of, trees_of};
-ghost use Rattle.rdf_values.specs.Scans.{ReadsText};
-ghost use Rattle.rdf_values.specs.Canonical.{tree_level, in_parens, text_of, args_text, more_text, op_text};
+ghost use Rattle.rdf_values.specs.{args_text, in_parens, more_text, op_text, ReadsText, text_of, tree_level, tree_of, trees_of};
 
 use crate::level::level_of;
 use rdf_values::{Args, BinOp, Expr, ExprNode, Memory, Text};

@@ -1,13 +1,7 @@
 // Reads expressions.
 ghost use Rattle.std.specs.Prelude.{◌≡◌, ◌≤◌, ℕ, length, map, true, IfOk, IfErr, MatchResult};
-ghost use Rattle.rdf_values.specs.Tree.{NamedTree};
-ghost use Rattle.rdf_values.specs.declared.vary_values.VaryValues.{VaryValues as Values};
-ghost use Rattle.rdf_values.specs.ExprTree.{tree_of};
-ghost use Rattle.rdf_values.specs.Grammar.{Reads, ReadsValues, bare};
-ghost use Rattle.rdf_values.specs.Scans.{ReadsText, ReadsValuesText, begin_expr, begin_values};
-ghost use Rattle.expr_read.specs.Views.{placed_of};
-ghost use Rattle.expr_read.specs.Valid.{are_valid};
-ghost use Rattle.expr_read.specs.Answers.{place_from, RefusesTokensAs, RefusesTextAs};
+ghost use Rattle.rdf_values.specs.{bare, begin_expr, begin_values, NamedTree, Reads, ReadsText, ReadsValues, ReadsValuesText, tree_of, VaryValues as Values};
+ghost use Rattle.expr_read.specs.{are_valid, place_from, placed_of, RefusesTextAs, RefusesTokensAs};
 
 use crate::fail::Fail;
 use crate::parser::Parser;

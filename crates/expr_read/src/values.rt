@@ -1,8 +1,7 @@
 // Reads tokens as the values of a variation.
 ghost use Rattle.std.specs.Prelude.{◌≡◌, List, [], ◌∷◌, ◌++◌, Err, OnOk, IfOk, IfErr};
-ghost use Rattle.rdf_values.specs.Scans.{begin_values, scan};
-ghost use Rattle.expr_read.specs.Left.{left_of};
-ghost use Rattle.expr_read.specs.Parsing.{TookList, TookLists, TookValues, IsStuckFrom, at_item, stuck_at, in_list};
+ghost use Rattle.rdf_values.specs.{begin_values, scan};
+ghost use Rattle.expr_read.specs.{at_item, in_list, IsStuckFrom, left_of, stuck_at, TookList, TookLists, TookValues};
 
 use crate::fail::Fail;
 use crate::parser::Parser;

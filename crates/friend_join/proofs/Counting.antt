@@ -1,25 +1,15 @@
 -- How many elements the vectors of a table have: row by row, and column by column.
-use Rattle.std.proofs.Common.{◌≡◌, ◌≤◌, ◌<◌, ◌+◌, ℕ, ℤ, zero, suc, pos, All, List, [], ◌∷◌, ◌++◌, length, map, get_or, take, drop, refl, ap, ap₂, ◌∙◌, sym, arith, Option, None, Some, subst, length-append, append-nil, append_assoc}
-use Rattle.std.specs.Prelude.{MatchOption, ⊤, slice_get}
+use Rattle.std.proofs.Common.{◌≡◌, ◌≤◌, ◌<◌, ◌+◌, ℕ, ℤ, zero, suc, pos, All, List, [], ◌∷◌, ◌++◌, length, map, get_or, take, drop, refl, ap, ap₂, ◌∙◌, sym, arith, Option, None, Some, subst, length-append, append-nil, append_assoc, MatchOption, slice_get}
+use Rattle.std.specs.Prelude.{⊤}
 use Rattle.std.specs.List.{remove, sum_by}
 use Rattle.std.proofs.lemmas.List.{get_or-append-add, get_or_append_left, take-append-drop, take_more}
 use Rattle.std.proofs.lemmas.Grind.{flat_map-append}
 use Rattle.std.proofs.lemmas.List.Sums.{sum_by-append, sum_by-cons, sum_by_more}
-use Rattle.rdf_values.specs.Cuts.{below}
-use Rattle.rdf_values.specs.Kept.{AreKept, HoldsTable, IsKept, cell_at, count, rows_kept}
-use Rattle.rdf_values.specs.Tables.{FitRows, FitsColumn}
-use Rattle.rdf_values.specs.declared.cells.Cells.{Cells}
-use Rattle.rdf_values.specs.declared.cells.Cells.TheVariants as kept
-use Rattle.rdf_values.specs.declared.column.Column.{Column}
-use Rattle.rdf_values.specs.declared.value.ColType.{ColType}
-use Rattle.rdf_values.specs.declared.value.ColType.TheVariants as k
-use Rattle.rdf_values.specs.declared.value.Value.{Value}
-use Rattle.rdf_values.specs.declared.value.Value.TheVariants as v
+use Rattle.rdf_values.specs.{AreKept, below, cell_at, Cells, ColType, Column, count, FitRows, FitsColumn, HoldsTable, IsKept, rows_kept, Value}
 use Rattle.rdf_values.proofs.Below.{slice_get-below}
 use Rattle.rdf_values.proofs.KeptLemmas.{map_below}
-use Rattle.friend_join.specs.JoinRefused.{elements, elements_of, row_elements}
-use Rattle.columns.specs.Wholes.{joined}
-use Rattle.friend_join.specs.Matches.{AreBelow, AreEntries, AreSmall, IsSmall, column_elements, length_for, matched_cells, matched_elements, vector_for}
+use Rattle.friend_join.specs.{AreBelow, AreEntries, AreSmall, column_elements, elements, elements_of, IsSmall, length_for, matched_cells, matched_elements, row_elements, vector_for}
+use Rattle.columns.specs.{joined}
 use Rattle.friend_join.proofs.Removing.{remove_nil, there}
 
 -- ---- a sum, element by element
@@ -49,16 +39,16 @@ one_column x xs (e ∷ es) =
     let others = sum_by-cons row_elements (map (cell_at e) xs) (map (λ e. map (cell_at e) xs) es) in
     omega arith
 
-no_elements : (ns : List ℤ) → sum_by elements_of (map v.Int ns) ≡ 0
+no_elements : (ns : List ℤ) → sum_by elements_of (map Value.Int ns) ≡ 0
 no_elements [] = refl
-no_elements (n ∷ ns) = sum_by-cons elements_of (v.Int n) (map v.Int ns) ∙ ap (λ (m : ℕ). elements_of (v.Int n) + m) (no_elements ns)
+no_elements (n ∷ ns) = sum_by-cons elements_of (Value.Int n) (map Value.Int ns) ∙ ap (λ (m : ℕ). elements_of (Value.Int n) + m) (no_elements ns)
 
 of_column : (kind : ColType) (n : ℕ) (x : Cells) → IsKept kind n x → sum_by elements_of (map (λ e. cell_at e x) (below n)) ≡ column_elements x
-of_column k.Int n (kept.Ints ns) h = ap (sum_by elements_of) (map_below (pos 0) v.Int ns n h) ∙ no_elements ns
-of_column k.Int n (kept.Vects vs) h = absurd h
-of_column k.Bool n x h = absurd h
-of_column k.Vect n (kept.Ints ns) h = absurd h
-of_column k.Vect n (kept.Vects vs) h = ap (sum_by elements_of) (map_below [] v.Vect vs n h) ∙ sum_map elements_of v.Vect vs
+of_column ColType.Int n (Cells.Ints ns) h = ap (sum_by elements_of) (map_below (pos 0) Value.Int ns n h) ∙ no_elements ns
+of_column ColType.Int n (Cells.Vects vs) h = absurd h
+of_column ColType.Bool n x h = absurd h
+of_column ColType.Vect n (Cells.Ints ns) h = absurd h
+of_column ColType.Vect n (Cells.Vects vs) h = ap (sum_by elements_of) (map_below [] Value.Vect vs n h) ∙ sum_map elements_of Value.Vect vs
 
 by_columns : (n : ℕ) (columns : List Column) (xs : List Cells) → AreKept n columns xs → sum_by row_elements (map (λ e. map (cell_at e) xs) (below n)) ≡ sum_by column_elements xs
 by_columns n [] [] h = no_cells (below n)
@@ -77,8 +67,8 @@ of_matched missing ms (y ∷ ys) =
     sum_by-cons column_elements (matched_cells missing ms y) (map (matched_cells missing ms) ys) ∙ ap₂ (λ a b. a + b) (one y) (of_matched missing ms ys) ∙ sym (sum_by-cons (matched_elements ms) y ys)
   where
     one : (y : Cells) → column_elements (matched_cells missing ms y) ≡ matched_elements ms y
-    one (kept.Ints ns) = refl
-    one (kept.Vects vs) = sum_map length (vector_for vs) ms
+    one (Cells.Ints ns) = refl
+    one (Cells.Vects vs) = sum_map length (vector_for vs) ms
 
 -- the elements of columns with others behind them that are laid out anew
 pub elements_joined : (missing : ℤ) (ms : List (Option ℕ)) (n : ℕ) (columns : List Column) (xs ys : List Cells) → AreKept n columns (xs ++ map (matched_cells missing ms) ys)
@@ -99,11 +89,11 @@ column_split c cs x xs (e ∷ es) h = let rest = column_split c cs x xs es h.1 i
     first rest (suc i) d q = rest i d q
 
 small_column : (kind : ColType) (n : ℕ) (x : Cells) → n ≤ 1000000 → IsKept kind n x → ((i e : ℕ) → slice_get (below n) i ≡ Some e → FitsColumn kind (cell_at e x)) → IsSmall x
-small_column k.Int n (kept.Ints ns) few h f = omega (arith, h)
-small_column k.Int n (kept.Vects vs) few h f = absurd h
-small_column k.Bool n x few h f = absurd h
-small_column k.Vect n (kept.Ints ns) few h f = absurd h
-small_column k.Vect n (kept.Vects vs) few h f = (omega (arith, h), λ i d l. one i d l)
+small_column ColType.Int n (Cells.Ints ns) few h f = omega (arith, h)
+small_column ColType.Int n (Cells.Vects vs) few h f = absurd h
+small_column ColType.Bool n x few h f = absurd h
+small_column ColType.Vect n (Cells.Ints ns) few h f = absurd h
+small_column ColType.Vect n (Cells.Vects vs) few h f = (omega (arith, h), λ i d l. one i d l)
   where
     one : (i : ℕ) (d : List ℤ) → i < length vs → length (get_or vs i d) ≤ 4096
     one i d l =

@@ -2,17 +2,8 @@
 use Rattle.std.proofs.Common.{◌≡◌, ℕ, ℤ, zero, suc, pos, negsuc, Bool, true, false, List, [], ◌∷◌, ◌++◌, length, map, filter, sym, arith, Option, cond, subst, w64, FitsSigned}
 use Rattle.std.specs.List.{remove}
 use Rattle.std.proofs.lemmas.List.{length-map}
-use Rattle.rdf_values.specs.Kept.{AreKept, HoldsTable, IsKept, count, rows_kept}
-use Rattle.rdf_values.specs.Tables.{AreColumns, FitRows, FitsColumn, FitsRow, IsHeader, IsStored}
-use Rattle.rdf_values.specs.Words.{Has64Bits}
-use Rattle.rdf_values.specs.declared.cells.Cells.{Cells}
-use Rattle.rdf_values.specs.declared.cells.Cells.TheVariants as kept
-use Rattle.rdf_values.specs.declared.column.Column.{Column}
-use Rattle.rdf_values.specs.declared.value.ColType.{ColType}
-use Rattle.rdf_values.specs.declared.value.ColType.TheVariants as k
-use Rattle.rdf_values.specs.declared.value.Value.{Value}
-use Rattle.friend_join.specs.Joined.{KeyedTable, first_or, friend_rows, gained, joined_row, missing_row, missing_value, number_at}
-use Rattle.friend_join.specs.Matches.{AreBelow, AreEntries, matched_cells, number_for, vector_for}
+use Rattle.rdf_values.specs.{AreColumns, AreKept, Cells, ColType, Column, count, FitRows, FitsColumn, FitsRow, Has64Bits, HoldsTable, IsHeader, IsKept, IsStored, rows_kept, Value}
+use Rattle.friend_join.specs.{AreBelow, AreEntries, first_or, friend_rows, gained, joined_row, KeyedTable, matched_cells, missing_row, missing_value, number_at, number_for, vector_for}
 
 pub bits : (z : ℤ) → FitsSigned w64 z → Has64Bits z
 bits (pos n) h = let s = h.sfits in omega arith
@@ -21,11 +12,11 @@ bits (negsuc n) h = let s = h.sfits in omega arith
 -- ---- columns
 
 kept_matched : (missing : ℤ) (ms : List (Option ℕ)) (kind : ColType) (m : ℕ) (x : Cells) → IsKept kind m x → IsKept kind (length ms) (matched_cells missing ms x)
-kept_matched missing ms k.Int m (kept.Ints ns) h = length-map ms (number_for missing ns)
-kept_matched missing ms k.Int m (kept.Vects vs) h = absurd h
-kept_matched missing ms k.Bool m x h = absurd h
-kept_matched missing ms k.Vect m (kept.Ints ns) h = absurd h
-kept_matched missing ms k.Vect m (kept.Vects vs) h = length-map ms (vector_for vs)
+kept_matched missing ms ColType.Int m (Cells.Ints ns) h = length-map ms (number_for missing ns)
+kept_matched missing ms ColType.Int m (Cells.Vects vs) h = absurd h
+kept_matched missing ms ColType.Bool m x h = absurd h
+kept_matched missing ms ColType.Vect m (Cells.Ints ns) h = absurd h
+kept_matched missing ms ColType.Vect m (Cells.Vects vs) h = length-map ms (vector_for vs)
 
 are_kept_matched : (missing : ℤ) (ms : List (Option ℕ)) (m : ℕ) (columns : List Column) (ys : List Cells) → AreKept m columns ys → AreKept (length ms) columns (map (matched_cells missing ms) ys)
 are_kept_matched missing ms m [] [] h = tt
@@ -55,11 +46,11 @@ entries_of_each ms m (c ∷ cs) [] h b = absurd h
 entries_of_each ms m (c ∷ cs) (y ∷ ys) h b = (subst (λ (n : ℕ). AreBelow n ms) (sym (as_many c.kind y h.0)) b, entries_of_each ms m cs ys h.1 b)
   where
     as_many : (kind : ColType) (y : Cells) → IsKept kind m y → count y ≡ m
-    as_many k.Int (kept.Ints ns) q = q
-    as_many k.Int (kept.Vects vs) q = absurd q
-    as_many k.Bool y q = absurd q
-    as_many k.Vect (kept.Ints ns) q = absurd q
-    as_many k.Vect (kept.Vects vs) q = q
+    as_many ColType.Int (Cells.Ints ns) q = q
+    as_many ColType.Int (Cells.Vects vs) q = absurd q
+    as_many ColType.Bool y q = absurd q
+    as_many ColType.Vect (Cells.Ints ns) q = absurd q
+    as_many ColType.Vect (Cells.Vects vs) q = q
 
 -- ---- rows
 
@@ -78,9 +69,9 @@ fits_remove (b ∷ bs) (y ∷ ys) zero h = h.1
 fits_remove (b ∷ bs) (y ∷ ys) (suc p) h = (h.0, fits_remove bs ys p h.1)
 
 missing_fits : (missing : ℤ) (kind : ColType) → Has64Bits missing → IsStored kind → FitsColumn kind (missing_value missing kind)
-missing_fits missing k.Int h s = (tt, h)
-missing_fits missing k.Bool h s = absurd s
-missing_fits missing k.Vect h s = (omega arith, (omega arith, λ i d l. absurd (omega arith)))
+missing_fits missing ColType.Int h s = (tt, h)
+missing_fits missing ColType.Bool h s = absurd s
+missing_fits missing ColType.Vect h s = (omega arith, (omega arith, λ i d l. absurd (omega arith)))
 
 missing_row_fits : (missing : ℤ) (seen cs : List Column) → Has64Bits missing → AreColumns seen cs → FitsRow cs (missing_row missing cs)
 missing_row_fits missing seen [] h a = tt

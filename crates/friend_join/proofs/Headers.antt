@@ -1,19 +1,13 @@
 -- The header of two tables together.
-use Rattle.std.proofs.Common.{◌≡◌, ◌≤◌, ◌<◌, ◌+◌, ◌-◌, ℕ, zero, suc, Bool, true, false, ◌||◌, ◌&&◌, List, [], ◌∷◌, ◌++◌, length, refl, ap, ◌∙◌, sym, arith, None, Some, length-append, append-nil, append_assoc, cond, subst}
-use Rattle.std.specs.Prelude.{not, position, slice_get, option_map}
+use Rattle.std.proofs.Common.{◌≡◌, ◌≤◌, ◌<◌, ◌+◌, ◌-◌, ℕ, zero, suc, Bool, true, false, ◌||◌, ◌&&◌, List, [], ◌∷◌, ◌++◌, length, refl, ap, ◌∙◌, sym, arith, None, Some, length-append, append-nil, append_assoc, cond, subst, not, position, slice_get, option_map}
 use Rattle.std.specs.List.{position_from, remove}
 use Rattle.std.proofs.lemmas.Iterator.Adapters.{position_from-zero}
 use Rattle.std.proofs.lemmas.List.Edits.{length-remove}
 use Rattle.std.proofs.lemmas.Bool.{false_from_ne_true}
 use Rattle.std.proofs.lemmas.Slice.Eq.{bytes_eq-Decides}
-use Rattle.lemmas.proofs.Booleans.{and_left, and_right, left_false, or_fails, right_false}
-use Rattle.lemmas.proofs.Places.{within}
-use Rattle.rdf_values.specs.Names.{same}
-use Rattle.rdf_values.specs.Tables.{AreColumns, IsHeader, has_name, kind_at}
-use Rattle.rdf_values.specs.declared.column.Column.{Column}
-use Rattle.rdf_values.specs.declared.value.ColType.{ColType}
-use Rattle.rdf_values.specs.declared.value.ColType.TheVariants as k
-use Rattle.friend_join.specs.JoinRefused.{first_taken, has_column, is_int, is_key, is_taken, key_place}
+use Rattle.lemmas.proofs.{and_left, and_right, left_false, or_fails, right_false, within}
+use Rattle.rdf_values.specs.{AreColumns, ColType, Column, has_name, IsHeader, kind_at, same}
+use Rattle.friend_join.specs.{first_taken, has_column, is_int, is_key, is_taken, key_place}
 use Rattle.friend_join.proofs.Removing.{remove_nil}
 
 -- ---- tests
@@ -57,12 +51,12 @@ found test xs p h = let at = found_at test xs 0 p (sym (position_from-zero test 
     let same_place : p - 0 ≡ p = omega arith in
     (at.1.0, subst (λ (n : ℕ). slice_get xs n ≡ Some at.1.0) same_place at.1.1, at.1.2)
 
-is_int_kind : (t : ColType) → is_int t ≡ true → t ≡ k.Int
-is_int_kind k.Int h = refl
-is_int_kind k.Bool h = cc h
-is_int_kind k.Vect h = cc h
+is_int_kind : (t : ColType) → is_int t ≡ true → t ≡ ColType.Int
+is_int_kind ColType.Int h = refl
+is_int_kind ColType.Bool h = cc h
+is_int_kind ColType.Vect h = cc h
 
-pub key_kind : (key : List ℕ) (columns : List Column) (p : ℕ) → key_place key columns ≡ Some p → kind_at columns p ≡ Some k.Int
+pub key_kind : (key : List ℕ) (columns : List Column) (p : ℕ) → key_place key columns ≡ Some p → kind_at columns p ≡ Some ColType.Int
 key_kind key columns p h =
     let at = found (is_key key) columns p h in
     ap (option_map (λ (c : Column). c.kind)) at.1 ∙ ap Some (is_int_kind at.0.kind (and_right (same at.0.name key) (is_int at.0.kind) at.2))

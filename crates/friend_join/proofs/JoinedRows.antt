@@ -1,26 +1,15 @@
 -- The rows of a table with a friend's columns that are laid out anew.
-use Rattle.std.proofs.Common.{◌≡◌, ◌<◌, ◌+◌, ℕ, ℤ, zero, suc, pos, Bool, true, false, List, [], ◌∷◌, ◌++◌, length, map, filter, get_or, refl, ap, ap₂, ◌∙◌, sym, arith, Option, None, Some, length-append, cond, subst}
-use Rattle.std.specs.Prelude.{option_map, slice_get, unwrap_or}
+use Rattle.std.proofs.Common.{◌≡◌, ◌<◌, ◌+◌, ℕ, ℤ, zero, suc, pos, Bool, true, false, List, [], ◌∷◌, ◌++◌, length, map, filter, get_or, refl, ap, ap₂, ◌∙◌, sym, arith, Option, None, Some, length-append, cond, subst, option_map, slice_get, unwrap_or}
 use Rattle.std.specs.List.{position_from, remove}
 use Rattle.std.specs.Ordering.{int_eq}
 use Rattle.std.proofs.lemmas.Iterator.Adapters.{position_from-zero}
 use Rattle.std.proofs.lemmas.List.{map-append}
 use Rattle.std.proofs.lemmas.Option.{slice_get-map}
 use Rattle.std.proofs.lemmas.Simd.{map-map}
-use Rattle.rdf_values.specs.Cuts.{below}
-use Rattle.rdf_values.specs.Kept.{AreKept, IsKept, cell_at, rows_kept}
-use Rattle.rdf_values.specs.Tables.{TableView}
-use Rattle.rdf_values.specs.declared.cells.Cells.{Cells}
-use Rattle.rdf_values.specs.declared.cells.Cells.TheVariants as kept
-use Rattle.rdf_values.specs.declared.column.Column.{Column}
-use Rattle.rdf_values.specs.declared.value.ColType.{ColType}
-use Rattle.rdf_values.specs.declared.value.ColType.TheVariants as k
-use Rattle.rdf_values.specs.declared.value.Value.{Value}
-use Rattle.rdf_values.specs.declared.value.Value.TheVariants as v
+use Rattle.rdf_values.specs.{AreKept, below, cell_at, Cells, ColType, Column, IsKept, rows_kept, TableView, Value}
 use Rattle.rdf_values.proofs.Below.{map-below, slice_get-below}
 use Rattle.rdf_values.proofs.KeptLemmas.{map_below}
-use Rattle.friend_join.specs.Joined.{KeyedTable, first_or, friend_rows, gained, joined_row, keys_of, missing_row, missing_value, number_at, number_of}
-use Rattle.friend_join.specs.Matches.{AreBelow, AreInts, entry_of, ints_in, matched_cells, number_for, vector_for}
+use Rattle.friend_join.specs.{AreBelow, AreInts, entry_of, first_or, friend_rows, gained, ints_in, joined_row, KeyedTable, keys_of, matched_cells, missing_row, missing_value, number_at, number_for, number_of, vector_for}
 use Rattle.friend_join.proofs.Removing.{map-remove, mapped, there}
 
 -- ---- the first row of a key is that of the entry that matches
@@ -61,11 +50,11 @@ gains_match friend missing key =
 -- ---- the cells of an entry in columns that are laid out anew
 
 cell_missing : (missing : ℤ) (ms : List (Option ℕ)) (e n : ℕ) (kind : ColType) (x : Cells) → IsKept kind n x → slice_get ms e ≡ Some None → cell_at e (matched_cells missing ms x) ≡ missing_value missing kind
-cell_missing missing ms e n k.Int (kept.Ints ns) h q = ap v.Int (mapped (number_for missing ns) ms e None (pos 0) q)
-cell_missing missing ms e n k.Int (kept.Vects vs) h q = absurd h
-cell_missing missing ms e n k.Bool x h q = absurd h
-cell_missing missing ms e n k.Vect (kept.Ints ns) h q = absurd h
-cell_missing missing ms e n k.Vect (kept.Vects vs) h q = ap v.Vect (mapped (vector_for vs) ms e None [] q)
+cell_missing missing ms e n ColType.Int (Cells.Ints ns) h q = ap Value.Int (mapped (number_for missing ns) ms e None (pos 0) q)
+cell_missing missing ms e n ColType.Int (Cells.Vects vs) h q = absurd h
+cell_missing missing ms e n ColType.Bool x h q = absurd h
+cell_missing missing ms e n ColType.Vect (Cells.Ints ns) h q = absurd h
+cell_missing missing ms e n ColType.Vect (Cells.Vects vs) h q = ap Value.Vect (mapped (vector_for vs) ms e None [] q)
 
 cells_missing : (missing : ℤ) (ms : List (Option ℕ)) (e n : ℕ) (columns : List Column) (xs : List Cells) → AreKept n columns xs → slice_get ms e ≡ Some None → map (cell_at e) (map (matched_cells missing ms) xs) ≡ missing_row missing columns
 cells_missing missing ms e n [] [] h q = refl
@@ -74,8 +63,8 @@ cells_missing missing ms e n (c ∷ cs) [] h q = absurd h
 cells_missing missing ms e n (c ∷ cs) (x ∷ xs) h q = ap₂ (λ z zs. z ∷ zs) (cell_missing missing ms e n c.kind x h.0 q) (cells_missing missing ms e n cs xs h.1 q)
 
 cell_found : (missing : ℤ) (ms : List (Option ℕ)) (e i : ℕ) (x : Cells) → slice_get ms e ≡ Some (Some i) → cell_at e (matched_cells missing ms x) ≡ cell_at i x
-cell_found missing ms e i (kept.Ints ns) q = ap v.Int (mapped (number_for missing ns) ms e (Some i) (pos 0) q)
-cell_found missing ms e i (kept.Vects vs) q = ap v.Vect (mapped (vector_for vs) ms e (Some i) [] q)
+cell_found missing ms e i (Cells.Ints ns) q = ap Value.Int (mapped (number_for missing ns) ms e (Some i) (pos 0) q)
+cell_found missing ms e i (Cells.Vects vs) q = ap Value.Vect (mapped (vector_for vs) ms e (Some i) [] q)
 
 cells_found : (missing : ℤ) (ms : List (Option ℕ)) (e i : ℕ) (xs : List Cells) → slice_get ms e ≡ Some (Some i) → map (cell_at e) (map (matched_cells missing ms) xs) ≡ map (cell_at i) xs
 cells_found missing ms e i [] q = refl
@@ -101,8 +90,8 @@ cells_matched missing ms e m columns ys (Some i) h b q = cells_found missing ms 
 
 -- the number of an entry in a column that keeps these
 number_kept : (xs : List Cells) (col e : ℕ) (x : Cells) → slice_get xs col ≡ Some x → AreInts x → number_at col (map (cell_at e) xs) ≡ get_or (ints_in x) e (pos 0)
-number_kept xs col e (kept.Ints ns) q i = ap number_of (slice_get-map (cell_at e) xs col ∙ ap (option_map (cell_at e)) q)
-number_kept xs col e (kept.Vects vs) q i = absurd i
+number_kept xs col e (Cells.Ints ns) q i = ap number_of (slice_get-map (cell_at e) xs col ∙ ap (option_map (cell_at e)) q)
+number_kept xs col e (Cells.Vects vs) q i = absurd i
 
 map_self : {A : Type 0} (xs : List A) → map (λ x. x) xs ≡ xs
 map_self [] = refl

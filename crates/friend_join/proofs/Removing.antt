@@ -1,10 +1,8 @@
 -- Lists without the element at a place, and elements that are there.
-use Rattle.std.proofs.Common.{◌≡◌, ◌<◌, ℕ, zero, suc, List, [], ◌∷◌, length, map, get_or, refl, ap, ◌∙◌, sym, arith, Some}
-use Rattle.std.specs.Prelude.{slice_get}
+use Rattle.std.proofs.Common.{◌≡◌, ◌<◌, ℕ, zero, suc, List, [], ◌∷◌, length, map, get_or, refl, ap, ◌∙◌, sym, arith, Some, slice_get}
 use Rattle.std.specs.List.{remove}
 use Rattle.std.proofs.lemmas.List.{get_or-map}
-use Rattle.columns.specs.Wholes.{whole}
-use Rattle.columns.specs.declared.column_pieces.ColumnPieces.{ColumnPieces}
+use Rattle.columns.specs.{ColumnPieces, whole}
 
 pub remove_nil : {A : Type 0} (p : ℕ) → remove {X = A} [] p ≡ []
 remove_nil zero = refl

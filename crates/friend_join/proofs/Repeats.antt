@@ -1,11 +1,10 @@
 -- Numbers that stood before.
-use Rattle.std.proofs.Common.{◌≡◌, ◌<◌, ◌+◌, ℕ, ℤ, suc, true, false, Bool, cond, List, [], ◌∷◌, ◌++◌, length, get_or, take, drop, Option, Some, refl, ap, ◌∙◌, sym, add-one, drop-cons, if◌then◌else◌}
+use Rattle.std.proofs.Common.{◌≡◌, ◌<◌, ◌+◌, ℕ, ℤ, suc, true, false, Bool, cond, List, [], ◌∷◌, ◌++◌, length, get_or, take, drop, Option, Some, refl, ap, ◌∙◌, sym, add-one, drop-cons, if◌then◌else◌, not}
 use Rattle.std.specs.List.{list_any}
-use Rattle.std.specs.Prelude.{not}
 use Rattle.std.specs.Ordering.{int_eq}
 use Rattle.std.proofs.lemmas.List.{take_more}
-use Rattle.lemmas.proofs.Booleans.{not_false, not_true}
-use Rattle.friend_join.specs.JoinRefused.{repeat_from}
+use Rattle.lemmas.proofs.{not_false, not_true}
+use Rattle.friend_join.specs.{repeat_from}
 
 -- a new number goes on
 pub repeat_more : (ns : List ℤ) (e : ℕ) (n : ℤ) (r : Option ℕ) → e < length ns → n ≡ get_or ns e n → list_any (int_eq n) (take e ns) ≡ false

@@ -1,20 +1,13 @@
 -- The laws of a join.
-use Rattle.std.proofs.Common.{◌≡◌, ◌≤◌, ◌+◌, ◌-◌, ℕ, ℤ, Bool, true, false, true≢false, ◌||◌, cond, List, [], ◌∷◌, ◌++◌, length, map, filter, take, refl, ap, ap₂, ◌∙◌, sym, arith, Option, None, Some, Ok, Err}
-use Rattle.std.specs.Prelude.{nat_lt, ok_or}
+use Rattle.std.proofs.Common.{◌≡◌, ◌≤◌, ◌+◌, ◌-◌, ℕ, ℤ, Bool, true, false, true≢false, ◌||◌, cond, List, [], ◌∷◌, ◌++◌, length, map, filter, take, refl, ap, ap₂, ◌∙◌, sym, arith, Option, None, Some, Ok, Err, nat_lt, ok_or}
 use Rattle.std.specs.List.{list_any}
 use Rattle.std.specs.Ordering.{int_eq}
 use Rattle.std.proofs.lemmas.Bool.Decides.{Decides-int_eq}
 use Rattle.std.proofs.lemmas.List.{length-map}
 use Rattle.std.proofs.lemmas.List.Folds.{list_any-append}
-use Rattle.rdf_values.specs.TableText.{on_ok}
-use Rattle.rdf_values.specs.Tables.{FitRows, TableView}
-use Rattle.rdf_values.specs.declared.column.Column.{Column}
-use Rattle.rdf_values.specs.declared.value.Value.{Value}
+use Rattle.rdf_values.specs.{Column, FitRows, on_ok, TableView, Value}
 use Rattle.rdf_values.proofs.Rows.{fits_length}
-use Rattle.friend_join.specs.declared.cause.JoinCause.TheVariants as cause
-use Rattle.friend_join.specs.Joined.{KeyedTable, gained, joined_row, joined_table, keys_of, number_at}
-use Rattle.friend_join.specs.JoinRefused.{elements, first_repeat, first_taken, join_columns, join_entries, join_of, key_place, most_columns, most_elements, repeat_from, unless_above, unless_at}
-use Rattle.friend_join.specs.Laws.{EachEntryStays, KeyHasOneRow}
+use Rattle.friend_join.specs.{EachEntryStays, elements, first_repeat, first_taken, gained, join_columns, join_entries, join_of, JoinCause, joined_row, joined_table, key_place, KeyedTable, KeyHasOneRow, keys_of, most_columns, most_elements, number_at, repeat_from, unless_above, unless_at}
 
 -- ---- one row for a key
 
@@ -84,11 +77,11 @@ is_joined : (main friend : KeyedTable) (table : TableView) (missing : ℤ) → j
 unfolding join_entries
 is_joined main friend table missing h = one (first_repeat (keys_of friend)) h
   where
-    two : (b : Bool) → cond b (Err (cause.TooLarge (elements (joined_table main friend missing).rows))) (Ok (joined_table main friend missing)) ≡ Ok table → joined_table main friend missing ≡ table
+    two : (b : Bool) → cond b (Err (JoinCause.TooLarge (elements (joined_table main friend missing).rows))) (Ok (joined_table main friend missing)) ≡ Ok table → joined_table main friend missing ≡ table
     two true q = cc q
     two false q = cc q
 
-    one : (o : Option ℕ) → unless_at o cause.Duplicate (unless_above most_elements (elements (joined_table main friend missing).rows) cause.TooLarge (Ok (joined_table main friend missing))) ≡ Ok table
+    one : (o : Option ℕ) → unless_at o JoinCause.Duplicate (unless_above most_elements (elements (joined_table main friend missing).rows) JoinCause.TooLarge (Ok (joined_table main friend missing))) ≡ Ok table
         → joined_table main friend missing ≡ table
     one (Some e) q = cc q
     one None q = two (nat_lt most_elements (elements (joined_table main friend missing).rows)) q
@@ -97,12 +90,12 @@ joined_at : (main friend : KeyedTable) (table : TableView) (key : List ℕ) (mis
 unfolding join_columns
 joined_at main friend table key missing h = one (first_taken main.table.columns key friend.table.columns) h
   where
-    two : (b : Bool) → cond b (Err (cause.TooManyColumns (length main.table.columns + length friend.table.columns - 1))) (join_entries main friend missing) ≡ Ok table → joined_table main friend missing ≡ table
+    two : (b : Bool) → cond b (Err (JoinCause.TooManyColumns (length main.table.columns + length friend.table.columns - 1))) (join_entries main friend missing) ≡ Ok table → joined_table main friend missing ≡ table
     two true q = cc q
     two false q = is_joined main friend table missing q
 
     one : (o : Option ℕ)
-        → unless_at o cause.NameTaken (unless_above most_columns (length main.table.columns + length friend.table.columns - 1) cause.TooManyColumns (join_entries main friend missing)) ≡ Ok table
+        → unless_at o JoinCause.NameTaken (unless_above most_columns (length main.table.columns + length friend.table.columns - 1) JoinCause.TooManyColumns (join_entries main friend missing)) ≡ Ok table
         → joined_table main friend missing ≡ table
     one (Some e) q = cc q
     one None q = two (nat_lt most_columns (length main.table.columns + length friend.table.columns - 1)) q
@@ -114,13 +107,13 @@ joined_by : (main friend table : TableView) (key : List ℕ) (missing : ℤ) →
 unfolding join_of
 joined_by main friend table key missing h = one (key_place key main.columns) h
   where
-    two : (own : ℕ) (o : Option ℕ) → on_ok (ok_or o (cause.NoKey true)) (λ other. join_columns key (keyed main own) (keyed friend other) missing) ≡ Ok table
+    two : (own : ℕ) (o : Option ℕ) → on_ok (ok_or o (JoinCause.NoKey true)) (λ other. join_columns key (keyed main own) (keyed friend other) missing) ≡ Ok table
         → (own : ℕ) × ((other : ℕ) × (joined_table (keyed main own) (keyed friend other) missing ≡ table))
     two own None q = cc q
     two own (Some other) q = (own, (other, joined_at (keyed main own) (keyed friend other) table key missing q))
 
     one : (o : Option ℕ)
-        → on_ok (ok_or o (cause.NoKey false)) (λ own. on_ok (ok_or (key_place key friend.columns) (cause.NoKey true)) (λ other. join_columns key (keyed main own) (keyed friend other) missing)) ≡ Ok table
+        → on_ok (ok_or o (JoinCause.NoKey false)) (λ own. on_ok (ok_or (key_place key friend.columns) (JoinCause.NoKey true)) (λ other. join_columns key (keyed main own) (keyed friend other) missing)) ≡ Ok table
         → (own : ℕ) × ((other : ℕ) × (joined_table (keyed main own) (keyed friend other) missing ≡ table))
     one None q = cc q
     one (Some own) q = two own (key_place key friend.columns) q

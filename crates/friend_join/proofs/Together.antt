@@ -1,48 +1,37 @@
 -- A friend that is joined by its keys: what the columns hold, and the table that they are.
-use Rattle.std.proofs.Common.{◌≡◌, ◌≤◌, ◌<◌, ◌+◌, ℕ, ℤ, List, ◌++◌, length, map, get_or, refl, ap, ap₂, ◌∙◌, sym, arith, subst, Option, Some}
+use Rattle.std.proofs.Common.{◌≡◌, ◌≤◌, ◌<◌, ◌+◌, ℕ, ℤ, List, ◌++◌, length, map, get_or, refl, ap, ap₂, ◌∙◌, sym, arith, subst, Option, Some, slice_get}
 use Rattle.std.specs.List.{remove, sum_by}
 use Rattle.std.proofs.lemmas.List.{length-map}
 use Rattle.std.proofs.lemmas.List.Edits.{length-remove}
-use Rattle.rdf_values.specs.Kept.{AreKept, HoldsTable, IsKept, count, rows_kept}
-use Rattle.rdf_values.specs.Tables.{IsHeader, TableView, kind_at}
-use Rattle.rdf_values.specs.Words.{Has64Bits}
-use Rattle.rdf_values.specs.declared.cells.Cells.{Cells}
-use Rattle.rdf_values.specs.declared.cells.Cells.TheVariants as kept
-use Rattle.rdf_values.specs.declared.column.Column.{Column}
-use Rattle.rdf_values.specs.declared.value.ColType.TheVariants as k
-use Rattle.rdf_values.specs.declared.value.Value.{Value}
+use Rattle.rdf_values.specs.{AreKept, Cells, ColType, Column, count, Has64Bits, HoldsTable, IsHeader, IsKept, kind_at, rows_kept, TableView, Value}
 use Rattle.rdf_values.proofs.KeptLemmas.{found_cells, kept_at, kept_within}
 use Rattle.rdf_values.proofs.RowPushed.{kept_length}
-use Rattle.columns.specs.Wholes.{whole}
-use Rattle.columns.specs.declared.column_pieces.ColumnPieces.{ColumnPieces}
-use Rattle.std.specs.Prelude.{slice_get}
-use Rattle.friend_join.specs.Joined.{KeyedTable, joined_row, joined_table, keys_of}
-use Rattle.friend_join.specs.JoinRefused.{elements, first_repeat}
-use Rattle.friend_join.specs.Matches.{AreBelow, AreEntries, AreInts, AreSmall, column_elements, entry_of, ints_in, matched_cells, matched_elements}
+use Rattle.columns.specs.{ColumnPieces, whole}
+use Rattle.friend_join.specs.{AreBelow, AreEntries, AreInts, AreSmall, column_elements, elements, entry_of, first_repeat, ints_in, joined_row, joined_table, KeyedTable, keys_of, matched_cells, matched_elements}
 use Rattle.friend_join.proofs.Counting.{all_small, elements_joined, small_remove}
 use Rattle.friend_join.proofs.Fitting.{entries_of_each, holds_joined, kept_remove}
 use Rattle.friend_join.proofs.JoinedRows.{keys_kept, matches_below, rows_joined}
 
 -- an int column keeps numbers, one per entry
-ints_kept : (n : ℕ) (x : Cells) → IsKept k.Int n x → AreInts x × (length (ints_in x) ≡ n)
-ints_kept n (kept.Ints ns) h = (tt, h)
-ints_kept n (kept.Vects vs) h = absurd h
+ints_kept : (n : ℕ) (x : Cells) → IsKept ColType.Int n x → AreInts x × (length (ints_in x) ≡ n)
+ints_kept n (Cells.Ints ns) h = (tt, h)
+ints_kept n (Cells.Vects vs) h = absurd h
 
-pub int_column : (columns : List Column) (xs : List Cells) (n col : ℕ) (x : Cells) → AreKept n columns xs → kind_at columns col ≡ Some k.Int → x ≡ get_or xs col x
+pub int_column : (columns : List Column) (xs : List Cells) (n col : ℕ) (x : Cells) → AreKept n columns xs → kind_at columns col ≡ Some ColType.Int → x ≡ get_or xs col x
     → (slice_get xs col ≡ Some x) × AreInts x × (length (ints_in x) ≡ n)
 int_column columns xs n col x h e q =
-    let p = kept_at columns xs n col k.Int h e in
-    let there = found_cells columns xs n col k.Int x h e q in
+    let p = kept_at columns xs n col ColType.Int h e in
+    let there = found_cells columns xs n col ColType.Int x h e q in
     let same : p.0 ≡ x = cc (p.1, there) in
-    let ints = ints_kept n x (subst (IsKept k.Int n) same p.2) in
+    let ints = ints_kept n x (subst (IsKept ColType.Int n) same p.2) in
     (there, ints.0, ints.1)
 
 pub count_ints : (x : Cells) → AreInts x → count x ≡ length (ints_in x)
-count_ints (kept.Ints ns) h = refl
-count_ints (kept.Vects vs) h = absurd h
+count_ints (Cells.Ints ns) h = refl
+count_ints (Cells.Vects vs) h = absurd h
 
 module _ (missing : ℤ) (mc fc : List Column) (xs ys : List Cells) (n m own other : ℕ) (x y : Cells) (h : HoldsTable mc xs n) (l : HoldsTable fc ys m)
-    (at : kind_at mc own ≡ Some k.Int) (is : kind_at fc other ≡ Some k.Int) (x_is : x ≡ get_or xs own x) (y_is : y ≡ get_or ys other y) where
+    (at : kind_at mc own ≡ Some ColType.Int) (is : kind_at fc other ≡ Some ColType.Int) (x_is : x ≡ get_or xs own x) (y_is : y ≡ get_or ys other y) where
   abbrev pub main : KeyedTable
   main = record { table = record { columns = mc; rows = rows_kept n xs }; key = own }
 
@@ -107,7 +96,7 @@ module _ (missing : ℤ) (mc fc : List Column) (xs ys : List Cells) (n m own oth
   others_few zs e =
       let wide = kept_length fc ys m l.kept in
       let few = l.header.few in
-      let less = length-remove ys other (kept_within fc ys m other k.Int l.kept is) in
+      let less = length-remove ys other (kept_within fc ys m other ColType.Int l.kept is) in
       let same = ap length e in
       omega (arith, wide, few, less, same)
 
@@ -124,8 +113,8 @@ module _ (missing : ℤ) (mc fc : List Column) (xs ys : List Cells) (n m own oth
   few_keys = let few = l.few in omega (arith, count_ints y key_ints, key_count, few)
 
 -- the columns in pieces are as many as their names
-pub pieces_within : (columns : List Column) (pieces : List ColumnPieces) (n col : ℕ) → AreKept n columns (map whole pieces) → kind_at columns col ≡ Some k.Int → col < length pieces
-pieces_within columns pieces n col h e = let l = kept_within columns (map whole pieces) n col k.Int h e in omega (arith, l, length-map pieces whole)
+pub pieces_within : (columns : List Column) (pieces : List ColumnPieces) (n col : ℕ) → AreKept n columns (map whole pieces) → kind_at columns col ≡ Some ColType.Int → col < length pieces
+pieces_within columns pieces n col h e = let l = kept_within columns (map whole pieces) n col ColType.Int h e in omega (arith, l, length-map pieces whole)
 
 pub pieces_few : (columns : List Column) (pieces now : List ColumnPieces) (n : ℕ) → HoldsTable columns (map whole pieces) n → now ≡ pieces → length now ≤ 64
 pieces_few columns pieces now n h e =
@@ -137,5 +126,5 @@ pieces_few columns pieces now n h e =
 pub pieces_small : (columns : List Column) (pieces now : List ColumnPieces) (n : ℕ) → HoldsTable columns (map whole pieces) n → now ≡ pieces → AreSmall (map whole now)
 pieces_small columns pieces now n h e = rw e (all_small columns (map whole pieces) n h)
 
-pub columns_within : (columns : List Column) (xs : List Cells) (n col : ℕ) → AreKept n columns xs → kind_at columns col ≡ Some k.Int → col < length columns
-columns_within columns xs n col h e = let l = kept_within columns xs n col k.Int h e in let wide = kept_length columns xs n h in omega (arith, l, wide)
+pub columns_within : (columns : List Column) (xs : List Cells) (n col : ℕ) → AreKept n columns xs → kind_at columns col ≡ Some ColType.Int → col < length columns
+columns_within columns xs n col h e = let l = kept_within columns xs n col ColType.Int h e in let wide = kept_length columns xs n h in omega (arith, l, wide)

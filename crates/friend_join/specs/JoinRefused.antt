@@ -2,24 +2,16 @@
 use Rattle.std.specs.Prelude.{ℕ, ℤ, ◌+◌, ◌-◌, Bool, true, false, not, ◌&&◌, List, [], ◌∷◌, ◌++◌, length, Option, Some, None, ok_or, position, Result, Ok, Err, if◌then◌else◌, nat_lt}
 use Rattle.std.specs.List.{list_any, sum_by}
 use Rattle.std.specs.Ordering.{int_eq}
-use Rattle.rdf_values.specs.Names.{same}
-use Rattle.rdf_values.specs.TableText.{on_ok}
-use Rattle.rdf_values.specs.Tables.{TableView}
-use Rattle.rdf_values.specs.declared.column.Column.{Column}
-use Rattle.rdf_values.specs.declared.value.ColType.{ColType}
-use Rattle.rdf_values.specs.declared.value.ColType.TheVariants as k
-use Rattle.rdf_values.specs.declared.value.Value.{Value}
-use Rattle.rdf_values.specs.declared.value.Value.TheVariants as v
+use Rattle.rdf_values.specs.{ColType, Column, on_ok, same, TableView, Value}
 use Rattle.friend_join.specs.Joined.{KeyedTable, joined_table, keys_of}
 use Rattle.friend_join.specs.declared.cause.JoinCause.{JoinCause}
-use Rattle.friend_join.specs.declared.cause.JoinCause.TheVariants as cause
 
 -- ---- the key
 
 abbrev pub is_int : ColType → Bool
-is_int k.Int = true
-is_int k.Bool = false
-is_int k.Vect = false
+is_int ColType.Int = true
+is_int ColType.Bool = false
+is_int ColType.Vect = false
 
 -- an int column of that name
 abbrev pub is_key : List ℕ → Column → Bool
@@ -59,9 +51,9 @@ first_repeat ns = repeat_from 0 [] ns
 
 -- how many elements a value has
 abbrev pub elements_of : Value → ℕ
-elements_of (v.Int z) = 0
-elements_of (v.Bool b) = 0
-elements_of (v.Vect ns) = length ns
+elements_of (Value.Int z) = 0
+elements_of (Value.Bool b) = 0
+elements_of (Value.Vect ns) = length ns
 
 abbrev pub row_elements : List Value → ℕ
 row_elements row = sum_by elements_of row
@@ -87,17 +79,17 @@ unless_above most n why next = if nat_lt most n then Err (why n) else next
 -- where no key of the friend stands twice and the joined table's vectors aren't too large
 unfoldable pub join_entries : KeyedTable → KeyedTable → ℤ → Result TableView JoinCause
 join_entries main friend missing =
-    unless_at (first_repeat (keys_of friend)) cause.Duplicate
-    (unless_above most_elements (elements (joined_table main friend missing).rows) cause.TooLarge (Ok (joined_table main friend missing)))
+    unless_at (first_repeat (keys_of friend)) JoinCause.Duplicate
+    (unless_above most_elements (elements (joined_table main friend missing).rows) JoinCause.TooLarge (Ok (joined_table main friend missing)))
 
 -- where besides the names of all columns differ and there aren't too many
 unfoldable pub join_columns : List ℕ → KeyedTable → KeyedTable → ℤ → Result TableView JoinCause
 join_columns key main friend missing =
-    unless_at (first_taken main.table.columns key friend.table.columns) cause.NameTaken
-    (unless_above most_columns (length main.table.columns + length friend.table.columns - 1) cause.TooManyColumns (join_entries main friend missing))
+    unless_at (first_taken main.table.columns key friend.table.columns) JoinCause.NameTaken
+    (unless_above most_columns (length main.table.columns + length friend.table.columns - 1) JoinCause.TooManyColumns (join_entries main friend missing))
 
 -- where besides both tables have an int column of the key's name
 unfoldable pub join_of : TableView → TableView → List ℕ → ℤ → Result TableView JoinCause
 join_of main friend key missing =
-    on_ok (ok_or (key_place key main.columns) (cause.NoKey false)) (λ own.
-    on_ok (ok_or (key_place key friend.columns) (cause.NoKey true)) (λ other. join_columns key (record { table = main; key = own }) (record { table = friend; key = other }) missing))
+    on_ok (ok_or (key_place key main.columns) (JoinCause.NoKey false)) (λ own.
+    on_ok (ok_or (key_place key friend.columns) (JoinCause.NoKey true)) (λ other. join_columns key (record { table = main; key = own }) (record { table = friend; key = other }) missing))

@@ -2,12 +2,7 @@
 use Rattle.std.specs.Prelude.{ℕ, ℤ, pos, List, [], ◌∷◌, ◌++◌, map, filter, Option, Some, slice_get}
 use Rattle.std.specs.List.{remove}
 use Rattle.std.specs.Ordering.{int_eq}
-use Rattle.rdf_values.specs.Tables.{TableView}
-use Rattle.rdf_values.specs.declared.column.Column.{Column}
-use Rattle.rdf_values.specs.declared.value.ColType.{ColType}
-use Rattle.rdf_values.specs.declared.value.ColType.TheVariants as k
-use Rattle.rdf_values.specs.declared.value.Value.{Value}
-use Rattle.rdf_values.specs.declared.value.Value.TheVariants as v
+use Rattle.rdf_values.specs.{ColType, Column, TableView, Value}
 
 -- a table, and the place of the column that is its key
 pub record KeyedTable : Type 0 where
@@ -16,7 +11,7 @@ pub record KeyedTable : Type 0 where
 
 -- the number that a value is; every other value counts as 0
 abbrev pub number_of : Option Value → ℤ
-number_of (Some (v.Int z)) = z
+number_of (Some (Value.Int z)) = z
 number_of value = pos 0
 
 -- the number of a row in a column
@@ -33,9 +28,9 @@ friend_rows friend key = filter (λ row. int_eq key (number_at friend.key row)) 
 
 -- what an entry without a friend has in a column: the number, or the empty vector
 abbrev pub missing_value : ℤ → ColType → Value
-missing_value missing k.Int = v.Int missing
-missing_value missing k.Bool = v.Int missing
-missing_value missing k.Vect = v.Vect []
+missing_value missing ColType.Int = Value.Int missing
+missing_value missing ColType.Bool = Value.Int missing
+missing_value missing ColType.Vect = Value.Vect []
 
 -- the same in each column
 abbrev pub missing_row : ℤ → List Column → List Value

@@ -1,6 +1,6 @@
 -- Laws of a join, in the words of tables. Each is the contract of a function of this crate, and so proved.
 use Rattle.std.specs.Prelude.{◌≡◌, ◌≤◌, ℕ, ℤ, List, length, map, take, None, Ok}
-use Rattle.rdf_values.specs.Tables.{IsTable, TableView}
+use Rattle.rdf_values.specs.{IsTable, TableView}
 use Rattle.friend_join.specs.Joined.{KeyedTable, friend_rows, keys_of}
 use Rattle.friend_join.specs.JoinRefused.{first_repeat, join_of}
 

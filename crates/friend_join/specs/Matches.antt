@@ -2,12 +2,8 @@
 use Rattle.std.specs.Prelude.{ℕ, ℤ, pos, ◌≤◌, ◌<◌, ⊤, All, List, [], ◌∷◌, length, map, position, Option, Some, None, slice_index_or}
 use Rattle.std.specs.List.{sum_by}
 use Rattle.std.specs.Ordering.{int_eq}
-use Rattle.rdf_values.specs.Kept.{count, rows_kept}
-use Rattle.rdf_values.specs.Tables.{TableView}
-use Rattle.rdf_values.specs.declared.cells.Cells.{Cells}
-use Rattle.rdf_values.specs.declared.cells.Cells.TheVariants as kept
-use Rattle.columns.specs.Wholes.{whole}
-use Rattle.columns.specs.declared.pieces_parts.PiecesParts.{PiecesParts}
+use Rattle.rdf_values.specs.{Cells, count, rows_kept, TableView}
+use Rattle.columns.specs.{PiecesParts, whole}
 use Rattle.friend_join.specs.Joined.{KeyedTable}
 
 -- the table of columns in pieces
@@ -22,13 +18,13 @@ keyed_in parts key = record { table = table_in parts; key = key }
 
 -- the values are numbers
 abbrev pub AreInts : Cells → Type 0
-AreInts (kept.Ints numbers) = ⊤
-AreInts (kept.Vects vectors) = ⊥
+AreInts (Cells.Ints numbers) = ⊤
+AreInts (Cells.Vects vectors) = ⊥
 
 -- the numbers of a column
 abbrev pub ints_in : Cells → List ℤ
-ints_in (kept.Ints numbers) = numbers
-ints_in (kept.Vects vectors) = []
+ints_in (Cells.Ints numbers) = numbers
+ints_in (Cells.Vects vectors) = []
 
 -- the entry at which a key stands, the first of them
 abbrev pub entry_of : List ℤ → ℤ → Option ℕ
@@ -57,15 +53,15 @@ vector_for vectors (Some e) = slice_index_or vectors e []
 
 -- a column's values at the entries that match, and what stands for them where none does
 abbrev pub matched_cells : ℤ → List (Option ℕ) → Cells → Cells
-matched_cells missing matches (kept.Ints numbers) = kept.Ints (map (number_for missing numbers) matches)
-matched_cells missing matches (kept.Vects vectors) = kept.Vects (map (vector_for vectors) matches)
+matched_cells missing matches (Cells.Ints numbers) = Cells.Ints (map (number_for missing numbers) matches)
+matched_cells missing matches (Cells.Vects vectors) = Cells.Vects (map (vector_for vectors) matches)
 
 -- ---- elements
 
 -- how many elements the vectors of a column have together
 abbrev pub column_elements : Cells → ℕ
-column_elements (kept.Ints numbers) = 0
-column_elements (kept.Vects vectors) = sum_by length vectors
+column_elements (Cells.Ints numbers) = 0
+column_elements (Cells.Vects vectors) = sum_by length vectors
 
 -- how many the vector at an entry that matches has
 abbrev pub length_for : List (List ℤ) → Option ℕ → ℕ
@@ -73,13 +69,13 @@ length_for vectors match = length (vector_for vectors match)
 
 -- the same of a column's vectors at the entries that match
 abbrev pub matched_elements : List (Option ℕ) → Cells → ℕ
-matched_elements matches (kept.Ints numbers) = 0
-matched_elements matches (kept.Vects vectors) = sum_by (length_for vectors) matches
+matched_elements matches (Cells.Ints numbers) = 0
+matched_elements matches (Cells.Vects vectors) = sum_by (length_for vectors) matches
 
 -- a column has at most 1,000,000 values, and each vector at most 4,096 elements
 abbrev pub IsSmall : Cells → Type 0
-IsSmall (kept.Ints numbers) = length numbers ≤ 1000000
-IsSmall (kept.Vects vectors) = (length vectors ≤ 1000000) × All (λ (v : List ℤ). length v ≤ 4096) vectors
+IsSmall (Cells.Ints numbers) = length numbers ≤ 1000000
+IsSmall (Cells.Vects vectors) = (length vectors ≤ 1000000) × All (λ (v : List ℤ). length v ≤ 4096) vectors
 
 -- the same of each column
 abbrev pub AreSmall : List Cells → Type 0

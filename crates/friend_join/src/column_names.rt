@@ -1,6 +1,6 @@
 // The columns of two tables: the key, and the names.
 ghost use Rattle.std.specs.Prelude.{◌≡◌};
-ghost use Rattle.friend_join.specs.JoinRefused.{first_taken, has_column, is_key, is_taken, key_place};
+ghost use Rattle.friend_join.specs.{first_taken, has_column, is_key, is_taken, key_place};
 
 use rdf_values::{ColType, Column, Name};
 

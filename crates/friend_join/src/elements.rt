@@ -1,9 +1,9 @@
 // How many elements the vectors of columns have.
 ghost use Rattle.std.specs.Prelude.{◌≡◌, ◌≤◌, ◌*◌, All, List, ℤ, length, map};
 ghost use Rattle.std.specs.List.{sum_by};
-ghost use Rattle.rdf_values.specs.Kept.{count};
-ghost use Rattle.columns.specs.Wholes.{joined, whole};
-ghost use Rattle.friend_join.specs.Matches.{AreBelow, AreEntries, AreSmall, IsSmall, column_elements, length_for, matched_elements};
+ghost use Rattle.rdf_values.specs.{count};
+ghost use Rattle.columns.specs.{joined, whole};
+ghost use Rattle.friend_join.specs.{AreBelow, AreEntries, AreSmall, column_elements, IsSmall, length_for, matched_elements};
 
 use crate::friend_entry::FriendEntry;
 use crate::gathered::vector_for;

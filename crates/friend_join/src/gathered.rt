@@ -1,8 +1,8 @@
 // Columns at the entries that match.
 ghost use Rattle.std.specs.Prelude.{◌≡◌, ◌<◌, ◌++◌, ⊤, IfOk, MatchOption, length, map};
-ghost use Rattle.rdf_values.specs.Kept.{count};
-ghost use Rattle.columns.specs.Wholes.{whole};
-ghost use Rattle.friend_join.specs.Matches.{AreBelow, AreEntries, matched_cells, number_for, vector_for};
+ghost use Rattle.rdf_values.specs.{count};
+ghost use Rattle.columns.specs.{whole};
+ghost use Rattle.friend_join.specs.{AreBelow, AreEntries, matched_cells, number_for, vector_for};
 
 use crate::friend_entry::FriendEntry;
 use columns::ColumnPieces;

@@ -1,13 +1,10 @@
 // Joining a friend's columns.
 ghost use Rattle.std.specs.Prelude.{◌≡◌, ◌++◌, Some, IfOk, map};
 ghost use Rattle.std.specs.List.{remove};
-ghost use Rattle.rdf_values.specs.Answers.{Answers};
-ghost use Rattle.rdf_values.specs.Kept.{HoldsTable, rows_kept};
-ghost use Rattle.rdf_values.specs.Tables.{IsHeader, kind_at};
+ghost use Rattle.rdf_values.specs.{Answers, HoldsTable, IsHeader, kind_at, rows_kept};
 ghost use Rattle.rdf_values.specs.declared.value.ColType.TheVariants as k;
-ghost use Rattle.columns.specs.Wholes.{whole};
-ghost use Rattle.friend_join.specs.JoinRefused.{join_entries, join_of};
-ghost use Rattle.friend_join.specs.Matches.{AreEntries, keyed_in, matched_cells};
+ghost use Rattle.columns.specs.{whole};
+ghost use Rattle.friend_join.specs.{AreEntries, join_entries, join_of, keyed_in, matched_cells};
 
 use crate::cause::JoinCause;
 use crate::column_names::{first_taken, key_place};

@@ -1,9 +1,8 @@
 // The friend's entries that match.
 ghost use Rattle.std.specs.Prelude.{◌≡◌, ◌≤◌, ◌<◌, ◌^◌, ◌⊎◌, ◌++◌, ⊤, ℕ, None, Some, length, map, IfOk, OnOk, MatchOption, MatchResult};
-ghost use Rattle.rdf_values.specs.Kept.{count};
-ghost use Rattle.columns.specs.Wholes.{joined, whole};
-ghost use Rattle.friend_join.specs.JoinRefused.{first_repeat};
-ghost use Rattle.friend_join.specs.Matches.{AreInts, entry_of, ints_in};
+ghost use Rattle.rdf_values.specs.{count};
+ghost use Rattle.columns.specs.{joined, whole};
+ghost use Rattle.friend_join.specs.{AreInts, entry_of, first_repeat, ints_in};
 
 use crate::cause::JoinCause;
 use crate::friend_entry::FriendEntry;

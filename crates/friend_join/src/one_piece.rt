@@ -1,6 +1,6 @@
 // Columns in one piece each.
 ghost use Rattle.std.specs.Prelude.{◌≡◌, IfOk, map};
-ghost use Rattle.columns.specs.Wholes.{joined, whole};
+ghost use Rattle.columns.specs.{joined, whole};
 
 use columns::ColumnPieces;
 use rdf_values::{Cells, Memory, Numbers, Vects};

@@ -1,17 +1,9 @@
 -- Steps of the checks of a statement.
 use Rattle.std.proofs.Common.{◌≡◌, List, [], ◌∷◌, ◌++◌, Option, Some, None, Result, Ok, Err, refl, sym, ◌∙◌, ap, subst, ℕ, Bool, true, false, map, nat_eq}
 use Rattle.std.specs.Result.{IsErrAnd}
-use Rattle.rdf_values.specs.Verdict.{first_refusal, refusal_in, check_list, check_lists, check_target, expect_kind, refuse_unless, scope_at}
-use Rattle.rdf_values.specs.declared.value.ColType.{ColType}
-use Rattle.rdf_values.specs.declared.graph_cause.GraphCause.{GraphCause}
-use Rattle.graph.specs.Checks.{IsStop, Decides, targets_at}
+use Rattle.rdf_values.specs.{check_list, check_lists, check_target, ColType, expect_kind, first_refusal, FunctionNames, GraphCause, NamedTree, path, refusal_in, refuse_unless, same_kind, Scope, scope_at, Statement}
+use Rattle.graph.specs.{Decides, IsStop, targets_at}
 use Rattle.graph.specs.declared.stop.Stop.{Stop}
-use Rattle.graph.specs.declared.stop.Stop.TheVariants as stop
-use Rattle.rdf_values.specs.Path.{path}
-use Rattle.rdf_values.specs.Kinds.{FunctionNames, Scope, same_kind}
-use Rattle.rdf_values.specs.Tree.{NamedTree}
-use Rattle.rdf_values.specs.declared.graph_cause.GraphCause.TheVariants as cause
-use Rattle.rdf_values.specs.declared.statement.Statement.{Statement}
 
 pub cause_refused : (k : Result ColType GraphCause) (c : GraphCause) → k ≡ Err c → refusal_in k ≡ Some c
 cause_refused k c h = ap refusal_in h
@@ -40,16 +32,16 @@ decided_last xs last x h k r d = subst (λ o. Decides o r) (sym (passed_before x
 
 -- the tests so far stop
 pub stopped_before : (xs rest : List (Option GraphCause)) (x : Option GraphCause) (s : Stop) → x ≡ first_refusal xs → IsStop x s → IsStop (first_refusal (xs ++ rest)) s
-stopped_before xs rest x (stop.Cause c) h k = refused_before xs rest x c h k
-stopped_before xs rest x stop.Memory h k = tt
+stopped_before xs rest x (Stop.Cause c) h k = refused_before xs rest x c h k
+stopped_before xs rest x Stop.Memory h k = tt
 
 -- what the exit of a `?` hands on, and where memory was wanting
 pub handed_on : {A : Type 0} (wanted : Option GraphCause) (r : Result A Stop) (s : Stop) → IsErrAnd r (λ t. t ≡ s) → IsStop wanted s → Decides wanted r
 handed_on wanted (Ok a) s is h = elim is [ ]
 handed_on wanted (Err t) s is h = subst (IsStop wanted) (sym is) h
 
-pub no_memory : {A : Type 0} (wanted : Option GraphCause) (r : Result A Stop) → IsErrAnd r (λ t. t ≡ stop.Memory) → Decides wanted r
-no_memory wanted r is = handed_on wanted r stop.Memory is tt
+pub no_memory : {A : Type 0} (wanted : Option GraphCause) (r : Result A Stop) → IsErrAnd r (λ t. t ≡ Stop.Memory) → Decides wanted r
+no_memory wanted r is = handed_on wanted r Stop.Memory is tt
 
 -- the last test stops
 pub stopped_last : (xs : List (Option GraphCause)) (last x : Option GraphCause) → x ≡ first_refusal xs → x ≡ None → (s : Stop) → IsStop last s → IsStop (first_refusal (xs ++ last ∷ [])) s
@@ -60,15 +52,15 @@ pub stops_for : (a b : Option GraphCause) (s : Stop) → a ≡ b → IsStop a s 
 stops_for a b s e h = subst (λ o. IsStop o s) e h
 
 pub kind_is : (t s : ColType) (k : Result ColType GraphCause) → k ≡ Ok s → (b : Bool) → b ≡ same_kind s t → b ≡ true → expect_kind t k ≡ None
-kind_is t s k h b e q = ap (expect_kind t) h ∙ ap (λ c. refuse_unless c cause.WrongType) (sym e ∙ q)
+kind_is t s k h b e q = ap (expect_kind t) h ∙ ap (λ c. refuse_unless c GraphCause.WrongType) (sym e ∙ q)
 
-pub kind_isnt : (t s : ColType) (k : Result ColType GraphCause) → k ≡ Ok s → (b : Bool) → b ≡ same_kind s t → b ≡ false → expect_kind t k ≡ Some cause.WrongType
-kind_isnt t s k h b e q = ap (expect_kind t) h ∙ ap (λ c. refuse_unless c cause.WrongType) (sym e ∙ q)
+pub kind_isnt : (t s : ColType) (k : Result ColType GraphCause) → k ≡ Ok s → (b : Bool) → b ≡ same_kind s t → b ≡ false → expect_kind t k ≡ Some GraphCause.WrongType
+kind_isnt t s k h b e q = ap (expect_kind t) h ∙ ap (λ c. refuse_unless c GraphCause.WrongType) (sym e ∙ q)
 
 pub kind_stopped : (t : ColType) (k : Result ColType GraphCause) (s : Stop) → IsStop (refusal_in k) s → IsStop (expect_kind t k) s
-kind_stopped t k stop.Memory h = tt
-kind_stopped t (Ok u) (stop.Cause c) h = cc h
-kind_stopped t (Err d) (stop.Cause c) h = h
+kind_stopped t k Stop.Memory h = tt
+kind_stopped t (Ok u) (Stop.Cause c) h = cc h
+kind_stopped t (Err d) (Stop.Cause c) h = h
 
 -- the first target's refusal, and then those of the others
 flat : (a : Option GraphCause) (rest : List (Option GraphCause)) → first_refusal (a ∷ first_refusal rest ∷ []) ≡ first_refusal (a ∷ rest)
@@ -86,18 +78,18 @@ targets_more names header before parent first rest columns e a b x p q h =
 
 -- tests of a list's elements in order
 pub each_stop : {A : Type 0} (f : A → Option GraphCause) (es : List A) (e : A) (rest : List A) → es ≡ e ∷ rest → (s : Stop) → IsStop (f e) s → IsStop (first_refusal (map f es)) s
-each_stop f es e rest is (stop.Cause c) h = ap (λ xs. first_refusal (map f xs)) is ∙ ap (λ o. first_refusal (o ∷ map f rest)) h
-each_stop f es e rest is stop.Memory h = tt
+each_stop f es e rest is (Stop.Cause c) h = ap (λ xs. first_refusal (map f xs)) is ∙ ap (λ o. first_refusal (o ∷ map f rest)) h
+each_stop f es e rest is Stop.Memory h = tt
 
 pub each_next : {A B : Type 0} (f : A → Option GraphCause) (es : List A) (e : A) (rest : List A) → es ≡ e ∷ rest → (r : Result B Stop) → f e ≡ None → Decides (first_refusal (map f rest)) r → Decides (first_refusal (map f es)) r
 each_next f es e rest is r h d = subst (λ o. Decides o r) (sym (ap (λ xs. first_refusal (map f xs)) is ∙ ap (λ o. first_refusal (o ∷ map f rest)) h)) d
 
 -- a count that is wrong, and one that is right
-pub decides_stop : (n m : ℕ) (rest : List (Option GraphCause)) → nat_eq n m ≡ false → first_refusal (refuse_unless (nat_eq n m) cause.WrongCount ∷ rest) ≡ Some cause.WrongCount
-decides_stop n m rest h = ap (λ b. first_refusal (refuse_unless b cause.WrongCount ∷ rest)) h
+pub decides_stop : (n m : ℕ) (rest : List (Option GraphCause)) → nat_eq n m ≡ false → first_refusal (refuse_unless (nat_eq n m) GraphCause.WrongCount ∷ rest) ≡ Some GraphCause.WrongCount
+decides_stop n m rest h = ap (λ b. first_refusal (refuse_unless b GraphCause.WrongCount ∷ rest)) h
 
-pub counted : (n m : ℕ) (rest : List (Option GraphCause)) → nat_eq n m ≡ true → first_refusal (refuse_unless (nat_eq n m) cause.WrongCount ∷ rest) ≡ first_refusal rest
-counted n m rest h = ap (λ b. first_refusal (refuse_unless b cause.WrongCount ∷ rest)) h
+pub counted : (n m : ℕ) (rest : List (Option GraphCause)) → nat_eq n m ≡ true → first_refusal (refuse_unless (nat_eq n m) GraphCause.WrongCount ∷ rest) ≡ first_refusal rest
+counted n m rest h = ap (λ b. first_refusal (refuse_unless b GraphCause.WrongCount ∷ rest)) h
 
 -- the first list with its column, and then the others
 pub lists_more : (names : FunctionNames) (scope : Scope) (tags : ℕ) (columns cs : List (List ℕ)) (c : List ℕ) (lists ls : List (List NamedTree)) (es : List NamedTree) → columns ≡ c ∷ cs → lists ≡ es ∷ ls

@@ -1,29 +1,18 @@
 -- How many versions, sites and variations the lists have.
-use Rattle.std.proofs.Common.{◌≡◌, ◌+◌, ◌≤◌, List, [], ◌∷◌, length, sym, ◌∙◌, ap, arith, ℕ, ◌-◌, ◌<◌, ◌++◌, map, Some, refl, slice_get, length-append}
+use Rattle.std.proofs.Common.{◌≡◌, ◌+◌, ◌≤◌, List, [], ◌∷◌, length, sym, ◌∙◌, ap, arith, ℕ, ◌-◌, ◌<◌, ◌++◌, map, Some, refl, slice_get, length-append, option_to_list}
 use Rattle.std.specs.List.{AllByRecursion}
 use Rattle.std.proofs.lemmas.List.{length-map, map-append}
-use Rattle.rdf_values.specs.Bookable.{IsShort}
-use Rattle.rdf_values.specs.Kinds.{FunctionNames}
-use Rattle.rdf_values.specs.declared.column.Column.{Column}
-use Rattle.rdf_values.specs.declared.statement.Statement.{Statement}
+use Rattle.rdf_values.specs.{Column, FunctionNames, IsShort, Line, named_before, Statement}
 use Rattle.graph_numbers.proofs.Bookable.{sites_few}
 use Rattle.graph_numbers.proofs.VersionKinds.{kind_count}
-use Rattle.graph_numbers.specs.Sites.{sites}
-use Rattle.graph_numbers.specs.Versions.{version_count}
-use Rattle.graph.specs.Gains.{AreTables}
-use Rattle.graph.specs.SiteNumbers.{site_total}
+use Rattle.graph_numbers.specs.{FilterAt, filters, own_filters, sites, version_count}
+use Rattle.graph.specs.{AreTables, labels, own_label, site_total, statements}
 use Rattle.graph.specs.declared.tables.Tables.{Tables}
-use Rattle.graph_numbers.specs.Results.{FilterAt, filters, own_filters}
-use Rattle.rdf_values.specs.Bookings.{named_before}
-use Rattle.graph.specs.Rows.{own_label, labels}
 use Rattle.graph.proofs.Walked.{named_more}
 use Rattle.graph.proofs.SiteTotals.{sites_counted, total_is}
-use Rattle.std.specs.Prelude.{option_to_list}
-use Rattle.lemmas.proofs.Places.{kept_at}
-use Rattle.rdf_values.specs.declared.script.Line.{Line}
+use Rattle.lemmas.proofs.{kept_at}
 use Rattle.rdf_values.specs.declared.statement.Statement.TheVariants.{Filter}
 use Rattle.graph_numbers.proofs.Listed.{next_at}
-use Rattle.graph.specs.Lookups.{statements}
 
 pub labels_are : (header : List Column) (names : FunctionNames) (before : List Statement) → map (λ (f : FilterAt). f.label) (filters header names before) ≡ labels before
 labels_are header names [] = refl

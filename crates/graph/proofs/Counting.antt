@@ -3,34 +3,17 @@ use Rattle.std.proofs.Common.{◌≡◌, ℕ, zero, suc, ◌+◌, ◌*◌, ◌�
 use Rattle.std.specs.List.{sum_by, filter, AllZip}
 use Rattle.std.proofs.lemmas.List.{append-nil, length-map, length-append}
 use Rattle.std.proofs.lemmas.List.Sums.{sum_by-cons}
-use Rattle.rdf_values.specs.Bookings.{Booking, Booked, Pass, bookings, results_named, passes_of, varied_passes, has_variations, result_depends, ActionAt, columns_of}
-use Rattle.rdf_values.specs.Names.{same}
-use Rattle.rdf_values.specs.Path.{Variation, variations, path, own_variations}
-use Rattle.rdf_values.specs.Verdict.{first_refusal, refuse_if, over_passes, cells_of, takes_of, check_passes, printed_results, AreAccepted, check, check_columns, permitted_kinds, check_node, check_tags, check_target, check_values, is_variation_name, repeats, scope_at}
-use Rattle.rdf_values.specs.declared.statement.Statement.{Statement}
+use Rattle.rdf_values.specs.{ActionAt, ActionKind, AreAccepted, Booked, Booking, bookings, cells_of, check, check_columns, check_node, check_passes, check_tags, check_target, check_values, Column, columns_of, first_refusal, FunctionNames, GraphCause, has_variations, is_variation_name, over_passes, own_variations, Pass, passes_of, path, permitted_kinds, printed_results, refuse_if, repeats, result_depends, results_named, same, scope_at, scope_of, Statement, takes_of, Variation, variations, varied_passes, VaryValues}
 use Rattle.rdf_values.specs.declared.statement.Statement.TheVariants.{Action, Report, Print, Vary}
-use Rattle.rdf_values.specs.declared.graph_cause.GraphCause.{GraphCause}
 use Rattle.rdf_values.specs.declared.graph_cause.GraphCause.TheVariants.{TooMany}
-use Rattle.graph_numbers.specs.Graphs.{holds_at}
-use Rattle.graph.specs.Sets.{has, count_below, count_of}
-use Rattle.graph.specs.declared.var_set.VarSet.{VarSet}
-use Rattle.graph.specs.Amounts.{front, row_passes, rows_named, printed_rows, IsAmount}
+use Rattle.graph_numbers.specs.{holds_at, version_at}
+use Rattle.graph.specs.{action_set, any_depends, any_has, AreRows, AreTables, count_below, count_of, depends_at, filter_numbers, front, has, IsAmount, IsBookedRow, IsRow, IsSet, Numbers, printed_rows, result_sets, row_passes, rows_named, site_sets, VarSet}
 use Rattle.graph.specs.declared.amounts.Amounts.{Amounts}
 use Rattle.graph.specs.declared.result_row.ResultRow.{ResultRow}
 use Rattle.graph.proofs.Listing.{zip_both, zip_by}
 use Rattle.std.proofs.lemmas.Bool.Decides.{Decides-ltb}
-use Rattle.rdf_values.specs.Kinds.{FunctionNames, scope_of}
-use Rattle.rdf_values.specs.declared.action.ActionKind.{ActionKind}
-use Rattle.rdf_values.specs.declared.column.Column.{Column}
-use Rattle.rdf_values.specs.declared.graph_cause.GraphCause.TheVariants as cause
-use Rattle.rdf_values.specs.declared.vary_values.VaryValues.{VaryValues}
 use Rattle.rdf_model.proofs.Accepted.{both_none, if_fails}
-use Rattle.graph_numbers.specs.Versions.{version_at}
-use Rattle.graph.specs.Dependence.{Numbers, IsSet, depends_at, any_depends, action_set, site_sets, result_sets}
-use Rattle.graph.specs.Gains.{AreRows, IsRow, IsBookedRow, AreTables}
 use Rattle.graph.specs.declared.tables.Tables.{Tables}
-use Rattle.graph.specs.SiteNumbers.{filter_numbers}
-use Rattle.graph.specs.VarSets.{any_has}
 use Rattle.graph.proofs.ResultSets.{beyond, result_is, result_beyond, action_beyond, filters_are, columns_are}
 use Rattle.graph.proofs.SetTables.{sets_any, row_set}
 use Rattle.graph.proofs.SiteTotals.{numbers_are}
@@ -154,16 +137,16 @@ module _ (header : List Column) (names : FunctionNames) where
   few_with before node parent vary columns tags values ok =
       let targets : Option GraphCause = first_refusal (map (check_target (scope_at names (scope_of header) before parent) (path before parent)) columns) in
       let value : Option GraphCause = check_values names (scope_at names (scope_of header) before parent) (length tags) columns values in
-      let a = both_none (check_node before node parent) (refuse_if (repeats columns) cause.NameTaken ∷ targets ∷ check_tags before tags vary ∷ value ∷ []) ok in
-      let b = both_none (refuse_if (repeats columns) cause.NameTaken) (targets ∷ check_tags before tags vary ∷ value ∷ []) a.1 in
+      let a = both_none (check_node before node parent) (refuse_if (repeats columns) GraphCause.NameTaken ∷ targets ∷ check_tags before tags vary ∷ value ∷ []) ok in
+      let b = both_none (refuse_if (repeats columns) GraphCause.NameTaken) (targets ∷ check_tags before tags vary ∷ value ∷ []) a.1 in
       let c = both_none targets (check_tags before tags vary ∷ value ∷ []) b.1 in
       let d = both_none (check_tags before tags vary) (value ∷ []) c.1 in
-      let many : Option GraphCause = refuse_if (nat_lt 16 (length tags) || nat_lt 128 (length (variations before) + length tags)) cause.TooMany in
-      let e = both_none (refuse_if (repeats tags) cause.NameTaken) (refuse_if (is_variation_name before vary) cause.NameTaken ∷ many ∷ []) d.0 in
-      let f = both_none (refuse_if (is_variation_name before vary) cause.NameTaken) (many ∷ []) e.1 in
+      let many : Option GraphCause = refuse_if (nat_lt 16 (length tags) || nat_lt 128 (length (variations before) + length tags)) GraphCause.TooMany in
+      let e = both_none (refuse_if (repeats tags) GraphCause.NameTaken) (refuse_if (is_variation_name before vary) GraphCause.NameTaken ∷ many ∷ []) d.0 in
+      let f = both_none (refuse_if (is_variation_name before vary) GraphCause.NameTaken) (many ∷ []) e.1 in
       let g = both_none many [] f.1 in
       let n : ℕ = length (variations before) + length tags in
-      go (nat_lt 16 (length tags)) (nat_lt 128 n) refl (if_fails _ cause.TooMany g.0) (Decides-ltb 128 n)
+      go (nat_lt 16 (length tags)) (nat_lt 128 n) refl (if_fails _ GraphCause.TooMany g.0) (Decides-ltb 128 n)
     where
       go : (a c : Bool) → nat_lt 128 (length (variations before) + length tags) ≡ c → (a || c) ≡ false → Decides (nat_lt 128 (length (variations before) + length tags)) (128 < length (variations before) + length tags)
           → length (variations before) + length tags ≤ 128

@@ -2,34 +2,21 @@
 use Rattle.std.proofs.Common.{if◌then◌else◌, ◌≡◌, ℕ, suc, ◌+◌, Bool, true, false, ◌&&◌, ◌||◌, List, [], ◌∷◌, ◌++◌, map, length, Option, Some, None, Ok, slice_get, refl, sym, ◌∙◌, ap, subst, arith, ◌⊎◌, inl, inr, ◌<◌, ◌≤◌, nat_le, nat_lt}
 use Rattle.std.specs.List.{list_any}
 use Rattle.std.proofs.lemmas.List.{length-append, length-map, map-append}
-use Rattle.lemmas.proofs.Places.{kept_at, mapped_at, any_at}
-use Rattle.rdf_values.specs.Depends.{columns_in, columns_in_all, named_depends, column_depends, site_depends, is_own}
-use Rattle.rdf_values.specs.EachColumn.{EachColumn}
-use Rattle.rdf_values.specs.Kinds.{FunctionNames, scope_of, column_kind, kind_of, shape_of}
-use Rattle.rdf_values.specs.Names.{same, among, place}
-use Rattle.rdf_values.specs.Numbered.{renamed, all_renamed, callee}
-use Rattle.rdf_values.specs.Path.{Variation, makes, parent_of, path, target_of, variations, own_variations}
-use Rattle.rdf_values.specs.Tree.{Tree, Trees, NamedTree, Lit, Truth, Col, Neg, Not, Bin, Cond, Pick, Call, End, More}
-use Rattle.rdf_values.specs.Verdict.{AreAccepted, made_columns, scope_at, check, is_variation_name}
-use Rattle.rdf_values.specs.declared.column.Column.{Column}
-use Rattle.rdf_values.specs.declared.value.ColType.{ColType}
-use Rattle.rdf_values.specs.declared.vary_values.VaryValues.{VaryValues}
-use Rattle.rdf_values.specs.declared.statement.Statement.{Statement}
+use Rattle.lemmas.proofs.{and_holds, and_left_false, and_right_false, any_at, kept_at, le_false, mapped_at, neither}
+use Rattle.rdf_values.specs.{all_renamed, among, AreAccepted, Bin, Call, callee, check, Col, ColType, Column, column_depends, column_kind, columns_in, columns_in_all, Cond, EachColumn, End, FunctionNames, is_own, is_variation_name, kind_of, Lit, made_columns, makes, More, named_depends, NamedTree, Neg, Not, own_variations, parent_of, path, Pick, place, renamed, same, scope_at, scope_of, shape_of, site_depends, Statement, target_of, Tree, Trees, Variation, variations, VaryValues}
+use Rattle.rdf_values.specs.Expressions.{Truth}
 use Rattle.rdf_values.specs.declared.statement.Statement.TheVariants.{Define, Redefine, Vary}
 use Rattle.rdf_model.proofs.Accepted.{kind_known, checked_of, sound_path, visible_resolved, itself}
 use Rattle.rdf_model.proofs.KnownColumns.{IsKnownColumn, known_columns, each_weaker}
-use Rattle.graph_numbers.specs.Graphs.{holds_at}
-use Rattle.graph_numbers.specs.Versions.{column_place, own_columns, own_version, version_or, version_count, named_version, version_at}
+use Rattle.graph_numbers.specs.{column_place, holds_at, named_version, own_columns, own_version, version_at, version_count, version_or}
 use Rattle.graph_numbers.proofs.Listed.{next_at, of_joined}
 use Rattle.graph_numbers.proofs.Meeting.{In, here, there, each_at}
-use Rattle.graph.specs.Dependence.{Numbers, depends_at, is_among_own, expression_set, varied_set, own_version_sets, version_sets}
+use Rattle.graph.specs.{depends_at, expression_set, is_among_own, Numbers, own_version_sets, varied_set, version_sets}
 use Rattle.graph.proofs.Listing.{any_map, named_at, no_place}
 use Rattle.std.specs.Prelude.{⊤}
 use Rattle.std.proofs.lemmas.Bool.{le-leb}
 use Rattle.std.proofs.lemmas.List.Folds.{list_any-append}
 use Rattle.std.proofs.lemmas.Option.{slice_get_within}
-use Rattle.lemmas.proofs.Booleans.{and_holds, and_left_false, and_right_false, neither}
-use Rattle.lemmas.proofs.Orders.{le_false}
 use Rattle.graph_numbers.proofs.Apart.{any_false, other_way, of_tags, tags_checked}
 
 -- the variation w of number v is one of a Vary's own by its name exactly where it is by its number

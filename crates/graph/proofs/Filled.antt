@@ -1,25 +1,14 @@
 -- Which results are filled, and the passes of a loop, by the numbers of results.
 use Rattle.std.proofs.Common.{if◌then◌else◌, ◌≡◌, ◌⊎◌, inl, inr, ℕ, zero, suc, ◌+◌, ◌<◌, ◌≤◌, Bool, true, false, not, List, [], ◌∷◌, ◌++◌, map, length, take, drop, Some, None, refl, sym, ◌∙◌, ap, subst, arith, slice_get, length-append, append_assoc, nat_lt}
 use Rattle.std.proofs.lemmas.List.{append-nil, take-append-drop, take-append-le}
-use Rattle.lemmas.proofs.Booleans.{neither}
-use Rattle.lemmas.proofs.Orders.{lt_true, lt_false}
-use Rattle.lemmas.proofs.Parts.{take_front, take_full}
-use Rattle.lemmas.proofs.Places.{within}
-use Rattle.rdf_values.specs.Bookings.{Booked, booked_by, bookings, names_of, filled, has_variations, result_depends}
-use Rattle.rdf_values.specs.Kinds.{FunctionNames, Scope}
-use Rattle.rdf_values.specs.Names.{same, among, place}
-use Rattle.rdf_values.specs.Path.{Variation, variations}
-use Rattle.rdf_values.specs.Verdict.{AreAccepted, check, check_node, is_in_use, is_node, is_result, refuse_if, refuse_unless}
-use Rattle.rdf_values.specs.declared.graph_cause.GraphCause.TheVariants as cause
-use Rattle.rdf_values.specs.declared.statement.Statement.{Statement}
+use Rattle.lemmas.proofs.{lt_false, lt_true, neither, take_front, take_full, within}
+use Rattle.rdf_values.specs.{among, AreAccepted, Booked, booked_by, bookings, check, check_node, filled, FunctionNames, GraphCause, has_variations, is_in_use, is_node, is_result, names_of, place, refuse_if, refuse_unless, result_depends, same, Scope, Statement, Variation, variations}
 use Rattle.rdf_values.specs.declared.statement.Statement.TheVariants.{Action, Report, Print}
 use Rattle.rdf_model.proofs.Accepted.{both_none, if_fails, unless_holds, itself}
 use Rattle.graph_numbers.proofs.Listed.{of_joined}
-use Rattle.graph_numbers.specs.Graphs.{holds_at}
-use Rattle.graph_numbers.specs.Results.{places_from, numbered_pass, result_passes, passes_from}
+use Rattle.graph_numbers.specs.{holds_at, numbered_pass, passes_from, places_from, result_passes}
 use Rattle.graph.specs.declared.result_row.ResultRow.{ResultRow}
-use Rattle.graph.specs.Sets.{has}
-use Rattle.graph.specs.LoopRows.{IsNamedInTurn, AreNamedInTurn, filled_count, members_from, IsRowOf, AreRowsOf, passes_of_row, passes_of_rows}
+use Rattle.graph.specs.{AreNamedInTurn, AreRowsOf, filled_count, has, IsNamedInTurn, IsRowOf, members_from, passes_of_row, passes_of_rows}
 use Rattle.graph.proofs.Listing.{zip_last}
 use Rattle.graph.proofs.Walking.{same_back}
 
@@ -28,12 +17,12 @@ use Rattle.graph.proofs.Walking.{same_back}
 module _ (names : FunctionNames) (header : Scope) where
   not_in_use : (before : List Statement) (result parent : List ℕ) → check_node before result parent ≡ None → is_result before result ≡ false
   not_in_use before result parent h =
-      (neither (is_node before result) (is_result before result) (if_fails (is_in_use before result) cause.NameTaken (both_none (refuse_if (is_in_use before result) cause.NameTaken) _ h).0)).1
+      (neither (is_node before result) (is_result before result) (if_fails (is_in_use before result) GraphCause.NameTaken (both_none (refuse_if (is_in_use before result) GraphCause.NameTaken) _ h).0)).1
 
   named_in_turn : (before : List Statement) (s : Statement) → check names header before s ≡ None → IsNamedInTurn before s
   named_in_turn before (Action result parent k) h = not_in_use before result parent (both_none (check_node before result parent) _ h).0
   named_in_turn before (Report result parent) h = not_in_use before result parent (both_none (check_node before result parent) _ h).0
-  named_in_turn before (Print result) h = unless_holds (is_result before result) cause.UnknownName (both_none (refuse_unless (is_result before result) cause.UnknownName) _ h).0
+  named_in_turn before (Print result) h = unless_holds (is_result before result) GraphCause.UnknownName (both_none (refuse_unless (is_result before result) GraphCause.UnknownName) _ h).0
   named_in_turn before s h = tt
 
   -- in accepted statements a result that is booked is new, and one that is printed isn't

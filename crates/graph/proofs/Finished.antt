@@ -6,38 +6,17 @@ use Rattle.std.proofs.lemmas.List.Elements.{All-map, recursion_from_All}
 use Rattle.std.proofs.lemmas.List.Sorted.{All-permutation, IsPermutation-reverse}
 use Rattle.std.proofs.lemmas.Option.{slice_get-map}
 use Rattle.std.proofs.lemmas.Slice.Zip.{AllZip-long}
-use Rattle.rdf_values.specs.Answers.{Refuses}
-use Rattle.rdf_values.specs.Bookable.{IsBookable, IsShort}
-use Rattle.rdf_values.specs.Bookings.{Booked, bookings, is_watched, result_depends}
-use Rattle.rdf_values.specs.Kinds.{FunctionNames, scope_of}
-use Rattle.rdf_values.specs.Path.{variations}
-use Rattle.rdf_values.specs.Tables.{IsHeader}
-use Rattle.rdf_values.specs.Verdict.{AreAccepted, verdict}
-use Rattle.rdf_values.specs.declared.column.Column.{Column}
-use Rattle.rdf_values.specs.declared.script.Line.{Line}
-use Rattle.rdf_values.specs.declared.script.Script.{Script}
-use Rattle.rdf_values.specs.declared.statement.Statement.{Statement}
+use Rattle.rdf_values.specs.Answered.{Refuses}
+use Rattle.rdf_values.specs.{AreAccepted, Booked, bookings, Column, FunctionNames, is_watched, IsBookable, IsHeader, IsShort, Line, result_depends, scope_of, Script, Statement, variations, verdict}
 use Rattle.rdf_values.specs.declared.statement.Statement.TheVariants.{Print}
-use Rattle.rdf_model.specs.Loops.{Access, accesses, filled_by}
+use Rattle.rdf_model.specs.{Access, accesses, filled_by}
 use Rattle.graph_numbers.proofs.Resulting.{booked_are}
-use Rattle.graph_numbers.specs.Graphs.{GraphView, IsGraph, booked, booked_unless, booked_statements, graph_results, graph_sources, graph_variations, holds_at}
-use Rattle.graph_numbers.specs.Results.{ResultAt, result_number}
-use Rattle.graph_numbers.specs.declared.version.Version.{Version}
+use Rattle.graph_numbers.specs.{booked, booked_statements, booked_unless, graph_results, graph_sources, graph_variations, GraphView, holds_at, IsGraph, result_number, ResultAt, Version}
 use Rattle.graph_numbers.proofs.Extending.{versions_count}
-use Rattle.graph.specs.Dependence.{result_sets}
-use Rattle.graph.specs.Gains.{IsRow, AreRows as AreCheckRows, AreTables}
-use Rattle.graph.specs.Laws.{ResultSetsAreDependence, SiteSetsAreDependence}
-use Rattle.graph.specs.Lookups.{statements}
+use Rattle.graph.specs.{AreAbove, AreLoops, AreNamedInTurn, AreRows as AreCheckRows, AreRowsOf, AreSourcesOf, AreTables, GraphRefusal, IsBooked, IsRefusal, IsRow, IsRowOf, refused, refused_at, result_sets, ResultSetsAreDependence, SiteSetsAreDependence, statements, view_of}
 use Rattle.graph.specs.declared.result_row.ResultRow.{ResultRow}
-use Rattle.graph.specs.Bookings.{refused, IsRefusal}
 use Rattle.graph.specs.declared.tables.Tables.{Tables}
-use Rattle.graph.specs.GraphFields.{IsBooked, view_of}
-use Rattle.graph.specs.LoopRows.{AreNamedInTurn, IsRowOf, AreRowsOf, AreLoops}
-use Rattle.graph.specs.Refusals.{refused_at}
-use Rattle.graph.specs.VersionSources.{AreSourcesOf, AreAbove}
 use Rattle.graph.specs.declared.loops.LoopTables.{LoopTables}
-use Rattle.graph.specs.declared.refusal.GraphRefusal.{GraphRefusal}
-use Rattle.graph.specs.declared.refusal.GraphRefusal.TheVariants as refusal
 use Rattle.graph.proofs.Counted.{filters_few, versions_are, sites_fit}
 use Rattle.graph.proofs.Filled.{all_in_turn}
 use Rattle.graph.proofs.Looped.{bookings_few, loops_few}
@@ -62,9 +41,9 @@ graph_is script ls header names e bookable head ok = record {
   accepted = subst (λ (s : Script). verdict names header s ≡ None) (script_again script ls e) (sym (verdict_of names header script ls e) ∙ none_refused names (scope_of header) ls ok);
 }
 
-pub refusal_answered : (script : Script) (ls : List Line) (header : List Column) (names : FunctionNames) (r : GraphRefusal) → ls ≡ reverse script.lines → IsRefusal (refused names (scope_of header) ls) r → Refuses refused_at refusal.Memory (booked script header names) r
-refusal_answered script ls header names refusal.Memory e h = inl refl
-refusal_answered script ls header names (refusal.At line cause) e h =
+pub refusal_answered : (script : Script) (ls : List Line) (header : List Column) (names : FunctionNames) (r : GraphRefusal) → ls ≡ reverse script.lines → IsRefusal (refused names (scope_of header) ls) r → Refuses refused_at GraphRefusal.Memory (booked script header names) r
+refusal_answered script ls header names GraphRefusal.Memory e h = inl refl
+refusal_answered script ls header names (GraphRefusal.At line cause) e h =
     inr ((line, cause), refl, ap (booked_unless (record { script = script; header = header; names = names })) (sym (verdict_of names header script ls e) ∙ h))
 
 -- the statements of a script that can be booked are short

@@ -2,34 +2,15 @@
 use Rattle.std.proofs.Common.{◌≡◌, ℕ, suc, ◌+◌, ◌≤◌, ◌||◌, List, [], ◌∷◌, ◌++◌, map, length, Option, None, Result, Ok, Err, IfOk, OnOk, refl, sym, ◌∙◌, ap, subst, arith}
 use Rattle.std.proofs.lemmas.List.{length-append, map-append}
 use Rattle.std.proofs.lemmas.List.Elements.{All-weaker}
-use Rattle.lemmas.proofs.Places.{kept_at}
-use Rattle.rdf_values.specs.Bookings.{Booked, booked_by, bookings}
-use Rattle.rdf_values.specs.Kinds.{FunctionNames, scope_of}
-use Rattle.rdf_values.specs.Path.{own_variations, variations}
-use Rattle.rdf_values.specs.Tree.{NamedTree}
-use Rattle.rdf_values.specs.Verdict.{check, kind_or_int}
-use Rattle.rdf_values.specs.declared.column.Column.{Column}
-use Rattle.rdf_values.specs.declared.vary_values.VaryValues.{VaryValues}
+use Rattle.lemmas.proofs.{kept_at}
+use Rattle.rdf_values.specs.{Booked, booked_by, bookings, check, ColType, Column, FunctionNames, kind_or_int, NamedTree, own_variations, scope_of, Statement, variations, VaryValues}
 use Rattle.rdf_values.specs.declared.vary_values.VaryValues.TheVariants.{Lists, Vector}
-use Rattle.rdf_values.specs.declared.statement.Statement.{Statement}
 use Rattle.rdf_values.specs.declared.statement.Statement.TheVariants.{Define, Redefine, Filter, Vary, Report}
-use Rattle.rdf_values.specs.declared.value.ColType.{ColType}
-use Rattle.rdf_model.specs.Demanded.{Site, site_at}
-use Rattle.expr_check.specs.NumKinds.{CheckedExpr}
-use Rattle.graph_numbers.specs.Kinds.{own_kinds, version_kinds}
-use Rattle.graph_numbers.specs.Sites.{SiteAt, site_in, list_sites, lists_sites, own_sites, sites}
-use Rattle.graph_numbers.specs.Versions.{named_version}
-use Rattle.graph.specs.declared.var_set.VarSet.{VarSet}
-use Rattle.graph.specs.Dependence.{Numbers, IsSet, AreSets, is_among_own, varied_set, own_version_sets, version_sets, site_set, own_site_sets, site_sets, own_result_sets, result_sets}
-use Rattle.graph.specs.Gains.{IsSite, AreSites, IsRow, AreRows, AreTables, GrowBy, IsGain, IsBookedRow, Gives, IsEmptyGain, IsFilterGain, IsMadeGain, IsRowGain, IsReportGain, IsVaryGain, paths}
-use Rattle.graph.specs.Checks.{Decides}
+use Rattle.rdf_model.specs.{Site, site_at}
+use Rattle.expr_check.specs.{CheckedExpr}
+use Rattle.graph_numbers.specs.{FilterAt, filters, list_sites, lists_sites, named_version, own_filters, own_kinds, own_results, own_sites, results, site_in, SiteAt, sites, version_kinds}
+use Rattle.graph.specs.{all_expressions, AllCheckedAt, AreRows, AreSets, AreSites, AreTables, changed_set, Decides, filter_rows, Gives, GrowBy, is_among_own, IsBookedRow, IsCheckedAt, IsEmptyGain, IsFilterGain, IsGain, IsMadeGain, IsReportGain, IsRow, IsRowGain, IsSet, IsSite, IsVaryGain, named_rows, Numbers, own_result_sets, own_site_sets, own_version_sets, paths, read_sets, result_path, result_rows, result_sets, site_set, site_sets, site_total, value_expressions, varied_set, VarSet, version_rows, version_sets}
 use Rattle.graph.specs.declared.stop.Stop.{Stop}
-use Rattle.graph.specs.Lookups.{IsCheckedAt}
-use Rattle.graph.specs.VarSets.{read_sets, changed_set}
-use Rattle.graph.specs.VaryChecks.{all_expressions, value_expressions, AllCheckedAt}
-use Rattle.graph_numbers.specs.Results.{FilterAt, own_filters, filters, own_results, results}
-use Rattle.graph.specs.Rows.{filter_rows, named_rows, result_path, result_rows, version_rows}
-use Rattle.graph.specs.SiteNumbers.{site_total}
 use Rattle.graph.specs.declared.change.Change.{Change}
 use Rattle.graph.specs.declared.gain.Gain.{Gain}
 use Rattle.graph.specs.declared.result_row.ResultRow.{ResultRow}

@@ -1,8 +1,8 @@
 -- Tests over lists, places in lists, and lists paired with lists.
 use Rattle.std.proofs.Common.{◌≡◌, ℕ, zero, suc, Bool, true, false, ◌||◌, List, [], ◌∷◌, ◌++◌, map, length, Some, None, refl, sym, ◌∙◌, ap, subst, arith, slice_get, take, drop, if◌then◌else◌}
 use Rattle.std.specs.List.{list_any, AllZip}
-use Rattle.lemmas.proofs.Places.{any_at}
-use Rattle.rdf_values.specs.Names.{same, among, place}
+use Rattle.lemmas.proofs.{any_at}
+use Rattle.rdf_values.specs.{among, place, same}
 use Rattle.rdf_model.proofs.Accepted.{names_equal}
 
 pub any_map : {A B : Type 0} (f : A → B) (p : B → Bool) (xs : List A) → list_any p (map f xs) ≡ list_any (λ x. p (f x)) xs

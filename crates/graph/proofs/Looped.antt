@@ -3,22 +3,15 @@ use Rattle.std.proofs.Common.{if◌then◌else◌, ◌≡◌, ◌⊎◌, inl, in
 use Rattle.std.proofs.lemmas.List.{append-nil, map-append, drop-take, length-replicate, take-append-drop}
 use Rattle.std.proofs.lemmas.List.Elements.{filter_map-append}
 use Rattle.std.proofs.lemmas.Slice.Zip.{AllZip-long}
-use Rattle.lemmas.proofs.Booleans.{neither}
-use Rattle.lemmas.proofs.Parts.{take_front, take_no_longer}
-use Rattle.rdf_values.specs.Bookings.{Booked, booked_by, bookings, names_of, filled, waiting}
-use Rattle.rdf_values.specs.Names.{same, among, place}
-use Rattle.rdf_values.specs.Path.{variations}
-use Rattle.rdf_values.specs.declared.script.Line.{Line}
-use Rattle.rdf_values.specs.declared.statement.Statement.{Statement}
+use Rattle.lemmas.proofs.{neither, take_front, take_no_longer}
+use Rattle.rdf_values.specs.{among, Booked, booked_by, bookings, filled, Line, names_of, place, same, Statement, variations, waiting}
 use Rattle.rdf_values.specs.declared.statement.Statement.TheVariants.{Action, Report, Print}
 use Rattle.rdf_model.proofs.Accepted.{names_equal, itself}
-use Rattle.rdf_model.specs.Loops.{Access, filled_by, accesses, loop_results}
+use Rattle.rdf_model.specs.{Access, accesses, filled_by, loop_results}
 use Rattle.graph_numbers.proofs.Listed.{of_joined}
-use Rattle.graph_numbers.specs.Results.{loops, own_loop, runs, own_run, passes_from, result_number}
-use Rattle.graph_numbers.specs.declared.pass.Pass.{Pass}
-use Rattle.graph.specs.Lookups.{statements}
+use Rattle.graph_numbers.specs.{loops, own_loop, own_run, Pass, passes_from, result_number, runs}
+use Rattle.graph.specs.{AreLoops, AreNamedInTurn, AreRowsOf, BeginsWith, filled_count, filler_of, IsNamedInTurn, IsNoPrint, IsNoted, IsRowOf, passes_of_rows, statements}
 use Rattle.graph.specs.declared.result_row.ResultRow.{ResultRow}
-use Rattle.graph.specs.LoopRows.{IsNoPrint, IsNamedInTurn, AreNamedInTurn, filled_count, IsRowOf, AreRowsOf, passes_of_rows, filler_of, AreLoops, IsNoted, BeginsWith}
 use Rattle.graph.specs.declared.loops.LoopTables.{LoopTables}
 use Rattle.graph.proofs.Filled.{among_less, filled_few, filled_first, later_named, loop_is, is_filled, is_waiting}
 use Rattle.graph.proofs.Listing.{place_at, place_end, place_kept, zip_first}

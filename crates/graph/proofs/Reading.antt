@@ -1,30 +1,18 @@
 -- What the fields of a graph say of its numbers.
-use Rattle.std.proofs.Common.{◌≡◌, ℕ, ◌+◌, ◌<◌, Bool, List, [], ◌∷◌, map, length, Option, Some, None, option_map, refl, sym, ◌∙◌, ap, subst, arith, slice_get, length-append}
-use Rattle.std.specs.Prelude.{option_and_then}
+use Rattle.std.proofs.Common.{◌≡◌, ℕ, ◌+◌, ◌<◌, Bool, List, [], ◌∷◌, map, length, Option, Some, None, option_map, refl, sym, ◌∙◌, ap, subst, arith, slice_get, length-append, option_and_then}
 use Rattle.std.proofs.lemmas.List.{length-map}
 use Rattle.std.proofs.lemmas.Option.{slice_get-map}
 use Rattle.std.proofs.lemmas.Slice.Zip.{AllZip-long}
-use Rattle.rdf_values.specs.Bookings.{Booked, bookings, is_watched, named_before}
-use Rattle.rdf_values.specs.Kinds.{FunctionNames}
-use Rattle.rdf_values.specs.declared.column.Column.{Column}
-use Rattle.rdf_values.specs.declared.statement.Statement.{Statement}
-use Rattle.rdf_model.specs.Loops.{Access, accesses, loop_of, loop_results}
-use Rattle.expr_check.specs.NumKinds.{CheckedExpr}
+use Rattle.rdf_values.specs.{Booked, bookings, Column, FunctionNames, is_watched, named_before, Statement}
+use Rattle.rdf_model.specs.{Access, accesses, loop_of, loop_results}
+use Rattle.expr_check.specs.{CheckedExpr}
 use Rattle.graph_numbers.proofs.Extending.{itself}
 use Rattle.graph_numbers.proofs.Looping.{runs_are}
 use Rattle.graph_numbers.proofs.Resulting.{booked_are}
-use Rattle.graph_numbers.specs.Graphs.{GraphView, IsSiteExpr, booked_statements, graph_filters, graph_prints, graph_results, graph_runs, graph_sites, result_depends_at, site_depends_at}
-use Rattle.graph_numbers.specs.Results.{FilterAt, ResultAt}
-use Rattle.graph_numbers.specs.Sites.{SiteAt, own_sites, sites}
-use Rattle.graph.specs.Dependence.{IsSet, own_site_sets, site_set, site_sets}
-use Rattle.graph.specs.Gains.{IsSite, IsRow, paths}
+use Rattle.graph_numbers.specs.{booked_statements, FilterAt, graph_filters, graph_prints, graph_results, graph_runs, graph_sites, GraphView, IsSiteExpr, own_sites, result_depends_at, ResultAt, site_depends_at, SiteAt, sites}
+use Rattle.graph.specs.{filler_of, has, IsBooked, IsRow, IsSet, IsSite, labels, own_site_sets, paths, result_path, site_set, site_sets, VarSet}
 use Rattle.graph.specs.declared.result_row.ResultRow.{ResultRow}
 use Rattle.graph.specs.declared.tables.Tables.{Tables}
-use Rattle.graph.specs.Sets.{has}
-use Rattle.graph.specs.declared.var_set.VarSet.{VarSet}
-use Rattle.graph.specs.GraphFields.{IsBooked}
-use Rattle.graph.specs.LoopRows.{filler_of}
-use Rattle.graph.specs.Rows.{result_path, labels}
 use Rattle.graph.specs.declared.loops.LoopTables.{LoopTables}
 use Rattle.graph.specs.declared.result_path.ResultPath.{ResultPath}
 use Rattle.graph.proofs.Counted.{filters_are, labels_are}

@@ -1,19 +1,10 @@
 -- The first line that is refused, from the latest line back and from the first line on.
 use Rattle.std.proofs.Common.{◌≡◌, ℕ, List, [], ◌∷◌, ◌++◌, map, Option, Some, None, option_map, refl, sym, ◌∙◌, ap, subst, reverse, length, arith}
 use Rattle.std.proofs.lemmas.List.{reverse-append, reverse-reverse}
-use Rattle.lemmas.proofs.Appended.{map_next}
-use Rattle.rdf_values.specs.Kinds.{FunctionNames, Scope, scope_of}
-use Rattle.rdf_values.specs.Path.{history}
-use Rattle.rdf_values.specs.Verdict.{check, AreAccepted, verdict_after, verdict}
-use Rattle.rdf_values.specs.declared.column.Column.{Column}
-use Rattle.rdf_values.specs.declared.graph_cause.GraphCause.{GraphCause}
-use Rattle.rdf_values.specs.declared.script.Line.{Line}
-use Rattle.rdf_values.specs.declared.script.Script.{Script}
-use Rattle.rdf_values.specs.declared.statement.Statement.{Statement}
+use Rattle.lemmas.proofs.{map_next}
+use Rattle.rdf_values.specs.{AreAccepted, check, Column, FunctionNames, GraphCause, history, Line, Scope, scope_of, Script, Statement, verdict, verdict_after}
 use Rattle.rdf_model.proofs.Verdicts.{onto}
-use Rattle.graph.specs.Bookings.{refused_then, refused, IsRefusal}
-use Rattle.graph.specs.declared.refusal.GraphRefusal.{GraphRefusal}
-use Rattle.graph.specs.Lookups.{statements}
+use Rattle.graph.specs.{GraphRefusal, IsRefusal, refused, refused_then, statements}
 
 map_back : {A B : Type 0} (f : A → B) (xs : List A) → map f (reverse xs) ≡ reverse (map f xs)
 map_back f [] = refl

@@ -4,35 +4,20 @@ use Rattle.std.specs.List.{list_any, AllByRecursion}
 use Rattle.std.proofs.lemmas.List.Folds.{list_any-append}
 use Rattle.std.proofs.lemmas.List.{length-append, length-map, append-nil}
 use Rattle.std.proofs.lemmas.Option.{slice_get_within}
-use Rattle.lemmas.proofs.Booleans.{or_false}
-use Rattle.lemmas.proofs.Places.{mapped_at}
-use Rattle.rdf_values.specs.Bookings.{ActionAt, ReportOn, Booked, covered, booked_by, bookings, columns_of, result_depends}
-use Rattle.rdf_values.specs.Depends.{columns_in, column_depends, site_depends, filters_depend}
-use Rattle.rdf_values.specs.Kinds.{FunctionNames, scope_of, column_kind, kind_of}
-use Rattle.rdf_values.specs.Path.{Variation, makes, parent_of, path, own_variations, variations, history}
-use Rattle.rdf_values.specs.Verdict.{AreAccepted, check, check_node, check_columns, check_edges, check_results, check_passes, expect_kind, may_begin, permitted_kinds, scope_at}
-use Rattle.rdf_values.specs.declared.column.Column.{Column}
-use Rattle.rdf_values.specs.declared.value.ColType.{ColType}
-use Rattle.rdf_values.specs.declared.value.ColType.TheVariants as kind
-use Rattle.rdf_values.specs.declared.action.ActionKind.{ActionKind}
-use Rattle.rdf_values.specs.declared.graph_cause.GraphCause.{GraphCause}
+use Rattle.lemmas.proofs.{mapped_at, or_false}
+use Rattle.rdf_values.specs.{ActionAt, ActionKind, AreAccepted, Booked, booked_by, bookings, check, check_columns, check_edges, check_node, check_passes, check_results, ColType, Column, column_depends, column_kind, columns_in, columns_of, covered, expect_kind, filters_depend, FunctionNames, GraphCause, history, kind_of, makes, may_begin, own_variations, parent_of, path, permitted_kinds, ReportOn, result_depends, scope_at, scope_of, site_depends, Statement, Variation, variations}
 use Rattle.rdf_values.specs.declared.graph_cause.GraphCause.TheVariants.{WrongType}
-use Rattle.rdf_values.specs.declared.statement.Statement.{Statement}
 use Rattle.rdf_values.specs.declared.statement.Statement.TheVariants.{Define, Redefine, Filter, Vary, Action, Report}
 use Rattle.rdf_model.proofs.Accepted.{both_none, kind_expected}
-use Rattle.graph_numbers.specs.Graphs.{holds_at, GraphView, IsGraph}
-use Rattle.graph_numbers.specs.Sites.{SiteAt, own_sites, sites, site_count, own_filter_site, filter_sites, depends_on}
-use Rattle.graph_numbers.specs.Versions.{version_at, named_version}
+use Rattle.graph_numbers.specs.{depends_on, filter_sites, GraphView, holds_at, IsGraph, named_version, own_filter_site, own_sites, ResultAt, results, site_count, SiteAt, sites, version_at}
 use Rattle.graph_numbers.proofs.Listed.{next_at, of_joined}
 use Rattle.graph_numbers.proofs.Placing.{own_placed}
 use Rattle.graph_numbers.proofs.Ranges.{AreBelow, filter_sites_below}
-use Rattle.graph.specs.Dependence.{Numbers, depends_at, any_depends, varied_set, own_version_sets, version_sets, site_set, own_site_sets, site_sets, action_set, own_result_sets, result_sets}
+use Rattle.graph.specs.{action_set, any_depends, depends_at, Numbers, own_result_sets, own_site_sets, own_version_sets, result_sets, ResultSetsAreDependence, site_set, site_sets, SiteSetsAreDependence, varied_set, version_sets, VersionsDependAsColumns}
 use Rattle.graph.proofs.Depending.{visible_set, set_is, expression_set_is, Tells, after_own, tags_count, tells}
 use Rattle.graph.proofs.Listing.{any_none}
 use Rattle.rdf_model.proofs.Verdicts.{verdict_is_the_first_refusal}
-use Rattle.graph_numbers.specs.Results.{ResultAt, results}
 use Rattle.graph_numbers.proofs.Resulting.{booked_are}
-use Rattle.graph.specs.Laws.{VersionsDependAsColumns, SiteSetsAreDependence, ResultSetsAreDependence}
 
 -- ---- sets of places that are kept
 
@@ -172,13 +157,13 @@ module _ (header : List Column) (names : FunctionNames) (v : ℕ) (w : Variation
           → filters_depend w (path before (parent_of t)) ≡ any_depends (site_sets header names (s ∷ before)) (filter_sites header names before (parent_of t)) v
           → filters_depend w (t ∷ path before (parent_of t)) ≡ any_depends (site_sets header names (s ∷ before)) (filter_sites header names before (parent_of t) ++ own_filter_site t (site_count header names before)) v
       step (Filter node parent expr label) is ok e =
-          let p = both_none (check_node before node parent) (expect_kind kind.Bool (kind_of (scope_at names (scope_of header) before parent) names expr) ∷ []) ok in
-          let q = both_none (expect_kind kind.Bool (kind_of (scope_at names (scope_of header) before parent) names expr)) [] p.1 in
+          let p = both_none (check_node before node parent) (expect_kind ColType.Bool (kind_of (scope_at names (scope_of header) before parent) names expr) ∷ []) ok in
+          let q = both_none (expect_kind ColType.Bool (kind_of (scope_at names (scope_of header) before parent) names expr)) [] p.1 in
           let n : site_count header names before ≡ length (site_sets header names before) + 0 = (let c = site_set_count header names before in omega (arith, c)) in
           let own : depends_at (site_sets header names (s ∷ before)) (site_count header names before) v ≡ site_depends w (path before parent) expr =
           ap (holds_at (λ (d : Numbers). d v))
           (next_at (site_sets header names before) (own_site_sets header names before s) 0 (site_count header names before) n ∙ ap (λ u. slice_get (own_site_sets header names before u) 0) is)
-          ∙ sym (expression_set_is header names v w before good.1 tell.1 parent expr kind.Bool (kind_expected kind.Bool _ q.0)) in
+          ∙ sym (expression_set_is header names v w before good.1 tell.1 parent expr ColType.Bool (kind_expected ColType.Bool _ q.0)) in
           (λ i. e i || (sym own ∙ sym (or_false _)) i) ∙ sym (list_any-append (λ c. depends_at (site_sets header names (s ∷ before)) c v) (filter_sites header names before parent) (site_count header names before ∷ []))
       step t is ok e = e ∙ ap (λ cs. any_depends (site_sets header names (s ∷ before)) cs v) (sym (append-nil (filter_sites header names before (parent_of t))))
 

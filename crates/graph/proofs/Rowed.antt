@@ -1,21 +1,10 @@
 -- What a statement adds to the lists is what the numbers of the script say.
 use Rattle.std.proofs.Common.{if◌then◌else◌, ◌≡◌, ℕ, suc, ◌+◌, false, List, [], ◌∷◌, ◌++◌, map, length, Some, refl, sym, ◌∙◌, ap}
-use Rattle.rdf_values.specs.Bookings.{named_before, columns_of}
-use Rattle.rdf_values.specs.Kinds.{FunctionNames}
-use Rattle.rdf_values.specs.Path.{Path, makes, parent_of, path, variations}
-use Rattle.rdf_values.specs.declared.column.Column.{Column}
-use Rattle.rdf_values.specs.declared.vary_values.VaryValues.{VaryValues}
+use Rattle.rdf_values.specs.{Column, columns_of, FunctionNames, makes, named_before, parent_of, Path, path, Statement, variations, VaryValues}
 use Rattle.rdf_values.specs.declared.vary_values.VaryValues.TheVariants.{Lists, Vector}
-use Rattle.rdf_values.specs.declared.statement.Statement.{Statement}
 use Rattle.rdf_values.specs.declared.statement.Statement.TheVariants.{Define, Redefine, Filter, Vary, Action, Report}
-use Rattle.graph_numbers.specs.Results.{FilterAt, own_filter, filters_on, all_or, covered_at, own_filters, own_results}
-use Rattle.graph_numbers.specs.Sites.{list_start, site_count}
-use Rattle.graph_numbers.specs.Sources.{numbers_from, varied_version, varied_versions, own_versions}
-use Rattle.graph_numbers.specs.Versions.{named_version, version_at}
-use Rattle.graph_numbers.specs.declared.result_kind.ResultKind.TheVariants as what
-use Rattle.graph_numbers.specs.declared.version.Version.TheVariants as as_version
-use Rattle.graph.specs.SiteNumbers.{own_number, site_total}
-use Rattle.graph.specs.Rows.{count_from, varied_row, varied_rows, version_rows, is_named, filter_rows, named_numbers, has_made, covered_numbers, result_rows, result_path}
+use Rattle.graph_numbers.specs.{all_or, covered_at, FilterAt, filters_on, list_start, named_version, numbers_from, own_filter, own_filters, own_results, own_versions, ResultKind, site_count, varied_version, varied_versions, Version, version_at}
+use Rattle.graph.specs.{count_from, covered_numbers, filter_rows, has_made, is_named, named_numbers, own_number, result_path, result_rows, site_total, varied_row, varied_rows, version_rows}
 use Rattle.graph.proofs.SiteTotals.{numbers_are, total_is}
 
 counted_are : {A : Type 0} (n : ℕ) (xs : List A) → numbers_from n xs ≡ count_from n (length xs)
@@ -40,7 +29,7 @@ covers_are before node = go (path before node)
 
 module _ (header : List Column) (names : FunctionNames) (before : List Statement) where
   varied_is : (values : VaryValues) (below first site i : ℕ) (tags : List (List ℕ)) → varied_version header names values below first site tags i ≡ varied_row values below first site (length tags) i
-  varied_is (Lists ls) below first site i tags = λ l. as_version.Varied below first (length tags) (counted_are (site + list_start ls i) tags l) false
+  varied_is (Lists ls) below first site i tags = λ l. Version.Varied below first (length tags) (counted_are (site + list_start ls i) tags l) false
   varied_is (Vector e) below first site i tags = refl
 
   varied_are : (parent : List ℕ) (values : VaryValues) (tags : List (List ℕ)) (i : ℕ) (cs : List (List ℕ))
@@ -52,8 +41,8 @@ module _ (header : List Column) (names : FunctionNames) (before : List Statement
       ∷ varied_are parent values tags (suc i) cs l
 
   pub own_versions_are : (s : Statement) → own_versions header names before s ≡ version_rows header before (length (variations before)) (site_total before) s
-  own_versions_are (Define node parent column expr) = λ l. as_version.Computed (total_is header names before l) ∷ []
-  own_versions_are (Redefine node parent column expr) = λ l. as_version.Computed (total_is header names before l) ∷ []
+  own_versions_are (Define node parent column expr) = λ l. Version.Computed (total_is header names before l) ∷ []
+  own_versions_are (Redefine node parent column expr) = λ l. Version.Computed (total_is header names before l) ∷ []
   own_versions_are (Vary node parent columns values tags vary) = varied_are parent values tags 0 columns
   own_versions_are s = refl
 
@@ -62,6 +51,6 @@ module _ (header : List Column) (names : FunctionNames) (before : List Statement
   own_filters_are s = refl
 
   pub own_results_are : (s : Statement) → map result_path (own_results header names before s) ≡ result_rows header before s
-  own_results_are (Action result parent k) = λ l. record { kind = what.Action k; filters = sym (numbers_are header names before parent) l; inputs = map (version_at header before parent) (columns_of k); covers = [] } ∷ []
-  own_results_are (Report result parent) = λ l. record { kind = what.Report; filters = sym (numbers_are header names before parent) l; inputs = []; covers = covers_are before parent l } ∷ []
+  own_results_are (Action result parent k) = λ l. record { kind = ResultKind.Action k; filters = sym (numbers_are header names before parent) l; inputs = map (version_at header before parent) (columns_of k); covers = [] } ∷ []
+  own_results_are (Report result parent) = λ l. record { kind = ResultKind.Report; filters = sym (numbers_are header names before parent) l; inputs = []; covers = covers_are before parent l } ∷ []
   own_results_are s = refl

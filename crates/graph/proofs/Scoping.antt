@@ -2,28 +2,14 @@
 use Rattle.std.proofs.Common.{if◌then◌else◌, ◌≡◌, ℕ, ◌<◌, Bool, true, false, List, [], ◌∷◌, ◌++◌, All, length, Some, Result, Ok, Err, OnOk, IfOk, IfErr, refl, sym, ◌∙◌, ap, subst, slice_get, nat_eq, arith}
 use Rattle.std.specs.List.{AllByRecursion}
 use Rattle.std.proofs.lemmas.List.Elements.{All-push, All-weaker, recursion_from_All}
-use Rattle.lemmas.proofs.Orders.{eq_says}
-use Rattle.lemmas.proofs.Places.{within}
-use Rattle.rdf_values.specs.Depends.{columns_in}
-use Rattle.rdf_values.specs.EachColumn.{EachColumn, EachArgument}
-use Rattle.rdf_values.specs.Kinds.{FunctionNames, Scope, Shape, scope_of, column_kind, kind_of, kind_by, kinds_by, shape_of, ◌>>=◌, operator_kind, negated_kind, inverted_kind, chosen_kind, picked_kind, args_count, result_kind}
-use Rattle.rdf_values.specs.Names.{same}
-use Rattle.rdf_values.specs.Path.{path, target_of}
-use Rattle.rdf_values.specs.Numbered.{ScopeColumn, kinds_in, number_in, renamed, all_renamed, callee, numbered}
-use Rattle.rdf_values.specs.Tree.{Tree, Trees, NamedTree, Lit, Truth, Col, Neg, Not, Bin, Cond, Pick, Call, End, More}
-use Rattle.rdf_values.specs.Verdict.{is_visible, scope_at}
-use Rattle.rdf_values.specs.declared.column.Column.{Column}
-use Rattle.rdf_values.specs.declared.statement.Statement.{Statement}
-use Rattle.rdf_values.specs.declared.value.ColType.{ColType}
-use Rattle.rdf_values.specs.declared.graph_cause.GraphCause.{GraphCause}
+use Rattle.lemmas.proofs.{eq_says, within}
+use Rattle.rdf_values.specs.{◌>>=◌, all_renamed, args_count, Bin, Call, callee, chosen_kind, Col, ColType, Column, column_kind, columns_in, Cond, EachArgument, EachColumn, End, FunctionNames, GraphCause, inverted_kind, is_visible, kind_by, kind_of, kinds_by, kinds_in, Lit, More, NamedTree, Neg, negated_kind, Not, number_in, numbered, operator_kind, path, Pick, picked_kind, renamed, result_kind, same, Scope, scope_at, scope_of, ScopeColumn, Shape, shape_of, Statement, target_of, Tree, Trees}
+use Rattle.rdf_values.specs.Expressions.{Truth}
 use Rattle.rdf_values.specs.declared.graph_cause.GraphCause.TheVariants.{UnknownColumn, WrongCount}
 use Rattle.rdf_model.proofs.Accepted.{names_equal, itself, visible_known}
-use Rattle.expr_check.specs.CheckAnswers.{RefusedAs}
-use Rattle.expr_check.specs.declared.refusal.CheckRefusal.{CheckRefusal}
-use Rattle.expr_check.specs.NumKinds.{CheckedExpr, IsWellTyped, CallsFit, number_kind}
-use Rattle.expr_check.specs.Scopes.{numbers_in}
-use Rattle.graph.specs.Lookups.{AreKinds, IsFound, IsAlike, IsScopeAt, AreNoted, IsScopeOf, IsCheckedAt}
-use Rattle.graph_numbers.specs.Versions.{named_version, version_at, version_count}
+use Rattle.expr_check.specs.{CallsFit, CheckedExpr, CheckRefusal, IsWellTyped, number_kind, numbers_in, RefusedAs}
+use Rattle.graph.specs.{AreKinds, AreNoted, IsAlike, IsCheckedAt, IsFound, IsScopeAt, IsScopeOf}
+use Rattle.graph_numbers.specs.{named_version, version_at, version_count}
 use Rattle.rdf_model.proofs.KnownColumns.{IsKnownColumn, known_columns, each_weaker}
 use Rattle.graph_numbers.proofs.Meeting.{In, here, there, each_of, each_both}
 use Rattle.graph_numbers.proofs.VersionKinds.{kind_count, visible_kind}

@@ -1,23 +1,12 @@
 -- Lists of sets of variations, and the sets by numbers that they are.
 use Rattle.std.proofs.Common.{◌≡◌, ℕ, zero, suc, Bool, false, not, List, [], ◌∷◌, ◌++◌, map, Some, slice_get, Result, Ok, Err, OnOk, nat_eq, append_assoc, refl, sym, ◌∙◌, ap, subst, arith}
 use Rattle.std.specs.List.{list_any, filter}
-use Rattle.lemmas.proofs.Orders.{eq_says}
-use Rattle.lemmas.proofs.Places.{mapped_at}
-use Rattle.rdf_values.specs.Bookings.{Booked}
-use Rattle.rdf_values.specs.Depends.{columns_in}
-use Rattle.rdf_values.specs.Kinds.{FunctionNames}
-use Rattle.rdf_values.specs.declared.column.Column.{Column}
-use Rattle.rdf_values.specs.declared.statement.Statement.{Statement}
-use Rattle.rdf_values.specs.declared.value.ColType.{ColType}
-use Rattle.expr_check.specs.NumKinds.{CheckedExpr, distinct}
-use Rattle.graph_numbers.specs.Graphs.{holds_at}
-use Rattle.graph_numbers.specs.Sites.{SiteAt}
-use Rattle.graph.specs.declared.var_set.VarSet.{VarSet}
-use Rattle.graph.specs.Dependence.{Numbers, depends_at, any_depends, IsSet, AreSets, site_set, version_sets}
-use Rattle.graph.specs.Gains.{AreSites, AreRows}
-use Rattle.graph.specs.Sets.{has}
+use Rattle.lemmas.proofs.{eq_says, mapped_at}
+use Rattle.rdf_values.specs.{Booked, ColType, Column, columns_in, FunctionNames, Statement}
+use Rattle.expr_check.specs.{CheckedExpr, distinct}
+use Rattle.graph_numbers.specs.{holds_at, SiteAt}
+use Rattle.graph.specs.{any_depends, any_has, AppendsSets, AreRows, AreSets, AreSites, depends_at, has, has_at, IsSet, Numbers, read_sets, site_set, VarSet, version_sets}
 use Rattle.graph.specs.declared.result_row.ResultRow.{ResultRow}
-use Rattle.graph.specs.VarSets.{has_at, any_has, read_sets, AppendsSets}
 use Rattle.graph.proofs.Listing.{any_same}
 
 -- a test of distinct numbers

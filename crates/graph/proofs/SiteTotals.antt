@@ -2,18 +2,12 @@
 use Rattle.std.proofs.Common.{◌≡◌, ℕ, suc, ◌+◌, List, [], ◌∷◌, ◌++◌, length, if◌then◌else◌, refl, sym, ◌∙◌, ap}
 use Rattle.std.proofs.lemmas.List.{length-append}
 use Rattle.std.proofs.lemmas.Slice.Zip.{AllZip-long}
-use Rattle.rdf_values.specs.Kinds.{FunctionNames}
-use Rattle.rdf_values.specs.Path.{makes, parent_of}
-use Rattle.rdf_values.specs.Tree.{NamedTree}
-use Rattle.rdf_values.specs.declared.column.Column.{Column}
-use Rattle.rdf_values.specs.declared.value.ColType.{ColType}
+use Rattle.rdf_values.specs.{ColType, Column, FunctionNames, makes, NamedTree, parent_of, Statement}
 use Rattle.rdf_values.specs.declared.vary_values.VaryValues.TheVariants.{Lists, Vector}
-use Rattle.rdf_values.specs.declared.statement.Statement.{Statement}
 use Rattle.rdf_values.specs.declared.statement.Statement.TheVariants.{Define, Redefine, Filter, Vary}
-use Rattle.expr_check.specs.NumKinds.{CheckedExpr}
-use Rattle.graph_numbers.specs.Sites.{SiteAt, list_sites, lists_sites, own_sites, sites, site_count, own_filter_site, filter_sites}
-use Rattle.graph.specs.Gains.{IsSite, AreSites}
-use Rattle.graph.specs.SiteNumbers.{expression_total, own_site_total, site_total, is_filter, own_number, filter_numbers}
+use Rattle.expr_check.specs.{CheckedExpr}
+use Rattle.graph_numbers.specs.{filter_sites, list_sites, lists_sites, own_filter_site, own_sites, site_count, SiteAt, sites}
+use Rattle.graph.specs.{AreSites, expression_total, filter_numbers, is_filter, IsSite, own_number, own_site_total, site_total}
 
 pub sites_counted : (kinds : List ColType) (names : FunctionNames) (xs : List SiteAt) (cs : List CheckedExpr) → AreSites kinds names xs cs → length cs ≡ length xs
 sites_counted kinds names xs cs h = AllZip-long (IsSite kinds names) xs cs h

@@ -2,36 +2,18 @@
 use Rattle.std.proofs.Common.{◌≡◌, ◌⊎◌, inl, inr, ℕ, zero, suc, ◌+◌, ◌-◌, ◌<◌, ◌≤◌, Bool, true, false, ◌&&◌, List, [], ◌∷◌, ◌++◌, map, length, Option, Some, None, option_map, refl, sym, ◌∙◌, ap, subst, arith, nat_le, nat_lt, slice_get, if◌then◌else◌}
 use Rattle.std.proofs.lemmas.Bool.Decides.{Decides-ltb}
 use Rattle.std.proofs.lemmas.Option.{slice_get_within, get_or_from_slice_get}
-use Rattle.lemmas.proofs.Orders.{le_says, le_true, lt_true}
-use Rattle.lemmas.proofs.Answers.{same_some}
-use Rattle.lemmas.proofs.Places.{any_at, kept_at, mapped_at, something_at}
-use Rattle.rdf_values.specs.Names.{same, place}
-use Rattle.rdf_values.specs.Path.{Variation, path, own_variations, variations}
-use Rattle.rdf_values.specs.Kinds.{FunctionNames, scope_of}
-use Rattle.rdf_values.specs.Verdict.{AreAccepted, check_node, check_tags, check_target, check_values, first_refusal, is_alias, is_visible, refuse_if, refuse_unless, repeats, scope_at}
-use Rattle.rdf_values.specs.declared.column.Column.{Column}
-use Rattle.rdf_values.specs.declared.graph_cause.GraphCause.{GraphCause}
-use Rattle.rdf_values.specs.declared.graph_cause.GraphCause.TheVariants as cause
-use Rattle.rdf_values.specs.declared.statement.Statement.{Statement}
+use Rattle.lemmas.proofs.{any_at, kept_at, le_says, le_true, lt_true, mapped_at, same_some, something_at}
+use Rattle.rdf_values.specs.{AreAccepted, check_node, check_tags, check_target, check_values, Column, first_refusal, FunctionNames, GraphCause, is_alias, is_visible, own_variations, path, place, refuse_if, refuse_unless, repeats, same, scope_at, scope_of, Statement, Variation, variations, VaryValues}
 use Rattle.rdf_values.specs.declared.statement.Statement.TheVariants.{Define, Redefine, Vary}
-use Rattle.rdf_values.specs.declared.vary_values.VaryValues.{VaryValues}
 use Rattle.rdf_values.specs.declared.vary_values.VaryValues.TheVariants.{Lists, Vector}
 use Rattle.rdf_model.proofs.Accepted.{both_none, if_fails, unless_holds, names_equal, itself as same_itself, visible_known, no_target, own_within}
-use Rattle.rdf_model.specs.ColumnValues.{own_place}
+use Rattle.rdf_model.specs.{own_place}
 use Rattle.graph_numbers.proofs.Apart.{variation_number}
 use Rattle.graph_numbers.proofs.Extending.{Extends, itself, further, source_count, versions_count}
 use Rattle.graph_numbers.proofs.Listed.{next_at, of_joined}
 use Rattle.graph_numbers.proofs.VersionKinds.{kind_count, visible_kind}
-use Rattle.graph_numbers.specs.Kinds.{version_kinds}
-use Rattle.graph_numbers.specs.Results.{under_at}
-use Rattle.graph_numbers.specs.Sites.{list_start, site_count}
-use Rattle.graph_numbers.specs.Sources.{numbers_from, own_source, source_in, sources, varied_sources, cell_sources, varied_version, varied_versions, own_versions, versions, cell_versions}
-use Rattle.graph_numbers.specs.Versions.{named_version, version_at, version_count}
-use Rattle.graph_numbers.specs.declared.source.Source.{Source}
-use Rattle.graph_numbers.specs.declared.source.Source.TheVariants as from
-use Rattle.graph_numbers.specs.declared.version.Version.{Version}
-use Rattle.graph_numbers.specs.declared.version.Version.TheVariants as as_version
-use Rattle.graph.specs.VersionSources.{tag_at, tagged, version_source, AreSourcesOf, IsAbove, AreAbove}
+use Rattle.graph_numbers.specs.{cell_sources, cell_versions, list_start, named_version, numbers_from, own_source, own_versions, site_count, Source, source_in, sources, under_at, varied_sources, varied_version, varied_versions, Version, version_at, version_count, version_kinds, versions}
+use Rattle.graph.specs.{AreAbove, AreSourcesOf, IsAbove, tag_at, tagged, version_source}
 use Rattle.graph.proofs.Listing.{named_at, no_place}
 
 -- ---- tests and lists
@@ -128,13 +110,13 @@ module _ (header : List Column) (names : FunctionNames) (script : List Statement
     below_is : AreAccepted names (scope_of header) (Vary node parent cs values tags vary ∷ before) → (k : ℕ) (name : List ℕ) → slice_get cs k ≡ Some name → named_version header before parent name < version_count header before
     below_is ok k name q =
         let scope = scope_at names (scope_of header) before parent in
-        let a = both_none (check_node before node parent) (refuse_if (repeats cs) cause.NameTaken ∷ first_refusal (map (check_target scope (path before parent)) cs) ∷ check_tags before tags vary ∷ check_values names scope (length tags) cs values ∷ []) ok.0 in
-        let b = both_none (refuse_if (repeats cs) cause.NameTaken) (first_refusal (map (check_target scope (path before parent)) cs) ∷ check_tags before tags vary ∷ check_values names scope (length tags) cs values ∷ []) a.1 in
+        let a = both_none (check_node before node parent) (refuse_if (repeats cs) GraphCause.NameTaken ∷ first_refusal (map (check_target scope (path before parent)) cs) ∷ check_tags before tags vary ∷ check_values names scope (length tags) cs values ∷ []) ok.0 in
+        let b = both_none (refuse_if (repeats cs) GraphCause.NameTaken) (first_refusal (map (check_target scope (path before parent)) cs) ∷ check_tags before tags vary ∷ check_values names scope (length tags) cs values ∷ []) a.1 in
         let c = both_none (first_refusal (map (check_target scope (path before parent)) cs)) (check_tags before tags vary ∷ check_values names scope (length tags) cs values ∷ []) b.1 in
         let t = each_passes (check_target scope (path before parent)) cs k name c.0 q in
-        let d = both_none (refuse_unless (is_visible scope name) cause.UnknownColumn) (refuse_if (is_alias (path before parent) name) cause.AliasTarget ∷ []) t in
-        let known = visible_known scope name (unless_holds (is_visible scope name) cause.UnknownColumn d.0) in
-        let own = no_target (path before parent) name (if_fails (is_alias (path before parent) name) cause.AliasTarget (both_none (refuse_if (is_alias (path before parent) name) cause.AliasTarget) [] d.1).0) in
+        let d = both_none (refuse_unless (is_visible scope name) GraphCause.UnknownColumn) (refuse_if (is_alias (path before parent) name) GraphCause.AliasTarget ∷ []) t in
+        let known = visible_known scope name (unless_holds (is_visible scope name) GraphCause.UnknownColumn d.0) in
+        let own = no_target (path before parent) name (if_fails (is_alias (path before parent) name) GraphCause.AliasTarget (both_none (refuse_if (is_alias (path before parent) name) GraphCause.AliasTarget) [] d.1).0) in
         let kind = visible_kind header names before ok.1 parent name known.0 known.1 in
         let lt = slice_get_within (version_kinds header names before) (version_at header before parent name) known.0 kind in
         let n = kind_count header names before in
@@ -151,16 +133,16 @@ module _ (header : List Column) (names : FunctionNames) (script : List Statement
     IsSourceAt : List Statement → ℕ → Version → Type 0
     IsSourceAt before c x = (slice_get (own before) c ≡ version_source u (own before) x) × IsAbove c x
 
-    cell_at : (n c : ℕ) (cs : List Column) (x : Version) → slice_get (cell_versions header names n cs) c ≡ Some x → (k : ℕ) × (x ≡ as_version.Cell k) × (slice_get (cell_sources n cs) c ≡ Some (from.Cell k))
+    cell_at : (n c : ℕ) (cs : List Column) (x : Version) → slice_get (cell_versions header names n cs) c ≡ Some x → (k : ℕ) × (x ≡ Version.Cell k) × (slice_get (cell_sources n cs) c ≡ Some (Source.Cell k))
     cell_at n c [] x h = cc h
-    cell_at n zero (d ∷ cs) x h = (n, (let e : as_version.Cell n ≡ x = cc h in sym e), refl)
+    cell_at n zero (d ∷ cs) x h = (n, (let e : Version.Cell n ≡ x = cc h in sym e), refl)
     cell_at n (suc c) (d ∷ cs) x h = cell_at (suc n) c cs x h
 
     further_source : (before : List Statement) (s : Statement) (c : ℕ) (x : Version) → c < length (own before) → IsSourceAt before c x → IsSourceAt (s ∷ before) c x
     unfolding IsSourceAt
-    further_source before s c (as_version.Cell col) lt h = (got_first (own before) _ c lt ∙ h.0, h.1)
-    further_source before s c (as_version.Computed site) lt h = (got_first (own before) _ c lt ∙ h.0, h.1)
-    further_source before s c (as_version.Varied below first tags sites vector) lt h =
+    further_source before s c (Version.Cell col) lt h = (got_first (own before) _ c lt ∙ h.0, h.1)
+    further_source before s c (Version.Computed site) lt h = (got_first (own before) _ c lt ∙ h.0, h.1)
+    further_source before s c (Version.Varied below first tags sites vector) lt h =
         let l = h.1.0 in
         (got_first (own before) _ c lt ∙ h.0 ∙ ap (tagged (tag_at u first tags) sites vector tags) (sym (got_first (own before) _ below (omega (arith, l, lt)))), h.1)
 
@@ -196,7 +178,7 @@ module _ (header : List Column) (names : FunctionNames) (script : List Statement
       own_tagged (Lists ls) i below src rest None lt q t = sym (ap (λ k. tagged k (numbers_from (site_count header names before + list_start ls i) tags) false (length tags) (slice_get rest below)) t ∙ q)
       own_tagged (Lists ls) i below src rest (Some k) lt q t =
           sym (ap (λ m. tagged m (numbers_from (site_count header names before + list_start ls i) tags) false (length tags) (slice_get rest below)) t
-          ∙ ap (option_map (λ s. from.Site s)) (at_number (site_count header names before + list_start ls i) k tags (lt k refl)))
+          ∙ ap (option_map (λ s. Source.Site s)) (at_number (site_count header names before + list_start ls i) k tags (lt k refl)))
       own_tagged (Vector x) i below src rest None lt q t = sym (ap (λ k. tagged k (site_count header names before ∷ []) true (length tags) (slice_get rest below)) t ∙ q)
       own_tagged (Vector x) i below src rest (Some k) lt q t = sym (ap (λ m. tagged m (site_count header names before ∷ []) true (length tags) (slice_get rest below)) t)
 
@@ -211,7 +193,7 @@ module _ (header : List Column) (names : FunctionNames) (script : List Statement
           let lt = below_is before node parent cs values tags vary e ok k r.0 r.1 in
           let m = source_count header names (under_at script u) before in
           let y = something_at (own before) (below_of r.0) (omega (arith, lt, m)) in
-          let src : source_in (own before) (below_of r.0) ≡ y.0 = get_or_from_slice_get (own before) (below_of r.0) y.0 (from.Cell 0) y.1 in
+          let src : source_in (own before) (below_of r.0) ≡ y.0 = get_or_from_slice_get (own before) (below_of r.0) y.0 (Source.Cell 0) y.1 in
           let at : slice_get (own (Vary node parent cs values tags vary ∷ before)) (below_of r.0) ≡ Some y.0 = kept_at (own before) _ (below_of r.0) y.0 y.1 in
           let p : c ≡ length (own before) + k = omega (arith, n, m) in
           let tag = own_tag before node parent cs values tags vary e u in (
@@ -226,11 +208,11 @@ module _ (header : List Column) (names : FunctionNames) (script : List Statement
         → slice_get (own_versions header names before s) k ≡ Some x → IsSourceAt (s ∷ before) c x
     unfolding IsSourceAt
     own_source_at before (Define node parent column expr) e ok zero c x n h =
-        let m = source_count header names (under_at script u) before in let is : as_version.Computed (site_count header names before) ≡ x = same_some h in
-        (next_at (own before) (from.Site (site_count header names before) ∷ []) 0 c (omega (arith, n, m)) ∙ ap (version_source u (own (Define node parent column expr ∷ before))) is, subst (IsAbove c) is tt)
+        let m = source_count header names (under_at script u) before in let is : Version.Computed (site_count header names before) ≡ x = same_some h in
+        (next_at (own before) (Source.Site (site_count header names before) ∷ []) 0 c (omega (arith, n, m)) ∙ ap (version_source u (own (Define node parent column expr ∷ before))) is, subst (IsAbove c) is tt)
     own_source_at before (Redefine node parent column expr) e ok zero c x n h =
-        let m = source_count header names (under_at script u) before in let is : as_version.Computed (site_count header names before) ≡ x = same_some h in
-        (next_at (own before) (from.Site (site_count header names before) ∷ []) 0 c (omega (arith, n, m)) ∙ ap (version_source u (own (Redefine node parent column expr ∷ before))) is, subst (IsAbove c) is tt)
+        let m = source_count header names (under_at script u) before in let is : Version.Computed (site_count header names before) ≡ x = same_some h in
+        (next_at (own before) (Source.Site (site_count header names before) ∷ []) 0 c (omega (arith, n, m)) ∙ ap (version_source u (own (Redefine node parent column expr ∷ before))) is, subst (IsAbove c) is tt)
     own_source_at before (Define node parent column expr) e ok (suc k) c x n h = cc h
     own_source_at before (Redefine node parent column expr) e ok (suc k) c x n h = cc h
     own_source_at before (Vary node parent cs values tags vary) e ok k c x n h = vary_source before node parent cs values tags vary e ok k c x n h

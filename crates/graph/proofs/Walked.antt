@@ -1,14 +1,10 @@
 -- Steps of the walks over the lines so far.
 use Rattle.std.proofs.Common.{◌≡◌, ℕ, zero, suc, ◌+◌, ◌≤◌, Bool, true, false, List, [], ◌∷◌, ◌++◌, length, Option, Some, None, refl, ◌∙◌, ap, arith, if◌then◌else◌, length-append, add-one}
-use Rattle.rdf_values.specs.Bookings.{named_before}
-use Rattle.rdf_values.specs.Names.{same, place}
-use Rattle.rdf_values.specs.Path.{makes, parent_of, path}
-use Rattle.rdf_values.specs.declared.column.Column.{Column}
-use Rattle.rdf_values.specs.declared.statement.Statement.{Statement}
+use Rattle.rdf_values.specs.{Column, makes, named_before, parent_of, path, place, same, Statement}
 use Rattle.rdf_values.specs.declared.statement.Statement.TheVariants.{Define, Redefine, Filter, Vary}
 use Rattle.rdf_model.proofs.Accepted.{place_within}
-use Rattle.graph_numbers.specs.Versions.{column_place, own_columns, version_or, own_version, version_count, named_version}
-use Rattle.graph.specs.Rows.{count_from, is_named}
+use Rattle.graph_numbers.specs.{column_place, named_version, own_columns, own_version, version_count, version_or}
+use Rattle.graph.specs.{count_from, is_named}
 
 count_next : (n k : ℕ) → count_from n (suc k) ≡ count_from n k ++ (n + k) ∷ []
 count_next n zero = let e : n ≡ n + 0 = omega arith in ap (λ m. m ∷ []) e

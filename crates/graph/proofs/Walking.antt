@@ -1,18 +1,12 @@
 -- Steps of the look-ups that walk the statements so far.
 use Rattle.std.proofs.Common.{◌≡◌, ℕ, Bool, true, false, ◌||◌, List, [], ◌∷◌, ◌++◌, map, refl, sym, ◌∙◌, ap, arith, ◌+◌, if◌then◌else◌, length, subst}
-use Rattle.rdf_values.specs.Bookings.{Booked, booked_by, bookings, names_of, Booking}
-use Rattle.rdf_values.specs.Kinds.{FunctionNames, Scope, column_kind}
-use Rattle.rdf_values.specs.Names.{same, among}
-use Rattle.rdf_values.specs.Path.{Path, target_of}
-use Rattle.rdf_values.specs.Verdict.{aliases, is_alias, is_result, is_visible, kind_or_int, made_columns, visible_columns, result_is, watched_results}
-use Rattle.rdf_values.specs.declared.statement.Statement.{Statement}
+use Rattle.rdf_values.specs.{aliases, among, Booked, booked_by, Booking, bookings, ColType, column_kind, FunctionNames, is_alias, is_result, is_visible, kind_or_int, made_columns, names_of, Path, result_is, same, Scope, Statement, target_of, visible_columns, watched_results}
 use Rattle.rdf_values.specs.declared.statement.Statement.TheVariants.{Action, Report, Watch}
-use Rattle.rdf_values.specs.declared.value.ColType.{ColType}
 use Rattle.rdf_model.proofs.Accepted.{itself, names_equal}
 use Rattle.std.proofs.lemmas.List.{map-append, length-append}
 use Rattle.std.proofs.lemmas.List.Folds.{list_any-append}
-use Rattle.lemmas.proofs.Booleans.{or_false}
-use Rattle.graph.specs.Lookups.{books, own_results, result_in, IsSame}
+use Rattle.lemmas.proofs.{or_false}
+use Rattle.graph.specs.{books, IsSame, own_results, result_in}
 
 -- a name among the names of two lists
 among_both : (name : List ℕ) (xs ys : List Booked) → among name (names_of (xs ++ ys)) ≡ (among name (names_of xs) || among name (names_of ys))

@@ -1,8 +1,6 @@
 -- How many histogram cells and Takes the passes of results have, by the rows of the results.
 use Rattle.std.specs.Prelude.{◌≡◌, ℕ, suc, ◌*◌, List, [], ◌∷◌, ◌++◌, Option, Some, None, sum_by, filter, if◌then◌else◌}
-use Rattle.rdf_values.specs.Bookings.{has_variations}
-use Rattle.rdf_values.specs.Names.{same}
-use Rattle.rdf_values.specs.declared.statement.Statement.{Statement}
+use Rattle.rdf_values.specs.{has_variations, same, Statement}
 use Rattle.rdf_values.specs.declared.statement.Statement.TheVariants.{Action, Report, Print, VariationsFor}
 use Rattle.graph.specs.Sets.{count_of}
 use Rattle.graph.specs.declared.result_row.ResultRow.{ResultRow}

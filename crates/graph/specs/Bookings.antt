@@ -1,12 +1,8 @@
 -- The first line of a script that is refused.
 use Rattle.std.specs.Prelude.{◌≡◌, ℕ, List, [], ◌∷◌, Option, Some, None, option_map}
-use Rattle.rdf_values.specs.Kinds.{Scope, FunctionNames}
-use Rattle.rdf_values.specs.Verdict.{check}
-use Rattle.rdf_values.specs.declared.graph_cause.GraphCause.{GraphCause}
-use Rattle.rdf_values.specs.declared.script.Line.{Line}
+use Rattle.rdf_values.specs.{check, FunctionNames, GraphCause, Line, Scope}
 use Rattle.graph.specs.Lookups.{statements}
 use Rattle.graph.specs.declared.refusal.GraphRefusal.{GraphRefusal}
-use Rattle.graph.specs.declared.refusal.GraphRefusal.TheVariants as refusal
 
 -- a line's refusal after lines that may be refused before it
 abbrev pub refused_then : ℕ → Option (ℕ × GraphCause) → Option GraphCause → Option (ℕ × GraphCause)
@@ -20,5 +16,5 @@ refused names header (l ∷ before) = refused_then l.number (refused names heade
 
 -- a refusal names the refused line; nothing is said of want of memory
 abbrev pub IsRefusal : Option (ℕ × GraphCause) → GraphRefusal → Type 0
-IsRefusal wanted (refusal.At line cause) = wanted ≡ Some (line, cause)
-IsRefusal wanted refusal.Memory = Unit {0}
+IsRefusal wanted (GraphRefusal.At line cause) = wanted ≡ Some (line, cause)
+IsRefusal wanted GraphRefusal.Memory = Unit {0}

@@ -1,10 +1,6 @@
 -- What the check of a statement answers.
 use Rattle.std.specs.Prelude.{ℕ, List, map, ◌≡◌, Option, Some, None, Result, Ok, Err}
-use Rattle.rdf_values.specs.Kinds.{FunctionNames, Scope}
-use Rattle.rdf_values.specs.Path.{path}
-use Rattle.rdf_values.specs.Verdict.{check_target, first_refusal, scope_at}
-use Rattle.rdf_values.specs.declared.statement.Statement.{Statement}
-use Rattle.rdf_values.specs.declared.graph_cause.GraphCause.{GraphCause}
+use Rattle.rdf_values.specs.{check_target, first_refusal, FunctionNames, GraphCause, path, Scope, scope_at, Statement}
 use Rattle.graph.specs.declared.stop.Stop.{Stop}
 use Rattle.graph.specs.declared.stop.Stop.TheVariants.{Cause, Memory}
 

@@ -1,14 +1,8 @@
 -- What a statement is checked in: what stands before it, as contracts name it.
 use Rattle.std.specs.Prelude.{ℕ, List, length, Option}
-use Rattle.rdf_values.specs.Kinds.{Scope, scope_of}
-use Rattle.rdf_values.specs.Path.{variations}
-use Rattle.rdf_values.specs.Tree.{NamedTree}
-use Rattle.rdf_values.specs.Verdict.{check, scope_at}
-use Rattle.rdf_values.specs.declared.action.ActionKind.{ActionKind}
-use Rattle.rdf_values.specs.declared.graph_cause.GraphCause.{GraphCause}
-use Rattle.rdf_values.specs.declared.statement.Statement.{Statement}
-use Rattle.expr_check.specs.NumKinds.{CheckedExpr}
-use Rattle.graph_numbers.specs.Versions.{named_version, version_at}
+use Rattle.rdf_values.specs.{ActionKind, check, GraphCause, NamedTree, Scope, scope_at, scope_of, Statement, variations}
+use Rattle.expr_check.specs.{CheckedExpr}
+use Rattle.graph_numbers.specs.{named_version, Version, version_at}
 use Rattle.graph.specs.Gains.{IsActionRow, IsGain}
 use Rattle.graph.specs.Lookups.{IsCheckedAt, statements}
 use Rattle.graph.specs.SiteNumbers.{site_total}
@@ -16,7 +10,6 @@ use Rattle.graph.specs.VaryChecks.{AllCheckedAt, Appends}
 use Rattle.graph.specs.VarSets.{changed_set}
 use Rattle.graph.specs.Dependence.{Numbers}
 use Rattle.graph.specs.Rows.{varied_rows}
-use Rattle.graph_numbers.specs.declared.version.Version.{Version}
 use Rattle.graph.specs.declared.before.Before.{Before}
 use Rattle.graph.specs.declared.change.Change.{Change}
 use Rattle.graph.specs.declared.gain.Gain.{Gain}

@@ -1,18 +1,9 @@
 -- Which variations versions, sites and results depend on, by numbers.
 use Rattle.std.specs.Prelude.{◌≡◌, ℕ, ◌+◌, Bool, false, ◌||◌, ◌&&◌, List, [], ◌∷◌, ◌++◌, map, length, slice_get, nat_le, nat_lt}
 use Rattle.std.specs.List.{list_any, AllZip}
-use Rattle.rdf_values.specs.Bookings.{columns_of}
-use Rattle.rdf_values.specs.Depends.{columns_in}
-use Rattle.rdf_values.specs.Kinds.{FunctionNames}
-use Rattle.rdf_values.specs.Numbered.{renamed, callee}
-use Rattle.rdf_values.specs.Path.{variations}
-use Rattle.rdf_values.specs.Tree.{NamedTree}
-use Rattle.rdf_values.specs.declared.column.Column.{Column}
-use Rattle.rdf_values.specs.declared.statement.Statement.{Statement}
+use Rattle.rdf_values.specs.{callee, Column, columns_in, columns_of, FunctionNames, NamedTree, renamed, Statement, variations}
 use Rattle.rdf_values.specs.declared.statement.Statement.TheVariants.{Define, Redefine, Vary, Action, Report}
-use Rattle.graph_numbers.specs.Graphs.{holds_at}
-use Rattle.graph_numbers.specs.Sites.{SiteAt, own_sites, filter_sites}
-use Rattle.graph_numbers.specs.Versions.{named_version, version_at}
+use Rattle.graph_numbers.specs.{filter_sites, holds_at, named_version, own_sites, SiteAt, version_at}
 use Rattle.graph.specs.Sets.{has}
 use Rattle.graph.specs.declared.var_set.VarSet.{VarSet}
 

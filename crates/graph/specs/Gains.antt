@@ -1,23 +1,10 @@
 -- The tables that are kept while statements are booked, as functions of the statements so far, and what one statement adds to them.
 use Rattle.std.specs.Prelude.{◌≡◌, ℕ, List, [], ◌∷◌, length, map, All, Some, None, slice_get}
 use Rattle.std.specs.List.{AllZip}
-use Rattle.rdf_values.specs.Bookings.{Booked, booked_by, bookings}
-use Rattle.rdf_values.specs.Kinds.{FunctionNames, scope_of, column_kind}
-use Rattle.rdf_values.specs.Path.{Variation, own_variations, variations}
-use Rattle.rdf_values.specs.Tree.{NamedTree}
-use Rattle.rdf_values.specs.Verdict.{check, cells_of, takes_of, kind_or_int, scope_at}
-use Rattle.rdf_values.specs.declared.column.Column.{Column}
-use Rattle.rdf_values.specs.declared.action.ActionKind.{ActionKind}
-use Rattle.rdf_values.specs.declared.statement.Statement.{Statement}
+use Rattle.rdf_values.specs.{ActionKind, Booked, booked_by, bookings, cells_of, check, ColType, Column, column_kind, FunctionNames, kind_or_int, NamedTree, own_variations, scope_at, scope_of, Statement, takes_of, Variation, variations}
 use Rattle.rdf_values.specs.declared.statement.Statement.TheVariants.{Action, Report}
-use Rattle.rdf_values.specs.declared.value.ColType.{ColType}
-use Rattle.expr_check.specs.NumKinds.{CheckedExpr, IsWellTyped, CallsFit}
-use Rattle.graph_numbers.specs.Kinds.{own_kinds, version_kinds}
-use Rattle.graph_numbers.specs.Results.{FilterAt, filters, results}
-use Rattle.graph_numbers.specs.Sites.{SiteAt, own_sites, sites}
-use Rattle.graph_numbers.specs.Sources.{versions}
-use Rattle.graph_numbers.specs.declared.version.Version.{Version}
-use Rattle.graph_numbers.specs.declared.version.Version.TheVariants as as_version
+use Rattle.expr_check.specs.{CallsFit, CheckedExpr, IsWellTyped}
+use Rattle.graph_numbers.specs.{FilterAt, filters, own_kinds, own_sites, results, SiteAt, sites, Version, version_kinds, versions}
 use Rattle.graph.specs.Dependence.{Numbers, AreSets, own_version_sets, version_sets, own_site_sets, site_sets, own_result_sets, result_sets}
 use Rattle.graph.specs.Names.{named}
 use Rattle.graph.specs.Rows.{filter_rows, result_path, result_rows, varied_rows, version_rows}
@@ -121,7 +108,7 @@ IsFilterGain versions c rows g = Gives [] [] [] (c ∷ []) (read_sets versions (
 
 -- a site of that number, over versions with those sets, and the version that it makes
 abbrev pub IsColumnGain : List VarSet → ℕ → CheckedExpr → Gain → Type 0
-IsColumnGain versions site c g = Gives (as_version.Computed site ∷ []) (c.kind ∷ []) (read_sets versions (c ∷ [])) (c ∷ []) (read_sets versions (c ∷ [])) [] [] [] g
+IsColumnGain versions site c g = Gives (Version.Computed site ∷ []) (c.kind ∷ []) (read_sets versions (c ∷ [])) (c ∷ []) (read_sets versions (c ∷ [])) [] [] [] g
 
 -- an expression that was checked at a node as a site, over versions with those sets, and the version that it makes
 pub record IsMadeGain (header : List Column) (names : FunctionNames) (before : List Statement) (versions : List VarSet) (parent : List ℕ) (expr : NamedTree) (g : Gain) : Type 0 where

@@ -1,10 +1,7 @@
 -- What the fields of a graph are of what it was booked from.
 use Rattle.std.specs.Prelude.{◌≡◌, ◌≤◌, ℕ, Bool, List, map, length, reverse, Option}
-use Rattle.rdf_values.specs.Bookings.{Booked, bookings, is_watched}
-use Rattle.rdf_values.specs.Kinds.{FunctionNames}
-use Rattle.rdf_values.specs.declared.column.Column.{Column}
-use Rattle.rdf_values.specs.declared.script.Line.{Line}
-use Rattle.graph_numbers.specs.Graphs.{GraphView, IsGraph, booked_statements, graph_sources, site_depends_at, result_depends_at}
+use Rattle.rdf_values.specs.{Booked, bookings, Column, FunctionNames, is_watched, Line}
+use Rattle.graph_numbers.specs.{booked_statements, graph_sources, GraphView, IsGraph, result_depends_at, site_depends_at}
 use Rattle.graph.specs.Dependence.{depends_at, site_sets, result_sets}
 use Rattle.graph.specs.Gains.{AreTables}
 use Rattle.graph.specs.declared.tables.Tables.{Tables}

@@ -1,12 +1,7 @@
 -- What the sets of variations are of the script's own definitions. Each law is the contract of a function of this crate, and so proved.
 use Rattle.std.specs.Prelude.{◌≡◌, ℕ, List, Some, Ok, slice_get}
-use Rattle.rdf_values.specs.Depends.{column_depends}
-use Rattle.rdf_values.specs.Kinds.{scope_of, column_kind}
-use Rattle.rdf_values.specs.Path.{Variation, path}
-use Rattle.rdf_values.specs.Verdict.{scope_at}
-use Rattle.rdf_values.specs.declared.value.ColType.{ColType}
-use Rattle.graph_numbers.specs.Graphs.{GraphView, IsGraph, booked_statements, graph_variations, site_depends_at, result_depends_at}
-use Rattle.graph_numbers.specs.Versions.{version_at}
+use Rattle.rdf_values.specs.{ColType, column_depends, column_kind, path, scope_at, scope_of, Variation}
+use Rattle.graph_numbers.specs.{booked_statements, graph_variations, GraphView, IsGraph, result_depends_at, site_depends_at, version_at}
 use Rattle.graph.specs.Dependence.{depends_at, version_sets, site_sets, result_sets}
 
 -- a visible column depends on what its version does

@@ -1,21 +1,10 @@
 -- Lines as look-ups walk them, the latest first, and what a statement adds to each answer.
 use Rattle.std.specs.Prelude.{◌≡◌, ◌≤◌, ℕ, Bool, false, List, [], ◌∷◌, map, length, All, Some, Ok, if◌then◌else◌, slice_get}
 use Rattle.std.specs.List.{AllByRecursion, list_any}
-use Rattle.rdf_values.specs.Bookings.{Booking, Booked, results_named}
-use Rattle.rdf_values.specs.EachColumn.{EachColumn}
-use Rattle.rdf_values.specs.Kinds.{FunctionNames, scope_of, column_kind, kind_of}
-use Rattle.rdf_values.specs.Names.{same, among}
-use Rattle.rdf_values.specs.Numbered.{ScopeColumn, kinds_in, number_in, renamed, callee}
-use Rattle.rdf_values.specs.Tree.{NamedTree}
-use Rattle.rdf_values.specs.Verdict.{AreAccepted, scope_at}
-use Rattle.rdf_values.specs.declared.column.Column.{Column}
-use Rattle.rdf_values.specs.declared.value.ColType.{ColType}
-use Rattle.rdf_values.specs.declared.script.Line.{Line}
-use Rattle.rdf_values.specs.declared.statement.Statement.{Statement}
+use Rattle.rdf_values.specs.{among, AreAccepted, Booked, Booking, callee, ColType, Column, column_kind, EachColumn, FunctionNames, kind_of, kinds_in, Line, NamedTree, number_in, renamed, results_named, same, scope_at, scope_of, ScopeColumn, Statement}
 use Rattle.rdf_values.specs.declared.statement.Statement.TheVariants.{Define, Redefine, Alias, Action, Report}
-use Rattle.expr_check.specs.NumKinds.{CheckedExpr, IsWellTyped, CallsFit}
-use Rattle.graph_numbers.specs.Kinds.{version_kinds}
-use Rattle.graph_numbers.specs.Versions.{version_at}
+use Rattle.expr_check.specs.{CallsFit, CheckedExpr, IsWellTyped}
+use Rattle.graph_numbers.specs.{version_at, version_kinds}
 
 -- the statements of lines
 abbrev pub statements : List Line → List Statement

@@ -1,16 +1,10 @@
 -- The loops and Prints of a script, as they are listed while its lines are walked.
 use Rattle.std.specs.Prelude.{◌≡◌, ⊤, ◌≤◌, ℕ, zero, suc, Bool, true, false, List, [], ◌∷◌, ◌++◌, map, length, take, Option, Some, None, if◌then◌else◌, slice_get}
 use Rattle.std.specs.List.{AllZip}
-use Rattle.rdf_values.specs.Bookings.{Booked, bookings, names_of, filled, has_variations, result_depends}
-use Rattle.rdf_values.specs.Names.{among, place}
-use Rattle.rdf_values.specs.Path.{variations}
-use Rattle.rdf_values.specs.Verdict.{is_result}
-use Rattle.rdf_values.specs.declared.statement.Statement.{Statement}
+use Rattle.rdf_values.specs.{among, Booked, bookings, filled, has_variations, is_result, names_of, place, result_depends, Statement, variations}
 use Rattle.rdf_values.specs.declared.statement.Statement.TheVariants.{Action, Report, Print}
-use Rattle.rdf_model.specs.Loops.{Access, accesses, loop_results}
-use Rattle.graph_numbers.specs.Graphs.{holds_at}
-use Rattle.graph_numbers.specs.Results.{loops, runs, numbered_pass, result_number}
-use Rattle.graph_numbers.specs.declared.pass.Pass.{Pass}
+use Rattle.rdf_model.specs.{Access, accesses, loop_results}
+use Rattle.graph_numbers.specs.{holds_at, loops, numbered_pass, Pass, result_number, runs}
 use Rattle.graph.specs.declared.result_row.ResultRow.{ResultRow}
 use Rattle.graph.specs.Sets.{has}
 use Rattle.graph.specs.declared.loops.LoopTables.{LoopTables}

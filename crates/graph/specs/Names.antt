@@ -1,8 +1,7 @@
 -- The variations that a Vary adds, and whether its name is taken.
 use Rattle.std.specs.Prelude.{ℕ, Bool, List, map}
 use Rattle.std.specs.List.{list_any}
-use Rattle.rdf_values.specs.Names.{same}
-use Rattle.rdf_values.specs.Path.{Variation}
+use Rattle.rdf_values.specs.{same, Variation}
 
 -- an earlier Vary has the name
 abbrev pub is_taken : List Variation → List ℕ → Bool

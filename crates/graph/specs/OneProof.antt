@@ -3,21 +3,12 @@ use Rattle.std.specs.Prelude.{ℕ, List, [], ◌∷◌, Option}
 use Rattle.std.specs.Coded.{Coded-set, coded_list, coded_option}
 use Rattle.std.specs.List.{AllZip}
 use Rattle.std.proofs.Props.{props}
-use Rattle.rdf_values.specs.Bookings.{Booked}
-use Rattle.rdf_values.specs.Kinds.{FunctionNames, scope_of, args_count}
-use Rattle.rdf_values.specs.Tree.{Trees, NumTree, Lit, Truth, Col, Neg, Not, Bin, Cond, Pick, Call, End, More}
-use Rattle.rdf_values.specs.TreeCode.{num_code}
-use Rattle.rdf_values.specs.Verdict.{AreAccepted}
+use Rattle.rdf_values.specs.{AreAccepted, args_count, Bin, Booked, Call, Callee, Col, ColType, Column, Cond, End, FunctionNames, GraphCause, Lit, More, Neg, Not, num_code, NumTree, Pick, scope_of, Statement, Trees}
+use Rattle.rdf_values.specs.Expressions.{Truth}
 use Rattle.rdf_values.specs.contracts.graph_cause.GraphCause.{the_row as cause_row}
 use Rattle.rdf_values.specs.contracts.value.ColType.{the_row as kind_row}
-use Rattle.rdf_values.specs.declared.column.Column.{Column}
-use Rattle.rdf_values.specs.declared.graph_cause.GraphCause.{GraphCause}
-use Rattle.rdf_values.specs.declared.num_expr.Callee.{Callee}
-use Rattle.rdf_values.specs.declared.num_expr.Callee.TheVariants as fn
-use Rattle.rdf_values.specs.declared.statement.Statement.{Statement}
-use Rattle.rdf_values.specs.declared.value.ColType.{ColType}
-use Rattle.expr_check.specs.NumKinds.{CheckedExpr, IsCallOf, CallsFit, AllCallsFit}
-use Rattle.graph_numbers.specs.Sites.{SiteAt}
+use Rattle.expr_check.specs.{AllCallsFit, CallsFit, CheckedExpr, IsCallOf}
+use Rattle.graph_numbers.specs.{SiteAt}
 use Rattle.graph.specs.declared.var_set.VarSet.{VarSet}
 use Rattle.graph.specs.Dependence.{Numbers, AreSets, IsSet as IsSetOf}
 use Rattle.graph.specs.Gains.{IsSite, AreSites, IsRow, AreTables}
@@ -57,7 +48,7 @@ sets-prop ds ss = zip-prop IsSetOf (λ d s. hlevel known) ds ss
 
 module _ (names : FunctionNames) where
   call-prop : (f : Callee) (count : ℕ) → IsProp (IsCallOf names f count)
-  call-prop (fn.Given i) count = hlevel known
+  call-prop (Callee.Given i) count = hlevel known
   call-prop f count = hlevel known
 
   mutual

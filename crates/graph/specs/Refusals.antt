@@ -1,6 +1,6 @@
 -- How a refused line is answered.
 use Rattle.std.specs.Prelude.{ℕ}
-use Rattle.rdf_values.specs.declared.graph_cause.GraphCause.{GraphCause}
+use Rattle.rdf_values.specs.{GraphCause}
 use Rattle.graph.specs.declared.refusal.GraphRefusal.{GraphRefusal}
 use Rattle.graph.specs.declared.refusal.GraphRefusal.TheVariants.{At}
 

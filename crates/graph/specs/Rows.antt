@@ -1,18 +1,9 @@
 -- What a statement adds to the lists of versions, named filters and results, by the numbers of its first site and variation.
 use Rattle.std.specs.Prelude.{ℕ, zero, suc, ◌+◌, Bool, true, false, List, [], ◌∷◌, ◌++◌, map, length, Option, Some, None, option_to_list, if◌then◌else◌}
-use Rattle.rdf_values.specs.Bookings.{columns_of, named_before}
-use Rattle.rdf_values.specs.Path.{Path, makes, parent_of, path}
-use Rattle.rdf_values.specs.declared.column.Column.{Column}
-use Rattle.rdf_values.specs.declared.vary_values.VaryValues.{VaryValues}
+use Rattle.rdf_values.specs.{Column, columns_of, makes, named_before, parent_of, Path, path, Statement, VaryValues}
 use Rattle.rdf_values.specs.declared.vary_values.VaryValues.TheVariants.{Lists, Vector}
-use Rattle.rdf_values.specs.declared.statement.Statement.{Statement}
 use Rattle.rdf_values.specs.declared.statement.Statement.TheVariants.{Define, Redefine, Filter, Vary, Action, Report}
-use Rattle.graph_numbers.specs.Results.{ResultAt, kind_of_booking}
-use Rattle.graph_numbers.specs.Sites.{list_start}
-use Rattle.graph_numbers.specs.Versions.{named_version, version_at}
-use Rattle.graph_numbers.specs.declared.result_kind.ResultKind.TheVariants as what
-use Rattle.graph_numbers.specs.declared.version.Version.{Version}
-use Rattle.graph_numbers.specs.declared.version.Version.TheVariants as as_version
+use Rattle.graph_numbers.specs.{kind_of_booking, list_start, named_version, ResultAt, ResultKind, Version, version_at}
 use Rattle.graph.specs.SiteNumbers.{filter_numbers, own_number}
 use Rattle.graph.specs.declared.result_path.ResultPath.{ResultPath}
 
@@ -26,12 +17,12 @@ count_from n (suc k) = n ∷ count_from (suc n) k
 -- the table's columns, numbered from n on
 abbrev pub cell_rows : ℕ → List Column → List Version
 cell_rows n [] = []
-cell_rows n (c ∷ cs) = as_version.Cell n ∷ cell_rows (suc n) cs
+cell_rows n (c ∷ cs) = Version.Cell n ∷ cell_rows (suc n) cs
 
 -- a column that a Vary changes, over the version below
 abbrev pub varied_row : VaryValues → ℕ → ℕ → ℕ → ℕ → ℕ → Version
-varied_row (Lists lists) below first site tags i = as_version.Varied below first tags (count_from (site + list_start lists i) tags) false
-varied_row (Vector e) below first site tags i = as_version.Varied below first tags (site ∷ []) true
+varied_row (Lists lists) below first site tags i = Version.Varied below first tags (count_from (site + list_start lists i) tags) false
+varied_row (Vector e) below first site tags i = Version.Varied below first tags (site ∷ []) true
 
 -- those that a Vary changes, from place i on
 abbrev pub varied_rows : List Column → List Statement → List ℕ → VaryValues → ℕ → ℕ → ℕ → ℕ → List (List ℕ) → List Version
@@ -41,8 +32,8 @@ varied_rows header before parent values first site tags i (name ∷ columns) =
 
 -- the columns that a statement makes or changes
 abbrev pub version_rows : List Column → List Statement → ℕ → ℕ → Statement → List Version
-version_rows header before first site (Define node parent column expr) = as_version.Computed site ∷ []
-version_rows header before first site (Redefine node parent column expr) = as_version.Computed site ∷ []
+version_rows header before first site (Define node parent column expr) = Version.Computed site ∷ []
+version_rows header before first site (Redefine node parent column expr) = Version.Computed site ∷ []
 version_rows header before first site (Vary node parent columns values tags vary) = varied_rows header before parent values first site (length tags) 0 columns
 version_rows header before first site s = []
 
@@ -97,9 +88,9 @@ covered_numbers before node = if has_made (path before node) then named_numbers 
 -- the result that a statement books
 abbrev pub result_rows : List Column → List Statement → Statement → List ResultPath
 result_rows header before (Action result parent k) =
-    record { kind = what.Action k; filters = filter_numbers before parent; inputs = map (version_at header before parent) (columns_of k); covers = [] } ∷ []
+    record { kind = ResultKind.Action k; filters = filter_numbers before parent; inputs = map (version_at header before parent) (columns_of k); covers = [] } ∷ []
 result_rows header before (Report result parent) =
-    record { kind = what.Report; filters = filter_numbers before parent; inputs = []; covers = covered_numbers before parent } ∷ []
+    record { kind = ResultKind.Report; filters = filter_numbers before parent; inputs = []; covers = covered_numbers before parent } ∷ []
 result_rows header before s = []
 
 -- a result as it is kept

@@ -2,11 +2,8 @@
 use Rattle.std.specs.Prelude.{List, [], ◌∷◌}
 use Rattle.std.specs.List.{AllByRecursion}
 use Rattle.std.proofs.Props.{props}
-use Rattle.rdf_values.specs.Bookable.{AreShortValues, IsShort}
-use Rattle.rdf_values.specs.declared.action.ActionKind.TheVariants as action
-use Rattle.rdf_values.specs.declared.statement.Statement.{Statement}
+use Rattle.rdf_values.specs.{ActionKind, AreShortValues, IsShort, Statement, VaryValues}
 use Rattle.rdf_values.specs.declared.statement.Statement.TheVariants.{Action, Vary}
-use Rattle.rdf_values.specs.declared.vary_values.VaryValues.{VaryValues}
 use Rattle.rdf_values.specs.declared.vary_values.VaryValues.TheVariants.{Lists, Vector}
 
 ruleset known = (props)
@@ -17,8 +14,8 @@ short-prop (Vector e) = hlevel known
 
 statement_short-prop : (s : Statement) → IsProp (IsShort s)
 statement_short-prop (Vary node parent columns values tags vary) = hlevel (known, short-prop values)
-statement_short-prop (Action result parent (action.Histo1D edges x w)) = hlevel known
-statement_short-prop (Action result parent (action.Histo2D xs ys x y w)) = hlevel known
+statement_short-prop (Action result parent (ActionKind.Histo1D edges x w)) = hlevel known
+statement_short-prop (Action result parent (ActionKind.Histo2D xs ys x y w)) = hlevel known
 statement_short-prop s = hlevel known
 
 pub short_all-prop : (before : List Statement) → IsProp (AllByRecursion IsShort before)

@@ -1,9 +1,7 @@
 -- How many sites statements have, and the numbers of the filters above a node, whatever table they stand over.
 use Rattle.std.specs.Prelude.{ℕ, ◌+◌, Bool, true, false, List, [], ◌∷◌, ◌++◌, length, if◌then◌else◌}
-use Rattle.rdf_values.specs.Path.{makes, parent_of}
-use Rattle.rdf_values.specs.Tree.{NamedTree}
+use Rattle.rdf_values.specs.{makes, NamedTree, parent_of, Statement}
 use Rattle.rdf_values.specs.declared.vary_values.VaryValues.TheVariants.{Lists, Vector}
-use Rattle.rdf_values.specs.declared.statement.Statement.{Statement}
 use Rattle.rdf_values.specs.declared.statement.Statement.TheVariants.{Define, Redefine, Filter, Vary}
 
 -- how many expressions lists have

@@ -1,12 +1,9 @@
 -- Lists of sets of variations.
 use Rattle.std.specs.Prelude.{◌≡◌, ℕ, ◌||◌, Bool, List, ◌++◌, map, slice_get}
 use Rattle.std.specs.List.{list_any}
-use Rattle.rdf_values.specs.Depends.{columns_in}
-use Rattle.rdf_values.specs.declared.column.Column.{Column}
-use Rattle.rdf_values.specs.declared.statement.Statement.{Statement}
-use Rattle.expr_check.specs.NumKinds.{CheckedExpr}
-use Rattle.graph_numbers.specs.Graphs.{holds_at}
-use Rattle.graph_numbers.specs.Versions.{named_version}
+use Rattle.rdf_values.specs.{Column, columns_in, Statement}
+use Rattle.expr_check.specs.{CheckedExpr}
+use Rattle.graph_numbers.specs.{holds_at, named_version}
 use Rattle.graph.specs.Sets.{has}
 use Rattle.graph.specs.declared.var_set.VarSet.{VarSet}
 use Rattle.graph.specs.Dependence.{Numbers, AreSets, is_among_own}

@@ -1,13 +1,9 @@
 -- The expressions of a Vary, and what their check gives.
 use Rattle.std.specs.Prelude.{◌≡◌, ℕ, List, [], ◌∷◌, ◌++◌}
 use Rattle.std.specs.List.{AllZip}
-use Rattle.rdf_values.specs.Kinds.{FunctionNames}
-use Rattle.rdf_values.specs.Tree.{NamedTree}
-use Rattle.rdf_values.specs.declared.column.Column.{Column}
-use Rattle.rdf_values.specs.declared.statement.Statement.{Statement}
-use Rattle.rdf_values.specs.declared.vary_values.VaryValues.{VaryValues}
+use Rattle.rdf_values.specs.{Column, FunctionNames, NamedTree, Statement, VaryValues}
 use Rattle.rdf_values.specs.declared.vary_values.VaryValues.TheVariants.{Lists, Vector}
-use Rattle.expr_check.specs.NumKinds.{CheckedExpr}
+use Rattle.expr_check.specs.{CheckedExpr}
 use Rattle.graph.specs.Lookups.{IsCheckedAt}
 
 -- the expressions of lists, one list after the other

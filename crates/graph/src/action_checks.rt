@@ -1,9 +1,7 @@
 // The columns and edges of an action.
 ghost use Rattle.std.specs.Prelude.{◌≡◌, ◌++◌, [], IfOk, OnOk};
-ghost use Rattle.rdf_values.specs.Bookings.{columns_of, weight_column};
-ghost use Rattle.rdf_values.specs.Verdict.{begins, may_begin, permitted_kinds, check_columns, check_edges};
-ghost use Rattle.rdf_values.specs.Edges.{are_edges, rises};
-ghost use Rattle.graph.specs.Contexts.{scope_before};
+ghost use Rattle.rdf_values.specs.{are_edges, begins, check_columns, check_edges, columns_of, may_begin, permitted_kinds, rises, weight_column};
+ghost use Rattle.graph.specs.{scope_before};
 
 use crate::before::Before;
 use crate::parts::same_kind;

@@ -1,13 +1,10 @@
 // How many histogram cells and Takes the passes of results have.
 ghost use Rattle.std.specs.Prelude.{◌≡◌, ◌∷◌, ◌++◌, ◌+◌, ◌*◌, ◌||◌, ℕ, List, [], nat_lt, IfOk};
 ghost use Rattle.std.specs.Option.{option_copied};
-ghost use Rattle.rdf_values.specs.Bookings.{ActionAt, has_variations};
-ghost use Rattle.rdf_values.specs.Path.{Path};
-ghost use Rattle.rdf_values.specs.Verdict.{cells_of, takes_of, first_refusal, refuse_if};
+ghost use Rattle.rdf_values.specs.{ActionAt, cells_of, first_refusal, has_variations, Path, refuse_if, takes_of};
 ghost use Rattle.rdf_values.specs.declared.graph_cause.GraphCause.TheVariants as cause_of;
 ghost use Rattle.rdf_values.specs.declared.statement.Statement.TheVariants.{Print};
-ghost use Rattle.graph.specs.Amounts.{asked_after, row_passes, rows_named, rows_below, printed_rows, IsAmount, front};
-ghost use Rattle.graph.specs.Lookups.{statements};
+ghost use Rattle.graph.specs.{asked_after, front, IsAmount, printed_rows, row_passes, rows_below, rows_named, statements};
 
 use crate::refusals::{first_of, refuse_if};
 use crate::result_row::ResultRow;

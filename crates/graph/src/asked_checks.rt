@@ -1,11 +1,9 @@
 // The checks of what asks for something of a result: VariationsFor, Watch and Print.
 ghost use Rattle.std.specs.Prelude.{◌≡◌, ◌∷◌, length, nat_lt, IfOk};
-ghost use Rattle.rdf_values.specs.Bookings.{bookings};
-ghost use Rattle.rdf_values.specs.Verdict.{check_passes, is_result, printed_results, refuse_if, refuse_unless, watched_results};
+ghost use Rattle.rdf_values.specs.{bookings, check_passes, is_result, printed_results, refuse_if, refuse_unless, watched_results};
 ghost use Rattle.rdf_values.specs.declared.graph_cause.GraphCause.TheVariants as cause_of;
 ghost use Rattle.rdf_values.specs.declared.statement.Statement.TheVariants.{VariationsFor, Watch, Print};
-ghost use Rattle.graph.specs.Lookups.{statements};
-ghost use Rattle.graph.specs.Contexts.{history, verdict_after};
+ghost use Rattle.graph.specs.{history, statements, verdict_after};
 
 use crate::amounts::{amounts_of, amounts_printed_with, too_many};
 use crate::before::Before;

@@ -1,8 +1,8 @@
 // What stands before a statement.
 ghost use Rattle.std.specs.Prelude.{◌≡◌, ◌≤◌, length, map, IfOk};
 ghost use Rattle.std.specs.List.{AllByRecursion};
-ghost use Rattle.rdf_values.specs.Bookable.{IsShort};
-ghost use Rattle.graph_numbers.specs.Versions.{version_at};
+ghost use Rattle.rdf_values.specs.{IsShort};
+ghost use Rattle.graph_numbers.specs.{version_at};
 ghost use Rattle.graph.specs.Gains.{AreTables};
 ghost use Rattle.graph.specs.Lookups.{statements};
 ghost use Rattle.graph.specs.OneProof.{tables-prop};

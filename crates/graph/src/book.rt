@@ -1,13 +1,8 @@
 // The booking of a script's lines: each is checked after those before it, and then added.
 ghost use Rattle.std.specs.Prelude.{◌≡◌, ◌≤◌, length, reverse, None, Option, IfOk, IfErr};
 ghost use Rattle.std.specs.List.{AllByRecursion};
-ghost use Rattle.rdf_values.specs.Bookable.{IsShort};
-ghost use Rattle.rdf_values.specs.Kinds.{scope_of};
-ghost use Rattle.rdf_values.specs.declared.graph_cause.GraphCause.{GraphCause};
-ghost use Rattle.graph.specs.Bookings.{refused, refused_then, IsRefusal};
-ghost use Rattle.graph.specs.Checks.{IsStop};
-ghost use Rattle.graph.specs.Gains.{AreTables};
-ghost use Rattle.graph.specs.Lookups.{statements};
+ghost use Rattle.rdf_values.specs.{GraphCause, IsShort, scope_of};
+ghost use Rattle.graph.specs.{AreTables, IsRefusal, IsStop, refused, refused_then, statements};
 
 use crate::before::Before;
 use crate::check::check_statement;

@@ -1,6 +1,6 @@
 // What a Vary changes.
 ghost use Rattle.std.specs.Prelude.{◌≤◌, length};
-ghost use Rattle.rdf_values.specs.Bookable.{AreShortValues};
+ghost use Rattle.rdf_values.specs.{AreShortValues};
 ghost use Rattle.graph.specs.ShortProof.{short-prop};
 
 use rdf_values::{Name, VaryValues};

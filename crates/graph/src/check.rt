@@ -1,8 +1,7 @@
 // The check of a statement after those before it.
 ghost use Rattle.std.specs.Prelude.{◌≡◌, IfOk};
-ghost use Rattle.rdf_values.specs.Bookable.{IsShort};
-ghost use Rattle.graph.specs.Checks.{Decides};
-ghost use Rattle.graph.specs.Contexts.{IsGainAfter, verdict_after};
+ghost use Rattle.rdf_values.specs.{IsShort};
+ghost use Rattle.graph.specs.{Decides, IsGainAfter, verdict_after};
 
 use crate::asked_checks::{check_print, check_variations_for, check_watch};
 use crate::before::Before;

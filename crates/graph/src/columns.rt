@@ -1,14 +1,10 @@
 // The columns of an expression at a node, with their kinds and versions, and the expression over versions.
 ghost use Rattle.std.specs.Prelude.{◌≡◌, ◌<◌, ◌++◌, ◌∷◌, [], length, Some, Err, MatchOption, IfOk, IfErr, OnOk, slice_get};
-ghost use Rattle.rdf_values.specs.Depends.{columns_in, columns_in_all};
-ghost use Rattle.rdf_values.specs.ExprTree.{tree_of, trees_of};
-ghost use Rattle.rdf_values.specs.Kinds.{column_kind, kind_of};
-ghost use Rattle.rdf_values.specs.Verdict.{kind_or_int};
+ghost use Rattle.rdf_values.specs.{column_kind, columns_in, columns_in_all, kind_of, kind_or_int, tree_of, trees_of};
 ghost use Rattle.rdf_values.specs.declared.graph_cause.GraphCause.TheVariants.{UnknownColumn};
-ghost use Rattle.expr_check.specs.CheckAnswers.{RefusedAs};
-ghost use Rattle.graph_numbers.specs.Versions.{named_version};
-ghost use Rattle.graph.specs.Lookups.{IsFound, IsScopeAt, AreNoted, IsScopeOf};
-ghost use Rattle.graph.specs.Contexts.{IsCheckedBefore, history, named_version_before, scope_before};
+ghost use Rattle.expr_check.specs.{RefusedAs};
+ghost use Rattle.graph_numbers.specs.{named_version};
+ghost use Rattle.graph.specs.{AreNoted, history, IsCheckedBefore, IsFound, IsScopeAt, IsScopeOf, named_version_before, scope_before};
 
 use crate::before::Before;
 use crate::lookup::{is_visible, named_version, target_of};

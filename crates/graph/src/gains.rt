@@ -1,13 +1,8 @@
 // What each accepted statement adds, or why it is refused.
 ghost use Rattle.std.specs.Prelude.{◌≡◌, ◌≤◌, ◌+◌, Option, length, IfOk};
-ghost use Rattle.rdf_values.specs.Kinds.{kind_of};
-ghost use Rattle.rdf_values.specs.Verdict.{refusal_in};
-ghost use Rattle.rdf_values.specs.declared.graph_cause.GraphCause.{GraphCause as Cause};
+ghost use Rattle.rdf_values.specs.{GraphCause as Cause, kind_of, refusal_in};
 ghost use Rattle.rdf_values.specs.declared.statement.Statement.TheVariants.{Define, Redefine, Alias, Filter, Vary, Action, Report};
-ghost use Rattle.graph.specs.Checks.{Decides};
-ghost use Rattle.graph.specs.Gains.{IsFilterGain, IsColumnGain, IsMadeGain, IsEmptyGain, IsRowGain, IsReportGain, IsVaryGain};
-ghost use Rattle.graph.specs.Rows.{named_rows};
-ghost use Rattle.graph.specs.Contexts.{IsGainAfter, history, scope_before, sites_so_far, variation_count, verdict_after};
+ghost use Rattle.graph.specs.{Decides, history, IsColumnGain, IsEmptyGain, IsFilterGain, IsGainAfter, IsMadeGain, IsReportGain, IsRowGain, IsVaryGain, named_rows, scope_before, sites_so_far, variation_count, verdict_after};
 
 use crate::before::Before;
 use crate::change::Change;

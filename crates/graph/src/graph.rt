@@ -1,13 +1,9 @@
 // The booked graph.
 ghost use Rattle.std.specs.Prelude.{◌≡◌, ◌<◌, ◌≤◌, ℕ, length, Some, option_map, slice_get, reverse, IfOk};
-ghost use Rattle.rdf_values.specs.Answers.{Answers};
-ghost use Rattle.rdf_values.specs.Bookable.{IsBookable};
-ghost use Rattle.rdf_values.specs.Bookings.{is_watched};
-ghost use Rattle.rdf_values.specs.Tables.{IsHeader};
-ghost use Rattle.rdf_model.specs.Loops.{accesses, loop_of};
+ghost use Rattle.rdf_values.specs.{Answers, is_watched, IsBookable, IsHeader};
+ghost use Rattle.rdf_model.specs.{accesses, loop_of};
 ghost use Rattle.graph.specs.Sets.{has};
-ghost use Rattle.graph_numbers.specs.Graphs.{IsGraph, IsSiteExpr, booked, booked_statements, graph_filters, graph_kinds, graph_loops, graph_prints, graph_results, graph_runs, graph_sites, graph_sources, graph_variations, graph_versions, result_depends_at, site_depends_at};
-ghost use Rattle.graph_numbers.specs.Results.{kind_of_booking};
+ghost use Rattle.graph_numbers.specs.{booked, booked_statements, graph_filters, graph_kinds, graph_loops, graph_prints, graph_results, graph_runs, graph_sites, graph_sources, graph_variations, graph_versions, IsGraph, IsSiteExpr, kind_of_booking, result_depends_at, site_depends_at};
 ghost use Rattle.graph.specs.Refusals.{refused_at};
 
 use crate::book::{book_lines, reversed};
@@ -41,8 +37,8 @@ pub struct Graph {
 impl Model for Graph {
     ghost use Rattle.std.specs.Prelude.{reverse};
     ghost use Rattle.std.specs.Coded.{codes};
-    ghost use Rattle.rdf_values.specs.TreeCode.{named_code};
-    ghost use Rattle.graph_numbers.specs.Graphs.{GraphView};
+    ghost use Rattle.rdf_values.specs.{named_code};
+    ghost use Rattle.graph_numbers.specs.{GraphView};
     ghost use Rattle.graph.specs.GraphFields.{view_of, IsBooked};
 
     ghost Value = { GraphView };
@@ -65,7 +61,7 @@ fn at<T>(items: &[T], n: u32) -> &T
 impl Graph {
     ghost use Rattle.graph.specs.GraphFields.{view_of};
     ghost use Rattle.std.specs.List.{AllByRecursion};
-    ghost use Rattle.rdf_values.specs.Bookable.{IsShort};
+    ghost use Rattle.rdf_values.specs.{IsShort};
     ghost use Rattle.graph.specs.Lookups.{AreKinds, statements};
     ghost use Rattle.graph.specs.Gains.{AreTables};
 

@@ -1,5 +1,5 @@
 // Laws of the sets of variations. Each function does nothing; its contract is the law, and its proof the law's.
-ghost use Rattle.graph.specs.Laws.{VersionsDependAsColumns, SiteSetsAreDependence, ResultSetsAreDependence};
+ghost use Rattle.graph.specs.{ResultSetsAreDependence, SiteSetsAreDependence, VersionsDependAsColumns};
 
 /// A visible column depends on the variations on which its version does.
 #[tactic(auto, using(crate::proofs::ResultSets::versions_depend))]

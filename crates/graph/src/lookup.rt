@@ -1,12 +1,9 @@
 // Look-ups in the statements so far, the latest first: each walks them as its definition does.
 ghost use Rattle.std.specs.Prelude.{◌≡◌, ◌<◌, ◌≤◌, ◌+◌, true, false, codes, length, MatchOption, IfSome};
 ghost use Rattle.std.specs.List.{list_any};
-ghost use Rattle.rdf_values.specs.Kinds.{FunctionNames, scope_of};
-ghost use Rattle.rdf_values.specs.Names.{same, place};
-ghost use Rattle.rdf_values.specs.Path.{makes, parent_of, path, target_of};
-ghost use Rattle.rdf_values.specs.Verdict.{is_node, is_result, is_in_use, is_alias, is_visible, made_columns, scope_at};
-ghost use Rattle.graph.specs.Lookups.{statements, books, own_target, own_alias, own_made};
-ghost use Rattle.graph_numbers.specs.Versions.{column_place, own_columns, own_version, version_count, named_version};
+ghost use Rattle.rdf_values.specs.{FunctionNames, is_alias, is_in_use, is_node, is_result, is_visible, made_columns, makes, parent_of, path, place, same, scope_at, scope_of, target_of};
+ghost use Rattle.graph.specs.{books, own_alias, own_made, own_target, statements};
+ghost use Rattle.graph_numbers.specs.{column_place, named_version, own_columns, own_version, version_count};
 
 use rdf_values::{Column, Line, Name, Statement};
 

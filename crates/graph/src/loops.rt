@@ -1,8 +1,7 @@
 // The event loops of a script and the loop that each Print runs.
 ghost use Rattle.std.specs.Prelude.{◌≡◌, ◌≤◌, ◌<◌, ◌+◌, ◌++◌, ◌∷◌, [], Some, length, map, take, drop, ◌-◌, List, IfOk, IfSome, OnOk, MatchOption, slice_get};
-ghost use Rattle.rdf_values.specs.Bookings.{is_watched};
-ghost use Rattle.rdf_values.specs.Names.{same, place};
-ghost use Rattle.graph_numbers.specs.Results.{numbered_pass};
+ghost use Rattle.rdf_values.specs.{is_watched, place, same};
+ghost use Rattle.graph_numbers.specs.{numbered_pass};
 ghost use Rattle.graph.specs.LoopRows.{IsNoPrint, AreNamedInTurn, members_from, IsScriptRows, passes_of_rows, AreLoops, BeginsWith};
 ghost use Rattle.graph.specs.OneProof.{script_rows-prop};
 ghost use Rattle.graph.specs.Lookups.{statements};
@@ -39,7 +38,7 @@ pub struct LoopTables {
 
 impl LoopTables {
     ghost use Rattle.graph.specs.LoopRows.{IsNoted};
-    ghost use Rattle.rdf_values.specs.declared.statement.Statement.{Statement};
+    ghost use Rattle.rdf_values.specs.{Statement};
 
     /// No loops.
     #[tactic(auto, using(crate::proofs::Looped::none_yet))]

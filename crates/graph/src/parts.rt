@@ -1,13 +1,8 @@
 // The parts of which the checks of several statements are made.
 ghost use Rattle.std.specs.Prelude.{◌≡◌, Result, IfOk};
-ghost use Rattle.rdf_values.specs.Kinds.{kind_of, same_kind};
-ghost use Rattle.rdf_values.specs.Path.{path};
-ghost use Rattle.rdf_values.specs.Verdict.{check_node, check_target, refusal_in, expect_kind, is_visible};
-ghost use Rattle.rdf_values.specs.declared.graph_cause.GraphCause.{GraphCause};
-ghost use Rattle.rdf_values.specs.declared.value.ColType.{ColType};
-ghost use Rattle.expr_check.specs.CheckAnswers.{RefusedAs};
-ghost use Rattle.graph.specs.Checks.{IsStop, Decides};
-ghost use Rattle.graph.specs.Contexts.{IsCheckedBefore, history, scope_before};
+ghost use Rattle.rdf_values.specs.{check_node, check_target, ColType, expect_kind, GraphCause, is_visible, kind_of, path, refusal_in, same_kind};
+ghost use Rattle.expr_check.specs.{RefusedAs};
+ghost use Rattle.graph.specs.{Decides, history, IsCheckedBefore, IsStop, scope_before};
 
 use crate::before::Before;
 use crate::lookup::{is_alias, is_in_use, is_node, is_visible};

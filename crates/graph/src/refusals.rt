@@ -1,7 +1,7 @@
 // The first refusal of several checks in order.
 ghost use Rattle.std.specs.Prelude.{◌≡◌};
-ghost use Rattle.rdf_values.specs.Verdict.{first_refusal, refuse_if, refuse_unless};
-ghost use Rattle.graph.specs.Checks.{Decides};
+ghost use Rattle.rdf_values.specs.{first_refusal, refuse_if, refuse_unless};
+ghost use Rattle.graph.specs.{Decides};
 
 use crate::stop::Stop;
 use rdf_values::GraphCause;

@@ -1,12 +1,8 @@
 // The checks of what books a result: Action and Report.
 ghost use Rattle.std.specs.Prelude.{◌≡◌, ◌∷◌, ◌++◌, [], ℕ, List, None, IfOk};
-ghost use Rattle.rdf_values.specs.Bookings.{bookings, columns_of};
-ghost use Rattle.rdf_values.specs.Verdict.{check_columns, check_results, check_passes, permitted_kinds};
-ghost use Rattle.rdf_values.specs.declared.action.ActionKind.{ActionKind};
+ghost use Rattle.rdf_values.specs.{ActionKind, bookings, check_columns, check_passes, check_results, columns_of, permitted_kinds};
 ghost use Rattle.rdf_values.specs.declared.statement.Statement.TheVariants.{Action, Report};
-ghost use Rattle.graph.specs.Checks.{Decides};
-ghost use Rattle.graph.specs.Lookups.{statements};
-ghost use Rattle.graph.specs.Contexts.{IsActionRowAfter, history, scope_before, verdict_after};
+ghost use Rattle.graph.specs.{Decides, history, IsActionRowAfter, scope_before, statements, verdict_after};
 
 use crate::action_checks::{action_columns, check_edges, columns_of};
 use crate::amounts::{amounts_with, cells_of, takes_of, too_many};

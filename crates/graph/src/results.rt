@@ -1,12 +1,8 @@
 // Look-ups of results in the statements so far, the latest first.
 ghost use Rattle.std.specs.Prelude.{◌≡◌, ◌∷◌, ◌++◌, ◌≤◌, ℕ, List, [], length, IfOk, OnOk, IfNone, IfSome};
-ghost use Rattle.rdf_values.specs.Bookings.{ActionAt, booked_by, bookings, names_of, filled};
-ghost use Rattle.rdf_values.specs.Names.{same, among};
-ghost use Rattle.rdf_values.specs.Path.{Path};
-ghost use Rattle.rdf_values.specs.Verdict.{can_watch, is_report, result_is, watched_results};
-ghost use Rattle.rdf_values.specs.declared.statement.Statement.{Statement};
+ghost use Rattle.rdf_values.specs.{ActionAt, among, booked_by, bookings, can_watch, filled, is_report, names_of, Path, result_is, same, Statement, watched_results};
 ghost use Rattle.rdf_values.specs.declared.statement.Statement.TheVariants.{Watch};
-ghost use Rattle.graph.specs.Lookups.{statements, own_results, result_in, IsSame};
+ghost use Rattle.graph.specs.{IsSame, own_results, result_in, statements};
 
 use crate::push::push_name;
 use rdf_values::{ActionKind, Line, Memory, Name, Statement};

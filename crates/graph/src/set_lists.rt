@@ -1,12 +1,7 @@
 // Lists of sets of variations.
 ghost use Rattle.std.specs.Prelude.{◌≡◌, ◌≤◌, ◌+◌, ◌++◌, ℕ, length, map, IfOk, OnOk};
-ghost use Rattle.rdf_values.specs.Depends.{columns_in};
-ghost use Rattle.rdf_values.specs.Kinds.{column_kind};
-ghost use Rattle.rdf_values.specs.Verdict.{kind_or_int};
-ghost use Rattle.graph.specs.Dependence.{AreSets};
-ghost use Rattle.graph.specs.VarSets.{any_has, read_sets, changed_set, AppendsSets};
-ghost use Rattle.graph.specs.Sets.{has};
-ghost use Rattle.graph.specs.Contexts.{scope_before, set_changed, variation_count};
+ghost use Rattle.rdf_values.specs.{column_kind, columns_in, kind_or_int};
+ghost use Rattle.graph.specs.{any_has, AppendsSets, AreSets, changed_set, has, read_sets, scope_before, set_changed, variation_count};
 
 use crate::before::Before;
 use crate::sets::{own_set, set_at, set_of};

@@ -1,9 +1,6 @@
 // Sets of variations of versions, sites and filters.
 ghost use Rattle.std.specs.Prelude.{◌≡◌, ◌≤◌, ◌+◌, ℕ};
-ghost use Rattle.graph.specs.Dependence.{is_among_own};
-ghost use Rattle.graph.specs.SiteNumbers.{expression_total, own_site_total, is_filter};
-ghost use Rattle.graph.specs.VarSets.{has_at, any_has};
-ghost use Rattle.graph.specs.Sets.{has};
+ghost use Rattle.graph.specs.{any_has, expression_total, has, has_at, is_among_own, is_filter, own_site_total};
 
 use crate::var_set::VarSet;
 use rdf_values::{Expr, ListOf, Statement, VaryValues};

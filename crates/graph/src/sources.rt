@@ -1,7 +1,7 @@
 // What gives a version its value.
 ghost use Rattle.std.specs.Prelude.{◌≡◌, ◌<◌, ◌≤◌, ◌+◌, ℕ, List, Some, length, slice_get, IfSome};
-ghost use Rattle.graph_numbers.specs.declared.source.Source.{Source};
-ghost use Rattle.graph.specs.VersionSources.{tag_at, tag_source, AreSourcesOf, HasSites, AreAbove};
+ghost use Rattle.graph_numbers.specs.{Source};
+ghost use Rattle.graph.specs.{AreAbove, AreSourcesOf, HasSites, tag_at, tag_source};
 
 use graph_numbers::{Source, Version};
 

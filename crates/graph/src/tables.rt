@@ -1,7 +1,7 @@
 // The tables that are kept while statements are booked.
 ghost use Rattle.std.specs.Prelude.{◌≡◌, ◌+◌, ◌≤◌, [], ℕ, false, true, length, map, IfOk, OnOk};
-ghost use Rattle.rdf_values.specs.Kinds.{FunctionNames};
-ghost use Rattle.graph.specs.VarSets.{AppendsSets};
+ghost use Rattle.rdf_values.specs.{FunctionNames};
+ghost use Rattle.graph.specs.{AppendsSets};
 
 use crate::gain::Gain;
 use crate::result_row::ResultRow;
@@ -56,7 +56,7 @@ fn has_room(kinds: &[ColType], more: &[ColType]) -> bool
 }
 
 impl Tables {
-    ghost use Rattle.graph.specs.Gains.{AreTables, GrowBy};
+    ghost use Rattle.graph.specs.{AreTables, GrowBy};
 
     /// The tables before the first statement.
     pub fn start(alloc: Global, header: &[Column]) -> Result<Tables, Memory>

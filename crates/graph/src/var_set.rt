@@ -1,6 +1,6 @@
 // Sets of variations.
 ghost use Rattle.std.specs.Prelude.{◌≡◌, ◌<◌, ◌≤◌, ◌||◌, ℕ, false, nat_eq, MatchOption};
-ghost use Rattle.graph.specs.Sets.{has, count_of, members_below, IsNext};
+ghost use Rattle.graph.specs.{count_of, has, IsNext, members_below};
 
 /// A set of numbers below 128.
 #[derive(Clone, Copy, Debug, PartialEq, Eq)]

@@ -14,7 +14,7 @@ pub struct FullName {
 }
 
 impl Model for FullName {
-    ghost use Rattle.rdf_values.specs.Path.{Variation};
+    ghost use Rattle.rdf_values.specs.{Variation};
 
     ghost Value = { Variation };
 
@@ -52,7 +52,7 @@ pub struct Variations {
 
 impl Model for Variations {
     ghost use Rattle.std.specs.Prelude.{◌≤◌, List, length};
-    ghost use Rattle.rdf_values.specs.Path.{Variation};
+    ghost use Rattle.rdf_values.specs.{Variation};
 
     ghost Value = { List Variation };
 

@@ -1,7 +1,6 @@
 // The versions that the table and a Vary make.
 ghost use Rattle.std.specs.Prelude.{◌≡◌, ◌≤◌, ◌+◌, ◌++◌, length, IfOk, OnOk};
-ghost use Rattle.graph.specs.Rows.{cell_rows, varied_row};
-ghost use Rattle.graph.specs.Contexts.{named_version_before, sites_so_far, variation_count, versions_changed};
+ghost use Rattle.graph.specs.{cell_rows, named_version_before, sites_so_far, variation_count, varied_row, versions_changed};
 
 use crate::before::Before;
 use crate::change::Change;

@@ -1,12 +1,8 @@
 // What is found in the lines so far, the latest first: each function walks them as its definition does.
 ghost use Rattle.std.specs.Prelude.{◌≡◌, ◌≤◌, ◌<◌, ◌+◌, length, Some, option_map, slice_get, IfOk};
-ghost use Rattle.rdf_values.specs.Bookable.{expression_count};
-ghost use Rattle.rdf_values.specs.Bookings.{named_before};
-ghost use Rattle.rdf_values.specs.Path.{path};
-ghost use Rattle.graph_numbers.specs.Sites.{list_start};
-ghost use Rattle.graph.specs.Rows.{count_from, labels, own_label, is_named, named_numbers, has_made, covered_numbers};
-ghost use Rattle.graph.specs.Lookups.{statements};
-ghost use Rattle.graph.specs.SiteNumbers.{site_total, filter_numbers};
+ghost use Rattle.rdf_values.specs.{expression_count, named_before, path};
+ghost use Rattle.graph_numbers.specs.{list_start};
+ghost use Rattle.graph.specs.{count_from, covered_numbers, filter_numbers, has_made, is_named, labels, named_numbers, own_label, site_total, statements};
 
 use crate::lookup::made_from;
 use crate::sets::{is_filter, own_site_total};

@@ -1,14 +1,9 @@
 -- The laws of the numbers.
 use Rattle.std.proofs.Common.{sym, arith}
-use Rattle.rdf_values.specs.Functions.{fn_names}
-use Rattle.rdf_values.specs.Kinds.{scope_of}
-use Rattle.rdf_values.specs.Path.{history}
-use Rattle.rdf_values.specs.Verdict.{AreAccepted}
-use Rattle.rdf_values.specs.declared.script.Script.{Script}
-use Rattle.rdf_model.specs.Results.{Dataset}
+use Rattle.rdf_values.specs.{AreAccepted, fn_names, history, scope_of, Script}
+use Rattle.rdf_model.specs.{Dataset}
 use Rattle.rdf_model.proofs.Verdicts.{verdict_is_the_first_refusal}
-use Rattle.graph_numbers.specs.Graphs.{IsGraph}
-use Rattle.graph_numbers.specs.Laws.{graph_of, SitesAreEvaluations, ColumnsAreVersions, SitesReadBelow, SitesAreApart, VariationsAreApart, ResultsAreBookings, ResultsByNumbers, LoopsAreTheScripts, PrintsRunTheirLoops, VersionsHaveSources, FiltersAreTheScripts, FiltersHaveSites, ActionsHaveSites, ReportsCoverFilters}
+use Rattle.graph_numbers.specs.{ActionsHaveSites, ColumnsAreVersions, FiltersAreTheScripts, FiltersHaveSites, graph_of, IsGraph, LoopsAreTheScripts, PrintsRunTheirLoops, ReportsCoverFilters, ResultsAreBookings, ResultsByNumbers, SitesAreApart, SitesAreEvaluations, SitesReadBelow, VariationsAreApart, VersionsHaveSources}
 use Rattle.graph_numbers.proofs.Apart.{site_number, variation_number}
 use Rattle.graph_numbers.proofs.ColumnSources.{column_source}
 use Rattle.graph_numbers.proofs.Covering.{filters_are, filter_conditions, action_conditions, report_covers}

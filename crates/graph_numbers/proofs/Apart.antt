@@ -3,23 +3,13 @@ use Rattle.std.proofs.Common.{◌≡◌, ◌≢◌, ℕ, zero, suc, ◌+◌, ◌
 use Rattle.std.specs.List.{list_any}
 use Rattle.std.proofs.lemmas.Bool.Decides.{Decides-eqb}
 use Rattle.std.proofs.lemmas.Option.{slice_get_within}
-use Rattle.lemmas.proofs.Booleans.{and_left_false, and_right_false, and_holds, neither, never_true, or_left, or_right}
-use Rattle.lemmas.proofs.Orders.{eq_itself}
-use Rattle.rdf_values.specs.Kinds.{FunctionNames, scope_of}
-use Rattle.rdf_values.specs.Names.{same, among, place}
-use Rattle.rdf_values.specs.Path.{Variation, makes, path, same_variation, own_variations, variations}
-use Rattle.rdf_values.specs.Tree.{NamedTree}
-use Rattle.rdf_values.specs.Verdict.{AreAccepted, check, check_node, check_tags, check_target, check_values, first_refusal, refuse_if, refuse_unless, repeats, is_node, is_result, is_in_use, is_variation_name, scope_at}
-use Rattle.rdf_values.specs.declared.column.Column.{Column}
-use Rattle.rdf_values.specs.declared.graph_cause.GraphCause.{GraphCause}
-use Rattle.rdf_values.specs.declared.statement.Statement.{Statement}
+use Rattle.lemmas.proofs.{and_holds, and_left_false, and_right_false, eq_itself, neither, never_true, or_left, or_right}
+use Rattle.rdf_values.specs.{among, AreAccepted, check, check_node, check_tags, check_target, check_values, Column, first_refusal, FunctionNames, GraphCause, is_in_use, is_node, is_result, is_variation_name, makes, NamedTree, own_variations, path, place, refuse_if, refuse_unless, repeats, same, same_variation, scope_at, scope_of, Statement, Variation, variations, VaryValues}
 use Rattle.rdf_values.specs.declared.statement.Statement.TheVariants.{Define, Redefine, Filter, Vary}
-use Rattle.rdf_values.specs.declared.vary_values.VaryValues.{VaryValues}
 use Rattle.rdf_values.specs.declared.vary_values.VaryValues.TheVariants.{Lists, Vector}
-use Rattle.rdf_model.specs.Demanded.{Site, site_at, same_site}
-use Rattle.rdf_values.specs.declared.graph_cause.GraphCause.TheVariants as cause
+use Rattle.rdf_model.specs.{same_site, Site, site_at}
 use Rattle.rdf_model.proofs.Accepted.{both_none, if_fails, names_equal, itself}
-use Rattle.graph_numbers.specs.Sites.{SiteAt, site_in, list_sites, lists_sites, sites, own_sites}
+use Rattle.graph_numbers.specs.{list_sites, lists_sites, own_sites, site_in, SiteAt, sites}
 use Rattle.graph_numbers.proofs.Listed.{by_test, joined, only_at}
 
 -- ---- lists without two elements that are alike
@@ -104,8 +94,8 @@ module _ (header : List Column) (names : FunctionNames) where
   pub is_new : (before : List Statement) (node parent : List ℕ) (rest : List (Option GraphCause)) → first_refusal (check_node before node parent ∷ rest) ≡ None → MadeBy before node ≡ false
   is_new before node parent rest ok =
       let p = both_none (check_node before node parent) rest ok in
-      let q = both_none (refuse_if (is_in_use before node) cause.NameTaken) (refuse_unless (is_node before parent) cause.UnknownName ∷ []) p.0 in
-      let free : is_in_use before node ≡ false = if_fails (is_in_use before node) cause.NameTaken q.0 in
+      let q = both_none (refuse_if (is_in_use before node) GraphCause.NameTaken) (refuse_unless (is_node before parent) GraphCause.UnknownName ∷ []) p.0 in
+      let free : is_in_use before node ≡ false = if_fails (is_in_use before node) GraphCause.NameTaken q.0 in
       (neither (same node (codes "df")) (MadeBy before node) (neither (is_node before node) (is_result before node) free).0).1
 
   -- the node is the statement's own, and new
@@ -188,14 +178,14 @@ module _ (header : List Column) (names : FunctionNames) where
   tags_checked before node parent vary columns tags values ok =
       let targets : Option GraphCause = first_refusal (map (check_target (scope_at names (scope_of header) before parent) (path before parent)) columns) in
       let value : Option GraphCause = check_values names (scope_at names (scope_of header) before parent) (length tags) columns values in
-      let a = both_none (check_node before node parent) (refuse_if (repeats columns) cause.NameTaken ∷ targets ∷ check_tags before tags vary ∷ value ∷ []) ok in
-      let b = both_none (refuse_if (repeats columns) cause.NameTaken) (targets ∷ check_tags before tags vary ∷ value ∷ []) a.1 in
+      let a = both_none (check_node before node parent) (refuse_if (repeats columns) GraphCause.NameTaken ∷ targets ∷ check_tags before tags vary ∷ value ∷ []) ok in
+      let b = both_none (refuse_if (repeats columns) GraphCause.NameTaken) (targets ∷ check_tags before tags vary ∷ value ∷ []) a.1 in
       let c = both_none targets (check_tags before tags vary ∷ value ∷ []) b.1 in
       let d = both_none (check_tags before tags vary) (value ∷ []) c.1 in
-      let many : Option GraphCause = refuse_if (nat_lt 16 (length tags) || nat_lt 128 (length (variations before) + length tags)) cause.TooMany in
-      let e = both_none (refuse_if (repeats tags) cause.NameTaken) (refuse_if (is_variation_name before vary) cause.NameTaken ∷ many ∷ []) d.0 in
-      let f = both_none (refuse_if (is_variation_name before vary) cause.NameTaken) (many ∷ []) e.1 in
-      (if_fails (repeats tags) cause.NameTaken e.0, if_fails (is_variation_name before vary) cause.NameTaken f.0)
+      let many : Option GraphCause = refuse_if (nat_lt 16 (length tags) || nat_lt 128 (length (variations before) + length tags)) GraphCause.TooMany in
+      let e = both_none (refuse_if (repeats tags) GraphCause.NameTaken) (refuse_if (is_variation_name before vary) GraphCause.NameTaken ∷ many ∷ []) d.0 in
+      let f = both_none (refuse_if (is_variation_name before vary) GraphCause.NameTaken) (many ∷ []) e.1 in
+      (if_fails (repeats tags) GraphCause.NameTaken e.0, if_fails (is_variation_name before vary) GraphCause.NameTaken f.0)
 
   own_variations_apart : (before : List Statement) (s : Statement) → check names (scope_of header) before s ≡ None → AreApart same_variation (own_variations s)
   own_variations_apart before (Vary node parent columns values tags vary) ok m n x y lt p q =

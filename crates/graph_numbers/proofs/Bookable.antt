@@ -1,15 +1,10 @@
 -- A script that can be booked has few sites.
 use Rattle.std.proofs.Common.{◌≡◌, ℕ, suc, ◌+◌, ◌*◌, ◌≤◌, List, [], ◌∷◌, length, refl, ◌∙◌, ap, arith, length-append}
 use Rattle.std.specs.List.{AllByRecursion}
-use Rattle.rdf_values.specs.Tokens.{before}
-use Rattle.rdf_values.specs.Kinds.{FunctionNames}
-use Rattle.rdf_values.specs.Tree.{NamedTree}
-use Rattle.rdf_values.specs.declared.column.Column.{Column}
-use Rattle.rdf_values.specs.declared.statement.Statement.{Statement}
+use Rattle.rdf_values.specs.{before, Column, expression_count, FunctionNames, IsShort, NamedTree, Statement}
 use Rattle.rdf_values.specs.declared.statement.Statement.TheVariants.{Vary}
 use Rattle.rdf_values.specs.declared.vary_values.VaryValues.TheVariants.{Lists}
-use Rattle.graph_numbers.specs.Sites.{list_sites, lists_sites, own_sites, sites}
-use Rattle.rdf_values.specs.Bookable.{expression_count, IsShort}
+use Rattle.graph_numbers.specs.{list_sites, lists_sites, own_sites, sites}
 
 module _ (header : List Column) (names : FunctionNames) where
   pub list_count : (before : List Statement) (parent node : List ℕ) (i k : ℕ) (es : List NamedTree) → length (list_sites header names before parent node i k es) ≡ length es

@@ -1,33 +1,12 @@
 -- What a pass demands, as a set of sites: it has what is tried and read, and with each site those that its evaluation meets.
 use Rattle.std.proofs.Common.{◌≡◌, ℕ, Bool, true, false, List, [], ◌∷◌, ◌++◌, map, Option, Some, Ok, refl, sym, ◌∙◌, ap, subst, nat_eq, slice_get, if◌then◌else◌}
 use Rattle.std.specs.Prelude.{⊤}
-use Rattle.rdf_values.specs.Bookings.{ActionAt, columns_of}
-use Rattle.rdf_values.specs.Functions.{Function, fn_names}
-use Rattle.rdf_values.specs.Kinds.{scope_of, column_kind, shape_of}
-use Rattle.rdf_values.specs.Names.{place}
-use Rattle.rdf_values.specs.Path.{Under, makes, parent_of, path, target_of}
-use Rattle.rdf_values.specs.Verdict.{AreAccepted, scope_at}
-use Rattle.rdf_values.specs.declared.action.ActionKind.{ActionKind}
-use Rattle.rdf_values.specs.declared.column.Column.{Column}
-use Rattle.rdf_values.specs.declared.statement.Statement.{Statement}
+use Rattle.rdf_values.specs.{ActionAt, ActionKind, AreAccepted, callee, ColType, Column, column_kind, columns_in, columns_of, fn_names, Function, makes, parent_of, path, place, scope_at, scope_of, shape_of, Statement, target_of, Under, Value}
 use Rattle.rdf_values.specs.declared.statement.Statement.TheVariants.{Filter, Action}
-use Rattle.rdf_values.specs.declared.value.ColType.{ColType}
-use Rattle.rdf_values.specs.declared.value.Value.{Value}
-use Rattle.rdf_model.specs.ColumnValues.{column_value}
-use Rattle.rdf_model.specs.Demanded.{site_at, Demand, with_needs, demands_after, met_columns, site_demands, column_demands, filter_demands, input_demands, booking_demands, same_site}
-use Rattle.rdf_model.specs.EntryOutcomes.{through, truth_of}
-use Rattle.rdf_model.specs.Evaluation.{Outcome, Gives, Faults, Needs, ◌>>=◌, call_outcome, named_call, is_need, without}
-use Rattle.rdf_values.specs.Depends.{columns_in}
-use Rattle.rdf_values.specs.Numbered.{callee}
-use Rattle.rdf_model.specs.Laws.{IsKnown, gives, faults}
+use Rattle.rdf_model.specs.{◌>>=◌, booking_demands, call_outcome, column_demands, column_value, Demand, demands_after, Faults, filter_demands, Gives, input_demands, is_need, IsKnown, met_columns, named_call, Needs, Outcome, same_site, site_at, site_demands, through, truth_of, with_needs, without}
+use Rattle.rdf_model.specs.Laws.{gives, faults}
 use Rattle.rdf_model.proofs.Evaluations.{evaluate_renamed, call_known}
-use Rattle.graph_numbers.specs.Meets.{meets, IfGiven, IfPassed, HasSourceIn, HasFilters, HasInputs}
-use Rattle.graph_numbers.specs.Outcomes.{through_sites}
-use Rattle.graph_numbers.specs.Sites.{SiteAt, site_in, sites, site_count, own_filter_site, filter_sites}
-use Rattle.graph_numbers.specs.Sources.{source_in, sources}
-use Rattle.graph_numbers.specs.Versions.{version_at}
-use Rattle.graph_numbers.specs.declared.source.Source.{Source}
-use Rattle.graph_numbers.specs.declared.source.Source.TheVariants as from
+use Rattle.graph_numbers.specs.{filter_sites, HasFilters, HasInputs, HasSourceIn, IfGiven, IfPassed, meets, own_filter_site, site_count, site_in, SiteAt, sites, Source, source_in, sources, through_sites, version_at}
 use Rattle.std.proofs.lemmas.List.{append-nil}
 use Rattle.std.proofs.lemmas.Option.{get_or_from_slice_get}
 use Rattle.graph_numbers.proofs.Apart.{site_number}
@@ -37,8 +16,7 @@ use Rattle.graph_numbers.proofs.Demands.{demand_of, AreExplained, own_site}
 use Rattle.graph_numbers.proofs.Equations.{number_value, version_value, source_is, source_later}
 use Rattle.rdf_model.proofs.KnownColumns.{IsKnownColumn, known_columns, each_weaker}
 use Rattle.graph_numbers.proofs.Listed.{by_test}
-use Rattle.graph_numbers.proofs.Meeting.{each_at}
-use Rattle.graph_numbers.proofs.Meeting.{In, here, in_left, in_right, met_name}
+use Rattle.graph_numbers.proofs.Meeting.{each_at, In, here, in_left, in_right, met_name}
 use Rattle.rdf_model.specs.Alike as alike
 use Rattle.rdf_model.specs.Alike.{Alike}
 use Rattle.rdf_model.proofs.Missing.{named_alike, alike_is, call_alike}
@@ -100,12 +78,12 @@ module _ (fns : List Function) (columns : List Column) (row : List Value) (u : U
   -- what reading a version demands
   source_demanded : (ds small : List Demand) (c : ℕ) → HasDemandsOf fns columns row u before c small → ((e : Demand) → In e small → In e ds) → HasSourceIn (IsDemanded ds) (source_in (sources columns (fn_names fns) u before) c)
   source_demanded ds small c h f =
-      subst (HasSourceIn (IsDemanded ds)) (sym (get_or_from_slice_get (sources columns (fn_names fns) u before) c h.0 (from.Cell 0) h.1)) (go h.0 h.2)
+      subst (HasSourceIn (IsDemanded ds)) (sym (get_or_from_slice_get (sources columns (fn_names fns) u before) c h.0 (Source.Cell 0) h.1)) (go h.0 h.2)
     where
       go : (src : Source) → origin.IsGiven columns (fn_names fns) u (demands fns columns row u) before src small → HasSourceIn (IsDemanded ds) src
-      go (from.Cell col) k = tt
-      go (from.Site t) k = (k.0, k.1, f (demand_of fns columns row u before k.0) (subst (In (demand_of fns columns row u before k.0)) (sym k.2) here))
-      go (from.Element t i tags) k = (k.0, k.1, f (demand_of fns columns row u before k.0) (subst (In (demand_of fns columns row u before k.0)) (sym k.2) here))
+      go (Source.Cell col) k = tt
+      go (Source.Site t) k = (k.0, k.1, f (demand_of fns columns row u before k.0) (subst (In (demand_of fns columns row u before k.0)) (sym k.2) here))
+      go (Source.Element t i tags) k = (k.0, k.1, f (demand_of fns columns row u before k.0) (subst (In (demand_of fns columns row u before k.0)) (sym k.2) here))
 
   -- with each demanded site those of the versions that its evaluation meets are demanded
   pub closed : (ds : List Demand) → AreExplained fns columns row u before ds → (s c : ℕ) (x : SiteAt) → slice_get (sites columns (fn_names fns) before) s ≡ Some x → IsDemanded ds s
@@ -195,9 +173,9 @@ module _ (fns : List Function) (columns : List Column) (row : List Value) (u : U
   source c = source_in (sources columns (fn_names fns) u before) c
 
   source_wider : (D E : ℕ → Type 0) → ((s : ℕ) → D s → E s) → (x : Source) → HasSourceIn D x → HasSourceIn E x
-  source_wider D E f (from.Cell col) h = tt
-  source_wider D E f (from.Site s) h = f s h
-  source_wider D E f (from.Element s k tags) h = f s h
+  source_wider D E f (Source.Cell col) h = tt
+  source_wider D E f (Source.Site s) h = f s h
+  source_wider D E f (Source.Element s k tags) h = f s h
 
   pub wider_inputs : (D E : ℕ → Type 0) → ((s : ℕ) → D s → E s) → (cs : List ℕ) → HasInputs D source value cs → HasInputs E source value cs
   wider_inputs D E f [] h = tt

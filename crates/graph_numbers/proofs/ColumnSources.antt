@@ -1,21 +1,9 @@
 -- The version of a visible column is given by what gives the column its value at that node, and demands what reading the column demands.
 use Rattle.std.proofs.Common.{◌≡◌, ℕ, List, [], ◌∷◌, Ok, refl, ap, slice_get}
-use Rattle.rdf_values.specs.Functions.{Function, fn_names}
-use Rattle.rdf_values.specs.Kinds.{scope_of, column_kind}
-use Rattle.rdf_values.specs.Path.{Under, parent_of, path}
-use Rattle.rdf_values.specs.Verdict.{AreAccepted, scope_at}
-use Rattle.rdf_values.specs.declared.column.Column.{Column}
-use Rattle.rdf_values.specs.declared.statement.Statement.{Statement}
+use Rattle.rdf_values.specs.{AreAccepted, ColType, Column, column_kind, fn_names, Function, parent_of, path, scope_at, scope_of, Statement, Under, Value}
 use Rattle.rdf_values.specs.declared.statement.Statement.TheVariants.{Define}
-use Rattle.rdf_values.specs.declared.value.ColType.{ColType}
-use Rattle.rdf_values.specs.declared.value.Value.{Value}
-use Rattle.rdf_model.specs.ColumnValues.{expression_value, tag_element, tag_value, value_if, named_value, column_value}
-use Rattle.rdf_model.specs.Demanded.{Demand, site_demands, tag_demands, named_demands, column_demands}
-use Rattle.rdf_model.specs.Evaluation.{Outcome, ◌>>=◌}
-use Rattle.graph_numbers.specs.Sites.{site_outcome}
-use Rattle.graph_numbers.specs.Sources.{cell_value}
-use Rattle.graph_numbers.specs.Versions.{version_at}
-use Rattle.graph_numbers.specs.declared.source.Source.{Source}
+use Rattle.rdf_model.specs.{◌>>=◌, column_demands, column_value, Demand, expression_value, named_demands, named_value, Outcome, site_demands, tag_demands, tag_element, tag_value, value_if}
+use Rattle.graph_numbers.specs.{cell_value, site_outcome, Source, version_at}
 use Rattle.graph_numbers.proofs.Origins as origin
 
 module _ (M : Type 0) (fns : List Function) (columns : List Column) (row : List Value) (u : Under) where

@@ -2,22 +2,10 @@
 use Rattle.std.proofs.Common.{option_map, ◌≡◌, ℕ, suc, ◌+◌, List, [], ◌∷◌, ◌++◌, length, map, Some, None, refl, sym, ◌∙◌, ap, subst, arith, slice_get, append_assoc, length-append}
 use Rattle.std.specs.Prelude.{⊤}
 use Rattle.std.proofs.lemmas.List.{append-nil, length-map, map-append}
-use Rattle.rdf_values.specs.Bookings.{ActionAt, ReportOn, named_before, named_on, covered}
-use Rattle.rdf_values.specs.Functions.{Function, fn_names}
-use Rattle.rdf_values.specs.Kinds.{FunctionNames}
-use Rattle.rdf_values.specs.Path.{Path, Under, makes, parent_of, path}
-use Rattle.rdf_values.specs.declared.action.ActionKind.{ActionKind}
-use Rattle.rdf_values.specs.declared.column.Column.{Column}
-use Rattle.rdf_values.specs.declared.statement.Statement.{Statement}
+use Rattle.rdf_values.specs.{ActionAt, ActionKind, Column, covered, fn_names, Function, FunctionNames, makes, named_before, named_on, parent_of, Path, path, ReportOn, Statement, Under, Value}
 use Rattle.rdf_values.specs.declared.statement.Statement.TheVariants.{Filter, Action, Report}
-use Rattle.rdf_values.specs.declared.value.Value.{Value}
-use Rattle.rdf_model.specs.Demanded.{site_at}
-use Rattle.rdf_model.specs.EntryOutcomes.{through, report_outcome}
-use Rattle.rdf_model.specs.Evaluation.{Outcome, ◌>>=◌}
-use Rattle.graph_numbers.specs.Outcomes.{through_sites, through_filter, report_numbers}
-use Rattle.graph_numbers.specs.Results.{FilterAt, ResultAt, own_filter, filters_on, all_or, covered_at, own_filters, filters, results}
-use Rattle.graph_numbers.specs.Sites.{condition_in, condition_of, conditions_on, filter_sites, own_filter_site, own_sites, site_count, site_in, sites}
-use Rattle.graph_numbers.specs.Sources.{numbers_from}
+use Rattle.rdf_model.specs.{◌>>=◌, Outcome, report_outcome, site_at, through}
+use Rattle.graph_numbers.specs.{all_or, condition_in, condition_of, conditions_on, covered_at, filter_sites, FilterAt, filters, filters_on, numbers_from, own_filter, own_filter_site, own_filters, own_sites, report_numbers, ResultAt, results, site_count, site_in, sites, through_filter, through_sites}
 use Rattle.graph_numbers.proofs.Listed.{by_test, next_at}
 use Rattle.graph_numbers.proofs.Walks.{each_filter, each_result}
 use Rattle.graph_numbers.proofs.Extending.{Extends, itself, further, kept, site_kept, shorter}

@@ -1,23 +1,10 @@
 -- What a reading demands has with each site the sites of the columns that its evaluation meets.
-use Rattle.std.proofs.Common.{◌≡◌, ℕ, ◌+◌, Bool, true, false, List, [], ◌∷◌, ◌++◌, length, Option, Some, None, refl, ◌∙◌, ap, arith, slice_get, if◌then◌else◌}
-use Rattle.std.specs.Prelude.{flat_map}
-use Rattle.rdf_values.specs.Bookings.{ActionAt, columns_of}
-use Rattle.rdf_values.specs.Functions.{Function, fn_names}
-use Rattle.rdf_values.specs.Names.{same, place}
-use Rattle.rdf_values.specs.Path.{Under, makes, parent_of, path, target_of}
-use Rattle.rdf_values.specs.Tree.{NamedTree}
-use Rattle.rdf_values.specs.declared.action.ActionKind.{ActionKind}
-use Rattle.rdf_values.specs.declared.column.Column.{Column}
-use Rattle.rdf_values.specs.declared.statement.Statement.{Statement}
+use Rattle.std.proofs.Common.{◌≡◌, ℕ, ◌+◌, Bool, true, false, List, [], ◌∷◌, ◌++◌, length, Option, Some, None, refl, ◌∙◌, ap, arith, slice_get, if◌then◌else◌, flat_map}
+use Rattle.rdf_values.specs.{ActionAt, ActionKind, Column, columns_of, fn_names, Function, makes, NamedTree, parent_of, path, place, same, Statement, target_of, Under, Value, VaryValues}
 use Rattle.rdf_values.specs.declared.statement.Statement.TheVariants.{Define, Redefine, Filter, Vary}
-use Rattle.rdf_values.specs.declared.value.Value.{Value}
-use Rattle.rdf_values.specs.declared.vary_values.VaryValues.{VaryValues}
 use Rattle.rdf_values.specs.declared.vary_values.VaryValues.TheVariants.{Lists, Vector}
-use Rattle.rdf_model.specs.ColumnValues.{column_value, expression_at, own_place, varied}
-use Rattle.rdf_model.specs.Demanded.{site_at, Demand, projected, demands_after, met_columns, site_demands, tag_demands, named_demands, column_demands, filter_demands, input_demands, booking_demands}
-use Rattle.rdf_model.specs.EntryOutcomes.{through}
-use Rattle.rdf_model.specs.Evaluation.{Outcome, Gives, Faults, Needs}
-use Rattle.graph_numbers.specs.Sites.{SiteAt, site_in, lists_sites, sites, own_sites, site_count}
+use Rattle.rdf_model.specs.{booking_demands, column_demands, column_value, Demand, demands_after, expression_at, Faults, filter_demands, Gives, input_demands, met_columns, named_demands, Needs, Outcome, own_place, projected, site_at, site_demands, tag_demands, through, varied}
+use Rattle.graph_numbers.specs.{lists_sites, own_sites, site_count, site_in, SiteAt, sites}
 use Rattle.graph_numbers.proofs.Listed.{by_test, next_at}
 use Rattle.graph_numbers.proofs.Extending.{Extends, site_kept, shorter}
 use Rattle.graph_numbers.proofs.Meeting.{In, here, there, in_joined, in_left, in_right}

@@ -1,25 +1,11 @@
 -- What a site comes to, by what its columns' versions come to; and that the sites of these have lower numbers.
 use Rattle.std.proofs.Common.{◌≡◌, ℕ, ◌<◌, ◌≤◌, List, [], length, Some, refl, sym, ◌∙◌, ap, subst, arith, slice_get}
 use Rattle.std.proofs.lemmas.Option.{get_or_from_slice_get, slice_get_within}
-use Rattle.rdf_values.specs.Functions.{Function, fn_names}
-use Rattle.rdf_values.specs.Kinds.{scope_of, column_kind, shape_of}
-use Rattle.rdf_values.specs.Path.{Under, path}
-use Rattle.rdf_values.specs.Verdict.{AreAccepted, scope_at}
-use Rattle.rdf_values.specs.declared.column.Column.{Column}
-use Rattle.rdf_values.specs.declared.statement.Statement.{Statement}
-use Rattle.rdf_values.specs.declared.value.Value.{Value}
-use Rattle.rdf_model.specs.ColumnValues.{column_value, tag_element}
-use Rattle.rdf_model.specs.Evaluation.{Outcome, ◌>>=◌, evaluate, call_outcome, named_call}
-use Rattle.rdf_values.specs.EachColumn.{EachColumn}
-use Rattle.rdf_values.specs.Numbered.{renamed, callee}
-use Rattle.rdf_values.specs.Tree.{Tree}
+use Rattle.rdf_values.specs.{AreAccepted, callee, Column, column_kind, EachColumn, fn_names, Function, path, renamed, scope_at, scope_of, shape_of, Statement, Tree, Under, Value}
+use Rattle.rdf_model.specs.{◌>>=◌, call_outcome, column_value, evaluate, named_call, Outcome, tag_element}
 use Rattle.rdf_model.proofs.Close.{Close, same, missing, evaluate_close}
 use Rattle.rdf_model.proofs.Evaluations.{evaluate_renamed}
-use Rattle.graph_numbers.specs.Sites.{SiteAt, site_in, sites, site_count, site_outcome}
-use Rattle.graph_numbers.specs.Sources.{IsBelow, source_in, sources, site_value, source_value}
-use Rattle.graph_numbers.specs.Versions.{version_at, version_count}
-use Rattle.graph_numbers.specs.declared.source.Source.{Source}
-use Rattle.graph_numbers.specs.declared.source.Source.TheVariants as from
+use Rattle.graph_numbers.specs.{IsBelow, site_count, site_in, site_outcome, site_value, SiteAt, sites, Source, source_in, source_value, sources, version_at, version_count}
 use Rattle.graph_numbers.proofs.Extending.{Extends, source_kept, source_count}
 use Rattle.rdf_model.proofs.KnownColumns.{known_columns, each_weaker, IsKnownColumn}
 use Rattle.graph_numbers.proofs.Origins as origin
@@ -49,14 +35,14 @@ module _ (M : Type 0) (fns : List Function) (columns : List Column) (row : List 
   version_value before c = source_value row (number_value before) (source_in (sources columns (fn_names fns) u before) c)
 
   given_value : (before : List Statement) (src : Source) (o : Outcome M Value) → IsGiven M fns columns row u before src o → source_value row (number_value before) src ≡ o
-  given_value before (from.Cell col) o h = sym h.1
-  given_value before (from.Site t) o h = ap (site_value (λ x. site_outcome fns columns row x u)) h.1 ∙ sym h.2
-  given_value before (from.Element t k tags) o h = ap (λ p. site_value (λ x. site_outcome fns columns row x u) p >>= tag_element tags k) h.1 ∙ sym h.2
+  given_value before (Source.Cell col) o h = sym h.1
+  given_value before (Source.Site t) o h = ap (site_value (λ x. site_outcome fns columns row x u)) h.1 ∙ sym h.2
+  given_value before (Source.Element t k tags) o h = ap (λ p. site_value (λ x. site_outcome fns columns row x u) p >>= tag_element tags k) h.1 ∙ sym h.2
 
   -- the value of a version by its number is what its source gives
   pub source_is : (before : List Statement) (c : ℕ) (o : Outcome M Value) → HasSource M fns columns row u before c o → version_value before c ≡ o
   source_is before c o h =
-      ap (source_value row (number_value before)) (get_or_from_slice_get (sources columns (fn_names fns) u before) c h.0 (from.Cell 0) h.1) ∙ given_value before h.0 o h.2
+      ap (source_value row (number_value before)) (get_or_from_slice_get (sources columns (fn_names fns) u before) c h.0 (Source.Cell 0) h.1) ∙ given_value before h.0 o h.2
 
   pub source_later : (before after : List Statement) → Extends before after → (c : ℕ) (o : Outcome M Value) → HasSource M fns columns row u before c o → HasSource M fns columns row u after c o
   source_later = origin.source_later columns (fn_names fns) u (values M fns columns row u)
@@ -84,13 +70,13 @@ module _ (fns : List Function) (columns : List Column) (u : Under) where
       let at : slice_get (sources columns (fn_names fns) u before) c ≡ Some h.0 = source_kept columns (fn_names fns) u earlier before e c h.0 h.1 in
       let lt = slice_get_within (sources columns (fn_names fns) u before) c h.0 at in (
         subst (λ (n : ℕ). c < n) (source_count columns (fn_names fns) u before) lt,
-        subst (IsBelow (length columns) s) (sym (get_or_from_slice_get (sources columns (fn_names fns) u before) c h.0 (from.Cell 0) at)) (go h.0 h.2),
+        subst (IsBelow (length columns) s) (sym (get_or_from_slice_get (sources columns (fn_names fns) u before) c h.0 (Source.Cell 0) at)) (go h.0 h.2),
       )
     where
       go : (src : Source) → IsGiven ⊥ fns columns [] u earlier src o → IsBelow (length columns) s src
-      go (from.Cell col) k = k.0
-      go (from.Site t) k = let lt = slice_get_within (sites columns (fn_names fns) earlier) t k.0 k.1 in omega (arith, lt, le)
-      go (from.Element t i tags) k = let lt = slice_get_within (sites columns (fn_names fns) earlier) t k.0 k.1 in omega (arith, lt, le)
+      go (Source.Cell col) k = k.0
+      go (Source.Site t) k = let lt = slice_get_within (sites columns (fn_names fns) earlier) t k.0 k.1 in omega (arith, lt, le)
+      go (Source.Element t i tags) k = let lt = slice_get_within (sites columns (fn_names fns) earlier) t k.0 k.1 in omega (arith, lt, le)
 
   -- the columns of a site are versions, given by the table's columns and by sites with lower numbers
   pub columns_below : (before : List Statement) → AreAccepted (fn_names fns) (scope_of columns) before → (s : ℕ) (x : SiteAt) → slice_get (sites columns (fn_names fns) before) s ≡ Some x

@@ -1,13 +1,8 @@
 -- The numbers of a small script, computed from the definitions.
 use Rattle.std.specs.Prelude.{◌≡◌, ℕ, List, [], ◌∷◌, map, reverse, codes, Some, None, refl}
-use Rattle.rdf_values.specs.Depends.{columns_in}
-use Rattle.rdf_values.specs.Path.{Under}
-use Rattle.rdf_values.specs.declared.statement.Statement.{Statement}
+use Rattle.rdf_values.specs.{columns_in, Statement, Under}
 use Rattle.rdf_model.proofs.Analyses.{num, col, add, gt, define, alias, named_filter, vary_pt, vary_vector, sum, report, variations_for, print, three_columns, IsAccepted}
-use Rattle.graph_numbers.specs.Results.{ResultAt, results, loops, runs, numbered_pass}
-use Rattle.graph_numbers.specs.Sites.{SiteAt, sites}
-use Rattle.graph_numbers.specs.Sources.{sources}
-use Rattle.graph_numbers.specs.declared.source.Source.TheVariants as from
+use Rattle.graph_numbers.specs.{loops, numbered_pass, ResultAt, results, runs, SiteAt, sites, Source, sources}
 
 -- the latest first: two variations of pt, two of w by a vector, a column over an alias of the one and the other, a filter, a sum and a report
 abbrev script : List Statement
@@ -24,13 +19,13 @@ is_accepted = refl
 sites_read_versions : map (λ (x : SiteAt). columns_in x.tree) (sites three_columns [] script) ≡ (0 ∷ []) ∷ (0 ∷ []) ∷ (2 ∷ []) ∷ (3 ∷ 4 ∷ []) ∷ (5 ∷ []) ∷ []
 sites_read_versions = refl
 
-nominal_sources : sources three_columns [] None script ≡ from.Cell 0 ∷ from.Cell 1 ∷ from.Cell 2 ∷ from.Cell 0 ∷ from.Cell 1 ∷ from.Site 3 ∷ []
+nominal_sources : sources three_columns [] None script ≡ Source.Cell 0 ∷ Source.Cell 1 ∷ Source.Cell 2 ∷ Source.Cell 0 ∷ Source.Cell 1 ∷ Source.Site 3 ∷ []
 nominal_sources = refl
 
-listed_sources : sources three_columns [] (under (codes "pt") (codes "up")) script ≡ from.Cell 0 ∷ from.Cell 1 ∷ from.Cell 2 ∷ from.Site 1 ∷ from.Cell 1 ∷ from.Site 3 ∷ []
+listed_sources : sources three_columns [] (under (codes "pt") (codes "up")) script ≡ Source.Cell 0 ∷ Source.Cell 1 ∷ Source.Cell 2 ∷ Source.Site 1 ∷ Source.Cell 1 ∷ Source.Site 3 ∷ []
 listed_sources = refl
 
-vector_sources : sources three_columns [] (under (codes "w") (codes "two")) script ≡ from.Cell 0 ∷ from.Cell 1 ∷ from.Cell 2 ∷ from.Cell 0 ∷ from.Element 2 1 2 ∷ from.Site 3 ∷ []
+vector_sources : sources three_columns [] (under (codes "w") (codes "two")) script ≡ Source.Cell 0 ∷ Source.Cell 1 ∷ Source.Cell 2 ∷ Source.Cell 0 ∷ Source.Element 2 1 2 ∷ Source.Site 3 ∷ []
 vector_sources = refl
 
 results_by_numbers : map {B = List ℕ × List ℕ × List ℕ} (λ (r : ResultAt). (r.filters, r.inputs, r.covers)) (results three_columns [] script) ≡ ((4 ∷ []), (5 ∷ []), []) ∷ ((4 ∷ []), [], (0 ∷ [])) ∷ []

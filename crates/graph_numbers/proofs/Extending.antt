@@ -1,16 +1,9 @@
 -- A script that goes on keeps the numbers of what it booked before.
 use Rattle.std.proofs.Common.{◌≡◌, ℕ, suc, ◌+◌, List, [], ◌∷◌, ◌++◌, length, Some, refl, ◌∙◌, ap, slice_get, length-append}
-use Rattle.lemmas.proofs.Places.{kept_at}
-use Rattle.rdf_values.specs.Kinds.{FunctionNames}
-use Rattle.rdf_values.specs.Path.{Under}
-use Rattle.rdf_values.specs.declared.column.Column.{Column}
-use Rattle.rdf_values.specs.declared.statement.Statement.{Statement}
+use Rattle.lemmas.proofs.{kept_at}
+use Rattle.rdf_values.specs.{Column, FunctionNames, Statement, Under, VaryValues}
 use Rattle.rdf_values.specs.declared.statement.Statement.TheVariants.{Vary}
-use Rattle.rdf_values.specs.declared.vary_values.VaryValues.{VaryValues}
-use Rattle.graph_numbers.specs.Sites.{SiteAt, sites, own_sites}
-use Rattle.graph_numbers.specs.Sources.{sources, own_sources, varied_sources, cell_sources, versions, own_versions, varied_versions, cell_versions}
-use Rattle.graph_numbers.specs.Versions.{own_columns, version_count}
-use Rattle.graph_numbers.specs.declared.source.Source.{Source}
+use Rattle.graph_numbers.specs.{cell_sources, cell_versions, own_columns, own_sites, own_sources, own_versions, SiteAt, sites, Source, sources, varied_sources, varied_versions, version_count, versions}
 
 -- the latter statements are the former with others after them
 pub data Extends : List Statement → List Statement → Type 0 where

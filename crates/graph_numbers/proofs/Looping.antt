@@ -1,19 +1,14 @@
 -- The loops by numbers are the event loops of the script.
-use Rattle.std.proofs.Common.{◌≡◌, ℕ, suc, ◌+◌, Bool, true, false, not, List, [], ◌∷◌, ◌++◌, map, length, Option, Some, None, option_map, refl, sym, ◌∙◌, ap, arith, slice_get, if◌then◌else◌, zero-add}
-use Rattle.std.specs.Prelude.{filter, filter_map, flat_map, option_and_then}
+use Rattle.std.proofs.Common.{◌≡◌, ℕ, suc, ◌+◌, Bool, true, false, not, List, [], ◌∷◌, ◌++◌, map, length, Option, Some, None, option_map, refl, sym, ◌∙◌, ap, arith, slice_get, if◌then◌else◌, zero-add, filter, filter_map, flat_map, option_and_then}
 use Rattle.std.proofs.lemmas.List.{append-nil, map-append}
-use Rattle.rdf_values.specs.Bookings.{Booked, booked_by, bookings, result_depends, has_variations, passes_of, Pass, filled, waiting}
-use Rattle.rdf_values.specs.Names.{among}
-use Rattle.rdf_values.specs.Path.{Variation, variations}
-use Rattle.rdf_values.specs.declared.statement.Statement.{Statement}
+use Rattle.rdf_values.specs.{among, Booked, booked_by, bookings, filled, has_variations, Pass, passes_of, result_depends, Statement, Variation, variations, waiting}
 use Rattle.rdf_values.specs.declared.statement.Statement.TheVariants.{Print}
-use Rattle.rdf_model.specs.Loops.{Access, filled_by, accesses, loop_passes, loop_results}
-use Rattle.graph_numbers.specs.Results.{places_from, numbered_pass, pass_at, result_passes, passes_from, own_loop, loops, own_run, runs}
-use Rattle.graph_numbers.specs.declared.pass.Pass.{Pass as NumberedPass}
+use Rattle.rdf_model.specs.{Access, accesses, filled_by, loop_passes, loop_results}
+use Rattle.graph_numbers.specs.{loops, numbered_pass, own_loop, own_run, Pass as NumberedPass, pass_at, passes_from, places_from, result_passes, runs}
 use Rattle.graph_numbers.proofs.Extending.{Extends, itself, further, kept, shorter}
 use Rattle.graph_numbers.proofs.Listed.{by_test, next_at}
 use Rattle.std.proofs.lemmas.List.Elements.{filter_map-append}
-use Rattle.lemmas.proofs.Places.{kept_at}
+use Rattle.lemmas.proofs.{kept_at}
 
 booked_kept : (before after : List Statement) → Extends before after → (k : ℕ) (b : Booked) → slice_get (bookings before) k ≡ Some b → slice_get (bookings after) k ≡ Some b
 booked_kept = kept bookings booked_by (λ before s. refl)

@@ -1,14 +1,10 @@
 -- A column that an evaluation over numbers meets is that of a name that the evaluation over names meets.
-use Rattle.std.proofs.Common.{◌≡◌, ◌≢◌, ℕ, Bool, true, false, List, [], ◌∷◌, ◌++◌, refl, sym, ◌∙◌, ap, subst, nat_eq, if◌then◌else◌}
-use Rattle.std.specs.Prelude.{filter}
+use Rattle.std.proofs.Common.{◌≡◌, ◌≢◌, ℕ, Bool, true, false, List, [], ◌∷◌, ◌++◌, refl, sym, ◌∙◌, ap, subst, nat_eq, if◌then◌else◌, filter}
 use Rattle.std.proofs.lemmas.Bool.Decides.{Decides-eqb}
-use Rattle.rdf_values.specs.Names.{same}
-use Rattle.rdf_values.specs.declared.value.Value.{Value}
-use Rattle.rdf_model.specs.Evaluation.{Outcome, Gives, Faults, Needs, evaluate, is_need, without, is_met, untyped}
-use Rattle.rdf_values.specs.Depends.{columns_in, columns_in_all}
-use Rattle.rdf_values.specs.EachColumn.{EachColumn, EachArgument}
-use Rattle.rdf_values.specs.Tree.{Tree, Trees, Lit, Truth, Col, Neg, Not, Bin, Cond, Pick, Call, End, More}
-use Rattle.rdf_model.specs.Laws.{IsKnown, gives, faults}
+use Rattle.rdf_values.specs.{Bin, Call, Col, columns_in, columns_in_all, Cond, EachArgument, EachColumn, End, Lit, More, Neg, Not, Pick, same, Tree, Trees, Value}
+use Rattle.rdf_model.specs.{evaluate, Faults, Gives, is_met, is_need, IsKnown, Needs, Outcome, untyped, without}
+use Rattle.rdf_values.specs.Expressions.{Truth}
+use Rattle.rdf_model.specs.Laws.{gives, faults}
 use Rattle.rdf_model.proofs.Accepted.{names_equal, itself}
 use Rattle.rdf_model.proofs.Close as close
 use Rattle.rdf_model.proofs.Evaluations.{evaluate_known}

@@ -2,28 +2,13 @@
 use Rattle.std.proofs.Common.{◌≡◌, ℕ, zero, suc, ◌+◌, ◌<◌, Bool, true, false, List, [], ◌∷◌, length, map, Option, Some, None, Ok, refl, sym, ◌∙◌, ap, subst, arith, nat_eq, slice_get, if◌then◌else◌}
 use Rattle.std.proofs.lemmas.Option.{get_or_from_slice_get}
 use Rattle.std.proofs.lemmas.Bool.Decides.{Decides-eqb}
-use Rattle.lemmas.proofs.Places.{kept_at}
-use Rattle.rdf_values.specs.Kinds.{FunctionNames, scope_of, column_kind}
-use Rattle.rdf_values.specs.Names.{same, place}
-use Rattle.rdf_values.specs.Path.{Path, Under, makes, parent_of, path, target_of}
-use Rattle.rdf_values.specs.Tree.{NamedTree}
-use Rattle.rdf_values.specs.Verdict.{AreAccepted, aliases, made_columns, visible_columns, kind_or_int, check_target, check_values, check_lists, first_refusal, refuse_unless, scope_at}
-use Rattle.rdf_values.specs.declared.column.Column.{Column}
-use Rattle.rdf_values.specs.declared.statement.Statement.{Statement}
+use Rattle.lemmas.proofs.{kept_at}
+use Rattle.rdf_values.specs.{aliases, AreAccepted, check_lists, check_target, check_values, ColType, Column, column_kind, first_refusal, FunctionNames, GraphCause, kind_or_int, made_columns, makes, NamedTree, parent_of, Path, path, place, refuse_unless, same, scope_at, scope_of, Statement, target_of, Under, Value, VaryValues, visible_columns}
 use Rattle.rdf_values.specs.declared.statement.Statement.TheVariants.{Define, Redefine, Vary}
-use Rattle.rdf_values.specs.declared.value.ColType.{ColType}
-use Rattle.rdf_values.specs.declared.value.Value.{Value}
-use Rattle.rdf_values.specs.declared.vary_values.VaryValues.{VaryValues}
 use Rattle.rdf_values.specs.declared.vary_values.VaryValues.TheVariants.{Lists, Vector}
-use Rattle.rdf_model.specs.ColumnValues.{cell, expression_at, own_place, varied}
-use Rattle.rdf_model.specs.Demanded.{site_at}
-use Rattle.rdf_values.specs.declared.graph_cause.GraphCause.TheVariants as cause
+use Rattle.rdf_model.specs.{cell, expression_at, own_place, site_at, varied}
 use Rattle.rdf_model.proofs.Accepted.{both_none, unless_holds, passed_over, sound_path, checked_of, target_is_none, own_within, lists_kind, visible_resolved}
-use Rattle.graph_numbers.specs.Sites.{SiteAt, list_start, site_in, list_sites, lists_sites, sites, own_sites, site_count}
-use Rattle.graph_numbers.specs.Sources.{own_source, source_in, sources, own_sources, varied_sources, cell_sources, cell_value}
-use Rattle.graph_numbers.specs.Versions.{column_place, version_or, own_version, version_count, named_version, version_at}
-use Rattle.graph_numbers.specs.declared.source.Source.{Source}
-use Rattle.graph_numbers.specs.declared.source.Source.TheVariants as from
+use Rattle.graph_numbers.specs.{cell_sources, cell_value, column_place, list_sites, list_start, lists_sites, named_version, own_sites, own_source, own_sources, own_version, site_count, site_in, SiteAt, sites, Source, source_in, sources, varied_sources, version_at, version_count, version_or}
 use Rattle.graph_numbers.proofs.Bookable.{list_count}
 use Rattle.graph_numbers.proofs.Listed.{by_test, next_at, place_gives}
 use Rattle.graph_numbers.proofs.Extending.{Extends, itself, further, site_kept, source_kept, source_count}
@@ -35,11 +20,11 @@ cell_is [] row name t h = cc h
 cell_is (c ∷ cs) [] name t h = refl
 cell_is {M} (c ∷ cs) (v ∷ vs) name t h = by_test (same c.name name) (λ e. rw e refl) (λ e. rw e (cell_is cs vs name t (rw e at h)))
 
-cell_source : (n : ℕ) (cs : List Column) (name : List ℕ) (t : ColType) → column_kind (scope_of cs) name ≡ Ok t → slice_get (cell_sources n cs) (column_place cs name) ≡ Some (from.Cell (n + column_place cs name))
+cell_source : (n : ℕ) (cs : List Column) (name : List ℕ) (t : ColType) → column_kind (scope_of cs) name ≡ Ok t → slice_get (cell_sources n cs) (column_place cs name) ≡ Some (Source.Cell (n + column_place cs name))
 cell_source n [] name t h = cc h
 cell_source n (c ∷ cs) name t h =
-    by_test (same c.name name) (λ e. let z : n ≡ n + 0 = omega arith in rw e (ap (λ k. Some (from.Cell k)) z))
-    (λ e. let z : suc n + column_place cs name ≡ n + suc (column_place cs name) = omega arith in rw e (cell_source (suc n) cs name t (rw e at h) ∙ ap (λ k. Some (from.Cell k)) z))
+    by_test (same c.name name) (λ e. let z : n ≡ n + 0 = omega arith in rw e (ap (λ k. Some (Source.Cell k)) z))
+    (λ e. let z : suc n + column_place cs name ≡ n + suc (column_place cs name) = omega arith in rw e (cell_source (suc n) cs name t (rw e at h) ∙ ap (λ k. Some (Source.Cell k)) z))
 
 place_within_columns : (cs : List Column) (name : List ℕ) (t : ColType) → column_kind (scope_of cs) name ≡ Ok t → column_place cs name < length cs
 place_within_columns [] name t h = cc h
@@ -100,18 +85,18 @@ module _ {A : Type 0} (columns : List Column) (names : FunctionNames) (u : Under
 
   -- the source gives this
   abbrev pub IsGiven : List Statement → Source → A → Type 0
-  IsGiven before (from.Cell col) a = (col < length columns) × (a ≡ r.of_cell col)
-  IsGiven before (from.Site t) a = (x : SiteAt) × (slice_get (sites columns names before) t ≡ Some x) × (a ≡ r.of_site x)
-  IsGiven before (from.Element t k tags) a = (x : SiteAt) × (slice_get (sites columns names before) t ≡ Some x) × (a ≡ r.of_element x k tags)
+  IsGiven before (Source.Cell col) a = (col < length columns) × (a ≡ r.of_cell col)
+  IsGiven before (Source.Site t) a = (x : SiteAt) × (slice_get (sites columns names before) t ≡ Some x) × (a ≡ r.of_site x)
+  IsGiven before (Source.Element t k tags) a = (x : SiteAt) × (slice_get (sites columns names before) t ≡ Some x) × (a ≡ r.of_element x k tags)
 
   -- version c has a source, which gives this
   abbrev pub HasSource : List Statement → ℕ → A → Type 0
   HasSource before c a = (src : Source) × (slice_get (sources columns names u before) c ≡ Some src) × IsGiven before src a
 
   given_later : (before after : List Statement) → Extends before after → (src : Source) (a : A) → IsGiven before src a → IsGiven after src a
-  given_later before after e (from.Cell col) a h = h
-  given_later before after e (from.Site t) a h = (h.0, site_kept columns names before after e t h.0 h.1, h.2)
-  given_later before after e (from.Element t k tags) a h = (h.0, site_kept columns names before after e t h.0 h.1, h.2)
+  given_later before after e (Source.Cell col) a h = h
+  given_later before after e (Source.Site t) a h = (h.0, site_kept columns names before after e t h.0 h.1, h.2)
+  given_later before after e (Source.Element t k tags) a h = (h.0, site_kept columns names before after e t h.0 h.1, h.2)
 
   pub source_later : (before after : List Statement) → Extends before after → (c : ℕ) (a : A) → HasSource before c a → HasSource after c a
   source_later before after e c a h = (h.0, source_kept columns names u before after e c h.0 h.1, given_later before after e h.0 a h.2)
@@ -134,14 +119,14 @@ module _ {A : Type 0} (columns : List Column) (names : FunctionNames) (u : Under
 
   -- a column that a Define or Redefine makes
   defined_source : (s : Statement) (before : List Statement) (node parent column name : List ℕ) (expr : NamedTree) (t k : ColType)
-      → own_list before s ≡ from.Site (site_count columns names before) ∷ []
+      → own_list before s ≡ Source.Site (site_count columns names before) ∷ []
       → own_sites columns names before s ≡ site_in columns names before parent (site_at node) expr ∷ []
       → Above before parent → (b : Bool)
       → (if b then Ok k else column_kind (made_columns names (scope_of columns) (path before parent)) name) ≡ Ok t
       → HasSource (s ∷ before) (if b then version_count columns before else named_version columns before parent name)
       (if b then r.of_site (site_in columns names before parent (site_at node) expr) else r.read (path before parent) name)
   defined_source s before node parent column name expr t k own its above true h = (
-    from.Site (site_count columns names before),
+    Source.Site (site_count columns names before),
     own_version_source s before 0 _ (omega arith) ∙ ap (λ xs. slice_get xs 0) own,
     (site_in columns names before parent (site_at node) expr, own_site s before _ its, refl),
   )
@@ -202,18 +187,18 @@ module _ {A : Type 0} (columns : List Column) (names : FunctionNames) (u : Under
         at_tag values None e ok src =
             let a = above name t h in
             let below : source_in (sources columns names u before) (named_version columns before parent name) ≡ a.0 =
-            get_or_from_slice_get (sources columns names u before) (named_version columns before parent name) a.0 (from.Cell 0) a.1 in (
+            get_or_from_slice_get (sources columns names u before) (named_version columns before parent name) a.0 (Source.Cell 0) a.1 in (
               a.0,
               src ∙ (λ l. Some (own_source values (site_count columns names before) i (length tags) (e l) (below l))) ∙ ap Some (own_none values (site_count columns names before) i (length tags) a.0),
               rw e (given_later before (Vary node parent cs values tags vary ∷ before) (further (Vary node parent cs values tags vary) itself) a.0 _ a.2),
             )
         at_tag (Lists lists) (Some k) e ok src =
-            let parts = both_none (refuse_unless (nat_eq (length lists) (length cs)) cause.WrongCount) (check_lists names (visible_columns names (scope_of columns) (path before parent)) (length tags) cs lists) ok in
-            let many : length lists ≡ length cs = (Decides-eqb (length lists) (length cs)).0 (unless_holds (nat_eq (length lists) (length cs)) cause.WrongCount parts.0) in
+            let parts = both_none (refuse_unless (nat_eq (length lists) (length cs)) GraphCause.WrongCount) (check_lists names (visible_columns names (scope_of columns) (path before parent)) (length tags) cs lists) ok in
+            let many : length lists ≡ length cs = (Decides-eqb (length lists) (length cs)).0 (unless_holds (nat_eq (length lists) (length cs)) GraphCause.WrongCount parts.0) in
             let x = lists_kind names (visible_columns names (scope_of columns) (path before parent)) (length tags) name t known cs lists i k p many (own_within u vary tags k e) parts.1 in
             let n : site_count columns names before + list_start lists i + k ≡ length (sites columns names before) + (list_start lists i + k) = omega arith in
             let z : 0 + i ≡ i = omega arith in (
-              from.Site (site_count columns names before + list_start lists i + k),
+              Source.Site (site_count columns names before + list_start lists i + k),
               src ∙ (λ l. Some (own_source (Lists lists) (site_count columns names before) i (length tags) (e l) (source_in (sources columns names u before) (named_version columns before parent name)))),
               (
                 site_in columns names before parent (record { node = node; column = i; tag = k }) x.0,
@@ -223,7 +208,7 @@ module _ {A : Type 0} (columns : List Column) (names : FunctionNames) (u : Under
               ),
             )
         at_tag (Vector x) (Some k) e ok src = (
-          from.Element (site_count columns names before) k (length tags),
+          Source.Element (site_count columns names before) k (length tags),
           src ∙ (λ l. Some (own_source (Vector x) (site_count columns names before) i (length tags) (e l) (source_in (sources columns names u before) (named_version columns before parent name)))),
           (site_in columns names before parent (site_at node) x, own_site (Vary node parent cs (Vector x) tags vary) before _ refl, rw e (of_vector before parent node x (length tags) i k)),
         )
@@ -247,7 +232,7 @@ module _ {A : Type 0} (columns : List Column) (names : FunctionNames) (u : Under
     has_source [] good node name t h =
         let z : column_place columns name ≡ 0 + column_place columns name = omega arith in
         let lt = place_within_columns columns name t h in (
-          from.Cell (0 + column_place columns name),
+          Source.Cell (0 + column_place columns name),
           cell_source 0 columns name t h,
           (omega (arith, lt), heads name t h ∙ ap r.of_cell z),
         )

@@ -2,32 +2,13 @@
 use Rattle.std.proofs.Common.{◌≡◌, ℕ, ◌+◌, Bool, true, false, List, [], ◌∷◌, ◌++◌, length, map, Option, Some, None, Ok, Err, Result, refl, sym, ◌∙◌, ap, arith, if◌then◌else◌}
 use Rattle.std.specs.Prelude.{⊤}
 use Rattle.std.proofs.lemmas.List.{append-nil}
-use Rattle.rdf_values.specs.Bookings.{columns_of, bookings}
-use Rattle.rdf_values.specs.Functions.{Function, fn_names}
-use Rattle.rdf_values.specs.Kinds.{scope_of, column_kind}
-use Rattle.rdf_values.specs.Path.{Under, makes, parent_of, path}
-use Rattle.rdf_values.specs.Tree.{NamedTree}
-use Rattle.rdf_values.specs.Verdict.{AreAccepted, scope_at, check_columns, check_node, check_edges, check_results, check_passes, may_begin, permitted_kinds}
-use Rattle.rdf_values.specs.declared.action.ActionKind.{ActionKind}
-use Rattle.rdf_values.specs.declared.column.Column.{Column}
-use Rattle.rdf_values.specs.declared.graph_cause.GraphCause.{GraphCause}
-use Rattle.rdf_values.specs.declared.statement.Statement.{Statement}
+use Rattle.rdf_values.specs.{ActionKind, AreAccepted, bookings, check_columns, check_edges, check_node, check_passes, check_results, ColType, Column, column_kind, columns_of, fn_names, Function, GraphCause, makes, may_begin, NamedTree, parent_of, path, permitted_kinds, scope_at, scope_of, Statement, Under, Value}
 use Rattle.rdf_values.specs.declared.statement.Statement.TheVariants.{Filter, Action}
-use Rattle.rdf_values.specs.declared.value.ColType.{ColType}
-use Rattle.rdf_values.specs.declared.value.Value.{Value}
-use Rattle.rdf_model.specs.ColumnValues.{column_value, expression_value}
-use Rattle.rdf_model.specs.Demanded.{site_at}
-use Rattle.rdf_model.specs.EntryOutcomes.{Skip, truth_of, feed_outcome, through, action_outcome}
-use Rattle.rdf_model.specs.Evaluation.{Outcome, Gives, ◌>>=◌, for_all}
-use Rattle.rdf_values.specs.declared.graph_cause.GraphCause.TheVariants as cause
+use Rattle.rdf_model.specs.{◌>>=◌, action_outcome, column_value, expression_value, feed_outcome, for_all, Gives, Outcome, site_at, Skip, through, truth_of}
 use Rattle.rdf_model.proofs.Accepted.{both_none}
-use Rattle.graph_numbers.specs.Outcomes.{through_sites}
-use Rattle.graph_numbers.specs.Sites.{site_in, sites, site_count, site_outcome, own_filter_site, filter_sites}
-use Rattle.graph_numbers.specs.Sources.{site_value}
-use Rattle.graph_numbers.specs.Versions.{version_at}
+use Rattle.graph_numbers.specs.{filter_sites, own_filter_site, site_count, site_in, site_outcome, site_value, sites, through_sites, version_at}
 use Rattle.graph_numbers.proofs.Listed.{by_test, next_at}
-use Rattle.graph_numbers.proofs.Extending.{shorter}
-use Rattle.graph_numbers.proofs.Extending.{Extends, site_kept}
+use Rattle.graph_numbers.proofs.Extending.{shorter, Extends, site_kept}
 use Rattle.graph_numbers.proofs.ColumnSources.{column_source}
 use Rattle.graph_numbers.proofs.Equations.{number_value, version_value, source_is, source_later}
 
@@ -92,7 +73,7 @@ module _ (M : Type 0) (fns : List Function) (columns : List Column) (row : List 
       go (column_kind (scope_at (fn_names fns) (scope_of columns) earlier node) c) refl h (λ t k. checked_visible earlier node permitted (kinds ++ t ∷ []) cs k)
     where
       go : (r : Result ColType GraphCause) → column_kind (scope_at (fn_names fns) (scope_of columns) earlier node) c ≡ r
-          → (elim r as (λ _. Option GraphCause) [ Err e ↦ Some e | Ok t ↦ (if may_begin permitted (kinds ++ t ∷ []) then check_columns (scope_at (fn_names fns) (scope_of columns) earlier node) permitted (kinds ++ t ∷ []) cs else Some cause.WrongType) ]) ≡ None
+          → (elim r as (λ _. Option GraphCause) [ Err e ↦ Some e | Ok t ↦ (if may_begin permitted (kinds ++ t ∷ []) then check_columns (scope_at (fn_names fns) (scope_of columns) earlier node) permitted (kinds ++ t ∷ []) cs else Some GraphCause.WrongType) ]) ≡ None
           → ((t : ColType) → check_columns (scope_at (fn_names fns) (scope_of columns) earlier node) permitted (kinds ++ t ∷ []) cs ≡ None → AreVisible earlier node cs)
           → AreVisible earlier node (c ∷ cs)
       go (Err e) q k next = cc k

@@ -1,23 +1,13 @@
 -- Where each site stands: after those of the statements before its own, over columns that are visible there.
 use Rattle.std.proofs.Common.{subst, ◌≡◌, ℕ, sym, zero, suc, ◌≤◌, List, [], ◌∷◌, length, map, Some, None, Ok, arith, nat_eq, slice_get}
 use Rattle.std.proofs.lemmas.Bool.Decides.{Decides-eqb}
-use Rattle.rdf_values.specs.Kinds.{shape_of, FunctionNames, scope_of, column_kind, kind_of}
-use Rattle.rdf_values.specs.Tree.{NamedTree}
-use Rattle.rdf_values.specs.Verdict.{AreAccepted, check, check_node, check_list, check_lists, check_vector_column, expect_kind, first_refusal, refuse_unless, kind_or_int, scope_at}
-use Rattle.rdf_values.specs.declared.column.Column.{Column}
-use Rattle.rdf_values.specs.declared.statement.Statement.{Statement}
+use Rattle.rdf_values.specs.{AreAccepted, callee, check, check_list, check_lists, check_node, check_vector_column, ColType, Column, column_kind, EachColumn, expect_kind, first_refusal, FunctionNames, GraphCause, kind_of, kind_or_int, NamedTree, refuse_unless, scope_at, scope_of, shape_of, Statement}
 use Rattle.rdf_values.specs.declared.statement.Statement.TheVariants.{Define, Redefine, Filter, Vary}
-use Rattle.rdf_values.specs.declared.value.ColType.{ColType}
 use Rattle.rdf_values.specs.declared.vary_values.VaryValues.TheVariants.{Lists, Vector}
-use Rattle.rdf_model.specs.Demanded.{Site, site_at}
-use Rattle.rdf_values.specs.declared.value.ColType.TheVariants as kind
-use Rattle.rdf_values.specs.declared.graph_cause.GraphCause.TheVariants as cause
+use Rattle.rdf_model.specs.{Site, site_at}
 use Rattle.rdf_model.proofs.Accepted.{both_none, kind_known, kind_expected, unless_holds, checked_of}
-use Rattle.rdf_values.specs.EachColumn.{EachColumn}
-use Rattle.rdf_values.specs.Numbered.{callee}
 use Rattle.rdf_model.proofs.KnownColumns.{IsKnownColumn, each_renamed, each_weaker, known_columns}
-use Rattle.graph_numbers.specs.Sites.{SiteAt, site_in, list_sites, lists_sites, sites, own_sites, site_count}
-use Rattle.graph_numbers.specs.Versions.{version_at}
+use Rattle.graph_numbers.specs.{list_sites, lists_sites, own_sites, site_count, site_in, SiteAt, sites, version_at}
 use Rattle.graph_numbers.proofs.Listed.{joined, only_at}
 use Rattle.graph_numbers.proofs.Extending.{Extends, itself, shorter}
 
@@ -58,7 +48,7 @@ module _ (header : List Column) (names : FunctionNames) where
   lists_own before parent node tags i l [] (es ∷ lists) x many ok h = cc many
   lists_own before parent node tags i l (c ∷ columns) (es ∷ lists) x many ok h =
       let p = both_none (check_list names (scope_at names (scope_of header) before parent) tags c es) (check_lists names (scope_at names (scope_of header) before parent) tags columns lists) ok in
-      let q = both_none (refuse_unless (nat_eq (length es) tags) cause.WrongCount) (map (λ e. expect_kind (kind_or_int (column_kind (scope_at names (scope_of header) before parent) c)) (kind_of (scope_at names (scope_of header) before parent) names e)) es) p.0 in
+      let q = both_none (refuse_unless (nat_eq (length es) tags) GraphCause.WrongCount) (map (λ e. expect_kind (kind_or_int (column_kind (scope_at names (scope_of header) before parent) c)) (kind_of (scope_at names (scope_of header) before parent) names e)) es) p.0 in
       joined (list_sites header names before parent node i 0 es) (lists_sites header names before parent node (suc i) lists) l x h (λ r. list_own before parent node i 0 l _ es x q.1 r)
       (λ k e r. lists_own before parent node tags (suc i) k columns lists x (omega (arith, many)) p.1 r)
 
@@ -69,19 +59,19 @@ module _ (header : List Column) (names : FunctionNames) where
   own_placed before (Redefine node parent column expr) k x ok h =
       let t = kind_known (kind_of (scope_at names (scope_of header) before parent) names expr) (checked_of names (scope_of header) before (Redefine node parent column expr) ok) in (parent, (site_at node, expr, t.0, sym (only_at _ x k h), t.1))
   own_placed before (Filter node parent expr label) k x ok h =
-      let p = both_none (check_node before node parent) (expect_kind kind.Bool (kind_of (scope_at names (scope_of header) before parent) names expr) ∷ []) ok in
-      let q = both_none (expect_kind kind.Bool (kind_of (scope_at names (scope_of header) before parent) names expr)) [] p.1 in (parent, (site_at node, expr, kind.Bool, sym (only_at _ x k h), kind_expected kind.Bool _ q.0))
+      let p = both_none (check_node before node parent) (expect_kind ColType.Bool (kind_of (scope_at names (scope_of header) before parent) names expr) ∷ []) ok in
+      let q = both_none (expect_kind ColType.Bool (kind_of (scope_at names (scope_of header) before parent) names expr)) [] p.1 in (parent, (site_at node, expr, ColType.Bool, sym (only_at _ x k h), kind_expected ColType.Bool _ q.0))
   own_placed before (Vary node parent columns (Lists lists) tags vary) k x ok h =
       let c = checked_of names (scope_of header) before (Vary node parent columns (Lists lists) tags vary) ok in
-      let p = both_none (refuse_unless (nat_eq (length lists) (length columns)) cause.WrongCount) (check_lists names (scope_at names (scope_of header) before parent) (length tags) columns lists) c.1 in
-      let many : length lists ≡ length columns = (Decides-eqb (length lists) (length columns)).0 (unless_holds (nat_eq (length lists) (length columns)) cause.WrongCount p.0) in
+      let p = both_none (refuse_unless (nat_eq (length lists) (length columns)) GraphCause.WrongCount) (check_lists names (scope_at names (scope_of header) before parent) (length tags) columns lists) c.1 in
+      let many : length lists ≡ length columns = (Decides-eqb (length lists) (length columns)).0 (unless_holds (nat_eq (length lists) (length columns)) GraphCause.WrongCount p.0) in
       (parent, lists_own before parent node (length tags) 0 k columns lists x many p.1 h)
   own_placed before (Vary node parent columns (Vector e) tags vary) k x ok h =
       let c = checked_of names (scope_of header) before (Vary node parent columns (Vector e) tags vary) ok in
-      let p = both_none (refuse_unless (nat_eq (length columns) 1) cause.WrongCount)
-      (expect_kind kind.Vect (kind_of (scope_at names (scope_of header) before parent) names e) ∷ check_vector_column (scope_at names (scope_of header) before parent) columns ∷ []) c.1 in
-      let q = both_none (expect_kind kind.Vect (kind_of (scope_at names (scope_of header) before parent) names e)) (check_vector_column (scope_at names (scope_of header) before parent) columns ∷ []) p.1 in
-      (parent, (site_at node, e, kind.Vect, sym (only_at _ x k h), kind_expected kind.Vect _ q.0))
+      let p = both_none (refuse_unless (nat_eq (length columns) 1) GraphCause.WrongCount)
+      (expect_kind ColType.Vect (kind_of (scope_at names (scope_of header) before parent) names e) ∷ check_vector_column (scope_at names (scope_of header) before parent) columns ∷ []) c.1 in
+      let q = both_none (expect_kind ColType.Vect (kind_of (scope_at names (scope_of header) before parent) names e)) (check_vector_column (scope_at names (scope_of header) before parent) columns ∷ []) p.1 in
+      (parent, (site_at node, e, ColType.Vect, sym (only_at _ x k h), kind_expected ColType.Vect _ q.0))
   own_placed before s k x ok h = cc h
 
   placed_upto : (before upto : List Statement) → Extends upto before → AreAccepted names (scope_of header) upto → (s : ℕ) (x : SiteAt) → slice_get (sites header names upto) s ≡ Some x → IsPlaced before s x

@@ -2,13 +2,9 @@
 use Rattle.std.proofs.Common.{◌≡◌, ℕ, ◌<◌, ◌≤◌, List, [], ◌∷◌, ◌++◌, Some, sym, subst, arith, slice_get, length-append}
 use Rattle.std.proofs.lemmas.List.{append-nil}
 use Rattle.std.specs.List.{AllByRecursion}
-use Rattle.rdf_values.specs.Kinds.{FunctionNames}
-use Rattle.rdf_values.specs.Path.{makes, parent_of}
-use Rattle.rdf_values.specs.declared.column.Column.{Column}
-use Rattle.rdf_values.specs.declared.statement.Statement.{Statement}
+use Rattle.rdf_values.specs.{Column, FunctionNames, makes, parent_of, Statement}
 use Rattle.rdf_values.specs.declared.statement.Statement.TheVariants.{Filter}
-use Rattle.graph_numbers.specs.Results.{FilterAt, filters}
-use Rattle.graph_numbers.specs.Sites.{own_filter_site, own_sites, sites, site_count, filter_sites}
+use Rattle.graph_numbers.specs.{filter_sites, FilterAt, filters, own_filter_site, own_sites, site_count, sites}
 use Rattle.graph_numbers.proofs.Listed.{by_test}
 use Rattle.graph_numbers.proofs.Walks.{each_filter}
 

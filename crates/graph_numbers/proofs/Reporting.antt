@@ -1,21 +1,10 @@
 -- What each result demands, by its numbers.
 use Rattle.std.proofs.Common.{◌≡◌, ℕ, List, Some, None, slice_get}
 use Rattle.std.specs.Prelude.{⊤}
-use Rattle.rdf_values.specs.Bookings.{Booking, ActionAt, ReportOn}
-use Rattle.rdf_values.specs.Functions.{Function, fn_names}
-use Rattle.rdf_values.specs.Kinds.{scope_of}
-use Rattle.rdf_values.specs.Path.{Under}
-use Rattle.rdf_values.specs.Verdict.{AreAccepted}
-use Rattle.rdf_values.specs.declared.column.Column.{Column}
-use Rattle.rdf_values.specs.declared.statement.Statement.{Statement}
+use Rattle.rdf_values.specs.{ActionAt, AreAccepted, Booking, Column, fn_names, Function, ReportOn, scope_of, Statement, Under, Value}
 use Rattle.rdf_values.specs.declared.statement.Statement.TheVariants.{Filter, Action}
-use Rattle.rdf_values.specs.declared.value.Value.{Value}
-use Rattle.rdf_model.specs.Demanded.{Demand, filter_demands, booking_demands}
-use Rattle.rdf_model.specs.Evaluation.{Outcome}
-use Rattle.graph_numbers.specs.Meets.{HasFilters, HasInputs, IfPassed}
-use Rattle.graph_numbers.specs.Outcomes.{through_sites}
-use Rattle.graph_numbers.specs.Results.{FilterAt, ResultAt, filters, results}
-use Rattle.graph_numbers.specs.Sources.{source_in, sources}
+use Rattle.rdf_model.specs.{booking_demands, Demand, filter_demands, Outcome}
+use Rattle.graph_numbers.specs.{FilterAt, filters, HasFilters, HasInputs, IfPassed, ResultAt, results, source_in, sources, through_sites}
 use Rattle.graph_numbers.proofs.Closing.{IsDemanded, action_demanded, filter_statement, filters_demanded}
 use Rattle.graph_numbers.proofs.Demands.{AreExplained, action_explained, filter_statement as filter_explained, filters_explained}
 use Rattle.graph_numbers.proofs.Equations.{number_value, version_value}

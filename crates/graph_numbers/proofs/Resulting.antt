@@ -1,19 +1,10 @@
 -- Each result by its numbers comes to what its booking does.
 use Rattle.std.proofs.Common.{◌≡◌, ℕ, List, [], ◌∷◌, ◌++◌, map, Some, None, refl, ◌∙◌, slice_get}
 use Rattle.std.proofs.lemmas.List.{map-append}
-use Rattle.rdf_values.specs.Bookings.{covered, booked_by, bookings}
-use Rattle.rdf_values.specs.Functions.{Function, fn_names}
-use Rattle.rdf_values.specs.Kinds.{FunctionNames, scope_of}
-use Rattle.rdf_values.specs.Path.{Under, path}
-use Rattle.rdf_values.specs.Verdict.{AreAccepted}
-use Rattle.rdf_values.specs.declared.column.Column.{Column}
-use Rattle.rdf_values.specs.declared.statement.Statement.{Statement}
+use Rattle.rdf_values.specs.{AreAccepted, booked_by, bookings, Column, covered, fn_names, Function, FunctionNames, path, scope_of, Statement, Under, Value}
 use Rattle.rdf_values.specs.declared.statement.Statement.TheVariants.{Action, Report}
-use Rattle.rdf_values.specs.declared.value.Value.{Value}
-use Rattle.rdf_model.specs.EntryOutcomes.{Entry, booking_outcome}
-use Rattle.rdf_model.specs.Evaluation.{Outcome}
-use Rattle.graph_numbers.specs.Outcomes.{booking_numbers}
-use Rattle.graph_numbers.specs.Results.{ResultAt, covered_at, filters, own_results, results}
+use Rattle.rdf_model.specs.{booking_outcome, Entry, Outcome}
+use Rattle.graph_numbers.specs.{booking_numbers, covered_at, filters, own_results, ResultAt, results}
 use Rattle.graph_numbers.proofs.Extending.{Extends, shorter}
 use Rattle.graph_numbers.proofs.Equations.{number_value, version_value}
 use Rattle.graph_numbers.proofs.Passing.{action_is}

@@ -1,29 +1,13 @@
 -- The version of a visible column has the column's kind, and comes to a value of it.
 use Rattle.std.proofs.Common.{◌≡◌, ℕ, ◌+◌, Bool, true, false, List, [], ◌∷◌, map, length, Option, Some, None, Ok, refl, sym, ◌∙◌, ap, subst, arith, slice_get, if◌then◌else◌}
 use Rattle.std.proofs.lemmas.List.{length-append, length-map}
-use Rattle.lemmas.proofs.Places.{kept_at, mapped_at}
-use Rattle.rdf_values.specs.Functions.{fn_names}
-use Rattle.rdf_values.specs.Kinds.{FunctionNames, scope_of, column_kind}
-use Rattle.rdf_values.specs.Names.{same, place}
-use Rattle.rdf_values.specs.Path.{Under, makes, parent_of, path, target_of}
-use Rattle.rdf_values.specs.Verdict.{AreAccepted, aliases, made_columns, visible_columns, kind_or_int, check_target, first_refusal, scope_at}
-use Rattle.rdf_values.specs.declared.column.Column.{Column}
-use Rattle.rdf_values.specs.declared.statement.Statement.{Statement}
+use Rattle.lemmas.proofs.{kept_at, mapped_at}
+use Rattle.rdf_values.specs.{aliases, AreAccepted, check_target, ColType, Column, column_kind, EachColumn, first_refusal, FitsRow, fn_names, FunctionNames, kind_or_int, made_columns, makes, parent_of, path, place, same, scope_at, scope_of, Statement, target_of, Under, Value, visible_columns}
 use Rattle.rdf_values.specs.declared.statement.Statement.TheVariants.{Define, Redefine, Vary}
-use Rattle.rdf_values.specs.declared.value.ColType.{ColType}
-use Rattle.rdf_values.specs.declared.value.Value.{Value}
-use Rattle.rdf_model.specs.ColumnValues.{column_value}
-use Rattle.rdf_model.specs.Demanded.{with_needs}
-use Rattle.rdf_model.specs.Evaluation.{Outcome, Gives, Faults, Needs}
-use Rattle.rdf_model.specs.Results.{Dataset}
-use Rattle.rdf_values.specs.EachColumn.{EachColumn}
-use Rattle.rdf_values.specs.Tables.{FitsRow}
-use Rattle.rdf_model.specs.Laws.{FitsOutcome}
+use Rattle.rdf_model.specs.{column_value, Dataset, Faults, FitsOutcome, Gives, Needs, Outcome, with_needs}
 use Rattle.rdf_model.proofs.Accepted.{passed_over, checked_of, target_is_none, visible_resolved, sound_path, column_fits}
 use Rattle.rdf_model.proofs.Typing.{same_ok}
-use Rattle.graph_numbers.specs.Kinds.{own_kinds, version_kinds}
-use Rattle.graph_numbers.specs.Sites.{SiteAt, sites}
-use Rattle.graph_numbers.specs.Versions.{column_place, own_columns, version_or, own_version, version_count, named_version, version_at}
+use Rattle.graph_numbers.specs.{column_place, named_version, own_columns, own_kinds, own_version, SiteAt, sites, version_at, version_count, version_kinds, version_or}
 use Rattle.graph_numbers.proofs.ColumnSources.{column_source}
 use Rattle.graph_numbers.proofs.Equations.{version_value, source_is, source_later}
 use Rattle.graph_numbers.proofs.Extending.{Extends, kept}

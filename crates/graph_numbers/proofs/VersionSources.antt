@@ -1,28 +1,13 @@
 -- A version's source is what the version says.
 use Rattle.std.proofs.Common.{◌≡◌, ℕ, zero, suc, ◌+◌, ◌<◌, Bool, true, false, List, [], ◌∷◌, length, map, Option, Some, None, option_map, refl, sym, ◌∙◌, ap, subst, arith, slice_get, if◌then◌else◌}
 use Rattle.std.proofs.lemmas.Option.{get_or_from_slice_get, slice_get_within}
-use Rattle.lemmas.proofs.Places.{mapped_at, something_at}
-use Rattle.rdf_values.specs.Kinds.{FunctionNames, scope_of}
-use Rattle.rdf_values.specs.Names.{same, place}
-use Rattle.rdf_values.specs.Path.{Under, Variation, own_variations, path, target_of, variations}
-use Rattle.rdf_values.specs.Verdict.{AreAccepted, check_target, first_refusal, is_alias, is_visible, refuse_if, refuse_unless, scope_at}
-use Rattle.rdf_values.specs.declared.column.Column.{Column}
-use Rattle.rdf_values.specs.declared.statement.Statement.{Statement}
+use Rattle.lemmas.proofs.{mapped_at, something_at}
+use Rattle.rdf_values.specs.{AreAccepted, check_target, Column, first_refusal, FunctionNames, GraphCause, is_alias, is_visible, own_variations, path, place, refuse_if, refuse_unless, same, scope_at, scope_of, Statement, target_of, Under, Variation, variations, VaryValues}
 use Rattle.rdf_values.specs.declared.statement.Statement.TheVariants.{Define, Redefine, Vary}
-use Rattle.rdf_values.specs.declared.vary_values.VaryValues.{VaryValues}
 use Rattle.rdf_values.specs.declared.vary_values.VaryValues.TheVariants.{Lists, Vector}
-use Rattle.rdf_model.specs.ColumnValues.{own_place}
-use Rattle.rdf_values.specs.declared.graph_cause.GraphCause.TheVariants as cause
+use Rattle.rdf_model.specs.{own_place}
 use Rattle.rdf_model.proofs.Accepted.{both_none, checked_of, if_fails, itself as same_as_itself, names_equal, no_target, unless_holds, visible_known}
-use Rattle.graph_numbers.specs.Kinds.{version_kinds}
-use Rattle.graph_numbers.specs.Results.{under_at}
-use Rattle.graph_numbers.specs.Sites.{list_start, site_count}
-use Rattle.graph_numbers.specs.Sources.{IsSourceOf, cell_sources, cell_versions, numbers_from, own_source, own_sources, own_versions, source_in, sources, tag_source, varied_sources, varied_version, varied_versions, versions}
-use Rattle.graph_numbers.specs.Versions.{named_version}
-use Rattle.graph_numbers.specs.declared.source.Source.{Source}
-use Rattle.graph_numbers.specs.declared.version.Version.{Version}
-use Rattle.graph_numbers.specs.declared.source.Source.TheVariants as from
-use Rattle.graph_numbers.specs.declared.version.Version.TheVariants as as_version
+use Rattle.graph_numbers.specs.{cell_sources, cell_versions, IsSourceOf, list_start, named_version, numbers_from, own_source, own_sources, own_versions, site_count, Source, source_in, sources, tag_source, under_at, varied_sources, varied_version, varied_versions, Version, version_kinds, versions}
 use Rattle.graph_numbers.proofs.Apart.{variation_number}
 use Rattle.graph_numbers.proofs.Extending.{Extends, itself, further, kept, shorter, source_count, source_kept, versions_count}
 use Rattle.graph_numbers.proofs.Listed.{by_test, joined, next_at, place_gives}
@@ -109,24 +94,24 @@ module _ (header : List Column) (names : FunctionNames) (script : List Statement
   list_of before = sources header names under before
 
   abbrev Says : List Statement → Version → Source → Type 0
-  Says before (as_version.Cell col) src = src ≡ from.Cell col
-  Says before (as_version.Computed site) src = src ≡ from.Site site
-  Says before (as_version.Varied below first tags its vector) src =
+  Says before (Version.Cell col) src = src ≡ Source.Cell col
+  Says before (Version.Computed site) src = src ≡ Source.Site site
+  Says before (Version.Varied below first tags its vector) src =
       (b : Source) × (slice_get (list_of before) below ≡ Some b)
       × ((k : ℕ) → k < tags → v ≡ Some (first + k) → Some src ≡ tag_source its tags vector k)
       × (((k : ℕ) → k < tags → v ≡ Some (first + k) → ⊥) → src ≡ b)
 
   says_further : (before : List Statement) (s : Statement) (x : Version) (src : Source) → Says before x src → Says (s ∷ before) x src
-  says_further before s (as_version.Cell col) src h = h
-  says_further before s (as_version.Computed site) src h = h
-  says_further before s (as_version.Varied below first tags its vector) src h = (h.0, source_kept header names under before (s ∷ before) (further s itself) below h.0 h.1, h.2, h.3)
+  says_further before s (Version.Cell col) src h = h
+  says_further before s (Version.Computed site) src h = h
+  says_further before s (Version.Varied below first tags its vector) src h = (h.0, source_kept header names under before (s ∷ before) (further s itself) below h.0 h.1, h.2, h.3)
 
   abbrev HasSaid : List Statement → List Source → Version → ℕ → Type 0
   HasSaid before list x c = (src : Source) × (slice_get list c ≡ Some src) × Says before x src
 
   said_by_cell : (n : ℕ) (cs : List Column) (c : ℕ) (x : Version) → slice_get (cell_versions header names n cs) c ≡ Some x → HasSaid [] (cell_sources n cs) x c
   said_by_cell n [] c x h = cc h
-  said_by_cell n (col ∷ cs) zero x h = let is : as_version.Cell n ≡ x = cc h in (from.Cell n, refl, subst (λ (y : Version). Says [] y (from.Cell n)) is refl)
+  said_by_cell n (col ∷ cs) zero x h = let is : Version.Cell n ≡ x = cc h in (Source.Cell n, refl, subst (λ (y : Version). Says [] y (Source.Cell n)) is refl)
   said_by_cell n (col ∷ cs) (suc c) x h = said_by_cell (suc n) cs c x h
 
   one_place : (first k j : ℕ) → v ≡ Some (first + k) → v ≡ Some (first + j) → j ≡ k
@@ -141,22 +126,22 @@ module _ (header : List Column) (names : FunctionNames) (script : List Statement
     b,
     at,
     (λ j lt is.
-        ap (λ n. Some (from.Site (site + list_start lists i + n))) (sym (one_place first k j own.1 is))
-        ∙ sym (ap (option_map (λ s. from.Site s)) (number_at (site + list_start lists i) tags j lt))),
+        ap (λ n. Some (Source.Site (site + list_start lists i + n))) (sym (one_place first k j own.1 is))
+        ∙ sym (ap (option_map (λ s. Source.Site s)) (number_at (site + list_start lists i) tags j lt))),
     λ none. absurd (none k own.0 own.1),
   )
   said_by_vary before (Vector e) below first site i tags (Some k) b own at =
-      (b, at, (λ j lt is. ap (λ n. Some (from.Element site n (length tags))) (sym (one_place first k j own.1 is))), λ none. absurd (none k own.0 own.1))
+      (b, at, (λ j lt is. ap (λ n. Some (Source.Element site n (length tags))) (sym (one_place first k j own.1 is))), λ none. absurd (none k own.0 own.1))
 
   -- the version of a column that a Vary changes is there
   below_there : (before : List Statement) → AreAccepted names (scope_of header) before → (parent name : List ℕ)
       → check_target (scope_at names (scope_of header) before parent) (path before parent) name ≡ None
       → (b : Source) × (slice_get (list_of before) (named_version header before parent name) ≡ Some b)
   below_there before ok parent name h =
-      let p = both_none (refuse_unless (is_visible (scope_at names (scope_of header) before parent) name) cause.UnknownColumn) (refuse_if (is_alias (path before parent) name) cause.AliasTarget ∷ []) h in
-      let q = both_none (refuse_if (is_alias (path before parent) name) cause.AliasTarget) [] p.1 in
-      let t = visible_known (scope_at names (scope_of header) before parent) name (unless_holds (is_visible (scope_at names (scope_of header) before parent) name) cause.UnknownColumn p.0) in
-      let own : target_of (path before parent) name ≡ name = no_target (path before parent) name (if_fails (is_alias (path before parent) name) cause.AliasTarget q.0) in
+      let p = both_none (refuse_unless (is_visible (scope_at names (scope_of header) before parent) name) GraphCause.UnknownColumn) (refuse_if (is_alias (path before parent) name) GraphCause.AliasTarget ∷ []) h in
+      let q = both_none (refuse_if (is_alias (path before parent) name) GraphCause.AliasTarget) [] p.1 in
+      let t = visible_known (scope_at names (scope_of header) before parent) name (unless_holds (is_visible (scope_at names (scope_of header) before parent) name) GraphCause.UnknownColumn p.0) in
+      let own : target_of (path before parent) name ≡ name = no_target (path before parent) name (if_fails (is_alias (path before parent) name) GraphCause.AliasTarget q.0) in
       let at : slice_get (version_kinds header names before) (named_version header before parent name) ≡ Some t.0 =
       ap (λ n. slice_get (version_kinds header names before) (named_version header before parent n)) (sym own) ∙ visible_kind header names before ok parent name t.0 t.1 in
       let lt = slice_get_within (version_kinds header names before) (named_version header before parent name) t.0 at in
@@ -174,7 +159,7 @@ module _ (header : List Column) (names : FunctionNames) (script : List Statement
       let p = both_none (check_target (scope_at names (scope_of header) before parent) (path before parent) name) (map (check_target (scope_at names (scope_of header) before parent) (path before parent)) cs) free in
       let b = below_there before ok parent name p.0 in
       let below : source_in (list_of before) (named_version header before parent name) ≡ b.0 =
-      get_or_from_slice_get (list_of before) (named_version header before parent name) b.0 (from.Cell 0) b.1 in
+      get_or_from_slice_get (list_of before) (named_version header before parent name) b.0 (Source.Cell 0) b.1 in
       let is : varied_version header names values (named_version header before parent name) (length (variations before)) (site_count header names before) tags i ≡ x = cc h in (
         own_source values (site_count header names before) i (length tags) (own_place under vary tags) b.0,
         ap (λ (s : Source). Some (own_source values (site_count header names before) i (length tags) (own_place under vary tags) s)) below,
@@ -185,8 +170,8 @@ module _ (header : List Column) (names : FunctionNames) (script : List Statement
       let p = both_none (check_target (scope_at names (scope_of header) before parent) (path before parent) name) (map (check_target (scope_at names (scope_of header) before parent) (path before parent)) cs) free in
       said_by_columns before ok parent values tags vary own (suc i) c cs x p.1 h
 
-  said_by_site : (before : List Statement) (c : ℕ) (x : Version) → slice_get (as_version.Computed (site_count header names before) ∷ []) c ≡ Some x → HasSaid before (from.Site (site_count header names before) ∷ []) x c
-  said_by_site before zero x h = let is : as_version.Computed (site_count header names before) ≡ x = cc h in (from.Site (site_count header names before), refl, subst (λ (y : Version). Says before y (from.Site (site_count header names before))) is refl)
+  said_by_site : (before : List Statement) (c : ℕ) (x : Version) → slice_get (Version.Computed (site_count header names before) ∷ []) c ≡ Some x → HasSaid before (Source.Site (site_count header names before) ∷ []) x c
+  said_by_site before zero x h = let is : Version.Computed (site_count header names before) ≡ x = cc h in (Source.Site (site_count header names before), refl, subst (λ (y : Version). Says before y (Source.Site (site_count header names before))) is refl)
   said_by_site before (suc c) x h = cc h
 
   own_said : (before : List Statement) (s : Statement) → AreAccepted names (scope_of header) (s ∷ before) → Extends (s ∷ before) script → (c : ℕ) (x : Version)
@@ -210,9 +195,9 @@ module _ (header : List Column) (names : FunctionNames) (script : List Statement
       (o.0, next_at (list_of before) (own_sources header names under before (list_of before) s) k c n ∙ o.1, says_further before s x o.0 o.2))
 
   in_words : (x : Version) (src : Source) (c : ℕ) → slice_get (list_of script) c ≡ Some src → Says script x src → IsSourceOf (slice_get (list_of script)) v x (slice_get (list_of script) c)
-  in_words (as_version.Cell col) src c at h = at ∙ ap Some h
-  in_words (as_version.Computed site) src c at h = at ∙ ap Some h
-  in_words (as_version.Varied below first tags its vector) src c at h = ((λ k lt is. at ∙ h.2 k lt is), λ none. at ∙ ap Some (h.3 none) ∙ sym h.1)
+  in_words (Version.Cell col) src c at h = at ∙ ap Some h
+  in_words (Version.Computed site) src c at h = at ∙ ap Some h
+  in_words (Version.Varied below first tags its vector) src c at h = ((λ k lt is. at ∙ h.2 k lt is), λ none. at ∙ ap Some (h.3 none) ∙ sym h.1)
 
 -- under nominal or the variation of that number each version has the source that it says
 pub version_source : (header : List Column) (names : FunctionNames) (script : List Statement) → AreAccepted names (scope_of header) script

@@ -1,16 +1,8 @@
 -- What holds of each named filter and of each result where it is booked, and goes on to hold, holds of all.
 use Rattle.std.proofs.Common.{◌≡◌, ℕ, List, [], ◌∷◌, ◌++◌, map, Some, subst, slice_get}
-use Rattle.rdf_values.specs.Bookings.{ActionAt, ReportOn, columns_of, covered}
-use Rattle.rdf_values.specs.Kinds.{FunctionNames}
-use Rattle.rdf_values.specs.Path.{path}
-use Rattle.rdf_values.specs.Tree.{NamedTree}
-use Rattle.rdf_values.specs.declared.action.ActionKind.{ActionKind}
-use Rattle.rdf_values.specs.declared.column.Column.{Column}
-use Rattle.rdf_values.specs.declared.statement.Statement.{Statement}
+use Rattle.rdf_values.specs.{ActionAt, ActionKind, Column, columns_of, covered, FunctionNames, NamedTree, path, ReportOn, Statement}
 use Rattle.rdf_values.specs.declared.statement.Statement.TheVariants.{Filter, Action, Report}
-use Rattle.graph_numbers.specs.Results.{FilterAt, ResultAt, covered_at, filters, own_filters, own_results, results}
-use Rattle.graph_numbers.specs.Sites.{filter_sites, site_count}
-use Rattle.graph_numbers.specs.Versions.{version_at}
+use Rattle.graph_numbers.specs.{covered_at, filter_sites, FilterAt, filters, own_filters, own_results, ResultAt, results, site_count, version_at}
 use Rattle.graph_numbers.proofs.Listed.{joined, only_at}
 
 module _ (header : List Column) (names : FunctionNames) where

@@ -1,18 +1,8 @@
 -- What a contract sees of a booked graph: what it was booked from. All its numbers are functions of that.
 use Rattle.std.specs.Prelude.{◌≡◌, ℕ, Bool, false, List, map, All, Option, Some, None, Result, Ok, Err, option_map, slice_get}
-use Rattle.rdf_values.specs.Bookable.{IsBookable}
-use Rattle.rdf_values.specs.Bookings.{result_depends}
-use Rattle.rdf_values.specs.Kinds.{FunctionNames}
-use Rattle.rdf_values.specs.Path.{Variation, Under, history, variations}
-use Rattle.rdf_values.specs.Verdict.{verdict}
-use Rattle.rdf_values.specs.declared.column.Column.{Column}
-use Rattle.rdf_values.specs.declared.graph_cause.GraphCause.{GraphCause}
-use Rattle.rdf_values.specs.declared.script.Script.{Script}
-use Rattle.rdf_values.specs.declared.statement.Statement.{Statement}
-use Rattle.rdf_values.specs.declared.value.ColType.{ColType}
-use Rattle.rdf_model.specs.Loops.{Access, accesses}
-use Rattle.rdf_values.specs.Tables.{IsHeader}
-use Rattle.expr_check.specs.NumKinds.{CheckedExpr, IsWellTyped, CallsFit}
+use Rattle.rdf_values.specs.{ColType, Column, FunctionNames, GraphCause, history, IsBookable, IsHeader, result_depends, Script, Statement, Under, Variation, variations, verdict}
+use Rattle.rdf_model.specs.{Access, accesses}
+use Rattle.expr_check.specs.{CallsFit, CheckedExpr, IsWellTyped}
 use Rattle.graph_numbers.specs.Sites.{SiteAt, sites, depends_on}
 use Rattle.graph_numbers.specs.Sources.{sources, versions}
 use Rattle.graph_numbers.specs.Kinds.{version_kinds}

@@ -1,22 +1,7 @@
 -- Laws of a booked graph's numbers: what they are of the script's own definitions. Each is a clause of `laws_hold`, and so proved.
 use Rattle.std.specs.Prelude.{◌≡◌, ◌<◌, ℕ, List, length, map, Option, Some, None, Ok, slice_get, option_and_then, option_map}
-use Rattle.rdf_values.specs.Bookings.{ActionAt, ReportOn, bookings, named_before}
-use Rattle.rdf_values.specs.Functions.{fn_names}
-use Rattle.rdf_values.specs.Kinds.{scope_of, column_kind}
-use Rattle.rdf_values.specs.Names.{place}
-use Rattle.rdf_values.specs.Path.{Path, Variation, Under, history, path, same_variation}
-use Rattle.rdf_values.specs.Verdict.{scope_at}
-use Rattle.rdf_values.specs.declared.action.ActionKind.{ActionKind}
-use Rattle.rdf_values.specs.declared.script.Script.{Script}
-use Rattle.rdf_values.specs.declared.value.ColType.{ColType}
-use Rattle.rdf_values.specs.declared.value.Value.{Value}
-use Rattle.rdf_model.specs.ColumnValues.{column_value}
-use Rattle.rdf_model.specs.Demanded.{same_site}
-use Rattle.rdf_model.specs.EntryOutcomes.{booking_outcome}
-use Rattle.rdf_model.specs.Evaluation.{Outcome, evaluate, call_outcome}
-use Rattle.rdf_model.specs.Loops.{Access, accesses, loop_passes, loop_results}
-use Rattle.rdf_model.specs.Results.{Dataset}
-use Rattle.rdf_values.specs.EachColumn.{EachColumn}
+use Rattle.rdf_values.specs.{ActionAt, ActionKind, bookings, ColType, column_kind, EachColumn, fn_names, history, named_before, Path, path, place, ReportOn, same_variation, scope_at, scope_of, Script, Under, Value, Variation}
+use Rattle.rdf_model.specs.{Access, accesses, booking_outcome, call_outcome, column_value, Dataset, evaluate, loop_passes, loop_results, Outcome, same_site}
 use Rattle.graph_numbers.specs.Graphs.{GraphView, IsGraph, graph_filters, graph_loops, graph_results, graph_runs, graph_sites, graph_sources, graph_variations, graph_versions}
 use Rattle.graph_numbers.specs.Outcomes.{booking_numbers}
 use Rattle.graph_numbers.specs.Results.{FilterAt, ResultAt, pass_at}

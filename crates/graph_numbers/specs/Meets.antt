@@ -1,12 +1,9 @@
 -- Which versions the evaluation of a site meets, and sets of sites that have what is read.
 use Rattle.std.specs.Prelude.{⊤, ℕ, Bool, true, false, List, [], ◌∷◌, nat_eq}
-use Rattle.rdf_values.specs.Functions.{Function}
-use Rattle.rdf_values.specs.declared.value.Value.{Value}
-use Rattle.rdf_model.specs.EntryOutcomes.{truth_of}
-use Rattle.rdf_model.specs.Evaluation.{Outcome, Gives, Faults, Needs, ◌>>=◌, evaluate, call_outcome, is_need, without}
+use Rattle.rdf_values.specs.{Function, Value}
+use Rattle.rdf_model.specs.{◌>>=◌, call_outcome, evaluate, Faults, Gives, is_need, Needs, Outcome, truth_of, without}
 use Rattle.graph_numbers.specs.Sites.{SiteAt}
 use Rattle.graph_numbers.specs.declared.source.Source.{Source}
-use Rattle.graph_numbers.specs.declared.source.Source.TheVariants as from
 
 -- the evaluation of the site meets the version: where that is missing, it comes to a need
 abbrev pub meets : List Function → (ℕ → Outcome ℕ Value) → SiteAt → ℕ → Bool
@@ -29,9 +26,9 @@ IfPassed (Needs m) P = ⊤
 module _ (D : ℕ → Type 0) where
   -- it has the site of the source, if that is one
   abbrev pub HasSourceIn : Source → Type 0
-  HasSourceIn (from.Cell col) = ⊤
-  HasSourceIn (from.Site s) = D s
-  HasSourceIn (from.Element s k tags) = D s
+  HasSourceIn (Source.Cell col) = ⊤
+  HasSourceIn (Source.Site s) = D s
+  HasSourceIn (Source.Element s k tags) = D s
 
   -- it has the sites of the filters that are tried
   abbrev pub HasFilters : (ℕ → Outcome ⊥ Value) → List ℕ → Type 0

@@ -1,10 +1,7 @@
 -- What an entry comes to in a pass, by the numbers of its filters' sites and of the versions that it reads.
 use Rattle.std.specs.Prelude.{ℕ, Bool, true, false, List, [], ◌∷◌, Option, Some, None, if◌then◌else◌, slice_get}
-use Rattle.rdf_values.specs.Bookings.{Booking, ActionAt, ReportOn}
-use Rattle.rdf_values.specs.declared.action.ActionKind.{ActionKind}
-use Rattle.rdf_values.specs.declared.value.Value.{Value}
-use Rattle.rdf_model.specs.EntryOutcomes.{Entry, Skip, truth_of, feed_outcome}
-use Rattle.rdf_model.specs.Evaluation.{Outcome, Gives, ◌>>=◌, for_all}
+use Rattle.rdf_values.specs.{ActionAt, ActionKind, Booking, ReportOn, Value}
+use Rattle.rdf_model.specs.{◌>>=◌, Entry, feed_outcome, for_all, Gives, Outcome, Skip, truth_of}
 use Rattle.graph_numbers.specs.Results.{FilterAt, ResultAt}
 
 -- with what each site comes to

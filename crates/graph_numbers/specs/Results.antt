@@ -1,18 +1,12 @@
 -- The results, named filters and loops of a script by numbers.
 use Rattle.std.specs.Prelude.{ℕ, suc, Bool, not, List, [], ◌∷◌, ◌++◌, map, length, Option, Some, None, if◌then◌else◌, slice_get, option_map}
-use Rattle.rdf_values.specs.Bookings.{columns_of, named_before, Booking, ActionAt, ReportOn, Booked, covered, bookings, result_depends, has_variations, Pass, filled}
-use Rattle.rdf_values.specs.Kinds.{FunctionNames}
-use Rattle.rdf_values.specs.Names.{same, among, place}
-use Rattle.rdf_values.specs.Path.{Path, Under, makes, parent_of, path, variations}
-use Rattle.rdf_values.specs.declared.column.Column.{Column}
-use Rattle.rdf_values.specs.declared.statement.Statement.{Statement}
+use Rattle.rdf_values.specs.{ActionAt, among, Booked, Booking, bookings, Column, columns_of, covered, filled, FunctionNames, has_variations, makes, named_before, parent_of, Pass, Path, path, place, ReportOn, result_depends, same, Statement, Under, variations}
 use Rattle.rdf_values.specs.declared.statement.Statement.TheVariants.{Filter, Action, Report, Print}
-use Rattle.rdf_model.specs.Loops.{loop_results}
+use Rattle.rdf_model.specs.{loop_results}
 use Rattle.graph_numbers.specs.Versions.{version_at}
 use Rattle.graph_numbers.specs.Sites.{filter_sites, site_count}
 use Rattle.graph_numbers.specs.Sources.{numbers_from}
 use Rattle.graph_numbers.specs.declared.result_kind.ResultKind.{ResultKind}
-use Rattle.graph_numbers.specs.declared.result_kind.ResultKind.TheVariants as what
 use Rattle.graph_numbers.specs.declared.pass.Pass.{Pass as NumberedPass}
 
 -- ---- variations
@@ -66,8 +60,8 @@ pub record ResultAt : Type 0 where
 
 -- what a result is
 abbrev pub kind_of_booking : Booking → ResultKind
-kind_of_booking (ActionAt k at) = what.Action k
-kind_of_booking (ReportOn filters) = what.Report
+kind_of_booking (ActionAt k at) = ResultKind.Action k
+kind_of_booking (ReportOn filters) = ResultKind.Report
 
 -- over a table with these columns, with the caller's functions
 module _ (header : List Column) (names : FunctionNames) where

@@ -1,19 +1,9 @@
 -- The sites of a script in the order of booking: its expressions that are evaluated as a whole.
 use Rattle.std.specs.Prelude.{ℕ, zero, suc, ◌+◌, Bool, List, [], ◌∷◌, ◌++◌, length, if◌then◌else◌, Option, option_map, slice_get}
-use Rattle.rdf_values.specs.Functions.{Function}
-use Rattle.rdf_values.specs.Kinds.{FunctionNames}
-use Rattle.rdf_values.specs.Path.{Path, Variation, Under, makes, parent_of, path}
-use Rattle.rdf_values.specs.Tree.{NamedTree, NumTree}
-use Rattle.rdf_values.specs.declared.column.Column.{Column}
-use Rattle.rdf_values.specs.declared.statement.Statement.{Statement}
+use Rattle.rdf_values.specs.{callee, Column, Function, FunctionNames, makes, NamedTree, NumTree, parent_of, Path, path, renamed, site_depends, Statement, Under, Value, Variation}
 use Rattle.rdf_values.specs.declared.statement.Statement.TheVariants.{Define, Redefine, Filter, Vary}
-use Rattle.rdf_values.specs.declared.value.Value.{Value}
 use Rattle.rdf_values.specs.declared.vary_values.VaryValues.TheVariants.{Lists, Vector}
-use Rattle.rdf_model.specs.ColumnValues.{expression_value, column_value}
-use Rattle.rdf_model.specs.Demanded.{Site, site_at}
-use Rattle.rdf_model.specs.Evaluation.{Outcome}
-use Rattle.rdf_values.specs.Depends.{site_depends}
-use Rattle.rdf_values.specs.Numbered.{renamed, callee}
+use Rattle.rdf_model.specs.{column_value, expression_value, Outcome, Site, site_at}
 use Rattle.graph_numbers.specs.Versions.{version_at}
 
 -- a site by its node and places, the path at whose end its columns are read, and its expression: as it is written, and with each

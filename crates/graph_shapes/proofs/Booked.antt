@@ -1,29 +1,16 @@
 -- What was booked: the kind of the column that a Take reads, how many cells a histogram has, and how many filters a report.
-use Rattle.std.proofs.Common.{◌≡◌, ◌⊎◌, inl, inr, ℕ, zero, suc, ◌+◌, ◌*◌, ◌≤◌, Bool, true, false, List, [], ◌∷◌, ◌++◌, length, map, Option, Some, None, Result, Ok, Err, refl, ap, subst, arith, length-append, if◌then◌else◌}
-use Rattle.std.specs.Prelude.{⊤, nat_lt, slice_get, sum_by}
+use Rattle.std.proofs.Common.{◌≡◌, ◌⊎◌, inl, inr, ℕ, zero, suc, ◌+◌, ◌*◌, ◌≤◌, Bool, true, false, List, [], ◌∷◌, ◌++◌, length, map, Option, Some, None, Result, Ok, Err, refl, ap, subst, arith, length-append, if◌then◌else◌, nat_lt, slice_get, sum_by}
+use Rattle.std.specs.Prelude.{⊤}
 use Rattle.std.proofs.lemmas.Bool.Decides.{nat_tests}
 use Rattle.std.proofs.lemmas.List.Sums.{sum_by-cons}
-use Rattle.rdf_values.specs.Bookings.{ActionAt, Booked, Booking, ReportOn, booked_by, bookings, columns_of, covered, named_before, named_on, passes_of}
-use Rattle.rdf_values.specs.Kinds.{FunctionNames, Scope, column_kind, scope_of}
-use Rattle.rdf_values.specs.Path.{Path, makes, parent_of, path}
-use Rattle.rdf_values.specs.Verdict.{AreAccepted, cells_of, check_columns, check_edges, check_node, check_passes, check_results, kind_or_int, may_begin, over_passes, permitted_kinds, refuse_if, scope_at, takes_of, visible_columns}
-use Rattle.rdf_values.specs.declared.action.ActionKind.{ActionKind}
-use Rattle.rdf_values.specs.declared.action.ActionKind.TheVariants as kind
-use Rattle.rdf_values.specs.declared.column.Column.{Column}
-use Rattle.rdf_values.specs.declared.graph_cause.GraphCause.{GraphCause}
-use Rattle.rdf_values.specs.declared.graph_cause.GraphCause.TheVariants as cause
-use Rattle.rdf_values.specs.declared.statement.Statement.{Statement}
+use Rattle.rdf_values.specs.{ActionAt, ActionKind, AreAccepted, Booked, booked_by, Booking, bookings, cells_of, check_columns, check_edges, check_node, check_passes, check_results, ColType, Column, column_kind, columns_of, covered, FunctionNames, GraphCause, kind_or_int, makes, may_begin, named_before, named_on, over_passes, parent_of, passes_of, Path, path, permitted_kinds, refuse_if, ReportOn, Scope, scope_at, scope_of, Statement, takes_of, visible_columns}
 use Rattle.rdf_values.specs.declared.statement.Statement.TheVariants.{Action, Alias, Define, Filter, Print, Redefine, Report, VariationsFor, Vary, Watch}
-use Rattle.rdf_values.specs.declared.value.ColType.{ColType}
 use Rattle.rdf_model.proofs.Accepted.{both_none, if_fails}
-use Rattle.graph_numbers.specs.Kinds.{version_kinds}
-use Rattle.graph_numbers.specs.Results.{ResultAt, covered_at, own_results, results}
-use Rattle.graph_numbers.specs.Sites.{filter_sites}
-use Rattle.graph_numbers.specs.Versions.{version_at}
+use Rattle.graph_numbers.specs.{covered_at, filter_sites, own_results, ResultAt, results, version_at, version_kinds}
 use Rattle.graph_numbers.proofs.Extending.{Extends, shorter}
 use Rattle.graph_numbers.proofs.Listed.{of_joined}
 use Rattle.graph_numbers.proofs.VersionKinds.{kind_later, visible_kind}
-use Rattle.shard_runs.specs.Kinds.{first_kind}
+use Rattle.shard_runs.specs.{first_kind}
 
 -- ---- the checks of an action
 
@@ -31,7 +18,7 @@ use Rattle.shard_runs.specs.Kinds.{first_kind}
 column_known : (scope : Scope) (permitted : List (List ColType)) (kinds : List ColType) (c : List ℕ) (cs : List (List ℕ)) → check_columns scope permitted kinds (c ∷ cs) ≡ None → column_kind scope c ≡ Ok (kind_or_int (column_kind scope c))
 column_known scope permitted kinds c cs h = go (column_kind scope c) h
   where
-    go : (r : Result ColType GraphCause) → (elim r as (λ _. Option GraphCause) [ Err cause' ↦ Some cause' | Ok t ↦ (if may_begin permitted (kinds ++ t ∷ []) then check_columns scope permitted (kinds ++ t ∷ []) cs else Some cause.WrongType) ]) ≡ None
+    go : (r : Result ColType GraphCause) → (elim r as (λ _. Option GraphCause) [ Err cause' ↦ Some cause' | Ok t ↦ (if may_begin permitted (kinds ++ t ∷ []) then check_columns scope permitted (kinds ++ t ∷ []) cs else Some GraphCause.WrongType) ]) ≡ None
         → r ≡ Ok (kind_or_int r)
     go (Err e) q = cc q
     go (Ok t) q = refl
@@ -61,14 +48,14 @@ module _ (header : List Column) (names : FunctionNames) where
 
   module _ (script : List Statement) where
     abbrev pub ReadsKind : ResultAt → Booking → Type 0
-    ReadsKind r (ActionAt (kind.Take c) at) = (v : ℕ) × (r.inputs ≡ v ∷ []) × (slice_get (version_kinds header names script) v ≡ Some (first_kind (visible_columns names (scope_of header) at) (c ∷ [])))
+    ReadsKind r (ActionAt (ActionKind.Take c) at) = (v : ℕ) × (r.inputs ≡ v ∷ []) × (slice_get (version_kinds header names script) v ≡ Some (first_kind (visible_columns names (scope_of header) at) (c ∷ [])))
     ReadsKind r b = ⊤
 
     take_reads : (before : List Statement) (result parent : List ℕ) (k : ActionKind) → AreAccepted names (scope_of header) (Action result parent k ∷ before) → Extends before script
         → ReadsKind (record { booked = record { name = result; booking = ActionAt k (path before parent) }; filters = filter_sites header names before parent; inputs = map (version_at header before parent) (columns_of k); covers = [] }) (ActionAt k (path before parent))
-    take_reads before result parent (kind.Take c) good e =
+    take_reads before result parent (ActionKind.Take c) good e =
         let t : ColType = kind_or_int (column_kind (scope before parent) c) in
-        let known : column_kind (scope before parent) c ≡ Ok t = column_known (scope before parent) (permitted_kinds (kind.Take c)) [] c [] (checked before result parent (kind.Take c) good).columns in
+        let known : column_kind (scope before parent) c ≡ Ok t = column_known (scope before parent) (permitted_kinds (ActionKind.Take c)) [] c [] (checked before result parent (ActionKind.Take c) good).columns in
         (version_at header before parent c, refl, kind_later header names before script e (version_at header before parent c) t (visible_kind header names before good.1 parent c t known))
     take_reads before result parent k good e = tt
 
@@ -109,9 +96,9 @@ module _ (header : List Column) (names : FunctionNames) where
 
   few_cells : (script : List Statement) (bs : List Booked) (n : ℕ) (b : Booked) → check_passes script bs ≡ None → slice_get bs n ≡ Some b → cells_of b.booking ≤ 1048576
   few_cells script bs n b none at =
-      let cells : Option GraphCause = refuse_if (nat_lt 1048576 (over_passes cells_of script bs)) cause.TooMany in
-      let takes : Option GraphCause = refuse_if (nat_lt 16 (over_passes takes_of script bs)) cause.TooMany in
-      let few = if_fails (nat_lt 1048576 (over_passes cells_of script bs)) cause.TooMany (both_none cells (takes ∷ []) none).0 in
+      let cells : Option GraphCause = refuse_if (nat_lt 1048576 (over_passes cells_of script bs)) GraphCause.TooMany in
+      let takes : Option GraphCause = refuse_if (nat_lt 16 (over_passes takes_of script bs)) GraphCause.TooMany in
+      let few = if_fails (nat_lt 1048576 (over_passes cells_of script bs)) GraphCause.TooMany (both_none cells (takes ∷ []) none).0 in
       let all : over_passes cells_of script bs ≤ 1048576 = grind (arith, nat_tests, few) in
       let one = one_of_sum (λ (x : Booked). length (passes_of script x) * cells_of x.booking) bs n b at in
       let some = some_pass script b in

@@ -1,32 +1,22 @@
 -- Joined loops are printed for the graph whose shapes their files have.
-use Rattle.std.proofs.Common.{◌≡◌, ℕ, zero, suc, ◌<◌, ◌≤◌, ◌+◌, Bool, cond, true, false, not, ◌&&◌, List, [], ◌∷◌, length, map, Option, None, Some, Result, Ok, refl, sym, ap, ◌∙◌, subst, arith, if◌then◌else◌}
-use Rattle.std.specs.Prelude.{⊤, nat_lt, option_map, slice_get, unwrap_or}
+use Rattle.std.proofs.Common.{◌≡◌, ℕ, zero, suc, ◌<◌, ◌≤◌, ◌+◌, Bool, cond, true, false, not, ◌&&◌, List, [], ◌∷◌, length, map, Option, None, Some, Result, Ok, refl, sym, ap, ◌∙◌, subst, arith, if◌then◌else◌, nat_lt, option_map, slice_get, unwrap_or}
+use Rattle.std.specs.Prelude.{⊤}
 use Rattle.std.specs.List.{position_from}
 use Rattle.std.proofs.lemmas.Iterator.Adapters.{position_from-zero}
 use Rattle.std.proofs.lemmas.Bool.Decides.{nat_tests}
 use Rattle.std.proofs.lemmas.List.{length-map}
 use Rattle.std.proofs.lemmas.Option.{slice_get-map}
-use Rattle.lemmas.proofs.Booleans.{and_right}
-use Rattle.lemmas.proofs.Orders.{lt_says}
-use Rattle.rdf_values.specs.Bookings.{Booked}
-use Rattle.rdf_values.specs.declared.fault.Fault.{Fault}
-use Rattle.rdf_model.specs.Loops.{loop_passes, loop_results}
-use Rattle.graph_numbers.specs.Graphs.{GraphView, booked_statements}
-use Rattle.result_text.specs.FilledLines.{passes_at}
-use Rattle.shard_lines.specs.Shapes.{booking_shape}
-use Rattle.shard_lines.specs.declared.shard_line.ShardLine.{ShardLine}
-use Rattle.shard_lines.specs.declared.pass_shape.PassShape.{PassShape}
-use Rattle.shard_files.specs.Merging.{all_lines, are_loops, fault_or_lines, first_loop, first_misshapen, first_other, first_uncovered, joined_loops, least_fault, merge_of, or_earlier, other_loops, shards_joined, unless_at, up_to_fault, in_order}
-use Rattle.shard_files.specs.Shards.{ShardView}
-use Rattle.shard_files.specs.declared.merge_cause.MergeCause.{MergeCause}
-use Rattle.shard_files.specs.declared.merge_cause.MergeCause.TheVariants as cause
-use Rattle.shard_files.specs.declared.shard_loop.ShardLoop.{ShardLoop}
+use Rattle.lemmas.proofs.{and_right, lt_says}
+use Rattle.rdf_values.specs.{Booked, Fault}
+use Rattle.rdf_model.specs.{loop_passes, loop_results}
+use Rattle.graph_numbers.specs.{booked_statements, GraphView}
+use Rattle.result_text.specs.{passes_at}
+use Rattle.shard_lines.specs.{booking_shape, PassShape, ShardLine}
+use Rattle.shard_files.specs.{all_lines, are_loops, fault_or_lines, first_loop, first_misshapen, first_other, first_uncovered, in_order, joined_loops, least_fault, merge_of, MergeCause, or_earlier, other_loops, ShardLoop, shards_joined, ShardView, unless_at, up_to_fault}
 use Rattle.shard_files.specs.declared.shard_loop.ShardLoop.TheVariants.{Whole, Faulted}
-use Rattle.shard_spans.specs.Laws.{pass_shapes}
-use Rattle.shard_spans.specs.Spans.{loops_of}
+use Rattle.shard_spans.specs.{loops_of, pass_shapes}
 use Rattle.shard_spans.proofs.Following.{Each, order_each}
-use Rattle.graph_shapes.specs.GraphShapes.{graph_shapes, pass_kind}
-use Rattle.graph_shapes.specs.Laws.{JoinedLoopsFit}
+use Rattle.graph_shapes.specs.{graph_shapes, JoinedLoopsFit, pass_kind}
 use Rattle.graph_shapes.proofs.Looped.{loops_many}
 
 -- ---- no more loops than these, and each fault is of one of its loop's passes
@@ -139,9 +129,9 @@ pub merged_fit : (shapes : List (List PassShape)) (shards : List ShardView) (loo
 unfolding merge_of shards_joined
 merged_fit shapes [] loops h = (let same : [] ≡ loops = cc h in subst (FitShapes shapes) same tt)
 merged_fit shapes (s ∷ ss) loops h =
-    let head = unless_ok (first_other s (s ∷ ss)) cause.Head _ loops h in
-    let shape = unless_ok (first_misshapen shapes (s ∷ ss)) cause.Shape _ loops head.1 in
-    let cover = unless_ok (first_uncovered s.clusters (s ∷ ss)) cause.Cover _ loops shape.1 in
+    let head = unless_ok (first_other s (s ∷ ss)) MergeCause.Head _ loops h in
+    let shape = unless_ok (first_misshapen shapes (s ∷ ss)) MergeCause.Shape _ loops head.1 in
+    let cover = unless_ok (first_uncovered s.clusters (s ∷ ss)) MergeCause.Cover _ loops shape.1 in
     let same : joined_loops shapes (map (λ (t : ShardView). t.loops) (in_order (s ∷ ss))) ≡ loops = cc cover.1 in
     subst (FitShapes shapes) same
     (joined_fit shapes (map (λ (t : ShardView). t.loops) (in_order (s ∷ ss))) (files_have shapes (in_order (s ∷ ss)) (order_each (HasLoops shapes) (s ∷ ss) (none_misshapen shapes (s ∷ ss) shape.0))))

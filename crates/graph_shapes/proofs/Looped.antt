@@ -1,23 +1,17 @@
 -- The shapes of a loop, pass by pass, and of a graph, loop by loop.
-use Rattle.std.proofs.Common.{◌≡◌, ◌≤◌, ◌<◌, ◌+◌, ℕ, zero, suc, List, [], ◌∷◌, ◌++◌, length, map, take, Option, Some, sym, ap, ap₂, ◌∙◌, arith}
-use Rattle.std.specs.Prelude.{option_map, slice_get, unwrap_or}
+use Rattle.std.proofs.Common.{◌≡◌, ◌≤◌, ◌<◌, ◌+◌, ℕ, zero, suc, List, [], ◌∷◌, ◌++◌, length, map, take, Option, Some, sym, ap, ap₂, ◌∙◌, arith, option_map, slice_get, unwrap_or}
 use Rattle.std.proofs.lemmas.List.{length-map, map-append, take_all}
 use Rattle.std.proofs.lemmas.Option.{slice_get-map}
-use Rattle.lemmas.proofs.Parts.{take_next}
-use Rattle.lemmas.proofs.Places.{something_at}
-use Rattle.rdf_values.specs.Bookings.{Booked, Pass}
-use Rattle.rdf_values.specs.declared.value.ColType.{ColType}
-use Rattle.rdf_model.specs.Loops.{loop_passes, loop_results}
-use Rattle.graph_numbers.specs.Graphs.{GraphView, booked_statements, graph_loops}
-use Rattle.graph_numbers.specs.Results.{pass_at}
+use Rattle.lemmas.proofs.{something_at, take_next}
+use Rattle.rdf_values.specs.{Booked, ColType, Pass}
+use Rattle.rdf_model.specs.{loop_passes, loop_results}
+use Rattle.graph_numbers.specs.{booked_statements, graph_loops, GraphView, pass_at}
 use Rattle.graph_numbers.proofs.Extending.{itself}
 use Rattle.graph_numbers.proofs.Looping.{loops_are}
-use Rattle.result_text.specs.FilledLines.{passes_at}
-use Rattle.shard_lines.specs.Shapes.{booking_shape}
-use Rattle.shard_lines.specs.declared.pass_shape.PassShape.{PassShape}
-use Rattle.shard_spans.specs.Laws.{pass_shapes}
-use Rattle.shard_spans.specs.Spans.{loops_of}
-use Rattle.graph_shapes.specs.GraphShapes.{graph_shapes, pass_kind}
+use Rattle.result_text.specs.{passes_at}
+use Rattle.shard_lines.specs.{booking_shape, PassShape}
+use Rattle.shard_spans.specs.{loops_of, pass_shapes}
+use Rattle.graph_shapes.specs.{graph_shapes, pass_kind}
 
 -- ---- passes
 

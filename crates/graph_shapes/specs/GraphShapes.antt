@@ -1,21 +1,15 @@
 -- The shapes of a graph's passes, loop by loop.
 use Rattle.std.specs.Prelude.{ℕ, List, [], ◌∷◌, map, slice_get, unwrap_or}
-use Rattle.rdf_values.specs.Bookings.{ActionAt, Booking, Pass, ReportOn, columns_of}
-use Rattle.rdf_values.specs.Kinds.{scope_of}
-use Rattle.rdf_values.specs.Verdict.{visible_columns}
-use Rattle.rdf_values.specs.declared.value.ColType.{ColType}
-use Rattle.rdf_values.specs.declared.value.ColType.TheVariants as k
-use Rattle.graph_numbers.specs.Graphs.{GraphView, graph_kinds}
-use Rattle.graph_numbers.specs.Results.{ResultAt}
-use Rattle.shard_lines.specs.declared.pass_shape.PassShape.{PassShape}
-use Rattle.shard_spans.specs.Laws.{pass_shapes}
-use Rattle.shard_spans.specs.Spans.{loops_of}
-use Rattle.shard_runs.specs.Kinds.{first_kind}
+use Rattle.rdf_values.specs.{ActionAt, Booking, ColType, columns_of, Pass, ReportOn, scope_of, visible_columns}
+use Rattle.graph_numbers.specs.{graph_kinds, GraphView, ResultAt}
+use Rattle.shard_lines.specs.{PassShape}
+use Rattle.shard_spans.specs.{loops_of, pass_shapes}
+use Rattle.shard_runs.specs.{first_kind}
 
 -- the kind of the first column that was booked, by the columns that are visible there
 abbrev pub booking_kind : GraphView → Booking → ColType
 booking_kind g (ActionAt action at) = first_kind (visible_columns g.names (scope_of g.header) at) (columns_of action)
-booking_kind g (ReportOn filters) = k.Int
+booking_kind g (ReportOn filters) = ColType.Int
 
 abbrev pub pass_kind : GraphView → Pass → ColType
 pass_kind g p = booking_kind g p.result.booking
@@ -26,8 +20,8 @@ graph_shapes g = map (pass_shapes (pass_kind g)) (loops_of g.script)
 
 -- the kind of the first version among these, and that of a number where there is none
 abbrev pub version_kind : GraphView → List ℕ → ColType
-version_kind g [] = k.Int
-version_kind g (v ∷ vs) = unwrap_or (slice_get (graph_kinds g) v) k.Int
+version_kind g [] = ColType.Int
+version_kind g (v ∷ vs) = unwrap_or (slice_get (graph_kinds g) v) ColType.Int
 
 -- the same of a result's inputs
 abbrev pub input_kind : GraphView → ResultAt → ColType

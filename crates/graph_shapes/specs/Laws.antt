@@ -1,10 +1,8 @@
 -- A law of shapes. It is the contract of a function of this crate, and so proved.
 use Rattle.std.specs.Prelude.{◌≡◌, List, Ok}
-use Rattle.graph_numbers.specs.Graphs.{GraphView}
-use Rattle.merged_text.specs.MergedPrints.{FitGraph}
-use Rattle.shard_files.specs.Merging.{merge_of}
-use Rattle.shard_files.specs.Shards.{ShardView}
-use Rattle.shard_files.specs.declared.shard_loop.ShardLoop.{ShardLoop}
+use Rattle.graph_numbers.specs.{GraphView}
+use Rattle.merged_text.specs.{FitGraph}
+use Rattle.shard_files.specs.{merge_of, ShardLoop, ShardView}
 use Rattle.graph_shapes.specs.GraphShapes.{graph_shapes}
 
 -- shards that are merged by a graph's shapes are printed for the graph

@@ -1,13 +1,13 @@
 // The shapes of a graph's passes.
 ghost use Rattle.std.specs.Prelude.{◌≡◌, ◌<◌, ◌≤◌, ◌+◌, ◌*◌, [], ℕ, IfOk, Some, length, option_map, slice_get};
 ghost use Rattle.rdf_values.specs.Bookings as bookings;
-ghost use Rattle.rdf_values.specs.Verdict.{cells_of};
-ghost use Rattle.graph_numbers.specs.Graphs.{graph_loops, graph_results};
-ghost use Rattle.merged_text.specs.Numbered.{IsPassIn};
-ghost use Rattle.result_text.specs.FilledLines.{passes_at};
-ghost use Rattle.shard_lines.specs.Shapes.{action_shape, booking_shape};
-ghost use Rattle.shard_spans.specs.Laws.{pass_shapes};
-ghost use Rattle.graph_shapes.specs.GraphShapes.{graph_shapes, input_kind, pass_kind};
+ghost use Rattle.rdf_values.specs.{cells_of};
+ghost use Rattle.graph_numbers.specs.{graph_loops, graph_results};
+ghost use Rattle.merged_text.specs.{IsPassIn};
+ghost use Rattle.result_text.specs.{passes_at};
+ghost use Rattle.shard_lines.specs.{action_shape, booking_shape};
+ghost use Rattle.shard_spans.specs.{pass_shapes};
+ghost use Rattle.graph_shapes.specs.{graph_shapes, input_kind, pass_kind};
 
 use graph::Graph;
 use graph_numbers::{Pass, ResultKind};

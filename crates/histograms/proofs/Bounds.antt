@@ -1,12 +1,10 @@
 -- Bounds on a cell's sums.
-use Rattle.std.proofs.Common.{ℕ, ◌≡◌, ◌+◌, ◌*◌, ◌^◌, ◌<◌, ◌≤◌, get_or, List, ℤ, pos, negsuc, ◌+ℤ◌, ◌*ℤ◌, arith, lit<, set, w64, FitsSigned}
-use Rattle.std.specs.Prelude.{nat_abs, All}
+use Rattle.std.proofs.Common.{ℕ, ◌≡◌, ◌+◌, ◌*◌, ◌^◌, ◌<◌, ◌≤◌, get_or, List, ℤ, pos, negsuc, ◌+ℤ◌, ◌*ℤ◌, arith, lit<, set, w64, FitsSigned, nat_abs, All}
 use Rattle.std.specs.Int.{w128}
 use Rattle.std.proofs.lemmas.Int.{ints, fits_signed_from_abs, fits_signed_mul, unsigned_abs-mul}
 use Rattle.std.proofs.lemmas.List.Elements.{All-set}
-use Rattle.lemmas.proofs.Orders.{abs_add}
-use Rattle.histograms.specs.declared.cell_sum.CellSum.{CellSum}
-use Rattle.histograms.specs.Cells.{IsBounded, IsWeight, with_weight}
+use Rattle.lemmas.proofs.{abs_add}
+use Rattle.histograms.specs.{CellSum, IsBounded, IsWeight, with_weight}
 
 squares_below : (a b : ℕ) → a ≤ b → a * a ≤ b * b
 squares_below a b h = grind arith

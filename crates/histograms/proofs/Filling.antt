@@ -1,19 +1,15 @@
 -- What a cell holds after one more point.
-use Rattle.std.proofs.Common.{ℕ, zero, suc, ◌≡◌, ◌+◌, ◌<◌, ◌≤◌, length, get_or, set, map, List, [], ◌∷◌, ◌++◌, ℤ, pos, ◌+ℤ◌, ◌*ℤ◌, arith, refl, ap, sym, ◌∙◌, ⊎_elim, add-one}
-use Rattle.std.specs.Prelude.{flat_map, fold}
+use Rattle.std.proofs.Common.{ℕ, zero, suc, ◌≡◌, ◌+◌, ◌<◌, ◌≤◌, length, get_or, set, map, List, [], ◌∷◌, ◌++◌, ℤ, pos, ◌+ℤ◌, ◌*ℤ◌, arith, refl, ap, sym, ◌∙◌, ⊎_elim, add-one, flat_map, fold}
 use Rattle.std.proofs.lemmas.Bool.{cases_eq, eq-eqb, ne_eqb}
 use Rattle.std.proofs.lemmas.Grind.{flat_map-append}
 use Rattle.std.proofs.lemmas.List.{append-nil, get_or-map, get_or-set_other, get_or-set_same, get_or_append_left, get_or_at, length-map, length-set, map-append, same_lists}
 use Rattle.std.proofs.lemmas.List.Sums.{fold-append}
 use Rattle.std.proofs.Math.IntN.{+ℤ_idl, +ℤ_idr, +ℤ_assoc}
 use Rattle.rdf_values.proofs.Below.{length-below}
-use Rattle.rdf_values.specs.Cuts.{below}
-use Rattle.rdf_values.specs.declared.item.Item.{Item}
+use Rattle.rdf_values.specs.{below, bin, cells_on, flat_cell, integer_sum, Item, weight_in}
 use Rattle.rdf_values.specs.declared.item.Item.TheVariants.{Point}
-use Rattle.rdf_values.specs.Fold.{Cell, bin, cell_of, cells_on, flat_cell, integer_sum, weight_in}
-use Rattle.histograms.specs.declared.cell_sum.CellSum.{CellSum}
-use Rattle.histograms.specs.Cells.{cell_seen, together, with_weight}
-use Rattle.histograms.specs.OneAxis.{flat_cells}
+use Rattle.rdf_values.specs.Fold.{Cell, cell_of}
+use Rattle.histograms.specs.{cell_seen, CellSum, flat_cells, together, with_weight}
 
 sum_from : (zs : List ℤ) (a : ℤ) → fold ◌+ℤ◌ a zs ≡ a +ℤ integer_sum zs
 sum_from [] a = sym (+ℤ_idr a)

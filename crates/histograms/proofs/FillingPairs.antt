@@ -1,18 +1,15 @@
 -- What a cell of two axes holds after one more point, and rows kept in one list.
-use Rattle.std.proofs.Common.{ℕ, suc, ◌≡◌, ◌+◌, ◌*◌, ◌<◌, ◌≤◌, length, get_or, set, map, take, drop, List, [], ◌∷◌, ◌++◌, ℤ, pos, ◌*ℤ◌, arith, refl, ap, sym, ◌∙◌, ⊎_elim, length-drop}
+use Rattle.std.proofs.Common.{ℕ, suc, ◌≡◌, ◌+◌, ◌*◌, ◌<◌, ◌≤◌, length, get_or, set, map, take, drop, List, [], ◌∷◌, ◌++◌, ℤ, pos, ◌*ℤ◌, arith, refl, ap, sym, ◌∙◌, ⊎_elim, length-drop, flat_map}
 use Rattle.std.proofs.lemmas.Bool.{cases_eq, eq-eqb, ne_eqb}
-use Rattle.std.specs.Prelude.{flat_map}
 use Rattle.std.proofs.lemmas.Grind.{flat_map-append}
 use Rattle.std.proofs.lemmas.List.{append-nil, get_or-drop, get_or-map, get_or-set_other, get_or-set_same, get_or-take, length-map, length-set, length-take-le, same_lists}
 use Rattle.std.proofs.lemmas.Nat.{same_from_place, rows}
 use Rattle.std.proofs.Math.IntN.{+ℤ_idl}
 use Rattle.rdf_values.proofs.Below.{map-below}
-use Rattle.rdf_values.specs.declared.item.Item.{Item}
+use Rattle.rdf_values.specs.{bin, cells_on, Item, square_cell, weight_in2}
 use Rattle.rdf_values.specs.declared.item.Item.TheVariants.{Point2}
-use Rattle.rdf_values.specs.Fold.{Cell, bin, cell_of, cells_on, square_cell, weight_in2}
-use Rattle.histograms.specs.declared.cell_sum.CellSum.{CellSum}
-use Rattle.histograms.specs.Cells.{cell_seen, together, with_weight}
-use Rattle.histograms.specs.TwoAxes.{rows_on, square_cells}
+use Rattle.rdf_values.specs.Fold.{Cell, cell_of}
+use Rattle.histograms.specs.{cell_seen, CellSum, rows_on, square_cells, together, with_weight}
 use Rattle.histograms.proofs.Filling.{cell_of-append, get_or-cells_on, joined, length-cells_on}
 
 -- functions that agree at each cell give the same list

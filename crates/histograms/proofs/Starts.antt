@@ -1,14 +1,12 @@
 -- Where the buckets of an axis begin, and the cell that is found by them.
 use mir.Val.{bool_byte}
-use Rattle.std.proofs.Common.{ℕ, ◌≡◌, ◌<◌, ◌≤◌, ◌+◌, ◌-◌, inl, inr, Bool, true, false, length, get_or, List, [], ℤ, pos, ◌-ℤ◌, ◌<ℤ◌, ◌≤ℤ◌, FitsSigned, w64, to_z, of_z, arith, refl, sym, subst, ◌∙◌, ap}
+use Rattle.std.proofs.Common.{ℕ, ◌≡◌, ◌<◌, ◌≤◌, ◌+◌, ◌-◌, inl, inr, Bool, true, false, length, get_or, List, [], ℤ, pos, ◌-ℤ◌, ◌<ℤ◌, ◌≤ℤ◌, FitsSigned, w64, to_z, of_z, arith, refl, sym, subst, ◌∙◌, ap, int_le, int_lt, unsigned_abs}
 use Rattle.std.proofs.Math.Pow.{shr_mono}
 use Rattle.std.proofs.lemmas.Int.{ints, to_z-of_z}
 use Rattle.std.proofs.lemmas.Bool.{cases_Bool, cases_lt, false_from_ne_true}
 use Rattle.std.proofs.lemmas.List.{get_or_default}
-use Rattle.std.specs.Prelude.{int_le, int_lt, unsigned_abs}
-use Rattle.rdf_values.specs.Fold.{bin}
-use Rattle.rdf_values.specs.Edges.{are_edges, rises}
-use Rattle.histograms.specs.Buckets.{AreStarts, KeepsEdges, bucket_of}
+use Rattle.rdf_values.specs.{are_edges, bin, rises}
+use Rattle.histograms.specs.{AreStarts, bucket_of, KeepsEdges}
 use Rattle.histograms.specs.declared.buckets.Buckets.{Buckets}
 use Rattle.histograms.proofs.Rising.{count_by-partition, partitioned_by_rise, rises_of_axis, two_of_axis}
 

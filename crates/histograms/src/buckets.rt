@@ -1,7 +1,6 @@
 // Buckets over the edges of an axis.
 ghost use Rattle.std.specs.Prelude.{◌≡◌, ◌<◌, ◌≤◌, ℕ, IfOk, OnOk, length, slice_index};
-ghost use Rattle.histograms.specs.Axis.{IsAxis};
-ghost use Rattle.histograms.specs.Buckets.{KeepsBuckets, bucket_of};
+ghost use Rattle.histograms.specs.{bucket_of, IsAxis, KeepsBuckets};
 
 use std::alloc::{AllocError, Global};
 

@@ -1,8 +1,7 @@
 // One cell of a histogram.
 ghost use Rattle.std.specs.Prelude.{◌≡◌, ◌<◌, ℕ, ◌+ℤ◌, ◌*ℤ◌, FitsSigned, length, slice_index_or};
 ghost use Rattle.std.specs.Int.{w128};
-ghost use Rattle.histograms.specs.declared.cell_sum.CellSum.{CellSum};
-ghost use Rattle.histograms.specs.Cells.{FitTogether, together, with_weight};
+ghost use Rattle.histograms.specs.{CellSum, FitTogether, together, with_weight};
 
 /// The sum of the weights in a cell, and the sum of their squares.
 #[derive(Clone, Copy, Debug, PartialEq, Eq)]

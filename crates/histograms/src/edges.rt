@@ -1,7 +1,6 @@
 // The edges of an axis.
 ghost use Rattle.std.specs.Prelude.{◌≡◌, ◌↔◌, ◌<◌, ◌-◌, ◌^◌, ◌+◌, ◌*◌, ◌≤◌, ℤ, List, length, true, false, IfOk};
-ghost use Rattle.rdf_values.specs.Fold.{bin};
-ghost use Rattle.rdf_values.specs.Edges.{are_edges, rises};
+ghost use Rattle.rdf_values.specs.{are_edges, bin, rises};
 ghost use Rattle.histograms.specs.Axis.{IsAxis};
 ghost use Rattle.histograms.specs.Buckets.{KeepsEdges};
 

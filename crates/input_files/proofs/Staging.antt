@@ -1,15 +1,11 @@
 -- What is due to a file, by what reading it came to.
-use Rattle.std.proofs.Common.{◌≡◌, inr, ℕ, Bool, true, false, List, length, nat_lt, Option, None, Some, Result, Ok, Err, sym, subst}
-use Rattle.std.specs.Prelude.{MatchResult}
+use Rattle.std.proofs.Common.{◌≡◌, inr, ℕ, Bool, true, false, List, length, nat_lt, Option, None, Some, Result, Ok, Err, sym, subst, MatchResult}
 use Rattle.std.specs.Bool.{MatchBool}
 use Rattle.std.proofs.lemmas.Bool.{le-ltb}
-use Rattle.rdf_values.specs.RefusalLines.{long_script_line, long_table_line, table_cause_line}
-use Rattle.rdf_values.specs.TableText.{MarkedTable, table_of}
-use Rattle.rdf_values.specs.declared.script.Script.{Script}
-use Rattle.rdf_values.specs.declared.table_cause.TableCause.{TableCause}
-use Rattle.table_csv.specs.Csv.{csv_records}
-use Rattle.input_files.specs.Due.{Due, FileStatuses, ReadsScript, WithScriptFile, WithTableFile, due_of, max_script, max_table}
-use Rattle.input_files.specs.Reading.{HoldsTheScript, HoldsTheTable}
+use Rattle.rdf_values.specs.{long_script_line, long_table_line, MarkedTable, Script, table_cause_line, table_of, TableCause}
+use Rattle.table_csv.specs.{csv_records}
+use Rattle.input_files.specs.{due_of, FileStatuses, HoldsTheScript, HoldsTheTable, max_script, max_table, ReadsScript, WithScriptFile, WithTableFile}
+use Rattle.input_files.specs.Due.{Due}
 
 module _ {S : Type 0} (statuses : FileStatuses S) where
   -- ---- scripts

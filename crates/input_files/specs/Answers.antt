@@ -1,7 +1,7 @@
 -- What a program leaves written, by its own statuses and by what is due of it, and the files that it turns to.
 use Rattle.std.specs.Prelude.{◌≡◌, ◌⊎◌, ◌+◌, ◌<◌, ℕ, List, [], ◌∷◌, ◌++◌, Option, IfSome, length}
-use Rattle.rdf_outside.specs.Outside.{Appends, AppendsPart, Rose}
-use Rattle.rdf_values.specs.RefusalLines.{read_failed_line}
+use Rattle.rdf_outside.specs.{Appends, AppendsPart, Rose}
+use Rattle.rdf_values.specs.{read_failed_line}
 use Rattle.input_files.specs.Due.{Due, due_of}
 
 -- a shelf's files by their names

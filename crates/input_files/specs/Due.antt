@@ -1,12 +1,8 @@
 -- What is due of a program to a script and a table: a status of its own and the bytes that are written with it.
 use Rattle.std.specs.Prelude.{◌≡◌, ◌⊎◌, ℕ, List, Option, length, nat_lt, MatchOption, MatchResult}
 use Rattle.std.specs.Bool.{MatchBool}
-use Rattle.rdf_values.specs.RefusalLines.{long_script_line, long_table_line, no_file_line, script_cause_line, table_cause_line}
-use Rattle.rdf_values.specs.Scripts.{IsScript, RefusesScript}
-use Rattle.rdf_values.specs.TableText.{MarkedTable, table_of}
-use Rattle.rdf_values.specs.declared.script.Script.{Script}
-use Rattle.rdf_values.specs.declared.script_cause.ScriptCause.{ScriptCause}
-use Rattle.table_csv.specs.Csv.{csv_records}
+use Rattle.rdf_values.specs.{IsScript, long_script_line, long_table_line, MarkedTable, no_file_line, RefusesScript, Script, script_cause_line, ScriptCause, table_cause_line, table_of}
+use Rattle.table_csv.specs.{csv_records}
 
 pub record Due (S : Type 0) : Type 0 where
   pub status : S

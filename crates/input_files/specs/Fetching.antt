@@ -1,11 +1,7 @@
 -- What reading a file by its name gives.
 use Rattle.std.specs.Prelude.{◌≡◌, ◌<◌, ◌≤◌, ℕ, List, Bool, Option, Some, None, Result, Ok, Err, length}
-use Rattle.rdf_values.specs.declared.memory.Memory.{Memory}
-use Rattle.rdf_outside.specs.Outside.{Rose}
-use Rattle.rdf_outside.specs.declared.shelf.TurnStop.{TurnStop}
-use Rattle.rdf_outside.specs.declared.shelf.TurnStop.TheVariants as stop
-use Rattle.rdf_outside.specs.declared.whole.ReadRefusal.{ReadRefusal}
-use Rattle.rdf_outside.specs.declared.whole.ReadRefusal.TheVariants as refusal
+use Rattle.rdf_values.specs.{Memory}
+use Rattle.rdf_outside.specs.{ReadRefusal, Rose, TurnStop}
 use Rattle.input_files.specs.declared.whole_file.Fetched.{Fetched}
 use Rattle.input_files.specs.declared.whole_file.Fetched.TheVariants.{Whole, Absent, TooLong, Failed}
 
@@ -33,12 +29,12 @@ IsFetched max files name before now fetched = IsFetchedIn (λ bytes. bytes) max 
 -- what a whole read is as a fetch
 abbrev pub fetched_by : {T : Type 0} → Result T ReadRefusal → Result (Fetched T) Memory
 fetched_by (Ok holder) = Ok (Whole holder)
-fetched_by (Err refusal.Memory) = Err (record {})
-fetched_by (Err refusal.Failed) = Ok Failed
-fetched_by (Err refusal.TooLarge) = Ok TooLong
+fetched_by (Err ReadRefusal.Memory) = Err (record {})
+fetched_by (Err ReadRefusal.Failed) = Ok Failed
+fetched_by (Err ReadRefusal.TooLarge) = Ok TooLong
 
 -- what is left where no file was turned to
 abbrev pub missed_by : {T : Type 0} → Result Bool TurnStop → Result (Fetched T) Memory
 missed_by (Ok found) = Ok Absent
-missed_by (Err stop.Memory) = Err (record {})
-missed_by (Err stop.Failed) = Ok Failed
+missed_by (Err TurnStop.Memory) = Err (record {})
+missed_by (Err TurnStop.Failed) = Ok Failed

@@ -1,18 +1,9 @@
 -- What reading a script's file, or a table's, comes to.
 use Rattle.std.specs.Prelude.{◌≡◌, ◌<◌, ◌≤◌, ℕ, List, All, Option, Some, None, Ok, MatchResult, length}
 use Rattle.columns.specs.ColumnsView.{ColumnsView}
-use Rattle.rdf_outside.specs.Outside.{Rose}
-use Rattle.rdf_values.specs.Bookable.{IsBookable}
-use Rattle.rdf_values.specs.Path.{history}
-use Rattle.rdf_values.specs.RefusalLines.{read_failed_line, script_cause_line, table_cause_line}
-use Rattle.rdf_values.specs.Scripts.{IsScript, RefusesScript}
-use Rattle.rdf_values.specs.TableText.{MarkedTable, table_of}
-use Rattle.rdf_values.specs.Words.{StatementsHaveWords}
-use Rattle.rdf_values.specs.declared.script.Script.{Script}
-use Rattle.rdf_values.specs.declared.script_cause.ScriptCause.{ScriptCause}
-use Rattle.table_csv.specs.ColumnsOver.{columns_over, marked_in}
-use Rattle.table_csv.specs.Csv.{csv_records}
-use Rattle.table_csv.specs.declared.marked_pieces.MarkedPieces.{MarkedPieces}
+use Rattle.rdf_outside.specs.{Rose}
+use Rattle.rdf_values.specs.{history, IsBookable, IsScript, MarkedTable, read_failed_line, RefusesScript, Script, script_cause_line, ScriptCause, StatementsHaveWords, table_cause_line, table_of}
+use Rattle.table_csv.specs.{columns_over, csv_records, marked_in, MarkedPieces}
 use Rattle.input_files.specs.Due.{Due, FileStatuses, WithScriptFile, WithTableFile, due_of, max_script, max_table}
 use Rattle.input_files.specs.Fetching.{Tells}
 use Rattle.input_files.specs.declared.file_cause.FileCause.{FileCause}

@@ -1,7 +1,7 @@
 // Refusals of files with their lines.
 ghost use Rattle.std.specs.Prelude.{◌≡◌, IfOk};
-ghost use Rattle.rdf_values.specs.RefusalLines.{no_file_line, read_failed_line};
-ghost use Rattle.result_text.specs.RefusalText.{refusal_text};
+ghost use Rattle.rdf_values.specs.{no_file_line, read_failed_line};
+ghost use Rattle.result_text.specs.{refusal_text};
 
 use crate::file_cause::FileCause;
 use crate::read_file::FileRefusal;

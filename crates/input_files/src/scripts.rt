@@ -1,6 +1,6 @@
 // Scripts in files.
 ghost use Rattle.std.specs.Prelude.{◌≡◌, ◌≤◌, ◌++◌, ◌∷◌, [], IfOk, length};
-ghost use Rattle.input_files.specs.Reading.{ReadsScriptFile, ReadsScriptText};
+ghost use Rattle.input_files.specs.{ReadsScriptFile, ReadsScriptText};
 
 use crate::file_cause::FileCause;
 use crate::read_file::ReadFile;

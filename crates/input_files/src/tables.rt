@@ -1,9 +1,8 @@
 // Tables in files.
 ghost use Rattle.std.specs.Prelude.{◌≡◌, ◌≤◌, ◌++◌, ◌∷◌, [], ℕ, List, Option, IfOk};
-ghost use Rattle.columns.specs.Wholes.{joined};
-ghost use Rattle.rdf_values.specs.RefusalLines.{table_cause_line};
-ghost use Rattle.input_files.specs.Fetching.{IsFetchedIn};
-ghost use Rattle.input_files.specs.Reading.{ReadsColumnsFile, ReadsColumnsText, ReadsTableFile, ReadsTableIn, ReadsTableText};
+ghost use Rattle.columns.specs.{joined};
+ghost use Rattle.rdf_values.specs.{table_cause_line};
+ghost use Rattle.input_files.specs.{IsFetchedIn, ReadsColumnsFile, ReadsColumnsText, ReadsTableFile, ReadsTableIn, ReadsTableText};
 ghost use Rattle.input_files.specs.declared.file_cause.FileCause.TheVariants.{TableRefused};
 
 use crate::file_cause::FileCause;

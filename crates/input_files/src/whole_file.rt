@@ -1,7 +1,7 @@
 // Whole files by their names.
 ghost use Rattle.std.specs.Prelude.{◌≡◌, ◌≤◌, ◌<◌, ◌^◌, ◌+◌, ◌++◌, ◌∷◌, [], IfOk};
-ghost use Rattle.columns.specs.Wholes.{joined};
-ghost use Rattle.input_files.specs.Fetching.{IsFetched, IsFetchedIn, fetched_by, missed_by};
+ghost use Rattle.columns.specs.{joined};
+ghost use Rattle.input_files.specs.{fetched_by, IsFetched, IsFetchedIn, missed_by};
 
 use rdf_outside::{ReadRefusal, Shelf, TurnStop, read_parts, read_whole};
 use rdf_values::{Bytes, Memory};

@@ -1,8 +1,7 @@
 -- Numbers that are compared.
-use Rattle.std.proofs.Common.{◌+ℤ◌, ◌+◌, ◌<◌, ◌≡◌, ◌≤◌, ◌⊎◌, arith, false, nat_eq, nat_lt, refl, true, ℕ, ℤ}
+use Rattle.std.proofs.Common.{◌+ℤ◌, ◌+◌, ◌<◌, ◌≡◌, ◌≤◌, ◌⊎◌, arith, false, nat_eq, nat_lt, refl, true, ℕ, ℤ, nat_abs, nat_le}
 use Rattle.std.proofs.lemmas.Bool.Decides.{Decides-eqb, Decides-ltb, nat_tests}
 use Rattle.std.proofs.lemmas.Int.{ints}
-use Rattle.std.specs.Prelude.{nat_abs, nat_le}
 
 pub le_true : (a b : ℕ) → a ≤ b → nat_le a b ≡ true
 le_true a b h = grind (arith, nat_tests)

@@ -1,8 +1,7 @@
 -- The front and the rest of a list.
-use Rattle.std.proofs.Common.{[], ◌++◌, ◌+◌, ◌-◌, ◌∙◌, ◌∷◌, ◌≡◌, ◌≤◌, List, Some, ap, arith, drop, length, length-drop, refl, suc, sym, take, zero, ℕ}
+use Rattle.std.proofs.Common.{[], ◌++◌, ◌+◌, ◌-◌, ◌∙◌, ◌∷◌, ◌≡◌, ◌≤◌, List, Some, ap, arith, drop, length, length-drop, refl, suc, sym, take, zero, ℕ, slice_get, slice_range}
 use Rattle.std.proofs.lemmas.List.{take_more}
 use Rattle.std.proofs.lemmas.Option.{get_or_from_slice_get, slice_get_within}
-use Rattle.std.specs.Prelude.{slice_get, slice_range}
 
 pub take_none : {A : Type 0} (k : ℕ) → take {A = A} k [] ≡ []
 take_none zero = refl

@@ -1,7 +1,6 @@
 -- What stands at a place of a list.
-use Rattle.std.proofs.Common.{[], ◌++◌, ◌+◌, ◌<◌, ◌||◌, ◌∙◌, ◌∷◌, ◌≡◌, ◌⊎◌, Bool, List, Some, ap, arith, inl, inr, length, map, refl, suc, true, zero, ℕ}
+use Rattle.std.proofs.Common.{[], ◌++◌, ◌+◌, ◌<◌, ◌||◌, ◌∙◌, ◌∷◌, ◌≡◌, ◌⊎◌, Bool, List, Some, ap, arith, inl, inr, length, map, refl, suc, true, zero, ℕ, slice_get, slice_set}
 use Rattle.std.specs.List.{list_any}
-use Rattle.std.specs.Prelude.{slice_get, slice_set}
 use Rattle.lemmas.proofs.Booleans.{or_true}
 
 pub something_at : {A : Type 0} (xs : List A) (i : ℕ) → i < length xs → (x : A) × (slice_get xs i ≡ Some x)

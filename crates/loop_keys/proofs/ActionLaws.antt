@@ -1,16 +1,12 @@
 -- An action's pass: what is tried can be, and what comes of it is what the pass does by itself.
 use Rattle.std.proofs.Common.{ℕ, ◌<◌, List, [], ◌∷◌, length, Option, sym, ◌∙◌, ap, subst}
 use Rattle.std.specs.List.{AllByRecursion}
-use Rattle.rdf_values.specs.Functions.{fn_names}
-use Rattle.rdf_values.specs.Path.{history}
-use Rattle.rdf_values.specs.declared.action.ActionKind.{ActionKind}
-use Rattle.rdf_model.specs.Evaluation.{for_all}
-use Rattle.graph_numbers.specs.Graphs.{graph_under, graph_sites}
+use Rattle.rdf_values.specs.{ActionKind, fn_names, history}
+use Rattle.rdf_model.specs.{for_all}
+use Rattle.graph_numbers.specs.{graph_sites, graph_under}
 use Rattle.graph_numbers.proofs.Extending.{itself, versions_count}
 use Rattle.loop_keys.proofs.ActionNumbers.{IsGivenBelow, IsSoundAction, IsSoundBooking, result_sound}
-use Rattle.loop_keys.specs.Jobs.{JobView, IsJob, job_graph}
-use Rattle.loop_keys.specs.Passes.{AreReadable, CanAct, IsActionAt}
-use Rattle.loop_keys.specs.Store.{row_of, version_in}
+use Rattle.loop_keys.specs.{AreReadable, CanAct, IsActionAt, IsJob, job_graph, JobView, row_of, version_in}
 use Rattle.loop_keys.proofs.ColumnLaws.{fits_at}
 use Rattle.loop_keys.proofs.EvaluateLaws.{accepted_of}
 

@@ -3,26 +3,10 @@ use Rattle.std.proofs.Common.{◌≡◌, ℕ, suc, ◌<◌, ◌≤◌, List, [],
 use Rattle.std.specs.Prelude.{⊤}
 use Rattle.std.specs.List.{AllByRecursion}
 use Rattle.std.proofs.lemmas.List.{length-map, append_assoc, append-nil}
-use Rattle.rdf_values.specs.Bookings.{ActionAt, Booking, ReportOn, columns_of, bookings}
-use Rattle.rdf_values.specs.Functions.{fn_names}
-use Rattle.rdf_values.specs.Kinds.{scope_of, Scope, FunctionNames, column_kind}
-use Rattle.rdf_values.specs.Path.{Under, path}
-use Rattle.rdf_values.specs.Verdict.{AreAccepted, permitted_kinds, may_begin, check_columns, check_node, check_edges, check_results, check_passes, scope_at}
-use Rattle.rdf_values.specs.declared.action.ActionKind.{ActionKind}
-use Rattle.rdf_values.specs.declared.graph_cause.GraphCause.{GraphCause}
-use Rattle.rdf_values.specs.declared.statement.Statement.{Statement}
+use Rattle.rdf_values.specs.{ActionAt, ActionKind, AreAccepted, Booking, bookings, check_columns, check_edges, check_node, check_passes, check_results, ColType, column_kind, columns_of, FitsKind, FitsRow, fn_names, FunctionNames, GraphCause, may_begin, path, permitted_kinds, ReportOn, Scope, scope_at, scope_of, Statement, Under, Value}
 use Rattle.rdf_values.specs.declared.statement.Statement.TheVariants.{Action}
-use Rattle.rdf_values.specs.declared.value.ColType.{ColType}
-use Rattle.rdf_values.specs.declared.value.Value.{Value}
-use Rattle.rdf_model.specs.ColumnValues.{column_value}
-use Rattle.rdf_model.specs.Evaluation.{Gives, Outcome, for_all}
-use Rattle.rdf_model.specs.Results.{Dataset}
-use Rattle.rdf_values.specs.Tables.{FitsRow, FitsKind}
-use Rattle.rdf_model.specs.Laws.{FitsFeed, Meets, FitKinds}
-use Rattle.graph_numbers.specs.Results.{ResultAt, results}
-use Rattle.graph_numbers.specs.Sites.{filter_sites, own_sites, site_count, sites}
-use Rattle.graph_numbers.specs.Sources.{IsBelow, source_in, sources}
-use Rattle.graph_numbers.specs.Versions.{version_at, version_count}
+use Rattle.rdf_model.specs.{column_value, Dataset, FitKinds, FitsFeed, for_all, Gives, Meets, Outcome}
+use Rattle.graph_numbers.specs.{filter_sites, IsBelow, own_sites, ResultAt, results, site_count, sites, source_in, sources, version_at, version_count}
 use Rattle.graph_numbers.proofs.ColumnSources.{column_source}
 use Rattle.graph_numbers.proofs.Equations.{below_of, version_value}
 use Rattle.graph_numbers.proofs.Extending.{Extends, further, itself, shorter}
@@ -30,8 +14,6 @@ use Rattle.graph_numbers.proofs.Listed.{by_test}
 use Rattle.graph_numbers.proofs.Passing.{AreVisible, action_visible, values_are}
 use Rattle.graph_numbers.proofs.Ranges.{filter_sites_below, further_below}
 use Rattle.graph_numbers.proofs.Walks.{each_result}
-use Rattle.rdf_values.specs.declared.action.ActionKind.TheVariants as action
-use Rattle.rdf_values.specs.declared.graph_cause.GraphCause.TheVariants as cause
 use Rattle.rdf_model.proofs.Typing.{meets_bind}
 use Rattle.rdf_model.proofs.Accepted.{both_none, column_fits}
 
@@ -61,23 +43,23 @@ module _ (scope : Scope) (permitted : List (List ColType)) where
       at_kind t q r = (t ∷ r.0, (q, r.1), ap (may_begin permitted) (sym (append_assoc kinds (t ∷ []) r.0)) ∙ r.2)
 
       go : (r : Result ColType GraphCause) → column_kind scope c ≡ r
-          → (elim r as (λ _. Option GraphCause) [ Err cause' ↦ Some cause' | Ok t ↦ (if may_begin permitted (kinds ++ t ∷ []) then check_columns scope permitted (kinds ++ t ∷ []) cs else Some cause.WrongType) ]) ≡ None
+          → (elim r as (λ _. Option GraphCause) [ Err cause' ↦ Some cause' | Ok t ↦ (if may_begin permitted (kinds ++ t ∷ []) then check_columns scope permitted (kinds ++ t ∷ []) cs else Some GraphCause.WrongType) ]) ≡ None
           → ((t : ColType) → may_begin permitted (kinds ++ t ∷ []) ≡ true → check_columns scope permitted (kinds ++ t ∷ []) cs ≡ None → HasKinds (kinds ++ t ∷ []) cs) → HasKinds kinds (c ∷ cs)
       go (Err e) q k next = cc k
       go (Ok t) q k next = by_test (may_begin permitted (kinds ++ t ∷ [])) (λ e. at_kind t q (next t e (rw e at k))) (λ e. cc (rw e at k))
 
 -- no kinds begin each permitted list
 none_begin : (k : ActionKind) → may_begin (permitted_kinds k) [] ≡ true
-none_begin action.Count = refl
-none_begin (action.Sum c) = refl
-none_begin (action.Min c) = refl
-none_begin (action.Max c) = refl
-none_begin (action.Take c) = refl
-none_begin (action.Reduce o c) = refl
-none_begin (action.Histo1D edges x None) = refl
-none_begin (action.Histo1D edges x (Some w)) = refl
-none_begin (action.Histo2D xs ys x y None) = refl
-none_begin (action.Histo2D xs ys x y (Some w)) = refl
+none_begin ActionKind.Count = refl
+none_begin (ActionKind.Sum c) = refl
+none_begin (ActionKind.Min c) = refl
+none_begin (ActionKind.Max c) = refl
+none_begin (ActionKind.Take c) = refl
+none_begin (ActionKind.Reduce o c) = refl
+none_begin (ActionKind.Histo1D edges x None) = refl
+none_begin (ActionKind.Histo1D edges x (Some w)) = refl
+none_begin (ActionKind.Histo2D xs ys x y None) = refl
+none_begin (ActionKind.Histo2D xs ys x y (Some w)) = refl
 
 -- ---- their values
 

@@ -1,35 +1,19 @@
 -- The columns of a site can be asked for, and come to values of their kinds.
-use Rattle.std.proofs.Common.{◌≡◌, inl, inr, ℕ, zero, suc, ◌<◌, Bool, not, List, [], ◌∷◌, map, length, Option, Some, sym, ◌∙◌, subst, arith, nat_eq, slice_get}
-use Rattle.std.specs.Prelude.{filter, unwrap_or}
+use Rattle.std.proofs.Common.{◌≡◌, inl, inr, ℕ, zero, suc, ◌<◌, Bool, not, List, [], ◌∷◌, map, length, Option, Some, sym, ◌∙◌, subst, arith, nat_eq, slice_get, filter, unwrap_or}
 use Rattle.std.specs.List.{AllByRecursion}
 use Rattle.std.proofs.lemmas.List.Elements.{All-from_recursion, recursion_from_All}
 use Rattle.std.proofs.lemmas.Option.{slice_get_within}
-use Rattle.rdf_values.specs.Functions.{fn_names}
-use Rattle.rdf_values.specs.Path.{history}
-use Rattle.rdf_values.specs.Tree.{NumTree}
-use Rattle.rdf_values.specs.declared.column.Column.{Column}
-use Rattle.rdf_values.specs.declared.value.ColType.{ColType}
-use Rattle.rdf_values.specs.declared.value.Value.{Value}
-use Rattle.rdf_model.specs.Evaluation.{Outcome}
-use Rattle.rdf_values.specs.Depends.{columns_in}
-use Rattle.rdf_values.specs.Tables.{FitsRow, FitRows}
-use Rattle.rdf_model.specs.Laws.{FitsOutcome}
-use Rattle.expr_check.specs.NumKinds.{CheckedExpr, distinct}
-use Rattle.graph_numbers.specs.Graphs.{IsSiteExpr, graph_kinds, graph_sites, graph_under}
-use Rattle.graph_numbers.specs.Sites.{SiteAt}
-use Rattle.graph_numbers.specs.Sources.{IsBelow}
-use Rattle.graph_numbers.specs.Versions.{version_count}
-use Rattle.graph_numbers.specs.declared.source.Source.{Source}
-use Rattle.graph_numbers.specs.declared.source.Source.TheVariants as from
+use Rattle.rdf_values.specs.{ColType, Column, columns_in, FitRows, FitsRow, fn_names, history, NumTree, Value}
+use Rattle.rdf_model.specs.{FitsOutcome, Outcome}
+use Rattle.expr_check.specs.{CheckedExpr, distinct}
+use Rattle.graph_numbers.specs.{graph_kinds, graph_sites, graph_under, IsBelow, IsSiteExpr, SiteAt, Source, version_count}
 use Rattle.graph_numbers.proofs.Equations.{columns_below}
 use Rattle.graph_numbers.proofs.Extending.{versions_count}
 use Rattle.graph_numbers.proofs.Listed.{by_test}
 use Rattle.graph_numbers.proofs.Meeting.{In, here, there, each_both, in_joined, in_left, each_at}
 use Rattle.graph_numbers.proofs.VersionKinds.{FitsVersion, site_fits}
 use Rattle.loop_keys.proofs.Elements.{at_in, each_in, of_option}
-use Rattle.loop_keys.specs.Jobs.{JobView, IsJob, job_graph}
-use Rattle.loop_keys.specs.Store.{row_of, version_in, IsSound, source_at, look_at, CanLook, CanEvaluate, IsReadable}
-use Rattle.loop_keys.specs.declared.held.Held.{Held}
+use Rattle.loop_keys.specs.{CanEvaluate, CanLook, Held, IsJob, IsReadable, IsSound, job_graph, JobView, look_at, row_of, source_at, version_in}
 use Rattle.loop_keys.proofs.EvaluateLaws.{accepted_of, told, IsToldOf}
 
 of_filter : {A : Type 0} {x : A} (p : A → Bool) (xs : List A) → In x (filter p xs) → In x xs
@@ -87,9 +71,9 @@ module _ (j : JobView) (job : IsJob j) (entry : ℕ) (u : Option ℕ) (cells : L
           }
         where
           further_below : (src : Source) → IsBelow (length j.dataset.columns) s src → IsBelow (length j.dataset.columns) (length (graph_sites (job_graph j))) src
-          further_below (from.Cell col) h = h
-          further_below (from.Site i) h = let lt = slice_get_within (graph_sites (job_graph j)) s x q in omega (arith, h, lt)
-          further_below (from.Element i k tags) h = let lt = slice_get_within (graph_sites (job_graph j)) s x q in omega (arith, h, lt)
+          further_below (Source.Cell col) h = h
+          further_below (Source.Site i) h = let lt = slice_get_within (graph_sites (job_graph j)) s x q in omega (arith, h, lt)
+          further_below (Source.Element i k tags) h = let lt = slice_get_within (graph_sites (job_graph j)) s x q in omega (arith, h, lt)
 
           readable : (c : ℕ) → (c < version_count j.dataset.columns (history j.script)) × IsBelow (length j.dataset.columns) s (source_at j u c) → IsReadable j u c
           readable c h = (

@@ -1,28 +1,16 @@
 -- Which named filters reports cover: by the nodes of the filters, and by their numbers.
-use Rattle.std.proofs.Common.{◌≡◌, ◌⊎◌, inl, inr, ℕ, zero, suc, ◌<◌, Bool, true, false, ◌||◌, List, [], ◌∷◌, length, map, Option, Some, None, refl, sym, ◌∙◌, ap, arith, nat_eq, get_or, slice_get, unwrap_or}
-use Rattle.std.specs.Prelude.{Contains}
+use Rattle.std.proofs.Common.{◌≡◌, ◌⊎◌, inl, inr, ℕ, zero, suc, ◌<◌, Bool, true, false, ◌||◌, List, [], ◌∷◌, length, map, Option, Some, None, refl, sym, ◌∙◌, ap, arith, nat_eq, get_or, slice_get, unwrap_or, Contains}
 use Rattle.std.specs.List.{list_any}
 use Rattle.std.proofs.lemmas.Bool.{cases_order}
 use Rattle.std.proofs.lemmas.Bool.Decides.{Decides-eqb}
 use Rattle.std.proofs.lemmas.List.{length-map}
 use Rattle.std.proofs.lemmas.Option.{slice_get-get_or, slice_get_within}
-use Rattle.lemmas.proofs.Booleans.{or_left, or_right}
-use Rattle.lemmas.proofs.Places.{mapped_at}
-use Rattle.rdf_values.specs.Bookings.{ActionAt, Booked, Booking, Pass, ReportOn, bookings, named_before}
-use Rattle.rdf_values.specs.Functions.{Function, fn_names}
-use Rattle.rdf_values.specs.Kinds.{FunctionNames, scope_of}
-use Rattle.rdf_values.specs.Names.{same}
-use Rattle.rdf_values.specs.Path.{history, makes}
-use Rattle.rdf_values.specs.Verdict.{AreAccepted, check}
-use Rattle.rdf_values.specs.declared.column.Column.{Column}
-use Rattle.rdf_values.specs.declared.statement.Statement.{Statement}
+use Rattle.lemmas.proofs.{mapped_at, or_left, or_right}
+use Rattle.rdf_values.specs.{ActionAt, AreAccepted, Booked, Booking, bookings, check, Column, fn_names, Function, FunctionNames, history, makes, named_before, Pass, ReportOn, same, scope_of, Statement}
 use Rattle.rdf_values.specs.declared.statement.Statement.TheVariants.{Filter, Report}
-use Rattle.rdf_model.specs.Loops.{loop_passes, loop_results}
-use Rattle.rdf_model.specs.LoopFacts.{filter_node, is_covered, reports_on}
+use Rattle.rdf_model.specs.{filter_node, is_covered, loop_passes, loop_results, reports_on}
 use Rattle.rdf_model.proofs.Accepted.{itself as same_itself, names_equal}
-use Rattle.graph_numbers.specs.Graphs.{graph_filters, graph_loops, graph_results}
-use Rattle.graph_numbers.specs.Results.{FilterAt, ResultAt, filters, own_filters, pass_at, results}
-use Rattle.graph_numbers.specs.declared.pass.Pass.{Pass as NumberedPass}
+use Rattle.graph_numbers.specs.{FilterAt, filters, graph_filters, graph_loops, graph_results, own_filters, Pass as NumberedPass, pass_at, ResultAt, results}
 use Rattle.graph_numbers.proofs.Apart.{AreApart, MadeBy, both_apart, eq_false, is_new, one_apart, other_way}
 use Rattle.graph_numbers.proofs.Closing.{some_is}
 use Rattle.graph_numbers.proofs.Covering.{AreNumbersOf, covered_numbers, filters_are, numbers_later}
@@ -31,10 +19,7 @@ use Rattle.graph_numbers.proofs.Listed.{by_test, only_at}
 use Rattle.graph_numbers.proofs.Looping.{loops_are}
 use Rattle.graph_numbers.proofs.Walks.{each_filter, each_result}
 use Rattle.graph_numbers.proofs.Resulting.{booked_are}
-use Rattle.loop_keys.specs.Caches.{IsCovered}
-use Rattle.loop_keys.specs.Jobs.{JobView, IsJob, job_graph, passes_in}
-use Rattle.loop_keys.specs.Plans.{covered_in}
-use Rattle.loop_keys.specs.Turns.{covers_of, is_covering, numbered_passes}
+use Rattle.loop_keys.specs.{covered_in, covers_of, is_covering, IsCovered, IsJob, job_graph, JobView, numbered_passes, passes_in}
 use Rattle.loop_keys.proofs.EvaluateLaws.{accepted_of}
 use Rattle.loop_keys.proofs.Elements.{of_mapped, of_option}
 

@@ -1,22 +1,15 @@
 -- How many keys the passes of an entry demand: at most as many as there are demands, each counted once.
-use Rattle.std.proofs.Common.{◌≡◌, ℕ, ◌≤◌, Bool, true, ◌&&◌, List, [], Some, None, refl, sym, ap, subst, nat_eq, unwrap_or}
-use Rattle.std.specs.Prelude.{flat_map}
+use Rattle.std.proofs.Common.{◌≡◌, ℕ, ◌≤◌, Bool, true, ◌&&◌, List, [], Some, None, refl, sym, ap, subst, nat_eq, unwrap_or, flat_map}
 use Rattle.std.specs.List.{list_any}
 use Rattle.std.proofs.lemmas.Bool.Decides.{Decides-eqb}
 use Rattle.std.proofs.lemmas.List.Elements.{All-from_recursion}
-use Rattle.lemmas.proofs.Booleans.{both_true}
-use Rattle.rdf_values.specs.Names.{same}
-use Rattle.rdf_values.specs.Path.{Under, Variation, same_variation}
-use Rattle.rdf_values.specs.declared.value.Value.{Value}
-use Rattle.rdf_model.specs.Demanded.{Demand, Site, demanded, distinct, pass_demands, same_demand, same_site, same_under}
+use Rattle.lemmas.proofs.{both_true}
+use Rattle.rdf_values.specs.{same, same_variation, Under, Value, Variation}
+use Rattle.rdf_model.specs.{Demand, demanded, distinct, pass_demands, same_demand, same_site, same_under, Site}
 use Rattle.rdf_model.proofs.Accepted.{names_equal}
 use Rattle.graph_numbers.proofs.Listed.{by_test}
 use Rattle.graph_numbers.proofs.Meeting.{In, here, there}
-use Rattle.loop_keys.specs.Entries.{entry_demands}
-use Rattle.loop_keys.specs.Jobs.{JobView, job_graph, passes_in}
-use Rattle.loop_keys.specs.Keys.{demand_key}
-use Rattle.loop_keys.specs.Store.{keys_in, row_of}
-use Rattle.loop_keys.specs.Turns.{HasAllDemands}
+use Rattle.loop_keys.specs.{demand_key, entry_demands, HasAllDemands, job_graph, JobView, keys_in, passes_in, row_of}
 use Rattle.loop_keys.proofs.DemandSets.{keys_few}
 use Rattle.loop_keys.proofs.Elements.{any_in, each_in, in_any, in_flat}
 

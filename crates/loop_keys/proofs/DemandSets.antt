@@ -1,28 +1,19 @@
 -- What a pass demands, as a set of sites by their keys; and how many keys that is.
-use Rattle.std.proofs.Common.{◌≡◌, ℕ, zero, suc, ◌+◌, ◌<◌, ◌≤◌, Bool, true, false, ◌||◌, List, [], ◌∷◌, length, Option, Some, refl, sym, ◌∙◌, ap, subst, arith, nat_eq, slice_get, if◌then◌else◌, take, None}
-use Rattle.std.specs.Prelude.{All, count_by}
+use Rattle.std.proofs.Common.{◌≡◌, ℕ, zero, suc, ◌+◌, ◌<◌, ◌≤◌, Bool, true, false, ◌||◌, List, [], ◌∷◌, length, Option, Some, refl, sym, ◌∙◌, ap, subst, arith, nat_eq, slice_get, if◌then◌else◌, take, None, All, count_by}
 use Rattle.std.specs.List.{list_any}
 use Rattle.std.proofs.lemmas.Bool.Decides.{Decides-eqb}
 use Rattle.std.proofs.lemmas.List.Elements.{recursion_from_All}
-use Rattle.rdf_values.specs.Functions.{fn_names}
-use Rattle.rdf_values.specs.Path.{history, Variation}
-use Rattle.rdf_model.specs.Demanded.{Demand, projected}
-use Rattle.graph_numbers.specs.Graphs.{graph_sites, graph_under, graph_variations, holds_at}
-use Rattle.graph_numbers.specs.Meets.{HasSourceIn}
-use Rattle.graph_numbers.specs.Sites.{SiteAt, depends_on}
-use Rattle.graph_numbers.specs.declared.source.Source.{Source}
-use Rattle.graph_numbers.specs.declared.source.Source.TheVariants as from
+use Rattle.rdf_values.specs.{fn_names, history, site_depends, Variation}
+use Rattle.rdf_model.specs.{Demand, projected}
+use Rattle.graph_numbers.specs.{depends_on, graph_sites, graph_under, graph_variations, HasSourceIn, holds_at, SiteAt, Source}
 use Rattle.graph_numbers.proofs.Closing.{IsDemanded, closed}
 use Rattle.graph_numbers.proofs.Demands.{AreExplained}
 use Rattle.graph_numbers.proofs.Meeting.{In}
-use Rattle.loop_keys.specs.Jobs.{JobView, IsJob, job_graph}
-use Rattle.loop_keys.specs.Keys.{key, demand_key, keys_before, slot, slot_at, key_or_first, under_number}
-use Rattle.loop_keys.specs.Store.{row_of, source_at, IsClosed, IsSourceIn, HasAllKeys, keys_in}
+use Rattle.loop_keys.specs.{demand_key, HasAllKeys, IsClosed, IsJob, IsSourceIn, job_graph, JobView, key, key_or_first, keys_before, keys_in, row_of, slot, slot_at, source_at, under_number}
 use Rattle.loop_keys.proofs.Elements.{any_in, at_in, in_any}
 use Rattle.graph_numbers.proofs.Listed.{by_test}
 use Rattle.loop_keys.proofs.EvaluateLaws.{accepted_of}
 use Rattle.loop_keys.proofs.KeyLaws.{key_is, key_site}
-use Rattle.rdf_values.specs.Depends.{site_depends}
 use Rattle.graph_numbers.proofs.Apart.{site_number, variation_number}
 
 -- ---- how many keys a list has
@@ -113,9 +104,9 @@ module _ (j : JobView) (job : IsJob j) (entry : ℕ) (u : Option ℕ) (ds : List
       (w.site, ap (slice_get (graph_sites (job_graph j))) n ∙ w.there_is, subst (λ (y : Demand). In y ds) w.is d.1)
 
   source_by : (x : Source) → HasSourceIn Demanded x → IsSourceIn in_demands x
-  source_by (from.Cell col) h = tt
-  source_by (from.Site s) h = demanded_in s h
-  source_by (from.Element s k tags) h = demanded_in s h
+  source_by (Source.Cell col) h = tt
+  source_by (Source.Site s) h = demanded_in s h
+  source_by (Source.Element s k tags) h = demanded_in s h
 
   -- the set has with each site those of the versions that its evaluation meets
   pub demands_closed : IsClosed j entry u in_demands

@@ -1,20 +1,11 @@
 -- One pass of an entry, over plain values.
-use Rattle.std.proofs.Common.{◌≡◌, ℕ, zero, suc, ◌+◌, ◌<◌, ◌≤◌, List, [], ◌∷◌, ◌++◌, length, take, Option, Some, None, option_map, refl, sym, ◌∙◌, ap, arith, get_or, slice_get}
-use Rattle.std.specs.Prelude.{MatchOption}
+use Rattle.std.proofs.Common.{◌≡◌, ℕ, zero, suc, ◌+◌, ◌<◌, ◌≤◌, List, [], ◌∷◌, ◌++◌, length, take, Option, Some, None, option_map, refl, sym, ◌∙◌, ap, arith, get_or, slice_get, MatchOption}
 use Rattle.std.proofs.lemmas.Option.{slice_get-get_or}
-use Rattle.lemmas.proofs.Parts.{take_all}
-use Rattle.rdf_values.specs.Bookings.{ActionAt, Booking, Pass, ReportOn}
-use Rattle.rdf_values.specs.Path.{Path}
-use Rattle.rdf_values.specs.declared.action.ActionKind.{ActionKind}
-use Rattle.rdf_model.specs.LoopFacts.{kind_in, kinds_in}
-use Rattle.graph_numbers.specs.Graphs.{graph_results}
-use Rattle.graph_numbers.specs.Results.{ResultAt, kind_of_booking}
-use Rattle.graph_numbers.specs.declared.pass.Pass.{Pass as NumberedPass}
-use Rattle.graph_numbers.specs.declared.result_kind.ResultKind.{ResultKind}
-use Rattle.graph_numbers.specs.declared.result_kind.ResultKind.TheVariants as what
-use Rattle.loop_keys.specs.Caches.{IsActionBooking, IsActionPass, numbered_in}
-use Rattle.loop_keys.specs.Jobs.{JobView, job_graph, passes_in}
-use Rattle.loop_keys.specs.Turns.{IsReportPass, actions_before, numbered_passes}
+use Rattle.lemmas.proofs.{take_all}
+use Rattle.rdf_values.specs.{ActionAt, ActionKind, Booking, Pass, Path, ReportOn}
+use Rattle.rdf_model.specs.{kind_in, kinds_in}
+use Rattle.graph_numbers.specs.{graph_results, kind_of_booking, Pass as NumberedPass, ResultAt, ResultKind}
+use Rattle.loop_keys.specs.{actions_before, IsActionBooking, IsActionPass, IsReportPass, job_graph, JobView, numbered_in, numbered_passes, passes_in}
 use Rattle.loop_keys.proofs.PassNumbers.{result_there, some_same}
 use Rattle.loop_keys.proofs.PassTies.{pass_of}
 use Rattle.loop_keys.proofs.Taken.{place_next, place_same}
@@ -46,10 +37,10 @@ module _ (j : JobView) (n : ℕ) (m : NumberedPass) (its : numbered_in j n ≡ S
   found_is : found ≡ kind_of_booking its_result.booked.booking
   found_is = some_same found (kind_of_booking its_result.booked.booking) (sym q ∙ ap (option_map (λ (x : ResultAt). kind_of_booking x.booked.booking)) (result_there j n m its).1)
 
-  pub found_report : found ≡ what.Report → IsReportPass j n m.result
+  pub found_report : found ≡ ResultKind.Report → IsReportPass j n m.result
   found_report e = go its_result.booked.booking refl (sym found_is ∙ e)
     where
-      go : (b : Booking) → its_result.booked.booking ≡ b → kind_of_booking b ≡ what.Report → IsReportPass j n m.result
+      go : (b : Booking) → its_result.booked.booking ≡ b → kind_of_booking b ≡ ResultKind.Report → IsReportPass j n m.result
       go (ActionAt l at) s h = cc h
       go (ReportOn fs) s h = record { numbered = m; its_pass = its; its_result = refl; result = its_result; there_is = (result_there j n m its).1; filters = fs; report = s }
 

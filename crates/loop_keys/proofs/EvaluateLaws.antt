@@ -2,33 +2,16 @@
 use Rattle.std.proofs.Common.{◌≡◌, ◌≢◌, ◌⊎◌, inl, inr, ℕ, ◌<◌, Bool, true, false, List, length, Option, Some, None, refl, sym, ◌∙◌, ap, subst, arith, nat_eq, slice_get, if◌then◌else◌}
 use Rattle.std.proofs.lemmas.Bool.Decides.{Decides-eqb}
 use Rattle.std.proofs.lemmas.Option.{slice_get_within}
-use Rattle.rdf_values.specs.Functions.{fn_names}
-use Rattle.rdf_values.specs.Kinds.{scope_of}
-use Rattle.rdf_values.specs.Path.{history}
-use Rattle.rdf_values.specs.Verdict.{AreAccepted}
-use Rattle.rdf_values.specs.declared.value.Value.{Value}
-use Rattle.rdf_model.specs.ColumnValues.{tag_element}
-use Rattle.rdf_model.specs.Demanded.{with_needs}
-use Rattle.rdf_model.specs.Evaluation.{Outcome, Gives, Faults, Needs, ◌>>=◌, evaluate, call_outcome, is_need, without}
-use Rattle.rdf_values.specs.EachColumn.{EachColumn}
-use Rattle.rdf_values.specs.declared.value.Value.TheVariants as val
+use Rattle.rdf_values.specs.{AreAccepted, EachColumn, fn_names, history, scope_of, Value}
+use Rattle.rdf_model.specs.{◌>>=◌, call_outcome, evaluate, Faults, Gives, is_need, Needs, Outcome, tag_element, with_needs, without}
 use Rattle.rdf_model.proofs.Close as close
 use Rattle.rdf_model.proofs.Verdicts.{verdict_is_the_first_refusal}
-use Rattle.graph_numbers.specs.Graphs.{graph_sites, graph_under}
-use Rattle.graph_numbers.specs.Sites.{SiteAt, site_outcome}
-use Rattle.graph_numbers.specs.Sources.{IsBelow, site_value, source_value}
-use Rattle.graph_numbers.specs.Versions.{version_count}
-use Rattle.graph_numbers.specs.declared.source.Source.{Source}
-use Rattle.graph_numbers.specs.declared.source.Source.TheVariants as from
+use Rattle.graph_numbers.specs.{graph_sites, graph_under, IsBelow, site_outcome, site_value, SiteAt, Source, source_value, version_count}
 use Rattle.graph_numbers.proofs.Equations as equations
 use Rattle.graph_numbers.proofs.Extending.{versions_count}
 use Rattle.rdf_model.proofs.KnownColumns.{each_weaker}
 use Rattle.rdf_model.proofs.Missing.{site_alike, alike_is}
-use Rattle.loop_keys.specs.Jobs.{JobView, IsJob, job_graph}
-use Rattle.loop_keys.specs.Keys.{key}
-use Rattle.loop_keys.specs.Store.{held_in, is_held, IsRight, row_of, site_in, source_at, version_in, IsSound, held_or_need, looked_source, look_at, IsMissingSource, IsMissing, MeetsAt}
-use Rattle.loop_keys.specs.declared.held.Held.{Held}
-use Rattle.loop_keys.specs.declared.held.Held.TheVariants as held
+use Rattle.loop_keys.specs.{Held, held_in, held_or_need, is_held, IsJob, IsMissing, IsMissingSource, IsRight, IsSound, job_graph, JobView, key, look_at, looked_source, MeetsAt, row_of, site_in, source_at, version_in}
 
 pub accepted_of : (j : JobView) → IsJob j → AreAccepted (fn_names j.dataset.fns) (scope_of j.dataset.columns) (history j.script)
 accepted_of j job = (verdict_is_the_first_refusal (fn_names j.dataset.fns) j.dataset.columns j.script).0 job.graph.accepted
@@ -48,8 +31,8 @@ module _ (j : JobView) (job : IsJob j) (entry : ℕ) (u : Option ℕ) (cells : L
   IsToldOf c = (look_at j entry u cells c ≡ version_in j entry u c) ⊎ ((look_at j entry u cells c ≡ Needs c) × IsMissing j u cells s c)
 
   -- nothing is held, or what the site comes to
-  held_is : {P : Type 0} (t : ℕ) (h : Held) → IsRight (site_in j entry u t) h → (h ≡ held.Nothing → P) → (((c : ℕ) → held_or_need c h ≡ site_in {M = ℕ} j entry u t) → P) → P
-  held_is t held.Nothing r empty known = empty refl
+  held_is : {P : Type 0} (t : ℕ) (h : Held) → IsRight (site_in j entry u t) h → (h ≡ Held.Nothing → P) → (((c : ℕ) → held_or_need c h ≡ site_in {M = ℕ} j entry u t) → P) → P
+  held_is t Held.Nothing r empty known = empty refl
   held_is t h r empty known = known (λ c. ap with_needs r ∙ sym (site_known j entry u t))
 
   within : s < length (graph_sites (job_graph j))
@@ -57,10 +40,10 @@ module _ (j : JobView) (job : IsJob j) (entry : ℕ) (u : Option ℕ) (cells : L
 
   told_source : (c : ℕ) (src : Source) → IsBelow (length j.dataset.columns) s src
       → (looked_source j entry u cells c src ≡ source_value (row_of j entry) (site_in j entry u) src) ⊎ ((looked_source j entry u cells c src ≡ Needs c) × IsMissingSource j u cells s src)
-  told_source c (from.Cell col) b = inl refl
-  told_source c (from.Site t) b =
+  told_source c (Source.Cell col) b = inl refl
+  told_source c (Source.Site t) b =
       held_is t (held_in cells (key (job_graph j) t u)) (sound.each u t (let w = within in omega (arith, b, w))) (λ e. inr (ap (held_or_need c) e, (b, e))) (λ k. inl (k c))
-  told_source c (from.Element t i tags) b =
+  told_source c (Source.Element t i tags) b =
       held_is t (held_in cells (key (job_graph j) t u)) (sound.each u t (let w = within in omega (arith, b, w)))
       (λ e. inr (ap (λ h. held_or_need c h >>= tag_element tags i) e, (b, e))) (λ k. inl (ap (λ o. o >>= tag_element tags i) (k c)))
 
@@ -97,16 +80,16 @@ module _ (j : JobView) (job : IsJob j) (entry : ℕ) (u : Option ℕ) (cells : L
 
   -- an outcome that isn't held as a need
   right_of : (h : Held) (o : Outcome ⊥ Value) → is_held h ≡ true → held_or_need 0 h ≡ with_needs o → IsRight o h
-  right_of held.Nothing o k e = cc k
+  right_of Held.Nothing o k e = cc k
   right_of h (Needs m) k e = elim m [ ]
-  right_of (held.Int z) (Gives v) k e = let i : val.Int z ≡ v = cc e in ap Gives i
-  right_of (held.Bool z) (Gives v) k e = let i : val.Bool z ≡ v = cc e in ap Gives i
-  right_of (held.Vect z) (Gives v) k e = let i : val.Vect z ≡ v = cc e in ap Gives i
-  right_of (held.Faulted f) (Faults g) k e = let i : f ≡ g = cc e in ap Faults i
+  right_of (Held.Int z) (Gives v) k e = let i : Value.Int z ≡ v = cc e in ap Gives i
+  right_of (Held.Bool z) (Gives v) k e = let i : Value.Bool z ≡ v = cc e in ap Gives i
+  right_of (Held.Vect z) (Gives v) k e = let i : Value.Vect z ≡ v = cc e in ap Gives i
+  right_of (Held.Faulted f) (Faults g) k e = let i : f ≡ g = cc e in ap Faults i
   right_of h o k e = cc e
 
   not_needed : (h : Held) (c : ℕ) → is_held h ≡ true → held_or_need 0 h ≡ Needs c → ⊥
-  not_needed held.Nothing c k e = cc k
+  not_needed Held.Nothing c k e = cc k
   not_needed h c k e = cc e
 
   never_needed : (o : Outcome ⊥ Value) (c : ℕ) → with_needs {M = ℕ} o ≡ Needs c → ⊥

@@ -1,22 +1,13 @@
 -- Writing an outcome, and filling one site after another.
-use Rattle.std.proofs.Common.{◌≡◌, ℕ, ◌+◌, ◌<◌, ◌≤◌, Bool, true, List, Option, Some, sym, ◌∙◌, ap, subst, arith, length, get_or-set_same, get_or-set_other, cond, ◌⊎◌, inl, inr, slice_get}
-use Rattle.std.specs.Prelude.{slice_set}
+use Rattle.std.proofs.Common.{◌≡◌, ℕ, ◌+◌, ◌<◌, ◌≤◌, Bool, true, List, Option, Some, sym, ◌∙◌, ap, subst, arith, length, get_or-set_same, get_or-set_other, cond, ◌⊎◌, inl, inr, slice_get, slice_set}
 use Rattle.std.proofs.lemmas.Bool.{cases_eq}
 use Rattle.std.proofs.lemmas.List.Sums.{sum_by-set}
-use Rattle.lemmas.proofs.Places.{something_at}
-use Rattle.rdf_values.specs.Path.{history}
-use Rattle.rdf_values.specs.declared.value.Value.{Value}
-use Rattle.rdf_model.specs.Evaluation.{Outcome}
-use Rattle.expr_check.specs.NumKinds.{CheckedExpr}
-use Rattle.graph_numbers.specs.Graphs.{IsSiteExpr, graph_sites, graph_under, graph_variations}
-use Rattle.graph_numbers.specs.Sites.{SiteAt, site_outcome}
-use Rattle.graph_numbers.specs.Sources.{site_value}
-use Rattle.graph_numbers.specs.declared.source.Source.{Source}
-use Rattle.graph_numbers.specs.declared.source.Source.TheVariants as from
-use Rattle.loop_keys.specs.Jobs.{JobView, IsJob, job_graph}
-use Rattle.loop_keys.specs.Keys.{key, key_count, slot}
-use Rattle.loop_keys.specs.Store.{held_in, is_held, held_count, IsRight, row_of, site_in, IsSound, CanLook, IsSourceIn, IsSiteOf, OnlyIn, Grows, IsFilled}
-use Rattle.loop_keys.specs.declared.held.Held.{Held}
+use Rattle.lemmas.proofs.{something_at}
+use Rattle.rdf_values.specs.{history, Value}
+use Rattle.rdf_model.specs.{Outcome}
+use Rattle.expr_check.specs.{CheckedExpr}
+use Rattle.graph_numbers.specs.{graph_sites, graph_under, graph_variations, IsSiteExpr, site_outcome, site_value, SiteAt, Source}
+use Rattle.loop_keys.specs.{CanLook, Grows, Held, held_count, held_in, is_held, IsFilled, IsJob, IsRight, IsSiteOf, IsSound, IsSourceIn, job_graph, JobView, key, key_count, OnlyIn, row_of, site_in, slot}
 use Rattle.loop_keys.specs.declared.held.Held.TheVariants.{Nothing}
 use Rattle.loop_keys.proofs.Elements.{of_option}
 use Rattle.loop_keys.proofs.KeyLaws.{key_below, key_is, key_site, same_slot}
@@ -123,6 +114,6 @@ pub grows_on : (a b c : List Held) → Grows a b → Grows b c → Grows a c
 grows_on a b c p q k h = q k (ap is_held (p k h) ∙ h) ∙ p k h
 
 pub in_source : (D : ℕ → Bool) (t : ℕ) (x : Source) → IsSiteOf t x → IsSourceIn D x → D t ≡ true
-in_source D t (from.Cell col) i h = elim i [ ]
-in_source D t (from.Site s) i h = ap D (sym i) ∙ h
-in_source D t (from.Element s k tags) i h = ap D (sym i) ∙ h
+in_source D t (Source.Cell col) i h = elim i [ ]
+in_source D t (Source.Site s) i h = ap D (sym i) ∙ h
+in_source D t (Source.Element s k tags) i h = ap D (sym i) ∙ h

@@ -1,13 +1,10 @@
 -- One named filter of an entry, by what the plan and the cache answer.
 use Rattle.std.proofs.Common.{◌≡◌, ℕ, Bool, true, Some, sym, ◌∙◌, arith, slice_get}
 use Rattle.std.proofs.lemmas.Option.{slice_get_within}
-use Rattle.lemmas.proofs.Places.{something_at}
-use Rattle.rdf_model.specs.LoopFacts.{is_covered}
-use Rattle.graph_numbers.specs.Graphs.{graph_filters}
-use Rattle.graph_numbers.specs.Results.{FilterAt}
-use Rattle.loop_keys.specs.Caches.{IsCovered}
-use Rattle.loop_keys.specs.Jobs.{JobView, IsJob, job_graph, passes_in}
-use Rattle.loop_keys.specs.Plans.{covered_in}
+use Rattle.lemmas.proofs.{something_at}
+use Rattle.rdf_model.specs.{is_covered}
+use Rattle.graph_numbers.specs.{FilterAt, graph_filters}
+use Rattle.loop_keys.specs.{covered_in, IsCovered, IsJob, job_graph, JobView, passes_in}
 use Rattle.loop_keys.proofs.PassNumbers.{some_same}
 use Rattle.loop_keys.proofs.Covered.{cover_at, cover_is, covered_count, covered_there}
 

@@ -1,14 +1,10 @@
 -- The keys of sites as they are kept.
-use Rattle.std.proofs.Common.{◌≡◌, ℕ, zero, suc, ◌+◌, ◌<◌, ◌≤◌, Bool, true, false, cond, List, [], ◌∷◌, length, take, Option, Some, None, refl, sym, ◌∙◌, ap, arith, get_or, slice_get, if◌then◌else◌}
-use Rattle.std.specs.Prelude.{count_by}
+use Rattle.std.proofs.Common.{◌≡◌, ℕ, zero, suc, ◌+◌, ◌<◌, ◌≤◌, Bool, true, false, cond, List, [], ◌∷◌, length, take, Option, Some, None, refl, sym, ◌∙◌, ap, arith, get_or, slice_get, if◌then◌else◌, count_by}
 use Rattle.std.proofs.lemmas.Option.{slice_get-get_or}
-use Rattle.lemmas.proofs.Parts.{take_all}
-use Rattle.lemmas.proofs.Places.{something_at}
-use Rattle.graph.specs.Sets.{has, members_below}
-use Rattle.graph.specs.declared.var_set.VarSet.{VarSet}
-use Rattle.graph_numbers.specs.Graphs.{GraphView, graph_sites, graph_variations, holds_at, site_depends_at}
-use Rattle.graph_numbers.specs.Sites.{SiteAt, depends_on}
-use Rattle.loop_keys.specs.Keys.{AreKeysAt, AreSiteKeys, key, key_count, keys_before, own_keys, slot, slot_at, slot_in}
+use Rattle.lemmas.proofs.{something_at, take_all}
+use Rattle.graph.specs.{has, members_below, VarSet}
+use Rattle.graph_numbers.specs.{depends_on, graph_sites, graph_variations, GraphView, holds_at, site_depends_at, SiteAt}
+use Rattle.loop_keys.specs.{AreKeysAt, AreSiteKeys, key, key_count, keys_before, own_keys, slot, slot_at, slot_in}
 use Rattle.loop_keys.specs.declared.keys.SiteKeys.{SiteKeys}
 use Rattle.loop_keys.proofs.KeyLaws.{counted, key_small, keys_next, keys_none}
 

@@ -1,25 +1,12 @@
 -- What trying a named filter comes to.
 use Rattle.std.proofs.Common.{◌≡◌, ℕ, ◌<◌, Bool, true, false, List, [], ◌∷◌, ◌++◌, length, Option, Some, None, option_map, refl, sym, ◌∙◌, ap, slice_get, unwrap_or, if◌then◌else◌}
-use Rattle.rdf_values.specs.Functions.{Function, fn_names}
-use Rattle.rdf_values.specs.Path.{Path, history, Under, path}
-use Rattle.rdf_values.specs.declared.column.Column.{Column}
-use Rattle.rdf_values.specs.declared.statement.Statement.{Statement}
+use Rattle.rdf_values.specs.{Column, fn_names, Function, history, Path, path, Statement, Under, Value}
 use Rattle.rdf_values.specs.declared.statement.Statement.TheVariants.{Filter}
-use Rattle.rdf_values.specs.declared.value.Value.{Value}
-use Rattle.rdf_model.specs.EntryOutcomes.{through}
-use Rattle.rdf_model.specs.Evaluation.{Gives}
-use Rattle.rdf_model.specs.Results.{fault_in}
-use Rattle.rdf_model.specs.LoopFacts.{filter_reach, reach_of}
+use Rattle.rdf_model.specs.{fault_in, filter_reach, Gives, reach_of, through}
 use Rattle.rdf_model.specs.declared.loop_facts.Reach.TheVariants.{Stopped, Failed, Passed}
-use Rattle.graph_numbers.specs.Graphs.{graph_filters}
-use Rattle.graph_numbers.specs.Outcomes.{through_sites}
-use Rattle.graph_numbers.specs.Results.{FilterAt, filters}
-use Rattle.graph_numbers.specs.Sites.{filter_sites, site_count}
+use Rattle.graph_numbers.specs.{filter_sites, FilterAt, filters, graph_filters, site_count, through_sites}
 use Rattle.graph_numbers.proofs.Extending.{itself, Extends, shorter}
-use Rattle.loop_keys.specs.Caches.{IsReach}
-use Rattle.loop_keys.specs.Jobs.{JobView, IsJob, job_graph}
-use Rattle.loop_keys.specs.Store.{row_of, site_in}
-use Rattle.loop_keys.specs.declared.held.Held.{Held}
+use Rattle.loop_keys.specs.{Held, IsJob, IsReach, job_graph, JobView, row_of, site_in}
 use Rattle.graph_numbers.proofs.Equations.{number_value}
 use Rattle.graph_numbers.proofs.Walks.{each_filter}
 use Rattle.graph_numbers.proofs.Passing.{through_is}

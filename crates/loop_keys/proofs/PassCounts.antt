@@ -2,19 +2,11 @@
 use Rattle.std.proofs.Common.{◌≡◌, ℕ, zero, suc, ◌*◌, ◌<◌, ◌≤◌, ◌^◌, Bool, true, false, not, List, [], ◌∷◌, length, map, Option, Some, None, refl, ap, arith, slice_get, unwrap_or, if◌then◌else◌, length-append}
 use Rattle.std.proofs.Math.Nat.{mul-le-mul, mul-le-mul_right}
 use Rattle.std.proofs.lemmas.List.{length-map, length-reverse}
-use Rattle.rdf_values.specs.Bookings.{Booked, booked_by, bookings, filled, has_variations, result_depends}
-use Rattle.rdf_values.specs.Names.{among}
-use Rattle.rdf_values.specs.Path.{history, variations}
-use Rattle.rdf_values.specs.declared.script.Script.{Script}
-use Rattle.rdf_values.specs.declared.statement.Statement.{Statement}
+use Rattle.rdf_values.specs.{among, Booked, booked_by, bookings, filled, has_variations, history, Line, result_depends, Script, Statement, variations}
 use Rattle.rdf_values.specs.declared.statement.Statement.TheVariants.{Action, Print}
-use Rattle.rdf_values.specs.declared.script.Line.{Line}
-use Rattle.graph_numbers.specs.Graphs.{graph_loops, graph_variations}
-use Rattle.graph_numbers.specs.Results.{loops, numbered_pass, own_loop, passes_from, places_from, result_passes}
-use Rattle.graph_numbers.specs.declared.pass.Pass.{Pass as NumberedPass}
+use Rattle.graph_numbers.specs.{graph_loops, graph_variations, loops, numbered_pass, own_loop, Pass as NumberedPass, passes_from, places_from, result_passes}
 use Rattle.graph_numbers.proofs.Listed.{by_test, joined}
-use Rattle.loop_keys.specs.Jobs.{JobView, IsJob, job_graph}
-use Rattle.loop_keys.specs.Turns.{numbered_passes}
+use Rattle.loop_keys.specs.{IsJob, job_graph, JobView, numbered_passes}
 
 places_few : {A : Type 0} (test : A → Bool) (n : ℕ) (xs : List A) → length (places_from test n xs) ≤ length xs
 places_few test n [] = omega arith

@@ -1,15 +1,10 @@
 -- The passes of a job's loop by numbers, and their actions.
 use Rattle.std.proofs.Common.{◌≡◌, ℕ, ◌<◌, length, Option, Some, ◌∙◌, ap, slice_get}
 use Rattle.std.proofs.lemmas.Option.{slice_get_within}
-use Rattle.rdf_values.specs.Bookings.{Booked, bookings}
-use Rattle.rdf_values.specs.Functions.{fn_names}
-use Rattle.rdf_values.specs.Path.{history}
-use Rattle.graph_numbers.specs.Graphs.{graph_results}
-use Rattle.graph_numbers.specs.Results.{ResultAt}
-use Rattle.graph_numbers.specs.declared.pass.Pass.{Pass as NumberedPass}
+use Rattle.rdf_values.specs.{Booked, bookings, fn_names, history}
+use Rattle.graph_numbers.specs.{graph_results, Pass as NumberedPass, ResultAt}
 use Rattle.graph_numbers.proofs.Resulting.{booked_are}
-use Rattle.loop_keys.specs.Caches.{numbered_in}
-use Rattle.loop_keys.specs.Jobs.{JobView, job_graph}
+use Rattle.loop_keys.specs.{job_graph, JobView, numbered_in}
 use Rattle.loop_keys.proofs.Elements.{of_mapped, of_option}
 use Rattle.loop_keys.proofs.PassTies.{pass_is}
 

@@ -1,24 +1,14 @@
 -- A pass by the numbers of its result and variation: what it comes to and demands.
 use Rattle.std.proofs.Common.{◌≡◌, ℕ, List, [], map, Option, Some, None, sym, ◌∙◌, ap, unwrap_or, slice_get}
-use Rattle.lemmas.proofs.Places.{mapped_at}
-use Rattle.rdf_values.specs.Bookings.{Booked, Pass, bookings}
-use Rattle.rdf_values.specs.Functions.{fn_names}
-use Rattle.rdf_values.specs.Path.{history}
-use Rattle.rdf_values.specs.declared.value.Value.{Value}
-use Rattle.rdf_model.specs.EntryOutcomes.{booking_outcome}
-use Rattle.rdf_model.specs.Loops.{loop_passes, loop_results}
-use Rattle.graph_numbers.specs.Graphs.{graph_filters, graph_loops, graph_results, graph_under}
-use Rattle.graph_numbers.specs.Outcomes.{booking_numbers}
-use Rattle.graph_numbers.specs.Results.{ResultAt, pass_at}
-use Rattle.graph_numbers.specs.declared.pass.Pass.{Pass as NumberedPass}
+use Rattle.lemmas.proofs.{mapped_at}
+use Rattle.rdf_values.specs.{Booked, bookings, fn_names, history, Pass, Value}
+use Rattle.rdf_model.specs.{booking_outcome, loop_passes, loop_results}
+use Rattle.graph_numbers.specs.{booking_numbers, graph_filters, graph_loops, graph_results, graph_under, Pass as NumberedPass, pass_at, ResultAt}
 use Rattle.graph_numbers.proofs.Extending.{itself}
 use Rattle.graph_numbers.proofs.Looping.{loops_are}
 use Rattle.graph_numbers.proofs.Resulting.{booked_are, result_is}
-use Rattle.loop_keys.proofs.Elements.{of_chosen}
-use Rattle.loop_keys.proofs.Elements.{of_mapped, of_option}
-use Rattle.loop_keys.specs.Caches.{numbered_in}
-use Rattle.loop_keys.specs.Jobs.{JobView, IsJob, job_graph, passes_in, outcome_of, pass_outcome}
-use Rattle.loop_keys.specs.Store.{row_of, site_in, version_in}
+use Rattle.loop_keys.proofs.Elements.{of_chosen, of_mapped, of_option}
+use Rattle.loop_keys.specs.{IsJob, job_graph, JobView, numbered_in, outcome_of, pass_outcome, passes_in, row_of, site_in, version_in}
 use Rattle.loop_keys.proofs.EvaluateLaws.{accepted_of}
 
 module _ (j : JobView) (n : ℕ) (m : NumberedPass) (its : numbered_in j n ≡ Some m) where

@@ -3,24 +3,16 @@ use Rattle.std.proofs.Common.{◌≡◌, ℕ, Bool, true, false, ◌&&◌, not, 
 use Rattle.std.specs.List.{AllByRecursion}
 use Rattle.std.proofs.lemmas.Bool.Decides.{Decides-eqb}
 use Rattle.std.proofs.lemmas.List.Elements.{recursion_from_All}
-use Rattle.lemmas.proofs.Booleans.{both_true}
-use Rattle.rdf_values.specs.EachColumn.{EachColumn, EachArgument}
-use Rattle.rdf_values.specs.Tree.{Trees, NumTree, Lit, Truth, Col, Neg, Not, Bin, Cond, Pick, Call, End, More}
-use Rattle.rdf_values.specs.declared.num_expr.Callee.{Callee}
-use Rattle.rdf_values.specs.declared.value.ColType.{ColType}
-use Rattle.rdf_values.specs.declared.value.Value.{Value}
-use Rattle.rdf_model.specs.Demanded.{with_needs}
-use Rattle.rdf_model.specs.Evaluation.{Outcome, Needs, call_outcome, evaluate, is_need, without}
-use Rattle.rdf_values.specs.declared.value.ColType.TheVariants as kind
+use Rattle.lemmas.proofs.{both_true}
+use Rattle.rdf_values.specs.{Bin, Call, Callee, Col, ColType, Cond, EachArgument, EachColumn, End, Lit, More, Neg, Not, NumTree, Pick, Trees, Value}
+use Rattle.rdf_values.specs.Expressions.{Truth}
+use Rattle.rdf_model.specs.{call_outcome, evaluate, is_need, Needs, Outcome, with_needs, without}
 use Rattle.rdf_model.proofs.Close as close
-use Rattle.expr_check.specs.NumKinds.{CheckedExpr, all_are_plain, gives_vector, is_plain, is_vector, number_kind, takes_no_vector}
-use Rattle.graph_numbers.specs.Graphs.{IsSiteExpr, graph_kinds, graph_sites}
-use Rattle.graph_numbers.specs.Sites.{SiteAt}
+use Rattle.expr_check.specs.{all_are_plain, CheckedExpr, gives_vector, is_plain, is_vector, number_kind, takes_no_vector}
+use Rattle.graph_numbers.specs.{graph_kinds, graph_sites, IsSiteExpr, SiteAt}
 use Rattle.graph_numbers.proofs.Listed.{by_test}
 use Rattle.rdf_model.proofs.KnownColumns.{each_weaker}
-use Rattle.loop_keys.specs.Jobs.{JobView, IsJob, job_graph}
-use Rattle.loop_keys.specs.Plain.{ArePlain, IsPlainVersion, is_vector_at}
-use Rattle.loop_keys.specs.Store.{IsClosed, IsSound, IsSourceIn, site_in, source_at, version_in}
+use Rattle.loop_keys.specs.{ArePlain, is_vector_at, IsClosed, IsJob, IsPlainVersion, IsSound, IsSourceIn, job_graph, JobView, site_in, source_at, version_in}
 use Rattle.loop_keys.proofs.Elements.{of_option}
 use Rattle.loop_keys.proofs.EvaluateLaws.{whole}
 
@@ -28,7 +20,7 @@ use Rattle.loop_keys.proofs.EvaluateLaws.{whole}
 not_vector : (all : List ColType) (ks : List (ℕ × ColType)) (c : ℕ) → AllByRecursion (λ (k : ℕ × ColType). slice_get all k.0 ≡ Some k.1) ks → is_vector_at all c ≡ false → gives_vector (number_kind ks c) ≡ false
 not_vector all [] c h e = refl
 not_vector all (k ∷ ks) c h e =
-    by_test (nat_eq k.0 c) (λ q. rw q (ap (λ (o : Option ColType). is_vector (unwrap_or o kind.Int)) (sym h.0 ∙ ap (slice_get all) ((Decides-eqb k.0 c).0 q)) ∙ e)) (λ q. rw q (not_vector all ks c h.1 e))
+    by_test (nat_eq k.0 c) (λ q. rw q (ap (λ (o : Option ColType). is_vector (unwrap_or o ColType.Int)) (sym h.0 ∙ ap (slice_get all) ((Decides-eqb k.0 c).0 q)) ∙ e)) (λ q. rw q (not_vector all ks c h.1 e))
 
 module _ (ks : List (ℕ × ColType)) where
   abbrev NoVector : ℕ → Type 0

@@ -2,14 +2,9 @@
 use Rattle.std.proofs.Common.{◌≡◌, ℕ, zero, suc, ◌+◌, ◌<◌, ◌≤◌, Bool, true, false, List, [], ◌∷◌, length, take, Option, Some, None, option_map, refl, sym, ◌∙◌, ap, arith, nat_eq, get_or, slice_get}
 use Rattle.std.specs.List.{list_any}
 use Rattle.std.proofs.lemmas.Option.{slice_get-get_or}
-use Rattle.lemmas.proofs.Booleans.{neither, or_fails}
-use Rattle.lemmas.proofs.Parts.{take_all}
-use Rattle.lemmas.proofs.Places.{any_at}
-use Rattle.graph_numbers.specs.Graphs.{GraphView, graph_results}
-use Rattle.graph_numbers.specs.Results.{ResultAt}
-use Rattle.graph_numbers.specs.declared.pass.Pass.{Pass as NumberedPass}
-use Rattle.loop_keys.specs.Jobs.{JobView, job_graph}
-use Rattle.loop_keys.specs.Turns.{covers_of, is_covering, numbered_passes}
+use Rattle.lemmas.proofs.{any_at, neither, or_fails, take_all}
+use Rattle.graph_numbers.specs.{graph_results, GraphView, Pass as NumberedPass, ResultAt}
+use Rattle.loop_keys.specs.{covers_of, is_covering, job_graph, JobView, numbered_passes}
 use Rattle.loop_keys.proofs.PassNumbers.{result_inside}
 
 -- ---- tests of a list's elements

@@ -1,25 +1,13 @@
 -- Reports: what their filters come to and demand, by their numbers.
-use Rattle.std.proofs.Common.{◌≡◌, ℕ, zero, suc, Bool, true, List, [], ◌∷◌, Option, Some, None, refl, sym, ◌∙◌, ap, subst, slice_get}
-use Rattle.std.specs.Prelude.{All, Contains, flat_map}
+use Rattle.std.proofs.Common.{◌≡◌, ℕ, zero, suc, Bool, true, List, [], ◌∷◌, Option, Some, None, refl, sym, ◌∙◌, ap, subst, slice_get, All, Contains, flat_map}
 use Rattle.std.proofs.lemmas.List.Elements.{All-from_recursion, recursion_from_All}
 use Rattle.std.proofs.lemmas.Option.{slice_get-get_or}
-use Rattle.rdf_values.specs.Bookings.{ActionAt, Booking, ReportOn}
-use Rattle.rdf_values.specs.Path.{Path, history}
-use Rattle.rdf_values.specs.declared.value.Value.{Value}
-use Rattle.rdf_model.specs.Demanded.{Demand, booking_demands, filter_demands}
-use Rattle.rdf_model.specs.EntryOutcomes.{Entry}
-use Rattle.rdf_model.specs.Evaluation.{Outcome}
-use Rattle.rdf_model.specs.Results.{fault_in}
-use Rattle.graph_numbers.specs.Graphs.{graph_filters, graph_results, graph_under}
-use Rattle.graph_numbers.specs.Outcomes.{booking_numbers, report_numbers}
-use Rattle.graph_numbers.specs.Results.{FilterAt}
+use Rattle.rdf_values.specs.{ActionAt, Booking, history, Path, ReportOn, Value}
+use Rattle.rdf_model.specs.{booking_demands, Demand, Entry, fault_in, filter_demands, Outcome}
+use Rattle.graph_numbers.specs.{booking_numbers, FilterAt, graph_filters, graph_results, graph_under, report_numbers}
 use Rattle.graph_numbers.proofs.Covering.{AreNumbersOf}
 use Rattle.graph_numbers.proofs.Extending.{itself}
-use Rattle.loop_keys.specs.Caches.{HasFilterDemands, IsCovered}
-use Rattle.loop_keys.specs.Jobs.{JobView, IsJob, job_graph}
-use Rattle.loop_keys.specs.Keys.{demand_key}
-use Rattle.loop_keys.specs.Store.{site_in, version_in}
-use Rattle.loop_keys.specs.Turns.{HasAllDemands, IsReportPass, pass_fault}
+use Rattle.loop_keys.specs.{demand_key, HasAllDemands, HasFilterDemands, IsCovered, IsJob, IsReportPass, job_graph, JobView, pass_fault, site_in, version_in}
 use Rattle.loop_keys.proofs.PassTies.{pass_answer, pass_of}
 use Rattle.loop_keys.proofs.Covered.{AreCovers, covers_are}
 use Rattle.loop_keys.proofs.Elements.{at_in, each_in, in_flat}

@@ -1,21 +1,13 @@
 -- Where what is read of an entry stands, and how it is found there.
-use Rattle.std.proofs.Common.{◌≡◌, ◌⊎◌, inl, inr, ℕ, zero, suc, ◌+◌, ◌<◌, ◌≤◌, List, [], ◌∷◌, ◌++◌, length, Option, Some, None, refl, sym, ◌∙◌, ap, subst, arith, get_or, slice_get, if◌then◌else◌}
-use Rattle.std.specs.Prelude.{count_by, take}
+use Rattle.std.proofs.Common.{◌≡◌, ◌⊎◌, inl, inr, ℕ, zero, suc, ◌+◌, ◌<◌, ◌≤◌, List, [], ◌∷◌, ◌++◌, length, Option, Some, None, refl, sym, ◌∙◌, ap, subst, arith, get_or, slice_get, if◌then◌else◌, count_by, take}
 use Rattle.std.proofs.lemmas.List.{get_or_past}
 use Rattle.std.proofs.lemmas.Bool.{cases_lt}
 use Rattle.std.proofs.lemmas.Option.{get_or_from_slice_get, slice_get_past}
-use Rattle.rdf_values.specs.Path.{Variation}
-use Rattle.graph_numbers.specs.Graphs.{GraphView, booked_statements, graph_sites, graph_sources, graph_variations, holds_at}
-use Rattle.graph_numbers.specs.Sites.{SiteAt, depends_on}
-use Rattle.graph_numbers.specs.Sources.{source_in, sources}
-use Rattle.graph_numbers.specs.declared.source.Source.{Source}
-use Rattle.graph_numbers.specs.declared.source.Source.TheVariants as from
+use Rattle.rdf_values.specs.{Variation}
+use Rattle.graph_numbers.specs.{booked_statements, depends_on, graph_sites, graph_sources, graph_variations, GraphView, holds_at, SiteAt, Source, source_in, sources}
 use Rattle.loop_keys.proofs.Elements.{more_each, read_each}
-use Rattle.loop_keys.specs.Keys.{AreEach, AreKeys, AreSiteKeys, AreUnder, IsRow, key, key_count, key_or_count, key_under, keys_before, place_of, row_under, slot_at, slot_in}
+use Rattle.loop_keys.specs.{AreEach, AreKeys, AreSiteKeys, AreUnder, IsRow, key, key_count, key_or_count, key_under, keys_before, Place, place_of, Row, row_under, slot_at, slot_in}
 use Rattle.loop_keys.specs.declared.keys.SiteKeys.{SiteKeys}
-use Rattle.loop_keys.specs.declared.rows.Place.{Place}
-use Rattle.loop_keys.specs.declared.rows.Row.{Row}
-use Rattle.loop_keys.specs.declared.rows.Place.TheVariants as stands
 use Rattle.loop_keys.proofs.KeptKeys.{kept_key}
 use Rattle.loop_keys.proofs.KeyLaws.{key_small}
 
@@ -44,15 +36,15 @@ module _ (g : GraphView) (u : Option ℕ) (keys : List ℕ) (all : AreUnder g u 
       go (inr le) = get_or_past keys s count (let m = all.many in omega (arith, m, le)) ∙ is ∙ sym (key_past g s u le)
 
   pub place_found : (x : Source) → place_of (key_or_count keys count) x ≡ place_of (key_under g u) x
-  place_found (from.Cell col) = refl
-  place_found (from.Site s) = ap stands.Key (key_found s)
-  place_found (from.Element s k tags) = ap (λ n. stands.Element n k tags) (key_found s)
+  place_found (Source.Cell col) = refl
+  place_found (Source.Site s) = ap Place.Key (key_found s)
+  place_found (Source.Element s k tags) = ap (λ n. Place.Element n k tags) (key_found s)
 
   -- one more version
   pub more_places : (n : ℕ) (ps : List Place) → AreEach (λ c p. p ≡ place_of (key_under g u) (source_in (graph_sources g u) c)) n ps → (x : Source) → slice_get (graph_sources g u) n ≡ Some x
       → (p : Place) → p ≡ place_of (key_or_count keys count) x → (qs : List Place) → qs ≡ ps ++ p ∷ [] → AreEach (λ c q. q ≡ place_of (key_under g u) (source_in (graph_sources g u) c)) (n + 1) qs
   more_places n ps each x at p e qs q =
-      let h : p ≡ place_of (key_under g u) (source_in (graph_sources g u) n) = e ∙ place_found x ∙ ap (place_of (key_under g u)) (sym (get_or_from_slice_get (graph_sources g u) n x (from.Cell 0) at)) in
+      let h : p ≡ place_of (key_under g u) (source_in (graph_sources g u) n) = e ∙ place_found x ∙ ap (place_of (key_under g u)) (sym (get_or_from_slice_get (graph_sources g u) n x (Source.Cell 0) at)) in
       subst (λ (rs : List Place). AreEach (λ c r. r ≡ place_of (key_under g u) (source_in (graph_sources g u) c)) (n + 1) rs) (sym q)
       (more_each (λ c r. r ≡ place_of (key_under g u) (source_in (graph_sources g u) c)) n ps each p h)
 
@@ -90,9 +82,9 @@ module _ (g : GraphView) (v : ℕ) (past : length (graph_variations g) ≤ v) wh
   }
     where
       moved : (x : Source) → place_of (key_under g None) x ≡ place_of (key_under g (Some v)) x
-      moved (from.Cell col) = refl
-      moved (from.Site s) = ap stands.Key (as_nominal s)
-      moved (from.Element s k tags) = ap (λ n. stands.Element n k tags) (as_nominal s)
+      moved (Source.Cell col) = refl
+      moved (Source.Site s) = ap Place.Key (as_nominal s)
+      moved (Source.Element s k tags) = ap (λ n. Place.Element n k tags) (as_nominal s)
 
       sources_same : graph_sources g None ≡ graph_sources g (Some v)
       sources_same = ap (λ (w : Option Variation). sources g.header g.names w (booked_statements g)) (sym (slice_get_past (graph_variations g) v past))

@@ -1,20 +1,13 @@
 -- What the next entry gives to a tally, by the passes of a job's loop.
 use Rattle.std.proofs.Common.{◌≡◌, ℕ, zero, suc, ◌+◌, true, false, List, [], ◌∷◌, ◌++◌, length, take, Some, sym, ◌∙◌, ap, arith, slice_get, if◌then◌else◌, refl, length-append, zero-add}
 use Rattle.std.proofs.lemmas.List.{append-nil}
-use Rattle.lemmas.proofs.Places.{mapped_at}
-use Rattle.rdf_values.specs.Bookings.{ActionAt, Booking, Pass, ReportOn, named_before}
-use Rattle.rdf_values.specs.Path.{Path, history}
-use Rattle.rdf_values.specs.declared.action.ActionKind.{ActionKind}
-use Rattle.rdf_values.specs.declared.value.Value.{Value}
-use Rattle.rdf_model.specs.Results.{Dataset, items_of}
-use Rattle.rdf_model.specs.LoopFacts.{filter_reach, is_covered, kind_in, kinds_in, reaches_of, spread_in, spreads_of}
-use Rattle.rdf_model.specs.declared.loop_facts.Reach.{Reach}
+use Rattle.lemmas.proofs.{mapped_at}
+use Rattle.rdf_values.specs.{ActionAt, ActionKind, Booking, history, named_before, Pass, Path, ReportOn, Value}
+use Rattle.rdf_model.specs.{Dataset, filter_reach, is_covered, items_of, kind_in, kinds_in, Reach, reaches_of, spread_in, spreads_of}
 use Rattle.rdf_model.specs.declared.loop_facts.Reach.TheVariants.{Stopped}
-use Rattle.graph_numbers.specs.Graphs.{graph_filters}
-use Rattle.graph_numbers.specs.Results.{FilterAt}
+use Rattle.graph_numbers.specs.{FilterAt, graph_filters}
 use Rattle.graph_numbers.proofs.Covering.{filters_are}
-use Rattle.loop_keys.specs.Jobs.{JobView, job_graph, passes_in}
-use Rattle.loop_keys.specs.Turns.{actions_before}
+use Rattle.loop_keys.specs.{actions_before, job_graph, JobView, passes_in}
 
 module _ (j : JobView) (entry : ℕ) (row : List Value) (here : slice_get j.dataset.rows entry ≡ Some row) where
   abbrev pub own_reaches : List Reach

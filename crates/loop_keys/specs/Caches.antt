@@ -1,15 +1,8 @@
 -- What a contract sees of the evaluations that the passes of an entry share.
 use Rattle.std.specs.Prelude.{◌≡◌, ⊤, ℕ, Bool, true, List, [], Option, Some, None, slice_get, All, Contains, unwrap_or, MatchOption}
-use Rattle.rdf_values.specs.Bookings.{Pass, Booking, ActionAt, ReportOn}
-use Rattle.rdf_values.specs.declared.value.Value.{Value}
-use Rattle.rdf_model.specs.Demanded.{Demand, pass_demands, filter_demands}
-use Rattle.rdf_model.specs.EntryOutcomes.{through}
-use Rattle.rdf_model.specs.Results.{fault_in}
-use Rattle.rdf_model.specs.LoopFacts.{filter_reach}
-use Rattle.rdf_model.specs.declared.loop_facts.Reach.{Reach}
-use Rattle.graph_numbers.specs.Graphs.{graph_filters, graph_loops, graph_results}
-use Rattle.graph_numbers.specs.Results.{FilterAt, ResultAt}
-use Rattle.graph_numbers.specs.declared.pass.Pass.{Pass as NumberedPass}
+use Rattle.rdf_values.specs.{ActionAt, Booking, Pass, ReportOn, Value}
+use Rattle.rdf_model.specs.{Demand, fault_in, filter_demands, filter_reach, pass_demands, Reach, through}
+use Rattle.graph_numbers.specs.{FilterAt, graph_filters, graph_loops, graph_results, Pass as NumberedPass, ResultAt}
 use Rattle.loop_keys.specs.Jobs.{JobView, job_graph, passes_in}
 use Rattle.loop_keys.specs.Keys.{demand_key}
 use Rattle.loop_keys.specs.Plain.{ArePlain, IsPlainVersion}

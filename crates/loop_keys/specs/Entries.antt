@@ -1,13 +1,7 @@
 -- What an entry gives to a loop.
 use Rattle.std.specs.Prelude.{⊤, ℕ, List, length}
-use Rattle.rdf_values.specs.Bookings.{named_before}
-use Rattle.rdf_values.specs.Path.{history}
-use Rattle.rdf_values.specs.declared.action.ActionKind.{ActionKind}
-use Rattle.rdf_model.specs.Demanded.{demanded}
-use Rattle.rdf_values.specs.Cuts.{cut}
-use Rattle.rdf_values.specs.declared.action.ActionKind.TheVariants as kind
-use Rattle.rdf_values.specs.declared.span.Span.{Span}
-use Rattle.rdf_model.specs.LoopFacts.{loop_facts}
+use Rattle.rdf_values.specs.{ActionKind, cut, history, named_before, Span}
+use Rattle.rdf_model.specs.{demanded, loop_facts}
 use Rattle.rdf_model.specs.declared.loop_facts.LoopFacts.{LoopFacts}
 use Rattle.loop_keys.specs.Jobs.{JobView, passes_in}
 use Rattle.loop_keys.specs.Store.{row_of}
@@ -26,5 +20,5 @@ entry_demands j entry = length (demanded j.dataset.fns j.dataset.columns (row_of
 
 -- not a Take
 abbrev pub IsNoTake : ActionKind → Type 0
-IsNoTake (kind.Take c) = ⊥
+IsNoTake (ActionKind.Take c) = ⊥
 IsNoTake k = ⊤

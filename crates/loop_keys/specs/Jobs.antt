@@ -1,18 +1,10 @@
 -- What a contract sees of an event loop's work.
 use Rattle.std.specs.Prelude.{◌≡◌, ◌<◌, ℕ, List, [], length, Option, Some, None, slice_get, unwrap_or}
-use Rattle.rdf_values.specs.Bookings.{Pass}
-use Rattle.rdf_values.specs.Functions.{fn_names}
-use Rattle.rdf_values.specs.Path.{history}
-use Rattle.rdf_values.specs.declared.script.Script.{Script}
-use Rattle.rdf_values.specs.declared.value.Value.{Value}
-use Rattle.rdf_model.specs.EntryOutcomes.{Entry, Skip, entry_outcome}
-use Rattle.rdf_model.specs.Evaluation.{Outcome, Gives}
-use Rattle.rdf_model.specs.Loops.{loop_results, loop_passes}
-use Rattle.rdf_model.specs.Results.{Dataset}
-use Rattle.rdf_values.specs.Tables.{IsTable}
+use Rattle.rdf_values.specs.{fn_names, history, IsTable, Pass, Script, Value}
+use Rattle.rdf_model.specs.{Dataset, Entry, entry_outcome, Gives, loop_passes, loop_results, Outcome, Skip}
 use Rattle.columns.specs.CutsView.{CutsView}
-use Rattle.entry_fns.specs.Lists.{functions_in}
-use Rattle.graph_numbers.specs.Graphs.{GraphView, IsGraph, graph_loops}
+use Rattle.entry_fns.specs.{functions_in}
+use Rattle.graph_numbers.specs.{graph_loops, GraphView, IsGraph}
 use Rattle.loop_keys.specs.declared.job.Job.{Job}
 
 -- a script, the number of a loop, the functions and the table, and the table's cuts

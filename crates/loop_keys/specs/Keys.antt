@@ -1,18 +1,11 @@
 -- The keys of an entry's evaluations: for each site in order one for nominal and one for each variation on which it depends.
 use Rattle.std.specs.Prelude.{◌≡◌, ◌<◌, ◌^◌, ℕ, zero, suc, ◌+◌, List, [], ◌∷◌, length, take, Option, Some, None, if◌then◌else◌, slice_get, slice_index_or, count_by}
-use Rattle.rdf_values.specs.Names.{place}
-use Rattle.rdf_values.specs.Path.{Variation, Under, same_variation}
-use Rattle.rdf_model.specs.Demanded.{Demand, same_site}
-use Rattle.graph.specs.Sets.{has, members_below}
-use Rattle.graph.specs.declared.var_set.VarSet.{VarSet}
-use Rattle.graph_numbers.specs.Graphs.{GraphView, graph_sites, graph_sources, graph_variations, graph_versions, holds_at, site_depends_at}
-use Rattle.graph_numbers.specs.Sites.{SiteAt, depends_on}
-use Rattle.graph_numbers.specs.Sources.{source_in}
-use Rattle.graph_numbers.specs.declared.source.Source.{Source}
-use Rattle.graph_numbers.specs.declared.source.Source.TheVariants as from
+use Rattle.rdf_values.specs.{place, same_variation, Under, Variation}
+use Rattle.rdf_model.specs.{Demand, same_site}
+use Rattle.graph.specs.{has, members_below, VarSet}
+use Rattle.graph_numbers.specs.{depends_on, graph_sites, graph_sources, graph_variations, graph_versions, GraphView, holds_at, site_depends_at, SiteAt, Source, source_in}
 use Rattle.loop_keys.specs.declared.keys.SiteKeys.{SiteKeys}
 use Rattle.loop_keys.specs.declared.rows.Place.{Place}
-use Rattle.loop_keys.specs.declared.rows.Place.TheVariants as stands
 use Rattle.loop_keys.specs.declared.rows.Row.{Row}
 
 -- how many keys a site has
@@ -90,9 +83,9 @@ key_under g u s = key g s u
 
 -- where a version stands that this source gives its value
 abbrev pub place_of : (ℕ → ℕ) → Source → Place
-place_of key (from.Cell col) = stands.Cell col
-place_of key (from.Site s) = stands.Key (key s)
-place_of key (from.Element s k tags) = stands.Element (key s) k tags
+place_of key (Source.Cell col) = Place.Cell col
+place_of key (Source.Site s) = Place.Key (key s)
+place_of key (Source.Element s k tags) = Place.Element (key s) k tags
 
 -- the key of each site under nominal or a variation
 abbrev pub AreUnder : GraphView → Option ℕ → List ℕ → Type 0

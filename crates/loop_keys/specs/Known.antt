@@ -1,7 +1,6 @@
 -- What is known of an entry by what is held of it.
 use Rattle.std.specs.Prelude.{ℕ, Bool, Option}
-use Rattle.rdf_model.specs.EntryOutcomes.{truth_of}
-use Rattle.rdf_model.specs.Evaluation.{Outcome, ◌>>=◌}
+use Rattle.rdf_model.specs.{◌>>=◌, Outcome, truth_of}
 use Rattle.loop_keys.specs.Jobs.{JobView}
 use Rattle.loop_keys.specs.Store.{site_in}
 

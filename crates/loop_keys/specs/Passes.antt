@@ -1,14 +1,9 @@
 -- What trying a pass does over what is held.
 use Rattle.std.specs.Prelude.{◌≡◌, ◌<◌, ℕ, List, length, Option, Some, slice_get}
 use Rattle.std.specs.List.{AllByRecursion}
-use Rattle.rdf_values.specs.Bookings.{ActionAt, columns_of}
-use Rattle.rdf_values.specs.Path.{Path}
-use Rattle.rdf_values.specs.declared.action.ActionKind.{ActionKind}
-use Rattle.rdf_values.specs.declared.value.Value.{Value}
-use Rattle.rdf_model.specs.Evaluation.{Gives, for_all}
-use Rattle.rdf_model.specs.Laws.{FitsFeed}
-use Rattle.graph_numbers.specs.Graphs.{graph_results, graph_sites}
-use Rattle.graph_numbers.specs.Results.{ResultAt}
+use Rattle.rdf_values.specs.{ActionAt, ActionKind, columns_of, Path, Value}
+use Rattle.rdf_model.specs.{FitsFeed, for_all, Gives}
+use Rattle.graph_numbers.specs.{graph_results, graph_sites, ResultAt}
 use Rattle.loop_keys.specs.Jobs.{JobView, job_graph}
 use Rattle.loop_keys.specs.Store.{IsReadable, version_in}
 

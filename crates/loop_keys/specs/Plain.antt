@@ -1,19 +1,15 @@
 -- Sites without vectors, of which no evaluation wants memory.
 use Rattle.std.specs.Prelude.{◌≡◌, ℕ, Bool, true, false, List, [], Option, Some, slice_get, unwrap_or}
 use Rattle.std.specs.List.{AllByRecursion}
-use Rattle.rdf_values.specs.EachColumn.{EachColumn}
-use Rattle.rdf_values.specs.declared.value.ColType.{ColType}
-use Rattle.rdf_values.specs.declared.value.ColType.TheVariants as kind
-use Rattle.expr_check.specs.NumKinds.{is_vector, is_plain}
-use Rattle.graph_numbers.specs.Graphs.{GraphView, graph_kinds, graph_sites, graph_sources}
-use Rattle.graph_numbers.specs.Sites.{SiteAt}
-use Rattle.graph_numbers.specs.Sources.{source_in}
+use Rattle.rdf_values.specs.{ColType, EachColumn}
+use Rattle.expr_check.specs.{is_plain, is_vector}
+use Rattle.graph_numbers.specs.{graph_kinds, graph_sites, graph_sources, GraphView, SiteAt, source_in}
 use Rattle.loop_keys.specs.Jobs.{JobView, job_graph}
 use Rattle.loop_keys.specs.Store.{IsSourceIn, source_at}
 
 -- the version of that number is a vector
 abbrev pub is_vector_at : List ColType → ℕ → Bool
-is_vector_at kinds c = is_vector (unwrap_or (slice_get kinds c) kind.Int)
+is_vector_at kinds c = is_vector (unwrap_or (slice_get kinds c) ColType.Int)
 
 -- the version is no vector, and its source under each variation is no site outside the set
 abbrev pub IsPlainVersion : GraphView → (ℕ → Bool) → ℕ → Type 0

@@ -1,8 +1,7 @@
 -- Which named filters the reports of a loop cover.
 use Rattle.std.specs.Prelude.{Bool, List, map}
-use Rattle.rdf_values.specs.Bookings.{named_before}
-use Rattle.rdf_values.specs.Path.{history}
-use Rattle.rdf_model.specs.LoopFacts.{is_covered}
+use Rattle.rdf_values.specs.{history, named_before}
+use Rattle.rdf_model.specs.{is_covered}
 use Rattle.loop_keys.specs.Jobs.{JobView, passes_in}
 
 -- for each named filter whether a report of the loop covers it

@@ -1,40 +1,29 @@
 -- What is held of the sites of an entry, and what an evaluation is told of it.
 use Rattle.std.specs.Prelude.{if◌then◌else◌, ◌≡◌, ⊤, ◌≤◌, ◌<◌, ◌⊎◌, ℕ, zero, suc, ◌+◌, Bool, true, false, List, [], length, Option, Some, None, slice_get, slice_index_or, count_by, unwrap_or, MatchOption, All}
-use Rattle.rdf_values.specs.declared.value.ColType.{ColType}
-use Rattle.rdf_values.specs.declared.value.Value.{Value}
-use Rattle.rdf_model.specs.ColumnValues.{tag_element}
-use Rattle.rdf_model.specs.Evaluation.{Outcome, Gives, Faults, Needs, ◌>>=◌}
-use Rattle.rdf_values.specs.declared.value.Value.TheVariants as val
-use Rattle.rdf_model.specs.Laws.{FitsOutcome}
-use Rattle.expr_check.specs.NumKinds.{CheckedExpr}
-use Rattle.graph_numbers.specs.Graphs.{graph_sites, graph_under, graph_sources, graph_versions}
-use Rattle.graph_numbers.specs.Meets.{meets, HasFilters, HasInputs, IfPassed}
-use Rattle.graph_numbers.specs.Outcomes.{through_sites}
-use Rattle.graph_numbers.specs.Sites.{SiteAt, site_outcome}
-use Rattle.graph_numbers.specs.Sources.{IsBelow, source_in, site_value, source_value, cell_value}
-use Rattle.graph_numbers.specs.declared.source.Source.{Source}
-use Rattle.graph_numbers.specs.declared.source.Source.TheVariants as from
+use Rattle.rdf_values.specs.{ColType, Value}
+use Rattle.rdf_model.specs.{◌>>=◌, Faults, FitsOutcome, Gives, Needs, Outcome, tag_element}
+use Rattle.expr_check.specs.{CheckedExpr}
+use Rattle.graph_numbers.specs.{cell_value, graph_sites, graph_sources, graph_under, graph_versions, HasFilters, HasInputs, IfPassed, IsBelow, meets, site_outcome, site_value, SiteAt, Source, source_in, source_value, through_sites}
 use Rattle.loop_keys.specs.Jobs.{JobView, job_graph}
 use Rattle.loop_keys.specs.Keys.{key, key_count}
 use Rattle.loop_keys.specs.declared.held.Held.{Held}
-use Rattle.loop_keys.specs.declared.held.Held.TheVariants as held
 
 -- something is held
 abbrev pub is_held : Held → Bool
-is_held held.Nothing = false
+is_held Held.Nothing = false
 is_held h = true
 
 -- the outcome that is held
 abbrev pub held_outcome : Held → Option (Outcome ⊥ Value)
-held_outcome held.Nothing = None
-held_outcome (held.Int z) = Some (Gives (val.Int z))
-held_outcome (held.Bool b) = Some (Gives (val.Bool b))
-held_outcome (held.Vect zs) = Some (Gives (val.Vect zs))
-held_outcome (held.Faulted k) = Some (Faults k)
+held_outcome Held.Nothing = None
+held_outcome (Held.Int z) = Some (Gives (Value.Int z))
+held_outcome (Held.Bool b) = Some (Gives (Value.Bool b))
+held_outcome (Held.Vect zs) = Some (Gives (Value.Vect zs))
+held_outcome (Held.Faulted k) = Some (Faults k)
 
 -- what is held at a key
 abbrev pub held_in : List Held → ℕ → Held
-held_in cells k = slice_index_or cells k held.Nothing
+held_in cells k = slice_index_or cells k Held.Nothing
 
 -- how many keys hold something
 abbrev pub held_count : List Held → ℕ
@@ -76,28 +65,28 @@ keys_in T k (suc n) = (if T k then 1 else 0) + keys_in T (suc k) n
 
 -- the source is no site outside the set
 abbrev pub IsSourceIn : (ℕ → Bool) → Source → Type 0
-IsSourceIn used (from.Cell col) = ⊤
-IsSourceIn used (from.Site s) = used s ≡ true
-IsSourceIn used (from.Element s k tags) = used s ≡ true
+IsSourceIn used (Source.Cell col) = ⊤
+IsSourceIn used (Source.Site s) = used s ≡ true
+IsSourceIn used (Source.Element s k tags) = used s ≡ true
 
 -- ---- what an evaluation is told
 
 -- what is held of a version's site, or that it is missing
 abbrev pub held_or_need : ℕ → Held → Outcome ℕ Value
-held_or_need c held.Nothing = Needs c
-held_or_need c (held.Int z) = Gives (val.Int z)
-held_or_need c (held.Bool b) = Gives (val.Bool b)
-held_or_need c (held.Vect zs) = Gives (val.Vect zs)
-held_or_need c (held.Faulted k) = Faults k
+held_or_need c Held.Nothing = Needs c
+held_or_need c (Held.Int z) = Gives (Value.Int z)
+held_or_need c (Held.Bool b) = Gives (Value.Bool b)
+held_or_need c (Held.Vect zs) = Gives (Value.Vect zs)
+held_or_need c (Held.Faulted k) = Faults k
 
 -- the element of what is held at the place of a tag among so many
 abbrev pub held_element : ℕ → Held → ℕ → ℕ → Outcome ℕ Value
 held_element c h k tags = held_or_need c h >>= tag_element tags k
 
 abbrev pub looked_source : JobView → ℕ → Option ℕ → List Held → ℕ → Source → Outcome ℕ Value
-looked_source j entry u cells c (from.Cell col) = cell_value (slice_get (row_of j entry) col)
-looked_source j entry u cells c (from.Site s) = held_or_need c (held_in cells (key (job_graph j) s u))
-looked_source j entry u cells c (from.Element s k tags) = held_element c (held_in cells (key (job_graph j) s u)) k tags
+looked_source j entry u cells c (Source.Cell col) = cell_value (slice_get (row_of j entry) col)
+looked_source j entry u cells c (Source.Site s) = held_or_need c (held_in cells (key (job_graph j) s u))
+looked_source j entry u cells c (Source.Element s k tags) = held_element c (held_in cells (key (job_graph j) s u)) k tags
 
 -- what a version comes to by what is held
 abbrev pub look_at : JobView → ℕ → Option ℕ → List Held → ℕ → Outcome ℕ Value
@@ -110,9 +99,9 @@ pub record CanLook (j : JobView) (entry : ℕ) (cells : List Held) : Type 0 wher
 
 -- the source is a site with a lower number of which nothing is held
 abbrev pub IsMissingSource : JobView → Option ℕ → List Held → ℕ → Source → Type 0
-IsMissingSource j u cells s (from.Cell col) = ⊥
-IsMissingSource j u cells s (from.Site t) = (t < s) × (held_in cells (key (job_graph j) t u) ≡ held.Nothing)
-IsMissingSource j u cells s (from.Element t k tags) = (t < s) × (held_in cells (key (job_graph j) t u) ≡ held.Nothing)
+IsMissingSource j u cells s (Source.Cell col) = ⊥
+IsMissingSource j u cells s (Source.Site t) = (t < s) × (held_in cells (key (job_graph j) t u) ≡ Held.Nothing)
+IsMissingSource j u cells s (Source.Element t k tags) = (t < s) × (held_in cells (key (job_graph j) t u) ≡ Held.Nothing)
 
 -- the version is there, and its site, which is below s, is missing
 abbrev pub IsMissing : JobView → Option ℕ → List Held → ℕ → ℕ → Type 0
@@ -124,9 +113,9 @@ MeetsAt j entry u s c = (x : SiteAt) × (slice_get (graph_sites (job_graph j)) s
 
 -- the source is that site
 abbrev pub IsSiteOf : ℕ → Source → Type 0
-IsSiteOf t (from.Cell col) = ⊥
-IsSiteOf t (from.Site s) = s ≡ t
-IsSiteOf t (from.Element s k tags) = s ≡ t
+IsSiteOf t (Source.Cell col) = ⊥
+IsSiteOf t (Source.Site s) = s ≡ t
+IsSiteOf t (Source.Element s k tags) = s ≡ t
 
 -- ---- what is filled
 
@@ -157,7 +146,7 @@ pub record IsGrown (j : JobView) (entry : ℕ) (u : Option ℕ) (s : ℕ) (befor
   pub sized : length after ≡ length before
   pub sound : IsSound j entry after
   pub grows : Grows before after
-  pub empty : held_in after (key (job_graph j) s u) ≡ held.Nothing
+  pub empty : held_in after (key (job_graph j) s u) ≡ Held.Nothing
   pub more : held_count before ≤ held_count after
   pub rest : (t : ℕ) (w : Option ℕ) → s ≤ t → t < length (graph_sites (job_graph j)) → held_in after (key (job_graph j) t w) ≡ held_in before (key (job_graph j) t w)
   pub only : (D : ℕ → Bool) → IsClosed j entry u D → D s ≡ true → OnlyIn j u D s before after

@@ -1,14 +1,9 @@
 -- What trying a pass of an entry does.
 use Rattle.std.specs.Prelude.{◌≡◌, ℕ, Bool, List, [], Option, None, Some, length, slice_get, take, unwrap_or, nat_eq}
 use Rattle.std.specs.List.{list_any}
-use Rattle.rdf_values.specs.Bookings.{ReportOn}
-use Rattle.rdf_values.specs.Path.{Path}
-use Rattle.rdf_model.specs.Results.{fault_in}
-use Rattle.rdf_values.specs.declared.fault.EntryFault.{EntryFault}
-use Rattle.rdf_model.specs.LoopFacts.{kinds_in}
-use Rattle.graph_numbers.specs.Graphs.{graph_loops, graph_results}
-use Rattle.graph_numbers.specs.Results.{ResultAt}
-use Rattle.graph_numbers.specs.declared.pass.Pass.{Pass as NumberedPass}
+use Rattle.rdf_values.specs.{EntryFault, Path, ReportOn}
+use Rattle.rdf_model.specs.{fault_in, kinds_in}
+use Rattle.graph_numbers.specs.{graph_loops, graph_results, Pass as NumberedPass, ResultAt}
 use Rattle.loop_keys.specs.Caches.{HasDemands, numbered_in}
 use Rattle.loop_keys.specs.Jobs.{JobView, job_graph, pass_outcome, passes_in}
 

@@ -1,6 +1,6 @@
 // The keys of a graph's sites.
 ghost use Rattle.std.specs.Prelude.{◌≡◌, ◌≤◌, List, IfOk};
-ghost use Rattle.loop_keys.specs.Keys.{AreSiteKeys, key_count, slot_in};
+ghost use Rattle.loop_keys.specs.{AreSiteKeys, key_count, slot_in};
 
 use graph::{Graph, VarSet};
 use rdf_values::{ListOf, Memory};

@@ -1,10 +1,8 @@
 // An entry that is read.
 ghost use Rattle.std.specs.Prelude.{◌≡◌, ◌<◌, length, Some, slice_get, option_map};
-ghost use Rattle.rdf_values.specs.Path.{history};
-ghost use Rattle.graph_numbers.specs.Graphs.{IsSiteExpr, graph_filters, graph_results, graph_sites, graph_versions};
-ghost use Rattle.loop_keys.specs.Jobs.{Fits, job_graph, job_of};
-ghost use Rattle.loop_keys.specs.Keys.{IsRow, key as key_of, key_count, key_under, place_of};
-ghost use Rattle.loop_keys.specs.Store.{source_at};
+ghost use Rattle.rdf_values.specs.{history};
+ghost use Rattle.graph_numbers.specs.{graph_filters, graph_results, graph_sites, graph_versions, IsSiteExpr};
+ghost use Rattle.loop_keys.specs.{Fits, IsRow, job_graph, job_of, key as key_of, key_count, key_under, place_of, source_at};
 
 use crate::job::Job;
 use crate::rows::{Place, Row};

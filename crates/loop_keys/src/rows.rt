@@ -1,7 +1,7 @@
 // Where what is read of an entry stands, under nominal and each variation.
 ghost use Rattle.std.specs.Prelude.{◌≡◌, ◌<◌, IfOk, length, slice_get};
-ghost use Rattle.graph_numbers.specs.Graphs.{graph_sites};
-ghost use Rattle.loop_keys.specs.Keys.{AreKeys, ArePlaces, AreSiteKeys, AreUnder, IsRow, key_count, key_or_count, place_of as place_in, row_under};
+ghost use Rattle.graph_numbers.specs.{graph_sites};
+ghost use Rattle.loop_keys.specs.{AreKeys, ArePlaces, AreSiteKeys, AreUnder, IsRow, key_count, key_or_count, place_of as place_in, row_under};
 
 use crate::keys::{SiteKeys, keys_of, slot};
 use graph::Graph;

@@ -2,8 +2,8 @@
 use Rattle.std.proofs.Common.{◌≡◌, ℕ, zero, suc, ◌<◌, List, [], ◌∷◌, length, get_or, refl, ap₂, arith}
 use Rattle.std.specs.List.{All}
 use Rattle.std.proofs.lemmas.List.Elements.{All-from_get_or}
-use Rattle.loop_pieces.specs.declared.flow.Counts.{Counts}
-use Rattle.loop_pieces.specs.Flows.{AreCounts, HaveRoom, added, both, nothing}
+use Rattle.loop_pieces.specs.{AreCounts, both, Counts, HaveRoom, nothing}
+use Rattle.loop_pieces.specs.Flows.{added}
 
 pub length-added : (xs ys : List Counts) → length ys ≡ length xs → length (added xs ys) ≡ length xs
 length-added [] ys e = refl

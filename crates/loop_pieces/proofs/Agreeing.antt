@@ -1,14 +1,10 @@
 -- What a piece of a loop shows is told by its clusters.
 use Rattle.std.proofs.Common.{◌≡◌, ℕ, ◌<◌, List, [], ◌∷◌, length, map, get_or, sym, ap, ◌∙◌, arith}
 use Rattle.std.proofs.lemmas.List.{length-map, get_or-map, same_lists}
-use Rattle.rdf_values.specs.Fold.{Filled, fold_items}
-use Rattle.rdf_values.specs.declared.action.ActionKind.{ActionKind}
+use Rattle.rdf_values.specs.{ActionKind, Filled, fold_items}
 use Rattle.rdf_model.specs.declared.loop_facts.LoopFacts.{LoopFacts}
-use Rattle.actions.specs.Accumulators.{Accumulator}
-use Rattle.actions.specs.Feeding.{in_file_order}
-use Rattle.loop_pieces.specs.LoopPieces.{StandsFor, fed_over}
-use Rattle.loop_pieces.specs.PieceLaws.{PiecesOfOneSetAgree}
-use Rattle.loop_pieces.specs.declared.loop_piece.LoopPiece.{LoopPiece}
+use Rattle.actions.specs.{Accumulator, in_file_order}
+use Rattle.loop_pieces.specs.{fed_over, LoopPiece, PiecesOfOneSetAgree, StandsFor}
 
 abbrev kind_at : Accumulator → ActionKind
 kind_at acc = acc.kind

@@ -1,15 +1,11 @@
 -- Items by the clusters that fed them.
-use Rattle.std.proofs.Common.{◌≡◌, ℕ, suc, ◌<◌, ◌≤◌, List, [], ◌∷◌, ◌++◌, map, true, false, refl, sym, ap, ap₂, ◌∙◌, subst, ⊎_elim, arith}
-use Rattle.std.specs.Prelude.{⊤, ◌==◌, nat_le, if◌then◌else◌}
+use Rattle.std.proofs.Common.{◌≡◌, ℕ, suc, ◌<◌, ◌≤◌, List, [], ◌∷◌, ◌++◌, map, true, false, refl, sym, ap, ap₂, ◌∙◌, subst, ⊎_elim, arith, ◌==◌, nat_le, if◌then◌else◌}
+use Rattle.std.specs.Prelude.{⊤}
 use Rattle.std.specs.List.{All, filter}
 use Rattle.std.proofs.lemmas.Bool.{cases_lt, cases_Bool, eqb-true, eq-eqb, cond-true, cond-false, leb-true, leb-false}
 use Rattle.std.proofs.lemmas.List.Elements.{All-cons}
-use Rattle.rdf_values.specs.declared.action.ActionKind.{ActionKind}
-use Rattle.rdf_values.specs.declared.action.ActionKind.TheVariants as kind
-use Rattle.rdf_values.specs.Fold.{fold_items}
-use Rattle.actions.specs.Accumulators.{Accumulator, HasFed}
-use Rattle.actions.specs.Feeding.{Fed, by_cluster, put}
-use Rattle.actions.specs.Holding.{kept_of}
+use Rattle.rdf_values.specs.{ActionKind, fold_items}
+use Rattle.actions.specs.{Accumulator, by_cluster, Fed, HasFed, kept_of, put}
 
 -- the items of one cluster
 abbrev pub of_cluster : ℕ → List Fed → List Fed
@@ -174,14 +170,14 @@ module _ (P : Fed → Type 0) where
   all_same a b e h = all_every b (every_same a b e (every_all a h))
 
 kept_same : (k : ActionKind) (a b : List Fed) → by_cluster a ≡ by_cluster b → kept_of k a ≡ kept_of k b
-kept_same kind.Count a b e = refl
-kept_same (kind.Sum c) a b e = refl
-kept_same (kind.Min c) a b e = refl
-kept_same (kind.Max c) a b e = refl
-kept_same (kind.Take c) a b e = e
-kept_same (kind.Reduce o c) a b e = refl
-kept_same (kind.Histo1D xs c w) a b e = refl
-kept_same (kind.Histo2D xs ys c d w) a b e = refl
+kept_same ActionKind.Count a b e = refl
+kept_same (ActionKind.Sum c) a b e = refl
+kept_same (ActionKind.Min c) a b e = refl
+kept_same (ActionKind.Max c) a b e = refl
+kept_same (ActionKind.Take c) a b e = e
+kept_same (ActionKind.Reduce o c) a b e = refl
+kept_same (ActionKind.Histo1D xs c w) a b e = refl
+kept_same (ActionKind.Histo2D xs ys c d w) a b e = refl
 
 -- an accumulator knows the items by their clusters alone
 pub has_fed_same : (acc : Accumulator) (a b : List Fed) → by_cluster a ≡ by_cluster b → HasFed acc a → HasFed acc b

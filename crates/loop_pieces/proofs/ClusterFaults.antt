@@ -1,19 +1,11 @@
 -- The first fault, cluster by cluster.
-use Rattle.std.proofs.Common.{◌≡◌, ◌⊎◌, ℕ, suc, ◌+◌, ◌-◌, ◌<◌, ◌≤◌, List, [], ◌∷◌, ◌++◌, length, map, drop, Option, None, Some, refl, sym, ap, ap₂, ◌∙◌, inl, inr, arith}
-use Rattle.std.specs.Prelude.{slice_get, slice_range, option_map}
+use Rattle.std.proofs.Common.{◌≡◌, ◌⊎◌, ℕ, suc, ◌+◌, ◌-◌, ◌<◌, ◌≤◌, List, [], ◌∷◌, ◌++◌, length, map, drop, Option, None, Some, refl, sym, ap, ap₂, ◌∙◌, inl, inr, arith, slice_get, slice_range, option_map}
 use Rattle.std.proofs.lemmas.Option.{slice_get-map}
-use Rattle.lemmas.proofs.Parts.{range_length, take_at_most}
-use Rattle.rdf_values.specs.Cuts.{Lead}
-use Rattle.rdf_values.specs.Bookings.{Pass}
-use Rattle.rdf_values.specs.Machine.{first_in}
-use Rattle.rdf_values.specs.declared.span.Span.{Span}
-use Rattle.rdf_values.specs.declared.value.Value.{Value}
-use Rattle.rdf_values.specs.declared.fault.Fault.{Fault}
-use Rattle.rdf_values.specs.declared.fault.EntryFault.{EntryFault}
+use Rattle.lemmas.proofs.{range_length, take_at_most}
+use Rattle.rdf_values.specs.{EntryFault, Fault, first_in, Lead, Pass, Span, Value}
 use Rattle.rdf_values.proofs.Leading.{led_are_in_order}
-use Rattle.rdf_model.specs.Results.{Dataset, fault_at, fault_or, first_of, first_fault_in, first_fault_from}
-use Rattle.rdf_model.specs.PartialResults.{span_rows}
-use Rattle.loop_pieces.specs.Whole.{FirstClusterHasFirstFault, LowerClustersFaultFirst, begin_of, cluster_faults}
+use Rattle.rdf_model.specs.{Dataset, fault_at, fault_or, first_fault_from, first_fault_in, first_of, span_rows}
+use Rattle.loop_pieces.specs.{begin_of, cluster_faults, FirstClusterHasFirstFault, LowerClustersFaultFirst}
 use Rattle.loop_pieces.proofs.Places.{by_places, lead_up, ranges_join, range_none, range_whole}
 
 first_of-assoc : (a b c : Option Fault) → first_of (first_of a b) c ≡ first_of a (first_of b c)

@@ -1,20 +1,16 @@
 -- The items of the clusters in a set.
-use Rattle.std.proofs.Common.{◌≡◌, ℕ, zero, suc, ◌+◌, ◌≤◌, List, [], ◌∷◌, ◌++◌, map, true, false, refl, sym, ap, ap₂, ◌∙◌, subst, ⊎_elim, arith, append_assoc}
-use Rattle.std.specs.Prelude.{◌==◌, flat_map, slice_get}
+use Rattle.std.proofs.Common.{◌≡◌, ℕ, zero, suc, ◌+◌, ◌≤◌, List, [], ◌∷◌, ◌++◌, map, true, false, refl, sym, ap, ap₂, ◌∙◌, subst, ⊎_elim, arith, append_assoc, ◌==◌, flat_map, slice_get}
 use Rattle.std.specs.List.Sorted.{IsStrictlyIncreasing}
 use Rattle.std.proofs.lemmas.Bool.{cases_Bool, eqb-true, eq-eqb}
 use Rattle.std.proofs.lemmas.List.{map-append}
 use Rattle.std.proofs.lemmas.Grind.{flat_map-append}
-use Rattle.rdf_values.specs.declared.item.Item.{Item}
-use Rattle.rdf_model.specs.PartialResults.{span_rows}
-use Rattle.rdf_model.specs.LoopFacts.{list_at, items_over}
+use Rattle.rdf_values.specs.{IsUnion, Item, times}
+use Rattle.rdf_model.specs.{items_over, list_at, span_rows}
 use Rattle.rdf_model.specs.declared.loop_facts.LoopFacts.{LoopFacts}
-use Rattle.actions.specs.Feeding.{Fed, by_cluster, from_cluster, in_file_order}
-use Rattle.rdf_values.specs.Times.{times}
-use Rattle.rdf_values.specs.Draws.{IsUnion}
+use Rattle.actions.specs.{by_cluster, Fed, from_cluster, in_file_order}
 use Rattle.rdf_values.proofs.DrawCounts.{times_self, times_other}
 use Rattle.rdf_values.proofs.UnionLemmas.{Above, Rises, rises_from, counted, two}
-use Rattle.loop_pieces.specs.LoopPieces.{cluster_items, fed_over}
+use Rattle.loop_pieces.specs.{cluster_items, fed_over}
 use Rattle.loop_pieces.proofs.ByCluster.{of_cluster, of_its, of_other, of_both, AllFrom, AreSorted, order_same, order_kept}
 
 abbrev pub copies : {A : Type 0} → ℕ → List A → List A

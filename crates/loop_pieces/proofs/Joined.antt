@@ -1,17 +1,11 @@
 -- Two pieces of a loop joined.
-use Rattle.std.proofs.Common.{◌≡◌, ℕ, zero, suc, ◌<◌, List, [], ◌∷◌, ◌++◌, length, map, get_or, refl, sym, ap, ap₂, ◌∙◌, subst, arith}
-use Rattle.std.specs.Prelude.{Result, Ok, Err, OnOk}
+use Rattle.std.proofs.Common.{◌≡◌, ℕ, zero, suc, ◌<◌, List, [], ◌∷◌, ◌++◌, length, map, get_or, refl, sym, ap, ap₂, ◌∙◌, subst, arith, Result, Ok, Err, OnOk}
 use Rattle.std.proofs.lemmas.List.{length-map, get_or-map, same_lists}
-use Rattle.rdf_values.specs.Cuts.{below}
-use Rattle.rdf_values.specs.declared.action.ActionKind.{ActionKind}
+use Rattle.rdf_values.specs.{ActionKind, below, IsUnion}
 use Rattle.rdf_model.specs.declared.loop_facts.LoopFacts.{LoopFacts}
-use Rattle.actions.specs.Accumulators.{Accumulator}
-use Rattle.loop_pieces.specs.declared.flow.Counts.{Counts}
-use Rattle.loop_pieces.specs.Flows.{HaveRoom, added, both}
-use Rattle.rdf_values.specs.Draws.{IsUnion}
-use Rattle.loop_pieces.specs.declared.loop_piece.LoopPiece.{LoopPiece}
-use Rattle.loop_pieces.specs.Accs.{AreMerged, CanMerge}
-use Rattle.loop_pieces.specs.LoopPieces.{StandsFor, counts_at, cluster_items, fed_over}
+use Rattle.actions.specs.{Accumulator}
+use Rattle.loop_pieces.specs.{AreMerged, both, CanMerge, cluster_items, Counts, counts_at, fed_over, HaveRoom, LoopPiece, StandsFor}
+use Rattle.loop_pieces.specs.Flows.{added}
 use Rattle.loop_pieces.proofs.ByCluster.{has_fed_same}
 use Rattle.loop_pieces.proofs.FedOver.{order_union}
 use Rattle.loop_pieces.proofs.Rows.{counts_union, counts_few, entries_union, entries_few}

@@ -1,11 +1,9 @@
 -- Clusters by their numbers, and clusters that lead from one entry to another.
-use Rattle.std.proofs.Common.{◌≡◌, ℕ, zero, suc, ◌+◌, ◌-◌, ◌≤◌, List, [], ◌∷◌, ◌++◌, length, map, take, drop, Option, Some, refl, sym, ap, ◌∙◌, arith, length-drop}
-use Rattle.std.specs.Prelude.{flat_map, slice_get, slice_range}
+use Rattle.std.proofs.Common.{◌≡◌, ℕ, zero, suc, ◌+◌, ◌-◌, ◌≤◌, List, [], ◌∷◌, ◌++◌, length, map, take, drop, Option, Some, refl, sym, ap, ◌∙◌, arith, length-drop, flat_map, slice_get, slice_range}
 use Rattle.std.proofs.lemmas.List.{map-append}
 use Rattle.std.proofs.lemmas.List.Folds.{flat_map-map}
-use Rattle.lemmas.proofs.Parts.{drop_plus}
-use Rattle.rdf_values.specs.Cuts.{Lead, below}
-use Rattle.rdf_values.specs.declared.span.Span.{Span}
+use Rattle.lemmas.proofs.{drop_plus}
+use Rattle.rdf_values.specs.{below, Lead, Span}
 
 map_twice : {A B C : Type 0} (g : B → C) (f : A → B) (xs : List A) → map g (map f xs) ≡ map (λ x. g (f x)) xs
 map_twice g f [] = refl

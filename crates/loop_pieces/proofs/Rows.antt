@@ -1,19 +1,15 @@
 -- How many rows and counts the clusters of a set have.
-use Rattle.std.proofs.Common.{◌≡◌, ℕ, zero, suc, ◌+◌, ◌-◌, ◌<◌, ◌≤◌, List, [], ◌∷◌, ◌++◌, length, take, drop, cond, Bool, true, false, Option, None, Some, refl, sym, ap, ap₂, ◌∙◌, arith, append-nil, length-drop}
-use Rattle.std.specs.Prelude.{flat_map, slice_get, count_by}
+use Rattle.std.proofs.Common.{◌≡◌, ℕ, zero, suc, ◌+◌, ◌-◌, ◌<◌, ◌≤◌, List, [], ◌∷◌, ◌++◌, length, take, drop, cond, Bool, true, false, Option, None, Some, refl, sym, ap, ap₂, ◌∙◌, arith, append-nil, length-drop, flat_map, slice_get, count_by}
 use Rattle.std.specs.List.{sum_by}
 use Rattle.std.specs.List.Sorted.{IsStrictlyIncreasing}
 use Rattle.std.proofs.lemmas.List.Concat.{length-flat_map}
 use Rattle.std.proofs.lemmas.List.Sums.{sum_by-cons, sum_by-append, sum_by-le}
 use Rattle.std.proofs.lemmas.List.Sorted.{sum_by-IsPermutation}
-use Rattle.rdf_values.specs.declared.span.Span.{Span}
-use Rattle.rdf_model.specs.PartialResults.{span_rows, rows_in}
-use Rattle.rdf_model.specs.LoopFacts.{if_there, reaches_over, IsLoopFacts, is_reached, is_passed}
+use Rattle.rdf_values.specs.{IsUnion, Span}
+use Rattle.rdf_model.specs.{if_there, is_passed, is_reached, IsLoopFacts, Reach, reaches_over, rows_in, span_rows}
 use Rattle.rdf_model.specs.declared.loop_facts.LoopFacts.{LoopFacts}
-use Rattle.rdf_model.specs.declared.loop_facts.Reach.{Reach}
-use Rattle.rdf_values.specs.Draws.{IsUnion}
 use Rattle.rdf_values.proofs.UnionLemmas.{Above, Rises, rises_from}
-use Rattle.loop_pieces.specs.LoopPieces.{entries_over, counts_at}
+use Rattle.loop_pieces.specs.{counts_at, entries_over}
 
 -- a sum over a union
 pub sum_union : (g : ℕ → ℕ) (mine theirs all : List ℕ) → IsUnion (mine ∷ theirs ∷ []) all → sum_by g all ≡ sum_by g mine + sum_by g theirs

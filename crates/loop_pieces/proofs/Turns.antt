@@ -2,8 +2,8 @@
 use Rattle.std.proofs.Common.{◌≡◌, ℕ, ◌+◌, ◌<◌, ◌≤◌, List, length, set, get_or, sym, ◌∙◌, subst, ⊎_elim, arith, get_or-set_same, get_or-set_other}
 use Rattle.std.proofs.lemmas.Bool.{cases_lt}
 use Rattle.std.proofs.lemmas.List.{get_or_default}
-use Rattle.actions.specs.Accumulators.{Accumulator}
-use Rattle.loop_pieces.specs.Accs.{IsMerged}
+use Rattle.actions.specs.{Accumulator}
+use Rattle.loop_pieces.specs.{IsMerged}
 
 module _ (old theirs mine : List Accumulator) (i : ℕ) (acc merged e : Accumulator) where
   -- what holds before the turn of this place, whose accumulator is merged in it

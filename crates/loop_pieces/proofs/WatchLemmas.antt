@@ -1,40 +1,28 @@
 -- Pieces of a watched result.
-use Rattle.std.proofs.Common.{◌≡◌, ℕ, zero, suc, ◌+◌, ◌-◌, ◌*◌, ◌^◌, ◌≤◌, ℤ, pos, negsuc, ◌+ℤ◌, List, [], ◌∷◌, ◌++◌, length, map, take, drop, Option, None, Some, refl, sym, ap, ◌∙◌, subst, arith, length-append}
-use Rattle.std.specs.Prelude.{flat_map, fold, nat_abs, slice_get}
+use Rattle.std.proofs.Common.{◌≡◌, ℕ, zero, suc, ◌+◌, ◌-◌, ◌*◌, ◌^◌, ◌≤◌, ℤ, pos, negsuc, ◌+ℤ◌, List, [], ◌∷◌, ◌++◌, length, map, take, drop, Option, None, Some, refl, sym, ap, ◌∙◌, subst, arith, length-append, flat_map, fold, nat_abs, slice_get}
 use Rattle.std.specs.List.{AllByRecursion}
 use Rattle.std.specs.Int.{int_max, int_min}
 use Rattle.std.specs.List.Sorted.{IsStrictlyIncreasing}
 use Rattle.std.proofs.lemmas.List.Elements.{recursion_from_All}
-use Rattle.lemmas.proofs.Orders.{abs_add}
-use Rattle.rdf_values.specs.Draws.{IsUnion}
+use Rattle.lemmas.proofs.{abs_add}
+use Rattle.rdf_values.specs.{ActionKind, Filled, fold_items, Has64Bits, IsUnion, Item, numbers_of, Span}
 use Rattle.rdf_values.specs.Fold as filled
-use Rattle.rdf_values.specs.Fold.{Filled, fold_items, numbers_of}
-use Rattle.rdf_values.specs.Words.{Has64Bits}
-use Rattle.rdf_values.specs.declared.action.ActionKind.{ActionKind}
-use Rattle.rdf_values.specs.declared.action.ActionKind.TheVariants as kind
-use Rattle.rdf_values.specs.declared.item.Item.{Item}
-use Rattle.rdf_values.specs.declared.item.Item.TheVariants as item
-use Rattle.rdf_values.specs.declared.span.Span.{Span}
-use Rattle.rdf_model.specs.PartialResults.{span_rows, rows_in}
-use Rattle.rdf_model.specs.LoopFacts.{FitsAction, FitsSpread, IsLoopFacts, items_over, list_at, result_over}
+use Rattle.rdf_model.specs.{FitsAction, FitsSpread, IsLoopFacts, items_over, list_at, result_over, rows_in, span_rows}
 use Rattle.rdf_model.specs.declared.loop_facts.LoopFacts.{LoopFacts}
-use Rattle.actions.specs.Extremes.{better_of_two}
-use Rattle.actions.specs.Feeding.{Fed, in_file_order}
+use Rattle.actions.specs.{better_of_two, Fed, in_file_order}
 use Rattle.actions.proofs.Merges.{merge_count, merge_max, merge_min, merge_sum}
-use Rattle.loop_pieces.specs.LoopPieces.{cluster_items, entries_over, fed_over}
-use Rattle.loop_pieces.specs.PieceLaws.{WatchPiecesOfOneSetAgree}
-use Rattle.loop_pieces.specs.Watching.{CanAdd, IsOfKind, WatchStandsFor, added, watch_filled}
+use Rattle.loop_pieces.specs.{CanAdd, cluster_items, entries_over, fed_over, IsOfKind, watch_filled, WatchPiece, WatchPiecesOfOneSetAgree, WatchStandsFor}
+use Rattle.loop_pieces.specs.Watching.{added}
 use Rattle.loop_pieces.specs.declared.watch_piece.WatchFacts.{WatchFacts}
-use Rattle.loop_pieces.specs.declared.watch_piece.WatchPiece.{WatchPiece}
 use Rattle.loop_pieces.specs.declared.watch_piece.WatchPiece.TheVariants.{Count, Sum, Least, Greatest}
 use Rattle.loop_pieces.proofs.FedOver.{items_in_order, order_union}
 use Rattle.loop_pieces.proofs.Rows.{entries_few, entries_union}
 
 -- ---- two pieces of one kind
 
-module _ (P : ActionKind → WatchPiece → WatchPiece → Type 0) (counts : (n m : ℕ) → P kind.Count (Count n) (Count m)) (sums : (c : List ℕ) (y z : ℤ) → P (kind.Sum c) (Sum y) (Sum z))
-    (leasts : (c : List ℕ) (y z : Option ℤ) → P (kind.Min c) (Least y) (Least z)) (greatests : (c : List ℕ) (y z : Option ℤ) → P (kind.Max c) (Greatest y) (Greatest z)) where
-  two_counts : (p q : WatchPiece) → IsOfKind kind.Count p → IsOfKind kind.Count q → P kind.Count p q
+module _ (P : ActionKind → WatchPiece → WatchPiece → Type 0) (counts : (n m : ℕ) → P ActionKind.Count (Count n) (Count m)) (sums : (c : List ℕ) (y z : ℤ) → P (ActionKind.Sum c) (Sum y) (Sum z))
+    (leasts : (c : List ℕ) (y z : Option ℤ) → P (ActionKind.Min c) (Least y) (Least z)) (greatests : (c : List ℕ) (y z : Option ℤ) → P (ActionKind.Max c) (Greatest y) (Greatest z)) where
+  two_counts : (p q : WatchPiece) → IsOfKind ActionKind.Count p → IsOfKind ActionKind.Count q → P ActionKind.Count p q
   two_counts (Count n) (Count m) a b = counts n m
   two_counts (Count n) (Sum z) a b = absurd b
   two_counts (Count n) (Least z) a b = absurd b
@@ -43,7 +31,7 @@ module _ (P : ActionKind → WatchPiece → WatchPiece → Type 0) (counts : (n 
   two_counts (Least z) q a b = absurd a
   two_counts (Greatest z) q a b = absurd a
 
-  two_sums : (c : List ℕ) (p q : WatchPiece) → IsOfKind (kind.Sum c) p → IsOfKind (kind.Sum c) q → P (kind.Sum c) p q
+  two_sums : (c : List ℕ) (p q : WatchPiece) → IsOfKind (ActionKind.Sum c) p → IsOfKind (ActionKind.Sum c) q → P (ActionKind.Sum c) p q
   two_sums c (Sum y) (Sum z) a b = sums c y z
   two_sums c (Sum y) (Count n) a b = absurd b
   two_sums c (Sum y) (Least z) a b = absurd b
@@ -52,7 +40,7 @@ module _ (P : ActionKind → WatchPiece → WatchPiece → Type 0) (counts : (n 
   two_sums c (Least z) q a b = absurd a
   two_sums c (Greatest z) q a b = absurd a
 
-  two_leasts : (c : List ℕ) (p q : WatchPiece) → IsOfKind (kind.Min c) p → IsOfKind (kind.Min c) q → P (kind.Min c) p q
+  two_leasts : (c : List ℕ) (p q : WatchPiece) → IsOfKind (ActionKind.Min c) p → IsOfKind (ActionKind.Min c) q → P (ActionKind.Min c) p q
   two_leasts c (Least y) (Least z) a b = leasts c y z
   two_leasts c (Least y) (Count n) a b = absurd b
   two_leasts c (Least y) (Sum z) a b = absurd b
@@ -61,7 +49,7 @@ module _ (P : ActionKind → WatchPiece → WatchPiece → Type 0) (counts : (n 
   two_leasts c (Sum z) q a b = absurd a
   two_leasts c (Greatest z) q a b = absurd a
 
-  two_greatests : (c : List ℕ) (p q : WatchPiece) → IsOfKind (kind.Max c) p → IsOfKind (kind.Max c) q → P (kind.Max c) p q
+  two_greatests : (c : List ℕ) (p q : WatchPiece) → IsOfKind (ActionKind.Max c) p → IsOfKind (ActionKind.Max c) q → P (ActionKind.Max c) p q
   two_greatests c (Greatest y) (Greatest z) a b = greatests c y z
   two_greatests c (Greatest y) (Count n) a b = absurd b
   two_greatests c (Greatest y) (Sum z) a b = absurd b
@@ -71,26 +59,26 @@ module _ (P : ActionKind → WatchPiece → WatchPiece → Type 0) (counts : (n 
   two_greatests c (Least z) q a b = absurd a
 
   pub of_one_kind : (k : ActionKind) (p q : WatchPiece) → IsOfKind k p → IsOfKind k q → P k p q
-  of_one_kind kind.Count p q a b = two_counts p q a b
-  of_one_kind (kind.Sum c) p q a b = two_sums c p q a b
-  of_one_kind (kind.Min c) p q a b = two_leasts c p q a b
-  of_one_kind (kind.Max c) p q a b = two_greatests c p q a b
-  of_one_kind (kind.Take c) (Count n) q a b = absurd a
-  of_one_kind (kind.Take c) (Sum z) q a b = absurd a
-  of_one_kind (kind.Take c) (Least z) q a b = absurd a
-  of_one_kind (kind.Take c) (Greatest z) q a b = absurd a
-  of_one_kind (kind.Reduce o c) (Count n) q a b = absurd a
-  of_one_kind (kind.Reduce o c) (Sum z) q a b = absurd a
-  of_one_kind (kind.Reduce o c) (Least z) q a b = absurd a
-  of_one_kind (kind.Reduce o c) (Greatest z) q a b = absurd a
-  of_one_kind (kind.Histo1D xs c w) (Count n) q a b = absurd a
-  of_one_kind (kind.Histo1D xs c w) (Sum z) q a b = absurd a
-  of_one_kind (kind.Histo1D xs c w) (Least z) q a b = absurd a
-  of_one_kind (kind.Histo1D xs c w) (Greatest z) q a b = absurd a
-  of_one_kind (kind.Histo2D xs ys c d w) (Count n) q a b = absurd a
-  of_one_kind (kind.Histo2D xs ys c d w) (Sum z) q a b = absurd a
-  of_one_kind (kind.Histo2D xs ys c d w) (Least z) q a b = absurd a
-  of_one_kind (kind.Histo2D xs ys c d w) (Greatest z) q a b = absurd a
+  of_one_kind ActionKind.Count p q a b = two_counts p q a b
+  of_one_kind (ActionKind.Sum c) p q a b = two_sums c p q a b
+  of_one_kind (ActionKind.Min c) p q a b = two_leasts c p q a b
+  of_one_kind (ActionKind.Max c) p q a b = two_greatests c p q a b
+  of_one_kind (ActionKind.Take c) (Count n) q a b = absurd a
+  of_one_kind (ActionKind.Take c) (Sum z) q a b = absurd a
+  of_one_kind (ActionKind.Take c) (Least z) q a b = absurd a
+  of_one_kind (ActionKind.Take c) (Greatest z) q a b = absurd a
+  of_one_kind (ActionKind.Reduce o c) (Count n) q a b = absurd a
+  of_one_kind (ActionKind.Reduce o c) (Sum z) q a b = absurd a
+  of_one_kind (ActionKind.Reduce o c) (Least z) q a b = absurd a
+  of_one_kind (ActionKind.Reduce o c) (Greatest z) q a b = absurd a
+  of_one_kind (ActionKind.Histo1D xs c w) (Count n) q a b = absurd a
+  of_one_kind (ActionKind.Histo1D xs c w) (Sum z) q a b = absurd a
+  of_one_kind (ActionKind.Histo1D xs c w) (Least z) q a b = absurd a
+  of_one_kind (ActionKind.Histo1D xs c w) (Greatest z) q a b = absurd a
+  of_one_kind (ActionKind.Histo2D xs ys c d w) (Count n) q a b = absurd a
+  of_one_kind (ActionKind.Histo2D xs ys c d w) (Sum z) q a b = absurd a
+  of_one_kind (ActionKind.Histo2D xs ys c d w) (Least z) q a b = absurd a
+  of_one_kind (ActionKind.Histo2D xs ys c d w) (Greatest z) q a b = absurd a
 
 same_kind : {a b : ActionKind} → ◌≡◌ {A = Option ActionKind} (Some a) (Some b) → a ≡ b
 same_kind q = cc
@@ -158,17 +146,17 @@ abs_small : (z : ℤ) → Has64Bits z → nat_abs z ≤ 2 ^ 63
 abs_small (pos n) h = omega arith
 abs_small (negsuc n) h = omega arith
 
-sum_few : (c : List ℕ) (items : List Item) (s : ℤ) (a : ℕ) → Each (FitsAction (kind.Sum c)) items → nat_abs s ≤ a → nat_abs (fold ◌+ℤ◌ s (numbers_of items)) ≤ a + length items * 2 ^ 63
+sum_few : (c : List ℕ) (items : List Item) (s : ℤ) (a : ℕ) → Each (FitsAction (ActionKind.Sum c)) items → nat_abs s ≤ a → nat_abs (fold ◌+ℤ◌ s (numbers_of items)) ≤ a + length items * 2 ^ 63
 sum_few c [] s a h le = omega arith
-sum_few c (item.Number z ∷ items) s a h le =
+sum_few c (Item.Number z ∷ items) s a h le =
     let more = abs_add s z in
     let small = abs_small z h.0 in
     let rest = sum_few c items (s +ℤ z) (a + 2 ^ 63) h.1 (omega arith) in
     omega arith
-sum_few c (item.Unit ∷ items) s a h le = absurd h.0
-sum_few c (item.Single x ∷ items) s a h le = absurd h.0
-sum_few c (item.Point x w ∷ items) s a h le = absurd h.0
-sum_few c (item.Point2 x y w ∷ items) s a h le = absurd h.0
+sum_few c (Item.Unit ∷ items) s a h le = absurd h.0
+sum_few c (Item.Single x ∷ items) s a h le = absurd h.0
+sum_few c (Item.Point x w ∷ items) s a h le = absurd h.0
+sum_few c (Item.Point2 x y w ∷ items) s a h le = absurd h.0
 
 -- ---- joining
 
@@ -193,48 +181,48 @@ module _ (f : LoopFacts) (i : ℕ) (mine theirs all : List ℕ) (facts : IsLoopF
   Joins k p q = slice_get f.kinds i ≡ Some k → watch_filled p ≡ result_over f mine i k → watch_filled q ≡ result_over f theirs i k
       → CanAdd p q × IsOfKind k (added p q) × (watch_filled (added p q) ≡ result_over f all i k)
 
-  join_counts : (n m : ℕ) → Joins kind.Count (Count n) (Count m)
+  join_counts : (n m : ℕ) → Joins ActionKind.Count (Count n) (Count m)
   join_counts n m at a b =
       let few = few_entries in
-      let x = few_items kind.Count mine at in
-      let y = few_items kind.Count theirs at in
+      let x = few_items ActionKind.Count mine at in
+      let y = few_items ActionKind.Count theirs at in
       let n_is : n ≡ length (items_over f mine i) = cc in
       let m_is : m ≡ length (items_over f theirs i) = cc in (
         omega arith,
         tt,
-        of_union kind.Count (filled.Count (n + m))
-            (merge_count (fed_over f mine i) (fed_over f theirs i) n m (record { made = in_fed kind.Count (filled.Count n) mine up a; kept = refl }) (record { made = in_fed kind.Count (filled.Count m) theirs down b; kept = refl })).made,
+        of_union ActionKind.Count (filled.Count (n + m))
+            (merge_count (fed_over f mine i) (fed_over f theirs i) n m (record { made = in_fed ActionKind.Count (filled.Count n) mine up a; kept = refl }) (record { made = in_fed ActionKind.Count (filled.Count m) theirs down b; kept = refl })).made,
       )
 
-  join_sums : (c : List ℕ) (y z : ℤ) → Joins (kind.Sum c) (Sum y) (Sum z)
+  join_sums : (c : List ℕ) (y z : ℤ) → Joins (ActionKind.Sum c) (Sum y) (Sum z)
   join_sums c y z at a b =
       let few = few_entries in
-      let x = few_items (kind.Sum c) mine at in
-      let v = few_items (kind.Sum c) theirs at in
+      let x = few_items (ActionKind.Sum c) mine at in
+      let v = few_items (ActionKind.Sum c) theirs at in
       let y_is : y ≡ filled.integer_sum (numbers_of (items_over f mine i)) = cc in
       let z_is : z ≡ filled.integer_sum (numbers_of (items_over f theirs i)) = cc in
-      let low = sum_few c (items_over f mine i) (pos 0) 0 (items_fit (kind.Sum c) mine at) (omega arith) in
-      let high = sum_few c (items_over f theirs i) (pos 0) 0 (items_fit (kind.Sum c) theirs at) (omega arith) in (
+      let low = sum_few c (items_over f mine i) (pos 0) 0 (items_fit (ActionKind.Sum c) mine at) (omega arith) in
+      let high = sum_few c (items_over f theirs i) (pos 0) 0 (items_fit (ActionKind.Sum c) theirs at) (omega arith) in (
         omega (arith, ap nat_abs y_is, ap nat_abs z_is, low, high),
         tt,
-        of_union (kind.Sum c) (filled.Sum (y +ℤ z))
-            (merge_sum (fed_over f mine i) (fed_over f theirs i) c c y z (y +ℤ z) refl (record { made = in_fed (kind.Sum c) (filled.Sum y) mine up a; kept = refl }) (record { made = in_fed (kind.Sum c) (filled.Sum z) theirs down b; kept = refl })).made,
+        of_union (ActionKind.Sum c) (filled.Sum (y +ℤ z))
+            (merge_sum (fed_over f mine i) (fed_over f theirs i) c c y z (y +ℤ z) refl (record { made = in_fed (ActionKind.Sum c) (filled.Sum y) mine up a; kept = refl }) (record { made = in_fed (ActionKind.Sum c) (filled.Sum z) theirs down b; kept = refl })).made,
       )
 
-  join_leasts : (c : List ℕ) (y z : Option ℤ) → Joins (kind.Min c) (Least y) (Least z)
+  join_leasts : (c : List ℕ) (y z : Option ℤ) → Joins (ActionKind.Min c) (Least y) (Least z)
   join_leasts c y z at a b = (
     tt,
     tt,
-    of_union (kind.Min c) (filled.Extreme (better_of_two int_min y z))
-        (merge_min (fed_over f mine i) (fed_over f theirs i) c c y z (better_of_two int_min y z) refl (record { made = in_fed (kind.Min c) (filled.Extreme y) mine up a; kept = refl }) (record { made = in_fed (kind.Min c) (filled.Extreme z) theirs down b; kept = refl })).made,
+    of_union (ActionKind.Min c) (filled.Extreme (better_of_two int_min y z))
+        (merge_min (fed_over f mine i) (fed_over f theirs i) c c y z (better_of_two int_min y z) refl (record { made = in_fed (ActionKind.Min c) (filled.Extreme y) mine up a; kept = refl }) (record { made = in_fed (ActionKind.Min c) (filled.Extreme z) theirs down b; kept = refl })).made,
   )
 
-  join_greatests : (c : List ℕ) (y z : Option ℤ) → Joins (kind.Max c) (Greatest y) (Greatest z)
+  join_greatests : (c : List ℕ) (y z : Option ℤ) → Joins (ActionKind.Max c) (Greatest y) (Greatest z)
   join_greatests c y z at a b = (
     tt,
     tt,
-    of_union (kind.Max c) (filled.Extreme (better_of_two int_max y z))
-        (merge_max (fed_over f mine i) (fed_over f theirs i) c c y z (better_of_two int_max y z) refl (record { made = in_fed (kind.Max c) (filled.Extreme y) mine up a; kept = refl }) (record { made = in_fed (kind.Max c) (filled.Extreme z) theirs down b; kept = refl })).made,
+    of_union (ActionKind.Max c) (filled.Extreme (better_of_two int_max y z))
+        (merge_max (fed_over f mine i) (fed_over f theirs i) c c y z (better_of_two int_max y z) refl (record { made = in_fed (ActionKind.Max c) (filled.Extreme y) mine up a; kept = refl }) (record { made = in_fed (ActionKind.Max c) (filled.Extreme z) theirs down b; kept = refl })).made,
   )
 
   joins : (k : ActionKind) (p q : WatchPiece) → IsOfKind k p → IsOfKind k q → Joins k p q

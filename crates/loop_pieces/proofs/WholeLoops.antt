@@ -1,31 +1,16 @@
 -- A piece gives what separate passes give over the rows of its clusters.
-use Rattle.std.proofs.Common.{◌≡◌, ℕ, zero, suc, ◌<◌, ◌≤◌, Bool, true, false, List, [], ◌∷◌, ◌++◌, length, get_or, Option, None, Some, refl, sym, ap, ap₂, ◌∙◌, subst, arith, length-append}
-use Rattle.std.specs.Prelude.{flat_map, slice_get, slice_range, option_map, All, ◌||◌}
+use Rattle.std.proofs.Common.{◌≡◌, ℕ, zero, suc, ◌<◌, ◌≤◌, Bool, true, false, List, [], ◌∷◌, ◌++◌, length, get_or, Option, None, Some, refl, sym, ap, ap₂, ◌∙◌, subst, arith, length-append, flat_map, slice_get, slice_range, option_map, All, ◌||◌}
 use Rattle.std.specs.List.{list_any}
 use Rattle.std.proofs.lemmas.Option.{slice_get-map, slice_get_within, get_or_from_slice_get}
-use Rattle.lemmas.proofs.Places.{any_at}
-use Rattle.rdf_values.specs.Path.{Path, Under}
-use Rattle.rdf_values.specs.Cuts.{Lead, below}
-use Rattle.rdf_values.specs.Bookings.{Booking, ActionAt, ReportOn, Pass}
-use Rattle.rdf_values.specs.Fold.{fold_items}
-use Rattle.rdf_values.specs.Names.{same}
-use Rattle.rdf_values.specs.declared.action.ActionKind.{ActionKind}
-use Rattle.rdf_values.specs.declared.span.Span.{Span}
-use Rattle.rdf_values.specs.declared.value.Value.{Value}
+use Rattle.lemmas.proofs.{any_at}
+use Rattle.rdf_values.specs.{ActionAt, ActionKind, below, Booking, fold_items, Lead, Pass, Path, ReportOn, same, Span, Under, Value}
 use Rattle.rdf_values.proofs.Below.{slice_get-below}
-use Rattle.rdf_model.specs.Evaluation.{Outcome, Gives, Faults, Needs, ◌>>=◌}
-use Rattle.rdf_model.specs.EntryOutcomes.{Entry, booking_outcome}
-use Rattle.rdf_model.specs.Results.{Dataset, FilterCounts, fault_in}
-use Rattle.rdf_model.specs.PartialResults.{span_rows, rows_in, over_clusters}
-use Rattle.rdf_model.specs.LoopFacts.{filter_node, loop_facts, kinds_in, kind_in, is_covered, reports_on, result_over}
-use Rattle.rdf_model.specs.Laws.{action_pass, filter_in, report_in}
+use Rattle.rdf_model.specs.{◌>>=◌, action_pass, booking_outcome, Dataset, Entry, fault_in, Faults, filter_in, filter_node, FilterCounts, Gives, is_covered, kind_in, kinds_in, loop_facts, Needs, Outcome, over_clusters, report_in, reports_on, result_over, rows_in, span_rows}
 use Rattle.rdf_model.proofs.Accepted.{itself}
 use Rattle.rdf_model.proofs.Faults.{first_fault_is_least}
 use Rattle.rdf_model.proofs.Parts.{facts_give_results, facts_give_counts}
-use Rattle.actions.specs.Accumulators.{Accumulator}
-use Rattle.actions.specs.Feeding.{in_file_order}
-use Rattle.loop_pieces.specs.LoopPieces.{fed_over, counts_at}
-use Rattle.loop_pieces.specs.Whole.{AllClustersAreTheTable, PieceHoldsResults, PieceHoldsCounts, WatchPieceIsPartialResult, counts_of}
+use Rattle.actions.specs.{Accumulator, in_file_order}
+use Rattle.loop_pieces.specs.{AllClustersAreTheTable, counts_at, counts_of, fed_over, PieceHoldsCounts, PieceHoldsResults, WatchPieceIsPartialResult}
 use Rattle.loop_pieces.proofs.FedOver.{items_in_order}
 use Rattle.loop_pieces.proofs.Places.{joined_places, lead_up, ranges_join, range_none, range_whole}
 

@@ -1,8 +1,7 @@
 -- The partial results of a loop: each watched result over the sets of clusters that the loop noted.
 use Rattle.std.specs.Prelude.{◌≡◌, ◌<◌, ◌+◌, ⊤, ℕ, List, [], ◌∷◌, Some, length, map, slice_get}
-use Rattle.rdf_values.specs.Cuts.{stride}
-use Rattle.rdf_values.specs.declared.span.Span.{Span}
-use Rattle.rdf_model.specs.PartialResults.{IsChain, Run, maximal_runs}
+use Rattle.rdf_values.specs.{Span, stride}
+use Rattle.rdf_model.specs.{IsChain, maximal_runs, Run}
 use Rattle.rdf_model.specs.declared.loop_facts.LoopFacts.{LoopFacts}
 use Rattle.loop_pieces.specs.Trails.{watch_facts}
 use Rattle.loop_pieces.specs.Watching.{WatchStandsFor}

@@ -1,10 +1,9 @@
 -- Laws of pieces and of their joining, by the sets of clusters for which they stand.
 use Rattle.std.specs.Prelude.{◌≡◌, ℕ, List, [], ◌∷◌, map}
 use Rattle.std.specs.List.Sorted.{IsStrictlyIncreasing}
-use Rattle.rdf_values.specs.Draws.{IsUnion}
-use Rattle.rdf_values.specs.Fold.{Filled}
+use Rattle.rdf_values.specs.{Filled, IsUnion}
 use Rattle.rdf_model.specs.declared.loop_facts.LoopFacts.{LoopFacts}
-use Rattle.actions.specs.Accumulators.{Accumulator}
+use Rattle.actions.specs.{Accumulator}
 use Rattle.loop_pieces.specs.LoopPieces.{StandsFor}
 use Rattle.loop_pieces.specs.Watching.{WatchStandsFor}
 use Rattle.loop_pieces.specs.declared.loop_piece.LoopPiece.{LoopPiece}

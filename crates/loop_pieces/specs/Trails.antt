@@ -1,10 +1,9 @@
 -- The trails of a piece: what each watched result comes to in each cluster alone.
 use Rattle.std.specs.Prelude.{◌≡◌, ◌+◌, ◌&&◌, ℕ, List, [], ◌∷◌, ◌++◌, All, Some, is_none, if◌then◌else◌, length, map, slice_get}
-use Rattle.rdf_values.specs.Bookings.{Pass, is_watched}
-use Rattle.rdf_values.specs.declared.statement.Statement.{Statement}
-use Rattle.rdf_model.specs.LoopFacts.{kind_in}
+use Rattle.rdf_values.specs.{is_watched, Pass, Statement}
+use Rattle.rdf_model.specs.{kind_in}
 use Rattle.rdf_model.specs.declared.loop_facts.LoopFacts.{LoopFacts}
-use Rattle.merge_core.specs.declared.noted.Noted.{Noted}
+use Rattle.merge_core.specs.{Noted}
 use Rattle.loop_pieces.specs.Watching.{WatchStandsFor}
 use Rattle.loop_pieces.specs.declared.watch_piece.WatchFacts.{WatchFacts}
 use Rattle.loop_pieces.specs.declared.watch_piece.WatchPiece.{WatchPiece}

@@ -3,10 +3,9 @@ use Rattle.std.specs.Prelude.{◌≡◌, ◌<◌, ◌+◌, ◌^◌, ◌+ℤ◌, 
 use Rattle.std.specs.Int.{int_max, int_min}
 use Rattle.std.specs.List.Sorted.{IsStrictlyIncreasing}
 use Rattle.rdf_values.specs.Fold as fold
-use Rattle.rdf_values.specs.declared.action.ActionKind.{ActionKind}
-use Rattle.rdf_values.specs.declared.action.ActionKind.TheVariants as kind
-use Rattle.rdf_model.specs.LoopFacts.{IsLoopFacts, result_over}
-use Rattle.actions.specs.Extremes.{better_of_two}
+use Rattle.rdf_values.specs.{ActionKind}
+use Rattle.rdf_model.specs.{IsLoopFacts, result_over}
+use Rattle.actions.specs.{better_of_two}
 use Rattle.loop_pieces.specs.declared.watch_piece.WatchFacts.{WatchFacts}
 use Rattle.loop_pieces.specs.declared.watch_piece.WatchPiece.{WatchPiece}
 use Rattle.loop_pieces.specs.declared.watch_piece.WatchPiece.TheVariants.{Count, Sum, Least, Greatest}
@@ -20,10 +19,10 @@ watch_filled (Greatest z) = fold.Extreme z
 
 -- it is one of an action of that kind
 abbrev pub IsOfKind : ActionKind → WatchPiece → Type 0
-IsOfKind kind.Count (Count n) = ⊤
-IsOfKind (kind.Sum c) (Sum z) = ⊤
-IsOfKind (kind.Min c) (Least z) = ⊤
-IsOfKind (kind.Max c) (Greatest z) = ⊤
+IsOfKind ActionKind.Count (Count n) = ⊤
+IsOfKind (ActionKind.Sum c) (Sum z) = ⊤
+IsOfKind (ActionKind.Min c) (Least z) = ⊤
+IsOfKind (ActionKind.Max c) (Greatest z) = ⊤
 IsOfKind k piece = ⊥
 
 -- the piece is what the watched action pass comes to over that set of clusters

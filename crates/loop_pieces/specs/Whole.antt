@@ -1,19 +1,9 @@
 -- What a piece gives, against separate passes over the rows of its clusters.
 use Rattle.std.specs.Prelude.{◌≡◌, ℕ, List, ◌∷◌, ◌++◌, Option, None, Some, length, map, slice_get}
-use Rattle.rdf_values.specs.Path.{Path, Under}
-use Rattle.rdf_values.specs.Cuts.{Lead, below}
-use Rattle.rdf_values.specs.Bookings.{Pass, ReportOn}
-use Rattle.rdf_values.specs.Machine.{AreInEntryOrder, first_in}
-use Rattle.rdf_values.specs.declared.action.ActionKind.{ActionKind}
-use Rattle.rdf_values.specs.declared.fault.Fault.{Fault}
-use Rattle.rdf_values.specs.declared.span.Span.{Span}
-use Rattle.rdf_values.specs.declared.statement.Statement.{Statement}
-use Rattle.rdf_model.specs.Results.{Dataset, FilterCounts, first_fault, first_fault_from, pass_result, cutflow}
-use Rattle.rdf_model.specs.PartialResults.{over_clusters, partial_result, span_rows}
-use Rattle.rdf_model.specs.LoopFacts.{loop_facts, kinds_in}
-use Rattle.rdf_model.specs.Laws.{action_pass}
+use Rattle.rdf_values.specs.{ActionKind, AreInEntryOrder, below, Fault, first_in, Lead, Pass, Path, ReportOn, Span, Statement, Under}
+use Rattle.rdf_model.specs.{action_pass, cutflow, Dataset, FilterCounts, first_fault, first_fault_from, kinds_in, loop_facts, over_clusters, partial_result, pass_result, span_rows}
 use Rattle.loop_pieces.specs.declared.flow.Counts.{Counts}
-use Rattle.actions.specs.Accumulators.{Accumulator}
+use Rattle.actions.specs.{Accumulator}
 use Rattle.loop_pieces.specs.LoopPieces.{StandsFor}
 use Rattle.loop_pieces.specs.Trails.{watch_facts}
 use Rattle.loop_pieces.specs.Watching.{WatchStandsFor, watch_filled}

@@ -1,6 +1,6 @@
 // The joining of pieces of a loop.
 ghost use Rattle.std.specs.Prelude.{◌≡◌, ℕ, List, [], ◌∷◌, OnOk};
-ghost use Rattle.rdf_values.specs.Draws.{IsUnion};
+ghost use Rattle.rdf_values.specs.{IsUnion};
 ghost use Rattle.rdf_model.specs.declared.loop_facts.LoopFacts.{LoopFacts};
 ghost use Rattle.loop_pieces.specs.LoopPieces.{StandsFor};
 

@@ -1,6 +1,5 @@
 // Laws of pieces. Each function does nothing; its contract is the law.
-ghost use Rattle.loop_pieces.specs.PieceLaws.{JoinsFromEitherSide, JoinsInEitherOrder, NoClusterIsNeutral, PiecesOfOneSetAgree, WatchPiecesOfOneSetAgree};
-ghost use Rattle.loop_pieces.specs.Whole.{AllClustersAreTheTable, FirstClusterHasFirstFault, LowerClustersFaultFirst, PieceHoldsCounts, PieceHoldsResults, WatchPieceIsPartialResult};
+ghost use Rattle.loop_pieces.specs.{AllClustersAreTheTable, FirstClusterHasFirstFault, JoinsFromEitherSide, JoinsInEitherOrder, LowerClustersFaultFirst, NoClusterIsNeutral, PieceHoldsCounts, PieceHoldsResults, PiecesOfOneSetAgree, WatchPieceIsPartialResult, WatchPiecesOfOneSetAgree};
 
 use merge_core::Piece;
 

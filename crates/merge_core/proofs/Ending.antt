@@ -1,6 +1,5 @@
 -- The opening of the machine, and its end.
-use Rattle.std.proofs.Common.{◌≡◌, ℕ, ◌<◌, ◌≤◌, List, [], ◌∷◌, ◌++◌, length, map, Option, None, Some, refl, sym, ap, ◌∙◌, subst, inl, inr, ⊎_elim, arith, mul-zero}
-use Rattle.std.specs.Prelude.{slice_get, IsTrue, flat_map, Ok}
+use Rattle.std.proofs.Common.{◌≡◌, ℕ, ◌<◌, ◌≤◌, List, [], ◌∷◌, ◌++◌, length, map, Option, None, Some, refl, sym, ap, ◌∙◌, subst, inl, inr, ⊎_elim, arith, mul-zero, slice_get, IsTrue, flat_map, Ok}
 use Rattle.std.specs.List.{All, concat, sum_by}
 use Rattle.std.specs.List.Sorted.{IsStrictlyIncreasing}
 use Rattle.std.proofs.lemmas.Bool.{cases_lt}
@@ -8,13 +7,9 @@ use Rattle.std.proofs.lemmas.List.{length-replicate}
 use Rattle.std.proofs.lemmas.List.Elements.{All-nil, All-cons, All-head, All-tail, All-replicate, All-map}
 use Rattle.std.proofs.lemmas.List.Sums.{sum_by-cons}
 use Rattle.std.proofs.lemmas.List.Folds.{sum_by-replicate}
-use Rattle.rdf_values.specs.Cuts.{below}
-use Rattle.rdf_values.specs.Machine.{Phase, Running, Ended, Faulted, Slot, Machine, opening, replayed, drawn_lists, is_over, fault_of, slot_faults, finished}
-use Rattle.rdf_values.specs.declared.event.Event.{Event}
-use Rattle.rdf_values.specs.declared.fault.Fault.{Fault as LoopFault}
-use Rattle.rdf_values.specs.Times.{times, once_below}
+use Rattle.rdf_values.specs.{below, drawn_lists, Ended, Event, Fault as LoopFault, fault_of, Faulted, finished, is_over, Machine, once_below, opening, Phase, replayed, Running, Slot, slot_faults, times}
 use Rattle.rdf_values.proofs.DrawCounts.{times_push, times_self, times_below, times_concat, permuted_by_counts, once_inside, inside_once, drawn_by_counts, sum_by-map}
-use Rattle.merge_core.specs.MachineLaws.{EachIsDrawnOnce, FirstFaultIsTold}
+use Rattle.merge_core.specs.{EachIsDrawnOnce, FirstFaultIsTold}
 use Rattle.merge_core.proofs.Faults.{Among, Told, Reaches, told_nothing, told_both, first_told}
 use Rattle.merge_core.proofs.Stepped.{replays}
 use Rattle.merge_core.proofs.Holding.{Holds, IsSound, EndsIn, but_last, done_in, done_of, only, keeps_event}

@@ -1,11 +1,8 @@
 -- The first fault, from what is known of the clusters that were drawn.
-use Rattle.std.proofs.Common.{◌≡◌, ◌⊎◌, ℕ, zero, suc, ◌<◌, ◌≤◌, List, [], ◌∷◌, ◌++◌, length, Option, None, Some, refl, sym, ap, ◌∙◌, inl, inr, ⊎_elim, arith}
-use Rattle.std.specs.Prelude.{slice_get, nat_le, if◌then◌else◌}
+use Rattle.std.proofs.Common.{◌≡◌, ◌⊎◌, ℕ, zero, suc, ◌<◌, ◌≤◌, List, [], ◌∷◌, ◌++◌, length, Option, None, Some, refl, sym, ap, ◌∙◌, inl, inr, ⊎_elim, arith, slice_get, nat_le, if◌then◌else◌}
 use Rattle.std.proofs.lemmas.Bool.{cases_lt, cond-true, cond-false, le-leb, lt-leb}
 use Rattle.std.proofs.lemmas.Option.{slice_get_within}
-use Rattle.rdf_values.specs.Machine.{AreInEntryOrder, lesser_fault, least_fault, first_in}
-use Rattle.rdf_values.specs.declared.fault.Fault.{Fault}
-use Rattle.rdf_values.specs.Times.{times}
+use Rattle.rdf_values.specs.{AreInEntryOrder, Fault, first_in, least_fault, lesser_fault, times}
 use Rattle.rdf_values.proofs.DrawCounts.{times_append}
 
 -- it is one of the faults

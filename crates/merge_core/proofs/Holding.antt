@@ -1,6 +1,6 @@
 -- What holds of every machine that honest events lead to.
-use Rattle.std.proofs.Common.{◌≡◌, ◌⊎◌, ℕ, zero, suc, ◌+◌, ◌<◌, ◌≤◌, min, List, [], ◌∷◌, ◌++◌, length, set, true, false, cond, Option, None, Some, refl, sym, ap, ◌∙◌, subst, inl, inr, ⊎_elim, arith}
-use Rattle.std.specs.Prelude.{⊤, ◌==◌, slice_get, flat_map}
+use Rattle.std.proofs.Common.{◌≡◌, ◌⊎◌, ℕ, zero, suc, ◌+◌, ◌<◌, ◌≤◌, min, List, [], ◌∷◌, ◌++◌, length, set, true, false, cond, Option, None, Some, refl, sym, ap, ◌∙◌, subst, inl, inr, ⊎_elim, arith, ◌==◌, slice_get, flat_map}
+use Rattle.std.specs.Prelude.{⊤}
 use Rattle.std.specs.List.{All, sum_by}
 use Rattle.std.specs.List.Sorted.{IsStrictlyIncreasing}
 use Rattle.std.proofs.lemmas.Bool.{cases_lt, cases_Bool, eqb-true, cond-false}
@@ -8,11 +8,8 @@ use Rattle.std.proofs.lemmas.Option.{slice_get_within, get_or_from_slice_get}
 use Rattle.std.proofs.lemmas.List.{length-set}
 use Rattle.std.proofs.lemmas.List.Elements.{All-pop, All-push, All-set, All-weaker}
 use Rattle.std.proofs.lemmas.List.Sums.{sum_by-set}
-use Rattle.rdf_values.specs.Machine.{Phase, Running, Ended, Faulted, Slot, Machine, slot_of, IsHonestEvent, IsHonest, finished, fault_of, slot_faults}
-use Rattle.rdf_values.specs.declared.event.Event.{Event}
+use Rattle.rdf_values.specs.{Ended, Event, Fault as LoopFault, fault_of, Faulted, finished, IsHonest, IsHonestEvent, Machine, once_below, Phase, Running, Slot, slot_faults, slot_of, times}
 use Rattle.rdf_values.specs.declared.event.Event.TheVariants.{Claim, Finish, Fault, Skip, End}
-use Rattle.rdf_values.specs.declared.fault.Fault.{Fault as LoopFault}
-use Rattle.rdf_values.specs.Times.{times, once_below}
 use Rattle.rdf_values.proofs.DrawCounts.{one_if, times_push, times_append, once_next, rises_push}
 use Rattle.merge_core.proofs.Faults.{Among, among_left, among_right, among_either}
 use Rattle.merge_core.proofs.Stepped.{IsStepped, slot_with, left, changed}

@@ -1,14 +1,12 @@
 -- Pieces that are joined one after another.
-use Rattle.std.proofs.Common.{◌≡◌, ℕ, ◌+◌, List, [], ◌∷◌, ◌++◌, refl, ap, ◌∙◌, subst, arith}
-use Rattle.std.specs.Prelude.{Some}
+use Rattle.std.proofs.Common.{◌≡◌, ℕ, ◌+◌, List, [], ◌∷◌, ◌++◌, refl, ap, ◌∙◌, subst, arith, Some}
 use Rattle.std.specs.List.{All, sum_by}
 use Rattle.std.specs.List.Sorted.{IsStrictlyIncreasing}
 use Rattle.std.proofs.lemmas.List.Elements.{All-pop, All-cons}
 use Rattle.std.proofs.lemmas.List.Sums.{sum_by-cons, sum_by_push}
-use Rattle.rdf_values.specs.Times.{times}
-use Rattle.rdf_values.specs.Draws.{IsUnion}
+use Rattle.rdf_values.specs.{IsUnion, times}
 use Rattle.rdf_values.proofs.UnionLemmas.{counted, united, by_counts, first_rises, rest_rise, both_rise, alone}
-use Rattle.merge_core.specs.Pieces.{Stand}
+use Rattle.merge_core.specs.{Stand}
 
 module _ {P : Type 0} (stands : List ℕ → P → Type 0) where
   -- what is merged so far, and what is left, stand for all together

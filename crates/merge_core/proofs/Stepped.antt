@@ -1,12 +1,9 @@
 -- What a step of the machine did, case by case.
-use Rattle.std.proofs.Common.{◌≡◌, ℕ, ◌+◌, ◌<◌, ◌≤◌, List, [], ◌∷◌, ◌++◌, Bool, true, false, min, Option, None, Some, refl, sym, ap, subst, append-nil, append_assoc}
-use Rattle.std.specs.Prelude.{◌&&◌, nat_eq, nat_lt, if◌then◌else◌, Result, Ok, Err, slice_get, slice_set}
+use Rattle.std.proofs.Common.{◌≡◌, ℕ, ◌+◌, ◌<◌, ◌≤◌, List, [], ◌∷◌, ◌++◌, Bool, true, false, min, Option, None, Some, refl, sym, ap, subst, append-nil, append_assoc, ◌&&◌, nat_eq, nat_lt, if◌then◌else◌, Result, Ok, Err, slice_get, slice_set}
 use Rattle.std.proofs.lemmas.Bool.{eqb-true, ltb-true, ltb-false}
-use Rattle.lemmas.proofs.Booleans.{both_true}
-use Rattle.rdf_values.specs.Machine.{Phase, Running, Ended, Faulted, Slot, Left, Machine, slot_of, claim_next, give_up, pass_over, end_slot, running_step, if_running, with_slot, step_of, claim_step, replay_from}
-use Rattle.rdf_values.specs.declared.event.Event.{Event}
+use Rattle.lemmas.proofs.{both_true}
+use Rattle.rdf_values.specs.{claim_next, claim_step, end_slot, Ended, Event, Faulted, give_up, if_running, Left, Machine, pass_over, Phase, replay_from, Running, running_step, Slot, slot_of, step_of, StepCause, with_slot}
 use Rattle.rdf_values.specs.declared.event.Event.TheVariants.{Claim, Finish, Fault, Skip, End}
-use Rattle.rdf_values.specs.declared.step_cause.StepCause.{StepCause}
 use Rattle.rdf_values.specs.declared.step_cause.StepCause.TheVariants.{NotHeld, NotBarred}
 
 abbrev pub slot_with : List ℕ → Option ℕ → Phase → Slot

@@ -1,16 +1,13 @@
 -- A step of one slot among all.
-use Rattle.std.proofs.Common.{◌≡◌, ℕ, ◌<◌, List, length, get_or, set, Some, sym, ap, ◌∙◌}
-use Rattle.std.specs.Prelude.{Result, Ok, Err, slice_get, option_map}
+use Rattle.std.proofs.Common.{◌≡◌, ℕ, ◌<◌, List, length, get_or, set, Some, sym, ap, ◌∙◌, Result, Ok, Err, slice_get, option_map}
 use Rattle.std.proofs.lemmas.Option.{slice_get-map, slice_get-get_or}
 use Rattle.std.proofs.lemmas.List.{map-set, set-get_or}
-use Rattle.rdf_values.specs.Machine.{Left, slot_of, if_running, running_step, step_of, claim_step, with_slot}
-use Rattle.rdf_values.specs.declared.event.Event.{Event}
-use Rattle.rdf_values.specs.declared.step_cause.StepCause.{StepCause}
+use Rattle.rdf_values.specs.{claim_step, Event, if_running, Left, running_step, slot_of, step_of, StepCause, with_slot}
 use Rattle.merge_core.specs.declared.front.Front.{Front}
 use Rattle.merge_core.specs.declared.slot.Slot.{Slot as CoreSlot}
 use Rattle.merge_core.specs.declared.refusal.StepRefusal.{StepRefusal}
 use Rattle.merge_core.specs.declared.refusal.StepRefusal.TheVariants.{Cause, Memory}
-use Rattle.merge_core.specs.Slots.{Steps, StepsAmong, seen_slot, seen_slots, seen_machine}
+use Rattle.merge_core.specs.{seen_machine, seen_slot, seen_slots, Steps, StepsAmong}
 
 module _ (clusters number : ℕ) (front : Front) (slots : List CoreSlot) (e : Event) (d now : CoreSlot) (is : number ≡ slot_of e) (within : number < length slots) where
   found : slice_get (seen_slots slots) number ≡ Some (seen_slot (get_or slots number d))

@@ -1,7 +1,6 @@
 -- The machine as a contract sees it.
 use Rattle.std.specs.Prelude.{◌≡◌, ℕ, Result, Ok, MatchResult}
-use Rattle.rdf_values.specs.Machine.{Machine}
-use Rattle.rdf_values.specs.declared.step_cause.StepCause.{StepCause}
+use Rattle.rdf_values.specs.{Machine, StepCause}
 use Rattle.merge_core.specs.declared.refusal.StepRefusal.{StepRefusal}
 use Rattle.merge_core.specs.Slots.{Refused}
 

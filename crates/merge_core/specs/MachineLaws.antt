@@ -1,10 +1,6 @@
 -- Laws of slots that claim clusters.
 use Rattle.std.specs.Prelude.{◌≡◌, ◌<◌, ℕ, Option, Ok, List, [], IsPermutation, length}
-use Rattle.rdf_values.specs.Cuts.{below}
-use Rattle.rdf_values.specs.Draws.{DrawnBy}
-use Rattle.rdf_values.specs.Machine.{Machine, replayed, drawn_lists, least_fault, first_in, slot_faults, finished, AreOver, AreInEntryOrder, IsHonest}
-use Rattle.rdf_values.specs.declared.event.Event.{Event}
-use Rattle.rdf_values.specs.declared.fault.Fault.{Fault}
+use Rattle.rdf_values.specs.{AreInEntryOrder, AreOver, below, drawn_lists, DrawnBy, Event, Fault, finished, first_in, IsHonest, least_fault, Machine, replayed, slot_faults}
 
 -- the clusters below the next one are drawn, each once
 abbrev pub EachIsDrawnOnce : Type 0

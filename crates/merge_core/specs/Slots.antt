@@ -1,7 +1,6 @@
 -- The slots of the machine as the definitions see them, and what a step answers.
 use Rattle.std.specs.Prelude.{◌≡◌, List, [], None, Result, Ok, Err, map, MatchResult}
-use Rattle.rdf_values.specs.Machine.{Phase, Running, Ended, Faulted, Slot, Left, Machine}
-use Rattle.rdf_values.specs.declared.step_cause.StepCause.{StepCause}
+use Rattle.rdf_values.specs.{Ended, Faulted, Left, Machine, Phase, Running, Slot, StepCause}
 use Rattle.merge_core.specs.declared.front.Front.{Front}
 use Rattle.merge_core.specs.declared.phase.Phase.{Phase as CorePhase}
 use Rattle.merge_core.specs.declared.phase.Phase.TheVariants as core

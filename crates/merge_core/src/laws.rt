@@ -1,5 +1,5 @@
 // Laws of the machine. Each function does nothing; its contract is the law.
-ghost use Rattle.merge_core.specs.MachineLaws.{EachIsDrawnOnce, FirstFaultIsTold};
+ghost use Rattle.merge_core.specs.{EachIsDrawnOnce, FirstFaultIsTold};
 
 /// The clusters that were claimed are drawn, each once.
 pub fn each_is_drawn_once()

@@ -1,6 +1,6 @@
 // The machine of events.
 ghost use Rattle.std.specs.Prelude.{◌≡◌, ◌<◌, ◌≤◌, IfOk, length};
-ghost use Rattle.rdf_values.specs.Machine.{claim_step, opening};
+ghost use Rattle.rdf_values.specs.{claim_step, opening};
 ghost use Rattle.merge_core.specs.Cores.{IsStep};
 
 use crate::front::Front;

@@ -1,7 +1,7 @@
 // Many pieces joined to one.
 ghost use Rattle.std.specs.Prelude.{ℕ, ◌<◌, List, IfOk, length};
-ghost use Rattle.rdf_values.specs.Draws.{IsUnion};
-ghost use Rattle.merge_core.specs.Pieces.{Stand};
+ghost use Rattle.rdf_values.specs.{IsUnion};
+ghost use Rattle.merge_core.specs.{Stand};
 
 use crate::piece::Piece;
 use rdf_values::{ListOf, Memory};

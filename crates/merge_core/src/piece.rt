@@ -1,6 +1,6 @@
 // Pieces of a job.
 ghost use Rattle.std.specs.Prelude.{ℕ, List, ◌∷◌, [], OnOk};
-ghost use Rattle.rdf_values.specs.Draws.{IsUnion};
+ghost use Rattle.rdf_values.specs.{IsUnion};
 
 use rdf_values::Memory;
 

@@ -1,7 +1,7 @@
 // One slot of the machine.
 ghost use Rattle.std.specs.Prelude.{◌≡◌, ◌≤◌, ◌<◌, ◌^◌, length, min};
-ghost use Rattle.rdf_values.specs.Machine.{claim_next, claim_step, end_slot, give_up, if_running, pass_over, running_step, slot_of};
-ghost use Rattle.merge_core.specs.Slots.{Steps, StepsAmong, fresh_slot, seen_machine, seen_phase, seen_slot};
+ghost use Rattle.rdf_values.specs.{claim_next, claim_step, end_slot, give_up, if_running, pass_over, running_step, slot_of};
+ghost use Rattle.merge_core.specs.{fresh_slot, seen_machine, seen_phase, seen_slot, Steps, StepsAmong};
 
 use crate::front::Front;
 use crate::phase::Phase;

@@ -1,23 +1,16 @@
 -- The lines of a report's filters, by their numbers.
-use Rattle.std.proofs.Common.{◌≡◌, ◌⊎◌, inl, inr, ℕ, ◌+◌, ◌<◌, ◌≤◌, List, [], ◌∷◌, ◌++◌, length, map, drop, Option, None, Some, refl, sym, ap, ap₂, ◌∙◌, arith, append_assoc, append-nil}
-use Rattle.std.specs.Prelude.{codes, flat_map, option_map, slice_get, unwrap_or}
+use Rattle.std.proofs.Common.{◌≡◌, ◌⊎◌, inl, inr, ℕ, ◌+◌, ◌<◌, ◌≤◌, List, [], ◌∷◌, ◌++◌, length, map, drop, Option, None, Some, refl, sym, ap, ap₂, ◌∙◌, arith, append_assoc, append-nil, codes, flat_map, option_map, slice_get, unwrap_or}
 use Rattle.std.proofs.lemmas.List.{map-append}
 use Rattle.std.proofs.lemmas.Option.{same_Some, slice_get-map}
-use Rattle.lemmas.proofs.Parts.{none_left}
-use Rattle.rdf_values.specs.Bookings.{named_before}
-use Rattle.rdf_values.specs.Kinds.{FunctionNames}
-use Rattle.rdf_values.specs.Path.{Path, path}
-use Rattle.rdf_values.specs.declared.column.Column.{Column}
-use Rattle.rdf_values.specs.declared.statement.Statement.{Statement}
+use Rattle.lemmas.proofs.{none_left}
+use Rattle.rdf_values.specs.{Column, FunctionNames, named_before, Path, path, Statement}
 use Rattle.rdf_values.specs.declared.statement.Statement.TheVariants.{Filter}
-use Rattle.rdf_model.specs.ResultLines.{filter_label, flow_line, flow_lines}
-use Rattle.rdf_model.specs.Results.{FilterCounts}
-use Rattle.loop_pieces.specs.declared.flow.Counts.{Counts}
-use Rattle.graph_numbers.specs.Results.{FilterAt, filters, own_filters}
-use Rattle.result_text.specs.FilledLines.{counts_seen}
+use Rattle.rdf_model.specs.{filter_label, FilterCounts, flow_line, flow_lines}
+use Rattle.loop_pieces.specs.{Counts}
+use Rattle.graph_numbers.specs.{FilterAt, filters, own_filters}
+use Rattle.result_text.specs.{counts_seen}
 use Rattle.result_text.proofs.Lists.{one_left, put_last, put_next}
-use Rattle.merged_text.specs.Numbered.{filter_counts, label_of}
-use Rattle.merged_text.specs.MergedPrints.{with_labels}
+use Rattle.merged_text.specs.{filter_counts, label_of, with_labels}
 
 -- the lines of filters, of which the first shown was reached by so many entries
 abbrev pub flows : List ℕ → ℕ → List (List ℕ × FilterCounts) → List ℕ

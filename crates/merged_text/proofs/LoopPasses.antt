@@ -1,35 +1,19 @@
 -- A pass of a graph's loop by its number, and its printed lines.
-use Rattle.std.proofs.Common.{◌≡◌, ℕ, List, [], ◌∷◌, ◌++◌, length, map, Option, None, Some, refl, sym, ap, ap₂, ◌∙◌, subst}
-use Rattle.std.specs.Prelude.{codes, option_map, slice_get, unwrap_or}
+use Rattle.std.proofs.Common.{◌≡◌, ℕ, List, [], ◌∷◌, ◌++◌, length, map, Option, None, Some, refl, sym, ap, ap₂, ◌∙◌, subst, codes, option_map, slice_get, unwrap_or}
 use Rattle.std.proofs.lemmas.List.{length-map}
 use Rattle.std.proofs.lemmas.Option.{same_Some, slice_get-map}
-use Rattle.rdf_values.specs.Bookings.{ActionAt, Booked, Booking, Pass, ReportOn, bookings, named_before}
-use Rattle.rdf_values.specs.Functions.{Function, fn_names}
-use Rattle.rdf_values.specs.Kinds.{FunctionNames}
-use Rattle.rdf_values.specs.Path.{Path, history}
-use Rattle.rdf_values.specs.declared.action.ActionKind.{ActionKind}
-use Rattle.rdf_values.specs.declared.fn_names.FnName.{FnName}
-use Rattle.rdf_model.specs.Loops.{loop_passes, loop_results}
-use Rattle.rdf_model.specs.ResultLines.{filled_lines, label}
-use Rattle.rdf_model.specs.Results.{Dataset}
-use Rattle.graph_numbers.specs.Graphs.{GraphView, booked_statements, graph_filters, graph_loops, graph_results, graph_variations}
-use Rattle.graph_numbers.specs.Laws.{graph_of}
-use Rattle.graph_numbers.specs.Results.{FilterAt, ResultAt, kind_of_booking, pass_at, under_at}
-use Rattle.graph_numbers.specs.declared.pass.Pass.{Pass as NumberedPass}
-use Rattle.graph_numbers.specs.declared.result_kind.ResultKind.{ResultKind}
-use Rattle.graph_numbers.specs.declared.result_kind.ResultKind.TheVariants as what
+use Rattle.rdf_values.specs.{ActionAt, ActionKind, Booked, Booking, bookings, fn_names, FnName, Function, FunctionNames, history, named_before, Pass, Path, ReportOn}
+use Rattle.rdf_model.specs.{Dataset, filled_lines, flow_lines, label, loop_passes, loop_results}
+use Rattle.graph_numbers.specs.{booked_statements, FilterAt, graph_filters, graph_loops, graph_of, graph_results, graph_variations, GraphView, kind_of_booking, Pass as NumberedPass, pass_at, ResultAt, ResultKind, under_at}
 use Rattle.graph_numbers.proofs.AcceptedNumbers.{filters_are_the_scripts, reports_cover_filters}
 use Rattle.graph_numbers.proofs.Extending.{itself}
 use Rattle.graph_numbers.proofs.Looping.{loops_are}
 use Rattle.graph_numbers.proofs.Resulting.{booked_are}
-use Rattle.result_text.specs.FilledLines.{passes_at, under_in, value_lines}
+use Rattle.result_text.specs.{passes_at, under_in, value_lines}
 use Rattle.result_text.proofs.PassLines.{filled_is}
 use Rattle.result_text.proofs.Passes.{IsPassAt}
-use Rattle.shard_lines.specs.declared.shard_line.ShardLine.{ShardLine}
-use Rattle.shard_lines.specs.Joining.{counts_of}
-use Rattle.rdf_model.specs.ResultLines.{flow_lines}
-use Rattle.merged_text.specs.MergedPrints.{booking_text, line_filled, pass_text}
-use Rattle.merged_text.specs.Numbered.{filter_counts}
+use Rattle.shard_lines.specs.{counts_of, ShardLine}
+use Rattle.merged_text.specs.{booking_text, filter_counts, line_filled, pass_text}
 use Rattle.merged_text.proofs.Flows.{labels_with}
 
 module _ (g : GraphView) where
@@ -106,12 +90,12 @@ module _ (g : GraphView) where
       kind_is = sym (ap (λ (b : Booked). kind_of_booking b.booking) row_is) ∙ same_Some _ kind (sym (ap (option_map (λ (x : ResultAt). kind_of_booking x.booked.booking)) row.1) ∙ is)
 
       -- an action's label, and what it came to
-      pub action_text : (k : ActionKind) (line : ShardLine) (name : List ℕ) → kind ≡ what.Action k → option_map (λ (x : ResultAt). x.booked.name) (slice_get (graph_results g) p.result) ≡ Some name
+      pub action_text : (k : ActionKind) (line : ShardLine) (name : List ℕ) → kind ≡ ResultKind.Action k → option_map (λ (x : ResultAt). x.booked.name) (slice_get (graph_results g) p.result) ≡ Some name
           → (label name (under_in (graph_variations g) p.variation) ++ codes " = ") ++ value_lines k (line_filled k line) ≡ pass_text q line
       action_text k line name e named =
           ap₂ (λ x u. (label x u ++ codes " = ") ++ value_lines k (line_filled k line)) (name_of name named) under_is ∙ go q.result.booking refl (kind_is ∙ e)
         where
-          go : (b : Booking) → q.result.booking ≡ b → kind_of_booking b ≡ what.Action k → (label q.result.name q.under ++ codes " = ") ++ value_lines k (line_filled k line) ≡ pass_text q line
+          go : (b : Booking) → q.result.booking ≡ b → kind_of_booking b ≡ ResultKind.Action k → (label q.result.name q.under ++ codes " = ") ++ value_lines k (line_filled k line) ≡ pass_text q line
           go (ActionAt m at) of h =
               let same : m ≡ k = cc in
               sym (filled_is k (label q.result.name q.under) (line_filled k line)) ∙ ap (λ (x : ActionKind). filled_lines x (label q.result.name q.under) (line_filled x line)) (sym same)
@@ -124,7 +108,7 @@ module _ (g : GraphView) where
         pub booking : q.result.booking ≡ ReportOn filters
         pub numbered : map (slice_get (named_before (history g.script))) covers ≡ map (λ p. Some p) filters
 
-      pub report_on : (covers : List ℕ) → kind ≡ what.Report → option_map (λ (x : ResultAt). x.covers) (slice_get (graph_results g) p.result) ≡ Some covers → IsReportOn covers
+      pub report_on : (covers : List ℕ) → kind ≡ ResultKind.Report → option_map (λ (x : ResultAt). x.covers) (slice_get (graph_results g) p.result) ≡ Some covers → IsReportOn covers
       report_on covers e at = go q.result.booking refl (kind_is ∙ e)
         where
           mine : row.0.covers ≡ covers
@@ -133,7 +117,7 @@ module _ (g : GraphView) where
           by_number : (f : ℕ) → slice_get (named_before (history g.script)) f ≡ option_map (λ (x : FilterAt). x.at) (slice_get (graph_filters g) f)
           by_number f = ap (λ l. slice_get l f) (sym (filters_are_the_scripts g)) ∙ slice_get-map (λ (x : FilterAt). x.at) (graph_filters g) f
 
-          go : (b : Booking) → q.result.booking ≡ b → kind_of_booking b ≡ what.Report → IsReportOn covers
+          go : (b : Booking) → q.result.booking ≡ b → kind_of_booking b ≡ ResultKind.Report → IsReportOn covers
           go (ActionAt m at) of h = absurd (cc)
           go (ReportOn fs) of h = record {
             filters = fs;

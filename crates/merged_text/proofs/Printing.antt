@@ -1,27 +1,20 @@
 -- The Prints in order, and the lines of each.
-use Rattle.std.proofs.Common.{if◌then◌else◌, ◌≡◌, ◌⊎◌, inl, inr, ℕ, zero, suc, ◌+◌, ◌<◌, ◌≤◌, Bool, true, false, List, [], ◌∷◌, ◌++◌, length, drop, Option, None, Some, refl, sym, ap, ap₂, ◌∙◌, arith, append_assoc, append-nil}
-use Rattle.std.specs.Prelude.{option_map, slice_get}
+use Rattle.std.proofs.Common.{if◌then◌else◌, ◌≡◌, ◌⊎◌, inl, inr, ℕ, zero, suc, ◌+◌, ◌<◌, ◌≤◌, Bool, true, false, List, [], ◌∷◌, ◌++◌, length, drop, Option, None, Some, refl, sym, ap, ap₂, ◌∙◌, arith, append_assoc, append-nil, option_map, slice_get}
 use Rattle.std.proofs.lemmas.List.{length-map}
 use Rattle.std.proofs.lemmas.Option.{same_Some, slice_get-map, slice_get_within}
-use Rattle.lemmas.proofs.Parts.{none_left}
-use Rattle.lemmas.proofs.Places.{something_at}
-use Rattle.rdf_values.specs.Bookings.{Booked, Pass, bookings}
-use Rattle.rdf_values.specs.Names.{place, same}
-use Rattle.rdf_values.specs.declared.fault.Fault.{Fault}
-use Rattle.rdf_model.specs.Loops.{Access, accesses, loop_of}
-use Rattle.rdf_model.specs.ResultLines.{fault_line}
-use Rattle.rdf_model.specs.Transcript.{Printed, in_front_of}
+use Rattle.lemmas.proofs.{none_left, something_at}
+use Rattle.rdf_values.specs.{Booked, bookings, Fault, Pass, place, same}
+use Rattle.rdf_model.specs.{Access, accesses, fault_line, in_front_of, loop_of, Printed}
 use Rattle.rdf_model.proofs.Accepted.{names_equal}
-use Rattle.graph_numbers.specs.Graphs.{GraphView, booked_statements, graph_prints, graph_results}
-use Rattle.graph_numbers.specs.Results.{ResultAt, result_number}
+use Rattle.graph_numbers.specs.{booked_statements, graph_prints, graph_results, GraphView, result_number, ResultAt}
 use Rattle.graph_numbers.proofs.Resulting.{booked_are}
-use Rattle.result_text.specs.FilledLines.{passes_at}
+use Rattle.result_text.specs.{passes_at}
 use Rattle.result_text.proofs.Lists.{one_left, put_last, put_next}
 use Rattle.result_text.proofs.Passes.{name_is}
-use Rattle.shard_lines.specs.declared.shard_line.ShardLine.{ShardLine}
-use Rattle.shard_files.specs.declared.shard_loop.ShardLoop.{ShardLoop}
+use Rattle.shard_lines.specs.{ShardLine}
+use Rattle.shard_files.specs.{ShardLoop}
 use Rattle.shard_files.specs.declared.shard_loop.ShardLoop.TheVariants.{Whole, Faulted}
-use Rattle.merged_text.specs.MergedPrints.{access_printed, lines_of_result, loop_printed, named_text, pass_text, prints_text}
+use Rattle.merged_text.specs.{access_printed, lines_of_result, loop_printed, named_text, pass_text, prints_text}
 
 -- ---- the lines of a result
 

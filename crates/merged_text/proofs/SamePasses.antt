@@ -1,23 +1,15 @@
 -- A pass by its line prints what it prints by itself.
-use Rattle.std.proofs.Common.{◌≡◌, ℕ, zero, suc, List, [], ◌∷◌, ◌++◌, length, map, take, drop, refl, sym, ap, ap₂, ◌∙◌, arith, if◌then◌else◌}
-use Rattle.std.specs.Prelude.{flat_map}
+use Rattle.std.proofs.Common.{◌≡◌, ℕ, zero, suc, List, [], ◌∷◌, ◌++◌, length, map, take, drop, refl, sym, ap, ap₂, ◌∙◌, arith, if◌then◌else◌, flat_map}
 use Rattle.std.proofs.lemmas.List.{length-map, map-append}
-use Rattle.rdf_values.specs.Bookings.{ActionAt, Booking, Pass, ReportOn}
-use Rattle.rdf_values.specs.Fold.{Cell, Filled, cells_on, flat_cell, fold_items, square_cell}
+use Rattle.rdf_values.specs.{ActionAt, ActionKind, Booking, cells_on, Filled, flat_cell, fold_items, Item, Pass, Path, ReportOn, same, square_cell, Under}
+use Rattle.rdf_values.specs.Fold.{Cell}
 use Rattle.rdf_values.specs.Fold as f
-use Rattle.rdf_values.specs.Names.{same}
-use Rattle.rdf_values.specs.Path.{Path, Under}
-use Rattle.rdf_values.specs.declared.action.ActionKind.{ActionKind}
-use Rattle.rdf_values.specs.declared.action.ActionKind.TheVariants as kind
-use Rattle.rdf_values.specs.declared.item.Item.{Item}
 use Rattle.rdf_values.proofs.Below.{length-below}
-use Rattle.rdf_model.specs.ResultLines.{booking_lines, filled_lines, filter_label, flow_lines, label, pass_lines}
-use Rattle.rdf_model.specs.Results.{Dataset, cutflow, items_of}
-use Rattle.histograms.specs.Cells.{cell_seen}
-use Rattle.loop_pieces.specs.Whole.{counts_of}
-use Rattle.shard_spans.specs.Spans.{booking_line, cell_sum, filled_line, pass_line}
-use Rattle.merged_text.specs.Laws.{LinesPrintTheirPasses}
-use Rattle.merged_text.specs.MergedPrints.{booking_text, line_filled, lines_of_result, pass_text, rows_of, with_labels}
+use Rattle.rdf_model.specs.{booking_lines, cutflow, Dataset, filled_lines, filter_label, flow_lines, items_of, label, pass_lines}
+use Rattle.histograms.specs.{cell_seen}
+use Rattle.loop_pieces.specs.{counts_of}
+use Rattle.shard_spans.specs.{booking_line, cell_sum, filled_line, pass_line}
+use Rattle.merged_text.specs.{booking_text, line_filled, lines_of_result, LinesPrintTheirPasses, pass_text, rows_of, with_labels}
 
 -- ---- cells
 
@@ -52,14 +44,14 @@ module _ (g : ℕ → ℕ → Cell) (js : List ℕ) (width : ℕ) (wide : length
 -- ---- actions
 
 filled_back : (k : ActionKind) (items : List Item) → line_filled k (filled_line (fold_items k items)) ≡ fold_items k items
-filled_back kind.Count items = refl
-filled_back (kind.Sum c) items = refl
-filled_back (kind.Min c) items = refl
-filled_back (kind.Max c) items = refl
-filled_back (kind.Take c) items = refl
-filled_back (kind.Reduce o c) items = refl
-filled_back (kind.Histo1D edges x w) items = ap f.Flat (cells_back (map (flat_cell edges items) (cells_on edges)))
-filled_back (kind.Histo2D xs ys x y w) items =
+filled_back ActionKind.Count items = refl
+filled_back (ActionKind.Sum c) items = refl
+filled_back (ActionKind.Min c) items = refl
+filled_back (ActionKind.Max c) items = refl
+filled_back (ActionKind.Take c) items = refl
+filled_back (ActionKind.Reduce o c) items = refl
+filled_back (ActionKind.Histo1D edges x w) items = ap f.Flat (cells_back (map (flat_cell edges items) (cells_on edges)))
+filled_back (ActionKind.Histo2D xs ys x y w) items =
     ap f.Square
     (ap (rows_of (suc (length ys)) (suc (length xs))) (seen_flat (square_cell xs ys items) (cells_on ys) (suc (length ys)) (length-below (suc (length ys))) (cells_on xs))
     ∙ ap (λ n. rows_of (suc (length ys)) n (flat_map (λ i. map (square_cell xs ys items i) (cells_on ys)) (cells_on xs))) (sym (length-below (suc (length xs))))

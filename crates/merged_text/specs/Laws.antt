@@ -1,10 +1,8 @@
 -- Laws of printed lines. Each is the contract of a function of this crate, and so proved.
 use Rattle.std.specs.Prelude.{◌≡◌, ℕ, List, [], flat_map, if◌then◌else◌, map}
-use Rattle.rdf_values.specs.Bookings.{Pass}
-use Rattle.rdf_values.specs.Names.{same}
-use Rattle.rdf_model.specs.ResultLines.{pass_lines}
-use Rattle.rdf_model.specs.Results.{Dataset}
-use Rattle.shard_spans.specs.Spans.{pass_line}
+use Rattle.rdf_values.specs.{Pass, same}
+use Rattle.rdf_model.specs.{Dataset, pass_lines}
+use Rattle.shard_spans.specs.{pass_line}
 use Rattle.merged_text.specs.MergedPrints.{lines_of_result}
 
 -- what is printed of a loop's lines for a result is what its passes by themselves print

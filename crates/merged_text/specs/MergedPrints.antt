@@ -1,25 +1,15 @@
 -- What merged loops print.
 use Rattle.std.specs.Prelude.{◌≡◌, ◌≤◌, ◌<◌, ℕ, zero, suc, List, [], ◌∷◌, ◌++◌, length, map, take, drop, Option, Some, None, if◌then◌else◌, slice_get}
-use Rattle.rdf_values.specs.Bookings.{ActionAt, Booking, Pass, ReportOn}
-use Rattle.rdf_values.specs.Fold.{Cell, Filled}
+use Rattle.rdf_values.specs.{ActionAt, ActionKind, Booking, Fault, Filled, Pass, Path, ReportOn, same, Under}
+use Rattle.rdf_values.specs.Fold.{Cell}
 use Rattle.rdf_values.specs.Fold as f
-use Rattle.rdf_values.specs.Names.{same}
-use Rattle.rdf_values.specs.Path.{Path, Under}
-use Rattle.rdf_values.specs.declared.action.ActionKind.{ActionKind}
-use Rattle.rdf_values.specs.declared.action.ActionKind.TheVariants as kind
-use Rattle.rdf_values.specs.declared.fault.Fault.{Fault}
-use Rattle.rdf_model.specs.Loops.{Access, accesses, loop_of}
-use Rattle.rdf_model.specs.ResultLines.{fault_line, filled_lines, filter_label, flow_lines, label}
-use Rattle.rdf_model.specs.Results.{FilterCounts}
-use Rattle.rdf_model.specs.Transcript.{Printed, in_front_of}
-use Rattle.loop_pieces.specs.declared.flow.Counts.{Counts}
-use Rattle.graph_numbers.specs.Graphs.{GraphView, booked_statements, graph_loops}
-use Rattle.histograms.specs.Cells.{cell_seen}
-use Rattle.result_text.specs.FilledLines.{counts_seen, passes_at}
-use Rattle.shard_lines.specs.Joining.{counts_of}
-use Rattle.shard_lines.specs.declared.shard_line.ShardLine.{ShardLine}
-use Rattle.shard_lines.specs.declared.shard_line.ShardLine.TheVariants as line
-use Rattle.shard_files.specs.declared.shard_loop.ShardLoop.{ShardLoop}
+use Rattle.rdf_model.specs.{Access, accesses, fault_line, filled_lines, filter_label, FilterCounts, flow_lines, in_front_of, label, loop_of, Printed}
+use Rattle.loop_pieces.specs.{Counts}
+use Rattle.graph_numbers.specs.{booked_statements, graph_loops, GraphView}
+use Rattle.histograms.specs.{cell_seen}
+use Rattle.result_text.specs.{counts_seen, passes_at}
+use Rattle.shard_lines.specs.{counts_of, ShardLine}
+use Rattle.shard_files.specs.{ShardLoop}
 use Rattle.shard_files.specs.declared.shard_loop.ShardLoop.TheVariants.{Whole, Faulted}
 
 -- ---- results
@@ -31,18 +21,18 @@ rows_of width (suc n) cells = take width cells ∷ rows_of width n (drop width c
 
 -- the cells of a histogram of one axis, or of two
 abbrev pub cells_filled : ActionKind → List Cell → Filled
-cells_filled (kind.Histo2D xs ys x y w) cells = f.Square (rows_of (suc (length ys)) (suc (length xs)) cells)
+cells_filled (ActionKind.Histo2D xs ys x y w) cells = f.Square (rows_of (suc (length ys)) (suc (length xs)) cells)
 cells_filled k cells = f.Flat cells
 
 -- the result that a line of an action says; a line of counts says none
 abbrev pub line_filled : ActionKind → ShardLine → Filled
-line_filled k (line.Count n) = f.Count n
-line_filled k (line.Sum z) = f.Sum z
-line_filled k (line.Number z) = f.Reduced z
-line_filled k (line.Extreme z) = f.Extreme z
-line_filled k (line.Take xs) = f.Taken xs
-line_filled k (line.Cells cells) = cells_filled k (map cell_seen cells)
-line_filled k (line.Report counts) = f.Taken []
+line_filled k (ShardLine.Count n) = f.Count n
+line_filled k (ShardLine.Sum z) = f.Sum z
+line_filled k (ShardLine.Number z) = f.Reduced z
+line_filled k (ShardLine.Extreme z) = f.Extreme z
+line_filled k (ShardLine.Take xs) = f.Taken xs
+line_filled k (ShardLine.Cells cells) = cells_filled k (map cell_seen cells)
+line_filled k (ShardLine.Report counts) = f.Taken []
 
 -- the labels of filters, each with its counts
 abbrev pub with_labels : List Path → List Counts → List (List ℕ × FilterCounts)

@@ -1,11 +1,9 @@
 -- The passes of a loop and the filters of a report by their numbers.
 use Rattle.std.specs.Prelude.{◌≡◌, ℕ, Some, List, [], ◌∷◌, option_map, slice_get, unwrap_or}
-use Rattle.rdf_model.specs.Results.{FilterCounts}
-use Rattle.loop_pieces.specs.declared.flow.Counts.{Counts}
-use Rattle.graph_numbers.specs.Graphs.{GraphView, graph_loops}
-use Rattle.graph_numbers.specs.Results.{FilterAt}
-use Rattle.graph_numbers.specs.declared.pass.Pass.{Pass as NumberedPass}
-use Rattle.result_text.specs.FilledLines.{counts_seen}
+use Rattle.rdf_model.specs.{FilterCounts}
+use Rattle.loop_pieces.specs.{Counts}
+use Rattle.graph_numbers.specs.{FilterAt, graph_loops, GraphView, Pass as NumberedPass}
+use Rattle.result_text.specs.{counts_seen}
 
 -- the label of the filter of that number
 abbrev pub label_of : List FilterAt → ℕ → List ℕ

@@ -1,9 +1,9 @@
 // The cells of histograms, by the sums that a line holds.
 ghost use Rattle.std.specs.Prelude.{◌≡◌, ◌≤◌, ◌++◌, [], OnOk, Some, drop, length, map, suc, take};
-ghost use Rattle.histograms.specs.Cells.{cell_seen};
-ghost use Rattle.rdf_model.specs.ResultLines.{cell_lines, cell_names, plane_lines};
-ghost use Rattle.result_text.specs.FilledLines.{behind, bin_name, line_at, lines_on, name_at, plane_at};
-ghost use Rattle.merged_text.specs.MergedPrints.{rows_of};
+ghost use Rattle.histograms.specs.{cell_seen};
+ghost use Rattle.rdf_model.specs.{cell_lines, cell_names, plane_lines};
+ghost use Rattle.result_text.specs.{behind, bin_name, line_at, lines_on, name_at, plane_at};
+ghost use Rattle.merged_text.specs.{rows_of};
 
 use histograms::CellSum;
 use rdf_values::{Memory, Text};

@@ -1,12 +1,11 @@
 // The lines of passes, by the lines that shards hold of them.
 ghost use Rattle.std.specs.Prelude.{◌≡◌, ◌<◌, ◌++◌, ℕ, All, OnOk, Some, length, slice_get};
-ghost use Rattle.rdf_model.specs.ResultLines.{flow_lines};
+ghost use Rattle.rdf_model.specs.{flow_lines};
 ghost use Rattle.rdf_values.specs.Bookings as bookings;
-ghost use Rattle.graph_numbers.specs.Graphs.{graph_filters, graph_loops};
-ghost use Rattle.result_text.specs.FilledLines.{passes_at};
-ghost use Rattle.shard_lines.specs.Joining.{counts_of};
-ghost use Rattle.merged_text.specs.MergedPrints.{lines_of_result, named_text, pass_text};
-ghost use Rattle.merged_text.specs.Numbered.{IsPassIn, filter_counts};
+ghost use Rattle.graph_numbers.specs.{graph_filters, graph_loops};
+ghost use Rattle.result_text.specs.{passes_at};
+ghost use Rattle.shard_lines.specs.{counts_of};
+ghost use Rattle.merged_text.specs.{filter_counts, IsPassIn, lines_of_result, named_text, pass_text};
 
 use crate::values::put_line;
 use graph::Graph;

@@ -1,9 +1,9 @@
 // The lines of what an action came to.
 ghost use Rattle.std.specs.Prelude.{◌≡◌, ◌+◌, ◌++◌, OnOk, decimal, length, map};
-ghost use Rattle.rdf_model.specs.ResultLines.{scalar_text, taken_text, x_edges_of};
-ghost use Rattle.result_text.specs.FilledLines.{more_taken, value_lines};
-ghost use Rattle.merged_text.specs.MergedPrints.{cells_filled, line_filled};
-ghost use Rattle.histograms.specs.Cells.{cell_seen};
+ghost use Rattle.rdf_model.specs.{scalar_text, taken_text, x_edges_of};
+ghost use Rattle.result_text.specs.{more_taken, value_lines};
+ghost use Rattle.merged_text.specs.{cells_filled, line_filled};
+ghost use Rattle.histograms.specs.{cell_seen};
 
 use crate::cells::{put_flat, put_square};
 use histograms::CellSum;

@@ -2,7 +2,7 @@
 #![tactic(auto)]
 
 ghost use Rattle.std.specs.Prelude.{◌≡◌, length};
-ghost use Rattle.entry_fns.specs.Shipped.{clampto_of, hyp2_of, square_of};
+ghost use Rattle.entry_fns.specs.{clampto_of, hyp2_of, square_of};
 
 use entry_fns::shipped::{Clampto, Hyp2, Square};
 use entry_fns::{Closure, FnList, Stored};

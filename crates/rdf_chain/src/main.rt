@@ -2,7 +2,7 @@
 #![tactic(auto)]
 
 ghost use Rattle.std.specs.Prelude.{◌≡◌, length};
-ghost use Rattle.entry_fns.specs.Shipped.{clampto_of, hyp2_of, square_of};
+ghost use Rattle.entry_fns.specs.{clampto_of, hyp2_of, square_of};
 
 use chain_due::ChainStatus;
 use chain_program::chain_top;

@@ -1,28 +1,13 @@
 -- Evaluation is the same whatever stands for what is missing.
-use Rattle.std.proofs.Common.{◌≡◌, ℕ, ℤ, Bool, true, false, List, [], ◌∷◌, Option, Some, None, refl, if◌then◌else◌, length}
-use Rattle.std.specs.Prelude.{nat_eq, map, slice_get, ◌+ℤ◌, ◌-ℤ◌, ◌*ℤ◌, neg_ℤ, int_div, nat_abs, pos, negsuc}
+use Rattle.std.proofs.Common.{◌≡◌, ℕ, ℤ, Bool, true, false, List, [], ◌∷◌, Option, Some, None, refl, if◌then◌else◌, length, nat_eq, map, slice_get, ◌+ℤ◌, ◌-ℤ◌, ◌*ℤ◌, neg_ℤ, int_div, nat_abs, pos, negsuc}
 use Rattle.std.specs.Int.{int_min, int_max}
-use Rattle.rdf_values.specs.Names.{same, place}
-use Rattle.rdf_values.specs.Path.{Path, Under, target_of}
-use Rattle.rdf_values.specs.EachColumn.{EachColumn, EachArgument}
+use Rattle.rdf_values.specs.{Bin, BinOp, Call, Callee, callee, Col, Column, Cond, EachArgument, EachColumn, End, fn_names, Function, Lit, More, NamedTree, Neg, Not, Path, Pick, place, same, target_of, Tree, Trees, Under, Value, VaryValues}
 use Rattle.rdf_values.proofs.Columns.{all_columns}
-use Rattle.rdf_values.specs.Functions.{Function, fn_names}
-use Rattle.rdf_values.specs.Numbered.{callee}
-use Rattle.rdf_values.specs.Tree.{Tree, Trees, NamedTree, Lit, Truth, Col, Neg, Not, Bin, Cond, Pick, Call, End, More}
-use Rattle.rdf_values.specs.declared.column.Column.{Column}
-use Rattle.rdf_values.specs.declared.expr.BinOp.{BinOp}
-use Rattle.rdf_values.specs.declared.expr.BinOp.TheVariants as op
-use Rattle.rdf_values.specs.declared.num_expr.Callee.{Callee}
-use Rattle.rdf_values.specs.declared.num_expr.Callee.TheVariants as fn
-use Rattle.rdf_values.specs.declared.value.Value.{Value}
-use Rattle.rdf_values.specs.declared.value.Value.TheVariants as val
-use Rattle.rdf_values.specs.declared.vary_values.VaryValues.{VaryValues}
+use Rattle.rdf_values.specs.Expressions.{Truth}
 use Rattle.rdf_values.specs.declared.vary_values.VaryValues.TheVariants.{Lists, Vector}
 use Rattle.rdf_values.specs.declared.statement.Statement.TheVariants.{Define, Redefine, Vary}
-use Rattle.rdf_model.specs.Evaluation.{Outcome, Gives, ◌>>=◌, for_all, fits, checked, divided, is_zero, mark, pairs, number_operation, value_operation, vector_operation, in_order, operation, chosen_side, negation, inversion, element_outcome, element, picked, sum_from, extreme_element, answer_outcome, given_call, call_outcome, named_call, evaluate, evaluate_all, argument}
-use Rattle.rdf_model.specs.ColumnValues.{cell, own_place, tag_element, expression_at, value_if, tag_value, varied, expression_value, named_value, column_value}
-use Rattle.rdf_model.specs.Demanded.{with_needs}
-use Rattle.rdf_model.specs.Alike.{Alike, gives, faults, needs}
+use Rattle.rdf_model.specs.{◌>>=◌, answer_outcome, argument, call_outcome, cell, checked, chosen_side, column_value, divided, element, element_outcome, evaluate, evaluate_all, expression_at, expression_value, extreme_element, fits, for_all, given_call, Gives, in_order, inversion, is_zero, mark, named_call, named_value, needs, negation, number_operation, operation, Outcome, own_place, pairs, picked, sum_from, tag_element, tag_value, value_if, value_operation, varied, vector_operation, with_needs}
+use Rattle.rdf_model.specs.Alike.{Alike, gives, faults}
 
 module _ (M N : Type 0) where
   pub bind_alike : {A B : Type 0} {o : Outcome M A} {p : Outcome N A} (f : A → Outcome M B) (g : A → Outcome N B) → Alike o p → ((a : A) → Alike (f a) (g a)) → Alike (o >>= f) (p >>= g)
@@ -41,11 +26,11 @@ module _ (M N : Type 0) where
   divided_alike y h = if_alike (is_zero y) faults h
 
   number_alike : (o : BinOp) (x y : ℤ) → Alike (number_operation {M = M} o x y) (number_operation {M = N} o x y)
-  number_alike op.Add x y = checked_alike (x +ℤ y)
-  number_alike op.Sub x y = checked_alike (x -ℤ y)
-  number_alike op.Mul x y = checked_alike (x *ℤ y)
-  number_alike op.Div x y = divided_alike y (checked_alike (int_div x y))
-  number_alike op.Rem x y = divided_alike y gives
+  number_alike BinOp.Add x y = checked_alike (x +ℤ y)
+  number_alike BinOp.Sub x y = checked_alike (x -ℤ y)
+  number_alike BinOp.Mul x y = checked_alike (x *ℤ y)
+  number_alike BinOp.Div x y = divided_alike y (checked_alike (int_div x y))
+  number_alike BinOp.Rem x y = divided_alike y gives
   number_alike o x y = gives
 
   pub for_all_alike : {A B : Type 0} (f : A → Outcome M B) (g : A → Outcome N B) → ((a : A) → Alike (f a) (g a)) → (xs : List A) → Alike (for_all f xs) (for_all g xs)
@@ -57,11 +42,11 @@ module _ (M N : Type 0) where
       if_alike (nat_eq (length xs) (length ys)) (bind_alike _ _ (for_all_alike (λ (p : ℤ × ℤ). number_operation o p.0 p.1) (λ (p : ℤ × ℤ). number_operation o p.0 p.1) (λ p. number_alike o p.0 p.1) (pairs xs ys)) (λ z. gives)) faults
 
   value_alike : (o : BinOp) (v w : Value) → Alike (value_operation {M = M} o v w) (value_operation {M = N} o v w)
-  value_alike o (val.Int x) (val.Int y) = bind_alike _ _ (number_alike o x y) (λ z. gives)
-  value_alike o (val.Int x) (val.Vect ys) = bind_alike _ _ (for_all_alike (number_operation o x) (number_operation o x) (number_alike o x) ys) (λ z. gives)
-  value_alike o (val.Vect xs) (val.Int y) = bind_alike _ _ (for_all_alike (λ x. number_operation o x y) (λ x. number_operation o x y) (λ x. number_alike o x y) xs) (λ z. gives)
-  value_alike o (val.Vect xs) (val.Vect ys) = vector_alike o xs ys
-  value_alike o (val.Bool a) (val.Bool b) = bind_alike _ _ (number_alike o (mark a) (mark b)) (λ z. gives)
+  value_alike o (Value.Int x) (Value.Int y) = bind_alike _ _ (number_alike o x y) (λ z. gives)
+  value_alike o (Value.Int x) (Value.Vect ys) = bind_alike _ _ (for_all_alike (number_operation o x) (number_operation o x) (number_alike o x) ys) (λ z. gives)
+  value_alike o (Value.Vect xs) (Value.Int y) = bind_alike _ _ (for_all_alike (λ x. number_operation o x y) (λ x. number_operation o x y) (λ x. number_alike o x y) xs) (λ z. gives)
+  value_alike o (Value.Vect xs) (Value.Vect ys) = vector_alike o xs ys
+  value_alike o (Value.Bool a) (Value.Bool b) = bind_alike _ _ (number_alike o (mark a) (mark b)) (λ z. gives)
   value_alike o v w = gives
 
   in_order_alike : {o p : Outcome M Value} {o' p' : Outcome N Value} (f : Value → Value → Outcome M Value) (g : Value → Value → Outcome N Value) → ((v w : Value) → Alike (f v w) (g v w)) → Alike o o' → Alike p p'
@@ -69,29 +54,29 @@ module _ (M N : Type 0) where
   in_order_alike f g h k l = bind_alike _ _ k (λ v. bind_alike _ _ l (λ w. h v w))
 
   operation_alike : (o : BinOp) {l r : Outcome M Value} {l' r' : Outcome N Value} → Alike l l' → Alike r r' → Alike (operation o l r) (operation o l' r')
-  operation_alike op.And (gives {a = val.Bool false}) k = gives
-  operation_alike op.And (gives {a = v}) k = in_order_alike {o = Gives v} {o' = Gives v} (value_operation op.And) (value_operation op.And) (value_alike op.And) gives k
-  operation_alike op.And faults k = faults
-  operation_alike op.And needs k = needs
-  operation_alike op.Or (gives {a = val.Bool true}) k = gives
-  operation_alike op.Or (gives {a = v}) k = in_order_alike {o = Gives v} {o' = Gives v} (value_operation op.Or) (value_operation op.Or) (value_alike op.Or) gives k
-  operation_alike op.Or faults k = faults
-  operation_alike op.Or needs k = needs
+  operation_alike BinOp.And (gives {a = Value.Bool false}) k = gives
+  operation_alike BinOp.And (gives {a = v}) k = in_order_alike {o = Gives v} {o' = Gives v} (value_operation BinOp.And) (value_operation BinOp.And) (value_alike BinOp.And) gives k
+  operation_alike BinOp.And faults k = faults
+  operation_alike BinOp.And needs k = needs
+  operation_alike BinOp.Or (gives {a = Value.Bool true}) k = gives
+  operation_alike BinOp.Or (gives {a = v}) k = in_order_alike {o = Gives v} {o' = Gives v} (value_operation BinOp.Or) (value_operation BinOp.Or) (value_alike BinOp.Or) gives k
+  operation_alike BinOp.Or faults k = faults
+  operation_alike BinOp.Or needs k = needs
   operation_alike o h k = in_order_alike (value_operation o) (value_operation o) (value_alike o) h k
 
   negation_alike : (v : Value) → Alike (negation {M = M} v) (negation {M = N} v)
-  negation_alike (val.Int x) = bind_alike _ _ (checked_alike (neg_ℤ x)) (λ z. gives)
-  negation_alike (val.Vect xs) = bind_alike _ _ (for_all_alike (λ x. checked (neg_ℤ x)) (λ x. checked (neg_ℤ x)) (λ x. checked_alike (neg_ℤ x)) xs) (λ z. gives)
-  negation_alike (val.Bool b) = gives
+  negation_alike (Value.Int x) = bind_alike _ _ (checked_alike (neg_ℤ x)) (λ z. gives)
+  negation_alike (Value.Vect xs) = bind_alike _ _ (for_all_alike (λ x. checked (neg_ℤ x)) (λ x. checked (neg_ℤ x)) (λ x. checked_alike (neg_ℤ x)) xs) (λ z. gives)
+  negation_alike (Value.Bool b) = gives
 
   inversion_alike : (v : Value) → Alike (inversion {M = M} v) (inversion {M = N} v)
-  inversion_alike (val.Int x) = gives
-  inversion_alike (val.Vect xs) = gives
-  inversion_alike (val.Bool b) = gives
+  inversion_alike (Value.Int x) = gives
+  inversion_alike (Value.Vect xs) = gives
+  inversion_alike (Value.Bool b) = gives
 
   chosen_alike : (v : Value) {a b : Outcome M Value} {a' b' : Outcome N Value} → Alike a a' → Alike b b' → Alike (chosen_side v a b) (chosen_side v a' b')
-  chosen_alike (val.Bool true) h k = h
-  chosen_alike (val.Bool false) h k = k
+  chosen_alike (Value.Bool true) h k = h
+  chosen_alike (Value.Bool false) h k = k
   chosen_alike v h k = gives
 
   element_of_alike : (o : Option ℤ) → Alike (element_outcome {M = M} o) (element_outcome {M = N} o)
@@ -103,8 +88,8 @@ module _ (M N : Type 0) where
   element_alike xs (negsuc i) = faults
 
   picked_alike : (v w : Value) → Alike (picked {M = M} v w) (picked {M = N} v w)
-  picked_alike (val.Vect xs) (val.Int i) = element_alike xs i
-  picked_alike (val.Vect xs) (val.Vect ms) = if_alike (nat_eq (length xs) (length ms)) gives faults
+  picked_alike (Value.Vect xs) (Value.Int i) = element_alike xs i
+  picked_alike (Value.Vect xs) (Value.Vect ms) = if_alike (nat_eq (length xs) (length ms)) gives faults
   picked_alike v w = gives
 
   sum_alike : (z : ℤ) (xs : List ℤ) → Alike (sum_from {M = M} z xs) (sum_from {M = N} z xs)
@@ -124,15 +109,15 @@ module _ (M N : Type 0) where
   given_alike (Some f) zs = answer_alike (f.answer zs)
 
   pub call_alike : (fns : List Function) (f : Callee) (vs : List Value) → Alike (call_outcome {M = M} fns f vs) (call_outcome {M = N} fns f vs)
-  call_alike fns fn.Sum (val.Vect xs ∷ []) = bind_alike _ _ (sum_alike (pos 0) xs) (λ z. gives)
-  call_alike fns fn.Min (val.Vect xs ∷ []) = extreme_alike int_min xs
-  call_alike fns fn.Max (val.Vect xs ∷ []) = extreme_alike int_max xs
-  call_alike fns fn.Size (val.Vect xs ∷ []) = gives
-  call_alike fns fn.Any (val.Vect xs ∷ []) = gives
-  call_alike fns fn.All (val.Vect xs ∷ []) = gives
-  call_alike fns fn.At (val.Vect xs ∷ val.Int i ∷ []) = element_alike xs i
-  call_alike fns fn.Abs (val.Int z ∷ []) = bind_alike _ _ (checked_alike (pos (nat_abs z))) (λ z. gives)
-  call_alike fns (fn.Given i) vs = given_alike (slice_get fns i) (map argument vs)
+  call_alike fns Callee.Sum (Value.Vect xs ∷ []) = bind_alike _ _ (sum_alike (pos 0) xs) (λ z. gives)
+  call_alike fns Callee.Min (Value.Vect xs ∷ []) = extreme_alike int_min xs
+  call_alike fns Callee.Max (Value.Vect xs ∷ []) = extreme_alike int_max xs
+  call_alike fns Callee.Size (Value.Vect xs ∷ []) = gives
+  call_alike fns Callee.Any (Value.Vect xs ∷ []) = gives
+  call_alike fns Callee.All (Value.Vect xs ∷ []) = gives
+  call_alike fns Callee.At (Value.Vect xs ∷ Value.Int i ∷ []) = element_alike xs i
+  call_alike fns Callee.Abs (Value.Int z ∷ []) = bind_alike _ _ (checked_alike (pos (nat_abs z))) (λ z. gives)
+  call_alike fns (Callee.Given i) vs = given_alike (slice_get fns i) (map argument vs)
   call_alike fns f vs = gives
 
   -- ---- expressions
@@ -172,7 +157,7 @@ module _ (M N : Type 0) where
     cell_alike (c ∷ cs) (v ∷ vs) name = if_alike (same c.name name) gives (cell_alike cs vs name)
 
     pub tag_alike : (tags k : ℕ) (v : Value) → Alike (tag_element {M = M} tags k v) (tag_element {M = N} tags k v)
-    tag_alike tags k (val.Vect xs) = if_alike (nat_eq (length xs) tags) (element_alike xs (pos k)) faults
+    tag_alike tags k (Value.Vect xs) = if_alike (nat_eq (length xs) tags) (element_alike xs (pos k)) faults
     tag_alike tags k v = gives
 
     value_if_alike : (o : Option NamedTree) (f : NamedTree → Outcome M Value) (g : NamedTree → Outcome N Value) → ((e : NamedTree) → Alike (f e) (g e)) → Alike (value_if f o) (value_if g o)

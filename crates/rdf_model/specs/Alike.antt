@@ -1,5 +1,5 @@
 -- When two outcomes are the same, whatever type stands for what is missing in each.
-use Rattle.rdf_values.specs.declared.fault.EntryFault.{EntryFault}
+use Rattle.rdf_values.specs.{EntryFault}
 use Rattle.rdf_model.specs.Evaluation.{Outcome, Gives, Faults, Needs}
 
 -- the same answer, the same fault, or both need something

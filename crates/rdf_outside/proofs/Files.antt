@@ -8,8 +8,7 @@ use Rattle.std.proofs.lemmas.Bool.{cases_lt, cond-true, cond-false, lt-ltb, le-l
 use Rattle.rdf_outside.specs.declared.failed.Failed.{Failed}
 use Rattle.rdf_outside.specs.declared.memory_shelf.MemoryFile.{MemoryFile}
 use Rattle.rdf_outside.specs.declared.memory_shelf.Place.{Place}
-use Rattle.rdf_outside.specs.Memory.{bytes_at, file_of, has_name, left_at, moved}
-use Rattle.rdf_outside.specs.Outside.{Finds, ReadsFrom, Takes}
+use Rattle.rdf_outside.specs.{bytes_at, file_of, Finds, has_name, left_at, moved, ReadsFrom, Takes}
 
 pub bytes_at_is : (fs : List MemoryFile) (i : ℕ) (f : MemoryFile) → i < length fs → f ≡ get_or fs i f → bytes_at fs i ≡ f.bytes.items
 bytes_at_is [] i f h e = absurd (omega arith)

@@ -1,8 +1,7 @@
 -- Steps of whole reads and writes.
 use Rattle.std.proofs.Common.{◌≡◌, ◌≤◌, ◌+◌, ℕ, List, [], ◌++◌, Option, None, Some, length, take, drop, refl, ap, sym, ◌∙◌, append_assoc, length-append, arith}
 use Rattle.std.proofs.lemmas.List.{take-append-drop, nil_from_length}
-use Rattle.rdf_outside.specs.Outside.{Appends}
-use Rattle.rdf_outside.specs.Whole.{Joins, Reads}
+use Rattle.rdf_outside.specs.{Appends, Joins, Reads}
 
 -- nothing stands behind the whole
 nil_behind : (all bytes rest : List ℕ) → all ≡ bytes ++ rest → bytes ≡ all → rest ≡ []

@@ -7,7 +7,6 @@ use Rattle.std.specs.declared.io.ErrorKind.{ErrorKind}
 use Rattle.std.specs.declared.io.ErrorKind.TheVariants.{NotFound, OutOfMemory}
 use Rattle.rdf_outside.specs.declared.failed.Failed as F
 use Rattle.rdf_outside.specs.declared.shelf.TurnStop.{TurnStop}
-use Rattle.rdf_outside.specs.declared.shelf.TurnStop.TheVariants as Stop
 
 -- the answer is this one, and no fault was counted
 abbrev pub Passes : {A : Type 0} → A → A → ℕ → ℕ → Type 0
@@ -31,8 +30,8 @@ AnswersWrite (Err e) piece result before now = Faults (Err (record {})) result b
 -- a file that isn't found is none, want of memory is itself, and each other error is a fault
 abbrev pub AnswersMiss : ErrorKind → Result Bool TurnStop → ℕ → ℕ → Type 0
 AnswersMiss NotFound result before now = Passes (Ok false) result before now
-AnswersMiss OutOfMemory result before now = Passes (Err Stop.Memory) result before now
-AnswersMiss kind result before now = Faults (Err Stop.Failed) result before now
+AnswersMiss OutOfMemory result before now = Passes (Err TurnStop.Memory) result before now
+AnswersMiss kind result before now = Faults (Err TurnStop.Failed) result before now
 
 -- a file that was opened is there and is the one turned to
 abbrev pub AnswersOpen : {T : Type 0} → Result T Error → Option T → Result Bool TurnStop → ℕ → ℕ → Type 0

@@ -1,6 +1,6 @@
 // The calls of an object that are to fail.
 ghost use Rattle.std.specs.Prelude.{◌≡◌, ◌∷◌, ◌++◌, [], OnErr, OnOk};
-ghost use Rattle.rdf_outside.specs.Calls.{is_listed, Counts};
+ghost use Rattle.rdf_outside.specs.{Counts, is_listed};
 
 use rdf_values::Memory;
 use std::alloc::Global;

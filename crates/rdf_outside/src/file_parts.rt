@@ -1,7 +1,7 @@
 // Files that are read in parts.
 ghost use Rattle.std.specs.Prelude.{◌≤◌, IfSome, length};
 ghost use Rattle.std.specs.Thread.{IsSync};
-ghost use Rattle.rdf_outside.specs.Whole.{in_a_row};
+ghost use Rattle.rdf_outside.specs.{in_a_row};
 
 use crate::ranges::read_ranges;
 use rdf_values::Bytes;

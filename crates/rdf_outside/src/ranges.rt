@@ -1,7 +1,7 @@
 // Ranges of a file, read side by side.
 ghost use Rattle.std.specs.Prelude.{◌≡◌, ◌<◌, ◌+◌, ◌^◌, IfSome, length};
 ghost use Rattle.std.specs.Thread.{IsSync};
-ghost use Rattle.rdf_outside.specs.Whole.{in_a_row};
+ghost use Rattle.rdf_outside.specs.{in_a_row};
 
 use crate::whole::{one_part, zeros};
 use rdf_values::Bytes;

@@ -2,8 +2,7 @@
 ghost use Rattle.std.specs.Prelude.{◌≡◌};
 ghost use Rattle.std.specs.Io.{ReadsAtMost};
 ghost use Rattle.std.specs.Io.KnownBytes.{ReadConsumes};
-ghost use Rattle.rdf_outside.specs.Answers.{AnswersMiss, AnswersOpen, AnswersRead, AnswersWrite};
-ghost use Rattle.rdf_outside.specs.Outside.{HasCause, TurnHasCause};
+ghost use Rattle.rdf_outside.specs.{AnswersMiss, AnswersOpen, AnswersRead, AnswersWrite, HasCause, TurnHasCause};
 
 use crate::failed::Failed;
 use crate::shelf::TurnStop;

@@ -1,7 +1,6 @@
 // Whole reads and whole writes.
 ghost use Rattle.std.specs.Prelude.{◌≡◌, ◌<◌, ◌≤◌, ◌+◌, ◌^◌, ℕ, List, length, IfOk, OnOk, IsErrOf};
-ghost use Rattle.rdf_outside.specs.Outside.{Rose, HasCause, Appends, AppendsPart};
-ghost use Rattle.rdf_outside.specs.Whole.{Reads, ReadsParts, IsTooLarge, TakesOneMore, Joins, in_a_row};
+ghost use Rattle.rdf_outside.specs.{Appends, AppendsPart, HasCause, in_a_row, IsTooLarge, Joins, Reads, ReadsParts, Rose, TakesOneMore};
 
 use crate::failed::Failed;
 use crate::shelf::Shelf;

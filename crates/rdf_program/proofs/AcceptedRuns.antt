@@ -1,33 +1,16 @@
 -- What is due to an accepted run has the status that the run ends in.
-use Rattle.std.proofs.Common.{◌≡◌, ◌≤◌, ◌+◌, ℕ, Bool, false, ◌||◌, List, [], ◌∷◌, length, map, Option, Some, None, Ok, nat_lt, option_map, inl, inr, ap, refl, sym, subst, ◌∙◌, if◌then◌else◌}
-use Rattle.std.specs.Prelude.{is_some, unwrap_or}
+use Rattle.std.proofs.Common.{◌≡◌, ◌≤◌, ◌+◌, ℕ, Bool, false, ◌||◌, List, [], ◌∷◌, length, map, Option, Some, None, Ok, nat_lt, option_map, inl, inr, ap, refl, sym, subst, ◌∙◌, if◌then◌else◌, is_some, unwrap_or}
 use Rattle.std.specs.List.{list_any}
 use Rattle.std.proofs.lemmas.Bool.{le-ltb}
-use Rattle.rdf_values.specs.Bookings.{Booked}
-use Rattle.rdf_values.specs.Functions.{Function, fn_names}
-use Rattle.rdf_values.specs.Path.{history}
-use Rattle.rdf_values.specs.Scripts.{IsScript}
-use Rattle.rdf_values.specs.TableText.{MarkedTable, table_of}
-use Rattle.rdf_values.specs.Verdict.{verdict}
-use Rattle.rdf_values.specs.declared.fault.Fault.{Fault}
-use Rattle.rdf_values.specs.declared.script.Script.{Script}
-use Rattle.rdf_values.specs.declared.statement.Statement.{Statement}
-use Rattle.rdf_values.specs.declared.value.Value.{Value}
+use Rattle.rdf_values.specs.{Booked, Fault, fn_names, Function, history, IsScript, MarkedTable, Script, Statement, table_of, Value, verdict}
 use Rattle.rdf_values.proofs.OneScript.{one_script, script_or_refusal}
-use Rattle.rdf_model.specs.Loops.{Access, accesses, loop_passes}
-use Rattle.rdf_model.specs.PartialResults.{Course}
-use Rattle.rdf_model.specs.Results.{Dataset, first_fault, first_fault_from}
-use Rattle.rdf_model.specs.Transcript.{Printed, access_passes, access_printed, printed}
+use Rattle.rdf_model.specs.{Access, access_passes, access_printed, accesses, Course, Dataset, first_fault, first_fault_from, loop_passes, Printed, printed}
 use Rattle.expr_read.proofs.ReadOnce.{read_once}
-use Rattle.table_csv.specs.Csv.{csv_records}
-use Rattle.command_words.specs.declared.command.Friend.{Friend}
-use Rattle.command_words.specs.declared.command.Input.{Input}
-use Rattle.command_words.specs.declared.command.Input.TheVariants as input
-use Rattle.rdf_program.specs.Accepted.{AcceptedRunsEnd, AreTexts, IsWithFriend, friend_of, has_fault, status_of_run}
-use Rattle.input_files.specs.Answers.{Files}
-use Rattle.input_files.specs.Due.{Due, ReadsScript, WithScript, WithTable, max_script, max_table}
-use Rattle.rdf_program.specs.Due.{IsDueOver, IsDueToInput, IsDueToScript, IsPrinted, WithFriend, dataset_of}
-use Rattle.rdf_program.specs.Statuses.{printed_status, statuses}
+use Rattle.table_csv.specs.{csv_records}
+use Rattle.command_words.specs.{Friend, Input}
+use Rattle.rdf_program.specs.{AcceptedRunsEnd, AreTexts, dataset_of, friend_of, has_fault, IsDueOver, IsDueToInput, IsDueToScript, IsPrinted, IsWithFriend, printed_status, status_of_run, statuses, WithFriend}
+use Rattle.input_files.specs.{Files, max_script, max_table, ReadsScript, WithScript, WithTable}
+use Rattle.input_files.specs.Due.{Due}
 use Rattle.rdf_program.specs.declared.status.Status.{Status}
 use Rattle.rdf_program.specs.declared.status.Status.TheVariants.{Done, LoopFault}
 
@@ -105,11 +88,11 @@ module _ (fns : List Function) (size watch : ℕ) (script : Script) (table : Mar
   to_input : (files : Files) (named : Input) (script_bytes table_bytes : List ℕ) (own : MarkedTable) → AreTexts files named script_bytes table_bytes
       → length script_bytes ≤ max_script → length table_bytes ≤ max_table → IsScript script_bytes script → table_of (csv_records table_bytes) ≡ Ok own → IsWithFriend (friend_of named) files own table
       → IsDueToInput fns size watch files named d → d.status ≡ status_of_run fns script table
-  to_input files (input.Files s t friend) sb tb own texts short_script short_table is_script is_table w h =
+  to_input files (Input.Files s t friend) sb tb own texts short_script short_table is_script is_table w h =
       let bytes = rw texts.0 at h in
       let next : IsDueToScript fns size watch script t friend files d = reading sb (λ x e. IsDueToScript fns size watch x t friend files e) short_script is_script bytes in
       to_friend friend files own w (tabled tb own (λ o e. WithFriend friend files o (λ x u. IsDueOver fns size watch script x u) e) short_table is_table (rw texts.1 at next))
-  to_input files (input.Generated entries seed) sb tb own texts short_script short_table is_script is_table w h =
+  to_input files (Input.Generated entries seed) sb tb own texts short_script short_table is_script is_table w h =
       let due : WithScript statuses sb (λ x e. WithTable statuses tb (λ t u. IsDueOver fns size watch x t u) e) d = rw (texts.0, texts.1) h in
       to_friend None files own w (tabled tb own (λ t u. IsDueOver fns size watch script t u) short_table is_table (reading sb (λ x e. WithTable statuses tb (λ t u. IsDueOver fns size watch x t u) e) short_script is_script due))
 

@@ -1,21 +1,13 @@
 -- Answers to the words, and what is written of them.
 use Rattle.std.proofs.Common.{◌≡◌, ◌≤◌, ◌⊎◌, ℕ, List, [], ◌++◌, Option, None, Some, IfSome, MatchOption, inr, inl, sym, subst, ◌∙◌, ap}
-use Rattle.rdf_outside.specs.Outside.{Appends, AppendsPart}
-use Rattle.rdf_values.specs.Functions.{Function}
-use Rattle.result_text.specs.RefusalText.{usage_line}
+use Rattle.rdf_outside.specs.{Appends, AppendsPart}
+use Rattle.rdf_values.specs.{Function}
+use Rattle.result_text.specs.{usage_line}
 use Rattle.command_words.proofs.Bounds.{asked_fits}
-use Rattle.command_words.specs.Asked.{asked_of}
-use Rattle.command_words.specs.declared.command.Command.{Command}
-use Rattle.command_words.specs.declared.command.Friend.{Friend}
-use Rattle.command_words.specs.declared.command.Input.{Input}
-use Rattle.command_words.specs.declared.command.Input.TheVariants as input
-use Rattle.input_files.specs.Answers.{Files, WritesDue, WritesDuePart}
-use Rattle.input_files.specs.Due.{Due, due_of}
-use Rattle.rdf_program.specs.Answers.{AnswersInput, AnswersWords, AreTurnsIn, AreTurnsTo, IsOfRun, IsUnread, MayRead, MayReadIn, due_in}
-use Rattle.rdf_program.specs.Due.{IsDue, IsDueToInput}
-use Rattle.rdf_program.specs.Running.{AreSettings}
-use Rattle.rdf_program.specs.Statuses.{IsFinal}
-use Rattle.rdf_program.specs.Top.{NameFiles, NamesFiles, OfFiles, TurnsBesides, WritesPart, WritesReadFailed}
+use Rattle.command_words.specs.{asked_of, Command, Friend, Input}
+use Rattle.input_files.specs.{due_of, Files, WritesDue, WritesDuePart}
+use Rattle.input_files.specs.Due.{Due}
+use Rattle.rdf_program.specs.{AnswersInput, AnswersWords, AreSettings, AreTurnsIn, AreTurnsTo, due_in, IsDue, IsDueToInput, IsFinal, IsOfRun, IsUnread, MayRead, MayReadIn, NameFiles, NamesFiles, OfFiles, TurnsBesides, WritesPart, WritesReadFailed}
 use Rattle.rdf_program.specs.declared.answer.Answer.{Answer}
 use Rattle.rdf_program.specs.declared.status.Status.{Status}
 use Rattle.rdf_program.specs.declared.status.Status.TheVariants.{Done, Memory, Words, ReadFault, WriteFault, NoFile, ScriptRefused, TableRefused, LoopFault, FriendRefused}
@@ -35,7 +27,7 @@ module _ (words : List (List ℕ)) (o : Option Command) (c : Command) (read : o 
   pub settings_fit : AreSettings (record { slots = c.slots; cluster = c.cluster; watch = c.watch })
   settings_fit = (let w = asked_fits words c asked in record { some_slots = w.slots.0; few_slots = w.slots.1; cluster = w.cluster.0; watch = w.watch.0 })
 
-  pub entries_fit : (entries seed : ℕ) → c.input ≡ input.Generated entries seed → (1 ≤ entries) × (entries ≤ 1000000)
+  pub entries_fit : (entries seed : ℕ) → c.input ≡ Input.Generated entries seed → (1 ≤ entries) × (entries ≤ 1000000)
   entries_fit entries seed i = (let w = rw i at (asked_fits words c asked).input in (w.0, w.1))
 
   -- an answer to what is asked for is one to the words
@@ -45,7 +37,7 @@ module _ (words : List (List ℕ)) (o : Option Command) (c : Command) (read : o 
       (subst (λ (x : Input). AnswersInput fns c.cluster c.watch x told turns f0 f1 a) (sym is) h)
 
   -- so are the files that it turned to
-  pub turns_besides : (told : Told) (before after : List (List ℕ)) (script table script' table' : List ℕ) (friend friend' : Option Friend) → c.input ≡ input.Files script table friend → script' ≡ script → table' ≡ table → friend' ≡ friend
+  pub turns_besides : (told : Told) (before after : List (List ℕ)) (script table script' table' : List ℕ) (friend friend' : Option Friend) → c.input ≡ Input.Files script table friend → script' ≡ script → table' ≡ table → friend' ≡ friend
       → (turns : List (List ℕ)) × (after ≡ before ++ turns) × AreTurnsTo script' table' friend' told turns → TurnsBesides words told before after
   turns_besides told before after script table script' table' friend friend' i s t f h =
       let to : AreTurnsTo script table friend told h.0 = rw (s, t, f) at h.2 in
@@ -71,10 +63,10 @@ module _ (fns : List Function) (words : List (List ℕ)) (told : Told) (turns : 
   Sorts IsIts Named May = (IsFinal a.status × (IfSome told IsIts × ((Named → ⊥) → (f : Files) → IsIts f))) ⊎ IsUnread May f0 f1 a
 
   by_input : (size watch : ℕ) (i : Input) → AnswersInput fns size watch i told turns f0 f1 a → Sorts (λ f. IsDueToInput fns size watch f i (due_in a)) (NamesFiles i) (MayReadIn i told turns)
-  by_input size watch (input.Files script table friend) (inl h) = inl (of_run_is_final a.status h.0, (h.1, λ none. absurd (none tt)))
-  by_input size watch (input.Files script table friend) (inr u) = inr u
-  by_input size watch (input.Generated entries seed) h =
-      inl (of_run_is_final a.status h.0, (whatever told (λ f. IsDueToInput fns size watch f (input.Generated entries seed) (due_in a)) (λ f. h.1), λ none f. h.1))
+  by_input size watch (Input.Files script table friend) (inl h) = inl (of_run_is_final a.status h.0, (h.1, λ none. absurd (none tt)))
+  by_input size watch (Input.Files script table friend) (inr u) = inr u
+  by_input size watch (Input.Generated entries seed) h =
+      inl (of_run_is_final a.status h.0, (whatever told (λ f. IsDueToInput fns size watch f (Input.Generated entries seed) (due_in a)) (λ f. h.1), λ none f. h.1))
 
   abbrev AnswersAsked : Option Command → Type 0
   AnswersAsked o = MatchOption o (due_in a ≡ due_of Words usage_line) (λ command. AnswersInput fns command.cluster command.watch command.input told turns f0 f1 a)

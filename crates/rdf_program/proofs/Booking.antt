@@ -1,24 +1,15 @@
 -- A script that can't be booked over a table is refused.
 use Rattle.std.proofs.Common.{Result, Err, ◌≡◌, ℕ, List, Option, None, Some, inr, inl, refl, ◌∙◌}
-use Rattle.rdf_values.specs.Answers.{Refuses}
-use Rattle.rdf_values.specs.Functions.{Function, fn_names}
-use Rattle.rdf_values.specs.Kinds.{FunctionNames}
-use Rattle.rdf_values.specs.RefusalLines.{graph_cause_line}
-use Rattle.rdf_values.specs.TableText.{MarkedTable}
-use Rattle.rdf_values.specs.Verdict.{verdict}
-use Rattle.rdf_values.specs.declared.column.Column.{Column}
-use Rattle.rdf_values.specs.declared.graph_cause.GraphCause.{GraphCause}
-use Rattle.rdf_values.specs.declared.script.Script.{Script}
-use Rattle.graph_numbers.specs.Graphs.{GraphView, booked, booked_unless}
-use Rattle.graph.specs.Refusals.{refused_at}
-use Rattle.graph.specs.declared.refusal.GraphRefusal.{GraphRefusal}
-use Rattle.graph.specs.declared.refusal.GraphRefusal.TheVariants as graph
+use Rattle.rdf_values.specs.Answered.{Refuses}
+use Rattle.rdf_values.specs.{Column, fn_names, Function, FunctionNames, graph_cause_line, GraphCause, MarkedTable, Script, verdict}
+use Rattle.graph_numbers.specs.{booked, booked_unless, GraphView}
+use Rattle.graph.specs.{GraphRefusal, refused_at}
 use Rattle.rdf_program.specs.Answers.{Answers}
-use Rattle.rdf_program.specs.Due.{IsDueOver}
+use Rattle.rdf_program.specs.{IsDueOver}
 use Rattle.rdf_program.specs.declared.answer.Answer.{Answer}
 use Rattle.rdf_program.specs.declared.status.Status.TheVariants.{ScriptRefused}
 
-refusal_of : (wanted : Result GraphView (ℕ × GraphCause)) (line : ℕ) (cause : GraphCause) → Refuses refused_at graph.Memory wanted (graph.At line cause) → wanted ≡ Err (line, cause)
+refusal_of : (wanted : Result GraphView (ℕ × GraphCause)) (line : ℕ) (cause : GraphCause) → Refuses refused_at GraphRefusal.Memory wanted (GraphRefusal.At line cause) → wanted ≡ Err (line, cause)
 refusal_of wanted line cause (inl e) = absurd (cc e)
 refusal_of wanted line cause (inr h) =
     let e = h.1 in
@@ -31,7 +22,7 @@ refused_verdict g None c e = absurd (cc e)
 refused_verdict g (Some d) c e = cc e
 
 pub over_refused : (fns : List Function) (size watch : ℕ) (script : Script) (header : List Column) (names : FunctionNames) (table : MarkedTable) (refusal : GraphRefusal) (line line' : ℕ) (cause cause' : GraphCause) (a : Answer)
-    → header ≡ table.table.columns → names ≡ fn_names fns → refusal ≡ graph.At line cause → Refuses refused_at graph.Memory (booked script header names) refusal
+    → header ≡ table.table.columns → names ≡ fn_names fns → refusal ≡ GraphRefusal.At line cause → Refuses refused_at GraphRefusal.Memory (booked script header names) refusal
     → line' ≡ line → cause' ≡ cause → (a.status ≡ ScriptRefused) × (a.text ≡ graph_cause_line line' cause') → Answers (IsDueOver fns size watch script table) a
 over_refused fns size watch script header names table refusal line line' cause cause' a h n is refused l k e =
     let v = refused_verdict _ (verdict names header script) (line, cause) (refusal_of _ line cause (rw is at refused)) in

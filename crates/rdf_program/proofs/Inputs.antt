@@ -1,17 +1,10 @@
 -- Answers to files that were read, and the files that were turned to.
-use Rattle.std.proofs.Common.{Result, Ok, Err, ◌≡◌, ◌≤◌, ℕ, List, [], ◌∷◌, ◌++◌, Option, None, Some, IfSome, arith, append_assoc, inr, inl, refl, sym, subst, ◌∙◌, ap}
-use Rattle.std.specs.Prelude.{OnOk}
-use Rattle.rdf_values.specs.Functions.{Function}
-use Rattle.rdf_values.specs.TableText.{MarkedTable}
-use Rattle.rdf_values.specs.declared.script.Script.{Script}
-use Rattle.command_words.specs.declared.command.Friend.{Friend}
-use Rattle.input_files.specs.Answers.{Files}
-use Rattle.input_files.specs.Fetching.{Tells}
-use Rattle.input_files.specs.Reading.{HoldsTheScript, HoldsTheTable}
+use Rattle.std.proofs.Common.{Result, Ok, Err, ◌≡◌, ◌≤◌, ℕ, List, [], ◌∷◌, ◌++◌, Option, None, Some, IfSome, arith, append_assoc, inr, inl, refl, sym, subst, ◌∙◌, ap, OnOk}
+use Rattle.rdf_values.specs.{Function, MarkedTable, Script}
+use Rattle.command_words.specs.{Friend}
+use Rattle.input_files.specs.{Files, HoldsTheScript, HoldsTheTable, Tells}
 use Rattle.input_files.proofs.Staging.{script_read_due, table_read_due}
-use Rattle.rdf_program.specs.Answers.{AreTurnsTo, CallsForFriend, CallsForTable, HoldsScript, HoldsTable, IsAnswer, MayReadOf, due_in}
-use Rattle.rdf_program.specs.Due.{IsDueOver, IsDueToFiles, IsDueToScript, WithFriend}
-use Rattle.rdf_program.specs.Statuses.{statuses}
+use Rattle.rdf_program.specs.{AreTurnsTo, CallsForFriend, CallsForTable, due_in, HoldsScript, HoldsTable, IsAnswer, IsDueOver, IsDueToFiles, IsDueToScript, MayReadOf, statuses, WithFriend}
 use Rattle.rdf_program.specs.declared.answer.Answer.{Answer}
 
 pub always_ok : {A E : Type 0} (r : Result A E) (P : Type 0) → P → OnOk r P

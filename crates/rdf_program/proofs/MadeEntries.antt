@@ -1,7 +1,7 @@
 -- Entries and the script's length, computed.
 use Rattle.std.proofs.Common.{◌≡◌, codes, length, refl}
 use Rattle.std.specs.Fmt.{digits}
-use Rattle.rdf_values.specs.Generator.{entry_line, generated_script}
+use Rattle.rdf_values.specs.{entry_line, generated_script}
 
 pub an_entry_without_elements : entry_line 7 3 ≡ codes "764,493,222,951,\n"
 unfolding digits

@@ -1,35 +1,17 @@
 -- To the same words and files one status is due.
 use Rattle.std.proofs.Common.{◌≡◌, ℕ, Bool, true, false, List, [], ◌∷◌, length, Option, None, Some, Result, Ok, Err, MatchOption, MatchResult, nat_lt, inl, inr, ap, refl, sym, subst, ◌∙◌}
 use Rattle.std.specs.Bool.{MatchBool}
-use Rattle.rdf_values.specs.Functions.{Function, fn_names}
-use Rattle.rdf_values.specs.Path.{history}
-use Rattle.rdf_values.specs.RefusalLines.{graph_cause_line, long_script_line, long_table_line, script_cause_line, table_cause_line}
-use Rattle.rdf_values.specs.TableText.{MarkedTable, table_of}
-use Rattle.rdf_values.specs.Verdict.{verdict}
-use Rattle.rdf_values.specs.declared.fault.Fault.{Fault}
-use Rattle.rdf_values.specs.declared.graph_cause.GraphCause.{GraphCause}
-use Rattle.rdf_values.specs.declared.statement.Statement.{Statement}
-use Rattle.rdf_values.specs.declared.script.Script.{Script}
+use Rattle.rdf_values.specs.{Fault, fn_names, Function, generated_script, generated_table, graph_cause_line, GraphCause, history, long_script_line, long_table_line, MarkedTable, Script, script_cause_line, Statement, table_cause_line, table_of, verdict}
 use Rattle.rdf_values.proofs.OneScript.{one_cause, one_script, script_or_refusal}
-use Rattle.rdf_model.specs.Loops.{Access, accesses}
-use Rattle.rdf_model.specs.PartialResults.{Course}
-use Rattle.rdf_model.specs.Results.{Dataset, first_fault}
-use Rattle.rdf_model.specs.Transcript.{Printed, access_passes, access_printed, printed}
+use Rattle.rdf_model.specs.{Access, access_passes, access_printed, accesses, Course, Dataset, first_fault, Printed, printed}
 use Rattle.expr_read.proofs.ReadOnce.{read_once}
-use Rattle.table_csv.specs.Csv.{csv_records}
-use Rattle.command_words.specs.Asked.{asked_of}
-use Rattle.command_words.specs.declared.command.Command.{Command}
-use Rattle.command_words.specs.declared.command.Friend.{Friend}
-use Rattle.command_words.specs.declared.command.Input.{Input}
-use Rattle.command_words.specs.declared.command.Input.TheVariants as input
-use Rattle.rdf_values.specs.Generator.{generated_script}
-use Rattle.rdf_values.specs.Generator.{generated_table}
-use Rattle.friend_join.specs.JoinRefused.{join_of}
-use Rattle.result_text.specs.FriendLines.{friend_cause_line, join_cause_line, long_friend_line}
-use Rattle.input_files.specs.Answers.{Files}
-use Rattle.input_files.specs.Due.{Due, ReadsScript, WithFile, WithScript, WithTable, due_of, max_script, max_table}
-use Rattle.rdf_program.specs.Due.{IsDue, IsDueOver, IsDueToInput, IsDueToScript, IsPrinted, JoinsFriend, ReadsFriend, WithFriend, dataset_of}
-use Rattle.rdf_program.specs.Statuses.{printed_status, statuses}
+use Rattle.table_csv.specs.{csv_records}
+use Rattle.command_words.specs.{asked_of, Command, Friend, Input}
+use Rattle.friend_join.specs.{join_of}
+use Rattle.result_text.specs.{friend_cause_line, join_cause_line, long_friend_line}
+use Rattle.input_files.specs.{due_of, Files, max_script, max_table, ReadsScript, WithFile, WithScript, WithTable}
+use Rattle.input_files.specs.Due.{Due}
+use Rattle.rdf_program.specs.{dataset_of, IsDue, IsDueOver, IsDueToInput, IsDueToScript, IsPrinted, JoinsFriend, printed_status, ReadsFriend, statuses, WithFriend}
 use Rattle.rdf_program.specs.declared.status.Status.{Status}
 use Rattle.rdf_program.specs.declared.status.Status.TheVariants.{FriendRefused, ScriptRefused, TableRefused}
 
@@ -121,10 +103,10 @@ module _ (d e : Due Status) where
         (λ own v w. one_friend friend files own (λ t x. IsDueOver fns size watch script t x) (λ t x y. over script t x y) v w) p q) h g
 
     to_input : (files : Files) (named : Input) → IsDueToInput fns size watch files named d → IsDueToInput fns size watch files named e → Agree d e
-    to_input files (input.Files script table friend) h g =
+    to_input files (Input.Files script table friend) h g =
         one_file script (files script) (λ bytes u. WithScript statuses bytes (λ s v. IsDueToScript fns size watch s table friend files v) u)
         (λ bytes p q. one_text bytes (λ s v. IsDueToScript fns size watch s table friend files v) (λ s v w. to_script s table friend files v w) p q) h g
-    to_input files (input.Generated entries seed) h g =
+    to_input files (Input.Generated entries seed) h g =
         one_text generated_script (λ s u. WithTable statuses (generated_table entries seed) (λ t v. IsDueOver fns size watch s t v) u)
         (λ s p q. one_table (generated_table entries seed) (λ t v. IsDueOver fns size watch s t v) (λ t v w. over s t v w) p q) h g
 

@@ -1,31 +1,17 @@
 -- To all words and files an answer is due.
 use Rattle.std.proofs.Common.{◌≡◌, ℕ, Bool, true, false, List, length, Option, None, Some, Result, Ok, Err, MatchOption, MatchResult, nat_lt, inl, inr, refl}
 use Rattle.std.specs.Bool.{MatchBool}
-use Rattle.rdf_values.specs.Cuts.{cut, stride}
-use Rattle.rdf_values.specs.Functions.{Function, fn_names}
-use Rattle.rdf_values.specs.RefusalLines.{graph_cause_line, long_script_line, long_table_line, no_file_line, script_cause_line, table_cause_line}
-use Rattle.rdf_values.specs.TableText.{MarkedTable, table_of}
-use Rattle.rdf_values.specs.Verdict.{verdict}
-use Rattle.rdf_values.specs.declared.graph_cause.GraphCause.{GraphCause}
-use Rattle.rdf_values.specs.declared.script.Script.{Script}
-use Rattle.rdf_model.specs.PartialResults.{Course}
-use Rattle.rdf_model.specs.Transcript.{transcript}
+use Rattle.rdf_values.specs.{cut, fn_names, Function, generated_script, generated_table, graph_cause_line, GraphCause, long_script_line, long_table_line, MarkedTable, no_file_line, Script, script_cause_line, stride, table_cause_line, table_of, verdict}
+use Rattle.rdf_model.specs.{Course, transcript}
 use Rattle.script_read.proofs.Answered.{answered}
-use Rattle.table_csv.specs.Csv.{csv_records}
+use Rattle.table_csv.specs.{csv_records}
 use Rattle.event_loop.proofs.SomeChain.{first_sets, first_sets_are_a_chain}
-use Rattle.command_words.specs.Asked.{asked_of}
-use Rattle.command_words.specs.declared.command.Command.{Command}
-use Rattle.command_words.specs.declared.command.Friend.{Friend}
-use Rattle.command_words.specs.declared.command.Input.{Input}
-use Rattle.command_words.specs.declared.command.Input.TheVariants as input
-use Rattle.rdf_values.specs.Generator.{generated_script, generated_table}
-use Rattle.friend_join.specs.JoinRefused.{join_of}
-use Rattle.result_text.specs.FriendLines.{friend_cause_line, join_cause_line, long_friend_line}
-use Rattle.result_text.specs.RefusalText.{usage_line}
-use Rattle.input_files.specs.Answers.{Files}
-use Rattle.input_files.specs.Due.{Due, ReadsScript, WithFile, WithScript, WithTable, due_of, max_script, max_table}
-use Rattle.rdf_program.specs.Due.{IsDue, IsDueOver, IsDueToInput, IsDueToScript, IsPrinted, JoinsFriend, ReadsFriend, WithFriend, dataset_of}
-use Rattle.rdf_program.specs.Statuses.{printed_status, statuses}
+use Rattle.command_words.specs.{asked_of, Command, Friend, Input}
+use Rattle.friend_join.specs.{join_of}
+use Rattle.result_text.specs.{friend_cause_line, join_cause_line, long_friend_line, usage_line}
+use Rattle.input_files.specs.{due_of, Files, max_script, max_table, ReadsScript, WithFile, WithScript, WithTable}
+use Rattle.input_files.specs.Due.{Due}
+use Rattle.rdf_program.specs.{dataset_of, IsDue, IsDueOver, IsDueToInput, IsDueToScript, IsPrinted, JoinsFriend, printed_status, ReadsFriend, statuses, WithFriend}
 use Rattle.rdf_program.specs.declared.status.Status.{Status}
 use Rattle.rdf_program.specs.declared.status.Status.TheVariants.{FriendRefused, NoFile, ScriptRefused, TableRefused, Words}
 
@@ -102,10 +88,10 @@ module _ (fns : List Function) (size watch : ℕ) where
       (λ own. some_friend friend files own (λ t u. IsDueOver fns size watch script t u) (λ t. over script t)))
 
   to_input : (files : Files) (named : Input) → SomeDue (IsDueToInput fns size watch files named)
-  to_input files (input.Files script table friend) =
+  to_input files (Input.Files script table friend) =
       some_file script (files script) (λ bytes d. WithScript statuses bytes (λ s e. IsDueToScript fns size watch s table friend files e) d)
       (λ bytes. some_text bytes (λ s e. IsDueToScript fns size watch s table friend files e) (λ s. to_script s table friend files))
-  to_input files (input.Generated entries seed) =
+  to_input files (Input.Generated entries seed) =
       some_text generated_script (λ s d. WithTable statuses (generated_table entries seed) (λ t e. IsDueOver fns size watch s t e) d)
       (λ s. some_table (generated_table entries seed) (λ t e. IsDueOver fns size watch s t e) (λ t. over s t))
 

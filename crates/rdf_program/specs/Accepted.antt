@@ -1,24 +1,14 @@
 -- Runs that nothing refuses, and the status in which such a run ends.
 use Rattle.std.specs.Prelude.{◌≡◌, ◌≤◌, ℕ, Bool, false, List, Option, Some, None, Ok, length, is_some, if◌then◌else◌}
 use Rattle.std.specs.List.{list_any}
-use Rattle.rdf_values.specs.Bookings.{Pass}
-use Rattle.rdf_values.specs.Functions.{Function, fn_names}
-use Rattle.rdf_values.specs.Generator.{generated_script, generated_table}
-use Rattle.rdf_values.specs.Path.{history}
-use Rattle.rdf_values.specs.Scripts.{IsScript}
-use Rattle.rdf_values.specs.TableText.{MarkedTable, table_of}
-use Rattle.rdf_values.specs.Verdict.{verdict}
-use Rattle.rdf_values.specs.declared.script.Script.{Script}
-use Rattle.rdf_model.specs.Loops.{event_loops}
-use Rattle.rdf_model.specs.Results.{Dataset, first_fault}
-use Rattle.table_csv.specs.Csv.{csv_records}
-use Rattle.command_words.specs.Asked.{asked_of}
-use Rattle.command_words.specs.declared.command.Command.{Command}
-use Rattle.command_words.specs.declared.command.Friend.{Friend}
-use Rattle.command_words.specs.declared.command.Input.{Input}
+use Rattle.rdf_values.specs.{fn_names, Function, generated_script, generated_table, history, IsScript, MarkedTable, Pass, Script, table_of, verdict}
+use Rattle.rdf_model.specs.{Dataset, event_loops, first_fault}
+use Rattle.table_csv.specs.{csv_records}
+use Rattle.command_words.specs.{asked_of, Command, Friend, Input}
 use Rattle.command_words.specs.declared.command.Input.TheVariants.{Files, Generated}
-use Rattle.friend_join.specs.JoinRefused.{join_of}
-use Rattle.input_files.specs.Due.{Due, max_script, max_table}
+use Rattle.friend_join.specs.{join_of}
+use Rattle.input_files.specs.{max_script, max_table}
+use Rattle.input_files.specs.Due.{Due}
 use Rattle.rdf_program.specs.Due.{IsDue}
 use Rattle.rdf_program.specs.declared.status.Status.{Status}
 use Rattle.rdf_program.specs.declared.status.Status.TheVariants.{Done, LoopFault}

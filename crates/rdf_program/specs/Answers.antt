@@ -1,18 +1,11 @@
 -- What the program answers before anything is written.
 use Rattle.std.specs.Prelude.{◌≡◌, ◌⊎◌, ℕ, List, [], ◌∷◌, Option, Some, None, IfSome, IsSome, MatchOption}
-use Rattle.rdf_outside.specs.Outside.{Rose}
-use Rattle.rdf_values.specs.Functions.{Function}
-use Rattle.rdf_values.specs.RefusalLines.{read_failed_line}
-use Rattle.rdf_values.specs.TableText.{MarkedTable}
-use Rattle.rdf_values.specs.declared.script.Script.{Script}
-use Rattle.command_words.specs.Asked.{asked_of}
-use Rattle.command_words.specs.declared.command.Friend.{Friend}
-use Rattle.command_words.specs.declared.command.Input.{Input}
-use Rattle.command_words.specs.declared.command.Input.TheVariants as input
-use Rattle.input_files.specs.Answers.{Files, IsLast}
-use Rattle.input_files.specs.Due.{Due, due_of}
-use Rattle.input_files.specs.Reading.{HoldsTheScript, HoldsTheTable}
-use Rattle.result_text.specs.RefusalText.{usage_line}
+use Rattle.rdf_outside.specs.{Rose}
+use Rattle.rdf_values.specs.{Function, MarkedTable, read_failed_line, Script}
+use Rattle.command_words.specs.{asked_of, Friend, Input}
+use Rattle.input_files.specs.{due_of, Files, HoldsTheScript, HoldsTheTable, IsLast}
+use Rattle.input_files.specs.Due.{Due}
+use Rattle.result_text.specs.{usage_line}
 use Rattle.rdf_program.specs.Due.{IsDueToFiles, IsDueToMade}
 use Rattle.rdf_program.specs.declared.answer.Answer.{Answer}
 use Rattle.rdf_program.specs.declared.status.Status.{Status}
@@ -83,12 +76,12 @@ module _ (script table : List ℕ) (friend : Option Friend) (told : Option Files
 
 -- none with the generator's input
 abbrev pub AreTurnsIn : Input → Option Files → List (List ℕ) → Type 0
-AreTurnsIn (input.Files script table friend) told turns = AreTurnsTo script table friend told turns
-AreTurnsIn (input.Generated entries seed) told turns = turns ≡ []
+AreTurnsIn (Input.Files script table friend) told turns = AreTurnsTo script table friend told turns
+AreTurnsIn (Input.Generated entries seed) told turns = turns ≡ []
 
 abbrev pub MayReadIn : Input → Option Files → List (List ℕ) → List ℕ → Type 0
-MayReadIn (input.Files script table friend) told turns name = MayReadOf script table friend told turns name
-MayReadIn (input.Generated entries seed) told turns name = ⊥
+MayReadIn (Input.Files script table friend) told turns name = MayReadOf script table friend told turns name
+MayReadIn (Input.Generated entries seed) told turns name = ⊥
 
 -- none where the words aren't taken
 abbrev pub AreTurns : List (List ℕ) → Option Files → List (List ℕ) → Type 0
@@ -101,9 +94,9 @@ MayRead words told turns name = MatchOption (asked_of words) ⊥ (λ command. Ma
 
 -- the answer to what the command names
 abbrev pub AnswersInput : List Function → ℕ → ℕ → Input → Option Files → List (List ℕ) → ℕ → ℕ → Answer → Type 0
-AnswersInput fns size watch (input.Files script table friend) told turns before now answer =
+AnswersInput fns size watch (Input.Files script table friend) told turns before now answer =
     IsAnswer (IsDueToFiles fns size watch script table friend) (MayReadOf script table friend told turns) told before now answer
-AnswersInput fns size watch (input.Generated entries seed) told turns before now answer = Answers (IsDueToMade fns size watch entries seed) answer
+AnswersInput fns size watch (Input.Generated entries seed) told turns before now answer = Answers (IsDueToMade fns size watch entries seed) answer
 
 -- the usage line, where the words aren't taken
 abbrev pub AnswersWords : List Function → List (List ℕ) → Option Files → List (List ℕ) → ℕ → ℕ → Answer → Type 0

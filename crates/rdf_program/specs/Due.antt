@@ -1,27 +1,14 @@
 -- What is due to the words, the files and the caller's functions: a status and the bytes that are written with it.
 use Rattle.std.specs.Prelude.{◌≡◌, ℕ, List, Option, Some, None, length, nat_lt, MatchOption, MatchResult}
 use Rattle.std.specs.Bool.{MatchBool}
-use Rattle.rdf_values.specs.Functions.{Function, fn_names}
-use Rattle.rdf_values.specs.Generator.{generated_script, generated_table}
-use Rattle.rdf_values.specs.Path.{history}
-use Rattle.rdf_values.specs.RefusalLines.{graph_cause_line}
-use Rattle.rdf_values.specs.TableText.{MarkedTable, table_of}
-use Rattle.rdf_values.specs.Tables.{TableView}
-use Rattle.rdf_values.specs.Verdict.{verdict}
-use Rattle.rdf_values.specs.declared.script.Script.{Script}
-use Rattle.rdf_model.specs.PartialResults.{Course, IsCourse}
-use Rattle.rdf_model.specs.Results.{Dataset}
-use Rattle.rdf_model.specs.Transcript.{transcript}
-use Rattle.table_csv.specs.Csv.{csv_records}
-use Rattle.command_words.specs.Asked.{asked_of}
-use Rattle.command_words.specs.declared.command.Friend.{Friend}
-use Rattle.command_words.specs.declared.command.Input.{Input}
-use Rattle.command_words.specs.declared.command.Input.TheVariants as input
-use Rattle.friend_join.specs.JoinRefused.{join_of}
-use Rattle.result_text.specs.FriendLines.{friend_cause_line, join_cause_line, long_friend_line}
-use Rattle.result_text.specs.RefusalText.{usage_line}
-use Rattle.input_files.specs.Answers.{Files}
-use Rattle.input_files.specs.Due.{Due, WithFile, WithScript, WithScriptFile, WithTable, WithTableFile, due_of, max_table}
+use Rattle.rdf_values.specs.{fn_names, Function, generated_script, generated_table, graph_cause_line, history, MarkedTable, Script, table_of, TableView, verdict}
+use Rattle.rdf_model.specs.{Course, Dataset, IsCourse, transcript}
+use Rattle.table_csv.specs.{csv_records}
+use Rattle.command_words.specs.{asked_of, Friend, Input}
+use Rattle.friend_join.specs.{join_of}
+use Rattle.result_text.specs.{friend_cause_line, join_cause_line, long_friend_line, usage_line}
+use Rattle.input_files.specs.{due_of, Files, max_table, WithFile, WithScript, WithScriptFile, WithTable, WithTableFile}
+use Rattle.input_files.specs.Due.{Due}
 use Rattle.rdf_program.specs.Statuses.{printed_status, statuses}
 use Rattle.rdf_program.specs.declared.status.Status.{Status}
 use Rattle.rdf_program.specs.declared.status.Status.TheVariants.{Words, ScriptRefused, FriendRefused}
@@ -85,8 +72,8 @@ module _ (fns : List Function) (size watch : ℕ) where
 
   -- to what the command names
   abbrev pub IsDueToInput : Files → Input → Due Status → Type 0
-  IsDueToInput files (input.Files script table friend) due = IsDueToFiles script table friend files due
-  IsDueToInput files (input.Generated entries seed) due = IsDueToMade entries seed due
+  IsDueToInput files (Input.Files script table friend) due = IsDueToFiles script table friend files due
+  IsDueToInput files (Input.Generated entries seed) due = IsDueToMade entries seed due
 
 -- to the words: the usage line, where they aren't taken
 abbrev pub IsDue : List Function → List (List ℕ) → Files → Due Status → Type 0

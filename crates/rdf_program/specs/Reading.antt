@@ -1,18 +1,10 @@
 -- What reading a friend, or the generator's table, comes to.
 use Rattle.std.specs.Prelude.{◌≡◌, ℕ, List, [], Option, Some, Ok}
 use Rattle.columns.specs.ColumnsView.{ColumnsView}
-use Rattle.rdf_values.specs.Generator.{generated_table}
-use Rattle.rdf_values.specs.TableText.{table_of}
-use Rattle.table_csv.specs.ColumnsOver.{columns_over, marked_in}
-use Rattle.table_csv.specs.Csv.{csv_records}
-use Rattle.table_csv.specs.declared.marked_pieces.MarkedPieces.{MarkedPieces}
-use Rattle.input_files.specs.Answers.{Files}
-use Rattle.input_files.specs.Due.{due_of}
-use Rattle.input_files.specs.Fetching.{Tells}
-use Rattle.input_files.specs.Reading.{HoldsTheTable, RefusesTableFile, marked_table}
+use Rattle.rdf_values.specs.{generated_table, table_of}
+use Rattle.table_csv.specs.{columns_over, csv_records, marked_in, MarkedPieces}
+use Rattle.input_files.specs.{due_of, Files, HoldsTheTable, marked_table, ReadFile, RefusesTableFile, Tells}
 use Rattle.input_files.specs.declared.file_cause.FileCause.TheVariants.{TableRefused}
-use Rattle.input_files.specs.declared.read_file.ReadFile.{ReadFile}
-use Rattle.input_files.specs.declared.read_file.ReadFile.TheVariants as file
 use Rattle.rdf_program.specs.Answers.{Answers, IsAnswer}
 use Rattle.rdf_program.specs.Due.{ReadsFriend, WithFriendFile}
 use Rattle.rdf_program.specs.declared.answer.Read.{Read}
@@ -30,5 +22,5 @@ ReadsFriendFile told name before now (Refused a) = IsAnswer (λ files d. WithFri
 
 -- the columns of the generator's table, as a file would hold it, over clusters of at most that size
 abbrev pub ReadsMade : ℕ → ℕ → ℕ → ReadFile ColumnsView → Type 0
-ReadsMade entries seed size (file.Whole columns) = HoldsTheTable (marked_in columns) (Some (generated_table entries seed)) × (columns ≡ columns_over (marked_in columns) size)
-ReadsMade entries seed size (file.Refused r) = (r.cause ≡ TableRefused) × RefusesTableFile [] (Some (generated_table entries seed)) (due_of r.cause r.line)
+ReadsMade entries seed size (ReadFile.Whole columns) = HoldsTheTable (marked_in columns) (Some (generated_table entries seed)) × (columns ≡ columns_over (marked_in columns) size)
+ReadsMade entries seed size (ReadFile.Refused r) = (r.cause ≡ TableRefused) × RefusesTableFile [] (Some (generated_table entries seed)) (due_of r.cause r.line)

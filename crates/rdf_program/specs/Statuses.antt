@@ -1,6 +1,6 @@
 -- Statuses as numbers.
 use Rattle.std.specs.Prelude.{ℕ, zero, suc}
-use Rattle.input_files.specs.Due.{FileStatuses}
+use Rattle.input_files.specs.{FileStatuses}
 use Rattle.rdf_program.specs.declared.status.Status.{Status}
 use Rattle.rdf_program.specs.declared.status.Status.TheVariants.{Done, Memory, Words, ReadFault, WriteFault, NoFile, ScriptRefused, TableRefused, LoopFault, FriendRefused}
 

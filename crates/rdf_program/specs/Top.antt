@@ -1,19 +1,16 @@
 -- What the top call leaves written where a read or a write failed, and the files that it turned to.
 use Rattle.std.specs.Prelude.{◌≡◌, ◌⊎◌, ℕ, List, ◌++◌, Option, IfSome, MatchOption}
-use Rattle.rdf_outside.specs.Outside.{Rose, Appends, AppendsPart}
-use Rattle.rdf_values.specs.Functions.{Function}
-use Rattle.rdf_values.specs.RefusalLines.{read_failed_line}
-use Rattle.command_words.specs.Asked.{asked_of}
-use Rattle.command_words.specs.declared.command.Input.{Input}
-use Rattle.command_words.specs.declared.command.Input.TheVariants as input
-use Rattle.input_files.specs.Answers.{Files, WritesDuePart}
+use Rattle.rdf_outside.specs.{Appends, AppendsPart, Rose}
+use Rattle.rdf_values.specs.{Function, read_failed_line}
+use Rattle.command_words.specs.{asked_of, Input}
+use Rattle.input_files.specs.{Files, WritesDuePart}
 use Rattle.rdf_program.specs.Due.{IsDue}
 use Rattle.rdf_program.specs.Answers.{AreTurns, MayRead}
 
 -- the words ask for a run over two files
 abbrev pub NamesFiles : Input → Type 0
-NamesFiles (input.Files script table friend) = Unit {0}
-NamesFiles (input.Generated entries seed) = ⊥
+NamesFiles (Input.Files script table friend) = Unit {0}
+NamesFiles (Input.Generated entries seed) = ⊥
 
 abbrev pub NameFiles : List (List ℕ) → Type 0
 NameFiles words = MatchOption (asked_of words) ⊥ (λ command. NamesFiles command.input)

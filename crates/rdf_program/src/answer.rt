@@ -1,8 +1,8 @@
 // What the program answers.
 ghost use Rattle.std.specs.Prelude.{◌≡◌, IfOk};
-ghost use Rattle.input_files.specs.Reading.{status_for};
-ghost use Rattle.result_text.specs.RefusalText.{refusal_text};
-ghost use Rattle.rdf_program.specs.Statuses.{statuses};
+ghost use Rattle.input_files.specs.{status_for};
+ghost use Rattle.result_text.specs.{refusal_text};
+ghost use Rattle.rdf_program.specs.{statuses};
 
 use crate::status::Status;
 use input_files::{FileCause, FileRefusal};

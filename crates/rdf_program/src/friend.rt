@@ -1,14 +1,9 @@
 // The friend of a table, and what is due to a script over both.
 ghost use Rattle.std.specs.Prelude.{◌≡◌, ◌≤◌, ◌<◌, ◌++◌, ◌∷◌, [], All, IfOk, Some, length};
-ghost use Rattle.entry_fns.specs.Lists.{functions_in};
-ghost use Rattle.input_files.specs.Reading.{marked_table};
-ghost use Rattle.rdf_values.specs.Bookable.{IsBookable};
-ghost use Rattle.rdf_values.specs.Path.{history};
-ghost use Rattle.rdf_values.specs.Words.{StatementsHaveWords};
-ghost use Rattle.rdf_program.specs.Answers.{IsAnswer};
-ghost use Rattle.rdf_program.specs.Due.{IsDueOver, WithFriend};
-ghost use Rattle.rdf_program.specs.Reading.{ReadsFriendFile, ReadsFriendText};
-ghost use Rattle.rdf_program.specs.Running.{AreSettings};
+ghost use Rattle.entry_fns.specs.{functions_in};
+ghost use Rattle.input_files.specs.{marked_table};
+ghost use Rattle.rdf_values.specs.{history, IsBookable, StatementsHaveWords};
+ghost use Rattle.rdf_program.specs.{AreSettings, IsAnswer, IsDueOver, ReadsFriendFile, ReadsFriendText, WithFriend};
 
 use crate::answer::{Answer, Read};
 use crate::means::Means;

@@ -1,10 +1,8 @@
 // What the program answers to a script and a table, read from files or made.
 ghost use Rattle.std.specs.Prelude.{◌≡◌, ◌≤◌, ◌++◌, IfOk, List, OnOk, ℕ};
-ghost use Rattle.entry_fns.specs.Lists.{functions_in};
-ghost use Rattle.rdf_program.specs.Answers.{Answers, AreTurnsTo, IsAnswer, MayReadOf};
-ghost use Rattle.rdf_program.specs.Due.{IsDueToFiles, IsDueToMade};
-ghost use Rattle.rdf_program.specs.Reading.{ReadsMade};
-ghost use Rattle.rdf_program.specs.Running.{AreSettings};
+ghost use Rattle.entry_fns.specs.{functions_in};
+ghost use Rattle.rdf_program.specs.{AreSettings, AreTurnsTo, IsAnswer, IsDueToFiles, IsDueToMade, MayReadOf, ReadsMade};
+ghost use Rattle.rdf_program.specs.Answers.{Answers};
 
 use crate::answer::Answer;
 use crate::friend::answer_with_friend;

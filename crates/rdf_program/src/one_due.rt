@@ -1,9 +1,8 @@
 // The laws that an answer is due, with one status, and which status ends an accepted run.
 ghost use Rattle.std.specs.Prelude.{◌≡◌, ℕ, List, Option};
-ghost use Rattle.rdf_values.specs.Functions.{Function};
+ghost use Rattle.rdf_values.specs.{Function};
 ghost use Rattle.input_files.specs.Due.{Due};
-ghost use Rattle.rdf_program.specs.Accepted.{AcceptedRunsEnd};
-ghost use Rattle.rdf_program.specs.Due.{IsDue};
+ghost use Rattle.rdf_program.specs.{AcceptedRunsEnd, IsDue};
 ghost use Rattle.rdf_program.specs.declared.status.Status.{Status};
 
 /// To all words and files an answer is due, and all that are due to the same ones have one status. Their bytes may differ in

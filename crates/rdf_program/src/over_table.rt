@@ -1,14 +1,10 @@
 // What is due to a script over a table.
 ghost use Rattle.std.specs.Prelude.{◌≡◌, IfOk};
-ghost use Rattle.entry_fns.specs.Lists.{functions_in};
-ghost use Rattle.rdf_values.specs.Bookable.{IsBookable};
-ghost use Rattle.rdf_values.specs.Path.{history};
-ghost use Rattle.rdf_values.specs.Words.{StatementsHaveWords};
-ghost use Rattle.rdf_values.specs.Functions.{fn_names};
+ghost use Rattle.entry_fns.specs.{functions_in};
+ghost use Rattle.rdf_values.specs.{fn_names, history, IsBookable, StatementsHaveWords};
 ghost use Rattle.rdf_program.specs.Answers.{Answers};
-ghost use Rattle.rdf_program.specs.Due.{IsDueOver, IsPrinted};
-ghost use Rattle.rdf_program.specs.Running.{AreSettings};
-ghost use Rattle.table_csv.specs.ColumnsOver.{columns_over, marked_in};
+ghost use Rattle.rdf_program.specs.{AreSettings, IsDueOver, IsPrinted};
+ghost use Rattle.table_csv.specs.{columns_over, marked_in};
 
 use crate::answer::Answer;
 use crate::means::Means;

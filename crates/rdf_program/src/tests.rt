@@ -1,6 +1,6 @@
 // Whole runs over files in memory: what no case of `cases/` can show.
 ghost use Rattle.std.specs.Prelude.{◌≡◌, IfOk};
-ghost use Rattle.rdf_outside.specs.Memory.{shelf_made};
+ghost use Rattle.rdf_outside.specs.{shelf_made};
 
 use super::*;
 use entry_fns::FnList;

@@ -1,13 +1,10 @@
 // The top call.
 ghost use Rattle.std.specs.Prelude.{◌≡◌, ◌⊎◌, [], List, ℕ};
-ghost use Rattle.entry_fns.specs.Lists.{functions_in};
-ghost use Rattle.result_text.specs.RefusalText.{usage_line};
-ghost use Rattle.rdf_outside.specs.Outside.{Rose, Appends};
-ghost use Rattle.input_files.specs.Answers.{WritesDue};
-ghost use Rattle.rdf_program.specs.Answers.{AreTaken};
-ghost use Rattle.rdf_program.specs.Due.{IsDue};
-ghost use Rattle.rdf_program.specs.Statuses.{IsFinal};
-ghost use Rattle.rdf_program.specs.Top.{OfFiles, TurnsBesides, WritesPart, WritesReadFailed};
+ghost use Rattle.entry_fns.specs.{functions_in};
+ghost use Rattle.result_text.specs.{usage_line};
+ghost use Rattle.rdf_outside.specs.{Appends, Rose};
+ghost use Rattle.input_files.specs.{WritesDue};
+ghost use Rattle.rdf_program.specs.{AreTaken, IsDue, IsFinal, OfFiles, TurnsBesides, WritesPart, WritesReadFailed};
 
 use crate::status::Status;
 use crate::words::answer_words;

@@ -1,8 +1,7 @@
 // What the program answers to its words, before anything is written.
 ghost use Rattle.std.specs.Prelude.{IfOk, OnOk};
-ghost use Rattle.entry_fns.specs.Lists.{functions_in};
-ghost use Rattle.rdf_program.specs.Answers.{AnswersWords};
-ghost use Rattle.rdf_program.specs.Top.{TurnsBesides};
+ghost use Rattle.entry_fns.specs.{functions_in};
+ghost use Rattle.rdf_program.specs.{AnswersWords, TurnsBesides};
 
 use crate::answer::Answer;
 use crate::input::{answer_files, answer_made};

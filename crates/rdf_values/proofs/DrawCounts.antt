@@ -1,6 +1,5 @@
 -- How often numbers stand in lists, and lists with the same counts.
-use Rattle.std.proofs.Common.{◌≡◌, ℕ, zero, suc, ◌+◌, ◌<◌, List, [], ◌∷◌, ◌++◌, map, cond, true, false, refl, sym, ap, ◌∙◌, ⊎_elim, arith, get_or}
-use Rattle.std.specs.Prelude.{◌==◌, IsPermutation}
+use Rattle.std.proofs.Common.{◌≡◌, ℕ, zero, suc, ◌+◌, ◌<◌, List, [], ◌∷◌, ◌++◌, map, cond, true, false, refl, sym, ap, ◌∙◌, ⊎_elim, arith, get_or, ◌==◌, IsPermutation}
 use lib.Dec.{ltb}
 use Rattle.std.specs.List.{All, Contains, concat, sum_by, remove}
 use Rattle.std.specs.List.Sorted.{IsStrictlyIncreasing}
@@ -9,9 +8,7 @@ use Rattle.std.proofs.lemmas.Grind.{common_steps}
 use Rattle.std.proofs.lemmas.List.Elements.{Contains-append_right}
 use Rattle.std.proofs.lemmas.List.Sorted.{IsPermutation-refl, IsPermutation-cons, IsPermutation-remove, IsPermutation-trans, sum_by-IsPermutation}
 use Rattle.std.proofs.lemmas.List.Sums.{sum_by-cons, sum_by-append, sum_by_push}
-use Rattle.rdf_values.specs.Cuts.{below}
-use Rattle.rdf_values.specs.Draws.{DrawnBy}
-use Rattle.rdf_values.specs.Times.{times, once_below, SharedOut}
+use Rattle.rdf_values.specs.{below, DrawnBy, once_below, SharedOut, times}
 
 -- 1 where y is x
 abbrev pub one_if : ℕ → ℕ → ℕ

@@ -1,7 +1,6 @@
 -- The first items of a list.
-use Rattle.std.proofs.Common.{◌≡◌, ◌+◌, ◌∙◌, ◌++◌, ◌∷◌, [], ℕ, List, Some, ap, append_assoc, length, sym, take}
-use Rattle.std.specs.Prelude.{slice_get}
-use Rattle.lemmas.proofs.Parts.{take_next}
+use Rattle.std.proofs.Common.{◌≡◌, ◌+◌, ◌∙◌, ◌++◌, ◌∷◌, [], ℕ, List, Some, ap, append_assoc, length, sym, take, slice_get}
+use Rattle.lemmas.proofs.{take_next}
 use Rattle.std.proofs.Math.Seq.{take-append_seam}
 
 -- with the one behind them

@@ -1,12 +1,9 @@
 -- The lines of refusals, and the generator's table, computed.
 use Rattle.std.specs.Prelude.{[], ◌∷◌, codes, refl}
 use Rattle.std.specs.Fmt.{digits}
-use Rattle.rdf_values.specs.Generator.{entry_line, generated_table, residues}
-use Rattle.rdf_values.specs.RefusalLines.{read_failed_line, no_file_line, script_cause_line, graph_cause_line, table_cause_line}
+use Rattle.rdf_values.specs.{entry_line, generated_table, graph_cause_line, no_file_line, read_failed_line, residues, script_cause_line, ScriptCause, table_cause_line, TableCause}
 use Rattle.rdf_values.specs.declared.expr_cause.ExprCause.TheVariants.{BadNumber}
-use Rattle.rdf_values.specs.declared.script_cause.ScriptCause.TheVariants as text
 use Rattle.rdf_values.specs.declared.graph_cause.GraphCause.TheVariants.{AliasTarget, WrongKind}
-use Rattle.rdf_values.specs.declared.table_cause.TableCause.TheVariants as table
 use Rattle.rdf_values.proofs.Examples.{shown, AreDue}
 
 -- ---- refusals
@@ -14,16 +11,16 @@ use Rattle.rdf_values.proofs.Examples.{shown, AreDue}
 pub refusals_are_told : AreDue (
     shown "a read that failed" (read_failed_line (codes "s.txt")) (codes "read failed: s.txt\n")
     ∷ shown "a file that is missing" (no_file_line (codes "a.csv")) (codes "no file a.csv\n")
-    ∷ shown "a bad token" (script_cause_line (text.Syntax 1 13)) (codes "script refused at line 1 place 13: S1 Syntax\n")
-    ∷ shown "a bad expression" (script_cause_line (text.Expression 1 20 BadNumber)) (codes "script refused at line 1 place 20: E2 BadNumber\n")
-    ∷ shown "too many statements" (script_cause_line (text.TooMany 257)) (codes "script refused at line 257: S13 TooMany\n")
+    ∷ shown "a bad token" (script_cause_line (ScriptCause.Syntax 1 13)) (codes "script refused at line 1 place 13: S1 Syntax\n")
+    ∷ shown "a bad expression" (script_cause_line (ScriptCause.Expression 1 20 BadNumber)) (codes "script refused at line 1 place 20: E2 BadNumber\n")
+    ∷ shown "too many statements" (script_cause_line (ScriptCause.TooMany 257)) (codes "script refused at line 257: S13 TooMany\n")
     ∷ shown "an alias that is changed" (graph_cause_line 2 AliasTarget) (codes "script refused at line 2: S10 AliasTarget\n")
     ∷ shown "a take that is watched" (graph_cause_line 2 WrongKind) (codes "script refused at line 2: S14 WrongKind\n")
-    ∷ shown "a bad header" (table_cause_line (table.Header 0)) (codes "table refused at header field 0: B1 Header\n")
-    ∷ shown "a short entry" (table_cause_line (table.FieldCount 3)) (codes "table refused at entry 3: B2 FieldCount\n")
-    ∷ shown "a bad number" (table_cause_line (table.BadInt 0 0)) (codes "table refused at entry 0 field 0: B3 BadInt\n")
-    ∷ shown "a bad vector" (table_cause_line (table.BadVec 0 2)) (codes "table refused at entry 0 field 2: B4 BadVec\n")
-    ∷ shown "a bad mark" (table_cause_line (table.BadCut 1 1)) (codes "table refused at entry 1 field 1: B6 BadCut\n")
+    ∷ shown "a bad header" (table_cause_line (TableCause.Header 0)) (codes "table refused at header field 0: B1 Header\n")
+    ∷ shown "a short entry" (table_cause_line (TableCause.FieldCount 3)) (codes "table refused at entry 3: B2 FieldCount\n")
+    ∷ shown "a bad number" (table_cause_line (TableCause.BadInt 0 0)) (codes "table refused at entry 0 field 0: B3 BadInt\n")
+    ∷ shown "a bad vector" (table_cause_line (TableCause.BadVec 0 2)) (codes "table refused at entry 0 field 2: B4 BadVec\n")
+    ∷ shown "a bad mark" (table_cause_line (TableCause.BadCut 1 1)) (codes "table refused at entry 1 field 1: B6 BadCut\n")
     ∷ [])
 unfolding digits
 refusals_are_told = refl

@@ -1,28 +1,12 @@
 -- The script that a text of at most 65,536 bytes is can be booked.
-use Rattle.std.proofs.Common.{◌≡◌, ℕ, zero, suc, ◌+◌, ◌<◌, ◌≤◌, Bool, true, false, List, [], ◌∷◌, ◌++◌, length, drop, Some, None, Ok, Err, Result, refl, ap, arith, length-append, if◌then◌else◌}
-use Rattle.std.specs.Prelude.{ℤ, ◌&&◌, ◌==◌}
+use Rattle.std.proofs.Common.{◌≡◌, ℕ, zero, suc, ◌+◌, ◌<◌, ◌≤◌, Bool, true, false, List, [], ◌∷◌, ◌++◌, length, drop, Some, None, Ok, Err, Result, refl, ap, arith, length-append, if◌then◌else◌, ℤ, ◌&&◌, ◌==◌}
 use Rattle.std.specs.List.{AllByRecursion}
 use Rattle.std.proofs.lemmas.List.{length-map}
 use Rattle.std.proofs.lemmas.List.Elements.{All-from_recursion}
-use Rattle.rdf_values.specs.Grammar.{ReadsList, ReadsLists, ReadsValues, last_item, more_items, last_list, more_lists, one_list, several_lists, vector, bare}
-use Rattle.rdf_values.specs.LineForms.{Form, Method, maybe_string, more_strings, strings_tokens, more_edges, edges_tokens, arguments, form_tokens}
+use Rattle.rdf_values.specs.{ActionKind, all_strings, and_then, AreLines, AreNames, AreRising, AreShortValues, arguments, Bad, bare, bare_tokens, before, begins_with, behind, Blank, blank_line, blanks, Close, Comma, Comment, edges_tokens, expression_count, First, first_token, Form, form_tokens, Found, IsAction, IsBookable, IsLine, IsScript, IsShort, last_item, last_list, Lexeme, lexeme, Line, lines_of, Mark, maybe_string, Method, more_edges, more_items, more_lists, more_names, more_strings, NamedTree, no_lines, no_names, one_list, Placed, PlacedToken, Punct, Quoted, QuotedText, ReadsList, ReadsLists, ReadsValues, ReadsValuesText, Refusal, Says, Script, several_lists, Statement, statement_line, strings_tokens, Token, tokens, tokens_at, tokens_from, VaryValues, vector, with_byte, with_lexeme, with_token}
 use Rattle.rdf_values.specs.LineForms as form
-use Rattle.rdf_values.specs.LineTokens.{Close, Comma, Quoted, QuotedText, PlacedToken, Lexeme, Blank, Comment, Bad, Found, lexeme, with_token, with_lexeme, tokens_from, bare_tokens}
-use Rattle.rdf_values.specs.Scans.{ReadsValuesText}
-use Rattle.rdf_values.specs.ScriptLines.{lines_of, begins_with, with_byte}
-use Rattle.rdf_values.specs.Scripts.{IsLine, AreLines, no_lines, blank_line, statement_line, IsScript}
-use Rattle.rdf_values.specs.Statements.{AreNames, no_names, more_names, IsAction, Says, all_strings}
 use Rattle.rdf_values.specs.Statements as says
-use Rattle.rdf_values.specs.Tokens.{Token, Punct, Placed, Refusal, First, first_token, before, and_then, behind, blanks, tokens_at, tokens}
-use Rattle.rdf_values.specs.declared.script.Line.{Line}
-use Rattle.rdf_values.specs.declared.script.Script.{Script}
-use Rattle.rdf_values.specs.declared.statement.Statement.{Statement}
 use Rattle.rdf_values.specs.declared.statement.Statement.TheVariants.{Action}
-use Rattle.rdf_values.specs.declared.action.ActionKind.{ActionKind}
-use Rattle.rdf_values.specs.declared.expr.Mark.TheVariants as mark
-use Rattle.rdf_values.specs.Tree.{NamedTree}
-use Rattle.rdf_values.specs.declared.vary_values.VaryValues.{VaryValues}
-use Rattle.rdf_values.specs.Bookable.{expression_count, AreShortValues, IsShort, AreRising, IsBookable}
 
 -- ---- an expression has at most 256 tokens
 
@@ -51,20 +35,20 @@ few_tokens text ts e = few_at 256 (0 + blanks text) (behind 0 text) ts e
 list_few : (ts : List Token) (es : List NamedTree) → ReadsList ts es → length es ≤ suc (length ts)
 list_few ts es (last_item h) = omega arith
 list_few vs es (more_items {ts = ts} {us = us} {es = rest} h k e) =
-    let n = ap length e in let m = length-append ts (Punct mark.Comma ∷ us) in let q = list_few us rest k in omega (arith, n, m, q)
+    let n = ap length e in let m = length-append ts (Punct Mark.Comma ∷ us) in let q = list_few us rest k in omega (arith, n, m, q)
 
 lists_few : (ts : List Token) (ls : List (List NamedTree)) → ReadsLists ts ls → (length ls ≤ length ts) × (expression_count ls ≤ length ts)
 lists_few us ls (last_list {ts = ts} {es = es} h e) =
-    let n = ap length e in let m = length-append ts (Punct mark.CloseBrace ∷ []) in let q = list_few ts es h in (omega (arith, n, m), omega (arith, n, m, q))
+    let n = ap length e in let m = length-append ts (Punct Mark.CloseBrace ∷ []) in let q = list_few ts es h in (omega (arith, n, m), omega (arith, n, m, q))
 lists_few vs ls (more_lists {ts = ts} {us = us} {es = es} {ls = rest} h k e) =
-    let n = ap length e in let m = length-append ts (Punct mark.CloseBrace ∷ Punct mark.Comma ∷ us) in let q = list_few ts es h in let r = lists_few us rest k in
+    let n = ap length e in let m = length-append ts (Punct Mark.CloseBrace ∷ Punct Mark.Comma ∷ us) in let q = list_few ts es h in let r = lists_few us rest k in
     let small = r.0 in let few = r.1 in (omega (arith, n, m, small), omega (arith, n, m, q, few))
 
 short_values : (ts : List Token) (vs : VaryValues) → length ts ≤ 256 → ReadsValues ts vs → AreShortValues vs
 short_values us vs le (one_list {ts = ts} {es = es} h e) =
-    let n = ap length e in let m = length-append ts (Punct mark.CloseBrace ∷ []) in let q = list_few ts es h in (omega arith, omega (arith, n, m, q, le))
+    let n = ap length e in let m = length-append ts (Punct Mark.CloseBrace ∷ []) in let q = list_few ts es h in (omega arith, omega (arith, n, m, q, le))
 short_values us vs le (several_lists {ts = ts} {ls = ls} h e) =
-    let n = ap length e in let m = length-append ts (Punct mark.CloseBrace ∷ []) in let q = lists_few ts ls h in let small = q.0 in let few = q.1 in
+    let n = ap length e in let m = length-append ts (Punct Mark.CloseBrace ∷ []) in let q = lists_few ts ls h in let small = q.0 in let few = q.1 in
     (omega (arith, n, m, small, le), omega (arith, n, m, few, le))
 short_values ts vs le (vector h) = tt
 

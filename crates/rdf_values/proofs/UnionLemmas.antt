@@ -9,10 +9,7 @@ use Rattle.std.proofs.lemmas.List.Kept.{IsStrictlyIncreasing-filter}
 use native.Mathlib.Numerals.{unary_clauses}
 use Rattle.std.proofs.lemmas.List.Elements.{All-nil, All-cons, All-head, All-tail, All-push, All-weaker}
 use Rattle.std.proofs.lemmas.List.Sums.{sum_by-cons}
-use Rattle.rdf_values.specs.Cuts.{below}
-use Rattle.rdf_values.specs.Draws.{IsUnion}
-use Rattle.rdf_values.specs.Times.{times}
-use Rattle.rdf_values.specs.UnionLaws.{UnionIsOne, NoneIsNeutral, OrderDoesNotMatter, UniteFromEitherSide, DrawnListsUnite}
+use Rattle.rdf_values.specs.{below, DrawnListsUnite, IsUnion, NoneIsNeutral, OrderDoesNotMatter, times, UnionIsOne, UniteFromEitherSide}
 use Rattle.rdf_values.proofs.DrawCounts.{rises_push, one_if, times_cons, times_self, times_other, times_concat, times_permuted, permuted_by_counts}
 
 -- ---- rising lists

@@ -1,14 +1,10 @@
 -- The elements of a vector's text, part by part.
-use Rattle.std.proofs.Common.{if◌then◌else◌, ◌≡◌, ◌<◌, ◌≤◌, ◌+◌, ◌-◌, ◌∙◌, ℕ, ℤ, List, [], ◌∷◌, ◌++◌, length, Bool, true, false, None, Some, Option, Result, Ok, Err, ap, append_assoc, arith, refl, suc, sym, length-append, take, drop, get_or}
+use Rattle.std.proofs.Common.{if◌then◌else◌, ◌≡◌, ◌<◌, ◌≤◌, ◌+◌, ◌-◌, ◌∙◌, ℕ, ℤ, List, [], ◌∷◌, ◌++◌, length, Bool, true, false, None, Some, Option, Result, Ok, Err, ap, append_assoc, arith, refl, suc, sym, length-append, take, drop, get_or, IfOk, nat_le, leb, ◌==◌, ◌&&◌}
 use Rattle.std.specs.Borrow.{Bor}
-use Rattle.std.specs.Prelude.{IfOk, nat_le, leb, ◌==◌, ◌&&◌}
 use Rattle.std.specs.List.{slice_split, All}
 use Rattle.std.proofs.lemmas.List.{append-nil, drop_more, length-drop, take-append-drop, take_all}
 use Rattle.std.proofs.lemmas.Bool.Decides.{nat_tests}
-use Rattle.rdf_values.specs.Integers.{integer_of, IsLeading, begins_badly, magnitude_of, negative, positive}
-use Rattle.rdf_values.specs.Elements.{AreRead, HasNoElement, IsElement}
-use Rattle.rdf_values.specs.declared.memory.Memory.{Memory}
-use Rattle.rdf_values.specs.TableText.{integers_of, is_semicolon, option_cons, vector_of}
+use Rattle.rdf_values.specs.{AreRead, begins_badly, HasNoElement, integer_of, integers_of, is_semicolon, IsElement, IsLeading, magnitude_of, Memory, negative, option_cons, positive, vector_of}
 use Rattle.std.specs.Char.{is_ascii_digit}
 use Rattle.std.specs.Str.{all_ascii_digits}
 use Rattle.std.specs.Str.Parse.{digits_value_after}

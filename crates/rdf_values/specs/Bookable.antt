@@ -1,11 +1,11 @@
 -- What a script meets that can be booked as a graph: few lines, whose lists are short.
 use Rattle.std.specs.Prelude.{◌≤◌, ◌<◌, ℕ, ◌+◌, List, [], ◌∷◌, length, All}
-use Rattle.rdf_values.specs.Tree.{NamedTree}
+use Rattle.rdf_values.specs.Expressions.{NamedTree}
 use Rattle.rdf_values.specs.declared.script.Line.{Line}
 use Rattle.rdf_values.specs.declared.script.Script.{Script}
 use Rattle.rdf_values.specs.declared.statement.Statement.{Statement}
 use Rattle.rdf_values.specs.declared.statement.Statement.TheVariants.{Vary, Action}
-use Rattle.rdf_values.specs.declared.action.ActionKind.TheVariants as action
+use Rattle.rdf_values.specs.declared.action.ActionKind.{ActionKind}
 use Rattle.rdf_values.specs.declared.vary_values.VaryValues.{VaryValues}
 use Rattle.rdf_values.specs.declared.vary_values.VaryValues.TheVariants.{Lists, Vector}
 
@@ -22,8 +22,8 @@ AreShortValues (Vector e) = Unit {0}
 -- each list in a statement has at most 65,536 members, and a Vary has a column and a tag
 abbrev pub IsShort : Statement → Type 0
 IsShort (Vary node parent columns values tags vary) = (0 < length columns) × (length columns ≤ 65536) × (0 < length tags) × (length tags ≤ 65536) × AreShortValues values
-IsShort (Action result parent (action.Histo1D edges x w)) = length edges ≤ 65536
-IsShort (Action result parent (action.Histo2D xs ys x y w)) = (length xs ≤ 65536) × (length ys ≤ 65536)
+IsShort (Action result parent (ActionKind.Histo1D edges x w)) = length edges ≤ 65536
+IsShort (Action result parent (ActionKind.Histo2D xs ys x y w)) = (length xs ≤ 65536) × (length ys ≤ 65536)
 IsShort s = Unit {0}
 
 -- each line's number is above the one before it

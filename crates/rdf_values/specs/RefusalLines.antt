@@ -3,11 +3,8 @@ use Rattle.std.specs.Prelude.{ℕ, List, [], ◌∷◌, ◌++◌, codes, decimal
 use Rattle.rdf_values.specs.declared.expr_cause.ExprCause.{ExprCause}
 use Rattle.rdf_values.specs.declared.expr_cause.ExprCause.TheVariants.{BadByte, BadNumber, Unexpected, TooLong}
 use Rattle.rdf_values.specs.declared.script_cause.ScriptCause.{ScriptCause}
-use Rattle.rdf_values.specs.declared.script_cause.ScriptCause.TheVariants as text
 use Rattle.rdf_values.specs.declared.graph_cause.GraphCause.{GraphCause}
-use Rattle.rdf_values.specs.declared.graph_cause.GraphCause.TheVariants as check
 use Rattle.rdf_values.specs.declared.table_cause.TableCause.{TableCause}
-use Rattle.rdf_values.specs.declared.table_cause.TableCause.TheVariants as table
 
 -- a text as a line
 abbrev pub line : List ℕ → List ℕ
@@ -38,17 +35,17 @@ expr_cause_text TooLong = codes "E4 TooLong"
 
 -- why a statement is refused after those before it
 abbrev pub graph_cause_text : GraphCause → List ℕ
-graph_cause_text check.NameTaken = codes "S2 NameTaken"
-graph_cause_text check.UnknownName = codes "S3 UnknownName"
-graph_cause_text check.UnknownColumn = codes "S4 UnknownColumn"
-graph_cause_text check.UnknownFunction = codes "S5 UnknownFunction"
-graph_cause_text check.WrongType = codes "S7 WrongType"
-graph_cause_text check.WrongCount = codes "S8 WrongCount"
-graph_cause_text check.AliasTarget = codes "S10 AliasTarget"
-graph_cause_text check.Late = codes "S11 Late"
-graph_cause_text check.BadEdges = codes "S12 BadEdges"
-graph_cause_text check.TooMany = codes "S13 TooMany"
-graph_cause_text check.WrongKind = codes "S14 WrongKind"
+graph_cause_text GraphCause.NameTaken = codes "S2 NameTaken"
+graph_cause_text GraphCause.UnknownName = codes "S3 UnknownName"
+graph_cause_text GraphCause.UnknownColumn = codes "S4 UnknownColumn"
+graph_cause_text GraphCause.UnknownFunction = codes "S5 UnknownFunction"
+graph_cause_text GraphCause.WrongType = codes "S7 WrongType"
+graph_cause_text GraphCause.WrongCount = codes "S8 WrongCount"
+graph_cause_text GraphCause.AliasTarget = codes "S10 AliasTarget"
+graph_cause_text GraphCause.Late = codes "S11 Late"
+graph_cause_text GraphCause.BadEdges = codes "S12 BadEdges"
+graph_cause_text GraphCause.TooMany = codes "S13 TooMany"
+graph_cause_text GraphCause.WrongKind = codes "S14 WrongKind"
 
 -- a line of the script is refused for a cause
 abbrev pub at_line : ℕ → List ℕ → List ℕ
@@ -60,9 +57,9 @@ at_place number place cause = line (codes "script refused at line " ++ decimal n
 
 -- why a text is no script
 abbrev pub script_cause_line : ScriptCause → List ℕ
-script_cause_line (text.Syntax number place) = at_place number place (codes "S1 Syntax")
-script_cause_line (text.Expression number place cause) = at_place number place (expr_cause_text cause)
-script_cause_line (text.TooMany number) = at_line number (codes "S13 TooMany")
+script_cause_line (ScriptCause.Syntax number place) = at_place number place (codes "S1 Syntax")
+script_cause_line (ScriptCause.Expression number place cause) = at_place number place (expr_cause_text cause)
+script_cause_line (ScriptCause.TooMany number) = at_line number (codes "S13 TooMany")
 
 -- why a script that reads is refused over a table
 abbrev pub graph_cause_line : ℕ → GraphCause → List ℕ
@@ -80,9 +77,9 @@ at_field entry field cause = line (codes "table refused at entry " ++ decimal en
 
 -- why a text is no table
 abbrev pub table_cause_line : TableCause → List ℕ
-table_cause_line (table.Header field) = line (codes "table refused at header field " ++ decimal field ++ codes ": B1 Header")
-table_cause_line (table.FieldCount entry) = at_entry entry (codes "B2 FieldCount")
-table_cause_line (table.BadInt entry field) = at_field entry field (codes "B3 BadInt")
-table_cause_line (table.BadVec entry field) = at_field entry field (codes "B4 BadVec")
-table_cause_line (table.TooMany entry) = at_entry entry (codes "B5 TooMany")
-table_cause_line (table.BadCut entry field) = at_field entry field (codes "B6 BadCut")
+table_cause_line (TableCause.Header field) = line (codes "table refused at header field " ++ decimal field ++ codes ": B1 Header")
+table_cause_line (TableCause.FieldCount entry) = at_entry entry (codes "B2 FieldCount")
+table_cause_line (TableCause.BadInt entry field) = at_field entry field (codes "B3 BadInt")
+table_cause_line (TableCause.BadVec entry field) = at_field entry field (codes "B4 BadVec")
+table_cause_line (TableCause.TooMany entry) = at_entry entry (codes "B5 TooMany")
+table_cause_line (TableCause.BadCut entry field) = at_field entry field (codes "B6 BadCut")

@@ -1,8 +1,7 @@
 // Elements from the text of a vector.
 ghost use Rattle.std.specs.Prelude.{◌≡◌, ◌<◌, ◌≤◌, [], ◌∷◌, IfOk, length, position, take, MatchOption};
 ghost use Rattle.std.specs.List.{slice_split};
-ghost use Rattle.rdf_values.specs.Elements.{AreRead, HasNoElement, IsElement};
-ghost use Rattle.rdf_values.specs.TableText.{is_semicolon, vector_of};
+ghost use Rattle.rdf_values.specs.{AreRead, HasNoElement, is_semicolon, IsElement, vector_of};
 
 use crate::integer::{leading_integer, read_any_integer};
 use crate::memory::Memory;

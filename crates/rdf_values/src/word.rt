@@ -1,6 +1,6 @@
 // How far the first word or number of a text goes.
 ghost use Rattle.std.specs.Prelude.{◌≡◌, length, take_while};
-ghost use Rattle.rdf_values.specs.Names.{is_digit, is_word_byte};
+ghost use Rattle.rdf_values.specs.{is_digit, is_word_byte};
 
 use crate::name::is_word_byte;
 

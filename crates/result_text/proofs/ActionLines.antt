@@ -1,19 +1,14 @@
 -- The lines of the passes of an action.
-use Rattle.std.proofs.Common.{◌≡◌, ℕ, zero, suc, ◌+◌, ◌<◌, ◌≤◌, ◌^◌, Bool, true, false, List, [], ◌∷◌, ◌++◌, length, map, drop, Option, None, Some, refl, sym, ap, ◌∙◌, subst, arith, if◌then◌else◌}
-use Rattle.std.specs.Prelude.{option_map, slice_get}
+use Rattle.std.proofs.Common.{◌≡◌, ℕ, zero, suc, ◌+◌, ◌<◌, ◌≤◌, ◌^◌, Bool, true, false, List, [], ◌∷◌, ◌++◌, length, map, drop, Option, None, Some, refl, sym, ap, ◌∙◌, subst, arith, if◌then◌else◌, option_map, slice_get}
 use Rattle.std.proofs.lemmas.List.{length-map}
 use Rattle.std.proofs.lemmas.Option.{slice_get_within}
-use Rattle.lemmas.proofs.Answers.{same_some}
-use Rattle.rdf_values.specs.Path.{Variation}
-use Rattle.rdf_values.specs.Bookings.{ActionAt, passes_of}
-use Rattle.rdf_values.specs.declared.action.ActionKind.{ActionKind}
-use Rattle.rdf_model.specs.ResultLines.{filled_lines, label}
-use Rattle.actions.specs.Accumulators.{Accumulator}
-use Rattle.graph_numbers.specs.Graphs.{GraphView, booked_statements, graph_results, graph_variations, result_depends_at}
-use Rattle.graph_numbers.specs.Results.{ResultAt, kind_of_booking}
-use Rattle.graph_numbers.specs.declared.result_kind.ResultKind.TheVariants as what
-use Rattle.loop_pieces.specs.declared.filled_result.FilledResult.{FilledResult}
-use Rattle.result_text.specs.FilledLines.{FitsBooking, FitsResult, acc_lines, booking_text, filled_text, members_from, under_in, under_lines}
+use Rattle.lemmas.proofs.{same_some}
+use Rattle.rdf_values.specs.{ActionAt, ActionKind, passes_of, Variation}
+use Rattle.rdf_model.specs.{filled_lines, label}
+use Rattle.actions.specs.{Accumulator}
+use Rattle.graph_numbers.specs.{booked_statements, graph_results, graph_variations, GraphView, kind_of_booking, result_depends_at, ResultAt, ResultKind}
+use Rattle.loop_pieces.specs.{FilledResult}
+use Rattle.result_text.specs.{acc_lines, booking_text, filled_text, FitsBooking, FitsResult, members_from, under_in, under_lines}
 use Rattle.result_text.proofs.Lists.{one_left, put_next}
 use Rattle.result_text.proofs.PassLines.{action_booking, depends_are, nominal_alone, passes_are}
 
@@ -47,7 +42,7 @@ varied_next text now all name k accs first p q v vs ms rest x acc h is there acc
 
 -- ---- a result that is an action
 
-module _ (g : GraphView) (x : ResultAt) (filled : FilledResult) (k : ActionKind) (action : kind_of_booking x.booked.booking ≡ what.Action k) (fits : FitsResult g x filled) where
+module _ (g : GraphView) (x : ResultAt) (filled : FilledResult) (k : ActionKind) (action : kind_of_booking x.booked.booking ≡ ResultKind.Action k) (fits : FitsResult g x filled) where
   fit : FitsBooking g x filled (ActionAt k (action_booking x.booked.booking k action).0)
   fit = subst (FitsBooking g x filled) (action_booking x.booked.booking k action).1 fits
 

@@ -1,11 +1,10 @@
 -- The names of an axis's cells, by their places, and the lines of cells.
-use Rattle.std.proofs.Common.{◌≡◌, ℕ, zero, suc, ◌+◌, ◌<◌, ◌≤◌, ℤ, pos, List, [], ◌∷◌, ◌++◌, length, map, drop, get_or, Option, None, Some, refl, sym, ap, ap₂, ◌∙◌, arith, append_assoc}
-use Rattle.std.specs.Prelude.{codes, slice_get}
+use Rattle.std.proofs.Common.{◌≡◌, ℕ, zero, suc, ◌+◌, ◌<◌, ◌≤◌, ℤ, pos, List, [], ◌∷◌, ◌++◌, length, map, drop, get_or, Option, None, Some, refl, sym, ap, ap₂, ◌∙◌, arith, append_assoc, codes, slice_get}
 use Rattle.std.specs.Fmt.{signed_decimal}
-use Rattle.lemmas.proofs.Parts.{none_left as drop_whole}
+use Rattle.lemmas.proofs.{none_left as drop_whole}
 use Rattle.rdf_values.specs.Fold.{Cell}
-use Rattle.rdf_model.specs.ResultLines.{cell_line, cell_lines, cell_names, cell_names_from, plane_lines}
-use Rattle.result_text.specs.FilledLines.{behind, bin_name, line_at, lines_on, name_at, plane_at, planes_on}
+use Rattle.rdf_model.specs.{cell_line, cell_lines, cell_names, cell_names_from, plane_lines}
+use Rattle.result_text.specs.{behind, bin_name, line_at, lines_on, name_at, plane_at, planes_on}
 use Rattle.result_text.proofs.Lists.{map_same, none_left, one_left, put_last, put_next}
 
 from_over : (lo : ℤ) (es : List ℤ) → slice_get (cell_names_from lo es) (length es) ≡ Some (codes "over")

@@ -1,17 +1,10 @@
 -- The filters that a report covers are named filters of the script.
-use Rattle.std.proofs.Common.{◌≡◌, ℕ, zero, suc, ◌+◌, ◌<◌, ◌≤◌, Bool, true, false, List, [], ◌∷◌, ◌++◌, length, Option, None, Some, refl, subst, arith, if◌then◌else◌, length-append}
-use Rattle.std.specs.Prelude.{slice_get, All}
+use Rattle.std.proofs.Common.{◌≡◌, ℕ, zero, suc, ◌+◌, ◌<◌, ◌≤◌, Bool, true, false, List, [], ◌∷◌, ◌++◌, length, Option, None, Some, refl, subst, arith, if◌then◌else◌, length-append, slice_get, All}
 use Rattle.std.specs.List.{AllByRecursion}
 use Rattle.std.proofs.lemmas.List.Elements.{All-from_recursion}
-use Rattle.rdf_values.specs.Path.{Path, makes, parent_of, path}
-use Rattle.rdf_values.specs.Bookings.{named_before}
-use Rattle.rdf_values.specs.Kinds.{FunctionNames}
-use Rattle.rdf_values.specs.declared.column.Column.{Column}
-use Rattle.rdf_values.specs.declared.statement.Statement.{Statement}
+use Rattle.rdf_values.specs.{Column, FunctionNames, makes, named_before, parent_of, Path, path, Statement}
 use Rattle.rdf_values.specs.declared.statement.Statement.TheVariants.{Filter, Action, Report}
-use Rattle.graph_numbers.specs.Graphs.{GraphView, booked_statements, graph_filters, graph_results}
-use Rattle.graph_numbers.specs.Results.{ResultAt, all_or, covered_at, filters, filters_on, own_filter, own_filters, own_results, results}
-use Rattle.graph_numbers.specs.Sources.{numbers_from}
+use Rattle.graph_numbers.specs.{all_or, booked_statements, covered_at, filters, filters_on, graph_filters, graph_results, GraphView, numbers_from, own_filter, own_filters, own_results, ResultAt, results}
 
 abbrev Below : ℕ → List ℕ → Type 0
 Below n xs = AllByRecursion (λ x. x < n) xs

@@ -1,23 +1,14 @@
 -- The lines of passes.
-use Rattle.std.proofs.Common.{if◌then◌else◌, ◌≡◌, ℕ, suc, ◌+◌, ◌<◌, Bool, true, false, List, [], ◌∷◌, ◌++◌, length, map, Option, None, Some, refl, sym, ap, ◌∙◌, arith, append_assoc, append-nil}
-use Rattle.std.specs.Prelude.{codes, flat_map, filter, slice_get, unwrap_or}
+use Rattle.std.proofs.Common.{if◌then◌else◌, ◌≡◌, ℕ, suc, ◌+◌, ◌<◌, Bool, true, false, List, [], ◌∷◌, ◌++◌, length, map, Option, None, Some, refl, sym, ap, ◌∙◌, arith, append_assoc, append-nil, codes, flat_map, filter, slice_get, unwrap_or}
 use Rattle.std.proofs.lemmas.List.{length-map}
 use Rattle.std.proofs.lemmas.List.Folds.{flat_map-map}
-use Rattle.rdf_values.specs.Path.{Path, Variation, variations}
-use Rattle.rdf_values.specs.Bookings.{Booked, Booking, ActionAt, ReportOn, Pass, has_variations, passes_of, result_depends, varied_passes}
-use Rattle.rdf_values.specs.Fold.{Filled}
+use Rattle.rdf_values.specs.{ActionAt, ActionKind, Booked, Booking, Filled, has_variations, Pass, passes_of, Path, ReportOn, result_depends, Statement, Variation, variations, varied_passes}
 use Rattle.rdf_values.specs.Fold as filled
-use Rattle.rdf_values.specs.declared.action.ActionKind.{ActionKind}
-use Rattle.rdf_values.specs.declared.statement.Statement.{Statement}
-use Rattle.rdf_model.specs.ResultLines.{filled_lines, flow_line, flow_lines, label}
-use Rattle.rdf_model.specs.Results.{FilterCounts}
-use Rattle.actions.specs.Accumulators.{Accumulator}
-use Rattle.loop_pieces.specs.declared.flow.Counts.{Counts}
-use Rattle.graph_numbers.specs.Graphs.{GraphView, booked_statements, graph_results, graph_variations, holds_at, result_depends_at}
-use Rattle.graph_numbers.specs.Results.{ResultAt, kind_of_booking}
-use Rattle.graph_numbers.specs.declared.result_kind.ResultKind.{ResultKind}
-use Rattle.graph_numbers.specs.declared.result_kind.ResultKind.TheVariants as what
-use Rattle.result_text.specs.FilledLines.{acc_lines, flow_at, lines_from, members_from, under_lines, value_lines}
+use Rattle.rdf_model.specs.{filled_lines, FilterCounts, flow_line, flow_lines, label}
+use Rattle.actions.specs.{Accumulator}
+use Rattle.loop_pieces.specs.{Counts}
+use Rattle.graph_numbers.specs.{booked_statements, graph_results, graph_variations, GraphView, holds_at, kind_of_booking, result_depends_at, ResultAt, ResultKind}
+use Rattle.result_text.specs.{acc_lines, flow_at, lines_from, members_from, under_lines, value_lines}
 
 -- the label and the equals sign, and then what the action holds
 pub filled_is : (k : ActionKind) (l : List ℕ) (f : Filled) → filled_lines k l f ≡ (l ++ codes " = ") ++ value_lines k f
@@ -59,10 +50,10 @@ depends_are g r x at its h = members_are (λ v. result_depends v x.booked.bookin
 
 -- ---- results
 
-pub action_booking : (b : Booking) (k : ActionKind) → kind_of_booking b ≡ what.Action k → (at : Path) × (b ≡ ActionAt k at)
+pub action_booking : (b : Booking) (k : ActionKind) → kind_of_booking b ≡ ResultKind.Action k → (at : Path) × (b ≡ ActionAt k at)
 action_booking (ActionAt j at) k e = (at, ap (λ (x : ActionKind). ActionAt x at) (same e))
   where
-    same : {a c : ActionKind} → ◌≡◌ {A = ResultKind} (what.Action a) (what.Action c) → a ≡ c
+    same : {a c : ActionKind} → ◌≡◌ {A = ResultKind} (ResultKind.Action a) (ResultKind.Action c) → a ≡ c
     same q = cc
 action_booking (ReportOn filters) k e = absurd (cc)
 

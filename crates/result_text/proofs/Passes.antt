@@ -1,19 +1,15 @@
 -- The passes of a graph's loops are those of the script.
-use Rattle.std.proofs.Common.{◌≡◌, ℕ, zero, suc, ◌<◌, List, [], ◌∷◌, length, map, get_or, Option, None, Some, refl, sym, ap, ◌∙◌, arith}
-use Rattle.std.specs.Prelude.{option_map, slice_get, unwrap_or}
+use Rattle.std.proofs.Common.{◌≡◌, ℕ, zero, suc, ◌<◌, List, [], ◌∷◌, length, map, get_or, Option, None, Some, refl, sym, ap, ◌∙◌, arith, option_map, slice_get, unwrap_or}
 use Rattle.std.proofs.lemmas.List.{length-map}
 use Rattle.std.proofs.lemmas.Option.{slice_get-map, slice_get_within}
-use Rattle.lemmas.proofs.Answers.{same_some}
-use Rattle.rdf_values.specs.Bookings.{Booked, Pass, bookings}
-use Rattle.rdf_model.specs.Loops.{loop_passes, loop_results}
-use Rattle.rdf_model.specs.ResultLines.{label, pass_label}
-use Rattle.graph_numbers.specs.Graphs.{GraphView, booked_statements, graph_loops, graph_results, graph_variations}
-use Rattle.graph_numbers.specs.Results.{ResultAt, pass_at, under_at}
-use Rattle.graph_numbers.specs.declared.pass.Pass.{Pass as NumberedPass}
+use Rattle.lemmas.proofs.{same_some}
+use Rattle.rdf_values.specs.{Booked, bookings, Pass}
+use Rattle.rdf_model.specs.{label, loop_passes, loop_results, pass_label}
+use Rattle.graph_numbers.specs.{booked_statements, graph_loops, graph_results, graph_variations, GraphView, Pass as NumberedPass, pass_at, ResultAt, under_at}
 use Rattle.graph_numbers.proofs.Extending.{itself}
 use Rattle.graph_numbers.proofs.Looping.{loops_are}
 use Rattle.graph_numbers.proofs.Resulting.{booked_are}
-use Rattle.result_text.specs.FilledLines.{passes_at, under_in}
+use Rattle.result_text.specs.{passes_at, under_in}
 
 module _ (g : GraphView) where
   -- the result and the variation of a numbered pass, which is the pass of that place in the script's loop

@@ -1,15 +1,10 @@
 -- Texts with something between each two.
-use Rattle.std.proofs.Common.{◌≡◌, ℕ, ◌+◌, List, [], ◌∷◌, ◌++◌, map, drop, Option, Some, refl, sym, ap, ◌∙◌, append-nil, append_assoc}
-use Rattle.std.specs.Prelude.{Result, Ok, Err, OnOk, codes, decimal, flat_map, slice_get}
+use Rattle.std.proofs.Common.{◌≡◌, ℕ, ◌+◌, List, [], ◌∷◌, ◌++◌, map, drop, Option, Some, refl, sym, ap, ◌∙◌, append-nil, append_assoc, Result, Ok, Err, OnOk, codes, decimal, flat_map, slice_get}
 use Rattle.std.specs.List.{join_with_byte}
-use Rattle.rdf_values.specs.declared.span.Span.{Span}
-use Rattle.rdf_model.specs.PartialResults.{run_text}
-use Rattle.rdf_values.specs.declared.value.Scalar.{Scalar}
-use Rattle.rdf_model.specs.ResultLines.{flow_line, percent, scalar_text, taken_text}
-use Rattle.rdf_model.specs.Results.{FilterCounts}
+use Rattle.rdf_values.specs.{Scalar, Span}
+use Rattle.rdf_model.specs.{FilterCounts, flow_line, percent, run_text, scalar_text, taken_text}
 use Rattle.result_text.proofs.Lists.{one_left, put_next}
-use Rattle.result_text.specs.FilledLines.{more_taken}
-use Rattle.result_text.specs.PartialText.{more_runs, run_of, runs_text}
+use Rattle.result_text.specs.{more_runs, more_taken, run_of, runs_text}
 
 -- the first, and then each of the others behind a byte
 pub joined_front : {A : Type 0} (c : ℕ) (f : A → List ℕ) (x : A) (xs : List A) → join_with_byte c (map f (x ∷ xs)) ≡ f x ++ flat_map (λ y. c ∷ f y) xs

@@ -1,14 +1,9 @@
 -- The numbers in a graph's tables are in range.
-use Rattle.std.proofs.Common.{◌≡◌, ℕ, zero, suc, ◌+◌, ◌<◌, ◌≤◌, Bool, true, false, List, [], ◌∷◌, ◌++◌, length, map, Option, None, Some, subst, arith, if◌then◌else◌}
-use Rattle.std.specs.Prelude.{⊤, not, slice_get}
-use Rattle.rdf_values.specs.Names.{among}
-use Rattle.rdf_values.specs.Path.{variations}
-use Rattle.rdf_values.specs.Bookings.{Booked, bookings, filled, has_variations, result_depends}
-use Rattle.rdf_values.specs.declared.statement.Statement.{Statement}
+use Rattle.std.proofs.Common.{◌≡◌, ℕ, zero, suc, ◌+◌, ◌<◌, ◌≤◌, Bool, true, false, List, [], ◌∷◌, ◌++◌, length, map, Option, None, Some, subst, arith, if◌then◌else◌, not, slice_get}
+use Rattle.std.specs.Prelude.{⊤}
+use Rattle.rdf_values.specs.{among, Booked, bookings, filled, has_variations, result_depends, Statement, variations}
 use Rattle.rdf_values.specs.declared.statement.Statement.TheVariants.{Print}
-use Rattle.graph_numbers.specs.Graphs.{GraphView, booked_statements, graph_loops, graph_variations}
-use Rattle.graph_numbers.specs.Results.{loops, numbered_pass, own_loop, passes_from, places_from, result_passes}
-use Rattle.graph_numbers.specs.declared.pass.Pass.{Pass as NumberedPass}
+use Rattle.graph_numbers.specs.{booked_statements, graph_loops, graph_variations, GraphView, loops, numbered_pass, own_loop, Pass as NumberedPass, passes_from, places_from, result_passes}
 
 -- ---- variations of passes
 

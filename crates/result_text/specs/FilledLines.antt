@@ -1,20 +1,12 @@
 -- What is printed of a filled result.
 use Rattle.std.specs.Prelude.{◌≡◌, ◌<◌, ◌+◌, ◌++◌, ◌≤◌, ◌^◌, ℕ, ℤ, Bool, if◌then◌else◌, codes, decimal, flat_map, List, [], ◌∷◌, Option, Some, None, length, map, option_map, slice_get, unwrap_or}
 use Rattle.std.specs.Fmt.{signed_decimal}
-use Rattle.rdf_values.specs.RefusalLines.{line}
-use Rattle.rdf_values.specs.Fold.{Filled, Count, Sum, Extreme, Taken, Reduced, Flat, Square, Cell}
-use Rattle.rdf_values.specs.declared.value.Scalar.{Scalar}
-use Rattle.rdf_values.specs.Bookings.{Booking, ActionAt, ReportOn, Pass, passes_of}
-use Rattle.rdf_values.specs.Path.{Variation, Under}
-use Rattle.rdf_values.specs.declared.action.ActionKind.{ActionKind}
-use Rattle.rdf_model.specs.Loops.{loop_passes, loop_results}
-use Rattle.rdf_model.specs.ResultLines.{cell_line, cell_lines, cell_names, filled_lines, flow_lines, label, option_text, plane_lines, scalar_text, taken_text, x_edges_of, y_edges_of}
-use Rattle.rdf_model.specs.Results.{FilterCounts}
-use Rattle.actions.specs.Accumulators.{Accumulator}
-use Rattle.loop_pieces.specs.declared.flow.Counts.{Counts}
-use Rattle.graph_numbers.specs.Graphs.{GraphView, booked_statements, graph_filters}
-use Rattle.graph_numbers.specs.Results.{FilterAt, ResultAt}
-use Rattle.loop_pieces.specs.declared.filled_result.FilledResult.{FilledResult}
+use Rattle.rdf_values.specs.{ActionAt, ActionKind, Booking, Extreme, Filled, Flat, line, Pass, passes_of, Reduced, ReportOn, Scalar, Square, Taken, Under, Variation}
+use Rattle.rdf_values.specs.Fold.{Count, Sum, Cell}
+use Rattle.rdf_model.specs.{cell_line, cell_lines, cell_names, filled_lines, FilterCounts, flow_lines, label, loop_passes, loop_results, option_text, plane_lines, scalar_text, taken_text, x_edges_of, y_edges_of}
+use Rattle.actions.specs.{Accumulator}
+use Rattle.loop_pieces.specs.{Counts, FilledResult}
+use Rattle.graph_numbers.specs.{booked_statements, FilterAt, graph_filters, GraphView, ResultAt}
 
 -- the passes of a loop
 abbrev pub passes_at : GraphView → ℕ → List Pass

@@ -1,11 +1,9 @@
 -- What is printed of partial results.
 use Rattle.std.specs.Prelude.{◌≡◌, ◌<◌, ◌-◌, ◌∷◌, ◌++◌, ℕ, List, All, codes, flat_map, map}
 use Rattle.std.specs.List.{join_with_byte}
-use Rattle.rdf_values.specs.RefusalLines.{line}
-use Rattle.rdf_values.specs.declared.span.Span.{Span}
-use Rattle.rdf_model.specs.PartialResults.{Run, run_text, value_text}
-use Rattle.loop_pieces.specs.Watching.{watch_filled}
-use Rattle.loop_pieces.specs.declared.filled_result.PartialLine.{PartialLine}
+use Rattle.rdf_values.specs.{line, Span}
+use Rattle.rdf_model.specs.{Run, run_text, value_text}
+use Rattle.loop_pieces.specs.{PartialLine, watch_filled}
 
 -- the numbers of a span, as a run
 abbrev pub run_of : Span → Run

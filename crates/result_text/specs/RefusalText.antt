@@ -1,6 +1,6 @@
 -- What is printed of a refusal.
 use Rattle.std.specs.Prelude.{ℕ, List, codes}
-use Rattle.rdf_values.specs.RefusalLines.{line, read_failed_line, no_file_line, long_script_line, long_table_line, script_cause_line, graph_cause_line, table_cause_line}
+use Rattle.rdf_values.specs.{graph_cause_line, line, long_script_line, long_table_line, no_file_line, read_failed_line, script_cause_line, table_cause_line}
 use Rattle.result_text.specs.FriendLines.{friend_cause_line, join_cause_line, long_friend_line}
 use Rattle.result_text.specs.declared.refusal.Refusal.{Refusal}
 use Rattle.result_text.specs.declared.refusal.Refusal.TheVariants.{Words, Read, NoFile, ScriptLong, Script, Graph, TableLong, Table, FriendLong, Friend, Join}

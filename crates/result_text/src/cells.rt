@@ -1,8 +1,8 @@
 // The cells of histograms.
 ghost use Rattle.std.specs.Prelude.{◌≡◌, ◌≤◌, ◌<◌, ◌+◌, ◌++◌, ℕ, List, [], OnOk, Some, codes, length, slice_index_or, unwrap_or};
-ghost use Rattle.rdf_model.specs.ResultLines.{cell_lines, cell_names, plane_lines};
-ghost use Rattle.histograms.specs.Cells.{cell_seen};
-ghost use Rattle.result_text.specs.FilledLines.{line_at, lines_on, name_at, behind, bin_name, plane_at};
+ghost use Rattle.rdf_model.specs.{cell_lines, cell_names, plane_lines};
+ghost use Rattle.histograms.specs.{cell_seen};
+ghost use Rattle.result_text.specs.{behind, bin_name, line_at, lines_on, name_at, plane_at};
 
 use crate::numbers::{put_number, put_sum};
 use histograms::{CellSum, Hist1, Hist2};

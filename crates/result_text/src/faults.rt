@@ -1,9 +1,8 @@
 // The line of a fault.
 ghost use Rattle.std.specs.Prelude.{◌≡◌, ◌<◌, ◌++◌, List, IfOk, OnOk, Some, length, slice_get};
-ghost use Rattle.graph_numbers.specs.Graphs.{graph_loops};
-ghost use Rattle.graph_numbers.specs.declared.pass.Pass.{Pass};
-ghost use Rattle.rdf_model.specs.ResultLines.{fault_line, fault_name};
-ghost use Rattle.result_text.specs.FilledLines.{passes_at};
+ghost use Rattle.graph_numbers.specs.{graph_loops, Pass};
+ghost use Rattle.rdf_model.specs.{fault_line, fault_name};
+ghost use Rattle.result_text.specs.{passes_at};
 
 use crate::labels::put_label;
 use crate::numbers::put_count;

@@ -1,8 +1,8 @@
 // The labels of passes.
 ghost use Rattle.std.specs.Prelude.{◌≡◌, ◌<◌, ◌++◌, OnOk, length};
 ghost use Rattle.std.specs.Option.{ForSome};
-ghost use Rattle.rdf_model.specs.ResultLines.{label};
-ghost use Rattle.result_text.specs.FilledLines.{under_in};
+ghost use Rattle.rdf_model.specs.{label};
+ghost use Rattle.result_text.specs.{under_in};
 
 use graph::Variations;
 use rdf_values::{Memory, Name, Text};

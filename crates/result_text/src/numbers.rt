@@ -1,7 +1,7 @@
 // Numbers in decimal.
 ghost use Rattle.std.specs.Prelude.{◌≡◌, ◌++◌, OnOk, decimal};
 ghost use Rattle.std.specs.Fmt.{signed_decimal};
-ghost use Rattle.rdf_model.specs.ResultLines.{option_text};
+ghost use Rattle.rdf_model.specs.{option_text};
 
 use rdf_values::{Memory, Text};
 use std::alloc::Global;

@@ -1,11 +1,9 @@
 // The lines of partial results.
 ghost use Rattle.std.specs.Prelude.{◌≡◌, ◌++◌, ◌<◌, ◌-◌, OnOk, IfOk, All, ℕ, Some, [], length, option_map, slice_get, decimal};
-ghost use Rattle.graph_numbers.specs.Graphs.{graph_results};
-ghost use Rattle.graph_numbers.specs.Results.{ResultAt};
-ghost use Rattle.rdf_model.specs.PartialResults.{run_text, value_text};
-ghost use Rattle.loop_pieces.specs.Watching.{watch_filled};
-ghost use Rattle.loop_pieces.specs.declared.filled_result.PartialLine.{PartialLine};
-ghost use Rattle.result_text.specs.PartialText.{AreRuns, more_runs, run_of, runs_text, watch_line, watch_lines};
+ghost use Rattle.graph_numbers.specs.{graph_results, ResultAt};
+ghost use Rattle.rdf_model.specs.{run_text, value_text};
+ghost use Rattle.loop_pieces.specs.{PartialLine, watch_filled};
+ghost use Rattle.result_text.specs.{AreRuns, more_runs, run_of, runs_text, watch_line, watch_lines};
 
 use crate::numbers::{put_count, put_option, put_sum};
 use graph::Graph;

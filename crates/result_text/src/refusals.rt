@@ -1,9 +1,8 @@
 // The lines of refusals.
 ghost use Rattle.std.specs.Prelude.{◌≡◌, ◌++◌, IfOk};
 ghost use Rattle.std.specs.String.{string_bytes};
-ghost use Rattle.rdf_values.specs.RefusalLines.{expr_cause_text, graph_cause_line, graph_cause_text, line, script_cause_line};
-ghost use Rattle.result_text.specs.FriendLines.{join_cause_line, refused_for};
-ghost use Rattle.result_text.specs.RefusalText.{refusal_text};
+ghost use Rattle.rdf_values.specs.{expr_cause_text, graph_cause_line, graph_cause_text, line, script_cause_line};
+ghost use Rattle.result_text.specs.{join_cause_line, refusal_text, refused_for};
 
 use crate::refusal::Refusal;
 use friend_join::JoinCause;

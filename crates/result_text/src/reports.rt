@@ -1,8 +1,8 @@
 // The lines of reports.
 ghost use Rattle.std.specs.Prelude.{◌≡◌, ◌<◌, ◌++◌, All, OnOk, flat_map, length, map};
-ghost use Rattle.graph_numbers.specs.Graphs.{graph_filters};
-ghost use Rattle.rdf_model.specs.ResultLines.{flow_line, flow_lines};
-ghost use Rattle.result_text.specs.FilledLines.{flow_at};
+ghost use Rattle.graph_numbers.specs.{graph_filters};
+ghost use Rattle.rdf_model.specs.{flow_line, flow_lines};
+ghost use Rattle.result_text.specs.{flow_at};
 
 use crate::printed::PrintedReport;
 use crate::shares::put_flow_line;

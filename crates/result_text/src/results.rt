@@ -1,9 +1,8 @@
 // The lines of results.
 ghost use Rattle.std.specs.Prelude.{◌≡◌, ◌<◌, ◌≤◌, ◌+◌, ◌^◌, ◌++◌, ℕ, IfOk, OnOk, None, Some, length, slice_get, vec_len};
-ghost use Rattle.graph_numbers.specs.Graphs.{booked_statements, graph_results, graph_variations};
-ghost use Rattle.graph_numbers.specs.Results.{ResultAt, kind_of_booking};
-ghost use Rattle.graph.specs.Sets.{has};
-ghost use Rattle.result_text.specs.FilledLines.{FitsResult, filled_text, members_from, under_lines};
+ghost use Rattle.graph_numbers.specs.{booked_statements, graph_results, graph_variations, kind_of_booking, ResultAt};
+ghost use Rattle.graph.specs.{has};
+ghost use Rattle.result_text.specs.{filled_text, FitsResult, members_from, under_lines};
 
 use crate::printed::{PrintedAction, PrintedReport};
 use crate::reports::put_report;

@@ -1,7 +1,7 @@
 // What part of the entries a filter passes.
 ghost use Rattle.std.specs.Prelude.{◌≡◌, ◌∷◌, ◌++◌, [], OnOk, codes, decimal};
-ghost use Rattle.rdf_model.specs.ResultLines.{flow_line, hundredths, percent};
-ghost use Rattle.result_text.specs.FilledLines.{counts_seen};
+ghost use Rattle.rdf_model.specs.{flow_line, hundredths, percent};
+ghost use Rattle.result_text.specs.{counts_seen};
 
 use crate::numbers::{put_count, put_wide};
 use loop_pieces::Counts;

@@ -1,7 +1,7 @@
 // The values of a Take.
 ghost use Rattle.std.specs.Prelude.{◌≡◌, ◌++◌, OnOk, drop};
-ghost use Rattle.rdf_model.specs.ResultLines.{scalar_text, taken_text};
-ghost use Rattle.result_text.specs.FilledLines.{more_taken};
+ghost use Rattle.rdf_model.specs.{scalar_text, taken_text};
+ghost use Rattle.result_text.specs.{more_taken};
 
 use crate::numbers::put_number;
 use actions::Taken;

@@ -1,9 +1,9 @@
 // The lines of what an action holds.
 ghost use Rattle.std.specs.Prelude.{◌≡◌, ◌<◌, ◌+◌, ◌++◌, OnOk, decimal, length};
 ghost use Rattle.std.specs.Option.{ForSome};
-ghost use Rattle.actions.specs.Fillings.{filled_seen};
-ghost use Rattle.rdf_model.specs.ResultLines.{filled_lines, label, x_edges_of, y_edges_of};
-ghost use Rattle.result_text.specs.FilledLines.{under_in, value_lines};
+ghost use Rattle.actions.specs.{filled_seen};
+ghost use Rattle.rdf_model.specs.{filled_lines, label, x_edges_of, y_edges_of};
+ghost use Rattle.result_text.specs.{under_in, value_lines};
 
 use crate::cells::{put_flat, put_square};
 use crate::labels::put_label;

@@ -1,21 +1,11 @@
 -- Each text is a script, or is refused.
-use Rattle.std.proofs.Common.{◌≡◌, ◌∙◌, ◌<◌, ◌≤◌, ◌+◌, ℕ, suc, List, [], ◌∷◌, length, Result, Ok, Err, inl, inr, refl, arith}
-use Rattle.std.specs.Prelude.{◌⊎◌}
+use Rattle.std.proofs.Common.{◌≡◌, ◌∙◌, ◌<◌, ◌≤◌, ◌+◌, ℕ, suc, List, [], ◌∷◌, length, Result, Ok, Err, inl, inr, refl, arith, ◌⊎◌}
 use Rattle.std.proofs.lemmas.Bool.{cases_order}
 use Rattle.std.proofs.lemmas.List.{append-nil}
-use Rattle.rdf_values.specs.ScriptLines.{lines_of}
-use Rattle.rdf_values.specs.LineTokens.{PlacedToken, bare_tokens, line_tokens}
-use Rattle.rdf_values.specs.LineForms.{Form, IsForm}
-use Rattle.rdf_values.specs.Statements.{Says, LineRefusal, FirstBad, form_strings}
+use Rattle.rdf_values.specs.{AreLines, bare_tokens, cause_at, FirstBad, Form, form_strings, IsBlankLine, IsForm, IsLine, IsScript, Line, line_tokens, LineRefusal, lines_of, PlacedToken, RefusesLine, RefusesLines, RefusesScript, Says, Script, ScriptCause, Statement}
 use Rattle.rdf_values.specs.Statements as refused
-use Rattle.rdf_values.specs.Scripts.{IsBlankLine, IsLine, RefusesLine, AreLines, IsScript, RefusesLines, RefusesScript, cause_at}
 use Rattle.rdf_values.specs.Scripts as script
-use Rattle.rdf_values.specs.declared.script.Line.{Line}
-use Rattle.rdf_values.specs.declared.script.Script.{Script}
-use Rattle.rdf_values.specs.declared.script_cause.ScriptCause.{ScriptCause}
-use Rattle.rdf_values.specs.declared.script_cause.ScriptCause.TheVariants as cause
-use Rattle.rdf_values.specs.declared.statement.Statement.{Statement}
-use Rattle.script_read.specs.Walk.{ALine, WalkEnd, Done, StuckAt, walk_placed, place_from}
+use Rattle.script_read.specs.{ALine, Done, place_from, StuckAt, walk_placed, WalkEnd}
 use Rattle.script_read.proofs.Stuck.{line_walked, refuses_line}
 use Rattle.script_read.proofs.AnsweredStrings.{form_says}
 
@@ -70,7 +60,7 @@ by_line line lines number before few go (inl blank) = by_blank line lines number
 by_line line lines number before few go (inr (inr r)) = inr (cause_at number r.0, script.refused_line r.1)
 by_line line lines number before few go (inr (inl s)) =
     elim (cases_order before 256) [
-      | inl e ↦ inr (cause.TooMany number, script.too_many s.1 e)
+      | inl e ↦ inr (ScriptCause.TooMany number, script.too_many s.1 e)
       | inr x ↦ elim x [ inl l ↦ by_statement line lines number before s.0 s.1 l (go (suc number) (suc before) (omega arith)) | inr l ↦ absurd (omega arith) ]
     ]
 

@@ -1,23 +1,10 @@
 -- A form says something, or one of its strings is the first that is bad.
-use Rattle.std.proofs.Common.{◌≡◌, ℕ, Bool, true, false, List, [], ◌∷◌, ◌++◌, Option, Some, None, refl, sym, ◌∙◌, inl, inr}
-use Rattle.std.specs.Prelude.{◌⊎◌}
+use Rattle.std.proofs.Common.{◌≡◌, ℕ, Bool, true, false, List, [], ◌∷◌, ◌++◌, Option, Some, None, refl, sym, ◌∙◌, inl, inr, ◌⊎◌}
 use Rattle.std.proofs.lemmas.Slice.Eq.{bytes_eq-Decides}
-use Rattle.rdf_values.specs.Names.{is_name, is_label, same}
-use Rattle.rdf_values.specs.Tree.{NamedTree}
-use Rattle.rdf_values.specs.Grammar.{Reads, ReadsValues}
-use Rattle.rdf_values.specs.Scans.{ReadsText, ReadsValuesText, begin_expr, begin_values}
-use Rattle.rdf_values.specs.LineTokens.{QuotedText}
-use Rattle.rdf_values.specs.LineForms.{Form, Method}
+use Rattle.rdf_values.specs.{a_label, a_name, ActionKind, ALabel, all_edges, all_strings, AName, AnExpression, AnOperation, AreNames, begin_expr, begin_values, FirstBad, Form, form_strings, here, is_label, is_name, IsAction, IsBad, IsMaybeLabel, IsMaybeName, IsName, later, LineRefusal, maybe_wanted, Method, method_strings, more_names, NamedTree, no_label, no_name, no_names, operation_text, QuotedText, Reads, ReadsText, ReadsValues, ReadsValuesText, ReduceOp, same, Says, SomeValues, Statement, VaryValues, wanted_names}
 use Rattle.rdf_values.specs.LineForms as form
-use Rattle.rdf_values.specs.Statements.{Says, IsAction, IsName, IsMaybeName, no_name, a_name, AreNames, no_names, more_names, IsMaybeLabel, no_label, a_label, Wanted, AName, ALabel, AnOperation, AnExpression, SomeValues, IsBad, FirstBad, LineRefusal, here, later, wanted_names, maybe_wanted, operation_text, method_strings, form_strings, all_strings, all_edges}
+use Rattle.rdf_values.specs.Statements.{Wanted}
 use Rattle.rdf_values.specs.Statements as st
-use Rattle.rdf_values.specs.declared.action.ActionKind.{ActionKind}
-use Rattle.rdf_values.specs.declared.action.ActionKind.TheVariants as kind
-use Rattle.rdf_values.specs.declared.action.ReduceOp.{ReduceOp}
-use Rattle.rdf_values.specs.declared.action.ReduceOp.TheVariants as op
-use Rattle.rdf_values.specs.declared.statement.Statement.{Statement}
-use Rattle.rdf_values.specs.declared.statement.Statement.TheVariants as says
-use Rattle.rdf_values.specs.declared.vary_values.VaryValues.{VaryValues}
 use Rattle.expr_read.proofs.Decided.{answered}
 use Rattle.expr_read.proofs.Whole.{whole, whole_values}
 use Rattle.expr_read.proofs.WholeReads.{reads_expr, reads_values}
@@ -72,15 +59,15 @@ one_of w [] = inr tt
 one_of w (o ∷ os) = first_or_later w o os (same w (operation_text o)) refl (one_of w os)
 
 abbrev operations : List ReduceOp
-operations = op.Min ∷ op.Max ∷ op.And ∷ op.Or ∷ op.Xor ∷ op.WrapAdd ∷ []
+operations = ReduceOp.Min ∷ ReduceOp.Max ∷ ReduceOp.And ∷ ReduceOp.Or ∷ ReduceOp.Xor ∷ ReduceOp.WrapAdd ∷ []
 
 is_none : (w : List ℕ) → IsNone w operations → (o : ReduceOp) → w ≡ operation_text o → ⊥
-is_none w k op.Min = k.0
-is_none w k op.Max = k.1.0
-is_none w k op.And = k.1.1.0
-is_none w k op.Or = k.1.1.1.0
-is_none w k op.Xor = k.1.1.1.1.0
-is_none w k op.WrapAdd = k.1.1.1.1.1.0
+is_none w k ReduceOp.Min = k.0
+is_none w k ReduceOp.Max = k.1.0
+is_none w k ReduceOp.And = k.1.1.0
+is_none w k ReduceOp.Or = k.1.1.1.0
+is_none w k ReduceOp.Xor = k.1.1.1.1.0
+is_none w k ReduceOp.WrapAdd = k.1.1.1.1.1.0
 
 operation_or_bad : (q : QuotedText) → OrBad ((o : ReduceOp) × (q.content ≡ operation_text o)) (q, AnOperation)
 operation_or_bad q = elim (one_of q.content operations) [ inl o ↦ inl o | inr k ↦ inr (st.Syntax q.place, st.no_operation (is_none q.content k)) ]
@@ -136,7 +123,7 @@ column_and_expression : (c e : QuotedText) → OrFirstBad (((x : List ℕ) × Is
 column_and_expression c e = then_more (c, AName) ((e, AnExpression) ∷ []) (name_or_bad c) (name_good c) (last (e, AnExpression) (expression_or_bad e))
 
 one_action : (n p : List ℕ) (c : QuotedText) (m : Method) → ((x : List ℕ) → IsName c x → (k : ActionKind) × IsAction m k) → OrFirstBad ((s : Statement) × Says (form.Books n p m) s) ((c, AName) ∷ [])
-one_action n p c m act = turned ((c, AName) ∷ []) (λ x. let k = act x.0 x.1 in (says.Action n p k.0, st.action k.1)) (last (c, AName) (name_or_bad c))
+one_action n p c m act = turned ((c, AName) ∷ []) (λ x. let k = act x.0 x.1 in (Statement.Action n p k.0, st.action k.1)) (last (c, AName) (name_or_bad c))
 
 -- the values and the tags of a Vary, and the strings behind them
 values_and_tags : {B : Type 0} (v : QuotedText) (ts : List QuotedText) (ws : List (QuotedText × Wanted)) → OrFirstBad B ws
@@ -146,41 +133,41 @@ values_and_tags v ts ws rest =
 
 says_vary_one : (n p : List ℕ) (c v : QuotedText) (ts : form.Strings) (m : Option QuotedText) (x : List ℕ) (vs : VaryValues) (tags : List (List ℕ)) (y : Option (List ℕ))
     → IsName c x → ReadsValuesText v.content vs → AreNames (all_strings ts) tags → IsMaybeName m y → (s : Statement) × Says (form.Books n p (form.VaryOne c v ts m)) s
-says_vary_one n p c v ts m x vs tags y a b d no_name = (says.Vary n p (x ∷ []) vs tags x, st.vary a b d)
-says_vary_one n p c v ts m x vs tags y a b d (a_name {x = z} e) = (says.Vary n p (x ∷ []) vs tags z, st.vary_named a b d e)
+says_vary_one n p c v ts m x vs tags y a b d no_name = (Statement.Vary n p (x ∷ []) vs tags x, st.vary a b d)
+says_vary_one n p c v ts m x vs tags y a b d (a_name {x = z} e) = (Statement.Vary n p (x ∷ []) vs tags z, st.vary_named a b d e)
 
 method_says : (n p : List ℕ) (m : Method) → OrFirstBad ((s : Statement) × Says (form.Books n p m) s) (method_strings m)
-method_says n p (form.Define c e) = turned _ (λ a. (says.Define n p a.0.0 a.1.0, st.define a.0.1 a.1.1)) (column_and_expression c e)
-method_says n p (form.Redefine c e) = turned _ (λ a. (says.Redefine n p a.0.0 a.1.0, st.redefine a.0.1 a.1.1)) (column_and_expression c e)
-method_says n p (form.Alias c t) = turned _ (λ a. (says.Alias n p a.0.0 a.1.0, st.alias a.0.1 a.1.1)) (two_names c t)
+method_says n p (form.Define c e) = turned _ (λ a. (Statement.Define n p a.0.0 a.1.0, st.define a.0.1 a.1.1)) (column_and_expression c e)
+method_says n p (form.Redefine c e) = turned _ (λ a. (Statement.Redefine n p a.0.0 a.1.0, st.redefine a.0.1 a.1.1)) (column_and_expression c e)
+method_says n p (form.Alias c t) = turned _ (λ a. (Statement.Alias n p a.0.0 a.1.0, st.alias a.0.1 a.1.1)) (two_names c t)
 method_says n p (form.Filter e l) =
-    turned _ (λ a. (says.Filter n p a.0.0 a.1.0, st.filter a.0.1 a.1.1))
+    turned _ (λ a. (Statement.Filter n p a.0.0 a.1.0, st.filter a.0.1 a.1.1))
     (then_more (e, AnExpression) (maybe_wanted l ALabel) (expression_or_bad e) (λ a. good_expression e a.0 a.1) (maybe_label_or_bad l))
 method_says n p (form.VaryOne c v ts m) =
     turned _ (λ a. says_vary_one n p c v ts m a.0.0 a.1.0.0 a.1.1.0.0 a.1.1.1.0 a.0.1 a.1.0.1 a.1.1.0.1 a.1.1.1.1)
     (then_more (c, AName) ((v, SomeValues) ∷ (wanted_names (all_strings ts) ++ maybe_wanted m AName)) (name_or_bad c) (name_good c) (values_and_tags v (all_strings ts) (maybe_wanted m AName) (maybe_name_or_bad m)))
 method_says n p (form.VaryAll cs v ts m) =
-    turned _ (λ a. (says.Vary n p a.0.0 a.1.0.0 a.1.1.0.0 a.1.1.1.0, st.vary_all a.0.1 a.1.0.1 a.1.1.0.1 a.1.1.1.1))
+    turned _ (λ a. (Statement.Vary n p a.0.0 a.1.0.0 a.1.1.0.0 a.1.1.1.0, st.vary_all a.0.1 a.1.0.1 a.1.1.0.1 a.1.1.1.1))
     (then_all (wanted_names (all_strings cs)) ((v, SomeValues) ∷ (wanted_names (all_strings ts) ++ (m, AName) ∷ [])) (names_or_bad (all_strings cs)) (names_good (all_strings cs)) (values_and_tags v (all_strings ts) ((m, AName) ∷ []) (last (m, AName) (name_or_bad m))))
-method_says n p form.Count = inl (says.Action n p kind.Count, st.action st.count)
-method_says n p form.Report = inl (says.Report n p, st.report)
-method_says n p (form.Sum c) = one_action n p c (form.Sum c) (λ x a. (kind.Sum x, st.sum a))
-method_says n p (form.Min c) = one_action n p c (form.Min c) (λ x a. (kind.Min x, st.min a))
-method_says n p (form.Max c) = one_action n p c (form.Max c) (λ x a. (kind.Max x, st.max a))
-method_says n p (form.Take c) = one_action n p c (form.Take c) (λ x a. (kind.Take x, st.take a))
+method_says n p form.Count = inl (Statement.Action n p ActionKind.Count, st.action st.count)
+method_says n p form.Report = inl (Statement.Report n p, st.report)
+method_says n p (form.Sum c) = one_action n p c (form.Sum c) (λ x a. (ActionKind.Sum x, st.sum a))
+method_says n p (form.Min c) = one_action n p c (form.Min c) (λ x a. (ActionKind.Min x, st.min a))
+method_says n p (form.Max c) = one_action n p c (form.Max c) (λ x a. (ActionKind.Max x, st.max a))
+method_says n p (form.Take c) = one_action n p c (form.Take c) (λ x a. (ActionKind.Take x, st.take a))
 method_says n p (form.Reduce o c) =
-    turned _ (λ a. (says.Action n p (kind.Reduce a.0.0 a.1.0), st.action (st.reduce a.0.1 a.1.1)))
+    turned _ (λ a. (Statement.Action n p (ActionKind.Reduce a.0.0 a.1.0), st.action (st.reduce a.0.1 a.1.1)))
     (then_more (o, AnOperation) ((c, AName) ∷ []) (operation_or_bad o) (λ a. good_operation o a.0 a.1) (last (c, AName) (name_or_bad c)))
 method_says n p (form.Histo1D es x w) =
-    turned _ (λ a. (says.Action n p (kind.Histo1D (all_edges es) a.0.0 a.1.0), st.action (st.histo1d a.0.1 a.1.1)))
+    turned _ (λ a. (Statement.Action n p (ActionKind.Histo1D (all_edges es) a.0.0 a.1.0), st.action (st.histo1d a.0.1 a.1.1)))
     (then_more (x, AName) (maybe_wanted w AName) (name_or_bad x) (name_good x) (maybe_name_or_bad w))
 method_says n p (form.Histo2D es fs x y w) =
-    turned _ (λ a. (says.Action n p (kind.Histo2D (all_edges es) (all_edges fs) a.0.0 a.1.0.0 a.1.1.0), st.action (st.histo2d a.0.1 a.1.0.1 a.1.1.1)))
+    turned _ (λ a. (Statement.Action n p (ActionKind.Histo2D (all_edges es) (all_edges fs) a.0.0 a.1.0.0 a.1.1.0), st.action (st.histo2d a.0.1 a.1.0.1 a.1.1.1)))
     (then_more (x, AName) ((y, AName) ∷ maybe_wanted w AName) (name_or_bad x) (name_good x) (then_more (y, AName) (maybe_wanted w AName) (name_or_bad y) (name_good y) (maybe_name_or_bad w)))
 
 -- a form says something, or its first bad string refuses it
 pub form_says : (f : Form) → ((s : Statement) × Says f s) ⊎ ((r : LineRefusal) × FirstBad (form_strings f) r)
 form_says (form.Books n p m) = method_says n p m
-form_says (form.Print r) = inl (says.Print r, st.print)
-form_says (form.VariationsFor r) = inl (says.VariationsFor r, st.variations_for)
-form_says (form.Watch r) = inl (says.Watch r, st.watch)
+form_says (form.Print r) = inl (Statement.Print r, st.print)
+form_says (form.VariationsFor r) = inl (Statement.VariationsFor r, st.variations_for)
+form_says (form.Watch r) = inl (Statement.Watch r, st.watch)

@@ -1,20 +1,13 @@
 -- Refusals of the first bad string of several.
-use Rattle.std.proofs.Common.{◌≡◌, ◌∙◌, ℕ, List, [], ◌∷◌, ◌++◌, ap}
-use Rattle.std.specs.Prelude.{Result, IfErr}
+use Rattle.std.proofs.Common.{◌≡◌, ◌∙◌, ℕ, List, [], ◌∷◌, ◌++◌, ap, Result, IfErr}
 use Rattle.std.specs.Result.{IsErrAnd}
 use Rattle.std.proofs.lemmas.Result.{err_from_is_err_and}
-use Rattle.rdf_values.specs.Names.{is_name}
-use Rattle.rdf_values.specs.Tree.{NamedTree}
-use Rattle.rdf_values.specs.Scans.{ReadsText, ReadsValuesText}
-use Rattle.rdf_values.specs.LineTokens.{QuotedText}
-use Rattle.rdf_values.specs.Statements.{IsName, AreNames, no_names, more_names, Wanted, AName, AnOperation, AnExpression, SomeValues, IsBad, FirstBad, LineRefusal, here, later, wanted_names, operation_text}
+use Rattle.rdf_values.specs.{AName, AnExpression, AnOperation, AreNames, FirstBad, here, is_name, IsBad, IsName, later, LineRefusal, more_names, NamedTree, no_names, operation_text, QuotedText, ReadsText, ReadsValuesText, ReduceOp, SomeValues, VaryValues, wanted_names}
+use Rattle.rdf_values.specs.Statements.{Wanted}
 use Rattle.rdf_values.specs.Statements as st
-use Rattle.rdf_values.specs.declared.action.ReduceOp.{ReduceOp}
-use Rattle.rdf_values.specs.declared.vary_values.VaryValues.{VaryValues}
 use Rattle.expr_read.proofs.ReadOnce.{read_once}
 use Rattle.script_read.specs.declared.stop.LineStop.{LineStop}
-use Rattle.script_read.specs.declared.stop.LineStop.TheVariants as stop
-use Rattle.script_read.specs.Stops.{RefusedFor}
+use Rattle.script_read.specs.{RefusedFor}
 
 -- what a `?` hands on
 pub handed_on : {T : Type 0} (P : LineStop → Type 0) (r : Result T LineStop) (e : LineStop) → IsErrAnd r (λ d. d ≡ e) → P e → IfErr r P
@@ -49,9 +42,9 @@ good_names ts xs (more_names {t = t} {ts = us} {x = x} {xs = ys} a ns) = more_st
 
 -- what refuses for one reason refuses for another
 pub refused_as : (P Q : LineRefusal → Type 0) → ((r : LineRefusal) → P r → Q r) → (e : LineStop) → RefusedFor P e → RefusedFor Q e
-refused_as P Q f (stop.Syntax place) h = f _ h
-refused_as P Q f (stop.Expression place cause) h = f _ h
-refused_as P Q f stop.Memory h = tt
+refused_as P Q f (LineStop.Syntax place) h = f _ h
+refused_as P Q f (LineStop.Expression place cause) h = f _ h
+refused_as P Q f LineStop.Memory h = tt
 
 pub refused_here : (w : QuotedText × Wanted) (ws : List (QuotedText × Wanted)) (e : LineStop) → RefusedFor (IsBad w) e → RefusedFor (FirstBad (w ∷ ws)) e
 refused_here w ws e h = refused_as (IsBad w) (FirstBad (w ∷ ws)) (λ r b. here b) e h

@@ -1,18 +1,14 @@
 -- What stands where something is wanted.
-use Rattle.std.proofs.Common.{◌≡◌, ◌∙◌, ℕ, ℤ, pos, Bool, true, false, List, [], ◌∷◌, ◌++◌, Option, Some, None, refl, sym, ap, append_assoc}
-use Rattle.std.specs.Prelude.{codes, option_map, if◌then◌else◌}
+use Rattle.std.proofs.Common.{◌≡◌, ◌∙◌, ℕ, ℤ, pos, Bool, true, false, List, [], ◌∷◌, ◌++◌, Option, Some, None, refl, sym, ap, append_assoc, codes, option_map, if◌then◌else◌}
 use Rattle.std.proofs.lemmas.List.{append-nil}
-use Rattle.rdf_values.specs.LineTokens.{LineToken, QuotedText}
+use Rattle.rdf_values.specs.{arguments, Form, form_tokens, has_free_names, is_free, LineToken, maybe_string, Method, method_word, more_edges, more_strings, QuotedText}
 use Rattle.rdf_values.specs.LineTokens as t
-use Rattle.rdf_values.specs.LineForms.{Form, Method, method_word, arguments, call, more_strings, more_edges, maybe_string, form_tokens, has_free_names, is_free}
+use Rattle.rdf_values.specs.LineForms.{call}
 use Rattle.rdf_values.specs.LineForms as form
-use Rattle.script_read.specs.Views.{mark_token}
-use Rattle.script_read.specs.Walk.{Want, ALine, AWord, AMethod, AString, ANumber, MoreStrings, MoreEdges, MaybeString, VaryArguments, AMark, next, is_mark, asked_form, name_of, name_word, arguments_wants, method_wants, booking_wants, asking_wants}
+use Rattle.script_read.specs.{ALine, AMark, AMethod, ANumber, arguments_wants, asked_form, asking_wants, AString, AWord, booking_wants, is_mark, mark_token, MaybeString, method_wants, MoreEdges, MoreStrings, name_of, name_word, next, VaryArguments, Want}
 use Rattle.script_read.specs.declared.method.MethodName.{MethodName}
-use Rattle.script_read.specs.declared.method.MethodName.TheVariants as name
-use Rattle.script_read.specs.declared.method.ActionName.TheVariants as action
+use Rattle.script_read.specs.declared.method.ActionName.{ActionName}
 use Rattle.script_read.specs.declared.token.Mark.{Mark}
-use Rattle.script_read.specs.declared.token.Mark.TheVariants as mark
 use Rattle.script_read.proofs.Named.{name_is}
 use Rattle.script_read.proofs.Joined.{asked_tokens, asked_free}
 
@@ -105,20 +101,20 @@ vary_one_tokens : (ts : List QuotedText) (n : Option QuotedText) → (more_strin
 vary_one_tokens ts n = append_assoc (more_strings ts) (maybe_string n) (t.Close ∷ []) ∙ ap (λ (us : List LineToken). more_strings ts ++ us) (sym (append-nil (maybe_string n ++ t.Close ∷ [])))
 
 arguments_item : (n : MethodName) (xs : Items (arguments_wants n)) → ArgumentsItem n (items_tokens (arguments_wants n) xs)
-arguments_item name.Define xs = record { method = form.Define xs.0 xs.1.1.0; word = refl; tokens = refl }
-arguments_item name.Redefine xs = record { method = form.Redefine xs.0 xs.1.1.0; word = refl; tokens = refl }
-arguments_item name.Alias xs = record { method = form.Alias xs.0 xs.1.1.0; word = refl; tokens = refl }
-arguments_item name.Filter xs = record { method = form.Filter xs.0 xs.1.0; word = refl; tokens = ap (λ (us : List LineToken). t.Quoted xs.0 ∷ us) (sym (append-nil (maybe_string xs.1.0 ++ t.Close ∷ []))) }
-arguments_item name.Vary xs = record { method = xs.0.0; word = xs.0.1; tokens = sym (append-nil (arguments xs.0.0 ++ t.Close ∷ [])) }
-arguments_item (name.Action action.Count) xs = record { method = form.Count; word = refl; tokens = refl }
-arguments_item name.Report xs = record { method = form.Report; word = refl; tokens = refl }
-arguments_item (name.Action action.Sum) xs = record { method = form.Sum xs.0; word = refl; tokens = refl }
-arguments_item (name.Action action.Min) xs = record { method = form.Min xs.0; word = refl; tokens = refl }
-arguments_item (name.Action action.Max) xs = record { method = form.Max xs.0; word = refl; tokens = refl }
-arguments_item (name.Action action.Take) xs = record { method = form.Take xs.0; word = refl; tokens = refl }
-arguments_item (name.Action action.Reduce) xs = record { method = form.Reduce xs.0 xs.1.1.0; word = refl; tokens = refl }
-arguments_item (name.Action action.Histo1D) xs = record { method = form.Histo1D (record { first = xs.1.0; rest = xs.1.1.0 }) xs.1.1.1.1.0 xs.1.1.1.1.1.0; word = refl; tokens = simp (append_assoc, append-nil) refl }
-arguments_item (name.Action action.Histo2D) xs = record {
+arguments_item MethodName.Define xs = record { method = form.Define xs.0 xs.1.1.0; word = refl; tokens = refl }
+arguments_item MethodName.Redefine xs = record { method = form.Redefine xs.0 xs.1.1.0; word = refl; tokens = refl }
+arguments_item MethodName.Alias xs = record { method = form.Alias xs.0 xs.1.1.0; word = refl; tokens = refl }
+arguments_item MethodName.Filter xs = record { method = form.Filter xs.0 xs.1.0; word = refl; tokens = ap (λ (us : List LineToken). t.Quoted xs.0 ∷ us) (sym (append-nil (maybe_string xs.1.0 ++ t.Close ∷ []))) }
+arguments_item MethodName.Vary xs = record { method = xs.0.0; word = xs.0.1; tokens = sym (append-nil (arguments xs.0.0 ++ t.Close ∷ [])) }
+arguments_item (MethodName.Action ActionName.Count) xs = record { method = form.Count; word = refl; tokens = refl }
+arguments_item MethodName.Report xs = record { method = form.Report; word = refl; tokens = refl }
+arguments_item (MethodName.Action ActionName.Sum) xs = record { method = form.Sum xs.0; word = refl; tokens = refl }
+arguments_item (MethodName.Action ActionName.Min) xs = record { method = form.Min xs.0; word = refl; tokens = refl }
+arguments_item (MethodName.Action ActionName.Max) xs = record { method = form.Max xs.0; word = refl; tokens = refl }
+arguments_item (MethodName.Action ActionName.Take) xs = record { method = form.Take xs.0; word = refl; tokens = refl }
+arguments_item (MethodName.Action ActionName.Reduce) xs = record { method = form.Reduce xs.0 xs.1.1.0; word = refl; tokens = refl }
+arguments_item (MethodName.Action ActionName.Histo1D) xs = record { method = form.Histo1D (record { first = xs.1.0; rest = xs.1.1.0 }) xs.1.1.1.1.0 xs.1.1.1.1.1.0; word = refl; tokens = simp (append_assoc, append-nil) refl }
+arguments_item (MethodName.Action ActionName.Histo2D) xs = record {
   method = form.Histo2D (record { first = xs.1.0; rest = xs.1.1.0 }) (record { first = xs.1.1.1.1.1.0; rest = xs.1.1.1.1.1.1.0 }) xs.1.1.1.1.1.1.1.1.0 xs.1.1.1.1.1.1.1.1.1.1.0 xs.1.1.1.1.1.1.1.1.1.1.1.0;
   word = refl;
   tokens = simp (append_assoc, append-nil) refl;
@@ -145,13 +141,13 @@ word_follows x true e = λ xs. record { item = (x, e); tokens = refl }
 word_follows x false e = tt
 
 marked : (m : Mark) (u : LineToken) → is_mark m u ≡ true → mark_token m ≡ u
-marked mark.Equals t.Equals e = refl
-marked mark.Dot t.Dot e = refl
-marked mark.Open t.Open e = refl
-marked mark.Close t.Close e = refl
-marked mark.OpenBracket t.OpenBracket e = refl
-marked mark.CloseBracket t.CloseBracket e = refl
-marked mark.Comma t.Comma e = refl
+marked Mark.Equals t.Equals e = refl
+marked Mark.Dot t.Dot e = refl
+marked Mark.Open t.Open e = refl
+marked Mark.Close t.Close e = refl
+marked Mark.OpenBracket t.OpenBracket e = refl
+marked Mark.CloseBracket t.CloseBracket e = refl
+marked Mark.Comma t.Comma e = refl
 marked m u e = cc e
 
 mark_follows : (m : Mark) (u : LineToken) (b : Bool) → is_mark m u ≡ b → Follows (AMark m) u (if b then Some [] else None)

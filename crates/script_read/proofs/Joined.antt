@@ -1,21 +1,16 @@
 -- Arguments, methods and lines that were taken, from what their parts took.
-use Rattle.std.proofs.Common.{◌≡◌, ◌∙◌, ℕ, Bool, true, false, List, [], ◌∷◌, ◌++◌, Option, Some, refl, sym, ap, subst, append_assoc}
-use Rattle.std.specs.Prelude.{codes, not, ◌||◌, if◌then◌else◌}
+use Rattle.std.proofs.Common.{◌≡◌, ◌∙◌, ℕ, Bool, true, false, List, [], ◌∷◌, ◌++◌, Option, Some, refl, sym, ap, subst, append_assoc, codes, not, ◌||◌, if◌then◌else◌}
 use Rattle.std.proofs.lemmas.Slice.Eq.{bytes_eq-Decides}
-use Rattle.rdf_values.specs.Names.{same}
-use Rattle.rdf_values.specs.LineTokens.{LineToken, QuotedText, PlacedToken, bare_tokens}
+use Rattle.rdf_values.specs.{arguments, bare_tokens, edges_tokens, Form, form_tokens, has_free_names, is_free, LineToken, maybe_string, Method, method_word, PlacedToken, QuotedText, same, Strings, strings_tokens}
 use Rattle.rdf_values.specs.LineTokens as t
-use Rattle.rdf_values.specs.LineForms.{Form, Method, Strings, Edges, method_word, arguments, call, strings_tokens, edges_tokens, maybe_string, form_tokens, has_free_names, is_free}
+use Rattle.rdf_values.specs.LineForms.{Edges, call}
 use Rattle.rdf_values.specs.LineForms as form
-use Rattle.script_read.specs.Views.{token_of}
-use Rattle.script_read.specs.Walk.{Want, ALine, AWord, AMethod, AString, MaybeString, VaryArguments, AMark, Begins, Took, TookArguments, TookBooking, TookForm, next, walk_placed, asked_form, name_of, name_word, arguments_wants, method_wants, booking_wants, asking_wants, one_string_wants, strings_wants, edges_wants, variation_wants}
+use Rattle.script_read.specs.{ALine, AMark, AMethod, arguments_wants, asked_form, asking_wants, AString, AWord, Begins, booking_wants, edges_wants, MaybeString, method_wants, name_of, name_word, next, one_string_wants, strings_wants, token_of, Took, TookArguments, TookBooking, TookForm, variation_wants, VaryArguments, walk_placed, Want}
 use Rattle.script_read.specs.declared.method.MethodName.{MethodName}
-use Rattle.script_read.specs.declared.method.MethodName.TheVariants as name
-use Rattle.script_read.specs.declared.method.ActionName.TheVariants as action
+use Rattle.script_read.specs.declared.method.ActionName.{ActionName}
 use Rattle.script_read.specs.declared.token.Token.{Token}
-use Rattle.script_read.specs.declared.token.Token.TheVariants as token
 use Rattle.script_read.specs.declared.token.Quoted.{Quoted}
-use Rattle.script_read.specs.declared.token.Mark.TheVariants as mark
+use Rattle.script_read.specs.declared.token.Mark.{Mark}
 use Rattle.script_read.proofs.Walked.{walk_over, columns_wanted}
 
 -- one after the other
@@ -47,23 +42,23 @@ took_first {s} {u} {ws} {a} {old} {seen} {mid} {new} w e b same n k =
 -- ---- arguments
 
 pub took_vary_one : {s : LineToken} {old seen mid m new : List PlacedToken} (c v : QuotedText) (ts : Strings) (n : Option QuotedText) → s ≡ t.Quoted c → Begins s old seen → mid ≡ seen
-    → Took variation_wants (t.Comma ∷ t.Quoted v ∷ t.Comma ∷ strings_tokens ts) mid m → Took (MaybeString ∷ []) (maybe_string n ++ t.Close ∷ []) m new → TookArguments name.Vary (form.VaryOne c v ts n) old new
+    → Took variation_wants (t.Comma ∷ t.Quoted v ∷ t.Comma ∷ strings_tokens ts) mid m → Took (MaybeString ∷ []) (maybe_string n ++ t.Close ∷ []) m new → TookArguments MethodName.Vary (form.VaryOne c v ts n) old new
 took_vary_one c v ts n e b same x y = record {
   word = refl;
   took = took_as (ap (λ (us : List LineToken). t.Quoted c ∷ t.Comma ∷ t.Quoted v ∷ t.Comma ∷ us) (sym (append_assoc (strings_tokens ts) (maybe_string n) (t.Close ∷ [])))) (took_first VaryArguments e b same refl (took_then x y));
 }
 
-pub took_vary_all : {s : Token} {old seen m1 m2 m3 new : List PlacedToken} (cs : Strings) (v : QuotedText) (ts : Strings) (n : QuotedText) → Begins (token_of s) old seen → ((q : Quoted) → s ≡ token.Quoted q → ⊥)
-    → Took strings_wants (strings_tokens cs) old m1 → Took variation_wants (t.Comma ∷ t.Quoted v ∷ t.Comma ∷ strings_tokens ts) m1 m2 → Took (AMark mark.Comma ∷ []) (t.Comma ∷ []) m2 m3 → Took one_string_wants (t.Quoted n ∷ t.Close ∷ []) m3 new
-    → TookArguments name.Vary (form.VaryAll cs v ts n) old new
+pub took_vary_all : {s : Token} {old seen m1 m2 m3 new : List PlacedToken} (cs : Strings) (v : QuotedText) (ts : Strings) (n : QuotedText) → Begins (token_of s) old seen → ((q : Quoted) → s ≡ Token.Quoted q → ⊥)
+    → Took strings_wants (strings_tokens cs) old m1 → Took variation_wants (t.Comma ∷ t.Quoted v ∷ t.Comma ∷ strings_tokens ts) m1 m2 → Took (AMark Mark.Comma ∷ []) (t.Comma ∷ []) m2 m3 → Took one_string_wants (t.Quoted n ∷ t.Close ∷ []) m3 new
+    → TookArguments MethodName.Vary (form.VaryAll cs v ts n) old new
 took_vary_all {s} {old} {seen} {m1} {m2} {m3} {new} cs v ts n b isnt x y z w =
-    let parts : Took (strings_wants ++ (variation_wants ++ (AMark mark.Comma ∷ one_string_wants))) (arguments (form.VaryAll cs v ts n) ++ t.Close ∷ []) old new = took_as (simp append_assoc refl) (took_then x (took_then y (took_then z w))) in
+    let parts : Took (strings_wants ++ (variation_wants ++ (AMark Mark.Comma ∷ one_string_wants))) (arguments (form.VaryAll cs v ts n) ++ t.Close ∷ []) old new = took_as (simp append_assoc refl) (took_then x (took_then y (took_then z w))) in
     record { word = refl; took = record { split = parts.split; walks = λ k. columns_wanted old k b isnt ∙ parts.walks k } }
 
 pub took_histo2d : {old m1 m2 m3 m4 m5 m6 m7 new : List PlacedToken} (xs ys : Edges) (x y : QuotedText) (w : Option QuotedText)
-    → Took edges_wants (edges_tokens xs) old m1 → Took (AMark mark.Comma ∷ []) (t.Comma ∷ []) m1 m2 → Took edges_wants (edges_tokens ys) m2 m3 → Took (AMark mark.Comma ∷ []) (t.Comma ∷ []) m3 m4
-    → Took (AString ∷ []) (t.Quoted x ∷ []) m4 m5 → Took (AMark mark.Comma ∷ []) (t.Comma ∷ []) m5 m6 → Took (AString ∷ []) (t.Quoted y ∷ []) m6 m7 → Took (MaybeString ∷ []) (maybe_string w ++ t.Close ∷ []) m7 new
-    → TookArguments (name.Action action.Histo2D) (form.Histo2D xs ys x y w) old new
+    → Took edges_wants (edges_tokens xs) old m1 → Took (AMark Mark.Comma ∷ []) (t.Comma ∷ []) m1 m2 → Took edges_wants (edges_tokens ys) m2 m3 → Took (AMark Mark.Comma ∷ []) (t.Comma ∷ []) m3 m4
+    → Took (AString ∷ []) (t.Quoted x ∷ []) m4 m5 → Took (AMark Mark.Comma ∷ []) (t.Comma ∷ []) m5 m6 → Took (AString ∷ []) (t.Quoted y ∷ []) m6 m7 → Took (MaybeString ∷ []) (maybe_string w ++ t.Close ∷ []) m7 new
+    → TookArguments (MethodName.Action ActionName.Histo2D) (form.Histo2D xs ys x y w) old new
 took_histo2d xs ys x y w a b c d e f g h = record {
   word = refl;
   took = took_as (simp append_assoc refl) (took_then a (took_then b (took_then c (took_then d (took_then e (took_then f (took_then g h)))))));
@@ -73,17 +68,17 @@ took_histo2d xs ys x y w a b c d e f g h = record {
 
 pub name_word_is : (n : MethodName) → name_of (name_word n) ≡ Some n
 unfolding name_of
-name_word_is name.Define = refl
-name_word_is (name.Action action.Count) = refl
+name_word_is MethodName.Define = refl
+name_word_is (MethodName.Action ActionName.Count) = refl
 name_word_is n = refl
 
 pub method_next : (n : MethodName) → next AMethod (t.Word (name_word n)) ≡ Some (method_wants n)
 method_next n = rw (name_word_is n) refl
 
-pub method_wanted : {old seen : List PlacedToken} (new : List PlacedToken) (n : MethodName) (k : List Want) → Begins (t.Word (name_word n)) old seen → new ≡ seen → walk_placed old (AMethod ∷ k) ≡ walk_placed new (AMark mark.Open ∷ (arguments_wants n ++ k))
+pub method_wanted : {old seen : List PlacedToken} (new : List PlacedToken) (n : MethodName) (k : List Want) → Begins (t.Word (name_word n)) old seen → new ≡ seen → walk_placed old (AMethod ∷ k) ≡ walk_placed new (AMark Mark.Open ∷ (arguments_wants n ++ k))
 method_wanted new n k b same = walk_seen AMethod (method_wants n) k refl b same (method_next n)
 
-pub took_method : {old seen m1 m2 new : List PlacedToken} (n : MethodName) (m : Method) → Begins (t.Word (name_word n)) old seen → m1 ≡ seen → Took (AMark mark.Open ∷ []) (t.Open ∷ []) m1 m2 → TookArguments n m m2 new
+pub took_method : {old seen m1 m2 new : List PlacedToken} (n : MethodName) (m : Method) → Begins (t.Word (name_word n)) old seen → m1 ≡ seen → Took (AMark Mark.Open ∷ []) (t.Open ∷ []) m1 m2 → TookArguments n m m2 new
     → Took (AMethod ∷ []) (call (method_word m) (arguments m)) old new
 took_method n m b same x y =
     took_as (ap (λ (w : List ℕ). t.Word w ∷ t.Open ∷ (arguments m ++ t.Close ∷ [])) (sym y.word)) (took_first AMethod refl b same (method_next n) (took_then x y.took))
@@ -91,7 +86,7 @@ took_method n m b same x y =
 -- ---- lines
 
 pub took_booking : {old m1 m2 m3 new : List PlacedToken} (n p : List ℕ) (m : Method) → is_free n ≡ true → is_free p ≡ true
-    → Took (AMark mark.Equals ∷ []) (t.Equals ∷ []) old m1 → Took (AWord ∷ []) (t.Word p ∷ []) m1 m2 → Took (AMark mark.Dot ∷ []) (t.Dot ∷ []) m2 m3 → Took (AMethod ∷ []) (call (method_word m) (arguments m)) m3 new
+    → Took (AMark Mark.Equals ∷ []) (t.Equals ∷ []) old m1 → Took (AWord ∷ []) (t.Word p ∷ []) m1 m2 → Took (AMark Mark.Dot ∷ []) (t.Dot ∷ []) m2 m3 → Took (AMethod ∷ []) (call (method_word m) (arguments m)) m3 new
     → TookBooking n (form.Books n p m) old new
 took_booking n p m f g a b c d = record { free = rw (f, g) refl; rest = t.Equals ∷ t.Word p ∷ t.Dot ∷ call (method_word m) (arguments m); whole = refl; took = took_then a (took_then b (took_then c d)) }
 

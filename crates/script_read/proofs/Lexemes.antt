@@ -1,15 +1,11 @@
 -- Words and integers as the first bytes of a text.
-use Rattle.std.proofs.Common.{◌≡◌, ◌∙◌, ◌+◌, ℕ, Bool, true, false, List, [], ◌∷◌, length, get_or, take, drop, ◌-◌, suc, arith, refl, ap, sym, subst}
-use Rattle.std.specs.Prelude.{◌==◌, ◌||◌, take_while, if◌then◌else◌}
+use Rattle.std.proofs.Common.{◌≡◌, ◌∙◌, ◌+◌, ℕ, Bool, true, false, List, [], ◌∷◌, length, get_or, take, drop, ◌-◌, suc, arith, refl, ap, sym, subst, ◌==◌, ◌||◌, take_while, if◌then◌else◌}
 use Rattle.std.specs.List.{list_all}
 use Rattle.std.proofs.lemmas.List.{take_rest}
 use Rattle.std.proofs.lemmas.List.Sums.{take_while-cons}
 use Rattle.std.proofs.lemmas.List.Folds.{length-prefix_len}
 use Rattle.std.proofs.lemmas.Bool.Decides.{nat_tests}
-use Rattle.rdf_values.specs.Names.{is_digit, is_word, is_word_start, is_word_byte}
-use Rattle.rdf_values.specs.Integers.{integer_of}
-use Rattle.rdf_values.specs.Tokens.{is_blank}
-use Rattle.rdf_values.specs.LineTokens.{lexeme, word_lexeme, integer_lexeme}
+use Rattle.rdf_values.specs.{integer_lexeme, integer_of, is_blank, is_digit, is_word, is_word_byte, is_word_start, lexeme, word_lexeme}
 
 -- ---- runs
 

@@ -1,12 +1,10 @@
 -- Names read one after another.
 use Rattle.std.proofs.Common.{◌≡◌, ◌<◌, ◌≤◌, ◌+◌, ◌∙◌, ℕ, List, [], ◌∷◌, ◌++◌, length, map, get_or, drop, sym, ap, subst, append_assoc}
 use Rattle.std.proofs.lemmas.List.{drop_more, drop_all, append-nil}
-use Rattle.rdf_values.specs.LineTokens.{QuotedText}
-use Rattle.rdf_values.specs.Statements.{IsName, AreNames, no_names, more_names, FirstBad, wanted_names}
+use Rattle.rdf_values.specs.{AreNames, FirstBad, IsName, more_names, no_names, QuotedText, wanted_names}
 use Rattle.script_read.specs.declared.stop.LineStop.{LineStop}
 use Rattle.script_read.specs.declared.token.Quoted.{Quoted}
-use Rattle.script_read.specs.Views.{quoted_of}
-use Rattle.script_read.specs.Stops.{RefusedFor}
+use Rattle.script_read.specs.{quoted_of, RefusedFor}
 use Rattle.script_read.proofs.FirstBads.{good_name, refused_later}
 
 -- these names were read: what the strings left are completes them, and what refuses the strings left refuses all

@@ -1,11 +1,9 @@
 -- Which method a word names.
-use Rattle.std.proofs.Common.{subst, ◌≡◌, ◌∙◌, ℕ, Bool, true, false, List, [], ◌∷◌, Option, Some, None, refl, sym, ap}
-use Rattle.std.specs.Prelude.{if◌then◌else◌}
+use Rattle.std.proofs.Common.{subst, ◌≡◌, ◌∙◌, ℕ, Bool, true, false, List, [], ◌∷◌, Option, Some, None, refl, sym, ap, if◌then◌else◌}
 use Rattle.std.proofs.lemmas.Slice.Eq.{bytes_eq-Decides}
-use Rattle.rdf_values.specs.Names.{same}
-use Rattle.rdf_values.specs.LineTokens.{LineToken, PlacedToken}
+use Rattle.rdf_values.specs.{LineToken, PlacedToken, same}
 use Rattle.rdf_values.specs.LineTokens as t
-use Rattle.script_read.specs.Walk.{AMethod, Begins, next, name_word, named, name_of, all_names}
+use Rattle.script_read.specs.{all_names, AMethod, Begins, name_of, name_word, named, next}
 use Rattle.script_read.specs.declared.method.MethodName.{MethodName}
 
 named_first : (word : List ℕ) (m : MethodName) (ms : List MethodName) (n : MethodName) (b : Bool) → same word (name_word m) ≡ b → (named word ms ≡ Some n → word ≡ name_word n) → named word (m ∷ ms) ≡ Some n → word ≡ name_word n

@@ -1,17 +1,15 @@
 -- The walk passes over every line.
-use Rattle.std.proofs.Common.{◌≡◌, ◌∙◌, ℕ, ℤ, List, [], ◌∷◌, ◌++◌, Option, Some, None, true, refl, ap, append_assoc}
+use Rattle.std.proofs.Common.{◌≡◌, ◌∙◌, ℕ, ℤ, List, [], ◌∷◌, ◌++◌, Option, Some, None, true, refl, ap, append_assoc, codes}
 use Rattle.std.proofs.lemmas.List.{append-nil}
-use Rattle.rdf_values.specs.LineTokens.{LineToken, QuotedText}
+use Rattle.rdf_values.specs.{arguments, edges_tokens, Form, form_tokens, has_free_names, is_free, LineToken, maybe_string, Method, method_word, more_edges, more_strings, QuotedText, strings_tokens}
 use Rattle.rdf_values.specs.LineTokens as t
-use Rattle.rdf_values.specs.LineForms.{Form, Method, method_word, arguments, call, more_strings, strings_tokens, more_edges, edges_tokens, maybe_string, form_tokens, has_free_names, is_free}
+use Rattle.rdf_values.specs.LineForms.{call}
 use Rattle.rdf_values.specs.LineForms as form
-use Rattle.std.specs.Prelude.{codes}
-use Rattle.lemmas.proofs.Booleans.{both_true}
-use Rattle.script_read.specs.Walk.{Want, ALine, AWord, AMethod, AString, MoreStrings, MoreEdges, MaybeString, AMark, WalkEnd, Done, next, walk, name_word, arguments_wants, method_wants, booking_wants, asking_wants, variation_wants, edges_wants, one_string_wants}
+use Rattle.lemmas.proofs.{both_true}
+use Rattle.script_read.specs.{ALine, AMark, AMethod, arguments_wants, asking_wants, AString, AWord, booking_wants, Done, edges_wants, MaybeString, method_wants, MoreEdges, MoreStrings, name_word, next, one_string_wants, variation_wants, walk, WalkEnd, Want}
 use Rattle.script_read.specs.declared.method.MethodName.{MethodName}
-use Rattle.script_read.specs.declared.method.MethodName.TheVariants as name
-use Rattle.script_read.specs.declared.method.ActionName.TheVariants as action
-use Rattle.script_read.specs.declared.token.Mark.TheVariants as mark
+use Rattle.script_read.specs.declared.method.ActionName.{ActionName}
+use Rattle.script_read.specs.declared.token.Mark.{Mark}
 use Rattle.script_read.proofs.Walked.{is_name_next}
 use Rattle.script_read.proofs.Joined.{line_next, method_next}
 
@@ -48,41 +46,41 @@ called n m w h =
     ∙ ap (λ (ws : List Want). walked (arguments m ++ t.Close ∷ []) ws) (append-nil (arguments_wants n)) ∙ h
 
 method_passes : (m : Method) → walked (call (method_word m) (arguments m)) (AMethod ∷ []) ≡ Done
-method_passes (form.Define c e) = called name.Define (form.Define c e) refl refl
-method_passes (form.Redefine c e) = called name.Redefine (form.Redefine c e) refl refl
-method_passes (form.Alias c u) = called name.Alias (form.Alias c u) refl refl
-method_passes (form.Filter e l) = called name.Filter (form.Filter e l) refl (passes_last l)
-method_passes (form.VaryOne c v ts n) = called name.Vary (form.VaryOne c v ts n) refl (behind_strings ts.rest (maybe_string n) (MaybeString ∷ []) ∙ passes_last n)
+method_passes (form.Define c e) = called MethodName.Define (form.Define c e) refl refl
+method_passes (form.Redefine c e) = called MethodName.Redefine (form.Redefine c e) refl refl
+method_passes (form.Alias c u) = called MethodName.Alias (form.Alias c u) refl refl
+method_passes (form.Filter e l) = called MethodName.Filter (form.Filter e l) refl (passes_last l)
+method_passes (form.VaryOne c v ts n) = called MethodName.Vary (form.VaryOne c v ts n) refl (behind_strings ts.rest (maybe_string n) (MaybeString ∷ []) ∙ passes_last n)
 method_passes (form.VaryAll cs v ts n) =
-    called name.Vary (form.VaryAll cs v ts n) refl
-    (behind_strings cs.rest (t.Comma ∷ t.Quoted v ∷ t.Comma ∷ (strings_tokens ts ++ t.Comma ∷ t.Quoted n ∷ [])) (variation_wants ++ AMark mark.Comma ∷ one_string_wants)
-    ∙ behind_strings ts.rest (t.Comma ∷ t.Quoted n ∷ []) (AMark mark.Comma ∷ one_string_wants))
-method_passes form.Count = called (name.Action action.Count) form.Count refl refl
-method_passes form.Report = called name.Report form.Report refl refl
-method_passes (form.Sum c) = called (name.Action action.Sum) (form.Sum c) refl refl
-method_passes (form.Min c) = called (name.Action action.Min) (form.Min c) refl refl
-method_passes (form.Max c) = called (name.Action action.Max) (form.Max c) refl refl
-method_passes (form.Take c) = called (name.Action action.Take) (form.Take c) refl refl
-method_passes (form.Reduce o c) = called (name.Action action.Reduce) (form.Reduce o c) refl refl
+    called MethodName.Vary (form.VaryAll cs v ts n) refl
+    (behind_strings cs.rest (t.Comma ∷ t.Quoted v ∷ t.Comma ∷ (strings_tokens ts ++ t.Comma ∷ t.Quoted n ∷ [])) (variation_wants ++ AMark Mark.Comma ∷ one_string_wants)
+    ∙ behind_strings ts.rest (t.Comma ∷ t.Quoted n ∷ []) (AMark Mark.Comma ∷ one_string_wants))
+method_passes form.Count = called (MethodName.Action ActionName.Count) form.Count refl refl
+method_passes form.Report = called MethodName.Report form.Report refl refl
+method_passes (form.Sum c) = called (MethodName.Action ActionName.Sum) (form.Sum c) refl refl
+method_passes (form.Min c) = called (MethodName.Action ActionName.Min) (form.Min c) refl refl
+method_passes (form.Max c) = called (MethodName.Action ActionName.Max) (form.Max c) refl refl
+method_passes (form.Take c) = called (MethodName.Action ActionName.Take) (form.Take c) refl refl
+method_passes (form.Reduce o c) = called (MethodName.Action ActionName.Reduce) (form.Reduce o c) refl refl
 method_passes (form.Histo1D xs x w) =
-    called (name.Action action.Histo1D) (form.Histo1D xs x w) refl (behind_edges xs.rest (t.Comma ∷ t.Quoted x ∷ maybe_string w) (AMark mark.Comma ∷ AString ∷ MaybeString ∷ []) ∙ passes_last w)
+    called (MethodName.Action ActionName.Histo1D) (form.Histo1D xs x w) refl (behind_edges xs.rest (t.Comma ∷ t.Quoted x ∷ maybe_string w) (AMark Mark.Comma ∷ AString ∷ MaybeString ∷ []) ∙ passes_last w)
 method_passes (form.Histo2D xs ys x y w) =
-    called (name.Action action.Histo2D) (form.Histo2D xs ys x y w) refl
+    called (MethodName.Action ActionName.Histo2D) (form.Histo2D xs ys x y w) refl
     (behind_edges xs.rest (t.Comma ∷ (edges_tokens ys ++ t.Comma ∷ t.Quoted x ∷ t.Comma ∷ t.Quoted y ∷ maybe_string w))
-    (AMark mark.Comma ∷ (edges_wants ++ AMark mark.Comma ∷ AString ∷ AMark mark.Comma ∷ AString ∷ MaybeString ∷ []))
-    ∙ behind_edges ys.rest (t.Comma ∷ t.Quoted x ∷ t.Comma ∷ t.Quoted y ∷ maybe_string w) (AMark mark.Comma ∷ AString ∷ AMark mark.Comma ∷ AString ∷ MaybeString ∷ []) ∙ passes_last w)
+    (AMark Mark.Comma ∷ (edges_wants ++ AMark Mark.Comma ∷ AString ∷ AMark Mark.Comma ∷ AString ∷ MaybeString ∷ []))
+    ∙ behind_edges ys.rest (t.Comma ∷ t.Quoted x ∷ t.Comma ∷ t.Quoted y ∷ maybe_string w) (AMark Mark.Comma ∷ AString ∷ AMark Mark.Comma ∷ AString ∷ MaybeString ∷ []) ∙ passes_last w)
 
 -- ---- lines
 
 asking_passes : (word r : List ℕ) → next ALine (t.Word word) ≡ Some asking_wants → is_free r ≡ true → walked (call word (t.Word r ∷ [])) (ALine ∷ []) ≡ Done
-asking_passes word r asks free = passes_on ALine asking_wants [] (t.Word word) (t.Open ∷ t.Word r ∷ t.Close ∷ []) asks ∙ passes_on AWord [] (AMark mark.Close ∷ []) (t.Word r) (t.Close ∷ []) (is_name_next r free)
+asking_passes word r asks free = passes_on ALine asking_wants [] (t.Word word) (t.Open ∷ t.Word r ∷ t.Close ∷ []) asks ∙ passes_on AWord [] (AMark Mark.Close ∷ []) (t.Word r) (t.Close ∷ []) (is_name_next r free)
 
 pub line_passes : (f : Form) → has_free_names f ≡ true → walked (form_tokens f) (ALine ∷ []) ≡ Done
 line_passes (form.Books n p m) free =
     let names = both_true (is_free n) (is_free p) free in
     let body = call (method_word m) (arguments m) in
     passes_on ALine booking_wants [] (t.Word n) (t.Equals ∷ t.Word p ∷ t.Dot ∷ body) (line_next n true names.0)
-    ∙ passes_on AWord [] (AMark mark.Dot ∷ AMethod ∷ []) (t.Word p) (t.Dot ∷ body) (is_name_next p names.1)
+    ∙ passes_on AWord [] (AMark Mark.Dot ∷ AMethod ∷ []) (t.Word p) (t.Dot ∷ body) (is_name_next p names.1)
     ∙ method_passes m
 line_passes (form.Print r) free = asking_passes (codes "Print") r refl free
 line_passes (form.VariationsFor r) free = asking_passes (codes "VariationsFor") r refl free

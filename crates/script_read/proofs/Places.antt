@@ -1,15 +1,12 @@
 -- A refusal of an expression's text stands in the text, or at its end.
-use Rattle.std.proofs.Common.{◌≡◌, ◌≤◌, ◌+◌, ℕ, zero, suc, Bool, true, false, List, [], ◌∷◌, length, drop, Option, Some, None, Ok, Err, arith, refl, sym, subst, length-drop}
-use Rattle.std.specs.Prelude.{Result, MatchResult, nat_le}
+use Rattle.std.proofs.Common.{◌≡◌, ◌≤◌, ◌+◌, ℕ, zero, suc, Bool, true, false, List, [], ◌∷◌, length, drop, Option, Some, None, Ok, Err, arith, refl, sym, subst, length-drop, Result, MatchResult, nat_le}
 use Rattle.std.proofs.lemmas.List.Sums.{prefix_len-le-length}
-use Rattle.rdf_values.specs.Tokens.{Token, Placed, Refusal, First, is_blank, blanks, behind, from, earlier, too_many, before, and_then, first_token, tokens_at, tokens}
-use Rattle.rdf_values.specs.Scans.{Wanted, Operator, AfterName, Nothing, OpenMark, ScanState, Refused, ending, scan, scan_step, continued, Refuses, at_token, at_scan, at_end}
-use Rattle.rdf_values.specs.declared.expr_cause.ExprCause.TheVariants as cause
-use Rattle.expr_read.specs.declared.refusal.ExprRefusal.{ExprRefusal}
-use Rattle.expr_read.specs.declared.refusal.ExprRefusal.TheVariants as no
-use Rattle.expr_read.specs.Answers.{RefusesTextAs}
+use Rattle.rdf_values.specs.{AfterName, and_then, at_end, at_scan, at_token, before, behind, blanks, continued, earlier, ending, ExprCause, First, first_token, from, is_blank, Nothing, OpenMark, Operator, Placed, Refusal, Refused, scan, scan_step, ScanState, Token, tokens, tokens_at}
+use Rattle.rdf_values.specs.Tokens.{too_many}
+use Rattle.rdf_values.specs.Scans.{Wanted, Refuses}
+use Rattle.expr_read.specs.{ExprRefusal, RefusesTextAs}
 use Rattle.expr_read.proofs.Sizes.{IsSized, sized}
-use Rattle.script_read.specs.StringPlaces.{StandsWithin}
+use Rattle.script_read.specs.{StandsWithin}
 
 -- each token stands before a place, or at it
 data StandBelow (end : ℕ) : List Placed → Type 0 where
@@ -29,7 +26,7 @@ many_below place size (Ok t) h = omega arith
 many_below place size (Err e) h =
     let a : place + e.place ≤ place + size = omega arith in
     let b : place ≤ place + size = omega arith in
-    earlier_below (from place e) (record { cause = cause.TooLong; place = place }) (place + size) _ refl a b
+    earlier_below (from place e) (record { cause = ExprCause.TooLong; place = place }) (place + size) _ refl a b
 
 before_below : (end : ℕ) (t : Placed) (tokens : Result (List Placed) Refusal) → t.place ≤ end → IsBelow end tokens → IsBelow end (before (t ∷ []) tokens)
 before_below end t (Ok ts) h k = more_tokens h k
@@ -93,5 +90,5 @@ refused_below reads begin text r (at_scan {ts = ts} {p = p} e f) = scan_below ts
 refused_below reads begin text r (at_end e f g) = omega arith
 
 pub stands_within : {T : Type 0} (reads : List Token → T → Type 0) (begin : ScanState) (text : List ℕ) (e : ExprRefusal) → RefusesTextAs reads begin text e → StandsWithin (length text) e
-stands_within reads begin text (no.At cause place) h = refused_below reads begin text (record { cause = cause; place = place }) h
-stands_within reads begin text no.Memory h = tt
+stands_within reads begin text (ExprRefusal.At cause place) h = refused_below reads begin text (record { cause = cause; place = place }) h
+stands_within reads begin text ExprRefusal.Memory h = tt

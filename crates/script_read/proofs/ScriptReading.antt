@@ -1,20 +1,13 @@
 -- The reading of a script, line by line.
-use Rattle.std.proofs.Common.{◌≡◌, ◌<◌, ◌≤◌, ◌+◌, ◌⊎◌, inl, inr, ℕ, suc, List, [], ◌∷◌, ◌++◌, length, length-append, append_assoc, arith, refl, ap, subst, Bool, true}
-use Rattle.std.specs.Prelude.{◌==◌}
+use Rattle.std.proofs.Common.{◌≡◌, ◌<◌, ◌≤◌, ◌+◌, ◌⊎◌, inl, inr, ℕ, suc, List, [], ◌∷◌, ◌++◌, length, length-append, append_assoc, arith, refl, ap, subst, Bool, true, ◌==◌}
 use Rattle.std.proofs.lemmas.List.{append-nil}
 use Rattle.std.proofs.lemmas.Bool.Decides.{nat_tests}
-use Rattle.rdf_values.specs.ScriptLines.{lines_of}
-use Rattle.rdf_values.specs.Scripts.{AreLines, IsScript, RefusesLines, RefusesScript}
+use Rattle.rdf_values.specs.{AreLines, IsScript, Line, lines_of, RefusesLines, RefusesScript, Script, ScriptCause}
 use Rattle.rdf_values.specs.Scripts as script
-use Rattle.rdf_values.specs.declared.script.Line.{Line}
-use Rattle.rdf_values.specs.declared.script.Script.{Script}
-use Rattle.rdf_values.specs.declared.script_cause.ScriptCause.{ScriptCause}
 use Rattle.rdf_values.proofs.OneScript.{script_or_refusal, one_cause}
 use Rattle.expr_read.proofs.ReadOnce.{read_once}
 use Rattle.script_read.specs.declared.refusal.ScriptRefusal.{ScriptRefusal}
-use Rattle.script_read.specs.declared.refusal.ScriptRefusal.TheVariants as refusal
-use Rattle.script_read.specs.Adding.{AddsLine, adds_nothing, adds_statement, RefusesFirstAs}
-use Rattle.script_read.specs.Stops.{RefusesTextAs}
+use Rattle.script_read.specs.{adds_nothing, adds_statement, AddsLine, RefusesFirstAs, RefusesTextAs}
 use Rattle.script_read.proofs.FirstLines.{none_behind}
 
 -- what completes the lines left completes the text, and what refuses them refuses it
@@ -47,8 +40,8 @@ reads_line text left line behind number found more r e shorter (adds_statement {
 
 pub reads_bad : (text left line behind : List ℕ) (number : ℕ) (found : List Line) (e : ScriptRefusal) → Reads text left number found → lines_of left ≡ line ∷ lines_of behind
     → RefusesFirstAs number (length found) line e → RefusesTextAs text e
-reads_bad text left line behind number found (refusal.At c) r e bad = r.refused c (rw e (bad (lines_of behind)))
-reads_bad text left line behind number found refusal.Memory r e bad = tt
+reads_bad text left line behind number found (ScriptRefusal.At c) r e bad = r.refused c (rw e (bad (lines_of behind)))
+reads_bad text left line behind number found ScriptRefusal.Memory r e bad = tt
 
 pub nothing_left : (left : List ℕ) (b : Bool) → b ≡ (length left == 0) → b ≡ true → left ≡ []
 nothing_left [] b e f = refl
@@ -63,11 +56,11 @@ reads_all text left number s r e = record {
 -- ---- one answer
 
 -- a text that is a script is refused for want of memory alone
-pub memory_alone : (text : List ℕ) (e : ScriptRefusal) (s : Script) → RefusesTextAs text e → IsScript text s → e ≡ refusal.Memory
-memory_alone text (refusal.At c) s bad is = absurd (script_or_refusal read_once text s c is bad)
-memory_alone text refusal.Memory s bad is = refl
+pub memory_alone : (text : List ℕ) (e : ScriptRefusal) (s : Script) → RefusesTextAs text e → IsScript text s → e ≡ ScriptRefusal.Memory
+memory_alone text (ScriptRefusal.At c) s bad is = absurd (script_or_refusal read_once text s c is bad)
+memory_alone text ScriptRefusal.Memory s bad is = refl
 
 -- a text that is refused is refused for that cause, or for want of memory
-pub cause_or_memory : (text : List ℕ) (e : ScriptRefusal) (c : ScriptCause) → RefusesTextAs text e → RefusesScript text c → (e ≡ refusal.At c) ⊎ (e ≡ refusal.Memory)
-cause_or_memory text (refusal.At d) c bad is = inl (ap refusal.At (one_cause read_once text d c bad is))
-cause_or_memory text refusal.Memory c bad is = inr refl
+pub cause_or_memory : (text : List ℕ) (e : ScriptRefusal) (c : ScriptCause) → RefusesTextAs text e → RefusesScript text c → (e ≡ ScriptRefusal.At c) ⊎ (e ≡ ScriptRefusal.Memory)
+cause_or_memory text (ScriptRefusal.At d) c bad is = inl (ap ScriptRefusal.At (one_cause read_once text d c bad is))
+cause_or_memory text ScriptRefusal.Memory c bad is = inr refl

@@ -1,18 +1,12 @@
 -- Where the walk over a line's tokens is stuck, no line goes on.
-use Rattle.std.proofs.Common.{◌≡◌, ◌∙◌, ◌<◌, ◌+◌, ℕ, suc, add-one, List, [], ◌∷◌, ◌++◌, length, take, map, Option, Some, None, Ok, refl, sym, ap, subst, append_assoc}
-use Rattle.std.specs.Prelude.{slice_get, ◌==◌, false}
+use Rattle.std.proofs.Common.{◌≡◌, ◌∙◌, ◌<◌, ◌+◌, ℕ, suc, add-one, List, [], ◌∷◌, ◌++◌, length, take, map, Option, Some, None, Ok, refl, sym, ap, subst, append_assoc, slice_get, ◌==◌, false}
 use Rattle.std.proofs.lemmas.List.{append-nil, length-map, map-append}
-use Rattle.rdf_values.specs.LineTokens.{LineToken, PlacedToken, bare_tokens, line_tokens}
-use Rattle.rdf_values.specs.LineForms.{Form, IsForm, BeginsLine, StopsAt}
-use Rattle.rdf_values.specs.Scripts.{RefusesLine}
+use Rattle.rdf_values.specs.{bare_tokens, BeginsLine, Form, IsForm, line_tokens, LineToken, PlacedToken, RefusesLine, StopsAt}
 use Rattle.rdf_values.specs.Scripts as script
 use Rattle.rdf_values.specs.Statements as refused
-use Rattle.script_read.specs.Walk.{Want, ALine, WalkEnd, Done, StuckAt, next, walk, walk_on, walk_placed, place_from}
-use Rattle.script_read.specs.Stops.{RefusedFor}
-use Rattle.script_read.specs.Views.{placed_of}
+use Rattle.script_read.specs.{ALine, Done, next, place_from, placed_of, RefusedFor, StuckAt, walk, walk_on, walk_placed, WalkEnd, Want}
 use Rattle.script_read.specs.declared.token.Placed.{Placed}
 use Rattle.script_read.specs.declared.stop.LineStop.{LineStop}
-use Rattle.script_read.specs.declared.stop.LineStop.TheVariants as stop
 use Rattle.script_read.proofs.Items.{Items, items_tokens, some_items, first_items, last_items, both_items, BeginsItem, Follows, follows}
 use Rattle.script_read.proofs.Passed.{line_passes}
 
@@ -132,7 +126,7 @@ refused_there ts (p ∷ ps) end line s some h e =
 pub refuses_line : (ts left : List PlacedToken) (end : ℕ) (line : List ℕ) → walk_placed ts (ALine ∷ []) ≡ StuckAt left → 0 < length ts → line_tokens line ≡ Ok ts → length line ≡ end → RefusesLine line (refused.Syntax (place_from left end))
 refuses_line ts left end line e some h n = refused_there ts left end line (line_walked ts (StuckAt left) e) some h n
 
-pub refused_for : (tokens : List Placed) (left : List PlacedToken) (end : ℕ) (s : LineStop) → s ≡ stop.Syntax (place_from left end) → walk_placed (map placed_of tokens) (ALine ∷ []) ≡ StuckAt left → 0 < length tokens
+pub refused_for : (tokens : List Placed) (left : List PlacedToken) (end : ℕ) (s : LineStop) → s ≡ LineStop.Syntax (place_from left end) → walk_placed (map placed_of tokens) (ALine ∷ []) ≡ StuckAt left → 0 < length tokens
     → (line : List ℕ) → line_tokens line ≡ Ok (map placed_of tokens) → length line ≡ end → RefusedFor (RefusesLine line) s
 refused_for tokens left end s is e some line h n =
     let some_tokens : 0 < length (map placed_of tokens) = subst (λ (k : ℕ). 0 < k) (sym (length-map tokens placed_of)) some in

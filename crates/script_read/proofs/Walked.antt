@@ -1,17 +1,12 @@
 -- Steps of the walk over tokens.
-use Rattle.std.proofs.Common.{◌≡◌, ◌∙◌, ℕ, ℤ, List, [], ◌∷◌, ◌++◌, Option, Some, None, Bool, true, false, refl, sym, ap, subst}
-use Rattle.std.specs.Prelude.{if◌then◌else◌}
-use Rattle.rdf_values.specs.LineTokens.{LineToken, PlacedToken, bare_tokens}
+use Rattle.std.proofs.Common.{◌≡◌, ◌∙◌, ℕ, ℤ, List, [], ◌∷◌, ◌++◌, Option, Some, None, Bool, true, false, refl, sym, ap, subst, if◌then◌else◌}
+use Rattle.rdf_values.specs.{bare_tokens, is_free, LineToken, PlacedToken}
 use Rattle.rdf_values.specs.LineTokens as t
-use Rattle.rdf_values.specs.LineForms.{is_free}
-use Rattle.script_read.specs.Views.{mark_token, token_of}
-use Rattle.script_read.specs.Walk.{Want, ALine, AWord, AMethod, AString, ANumber, MoreStrings, MoreEdges, MaybeString, VaryArguments, AMark, Begins, BeginsNot, Took, IsStuck, next, walk, walk_on, walk_placed, is_mark, variation_wants, one_string_wants, strings_wants}
+use Rattle.script_read.specs.{ALine, AMark, AMethod, ANumber, AString, AWord, Begins, BeginsNot, is_mark, IsStuck, mark_token, MaybeString, MoreEdges, MoreStrings, next, one_string_wants, strings_wants, token_of, Took, variation_wants, VaryArguments, walk, walk_on, walk_placed, Want}
 use Rattle.script_read.specs.declared.token.Token.{Token}
-use Rattle.script_read.specs.declared.token.Token.TheVariants as token
 use Rattle.script_read.specs.declared.token.Word.{Word}
 use Rattle.script_read.specs.declared.token.Quoted.{Quoted}
 use Rattle.script_read.specs.declared.token.Mark.{Mark}
-use Rattle.script_read.specs.declared.token.Mark.TheVariants as mark
 
 -- a token that can stand there is passed over
 pub walk_over : {t : LineToken} {old new : List PlacedToken} → (w : Want) (ws k : List Want) → Begins t old new → next w t ≡ Some ws → walk_placed old (w ∷ k) ≡ walk_placed new (ws ++ k)
@@ -38,17 +33,17 @@ stuck_token w old b e k = rw (b.is, e) refl
 -- ---- marks
 
 pub is_its_mark : (m : Mark) → is_mark m (mark_token m) ≡ true
-is_its_mark mark.Equals = refl
+is_its_mark Mark.Equals = refl
 is_its_mark m = refl
 
 pub is_no_mark : (m : Mark) (t : LineToken) → (t ≡ mark_token m → ⊥) → is_mark m t ≡ false
-is_no_mark mark.Equals t.Equals isnt = absurd (isnt refl)
-is_no_mark mark.Dot t.Dot isnt = absurd (isnt refl)
-is_no_mark mark.Open t.Open isnt = absurd (isnt refl)
-is_no_mark mark.Close t.Close isnt = absurd (isnt refl)
-is_no_mark mark.OpenBracket t.OpenBracket isnt = absurd (isnt refl)
-is_no_mark mark.CloseBracket t.CloseBracket isnt = absurd (isnt refl)
-is_no_mark mark.Comma t.Comma isnt = absurd (isnt refl)
+is_no_mark Mark.Equals t.Equals isnt = absurd (isnt refl)
+is_no_mark Mark.Dot t.Dot isnt = absurd (isnt refl)
+is_no_mark Mark.Open t.Open isnt = absurd (isnt refl)
+is_no_mark Mark.Close t.Close isnt = absurd (isnt refl)
+is_no_mark Mark.OpenBracket t.OpenBracket isnt = absurd (isnt refl)
+is_no_mark Mark.CloseBracket t.CloseBracket isnt = absurd (isnt refl)
+is_no_mark Mark.Comma t.Comma isnt = absurd (isnt refl)
 is_no_mark m t isnt = refl
 
 mark_next : (m : Mark) → next (AMark m) (mark_token m) ≡ Some []
@@ -84,36 +79,36 @@ same_first b c = let e = ap first_token (sym b.is ∙ c.is) in cc e
 
 -- ---- tokens that can't stand there
 
-pub no_string : (t : Token) → ((q : Quoted) → t ≡ token.Quoted q → ⊥) → next AString (token_of t) ≡ None
-no_string (token.Quoted q) isnt = absurd (isnt q refl)
-no_string (token.Mark mark.Equals) isnt = refl
+pub no_string : (t : Token) → ((q : Quoted) → t ≡ Token.Quoted q → ⊥) → next AString (token_of t) ≡ None
+no_string (Token.Quoted q) isnt = absurd (isnt q refl)
+no_string (Token.Mark Mark.Equals) isnt = refl
 no_string t isnt = refl
 
-pub no_number : (t : Token) → ((z : ℤ) → t ≡ token.Number z → ⊥) → next ANumber (token_of t) ≡ None
-no_number (token.Number z) isnt = absurd (isnt z refl)
-no_number (token.Mark mark.Equals) isnt = refl
+pub no_number : (t : Token) → ((z : ℤ) → t ≡ Token.Number z → ⊥) → next ANumber (token_of t) ≡ None
+no_number (Token.Number z) isnt = absurd (isnt z refl)
+no_number (Token.Mark Mark.Equals) isnt = refl
 no_number t isnt = refl
 
-pub no_name : (t : Token) → ((x : Word) → t ≡ token.Word x → ⊥) → next AWord (token_of t) ≡ None
-no_name (token.Word x) isnt = absurd (isnt x refl)
-no_name (token.Mark mark.Equals) isnt = refl
+pub no_name : (t : Token) → ((x : Word) → t ≡ Token.Word x → ⊥) → next AWord (token_of t) ≡ None
+no_name (Token.Word x) isnt = absurd (isnt x refl)
+no_name (Token.Mark Mark.Equals) isnt = refl
 no_name t isnt = refl
 
-pub no_method : (t : Token) → ((x : Word) → t ≡ token.Word x → ⊥) → next AMethod (token_of t) ≡ None
-no_method (token.Word x) isnt = absurd (isnt x refl)
-no_method (token.Mark mark.Equals) isnt = refl
+pub no_method : (t : Token) → ((x : Word) → t ≡ Token.Word x → ⊥) → next AMethod (token_of t) ≡ None
+no_method (Token.Word x) isnt = absurd (isnt x refl)
+no_method (Token.Mark Mark.Equals) isnt = refl
 no_method t isnt = refl
 
-pub no_line : (t : Token) → ((x : Word) → t ≡ token.Word x → ⊥) → next ALine (token_of t) ≡ None
-no_line (token.Word x) isnt = absurd (isnt x refl)
-no_line (token.Mark mark.Equals) isnt = refl
+pub no_line : (t : Token) → ((x : Word) → t ≡ Token.Word x → ⊥) → next ALine (token_of t) ≡ None
+no_line (Token.Word x) isnt = absurd (isnt x refl)
+no_line (Token.Mark Mark.Equals) isnt = refl
 no_line t isnt = refl
 
 pub is_name_next : (x : List ℕ) → is_free x ≡ true → next AWord (t.Word x) ≡ Some []
 is_name_next x f = rw f refl
 
 -- a name that is one of the words that begin other lines
-pub not_free : (t : Token) (x : Word) → t ≡ token.Word x → false ≡ is_free x.bytes.now → next AWord (token_of t) ≡ None
+pub not_free : (t : Token) (x : Word) → t ≡ Token.Word x → false ≡ is_free x.bytes.now → next AWord (token_of t) ≡ None
 not_free t x e f = rw (e, sym f) refl
 
 -- ---- what is wanted like a mark
@@ -131,40 +126,40 @@ instead w m ws (p ∷ ps) k h =
     let e = h p.token ps (record { place = p.place; is = refl }) in
     rw e (instead_on (is_mark m p.token) p ps ws k)
 
-close_next : (u : LineToken) → (u ≡ t.Comma → ⊥) → next MaybeString u ≡ (if is_mark mark.Close u then Some [] else None)
+close_next : (u : LineToken) → (u ≡ t.Comma → ⊥) → next MaybeString u ≡ (if is_mark Mark.Close u then Some [] else None)
 close_next t.Comma isnt = absurd (isnt refl)
 close_next t.Close isnt = refl
 close_next t isnt = refl
 
-strings_next : (u : LineToken) → (u ≡ t.Comma → ⊥) → next MoreStrings u ≡ (if is_mark mark.CloseBracket u then Some [] else None)
+strings_next : (u : LineToken) → (u ≡ t.Comma → ⊥) → next MoreStrings u ≡ (if is_mark Mark.CloseBracket u then Some [] else None)
 strings_next t.Comma isnt = absurd (isnt refl)
 strings_next t.CloseBracket isnt = refl
 strings_next t isnt = refl
 
-edges_next : (u : LineToken) → (u ≡ t.Comma → ⊥) → next MoreEdges u ≡ (if is_mark mark.CloseBracket u then Some [] else None)
+edges_next : (u : LineToken) → (u ≡ t.Comma → ⊥) → next MoreEdges u ≡ (if is_mark Mark.CloseBracket u then Some [] else None)
 edges_next t.Comma isnt = absurd (isnt refl)
 edges_next t.CloseBracket isnt = refl
 edges_next t isnt = refl
 
-vary_next : (t : Token) → ((q : Quoted) → t ≡ token.Quoted q → ⊥)
-    → next VaryArguments (token_of t) ≡ (if is_mark mark.OpenBracket (token_of t) then Some (AString ∷ MoreStrings ∷ (variation_wants ++ AMark mark.Comma ∷ one_string_wants)) else None)
-vary_next (token.Quoted q) isnt = absurd (isnt q refl)
-vary_next (token.Mark mark.Equals) isnt = refl
+vary_next : (t : Token) → ((q : Quoted) → t ≡ Token.Quoted q → ⊥)
+    → next VaryArguments (token_of t) ≡ (if is_mark Mark.OpenBracket (token_of t) then Some (AString ∷ MoreStrings ∷ (variation_wants ++ AMark Mark.Comma ∷ one_string_wants)) else None)
+vary_next (Token.Quoted q) isnt = absurd (isnt q refl)
+vary_next (Token.Mark Mark.Equals) isnt = refl
 vary_next t isnt = refl
 
 -- without a comma the call ends
-pub close_wanted : (old : List PlacedToken) (k : List Want) → BeginsNot t.Comma old → walk_placed old (MaybeString ∷ k) ≡ walk_placed old (AMark mark.Close ∷ k)
-close_wanted old k isnt = instead MaybeString mark.Close [] old k (λ u new b. close_next u (first_is_not t.Comma u old new isnt b))
+pub close_wanted : (old : List PlacedToken) (k : List Want) → BeginsNot t.Comma old → walk_placed old (MaybeString ∷ k) ≡ walk_placed old (AMark Mark.Close ∷ k)
+close_wanted old k isnt = instead MaybeString Mark.Close [] old k (λ u new b. close_next u (first_is_not t.Comma u old new isnt b))
 
 -- without a comma the list ends
-pub strings_end : (old : List PlacedToken) (k : List Want) → BeginsNot t.Comma old → walk_placed old (MoreStrings ∷ k) ≡ walk_placed old (AMark mark.CloseBracket ∷ k)
-strings_end old k isnt = instead MoreStrings mark.CloseBracket [] old k (λ u new b. strings_next u (first_is_not t.Comma u old new isnt b))
+pub strings_end : (old : List PlacedToken) (k : List Want) → BeginsNot t.Comma old → walk_placed old (MoreStrings ∷ k) ≡ walk_placed old (AMark Mark.CloseBracket ∷ k)
+strings_end old k isnt = instead MoreStrings Mark.CloseBracket [] old k (λ u new b. strings_next u (first_is_not t.Comma u old new isnt b))
 
-pub edges_end : (old : List PlacedToken) (k : List Want) → BeginsNot t.Comma old → walk_placed old (MoreEdges ∷ k) ≡ walk_placed old (AMark mark.CloseBracket ∷ k)
-edges_end old k isnt = instead MoreEdges mark.CloseBracket [] old k (λ u new b. edges_next u (first_is_not t.Comma u old new isnt b))
+pub edges_end : (old : List PlacedToken) (k : List Want) → BeginsNot t.Comma old → walk_placed old (MoreEdges ∷ k) ≡ walk_placed old (AMark Mark.CloseBracket ∷ k)
+edges_end old k isnt = instead MoreEdges Mark.CloseBracket [] old k (λ u new b. edges_next u (first_is_not t.Comma u old new isnt b))
 
 -- a variation begins with a list of columns unless with a string
-pub columns_wanted : {s : Token} {seen : List PlacedToken} → (old : List PlacedToken) (k : List Want) → Begins (token_of s) old seen → ((q : Quoted) → s ≡ token.Quoted q → ⊥)
-    → walk_placed old (VaryArguments ∷ k) ≡ walk_placed old (strings_wants ++ ((variation_wants ++ AMark mark.Comma ∷ one_string_wants) ++ k))
+pub columns_wanted : {s : Token} {seen : List PlacedToken} → (old : List PlacedToken) (k : List Want) → Begins (token_of s) old seen → ((q : Quoted) → s ≡ Token.Quoted q → ⊥)
+    → walk_placed old (VaryArguments ∷ k) ≡ walk_placed old (strings_wants ++ ((variation_wants ++ AMark Mark.Comma ∷ one_string_wants) ++ k))
 columns_wanted {s} {seen} old k b isnt =
-    instead VaryArguments mark.OpenBracket (AString ∷ MoreStrings ∷ (variation_wants ++ AMark mark.Comma ∷ one_string_wants)) old k (λ u new c. let e = same_first b c in rw (sym e) (vary_next s isnt))
+    instead VaryArguments Mark.OpenBracket (AString ∷ MoreStrings ∷ (variation_wants ++ AMark Mark.Comma ∷ one_string_wants)) old k (λ u new c. let e = same_first b c in rw (sym e) (vary_next s isnt))

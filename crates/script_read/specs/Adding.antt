@@ -1,10 +1,7 @@
 -- What a line adds to the statements before it.
 use Rattle.std.specs.Prelude.{◌<◌, ℕ, List, [], ◌∷◌, ◌++◌, length}
-use Rattle.rdf_values.specs.Scripts.{IsBlankLine, IsLine, RefusesLines}
-use Rattle.rdf_values.specs.declared.script.Line.{Line}
-use Rattle.rdf_values.specs.declared.statement.Statement.{Statement}
+use Rattle.rdf_values.specs.{IsBlankLine, IsLine, Line, RefusesLines, Statement}
 use Rattle.script_read.specs.declared.refusal.ScriptRefusal.{ScriptRefusal}
-use Rattle.script_read.specs.declared.refusal.ScriptRefusal.TheVariants as refusal
 
 -- a blank line adds nothing; a statement, with its line's number, comes last
 pub data AddsLine (number : ℕ) (line : List ℕ) (before : List Line) : List Line → Type 0 where
@@ -13,5 +10,5 @@ pub data AddsLine (number : ℕ) (line : List ℕ) (before : List Line) : List L
 
 -- whatever lines follow, they are refused at this first line, where so many statements stand before it; or memory was wanted
 abbrev pub RefusesFirstAs : ℕ → ℕ → List ℕ → ScriptRefusal → Type 0
-RefusesFirstAs number before line (refusal.At cause) = (lines : List (List ℕ)) → RefusesLines number before (line ∷ lines) cause
-RefusesFirstAs number before line refusal.Memory = Unit {0}
+RefusesFirstAs number before line (ScriptRefusal.At cause) = (lines : List (List ℕ)) → RefusesLines number before (line ∷ lines) cause
+RefusesFirstAs number before line ScriptRefusal.Memory = Unit {0}

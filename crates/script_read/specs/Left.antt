@@ -1,6 +1,6 @@
 -- What a walk has left.
 use Rattle.std.specs.Prelude.{List, map}
-use Rattle.rdf_values.specs.LineTokens.{PlacedToken}
+use Rattle.rdf_values.specs.{PlacedToken}
 use Rattle.script_read.specs.Views.{placed_of}
 use Rattle.script_read.specs.declared.walk.Walk.{Walk}
 

@@ -1,52 +1,48 @@
 -- A walk over the tokens of a line, which takes each token that can stand where it does.
 use Rattle.std.specs.Prelude.{◌≡◌, ℕ, ℤ, Bool, true, false, List, [], ◌∷◌, ◌++◌, Option, Some, None, option_map, drop, codes, if◌then◌else◌}
-use Rattle.rdf_values.specs.Names.{same}
-use Rattle.rdf_values.specs.LineTokens.{LineToken, QuotedText, PlacedToken, bare_tokens}
+use Rattle.rdf_values.specs.{arguments, bare_tokens, edges_tokens, Form, form_tokens, has_free_names, is_free, LineToken, Method, method_word, more_edges, more_strings, PlacedToken, QuotedText, same, strings_tokens}
 use Rattle.rdf_values.specs.LineTokens as t
-use Rattle.rdf_values.specs.LineForms.{Method, Form, method_word, arguments, form_tokens, more_strings, strings_tokens, more_edges, edges_tokens, has_free_names, is_free}
 use Rattle.rdf_values.specs.LineForms as form
 use Rattle.script_read.specs.Views.{mark_token}
 use Rattle.script_read.specs.declared.method.MethodName.{MethodName}
-use Rattle.script_read.specs.declared.method.MethodName.TheVariants as name
-use Rattle.script_read.specs.declared.method.ActionName.TheVariants as action
+use Rattle.script_read.specs.declared.method.ActionName.{ActionName}
 use Rattle.script_read.specs.declared.token.Mark.{Mark}
-use Rattle.script_read.specs.declared.token.Mark.TheVariants as mark
 
 -- ---- marks
 
 -- whether the token is the mark
 abbrev pub is_mark : Mark → LineToken → Bool
-is_mark mark.Equals t.Equals = true
-is_mark mark.Dot t.Dot = true
-is_mark mark.Open t.Open = true
-is_mark mark.Close t.Close = true
-is_mark mark.OpenBracket t.OpenBracket = true
-is_mark mark.CloseBracket t.CloseBracket = true
-is_mark mark.Comma t.Comma = true
+is_mark Mark.Equals t.Equals = true
+is_mark Mark.Dot t.Dot = true
+is_mark Mark.Open t.Open = true
+is_mark Mark.Close t.Close = true
+is_mark Mark.OpenBracket t.OpenBracket = true
+is_mark Mark.CloseBracket t.CloseBracket = true
+is_mark Mark.Comma t.Comma = true
 is_mark m t = false
 
 -- ---- methods by their names
 
 -- the word of a name
 abbrev pub name_word : MethodName → List ℕ
-name_word name.Define = codes "Define"
-name_word name.Redefine = codes "Redefine"
-name_word name.Alias = codes "Alias"
-name_word name.Filter = codes "Filter"
-name_word name.Vary = codes "Vary"
-name_word (name.Action action.Count) = codes "Count"
-name_word name.Report = codes "Report"
-name_word (name.Action action.Sum) = codes "Sum"
-name_word (name.Action action.Min) = codes "Min"
-name_word (name.Action action.Max) = codes "Max"
-name_word (name.Action action.Take) = codes "Take"
-name_word (name.Action action.Reduce) = codes "Reduce"
-name_word (name.Action action.Histo1D) = codes "Histo1D"
-name_word (name.Action action.Histo2D) = codes "Histo2D"
+name_word MethodName.Define = codes "Define"
+name_word MethodName.Redefine = codes "Redefine"
+name_word MethodName.Alias = codes "Alias"
+name_word MethodName.Filter = codes "Filter"
+name_word MethodName.Vary = codes "Vary"
+name_word (MethodName.Action ActionName.Count) = codes "Count"
+name_word MethodName.Report = codes "Report"
+name_word (MethodName.Action ActionName.Sum) = codes "Sum"
+name_word (MethodName.Action ActionName.Min) = codes "Min"
+name_word (MethodName.Action ActionName.Max) = codes "Max"
+name_word (MethodName.Action ActionName.Take) = codes "Take"
+name_word (MethodName.Action ActionName.Reduce) = codes "Reduce"
+name_word (MethodName.Action ActionName.Histo1D) = codes "Histo1D"
+name_word (MethodName.Action ActionName.Histo2D) = codes "Histo2D"
 
 -- all names of methods
 abbrev pub all_names : List MethodName
-all_names = name.Define ∷ name.Redefine ∷ name.Alias ∷ name.Filter ∷ name.Vary ∷ (name.Action action.Count) ∷ name.Report ∷ (name.Action action.Sum) ∷ (name.Action action.Min) ∷ (name.Action action.Max) ∷ (name.Action action.Take) ∷ (name.Action action.Reduce) ∷ (name.Action action.Histo1D) ∷ (name.Action action.Histo2D) ∷ []
+all_names = MethodName.Define ∷ MethodName.Redefine ∷ MethodName.Alias ∷ MethodName.Filter ∷ MethodName.Vary ∷ (MethodName.Action ActionName.Count) ∷ MethodName.Report ∷ (MethodName.Action ActionName.Sum) ∷ (MethodName.Action ActionName.Min) ∷ (MethodName.Action ActionName.Max) ∷ (MethodName.Action ActionName.Take) ∷ (MethodName.Action ActionName.Reduce) ∷ (MethodName.Action ActionName.Histo1D) ∷ (MethodName.Action ActionName.Histo2D) ∷ []
 
 -- the first of the names that is this word
 abbrev pub named : List ℕ → List MethodName → Option MethodName
@@ -66,11 +62,11 @@ pub data Want : Type 0 where
 
 -- a name, and what is called on it
 abbrev pub booking_wants : List Want
-booking_wants = AMark mark.Equals ∷ AWord ∷ AMark mark.Dot ∷ AMethod ∷ []
+booking_wants = AMark Mark.Equals ∷ AWord ∷ AMark Mark.Dot ∷ AMethod ∷ []
 
 -- the name of a result
 abbrev pub asking_wants : List Want
-asking_wants = AMark mark.Open ∷ AWord ∷ AMark mark.Close ∷ []
+asking_wants = AMark Mark.Open ∷ AWord ∷ AMark Mark.Close ∷ []
 
 -- what follows the first word of a line
 abbrev pub line_wants : List ℕ → List Want
@@ -78,44 +74,44 @@ line_wants word = if is_free word then booking_wants else asking_wants
 
 -- a list of strings
 abbrev pub strings_wants : List Want
-strings_wants = AMark mark.OpenBracket ∷ AString ∷ MoreStrings ∷ []
+strings_wants = AMark Mark.OpenBracket ∷ AString ∷ MoreStrings ∷ []
 
 -- a list of integers
 abbrev pub edges_wants : List Want
-edges_wants = AMark mark.OpenBracket ∷ ANumber ∷ MoreEdges ∷ []
+edges_wants = AMark Mark.OpenBracket ∷ ANumber ∷ MoreEdges ∷ []
 
 -- a string that ends a call
 abbrev pub one_string_wants : List Want
-one_string_wants = AString ∷ AMark mark.Close ∷ []
+one_string_wants = AString ∷ AMark Mark.Close ∷ []
 
 -- two strings that end a call
 abbrev pub two_string_wants : List Want
-two_string_wants = AString ∷ AMark mark.Comma ∷ one_string_wants
+two_string_wants = AString ∷ AMark Mark.Comma ∷ one_string_wants
 
 -- the values and the tags of a variation, behind its columns
 abbrev pub variation_wants : List Want
-variation_wants = AMark mark.Comma ∷ AString ∷ AMark mark.Comma ∷ strings_wants
+variation_wants = AMark Mark.Comma ∷ AString ∷ AMark Mark.Comma ∷ strings_wants
 
 -- what stands in a method's parentheses, with the closing one
 abbrev pub arguments_wants : MethodName → List Want
-arguments_wants name.Define = two_string_wants
-arguments_wants name.Redefine = two_string_wants
-arguments_wants name.Alias = two_string_wants
-arguments_wants name.Filter = AString ∷ MaybeString ∷ []
-arguments_wants name.Vary = VaryArguments ∷ []
-arguments_wants (name.Action action.Count) = AMark mark.Close ∷ []
-arguments_wants name.Report = AMark mark.Close ∷ []
-arguments_wants (name.Action action.Sum) = one_string_wants
-arguments_wants (name.Action action.Min) = one_string_wants
-arguments_wants (name.Action action.Max) = one_string_wants
-arguments_wants (name.Action action.Take) = one_string_wants
-arguments_wants (name.Action action.Reduce) = two_string_wants
-arguments_wants (name.Action action.Histo1D) = edges_wants ++ AMark mark.Comma ∷ AString ∷ MaybeString ∷ []
-arguments_wants (name.Action action.Histo2D) = edges_wants ++ AMark mark.Comma ∷ (edges_wants ++ AMark mark.Comma ∷ AString ∷ AMark mark.Comma ∷ AString ∷ MaybeString ∷ [])
+arguments_wants MethodName.Define = two_string_wants
+arguments_wants MethodName.Redefine = two_string_wants
+arguments_wants MethodName.Alias = two_string_wants
+arguments_wants MethodName.Filter = AString ∷ MaybeString ∷ []
+arguments_wants MethodName.Vary = VaryArguments ∷ []
+arguments_wants (MethodName.Action ActionName.Count) = AMark Mark.Close ∷ []
+arguments_wants MethodName.Report = AMark Mark.Close ∷ []
+arguments_wants (MethodName.Action ActionName.Sum) = one_string_wants
+arguments_wants (MethodName.Action ActionName.Min) = one_string_wants
+arguments_wants (MethodName.Action ActionName.Max) = one_string_wants
+arguments_wants (MethodName.Action ActionName.Take) = one_string_wants
+arguments_wants (MethodName.Action ActionName.Reduce) = two_string_wants
+arguments_wants (MethodName.Action ActionName.Histo1D) = edges_wants ++ AMark Mark.Comma ∷ AString ∷ MaybeString ∷ []
+arguments_wants (MethodName.Action ActionName.Histo2D) = edges_wants ++ AMark Mark.Comma ∷ (edges_wants ++ AMark Mark.Comma ∷ AString ∷ AMark Mark.Comma ∷ AString ∷ MaybeString ∷ [])
 
 -- what follows the name of a method
 abbrev pub method_wants : MethodName → List Want
-method_wants n = AMark mark.Open ∷ arguments_wants n
+method_wants n = AMark Mark.Open ∷ arguments_wants n
 
 -- what asks for the result by that word, which is not free
 abbrev pub asked_form : List ℕ → List ℕ → Form
@@ -137,7 +133,7 @@ next MoreEdges t.CloseBracket = Some []
 next MaybeString t.Comma = Some one_string_wants
 next MaybeString t.Close = Some []
 next VaryArguments (t.Quoted q) = Some (variation_wants ++ MaybeString ∷ [])
-next VaryArguments t.OpenBracket = Some (AString ∷ MoreStrings ∷ (variation_wants ++ AMark mark.Comma ∷ one_string_wants))
+next VaryArguments t.OpenBracket = Some (AString ∷ MoreStrings ∷ (variation_wants ++ AMark Mark.Comma ∷ one_string_wants))
 next (AMark m) t = if is_mark m t then Some [] else None
 next w t = None
 

@@ -1,8 +1,6 @@
 // What holds of the texts of scripts; the function does nothing, and its contract is the law.
 ghost use Rattle.std.specs.Prelude.{◌≡◌, ◌⊎◌, ℕ, List};
-ghost use Rattle.rdf_values.specs.Scripts.{IsScript, RefusesScript};
-ghost use Rattle.rdf_values.specs.declared.script.Script.{Script};
-ghost use Rattle.rdf_values.specs.declared.script_cause.ScriptCause.{ScriptCause};
+ghost use Rattle.rdf_values.specs.{IsScript, RefusesScript, Script, ScriptCause};
 
 /// Each text is one script or is refused for one cause, and not both.
 pub fn one_answer()

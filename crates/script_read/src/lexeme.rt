@@ -1,10 +1,8 @@
 // What a line begins with at a place.
 ghost use Rattle.std.specs.Prelude.{◌≡◌, ◌==◌, ◌+◌, ◌-◌, ◌<◌, ◌≤◌, ◌∷◌, ◌||◌, ℕ, List, true, length, drop, position};
 ghost use Rattle.std.specs.List.{list_all};
-ghost use Rattle.rdf_values.specs.Names.{between, is_digit, is_name, is_word};
-ghost use Rattle.rdf_values.specs.Integers.{integer_of};
-ghost use Rattle.rdf_values.specs.LineTokens.{lexeme, word_lexeme, integer_lexeme, string_lexeme, mark_lexeme};
-ghost use Rattle.script_read.specs.Views.{lexeme_of};
+ghost use Rattle.rdf_values.specs.{between, integer_lexeme, integer_of, is_digit, is_name, is_word, lexeme, mark_lexeme, string_lexeme, word_lexeme};
+ghost use Rattle.script_read.specs.{lexeme_of};
 
 use crate::token::{Mark, Quoted, Token, Word};
 use rdf_values::name::is_word_start;

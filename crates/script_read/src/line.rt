@@ -1,7 +1,7 @@
 // What a line says.
 ghost use Rattle.std.specs.Prelude.{◌≡◌, ◌≤◌, length, IfOk, IfErr, MatchOption};
-ghost use Rattle.rdf_values.specs.Scripts.{IsBlankLine, IsLine, RefusesLine};
-ghost use Rattle.script_read.specs.Stops.{RefusedFor};
+ghost use Rattle.rdf_values.specs.{IsBlankLine, IsLine, RefusesLine};
+ghost use Rattle.script_read.specs.{RefusedFor};
 
 use crate::statement::read_statement;
 use crate::stop::LineStop;

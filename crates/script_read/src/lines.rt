@@ -1,7 +1,7 @@
 // The lines of a text.
 ghost use Rattle.std.specs.Prelude.{◌≡◌, ◌<◌, ◌≤◌, ◌∷◌, ◌==◌, length, position};
 ghost use Rattle.std.specs.Io.BufRead.{strip_last};
-ghost use Rattle.rdf_values.specs.ScriptLines.{lines_of};
+ghost use Rattle.rdf_values.specs.{lines_of};
 
 fn find_line_end(text: &[u8]) -> Option<usize>
     ensures { result ≡ position (λ byte. byte == 10) text.now }

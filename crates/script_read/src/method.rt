@@ -1,10 +1,9 @@
 // The methods that are called on a node: their names, and their arguments.
 ghost use Rattle.std.specs.Prelude.{◌≡◌, [], ◌∷◌, ◌++◌, Err, IfOk, MatchOption};
-ghost use Rattle.rdf_values.specs.LineForms.{method_word, arguments, call, strings_tokens};
-ghost use Rattle.rdf_values.specs.LineTokens.{Quoted as AsQuoted, Comma as AsComma};
+ghost use Rattle.rdf_values.specs.{arguments, Comma as AsComma, method_word, Quoted as AsQuoted, strings_tokens};
+ghost use Rattle.rdf_values.specs.LineForms.{call};
 ghost use Rattle.script_read.specs.declared.method.MethodName.{MethodName as AnyMethod};
-ghost use Rattle.script_read.specs.Views.{quoted_of, strings_of, action_of, method_of};
-ghost use Rattle.script_read.specs.Walk.{name_word, Took, IsStuck, TookArguments, SeesMethod, AMethod, variation_wants, arguments_wants};
+ghost use Rattle.script_read.specs.{action_of, AMethod, arguments_wants, IsStuck, method_of, name_word, quoted_of, SeesMethod, strings_of, Took, TookArguments, variation_wants};
 
 use crate::fail::Fail;
 use crate::form::{Action, Method, OneOrMore};
@@ -60,7 +59,7 @@ fn method_name(word: &[u8]) -> Option<MethodName>
 }
 
 impl<'t, 'a> Walk<'t, 'a> {
-    ghost use Rattle.script_read.specs.Left.{left_of};
+    ghost use Rattle.script_read.specs.{left_of};
 
     // The name of the method that comes next.
     fn peek_method(&self) -> Result<MethodName, Fail>

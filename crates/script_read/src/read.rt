@@ -1,10 +1,7 @@
 // Reads scripts.
 ghost use Rattle.std.specs.Prelude.{◌≡◌, ◌≤◌, ◌↔◌, ◌⊎◌, ℕ, List, length, IfOk, IfErr, MatchResult};
-ghost use Rattle.rdf_values.specs.Scripts.{IsScript, RefusesLine, RefusesScript};
-ghost use Rattle.rdf_values.specs.declared.script.Script.{Script};
-ghost use Rattle.rdf_values.specs.declared.script_cause.ScriptCause.{ScriptCause};
-ghost use Rattle.script_read.specs.Adding.{AddsLine, RefusesFirstAs};
-ghost use Rattle.script_read.specs.Stops.{RefusedFor, RefusesTextAs};
+ghost use Rattle.rdf_values.specs.{IsScript, RefusesLine, RefusesScript, Script, ScriptCause};
+ghost use Rattle.script_read.specs.{AddsLine, RefusedFor, RefusesFirstAs, RefusesTextAs};
 
 use crate::line::read_line;
 use crate::lines::first_line;

@@ -1,11 +1,8 @@
 // What a form says.
 ghost use Rattle.std.specs.Prelude.{◌≡◌, [], ◌∷◌, option_map, IfOk, IfErr};
 ghost use Rattle.rdf_values.specs.LineForms as line;
-ghost use Rattle.rdf_values.specs.Scans.{ReadsText};
-ghost use Rattle.rdf_values.specs.Statements.{Says, IsName, IsAction, AName, AnExpression, FirstBad, all_edges, maybe_wanted, form_strings, method_strings};
-ghost use Rattle.script_read.specs.Views.{quoted_of, strings_of, edges_of, action_of, method_of, form_of};
-ghost use Rattle.script_read.specs.Stops.{RefusedFor};
-ghost use Rattle.script_read.specs.VaryNames.{IsNamed};
+ghost use Rattle.rdf_values.specs.{all_edges, AName, AnExpression, FirstBad, form_strings, IsAction, IsName, maybe_wanted, method_strings, ReadsText, Says};
+ghost use Rattle.script_read.specs.{action_of, edges_of, form_of, IsNamed, method_of, quoted_of, RefusedFor, strings_of};
 
 use crate::form::{Action, Form, Method, OneOrMore};
 use crate::nodes::Nodes;

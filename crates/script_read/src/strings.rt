@@ -1,12 +1,7 @@
 // What the strings of a form must be: names, labels, operations, expressions and the values of a Vary.
 ghost use Rattle.std.specs.Prelude.{◌≡◌, true, length, option_map, IfOk, IfErr, MatchOption};
-ghost use Rattle.rdf_values.specs.Statements.{IsName, IsMaybeName, AreNames, IsMaybeLabel, operation_text, AName, ALabel, AnOperation, AnExpression, SomeValues, IsBad, FirstBad, maybe_wanted, wanted_names, all_strings};
-ghost use Rattle.rdf_values.specs.Names.{is_label};
-ghost use Rattle.rdf_values.specs.Scans.{ReadsText, ReadsValuesText};
-ghost use Rattle.rdf_values.specs.declared.action.ReduceOp.{ReduceOp as Operation};
-ghost use Rattle.script_read.specs.Views.{quoted_of, strings_of};
-ghost use Rattle.script_read.specs.Stops.{RefusedFor};
-ghost use Rattle.script_read.specs.StringPlaces.{StandsWithin, stop_in};
+ghost use Rattle.rdf_values.specs.{ALabel, all_strings, AName, AnExpression, AnOperation, AreNames, FirstBad, is_label, IsBad, IsMaybeLabel, IsMaybeName, IsName, maybe_wanted, operation_text, ReadsText, ReadsValuesText, ReduceOp as Operation, SomeValues, wanted_names};
+ghost use Rattle.script_read.specs.{quoted_of, RefusedFor, StandsWithin, stop_in, strings_of};
 
 use crate::form::OneOrMore;
 use crate::stop::LineStop;

@@ -1,6 +1,6 @@
 // The tokens of a line.
 ghost use Rattle.std.specs.Prelude.{◌≡◌, ◌+◌, ◌<◌, true, length};
-ghost use Rattle.rdf_values.specs.Names.{is_name};
+ghost use Rattle.rdf_values.specs.{is_name};
 
 /// A word, which is a name.
 #[derive(Clone, Copy)]

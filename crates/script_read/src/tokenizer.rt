@@ -1,9 +1,7 @@
 // Cuts a line into tokens.
 ghost use Rattle.std.specs.Prelude.{◌≡◌, ◌≤◌, Ok, map, length, IfOk, IfErr};
-ghost use Rattle.rdf_values.specs.LineTokens.{line_tokens};
-ghost use Rattle.rdf_values.specs.Scripts.{RefusesLine};
-ghost use Rattle.script_read.specs.Views.{placed_of};
-ghost use Rattle.script_read.specs.Stops.{RefusedFor};
+ghost use Rattle.rdf_values.specs.{line_tokens, RefusesLine};
+ghost use Rattle.script_read.specs.{placed_of, RefusedFor};
 
 use crate::lexeme::{Lexeme, lexeme_at};
 use crate::stop::LineStop;

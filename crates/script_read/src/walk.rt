@@ -1,11 +1,8 @@
 // Reads the tokens of a line as a form, from the left with one token in hand.
 ghost use Rattle.std.specs.Prelude.{◌≡◌, ◌<◌, ℕ, List, [], ◌∷◌, ◌++◌, Ok, Err, map, drop, true, false, length, OnOk, IfOk, IfErr, option_map};
-ghost use Rattle.rdf_values.specs.LineForms.{IsForm, is_free as is_free_word, strings_tokens, edges_tokens, maybe_string};
-ghost use Rattle.rdf_values.specs.LineTokens.{line_tokens, bare_tokens, Word as AsWord, Number as AsNumber, Quoted as AsQuoted, Open as AsOpen, Close as AsClose, Comma as AsComma};
-ghost use Rattle.rdf_values.specs.Scripts.{RefusesLine};
-ghost use Rattle.script_read.specs.Views.{placed_of, form_of, mark_token, token_of, quoted_of, strings_of, edges_of};
-ghost use Rattle.script_read.specs.Stops.{RefusedFor};
-ghost use Rattle.script_read.specs.Walk.{Took, IsStuck, TookForm, Begins, Ate, ALine, AWord, AString, ANumber, MaybeString, AMark, strings_wants, edges_wants, one_string_wants, two_string_wants, asked_form, asking_wants, booking_wants, place_from, TookBooking};
+ghost use Rattle.rdf_values.specs.{bare_tokens, Close as AsClose, Comma as AsComma, edges_tokens, is_free as is_free_word, IsForm, line_tokens, maybe_string, Open as AsOpen, Quoted as AsQuoted, RefusesLine, strings_tokens};
+ghost use Rattle.rdf_values.specs.LineTokens.{Word as AsWord, Number as AsNumber};
+ghost use Rattle.script_read.specs.{ALine, AMark, ANumber, asked_form, asking_wants, AString, Ate, AWord, Begins, booking_wants, edges_of, edges_wants, form_of, IsStuck, mark_token, MaybeString, one_string_wants, place_from, placed_of, quoted_of, RefusedFor, strings_of, strings_wants, token_of, Took, TookBooking, TookForm, two_string_wants};
 
 use crate::fail::Fail;
 use crate::form::{Form, OneOrMore};
@@ -54,7 +51,7 @@ pub(crate) struct Walk<'t, 'a> {
 }
 
 impl<'t, 'a> Walk<'t, 'a> {
-    ghost use Rattle.script_read.specs.Left.{left_of};
+    ghost use Rattle.script_read.specs.{left_of};
 
     // The next token.
     pub(crate) fn peek(&self) -> Result<Token<'a>, Fail>

@@ -1,43 +1,27 @@
 -- That merging what runs are due is due the transcript of one run.
-use Rattle.std.proofs.Common.{◌≡◌, inr, ◌≤◌, ◌<◌, ◌+◌, ℕ, Bool, true, false, ◌&&◌, List, [], ◌∷◌, ◌++◌, length, map, nat_lt, Option, None, Some, Result, Ok, refl, sym, ap, ◌∙◌, subst, arith, append-nil, append_assoc}
+use Rattle.std.proofs.Common.{◌≡◌, inr, ◌≤◌, ◌<◌, ◌+◌, ℕ, Bool, true, false, ◌&&◌, List, [], ◌∷◌, ◌++◌, length, map, nat_lt, Option, None, Some, Result, Ok, refl, sym, ap, ◌∙◌, subst, arith, append-nil, append_assoc, All, MatchOption, MatchResult, nat_le, unwrap_or}
 use Rattle.std.specs.Bool.{MatchBool}
-use Rattle.std.specs.Prelude.{All, MatchOption, MatchResult, nat_le, unwrap_or}
 use Rattle.std.proofs.lemmas.Bool.{le-ltb}
 use Rattle.std.proofs.lemmas.Bool.Decides.{nat_tests}
 use Rattle.std.proofs.lemmas.List.Elements.{All-nil, All-cons}
 use Rattle.std.proofs.lemmas.List.Sums.{sum_by-cons}
-use Rattle.rdf_values.specs.Cuts.{Lead}
-use Rattle.rdf_values.specs.Functions.{Function}
-use Rattle.rdf_values.specs.RefusalLines.{graph_cause_line, long_script_line, no_file_line}
-use Rattle.rdf_values.specs.TableText.{MarkedTable}
-use Rattle.rdf_values.specs.declared.script.Script.{Script}
-use Rattle.rdf_values.specs.declared.span.Span.{Span}
+use Rattle.rdf_values.specs.{Function, graph_cause_line, Lead, long_script_line, MarkedTable, no_file_line, Script, Span}
 use Rattle.rdf_values.proofs.Leading.{cuts_lead}
 use Rattle.rdf_values.proofs.ShortLists.{scripts_are_bookable}
-use Rattle.rdf_model.specs.PartialResults.{Course}
-use Rattle.rdf_model.specs.Results.{Dataset}
-use Rattle.rdf_model.specs.Transcript.{Printed}
-use Rattle.graph_numbers.specs.Graphs.{GraphView, IsGraph}
-use Rattle.input_files.specs.Due.{ReadsScript, WithScriptFile, due_of, max_script}
-use Rattle.input_files.specs.Reading.{HoldsTheScript}
-use Rattle.shard_files.specs.Merging.{first_misshapen, first_other, first_uncovered, merge_of, shards_joined, unless_at}
-use Rattle.shard_files.specs.Shards.{IsShardText, ShardView, shard_text}
-use Rattle.shard_files.specs.declared.merge_cause.MergeCause.{MergeCause}
-use Rattle.shard_files.specs.declared.merge_cause.MergeCause.TheVariants as cause
-use Rattle.shard_files.specs.declared.shard_loop.ShardLoop.{ShardLoop}
-use Rattle.shard_lines.specs.declared.pass_shape.PassShape.{PassShape}
-use Rattle.shard_spans.specs.Spans.{loops_of, span_loops, span_shard}
-use Rattle.shard_runs.specs.Laws.{IsChecked}
+use Rattle.rdf_model.specs.{Course, Dataset, Printed}
+use Rattle.graph_numbers.specs.{GraphView, IsGraph}
+use Rattle.input_files.specs.{due_of, HoldsTheScript, max_script, ReadsScript, WithScriptFile}
+use Rattle.shard_files.specs.{first_misshapen, first_other, first_uncovered, IsShardText, merge_of, MergeCause, shard_text, ShardLoop, shards_joined, ShardView, unless_at}
+use Rattle.shard_lines.specs.{PassShape}
+use Rattle.shard_spans.specs.{loops_of, span_loops, span_shard}
+use Rattle.shard_runs.specs.{IsChecked}
 use Rattle.shard_runs.proofs.Merged.{runs_merge_to_one_run}
 use Rattle.shard_runs.proofs.Runs.{runs_are_shards}
-use Rattle.merged_text.specs.MergedPrints.{merged_text}
-use Rattle.graph_shapes.specs.GraphShapes.{graph_shapes}
+use Rattle.merged_text.specs.{merged_text}
+use Rattle.graph_shapes.specs.{graph_shapes}
 use Rattle.shard_transcripts.proofs.WholeText.{merged_run_prints_no_partials}
 use Rattle.unwatched_scripts.proofs.Printing.{dropped_watches_drop_partial_lines}
-use Rattle.shard_due.specs.Due.{Files, IsDueToShards, IsDueToTable, IsFile, IsMerged, IsPrinted, IsSpanDue, ReadsShard, ShardDue, WithAccepted, WithShard, WithShards, cause_due, clusters_of, dataset_of, graph_over, is_span, max_files, name_at}
-use Rattle.shard_due.specs.Laws.{CoverOnce, HoldRuns, MergingIsDueTheTranscript, bytes_in, one_run}
-use Rattle.shard_due.specs.Lines.{differs_line, long_files_line, span_line}
-use Rattle.shard_due.specs.Statuses.{printed_status, statuses}
+use Rattle.shard_due.specs.{bytes_in, cause_due, clusters_of, CoverOnce, dataset_of, differs_line, Files, graph_over, HoldRuns, is_span, IsDueToShards, IsDueToTable, IsFile, IsMerged, IsPrinted, IsSpanDue, long_files_line, max_files, MergingIsDueTheTranscript, name_at, one_run, printed_status, ReadsShard, ShardDue, span_line, statuses, WithAccepted, WithShard, WithShards}
 use Rattle.shard_due.specs.declared.status.ShardStatus.TheVariants.{BadSpan, Done, FilesDiffer, ScriptRefused, TooLong}
 
 status_of : {a b : ShardDue} → a ≡ b → a.status ≡ b.status
@@ -52,9 +36,9 @@ both false b h = absurd (cc h)
 no_other : (shapes : List (List PassShape)) (s : ShardView) (rest : List ShardView) (loops : List ShardLoop) → merge_of shapes (s ∷ rest) ≡ Ok loops → first_other s (s ∷ rest) ≡ None
 unfolding merge_of
 no_other shapes s rest loops h =
-    go (first_other s (s ∷ rest)) (unless_at (first_misshapen shapes (s ∷ rest)) cause.Shape (unless_at (first_uncovered s.clusters (s ∷ rest)) cause.Cover (Ok (shards_joined shapes (s ∷ rest))))) h
+    go (first_other s (s ∷ rest)) (unless_at (first_misshapen shapes (s ∷ rest)) MergeCause.Shape (unless_at (first_uncovered s.clusters (s ∷ rest)) MergeCause.Cover (Ok (shards_joined shapes (s ∷ rest))))) h
   where
-    go : (o : Option ℕ) (next : Result (List ShardLoop) MergeCause) → unless_at o cause.Head next ≡ Ok loops → o ≡ None
+    go : (o : Option ℕ) (next : Result (List ShardLoop) MergeCause) → unless_at o MergeCause.Head next ≡ Ok loops → o ≡ None
     go None next e = refl
     go (Some place) next e = absurd (cc e)
 

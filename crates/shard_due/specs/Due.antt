@@ -1,33 +1,20 @@
 -- What is due to the words, the files and the caller's functions: a status and the bytes that are written with it.
 use Rattle.std.specs.Prelude.{◌≡◌, ◌⊎◌, ◌+◌, ℕ, Bool, ◌&&◌, List, [], ◌∷◌, ◌++◌, length, Option, nat_le, nat_lt, MatchOption, MatchResult, unwrap_or, slice_get}
 use Rattle.std.specs.Bool.{MatchBool}
-use Rattle.rdf_values.specs.Cuts.{cut}
-use Rattle.rdf_values.specs.Functions.{Function, fn_names}
-use Rattle.rdf_values.specs.RefusalLines.{graph_cause_line}
-use Rattle.rdf_values.specs.TableText.{MarkedTable}
-use Rattle.rdf_values.specs.Verdict.{verdict}
-use Rattle.rdf_values.specs.declared.column.Column.{Column}
-use Rattle.rdf_values.specs.declared.script.Script.{Script}
-use Rattle.rdf_values.specs.declared.span.Span.{Span}
-use Rattle.rdf_model.specs.Results.{Dataset}
-use Rattle.graph_numbers.specs.Graphs.{GraphView}
-use Rattle.input_files.specs.Due.{Due, WithFile, WithScriptFile, WithTableFile, due_of}
-use Rattle.shard_files.specs.Merging.{first_other}
+use Rattle.rdf_values.specs.{Column, cut, fn_names, Function, graph_cause_line, MarkedTable, Script, Span, verdict}
+use Rattle.rdf_model.specs.{Dataset}
+use Rattle.graph_numbers.specs.{GraphView}
+use Rattle.input_files.specs.{due_of, WithFile, WithScriptFile, WithTableFile}
+use Rattle.input_files.specs.Due.{Due}
+use Rattle.shard_files.specs.{BreaksAt, first_other, IsShardText, MergeCause, shard_text, ShardLoop, ShardView}
 use Rattle.shard_files.specs.Merging as merging
-use Rattle.shard_files.specs.Shards.{BreaksAt, IsShardText, ShardView, shard_text}
-use Rattle.shard_files.specs.declared.merge_cause.MergeCause.{MergeCause}
-use Rattle.shard_files.specs.declared.merge_cause.MergeCause.TheVariants as cause
-use Rattle.shard_files.specs.declared.shard_loop.ShardLoop.{ShardLoop}
-use Rattle.shard_spans.specs.Spans.{span_shard}
-use Rattle.merged_text.specs.MergedPrints.{merged_text}
-use Rattle.graph_shapes.specs.GraphShapes.{graph_shapes}
-use Rattle.shard_words.specs.Asked.{asked_of}
+use Rattle.shard_spans.specs.{span_shard}
+use Rattle.merged_text.specs.{merged_text}
+use Rattle.graph_shapes.specs.{graph_shapes}
+use Rattle.shard_words.specs.{asked_of, Merging, ShardCommand, SpanRun}
 use Rattle.shard_due.specs.Lines.{differs_line, file_refused_line, long_files_line, span_line, uncovered_line, usage_line}
 use Rattle.shard_due.specs.Statuses.{printed_status, statuses}
-use Rattle.shard_words.specs.declared.command.Merging.{Merging}
-use Rattle.shard_words.specs.declared.command.ShardCommand.{ShardCommand}
 use Rattle.shard_words.specs.declared.command.ShardCommand.TheVariants.{Run, Merge}
-use Rattle.shard_words.specs.declared.command.SpanRun.{SpanRun}
 use Rattle.shard_due.specs.declared.status.ShardStatus.{ShardStatus}
 use Rattle.shard_due.specs.declared.status.ShardStatus.TheVariants.{Done, Words, ScriptRefused, BadSpan, FileRefused, FilesDiffer, NotCovered, TooLong}
 
@@ -70,9 +57,9 @@ name_at names i = unwrap_or (slice_get names i) []
 
 -- files that aren't merged are due their line
 abbrev pub cause_due : List (List ℕ) → MergeCause → ShardDue
-cause_due names (cause.Head file) = due_of FilesDiffer (differs_line (name_at names file))
-cause_due names (cause.Shape file) = due_of FilesDiffer (differs_line (name_at names file))
-cause_due names (cause.Cover cluster) = due_of NotCovered (uncovered_line cluster)
+cause_due names (MergeCause.Head file) = due_of FilesDiffer (differs_line (name_at names file))
+cause_due names (MergeCause.Shape file) = due_of FilesDiffer (differs_line (name_at names file))
+cause_due names (MergeCause.Cover cluster) = due_of NotCovered (uncovered_line cluster)
 
 -- the lines of merged loops
 abbrev pub IsPrinted : GraphView → List ShardLoop → ShardDue → Type 0

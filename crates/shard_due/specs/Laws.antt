@@ -1,18 +1,12 @@
 -- Laws of what is due. Each is the contract of a function of this crate, and so proved.
 use Rattle.std.specs.Prelude.{◌≡◌, ◌≤◌, ◌<◌, ⊤, ℕ, List, [], ◌∷◌, None, MatchOption, length, sum_by, unwrap_or}
-use Rattle.rdf_values.specs.Functions.{Function}
-use Rattle.rdf_values.specs.TableText.{MarkedTable}
-use Rattle.rdf_values.specs.declared.script.Script.{Script}
-use Rattle.rdf_values.specs.declared.span.Span.{Span}
-use Rattle.rdf_model.specs.PartialResults.{Course}
-use Rattle.rdf_model.specs.Transcript.{Printed, transcript}
-use Rattle.input_files.specs.Due.{due_of}
-use Rattle.input_files.specs.Reading.{HoldsTheScript}
-use Rattle.shard_files.specs.Merging.{first_uncovered}
-use Rattle.shard_runs.specs.Laws.{IsChecked, runs_over}
-use Rattle.shard_words.specs.Asked.{asked_of}
-use Rattle.shard_words.specs.declared.command.Merging.{Merging}
-use Rattle.unwatched_scripts.specs.Unwatched.{unwatched}
+use Rattle.rdf_values.specs.{Function, MarkedTable, Script, Span}
+use Rattle.rdf_model.specs.{Course, Printed, transcript}
+use Rattle.input_files.specs.{due_of, HoldsTheScript}
+use Rattle.shard_files.specs.{first_uncovered}
+use Rattle.shard_runs.specs.{IsChecked, runs_over}
+use Rattle.shard_words.specs.{asked_of, Merging}
+use Rattle.unwatched_scripts.specs.{unwatched}
 use Rattle.shard_due.specs.Due.{Files, IsDue, IsDueToTable, IsMergeDue, clusters_of, dataset_of, max_files}
 use Rattle.shard_due.specs.Lines.{usage_line}
 use Rattle.shard_due.specs.Statuses.{printed_status}

@@ -1,6 +1,6 @@
 -- The lines that are this program's own.
 use Rattle.std.specs.Prelude.{ℕ, List, ◌++◌, codes, decimal}
-use Rattle.rdf_values.specs.RefusalLines.{line}
+use Rattle.rdf_values.specs.{line}
 
 -- how the command is called
 abbrev pub usage_line : List ℕ

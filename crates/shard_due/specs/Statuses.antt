@@ -1,6 +1,6 @@
 -- Statuses as numbers.
 use Rattle.std.specs.Prelude.{ℕ, zero, suc}
-use Rattle.input_files.specs.Due.{FileStatuses}
+use Rattle.input_files.specs.{FileStatuses}
 use Rattle.shard_due.specs.declared.status.ShardStatus.{ShardStatus}
 use Rattle.shard_due.specs.declared.status.ShardStatus.TheVariants.{Done, Memory, Words, ReadFault, WriteFault, NoFile, ScriptRefused, TableRefused, LoopFault, BadSpan, FileRefused, FilesDiffer, NotCovered, TooLong}
 

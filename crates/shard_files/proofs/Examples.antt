@@ -1,33 +1,24 @@
 -- The definitions computed: the files of two spans, and what they come to together.
-use Rattle.std.proofs.Common.{◌≡◌, ℕ, true, pos, negsuc, List, [], ◌∷◌, refl, Ok, Err, codes}
-use Rattle.std.specs.Prelude.{flat_map}
+use Rattle.std.proofs.Common.{◌≡◌, ℕ, true, pos, negsuc, List, [], ◌∷◌, refl, Ok, Err, codes, flat_map}
 use Rattle.std.specs.Fmt.{digits}
-use Rattle.rdf_values.specs.RefusalLines.{line}
-use Rattle.rdf_values.specs.declared.column.Column.{Column}
+use Rattle.rdf_values.specs.{ColType, Column, line, Scalar}
 use Rattle.rdf_values.specs.declared.fault.EntryFault.TheVariants.{ZeroDivisor}
-use Rattle.rdf_values.specs.declared.value.ColType.TheVariants as k
-use Rattle.rdf_values.specs.declared.value.Scalar.TheVariants as scalar
-use Rattle.shard_lines.specs.declared.shard_line.ShardLine.TheVariants as pass
-use Rattle.shard_files.specs.declared.shard_loop.ShardLoop.{ShardLoop}
+use Rattle.shard_lines.specs.{PassShape, ShardLine}
+use Rattle.shard_files.specs.{line_text, merge_of, MergeCause, shard_text, ShardLoop, shards_joined, ShardView}
 use Rattle.shard_files.specs.declared.shard_loop.ShardLoop.TheVariants.{Whole, Faulted}
-use Rattle.shard_files.specs.declared.merge_cause.MergeCause.TheVariants as cause
-use Rattle.shard_lines.specs.declared.pass_shape.PassShape.{PassShape}
-use Rattle.shard_lines.specs.declared.pass_shape.PassShape.TheVariants as shape
-use Rattle.shard_files.specs.Merging.{merge_of, shards_joined}
-use Rattle.shard_files.specs.Shards.{ShardView, line_text, shard_text}
 
 abbrev columns : List Column
-columns = record { name = codes "pt"; kind = k.Int } ∷ record { name = codes "w"; kind = k.Int } ∷ record { name = codes "jets"; kind = k.Vect } ∷ []
+columns = record { name = codes "pt"; kind = ColType.Int } ∷ record { name = codes "w"; kind = ColType.Int } ∷ record { name = codes "jets"; kind = ColType.Vect } ∷ []
 
 abbrev over : ℕ → ℕ → List ShardLoop → ShardView
 over lo hi loops = record { entries = 4; clusters = 2; columns = columns; lo = lo; hi = hi; loops = loops }
 
 -- a Take and a Sum over the first two entries, and over the others
 abbrev first : ShardView
-first = over 0 1 (Whole (pass.Take (scalar.Int (pos 10) ∷ scalar.Int (pos 25) ∷ []) ∷ pass.Sum (pos 3) ∷ []) ∷ [])
+first = over 0 1 (Whole (ShardLine.Take (Scalar.Int (pos 10) ∷ Scalar.Int (pos 25) ∷ []) ∷ ShardLine.Sum (pos 3) ∷ []) ∷ [])
 
 abbrev second : ShardView
-second = over 1 2 (Whole (pass.Take (scalar.Int (pos 40) ∷ scalar.Int (pos 5) ∷ []) ∷ pass.Sum (negsuc 1) ∷ []) ∷ [])
+second = over 1 2 (Whole (ShardLine.Take (Scalar.Int (pos 40) ∷ Scalar.Int (pos 5) ∷ []) ∷ ShardLine.Sum (negsuc 1) ∷ []) ∷ [])
 
 pub the_first_file : shard_text first
     ≡ flat_map line
@@ -42,10 +33,10 @@ unfolding line_text digits
 the_second_file = refl
 
 abbrev loops : List (List PassShape)
-loops = (shape.Take k.Int ∷ shape.Sum ∷ []) ∷ []
+loops = (PassShape.Take ColType.Int ∷ PassShape.Sum ∷ []) ∷ []
 
 abbrev both : List ShardLoop
-both = Whole (pass.Take (scalar.Int (pos 10) ∷ scalar.Int (pos 25) ∷ scalar.Int (pos 40) ∷ scalar.Int (pos 5) ∷ []) ∷ pass.Sum (pos 1) ∷ []) ∷ []
+both = Whole (ShardLine.Take (Scalar.Int (pos 10) ∷ Scalar.Int (pos 25) ∷ Scalar.Int (pos 40) ∷ Scalar.Int (pos 5) ∷ []) ∷ ShardLine.Sum (pos 1) ∷ []) ∷ []
 
 pub both_in_order : merge_of loops (first ∷ second ∷ []) ≡ Ok both
 unfolding merge_of shards_joined
@@ -55,15 +46,15 @@ pub both_in_the_other_order : merge_of loops (second ∷ first ∷ []) ≡ Ok bo
 unfolding merge_of shards_joined
 both_in_the_other_order = refl
 
-pub one_cluster_is_missing : merge_of loops (first ∷ []) ≡ Err (cause.Cover 1)
+pub one_cluster_is_missing : merge_of loops (first ∷ []) ≡ Err (MergeCause.Cover 1)
 unfolding merge_of shards_joined
 one_cluster_is_missing = refl
 
-pub one_cluster_stands_twice : merge_of loops (first ∷ second ∷ first ∷ []) ≡ Err (cause.Cover 0)
+pub one_cluster_stands_twice : merge_of loops (first ∷ second ∷ first ∷ []) ≡ Err (MergeCause.Cover 0)
 unfolding merge_of shards_joined
 one_cluster_stands_twice = refl
 
-pub another_script : merge_of ((shape.Sum ∷ []) ∷ []) (first ∷ second ∷ []) ≡ Err (cause.Shape 0)
+pub another_script : merge_of ((PassShape.Sum ∷ []) ∷ []) (first ∷ second ∷ []) ≡ Err (MergeCause.Shape 0)
 unfolding merge_of shards_joined
 another_script = refl
 
@@ -83,8 +74,8 @@ a_fault_is_the_loops = refl
 
 -- truth values aren't taken from a column of numbers
 abbrev truths : ShardView
-truths = over 0 1 (Whole (pass.Take (scalar.Bool true ∷ []) ∷ pass.Sum (pos 3) ∷ []) ∷ [])
+truths = over 0 1 (Whole (ShardLine.Take (Scalar.Bool true ∷ []) ∷ ShardLine.Sum (pos 3) ∷ []) ∷ [])
 
-pub values_of_another_sort : merge_of loops (truths ∷ second ∷ []) ≡ Err (cause.Shape 0)
+pub values_of_another_sort : merge_of loops (truths ∷ second ∷ []) ≡ Err (MergeCause.Shape 0)
 unfolding merge_of shards_joined
 values_of_another_sort = refl

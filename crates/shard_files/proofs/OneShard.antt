@@ -1,10 +1,8 @@
 -- A text is of one shard at most, and it breaks nowhere.
 use Rattle.std.proofs.Common.{◌≡◌, Some, List, [], ◌∷◌, ◌++◌, ap, ◌∙◌, refl, sym, append-nil, subst}
-use Rattle.shard_lines.specs.Lines.{EachFits}
+use Rattle.shard_lines.specs.{EachFits}
 use Rattle.shard_files.specs.declared.file_line.FileLine.{FileLine}
-use Rattle.shard_files.specs.Laws.{TextBreaksNowhere, TextIsOfOneShard}
-use Rattle.shard_files.specs.Reading.{shard_of}
-use Rattle.shard_files.specs.Shards.{IsShard, ShardView, file_lines, lines_text, shard_text}
+use Rattle.shard_files.specs.{file_lines, IsShard, lines_text, shard_of, shard_text, ShardView, TextBreaksNowhere, TextIsOfOneShard}
 use Rattle.shard_files.proofs.FileLines.{FitsFileLine}
 use Rattle.shard_files.proofs.Running.{ended, run, start, whole_runs}
 use Rattle.shard_files.proofs.Splitting.{begins_with, fit_front, lines_fit, nothing}

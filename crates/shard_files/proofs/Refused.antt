@@ -1,15 +1,12 @@
 -- Reading a shard: what holds before each line, and what is refused.
-use Rattle.std.proofs.Common.{◌≡◌, ◌≢◌, ◌≤◌, ◌<◌, ◌+◌, ◌↔◌, IsTrue, ℕ, Bool, true, false, Option, None, Some, List, [], ◌∷◌, ◌++◌, length, refl, ap, ◌∙◌, sym, subst, arith, append_assoc, append-nil, length-append}
-use Rattle.std.specs.Prelude.{option_and_then}
-use Rattle.shard_lines.specs.Lines.{EachFits, joined_words}
-use Rattle.shard_lines.specs.Reading.{words_in}
+use Rattle.std.proofs.Common.{◌≡◌, ◌≢◌, ◌≤◌, ◌<◌, ◌+◌, ◌↔◌, IsTrue, ℕ, Bool, true, false, Option, None, Some, List, [], ◌∷◌, ◌++◌, length, refl, ap, ◌∙◌, sym, subst, arith, append_assoc, append-nil, length-append, option_and_then}
+use Rattle.shard_lines.specs.{EachFits, joined_words, words_in}
 use Rattle.shard_lines.proofs.Runs.{joins}
 use Rattle.shard_files.specs.Endless.{Endless}
-use Rattle.shard_files.specs.Reading.{file_line_of, step, step_on}
-use Rattle.shard_files.specs.Shards.{Begins, BreaksAt, IsAll, line_text, lines_text, words_of}
+use Rattle.shard_files.specs.{Begins, BreaksAt, file_line_of, IsAll, line_text, lines_text, step, step_on, words_of}
 use Rattle.shard_files.specs.declared.file_line.FileLine.{FileLine}
 use Rattle.shard_files.specs.declared.progress.Progress.{Progress}
-use Rattle.shard_files.specs.declared.progress.Stage.TheVariants as at
+use Rattle.shard_files.specs.declared.progress.Stage.{Stage}
 use Rattle.shard_files.proofs.FileLines.{FitsFileLine, file_reads, file_says}
 use Rattle.shard_files.proofs.Following.{IsProgress, begins, follows, lines_so_far}
 use Rattle.shard_files.proofs.Running.{agrees, ended, run, runs_on, start}
@@ -75,7 +72,7 @@ module _ (bytes : List ℕ) (p : Progress) (rest line more : List ℕ) (number :
 
 module _ (bytes : List ℕ) (p : Progress) (rest : List ℕ) (number : ℕ) (so : Read bytes p rest number) where
   -- no line is left, but the end wasn't read, or bytes are left
-  pub breaks_at_end : Endless rest → (rest ≡ [] → p.stage ≢ at.Ended) → BreaksAt bytes number
+  pub breaks_at_end : Endless rest → (rest ≡ [] → p.stage ≢ Stage.Ended) → BreaksAt bytes number
   breaks_at_end endless unended =
       record {
         before = lines_so_far p;
@@ -87,7 +84,7 @@ module _ (bytes : List ℕ) (p : Progress) (rest : List ℕ) (number : ℕ) (so 
         not_over = λ e all. unended e (over all);
       }
     where
-      over : IsAll (lines_so_far p) → p.stage ≡ at.Ended
+      over : IsAll (lines_so_far p) → p.stage ≡ Stage.Ended
       over all =
           let goes : Some p ≡ Some (ended all.shard all.shard.loops) = agrees (lines_so_far p) [] p all.shard so.ran all.valid (all.lines ∙ sym (append-nil (lines_so_far p))) in
           let same : p ≡ ended all.shard all.shard.loops = cc goes in

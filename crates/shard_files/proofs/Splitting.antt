@@ -1,24 +1,15 @@
 -- A text is split into lines, and a line into words, in one way.
-use Rattle.std.proofs.Common.{◌≡◌, ◌≢◌, ◌<◌, ℕ, Bool, true, false, ◌&&◌, List, [], ◌∷◌, ◌++◌, length, map, flat_map, refl, ap, ap₂, ◌∙◌, sym, arith, append_assoc, codes}
-use Rattle.std.specs.Prelude.{◌==◌, nat_le, not}
+use Rattle.std.proofs.Common.{◌≡◌, ◌≢◌, ◌<◌, ℕ, Bool, true, false, ◌&&◌, List, [], ◌∷◌, ◌++◌, length, map, flat_map, refl, ap, ap₂, ◌∙◌, sym, arith, append_assoc, codes, ◌==◌, nat_le, not}
 use Rattle.std.specs.List.{list_all}
 use Rattle.std.proofs.lemmas.Bool.Decides.{nat_tests}
 use Rattle.std.proofs.lemmas.List.Splits.{join_with_byte-slice_split}
-use Rattle.lemmas.proofs.Booleans.{and_left, and_right}
-use Rattle.rdf_values.specs.Names.{is_name, is_word, is_word_byte, is_word_start, same}
-use Rattle.rdf_values.specs.Tables.{AreColumns}
-use Rattle.rdf_values.specs.declared.column.Column.{Column}
-use Rattle.rdf_values.specs.declared.value.ColType.{ColType}
-use Rattle.rdf_values.specs.declared.value.ColType.TheVariants as k
-use Rattle.shard_lines.specs.Lines.{EachFits, FitLines, joined_words}
-use Rattle.shard_lines.specs.Reading.{words_in}
-use Rattle.shard_lines.specs.declared.shard_line.ShardLine.{ShardLine}
+use Rattle.lemmas.proofs.{and_left, and_right}
+use Rattle.rdf_values.specs.{AreColumns, ColType, Column, is_name, is_word, is_word_byte, is_word_start, same}
+use Rattle.shard_lines.specs.{EachFits, FitLines, joined_words, ShardLine, words_in}
 use Rattle.shard_lines.proofs.Plain.{AllPlain, Plain, decimal_plain, line_plain, line_some, words_found, written}
 use Rattle.shard_files.specs.Endless.{Endless}
-use Rattle.shard_files.specs.Shards.{FitLoops, IsShard, ShardView, fault_number, file_lines, kind_word, line_text, lines_text, loop_lines, shard_limits, words_of}
+use Rattle.shard_files.specs.{fault_number, file_lines, FitLoops, IsShard, kind_word, line_text, lines_text, loop_lines, shard_limits, ShardLoop, ShardView, words_of}
 use Rattle.shard_files.specs.declared.file_line.FileLine.{FileLine}
-use Rattle.shard_files.specs.declared.file_line.FileLine.TheVariants as file
-use Rattle.shard_files.specs.declared.shard_loop.ShardLoop.{ShardLoop}
 use Rattle.shard_files.specs.declared.shard_loop.ShardLoop.TheVariants.{Whole, Faulted}
 use Rattle.shard_files.proofs.FileLines.{FitsFileLine, same_line}
 
@@ -45,29 +36,29 @@ name_plain name h =
     (and_left (is_word name && nat_le (length name) 64) (not (same name (codes "true"))) (and_left (is_word name && nat_le (length name) 64 && not (same name (codes "true"))) (not (same name (codes "false"))) h)))
 
 pub kind_plain : (t : ColType) → Plain (kind_word t)
-kind_plain k.Int = written (codes "int") refl
-kind_plain k.Bool = written (codes "bool") refl
-kind_plain k.Vect = written (codes "vec") refl
+kind_plain ColType.Int = written (codes "int") refl
+kind_plain ColType.Bool = written (codes "bool") refl
+kind_plain ColType.Vect = written (codes "vec") refl
 
 file_plain : (l : FileLine) → FitsFileLine l → AllPlain (words_of l)
-file_plain file.Version h = (written (codes "rdfshard") refl, (written (codes "1") refl, tt))
-file_plain (file.Table e c) h = (written (codes "table") refl, (decimal_plain e, (decimal_plain c, tt)))
-file_plain (file.Column c) h = (written (codes "column") refl, (name_plain c.name h.0, (kind_plain c.kind, tt)))
-file_plain (file.Span lo hi) h = (written (codes "span") refl, (decimal_plain lo, (decimal_plain hi, tt)))
-file_plain file.Loop h = (written (codes "loop") refl, tt)
-file_plain (file.Pass l) h = line_plain l
-file_plain (file.Fault f) h = (written (codes "fault") refl, (decimal_plain f.entry, (decimal_plain f.pass, (decimal_plain (fault_number f.kind), tt))))
-file_plain file.End h = (written (codes "end") refl, tt)
+file_plain FileLine.Version h = (written (codes "rdfshard") refl, (written (codes "1") refl, tt))
+file_plain (FileLine.Table e c) h = (written (codes "table") refl, (decimal_plain e, (decimal_plain c, tt)))
+file_plain (FileLine.Column c) h = (written (codes "column") refl, (name_plain c.name h.0, (kind_plain c.kind, tt)))
+file_plain (FileLine.Span lo hi) h = (written (codes "span") refl, (decimal_plain lo, (decimal_plain hi, tt)))
+file_plain FileLine.Loop h = (written (codes "loop") refl, tt)
+file_plain (FileLine.Pass l) h = line_plain l
+file_plain (FileLine.Fault f) h = (written (codes "fault") refl, (decimal_plain f.entry, (decimal_plain f.pass, (decimal_plain (fault_number f.kind), tt))))
+file_plain FileLine.End h = (written (codes "end") refl, tt)
 
 file_some : (l : FileLine) → words_of l ≢ []
-file_some file.Version e = cc e
-file_some (file.Table a b) e = cc e
-file_some (file.Column c) e = cc e
-file_some (file.Span lo hi) e = cc e
-file_some file.Loop e = cc e
-file_some (file.Pass l) e = line_some l e
-file_some (file.Fault f) e = cc e
-file_some file.End e = cc e
+file_some FileLine.Version e = cc e
+file_some (FileLine.Table a b) e = cc e
+file_some (FileLine.Column c) e = cc e
+file_some (FileLine.Span lo hi) e = cc e
+file_some FileLine.Loop e = cc e
+file_some (FileLine.Pass l) e = line_some l e
+file_some (FileLine.Fault f) e = cc e
+file_some FileLine.End e = cc e
 
 -- the words of a line are found again
 pub found_again : (l : FileLine) → FitsFileLine l → words_in (joined_words (words_of l)) ≡ words_of l
@@ -160,18 +151,18 @@ pub fit_last : (ls : List FileLine) (l : FileLine) → AllFit (ls ++ l ∷ []) �
 fit_last [] l f = f.0
 fit_last (m ∷ ls) l f = fit_last ls l f.1
 
-columns_fit : (seen cs : List Column) → AreColumns seen cs → list_all (λ (c : Column). is_name c.name) cs ≡ true → AllFit (map file.Column cs)
+columns_fit : (seen cs : List Column) → AreColumns seen cs → list_all (λ (c : Column). is_name c.name) cs ≡ true → AllFit (map FileLine.Column cs)
 columns_fit seen [] a h = tt
 columns_fit seen (c ∷ cs) a h =
     ((and_left (is_name c.name) (list_all (λ (d : Column). is_name d.name) cs) h, a.1), columns_fit (seen ++ c ∷ []) cs a.2 (and_right (is_name c.name) (list_all (λ (d : Column). is_name d.name) cs) h))
 
-passes_fit : (ls : List ShardLine) → FitLines shard_limits ls → AllFit (map file.Pass ls)
+passes_fit : (ls : List ShardLine) → FitLines shard_limits ls → AllFit (map FileLine.Pass ls)
 passes_fit [] h = tt
 passes_fit (l ∷ ls) h = (h.0, passes_fit ls h.1)
 
 loops_fit : (ls : List ShardLoop) → FitLoops ls → AllFit (flat_map loop_lines ls)
 loops_fit [] h = tt
-loops_fit (Whole ms ∷ ls) h = (tt, fit_append (map file.Pass ms) (flat_map loop_lines ls) (passes_fit ms h.1) (loops_fit ls h.2))
+loops_fit (Whole ms ∷ ls) h = (tt, fit_append (map FileLine.Pass ms) (flat_map loop_lines ls) (passes_fit ms h.1) (loops_fit ls h.2))
 loops_fit (Faulted f ∷ []) h = (tt, (h, tt))
 loops_fit (Faulted f ∷ l ∷ ls) h = absurd h
 
@@ -184,7 +175,7 @@ lines_fit s v =
       tt,
       (
         (v.entries, v.clusters),
-        fit_append (map file.Column s.columns) (file.Span s.lo s.hi ∷ (flat_map loop_lines s.loops ++ file.End ∷ [])) (columns_fit [] s.columns header.distinct v.named)
-            ((omega arith, omega arith), fit_append (flat_map loop_lines s.loops) (file.End ∷ []) (loops_fit s.loops v.loops) (tt, tt)),
+        fit_append (map FileLine.Column s.columns) (FileLine.Span s.lo s.hi ∷ (flat_map loop_lines s.loops ++ FileLine.End ∷ [])) (columns_fit [] s.columns header.distinct v.named)
+            ((omega arith, omega arith), fit_append (flat_map loop_lines s.loops) (FileLine.End ∷ []) (loops_fit s.loops v.loops) (tt, tt)),
       ),
     )

@@ -1,6 +1,6 @@
 -- A shard's loop by its number.
 use Rattle.std.specs.Prelude.{ℕ, Bool, true, false, drop, Option, Some, None}
-use Rattle.rdf_values.specs.declared.fault.Fault.{Fault}
+use Rattle.rdf_values.specs.{Fault}
 use Rattle.shard_files.specs.declared.shard_loop.ShardLoop.{ShardLoop}
 use Rattle.shard_files.specs.declared.shard_loop.ShardLoop.TheVariants.{Whole, Faulted}
 use Rattle.shard_files.specs.Merging.{first_loop}

@@ -1,19 +1,10 @@
 -- Shard files: which values are a shard, the lines of its text, and where bytes are no shard.
 use Rattle.std.specs.Prelude.{◌≡◌, ◌≤◌, ◌<◌, ◌+◌, ⊤, ℕ, true, List, [], ◌∷◌, ◌++◌, length, map, flat_map, None, codes, decimal}
 use Rattle.std.specs.List.{list_all}
-use Rattle.rdf_values.specs.Names.{is_name}
-use Rattle.rdf_values.specs.RefusalLines.{line}
-use Rattle.rdf_values.specs.Tables.{IsHeader}
-use Rattle.rdf_values.specs.declared.column.Column.{Column}
-use Rattle.rdf_values.specs.declared.fault.EntryFault.{EntryFault}
+use Rattle.rdf_values.specs.{ColType, Column, EntryFault, Fault, is_name, IsHeader, line}
 use Rattle.rdf_values.specs.declared.fault.EntryFault.TheVariants.{Overflow, ZeroDivisor, Index, EmptyVector, Lengths, VaryCount, Weight, Function}
-use Rattle.rdf_values.specs.declared.fault.Fault.{Fault}
-use Rattle.rdf_values.specs.declared.value.ColType.{ColType}
-use Rattle.rdf_values.specs.declared.value.ColType.TheVariants as k
-use Rattle.shard_lines.specs.Lines.{FitLines, joined_words, line_words}
-use Rattle.shard_lines.specs.declared.limits.LineLimits.{LineLimits}
+use Rattle.shard_lines.specs.{FitLines, joined_words, line_words, LineLimits}
 use Rattle.shard_files.specs.declared.file_line.FileLine.{FileLine}
-use Rattle.shard_files.specs.declared.file_line.FileLine.TheVariants as file
 use Rattle.shard_files.specs.declared.refusal.ShardRefusal.{ShardRefusal}
 use Rattle.shard_files.specs.declared.refusal.ShardRefusal.TheVariants.{Memory, Syntax}
 use Rattle.shard_files.specs.declared.shard.ShardParts.{ShardParts}
@@ -62,9 +53,9 @@ pub record IsShard (s : ShardView) : Type 0 where
 
 -- the type of a column, as a header writes it
 abbrev pub kind_word : ColType → List ℕ
-kind_word k.Int = codes "int"
-kind_word k.Bool = codes "bool"
-kind_word k.Vect = codes "vec"
+kind_word ColType.Int = codes "int"
+kind_word ColType.Bool = codes "bool"
+kind_word ColType.Vect = codes "vec"
 
 -- the number of a fault, as in F1 to F8
 abbrev pub fault_number : EntryFault → ℕ
@@ -79,14 +70,14 @@ fault_number Function = 8
 
 -- the words of a line
 abbrev pub words_of : FileLine → List (List ℕ)
-words_of file.Version = codes "rdfshard" ∷ codes "1" ∷ []
-words_of (file.Table entries clusters) = codes "table" ∷ decimal entries ∷ decimal clusters ∷ []
-words_of (file.Column c) = codes "column" ∷ c.name ∷ kind_word c.kind ∷ []
-words_of (file.Span lo hi) = codes "span" ∷ decimal lo ∷ decimal hi ∷ []
-words_of file.Loop = codes "loop" ∷ []
-words_of (file.Pass l) = line_words l
-words_of (file.Fault f) = codes "fault" ∷ decimal f.entry ∷ decimal f.pass ∷ decimal (fault_number f.kind) ∷ []
-words_of file.End = codes "end" ∷ []
+words_of FileLine.Version = codes "rdfshard" ∷ codes "1" ∷ []
+words_of (FileLine.Table entries clusters) = codes "table" ∷ decimal entries ∷ decimal clusters ∷ []
+words_of (FileLine.Column c) = codes "column" ∷ c.name ∷ kind_word c.kind ∷ []
+words_of (FileLine.Span lo hi) = codes "span" ∷ decimal lo ∷ decimal hi ∷ []
+words_of FileLine.Loop = codes "loop" ∷ []
+words_of (FileLine.Pass l) = line_words l
+words_of (FileLine.Fault f) = codes "fault" ∷ decimal f.entry ∷ decimal f.pass ∷ decimal (fault_number f.kind) ∷ []
+words_of FileLine.End = codes "end" ∷ []
 
 -- the words with one space between, and LF
 unfoldable pub line_text : FileLine → List ℕ
@@ -95,12 +86,12 @@ line_text l = line (joined_words (words_of l))
 -- ---- the text of a shard
 
 abbrev pub loop_lines : ShardLoop → List FileLine
-loop_lines (Whole ls) = file.Loop ∷ map file.Pass ls
-loop_lines (Faulted f) = file.Loop ∷ file.Fault f ∷ []
+loop_lines (Whole ls) = FileLine.Loop ∷ map FileLine.Pass ls
+loop_lines (Faulted f) = FileLine.Loop ∷ FileLine.Fault f ∷ []
 
 abbrev pub file_lines : ShardView → List FileLine
 file_lines s =
-    file.Version ∷ file.Table s.entries s.clusters ∷ (map file.Column s.columns ++ file.Span s.lo s.hi ∷ (flat_map loop_lines s.loops ++ file.End ∷ []))
+    FileLine.Version ∷ FileLine.Table s.entries s.clusters ∷ (map FileLine.Column s.columns ++ FileLine.Span s.lo s.hi ∷ (flat_map loop_lines s.loops ++ FileLine.End ∷ []))
 
 abbrev pub lines_text : List FileLine → List ℕ
 lines_text ls = flat_map line_text ls

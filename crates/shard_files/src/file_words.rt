@@ -1,8 +1,8 @@
 // Reading a line of a shard file.
 ghost use Rattle.std.specs.Prelude.{◌≡◌, IfOk, option_map};
-ghost use Rattle.rdf_values.specs.Integers.{magnitude_of};
-ghost use Rattle.shard_lines.specs.Reading.{line_of_words, words_behind, words_in};
-ghost use Rattle.shard_files.specs.Shards.{shard_limits};
+ghost use Rattle.rdf_values.specs.{magnitude_of};
+ghost use Rattle.shard_lines.specs.{line_of_words, words_behind, words_in};
+ghost use Rattle.shard_files.specs.{shard_limits};
 ghost use Rattle.shard_files.specs.Reading.{
   column_of_words,
   fault_kind_of,

@@ -1,7 +1,7 @@
 // The limits of a shard file's lines.
 ghost use Rattle.std.specs.Prelude.{◌≡◌};
-ghost use Rattle.shard_files.specs.Shards.{shard_limits};
-ghost use Rattle.shard_lines.specs.Lines.{AreLimits};
+ghost use Rattle.shard_files.specs.{shard_limits};
+ghost use Rattle.shard_lines.specs.{AreLimits};
 
 use shard_lines::LineLimits;
 

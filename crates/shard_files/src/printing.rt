@@ -1,8 +1,7 @@
 // The text of a shard.
 ghost use Rattle.std.specs.Prelude.{◌≡◌, ◌++◌, [], ◌∷◌, IfOk, OnOk, decimal, flat_map, map};
-ghost use Rattle.rdf_values.specs.RefusalLines.{line};
-ghost use Rattle.shard_lines.specs.Lines.{joined_words};
-ghost use Rattle.shard_lines.specs.Spaced.{spaced};
+ghost use Rattle.rdf_values.specs.{line};
+ghost use Rattle.shard_lines.specs.{joined_words, spaced};
 ghost use Rattle.shard_files.specs.Shards.{
   fault_number,
   kind_word,

@@ -1,6 +1,6 @@
 // What was read of a shard file, line after line.
 ghost use Rattle.std.specs.Prelude.{◌≡◌, ◌↔◌, [], IfOk, IsTrue};
-ghost use Rattle.rdf_values.specs.Tables.{has_name};
+ghost use Rattle.rdf_values.specs.{has_name};
 ghost use Rattle.shard_files.specs.Reading.{
   closed,
   on_between,
@@ -12,7 +12,7 @@ ghost use Rattle.shard_files.specs.Reading.{
   shard_of,
   step,
 };
-ghost use Rattle.shard_files.specs.Shards.{IsShard};
+ghost use Rattle.shard_files.specs.{IsShard};
 
 use crate::file_line::FileLine;
 use crate::shard::{Shard, ShardParts};

@@ -1,8 +1,7 @@
 // Reading a shard.
 ghost use Rattle.std.specs.Prelude.{◌≡◌, ◌≤◌, IfOk, MatchResult, length};
-ghost use Rattle.shard_lines.specs.Reading.{words_in};
-ghost use Rattle.shard_files.specs.Reading.{file_line_of, step_on};
-ghost use Rattle.shard_files.specs.Shards.{IsRefusal, IsShardText};
+ghost use Rattle.shard_lines.specs.{words_in};
+ghost use Rattle.shard_files.specs.{file_line_of, IsRefusal, IsShardText, step_on};
 
 use crate::file_words::read_file_line;
 use crate::progress::Progress;

@@ -1,11 +1,9 @@
 -- Lists that are added place by place, up to the end of the shorter one.
 use Rattle.std.proofs.Common.{◌≡◌, ◌≤◌, ◌⊎◌, ℕ, zero, suc, List, [], ◌∷◌, ◌++◌, length, drop, refl, ap, ◌∙◌, sym, arith, append-nil, inl, inr}
-use Rattle.lemmas.proofs.Parts.{dropped_all}
-use Rattle.loop_pieces.specs.declared.flow.Counts.{Counts}
-use Rattle.histograms.specs.declared.cell_sum.CellSum.{CellSum}
-use Rattle.shard_lines.specs.declared.shard_line.ShardLine.{ShardLine}
-use Rattle.shard_lines.specs.declared.pass_shape.PassShape.{PassShape}
-use Rattle.shard_lines.specs.Joining.{added_cells, added_counts, joined_lines}
+use Rattle.lemmas.proofs.{dropped_all}
+use Rattle.loop_pieces.specs.{Counts}
+use Rattle.histograms.specs.{CellSum}
+use Rattle.shard_lines.specs.{added_cells, added_counts, joined_lines, PassShape, ShardLine}
 
 no_cells : (cs : List CellSum) → added_cells cs [] ≡ []
 no_cells [] = refl

@@ -1,6 +1,6 @@
 -- Lists that are read item by item.
 use Rattle.std.proofs.Common.{◌≡◌, ℕ, List, [], ◌∷◌, ◌++◌, Option, Some, None, refl, ap, ◌∙◌, sym, append_assoc}
-use Rattle.shard_lines.specs.Reading.{onto, pairs_of}
+use Rattle.shard_lines.specs.{onto, pairs_of}
 
 -- items, and those that follow
 abbrev pub all_on : {A : Type 0} → List A → Option (List A) → Option (List A)

@@ -1,6 +1,5 @@
 -- A number of 128 bits has one canonical text, which reads as that number.
-use Rattle.std.proofs.Common.{◌≡◌, ◌≤◌, ◌<◌, ◌+◌, ◌*◌, ◌/◌, ◌%◌, ◌^◌, ℕ, zero, suc, Bool, true, false, ◌&&◌, cond, None, Some, List, [], ◌∷◌, ◌++◌, length, refl, ap, ap₂, ◌∙◌, sym, subst, arith, decimal}
-use Rattle.std.specs.Prelude.{leb, not, ◌==◌, if◌then◌else◌}
+use Rattle.std.proofs.Common.{◌≡◌, ◌≤◌, ◌<◌, ◌+◌, ◌*◌, ◌/◌, ◌%◌, ◌^◌, ℕ, zero, suc, Bool, true, false, ◌&&◌, cond, None, Some, List, [], ◌∷◌, ◌++◌, length, refl, ap, ap₂, ◌∙◌, sym, subst, arith, decimal, leb, not, ◌==◌, if◌then◌else◌}
 use Rattle.std.specs.Char.{digit_value, is_ascii_digit}
 use Rattle.std.specs.Fmt.{digit_glyph, digits, digits_onto}
 use Rattle.std.specs.Str.{all_ascii_digits}
@@ -10,9 +9,9 @@ use Rattle.std.proofs.lemmas.Bool.Decides.{nat_tests}
 use Rattle.std.proofs.lemmas.Fmt.{decimal_by_steps_wide, decimal_digit, decimal_is_IsNumeral_wide, decimal_step_wide}
 use Rattle.std.proofs.lemmas.Int.Digits.{digits_value_push}
 use Rattle.std.proofs.lemmas.Str.{digit_value_digit}
-use Rattle.lemmas.proofs.Booleans.{both_true}
+use Rattle.lemmas.proofs.{both_true}
 use Rattle.rdf_values.proofs.Digits.{grows}
-use Rattle.rdf_values.specs.Integers.{begins_badly, digits_up_to, is_empty, magnitude_of}
+use Rattle.rdf_values.specs.{begins_badly, digits_up_to, is_empty, magnitude_of}
 
 -- each byte is a digit
 abbrev pub Digits : List ℕ → Type 0

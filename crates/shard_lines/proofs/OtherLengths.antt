@@ -1,9 +1,7 @@
 -- Lists of different lengths.
 use Rattle.std.proofs.Common.{◌≡◌, ◌≢◌, Bool, true, false, ◌&&◌, List, [], ◌∷◌, length, refl, ap, suc}
-use Rattle.lemmas.proofs.Booleans.{and_right_false}
-use Rattle.shard_lines.specs.declared.shard_line.ShardLine.{ShardLine}
-use Rattle.shard_lines.specs.declared.pass_shape.PassShape.{PassShape}
-use Rattle.shard_lines.specs.Shapes.{has_shape, have_shapes}
+use Rattle.lemmas.proofs.{and_right_false}
+use Rattle.shard_lines.specs.{has_shape, have_shapes, PassShape, ShardLine}
 
 pub other_passes : (ss : List PassShape) (ps : List ShardLine) → length ss ≢ length ps → have_shapes ss ps ≡ false
 other_passes [] [] h = absurd (h refl)

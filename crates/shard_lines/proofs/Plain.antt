@@ -1,18 +1,13 @@
 -- No byte of a word is a space or a line's end, so that the words of a line are found again.
-use Rattle.std.proofs.Common.{◌≡◌, ◌≢◌, ◌<◌, ℕ, suc, pos, negsuc, ℤ, Bool, true, false, ◌&&◌, List, [], ◌∷◌, length, map, flat_map, refl, ap, ◌∙◌, arith, codes, decimal, Option, None, Some}
-use Rattle.std.specs.Prelude.{◌==◌, nat_lt}
+use Rattle.std.proofs.Common.{◌≡◌, ◌≢◌, ◌<◌, ℕ, suc, pos, negsuc, ℤ, Bool, true, false, ◌&&◌, List, [], ◌∷◌, length, map, flat_map, refl, ap, ◌∙◌, arith, codes, decimal, Option, None, Some, ◌==◌, nat_lt}
 use Rattle.std.specs.Fmt.{signed_decimal}
 use Rattle.std.proofs.lemmas.Bool.{ltb-true}
 use Rattle.std.proofs.lemmas.Bool.Decides.{nat_tests}
-use Rattle.lemmas.proofs.Booleans.{both_true}
-use Rattle.rdf_values.specs.declared.value.Scalar.{Scalar}
-use Rattle.rdf_values.specs.declared.value.Scalar.TheVariants as scalar
-use Rattle.loop_pieces.specs.declared.flow.Counts.{Counts}
-use Rattle.histograms.specs.declared.cell_sum.CellSum.{CellSum}
-use Rattle.shard_lines.specs.Lines.{cell_words, count_words, extreme_word, joined_words, line_words, scalar_word}
-use Rattle.shard_lines.specs.Reading.{words_in}
-use Rattle.shard_lines.specs.declared.shard_line.ShardLine.{ShardLine}
-use Rattle.shard_lines.specs.declared.shard_line.ShardLine.TheVariants as pass
+use Rattle.lemmas.proofs.{both_true}
+use Rattle.rdf_values.specs.{Scalar}
+use Rattle.loop_pieces.specs.{Counts}
+use Rattle.histograms.specs.{CellSum}
+use Rattle.shard_lines.specs.{cell_words, count_words, extreme_word, joined_words, line_words, scalar_word, ShardLine, words_in}
 use Rattle.shard_lines.proofs.Cutting.{Spaceless, cut_at, cut_none}
 use Rattle.shard_lines.proofs.Numerals.{Digits, decimal_digits}
 
@@ -47,9 +42,9 @@ written [] h = tt
 written (b ∷ bs) h = let both = both_true (nat_lt 32 b) (are_plain bs) h in (ltb-true 32 b both.0, written bs both.1)
 
 scalar_plain : (x : Scalar) → Plain (scalar_word x)
-scalar_plain (scalar.Int z) = signed_plain z
-scalar_plain (scalar.Bool true) = written (codes "true") refl
-scalar_plain (scalar.Bool false) = written (codes "false") refl
+scalar_plain (Scalar.Int z) = signed_plain z
+scalar_plain (Scalar.Bool true) = written (codes "true") refl
+scalar_plain (Scalar.Bool false) = written (codes "false") refl
 
 scalars_plain : (xs : List Scalar) → AllPlain (map scalar_word xs)
 scalars_plain [] = tt
@@ -68,22 +63,22 @@ counts_plain [] = tt
 counts_plain (c ∷ cs) = (decimal_plain c.all, (decimal_plain c.pass, counts_plain cs))
 
 pub line_plain : (l : ShardLine) → AllPlain (line_words l)
-line_plain (pass.Count n) = (written (codes "count") refl, (decimal_plain n, tt))
-line_plain (pass.Sum z) = (written (codes "sum") refl, (signed_plain z, tt))
-line_plain (pass.Number z) = (written (codes "number") refl, (signed_plain z, tt))
-line_plain (pass.Extreme z) = (written (codes "extreme") refl, (extreme_plain z, tt))
-line_plain (pass.Take xs) = (written (codes "take") refl, (decimal_plain (length xs), scalars_plain xs))
-line_plain (pass.Cells cs) = (written (codes "cells") refl, (decimal_plain (length cs), cells_plain cs))
-line_plain (pass.Report cs) = (written (codes "report") refl, (decimal_plain (length cs), counts_plain cs))
+line_plain (ShardLine.Count n) = (written (codes "count") refl, (decimal_plain n, tt))
+line_plain (ShardLine.Sum z) = (written (codes "sum") refl, (signed_plain z, tt))
+line_plain (ShardLine.Number z) = (written (codes "number") refl, (signed_plain z, tt))
+line_plain (ShardLine.Extreme z) = (written (codes "extreme") refl, (extreme_plain z, tt))
+line_plain (ShardLine.Take xs) = (written (codes "take") refl, (decimal_plain (length xs), scalars_plain xs))
+line_plain (ShardLine.Cells cs) = (written (codes "cells") refl, (decimal_plain (length cs), cells_plain cs))
+line_plain (ShardLine.Report cs) = (written (codes "report") refl, (decimal_plain (length cs), counts_plain cs))
 
 pub line_some : (l : ShardLine) → line_words l ≢ []
-line_some (pass.Count n) e = cc e
-line_some (pass.Sum z) e = cc e
-line_some (pass.Number z) e = cc e
-line_some (pass.Extreme z) e = cc e
-line_some (pass.Take xs) e = cc e
-line_some (pass.Cells cs) e = cc e
-line_some (pass.Report cs) e = cc e
+line_some (ShardLine.Count n) e = cc e
+line_some (ShardLine.Sum z) e = cc e
+line_some (ShardLine.Number z) e = cc e
+line_some (ShardLine.Extreme z) e = cc e
+line_some (ShardLine.Take xs) e = cc e
+line_some (ShardLine.Cells cs) e = cc e
+line_some (ShardLine.Report cs) e = cc e
 
 -- ---- words are found again
 

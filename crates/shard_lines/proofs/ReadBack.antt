@@ -1,25 +1,14 @@
 -- Lines are read back from their words, and from nothing else.
-use Rattle.std.proofs.Common.{◌≡◌, ◌≤◌, ◌<◌, ◌^◌, ℕ, ℤ, pos, negsuc, zero, suc, Bool, true, false, ◌&&◌, Option, None, Some, List, [], ◌∷◌, length, map, flat_map, refl, ap, ap₂, ◌∙◌, sym, subst, arith, codes, decimal}
-use Rattle.std.specs.Prelude.{◌==◌, bytes_eq, if◌then◌else◌, option_map}
+use Rattle.std.proofs.Common.{◌≡◌, ◌≤◌, ◌<◌, ◌^◌, ℕ, ℤ, pos, negsuc, zero, suc, Bool, true, false, ◌&&◌, Option, None, Some, List, [], ◌∷◌, length, map, flat_map, refl, ap, ap₂, ◌∙◌, sym, subst, arith, codes, decimal, ◌==◌, bytes_eq, if◌then◌else◌, option_map}
 use Rattle.std.specs.Fmt.{signed_decimal}
 use Rattle.std.proofs.lemmas.Bool.Decides.{nat_tests}
 use Rattle.std.proofs.lemmas.Slice.Eq.{bytes_eq-Decides}
 use Rattle.rdf_values.proofs.OneText.{integer_of_text, magnitude_bound, text_of_integer}
-use Rattle.rdf_values.specs.Integers.{integer_of, magnitude_of, negative, positive}
-use Rattle.rdf_values.specs.Names.{same}
-use Rattle.rdf_values.specs.Words.{Has64Bits}
-use Rattle.rdf_values.specs.declared.value.Scalar.{Scalar}
-use Rattle.rdf_values.specs.declared.value.Scalar.TheVariants as scalar
-use Rattle.loop_pieces.specs.declared.flow.Counts.{Counts}
-use Rattle.histograms.specs.declared.cell_sum.CellSum.{CellSum}
-use Rattle.shard_lines.specs.Laws.{LinesReadBack, ReadLinesFit}
-use Rattle.shard_lines.specs.Lines.{AreLimits, EachFits, FitsCell, FitsCount, FitsExtreme, FitsLine, FitsScalar, FitsTake, IsShort, IsSmall, are_alike, extreme_word, line_words, scalar_word}
-use Rattle.shard_lines.specs.Reading.{both_of, cell_of, counts_of_words, each_of, extreme_of_word, is_short, kind_of_word, line_behind, line_of_kind, list_of, lone, numbered, one_sort, onto, pairs_of, scalar_of, sum_of_word}
-use Rattle.shard_lines.specs.declared.limits.LineLimits.{LineLimits}
+use Rattle.rdf_values.specs.{Has64Bits, integer_of, magnitude_of, negative, positive, same, Scalar}
+use Rattle.loop_pieces.specs.{Counts}
+use Rattle.histograms.specs.{CellSum}
+use Rattle.shard_lines.specs.{are_alike, AreLimits, both_of, cell_of, counts_of_words, each_of, EachFits, extreme_of_word, extreme_word, FitsCell, FitsCount, FitsExtreme, FitsLine, FitsScalar, FitsTake, is_short, IsShort, IsSmall, kind_of_word, line_behind, line_of_kind, line_words, LineLimits, LinesReadBack, list_of, lone, numbered, one_sort, onto, pairs_of, ReadLinesFit, scalar_of, scalar_word, ShardLine, sum_of_word}
 use Rattle.shard_lines.specs.declared.line_kind.LineKind.{LineKind}
-use Rattle.shard_lines.specs.declared.line_kind.LineKind.TheVariants as is
-use Rattle.shard_lines.specs.declared.shard_line.ShardLine.{ShardLine}
-use Rattle.shard_lines.specs.declared.shard_line.ShardLine.TheVariants as pass
 use Rattle.shard_lines.proofs.Numerals.{Digits, decimal_digits, magnitude_reads, magnitude_says}
 
 -- ---- tests of words
@@ -122,25 +111,25 @@ integer_says w z h = (text_of_integer w z h, integer_fits w z h)
 
 -- ---- scalars and extremes
 
-scalar_of_other : (w : List ℕ) → same w (codes "true") ≡ false → same w (codes "false") ≡ false → scalar_of w ≡ option_map scalar.Int (integer_of w)
-scalar_of_other w e f = ap₂ (λ a b. if a then Some (scalar.Bool true) else (if b then Some (scalar.Bool false) else option_map scalar.Int (integer_of w))) e f
+scalar_of_other : (w : List ℕ) → same w (codes "true") ≡ false → same w (codes "false") ≡ false → scalar_of w ≡ option_map Scalar.Int (integer_of w)
+scalar_of_other w e f = ap₂ (λ a b. if a then Some (Scalar.Bool true) else (if b then Some (Scalar.Bool false) else option_map Scalar.Int (integer_of w))) e f
 
 scalar_reads : (x : Scalar) → FitsScalar x → scalar_of (scalar_word x) ≡ Some x
-scalar_reads (scalar.Int (pos n)) h =
+scalar_reads (Scalar.Int (pos n)) h =
     let ds = decimal_digits n in
-    scalar_of_other (decimal n) (other_word (decimal n) 116 (codes "rue") ds (omega arith)) (other_word (decimal n) 102 (codes "alse") ds (omega arith)) ∙ ap (option_map scalar.Int) (integer_reads (pos n) h)
-scalar_reads (scalar.Int (negsuc n)) h = ap (option_map scalar.Int) (integer_reads (negsuc n) h)
-scalar_reads (scalar.Bool true) h = refl
-scalar_reads (scalar.Bool false) h = refl
+    scalar_of_other (decimal n) (other_word (decimal n) 116 (codes "rue") ds (omega arith)) (other_word (decimal n) 102 (codes "alse") ds (omega arith)) ∙ ap (option_map Scalar.Int) (integer_reads (pos n) h)
+scalar_reads (Scalar.Int (negsuc n)) h = ap (option_map Scalar.Int) (integer_reads (negsuc n) h)
+scalar_reads (Scalar.Bool true) h = refl
+scalar_reads (Scalar.Bool false) h = refl
 
 scalar_says : (w : List ℕ) (x : Scalar) → scalar_of w ≡ Some x → (scalar_word x ≡ w) × FitsScalar x
 scalar_says w x h = by (same w (codes "true")) (same w (codes "false")) refl refl h
   where
-    by : (a b : Bool) → same w (codes "true") ≡ a → same w (codes "false") ≡ b → (if a then Some (scalar.Bool true) else (if b then Some (scalar.Bool false) else option_map scalar.Int (integer_of w))) ≡ Some x → (scalar_word x ≡ w) × FitsScalar x
-    by true b e f h = let is : scalar.Bool true ≡ x = cc h in subst (λ (y : Scalar). (scalar_word y ≡ w) × FitsScalar y) is (sym (same_says w (codes "true") e), tt)
-    by false true e f h = let is : scalar.Bool false ≡ x = cc h in subst (λ (y : Scalar). (scalar_word y ≡ w) × FitsScalar y) is (sym (same_says w (codes "false") f), tt)
+    by : (a b : Bool) → same w (codes "true") ≡ a → same w (codes "false") ≡ b → (if a then Some (Scalar.Bool true) else (if b then Some (Scalar.Bool false) else option_map Scalar.Int (integer_of w))) ≡ Some x → (scalar_word x ≡ w) × FitsScalar x
+    by true b e f h = let is : Scalar.Bool true ≡ x = cc h in subst (λ (y : Scalar). (scalar_word y ≡ w) × FitsScalar y) is (sym (same_says w (codes "true") e), tt)
+    by false true e f h = let is : Scalar.Bool false ≡ x = cc h in subst (λ (y : Scalar). (scalar_word y ≡ w) × FitsScalar y) is (sym (same_says w (codes "false") f), tt)
     by false false e f h =
-        let number = mapped scalar.Int (integer_of w) x h in
+        let number = mapped Scalar.Int (integer_of w) x h in
         subst (λ (y : Scalar). (scalar_word y ≡ w) × FitsScalar y) number.2 (integer_says w number.0 number.1)
 
 extreme_of_other : (w : List ℕ) → same w (codes "none") ≡ false → extreme_of_word w ≡ option_map Some (integer_of w)
@@ -271,25 +260,25 @@ lone_says read (w ∷ v ∷ ws) x h = cc h
 -- ---- lines
 
 pub lines_read_back : LinesReadBack
-lines_read_back m (pass.Count n) v h = let limit = v.count in ap (option_map pass.Count) (count_reads m.count n (omega arith) h)
-lines_read_back m (pass.Sum z) v h = ap (option_map pass.Sum) (sum_reads m.sum z v.sum h)
-lines_read_back m (pass.Number z) v h = ap (option_map pass.Number) (integer_reads z h)
-lines_read_back m (pass.Extreme z) v h = ap (option_map pass.Extreme) (extreme_reads z h)
-lines_read_back m (pass.Take xs) v h =
-    ap (option_map pass.Take) (ap (one_sort m) (ap (numbered (decimal (length xs))) (each_reads xs h.fit) ∙ numbered_reads xs) ∙ sort_reads m xs h)
-lines_read_back m (pass.Cells cs) v h =
-    ap (option_map pass.Cells) (ap (numbered (decimal (length cs))) (pairs_read (cell_of m) (λ (c : CellSum). signed_decimal c.sum) (λ (c : CellSum). signed_decimal c.squares) (FitsCell m) (cell_reads m v) cs h) ∙ numbered_reads cs)
-lines_read_back m (pass.Report cs) v h =
-    ap (option_map pass.Report) (ap (numbered (decimal (length cs))) (pairs_read (counts_of_words m) (λ (c : Counts). decimal c.all) (λ (c : Counts). decimal c.pass) (FitsCount m) (counts_read m v) cs h) ∙ numbered_reads cs)
+lines_read_back m (ShardLine.Count n) v h = let limit = v.count in ap (option_map ShardLine.Count) (count_reads m.count n (omega arith) h)
+lines_read_back m (ShardLine.Sum z) v h = ap (option_map ShardLine.Sum) (sum_reads m.sum z v.sum h)
+lines_read_back m (ShardLine.Number z) v h = ap (option_map ShardLine.Number) (integer_reads z h)
+lines_read_back m (ShardLine.Extreme z) v h = ap (option_map ShardLine.Extreme) (extreme_reads z h)
+lines_read_back m (ShardLine.Take xs) v h =
+    ap (option_map ShardLine.Take) (ap (one_sort m) (ap (numbered (decimal (length xs))) (each_reads xs h.fit) ∙ numbered_reads xs) ∙ sort_reads m xs h)
+lines_read_back m (ShardLine.Cells cs) v h =
+    ap (option_map ShardLine.Cells) (ap (numbered (decimal (length cs))) (pairs_read (cell_of m) (λ (c : CellSum). signed_decimal c.sum) (λ (c : CellSum). signed_decimal c.squares) (FitsCell m) (cell_reads m v) cs h) ∙ numbered_reads cs)
+lines_read_back m (ShardLine.Report cs) v h =
+    ap (option_map ShardLine.Report) (ap (numbered (decimal (length cs))) (pairs_read (counts_of_words m) (λ (c : Counts). decimal c.all) (λ (c : Counts). decimal c.pass) (FitsCount m) (counts_read m v) cs h) ∙ numbered_reads cs)
 
 abbrev kind_word : LineKind → List ℕ
-kind_word is.Count = codes "count"
-kind_word is.Sum = codes "sum"
-kind_word is.Number = codes "number"
-kind_word is.Extreme = codes "extreme"
-kind_word is.Take = codes "take"
-kind_word is.Cells = codes "cells"
-kind_word is.Report = codes "report"
+kind_word LineKind.Count = codes "count"
+kind_word LineKind.Sum = codes "sum"
+kind_word LineKind.Number = codes "number"
+kind_word LineKind.Extreme = codes "extreme"
+kind_word LineKind.Take = codes "take"
+kind_word LineKind.Cells = codes "cells"
+kind_word LineKind.Report = codes "report"
 
 chosen : (w v : List ℕ) (k r : LineKind) (rest : Option LineKind) → kind_word k ≡ v → (rest ≡ Some r → kind_word r ≡ w) → (if same w v then Some k else rest) ≡ Some r → kind_word r ≡ w
 chosen w v k r rest e f h = by (same w v) refl h
@@ -300,49 +289,49 @@ chosen w v k r rest e f h = by (same w v) refl h
 
 kind_says : (w : List ℕ) (k : LineKind) → kind_of_word w ≡ Some k → kind_word k ≡ w
 kind_says w k h =
-    chosen w (codes "count") is.Count k _ refl
-    (chosen w (codes "sum") is.Sum k _ refl
-    (chosen w (codes "number") is.Number k _ refl
-    (chosen w (codes "extreme") is.Extreme k _ refl (chosen w (codes "take") is.Take k _ refl (chosen w (codes "cells") is.Cells k _ refl (chosen w (codes "report") is.Report k None refl (λ (e : None ≡ Some k). cc e))))))) h
+    chosen w (codes "count") LineKind.Count k _ refl
+    (chosen w (codes "sum") LineKind.Sum k _ refl
+    (chosen w (codes "number") LineKind.Number k _ refl
+    (chosen w (codes "extreme") LineKind.Extreme k _ refl (chosen w (codes "take") LineKind.Take k _ refl (chosen w (codes "cells") LineKind.Cells k _ refl (chosen w (codes "report") LineKind.Report k None refl (λ (e : None ≡ Some k). cc e))))))) h
 
 abbrev Says : LineLimits → List (List ℕ) → ShardLine → Type 0
 Says m ws l = (line_words l ≡ ws) × FitsLine m l
 
 behind_says : (m : LineLimits) (k : LineKind) (ws : List (List ℕ)) (l : ShardLine) → AreLimits m → line_behind m k ws ≡ Some l → Says m (kind_word k ∷ ws) l
-behind_says m is.Count ws l v h =
+behind_says m LineKind.Count ws l v h =
     let limit = v.count in
-    let made = mapped pass.Count (lone (magnitude_of m.count) ws) l h in
+    let made = mapped ShardLine.Count (lone (magnitude_of m.count) ws) l h in
     let word = lone_says (magnitude_of m.count) ws made.0 made.1 in
     let says = count_says m.count made.0 word.0 (omega arith) word.2 in
     subst (Says m (codes "count" ∷ ws)) made.2 (ap (λ t. codes "count" ∷ t) (ap (λ w. w ∷ []) says.0 ∙ sym word.1), says.1)
-behind_says m is.Sum ws l v h =
-    let made = mapped pass.Sum (lone (sum_of_word m.sum) ws) l h in
+behind_says m LineKind.Sum ws l v h =
+    let made = mapped ShardLine.Sum (lone (sum_of_word m.sum) ws) l h in
     let word = lone_says (sum_of_word m.sum) ws made.0 made.1 in
     let says = sum_says m.sum word.0 made.0 v.sum word.2 in
     subst (Says m (codes "sum" ∷ ws)) made.2 (ap (λ t. codes "sum" ∷ t) (ap (λ w. w ∷ []) says.0 ∙ sym word.1), says.1)
-behind_says m is.Number ws l v h =
-    let made = mapped pass.Number (lone integer_of ws) l h in
+behind_says m LineKind.Number ws l v h =
+    let made = mapped ShardLine.Number (lone integer_of ws) l h in
     let word = lone_says integer_of ws made.0 made.1 in
     let says = integer_says word.0 made.0 word.2 in
     subst (Says m (codes "number" ∷ ws)) made.2 (ap (λ t. codes "number" ∷ t) (ap (λ w. w ∷ []) says.0 ∙ sym word.1), says.1)
-behind_says m is.Extreme ws l v h =
-    let made = mapped pass.Extreme (lone extreme_of_word ws) l h in
+behind_says m LineKind.Extreme ws l v h =
+    let made = mapped ShardLine.Extreme (lone extreme_of_word ws) l h in
     let word = lone_says extreme_of_word ws made.0 made.1 in
     let says = extreme_says word.0 made.0 word.2 in
     subst (Says m (codes "extreme" ∷ ws)) made.2 (ap (λ t. codes "extreme" ∷ t) (ap (λ w. w ∷ []) says.0 ∙ sym word.1), says.1)
-behind_says m is.Take ws l v h =
-    let made = mapped pass.Take (one_sort m (list_of (each_of scalar_of) ws)) l h in
+behind_says m LineKind.Take ws l v h =
+    let made = mapped ShardLine.Take (one_sort m (list_of (each_of scalar_of) ws)) l h in
     let sort = sort_says m (list_of (each_of scalar_of) ws) made.0 made.1 in
     let list = list_says (each_of scalar_of) ws made.0 sort.0 in
     let says = each_says list.0 made.0 list.2 in
     subst (Says m (codes "take" ∷ ws)) made.2 (ap (λ t. codes "take" ∷ t) (ap (λ t. decimal (length made.0) ∷ t) says.0 ∙ sym list.1), record { alike = sort.1; fit = says.1; short = sort.2 })
-behind_says m is.Cells ws l v h =
-    let made = mapped pass.Cells (list_of (pairs_of (cell_of m)) ws) l h in
+behind_says m LineKind.Cells ws l v h =
+    let made = mapped ShardLine.Cells (list_of (pairs_of (cell_of m)) ws) l h in
     let list = list_says (pairs_of (cell_of m)) ws made.0 made.1 in
     let says = pairs_say (cell_of m) (λ (c : CellSum). signed_decimal c.sum) (λ (c : CellSum). signed_decimal c.squares) (FitsCell m) (cell_says m v) list.0 made.0 list.2 in
     subst (Says m (codes "cells" ∷ ws)) made.2 (ap (λ t. codes "cells" ∷ t) (ap (λ t. decimal (length made.0) ∷ t) says.0 ∙ sym list.1), says.1)
-behind_says m is.Report ws l v h =
-    let made = mapped pass.Report (list_of (pairs_of (counts_of_words m)) ws) l h in
+behind_says m LineKind.Report ws l v h =
+    let made = mapped ShardLine.Report (list_of (pairs_of (counts_of_words m)) ws) l h in
     let list = list_says (pairs_of (counts_of_words m)) ws made.0 made.1 in
     let says = pairs_say (counts_of_words m) (λ (c : Counts). decimal c.all) (λ (c : Counts). decimal c.pass) (FitsCount m) (counts_say m v) list.0 made.0 list.2 in
     subst (Says m (codes "report" ∷ ws)) made.2 (ap (λ t. codes "report" ∷ t) (ap (λ t. decimal (length made.0) ∷ t) says.0 ∙ sym list.1), says.1)

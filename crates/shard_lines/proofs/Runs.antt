@@ -1,8 +1,6 @@
 -- Texts that grow piece by piece.
-use Rattle.std.proofs.Common.{◌≡◌, ◌≤◌, ◌<◌, ◌+◌, ℕ, List, [], ◌∷◌, ◌++◌, map, refl, ap, ◌∙◌, sym, append_assoc, append-nil, Result, Ok, Err, OnOk}
-use Rattle.std.specs.Prelude.{flat_map}
-use Rattle.shard_lines.specs.Spaced.{spaced}
-use Rattle.shard_lines.specs.Lines.{joined_words}
+use Rattle.std.proofs.Common.{◌≡◌, ◌≤◌, ◌<◌, ◌+◌, ℕ, List, [], ◌∷◌, ◌++◌, map, refl, ap, ◌∙◌, sym, append_assoc, append-nil, Result, Ok, Err, OnOk, flat_map}
+use Rattle.shard_lines.specs.{joined_words, spaced}
 
 -- a map of lists joins what it makes of two parts
 pub joins : {A B : Type 0} (f : A → List B) (xs ys : List A) → flat_map f (xs ++ ys) ≡ flat_map f xs ++ flat_map f ys

@@ -1,43 +1,40 @@
 -- The lines of a pass over the entries of two runs, the earlier first.
 use Rattle.std.specs.Prelude.{ℕ, ℤ, ◌+◌, ◌+ℤ◌, pos, List, [], ◌∷◌, ◌++◌, Option, Some, None}
 use Rattle.std.specs.Int.{int_min, int_max}
-use Rattle.rdf_values.specs.Fold.{reduce_step}
-use Rattle.rdf_values.specs.declared.value.Scalar.{Scalar}
-use Rattle.loop_pieces.specs.declared.flow.Counts.{Counts}
-use Rattle.histograms.specs.declared.cell_sum.CellSum.{CellSum}
+use Rattle.rdf_values.specs.{reduce_step, Scalar}
+use Rattle.loop_pieces.specs.{Counts}
+use Rattle.histograms.specs.{CellSum}
 use Rattle.shard_lines.specs.declared.pass_shape.PassShape.{PassShape}
-use Rattle.shard_lines.specs.declared.pass_shape.PassShape.TheVariants as shape
 use Rattle.shard_lines.specs.declared.shard_line.ShardLine.{ShardLine}
-use Rattle.shard_lines.specs.declared.shard_line.ShardLine.TheVariants as pass
 
 -- ---- what a line holds, and nothing where it is of another kind
 
 abbrev pub count_of : ShardLine → ℕ
-count_of (pass.Count n) = n
+count_of (ShardLine.Count n) = n
 count_of p = 0
 
 abbrev pub sum_of : ShardLine → ℤ
-sum_of (pass.Sum z) = z
+sum_of (ShardLine.Sum z) = z
 sum_of p = pos 0
 
 abbrev pub number_of : ShardLine → ℤ
-number_of (pass.Number z) = z
+number_of (ShardLine.Number z) = z
 number_of p = pos 0
 
 abbrev pub extreme_of : ShardLine → Option ℤ
-extreme_of (pass.Extreme z) = z
+extreme_of (ShardLine.Extreme z) = z
 extreme_of p = None
 
 abbrev pub taken_of : ShardLine → List Scalar
-taken_of (pass.Take xs) = xs
+taken_of (ShardLine.Take xs) = xs
 taken_of p = []
 
 abbrev pub cells_of : ShardLine → List CellSum
-cells_of (pass.Cells cs) = cs
+cells_of (ShardLine.Cells cs) = cs
 cells_of p = []
 
 abbrev pub counts_of : ShardLine → List Counts
-counts_of (pass.Report cs) = cs
+counts_of (ShardLine.Report cs) = cs
 counts_of p = []
 
 -- the better of two, where both are there
@@ -58,14 +55,14 @@ added_counts (c ∷ cs) (d ∷ ds) = record { all = c.all + d.all; pass = c.pass
 
 -- the line of one pass over both
 abbrev pub joined_line : PassShape → ShardLine → ShardLine → ShardLine
-joined_line shape.Count p q = pass.Count (count_of p + count_of q)
-joined_line shape.Sum p q = pass.Sum (sum_of p +ℤ sum_of q)
-joined_line shape.Least p q = pass.Extreme (better_of int_min (extreme_of p) (extreme_of q))
-joined_line shape.Greatest p q = pass.Extreme (better_of int_max (extreme_of p) (extreme_of q))
-joined_line (shape.Take column) p q = pass.Take (taken_of p ++ taken_of q)
-joined_line (shape.Number o) p q = pass.Number (reduce_step o (number_of p) (number_of q))
-joined_line (shape.Cells n) p q = pass.Cells (added_cells (cells_of p) (cells_of q))
-joined_line (shape.Report n) p q = pass.Report (added_counts (counts_of p) (counts_of q))
+joined_line PassShape.Count p q = ShardLine.Count (count_of p + count_of q)
+joined_line PassShape.Sum p q = ShardLine.Sum (sum_of p +ℤ sum_of q)
+joined_line PassShape.Least p q = ShardLine.Extreme (better_of int_min (extreme_of p) (extreme_of q))
+joined_line PassShape.Greatest p q = ShardLine.Extreme (better_of int_max (extreme_of p) (extreme_of q))
+joined_line (PassShape.Take column) p q = ShardLine.Take (taken_of p ++ taken_of q)
+joined_line (PassShape.Number o) p q = ShardLine.Number (reduce_step o (number_of p) (number_of q))
+joined_line (PassShape.Cells n) p q = ShardLine.Cells (added_cells (cells_of p) (cells_of q))
+joined_line (PassShape.Report n) p q = ShardLine.Report (added_counts (counts_of p) (counts_of q))
 
 -- the lines of a loop that is whole over both
 abbrev pub joined_lines : List PassShape → List ShardLine → List ShardLine → List ShardLine

@@ -2,14 +2,11 @@
 use Rattle.std.specs.Prelude.{◌≡◌, ◌≤◌, ◌<◌, ◌^◌, ⊤, ℕ, ℤ, nat_abs, Bool, true, false, ◌||◌, List, [], ◌∷◌, length, map, flat_map, Option, Some, None, codes, decimal}
 use Rattle.std.specs.Fmt.{signed_decimal}
 use Rattle.std.specs.List.{join_with_byte, list_all}
-use Rattle.rdf_values.specs.Words.{Has64Bits}
-use Rattle.rdf_values.specs.declared.value.Scalar.{Scalar}
-use Rattle.rdf_values.specs.declared.value.Scalar.TheVariants as scalar
-use Rattle.loop_pieces.specs.declared.flow.Counts.{Counts}
-use Rattle.histograms.specs.declared.cell_sum.CellSum.{CellSum}
+use Rattle.rdf_values.specs.{Has64Bits, Scalar}
+use Rattle.loop_pieces.specs.{Counts}
+use Rattle.histograms.specs.{CellSum}
 use Rattle.shard_lines.specs.declared.limits.LineLimits.{LineLimits}
 use Rattle.shard_lines.specs.declared.shard_line.ShardLine.{ShardLine}
-use Rattle.shard_lines.specs.declared.shard_line.ShardLine.TheVariants as pass
 
 -- ---- limits
 
@@ -21,20 +18,20 @@ pub record AreLimits (m : LineLimits) : Type 0 where
   pub cell_squares : m.cell_squares < 2 ^ 127
 
 abbrev pub is_number : Scalar → Bool
-is_number (scalar.Int z) = true
-is_number (scalar.Bool b) = false
+is_number (Scalar.Int z) = true
+is_number (Scalar.Bool b) = false
 
 abbrev pub is_truth : Scalar → Bool
-is_truth (scalar.Int z) = false
-is_truth (scalar.Bool b) = true
+is_truth (Scalar.Int z) = false
+is_truth (Scalar.Bool b) = true
 
 -- all are numbers, or all are truth values
 abbrev pub are_alike : List Scalar → Bool
 are_alike xs = list_all is_number xs || list_all is_truth xs
 
 abbrev pub FitsScalar : Scalar → Type 0
-FitsScalar (scalar.Int z) = Has64Bits z
-FitsScalar (scalar.Bool b) = ⊤
+FitsScalar (Scalar.Int z) = Has64Bits z
+FitsScalar (Scalar.Bool b) = ⊤
 
 -- each item fits
 abbrev pub EachFits : {A : Type 0} → (A → Type 0) → List A → Type 0
@@ -68,13 +65,13 @@ pub record FitsTake (m : LineLimits) (xs : List Scalar) : Type 0 where
 
 -- what the line holds is within the limits
 abbrev pub FitsLine : LineLimits → ShardLine → Type 0
-FitsLine m (pass.Count n) = n ≤ m.count
-FitsLine m (pass.Sum z) = IsSmall m.sum z
-FitsLine m (pass.Number z) = Has64Bits z
-FitsLine m (pass.Extreme z) = FitsExtreme z
-FitsLine m (pass.Take xs) = FitsTake m xs
-FitsLine m (pass.Cells cs) = EachFits (FitsCell m) cs
-FitsLine m (pass.Report cs) = EachFits (FitsCount m) cs
+FitsLine m (ShardLine.Count n) = n ≤ m.count
+FitsLine m (ShardLine.Sum z) = IsSmall m.sum z
+FitsLine m (ShardLine.Number z) = Has64Bits z
+FitsLine m (ShardLine.Extreme z) = FitsExtreme z
+FitsLine m (ShardLine.Take xs) = FitsTake m xs
+FitsLine m (ShardLine.Cells cs) = EachFits (FitsCell m) cs
+FitsLine m (ShardLine.Report cs) = EachFits (FitsCount m) cs
 
 abbrev pub FitLines : LineLimits → List ShardLine → Type 0
 FitLines m ls = EachFits (FitsLine m) ls
@@ -82,9 +79,9 @@ FitLines m ls = EachFits (FitsLine m) ls
 -- ---- words
 
 abbrev pub scalar_word : Scalar → List ℕ
-scalar_word (scalar.Int z) = signed_decimal z
-scalar_word (scalar.Bool true) = codes "true"
-scalar_word (scalar.Bool false) = codes "false"
+scalar_word (Scalar.Int z) = signed_decimal z
+scalar_word (Scalar.Bool true) = codes "true"
+scalar_word (Scalar.Bool false) = codes "false"
 
 abbrev pub extreme_word : Option ℤ → List ℕ
 extreme_word None = codes "none"
@@ -99,13 +96,13 @@ count_words c = decimal c.all ∷ decimal c.pass ∷ []
 
 -- the words of what a pass came to
 abbrev pub line_words : ShardLine → List (List ℕ)
-line_words (pass.Count n) = codes "count" ∷ decimal n ∷ []
-line_words (pass.Sum z) = codes "sum" ∷ signed_decimal z ∷ []
-line_words (pass.Number z) = codes "number" ∷ signed_decimal z ∷ []
-line_words (pass.Extreme z) = codes "extreme" ∷ extreme_word z ∷ []
-line_words (pass.Take xs) = codes "take" ∷ decimal (length xs) ∷ map scalar_word xs
-line_words (pass.Cells cs) = codes "cells" ∷ decimal (length cs) ∷ flat_map cell_words cs
-line_words (pass.Report cs) = codes "report" ∷ decimal (length cs) ∷ flat_map count_words cs
+line_words (ShardLine.Count n) = codes "count" ∷ decimal n ∷ []
+line_words (ShardLine.Sum z) = codes "sum" ∷ signed_decimal z ∷ []
+line_words (ShardLine.Number z) = codes "number" ∷ signed_decimal z ∷ []
+line_words (ShardLine.Extreme z) = codes "extreme" ∷ extreme_word z ∷ []
+line_words (ShardLine.Take xs) = codes "take" ∷ decimal (length xs) ∷ map scalar_word xs
+line_words (ShardLine.Cells cs) = codes "cells" ∷ decimal (length cs) ∷ flat_map cell_words cs
+line_words (ShardLine.Report cs) = codes "report" ∷ decimal (length cs) ∷ flat_map count_words cs
 
 -- words with one space between
 abbrev pub joined_words : List (List ℕ) → List ℕ

@@ -1,18 +1,13 @@
 -- The line that words are, within limits: each line has one text.
 use Rattle.std.specs.Prelude.{ℕ, ℤ, Bool, true, false, List, [], ◌∷◌, length, Option, Some, None, option_map, if◌then◌else◌, ◌==◌, nat_le, bytes_eq, codes, decimal}
 use Rattle.std.specs.List.{slice_split}
-use Rattle.rdf_values.specs.Integers.{integer_of, magnitude_of, negative, positive}
-use Rattle.rdf_values.specs.Names.{same}
-use Rattle.rdf_values.specs.declared.value.Scalar.{Scalar}
-use Rattle.rdf_values.specs.declared.value.Scalar.TheVariants as scalar
-use Rattle.loop_pieces.specs.declared.flow.Counts.{Counts}
-use Rattle.histograms.specs.declared.cell_sum.CellSum.{CellSum}
+use Rattle.rdf_values.specs.{integer_of, magnitude_of, negative, positive, same, Scalar}
+use Rattle.loop_pieces.specs.{Counts}
+use Rattle.histograms.specs.{CellSum}
 use Rattle.shard_lines.specs.Lines.{are_alike}
 use Rattle.shard_lines.specs.declared.limits.LineLimits.{LineLimits}
 use Rattle.shard_lines.specs.declared.line_kind.LineKind.{LineKind}
-use Rattle.shard_lines.specs.declared.line_kind.LineKind.TheVariants as is
 use Rattle.shard_lines.specs.declared.shard_line.ShardLine.{ShardLine}
-use Rattle.shard_lines.specs.declared.shard_line.ShardLine.TheVariants as pass
 
 -- ---- words
 
@@ -36,7 +31,7 @@ sum_of_word most [] = None
 sum_of_word most (b ∷ bs) = if b == 45 then negative (magnitude_of most bs) else positive (magnitude_of most (b ∷ bs))
 
 abbrev pub scalar_of : List ℕ → Option Scalar
-scalar_of w = if same w (codes "true") then Some (scalar.Bool true) else (if same w (codes "false") then Some (scalar.Bool false) else option_map scalar.Int (integer_of w))
+scalar_of w = if same w (codes "true") then Some (Scalar.Bool true) else (if same w (codes "false") then Some (Scalar.Bool false) else option_map Scalar.Int (integer_of w))
 
 abbrev pub extreme_of_word : List ℕ → Option (Option ℤ)
 extreme_of_word w = if same w (codes "none") then Some None else option_map Some (integer_of w)
@@ -101,23 +96,23 @@ lone read (w ∷ v ∷ ws) = None
 -- the kind of a line, by its first word
 abbrev pub kind_of_word : List ℕ → Option LineKind
 kind_of_word w =
-    if same w (codes "count") then Some is.Count
-    else (if same w (codes "sum") then Some is.Sum
-    else (if same w (codes "number") then Some is.Number
-    else (if same w (codes "extreme") then Some is.Extreme
-    else (if same w (codes "take") then Some is.Take
-    else (if same w (codes "cells") then Some is.Cells
-    else (if same w (codes "report") then Some is.Report else None))))))
+    if same w (codes "count") then Some LineKind.Count
+    else (if same w (codes "sum") then Some LineKind.Sum
+    else (if same w (codes "number") then Some LineKind.Number
+    else (if same w (codes "extreme") then Some LineKind.Extreme
+    else (if same w (codes "take") then Some LineKind.Take
+    else (if same w (codes "cells") then Some LineKind.Cells
+    else (if same w (codes "report") then Some LineKind.Report else None))))))
 
 -- the line of that kind, by its other words
 abbrev pub line_behind : LineLimits → LineKind → List (List ℕ) → Option ShardLine
-line_behind m is.Count ws = option_map pass.Count (lone (magnitude_of m.count) ws)
-line_behind m is.Sum ws = option_map pass.Sum (lone (sum_of_word m.sum) ws)
-line_behind m is.Number ws = option_map pass.Number (lone integer_of ws)
-line_behind m is.Extreme ws = option_map pass.Extreme (lone extreme_of_word ws)
-line_behind m is.Take ws = option_map pass.Take (one_sort m (list_of (each_of scalar_of) ws))
-line_behind m is.Cells ws = option_map pass.Cells (list_of (pairs_of (cell_of m)) ws)
-line_behind m is.Report ws = option_map pass.Report (list_of (pairs_of (counts_of_words m)) ws)
+line_behind m LineKind.Count ws = option_map ShardLine.Count (lone (magnitude_of m.count) ws)
+line_behind m LineKind.Sum ws = option_map ShardLine.Sum (lone (sum_of_word m.sum) ws)
+line_behind m LineKind.Number ws = option_map ShardLine.Number (lone integer_of ws)
+line_behind m LineKind.Extreme ws = option_map ShardLine.Extreme (lone extreme_of_word ws)
+line_behind m LineKind.Take ws = option_map ShardLine.Take (one_sort m (list_of (each_of scalar_of) ws))
+line_behind m LineKind.Cells ws = option_map ShardLine.Cells (list_of (pairs_of (cell_of m)) ws)
+line_behind m LineKind.Report ws = option_map ShardLine.Report (list_of (pairs_of (counts_of_words m)) ws)
 
 abbrev pub line_of_kind : LineLimits → Option LineKind → List (List ℕ) → Option ShardLine
 line_of_kind m None ws = None

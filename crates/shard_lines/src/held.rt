@@ -1,6 +1,6 @@
 // What a line holds, and nothing where it is of another kind.
 ghost use Rattle.std.specs.Prelude.{◌≡◌};
-ghost use Rattle.shard_lines.specs.Joining.{cells_of, count_of, counts_of, extreme_of, number_of, sum_of, taken_of};
+ghost use Rattle.shard_lines.specs.{cells_of, count_of, counts_of, extreme_of, number_of, sum_of, taken_of};
 
 use crate::shard_line::ShardLine;
 use histograms::CellSum;

@@ -1,7 +1,7 @@
 // Joining the lines of two runs.
 ghost use Rattle.std.specs.Prelude.{◌≡◌, ◌+◌, ◌+ℤ◌, ◌++◌, IfOk};
 ghost use Rattle.std.specs.Int.{int_max, int_min};
-ghost use Rattle.rdf_values.specs.Fold.{reduce_step};
+ghost use Rattle.rdf_values.specs.{reduce_step};
 ghost use Rattle.shard_lines.specs.Joining.{
   added_cells,
   added_counts,

@@ -1,7 +1,7 @@
 // Canonical integers of 128 bits.
 ghost use Rattle.std.specs.Prelude.{◌≡◌, ◌≤◌, ◌<◌, ◌^◌, IfSome};
-ghost use Rattle.rdf_values.specs.Integers.{begins_badly, digits_up_to, magnitude_of};
-ghost use Rattle.shard_lines.specs.Reading.{sum_of_word};
+ghost use Rattle.rdf_values.specs.{begins_badly, digits_up_to, magnitude_of};
+ghost use Rattle.shard_lines.specs.{sum_of_word};
 
 // No bytes, or a first digit 0 before other bytes.
 fn begins_badly(digits: &[u8]) -> bool

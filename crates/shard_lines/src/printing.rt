@@ -9,7 +9,7 @@ ghost use Rattle.shard_lines.specs.Lines.{
   line_words,
   scalar_word,
 };
-ghost use Rattle.shard_lines.specs.Spaced.{spaced};
+ghost use Rattle.shard_lines.specs.{spaced};
 
 use crate::shard_line::ShardLine;
 use histograms::CellSum;

@@ -1,7 +1,7 @@
 // Reading the line of a pass.
 ghost use Rattle.std.specs.Prelude.{◌≡◌, IfOk, bytes_eq, decimal};
 ghost use Rattle.std.specs.List.{list_all};
-ghost use Rattle.shard_lines.specs.Lines.{AreLimits, are_alike, is_number, is_truth};
+ghost use Rattle.shard_lines.specs.{are_alike, AreLimits, is_number, is_truth};
 ghost use Rattle.shard_lines.specs.Reading.{
   cell_of,
   counts_of_words,

@@ -1,6 +1,6 @@
 // The words of a line, one after the other.
 ghost use Rattle.std.specs.Prelude.{◌≡◌, ◌≢◌, ◌≤◌, ◌∷◌, ◌<◌, [], MatchOption, length};
-ghost use Rattle.shard_lines.specs.Reading.{words_behind, words_in};
+ghost use Rattle.shard_lines.specs.{words_behind, words_in};
 
 /// The first word of a line's text, and what is behind it: nothing, or a space and more words.
 pub fn first_word(text: &[u8]) -> (&[u8], &[u8])

@@ -1,22 +1,14 @@
 -- A pass of a job by its number: how many accumulators it has, and which filters it covers.
-use Rattle.std.proofs.Common.{◌≡◌, ℕ, ◌+◌, List, [], ◌∷◌, ◌++◌, length, map, take, Some, refl, sym, ap, ◌∙◌, append-nil, length-append}
-use Rattle.std.specs.Prelude.{option_map, slice_get}
+use Rattle.std.proofs.Common.{◌≡◌, ℕ, ◌+◌, List, [], ◌∷◌, ◌++◌, length, map, take, Some, refl, sym, ap, ◌∙◌, append-nil, length-append, option_map, slice_get}
 use Rattle.std.proofs.lemmas.Grind.{flat_map-append}
 use Rattle.std.proofs.lemmas.List.{map-append}
 use Rattle.std.proofs.lemmas.Option.{same_Some, slice_get-map}
-use Rattle.lemmas.proofs.Parts.{take_next}
-use Rattle.rdf_values.specs.Bookings.{ActionAt, Booking, Pass, ReportOn, named_before}
-use Rattle.rdf_values.specs.Path.{Path, history}
-use Rattle.rdf_values.specs.declared.action.ActionKind.{ActionKind}
-use Rattle.rdf_model.specs.LoopFacts.{kind_in, kinds_in}
-use Rattle.graph_numbers.specs.Graphs.{GraphView, graph_filters, graph_results, graph_under}
-use Rattle.graph_numbers.specs.Results.{FilterAt, ResultAt, kind_of_booking}
-use Rattle.graph_numbers.specs.declared.pass.Pass.{Pass as NumberedPass}
-use Rattle.graph_numbers.specs.declared.result_kind.ResultKind.{ResultKind}
-use Rattle.graph_numbers.specs.declared.result_kind.ResultKind.TheVariants as what
+use Rattle.lemmas.proofs.{take_next}
+use Rattle.rdf_values.specs.{ActionAt, ActionKind, Booking, history, named_before, Pass, Path, ReportOn}
+use Rattle.rdf_model.specs.{kind_in, kinds_in}
+use Rattle.graph_numbers.specs.{FilterAt, graph_filters, graph_results, graph_under, GraphView, kind_of_booking, Pass as NumberedPass, ResultAt, ResultKind}
 use Rattle.graph_numbers.proofs.AcceptedNumbers.{filters_are_the_scripts, reports_cover_filters}
-use Rattle.loop_keys.specs.Caches.{numbered_in}
-use Rattle.loop_keys.specs.Jobs.{JobView, job_graph, passes_in}
+use Rattle.loop_keys.specs.{job_graph, JobView, numbered_in, passes_in}
 use Rattle.event_loop.proofs.Adding.{its_pass, its_result, of_action, of_report, result_is}
 use Rattle.shard_loop.proofs.PassLines.{AreNumbered}
 
@@ -47,12 +39,12 @@ module _ (j : JobView) (n : ℕ) (m : NumberedPass) (its : numbered_in j n ≡ S
   pub own_is : slice_get (passes_in j) n ≡ Some own
   own_is = its_pass j n m its
 
-  pub one_accumulator : (k : ActionKind) → kind ≡ what.Action k → length (kinds_in (take (n + 1) (passes_in j))) ≡ length (kinds_in (take n (passes_in j))) + 1
+  pub one_accumulator : (k : ActionKind) → kind ≡ ResultKind.Action k → length (kinds_in (take (n + 1) (passes_in j))) ≡ length (kinds_in (take n (passes_in j))) + 1
   one_accumulator k e =
       let b = of_action j n m its kind g same is k e in
       count_next (passes_in j) n own own_is ∙ ap (λ (x : Booking). length (kinds_in (take n (passes_in j))) + length (kind_in x)) b.1
 
-  pub no_accumulator : kind ≡ what.Report → length (kinds_in (take (n + 1) (passes_in j))) ≡ length (kinds_in (take n (passes_in j))) + 0
+  pub no_accumulator : kind ≡ ResultKind.Report → length (kinds_in (take (n + 1) (passes_in j))) ≡ length (kinds_in (take n (passes_in j))) + 0
   no_accumulator e = count_next (passes_in j) n own own_is ∙ ap (λ (l : List ActionKind). length (kinds_in (take n (passes_in j))) + length l) (of_report j n m its kind g same is e)
 
   -- the filters that a report covers
@@ -61,7 +53,7 @@ module _ (j : JobView) (n : ℕ) (m : NumberedPass) (its : numbered_in j n ≡ S
     pub booking : own.result.booking ≡ ReportOn filters
     pub numbered : AreNumbered (named_before (history j.script)) covers filters
 
-  pub is_report : kind ≡ what.Report → (covers : List ℕ) → option_map (λ (x : ResultAt). x.covers) (slice_get (graph_results g) m.result) ≡ Some covers → IsReport covers
+  pub is_report : kind ≡ ResultKind.Report → (covers : List ℕ) → option_map (λ (x : ResultAt). x.covers) (slice_get (graph_results g) m.result) ≡ Some covers → IsReport covers
   is_report e covers at =
       let b = report_on own.result.booking (of_report j n m its kind g same is e) in
       let there = result_is j n m its in

@@ -1,38 +1,26 @@
 -- The loops of a graph over a span, one after another.
-use Rattle.std.proofs.Common.{◌≡◌, ℕ, zero, suc, ◌+◌, ◌<◌, ◌≤◌, true, false, List, [], ◌∷◌, ◌++◌, length, map, drop, Option, Some, refl, sym, ap, ◌∙◌, subst, arith, append-nil, append_assoc}
-use Rattle.std.specs.Prelude.{option_map, slice_get, unwrap_or}
+use Rattle.std.proofs.Common.{◌≡◌, ℕ, zero, suc, ◌+◌, ◌<◌, ◌≤◌, true, false, List, [], ◌∷◌, ◌++◌, length, map, drop, Option, Some, refl, sym, ap, ◌∙◌, subst, arith, append-nil, append_assoc, option_map, slice_get, unwrap_or}
 use Rattle.std.proofs.lemmas.List.{length-map}
 use Rattle.std.proofs.lemmas.Option.{slice_get-map}
-use Rattle.lemmas.proofs.Parts.{none_left}
-use Rattle.lemmas.proofs.Places.{something_at}
-use Rattle.rdf_values.specs.Bookings.{Booked, Pass}
-use Rattle.rdf_values.specs.Path.{history}
-use Rattle.rdf_values.specs.declared.fault.Fault.{Fault}
-use Rattle.rdf_values.specs.declared.script.Script.{Script}
-use Rattle.rdf_values.specs.declared.span.Span.{Span}
-use Rattle.rdf_model.specs.Loops.{loop_passes, loop_results}
-use Rattle.rdf_model.specs.Results.{Dataset}
-use Rattle.graph_numbers.specs.Graphs.{GraphView, graph_loops}
-use Rattle.graph_numbers.specs.Results.{pass_at}
+use Rattle.lemmas.proofs.{none_left, something_at}
+use Rattle.rdf_values.specs.{Booked, Fault, history, Pass, Script, Span}
+use Rattle.rdf_model.specs.{Dataset, loop_passes, loop_results}
+use Rattle.graph_numbers.specs.{graph_loops, GraphView, pass_at}
 use Rattle.graph_numbers.proofs.Extending.{itself}
 use Rattle.graph_numbers.proofs.Looping.{loops_are}
-use Rattle.loop_keys.specs.Jobs.{JobView, passes_in}
-use Rattle.loop_keys.specs.Entries.{job_spans}
-use Rattle.loop_pieces.specs.declared.loop_piece.LoopPiece.{LoopPiece}
-use Rattle.shard_lines.specs.declared.shard_line.ShardLine.{ShardLine}
-use Rattle.shard_files.specs.LoopsAt.{is_faulty}
-use Rattle.shard_files.specs.Merging.{fault_or_lines, up_to_fault}
-use Rattle.shard_files.specs.declared.shard_loop.ShardLoop.{ShardLoop}
+use Rattle.loop_keys.specs.{job_spans, JobView, passes_in}
+use Rattle.loop_pieces.specs.{LoopPiece}
+use Rattle.shard_lines.specs.{ShardLine}
+use Rattle.shard_files.specs.{fault_or_lines, is_faulty, ShardLoop, up_to_fault}
 use Rattle.shard_files.specs.declared.shard_loop.ShardLoop.TheVariants.{Whole, Faulted}
-use Rattle.shard_spans.specs.Spans.{loops_of, pass_line, span_loop, span_loops}
-use Rattle.shard_loop.specs.LoopSpans.{IsSpanPiece, IsSpanned, loop_in, span_rows_of}
+use Rattle.shard_spans.specs.{loops_of, pass_line, span_loop, span_loops}
+use Rattle.shard_loop.specs.{IsSpanned, IsSpanPiece, loop_in, span_rows_of}
 use Rattle.shard_loop.specs.declared.span_run.Spanned.{Spanned}
-use Rattle.shard_loop.specs.declared.span_run.Spanned.TheVariants as spanned
 
 -- ---- one loop
 
 module _ (j : JobView) (lo hi : ℕ) where
-  pub is_piece : (s : Spanned) (piece : LoopPiece) → s ≡ spanned.Whole piece → IsSpanned j lo hi s → IsSpanPiece j lo hi piece
+  pub is_piece : (s : Spanned) (piece : LoopPiece) → s ≡ Spanned.Whole piece → IsSpanned j lo hi s → IsSpanPiece j lo hi piece
   is_piece s piece is h = subst (IsSpanned j lo hi) is h
 
   -- a loop without a fault is its lines
@@ -41,7 +29,7 @@ module _ (j : JobView) (lo hi : ℕ) where
   whole_loop piece lines span h = ap Whole h ∙ sym (ap (λ (o : Option Fault). fault_or_lines o (map (pass_line (span_rows_of j lo hi)) (passes_in j))) span.sound)
 
   -- a loop with a fault is that
-  pub faulted_loop : (s : Spanned) (fault : Fault) → s ≡ spanned.Faulted fault → IsSpanned j lo hi s → ◌≡◌ {A = ShardLoop} (Faulted fault) (span_loop (job_spans j) j.dataset lo hi (passes_in j))
+  pub faulted_loop : (s : Spanned) (fault : Fault) → s ≡ Spanned.Faulted fault → IsSpanned j lo hi s → ◌≡◌ {A = ShardLoop} (Faulted fault) (span_loop (job_spans j) j.dataset lo hi (passes_in j))
   faulted_loop s fault is h = sym (ap (λ (o : Option Fault). fault_or_lines o (map (pass_line (span_rows_of j lo hi)) (passes_in j))) (subst (IsSpanned j lo hi) is h))
 
 -- ---- all loops

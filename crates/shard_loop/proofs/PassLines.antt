@@ -1,36 +1,20 @@
 -- The lines of passes, from what a piece holds.
-use Rattle.std.proofs.Common.{◌≡◌, ◌⊎◌, inl, inr, ℕ, zero, suc, ◌+◌, ◌<◌, List, [], ◌∷◌, ◌++◌, length, map, take, drop, get_or, Option, None, Some, refl, sym, ap, ap₂, ◌∙◌, subst, arith, append_assoc, length-append}
-use Rattle.std.specs.Prelude.{All, slice_get}
+use Rattle.std.proofs.Common.{◌≡◌, ◌⊎◌, inl, inr, ℕ, zero, suc, ◌+◌, ◌<◌, List, [], ◌∷◌, ◌++◌, length, map, take, drop, get_or, Option, None, Some, refl, sym, ap, ap₂, ◌∙◌, subst, arith, append_assoc, length-append, All, slice_get}
 use Rattle.std.specs.List.{AllByRecursion}
 use Rattle.std.proofs.lemmas.Grind.{flat_map-append}
 use Rattle.std.proofs.lemmas.List.{length-map}
 use Rattle.std.proofs.lemmas.List.Elements.{All-from_recursion}
 use Rattle.std.proofs.lemmas.Option.{get_or_from_slice_get, same_Some, slice_get_within}
-use Rattle.lemmas.proofs.Places.{something_at}
-use Rattle.rdf_values.specs.Bookings.{ActionAt, Booking, Pass, ReportOn, named_before}
-use Rattle.rdf_values.specs.Cuts.{below}
-use Rattle.rdf_values.specs.Path.{Path, path}
-use Rattle.rdf_values.specs.declared.action.ActionKind.{ActionKind}
-use Rattle.rdf_values.specs.declared.fault.EntryFault.{EntryFault}
-use Rattle.rdf_values.specs.declared.fault.Fault.{Fault}
-use Rattle.rdf_values.specs.declared.span.Span.{Span}
-use Rattle.rdf_values.specs.declared.statement.Statement.{Statement}
+use Rattle.lemmas.proofs.{something_at}
+use Rattle.rdf_values.specs.{ActionAt, ActionKind, below, Booking, EntryFault, Fault, named_before, Pass, Path, path, ReportOn, Span, Statement, Value}
 use Rattle.rdf_values.specs.declared.statement.Statement.TheVariants.{Filter}
-use Rattle.rdf_values.specs.declared.value.Value.{Value}
 use Rattle.rdf_values.proofs.Below.{length-below}
-use Rattle.rdf_model.specs.Laws.{action_pass}
-use Rattle.rdf_model.specs.LoopFacts.{kind_in, kinds_in, loop_facts}
-use Rattle.rdf_model.specs.PartialResults.{over_clusters}
-use Rattle.rdf_model.specs.Results.{Dataset, cutflow, fault_at, fault_or, first_fault, first_fault_from, first_fault_in, first_of, pass_result}
-use Rattle.actions.specs.Accumulators.{Accumulator}
-use Rattle.loop_pieces.specs.Flows.{nothing}
-use Rattle.loop_pieces.specs.declared.flow.Counts.{Counts}
+use Rattle.rdf_model.specs.{action_pass, cutflow, Dataset, fault_at, fault_or, first_fault, first_fault_from, first_fault_in, first_of, kind_in, kinds_in, loop_facts, over_clusters, pass_result}
+use Rattle.actions.specs.{Accumulator}
+use Rattle.loop_pieces.specs.{Counts, counts_at, counts_of, LoopPiece, nothing, StandsFor}
 use Rattle.graph_numbers.proofs.Listed.{next_at, of_joined}
-use Rattle.loop_pieces.specs.LoopPieces.{StandsFor, counts_at}
-use Rattle.loop_pieces.specs.Whole.{counts_of}
-use Rattle.loop_pieces.specs.declared.loop_piece.LoopPiece.{LoopPiece}
 use Rattle.loop_pieces.proofs.WholeLoops.{piece_holds_counts, piece_holds_results}
-use Rattle.shard_spans.specs.Spans.{booking_line, filled_line, pass_line}
+use Rattle.shard_spans.specs.{booking_line, filled_line, pass_line}
 
 -- ---- lists
 

@@ -1,23 +1,17 @@
 -- A loop over the clusters of a span, one after another.
-use Rattle.std.proofs.Common.{◌≡◌, ℕ, ◌+◌, ◌<◌, ◌≤◌, ◌∷◌, [], ◌++◌, length, map, Option, None, Some, sym, ap, ap₂, ◌∙◌, subst, arith}
-use Rattle.std.specs.Prelude.{All, option_map, slice_get}
+use Rattle.std.proofs.Common.{◌≡◌, ℕ, ◌+◌, ◌<◌, ◌≤◌, ◌∷◌, [], ◌++◌, length, map, Option, None, Some, sym, ap, ap₂, ◌∙◌, subst, arith, All, option_map, slice_get}
 use Rattle.std.proofs.lemmas.List.{length-map}
 use Rattle.std.proofs.lemmas.Option.{same_Some, slice_get-map}
-use Rattle.rdf_values.specs.Cuts.{Lead, below}
-use Rattle.rdf_values.specs.Machine.{first_in}
-use Rattle.rdf_values.specs.declared.fault.Fault.{Fault}
+use Rattle.rdf_values.specs.{below, Fault, first_in, Lead}
 use Rattle.rdf_values.proofs.Below.{length-below, slice_get-below}
 use Rattle.rdf_values.proofs.Leading.{cuts_lead}
-use Rattle.rdf_model.specs.Results.{first_of}
-use Rattle.loop_keys.specs.Jobs.{IsJob, JobView, passes_in}
-use Rattle.loop_keys.specs.Entries.{job_spans}
-use Rattle.loop_pieces.specs.Whole.{cluster_fault}
-use Rattle.event_loop.specs.Jobs.{job_facts}
-use Rattle.event_loop.specs.Slots.{IsFreshSlot, IsSlotOf, SlotView}
-use Rattle.event_loop.specs.declared.progress.Phase.TheVariants as phase
-use Rattle.shard_spans.specs.Spans.{clusters_in}
+use Rattle.rdf_model.specs.{first_of}
+use Rattle.loop_keys.specs.{IsJob, job_spans, JobView, passes_in}
+use Rattle.loop_pieces.specs.{cluster_fault}
+use Rattle.event_loop.specs.{IsFreshSlot, IsSlotOf, job_facts, Phase, SlotView}
+use Rattle.shard_spans.specs.{clusters_in}
 use Rattle.shard_spans.proofs.SpanFaults.{below_end, clusters_more, clusters_none, first_faulty_cluster_has_the_fault, first_next, first_stays}
-use Rattle.shard_loop.specs.LoopSpans.{loop_fault}
+use Rattle.shard_loop.specs.{loop_fault}
 
 -- the first fault of a cluster
 abbrev pub fault_in : JobView → ℕ → Option Fault
@@ -27,7 +21,7 @@ fault_in j = cluster_fault j.dataset (job_spans j) (passes_in j)
 pub record IsUpTo (j : JobView) (lo c : ℕ) (s : SlotView) : Type 0 where
   pub low : lo ≤ c
   pub slot : IsSlotOf (job_facts j) s
-  pub going : s.phase ≡ phase.Going
+  pub going : s.phase ≡ Phase.Going
   pub done : s.done ≡ clusters_in lo c
   pub sound : first_in (map (fault_in j) (clusters_in lo c)) ≡ None
 
@@ -52,7 +46,7 @@ module _ (j : JobView) where
 
   -- one more cluster, which has no fault
   pub goes_on : (lo c n : ℕ) (s t : SlotView) → n ≡ c + 1 → c < length (job_spans j) → IsUpTo j lo c s → IsSlotOf (job_facts j) t
-      → slice_get (job_facts j).faults c ≡ Some None → t.done ≡ s.done ++ c ∷ [] → t.phase ≡ phase.Going → IsUpTo j lo n t
+      → slice_get (job_facts j).faults c ≡ Some None → t.done ≡ s.done ++ c ∷ [] → t.phase ≡ Phase.Going → IsUpTo j lo n t
   goes_on lo c n s t next lt up slot none done going =
       let low = up.low in
       record {

@@ -1,11 +1,9 @@
 -- Lists that take in one item after another.
-use Rattle.std.proofs.Common.{◌≡◌, ℕ, ◌+◌, List, [], ◌∷◌, ◌++◌, map, take, get_or, Some, sym, ap, ◌∙◌, append_assoc}
-use Rattle.std.specs.Prelude.{slice_get}
+use Rattle.std.proofs.Common.{◌≡◌, ℕ, ◌+◌, List, [], ◌∷◌, ◌++◌, map, take, get_or, Some, sym, ap, ◌∙◌, append_assoc, slice_get}
 use Rattle.std.proofs.lemmas.List.{map-append}
 use Rattle.std.proofs.lemmas.Option.{get_or_from_slice_get}
-use Rattle.lemmas.proofs.Parts.{take_next}
-use Rattle.loop_pieces.specs.Flows.{nothing}
-use Rattle.loop_pieces.specs.declared.flow.Counts.{Counts}
+use Rattle.lemmas.proofs.{take_next}
+use Rattle.loop_pieces.specs.{Counts, nothing}
 
 -- one more item, behind others
 pub made_next : {A B : Type 0} (f : A → B) (xs : List A) (i : ℕ) (x : A) (before out more : List B) (y : B) → out ≡ before ++ map f (take i xs) → slice_get xs i ≡ Some x → more ≡ out ++ y ∷ [] → y ≡ f x

@@ -1,20 +1,11 @@
 -- What a loop comes to over a span of clusters.
 use Rattle.std.specs.Prelude.{◌≡◌, ℕ, List, [], Option, Some, None, slice_get, unwrap_or}
-use Rattle.rdf_values.specs.Bookings.{Pass}
-use Rattle.rdf_values.specs.Cuts.{cut}
-use Rattle.rdf_values.specs.Functions.{Function}
-use Rattle.rdf_values.specs.Path.{history}
-use Rattle.rdf_values.specs.declared.fault.Fault.{Fault}
-use Rattle.rdf_values.specs.declared.script.Script.{Script}
-use Rattle.rdf_values.specs.declared.span.Span.{Span}
-use Rattle.rdf_model.specs.Loops.{loop_passes, loop_results}
-use Rattle.rdf_model.specs.Results.{Dataset}
+use Rattle.rdf_values.specs.{cut, Fault, Function, history, Pass, Script, Span}
+use Rattle.rdf_model.specs.{Dataset, loop_passes, loop_results}
 use Rattle.columns.specs.ColumnsView.{ColumnsView}
-use Rattle.loop_keys.specs.Jobs.{JobView, passes_in}
-use Rattle.loop_keys.specs.Entries.{facts_in, job_spans}
-use Rattle.loop_pieces.specs.LoopPieces.{StandsFor}
-use Rattle.loop_pieces.specs.declared.loop_piece.LoopPiece.{LoopPiece}
-use Rattle.shard_spans.specs.Spans.{clusters_in, over_span, span_fault}
+use Rattle.loop_keys.specs.{facts_in, job_spans, JobView, passes_in}
+use Rattle.loop_pieces.specs.{LoopPiece, StandsFor}
+use Rattle.shard_spans.specs.{clusters_in, over_span, span_fault}
 use Rattle.shard_loop.specs.declared.span_run.Spanned.{Spanned}
 use Rattle.shard_loop.specs.declared.span_run.Spanned.TheVariants.{Whole, Faulted}
 

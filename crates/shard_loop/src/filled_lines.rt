@@ -1,8 +1,8 @@
 // The lines of what accumulators and filters hold.
 ghost use Rattle.std.specs.Prelude.{◌≡◌, ◌<◌, ◌++◌, All, IfOk, OnOk, flat_map, length, map, slice_index_or, []};
-ghost use Rattle.actions.specs.Fillings.{filled_seen};
-ghost use Rattle.loop_pieces.specs.Flows.{nothing};
-ghost use Rattle.shard_spans.specs.Spans.{cell_sum, filled_line};
+ghost use Rattle.actions.specs.{filled_seen};
+ghost use Rattle.loop_pieces.specs.{nothing};
+ghost use Rattle.shard_spans.specs.{cell_sum, filled_line};
 
 use actions::{Filled, Taken};
 use histograms::{CellSum, Hist1, Hist2};

@@ -1,16 +1,12 @@
 // The loops of a graph over a span, in order.
 ghost use Rattle.std.specs.Prelude.{◌≡◌, ◌<◌, ◌≤◌, IfOk, length};
-ghost use Rattle.entry_fns.specs.Lists.{functions_in};
-ghost use Rattle.rdf_values.specs.Cuts.{cut};
-ghost use Rattle.rdf_values.specs.Functions.{fn_names};
-ghost use Rattle.rdf_values.specs.Path.{history};
-ghost use Rattle.rdf_values.specs.Words.{StatementsHaveWords};
-ghost use Rattle.loop_keys.specs.Jobs.{Fits, job_of, passes_in};
-ghost use Rattle.loop_keys.specs.Entries.{job_spans};
-ghost use Rattle.graph_numbers.specs.Graphs.{graph_loops};
-ghost use Rattle.shard_files.specs.LoopsAt.{is_faulty};
-ghost use Rattle.shard_spans.specs.Spans.{loops_of, span_loop, span_loops};
-ghost use Rattle.shard_loop.specs.LoopSpans.{cuts_of, loop_in, table_of};
+ghost use Rattle.entry_fns.specs.{functions_in};
+ghost use Rattle.rdf_values.specs.{cut, fn_names, history, StatementsHaveWords};
+ghost use Rattle.loop_keys.specs.{Fits, job_of, job_spans, passes_in};
+ghost use Rattle.graph_numbers.specs.{graph_loops};
+ghost use Rattle.shard_files.specs.{is_faulty};
+ghost use Rattle.shard_spans.specs.{loops_of, span_loop, span_loops};
+ghost use Rattle.shard_loop.specs.{cuts_of, loop_in, table_of};
 
 use crate::passes::span_lines;
 use crate::span_run::{Spanned, run_span};

@@ -1,11 +1,10 @@
 // The lines of a loop's passes over a span.
 ghost use Rattle.std.specs.Prelude.{◌≡◌, ◌<◌, ◌≤◌, ◌+◌, ℕ, IfOk, Some, length, map, slice_get, take};
 ghost use Rattle.rdf_values.specs.Bookings as bookings;
-ghost use Rattle.rdf_model.specs.LoopFacts.{kinds_in};
-ghost use Rattle.loop_keys.specs.Caches.{numbered_in};
-ghost use Rattle.loop_keys.specs.Jobs.{Fits, job_of, passes_in};
-ghost use Rattle.shard_spans.specs.Spans.{pass_line};
-ghost use Rattle.shard_loop.specs.LoopSpans.{IsSpanPiece, span_rows_of};
+ghost use Rattle.rdf_model.specs.{kinds_in};
+ghost use Rattle.loop_keys.specs.{Fits, job_of, numbered_in, passes_in};
+ghost use Rattle.shard_spans.specs.{pass_line};
+ghost use Rattle.shard_loop.specs.{IsSpanPiece, span_rows_of};
 
 use crate::filled_lines::{counts_at, filled_line};
 use graph_numbers::{Pass, ResultKind};

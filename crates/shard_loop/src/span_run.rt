@@ -1,10 +1,8 @@
 // One loop over a span of clusters.
 ghost use Rattle.std.specs.Prelude.{◌≡◌, ◌<◌, ◌≤◌, IfOk, length};
-ghost use Rattle.rdf_values.specs.Path.{history};
-ghost use Rattle.rdf_values.specs.Words.{StatementsHaveWords};
-ghost use Rattle.loop_keys.specs.Jobs.{Fits, job_of};
-ghost use Rattle.loop_keys.specs.Entries.{job_spans};
-ghost use Rattle.shard_loop.specs.LoopSpans.{IsSpanned};
+ghost use Rattle.rdf_values.specs.{history, StatementsHaveWords};
+ghost use Rattle.loop_keys.specs.{Fits, job_of, job_spans};
+ghost use Rattle.shard_loop.specs.{IsSpanned};
 
 use event_loop::{Progress, SlotState, SlotStop};
 use expr_eval::Steps;

@@ -1,25 +1,16 @@
 -- What is due to a script and shards, and to a command.
-use Rattle.std.proofs.Common.{◌≡◌, ℕ, List, [], ◌∷◌, None, Some, Result, Ok, IfOk, sym, ap, ◌∙◌, subst}
-use Rattle.std.specs.Prelude.{MatchOption, slice_get}
-use Rattle.rdf_values.specs.Functions.{Function, fn_names}
-use Rattle.rdf_values.specs.Kinds.{FunctionNames}
-use Rattle.rdf_values.specs.Tables.{IsHeader}
-use Rattle.rdf_values.specs.declared.column.Column.{Column}
-use Rattle.rdf_values.specs.declared.script.Script.{Script}
-use Rattle.graph_numbers.specs.Graphs.{GraphView, booked}
-use Rattle.input_files.specs.Due.{due_of}
-use Rattle.shard_files.specs.Merging.{first_other, merge_of}
-use Rattle.shard_files.specs.Shards.{ShardView}
-use Rattle.shard_files.specs.declared.shard_loop.ShardLoop.{ShardLoop}
-use Rattle.shard_lines.specs.declared.pass_shape.PassShape.{PassShape}
-use Rattle.graph_shapes.specs.GraphShapes.{graph_shapes}
-use Rattle.graph_shapes.specs.Laws.{JoinedLoopsFit}
-use Rattle.merged_text.specs.MergedPrints.{FitGraph}
-use Rattle.shard_due.specs.Due.{IsDueToShards, IsMerged, WithAccepted, graph_over, name_at}
-use Rattle.shard_due.specs.Lines.{differs_line}
+use Rattle.std.proofs.Common.{◌≡◌, ℕ, List, [], ◌∷◌, None, Some, Result, Ok, IfOk, sym, ap, ◌∙◌, subst, MatchOption, slice_get}
+use Rattle.rdf_values.specs.{Column, fn_names, Function, FunctionNames, IsHeader, Script}
+use Rattle.graph_numbers.specs.{booked, GraphView}
+use Rattle.input_files.specs.{due_of}
+use Rattle.shard_files.specs.{first_other, merge_of, ShardLoop, ShardView}
+use Rattle.shard_lines.specs.{PassShape}
+use Rattle.graph_shapes.specs.{graph_shapes, JoinedLoopsFit}
+use Rattle.merged_text.specs.{FitGraph}
+use Rattle.shard_due.specs.{differs_line, graph_over, IsDueToShards, IsMerged, name_at, WithAccepted}
 use Rattle.shard_due.specs.declared.status.ShardStatus.TheVariants.{FilesDiffer}
-use Rattle.shard_program.specs.Answers.{Answers, due_in}
-use Rattle.shard_program.specs.Shards.{AreShards}
+use Rattle.shard_program.specs.{AreShards, due_in}
+use Rattle.shard_program.specs.Answers.{Answers}
 use Rattle.shard_program.specs.declared.answer.Answer.{Answer}
 use Rattle.shard_program.proofs.FileReading.{if_ok}
 use Rattle.shard_program.proofs.OverTables.{accepted}

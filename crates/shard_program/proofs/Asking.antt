@@ -1,13 +1,10 @@
 -- The numbers and names of a command are within their limits.
-use Rattle.std.proofs.Common.{◌≡◌, ◌≤◌, ℕ, ℤ, pos, negsuc, Bool, true, false, ◌&&◌, leb, List, [], ◌∷◌, length, Option, None, Some, if◌then◌else◌, refl, arith, subst, sym, ◌∙◌}
-use Rattle.std.specs.Prelude.{bytes_eq, codes, nat_le, nat_lt}
+use Rattle.std.proofs.Common.{◌≡◌, ◌≤◌, ℕ, ℤ, pos, negsuc, Bool, true, false, ◌&&◌, leb, List, [], ◌∷◌, length, Option, None, Some, if◌then◌else◌, refl, arith, subst, sym, ◌∙◌, bytes_eq, codes, nat_le, nat_lt}
 use Rattle.std.proofs.lemmas.Bool.Decides.{nat_tests}
-use Rattle.rdf_values.specs.Integers.{integer_of}
-use Rattle.command_words.specs.Asked.{number_of, within}
-use Rattle.shard_words.specs.Asked.{asked_of, merge_of, run_of, run_with}
-use Rattle.shard_words.specs.declared.command.ShardCommand.{ShardCommand}
+use Rattle.rdf_values.specs.{integer_of}
+use Rattle.command_words.specs.{number_of, within}
+use Rattle.shard_words.specs.{asked_of, merge_of, run_of, run_with, ShardCommand, SpanRun}
 use Rattle.shard_words.specs.declared.command.ShardCommand.TheVariants.{Run, Merge}
-use Rattle.shard_words.specs.declared.command.SpanRun.{SpanRun}
 
 -- clusters have some entry, and a merging has 1 to 64 files
 abbrev IsFit : ShardCommand → Type 0

@@ -1,15 +1,12 @@
 -- Answers to a script's file and to a table's.
 use Rattle.std.proofs.Common.{◌≡◌, ◌≤◌, ℕ, List, Option, None, Some, Result, Ok, Err, IfOk, IfSome, subst, arith}
-use Rattle.rdf_values.specs.declared.script.Script.{Script}
+use Rattle.rdf_values.specs.{Script}
 use Rattle.input_files.proofs.Staging.{script_read_due}
-use Rattle.input_files.specs.Due.{WithScriptFile}
-use Rattle.input_files.specs.Fetching.{Tells}
-use Rattle.input_files.specs.Reading.{HoldsTheScript}
-use Rattle.shard_due.specs.Due.{Files, ShardDue}
-use Rattle.shard_due.specs.Statuses.{IsFinal, statuses}
-use Rattle.shard_due.specs.declared.status.ShardStatus.{ShardStatus}
+use Rattle.input_files.specs.{HoldsTheScript, Tells, WithScriptFile}
+use Rattle.shard_due.specs.{Files, IsFinal, ShardDue, ShardStatus, statuses}
 use Rattle.shard_due.specs.declared.status.ShardStatus.TheVariants.{ReadFault}
-use Rattle.shard_program.specs.Answers.{Answers, IsAnswer, due_in}
+use Rattle.shard_program.specs.{due_in, IsAnswer}
+use Rattle.shard_program.specs.Answers.{Answers}
 use Rattle.shard_program.specs.declared.answer.Answer.{Answer}
 
 -- ---- answers

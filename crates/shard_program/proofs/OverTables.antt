@@ -1,43 +1,27 @@
 -- A booked script over a table, and the shard of a run.
-use Rattle.std.proofs.Common.{◌≡◌, ◌≤◌, inl, inr, ℕ, List, length, Option, None, Some, Result, Ok, Err, IfOk, refl, sym, ap, ◌∙◌, subst}
-use Rattle.std.specs.Prelude.{MatchOption}
-use Rattle.rdf_values.specs.Answers.{Refuses}
-use Rattle.rdf_values.specs.Cuts.{Lead}
-use Rattle.rdf_values.specs.Functions.{Function, fn_names}
-use Rattle.rdf_values.specs.Kinds.{FunctionNames}
-use Rattle.rdf_values.specs.Path.{history}
-use Rattle.rdf_values.specs.RefusalLines.{graph_cause_line}
-use Rattle.rdf_values.specs.TableText.{MarkedTable}
-use Rattle.rdf_values.specs.Tables.{IsTable}
-use Rattle.rdf_values.specs.Verdict.{verdict}
-use Rattle.rdf_values.specs.Words.{AnswerIn64Bits, StatementsHaveWords}
-use Rattle.rdf_values.specs.declared.column.Column.{Column}
-use Rattle.rdf_values.specs.declared.graph_cause.GraphCause.{GraphCause}
-use Rattle.rdf_values.specs.declared.script.Script.{Script}
-use Rattle.rdf_values.specs.declared.span.Span.{Span}
+use Rattle.std.proofs.Common.{◌≡◌, ◌≤◌, inl, inr, ℕ, List, length, Option, None, Some, Result, Ok, Err, IfOk, refl, sym, ap, ◌∙◌, subst, MatchOption}
+use Rattle.rdf_values.specs.Answered.{Refuses}
+use Rattle.rdf_values.specs.{AnswerIn64Bits, Column, fn_names, Function, FunctionNames, graph_cause_line, GraphCause, history, IsTable, Lead, MarkedTable, Script, Span, StatementsHaveWords, verdict}
 use Rattle.rdf_values.proofs.Leading.{cuts_lead}
 use Rattle.columns.specs.ColumnsView.{ColumnsView}
-use Rattle.graph_numbers.specs.Graphs.{GraphView, IsGraph, booked, booked_unless}
-use Rattle.input_files.specs.Due.{due_of}
-use Rattle.graph.specs.Refusals.{refused_at}
-use Rattle.graph.specs.declared.refusal.GraphRefusal.{GraphRefusal}
-use Rattle.graph.specs.declared.refusal.GraphRefusal.TheVariants as graph
-use Rattle.shard_files.specs.Shards.{IsShard, ShardView}
-use Rattle.shard_loop.specs.LoopSpans.{cuts_of, table_of}
+use Rattle.graph_numbers.specs.{booked, booked_unless, GraphView, IsGraph}
+use Rattle.input_files.specs.{due_of}
+use Rattle.graph.specs.{GraphRefusal, refused_at}
+use Rattle.shard_files.specs.{IsShard, ShardView}
+use Rattle.shard_loop.specs.{cuts_of, table_of}
 use Rattle.shard_runs.proofs.Runs.{runs_are_shards}
-use Rattle.shard_spans.specs.Spans.{loops_of, span_loops, span_shard}
-use Rattle.shard_due.specs.Due.{IsDueToTable, IsSpanDue, ShardDue, WithAccepted, graph_over}
-use Rattle.shard_due.specs.Statuses.{IsFinal}
+use Rattle.shard_spans.specs.{loops_of, span_loops, span_shard}
+use Rattle.shard_due.specs.{graph_over, IsDueToTable, IsFinal, IsSpanDue, ShardDue, WithAccepted}
 use Rattle.shard_due.specs.declared.status.ShardStatus.TheVariants.{ScriptRefused}
-use Rattle.shard_program.specs.Answers.{Answers, IsOfFiles, due_in}
-use Rattle.shard_program.specs.NamedColumns.{AreNamed}
-use Rattle.table_csv.specs.ColumnsOver.{columns_over, marked_in}
+use Rattle.shard_program.specs.{AreNamed, due_in, IsOfFiles}
+use Rattle.shard_program.specs.Answers.{Answers}
+use Rattle.table_csv.specs.{columns_over, marked_in}
 use Rattle.shard_program.specs.declared.answer.Answer.{Answer}
 use Rattle.shard_program.proofs.FileReading.{if_ok}
 
 -- ---- the checks of a script
 
-refusal_of : (wanted : Result GraphView (ℕ × GraphCause)) (line : ℕ) (cause : GraphCause) → Refuses refused_at graph.Memory wanted (graph.At line cause) → wanted ≡ Err (line, cause)
+refusal_of : (wanted : Result GraphView (ℕ × GraphCause)) (line : ℕ) (cause : GraphCause) → Refuses refused_at GraphRefusal.Memory wanted (GraphRefusal.At line cause) → wanted ≡ Err (line, cause)
 refusal_of wanted line cause (inl e) = absurd (cc e)
 refusal_of wanted line cause (inr h) =
     let e = h.1 in
@@ -70,11 +54,11 @@ module _ (fns : List Function) (script : Script) (columns header : List Column) 
       }
 
   -- a script with a line that is refused
-  pub not_accepted : (Next : ShardDue → Type 0) (refusal : GraphRefusal) (line line' : ℕ) (cause cause' : GraphCause) (a : Answer) → refusal ≡ graph.At line cause → Refuses refused_at graph.Memory (booked script header names) refusal
+  pub not_accepted : (Next : ShardDue → Type 0) (refusal : GraphRefusal) (line line' : ℕ) (cause cause' : GraphCause) (a : Answer) → refusal ≡ GraphRefusal.At line cause → Refuses refused_at GraphRefusal.Memory (booked script header names) refusal
       → line' ≡ line → cause' ≡ cause → (a.status ≡ ScriptRefused) × (a.text ≡ graph_cause_line line' cause') → Answers (WithAccepted fns script columns Next) a
   not_accepted Next refusal line line' cause cause' a refused is l k e =
       let v = refused_verdict (graph_over fns script columns) (verdict (fn_names fns) columns script) (line, cause)
-      (sym same_booked ∙ refusal_of (booked script header names) line cause (subst (λ r. Refuses refused_at graph.Memory (booked script header names) r) refused is)) in
+      (sym same_booked ∙ refusal_of (booked script header names) line cause (subst (λ r. Refuses refused_at GraphRefusal.Memory (booked script header names) r) refused is)) in
       let due : due_in a ≡ due_of ScriptRefused (graph_cause_line line cause) = (λ i. due_of (e.0 i) ((e.1 ∙ (λ j. graph_cause_line (l j) (k j))) i)) in
       record {
         of_files = subst IsOfFiles (sym e.0) tt;
@@ -92,7 +76,7 @@ table_due fns script t size clusters columns header names g r same heads named i
 
 -- and where a line of it was refused
 pub script_refused : {E : Type 0} (fns : List Function) (script : Script) (t : MarkedTable) (size : ℕ) (clusters : Span) (columns : ColumnsView) (header : List Column) (names : FunctionNames) (refusal : GraphRefusal) (line line' : ℕ) (cause cause' : GraphCause)
-    (r : Result Answer E) → columns ≡ columns_over t size → header ≡ columns.table.columns → names ≡ fn_names fns → refusal ≡ graph.At line cause → Refuses refused_at graph.Memory (booked script header names) refusal → line' ≡ line → cause' ≡ cause
+    (r : Result Answer E) → columns ≡ columns_over t size → header ≡ columns.table.columns → names ≡ fn_names fns → refusal ≡ GraphRefusal.At line cause → Refuses refused_at GraphRefusal.Memory (booked script header names) refusal → line' ≡ line → cause' ≡ cause
     → IfOk r (λ a. (a.status ≡ ScriptRefused) × (a.text ≡ graph_cause_line line' cause')) → IfOk r (Answers (IsDueToTable fns size clusters script t))
 script_refused fns script t size clusters columns header names refusal line line' cause cause' r same heads named refused is l k =
     if_ok (λ a. (a.status ≡ ScriptRefused) × (a.text ≡ graph_cause_line line' cause')) (Answers (IsDueToTable fns size clusters script t)) r

@@ -1,24 +1,16 @@
 -- The files of a merging, one after the other.
-use Rattle.std.proofs.Common.{◌≡◌, ◌≤◌, ◌<◌, ◌+◌, inl, inr, ℕ, zero, suc, Bool, true, false, List, [], ◌∷◌, ◌++◌, length, take, drop, Option, None, Some, Result, IfOk, IfSome, refl, sym, ap, ◌∙◌, subst, arith, add-one, get_or, append-nil, append_assoc, nat_lt}
+use Rattle.std.proofs.Common.{◌≡◌, ◌≤◌, ◌<◌, ◌+◌, inl, inr, ℕ, zero, suc, Bool, true, false, List, [], ◌∷◌, ◌++◌, length, take, drop, Option, None, Some, Result, IfOk, IfSome, refl, sym, ap, ◌∙◌, subst, arith, add-one, get_or, append-nil, append_assoc, nat_lt, slice_get, unwrap_or}
 use Rattle.std.specs.Bool.{MatchBool}
-use Rattle.std.specs.Prelude.{slice_get, unwrap_or}
 use Rattle.std.proofs.lemmas.Bool.{le-ltb}
 use Rattle.std.proofs.lemmas.List.{take-append-drop}
 use Rattle.std.proofs.lemmas.List.Sums.{sum_by-append, sum_by-cons}
-use Rattle.rdf_values.specs.Functions.{Function}
-use Rattle.rdf_values.specs.declared.script.Script.{Script}
-use Rattle.input_files.specs.Answers.{AreTurnedTo}
-use Rattle.input_files.specs.Due.{WithFile, due_of}
-use Rattle.input_files.specs.Fetching.{Tells}
-use Rattle.shard_files.specs.Shards.{IsShard, ShardView}
-use Rattle.shard_due.specs.Due.{Files, IsDueToShards, ReadsShard, ShardDue, WithShard, WithShards, max_files}
-use Rattle.shard_due.specs.Laws.{bytes_in}
-use Rattle.shard_due.specs.Lines.{long_files_line}
-use Rattle.shard_due.specs.Statuses.{statuses}
+use Rattle.rdf_values.specs.{Function, Script}
+use Rattle.input_files.specs.{AreTurnedTo, due_of, Tells, WithFile}
+use Rattle.shard_files.specs.{IsShard, ShardView}
+use Rattle.shard_due.specs.{bytes_in, Files, IsDueToShards, long_files_line, max_files, ReadsShard, ShardDue, statuses, WithShard, WithShards}
 use Rattle.shard_due.specs.declared.status.ShardStatus.TheVariants.{TooLong}
-use Rattle.shard_program.specs.Answers.{Answers, IsAnswer}
-use Rattle.shard_program.specs.Shards.{AreShards, AreShardsRead, HoldAll, HoldShards, HoldsTheShard, IsDueToFile, IsDueToFiles, IsDueToNames, IsShardOf, IsTextOf}
-use Rattle.shard_program.specs.Turns.{IsShardRead}
+use Rattle.shard_program.specs.{AreShards, AreShardsRead, HoldAll, HoldShards, HoldsTheShard, IsAnswer, IsDueToFile, IsDueToFiles, IsDueToNames, IsShardOf, IsShardRead, IsTextOf}
+use Rattle.shard_program.specs.Answers.{Answers}
 use Rattle.shard_program.specs.declared.answer.Answer.{Answer}
 use Rattle.shard_program.proofs.FileReading.{if_ok, of_answer, staged}
 use Rattle.shard_program.proofs.Turning.{taken_next, turned_up_to}

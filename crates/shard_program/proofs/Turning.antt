@@ -1,12 +1,10 @@
 -- The files that are turned to, one after the other.
-use Rattle.std.proofs.Common.{◌≡◌, ◌≤◌, ◌<◌, ◌+◌, ℕ, zero, suc, List, [], ◌∷◌, ◌++◌, length, take, drop, Option, None, Some, IfSome, sym, ap, arith}
+use Rattle.std.proofs.Common.{◌≡◌, ◌≤◌, ◌<◌, ◌+◌, ℕ, zero, suc, List, [], ◌∷◌, ◌++◌, length, take, drop, Option, None, Some, IfSome, sym, ap, arith, slice_get}
 use Rattle.std.proofs.lemmas.List.{length-take-le, take-append-drop}
-use Rattle.std.specs.Prelude.{slice_get}
-use Rattle.input_files.specs.Answers.{AreTurnedTo}
-use Rattle.shard_due.specs.Due.{Files, name_at}
-use Rattle.shard_files.specs.Shards.{ShardView}
-use Rattle.shard_program.specs.Shards.{HoldAll, HoldShards, IsTextOf}
-use Rattle.shard_program.specs.Turns.{HoldsAShard, IsShardRead}
+use Rattle.input_files.specs.{AreTurnedTo}
+use Rattle.shard_due.specs.{Files, name_at}
+use Rattle.shard_files.specs.{ShardView}
+use Rattle.shard_program.specs.{HoldAll, HoldsAShard, HoldShards, IsShardRead, IsTextOf}
 
 -- the names before a place, and the one there
 pub taken_next : (names : List (List ℕ)) (i : ℕ) (name : List ℕ) → slice_get names i ≡ Some name → take (suc i) names ≡ take i names ++ name ∷ []

@@ -1,15 +1,10 @@
 -- What the program answers before anything is written.
 use Rattle.std.specs.Prelude.{◌≡◌, ℕ, List, Option, IfSome, MatchOption}
-use Rattle.rdf_outside.specs.Outside.{Rose}
-use Rattle.rdf_values.specs.Functions.{Function}
-use Rattle.rdf_values.specs.RefusalLines.{read_failed_line}
-use Rattle.input_files.specs.Answers.{IsLast}
-use Rattle.input_files.specs.Due.{due_of}
-use Rattle.shard_words.specs.Asked.{asked_of}
-use Rattle.shard_due.specs.Due.{Files, IsDueToCommand, ShardDue}
-use Rattle.shard_due.specs.Lines.{usage_line}
-use Rattle.shard_due.specs.Statuses.{IsFinal}
-use Rattle.shard_due.specs.declared.status.ShardStatus.{ShardStatus}
+use Rattle.rdf_outside.specs.{Rose}
+use Rattle.rdf_values.specs.{Function, read_failed_line}
+use Rattle.input_files.specs.{due_of, IsLast}
+use Rattle.shard_words.specs.{asked_of}
+use Rattle.shard_due.specs.{Files, IsDueToCommand, IsFinal, ShardDue, ShardStatus, usage_line}
 use Rattle.shard_due.specs.declared.status.ShardStatus.TheVariants.{Memory, ReadFault, Words, WriteFault}
 use Rattle.shard_program.specs.declared.answer.Answer.{Answer}
 

@@ -1,8 +1,7 @@
 -- Columns with names.
 use Rattle.std.specs.Prelude.{◌≡◌, true, List}
 use Rattle.std.specs.List.{list_all}
-use Rattle.rdf_values.specs.Names.{is_name}
-use Rattle.rdf_values.specs.declared.column.Column.{Column}
+use Rattle.rdf_values.specs.{Column, is_name}
 
 -- each column has a name
 abbrev pub AreNamed : List Column → Type 0

@@ -1,18 +1,12 @@
 -- What reading the files of a merging comes to.
 use Rattle.std.specs.Prelude.{◌≡◌, ◌≤◌, ◌+◌, ⊤, ℕ, List, [], ◌∷◌, Option, Some, None, IfSome, length}
-use Rattle.rdf_values.specs.Functions.{Function}
-use Rattle.rdf_values.specs.declared.script.Script.{Script}
-use Rattle.input_files.specs.Due.{WithFile}
-use Rattle.input_files.specs.Fetching.{Tells}
-use Rattle.shard_files.specs.Shards.{IsShard, IsShardText, ShardView}
-use Rattle.shard_due.specs.Due.{Files, IsDueToShards, ReadsShard, ShardDue, WithShard, WithShards, max_files}
-use Rattle.shard_due.specs.Laws.{bytes_in}
-use Rattle.shard_due.specs.Statuses.{statuses}
+use Rattle.rdf_values.specs.{Function, Script}
+use Rattle.input_files.specs.{Tells, WithFile}
+use Rattle.shard_files.specs.{IsShard, IsShardText, ShardView}
+use Rattle.shard_due.specs.{bytes_in, Files, IsDueToShards, max_files, ReadsShard, ShardDue, statuses, WithShard, WithShards}
 use Rattle.shard_program.specs.Answers.{Answers, IsAnswer}
 use Rattle.shard_program.specs.declared.shard_file.ReadShard.{ReadShard}
-use Rattle.shard_program.specs.declared.shard_file.ReadShard.TheVariants as one
 use Rattle.shard_program.specs.declared.shards.ReadShards.{ReadShards}
-use Rattle.shard_program.specs.declared.shards.ReadShards.TheVariants as all
 
 -- ---- one file
 
@@ -23,8 +17,8 @@ HoldsTheShard shard count (Some bytes) = (length bytes ≡ count) × IsShardText
 
 -- the shard that the bytes are the text of, or the line at which they are refused
 abbrev pub ReadsShardText : List ℕ → List ℕ → ReadShard → Type 0
-ReadsShardText name bytes (one.Whole shard count) = (count ≡ length bytes) × IsShardText bytes shard
-ReadsShardText name bytes (one.Refused answer) = Answers (λ due. ReadsShard name bytes (λ s d. ⊥) due) answer
+ReadsShardText name bytes (ReadShard.Whole shard count) = (count ≡ length bytes) × IsShardText bytes shard
+ReadsShardText name bytes (ReadShard.Refused answer) = Answers (λ due. ReadsShard name bytes (λ s d. ⊥) due) answer
 
 -- what is due to a file that holds no shard, or has too many bytes together with those before it
 abbrev pub IsDueToFile : List ℕ → ℕ → Files → ShardDue → Type 0
@@ -38,8 +32,8 @@ pub record IsShardOf (told : Option Files) (name : List ℕ) (before count : ℕ
 
 -- the shard that the file holds, or why it gives none
 abbrev pub ReadsShardFile : Option Files → List (List ℕ) → ℕ → ℕ → List ℕ → ℕ → ReadShard → Type 0
-ReadsShardFile told turns faults now name before (one.Whole shard count) = IsShardOf told name before count shard
-ReadsShardFile told turns faults now name before (one.Refused answer) = IsAnswer (IsDueToFile name before) told turns faults now answer
+ReadsShardFile told turns faults now name before (ReadShard.Whole shard count) = IsShardOf told name before count shard
+ReadsShardFile told turns faults now name before (ReadShard.Refused answer) = IsAnswer (IsDueToFile name before) told turns faults now answer
 
 -- ---- all files
 
@@ -77,8 +71,8 @@ pub record AreShardsRead (told : Option Files) (names : List (List ℕ)) (shards
 
 -- the shards that all files hold, or why one gives none
 abbrev pub ReadsShards : Option Files → List (List ℕ) → ℕ → ℕ → List (List ℕ) → ReadShards → Type 0
-ReadsShards told turns faults now names (all.All shards) = AreShardsRead told names shards
-ReadsShards told turns faults now names (all.Refused answer) = IsAnswer (IsDueToNames names) told turns faults now answer
+ReadsShards told turns faults now names (ReadShards.All shards) = AreShardsRead told names shards
+ReadsShards told turns faults now names (ReadShards.Refused answer) = IsAnswer (IsDueToNames names) told turns faults now answer
 
 -- what is due to a script and files
 abbrev pub IsDueToFiles : List Function → Script → List (List ℕ) → Files → ShardDue → Type 0

@@ -1,13 +1,11 @@
 -- The files that are turned to.
 use Rattle.std.specs.Prelude.{◌≡◌, ℕ, zero, suc, List, [], ◌∷◌, Option, Some, None, IfSome, MatchOption}
-use Rattle.rdf_values.specs.declared.script.Script.{Script}
-use Rattle.input_files.specs.Answers.{AreTurnedTo}
-use Rattle.input_files.specs.Reading.{HoldsTheScript}
-use Rattle.shard_files.specs.Shards.{IsShardText, ShardView}
-use Rattle.shard_words.specs.Asked.{asked_of}
-use Rattle.shard_words.specs.declared.command.ShardCommand.{ShardCommand}
+use Rattle.rdf_values.specs.{Script}
+use Rattle.input_files.specs.{AreTurnedTo, HoldsTheScript}
+use Rattle.shard_files.specs.{IsShardText, ShardView}
+use Rattle.shard_words.specs.{asked_of, ShardCommand}
 use Rattle.shard_words.specs.declared.command.ShardCommand.TheVariants.{Run, Merge}
-use Rattle.shard_due.specs.Due.{Files, name_at}
+use Rattle.shard_due.specs.{Files, name_at}
 
 -- the file holds some script
 abbrev pub HoldsAScript : Option (List ℕ) → Type 0

@@ -1,8 +1,8 @@
 // What the program answers.
 ghost use Rattle.std.specs.Prelude.{◌≡◌, IfOk};
-ghost use Rattle.rdf_values.specs.RefusalLines.{graph_cause_line};
-ghost use Rattle.input_files.specs.Reading.{status_for};
-ghost use Rattle.shard_due.specs.Statuses.{statuses};
+ghost use Rattle.rdf_values.specs.{graph_cause_line};
+ghost use Rattle.input_files.specs.{status_for};
+ghost use Rattle.shard_due.specs.{statuses};
 
 use input_files::{FileCause, FileRefusal};
 use rdf_values::{GraphCause, Memory, Text};

@@ -1,6 +1,6 @@
 // The lines that are this program's own.
 ghost use Rattle.std.specs.Prelude.{◌≡◌, ◌++◌, IfOk};
-ghost use Rattle.shard_due.specs.Lines.{differs_line, file_refused_line, long_files_line, span_line, uncovered_line, usage_line};
+ghost use Rattle.shard_due.specs.{differs_line, file_refused_line, long_files_line, span_line, uncovered_line, usage_line};
 
 use rdf_values::{Memory, Text};
 use result_text::numbers::put_count;

@@ -1,12 +1,10 @@
 // What the program answers to a merging.
 ghost use Rattle.std.specs.Prelude.{◌≡◌, ◌≤◌, IfOk, OnOk, length};
-ghost use Rattle.entry_fns.specs.Lists.{functions_in};
-ghost use Rattle.rdf_values.specs.Bookable.{IsBookable};
-ghost use Rattle.input_files.specs.Answers.{AreTurnedTo};
-ghost use Rattle.shard_due.specs.Due.{IsMergeDue};
-ghost use Rattle.shard_program.specs.Answers.{IsAnswer};
-ghost use Rattle.shard_program.specs.Shards.{IsDueToFiles};
-ghost use Rattle.shard_program.specs.Turns.{IsReadIn, IsShardRead, names_of};
+ghost use Rattle.entry_fns.specs.{functions_in};
+ghost use Rattle.rdf_values.specs.{IsBookable};
+ghost use Rattle.input_files.specs.{AreTurnedTo};
+ghost use Rattle.shard_due.specs.{IsMergeDue};
+ghost use Rattle.shard_program.specs.{IsAnswer, IsDueToFiles, IsReadIn, IsShardRead, names_of};
 ghost use Rattle.shard_words.specs.declared.command.ShardCommand.TheVariants.{Merge};
 
 use crate::answer::Answer;

@@ -1,12 +1,12 @@
 // What is due to a script and the shards of files.
 ghost use Rattle.std.specs.Prelude.{◌≡◌, ◌≤◌, IfOk, length};
-ghost use Rattle.entry_fns.specs.Lists.{functions_in};
-ghost use Rattle.rdf_values.specs.Bookable.{IsBookable};
-ghost use Rattle.shard_files.specs.Merging.{first_other, same_head};
-ghost use Rattle.merged_text.specs.MergedPrints.{FitGraph};
-ghost use Rattle.shard_due.specs.Due.{IsDueToShards, IsMerged, IsPrinted, cause_due, name_at};
+ghost use Rattle.entry_fns.specs.{functions_in};
+ghost use Rattle.rdf_values.specs.{IsBookable};
+ghost use Rattle.shard_files.specs.{first_other, same_head};
+ghost use Rattle.merged_text.specs.{FitGraph};
+ghost use Rattle.shard_due.specs.{cause_due, IsDueToShards, IsMerged, IsPrinted, name_at};
 ghost use Rattle.shard_program.specs.Answers.{Answers};
-ghost use Rattle.shard_program.specs.Shards.{AreShards};
+ghost use Rattle.shard_program.specs.{AreShards};
 
 use crate::answer::Answer;
 use crate::lines::{differs_line, uncovered_line};

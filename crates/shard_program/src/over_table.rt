@@ -1,11 +1,9 @@
 // What is due to a script over a table, on a span of its clusters.
 ghost use Rattle.std.specs.Prelude.{◌≡◌, IfOk};
-ghost use Rattle.entry_fns.specs.Lists.{functions_in};
-ghost use Rattle.rdf_values.specs.Bookable.{IsBookable};
-ghost use Rattle.rdf_values.specs.Path.{history};
-ghost use Rattle.rdf_values.specs.Words.{StatementsHaveWords};
-ghost use Rattle.table_csv.specs.ColumnsOver.{columns_over, marked_in};
-ghost use Rattle.shard_due.specs.Due.{IsDueToTable};
+ghost use Rattle.entry_fns.specs.{functions_in};
+ghost use Rattle.rdf_values.specs.{history, IsBookable, StatementsHaveWords};
+ghost use Rattle.table_csv.specs.{columns_over, marked_in};
+ghost use Rattle.shard_due.specs.{IsDueToTable};
 ghost use Rattle.shard_program.specs.Answers.{Answers};
 
 use crate::answer::Answer;

@@ -1,15 +1,10 @@
 // What the program answers to a run.
 ghost use Rattle.std.specs.Prelude.{◌≡◌, ◌≤◌, ◌++◌, [], ◌∷◌, IfOk};
-ghost use Rattle.entry_fns.specs.Lists.{functions_in};
-ghost use Rattle.rdf_values.specs.Bookable.{IsBookable};
-ghost use Rattle.rdf_values.specs.Path.{history};
-ghost use Rattle.rdf_values.specs.Words.{StatementsHaveWords};
-ghost use Rattle.input_files.specs.Answers.{AreTurnedTo};
-ghost use Rattle.input_files.specs.Due.{WithTableFile};
-ghost use Rattle.shard_due.specs.Due.{IsDueToTable, IsRunDue};
-ghost use Rattle.shard_due.specs.Statuses.{statuses};
-ghost use Rattle.shard_program.specs.Answers.{IsAnswer};
-ghost use Rattle.shard_program.specs.Turns.{IsReadIn, names_of};
+ghost use Rattle.entry_fns.specs.{functions_in};
+ghost use Rattle.rdf_values.specs.{history, IsBookable, StatementsHaveWords};
+ghost use Rattle.input_files.specs.{AreTurnedTo, WithTableFile};
+ghost use Rattle.shard_due.specs.{IsDueToTable, IsRunDue, statuses};
+ghost use Rattle.shard_program.specs.{IsAnswer, IsReadIn, names_of};
 ghost use Rattle.shard_words.specs.declared.command.ShardCommand.TheVariants.{Run};
 
 use crate::answer::Answer;

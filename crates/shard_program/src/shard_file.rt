@@ -1,6 +1,6 @@
 // One file of those that are merged.
 ghost use Rattle.std.specs.Prelude.{◌≡◌, ◌≤◌, ◌++◌, [], ◌∷◌, IfOk, length};
-ghost use Rattle.shard_program.specs.Shards.{ReadsShardFile, ReadsShardText};
+ghost use Rattle.shard_program.specs.{ReadsShardFile, ReadsShardText};
 
 use crate::answer::Answer;
 use crate::lines::{file_refused_line, long_files_line};

@@ -1,8 +1,7 @@
 // The files that are merged, one after the other.
 ghost use Rattle.std.specs.Prelude.{◌≡◌, ◌≤◌, IfOk, OnOk};
-ghost use Rattle.input_files.specs.Answers.{AreTurnedTo};
-ghost use Rattle.shard_program.specs.Shards.{ReadsShards};
-ghost use Rattle.shard_program.specs.Turns.{IsShardRead};
+ghost use Rattle.input_files.specs.{AreTurnedTo};
+ghost use Rattle.shard_program.specs.{IsShardRead, ReadsShards};
 
 use crate::answer::Answer;
 use crate::shard_file::{ReadShard, read_shard_file};

@@ -1,16 +1,14 @@
 // The file of a run over a span of clusters.
 ghost use Rattle.std.specs.Prelude.{◌≡◌, ◌≤◌, ◌<◌, IfOk, length};
-ghost use Rattle.entry_fns.specs.Lists.{functions_in};
-ghost use Rattle.rdf_values.specs.Functions.{fn_names};
-ghost use Rattle.rdf_values.specs.Path.{history};
-ghost use Rattle.rdf_values.specs.Words.{StatementsHaveWords};
-ghost use Rattle.shard_files.specs.Shards.{shard_text};
-ghost use Rattle.shard_loop.specs.LoopSpans.{cuts_of, table_of};
-ghost use Rattle.shard_spans.specs.Spans.{span_shard};
-ghost use Rattle.table_csv.specs.ColumnsOver.{marked_in};
-ghost use Rattle.shard_due.specs.Due.{IsFile, IsSpanDue, is_span};
+ghost use Rattle.entry_fns.specs.{functions_in};
+ghost use Rattle.rdf_values.specs.{fn_names, history, StatementsHaveWords};
+ghost use Rattle.shard_files.specs.{shard_text};
+ghost use Rattle.shard_loop.specs.{cuts_of, table_of};
+ghost use Rattle.shard_spans.specs.{span_shard};
+ghost use Rattle.table_csv.specs.{marked_in};
+ghost use Rattle.shard_due.specs.{is_span, IsFile, IsSpanDue};
 ghost use Rattle.shard_program.specs.Answers.{Answers};
-ghost use Rattle.shard_program.specs.NamedColumns.{AreNamed};
+ghost use Rattle.shard_program.specs.{AreNamed};
 
 use crate::answer::Answer;
 use crate::lines::{long_files_line, span_line};

@@ -1,8 +1,7 @@
 // What the program answers to its words, before anything is written.
 ghost use Rattle.std.specs.Prelude.{◌≡◌, ◌≤◌, IfOk, OnOk};
-ghost use Rattle.entry_fns.specs.Lists.{functions_in};
-ghost use Rattle.shard_program.specs.Answers.{AnswersWords};
-ghost use Rattle.shard_program.specs.Turns.{AreTurns};
+ghost use Rattle.entry_fns.specs.{functions_in};
+ghost use Rattle.shard_program.specs.{AnswersWords, AreTurns};
 
 use crate::answer::Answer;
 use crate::lines::usage_line;

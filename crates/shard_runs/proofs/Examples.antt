@@ -1,27 +1,16 @@
 -- The definitions computed: two runs over one table, the file of each, and what they merge to.
-use Rattle.std.proofs.Common.{◌≡◌, ℤ, true, false, pos, List, [], ◌∷◌, Ok, Err, refl, arith, codes}
-use Rattle.std.specs.Prelude.{All, flat_map}
+use Rattle.std.proofs.Common.{◌≡◌, ℤ, true, false, pos, List, [], ◌∷◌, Ok, Err, refl, arith, codes, All, flat_map}
 use Rattle.std.specs.Fmt.{digits}
 use Rattle.std.specs.List.{AllByRecursion}
 use Rattle.std.proofs.lemmas.List.Elements.{All-from_recursion}
-use Rattle.rdf_values.specs.Cuts.{cut}
-use Rattle.rdf_values.specs.Names.{is_name}
-use Rattle.rdf_values.specs.RefusalLines.{line}
-use Rattle.rdf_values.specs.Words.{Has64Bits}
+use Rattle.rdf_values.specs.{ColType, cut, Has64Bits, is_name, line, Scalar, Script}
 use Rattle.rdf_values.specs.declared.fault.EntryFault.TheVariants.{ZeroDivisor}
-use Rattle.rdf_values.specs.declared.script.Script.{Script}
-use Rattle.rdf_values.specs.declared.value.ColType.TheVariants as k
-use Rattle.rdf_values.specs.declared.value.Scalar.TheVariants as scalar
 use Rattle.rdf_model.proofs.Analyses.{col, count, define, div, gt, num, print, script, sub, sum, table, take}
-use Rattle.shard_lines.specs.declared.pass_shape.PassShape.TheVariants as shape
-use Rattle.shard_lines.specs.declared.shard_line.ShardLine.TheVariants as pass
-use Rattle.shard_files.specs.Merging.{merge_of, shards_joined}
-use Rattle.shard_files.specs.Shards.{ShardView, line_text, shard_text}
-use Rattle.shard_files.specs.declared.merge_cause.MergeCause.TheVariants as cause
-use Rattle.shard_files.specs.declared.shard_loop.ShardLoop.{ShardLoop}
+use Rattle.shard_lines.specs.{PassShape, ShardLine}
+use Rattle.shard_files.specs.{line_text, merge_of, MergeCause, shard_text, ShardLoop, shards_joined, ShardView}
 use Rattle.shard_files.specs.declared.shard_loop.ShardLoop.TheVariants.{Whole, Faulted}
-use Rattle.shard_spans.specs.Spans.{span_shard}
-use Rattle.shard_runs.specs.Laws.{IsChecked, script_shapes}
+use Rattle.shard_spans.specs.{span_shard}
+use Rattle.shard_runs.specs.{IsChecked, script_shapes}
 
 -- t = df.Take("pt")
 -- s = df.Sum("w")
@@ -83,13 +72,13 @@ unfolding line_text digits
 the_second_file = refl
 
 -- a fault has the number that its entry has in the table
-pub the_faulty_loop_is_the_last : (second faulty).loops ≡ Whole (pass.Count 2 ∷ []) ∷ Faulted (record { entry = 3; pass = 0; kind = ZeroDivisor }) ∷ []
+pub the_faulty_loop_is_the_last : (second faulty).loops ≡ Whole (ShardLine.Count 2 ∷ []) ∷ Faulted (record { entry = 3; pass = 0; kind = ZeroDivisor }) ∷ []
 the_faulty_loop_is_the_last = refl
 
 -- ---- merging
 
 abbrev both : List ShardLoop
-both = Whole (pass.Take (scalar.Int (pos 10) ∷ scalar.Int (pos 25) ∷ scalar.Int (pos 40) ∷ scalar.Int (pos 5) ∷ []) ∷ pass.Sum (pos 1) ∷ []) ∷ []
+both = Whole (ShardLine.Take (Scalar.Int (pos 10) ∷ Scalar.Int (pos 25) ∷ Scalar.Int (pos 40) ∷ Scalar.Int (pos 5) ∷ []) ∷ ShardLine.Sum (pos 1) ∷ []) ∷ []
 
 pub both_in_order : merge_of (script_shapes take_and_sum table) (first take_and_sum ∷ second take_and_sum ∷ []) ≡ Ok both
 unfolding merge_of shards_joined
@@ -99,14 +88,14 @@ pub both_in_the_other_order : merge_of (script_shapes take_and_sum table) (secon
 unfolding merge_of shards_joined
 both_in_the_other_order = refl
 
-pub another_script_has_other_shapes : merge_of (script_shapes faulty table) (first take_and_sum ∷ second take_and_sum ∷ []) ≡ Err (cause.Shape 0)
+pub another_script_has_other_shapes : merge_of (script_shapes faulty table) (first take_and_sum ∷ second take_and_sum ∷ []) ≡ Err (MergeCause.Shape 0)
 unfolding merge_of shards_joined
 another_script_has_other_shapes = refl
 
 -- a Take has the kind of a defined column
-pub truths_are_taken : script_shapes truths table ≡ (shape.Take k.Bool ∷ []) ∷ []
+pub truths_are_taken : script_shapes truths table ≡ (PassShape.Take ColType.Bool ∷ []) ∷ []
 truths_are_taken = refl
 
-pub truths_are_merged : merge_of (script_shapes truths table) (second truths ∷ first truths ∷ []) ≡ Ok (Whole (pass.Take (scalar.Bool false ∷ scalar.Bool true ∷ scalar.Bool true ∷ scalar.Bool false ∷ []) ∷ []) ∷ [])
+pub truths_are_merged : merge_of (script_shapes truths table) (second truths ∷ first truths ∷ []) ≡ Ok (Whole (ShardLine.Take (Scalar.Bool false ∷ Scalar.Bool true ∷ Scalar.Bool true ∷ Scalar.Bool false ∷ []) ∷ []) ∷ [])
 unfolding merge_of shards_joined
 truths_are_merged = refl

@@ -1,75 +1,65 @@
 -- The line of an action's items is within limits that are wide enough.
-use Rattle.std.proofs.Common.{◌≡◌, ℕ, suc, ◌*◌, ◌^◌, ◌≤◌, ℤ, Bool, true, false, ◌&&◌, List, [], ◌∷◌, ◌++◌, length, map, Option, refl, ap, ◌∙◌, arith, if◌then◌else◌}
-use Rattle.std.specs.Prelude.{⊤, nat_eq, flat_map, ◌||◌}
+use Rattle.std.proofs.Common.{◌≡◌, ℕ, suc, ◌*◌, ◌^◌, ◌≤◌, ℤ, Bool, true, false, ◌&&◌, List, [], ◌∷◌, ◌++◌, length, map, Option, refl, ap, ◌∙◌, arith, if◌then◌else◌, nat_eq, flat_map, ◌||◌}
+use Rattle.std.specs.Prelude.{⊤}
 use Rattle.std.specs.List.{AllByRecursion, list_all}
-use Rattle.lemmas.proofs.Booleans.{or_true}
-use Rattle.rdf_values.specs.Fold.{Cell, bin, cell_of, cells_on, flat_cell, fold_items, numbers_of, scalar_of, square_cell, weight_in, weight_in2}
-use Rattle.rdf_values.specs.Words.{Has64Bits}
-use Rattle.rdf_values.specs.declared.action.ActionKind.{ActionKind}
-use Rattle.rdf_values.specs.declared.action.ActionKind.TheVariants as kind
-use Rattle.rdf_values.specs.declared.item.Item.{Item}
-use Rattle.rdf_values.specs.declared.item.Item.TheVariants as item
-use Rattle.rdf_values.specs.declared.value.ColType.{ColType}
-use Rattle.rdf_values.specs.declared.value.ColType.TheVariants as k
-use Rattle.rdf_values.specs.declared.value.Scalar.{Scalar}
-use Rattle.rdf_values.specs.declared.value.Scalar.TheVariants as scalar
-use Rattle.rdf_model.specs.LoopFacts.{FitsAction}
-use Rattle.histograms.specs.declared.cell_sum.CellSum.{CellSum}
+use Rattle.lemmas.proofs.{or_true}
+use Rattle.rdf_values.specs.{ActionKind, bin, cells_on, ColType, flat_cell, fold_items, Has64Bits, Item, numbers_of, Scalar, scalar_of, square_cell, weight_in, weight_in2}
+use Rattle.rdf_values.specs.Fold.{Cell, cell_of}
+use Rattle.rdf_model.specs.{FitsAction}
+use Rattle.histograms.specs.{CellSum}
 use Rattle.shard_lines.specs.Lines as lines
-use Rattle.shard_lines.specs.Lines.{EachFits, FitsCell, FitsLine, IsShort, are_alike, is_number, is_truth}
-use Rattle.shard_lines.specs.Shapes.{is_taken_from}
-use Rattle.shard_lines.specs.declared.limits.LineLimits.{LineLimits}
-use Rattle.shard_spans.specs.Spans.{cell_sum, filled_line}
+use Rattle.shard_lines.specs.{are_alike, EachFits, FitsCell, FitsLine, is_number, is_taken_from, is_truth, IsShort, LineLimits}
+use Rattle.shard_spans.specs.{cell_sum, filled_line}
 use Rattle.shard_runs.proofs.Sums.{IsLight, cell_fits, greatest_fits, least_fits, reduced_fits, sum_fits}
 
 -- ---- numbers
 
-module _ (k : ActionKind) (word : (z : ℤ) → FitsAction k (item.Number z) → Has64Bits z) where
+module _ (k : ActionKind) (word : (z : ℤ) → FitsAction k (Item.Number z) → Has64Bits z) where
   number_words : (items : List Item) → AllByRecursion (FitsAction k) items → AllByRecursion Has64Bits (numbers_of items)
   number_words [] h = tt
-  number_words (item.Number z ∷ items) h = (word z h.0, number_words items h.1)
-  number_words (item.Unit ∷ items) h = number_words items h.1
-  number_words (item.Single x ∷ items) h = number_words items h.1
-  number_words (item.Point z w ∷ items) h = number_words items h.1
-  number_words (item.Point2 z t w ∷ items) h = number_words items h.1
+  number_words (Item.Number z ∷ items) h = (word z h.0, number_words items h.1)
+  number_words (Item.Unit ∷ items) h = number_words items h.1
+  number_words (Item.Single x ∷ items) h = number_words items h.1
+  number_words (Item.Point z w ∷ items) h = number_words items h.1
+  number_words (Item.Point2 z t w ∷ items) h = number_words items h.1
 
 few_numbers : (items : List Item) → length (numbers_of items) ≤ length items
 few_numbers [] = omega arith
-few_numbers (item.Number z ∷ items) = let h = few_numbers items in omega arith
-few_numbers (item.Unit ∷ items) = let h = few_numbers items in omega arith
-few_numbers (item.Single x ∷ items) = let h = few_numbers items in omega arith
-few_numbers (item.Point z w ∷ items) = let h = few_numbers items in omega arith
-few_numbers (item.Point2 z t w ∷ items) = let h = few_numbers items in omega arith
+few_numbers (Item.Number z ∷ items) = let h = few_numbers items in omega arith
+few_numbers (Item.Unit ∷ items) = let h = few_numbers items in omega arith
+few_numbers (Item.Single x ∷ items) = let h = few_numbers items in omega arith
+few_numbers (Item.Point z w ∷ items) = let h = few_numbers items in omega arith
+few_numbers (Item.Point2 z t w ∷ items) = let h = few_numbers items in omega arith
 
 -- ---- values of a Take
 
 -- the value of an item may stand in a Take of that kind
 abbrev pub IsOfKind : ColType → Item → Type 0
-IsOfKind t (item.Single x) = is_taken_from t x ≡ true
+IsOfKind t (Item.Single x) = is_taken_from t x ≡ true
 IsOfKind t i = ⊤
 
 module _ (c : List ℕ) where
-  scalar_words : (items : List Item) → AllByRecursion (FitsAction (kind.Take c)) items → EachFits lines.FitsScalar (flat_map scalar_of items)
+  scalar_words : (items : List Item) → AllByRecursion (FitsAction (ActionKind.Take c)) items → EachFits lines.FitsScalar (flat_map scalar_of items)
   scalar_words [] h = tt
-  scalar_words (item.Single (scalar.Int z) ∷ items) h = (h.0, scalar_words items h.1)
-  scalar_words (item.Single (scalar.Bool b) ∷ items) h = (tt, scalar_words items h.1)
-  scalar_words (item.Number z ∷ items) h = scalar_words items h.1
-  scalar_words (item.Unit ∷ items) h = scalar_words items h.1
-  scalar_words (item.Point z w ∷ items) h = scalar_words items h.1
-  scalar_words (item.Point2 z t w ∷ items) h = scalar_words items h.1
+  scalar_words (Item.Single (Scalar.Int z) ∷ items) h = (h.0, scalar_words items h.1)
+  scalar_words (Item.Single (Scalar.Bool b) ∷ items) h = (tt, scalar_words items h.1)
+  scalar_words (Item.Number z ∷ items) h = scalar_words items h.1
+  scalar_words (Item.Unit ∷ items) h = scalar_words items h.1
+  scalar_words (Item.Point z w ∷ items) h = scalar_words items h.1
+  scalar_words (Item.Point2 z t w ∷ items) h = scalar_words items h.1
 
 pub all_of_kind : (t : ColType) (items : List Item) → AllByRecursion (IsOfKind t) items → list_all (is_taken_from t) (flat_map scalar_of items) ≡ true
 all_of_kind t [] h = refl
-all_of_kind t (item.Single x ∷ items) h = ap (λ b. b && list_all (is_taken_from t) (flat_map scalar_of items)) h.0 ∙ all_of_kind t items h.1
-all_of_kind t (item.Number z ∷ items) h = all_of_kind t items h.1
-all_of_kind t (item.Unit ∷ items) h = all_of_kind t items h.1
-all_of_kind t (item.Point z w ∷ items) h = all_of_kind t items h.1
-all_of_kind t (item.Point2 z s w ∷ items) h = all_of_kind t items h.1
+all_of_kind t (Item.Single x ∷ items) h = ap (λ b. b && list_all (is_taken_from t) (flat_map scalar_of items)) h.0 ∙ all_of_kind t items h.1
+all_of_kind t (Item.Number z ∷ items) h = all_of_kind t items h.1
+all_of_kind t (Item.Unit ∷ items) h = all_of_kind t items h.1
+all_of_kind t (Item.Point z w ∷ items) h = all_of_kind t items h.1
+all_of_kind t (Item.Point2 z s w ∷ items) h = all_of_kind t items h.1
 
 alike : (t : ColType) (xs : List Scalar) → list_all (is_taken_from t) xs ≡ true → are_alike xs ≡ true
-alike k.Int xs h = ap (λ b. b || list_all is_truth xs) h
-alike k.Bool xs h = ap (λ b. list_all is_number xs || b) h ∙ or_true (list_all is_number xs)
-alike k.Vect xs h = ap (λ b. b || list_all is_truth xs) h
+alike ColType.Int xs h = ap (λ b. b || list_all is_truth xs) h
+alike ColType.Bool xs h = ap (λ b. list_all is_number xs || b) h ∙ or_true (list_all is_number xs)
+alike ColType.Vect xs h = ap (λ b. b || list_all is_truth xs) h
 
 -- ---- weights
 
@@ -77,33 +67,33 @@ module _ (edges xs : List ℤ) (x : List ℕ) (w : Option (List ℕ)) (i : ℕ) 
   abbrev AreLight : List Item → Type 0
   AreLight items = AllByRecursion IsLight (flat_map (weight_in xs i) items) × (length (flat_map (weight_in xs i) items) ≤ length items)
 
-  flat_weights : (items : List Item) → AllByRecursion (FitsAction (kind.Histo1D edges x w)) items → AreLight items
+  flat_weights : (items : List Item) → AllByRecursion (FitsAction (ActionKind.Histo1D edges x w)) items → AreLight items
   flat_weights [] h = (tt, omega arith)
-  flat_weights (item.Point z v ∷ items) h = go (nat_eq (bin xs z) i) (flat_weights items h.1)
+  flat_weights (Item.Point z v ∷ items) h = go (nat_eq (bin xs z) i) (flat_weights items h.1)
     where
       go : (b : Bool) → AreLight items → AllByRecursion IsLight ((if b then v ∷ [] else []) ++ flat_map (weight_in xs i) items) × (length ((if b then v ∷ [] else []) ++ flat_map (weight_in xs i) items) ≤ suc (length items))
       go true k = let few = k.1 in ((h.0.1, k.0), omega arith)
       go false k = let few = k.1 in (k.0, omega arith)
-  flat_weights (item.Unit ∷ items) h = absurd h.0
-  flat_weights (item.Number z ∷ items) h = absurd h.0
-  flat_weights (item.Single z ∷ items) h = absurd h.0
-  flat_weights (item.Point2 z t v ∷ items) h = absurd h.0
+  flat_weights (Item.Unit ∷ items) h = absurd h.0
+  flat_weights (Item.Number z ∷ items) h = absurd h.0
+  flat_weights (Item.Single z ∷ items) h = absurd h.0
+  flat_weights (Item.Point2 z t v ∷ items) h = absurd h.0
 
 module _ (xs ys : List ℤ) (x y : List ℕ) (w : Option (List ℕ)) (i j : ℕ) where
   abbrev AreLight2 : List Item → Type 0
   AreLight2 items = AllByRecursion IsLight (flat_map (weight_in2 xs ys i j) items) × (length (flat_map (weight_in2 xs ys i j) items) ≤ length items)
 
-  square_weights : (items : List Item) → AllByRecursion (FitsAction (kind.Histo2D xs ys x y w)) items → AreLight2 items
+  square_weights : (items : List Item) → AllByRecursion (FitsAction (ActionKind.Histo2D xs ys x y w)) items → AreLight2 items
   square_weights [] h = (tt, omega arith)
-  square_weights (item.Point2 z t v ∷ items) h = go (nat_eq (bin xs z) i && nat_eq (bin ys t) j) (square_weights items h.1)
+  square_weights (Item.Point2 z t v ∷ items) h = go (nat_eq (bin xs z) i && nat_eq (bin ys t) j) (square_weights items h.1)
     where
       go : (b : Bool) → AreLight2 items → AllByRecursion IsLight ((if b then v ∷ [] else []) ++ flat_map (weight_in2 xs ys i j) items) × (length ((if b then v ∷ [] else []) ++ flat_map (weight_in2 xs ys i j) items) ≤ suc (length items))
       go true k = let few = k.1 in ((h.0.2, k.0), omega arith)
       go false k = let few = k.1 in (k.0, omega arith)
-  square_weights (item.Unit ∷ items) h = absurd h.0
-  square_weights (item.Number z ∷ items) h = absurd h.0
-  square_weights (item.Single z ∷ items) h = absurd h.0
-  square_weights (item.Point z v ∷ items) h = absurd h.0
+  square_weights (Item.Unit ∷ items) h = absurd h.0
+  square_weights (Item.Number z ∷ items) h = absurd h.0
+  square_weights (Item.Single z ∷ items) h = absurd h.0
+  square_weights (Item.Point z v ∷ items) h = absurd h.0
 
 -- ---- limits
 
@@ -115,13 +105,13 @@ pub record AreWide (m : LineLimits) (most : ℕ) : Type 0 where
 
 -- a count and the values of a Take are within the limits
 abbrev pub AreFew : LineLimits → ActionKind → List Item → Type 0
-AreFew m kind.Count items = length items ≤ m.count
-AreFew m (kind.Take c) items = IsShort m.values (length (flat_map scalar_of items))
+AreFew m ActionKind.Count items = length items ≤ m.count
+AreFew m (ActionKind.Take c) items = IsShort m.values (length (flat_map scalar_of items))
 AreFew m k items = ⊤
 
 -- the values of a Take are of that kind
 abbrev pub TakesAre : ColType → ActionKind → List Item → Type 0
-TakesAre t (kind.Take c) items = AllByRecursion (IsOfKind t) items
+TakesAre t (ActionKind.Take c) items = AllByRecursion (IsOfKind t) items
 TakesAre t k items = ⊤
 
 module _ (m : LineLimits) (most : ℕ) (wide : AreWide m most) where
@@ -151,18 +141,18 @@ module _ (m : LineLimits) (most : ℕ) (wide : AreWide m most) where
   -- ---- all actions
 
   pub items_line : (t : ColType) (k : ActionKind) (items : List Item) → length items ≤ most → AllByRecursion (FitsAction k) items → TakesAre t k items → AreFew m k items → FitsLine m (filled_line (fold_items k items))
-  items_line t kind.Count items few h of short = short
-  items_line t (kind.Sum c) items few h of short =
+  items_line t ActionKind.Count items few h of short = short
+  items_line t (ActionKind.Sum c) items few h of short =
       let less = few_numbers items in
-      let small = sum_fits most (numbers_of items) (omega arith) (number_words (kind.Sum c) (λ z k. k) items h) in
+      let small = sum_fits most (numbers_of items) (omega arith) (number_words (ActionKind.Sum c) (λ z k. k) items h) in
       let wide_sum = wide.sum in
       omega arith
-  items_line t (kind.Min c) items few h of short = least_fits (numbers_of items) (number_words (kind.Min c) (λ z k. k) items h)
-  items_line t (kind.Max c) items few h of short = greatest_fits (numbers_of items) (number_words (kind.Max c) (λ z k. k) items h)
-  items_line t (kind.Take c) items few h of short = record { alike = alike t (flat_map scalar_of items) (all_of_kind t items of); fit = scalar_words c items h; short = short }
-  items_line t (kind.Reduce o c) items few h of short = reduced_fits o (numbers_of items) (number_words (kind.Reduce o c) (λ z k. k) items h)
-  items_line t (kind.Histo1D edges x w) items few h of short =
+  items_line t (ActionKind.Min c) items few h of short = least_fits (numbers_of items) (number_words (ActionKind.Min c) (λ z k. k) items h)
+  items_line t (ActionKind.Max c) items few h of short = greatest_fits (numbers_of items) (number_words (ActionKind.Max c) (λ z k. k) items h)
+  items_line t (ActionKind.Take c) items few h of short = record { alike = alike t (flat_map scalar_of items) (all_of_kind t items of); fit = scalar_words c items h; short = short }
+  items_line t (ActionKind.Reduce o c) items few h of short = reduced_fits o (numbers_of items) (number_words (ActionKind.Reduce o c) (λ z k. k) items h)
+  items_line t (ActionKind.Histo1D edges x w) items few h of short =
       each_cell (flat_cell edges items) (cells_on edges) (λ i. let l = flat_weights edges edges x w i items h in let less = l.1 in one_cell (flat_map (weight_in edges i) items) (omega arith) l.0)
-  items_line t (kind.Histo2D xs ys x y w) items few h of short =
+  items_line t (ActionKind.Histo2D xs ys x y w) items few h of short =
       each_row (square_cell xs ys items) (cells_on xs) (cells_on ys)
       (λ i j. let l = square_weights xs ys x y w i j items h in let less = l.1 in one_cell (flat_map (weight_in2 xs ys i j) items) (omega arith) l.0)

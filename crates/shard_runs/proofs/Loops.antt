@@ -1,21 +1,12 @@
 -- The loops of an accepted script: each fills 1 to 64 results, and so has 1 to 8,256 passes.
-use Rattle.std.proofs.Common.{◌≡◌, ℕ, suc, ◌+◌, ◌*◌, ◌<◌, ◌≤◌, Bool, true, false, not, ◌||◌, List, [], ◌∷◌, ◌++◌, length, map, filter, filter_map, Option, Some, None, refl, sym, ◌∙◌, ap, subst, arith, if◌then◌else◌, length-append}
-use Rattle.std.specs.Prelude.{nat_lt}
+use Rattle.std.proofs.Common.{◌≡◌, ℕ, suc, ◌+◌, ◌*◌, ◌<◌, ◌≤◌, Bool, true, false, not, ◌||◌, List, [], ◌∷◌, ◌++◌, length, map, filter, filter_map, Option, Some, None, refl, sym, ◌∙◌, ap, subst, arith, if◌then◌else◌, length-append, nat_lt}
 use Rattle.std.specs.List.{AllByRecursion, cons_option}
 use Rattle.std.proofs.lemmas.Bool.Decides.{nat_tests}
 use Rattle.std.proofs.lemmas.List.{length-map}
-use Rattle.rdf_values.specs.Bookings.{Booked, Pass, booked_by, bookings, filled, has_variations, names_of, passes_of, result_depends, varied_passes, waiting}
-use Rattle.rdf_values.specs.Kinds.{FunctionNames, Scope}
-use Rattle.rdf_values.specs.Names.{among, same}
-use Rattle.rdf_values.specs.Path.{Variation, own_variations, variations}
-use Rattle.rdf_values.specs.Verdict.{AreAccepted, check_columns, check_edges, check_node, check_passes, check_results, check_tags, check_target, check_values, first_refusal, is_result, is_variation_name, permitted_kinds, printed_results, refuse_if, refuse_unless, repeats, scope_at}
-use Rattle.rdf_values.specs.Path.{path}
-use Rattle.rdf_values.specs.Words.{StatementsHaveWords}
-use Rattle.rdf_values.specs.declared.graph_cause.GraphCause.{GraphCause}
+use Rattle.rdf_values.specs.{among, AreAccepted, Booked, booked_by, bookings, check_columns, check_edges, check_node, check_passes, check_results, check_tags, check_target, check_values, filled, first_refusal, FunctionNames, GraphCause, has_variations, is_result, is_variation_name, names_of, own_variations, Pass, passes_of, path, permitted_kinds, printed_results, refuse_if, refuse_unless, repeats, result_depends, same, Scope, scope_at, Statement, StatementsHaveWords, Variation, variations, varied_passes, waiting}
 use Rattle.rdf_values.specs.declared.graph_cause.GraphCause.TheVariants.{NameTaken, TooMany, UnknownName}
-use Rattle.rdf_values.specs.declared.statement.Statement.{Statement}
 use Rattle.rdf_values.specs.declared.statement.Statement.TheVariants.{Action, Alias, Define, Filter, Print, Redefine, Report, VariationsFor, Vary, Watch}
-use Rattle.rdf_model.specs.Loops.{Access, accesses, filled_by, loop_passes, loop_results}
+use Rattle.rdf_model.specs.{Access, accesses, filled_by, loop_passes, loop_results}
 use Rattle.rdf_model.proofs.Accepted.{both_none, if_fails, names_equal, third, unless_holds}
 use Rattle.shard_runs.proofs.Sums.{all_both}
 

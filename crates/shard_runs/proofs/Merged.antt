@@ -1,28 +1,17 @@
 -- Shards of runs are merged to one run: their heads agree, and their loops have the script's shapes.
-use Rattle.std.proofs.Common.{◌≡◌, ℕ, suc, ◌+◌, ◌<◌, ◌≤◌, Bool, true, false, not, ◌&&◌, List, [], ◌∷◌, length, map, Option, None, Some, Result, Ok, refl, sym, ap, ap₂, ◌∙◌, arith, cond}
-use Rattle.std.specs.Prelude.{All, nat_eq, position}
+use Rattle.std.proofs.Common.{◌≡◌, ℕ, suc, ◌+◌, ◌<◌, ◌≤◌, Bool, true, false, not, ◌&&◌, List, [], ◌∷◌, length, map, Option, None, Some, Result, Ok, refl, sym, ap, ap₂, ◌∙◌, arith, cond, All, nat_eq, position}
 use Rattle.std.specs.List.{AllByRecursion, position_from}
 use Rattle.std.proofs.lemmas.Bool.Decides.{nat_tests}
 use Rattle.std.proofs.lemmas.Iterator.Adapters.{position_from-zero}
-use Rattle.lemmas.proofs.Orders.{eq_itself}
-use Rattle.rdf_values.specs.Cuts.{Lead}
-use Rattle.rdf_values.specs.declared.column.Column.{Column}
-use Rattle.rdf_values.specs.declared.script.Script.{Script}
-use Rattle.rdf_values.specs.declared.span.Span.{Span}
-use Rattle.rdf_values.specs.declared.value.ColType.{ColType}
-use Rattle.rdf_values.specs.declared.value.ColType.TheVariants as k
-use Rattle.rdf_model.specs.Results.{Dataset}
+use Rattle.lemmas.proofs.{eq_itself}
+use Rattle.rdf_values.specs.{ColType, Column, Lead, Script, Span}
+use Rattle.rdf_model.specs.{Dataset}
 use Rattle.rdf_model.proofs.Accepted.{itself}
-use Rattle.shard_files.specs.Merging.{are_loops, first_misshapen, first_other, first_uncovered, merge_of, same_columns, same_head, same_kind, shards_joined, unless_at}
-use Rattle.shard_files.specs.Shards.{ShardView}
-use Rattle.shard_files.specs.declared.merge_cause.MergeCause.{MergeCause}
-use Rattle.shard_files.specs.declared.merge_cause.MergeCause.TheVariants as cause
-use Rattle.shard_files.specs.declared.shard_loop.ShardLoop.{ShardLoop}
+use Rattle.shard_files.specs.{are_loops, first_misshapen, first_other, first_uncovered, merge_of, MergeCause, same_columns, same_head, same_kind, ShardLoop, shards_joined, ShardView, unless_at}
 use Rattle.shard_files.proofs.OneShard.{a_text_breaks_nowhere, a_text_is_of_one_shard}
-use Rattle.shard_spans.specs.Spans.{loops_of, span_loops, span_shard}
+use Rattle.shard_spans.specs.{loops_of, span_loops, span_shard}
 use Rattle.shard_spans.proofs.Shards.{shards_join_to_one_run}
-use Rattle.shard_runs.specs.Kinds.{pass_kind}
-use Rattle.shard_runs.specs.Laws.{AreReadOf, IsChecked, OnlyCoverIsRefused, RunsMergeToOneRun, WrittenRunsMergeToOneRun, WrittenRunsReadBack, runs_over, script_shapes}
+use Rattle.shard_runs.specs.{AreReadOf, IsChecked, OnlyCoverIsRefused, pass_kind, runs_over, RunsMergeToOneRun, script_shapes, WrittenRunsMergeToOneRun, WrittenRunsReadBack}
 use Rattle.shard_runs.proofs.Runs.{runs_are_shards}
 use Rattle.shard_runs.proofs.Shapes.{runs_have_shapes}
 
@@ -38,9 +27,9 @@ none_at t xs h = position_from-zero t xs ∙ from_none t 0 xs h
 -- ---- heads
 
 kind_itself : (t : ColType) → same_kind t t ≡ true
-kind_itself k.Int = refl
-kind_itself k.Bool = refl
-kind_itself k.Vect = refl
+kind_itself ColType.Int = refl
+kind_itself ColType.Bool = refl
+kind_itself ColType.Vect = refl
 
 pub columns_itself : (cs : List Column) → same_columns cs cs ≡ true
 columns_itself [] = refl
@@ -66,20 +55,20 @@ module _ (script : Script) (d : Dataset) (spans : List Span) (checked : IsChecke
   unless_none : (o : Option ℕ) (why : ℕ → MergeCause) (next : Result (List ShardLoop) MergeCause) → o ≡ None → unless_at o why next ≡ next
   unless_none o why next h = ap (λ p. unless_at p why next) h
 
-  cover_alone : (s : Span) (parts : List Span) → merge_of (script_shapes script d) (map run (s ∷ parts)) ≡ unless_at (first_uncovered (length spans) (map run (s ∷ parts))) cause.Cover (Ok (shards_joined (script_shapes script d) (map run (s ∷ parts))))
+  cover_alone : (s : Span) (parts : List Span) → merge_of (script_shapes script d) (map run (s ∷ parts)) ≡ unless_at (first_uncovered (length spans) (map run (s ∷ parts))) MergeCause.Cover (Ok (shards_joined (script_shapes script d) (map run (s ∷ parts))))
   unfolding merge_of
   cover_alone s parts =
       let shards : List ShardView = map run (s ∷ parts) in
-      let joined : Result (List ShardLoop) MergeCause = unless_at (first_uncovered (length spans) shards) cause.Cover (Ok (shards_joined (script_shapes script d) shards)) in
-      unless_none (first_other (run s) shards) cause.Head (unless_at (first_misshapen (script_shapes script d) shards) cause.Shape joined) (none_at (λ t. not (same_head (run s) t)) shards (same_heads s (s ∷ parts)))
-      ∙ unless_none (first_misshapen (script_shapes script d) shards) cause.Shape joined (none_at (λ (t : ShardView). not (are_loops (script_shapes script d) t.loops)) shards (shaped (s ∷ parts)))
+      let joined : Result (List ShardLoop) MergeCause = unless_at (first_uncovered (length spans) shards) MergeCause.Cover (Ok (shards_joined (script_shapes script d) shards)) in
+      unless_none (first_other (run s) shards) MergeCause.Head (unless_at (first_misshapen (script_shapes script d) shards) MergeCause.Shape joined) (none_at (λ t. not (same_head (run s) t)) shards (same_heads s (s ∷ parts)))
+      ∙ unless_none (first_misshapen (script_shapes script d) shards) MergeCause.Shape joined (none_at (λ (t : ShardView). not (are_loops (script_shapes script d) t.loops)) shards (shaped (s ∷ parts)))
 
   merged : (parts : List Span) → Lead 0 (length d.rows) spans → 0 < length parts → All (λ (s : Span). (s.lo ≤ s.hi) × (s.hi ≤ length spans)) parts → first_uncovered (length spans) (map run parts) ≡ None
       → merge_of (script_shapes script d) (map run parts) ≡ Ok (span_loops spans d 0 (length spans) (loops_of script))
   merged [] leads some within covered = absurd (omega arith)
   merged (s ∷ parts) leads some within covered =
       cover_alone s parts
-      ∙ unless_none (first_uncovered (length spans) (map run (s ∷ parts))) cause.Cover (Ok (shards_joined (script_shapes script d) (map run (s ∷ parts)))) covered
+      ∙ unless_none (first_uncovered (length spans) (map run (s ∷ parts))) MergeCause.Cover (Ok (shards_joined (script_shapes script d) (map run (s ∷ parts)))) covered
       ∙ ap Ok (shards_join_to_one_run script d spans (s ∷ parts) (pass_kind d) leads some within covered)
 
 pub only_cover_is_refused : OnlyCoverIsRefused

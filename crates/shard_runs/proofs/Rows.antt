@@ -1,19 +1,10 @@
 -- The rows of a span, and the first fault in them.
-use Rattle.std.proofs.Common.{◌≡◌, ℕ, zero, suc, ◌+◌, ◌-◌, ◌<◌, ◌≤◌, List, [], ◌∷◌, ◌++◌, length, drop, take, Option, None, Some, refl, sym, ap, ◌∙◌, arith, length-append}
-use Rattle.std.specs.Prelude.{slice_get, slice_range}
-use Rattle.lemmas.proofs.Parts.{range_length}
-use Rattle.rdf_values.specs.Bookings.{Pass}
-use Rattle.rdf_values.specs.Cuts.{Lead}
-use Rattle.rdf_values.specs.Tables.{FitRows}
-use Rattle.rdf_values.specs.declared.column.Column.{Column}
-use Rattle.rdf_values.specs.declared.fault.EntryFault.{EntryFault}
-use Rattle.rdf_values.specs.declared.fault.Fault.{Fault}
-use Rattle.rdf_values.specs.declared.span.Span.{Span}
-use Rattle.rdf_values.specs.declared.value.Value.{Value}
-use Rattle.rdf_model.specs.PartialResults.{rows_in, span_rows}
-use Rattle.rdf_model.specs.Results.{Dataset, fault_at, fault_or, first_fault_from, first_fault_in, first_of}
-use Rattle.loop_pieces.specs.Whole.{begin_of}
-use Rattle.shard_spans.specs.Spans.{clusters_in}
+use Rattle.std.proofs.Common.{◌≡◌, ℕ, zero, suc, ◌+◌, ◌-◌, ◌<◌, ◌≤◌, List, [], ◌∷◌, ◌++◌, length, drop, take, Option, None, Some, refl, sym, ap, ◌∙◌, arith, length-append, slice_get, slice_range}
+use Rattle.lemmas.proofs.{range_length}
+use Rattle.rdf_values.specs.{Column, EntryFault, Fault, FitRows, Lead, Pass, Span, Value}
+use Rattle.rdf_model.specs.{Dataset, fault_at, fault_or, first_fault_from, first_fault_in, first_of, rows_in, span_rows}
+use Rattle.loop_pieces.specs.{begin_of}
+use Rattle.shard_spans.specs.{clusters_in}
 use Rattle.shard_spans.proofs.SpanFaults.{clusters_none, long, range_of, rows_next}
 
 -- ---- rows that fit

@@ -1,37 +1,17 @@
 -- What a run over a span finds is a shard.
-use Rattle.std.proofs.Common.{◌≡◌, ℕ, ◌*◌, ◌<◌, ◌≤◌, List, [], ◌∷◌, ◌++◌, length, map, Option, None, Some, refl, arith, length-append}
-use Rattle.std.specs.Prelude.{flat_map, slice_get}
+use Rattle.std.proofs.Common.{◌≡◌, ℕ, ◌*◌, ◌<◌, ◌≤◌, List, [], ◌∷◌, ◌++◌, length, map, Option, None, Some, refl, arith, length-append, flat_map, slice_get}
 use Rattle.std.specs.List.{AllByRecursion}
 use Rattle.std.proofs.lemmas.List.{length-map}
 use Rattle.std.proofs.lemmas.List.Elements.{recursion_from_All}
 use Rattle.std.proofs.lemmas.List.Sums.{count_by-le-length}
-use Rattle.rdf_values.specs.Bookings.{ActionAt, Booked, Booking, Pass, ReportOn}
-use Rattle.rdf_values.specs.Cuts.{Lead}
-use Rattle.rdf_values.specs.Functions.{fn_names}
-use Rattle.rdf_values.specs.Kinds.{scope_of}
-use Rattle.rdf_values.specs.Path.{Path, Under, history}
-use Rattle.rdf_values.specs.Tables.{FitRows}
-use Rattle.rdf_values.specs.Verdict.{AreAccepted}
-use Rattle.rdf_values.specs.declared.action.ActionKind.{ActionKind}
-use Rattle.rdf_values.specs.declared.action.ActionKind.TheVariants as kind
-use Rattle.rdf_values.specs.declared.fault.Fault.{Fault}
-use Rattle.rdf_values.specs.declared.item.Item.{Item}
-use Rattle.rdf_values.specs.declared.script.Script.{Script}
-use Rattle.rdf_values.specs.declared.span.Span.{Span}
-use Rattle.rdf_values.specs.declared.value.ColType.{ColType}
-use Rattle.rdf_values.specs.declared.value.Value.{Value}
-use Rattle.rdf_model.specs.Loops.{loop_passes, loop_results}
-use Rattle.rdf_model.specs.LoopFacts.{FitsAction}
-use Rattle.rdf_model.specs.PartialResults.{rows_in}
-use Rattle.rdf_model.specs.Results.{Dataset, cutflow, items_of, passes_filters}
+use Rattle.rdf_values.specs.{ActionAt, ActionKind, AreAccepted, Booked, Booking, ColType, Fault, FitRows, fn_names, history, Item, Lead, Pass, Path, ReportOn, scope_of, Script, Span, Under, Value}
+use Rattle.rdf_model.specs.{cutflow, Dataset, FitsAction, items_of, loop_passes, loop_results, passes_filters, rows_in}
 use Rattle.rdf_model.proofs.Verdicts.{verdict_is_the_first_refusal}
-use Rattle.loop_pieces.specs.Whole.{begin_of, counts_of}
-use Rattle.shard_lines.specs.Lines.{EachFits, FitLines, FitsCount, FitsLine}
-use Rattle.shard_files.specs.Merging.{fault_or_lines, up_to_fault}
-use Rattle.shard_files.specs.Shards.{FitLoops, shard_limits}
-use Rattle.shard_spans.specs.Spans.{booking_line, clusters_in, loops_of, over_span, pass_line, span_fault, span_loops}
-use Rattle.shard_runs.specs.Kinds.{booking_kind}
-use Rattle.shard_runs.specs.Laws.{IsChecked, RunsAreShards}
+use Rattle.loop_pieces.specs.{begin_of, counts_of}
+use Rattle.shard_lines.specs.{EachFits, FitLines, FitsCount, FitsLine}
+use Rattle.shard_files.specs.{fault_or_lines, FitLoops, shard_limits, up_to_fault}
+use Rattle.shard_spans.specs.{booking_line, clusters_in, loops_of, over_span, pass_line, span_fault, span_loops}
+use Rattle.shard_runs.specs.{booking_kind, IsChecked, RunsAreShards}
 use Rattle.shard_runs.proofs.Lines.{AreFew, AreWide, IsOfKind, TakesAre, items_line}
 use Rattle.shard_runs.proofs.Loops.{IsLoop, few_passes, few_variations, loops_are, passes_are, some_passes}
 use Rattle.shard_runs.proofs.Rows.{end_within, fault_within, few_clusters, few_rows, rows_fit}
@@ -41,11 +21,11 @@ use Rattle.shard_runs.proofs.Takes.{FeedsWell, feeds_well}
 -- ---- lines
 
 takes_none : (t : ColType) (k : ActionKind) → TakesAre t k []
-takes_none t (kind.Take c) = tt
+takes_none t (ActionKind.Take c) = tt
 takes_none t k = tt
 
 takes_both : (t : ColType) (k : ActionKind) (xs ys : List Item) → TakesAre t k xs → TakesAre t k ys → TakesAre t k (xs ++ ys)
-takes_both t (kind.Take c) xs ys h k = all_both (IsOfKind t) xs ys h k
+takes_both t (ActionKind.Take c) xs ys h k = all_both (IsOfKind t) xs ys h k
 takes_both t action xs ys h k = tt
 
 -- what a million entries come to is within the limits of shards
@@ -53,8 +33,8 @@ wide : AreWide shard_limits 4096000000
 wide = record { sum = omega arith; cell_sum = omega arith; cell_squares = omega arith }
 
 are_few : (k : ActionKind) (items : List Item) → length items ≤ 4096000000 → AreFew shard_limits k items
-are_few kind.Count items h = omega arith
-are_few (kind.Take c) items h = tt
+are_few ActionKind.Count items h = omega arith
+are_few (ActionKind.Take c) items h = tt
 are_few k items h = tt
 
 -- what rows feed to an action, all together

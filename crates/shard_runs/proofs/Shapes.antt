@@ -1,32 +1,19 @@
 -- The lines of a run have the shapes of the script's passes.
-use Rattle.std.proofs.Common.{◌≡◌, ℕ, suc, ◌+◌, ◌*◌, ◌<◌, true, ◌&&◌, List, [], ◌∷◌, length, map, Option, None, Some, refl, ap, ap₂, ◌∙◌, arith, length-append}
-use Rattle.std.specs.Prelude.{flat_map, nat_eq, nat_lt, slice_get}
+use Rattle.std.proofs.Common.{◌≡◌, ℕ, suc, ◌+◌, ◌*◌, ◌<◌, true, ◌&&◌, List, [], ◌∷◌, length, map, Option, None, Some, refl, ap, ap₂, ◌∙◌, arith, length-append, flat_map, nat_eq, nat_lt, slice_get}
 use Rattle.std.specs.List.{AllByRecursion}
 use Rattle.std.proofs.lemmas.Bool.Decides.{nat_tests}
 use Rattle.std.proofs.lemmas.List.{length-map}
-use Rattle.lemmas.proofs.Orders.{lt_true}
-use Rattle.rdf_values.specs.Bookings.{ActionAt, Booking, Pass, ReportOn}
-use Rattle.rdf_values.specs.Fold.{Cell, cells_on, flat_cell, square_cell}
-use Rattle.rdf_values.specs.Path.{Path}
-use Rattle.rdf_values.specs.Tables.{FitRows}
-use Rattle.rdf_values.specs.declared.action.ActionKind.{ActionKind}
-use Rattle.rdf_values.specs.declared.action.ActionKind.TheVariants as kind
-use Rattle.rdf_values.specs.declared.fault.Fault.{Fault}
-use Rattle.rdf_values.specs.declared.item.Item.{Item}
-use Rattle.rdf_values.specs.declared.span.Span.{Span}
-use Rattle.rdf_values.specs.declared.value.Value.{Value}
+use Rattle.lemmas.proofs.{lt_true}
+use Rattle.rdf_values.specs.{ActionAt, ActionKind, Booking, cells_on, Fault, FitRows, flat_cell, Item, Pass, Path, ReportOn, Span, square_cell, Value}
+use Rattle.rdf_values.specs.Fold.{Cell}
 use Rattle.rdf_values.proofs.Below.{length-below}
-use Rattle.rdf_model.specs.PartialResults.{rows_in}
-use Rattle.rdf_model.specs.Results.{Dataset, cutflow, items_of}
-use Rattle.histograms.specs.declared.cell_sum.CellSum.{CellSum}
-use Rattle.loop_pieces.specs.Whole.{begin_of, counts_of}
-use Rattle.shard_lines.specs.Shapes.{booking_shape, has_shape, have_shapes}
-use Rattle.shard_lines.specs.declared.pass_shape.PassShape.{PassShape}
-use Rattle.shard_files.specs.Merging.{are_loops, fault_or_lines, up_to_fault}
-use Rattle.shard_spans.specs.Laws.{pass_shapes}
-use Rattle.shard_spans.specs.Spans.{booking_line, cell_sum, clusters_in, loops_of, over_span, pass_line, span_fault, span_loops}
-use Rattle.shard_runs.specs.Kinds.{booking_kind, pass_kind}
-use Rattle.shard_runs.specs.Laws.{RunsHaveShapes}
+use Rattle.rdf_model.specs.{cutflow, Dataset, items_of, rows_in}
+use Rattle.histograms.specs.{CellSum}
+use Rattle.loop_pieces.specs.{begin_of, counts_of}
+use Rattle.shard_lines.specs.{booking_shape, has_shape, have_shapes, PassShape}
+use Rattle.shard_files.specs.{are_loops, fault_or_lines, up_to_fault}
+use Rattle.shard_spans.specs.{booking_line, cell_sum, clusters_in, loops_of, over_span, pass_line, pass_shapes, span_fault, span_loops}
+use Rattle.shard_runs.specs.{booking_kind, pass_kind, RunsHaveShapes}
 use Rattle.shard_runs.proofs.Lines.{all_of_kind}
 use Rattle.shard_runs.proofs.Rows.{fault_within, rows_fit}
 use Rattle.shard_runs.proofs.Runs.{ArePasses, all_passes, fed}
@@ -63,17 +50,17 @@ module _ (d : Dataset) (rows : List (List Value)) (fit : FitRows d.columns rows)
   some_rows = record d { rows = rows }
 
   action_shaped : (p : Pass) (k : ActionKind) (at : Path) → FeedsWell d (ActionAt k at) → has_shape (booking_shape (booking_kind d (ActionAt k at)) (ActionAt k at)) (booking_line some_rows (ActionAt k at) p) ≡ true
-  action_shaped p kind.Count at well = refl
-  action_shaped p (kind.Sum c) at well = refl
-  action_shaped p (kind.Min c) at well = refl
-  action_shaped p (kind.Max c) at well = refl
-  action_shaped p (kind.Take c) at well = all_of_kind (booking_kind d (ActionAt (kind.Take c) at)) (flat_map (items_of d (kind.Take c) at p.under) rows) (fed d (kind.Take c) at p.under well rows fit).takes
-  action_shaped p (kind.Reduce o c) at well = refl
-  action_shaped p (kind.Histo1D edges x w) at well =
-      let items : List Item = flat_map (items_of d (kind.Histo1D edges x w) at p.under) rows in
+  action_shaped p ActionKind.Count at well = refl
+  action_shaped p (ActionKind.Sum c) at well = refl
+  action_shaped p (ActionKind.Min c) at well = refl
+  action_shaped p (ActionKind.Max c) at well = refl
+  action_shaped p (ActionKind.Take c) at well = all_of_kind (booking_kind d (ActionAt (ActionKind.Take c) at)) (flat_map (items_of d (ActionKind.Take c) at p.under) rows) (fed d (ActionKind.Take c) at p.under well rows fit).takes
+  action_shaped p (ActionKind.Reduce o c) at well = refl
+  action_shaped p (ActionKind.Histo1D edges x w) at well =
+      let items : List Item = flat_map (items_of d (ActionKind.Histo1D edges x w) at p.under) rows in
       equal (length (map cell_sum (map (flat_cell edges items) (cells_on edges)))) (suc (length edges)) (cells_long (flat_cell edges items) (cells_on edges) ∙ length-below (suc (length edges)))
-  action_shaped p (kind.Histo2D xs ys x y w) at well =
-      let items : List Item = flat_map (items_of d (kind.Histo2D xs ys x y w) at p.under) rows in
+  action_shaped p (ActionKind.Histo2D xs ys x y w) at well =
+      let items : List Item = flat_map (items_of d (ActionKind.Histo2D xs ys x y w) at p.under) rows in
       equal (length (flat_map (λ cells. map cell_sum cells) (map (λ i. map (square_cell xs ys items i) (cells_on ys)) (cells_on xs)))) (suc (length xs) * suc (length ys))
       (plane_long (square_cell xs ys items) (cells_on xs) (cells_on ys) ∙ ap₂ (λ a b. a * b) (length-below (suc (length xs))) (length-below (suc (length ys))))
 

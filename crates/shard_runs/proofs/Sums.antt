@@ -1,17 +1,14 @@
 -- How large sums, extremes and reductions of some numbers are.
-use Rattle.std.proofs.Common.{◌≡◌, ℕ, suc, ◌+◌, ◌*◌, ◌^◌, ◌%◌, ◌<◌, ◌≤◌, ℤ, pos, negsuc, ◌+ℤ◌, ◌*ℤ◌, List, [], ◌∷◌, ◌++◌, length, map, Bool, true, false, cond, refl, sym, ap, ◌∙◌, subst, arith, w64, FitsSigned}
-use Rattle.std.specs.Prelude.{nat_abs, int_lt, fold, bit_and, bit_or, bit_xor}
+use Rattle.std.proofs.Common.{◌≡◌, ℕ, suc, ◌+◌, ◌*◌, ◌^◌, ◌%◌, ◌<◌, ◌≤◌, ℤ, pos, negsuc, ◌+ℤ◌, ◌*ℤ◌, List, [], ◌∷◌, ◌++◌, length, map, Bool, true, false, cond, refl, sym, ap, ◌∙◌, subst, arith, w64, FitsSigned, nat_abs, int_lt, fold, bit_and, bit_or, bit_xor}
 use Rattle.std.specs.Int.{cast_signed, cast_unsigned, int_max, int_min}
 use Rattle.std.specs.List.{AllByRecursion}
 use Rattle.std.proofs.Math.Nat.{mod-eq_of_lt, mod-lt}
 use Rattle.std.proofs.lemmas.Int.{SFits-int_wrap, unsigned_abs-mul, wrapping_add-bits}
 use Rattle.std.proofs.lemmas.Nat.{and_le_l, mul-le, or_lt, xor_lt}
-use Rattle.lemmas.proofs.Orders.{abs_add}
-use Rattle.rdf_values.specs.Fold.{cell_of, extreme, integer_sum, reduce_start, reduce_step}
-use Rattle.rdf_values.specs.Words.{Has64Bits}
-use Rattle.rdf_values.specs.declared.action.ReduceOp.{ReduceOp}
-use Rattle.rdf_values.specs.declared.action.ReduceOp.TheVariants as op
-use Rattle.shard_lines.specs.Lines.{FitsExtreme}
+use Rattle.lemmas.proofs.{abs_add}
+use Rattle.rdf_values.specs.{extreme, Has64Bits, integer_sum, reduce_start, reduce_step, ReduceOp}
+use Rattle.rdf_values.specs.Fold.{cell_of}
+use Rattle.shard_lines.specs.{FitsExtreme}
 
 -- ---- lists
 
@@ -102,23 +99,23 @@ low_bits : (z : ℤ) → cast_unsigned w64 z % 2 ^ 64 < 2 ^ 64
 low_bits z = mod-lt (cast_unsigned w64 z) (omega arith)
 
 step_fits : (o : ReduceOp) (x y : ℤ) → Has64Bits x → Has64Bits y → Has64Bits (reduce_step o x y)
-step_fits op.Min x y h k = min_fits x y h k
-step_fits op.Max x y h k = max_fits x y h k
-step_fits op.And x y h k =
+step_fits ReduceOp.Min x y h k = min_fits x y h k
+step_fits ReduceOp.Max x y h k = max_fits x y h k
+step_fits ReduceOp.And x y h k =
     let small = low_bits x in
     let less = and_le_l (cast_unsigned w64 x % 2 ^ 64) (cast_unsigned w64 y % 2 ^ 64) in
     signed_fits (bit_and (cast_unsigned w64 x % 2 ^ 64) (cast_unsigned w64 y % 2 ^ 64)) (omega arith)
-step_fits op.Or x y h k = signed_fits (bit_or (cast_unsigned w64 x % 2 ^ 64) (cast_unsigned w64 y % 2 ^ 64)) (or_lt 64 (cast_unsigned w64 x % 2 ^ 64) (cast_unsigned w64 y % 2 ^ 64) (low_bits x) (low_bits y))
-step_fits op.Xor x y h k = signed_fits (bit_xor (cast_unsigned w64 x % 2 ^ 64) (cast_unsigned w64 y % 2 ^ 64)) (xor_lt 64 (cast_unsigned w64 x % 2 ^ 64) (cast_unsigned w64 y % 2 ^ 64) (low_bits x) (low_bits y))
-step_fits op.WrapAdd x y h k = signed_fits ((cast_unsigned w64 x + cast_unsigned w64 y) % 2 ^ 64) (mod-lt (cast_unsigned w64 x + cast_unsigned w64 y) (omega arith))
+step_fits ReduceOp.Or x y h k = signed_fits (bit_or (cast_unsigned w64 x % 2 ^ 64) (cast_unsigned w64 y % 2 ^ 64)) (or_lt 64 (cast_unsigned w64 x % 2 ^ 64) (cast_unsigned w64 y % 2 ^ 64) (low_bits x) (low_bits y))
+step_fits ReduceOp.Xor x y h k = signed_fits (bit_xor (cast_unsigned w64 x % 2 ^ 64) (cast_unsigned w64 y % 2 ^ 64)) (xor_lt 64 (cast_unsigned w64 x % 2 ^ 64) (cast_unsigned w64 y % 2 ^ 64) (low_bits x) (low_bits y))
+step_fits ReduceOp.WrapAdd x y h k = signed_fits ((cast_unsigned w64 x + cast_unsigned w64 y) % 2 ^ 64) (mod-lt (cast_unsigned w64 x + cast_unsigned w64 y) (omega arith))
 
 start_fits : (o : ReduceOp) → Has64Bits (reduce_start o)
-start_fits op.Min = omega arith
-start_fits op.Max = omega arith
-start_fits op.And = omega arith
-start_fits op.Or = omega arith
-start_fits op.Xor = omega arith
-start_fits op.WrapAdd = omega arith
+start_fits ReduceOp.Min = omega arith
+start_fits ReduceOp.Max = omega arith
+start_fits ReduceOp.And = omega arith
+start_fits ReduceOp.Or = omega arith
+start_fits ReduceOp.Xor = omega arith
+start_fits ReduceOp.WrapAdd = omega arith
 
 -- what is folded from numbers of 64 bits, by what keeps them so
 fold_fits : (f : ℤ → ℤ → ℤ) → ((x y : ℤ) → Has64Bits x → Has64Bits y → Has64Bits (f x y)) → (acc : ℤ) (zs : List ℤ) → Has64Bits acc → AllByRecursion Has64Bits zs → Has64Bits (fold f acc zs)

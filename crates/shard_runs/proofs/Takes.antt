@@ -2,36 +2,13 @@
 use Rattle.std.proofs.Common.{◌≡◌, ℕ, Bool, true, false, List, [], ◌∷◌, ◌++◌, map, Option, Some, None, Ok, Err, Result, refl, arith, if◌then◌else◌}
 use Rattle.std.specs.Prelude.{⊤}
 use Rattle.std.specs.List.{AllByRecursion}
-use Rattle.rdf_values.specs.Bookings.{ActionAt, Booked, Booking, Pass, ReportOn, booked_by, bookings, columns_of}
-use Rattle.rdf_values.specs.Functions.{fn_names}
-use Rattle.rdf_values.specs.Kinds.{FunctionNames, Scope, column_kind, scope_of}
-use Rattle.rdf_values.specs.Path.{Path, Under, makes, parent_of, path}
-use Rattle.rdf_values.specs.Spread.{feed_fault, scalar_value, spread}
-use Rattle.rdf_values.specs.Tables.{FitsKind, FitsRow}
-use Rattle.rdf_values.specs.Verdict.{AreAccepted, check_columns, check_edges, check_node, check_passes, check_results, kind_or_int, may_begin, permitted_kinds, scope_at}
-use Rattle.rdf_values.specs.Words.{AnswerIn64Bits, StatementsHaveWords}
-use Rattle.rdf_values.specs.declared.action.ActionKind.{ActionKind}
-use Rattle.rdf_values.specs.declared.action.ActionKind.TheVariants as kind
-use Rattle.rdf_values.specs.declared.fault.EntryFault.{EntryFault}
-use Rattle.rdf_values.specs.declared.graph_cause.GraphCause.{GraphCause}
-use Rattle.rdf_values.specs.declared.graph_cause.GraphCause.TheVariants as cause
-use Rattle.rdf_values.specs.declared.item.Item.TheVariants as item
-use Rattle.rdf_values.specs.declared.statement.Statement.{Statement}
+use Rattle.rdf_values.specs.{ActionAt, ActionKind, AnswerIn64Bits, AreAccepted, Booked, booked_by, Booking, bookings, check_columns, check_edges, check_node, check_passes, check_results, ColType, column_kind, columns_of, EntryFault, feed_fault, FitsKind, FitsRow, fn_names, FunctionNames, GraphCause, Item, kind_or_int, makes, may_begin, parent_of, Pass, Path, path, permitted_kinds, ReportOn, scalar_value, Scope, scope_at, scope_of, spread, Statement, StatementsHaveWords, Under, Value}
 use Rattle.rdf_values.specs.declared.statement.Statement.TheVariants.{Action, Report}
-use Rattle.rdf_values.specs.declared.value.ColType.{ColType}
-use Rattle.rdf_values.specs.declared.value.ColType.TheVariants as k
-use Rattle.rdf_values.specs.declared.value.Value.{Value}
-use Rattle.rdf_values.specs.declared.value.Value.TheVariants as val
-use Rattle.rdf_model.specs.ColumnValues.{column_value}
-use Rattle.rdf_model.specs.EntryOutcomes.{Entry, Feed, Skip, feed_outcome, through, unless_fault}
-use Rattle.rdf_model.specs.Evaluation.{Faults, Gives, Needs, Outcome, ◌>>=◌, for_all}
-use Rattle.rdf_model.specs.Laws.{FitKinds, Meets, entry_in}
-use Rattle.rdf_model.specs.LoopFacts.{FitsSpread}
-use Rattle.rdf_model.specs.Results.{Dataset, items_fed, items_of}
+use Rattle.rdf_model.specs.{◌>>=◌, column_value, Dataset, Entry, entry_in, Faults, Feed, feed_outcome, FitKinds, FitsSpread, for_all, Gives, items_fed, items_of, Meets, Needs, Outcome, Skip, through, unless_fault}
 use Rattle.rdf_model.proofs.Accepted.{both_none, column_fits}
 use Rattle.rdf_model.proofs.Limits.{facts_meet_limits}
 use Rattle.rdf_model.proofs.Typing.{always, meets_bind}
-use Rattle.shard_runs.specs.Kinds.{booking_kind}
+use Rattle.shard_runs.specs.{booking_kind}
 use Rattle.shard_runs.proofs.Lines.{IsOfKind, TakesAre}
 
 -- ---- the kind of a Take's column
@@ -40,7 +17,7 @@ use Rattle.shard_runs.proofs.Lines.{IsOfKind, TakesAre}
 column_known : (scope : Scope) (permitted : List (List ColType)) (kinds : List ColType) (c : List ℕ) (cs : List (List ℕ)) → check_columns scope permitted kinds (c ∷ cs) ≡ None → column_kind scope c ≡ Ok (kind_or_int (column_kind scope c))
 column_known scope permitted kinds c cs h = go (column_kind scope c) h
   where
-    go : (r : Result ColType GraphCause) → (elim r as (λ _. Option GraphCause) [ Err cause' ↦ Some cause' | Ok t ↦ (if may_begin permitted (kinds ++ t ∷ []) then check_columns scope permitted (kinds ++ t ∷ []) cs else Some cause.WrongType) ]) ≡ None
+    go : (r : Result ColType GraphCause) → (elim r as (λ _. Option GraphCause) [ Err cause' ↦ Some cause' | Ok t ↦ (if may_begin permitted (kinds ++ t ∷ []) then check_columns scope permitted (kinds ++ t ∷ []) cs else Some GraphCause.WrongType) ]) ≡ None
         → r ≡ Ok (kind_or_int r)
     go (Err e) q = cc q
     go (Ok t) q = refl
@@ -48,25 +25,25 @@ column_known scope permitted kinds c cs h = go (column_kind scope c) h
 -- the values of what is fed are of the kind
 abbrev FeedsOfKind : ColType → List ℕ → Entry → Type 0
 FeedsOfKind t c Skip = ⊤
-FeedsOfKind t c (Feed vs) = AllByRecursion (IsOfKind t) (spread (kind.Take c) vs)
+FeedsOfKind t c (Feed vs) = AllByRecursion (IsOfKind t) (spread (ActionKind.Take c) vs)
 
-value_kind : (t : ColType) (v : Value) → FitsKind t v → AllByRecursion (IsOfKind t) (map item.Single (scalar_value v))
-value_kind k.Int (val.Int z) h = (refl, tt)
-value_kind k.Bool (val.Bool b) h = (refl, tt)
-value_kind k.Vect (val.Vect zs) h = tt
-value_kind k.Int (val.Bool b) h = absurd h
-value_kind k.Int (val.Vect zs) h = absurd h
-value_kind k.Bool (val.Int z) h = absurd h
-value_kind k.Bool (val.Vect zs) h = absurd h
-value_kind k.Vect (val.Int z) h = absurd h
-value_kind k.Vect (val.Bool b) h = absurd h
+value_kind : (t : ColType) (v : Value) → FitsKind t v → AllByRecursion (IsOfKind t) (map Item.Single (scalar_value v))
+value_kind ColType.Int (Value.Int z) h = (refl, tt)
+value_kind ColType.Bool (Value.Bool b) h = (refl, tt)
+value_kind ColType.Vect (Value.Vect zs) h = tt
+value_kind ColType.Int (Value.Bool b) h = absurd h
+value_kind ColType.Int (Value.Vect zs) h = absurd h
+value_kind ColType.Bool (Value.Int z) h = absurd h
+value_kind ColType.Bool (Value.Vect zs) h = absurd h
+value_kind ColType.Vect (Value.Int z) h = absurd h
+value_kind ColType.Vect (Value.Bool b) h = absurd h
 
 unless_kind : (t : ColType) (c : List ℕ) (vs : List Value) (o : Option EntryFault) → FitKinds (t ∷ []) vs → Meets (FeedsOfKind t c) (unless_fault {M = ⊥} vs o)
 unless_kind t c vs (Some fault) h = tt
 unless_kind t c [] None h = absurd h
 unless_kind t c (v ∷ vs) None h = value_kind t v h.0
 
-fed_kind : (t : ColType) (c : List ℕ) (o : Outcome ⊥ Entry) → Meets (FeedsOfKind t c) o → AllByRecursion (IsOfKind t) (items_fed (kind.Take c) o)
+fed_kind : (t : ColType) (c : List ℕ) (o : Outcome ⊥ Entry) → Meets (FeedsOfKind t c) o → AllByRecursion (IsOfKind t) (items_fed (ActionKind.Take c) o)
 fed_kind t c (Gives (Feed vs)) h = h
 fed_kind t c (Gives Skip) h = tt
 fed_kind t c (Faults fault) h = tt
@@ -77,13 +54,13 @@ module _ (d : Dataset) (row : List Value) (fits_row : FitsRow d.columns row) (be
   one_column : Meets (FitKinds (t ∷ [])) (for_all (column_value d.fns d.columns row {M = ⊥} (path before parent) u) (c ∷ []))
   one_column = meets_bind ⊥ (FitsKind t) (FitKinds (t ∷ [])) (column_value d.fns d.columns row (path before parent) u c) _ (column_fits d row before parent u c t good fits_row known) (λ v f. (f, tt))
 
-  take_entry : Meets (FeedsOfKind t c) (entry_in d row (kind.Take c) (path before parent) u)
+  take_entry : Meets (FeedsOfKind t c) (entry_in d row (ActionKind.Take c) (path before parent) u)
   take_entry = meets_bind ⊥ (λ b. ⊤) (FeedsOfKind t c) (through d.fns d.columns row (path before parent) u) _ (always ⊥ (through d.fns d.columns row (path before parent) u)) (λ b _. go b)
     where
-      go : (b : Bool) → Meets (FeedsOfKind t c) (if b then for_all (column_value d.fns d.columns row {M = ⊥} (path before parent) u) (columns_of (kind.Take c)) >>= feed_outcome (kind.Take c) else Gives Skip)
+      go : (b : Bool) → Meets (FeedsOfKind t c) (if b then for_all (column_value d.fns d.columns row {M = ⊥} (path before parent) u) (columns_of (ActionKind.Take c)) >>= feed_outcome (ActionKind.Take c) else Gives Skip)
       go true =
-          meets_bind ⊥ (FitKinds (t ∷ [])) (FeedsOfKind t c) (for_all (column_value d.fns d.columns row (path before parent) u) (c ∷ [])) (feed_outcome (kind.Take c)) one_column
-          (λ vs f. unless_kind t c vs (feed_fault (kind.Take c) vs) f)
+          meets_bind ⊥ (FitKinds (t ∷ [])) (FeedsOfKind t c) (for_all (column_value d.fns d.columns row (path before parent) u) (c ∷ [])) (feed_outcome (ActionKind.Take c)) one_column
+          (λ vs f. unless_kind t c vs (feed_fault (ActionKind.Take c) vs) f)
       go false = tt
 
 -- ---- what a row feeds
@@ -112,15 +89,15 @@ FeedsWell d (ReportOn filters) = ⊤
 module _ (d : Dataset) (answers : AnswerIn64Bits d.fns) where
   takes_well : (before : List Statement) (result parent : List ℕ) (k : ActionKind) → AreAccepted (fn_names d.fns) (scope_of d.columns) (Action result parent k ∷ before) → (row : List Value) (u : Under) → FitsRow d.columns row
       → TakesAre (booking_kind d (ActionAt k (path before parent))) k (items_of d k (path before parent) u row)
-  takes_well before result parent (kind.Take c) good row u fits =
+  takes_well before result parent (ActionKind.Take c) good row u fits =
       let names : FunctionNames = fn_names d.fns in
       let header : Scope = scope_of d.columns in
       let scope : Scope = scope_at names header before parent in
-      let columns : Option GraphCause = check_columns scope (permitted_kinds (kind.Take c)) [] (c ∷ []) in
-      let rest : List (Option GraphCause) = check_edges (kind.Take c) ∷ check_results (Action result parent (kind.Take c) ∷ before) ∷ check_passes before (bookings (Action result parent (kind.Take c) ∷ before)) ∷ [] in
+      let columns : Option GraphCause = check_columns scope (permitted_kinds (ActionKind.Take c)) [] (c ∷ []) in
+      let rest : List (Option GraphCause) = check_edges (ActionKind.Take c) ∷ check_results (Action result parent (ActionKind.Take c) ∷ before) ∷ check_passes before (bookings (Action result parent (ActionKind.Take c) ∷ before)) ∷ [] in
       let checked : columns ≡ None = (both_none columns rest (both_none (check_node before result parent) (columns ∷ rest) good.0).1).0 in
       let t : ColType = kind_or_int (column_kind scope c) in
-      fed_kind t c (entry_in d row (kind.Take c) (path before parent) u) (take_entry d row fits before parent u good.1 c t (column_known scope (permitted_kinds (kind.Take c)) [] c [] checked))
+      fed_kind t c (entry_in d row (ActionKind.Take c) (path before parent) u) (take_entry d row fits before parent u good.1 c t (column_known scope (permitted_kinds (ActionKind.Take c)) [] c [] checked))
   takes_well before result parent k good row u fits = tt
 
   pub feeds_well : (before : List Statement) (s : Statement) → AreAccepted (fn_names d.fns) (scope_of d.columns) (s ∷ before) → StatementsHaveWords before → AllByRecursion (λ (b : Booked). FeedsWell d b.booking) (booked_by before s)

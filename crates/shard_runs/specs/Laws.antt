@@ -1,23 +1,11 @@
 -- Laws of runs over spans. Each is the contract of a function of this crate, and so proved.
 use Rattle.std.specs.Prelude.{◌≡◌, ◌≤◌, ◌<◌, ⊤, ℕ, true, All, List, [], ◌∷◌, None, Ok, length, map}
 use Rattle.std.specs.List.{list_all}
-use Rattle.rdf_values.specs.Cuts.{Lead}
-use Rattle.rdf_values.specs.Functions.{fn_names}
-use Rattle.rdf_values.specs.Names.{is_name}
-use Rattle.rdf_values.specs.Path.{history}
-use Rattle.rdf_values.specs.Tables.{FitRows, IsHeader}
-use Rattle.rdf_values.specs.Verdict.{verdict}
-use Rattle.rdf_values.specs.Words.{AnswerIn64Bits, StatementsHaveWords}
-use Rattle.rdf_values.specs.declared.column.Column.{Column}
-use Rattle.rdf_values.specs.declared.script.Script.{Script}
-use Rattle.rdf_values.specs.declared.span.Span.{Span}
-use Rattle.rdf_model.specs.Results.{Dataset}
-use Rattle.shard_lines.specs.declared.pass_shape.PassShape.{PassShape}
-use Rattle.shard_files.specs.Merging.{are_loops, first_uncovered, merge_of, shards_joined, unless_at}
-use Rattle.shard_files.specs.Shards.{BreaksAt, IsShard, IsShardText, ShardView, shard_text}
-use Rattle.shard_files.specs.declared.merge_cause.MergeCause.TheVariants as cause
-use Rattle.shard_spans.specs.Laws.{pass_shapes}
-use Rattle.shard_spans.specs.Spans.{loops_of, span_loops, span_shard}
+use Rattle.rdf_values.specs.{AnswerIn64Bits, Column, FitRows, fn_names, history, is_name, IsHeader, Lead, Script, Span, StatementsHaveWords, verdict}
+use Rattle.rdf_model.specs.{Dataset}
+use Rattle.shard_lines.specs.{PassShape}
+use Rattle.shard_files.specs.{are_loops, BreaksAt, first_uncovered, IsShard, IsShardText, merge_of, MergeCause, shard_text, shards_joined, ShardView, unless_at}
+use Rattle.shard_spans.specs.{loops_of, pass_shapes, span_loops, span_shard}
 use Rattle.shard_runs.specs.Kinds.{pass_kind}
 
 -- what the checks before a run give of a script and its table
@@ -70,7 +58,7 @@ OnlyCoverIsRefused =
     (script : Script) (d : Dataset) (spans parts : List Span)
     → IsChecked script d → 0 < length parts
     → (let shards : List ShardView = runs_over script d spans parts in
-    merge_of (script_shapes script d) shards ≡ unless_at (first_uncovered (length spans) shards) cause.Cover (Ok (shards_joined (script_shapes script d) shards)))
+    merge_of (script_shapes script d) shards ≡ unless_at (first_uncovered (length spans) shards) MergeCause.Cover (Ok (shards_joined (script_shapes script d) shards)))
 
 -- where each cluster is covered once they are merged, in whatever order they are named, to one run over all clusters
 abbrev pub RunsMergeToOneRun : Type 0

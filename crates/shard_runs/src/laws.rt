@@ -1,5 +1,5 @@
 // Laws of runs. Each function does nothing; its contract is the law, and its proof the law's.
-ghost use Rattle.shard_runs.specs.Laws.{OnlyCoverIsRefused, RunsAreShards, RunsHaveShapes, RunsMergeToOneRun, WrittenRunsMergeToOneRun, WrittenRunsReadBack};
+ghost use Rattle.shard_runs.specs.{OnlyCoverIsRefused, RunsAreShards, RunsHaveShapes, RunsMergeToOneRun, WrittenRunsMergeToOneRun, WrittenRunsReadBack};
 
 /// What a run of an accepted script over a span of clusters finds keeps each rule and limit of a shard.
 pub fn runs_are_shards()

@@ -1,35 +1,22 @@
 -- The lines of a pass over two lists of rows, one behind the other.
-use Rattle.std.proofs.Common.{◌≡◌, ℕ, suc, ◌+◌, ℤ, ◌+ℤ◌, ◌*ℤ◌, Bool, List, [], ◌∷◌, ◌++◌, length, map, Option, None, Some, refl, sym, ap, ap₂, ◌∙◌, arith, cond, length-append}
-use Rattle.std.specs.Prelude.{count_by, flat_map, fold}
+use Rattle.std.proofs.Common.{◌≡◌, ℕ, suc, ◌+◌, ℤ, ◌+ℤ◌, ◌*ℤ◌, Bool, List, [], ◌∷◌, ◌++◌, length, map, Option, None, Some, refl, sym, ap, ap₂, ◌∙◌, arith, cond, length-append, count_by, flat_map, fold}
 use Rattle.std.specs.Int.{int_max, int_min}
 use Rattle.std.proofs.lemmas.Grind.{flat_map-append}
 use Rattle.std.proofs.lemmas.List.{map-append}
 use Rattle.std.proofs.lemmas.List.Sums.{fold-append, sum_by-append}
-use Rattle.rdf_values.specs.Bookings.{ActionAt, Booking, Pass, ReportOn}
-use Rattle.rdf_values.specs.Fold.{Cell, cell_of, cells_on, extreme, flat_cell, fold_items, integer_sum, number_of, numbers_of, reduce_start, reduce_step, scalar_of, square_cell, weight_in, weight_in2}
-use Rattle.rdf_values.specs.Path.{Path}
-use Rattle.rdf_values.specs.declared.action.ActionKind.{ActionKind}
-use Rattle.rdf_values.specs.declared.action.ActionKind.TheVariants as kind
-use Rattle.rdf_values.specs.declared.action.ReduceOp.{ReduceOp}
-use Rattle.rdf_values.specs.declared.item.Item.{Item}
-use Rattle.rdf_values.specs.declared.value.ColType.{ColType}
-use Rattle.rdf_values.specs.declared.value.Value.{Value}
-use Rattle.rdf_model.specs.Results.{Dataset, cutflow, items_of, passes_filters}
-use Rattle.actions.specs.Extremes.{better_of_two}
+use Rattle.rdf_values.specs.{ActionAt, ActionKind, Booking, cells_on, ColType, extreme, flat_cell, fold_items, integer_sum, Item, number_of, numbers_of, Pass, Path, reduce_start, reduce_step, ReduceOp, ReportOn, scalar_of, square_cell, Value, weight_in, weight_in2}
+use Rattle.rdf_values.specs.Fold.{Cell, cell_of}
+use Rattle.rdf_model.specs.{cutflow, Dataset, items_of, passes_filters}
+use Rattle.actions.specs.{better_of_two, by_cluster, Fed, from_cluster, in_file_order, put}
 use Rattle.actions.specs.Extremes as extremes
-use Rattle.actions.specs.Feeding.{Fed, by_cluster, from_cluster, in_file_order, put}
 use Rattle.actions.proofs.Folds.{extreme_fold}
 use Rattle.actions.proofs.Operations.{extreme_from, max_comm, max_swap, min_comm, min_swap}
 use Rattle.actions.proofs.Reductions.{reduce_both}
 use Rattle.actions.proofs.Unordered.{sum_both}
-use Rattle.loop_pieces.specs.declared.flow.Counts.{Counts}
-use Rattle.histograms.specs.declared.cell_sum.CellSum.{CellSum}
-use Rattle.loop_pieces.specs.Whole.{counts_of}
-use Rattle.shard_lines.specs.Joining.{added_cells, added_counts, better_of, joined_line}
-use Rattle.shard_lines.specs.Shapes.{action_shape, booking_shape}
-use Rattle.shard_lines.specs.declared.shard_line.ShardLine.TheVariants as line
-use Rattle.shard_spans.specs.Laws.{JoinedLinesAreOfBoth}
-use Rattle.shard_spans.specs.Spans.{booking_line, cell_sum, filled_line}
+use Rattle.loop_pieces.specs.{Counts, counts_of}
+use Rattle.histograms.specs.{CellSum}
+use Rattle.shard_lines.specs.{action_shape, added_cells, added_counts, better_of, booking_shape, joined_line, ShardLine}
+use Rattle.shard_spans.specs.{booking_line, cell_sum, filled_line, JoinedLinesAreOfBoth}
 
 -- ---- items that one cluster feeds are in the order of the file
 
@@ -123,14 +110,14 @@ module _ (xs ys : List Item) where
 -- ---- actions
 
 action_of_both : (column : ColType) (k : ActionKind) (xs ys : List Item) → joined_line (action_shape column k) (filled_line (fold_items k xs)) (filled_line (fold_items k ys)) ≡ filled_line (fold_items k (xs ++ ys))
-action_of_both column kind.Count xs ys = ap line.Count (sym (length-append xs ys))
-action_of_both column (kind.Sum c) xs ys = ap line.Sum (sym (sum_of_both number_of xs ys))
-action_of_both column (kind.Min c) xs ys = ap line.Extreme (sym (extreme_of_both int_min min_swap min_comm xs ys))
-action_of_both column (kind.Max c) xs ys = ap line.Extreme (sym (extreme_of_both int_max max_swap max_comm xs ys))
-action_of_both column (kind.Take c) xs ys = ap line.Take (sym (flat_map-append scalar_of xs ys))
-action_of_both column (kind.Reduce o c) xs ys = ap line.Number (sym (reduce_of_both o xs ys))
-action_of_both column (kind.Histo1D edges x w) xs ys = ap line.Cells (flat_of_both xs ys edges (cells_on edges))
-action_of_both column (kind.Histo2D xe ye x y w) xs ys = ap line.Cells (plane_of_both xs ys xe ye (cells_on xe) (cells_on ye))
+action_of_both column ActionKind.Count xs ys = ap ShardLine.Count (sym (length-append xs ys))
+action_of_both column (ActionKind.Sum c) xs ys = ap ShardLine.Sum (sym (sum_of_both number_of xs ys))
+action_of_both column (ActionKind.Min c) xs ys = ap ShardLine.Extreme (sym (extreme_of_both int_min min_swap min_comm xs ys))
+action_of_both column (ActionKind.Max c) xs ys = ap ShardLine.Extreme (sym (extreme_of_both int_max max_swap max_comm xs ys))
+action_of_both column (ActionKind.Take c) xs ys = ap ShardLine.Take (sym (flat_map-append scalar_of xs ys))
+action_of_both column (ActionKind.Reduce o c) xs ys = ap ShardLine.Number (sym (reduce_of_both o xs ys))
+action_of_both column (ActionKind.Histo1D edges x w) xs ys = ap ShardLine.Cells (flat_of_both xs ys edges (cells_on edges))
+action_of_both column (ActionKind.Histo2D xe ye x y w) xs ys = ap ShardLine.Cells (plane_of_both xs ys xe ye (cells_on xe) (cells_on ye))
 
 -- ---- reports
 
@@ -151,7 +138,7 @@ module _ (d : Dataset) (xs ys : List (List Value)) where
   line_of_both column (ActionAt k at) p =
       action_of_both column k (flat_map (items_of d k at p.under) xs) (flat_map (items_of d k at p.under) ys)
       ∙ ap (λ l. filled_line (fold_items k l)) (sym (flat_map-append (items_of d k at p.under) xs ys))
-  line_of_both column (ReportOn fs) p = ap line.Report (flows_of_both fs)
+  line_of_both column (ReportOn fs) p = ap ShardLine.Report (flows_of_both fs)
 
 pub joined_lines_are_of_both : JoinedLinesAreOfBoth
 joined_lines_are_of_both d xs ys column p = line_of_both d xs ys column p.result.booking p

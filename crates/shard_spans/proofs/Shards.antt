@@ -1,21 +1,13 @@
 -- Shards of spans that hold each cluster once are joined to one run over all clusters.
-use Rattle.std.proofs.Common.{◌≡◌, ℕ, zero, suc, ◌+◌, ◌<◌, ◌≤◌, Bool, true, false, cond, List, [], ◌∷◌, length, map, None, Some, refl, sym, ap, ap₂, ◌∙◌, arith, if◌then◌else◌}
-use Rattle.std.specs.Prelude.{All, nat_eq, not, slice_get}
+use Rattle.std.proofs.Common.{◌≡◌, ℕ, zero, suc, ◌+◌, ◌<◌, ◌≤◌, Bool, true, false, cond, List, [], ◌∷◌, length, map, None, Some, refl, sym, ap, ap₂, ◌∙◌, arith, if◌then◌else◌, All, nat_eq, not, slice_get}
 use Rattle.std.specs.List.{position_from}
 use Rattle.std.proofs.lemmas.Bool.Decides.{nat_tests}
 use Rattle.std.proofs.lemmas.Iterator.Adapters.{position_from-zero}
-use Rattle.rdf_values.specs.Bookings.{Pass}
-use Rattle.rdf_values.specs.Cuts.{Lead, below}
-use Rattle.rdf_values.specs.declared.script.Script.{Script}
-use Rattle.rdf_values.specs.declared.span.Span.{Span}
-use Rattle.rdf_values.specs.declared.value.ColType.{ColType}
+use Rattle.rdf_values.specs.{below, ColType, Lead, Pass, Script, Span}
 use Rattle.rdf_values.proofs.Below.{slice_get-below}
-use Rattle.rdf_model.specs.Results.{Dataset}
-use Rattle.shard_files.specs.Merging.{first_uncovered, in_order, joined_loops, placed, shards_joined, spans_with}
-use Rattle.shard_files.specs.Shards.{ShardView}
-use Rattle.shard_files.specs.declared.shard_loop.ShardLoop.{ShardLoop}
-use Rattle.shard_spans.specs.Laws.{ShardsJoinToOneRun, pass_shapes}
-use Rattle.shard_spans.specs.Spans.{loops_of, span_loops, span_shard}
+use Rattle.rdf_model.specs.{Dataset}
+use Rattle.shard_files.specs.{first_uncovered, in_order, joined_loops, placed, ShardLoop, shards_joined, ShardView, spans_with}
+use Rattle.shard_spans.specs.{loops_of, pass_shapes, ShardsJoinToOneRun, span_loops, span_shard}
 use Rattle.shard_spans.proofs.Following.{Each, Follow, IsWithin, order_each, order_sorted, order_with, they_follow}
 use Rattle.shard_spans.proofs.WholeRuns.{loops_are_whole}
 

@@ -1,22 +1,14 @@
 -- The first fault of a span, cluster by cluster.
-use Rattle.std.proofs.Common.{◌≡◌, ℕ, zero, suc, ◌+◌, ◌-◌, ◌<◌, ◌≤◌, List, [], ◌∷◌, ◌++◌, length, map, Option, None, Some, refl, sym, ap, ap₂, ◌∙◌, subst, arith, append-nil, length-append}
-use Rattle.std.specs.Prelude.{All, slice_get, slice_range}
+use Rattle.std.proofs.Common.{◌≡◌, ℕ, zero, suc, ◌+◌, ◌-◌, ◌<◌, ◌≤◌, List, [], ◌∷◌, ◌++◌, length, map, Option, None, Some, refl, sym, ap, ap₂, ◌∙◌, subst, arith, append-nil, length-append, All, slice_get, slice_range}
 use Rattle.std.proofs.lemmas.Grind.{flat_map-append}
 use Rattle.std.proofs.lemmas.List.{map-append}
 use Rattle.std.proofs.lemmas.List.Elements.{All-nil, All-push}
-use Rattle.lemmas.proofs.Parts.{range_length}
-use Rattle.rdf_values.specs.Bookings.{Pass}
-use Rattle.rdf_values.specs.Cuts.{Lead}
-use Rattle.rdf_values.specs.Machine.{first_in}
-use Rattle.rdf_values.specs.declared.fault.Fault.{Fault}
-use Rattle.rdf_values.specs.declared.span.Span.{Span}
-use Rattle.rdf_values.specs.declared.value.Value.{Value}
-use Rattle.rdf_model.specs.PartialResults.{rows_in, span_rows}
-use Rattle.rdf_model.specs.Results.{Dataset, first_fault_from, first_fault_in, first_of}
-use Rattle.loop_pieces.specs.Whole.{begin_of, cluster_fault}
+use Rattle.lemmas.proofs.{range_length}
+use Rattle.rdf_values.specs.{Fault, first_in, Lead, Pass, Span, Value}
+use Rattle.rdf_model.specs.{Dataset, first_fault_from, first_fault_in, first_of, rows_in, span_rows}
+use Rattle.loop_pieces.specs.{begin_of, cluster_fault}
 use Rattle.loop_pieces.proofs.Places.{lead_up}
-use Rattle.shard_spans.specs.Laws.{FirstFaultyClusterHasTheFault}
-use Rattle.shard_spans.specs.Spans.{clusters_from, clusters_in, span_fault}
+use Rattle.shard_spans.specs.{clusters_from, clusters_in, FirstFaultyClusterHasTheFault, span_fault}
 
 -- ---- clusters
 

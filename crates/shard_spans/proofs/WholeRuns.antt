@@ -1,31 +1,18 @@
 -- The loops of spans that follow one another come to those of one run over all clusters.
-use Rattle.std.proofs.Common.{if◌then◌else◌, ◌≡◌, ◌⊎◌, inl, inr, ℕ, zero, suc, ◌+◌, ◌-◌, ◌<◌, ◌≤◌, Bool, false, List, [], ◌∷◌, ◌++◌, length, map, Option, None, Some, refl, sym, ap, ap₂, ◌∙◌, subst, arith, append-nil, append_assoc, ⊎_elim}
-use Rattle.std.specs.Prelude.{flat_map, fold, nat_lt, slice_get}
+use Rattle.std.proofs.Common.{if◌then◌else◌, ◌≡◌, ◌⊎◌, inl, inr, ℕ, zero, suc, ◌+◌, ◌-◌, ◌<◌, ◌≤◌, Bool, false, List, [], ◌∷◌, ◌++◌, length, map, Option, None, Some, refl, sym, ap, ap₂, ◌∙◌, subst, arith, append-nil, append_assoc, ⊎_elim, flat_map, fold, nat_lt, slice_get}
 use Rattle.std.proofs.lemmas.Bool.Decides.{nat_tests}
 use Rattle.std.proofs.lemmas.Grind.{flat_map-append}
 use Rattle.std.proofs.lemmas.List.{map-append}
 use Rattle.std.proofs.lemmas.Option.{slice_get-map}
-use Rattle.rdf_values.specs.Bookings.{Pass}
-use Rattle.rdf_values.specs.Cuts.{Lead, below}
-use Rattle.rdf_values.specs.Machine.{first_in}
-use Rattle.rdf_values.specs.declared.fault.Fault.{Fault}
-use Rattle.rdf_values.specs.declared.span.Span.{Span}
-use Rattle.rdf_values.specs.declared.value.ColType.{ColType}
-use Rattle.rdf_values.specs.declared.value.Value.{Value}
+use Rattle.rdf_values.specs.{below, ColType, Fault, first_in, Lead, Pass, Span, Value}
 use Rattle.rdf_values.proofs.Below.{slice_get-below}
-use Rattle.rdf_model.specs.PartialResults.{rows_in, span_rows}
-use Rattle.rdf_model.specs.Results.{Dataset, first_of}
-use Rattle.loop_pieces.specs.Whole.{cluster_fault, cluster_faults}
+use Rattle.rdf_model.specs.{Dataset, first_of, rows_in, span_rows}
+use Rattle.loop_pieces.specs.{cluster_fault, cluster_faults}
 use Rattle.loop_pieces.proofs.ClusterFaults.{lower_clusters_fault_first}
-use Rattle.shard_lines.specs.Joining.{joined_lines}
-use Rattle.shard_lines.specs.declared.pass_shape.PassShape.{PassShape}
-use Rattle.shard_lines.specs.declared.shard_line.ShardLine.{ShardLine}
-use Rattle.shard_files.specs.Merging.{all_lines, fault_or_lines, first_loop, joined_loop, joined_loops, least_fault, lines_in, or_earlier, other_loops, up_to_fault}
-use Rattle.shard_files.specs.Shards.{ShardView}
-use Rattle.shard_files.specs.declared.shard_loop.ShardLoop.{ShardLoop}
+use Rattle.shard_lines.specs.{joined_lines, PassShape, ShardLine}
+use Rattle.shard_files.specs.{all_lines, fault_or_lines, first_loop, joined_loop, joined_loops, least_fault, lines_in, or_earlier, other_loops, ShardLoop, ShardView, up_to_fault}
 use Rattle.shard_files.specs.declared.shard_loop.ShardLoop.TheVariants.{Whole, Faulted}
-use Rattle.shard_spans.specs.Laws.{pass_shapes}
-use Rattle.shard_spans.specs.Spans.{clusters_in, over_span, pass_line, span_fault, span_loop, span_loops}
+use Rattle.shard_spans.specs.{clusters_in, over_span, pass_line, pass_shapes, span_fault, span_loop, span_loops}
 use Rattle.shard_spans.proofs.Following.{Each, Follow, IsWithin}
 use Rattle.shard_spans.proofs.LinesOfBoth.{line_of_both}
 use Rattle.shard_spans.proofs.SpanFaults.{clusters_more, clusters_none, first_faulty_cluster_has_the_fault, first_in-append, first_next}

@@ -1,19 +1,10 @@
 -- Laws of spans. Each is the contract of a function of this crate, and so proved.
 use Rattle.std.specs.Prelude.{◌≡◌, ◌≤◌, ◌<◌, ◌++◌, ℕ, List, All, None, length, map}
-use Rattle.rdf_values.specs.Bookings.{Pass}
-use Rattle.rdf_values.specs.Cuts.{Lead}
-use Rattle.rdf_values.specs.Machine.{first_in}
-use Rattle.rdf_values.specs.declared.script.Script.{Script}
-use Rattle.rdf_values.specs.declared.span.Span.{Span}
-use Rattle.rdf_values.specs.declared.value.ColType.{ColType}
-use Rattle.rdf_values.specs.declared.value.Value.{Value}
-use Rattle.rdf_model.specs.Results.{Dataset}
-use Rattle.loop_pieces.specs.Whole.{cluster_fault}
-use Rattle.shard_lines.specs.Joining.{joined_line}
-use Rattle.shard_lines.specs.Shapes.{booking_shape}
-use Rattle.shard_lines.specs.declared.pass_shape.PassShape.{PassShape}
-use Rattle.shard_files.specs.Merging.{first_uncovered, shards_joined}
-use Rattle.shard_files.specs.Shards.{ShardView}
+use Rattle.rdf_values.specs.{ColType, first_in, Lead, Pass, Script, Span, Value}
+use Rattle.rdf_model.specs.{Dataset}
+use Rattle.loop_pieces.specs.{cluster_fault}
+use Rattle.shard_lines.specs.{booking_shape, joined_line, PassShape}
+use Rattle.shard_files.specs.{first_uncovered, shards_joined, ShardView}
 use Rattle.shard_spans.specs.Spans.{clusters_in, loops_of, pass_line, span_fault, span_loops, span_shard}
 
 -- the first of a span's clusters with a fault has the first fault of the span

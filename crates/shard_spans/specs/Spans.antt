@@ -1,23 +1,13 @@
 -- What a run over a span of clusters finds.
 use Rattle.std.specs.Prelude.{ℕ, ◌+◌, ◌-◌, List, [], ◌∷◌, length, map, flat_map, Option, slice_get}
-use Rattle.rdf_values.specs.Bookings.{ActionAt, Booking, Pass, ReportOn}
-use Rattle.rdf_values.specs.Cuts.{below}
-use Rattle.rdf_values.specs.Fold.{Cell, Filled}
+use Rattle.rdf_values.specs.{ActionAt, below, Booking, Fault, Filled, history, Pass, ReportOn, Script, Span}
+use Rattle.rdf_values.specs.Fold.{Cell}
 use Rattle.rdf_values.specs.Fold as f
-use Rattle.rdf_values.specs.Path.{history}
-use Rattle.rdf_values.specs.declared.fault.Fault.{Fault}
-use Rattle.rdf_values.specs.declared.script.Script.{Script}
-use Rattle.rdf_values.specs.declared.span.Span.{Span}
-use Rattle.rdf_model.specs.Loops.{loop_passes, loop_results}
-use Rattle.rdf_model.specs.PartialResults.{over_clusters}
-use Rattle.rdf_model.specs.Results.{Dataset, cutflow, first_fault_from, pass_result}
-use Rattle.histograms.specs.declared.cell_sum.CellSum.{CellSum}
-use Rattle.loop_pieces.specs.Whole.{begin_of, counts_of}
-use Rattle.shard_lines.specs.declared.shard_line.ShardLine.{ShardLine}
-use Rattle.shard_lines.specs.declared.shard_line.ShardLine.TheVariants as line
-use Rattle.shard_files.specs.declared.shard_loop.ShardLoop.{ShardLoop}
-use Rattle.shard_files.specs.Merging.{fault_or_lines, up_to_fault}
-use Rattle.shard_files.specs.Shards.{ShardView}
+use Rattle.rdf_model.specs.{cutflow, Dataset, first_fault_from, loop_passes, loop_results, over_clusters, pass_result}
+use Rattle.histograms.specs.{CellSum}
+use Rattle.loop_pieces.specs.{begin_of, counts_of}
+use Rattle.shard_lines.specs.{ShardLine}
+use Rattle.shard_files.specs.{fault_or_lines, ShardLoop, ShardView, up_to_fault}
 
 -- ---- the rows of a span
 
@@ -44,18 +34,18 @@ cell_sum c = record { sum = c.sum; squares = c.squares }
 
 -- the line of a result: the cells of a plane row by row
 abbrev pub filled_line : Filled → ShardLine
-filled_line (f.Count n) = line.Count n
-filled_line (f.Sum z) = line.Sum z
-filled_line (f.Extreme z) = line.Extreme z
-filled_line (f.Taken xs) = line.Take xs
-filled_line (f.Reduced z) = line.Number z
-filled_line (f.Flat cells) = line.Cells (map cell_sum cells)
-filled_line (f.Square rows) = line.Cells (flat_map (λ cells. map cell_sum cells) rows)
+filled_line (f.Count n) = ShardLine.Count n
+filled_line (f.Sum z) = ShardLine.Sum z
+filled_line (f.Extreme z) = ShardLine.Extreme z
+filled_line (f.Taken xs) = ShardLine.Take xs
+filled_line (f.Reduced z) = ShardLine.Number z
+filled_line (f.Flat cells) = ShardLine.Cells (map cell_sum cells)
+filled_line (f.Square rows) = ShardLine.Cells (flat_map (λ cells. map cell_sum cells) rows)
 
 -- the line of what was booked, over a table
 abbrev pub booking_line : Dataset → Booking → Pass → ShardLine
 booking_line d (ActionAt k at) p = filled_line (pass_result d k at p.under)
-booking_line d (ReportOn filters) p = line.Report (map (λ filter. counts_of (cutflow d filter)) filters)
+booking_line d (ReportOn filters) p = ShardLine.Report (map (λ filter. counts_of (cutflow d filter)) filters)
 
 -- the line of a pass over a table
 abbrev pub pass_line : Dataset → Pass → ShardLine

@@ -1,51 +1,32 @@
 -- What the loops of one run over all clusters print.
-use Rattle.std.proofs.Common.{◌≡◌, ◌⊎◌, ℕ, zero, suc, ◌+◌, ◌-◌, ◌<◌, List, [], ◌∷◌, length, map, drop, Option, None, Some, refl, sym, ap, ap₂, ◌∙◌, subst, arith, ⊎_elim}
-use Rattle.std.specs.Prelude.{option_map, slice_get, unwrap_or}
+use Rattle.std.proofs.Common.{◌≡◌, ◌⊎◌, ℕ, zero, suc, ◌+◌, ◌-◌, ◌<◌, List, [], ◌∷◌, length, map, drop, Option, None, Some, refl, sym, ap, ap₂, ◌∙◌, subst, arith, ⊎_elim, option_map, slice_get, unwrap_or}
 use Rattle.std.proofs.lemmas.Option.{same_Some, slice_get-map, slice_get_within}
-use Rattle.lemmas.proofs.Orders.{lt_or_last}
-use Rattle.lemmas.proofs.Places.{something_at}
-use Rattle.rdf_values.specs.Bookings.{Booked, Pass, results_named, bookings}
-use Rattle.rdf_values.specs.Cuts.{Lead, below}
-use Rattle.rdf_values.specs.Functions.{fn_names}
-use Rattle.rdf_values.specs.Machine.{first_in}
-use Rattle.rdf_values.specs.Path.{history}
-use Rattle.rdf_values.specs.declared.fault.Fault.{Fault}
-use Rattle.rdf_values.specs.declared.script.Script.{Script}
-use Rattle.rdf_values.specs.declared.span.Span.{Span}
-use Rattle.rdf_values.specs.declared.statement.Statement.{Statement}
-use Rattle.rdf_values.specs.declared.value.Value.{Value}
-use Rattle.rdf_model.specs.Laws.{ComesInTurn, loops_before}
-use Rattle.rdf_model.specs.Loops.{Access, accesses, loop_of, loop_passes, loop_results}
-use Rattle.rdf_model.specs.PartialResults.{Course, over_clusters}
-use Rattle.rdf_model.specs.ResultLines.{fault_line}
-use Rattle.rdf_model.specs.Results.{Dataset, first_fault, first_fault_from}
-use Rattle.rdf_model.specs.Transcript.{Printed, access_passes, access_printed, in_front_of, named_lines, printed, transcript}
+use Rattle.lemmas.proofs.{lt_or_last, something_at}
+use Rattle.rdf_values.specs.{below, Booked, bookings, Fault, first_in, fn_names, history, Lead, Pass, results_named, Script, Span, Statement, Value}
+use Rattle.rdf_model.specs.{Access, access_passes, access_printed, accesses, ComesInTurn, Course, Dataset, fault_line, first_fault, first_fault_from, in_front_of, loop_of, loop_passes, loop_results, loops_before, named_lines, over_clusters, Printed, printed, transcript}
 use Rattle.rdf_model.proofs.Turns.{loops_come_in_turn}
-use Rattle.graph_numbers.specs.Graphs.{GraphView, IsGraph}
-use Rattle.graph_numbers.specs.Laws.{graph_of}
-use Rattle.graph_numbers.specs.Results.{loops}
+use Rattle.graph_numbers.specs.{graph_of, GraphView, IsGraph, loops}
 use Rattle.graph_numbers.proofs.Extending.{itself}
-use Rattle.loop_pieces.specs.Whole.{cluster_fault}
+use Rattle.loop_pieces.specs.{cluster_fault}
 use Rattle.loop_pieces.proofs.ClusterFaults.{first_cluster_has_first_fault}
 use Rattle.loop_pieces.proofs.WholeLoops.{all_clusters_are_the_table}
-use Rattle.event_loop.specs.Places.{fills}
+use Rattle.event_loop.specs.{fills}
 use Rattle.event_loop.proofs.Accesses.{none_more, one_loop_more}
 use Rattle.event_loop.proofs.LoopResults.{many}
 use Rattle.event_loop.proofs.LoopResults as filling
 use Rattle.event_loop.proofs.Found.{in_turn}
 use Rattle.event_loop.proofs.Printed.{place_at, printed_has_loop}
-use Rattle.shard_lines.specs.declared.shard_line.ShardLine.{ShardLine}
-use Rattle.shard_files.specs.Merging.{fault_or_lines, up_to_fault}
-use Rattle.shard_files.specs.declared.shard_loop.ShardLoop.{ShardLoop}
+use Rattle.shard_lines.specs.{ShardLine}
+use Rattle.shard_files.specs.{fault_or_lines, ShardLoop, up_to_fault}
 use Rattle.shard_files.specs.declared.shard_loop.ShardLoop.TheVariants.{Whole, Faulted}
-use Rattle.shard_spans.specs.Spans.{clusters_from, clusters_in, loops_of, over_span, pass_line, span_fault, span_loop, span_loops}
+use Rattle.shard_spans.specs.{clusters_from, clusters_in, loops_of, over_span, pass_line, span_fault, span_loop, span_loops}
 use Rattle.shard_spans.proofs.Shards.{shards_join_to_one_run}
 use Rattle.shard_spans.proofs.SpanFaults.{first_faulty_cluster_has_the_fault}
-use Rattle.result_text.specs.FilledLines.{passes_at}
-use Rattle.merged_text.specs.MergedPrints.{lines_of_result, loop_printed, merged_text, prints_text}
+use Rattle.result_text.specs.{passes_at}
+use Rattle.merged_text.specs.{lines_of_result, loop_printed, merged_text, prints_text}
 use Rattle.merged_text.specs.MergedPrints as merged
 use Rattle.merged_text.proofs.SamePasses.{lines_print_their_passes}
-use Rattle.shard_transcripts.specs.Laws.{MergedRunPrintsNoPartials, MergedRunPrintsTheTranscript, ShardsMergeToTheTranscript}
+use Rattle.shard_transcripts.specs.{MergedRunPrintsNoPartials, MergedRunPrintsTheTranscript, ShardsMergeToTheTranscript}
 use Rattle.shard_transcripts.proofs.NamedResults.{PrintsNoPartials, named_are, same_results, unnoted_print_none, unwatched_print_none}
 
 -- ---- the span of all clusters is the table

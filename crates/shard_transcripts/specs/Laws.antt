@@ -1,21 +1,11 @@
 -- Laws of shards and transcripts. Each is the contract of a function of this crate, and so proved.
 use Rattle.std.specs.Prelude.{◌≡◌, ◌≤◌, ◌<◌, ℕ, List, [], All, None, false, length, map}
-use Rattle.rdf_values.specs.Bookings.{Pass, is_watched}
-use Rattle.rdf_values.specs.Cuts.{Lead}
-use Rattle.rdf_values.specs.Path.{history}
-use Rattle.rdf_values.specs.declared.script.Script.{Script}
-use Rattle.rdf_values.specs.declared.span.Span.{Span}
-use Rattle.rdf_values.specs.declared.value.ColType.{ColType}
-use Rattle.rdf_model.specs.PartialResults.{Course}
-use Rattle.rdf_model.specs.Results.{Dataset}
-use Rattle.rdf_model.specs.Transcript.{transcript}
-use Rattle.graph_numbers.specs.Graphs.{IsGraph}
-use Rattle.graph_numbers.specs.Laws.{graph_of}
-use Rattle.shard_files.specs.Merging.{first_uncovered, shards_joined}
-use Rattle.shard_files.specs.Shards.{ShardView}
-use Rattle.shard_spans.specs.Laws.{pass_shapes}
-use Rattle.shard_spans.specs.Spans.{loops_of, span_loops, span_shard}
-use Rattle.merged_text.specs.MergedPrints.{merged_text}
+use Rattle.rdf_values.specs.{ColType, history, is_watched, Lead, Pass, Script, Span}
+use Rattle.rdf_model.specs.{Course, Dataset, transcript}
+use Rattle.graph_numbers.specs.{graph_of, IsGraph}
+use Rattle.shard_files.specs.{first_uncovered, shards_joined, ShardView}
+use Rattle.shard_spans.specs.{loops_of, pass_shapes, span_loops, span_shard}
+use Rattle.merged_text.specs.{merged_text}
 
 -- the script asks for no partial results
 abbrev pub IsUnwatched : Script → Type 0

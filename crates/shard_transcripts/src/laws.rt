@@ -1,5 +1,5 @@
 // Laws of shards and transcripts. Each function does nothing; its contract is the law, and its proof the law's.
-ghost use Rattle.shard_transcripts.specs.Laws.{MergedRunPrintsNoPartials, MergedRunPrintsTheTranscript, ShardsMergeToTheTranscript};
+ghost use Rattle.shard_transcripts.specs.{MergedRunPrintsNoPartials, MergedRunPrintsTheTranscript, ShardsMergeToTheTranscript};
 
 /// The loops of one run over all clusters print the transcript of separate passes.
 pub fn merged_run_prints_the_transcript()

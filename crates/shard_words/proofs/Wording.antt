@@ -1,8 +1,7 @@
 -- Words by their places.
 use Rattle.std.proofs.Common.{◌≡◌, ◌≤◌, ◌<◌, ◌+◌, ℕ, zero, suc, List, [], ◌∷◌, ◌++◌, HoldsAt, IfOk, Result, Ok, Err, Option, length, drop, refl, sym, ap, ap₂, ◌∙◌, arith, add-one, append-nil, append_assoc, drop-cons}
-use Rattle.command_words.specs.Asked.{number_of}
-use Rattle.shard_words.specs.Asked.{asked_for, asked_of, merge_of, merge_with, run_of, run_with}
-use Rattle.shard_words.specs.declared.command.ShardCommand.{ShardCommand}
+use Rattle.command_words.specs.{number_of}
+use Rattle.shard_words.specs.{asked_for, asked_of, merge_of, merge_with, run_of, run_with, ShardCommand}
 
 -- ---- names of files
 

@@ -1,6 +1,6 @@
 -- What the words ask for.
 use Rattle.std.specs.Prelude.{ℕ, ◌&&◌, List, [], ◌∷◌, Option, Some, None, if◌then◌else◌, codes, bytes_eq, length, nat_le, nat_lt}
-use Rattle.command_words.specs.Asked.{number_of}
+use Rattle.command_words.specs.{number_of}
 use Rattle.shard_words.specs.declared.command.ShardCommand.{ShardCommand}
 use Rattle.shard_words.specs.declared.command.ShardCommand.TheVariants.{Run, Merge}
 

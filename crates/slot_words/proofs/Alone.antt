@@ -1,17 +1,14 @@
 -- Pieces of single clusters.
-use Rattle.std.proofs.Common.{◌≡◌, ℕ, ◌≤◌, List, [], ◌∷◌, map, eqb, false, refl, sym, ap, ◌∙◌, subst, arith}
-use Rattle.std.specs.Prelude.{IsPermutation}
+use Rattle.std.proofs.Common.{◌≡◌, ℕ, ◌≤◌, List, [], ◌∷◌, map, eqb, false, refl, sym, ap, ◌∙◌, subst, arith, IsPermutation}
 use Rattle.std.specs.List.{AllByRecursion, IsDistinct, concat}
 use Rattle.std.specs.List.Sorted.{IsStrictlyIncreasing, IsNonDecreasing}
 use Rattle.std.proofs.lemmas.Grind.{common_steps}
 use Rattle.std.proofs.lemmas.List.Elements.{All-head, All-map, All-tail}
 use Rattle.std.proofs.lemmas.Map.Keys.{IsStrictlyIncreasing-from_distinct}
-use Rattle.merge_core.specs.declared.noted.Noted.{Noted}
-use Rattle.merge_core.specs.Pieces.{Stand}
-use Rattle.rdf_values.specs.Times.{times}
-use Rattle.rdf_values.specs.Draws.{IsUnion}
+use Rattle.merge_core.specs.{Noted, Stand}
+use Rattle.rdf_values.specs.{IsUnion, times}
 use Rattle.rdf_values.proofs.DrawCounts.{times_cons, times_self, times_permuted}
-use Rattle.slot_words.specs.Chosen.{cluster_in, piece_in, AreAlone, AreOf}
+use Rattle.slot_words.specs.{AreAlone, AreOf, cluster_in, piece_in}
 
 absent : (x : ℕ) (xs : List ℕ) → times x xs ≡ 0 → AllByRecursion (λ y. eqb x y ≡ false) xs
 absent x [] none = tt

@@ -1,18 +1,16 @@
 -- The sets after every so many clusters are a chain.
-use Rattle.std.proofs.Common.{◌≡◌, ℕ, zero, suc, ◌+◌, ◌-◌, ◌*◌, ◌/◌, ◌<◌, ◌≤◌, List, [], ◌∷◌, ◌++◌, length, map, Some, sym, ap, ◌∙◌, subst, arith, mul-le-mul_right}
-use Rattle.std.specs.Prelude.{slice_get, option_map, Contains}
+use Rattle.std.proofs.Common.{◌≡◌, ℕ, zero, suc, ◌+◌, ◌-◌, ◌*◌, ◌/◌, ◌<◌, ◌≤◌, List, [], ◌∷◌, ◌++◌, length, map, Some, sym, ap, ◌∙◌, subst, arith, mul-le-mul_right, slice_get, option_map, Contains}
 use Rattle.std.specs.List.{All}
 use Rattle.std.specs.List.Sorted.{IsStrictlyIncreasing}
 use Rattle.std.proofs.lemmas.List.{length-map, map-append}
 use Rattle.std.proofs.lemmas.Option.{slice_get-map, slice_get_within}
-use Rattle.lemmas.proofs.Answers.{same_some}
-use Rattle.rdf_values.specs.Cuts.{below}
+use Rattle.lemmas.proofs.{same_some}
+use Rattle.rdf_values.specs.{below}
 use Rattle.rdf_values.proofs.Below.{length-below, slice_get-below}
-use Rattle.rdf_model.specs.PartialResults.{IsChain}
+use Rattle.rdf_model.specs.{IsChain}
 use Rattle.rdf_model.specs.declared.loop_facts.LoopFacts.{LoopFacts}
-use Rattle.loop_pieces.specs.PartialLines.{ArePartialLines, IsPartialLine}
-use Rattle.loop_pieces.specs.declared.filled_result.PartialLine.{PartialLine}
-use Rattle.slot_words.specs.Chains.{AreNoted, set_before, chain_of}
+use Rattle.loop_pieces.specs.{ArePartialLines, IsPartialLine, PartialLine}
+use Rattle.slot_words.specs.{AreNoted, chain_of, set_before}
 use Rattle.slot_words.proofs.Noting.{set_rises, set_within, set_many, set_grows}
 
 -- a multiple that is counted is no greater than the number

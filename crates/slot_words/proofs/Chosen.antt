@@ -1,6 +1,5 @@
 -- The entries with a number between two bounds, and how many there are.
-use Rattle.std.proofs.Common.{◌≡◌, ℕ, zero, suc, ◌+◌, ◌≤◌, List, [], ◌∷◌, ◌++◌, length, map, min, Bool, true, false, not, cond, refl, sym, ap, ap₂, ◌∙◌, arith}
-use Rattle.std.specs.Prelude.{flat_map}
+use Rattle.std.proofs.Common.{◌≡◌, ℕ, zero, suc, ◌+◌, ◌≤◌, List, [], ◌∷◌, ◌++◌, length, map, min, Bool, true, false, not, cond, refl, sym, ap, ap₂, ◌∙◌, arith, flat_map}
 use Rattle.std.specs.List.{All, concat, count_by, filter, sum_by, zip}
 use Rattle.std.proofs.lemmas.Grind.{common_steps}
 use Rattle.std.proofs.lemmas.List.{length-map, map-append}
@@ -9,10 +8,9 @@ use Rattle.std.proofs.lemmas.List.Filters.{sum_by-filter_both}
 use Rattle.std.proofs.lemmas.List.Sorted.{sum_by-IsPermutation}
 use Rattle.std.proofs.lemmas.List.Sums.{length-filter, sum_by-cons, sum_by_push}
 use Rattle.std.proofs.lemmas.Slice.Zip.{firsts-zip, seconds-zip}
-use Rattle.rdf_values.specs.Cuts.{below}
+use Rattle.rdf_values.specs.{below}
 use Rattle.rdf_values.proofs.DrawCounts.{one_if, sum_by-map}
-use Rattle.slot_words.specs.Chosen.{HaveNumbers, added, chosen, cluster_in, is_between, kept, numbered}
-use Rattle.slot_words.specs.NotingLaws.{AsManyAsTheBound, HigherBoundKeeps}
+use Rattle.slot_words.specs.{added, AsManyAsTheBound, chosen, cluster_in, HaveNumbers, HigherBoundKeeps, is_between, kept, numbered}
 
 -- how many numbers are less than the bound
 abbrev less_in : ℕ → List ℕ → ℕ

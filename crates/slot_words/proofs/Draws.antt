@@ -1,16 +1,15 @@
 -- Each step keeps what the rule says of the claim word.
-use Rattle.std.proofs.Common.{◌≡◌, ℕ, ◌+◌, ◌^◌, ◌<◌, ◌≤◌, min, List, [], ◌∷◌, ◌++◌, map, get_or, ltb, Option, None, Some, IfSome, ap, ◌∙◌, subst, arith}
-use Rattle.std.specs.Prelude.{IsPermutation}
+use Rattle.std.proofs.Common.{◌≡◌, ℕ, ◌+◌, ◌^◌, ◌<◌, ◌≤◌, min, List, [], ◌∷◌, ◌++◌, map, get_or, ltb, Option, None, Some, IfSome, ap, ◌∙◌, subst, arith, IsPermutation}
 use Rattle.std.specs.List.{All}
 use Rattle.std.specs.List.Sorted.{IsStrictlyIncreasing}
 use Rattle.std.proofs.lemmas.Bool.{cond_both, ltb-true, ltb-false}
 use Rattle.std.proofs.lemmas.List.Elements.{All-cons, All-head, All-tail, All-weaker}
 use Rattle.std.proofs.lemmas.List.Sorted.{All-permutation, length_permutation, sum_by-IsPermutation}
 use Rattle.std.proofs.lemmas.List.Sums.{sum_by-cons, sum_by-le}
-use Rattle.rdf_values.specs.Draws.{DrawnBy}
+use Rattle.rdf_values.specs.{DrawnBy}
 use Rattle.slot_words.specs.declared.hand.ClaimHand.{ClaimHand}
-use Rattle.slot_words.specs.Seats.{draw, kept_count}
-use Rattle.slot_words.specs.Claiming.{IsHand, IsClaimed}
+use Rattle.slot_words.specs.{IsClaimed, IsHand, kept_count}
+use Rattle.slot_words.specs.Seats.{draw}
 use Rattle.slot_words.proofs.Hands.{first_rises, next_rises, next_drawn, shared_again}
 
 abbrev pub drawn_by : ClaimHand → List ℕ

@@ -1,26 +1,21 @@
 -- The hands of views of which one has changed, that were dealt out, and that were taken in; and the numbers that hands share out.
-use Rattle.std.proofs.Common.{◌≡◌, ◌≢◌, ℕ, zero, suc, ◌+◌, List, [], ◌∷◌, ◌++◌, length, set, map, get_or, replicate, sym, ap, ◌∙◌, subst, arith, append_assoc, append-nil, length-append}
-use Rattle.std.specs.Prelude.{IsPermutation}
+use Rattle.std.proofs.Common.{◌≡◌, ◌≢◌, ℕ, zero, suc, ◌+◌, List, [], ◌∷◌, ◌++◌, length, set, map, get_or, replicate, sym, ap, ◌∙◌, subst, arith, append_assoc, append-nil, length-append, IsPermutation}
 use Rattle.std.specs.List.{concat, range_with_len}
 use Rattle.std.specs.List.Sorted.{IsStrictlyIncreasing}
 use Rattle.std.proofs.lemmas.List.{map-append, nil_from_length, set_comm}
 use Rattle.std.proofs.lemmas.List.Concat.{concat_is, flat_map-append, length-flat_map}
 use Rattle.std.proofs.lemmas.List.Elements.{All-nil, All-cons, All-head, All-tail}
 use Rattle.std.proofs.lemmas.List.FromFn.{map-range_with_len_more}
-use Rattle.std.proofs.lemmas.List.Sorted.{IsPermutation-append_comm, IsPermutation-append_left, IsPermutation-append_right, IsPermutation-cons, IsPermutation-map, IsPermutation-refl, IsPermutation-sym, IsPermutation-to_front, IsPermutation-trans}
-use Rattle.std.proofs.lemmas.List.Sorted.{All-permutation, length_permutation, sum_by-IsPermutation}
+use Rattle.std.proofs.lemmas.List.Sorted.{IsPermutation-append_comm, IsPermutation-append_left, IsPermutation-append_right, IsPermutation-cons, IsPermutation-map, IsPermutation-refl, IsPermutation-sym, IsPermutation-to_front, IsPermutation-trans, All-permutation, length_permutation, sum_by-IsPermutation}
 use Rattle.std.proofs.lemmas.List.Sums.{sum_by-cons}
 use mathlib.Core.Option.{some, some-injective, some-ne-none}
 use lib.ListN.{get_elem?}
 use Rattle.atomic_table.proofs.Lists.{set_else}
-use Rattle.rdf_values.specs.Cuts.{below}
-use Rattle.rdf_values.specs.Draws.{DrawnBy}
-use Rattle.rdf_values.specs.Times.{times}
+use Rattle.rdf_values.specs.{below, DrawnBy, times}
 use Rattle.rdf_values.proofs.Below.{length-below}
 use Rattle.rdf_values.proofs.DrawCounts.{counts_by_drawn, drawn_by_counts, inside_once, once_next, rises_push, times_push}
 use Rattle.rdf_values.proofs.UnionLemmas.{none_rises}
-use Rattle.slot_words.specs.Hands.{hands_in}
-use Rattle.slot_words.specs.Shares.{many_in}
+use Rattle.slot_words.specs.{hands_in, many_in}
 use Rattle.slot_words.proofs.Places.{stands_there}
 
 module _ {H : Type 0} where

@@ -1,6 +1,5 @@
 -- Runs and further numbers, put together from the greatest on.
-use Rattle.std.proofs.Common.{◌≡◌, ℕ, zero, suc, ◌+◌, ◌-◌, ◌<◌, ◌≤◌, List, [], ◌∷◌, ◌++◌, length, map, take, get_or, Bool, true, false, cond, Some, refl, sym, ap, ◌∙◌, subst, ⊎_elim, arith, append_assoc, append-nil, length-append}
-use Rattle.std.specs.Prelude.{reverse, nat_eq, option_map, slice_get}
+use Rattle.std.proofs.Common.{◌≡◌, ℕ, zero, suc, ◌+◌, ◌-◌, ◌<◌, ◌≤◌, List, [], ◌∷◌, ◌++◌, length, map, take, get_or, Bool, true, false, cond, Some, refl, sym, ap, ◌∙◌, subst, ⊎_elim, arith, append_assoc, append-nil, length-append, reverse, nat_eq, option_map, slice_get}
 use Rattle.std.specs.List.{range_with_len}
 use Rattle.std.specs.List.Sorted.{IsStrictlyIncreasing}
 use Rattle.std.proofs.Math.Seq.{take-suc, get_or-append_right}
@@ -9,17 +8,14 @@ use Rattle.std.proofs.lemmas.Grind.{common_steps}
 use Rattle.std.proofs.lemmas.List.{length-map}
 use Rattle.std.proofs.lemmas.List.FromFn.{get_or-range_with_len, length-range_with_len}
 use Rattle.std.proofs.lemmas.Option.{slice_get-get_or, slice_get-map}
-use Rattle.lemmas.proofs.Orders.{eq_itself}
-use Rattle.lemmas.proofs.Parts.{take_all}
-use Rattle.rdf_values.specs.Draws.{IsUnion}
-use Rattle.rdf_values.specs.Times.{times}
-use Rattle.rdf_values.specs.declared.span.Span.{Span}
+use Rattle.lemmas.proofs.{eq_itself, take_all}
+use Rattle.rdf_values.specs.{IsUnion, Span, times}
 use Rattle.rdf_values.proofs.DrawCounts.{times_append, times_self}
 use Rattle.rdf_values.proofs.UnionLemmas.{rises_from, once_rising, same_rising, counted, two, first_rises, rest_rise}
-use Rattle.rdf_model.specs.PartialResults.{Run, in_front, maximal_runs}
+use Rattle.rdf_model.specs.{in_front, maximal_runs, Run}
 use Rattle.slot_words.proofs.Places.{stands_there}
-use Rattle.loop_pieces.specs.PartialLines.{span_of}
-use Rattle.slot_words.specs.Runs.{run_in_front}
+use Rattle.loop_pieces.specs.{span_of}
+use Rattle.slot_words.specs.{run_in_front}
 
 -- ---- the numbers of runs
 

@@ -1,17 +1,16 @@
 -- A noting keeps the rule of the book's word.
-use Rattle.std.proofs.Common.{◌≡◌, ℕ, map, ◌+◌, ◌*◌, ◌%◌, ◌^◌, ◌<◌, ◌≤◌, List, [], ◌∷◌, ◌++◌, length, refl, sym, ap, ◌∙◌, subst, arith, length-append, append-nil, mul-le-mul_right}
-use Rattle.std.specs.Prelude.{IsPermutation}
+use Rattle.std.proofs.Common.{◌≡◌, ℕ, map, ◌+◌, ◌*◌, ◌%◌, ◌^◌, ◌<◌, ◌≤◌, List, [], ◌∷◌, ◌++◌, length, refl, sym, ap, ◌∙◌, subst, arith, length-append, append-nil, mul-le-mul_right, IsPermutation}
 use Rattle.std.proofs.lemmas.List.{length-replicate}
 use Rattle.std.proofs.lemmas.List.Elements.{All-cons, All-replicate, All-tail}
 use Rattle.std.proofs.lemmas.List.Sorted.{All-permutation, length_permutation}
 use Rattle.std.proofs.lemmas.List.Sums.{sum_by-le}
 use mathlib.Core.Option.{none}
 use Rattle.atomic_table.specs.Table.{Me, step, Final, Seen, Allows}
-use Rattle.rdf_values.specs.Draws.{DrawnBy}
+use Rattle.rdf_values.specs.{DrawnBy}
 use Rattle.rdf_values.proofs.DrawCounts.{sum_by-map}
 use Rattle.slot_words.specs.declared.hand.NoteHand.{NoteHand}
-use Rattle.slot_words.specs.Shares.{hand_with, many_in}
-use Rattle.slot_words.specs.Noting.{IsNoted, AreNotings, Noted, Drew, draw, opening_hands}
+use Rattle.slot_words.specs.{AreNotings, hand_with, IsNoted, many_in, Noted}
+use Rattle.slot_words.specs.Noting.{Drew, draw, opening_hands}
 use Rattle.slot_words.proofs.Hands.{all_in_one, many_drawn, next_drawn, next_rises, none_shared, shared_again}
 use Rattle.slot_words.proofs.Tokens.{Keeps, bump, steps}
 

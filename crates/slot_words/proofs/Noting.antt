@@ -1,6 +1,5 @@
 -- The clusters that were noted first.
-use Rattle.std.proofs.Common.{◌≡◌, ℕ, suc, ◌+◌, ◌<◌, ◌≤◌, List, [], ◌∷◌, length, map, get_or, Bool, cond, refl, sym, ap, ap₂, ◌∙◌, arith}
-use Rattle.std.specs.Prelude.{nat_lt, IsPermutation, Contains}
+use Rattle.std.proofs.Common.{◌≡◌, ℕ, suc, ◌+◌, ◌<◌, ◌≤◌, List, [], ◌∷◌, length, map, get_or, Bool, cond, refl, sym, ap, ap₂, ◌∙◌, arith, nat_lt, IsPermutation, Contains}
 use Rattle.std.specs.List.{concat, All as Every}
 use Rattle.std.specs.List.Sorted.{IsStrictlyIncreasing}
 use Rattle.std.proofs.lemmas.Grind.{common_steps}
@@ -10,19 +9,13 @@ use Rattle.std.proofs.lemmas.List.Elements.{All-filter}
 use Rattle.std.proofs.lemmas.List.Kept.{IsStrictlyIncreasing-filter}
 use Rattle.std.proofs.lemmas.List.Sorted.{length_permutation}
 use Rattle.std.proofs.lemmas.Option.{slice_get-get_or}
-use Rattle.rdf_values.specs.Cuts.{below}
-use Rattle.rdf_values.specs.Draws.{IsUnion}
-use Rattle.rdf_values.specs.Times.{times, once_below}
+use Rattle.rdf_values.specs.{below, IsUnion, once_below, times}
 use Rattle.rdf_values.proofs.DrawCounts.{one_if, times_below, times_contains, times_permuted, permuted_by_counts, inside_once}
 use Rattle.rdf_values.proofs.UnionLemmas.{below_rises, all_below, times_filter, rises_from, same_rising, by_counts, both_rise, two}
 use Rattle.rdf_model.specs.declared.loop_facts.LoopFacts.{LoopFacts}
-use Rattle.merge_core.specs.declared.noted.Noted.{Noted}
-use Rattle.loop_pieces.specs.Trails.{watch_facts}
-use Rattle.loop_pieces.specs.Watching.{WatchStandsFor}
-use Rattle.loop_pieces.specs.declared.watch_piece.WatchPiece.{WatchPiece}
-use Rattle.slot_words.specs.Chains.{AreNoted, noted_before, set_before}
-use Rattle.slot_words.specs.Chosen.{HaveNumbers, AreAlone, added, cluster_in, numbered}
-use Rattle.slot_words.specs.Trails.{AreTrails, WatchedPlace}
+use Rattle.merge_core.specs.{Noted}
+use Rattle.loop_pieces.specs.{watch_facts, WatchPiece, WatchStandsFor}
+use Rattle.slot_words.specs.{added, AreAlone, AreNoted, AreTrails, cluster_in, HaveNumbers, noted_before, numbered, set_before, WatchedPlace}
 use Rattle.slot_words.proofs.Chosen.{added_mapped, all_added, as_many_as_the_bound, kept_among, length_added, lengths_mapped, sum_kept}
 use Rattle.slot_words.proofs.Places.{stands_there}
 

@@ -1,7 +1,6 @@
 -- What stands at the places of lists.
-use Rattle.std.proofs.Common.{◌≡◌, ℕ, zero, suc, ◌<◌, List, [], ◌∷◌, length, get_or, refl, ap, arith}
-use Rattle.std.specs.Prelude.{slice_get, slice_set}
-use Rattle.rdf_values.specs.Times.{times}
+use Rattle.std.proofs.Common.{◌≡◌, ℕ, zero, suc, ◌<◌, List, [], ◌∷◌, length, get_or, refl, ap, arith, slice_get, slice_set}
+use Rattle.rdf_values.specs.{times}
 use Rattle.rdf_values.proofs.DrawCounts.{times_cons, times_self}
 
 -- another place keeps its item

@@ -4,8 +4,7 @@ use Rattle.std.specs.List.{All, range_with_len}
 use Rattle.std.proofs.lemmas.List.{length-map}
 use Rattle.std.proofs.lemmas.List.Elements.{All-map}
 use Rattle.std.proofs.lemmas.List.FromFn.{length-range_with_len}
-use Rattle.slot_words.specs.SeatEnds.{IsReady}
-use Rattle.slot_words.specs.Seats.{ClaimsSeen, SeatSeen, fresh_seat, fresh_seats}
+use Rattle.slot_words.specs.{ClaimsSeen, fresh_seat, fresh_seats, IsReady, SeatSeen}
 
 pub seats_many : (c : ClaimsSeen) (n : ℕ) (seats : List SeatSeen) → seats ≡ fresh_seats c n → length seats ≡ n
 seats_many c n seats is = ap length is ∙ length-map (range_with_len 0 n) (fresh_seat c) ∙ length-range_with_len 0 n

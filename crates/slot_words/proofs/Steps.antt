@@ -1,6 +1,5 @@
 -- Each step at the table keeps the rule.
-use Rattle.std.proofs.Common.{◌≡◌, ℕ, zero, suc, ◌+◌, ◌%◌, ◌^◌, ◌<◌, ◌≤◌, min, List, [], ◌∷◌, ◌++◌, length, map, None, Some, refl, sym, ap, ◌∙◌, subst, arith, length-append, append-nil, add-one, ltb}
-use Rattle.std.specs.Prelude.{IsPermutation, slice_index}
+use Rattle.std.proofs.Common.{◌≡◌, ℕ, zero, suc, ◌+◌, ◌%◌, ◌^◌, ◌<◌, ◌≤◌, min, List, [], ◌∷◌, ◌++◌, length, map, None, Some, refl, sym, ap, ◌∙◌, subst, arith, length-append, append-nil, add-one, ltb, IsPermutation, slice_index}
 use Rattle.std.specs.List.Sorted.{IsStrictlyIncreasing}
 use Rattle.std.proofs.lemmas.Bool.{lt-ltb, cond-true}
 use Rattle.std.proofs.lemmas.Grind.{common_steps}
@@ -10,10 +9,11 @@ use Rattle.std.proofs.lemmas.List.Sums.{sum_by-le}
 use mathlib.Core.Option.{some, none, some-injective}
 use lib.ListN.{get_elem?}
 use Rattle.atomic_table.specs.Table.{Me, step, Final, Seen, Allows}
-use Rattle.rdf_values.specs.Draws.{DrawnBy}
+use Rattle.rdf_values.specs.{DrawnBy}
 use Rattle.slot_words.specs.declared.hand.ClaimHand.{ClaimHand}
-use Rattle.slot_words.specs.Seats.{empty_hand, kept_count, hand_of, draw, look, lower}
-use Rattle.slot_words.specs.Claiming.{IsClaimed, IsBarred, IsHand, IsOver, opening_hands, AreClaimed, Claimed, Drew, Looked, Lowered}
+use Rattle.slot_words.specs.{AreClaimed, Claimed, empty_hand, hand_of, IsBarred, IsClaimed, IsHand, IsOver, kept_count, look, Looked, lower, Lowered}
+use Rattle.slot_words.specs.Seats.{draw}
+use Rattle.slot_words.specs.Claiming.{opening_hands, Drew}
 use Rattle.slot_words.proofs.Hands.{all_in_one, none_shared}
 use Rattle.slot_words.proofs.Tokens.{Keeps, bump, steps}
 use Rattle.slot_words.proofs.Draws.{drawn_by, drawn_hand, drawn_rises, same_claimed, drawn_keeps, word_fits, claimed_again}

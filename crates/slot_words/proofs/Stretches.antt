@@ -1,6 +1,5 @@
 -- The entries whose number is between two bounds, trail by trail.
-use Rattle.std.proofs.Common.{◌≡◌, ℕ, zero, suc, ◌+◌, ◌-◌, ◌<◌, ◌≤◌, List, [], ◌∷◌, ◌++◌, length, map, drop, take, get_or, true, false, Some, refl, sym, ap, ap₂, ◌∙◌, subst, ⊎_elim, arith, append_assoc, append-nil, drop-cons}
-use Rattle.std.specs.Prelude.{nat_lt, slice_get, option_map}
+use Rattle.std.proofs.Common.{◌≡◌, ℕ, zero, suc, ◌+◌, ◌-◌, ◌<◌, ◌≤◌, List, [], ◌∷◌, ◌++◌, length, map, drop, take, get_or, true, false, Some, refl, sym, ap, ap₂, ◌∙◌, subst, ⊎_elim, arith, append_assoc, append-nil, drop-cons, nat_lt, slice_get, option_map}
 use Rattle.std.specs.List.{zip}
 use Rattle.std.specs.List.Sorted.{IsNonDecreasingBy, IsPartitionPoint, IsStrictlyIncreasing}
 use Rattle.std.proofs.Math.Seq.{take-suc}
@@ -9,10 +8,9 @@ use Rattle.std.proofs.lemmas.Grind.{common_steps}
 use Rattle.std.proofs.lemmas.List.{length-map, map-append}
 use Rattle.std.proofs.lemmas.List.Kept.{AllPairs-from_increasing}
 use Rattle.std.proofs.lemmas.Option.{get_or_from_slice_get, slice_get-map, slice_get_within}
-use Rattle.lemmas.proofs.Answers.{same_some}
-use Rattle.lemmas.proofs.Parts.{none_left}
-use Rattle.merge_core.specs.declared.noted.Noted.{Noted}
-use Rattle.slot_words.specs.Chosen.{AreOf, HaveNumbers, added, added_in, cluster_in, is_between, kept, piece_in}
+use Rattle.lemmas.proofs.{none_left, same_some}
+use Rattle.merge_core.specs.{Noted}
+use Rattle.slot_words.specs.{added, added_in, AreOf, cluster_in, HaveNumbers, is_between, kept, piece_in}
 use Rattle.slot_words.proofs.Chosen.{kept_both}
 
 -- ---- one trail

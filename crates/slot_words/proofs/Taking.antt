@@ -1,14 +1,11 @@
 -- Trails that are taken out of pieces, one piece after another.
-use Rattle.std.proofs.Common.{◌≡◌, ℕ, ◌+◌, ◌<◌, ◌≤◌, List, [], ◌∷◌, ◌++◌, length, Some, sym, ap, ◌∙◌, subst, ⊎_elim, arith, length-append}
-use Rattle.std.specs.Prelude.{slice_get, slice_set}
+use Rattle.std.proofs.Common.{◌≡◌, ℕ, ◌+◌, ◌<◌, ◌≤◌, List, [], ◌∷◌, ◌++◌, length, Some, sym, ap, ◌∙◌, subst, ⊎_elim, arith, length-append, slice_get, slice_set}
 use Rattle.std.proofs.lemmas.Option.{slice_get_within}
 use Rattle.std.proofs.lemmas.Bool.{cases_lt}
-use Rattle.lemmas.proofs.Answers.{same_some}
-use Rattle.lemmas.proofs.Places.{before_or_last, set_at, set_length}
-use Rattle.merge_core.specs.declared.noted.Noted.{Noted}
-use Rattle.loop_pieces.specs.declared.loop_piece.LoopPiece.{LoopPiece}
-use Rattle.loop_pieces.specs.declared.watch_piece.WatchPiece.{WatchPiece}
-use Rattle.slot_words.specs.Trails.{AreTaken, AreLeft, HasSameBody}
+use Rattle.lemmas.proofs.{before_or_last, same_some, set_at, set_length}
+use Rattle.merge_core.specs.{Noted}
+use Rattle.loop_pieces.specs.{LoopPiece, WatchPiece}
+use Rattle.slot_words.specs.{AreLeft, AreTaken, HasSameBody}
 use Rattle.slot_words.proofs.Places.{set_other}
 
 abbrev pub TrailOf : Type 0

@@ -1,20 +1,14 @@
 -- The watched results whose trails are taken out of the pieces, one result after another.
-use Rattle.std.proofs.Common.{◌≡◌, ℕ, ◌+◌, ◌<◌, ◌≤◌, List, [], ◌∷◌, ◌++◌, length, get_or, Some, sym, ap, ◌∙◌, subst, ⊎_elim, arith, length-append}
-use Rattle.std.specs.Prelude.{slice_get}
+use Rattle.std.proofs.Common.{◌≡◌, ℕ, ◌+◌, ◌<◌, ◌≤◌, List, [], ◌∷◌, ◌++◌, length, get_or, Some, sym, ap, ◌∙◌, subst, ⊎_elim, arith, length-append, slice_get}
 use Rattle.std.specs.List.{All}
 use Rattle.std.proofs.lemmas.Option.{slice_get-get_or, slice_get_within}
-use Rattle.lemmas.proofs.Answers.{same_some}
-use Rattle.lemmas.proofs.Places.{before_or_last, set_length, something_at}
-use Rattle.rdf_values.specs.Cuts.{stride}
-use Rattle.rdf_model.specs.PartialResults.{IsChain}
+use Rattle.lemmas.proofs.{before_or_last, same_some, set_length, something_at}
+use Rattle.rdf_values.specs.{stride}
+use Rattle.rdf_model.specs.{IsChain}
 use Rattle.rdf_model.specs.declared.loop_facts.LoopFacts.{LoopFacts}
-use Rattle.merge_core.specs.declared.noted.Noted.{Noted}
-use Rattle.loop_pieces.specs.PartialLines.{ArePartialLines}
-use Rattle.loop_pieces.specs.declared.filled_result.PartialLine.{PartialLine}
-use Rattle.loop_pieces.specs.declared.loop_piece.LoopPiece.{LoopPiece}
-use Rattle.loop_pieces.specs.declared.watch_piece.WatchPiece.{WatchPiece}
-use Rattle.slot_words.specs.Chains.{AreNoted, HavePartialsOver, chain_of, noted_sets}
-use Rattle.slot_words.specs.Trails.{AreTrails, HaveAllTrails, AreTaken, AreLeft, HaveSameBodies}
+use Rattle.merge_core.specs.{Noted}
+use Rattle.loop_pieces.specs.{ArePartialLines, LoopPiece, PartialLine, WatchPiece}
+use Rattle.slot_words.specs.{AreLeft, AreNoted, AreTaken, AreTrails, chain_of, HaveAllTrails, HavePartialsOver, HaveSameBodies, noted_sets}
 use Rattle.slot_words.proofs.Chaining.{is_chain}
 use Rattle.slot_words.proofs.Places.{set_other}
 

@@ -1,12 +1,9 @@
 -- The sets of clusters over which partial results come.
 use Rattle.std.specs.Prelude.{◌≡◌, ◌+◌, ◌*◌, ◌/◌, ◌<◌, ◌≤◌, ℕ, List, length, map, nat_lt}
 use Rattle.std.specs.List.{filter}
-use Rattle.rdf_values.specs.Cuts.{below, stride}
-use Rattle.rdf_values.specs.Draws.{DrawnBy, IsUnion}
-use Rattle.rdf_values.specs.Times.{times}
+use Rattle.rdf_values.specs.{below, DrawnBy, IsUnion, stride, times}
 use Rattle.rdf_model.specs.declared.loop_facts.LoopFacts.{LoopFacts}
-use Rattle.loop_pieces.specs.PartialLines.{HavePartials}
-use Rattle.loop_pieces.specs.declared.filled_result.PartialLine.{PartialLine}
+use Rattle.loop_pieces.specs.{HavePartials, PartialLine}
 use Rattle.slot_words.specs.Chosen.{chosen}
 
 -- the clusters with a number less than a bound, where the slots finished these and drew those numbers for them

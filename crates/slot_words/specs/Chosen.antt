@@ -1,7 +1,7 @@
 -- The entries of trails by their numbers.
 use Rattle.std.specs.Prelude.{◌≡◌, ℕ, List, [], ◌∷◌, ◌++◌, ◌&&◌, length, map, Bool, nat_le, nat_lt}
 use Rattle.std.specs.List.{All, filter, zip}
-use Rattle.merge_core.specs.declared.noted.Noted.{Noted}
+use Rattle.merge_core.specs.{Noted}
 
 -- the cluster of an entry
 abbrev pub cluster_in : {P : Type 0} → Noted P → ℕ

@@ -1,8 +1,7 @@
 -- Laws of the entries with a number less than a bound.
 use Rattle.std.specs.Prelude.{◌≡◌, ◌≤◌, ℕ, List, length, map}
-use Rattle.rdf_values.specs.Draws.{DrawnBy}
-use Rattle.rdf_values.specs.Times.{times}
-use Rattle.merge_core.specs.declared.noted.Noted.{Noted}
+use Rattle.rdf_values.specs.{DrawnBy, times}
+use Rattle.merge_core.specs.{Noted}
 use Rattle.slot_words.specs.Chosen.{HaveNumbers, chosen, cluster_in}
 
 -- where the numbers below m were drawn, as many entries have a number less than a bound as the bound says

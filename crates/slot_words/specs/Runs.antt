@@ -1,6 +1,6 @@
 -- Runs of rising numbers.
 use Rattle.std.specs.Prelude.{◌+◌, List, [], ◌∷◌, if◌then◌else◌, nat_eq}
-use Rattle.rdf_model.specs.PartialResults.{Run}
+use Rattle.rdf_model.specs.{Run}
 
 -- a run in front of the runs above it: it joins the first of them where that follows it
 abbrev pub run_in_front : Run → List Run → List Run

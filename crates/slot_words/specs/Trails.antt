@@ -1,10 +1,8 @@
 -- Trails of one watched result, and of all.
 use Rattle.std.specs.Prelude.{◌≡◌, ℕ, List, [], Some, length, slice_get, slice_set}
 use Rattle.rdf_model.specs.declared.loop_facts.LoopFacts.{LoopFacts}
-use Rattle.merge_core.specs.declared.noted.Noted.{Noted}
-use Rattle.loop_pieces.specs.Trails.{HaveTrails, IsTrail}
-use Rattle.loop_pieces.specs.declared.loop_piece.LoopPiece.{LoopPiece}
-use Rattle.loop_pieces.specs.declared.watch_piece.WatchPiece.{WatchPiece}
+use Rattle.merge_core.specs.{Noted}
+use Rattle.loop_pieces.specs.{HaveTrails, IsTrail, LoopPiece, WatchPiece}
 use Rattle.slot_words.specs.Chains.{AreNoted}
 
 -- the trails of one watched place, slot by slot, over the clusters that the slots finished

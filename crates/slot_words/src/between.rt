@@ -2,8 +2,8 @@
 ghost use Rattle.std.specs.Prelude.{◌≡◌, ◌≤◌, ◌<◌, ◌++◌, ℕ, List, IfOk, IsPermutation, length, map};
 ghost use Rattle.std.specs.List.{All};
 ghost use Rattle.std.specs.List.Sorted.{IsStrictlyIncreasing};
-ghost use Rattle.rdf_values.specs.Times.{times};
-ghost use Rattle.slot_words.specs.Chosen.{AreAlone, HaveNumbers, added, added_in, cluster_in, piece_in};
+ghost use Rattle.rdf_values.specs.{times};
+ghost use Rattle.slot_words.specs.{added, added_in, AreAlone, cluster_in, HaveNumbers, piece_in};
 
 use crate::orders::Orders;
 use merge_core::{Noted, Piece, TrailList, merge_all};

@@ -2,7 +2,7 @@
 ghost use Rattle.std.specs.Prelude.{◌≡◌, ℕ, ◌<◌, ◌≤◌, [], ◌∷◌, List, map, reverse, length, IfOk, OnOk};
 ghost use Rattle.std.specs.List.{All};
 ghost use Rattle.std.specs.List.Sorted.{IsStrictlyIncreasing};
-ghost use Rattle.rdf_values.specs.Draws.{DrawnBy};
+ghost use Rattle.rdf_values.specs.{DrawnBy};
 ghost use Rattle.slot_words.specs.Shares.{IsOf, fresh_shares, hand_with, with_number, many_in};
 
 use crate::hand::NoteHands;

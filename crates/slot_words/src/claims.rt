@@ -3,7 +3,7 @@ ghost use Rattle.std.specs.Prelude.{◌≡◌, ℕ, ◌<◌, ◌≤◌, ◌++◌
 ghost use Rattle.std.specs.Option.{IsSomeAnd};
 ghost use Rattle.std.specs.List.{All};
 ghost use Rattle.std.specs.List.Sorted.{IsStrictlyIncreasing};
-ghost use Rattle.rdf_values.specs.Draws.{DrawnBy};
+ghost use Rattle.rdf_values.specs.{DrawnBy};
 ghost use Rattle.slot_words.specs.Seats.{IsOf, fresh_seats, last_of, with_lowered, IsPast, IsPassedOver, IsCounted, IsLeast, IsPassed};
 
 use crate::drawn::Drawn;

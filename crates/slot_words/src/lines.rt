@@ -1,9 +1,8 @@
 // The partial results of watched results.
 ghost use Rattle.std.specs.Prelude.{◌≡◌, ◌<◌, ◌≤◌, ℕ, List, IfOk, OnOk, length};
 ghost use Rattle.rdf_model.specs.declared.loop_facts.LoopFacts.{LoopFacts};
-ghost use Rattle.loop_pieces.specs.PartialLines.{ArePartialLines, IsPartialLine};
-ghost use Rattle.slot_words.specs.Chains.{AreNoted, HavePartialsOver, IsBound, chain_of, noted_sets, set_before};
-ghost use Rattle.slot_words.specs.Trails.{HaveAllTrails, HaveSameBodies, WatchedPlace};
+ghost use Rattle.loop_pieces.specs.{ArePartialLines, IsPartialLine};
+ghost use Rattle.slot_words.specs.{AreNoted, chain_of, HaveAllTrails, HavePartialsOver, HaveSameBodies, IsBound, noted_sets, set_before, WatchedPlace};
 
 use crate::between::partial_between;
 use crate::interval::stride;

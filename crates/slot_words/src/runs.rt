@@ -1,10 +1,9 @@
 // The maximal runs of rising numbers.
 ghost use Rattle.std.specs.Prelude.{◌≡◌, ◌+◌, ◌-◌, ◌<◌, ◌≤◌, ℕ, All, IfOk, IsTrue, List, OnOk, [], ◌∷◌, false, length, map, reverse, slice_get, slice_index};
-ghost use Rattle.rdf_values.specs.Draws.{IsUnion};
-ghost use Rattle.rdf_values.specs.declared.span.Span.{Span};
-ghost use Rattle.rdf_model.specs.PartialResults.{Run, maximal_runs};
-ghost use Rattle.loop_pieces.specs.PartialLines.{span_of};
-ghost use Rattle.slot_words.specs.Runs.{run_in_front};
+ghost use Rattle.rdf_values.specs.{IsUnion, Span};
+ghost use Rattle.rdf_model.specs.{maximal_runs, Run};
+ghost use Rattle.loop_pieces.specs.{span_of};
+ghost use Rattle.slot_words.specs.{run_in_front};
 
 use rdf_values::{ListOf, Memory, Span};
 use std::alloc::Global;

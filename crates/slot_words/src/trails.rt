@@ -1,6 +1,6 @@
 // The trails of one watched result.
 ghost use Rattle.std.specs.Prelude.{◌<◌, All, IfOk, OnOk, length};
-ghost use Rattle.slot_words.specs.Trails.{AreLeft, AreTaken};
+ghost use Rattle.slot_words.specs.{AreLeft, AreTaken};
 
 use loop_pieces::{LoopPiece, WatchPiece};
 use merge_core::TrailList;

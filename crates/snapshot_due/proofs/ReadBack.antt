@@ -1,41 +1,21 @@
 -- That a text that is due as done reads back.
-use Rattle.std.proofs.Common.{◌≡◌, ◌≤◌, ℕ, Bool, true, false, List, [], length, nat_lt, Option, None, Some, Result, Ok, Err, inl, inr, refl, sym, ap, subst, arith}
+use Rattle.std.proofs.Common.{◌≡◌, ◌≤◌, ℕ, Bool, true, false, List, [], length, nat_lt, Option, None, Some, Result, Ok, Err, inl, inr, refl, sym, ap, subst, arith, MatchOption, MatchResult}
 use Rattle.std.specs.Bool.{MatchBool}
-use Rattle.std.specs.Prelude.{MatchOption, MatchResult}
 use Rattle.std.proofs.lemmas.Bool.Decides.{nat_tests}
-use Rattle.rdf_values.specs.Functions.{Function, fn_names}
-use Rattle.rdf_values.specs.RefusalLines.{graph_cause_line, long_script_line, long_table_line, table_cause_line}
-use Rattle.rdf_values.specs.Scripts.{IsScript}
-use Rattle.rdf_values.specs.TableText.{MarkedTable, table_of}
-use Rattle.rdf_values.specs.Tables.{IsTable, TableView}
-use Rattle.rdf_values.specs.Verdict.{verdict}
-use Rattle.rdf_values.specs.Words.{AnswerIn64Bits}
-use Rattle.rdf_values.specs.declared.column.Column.{Column}
-use Rattle.rdf_values.specs.declared.graph_cause.GraphCause.{GraphCause}
-use Rattle.rdf_values.specs.declared.script.Script.{Script}
-use Rattle.rdf_values.specs.declared.table_cause.TableCause.{TableCause}
+use Rattle.rdf_values.specs.{AnswerIn64Bits, Column, fn_names, Function, graph_cause_line, GraphCause, IsScript, IsTable, long_script_line, long_table_line, MarkedTable, Script, table_cause_line, table_of, TableCause, TableView, verdict}
 use Rattle.rdf_values.proofs.Literals.{scripts_have_words}
 use Rattle.rdf_values.proofs.ShortLists.{scripts_are_bookable}
-use Rattle.rdf_model.specs.Results.{Dataset}
-use Rattle.table_csv.specs.Csv.{csv_records}
-use Rattle.input_files.specs.Answers.{Files}
-use Rattle.input_files.specs.Due.{ReadsScript, WithScriptFile, WithTableFile, due_of, max_script, max_table}
-use Rattle.input_files.specs.Reading.{HoldsTheScript, HoldsTheTable}
-use Rattle.snapshot_plan.specs.Views.{PlanView}
-use Rattle.snapshot_plan.specs.declared.cause.SnapCause.{SnapCause}
-use Rattle.snapshot_plan.specs.declared.cause.SnapCause.TheVariants as cause
-use Rattle.snapshot_rows.specs.Laws.{IsPlanOver}
-use Rattle.snapshot_rows.specs.Snapshots.{SnapFault, snapshot}
+use Rattle.rdf_model.specs.{Dataset}
+use Rattle.table_csv.specs.{csv_records}
+use Rattle.input_files.specs.{due_of, Files, HoldsTheScript, HoldsTheTable, max_script, max_table, ReadsScript, WithScriptFile, WithTableFile}
+use Rattle.snapshot_plan.specs.{PlanView, SnapCause}
+use Rattle.snapshot_rows.specs.{IsPlanOver, SnapFault, snapshot}
 use Rattle.snapshot_rows.proofs.Tabled as rows
-use Rattle.snapshot_run.specs.Texts.{most_bytes}
-use Rattle.snapshot_text.specs.TableTexts.{table_text}
-use Rattle.snapshot_words.specs.Asked.{asked_of}
-use Rattle.snapshot_words.specs.declared.command.SnapCommand.{SnapCommand}
+use Rattle.snapshot_run.specs.{most_bytes}
+use Rattle.snapshot_text.specs.{table_text}
+use Rattle.snapshot_words.specs.{asked_of, SnapCommand}
 use Rattle.snapshot_words.proofs.Bounds.{asked_fits}
-use Rattle.snapshot_due.specs.Due.{IsDueOver, IsDueToFiles, IsRunDue, IsTextDue, SnapshotDue, cause_over, dataset_of, plan_over}
-use Rattle.snapshot_due.specs.Laws.{ReadsBack, SnapshotReadsBack}
-use Rattle.snapshot_due.specs.Lines.{cause_line, fault_line, long_line, usage_line}
-use Rattle.snapshot_due.specs.Statuses.{status_of, statuses}
+use Rattle.snapshot_due.specs.{cause_line, cause_over, dataset_of, fault_line, IsDueOver, IsDueToFiles, IsRunDue, IsTextDue, long_line, plan_over, ReadsBack, SnapshotDue, SnapshotReadsBack, status_of, statuses, usage_line}
 use Rattle.snapshot_due.specs.declared.status.SnapshotStatus.TheVariants.{Done, Words, NoFile, ScriptRefused, TableRefused, LoopFault, TooLong}
 use Rattle.snapshot_due.proofs.Spelt.{spelt_is_table}
 
@@ -43,10 +23,10 @@ status_in : {a b : SnapshotDue} → a ≡ b → a.status ≡ b.status
 status_in e = ap (λ (d : SnapshotDue). d.status) e
 
 not_a_cause : (why : SnapCause) → Done ≡ status_of why → ⊥
-not_a_cause cause.BadNode e = cc e
-not_a_cause (cause.BadColumn i) e = cc e
-not_a_cause cause.BadVariation e = cc e
-not_a_cause (cause.TooMany n) e = cc e
+not_a_cause SnapCause.BadNode e = cc e
+not_a_cause (SnapCause.BadColumn i) e = cc e
+not_a_cause SnapCause.BadVariation e = cc e
+not_a_cause (SnapCause.TooMany n) e = cc e
 
 module _ (bytes : List ℕ) where
   abbrev done : SnapshotDue

@@ -6,14 +6,9 @@ use Rattle.csv.specs.Machine.{Read, next_record}
 use Rattle.csv.specs.declared.parser.State.{State}
 use Rattle.csv.specs.declared.parser.State.TheVariants as st
 use Rattle.csv.specs.Reading.{default_config, records_from, records_next, strip_bom}
-use Rattle.rdf_values.specs.TableText.{Header, MarkedRow, MarkedTable, header_from, marks_from, on_ok, result_cons, row_of, rows_from, table_of, table_with}
-use Rattle.rdf_values.specs.Tables.{FitRows, FitsRow, IsHeader, IsTable}
-use Rattle.rdf_values.specs.declared.column.Column.{Column}
-use Rattle.rdf_values.specs.declared.table_cause.TableCause.{TableCause}
-use Rattle.rdf_values.specs.declared.table_cause.TableCause.TheVariants as cause
-use Rattle.rdf_values.specs.declared.value.Value.{Value}
+use Rattle.rdf_values.specs.{Column, FitRows, FitsRow, Header, header_from, IsHeader, IsTable, MarkedRow, MarkedTable, marks_from, on_ok, result_cons, row_of, rows_from, table_of, table_with, TableCause, Value}
 use Rattle.rdf_values.proofs.CellWords.{row_fits_columns}
-use Rattle.table_csv.specs.Csv.{csv_records}
+use Rattle.table_csv.specs.{csv_records}
 use Rattle.table_csv.proofs.HeaderSteps.{header_is}
 use Rattle.table_csv.proofs.Steps.{Shrinks, shrinks}
 
@@ -52,7 +47,7 @@ is_before e h fields = go (nat_le 1000000 e) refl _
     read (Ok r) l = l
     read (Err c) l = tt
 
-    go : (b : Bool) → nat_le 1000000 e ≡ b → (o : Result MarkedRow TableCause) → IfRead (λ (r : MarkedRow). e < 1000000) (if b then Err (cause.TooMany e) else o)
+    go : (b : Bool) → nat_le 1000000 e ≡ b → (o : Result MarkedRow TableCause) → IfRead (λ (r : MarkedRow). e < 1000000) (if b then Err (TableCause.TooMany e) else o)
     go true q o = tt
     go false q o = read o (grind (arith, nat_tests))
 

@@ -1,23 +1,16 @@
 -- What is due to the words, the files and the caller's functions: a status and the bytes that are written with it.
 use Rattle.std.specs.Prelude.{◌≡◌, ℕ, List, length, nat_lt, Option, MatchOption, MatchResult}
 use Rattle.std.specs.Bool.{MatchBool}
-use Rattle.rdf_values.specs.Functions.{Function, fn_names}
-use Rattle.rdf_values.specs.RefusalLines.{graph_cause_line}
-use Rattle.rdf_values.specs.Tables.{TableView}
-use Rattle.rdf_values.specs.Verdict.{verdict}
-use Rattle.rdf_values.specs.declared.column.Column.{Column}
-use Rattle.rdf_values.specs.declared.script.Script.{Script}
-use Rattle.rdf_model.specs.Results.{Dataset}
-use Rattle.graph_numbers.specs.Graphs.{GraphView}
-use Rattle.input_files.specs.Answers.{Files}
-use Rattle.input_files.specs.Due.{Due, WithScriptFile, WithTableFile, due_of}
-use Rattle.snapshot_plan.specs.Views.{PlanView, cause_in, under_of}
-use Rattle.snapshot_plan.specs.declared.cause.SnapCause.{SnapCause}
-use Rattle.snapshot_rows.specs.Snapshots.{snapshot}
-use Rattle.snapshot_run.specs.Texts.{most_bytes}
-use Rattle.snapshot_text.specs.TableTexts.{table_text}
-use Rattle.snapshot_words.specs.Asked.{asked_of}
-use Rattle.snapshot_words.specs.declared.command.SnapCommand.{SnapCommand}
+use Rattle.rdf_values.specs.{Column, fn_names, Function, graph_cause_line, Script, TableView, verdict}
+use Rattle.rdf_model.specs.{Dataset}
+use Rattle.graph_numbers.specs.{GraphView}
+use Rattle.input_files.specs.{due_of, Files, WithScriptFile, WithTableFile}
+use Rattle.input_files.specs.Due.{Due}
+use Rattle.snapshot_plan.specs.{cause_in, PlanView, SnapCause, under_of}
+use Rattle.snapshot_rows.specs.{snapshot}
+use Rattle.snapshot_run.specs.{most_bytes}
+use Rattle.snapshot_text.specs.{table_text}
+use Rattle.snapshot_words.specs.{asked_of, SnapCommand}
 use Rattle.snapshot_due.specs.Lines.{cause_line, fault_line, long_line, usage_line}
 use Rattle.snapshot_due.specs.Statuses.{status_of, statuses}
 use Rattle.snapshot_due.specs.declared.status.SnapshotStatus.{SnapshotStatus}

@@ -1,18 +1,11 @@
 -- Laws of what is due. Each is the contract of a function of this crate, and so proved.
 use Rattle.std.specs.Prelude.{◌≡◌, ◌≤◌, ℕ, List, [], None, Some, Ok, length}
-use Rattle.rdf_values.specs.Functions.{Function}
-use Rattle.rdf_values.specs.TableText.{MarkedTable, table_of}
-use Rattle.rdf_values.specs.Tables.{IsTable, TableView}
-use Rattle.rdf_values.specs.Words.{AnswerIn64Bits}
-use Rattle.rdf_values.specs.declared.script.Script.{Script}
-use Rattle.table_csv.specs.Csv.{csv_records}
-use Rattle.input_files.specs.Answers.{Files}
-use Rattle.input_files.specs.Due.{due_of, max_table}
-use Rattle.input_files.specs.Reading.{HoldsTheScript, HoldsTheTable}
-use Rattle.snapshot_plan.specs.Views.{plan_columns}
-use Rattle.snapshot_rows.specs.Snapshots.{snapshot}
-use Rattle.snapshot_words.specs.Asked.{asked_of}
-use Rattle.snapshot_words.specs.declared.command.SnapCommand.{SnapCommand}
+use Rattle.rdf_values.specs.{AnswerIn64Bits, Function, IsTable, MarkedTable, Script, table_of, TableView}
+use Rattle.table_csv.specs.{csv_records}
+use Rattle.input_files.specs.{due_of, Files, HoldsTheScript, HoldsTheTable, max_table}
+use Rattle.snapshot_plan.specs.{plan_columns}
+use Rattle.snapshot_rows.specs.{snapshot}
+use Rattle.snapshot_words.specs.{asked_of, SnapCommand}
 use Rattle.snapshot_due.specs.Due.{IsDue, dataset_of, plan_over}
 use Rattle.snapshot_due.specs.Lines.{usage_line}
 use Rattle.snapshot_due.specs.declared.status.SnapshotStatus.TheVariants.{Done, Words}

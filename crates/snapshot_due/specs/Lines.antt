@@ -1,13 +1,11 @@
 -- The lines that are this program's own.
 use Rattle.std.specs.Prelude.{ℕ, List, [], ◌∷◌, ◌++◌, codes, decimal, slice_get, unwrap_or}
-use Rattle.rdf_values.specs.RefusalLines.{line}
-use Rattle.rdf_model.specs.ResultLines.{fault_name}
-use Rattle.snapshot_plan.specs.declared.cause.SnapCause.{SnapCause}
-use Rattle.snapshot_plan.specs.declared.cause.SnapCause.TheVariants as cause
-use Rattle.snapshot_plan.specs.declared.under.Under.{Under}
+use Rattle.rdf_values.specs.{line}
+use Rattle.rdf_model.specs.{fault_name}
+use Rattle.snapshot_plan.specs.{SnapCause, Under}
 use Rattle.snapshot_plan.specs.declared.under.Under.TheVariants.{Nominal, Varied}
-use Rattle.snapshot_rows.specs.Snapshots.{SnapFault}
-use Rattle.snapshot_words.specs.declared.command.SnapCommand.{SnapCommand}
+use Rattle.snapshot_rows.specs.{SnapFault}
+use Rattle.snapshot_words.specs.{SnapCommand}
 
 -- how the command is called
 abbrev pub usage_line : List ℕ
@@ -24,10 +22,10 @@ abbrev pub column_name : SnapCommand → ℕ → List ℕ
 column_name c i = unwrap_or (slice_get c.columns i) []
 
 abbrev pub cause_line : SnapCommand → SnapCause → List ℕ
-cause_line c cause.BadNode = line (codes "no node " ++ c.node)
-cause_line c (cause.BadColumn i) = line (codes "no column " ++ column_name c i)
-cause_line c cause.BadVariation = line (codes "no variation " ++ under_text c.under)
-cause_line c (cause.TooMany n) = line (codes "too many columns")
+cause_line c SnapCause.BadNode = line (codes "no node " ++ c.node)
+cause_line c (SnapCause.BadColumn i) = line (codes "no column " ++ column_name c i)
+cause_line c SnapCause.BadVariation = line (codes "no variation " ++ under_text c.under)
+cause_line c (SnapCause.TooMany n) = line (codes "too many columns")
 
 -- ---- why there is no text
 

@@ -1,8 +1,7 @@
 -- Statuses as numbers.
 use Rattle.std.specs.Prelude.{ℕ}
-use Rattle.input_files.specs.Due.{FileStatuses}
-use Rattle.snapshot_plan.specs.declared.cause.SnapCause.{SnapCause}
-use Rattle.snapshot_plan.specs.declared.cause.SnapCause.TheVariants as cause
+use Rattle.input_files.specs.{FileStatuses}
+use Rattle.snapshot_plan.specs.{SnapCause}
 use Rattle.snapshot_due.specs.declared.status.SnapshotStatus.{SnapshotStatus}
 use Rattle.snapshot_due.specs.declared.status.SnapshotStatus.TheVariants.{Done, Memory, Words, ReadFault, WriteFault, NoFile, ScriptRefused, TableRefused, LoopFault, BadNode, BadColumn, BadVariation, TooMany, TooLong}
 
@@ -29,10 +28,10 @@ statuses = record { read_failed = ReadFault; no_file = NoFile; script_refused = 
 
 -- the statuses where there is no plan
 abbrev pub status_of : SnapCause → SnapshotStatus
-status_of cause.BadNode = BadNode
-status_of (cause.BadColumn i) = BadColumn
-status_of cause.BadVariation = BadVariation
-status_of (cause.TooMany n) = TooMany
+status_of SnapCause.BadNode = BadNode
+status_of (SnapCause.BadColumn i) = BadColumn
+status_of SnapCause.BadVariation = BadVariation
+status_of (SnapCause.TooMany n) = TooMany
 
 -- a status that is due: no fault of a file or of the output, and no want of memory
 abbrev pub IsFinal : SnapshotStatus → Type 0

@@ -1,6 +1,6 @@
 // Statuses.
 ghost use Rattle.std.specs.Prelude.{◌≡◌};
-ghost use Rattle.snapshot_due.specs.Statuses.{exit_status};
+ghost use Rattle.snapshot_due.specs.{exit_status};
 
 /// How a command ended.
 #[derive(Clone, Copy, Debug, PartialEq, Eq)]

@@ -1,26 +1,17 @@
 -- Answers, one after another.
-use Rattle.std.proofs.Common.{if◌then◌else◌, ◌≡◌, ℕ, zero, suc, ◌+◌, ◌<◌, Bool, true, false, List, [], ◌∷◌, ◌++◌, map, take, length, get_or, Option, Some, None, Result, Ok, Err, refl, sym, ◌∙◌, ap, subst, arith}
-use Rattle.std.specs.Prelude.{pos}
+use Rattle.std.proofs.Common.{if◌then◌else◌, ◌≡◌, ℕ, zero, suc, ◌+◌, ◌<◌, Bool, true, false, List, [], ◌∷◌, ◌++◌, map, take, length, get_or, Option, Some, None, Result, Ok, Err, refl, sym, ◌∙◌, ap, subst, arith, pos}
 use Rattle.std.specs.List.{AllByRecursion}
 use Rattle.std.proofs.lemmas.List.{append-nil, map-append}
-use Rattle.rdf_values.specs.Values.{value_of}
-use Rattle.rdf_values.specs.declared.value.Value.TheVariants as val
-use Rattle.rdf_model.specs.Results.{Dataset}
-use Rattle.snapshot_plan.specs.Views.{PlanView}
+use Rattle.rdf_values.specs.{EntryFault, Value, value_of}
+use Rattle.rdf_model.specs.{◌>>=◌, Dataset, Faults, for_all, Gives, Needs, Outcome, with_needs}
+use Rattle.snapshot_plan.specs.{PlanView}
 use Rattle.rdf_values.specs.declared.cell.Cell.{Cell}
-use Rattle.rdf_values.specs.declared.fault.EntryFault.{EntryFault}
-use Rattle.rdf_values.specs.declared.value.Value.{Value}
-use Rattle.rdf_model.specs.Demanded.{with_needs}
-use Rattle.rdf_model.specs.Evaluation.{Outcome, Gives, Faults, Needs, ◌>>=◌, for_all}
-use Rattle.expr_eval.specs.Inputs.{input_outcome}
-use Rattle.expr_eval.specs.declared.inputs.Input.{Input}
-use Rattle.snapshot_rows.specs.Snapshots.{kept_cells}
-use Rattle.snapshot_entries.specs.Entries.{IsEntryAnswer, IsRowAnswer, outcome_at}
-use Rattle.snapshot_entries.specs.Values.{AreServed, Grows, IsAnswer, IsColumn, IsServed, IsStoredOutcome, IsStoredValue, source_of, version_in}
+use Rattle.expr_eval.specs.{Input, input_outcome}
+use Rattle.snapshot_rows.specs.{kept_cells}
+use Rattle.snapshot_entries.specs.{AreServed, Grows, IsAnswer, IsColumn, IsEntryAnswer, IsRowAnswer, IsServed, IsStoredOutcome, IsStoredValue, outcome_at, source_of, version_in}
 use Rattle.snapshot_entries.specs.declared.known.Known.{Known}
 use Rattle.snapshot_entries.proofs.Serving.{held_grows}
 use Rattle.snapshot_entries.specs.declared.stop.EntryStop.{EntryStop}
-use Rattle.snapshot_entries.specs.declared.stop.EntryStop.TheVariants as stop
 
 -- ---- one value
 
@@ -94,28 +85,28 @@ is_kept o c all cells is h k = is ∙ ap (λ x. both x c) h ∙ ap (λ x. x >>= 
 
 module _ (p : PlanView) (d : Dataset) (e : ℕ) (o : Outcome ⊥ Bool) (c : Outcome ⊥ (List Value)) (is : outcome_at p d e ≡ both o c) (before after : List ℕ) where
   pub entry_stopped : (s : EntryStop) → IsAnswer {A = Bool} o (Err s) → IsEntryAnswer p d e before after (Err s)
-  entry_stopped (stop.Fault kind) h = filters_stop o c (outcome_at p d e) kind is h
-  entry_stopped stop.Memory h = tt
+  entry_stopped (EntryStop.Fault kind) h = filters_stop o c (outcome_at p d e) kind is h
+  entry_stopped EntryStop.Memory h = tt
 
   pub entry_skipped : o ≡ Gives false → after ≡ before → IsEntryAnswer p d e before after (Ok tt)
   entry_skipped h same = (None, not_kept o c (outcome_at p d e) is h, same ∙ sym (append-nil before))
 
   pub entry_kept : (r : Result (Unit {0}) EntryStop) → o ≡ Gives true → IsRowAnswer c before after r → IsEntryAnswer p d e before after r
   entry_kept (Ok u) h k = (Some k.0, is_kept o c (outcome_at p d e) k.0 is h k.1, k.2)
-  entry_kept (Err (stop.Fault kind)) h k = columns_stop o c (outcome_at p d e) kind is h k
-  entry_kept (Err stop.Memory) h k = tt
+  entry_kept (Err (EntryStop.Fault kind)) h k = columns_stop o c (outcome_at p d e) kind is h k
+  entry_kept (Err EntryStop.Memory) h k = tt
 
 pub row_stopped : (p : PlanView) (d : Dataset) (cells : List Known) (e : ℕ) (cs : List ℕ) (before after : List ℕ) (s : EntryStop) → AreServed p d cells e cs (Err s) → IsRowAnswer (for_all (version_in p d e) cs) before after (Err s)
-row_stopped p d cells e cs before after (stop.Fault kind) h = h
-row_stopped p d cells e cs before after stop.Memory h = tt
+row_stopped p d cells e cs before after (EntryStop.Fault kind) h = h
+row_stopped p d cells e cs before after EntryStop.Memory h = tt
 
 -- ---- columns that are served
 
 pub served_more : (p : PlanView) (d : Dataset) (before after : List Known) (e c : ℕ) (cs : List ℕ) (r : Result (Unit {0}) EntryStop)
     → IsServed p d before e c (Ok tt) → Grows e before after → AreServed p d after e cs r → AreServed p d after e (c ∷ cs) r
 served_more p d before after e c cs (Ok u) h grows k = ((h.0.0 ∷ k.0.0, both_given (version_in p d e) c cs h.0.0 k.0.0 h.0.1 k.0.1), (held_grows before after e (source_of p d c) grows h.1, k.1))
-served_more p d before after e c cs (Err (stop.Fault kind)) h grows k = later_faults (version_in p d e) c cs h.0.0 kind h.0.1 k
-served_more p d before after e c cs (Err stop.Memory) h grows k = tt
+served_more p d before after e c cs (Err (EntryStop.Fault kind)) h grows k = later_faults (version_in p d e) c cs h.0.0 kind h.0.1 k
+served_more p d before after e c cs (Err EntryStop.Memory) h grows k = tt
 
 -- ---- cells that are gathered
 
@@ -138,9 +129,9 @@ take_all (x ∷ xs) (suc n) h = ap (λ l. x ∷ l) (take_all xs n (omega (arith,
 pub gathered_next : (f : ℕ → Outcome ⊥ Value) (cs : List ℕ) (vs : List Value) (i c : ℕ) (cell : Cell) (row more : List Cell)
     → for_all f cs ≡ Gives vs → i < length cs → c ≡ get_or cs i 0 → ((v : Value) → f c ≡ Gives v → value_of cell ≡ v) → map value_of row ≡ take i vs → more ≡ row ++ cell ∷ [] → map value_of more ≡ take (i + 1) vs
 gathered_next f cs vs i c cell row more h lt is its so_far grown =
-    let g = each_given f cs vs i c 0 (val.Int (pos 0)) h lt is in
+    let g = each_given f cs vs i c 0 (Value.Int (pos 0)) h lt is in
     ap (map value_of) grown ∙ map-append value_of row (cell ∷ []) ∙ ap (λ l. l ++ value_of cell ∷ []) so_far ∙ ap (λ v. take i vs ++ v ∷ []) (its _ g.0)
-    ∙ take_next vs i (val.Int (pos 0)) g.1 ∙ (let e : suc i ≡ i + 1 = omega arith in ap (λ k. take k vs) e)
+    ∙ take_next vs i (Value.Int (pos 0)) g.1 ∙ (let e : suc i ≡ i + 1 = omega arith in ap (λ k. take k vs) e)
 
 pub gathered_all : (f : ℕ → Outcome ⊥ Value) (cs : List ℕ) (vs : List Value) (n : ℕ) (row : List Cell) → for_all f cs ≡ Gives vs → n ≡ length cs → map value_of row ≡ take n vs → map value_of row ≡ vs
 gathered_all f cs vs n row h is so_far = so_far ∙ take_all vs n (all_given f cs vs h ∙ sym is)
@@ -148,6 +139,6 @@ gathered_all f cs vs n row h is so_far = so_far ∙ take_all vs n (all_given f c
 pub cell_given : (p : PlanView) (d : Dataset) (e : ℕ) (lt : e < length d.rows) (cs : List ℕ) (vs : List Value) (i c : ℕ) (input : Input) → for_all (version_in p d e) cs ≡ Gives vs → i < length cs → c ≡ get_or cs i 0
     → AllByRecursion (IsColumn p d) cs → input_outcome c input ≡ with_needs (version_in p d e c) → (n : ℕ) × (v : Value) × (input_outcome n input ≡ Gives v) × IsStoredValue v
 cell_given p d e lt cs vs i c input h within is columns told =
-    let g = each_given (version_in p d e) cs vs i c 0 (val.Int (pos 0)) h within is in
+    let g = each_given (version_in p d e) cs vs i c 0 (Value.Int (pos 0)) h within is in
     let column = all_at (IsColumn p d) cs i c 0 columns within is in
-    (c, get_or vs i (val.Int (pos 0)), given_value (version_in p d e c) c input _ g.0 told, stored_value (version_in p d e c) _ g.0 (column.1 e lt))
+    (c, get_or vs i (Value.Int (pos 0)), given_value (version_in p d e c) c input _ g.0 told, stored_value (version_in p d e c) _ g.0 (column.1 e lt))

@@ -1,39 +1,17 @@
 -- What is evaluated of a site, where all that it reads is known.
-use Rattle.std.proofs.Common.{◌≡◌, ℕ, zero, suc, ◌<◌, List, [], ◌∷◌, map, length, Option, Some, None, Ok, Err, refl, sym, ◌∙◌, ap, subst, arith}
-use Rattle.std.specs.Prelude.{option_map, slice_get, unwrap_or}
+use Rattle.std.proofs.Common.{◌≡◌, ℕ, zero, suc, ◌<◌, List, [], ◌∷◌, map, length, Option, Some, None, Ok, Err, refl, sym, ◌∙◌, ap, subst, arith, option_map, slice_get, unwrap_or}
 use Rattle.std.specs.List.{All, AllByRecursion}
 use Rattle.std.proofs.lemmas.List.Elements.{All-from_recursion, recursion_from_All}
-use Rattle.rdf_values.specs.Depends.{columns_in}
-use Rattle.rdf_values.specs.Functions.{fn_names}
-use Rattle.rdf_values.specs.Tables.{FitsRow, FitRows}
-use Rattle.rdf_values.specs.Tree.{NumTree}
-use Rattle.rdf_values.specs.declared.column.Column.{Column}
-use Rattle.rdf_values.specs.declared.value.ColType.{ColType}
-use Rattle.rdf_values.specs.declared.fault.EntryFault.{EntryFault}
-use Rattle.rdf_values.specs.declared.value.Scalar.{Scalar}
-use Rattle.rdf_values.specs.declared.value.Value.{Value}
-use Rattle.rdf_model.specs.Demanded.{with_needs}
-use Rattle.rdf_model.specs.Evaluation.{Outcome, Gives, Faults, Needs, evaluate, call_outcome}
-use Rattle.rdf_model.specs.Laws.{FitsOutcome}
-use Rattle.rdf_model.specs.Results.{Dataset}
-use Rattle.expr_check.specs.NumKinds.{CheckedExpr}
-use Rattle.expr_eval.specs.Answers.{scalar_outcome, scalar_value}
-use Rattle.expr_eval.specs.EvalAnswers.{StopsAs}
-use Rattle.expr_eval.specs.declared.stop.EvalStop.{EvalStop}
-use Rattle.expr_eval.specs.declared.stop.EvalStop.TheVariants as eval
-use Rattle.expr_eval.specs.declared.stop.ScalarStop.{ScalarStop}
-use Rattle.expr_eval.specs.declared.stop.ScalarStop.TheVariants as scalar
-use Rattle.graph_numbers.specs.Graphs.{IsSiteExpr, booked_statements, graph_kinds, graph_sites, graph_versions}
-use Rattle.graph_numbers.specs.Sites.{SiteAt}
-use Rattle.graph_numbers.specs.Sources.{IsBelow}
-use Rattle.graph_numbers.specs.declared.source.Source.{Source}
-use Rattle.graph_numbers.specs.declared.source.Source.TheVariants as from
+use Rattle.rdf_values.specs.{ColType, Column, columns_in, EntryFault, FitRows, FitsRow, fn_names, NumTree, Scalar, Value}
+use Rattle.rdf_model.specs.{call_outcome, Dataset, evaluate, Faults, FitsOutcome, Gives, Needs, Outcome, with_needs}
+use Rattle.expr_check.specs.{CheckedExpr}
+use Rattle.expr_eval.specs.{EvalStop, scalar_outcome, scalar_value, ScalarStop, StopsAs}
+use Rattle.graph_numbers.specs.{booked_statements, graph_kinds, graph_sites, graph_versions, IsBelow, IsSiteExpr, SiteAt, Source}
 use Rattle.graph_numbers.proofs.Extending.{versions_count}
 use Rattle.graph_numbers.proofs.Meeting.{In, here, there}
 use Rattle.std.proofs.lemmas.Option.{slice_get_within}
-use Rattle.snapshot_plan.specs.Views.{PlanView}
-use Rattle.snapshot_entries.specs.Jobs.{IsWork}
-use Rattle.snapshot_entries.specs.Values.{AreHeld, AreKnown, IsReadable, IsSourceHeld, plan_graph, row_in, site_in, site_total, source_of, version_in}
+use Rattle.snapshot_plan.specs.{PlanView}
+use Rattle.snapshot_entries.specs.{AreHeld, AreKnown, IsReadable, IsSourceHeld, IsWork, plan_graph, row_in, site_in, site_total, source_of, version_in}
 use Rattle.snapshot_entries.specs.declared.known.Known.{Known}
 use Rattle.snapshot_entries.proofs.Sites.{at_all, in_map, in_tree, reads_below, reads_fit, told_is}
 use Rattle.snapshot_entries.proofs.Told.{accepted_of}
@@ -72,9 +50,9 @@ module _ (p : PlanView) (d : Dataset) (work : IsWork p d) where
     within = slice_get_within (graph_sites (plan_graph p d)) s site_there.0 site_there.1
 
     further : (src : Source) → IsBelow (length d.columns) s src → IsBelow (length d.columns) (site_total p d) src
-    further (from.Cell col) h = h
-    further (from.Site i) h = let lt = within in omega (arith, h, lt)
-    further (from.Element i k tags) h = let lt = within in omega (arith, h, lt)
+    further (Source.Cell col) h = h
+    further (Source.Site i) h = let lt = within in omega (arith, h, lt)
+    further (Source.Element i k tags) h = let lt = within in omega (arith, h, lt)
 
     pub readable : (c : ℕ) → In c (map (λ (k : ℕ × ColType). k.0) expr.kinds) → IsReadable p d c
     readable c k = let h = below c k in (h.0, further (source_of p d c) h.1)
@@ -134,17 +112,17 @@ module _ (o : Outcome ⊥ Value) (all : Outcome ℕ Value) (whole : all ≡ with
   pub scalar_given : (s : Scalar) (v : Value) → v ≡ scalar_value s → scalar_outcome (Ok s) ≡ all → Gives v ≡ o
   scalar_given s v is h = back v (ap Gives is ∙ h ∙ whole)
 
-  pub scalar_faulted : (stop : ScalarStop) (k : EntryFault) → stop ≡ scalar.Fault k → scalar_outcome (Err stop) ≡ all → Faults k ≡ o
+  pub scalar_faulted : (stop : ScalarStop) (k : EntryFault) → stop ≡ ScalarStop.Fault k → scalar_outcome (Err stop) ≡ all → Faults k ≡ o
   scalar_faulted stop k is h = fault_back k (ap (λ (x : ScalarStop). scalar_outcome (Err x)) (sym is) ∙ h ∙ whole)
 
-  pub scalar_never : (stop : ScalarStop) (c : ℕ) → stop ≡ scalar.Need c → scalar_outcome (Err stop) ≡ all → ⊥
+  pub scalar_never : (stop : ScalarStop) (c : ℕ) → stop ≡ ScalarStop.Need c → scalar_outcome (Err stop) ≡ all → ⊥
   scalar_never stop c is h = never c (ap (λ (x : ScalarStop). scalar_outcome (Err x)) (sym is) ∙ h ∙ whole)
 
   pub value_given : (v : Value) → all ≡ Gives v → Gives v ≡ o
   value_given v h = back v (sym h ∙ whole)
 
-  pub value_faulted : (stop : EvalStop) (k : EntryFault) → stop ≡ eval.Fault k → StopsAs all stop → Faults k ≡ o
+  pub value_faulted : (stop : EvalStop) (k : EntryFault) → stop ≡ EvalStop.Fault k → StopsAs all stop → Faults k ≡ o
   value_faulted stop k is h = fault_back k (sym (subst (StopsAs all) is h) ∙ whole)
 
-  pub value_never : (stop : EvalStop) (c : ℕ) → stop ≡ eval.Need c → StopsAs all stop → ⊥
+  pub value_never : (stop : EvalStop) (c : ℕ) → stop ≡ EvalStop.Need c → StopsAs all stop → ⊥
   value_never stop c is h = never c (sym (subst (StopsAs all) is h) ∙ whole)

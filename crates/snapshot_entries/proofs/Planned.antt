@@ -1,33 +1,15 @@
 -- What a plan reads of an entry, by the numbers of sites and versions.
-use Rattle.std.proofs.Common.{◌≡◌, ℕ, ◌+◌, ◌<◌, Bool, true, false, ◌||◌, List, [], ◌∷◌, ◌++◌, map, Option, Some, None, Result, Ok, Err, refl, sym, ◌∙◌, ap, subst, if◌then◌else◌}
-use Rattle.std.specs.Prelude.{not}
+use Rattle.std.proofs.Common.{◌≡◌, ℕ, ◌+◌, ◌<◌, Bool, true, false, ◌||◌, List, [], ◌∷◌, ◌++◌, map, Option, Some, None, Result, Ok, Err, refl, sym, ◌∙◌, ap, subst, if◌then◌else◌, not}
 use Rattle.std.specs.List.{AllByRecursion}
-use Rattle.rdf_values.specs.Functions.{fn_names}
-use Rattle.rdf_values.specs.Kinds.{Scope, column_kind, scope_of}
-use Rattle.rdf_values.specs.Names.{among}
-use Rattle.rdf_values.specs.Tables.{IsStored}
-use Rattle.rdf_values.specs.Verdict.{is_node, scope_at}
-use Rattle.rdf_values.specs.declared.graph_cause.GraphCause.{GraphCause}
-use Rattle.rdf_values.specs.declared.value.ColType.{ColType}
-use Rattle.rdf_values.specs.declared.value.ColType.TheVariants as k
-use Rattle.rdf_values.specs.declared.value.Value.{Value}
-use Rattle.rdf_model.specs.Evaluation.{Gives, ◌>>=◌, for_all}
-use Rattle.rdf_model.specs.Results.{Dataset}
-use Rattle.graph_numbers.specs.Graphs.{GraphView, booked_statements}
-use Rattle.graph_numbers.specs.Outcomes.{through_sites}
-use Rattle.graph_numbers.specs.Versions.{version_at}
+use Rattle.rdf_values.specs.{among, ColType, column_kind, fn_names, GraphCause, is_node, IsStored, Scope, scope_at, scope_of, Value}
+use Rattle.rdf_model.specs.{◌>>=◌, Dataset, for_all, Gives}
+use Rattle.graph_numbers.specs.{booked_statements, GraphView, through_sites, version_at}
 use Rattle.graph_numbers.proofs.Extending.{versions_count}
 use Rattle.graph_numbers.proofs.Passing.{AreVisible}
 use Rattle.graph_numbers.proofs.Ranges.{filter_sites_below}
-use Rattle.snapshot_plan.specs.Plans.{first_bad, is_bad, is_stored, unless_bad}
-use Rattle.snapshot_plan.specs.Views.{PlanView, scope_in}
-use Rattle.snapshot_plan.specs.declared.cause.SnapCause.{SnapCause}
-use Rattle.snapshot_plan.specs.declared.cause.SnapCause.TheVariants as cause
-use Rattle.snapshot_rows.specs.Snapshots.{kept_cells}
-use Rattle.snapshot_entries.specs.Entries.{outcome_at}
-use Rattle.snapshot_entries.specs.Jobs.{IsWork}
-use Rattle.snapshot_entries.specs.Values.{IsColumn, row_in, site_in, site_total, version_in}
-use Rattle.snapshot_entries.specs.Wanted.{IsWanted}
+use Rattle.snapshot_plan.specs.{first_bad, is_bad, is_stored, PlanView, scope_in, SnapCause, unless_bad}
+use Rattle.snapshot_rows.specs.{kept_cells}
+use Rattle.snapshot_entries.specs.{IsColumn, IsWanted, IsWork, outcome_at, row_in, site_in, site_total, version_in}
 use Rattle.snapshot_entries.specs.declared.wanted.Wanted.{Wanted}
 use Rattle.snapshot_entries.proofs.Evaluated.{row_fits}
 use Rattle.snapshot_entries.proofs.Paths.{column_stored, column_there, columns_are, filters_are}
@@ -37,15 +19,15 @@ use Rattle.snapshot_entries.proofs.Told.{accepted_of}
 abbrev IsShown : Scope → List ℕ → Type 0
 IsShown scope name = (t : ColType) × (column_kind scope name ≡ Ok t) × IsStored t
 
-no_bad : (b : Bool) (o : Option ℕ) (rest : Option SnapCause) → (if not b then Some cause.BadNode else unless_bad o rest) ≡ None → o ≡ None
+no_bad : (b : Bool) (o : Option ℕ) (rest : Option SnapCause) → (if not b then Some SnapCause.BadNode else unless_bad o rest) ≡ None → o ≡ None
 no_bad true None rest h = refl
 no_bad true (Some i) rest h = cc h
 no_bad false o rest h = cc h
 
 stored : (r : Result ColType GraphCause) (b : Bool) → (not (is_stored r) || b) ≡ false → (t : ColType) × (r ≡ Ok t) × IsStored t
-stored (Ok k.Int) b h = (k.Int, refl, tt)
-stored (Ok k.Bool) b h = cc h
-stored (Ok k.Vect) b h = (k.Vect, refl, tt)
+stored (Ok ColType.Int) b h = (ColType.Int, refl, tt)
+stored (Ok ColType.Bool) b h = cc h
+stored (Ok ColType.Vect) b h = (ColType.Vect, refl, tt)
 stored (Err why) b h = cc h
 
 all_shown : (scope : Scope) (names : List (List ℕ)) (i : ℕ) (before : List (List ℕ)) → first_bad scope i before names ≡ None → AllByRecursion (IsShown scope) names

@@ -1,24 +1,17 @@
 -- The entries of a range, one after another.
-use Rattle.std.proofs.Common.{◌≡◌, ℕ, zero, suc, ◌+◌, ◌-◌, ◌<◌, ◌≤◌, List, [], ◌∷◌, ◌++◌, length, get_or, take, drop, Option, Some, None, Err, refl, sym, ◌∙◌, ap, subst, arith, length-drop}
-use Rattle.std.specs.Prelude.{slice_range}
+use Rattle.std.proofs.Common.{◌≡◌, ℕ, zero, suc, ◌+◌, ◌-◌, ◌<◌, ◌≤◌, List, [], ◌∷◌, ◌++◌, length, get_or, take, drop, Option, Some, None, Err, refl, sym, ◌∙◌, ap, subst, arith, length-drop, slice_range}
 use Rattle.std.specs.List.{cons_option}
 use Rattle.std.proofs.lemmas.List.{append-nil, append_assoc}
 use Rattle.std.proofs.lemmas.List.Concat.{flat_map-append}
 use Rattle.std.proofs.lemmas.Option.{unwrap_or-slice_get}
-use Rattle.lemmas.proofs.Parts.{take_full}
-use Rattle.rdf_values.specs.declared.fault.EntryFault.{EntryFault}
-use Rattle.rdf_values.specs.declared.value.Value.{Value}
-use Rattle.rdf_model.specs.Evaluation.{Gives, Faults}
-use Rattle.rdf_model.specs.Results.{Dataset}
-use Rattle.snapshot_plan.specs.Views.{PlanView}
-use Rattle.snapshot_text.specs.TableTexts.{entries_text, entry_text}
-use Rattle.snapshot_rows.specs.Snapshots.{plan_path, snapshot_entries, snapshot_fault}
-use Rattle.rdf_values.specs.declared.span.Span.{Span}
-use Rattle.snapshot_entries.specs.Entries.{IsEntryAnswer, IsSkimAnswer, kept_text, outcome_at, stop_from}
+use Rattle.lemmas.proofs.{take_full}
+use Rattle.rdf_values.specs.{EntryFault, Span, Value}
+use Rattle.rdf_model.specs.{Dataset, Faults, Gives}
+use Rattle.snapshot_plan.specs.{PlanView}
+use Rattle.snapshot_text.specs.{entries_text, entry_text}
+use Rattle.snapshot_rows.specs.{plan_path, snapshot_entries, snapshot_fault}
+use Rattle.snapshot_entries.specs.{IsEntryAnswer, IsSkimAnswer, kept_text, outcome_at, row_in, SkimStop, stop_from}
 use Rattle.snapshot_entries.specs.declared.stop.EntryStop.{EntryStop}
-use Rattle.snapshot_entries.specs.declared.stop.EntryStop.TheVariants as stop
-use Rattle.snapshot_entries.specs.declared.stop.SkimStop.{SkimStop}
-use Rattle.snapshot_entries.specs.Values.{row_in}
 use Rattle.snapshot_entries.proofs.Rows.{faulted_row, next_row}
 
 -- ---- lists
@@ -88,6 +81,6 @@ module _ (p : PlanView) (d : Dataset) (lo : ℕ) where
 -- an entry that stops its cluster
 pub skim_stopped : (p : PlanView) (d : Dataset) (span : Span) (e : ℕ) → span.lo ≤ e → e < span.hi → span.hi ≤ length d.rows → snapshot_fault p d span.lo (So_far p d span.lo e) ≡ None
     → (s : EntryStop) (r : SkimStop) (before after old new : List ℕ) → r ≡ stop_from e s → IsEntryAnswer p d e before after (Err s) → IsSkimAnswer p d span old new (Err r)
-skim_stopped p d span e low up most none (stop.Fault kind) r before after old new is h =
+skim_stopped p d span e low up most none (EntryStop.Fault kind) r before after old new is h =
     subst (λ (x : SkimStop). IsSkimAnswer p d span old new (Err x)) (sym is) (faulted_entry p d span.lo e low (omega (arith, up, most)) none span.hi kind up most h)
-skim_stopped p d span e low up most none stop.Memory r before after old new is h = subst (λ (x : SkimStop). IsSkimAnswer p d span old new (Err x)) (sym is) tt
+skim_stopped p d span e low up most none EntryStop.Memory r before after old new is h = subst (λ (x : SkimStop). IsSkimAnswer p d span old new (Err x)) (sym is) tt

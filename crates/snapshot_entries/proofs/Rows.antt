@@ -1,13 +1,9 @@
 -- Rows one after another: their first fault, and the entries that are kept.
-use Rattle.std.proofs.Common.{◌≡◌, ℕ, suc, ◌+◌, ◌<◌, ◌≤◌, List, [], ◌∷◌, ◌++◌, length, Option, Some, None, refl, sym, ◌∙◌, ap, ap₂, arith}
-use Rattle.std.specs.Prelude.{filter_map}
+use Rattle.std.proofs.Common.{◌≡◌, ℕ, suc, ◌+◌, ◌<◌, ◌≤◌, List, [], ◌∷◌, ◌++◌, length, Option, Some, None, refl, sym, ◌∙◌, ap, ap₂, arith, filter_map}
 use Rattle.std.specs.List.{cons_option}
-use Rattle.rdf_values.specs.Path.{Path, Under}
-use Rattle.rdf_values.specs.declared.fault.EntryFault.{EntryFault}
-use Rattle.rdf_values.specs.declared.value.Value.{Value}
-use Rattle.rdf_model.specs.Evaluation.{Gives, Faults}
-use Rattle.rdf_model.specs.Results.{Dataset, fault_in}
-use Rattle.snapshot_rows.specs.Snapshots.{SnapFault, cells_in, fault_from, fault_or, kept_row, kept_rows, row_outcome}
+use Rattle.rdf_values.specs.{EntryFault, Path, Under, Value}
+use Rattle.rdf_model.specs.{Dataset, fault_in, Faults, Gives}
+use Rattle.snapshot_rows.specs.{cells_in, fault_from, fault_or, kept_row, kept_rows, row_outcome, SnapFault}
 
 -- the first fault of rows and then of those behind them
 abbrev pub first_of : Option SnapFault → Option SnapFault → Option SnapFault

@@ -1,11 +1,8 @@
 -- Sites that are evaluated, one after another.
-use Rattle.std.proofs.Common.{◌≡◌, ◌⊎◌, ⊎_elim, ℕ, zero, suc, ◌+◌, ◌<◌, ◌≤◌, List, [], ◌∷◌, length, get_or, Some, sym, ◌∙◌, subst, arith}
-use Rattle.std.specs.Prelude.{Contains}
-use Rattle.graph_numbers.specs.Sources.{IsBelow}
-use Rattle.graph_numbers.specs.declared.source.Source.{Source}
-use Rattle.graph_numbers.specs.declared.source.Source.TheVariants as from
+use Rattle.std.proofs.Common.{◌≡◌, ◌⊎◌, ⊎_elim, ℕ, zero, suc, ◌+◌, ◌<◌, ◌≤◌, List, [], ◌∷◌, length, get_or, Some, sym, ◌∙◌, subst, arith, Contains}
+use Rattle.graph_numbers.specs.{IsBelow, Source}
 use Rattle.graph_numbers.proofs.Meeting.{In, here, there}
-use Rattle.snapshot_entries.specs.Values.{Grows, IsSourceHeld, site_behind}
+use Rattle.snapshot_entries.specs.{Grows, IsSourceHeld, site_behind}
 use Rattle.snapshot_entries.specs.declared.known.Known.{Known}
 
 pub in_list : {A : Type 0} (xs : List A) (x : A) → Contains xs x → In x xs
@@ -19,11 +16,11 @@ in_list xs x h = go xs h.0 h.1 h.2
 -- ---- what is held
 
 pub held_grows : (before after : List Known) (e : ℕ) (src : Source) → Grows e before after → IsSourceHeld before e src → IsSourceHeld after e src
-held_grows before after e (from.Cell col) grows h = tt
-held_grows before after e (from.Site s) grows h = grows s h
-held_grows before after e (from.Element s k tags) grows h = grows s h
+held_grows before after e (Source.Cell col) grows h = tt
+held_grows before after e (Source.Site s) grows h = grows s h
+held_grows before after e (Source.Element s k tags) grows h = grows s h
 
 pub behind_below : (width n s : ℕ) (src : Source) → IsBelow width n src → site_behind src ≡ Some s → s < n
-behind_below width n s (from.Cell col) b h = cc h
-behind_below width n s (from.Site t) b h = let q : t ≡ s = cc h in omega (arith, b, q)
-behind_below width n s (from.Element t k tags) b h = let q : t ≡ s = cc h in omega (arith, b, q)
+behind_below width n s (Source.Cell col) b h = cc h
+behind_below width n s (Source.Site t) b h = let q : t ≡ s = cc h in omega (arith, b, q)
+behind_below width n s (Source.Element t k tags) b h = let q : t ≡ s = cc h in omega (arith, b, q)

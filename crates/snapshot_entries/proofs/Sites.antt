@@ -1,31 +1,11 @@
 -- What a site comes to, by what its versions come to; and what is known of the versions that it reads.
-use Rattle.std.proofs.Common.{if◌then◌else◌, ◌≡◌, ℕ, ◌<◌, Bool, true, false, not, List, [], ◌∷◌, map, length, Option, Some, None, refl, sym, ◌∙◌, ap, subst, nat_eq, slice_get}
-use Rattle.std.specs.Prelude.{filter}
+use Rattle.std.proofs.Common.{if◌then◌else◌, ◌≡◌, ℕ, ◌<◌, Bool, true, false, not, List, [], ◌∷◌, map, length, Option, Some, None, refl, sym, ◌∙◌, ap, subst, nat_eq, slice_get, filter}
 use Rattle.std.specs.List.{AllByRecursion}
-use Rattle.rdf_values.specs.Depends.{columns_in}
-use Rattle.rdf_values.specs.Functions.{fn_names}
-use Rattle.rdf_values.specs.Kinds.{FunctionNames, scope_of}
-use Rattle.rdf_values.specs.Path.{Under}
-use Rattle.rdf_values.specs.Tables.{FitsRow}
-use Rattle.rdf_values.specs.Tree.{NumTree}
-use Rattle.rdf_values.specs.Verdict.{AreAccepted}
-use Rattle.rdf_values.specs.declared.fault.EntryFault.{EntryFault}
-use Rattle.rdf_values.specs.declared.statement.Statement.{Statement}
-use Rattle.rdf_values.specs.declared.value.ColType.{ColType}
-use Rattle.rdf_values.specs.declared.value.Value.{Value}
-use Rattle.rdf_model.specs.ColumnValues.{tag_element}
-use Rattle.rdf_model.specs.Demanded.{with_needs}
-use Rattle.rdf_model.specs.Evaluation.{Outcome, Gives, Faults, Needs, ◌>>=◌, evaluate, call_outcome}
-use Rattle.rdf_model.specs.Laws.{FitsOutcome}
-use Rattle.rdf_model.specs.Results.{Dataset}
+use Rattle.rdf_values.specs.{AreAccepted, ColType, columns_in, EntryFault, FitsRow, fn_names, FunctionNames, NumTree, scope_of, Statement, Under, Value}
+use Rattle.rdf_model.specs.{◌>>=◌, call_outcome, Dataset, evaluate, Faults, FitsOutcome, Gives, Needs, Outcome, tag_element, with_needs}
 use Rattle.rdf_model.proofs.Missing.{site_alike, tag_alike, alike_is}
-use Rattle.expr_check.specs.NumKinds.{CheckedExpr, IsWellTyped, distinct}
-use Rattle.graph_numbers.specs.Kinds.{version_kinds}
-use Rattle.graph_numbers.specs.Sites.{SiteAt, site_outcome, sites}
-use Rattle.graph_numbers.specs.Sources.{IsBelow, cell_value, site_value, source_in, source_value, sources}
-use Rattle.graph_numbers.specs.Versions.{version_count}
-use Rattle.graph_numbers.specs.declared.source.Source.{Source}
-use Rattle.graph_numbers.specs.declared.source.Source.TheVariants as from
+use Rattle.expr_check.specs.{CheckedExpr, distinct, IsWellTyped}
+use Rattle.graph_numbers.specs.{cell_value, IsBelow, site_outcome, site_value, SiteAt, sites, Source, source_in, source_value, sources, version_count, version_kinds}
 use Rattle.graph_numbers.proofs.Equations.{columns_below, number_value, site_is, version_value}
 use Rattle.graph_numbers.proofs.Meeting.{In, here, there, each_at}
 use Rattle.graph_numbers.proofs.VersionKinds.{FitsVersion, site_fits}
@@ -93,9 +73,9 @@ module _ (d : Dataset) (row : List Value) (u : Under) (before : List Statement) 
       cell (Some v) = refl
 
       go : (src : Source) → source_value {M = ℕ} row (number {M = ℕ}) src ≡ with_needs (source_value row number src)
-      go (from.Cell col) = cell (slice_get row col)
-      go (from.Site s) = number_known s
-      go (from.Element s k tags) = ap (λ o. o >>= tag_element tags k) (number_known s) ∙ bind_known (number s) k tags
+      go (Source.Cell col) = cell (slice_get row col)
+      go (Source.Site s) = number_known s
+      go (Source.Element s k tags) = ap (λ o. o >>= tag_element tags k) (number_known s) ∙ bind_known (number s) k tags
 
   -- ---- what a site comes to
 

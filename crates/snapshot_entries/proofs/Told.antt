@@ -1,24 +1,12 @@
 -- What is told of the versions of an entry, by what is known of their sites.
-use Rattle.std.proofs.Common.{◌≡◌, ℕ, ◌<◌, List, length, get_or, Option, Some, None, Result, Ok, Err, refl, sym, ◌∙◌, ap, subst, arith}
-use Rattle.std.specs.Prelude.{MatchOption, slice_get}
+use Rattle.std.proofs.Common.{◌≡◌, ℕ, ◌<◌, List, length, get_or, Option, Some, None, Result, Ok, Err, refl, sym, ◌∙◌, ap, subst, arith, MatchOption, slice_get}
 use Rattle.std.proofs.lemmas.Option.{slice_get-get_or}
-use Rattle.rdf_values.specs.Functions.{fn_names}
-use Rattle.rdf_values.specs.Kinds.{scope_of}
-use Rattle.rdf_values.specs.Verdict.{AreAccepted}
-use Rattle.rdf_values.specs.declared.fault.EntryFault.{EntryFault}
-use Rattle.rdf_values.specs.declared.value.Value.{Value}
-use Rattle.rdf_model.specs.ColumnValues.{tag_element}
-use Rattle.rdf_model.specs.Demanded.{with_needs}
-use Rattle.rdf_model.specs.Evaluation.{Outcome, ◌>>=◌}
-use Rattle.rdf_model.specs.Results.{Dataset}
+use Rattle.rdf_values.specs.{AreAccepted, EntryFault, fn_names, scope_of, Value}
+use Rattle.rdf_model.specs.{◌>>=◌, Dataset, Outcome, tag_element, with_needs}
 use Rattle.rdf_model.proofs.Verdicts.{verdict_is_the_first_refusal}
-use Rattle.graph_numbers.specs.Graphs.{booked_statements}
-use Rattle.graph_numbers.specs.Sources.{cell_value, source_value}
-use Rattle.graph_numbers.specs.declared.source.Source.{Source}
-use Rattle.graph_numbers.specs.declared.source.Source.TheVariants as from
-use Rattle.snapshot_plan.specs.Views.{PlanView}
-use Rattle.snapshot_entries.specs.Jobs.{IsWork}
-use Rattle.snapshot_entries.specs.Values.{AreKnown, IsHeld, IsSourceHeld, element_of, outcome_of, row_in, site_in, source_of, version_in}
+use Rattle.graph_numbers.specs.{booked_statements, cell_value, Source, source_value}
+use Rattle.snapshot_plan.specs.{PlanView}
+use Rattle.snapshot_entries.specs.{AreKnown, element_of, IsHeld, IsSourceHeld, IsWork, outcome_of, row_in, site_in, source_of, version_in}
 use Rattle.snapshot_entries.specs.declared.known.Known.{Known}
 
 pub accepted_of : (p : PlanView) (d : Dataset) → IsWork p d → AreAccepted (fn_names d.fns) (scope_of d.columns) (booked_statements p.graph)
@@ -45,14 +33,14 @@ module _ (p : PlanView) (d : Dataset) (cells : List Known) (known : AreKnown p d
       known.each s k at (omega (arith, entry, lt)) ∙ ap (λ n. site_in p d n s) entry
 
   module _ (c : ℕ) where
-    pub told_cell : (col : ℕ) (o : Outcome ℕ Value) → from.Cell col ≡ source_of p d c → o ≡ cell_value (slice_get (row_in d.rows e) col) → o ≡ with_needs (version_in p d e c)
+    pub told_cell : (col : ℕ) (o : Outcome ℕ Value) → Source.Cell col ≡ source_of p d c → o ≡ cell_value (slice_get (row_in d.rows e) col) → o ≡ with_needs (version_in p d e c)
     told_cell col o is h = h ∙ with_cell (slice_get (row_in d.rows e) col) ∙ ap (λ (src : Source). with_needs (source_value (row_in d.rows e) (site_in p d e) src)) is
 
-    pub told_site : (s : ℕ) (k : Known) (o : Outcome ℕ Value) → s < length cells → k ≡ get_or cells s k → from.Site s ≡ source_of p d c → IsSourceHeld cells e (source_of p d c) → o ≡ outcome_of k.outcome → o ≡ with_needs (version_in p d e c)
+    pub told_site : (s : ℕ) (k : Known) (o : Outcome ℕ Value) → s < length cells → k ≡ get_or cells s k → Source.Site s ≡ source_of p d c → IsSourceHeld cells e (source_of p d c) → o ≡ outcome_of k.outcome → o ≡ with_needs (version_in p d e c)
     told_site s k o within at is held h =
         h ∙ with_outcome k.outcome ∙ ap with_needs (held_is s k within at (subst (IsSourceHeld cells e) (sym is) held)) ∙ ap (λ (src : Source). with_needs (source_value (row_in d.rows e) (site_in p d e) src)) is
 
-    pub told_element : (s i tags : ℕ) (k : Known) (o : Outcome ℕ Value) → ((v : Value) → tag_element {M = ℕ} tags i v ≡ with_needs (tag_element tags i v)) → s < length cells → k ≡ get_or cells s k → from.Element s i tags ≡ source_of p d c
+    pub told_element : (s i tags : ℕ) (k : Known) (o : Outcome ℕ Value) → ((v : Value) → tag_element {M = ℕ} tags i v ≡ with_needs (tag_element tags i v)) → s < length cells → k ≡ get_or cells s k → Source.Element s i tags ≡ source_of p d c
         → IsSourceHeld cells e (source_of p d c) → o ≡ element_of k.outcome i tags → o ≡ with_needs (version_in p d e c)
     told_element s i tags k o known_tag within at is held h =
         h ∙ with_bind k.outcome i tags known_tag ∙ ap (λ (x : Outcome ⊥ Value). with_needs (x >>= tag_element tags i)) (held_is s k within at (subst (IsSourceHeld cells e) (sym is) held))

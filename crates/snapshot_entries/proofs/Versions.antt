@@ -1,18 +1,14 @@
 -- The numbers of a plan's versions and sites, by what the graph answers.
 use Rattle.std.proofs.Common.{◌≡◌, ℕ, ◌≤◌, List, length, sym, ap, ap₂, ◌∙◌, arith}
-use Rattle.rdf_values.specs.Functions.{fn_names}
-use Rattle.rdf_values.specs.declared.column.Column.{Column}
-use Rattle.rdf_values.specs.declared.statement.Statement.{Statement}
-use Rattle.rdf_model.specs.Results.{Dataset}
-use Rattle.graph_numbers.specs.Graphs.{booked_statements, graph_sites, graph_versions}
-use Rattle.graph_numbers.specs.Sites.{filter_sites}
-use Rattle.graph_numbers.specs.Versions.{named_version, version_count}
+use Rattle.rdf_values.specs.{Column, fn_names, Statement}
+use Rattle.rdf_model.specs.{Dataset}
+use Rattle.graph_numbers.specs.{booked_statements, filter_sites, graph_sites, graph_versions, named_version, version_count}
 use Rattle.graph_numbers.proofs.Extending.{versions_count}
-use Rattle.graph.specs.SiteNumbers.{filter_numbers, site_total}
+use Rattle.graph.specs.{filter_numbers, site_total}
 use Rattle.graph.proofs.SiteTotals.{numbers_are, total_is}
 use Rattle.graph.proofs.Walked.{named_few}
-use Rattle.snapshot_plan.specs.Views.{PlanView}
-use Rattle.snapshot_entries.specs.Jobs.{IsWork}
+use Rattle.snapshot_plan.specs.{PlanView}
+use Rattle.snapshot_entries.specs.{IsWork}
 
 module _ (p : PlanView) (d : Dataset) (work : IsWork p d) (h : List Column) (b : List Statement) (eh : h ≡ p.graph.header) (eb : b ≡ booked_statements p.graph) where
   pub versions_many : (n : ℕ) → n ≡ length (graph_versions p.graph) → n ≡ version_count h b

@@ -1,10 +1,10 @@
 -- What a contract sees of a snapshot's work.
 use Rattle.std.specs.Prelude.{◌≡◌}
-use Rattle.rdf_values.specs.Tables.{IsTable}
-use Rattle.rdf_model.specs.Results.{Dataset}
-use Rattle.entry_fns.specs.Lists.{functions_in}
-use Rattle.graph_numbers.specs.Graphs.{IsGraph}
-use Rattle.snapshot_plan.specs.Views.{IsPlan, PlanView}
+use Rattle.rdf_values.specs.{IsTable}
+use Rattle.rdf_model.specs.{Dataset}
+use Rattle.entry_fns.specs.{functions_in}
+use Rattle.graph_numbers.specs.{IsGraph}
+use Rattle.snapshot_plan.specs.{IsPlan, PlanView}
 use Rattle.snapshot_entries.specs.Values.{plan_graph}
 use Rattle.snapshot_entries.specs.declared.job.SnapJob.{SnapJob}
 

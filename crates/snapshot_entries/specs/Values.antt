@@ -1,24 +1,12 @@
 -- What the sites and versions of a plan's graph come to in an entry, by their numbers, and what is known of them.
 use Rattle.std.specs.Prelude.{◌≡◌, ⊤, ◌<◌, ℕ, Bool, List, [], length, MatchOption, Option, Some, None, Result, Ok, Err, slice_get, unwrap_or}
 use Rattle.std.specs.List.{AllByRecursion}
-use Rattle.rdf_values.specs.Functions.{fn_names}
-use Rattle.rdf_values.specs.declared.fault.EntryFault.{EntryFault}
-use Rattle.rdf_values.specs.declared.value.Value.{Value}
-use Rattle.rdf_values.specs.declared.value.Value.TheVariants as val
-use Rattle.rdf_model.specs.ColumnValues.{tag_element}
-use Rattle.rdf_model.specs.EntryOutcomes.{truth_of}
-use Rattle.rdf_model.specs.Evaluation.{Outcome, Gives, Faults, Needs, ◌>>=◌, for_all}
-use Rattle.rdf_model.specs.Results.{Dataset}
-use Rattle.graph_numbers.specs.Graphs.{GraphView, booked_statements, graph_sites, graph_versions}
-use Rattle.graph_numbers.specs.Laws.{graph_of}
-use Rattle.graph_numbers.specs.Sites.{SiteAt, site_outcome}
-use Rattle.graph_numbers.specs.Sources.{IsBelow, site_value, source_in, source_value, sources}
-use Rattle.graph_numbers.specs.declared.source.Source.{Source}
-use Rattle.graph_numbers.specs.declared.source.Source.TheVariants as from
-use Rattle.snapshot_plan.specs.Views.{PlanView}
+use Rattle.rdf_values.specs.{EntryFault, fn_names, Value}
+use Rattle.rdf_model.specs.{◌>>=◌, Dataset, Faults, for_all, Gives, Needs, Outcome, tag_element, truth_of}
+use Rattle.graph_numbers.specs.{booked_statements, graph_of, graph_sites, graph_versions, GraphView, IsBelow, site_outcome, site_value, SiteAt, Source, source_in, source_value, sources}
+use Rattle.snapshot_plan.specs.{PlanView}
 use Rattle.snapshot_entries.specs.declared.known.Known.{Known}
 use Rattle.snapshot_entries.specs.declared.stop.EntryStop.{EntryStop}
-use Rattle.snapshot_entries.specs.declared.stop.EntryStop.TheVariants as stop
 
 -- a value or a fault, as an outcome
 abbrev pub outcome_of : {M A : Type 0} → Result A EntryFault → Outcome M A
@@ -32,8 +20,8 @@ element_of r k tags = outcome_of r >>= tag_element tags k
 -- the answer is what it comes to; or memory was wanted
 abbrev pub IsAnswer : {A : Type 0} → Outcome ⊥ A → Result A EntryStop → Type 0
 IsAnswer o (Ok a) = o ≡ Gives a
-IsAnswer o (Err (stop.Fault kind)) = o ≡ Faults kind
-IsAnswer o (Err stop.Memory) = ⊤
+IsAnswer o (Err (EntryStop.Fault kind)) = o ≡ Faults kind
+IsAnswer o (Err EntryStop.Memory) = ⊤
 
 -- whether what a filter came to lets an entry through
 abbrev pub passes_by : Outcome ⊥ Value → Outcome ⊥ Bool
@@ -41,9 +29,9 @@ passes_by o = o >>= truth_of
 
 -- no truth value, which a table can't hold
 abbrev pub IsStoredOutcome : Outcome ⊥ Value → Type 0
-IsStoredOutcome (Gives (val.Int z)) = ⊤
-IsStoredOutcome (Gives (val.Bool b)) = ⊥
-IsStoredOutcome (Gives (val.Vect zs)) = ⊤
+IsStoredOutcome (Gives (Value.Int z)) = ⊤
+IsStoredOutcome (Gives (Value.Bool b)) = ⊥
+IsStoredOutcome (Gives (Value.Vect zs)) = ⊤
 IsStoredOutcome (Faults kind) = ⊤
 IsStoredOutcome (Needs m) = ⊤
 
@@ -53,9 +41,9 @@ IsStoredValue v = IsStoredOutcome (Gives v)
 
 -- the site that gives a version, where one does
 abbrev pub site_behind : Source → Option ℕ
-site_behind (from.Cell col) = None
-site_behind (from.Site s) = Some s
-site_behind (from.Element s k tags) = Some s
+site_behind (Source.Cell col) = None
+site_behind (Source.Site s) = Some s
+site_behind (Source.Element s k tags) = Some s
 
 -- the row of an entry
 abbrev pub row_in : List (List Value) → ℕ → List Value
@@ -109,9 +97,9 @@ IsHeld cells e s = MatchOption (slice_get cells s) ⊥ (λ (k : Known). k.entry 
 
 -- so was the site that gives it, if one does
 abbrev pub IsSourceHeld : List Known → ℕ → Source → Type 0
-IsSourceHeld cells e (from.Cell col) = ⊤
-IsSourceHeld cells e (from.Site s) = IsHeld cells e s
-IsSourceHeld cells e (from.Element s k tags) = IsHeld cells e s
+IsSourceHeld cells e (Source.Cell col) = ⊤
+IsSourceHeld cells e (Source.Site s) = IsHeld cells e s
+IsSourceHeld cells e (Source.Element s k tags) = IsHeld cells e s
 
 -- what was held of an entry is held
 abbrev pub Grows : ℕ → List Known → List Known → Type 0
@@ -126,11 +114,11 @@ AreHeld p d cells e cs = AllByRecursion (λ c. IsSourceHeld cells e (source_of p
 -- the version's value is at hand; or its fault; or memory was wanted
 abbrev pub IsServed : PlanView → Dataset → List Known → ℕ → ℕ → Result (Unit {0}) EntryStop → Type 0
 IsServed p d cells e c (Ok u) = ((v : Value) × (version_in p d e c ≡ Gives v)) × IsSourceHeld cells e (source_of p d c)
-IsServed p d cells e c (Err (stop.Fault kind)) = version_in p d e c ≡ Faults kind
-IsServed p d cells e c (Err stop.Memory) = ⊤
+IsServed p d cells e c (Err (EntryStop.Fault kind)) = version_in p d e c ≡ Faults kind
+IsServed p d cells e c (Err EntryStop.Memory) = ⊤
 
 -- the versions' values are at hand; or the fault of the first that has one; or memory was wanted
 abbrev pub AreServed : PlanView → Dataset → List Known → ℕ → List ℕ → Result (Unit {0}) EntryStop → Type 0
 AreServed p d cells e cs (Ok u) = ((vs : List Value) × (for_all (version_in p d e) cs ≡ Gives vs)) × AreHeld p d cells e cs
-AreServed p d cells e cs (Err (stop.Fault kind)) = for_all (version_in p d e) cs ≡ Faults kind
-AreServed p d cells e cs (Err stop.Memory) = ⊤
+AreServed p d cells e cs (Err (EntryStop.Fault kind)) = for_all (version_in p d e) cs ≡ Faults kind
+AreServed p d cells e cs (Err EntryStop.Memory) = ⊤

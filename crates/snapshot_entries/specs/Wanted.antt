@@ -1,11 +1,9 @@
 -- What a snapshot reads of each entry.
 use Rattle.std.specs.Prelude.{◌≡◌, ℕ, List, map}
-use Rattle.rdf_values.specs.Functions.{fn_names}
-use Rattle.rdf_model.specs.Results.{Dataset}
-use Rattle.graph_numbers.specs.Graphs.{booked_statements}
-use Rattle.graph_numbers.specs.Sites.{filter_sites}
-use Rattle.graph_numbers.specs.Versions.{version_at}
-use Rattle.snapshot_plan.specs.Views.{PlanView}
+use Rattle.rdf_values.specs.{fn_names}
+use Rattle.rdf_model.specs.{Dataset}
+use Rattle.graph_numbers.specs.{booked_statements, filter_sites, version_at}
+use Rattle.snapshot_plan.specs.{PlanView}
 use Rattle.snapshot_entries.specs.declared.wanted.Wanted.{Wanted}
 
 -- the versions of the plan's columns at its node

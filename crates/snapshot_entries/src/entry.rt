@@ -1,13 +1,10 @@
 // One entry of a snapshot.
 ghost use Rattle.std.specs.Prelude.{◌≡◌, ◌<◌, ◌++◌, List, OnOk, length};
-ghost use Rattle.rdf_values.specs.declared.value.Value.{Value};
-ghost use Rattle.snapshot_text.specs.TableTexts.{entry_text};
+ghost use Rattle.rdf_values.specs.{Value};
+ghost use Rattle.snapshot_text.specs.{entry_text};
 ghost use Rattle.std.specs.List.{AllByRecursion};
-ghost use Rattle.rdf_model.specs.Evaluation.{Gives, for_all};
-ghost use Rattle.snapshot_entries.specs.Entries.{IsEntryAnswer, IsRowAnswer};
-ghost use Rattle.snapshot_entries.specs.Jobs.{IsWork, data_of, plan_of};
-ghost use Rattle.snapshot_entries.specs.Values.{AreHeld, AreKnown, IsColumn, version_in};
-ghost use Rattle.snapshot_entries.specs.Wanted.{IsWanted};
+ghost use Rattle.rdf_model.specs.{for_all, Gives};
+ghost use Rattle.snapshot_entries.specs.{AreHeld, AreKnown, data_of, IsColumn, IsEntryAnswer, IsRowAnswer, IsWanted, IsWork, plan_of, version_in};
 
 use crate::filters::pass_filters;
 use crate::known::Known;

@@ -1,11 +1,10 @@
 // Evaluating a site, after those that it reads.
 ghost use Rattle.std.specs.Prelude.{◌≡◌, ◌<◌, IfOk, IfSome, Contains, length, map};
-ghost use Rattle.rdf_values.specs.declared.value.Value.{Value};
-ghost use Rattle.expr_check.specs.NumKinds.{CheckedExpr};
-ghost use Rattle.graph_numbers.specs.Graphs.{IsSiteExpr};
-ghost use Rattle.expr_eval.specs.Answers.{scalar_value};
-ghost use Rattle.snapshot_entries.specs.Jobs.{IsWork, data_of, plan_of};
-ghost use Rattle.snapshot_entries.specs.Values.{AreHeld, AreKnown, Grows, IsHeld, outcome_of, plan_graph, site_behind, site_in, site_total, source_of as source_in};
+ghost use Rattle.rdf_values.specs.{Value};
+ghost use Rattle.expr_check.specs.{CheckedExpr};
+ghost use Rattle.graph_numbers.specs.{IsSiteExpr};
+ghost use Rattle.expr_eval.specs.{scalar_value};
+ghost use Rattle.snapshot_entries.specs.{AreHeld, AreKnown, data_of, Grows, IsHeld, IsWork, outcome_of, plan_graph, plan_of, site_behind, site_in, site_total, source_of as source_in};
 
 use crate::known::Known;
 use crate::reading::{Reading, expression, source_of};

@@ -1,9 +1,8 @@
 // Trying the filters above a node.
 ghost use Rattle.std.specs.Prelude.{◌≡◌, ◌<◌, length};
 ghost use Rattle.std.specs.List.{AllByRecursion};
-ghost use Rattle.graph_numbers.specs.Outcomes.{through_sites};
-ghost use Rattle.snapshot_entries.specs.Jobs.{IsWork, data_of, plan_of};
-ghost use Rattle.snapshot_entries.specs.Values.{AreKnown, IsAnswer, outcome_of, passes_by, site_in, site_total};
+ghost use Rattle.graph_numbers.specs.{through_sites};
+ghost use Rattle.snapshot_entries.specs.{AreKnown, data_of, IsAnswer, IsWork, outcome_of, passes_by, plan_of, site_in, site_total};
 
 use crate::evaluate::serve;
 use crate::known::Known;

@@ -1,8 +1,8 @@
 // What is known of a site.
 ghost use Rattle.std.specs.Prelude.{◌≡◌, ◌<◌, length, IfOk};
-ghost use Rattle.snapshot_plan.specs.Views.{PlanView};
-ghost use Rattle.rdf_model.specs.Results.{Dataset};
-ghost use Rattle.snapshot_entries.specs.Values.{AreKnown, site_total};
+ghost use Rattle.snapshot_plan.specs.{PlanView};
+ghost use Rattle.rdf_model.specs.{Dataset};
+ghost use Rattle.snapshot_entries.specs.{AreKnown, site_total};
 
 use rdf_values::{EntryFault, ListOf, Memory, Value};
 use std::alloc::Global;

@@ -1,8 +1,7 @@
 // An entry that is read.
 ghost use Rattle.std.specs.Prelude.{◌≡◌, ◌<◌, length, slice_get, Some};
-ghost use Rattle.graph_numbers.specs.Graphs.{IsSiteExpr, graph_sources, graph_versions};
-ghost use Rattle.snapshot_entries.specs.Jobs.{IsWork, data_of, plan_of};
-ghost use Rattle.snapshot_entries.specs.Values.{plan_graph, site_total, source_of as source_in};
+ghost use Rattle.graph_numbers.specs.{graph_sources, graph_versions, IsSiteExpr};
+ghost use Rattle.snapshot_entries.specs.{data_of, IsWork, plan_graph, plan_of, site_total, source_of as source_in};
 
 use crate::job::SnapJob;
 use expr_check::Checked;

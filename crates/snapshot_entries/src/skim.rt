@@ -1,7 +1,6 @@
 // Clusters of a snapshot.
 ghost use Rattle.std.specs.Prelude.{◌≡◌, ◌<◌, ◌≤◌, IfOk, length};
-ghost use Rattle.snapshot_entries.specs.Entries.{IsEntryAnswer, IsRange, IsSkimAnswer, IsSkimOf, stop_from};
-ghost use Rattle.snapshot_entries.specs.Jobs.{IsWork, data_of, plan_of};
+ghost use Rattle.snapshot_entries.specs.{data_of, IsEntryAnswer, IsRange, IsSkimAnswer, IsSkimOf, IsWork, plan_of, stop_from};
 
 use crate::entry::try_entry;
 use crate::job::SnapJob;

@@ -1,13 +1,10 @@
 // The values of an entry's columns.
 ghost use Rattle.std.specs.Prelude.{◌≡◌, ◌<◌, ℕ, List, IfOk, length, map};
 ghost use Rattle.std.specs.List.{AllByRecursion};
-ghost use Rattle.rdf_values.specs.Values.{value_of};
-ghost use Rattle.rdf_values.specs.declared.value.Value.{Value};
-ghost use Rattle.rdf_model.specs.Demanded.{with_needs};
-ghost use Rattle.rdf_model.specs.Evaluation.{Gives, for_all};
-ghost use Rattle.expr_eval.specs.Inputs.{input_outcome};
-ghost use Rattle.snapshot_entries.specs.Jobs.{IsWork, data_of, plan_of};
-ghost use Rattle.snapshot_entries.specs.Values.{AreHeld, AreKnown, AreServed, Grows, IsColumn, IsServed, IsStoredValue, version_in};
+ghost use Rattle.rdf_values.specs.{Value, value_of};
+ghost use Rattle.rdf_model.specs.{for_all, Gives, with_needs};
+ghost use Rattle.expr_eval.specs.{input_outcome};
+ghost use Rattle.snapshot_entries.specs.{AreHeld, AreKnown, AreServed, data_of, Grows, IsColumn, IsServed, IsStoredValue, IsWork, plan_of, version_in};
 
 use crate::evaluate::{serve, site_behind};
 use crate::known::Known;

@@ -1,10 +1,9 @@
 // The versions of an entry, by what is known of their sites.
 ghost use Rattle.std.specs.Prelude.{◌≡◌, ◌<◌, ℕ, length, slice_get};
-ghost use Rattle.rdf_model.specs.ColumnValues.{tag_element};
-ghost use Rattle.rdf_model.specs.Demanded.{with_needs};
-ghost use Rattle.expr_eval.specs.Inputs.{input_outcome};
-ghost use Rattle.graph_numbers.specs.Sources.{cell_value};
-ghost use Rattle.rdf_values.specs.declared.value.Value.{Value};
+ghost use Rattle.rdf_model.specs.{tag_element, with_needs};
+ghost use Rattle.expr_eval.specs.{input_outcome};
+ghost use Rattle.graph_numbers.specs.{cell_value};
+ghost use Rattle.rdf_values.specs.{Value};
 ghost use Rattle.snapshot_entries.specs.Jobs.{IsWork, data_of, plan_of};
 ghost use Rattle.snapshot_entries.specs.Values.{AreKnown, IsReadable, IsSourceHeld, element_of, outcome_of, row_in, source_of as source_in, version_in};
 

@@ -1,11 +1,8 @@
 // What a snapshot reads of each entry.
 ghost use Rattle.std.specs.Prelude.{◌≡◌, ◌<◌, ◌≤◌, IfOk, length};
-ghost use Rattle.graph_numbers.specs.Graphs.{booked_statements};
-ghost use Rattle.graph_numbers.specs.Versions.{version_at};
-ghost use Rattle.graph.specs.Lookups.{statements};
-ghost use Rattle.graph.specs.SiteNumbers.{filter_numbers, is_filter, own_number, own_site_total, site_total as total_of};
-ghost use Rattle.snapshot_entries.specs.Jobs.{IsWork, data_of, plan_of};
-ghost use Rattle.snapshot_entries.specs.Wanted.{AreVersions, IsWanted};
+ghost use Rattle.graph_numbers.specs.{booked_statements, version_at};
+ghost use Rattle.graph.specs.{filter_numbers, is_filter, own_number, own_site_total, site_total as total_of, statements};
+ghost use Rattle.snapshot_entries.specs.{AreVersions, data_of, IsWanted, IsWork, plan_of};
 
 use crate::job::SnapJob;
 use graph::lookup::{made_from, named_version, target_of};

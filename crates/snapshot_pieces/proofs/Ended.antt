@@ -1,27 +1,18 @@
 -- What slots tell once all have stopped.
-use Rattle.std.proofs.Common.{◌≡◌, ◌⊎◌, ℕ, zero, suc, ◌<◌, ◌≤◌, min, List, [], ◌∷◌, ◌++◌, length, map, Option, None, Some, refl, sym, ap, ap₂, ◌∙◌, subst, inl, inr, ⊎_elim, arith}
-use Rattle.std.specs.Prelude.{flat_map, slice_get, IfSome, IsSomeAnd}
+use Rattle.std.proofs.Common.{◌≡◌, ◌⊎◌, ℕ, zero, suc, ◌<◌, ◌≤◌, min, List, [], ◌∷◌, ◌++◌, length, map, Option, None, Some, refl, sym, ap, ap₂, ◌∙◌, subst, inl, inr, ⊎_elim, arith, flat_map, slice_get, IfSome, IsSomeAnd}
 use Rattle.std.specs.List.{All, concat}
 use Rattle.std.proofs.lemmas.Bool.{cases_lt}
 use Rattle.std.proofs.lemmas.List.{map-append}
 use Rattle.std.proofs.lemmas.List.Elements.{All-nil, All-cons, All-head, All-tail, All-append}
 use Rattle.std.proofs.lemmas.Option.{slice_get-get_or}
-use Rattle.rdf_values.specs.Draws.{DrawnBy}
-use Rattle.rdf_values.specs.Machine.{least_fault, first_in}
-use Rattle.rdf_values.specs.Times.{times, once_below}
-use Rattle.rdf_values.specs.declared.fault.Fault.{Fault}
+use Rattle.rdf_values.specs.{DrawnBy, Fault, first_in, least_fault, once_below, times}
 use Rattle.rdf_values.proofs.DrawCounts.{times_concat, times_push, counts_by_drawn, once_inside, inside_once, times_self}
 use Rattle.merge_core.proofs.Faults.{Among, Told, told_nothing, told_both, first_told, among_left, among_right}
 use Rattle.merge_core.proofs.Holding.{only}
-use Rattle.slot_words.specs.Seats.{ClaimsSeen, SeatSeen, IsLeast, IsPassed, last_of}
-use Rattle.slot_words.specs.SeatEnds.{MetBar, RanOut}
-use Rattle.snapshot_pieces.specs.Facts.{AreFacts, IsPieceOf, SnapFacts}
-use Rattle.snapshot_pieces.specs.Gathered.{HasAll, HasMemory, IsServed, end_faults, fault_of, pieces_in, pieces_of, seat_in}
-use Rattle.snapshot_pieces.specs.Stopping.{AreMade, HasStopped, Stopped, clusters_of}
+use Rattle.slot_words.specs.{ClaimsSeen, IsLeast, IsPassed, last_of, MetBar, RanOut, SeatSeen}
+use Rattle.snapshot_pieces.specs.{AreFacts, AreMade, clusters_of, end_faults, fault_of, Finished, HasAll, HasMemory, HasStopped, IsPieceOf, IsServed, Piece, pieces_in, pieces_of, seat_in, SnapFacts, Stopped}
 use Rattle.snapshot_pieces.specs.declared.finished.End.{End}
 use Rattle.snapshot_pieces.specs.declared.finished.End.TheVariants.{Over, Faulted, NoMemory}
-use Rattle.snapshot_pieces.specs.declared.finished.Finished.{Finished}
-use Rattle.snapshot_pieces.specs.declared.piece.Piece.{Piece}
 
 -- the clusters that each slot drew
 abbrev pub drawn_in : List Finished → List (List ℕ)

@@ -2,13 +2,10 @@
 use Rattle.std.proofs.Common.{◌≡◌, ℕ, suc, ◌-◌, ◌<◌, ◌≤◌, List, ◌∷◌, ◌++◌, length, get_or, drop, Option, Some, sym, ap, ◌∙◌, subst, arith, drop-cons}
 use Rattle.std.specs.List.{All}
 use Rattle.std.proofs.lemmas.List.Elements.{All-cons}
-use Rattle.rdf_values.specs.declared.fault.Fault.{Fault}
-use Rattle.rdf_values.specs.Machine.{least_fault, lesser_fault}
-use Rattle.snapshot_pieces.specs.declared.finished.Finished.{Finished}
+use Rattle.rdf_values.specs.{Fault, least_fault, lesser_fault}
+use Rattle.snapshot_pieces.specs.{end_faults, fault_of, Finished, HasMemory, IsServed, Piece}
 use Rattle.snapshot_pieces.specs.declared.finished.End.{End}
 use Rattle.snapshot_pieces.specs.declared.finished.End.TheVariants.{Over, Faulted}
-use Rattle.snapshot_pieces.specs.declared.piece.Piece.{Piece}
-use Rattle.snapshot_pieces.specs.Gathered.{HasMemory, IsServed, fault_of, end_faults}
 
 -- what is known of the slots from place i on
 pub record IsLeast (fs : List Finished) (i : ℕ) (least : Option Fault) : Type 0 where

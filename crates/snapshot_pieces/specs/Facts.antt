@@ -1,8 +1,6 @@
 -- What clusters are to give.
 use Rattle.std.specs.Prelude.{◌≡◌, ◌<◌, ℕ, List, Option, Some, None, length, slice_get}
-use Rattle.rdf_values.specs.Machine.{AreInEntryOrder}
-use Rattle.rdf_values.specs.Times.{times}
-use Rattle.rdf_values.specs.declared.fault.Fault.{Fault}
+use Rattle.rdf_values.specs.{AreInEntryOrder, Fault, times}
 use Rattle.snapshot_pieces.specs.declared.piece.Piece.{Piece}
 
 -- for each cluster its first fault or none, and the records of its entries

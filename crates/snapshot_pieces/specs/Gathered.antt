@@ -1,16 +1,13 @@
 -- What slots tell together.
 use Rattle.std.specs.Prelude.{◌≡◌, ⊤, ◌<◌, ℕ, List, [], ◌∷◌, None, Some, All, flat_map, length}
-use Rattle.rdf_values.specs.Machine.{first_in}
-use Rattle.rdf_values.specs.Times.{times}
-use Rattle.rdf_values.specs.declared.fault.Fault.{Fault}
-use Rattle.slot_words.specs.Seats.{SeatSeen}
+use Rattle.rdf_values.specs.{Fault, first_in, times}
+use Rattle.slot_words.specs.{SeatSeen}
 use Rattle.snapshot_pieces.specs.Facts.{IsPieceOf, SnapFacts}
 use Rattle.snapshot_pieces.specs.Stopping.{clusters_of}
 use Rattle.snapshot_pieces.specs.declared.finished.End.{End}
 use Rattle.snapshot_pieces.specs.declared.finished.End.TheVariants.{Over, Faulted, NoMemory}
 use Rattle.snapshot_pieces.specs.declared.finished.Finished.{Finished}
 use Rattle.snapshot_pieces.specs.declared.gather.Outcome.{Outcome}
-use Rattle.snapshot_pieces.specs.declared.gather.Outcome.TheVariants as outcome
 use Rattle.snapshot_pieces.specs.declared.piece.Piece.{Piece}
 
 -- the fault with which a slot stopped
@@ -51,5 +48,5 @@ pub record HasAll (facts : SnapFacts) (ps : List Piece) : Type 0 where
 
 -- no cluster has a fault, and all have pieces; or the fault is that of the first cluster that has one
 abbrev pub IsOutcome : SnapFacts → Outcome → Type 0
-IsOutcome facts (outcome.Made pieces) = (first_in facts.faults ≡ None) × HasAll facts pieces
-IsOutcome facts (outcome.Faulted fault) = first_in facts.faults ≡ Some fault
+IsOutcome facts (Outcome.Made pieces) = (first_in facts.faults ≡ None) × HasAll facts pieces
+IsOutcome facts (Outcome.Faulted fault) = first_in facts.faults ≡ Some fault

@@ -1,9 +1,8 @@
 -- How a slot stops.
 use Rattle.std.specs.Prelude.{◌≡◌, ◌⊎◌, ⊤, ℕ, List, [], ◌∷◌, ◌++◌, Some, None, All, map, slice_get}
-use Rattle.rdf_values.specs.declared.fault.Fault.{Fault}
-use Rattle.slot_words.specs.Seats.{ClaimsSeen, SeatSeen}
+use Rattle.rdf_values.specs.{Fault}
+use Rattle.slot_words.specs.{ClaimsSeen, MetBar, RanOut, SeatSeen}
 use Rattle.slot_words.specs.Seats as claims
-use Rattle.slot_words.specs.SeatEnds.{MetBar, RanOut}
 use Rattle.snapshot_pieces.specs.Facts.{AreSound, IsPieceOf, SnapFacts}
 use Rattle.snapshot_pieces.specs.declared.finished.End.{End}
 use Rattle.snapshot_pieces.specs.declared.finished.End.TheVariants.{Over, Faulted, NoMemory}

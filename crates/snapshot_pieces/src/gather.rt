@@ -1,10 +1,8 @@
 // What the slots tell together.
 ghost use Rattle.std.specs.Prelude.{◌≡◌, ◌<◌, ◌++◌, All, flat_map, map, IfOk, OnOk, vec_len};
-ghost use Rattle.rdf_values.specs.Machine.{least_fault, lesser_fault};
+ghost use Rattle.rdf_values.specs.{least_fault, lesser_fault};
 ghost use Rattle.slot_words.specs.Seats.{IsOf};
-ghost use Rattle.snapshot_pieces.specs.Facts.{AreFacts, SnapFacts};
-ghost use Rattle.snapshot_pieces.specs.Gathered.{HasMemory, IsOutcome, end_faults, pieces_in, pieces_of, seat_in};
-ghost use Rattle.snapshot_pieces.specs.Stopping.{HasStopped};
+ghost use Rattle.snapshot_pieces.specs.{AreFacts, end_faults, HasMemory, HasStopped, IsOutcome, pieces_in, pieces_of, seat_in, SnapFacts};
 
 use crate::finished::{End, Finished};
 use crate::piece::Piece;

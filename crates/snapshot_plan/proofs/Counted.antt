@@ -1,8 +1,7 @@
 -- One more statement is counted.
-use Rattle.std.proofs.Common.{◌≡◌, ◌+◌, Bool, true, false, List, ◌∷◌, length, refl, arith}
-use Rattle.std.specs.Prelude.{filter, if◌then◌else◌}
-use Rattle.rdf_values.specs.declared.statement.Statement.{Statement}
-use Rattle.snapshot_plan.specs.Plans.{makes_node}
+use Rattle.std.proofs.Common.{◌≡◌, ◌+◌, Bool, true, false, List, ◌∷◌, length, refl, arith, filter, if◌then◌else◌}
+use Rattle.rdf_values.specs.{Statement}
+use Rattle.snapshot_plan.specs.{makes_node}
 
 by : (b : Bool) (s : Statement) (rest : List Statement) → makes_node s ≡ b → length (filter makes_node (s ∷ rest)) ≡ (if b then length (filter makes_node rest) + 1 else length (filter makes_node rest))
 by true s rest e = rw e (omega arith)

@@ -1,18 +1,11 @@
 -- The kind of a column at a node, by what look-ups answer.
-use Rattle.std.proofs.Common.{◌≡◌, ◌<◌, ℕ, Bool, true, false, List, length, Some, Ok, Err, refl, ap, ap₂, sym, ◌∙◌}
-use Rattle.std.specs.Prelude.{slice_get}
-use Rattle.rdf_values.specs.Kinds.{column_kind, scope_of}
-use Rattle.rdf_values.specs.Path.{path, target_of}
-use Rattle.rdf_values.specs.Verdict.{is_visible, scope_at}
-use Rattle.rdf_values.specs.declared.column.Column.{Column}
+use Rattle.std.proofs.Common.{◌≡◌, ◌<◌, ℕ, Bool, true, false, List, length, Some, Ok, Err, refl, ap, ap₂, sym, ◌∙◌, slice_get}
+use Rattle.rdf_values.specs.{ColType, Column, column_kind, is_visible, path, scope_at, scope_of, Statement, target_of}
 use Rattle.rdf_values.specs.declared.graph_cause.GraphCause.TheVariants.{UnknownColumn}
-use Rattle.rdf_values.specs.declared.statement.Statement.{Statement}
-use Rattle.rdf_values.specs.declared.value.ColType.{ColType}
-use Rattle.graph_numbers.specs.Graphs.{GraphView, booked_statements}
-use Rattle.graph_numbers.specs.Versions.{named_version, version_count}
-use Rattle.graph.specs.Lookups.{AreKinds}
+use Rattle.graph_numbers.specs.{booked_statements, GraphView, named_version, version_count}
+use Rattle.graph.specs.{AreKinds}
 use Rattle.graph.proofs.Scoping.{found_as, found_none, found_within, kinds_counted}
-use Rattle.snapshot_plan.specs.Views.{scope_in}
+use Rattle.snapshot_plan.specs.{scope_in}
 
 module _ (g : GraphView) (h : List Column) (b : List Statement) (node : List ℕ) (kinds : List ColType) (eh : h ≡ g.header) (eb : b ≡ booked_statements g) (k : AreKinds g.header g.names (booked_statements g) kinds) where
   seen : (name : List ℕ) (t : Bool) → t ≡ is_visible (scope_at g.names (scope_of h) b node) name → t ≡ is_visible (scope_in g node) name

@@ -1,31 +1,20 @@
 -- The columns of a plan are a header.
-use Rattle.std.proofs.Common.{◌≡◌, ◌+◌, ℕ, Bool, true, false, ◌||◌, List, [], ◌∷◌, ◌++◌, map, Option, Some, None, Result, Ok, Err, refl, ap₂, subst, ◌∙◌, arith}
-use Rattle.std.specs.Prelude.{not, if◌then◌else◌}
+use Rattle.std.proofs.Common.{◌≡◌, ◌+◌, ℕ, Bool, true, false, ◌||◌, List, [], ◌∷◌, ◌++◌, map, Option, Some, None, Result, Ok, Err, refl, ap₂, subst, ◌∙◌, arith, not, if◌then◌else◌}
 use Rattle.std.proofs.lemmas.List.{length-map, map-append}
-use Rattle.rdf_values.specs.Kinds.{Scope, column_kind}
-use Rattle.rdf_values.specs.Names.{among}
-use Rattle.rdf_values.specs.Tables.{AreColumns, IsStored, has_name}
-use Rattle.rdf_values.specs.Verdict.{is_node, kind_or_int}
-use Rattle.rdf_values.specs.declared.graph_cause.GraphCause.{GraphCause}
-use Rattle.rdf_values.specs.declared.value.ColType.{ColType}
-use Rattle.rdf_values.specs.declared.value.ColType.TheVariants as k
-use Rattle.graph_numbers.specs.Graphs.{booked_statements}
+use Rattle.rdf_values.specs.{among, AreColumns, ColType, column_kind, GraphCause, has_name, is_node, IsStored, kind_or_int, Scope}
+use Rattle.graph_numbers.specs.{booked_statements}
 use Rattle.graph.proofs.Walking.{same_back}
-use Rattle.snapshot_plan.specs.Laws.{PlansHaveHeaders}
-use Rattle.snapshot_plan.specs.Plans.{first_bad, is_bad, is_stored, unless_bad}
-use Rattle.snapshot_plan.specs.Views.{column_at, scope_in}
-use Rattle.snapshot_plan.specs.declared.cause.SnapCause.{SnapCause}
-use Rattle.snapshot_plan.specs.declared.cause.SnapCause.TheVariants as cause
+use Rattle.snapshot_plan.specs.{column_at, first_bad, is_bad, is_stored, PlansHaveHeaders, scope_in, SnapCause, unless_bad}
 
-kept : (b : Bool) (o : Option ℕ) (rest : Option SnapCause) → (if not b then Some cause.BadNode else unless_bad o rest) ≡ None → o ≡ None
+kept : (b : Bool) (o : Option ℕ) (rest : Option SnapCause) → (if not b then Some SnapCause.BadNode else unless_bad o rest) ≡ None → o ≡ None
 kept true None rest h = refl
 kept true (Some i) rest h = cc h
 kept false o rest h = cc h
 
 stored : (r : Result ColType GraphCause) → is_stored r ≡ true → IsStored (kind_or_int r)
-stored (Ok k.Int) h = tt
-stored (Ok k.Bool) h = cc h
-stored (Ok k.Vect) h = tt
+stored (Ok ColType.Int) h = tt
+stored (Ok ColType.Bool) h = cc h
+stored (Ok ColType.Vect) h = tt
 stored (Err why) h = cc h
 
 good : (a b : Bool) → (not a || b) ≡ false → (a ≡ true) × (b ≡ false)

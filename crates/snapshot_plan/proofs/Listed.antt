@@ -1,10 +1,7 @@
 -- Lists that are made of others, one more each time.
 use Rattle.std.proofs.Common.{◌≡◌, ◌+◌, ◌<◌, ℕ, zero, suc, List, [], ◌∷◌, ◌++◌, length, get_or, map, take, refl, ap, ap₂, ◌∙◌, arith}
-use Rattle.rdf_values.specs.Kinds.{Scope, column_kind}
-use Rattle.rdf_values.specs.Verdict.{kind_or_int}
-use Rattle.rdf_values.specs.declared.column.Column.{Column}
-use Rattle.rdf_values.specs.declared.value.ColType.{ColType}
-use Rattle.snapshot_plan.specs.Views.{column_at}
+use Rattle.rdf_values.specs.{ColType, Column, column_kind, kind_or_int, Scope}
+use Rattle.snapshot_plan.specs.{column_at}
 
 next_suc : {A B : Type 0} (f : A → B) (xs : List A) (i : ℕ) (d : A) → i < length xs → map f (take i xs) ++ f (get_or xs i d) ∷ [] ≡ map f (take (suc i) xs)
 next_suc f [] i d lt = absurd (omega (arith, lt))

@@ -3,10 +3,9 @@ use Rattle.std.proofs.Common.{◌≡◌, ◌<◌, ℕ, Bool, true, false, ◌&&�
 use Rattle.std.proofs.lemmas.List.Folds.{list_any_at}
 use Rattle.std.proofs.lemmas.Option.{slice_get-get_or}
 use Rattle.std.proofs.lemmas.Slice.Eq.{bytes_eq-Decides}
-use Rattle.lemmas.proofs.Booleans.{both_true}
-use Rattle.rdf_values.specs.Names.{same}
-use Rattle.rdf_values.specs.Path.{Variation, same_variation}
-use Rattle.snapshot_plan.specs.Views.{IsNumber, no_variation}
+use Rattle.lemmas.proofs.{both_true}
+use Rattle.rdf_values.specs.{same, same_variation, Variation}
+use Rattle.snapshot_plan.specs.{IsNumber, no_variation}
 
 same_is : (u v : Variation) → same_variation u v ≡ true → v ≡ u
 same_is u v h =

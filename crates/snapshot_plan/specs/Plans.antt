@@ -1,26 +1,17 @@
 -- Why a snapshot isn't planned.
 use Rattle.std.specs.Prelude.{ℕ, ◌+◌, ◌*◌, Bool, true, false, not, ◌||◌, List, [], ◌∷◌, ◌++◌, length, filter, Option, Some, None, Result, Ok, Err, if◌then◌else◌, nat_lt}
 use Rattle.std.specs.List.{list_any}
-use Rattle.rdf_values.specs.Kinds.{FunctionNames, Scope, column_kind, scope_of}
-use Rattle.rdf_values.specs.Names.{among}
-use Rattle.rdf_values.specs.Path.{Under, Variation, same_variation, variations}
-use Rattle.rdf_values.specs.Verdict.{is_node, scope_at}
-use Rattle.rdf_values.specs.declared.column.Column.{Column}
-use Rattle.rdf_values.specs.declared.graph_cause.GraphCause.{GraphCause}
-use Rattle.rdf_values.specs.declared.statement.Statement.{Statement}
+use Rattle.rdf_values.specs.{among, ColType, Column, column_kind, FunctionNames, GraphCause, is_node, same_variation, Scope, scope_at, scope_of, Statement, Under, Variation, variations}
 use Rattle.rdf_values.specs.declared.statement.Statement.TheVariants.{Define, Redefine, Alias, Filter, Vary}
-use Rattle.rdf_values.specs.declared.value.ColType.{ColType}
-use Rattle.rdf_values.specs.declared.value.ColType.TheVariants as k
 use Rattle.snapshot_plan.specs.declared.cause.SnapCause.{SnapCause}
-use Rattle.snapshot_plan.specs.declared.cause.SnapCause.TheVariants as cause
 
 -- ---- columns
 
 -- a visible column of numbers or vectors, which a table can hold
 abbrev pub is_stored : Result ColType GraphCause → Bool
-is_stored (Ok k.Int) = true
-is_stored (Ok k.Bool) = false
-is_stored (Ok k.Vect) = true
+is_stored (Ok ColType.Int) = true
+is_stored (Ok ColType.Bool) = false
+is_stored (Ok ColType.Vect) = true
 is_stored (Err why) = false
 
 -- the column can't be written, where these stand before it
@@ -60,15 +51,15 @@ most_statements = 256
 -- ---- the first cause that applies
 
 abbrev pub unless_bad : Option ℕ → Option SnapCause → Option SnapCause
-unless_bad (Some i) rest = Some (cause.BadColumn i)
+unless_bad (Some i) rest = Some (SnapCause.BadColumn i)
 unless_bad None rest = rest
 
 abbrev pub unless_many : ℕ → Option SnapCause
-unless_many n = if nat_lt most_statements n then Some (cause.TooMany n) else None
+unless_many n = if nat_lt most_statements n then Some (SnapCause.TooMany n) else None
 
 -- after the statements so far, over a table's columns, with the functions' names
 abbrev pub cause_of : List Statement → List Column → FunctionNames → List ℕ → List (List ℕ) → Under → Option SnapCause
 cause_of before header names node columns u =
-    if not (is_node before node) then Some cause.BadNode
+    if not (is_node before node) then Some SnapCause.BadNode
     else unless_bad (first_bad (scope_at names (scope_of header) before node) 0 [] columns)
-    (if not (is_under (variations before) u) then Some cause.BadVariation else unless_many (statements_planned before (length columns)))
+    (if not (is_under (variations before) u) then Some SnapCause.BadVariation else unless_many (statements_planned before (length columns)))

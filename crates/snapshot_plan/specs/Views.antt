@@ -1,10 +1,7 @@
 -- What a contract sees of a plan: what it was made for.
 use Rattle.std.specs.Prelude.{◌≡◌, ◌<◌, ◌≤◌, ℕ, true, slice_get, List, [], length, map, Option, Some, None, Result, Ok, Err, ⊤}
-use Rattle.rdf_values.specs.Kinds.{Scope, column_kind, scope_of}
-use Rattle.rdf_values.specs.Path.{Under, Variation}
-use Rattle.rdf_values.specs.Verdict.{kind_or_int, scope_at}
-use Rattle.rdf_values.specs.declared.column.Column.{Column}
-use Rattle.graph_numbers.specs.Graphs.{GraphView, booked_statements, graph_under, graph_variations}
+use Rattle.rdf_values.specs.{Column, column_kind, kind_or_int, Scope, scope_at, scope_of, Under, Variation}
+use Rattle.graph_numbers.specs.{booked_statements, graph_under, graph_variations, GraphView}
 use Rattle.snapshot_plan.specs.Plans.{cause_of, is_under}
 use Rattle.snapshot_plan.specs.declared.cause.SnapCause.{SnapCause}
 use Rattle.snapshot_plan.specs.declared.under.Under.{Under as Named}

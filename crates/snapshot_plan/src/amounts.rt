@@ -1,7 +1,7 @@
 // How many statements a plan has.
 ghost use Rattle.std.specs.Prelude.{◌≡◌, ◌≤◌, filter, length};
-ghost use Rattle.graph.specs.Lookups.{statements};
-ghost use Rattle.snapshot_plan.specs.Plans.{makes_node};
+ghost use Rattle.graph.specs.{statements};
+ghost use Rattle.snapshot_plan.specs.{makes_node};
 
 use rdf_values::{Line, Statement};
 

@@ -1,11 +1,8 @@
 // The columns that are asked for.
 ghost use Rattle.std.specs.Prelude.{◌≡◌, ◌<◌, ◌≤◌, [], length, Err, Ok, Some, MatchOption, slice_get};
-ghost use Rattle.rdf_values.specs.Kinds.{column_kind};
-ghost use Rattle.rdf_values.specs.Names.{among};
-ghost use Rattle.rdf_values.specs.Verdict.{kind_or_int};
+ghost use Rattle.rdf_values.specs.{among, column_kind, kind_or_int};
 ghost use Rattle.rdf_values.specs.declared.graph_cause.GraphCause.TheVariants.{UnknownColumn};
-ghost use Rattle.snapshot_plan.specs.Plans.{first_bad, is_bad};
-ghost use Rattle.snapshot_plan.specs.Views.{scope_in};
+ghost use Rattle.snapshot_plan.specs.{first_bad, is_bad, scope_in};
 
 use graph::Graph;
 use graph::lookup::{is_visible, named_version, target_of};

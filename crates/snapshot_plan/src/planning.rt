@@ -1,7 +1,7 @@
 // Plans.
 ghost use Rattle.std.specs.Prelude.{◌≡◌, ◌<◌, ◌≤◌, None, Some, length, IfOk, MatchResult};
-ghost use Rattle.rdf_values.specs.Answers.{Answers};
-ghost use Rattle.graph_numbers.specs.Graphs.{graph_under, graph_variations};
+ghost use Rattle.rdf_values.specs.{Answers};
+ghost use Rattle.graph_numbers.specs.{graph_under, graph_variations};
 ghost use Rattle.snapshot_plan.specs.Views.{IsNumber, IsPlan, IsWithin, cause_in, plan_columns, plan_of, planned, under_of};
 
 use crate::amounts::node_count;
@@ -28,7 +28,7 @@ pub struct SnapPlan {
 
 impl Model for SnapPlan {
     ghost use Rattle.std.specs.Coded.{codes};
-    ghost use Rattle.rdf_values.specs.TreeCode.{named_code};
+    ghost use Rattle.rdf_values.specs.{named_code};
     ghost use Rattle.snapshot_plan.specs.Views.{IsPlan, IsWithin, PlanView, plan_of};
 
     ghost Value = { PlanView };

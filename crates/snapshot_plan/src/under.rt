@@ -1,9 +1,8 @@
 // Nominal, or a variation by its name.
 ghost use Rattle.std.specs.Prelude.{◌≡◌, ◌<◌, false, true, get_or, length, MatchOption};
 ghost use Rattle.std.specs.List.{list_any};
-ghost use Rattle.rdf_values.specs.Path.{same_variation};
-ghost use Rattle.snapshot_plan.specs.Plans.{is_under};
-ghost use Rattle.snapshot_plan.specs.Views.{IsNumber, no_variation, under_of};
+ghost use Rattle.rdf_values.specs.{same_variation};
+ghost use Rattle.snapshot_plan.specs.{is_under, IsNumber, no_variation, under_of};
 
 use graph::Variations;
 use rdf_values::Name;

@@ -1,31 +1,21 @@
 -- Answers to the words.
-use Rattle.std.proofs.Common.{◌≡◌, ℕ, List, [], ◌∷◌, Option, None, Some, IfSome, sym, subst, ◌∙◌}
-use Rattle.std.specs.Prelude.{MatchOption}
-use Rattle.rdf_values.specs.Functions.{Function}
-use Rattle.rdf_values.specs.Tables.{TableView}
-use Rattle.rdf_values.specs.declared.script.Script.{Script}
-use Rattle.input_files.specs.Answers.{AreTurnedTo, Files}
-use Rattle.input_files.specs.Due.{WithTableFile, due_of}
-use Rattle.input_files.specs.Fetching.{Tells}
-use Rattle.input_files.specs.Reading.{HoldsTheScript, HoldsTheTable}
+use Rattle.std.proofs.Common.{◌≡◌, ℕ, List, [], ◌∷◌, Option, None, Some, IfSome, sym, subst, ◌∙◌, MatchOption}
+use Rattle.rdf_values.specs.{Function, Script, TableView}
+use Rattle.input_files.specs.{AreTurnedTo, due_of, Files, HoldsTheScript, HoldsTheTable, Tells, WithTableFile}
 use Rattle.input_files.proofs.Staging.{script_read_due, table_read_due}
-use Rattle.table_csv.specs.ColumnsOver.{marked_in}
-use Rattle.snapshot_words.specs.Asked.{asked_of}
-use Rattle.snapshot_words.specs.declared.command.SnapCommand.{SnapCommand}
-use Rattle.snapshot_due.specs.Due.{IsDue, IsDueOver, IsDueToFiles, IsRunDue, SnapshotDue, dataset_of}
-use Rattle.snapshot_due.specs.Lines.{usage_line}
-use Rattle.snapshot_due.specs.Statuses.{statuses}
-use Rattle.snapshot_due.specs.declared.status.SnapshotStatus.{SnapshotStatus}
+use Rattle.table_csv.specs.{marked_in}
+use Rattle.snapshot_words.specs.{asked_of, SnapCommand}
+use Rattle.snapshot_due.specs.{dataset_of, IsDue, IsDueOver, IsDueToFiles, IsRunDue, SnapshotDue, SnapshotStatus, statuses, usage_line}
 use Rattle.snapshot_due.specs.declared.status.SnapshotStatus.TheVariants.{Memory, Words, ReadFault, WriteFault}
-use Rattle.snapshot_program.specs.Answers.{Answers, AreInputs, IsAnswer, IsOfTable, IsPlanned, IsRefusal, IsScriptFile, RefusesFiles}
-use Rattle.snapshot_program.specs.Top.{TurnsBesides}
+use Rattle.snapshot_program.specs.{AreInputs, IsAnswer, IsOfTable, IsPlanned, IsRefusal, IsScriptFile, RefusesFiles, TurnsBesides}
+use Rattle.snapshot_program.specs.Answers.{Answers}
 use Rattle.snapshot_program.specs.declared.answer.Answer.{Answer}
 use Rattle.snapshot_program.specs.declared.inputs.Inputs.{Inputs}
-use Rattle.snapshot_program.specs.declared.planning.Planned.TheVariants as planning
+use Rattle.snapshot_program.specs.declared.planning.Planned.{Planned}
 use Rattle.snapshot_program.proofs.Staging.{more_of_plan, more_of_script, more_of_table}
 
 -- an answer where there is no plan is that to the table
-pub unplanned_answer : (fns : List Function) (c : SnapCommand) (script : Script) (t : TableView) (a : Answer) → IsPlanned fns c script t.columns (planning.Refused a) → Answers (IsDueOver fns c script t) a
+pub unplanned_answer : (fns : List Function) (c : SnapCommand) (script : Script) (t : TableView) (a : Answer) → IsPlanned fns c script t.columns (Planned.Refused a) → Answers (IsDueOver fns c script t) a
 unplanned_answer fns c script t a h =
     (h.0, more_of_plan fns c script t.columns (λ p d. ⊥) (λ p d. IsRunDue p (dataset_of fns c t) d) (due_of a.status a.text) (λ p none. absurd none) h.1)
 

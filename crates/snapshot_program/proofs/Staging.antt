@@ -1,23 +1,13 @@
 -- What is due in stages, where a later stage answers more.
-use Rattle.std.proofs.Common.{◌≡◌, inl, inr, ℕ, Bool, true, false, List, length, nat_lt, Option, None, Some, Result, Ok, Err}
-use Rattle.std.specs.Prelude.{MatchOption, MatchResult}
+use Rattle.std.proofs.Common.{◌≡◌, inl, inr, ℕ, Bool, true, false, List, length, nat_lt, Option, None, Some, Result, Ok, Err, MatchOption, MatchResult}
 use Rattle.std.specs.Bool.{MatchBool}
-use Rattle.rdf_values.specs.Functions.{Function, fn_names}
-use Rattle.rdf_values.specs.RefusalLines.{graph_cause_line, long_script_line, long_table_line, table_cause_line}
-use Rattle.rdf_values.specs.TableText.{MarkedTable, table_of}
-use Rattle.rdf_values.specs.Verdict.{verdict}
-use Rattle.rdf_values.specs.declared.column.Column.{Column}
-use Rattle.rdf_values.specs.declared.graph_cause.GraphCause.{GraphCause}
-use Rattle.rdf_values.specs.declared.script.Script.{Script}
-use Rattle.rdf_values.specs.declared.table_cause.TableCause.{TableCause}
-use Rattle.table_csv.specs.Csv.{csv_records}
-use Rattle.input_files.specs.Due.{Due, FileStatuses, ReadsScript, WithScriptFile, WithTableFile, due_of, max_script, max_table}
-use Rattle.snapshot_plan.specs.Views.{PlanView}
-use Rattle.snapshot_plan.specs.declared.cause.SnapCause.{SnapCause}
-use Rattle.snapshot_words.specs.declared.command.SnapCommand.{SnapCommand}
-use Rattle.snapshot_due.specs.Due.{SnapshotDue, WithPlan, cause_over, plan_over}
-use Rattle.snapshot_due.specs.Lines.{cause_line}
-use Rattle.snapshot_due.specs.Statuses.{status_of}
+use Rattle.rdf_values.specs.{Column, fn_names, Function, graph_cause_line, GraphCause, long_script_line, long_table_line, MarkedTable, Script, table_cause_line, table_of, TableCause, verdict}
+use Rattle.table_csv.specs.{csv_records}
+use Rattle.input_files.specs.{due_of, FileStatuses, max_script, max_table, ReadsScript, WithScriptFile, WithTableFile}
+use Rattle.input_files.specs.Due.{Due}
+use Rattle.snapshot_plan.specs.{PlanView, SnapCause}
+use Rattle.snapshot_words.specs.{SnapCommand}
+use Rattle.snapshot_due.specs.{cause_line, cause_over, plan_over, SnapshotDue, status_of, WithPlan}
 use Rattle.snapshot_due.specs.declared.status.SnapshotStatus.TheVariants.{ScriptRefused}
 
 -- ---- files

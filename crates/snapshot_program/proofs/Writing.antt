@@ -1,14 +1,11 @@
 -- What the top call leaves written.
 use Rattle.std.proofs.Common.{◌≡◌, ◌⊎◌, inl, inr, ℕ, List, Option, None, Some, IfSome, refl, subst, ⊎_elim}
-use Rattle.rdf_outside.specs.Outside.{Appends, AppendsPart}
-use Rattle.rdf_values.specs.Functions.{Function}
-use Rattle.input_files.specs.Answers.{Files, WritesDue, WritesDuePart, WritesPart, WritesReadFailed}
-use Rattle.input_files.specs.Due.{due_of}
-use Rattle.snapshot_due.specs.Due.{IsDue}
-use Rattle.snapshot_due.specs.Statuses.{IsFinal}
-use Rattle.snapshot_due.specs.declared.status.SnapshotStatus.{SnapshotStatus}
+use Rattle.rdf_outside.specs.{Appends, AppendsPart}
+use Rattle.rdf_values.specs.{Function}
+use Rattle.input_files.specs.{due_of, Files, WritesDue, WritesDuePart, WritesPart, WritesReadFailed}
+use Rattle.snapshot_due.specs.{IsDue, IsFinal, SnapshotStatus}
 use Rattle.snapshot_due.specs.declared.status.SnapshotStatus.TheVariants.{Done, Memory, Words, ReadFault, WriteFault, NoFile, ScriptRefused, TableRefused, LoopFault, BadNode, BadColumn, BadVariation, TooMany, TooLong}
-use Rattle.snapshot_program.specs.Answers.{IsAnswer}
+use Rattle.snapshot_program.specs.{IsAnswer}
 use Rattle.snapshot_program.specs.declared.answer.Answer.{Answer}
 
 -- a status is due, that of a failed read, or none of an answer

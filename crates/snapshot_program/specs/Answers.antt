@@ -1,41 +1,26 @@
 -- What the program answers before anything is written.
 use Rattle.std.specs.Prelude.{◌≡◌, ◌<◌, ℕ, List, Option, None, IfSome}
-use Rattle.rdf_outside.specs.Outside.{Rose}
-use Rattle.rdf_values.specs.Bookable.{IsBookable}
-use Rattle.rdf_values.specs.Functions.{Function, fn_names}
-use Rattle.rdf_values.specs.RefusalLines.{read_failed_line}
-use Rattle.rdf_values.specs.Verdict.{verdict}
-use Rattle.rdf_values.specs.declared.column.Column.{Column}
-use Rattle.rdf_values.specs.declared.script.Script.{Script}
-use Rattle.table_csv.specs.ColumnsOver.{columns_over, marked_in}
-use Rattle.input_files.specs.Answers.{Files, IsLast}
-use Rattle.input_files.specs.Due.{WithScriptFile, WithTableFile, due_of}
-use Rattle.input_files.specs.Fetching.{Tells}
-use Rattle.input_files.specs.Reading.{HoldsTheScript, HoldsTheTable}
-use Rattle.snapshot_plan.specs.declared.cause.SnapCause.{SnapCause}
-use Rattle.snapshot_plan.specs.declared.cause.SnapCause.TheVariants as cause
-use Rattle.snapshot_words.specs.Asked.{asked_of}
-use Rattle.snapshot_words.specs.declared.command.SnapCommand.{SnapCommand}
-use Rattle.snapshot_due.specs.Due.{IsDue, SnapshotDue, WithPlan, cause_over, plan_over}
-use Rattle.snapshot_due.specs.Lines.{usage_line}
-use Rattle.snapshot_due.specs.Statuses.{IsFinal, statuses}
-use Rattle.snapshot_due.specs.declared.status.SnapshotStatus.{SnapshotStatus}
+use Rattle.rdf_outside.specs.{Rose}
+use Rattle.rdf_values.specs.{Column, fn_names, Function, IsBookable, read_failed_line, Script, verdict}
+use Rattle.table_csv.specs.{columns_over, marked_in}
+use Rattle.input_files.specs.{due_of, Files, HoldsTheScript, HoldsTheTable, IsLast, Tells, WithScriptFile, WithTableFile}
+use Rattle.snapshot_plan.specs.{SnapCause}
+use Rattle.snapshot_words.specs.{asked_of, SnapCommand}
+use Rattle.snapshot_due.specs.{cause_over, IsDue, IsFinal, plan_over, SnapshotDue, SnapshotStatus, statuses, usage_line, WithPlan}
 use Rattle.snapshot_due.specs.declared.status.SnapshotStatus.TheVariants.{Memory, Words, ReadFault, WriteFault}
 use Rattle.snapshot_program.specs.declared.answer.Answer.{Answer}
 use Rattle.snapshot_program.specs.declared.inputs.Inputs.{Inputs}
 use Rattle.snapshot_program.specs.declared.inputs.ReadInputs.{ReadInputs}
-use Rattle.snapshot_program.specs.declared.inputs.ReadInputs.TheVariants as read
 use Rattle.snapshot_program.specs.declared.planning.Planned.{Planned}
-use Rattle.snapshot_program.specs.declared.planning.Planned.TheVariants as planned
 
 -- ---- over a table
 
 -- a column that a cause names is one of so many
 abbrev pub IsWithin : ℕ → SnapCause → Type 0
-IsWithin n cause.BadNode = Unit {0}
-IsWithin n (cause.BadColumn i) = i < n
-IsWithin n cause.BadVariation = Unit {0}
-IsWithin n (cause.TooMany m) = Unit {0}
+IsWithin n SnapCause.BadNode = Unit {0}
+IsWithin n (SnapCause.BadColumn i) = i < n
+IsWithin n SnapCause.BadVariation = Unit {0}
+IsWithin n (SnapCause.TooMany m) = Unit {0}
 
 -- a status that comes once both files were read
 abbrev pub IsOfTable : SnapshotStatus → Type 0
@@ -51,9 +36,9 @@ Answers IsDueTo a = IsOfTable a.status × IsDueTo (due_of a.status a.text)
 
 -- the plan that is asked for; or what is due where there is none
 abbrev pub IsPlanned : List Function → SnapCommand → Script → List Column → Planned → Type 0
-IsPlanned fns c script columns (planned.Plan p) =
+IsPlanned fns c script columns (Planned.Plan p) =
     (verdict (fn_names fns) columns script ≡ None) × (cause_over fns c script columns ≡ None) × (p ≡ plan_over fns c script columns)
-IsPlanned fns c script columns (planned.Refused a) = Answers (WithPlan fns c script columns (λ p d. ⊥)) a
+IsPlanned fns c script columns (Planned.Refused a) = Answers (WithPlan fns c script columns (λ p d. ⊥)) a
 
 -- ---- the files
 
@@ -86,8 +71,8 @@ pub record IsRefusal (c : SnapCommand) (files : Option Files) (turns : List (Lis
   pub answers : AnswersFiles (RefusesFiles c) files turns before now a
 
 abbrev pub ReadsInputs : SnapCommand → Option Files → List (List ℕ) → ℕ → ℕ → ReadInputs → Type 0
-ReadsInputs c files turns before now (read.Both inputs) = AreInputs c files inputs
-ReadsInputs c files turns before now (read.Refused a) = IsRefusal c files turns before now a
+ReadsInputs c files turns before now (ReadInputs.Both inputs) = AreInputs c files inputs
+ReadsInputs c files turns before now (ReadInputs.Refused a) = IsRefusal c files turns before now a
 
 -- ---- the words
 

@@ -1,7 +1,7 @@
 -- Which files the top call turns to.
 use Rattle.std.specs.Prelude.{◌≡◌, ℕ, List, [], ◌∷◌, Option, MatchOption}
-use Rattle.input_files.specs.Answers.{AreTurnedTo, Files}
-use Rattle.snapshot_words.specs.Asked.{asked_of}
+use Rattle.input_files.specs.{AreTurnedTo, Files}
+use Rattle.snapshot_words.specs.{asked_of}
 use Rattle.snapshot_program.specs.Answers.{IsScriptFile}
 
 -- the script, and then the table where the script was read; none where the words aren't taken

@@ -1,7 +1,7 @@
 // What the program answers.
 ghost use Rattle.std.specs.Prelude.{◌≡◌};
-ghost use Rattle.input_files.specs.Reading.{status_for};
-ghost use Rattle.snapshot_due.specs.Statuses.{statuses};
+ghost use Rattle.input_files.specs.{status_for};
+ghost use Rattle.snapshot_due.specs.{statuses};
 
 use input_files::{FileCause, FileRefusal};
 use rdf_values::Text;

@@ -1,8 +1,8 @@
 // The script and the table from their files.
 ghost use Rattle.std.specs.Prelude.{◌≡◌, ◌≤◌, [], ◌∷◌, IfOk, OnOk};
-ghost use Rattle.input_files.specs.Answers.{AreTurnedTo};
-ghost use Rattle.snapshot_words.specs.Limits.{IsAsked};
-ghost use Rattle.snapshot_program.specs.Answers.{IsScriptFile, ReadsInputs};
+ghost use Rattle.input_files.specs.{AreTurnedTo};
+ghost use Rattle.snapshot_words.specs.{IsAsked};
+ghost use Rattle.snapshot_program.specs.{IsScriptFile, ReadsInputs};
 
 use crate::answer::Answer;
 use columns::Columns;

@@ -1,9 +1,9 @@
 // The lines that are this program's own.
 ghost use Rattle.std.specs.Prelude.{◌≡◌, ◌++◌, ◌∷◌, IfOk, length};
-ghost use Rattle.rdf_model.specs.ResultLines.{fault_name};
-ghost use Rattle.rdf_values.specs.RefusalLines.{line};
-ghost use Rattle.snapshot_due.specs.Lines.{cause_line, fault_line, long_line, under_text, usage_line};
-ghost use Rattle.snapshot_program.specs.Answers.{IsWithin};
+ghost use Rattle.rdf_model.specs.{fault_name};
+ghost use Rattle.rdf_values.specs.{line};
+ghost use Rattle.snapshot_due.specs.{cause_line, fault_line, long_line, under_text, usage_line};
+ghost use Rattle.snapshot_program.specs.{IsWithin};
 
 use rdf_values::{EntryFault, Memory, Name, Text};
 use result_text::numbers::put_count;

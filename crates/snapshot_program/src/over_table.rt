@@ -1,12 +1,10 @@
 // What is due to a script over a table.
 ghost use Rattle.std.specs.Prelude.{◌≡◌, ◌≤◌, ◌<◌, IfOk};
-ghost use Rattle.entry_fns.specs.Lists.{functions_in};
-ghost use Rattle.rdf_values.specs.Bookable.{IsBookable};
-ghost use Rattle.rdf_values.specs.Functions.{fn_names};
-ghost use Rattle.snapshot_due.specs.Due.{IsDueOver, IsRunDue};
-ghost use Rattle.snapshot_due.specs.Lines.{fault_line, long_line};
-ghost use Rattle.snapshot_entries.specs.Jobs.{data_of, plan_of};
-ghost use Rattle.snapshot_words.specs.Limits.{IsAsked};
+ghost use Rattle.entry_fns.specs.{functions_in};
+ghost use Rattle.rdf_values.specs.{fn_names, IsBookable};
+ghost use Rattle.snapshot_due.specs.{fault_line, IsDueOver, IsRunDue, long_line};
+ghost use Rattle.snapshot_entries.specs.{data_of, plan_of};
+ghost use Rattle.snapshot_words.specs.{IsAsked};
 ghost use Rattle.snapshot_program.specs.Answers.{Answers};
 
 use crate::answer::Answer;

@@ -1,13 +1,11 @@
 // The plan of the snapshot that is asked for.
 ghost use Rattle.std.specs.Prelude.{◌≡◌, ◌≤◌, ◌<◌, IfOk, length};
-ghost use Rattle.entry_fns.specs.Lists.{functions_in};
-ghost use Rattle.rdf_values.specs.Bookable.{IsBookable};
-ghost use Rattle.rdf_values.specs.RefusalLines.{graph_cause_line};
-ghost use Rattle.graph_numbers.specs.Graphs.{GraphView};
-ghost use Rattle.snapshot_due.specs.Lines.{cause_line};
-ghost use Rattle.snapshot_due.specs.Statuses.{status_of};
-ghost use Rattle.snapshot_plan.specs.Views.{cause_in, under_of};
-ghost use Rattle.snapshot_program.specs.Answers.{IsPlanned, IsWithin};
+ghost use Rattle.entry_fns.specs.{functions_in};
+ghost use Rattle.rdf_values.specs.{graph_cause_line, IsBookable};
+ghost use Rattle.graph_numbers.specs.{GraphView};
+ghost use Rattle.snapshot_due.specs.{cause_line, status_of};
+ghost use Rattle.snapshot_plan.specs.{cause_in, under_of};
+ghost use Rattle.snapshot_program.specs.{IsPlanned, IsWithin};
 
 use crate::answer::Answer;
 use crate::lines::cause_line;

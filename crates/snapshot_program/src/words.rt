@@ -1,10 +1,9 @@
 // What the program answers to its words, before anything is written.
 ghost use Rattle.std.specs.Prelude.{◌≡◌, ◌≤◌, IfOk, OnOk, None};
-ghost use Rattle.entry_fns.specs.Lists.{functions_in};
-ghost use Rattle.snapshot_due.specs.Lines.{usage_line};
-ghost use Rattle.snapshot_words.specs.Asked.{asked_of};
-ghost use Rattle.snapshot_program.specs.Answers.{IsAnswer};
-ghost use Rattle.snapshot_program.specs.Top.{TurnsBesides};
+ghost use Rattle.entry_fns.specs.{functions_in};
+ghost use Rattle.snapshot_due.specs.{usage_line};
+ghost use Rattle.snapshot_words.specs.{asked_of};
+ghost use Rattle.snapshot_program.specs.{IsAnswer, TurnsBesides};
 
 use crate::answer::Answer;
 use crate::inputs::{ReadInputs, read_inputs};

@@ -1,15 +1,9 @@
 -- The entries of a snapshot are those that pass, with what the columns come to.
-use Rattle.std.proofs.Common.{◌≡◌, ℕ, ◌+◌, Bool, true, false, cond, List, [], ◌∷◌, Option, Some, None, Ok, Err, refl, ap, subst, if◌then◌else◌}
-use Rattle.std.specs.Prelude.{filter}
+use Rattle.std.proofs.Common.{◌≡◌, ℕ, ◌+◌, Bool, true, false, cond, List, [], ◌∷◌, Option, Some, None, Ok, Err, refl, ap, subst, if◌then◌else◌, filter}
 use Rattle.std.specs.List.{AllZip, cons_option}
-use Rattle.rdf_values.specs.Path.{Path, Under}
-use Rattle.rdf_values.specs.Tables.{TableView}
-use Rattle.rdf_values.specs.declared.value.Value.{Value}
-use Rattle.rdf_model.specs.EntryOutcomes.{through}
-use Rattle.rdf_model.specs.Evaluation.{Outcome, Gives, Faults, Needs, ◌>>=◌}
-use Rattle.rdf_model.specs.Results.{Dataset, fault_in, is_true}
-use Rattle.snapshot_rows.specs.Laws.{SnapshotHoldsWhatPassed}
-use Rattle.snapshot_rows.specs.Snapshots.{SnapFault, cells_in, columns_outcome, fault_from, fault_or, kept_cells, kept_rows, plan_path, snapshot_fault, unless_fault}
+use Rattle.rdf_values.specs.{Path, TableView, Under, Value}
+use Rattle.rdf_model.specs.{◌>>=◌, Dataset, fault_in, Faults, Gives, is_true, Needs, Outcome, through}
+use Rattle.snapshot_rows.specs.{cells_in, columns_outcome, fault_from, fault_or, kept_cells, kept_rows, plan_path, SnapFault, snapshot_fault, SnapshotHoldsWhatPassed, unless_fault}
 
 -- ---- the table of a snapshot, and its fault
 

@@ -2,17 +2,12 @@
 use Prim.Native.String.{String}
 use Rattle.std.specs.Prelude.{◌≡◌, ℕ, List, [], ◌∷◌, map, pos, Some, None, Ok, Err, codes, flat_map, refl}
 use Rattle.std.specs.Fmt.{digits}
-use Rattle.rdf_values.specs.Path.{Under}
-use Rattle.rdf_values.specs.RefusalLines.{line}
-use Rattle.rdf_values.specs.declared.column.Column.{Column}
+use Rattle.rdf_values.specs.{Column, line, Statement, Under, Value}
 use Rattle.rdf_values.specs.declared.fault.EntryFault.TheVariants.{ZeroDivisor}
-use Rattle.rdf_values.specs.declared.statement.Statement.{Statement}
-use Rattle.rdf_values.specs.declared.value.Value.{Value}
-use Rattle.rdf_values.specs.declared.value.Value.TheVariants as val
 use Rattle.rdf_model.proofs.Analyses.{col, define, div, filter, gt, int_column, num, script, sub, table, texts, three_columns, vary_pt, vec_column}
-use Rattle.snapshot_plan.specs.Views.{PlanView}
-use Rattle.snapshot_text.specs.TableTexts.{table_text}
-use Rattle.snapshot_rows.specs.Snapshots.{snapshot}
+use Rattle.snapshot_plan.specs.{PlanView}
+use Rattle.snapshot_text.specs.{table_text}
+use Rattle.snapshot_rows.specs.{snapshot}
 
 -- v = df.Vary("pt", "{pt - 11, pt + 11}", ["down", "up"])
 -- f = v.Filter("pt > 20")
@@ -32,7 +27,7 @@ abbrev pt_up : Under
 pt_up = Some (record { name = codes "pt"; tag = codes "up" })
 
 abbrev cells : ℕ → List ℕ → List Value
-cells pt jets = val.Int (pos pt) ∷ val.Vect (map pos jets) ∷ []
+cells pt jets = Value.Int (pos pt) ∷ Value.Vect (map pos jets) ∷ []
 
 abbrev columns_shown : List Column
 columns_shown = int_column "pt" ∷ vec_column "jets" ∷ []

@@ -1,12 +1,9 @@
 -- A snapshot's fault is that of the least entry which has one.
 use Rattle.std.proofs.Common.{◌≡◌, ◌⊎◌, inl, inr, ℕ, zero, suc, ◌+◌, ◌<◌, Bool, true, false, List, [], ◌∷◌, Option, Some, None, refl, sym, ◌∙◌, ap, subst, arith, slice_get}
-use Rattle.rdf_values.specs.declared.fault.EntryFault.{EntryFault}
-use Rattle.rdf_values.specs.declared.value.Value.{Value}
-use Rattle.rdf_model.specs.Evaluation.{Outcome, Gives, Faults, Needs}
-use Rattle.rdf_model.specs.Results.{Dataset, fault_in}
-use Rattle.snapshot_plan.specs.Views.{PlanView}
-use Rattle.snapshot_rows.specs.Laws.{FaultsWith, HasNoFault, IsLeastFault, SnapshotFaultIsLeast, columns_in, passed_in}
-use Rattle.snapshot_rows.specs.Snapshots.{SnapFault, fault_or, row_outcome, plan_path, snapshot_fault}
+use Rattle.rdf_values.specs.{EntryFault, Value}
+use Rattle.rdf_model.specs.{Dataset, fault_in, Faults, Gives, Needs, Outcome}
+use Rattle.snapshot_plan.specs.{PlanView}
+use Rattle.snapshot_rows.specs.{columns_in, fault_or, FaultsWith, HasNoFault, IsLeastFault, passed_in, plan_path, row_outcome, SnapFault, snapshot_fault, SnapshotFaultIsLeast}
 use Rattle.snapshot_rows.proofs.Entries.{both, is_faulted, is_taken}
 
 faulted : (o : Outcome ⊥ Bool) (c : Outcome ⊥ (List Value)) (kind : EntryFault) → fault_in (both o c) ≡ Some kind → (o ≡ Faults kind) ⊎ ((o ≡ Gives true) × (c ≡ Faults kind))

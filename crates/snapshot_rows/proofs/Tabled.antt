@@ -1,42 +1,24 @@
 -- A snapshot is a table, whose text reads back.
-use Rattle.std.proofs.Common.{◌≡◌, ◌≤◌, ℕ, ◌+◌, Bool, true, false, ◌||◌, List, [], ◌∷◌, ◌++◌, length, map, Option, Some, None, Result, Ok, Err, refl, sym, ◌∙◌, ap, ap₂, subst, arith}
-use Rattle.std.specs.Prelude.{⊤, not, if◌then◌else◌, filter_map}
+use Rattle.std.proofs.Common.{◌≡◌, ◌≤◌, ℕ, ◌+◌, Bool, true, false, ◌||◌, List, [], ◌∷◌, ◌++◌, length, map, Option, Some, None, Result, Ok, Err, refl, sym, ◌∙◌, ap, ap₂, subst, arith, not, if◌then◌else◌, filter_map}
+use Rattle.std.specs.Prelude.{⊤}
 use Rattle.std.specs.List.{cons_option}
 use Rattle.std.proofs.lemmas.List.Folds.{list_all-map}
-use Rattle.rdf_values.specs.Functions.{fn_names}
-use Rattle.rdf_values.specs.Kinds.{Scope, column_kind, scope_of}
-use Rattle.rdf_values.specs.Names.{among, is_name}
-use Rattle.rdf_values.specs.Path.{makes, parent_of, path}
-use Rattle.rdf_values.specs.Tables.{FitRows, FitsColumn, FitsKind, FitsRow, IsTable, TableView}
-use Rattle.rdf_values.specs.Verdict.{is_node, kind_or_int, scope_at, verdict}
-use Rattle.rdf_values.specs.Words.{AreBounded, IsBounded, StatementsHaveWords}
-use Rattle.rdf_values.specs.declared.column.Column.{Column}
-use Rattle.rdf_values.specs.declared.graph_cause.GraphCause.{GraphCause}
-use Rattle.rdf_values.specs.declared.statement.Statement.{Statement}
-use Rattle.rdf_values.specs.declared.value.ColType.{ColType}
-use Rattle.rdf_values.specs.declared.value.Value.{Value}
-use Rattle.rdf_model.specs.EntryOutcomes.{through}
-use Rattle.rdf_model.specs.Evaluation.{Outcome, Gives, Faults, Needs, ◌>>=◌, for_all}
-use Rattle.rdf_model.specs.Laws.{Meets, column_in}
-use Rattle.rdf_model.specs.Results.{Dataset}
+use Rattle.rdf_values.specs.{among, AreBounded, ColType, Column, column_kind, FitRows, FitsColumn, FitsKind, FitsRow, fn_names, GraphCause, is_name, is_node, IsBounded, IsTable, kind_or_int, makes, parent_of, path, Scope, scope_at, scope_of, Statement, StatementsHaveWords, TableView, Value, verdict}
+use Rattle.rdf_model.specs.{◌>>=◌, column_in, Dataset, Faults, for_all, Gives, Meets, Needs, Outcome, through}
 use Rattle.rdf_model.proofs.Accepted.{accepted_columns_fit}
 use Rattle.rdf_model.proofs.Bounded.{columns_are_bounded}
 use Rattle.rdf_model.proofs.Typing.{meets_bind}
-use Rattle.graph_numbers.specs.Graphs.{booked_statements}
-use Rattle.snapshot_plan.specs.Plans.{first_bad, is_bad, is_stored, unless_bad}
-use Rattle.snapshot_plan.specs.Views.{PlanView, column_at, plan_columns, scope_in}
-use Rattle.snapshot_plan.specs.declared.cause.SnapCause.{SnapCause}
-use Rattle.snapshot_plan.specs.declared.cause.SnapCause.TheVariants as cause
+use Rattle.graph_numbers.specs.{booked_statements}
+use Rattle.snapshot_plan.specs.{column_at, first_bad, is_bad, is_stored, plan_columns, PlanView, scope_in, SnapCause, unless_bad}
 use Rattle.snapshot_plan.proofs.Headed.{plans_have_headers}
-use Rattle.snapshot_text.specs.Laws.{AreNamed}
+use Rattle.snapshot_text.specs.{AreNamed}
 use Rattle.snapshot_text.proofs.TextBack.{text_reads_back}
-use Rattle.snapshot_rows.specs.Laws.{IsPlanOver, SnapshotIsATable, SnapshotReadsBack}
-use Rattle.snapshot_rows.specs.Snapshots.{cells_in, columns_outcome, kept_row, plan_path, snapshot_entries, snapshot_fault}
+use Rattle.snapshot_rows.specs.{cells_in, columns_outcome, IsPlanOver, kept_row, plan_path, snapshot_entries, snapshot_fault, SnapshotIsATable, SnapshotReadsBack}
 use Rattle.snapshot_rows.proofs.Entries.{both, is_taken}
 
 -- ---- the columns that are asked for are visible
 
-sound_columns : (b : Bool) (o : Option ℕ) (rest : Option SnapCause) → (if not b then Some cause.BadNode else unless_bad o rest) ≡ None → o ≡ None
+sound_columns : (b : Bool) (o : Option ℕ) (rest : Option SnapCause) → (if not b then Some SnapCause.BadNode else unless_bad o rest) ≡ None → o ≡ None
 sound_columns true None rest h = refl
 sound_columns true (Some i) rest h = cc h
 sound_columns false o rest h = cc h

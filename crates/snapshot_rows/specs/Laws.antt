@@ -1,21 +1,12 @@
 -- Laws of snapshots. Each is the contract of a function of this crate, and so proved.
 use Rattle.std.specs.Prelude.{◌≡◌, ◌⊎◌, ◌<◌, ◌≤◌, ℕ, Bool, true, false, List, [], length, filter, Some, Ok, Err, slice_get}
 use Rattle.std.specs.List.{AllZip, list_all}
-use Rattle.rdf_values.specs.Functions.{fn_names}
-use Rattle.rdf_values.specs.Names.{is_name}
-use Rattle.rdf_values.specs.TableText.{table_of}
-use Rattle.rdf_values.specs.Tables.{IsTable, TableView}
-use Rattle.rdf_values.specs.Words.{AnswerIn64Bits, StatementsHaveWords}
-use Rattle.rdf_values.specs.declared.fault.EntryFault.{EntryFault}
-use Rattle.rdf_values.specs.declared.value.Value.{Value}
-use Rattle.rdf_model.specs.Evaluation.{Outcome, Gives, Faults, for_all}
-use Rattle.rdf_model.specs.EntryOutcomes.{through}
-use Rattle.rdf_model.specs.Laws.{column_in}
-use Rattle.rdf_model.specs.Results.{Dataset, is_true}
-use Rattle.table_csv.specs.Csv.{csv_records}
-use Rattle.graph_numbers.specs.Graphs.{IsGraph, booked_statements}
-use Rattle.snapshot_plan.specs.Views.{IsPlan, PlanView, plan_columns}
-use Rattle.snapshot_text.specs.TableTexts.{table_text}
+use Rattle.rdf_values.specs.{AnswerIn64Bits, EntryFault, fn_names, is_name, IsTable, StatementsHaveWords, table_of, TableView, Value}
+use Rattle.rdf_model.specs.{column_in, Dataset, Faults, for_all, Gives, is_true, Outcome, through}
+use Rattle.table_csv.specs.{csv_records}
+use Rattle.graph_numbers.specs.{booked_statements, IsGraph}
+use Rattle.snapshot_plan.specs.{IsPlan, plan_columns, PlanView}
+use Rattle.snapshot_text.specs.{table_text}
 use Rattle.snapshot_rows.specs.Snapshots.{SnapFault, plan_path, snapshot}
 
 -- a plan of a booked graph, and a table with the columns and functions for which the graph was booked; numbers have 64 bits

@@ -1,15 +1,9 @@
 -- What a snapshot holds: the entries that pass a node's filters, each with the values of some columns there, or the first fault.
 use Rattle.std.specs.Prelude.{ℕ, ◌+◌, List, [], ◌∷◌, Option, Some, None, Result, Ok, Err, filter_map, if◌then◌else◌}
-use Rattle.rdf_values.specs.Path.{Path, Under, path}
-use Rattle.rdf_values.specs.Tables.{TableView}
-use Rattle.rdf_values.specs.declared.fault.EntryFault.{EntryFault}
-use Rattle.rdf_values.specs.declared.value.Value.{Value}
-use Rattle.rdf_model.specs.ColumnValues.{column_value}
-use Rattle.rdf_model.specs.EntryOutcomes.{through}
-use Rattle.rdf_model.specs.Evaluation.{Outcome, Gives, ◌>>=◌, for_all}
-use Rattle.rdf_model.specs.Results.{Dataset, fault_in}
-use Rattle.graph_numbers.specs.Graphs.{booked_statements}
-use Rattle.snapshot_plan.specs.Views.{PlanView, plan_columns}
+use Rattle.rdf_values.specs.{EntryFault, Path, path, TableView, Under, Value}
+use Rattle.rdf_model.specs.{◌>>=◌, column_value, Dataset, fault_in, for_all, Gives, Outcome, through}
+use Rattle.graph_numbers.specs.{booked_statements}
+use Rattle.snapshot_plan.specs.{plan_columns, PlanView}
 
 -- ---- an entry
 

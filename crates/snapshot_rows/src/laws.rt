@@ -1,5 +1,5 @@
 // Laws of snapshots. Each function does nothing; its contract is the law, and its proof the law's.
-ghost use Rattle.snapshot_rows.specs.Laws.{SnapshotIsATable, SnapshotReadsBack, SnapshotHoldsWhatPassed, SnapshotFaultIsLeast};
+ghost use Rattle.snapshot_rows.specs.{SnapshotFaultIsLeast, SnapshotHoldsWhatPassed, SnapshotIsATable, SnapshotReadsBack};
 
 /// A snapshot of a booked graph over a table is a table itself, of no more entries.
 pub fn snapshot_is_a_table()

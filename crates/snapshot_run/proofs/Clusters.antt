@@ -1,19 +1,13 @@
 -- The clusters of a table, one after another: their first fault, and their records.
-use Rattle.std.proofs.Common.{◌≡◌, ℕ, ◌+◌, ◌-◌, ◌<◌, ◌≤◌, List, [], ◌∷◌, ◌++◌, length, map, drop, Option, Some, None, refl, sym, ◌∙◌, ap, ap₂, arith, slice_get}
-use Rattle.std.specs.Prelude.{flat_map, option_map, slice_range}
+use Rattle.std.proofs.Common.{◌≡◌, ℕ, ◌+◌, ◌-◌, ◌<◌, ◌≤◌, List, [], ◌∷◌, ◌++◌, length, map, drop, Option, Some, None, refl, sym, ◌∙◌, ap, ap₂, arith, slice_get, flat_map, option_map, slice_range}
 use Rattle.std.proofs.lemmas.Option.{slice_get-map}
-use Rattle.lemmas.proofs.Parts.{range_length, take_at_most}
-use Rattle.rdf_values.specs.Cuts.{Lead}
-use Rattle.rdf_values.specs.Machine.{AreInEntryOrder, first_in}
-use Rattle.rdf_values.specs.Path.{Path, Under}
-use Rattle.rdf_values.specs.declared.fault.Fault.{Fault}
-use Rattle.rdf_values.specs.declared.span.Span.{Span}
-use Rattle.rdf_values.specs.declared.value.Value.{Value}
+use Rattle.lemmas.proofs.{range_length, take_at_most}
+use Rattle.rdf_values.specs.{AreInEntryOrder, Fault, first_in, Lead, Path, Span, Under, Value}
 use Rattle.rdf_values.proofs.Leading.{led_are_in_order}
-use Rattle.rdf_model.specs.Results.{Dataset}
+use Rattle.rdf_model.specs.{Dataset}
 use Rattle.loop_pieces.proofs.Places.{lead_up, ranges_join, range_none, range_whole}
-use Rattle.snapshot_rows.specs.Snapshots.{SnapFault, fault_from, kept_row, kept_rows}
-use Rattle.snapshot_run.specs.Runs.{as_fault}
+use Rattle.snapshot_rows.specs.{fault_from, kept_row, kept_rows, SnapFault}
+use Rattle.snapshot_run.specs.{as_fault}
 use Rattle.snapshot_entries.proofs.Rows.{fault_append, fault_within, first_of, kept_append}
 
 first_in-cons : (o : Option SnapFault) (rest : Option SnapFault) (os : List (Option Fault)) → first_in os ≡ option_map as_fault rest → first_in (option_map as_fault o ∷ os) ≡ option_map as_fault (first_of o rest)

@@ -1,30 +1,23 @@
 -- What one cluster gives.
-use Rattle.std.proofs.Common.{◌≡◌, ℕ, zero, suc, ◌<◌, ◌≤◌, List, [], ◌∷◌, ◌++◌, length, Some, None, Ok, Err, refl, sym, ap, ◌∙◌, subst, arith, ⊎_elim}
+use Rattle.std.proofs.Common.{◌≡◌, ℕ, zero, suc, ◌<◌, ◌≤◌, List, [], ◌∷◌, ◌++◌, length, Some, None, Ok, Err, refl, sym, ap, ◌∙◌, subst, arith, ⊎_elim, option_map, slice_get}
 use Rattle.std.specs.List.{All}
 use Rattle.std.proofs.lemmas.Bool.{cases_lt}
 use Rattle.std.proofs.lemmas.List.{map-append}
 use Rattle.std.proofs.lemmas.List.Elements.{All-push}
-use Rattle.rdf_values.specs.Times.{times}
+use Rattle.rdf_values.specs.{Lead, Span, times}
 use Rattle.rdf_values.proofs.DrawCounts.{times_push}
 use Rattle.merge_core.proofs.Holding.{only}
-use Rattle.snapshot_pieces.specs.Facts.{IsPieceOf, SnapFacts}
-use Rattle.snapshot_pieces.specs.Stopping.{AreMade, clusters_of}
-use Rattle.std.specs.Prelude.{option_map, slice_get}
+use Rattle.snapshot_pieces.specs.{AreMade, clusters_of, IsPieceOf, Piece, SnapFacts}
 use Rattle.std.proofs.lemmas.Option.{slice_get-map}
-use Rattle.rdf_values.specs.Cuts.{Lead}
-use Rattle.rdf_values.specs.declared.span.Span.{Span}
 use Rattle.rdf_values.proofs.Leading.{cuts_lead}
-use Rattle.rdf_model.specs.Results.{Dataset}
+use Rattle.rdf_model.specs.{Dataset}
 use Rattle.loop_pieces.proofs.Places.{lead_up}
 use Rattle.columns.specs.CutsView.{CutsView}
-use Rattle.snapshot_plan.specs.Views.{PlanView}
-use Rattle.snapshot_text.specs.TableTexts.{entries_text}
-use Rattle.snapshot_rows.specs.Snapshots.{snapshot_entries, snapshot_fault}
-use Rattle.snapshot_entries.specs.Entries.{IsRange, IsSkimAnswer, rows_of}
-use Rattle.snapshot_entries.specs.declared.stop.SkimStop.{SkimStop}
-use Rattle.snapshot_entries.specs.declared.stop.SkimStop.TheVariants as skim
-use Rattle.snapshot_pieces.specs.declared.piece.Piece.{Piece}
-use Rattle.snapshot_run.specs.Runs.{IsMade, as_fault, facts_of, spans_of}
+use Rattle.snapshot_plan.specs.{PlanView}
+use Rattle.snapshot_text.specs.{entries_text}
+use Rattle.snapshot_rows.specs.{snapshot_entries, snapshot_fault}
+use Rattle.snapshot_entries.specs.{IsRange, IsSkimAnswer, rows_of, SkimStop}
+use Rattle.snapshot_run.specs.{as_fault, facts_of, IsMade, spans_of}
 
 led_within : (spans : List Span) (lo hi c : ℕ) (s : Span) → Lead lo hi spans → slice_get spans c ≡ Some s → (s.lo ≤ s.hi) × (s.hi ≤ hi)
 led_within [] lo hi c s h at = cc at
@@ -52,9 +45,9 @@ module _ (p : PlanView) (d : Dataset) (spans : List Span) (c : ℕ) (s : Span) (
   )
 
   pub piece_stopped : (before after : List ℕ) (stop : SkimStop) → IsSkimAnswer p d s before after (Err stop) → IsMade (facts_of p d spans) c (Err stop)
-  piece_stopped before after (skim.Fault entry kind) h =
+  piece_stopped before after (SkimStop.Fault entry kind) h =
       slice_get-map (λ (s : Span). option_map as_fault (snapshot_fault p d s.lo (rows_of d s))) spans c ∙ ap (option_map (λ (s : Span). option_map as_fault (snapshot_fault p d s.lo (rows_of d s)))) at ∙ ap (λ o. Some (option_map as_fault o)) h
-  piece_stopped before after skim.Memory h = tt
+  piece_stopped before after SkimStop.Memory h = tt
 
 -- one more piece
 pub made_more : (facts : SnapFacts) (ps more : List Piece) (piece : Piece) (n : ℕ) → AreMade facts ps → more ≡ ps ++ piece ∷ [] → IsMade facts n (Ok piece) → AreMade facts more

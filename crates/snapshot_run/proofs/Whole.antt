@@ -1,36 +1,19 @@
 -- What is known of a whole run.
-use Rattle.std.proofs.Common.{◌≡◌, ℕ, ◌≤◌, ◌++◌, List, [], ◌∷◌, length, map, Option, None, Some, Ok, Err, refl, sym, ap, ap₂, ◌∙◌, subst}
-use Rattle.std.specs.Prelude.{flat_map, option_map, Result}
+use Rattle.std.proofs.Common.{◌≡◌, ℕ, ◌≤◌, ◌++◌, List, [], ◌∷◌, length, map, Option, None, Some, Ok, Err, refl, sym, ap, ap₂, ◌∙◌, subst, flat_map, option_map, Result}
 use Rattle.std.proofs.lemmas.List.{length-map}
 use Rattle.std.proofs.lemmas.List.Concat.{flat_map-append}
-use Rattle.rdf_values.specs.Cuts.{Lead}
-use Rattle.rdf_values.specs.Machine.{first_in}
-use Rattle.rdf_values.specs.Functions.{fn_names}
-use Rattle.rdf_values.specs.Kinds.{FunctionNames}
-use Rattle.rdf_values.specs.Tables.{IsTable, TableView}
-use Rattle.rdf_values.specs.declared.column.Column.{Column}
-use Rattle.rdf_values.specs.declared.fault.Fault.{Fault}
-use Rattle.rdf_values.specs.declared.span.Span.{Span}
-use Rattle.rdf_values.specs.declared.value.Value.{Value}
+use Rattle.rdf_values.specs.{Column, Fault, first_in, fn_names, FunctionNames, IsTable, Lead, Span, TableView, Value}
 use Rattle.rdf_values.proofs.Leading.{cuts_lead}
-use Rattle.rdf_model.specs.Results.{Dataset}
+use Rattle.rdf_model.specs.{Dataset}
 use Rattle.columns.specs.CutsView.{CutsView}
-use Rattle.graph_numbers.specs.Graphs.{GraphView, IsGraph}
-use Rattle.graph_numbers.specs.Laws.{graph_of}
-use Rattle.snapshot_plan.specs.Views.{IsPlan, PlanView, plan_columns}
-use Rattle.snapshot_text.specs.TableTexts.{entries_text, entry_text, header_text, table_text}
-use Rattle.snapshot_rows.specs.Snapshots.{SnapFault, plan_path, snapshot_entries, snapshot_fault, unless_fault}
-use Rattle.snapshot_entries.specs.Entries.{rows_of}
-use Rattle.snapshot_entries.specs.Jobs.{IsWork}
-use Rattle.snapshot_entries.specs.Values.{plan_graph}
-use Rattle.snapshot_pieces.specs.Facts.{AreFacts}
-use Rattle.snapshot_pieces.specs.Gathered.{HasAll, IsOutcome}
-use Rattle.snapshot_pieces.specs.declared.gather.Outcome.{Outcome}
-use Rattle.snapshot_pieces.specs.declared.gather.Outcome.TheVariants as outcome
-use Rattle.snapshot_run.specs.Runs.{as_fault, facts_of, spans_of}
-use Rattle.snapshot_run.specs.Texts.{AreRecords, IsRun, IsTogether, most_bytes}
+use Rattle.graph_numbers.specs.{graph_of, GraphView, IsGraph}
+use Rattle.snapshot_plan.specs.{IsPlan, plan_columns, PlanView}
+use Rattle.snapshot_text.specs.{entries_text, entry_text, header_text, table_text}
+use Rattle.snapshot_rows.specs.{plan_path, SnapFault, snapshot_entries, snapshot_fault, unless_fault}
+use Rattle.snapshot_entries.specs.{IsWork, plan_graph, rows_of}
+use Rattle.snapshot_pieces.specs.{AreFacts, HasAll, IsOutcome, Outcome}
+use Rattle.snapshot_run.specs.{AreRecords, as_fault, facts_of, IsRun, IsTogether, most_bytes, spans_of}
 use Rattle.snapshot_run.specs.declared.stop.SnapStop.{SnapStop}
-use Rattle.snapshot_run.specs.declared.stop.SnapStop.TheVariants as stop
 use Rattle.snapshot_run.proofs.Clusters.{first_cluster, in_entry_order, kept_of_all}
 
 -- ---- texts
@@ -65,13 +48,13 @@ module _ (p : PlanView) (d : Dataset) (cuts : CutsView) (all : cuts.entries ≡ 
   first_is : first_in (facts_of p d (spans_of cuts)).faults ≡ option_map as_fault (snapshot_fault p d 0 d.rows)
   first_is = first_cluster d (plan_path p) p.columns p.under (spans_of cuts) leads
 
-  pub is_fault : (end : Outcome) (fault : Fault) → IsOutcome (facts_of p d (spans_of cuts)) end → end ≡ outcome.Faulted fault → AreRecords p d (Err (stop.Fault fault.entry fault.kind))
+  pub is_fault : (end : Outcome) (fault : Fault) → IsOutcome (facts_of p d (spans_of cuts)) end → end ≡ Outcome.Faulted fault → AreRecords p d (Err (SnapStop.Fault fault.entry fault.kind))
   is_fault end fault ended is = fault_as (snapshot_fault p d 0 d.rows) fault (sym first_is ∙ subst (IsOutcome (facts_of p d (spans_of cuts))) is ended)
 
-  pub has_all : (end : Outcome) (ps : _) → IsOutcome (facts_of p d (spans_of cuts)) end → end ≡ outcome.Made ps → HasAll (facts_of p d (spans_of cuts)) ps
+  pub has_all : (end : Outcome) (ps : _) → IsOutcome (facts_of p d (spans_of cuts)) end → end ≡ Outcome.Made ps → HasAll (facts_of p d (spans_of cuts)) ps
   has_all end ps ended is = (subst (IsOutcome (facts_of p d (spans_of cuts))) is ended).1
 
-  pub are_records : (end : Outcome) (ps : _) (texts : List (List ℕ)) → IsOutcome (facts_of p d (spans_of cuts)) end → end ≡ outcome.Made ps → texts ≡ (facts_of p d (spans_of cuts)).texts → AreRecords p d (Ok texts)
+  pub are_records : (end : Outcome) (ps : _) (texts : List (List ℕ)) → IsOutcome (facts_of p d (spans_of cuts)) end → end ≡ Outcome.Made ps → texts ≡ (facts_of p d (spans_of cuts)).texts → AreRecords p d (Ok texts)
   are_records end ps texts ended is same = (
     none_as (snapshot_fault p d 0 d.rows) (sym first_is ∙ (subst (IsOutcome (facts_of p d (spans_of cuts))) is ended).0),
     ap (flat_map (λ t. t)) same ∙ texts_join (λ (s : Span). snapshot_entries p d (rows_of d s)) (spans_of cuts) ∙ ap entries_text (kept_of_all d (plan_path p) p.columns p.under (spans_of cuts) leads),
@@ -98,8 +81,8 @@ module _ (p : PlanView) (d : Dataset) where
   is_run texts (Ok text) h t =
       let whole : header_text (plan_columns p) ++ flat_map (λ t. t) texts ≡ table_text table = ap (λ l. header_text (plan_columns p) ++ l) h.1 in
       (table, ap (unless_fault table) h.0, t.0 ∙ whole, subst (λ (l : List ℕ). length l ≤ most_bytes) (sym t.0) t.1)
-  is_run texts (Err (stop.Fault entry kind)) h t = absurd t
-  is_run texts (Err (stop.TooLong bytes)) h t =
+  is_run texts (Err (SnapStop.Fault entry kind)) h t = absurd t
+  is_run texts (Err (SnapStop.TooLong bytes)) h t =
       let whole : header_text (plan_columns p) ++ flat_map (λ t. t) texts ≡ table_text table = ap (λ l. header_text (plan_columns p) ++ l) h.1 in
       (table, ap (unless_fault table) h.0, t.0 ∙ ap length whole, t.1)
-  is_run texts (Err stop.Memory) h t = tt
+  is_run texts (Err SnapStop.Memory) h t = tt

@@ -1,20 +1,14 @@
 -- What the clusters of a snapshot are to give.
 use Rattle.std.specs.Prelude.{◌≡◌, ⊤, ℕ, List, map, option_map, Some, None, Result, Ok, Err, slice_get}
-use Rattle.rdf_values.specs.Cuts.{cut}
-use Rattle.rdf_values.specs.declared.fault.Fault.{Fault}
-use Rattle.rdf_values.specs.declared.span.Span.{Span}
-use Rattle.rdf_model.specs.Results.{Dataset}
-use Rattle.rdf_values.specs.Functions.{Function}
+use Rattle.rdf_values.specs.{cut, Fault, Function, Span}
+use Rattle.rdf_model.specs.{Dataset}
 use Rattle.columns.specs.ColumnsView.{ColumnsView}
 use Rattle.columns.specs.CutsView.{CutsView}
-use Rattle.snapshot_plan.specs.Views.{PlanView}
-use Rattle.snapshot_text.specs.TableTexts.{entries_text}
-use Rattle.snapshot_rows.specs.Snapshots.{SnapFault, snapshot_entries, snapshot_fault}
-use Rattle.snapshot_entries.specs.Entries.{rows_of}
-use Rattle.snapshot_entries.specs.declared.stop.SkimStop.{SkimStop}
-use Rattle.snapshot_entries.specs.declared.stop.SkimStop.TheVariants as skim
-use Rattle.snapshot_pieces.specs.Facts.{IsPieceOf, SnapFacts}
-use Rattle.snapshot_pieces.specs.declared.piece.Piece.{Piece}
+use Rattle.snapshot_plan.specs.{PlanView}
+use Rattle.snapshot_text.specs.{entries_text}
+use Rattle.snapshot_rows.specs.{SnapFault, snapshot_entries, snapshot_fault}
+use Rattle.snapshot_entries.specs.{rows_of, SkimStop}
+use Rattle.snapshot_pieces.specs.{IsPieceOf, Piece, SnapFacts}
 
 -- the clusters
 abbrev pub spans_of : CutsView → List Span
@@ -34,8 +28,8 @@ facts_of p d spans = record {
 -- a cluster without a fault has that piece; or the fault is the cluster's; or memory was wanted
 abbrev pub IsMade : SnapFacts → ℕ → Result Piece SkimStop → Type 0
 IsMade facts c (Ok piece) = (piece.cluster ≡ c) × IsPieceOf facts piece × (slice_get facts.faults c ≡ Some None)
-IsMade facts c (Err (skim.Fault entry kind)) = slice_get facts.faults c ≡ Some (Some (record { entry = entry; pass = 0; kind = kind }))
-IsMade facts c (Err skim.Memory) = ⊤
+IsMade facts c (Err (SkimStop.Fault entry kind)) = slice_get facts.faults c ≡ Some (Some (record { entry = entry; pass = 0; kind = kind }))
+IsMade facts c (Err SkimStop.Memory) = ⊤
 
 -- a table of columns, with functions
 abbrev pub data_with : ColumnsView → List Function → Dataset

@@ -1,8 +1,7 @@
 // The records of one cluster.
 ghost use Rattle.std.specs.Prelude.{◌≡◌, ◌<◌, length};
-ghost use Rattle.snapshot_entries.specs.Entries.{IsSkimOf};
-ghost use Rattle.snapshot_entries.specs.Jobs.{IsWork, data_of, plan_of};
-ghost use Rattle.snapshot_run.specs.Runs.{IsMade, facts_of, spans_of};
+ghost use Rattle.snapshot_entries.specs.{data_of, IsSkimOf, IsWork, plan_of};
+ghost use Rattle.snapshot_run.specs.{facts_of, IsMade, spans_of};
 
 use expr_eval::Steps;
 use rdf_values::Text;

@@ -1,7 +1,7 @@
 // The records of all clusters.
 ghost use Rattle.std.specs.Prelude.{◌≡◌, ◌<◌, ◌≤◌};
-ghost use Rattle.snapshot_entries.specs.Jobs.{IsWork, data_of, plan_of};
-ghost use Rattle.snapshot_run.specs.Texts.{AreRecords};
+ghost use Rattle.snapshot_entries.specs.{data_of, IsWork, plan_of};
+ghost use Rattle.snapshot_run.specs.{AreRecords};
 
 use crate::stop::SnapStop;
 use crate::workers::run_slots;

@@ -1,8 +1,8 @@
 // The run of a snapshot.
 ghost use Rattle.std.specs.Prelude.{◌≡◌, ◌<◌, ◌≤◌};
-ghost use Rattle.rdf_values.specs.Functions.{fn_names};
-ghost use Rattle.snapshot_entries.specs.Jobs.{data_of, plan_of};
-ghost use Rattle.snapshot_run.specs.Texts.{IsRun};
+ghost use Rattle.rdf_values.specs.{fn_names};
+ghost use Rattle.snapshot_entries.specs.{data_of, plan_of};
+ghost use Rattle.snapshot_run.specs.{IsRun};
 
 use crate::joining::put_together;
 use crate::records::make_records;

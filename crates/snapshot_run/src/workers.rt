@@ -1,12 +1,11 @@
 // The work of one slot.
 ghost use Rattle.std.specs.Prelude.{◌≡◌, ℕ, ◌<◌, All, IfOk, length, slice_index_or, vec_len};
-ghost use Rattle.entry_fns.specs.Lists.{functions_in};
-ghost use Rattle.snapshot_entries.specs.Jobs.{IsWork, data_of, plan_of};
-ghost use Rattle.snapshot_pieces.specs.Stopping.{HasStopped, Stopped};
+ghost use Rattle.entry_fns.specs.{functions_in};
+ghost use Rattle.snapshot_entries.specs.{data_of, IsWork, plan_of};
+ghost use Rattle.snapshot_pieces.specs.{Finished, HasStopped, Stopped};
 ghost use Rattle.slot_words.specs.Seats.{IsOf};
-ghost use Rattle.slot_words.specs.SeatEnds.{IsReady};
-ghost use Rattle.snapshot_run.specs.Runs.{data_with, facts_of, spans_of};
-ghost use Rattle.snapshot_pieces.specs.declared.finished.Finished.{Finished};
+ghost use Rattle.slot_words.specs.{IsReady};
+ghost use Rattle.snapshot_run.specs.{data_with, facts_of, spans_of};
 
 use crate::piece::make_piece;
 use expr_eval::Steps;

@@ -1,6 +1,5 @@
 -- No byte of a field is a comma, a double quote or a line's end.
-use Rattle.std.proofs.Common.{◌≡◌, ◌<◌, ◌⊎◌, ◌^◌, ℕ, ℤ, pos, negsuc, suc, Bool, true, false, ◌&&◌, ◌||◌, List, [], ◌∷◌, ◌++◌, length, map, refl, ap, ◌∙◌, arith, codes, decimal}
-use Rattle.std.specs.Prelude.{◌==◌, nat_le, nat_eq, not, bytes_eq}
+use Rattle.std.proofs.Common.{◌≡◌, ◌<◌, ◌⊎◌, ◌^◌, ℕ, ℤ, pos, negsuc, suc, Bool, true, false, ◌&&◌, ◌||◌, List, [], ◌∷◌, ◌++◌, length, map, refl, ap, ◌∙◌, arith, codes, decimal, ◌==◌, nat_le, nat_eq, not, bytes_eq}
 use Rattle.std.specs.Fmt.{signed_decimal}
 use Rattle.std.specs.List.{join_with_byte, list_all, list_any}
 use Rattle.std.specs.Char.{is_ascii_digit}
@@ -9,10 +8,9 @@ use Rattle.std.specs.Str.Parse.{digits_value}
 use Rattle.std.proofs.lemmas.Str.Parse.{IsNumeralModel, numerals_by_value, tells_all_ascii_digits}
 use Rattle.std.proofs.lemmas.Fmt.{decimal_nonempty, digits_decimal}
 use Rattle.std.proofs.lemmas.Bool.Decides.{nat_tests}
-use Rattle.lemmas.proofs.Booleans.{both_true}
+use Rattle.lemmas.proofs.{both_true}
 use Rattle.csv.specs.Writing.{default_writer, needs_byte}
-use Rattle.rdf_values.specs.Names.{is_name, is_word_byte, is_word_start}
-use Rattle.rdf_values.specs.Words.{Has64Bits}
+use Rattle.rdf_values.specs.{Has64Bits, is_name, is_word_byte, is_word_start}
 
 -- ---- bytes above the comma
 

@@ -1,6 +1,5 @@
 -- The records of a table's text are the fields that were written.
-use Rattle.std.proofs.Common.{◌≡◌, ◌<◌, ◌+◌, ℕ, zero, suc, Bool, true, false, ◌&&◌, ◌||◌, List, [], ◌∷◌, ◌++◌, length, map, flat_map, refl, ap, sym, subst, ◌∙◌, arith, codes, append_assoc, length-append, Some, None}
-use Rattle.std.specs.Prelude.{◌==◌, if◌then◌else◌}
+use Rattle.std.proofs.Common.{◌≡◌, ◌<◌, ◌+◌, ℕ, zero, suc, Bool, true, false, ◌&&◌, ◌||◌, List, [], ◌∷◌, ◌++◌, length, map, flat_map, refl, ap, sym, subst, ◌∙◌, arith, codes, append_assoc, length-append, Some, None, ◌==◌, if◌then◌else◌}
 use Rattle.std.specs.List.{join_with_byte, list_any}
 use Rattle.std.proofs.lemmas.List.{append-nil}
 use Rattle.std.proofs.lemmas.Bool.Decides.{nat_tests}
@@ -9,8 +8,8 @@ use Rattle.csv.specs.Reading.{default_config, is_bom, records_from, records_next
 use Rattle.csv.specs.Writing.{default_writer, end_text, field_text, fields_text, is_blank, read_back, row_body, row_text}
 use Rattle.csv.specs.declared.parser.State.TheVariants as st
 use Rattle.csv.proofs.RoundTrip.{read-write, rows_text}
-use Rattle.table_csv.specs.Csv.{csv_records}
-use Rattle.rdf_values.specs.RefusalLines.{line}
+use Rattle.table_csv.specs.{csv_records}
+use Rattle.rdf_values.specs.{line}
 use Rattle.snapshot_text.proofs.Plain.{Above, AllAbove, Starts, plain}
 
 -- ---- a record as `csv` would write it

@@ -1,27 +1,16 @@
 -- The fields that were written spell the table.
-use Rattle.std.proofs.Common.{◌≡◌, ◌≤◌, ◌<◌, ◌+◌, ℕ, ℤ, pos, negsuc, zero, suc, ◌^◌, Bool, true, false, ◌&&◌, List, [], ◌∷◌, ◌++◌, length, map, take, drop, All, refl, ap, ap₂, sym, subst, ◌∙◌, arith, codes, cond, append_assoc, length-append, Some, None, Option, Ok, Err, Result, not}
-use Rattle.std.specs.Prelude.{◌==◌, if◌then◌else◌, nat_eq, nat_le, nat_lt, ok_or, option_map}
+use Rattle.std.proofs.Common.{◌≡◌, ◌≤◌, ◌<◌, ◌+◌, ℕ, ℤ, pos, negsuc, zero, suc, ◌^◌, Bool, true, false, ◌&&◌, List, [], ◌∷◌, ◌++◌, length, map, take, drop, All, refl, ap, ap₂, sym, subst, ◌∙◌, arith, codes, cond, append_assoc, length-append, Some, None, Option, Ok, Err, Result, not, ◌==◌, if◌then◌else◌, nat_eq, nat_le, nat_lt, ok_or, option_map}
 use Rattle.std.specs.Fmt.{signed_decimal}
 use Rattle.std.specs.List.{after_first, before_first, join_with_byte, list_all, onto_first, position_or_len, slice_split}
 use Rattle.std.proofs.lemmas.List.{append-nil, length-map}
 use Rattle.std.proofs.lemmas.List.Elements.{All-head, All-tail}
 use Rattle.std.proofs.lemmas.Bool.Decides.{nat_tests}
-use Rattle.lemmas.proofs.Booleans.{both_true}
+use Rattle.lemmas.proofs.{both_true}
 use lib.Signed.{mag}
 use Rattle.rdf_values.proofs.OneText.{integer_of_text}
-use Rattle.rdf_values.specs.Integers.{integer_of}
-use Rattle.rdf_values.specs.Names.{is_name, same}
-use Rattle.rdf_values.specs.Tables.{AreColumns, FitsColumn, FitsRow, FitRows, IsStored, IsTable, TableView, has_name}
-use Rattle.rdf_values.specs.TableText.{Header, MarkedRow, cell_of, cells_from, column_of, ends_in_cut, field_count, header_from, integers_of, is_colon, is_cut, is_semicolon, marks_from, next_column, row_of, rows_from, table_of, type_of, vector_of, with_column}
-use Rattle.rdf_values.specs.Words.{Has64Bits}
-use Rattle.rdf_values.specs.declared.column.Column.{Column}
-use Rattle.rdf_values.specs.declared.table_cause.TableCause.{TableCause}
-use Rattle.rdf_values.specs.declared.value.ColType.{ColType}
-use Rattle.rdf_values.specs.declared.value.ColType.TheVariants as k
-use Rattle.rdf_values.specs.declared.value.Value.{Value}
-use Rattle.rdf_values.specs.declared.value.Value.TheVariants as v
-use Rattle.snapshot_text.specs.Laws.{AreNamed}
-use Rattle.snapshot_text.specs.TableTexts.{cell_field, column_field, kind_word}
+use Rattle.rdf_values.specs.{AreColumns, cells_from, ColType, Column, column_of, ends_in_cut, field_count, FitRows, FitsColumn, FitsRow, Has64Bits, has_name, Header, header_from, integer_of, integers_of, is_colon, is_cut, is_name, is_semicolon, IsStored, IsTable, MarkedRow, marks_from, next_column, row_of, rows_from, same, table_of, TableCause, TableView, type_of, Value, vector_of, with_column}
+use Rattle.rdf_values.specs.TableText.{cell_of}
+use Rattle.snapshot_text.specs.{AreNamed, cell_field, column_field, kind_word}
 use Rattle.snapshot_text.proofs.Plain.{AllNumerals, Numeral, Wordy, name_bytes, number_numeral, number_some}
 
 -- ---- vectors
@@ -88,13 +77,13 @@ all_stored (c ∷ cs) seen h = (h.1, all_stored cs (seen ++ c ∷ []) h.2)
 
 cell_back : (e i : ℕ) (kind : ColType) (x : Value) → IsStored kind → FitsColumn kind x → cell_of e i kind (cell_field x) ≡ Ok x
 unfolding cell_of
-cell_back e i k.Int (v.Int z) s h = rw (number_back z h.1) refl
-cell_back e i k.Int (v.Bool b) s h = absurd h.0
-cell_back e i k.Int (v.Vect zs) s h = absurd h.0
-cell_back e i k.Bool x s h = absurd s
-cell_back e i k.Vect (v.Int z) s h = absurd h.0
-cell_back e i k.Vect (v.Bool b) s h = absurd h.0
-cell_back e i k.Vect (v.Vect zs) s h = rw (vector_back zs h.0 h.1.1) refl
+cell_back e i ColType.Int (Value.Int z) s h = rw (number_back z h.1) refl
+cell_back e i ColType.Int (Value.Bool b) s h = absurd h.0
+cell_back e i ColType.Int (Value.Vect zs) s h = absurd h.0
+cell_back e i ColType.Bool x s h = absurd s
+cell_back e i ColType.Vect (Value.Int z) s h = absurd h.0
+cell_back e i ColType.Vect (Value.Bool b) s h = absurd h.0
+cell_back e i ColType.Vect (Value.Vect zs) s h = rw (vector_back zs h.0 h.1.1) refl
 
 cells_back : (cols : List Column) (e i : ℕ) (row : List Value) → AllStored cols → FitsRow cols row → cells_from e i cols (map cell_field row) ≡ Ok row
 unfolding cells_from
@@ -157,14 +146,14 @@ kind_behind : (name kind : List ℕ) → Wordy name → after_first is_colon (na
 kind_behind name kind h = ap (λ n. drop (n + 1) (name ++ 58 ∷ kind)) (colon_at name kind h) ∙ dropped name 58 kind
 
 kind_back : (kind : ColType) → IsStored kind → type_of (kind_word kind) ≡ Some kind
-kind_back k.Int h = refl
-kind_back k.Bool h = absurd h
-kind_back k.Vect h = refl
+kind_back ColType.Int h = refl
+kind_back ColType.Bool h = absurd h
+kind_back ColType.Vect h = refl
 
 kind_uncut : (kind : ColType) → same (kind_word kind) (codes "cut") ≡ false
-kind_uncut k.Int = refl
-kind_uncut k.Bool = refl
-kind_uncut k.Vect = refl
+kind_uncut ColType.Int = refl
+kind_uncut ColType.Bool = refl
+kind_uncut ColType.Vect = refl
 
 column_back : (c : Column) → is_name c.name ≡ true → IsStored c.kind → column_of (column_field c) ≡ Some c
 unfolding column_of

@@ -5,22 +5,12 @@ use Rattle.std.specs.List.{join_with_byte, list_all}
 use Rattle.std.proofs.lemmas.Grind.{flat_map-append}
 use Rattle.std.proofs.lemmas.List.{length-map}
 use Rattle.std.proofs.lemmas.List.Elements.{All-head}
-use Rattle.lemmas.proofs.Booleans.{both_true}
+use Rattle.lemmas.proofs.{both_true}
 use Rattle.csv.specs.Writing.{default_writer, row_text}
 use Rattle.csv.proofs.RoundTrip.{rows_text}
-use Rattle.table_csv.specs.Csv.{csv_records}
-use Rattle.rdf_values.specs.Names.{is_name}
-use Rattle.rdf_values.specs.RefusalLines.{line}
-use Rattle.rdf_values.specs.Tables.{FitsColumn, FitsRow, FitRows, IsHeader, IsStored, IsTable, TableView}
-use Rattle.rdf_values.specs.TableText.{table_of}
-use Rattle.rdf_values.specs.Words.{Has64Bits, IsBounded}
-use Rattle.rdf_values.specs.declared.column.Column.{Column}
-use Rattle.rdf_values.specs.declared.value.ColType.{ColType}
-use Rattle.rdf_values.specs.declared.value.ColType.TheVariants as k
-use Rattle.rdf_values.specs.declared.value.Value.{Value}
-use Rattle.rdf_values.specs.declared.value.Value.TheVariants as v
-use Rattle.snapshot_text.specs.Laws.{AreNamed, PartsJoin, TextReadsBack}
-use Rattle.snapshot_text.specs.TableTexts.{cell_field, column_field, entries_text, entry_text, header_text, kind_word, table_text}
+use Rattle.table_csv.specs.{csv_records}
+use Rattle.rdf_values.specs.{ColType, Column, FitRows, FitsColumn, FitsRow, Has64Bits, is_name, IsBounded, IsHeader, IsStored, IsTable, line, table_of, TableView, Value}
+use Rattle.snapshot_text.specs.{AreNamed, cell_field, column_field, entries_text, entry_text, header_text, kind_word, PartsJoin, table_text, TextReadsBack}
 use Rattle.snapshot_text.proofs.Plain.{Above, AllAbove, AllNumerals, Starts, above_joined, name_bytes, number_numeral, number_some, numeral_above, numerals_above, starts_joined, wordy_above}
 use Rattle.snapshot_text.proofs.RecordsBack.{HaveFields, many_written, none_written, one_written, records_back}
 use Rattle.snapshot_text.proofs.TableBack.{AllStored, all_stored, joined_some, numbers_numerals, row_length, table_back}
@@ -28,9 +18,9 @@ use Rattle.snapshot_text.proofs.TableBack.{AllStored, all_stored, joined_some, n
 -- ---- the header
 
 kind_above : (kind : ColType) → Above (kind_word kind)
-kind_above k.Int = (omega arith, (omega arith, (omega arith, tt)))
-kind_above k.Bool = (omega arith, (omega arith, (omega arith, (omega arith, tt))))
-kind_above k.Vect = (omega arith, (omega arith, (omega arith, tt)))
+kind_above ColType.Int = (omega arith, (omega arith, (omega arith, tt)))
+kind_above ColType.Bool = (omega arith, (omega arith, (omega arith, (omega arith, tt))))
+kind_above ColType.Vect = (omega arith, (omega arith, (omega arith, tt)))
 
 column_above : (c : Column) → is_name c.name ≡ true → Above (column_field c)
 column_above c h = above_joined c.name (58 ∷ kind_word c.kind) (wordy_above c.name (name_bytes c.name h).0) (omega arith, kind_above c.kind)
@@ -63,9 +53,9 @@ header_starts (c ∷ cs) l h =
 -- ---- the entries
 
 value_above : (x : Value) → IsBounded x → Above (cell_field x)
-value_above (v.Int z) h = numeral_above (signed_decimal z) (number_numeral z h)
-value_above (v.Bool b) h = tt
-value_above (v.Vect zs) h = numerals_above (map signed_decimal zs) (numbers_numerals zs h.1)
+value_above (Value.Int z) h = numeral_above (signed_decimal z) (number_numeral z h)
+value_above (Value.Bool b) h = tt
+value_above (Value.Vect zs) h = numerals_above (map signed_decimal zs) (numbers_numerals zs h.1)
 
 row_above : (cols : List Column) (row : List Value) → FitsRow cols row → AllAbove (map cell_field row)
 row_above [] [] h = tt
@@ -75,25 +65,25 @@ row_above (c ∷ cs) (x ∷ xs) h = (value_above x h.0.1, row_above cs xs h.1)
 
 -- the value is no truth value
 abbrev IsCell : Value → Type 0
-IsCell (v.Int z) = Unit {0}
-IsCell (v.Bool b) = ⊥
-IsCell (v.Vect zs) = Unit {0}
+IsCell (Value.Int z) = Unit {0}
+IsCell (Value.Bool b) = ⊥
+IsCell (Value.Vect zs) = Unit {0}
 
 cell_by : (kind : ColType) (x : Value) → IsStored kind → FitsColumn kind x → IsCell x
-cell_by k.Int (v.Int z) s h = tt
-cell_by k.Int (v.Bool b) s h = h.0
-cell_by k.Int (v.Vect zs) s h = tt
-cell_by k.Bool x s h = absurd s
-cell_by k.Vect (v.Int z) s h = tt
-cell_by k.Vect (v.Bool b) s h = h.0
-cell_by k.Vect (v.Vect zs) s h = tt
+cell_by ColType.Int (Value.Int z) s h = tt
+cell_by ColType.Int (Value.Bool b) s h = h.0
+cell_by ColType.Int (Value.Vect zs) s h = tt
+cell_by ColType.Bool x s h = absurd s
+cell_by ColType.Vect (Value.Int z) s h = tt
+cell_by ColType.Vect (Value.Bool b) s h = h.0
+cell_by ColType.Vect (Value.Vect zs) s h = tt
 
 lone_written : (x : Value) → IsBounded x → IsCell x → entry_text (x ∷ []) ≡ row_text default_writer (cell_field x ∷ [])
-lone_written (v.Int z) h s = one_written (signed_decimal z) (value_above (v.Int z) h) (number_some z h)
-lone_written (v.Bool b) h s = absurd s
-lone_written (v.Vect []) h s = none_written
-lone_written (v.Vect (z ∷ zs)) h s =
-    one_written (join_with_byte 59 (map signed_decimal (z ∷ zs))) (value_above (v.Vect (z ∷ zs)) h)
+lone_written (Value.Int z) h s = one_written (signed_decimal z) (value_above (Value.Int z) h) (number_some z h)
+lone_written (Value.Bool b) h s = absurd s
+lone_written (Value.Vect []) h s = none_written
+lone_written (Value.Vect (z ∷ zs)) h s =
+    one_written (join_with_byte 59 (map signed_decimal (z ∷ zs))) (value_above (Value.Vect (z ∷ zs)) h)
     (joined_some (signed_decimal z) (map signed_decimal zs) 59 (number_some z (All-head Has64Bits z zs h.1)))
 
 row_written : (cols : List Column) (row : List Value) → 0 < length cols → AllStored cols → FitsRow cols row → entry_text row ≡ row_text default_writer (map cell_field row)

@@ -1,12 +1,8 @@
 -- Laws of a table's text. Each is the contract of a function of this crate, and so proved.
 use Rattle.std.specs.Prelude.{◌≡◌, List, [], ◌++◌, Ok, true}
 use Rattle.std.specs.List.{list_all}
-use Rattle.rdf_values.specs.Names.{is_name}
-use Rattle.rdf_values.specs.TableText.{table_of}
-use Rattle.rdf_values.specs.Tables.{IsTable, TableView}
-use Rattle.rdf_values.specs.declared.column.Column.{Column}
-use Rattle.rdf_values.specs.declared.value.Value.{Value}
-use Rattle.table_csv.specs.Csv.{csv_records}
+use Rattle.rdf_values.specs.{Column, is_name, IsTable, table_of, TableView, Value}
+use Rattle.table_csv.specs.{csv_records}
 use Rattle.snapshot_text.specs.TableTexts.{entries_text, table_text}
 
 -- each column is called by a name

@@ -2,21 +2,15 @@
 use Rattle.std.specs.Prelude.{ℕ, List, [], ◌∷◌, ◌++◌, map, flat_map, codes}
 use Rattle.std.specs.Fmt.{signed_decimal}
 use Rattle.std.specs.List.{join_with_byte}
-use Rattle.rdf_values.specs.RefusalLines.{line}
-use Rattle.rdf_values.specs.Tables.{TableView}
-use Rattle.rdf_values.specs.declared.column.Column.{Column}
-use Rattle.rdf_values.specs.declared.value.ColType.{ColType}
-use Rattle.rdf_values.specs.declared.value.ColType.TheVariants as k
-use Rattle.rdf_values.specs.declared.value.Value.{Value}
-use Rattle.rdf_values.specs.declared.value.Value.TheVariants as v
+use Rattle.rdf_values.specs.{ColType, Column, line, TableView, Value}
 
 -- ---- the header
 
 -- how a header names a kind; no table has a column of truth values
 abbrev pub kind_word : ColType → List ℕ
-kind_word k.Int = codes "int"
-kind_word k.Bool = codes "bool"
-kind_word k.Vect = codes "vec"
+kind_word ColType.Int = codes "int"
+kind_word ColType.Bool = codes "bool"
+kind_word ColType.Vect = codes "vec"
 
 -- a column's name, a colon, and its kind
 abbrev pub column_field : Column → List ℕ
@@ -30,16 +24,16 @@ header_text columns = line (join_with_byte 44 (map column_field columns))
 
 -- a number, or the numbers of a vector with `;` between them; no table holds truth values
 abbrev pub cell_field : Value → List ℕ
-cell_field (v.Int z) = signed_decimal z
-cell_field (v.Bool b) = []
-cell_field (v.Vect zs) = join_with_byte 59 (map signed_decimal zs)
+cell_field (Value.Int z) = signed_decimal z
+cell_field (Value.Bool b) = []
+cell_field (Value.Vect zs) = join_with_byte 59 (map signed_decimal zs)
 
 -- the cell of a table of one column: an empty vector is two double quotes, since an empty line is no record
 abbrev pub lone_field : Value → List ℕ
-lone_field (v.Int z) = signed_decimal z
-lone_field (v.Bool b) = []
-lone_field (v.Vect []) = codes "\"\""
-lone_field (v.Vect (z ∷ zs)) = join_with_byte 59 (map signed_decimal (z ∷ zs))
+lone_field (Value.Int z) = signed_decimal z
+lone_field (Value.Bool b) = []
+lone_field (Value.Vect []) = codes "\"\""
+lone_field (Value.Vect (z ∷ zs)) = join_with_byte 59 (map signed_decimal (z ∷ zs))
 
 -- the cells of an entry with commas between them
 abbrev pub record_text : List Value → List ℕ

@@ -1,7 +1,7 @@
 // The record of an entry.
 ghost use Rattle.std.specs.Prelude.{◌≡◌, ◌++◌, ◌∷◌, OnOk, flat_map, map};
-ghost use Rattle.rdf_values.specs.Values.{value_of};
-ghost use Rattle.snapshot_text.specs.TableTexts.{cell_field, entry_text, lone_field, record_text};
+ghost use Rattle.rdf_values.specs.{value_of};
+ghost use Rattle.snapshot_text.specs.{cell_field, entry_text, lone_field, record_text};
 
 use crate::numbers::{put_number, put_numbers};
 use rdf_values::{Cell, Memory, Text};

@@ -1,7 +1,7 @@
 // The header.
 ghost use Rattle.std.specs.Prelude.{◌≡◌, ◌++◌, ◌∷◌, OnOk, flat_map, map};
 ghost use Rattle.std.specs.List.{join_with_byte};
-ghost use Rattle.snapshot_text.specs.TableTexts.{column_field, header_text, kind_word};
+ghost use Rattle.snapshot_text.specs.{column_field, header_text, kind_word};
 
 use rdf_values::{ColType, Column, Memory, Text};
 

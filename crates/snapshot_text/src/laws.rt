@@ -1,5 +1,5 @@
 // Laws of a table's text. Each function does nothing; its contract is the law, and its proof the law's.
-ghost use Rattle.snapshot_text.specs.Laws.{PartsJoin, TextReadsBack};
+ghost use Rattle.snapshot_text.specs.{PartsJoin, TextReadsBack};
 
 /// The text of a table reads as that table: what `table_of` says of the text's records.
 pub fn text_reads_back()

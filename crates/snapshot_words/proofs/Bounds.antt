@@ -1,17 +1,13 @@
 -- What is asked for is within its limits.
-use Rattle.std.proofs.Common.{◌≡◌, ◌≤◌, ◌<◌, ℕ, ℤ, pos, negsuc, Bool, true, false, ◌&&◌, leb, List, length, Option, None, Some, if◌then◌else◌, refl, arith, subst}
-use Rattle.std.specs.Prelude.{nat_le}
+use Rattle.std.proofs.Common.{◌≡◌, ◌≤◌, ◌<◌, ℕ, ℤ, pos, negsuc, Bool, true, false, ◌&&◌, leb, List, length, Option, None, Some, if◌then◌else◌, refl, arith, subst, nat_le}
 use Rattle.std.specs.List.{list_all, slice_split}
 use Rattle.std.proofs.lemmas.Bool.Decides.{nat_tests}
 use Rattle.std.proofs.lemmas.List.Splits.{length-slice_split}
 use Rattle.clap.specs.Words.{Row, Text, matches_of}
-use Rattle.command_words.specs.Asked.{number_of, setting_of, within}
-use Rattle.rdf_values.specs.Integers.{integer_of}
-use Rattle.rdf_values.specs.Names.{is_name}
-use Rattle.snapshot_plan.specs.declared.under.Under.{Under}
-use Rattle.snapshot_words.specs.Asked.{asked_by, asked_in, asked_of, command_of, files_of, is_comma, is_taken, names_of, shown_by, shown_of, snapshot_command, under_in}
-use Rattle.snapshot_words.specs.Limits.{IsAsked}
-use Rattle.snapshot_words.specs.declared.command.SnapCommand.{SnapCommand}
+use Rattle.command_words.specs.{number_of, setting_of, within}
+use Rattle.rdf_values.specs.{integer_of, is_name}
+use Rattle.snapshot_plan.specs.{Under}
+use Rattle.snapshot_words.specs.{asked_by, asked_in, asked_of, command_of, files_of, is_comma, is_taken, IsAsked, names_of, shown_by, shown_of, SnapCommand, snapshot_command, under_in}
 use Rattle.snapshot_words.specs.declared.read.Files.{Files}
 use Rattle.snapshot_words.specs.declared.read.Shown.{Shown}
 

@@ -1,11 +1,10 @@
 -- The definitions computed: words that are taken, and words that aren't.
 use Rattle.std.proofs.Common.{◌≡◌, [], ◌∷◌, Some, None, refl, codes}
 use Rattle.clap.proofs.OnLiterals.{clap_on_literals}
-use Rattle.rdf_values.specs.Integers.{integer_of, magnitude_of}
-use Rattle.rdf_values.specs.Names.{is_name}
-use Rattle.command_words.specs.Asked.{number_of}
+use Rattle.rdf_values.specs.{integer_of, is_name, magnitude_of}
+use Rattle.command_words.specs.{number_of}
 use Rattle.snapshot_plan.specs.declared.under.Under.TheVariants.{Nominal, Varied}
-use Rattle.snapshot_words.specs.Asked.{asked_in, asked_of, is_taken, names_of, snapshot_command, under_in}
+use Rattle.snapshot_words.specs.{asked_in, asked_of, is_taken, names_of, snapshot_command, under_in}
 
 pub under_a_variation : asked_of (codes "s" ∷ codes "t" ∷ codes "f" ∷ codes "pt,jets" ∷ codes "pt:up" ∷ codes "--slots" ∷ codes "3" ∷ codes "--cluster=1" ∷ [])
     ≡ Some (record { script = codes "s"; table = codes "t"; node = codes "f"; columns = codes "pt" ∷ codes "jets" ∷ []; under = Varied (codes "pt") (codes "up"); slots = 3; cluster = 1 })

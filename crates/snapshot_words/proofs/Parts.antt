@@ -1,15 +1,13 @@
 -- Names between commas, part by part.
-use Rattle.std.proofs.Common.{if◌then◌else◌, ◌≡◌, ◌<◌, ◌≤◌, ◌+◌, ℕ, List, [], ◌∷◌, ◌++◌, length, Bool, true, false, ◌&&◌, None, Some, Option, arith, refl, suc, ap, ◌∙◌, length-append, append-nil}
+use Rattle.std.proofs.Common.{if◌then◌else◌, ◌≡◌, ◌<◌, ◌≤◌, ◌+◌, ℕ, List, [], ◌∷◌, ◌++◌, length, Bool, true, false, ◌&&◌, None, Some, Option, arith, refl, suc, ap, ◌∙◌, length-append, append-nil, MatchOption, cond, nat_le, nat_lt, position}
 use Rattle.std.specs.Borrow.{Bor}
-use Rattle.std.specs.Prelude.{MatchOption, cond, nat_le, nat_lt, position}
 use Rattle.std.specs.List.{after_first, before_first, list_all, position_or_len, slice_split}
 use Rattle.std.proofs.lemmas.List.{drop_all}
 use Rattle.std.proofs.lemmas.Bool.Decides.{nat_tests}
-use Rattle.rdf_values.specs.Names.{is_name}
-use Rattle.rdf_values.specs.TableText.{is_colon}
-use Rattle.snapshot_plan.specs.declared.under.Under.{Under}
+use Rattle.rdf_values.specs.{is_colon, is_name}
+use Rattle.snapshot_plan.specs.{Under}
 use Rattle.snapshot_plan.specs.declared.under.Under.TheVariants.{Varied}
-use Rattle.snapshot_words.specs.Asked.{if_names, is_comma, names_of, varied_of}
+use Rattle.snapshot_words.specs.{if_names, is_comma, names_of, varied_of}
 
 -- the parts that are left
 abbrev pub parts_of : Option (Bor (List ℕ)) → List (List ℕ)

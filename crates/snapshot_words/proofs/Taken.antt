@@ -4,8 +4,8 @@ use Rattle.clap.specs.Words.{App, HasMatchesOf, IsAmong, Kinds, Text, fault_of, 
 use Rattle.clap.specs.declared.error.kind.ErrorKind.{ErrorKind}
 use Rattle.clap.specs.declared.parser.matches.ArgMatches.{ArgMatches}
 use Rattle.clap.proofs.OnLiterals.{clap_on_literals}
-use Rattle.command_words.specs.Arguments.{has_none}
-use Rattle.snapshot_words.specs.Asked.{asked_in, asked_of, is_taken, snapshot_command}
+use Rattle.command_words.specs.{has_none}
+use Rattle.snapshot_words.specs.{asked_in, asked_of, is_taken, snapshot_command}
 
 pub is_simple_one : is_simple snapshot_command ≡ true
 unfolding snapshot_command clap_on_literals

@@ -3,11 +3,9 @@ use Rattle.std.specs.Prelude.{ℕ, Bool, true, ◌&&◌, List, length, Option, S
 use Rattle.std.specs.List.{after_first, before_first, list_all, slice_split}
 use Rattle.clap.specs.Words.{App, Row, Text, fault_of, first_of, matches_of, new_app, with_rule}
 use Rattle.clap.specs.Simple.{on_top}
-use Rattle.rdf_values.specs.Names.{is_name}
-use Rattle.rdf_values.specs.TableText.{is_colon}
-use Rattle.command_words.specs.Arguments.{has_none, option, positional}
-use Rattle.command_words.specs.Asked.{setting_of}
-use Rattle.snapshot_plan.specs.declared.under.Under.{Under}
+use Rattle.rdf_values.specs.{is_colon, is_name}
+use Rattle.command_words.specs.{has_none, option, positional, setting_of}
+use Rattle.snapshot_plan.specs.{Under}
 use Rattle.snapshot_plan.specs.declared.under.Under.TheVariants.{Nominal, Varied}
 use Rattle.snapshot_words.specs.declared.command.SnapCommand.{SnapCommand}
 use Rattle.snapshot_words.specs.declared.read.Files.{Files}

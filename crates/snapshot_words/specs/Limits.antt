@@ -1,7 +1,7 @@
 -- What holds of each command that is asked for.
 use Rattle.std.specs.Prelude.{◌≡◌, ◌≤◌, ◌<◌, ℕ, true, List, Some, length}
 use Rattle.std.specs.List.{list_all}
-use Rattle.rdf_values.specs.Names.{is_name}
+use Rattle.rdf_values.specs.{is_name}
 use Rattle.snapshot_words.specs.Asked.{asked_of}
 use Rattle.snapshot_words.specs.declared.command.SnapCommand.{SnapCommand}
 

@@ -1,8 +1,8 @@
 // The arguments that the command takes.
 ghost use Rattle.std.specs.Prelude.{◌≡◌, IfOk, false};
 ghost use Rattle.clap.specs.Words.{app_of, rule_of};
-ghost use Rattle.command_words.specs.Arguments.{option, positional};
-ghost use Rattle.snapshot_words.specs.Asked.{snapshot_command};
+ghost use Rattle.command_words.specs.{option, positional};
+ghost use Rattle.snapshot_words.specs.{snapshot_command};
 
 use clap::{Arg, ArgAction, Command};
 use std::alloc::{AllocError, Global};

@@ -1,8 +1,8 @@
 // Names in one word.
 ghost use Rattle.std.specs.Prelude.{◌≡◌, ◌<◌, [], ◌∷◌, IfOk, MatchOption, length, position};
 ghost use Rattle.std.specs.List.{slice_split};
-ghost use Rattle.rdf_values.specs.TableText.{is_colon};
-ghost use Rattle.snapshot_words.specs.Asked.{is_comma, names_of, under_in};
+ghost use Rattle.rdf_values.specs.{is_colon};
+ghost use Rattle.snapshot_words.specs.{is_comma, names_of, under_in};
 
 use rdf_values::{ListOf, Memory, Name};
 use snapshot_plan::Under;

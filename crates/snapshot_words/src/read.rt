@@ -1,8 +1,8 @@
 // Reading the command's words.
 ghost use Rattle.std.specs.Prelude.{◌≡◌, IfOk, option_map, map};
 ghost use Rattle.clap.specs.Words.{first_of, found_of, rows_of};
-ghost use Rattle.command_words.specs.Asked.{setting_of};
-ghost use Rattle.snapshot_words.specs.Asked.{asked_in, asked_of, command_of, files_of, shown_of};
+ghost use Rattle.command_words.specs.{setting_of};
+ghost use Rattle.snapshot_words.specs.{asked_in, asked_of, command_of, files_of, shown_of};
 
 use crate::arguments::arguments;
 use crate::command::SnapCommand;

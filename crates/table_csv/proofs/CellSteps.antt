@@ -1,14 +1,10 @@
 -- One more cell of an entry, and its mark.
-use Rattle.std.proofs.Common.{◌≡◌, ◌≢◌, ◌<◌, ◌≤◌, ◌+◌, ℕ, Bool, true, false, List, [], ◌∷◌, ◌++◌, length, get_or, drop, Result, Ok, Err, arith, refl, ◌∙◌}
+use Rattle.std.proofs.Common.{◌≡◌, ◌≢◌, ◌<◌, ◌≤◌, ◌+◌, ℕ, Bool, true, false, List, [], ◌∷◌, ◌++◌, length, get_or, drop, Result, Ok, Err, arith, refl, ◌∙◌, if◌then◌else◌, nat_eq, nat_le}
 use mir.Val.{bool_byte}
-use Rattle.std.specs.Prelude.{if◌then◌else◌, nat_eq, nat_le}
 use Rattle.std.proofs.lemmas.List.{append-nil, drop_all, drop_more}
 use Rattle.std.proofs.lemmas.Bool.Decides.{nat_tests}
-use Rattle.rdf_values.specs.TableText.{Header, MarkedRow, cell_of, cells_from, field_count, mark_in, mark_of, on_ok, row_of}
-use Rattle.rdf_values.specs.declared.column.Column.{Column}
-use Rattle.rdf_values.specs.declared.table_cause.TableCause.{TableCause}
-use Rattle.rdf_values.specs.declared.table_cause.TableCause.TheVariants as cause
-use Rattle.rdf_values.specs.declared.value.Value.{Value}
+use Rattle.rdf_values.specs.{cells_from, Column, field_count, Header, mark_of, MarkedRow, on_ok, row_of, TableCause, Value}
+use Rattle.rdf_values.specs.TableText.{cell_of, mark_in}
 use Rattle.table_csv.proofs.Onto.{result_onto, result_onto-cons}
 
 pub cells_stop : (e : ℕ) (row : List Value) (columns : List Column) (fields : List (List ℕ)) (i : ℕ) (c : Column) (bad : TableCause)
@@ -28,13 +24,13 @@ pub cells_end : (e : ℕ) (row : List Value) (columns : List Column) (fields : L
 unfolding cells_from
 cells_end e row columns fields i h = rw (drop_all i columns h, append-nil row) refl
 
-pub row_many : (e : ℕ) (h : Header) (fields : List (List ℕ)) → 1000000 ≤ e → row_of e h fields ≡ Err (cause.TooMany e)
+pub row_many : (e : ℕ) (h : Header) (fields : List (List ℕ)) → 1000000 ≤ e → row_of e h fields ≡ Err (TableCause.TooMany e)
 unfolding row_of
 row_many e h fields l =
     let yes : nat_le 1000000 e ≡ true = grind (arith, nat_tests) in
     rw yes refl
 
-pub row_short : (e : ℕ) (h : Header) (fields : List (List ℕ)) → e < 1000000 → length fields ≢ field_count h → row_of e h fields ≡ Err (cause.FieldCount e)
+pub row_short : (e : ℕ) (h : Header) (fields : List (List ℕ)) → e < 1000000 → length fields ≢ field_count h → row_of e h fields ≡ Err (TableCause.FieldCount e)
 unfolding row_of
 row_short e h fields l n =
     let few : nat_le 1000000 e ≡ false = grind (arith, nat_tests) in
@@ -75,7 +71,7 @@ unfolding row_of
 row_early e h fields r q = go (nat_le 1000000 e) refl q
   where
     go : (b : Bool) → nat_le 1000000 e ≡ b
-        → (if b then Err (cause.TooMany e) else if nat_eq (length fields) (field_count h) then on_ok (cells_from e 0 h.columns fields) (λ row. on_ok (mark_in e (length h.columns) h.marked (drop (length h.columns) fields)) (λ marked. Ok (record { row = row; marked = marked }))) else Err (cause.FieldCount e)) ≡ Ok r
+        → (if b then Err (TableCause.TooMany e) else if nat_eq (length fields) (field_count h) then on_ok (cells_from e 0 h.columns fields) (λ row. on_ok (mark_in e (length h.columns) h.marked (drop (length h.columns) fields)) (λ marked. Ok (record { row = row; marked = marked }))) else Err (TableCause.FieldCount e)) ≡ Ok r
         → e < 1000000
     go true t u = cc u
     go false t u = grind (arith, nat_tests)

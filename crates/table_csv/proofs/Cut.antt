@@ -1,6 +1,5 @@
 -- Records of bytes that are cut where the machine stands between two records.
-use Rattle.std.proofs.Common.{◌≡◌, ◌<◌, ℕ, zero, suc, List, [], ◌∷◌, ◌++◌, length, Bool, true, false, None, Some, Option, arith, refl, ap, length-append}
-use Rattle.std.specs.Prelude.{if◌then◌else◌, ◌==◌}
+use Rattle.std.proofs.Common.{◌≡◌, ◌<◌, ℕ, zero, suc, List, [], ◌∷◌, ◌++◌, length, Bool, true, false, None, Some, Option, arith, refl, ap, length-append, if◌then◌else◌, ◌==◌}
 use Rattle.csv.specs.Machine.{Read, ends_at_end, ends_with, is_end, step, in_field, next_record, fields_after, field_after, start_field, start_record}
 use Rattle.csv.specs.Reading.{default_config, records_from, records_next}
 use Rattle.csv.specs.declared.parser.State.{State}

@@ -1,15 +1,13 @@
 -- Records of bytes without a double quote that are cut behind a line's end.
-use Rattle.std.proofs.Common.{◌≡◌, ◌+◌, ℕ, List, [], ◌∷◌, ◌++◌, length, Bool, true, false, arith, refl, sym, ◌∙◌, append_assoc, append-nil, inl, inr}
-use Rattle.std.specs.Prelude.{if◌then◌else◌, ◌==◌, ◌&&◌, nat_eq}
+use Rattle.std.proofs.Common.{◌≡◌, ◌+◌, ℕ, List, [], ◌∷◌, ◌++◌, length, Bool, true, false, arith, refl, sym, ◌∙◌, append_assoc, append-nil, inl, inr, if◌then◌else◌, ◌==◌, ◌&&◌, nat_eq}
 use Rattle.std.specs.List.{list_any}
-use Rattle.lemmas.proofs.Booleans.{and_false, neither}
+use Rattle.lemmas.proofs.{and_false, neither}
 use Rattle.csv.specs.Machine.{ends_with, next_record, step, in_field, start_field, start_record}
 use Rattle.csv.specs.Reading.{default_config, is_bom, records_from, strip_bom}
 use Rattle.csv.specs.declared.parser.Action.{Action}
 use Rattle.csv.specs.declared.parser.State.{State}
 use Rattle.csv.specs.declared.parser.State.TheVariants as st
-use Rattle.table_csv.specs.Csv.{csv_records}
-use Rattle.table_csv.specs.Lines.{IsCut, is_quote, is_special}
+use Rattle.table_csv.specs.{csv_records, is_quote, is_special, IsCut}
 use Rattle.table_csv.proofs.Cut.{records_cut, state_after}
 
 -- the states that are met where no double quote was

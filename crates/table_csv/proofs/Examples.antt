@@ -1,55 +1,51 @@
 -- What some bytes spell.
 use Rattle.std.proofs.Common.{◌≡◌, ℕ, List, [], ◌∷◌, ◌++◌, Ok, Err, refl, codes, pos, negsuc}
 use Rattle.csv.proofs.OnLiterals.{csv_on_literals}
-use Rattle.rdf_values.specs.Integers.{integer_of, magnitude_of}
-use Rattle.rdf_values.specs.Names.{is_name}
-use Rattle.rdf_values.specs.TableText.{cell_of, cells_from, column_of, header_from, integers_of, is_cut, mark_of, next_column, row_of, rows_from, table_of, vector_of}
-use Rattle.rdf_values.specs.declared.table_cause.TableCause.TheVariants as cause
-use Rattle.rdf_values.specs.declared.value.ColType.TheVariants as k
-use Rattle.rdf_values.specs.declared.value.Value.TheVariants as v
-use Rattle.table_csv.specs.Csv.{csv_records}
+use Rattle.rdf_values.specs.{cells_from, ColType, column_of, header_from, integer_of, integers_of, is_cut, is_name, magnitude_of, mark_of, next_column, row_of, rows_from, table_of, TableCause, Value, vector_of}
+use Rattle.rdf_values.specs.TableText.{cell_of}
+use Rattle.table_csv.specs.{csv_records}
 
-no_type : table_of (csv_records (codes "pt")) ≡ Err (cause.Header 0)
+no_type : table_of (csv_records (codes "pt")) ≡ Err (TableCause.Header 0)
 unfolding csv_on_literals csv_records is_name integer_of magnitude_of cell_of cells_from column_of header_from integers_of is_cut mark_of next_column row_of rows_from table_of vector_of
 no_type = refl
 
-no_bytes : table_of (csv_records ([])) ≡ Err (cause.Header 0)
+no_bytes : table_of (csv_records ([])) ≡ Err (TableCause.Header 0)
 unfolding csv_on_literals csv_records is_name integer_of magnitude_of cell_of cells_from column_of header_from integers_of is_cut mark_of next_column row_of rows_from table_of vector_of
 no_bytes = refl
 
-same_name : table_of (csv_records (codes "pt:int,pt:int")) ≡ Err (cause.Header 1)
+same_name : table_of (csv_records (codes "pt:int,pt:int")) ≡ Err (TableCause.Header 1)
 unfolding csv_on_literals csv_records is_name integer_of magnitude_of cell_of cells_from column_of header_from integers_of is_cut mark_of next_column row_of rows_from table_of vector_of
 same_name = refl
 
-leading_zero : table_of (csv_records (codes "pt:int" ++ 10 ∷ codes "05")) ≡ Err (cause.BadInt 0 0)
+leading_zero : table_of (csv_records (codes "pt:int" ++ 10 ∷ codes "05")) ≡ Err (TableCause.BadInt 0 0)
 unfolding csv_on_literals csv_records is_name integer_of magnitude_of cell_of cells_from column_of header_from integers_of is_cut mark_of next_column row_of rows_from table_of vector_of
 leading_zero = refl
 
-plus_sign : table_of (csv_records (codes "pt:int" ++ 10 ∷ codes "+5")) ≡ Err (cause.BadInt 0 0)
+plus_sign : table_of (csv_records (codes "pt:int" ++ 10 ∷ codes "+5")) ≡ Err (TableCause.BadInt 0 0)
 unfolding csv_on_literals csv_records is_name integer_of magnitude_of cell_of cells_from column_of header_from integers_of is_cut mark_of next_column row_of rows_from table_of vector_of
 plus_sign = refl
 
-minus_zero : table_of (csv_records (codes "pt:int" ++ 10 ∷ codes "-0")) ≡ Err (cause.BadInt 0 0)
+minus_zero : table_of (csv_records (codes "pt:int" ++ 10 ∷ codes "-0")) ≡ Err (TableCause.BadInt 0 0)
 unfolding csv_on_literals csv_records is_name integer_of magnitude_of cell_of cells_from column_of header_from integers_of is_cut mark_of next_column row_of rows_from table_of vector_of
 minus_zero = refl
 
-last_semicolon : table_of (csv_records (codes "a:int,b:int,c:vec" ++ 10 ∷ codes "1,1,1;")) ≡ Err (cause.BadVec 0 2)
+last_semicolon : table_of (csv_records (codes "a:int,b:int,c:vec" ++ 10 ∷ codes "1,1,1;")) ≡ Err (TableCause.BadVec 0 2)
 unfolding csv_on_literals csv_records is_name integer_of magnitude_of cell_of cells_from column_of header_from integers_of is_cut mark_of next_column row_of rows_from table_of vector_of
 last_semicolon = refl
 
-short_entry : table_of (csv_records (codes "a:int,b:int" ++ 10 ∷ codes "1,1" ++ 10 ∷ codes "1")) ≡ Err (cause.FieldCount 1)
+short_entry : table_of (csv_records (codes "a:int,b:int" ++ 10 ∷ codes "1,1" ++ 10 ∷ codes "1")) ≡ Err (TableCause.FieldCount 1)
 unfolding csv_on_literals csv_records is_name integer_of magnitude_of cell_of cells_from column_of header_from integers_of is_cut mark_of next_column row_of rows_from table_of vector_of
 short_entry = refl
 
-first_bad_field : table_of (csv_records (codes "a:int,b:vec" ++ 10 ∷ codes "x,y")) ≡ Err (cause.BadInt 0 0)
+first_bad_field : table_of (csv_records (codes "a:int,b:vec" ++ 10 ∷ codes "x,y")) ≡ Err (TableCause.BadInt 0 0)
 unfolding csv_on_literals csv_records is_name integer_of magnitude_of cell_of cells_from column_of header_from integers_of is_cut mark_of next_column row_of rows_from table_of vector_of
 first_bad_field = refl
 
 -- CRLF, an empty line, and vectors
 two_entries : table_of (csv_records (codes "a:int,b:vec" ++ 10 ∷ codes "-3,1;2" ++ 13 ∷ 10 ∷ 10 ∷ codes "4,")) ≡ Ok (record {
   table = record {
-    columns = record { name = codes "a"; kind = k.Int } ∷ record { name = codes "b"; kind = k.Vect } ∷ [];
-    rows = (v.Int (negsuc 2) ∷ v.Vect (pos 1 ∷ pos 2 ∷ []) ∷ []) ∷ (v.Int (pos 4) ∷ v.Vect [] ∷ []) ∷ [];
+    columns = record { name = codes "a"; kind = ColType.Int } ∷ record { name = codes "b"; kind = ColType.Vect } ∷ [];
+    rows = (Value.Int (negsuc 2) ∷ Value.Vect (pos 1 ∷ pos 2 ∷ []) ∷ []) ∷ (Value.Int (pos 4) ∷ Value.Vect [] ∷ []) ∷ [];
   };
   marks = [];
 })
@@ -58,8 +54,8 @@ two_entries = refl
 
 byte_order_mark : table_of (csv_records (239 ∷ 187 ∷ 191 ∷ codes "a:int" ++ 10 ∷ codes "7")) ≡ Ok (record {
   table = record {
-    columns = record { name = codes "a"; kind = k.Int } ∷ [];
-    rows = (v.Int (pos 7) ∷ []) ∷ [];
+    columns = record { name = codes "a"; kind = ColType.Int } ∷ [];
+    rows = (Value.Int (pos 7) ∷ []) ∷ [];
   };
   marks = [];
 })
@@ -69,8 +65,8 @@ byte_order_mark = refl
 -- a lone CR ends a record, and a quoted cell may go on behind its quotes
 quoted_one : table_of (csv_records (codes "a:int" ++ 13 ∷ 34 ∷ codes "1" ++ 34 ∷ codes "2")) ≡ Ok (record {
   table = record {
-    columns = record { name = codes "a"; kind = k.Int } ∷ [];
-    rows = (v.Int (pos 12) ∷ []) ∷ [];
+    columns = record { name = codes "a"; kind = ColType.Int } ∷ [];
+    rows = (Value.Int (pos 12) ∷ []) ∷ [];
   };
   marks = [];
 })
@@ -84,18 +80,18 @@ marked_text = codes "x:int,k:cut" ++ 10 ∷ codes "1,1" ++ 10 ∷ codes "2,1" ++
 
 marked_entries : table_of (csv_records marked_text) ≡ Ok (record {
   table = record {
-    columns = record { name = codes "x"; kind = k.Int } ∷ [];
-    rows = (v.Int (pos 1) ∷ []) ∷ (v.Int (pos 2) ∷ []) ∷ (v.Int (pos 3) ∷ []) ∷ [];
+    columns = record { name = codes "x"; kind = ColType.Int } ∷ [];
+    rows = (Value.Int (pos 1) ∷ []) ∷ (Value.Int (pos 2) ∷ []) ∷ (Value.Int (pos 3) ∷ []) ∷ [];
   };
   marks = 0 ∷ 1 ∷ [];
 })
 unfolding csv_on_literals csv_records is_name integer_of magnitude_of cell_of cells_from column_of header_from integers_of is_cut mark_of next_column row_of rows_from table_of vector_of
 marked_entries = refl
 
-bad_mark : table_of (csv_records (codes "x:int,k:cut" ++ 10 ∷ codes "1,1" ++ 10 ∷ codes "2,2")) ≡ Err (cause.BadCut 1 1)
+bad_mark : table_of (csv_records (codes "x:int,k:cut" ++ 10 ∷ codes "1,1" ++ 10 ∷ codes "2,2")) ≡ Err (TableCause.BadCut 1 1)
 unfolding csv_on_literals csv_records is_name integer_of magnitude_of cell_of cells_from column_of header_from integers_of is_cut mark_of next_column row_of rows_from table_of vector_of
 bad_mark = refl
 
-marks_before_a_column : table_of (csv_records (codes "k:cut,x:int")) ≡ Err (cause.Header 0)
+marks_before_a_column : table_of (csv_records (codes "k:cut,x:int")) ≡ Err (TableCause.Header 0)
 unfolding csv_on_literals csv_records is_name integer_of magnitude_of cell_of cells_from column_of header_from integers_of is_cut mark_of next_column row_of rows_from table_of vector_of
 marks_before_a_column = refl

@@ -1,16 +1,9 @@
 -- One more field of a header, and that columns of a header are those of a table.
-use Rattle.std.proofs.Common.{if◌then◌else◌, ◌≡◌, ◌<◌, ◌≤◌, ◌+◌, ℕ, suc, List, [], ◌∷◌, ◌++◌, length, get_or, drop, Bool, true, false, None, Some, Option, Result, Ok, Err, arith, refl, ap, sym, ◌∙◌, append_assoc, length-append, codes, not, ◌&&◌}
-use Rattle.std.specs.Prelude.{nat_eq, nat_lt, option_and_then, option_map, ok_or}
+use Rattle.std.proofs.Common.{if◌then◌else◌, ◌≡◌, ◌<◌, ◌≤◌, ◌+◌, ℕ, suc, List, [], ◌∷◌, ◌++◌, length, get_or, drop, Bool, true, false, None, Some, Option, Result, Ok, Err, arith, refl, ap, sym, ◌∙◌, append_assoc, length-append, codes, not, ◌&&◌, nat_eq, nat_lt, option_and_then, option_map, ok_or}
 use Rattle.std.specs.List.{after_first, before_first}
 use Rattle.std.proofs.lemmas.List.{append-nil, at_drop_more, drop_all, length-drop}
 use Rattle.std.proofs.lemmas.Bool.Decides.{nat_tests}
-use Rattle.rdf_values.specs.Names.{is_name, same}
-use Rattle.rdf_values.specs.Tables.{AreColumns, IsHeader, IsStored, has_name}
-use Rattle.rdf_values.specs.TableText.{Header, column_of, ends_in_cut, header_from, if_new, is_colon, is_cut, next_column, on_ok, with_column}
-use Rattle.rdf_values.specs.declared.column.Column.{Column}
-use Rattle.rdf_values.specs.declared.table_cause.TableCause.{TableCause}
-use Rattle.rdf_values.specs.declared.table_cause.TableCause.TheVariants as cause
-use Rattle.rdf_values.specs.declared.value.ColType.TheVariants as k
+use Rattle.rdf_values.specs.{AreColumns, ColType, Column, column_of, ends_in_cut, has_name, Header, header_from, if_new, is_colon, is_cut, is_name, IsHeader, IsStored, next_column, on_ok, same, TableCause, with_column}
 
 -- what is read, with the header of what is left behind it
 abbrev pub header_onto : List Column → Result Header TableCause → Result Header TableCause
@@ -48,7 +41,7 @@ header_cut columns fields i h cut =
     at_drop_more (λ left. header_onto columns (header_from i columns left)) fields i [] (omega (arith, h)) ∙ rw (last, append-nil columns) refl
 
 pub header_stop : (columns : List Column) (fields : List (List ℕ)) (i : ℕ) → i < length fields → NoCut columns fields i → next_column columns (get_or fields i []) ≡ None
-    → header_onto columns (header_from i columns (drop i fields)) ≡ Err (cause.Header i)
+    → header_onto columns (header_from i columns (drop i fields)) ≡ Err (TableCause.Header i)
 unfolding header_from
 header_stop columns fields i h n none = at_drop_more (λ left. header_onto columns (header_from i columns left)) fields i [] h ∙ rw (not_last columns fields i h n, none) refl
 
@@ -76,9 +69,9 @@ new_by before (Some x) c e =
     (grind (arith, nat_tests, p.0), p.1, ap Some p.2)
 
 stored_by : (a b d : Bool) (name : List ℕ) (c : Column)
-    → (if d then option_map (λ kind. record { name = name; kind = kind }) (if a then Some k.Int else if b then Some k.Vect else None) else None) ≡ Some c → IsStored c.kind
-stored_by true b true name c e = let equal : record { name = name; kind = k.Int } ≡ c = cc e in rw (← equal) tt
-stored_by false true true name c e = let equal : record { name = name; kind = k.Vect } ≡ c = cc e in rw (← equal) tt
+    → (if d then option_map (λ kind. record { name = name; kind = kind }) (if a then Some ColType.Int else if b then Some ColType.Vect else None) else None) ≡ Some c → IsStored c.kind
+stored_by true b true name c e = let equal : record { name = name; kind = ColType.Int } ≡ c = cc e in rw (← equal) tt
+stored_by false true true name c e = let equal : record { name = name; kind = ColType.Vect } ≡ c = cc e in rw (← equal) tt
 stored_by false false true name c e = cc e
 stored_by a b false name c e = cc e
 
@@ -104,7 +97,7 @@ next_cons i size before c (Ok h) new stored a = (let few = a.1 in ((new, stored,
 
 next_by : (i size : ℕ) (before : List Column) (field : List ℕ) (o : Option Column) (go : Column → Result Header TableCause) → length before ≡ i
     → next_column before field ≡ o → ((c : Column) → length before < 64 → AreNext (i + 1) (before ++ c ∷ []) size (go c))
-    → AreNext i before (suc size) (on_ok (ok_or o (cause.Header i)) (λ c. with_column c (go c)))
+    → AreNext i before (suc size) (on_ok (ok_or o (TableCause.Header i)) (λ c. with_column c (go c)))
 next_by i size before field None go l e more = tt
 next_by i size before field (Some c) go l e more =
     let new = next_new before field c e in

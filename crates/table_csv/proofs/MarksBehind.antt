@@ -1,13 +1,12 @@
 -- Marks behind others.
-use Rattle.std.proofs.Common.{◌≡◌, ◌<◌, ◌+◌, ℕ, List, [], ◌∷◌, ◌++◌, take, All, Some, arith, length-take, append_assoc}
-use Rattle.std.specs.Prelude.{slice_get}
+use Rattle.std.proofs.Common.{◌≡◌, ◌<◌, ◌+◌, ℕ, List, [], ◌∷◌, ◌++◌, take, All, Some, arith, length-take, append_assoc, slice_get}
 use Rattle.std.proofs.lemmas.List.{get_or-take, map-append}
 use Rattle.std.proofs.lemmas.List.Elements.{All-append, All-map}
 use Rattle.std.proofs.lemmas.List.Kept.{AllPairs-from_increasing}
 use Rattle.std.proofs.lemmas.Option.{get_or_from_slice_get, slice_get_within}
-use Rattle.lemmas.proofs.Parts.{take_next}
-use Rattle.rdf_values.specs.Cuts.{AreMarks}
-use Rattle.table_csv.specs.Joins.{marks_behind}
+use Rattle.lemmas.proofs.{take_next}
+use Rattle.rdf_values.specs.{AreMarks}
+use Rattle.table_csv.specs.{marks_behind}
 
 -- ---- one more of a list
 

@@ -1,6 +1,6 @@
 -- What is read, with the answer for what is left behind it.
 use Rattle.std.proofs.Common.{◌≡◌, List, [], ◌∷◌, ◌++◌, Result, Ok, Err, append_assoc, ap, refl, sym}
-use Rattle.rdf_values.specs.TableText.{result_cons}
+use Rattle.rdf_values.specs.{result_cons}
 
 abbrev pub result_onto : {A E : Type 0} → List A → Result (List A) E → Result (List A) E
 result_onto read (Err e) = Err e

@@ -1,27 +1,17 @@
 -- Answers about pieces of a table.
-use Rattle.std.proofs.Common.{◌≡◌, ◌<◌, ◌≤◌, ◌+◌, ◌∙◌, ◌++◌, ℕ, Bool, true, false, not, All, List, [], ◌∷◌, length, None, Option, Some, Result, Ok, Err, ap, length-append, arith, sym}
+use Rattle.std.proofs.Common.{◌≡◌, ◌<◌, ◌≤◌, ◌+◌, ◌∙◌, ◌++◌, ℕ, Bool, true, false, not, All, List, [], ◌∷◌, length, None, Option, Some, Result, Ok, Err, ap, length-append, arith, sym, IfOk, IfSome, MatchResult}
 use Rattle.std.specs.Borrow.{Bor}
-use Rattle.std.specs.Prelude.{IfOk, IfSome, MatchResult}
 use Rattle.std.specs.List.{list_any}
 use Rattle.std.specs.Result.{result_ok}
 use Rattle.std.proofs.lemmas.List.Elements.{All-append, All-map}
 use Rattle.std.proofs.lemmas.List.Folds.{list_any-append}
 use Rattle.csv.specs.declared.reader.Reader.{Reader}
-use Rattle.rdf_values.specs.Answers.{Refuses}
-use Rattle.rdf_values.specs.TableText.{Header, MarkedTable, table_of}
-use Rattle.rdf_values.specs.declared.memory.Memory.{Memory}
-use Rattle.rdf_values.specs.declared.table_cause.TableCause.{TableCause}
-use Rattle.rdf_values.specs.declared.value.Value.{Value}
-use Rattle.table_csv.specs.Csv.{Took, csv_records}
-use Rattle.table_csv.specs.Entries.{IsHeaded, entries_of}
-use Rattle.table_csv.specs.Joins.{marks_behind}
-use Rattle.columns.specs.Joins.{table_joined}
-use Rattle.table_csv.specs.Lines.{IsCut, is_quote, is_special}
-use Rattle.table_csv.specs.Pieces.{IsHead, IsPiece}
+use Rattle.rdf_values.specs.Answered.{Refuses}
+use Rattle.rdf_values.specs.{Header, MarkedTable, Memory, table_of, TableCause, Value}
+use Rattle.table_csv.specs.{csv_records, entries_of, is_quote, is_special, IsCut, IsHead, IsHeaded, IsPiece, MarkedPieces, marks_behind, Took}
+use Rattle.columns.specs.{table_joined}
 use Rattle.table_csv.specs.declared.marked.Marked.{Marked}
 use Rattle.table_csv.specs.declared.refusal.TableRefusal.{TableRefusal}
-use Rattle.table_csv.specs.declared.refusal.TableRefusal.TheVariants as refusal
-use Rattle.table_csv.specs.declared.marked_pieces.MarkedPieces.{MarkedPieces}
 use Rattle.table_csv.proofs.CutLines.{csv_cut, no_quote}
 use Rattle.table_csv.proofs.ShiftedRows.{table_columns, table_join}
 use Rattle.table_csv.proofs.TableSteps.{table_good}
@@ -44,7 +34,7 @@ good_answer (Err e) value P Q some h = cc some
 
 -- the answer for a piece
 pub piece_of : (head lines : List ℕ) (answer : Result Marked TableRefusal) (read : Marked) (out : Result MarkedPieces Memory) (wanted : Result MarkedTable TableCause) → list_any is_special lines ≡ false → table_of (csv_records head ++ csv_records lines) ≡ wanted
-    → MatchResult answer (λ m. wanted ≡ Ok (record { table = m.table; marks = m.marks })) (Refuses refusal.At refusal.Memory wanted) → IfOk answer (λ m. All (λ e. e < length m.table.rows) m.marks) → result_ok answer ≡ Some read
+    → MatchResult answer (λ m. wanted ≡ Ok (record { table = m.table; marks = m.marks })) (Refuses TableRefusal.At TableRefusal.Memory wanted) → IfOk answer (λ m. All (λ e. e < length m.table.rows) m.marks) → result_ok answer ≡ Some read
     → IfOk out (λ m. m.table ≡ read.table) → IfOk out (λ m. m.marks ≡ read.marks) → IfSome (result_ok out) (λ m. IsPiece head lines m)
 piece_of head lines (Err e) read out wanted plain w a within some t k = cc some
 piece_of head lines (Ok r) read (Err e) wanted plain w a within some t k = tt

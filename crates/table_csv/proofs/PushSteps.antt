@@ -1,16 +1,9 @@
 -- One more value for a column, in an entry that is read.
 use Rattle.std.proofs.Common.{◌≡◌, ◌<◌, ◌≤◌, ◌+◌, ◌∙◌, ℕ, zero, suc, List, [], ◌∷◌, ◌++◌, length, get_or, set, drop, Result, Err, ap, arith, refl, sym, length-append}
-use Rattle.rdf_values.specs.Kept.{AreKept, IsKept, pushed, row_pushed}
-use Rattle.rdf_values.specs.TableText.{cell_of, cells_from}
-use Rattle.rdf_values.specs.declared.cells.Cells.{Cells}
-use Rattle.rdf_values.specs.declared.cells.Cells.TheVariants as kept
-use Rattle.rdf_values.specs.declared.column.Column.{Column}
-use Rattle.rdf_values.specs.declared.table_cause.TableCause.{TableCause}
-use Rattle.rdf_values.specs.declared.value.ColType.{ColType}
-use Rattle.rdf_values.specs.declared.value.ColType.TheVariants as k
-use Rattle.rdf_values.specs.declared.value.Value.{Value}
+use Rattle.rdf_values.specs.{AreKept, Cells, cells_from, ColType, Column, IsKept, pushed, row_pushed, TableCause, Value}
+use Rattle.rdf_values.specs.TableText.{cell_of}
 use Rattle.rdf_values.proofs.RowPushed.{kept_length}
-use Rattle.table_csv.specs.Filled.{AreCellsPushed, IsCellPushed, kind_of}
+use Rattle.table_csv.specs.{AreCellsPushed, IsCellPushed, kind_of}
 use Rattle.table_csv.proofs.CellSteps.{cells_end, cells_more, cells_stop}
 use Rattle.table_csv.proofs.Onto.{result_onto, result_onto-none}
 
@@ -33,11 +26,11 @@ set_pushed (x ∷ xs) (w ∷ row) value d h = ap (λ t. pushed x w ∷ t) (set_p
 -- ---- the types of columns
 
 kind_kept : (kind : ColType) (n : ℕ) (x : Cells) → IsKept kind n x → kind ≡ kind_of x
-kind_kept k.Int n (kept.Ints ns) h = refl
-kind_kept k.Int n (kept.Vects vs) h = absurd h
-kind_kept k.Bool n x h = absurd h
-kind_kept k.Vect n (kept.Ints ns) h = absurd h
-kind_kept k.Vect n (kept.Vects vs) h = refl
+kind_kept ColType.Int n (Cells.Ints ns) h = refl
+kind_kept ColType.Int n (Cells.Vects vs) h = absurd h
+kind_kept ColType.Bool n x h = absurd h
+kind_kept ColType.Vect n (Cells.Ints ns) h = absurd h
+kind_kept ColType.Vect n (Cells.Vects vs) h = refl
 
 -- the column at a place, and its type
 column_at : (columns : List Column) (cells : List Cells) (n i : ℕ) (d : Cells) → AreKept n columns cells → i < length columns → (c : Column) × (c ≡ get_or columns i c) × (c.kind ≡ kind_of (get_or cells i d))

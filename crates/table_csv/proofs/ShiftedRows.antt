@@ -1,19 +1,10 @@
 -- The table of two parts, from that of each.
-use Rattle.std.proofs.Common.{if◌then◌else◌, ◌≡◌, ◌≤◌, ◌<◌, ◌+◌, ℕ, suc, List, [], ◌∷◌, ◌++◌, length, map, drop, Bool, true, false, None, Some, Option, Result, Ok, Err, arith, refl, ap, sym, ◌∙◌}
-use Rattle.std.specs.Prelude.{codes, nat_eq, nat_le, ok_or, option_map}
+use Rattle.std.proofs.Common.{if◌then◌else◌, ◌≡◌, ◌≤◌, ◌<◌, ◌+◌, ℕ, suc, List, [], ◌∷◌, ◌++◌, length, map, drop, Bool, true, false, None, Some, Option, Result, Ok, Err, arith, refl, ap, sym, ◌∙◌, codes, nat_eq, nat_le, ok_or, option_map}
 use Rattle.std.proofs.lemmas.List.{length-map, map-append}
 use Rattle.std.proofs.lemmas.Bool.Decides.{nat_tests}
-use Rattle.rdf_values.specs.Integers.{integer_of}
-use Rattle.rdf_values.specs.Names.{same}
-use Rattle.rdf_values.specs.TableText.{Header, MarkedRow, MarkedTable, cell_of, cells_from, field_count, header_from, mark_in, mark_of, marks_from, on_ok, result_cons, row_of, rows_from, table_of, table_with, vector_of}
-use Rattle.rdf_values.specs.declared.column.Column.{Column}
-use Rattle.rdf_values.specs.declared.table_cause.TableCause.{TableCause}
-use Rattle.rdf_values.specs.declared.table_cause.TableCause.TheVariants as cause
-use Rattle.rdf_values.specs.declared.value.ColType.{ColType}
-use Rattle.rdf_values.specs.declared.value.ColType.TheVariants as k
-use Rattle.rdf_values.specs.declared.value.Value.TheVariants as v
-use Rattle.table_csv.specs.Entries.{entries_of}
-use Rattle.table_csv.specs.Joins.{marked_joined, marks_behind}
+use Rattle.rdf_values.specs.{cells_from, ColType, Column, field_count, Header, header_from, integer_of, mark_of, MarkedRow, MarkedTable, marks_from, on_ok, result_cons, row_of, rows_from, same, table_of, table_with, TableCause, Value, vector_of}
+use Rattle.rdf_values.specs.TableText.{cell_of, mark_in}
+use Rattle.table_csv.specs.{entries_of, marked_joined, marks_behind}
 use Rattle.table_csv.proofs.Onto.{result_onto, result_onto-none}
 
 -- where the one has a value, the other has the same
@@ -42,9 +33,9 @@ keeps_if false x y v w h k = k
 
 cell_keeps : (e f i : ℕ) (kind : ColType) (text : List ℕ) → Keeps (cell_of e i kind text) (cell_of f i kind text)
 unfolding cell_of
-cell_keeps e f i k.Int text = keeps_or (option_map v.Int (integer_of text)) _ _
-cell_keeps e f i k.Vect text = keeps_or (option_map v.Vect (vector_of text)) _ _
-cell_keeps e f i k.Bool text = tt
+cell_keeps e f i ColType.Int text = keeps_or (option_map Value.Int (integer_of text)) _ _
+cell_keeps e f i ColType.Vect text = keeps_or (option_map Value.Vect (vector_of text)) _ _
+cell_keeps e f i ColType.Bool text = tt
 
 cells_keep : (columns : List Column) (fields : List (List ℕ)) (e f i : ℕ) → Keeps (cells_from e i columns fields) (cells_from f i columns fields)
 unfolding cells_from
@@ -68,7 +59,7 @@ row_keeps e f h fields l = go (nat_le 1000000 e)
     inner : ℕ → Result MarkedRow TableCause
     inner n =
         if nat_eq (length fields) (field_count h) then on_ok (cells_from n 0 h.columns fields) (λ row. on_ok (mark_in n (length h.columns) h.marked (drop (length h.columns) fields)) (λ marked. Ok (record { row = row; marked = marked })))
-        else Err (cause.FieldCount n)
+        else Err (TableCause.FieldCount n)
 
     whole : Keeps (inner e) (inner f)
     whole =
@@ -76,7 +67,7 @@ row_keeps e f h fields l = go (nat_le 1000000 e)
         (keeps_on _ _ _ _ (cells_keep h.columns fields e f 0) (λ row. keeps_on _ _ _ _ (mark_keeps e f (length h.columns) h.marked (drop (length h.columns) fields)) (λ marked. refl)))
         tt
 
-    go : (t : Bool) → Keeps (if t then Err (cause.TooMany e) else inner e) (if nat_le 1000000 f then Err (cause.TooMany f) else inner f)
+    go : (t : Bool) → Keeps (if t then Err (TableCause.TooMany e) else inner e) (if nat_le 1000000 f then Err (TableCause.TooMany f) else inner f)
     go true = tt
     go false = rw few whole
 

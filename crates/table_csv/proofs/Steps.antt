@@ -1,6 +1,5 @@
 -- What a read of a record takes from the records that are left.
-use Rattle.std.proofs.Common.{◌≡◌, ◌≤◌, ◌<◌, ℕ, zero, suc, List, [], ◌∷◌, ◌++◌, length, Bool, true, false, None, Some, Option, arith, refl, ◌∙◌, inl, length-append}
-use Rattle.std.specs.Prelude.{if◌then◌else◌, ◌==◌}
+use Rattle.std.proofs.Common.{◌≡◌, ◌≤◌, ◌<◌, ℕ, zero, suc, List, [], ◌∷◌, ◌++◌, length, Bool, true, false, None, Some, Option, arith, refl, ◌∙◌, inl, length-append, if◌then◌else◌, ◌==◌}
 use Rattle.std.specs.Borrow.{Bor}
 use Rattle.csv.specs.Machine.{Read, ends_at_end, is_end, step, next_record, fields_after, field_after, after_end, ends_with}
 use Rattle.csv.specs.Reading.{NextIs, ReadsNext, ReadRecord, default_config, is_flexible, pending_of, records_from, reader_config, reader_state, reader_trim, records_next, Ready, source_of, took_first}
@@ -10,7 +9,7 @@ use Rattle.csv.specs.declared.parser.Action.{Action}
 use Rattle.csv.specs.declared.parser.Action.TheVariants as act
 use Rattle.csv.specs.declared.reader.Reader.{Reader}
 use Rattle.csv.specs.declared.reader.Trim.TheVariants as trim
-use Rattle.table_csv.specs.Csv.{Leaves, Took}
+use Rattle.table_csv.specs.{Leaves, Took}
 
 -- a step that ends a record leaves a state between records
 abbrev Closes : State × Action → Type 0

@@ -2,23 +2,16 @@
 use Rattle.std.proofs.Common.{if◌then◌else◌, ◌≡◌, ◌≤◌, ◌<◌, ◌+◌, ℕ, Bool, true, false, List, [], ◌∷◌, ◌++◌, length, map, All, Result, Ok, Err, arith, refl, ap, ap₂, sym, subst, ◌∙◌, length-append}
 use Rattle.std.proofs.lemmas.List.{append-nil, map-append}
 use Rattle.std.proofs.lemmas.List.Elements.{All-cons}
-use Rattle.rdf_values.specs.Kept.{rows_kept}
-use Rattle.rdf_values.specs.Tables.{TableView}
-use Rattle.rdf_values.specs.TableText.{Header, MarkedRow, MarkedTable, header_from, marks_from, on_ok, row_of, rows_from, table_of, table_with}
-use Rattle.rdf_values.specs.declared.cells.Cells.{Cells}
-use Rattle.rdf_values.specs.declared.column.Column.{Column}
-use Rattle.rdf_values.specs.declared.table_cause.TableCause.{TableCause}
-use Rattle.rdf_values.specs.declared.table_cause.TableCause.TheVariants as cause
-use Rattle.rdf_values.specs.declared.value.Value.{Value}
+use Rattle.rdf_values.specs.{Cells, Column, Header, header_from, MarkedRow, MarkedTable, marks_from, on_ok, row_of, rows_from, rows_kept, table_of, table_with, TableCause, TableView, Value}
 use Rattle.rdf_values.proofs.RowPushed.{length-rows_kept}
-use Rattle.table_csv.specs.Entries.{entries_of}
+use Rattle.table_csv.specs.{entries_of}
 use Rattle.table_csv.proofs.Onto.{result_onto, result_onto-cons, result_onto-none}
 
 -- the table, where these rows are read and these entries are left
 pub table_from : Header → List MarkedRow → List (List (List ℕ)) → Result MarkedTable TableCause
 table_from h rows left = on_ok (result_onto rows (rows_from (length rows) h left)) (table_with h.columns)
 
-pub table_none : (records : List (List (List ℕ))) → records ≡ [] → table_of records ≡ Err (cause.Header 0)
+pub table_none : (records : List (List (List ℕ))) → records ≡ [] → table_of records ≡ Err (TableCause.Header 0)
 unfolding table_of
 table_none records e = rw e refl
 

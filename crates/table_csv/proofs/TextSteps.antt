@@ -4,8 +4,8 @@ use Rattle.std.proofs.Math.Seq.{drop-append_seam}
 use Rattle.std.proofs.lemmas.Grind.{flat_map-append}
 use Rattle.std.proofs.lemmas.List.{take_all}
 use Rattle.std.proofs.lemmas.List.Elements.{All-append, All-drop, All-take}
-use Rattle.columns.specs.Wholes.{joined}
-use Rattle.table_csv.specs.Lines.{EndsLine, IsCut}
+use Rattle.columns.specs.{joined}
+use Rattle.table_csv.specs.{EndsLine, IsCut}
 
 -- ---- parts that are put so that they end where lines do
 

@@ -1,6 +1,6 @@
 -- The columns of a table over its clusters, and the table of columns.
 use Rattle.std.specs.Prelude.{ℕ, length}
-use Rattle.rdf_values.specs.TableText.{MarkedTable}
+use Rattle.rdf_values.specs.{MarkedTable}
 use Rattle.columns.specs.ColumnsView.{ColumnsView}
 
 -- the columns of a table, cut at its marks into clusters of at most that size

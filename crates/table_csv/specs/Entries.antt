@@ -2,9 +2,7 @@
 use Rattle.std.specs.Prelude.{◌≡◌, ◌∷◌, ℕ, List, [], Ok, Result}
 use Rattle.std.specs.Borrow.{Bor}
 use Rattle.csv.specs.declared.reader.Reader.{Reader}
-use Rattle.rdf_values.specs.Tables.{IsHeader}
-use Rattle.rdf_values.specs.TableText.{Header, MarkedTable, header_from, on_ok, rows_from, table_with}
-use Rattle.rdf_values.specs.declared.table_cause.TableCause.{TableCause}
+use Rattle.rdf_values.specs.{Header, header_from, IsHeader, MarkedTable, on_ok, rows_from, table_with, TableCause}
 use Rattle.table_csv.specs.Csv.{Leaves}
 
 -- the table of a header's columns that the entries spell, or the first refusal

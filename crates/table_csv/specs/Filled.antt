@@ -1,18 +1,11 @@
 -- Columns that have one more value each.
 use Rattle.std.specs.Prelude.{◌≡◌, Bool, List, Ok, Result}
-use Rattle.rdf_values.specs.Kept.{pushed, row_pushed}
-use Rattle.rdf_values.specs.TableText.{MarkedRow}
-use Rattle.rdf_values.specs.declared.cells.Cells.{Cells}
-use Rattle.rdf_values.specs.declared.cells.Cells.TheVariants as kept
-use Rattle.rdf_values.specs.declared.table_cause.TableCause.{TableCause}
-use Rattle.rdf_values.specs.declared.value.ColType.{ColType}
-use Rattle.rdf_values.specs.declared.value.ColType.TheVariants as k
-use Rattle.rdf_values.specs.declared.value.Value.{Value}
+use Rattle.rdf_values.specs.{Cells, ColType, MarkedRow, pushed, row_pushed, TableCause, Value}
 
 -- the type of a column whose values are kept
 abbrev pub kind_of : Cells → ColType
-kind_of (kept.Ints ns) = k.Int
-kind_of (kept.Vects vs) = k.Vect
+kind_of (Cells.Ints ns) = ColType.Int
+kind_of (Cells.Vects vs) = ColType.Vect
 
 -- the value that a cell spells stands behind the others of its column
 pub record IsCellPushed (cell : Result Value TableCause) (old new : Cells) : Type 0 where

@@ -1,7 +1,7 @@
 -- Parts of a table, one behind the other.
 use Rattle.std.specs.Prelude.{ℕ, ◌+◌, List, ◌++◌, length, map}
-use Rattle.rdf_values.specs.TableText.{MarkedTable}
-use Rattle.columns.specs.Joins.{table_joined}
+use Rattle.rdf_values.specs.{MarkedTable}
+use Rattle.columns.specs.{table_joined}
 
 -- marks of entries that stand behind n others
 abbrev pub marks_behind : ℕ → List ℕ → List ℕ

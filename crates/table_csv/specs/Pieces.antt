@@ -1,7 +1,7 @@
 -- Pieces of a table: a header line, and some of the lines behind it.
 use Rattle.std.specs.Prelude.{◌≡◌, ◌<◌, ◌∷◌, ◌++◌, ℕ, false, All, List, [], Ok, length}
 use Rattle.std.specs.List.{list_any}
-use Rattle.rdf_values.specs.TableText.{table_of}
+use Rattle.rdf_values.specs.{table_of}
 use Rattle.table_csv.specs.Csv.{csv_records}
 use Rattle.table_csv.specs.Lines.{is_special}
 use Rattle.table_csv.specs.declared.marked_pieces.MarkedPieces.{MarkedPieces}

@@ -1,6 +1,6 @@
 // Marks that are put behind others.
 ghost use Rattle.std.specs.Prelude.{◌≡◌, ◌+◌, ◌++◌, ◌<◌, All, OnOk};
-ghost use Rattle.table_csv.specs.Joins.{marks_behind};
+ghost use Rattle.table_csv.specs.{marks_behind};
 
 use rdf_values::{Marks, Memory};
 

@@ -1,12 +1,12 @@
 // Values from entries, put behind those of their columns.
 ghost use Rattle.std.specs.Prelude.{◌≡◌, ◌≤◌, ◌<◌, [], List, ℕ, Ok, MatchResult, length};
-ghost use Rattle.rdf_values.specs.Answers.{Answers, Refuses};
-ghost use Rattle.rdf_values.specs.Kept.{AreKept};
-ghost use Rattle.rdf_values.specs.TableText.{cell_of, cells_from, mark_of, row_of};
+ghost use Rattle.rdf_values.specs.{Answers, AreKept, cells_from, mark_of, row_of};
+ghost use Rattle.rdf_values.specs.Answered.{Refuses};
+ghost use Rattle.rdf_values.specs.TableText.{cell_of};
 ghost use Rattle.rdf_values.specs.declared.cells.Cells.TheVariants as kept;
 ghost use Rattle.rdf_values.specs.declared.value.ColType.TheVariants as k;
 ghost use Rattle.csv.specs.Records.{fields_of};
-ghost use Rattle.table_csv.specs.Filled.{AreCellsPushed, IsCellPushed, IsRowPushed, kind_of};
+ghost use Rattle.table_csv.specs.{AreCellsPushed, IsCellPushed, IsRowPushed, kind_of};
 
 use crate::records::field;
 use crate::refusal::TableRefusal;

@@ -1,10 +1,8 @@
 // Tables from records, one after another.
 ghost use Rattle.std.specs.Prelude.{◌≡◌, ◌<◌, All, IfOk, List, ℕ, MatchResult, Ok, length};
-ghost use Rattle.rdf_values.specs.Answers.{Refuses};
-ghost use Rattle.rdf_values.specs.Tables.{IsHeader};
-ghost use Rattle.rdf_values.specs.TableText.{table_of};
-ghost use Rattle.table_csv.specs.Csv.{Leaves};
-ghost use Rattle.table_csv.specs.Entries.{IsHeaded, entries_of};
+ghost use Rattle.rdf_values.specs.Answered.{Refuses};
+ghost use Rattle.rdf_values.specs.{IsHeader, table_of};
+ghost use Rattle.table_csv.specs.{entries_of, IsHeaded, Leaves};
 
 use crate::cells::push_row;
 use crate::header::{Heading, read_header};

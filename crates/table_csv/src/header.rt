@@ -1,8 +1,7 @@
 // Columns from a header.
 ghost use Rattle.std.specs.Prelude.{◌≡◌, ◌≤◌, ◌<◌, [], List, ℕ, Ok, IfOk, OnSome, MatchResult, length, position};
-ghost use Rattle.rdf_values.specs.Answers.{Refuses};
-ghost use Rattle.rdf_values.specs.TableText.{column_of, header_from, is_colon, is_cut, next_column, type_of};
-ghost use Rattle.rdf_values.specs.Tables.{has_name};
+ghost use Rattle.rdf_values.specs.Answered.{Refuses};
+ghost use Rattle.rdf_values.specs.{column_of, has_name, header_from, is_colon, is_cut, next_column, type_of};
 ghost use Rattle.csv.specs.Records.{fields_of};
 
 use crate::records::field;

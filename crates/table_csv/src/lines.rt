@@ -1,7 +1,7 @@
 // Places at which CSV bytes may be cut.
 ghost use Rattle.std.specs.Prelude.{◌≡◌, ◌≤◌, ◌++◌, length, position};
 ghost use Rattle.std.specs.List.{list_any};
-ghost use Rattle.table_csv.specs.Lines.{IsCut, is_line_end, is_quote, is_special};
+ghost use Rattle.table_csv.specs.{is_line_end, is_quote, is_special, IsCut};
 
 use memchr::{memchr, memchr2};
 

@@ -1,6 +1,6 @@
 // Tables in pieces that mark their clusters.
 ghost use Rattle.std.specs.Prelude.{◌≡◌, ◌≤◌, ◌<◌, All, IfOk, length};
-ghost use Rattle.table_csv.specs.ColumnsOver.{columns_over};
+ghost use Rattle.table_csv.specs.{columns_over};
 
 use columns::{Columns, TablePieces, cut};
 use rdf_values::{Marks, Memory};

@@ -1,11 +1,10 @@
 // Tables that are packed as soon as they are read.
 ghost use Rattle.std.specs.Prelude.{◌≡◌, ◌≤◌, ◌<◌, All, IfOk, MatchResult, Ok, length};
 ghost use Rattle.std.specs.Thread.{IsSync};
-ghost use Rattle.columns.specs.Wholes.{joined};
-ghost use Rattle.rdf_values.specs.Answers.{Refuses};
-ghost use Rattle.rdf_values.specs.TableText.{table_of};
-ghost use Rattle.table_csv.specs.ColumnsOver.{columns_over, marked_in};
-ghost use Rattle.table_csv.specs.Csv.{csv_records};
+ghost use Rattle.columns.specs.{joined};
+ghost use Rattle.rdf_values.specs.Answered.{Refuses};
+ghost use Rattle.rdf_values.specs.{table_of};
+ghost use Rattle.table_csv.specs.{columns_over, csv_records, marked_in};
 
 use crate::marked_pieces::MarkedPieces;
 use crate::parts::{Parts, whole_lines};

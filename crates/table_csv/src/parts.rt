@@ -1,7 +1,7 @@
 // Parts of a table's bytes, cut anywhere.
 ghost use Rattle.std.specs.Prelude.{◌≡◌, ◌++◌, All, IfOk};
-ghost use Rattle.columns.specs.Wholes.{joined};
-ghost use Rattle.table_csv.specs.Lines.{EndsLine};
+ghost use Rattle.columns.specs.{joined};
+ghost use Rattle.table_csv.specs.{EndsLine};
 
 use crate::lines::cut_lines;
 use crate::texts::{Text, Texts};

@@ -1,8 +1,7 @@
 // Pieces of a table: a header line, and some of the lines behind it.
 ghost use Rattle.std.specs.Prelude.{◌≡◌, ◌≤◌, ◌+◌, ◌<◌, ◌++◌, true, All, IfOk, IfSome, length};
-ghost use Rattle.table_csv.specs.Joins.{marks_behind};
-ghost use Rattle.table_csv.specs.Pieces.{IsHead, IsPiece};
-ghost use Rattle.columns.specs.Joins.{table_joined};
+ghost use Rattle.table_csv.specs.{IsHead, IsPiece, marks_behind};
+ghost use Rattle.columns.specs.{table_joined};
 
 use crate::appending::append_marks;
 use crate::entries::{read_entries, read_heading};

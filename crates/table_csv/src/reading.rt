@@ -1,8 +1,8 @@
 // The reading of a whole table.
 ghost use Rattle.std.specs.Prelude.{◌≡◌, ◌<◌, All, IfOk, MatchResult, Ok, length};
-ghost use Rattle.rdf_values.specs.Answers.{Refuses};
-ghost use Rattle.rdf_values.specs.TableText.{table_of};
-ghost use Rattle.table_csv.specs.Csv.{csv_records};
+ghost use Rattle.rdf_values.specs.Answered.{Refuses};
+ghost use Rattle.rdf_values.specs.{table_of};
+ghost use Rattle.table_csv.specs.{csv_records};
 
 use crate::entries::{read_entries, read_heading};
 use crate::marked::Marked;

@@ -1,7 +1,7 @@
 // The records of CSV bytes, one after another.
 ghost use Rattle.std.specs.Prelude.{◌≡◌, ◌<◌, [], List, ℕ, IfOk, length, slice_index_or};
 ghost use Rattle.csv.specs.Records.{fields_of};
-ghost use Rattle.table_csv.specs.Csv.{Leaves, Took, csv_records};
+ghost use Rattle.table_csv.specs.{csv_records, Leaves, Took};
 
 use csv::{ByteRecord, ErrorKind, Reader, ReaderBuilder};
 use rdf_values::Memory;

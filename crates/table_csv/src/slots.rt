@@ -1,12 +1,10 @@
 // Tables that several threads read.
 ghost use Rattle.std.specs.Prelude.{◌≡◌, ◌<◌, ◌++◌, All, IfOk, IfSome, MatchResult, Ok, length};
 ghost use Rattle.std.specs.Thread.{IsSync};
-ghost use Rattle.rdf_values.specs.Answers.{Refuses};
-ghost use Rattle.rdf_values.specs.TableText.{table_of};
-ghost use Rattle.columns.specs.Wholes.{joined};
-ghost use Rattle.table_csv.specs.Csv.{csv_records};
-ghost use Rattle.table_csv.specs.Lines.{EndsLine, IsCut};
-ghost use Rattle.table_csv.specs.Pieces.{IsHead, IsPiece};
+ghost use Rattle.rdf_values.specs.Answered.{Refuses};
+ghost use Rattle.rdf_values.specs.{table_of};
+ghost use Rattle.columns.specs.{joined};
+ghost use Rattle.table_csv.specs.{csv_records, EndsLine, IsCut, IsHead, IsPiece};
 
 use crate::lines::{cut_lines, has_quote};
 use crate::marked_pieces::MarkedPieces;

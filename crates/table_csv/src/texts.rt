@@ -1,6 +1,6 @@
 // A table's bytes in several texts, of which each but the last ends where a line does.
 ghost use Rattle.std.specs.Prelude.{◌≡◌, ◌≤◌, ◌++◌, All, IfOk, OnOk, drop, length};
-ghost use Rattle.columns.specs.Wholes.{joined};
+ghost use Rattle.columns.specs.{joined};
 ghost use Rattle.table_csv.specs.Lines.{EndsLine, IsCut};
 
 use crate::lines::cut_lines;

@@ -1,17 +1,10 @@
 -- What Watch lines don't change.
-use Rattle.std.proofs.Common.{◌≡◌, ℕ, Bool, true, false, not, ◌||◌, List, [], ◌∷◌, ◌++◌, map, reverse, Option, None, Some, refl, sym, ap, ap₂, ◌∙◌, append-nil, if◌then◌else◌, filter}
-use Rattle.std.specs.Prelude.{filter_map}
+use Rattle.std.proofs.Common.{◌≡◌, ℕ, Bool, true, false, not, ◌||◌, List, [], ◌∷◌, ◌++◌, map, reverse, Option, None, Some, refl, sym, ap, ap₂, ◌∙◌, append-nil, if◌then◌else◌, filter, filter_map}
 use Rattle.std.proofs.lemmas.List.{reverse-append}
-use Rattle.rdf_values.specs.Bookings.{ActionAt, Booked, Pass, ReportOn, bookings, covered, filled, has_variations, is_watched, named_before, names_of, passes_of, result_depends, waiting}
-use Rattle.rdf_values.specs.Names.{among, same}
-use Rattle.rdf_values.specs.Path.{Path, history, makes, own_variations, parent_of, path, variations}
-use Rattle.rdf_values.specs.declared.script.Line.{Line}
-use Rattle.rdf_values.specs.declared.script.Script.{Script}
-use Rattle.rdf_values.specs.declared.statement.Statement.{Statement}
+use Rattle.rdf_values.specs.{ActionAt, among, Booked, bookings, covered, filled, has_variations, history, is_watched, Line, makes, named_before, names_of, own_variations, parent_of, Pass, passes_of, Path, path, ReportOn, result_depends, same, Script, Statement, variations, waiting}
 use Rattle.rdf_values.specs.declared.statement.Statement.TheVariants.{Action, Filter, Print, Report, VariationsFor, Watch}
-use Rattle.rdf_model.specs.Loops.{Access, accesses, loop_passes, loop_results}
-use Rattle.unwatched_scripts.specs.Laws.{DroppedWatchesChangeNoLoop}
-use Rattle.unwatched_scripts.specs.Unwatched.{is_watch, unwatched}
+use Rattle.rdf_model.specs.{Access, accesses, loop_passes, loop_results}
+use Rattle.unwatched_scripts.specs.{DroppedWatchesChangeNoLoop, is_watch, unwatched}
 
 -- ---- statements
 

@@ -1,16 +1,8 @@
 -- What is printed without Watch lines.
-use Rattle.std.proofs.Common.{◌≡◌, ℕ, Bool, true, false, List, [], ◌∷◌, ◌++◌, Option, None, Some, refl, sym, ap, ap₂, ◌∙◌, if◌then◌else◌}
-use Rattle.std.specs.Prelude.{flat_map, unwrap_or}
-use Rattle.rdf_values.specs.Bookings.{ActionAt, Booked, Booking, Pass, ReportOn, bookings, is_watched, passes_of, results_named}
-use Rattle.rdf_values.specs.Path.{history}
-use Rattle.rdf_values.specs.declared.fault.Fault.{Fault}
-use Rattle.rdf_values.specs.declared.statement.Statement.{Statement}
-use Rattle.rdf_model.specs.Loops.{Access, accesses, loop_of, loop_passes}
-use Rattle.rdf_model.specs.PartialResults.{Course, partial_line, partial_result}
-use Rattle.rdf_model.specs.ResultLines.{fault_line, pass_lines}
-use Rattle.rdf_model.specs.Results.{Dataset, first_fault}
-use Rattle.rdf_model.specs.Transcript.{Printed, access_printed, in_front_of, named_lines, partial_lines, printed, result_lines}
-use Rattle.unwatched_scripts.specs.Laws.{DroppedWatchesDropPartialLines}
+use Rattle.std.proofs.Common.{◌≡◌, ℕ, Bool, true, false, List, [], ◌∷◌, ◌++◌, Option, None, Some, refl, sym, ap, ap₂, ◌∙◌, if◌then◌else◌, flat_map, unwrap_or}
+use Rattle.rdf_values.specs.{ActionAt, Booked, Booking, bookings, Fault, history, is_watched, Pass, passes_of, ReportOn, results_named, Statement}
+use Rattle.rdf_model.specs.{Access, access_printed, accesses, Course, Dataset, fault_line, first_fault, in_front_of, loop_of, loop_passes, named_lines, partial_line, partial_lines, partial_result, pass_lines, Printed, printed, result_lines}
+use Rattle.unwatched_scripts.specs.{DroppedWatchesDropPartialLines}
 use Rattle.unwatched_scripts.proofs.Dropping.{accesses_same, bookings_are, loop_passes_same, none_watched, others, passes_same, unwatched_history}
 
 module _ (h : List Statement) (d : Dataset) (course unnoted : Course) (none : (l : ℕ) → unnoted.chains l ≡ []) where

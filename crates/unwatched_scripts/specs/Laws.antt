@@ -1,12 +1,7 @@
 -- Laws of dropped Watch lines. Each is the contract of a function of this crate, and so proved.
 use Rattle.std.specs.Prelude.{◌≡◌, ℕ, List, []}
-use Rattle.rdf_values.specs.Bookings.{Booked}
-use Rattle.rdf_values.specs.Path.{history}
-use Rattle.rdf_values.specs.declared.script.Script.{Script}
-use Rattle.rdf_model.specs.Loops.{loop_passes, loop_results}
-use Rattle.rdf_model.specs.PartialResults.{Course}
-use Rattle.rdf_model.specs.Results.{Dataset}
-use Rattle.rdf_model.specs.Transcript.{transcript}
+use Rattle.rdf_values.specs.{Booked, history, Script}
+use Rattle.rdf_model.specs.{Course, Dataset, loop_passes, loop_results, transcript}
 use Rattle.unwatched_scripts.specs.Unwatched.{unwatched}
 
 -- the loops fill the same results, with the same passes

@@ -1,8 +1,6 @@
 -- A script without its Watch lines.
 use Rattle.std.specs.Prelude.{Bool, true, false, not, filter}
-use Rattle.rdf_values.specs.declared.script.Line.{Line}
-use Rattle.rdf_values.specs.declared.script.Script.{Script}
-use Rattle.rdf_values.specs.declared.statement.Statement.{Statement}
+use Rattle.rdf_values.specs.{Line, Script, Statement}
 use Rattle.rdf_values.specs.declared.statement.Statement.TheVariants.{Watch}
 
 -- the statement asks for partial results

@@ -1,5 +1,5 @@
 // Laws of dropped Watch lines. Each function does nothing; its contract is the law, and its proof the law's.
-ghost use Rattle.unwatched_scripts.specs.Laws.{DroppedWatchesChangeNoLoop, DroppedWatchesDropPartialLines};
+ghost use Rattle.unwatched_scripts.specs.{DroppedWatchesChangeNoLoop, DroppedWatchesDropPartialLines};
 
 /// The results that each loop fills, and the passes of results, are the same without the Watch lines.
 pub fn dropped_watches_change_no_loop()

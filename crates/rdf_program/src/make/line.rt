@@ -1,7 +1,7 @@
 // The line of an entry, written into a buffer.
 ghost use Rattle.std.specs.Prelude.{◌≡◌, ◌<◌, ◌≤◌, ◌+◌, ◌++◌, ◌∷◌, [], decimal, length, map, take};
 ghost use Rattle.std.specs.List.{join_with_byte};
-ghost use Rattle.rdf_values.specs.Generator.{entry_line, residue};
+ghost use Rattle.rdf_values.specs.{entry_line, residue};
 
 /// No line is longer: seven numbers below 1000, each with the byte behind it.
 pub(crate) const LONGEST: usize = 28;

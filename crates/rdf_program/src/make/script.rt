@@ -1,6 +1,6 @@
 // The script's text.
 ghost use Rattle.std.specs.Prelude.{◌≡◌, IfOk};
-ghost use Rattle.rdf_values.specs.Generator.{generated_script};
+ghost use Rattle.rdf_values.specs.{generated_script};
 
 use rdf_values::{Bytes, Memory};
 use std::alloc::Global;

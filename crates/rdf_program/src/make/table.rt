@@ -1,6 +1,6 @@
 // The table's text.
 ghost use Rattle.std.specs.Prelude.{◌≡◌, ◌≤◌, IfOk};
-ghost use Rattle.rdf_values.specs.Generator.{generated_table};
+ghost use Rattle.rdf_values.specs.{generated_table};
 
 use crate::make::line::{LONGEST, write_line};
 use rdf_values::{Bytes, Memory};

@@ -1,6 +1,6 @@
 // A friend whose reading fails.
 ghost use Rattle.std.specs.Prelude.{◌≡◌, IfOk};
-ghost use Rattle.rdf_outside.specs.Memory.{shelf_made};
+ghost use Rattle.rdf_outside.specs.{shelf_made};
 
 use super::*;
 

@@ -1,6 +1,6 @@
 // Functions that the caller hands in.
 ghost use Rattle.std.specs.Prelude.{◌≡◌, length};
-ghost use Rattle.entry_fns.specs.Shipped.{square_of};
+ghost use Rattle.entry_fns.specs.{square_of};
 
 use super::*;
 use entry_fns::shipped::Square;

@@ -1,6 +1,6 @@
 // Slots that wait for one another.
 ghost use Rattle.std.specs.Prelude.{◌≡◌, length, slice_get};
-ghost use Rattle.entry_fns.specs.Shipped.{square_of};
+ghost use Rattle.entry_fns.specs.{square_of};
 
 use super::*;
 use crate::tests::functions::name;

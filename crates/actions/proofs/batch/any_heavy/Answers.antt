@@ -1,8 +1,7 @@
-use Rattle.std.proofs.Common.{rules, arith, ◌≡◌, ◌≤◌, ◌<◌, ◌^◌, length, get_or, pos, ap, sym, ◌∙◌, w64, FitsSigned}
-use Rattle.std.specs.Prelude.{nat_abs}
+use Rattle.std.proofs.Common.{rules, arith, ◌≡◌, ◌≤◌, ◌<◌, ◌^◌, length, get_or, pos, ap, sym, ◌∙◌, w64, FitsSigned, nat_abs}
 use Rattle.std.proofs.lemmas.Int.{to_z-of_z}
-use Rattle.lemmas.proofs.Booleans.{neither}
-use Rattle.actions.specs.Batches.{places_of}
+use Rattle.lemmas.proofs.{neither}
+use Rattle.actions.specs.{places_of}
 use Rattle.actions.proofs.Batching.{light_all, one_more_light}
 use Rattle.actions.proofs.batch.any_heavy.Goals as goal
 

@@ -1,6 +1,5 @@
-use Rattle.std.proofs.Common.{◌≡◌, ◌<◌, ◌^◌, All, false, get_or, pos, take}
-use Rattle.std.specs.Prelude.{nat_abs}
-use Rattle.actions.specs.Batches.{places_of}
+use Rattle.std.proofs.Common.{◌≡◌, ◌<◌, ◌^◌, All, false, get_or, pos, take, nat_abs}
+use Rattle.actions.specs.{places_of}
 use Rattle.actions.proofs.batch.any_heavy.Given as goal
 
 abbrev pub invariant-loop-i : goal.invariant-loop-i

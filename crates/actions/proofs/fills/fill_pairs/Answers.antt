@@ -1,8 +1,8 @@
 use Rattle.std.proofs.Common.{rules, arith, ◌≡◌, ◌<◌, ◌++◌, ◌∙◌, sym, subst, get_or, length, pos, take, w64, FitsSigned}
 use Rattle.std.proofs.lemmas.Int.{to_z-of_z}
-use Rattle.rdf_values.specs.Spread.{points2, weights}
-use Rattle.histograms.specs.TwoAxes.{HasFilled2}
-use Rattle.actions.specs.Parts.{part_values}
+use Rattle.rdf_values.specs.{points2, weights}
+use Rattle.histograms.specs.{HasFilled2}
+use Rattle.actions.specs.{part_values}
 use Rattle.actions.proofs.Points.{points2_filled}
 use Rattle.actions.proofs.fills.fill_pairs.Goals as goal
 

@@ -1,8 +1,7 @@
 use Rattle.std.proofs.Common.{◌≡◌, ◌+◌, ◌++◌, take, length, List}
-use Rattle.rdf_values.specs.declared.item.Item.{Item}
-use Rattle.rdf_values.specs.Spread.{points2, weights}
-use Rattle.histograms.specs.TwoAxes.{HasFilled2}
-use Rattle.actions.specs.Parts.{part_values}
+use Rattle.rdf_values.specs.{Item, points2, weights}
+use Rattle.histograms.specs.{HasFilled2}
+use Rattle.actions.specs.{part_values}
 use Rattle.actions.proofs.fills.fill_pairs.Given as goal
 
 abbrev pub invariant-loop-i : goal.invariant-loop-i

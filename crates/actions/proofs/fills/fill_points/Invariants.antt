@@ -1,8 +1,7 @@
 use Rattle.std.proofs.Common.{◌≡◌, ◌+◌, ◌++◌, take, length, List}
-use Rattle.rdf_values.specs.declared.item.Item.{Item}
-use Rattle.rdf_values.specs.Spread.{points, weights}
-use Rattle.histograms.specs.OneAxis.{HasFilled}
-use Rattle.actions.specs.Parts.{part_values}
+use Rattle.rdf_values.specs.{Item, points, weights}
+use Rattle.histograms.specs.{HasFilled}
+use Rattle.actions.specs.{part_values}
 use Rattle.actions.proofs.fills.fill_points.Given as goal
 
 abbrev pub invariant-loop-i : goal.invariant-loop-i

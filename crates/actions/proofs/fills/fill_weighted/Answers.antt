@@ -1,9 +1,9 @@
 use Rattle.std.proofs.Common.{rules, arith, ℕ, ◌<◌, ◌++◌, length, get_or, map, pos, take, ap, sym, subst, ◌∙◌, w64, FitsSigned}
 use Rattle.std.proofs.lemmas.Int.{to_z-of_z}
-use Rattle.rdf_values.specs.declared.item.Item.{Item}
+use Rattle.rdf_values.specs.{Item}
 use Rattle.rdf_values.specs.declared.item.Item.TheVariants.{Point}
-use Rattle.histograms.specs.OneAxis.{HasFilled}
-use Rattle.actions.specs.Batches.{places_of}
+use Rattle.histograms.specs.{HasFilled}
+use Rattle.actions.specs.{places_of}
 use Rattle.actions.proofs.Batching.{one_point_more}
 use Rattle.actions.proofs.fills.fill_weighted.Goals as goal
 

@@ -1,6 +1,6 @@
 use Rattle.std.proofs.Common.{rules, arith, ℕ, ℤ, ◌≡◌, ◌<◌, ◌++◌, List, length, get_or, ap, sym, subst, ◌∙◌}
-use Rattle.rdf_values.specs.Spread.{numbers}
-use Rattle.actions.specs.Batches.{lane_value, places_of}
+use Rattle.rdf_values.specs.{numbers}
+use Rattle.actions.specs.{lane_value, places_of}
 use Rattle.actions.proofs.Batching.{count_listed, first_are_there, numbers_listed, numbers_of_first, take_full, taken_within}
 use Rattle.actions.proofs.folding.fold_lane.Goals as goal
 

@@ -1,5 +1,5 @@
 use Rattle.std.proofs.Common.{ℤ, ◌≤◌, ◌+◌, ◌*◌, ◌^◌, ◌++◌, List, length, take}
-use Rattle.actions.specs.Batches.{numbers_in, places_of}
+use Rattle.actions.specs.{numbers_in, places_of}
 use Rattle.actions.proofs.folding.fold_lane.Given as goal
 
 abbrev pub invariant-loop-i : goal.invariant-loop-i

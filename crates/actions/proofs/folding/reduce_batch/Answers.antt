@@ -1,8 +1,7 @@
-use Rattle.std.proofs.Common.{rules, [], ◌∙◌, ap, refl, w64, FitsSigned}
-use Rattle.std.specs.Prelude.{fold}
+use Rattle.std.proofs.Common.{rules, [], ◌∙◌, ap, refl, w64, FitsSigned, fold}
 use Rattle.std.proofs.lemmas.Int.{to_z-of_z}
-use Rattle.rdf_values.specs.Fold.{reduce_step}
-use Rattle.actions.specs.Batches.{first_numbers_in}
+use Rattle.rdf_values.specs.{reduce_step}
+use Rattle.actions.specs.{first_numbers_in}
 use Rattle.actions.proofs.folding.reduce_batch.Goals as goal
 
 pub returns : goal.returns

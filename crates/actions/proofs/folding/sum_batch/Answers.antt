@@ -1,8 +1,7 @@
-use Rattle.std.proofs.Common.{rules, [], ◌+ℤ◌, ◌∙◌, ap, refl, FitsSigned}
-use Rattle.std.specs.Prelude.{fold}
+use Rattle.std.proofs.Common.{rules, [], ◌+ℤ◌, ◌∙◌, ap, refl, FitsSigned, fold}
 use Rattle.std.specs.Int.{w128}
 use Rattle.std.proofs.lemmas.Int.{to_z-of_z}
-use Rattle.actions.specs.Batches.{first_numbers_in}
+use Rattle.actions.specs.{first_numbers_in}
 use Rattle.actions.proofs.folding.sum_batch.Goals as goal
 
 pub returns-clause-value : goal.returns-clause-value

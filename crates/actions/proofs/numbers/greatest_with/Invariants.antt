@@ -1,7 +1,6 @@
-use Rattle.std.proofs.Common.{◌≡◌, take}
-use Rattle.std.specs.Prelude.{fold}
+use Rattle.std.proofs.Common.{◌≡◌, take, fold}
 use Rattle.std.specs.Int.{int_max}
-use Rattle.actions.specs.Extremes.{better_of}
+use Rattle.actions.specs.{better_of}
 use Rattle.actions.proofs.numbers.greatest_with.Given as goal
 
 abbrev pub invariant-loop-number : goal.invariant-loop-number

@@ -1,6 +1,5 @@
-use Rattle.std.proofs.Common.{◌≡◌, take}
-use Rattle.std.specs.Prelude.{fold}
-use Rattle.rdf_values.specs.Fold.{reduce_step}
+use Rattle.std.proofs.Common.{◌≡◌, take, fold}
+use Rattle.rdf_values.specs.{reduce_step}
 use Rattle.actions.proofs.numbers.reduce_with.Given as goal
 
 abbrev pub invariant-loop-number : goal.invariant-loop-number

@@ -1,5 +1,4 @@
-use Rattle.std.proofs.Common.{rules, arith, ◌<◌, ◌+ℤ◌, ◌∙◌, ap, sym, get_or, length, pos, w64, FitsSigned, to_z}
-use Rattle.std.specs.Prelude.{nat_abs}
+use Rattle.std.proofs.Common.{rules, arith, ◌<◌, ◌+ℤ◌, ◌∙◌, ap, sym, get_or, length, pos, w64, FitsSigned, to_z, nat_abs}
 use Rattle.std.specs.Int.{w128}
 use Rattle.std.proofs.lemmas.Int.{to_z-of_z}
 use Rattle.std.proofs.lemmas.List.Sums.{fold_more}

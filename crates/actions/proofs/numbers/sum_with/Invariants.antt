@@ -1,5 +1,4 @@
-use Rattle.std.proofs.Common.{◌≡◌, ◌≤◌, ◌+◌, ◌*◌, ◌^◌, ◌+ℤ◌, take}
-use Rattle.std.specs.Prelude.{fold, nat_abs}
+use Rattle.std.proofs.Common.{◌≡◌, ◌≤◌, ◌+◌, ◌*◌, ◌^◌, ◌+ℤ◌, take, fold, nat_abs}
 use Rattle.actions.proofs.numbers.sum_with.Given as goal
 
 abbrev pub invariant-loop-number : goal.invariant-loop-number

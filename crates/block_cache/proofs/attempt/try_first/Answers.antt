@@ -1,6 +1,6 @@
 use Rattle.std.proofs.Common.{refl, sym}
 use Rattle.std.proofs.lemmas.Result.{on_err_weaker, on_ok_weaker}
-use Rattle.loop_keys.specs.Jobs.{job_of}
+use Rattle.loop_keys.specs.{job_of}
 use Rattle.loop_keys.proofs.PlainLaws.{plain_expr}
 use Rattle.block_cache.proofs.OverLaws.{begun_over, fits_over, own_at, own_count, own_there, reads_over, tried_over}
 use Rattle.block_cache.proofs.attempt.try_first.Goals as goal

@@ -1,5 +1,5 @@
 use Rattle.std.proofs.Common.{◌≡◌, ◌<◌, ◌≤◌, ℕ, false}
-use Rattle.expr_lanes.specs.Places.{is_marked}
+use Rattle.expr_lanes.specs.{is_marked}
 use Rattle.block_cache.proofs.block_marks.clear.Given as goal
 
 abbrev pub invariant-loop-i : goal.invariant-loop-i

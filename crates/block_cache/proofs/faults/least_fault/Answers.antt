@@ -1,8 +1,7 @@
 use Rattle.std.proofs.Common.{arith, subst, sym, take, List, Option, ◌+◌}
 use Rattle.std.proofs.lemmas.List.{take_all}
-use Rattle.expr_lanes.specs.declared.stopped.Stopped.{Stopped}
-use Rattle.block_cache.specs.declared.faults.PlaceFault.{PlaceFault}
-use Rattle.block_cache.specs.Faults.{IsLeastFault}
+use Rattle.expr_lanes.specs.{Stopped}
+use Rattle.block_cache.specs.{IsLeastFault, PlaceFault}
 use Rattle.block_cache.proofs.LeastFaults.{least_next}
 use Rattle.block_cache.proofs.faults.least_fault.Goals as goal
 

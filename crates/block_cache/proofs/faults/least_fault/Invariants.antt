@@ -1,5 +1,5 @@
 use Rattle.std.proofs.Common.{take}
-use Rattle.block_cache.specs.Faults.{IsLeastFault}
+use Rattle.block_cache.specs.{IsLeastFault}
 use Rattle.block_cache.proofs.faults.least_fault.Given as goal
 
 abbrev pub invariant-loop-i : goal.invariant-loop-i

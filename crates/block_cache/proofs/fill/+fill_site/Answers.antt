@@ -1,5 +1,5 @@
 use Rattle.std.proofs.Common.{◌≡◌, ◌+◌, ◌∙◌, arith, length, rules}
-use Rattle.loop_keys.specs.Jobs.{job_of}
+use Rattle.loop_keys.specs.{job_of}
 use Rattle.block_cache.proofs.CanFills.{can_below, can_moved, met_used}
 use Rattle.block_cache.proofs.CanTries.{can_try}
 use Rattle.block_cache.proofs.UnderwayLaws.{ended_filled, ended_settled, left_lacks, left_selected, resumed_as, turn_broken, turn_lower, turn_selected, turn_settled, turn_spent, turn_waits, turned, turned_less}

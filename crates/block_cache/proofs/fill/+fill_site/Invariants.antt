@@ -1,5 +1,4 @@
-use Rattle.block_cache.specs.ForSites.{IsUnderwayFor}
-use Rattle.block_cache.specs.Turns.{left_to_begin}
+use Rattle.block_cache.specs.{IsUnderwayFor, left_to_begin}
 use Rattle.block_cache.proofs.fill.+fill_site.Given as goal
 
 abbrev pub decreases-fill_site : goal.decreases-fill_site

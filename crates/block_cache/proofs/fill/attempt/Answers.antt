@@ -1,8 +1,7 @@
-use Rattle.std.proofs.Common.{arith, ap, ◌∙◌, subst, List, get_or}
-use Rattle.std.specs.Prelude.{Contains}
+use Rattle.std.proofs.Common.{arith, ap, ◌∙◌, subst, List, get_or, Contains}
 use Rattle.std.proofs.lemmas.List.Elements.{Contains-get_or}
-use Rattle.expr_lanes.specs.declared.stopped.Stopped.{Stopped}
-use Rattle.block_cache.specs.Turns.{need_at}
+use Rattle.expr_lanes.specs.{Stopped}
+use Rattle.block_cache.specs.{need_at}
 use Rattle.block_cache.proofs.Answering.{on_err}
 use Rattle.block_cache.proofs.Attempts.{attempted, first_stops, place_inside, whole}
 use Rattle.block_cache.proofs.BegunLanes.{broken_off}

@@ -1,6 +1,5 @@
 use Rattle.std.proofs.Common.{◌∙◌}
-use Rattle.loop_keys.specs.Jobs.{job_graph, job_of}
-use Rattle.loop_keys.specs.Keys.{key_under}
+use Rattle.loop_keys.specs.{job_graph, job_of, key_under}
 use Rattle.block_cache.proofs.LeadLaws.{element_site, key_site}
 use Rattle.block_cache.proofs.leads.key_read.Goals as goal
 

@@ -1,6 +1,6 @@
 use Rattle.std.proofs.Common.{◌≡◌, not, nat_eq, take}
-use Rattle.expr_lanes.specs.Places.{EachPlace, is_marked}
-use Rattle.block_cache.specs.Turns.{need_at}
+use Rattle.expr_lanes.specs.{EachPlace, is_marked}
+use Rattle.block_cache.specs.{need_at}
 use Rattle.block_cache.proofs.level.mark_others.Given as goal
 
 abbrev pub invariant-loop-i : goal.invariant-loop-i

@@ -1,6 +1,6 @@
 use Rattle.std.proofs.Common.{◌≡◌, ◌<◌, ◌+◌, ℕ, List, true, get_or, length, take, arith, inl, inr, subst, sym, ap, ◌∙◌}
 use Rattle.std.proofs.lemmas.List.{take_all, take_more}
-use Rattle.expr_lanes.specs.Places.{EachPlace, is_in, is_marked}
+use Rattle.expr_lanes.specs.{EachPlace, is_in, is_marked}
 use Rattle.expr_lanes.proofs.Selected.{in_more, is_in_at}
 use Rattle.block_cache.proofs.marks.are_marked.Goals as goal
 

@@ -1,5 +1,5 @@
 use Rattle.std.proofs.Common.{◌≡◌, true, take}
-use Rattle.expr_lanes.specs.Places.{EachPlace, is_marked}
+use Rattle.expr_lanes.specs.{EachPlace, is_marked}
 use Rattle.block_cache.proofs.marks.are_marked.Given as goal
 
 abbrev pub invariant-loop-place : goal.invariant-loop-place

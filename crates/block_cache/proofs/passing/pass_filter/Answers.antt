@@ -1,6 +1,6 @@
 use Rattle.std.proofs.Common.{◌≡◌, ◌∙◌, ap, arith, get_or, List, slice_get}
-use Rattle.rdf_values.specs.declared.value.ColType.{ColType}
-use Rattle.block_cache.specs.ForSites.{own_key}
+use Rattle.rdf_values.specs.{ColType}
+use Rattle.block_cache.specs.{own_key}
 use Rattle.block_cache.proofs.Members.{below_selected}
 use Rattle.block_cache.proofs.PassedLaws.{passed_with, truth_scalar}
 use Rattle.block_cache.proofs.passing.pass_filter.Goals as goal

@@ -1,9 +1,9 @@
 use Rattle.std.proofs.Common.{◌+◌, ℕ, arith, subst}
-use Rattle.rdf_values.specs.declared.value.Value.{Value}
-use Rattle.rdf_model.specs.Evaluation.{Outcome}
-use Rattle.expr_lanes.specs.LaneInputs.{IsVectorAt}
+use Rattle.rdf_values.specs.{Value}
+use Rattle.rdf_model.specs.{Outcome}
+use Rattle.expr_lanes.specs.{IsVectorAt}
 use Rattle.block_cache.proofs.TableVectors.{column_seen, vector_of_entry}
-use Rattle.block_cache.specs.OverBlocks.{block_job}
+use Rattle.block_cache.specs.{block_job}
 use Rattle.block_cache.proofs.view.table_vectors.Goals as goal
 
 pub returns-in-Vect : goal.returns-in-Vect

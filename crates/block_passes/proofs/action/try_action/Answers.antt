@@ -1,11 +1,10 @@
 use Rattle.std.proofs.Common.{◌≡◌, ◌∙◌, ℕ, arith, List, get_or, length, refl, subst, sym, slice_set}
 use Rattle.std.specs.List.{AllByRecursion}
 use Rattle.std.proofs.lemmas.Option.{slice_get-get_or}
-use Rattle.rdf_values.specs.declared.value.ColType.{ColType}
-use Rattle.block_cache.specs.Lanes.{LaneView, kinds_of}
-use Rattle.loop_keys.specs.Jobs.{job_of}
-use Rattle.block_passes.specs.Inputs.{CanServe, IsServedTo}
-use Rattle.block_passes.specs.Tries.{IsMadeAt, IsPassTried}
+use Rattle.rdf_values.specs.{ColType}
+use Rattle.block_cache.specs.{kinds_of, LaneView}
+use Rattle.loop_keys.specs.{job_of}
+use Rattle.block_passes.specs.{CanServe, IsMadeAt, IsPassTried, IsServedTo, unfed}
 use Rattle.block_passes.proofs.SearchedPasses.{made_set, remade_set, remade_then}
 use Rattle.block_passes.proofs.Serving.{served_inside}
 use Rattle.block_passes.proofs.Spending.{leaves_kept, leaves_then}
@@ -13,7 +12,6 @@ use Rattle.block_passes.proofs.Selecting.{kept_inside}
 use Rattle.block_passes.proofs.Trying.{action_tried, gathers, has_step, last_there, read_plain, to_demanded, to_inside, to_limit}
 use Rattle.block_passes.proofs.PlainReads.{plain_reads}
 use Rattle.std.proofs.lemmas.Result.{on_ok_weaker}
-use Rattle.block_passes.specs.Feeds.{unfed}
 use Rattle.block_passes.proofs.action.try_action.Goals as goal
 use Rattle.loop_keys.proofs.PassNumbers.{some_same}
 

@@ -1,6 +1,6 @@
 use Rattle.std.proofs.Common.{◌≡◌, ◌*◌, ◌≤◌, List, Some, slice_get, take, sum_by}
-use Rattle.rdf_values.specs.declared.value.Value.{Value}
-use Rattle.block_laws.specs.Blocks.{elements_in}
+use Rattle.rdf_values.specs.{Value}
+use Rattle.block_laws.specs.{elements_in}
 use Rattle.block_passes.proofs.block_ends.entry_elements.Given as goal
 
 abbrev pub invariant-loop-col : goal.invariant-loop-col

@@ -1,5 +1,5 @@
 use Rattle.std.proofs.Common.{◌≡◌, ◌<◌, Some, length, slice_get, subst, sym}
-use Rattle.rdf_values.specs.Cuts.{cut}
+use Rattle.rdf_values.specs.{cut}
 use Rattle.columns.specs.CutsView.{CutsView}
 use Rattle.block_passes.proofs.cluster.span_of.Goals as goal
 

@@ -1,12 +1,10 @@
 use Rattle.std.proofs.Common.{FitsSigned, length-set, of_z, rules, set, to_z, w64, ℤ, ◌≡◌, ◌∙◌, ◌+◌, ◌≤◌, ℕ, List, true, ap, arith, get_or, length, subst}
 use Rattle.std.proofs.lemmas.Int.{to_z-of_z}
-use Rattle.expr_lanes.specs.Places.{is_in}
+use Rattle.expr_lanes.specs.{is_in}
 use Rattle.expr_lanes.proofs.Selected.{is_in_at}
-use Rattle.graph_numbers.specs.Sources.{source_value}
-use Rattle.graph_numbers.specs.declared.source.Source.TheVariants as from
-use Rattle.loop_keys.specs.Jobs.{job_of}
-use Rattle.loop_keys.specs.Store.{row_of, site_in}
-use Rattle.block_passes.specs.Feeds.{GivesNumber}
+use Rattle.graph_numbers.specs.{Source, source_value}
+use Rattle.loop_keys.specs.{job_of, row_of, site_in}
+use Rattle.block_passes.specs.{GivesNumber}
 use Rattle.block_passes.proofs.Places.{each_at, numbers_more}
 use Rattle.block_passes.proofs.copies.copy_elements.Goals as goal
 
@@ -42,7 +40,7 @@ loop-i-preserved g c =
     record {
       room = ap (λ (l : List ℤ). length l) wrote ∙ length-set c.loop-i.numbers.items (get_or c.as_slice-places.result.now c.loop-i.i 0) c.given_at.result ∙ room;
       come =
-          numbers_more (λ (p : ℕ). source_value {M = ⊥} (row_of (job_of c.args.at.now.job.now) (c.args.at.now.first + p)) (site_in {M = ⊥} (job_of c.args.at.now.job.now) (c.args.at.now.first + p) c.args.of.now.under) (from.Element c.args.of.now.site c.args.of.now.nth c.args.of.now.tags)) c.args.selection.now c.loop-i.i (get_or c.as_slice-places.result.now c.loop-i.i 0) here
+          numbers_more (λ (p : ℕ). source_value {M = ⊥} (row_of (job_of c.args.at.now.job.now) (c.args.at.now.first + p)) (site_in {M = ⊥} (job_of c.args.at.now.job.now) (c.args.at.now.first + p) c.args.of.now.under) (Source.Element c.args.of.now.site c.args.of.now.nth c.args.of.now.tags)) c.args.selection.now c.loop-i.i (get_or c.as_slice-places.result.now c.loop-i.i 0) here
           c.loop-i.numbers.items c.write_number.new.numbers.items c.given_at.result wrote (omega (arith, low, room)) c.given_at.ensures c.loop-i.invariant.come;
     }
 
@@ -50,4 +48,4 @@ pub returns : goal.returns
 returns g c =
     let long : length c.as_slice-places.result.now ≤ c.loop-i.i = omega arith in
     let e = ap (λ (l : List ℕ). length l) c.as_slice-places.ensures.value in
-    each_at c.args.selection.now (λ p. GivesNumber c.loop-i.numbers.items p ((λ (p : ℕ). source_value {M = ⊥} (row_of (job_of c.args.at.now.job.now) (c.args.at.now.first + p)) (site_in {M = ⊥} (job_of c.args.at.now.job.now) (c.args.at.now.first + p) c.args.of.now.under) (from.Element c.args.of.now.site c.args.of.now.nth c.args.of.now.tags)) p)) (λ m lt. c.loop-i.invariant.come m (omega (arith, lt, long, e)))
+    each_at c.args.selection.now (λ p. GivesNumber c.loop-i.numbers.items p ((λ (p : ℕ). source_value {M = ⊥} (row_of (job_of c.args.at.now.job.now) (c.args.at.now.first + p)) (site_in {M = ⊥} (job_of c.args.at.now.job.now) (c.args.at.now.first + p) c.args.of.now.under) (Source.Element c.args.of.now.site c.args.of.now.nth c.args.of.now.tags)) p)) (λ m lt. c.loop-i.invariant.come m (omega (arith, lt, long, e)))

@@ -1,9 +1,8 @@
 use Rattle.std.proofs.Common.{◌≡◌, ◌∙◌, ◌+◌, ◌≤◌, ℕ, List, true, ap, arith, get_or, length, subst}
-use Rattle.expr_lanes.specs.Places.{is_in}
+use Rattle.expr_lanes.specs.{is_in}
 use Rattle.expr_lanes.proofs.Selected.{is_in_at}
-use Rattle.loop_keys.specs.Jobs.{job_of}
-use Rattle.loop_keys.specs.Store.{site_in}
-use Rattle.block_passes.specs.Feeds.{GivesVector}
+use Rattle.loop_keys.specs.{job_of, site_in}
+use Rattle.block_passes.specs.{GivesVector}
 use Rattle.block_passes.proofs.Places.{each_at, vectors_more}
 use Rattle.block_passes.proofs.copies.copy_vectors.Goals as goal
 

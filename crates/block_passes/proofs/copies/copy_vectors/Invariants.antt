@@ -1,7 +1,6 @@
 use Rattle.std.proofs.Common.{◌≡◌, ◌+◌, ◌<◌, ℕ, get_or, length}
-use Rattle.loop_keys.specs.Jobs.{job_of}
-use Rattle.loop_keys.specs.Store.{site_in}
-use Rattle.block_passes.specs.Feeds.{GivesVector}
+use Rattle.loop_keys.specs.{job_of, site_in}
+use Rattle.block_passes.specs.{GivesVector}
 use Rattle.block_passes.proofs.copies.copy_vectors.Given as goal
 
 abbrev pub invariant-loop-i : goal.invariant-loop-i

@@ -1,9 +1,9 @@
 use Rattle.std.proofs.Common.{◌∙◌, Some, ap, subst, sym}
-use Rattle.rdf_values.specs.declared.value.ColType.TheVariants as kind
-use Rattle.graph_numbers.specs.declared.source.Source.{Source}
-use Rattle.block_cache.specs.Lanes.{kinds_of}
-use Rattle.loop_keys.specs.Jobs.{job_of}
-use Rattle.block_passes.specs.Inputs.{IsPlainSource, IsServable, IsWhole}
+use Rattle.rdf_values.specs.{ColType}
+use Rattle.graph_numbers.specs.{Source}
+use Rattle.block_cache.specs.{kinds_of}
+use Rattle.loop_keys.specs.{job_of}
+use Rattle.block_passes.specs.{IsPlainSource, IsServable, IsWhole}
 use Rattle.block_passes.proofs.Serving.{lane_of_kind}
 use Rattle.block_passes.proofs.SiteKinds.{element_kind}
 use Rattle.block_passes.proofs.PlainReads.{no_vector}
@@ -45,7 +45,7 @@ returns-in-Int g c =
     let e = c.source_under.ensures ∙ c.in-Site.is in
     let there = subst (λ (y : Source). IsServable j c.args.at.now.first c.args.under c.args.at.now.count kinds c.args.at.now.cells.now c.requires.can.0 c.requires.can.1 y) e c.requires.can.2.1 in
     record {
-      copied = subst (λ (y : Source). IsWhole j c.args.under kinds y) (sym e) (λ q. no_vector c.site_kind.result c.in-Int.is (w.2 ∙ there.1.kinds_are c.in-Site.site c.args.under w.0 kind.Vect w.1 q));
+      copied = subst (λ (y : Source). IsWhole j c.args.under kinds y) (sym e) (λ q. no_vector c.site_kind.result c.in-Int.is (w.2 ∙ there.1.kinds_are c.in-Site.site c.args.under w.0 ColType.Vect w.1 q));
       whole = λ w. tt;
       plain = λ used p source. tt;
     }

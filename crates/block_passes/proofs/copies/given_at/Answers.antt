@@ -1,4 +1,4 @@
-use Rattle.loop_keys.specs.Jobs.{job_of}
+use Rattle.loop_keys.specs.{job_of}
 use Rattle.block_passes.proofs.Serving.{hand_holds, hand_value, no_number}
 use Rattle.block_passes.proofs.copies.given_at.Goals as goal
 

@@ -1,4 +1,4 @@
-use Rattle.loop_keys.specs.Jobs.{job_of}
+use Rattle.loop_keys.specs.{job_of}
 use Rattle.block_passes.proofs.Serving.{input_vect, vect_only, lane_read}
 use Rattle.block_passes.proofs.copies.site_vector.Goals as goal
 

@@ -1,7 +1,6 @@
 use Rattle.std.proofs.Common.{◌≡◌, ℕ, ◌<◌, ◌≤◌, Some, slice_get}
-use Rattle.expr_lanes.specs.Depths.{depth}
-use Rattle.graph_numbers.specs.Graphs.{graph_sites}
-use Rattle.graph_numbers.specs.Sites.{SiteAt}
+use Rattle.expr_lanes.specs.{depth}
+use Rattle.graph_numbers.specs.{graph_sites, SiteAt}
 use Rattle.block_passes.proofs.depths.deepest.Given as goal
 
 -- so many levels are enough for the first so many sites

@@ -1,6 +1,5 @@
 use Rattle.std.proofs.Common.{◌+◌}
-use Rattle.loop_keys.specs.Jobs.{job_of}
-use Rattle.loop_keys.specs.Store.{site_in}
+use Rattle.loop_keys.specs.{job_of, site_in}
 use Rattle.block_passes.proofs.Serving.{input_vect, never_stops, number_of, scalar_input, lane_read}
 use Rattle.block_passes.proofs.elements.element_at.Goals as goal
 

@@ -1,9 +1,9 @@
 use Rattle.std.proofs.Common.{◌≡◌, ◌∙◌, ◌<◌, ◌≤◌, ℕ, List, Some, true, ap, arith, get_or, length, subst, sym, None}
-use Rattle.expr_lanes.specs.Places.{is_in}
+use Rattle.expr_lanes.specs.{is_in}
 use Rattle.expr_lanes.proofs.Selected.{is_in_at}
-use Rattle.loop_keys.specs.Jobs.{job_of}
-use Rattle.block_cache.specs.Faults.{fault_at}
-use Rattle.block_passes.specs.Inputs.{element_fault}
+use Rattle.loop_keys.specs.{job_of}
+use Rattle.block_cache.specs.{fault_at}
+use Rattle.block_passes.specs.{element_fault}
 use Rattle.block_passes.proofs.Serving.{fault_is}
 use Rattle.block_passes.proofs.Places.{first_at, each_at}
 use Rattle.block_cache.proofs.Members.{no_fault_over}

@@ -1,6 +1,6 @@
 use Rattle.std.proofs.Common.{◌≡◌, ◌<◌, ℕ, None, get_or}
-use Rattle.loop_keys.specs.Jobs.{job_of}
-use Rattle.block_passes.specs.Inputs.{element_fault}
+use Rattle.loop_keys.specs.{job_of}
+use Rattle.block_passes.specs.{element_fault}
 use Rattle.block_passes.proofs.elements.first_without.Given as goal
 
 abbrev pub invariant-loop-i : goal.invariant-loop-i

@@ -1,6 +1,6 @@
 use Rattle.std.proofs.Common.{arith}
-use Rattle.loop_keys.specs.Jobs.{job_of}
-use Rattle.block_passes.specs.Inputs.{element_fault}
+use Rattle.loop_keys.specs.{job_of}
+use Rattle.block_passes.specs.{element_fault}
 use Rattle.block_passes.proofs.Places.{fault_selected}
 use Rattle.block_passes.proofs.Fed.{part_served}
 use Rattle.block_passes.proofs.elements.test_elements.Goals as goal

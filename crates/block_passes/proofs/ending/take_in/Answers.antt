@@ -1,8 +1,8 @@
 use Rattle.std.proofs.Common.{length, refl}
-use Rattle.rdf_model.specs.LoopFacts.{kinds_in}
-use Rattle.cluster_tally.specs.Blocks.{block_begin}
-use Rattle.loop_keys.specs.Jobs.{job_of, passes_in}
-use Rattle.block_passes.specs.Fed.{at_pass}
+use Rattle.rdf_model.specs.{kinds_in}
+use Rattle.cluster_tally.specs.{block_begin}
+use Rattle.loop_keys.specs.{job_of, passes_in}
+use Rattle.block_passes.specs.{at_pass}
 use Rattle.block_passes.proofs.ClusterBlocks.{all_taken, begun_amid, begun_holds}
 use Rattle.block_passes.proofs.ending.take_in.Goals as goal
 

@@ -1,10 +1,9 @@
 use Rattle.std.proofs.Common.{◌∙◌, length, subst, sym, List}
-use Rattle.rdf_values.specs.declared.value.ColType.{ColType}
-use Rattle.block_cache.specs.Lanes.{LaneView, kinds_of}
-use Rattle.loop_keys.specs.Jobs.{job_of}
-use Rattle.block_passes.specs.Fed.{IsClear}
-use Rattle.block_passes.specs.Tries.{CanServeAll}
-use Rattle.block_passes.specs.declared.stop.BlockStop.TheVariants as stop
+use Rattle.rdf_values.specs.{ColType}
+use Rattle.block_cache.specs.{kinds_of, LaneView}
+use Rattle.loop_keys.specs.{job_of}
+use Rattle.block_passes.specs.{CanServeAll, IsClear}
+use Rattle.block_passes.specs.declared.stop.BlockStop.{BlockStop}
 use Rattle.block_passes.proofs.BegunBlocks.{spent_few}
 use Rattle.block_passes.proofs.ClusterBlocks.{searched_clear, tried_clear, tried_stopped}
 use Rattle.block_passes.proofs.ending.try_begun.Goals as goal
@@ -13,13 +12,13 @@ pub returns-in-Err-clause-tried : goal.returns-in-Err-clause-tried
 returns-in-Err-clause-tried g c =
     let j = job_of c.args.at.now.job.now in
     tried_stopped j c.args.at.now.first c.args.at.now.count c.args.cluster c.args.tally.now c.args.tally.now c.args.steps.now c.try_passes.new.steps
-    (spent_few j c.args.at.now.first c.args.at.now.count c.args.work.now.lanes.items c.try_passes.new.work.lanes.items c.args.steps.now c.try_passes.new.steps c.requires.turn.within c.requires.unknown c.try_passes.ensures.leaves.spends) stop.Memory tt
+    (spent_few j c.args.at.now.first c.args.at.now.count c.args.work.now.lanes.items c.try_passes.new.work.lanes.items c.args.steps.now c.try_passes.new.steps c.requires.turn.within c.requires.unknown c.try_passes.ensures.leaves.spends) BlockStop.Memory tt
 
 pub returns-in-Some-clause-tried : goal.returns-in-Some-clause-tried
 returns-in-Some-clause-tried g c =
     let j = job_of c.args.at.now.job.now in
     tried_stopped j c.args.at.now.first c.args.at.now.count c.args.cluster c.args.tally.now c.args.tally.now c.args.steps.now c.try_passes.new.steps
-    (spent_few j c.args.at.now.first c.args.at.now.count c.args.work.now.lanes.items c.try_passes.new.work.lanes.items c.args.steps.now c.try_passes.new.steps c.requires.turn.within c.requires.unknown c.try_passes.ensures.leaves.spends) (stop.Fault c.in-Some.fault)
+    (spent_few j c.args.at.now.first c.args.at.now.count c.args.work.now.lanes.items c.try_passes.new.work.lanes.items c.args.steps.now c.try_passes.new.steps c.requires.turn.within c.requires.unknown c.try_passes.ensures.leaves.spends) (BlockStop.Fault c.in-Some.fault)
     (c.in-Ok.ensures.fault ∙ c.in-Some.is)
 
 pub take_in-requires-clause-serve : goal.take_in-requires-clause-serve
@@ -47,7 +46,7 @@ pub returns-in-Err-take_in-clause-tried : goal.returns-in-Err-take_in-clause-tri
 returns-in-Err-take_in-clause-tried g c =
     let j = job_of c.args.at.now.job.now in
     tried_stopped j c.args.at.now.first c.args.at.now.count c.args.cluster c.args.tally.now c.take_in.new.tally c.args.steps.now c.try_passes.new.steps
-    (spent_few j c.args.at.now.first c.args.at.now.count c.args.work.now.lanes.items c.try_passes.new.work.lanes.items c.args.steps.now c.try_passes.new.steps c.requires.turn.within c.requires.unknown c.try_passes.ensures.leaves.spends) stop.Memory tt
+    (spent_few j c.args.at.now.first c.args.at.now.count c.args.work.now.lanes.items c.try_passes.new.work.lanes.items c.args.steps.now c.try_passes.new.steps c.requires.turn.within c.requires.unknown c.try_passes.ensures.leaves.spends) BlockStop.Memory tt
 
 pub returns-in-Err-clause-plain : goal.returns-in-Err-clause-plain
 returns-in-Err-clause-plain g c = λ plain none e. c.in-Err.ensures.plain plain

@@ -1,5 +1,4 @@
-use Rattle.loop_keys.specs.Jobs.{job_of}
-use Rattle.loop_keys.specs.Entries.{facts_in}
+use Rattle.loop_keys.specs.{facts_in, job_of}
 use Rattle.block_passes.proofs.Fed.{fed_hand, fed_low, feeds_any, last_there, only_takes}
 use Rattle.block_passes.proofs.Trying.{has_step}
 use Rattle.block_passes.proofs.feed.feed_action.Goals as goal

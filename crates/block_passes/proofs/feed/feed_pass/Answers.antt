@@ -1,7 +1,7 @@
 use Rattle.std.proofs.Common.{arith, refl}
-use Rattle.loop_keys.specs.Jobs.{job_of, passes_in}
+use Rattle.loop_keys.specs.{job_of, passes_in}
 use Rattle.loop_keys.proofs.EntryLaws.{action_next, actions_few, report_next}
-use Rattle.block_cache.specs.Lanes.{kinds_of}
+use Rattle.block_cache.specs.{kinds_of}
 use Rattle.block_passes.proofs.Fed.{can_be_fed, one_further, read_action, takes_none}
 use Rattle.block_passes.proofs.Trying.{gathers}
 use Rattle.block_passes.proofs.PlainReads.{plain_reads}

@@ -1,7 +1,7 @@
 use Rattle.std.proofs.Common.{◌≡◌, None, arith, length, refl}
-use Rattle.loop_keys.specs.Jobs.{job_of, passes_in}
+use Rattle.loop_keys.specs.{job_of, passes_in}
 use Rattle.loop_keys.proofs.EntryLaws.{read_pass}
-use Rattle.block_passes.specs.Fed.{at_pass}
+use Rattle.block_passes.specs.{at_pass}
 use Rattle.block_passes.proofs.Fed.{fed_all}
 use Rattle.block_passes.proofs.feed.feed_passes.Goals as goal
 

@@ -1,6 +1,5 @@
 use Rattle.std.proofs.Common.{◌≡◌}
-use Rattle.loop_keys.specs.Jobs.{job_of}
-use Rattle.loop_keys.specs.Turns.{actions_before}
+use Rattle.loop_keys.specs.{actions_before, job_of}
 use Rattle.block_passes.proofs.Fed.{IsFedTo}
 use Rattle.block_passes.proofs.feed.feed_passes.Given as goal
 

@@ -1,7 +1,6 @@
 use Rattle.std.proofs.Common.{◌+◌}
-use Rattle.loop_keys.specs.Jobs.{job_of}
-use Rattle.loop_keys.specs.Store.{source_at, version_in}
-use Rattle.block_passes.specs.Inputs.{IsAtHand}
+use Rattle.loop_keys.specs.{job_of, source_at, version_in}
+use Rattle.block_passes.specs.{IsAtHand}
 use Rattle.block_passes.proofs.Lanes.{lanes_one}
 use Rattle.block_passes.proofs.in_place.one_in_place.Goals as goal
 

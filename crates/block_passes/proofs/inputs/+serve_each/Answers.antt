@@ -1,10 +1,10 @@
 use Rattle.std.proofs.Common.{arith, length, rules}
 use Rattle.std.proofs.lemmas.Result.{on_ok_weaker}
 use Rattle.std.proofs.lemmas.Bool.Decides.{nat_tests}
-use Rattle.expr_lanes.specs.Places.{EachPlace}
-use Rattle.block_cache.specs.Lanes.{kinds_of}
-use Rattle.loop_keys.specs.Jobs.{job_of}
-use Rattle.block_passes.specs.Inputs.{AreAtHand, IsServedTo, inputs_fault}
+use Rattle.expr_lanes.specs.{EachPlace}
+use Rattle.block_cache.specs.{kinds_of}
+use Rattle.loop_keys.specs.{job_of}
+use Rattle.block_passes.specs.{AreAtHand, inputs_fault, IsServedTo}
 use Rattle.block_passes.proofs.Serving.{first_demanded, first_plain, inputs_held, inputs_served, none_clear, none_held, rest_can, rest_demanded, served_inside, none_served}
 use Rattle.block_passes.proofs.Spending.{leaves_then, spends_none}
 use Rattle.block_passes.proofs.inputs.+serve_each.Goals as goal

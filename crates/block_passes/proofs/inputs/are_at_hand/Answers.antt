@@ -1,8 +1,8 @@
 use Rattle.std.proofs.Common.{arith}
 use Rattle.std.proofs.lemmas.Bool.Decides.{nat_tests}
-use Rattle.block_cache.specs.Lanes.{kinds_of}
-use Rattle.loop_keys.specs.Jobs.{job_of}
-use Rattle.block_passes.specs.Inputs.{CanServe}
+use Rattle.block_cache.specs.{kinds_of}
+use Rattle.loop_keys.specs.{job_of}
+use Rattle.block_passes.specs.{CanServe}
 use Rattle.block_passes.proofs.Serving.{first_can, none_clear, none_held, one_clear, one_held}
 use Rattle.block_passes.proofs.inputs.are_at_hand.Goals as goal
 use Rattle.std.proofs.lemmas.List.{nil_from_length}

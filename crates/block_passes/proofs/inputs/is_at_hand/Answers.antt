@@ -1,7 +1,6 @@
 use Rattle.std.proofs.Common.{◌∙◌}
-use Rattle.block_cache.specs.Lanes.{kinds_of}
-use Rattle.loop_keys.specs.Jobs.{job_graph, job_of}
-use Rattle.loop_keys.specs.Keys.{key_under}
+use Rattle.block_cache.specs.{kinds_of}
+use Rattle.loop_keys.specs.{job_graph, job_of, key_under}
 use Rattle.block_passes.proofs.Serving.{column_clear, column_held}
 use Rattle.block_passes.proofs.Lanes.{cell_source, hand_clear, hand_held, key_inside}
 use Rattle.block_passes.proofs.inputs.is_at_hand.Goals as goal

@@ -1,10 +1,9 @@
 use Rattle.std.proofs.Common.{List, arith, subst, sym}
-use Rattle.graph_numbers.specs.declared.source.Source.TheVariants as from
-use Rattle.expr_lanes.specs.Places.{EachPlace}
-use Rattle.block_cache.specs.Lanes.{LaneView}
-use Rattle.loop_keys.specs.Jobs.{job_of}
-use Rattle.block_cache.specs.Fills.{IsSpentOver}
-use Rattle.block_passes.specs.Inputs.{IsAtHand, IsServedTo, element_fault}
+use Rattle.graph_numbers.specs.{Source}
+use Rattle.expr_lanes.specs.{EachPlace}
+use Rattle.block_cache.specs.{IsSpentOver, LaneView}
+use Rattle.loop_keys.specs.{job_of}
+use Rattle.block_passes.specs.{element_fault, IsAtHand, IsServedTo}
 use Rattle.block_passes.proofs.Serving.{element_held, element_served, served_inside}
 use Rattle.block_passes.proofs.inputs.serve_element.Goals as goal
 
@@ -36,7 +35,7 @@ returns-clause-held g c =
     let a = c.in_ok-serve_site.ensures.served.lowers.falls in
     let b = c.test_elements.ensures.tested.lowers.falls in
     let l = c.requires.known.limit in
-    subst (λ (ls : List LaneView). EachPlace c.test_elements.new.to.places (λ p. IsAtHand j ls c.args.of.now.under p (from.Element c.args.of.now.site c.args.of.now.nth c.args.of.now.tags))) (sym c.test_elements.ensures.lanes)
+    subst (λ (ls : List LaneView). EachPlace c.test_elements.new.to.places (λ p. IsAtHand j ls c.args.of.now.under p (Source.Element c.args.of.now.site c.args.of.now.nth c.args.of.now.tags))) (sym c.test_elements.ensures.lanes)
     (element_held j c.args.at.now.first c.args.at.now.count c.args.of.now.under c.args.of.now.site c.args.of.now.nth c.args.of.now.tags c.args.at.now.pass c.args.to.now.places c.serve_site.new.to c.test_elements.new.to c.serve_site.new.work.lanes.items c.serve_site.new.work.lanes.items c.args.work.now.found c.serve_site.new.work.found c.test_elements.new.work.found c.in_ok-serve_site.ensures.served c.test_elements.ensures.tested c.requires.site (omega (arith, a, b, l)) c.in_ok-serve_site.ensures.held)
 
 pub returns-in_err-serve_site-clause-plain : goal.returns-in_err-serve_site-clause-plain

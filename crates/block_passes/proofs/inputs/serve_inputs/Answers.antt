@@ -1,8 +1,8 @@
 use Rattle.std.proofs.Common.{List, arith, length, subst, sym}
 use Rattle.std.specs.List.{AllByRecursion}
-use Rattle.block_cache.specs.Lanes.{LaneView, kinds_of}
-use Rattle.loop_keys.specs.Jobs.{job_of}
-use Rattle.block_passes.specs.Inputs.{CanServe, inputs_fault}
+use Rattle.block_cache.specs.{kinds_of, LaneView}
+use Rattle.loop_keys.specs.{job_of}
+use Rattle.block_passes.specs.{CanServe, inputs_fault}
 use Rattle.block_passes.proofs.Serving.{none_served}
 use Rattle.block_passes.proofs.inputs.serve_inputs.Goals as goal
 

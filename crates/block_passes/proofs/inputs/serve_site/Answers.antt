@@ -1,10 +1,8 @@
 use Rattle.std.proofs.Common.{List, Some, arith, refl, subst, sym}
 use Rattle.std.proofs.lemmas.List.{with_items_is}
-use Rattle.block_cache.specs.Lanes.{LaneView}
-use Rattle.loop_keys.specs.Jobs.{job_of}
-use Rattle.block_cache.specs.Fills.{site_fault}
-use Rattle.block_passes.specs.Inputs.{IsServedTo}
-use Rattle.block_passes.specs.Spends.{IsSettledAt}
+use Rattle.block_cache.specs.{LaneView, site_fault}
+use Rattle.loop_keys.specs.{job_of}
+use Rattle.block_passes.specs.{IsServedTo, IsSettledAt}
 use Rattle.block_passes.proofs.Places.{fault_selected}
 use Rattle.block_passes.proofs.Serving.{site_served}
 use Rattle.block_passes.proofs.inputs.serve_site.Goals as goal

@@ -1,8 +1,7 @@
 use Rattle.std.proofs.Common.{◌∙◌, List, arith, length, subst, sym}
-use Rattle.block_cache.specs.Lanes.{LaneView, kinds_of}
-use Rattle.loop_keys.specs.Jobs.{job_of}
-use Rattle.loop_keys.specs.Store.{IsSourceIn, source_at}
-use Rattle.block_passes.specs.Inputs.{CanServe, source_fault}
+use Rattle.block_cache.specs.{kinds_of, LaneView}
+use Rattle.loop_keys.specs.{IsSourceIn, job_of, source_at}
+use Rattle.block_passes.specs.{CanServe, source_fault}
 use Rattle.block_passes.proofs.Serving.{column_clear, none_served, source_spends}
 use Rattle.block_passes.proofs.inputs.serve_version.Goals as goal
 

@@ -1,7 +1,7 @@
 use Rattle.std.proofs.Common.{◌≡◌, ◌≤◌, ◌*◌, length}
-use Rattle.graph_numbers.specs.Graphs.{graph_sites, graph_variations}
-use Rattle.loop_keys.specs.Keys.{keys_before}
-use Rattle.block_passes.specs.States.{HaveKinds}
+use Rattle.graph_numbers.specs.{graph_sites, graph_variations}
+use Rattle.loop_keys.specs.{keys_before}
+use Rattle.block_passes.specs.{HaveKinds}
 use Rattle.block_passes.proofs.kinds.key_kinds.Given as goal
 
 abbrev pub invariant-loop-site : goal.invariant-loop-site

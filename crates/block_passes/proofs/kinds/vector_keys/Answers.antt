@@ -1,6 +1,6 @@
 use Rattle.std.proofs.Common.{◌∙◌, ap, count_by}
 use Rattle.std.proofs.lemmas.List.{take_all}
-use Rattle.expr_check.specs.NumKinds.{is_vector}
+use Rattle.expr_check.specs.{is_vector}
 use Rattle.block_passes.proofs.kinds.vector_keys.Goals as goal
 
 pub returns-clause-count : goal.returns-clause-count

@@ -1,5 +1,5 @@
 use Rattle.std.proofs.Common.{◌≡◌, take, count_by}
-use Rattle.expr_check.specs.NumKinds.{is_vector}
+use Rattle.expr_check.specs.{is_vector}
 use Rattle.block_passes.proofs.kinds.vector_keys.Given as goal
 
 abbrev pub invariant-loop-kind : goal.invariant-loop-kind

@@ -1,4 +1,4 @@
-use Rattle.loop_keys.specs.Jobs.{job_of}
+use Rattle.loop_keys.specs.{job_of}
 use Rattle.block_passes.proofs.Feeding.{above_there, no_counts, own_there, planned_there, sizes_counted}
 use Rattle.block_passes.proofs.noting.counts_of.Goals as goal
 

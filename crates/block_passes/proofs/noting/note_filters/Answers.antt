@@ -1,9 +1,8 @@
 use Rattle.std.proofs.Common.{◌≡◌, ◌∙◌, ap, arith, length, subst, ℕ}
-use Rattle.graph_numbers.specs.Graphs.{GraphView, graph_filters}
-use Rattle.loop_keys.specs.Jobs.{job_graph, job_of}
-use Rattle.cluster_tally.specs.Blocks.{HoldsIn}
-use Rattle.loop_keys.specs.Entries.{facts_in}
-use Rattle.block_passes.specs.Fed.{at_filter}
+use Rattle.graph_numbers.specs.{graph_filters, GraphView}
+use Rattle.loop_keys.specs.{facts_in, job_graph, job_of}
+use Rattle.cluster_tally.specs.{HoldsIn}
+use Rattle.block_passes.specs.{at_filter}
 use Rattle.block_passes.proofs.Feeding.{can_note}
 use Rattle.block_passes.proofs.PlanSteps.{filter_in}
 use Rattle.block_passes.proofs.noting.note_filters.Goals as goal

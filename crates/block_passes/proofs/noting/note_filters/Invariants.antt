@@ -1,4 +1,4 @@
-use Rattle.loop_keys.specs.Jobs.{job_of}
+use Rattle.loop_keys.specs.{job_of}
 use Rattle.block_passes.proofs.Feeding.{IsNotedTo}
 use Rattle.block_passes.proofs.noting.note_filters.Given as goal
 

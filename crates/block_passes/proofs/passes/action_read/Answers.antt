@@ -1,7 +1,6 @@
 use Rattle.std.proofs.Common.{◌∙◌, ap, option_map, slice_get, sym}
-use Rattle.graph_numbers.specs.Graphs.{GraphView, graph_results}
-use Rattle.graph_numbers.specs.Results.{ResultAt, kind_of_booking}
-use Rattle.loop_keys.specs.Jobs.{job_of}
+use Rattle.graph_numbers.specs.{graph_results, GraphView, kind_of_booking, ResultAt}
+use Rattle.loop_keys.specs.{job_of}
 use Rattle.loop_keys.proofs.EntryLaws.{found_report}
 use Rattle.block_passes.proofs.PlanSteps.{result_in}
 use Rattle.block_passes.proofs.passes.action_read.Goals as goal

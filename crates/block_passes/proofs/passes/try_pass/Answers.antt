@@ -1,11 +1,10 @@
 use Rattle.std.proofs.Common.{◌≡◌, ◌∙◌, List, Some, ap, option_map, slice_get, subst, sym, ℕ}
 use Rattle.std.specs.List.{AllByRecursion}
 use Rattle.std.proofs.lemmas.Result.{on_ok_weaker}
-use Rattle.graph_numbers.specs.Graphs.{GraphView, graph_results}
-use Rattle.graph_numbers.specs.Results.{ResultAt}
-use Rattle.loop_keys.specs.Jobs.{job_of}
+use Rattle.graph_numbers.specs.{graph_results, GraphView, ResultAt}
+use Rattle.loop_keys.specs.{job_of}
 use Rattle.loop_keys.proofs.EntryLaws.{own_covers}
-use Rattle.block_passes.specs.Tries.{IsMadeAt, IsNamedMade, IsTriedTo, filters_fault}
+use Rattle.block_passes.specs.{filters_fault, IsMadeAt, IsNamedMade, IsTriedTo}
 use Rattle.block_passes.proofs.Trying.{no_action, report_tried, same_report}
 use Rattle.block_passes.proofs.passes.try_pass.Goals as goal
 

@@ -1,12 +1,9 @@
 use Rattle.std.proofs.Common.{arith, ◌≡◌, ◌+◌, below_more, List, None, length, refl, subst, sym, ℕ}
-use Rattle.rdf_values.specs.declared.value.ColType.{ColType}
-use Rattle.block_cache.specs.Lanes.{kinds_of}
-use Rattle.loop_keys.specs.Jobs.{job_of, passes_in}
-use Rattle.loop_keys.specs.Turns.{pass_fault}
-use Rattle.block_passes.specs.Searches.{IsSearched}
+use Rattle.rdf_values.specs.{ColType}
+use Rattle.block_cache.specs.{kinds_of}
+use Rattle.loop_keys.specs.{job_of, pass_fault, passes_in}
+use Rattle.block_passes.specs.{CanSelect, CanServeAll, IsPassMade, IsSearched, Leaves}
 use Rattle.loop_keys.proofs.EntryLaws.{read_pass}
-use Rattle.block_passes.specs.Tries.{CanSelect, CanServeAll, IsPassMade}
-use Rattle.block_passes.specs.InTurn.{Leaves}
 use Rattle.block_passes.proofs.Spending.{leaves_then}
 use Rattle.block_passes.proofs.SearchedPasses.{plan_made, pass_stays, first_searched, next_searched}
 use Rattle.block_passes.proofs.passes.try_passes.Goals as goal

@@ -1,8 +1,6 @@
 use Rattle.std.proofs.Common.{◌≡◌, ◌<◌, ℕ}
-use Rattle.loop_keys.specs.Jobs.{job_of}
-use Rattle.block_passes.specs.Plans.{IsPlan}
-use Rattle.block_passes.specs.Tries.{IsPassMade, IsSearchedTo}
-use Rattle.block_passes.specs.InTurn.{Leaves}
+use Rattle.loop_keys.specs.{job_of}
+use Rattle.block_passes.specs.{IsPassMade, IsPlan, IsSearchedTo, Leaves}
 use Rattle.block_passes.proofs.passes.try_passes.Given as goal
 
 abbrev pub invariant-loop-pass : goal.invariant-loop-pass

@@ -1,5 +1,5 @@
 use Rattle.std.proofs.Common.{ap, Some, ◌∙◌}
-use Rattle.loop_keys.specs.Jobs.{job_of}
+use Rattle.loop_keys.specs.{job_of}
 use Rattle.block_passes.proofs.PlanSteps.{uncovered_step}
 use Rattle.block_passes.proofs.plan.filter_step.Goals as goal
 

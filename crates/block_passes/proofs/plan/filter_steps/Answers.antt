@@ -1,7 +1,7 @@
 use Rattle.std.proofs.Common.{◌≡◌, ℕ, ◌++◌, ap, arith, length, subst, ◌∙◌}
-use Rattle.graph_numbers.specs.Graphs.{GraphView, graph_filters}
-use Rattle.loop_keys.specs.Jobs.{job_graph, job_of}
-use Rattle.block_passes.specs.Plans.{ArePlanned, IsFilterPlanned}
+use Rattle.graph_numbers.specs.{graph_filters, GraphView}
+use Rattle.loop_keys.specs.{job_graph, job_of}
+use Rattle.block_passes.specs.{ArePlanned, IsFilterPlanned}
 use Rattle.block_passes.proofs.PlanSteps.{filter_in, filters_kept, planned_more, planned_none}
 use Rattle.block_passes.proofs.plan.filter_steps.Goals as goal
 

@@ -1,6 +1,6 @@
 use Rattle.std.proofs.Common.{List}
-use Rattle.loop_keys.specs.Jobs.{job_of}
-use Rattle.block_passes.specs.Plans.{ArePlanned, IsFilterPlanned, AreSteps, Chain}
+use Rattle.loop_keys.specs.{job_of}
+use Rattle.block_passes.specs.{ArePlanned, AreSteps, Chain, IsFilterPlanned}
 use Rattle.block_passes.proofs.plan.filter_steps.Given as goal
 
 -- the filters so far have their steps

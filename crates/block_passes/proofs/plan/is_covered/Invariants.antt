@@ -1,8 +1,7 @@
 use Rattle.std.proofs.Common.{◌≡◌, false, take}
 use Rattle.std.specs.List.{list_any}
-use Rattle.graph_numbers.specs.Graphs.{graph_results}
-use Rattle.loop_keys.specs.Jobs.{job_graph, job_of}
-use Rattle.loop_keys.specs.Turns.{is_covering}
+use Rattle.graph_numbers.specs.{graph_results}
+use Rattle.loop_keys.specs.{is_covering, job_graph, job_of}
 use Rattle.block_passes.proofs.plan.is_covered.Given as goal
 
 abbrev pub invariant-loop-pass : goal.invariant-loop-pass

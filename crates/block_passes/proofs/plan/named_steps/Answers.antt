@@ -1,6 +1,6 @@
 use Rattle.std.proofs.Common.{◌<◌, ◌++◌, length, subst, sym}
-use Rattle.graph_numbers.specs.Graphs.{GraphView, graph_filters}
-use Rattle.loop_keys.specs.Jobs.{job_of}
+use Rattle.graph_numbers.specs.{graph_filters, GraphView}
+use Rattle.loop_keys.specs.{job_of}
 use Rattle.block_passes.proofs.PlanSteps.{filter_led, led_there}
 use Rattle.block_passes.proofs.plan.named_steps.Goals as goal
 

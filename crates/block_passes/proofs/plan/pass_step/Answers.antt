@@ -1,8 +1,8 @@
 use Rattle.std.proofs.Common.{◌<◌, List, length, subst, sym}
-use Rattle.graph_numbers.specs.Graphs.{GraphView, graph_results}
-use Rattle.loop_keys.specs.Jobs.{job_of}
+use Rattle.graph_numbers.specs.{graph_results, GraphView}
+use Rattle.loop_keys.specs.{job_of}
 use Rattle.loop_keys.proofs.PassNumbers.{result_inside}
-use Rattle.block_passes.specs.Plans.{IsPassLast, IsPlanned, Chain, IsLed}
+use Rattle.block_passes.specs.{Chain, IsLed, IsPassLast, IsPlanned}
 use Rattle.block_passes.proofs.PlanSteps.{pass_led, report_led}
 use Rattle.std.proofs.lemmas.Result.{IfOk-weaker}
 use Rattle.block_passes.proofs.plan.pass_step.Goals as goal

@@ -1,7 +1,7 @@
 use Rattle.std.proofs.Common.{◌≡◌, ℕ, None, ◌++◌, arith, length, subst}
-use Rattle.loop_keys.specs.Jobs.{job_of, passes_in}
+use Rattle.loop_keys.specs.{job_of, passes_in}
 use Rattle.loop_keys.proofs.EntryLaws.{read_pass}
-use Rattle.block_passes.specs.Plans.{ArePlanned, IsPassLast}
+use Rattle.block_passes.specs.{ArePlanned, IsPassLast}
 use Rattle.block_passes.proofs.PlanSteps.{pass_kept, planned_more, planned_none}
 use Rattle.block_passes.proofs.plan.pass_steps.Goals as goal
 

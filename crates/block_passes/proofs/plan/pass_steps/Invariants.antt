@@ -1,6 +1,6 @@
 use Rattle.std.proofs.Common.{List}
-use Rattle.loop_keys.specs.Jobs.{job_of}
-use Rattle.block_passes.specs.Plans.{ArePlanned, IsPassLast, AreSteps, Chain}
+use Rattle.loop_keys.specs.{job_of}
+use Rattle.block_passes.specs.{ArePlanned, AreSteps, Chain, IsPassLast}
 use Rattle.block_passes.proofs.plan.pass_steps.Given as goal
 
 -- the passes so far have their last steps

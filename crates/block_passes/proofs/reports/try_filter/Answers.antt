@@ -1,7 +1,7 @@
 use Rattle.std.proofs.Common.{◌≡◌, ◌∙◌, Some, ap, subst, sym}
 use Rattle.std.proofs.lemmas.Result.{on_ok_weaker}
-use Rattle.loop_keys.specs.Jobs.{job_of}
-use Rattle.block_passes.specs.Tries.{AreRemade, IsMadeAt, IsSelectedTo}
+use Rattle.loop_keys.specs.{job_of}
+use Rattle.block_passes.specs.{AreRemade, IsMadeAt, IsSelectedTo}
 use Rattle.block_passes.specs.declared.plan.NamedSteps.{NamedSteps}
 use Rattle.block_passes.proofs.SearchedPasses.{made_selected, made_stays, remade_then}
 use Rattle.block_passes.proofs.Spending.{leaves_then}

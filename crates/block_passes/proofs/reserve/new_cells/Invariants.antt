@@ -1,5 +1,5 @@
 use Rattle.std.proofs.Common.{◌≡◌, length}
-use Rattle.block_passes.specs.States.{HaveCells}
+use Rattle.block_passes.specs.{HaveCells}
 use Rattle.block_passes.proofs.reserve.new_cells.Given as goal
 
 abbrev pub invariant-loop : goal.invariant-loop

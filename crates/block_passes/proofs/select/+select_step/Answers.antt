@@ -1,10 +1,10 @@
 use Rattle.std.proofs.Common.{◌≡◌, ◌∙◌, ◌++◌, List, Some, ap, arith, get_or, refl, rules, subst, sym, slice_set}
 use Rattle.std.proofs.lemmas.Option.{slice_get-get_or}
 use Rattle.std.proofs.lemmas.Result.{on_ok_weaker}
-use Rattle.loop_keys.specs.Jobs.{job_of}
-use Rattle.block_passes.specs.Tries.{AreRemade, IsNextSelected, IsReadyBelow}
+use Rattle.loop_keys.specs.{job_of}
+use Rattle.block_passes.specs.{AreRemade, IsNextSelected, IsReadyBelow}
 use Rattle.block_passes.specs.declared.kept.Kept.{Kept as KeptView}
-use Rattle.block_passes.specs.declared.steps.Step.TheVariants as step
+use Rattle.block_passes.specs.declared.steps.Step.{Step}
 use Rattle.block_passes.proofs.SearchedPasses.{remade_set, remade_then}
 use Rattle.block_passes.proofs.Spending.{leaves_then}
 use Rattle.block_passes.proofs.Selecting.{chain_at, filter_selected, kept_inside, narrowed_selected, set_same, was_made, was_not, whole_selected, narrowed_made}
@@ -31,7 +31,7 @@ select_step-requires g t c κs within =
     let there = slice_get-get_or c.args.kept.now c.args.step c.index-kept-step.result lt in
     let was = was_not old c.narrow.new.self c.args.work.now.found.limit c.narrow.result c.narrow.ensures.none c.narrow.ensures.some c.if-narrow.false in
     let same : slice_set c.args.kept.now c.args.step c.narrow.new.self ≡ c.args.kept.now = ap (slice_set c.args.kept.now c.args.step) was ∙ set_same c.args.kept.now c.args.step old there in
-    let filter = plan.steps.each c.args.step (step.Filter c.in-Filter.parent c.in-Filter.site c.in-Filter.under) (c.step.ensures ∙ ap Some c.in-Filter.is) in
+    let filter = plan.steps.each c.args.step (Step.Filter c.in-Filter.parent c.in-Filter.site c.in-Filter.under) (c.step.ensures ∙ ap Some c.in-Filter.is) in
     let before = filter.before in
     let small = c.requires.step in
     (omega (arith, before, c.decreases), (search rules, (c.requires.turn, (c.requires.can, (omega (arith, before, small), λ p. subst (λ (ks : List KeptView). IsReadyBelow j c.args.at.now.first c.args.at.now.count p.chains c.args.work.now.found.limit c.args.work.now.lanes.items ks) (sym same) (c.requires.ready p))))))
@@ -45,7 +45,7 @@ returns-in-Block-clause-selected g t c = λ p.
     let there = slice_get-get_or c.args.kept.now c.args.step c.index-kept-step.result lt in
     let was = was_not old c.narrow.new.self c.args.work.now.found.limit c.narrow.result c.narrow.ensures.none c.narrow.ensures.some c.if-narrow.false in
     let same : slice_set c.args.kept.now c.args.step c.narrow.new.self ≡ c.args.kept.now = ap (slice_set c.args.kept.now c.args.step) was ∙ set_same c.args.kept.now c.args.step old there in
-    let its = p.steps.each c.args.step step.Block (c.step.ensures ∙ ap Some c.in-Block.is) in
+    let its = p.steps.each c.args.step Step.Block (c.step.ensures ∙ ap Some c.in-Block.is) in
     whole_selected j c.args.at.now.first c.args.at.now.count p.chains c.args.at.now.pass c.args.step its c.args.work.now.lanes.items c.args.kept.now
     (slice_set (slice_set c.args.kept.now c.args.step c.narrow.new.self) c.args.step c.select_first.new.self) c.args.work.now.found ready
     c.select_first.new.self c.select_first.ensures.limit c.select_first.ensures.places (ap (λ (ks : List KeptView). slice_set ks c.args.step c.select_first.new.self) same)
@@ -56,7 +56,7 @@ returns-in_ok-select_step-in-Filter-clause-leaves g t c = leaves_then _ _ _ _ _ 
 pub returns-in_ok-select_step-in-Filter-clause-selected : goal.returns-in_ok-select_step-in-Filter-clause-selected
 returns-in_ok-select_step-in-Filter-clause-selected g t c = λ p.
     let j = job_of c.args.at.now.job.now in
-    let filter = p.steps.each c.args.step (step.Filter c.in-Filter.parent c.in-Filter.site c.in-Filter.under) (c.step.ensures ∙ ap Some c.in-Filter.is) in
+    let filter = p.steps.each c.args.step (Step.Filter c.in-Filter.parent c.in-Filter.site c.in-Filter.under) (c.step.ensures ∙ ap Some c.in-Filter.is) in
     on_ok_weaker c.next_places.result
     (λ (h : IsNextSelected j c.args.at.now.first c.args.at.now.count p.chains c.args.at.now.pass c.args.step c.in-Filter.parent c.in-Filter.site c.in-Filter.under c.next_places.new.work.lanes.items (c.split_at_mut-above.result.0.now ++ c.next_places.new.own) c.select_step.new.work.found c.next_places.new.work.found).
     filter_selected j c.args.at.now.first c.args.at.now.count p.chains c.args.at.now.pass c.args.step c.in-Filter.parent c.in-Filter.site c.in-Filter.under filter c.select_step.new.work.lanes.items c.next_places.new.work.lanes.items

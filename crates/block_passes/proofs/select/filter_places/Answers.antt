@@ -1,11 +1,9 @@
 use Rattle.std.proofs.Common.{◌∙◌, List, ℕ, ap, arith, refl, subst, sym, Some}
 use Rattle.std.proofs.lemmas.List.{with_items_is}
-use Rattle.expr_lanes.specs.Places.{is_in}
-use Rattle.block_cache.specs.Lanes.{LaneView}
-use Rattle.loop_keys.specs.Jobs.{job_of}
-use Rattle.block_cache.specs.Fills.{site_fault}
-use Rattle.block_passes.specs.Tries.{IsFilteredTo}
-use Rattle.block_passes.specs.Spends.{IsSettledAt}
+use Rattle.expr_lanes.specs.{is_in}
+use Rattle.block_cache.specs.{LaneView, site_fault}
+use Rattle.loop_keys.specs.{job_of}
+use Rattle.block_passes.specs.{IsFilteredTo, IsSettledAt}
 use Rattle.block_passes.proofs.Places.{fault_selected}
 use Rattle.block_passes.proofs.Selecting.{filtered_to, selected}
 use Rattle.block_passes.proofs.select.filter_places.Goals as goal

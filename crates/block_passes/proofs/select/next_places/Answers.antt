@@ -1,11 +1,10 @@
 use Rattle.std.proofs.Common.{◌<◌, arith, refl, length}
 use Rattle.std.proofs.lemmas.Option.{slice_get_read}
 use Rattle.std.proofs.lemmas.Result.{on_ok_weaker}
-use Rattle.lemmas.proofs.Places.{kept_at}
-use Rattle.loop_keys.specs.Jobs.{job_of}
-use Rattle.block_passes.specs.Tries.{IsFilteredTo}
-use Rattle.block_passes.specs.Plans.{longer}
-use Rattle.block_passes.specs.declared.steps.Step.TheVariants as step
+use Rattle.lemmas.proofs.{kept_at}
+use Rattle.loop_keys.specs.{job_of}
+use Rattle.block_passes.specs.{IsFilteredTo, longer}
+use Rattle.block_passes.specs.declared.steps.Step.{Step}
 use Rattle.block_passes.proofs.Selecting.{from_inside, next_selected, next_spends}
 use Rattle.block_passes.proofs.SearchedPasses.{remade_behind}
 use Rattle.block_passes.proofs.Demanding.{site_there, site_used}
@@ -14,7 +13,7 @@ use Rattle.block_passes.proofs.select.next_places.Goals as goal
 pub filter_places-requires-clause-site : goal.filter_places-requires-clause-site
 filter_places-requires-clause-site g c =
     let p = c.requires.turn.plan in
-    let s = p.steps.each c.args.next.step (step.Filter c.args.next.parent c.args.next.filter.site c.args.next.filter.under) c.requires.step in
+    let s = p.steps.each c.args.next.step (Step.Filter c.args.next.parent c.args.next.filter.site c.args.next.filter.under) c.requires.step in
     site_there (job_of c.args.at.now.job.now) c.requires.turn.fits.job (longer s.up c.args.next.filter.site c.args.next.filter.under) s.up.sites c.args.next.filter.site refl (p.tried c.args.next.step _ s.own)
 
 pub filter_places-requires-clause-known : goal.filter_places-requires-clause-known
@@ -28,14 +27,14 @@ filter_places-requires-clause-truth g c = c.requires.can.truths c.args.next.step
 
 pub bounds-above-next : goal.bounds-above-next
 bounds-above-next g c =
-    let s = c.requires.turn.plan.steps.each c.args.next.step (step.Filter c.args.next.parent c.args.next.filter.site c.args.next.filter.under) c.requires.step in
+    let s = c.requires.turn.plan.steps.each c.args.next.step (Step.Filter c.args.next.parent c.args.next.filter.site c.args.next.filter.under) c.requires.step in
     let b = s.before in
     let l = c.requires.above in
     omega (arith, b, l)
 
 pub filter_places-requires-clause-inside : goal.filter_places-requires-clause-inside
 filter_places-requires-clause-inside g c =
-    let s = c.requires.turn.plan.steps.each c.args.next.step (step.Filter c.args.next.parent c.args.next.filter.site c.args.next.filter.under) c.requires.step in
+    let s = c.requires.turn.plan.steps.each c.args.next.step (Step.Filter c.args.next.parent c.args.next.filter.site c.args.next.filter.under) c.requires.step in
     let lt : c.args.next.parent < length c.args.above.now = (let b = s.before in let l = c.requires.above in omega (arith, b, l)) in
     let here = slice_get_read c.args.above.now (length c.args.above.now) c.args.next.parent c.index-above-next.result refl lt c.index-above-next.is in
     from_inside (job_of c.args.at.now.job.now) c.requires.turn.fits.job c.args.at.now.first c.args.at.now.count c.args.at.now.pass c.args.at.now.plan.now c.requires.turn.plan c.args.next.step c.args.next.parent c.args.next.filter.site c.args.next.filter.under c.requires.step
@@ -44,7 +43,7 @@ filter_places-requires-clause-inside g c =
 
 pub returns-clause-leaves : goal.returns-clause-leaves
 returns-clause-leaves g c =
-    let s = c.requires.turn.plan.steps.each c.args.next.step (step.Filter c.args.next.parent c.args.next.filter.site c.args.next.filter.under) c.requires.step in
+    let s = c.requires.turn.plan.steps.each c.args.next.step (Step.Filter c.args.next.parent c.args.next.filter.site c.args.next.filter.under) c.requires.step in
     let lt : c.args.next.parent < length c.args.above.now = (let b = s.before in let l = c.requires.above in omega (arith, b, l)) in
     let here = slice_get_read c.args.above.now (length c.args.above.now) c.args.next.parent c.index-above-next.result refl lt c.index-above-next.is in
     record {
@@ -58,7 +57,7 @@ returns-clause-leaves g c =
 
 pub returns-clause-selected : goal.returns-clause-selected
 returns-clause-selected g c = λ p.
-    let s = c.requires.turn.plan.steps.each c.args.next.step (step.Filter c.args.next.parent c.args.next.filter.site c.args.next.filter.under) c.requires.step in
+    let s = c.requires.turn.plan.steps.each c.args.next.step (Step.Filter c.args.next.parent c.args.next.filter.site c.args.next.filter.under) c.requires.step in
     let lt : c.args.next.parent < length c.args.above.now = (let b = s.before in let l = c.requires.above in omega (arith, b, l)) in
     let here = slice_get_read c.args.above.now (length c.args.above.now) c.args.next.parent c.index-above-next.result refl lt c.index-above-next.is in
     on_ok_weaker c.filter_places.result
@@ -80,6 +79,6 @@ returns-clause-remade g c =
 pub returns-clause-plain : goal.returns-clause-plain
 returns-clause-plain g c = λ loop.
     let p = c.requires.turn.plan in
-    let s = p.steps.each c.args.next.step (step.Filter c.args.next.parent c.args.next.filter.site c.args.next.filter.under) c.requires.step in
+    let s = p.steps.each c.args.next.step (Step.Filter c.args.next.parent c.args.next.filter.site c.args.next.filter.under) c.requires.step in
     c.filter_places.ensures.plain loop.used loop.sites
     (site_used (job_of c.args.at.now.job.now) c.requires.turn.fits.job (longer s.up c.args.next.filter.site c.args.next.filter.under) s.up.sites c.args.next.filter.site refl loop (p.tried c.args.next.step _ s.own))

@@ -1,6 +1,6 @@
 use Rattle.std.proofs.Common.{get_or, inl, refl, sym}
 use Rattle.std.proofs.lemmas.Option.{slice_get-get_or}
-use Rattle.loop_keys.specs.Jobs.{job_of}
+use Rattle.loop_keys.specs.{job_of}
 use Rattle.block_passes.proofs.Selecting.{chain_at, kept_inside, narrowed_selected, set_same}
 use Rattle.block_passes.proofs.select.select_again.Goals as goal
 

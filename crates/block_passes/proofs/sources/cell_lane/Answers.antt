@@ -1,5 +1,5 @@
 use Rattle.std.proofs.Common.{◌+◌, ◌<◌, arith, length}
-use Rattle.rdf_values.specs.declared.value.ColType.TheVariants as kind
+use Rattle.rdf_values.specs.{ColType}
 use Rattle.loop_keys.proofs.TableLaws.{not_stored}
 use Rattle.block_passes.proofs.Lanes.{vector_given, vector_there}
 use Rattle.block_passes.proofs.Serving.{kind_got}
@@ -11,7 +11,7 @@ unreachable-requires g c =
 
 pub vects-requires : goal.vects-requires
 vects-requires g c =
-    kind_got c.args.at.now.job.now.columns.now.table.columns c.columns.result.now c.columns.ensures.value c.args.col c.requires.there _ kind.Vect c.in-Vect.is
+    kind_got c.args.at.now.job.now.columns.now.table.columns c.columns.result.now c.columns.ensures.value c.args.col c.requires.there _ ColType.Vect c.in-Vect.is
 
 pub returns-in-Vect : goal.returns-in-Vect
 returns-in-Vect g c = λ p low.

@@ -1,12 +1,8 @@
 use Rattle.std.proofs.Common.{◌+◌, subst, sym, ◌∙◌}
-use Rattle.block_cache.specs.Lanes.{kinds_of}
-use Rattle.graph_numbers.specs.Sources.{source_value}
-use Rattle.graph_numbers.specs.declared.source.Source.{Source}
-use Rattle.loop_keys.specs.Jobs.{job_graph, job_of}
-use Rattle.loop_keys.specs.Keys.{key_under}
-use Rattle.loop_keys.specs.Store.{row_of, site_in}
-use Rattle.block_passes.specs.Feeds.{IsLaneOf}
-use Rattle.block_passes.specs.Inputs.{IsServable, IsWhole}
+use Rattle.block_cache.specs.{kinds_of}
+use Rattle.graph_numbers.specs.{Source, source_value}
+use Rattle.loop_keys.specs.{job_graph, job_of, key_under, row_of, site_in}
+use Rattle.block_passes.specs.{IsLaneOf, IsServable, IsWhole}
 use Rattle.block_passes.proofs.Lanes.{cell_source, element_source, key_inside, lanes_give, no_vectors}
 use Rattle.block_passes.proofs.sources.lane_in_place.Goals as goal
 

@@ -1,5 +1,5 @@
 use Rattle.std.proofs.Common.{ℕ, ap, refl, slice_get, subst, sym, ◌∙◌}
-use Rattle.block_passes.specs.Plans.{IsStepped, longer}
+use Rattle.block_passes.specs.{IsStepped, longer}
 use Rattle.block_passes.proofs.PlanSteps.{added, step_found}
 use Rattle.block_passes.proofs.steps.next_step.Goals as goal
 

@@ -1,5 +1,5 @@
 use Rattle.std.proofs.Common.{List, take}
-use Rattle.block_passes.specs.Plans.{AreSteps, Chain, IsLed}
+use Rattle.block_passes.specs.{AreSteps, Chain, IsLed}
 use Rattle.block_passes.proofs.steps.path_steps.Given as goal
 
 -- the filters so far have steps

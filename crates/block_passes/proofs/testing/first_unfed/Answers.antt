@@ -1,8 +1,7 @@
 use Rattle.std.proofs.Common.{◌∙◌, ◌+◌, ℕ}
-use Rattle.rdf_model.specs.Evaluation.{for_all}
-use Rattle.actions.specs.Batches.{places_of}
-use Rattle.loop_keys.specs.Jobs.{job_of}
-use Rattle.loop_keys.specs.Store.{version_in}
+use Rattle.rdf_model.specs.{for_all}
+use Rattle.actions.specs.{places_of}
+use Rattle.loop_keys.specs.{job_of, version_in}
 use Rattle.block_passes.proofs.Fed.{first_is, lanes_suit, lanes_there}
 use Rattle.block_passes.proofs.testing.first_unfed.Goals as goal
 

@@ -1,7 +1,6 @@
 use Rattle.std.proofs.Common.{◌+◌, None, arith, inl, refl, sym}
-use Rattle.loop_keys.specs.Jobs.{job_of}
-use Rattle.loop_keys.specs.Store.{version_in}
-use Rattle.block_passes.specs.Feeds.{unfed}
+use Rattle.loop_keys.specs.{job_of, version_in}
+use Rattle.block_passes.specs.{unfed}
 use Rattle.block_passes.proofs.Places.{fault_selected}
 use Rattle.block_passes.proofs.Fed.{few_fed, part_served}
 use Rattle.block_cache.proofs.Members.{no_fault_over}

@@ -1,8 +1,6 @@
-use Rattle.std.proofs.Common.{refl, subst, sym}
-use Rattle.std.specs.Prelude.{MatchOption, ◌≡◌}
-use Rattle.input_files.specs.Due.{due_of}
-use Rattle.chain_due.specs.Due.{IsDueToCommand}
-use Rattle.chain_due.specs.Lines.{usage_line}
+use Rattle.std.proofs.Common.{refl, subst, sym, MatchOption, ◌≡◌}
+use Rattle.input_files.specs.{due_of}
+use Rattle.chain_due.specs.{IsDueToCommand, usage_line}
 use Rattle.chain_due.specs.declared.status.ChainStatus.TheVariants.{Words}
 use Rattle.chain_due.proofs.laws.untaken_words_are_due_usage.Goals as goal
 

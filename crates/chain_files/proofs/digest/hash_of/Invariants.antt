@@ -1,5 +1,5 @@
 use Rattle.std.proofs.Common.{◌≡◌, take, fold}
-use Rattle.chain_files.specs.Digests.{hash_step}
+use Rattle.chain_files.specs.{hash_step}
 use Rattle.chain_files.proofs.digest.hash_of.Given as goal
 
 abbrev pub invariant-loop-byte : goal.invariant-loop-byte

@@ -1,5 +1,5 @@
 use Rattle.std.proofs.Common.{◌≡◌, ◌≤◌, drop, length}
-use Rattle.chain_files.specs.Joining.{are_loops}
+use Rattle.chain_files.specs.{are_loops}
 use Rattle.chain_files.proofs.joining.are_loops.Given as goal
 
 abbrev pub invariant-loop-i : goal.invariant-loop-i

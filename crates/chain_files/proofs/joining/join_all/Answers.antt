@@ -1,4 +1,4 @@
-use Rattle.chain_files.specs.Joining.{joined_parts}
+use Rattle.chain_files.specs.{joined_parts}
 use Rattle.chain_files.proofs.Keeping.{one_more_joined}
 use Rattle.chain_files.proofs.joining.join_all.Goals as goal
 

@@ -1,5 +1,5 @@
 use Rattle.std.proofs.Common.{◌≡◌}
-use Rattle.chain_files.specs.Joining.{CanJoinAll, joined_parts}
+use Rattle.chain_files.specs.{CanJoinAll, joined_parts}
 use Rattle.chain_files.proofs.joining.join_all.Given as goal
 
 abbrev pub invariant-loop-part : goal.invariant-loop-part

@@ -1,5 +1,5 @@
 use Rattle.std.proofs.Common.{◌≡◌, ◌++◌, drop}
-use Rattle.chain_files.specs.Joining.{joined_loops}
+use Rattle.chain_files.specs.{joined_loops}
 use Rattle.chain_files.proofs.joining.joined_loops.Given as goal
 
 abbrev pub invariant-loop-one : goal.invariant-loop-one

@@ -1,11 +1,10 @@
 use Rattle.std.proofs.Common.{List, ℕ, ◌∙◌, ap, ◌++◌, ◌∷◌, [], codes}
-use Rattle.lemmas.proofs.Answers.{on_ok}
-use Rattle.shard_files.specs.Shards.{kind_word}
-use Rattle.chain_files.specs.Parts.{line_text}
-use Rattle.shard_lines.specs.Spaced.{spaced}
+use Rattle.lemmas.proofs.{on_ok}
+use Rattle.shard_files.specs.{kind_word}
+use Rattle.chain_files.specs.{line_text}
+use Rattle.shard_lines.specs.{joined_words, spaced}
 use Rattle.chain_files.proofs.Runs.{line_on}
 use Rattle.shard_lines.proofs.Runs.{spaced_on, words_on}
-use Rattle.shard_lines.specs.Lines.{joined_words}
 use Rattle.chain_files.proofs.printing.put_column.Goals as goal
 
 pub returns : goal.returns

@@ -1,9 +1,9 @@
 use Rattle.std.proofs.Common.{List, ℕ, [], ◌∷◌, codes, decimal}
-use Rattle.lemmas.proofs.Answers.{on_ok}
-use Rattle.chain_files.specs.Parts.{line_text}
+use Rattle.lemmas.proofs.{on_ok}
+use Rattle.chain_files.specs.{line_text}
 use Rattle.chain_files.proofs.Runs.{line_on}
 use Rattle.shard_lines.proofs.Runs.{spaced_on, words_on}
-use Rattle.shard_lines.specs.Lines.{joined_words}
+use Rattle.shard_lines.specs.{joined_words}
 use Rattle.chain_files.proofs.printing.put_files.Goals as goal
 
 pub returns : goal.returns

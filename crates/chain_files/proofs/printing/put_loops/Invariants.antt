@@ -1,6 +1,5 @@
-use Rattle.std.proofs.Common.{◌≡◌, ◌++◌, take}
-use Rattle.std.specs.Prelude.{flat_map}
-use Rattle.chain_files.specs.Parts.{lines_text, loop_lines}
+use Rattle.std.proofs.Common.{◌≡◌, ◌++◌, take, flat_map}
+use Rattle.chain_files.specs.{lines_text, loop_lines}
 use Rattle.chain_files.proofs.printing.put_loops.Given as goal
 
 abbrev pub invariant-loop-one : goal.invariant-loop-one

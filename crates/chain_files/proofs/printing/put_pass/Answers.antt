@@ -1,5 +1,5 @@
-use Rattle.lemmas.proofs.Answers.{on_ok}
-use Rattle.chain_files.specs.Parts.{line_text}
+use Rattle.lemmas.proofs.{on_ok}
+use Rattle.chain_files.specs.{line_text}
 use Rattle.chain_files.proofs.Runs.{line_on}
 use Rattle.chain_files.proofs.printing.put_pass.Goals as goal
 

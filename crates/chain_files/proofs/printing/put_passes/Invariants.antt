@@ -1,7 +1,7 @@
 use Rattle.std.proofs.Common.{◌≡◌, ◌++◌, map, take}
-use Rattle.chain_files.specs.Parts.{lines_text}
-use Rattle.chain_files.specs.declared.part_line.PartLine.TheVariants as on
+use Rattle.chain_files.specs.{lines_text}
+use Rattle.chain_files.specs.declared.part_line.PartLine.{PartLine}
 use Rattle.chain_files.proofs.printing.put_passes.Given as goal
 
 abbrev pub invariant-loop-line : goal.invariant-loop-line
-invariant-loop-line l = l.text ≡ l.fn.text ++ lines_text (map on.Pass (take l.line-index l.lines))
+invariant-loop-line l = l.text ≡ l.fn.text ++ lines_text (map PartLine.Pass (take l.line-index l.lines))

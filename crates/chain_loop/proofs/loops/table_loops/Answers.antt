@@ -1,8 +1,8 @@
 use Rattle.std.proofs.Common.{◌∙◌, sym, arith}
-use Rattle.entry_fns.specs.Lists.{functions_in}
-use Rattle.shard_loop.specs.LoopSpans.{table_of}
+use Rattle.entry_fns.specs.{functions_in}
+use Rattle.shard_loop.specs.{table_of}
 use Rattle.shard_loop.proofs.Looping.{loops_many}
-use Rattle.chain_runs.specs.Chains.{alone}
+use Rattle.chain_runs.specs.{alone}
 use Rattle.chain_loop.proofs.Looping.{begin_loops, last_loop, next_loop, no_loop_left}
 use Rattle.chain_loop.proofs.loops.table_loops.Goals as goal
 

@@ -1,8 +1,8 @@
 use Rattle.std.proofs.Common.{◌≡◌, length}
-use Rattle.entry_fns.specs.Lists.{functions_in}
-use Rattle.shard_spans.specs.Spans.{loops_of}
-use Rattle.shard_loop.specs.LoopSpans.{table_of}
-use Rattle.chain_runs.specs.Chains.{alone}
+use Rattle.entry_fns.specs.{functions_in}
+use Rattle.shard_spans.specs.{loops_of}
+use Rattle.shard_loop.specs.{table_of}
+use Rattle.chain_runs.specs.{alone}
 use Rattle.chain_loop.proofs.Looping.{IsUpToLoop}
 use Rattle.chain_loop.proofs.loops.table_loops.Given as goal
 

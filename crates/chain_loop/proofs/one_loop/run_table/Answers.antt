@@ -1,8 +1,6 @@
 use Rattle.std.proofs.Common.{length, refl, ap, ◌∙◌}
-use Rattle.loop_keys.specs.Jobs.{job_of}
-use Rattle.loop_keys.specs.Entries.{job_spans}
-use Rattle.chain_files.specs.declared.chain_fault.ChainFault.{ChainFault}
-use Rattle.chain_files.specs.declared.part_loop.PartLoop.TheVariants as part
+use Rattle.loop_keys.specs.{job_of, job_spans}
+use Rattle.chain_files.specs.{ChainFault, PartLoop}
 use Rattle.chain_loop.proofs.WholeTables.{faulted_loop, is_piece, whole_loop}
 use Rattle.chain_loop.proofs.one_loop.run_table.Goals as goal
 
@@ -19,5 +17,5 @@ returns-in_ok-span_lines-in-Filled g c =
 
 pub returns-in-Faulted : goal.returns-in-Faulted
 returns-in-Faulted g c =
-    ap (λ (f : ChainFault). part.Faulted f) c.in_file.ensures
+    ap (λ (f : ChainFault). PartLoop.Faulted f) c.in_file.ensures
     ∙ faulted_loop (job_of c.args.job.now) c.requires.job.job 1 c.args.file _ c.in-Faulted.fault c.in-Faulted.is c.in_ok-filled.ensures

@@ -1,4 +1,4 @@
-use Rattle.entry_fns.specs.Lists.{functions_in}
+use Rattle.entry_fns.specs.{functions_in}
 use Rattle.chain_program.proofs.Accepting.{not_booked}
 use Rattle.chain_program.proofs.booking.book_over.Goals as goal
 

@@ -1,5 +1,5 @@
 use Rattle.std.proofs.Common.{OnOk, subst, sym}
-use Rattle.chain_program.specs.Turns.{AreTurned, IsOtherRead, others_in}
+use Rattle.chain_program.specs.{AreTurned, IsOtherRead, others_in}
 use Rattle.chain_program.proofs.command.answer_command.Goals as goal
 
 pub returns-in-Run-clause-turns : goal.returns-in-Run-clause-turns

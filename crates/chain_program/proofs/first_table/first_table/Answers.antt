@@ -1,5 +1,5 @@
-use Rattle.entry_fns.specs.Lists.{functions_in}
-use Rattle.table_csv.specs.ColumnsOver.{marked_in}
+use Rattle.entry_fns.specs.{functions_in}
+use Rattle.table_csv.specs.{marked_in}
 use Rattle.chain_program.proofs.Chaining.{over_of}
 use Rattle.chain_program.proofs.first_table.first_table.Goals as goal
 

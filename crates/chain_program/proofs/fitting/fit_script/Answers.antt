@@ -1,9 +1,7 @@
-use Rattle.std.proofs.Common.{◌≡◌, ◌∙◌, Some, ap, arith, length, refl, subst, sym}
+use Rattle.std.proofs.Common.{◌≡◌, ◌∙◌, Some, ap, arith, length, refl, subst, sym, None}
 use Rattle.std.proofs.lemmas.Option.{slice_get_read}
-use Rattle.entry_fns.specs.Lists.{functions_in}
-use Rattle.chain_files.specs.Digests.{digest_of}
-use Rattle.chain_files.specs.Refusing.{first_differing, first_misshapen}
-use Rattle.std.proofs.Common.{None}
+use Rattle.entry_fns.specs.{functions_in}
+use Rattle.chain_files.specs.{digest_of, first_differing, first_misshapen}
 use Rattle.chain_program.proofs.Accepting.{is_booked, not_booked}
 use Rattle.chain_program.proofs.Parting.{all_fit, differing_is, differs_first, differs_shape, unaccepted}
 use Rattle.chain_program.proofs.fitting.fit_script.Goals as goal

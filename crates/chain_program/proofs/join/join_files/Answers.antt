@@ -1,9 +1,8 @@
-use Rattle.entry_fns.specs.Lists.{functions_in}
-use Rattle.chain_files.specs.Covering.{in_order}
-use Rattle.chain_due.specs.Due.{IsJoinDue, IsJoined, WithFitting}
-use Rattle.chain_program.specs.Answers.{Answers, IsAnswer}
-use Rattle.chain_program.specs.PartFiles.{IsJoinedBy}
-use Rattle.chain_program.specs.Turns.{AreTurned, IsPartFile}
+use Rattle.entry_fns.specs.{functions_in}
+use Rattle.chain_files.specs.{in_order}
+use Rattle.chain_due.specs.{IsJoinDue, IsJoined, WithFitting}
+use Rattle.chain_program.specs.{AreTurned, IsAnswer, IsJoinedBy, IsPartFile}
+use Rattle.chain_program.specs.Answers.{Answers}
 use Rattle.chain_program.proofs.Joining.{joinable}
 use Rattle.chain_program.proofs.Refusing.{joined, no_parts, unfitting}
 use Rattle.chain_program.proofs.Staging.{always_ok, if_ok}

@@ -1,5 +1,5 @@
 use Rattle.std.proofs.Common.{◌∙◌, ◌++◌, ℕ, List, ap, ap₂, append_assoc, codes, decimal, sym}
-use Rattle.rdf_values.specs.RefusalLines.{line}
+use Rattle.rdf_values.specs.{line}
 use Rattle.chain_program.proofs.lines.refused_file.Goals as goal
 
 pub returns : goal.returns

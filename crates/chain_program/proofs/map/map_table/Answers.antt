@@ -1,12 +1,10 @@
 use Rattle.std.proofs.Common.{◌∙◌, ◌⊎◌, ◌≡◌, [], ◌∷◌, ap, subst, sym}
-use Rattle.entry_fns.specs.Lists.{functions_in}
-use Rattle.input_files.specs.Due.{due_of}
-use Rattle.chain_files.specs.Digests.{digest_of}
-use Rattle.chain_files.specs.Parts.{IsPart}
-use Rattle.chain_due.specs.Due.{IsMapDue, IsText}
+use Rattle.entry_fns.specs.{functions_in}
+use Rattle.input_files.specs.{due_of}
+use Rattle.chain_files.specs.{digest_of, IsPart}
+use Rattle.chain_due.specs.{IsMapDue, IsText}
 use Rattle.chain_due.specs.declared.status.ChainStatus.TheVariants.{Done, TooLong}
-use Rattle.chain_program.specs.Answers.{IsAnswer}
-use Rattle.chain_program.specs.Turns.{AreTurned, IsTableFile}
+use Rattle.chain_program.specs.{AreTurned, IsAnswer, IsTableFile}
 use Rattle.chain_program.specs.declared.answer.Answer.{Answer}
 use Rattle.chain_program.proofs.Mapping.{map_due, mapped, mapped_is_part}
 use Rattle.chain_program.proofs.Staging.{always_ok, if_ok}

@@ -1,6 +1,6 @@
 use Rattle.std.proofs.Common.{◌∙◌, refl, sym}
-use Rattle.entry_fns.specs.Lists.{functions_in}
-use Rattle.table_csv.specs.ColumnsOver.{marked_in}
+use Rattle.entry_fns.specs.{functions_in}
+use Rattle.table_csv.specs.{marked_in}
 use Rattle.chain_program.proofs.Chaining.{columns_equal, next_of}
 use Rattle.chain_program.proofs.other_tables.next_table.Goals as goal
 

@@ -1,11 +1,10 @@
 use Rattle.std.proofs.Common.{◌≡◌, ◌+◌, ◌∙◌, List, Some, ap, arith, drop, length, refl, subst, sym}
 use Rattle.std.proofs.lemmas.Option.{slice_get_read}
-use Rattle.entry_fns.specs.Lists.{functions_in}
-use Rattle.input_files.specs.Reading.{HoldsTheTable}
-use Rattle.shard_lines.specs.declared.pass_shape.PassShape.{PassShape}
-use Rattle.chain_files.specs.Joining.{joined_loops}
-use Rattle.chain_files.specs.declared.part_loop.PartLoop.{PartLoop}
-use Rattle.chain_program.specs.Turns.{AreTurned, HoldsTable, IsTableFile}
+use Rattle.entry_fns.specs.{functions_in}
+use Rattle.input_files.specs.{HoldsTheTable}
+use Rattle.shard_lines.specs.{PassShape}
+use Rattle.chain_files.specs.{joined_loops, PartLoop}
+use Rattle.chain_program.specs.{AreTurned, HoldsTable, IsTableFile}
 use Rattle.chain_program.proofs.Chaining.{one_more, run_stops}
 use Rattle.chain_program.proofs.Staging.{from_told}
 use Rattle.chain_program.proofs.Turning.{left_from, turned_more}

@@ -1,7 +1,6 @@
 use Rattle.std.proofs.Common.{◌≡◌, ◌≤◌, ℕ, List, drop, length}
-use Rattle.entry_fns.specs.Lists.{functions_in}
-use Rattle.chain_program.specs.TableFiles.{AreRun}
-use Rattle.chain_program.specs.Turns.{AreTurned, IsTableFile}
+use Rattle.entry_fns.specs.{functions_in}
+use Rattle.chain_program.specs.{AreRun, AreTurned, IsTableFile}
 use Rattle.chain_program.proofs.other_tables.other_tables.Given as goal
 
 abbrev pub invariant-loop-i : goal.invariant-loop-i

@@ -1,6 +1,5 @@
 use Rattle.std.proofs.Common.{◌≡◌, ◌≤◌, ℕ, List, drop, length}
-use Rattle.chain_program.specs.PartFiles.{AreRead}
-use Rattle.chain_program.specs.Turns.{AreTurned, IsPartFile}
+use Rattle.chain_program.specs.{AreRead, AreTurned, IsPartFile}
 use Rattle.chain_program.proofs.parts.read_parts.Given as goal
 
 abbrev pub invariant-loop-i : goal.invariant-loop-i

@@ -1,9 +1,8 @@
 use Rattle.std.proofs.Common.{[], ◌∷◌}
-use Rattle.entry_fns.specs.Lists.{functions_in}
-use Rattle.chain_due.specs.Due.{IsEachPrinted, IsPrintDue}
-use Rattle.chain_program.specs.Answers.{Answers, IsAnswer}
-use Rattle.chain_program.specs.PartFiles.{IsPrintedBy}
-use Rattle.chain_program.specs.Turns.{AreTurned, IsPartFile}
+use Rattle.entry_fns.specs.{functions_in}
+use Rattle.chain_due.specs.{IsEachPrinted, IsPrintDue}
+use Rattle.chain_program.specs.{AreTurned, IsAnswer, IsPartFile, IsPrintedBy}
+use Rattle.chain_program.specs.Answers.{Answers}
 use Rattle.chain_program.proofs.Joining.{only_one, printable}
 use Rattle.chain_program.proofs.Refusing.{printed, unfitting}
 use Rattle.chain_program.proofs.Staging.{always_ok, if_ok}

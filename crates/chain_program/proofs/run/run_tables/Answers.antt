@@ -1,7 +1,7 @@
 use Rattle.std.proofs.Common.{◌∙◌, Some, ap, sym}
-use Rattle.entry_fns.specs.Lists.{functions_in}
-use Rattle.input_files.specs.Reading.{HoldsTheTable}
-use Rattle.chain_program.specs.Turns.{HoldsTable, IsTableFile}
+use Rattle.entry_fns.specs.{functions_in}
+use Rattle.input_files.specs.{HoldsTheTable}
+use Rattle.chain_program.specs.{HoldsTable, IsTableFile}
 use Rattle.chain_program.proofs.Chaining.{graph_fits, run_answers, run_begins, run_refused}
 use Rattle.chain_program.proofs.Staging.{from_told}
 use Rattle.chain_program.proofs.Turning.{first_alone, first_and_more}

@@ -1,7 +1,6 @@
 use Rattle.std.proofs.Common.{◌≡◌, ◌++◌, true, drop}
 use Rattle.std.specs.List.{list_all}
-use Rattle.rdf_values.specs.Names.{is_name}
-use Rattle.rdf_values.specs.declared.column.Column.{Column}
+use Rattle.rdf_values.specs.{Column, is_name}
 use Rattle.chain_program.proofs.table_columns.copied_columns.Given as goal
 
 abbrev pub invariant-loop-column : goal.invariant-loop-column

@@ -1,4 +1,4 @@
-use Rattle.entry_fns.specs.Lists.{functions_in}
+use Rattle.entry_fns.specs.{functions_in}
 use Rattle.chain_program.proofs.Writing.{due_written, never_changed, never_memory, never_write, part_written, read_line_written, unread_of, words_written}
 use Rattle.chain_program.proofs.top.chain_top.Goals as goal
 

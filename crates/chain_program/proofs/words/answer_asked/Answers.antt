@@ -1,8 +1,7 @@
 use Rattle.std.proofs.lemmas.Result.{on_ok_weaker}
-use Rattle.entry_fns.specs.Lists.{functions_in}
-use Rattle.chain_due.specs.Due.{IsDueToCommand}
-use Rattle.chain_program.specs.Answers.{IsAnswer}
-use Rattle.chain_program.specs.Scripts.{IsDueToText}
+use Rattle.entry_fns.specs.{functions_in}
+use Rattle.chain_due.specs.{IsDueToCommand}
+use Rattle.chain_program.specs.{IsAnswer, IsDueToText}
 use Rattle.chain_program.proofs.Commanding.{command_answers, command_refused, command_turns}
 use Rattle.chain_program.proofs.Staging.{if_ok}
 use Rattle.chain_program.proofs.words.answer_asked.Goals as goal

@@ -1,10 +1,8 @@
 use Rattle.std.proofs.Common.{Ok, ap, arith}
 use Rattle.std.proofs.lemmas.List.{length-map}
-use Rattle.graph_numbers.specs.Graphs.{booked_statements}
-use Rattle.graph_numbers.specs.Results.{result_number}
-use Rattle.rdf_model.specs.Loops.{Access, accesses}
-use Rattle.rdf_model.specs.Transcript.{Printed}
-use Rattle.chain_text.specs.ChainPrints.{chain_text}
+use Rattle.graph_numbers.specs.{booked_statements, result_number}
+use Rattle.rdf_model.specs.{Access, accesses, Printed}
+use Rattle.chain_text.specs.{chain_text}
 use Rattle.chain_text.proofs.Printing.{all_written, begin_written, ends_there, goes_on}
 use Rattle.merged_text.proofs.Printing.{print_at}
 use Rattle.chain_text.proofs.prints.chain_text.Goals as goal

@@ -1,6 +1,6 @@
 use Rattle.std.proofs.Common.{◌≡◌, length}
-use Rattle.graph_numbers.specs.Graphs.{graph_prints}
-use Rattle.chain_text.specs.ChainPrints.{chain_text}
+use Rattle.graph_numbers.specs.{graph_prints}
+use Rattle.chain_text.specs.{chain_text}
 use Rattle.chain_text.proofs.Printing.{IsWritten}
 use Rattle.chain_text.proofs.prints.chain_text.Given as goal
 

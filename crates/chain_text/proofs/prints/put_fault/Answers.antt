@@ -1,6 +1,6 @@
 use Rattle.std.proofs.Common.{◌++◌, ◌∙◌, ap, decimal}
-use Rattle.lemmas.proofs.Answers.{on_ok}
-use Rattle.result_text.specs.FilledLines.{passes_at}
+use Rattle.lemmas.proofs.{on_ok}
+use Rattle.result_text.specs.{passes_at}
 use Rattle.chain_text.proofs.FaultLines.{put_behind}
 use Rattle.chain_text.proofs.prints.put_fault.Goals as goal
 

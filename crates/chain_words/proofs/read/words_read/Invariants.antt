@@ -1,5 +1,5 @@
 use Rattle.std.proofs.Common.{◌≡◌, drop}
-use Rattle.chain_words.specs.Reading.{no_words, words_read}
+use Rattle.chain_words.specs.{no_words, words_read}
 use Rattle.chain_words.proofs.read.words_read.Given as goal
 
 abbrev pub invariant-loop-i : goal.invariant-loop-i

@@ -1,9 +1,7 @@
-use Rattle.std.proofs.Common.{◌∙◌, length, refl, sym, subst}
-use Rattle.std.specs.Prelude.{OnErr}
+use Rattle.std.proofs.Common.{◌∙◌, length, refl, sym, subst, OnErr}
 use Rattle.std.proofs.lemmas.Option.{same_Some, slice_get_read}
-use Rattle.actions.specs.Accumulators.{Accumulator}
-use Rattle.cluster_tally.specs.Blocks.{CanTakeIn}
-use Rattle.actions.specs.Holding.{IsTake}
+use Rattle.actions.specs.{Accumulator, IsTake}
+use Rattle.cluster_tally.specs.{CanTakeIn}
 use Rattle.cluster_tally.proofs.BlockFeeds.{took}
 use Rattle.cluster_tally.proofs.tally.feed_acc_batch.Goals as goal
 

@@ -1,8 +1,8 @@
 use Rattle.std.proofs.Common.{◌∙◌, length, Some, refl, sym, ap, subst}
 use Rattle.std.proofs.lemmas.List.{set-get_or}
 use Rattle.std.proofs.lemmas.Option.{same_Some, slice_get_read}
-use Rattle.actions.specs.Accumulators.{Accumulator}
-use Rattle.cluster_tally.specs.Blocks.{TakesIn}
+use Rattle.actions.specs.{Accumulator}
+use Rattle.cluster_tally.specs.{TakesIn}
 use Rattle.cluster_tally.proofs.tally.feed_watched_batch.Goals as goal
 
 pub feed_batch-requires : goal.feed_batch-requires

@@ -4,7 +4,7 @@ use mir.Syntax.{w64}
 use native.Mathlib.Nat.{add-mul}
 use Rattle.std.proofs.Math.Facts.{to_z-of_z}
 use Rattle.std.proofs.lemmas.List.{take_all}
-use Rattle.columns.specs.Packings.{low_bytes, packed_by}
+use Rattle.columns.specs.{low_bytes, packed_by}
 use Rattle.columns.proofs.BlockSteps.{pack_step, words_step}
 use Rattle.columns.proofs.LowBytes.{first_bytes, taken_size}
 use Rattle.columns.proofs.bytes.push_each.Goals as goal

@@ -1,7 +1,7 @@
 use Rattle.std.proofs.Common.{◌≡◌, ◌≤◌, ◌+◌, ◌*◌, ◌++◌, All, length, take, vec_capacity, vec_len}
 use Rattle.std.specs.Int.RustNames.{FitsSigned}
 use mir.Syntax.{w64}
-use Rattle.columns.specs.Packings.{packed_by}
+use Rattle.columns.specs.{packed_by}
 use Rattle.columns.proofs.bytes.push_each.Given as goal
 
 abbrev pub invariant-loop-byte : goal.invariant-loop-byte

@@ -1,5 +1,5 @@
 use Rattle.std.proofs.Common.{◌≡◌, length, take}
-use Rattle.columns.specs.Packings.{values_in}
+use Rattle.columns.specs.{values_in}
 use Rattle.columns.proofs.bytes.read_each.Given as goal
 
 abbrev pub invariant-loop-place : goal.invariant-loop-place

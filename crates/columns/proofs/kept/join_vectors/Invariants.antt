@@ -1,5 +1,5 @@
 use Rattle.std.proofs.Common.{◌≡◌, ◌++◌}
-use Rattle.columns.specs.Wholes.{joined}
+use Rattle.columns.specs.{joined}
 use Rattle.columns.proofs.kept.join_vectors.Given as goal
 
 abbrev pub invariant-loop-more : goal.invariant-loop-more

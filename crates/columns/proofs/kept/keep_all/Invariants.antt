@@ -1,8 +1,7 @@
 use Rattle.std.proofs.Common.{◌≡◌, ◌++◌, map}
 use Rattle.std.specs.List.{AllByRecursion}
-use Rattle.rdf_values.specs.Cuts.{cut}
-use Rattle.columns.specs.Wholes.{whole}
-use Rattle.columns.specs.KeptColumns.{IsByCluster, cells_of}
+use Rattle.rdf_values.specs.{cut}
+use Rattle.columns.specs.{cells_of, IsByCluster, whole}
 use Rattle.columns.proofs.kept.keep_all.Given as goal
 
 abbrev pub invariant-loop-column : goal.invariant-loop-column

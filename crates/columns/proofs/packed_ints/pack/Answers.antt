@@ -1,9 +1,8 @@
 use Rattle.std.proofs.Common.{◌≤◌, ◌∙◌, arith, length, take, drop, ◌-◌}
 use Rattle.std.proofs.lemmas.List.{length-map, take_all}
-use Rattle.rdf_values.specs.Cuts.{cut}
+use Rattle.rdf_values.specs.{cut}
 use Rattle.rdf_values.proofs.Leading.{cuts_lead}
-use Rattle.columns.specs.Wholes.{joined}
-use Rattle.columns.specs.Blocks.{cluster_values}
+use Rattle.columns.specs.{cluster_values, joined}
 use Rattle.columns.proofs.BlockSteps.{block_more, blocks_back, blocks_hold}
 use Rattle.columns.proofs.Joining.{span_within, take_next_of, values_of_cluster}
 use Rattle.columns.proofs.packed_ints.pack.Goals as goal

@@ -1,7 +1,6 @@
 use Rattle.std.proofs.Common.{take}
-use Rattle.rdf_values.specs.Cuts.{cut}
-use Rattle.columns.specs.Wholes.{joined}
-use Rattle.columns.specs.Blocks.{AreBlocks, cluster_values}
+use Rattle.rdf_values.specs.{cut}
+use Rattle.columns.specs.{AreBlocks, cluster_values, joined}
 use Rattle.columns.proofs.packed_ints.pack.Given as goal
 
 abbrev pub invariant-loop-cluster : goal.invariant-loop-cluster

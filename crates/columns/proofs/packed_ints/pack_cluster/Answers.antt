@@ -2,7 +2,7 @@ use Rattle.std.proofs.Common.{◌≡◌, ◌++◌, length, refl, rules}
 use Rattle.std.specs.Int.RustNames.{FitsSigned}
 use mir.Syntax.{w64}
 use Rattle.std.proofs.Math.Facts.{to_z-of_z}
-use Rattle.columns.specs.Packings.{packed_of}
+use Rattle.columns.specs.{packed_of}
 use Rattle.columns.proofs.BlockSteps.{block_made}
 use Rattle.columns.proofs.Unpacking.{packing_width}
 use Rattle.columns.proofs.packed_ints.pack_cluster.Goals as goal

@@ -1,5 +1,5 @@
 use Rattle.std.proofs.Common.{◌≡◌, drop, length, map}
-use Rattle.columns.specs.Wholes.{whole}
+use Rattle.columns.specs.{whole}
 use Rattle.columns.proofs.JoiningPieces.{partly_joined}
 use Rattle.columns.proofs.table_pieces.append_columns.Given as goal
 

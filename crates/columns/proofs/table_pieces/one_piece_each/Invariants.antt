@@ -1,5 +1,5 @@
 use Rattle.std.proofs.Common.{◌≡◌, ◌++◌, map}
-use Rattle.columns.specs.Wholes.{whole}
+use Rattle.columns.specs.{whole}
 use Rattle.columns.proofs.table_pieces.one_piece_each.Given as goal
 
 abbrev pub invariant-loop-column : goal.invariant-loop-column

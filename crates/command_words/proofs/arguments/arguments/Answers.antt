@@ -2,7 +2,7 @@ use Rattle.std.proofs.Common.{◌≡◌, ◌∙◌, ap, ap₂, codes, true}
 use Rattle.std.proofs.lemmas.Result.{IfOk-weaker}
 use Rattle.clap.specs.Words.{app_of, new_app, with_rule}
 use Rattle.clap.specs.Simple.{app_of_fields, on_top}
-use Rattle.command_words.specs.Arguments.{rdf_command}
+use Rattle.command_words.specs.{rdf_command}
 use Rattle.command_words.proofs.arguments.arguments.Goals as goal
 
 pub returns : goal.returns

@@ -1,4 +1,4 @@
-use Rattle.engine_tests.specs.Scopes.{AreBefore}
+use Rattle.engine_tests.specs.{AreBefore}
 use Rattle.engine_tests.proofs.cells.scope_of.Given as goal
 
 abbrev pub invariant-loop-place : goal.invariant-loop-place

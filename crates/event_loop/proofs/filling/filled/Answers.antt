@@ -1,12 +1,10 @@
 use Rattle.std.proofs.Common.{◌≡◌, List, length, map, sym, ap, ◌∙◌, subst, arith}
 use Rattle.std.proofs.lemmas.List.{with_items_is}
-use Rattle.rdf_values.specs.Cuts.{below}
-use Rattle.loop_pieces.specs.LoopPieces.{StandsFor}
-use Rattle.loop_pieces.specs.declared.loop_piece.LoopPiece.{LoopPiece}
-use Rattle.merge_core.specs.Pieces.{Stand}
-use Rattle.slot_words.specs.Trails.{HaveSameBodies}
-use Rattle.event_loop.specs.Filling.{ArePieces}
-use Rattle.event_loop.specs.Gathered.{finished_by}
+use Rattle.rdf_values.specs.{below}
+use Rattle.loop_pieces.specs.{LoopPiece, StandsFor}
+use Rattle.merge_core.specs.{Stand}
+use Rattle.slot_words.specs.{HaveSameBodies}
+use Rattle.event_loop.specs.{ArePieces, finished_by}
 use Rattle.event_loop.proofs.Shares.{as_many_pieces, stand}
 use Rattle.event_loop.proofs.filling.filled.Goals as goal
 

@@ -1,9 +1,7 @@
 use Rattle.std.proofs.Common.{map, subst, sym}
 use Rattle.std.proofs.lemmas.Result.{IfOk-weaker}
-use Rattle.slot_words.specs.Chains.{HavePartialsOver, noted_sets}
-use Rattle.event_loop.specs.Ends.{AreNotedPartials}
-use Rattle.event_loop.specs.Filling.{dones_of, orders_of}
-use Rattle.event_loop.specs.Gathered.{finished_by}
+use Rattle.slot_words.specs.{HavePartialsOver, noted_sets}
+use Rattle.event_loop.specs.{AreNotedPartials, dones_of, finished_by, orders_of}
 use Rattle.event_loop.proofs.Shares.{have_all, none_watched, noted_partials, unbooked, with_book}
 use Rattle.event_loop.proofs.filling.lines_in.Goals as goal
 

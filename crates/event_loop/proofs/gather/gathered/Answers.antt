@@ -1,10 +1,10 @@
 use Rattle.std.proofs.Common.{◌≡◌, ◌<◌, length, map, min, sym, ap, ◌∙◌, subst, arith}
 use Rattle.std.specs.List.{All}
 use Rattle.std.proofs.lemmas.List.Elements.{All-map}
-use Rattle.rdf_values.specs.Draws.{DrawnBy}
-use Rattle.rdf_values.specs.Machine.{least_fault}
-use Rattle.slot_words.specs.Seats.{IsOf, IsLeast, IsPassed, SeatSeen}
-use Rattle.event_loop.specs.Gathered.{AreDone, HasMemory, end_faults, seat_in}
+use Rattle.rdf_values.specs.{DrawnBy, least_fault}
+use Rattle.slot_words.specs.{IsLeast, IsPassed, SeatSeen}
+use Rattle.slot_words.specs.Seats.{IsOf}
+use Rattle.event_loop.specs.{AreDone, end_faults, HasMemory, seat_in}
 use Rattle.event_loop.proofs.Ended.{drawn_in, IsKept, least_is_first, all_over, are_done, as_many, left_none}
 use Rattle.event_loop.proofs.gather.gathered.Goals as goal
 

@@ -1,6 +1,5 @@
-use Rattle.std.proofs.Common.{◌≡◌, ◌++◌, map, vec_len}
-use Rattle.std.specs.Prelude.{flat_map}
-use Rattle.event_loop.specs.Gathered.{done_in, seat_in}
+use Rattle.std.proofs.Common.{◌≡◌, ◌++◌, map, vec_len, flat_map}
+use Rattle.event_loop.specs.{done_in, seat_in}
 use Rattle.event_loop.proofs.gather.taken_apart.Given as goal
 
 abbrev pub invariant-loop-left : goal.invariant-loop-left

@@ -1,7 +1,7 @@
 use Rattle.std.proofs.Common.{◌≡◌, ◌≤◌, length, subst}
-use Rattle.rdf_values.specs.Cuts.{cut}
+use Rattle.rdf_values.specs.{cut}
 use Rattle.columns.specs.CutsView.{CutsView}
-use Rattle.loop_keys.specs.Jobs.{job_of}
+use Rattle.loop_keys.specs.{job_of}
 use Rattle.event_loop.proofs.Whole.{few_clusters}
 use Rattle.event_loop.proofs.one_loop.cluster_count.Goals as goal
 

@@ -1,7 +1,6 @@
 use Rattle.std.proofs.Common.{ℕ, sym, ◌∙◌, subst, arith}
-use Rattle.loop_keys.specs.Jobs.{job_of}
-use Rattle.event_loop.specs.Jobs.{job_facts}
-use Rattle.event_loop.specs.Seated.{AreBlank}
+use Rattle.loop_keys.specs.{job_of}
+use Rattle.event_loop.specs.{AreBlank, job_facts}
 use Rattle.event_loop.proofs.Whole.{facts_of, has_room, can_fill, first_is, is_filled}
 use Rattle.event_loop.proofs.one_loop.run_loop.Goals as goal
 use Rattle.slot_words.proofs.SeatEnds.{seats_many, seats_ready}

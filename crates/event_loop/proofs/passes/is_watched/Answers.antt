@@ -1,4 +1,4 @@
-use Rattle.loop_keys.specs.Jobs.{job_of}
+use Rattle.loop_keys.specs.{job_of}
 use Rattle.std.proofs.Common.{sym}
 use Rattle.event_loop.proofs.Adding.{flag_is, not_nominal, result_within}
 use Rattle.event_loop.proofs.passes.is_watched.Goals as goal

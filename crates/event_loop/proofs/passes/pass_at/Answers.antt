@@ -1,5 +1,5 @@
 use Rattle.std.proofs.Common.{arith}
-use Rattle.loop_keys.specs.Jobs.{job_of}
+use Rattle.loop_keys.specs.{job_of}
 use Rattle.event_loop.proofs.Adding.{counted, numbered_at, read}
 use Rattle.event_loop.proofs.passes.pass_at.Goals as goal
 

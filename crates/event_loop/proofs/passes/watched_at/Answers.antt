@@ -1,6 +1,6 @@
 use Rattle.std.proofs.Common.{◌+◌, ◌∙◌, ap, sym}
-use Rattle.loop_keys.specs.Jobs.{job_of}
-use Rattle.event_loop.specs.Passes.{watched_before}
+use Rattle.loop_keys.specs.{job_of}
+use Rattle.event_loop.specs.{watched_before}
 use Rattle.event_loop.proofs.Adding.{its_pass, none_more, of_action, of_report, one_more, result_within}
 use Rattle.event_loop.proofs.passes.watched_at.Goals as goal
 

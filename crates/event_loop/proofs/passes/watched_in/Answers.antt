@@ -1,8 +1,8 @@
 use Rattle.std.proofs.Common.{◌≤◌, ◌∙◌, ◌+◌, ap, arith, length, refl}
 use Rattle.std.proofs.lemmas.List.{take_all}
-use Rattle.rdf_values.specs.Path.{history}
-use Rattle.loop_keys.specs.Jobs.{job_of, passes_in}
-use Rattle.loop_pieces.specs.Trails.{watched_places}
+use Rattle.rdf_values.specs.{history}
+use Rattle.loop_keys.specs.{job_of, passes_in}
+use Rattle.loop_pieces.specs.{watched_places}
 use Rattle.event_loop.proofs.Adding.{watched_few}
 use Rattle.event_loop.proofs.passes.watched_in.Goals as goal
 

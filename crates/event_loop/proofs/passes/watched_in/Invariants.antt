@@ -1,6 +1,6 @@
 use Rattle.std.proofs.Common.{◌≡◌, length}
-use Rattle.loop_keys.specs.Jobs.{job_of, passes_in}
-use Rattle.event_loop.specs.Passes.{watched_before}
+use Rattle.loop_keys.specs.{job_of, passes_in}
+use Rattle.event_loop.specs.{watched_before}
 use Rattle.event_loop.proofs.passes.watched_in.Given as goal
 
 abbrev pub invariant-loop-number : goal.invariant-loop-number

@@ -1,9 +1,8 @@
 use Rattle.std.proofs.Common.{◌≡◌, ◌≤◌, List, Some, length, map, take}
-use Rattle.rdf_values.specs.Bookings.{Pass as NamedPass}
-use Rattle.rdf_model.specs.LoopFacts.{kinds_in}
-use Rattle.graph_numbers.specs.Graphs.{booked_statements}
-use Rattle.graph_numbers.specs.Results.{pass_at}
-use Rattle.loop_pieces.specs.Trails.{watched_places}
+use Rattle.rdf_values.specs.{Pass as NamedPass}
+use Rattle.rdf_model.specs.{kinds_in}
+use Rattle.graph_numbers.specs.{booked_statements, pass_at}
+use Rattle.loop_pieces.specs.{watched_places}
 use Rattle.event_loop.proofs.place.counts_of.Given as goal
 
 abbrev pub invariant-loop-pass : goal.invariant-loop-pass

@@ -1,5 +1,5 @@
 use Rattle.std.proofs.Common.{◌≤◌, ◌*◌, arith, sym}
-use Rattle.lemmas.proofs.Parts.{take_no_longer}
+use Rattle.lemmas.proofs.{take_no_longer}
 use native.Mathlib.Nat.{mul-le-mul_left}
 use Rattle.event_loop.proofs.Found.{loop_few, none_found, pass_of, place_is, taken_at}
 use Rattle.event_loop.proofs.place.place_in.Goals as goal

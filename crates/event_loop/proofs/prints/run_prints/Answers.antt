@@ -1,8 +1,7 @@
 use Rattle.std.proofs.Common.{◌<◌, ◌≤◌, ◌+◌, ℕ, Ok, true, false, length, arith, ap, subst, ◌∙◌}
-use Rattle.rdf_values.specs.Path.{history}
-use Rattle.rdf_model.specs.Loops.{accesses}
-use Rattle.event_loop.specs.Sessions.{SessionView, session_of}
-use Rattle.event_loop.specs.Transcripts.{IsTranscript}
+use Rattle.rdf_values.specs.{history}
+use Rattle.rdf_model.specs.{accesses}
+use Rattle.event_loop.specs.{IsTranscript, session_of, SessionView}
 use Rattle.event_loop.proofs.Courses.{done, ended, faulted, further, parts_further, prints_are}
 use Rattle.event_loop.proofs.prints.run_prints.Goals as goal
 

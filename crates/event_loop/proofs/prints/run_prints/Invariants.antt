@@ -1,5 +1,5 @@
 use Rattle.std.proofs.Common.{◌≡◌, None}
-use Rattle.event_loop.specs.Sessions.{HasSameParts, IsSession, session_of}
+use Rattle.event_loop.specs.{HasSameParts, IsSession, session_of}
 use Rattle.event_loop.proofs.Courses.{IsSoFar}
 use Rattle.event_loop.proofs.prints.run_prints.Given as goal
 

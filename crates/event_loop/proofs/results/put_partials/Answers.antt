@@ -1,10 +1,8 @@
-use Rattle.std.proofs.Common.{sym, ap, ◌∙◌}
-use Rattle.std.specs.Prelude.{option_map, slice_get}
-use Rattle.lemmas.proofs.Answers.{on_ok}
-use Rattle.rdf_values.specs.Bookings.{is_watched}
-use Rattle.graph_numbers.specs.Graphs.{GraphView, booked_statements, graph_results}
-use Rattle.graph_numbers.specs.Results.{ResultAt}
-use Rattle.event_loop.specs.Sessions.{session_of}
+use Rattle.std.proofs.Common.{sym, ap, ◌∙◌, option_map, slice_get}
+use Rattle.lemmas.proofs.{on_ok}
+use Rattle.rdf_values.specs.{is_watched}
+use Rattle.graph_numbers.specs.{booked_statements, graph_results, GraphView, ResultAt}
+use Rattle.event_loop.specs.{session_of}
 use Rattle.event_loop.proofs.SessionLines.{runs_at, unwatched_put, watched_put}
 use Rattle.event_loop.proofs.results.put_partials.Goals as goal
 

@@ -1,9 +1,8 @@
-use Rattle.std.proofs.Common.{◌++◌, List, ℕ, sym, ap, subst, ◌∙◌}
-use Rattle.std.specs.Prelude.{slice_get}
-use Rattle.lemmas.proofs.Answers.{on_ok}
-use Rattle.graph_numbers.specs.Graphs.{GraphView, graph_results}
-use Rattle.result_text.specs.FilledLines.{FitsResult, filled_text}
-use Rattle.event_loop.specs.Sessions.{session_of}
+use Rattle.std.proofs.Common.{◌++◌, List, ℕ, sym, ap, subst, ◌∙◌, slice_get}
+use Rattle.lemmas.proofs.{on_ok}
+use Rattle.graph_numbers.specs.{graph_results, GraphView}
+use Rattle.result_text.specs.{filled_text, FitsResult}
+use Rattle.event_loop.specs.{session_of}
 use Rattle.event_loop.proofs.SessionLines.{fits, never_unfilled, text_is}
 use Rattle.event_loop.proofs.results.put_passes.Goals as goal
 

@@ -1,9 +1,9 @@
 use Rattle.std.proofs.Common.{[], ◌∷◌, length, length-append, ap, refl, arith, subst, sym}
 use Rattle.std.specs.List.{All}
-use Rattle.event_loop.specs.Seated.{AreBlank}
+use Rattle.event_loop.specs.{AreBlank}
 use Rattle.event_loop.proofs.Fresh.{AreSeated, none_popped, next_seated, none_seated}
 use Rattle.event_loop.proofs.seating.seated.Goals as goal
-use Rattle.slot_words.specs.SeatEnds.{IsReady}
+use Rattle.slot_words.specs.{IsReady}
 
 pub loop-seat-init : goal.loop-seat-init
 loop-seat-init c =

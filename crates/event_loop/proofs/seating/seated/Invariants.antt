@@ -1,10 +1,10 @@
 use Rattle.std.proofs.Common.{◌≡◌, ◌+◌, length, vec_len}
 use Rattle.std.specs.List.{All}
-use Rattle.event_loop.specs.Seated.{AreBlank}
+use Rattle.event_loop.specs.{AreBlank}
 use Rattle.event_loop.specs.declared.workers.Shared.{Shared}
 use Rattle.event_loop.proofs.Fresh.{AreSeated}
 use Rattle.event_loop.proofs.seating.seated.Given as goal
-use Rattle.slot_words.specs.SeatEnds.{IsReady}
+use Rattle.slot_words.specs.{IsReady}
 
 abbrev pub invariant-loop-seat : goal.invariant-loop-seat
 invariant-loop-seat l = record {

@@ -1,8 +1,8 @@
 use Rattle.std.proofs.Common.{◌++◌, ◌∷◌, [], ◌∙◌, subst, sym, take}
-use Rattle.rdf_model.specs.LoopFacts.{kinds_in}
-use Rattle.loop_keys.specs.Jobs.{job_of, passes_in}
-use Rattle.cluster_tally.specs.Feedings.{IsFresh, place_if}
-use Rattle.event_loop.specs.Passes.{places_before}
+use Rattle.rdf_model.specs.{kinds_in}
+use Rattle.loop_keys.specs.{job_of, passes_in}
+use Rattle.cluster_tally.specs.{IsFresh, place_if}
+use Rattle.event_loop.specs.{places_before}
 use Rattle.event_loop.proofs.Adding.{added, can_watch, edges, its_pass, kept, of_action, of_report, result_within}
 use Rattle.event_loop.proofs.tallies.add_pass.Goals as goal
 

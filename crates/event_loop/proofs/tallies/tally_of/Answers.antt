@@ -1,6 +1,6 @@
 use Rattle.std.proofs.Common.{◌∙◌, ap, replicate}
-use Rattle.loop_pieces.specs.Flows.{nothing}
-use Rattle.loop_keys.specs.Jobs.{job_of}
+use Rattle.loop_pieces.specs.{nothing}
+use Rattle.loop_keys.specs.{job_of}
 use Rattle.event_loop.proofs.Adding.{filters_same}
 use Rattle.event_loop.proofs.tallies.tally_of.Goals as goal
 

@@ -1,9 +1,8 @@
 use Rattle.std.proofs.Common.{◌≡◌, length, replicate}
-use Rattle.rdf_values.specs.Bookings.{named_before}
-use Rattle.rdf_values.specs.Path.{history}
-use Rattle.loop_pieces.specs.Flows.{nothing}
-use Rattle.loop_keys.specs.Jobs.{job_of, passes_in}
-use Rattle.event_loop.specs.Passes.{IsOfPasses}
+use Rattle.rdf_values.specs.{history, named_before}
+use Rattle.loop_pieces.specs.{nothing}
+use Rattle.loop_keys.specs.{job_of, passes_in}
+use Rattle.event_loop.specs.{IsOfPasses}
 use Rattle.event_loop.proofs.tallies.tally_of.Given as goal
 
 abbrev pub invariant-loop-number : goal.invariant-loop-number

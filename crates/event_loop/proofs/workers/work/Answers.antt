@@ -1,8 +1,8 @@
 use Rattle.std.proofs.Common.{◌≡◌, ◌+◌, ◌∷◌, ◌++◌, List, [], ℕ, Ok, length, sym, ap, ◌∙◌, subst, length-append}
-use Rattle.slot_words.specs.Seats.{IsOf, SeatSeen}
-use Rattle.loop_keys.specs.Jobs.{job_of}
-use Rattle.event_loop.specs.Jobs.{job_facts}
-use Rattle.event_loop.specs.Workers.{AreSound, HasNoted}
+use Rattle.slot_words.specs.{SeatSeen}
+use Rattle.slot_words.specs.Seats.{IsOf}
+use Rattle.loop_keys.specs.{job_of}
+use Rattle.event_loop.specs.{AreSound, HasNoted, job_facts}
 use Rattle.event_loop.proofs.Growing.{sound_more}
 use Rattle.event_loop.proofs.Rising.{below_drawn}
 use Rattle.event_loop.proofs.workers.work.Goals as goal

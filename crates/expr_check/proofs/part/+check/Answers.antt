@@ -1,7 +1,5 @@
 use Rattle.std.proofs.lemmas.Result.{err_from_is_err_and}
-use Rattle.rdf_values.specs.ExprTree.{trees_of}
-use Rattle.rdf_values.specs.Kinds.{column_kind}
-use Rattle.rdf_values.specs.Numbered.{kinds_in}
+use Rattle.rdf_values.specs.{column_kind, kinds_in, trees_of}
 use Rattle.expr_check.proofs.Calls.{call_miscounted, call_refused, call_mistyped, call_typed}
 use Rattle.expr_check.proofs.part.+check.Goals as goal
 

@@ -1,5 +1,5 @@
 use Rattle.std.proofs.Common.{◌≡◌, take}
-use Rattle.expr_check.specs.NumKinds.{distinct}
+use Rattle.expr_check.specs.{distinct}
 use Rattle.expr_check.proofs.reads.distinct.Given as goal
 
 abbrev pub invariant-loop-number : goal.invariant-loop-number

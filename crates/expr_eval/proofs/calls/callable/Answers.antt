@@ -1,5 +1,5 @@
 use Rattle.std.proofs.Common.{◌∙◌, subst}
-use Rattle.rdf_values.specs.FunctionNames.{AreFnNames}
+use Rattle.rdf_values.specs.{AreFnNames}
 use Rattle.expr_eval.proofs.CheckedCalls.{can_call}
 use Rattle.expr_eval.proofs.calls.callable.Goals as goal
 

@@ -1,6 +1,6 @@
 use Rattle.std.proofs.Common.{◌≡◌, drop}
-use Rattle.rdf_model.specs.Evaluation.{for_all}
-use Rattle.expr_eval.specs.EvalAnswers.{following}
+use Rattle.rdf_model.specs.{for_all}
+use Rattle.expr_eval.specs.{following}
 use Rattle.expr_eval.proofs.elements.each.Given as goal
 
 abbrev pub invariant-loop-x : goal.invariant-loop-x

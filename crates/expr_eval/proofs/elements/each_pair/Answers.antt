@@ -1,6 +1,6 @@
 use Rattle.std.proofs.Common.{rules, arith, FitsSigned, w64, get_or, pos}
 use Rattle.std.proofs.lemmas.Int.{to_z-of_z}
-use Rattle.rdf_model.specs.Evaluation.{number_operation}
+use Rattle.rdf_model.specs.{number_operation}
 use Rattle.expr_eval.proofs.InOrder.{pairs_stop, pairs_go_on}
 use Rattle.expr_eval.proofs.elements.each_pair.Goals as goal
 

@@ -1,6 +1,6 @@
 use Rattle.std.proofs.Common.{◌≡◌, drop}
-use Rattle.rdf_model.specs.Evaluation.{for_all, pairs, number_operation}
-use Rattle.expr_eval.specs.EvalAnswers.{following}
+use Rattle.rdf_model.specs.{for_all, number_operation, pairs}
+use Rattle.expr_eval.specs.{following}
 use Rattle.expr_eval.proofs.elements.each_pair.Given as goal
 
 abbrev pub invariant-loop-i : goal.invariant-loop-i

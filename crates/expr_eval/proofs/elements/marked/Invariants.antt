@@ -1,5 +1,5 @@
 use Rattle.std.proofs.Common.{◌≡◌, drop, ◌++◌}
-use Rattle.rdf_model.specs.Evaluation.{marked}
+use Rattle.rdf_model.specs.{marked}
 use Rattle.expr_eval.proofs.elements.marked.Given as goal
 
 abbrev pub invariant-loop-i : goal.invariant-loop-i

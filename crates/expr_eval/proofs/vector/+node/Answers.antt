@@ -1,6 +1,6 @@
 use Rattle.std.proofs.Common.{sym}
 use Rattle.expr_eval.proofs.Deciding.{both_sides}
-use Rattle.expr_eval.specs.Operands.{operand_value}
+use Rattle.expr_eval.specs.{operand_value}
 use Rattle.expr_eval.proofs.vector.+node.Goals as goal
 
 pub eval_node-returns-in_ok-right-in-Bin : goal.eval_node-returns-in_ok-right-in-Bin

@@ -1,4 +1,4 @@
-use Rattle.rdf_model.specs.Evaluation.{gives_vect}
+use Rattle.rdf_model.specs.{gives_vect}
 use Rattle.expr_eval.proofs.InOrder.{stops_through, gives_through}
 use Rattle.expr_eval.proofs.vector.each_of.Goals as goal
 

@@ -1,4 +1,4 @@
-use Rattle.entry_fns.specs.Lists.{functions_in}
+use Rattle.entry_fns.specs.{functions_in}
 use Rattle.expr_eval.proofs.KnownColumns.{known_columns}
 use Rattle.expr_eval.proofs.OfItsKind.{value_fits}
 use Rattle.expr_eval.proofs.vector.eval.Goals as goal

@@ -1,6 +1,6 @@
 use Rattle.std.proofs.Common.{◌≡◌, ◌++◌, drop, map, length}
-use Rattle.rdf_model.specs.Evaluation.{argument}
-use Rattle.expr_eval.specs.Operands.{operand_value}
+use Rattle.rdf_model.specs.{argument}
+use Rattle.expr_eval.specs.{operand_value}
 use Rattle.expr_eval.proofs.vector.numbers_of.Given as goal
 
 abbrev pub invariant-loop-arg : goal.invariant-loop-arg

@@ -1,6 +1,5 @@
 use Rattle.std.proofs.Common.{◌∙◌, sym, subst}
-use Rattle.rdf_values.specs.EachColumn.{EachColumn}
-use Rattle.rdf_values.specs.Tree.{NumTree}
+use Rattle.rdf_values.specs.{EachColumn, NumTree}
 use Rattle.expr_eval.proofs.KnownColumns.{known_columns}
 use Rattle.expr_lanes.proofs.able.can_eval_lane.Goals as goal
 

@@ -1,5 +1,5 @@
 use Rattle.std.proofs.Common.{◌≡◌, ◌++◌, take}
-use Rattle.expr_lanes.specs.Marks.{numbers_at}
+use Rattle.expr_lanes.specs.{numbers_at}
 use Rattle.expr_lanes.proofs.arguments.numbers_of.Given as goal
 
 abbrev pub invariant-loop-lane : goal.invariant-loop-lane

@@ -1,8 +1,6 @@
 use Rattle.std.proofs.Common.{sym, ap}
-use Rattle.rdf_model.specs.Evaluation.{Gives}
-use Rattle.expr_lanes.specs.LaneInputs.{is_known}
-use Rattle.expr_lanes.specs.Marks.{lane_outcome}
-use Rattle.expr_lanes.specs.Places.{at_place}
+use Rattle.rdf_model.specs.{Gives}
+use Rattle.expr_lanes.specs.{at_place, is_known, lane_outcome}
 use Rattle.expr_lanes.proofs.Sequence.{alike}
 use Rattle.expr_lanes.proofs.columns.read_column.Goals as goal
 

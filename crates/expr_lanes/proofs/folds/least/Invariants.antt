@@ -1,6 +1,6 @@
 use Rattle.std.proofs.Common.{◌≡◌, ℕ, drop, fold}
 use Rattle.std.specs.Int.{int_min}
-use Rattle.rdf_model.specs.Evaluation.{extreme_element, gives_int}
+use Rattle.rdf_model.specs.{extreme_element, gives_int}
 use Rattle.expr_lanes.proofs.folds.least.Given as goal
 
 abbrev pub invariant-loop-x : goal.invariant-loop-x

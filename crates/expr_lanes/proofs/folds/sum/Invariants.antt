@@ -1,5 +1,5 @@
 use Rattle.std.proofs.Common.{◌≡◌, drop, pos, ℕ}
-use Rattle.rdf_model.specs.Evaluation.{sum_from}
+use Rattle.rdf_model.specs.{sum_from}
 use Rattle.expr_lanes.proofs.folds.sum.Given as goal
 
 abbrev pub invariant-loop-x : goal.invariant-loop-x

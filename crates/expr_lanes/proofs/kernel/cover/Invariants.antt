@@ -1,6 +1,6 @@
 use Rattle.std.proofs.Common.{◌≡◌, ◌<◌, ◌≤◌, ℕ}
-use Rattle.rdf_model.specs.Evaluation.{Gives}
-use Rattle.expr_lanes.specs.Places.{at_place}
+use Rattle.rdf_model.specs.{Gives}
+use Rattle.expr_lanes.specs.{at_place}
 use Rattle.expr_lanes.proofs.kernel.cover.Given as goal
 
 abbrev pub invariant-loop-i : goal.invariant-loop-i

@@ -1,6 +1,6 @@
 use Rattle.std.proofs.Common.{◌≡◌, ℕ, false, take}
-use Rattle.rdf_model.specs.Evaluation.{Gives}
-use Rattle.expr_lanes.specs.Places.{at_place, is_in, EachPlace}
+use Rattle.rdf_model.specs.{Gives}
+use Rattle.expr_lanes.specs.{at_place, EachPlace, is_in}
 use Rattle.expr_lanes.proofs.kernel.cover_listed.Given as goal
 
 abbrev pub invariant-loop-place : goal.invariant-loop-place

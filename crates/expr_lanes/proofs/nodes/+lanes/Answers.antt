@@ -1,13 +1,7 @@
 use Rattle.std.proofs.Common.{rules, arith, ◌≡◌, ◌<◌, ◌∙◌, [], ap, refl, sym, length, None}
-use Rattle.rdf_values.specs.NumExprTree.{num_tree, num_trees}
-use Rattle.rdf_values.specs.Tree.{Bin}
+use Rattle.rdf_values.specs.{Bin, num_tree, num_trees}
 use Rattle.expr_lanes.specs.declared.TheConstants.{MAX_PLACES}
-use Rattle.expr_lanes.specs.Able.{IsAble}
-use Rattle.expr_lanes.specs.Depths.{depth}
-use Rattle.expr_lanes.specs.Folds.{fold_read}
-use Rattle.expr_lanes.specs.Marks.{lane_call}
-use Rattle.expr_lanes.specs.Places.{IsReady, IsSelected}
-use Rattle.expr_lanes.specs.Sides.{with_zero}
+use Rattle.expr_lanes.specs.{depth, fold_read, IsAble, IsReady, IsSelected, lane_call, with_zero}
 use Rattle.expr_lanes.proofs.Gathered.{gathered_more}
 use Rattle.expr_lanes.proofs.Choices.{choice, idle}
 use Rattle.expr_lanes.proofs.Composed.{able_sides, at_hand, called, has_at_hand, operated, same_depth, with_sides}

@@ -1,7 +1,6 @@
 use Rattle.std.proofs.Common.{◌+◌, ◌*◌, max}
-use Rattle.rdf_values.specs.Kinds.{args_count}
-use Rattle.rdf_values.specs.NumExprTree.{num_tree, num_trees}
-use Rattle.expr_lanes.specs.Depths.{depth, depth_of_all}
+use Rattle.rdf_values.specs.{args_count, num_tree, num_trees}
+use Rattle.expr_lanes.specs.{depth, depth_of_all}
 use Rattle.expr_lanes.proofs.Composed.{branch_depth}
 use Rattle.expr_lanes.proofs.nodes.+lanes.Given as goal
 

@@ -1,7 +1,7 @@
 use Rattle.std.proofs.Common.{◌≡◌, ◌+◌, not, take}
 use Rattle.std.specs.List.{filter}
-use Rattle.rdf_model.specs.Evaluation.{is_zero}
-use Rattle.expr_lanes.specs.Places.{at_place}
+use Rattle.rdf_model.specs.{is_zero}
+use Rattle.expr_lanes.specs.{at_place}
 use Rattle.expr_lanes.proofs.parting.part_places.Given as goal
 
 abbrev pub invariant-loop-i : goal.invariant-loop-i

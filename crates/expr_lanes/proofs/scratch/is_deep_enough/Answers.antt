@@ -1,6 +1,6 @@
 use Rattle.std.proofs.Common.{◌∙◌, ◌≤◌, ◌↔◌, IsTrue, subst}
-use Rattle.rdf_values.specs.Tree.{NumTree}
-use Rattle.expr_lanes.specs.Depths.{depth}
+use Rattle.rdf_values.specs.{NumTree}
+use Rattle.expr_lanes.specs.{depth}
 use Rattle.expr_lanes.proofs.scratch.is_deep_enough.Goals as goal
 
 pub returns : goal.returns

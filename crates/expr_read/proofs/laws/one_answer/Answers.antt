@@ -1,5 +1,4 @@
-use Rattle.rdf_values.specs.Grammar.{Reads, ReadsValues}
-use Rattle.rdf_values.specs.Scans.{begin_expr, begin_values}
+use Rattle.rdf_values.specs.{begin_expr, begin_values, Reads, ReadsValues}
 use Rattle.expr_read.proofs.Whole.{whole, whole_values}
 use Rattle.expr_read.proofs.WholeReads.{reads_expr, reads_values}
 use Rattle.expr_read.proofs.Decided.{answered, one_refusal}

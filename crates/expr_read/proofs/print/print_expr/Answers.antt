@@ -1,7 +1,6 @@
 use Rattle.std.proofs.Common.{◌≡◌, List, ℕ, sym, subst, rules, arith}
 use Rattle.std.proofs.lemmas.Grind.{common_steps}
-use Rattle.rdf_values.specs.Scans.{ReadsText}
-use Rattle.rdf_values.specs.Canonical.{text_of}
+use Rattle.rdf_values.specs.{ReadsText, text_of}
 use Rattle.expr_read.proofs.ReadsBack.{reads_back}
 use Rattle.expr_read.proofs.print.print_expr.Goals as goal
 

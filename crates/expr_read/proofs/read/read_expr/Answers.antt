@@ -1,7 +1,6 @@
 use Rattle.std.proofs.lemmas.Result.{err_from_is_err_and}
 use Rattle.expr_read.proofs.Decided.{tokens_refused, text_refused, memory_alone, one_tree}
-use Rattle.rdf_values.specs.Grammar.{Reads}
-use Rattle.rdf_values.specs.Scans.{begin_expr}
+use Rattle.rdf_values.specs.{begin_expr, Reads}
 use Rattle.expr_read.proofs.Whole.{whole}
 use Rattle.expr_read.proofs.ValidTokens.{valid_tokens}
 use Rattle.expr_read.proofs.read.read_expr.Goals as goal

@@ -1,8 +1,6 @@
-use Rattle.std.proofs.Common.{Ok, Err}
-use Rattle.std.specs.Prelude.{Result, IfOk, IfErr, MatchResult}
+use Rattle.std.proofs.Common.{Ok, Err, Result, IfOk, IfErr, MatchResult}
 use Rattle.std.proofs.lemmas.Result.{err_from_is_err_and, IfErr-weaker}
-use Rattle.rdf_values.specs.Grammar.{ReadsValues}
-use Rattle.rdf_values.specs.Scans.{begin_values}
+use Rattle.rdf_values.specs.{begin_values, ReadsValues}
 use Rattle.expr_read.proofs.Whole.{whole_values}
 use Rattle.expr_read.proofs.Decided.{tokens_refused, text_refused, memory_alone, one_value}
 use Rattle.expr_read.proofs.ValidTokens.{valid_tokens}

@@ -1,9 +1,8 @@
-use Rattle.std.proofs.Common.{◌≡◌, ◌<◌, ◌∙◌, List, [], ◌∷◌, ◌++◌, map, length, sym, arith, rules, refl, ap, Err}
-use Rattle.std.specs.Prelude.{Result}
-use Rattle.rdf_values.specs.Tokens.{Placed, Refusal}
+use Rattle.std.proofs.Common.{◌≡◌, ◌<◌, ◌∙◌, List, [], ◌∷◌, ◌++◌, map, length, sym, arith, rules, refl, ap, Err, Result}
+use Rattle.rdf_values.specs.{Placed, Refusal}
 use Rattle.std.proofs.lemmas.List.{map-append}
 use Rattle.std.proofs.lemmas.Grind.{common_steps}
-use Rattle.expr_read.specs.Views.{placed_of}
+use Rattle.expr_read.specs.{placed_of}
 use Rattle.expr_read.proofs.TokenSteps.{step_blank, step_bad, step_many, step_token, at_end}
 use Rattle.expr_read.proofs.FirstTokens.{token_sized, refusal_sized, from_place}
 use Rattle.expr_read.proofs.tokenizer.tokenize.Goals as goal

@@ -1,6 +1,6 @@
 use Rattle.std.proofs.Common.{length, ◌-◌, ◌≡◌, ◌≤◌, map}
-use Rattle.rdf_values.specs.Tokens.{tokens}
-use Rattle.expr_read.specs.Views.{placed_of}
+use Rattle.rdf_values.specs.{tokens}
+use Rattle.expr_read.specs.{placed_of}
 use Rattle.expr_read.proofs.TokenSteps.{goes_on}
 use Rattle.expr_read.proofs.tokenizer.tokenize.Given as goal
 

@@ -1,7 +1,7 @@
 use Rattle.std.proofs.Common.{◌<◌, arith, length, map, subst, sym}
 use Rattle.std.proofs.lemmas.List.{length-map}
-use Rattle.columns.specs.Wholes.{whole}
-use Rattle.friend_join.specs.Matches.{IsSmall, column_elements}
+use Rattle.columns.specs.{whole}
+use Rattle.friend_join.specs.{column_elements, IsSmall}
 use Rattle.friend_join.proofs.Counting.{small_at, sum_next}
 use Rattle.friend_join.proofs.Removing.{whole_at}
 use Rattle.friend_join.proofs.elements.elements.Goals as goal

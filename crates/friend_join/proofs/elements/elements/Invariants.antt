@@ -1,7 +1,7 @@
 use Rattle.std.proofs.Common.{◌≡◌, ◌≤◌, ◌*◌, map, take}
 use Rattle.std.specs.List.{sum_by}
-use Rattle.columns.specs.Wholes.{whole}
-use Rattle.friend_join.specs.Matches.{column_elements}
+use Rattle.columns.specs.{whole}
+use Rattle.friend_join.specs.{column_elements}
 use Rattle.friend_join.proofs.elements.elements.Given as goal
 
 abbrev pub invariant-loop-column : goal.invariant-loop-column

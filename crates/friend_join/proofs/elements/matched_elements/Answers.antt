@@ -1,7 +1,6 @@
 use Rattle.std.proofs.Common.{subst, sym}
-use Rattle.rdf_values.specs.Kept.{count}
-use Rattle.rdf_values.specs.declared.cells.Cells.{Cells}
-use Rattle.friend_join.specs.Matches.{AreBelow, IsSmall}
+use Rattle.rdf_values.specs.{Cells, count}
+use Rattle.friend_join.specs.{AreBelow, IsSmall}
 use Rattle.friend_join.proofs.Counting.{entries_at, small_at}
 use Rattle.friend_join.proofs.elements.matched_elements.Goals as goal
 

@@ -1,6 +1,6 @@
 use Rattle.std.proofs.Common.{◌≡◌, ◌≤◌, ◌*◌, take}
 use Rattle.std.specs.List.{sum_by}
-use Rattle.friend_join.specs.Matches.{matched_elements}
+use Rattle.friend_join.specs.{matched_elements}
 use Rattle.friend_join.proofs.elements.matched_elements.Given as goal
 
 abbrev pub invariant-loop-cells : goal.invariant-loop-cells

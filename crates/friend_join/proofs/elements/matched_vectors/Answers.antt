@@ -1,7 +1,7 @@
-use Rattle.std.proofs.Common.{◌≡◌, ◌≤◌, ◌<◌, ◌+◌, ◌∙◌, ℕ, Option, ap, arith, length, subst, sym, take}
-use Rattle.std.specs.Prelude.{⊤, MatchOption}
+use Rattle.std.proofs.Common.{◌≡◌, ◌≤◌, ◌<◌, ◌+◌, ◌∙◌, ℕ, Option, ap, arith, length, subst, sym, take, MatchOption}
+use Rattle.std.specs.Prelude.{⊤}
 use Rattle.std.specs.List.{sum_by}
-use Rattle.friend_join.specs.Matches.{length_for, vector_for}
+use Rattle.friend_join.specs.{length_for, vector_for}
 use Rattle.friend_join.proofs.Counting.{lengths_next, match_below, short_at}
 use Rattle.friend_join.proofs.elements.matched_vectors.Goals as goal
 

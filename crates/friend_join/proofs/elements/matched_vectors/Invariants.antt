@@ -1,6 +1,6 @@
 use Rattle.std.proofs.Common.{◌≡◌, ◌≤◌, ◌*◌, take}
 use Rattle.std.specs.List.{sum_by}
-use Rattle.friend_join.specs.Matches.{length_for}
+use Rattle.friend_join.specs.{length_for}
 use Rattle.friend_join.proofs.elements.matched_vectors.Given as goal
 
 abbrev pub invariant-loop-entry : goal.invariant-loop-entry

@@ -1,6 +1,6 @@
 use Rattle.std.proofs.Common.{◌≡◌, ◌≤◌, ◌*◌, length, take}
 use Rattle.std.specs.List.{sum_by}
-use Rattle.columns.specs.Wholes.{joined}
+use Rattle.columns.specs.{joined}
 use Rattle.friend_join.proofs.elements.vector_elements.Given as goal
 
 abbrev pub invariant-loop-vectors : goal.invariant-loop-vectors

@@ -1,6 +1,6 @@
 use Rattle.std.proofs.Common.{◌≡◌, ◌++◌, map}
-use Rattle.columns.specs.Wholes.{whole}
-use Rattle.friend_join.specs.Matches.{AreEntries, matched_cells}
+use Rattle.columns.specs.{whole}
+use Rattle.friend_join.specs.{AreEntries, matched_cells}
 use Rattle.friend_join.proofs.gathered.put_behind.Given as goal
 
 abbrev pub invariant-loop-cells : goal.invariant-loop-cells

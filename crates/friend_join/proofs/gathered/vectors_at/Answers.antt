@@ -1,5 +1,5 @@
-use Rattle.std.proofs.Common.{◌<◌, ℕ, Option, length, subst, sym}
-use Rattle.std.specs.Prelude.{⊤, MatchOption}
+use Rattle.std.proofs.Common.{◌<◌, ℕ, Option, length, subst, sym, MatchOption}
+use Rattle.std.specs.Prelude.{⊤}
 use Rattle.friend_join.proofs.Counting.{match_below}
 use Rattle.friend_join.proofs.gathered.vectors_at.Goals as goal
 

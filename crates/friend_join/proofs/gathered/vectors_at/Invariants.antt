@@ -1,5 +1,5 @@
 use Rattle.std.proofs.Common.{◌≡◌, map, take}
-use Rattle.friend_join.specs.Matches.{vector_for}
+use Rattle.friend_join.specs.{vector_for}
 use Rattle.friend_join.proofs.gathered.vectors_at.Given as goal
 
 abbrev pub invariant-loop-entry : goal.invariant-loop-entry

@@ -2,9 +2,8 @@ use Rattle.std.proofs.Common.{◌≡◌, ◌<◌, ◌+◌, ◌^◌, ◌∙◌, a
 use Rattle.std.specs.List.{remove, sum_by}
 use Rattle.std.proofs.lemmas.Int.{to_z-of_z}
 use Rattle.std.proofs.lemmas.List.{length-map}
-use Rattle.columns.specs.Wholes.{whole}
-use Rattle.friend_join.specs.Matches.{column_elements, keyed_in}
-use Rattle.friend_join.specs.declared.cause.JoinCause.TheVariants as cause
+use Rattle.columns.specs.{whole}
+use Rattle.friend_join.specs.{column_elements, JoinCause, keyed_in}
 use Rattle.friend_join.proofs.Fitting.{bits}
 use Rattle.friend_join.proofs.Refusing.{all_joined, repeated, too_large}
 use Rattle.friend_join.proofs.Removing.{whole_at}
@@ -64,7 +63,7 @@ returns-in-Err c =
     let y_is = c.remove.ensures.value ∙ ap (λ l. get_or l c.args.other c.remove.result) c.in-Ok.ensures in
     elim c.in-Err.ensures [
       | inl m ↦ inl m
-      | inr d ↦ inr (cause.Duplicate d.0, d.1, repeated (keyed_in c.args.main c.args.own) (keyed_in c.args.friend c.args.other) c.args.missing d.0 (no_repeat c.args.missing c.args.main.columns c.args.friend.columns xs ys c.args.main.entries c.args.friend.entries c.args.own c.args.other x y c.requires.main c.requires.friend c.requires.own c.requires.other x_is y_is (Some d.0) d.2))
+      | inr d ↦ inr (JoinCause.Duplicate d.0, d.1, repeated (keyed_in c.args.main c.args.own) (keyed_in c.args.friend c.args.other) c.args.missing d.0 (no_repeat c.args.missing c.args.main.columns c.args.friend.columns xs ys c.args.main.entries c.args.friend.entries c.args.own c.args.other x y c.requires.main c.requires.friend c.requires.own c.requires.other x_is y_is (Some d.0) d.2))
     ]
 
 pub elements-requires-clause-few : goal.elements-requires-clause-few
@@ -150,7 +149,7 @@ returns-then-elements-gt-MOST_ELEMENTS c =
     let own = c.elements.ensures.value ∙ ap (λ l. sum_by column_elements (map whole l)) c.as_slice.ensures.value in
     let count = count_as c.args.missing c.args.main.columns c.args.friend.columns xs ys c.args.main.entries c.args.friend.entries c.args.own c.args.other x y c.requires.main c.requires.friend c.requires.own c.requires.other x_is y_is c.requires.header (bits c.args.missing fits) c.elements.result c.matched_elements.result c.as_slice-2.result.now c.as_slice-3.result.now rest found own c.matched_elements.ensures.value in
     let none = no_repeat c.args.missing c.args.main.columns c.args.friend.columns xs ys c.args.main.entries c.args.friend.entries c.args.own c.args.other x y c.requires.main c.requires.friend c.requires.own c.requires.other x_is y_is None c.in-Ok-matches_of.ensures.0 in
-    inr (cause.TooLarge (c.elements.result + c.matched_elements.result), refl, too_large (keyed_in c.args.main c.args.own) (keyed_in c.args.friend c.args.other) c.args.missing (c.elements.result + c.matched_elements.result) none count c.if-elements-gt-MOST_ELEMENTS.true)
+    inr (JoinCause.TooLarge (c.elements.result + c.matched_elements.result), refl, too_large (keyed_in c.args.main c.args.own) (keyed_in c.args.friend c.args.other) c.args.missing (c.elements.result + c.matched_elements.result) none count c.if-elements-gt-MOST_ELEMENTS.true)
 
 pub remove-requires-2 : goal.remove-requires-2
 remove-requires-2 c =

@@ -2,7 +2,7 @@ use Rattle.std.proofs.Common.{◌∙◌, ◌++◌, ◌∷◌, [], ap, append_ass
 use Rattle.std.proofs.lemmas.Int.{to_z-of_z}
 use Rattle.std.proofs.lemmas.List.{map_push}
 use Rattle.rdf_values.proofs.Fronts.{take_next_of}
-use Rattle.friend_join.specs.Matches.{entry_of}
+use Rattle.friend_join.specs.{entry_of}
 use Rattle.friend_join.proofs.matches.match_numbers.Goals as goal
 
 pub loop-place-preserved : goal.loop-place-preserved

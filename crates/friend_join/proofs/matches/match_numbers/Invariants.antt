@@ -1,5 +1,5 @@
 use Rattle.std.proofs.Common.{◌≡◌, ◌++◌, map, take}
-use Rattle.friend_join.specs.Matches.{entry_of}
+use Rattle.friend_join.specs.{entry_of}
 use Rattle.friend_join.proofs.matches.match_numbers.Given as goal
 
 abbrev pub invariant-loop-place : goal.invariant-loop-place

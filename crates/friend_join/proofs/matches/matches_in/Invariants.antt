@@ -1,6 +1,6 @@
 use Rattle.std.proofs.Common.{◌≡◌, map, take}
-use Rattle.columns.specs.Wholes.{joined}
-use Rattle.friend_join.specs.Matches.{entry_of}
+use Rattle.columns.specs.{joined}
+use Rattle.friend_join.specs.{entry_of}
 use Rattle.friend_join.proofs.matches.matches_in.Given as goal
 
 abbrev pub invariant-loop-piece : goal.invariant-loop-piece

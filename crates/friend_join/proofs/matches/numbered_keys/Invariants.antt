@@ -1,5 +1,5 @@
 use Rattle.std.proofs.Common.{◌≡◌, drop, take}
-use Rattle.friend_join.specs.JoinRefused.{first_repeat, repeat_from}
+use Rattle.friend_join.specs.{first_repeat, repeat_from}
 use Rattle.friend_join.proofs.matches.numbered_keys.Given as goal
 
 abbrev pub invariant-loop-entry : goal.invariant-loop-entry

@@ -1,5 +1,5 @@
 use Rattle.std.proofs.Common.{◌≡◌, ◌++◌, map}
-use Rattle.columns.specs.Wholes.{whole}
+use Rattle.columns.specs.{whole}
 use Rattle.friend_join.proofs.one_piece.in_one_piece.Given as goal
 
 abbrev pub invariant-loop-pieces : goal.invariant-loop-pieces

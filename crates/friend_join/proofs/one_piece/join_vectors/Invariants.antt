@@ -1,5 +1,5 @@
 use Rattle.std.proofs.Common.{◌≡◌, ◌++◌}
-use Rattle.columns.specs.Wholes.{joined}
+use Rattle.columns.specs.{joined}
 use Rattle.friend_join.proofs.one_piece.join_vectors.Given as goal
 
 abbrev pub invariant-loop-more : goal.invariant-loop-more

@@ -1,9 +1,7 @@
 use Rattle.std.proofs.Common.{◌∷◌, refl, subst, sym}
-use Rattle.rdf_values.specs.Bookings.{bookings}
-use Rattle.rdf_values.specs.Verdict.{printed_results}
+use Rattle.rdf_values.specs.{bookings, printed_results}
 use Rattle.rdf_values.specs.declared.statement.Statement.TheVariants.{Print}
-use Rattle.graph.specs.Amounts.{printed_rows}
-use Rattle.graph.specs.Lookups.{statements}
+use Rattle.graph.specs.{printed_rows, statements}
 use Rattle.graph.proofs.Counting.{AllPassed, passes_checked, printed_with, rows_passed}
 use Rattle.graph.proofs.asked_checks.passes_printed.Goals as goal
 

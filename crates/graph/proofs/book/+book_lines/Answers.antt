@@ -1,8 +1,6 @@
 use Rattle.std.proofs.Common.{subst}
-use Rattle.rdf_values.specs.Kinds.{scope_of}
-use Rattle.rdf_values.specs.Verdict.{check}
-use Rattle.graph.specs.Gains.{AreTables}
-use Rattle.graph.specs.Lookups.{statements}
+use Rattle.rdf_values.specs.{check, scope_of}
+use Rattle.graph.specs.{AreTables, statements}
 use Rattle.graph.proofs.Gaining.{gain_fits}
 use Rattle.graph.proofs.Refusing.{empty, refused_last}
 use Rattle.graph.proofs.book.+book_lines.Goals as goal

@@ -1,6 +1,6 @@
 use Rattle.std.proofs.Common.{refl, sym, ◌∙◌}
 use Rattle.rdf_values.specs.declared.statement.Statement.TheVariants.{Vary, VariationsFor, Watch, Print}
-use Rattle.graph.specs.Lookups.{statements}
+use Rattle.graph.specs.{statements}
 use Rattle.graph.proofs.Gaining.{decided_at, gained, nothing_gained}
 use Rattle.graph.proofs.check.check_statement.Goals as goal
 

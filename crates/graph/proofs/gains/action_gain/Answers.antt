@@ -1,6 +1,6 @@
 use Rattle.std.proofs.Common.{refl}
 use Rattle.rdf_values.specs.declared.statement.Statement.TheVariants.{Action}
-use Rattle.graph.specs.Lookups.{statements}
+use Rattle.graph.specs.{statements}
 use Rattle.graph.proofs.Gaining.{gained}
 use Rattle.graph.proofs.gains.action_gain.Goals as goal
 

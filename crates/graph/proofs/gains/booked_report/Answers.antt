@@ -1,8 +1,8 @@
 use Rattle.std.proofs.Common.{[], ◌∷◌, ◌∙◌, ap, arith, length, refl}
 use Rattle.std.proofs.lemmas.List.{length-map}
-use Rattle.rdf_values.specs.declared.script.Line.{Line}
-use Rattle.graph_numbers.specs.declared.result_kind.ResultKind.TheVariants as what
-use Rattle.graph.specs.Lookups.{statements}
+use Rattle.rdf_values.specs.{Line}
+use Rattle.graph_numbers.specs.{ResultKind}
+use Rattle.graph.specs.{statements}
 use Rattle.graph.proofs.Counted.{filters_are, filters_few}
 use Rattle.graph.proofs.Gaining.{report_alone}
 use Rattle.graph.proofs.gains.booked_report.Goals as goal
@@ -20,5 +20,5 @@ returns c =
     report_alone (statements c.args.before.now.lines.now) c.args.name.now c.args.parent.now _ c.row_gain.result
     (λ header names. record {
       rows = ((record { name = c.in_ok-copy.ensures; cells = refl; takes = refl }, tt), (c.empty.ensures, tt));
-      path = λ i. record { kind = what.Report; filters = c.in_ok-filters_above.ensures i; inputs = c.new.ensures i; covers = c.in_ok-covered.ensures i } ∷ [];
+      path = λ i. record { kind = ResultKind.Report; filters = c.in_ok-filters_above.ensures i; inputs = c.new.ensures i; covers = c.in_ok-covered.ensures i } ∷ [];
     }) c.row_gain.ensures

@@ -1,8 +1,6 @@
 use Rattle.std.proofs.Common.{[], ◌∷◌, ◌∙◌}
-use Rattle.rdf_values.specs.Kinds.{scope_of, kind_of}
-use Rattle.rdf_values.specs.Path.{path}
-use Rattle.rdf_values.specs.Verdict.{check_node, check_target, first_refusal, refusal_in, scope_at}
-use Rattle.graph.specs.Lookups.{statements}
+use Rattle.rdf_values.specs.{check_node, check_target, first_refusal, kind_of, path, refusal_in, scope_at, scope_of}
+use Rattle.graph.specs.{statements}
 use Rattle.graph.proofs.Checking.{stopped_before, decided_last, handed_on}
 use Rattle.graph.proofs.Gaining.{redefine_made}
 use Rattle.graph.proofs.gains.redefine_gain.Goals as goal

@@ -1,6 +1,6 @@
 use Rattle.std.proofs.Common.{refl, sym, ◌∙◌}
 use Rattle.rdf_values.specs.declared.statement.Statement.TheVariants.{Report}
-use Rattle.graph.specs.Lookups.{statements}
+use Rattle.graph.specs.{statements}
 use Rattle.graph.proofs.Checking.{handed_on, stops_for}
 use Rattle.graph.proofs.Gaining.{gained}
 use Rattle.graph.proofs.gains.report_gain.Goals as goal

@@ -1,4 +1,4 @@
-use Rattle.graph.specs.Lookups.{statements}
+use Rattle.graph.specs.{statements}
 use Rattle.graph.proofs.Gaining.{vary_gained}
 use Rattle.graph.proofs.Counting.{few_with}
 use Rattle.graph.proofs.gains.vary_gain.Goals as goal

@@ -1,6 +1,5 @@
-use Rattle.rdf_values.specs.Kinds.{scope_of}
-use Rattle.rdf_values.specs.Path.{path}
-use Rattle.graph.specs.Lookups.{statements}
+use Rattle.rdf_values.specs.{path, scope_of}
+use Rattle.graph.specs.{statements}
 use Rattle.graph.proofs.Walking.{visible_else}
 use Rattle.graph.proofs.lookup.is_visible.Goals as goal
 

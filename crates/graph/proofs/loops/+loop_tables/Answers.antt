@@ -1,7 +1,6 @@
 use Rattle.std.proofs.Common.{List, arith, rules, ap, length, subst}
-use Rattle.rdf_values.specs.declared.script.Line.{Line}
-use Rattle.graph.specs.LoopRows.{AreNamedInTurn, BeginsWith}
-use Rattle.graph.specs.Lookups.{statements}
+use Rattle.rdf_values.specs.{Line}
+use Rattle.graph.specs.{AreNamedInTurn, BeginsWith, statements}
 use Rattle.graph.proofs.Looped.{begins_further, line_kept, no_lines}
 use Rattle.graph.proofs.loops.+loop_tables.Goals as goal
 

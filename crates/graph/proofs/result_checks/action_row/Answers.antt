@@ -1,10 +1,7 @@
 use Rattle.std.proofs.Common.{[], ◌∷◌, map, ap, ◌∙◌}
-use Rattle.graph_numbers.specs.declared.result_kind.ResultKind.TheVariants as what
-use Rattle.graph_numbers.specs.Versions.{version_at}
-use Rattle.graph.specs.VarSets.{any_has}
-use Rattle.rdf_values.specs.Bookings.{columns_of}
-use Rattle.rdf_values.specs.Path.{path}
-use Rattle.graph.specs.Lookups.{statements}
+use Rattle.graph_numbers.specs.{ResultKind, version_at}
+use Rattle.graph.specs.{any_has, statements}
+use Rattle.rdf_values.specs.{columns_of, path}
 use Rattle.graph.proofs.Counting.{action_set_is}
 use Rattle.graph.proofs.result_checks.action_row.Goals as goal
 
@@ -22,7 +19,7 @@ returns c = record {
   );
   path = λ i.
       record {
-        kind = what.Action (c.in_ok-copy_kind.ensures i);
+        kind = ResultKind.Action (c.in_ok-copy_kind.ensures i);
         filters = c.in_ok-filters_above.ensures i;
         inputs = (c.in_ok-versions_of.ensures ∙ ap (map (version_at c.args.before.now.header.now (statements c.args.before.now.lines.now) c.args.parent.now)) (c.as_slice.ensures.value ∙ c.in_ok-columns.ensures)) i;
         covers = c.new.ensures i;

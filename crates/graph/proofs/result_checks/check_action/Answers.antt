@@ -1,10 +1,8 @@
 use Rattle.std.proofs.Common.{[], ◌∷◌, ◌∙◌, sym}
-use Rattle.rdf_values.specs.Bookings.{bookings, columns_of}
-use Rattle.rdf_values.specs.Kinds.{scope_of}
-use Rattle.rdf_values.specs.Verdict.{check_node, check_columns, check_edges, check_results, check_passes, first_refusal, permitted_kinds, scope_at}
+use Rattle.rdf_values.specs.{bookings, check_columns, check_edges, check_node, check_passes, check_results, columns_of, first_refusal, permitted_kinds, scope_at, scope_of}
 use Rattle.rdf_values.specs.declared.statement.Statement.TheVariants.{Action}
 use Rattle.rdf_model.proofs.Accepted.{both_none}
-use Rattle.graph.specs.Lookups.{statements}
+use Rattle.graph.specs.{statements}
 use Rattle.graph.proofs.Checking.{stopped_before, decided_last, handed_on}
 use Rattle.graph.proofs.result_checks.check_action.Goals as goal
 

@@ -1,7 +1,7 @@
 use Rattle.std.proofs.Common.{◌∷◌, ◌++◌, [], subst, sym, ◌∙◌}
-use Rattle.rdf_values.specs.Bookings.{bookings}
+use Rattle.rdf_values.specs.{bookings}
 use Rattle.rdf_values.specs.declared.statement.Statement.TheVariants.{Action}
-use Rattle.graph.specs.Lookups.{statements}
+use Rattle.graph.specs.{statements}
 use Rattle.graph.proofs.Checking.{handed_on, stops_for}
 use Rattle.graph.proofs.Counting.{AllPassed, passes_checked, action_passed}
 use Rattle.graph.proofs.result_checks.counted_action.Goals as goal

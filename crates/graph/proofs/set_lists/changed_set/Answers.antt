@@ -1,8 +1,6 @@
 use Rattle.std.proofs.Common.{◌≡◌, ◌||◌, length, ap, ◌∙◌}
-use Rattle.rdf_values.specs.Path.{variations}
-use Rattle.graph.specs.Dependence.{is_among_own}
-use Rattle.graph.specs.Lookups.{statements}
-use Rattle.graph.specs.VarSets.{has_at}
+use Rattle.rdf_values.specs.{variations}
+use Rattle.graph.specs.{has_at, is_among_own, statements}
 use Rattle.graph.proofs.set_lists.changed_set.Goals as goal
 
 pub returns : goal.returns

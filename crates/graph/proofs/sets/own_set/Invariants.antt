@@ -1,6 +1,5 @@
 use Rattle.std.proofs.Common.{◌≡◌, ◌-◌, ℕ}
-use Rattle.graph.specs.Dependence.{is_among_own}
-use Rattle.graph.specs.Sets.{has}
+use Rattle.graph.specs.{has, is_among_own}
 use Rattle.graph.proofs.sets.own_set.Given as goal
 
 abbrev pub invariant-loop-v : goal.invariant-loop-v

@@ -1,6 +1,6 @@
 use Rattle.std.proofs.Common.{Some, ap, ◌∙◌, sym, subst, arith, ℕ, List, length}
 use Rattle.graph_numbers.specs.declared.version.Version.TheVariants.{Varied}
-use Rattle.graph.specs.VersionSources.{HasSites}
+use Rattle.graph.specs.{HasSites}
 use Rattle.graph.proofs.sources.+source_of.Goals as goal
 
 pub source_of-requires : goal.source_of-requires

@@ -1,5 +1,5 @@
 use Rattle.std.proofs.Common.{◌≡◌, take}
-use Rattle.graph.specs.Names.{named}
+use Rattle.graph.specs.{named}
 use Rattle.graph.proofs.variations.full_names.Given as goal
 
 abbrev pub invariant-loop-tag : goal.invariant-loop-tag

@@ -1,8 +1,6 @@
 use Rattle.std.proofs.Common.{◌∷◌, ◌++◌, [], ap, subst, sym, ◌∙◌}
-use Rattle.rdf_values.specs.Kinds.{scope_of}
-use Rattle.rdf_values.specs.Verdict.{check_list, check_lists, scope_at}
-use Rattle.graph.specs.Lookups.{IsCheckedAt, statements}
-use Rattle.graph.specs.VaryChecks.{all_expressions, AllCheckedAt}
+use Rattle.rdf_values.specs.{check_list, check_lists, scope_at, scope_of}
+use Rattle.graph.specs.{all_expressions, AllCheckedAt, IsCheckedAt, statements}
 use Rattle.graph.proofs.Listing.{zip_both}
 use Rattle.graph.proofs.Checking.{alone, passed_before, stopped_before, handed_on, stops_for, lists_more}
 use Rattle.graph.proofs.vary_checks.+check_lists.Goals as goal

@@ -1,7 +1,6 @@
 use Rattle.std.proofs.Common.{length, map, ap, sym, ◌∙◌}
-use Rattle.rdf_values.specs.Kinds.{scope_of, column_kind, kind_of}
-use Rattle.rdf_values.specs.Verdict.{expect_kind, first_refusal, kind_or_int, scope_at}
-use Rattle.graph.specs.Lookups.{statements}
+use Rattle.rdf_values.specs.{column_kind, expect_kind, first_refusal, kind_of, kind_or_int, scope_at, scope_of}
+use Rattle.graph.specs.{statements}
 use Rattle.graph.proofs.Checking.{handed_on, stops_for, counted}
 use Rattle.graph.proofs.vary_checks.check_list.Goals as goal
 

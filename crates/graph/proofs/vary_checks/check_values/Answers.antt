@@ -1,8 +1,6 @@
 use Rattle.std.proofs.Common.{subst, sym}
-use Rattle.rdf_values.specs.Kinds.{scope_of}
-use Rattle.rdf_values.specs.Verdict.{check_values, scope_at}
-use Rattle.graph.specs.Checks.{Decides}
-use Rattle.graph.specs.Lookups.{statements}
+use Rattle.rdf_values.specs.{check_values, scope_at, scope_of}
+use Rattle.graph.specs.{Decides, statements}
 use Rattle.graph.proofs.vary_checks.check_values.Goals as goal
 
 pub returns-in-Vector-clause-decided : goal.returns-in-Vector-clause-decided

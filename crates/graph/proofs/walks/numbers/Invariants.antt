@@ -1,5 +1,5 @@
 use Rattle.std.proofs.Common.{◌≡◌}
-use Rattle.graph.specs.Rows.{count_from}
+use Rattle.graph.specs.{count_from}
 use Rattle.graph.proofs.walks.numbers.Given as goal
 
 abbrev pub invariant-loop-i : goal.invariant-loop-i

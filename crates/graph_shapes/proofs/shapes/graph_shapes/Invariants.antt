@@ -1,6 +1,6 @@
 use Rattle.std.proofs.Common.{◌≡◌, length, take}
-use Rattle.graph_numbers.specs.Graphs.{graph_loops}
-use Rattle.graph_shapes.specs.GraphShapes.{graph_shapes}
+use Rattle.graph_numbers.specs.{graph_loops}
+use Rattle.graph_shapes.specs.{graph_shapes}
 use Rattle.graph_shapes.proofs.shapes.graph_shapes.Given as goal
 
 abbrev pub invariant-loop-number : goal.invariant-loop-number

@@ -1,12 +1,11 @@
-use Rattle.std.proofs.Common.{None, arith}
-use Rattle.std.specs.Prelude.{slice_index_or}
-use Rattle.lemmas.proofs.Places.{something_at}
-use Rattle.graph_numbers.specs.declared.pass.Pass.{Pass}
-use Rattle.result_text.specs.FilledLines.{passes_at}
+use Rattle.std.proofs.Common.{None, arith, slice_index_or}
+use Rattle.lemmas.proofs.{something_at}
+use Rattle.graph_numbers.specs.{Pass}
+use Rattle.result_text.specs.{passes_at}
 use Rattle.result_text.proofs.Passes.{pass_there}
-use Rattle.merged_text.specs.Numbered.{IsPassIn}
+use Rattle.merged_text.specs.{IsPassIn}
 use Rattle.merged_text.proofs.LoopPasses.{same_length}
-use Rattle.graph_shapes.specs.GraphShapes.{pass_kind}
+use Rattle.graph_shapes.specs.{pass_kind}
 use Rattle.graph_shapes.proofs.Looped.{shapes_all, shapes_more}
 use Rattle.graph_shapes.proofs.shapes.loop_shapes.Goals as goal
 

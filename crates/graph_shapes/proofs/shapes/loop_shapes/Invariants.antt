@@ -1,7 +1,7 @@
 use Rattle.std.proofs.Common.{◌≡◌, take}
-use Rattle.result_text.specs.FilledLines.{passes_at}
-use Rattle.shard_spans.specs.Laws.{pass_shapes}
-use Rattle.graph_shapes.specs.GraphShapes.{pass_kind}
+use Rattle.result_text.specs.{passes_at}
+use Rattle.shard_spans.specs.{pass_shapes}
+use Rattle.graph_shapes.specs.{pass_kind}
 use Rattle.graph_shapes.proofs.shapes.loop_shapes.Given as goal
 
 abbrev pub invariant-loop-i : goal.invariant-loop-i

@@ -1,6 +1,5 @@
 use Rattle.std.proofs.Common.{ℕ, ◌≡◌, ◌<◌, ◌≤◌, get_or}
-use Rattle.histograms.specs.declared.cell_sum.CellSum.{CellSum}
-use Rattle.histograms.specs.Cells.{together}
+use Rattle.histograms.specs.{CellSum, together}
 use Rattle.histograms.proofs.cell_sum.add_all.Given as goal
 
 -- the cells below i are added, the others are as before

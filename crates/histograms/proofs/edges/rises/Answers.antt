@@ -1,5 +1,4 @@
-use Rattle.std.proofs.Common.{◌≡◌, rules}
-use Rattle.std.specs.Prelude.{int_lt}
+use Rattle.std.proofs.Common.{◌≡◌, rules, int_lt}
 use Rattle.std.proofs.lemmas.Fn.{always_returns_same}
 use Rattle.histograms.proofs.Rising.{rises-adjacent}
 use Rattle.histograms.proofs.edges.rises.Goals as goal

@@ -1,6 +1,6 @@
 use Rattle.std.proofs.Common.{arith}
 use Rattle.std.proofs.lemmas.Grind.{common_steps}
-use Rattle.columns.specs.Wholes.{joined}
+use Rattle.columns.specs.{joined}
 use Rattle.input_files.proofs.tables.read_columns_file.Goals as goal
 
 pub returns-in-Whole-clause-read : goal.returns-in-Whole-clause-read

@@ -1,6 +1,6 @@
 use Rattle.std.proofs.Common.{◌≡◌, ◌<◌, ◌+◌, List, length, refl, sym, subst, ◌∙◌, ap, arith}
-use Rattle.graph_numbers.specs.Graphs.{graph_sites, graph_variations}
-use Rattle.loop_keys.specs.Keys.{AreEach, AreKeysAt, key_count, keys_before}
+use Rattle.graph_numbers.specs.{graph_sites, graph_variations}
+use Rattle.loop_keys.specs.{AreEach, AreKeysAt, key_count, keys_before}
 use Rattle.loop_keys.specs.declared.keys.SiteKeys.{SiteKeys}
 use Rattle.loop_keys.proofs.Elements.{more_each, none_each}
 use Rattle.loop_keys.proofs.KeptKeys.{here_kept, next_first, no_keys}

@@ -1,6 +1,6 @@
 use Rattle.std.proofs.Common.{◌≡◌, ◌*◌, ◌≤◌}
-use Rattle.graph_numbers.specs.Graphs.{graph_sites, graph_variations}
-use Rattle.loop_keys.specs.Keys.{AreEach, AreKeysAt, keys_before}
+use Rattle.graph_numbers.specs.{graph_sites, graph_variations}
+use Rattle.loop_keys.specs.{AreEach, AreKeysAt, keys_before}
 use Rattle.loop_keys.proofs.keys.keys_of.Given as goal
 
 abbrev pub invariant-loop-site : goal.invariant-loop-site

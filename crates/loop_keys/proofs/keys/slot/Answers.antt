@@ -1,7 +1,7 @@
 use Rattle.std.proofs.Common.{◌≡◌, suc, false, sym, ◌∙◌, ap, arith, if◌then◌else◌}
 use Rattle.graph.proofs.Bits.{none_above}
-use Rattle.graph.specs.Sets.{has, members_below}
-use Rattle.loop_keys.specs.Keys.{slot_in}
+use Rattle.graph.specs.{has, members_below}
+use Rattle.loop_keys.specs.{slot_in}
 use Rattle.loop_keys.proofs.keys.slot.Goals as goal
 use Rattle.loop_keys.proofs.keys.slot.Goals.{else-v-lt128-via-then-v-lt128+else-contains, else-v-lt128-via-else-v-lt128}
 

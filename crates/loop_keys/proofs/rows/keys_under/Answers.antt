@@ -1,5 +1,5 @@
 use Rattle.std.proofs.Common.{◌<◌, length, arith}
-use Rattle.graph_numbers.specs.Graphs.{graph_sites}
+use Rattle.graph_numbers.specs.{graph_sites}
 use Rattle.loop_keys.proofs.KeptKeys.{kept_small}
 use Rattle.loop_keys.proofs.RowLaws.{more_keys}
 use Rattle.loop_keys.proofs.rows.keys_under.Goals as goal

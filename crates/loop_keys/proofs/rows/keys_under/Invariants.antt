@@ -1,5 +1,5 @@
 use Rattle.std.proofs.Common.{◌≡◌}
-use Rattle.loop_keys.specs.Keys.{AreEach, key}
+use Rattle.loop_keys.specs.{AreEach, key}
 use Rattle.loop_keys.proofs.rows.keys_under.Given as goal
 
 abbrev pub invariant-loop-i : goal.invariant-loop-i

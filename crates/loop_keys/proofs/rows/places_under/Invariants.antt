@@ -1,7 +1,6 @@
 use Rattle.std.proofs.Common.{◌≡◌}
-use Rattle.graph_numbers.specs.Graphs.{graph_sources}
-use Rattle.graph_numbers.specs.Sources.{source_in}
-use Rattle.loop_keys.specs.Keys.{AreEach, key_under, place_of}
+use Rattle.graph_numbers.specs.{graph_sources, source_in}
+use Rattle.loop_keys.specs.{AreEach, key_under, place_of}
 use Rattle.loop_keys.proofs.rows.places_under.Given as goal
 
 abbrev pub invariant-loop-version : goal.invariant-loop-version

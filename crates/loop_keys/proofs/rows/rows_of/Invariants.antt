@@ -1,5 +1,5 @@
 use Rattle.std.proofs.Common.{suc}
-use Rattle.loop_keys.specs.Keys.{AreEach, IsRow, row_under}
+use Rattle.loop_keys.specs.{AreEach, IsRow, row_under}
 use Rattle.loop_keys.proofs.rows.rows_of.Given as goal
 
 abbrev pub invariant-loop-v : goal.invariant-loop-v

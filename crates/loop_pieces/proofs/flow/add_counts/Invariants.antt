@@ -1,5 +1,5 @@
 use Rattle.std.proofs.Common.{◌≡◌, ℕ, ◌<◌, ◌≤◌, length, get_or}
-use Rattle.loop_pieces.specs.Flows.{both, nothing}
+use Rattle.loop_pieces.specs.{both, nothing}
 use Rattle.loop_pieces.proofs.flow.add_counts.Given as goal
 
 abbrev pub invariant-loop-i : goal.invariant-loop-i

@@ -1,6 +1,6 @@
 use Rattle.std.proofs.Common.{ℕ, List, vec_len}
-use Rattle.rdf_values.specs.Draws.{IsUnion}
-use Rattle.merge_core.specs.Pieces.{Stand}
+use Rattle.rdf_values.specs.{IsUnion}
+use Rattle.merge_core.specs.{Stand}
 use Rattle.merge_core.proofs.Merging.{IsMerged}
 use Rattle.merge_core.proofs.merge.merge_all.Given as goal
 

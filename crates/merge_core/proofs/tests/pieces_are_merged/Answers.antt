@@ -1,11 +1,10 @@
-use Rattle.std.proofs.Common.{◌≡◌, ℕ, List, [], ◌∷◌, map, refl, sym, subst, arith}
-use Rattle.std.specs.Prelude.{IsPermutation}
+use Rattle.std.proofs.Common.{◌≡◌, ℕ, List, [], ◌∷◌, map, refl, sym, subst, arith, IsPermutation}
 use Rattle.std.specs.List.{All, concat}
 use Rattle.std.specs.List.Sorted.{IsStrictlyIncreasing}
 use Rattle.std.proofs.lemmas.List.Elements.{All-nil, All-cons}
 use Rattle.std.proofs.lemmas.List.Sorted.{IsPermutation-refl}
-use Rattle.rdf_values.specs.Draws.{IsUnion}
-use Rattle.merge_core.specs.Pieces.{Stand}
+use Rattle.rdf_values.specs.{IsUnion}
+use Rattle.merge_core.specs.{Stand}
 use Rattle.merge_core.proofs.tests.pieces_are_merged.Goals as goal
 
 none_rises : IsStrictlyIncreasing []

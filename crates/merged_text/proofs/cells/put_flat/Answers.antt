@@ -1,6 +1,6 @@
 use Rattle.std.proofs.Common.{◌++◌, ap, ◌∙◌, map}
-use Rattle.lemmas.proofs.Answers.{on_ok}
-use Rattle.histograms.specs.Cells.{cell_seen}
+use Rattle.lemmas.proofs.{on_ok}
+use Rattle.histograms.specs.{cell_seen}
 use Rattle.result_text.proofs.CellNames.{flat_lines}
 use Rattle.merged_text.proofs.cells.put_flat.Goals as goal
 

@@ -1,6 +1,6 @@
 use Rattle.std.proofs.Common.{map}
-use Rattle.lemmas.proofs.Answers.{on_ok}
-use Rattle.histograms.specs.Cells.{cell_seen}
+use Rattle.lemmas.proofs.{on_ok}
+use Rattle.histograms.specs.{cell_seen}
 use Rattle.result_text.proofs.CellNames.{plane_put}
 use Rattle.merged_text.proofs.cells.put_named_row.Goals as goal
 

@@ -1,6 +1,6 @@
 use Rattle.std.proofs.Common.{◌≡◌, ◌++◌, drop, map}
-use Rattle.histograms.specs.Cells.{cell_seen}
-use Rattle.result_text.specs.FilledLines.{lines_on}
+use Rattle.histograms.specs.{cell_seen}
+use Rattle.result_text.specs.{lines_on}
 use Rattle.merged_text.proofs.cells.put_row.Given as goal
 
 abbrev pub invariant-loop-i : goal.invariant-loop-i

@@ -1,7 +1,7 @@
 use Rattle.std.proofs.Common.{◌≡◌, ◌++◌, ◌-◌, length, map, suc}
-use Rattle.histograms.specs.Cells.{cell_seen}
-use Rattle.result_text.specs.FilledLines.{planes_on}
-use Rattle.merged_text.specs.MergedPrints.{rows_of}
+use Rattle.histograms.specs.{cell_seen}
+use Rattle.result_text.specs.{planes_on}
+use Rattle.merged_text.specs.{rows_of}
 use Rattle.merged_text.proofs.cells.put_square.Given as goal
 
 abbrev pub invariant-loop-i : goal.invariant-loop-i

@@ -1,10 +1,8 @@
 use Rattle.std.proofs.Common.{Ok, ap, arith}
 use Rattle.std.proofs.lemmas.List.{length-map}
-use Rattle.graph_numbers.specs.Graphs.{booked_statements}
-use Rattle.graph_numbers.specs.Results.{result_number}
-use Rattle.rdf_model.specs.Loops.{Access, accesses}
-use Rattle.rdf_model.specs.Transcript.{Printed}
-use Rattle.merged_text.specs.MergedPrints.{merged_text}
+use Rattle.graph_numbers.specs.{booked_statements, result_number}
+use Rattle.rdf_model.specs.{Access, accesses, Printed}
+use Rattle.merged_text.specs.{merged_text}
 use Rattle.merged_text.proofs.Printing.{all_written, begin_written, ends_there, goes_on, print_at}
 use Rattle.merged_text.proofs.prints.merged_text.Goals as goal
 

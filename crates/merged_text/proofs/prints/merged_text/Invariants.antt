@@ -1,6 +1,6 @@
 use Rattle.std.proofs.Common.{◌≡◌, length}
-use Rattle.graph_numbers.specs.Graphs.{graph_prints}
-use Rattle.merged_text.specs.MergedPrints.{merged_text}
+use Rattle.graph_numbers.specs.{graph_prints}
+use Rattle.merged_text.specs.{merged_text}
 use Rattle.merged_text.proofs.Printing.{IsWritten}
 use Rattle.merged_text.proofs.prints.merged_text.Given as goal
 

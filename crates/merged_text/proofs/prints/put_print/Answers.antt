@@ -1,7 +1,7 @@
 use Rattle.std.proofs.Common.{◌++◌, Some, length, refl, arith, ap, ◌∙◌}
 use Rattle.std.proofs.lemmas.Option.{slice_get_read}
-use Rattle.result_text.specs.FilledLines.{passes_at}
-use Rattle.merged_text.specs.MergedPrints.{lines_of_result}
+use Rattle.result_text.specs.{passes_at}
+use Rattle.merged_text.specs.{lines_of_result}
 use Rattle.merged_text.proofs.LoopPasses.{same_length}
 use Rattle.merged_text.proofs.Printing.{gives_fault, gives_lines, its_name, print_at, result_inside}
 use Rattle.merged_text.proofs.prints.put_print.Goals as goal

@@ -1,7 +1,7 @@
 use Rattle.std.proofs.Common.{◌++◌, ap, ◌∙◌, inl, inr, arith, sym}
 use Rattle.std.proofs.lemmas.Option.{slice_get-get_or}
-use Rattle.lemmas.proofs.Answers.{on_ok}
-use Rattle.graph_numbers.specs.Graphs.{graph_filters}
+use Rattle.lemmas.proofs.{on_ok}
+use Rattle.graph_numbers.specs.{graph_filters}
 use Rattle.merged_text.proofs.Flows.{first_flow, flow_end, flow_next, no_flows}
 use Rattle.merged_text.proofs.told.put_flows.Goals as goal
 use Rattle.merged_text.proofs.told.put_flows.Goals.{then-covered-eq0-via-then-covered-eq0, then-covered-eq0-via-else-covered-eq0+then-counts-eq0}

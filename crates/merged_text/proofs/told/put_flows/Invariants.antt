@@ -1,6 +1,6 @@
 use Rattle.std.proofs.Common.{◌≡◌, ◌++◌, drop}
-use Rattle.graph_numbers.specs.Graphs.{graph_filters}
-use Rattle.merged_text.specs.Numbered.{filter_counts}
+use Rattle.graph_numbers.specs.{graph_filters}
+use Rattle.merged_text.specs.{filter_counts}
 use Rattle.merged_text.proofs.Flows.{flows}
 use Rattle.merged_text.proofs.told.put_flows.Given as goal
 

@@ -1,6 +1,6 @@
 use Rattle.std.proofs.Common.{◌++◌, sym, ap, ◌∙◌, append-nil}
-use Rattle.lemmas.proofs.Answers.{on_ok}
-use Rattle.rdf_values.specs.Names.{same}
+use Rattle.lemmas.proofs.{on_ok}
+use Rattle.rdf_values.specs.{same}
 use Rattle.result_text.proofs.Passes.{is_pass_at, result_within}
 use Rattle.merged_text.proofs.LoopPasses.{name_of}
 use Rattle.merged_text.proofs.Printing.{named_no, named_yes}

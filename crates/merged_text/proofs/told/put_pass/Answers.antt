@@ -1,16 +1,13 @@
-use Rattle.std.proofs.Common.{◌<◌, ◌++◌, All, length, subst, sym, ap, ◌∙◌, append_assoc}
-use Rattle.std.specs.Prelude.{codes}
-use Rattle.lemmas.proofs.Answers.{on_ok}
-use Rattle.lemmas.proofs.Places.{something_at}
-use Rattle.graph_numbers.specs.Graphs.{graph_filters, graph_results}
-use Rattle.rdf_model.specs.ResultLines.{flow_lines, label}
-use Rattle.result_text.specs.FilledLines.{under_in, value_lines}
+use Rattle.std.proofs.Common.{◌<◌, ◌++◌, All, length, subst, sym, ap, ◌∙◌, append_assoc, codes}
+use Rattle.lemmas.proofs.{on_ok, something_at}
+use Rattle.graph_numbers.specs.{graph_filters, graph_results}
+use Rattle.rdf_model.specs.{flow_lines, label}
+use Rattle.result_text.specs.{under_in, value_lines}
 use Rattle.result_text.proofs.ActionLines.{its_covers}
 use Rattle.result_text.proofs.Covers.{covers_within}
 use Rattle.result_text.proofs.Passes.{is_pass_at, result_within}
 use Rattle.result_text.proofs.Within.{IsIn, is_in_for, variation_within}
-use Rattle.merged_text.specs.MergedPrints.{line_filled}
-use Rattle.merged_text.specs.Numbered.{filter_counts}
+use Rattle.merged_text.specs.{filter_counts, line_filled}
 use Rattle.merged_text.proofs.LoopPasses.{action_text, report_on, report_text}
 use Rattle.merged_text.proofs.told.put_pass.Goals as goal
 

@@ -1,11 +1,10 @@
-use Rattle.std.proofs.Common.{None, arith, inl, inr, length, refl}
-use Rattle.std.specs.Prelude.{slice_index_or}
+use Rattle.std.proofs.Common.{None, arith, inl, inr, length, refl, slice_index_or}
 use Rattle.std.proofs.lemmas.Option.{slice_get_read}
-use Rattle.lemmas.proofs.Places.{something_at}
-use Rattle.graph_numbers.specs.declared.pass.Pass.{Pass}
-use Rattle.result_text.specs.FilledLines.{passes_at}
+use Rattle.lemmas.proofs.{something_at}
+use Rattle.graph_numbers.specs.{Pass}
+use Rattle.result_text.specs.{passes_at}
 use Rattle.result_text.proofs.Passes.{pass_there}
-use Rattle.merged_text.specs.Numbered.{IsPassIn}
+use Rattle.merged_text.specs.{IsPassIn}
 use Rattle.merged_text.proofs.LoopPasses.{same_length}
 use Rattle.merged_text.proofs.Printing.{line_end, line_next}
 use Rattle.merged_text.proofs.told.put_result.Goals as goal

@@ -1,6 +1,6 @@
 use Rattle.std.proofs.Common.{◌≡◌, ◌++◌, drop}
-use Rattle.result_text.specs.FilledLines.{passes_at}
-use Rattle.merged_text.specs.MergedPrints.{lines_of_result}
+use Rattle.result_text.specs.{passes_at}
+use Rattle.merged_text.specs.{lines_of_result}
 use Rattle.merged_text.proofs.told.put_result.Given as goal
 
 abbrev pub invariant-loop-i : goal.invariant-loop-i

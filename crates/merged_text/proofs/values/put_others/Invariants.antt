@@ -1,5 +1,5 @@
 use Rattle.std.proofs.Common.{◌≡◌, ◌++◌, take}
-use Rattle.result_text.specs.FilledLines.{more_taken}
+use Rattle.result_text.specs.{more_taken}
 use Rattle.merged_text.proofs.values.put_others.Given as goal
 
 abbrev pub invariant-loop-value : goal.invariant-loop-value

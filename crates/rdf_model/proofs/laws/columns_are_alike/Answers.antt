@@ -1,4 +1,4 @@
-use Rattle.rdf_values.specs.Path.{target_of}
+use Rattle.rdf_values.specs.{target_of}
 use Rattle.rdf_model.proofs.Missing.{named_alike}
 use Rattle.rdf_model.proofs.laws.columns_are_alike.Goals as goal
 

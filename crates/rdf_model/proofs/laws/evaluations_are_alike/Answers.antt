@@ -1,6 +1,5 @@
-use Rattle.rdf_values.specs.Functions.{fn_names}
-use Rattle.rdf_values.specs.Numbered.{callee}
-use Rattle.rdf_model.specs.Evaluation.{named_call}
+use Rattle.rdf_values.specs.{callee, fn_names}
+use Rattle.rdf_model.specs.{named_call}
 use Rattle.rdf_model.proofs.Missing.{call_alike, evaluate_alike}
 use Rattle.rdf_model.proofs.laws.evaluations_are_alike.Goals as goal
 

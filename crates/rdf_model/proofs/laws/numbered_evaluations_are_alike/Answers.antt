@@ -1,4 +1,4 @@
-use Rattle.rdf_model.specs.Evaluation.{call_outcome}
+use Rattle.rdf_model.specs.{call_outcome}
 use Rattle.rdf_model.proofs.Missing.{call_alike, evaluate_alike}
 use Rattle.rdf_model.proofs.laws.numbered_evaluations_are_alike.Goals as goal
 

@@ -1,5 +1,5 @@
 use Rattle.std.proofs.Common.{◌≡◌, ◌≤◌, ◌+◌, ◌-◌, ℕ, List, length, Some}
-use Rattle.rdf_outside.specs.Whole.{Joins}
+use Rattle.rdf_outside.specs.{Joins}
 use Rattle.rdf_outside.proofs.whole.read_whole.Given as goal
 
 abbrev pub invariant-loop-buffer : goal.invariant-loop-buffer

@@ -1,6 +1,6 @@
 use Rattle.std.proofs.lemmas.Result.{IfOk-weaker}
-use Rattle.entry_fns.specs.Lists.{functions_in}
-use Rattle.input_files.specs.Reading.{marked_table}
+use Rattle.entry_fns.specs.{functions_in}
+use Rattle.input_files.specs.{marked_table}
 use Rattle.rdf_program.proofs.Inputs.{always_ok, friend_answer, turned_to_friend, turned_to_table}
 use Rattle.rdf_program.proofs.input.answer_files.Goals as goal
 

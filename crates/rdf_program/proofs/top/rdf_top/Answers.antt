@@ -1,4 +1,4 @@
-use Rattle.entry_fns.specs.Lists.{functions_in}
+use Rattle.entry_fns.specs.{functions_in}
 use Rattle.rdf_program.proofs.Answering.{due_written, failed_read_written, part_written}
 use Rattle.rdf_program.proofs.top.rdf_top.Goals as goal
 

@@ -1,5 +1,5 @@
 use Rattle.std.proofs.lemmas.Result.{IfOk-weaker, on_ok_weaker}
-use Rattle.entry_fns.specs.Lists.{functions_in}
+use Rattle.entry_fns.specs.{functions_in}
 use Rattle.rdf_program.proofs.Answering.{answers_words, entries_fit, settings_fit, turns_besides}
 use Rattle.rdf_program.proofs.words.answer_words.Goals as goal
 

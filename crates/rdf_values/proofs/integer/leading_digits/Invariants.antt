@@ -1,5 +1,5 @@
 use Rattle.std.proofs.Common.{◌≡◌, ◌<◌, ◌+◌, ◌^◌, Some, take}
-use Rattle.rdf_values.specs.Integers.{written_after}
+use Rattle.rdf_values.specs.{written_after}
 use Rattle.rdf_values.proofs.integer.leading_digits.Given as goal
 
 abbrev pub invariant-loop-i : goal.invariant-loop-i

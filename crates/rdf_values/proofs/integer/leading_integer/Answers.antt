@@ -1,6 +1,5 @@
-use Rattle.std.proofs.Common.{◌≡◌, ◌∷◌, Some, arith, rules, to_z, true, w64}
-use Rattle.std.specs.Prelude.{◌==◌}
-use Rattle.rdf_values.specs.Integers.{positive}
+use Rattle.std.proofs.Common.{◌≡◌, ◌∷◌, Some, arith, rules, to_z, true, w64, ◌==◌}
+use Rattle.rdf_values.specs.{positive}
 use Rattle.rdf_values.proofs.FrontNumbers.{leading_negative, leading_positive, number_below}
 use Rattle.rdf_values.proofs.integer.leading_integer.Goals as goal
 

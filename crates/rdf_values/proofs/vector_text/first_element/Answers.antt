@@ -1,5 +1,5 @@
 use Rattle.std.proofs.Common.{◌≡◌, ◌+◌, arith, drop, get_or, of_z, refl, rules, to_z, true, w64}
-use Rattle.rdf_values.specs.TableText.{is_semicolon}
+use Rattle.rdf_values.specs.{is_semicolon}
 use Rattle.rdf_values.proofs.VectorSteps.{element_before, element_last}
 use Rattle.rdf_values.proofs.Parts.{rest_of}
 use Rattle.rdf_values.proofs.vector_text.first_element.Goals as goal

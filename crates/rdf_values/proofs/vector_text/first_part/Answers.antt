@@ -1,6 +1,6 @@
 use Rattle.std.proofs.Common.{◌+◌, arith, sym}
 use Rattle.std.proofs.lemmas.List.{length-drop}
-use Rattle.rdf_values.specs.TableText.{is_semicolon}
+use Rattle.rdf_values.specs.{is_semicolon}
 use Rattle.rdf_values.proofs.Parts.{cut_at, rest_of}
 use Rattle.rdf_values.proofs.vector_text.first_part.Goals as goal
 

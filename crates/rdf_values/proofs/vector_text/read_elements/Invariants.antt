@@ -1,4 +1,4 @@
-use Rattle.rdf_values.specs.TableText.{vector_of}
+use Rattle.rdf_values.specs.{vector_of}
 use Rattle.rdf_values.proofs.VectorSteps.{Reading, parts_of, size_of}
 use Rattle.rdf_values.proofs.vector_text.read_elements.Given as goal
 

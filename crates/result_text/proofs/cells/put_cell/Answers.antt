@@ -1,8 +1,8 @@
 use Rattle.std.proofs.Common.{◌++◌, sym, ap, ◌∙◌, append-nil, rules, FitsSigned}
 use Rattle.std.specs.Int.{w128}
 use Rattle.std.proofs.lemmas.Int.{to_z-of_z}
-use Rattle.lemmas.proofs.Answers.{on_ok}
-use Rattle.histograms.specs.Cells.{cell_seen}
+use Rattle.lemmas.proofs.{on_ok}
+use Rattle.histograms.specs.{cell_seen}
 use Rattle.result_text.proofs.CellNames.{cell_put, no_line}
 use Rattle.result_text.proofs.cells.put_cell.Goals as goal
 

@@ -1,5 +1,5 @@
 use Rattle.std.proofs.Common.{◌++◌, [], ap, ◌∙◌, arith}
-use Rattle.histograms.specs.Cells.{cell_seen}
+use Rattle.histograms.specs.{cell_seen}
 use Rattle.result_text.proofs.CellNames.{flat_lines, line_last, line_next}
 use Rattle.result_text.proofs.cells.put_flat.Goals as goal
 

@@ -1,5 +1,5 @@
 use Rattle.std.proofs.Common.{◌≡◌, ◌++◌, [], drop}
-use Rattle.result_text.specs.FilledLines.{lines_on}
+use Rattle.result_text.specs.{lines_on}
 use Rattle.result_text.proofs.cells.put_flat.Given as goal
 
 abbrev pub invariant-loop-i : goal.invariant-loop-i

@@ -1,5 +1,5 @@
 use Rattle.std.proofs.Common.{◌++◌, [], get_or, sym, ap, ◌∙◌, append-nil}
-use Rattle.lemmas.proofs.Answers.{on_ok}
+use Rattle.lemmas.proofs.{on_ok}
 use Rattle.result_text.proofs.CellNames.{no_plane, plane_put}
 use Rattle.result_text.proofs.cells.put_named_row.Goals as goal
 

@@ -1,5 +1,5 @@
 use Rattle.std.proofs.Common.{[], get_or}
-use Rattle.histograms.specs.Cells.{cell_seen}
+use Rattle.histograms.specs.{cell_seen}
 use Rattle.result_text.proofs.CellNames.{line_next}
 use Rattle.result_text.proofs.cells.put_row.Goals as goal
 

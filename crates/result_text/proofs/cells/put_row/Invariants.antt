@@ -1,5 +1,5 @@
 use Rattle.std.proofs.Common.{◌≡◌, ◌++◌, [], drop, get_or}
-use Rattle.result_text.specs.FilledLines.{lines_on}
+use Rattle.result_text.specs.{lines_on}
 use Rattle.result_text.proofs.cells.put_row.Given as goal
 
 abbrev pub invariant-loop-j : goal.invariant-loop-j

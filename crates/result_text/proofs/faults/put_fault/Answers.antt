@@ -1,11 +1,10 @@
-use Rattle.std.proofs.Common.{None, subst, sym, ap, ◌∙◌, ◌++◌, decimal, length, slice_get}
-use Rattle.std.specs.Prelude.{slice_index_or}
-use Rattle.lemmas.proofs.Answers.{on_ok}
-use Rattle.graph_numbers.specs.declared.pass.Pass.{Pass}
+use Rattle.std.proofs.Common.{None, subst, sym, ap, ◌∙◌, ◌++◌, decimal, length, slice_get, slice_index_or}
+use Rattle.lemmas.proofs.{on_ok}
+use Rattle.graph_numbers.specs.{Pass}
 use Rattle.result_text.proofs.Passes.{is_pass_at, label_is, pass_there, result_within}
-use Rattle.rdf_model.specs.ResultLines.{fault_name, label, pass_label}
+use Rattle.rdf_model.specs.{fault_name, label, pass_label}
 use Rattle.result_text.proofs.Runs.{fault_put}
-use Rattle.result_text.specs.FilledLines.{passes_at, under_in}
+use Rattle.result_text.specs.{passes_at, under_in}
 use Rattle.result_text.proofs.Within.{IsIn, is_in_for, variation_within}
 use Rattle.result_text.proofs.faults.put_fault.Goals as goal
 

@@ -1,5 +1,5 @@
 use Rattle.std.proofs.Common.{◌≡◌, ◌++◌, drop}
-use Rattle.result_text.specs.PartialText.{watch_lines}
+use Rattle.result_text.specs.{watch_lines}
 use Rattle.result_text.proofs.partials.partial_lines.Given as goal
 
 abbrev pub invariant-loop-line : goal.invariant-loop-line

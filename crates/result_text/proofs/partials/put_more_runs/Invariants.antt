@@ -1,5 +1,5 @@
 use Rattle.std.proofs.Common.{◌≡◌, ◌++◌, drop}
-use Rattle.result_text.specs.PartialText.{more_runs}
+use Rattle.result_text.specs.{more_runs}
 use Rattle.result_text.proofs.partials.put_more_runs.Given as goal
 
 abbrev pub invariant-loop-run : goal.invariant-loop-run

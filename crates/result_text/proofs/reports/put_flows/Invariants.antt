@@ -1,7 +1,6 @@
-use Rattle.std.proofs.Common.{◌≡◌, ◌++◌, drop}
-use Rattle.std.specs.Prelude.{flat_map}
-use Rattle.rdf_model.specs.ResultLines.{flow_line}
-use Rattle.result_text.specs.FilledLines.{flow_at}
+use Rattle.std.proofs.Common.{◌≡◌, ◌++◌, drop, flat_map}
+use Rattle.rdf_model.specs.{flow_line}
+use Rattle.result_text.specs.{flow_at}
 use Rattle.result_text.proofs.reports.put_flows.Given as goal
 
 abbrev pub invariant-loop-f : goal.invariant-loop-f

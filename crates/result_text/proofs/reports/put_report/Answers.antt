@@ -1,5 +1,5 @@
 use Rattle.std.proofs.Common.{◌++◌, ap, ◌∙◌}
-use Rattle.lemmas.proofs.Answers.{on_ok}
+use Rattle.lemmas.proofs.{on_ok}
 use Rattle.result_text.proofs.PassLines.{report_lines}
 use Rattle.result_text.proofs.reports.put_report.Goals as goal
 

@@ -1,10 +1,9 @@
 use Rattle.std.proofs.Common.{◌++◌, ◌+◌, None, length, sym, ap, ◌∙◌, arith, append_assoc}
-use Rattle.lemmas.proofs.Answers.{on_ok}
-use Rattle.lemmas.proofs.Places.{something_at}
-use Rattle.rdf_model.specs.ResultLines.{filled_lines, label}
-use Rattle.graph.specs.Sets.{has}
-use Rattle.graph_numbers.specs.Graphs.{graph_results}
-use Rattle.result_text.specs.FilledLines.{members_from, under_lines}
+use Rattle.lemmas.proofs.{on_ok, something_at}
+use Rattle.rdf_model.specs.{filled_lines, label}
+use Rattle.graph.specs.{has}
+use Rattle.graph_numbers.specs.{graph_results}
+use Rattle.result_text.specs.{members_from, under_lines}
 use Rattle.result_text.proofs.ActionLines.{accs_within, its_name, members_many, nominal_text, numbers_few, passes_many, varied_text}
 use Rattle.result_text.proofs.results.put_action.Goals as goal
 

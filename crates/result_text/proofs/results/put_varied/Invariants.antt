@@ -1,6 +1,6 @@
 use Rattle.std.proofs.Common.{◌≡◌, ◌+◌, ◌≤◌, ◌++◌, drop, length}
-use Rattle.graph.specs.Sets.{has}
-use Rattle.result_text.specs.FilledLines.{members_from, under_lines}
+use Rattle.graph.specs.{has}
+use Rattle.result_text.specs.{members_from, under_lines}
 use Rattle.result_text.proofs.results.put_varied.Given as goal
 
 abbrev pub invariant-loop-v : goal.invariant-loop-v

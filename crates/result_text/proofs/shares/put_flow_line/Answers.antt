@@ -1,5 +1,5 @@
-use Rattle.lemmas.proofs.Answers.{on_ok}
-use Rattle.result_text.specs.FilledLines.{counts_seen}
+use Rattle.lemmas.proofs.{on_ok}
+use Rattle.result_text.specs.{counts_seen}
 use Rattle.result_text.proofs.Runs.{flow_put}
 use Rattle.result_text.proofs.shares.put_flow_line.Goals as goal
 

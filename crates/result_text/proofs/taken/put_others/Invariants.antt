@@ -1,5 +1,5 @@
 use Rattle.std.proofs.Common.{◌≡◌, ◌≤◌, ◌++◌, drop}
-use Rattle.result_text.specs.FilledLines.{more_taken}
+use Rattle.result_text.specs.{more_taken}
 use Rattle.result_text.proofs.taken.put_others.Given as goal
 
 abbrev pub invariant-loop-i : goal.invariant-loop-i

@@ -1,6 +1,6 @@
 use Rattle.std.proofs.Common.{◌++◌, drop, sym, ap, ◌∙◌, append_assoc}
-use Rattle.lemmas.proofs.Answers.{on_ok}
-use Rattle.result_text.specs.FilledLines.{more_taken}
+use Rattle.lemmas.proofs.{on_ok}
+use Rattle.result_text.specs.{more_taken}
 use Rattle.result_text.proofs.Runs.{taken_front}
 use Rattle.result_text.proofs.taken.put_taken.Goals as goal
 

@@ -1,6 +1,5 @@
-use Rattle.rdf_values.specs.Statements.{FirstBad, form_strings}
-use Rattle.rdf_values.specs.Scripts.{RefusesLine, at_string}
-use Rattle.script_read.specs.Views.{form_of}
+use Rattle.rdf_values.specs.{at_string, FirstBad, form_strings, RefusesLine}
+use Rattle.script_read.specs.{form_of}
 use Rattle.script_read.proofs.FirstBads.{handed_on, refused_as}
 use Rattle.script_read.proofs.line.read_line.Goals as goal
 

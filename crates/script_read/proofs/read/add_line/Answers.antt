@@ -1,5 +1,5 @@
 use Rattle.rdf_values.specs.Scripts.{too_many}
-use Rattle.script_read.specs.Adding.{adds_nothing, adds_statement}
+use Rattle.script_read.specs.{adds_nothing, adds_statement}
 use Rattle.std.proofs.Common.{sym, ◌∙◌, arith}
 use Rattle.script_read.proofs.read.add_line.Goals as goal
 

@@ -1,4 +1,4 @@
-use Rattle.rdf_values.specs.Scripts.{refused_line}
+use Rattle.rdf_values.specs.{refused_line}
 use Rattle.script_read.proofs.read.refusal_at.Goals as goal
 
 pub returns-in-Syntax-clause-refused : goal.returns-in-Syntax-clause-refused

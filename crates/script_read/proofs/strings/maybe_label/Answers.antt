@@ -1,4 +1,4 @@
-use Rattle.rdf_values.specs.Statements.{no_label, a_label}
+use Rattle.rdf_values.specs.{a_label, no_label}
 use Rattle.script_read.proofs.FirstBads.{handed_on, refused_here}
 use Rattle.script_read.proofs.strings.maybe_label.Goals as goal
 

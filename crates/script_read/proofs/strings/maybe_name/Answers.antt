@@ -1,4 +1,4 @@
-use Rattle.rdf_values.specs.Statements.{no_name, a_name}
+use Rattle.rdf_values.specs.{a_name, no_name}
 use Rattle.script_read.proofs.FirstBads.{handed_on, refused_here}
 use Rattle.script_read.proofs.strings.maybe_name.Goals as goal
 

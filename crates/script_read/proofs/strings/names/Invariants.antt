@@ -1,6 +1,6 @@
 use Rattle.std.proofs.Common.{map, drop}
-use Rattle.rdf_values.specs.Statements.{all_strings}
-use Rattle.script_read.specs.Views.{quoted_of, strings_of}
+use Rattle.rdf_values.specs.{all_strings}
+use Rattle.script_read.specs.{quoted_of, strings_of}
 use Rattle.script_read.proofs.ManyNames.{Naming}
 use Rattle.script_read.proofs.strings.names.Given as goal
 

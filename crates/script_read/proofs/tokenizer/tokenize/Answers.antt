@@ -1,9 +1,8 @@
 use Rattle.std.proofs.Common.{◌≡◌, ◌∙◌, ◌∷◌, ◌++◌, [], map, sym, refl, arith}
 use Rattle.std.proofs.lemmas.List.{drop_more, map-append}
 use Rattle.std.proofs.lemmas.Grind.{common_steps}
-use Rattle.rdf_values.specs.LineTokens.{Blank, Bad}
-use Rattle.rdf_values.specs.Scripts.{at_byte}
-use Rattle.script_read.specs.Views.{placed_of}
+use Rattle.rdf_values.specs.{at_byte, Bad, Blank}
+use Rattle.script_read.specs.{placed_of}
 use Rattle.script_read.proofs.TokenSteps.{at_place, step_comment, step_token, token_within, at_end}
 use Rattle.script_read.proofs.tokenizer.tokenize.Goals as goal
 use Rattle.script_read.proofs.tokenizer.tokenize.Goals.{else-loop-place-test, then-loop-place-test+in-Comment}

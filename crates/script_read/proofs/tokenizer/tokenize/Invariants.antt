@@ -1,6 +1,6 @@
 use Rattle.std.proofs.Common.{length, ◌-◌, ◌≡◌, ◌≤◌, map}
-use Rattle.rdf_values.specs.LineTokens.{line_tokens}
-use Rattle.script_read.specs.Views.{placed_of}
+use Rattle.rdf_values.specs.{line_tokens}
+use Rattle.script_read.specs.{placed_of}
 use Rattle.script_read.proofs.TokenSteps.{goes_on}
 use Rattle.script_read.proofs.tokenizer.tokenize.Given as goal
 

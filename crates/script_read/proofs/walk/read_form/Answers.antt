@@ -1,5 +1,5 @@
 use Rattle.std.proofs.Common.{◌∙◌, [], Err, map, sym, ap}
-use Rattle.script_read.specs.Views.{placed_of}
+use Rattle.script_read.specs.{placed_of}
 use Rattle.script_read.proofs.Stuck.{refused_for, left_over}
 use Rattle.script_read.proofs.walk.read_form.Goals as goal
 

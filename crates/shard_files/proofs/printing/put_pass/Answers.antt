@@ -1,5 +1,5 @@
-use Rattle.lemmas.proofs.Answers.{on_ok}
-use Rattle.shard_files.specs.Shards.{line_text}
+use Rattle.lemmas.proofs.{on_ok}
+use Rattle.shard_files.specs.{line_text}
 use Rattle.shard_files.proofs.Runs.{line_on}
 use Rattle.shard_files.proofs.printing.put_pass.Goals as goal
 

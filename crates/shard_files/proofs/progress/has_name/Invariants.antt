@@ -1,5 +1,5 @@
 use Rattle.std.proofs.Common.{◌≡◌, drop}
-use Rattle.rdf_values.specs.Tables.{has_name}
+use Rattle.rdf_values.specs.{has_name}
 use Rattle.shard_files.proofs.progress.has_name.Given as goal
 
 abbrev pub invariant-loop-column : goal.invariant-loop-column

@@ -1,5 +1,5 @@
 use Rattle.std.proofs.Common.{◌≡◌, ◌++◌, drop}
-use Rattle.shard_lines.specs.Joining.{added_counts}
+use Rattle.shard_lines.specs.{added_counts}
 use Rattle.shard_lines.proofs.joining.added_counts.Given as goal
 
 abbrev pub invariant-loop-i : goal.invariant-loop-i

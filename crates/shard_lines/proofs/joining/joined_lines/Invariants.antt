@@ -1,5 +1,5 @@
 use Rattle.std.proofs.Common.{◌≡◌, ◌++◌, drop}
-use Rattle.shard_lines.specs.Joining.{joined_lines}
+use Rattle.shard_lines.specs.{joined_lines}
 use Rattle.shard_lines.proofs.joining.joined_lines.Given as goal
 
 abbrev pub invariant-loop-line : goal.invariant-loop-line

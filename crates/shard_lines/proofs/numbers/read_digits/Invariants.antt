@@ -1,5 +1,5 @@
 use Rattle.std.proofs.Common.{◌≡◌, ◌≤◌, drop}
-use Rattle.rdf_values.specs.Integers.{digits_up_to}
+use Rattle.rdf_values.specs.{digits_up_to}
 use Rattle.shard_lines.proofs.numbers.read_digits.Given as goal
 
 abbrev pub invariant-loop-b : goal.invariant-loop-b

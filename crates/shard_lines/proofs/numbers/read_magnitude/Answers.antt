@@ -1,5 +1,5 @@
 use Rattle.std.proofs.Common.{rules}
-use Rattle.rdf_values.specs.Integers.{magnitude_of}
+use Rattle.rdf_values.specs.{magnitude_of}
 use Rattle.shard_lines.proofs.numbers.read_magnitude.Goals as goal
 
 pub returns-then-begins_badly-clause-value : goal.returns-then-begins_badly-clause-value

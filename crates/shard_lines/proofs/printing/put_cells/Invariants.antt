@@ -1,7 +1,5 @@
-use Rattle.std.proofs.Common.{◌≡◌, ◌++◌, take}
-use Rattle.std.specs.Prelude.{flat_map}
-use Rattle.shard_lines.specs.Lines.{cell_words}
-use Rattle.shard_lines.specs.Spaced.{spaced}
+use Rattle.std.proofs.Common.{◌≡◌, ◌++◌, take, flat_map}
+use Rattle.shard_lines.specs.{cell_words, spaced}
 use Rattle.shard_lines.proofs.printing.put_cells.Given as goal
 
 abbrev pub invariant-loop-cell : goal.invariant-loop-cell

@@ -1,7 +1,5 @@
-use Rattle.std.proofs.Common.{◌≡◌, ◌++◌, take}
-use Rattle.std.specs.Prelude.{flat_map}
-use Rattle.shard_lines.specs.Lines.{count_words}
-use Rattle.shard_lines.specs.Spaced.{spaced}
+use Rattle.std.proofs.Common.{◌≡◌, ◌++◌, take, flat_map}
+use Rattle.shard_lines.specs.{count_words, spaced}
 use Rattle.shard_lines.proofs.printing.put_counts.Given as goal
 
 abbrev pub invariant-loop-count : goal.invariant-loop-count

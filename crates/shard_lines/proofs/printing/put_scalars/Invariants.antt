@@ -1,6 +1,5 @@
 use Rattle.std.proofs.Common.{◌≡◌, ◌++◌, map, take}
-use Rattle.shard_lines.specs.Lines.{scalar_word}
-use Rattle.shard_lines.specs.Spaced.{spaced}
+use Rattle.shard_lines.specs.{scalar_word, spaced}
 use Rattle.shard_lines.proofs.printing.put_scalars.Given as goal
 
 abbrev pub invariant-loop-value : goal.invariant-loop-value

@@ -1,5 +1,5 @@
 use Rattle.std.proofs.Common.{◌≡◌, drop, length}
-use Rattle.shard_lines.specs.Shapes.{have_shapes}
+use Rattle.shard_lines.specs.{have_shapes}
 use Rattle.shard_lines.proofs.shapes.have_shapes.Given as goal
 
 abbrev pub invariant-loop-i : goal.invariant-loop-i

@@ -1,5 +1,5 @@
 use Rattle.std.proofs.Common.{◌≡◌, get_or, map, take}
-use Rattle.loop_pieces.specs.Flows.{nothing}
+use Rattle.loop_pieces.specs.{nothing}
 use Rattle.shard_loop.proofs.filled_lines.counts_at.Given as goal
 
 abbrev pub invariant-loop-f : goal.invariant-loop-f

@@ -1,6 +1,6 @@
 use Rattle.std.proofs.Common.{[], refl}
-use Rattle.histograms.specs.Cells.{cell_seen}
-use Rattle.shard_spans.specs.Spans.{cell_sum}
+use Rattle.histograms.specs.{cell_seen}
+use Rattle.shard_spans.specs.{cell_sum}
 use Rattle.shard_loop.proofs.Taking.{made_next}
 use Rattle.shard_loop.proofs.filled_lines.flat_cells.Goals as goal
 

@@ -1,5 +1,5 @@
 use Rattle.std.proofs.Common.{◌≡◌, map, take}
-use Rattle.shard_spans.specs.Spans.{cell_sum}
+use Rattle.shard_spans.specs.{cell_sum}
 use Rattle.shard_loop.proofs.filled_lines.flat_cells.Given as goal
 
 abbrev pub invariant-loop-i : goal.invariant-loop-i

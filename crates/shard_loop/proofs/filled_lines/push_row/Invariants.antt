@@ -1,5 +1,5 @@
 use Rattle.std.proofs.Common.{◌≡◌, ◌++◌, [], get_or, map, take}
-use Rattle.shard_spans.specs.Spans.{cell_sum}
+use Rattle.shard_spans.specs.{cell_sum}
 use Rattle.shard_loop.proofs.filled_lines.push_row.Given as goal
 
 abbrev pub invariant-loop-j : goal.invariant-loop-j

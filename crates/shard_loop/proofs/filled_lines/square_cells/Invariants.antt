@@ -1,6 +1,5 @@
-use Rattle.std.proofs.Common.{◌≡◌, map, take}
-use Rattle.std.specs.Prelude.{flat_map}
-use Rattle.shard_spans.specs.Spans.{cell_sum}
+use Rattle.std.proofs.Common.{◌≡◌, map, take, flat_map}
+use Rattle.shard_spans.specs.{cell_sum}
 use Rattle.shard_loop.proofs.filled_lines.square_cells.Given as goal
 
 abbrev pub invariant-loop-i : goal.invariant-loop-i

@@ -1,8 +1,8 @@
 use Rattle.std.proofs.Common.{◌≡◌, ◌<◌, ◌∙◌, ap, length, subst, sym}
 use Rattle.columns.specs.CutsView.{CutsView}
-use Rattle.entry_fns.specs.Lists.{functions_in}
-use Rattle.graph_numbers.specs.Graphs.{GraphView, IsGraph, graph_loops}
-use Rattle.rdf_values.specs.Functions.{fn_names}
+use Rattle.entry_fns.specs.{functions_in}
+use Rattle.graph_numbers.specs.{graph_loops, GraphView, IsGraph}
+use Rattle.rdf_values.specs.{fn_names}
 use Rattle.shard_loop.proofs.loops.loop_at.Goals as goal
 
 pub run_loop-one-requires-clause-job : goal.run_loop-one-requires-clause-job

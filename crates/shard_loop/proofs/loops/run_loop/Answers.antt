@@ -1,4 +1,4 @@
-use Rattle.loop_keys.specs.Jobs.{job_of}
+use Rattle.loop_keys.specs.{job_of}
 use Rattle.shard_loop.proofs.Looping.{faulted_loop, is_piece, whole_loop}
 use Rattle.shard_loop.proofs.loops.run_loop.Goals as goal
 

@@ -1,7 +1,7 @@
 use Rattle.std.proofs.Common.{◌≡◌, length}
-use Rattle.entry_fns.specs.Lists.{functions_in}
-use Rattle.shard_spans.specs.Spans.{loops_of}
-use Rattle.shard_loop.specs.LoopSpans.{cuts_of, table_of}
+use Rattle.entry_fns.specs.{functions_in}
+use Rattle.shard_spans.specs.{loops_of}
+use Rattle.shard_loop.specs.{cuts_of, table_of}
 use Rattle.shard_loop.proofs.Looping.{IsUpToLoop}
 use Rattle.shard_loop.proofs.loops.span_loops.Given as goal
 

@@ -1,5 +1,5 @@
 use Rattle.std.proofs.Common.{◌∙◌, ap, arith, length}
-use Rattle.loop_keys.specs.Jobs.{job_of}
+use Rattle.loop_keys.specs.{job_of}
 use Rattle.event_loop.proofs.Adding.{counted, fewer, read}
 use Rattle.shard_loop.proofs.passes.pass_count.Goals as goal
 

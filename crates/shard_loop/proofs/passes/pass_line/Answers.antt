@@ -1,18 +1,14 @@
-use Rattle.std.proofs.Common.{◌<◌, sym, ap, ◌∙◌, subst, arith, get_or, length, map, take}
-use Rattle.std.specs.Prelude.{All, slice_get}
+use Rattle.std.proofs.Common.{◌<◌, sym, ap, ◌∙◌, subst, arith, get_or, length, map, take, All, slice_get}
 use Rattle.std.proofs.lemmas.Option.{same_Some, slice_get_within}
 use Rattle.std.proofs.lemmas.Result.{IfOk-weaker}
-use Rattle.rdf_values.specs.Bookings.{named_before}
-use Rattle.rdf_values.specs.Path.{history}
-use Rattle.rdf_model.specs.LoopFacts.{kinds_in}
-use Rattle.loop_keys.specs.Jobs.{job_of, passes_in}
-use Rattle.loop_keys.specs.Entries.{job_spans}
+use Rattle.rdf_values.specs.{history, named_before}
+use Rattle.rdf_model.specs.{kinds_in}
+use Rattle.loop_keys.specs.{job_of, job_spans, passes_in}
 use Rattle.event_loop.proofs.Adding.{of_action, result_within}
-use Rattle.loop_pieces.specs.Flows.{nothing}
-use Rattle.shard_lines.specs.declared.shard_line.ShardLine.{ShardLine}
-use Rattle.shard_lines.specs.declared.shard_line.ShardLine.TheVariants as line
-use Rattle.shard_spans.specs.Spans.{booking_line, clusters_in, filled_line, pass_line}
-use Rattle.shard_loop.specs.LoopSpans.{span_rows_of}
+use Rattle.loop_pieces.specs.{nothing}
+use Rattle.shard_lines.specs.{ShardLine}
+use Rattle.shard_spans.specs.{booking_line, clusters_in, filled_line, pass_line}
+use Rattle.shard_loop.specs.{span_rows_of}
 use Rattle.shard_loop.proofs.JobPasses.{is_report, own, own_is}
 use Rattle.shard_loop.proofs.PassLines.{action_line, counts_line, covers_inside, has_accumulator, none_over}
 use Rattle.shard_loop.proofs.passes.pass_line.Goals as goal
@@ -66,5 +62,5 @@ returns-in_ok-counts_at-in-Report g c = λ lo hi p span at.
     let sound = none_over j.dataset (job_spans j) (clusters_in lo hi) _ (passes_in j) span.sound in
     let counts = counts_line j.dataset (history j.script) (job_spans j) (clusters_in lo hi) (passes_in j) c.args.piece.now span.stands sound c.args.number mine here report.filters report.booking c.covered-covered.result.now report.numbered in
     let same = same_Some mine p (sym here ∙ at) in
-    ap line.Report (c.in_ok-counts_at-in-Report.ensures ∙ ap (λ flow. map (λ f. get_or flow f nothing) c.covered-covered.result.now) c.flow.ensures ∙ counts)
+    ap ShardLine.Report (c.in_ok-counts_at-in-Report.ensures ∙ ap (λ flow. map (λ f. get_or flow f nothing) c.covered-covered.result.now) c.flow.ensures ∙ counts)
     ∙ sym (ap (λ b. booking_line (span_rows_of j lo hi) b mine) report.booking) ∙ ap (pass_line (span_rows_of j lo hi)) same

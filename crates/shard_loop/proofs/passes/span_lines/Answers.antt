@@ -1,9 +1,9 @@
 use Rattle.std.proofs.Common.{◌∙◌, ◌+◌, ◌≤◌, ap, arith, length, map, refl, sym}
 use Rattle.std.proofs.lemmas.List.{take_all}
-use Rattle.lemmas.proofs.Places.{something_at}
-use Rattle.loop_keys.specs.Jobs.{job_of, passes_in}
-use Rattle.shard_spans.specs.Spans.{pass_line}
-use Rattle.shard_loop.specs.LoopSpans.{span_rows_of}
+use Rattle.lemmas.proofs.{something_at}
+use Rattle.loop_keys.specs.{job_of, passes_in}
+use Rattle.shard_spans.specs.{pass_line}
+use Rattle.shard_loop.specs.{span_rows_of}
 use Rattle.shard_loop.proofs.JobPasses.{lines_next}
 use Rattle.shard_loop.proofs.passes.span_lines.Goals as goal
 

@@ -1,8 +1,8 @@
 use Rattle.std.proofs.Common.{◌≡◌, ◌≤◌, ℕ, length, map, take}
-use Rattle.rdf_model.specs.LoopFacts.{kinds_in}
-use Rattle.loop_keys.specs.Jobs.{job_of, passes_in}
-use Rattle.shard_spans.specs.Spans.{pass_line}
-use Rattle.shard_loop.specs.LoopSpans.{IsSpanPiece, span_rows_of}
+use Rattle.rdf_model.specs.{kinds_in}
+use Rattle.loop_keys.specs.{job_of, passes_in}
+use Rattle.shard_spans.specs.{pass_line}
+use Rattle.shard_loop.specs.{IsSpanPiece, span_rows_of}
 use Rattle.shard_loop.proofs.passes.span_lines.Given as goal
 
 abbrev pub invariant-loop-number : goal.invariant-loop-number

@@ -1,8 +1,7 @@
 use Rattle.std.proofs.Common.{◌≡◌, ap, ◌∙◌, Ok, arith, refl, subst}
-use Rattle.loop_keys.specs.Jobs.{job_of}
-use Rattle.loop_keys.specs.Entries.{facts_in}
-use Rattle.loop_pieces.specs.LoopPieces.{StandsFor}
-use Rattle.event_loop.specs.Jobs.{job_facts}
+use Rattle.loop_keys.specs.{facts_in, job_of}
+use Rattle.loop_pieces.specs.{StandsFor}
+use Rattle.event_loop.specs.{job_facts}
 use Rattle.shard_loop.proofs.SpanRuns.{IsUpTo, all_below, begun, ends, goes_on, many, stops}
 use Rattle.shard_loop.proofs.span_run.process_span.Goals as goal
 

@@ -1,5 +1,5 @@
 use Rattle.std.proofs.Common.{◌≤◌}
-use Rattle.loop_keys.specs.Jobs.{job_of}
+use Rattle.loop_keys.specs.{job_of}
 use Rattle.shard_loop.proofs.SpanRuns.{IsUpTo}
 use Rattle.shard_loop.proofs.span_run.process_span.Given as goal
 

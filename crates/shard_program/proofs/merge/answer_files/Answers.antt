@@ -1,4 +1,4 @@
-use Rattle.entry_fns.specs.Lists.{functions_in}
+use Rattle.entry_fns.specs.{functions_in}
 use Rattle.shard_program.proofs.ShardReading.{all_due_ok, none_due}
 use Rattle.shard_program.proofs.merge.answer_files.Goals as goal
 

@@ -1,5 +1,5 @@
-use Rattle.entry_fns.specs.Lists.{functions_in}
-use Rattle.shard_program.specs.Shards.{IsDueToFiles}
+use Rattle.entry_fns.specs.{functions_in}
+use Rattle.shard_program.specs.{IsDueToFiles}
 use Rattle.shard_program.proofs.FileReading.{script_read_ok}
 use Rattle.shard_program.proofs.merge.answer_merge.Goals as goal
 

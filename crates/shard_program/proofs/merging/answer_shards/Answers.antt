@@ -1,6 +1,6 @@
 use Rattle.std.proofs.Common.{subst, sym}
-use Rattle.rdf_values.specs.Tables.{IsHeader}
-use Rattle.entry_fns.specs.Lists.{functions_in}
+use Rattle.rdf_values.specs.{IsHeader}
+use Rattle.entry_fns.specs.{functions_in}
 use Rattle.shard_program.proofs.Answering.{first_header, shards_due}
 use Rattle.shard_program.proofs.merging.answer_shards.Goals as goal
 

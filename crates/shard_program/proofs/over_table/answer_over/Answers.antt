@@ -1,5 +1,5 @@
-use Rattle.entry_fns.specs.Lists.{functions_in}
-use Rattle.table_csv.specs.ColumnsOver.{marked_in}
+use Rattle.entry_fns.specs.{functions_in}
+use Rattle.table_csv.specs.{marked_in}
 use Rattle.shard_program.proofs.OverTables.{script_refused, table_due}
 use Rattle.shard_program.proofs.over_table.answer_over.Goals as goal
 

@@ -1,7 +1,6 @@
-use Rattle.entry_fns.specs.Lists.{functions_in}
-use Rattle.input_files.specs.Due.{WithTableFile}
-use Rattle.shard_due.specs.Due.{IsDueToTable}
-use Rattle.shard_due.specs.Statuses.{statuses}
+use Rattle.entry_fns.specs.{functions_in}
+use Rattle.input_files.specs.{WithTableFile}
+use Rattle.shard_due.specs.{IsDueToTable, statuses}
 use Rattle.shard_program.proofs.FileReading.{script_read_ok}
 use Rattle.shard_program.proofs.run.answer_run.Goals as goal
 

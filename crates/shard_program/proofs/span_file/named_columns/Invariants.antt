@@ -1,5 +1,5 @@
 use Rattle.std.proofs.Common.{◌≡◌, take}
-use Rattle.shard_program.specs.NamedColumns.{AreNamed}
+use Rattle.shard_program.specs.{AreNamed}
 use Rattle.shard_program.proofs.span_file.named_columns.Given as goal
 
 abbrev pub invariant-loop-column : goal.invariant-loop-column

@@ -1,9 +1,9 @@
 use Rattle.std.proofs.Common.{◌∙◌, ap, length, refl, subst, sym}
-use Rattle.entry_fns.specs.Lists.{functions_in}
-use Rattle.rdf_values.specs.Cuts.{cut}
+use Rattle.entry_fns.specs.{functions_in}
+use Rattle.rdf_values.specs.{cut}
 use Rattle.columns.specs.CutsView.{CutsView}
-use Rattle.shard_files.specs.Shards.{IsShard}
-use Rattle.shard_program.specs.NamedColumns.{AreNamed}
+use Rattle.shard_files.specs.{IsShard}
+use Rattle.shard_program.specs.{AreNamed}
 use Rattle.shard_program.proofs.OverTables.{found_is_shard, parts_are}
 use Rattle.shard_program.proofs.span_file.span_shard.Goals as goal
 

@@ -1,4 +1,4 @@
-use Rattle.entry_fns.specs.Lists.{functions_in}
+use Rattle.entry_fns.specs.{functions_in}
 use Rattle.shard_program.proofs.Topping.{due_written, is_written, part_written}
 use Rattle.shard_program.proofs.top.shard_top.Goals as goal
 

@@ -1,5 +1,5 @@
 use Rattle.std.proofs.Common.{◌∙◌, ap, Some}
-use Rattle.entry_fns.specs.Lists.{functions_in}
+use Rattle.entry_fns.specs.{functions_in}
 use Rattle.shard_words.specs.declared.command.ShardCommand.TheVariants.{Run}
 use Rattle.shard_program.proofs.Asking.{run_fits_asked}
 use Rattle.shard_program.proofs.Topping.{command_answer}

@@ -1,8 +1,7 @@
-use Rattle.std.proofs.Common.{◌≡◌, ◌≤◌, ◌++◌, ◌-◌, map, take, drop, ap, ◌∙◌, arith, rules}
-use Rattle.std.specs.Prelude.{nat_lt}
+use Rattle.std.proofs.Common.{◌≡◌, ◌≤◌, ◌++◌, ◌-◌, map, take, drop, ap, ◌∙◌, arith, rules, nat_lt}
 use Rattle.std.proofs.lemmas.List.Sorted.{IsPartitionPoint-from_clause, IsPartitionedBy-ltb}
-use Rattle.lemmas.proofs.Parts.{take_all}
-use Rattle.slot_words.specs.Chosen.{added_in, cluster_in, piece_in}
+use Rattle.lemmas.proofs.{take_all}
+use Rattle.slot_words.specs.{added_in, cluster_in, piece_in}
 use Rattle.slot_words.proofs.Stretches.{IsStretch, entry_appended, is_stretch, no_fall, stretch}
 use Rattle.slot_words.proofs.between.choose_between.Goals as goal
 use Rattle.slot_words.proofs.between.choose_between.Goals.{After-partition_point-end}

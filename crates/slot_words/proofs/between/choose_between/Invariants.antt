@@ -1,5 +1,5 @@
 use Rattle.std.proofs.Common.{◌≡◌, ◌++◌, map, take}
-use Rattle.slot_words.specs.Chosen.{cluster_in, piece_in}
+use Rattle.slot_words.specs.{cluster_in, piece_in}
 use Rattle.slot_words.proofs.between.choose_between.Given as goal
 
 abbrev pub invariant-loop-noted : goal.invariant-loop-noted

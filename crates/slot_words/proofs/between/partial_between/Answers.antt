@@ -1,11 +1,10 @@
-use Rattle.std.proofs.Common.{map, length, [], ap, sym, ◌∙◌, refl, subst, arith}
-use Rattle.std.specs.Prelude.{IsPermutation}
+use Rattle.std.proofs.Common.{map, length, [], ap, sym, ◌∙◌, refl, subst, arith, IsPermutation}
 use Rattle.std.specs.List.Sorted.{IsStrictlyIncreasing}
 use Rattle.std.proofs.lemmas.List.{length-map}
 use Rattle.std.proofs.lemmas.List.Sorted.{IsNonDecreasingBy-from_sort}
 use Rattle.std.proofs.lemmas.Option.{get_or_from_slice_get}
-use Rattle.rdf_values.specs.Draws.{IsUnion}
-use Rattle.slot_words.specs.Chosen.{AreOf, added, cluster_in, piece_in}
+use Rattle.rdf_values.specs.{IsUnion}
+use Rattle.slot_words.specs.{added, AreOf, cluster_in, piece_in}
 use Rattle.slot_words.proofs.Alone.{single, stand_alone, unite}
 use Rattle.slot_words.proofs.Stretches.{all_added, as_long, as_many, trail_added}
 use Rattle.slot_words.proofs.between.partial_between.Goals as goal

@@ -2,9 +2,8 @@ use Rattle.std.proofs.Common.{◌<◌, ℕ, List, [], ◌∷◌, map, refl, ap, 
 use Rattle.std.specs.List.{All}
 use Rattle.std.specs.List.Sorted.{IsStrictlyIncreasing}
 use Rattle.rdf_values.proofs.UnionLemmas.{by_counts, both_rise, none_rises, two}
-use Rattle.rdf_model.specs.PartialResults.{maximal_runs}
-use Rattle.loop_pieces.specs.PartialLines.{span_of}
-use Rattle.loop_pieces.specs.Trails.{watch_facts}
+use Rattle.rdf_model.specs.{maximal_runs}
+use Rattle.loop_pieces.specs.{span_of, watch_facts}
 use Rattle.slot_words.proofs.Noting.{StandsAt, have_numbers, alone_added, added_once, added_some, few_added, first_set}
 use Rattle.slot_words.proofs.lines.first_line.Goals as goal
 

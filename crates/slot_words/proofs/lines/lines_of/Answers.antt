@@ -1,6 +1,6 @@
 use Rattle.std.proofs.Common.{◌≡◌, ℕ, [], ◌∷◌, ◌++◌, ◌+◌, ◌*◌, ◌/◌, length, map, sym, ap, ◌∙◌, subst, arith, length-append}
-use Rattle.rdf_values.specs.Cuts.{below}
-use Rattle.loop_pieces.specs.PartialLines.{ArePartialLines, IsPartialLine}
+use Rattle.rdf_values.specs.{below}
+use Rattle.loop_pieces.specs.{ArePartialLines, IsPartialLine}
 use Rattle.slot_words.proofs.Chaining.{last_line, lines_next, multiple_below}
 use Rattle.slot_words.proofs.Noting.{set_at}
 use Rattle.slot_words.proofs.lines.lines_of.Goals as goal

@@ -1,8 +1,7 @@
 use Rattle.std.proofs.Common.{◌≡◌, ◌+◌, ◌*◌, length, map}
-use Rattle.rdf_values.specs.Cuts.{below}
-use Rattle.loop_pieces.specs.PartialLines.{ArePartialLines}
-use Rattle.slot_words.specs.Chains.{set_before}
-use Rattle.slot_words.specs.Trails.{WatchedPlace}
+use Rattle.rdf_values.specs.{below}
+use Rattle.loop_pieces.specs.{ArePartialLines}
+use Rattle.slot_words.specs.{set_before, WatchedPlace}
 use Rattle.slot_words.proofs.lines.lines_of.Given as goal
 
 abbrev pub invariant-loop-j : goal.invariant-loop-j

@@ -1,7 +1,6 @@
-use Rattle.std.proofs.Common.{◌<◌, ℕ, List, [], ◌∷◌, sym, ◌∙◌, subst, arith}
-use Rattle.std.specs.Prelude.{All}
-use Rattle.rdf_values.specs.Draws.{IsUnion}
-use Rattle.loop_pieces.specs.Trails.{watch_facts}
+use Rattle.std.proofs.Common.{◌<◌, ℕ, List, [], ◌∷◌, sym, ◌∙◌, subst, arith, All}
+use Rattle.rdf_values.specs.{IsUnion}
+use Rattle.loop_pieces.specs.{watch_facts}
 use Rattle.slot_words.proofs.Noting.{have_numbers, alone_added, added_once, added_some, few_added, set_at, set_grown}
 use Rattle.slot_words.proofs.lines.next_line.Goals as goal
 

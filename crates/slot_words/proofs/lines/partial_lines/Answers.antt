@@ -1,6 +1,6 @@
 use Rattle.std.proofs.Common.{get_or, arith}
 use Rattle.std.proofs.lemmas.Option.{slice_get-get_or}
-use Rattle.slot_words.specs.Chains.{chain_of}
+use Rattle.slot_words.specs.{chain_of}
 use Rattle.slot_words.proofs.Watched.{next_ahead, trails_there, taken_are, more_lines, have_partials}
 use Rattle.slot_words.proofs.lines.partial_lines.Goals as goal
 

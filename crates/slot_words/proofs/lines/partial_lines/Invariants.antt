@@ -1,7 +1,6 @@
 use Rattle.std.proofs.Common.{◌≡◌, ℕ, List, length}
 use Rattle.rdf_model.specs.declared.loop_facts.LoopFacts.{LoopFacts}
-use Rattle.slot_words.specs.Chains.{AreNoted, chain_of}
-use Rattle.slot_words.specs.Trails.{HaveAllTrails}
+use Rattle.slot_words.specs.{AreNoted, chain_of, HaveAllTrails}
 use Rattle.slot_words.proofs.Watched.{AreAhead, AreLinesUpTo}
 use Rattle.slot_words.proofs.lines.partial_lines.Given as goal
 

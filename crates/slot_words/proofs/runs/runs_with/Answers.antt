@@ -1,6 +1,6 @@
 use Rattle.std.proofs.Common.{◌-◌, ◌<◌, refl, ◌∙◌, arith}
 use Rattle.std.proofs.lemmas.Option.{get_or_from_slice_get}
-use Rattle.loop_pieces.specs.PartialLines.{span_of}
+use Rattle.loop_pieces.specs.{span_of}
 use Rattle.slot_words.proofs.Joining.{none_yet, next_number, next_run, none_left}
 use Rattle.slot_words.proofs.runs.runs_with.Goals as goal
 use Rattle.slot_words.proofs.runs.runs_with.Goals.{then-i-gt0, else-i-gt0+then-k-gt0}

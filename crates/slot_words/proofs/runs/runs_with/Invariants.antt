@@ -1,7 +1,7 @@
 use Rattle.std.proofs.Common.{◌≡◌, ◌+◌, ◌≤◌, ℕ, List, [], ◌∷◌, length, map, take}
-use Rattle.rdf_values.specs.Draws.{IsUnion}
-use Rattle.rdf_model.specs.PartialResults.{maximal_runs}
-use Rattle.loop_pieces.specs.PartialLines.{span_of}
+use Rattle.rdf_values.specs.{IsUnion}
+use Rattle.rdf_model.specs.{maximal_runs}
+use Rattle.loop_pieces.specs.{span_of}
 use Rattle.slot_words.proofs.Joining.{IsJoining}
 use Rattle.slot_words.proofs.runs.runs_with.Given as goal
 

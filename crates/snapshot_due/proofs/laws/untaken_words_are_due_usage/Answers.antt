@@ -1,8 +1,6 @@
-use Rattle.std.proofs.Common.{refl, subst, sym}
-use Rattle.std.specs.Prelude.{MatchOption, ◌≡◌}
-use Rattle.input_files.specs.Due.{due_of}
-use Rattle.snapshot_due.specs.Due.{IsDueToFiles}
-use Rattle.snapshot_due.specs.Lines.{usage_line}
+use Rattle.std.proofs.Common.{refl, subst, sym, MatchOption, ◌≡◌}
+use Rattle.input_files.specs.{due_of}
+use Rattle.snapshot_due.specs.{IsDueToFiles, usage_line}
 use Rattle.snapshot_due.specs.declared.status.SnapshotStatus.TheVariants.{Words}
 use Rattle.snapshot_due.proofs.laws.untaken_words_are_due_usage.Goals as goal
 

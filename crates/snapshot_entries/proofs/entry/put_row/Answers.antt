@@ -1,4 +1,4 @@
-use Rattle.snapshot_entries.specs.Jobs.{data_of, plan_of}
+use Rattle.snapshot_entries.specs.{data_of, plan_of}
 use Rattle.snapshot_entries.proofs.Answering.{row_stopped}
 use Rattle.snapshot_entries.proofs.entry.put_row.Goals as goal
 

@@ -1,10 +1,8 @@
 use Rattle.std.proofs.Common.{◌≡◌, ◌<◌, Bool, true, false, Err, refl, sym, ap, ◌∙◌, subst}
 use Rattle.std.specs.List.{AllByRecursion}
-use Rattle.rdf_model.specs.Evaluation.{Gives, for_all}
-use Rattle.graph_numbers.specs.Outcomes.{through_sites}
-use Rattle.snapshot_entries.specs.Entries.{IsRowAnswer}
-use Rattle.snapshot_entries.specs.Jobs.{data_of, plan_of}
-use Rattle.snapshot_entries.specs.Values.{IsAnswer, IsColumn, site_in, site_total, version_in}
+use Rattle.rdf_model.specs.{for_all, Gives}
+use Rattle.graph_numbers.specs.{through_sites}
+use Rattle.snapshot_entries.specs.{data_of, IsAnswer, IsColumn, IsRowAnswer, plan_of, site_in, site_total, version_in}
 use Rattle.snapshot_entries.proofs.Answering.{entry_kept, entry_skipped, entry_stopped}
 use Rattle.snapshot_entries.proofs.Planned.{columns_good, filters_below, outcome_is}
 use Rattle.snapshot_entries.proofs.entry.try_entry.Goals as goal

@@ -1,6 +1,5 @@
 use Rattle.std.proofs.Common.{ℕ, ◌<◌, get_or}
-use Rattle.snapshot_entries.specs.Jobs.{data_of, plan_of}
-use Rattle.snapshot_entries.specs.Values.{AreKnown, Grows, IsSourceHeld, source_of}
+use Rattle.snapshot_entries.specs.{AreKnown, data_of, Grows, IsSourceHeld, plan_of, source_of}
 use Rattle.snapshot_entries.proofs.evaluate.+serve.Given as goal
 
 abbrev pub decreases-serve : goal.decreases-serve

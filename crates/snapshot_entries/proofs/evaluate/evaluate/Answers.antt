@@ -1,5 +1,4 @@
-use Rattle.snapshot_entries.specs.Jobs.{data_of, plan_of}
-use Rattle.snapshot_entries.specs.Values.{site_in}
+use Rattle.snapshot_entries.specs.{data_of, plan_of, site_in}
 use Rattle.snapshot_entries.proofs.Evaluated.{all_fit, can_ask, scalar_faulted, scalar_given, scalar_never, told_whole, value_faulted, value_given, value_never}
 use Rattle.snapshot_entries.proofs.evaluate.evaluate.Goals as goal
 

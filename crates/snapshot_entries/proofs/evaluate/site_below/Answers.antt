@@ -1,10 +1,8 @@
-use Rattle.std.proofs.Common.{◌≡◌, ◌<◌, ℕ, map, Option, Some, None, ◌∙◌, sym, ap}
-use Rattle.std.specs.Prelude.{IfSome}
-use Rattle.rdf_values.specs.declared.value.ColType.{ColType}
-use Rattle.rdf_model.specs.Results.{Dataset}
-use Rattle.snapshot_plan.specs.Views.{PlanView}
-use Rattle.snapshot_entries.specs.Jobs.{data_of, plan_of}
-use Rattle.snapshot_entries.specs.Values.{site_behind, source_of}
+use Rattle.std.proofs.Common.{◌≡◌, ◌<◌, ℕ, map, Option, Some, None, ◌∙◌, sym, ap, IfSome}
+use Rattle.rdf_values.specs.{ColType}
+use Rattle.rdf_model.specs.{Dataset}
+use Rattle.snapshot_plan.specs.{PlanView}
+use Rattle.snapshot_entries.specs.{data_of, plan_of, site_behind, source_of}
 use Rattle.snapshot_entries.proofs.Evaluated.{below}
 use Rattle.snapshot_entries.proofs.Serving.{behind_below, in_list}
 use Rattle.snapshot_entries.proofs.evaluate.site_below.Goals as goal

@@ -1,6 +1,5 @@
 use Rattle.std.proofs.Common.{sym, subst}
-use Rattle.snapshot_entries.specs.Jobs.{data_of, plan_of}
-use Rattle.snapshot_entries.specs.Values.{AreServed}
+use Rattle.snapshot_entries.specs.{AreServed, data_of, plan_of}
 use Rattle.snapshot_entries.proofs.Answering.{served_more}
 use Rattle.snapshot_entries.proofs.values.+serve_columns.Goals as goal
 

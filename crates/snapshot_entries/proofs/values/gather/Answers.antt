@@ -1,6 +1,5 @@
 use Rattle.std.proofs.Common.{◌<◌, ◌≡◌, length, get_or, refl, arith}
-use Rattle.snapshot_entries.specs.Jobs.{data_of, plan_of}
-use Rattle.snapshot_entries.specs.Values.{version_in}
+use Rattle.snapshot_entries.specs.{data_of, plan_of, version_in}
 use Rattle.snapshot_entries.proofs.Answering.{cell_given, gathered_all, gathered_next, given_value}
 use Rattle.snapshot_entries.proofs.values.gather.Goals as goal
 

@@ -1,9 +1,7 @@
 use Rattle.std.proofs.Common.{◌≡◌, List, map, take}
-use Rattle.rdf_values.specs.Values.{value_of}
-use Rattle.rdf_values.specs.declared.value.Value.{Value}
-use Rattle.rdf_model.specs.Evaluation.{Gives, for_all}
-use Rattle.snapshot_entries.specs.Jobs.{data_of, plan_of}
-use Rattle.snapshot_entries.specs.Values.{version_in}
+use Rattle.rdf_values.specs.{Value, value_of}
+use Rattle.rdf_model.specs.{for_all, Gives}
+use Rattle.snapshot_entries.specs.{data_of, plan_of, version_in}
 use Rattle.snapshot_entries.proofs.values.gather.Given as goal
 
 abbrev pub invariant-loop-column : goal.invariant-loop-column

@@ -1,7 +1,7 @@
 use Rattle.std.proofs.Common.{length, ap, ◌∙◌, arith}
-use Rattle.graph_numbers.specs.Graphs.{GraphView, booked_statements, graph_versions}
-use Rattle.graph.specs.Lookups.{statements}
-use Rattle.snapshot_entries.specs.Jobs.{data_of, plan_of}
+use Rattle.graph_numbers.specs.{booked_statements, graph_versions, GraphView}
+use Rattle.graph.specs.{statements}
+use Rattle.snapshot_entries.specs.{data_of, plan_of}
 use Rattle.snapshot_entries.proofs.Versions.{version_few, versions_many}
 use Rattle.snapshot_entries.proofs.wanted.version_at.Goals as goal
 

@@ -1,8 +1,7 @@
 use Rattle.std.proofs.Common.{◌≡◌, ◌<◌, ◌∷◌, ◌++◌, [], length, get_or, map, take, ap, ◌∙◌, arith}
-use Rattle.graph_numbers.specs.Graphs.{booked_statements}
-use Rattle.graph_numbers.specs.Versions.{version_at}
+use Rattle.graph_numbers.specs.{booked_statements, version_at}
 use Rattle.snapshot_plan.proofs.Listed.{next_mapped}
-use Rattle.snapshot_entries.specs.Jobs.{data_of, plan_of}
+use Rattle.snapshot_entries.specs.{data_of, plan_of}
 use Rattle.snapshot_entries.proofs.wanted.versions.Goals as goal
 
 pub loop-name-preserved : goal.loop-name-preserved

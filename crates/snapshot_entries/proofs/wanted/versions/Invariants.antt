@@ -1,7 +1,6 @@
 use Rattle.std.proofs.Common.{◌≡◌, map, take}
-use Rattle.graph_numbers.specs.Graphs.{booked_statements}
-use Rattle.graph_numbers.specs.Versions.{version_at}
-use Rattle.snapshot_entries.specs.Jobs.{data_of, plan_of}
+use Rattle.graph_numbers.specs.{booked_statements, version_at}
+use Rattle.snapshot_entries.specs.{data_of, plan_of}
 use Rattle.snapshot_entries.proofs.wanted.versions.Given as goal
 
 abbrev pub invariant-loop-name : goal.invariant-loop-name

@@ -1,10 +1,10 @@
 use Rattle.std.proofs.Common.{◌≡◌, ◌<◌, length, map, min, sym, ap, ◌∙◌, subst, arith}
 use Rattle.std.specs.List.{All}
 use Rattle.std.proofs.lemmas.List.Elements.{All-map}
-use Rattle.rdf_values.specs.Draws.{DrawnBy}
-use Rattle.rdf_values.specs.Machine.{least_fault}
-use Rattle.slot_words.specs.Seats.{IsOf, IsLeast, IsPassed, SeatSeen}
-use Rattle.snapshot_pieces.specs.Gathered.{HasAll, HasMemory, end_faults, seat_in}
+use Rattle.rdf_values.specs.{DrawnBy, least_fault}
+use Rattle.slot_words.specs.{IsLeast, IsPassed, SeatSeen}
+use Rattle.slot_words.specs.Seats.{IsOf}
+use Rattle.snapshot_pieces.specs.{end_faults, HasAll, HasMemory, seat_in}
 use Rattle.snapshot_pieces.proofs.Ended.{drawn_in, has_all, IsKept, least_is_first, left_none}
 use Rattle.snapshot_pieces.proofs.gather.gathered.Goals as goal
 

@@ -1,6 +1,5 @@
-use Rattle.std.proofs.Common.{◌≡◌, ◌++◌, map, vec_len}
-use Rattle.std.specs.Prelude.{flat_map}
-use Rattle.snapshot_pieces.specs.Gathered.{pieces_in, seat_in}
+use Rattle.std.proofs.Common.{◌≡◌, ◌++◌, map, vec_len, flat_map}
+use Rattle.snapshot_pieces.specs.{pieces_in, seat_in}
 use Rattle.snapshot_pieces.proofs.gather.taken_apart.Given as goal
 
 abbrev pub invariant-loop-left : goal.invariant-loop-left

@@ -1,6 +1,5 @@
 use Rattle.std.proofs.Common.{◌≡◌, [], take, drop}
-use Rattle.snapshot_plan.specs.Plans.{first_bad}
-use Rattle.snapshot_plan.specs.Views.{scope_in}
+use Rattle.snapshot_plan.specs.{first_bad, scope_in}
 use Rattle.snapshot_plan.proofs.columns.first_bad.Given as goal
 
 abbrev pub invariant-loop-i : goal.invariant-loop-i

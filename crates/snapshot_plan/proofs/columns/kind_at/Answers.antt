@@ -1,4 +1,4 @@
-use Rattle.graph.specs.Lookups.{statements}
+use Rattle.graph.specs.{statements}
 use Rattle.snapshot_plan.proofs.Found.{kind_found, kind_none, kind_within, kinds_many}
 use Rattle.snapshot_plan.proofs.columns.kind_at.Goals as goal
 

@@ -1,6 +1,6 @@
 use Rattle.std.proofs.Common.{◌≡◌, false, take}
 use Rattle.std.specs.List.{list_any}
-use Rattle.rdf_values.specs.Path.{same_variation}
+use Rattle.rdf_values.specs.{same_variation}
 use Rattle.snapshot_plan.proofs.under.place_of.Given as goal
 
 abbrev pub invariant-loop-v : goal.invariant-loop-v

@@ -1,4 +1,4 @@
-use Rattle.entry_fns.specs.Lists.{functions_in}
+use Rattle.entry_fns.specs.{functions_in}
 use Rattle.snapshot_program.proofs.Answering.{unplanned_answer}
 use Rattle.snapshot_program.proofs.Plans.{run_answer}
 use Rattle.snapshot_program.proofs.over_table.answer_over.Goals as goal

@@ -1,4 +1,4 @@
-use Rattle.entry_fns.specs.Lists.{functions_in}
+use Rattle.entry_fns.specs.{functions_in}
 use Rattle.snapshot_program.proofs.Plans.{found_due, found_within, planned_due}
 use Rattle.snapshot_program.proofs.planning.plan_for.Goals as goal
 

@@ -1,4 +1,4 @@
-use Rattle.entry_fns.specs.Lists.{functions_in}
+use Rattle.entry_fns.specs.{functions_in}
 use Rattle.snapshot_program.proofs.Writing.{due_written, failed_read_written, part_written}
 use Rattle.snapshot_program.proofs.top.snapshot_top.Goals as goal
 

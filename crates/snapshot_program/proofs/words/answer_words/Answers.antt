@@ -1,7 +1,7 @@
 use Rattle.std.proofs.Common.{◌≡◌, ◌∙◌, Some, sym}
 use Rattle.std.proofs.lemmas.Result.{IfOk-weaker}
-use Rattle.entry_fns.specs.Lists.{functions_in}
-use Rattle.snapshot_words.specs.Asked.{asked_of}
+use Rattle.entry_fns.specs.{functions_in}
+use Rattle.snapshot_words.specs.{asked_of}
 use Rattle.snapshot_program.proofs.Answering.{inputs_answer, refusal_answer}
 use Rattle.snapshot_program.proofs.words.answer_words.Goals as goal
 

@@ -1,5 +1,4 @@
-use Rattle.std.proofs.Common.{◌≡◌, ◌++◌, take}
-use Rattle.std.specs.Prelude.{flat_map}
+use Rattle.std.proofs.Common.{◌≡◌, ◌++◌, take, flat_map}
 use Rattle.snapshot_run.proofs.joining.put_texts.Given as goal
 
 abbrev pub invariant-loop-text : goal.invariant-loop-text

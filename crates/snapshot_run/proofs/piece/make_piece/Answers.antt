@@ -1,9 +1,7 @@
-use Rattle.std.proofs.Common.{Ok, sym, ap, ◌∙◌, subst}
-use Rattle.std.specs.Prelude.{slice_get}
+use Rattle.std.proofs.Common.{Ok, sym, ap, ◌∙◌, subst, slice_get}
 use Rattle.columns.specs.CutsView.{CutsView}
-use Rattle.snapshot_entries.specs.Entries.{IsSkimAnswer}
-use Rattle.snapshot_entries.specs.Jobs.{data_of, plan_of}
-use Rattle.snapshot_run.specs.Runs.{spans_of}
+use Rattle.snapshot_entries.specs.{data_of, IsSkimAnswer, plan_of}
+use Rattle.snapshot_run.specs.{spans_of}
 use Rattle.snapshot_run.proofs.Making.{is_range, piece_made, piece_stopped}
 use Rattle.snapshot_run.proofs.piece.make_piece.Goals as goal
 

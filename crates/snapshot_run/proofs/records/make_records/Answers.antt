@@ -1,14 +1,12 @@
-use Rattle.std.proofs.Common.{ℕ, sym, ◌∙◌, ap, subst, arith}
-use Rattle.std.specs.Prelude.{length}
+use Rattle.std.proofs.Common.{ℕ, sym, ◌∙◌, ap, subst, arith, length}
 use Rattle.std.specs.List.{All}
 use Rattle.columns.specs.CutsView.{CutsView}
-use Rattle.snapshot_entries.specs.Jobs.{data_of, plan_of}
-use Rattle.snapshot_pieces.specs.Facts.{AreFacts}
-use Rattle.snapshot_pieces.specs.Stopping.{HasStopped}
-use Rattle.snapshot_run.specs.Runs.{facts_of, spans_of}
+use Rattle.snapshot_entries.specs.{data_of, plan_of}
+use Rattle.snapshot_pieces.specs.{AreFacts, HasStopped}
+use Rattle.snapshot_run.specs.{facts_of, spans_of}
 use Rattle.snapshot_run.proofs.Whole.{are_facts, are_records, has_all, is_fault}
 use Rattle.snapshot_run.proofs.records.make_records.Goals as goal
-use Rattle.slot_words.specs.SeatEnds.{IsReady}
+use Rattle.slot_words.specs.{IsReady}
 use Rattle.slot_words.proofs.SeatEnds.{seats_many, seats_ready}
 
 pub run_slots-requires-clause-ready : goal.run_slots-requires-clause-ready

@@ -1,7 +1,7 @@
 use Rattle.std.proofs.Common.{List, Ok, ℕ, subst, sym}
-use Rattle.graph_numbers.specs.Graphs.{IsGraph}
-use Rattle.snapshot_entries.specs.Jobs.{data_of, plan_of}
-use Rattle.snapshot_run.specs.Texts.{AreRecords}
+use Rattle.graph_numbers.specs.{IsGraph}
+use Rattle.snapshot_entries.specs.{data_of, plan_of}
+use Rattle.snapshot_run.specs.{AreRecords}
 use Rattle.snapshot_run.proofs.Whole.{is_run, is_work}
 use Rattle.snapshot_run.proofs.running.run.Goals as goal
 

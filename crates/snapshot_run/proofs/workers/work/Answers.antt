@@ -1,5 +1,5 @@
-use Rattle.snapshot_entries.specs.Jobs.{data_of, plan_of}
-use Rattle.snapshot_run.specs.Runs.{facts_of, spans_of}
+use Rattle.snapshot_entries.specs.{data_of, plan_of}
+use Rattle.snapshot_run.specs.{facts_of, spans_of}
 use Rattle.snapshot_run.proofs.Making.{done_more, made_more}
 use Rattle.snapshot_run.proofs.workers.work.Goals as goal
 

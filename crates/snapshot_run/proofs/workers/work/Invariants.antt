@@ -1,9 +1,8 @@
 use Rattle.std.proofs.Common.{◌≡◌, ◌-◌, None, length}
 use Rattle.slot_words.specs.Seats as claims
-use Rattle.snapshot_entries.specs.Entries.{IsSkimOf}
-use Rattle.snapshot_entries.specs.Jobs.{data_of, plan_of}
-use Rattle.snapshot_pieces.specs.Stopping.{AreMade, clusters_of}
-use Rattle.snapshot_run.specs.Runs.{facts_of, spans_of}
+use Rattle.snapshot_entries.specs.{data_of, IsSkimOf, plan_of}
+use Rattle.snapshot_pieces.specs.{AreMade, clusters_of}
+use Rattle.snapshot_run.specs.{facts_of, spans_of}
 use Rattle.snapshot_run.proofs.workers.work.Given as goal
 
 abbrev pub invariant-loop-cluster : goal.invariant-loop-cluster

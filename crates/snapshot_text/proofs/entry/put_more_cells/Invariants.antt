@@ -1,6 +1,6 @@
 use Rattle.std.proofs.Common.{◌≡◌, ◌++◌, ◌∷◌, flat_map, take}
-use Rattle.rdf_values.specs.Values.{value_of}
-use Rattle.snapshot_text.specs.TableTexts.{cell_field}
+use Rattle.rdf_values.specs.{value_of}
+use Rattle.snapshot_text.specs.{cell_field}
 use Rattle.snapshot_text.proofs.entry.put_more_cells.Given as goal
 
 abbrev pub invariant-loop-cell : goal.invariant-loop-cell

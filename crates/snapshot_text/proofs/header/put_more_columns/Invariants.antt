@@ -1,5 +1,5 @@
 use Rattle.std.proofs.Common.{◌≡◌, ◌++◌, ◌∷◌, flat_map, take}
-use Rattle.snapshot_text.specs.TableTexts.{column_field}
+use Rattle.snapshot_text.specs.{column_field}
 use Rattle.snapshot_text.proofs.header.put_more_columns.Given as goal
 
 abbrev pub invariant-loop-column : goal.invariant-loop-column

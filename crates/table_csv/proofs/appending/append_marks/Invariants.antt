@@ -1,5 +1,5 @@
 use Rattle.std.proofs.Common.{◌≡◌, ◌++◌, take}
-use Rattle.table_csv.specs.Joins.{marks_behind}
+use Rattle.table_csv.specs.{marks_behind}
 use Rattle.table_csv.proofs.appending.append_marks.Given as goal
 
 abbrev pub invariant-loop-i : goal.invariant-loop-i

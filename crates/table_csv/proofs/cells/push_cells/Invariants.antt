@@ -1,5 +1,5 @@
 use Rattle.csv.specs.Records.{fields_of}
-use Rattle.rdf_values.specs.TableText.{cells_from}
+use Rattle.rdf_values.specs.{cells_from}
 use Rattle.table_csv.proofs.PushSteps.{Pushing}
 use Rattle.table_csv.proofs.cells.push_cells.Given as goal
 

@@ -1,7 +1,7 @@
 use Rattle.std.proofs.Common.{◌≡◌, ◌∙◌, ◌<◌, ◌++◌, ap, inl, inr, length, rules, refl, append-nil, sym}
 use Rattle.std.proofs.lemmas.Result.{err_from_is_err_and}
 use Rattle.csv.specs.Records.{fields_of}
-use Rattle.rdf_values.specs.Kept.{rows_kept}
+use Rattle.rdf_values.specs.{rows_kept}
 use Rattle.rdf_values.proofs.CellWords.{row_fits_columns}
 use Rattle.rdf_values.proofs.RowPushed.{holds_push, length-rows_kept, pushed_back, rows_after_push}
 use Rattle.table_csv.proofs.CellSteps.{row_early}

@@ -1,7 +1,6 @@
 use Rattle.std.proofs.Common.{◌-◌, ℕ, List}
-use Rattle.rdf_values.specs.Kept.{HoldsTable, rows_kept}
-use Rattle.table_csv.specs.Csv.{Leaves}
-use Rattle.table_csv.specs.Entries.{entries_of}
+use Rattle.rdf_values.specs.{HoldsTable, rows_kept}
+use Rattle.table_csv.specs.{entries_of, Leaves}
 use Rattle.table_csv.proofs.TableSteps.{Reading}
 use Rattle.table_csv.proofs.entries.read_entries.Given as goal
 

@@ -1,6 +1,6 @@
 use Rattle.std.proofs.Common.{◌≡◌, ◌≤◌, [], drop, length}
 use Rattle.csv.specs.Records.{fields_of}
-use Rattle.rdf_values.specs.TableText.{header_from}
+use Rattle.rdf_values.specs.{header_from}
 use Rattle.table_csv.proofs.HeaderSteps.{header_onto}
 use Rattle.table_csv.proofs.header.read_header.Given as goal
 

@@ -1,5 +1,5 @@
 use Rattle.std.proofs.Common.{◌∙◌}
-use Rattle.table_csv.specs.Lines.{is_special}
+use Rattle.table_csv.specs.{is_special}
 use Rattle.table_csv.proofs.ByteSearch.{found_any}
 use Rattle.table_csv.proofs.lines.has_special.Goals as goal
 

@@ -1,6 +1,6 @@
 use Rattle.std.proofs.Common.{◌≡◌, ◌++◌, All}
-use Rattle.columns.specs.Wholes.{joined}
-use Rattle.table_csv.specs.Lines.{EndsLine}
+use Rattle.columns.specs.{joined}
+use Rattle.table_csv.specs.{EndsLine}
 use Rattle.table_csv.proofs.parts.whole_lines.Given as goal
 
 abbrev pub invariant-loop-part : goal.invariant-loop-part

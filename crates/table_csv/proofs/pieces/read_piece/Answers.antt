@@ -1,5 +1,5 @@
 use Rattle.std.proofs.Common.{◌∙◌, sym}
-use Rattle.table_csv.specs.Csv.{csv_records}
+use Rattle.table_csv.specs.{csv_records}
 use Rattle.table_csv.proofs.PieceSteps.{behind_head, good_answer, piece_of}
 use Rattle.table_csv.proofs.pieces.read_piece.Goals as goal
 

@@ -1,5 +1,5 @@
 use Rattle.std.proofs.lemmas.Result.{err_from_is_err_and}
-use Rattle.table_csv.specs.Csv.{csv_records}
+use Rattle.table_csv.specs.{csv_records}
 use Rattle.table_csv.proofs.Headed.{headed_table}
 use Rattle.table_csv.proofs.reading.read_table.Goals as goal
 

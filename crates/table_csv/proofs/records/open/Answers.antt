@@ -1,5 +1,5 @@
 use Rattle.std.proofs.Common.{rules}
-use Rattle.table_csv.specs.Csv.{csv_records}
+use Rattle.table_csv.specs.{csv_records}
 use Rattle.table_csv.proofs.records.open.Goals as goal
 
 pub returns : goal.returns

@@ -1,5 +1,5 @@
 use Rattle.std.proofs.Common.{◌∙◌, ◌++◌, refl, sym}
-use Rattle.columns.specs.Wholes.{joined}
+use Rattle.columns.specs.{joined}
 use Rattle.table_csv.proofs.PieceSteps.{head_answer}
 use Rattle.table_csv.proofs.slots.read_behind.Goals as goal
 

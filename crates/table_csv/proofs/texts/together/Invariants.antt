@@ -1,5 +1,5 @@
 use Rattle.std.proofs.Common.{◌≡◌, take}
-use Rattle.columns.specs.Wholes.{joined}
+use Rattle.columns.specs.{joined}
 use Rattle.table_csv.proofs.texts.together.Given as goal
 
 abbrev pub invariant-loop-text : goal.invariant-loop-text

@@ -1,7 +1,6 @@
 use Rattle.std.proofs.Common.{arith}
-use Rattle.rdf_values.specs.Spread.{spread}
-use Rattle.actions.specs.Holding.{kind_of}
-use Rattle.actions.specs.Parts.{values_of}
+use Rattle.rdf_values.specs.{spread}
+use Rattle.actions.specs.{kind_of, values_of}
 use Rattle.actions.proofs.Order.{all_below, all_below-feed}
 use Rattle.actions.proofs.acc.Acc.feed.Goals as goal
 

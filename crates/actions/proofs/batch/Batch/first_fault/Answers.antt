@@ -1,5 +1,5 @@
 use Rattle.std.proofs.Common.{rules, ◌≡◌, false, sym}
-use Rattle.actions.specs.Batches.{places_of}
+use Rattle.actions.specs.{places_of}
 use Rattle.actions.proofs.Batching.{none_found}
 use Rattle.actions.proofs.batch.Batch.first_fault.Goals as goal
 

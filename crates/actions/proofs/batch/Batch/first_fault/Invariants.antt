@@ -1,6 +1,6 @@
 use Rattle.std.proofs.Common.{◌≡◌, drop}
-use Rattle.rdf_values.specs.declared.action.ActionKind.{ActionKind}
-use Rattle.actions.specs.Batches.{EachPlace, SuitsAt, first_fault_in, places_of}
+use Rattle.rdf_values.specs.{ActionKind}
+use Rattle.actions.specs.{EachPlace, first_fault_in, places_of, SuitsAt}
 use Rattle.actions.proofs.batch.Batch.first_fault.Given as goal
 
 abbrev pub invariant-loop-i : goal.invariant-loop-i

@@ -1,7 +1,7 @@
 use Rattle.std.proofs.Common.{◌≡◌, ◌+◌, ◌++◌, List, map, pos, take}
-use Rattle.rdf_values.specs.declared.item.Item.{Item}
+use Rattle.rdf_values.specs.{Item}
 use Rattle.rdf_values.specs.declared.item.Item.TheVariants.{Point}
-use Rattle.histograms.specs.OneAxis.{HasFilled}
+use Rattle.histograms.specs.{HasFilled}
 use Rattle.actions.proofs.folding.Hist1Folds.take_in.Given as goal
 
 abbrev pub invariant-loop-number : goal.invariant-loop-number

@@ -1,9 +1,8 @@
-use Rattle.std.proofs.Common.{rules, arith, ◌∷◌, [], ◌∙◌, ap, w64, FitsSigned, ◌+ℤ◌, refl}
-use Rattle.std.specs.Prelude.{fold}
+use Rattle.std.proofs.Common.{rules, arith, ◌∷◌, [], ◌∙◌, ap, w64, FitsSigned, ◌+ℤ◌, refl, fold}
 use Rattle.std.specs.Int.{w128, int_max, int_min}
 use Rattle.std.proofs.lemmas.Int.{to_z-of_z}
-use Rattle.rdf_values.specs.Fold.{reduce_step}
-use Rattle.actions.specs.Extremes.{better_of}
+use Rattle.rdf_values.specs.{reduce_step}
+use Rattle.actions.specs.{better_of}
 use Rattle.actions.proofs.States.{first_short, holds_count, holds_flat, holds_max, holds_min, holds_reduce, holds_square, holds_sum, holds_take, on_ok, spread_flat, spread_square}
 use Rattle.actions.proofs.state.State.feed.Goals as goal
 

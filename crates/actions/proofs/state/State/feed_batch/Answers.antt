@@ -1,12 +1,8 @@
-use Rattle.std.proofs.Common.{rules, arith, ◌≡◌, true, false, subst, sym, ◌++◌, ◌+ℤ◌, length, length-append, ap, ◌∙◌, w64, FitsSigned}
-use Rattle.std.specs.Prelude.{flat_map, fold}
+use Rattle.std.proofs.Common.{rules, arith, ◌≡◌, true, false, subst, sym, ◌++◌, ◌+ℤ◌, length, length-append, ap, ◌∙◌, w64, FitsSigned, flat_map, fold}
 use Rattle.std.specs.Int.{w128}
 use Rattle.std.proofs.lemmas.Int.{to_z-of_z}
-use Rattle.rdf_values.specs.declared.action.ActionKind.TheVariants as kind
-use Rattle.rdf_values.specs.Fold.{reduce_step}
-use Rattle.actions.specs.Batches.{first_numbers_in, places_of, values_at}
-use Rattle.actions.specs.Holding.{IsWithin}
-use Rattle.actions.specs.Parts.{first_scalar}
+use Rattle.rdf_values.specs.{ActionKind, reduce_step}
+use Rattle.actions.specs.{first_numbers_in, first_scalar, IsWithin, places_of, values_at}
 use Rattle.actions.proofs.Batching.{few_values, number_items, one_each, taken_items}
 use Rattle.actions.proofs.States.{either_way, holds_counted, holds_greatest, holds_least, holds_reduced, holds_summed, holds_taken, on_ok, spread_max, spread_min, spread_reduce, spread_sum}
 use Rattle.actions.proofs.state.State.feed_batch.Goals as goal
@@ -25,17 +21,17 @@ returns-in-Sum-clause-fed c = λ fed below held.
     let zs = first_numbers_in c.args.batch.now in
     rw c.in-Sum.is (holds_summed fed c.args.cluster below c.in-Sum.column c.in-Sum.sum _ zs _
     (to_z-of_z w128 c.sum_batch.result fits ∙ c.sum_batch.ensures.value ∙ ap (λ z. fold ◌+ℤ◌ z zs) (to_z-of_z w128 c.in-Sum.sum fits_sum))
-    (number_items (kind.Sum c.in-Sum.column) c.args.batch.now.sources (places_of c.args.batch.now.places) (spread_sum c.in-Sum.column)) (rw c.in-Sum.is at held))
+    (number_items (ActionKind.Sum c.in-Sum.column) c.args.batch.now.sources (places_of c.args.batch.now.places) (spread_sum c.in-Sum.column)) (rw c.in-Sum.is at held))
 
 pub returns-in-Min-clause-fed : goal.returns-in-Min-clause-fed
 returns-in-Min-clause-fed c = λ fed below held.
     rw c.in-Min.is (holds_least fed c.args.cluster below c.in-Min.column c.in-Min.least _ (first_numbers_in c.args.batch.now) _ c.least_batch.ensures
-    (number_items (kind.Min c.in-Min.column) c.args.batch.now.sources (places_of c.args.batch.now.places) (spread_min c.in-Min.column)) (rw c.in-Min.is at held))
+    (number_items (ActionKind.Min c.in-Min.column) c.args.batch.now.sources (places_of c.args.batch.now.places) (spread_min c.in-Min.column)) (rw c.in-Min.is at held))
 
 pub returns-in-Max-clause-fed : goal.returns-in-Max-clause-fed
 returns-in-Max-clause-fed c = λ fed below held.
     rw c.in-Max.is (holds_greatest fed c.args.cluster below c.in-Max.column c.in-Max.greatest _ (first_numbers_in c.args.batch.now) _ c.greatest_batch.ensures
-    (number_items (kind.Max c.in-Max.column) c.args.batch.now.sources (places_of c.args.batch.now.places) (spread_max c.in-Max.column)) (rw c.in-Max.is at held))
+    (number_items (ActionKind.Max c.in-Max.column) c.args.batch.now.sources (places_of c.args.batch.now.places) (spread_max c.in-Max.column)) (rw c.in-Max.is at held))
 
 pub returns-in_ok-more-in-Take-clause-within : goal.returns-in_ok-more-in-Take-clause-within
 returns-in_ok-more-in-Take-clause-within c = λ n w.
@@ -62,7 +58,7 @@ returns-in-Reduce-clause-fed c = λ fed below held.
     let zs = first_numbers_in c.args.batch.now in
     rw c.in-Reduce.is (holds_reduced fed c.args.cluster below c.in-Reduce.column op c.in-Reduce.reduction.value _ zs _
     (to_z-of_z w64 c.reduce_batch-reduction.result fits ∙ c.reduce_batch-reduction.ensures ∙ ap (λ z. fold (reduce_step op) z zs) (to_z-of_z w64 c.in-Reduce.reduction.value fits_value))
-    (number_items (kind.Reduce op c.in-Reduce.column) c.args.batch.now.sources (places_of c.args.batch.now.places) (spread_reduce op c.in-Reduce.column)) (rw c.in-Reduce.is at held))
+    (number_items (ActionKind.Reduce op c.in-Reduce.column) c.args.batch.now.sources (places_of c.args.batch.now.places) (spread_reduce op c.in-Reduce.column)) (rw c.in-Reduce.is at held))
 
 pub returns-then-not-fill_at_once-clause-within : goal.returns-then-not-fill_at_once-clause-within
 returns-then-not-fill_at_once-clause-within c = λ n w.

@@ -1,11 +1,6 @@
-use Rattle.std.proofs.Common.{rules, arith, ℕ, ◌≡◌, ◌≤◌, ◌<◌, ◌+◌, ◌++◌, List, length, take, get_or, ap, sym, subst, ◌∙◌}
-use Rattle.std.specs.Prelude.{flat_map}
-use Rattle.rdf_values.specs.declared.item.Item.{Item}
-use Rattle.rdf_values.specs.Spread.{spread}
-use Rattle.actions.specs.Batches.{places_of, values_at}
-use Rattle.actions.specs.Feeding.{from_cluster}
-use Rattle.actions.specs.Holding.{Holds, kind_of}
-use Rattle.actions.specs.Parts.{values_of}
+use Rattle.std.proofs.Common.{rules, arith, ℕ, ◌≡◌, ◌≤◌, ◌<◌, ◌+◌, ◌++◌, List, length, take, get_or, ap, sym, subst, ◌∙◌, flat_map}
+use Rattle.rdf_values.specs.{Item, spread}
+use Rattle.actions.specs.{from_cluster, Holds, kind_of, places_of, values_at, values_of}
 use Rattle.actions.proofs.Batching.{one_more_fed, one_place_more, within_more}
 use Rattle.actions.proofs.Order.{all_below-feed}
 use Rattle.actions.proofs.state.State.feed_each.Goals as goal

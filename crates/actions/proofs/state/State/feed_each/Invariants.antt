@@ -1,9 +1,6 @@
-use Rattle.std.proofs.Common.{◌≡◌, ◌≤◌, ◌+◌, ◌++◌, ℕ, List, All, take}
-use Rattle.std.specs.Prelude.{flat_map}
-use Rattle.rdf_values.specs.Spread.{spread}
-use Rattle.actions.specs.Batches.{places_of, values_at}
-use Rattle.actions.specs.Feeding.{Fed, from_cluster}
-use Rattle.actions.specs.Holding.{Holds, IsWithin, kind_of}
+use Rattle.std.proofs.Common.{◌≡◌, ◌≤◌, ◌+◌, ◌++◌, ℕ, List, All, take, flat_map}
+use Rattle.rdf_values.specs.{spread}
+use Rattle.actions.specs.{Fed, from_cluster, Holds, IsWithin, kind_of, places_of, values_at}
 use Rattle.actions.proofs.state.State.feed_each.Given as goal
 
 abbrev pub invariant-loop-i : goal.invariant-loop-i

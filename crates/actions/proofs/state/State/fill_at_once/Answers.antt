@@ -1,8 +1,7 @@
 use Rattle.std.proofs.Common.{arith, [], ◌≡◌, ◌∙◌, ap, refl}
-use Rattle.rdf_values.specs.declared.action.ActionKind.TheVariants as kind
+use Rattle.rdf_values.specs.{ActionKind}
 use Rattle.actions.specs.declared.batch.Sources.TheVariants.{Pair, Weighted, WeightedPair}
-use Rattle.actions.specs.declared.lane.Lane.TheVariants as lane
-use Rattle.actions.specs.Batches.{places_of}
+use Rattle.actions.specs.{Lane, places_of}
 use Rattle.actions.proofs.Batching.{few_points, lane_points, paired_points, weighted_pair_points, weighted_points}
 use Rattle.actions.proofs.Points.{none_filled}
 use Rattle.actions.proofs.States.{holds_flat, holds_square}
@@ -29,7 +28,7 @@ returns-in-One-clause-within c = λ t n w.
 pub returns-in-One-clause-kind : goal.returns-in-One-clause-kind
 returns-in-One-clause-kind c =
     let same = (c.fold_lane.ensures.folded c.in-Histo1D.hist [] (none_filled c.in-Histo1D.hist)).0 in
-    rw c.in-Histo1D.is (ap (λ edges. kind.Histo1D edges c.in-Histo1D.x c.in-Histo1D.weight) same)
+    rw c.in-Histo1D.is (ap (λ edges. ActionKind.Histo1D edges c.in-Histo1D.x c.in-Histo1D.weight) same)
 
 pub returns-in-One-clause-fed : goal.returns-in-One-clause-fed
 returns-in-One-clause-fed c = λ t cluster fed below held.
@@ -42,19 +41,19 @@ returns-in-One-clause-fed c = λ t cluster fed below held.
 pub returns-in-Weighted-Int-Int-clause-fed : goal.returns-in-Weighted-Int-Int-clause-fed
 returns-in-Weighted-Int-Int-clause-fed c = λ t cluster fed below held.
     let hist = c.in-Histo1D.hist in
-    let x_is : c.in-Weighted-Int-Int.x ≡ lane.Int c.in-Weighted-Int-Int.numbers = rw c.in-Weighted-Int-Int.is at c.in-Weighted-Int-Int.x-is in
-    let w_is : c.in-Weighted-Int-Int.w ≡ lane.Int c.in-Weighted-Int-Int.weights = rw c.in-Weighted-Int-Int.is at c.in-Weighted-Int-Int.w-is in
+    let x_is : c.in-Weighted-Int-Int.x ≡ Lane.Int c.in-Weighted-Int-Int.numbers = rw c.in-Weighted-Int-Int.is at c.in-Weighted-Int-Int.x-is in
+    let w_is : c.in-Weighted-Int-Int.w ≡ Lane.Int c.in-Weighted-Int-Int.weights = rw c.in-Weighted-Int-Int.is at c.in-Weighted-Int-Int.w-is in
     rw c.in-Histo1D.is (holds_flat fed cluster below hist c.fill_weighted.new.hist c.in-Histo1D.x c.in-Histo1D.weight _ _
-    (weighted_points hist.edges c.in-Histo1D.x c.in-Histo1D.weight c.args.batch.now.sources (lane.Int c.in-Weighted-Int-Int.numbers) (lane.Int c.in-Weighted-Int-Int.weights) (places_of c.args.batch.now.places) _ _ (c.in-Weighted-Int-Int.is ∙ (λ i. Weighted (x_is i) (w_is i))) (λ p. refl) (λ p. refl))
+    (weighted_points hist.edges c.in-Histo1D.x c.in-Histo1D.weight c.args.batch.now.sources (Lane.Int c.in-Weighted-Int-Int.numbers) (Lane.Int c.in-Weighted-Int-Int.weights) (places_of c.args.batch.now.places) _ _ (c.in-Weighted-Int-Int.is ∙ (λ i. Weighted (x_is i) (w_is i))) (λ p. refl) (λ p. refl))
     c.fill_weighted.ensures.filled (rw c.in-Histo1D.is at held))
 
 pub returns-in-Pair-Int-Int-clause-fed : goal.returns-in-Pair-Int-Int-clause-fed
 returns-in-Pair-Int-Int-clause-fed c = λ t cluster fed below held.
     let hist = c.in-Histo2D.hist in
-    let x_is : c.in-Pair-Int-Int.x ≡ lane.Int c.in-Pair-Int-Int.xs = rw c.in-Pair-Int-Int.is at c.in-Pair-Int-Int.x-is in
-    let y_is : c.in-Pair-Int-Int.y ≡ lane.Int c.in-Pair-Int-Int.ys = rw c.in-Pair-Int-Int.is at c.in-Pair-Int-Int.y-is in
+    let x_is : c.in-Pair-Int-Int.x ≡ Lane.Int c.in-Pair-Int-Int.xs = rw c.in-Pair-Int-Int.is at c.in-Pair-Int-Int.x-is in
+    let y_is : c.in-Pair-Int-Int.y ≡ Lane.Int c.in-Pair-Int-Int.ys = rw c.in-Pair-Int-Int.is at c.in-Pair-Int-Int.y-is in
     rw c.in-Histo2D.is (holds_square fed cluster below hist c.fill_number_pairs.new.hist c.in-Histo2D.x c.in-Histo2D.y c.in-Histo2D.weight _ _
-    (paired_points hist.x_edges hist.y_edges c.in-Histo2D.x c.in-Histo2D.y c.in-Histo2D.weight c.args.batch.now.sources (lane.Int c.in-Pair-Int-Int.xs) (lane.Int c.in-Pair-Int-Int.ys) (places_of c.args.batch.now.places) _ _
+    (paired_points hist.x_edges hist.y_edges c.in-Histo2D.x c.in-Histo2D.y c.in-Histo2D.weight c.args.batch.now.sources (Lane.Int c.in-Pair-Int-Int.xs) (Lane.Int c.in-Pair-Int-Int.ys) (places_of c.args.batch.now.places) _ _
     (c.in-Pair-Int-Int.is ∙ (λ i. Pair (x_is i) (y_is i))) (λ p. refl) (λ p. refl))
     c.fill_number_pairs.ensures.filled (rw c.in-Histo2D.is at held))
 
@@ -62,10 +61,10 @@ pub returns-in-WeightedPair-Int-Int-Int-clause-fed : goal.returns-in-WeightedPai
 returns-in-WeightedPair-Int-Int-Int-clause-fed c = λ t cluster fed below held.
     let hist = c.in-Histo2D.hist in
     let from = c.in-WeightedPair-Int-Int-Int in
-    let x_is : from.x ≡ lane.Int from.xs = rw from.is at from.x-is in
-    let y_is : from.y ≡ lane.Int from.ys = rw from.is at from.y-is in
-    let w_is : from.w ≡ lane.Int from.weights = rw from.is at from.w-is in
+    let x_is : from.x ≡ Lane.Int from.xs = rw from.is at from.x-is in
+    let y_is : from.y ≡ Lane.Int from.ys = rw from.is at from.y-is in
+    let w_is : from.w ≡ Lane.Int from.weights = rw from.is at from.w-is in
     rw c.in-Histo2D.is (holds_square fed cluster below hist c.fill_weighted_pairs.new.hist c.in-Histo2D.x c.in-Histo2D.y c.in-Histo2D.weight _ _
-    (weighted_pair_points hist.x_edges hist.y_edges c.in-Histo2D.x c.in-Histo2D.y c.in-Histo2D.weight c.args.batch.now.sources (lane.Int from.xs) (lane.Int from.ys) (lane.Int from.weights) (places_of c.args.batch.now.places) _ _ _
+    (weighted_pair_points hist.x_edges hist.y_edges c.in-Histo2D.x c.in-Histo2D.y c.in-Histo2D.weight c.args.batch.now.sources (Lane.Int from.xs) (Lane.Int from.ys) (Lane.Int from.weights) (places_of c.args.batch.now.places) _ _ _
     (from.is ∙ (λ i. WeightedPair (x_is i) (y_is i) (w_is i))) (λ p. refl) (λ p. refl) (λ p. refl))
     c.fill_weighted_pairs.ensures.filled (rw c.in-Histo2D.is at held))

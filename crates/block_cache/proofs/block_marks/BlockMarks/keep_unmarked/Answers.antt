@@ -1,5 +1,5 @@
 use Rattle.std.proofs.Common.{◌∙◌, ap, not, sym}
-use Rattle.expr_lanes.specs.Places.{is_marked}
+use Rattle.expr_lanes.specs.{is_marked}
 use Rattle.block_cache.proofs.LaneSteps.{filter_all, filter_none}
 use Rattle.block_cache.proofs.WholeMarks.{all_seen, nothing_seen}
 use Rattle.block_cache.proofs.block_marks.BlockMarks.keep_unmarked.Goals as goal

@@ -1,5 +1,5 @@
 use Rattle.std.proofs.Common.{◌≡◌, ◌∙◌, ap, arith, length, sym}
-use Rattle.block_cache.specs.Lanes.{LaneView, room_of}
+use Rattle.block_cache.specs.{LaneView, room_of}
 use Rattle.block_cache.proofs.LaneSteps.{unknown_lane}
 use Rattle.block_cache.proofs.Marking.{count_none}
 use Rattle.block_cache.proofs.lane.Lane.begin.Goals as goal

@@ -1,5 +1,5 @@
 use Rattle.std.proofs.Common.{◌≡◌, ◌<◌, ◌∙◌, ℕ, ap, sym, subst, length}
-use Rattle.block_cache.specs.Lanes.{LaneView}
+use Rattle.block_cache.specs.{LaneView}
 use Rattle.block_cache.proofs.LaneSteps.{evaluated_after, given_among, lane_after, scalar_values, scalar_written, written}
 use Rattle.block_cache.proofs.lane.Lane.evaluate.Goals as goal
 

@@ -1,7 +1,7 @@
 use Rattle.std.proofs.Common.{◌≡◌, ◌<◌, ◌∙◌, not, ℕ, List, ap, sym, subst, true}
-use Rattle.expr_lanes.specs.Places.{is_in, is_marked}
+use Rattle.expr_lanes.specs.{is_in, is_marked}
 use Rattle.expr_lanes.proofs.Sequence.{filtered_in}
-use Rattle.block_cache.specs.Lanes.{LaneView}
+use Rattle.block_cache.specs.{LaneView}
 use Rattle.block_cache.proofs.Answering.{on_err}
 use Rattle.block_cache.proofs.EachPlaces.{left_given}
 use Rattle.block_cache.proofs.LaneSteps.{begun_after, each_joined, each_value, evaluated_after, lane_after, lane_begun}

@@ -1,5 +1,5 @@
 use Rattle.std.proofs.Common.{◌++◌, ◌∷◌, [], ◌∙◌, ap, arith, length, map}
-use Rattle.block_cache.specs.Values.{cells_in}
+use Rattle.block_cache.specs.{cells_in}
 use Rattle.block_cache.proofs.VectorLists.{grown, kept_all, kept_more, pushed}
 use Rattle.block_cache.proofs.vectors.Vectors.push.Goals as goal
 

@@ -1,8 +1,8 @@
 use Rattle.std.proofs.Common.{◌-◌, ◌∙◌, ap, arith, length, subst, sym, refl}
 use Rattle.std.proofs.lemmas.List.{with_items_is}
-use Rattle.block_cache.specs.Lanes.{kinds_of, rooms_of}
-use Rattle.loop_keys.specs.Jobs.{job_of}
-use Rattle.block_passes.specs.States.{IsStateOf, StateView}
+use Rattle.block_cache.specs.{kinds_of, rooms_of}
+use Rattle.loop_keys.specs.{job_of}
+use Rattle.block_passes.specs.{IsStateOf, StateView}
 use Rattle.block_passes.specs.contracts.state.BlockState.{the_view}
 use Rattle.block_passes.proofs.BegunBlocks.{is_begun, state_stays}
 use Rattle.block_passes.proofs.state.BlockState.begin.Goals as goal

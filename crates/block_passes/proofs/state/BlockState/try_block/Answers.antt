@@ -1,12 +1,9 @@
 use Rattle.std.proofs.Common.{arith, List, ◌-◌, ◌∙◌, ap, length, subst, sym, ℤ, refl}
 use Rattle.std.specs.Vec.{with_items}
 use Rattle.std.proofs.lemmas.List.{with_items_is}
-use Rattle.block_cache.specs.Lanes.{kinds_of}
-use Rattle.loop_keys.specs.Jobs.{job_of}
-use Rattle.block_passes.specs.Clusters.{entries_from}
-use Rattle.block_passes.specs.Plans.{IsPlan}
-use Rattle.block_passes.specs.Tries.{IsReadyBelow, CanServeAll}
-use Rattle.block_passes.specs.States.{IsStateOf, StateView}
+use Rattle.block_cache.specs.{kinds_of}
+use Rattle.loop_keys.specs.{job_of}
+use Rattle.block_passes.specs.{CanServeAll, entries_from, IsPlan, IsReadyBelow, IsStateOf, StateView}
 use Rattle.block_passes.specs.contracts.state.BlockState.{the_view}
 use Rattle.block_passes.specs.declared.kept.Kept.{Kept}
 use Rattle.block_passes.proofs.ClusterBlocks.{as_entries, tried_as}

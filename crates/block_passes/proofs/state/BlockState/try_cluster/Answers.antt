@@ -1,6 +1,6 @@
 use Rattle.std.proofs.Common.{arith, ◌-◌, ◌∙◌, refl, sym}
-use Rattle.loop_keys.specs.Jobs.{job_of}
-use Rattle.block_passes.specs.Clusters.{at_entry}
+use Rattle.loop_keys.specs.{job_of}
+use Rattle.block_passes.specs.{at_entry}
 use Rattle.block_passes.proofs.ClusterBlocks.{end_as, answer_here, at_first, at_next, before, cost_here, ends_within, has_entry, holds_all, short}
 use Rattle.block_passes.proofs.state.BlockState.try_cluster.Goals as goal
 

@@ -1,6 +1,6 @@
 use Rattle.std.proofs.Common.{◌≡◌, ◌-◌}
-use Rattle.loop_keys.specs.Jobs.{job_of}
-use Rattle.block_passes.specs.States.{IsStateOf}
+use Rattle.loop_keys.specs.{job_of}
+use Rattle.block_passes.specs.{IsStateOf}
 use Rattle.block_passes.proofs.ClusterBlocks.{IsAtBlock}
 use Rattle.block_passes.proofs.state.BlockState.try_cluster.Given as goal
 

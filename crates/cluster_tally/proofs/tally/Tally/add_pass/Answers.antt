@@ -1,6 +1,5 @@
 use Rattle.std.proofs.Common.{subst, sym}
-use Rattle.cluster_tally.specs.Feedings.{IsFresh}
-use Rattle.cluster_tally.specs.Tallies.{TallyView}
+use Rattle.cluster_tally.specs.{IsFresh, TallyView}
 use Rattle.cluster_tally.specs.contracts.tally.Tally.{the_view}
 use Rattle.cluster_tally.proofs.Pieces.{fresh_from}
 use Rattle.cluster_tally.proofs.tally.Tally.add_pass.Goals as goal

@@ -1,11 +1,9 @@
-use Rattle.std.proofs.Common.{◌∙◌, length, ap, arith, subst, sym}
-use Rattle.std.specs.Prelude.{slice_get}
+use Rattle.std.proofs.Common.{◌∙◌, length, ap, arith, subst, sym, slice_get}
 use Rattle.std.specs.Vec.{with_items}
 use Rattle.std.proofs.lemmas.List.{with_items_is}
 use Rattle.std.proofs.lemmas.Result.{on_err_weaker, on_ok_weaker}
-use Rattle.actions.specs.Holding.{IsTake}
-use Rattle.cluster_tally.specs.Blocks.{CanFeedBatch, TookIn, TookInIfThere}
-use Rattle.cluster_tally.specs.Tallies.{TallyView}
+use Rattle.actions.specs.{IsTake}
+use Rattle.cluster_tally.specs.{CanFeedBatch, TallyView, TookIn, TookInIfThere}
 use Rattle.cluster_tally.specs.contracts.tally.Tally.{the_view}
 use Rattle.cluster_tally.proofs.BlockFeeds.{can_take, can_take_alone, holds_fed, its_acc, within, within_watched}
 use Rattle.cluster_tally.proofs.tally.Tally.feed_batch.Goals as goal

@@ -1,6 +1,5 @@
 use Rattle.std.proofs.Common.{refl, subst, sym}
-use Rattle.cluster_tally.specs.Stages.{at_begin}
-use Rattle.cluster_tally.specs.Tallies.{Holds, TallyView}
+use Rattle.cluster_tally.specs.{at_begin, Holds, TallyView}
 use Rattle.cluster_tally.specs.contracts.tally.Tally.{the_view}
 use Rattle.cluster_tally.proofs.Pieces.{stands}
 use Rattle.cluster_tally.proofs.tally.Tally.into_piece.Goals as goal

@@ -1,7 +1,6 @@
 use Rattle.std.proofs.Common.{◌<◌, ◌≤◌, ◌+◌, ◌^◌, get_or, length, subst, sym}
-use Rattle.loop_pieces.specs.Flows.{nothing}
-use Rattle.cluster_tally.specs.Blocks.{CanNoteCounts}
-use Rattle.cluster_tally.specs.Tallies.{TallyView}
+use Rattle.loop_pieces.specs.{nothing}
+use Rattle.cluster_tally.specs.{CanNoteCounts, TallyView}
 use Rattle.cluster_tally.specs.contracts.tally.Tally.{the_view}
 use Rattle.cluster_tally.proofs.BlockNotes.{are_counts, has_room, holds_noted, within}
 use Rattle.cluster_tally.proofs.tally.Tally.note_counts.Goals as goal

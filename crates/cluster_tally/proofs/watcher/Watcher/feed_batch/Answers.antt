@@ -1,5 +1,5 @@
 use Rattle.std.proofs.Common.{subst, sym}
-use Rattle.cluster_tally.specs.Tallies.{CanWatch}
+use Rattle.cluster_tally.specs.{CanWatch}
 use Rattle.cluster_tally.proofs.BlockFeeds.{none_kept}
 use Rattle.cluster_tally.proofs.watcher.Watcher.feed_batch.Goals as goal
 

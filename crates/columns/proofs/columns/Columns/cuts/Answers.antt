@@ -1,6 +1,6 @@
 use Rattle.std.proofs.Common.{map, sym}
 use Rattle.rdf_values.proofs.RowPushed.{length-rows_kept}
-use Rattle.columns.specs.KeptColumns.{cells_of}
+use Rattle.columns.specs.{cells_of}
 use Rattle.columns.proofs.columns.Columns.cuts.Goals as goal
 
 pub returns-clause-valid : goal.returns-clause-valid

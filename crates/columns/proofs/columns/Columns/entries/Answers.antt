@@ -1,6 +1,6 @@
 use Rattle.std.proofs.Common.{◌∙◌, map, sym}
 use Rattle.rdf_values.proofs.RowPushed.{holds_table, length-rows_kept}
-use Rattle.columns.specs.KeptColumns.{cells_of}
+use Rattle.columns.specs.{cells_of}
 use Rattle.columns.proofs.columns.Columns.entries.Goals as goal
 
 pub returns-clause-value : goal.returns-clause-value

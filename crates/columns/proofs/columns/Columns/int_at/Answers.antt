@@ -3,12 +3,11 @@ use Rattle.std.specs.Int.RustNames.{FitsSigned}
 use mir.Syntax.{w64}
 use Rattle.std.proofs.Math.Facts.{to_z-of_z}
 use Rattle.std.proofs.lemmas.Option.{slice_get_within}
-use Rattle.rdf_values.specs.declared.value.Value.TheVariants as v
+use Rattle.rdf_values.specs.{Value}
 use Rattle.rdf_values.proofs.KeptLemmas.{cell_of_column, column_length}
 use Rattle.rdf_values.proofs.RowPushed.{length-rows_kept}
 use Rattle.columns.specs.ColumnsView.{ColumnsView}
-use Rattle.columns.specs.KeptColumns.{cells_of}
-use Rattle.columns.specs.Wholes.{joined}
+use Rattle.columns.specs.{cells_of, joined}
 use Rattle.columns.proofs.Keeping.{entry_here}
 use Rattle.columns.proofs.columns.Columns.int_at.Goals as goal
 
@@ -22,7 +21,7 @@ range-first-requires c = slice_get_within _ c.cluster_of-cluster.result _ c.clus
 
 pub at-requires-clause-cluster : goal.at-requires-clause-cluster
 at-requires-clause-cluster c =
-    let size = column_length c.args.self.now.table.rows c.args.col (λ z. v.Int z) (joined c.ints.result.now) c.ints.ensures.column in
+    let size = column_length c.args.self.now.table.rows c.args.col (λ z. Value.Int z) (joined c.ints.result.now) c.ints.ensures.column in
     let rows = ap (λ (x : ColumnsView). length x.table.rows) c.self.view_is in
     let all : length (joined c.ints.result.now) ≡ c.self.inside.cuts.entries = omega (arith, size, rows, length-rows_kept c.self.inside.cuts.entries (map cells_of c.self.inside.kept.items)) in
     let here = entry_here c.self.inside.cuts.entries c.self.inside.cuts.size c.self.inside.cuts.marks (joined c.ints.result.now) c.ints.result.now c.args.entry c.cluster_of-cluster.result c.range-first.result (rw (← c.self.view_is) at c.ints.ensures.clusters) all c.cluster_of-cluster.ensures c.range-first.ensures in
@@ -30,7 +29,7 @@ at-requires-clause-cluster c =
 
 pub at-requires-clause-place : goal.at-requires-clause-place
 at-requires-clause-place c =
-    let size = column_length c.args.self.now.table.rows c.args.col (λ z. v.Int z) (joined c.ints.result.now) c.ints.ensures.column in
+    let size = column_length c.args.self.now.table.rows c.args.col (λ z. Value.Int z) (joined c.ints.result.now) c.ints.ensures.column in
     let rows = ap (λ (x : ColumnsView). length x.table.rows) c.self.view_is in
     let all : length (joined c.ints.result.now) ≡ c.self.inside.cuts.entries = omega (arith, size, rows, length-rows_kept c.self.inside.cuts.entries (map cells_of c.self.inside.kept.items)) in
     let here = entry_here c.self.inside.cuts.entries c.self.inside.cuts.size c.self.inside.cuts.marks (joined c.ints.result.now) c.ints.result.now c.args.entry c.cluster_of-cluster.result c.range-first.result (rw (← c.self.view_is) at c.ints.ensures.clusters) all c.cluster_of-cluster.ensures c.range-first.ensures in
@@ -38,9 +37,9 @@ at-requires-clause-place c =
 
 pub returns : goal.returns
 returns c =
-    let size = column_length c.args.self.now.table.rows c.args.col (λ z. v.Int z) (joined c.ints.result.now) c.ints.ensures.column in
+    let size = column_length c.args.self.now.table.rows c.args.col (λ z. Value.Int z) (joined c.ints.result.now) c.ints.ensures.column in
     let rows = ap (λ (x : ColumnsView). length x.table.rows) c.self.view_is in
     let all : length (joined c.ints.result.now) ≡ c.self.inside.cuts.entries = omega (arith, size, rows, length-rows_kept c.self.inside.cuts.entries (map cells_of c.self.inside.kept.items)) in
     let here = entry_here c.self.inside.cuts.entries c.self.inside.cuts.size c.self.inside.cuts.marks (joined c.ints.result.now) c.ints.result.now c.args.entry c.cluster_of-cluster.result c.range-first.result (rw (← c.self.view_is) at c.ints.ensures.clusters) all c.cluster_of-cluster.ensures c.range-first.ensures in
     let word : FitsSigned w64 c.at.result = search rules in
-    rw (to_z-of_z word) (cell_of_column c.args.self.now.table.rows c.args.col c.args.entry (λ z. v.Int z) (joined c.ints.result.now) _ c.ints.ensures.column (sym here.3 ∙ c.at.ensures))
+    rw (to_z-of_z word) (cell_of_column c.args.self.now.table.rows c.args.col c.args.entry (λ z. Value.Int z) (joined c.ints.result.now) _ c.ints.ensures.column (sym here.3 ∙ c.at.ensures))

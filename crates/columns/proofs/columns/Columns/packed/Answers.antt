@@ -1,5 +1,5 @@
 use Rattle.std.proofs.Common.{◌∙◌, ap}
-use Rattle.columns.specs.Packings.{packed_of}
+use Rattle.columns.specs.{packed_of}
 use Rattle.columns.proofs.Keeping.{cluster_numbers}
 use Rattle.columns.proofs.columns.Columns.packed.Goals as goal
 

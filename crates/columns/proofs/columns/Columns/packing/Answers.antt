@@ -1,5 +1,5 @@
 use Rattle.std.proofs.Common.{◌∙◌, ap}
-use Rattle.columns.specs.Packings.{packing_of}
+use Rattle.columns.specs.{packing_of}
 use Rattle.columns.proofs.Keeping.{cluster_numbers}
 use Rattle.columns.proofs.columns.Columns.packing.Goals as goal
 

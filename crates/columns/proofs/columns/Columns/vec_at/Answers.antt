@@ -1,6 +1,6 @@
-use Rattle.rdf_values.specs.declared.value.Value.TheVariants as v
+use Rattle.rdf_values.specs.{Value}
 use Rattle.rdf_values.proofs.KeptLemmas.{cell_of_column}
 use Rattle.columns.proofs.columns.Columns.vec_at.Goals as goal
 
 pub returns : goal.returns
-returns c = cell_of_column c.args.self.now.table.rows c.args.col c.args.entry (λ zs. v.Vect zs) c.vects.result.now _ c.vects.ensures c.at.ensures
+returns c = cell_of_column c.args.self.now.table.rows c.args.col c.args.entry (λ zs. Value.Vect zs) c.vects.result.now _ c.vects.ensures c.at.ensures

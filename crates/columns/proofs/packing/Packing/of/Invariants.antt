@@ -1,5 +1,5 @@
 use Rattle.std.proofs.Common.{◌≡◌, pos, get_or, drop}
-use Rattle.columns.specs.Packings.{greatest_from, least_from}
+use Rattle.columns.specs.{greatest_from, least_from}
 use Rattle.columns.proofs.packing.Packing.of.Given as goal
 
 abbrev pub invariant-loop-value : goal.invariant-loop-value

@@ -1,6 +1,6 @@
 use Rattle.std.proofs.Common.{map, sym}
 use Rattle.rdf_values.proofs.RowPushed.{holds_table, length-rows_kept}
-use Rattle.columns.specs.Wholes.{whole}
+use Rattle.columns.specs.{whole}
 use Rattle.columns.proofs.table_pieces.TablePieces.entries.Goals as goal
 
 pub returns-clause-value : goal.returns-clause-value

@@ -1,5 +1,5 @@
 use Rattle.std.proofs.Common.{◌≡◌, ◌<◌, ◌≤◌, length, arith}
-use Rattle.event_loop.specs.Sessions.{session_of}
+use Rattle.event_loop.specs.{session_of}
 use Rattle.event_loop.proofs.Accesses.{accessed_filled, accessed_old, after_faulted, after_filled, after_old, faulted_new, loop_within, print_few, pushed_items}
 use Rattle.event_loop.proofs.session.Session.access.Goals as goal
 

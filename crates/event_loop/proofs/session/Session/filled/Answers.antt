@@ -1,6 +1,6 @@
 use Rattle.std.proofs.Common.{refl, arith, length}
 use Rattle.std.proofs.lemmas.Option.{slice_get_read}
-use Rattle.event_loop.specs.Sessions.{session_of}
+use Rattle.event_loop.specs.{session_of}
 use Rattle.event_loop.proofs.Finding.{completed_at, result_is}
 use Rattle.event_loop.proofs.session.Session.filled.Goals as goal
 

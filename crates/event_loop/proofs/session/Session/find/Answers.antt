@@ -1,5 +1,5 @@
 use Rattle.std.proofs.Common.{◌<◌, length, arith}
-use Rattle.event_loop.specs.Sessions.{session_of}
+use Rattle.event_loop.specs.{session_of}
 use Rattle.event_loop.proofs.Finding.{found, loop_few, loop_there, none_left, one_more}
 use Rattle.event_loop.proofs.session.Session.find.Goals as goal
 

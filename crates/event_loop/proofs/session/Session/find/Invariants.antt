@@ -1,11 +1,8 @@
-use Rattle.std.proofs.Common.{◌≡◌, ◌<◌, ℕ, List, Some, false}
-use Rattle.std.specs.Prelude.{slice_get}
-use Rattle.rdf_values.specs.Bookings.{Booked}
-use Rattle.rdf_values.specs.Path.{history}
-use Rattle.rdf_model.specs.Loops.{loop_results}
-use Rattle.graph_numbers.specs.Graphs.{graph_results}
-use Rattle.graph_numbers.specs.Results.{ResultAt}
-use Rattle.event_loop.specs.Places.{fills}
+use Rattle.std.proofs.Common.{◌≡◌, ◌<◌, ℕ, List, Some, false, slice_get}
+use Rattle.rdf_values.specs.{Booked, history}
+use Rattle.rdf_model.specs.{loop_results}
+use Rattle.graph_numbers.specs.{graph_results, ResultAt}
+use Rattle.event_loop.specs.{fills}
 use Rattle.event_loop.proofs.session.Session.find.Given as goal
 
 abbrev pub invariant-loop-l : goal.invariant-loop-l

@@ -1,5 +1,5 @@
 use Rattle.std.proofs.Common.{inl}
-use Rattle.event_loop.specs.Sessions.{session_of}
+use Rattle.event_loop.specs.{session_of}
 use Rattle.event_loop.proofs.Finding.{completed_at, lines_there_at, partials_at}
 use Rattle.event_loop.proofs.session.Session.partials.Goals as goal
 

@@ -1,6 +1,6 @@
 use Rattle.std.proofs.Common.{arith, subst}
-use Rattle.rdf_values.specs.Path.{history}
-use Rattle.graph_numbers.specs.Graphs.{IsGraph}
+use Rattle.rdf_values.specs.{history}
+use Rattle.graph_numbers.specs.{IsGraph}
 use Rattle.graph_numbers.proofs.Extending.{itself}
 use Rattle.event_loop.proofs.LoopResults.{many}
 use Rattle.event_loop.proofs.session.Session.run.Goals as goal

@@ -1,7 +1,6 @@
 use Rattle.std.proofs.Common.{ap, sym, subst}
-use Rattle.cluster_tally.specs.Stages.{at_begin}
-use Rattle.cluster_tally.specs.Tallies.{Holds, TallyView}
-use Rattle.event_loop.specs.Slots.{SlotView}
+use Rattle.cluster_tally.specs.{at_begin, Holds, TallyView}
+use Rattle.event_loop.specs.{SlotView}
 use Rattle.event_loop.proofs.SlotLemmas.{one_above}
 use Rattle.event_loop.proofs.state.SlotState.into_piece.Goals as goal
 

@@ -1,13 +1,10 @@
 use Rattle.std.proofs.Common.{ℕ, ◌≡◌, ◌∙◌, ◌<◌, ◌++◌, ◌∷◌, [], Err, None, Some, length, ap, arith, refl, subst, sym}
 use Rattle.std.proofs.lemmas.List.{length-map}
 use Rattle.std.specs.declared.snapshot.Snapshot.{Snapshot}
-use Rattle.loop_keys.specs.Jobs.{job_of}
-use Rattle.loop_keys.specs.Entries.{facts_in}
-use Rattle.cluster_tally.specs.Stages.{at_begin}
-use Rattle.cluster_tally.specs.Tallies.{Holds}
-use Rattle.block_passes.specs.Clusters.{IsClusterAnswer, at_end}
-use Rattle.event_loop.specs.Jobs.{job_facts}
-use Rattle.event_loop.specs.Slots.{SlotView}
+use Rattle.loop_keys.specs.{facts_in, job_of}
+use Rattle.cluster_tally.specs.{at_begin, Holds}
+use Rattle.block_passes.specs.{at_end, IsClusterAnswer}
+use Rattle.event_loop.specs.{job_facts, SlotView}
 use Rattle.event_loop.specs.contracts.state.SlotState.{the_view}
 use Rattle.event_loop.proofs.SlotLemmas.{begins, cluster_within, fault_at, goes_on, has_room, is_at_end, seen_with, went_on}
 use Rattle.event_loop.proofs.state.SlotState.process.Goals as goal

@@ -1,6 +1,5 @@
-use Rattle.std.proofs.Common.{◌≡◌, ◌∙◌, ap}
-use Rattle.expr_check.specs.NumKinds.{CheckedExpr, is_plain}
-use Rattle.std.specs.Prelude.{not}
+use Rattle.std.proofs.Common.{◌≡◌, ◌∙◌, ap, not}
+use Rattle.expr_check.specs.{CheckedExpr, is_plain}
 use Rattle.expr_check.proofs.Parts.{test_of_parts}
 use Rattle.expr_check.proofs.Plain.{plain_by_kinds}
 use Rattle.expr_check.proofs.checked.Checked.plain.Goals as goal

@@ -1,6 +1,6 @@
 use Rattle.std.proofs.Common.{◌∙◌, ap, refl}
-use Rattle.rdf_values.specs.Depends.{columns_in}
-use Rattle.expr_check.specs.NumKinds.{CheckedExpr, distinct}
+use Rattle.rdf_values.specs.{columns_in}
+use Rattle.expr_check.specs.{CheckedExpr, distinct}
 use Rattle.expr_check.proofs.WellTyped.{reads_are}
 use Rattle.expr_check.proofs.checked.Checked.reads.Goals as goal
 

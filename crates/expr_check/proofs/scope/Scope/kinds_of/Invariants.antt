@@ -1,7 +1,6 @@
 use Rattle.std.proofs.Common.{◌≡◌, Ok, map, take}
-use Rattle.rdf_values.specs.declared.value.ColType.{ColType}
-use Rattle.expr_check.specs.NumKinds.{number_kind}
-use Rattle.expr_check.specs.Scopes.{numbers_in}
+use Rattle.rdf_values.specs.{ColType}
+use Rattle.expr_check.specs.{number_kind, numbers_in}
 use Rattle.expr_check.proofs.scope.Scope.kinds_of.Given as goal
 
 abbrev pub invariant-loop-number : goal.invariant-loop-number

@@ -1,14 +1,9 @@
 use Rattle.std.proofs.lemmas.Grind.{common_steps}
 use Rattle.std.proofs.lemmas.Result.{IfOk-weaker}
-use Rattle.std.proofs.Common.{w64, SFits, to_z, of_z}
+use Rattle.std.proofs.Common.{w64, SFits, to_z, of_z, ◌∷◌, ◌≡◌, ◌∙◌, List, sym, subst, ap, refl, arith, rules}
 use Rattle.std.proofs.lemmas.Int.{to_z-of_z}
-use Rattle.rdf_values.specs.declared.expr.BinOp.TheVariants as op
-use Rattle.rdf_values.specs.declared.expr.Mark.TheVariants as mark
-use Rattle.std.proofs.Common.{◌∷◌, ◌≡◌, ◌∙◌, List, sym, subst, ap, refl, arith, rules}
-use Rattle.rdf_values.specs.Scans.{InParens, InIndex, InChoice, InCall, Operand, Operator}
-use Rattle.rdf_values.specs.Tokens.{Placed, Op, Punct}
-use Rattle.expr_read.specs.Views.{token_of}
-use Rattle.expr_read.specs.Parsing.{Stops, BeginsNot, stuck_at}
+use Rattle.rdf_values.specs.{BinOp, InCall, InChoice, InIndex, InParens, Mark, Op, Operand, Operator, Placed, Punct}
+use Rattle.expr_read.specs.{BeginsNot, Stops, stuck_at, token_of}
 use Rattle.expr_read.proofs.Took.{took_tighter, took_next, took_number, took_truth, took_name, took_minus_sign, took_not_sign, took_binary, took_conditional, took_pick, took_parens, took_call_none, took_call, took_last, took_more, took_as, args_as, begins_seen}
 use Rattle.expr_read.proofs.Scanned.{scan_after, argument_first, stuck_inside, stops_postfix, stops_binary, stops_expr}
 use Rattle.expr_read.proofs.parser.Parser.+parse.Goals as goal
@@ -19,7 +14,7 @@ args-returns-then-eat-clause-took t c =
 
 pub args-returns-in_err-expect-clause-stuck : goal.args-returns-in_err-expect-clause-stuck
 args-returns-in_err-expect-clause-stuck t c _ s =
-    let nor = subst (λ (ts : List Placed). BeginsNot (Punct mark.Close) ts) c.if-eat.ensures.0 c.in_err-expect.ensures.err.2 in
+    let nor = subst (λ (ts : List Placed). BeginsNot (Punct Mark.Close) ts) c.if-eat.ensures.0 c.in_err-expect.ensures.err.2 in
     c.in_ok-first.ensures.took.scans (InCall ∷ s) ∙ stuck_inside InCall s _ c.in_ok-first.ensures.stops nor (λ _. c.if-eat.ensures.1) ∙ ap stuck_at (sym (c.in_err-expect.ensures.err.1 ∙ c.if-eat.ensures.0))
 
 pub args-returns-clause-took : goal.args-returns-clause-took
@@ -113,7 +108,7 @@ unary-returns-then-eat-clause-took t c =
 pub unary-postfix-requires : goal.unary-postfix-requires
 unary-postfix-requires t c =
     let same = c.if-eat.ensures.0 ∙ c.if-eat_minus.ensures.0 in
-    (search rules, (subst (λ (ts : List Placed). BeginsNot (Op op.Sub) ts) (sym same) c.if-eat_minus.ensures.1, subst (λ (ts : List Placed). BeginsNot (Punct mark.Bang) ts) (sym c.if-eat.ensures.0) c.if-eat.ensures.1))
+    (search rules, (subst (λ (ts : List Placed). BeginsNot (Op BinOp.Sub) ts) (sym same) c.if-eat_minus.ensures.1, subst (λ (ts : List Placed). BeginsNot (Punct Mark.Bang) ts) (sym c.if-eat.ensures.0) c.if-eat.ensures.1))
 
 pub unary-returns-clause-took : goal.unary-returns-clause-took
 unary-returns-clause-took t c =

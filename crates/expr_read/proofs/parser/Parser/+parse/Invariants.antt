@@ -1,7 +1,6 @@
 use Rattle.std.proofs.Common.{◌+◌, ◌-◌, ◌*◌, length}
-use Rattle.rdf_values.specs.ExprTree.{tree_of}
-use Rattle.expr_read.specs.Left.{left_of}
-use Rattle.expr_read.specs.Parsing.{Took, Stops}
+use Rattle.rdf_values.specs.{tree_of}
+use Rattle.expr_read.specs.{left_of, Stops, Took}
 use Rattle.expr_read.proofs.parser.Parser.+parse.Given as goal
 
 -- the tokens that are left, and how far the function stands above those that it calls

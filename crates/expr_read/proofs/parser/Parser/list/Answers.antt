@@ -1,15 +1,13 @@
 use Rattle.std.proofs.Common.{◌∙◌, List, ◌∷◌, sym, subst, ap}
-use Rattle.rdf_values.specs.Scans.{InList}
-use Rattle.rdf_values.specs.Tokens.{Placed, Punct}
-use Rattle.rdf_values.specs.declared.expr.Mark.TheVariants as mark
-use Rattle.expr_read.specs.Parsing.{BeginsNot, stuck_at}
+use Rattle.rdf_values.specs.{InList, Mark, Placed, Punct}
+use Rattle.expr_read.specs.{BeginsNot, stuck_at}
 use Rattle.expr_read.proofs.Scanned.{stuck_inside}
 use Rattle.expr_read.proofs.Took.{list_more, list_done}
 use Rattle.expr_read.proofs.parser.Parser.list.Goals as goal
 
 pub returns-in_err-expect-clause-stuck : goal.returns-in_err-expect-clause-stuck
 returns-in_err-expect-clause-stuck c _ s =
-    let nor = subst (λ (ts : List Placed). BeginsNot (Punct mark.CloseBrace) ts) c.if-not-eat.ensures.0 c.in_err-expect.ensures.err.2 in
+    let nor = subst (λ (ts : List Placed). BeginsNot (Punct Mark.CloseBrace) ts) c.if-not-eat.ensures.0 c.in_err-expect.ensures.err.2 in
     c.loop-items.invariant.scans s ∙ c.in_ok-node.ensures.took.scans (InList ∷ s) ∙ stuck_inside InList s _ c.in_ok-node.ensures.stops nor (λ _. c.if-not-eat.ensures.1)
     ∙ ap stuck_at (sym (c.in_err-expect.ensures.err.1 ∙ c.if-not-eat.ensures.0))
 

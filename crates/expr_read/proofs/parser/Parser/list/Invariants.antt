@@ -1,6 +1,5 @@
 use Rattle.std.proofs.Common.{length}
-use Rattle.expr_read.specs.Left.{left_of}
-use Rattle.expr_read.specs.Parsing.{Listing}
+use Rattle.expr_read.specs.{left_of, Listing}
 use Rattle.expr_read.proofs.parser.Parser.list.Given as goal
 
 abbrev pub invariant-loop-items : goal.invariant-loop-items

@@ -1,15 +1,13 @@
 use Rattle.std.proofs.Common.{◌∙◌, List, [], ◌∷◌, sym, subst, ap, refl}
-use Rattle.rdf_values.specs.Scans.{InLists, AfterList, NextList}
-use Rattle.rdf_values.specs.Tokens.{Placed, Punct}
-use Rattle.rdf_values.specs.declared.expr.Mark.TheVariants as mark
-use Rattle.expr_read.specs.Parsing.{BeginsNot, stuck_at}
+use Rattle.rdf_values.specs.{AfterList, InLists, Mark, NextList, Placed, Punct}
+use Rattle.expr_read.specs.{BeginsNot, stuck_at}
 use Rattle.expr_read.proofs.Scanned.{scan_after}
 use Rattle.expr_read.proofs.Took.{lists_more, lists_done, stuck_between, stuck_next}
 use Rattle.expr_read.proofs.parser.Parser.lists.Goals as goal
 
 pub returns-in_err-expect-clause-stuck : goal.returns-in_err-expect-clause-stuck
 returns-in_err-expect-clause-stuck c _ =
-    let nor = subst (λ (ts : List Placed). BeginsNot (Punct mark.CloseBrace) ts) c.if-not-eat.ensures.0 c.in_err-expect.ensures.err.2 in
+    let nor = subst (λ (ts : List Placed). BeginsNot (Punct Mark.CloseBrace) ts) c.if-not-eat.ensures.0 c.in_err-expect.ensures.err.2 in
     c.loop-lists.invariant.scans ∙ c.in_ok-list.ensures.took.scans (InLists ∷ []) ∙ stuck_between _ c.if-not-eat.ensures.1 nor ∙ ap stuck_at (sym (c.in_err-expect.ensures.err.1 ∙ c.if-not-eat.ensures.0))
 
 pub returns-then-not-eat-clause-took : goal.returns-then-not-eat-clause-took

@@ -1,6 +1,5 @@
 use Rattle.std.proofs.Common.{length}
-use Rattle.expr_read.specs.Left.{left_of}
-use Rattle.expr_read.specs.Parsing.{Listings}
+use Rattle.expr_read.specs.{left_of, Listings}
 use Rattle.expr_read.proofs.parser.Parser.lists.Given as goal
 
 abbrev pub invariant-loop-lists : goal.invariant-loop-lists

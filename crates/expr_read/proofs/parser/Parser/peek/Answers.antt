@@ -1,7 +1,7 @@
 use Rattle.std.proofs.Common.{◌≡◌, List, [], ◌∷◌, drop, map, Some, sym, ap}
 use Rattle.std.specs.List.{slice_get}
 use Rattle.expr_read.specs.declared.token.Placed.{Placed}
-use Rattle.expr_read.specs.Views.{placed_of}
+use Rattle.expr_read.specs.{placed_of}
 use Rattle.expr_read.proofs.parser.Parser.peek.Goals as goal
 
 first_is : (xs : List Placed) (x : Placed) → Some x ≡ slice_get xs 0 → map placed_of xs ≡ placed_of x ∷ drop 1 (map placed_of xs)

@@ -1,10 +1,8 @@
 use Rattle.std.proofs.Common.{◌∙◌, List, [], ◌∷◌, ◌++◌, sym, subst, ap, arith}
 use Rattle.std.proofs.lemmas.Grind.{common_steps}
-use Rattle.rdf_values.specs.Tokens.{Placed, Punct}
-use Rattle.rdf_values.specs.declared.expr.Mark.TheVariants as mark
-use Rattle.expr_read.specs.Parsing.{BeginsNot}
+use Rattle.rdf_values.specs.{Mark, NamedTree, Placed, Punct}
+use Rattle.expr_read.specs.{BeginsNot}
 use Rattle.expr_read.proofs.Took.{vector_first, item_first, took_vector, took_lists, took_list}
-use Rattle.rdf_values.specs.Tree.{NamedTree}
 use Rattle.expr_read.proofs.parser.Parser.values.Goals as goal
 
 pub returns-in_err-node-clause-stuck : goal.returns-in_err-node-clause-stuck
@@ -12,7 +10,7 @@ returns-in_err-node-clause-stuck c = grind (arith, common_steps, vector_first)
 
 pub returns-then-not-eat-clause-took : goal.returns-then-not-eat-clause-took
 returns-then-not-eat-clause-took c =
-    let isnt = subst (λ (ts : List Placed). BeginsNot (Punct mark.OpenBrace) ts) (sym c.if-not-eat.ensures.0) c.if-not-eat.ensures.1 in
+    let isnt = subst (λ (ts : List Placed). BeginsNot (Punct Mark.OpenBrace) ts) (sym c.if-not-eat.ensures.0) c.if-not-eat.ensures.1 in
     rw (← c.if-not-eat.ensures.0) (took_vector isnt c.in_ok-node.ensures.took c.in_ok-node.ensures.stops)
 
 pub returns-then-eat-clause-took : goal.returns-then-eat-clause-took

@@ -1,4 +1,4 @@
-use Rattle.graph.specs.Lookups.{statements}
+use Rattle.graph.specs.{statements}
 use Rattle.graph.proofs.Scoping.{checked_ok, checked_err}
 use Rattle.graph.proofs.before.Before.check_at.Goals as goal
 

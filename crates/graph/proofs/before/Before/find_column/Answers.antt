@@ -1,4 +1,4 @@
-use Rattle.graph.specs.Lookups.{statements}
+use Rattle.graph.specs.{statements}
 use Rattle.graph.proofs.Scoping.{found_as, found_none, found_within}
 use Rattle.graph.proofs.before.Before.find_column.Goals as goal
 

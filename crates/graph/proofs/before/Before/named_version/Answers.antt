@@ -1,5 +1,5 @@
 use Rattle.std.proofs.Common.{arith}
-use Rattle.graph.specs.Lookups.{statements}
+use Rattle.graph.specs.{statements}
 use Rattle.graph.proofs.Counted.{versions_are}
 use Rattle.graph.proofs.Scoping.{kinds_counted}
 use Rattle.graph.proofs.Walked.{named_few}

@@ -1,4 +1,4 @@
-use Rattle.graph.specs.Lookups.{statements}
+use Rattle.graph.specs.{statements}
 use Rattle.graph.proofs.Scoping.{noted_unknown, noted_end}
 use Rattle.graph.proofs.before.Before.note.Goals as goal
 

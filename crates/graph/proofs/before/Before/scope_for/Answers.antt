@@ -1,4 +1,4 @@
-use Rattle.graph.specs.Lookups.{statements}
+use Rattle.graph.specs.{statements}
 use Rattle.graph.proofs.Scoping.{scope_of_noted}
 use Rattle.graph.proofs.before.Before.scope_for.Goals as goal
 

@@ -1,7 +1,7 @@
 use Rattle.std.proofs.Common.{arith, ap, length, ◌∙◌}
 use Rattle.std.proofs.lemmas.List.{length-map}
-use Rattle.rdf_values.specs.declared.script.Line.{Line}
-use Rattle.graph.specs.Lookups.{statements}
+use Rattle.rdf_values.specs.{Line}
+use Rattle.graph.specs.{statements}
 use Rattle.graph.proofs.Counted.{sites_are, sites_fit}
 use Rattle.graph.proofs.before.Before.sites.Goals as goal
 

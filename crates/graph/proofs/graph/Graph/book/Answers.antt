@@ -1,7 +1,6 @@
 use Rattle.std.proofs.Common.{◌∙◌, subst}
-use Rattle.rdf_values.specs.Kinds.{scope_of}
-use Rattle.rdf_values.specs.Verdict.{AreAccepted}
-use Rattle.graph.specs.Lookups.{statements}
+use Rattle.rdf_values.specs.{AreAccepted, scope_of}
+use Rattle.graph.specs.{statements}
 use Rattle.graph.proofs.Finished.{all_short, graph_is, refusal_answered}
 use Rattle.graph.proofs.graph.Graph.book.Goals as goal
 

@@ -1,6 +1,6 @@
 use Rattle.std.proofs.Common.{◌∙◌, ap, length, sym}
-use Rattle.rdf_values.specs.Path.{variations}
-use Rattle.graph.specs.Lookups.{statements}
+use Rattle.rdf_values.specs.{variations}
+use Rattle.graph.specs.{statements}
 use Rattle.graph.proofs.Finished.{finish_named, finish_rows, finish_few, finished}
 use Rattle.graph.proofs.graph.Graph.finish.Goals as goal
 

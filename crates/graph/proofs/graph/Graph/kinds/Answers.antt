@@ -1,6 +1,6 @@
 use Rattle.std.proofs.Common.{subst, sym}
-use Rattle.graph_numbers.specs.Graphs.{booked_statements}
-use Rattle.graph.specs.Lookups.{AreKinds}
+use Rattle.graph_numbers.specs.{booked_statements}
+use Rattle.graph.specs.{AreKinds}
 use Rattle.graph.proofs.Reading.{booked_now}
 use Rattle.graph.proofs.graph.Graph.kinds.Goals as goal
 

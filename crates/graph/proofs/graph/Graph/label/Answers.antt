@@ -1,10 +1,9 @@
 use Rattle.std.proofs.Common.{ap, length, ◌∙◌, sym, slice_get}
-use Rattle.rdf_values.specs.Bookings.{named_before}
-use Rattle.graph.specs.Lookups.{statements}
-use Rattle.graph.specs.Rows.{labels}
+use Rattle.rdf_values.specs.{named_before}
+use Rattle.graph.specs.{labels, statements}
 use Rattle.graph.proofs.Finished.{history_of}
 use Rattle.graph.proofs.Reading.{label_count, label_is, booked_now}
-use Rattle.graph_numbers.specs.Graphs.{booked_statements}
+use Rattle.graph_numbers.specs.{booked_statements}
 use Rattle.graph.proofs.graph.Graph.label.Goals as goal
 
 pub label_of-requires-clause-all : goal.label_of-requires-clause-all

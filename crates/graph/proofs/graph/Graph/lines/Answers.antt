@@ -1,7 +1,7 @@
 use Rattle.std.proofs.Common.{◌∙◌, ap, arith, length}
 use Rattle.std.proofs.lemmas.List.{length-reverse}
-use Rattle.graph.specs.Lookups.{statements}
-use Rattle.graph_numbers.specs.Graphs.{booked_statements}
+use Rattle.graph.specs.{statements}
+use Rattle.graph_numbers.specs.{booked_statements}
 use Rattle.graph.proofs.Finished.{history_of}
 use Rattle.graph.proofs.graph.Graph.lines.Goals as goal
 

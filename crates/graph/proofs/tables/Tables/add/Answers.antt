@@ -1,5 +1,5 @@
 use Rattle.std.proofs.Common.{List, ap, arith, length}
-use Rattle.rdf_values.specs.declared.value.ColType.{ColType}
+use Rattle.rdf_values.specs.{ColType}
 use Rattle.graph.proofs.Gaining.{added}
 use Rattle.graph.proofs.tables.Tables.add.Goals as goal
 

@@ -1,5 +1,5 @@
 use Rattle.std.proofs.Common.{arith}
-use Rattle.graph.specs.Sets.{count_of}
+use Rattle.graph.specs.{count_of}
 use Rattle.graph.proofs.Bits.{ones_are_members, counted_all, none_above}
 use Rattle.graph.proofs.var_set.VarSet.count.Goals as goal
 

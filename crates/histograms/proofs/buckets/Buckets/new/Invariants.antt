@@ -1,5 +1,5 @@
 use Rattle.std.proofs.Common.{length}
-use Rattle.histograms.specs.Buckets.{AreStarts, bucket_of_edge}
+use Rattle.histograms.specs.{AreStarts, bucket_of_edge}
 use Rattle.histograms.proofs.buckets.Buckets.new.Given as goal
 
 abbrev pub invariant-loop-cell : goal.invariant-loop-cell

@@ -1,7 +1,5 @@
 use Rattle.std.proofs.Common.{rules, ℕ, ◌≡◌, ◌<◌, ◌+◌, ◌∙◌, length, map, get_or, ap}
-use Rattle.histograms.specs.declared.cell_sum.CellSum.{CellSum}
-use Rattle.histograms.specs.Cells.{cell_seen, together}
-use Rattle.histograms.specs.OneAxis.{flat_cells}
+use Rattle.histograms.specs.{cell_seen, CellSum, flat_cells, together}
 use Rattle.std.proofs.lemmas.List.{take_at}
 use Rattle.histograms.proofs.Filling.{flat_cells-append}
 use Rattle.histograms.proofs.hist1.Hist1.merge.Goals as goal

@@ -1,9 +1,7 @@
 use Rattle.std.proofs.Common.{rules, ℕ, ◌≡◌, ◌<◌, ◌≤◌, ◌+◌, ◌*◌, ◌∙◌, length, map, get_or, set, arith, ap, sym, subst, List, ℤ, w64, length-set, vec_len, refl}
 use Rattle.std.proofs.lemmas.Int.{to_z-of_z}
-use Rattle.rdf_values.specs.Fold.{bin}
-use Rattle.histograms.specs.declared.cell_sum.CellSum.{CellSum}
-use Rattle.histograms.specs.Cells.{IsBounded, IsWeight, cell_seen, with_weight}
-use Rattle.histograms.specs.TwoAxes.{rows_on}
+use Rattle.rdf_values.specs.{bin}
+use Rattle.histograms.specs.{cell_seen, CellSum, IsBounded, IsWeight, rows_on, with_weight}
 use Rattle.histograms.proofs.Bounds.{all_bounded_with, bounded_with, fits_bounded}
 use Rattle.histograms.proofs.FillingPairs.{place_within, square_cells-point}
 use Rattle.histograms.proofs.hist2.Hist2.fill.Goals as goal

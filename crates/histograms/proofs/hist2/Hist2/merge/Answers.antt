@@ -1,8 +1,6 @@
 use Rattle.std.proofs.Common.{rules, ℕ, ◌≡◌, ◌<◌, ◌+◌, ◌*◌, ◌∙◌, length, map, get_or, ap, subst, List, ℤ}
 use Rattle.std.proofs.lemmas.List.{take_at}
-use Rattle.histograms.specs.declared.cell_sum.CellSum.{CellSum}
-use Rattle.histograms.specs.Cells.{cell_seen, together}
-use Rattle.histograms.specs.TwoAxes.{rows_on, square_cells}
+use Rattle.histograms.specs.{cell_seen, CellSum, rows_on, square_cells, together}
 use Rattle.histograms.proofs.FillingPairs.{square_cells-append}
 use Rattle.histograms.proofs.hist2.Hist2.merge.Goals as goal
 

@@ -1,6 +1,6 @@
 use Rattle.std.proofs.Common.{◌≡◌, ◌+◌, ◌*◌, length, ap, pos, replicate}
 use Rattle.std.proofs.lemmas.List.{get_or-replicate, length-replicate}
-use Rattle.histograms.specs.declared.cell_sum.CellSum.{CellSum}
+use Rattle.histograms.specs.{CellSum}
 use Rattle.histograms.proofs.FillingPairs.{square_cells-none}
 use Rattle.histograms.proofs.hist2.Hist2.new.Goals as goal
 

@@ -1,5 +1,5 @@
 use Rattle.std.proofs.Common.{◌≡◌, replicate}
-use Rattle.loop_pieces.specs.Flows.{nothing}
+use Rattle.loop_pieces.specs.{nothing}
 use Rattle.loop_pieces.proofs.flow.Flow.new.Given as goal
 
 abbrev pub invariant-loop : goal.invariant-loop

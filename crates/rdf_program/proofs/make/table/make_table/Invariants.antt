@@ -1,7 +1,6 @@
 use Rattle.std.proofs.Common.{◌≡◌, ◌++◌, codes}
 use Rattle.std.specs.List.{flat_map}
-use Rattle.rdf_values.specs.Cuts.{below}
-use Rattle.rdf_values.specs.Generator.{entry_line}
+use Rattle.rdf_values.specs.{below, entry_line}
 use Rattle.rdf_program.proofs.make.table.make_table.Given as goal
 
 abbrev pub invariant-loop-entry : goal.invariant-loop-entry

@@ -1,4 +1,4 @@
-use Rattle.script_read.specs.Views.{method_of}
+use Rattle.script_read.specs.{method_of}
 use Rattle.script_read.proofs.Joined.{took_booking}
 use Rattle.script_read.proofs.walk.Walk.booking.Goals as goal
 

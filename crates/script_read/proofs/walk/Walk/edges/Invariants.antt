@@ -1,6 +1,5 @@
 use Rattle.std.proofs.Common.{length}
-use Rattle.script_read.specs.Left.{left_of}
-use Rattle.script_read.specs.Walk.{TookEdges}
+use Rattle.script_read.specs.{left_of, TookEdges}
 use Rattle.script_read.proofs.walk.Walk.edges.Given as goal
 
 abbrev pub invariant-loop-self : goal.invariant-loop-self

@@ -1,8 +1,6 @@
-use Rattle.std.proofs.Common.{◌∷◌, ◌∙◌, arith}
-use Rattle.std.specs.Prelude.{option_map}
+use Rattle.std.proofs.Common.{◌∷◌, ◌∙◌, arith, option_map}
 use Rattle.std.proofs.lemmas.Grind.{common_steps}
-use Rattle.script_read.specs.Views.{quoted_of, edges_of}
-use Rattle.script_read.specs.Walk.{MaybeString}
+use Rattle.script_read.specs.{edges_of, MaybeString, quoted_of}
 use Rattle.script_read.proofs.Joined.{took_histo2d}
 use Rattle.script_read.proofs.walk.Walk.histo2d.Goals as goal
 

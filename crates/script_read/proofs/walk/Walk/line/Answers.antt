@@ -1,8 +1,7 @@
 use Rattle.std.proofs.Common.{◌∙◌, ap, sym, true, false, arith}
 use Rattle.std.proofs.lemmas.Grind.{common_steps}
 use Rattle.std.proofs.lemmas.Result.{IfOk-weaker}
-use Rattle.script_read.specs.Views.{token_of, form_of}
-use Rattle.script_read.specs.Walk.{ALine}
+use Rattle.script_read.specs.{ALine, form_of, token_of}
 use Rattle.script_read.proofs.Walked.{stuck_empty, stuck_token, no_line}
 use Rattle.script_read.proofs.Joined.{line_wanted, took_line, took_asking}
 use Rattle.script_read.proofs.walk.Walk.line.Goals as goal

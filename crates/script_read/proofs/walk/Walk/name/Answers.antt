@@ -1,6 +1,5 @@
 use Rattle.std.proofs.Common.{◌∙◌, ap, sym}
-use Rattle.script_read.specs.Views.{token_of}
-use Rattle.script_read.specs.Walk.{AWord}
+use Rattle.script_read.specs.{AWord, token_of}
 use Rattle.script_read.proofs.Walked.{took_seen, is_name_next, no_name, not_free, stuck_empty, stuck_token}
 use Rattle.script_read.proofs.walk.Walk.name.Goals.{in_default-via-in-Word+else-is_free, in_default-via-in_default}
 use Rattle.script_read.proofs.walk.Walk.name.Goals as goal

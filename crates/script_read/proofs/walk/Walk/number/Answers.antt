@@ -2,8 +2,7 @@ use Rattle.std.proofs.Common.{◌≡◌, ◌∙◌, sym, w64, SFits, to_z, of_z,
 use Rattle.std.proofs.lemmas.Grind.{common_steps}
 use Rattle.std.proofs.lemmas.Int.{to_z-of_z}
 use Rattle.rdf_values.specs.LineTokens.{Number}
-use Rattle.script_read.specs.Views.{token_of}
-use Rattle.script_read.specs.Walk.{ANumber}
+use Rattle.script_read.specs.{ANumber, token_of}
 use Rattle.script_read.proofs.Walked.{took_seen, no_number, stuck_empty, stuck_token}
 use Rattle.script_read.proofs.walk.Walk.number.Goals as goal
 

@@ -1,6 +1,5 @@
 use Rattle.std.proofs.Common.{ap}
-use Rattle.script_read.specs.Views.{token_of}
-use Rattle.script_read.specs.Walk.{AMethod}
+use Rattle.script_read.specs.{AMethod, token_of}
 use Rattle.script_read.proofs.Walked.{no_method, stuck_empty, stuck_token}
 use Rattle.script_read.proofs.Named.{no_method_named, method_seen}
 use Rattle.script_read.proofs.walk.Walk.peek_method.Goals as goal

@@ -1,6 +1,5 @@
 use Rattle.std.proofs.Common.{ap, refl}
-use Rattle.script_read.specs.Views.{token_of}
-use Rattle.script_read.specs.Walk.{AString}
+use Rattle.script_read.specs.{AString, token_of}
 use Rattle.script_read.proofs.Walked.{took_seen, no_string, stuck_empty, stuck_token}
 use Rattle.script_read.proofs.walk.Walk.string.Goals as goal
 

@@ -1,7 +1,5 @@
 use Rattle.std.proofs.Common.{length, map}
-use Rattle.script_read.specs.Left.{left_of}
-use Rattle.script_read.specs.Views.{quoted_of}
-use Rattle.script_read.specs.Walk.{TookStrings}
+use Rattle.script_read.specs.{left_of, quoted_of, TookStrings}
 use Rattle.script_read.proofs.walk.Walk.strings.Given as goal
 
 abbrev pub invariant-loop-self : goal.invariant-loop-self

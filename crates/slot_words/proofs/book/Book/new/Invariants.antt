@@ -1,5 +1,5 @@
 use Rattle.std.proofs.Common.{◌-◌, []}
-use Rattle.slot_words.specs.Shares.{fresh_share, hand_with}
+use Rattle.slot_words.specs.{fresh_share, hand_with}
 use Rattle.slot_words.proofs.Tokens.{IsDealing}
 use Rattle.slot_words.proofs.book.Book.new.Given as goal
 

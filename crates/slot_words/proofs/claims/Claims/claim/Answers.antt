@@ -1,5 +1,5 @@
 use Rattle.std.proofs.Common.{◌≡◌, ◌<◌, length, IfSome, subst, sym, ap, ◌∙◌, arith}
-use Rattle.slot_words.specs.Seats.{hand_of}
+use Rattle.slot_words.specs.{hand_of}
 use Rattle.slot_words.proofs.Steps.{draws, draw_room, looks, may_look}
 use Rattle.slot_words.proofs.claims.Claims.claim.Goals as goal
 use Rattle.slot_words.proofs.claims.Claims.claim.Goals.{then-number-bar, else-number-bar}

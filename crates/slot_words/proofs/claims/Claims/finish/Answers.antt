@@ -2,12 +2,12 @@ use Rattle.std.proofs.Common.{◌≡◌, [], ◌∷◌, ◌+◌, map, length, mi
 use Rattle.std.specs.List.{Contains}
 use Rattle.std.proofs.lemmas.List.{length-map}
 use Rattle.std.proofs.lemmas.List.Elements.{All-weaker}
-use Rattle.rdf_values.specs.Draws.{DrawnBy}
+use Rattle.rdf_values.specs.{DrawnBy}
 use Rattle.rdf_values.proofs.DrawCounts.{sum_by-map}
 use Rattle.std.proofs.lemmas.Simd.{map-map}
 use Rattle.slot_words.specs.declared.hand.ClaimHand.{ClaimHand}
-use Rattle.slot_words.specs.Seats.{IsOf, SeatSeen, hand_seen, kept_count}
-use Rattle.slot_words.specs.Claiming.{AreClaimed, IsBarred, IsClaimed, IsHand, IsOver}
+use Rattle.slot_words.specs.{AreClaimed, IsBarred, IsClaimed, IsHand, IsOver, kept_count, SeatSeen}
+use Rattle.slot_words.specs.Seats.{IsOf, hand_seen}
 use Rattle.slot_words.proofs.Steps.{again, finished}
 use Rattle.slot_words.proofs.Draws.{drawn_by}
 use Rattle.slot_words.proofs.Tokens.{IsGathering, all_gathered, all_seen, enters, gathers, next_gathered, next_of, none_gathered}

@@ -2,8 +2,7 @@ use Rattle.std.proofs.Common.{◌≡◌, ℕ, ◌+◌, ◌-◌, List, [], ◌∷
 use Rattle.atomic_table.specs.Seated.{TableId}
 use Rattle.atomic_table.specs.Table.{Me}
 use Rattle.slot_words.specs.declared.hand.ClaimHand.{ClaimHand}
-use Rattle.slot_words.specs.Seats.{ClaimsSeen, fresh_seat, fresh_seats, empty_hand, hand_of, seat_seen}
-use Rattle.slot_words.specs.Claiming.{AreClaimed}
+use Rattle.slot_words.specs.{AreClaimed, ClaimsSeen, empty_hand, fresh_seat, fresh_seats, hand_of, seat_seen}
 use Rattle.slot_words.proofs.Steps.{again, opens}
 use Rattle.slot_words.proofs.Tokens.{deals, many_left, next_dealt, one_dealt}
 use Rattle.slot_words.proofs.claims.Claims.new.Goals as goal

@@ -1,5 +1,5 @@
 use Rattle.std.proofs.Common.{◌-◌}
-use Rattle.slot_words.specs.Seats.{empty_hand, fresh_seat}
+use Rattle.slot_words.specs.{empty_hand, fresh_seat}
 use Rattle.slot_words.proofs.Tokens.{IsDealing}
 use Rattle.slot_words.proofs.claims.Claims.new.Given as goal
 

@@ -1,8 +1,7 @@
 use Rattle.std.proofs.Common.{◌≡◌, ◌++◌, None}
-use Rattle.snapshot_text.specs.TableTexts.{entries_text}
-use Rattle.snapshot_rows.specs.Snapshots.{snapshot_entries, snapshot_fault}
-use Rattle.snapshot_entries.specs.Entries.{IsSkimOf}
-use Rattle.snapshot_entries.specs.Jobs.{data_of, plan_of}
+use Rattle.snapshot_text.specs.{entries_text}
+use Rattle.snapshot_rows.specs.{snapshot_entries, snapshot_fault}
+use Rattle.snapshot_entries.specs.{data_of, IsSkimOf, plan_of}
 use Rattle.snapshot_entries.proofs.Ranging.{So_far}
 use Rattle.snapshot_entries.proofs.skim.Skim.cluster.Given as goal
 

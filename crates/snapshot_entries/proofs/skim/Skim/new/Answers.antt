@@ -1,6 +1,6 @@
 use Rattle.std.proofs.Common.{length, sym, ap, ◌∙◌, arith}
-use Rattle.graph_numbers.specs.Graphs.{GraphView, graph_sites}
-use Rattle.snapshot_entries.specs.Jobs.{data_of, plan_of}
+use Rattle.graph_numbers.specs.{graph_sites, GraphView}
+use Rattle.snapshot_entries.specs.{data_of, plan_of}
 use Rattle.snapshot_entries.proofs.skim.Skim.new.Goals as goal
 
 pub returns : goal.returns

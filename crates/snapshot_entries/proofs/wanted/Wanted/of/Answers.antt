@@ -1,7 +1,7 @@
 use Rattle.std.proofs.Common.{length, refl, ap, ◌∙◌}
-use Rattle.graph_numbers.specs.Graphs.{GraphView, booked_statements, graph_sites}
-use Rattle.graph.specs.Lookups.{statements}
-use Rattle.snapshot_entries.specs.Jobs.{data_of, plan_of}
+use Rattle.graph_numbers.specs.{booked_statements, graph_sites, GraphView}
+use Rattle.graph.specs.{statements}
+use Rattle.snapshot_entries.specs.{data_of, plan_of}
 use Rattle.snapshot_entries.proofs.Versions.{filters_are, sites_many}
 use Rattle.snapshot_entries.proofs.wanted.Wanted.of.Goals as goal
 

@@ -1,7 +1,6 @@
 use Rattle.std.proofs.Common.{◌≡◌, ◌<◌, length, get_or, ap, ◌∙◌, arith}
-use Rattle.rdf_values.specs.Kinds.{column_kind}
-use Rattle.rdf_values.specs.Verdict.{kind_or_int}
-use Rattle.snapshot_plan.specs.Views.{PlanView, scope_in}
+use Rattle.rdf_values.specs.{column_kind, kind_or_int}
+use Rattle.snapshot_plan.specs.{PlanView, scope_in}
 use Rattle.snapshot_plan.proofs.Listed.{next_column}
 use Rattle.snapshot_plan.proofs.planning.SnapPlan.header.Goals as goal
 

@@ -1,5 +1,5 @@
 use Rattle.std.proofs.Common.{◌≡◌, map, take}
-use Rattle.snapshot_plan.specs.Views.{column_at, scope_in}
+use Rattle.snapshot_plan.specs.{column_at, scope_in}
 use Rattle.snapshot_plan.proofs.planning.SnapPlan.header.Given as goal
 
 abbrev pub invariant-loop-column : goal.invariant-loop-column

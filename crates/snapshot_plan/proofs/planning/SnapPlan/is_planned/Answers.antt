@@ -1,5 +1,5 @@
 use Rattle.std.proofs.Common.{subst}
-use Rattle.snapshot_plan.specs.Views.{IsPlan}
+use Rattle.snapshot_plan.specs.{IsPlan}
 use Rattle.snapshot_plan.proofs.planning.SnapPlan.is_planned.Goals as goal
 
 pub returns : goal.returns
