@@ -3,13 +3,9 @@ use Rattle.std.proofs.Common.{◌≡◌, ◌+◌, ◌∙◌, ◌++◌, ◌∷◌
 use Rattle.lemmas.proofs.{take_next}
 use Rattle.std.proofs.Math.Seq.{take-append_seam}
 
--- with the one behind them
-pub take_next_of : {A : Type 0} (xs : List A) (i : ℕ) (x : A) → slice_get xs i ≡ Some x → take (i + 1) xs ≡ take i xs ++ x ∷ []
-take_next_of xs i x e = take_next xs i x e
-
 -- without what was appended
 pub front_of : {A : Type 0} (xs ys more now : List A) (n : ℕ) → n ≡ length xs → ys ≡ xs ++ more → now ≡ take n ys → now ≡ xs
 front_of xs ys more now n l e t = t ∙ ap (λ k. take k ys) l ∙ ap (take (length xs)) e ∙ take-append_seam xs more
 
 pub front_more : {A : Type 0} (old now next more : List A) (i : ℕ) (x : A) → next ≡ now ++ x ∷ [] → now ≡ old ++ take i more → slice_get more i ≡ Some x → next ≡ old ++ take (i + 1) more
-front_more old now next more i x p s e = p ∙ ap (λ t. t ++ x ∷ []) s ∙ append_assoc old (take i more) (x ∷ []) ∙ ap (λ t. old ++ t) (sym (take_next_of more i x e))
+front_more old now next more i x p s e = p ∙ ap (λ t. t ++ x ∷ []) s ∙ append_assoc old (take i more) (x ∷ []) ∙ ap (λ t. old ++ t) (sym (take_next more i x e))

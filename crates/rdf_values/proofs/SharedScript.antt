@@ -1,13 +1,10 @@
--- Several threads may read one script at once, and so what it is read against and its numbered expressions.
+-- Several threads may read the lines of one script at once, and the header that it is read against.
 use denote.RattleType.{RattleType}
 use denote.Param.Send.{IsSync, sendable}
 use denote.Param.SendFields.{variants_sync, declared_sync}
 use denote.Hole.{as_row}
 use denote.Struct.Field.{row_field, u32-field}
-use Rattle.std.proofs.Crossing.{crosses, Vec-sync}
-use Rattle.std.specs.contracts.vec.Vec as B
-use Rattle.std.specs.contracts.alloc.Global as H
-use Rattle.std.below.std_heap.specs.contracts.GlobalAllocator.TheImpl.{ghosts}
+use Rattle.std.proofs.Crossing.{crosses}
 use Rattle.std.specs.contracts.option.Option.{the_row as option_row}
 use Rattle.rdf_values.specs.contracts.name.Name.{the_row as name_row}
 use Rattle.rdf_values.specs.contracts.expr.Expr.{the_row as expr_row}
@@ -21,13 +18,8 @@ use Rattle.rdf_values.specs.contracts.statement.Statement.{the_row as statement_
 use Rattle.rdf_values.specs.contracts.statement.Statement as S
 use Rattle.rdf_values.specs.contracts.script.Line.{the_row as line_row}
 use Rattle.rdf_values.specs.contracts.script.Line as L
-use Rattle.rdf_values.specs.contracts.script.Script.{the_row as script_row}
-use Rattle.rdf_values.specs.contracts.script.Script as C
 use Rattle.rdf_values.specs.contracts.column.Column.{the_row as column_row}
-use Rattle.rdf_values.specs.contracts.fn_names.FnNames.{the_row as fn_names_row}
-use Rattle.rdf_values.specs.contracts.num_expr.NumExpr.{the_row as num_expr_row}
 use Rattle.rdf_values.proofs.SharedExpr.{name_sync, expr_sync}
-use Rattle.rdf_values.proofs.SharedNum.{num_expr_sync}
 
 pub label_sync : IsSync label_row
 label_sync = search (sendable, crosses) depth 40 fits 4000
@@ -72,30 +64,10 @@ line_sync = declared_sync L.the_type (record { shared = number_sync.shared }, (r
     number_sync : IsSync (as_row u32-field)
     number_sync = search (sendable, crosses) depth 40 fits 4000
 
-pub lines_sync : IsSync (list_row line_row)
-lines_sync = list_sync line_row line_sync
-
-pub script_sync : IsSync script_row
-script_sync = declared_sync C.the_type (record { shared = lines_sync.shared }, tt)
-
--- ---- what a script is read against: a header, and the names of functions
+-- ---- the header
 
 pub column_sync : IsSync column_row
 column_sync = search (sendable, crosses) depth 40 fits 4000
 
 pub columns_sync : IsSync (list_row column_row)
 columns_sync = list_sync column_row column_sync
-
-pub column_vec_sync : IsSync (B.the_row column_row H.the_row ghosts)
-column_vec_sync = Vec-sync column_row column_sync
-
-pub fn_names_sync : IsSync fn_names_row
-fn_names_sync = search (sendable, crosses, name_sync) depth 40 fits 4000
-
--- ---- and its expressions with their columns numbered
-
-pub num_expr_list_sync : IsSync (list_row num_expr_row)
-num_expr_list_sync = list_sync num_expr_row num_expr_sync
-
-pub num_expr_vec_sync : IsSync (B.the_row num_expr_row H.the_row ghosts)
-num_expr_vec_sync = Vec-sync num_expr_row num_expr_sync

@@ -1,14 +1,14 @@
 -- The elements of a vector's text, part by part.
-use Rattle.std.proofs.Common.{if◌then◌else◌, ◌≡◌, ◌<◌, ◌≤◌, ◌+◌, ◌-◌, ◌∙◌, ℕ, ℤ, List, [], ◌∷◌, ◌++◌, length, Bool, true, false, None, Some, Option, Result, Ok, Err, ap, append_assoc, arith, refl, suc, sym, length-append, take, drop, get_or, IfOk, nat_le, leb, ◌==◌, ◌&&◌}
+use Rattle.std.proofs.Common.{if◌then◌else◌, ◌≡◌, ◌<◌, ◌≤◌, ◌+◌, ◌-◌, ◌∙◌, ℕ, ℤ, pos, negsuc, List, [], ◌∷◌, ◌++◌, length, Bool, true, false, None, Some, Option, Result, Ok, Err, ap, append_assoc, arith, refl, suc, sym, length-append, take, drop, get_or, IfOk, nat_le, ◌&&◌}
 use Rattle.std.specs.Borrow.{Bor}
 use Rattle.std.specs.List.{slice_split, All}
 use Rattle.std.proofs.lemmas.List.{append-nil, drop_more, length-drop, take-append-drop, take_all}
 use Rattle.std.proofs.lemmas.Bool.Decides.{nat_tests}
-use Rattle.rdf_values.specs.{AreRead, begins_badly, HasNoElement, integer_of, integers_of, is_semicolon, IsElement, IsLeading, magnitude_of, Memory, negative, option_cons, positive, vector_of}
+use Rattle.rdf_values.specs.{AreRead, HasNoElement, integer_of, integers_of, is_semicolon, IsElement, IsLeading, Memory, option_cons, vector_of}
 use Rattle.std.specs.Char.{is_ascii_digit}
 use Rattle.std.specs.Str.{all_ascii_digits}
-use Rattle.std.specs.Str.Parse.{digits_value_after}
 use Rattle.std.proofs.lemmas.List.Elements.{All-cons, All-nil}
+use Rattle.rdf_values.proofs.OneText.{IsNumeral, numeral}
 use Rattle.std.proofs.lemmas.List.Splits.{slice_split_at, slice_split_none}
 
 abbrev option_onto : {A : Type 0} → List A → Option (List A) → Option (List A)
@@ -127,8 +127,6 @@ read_good (Ok true) spelt old new e h = h
 read_good (Ok false) spelt old new e h = cc e
 read_good (Err memory) spelt old new e h = cc e
 
--- ---- the first element
-
 -- ---- a number's text has no `;`
 
 digits_plain : (ds : List ℕ) → all_ascii_digits ds ≡ true → All (λ b. is_semicolon b ≡ false) ds
@@ -139,35 +137,12 @@ digits_plain (d ∷ ds) h = go (is_ascii_digit d) refl h (digits_plain ds)
     go true q k next = All-cons (λ b. is_semicolon b ≡ false) d ds (grind (arith, nat_tests)) (next k)
     go false q k next = cc k
 
-magnitude_digits : (most n : ℕ) (ds : List ℕ) → magnitude_of most ds ≡ Some n → all_ascii_digits ds ≡ true
-unfolding magnitude_of
-magnitude_digits most n ds h = go (begins_badly ds) (all_ascii_digits ds) (leb (digits_value_after 10 0 ds) most) h
-  where
-    go : (bad all within : Bool) → (if bad then None else (if all && within then Some (digits_value_after 10 0 ds) else None)) ≡ Some n → all ≡ true
-    go true all within e = cc e
-    go false true within e = refl
-    go false false within e = cc e
-
-positive_some : (o : Option ℕ) (z : ℤ) → positive o ≡ Some z → (n : ℕ) × (o ≡ Some n)
-positive_some None z e = cc e
-positive_some (Some n) z e = (n, refl)
-
-negative_some : (o : Option ℕ) (z : ℤ) → negative o ≡ Some z → (n : ℕ) × (o ≡ Some n)
-negative_some None z e = cc e
-negative_some (Some n) z e = (n, refl)
-
 plain : (text : List ℕ) (z : ℤ) → integer_of text ≡ Some z → All (λ b. is_semicolon b ≡ false) text
-unfolding integer_of
-plain [] z e = All-nil (λ b. is_semicolon b ≡ false)
-plain (b ∷ bs) z e = go (b == 45) refl e
+plain text z e = go z (numeral text z e)
   where
-    go : (t : Bool) → (b == 45) ≡ t → (if t then negative (magnitude_of 9223372036854775808 bs) else positive (magnitude_of 9223372036854775807 (b ∷ bs))) ≡ Some z → All (λ b. is_semicolon b ≡ false) (b ∷ bs)
-    go true q k =
-        let some = negative_some (magnitude_of 9223372036854775808 bs) z k in
-        All-cons (λ b. is_semicolon b ≡ false) b bs (grind (arith, nat_tests)) (digits_plain bs (magnitude_digits 9223372036854775808 some.0 bs some.1))
-    go false q k =
-        let some = positive_some (magnitude_of 9223372036854775807 (b ∷ bs)) z k in
-        digits_plain (b ∷ bs) (magnitude_digits 9223372036854775807 some.0 (b ∷ bs) some.1)
+    go : (z : ℤ) → IsNumeral text z → All (λ b. is_semicolon b ≡ false) text
+    go (pos n) m = digits_plain text m.digits
+    go (negsuc n) m = rw m.1 (All-cons (λ b. is_semicolon b ≡ false) 45 m.0 refl (digits_plain m.0 m.2.digits))
 
 -- ---- where the number ends
 

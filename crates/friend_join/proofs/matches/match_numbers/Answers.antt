@@ -1,7 +1,7 @@
 use Rattle.std.proofs.Common.{◌∙◌, ◌++◌, ◌∷◌, [], ap, append_assoc, map, rules, sym, take, w64, FitsSigned}
 use Rattle.std.proofs.lemmas.Int.{to_z-of_z}
 use Rattle.std.proofs.lemmas.List.{map_push}
-use Rattle.rdf_values.proofs.Fronts.{take_next_of}
+use Rattle.lemmas.proofs.{take_next}
 use Rattle.friend_join.specs.{entry_of}
 use Rattle.friend_join.proofs.matches.match_numbers.Goals as goal
 
@@ -14,4 +14,4 @@ loop-place-preserved c =
     let fits : FitsSigned w64 number = search rules in
     let entry = rw (to_z-of_z w64 number fits) at (c.new.ensures ∙ c.get_index_of.ensures.index) in
     c.in_ok-push.ensures.items ∙ ap (λ e. c.loop-place.matches.items ++ e ∷ []) entry ∙ ap (λ xs. xs ++ f number ∷ []) c.loop-place.invariant
-    ∙ append_assoc c.args.matches.now.items (map f (take i ns)) (f number ∷ []) ∙ ap (λ xs. c.args.matches.now.items ++ xs) (sym (ap (map f) (take_next_of ns i number c.at-number.ensures) ∙ map_push f (take i ns) number))
+    ∙ append_assoc c.args.matches.now.items (map f (take i ns)) (f number ∷ []) ∙ ap (λ xs. c.args.matches.now.items ++ xs) (sym (ap (map f) (take_next ns i number c.at-number.ensures) ∙ map_push f (take i ns) number))
