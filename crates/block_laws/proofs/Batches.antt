@@ -4,26 +4,16 @@ use Rattle.std.proofs.lemmas.List.Sums.{sum_by-cons}
 use Rattle.rdf_values.specs.{ActionAt, ActionKind, Booking, columns_of, Pass, Path, ReportOn, Statement, Under, Value}
 use Rattle.rdf_values.specs.declared.statement.Statement.TheVariants.{Filter}
 use Rattle.rdf_model.specs.{◌>>=◌, action_pass, column_value, Dataset, expression_value, fault_in, Faults, feed_outcome, filter_reach, for_all, Gives, is_passed, is_reached, is_true, items_fed, items_of, kind_in, kinds_in, list_at, Needs, Outcome, Reach, reach_of, Skip, spread_in, spreads_of, through, truth_of}
+use Rattle.rdf_model.proofs.Parts.{items_at}
 use Rattle.block_laws.specs.{selected}
 
 -- ---- what the batch is
 
 module _ (d : Dataset) where
-  -- the items of an action pass stand at the place of its kind
-  items_at : (before after : List Pass) (name : List ℕ) (k : ActionKind) (at : Path) (u : Under) (row : List Value)
-      → list_at (spreads_of d (before ++ action_pass name k at u ∷ after) row) (length (kinds_in before)) ≡ items_of d k at u row
-  items_at [] after name k at u row = refl
-  items_at (q ∷ before) after name k at u row = go q.result.booking (items_at before after name k at u row)
-    where
-      go : (b : Booking) → list_at (spreads_of d (before ++ action_pass name k at u ∷ after) row) (length (kinds_in before)) ≡ items_of d k at u row
-          → list_at (spread_in d row q b ++ spreads_of d (before ++ action_pass name k at u ∷ after) row) (length (kind_in b ++ kinds_in before)) ≡ items_of d k at u row
-      go (ActionAt k' at') h = h
-      go (ReportOn filters) h = h
-
   pub of_the_pass : (rows : List (List Value)) (before after : List Pass) (name : List ℕ) (k : ActionKind) (at : Path) (u : Under)
       → flat_map (λ row. list_at row (length (kinds_in before))) (map (spreads_of d (before ++ action_pass name k at u ∷ after)) rows) ≡ flat_map (items_of d k at u) rows
   of_the_pass [] before after name k at u = refl
-  of_the_pass (row ∷ rows) before after name k at u = ap₂ (λ xs ys. xs ++ ys) (items_at before after name k at u row) (of_the_pass rows before after name k at u)
+  of_the_pass (row ∷ rows) before after name k at u = ap₂ (λ xs ys. xs ++ ys) (items_at d before after name k at u row) (of_the_pass rows before after name k at u)
 
   -- a row that doesn't pass the filters feeds nothing
   feeds_nothing : (k : ActionKind) (at : Path) (u : Under) (row : List Value) → is_true (through d.fns d.columns row at u) ≡ false → items_of d k at u row ≡ []
