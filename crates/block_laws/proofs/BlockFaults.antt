@@ -1,5 +1,5 @@
 -- The first fault of the passes of a loop, block after block.
-use Rattle.std.proofs.Common.{◌≡◌, ℕ, zero, suc, ◌+◌, ◌-◌, ◌≤◌, List, [], ◌∷◌, ◌++◌, length, length-drop, map, take, drop, Option, Some, refl, sym, ◌∙◌, ap, arith, slice_get, slice_range}
+use Rattle.std.proofs.Common.{◌≡◌, ℕ, zero, suc, ◌+◌, ◌-◌, ◌≤◌, List, [], ◌∷◌, ◌++◌, length, map, take, drop, Option, Some, refl, sym, ◌∙◌, ap, arith, slice_get, slice_range}
 use Rattle.std.specs.List.{enumerate_from}
 use Rattle.lemmas.proofs.{drop_plus, range_length, take_plus}
 use Rattle.rdf_values.specs.{EntryFault, Lead, Pass, Span, Value}

@@ -1,11 +1,9 @@
 -- What passes demand of a row, each demand once.
-use Rattle.std.proofs.Common.{◌≡◌, ◌⊎◌, inl, inr, ℕ, Bool, true, false, ◌&&◌, List, [], ◌∷◌, Some, None, refl, sym, ◌∙◌, ap, subst, nat_eq, slice_get, if◌then◌else◌, flat_map, All, Contains}
+use Rattle.std.proofs.Common.{◌≡◌, ◌⊎◌, inl, inr, ℕ, Bool, true, false, List, [], ◌∷◌, Some, refl, sym, ◌∙◌, subst, slice_get, if◌then◌else◌, flat_map, All, Contains}
 use Rattle.std.specs.List.{list_any}
-use Rattle.std.proofs.lemmas.Bool.Decides.{Decides-eqb}
 use Rattle.std.proofs.lemmas.List.Elements.{All-from_recursion}
-use Rattle.lemmas.proofs.{both_true}
-use Rattle.rdf_values.specs.{Pass, same, same_variation, Under, Value, Variation}
-use Rattle.rdf_model.specs.{Dataset, Demand, demanded, distinct, pass_demands, same_demand, same_site, same_under, Site}
+use Rattle.rdf_values.specs.{Pass, Value}
+use Rattle.rdf_model.specs.{Dataset, Demand, demanded, distinct, pass_demands, same_demand}
 use Rattle.rdf_model.proofs.Demands.{demand_is}
 use Rattle.block_laws.proofs.Members.{In, any_in, in_flat, contained, each_in}
 
