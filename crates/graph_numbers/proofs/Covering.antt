@@ -24,20 +24,17 @@ module _ {X Y : Type 0} (of : X → Y) where
   at_append : (xs : List X) (ns ms : List ℕ) (ys zs : List Y) → AreAt xs ns ys → AreAt xs ms zs → AreAt xs (ns ++ ms) (ys ++ zs)
   at_append xs [] ms [] zs h k = k
   at_append xs (n ∷ ns) ms (y ∷ ys) zs h k = (h.0, at_append xs ns ms ys zs h.1 k)
-  at_append xs [] ms (y ∷ ys) zs h k = elim h [ ]
-  at_append xs (n ∷ ns) ms [] zs h k = elim h [ ]
+  at_append xs ns ms ys zs h k = elim h [ ]
 
   at_kept : (xs more : List X) → ((k : ℕ) (x : X) → slice_get xs k ≡ Some x → slice_get more k ≡ Some x) → (ns : List ℕ) (ys : List Y) → AreAt xs ns ys → AreAt more ns ys
   at_kept xs more f [] [] h = tt
   at_kept xs more f (n ∷ ns) (y ∷ ys) h = ((h.0.0, f n h.0.0 h.0.1, h.0.2), at_kept xs more f ns ys h.1)
-  at_kept xs more f [] (y ∷ ys) h = elim h [ ]
-  at_kept xs more f (n ∷ ns) [] h = elim h [ ]
+  at_kept xs more f ns ys h = elim h [ ]
 
   at_map : (xs : List X) (ns : List ℕ) (ys : List Y) → AreAt xs ns ys → map (λ n. option_map of (slice_get xs n)) ns ≡ map (λ y. Some y) ys
   at_map xs [] [] h = refl
   at_map xs (n ∷ ns) (y ∷ ys) h = let one : option_map of (slice_get xs n) ≡ Some y = ap (option_map of) h.0.1 ∙ ap Some h.0.2 in λ i. one i ∷ at_map xs ns ys h.1 i
-  at_map xs [] (y ∷ ys) h = elim h [ ]
-  at_map xs (n ∷ ns) [] h = elim h [ ]
+  at_map xs ns ys h = elim h [ ]
 
 -- ---- named filters
 
@@ -132,8 +129,7 @@ module _ (M : Type 0) (fns : List Function) (columns : List Column) (row : List 
       let one : through fns columns row {M = M} p None ≡ through_filter (number_value M fns columns row None before) (slice_get (filters columns (fn_names fns) before) n) =
       ap (λ q. through fns columns row {M = M} q None) (sym h.0.2) ∙ filter_is M fns columns row None before before itself n f h.0.1 ∙ ap (through_filter (number_value M fns columns row None before)) (sym h.0.1) in
       λ i. one i >>= λ passed. report_is ns ps h.1 i
-  report_is [] (p ∷ ps) h = elim h [ ]
-  report_is (n ∷ ns) [] h = elim h [ ]
+  report_is ns ps h = elim h [ ]
 
 -- ---- the sites of filters, and the filters that a Report covers, are those of the paths
 

@@ -9,7 +9,7 @@ use Rattle.rdf_model.proofs.Accepted.{names_equal, itself}
 use Rattle.rdf_model.proofs.Close as close
 use Rattle.rdf_model.proofs.Evaluations.{evaluate_known}
 use Rattle.rdf_model.specs.Alike.{Alike}
-use Rattle.rdf_model.proofs.Missing.{everywhere}
+use Rattle.rdf_values.proofs.Columns.{all_columns}
 use Rattle.rdf_model.specs.Alike as alike
 use Rattle.rdf_model.proofs.Missing as missing
 use Rattle.graph_numbers.proofs.Listed.{by_test}
@@ -91,8 +91,7 @@ not_known o m faults h = cc h
 
 abbrev in_need : {M A : Type 0} → M → Outcome M A → M
 in_need d (Needs m) = m
-in_need d (Gives a) = d
-in_need d (Faults k) = d
+in_need d o = d
 
 module _ {C F M : Type 0} (look : C → Outcome M Value) (call : F → List Value → Outcome M Value) (calls_known : (f : F) (vs : List Value) → IsKnown (call f vs)) (e : Tree C F) where
   -- what a column gives, or something known in place of a need
@@ -102,17 +101,15 @@ module _ {C F M : Type 0} (look : C → Outcome M Value) (call : F → List Valu
   given (Needs m) = untyped
 
   given_known : (o : Outcome M Value) → IsKnown (given o)
-  given_known (Gives v) = gives
   given_known (Faults k) = faults
-  given_known (Needs m) = gives
+  given_known o = gives
 
   abbrev IsNeeded : M → Type 0
   IsNeeded m = (c : C) × In c (columns_in e) × (look c ≡ Needs m)
 
   closed : (c : C) → In c (columns_in e) → (o : Outcome M Value) → look c ≡ o → close.Close IsNeeded o (given o)
-  closed c k (Gives v) q = close.same
-  closed c k (Faults v) q = close.same
   closed c k (Needs m) q = close.missing (c, k, q)
+  closed c k o q = close.same
 
   -- what an evaluation needs is what one of its columns needs
   pub needed : (m : M) → evaluate look call e ≡ Needs m → IsNeeded m
@@ -129,8 +126,7 @@ module _ {C F M : Type 0} (look : C → Outcome M Value) (call : F → List Valu
 
 if_need : {M A : Type 0} (o : Outcome M A) → is_need o ≡ true → (m : M) × (o ≡ Needs m)
 if_need (Needs m) h = (m, refl)
-if_need (Gives a) h = cc h
-if_need (Faults k) h = cc h
+if_need o h = cc h
 
 alike_need : {M N A : Type 0} (o : Outcome M A) (p : Outcome N A) → Alike o p → is_need o ≡ is_need p
 alike_need o p alike.gives = refl
@@ -165,7 +161,7 @@ module _ {F : Type 0} (number : List ℕ → ℕ) (look : ℕ → Outcome ℕ Va
       → (n : List ℕ) × (number n ≡ c) × In n (columns_in e) × In n (filter (is_met same named named_call e) (columns_in e))
   met_name h =
       let a : Alike (evaluate (λ n. without nat_eq c look (number n)) call e) (evaluate all_missing named_call e) =
-      missing.evaluate_alike ℕ (List ℕ) _ _ call named_call calls e (each_both (λ n. Alike (look (number n)) (named n)) (λ n. Unit {0}) _ (λ n k l. missing_alike n k) e alikes (everywhere ℕ ℕ (λ n. Unit {0}) (λ n. tt) e)) in
+      missing.evaluate_alike ℕ (List ℕ) _ _ call named_call calls e (each_both (λ n. Alike (look (number n)) (named n)) (λ n. Unit {0}) _ (λ n k l. missing_alike n k) e alikes (all_columns {P = λ n. Unit {0}} (λ n. tt) e)) in
       let m = if_need (evaluate all_missing named_call e) (sym (alike_need _ _ a) ∙ h) in
       let n = needed all_missing named_call calls_known e m.0 m.1 in
       let p = its_number n.0 m.0 n.2 in

@@ -25,8 +25,7 @@ variation_is v w h =
 under_is : (u v : Under) → same_under u v ≡ true → u ≡ v
 under_is None None h = refl
 under_is (Some v) (Some w) h = ap Some (variation_is v w h)
-under_is None (Some w) h = cc h
-under_is (Some v) None h = cc h
+under_is u v h = cc h
 
 pub demand_is : (p q : Demand) → same_demand p q ≡ true → p ≡ q
 demand_is p q h =

@@ -71,8 +71,7 @@ module _ (M N : Type 0) where
 
   inversion_alike : (v : Value) → Alike (inversion {M = M} v) (inversion {M = N} v)
   inversion_alike (Value.Int x) = gives
-  inversion_alike (Value.Vect xs) = gives
-  inversion_alike (Value.Bool b) = gives
+  inversion_alike v = gives
 
   chosen_alike : (v : Value) {a b : Outcome M Value} {a' b' : Outcome N Value} → Alike a a' → Alike b b' → Alike (chosen_side v a b) (chosen_side v a' b')
   chosen_alike (Value.Bool true) h k = h
@@ -140,21 +139,16 @@ module _ (M N : Type 0) where
       evaluate_all_alike End h = gives
       evaluate_all_alike (More a rest) h = bind_alike _ _ (evaluate_alike a h.0) (λ v. bind_alike _ _ (evaluate_all_alike rest h.1) (λ vs. gives))
 
-  -- what holds of each column at all holds of each in an expression
-  pub everywhere : {C F : Type 0} (P : C → Type 0) → ((c : C) → P c) → (e : Tree C F) → EachColumn P e
-  everywhere P h e = all_columns h e
-
   -- ---- columns
 
   module _ (fns : List Function) (columns : List Column) (row : List Value) where
     expression_alike : (look : List ℕ → Outcome M Value) (look' : List ℕ → Outcome N Value) → ((c : List ℕ) → Alike (look c) (look' c)) → (e : NamedTree) → Alike (expression_value fns look e) (expression_value fns look' e)
     expression_alike look look' h e =
-        evaluate_alike look look' (named_call fns) (named_call fns) (λ f vs. call_alike fns (callee (fn_names fns) f) vs) e (everywhere (λ c. Alike (look c) (look' c)) h e)
+        evaluate_alike look look' (named_call fns) (named_call fns) (λ f vs. call_alike fns (callee (fn_names fns) f) vs) e (all_columns h e)
 
     cell_alike : (cs : List Column) (vs : List Value) (name : List ℕ) → Alike (cell {M = M} cs vs name) (cell {M = N} cs vs name)
-    cell_alike [] vs name = gives
-    cell_alike (c ∷ cs) [] name = gives
     cell_alike (c ∷ cs) (v ∷ vs) name = if_alike (same c.name name) gives (cell_alike cs vs name)
+    cell_alike cs vs name = gives
 
     pub tag_alike : (tags k : ℕ) (v : Value) → Alike (tag_element {M = M} tags k v) (tag_element {M = N} tags k v)
     tag_alike tags k (Value.Vect xs) = if_alike (nat_eq (length xs) tags) (element_alike xs (pos k)) faults
@@ -170,9 +164,8 @@ module _ (M N : Type 0) where
 
     varied_alike : (k i : Option ℕ) (own : ℕ → ℕ → Outcome M Value) (own' : ℕ → ℕ → Outcome N Value) {above : Outcome M Value} {above' : Outcome N Value} → ((i k : ℕ) → Alike (own i k) (own' i k)) → Alike above above'
         → Alike (varied k i own above) (varied k i own' above')
-    varied_alike None i own own' h a = a
-    varied_alike (Some k) None own own' h a = a
     varied_alike (Some k) (Some i) own own' h a = h i k
+    varied_alike k i own own' h a = a
 
     pub named_alike : (at : Path) (u : Under) (name : List ℕ) → Alike (named_value fns columns row {M = M} at u name) (named_value fns columns row {M = N} at u name)
     named_alike [] u name = cell_alike columns row name

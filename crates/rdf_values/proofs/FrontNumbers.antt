@@ -76,12 +76,11 @@ not_minus b n ds w = go (is_ascii_digit b) refl w
 pub leading_positive : (text : List ℕ) (count n : ℕ) (z : ℤ) → AreLeading text n count → positive (Some n) ≡ Some z → IsLeading text z count
 unfolding integer_of
 leading_positive [] zero n z h p = cc h.canonical
-leading_positive [] (suc count) n z h p = cc h.canonical
-leading_positive (b ∷ bs) zero n z h p = cc h.canonical
 leading_positive (b ∷ bs) (suc count) n z h p =
     let plus : (b == 45) ≡ false = not_minus b n (take count bs) h.written in
     let magnitude : magnitude_of 9223372036854775807 (b ∷ take count bs) ≡ Some n = leading_magnitude (b ∷ bs) n (suc count) 9223372036854775807 h (omega arith) in
     record { within = h.within; spelt = rw (plus, magnitude) p }
+leading_positive text count n z h p = cc h.canonical
 
 pub leading_negative : (text rest : List ℕ) (b count n : ℕ) (z : ℤ) → text ≡ b ∷ rest → (b == 45) ≡ true → AreLeading rest n count → negative (Some n) ≡ Some z → IsLeading text z (count + 1)
 unfolding integer_of

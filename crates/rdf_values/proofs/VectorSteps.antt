@@ -1,5 +1,5 @@
 -- The elements of a vector's text, part by part.
-use Rattle.std.proofs.Common.{if◌then◌else◌, ◌≡◌, ◌<◌, ◌≤◌, ◌+◌, ◌-◌, ◌∙◌, ℕ, ℤ, pos, negsuc, List, [], ◌∷◌, ◌++◌, length, Bool, true, false, None, Some, Option, Result, Ok, Err, ap, append_assoc, arith, refl, suc, sym, length-append, take, drop, get_or, IfOk, nat_le, ◌&&◌}
+use Rattle.std.proofs.Common.{if◌then◌else◌, ◌≡◌, ◌<◌, ◌≤◌, ◌+◌, ◌-◌, ◌∙◌, ℕ, ℤ, pos, negsuc, List, [], ◌∷◌, ◌++◌, length, Bool, true, false, None, Some, Option, Result, Ok, ap, append_assoc, arith, refl, suc, sym, length-append, take, drop, get_or, IfOk, nat_le, ◌&&◌}
 use Rattle.std.specs.Borrow.{Bor}
 use Rattle.std.specs.List.{slice_split, All}
 use Rattle.std.proofs.lemmas.List.{append-nil, drop_more, length-drop, take-append-drop, take_all}
@@ -124,8 +124,7 @@ reading_end spelt old now r = (r.read, r.left ∙ vector_end r.read r.few, r.add
 -- what is said of an answer that a vector was read
 pub read_good : (answer : Result Bool Memory) (spelt : Option (List ℤ)) (old new : List ℤ) → answer ≡ Ok true → IfOk answer (λ is_vector. AreRead spelt is_vector old new) → AreRead spelt true old new
 read_good (Ok true) spelt old new e h = h
-read_good (Ok false) spelt old new e h = cc e
-read_good (Err memory) spelt old new e h = cc e
+read_good answer spelt old new e h = cc e
 
 -- ---- a number's text has no `;`
 
