@@ -2,16 +2,19 @@
 ghost use Rattle.block_laws.specs.{BatchIsOfThePass, SelectedAloneFeed, SelectionNarrows, SelectionsAreCounted};
 
 /// A batch is what the pass by itself gives over the rows of the block.
+#[tactic(auto, using(crate::proofs::Batches::of_the_pass))]
 pub fn batch_is_of_the_pass()
     ensures { BatchIsOfThePass }
 {}
 
 /// Only the rows that pass its filters feed a pass, in their order.
+#[tactic(auto, using(crate::proofs::Batches::selected_alone))]
 pub fn selected_alone_feed()
     ensures { SelectedAloneFeed }
 {}
 
 /// The rows that pass the filters with one more are among those that pass the filters above it.
+#[tactic(auto, using(crate::proofs::Batches::narrows))]
 pub fn selection_narrows()
     ensures { SelectionNarrows }
 {}
