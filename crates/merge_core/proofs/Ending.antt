@@ -3,22 +3,18 @@ use Rattle.std.proofs.Common.{◌≡◌, ℕ, ◌<◌, ◌≤◌, List, [], ◌�
 use Rattle.std.specs.List.{All, concat, sum_by}
 use Rattle.std.specs.List.Sorted.{IsStrictlyIncreasing}
 use Rattle.std.proofs.lemmas.Bool.{cases_lt}
+use Rattle.std.proofs.lemmas.Grind.{common_steps}
 use Rattle.std.proofs.lemmas.List.{length-replicate}
 use Rattle.std.proofs.lemmas.List.Elements.{All-nil, All-cons, All-head, All-tail, All-replicate, All-map}
 use Rattle.std.proofs.lemmas.List.Sums.{sum_by-cons}
 use Rattle.std.proofs.lemmas.List.Folds.{sum_by-replicate}
 use Rattle.rdf_values.specs.{below, drawn_lists, Ended, Event, Fault as LoopFault, fault_of, Faulted, finished, is_over, Machine, once_below, opening, Phase, replayed, Running, Slot, slot_faults, times}
 use Rattle.rdf_values.proofs.DrawCounts.{times_push, times_self, times_below, times_concat, permuted_by_counts, once_inside, inside_once, drawn_by_counts, sum_by-map}
+use Rattle.rdf_values.proofs.UnionLemmas.{none_rises}
 use Rattle.merge_core.specs.{EachIsDrawnOnce, FirstFaultIsTold}
 use Rattle.merge_core.proofs.Faults.{Among, Told, Reaches, told_nothing, told_both, first_told}
 use Rattle.merge_core.proofs.Stepped.{replays}
 use Rattle.merge_core.proofs.Holding.{Holds, IsSound, EndsIn, but_last, done_in, done_of, only, keeps_event}
-
-nothing_below : All (λ (y : ℕ). y < 0) []
-nothing_below = All-nil (λ (y : ℕ). y < 0)
-
-none_rises : IsStrictlyIncreasing []
-none_rises k lt = absurd (omega arith)
 
 pub opens : (clusters slots : ℕ) → Holds clusters slots [] (opening clusters slots)
 opens clusters slots =
@@ -26,7 +22,7 @@ opens clusters slots =
     let none : (x : ℕ) → sum_by (λ (t : Slot). times x (done_of t)) (opening clusters slots).slots ≡ 0 = λ x. sum_by-replicate (λ (t : Slot). times x (done_of t)) slots s ∙ mul-zero slots in
     record {
       rise = All-replicate (λ (t : Slot). IsStrictlyIncreasing t.drawn) slots s none_rises;
-      under = All-replicate (λ (t : Slot). All (λ y. y < 0) t.drawn) slots s nothing_below;
+      under = All-replicate (λ (t : Slot). All (λ y. y < 0) t.drawn) slots s (All-nil (λ (y : ℕ). y < 0));
       once = λ x. sum_by-replicate (λ (t : Slot). times x t.drawn) slots s ∙ omega (arith, times_below x 0, mul-zero slots);
       few = omega arith;
       low = omega arith;
@@ -50,9 +46,8 @@ each_is_drawn_once clusters slots es m h =
 -- what one slot that is over tells
 slot_told : (faults : List (Option LoopFault)) (bar : ℕ) (drawn : List ℕ) (held : Option ℕ) (phase : Phase) → IsTrue (is_over phase) → EndsIn drawn held phase → IsSound faults bar (record { drawn = drawn; held = held; phase = phase }) → Told faults bar drawn (fault_of phase)
 slot_told faults bar drawn held Running over ends sound = absurd (cc)
-slot_told faults bar drawn (Some c) Ended over ends sound = elim ends [ ]
+slot_told faults bar drawn (Some c) phase over ends sound = elim ends [ ]
 slot_told faults bar drawn None Ended over ends sound = record { sound = λ c some lt. inl (sound.done c some lt); own = λ f a. elim a [ ] }
-slot_told faults bar drawn (Some c) (Faulted g) over ends sound = elim ends [ ]
 slot_told faults bar drawn None (Faulted g) over ends sound =
     let own = sound.fault in
     record {
@@ -82,9 +77,8 @@ all_ended (s ∷ ss) over none =
     All-cons (λ (t : Slot). t.phase ≡ Ended) s ss first.0 (all_ended ss (All-tail (λ (t : Slot). IsTrue (is_over t.phase)) s ss over) first.1)
   where
     is_ended : (p : Phase) (rest : List LoopFault) → IsTrue (is_over p) → fault_of p ++ rest ≡ [] → (p ≡ Ended) × (rest ≡ [])
-    is_ended Running rest over none = absurd (cc)
     is_ended Ended rest over none = (refl, none)
-    is_ended (Faulted f) rest over none = absurd (cc)
+    is_ended p rest over none = absurd (cc)
 
 -- the clusters of slots that all ended are done
 ended_done : (x : ℕ) (slots : List Slot) → All (λ (s : Slot). s.phase ≡ Ended) slots → All (λ (s : Slot). EndsIn s.drawn s.held s.phase) slots → sum_by (λ (s : Slot). times x (done_of s)) slots ≡ sum_by (λ (s : Slot). times x s.drawn) slots
@@ -95,10 +89,9 @@ ended_done x (s ∷ ss) all ends =
     omega (arith, sum_by-cons (λ (t : Slot). times x (done_of t)) s ss, sum_by-cons (λ (t : Slot). times x t.drawn) s ss, ap (times x) first)
   where
     one : (drawn : List ℕ) (held : Option ℕ) (p : Phase) → p ≡ Ended → EndsIn drawn held p → done_in drawn held p ≡ drawn
-    one drawn held Running is ends = absurd (cc)
     one drawn (Some c) Ended is ends = elim ends [ ]
     one drawn None Ended is ends = refl
-    one drawn held (Faulted f) is ends = absurd (cc)
+    one drawn held p is ends = absurd (cc)
 
 pub first_fault_is_told : FirstFaultIsTold
 first_fault_is_told clusters slots es m faults some h over size order honest =
@@ -123,10 +116,4 @@ first_fault_is_told clusters slots es m faults some h over size order honest =
     each_finished : Holds clusters slots es m → slot_faults m ≡ [] → m.next ≡ clusters → m.bar ≡ clusters → (x : ℕ) → times x (finished es) ≡ once_below x clusters
     each_finished k none all bar x =
         let whole = ended_done x m.slots (all_ended m.slots over none) k.shape ∙ k.once x ∙ ap (once_below x) all in
-        ⊎_elim
-        (λ (lt : x < clusters). k.done x (omega arith) ∙ whole)
-        (λ (le : clusters ≤ x). ⊎_elim
-        (λ (more : 0 < once_below x clusters). let lt = inside_once x clusters more in absurd (omega arith))
-        (λ (least : once_below x clusters ≤ 0). let most = k.most x in omega arith)
-        (cases_lt 0 (once_below x clusters)))
-        (cases_lt x clusters)
+        grind (arith, common_steps, whole, k.done x, k.most x)

@@ -1,7 +1,8 @@
 -- The first fault, from what is known of the clusters that were drawn.
-use Rattle.std.proofs.Common.{◌≡◌, ◌⊎◌, ℕ, zero, suc, ◌<◌, ◌≤◌, List, [], ◌∷◌, ◌++◌, length, Option, None, Some, refl, sym, ap, ◌∙◌, inl, inr, ⊎_elim, arith, slice_get, nat_le, if◌then◌else◌}
+use Rattle.std.proofs.Common.{◌≡◌, ◌⊎◌, ℕ, zero, suc, ◌<◌, ◌≤◌, List, [], ◌∷◌, ◌++◌, length, Option, None, Some, refl, sym, ap, ◌∙◌, inl, inr, ⊎_elim, arith, slice_get, nat_le}
 use Rattle.std.proofs.lemmas.Bool.{cases_lt, cond-true, cond-false, le-leb, lt-leb}
 use Rattle.std.proofs.lemmas.Option.{slice_get_within}
+use Rattle.lemmas.proofs.{le_or_lt}
 use Rattle.rdf_values.specs.{AreInEntryOrder, Fault, first_in, least_fault, lesser_fault, times}
 use Rattle.rdf_values.proofs.DrawCounts.{times_append}
 
@@ -27,24 +28,15 @@ pub least_is : (f : Fault) (fs : List Fault) → (g : Fault) × (least_fault (f 
 least_is f [] = (f, refl, inl refl, λ h a. ⊎_elim (λ (e : h ≡ f). let same = ap (λ (x : Fault). x.entry) e in omega arith) (λ (n : ⊥). absurd n) a)
 least_is f (k ∷ ks) =
     let r = least_is k ks in
-    elim (cases_le f.entry r.0.entry) [
-      | inl le ↦ (f, ap (λ o. Some (lesser_fault f o)) r.1 ∙ ap Some (first_less f r.0 le), inl refl, λ h a. ⊎_elim (λ (e : h ≡ f). let same = ap (λ (x : Fault). x.entry) e in omega arith) (λ (in' : Among h (k ∷ ks)). let more = r.3 h in' in omega arith) a)
-      | inr lt ↦ (r.0, ap (λ o. Some (lesser_fault f o)) r.1 ∙ ap Some (second_less f r.0 lt), inr r.2, λ h a. ⊎_elim (λ (e : h ≡ f). let same = ap (λ (x : Fault). x.entry) e in omega arith) (λ (in' : Among h (k ∷ ks)). r.3 h in') a)
+    elim (le_or_lt f.entry r.0.entry) [
+      | inl le ↦ (f, ap (λ o. Some (lesser_fault f o)) r.1 ∙ ap Some (cond-true (nat_le f.entry r.0.entry) f r.0 (le-leb f.entry r.0.entry le)), inl refl, λ h a. ⊎_elim (λ (e : h ≡ f). let same = ap (λ (x : Fault). x.entry) e in omega arith) (λ (in' : Among h (k ∷ ks)). let more = r.3 h in' in omega arith) a)
+      | inr lt ↦ (r.0, ap (λ o. Some (lesser_fault f o)) r.1 ∙ ap Some (cond-false (nat_le f.entry r.0.entry) f r.0 (lt-leb f.entry r.0.entry lt)), inr r.2, λ h a. ⊎_elim (λ (e : h ≡ f). let same = ap (λ (x : Fault). x.entry) e in omega arith) (λ (in' : Among h (k ∷ ks)). r.3 h in') a)
     ]
-  where
-    cases_le : (a b : ℕ) → (a ≤ b) ⊎ (b < a)
-    cases_le a b = ⊎_elim (λ (lt : b < a). inr lt) (λ (le : a ≤ b). inl le) (cases_lt b a)
-
-    first_less : (a b : Fault) → a.entry ≤ b.entry → (if nat_le a.entry b.entry then a else b) ≡ a
-    first_less a b le = cond-true (nat_le a.entry b.entry) a b (le-leb a.entry b.entry le)
-
-    second_less : (a b : Fault) → b.entry < a.entry → (if nat_le a.entry b.entry then a else b) ≡ b
-    second_less a b lt = cond-false (nat_le a.entry b.entry) a b (lt-leb a.entry b.entry lt)
 
 none_first : (faults : List (Option Fault)) → ((c : ℕ) → c < length faults → slice_get faults c ≡ Some None) → first_in faults ≡ None
 none_first [] h = refl
 none_first (None ∷ fs) h = none_first fs (λ c lt. h (suc c) (omega arith))
-none_first (Some f ∷ fs) h = let e = h 0 (omega arith) in absurd (cc)
+none_first (Some f ∷ fs) h = cc (h 0 (omega arith))
 
 first_at : (faults : List (Option Fault)) (c : ℕ) (f : Fault) → slice_get faults c ≡ Some (Some f) → ((j : ℕ) → j < c → slice_get faults j ≡ Some None) → first_in faults ≡ Some f
 first_at [] c f at before = absurd (cc)

@@ -1,9 +1,10 @@
 -- What holds of every machine that honest events lead to.
-use Rattle.std.proofs.Common.{◌≡◌, ◌⊎◌, ℕ, zero, suc, ◌+◌, ◌<◌, ◌≤◌, min, List, [], ◌∷◌, ◌++◌, length, set, true, false, cond, Option, None, Some, refl, sym, ap, ◌∙◌, subst, inl, inr, ⊎_elim, arith, ◌==◌, slice_get, flat_map}
+use Rattle.std.proofs.Common.{◌≡◌, ◌⊎◌, ℕ, zero, suc, ◌+◌, ◌<◌, ◌≤◌, min, List, [], ◌∷◌, ◌++◌, length, set, cond, Option, None, Some, refl, sym, ap, ◌∙◌, subst, inl, inr, ⊎_elim, arith, ◌==◌, slice_get, flat_map}
 use Rattle.std.specs.Prelude.{⊤}
 use Rattle.std.specs.List.{All, sum_by}
 use Rattle.std.specs.List.Sorted.{IsStrictlyIncreasing}
-use Rattle.std.proofs.lemmas.Bool.{cases_lt, cases_Bool, eqb-true, cond-false}
+use Rattle.std.proofs.lemmas.Bool.{cases_lt}
+use Rattle.std.proofs.lemmas.Grind.{common_steps}
 use Rattle.std.proofs.lemmas.Option.{slice_get_within, get_or_from_slice_get}
 use Rattle.std.proofs.lemmas.List.{length-set}
 use Rattle.std.proofs.lemmas.List.Elements.{All-pop, All-push, All-set, All-weaker}
@@ -108,10 +109,10 @@ among_kept g (t ∷ ts) zero s now at runs h =
     let same : t ≡ s = cc in
     let none : fault_in t ≡ [] = ap fault_in same ∙ ap fault_of runs in
     among_right g (fault_in now) (flat_map fault_in ts) (subst (λ l. Among g (l ++ flat_map fault_in ts)) none h)
-among_kept g (t ∷ ts) (suc i) s now at runs h = ⊎_elim
-    (λ (a : Among g (fault_in t)). among_left g (fault_in t) (flat_map fault_in (set ts i now)) a)
-    (λ (b : Among g (flat_map fault_in ts)). among_right g (fault_in t) (flat_map fault_in (set ts i now)) (among_kept g ts i s now at runs b))
-    (among_either g (fault_in t) (flat_map fault_in ts) h)
+among_kept g (t ∷ ts) (suc i) s now at runs h = elim (among_either g (fault_in t) (flat_map fault_in ts) h) [
+  | inl a ↦ among_left g (fault_in t) (flat_map fault_in (set ts i now)) a
+  | inr b ↦ among_right g (fault_in t) (flat_map fault_in (set ts i now)) (among_kept g ts i s now at runs b)
+]
 
 -- the fault of a slot is among all
 among_new : (g : LoopFault) (slots : List Slot) (i : ℕ) (s now : Slot) → slice_get slots i ≡ Some s → Among g (fault_in now) → Among g (flat_map fault_in (set slots i now))
@@ -178,17 +179,11 @@ held_last s c held runs shape = subst (EndsIn s.drawn (Some c)) runs (subst (λ 
 
 -- 1 where c is k alone
 pub only : (k c : ℕ) → 0 < cond (c == k) 1 0 → c ≡ k
-only k c more = ⊎_elim
-    (λ (t : (c == k) ≡ true). eqb-true c k t)
-    (λ (f : (c == k) ≡ false). let none : one_if k c ≡ 0 = cond-false {A = ℕ} (c == k) 1 0 f in absurd (omega (arith, none)))
-    (cases_Bool (c == k))
+only k c more = grind (arith, common_steps)
 
 -- a number below the bar isn't one at or above it
 apart : (c bar x : ℕ) → bar ≤ c → x < bar → one_if x c ≡ 0
-apart c bar x high low = ⊎_elim
-    (λ (more : 0 < one_if x c). let same : c ≡ x = only x c more in absurd (omega arith))
-    (λ (none : one_if x c ≤ 0). let e : one_if x c ≡ 0 = omega arith in e)
-    (cases_lt 0 (one_if x c))
+apart c bar x high low = grind (arith, common_steps)
 
 -- the last of numbers below n is below n
 last_under : (xs ys : List ℕ) (c n : ℕ) → xs ≡ ys ++ c ∷ [] → All (λ y. y < n) xs → c < n

@@ -57,9 +57,6 @@ module _ {P : Type 0} (stands : List ℕ → P → Type 0) where
       let u = united m.done r.1 r.0 all (both_rise m.done r.1 (first_rises m.done m.rest m.together.sets_rise) (first_rises r.1 r.0 ups)) (rest_rise r.1 r.0 ups) m.together.rising (λ x. counted x (m.done ∷ m.rest) all m.together ∙ sums x) in
       record { mine = m.done; theirs = r.1; both = u.0; rest = r.0; here = m.here; there = r.4; united = u.1; others = r.3; together = u.2 }
 
-  pub merged_next : (merged p now : P) (left : List P) (all : List ℕ) (n : IsNext merged p left all) → stands n.both now → IsMerged now left all
-  merged_next merged p now left all n h = record { done = n.both; rest = n.rest; here = h; there = n.others; together = n.together }
-
   -- nothing is left
   pub merged_all : (merged : P) (all : List ℕ) → IsMerged merged [] all → stands all merged
   merged_all merged all m = subst (λ s. stands s merged) (done_all m.rest m.there m.together) m.here

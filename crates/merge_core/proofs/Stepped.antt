@@ -1,10 +1,8 @@
 -- What a step of the machine did, case by case.
-use Rattle.std.proofs.Common.{◌≡◌, ℕ, ◌+◌, ◌<◌, ◌≤◌, List, [], ◌∷◌, ◌++◌, Bool, true, false, min, Option, None, Some, refl, sym, ap, subst, append-nil, append_assoc, ◌&&◌, nat_eq, nat_lt, if◌then◌else◌, Result, Ok, Err, slice_get, slice_set}
-use Rattle.std.proofs.lemmas.Bool.{eqb-true, ltb-true, ltb-false}
-use Rattle.lemmas.proofs.{both_true}
+use Rattle.std.proofs.Common.{◌≡◌, ℕ, ◌+◌, ◌<◌, ◌≤◌, List, [], ◌∷◌, ◌++◌, min, Option, None, Some, refl, sym, subst, append-nil, append_assoc, arith, Result, Ok, Err, slice_get, slice_set}
+use Rattle.std.proofs.lemmas.Bool.Decides.{nat_tests}
 use Rattle.rdf_values.specs.{claim_next, claim_step, end_slot, Ended, Event, Faulted, give_up, if_running, Left, Machine, pass_over, Phase, replay_from, Running, running_step, Slot, slot_of, step_of, StepCause, with_slot}
 use Rattle.rdf_values.specs.declared.event.Event.TheVariants.{Claim, Finish, Fault, Skip, End}
-use Rattle.rdf_values.specs.declared.step_cause.StepCause.TheVariants.{NotHeld, NotBarred}
 
 abbrev pub slot_with : List ℕ → Option ℕ → Phase → Slot
 slot_with drawn held phase = record { drawn = drawn; held = held; phase = phase }
@@ -32,55 +30,32 @@ pub record IsStepped (clusters : ℕ) (m : Machine) (e : Event) (after : Machine
   pub is : after ≡ changed m (slot_of e) leaves
   pub how : How clusters m.next m.bar slot e leaves
 
-if_ok : {A E : Type 0} (b : Bool) (x y : A) (e : E) → (if b then Ok x else Err e) ≡ Ok y → (b ≡ true) × (x ≡ y)
-if_ok true x y e h = (refl, cc)
-if_ok false x y e h = absurd (cc)
-
-if_err : {A E : Type 0} (b : Bool) (x y : A) (e : E) → (if b then Err e else Ok x) ≡ Ok y → (b ≡ false) × (x ≡ y)
-if_err true x y e h = absurd (cc)
-if_err false x y e h = (refl, cc)
-
-claimed : (clusters next bar c : ℕ) (s : Slot) (held : Option ℕ) (l : Left) → claim_next clusters next bar c s held ≡ Ok l → (held ≡ None) × (next < clusters) × (left (next + 1) bar (slot_with (s.drawn ++ next ∷ []) (Some next) Running) ≡ l)
+claimed : (clusters next bar c : ℕ) (s : Slot) (held : Option ℕ) (l : Left) → claim_next clusters next bar c s held ≡ Ok l → (held ≡ None) × (next < clusters) × (l ≡ left (next + 1) bar (slot_with (s.drawn ++ next ∷ []) (Some next) Running))
+claimed clusters next bar c s None l h = grind (arith, nat_tests)
 claimed clusters next bar c s (Some k) l h = absurd (cc)
-claimed clusters next bar c s None l h =
-    let t = if_ok (nat_eq c next && nat_lt next clusters) (left (next + 1) bar (slot_with (s.drawn ++ next ∷ []) (Some next) Running)) l _ h in
-    let both = both_true (nat_eq c next) (nat_lt next clusters) t.0 in
-    (refl, ltb-true next clusters both.1, t.1)
 
-given_up : (next bar c : ℕ) (s : Slot) (held : Option ℕ) (phase : Phase) (l : Left) → give_up next bar c s held phase ≡ Ok l → (held ≡ Some c) × (left next bar (slot_with s.drawn None phase) ≡ l)
+given_up : (next bar c : ℕ) (s : Slot) (held : Option ℕ) (phase : Phase) (l : Left) → give_up next bar c s held phase ≡ Ok l → (held ≡ Some c) × (l ≡ left next bar (slot_with s.drawn None phase))
 given_up next bar c s None phase l h = absurd (cc)
-given_up next bar c s (Some k) phase l h =
-    let t = if_ok (nat_eq k c) (left next bar (slot_with s.drawn None phase)) l _ h in
-    (ap Some (eqb-true k c t.0), t.1)
+given_up next bar c s (Some k) phase l h = grind (arith, nat_tests)
 
-passed_over : (next bar c : ℕ) (s : Slot) (held : Option ℕ) (l : Left) → pass_over next bar c s held ≡ Ok l → (held ≡ Some c) × (bar ≤ c) × (left next bar (slot_with s.drawn None Ended) ≡ l)
+passed_over : (next bar c : ℕ) (s : Slot) (held : Option ℕ) (l : Left) → pass_over next bar c s held ≡ Ok l → (held ≡ Some c) × (bar ≤ c) × (l ≡ left next bar (slot_with s.drawn None Ended))
 passed_over next bar c s None l h = absurd (cc)
-passed_over next bar c s (Some k) l h = inner (nat_eq k c) (nat_lt k bar) refl refl h
-  where
-    inner : (same lower : Bool) → nat_eq k c ≡ same → nat_lt k bar ≡ lower
-        → ◌≡◌ {A = Result Left StepCause} (if same then (if lower then Err (NotBarred bar) else Ok (left next bar (slot_with s.drawn None Ended))) else Err (NotHeld (Some k))) (Ok l)
-        → (Some k ≡ Some c) × (bar ≤ c) × (left next bar (slot_with s.drawn None Ended) ≡ l)
-    inner false lower same less h = absurd (cc)
-    inner true true same less h = absurd (cc)
-    inner true false same less h = let e = eqb-true k c same in (ap Some e, subst (λ n. bar ≤ n) e (ltb-false k bar less), cc)
+passed_over next bar c s (Some k) l h = grind (arith, nat_tests)
 
-ended : (clusters next bar : ℕ) (s : Slot) (held : Option ℕ) (l : Left) → end_slot clusters next bar s held ≡ Ok l → (held ≡ None) × (clusters ≤ next) × (left next bar (slot_with s.drawn None Ended) ≡ l)
+ended : (clusters next bar : ℕ) (s : Slot) (held : Option ℕ) (l : Left) → end_slot clusters next bar s held ≡ Ok l → (held ≡ None) × (clusters ≤ next) × (l ≡ left next bar (slot_with s.drawn None Ended))
+ended clusters next bar s None l h = grind (arith, nat_tests)
 ended clusters next bar s (Some k) l h = absurd (cc)
-ended clusters next bar s None l h =
-    let t = if_err (nat_lt next clusters) (left next bar (slot_with s.drawn None Ended)) l _ h in
-    (refl, ltb-false next clusters t.0, t.1)
 
 how : (clusters next bar : ℕ) (s : Slot) (e : Event) (l : Left) → running_step clusters next bar s e ≡ Ok l → How clusters next bar s e l
-how clusters next bar s (Claim i c) l h = let t = claimed clusters next bar c s s.held l h in (t.0, t.1, sym t.2)
-how clusters next bar s (Finish i c) l h = let t = given_up next bar c s s.held Running l h in (t.0, sym t.1)
-how clusters next bar s (Fault i c f) l h = let t = given_up next (min bar c) c s s.held (Faulted f) l h in (t.0, sym t.1)
-how clusters next bar s (Skip i c) l h = let t = passed_over next bar c s s.held l h in (t.0, t.1, sym t.2)
-how clusters next bar s (End i) l h = let t = ended clusters next bar s s.held l h in (t.0, t.1, sym t.2)
+how clusters next bar s (Claim i c) l h = claimed clusters next bar c s s.held l h
+how clusters next bar s (Finish i c) l h = given_up next bar c s s.held Running l h
+how clusters next bar s (Fault i c f) l h = given_up next (min bar c) c s s.held (Faulted f) l h
+how clusters next bar s (Skip i c) l h = passed_over next bar c s s.held l h
+how clusters next bar s (End i) l h = ended clusters next bar s s.held l h
 
 running : (i : ℕ) (p : Phase) (r : Result Left StepCause) (l : Left) → if_running i p r ≡ Ok l → (p ≡ Running) × (r ≡ Ok l)
 running i Running r l h = (refl, h)
-running i Ended r l h = absurd (cc)
-running i (Faulted f) r l h = absurd (cc)
+running i p r l h = absurd (cc)
 
 slotted : (m : Machine) (i : ℕ) (r : Result Left StepCause) (after : Machine) → with_slot m i r ≡ Ok after → (l : Left) × (r ≡ Ok l) × (after ≡ changed m i l)
 slotted m i (Err c) after h = absurd (cc)
@@ -98,13 +73,10 @@ stepped clusters m e after h = stepped_at clusters m e after (slice_get m.slots 
 
 -- ---- what steps keep is kept by all events
 
-same_ok : {E : Type 0} (m after : Machine) → ◌≡◌ {A = Result Machine E} (Ok m) (Ok after) → m ≡ after
-same_ok m after e = cc
-
 pub replays : (clusters : ℕ) (P : List Event → Machine → Type 0)
     → ((past : List Event) (m : Machine) (e : Event) (after : Machine) → P past m → IsStepped clusters m e after → P (past ++ e ∷ []) after)
     → (n : ℕ) (past es : List Event) (m after : Machine) → P past m → replay_from clusters n m es ≡ Ok after → P (past ++ es) after
-replays clusters P keeps n past [] m after p h = subst (λ l. P l after) (sym (append-nil past)) (subst (P past) (same_ok m after h) p)
+replays clusters P keeps n past [] m after p h = let same : m ≡ after = cc in subst (λ l. P l after) (sym (append-nil past)) (subst (P past) same p)
 replays clusters P keeps n past (e ∷ es) m after p h =
     go (λ next is k. replays clusters P keeps (n + 1) (past ++ e ∷ []) es next after (keeps past m e next p (stepped clusters m e next is)) k) (claim_step clusters m e) refl h
   where

@@ -1,14 +1,12 @@
-use Rattle.std.proofs.Common.{◌≡◌, ℕ, List, [], ◌∷◌, map, refl, sym, subst, arith, IsPermutation}
+use Rattle.std.proofs.Common.{◌≡◌, ℕ, List, [], ◌∷◌, map, refl, sym, subst, IsPermutation}
 use Rattle.std.specs.List.{All, concat}
 use Rattle.std.specs.List.Sorted.{IsStrictlyIncreasing}
 use Rattle.std.proofs.lemmas.List.Elements.{All-nil, All-cons}
 use Rattle.std.proofs.lemmas.List.Sorted.{IsPermutation-refl}
 use Rattle.rdf_values.specs.{IsUnion}
+use Rattle.rdf_values.proofs.UnionLemmas.{none_rises}
 use Rattle.merge_core.specs.{Stand}
 use Rattle.merge_core.proofs.tests.pieces_are_merged.Goals as goal
-
-none_rises : IsStrictlyIncreasing []
-none_rises k lt = absurd (omega arith)
 
 module _ {P : Type 0} where
   -- pieces of which nothing is known stand for no clusters
