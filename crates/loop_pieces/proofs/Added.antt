@@ -1,6 +1,7 @@
 -- Counts that are added filter by filter.
-use Rattle.std.proofs.Common.{◌≡◌, ℕ, zero, suc, ◌<◌, List, [], ◌∷◌, length, get_or, refl, ap₂, arith}
+use Rattle.std.proofs.Common.{◌≡◌, ℕ, zero, suc, ◌<◌, List, [], ◌∷◌, length, get_or, refl, arith}
 use Rattle.std.specs.List.{All}
+use Rattle.std.proofs.lemmas.List.{ext_get_or}
 use Rattle.std.proofs.lemmas.List.Elements.{All-from_get_or}
 use Rattle.loop_pieces.specs.{AreCounts, both, Counts, HaveRoom, nothing}
 use Rattle.loop_pieces.specs.Flows.{added}
@@ -16,14 +17,8 @@ get_or-added (x ∷ xs) [] k e lt = absurd (omega arith)
 get_or-added (x ∷ xs) (y ∷ ys) zero e lt = refl
 get_or-added (x ∷ xs) (y ∷ ys) (suc k) e lt = get_or-added xs ys k (omega arith) (omega arith)
 
-pub same_by_index : (xs ys : List Counts) → length xs ≡ length ys → ((k : ℕ) → k < length xs → get_or xs k nothing ≡ get_or ys k nothing) → xs ≡ ys
-same_by_index [] [] e h = refl
-same_by_index [] (y ∷ ys) e h = absurd (omega arith)
-same_by_index (x ∷ xs) [] e h = absurd (omega arith)
-same_by_index (x ∷ xs) (y ∷ ys) e h = ap₂ (λ a l. a ∷ l) (h 0 (omega arith)) (same_by_index xs ys (omega arith) (λ k lt. h (suc k) (omega arith)))
-
 pub sum_is : (old theirs new : List Counts) → length theirs ≡ length old → length new ≡ length old → ((k : ℕ) → k < length old → get_or new k nothing ≡ both (get_or old k nothing) (get_or theirs k nothing)) → new ≡ added old theirs
-sum_is old theirs new e f h = same_by_index new (added old theirs) (omega (arith, length-added old theirs e)) (λ k lt. let here : k < length old = omega arith in rw (get_or-added old theirs k e here) (h k here))
+sum_is old theirs new e f h = ext_get_or nothing new (added old theirs) (omega (arith, length-added old theirs e)) (λ k lt. let here : k < length old = omega arith in rw (get_or-added old theirs k e here) (h k here))
 
 pub are_counts : (old theirs : List Counts) → length theirs ≡ length old → HaveRoom old theirs → All AreCounts old → All AreCounts theirs → All AreCounts (added old theirs)
 are_counts old theirs e room a b = All-from_get_or AreCounts (added old theirs) nothing (λ k lt.

@@ -1,7 +1,7 @@
 -- The first fault, cluster by cluster.
 use Rattle.std.proofs.Common.{◌≡◌, ◌⊎◌, ℕ, suc, ◌+◌, ◌-◌, ◌<◌, ◌≤◌, List, [], ◌∷◌, ◌++◌, length, map, drop, Option, None, Some, refl, sym, ap, ap₂, ◌∙◌, inl, inr, arith, slice_get, slice_range, option_map}
 use Rattle.std.proofs.lemmas.Option.{slice_get-map}
-use Rattle.lemmas.proofs.{range_length, take_at_most}
+use Rattle.lemmas.proofs.{range_length, same_some, take_at_most}
 use Rattle.rdf_values.specs.{EntryFault, Fault, first_in, Lead, Pass, Span, Value}
 use Rattle.rdf_values.proofs.Leading.{led_are_in_order}
 use Rattle.rdf_model.specs.{Dataset, fault_at, fault_or, first_fault_from, first_fault_in, first_of, span_rows}
@@ -15,9 +15,6 @@ first_of-assoc (Some f) b c = refl
 first_in-cons : (o : Option Fault) (os : List (Option Fault)) → first_in (o ∷ os) ≡ first_of o (first_in os)
 first_in-cons None os = refl
 first_in-cons (Some f) os = refl
-
-same_some : {g k : Fault} → ◌≡◌ {A = Option Fault} (Some g) (Some k) → g ≡ k
-same_some q = cc
 
 module _ (d : Dataset) (ps : List Pass) where
   fault_from-append : (xs ys : List (List Value)) (e : ℕ) → first_fault_from d e (xs ++ ys) ps ≡ first_of (first_fault_from d e xs ps) (first_fault_from d (e + length xs) ys ps)
@@ -75,13 +72,10 @@ HasSpan d spans ps c f = (s : Span) × (slice_get spans c ≡ Some s) × (s.lo �
 its_span : (d : Dataset) (spans : List Span) (ps : List Pass) (c : ℕ) (f : Fault) → slice_get (cluster_faults d spans ps) c ≡ Some (Some f) → HasSpan d spans ps c f
 its_span d spans ps c f at = go (slice_get spans c) refl (sym (slice_get-map (λ s. fault_of d ps (Some s)) spans c) ∙ ap (λ l. slice_get l c) (sym (by_places (fault_of d ps) spans)) ∙ at)
   where
-    two_some : {a b : Option Fault} → ◌≡◌ {A = Option (Option Fault)} (Some a) (Some b) → a ≡ b
-    two_some q = cc
-
     go : (o : Option Span) → slice_get spans c ≡ o → option_map (λ s. fault_of d ps (Some s)) o ≡ Some (Some f) → HasSpan d spans ps c f
     go None is h = absurd (cc)
     go (Some s) is h =
-        let w = fault_within d ps (slice_range d.rows s.lo s.hi) s.lo f (two_some h) in
+        let w = fault_within d ps (slice_range d.rows s.lo s.hi) s.lo f (same_some h) in
         let low = w.0 in
         let high = w.1 in
         let short = take_at_most (s.hi - s.lo) (drop s.lo d.rows) in

@@ -1,7 +1,7 @@
 -- The items of the clusters in a set.
-use Rattle.std.proofs.Common.{◌≡◌, ℕ, zero, suc, ◌+◌, ◌≤◌, List, [], ◌∷◌, ◌++◌, map, true, false, refl, sym, ap, ap₂, ◌∙◌, subst, ⊎_elim, arith, append_assoc, ◌==◌, flat_map, slice_get}
+use Rattle.std.proofs.Common.{◌≡◌, ℕ, zero, suc, ◌+◌, ◌≤◌, List, [], ◌∷◌, ◌++◌, map, false, inl, inr, refl, sym, ap, ap₂, ◌∙◌, subst, arith, append_assoc, ◌==◌, flat_map, slice_get}
 use Rattle.std.specs.List.Sorted.{IsStrictlyIncreasing}
-use Rattle.std.proofs.lemmas.Bool.{cases_Bool, eqb-true, eq-eqb}
+use Rattle.std.proofs.lemmas.Bool.{cases_eq, ne_eqb}
 use Rattle.std.proofs.lemmas.List.{map-append}
 use Rattle.std.proofs.lemmas.Grind.{flat_map-append}
 use Rattle.rdf_values.specs.{IsUnion, Item, times}
@@ -32,18 +32,11 @@ of_another c d (i ∷ is) n = of_other c (record { cluster = d; item = i }) (fro
 module _ (items : ℕ → List Item) where
   pub cluster_of : (c : ℕ) (set : List ℕ) → of_cluster c (flat_map (λ d. from_cluster d (items d)) set) ≡ copies (times c set) (from_cluster c (items c))
   cluster_of c [] = refl
-  cluster_of c (d ∷ ds) = of_both c (from_cluster d (items d)) (flat_map (λ k. from_cluster k (items k)) ds) ∙ ⊎_elim
-      (λ (t : (d == c) ≡ true).
-      let e = eqb-true d c t in
-      ap₂ (λ a b. a ++ b) (subst (λ k. of_cluster c (from_cluster k (items k)) ≡ from_cluster c (items c)) (sym e) (its_own c (items c))) (cluster_of c ds)
-      ∙ ap (λ n. copies n (from_cluster c (items c))) (sym (subst (λ k. times c (k ∷ ds) ≡ suc (times c ds)) (sym e) (times_self c ds))))
-      (λ (n : (d == c) ≡ false).
-      ap₂ (λ a b. a ++ b) (of_another c d (items d) n) (cluster_of c ds)
-      ∙ ap (λ k. copies k (from_cluster c (items c))) (sym (times_other c d ds (λ e. true≢ (sym (eq-eqb d c e) ∙ n)))))
-      (cases_Bool (d == c))
-    where
-      true≢ : true ≡ false → ⊥
-      true≢ e = absurd (cc)
+  cluster_of c (d ∷ ds) = of_both c (from_cluster d (items d)) (flat_map (λ k. from_cluster k (items k)) ds) ∙ elim (cases_eq d c) [
+    | inl e ↦ ap₂ (λ a b. a ++ b) (subst (λ k. of_cluster c (from_cluster k (items k)) ≡ from_cluster c (items c)) (sym e) (its_own c (items c))) (cluster_of c ds)
+        ∙ ap (λ n. copies n (from_cluster c (items c))) (sym (subst (λ k. times c (k ∷ ds) ≡ suc (times c ds)) (sym e) (times_self c ds)))
+    | inr n ↦ ap₂ (λ a b. a ++ b) (of_another c d (items d) (ne_eqb d c n)) (cluster_of c ds) ∙ ap (λ k. copies k (from_cluster c (items c))) (sym (times_other c d ds n))
+  ]
 
   all_from : (c : ℕ) (k : ℕ) (is : List Item) (rest : List Fed) → c ≤ k → AllFrom c rest → AllFrom c (from_cluster k is ++ rest)
   all_from c k [] rest le h = h

@@ -1,30 +1,46 @@
--- Two pieces of a loop joined.
-use Rattle.std.proofs.Common.{◌≡◌, ℕ, zero, suc, ◌<◌, List, [], ◌∷◌, ◌++◌, length, map, get_or, refl, sym, ap, ap₂, ◌∙◌, subst, arith, Result, Ok, Err, OnOk}
-use Rattle.std.proofs.lemmas.List.{length-map, get_or-map, same_lists}
-use Rattle.rdf_values.specs.{ActionKind, below, IsUnion}
+-- Two pieces of a loop: of one set they agree, and of two sets they are joined.
+use Rattle.std.proofs.Common.{◌≡◌, ℕ, zero, suc, ◌<◌, List, [], ◌∷◌, ◌++◌, length, map, get_or, refl, sym, ap, ap₂, ◌∙◌, subst, arith}
+use Rattle.std.proofs.lemmas.List.{length-map, get_or-map}
+use Rattle.rdf_values.specs.{ActionKind, below, fold_items, IsUnion}
 use Rattle.rdf_model.specs.declared.loop_facts.LoopFacts.{LoopFacts}
-use Rattle.actions.specs.{Accumulator}
-use Rattle.loop_pieces.specs.{AreMerged, both, CanMerge, cluster_items, Counts, counts_at, fed_over, HaveRoom, LoopPiece, StandsFor}
+use Rattle.actions.specs.{Accumulator, in_file_order}
+use Rattle.loop_pieces.specs.{AreMerged, both, CanMerge, cluster_items, Counts, counts_at, fed_over, HaveRoom, LoopPiece, PiecesOfOneSetAgree, StandsFor}
 use Rattle.loop_pieces.specs.Flows.{added}
 use Rattle.loop_pieces.proofs.ByCluster.{has_fed_same}
 use Rattle.loop_pieces.proofs.FedOver.{order_union}
 use Rattle.loop_pieces.proofs.Rows.{counts_union, counts_few, entries_union, entries_few}
 
-abbrev kind_at : Accumulator → ActionKind
+abbrev pub kind_at : Accumulator → ActionKind
 kind_at acc = acc.kind
 
-module _ (f : LoopFacts) (mine theirs all : List ℕ) (p q : LoopPiece) (s : StandsFor f mine p) (t : StandsFor f theirs q) (u : IsUnion (mine ∷ theirs ∷ []) all) where
+-- lists that agree at each place agree when they are mapped
+maps_agree : {B : Type 0} (g : Accumulator → B) (xs ys : List Accumulator) → length xs ≡ length ys → ((i : ℕ) (d : Accumulator) → i < length xs → g (get_or xs i d) ≡ g (get_or ys i d)) → map g xs ≡ map g ys
+maps_agree g [] [] e h = refl
+maps_agree g [] (y ∷ ys) e h = absurd (omega arith)
+maps_agree g (x ∷ xs) [] e h = absurd (omega arith)
+maps_agree g (x ∷ xs) (y ∷ ys) e h = ap₂ (λ a l. a ∷ l) (h 0 x (omega arith)) (maps_agree g xs ys (omega arith) (λ i d lt. h (suc i) d (omega arith)))
+
+module _ (f : LoopFacts) (mine theirs : List ℕ) (p q : LoopPiece) (s : StandsFor f mine p) (t : StandsFor f theirs q) where
   same_many : length q.accs.items ≡ length p.accs.items
   same_many = sym (length-map q.accs.items kind_at) ∙ ap length (t.kinds ∙ sym s.kinds) ∙ length-map p.accs.items kind_at
 
   kind_of_place : (i : ℕ) (d : Accumulator) → i < length p.accs.items → (get_or q.accs.items i d).kind ≡ (get_or p.accs.items i d).kind
   kind_of_place i d lt = sym (get_or-map kind_at q.accs.items i d (kind_at d) (omega (arith, same_many))) ∙ ap (λ l. get_or l i (kind_at d)) (t.kinds ∙ sym s.kinds) ∙ get_or-map kind_at p.accs.items i d (kind_at d) lt
 
+-- what a piece shows is told by its clusters
+pub pieces_of_one_set_agree : PiecesOfOneSetAgree
+pieces_of_one_set_agree f set p q s t = (
+  maps_agree (λ (acc : Accumulator). acc.filled) p.accs.items q.accs.items (sym (same_many f set set p q s t))
+      (λ i d lt. (s.accs i d lt).fed.filled ∙ ap (λ k. fold_items k (in_file_order (fed_over f set i))) (sym (kind_of_place f set set p q s t i d lt)) ∙ sym (t.accs i d (omega (arith, same_many f set set p q s t))).fed.filled),
+  s.flow ∙ sym t.flow,
+)
+
+module _ (f : LoopFacts) (mine theirs all : List ℕ) (p q : LoopPiece) (s : StandsFor f mine p) (t : StandsFor f theirs q) (u : IsUnion (mine ∷ theirs ∷ []) all) where
   pub can_merge : CanMerge p.accs.items q.accs.items
   can_merge = record {
-    many = same_many;
-    kinds = kind_of_place;
-    room = λ i d lt. (let a = s.accs i d lt in let b = t.accs i d (omega (arith, same_many)) in omega (arith, a.few, b.few, entries_union f mine theirs all u, entries_few f all s.facts u.rising));
+    many = same_many f mine theirs p q s t;
+    kinds = kind_of_place f mine theirs p q s t;
+    room = λ i d lt. (let a = s.accs i d lt in let b = t.accs i d (omega (arith, same_many f mine theirs p q s t)) in omega (arith, a.few, b.few, entries_union f mine theirs all u, entries_few f all s.facts u.rising));
   }
 
   both_counts : (i : ℕ) → both (counts_at f mine i) (counts_at f theirs i) ≡ counts_at f all i
@@ -42,22 +58,15 @@ module _ (f : LoopFacts) (mine theirs all : List ℕ) (p q : LoopPiece) (s : Sta
   pub have_room : HaveRoom p.flow q.flow
   have_room = subst (λ (a : List Counts). HaveRoom a q.flow) (sym s.flow) (subst (λ (b : List Counts). HaveRoom (map (counts_at f mine) (below f.filters)) b) (sym t.flow) (room (below f.filters)))
 
-  same_at : (r : LoopPiece) → AreMerged p.accs.items q.accs.items r.accs.items → (k : ℕ) (d : ActionKind) → k < length (map kind_at r.accs.items) → get_or (map kind_at r.accs.items) k d ≡ get_or (map kind_at p.accs.items) k d
-  same_at r merged k d lt = by_first r.accs.items p.accs.items k d (omega (arith, length-map r.accs.items kind_at)) (omega (arith, merged.many, length-map r.accs.items kind_at)) (λ e. (merged.each k e (omega (arith, merged.many, length-map r.accs.items kind_at))).kind)
-    where
-      by_first : (xs ys : List Accumulator) (i : ℕ) (e : ActionKind) → i < length xs → i < length ys → ((a : Accumulator) → (get_or xs i a).kind ≡ (get_or ys i a).kind) → get_or (map kind_at xs) i e ≡ get_or (map kind_at ys) i e
-      by_first [] ys i e lt le h = absurd (omega arith)
-      by_first (x ∷ xs) ys i e lt le h = get_or-map kind_at (x ∷ xs) i x e lt ∙ h x ∙ sym (get_or-map kind_at ys i x e le)
-
   pub joined : (r : LoopPiece) → AreMerged p.accs.items q.accs.items r.accs.items → r.flow ≡ added p.flow q.flow → StandsFor f all r
   joined r merged flow = record {
     facts = s.facts;
     rises = u.rising;
-    kinds = same_lists (map kind_at r.accs.items) (map kind_at p.accs.items) (length-map r.accs.items kind_at ∙ merged.many ∙ sym (length-map p.accs.items kind_at)) (same_at r merged) ∙ s.kinds;
+    kinds = maps_agree kind_at r.accs.items p.accs.items merged.many (λ i d lt. (merged.each i d (omega (arith, merged.many))).kind) ∙ s.kinds;
     accs = λ i d lt. (
         let here : i < length p.accs.items = omega (arith, merged.many) in
         let a = s.accs i d here in
-        let b = t.accs i d (omega (arith, same_many)) in
+        let b = t.accs i d (omega (arith, same_many f mine theirs p q s t)) in
         let m = merged.each i d here in
         record {
           fed = has_fed_same _ (fed_over f mine i ++ fed_over f theirs i) (fed_over f all i) (order_union (cluster_items f i) mine theirs all u) (m.fed (fed_over f mine i) (fed_over f theirs i) a.fed b.fed);

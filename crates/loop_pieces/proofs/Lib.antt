@@ -1,5 +1,4 @@
 pub mod Added
-pub mod Agreeing
 pub mod ByCluster
 pub mod ClusterFaults
 pub mod FedOver

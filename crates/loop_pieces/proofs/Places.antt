@@ -1,13 +1,10 @@
 -- Clusters by their numbers, and clusters that lead from one entry to another.
-use Rattle.std.proofs.Common.{◌≡◌, ℕ, zero, suc, ◌+◌, ◌-◌, ◌≤◌, List, [], ◌∷◌, ◌++◌, length, map, take, drop, Option, Some, refl, sym, ap, ◌∙◌, arith, length-drop, flat_map, slice_get, slice_range}
-use Rattle.std.proofs.lemmas.List.{map-append}
+use Rattle.std.proofs.Common.{◌≡◌, ℕ, zero, suc, ◌+◌, ◌-◌, ◌≤◌, List, [], ◌∷◌, ◌++◌, length, map, take, drop, Option, Some, refl, sym, ap, ◌∙◌, arith, flat_map, slice_get, slice_range}
+use Rattle.std.proofs.lemmas.List.{map-append, take_all}
 use Rattle.std.proofs.lemmas.List.Folds.{flat_map-map}
-use Rattle.lemmas.proofs.{drop_plus}
+use Rattle.std.proofs.lemmas.Simd.{map-map}
+use Rattle.lemmas.proofs.{drop_plus, take_plus}
 use Rattle.rdf_values.specs.{below, Lead, Span}
-
-map_twice : {A B C : Type 0} (g : B → C) (f : A → B) (xs : List A) → map g (map f xs) ≡ map (λ x. g (f x)) xs
-map_twice g f [] = refl
-map_twice g f (x ∷ xs) = ap (λ l. g (f x) ∷ l) (map_twice g f xs)
 
 below_front : (n : ℕ) → below (suc n) ≡ 0 ∷ map (λ k. suc k) (below n)
 below_front zero = refl
@@ -18,7 +15,7 @@ pub by_places : {A : Type 0} (g : Option Span → A) (spans : List Span) → map
 by_places g [] = refl
 by_places g (s ∷ ss) =
     ap (map (λ c. g (slice_get (s ∷ ss) c))) (below_front (length ss))
-    ∙ ap (λ l. g (Some s) ∷ l) (map_twice (λ c. g (slice_get (s ∷ ss) c)) (λ k. suc k) (below (length ss)) ∙ by_places g ss)
+    ∙ ap (λ l. g (Some s) ∷ l) (map-map (λ c. g (slice_get (s ∷ ss) c)) (λ k. suc k) (below (length ss)) ∙ by_places g ss)
 
 pub joined_places : {A : Type 0} (g : Option Span → List A) (spans : List Span) → flat_map (λ c. g (slice_get spans c)) (below (length spans)) ≡ flat_map (λ s. g (Some s)) spans
 joined_places g [] = refl
@@ -32,24 +29,13 @@ pub lead_up : (spans : List Span) (lo hi : ℕ) → Lead lo hi spans → lo ≤ 
 lead_up [] lo hi h = omega arith
 lead_up (s ∷ ss) lo hi h = let a = h.0 in let b = h.1 in let r = lead_up ss s.hi hi h.2 in omega arith
 
-take_all : {A : Type 0} (n : ℕ) (xs : List A) → length xs ≤ n → take n xs ≡ xs
-take_all zero [] le = refl
-take_all zero (x ∷ xs) le = absurd (omega arith)
-take_all (suc n) [] le = refl
-take_all (suc n) (x ∷ xs) le = ap (λ l. x ∷ l) (take_all n xs (omega arith))
-
-take_plus : {A : Type 0} (n m : ℕ) (xs : List A) → n ≤ length xs → take n xs ++ take m (drop n xs) ≡ take (n + m) xs
-take_plus zero m xs le = let e : m ≡ 0 + m = omega arith in ap (λ k. take k xs) e
-take_plus (suc n) m [] le = absurd (omega arith)
-take_plus (suc n) m (x ∷ xs) le = ap (λ l. x ∷ l) (take_plus n m xs (omega arith)) ∙ (let e : suc (n + m) ≡ suc n + m = omega arith in ap (λ k. take k (x ∷ xs)) e)
-
 -- the rows from lo to below hi, and from there to below top
 pub ranges_join : {A : Type 0} (rows : List A) (lo hi top : ℕ) → lo ≤ hi → hi ≤ top → top ≤ length rows → slice_range rows lo hi ++ slice_range rows hi top ≡ slice_range rows lo top
 ranges_join rows lo hi top a b c =
     let at : lo + (hi - lo) ≡ hi = omega arith in
     let all : (hi - lo) + (top - hi) ≡ top - lo = omega arith in
     ap (λ l. take (hi - lo) (drop lo rows) ++ take (top - hi) l) (ap (λ k. drop k rows) (sym at) ∙ sym (drop_plus lo (hi - lo) rows))
-    ∙ take_plus (hi - lo) (top - hi) (drop lo rows) (omega (arith, length-drop lo rows))
+    ∙ sym (take_plus (hi - lo) (top - hi) (drop lo rows))
     ∙ ap (λ k. take k (drop lo rows)) all
 
 pub range_whole : {A : Type 0} (rows : List A) → slice_range rows 0 (length rows) ≡ rows

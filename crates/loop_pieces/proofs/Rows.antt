@@ -1,7 +1,9 @@
 -- How many rows and counts the clusters of a set have.
-use Rattle.std.proofs.Common.{◌≡◌, ℕ, zero, suc, ◌+◌, ◌-◌, ◌<◌, ◌≤◌, List, [], ◌∷◌, ◌++◌, length, take, drop, cond, Bool, true, false, Option, None, Some, refl, sym, ap, ap₂, ◌∙◌, arith, append-nil, length-drop, flat_map, slice_get, count_by}
+use Rattle.std.proofs.Common.{◌≡◌, ℕ, ◌+◌, ◌-◌, ◌<◌, ◌≤◌, List, [], ◌∷◌, ◌++◌, length, drop, cond, Bool, Option, None, Some, refl, sym, ap, ap₂, ◌∙◌, arith, append-nil, length-drop, flat_map, slice_get, count_by}
 use Rattle.std.specs.List.{sum_by}
 use Rattle.std.specs.List.Sorted.{IsStrictlyIncreasing}
+use Rattle.std.proofs.lemmas.Grind.{common_steps}
+use Rattle.std.proofs.lemmas.List.{length-take}
 use Rattle.std.proofs.lemmas.List.Concat.{length-flat_map}
 use Rattle.std.proofs.lemmas.List.Sums.{sum_by-cons, sum_by-append, sum_by-le}
 use Rattle.std.proofs.lemmas.List.Sorted.{sum_by-IsPermutation}
@@ -25,14 +27,6 @@ sum_by-flat_map g h (x ∷ xs) = sum_by-append g (h x) (flat_map h xs) ∙ ap (�
 -- the clusters' ranges follow one another
 abbrev pub AreOrdered : List Span → Type 0
 AreOrdered ranges = (c d : ℕ) (s t : Span) → c < d → slice_get ranges c ≡ Some s → slice_get ranges d ≡ Some t → s.hi ≤ t.lo
-
-length-take : {A : Type 0} (n : ℕ) (xs : List A) → (length (take n xs) ≤ n) × (length (take n xs) ≤ length xs)
-length-take zero xs = (omega arith, omega arith)
-length-take (suc n) [] = (omega arith, omega arith)
-length-take (suc n) (x ∷ xs) = let r = length-take n xs in (omega arith, omega arith)
-
-span_size : {A : Type 0} (rows : List A) (s : Span) → (length (span_rows rows (Some s)) ≤ s.hi - s.lo) × (length (span_rows rows (Some s)) ≤ length rows - s.lo)
-span_size rows s = let t = length-take (s.hi - s.lo) (drop s.lo rows) in let d = length-drop s.lo rows in (t.0, omega arith)
 
 module _ {A : Type 0} (ranges : List Span) (rows : List A) (ordered : AreOrdered ranges) where
   abbrev size : ℕ → ℕ
@@ -59,10 +53,9 @@ module _ {A : Type 0} (ranges : List Span) (rows : List A) (ordered : AreOrdered
       go (Some s) at rest =
           let here : size c ≡ length (span_rows rows (Some s)) = ap (λ o. length (span_rows rows o)) at in
           let from = h.0 s at in
-          let few = span_size rows s in
           let others = rest b h.1 in
           let later = rest s.hi (after_span c s cs at up.0) in
-          omega (arith, sum_by-cons size c cs)
+          omega (arith, sum_by-cons size c cs, length-take (s.hi - s.lo) (drop s.lo rows), length-drop s.lo rows)
 
   from_zero : (set : List ℕ) → FromOn 0 set
   from_zero [] = tt
@@ -92,7 +85,7 @@ counts_union f mine theirs all i u = (by_test is_reached, by_test is_passed)
 
 one_row : (p : Reach → Bool) (o : Option Reach) → count_by p (if_there o) ≤ 1
 one_row p None = omega arith
-one_row p (Some r) = elim (p r) as (λ b. 0 + cond b 1 0 ≤ 1) [ true ↦ omega arith | false ↦ omega arith ]
+one_row p (Some r) = grind (arith, common_steps)
 
 pub counts_few : (f : LoopFacts) (set : List ℕ) (i : ℕ) → IsLoopFacts f → IsStrictlyIncreasing set → (counts_at f set i).all ≤ 1000000
 counts_few f set i facts up =

@@ -34,8 +34,5 @@ module _ (old theirs mine : List Accumulator) (i : ℕ) (acc merged e : Accumula
   pub done_next : IsBefore → (k : ℕ) (d : Accumulator) → k < i + 1 → IsMerged (get_or old k d) (get_or theirs k d) (get_or (set mine i merged) k d)
   done_next b k d lt = ⊎_elim
       (λ (less : k < i). subst (IsMerged (get_or old k d) (get_or theirs k d)) (sym (get_or-set_other mine i k merged d (λ e. absurd (omega arith)))) (b.done k d less))
-      (λ (least : i ≤ k). subst (λ j. IsMerged (get_or old j d) (get_or theirs j d) (get_or (set mine i merged) j d)) (equal i k least (omega arith)) (here b d))
+      (λ (least : i ≤ k). subst (λ j. IsMerged (get_or old j d) (get_or theirs j d) (get_or (set mine i merged) j d)) (let e : i ≡ k = omega arith in e) (here b d))
       (cases_lt k i)
-    where
-      equal : (a b : ℕ) → a ≤ b → b ≤ a → a ≡ b
-      equal a b p q = omega arith

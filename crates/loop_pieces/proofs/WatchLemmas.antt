@@ -1,10 +1,12 @@
 -- Pieces of a watched result.
-use Rattle.std.proofs.Common.{◌≡◌, ℕ, zero, suc, ◌+◌, ◌-◌, ◌*◌, ◌^◌, ◌≤◌, ℤ, pos, negsuc, ◌+ℤ◌, List, [], ◌∷◌, ◌++◌, length, map, take, drop, Option, None, Some, refl, sym, ap, ◌∙◌, subst, arith, length-append, flat_map, fold, nat_abs, slice_get}
-use Rattle.std.specs.List.{AllByRecursion}
+use Rattle.std.proofs.Common.{◌≡◌, ℕ, ◌+◌, ◌-◌, ◌*◌, ◌^◌, ◌≤◌, ℤ, pos, ◌+ℤ◌, List, [], ◌∷◌, ◌++◌, length, map, get_or, drop, Option, None, Some, refl, sym, ap, ◌∙◌, subst, arith, length-append, flat_map, fold, nat_abs, slice_get}
+use Rattle.std.specs.List.{All, AllByRecursion}
 use Rattle.std.specs.Int.{int_max, int_min}
 use Rattle.std.specs.List.Sorted.{IsStrictlyIncreasing}
-use Rattle.std.proofs.lemmas.List.Elements.{recursion_from_All}
-use Rattle.lemmas.proofs.{abs_add}
+use Rattle.std.proofs.lemmas.Int.{ints}
+use Rattle.std.proofs.lemmas.List.Elements.{All-append, All-drop, All-head, All-nil, All-tail, All-take, recursion_from_All}
+use Rattle.std.proofs.lemmas.Option.{slice_get-get_or}
+use Rattle.lemmas.proofs.{abs_add, same_some}
 use Rattle.rdf_values.specs.{ActionKind, Filled, fold_items, Has64Bits, IsUnion, Item, numbers_of, Span}
 use Rattle.rdf_values.specs.Fold as filled
 use Rattle.rdf_model.specs.{FitsAction, FitsSpread, IsLoopFacts, items_over, list_at, result_over, rows_in, span_rows}
@@ -22,103 +24,29 @@ use Rattle.loop_pieces.proofs.Rows.{entries_few, entries_union}
 
 module _ (P : ActionKind → WatchPiece → WatchPiece → Type 0) (counts : (n m : ℕ) → P ActionKind.Count (Count n) (Count m)) (sums : (c : List ℕ) (y z : ℤ) → P (ActionKind.Sum c) (Sum y) (Sum z))
     (leasts : (c : List ℕ) (y z : Option ℤ) → P (ActionKind.Min c) (Least y) (Least z)) (greatests : (c : List ℕ) (y z : Option ℤ) → P (ActionKind.Max c) (Greatest y) (Greatest z)) where
-  two_counts : (p q : WatchPiece) → IsOfKind ActionKind.Count p → IsOfKind ActionKind.Count q → P ActionKind.Count p q
-  two_counts (Count n) (Count m) a b = counts n m
-  two_counts (Count n) (Sum z) a b = absurd b
-  two_counts (Count n) (Least z) a b = absurd b
-  two_counts (Count n) (Greatest z) a b = absurd b
-  two_counts (Sum z) q a b = absurd a
-  two_counts (Least z) q a b = absurd a
-  two_counts (Greatest z) q a b = absurd a
-
-  two_sums : (c : List ℕ) (p q : WatchPiece) → IsOfKind (ActionKind.Sum c) p → IsOfKind (ActionKind.Sum c) q → P (ActionKind.Sum c) p q
-  two_sums c (Sum y) (Sum z) a b = sums c y z
-  two_sums c (Sum y) (Count n) a b = absurd b
-  two_sums c (Sum y) (Least z) a b = absurd b
-  two_sums c (Sum y) (Greatest z) a b = absurd b
-  two_sums c (Count n) q a b = absurd a
-  two_sums c (Least z) q a b = absurd a
-  two_sums c (Greatest z) q a b = absurd a
-
-  two_leasts : (c : List ℕ) (p q : WatchPiece) → IsOfKind (ActionKind.Min c) p → IsOfKind (ActionKind.Min c) q → P (ActionKind.Min c) p q
-  two_leasts c (Least y) (Least z) a b = leasts c y z
-  two_leasts c (Least y) (Count n) a b = absurd b
-  two_leasts c (Least y) (Sum z) a b = absurd b
-  two_leasts c (Least y) (Greatest z) a b = absurd b
-  two_leasts c (Count n) q a b = absurd a
-  two_leasts c (Sum z) q a b = absurd a
-  two_leasts c (Greatest z) q a b = absurd a
-
-  two_greatests : (c : List ℕ) (p q : WatchPiece) → IsOfKind (ActionKind.Max c) p → IsOfKind (ActionKind.Max c) q → P (ActionKind.Max c) p q
-  two_greatests c (Greatest y) (Greatest z) a b = greatests c y z
-  two_greatests c (Greatest y) (Count n) a b = absurd b
-  two_greatests c (Greatest y) (Sum z) a b = absurd b
-  two_greatests c (Greatest y) (Least z) a b = absurd b
-  two_greatests c (Count n) q a b = absurd a
-  two_greatests c (Sum z) q a b = absurd a
-  two_greatests c (Least z) q a b = absurd a
-
-  pub of_one_kind : (k : ActionKind) (p q : WatchPiece) → IsOfKind k p → IsOfKind k q → P k p q
-  of_one_kind ActionKind.Count p q a b = two_counts p q a b
-  of_one_kind (ActionKind.Sum c) p q a b = two_sums c p q a b
-  of_one_kind (ActionKind.Min c) p q a b = two_leasts c p q a b
-  of_one_kind (ActionKind.Max c) p q a b = two_greatests c p q a b
-  of_one_kind (ActionKind.Take c) (Count n) q a b = absurd a
-  of_one_kind (ActionKind.Take c) (Sum z) q a b = absurd a
-  of_one_kind (ActionKind.Take c) (Least z) q a b = absurd a
-  of_one_kind (ActionKind.Take c) (Greatest z) q a b = absurd a
-  of_one_kind (ActionKind.Reduce o c) (Count n) q a b = absurd a
-  of_one_kind (ActionKind.Reduce o c) (Sum z) q a b = absurd a
-  of_one_kind (ActionKind.Reduce o c) (Least z) q a b = absurd a
-  of_one_kind (ActionKind.Reduce o c) (Greatest z) q a b = absurd a
-  of_one_kind (ActionKind.Histo1D xs c w) (Count n) q a b = absurd a
-  of_one_kind (ActionKind.Histo1D xs c w) (Sum z) q a b = absurd a
-  of_one_kind (ActionKind.Histo1D xs c w) (Least z) q a b = absurd a
-  of_one_kind (ActionKind.Histo1D xs c w) (Greatest z) q a b = absurd a
-  of_one_kind (ActionKind.Histo2D xs ys c d w) (Count n) q a b = absurd a
-  of_one_kind (ActionKind.Histo2D xs ys c d w) (Sum z) q a b = absurd a
-  of_one_kind (ActionKind.Histo2D xs ys c d w) (Least z) q a b = absurd a
-  of_one_kind (ActionKind.Histo2D xs ys c d w) (Greatest z) q a b = absurd a
-
-same_kind : {a b : ActionKind} → ◌≡◌ {A = Option ActionKind} (Some a) (Some b) → a ≡ b
-same_kind q = cc
+  of_one_kind : (k : ActionKind) (p q : WatchPiece) → IsOfKind k p → IsOfKind k q → P k p q
+  of_one_kind ActionKind.Count (Count n) (Count m) a b = counts n m
+  of_one_kind (ActionKind.Sum c) (Sum y) (Sum z) a b = sums c y z
+  of_one_kind (ActionKind.Min c) (Least y) (Least z) a b = leasts c y z
+  of_one_kind (ActionKind.Max c) (Greatest y) (Greatest z) a b = greatests c y z
+  of_one_kind k (Count n) q a b = absurd (assumption (a, b))
+  of_one_kind k p q a b = absurd (assumption (a, b))
 
 pub watch_pieces_of_one_set_agree : WatchPiecesOfOneSetAgree
 watch_pieces_of_one_set_agree w set p q s t =
-    let one : s.kind ≡ t.kind = same_kind (sym s.its_kind ∙ t.its_kind) in
+    let one : s.kind ≡ t.kind = same_some (sym s.its_kind ∙ t.its_kind) in
     of_one_kind (λ k a b. watch_filled a ≡ watch_filled b → a ≡ b) (λ n m e. cc) (λ c y z e. cc) (λ c y z e. cc) (λ c y z e. cc) s.kind p q s.is_of_kind (subst (λ k. IsOfKind k q) (sym one) t.is_of_kind)
     (s.result ∙ ap (result_over w.facts set w.watched) one ∙ sym t.result)
 
 -- ---- items that fit
 
-abbrev Each : {A : Type 0} → (A → Type 0) → List A → Type 0
-Each P xs = AllByRecursion P xs
+all_span : {A : Type 0} (P : A → Type 0) (rows : List A) (o : Option Span) → All P rows → All P (span_rows rows o)
+all_span P rows None h = All-nil P
+all_span P rows (Some s) h = All-take P (s.hi - s.lo) (drop s.lo rows) (All-drop P s.lo rows h)
 
-each_take : {A : Type 0} (P : A → Type 0) (n : ℕ) (xs : List A) → Each P xs → Each P (take n xs)
-each_take P zero xs h = tt
-each_take P (suc n) [] h = tt
-each_take P (suc n) (x ∷ xs) h = (h.0, each_take P n xs h.1)
-
-each_drop : {A : Type 0} (P : A → Type 0) (n : ℕ) (xs : List A) → Each P xs → Each P (drop n xs)
-each_drop P zero xs h = h
-each_drop P (suc n) [] h = tt
-each_drop P (suc n) (x ∷ xs) h = each_drop P n xs h.1
-
-each_append : {A : Type 0} (P : A → Type 0) (xs ys : List A) → Each P xs → Each P ys → Each P (xs ++ ys)
-each_append P [] ys h k = k
-each_append P (x ∷ xs) ys h k = (h.0, each_append P xs ys h.1 k)
-
-each_span : {A : Type 0} (P : A → Type 0) (rows : List A) (o : Option Span) → Each P rows → Each P (span_rows rows o)
-each_span P rows None h = tt
-each_span P rows (Some s) h = each_take P (s.hi - s.lo) (drop s.lo rows) (each_drop P s.lo rows h)
-
-each_in : {A : Type 0} (P : A → Type 0) (ranges : List Span) (rows : List A) (set : List ℕ) → Each P rows → Each P (rows_in ranges rows set)
-each_in P ranges rows [] h = tt
-each_in P ranges rows (c ∷ cs) h = each_append P (span_rows rows (slice_get ranges c)) (rows_in ranges rows cs) (each_span P rows (slice_get ranges c) h) (each_in P ranges rows cs h)
-
-each_place : {A : Type 0} (P : A → Type 0) (xs : List A) → ((k : ℕ) (x : A) → slice_get xs k ≡ Some x → P x) → Each P xs
-each_place P [] h = tt
-each_place P (x ∷ xs) h = (h 0 x refl, each_place P xs (λ k. h (suc k)))
+all_in : {A : Type 0} (P : A → Type 0) (ranges : List Span) (rows : List A) (set : List ℕ) → All P rows → All P (rows_in ranges rows set)
+all_in P ranges rows [] h = All-nil P
+all_in P ranges rows (c ∷ cs) h = All-append P (span_rows rows (slice_get ranges c)) (rows_in ranges rows cs) (all_span P rows (slice_get ranges c) h) (all_in P ranges rows cs h)
 
 module _ (k : ActionKind) (i : ℕ) where
   abbrev FitsRow : List (List Item) → Type 0
@@ -127,45 +55,41 @@ module _ (k : ActionKind) (i : ℕ) where
   nothing_fits : FitsSpread k []
   nothing_fits = record { few = omega arith; fit = λ j d lt. absurd (omega arith) }
 
-  rows_fit : (f : LoopFacts) → IsLoopFacts f → slice_get f.kinds i ≡ Some k → Each FitsRow f.spreads
-  rows_fit f facts at = each_place FitsRow f.spreads (λ e row there. go row (slice_get row i) refl (λ items its. facts.fit e i row items k there its at))
+  rows_fit : (f : LoopFacts) → IsLoopFacts f → slice_get f.kinds i ≡ Some k → All FitsRow f.spreads
+  rows_fit f facts at e d lt = let row = get_or f.spreads e d in go row (slice_get row i) refl (λ items its. facts.fit e i row items k (slice_get-get_or f.spreads e d lt) its at)
     where
       go : (row : List (List Item)) (o : Option (List Item)) → slice_get row i ≡ o → ((items : List Item) → slice_get row i ≡ Some items → FitsSpread k items) → FitsSpread k (elim o [ None ↦ [] | Some xs ↦ xs ])
       go row None is h = nothing_fits
       go row (Some items) is h = h items is
 
-  few_of : (rows : List (List (List Item))) → Each FitsRow rows → length (flat_map (λ row. list_at row i) rows) ≤ 4096 * length rows
+  few_of : (rows : List (List (List Item))) → All FitsRow rows → length (flat_map (λ row. list_at row i) rows) ≤ 4096 * length rows
   few_of [] h = omega arith
-  few_of (row ∷ rows) h = let first = h.0.few in let rest = few_of rows h.1 in omega (arith, length-append (list_at row i) (flat_map (λ r. list_at r i) rows))
+  few_of (row ∷ rows) h = let first = (All-head FitsRow row rows h).few in let rest = few_of rows (All-tail FitsRow row rows h) in omega (arith, length-append (list_at row i) (flat_map (λ r. list_at r i) rows))
 
-  fit_of : (rows : List (List (List Item))) → Each FitsRow rows → Each (FitsAction k) (flat_map (λ row. list_at row i) rows)
-  fit_of [] h = tt
-  fit_of (row ∷ rows) h = each_append (FitsAction k) (list_at row i) (flat_map (λ r. list_at r i) rows) (recursion_from_All (FitsAction k) (list_at row i) h.0.fit) (fit_of rows h.1)
+  fit_of : (rows : List (List (List Item))) → All FitsRow rows → All (FitsAction k) (flat_map (λ row. list_at row i) rows)
+  fit_of [] h = All-nil (FitsAction k)
+  fit_of (row ∷ rows) h = All-append (FitsAction k) (list_at row i) (flat_map (λ r. list_at r i) rows) (All-head FitsRow row rows h).fit (fit_of rows (All-tail FitsRow row rows h))
 
 abs_small : (z : ℤ) → Has64Bits z → nat_abs z ≤ 2 ^ 63
-abs_small (pos n) h = omega arith
-abs_small (negsuc n) h = omega arith
+abs_small z h = grind (arith, ints)
 
-sum_few : (c : List ℕ) (items : List Item) (s : ℤ) (a : ℕ) → Each (FitsAction (ActionKind.Sum c)) items → nat_abs s ≤ a → nat_abs (fold ◌+ℤ◌ s (numbers_of items)) ≤ a + length items * 2 ^ 63
+sum_few : (c : List ℕ) (items : List Item) (s : ℤ) (a : ℕ) → AllByRecursion (FitsAction (ActionKind.Sum c)) items → nat_abs s ≤ a → nat_abs (fold ◌+ℤ◌ s (numbers_of items)) ≤ a + length items * 2 ^ 63
 sum_few c [] s a h le = omega arith
 sum_few c (Item.Number z ∷ items) s a h le =
     let more = abs_add s z in
     let small = abs_small z h.0 in
     let rest = sum_few c items (s +ℤ z) (a + 2 ^ 63) h.1 (omega arith) in
     omega arith
-sum_few c (Item.Unit ∷ items) s a h le = absurd h.0
-sum_few c (Item.Single x ∷ items) s a h le = absurd h.0
-sum_few c (Item.Point x w ∷ items) s a h le = absurd h.0
-sum_few c (Item.Point2 x y w ∷ items) s a h le = absurd h.0
+sum_few c (i ∷ items) s a h le = absurd h.0
 
 -- ---- joining
 
 module _ (f : LoopFacts) (i : ℕ) (mine theirs all : List ℕ) (facts : IsLoopFacts f) (up : IsStrictlyIncreasing mine) (down : IsStrictlyIncreasing theirs) (u : IsUnion (mine ∷ theirs ∷ []) all) where
   few_items : (k : ActionKind) (set : List ℕ) → slice_get f.kinds i ≡ Some k → length (items_over f set i) ≤ 4096 * entries_over f set
-  few_items k set at = few_of k i (rows_in f.ranges f.spreads set) (each_in (FitsRow k i) f.ranges f.spreads set (rows_fit k i f facts at))
+  few_items k set at = few_of k i (rows_in f.ranges f.spreads set) (all_in (FitsRow k i) f.ranges f.spreads set (rows_fit k i f facts at))
 
-  items_fit : (k : ActionKind) (set : List ℕ) → slice_get f.kinds i ≡ Some k → Each (FitsAction k) (items_over f set i)
-  items_fit k set at = fit_of k i (rows_in f.ranges f.spreads set) (each_in (FitsRow k i) f.ranges f.spreads set (rows_fit k i f facts at))
+  items_fit : (k : ActionKind) (set : List ℕ) → slice_get f.kinds i ≡ Some k → AllByRecursion (FitsAction k) (items_over f set i)
+  items_fit k set at = recursion_from_All (FitsAction k) (items_over f set i) (fit_of k i (rows_in f.ranges f.spreads set) (all_in (FitsRow k i) f.ranges f.spreads set (rows_fit k i f facts at)))
 
   -- both sets together have at most a million entries
   few_entries : entries_over f mine + entries_over f theirs ≤ 1000000
@@ -231,7 +155,7 @@ module _ (f : LoopFacts) (i : ℕ) (mine theirs all : List ℕ) (facts : IsLoopF
 module _ (w : WatchFacts) (mine theirs all : List ℕ) (p q : WatchPiece) (s : WatchStandsFor w mine p) (t : WatchStandsFor w theirs q) (u : IsUnion (mine ∷ theirs ∷ []) all) where
   both_joined : CanAdd p q × IsOfKind s.kind (added p q) × (watch_filled (added p q) ≡ result_over w.facts all w.watched s.kind)
   both_joined =
-      let one : t.kind ≡ s.kind = same_kind (sym t.its_kind ∙ s.its_kind) in
+      let one : t.kind ≡ s.kind = same_some (sym t.its_kind ∙ s.its_kind) in
       joins w.facts w.watched mine theirs all s.facts s.rises t.rises u s.kind p q s.is_of_kind (subst (λ k. IsOfKind k q) one t.is_of_kind) s.its_kind s.result (t.result ∙ ap (result_over w.facts theirs w.watched) one)
 
   pub can_add : CanAdd p q

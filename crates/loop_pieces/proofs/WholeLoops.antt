@@ -1,8 +1,7 @@
 -- A piece gives what separate passes give over the rows of its clusters.
-use Rattle.std.proofs.Common.{◌≡◌, ℕ, zero, suc, ◌<◌, ◌≤◌, Bool, true, false, List, [], ◌∷◌, ◌++◌, length, get_or, Option, None, Some, refl, sym, ap, ap₂, ◌∙◌, subst, arith, length-append, flat_map, slice_get, slice_range, option_map, All, ◌||◌}
-use Rattle.std.specs.List.{list_any}
-use Rattle.std.proofs.lemmas.Option.{slice_get-map, slice_get_within, get_or_from_slice_get}
-use Rattle.lemmas.proofs.{any_at}
+use Rattle.std.proofs.Common.{◌≡◌, ℕ, zero, suc, ◌<◌, ◌≤◌, Bool, true, List, [], ◌∷◌, ◌++◌, length, get_or, Option, None, Some, refl, sym, ap, ap₂, ◌∙◌, subst, arith, length-append, flat_map, slice_get, slice_range, option_map, All}
+use Rattle.std.proofs.lemmas.Option.{slice_get-get_or, slice_get-map, slice_get_within, get_or_from_slice_get}
+use Rattle.lemmas.proofs.{any_at, same_some}
 use Rattle.rdf_values.specs.{ActionAt, ActionKind, below, Booking, fold_items, Lead, Pass, Path, ReportOn, same, Span, Under, Value}
 use Rattle.rdf_values.proofs.Below.{slice_get-below}
 use Rattle.rdf_model.specs.{◌>>=◌, action_pass, booking_outcome, Dataset, Entry, fault_in, Faults, filter_in, filter_node, FilterCounts, Gives, is_covered, kind_in, kinds_in, loop_facts, Needs, Outcome, over_clusters, report_in, reports_on, result_over, rows_in, span_rows}
@@ -12,6 +11,7 @@ use Rattle.rdf_model.proofs.Parts.{facts_give_results, facts_give_counts}
 use Rattle.actions.specs.{Accumulator, in_file_order}
 use Rattle.loop_pieces.specs.{AllClustersAreTheTable, counts_at, counts_of, fed_over, PieceHoldsCounts, PieceHoldsResults, WatchPieceIsPartialResult}
 use Rattle.loop_pieces.proofs.FedOver.{items_in_order}
+use Rattle.loop_pieces.proofs.Joined.{kind_at}
 use Rattle.loop_pieces.proofs.Places.{joined_places, lead_up, ranges_join, range_none, range_whole}
 
 -- ---- all rows
@@ -32,9 +32,6 @@ all_clusters_are_the_table d spans leads = ap (λ rows. record d { rows = rows }
 
 -- ---- results
 
-abbrev kind_at : Accumulator → ActionKind
-kind_at acc = acc.kind
-
 -- the kind of an action pass stands at its place
 kind_there : (before after : List Pass) (name : List ℕ) (k : ActionKind) (at : Path) (u : Under) → slice_get (kinds_in (before ++ action_pass name k at u ∷ after)) (length (kinds_in before)) ≡ Some k
 kind_there [] after name k at u = refl
@@ -44,9 +41,6 @@ kind_there (q ∷ before) after name k at u = go q.result.booking (kind_there be
         → slice_get (kind_in b ++ kinds_in (before ++ action_pass name k at u ∷ after)) (length (kind_in b ++ kinds_in before)) ≡ Some k
     go (ActionAt j p) h = h
     go (ReportOn fs) h = h
-
-same_some : {a b : ActionKind} → ◌≡◌ {A = Option ActionKind} (Some a) (Some b) → a ≡ b
-same_some q = cc
 
 pub piece_holds_results : PieceHoldsResults
 piece_holds_results d filters spans set before after name k at u piece acc stands there =
@@ -78,16 +72,8 @@ first_faultless (Needs m) rest h = elim m [ ]
 
 filter_faultless : (d : Dataset) (row : List Value) (filters : List Path) (i : ℕ) (f : Path) → fault_in (report_in d row filters) ≡ None → slice_get filters i ≡ Some f → fault_in (filter_in d row f) ≡ None
 filter_faultless d row [] i f h at = absurd (cc)
-filter_faultless d row (g ∷ gs) zero f h at = subst (λ (x : Path). fault_in (filter_in d row x) ≡ None) (same_path at) (first_faultless (filter_in d row g) (report_in d row gs) h).0
-  where
-    same_path : {a b : Path} → ◌≡◌ {A = Option Path} (Some a) (Some b) → a ≡ b
-    same_path q = cc
+filter_faultless d row (g ∷ gs) zero f h at = subst (λ (x : Path). fault_in (filter_in d row x) ≡ None) (same_some at) (first_faultless (filter_in d row g) (report_in d row gs) h).0
 filter_faultless d row (g ∷ gs) (suc i) f h at = filter_faultless d row gs i f (first_faultless (filter_in d row g) (report_in d row gs) h).1 at
-
-row_there : (rows : List (List Value)) (k : ℕ) (x : List Value) → k < length rows → slice_get rows k ≡ Some (get_or rows k x)
-row_there [] k x lt = absurd (omega arith)
-row_there (r ∷ rs) zero x lt = refl
-row_there (r ∷ rs) (suc k) x lt = row_there rs k x (omega arith)
 
 pub piece_holds_counts : PieceHoldsCounts
 piece_holds_counts d before after s up spans set ps n i p filters piece its_pass booked its_filter good stands =
@@ -98,7 +84,7 @@ piece_holds_counts d before after s up spans set ps n i p filters piece its_pass
     (ap (reports_on (filter_node (s ∷ up))) booked ∙ any_at (λ g. same (filter_node (s ∷ up)) (filter_node g)) filters i (s ∷ up) its_filter (itself (filter_node (s ∷ up)))) in
     let faultless : All (λ row. fault_in (filter_in d row (s ∷ up)) ≡ None) over.rows = λ k x lt.
     filter_faultless d (get_or over.rows k x) filters i (s ∷ up)
-    (ap (λ (b : Booking). fault_in (booking_outcome d.fns d.columns (get_or over.rows k x) b p.under)) (sym booked) ∙ (first_fault_is_least over ps).1 good k n (get_or over.rows k x) p (row_there over.rows k x lt) its_pass)
+    (ap (λ (b : Booking). fault_in (booking_outcome d.fns d.columns (get_or over.rows k x) b p.under)) (sym booked) ∙ (first_fault_is_least over ps).1 good k n (get_or over.rows k x) p (slice_get-get_or over.rows k x lt) its_pass)
     its_filter in
     ap (λ l. slice_get l (length before)) stands.flow
     ∙ slice_get-map (counts_at f set) (below (length (before ++ (s ∷ up) ∷ after))) (length before)

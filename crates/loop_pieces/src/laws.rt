@@ -19,26 +19,31 @@ pub fn joins_from_either_side<P: Piece>()
 {}
 
 /// What a piece of a loop shows is told by its clusters.
+#[tactic(auto, using(crate::proofs::Joined::pieces_of_one_set_agree))]
 pub fn pieces_of_one_set_agree()
     ensures { PiecesOfOneSetAgree }
 {}
 
 /// So is that of a watched result.
+#[tactic(auto, using(crate::proofs::WatchLemmas::watch_pieces_of_one_set_agree))]
 pub fn watch_pieces_of_one_set_agree()
     ensures { WatchPiecesOfOneSetAgree }
 {}
 
 /// The first cluster with a fault has the first fault of the whole table.
+#[tactic(auto, using(crate::proofs::ClusterFaults::first_cluster_has_first_fault))]
 pub fn first_cluster_has_first_fault()
     ensures { FirstClusterHasFirstFault }
 {}
 
 /// A fault of a lower cluster comes first.
+#[tactic(auto, using(crate::proofs::ClusterFaults::lower_clusters_fault_first))]
 pub fn lower_clusters_fault_first()
     ensures { LowerClustersFaultFirst }
 {}
 
 /// All clusters together are the table.
+#[tactic(auto, using(crate::proofs::WholeLoops::all_clusters_are_the_table))]
 pub fn all_clusters_are_the_table()
     ensures { AllClustersAreTheTable }
 {}
@@ -49,6 +54,7 @@ pub fn piece_holds_results()
 {}
 
 /// A piece holds the counts of each covered filter by itself.
+#[tactic(auto, using(crate::proofs::WholeLoops::piece_holds_counts))]
 pub fn piece_holds_counts()
     ensures { PieceHoldsCounts }
 {}
