@@ -10,6 +10,10 @@ use Rattle.expr_read.proofs.Unique.{unique, unique_values}
 abbrev pub IsWhole : {T : Type 0} → (List Token → T → Type 0) → ScanState → Type 0
 IsWhole {T} reads begin = (ts : List Placed) (x : T) → reads (bare ts) x → scan begin ts ≡ Whole
 
+-- what a scan takes whole reads
+abbrev pub Completes : {T : Type 0} → (List Token → T → Type 0) → ScanState → Type 0
+Completes {T} reads begin = (ts : List Placed) → scan begin ts ≡ Whole → (x : T) × reads (bare ts) x
+
 module _ {T : Type 0} (reads : List Token → T → Type 0) (begin : ScanState) (whole : IsWhole reads begin) where
   pub tokens_refused : (text : List ℕ) (e : ExprRefusal) → IsRefusalOf (tokens text) e → RefusesTextAs reads begin text e
   tokens_refused text ExprRefusal.Memory h = tt
@@ -34,19 +38,8 @@ module _ {T : Type 0} (reads : List Token → T → Type 0) (begin : ScanState) 
   memory_alone text x ExprRefusal.Memory t h = refl
   memory_alone text x (ExprRefusal.At why place) t h = absurd (not_both text x _ t h)
 
-pub one_tree : (text : List ℕ) (ts : List Placed) (a b : NamedTree) → tokens text ≡ Ok ts → Reads 0 (bare ts) a → ReadsText text b → a ≡ b
-one_tree text ts a b same r q = unique (bare ts) a b r (reads_these (Reads 0) begin_expr whole text ts b same q)
+  -- ---- each text has one answer
 
-pub one_value : (text : List ℕ) (ts : List Placed) (v w : VaryValues) → tokens text ≡ Ok ts → ReadsValues (bare ts) v → ReadsValuesText text w → v ≡ w
-one_value text ts v w same r q = unique_values (bare ts) v w r (reads_these ReadsValues begin_values whole_values text ts w same q)
-
--- ---- each text has one answer
-
--- what a scan takes whole reads
-abbrev pub Completes : {T : Type 0} → (List Token → T → Type 0) → ScanState → Type 0
-Completes {T} reads begin = (ts : List Placed) → scan begin ts ≡ Whole → (x : T) × reads (bare ts) x
-
-module _ {T : Type 0} (reads : List Token → T → Type 0) (begin : ScanState) (whole : IsWhole reads begin) where
   same_tokens : (text : List ℕ) (ts us : List Placed) → tokens text ≡ Ok ts → tokens text ≡ Ok us → ts ≡ us
   same_tokens text ts us e f = cc (sym e ∙ f)
 
@@ -79,3 +72,9 @@ module _ {T : Type 0} (reads : List Token → T → Type 0) (begin : ScanState) 
 
   pub answered : Completes reads begin → (text : List ℕ) → Answered text
   answered completes text = by_tokens completes text (tokens text) refl
+
+pub one_tree : (text : List ℕ) (ts : List Placed) (a b : NamedTree) → tokens text ≡ Ok ts → Reads 0 (bare ts) a → ReadsText text b → a ≡ b
+one_tree text ts a b same r q = unique (bare ts) a b r (reads_these (Reads 0) begin_expr whole text ts b same q)
+
+pub one_value : (text : List ℕ) (ts : List Placed) (v w : VaryValues) → tokens text ≡ Ok ts → ReadsValues (bare ts) v → ReadsValuesText text w → v ≡ w
+one_value text ts v w same r q = unique_values (bare ts) v w r (reads_these ReadsValues begin_values whole_values text ts w same q)

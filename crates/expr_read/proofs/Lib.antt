@@ -5,7 +5,6 @@ pub mod ReadOnce
 pub mod ReadsBack
 pub mod Scanned
 pub mod Shown
-pub mod Sizes
 pub mod Spelled
 pub mod SpelledTree
 pub mod TokenSteps

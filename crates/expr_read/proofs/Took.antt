@@ -1,6 +1,6 @@
 -- What was read, from what its parts read.
-use Rattle.std.proofs.Common.{◌≡◌, ◌<◌, ◌+◌, ◌∙◌, ℕ, suc, ℤ, Bool, List, [], ◌∷◌, ◌++◌, length, arith, refl, sym, ap, subst, append_assoc, add-one, None}
-use Rattle.rdf_values.specs.{after_brace, after_list, AfterBrace, AfterList, AfterName, bare, begin_values, beginning, between_lists, binary, BinOp, conditional, End, FirstArgument, InCall, InChoice, InIndex, InList, InLists, InParens, last_argument, last_item, last_list, level_of, Mark, minus_sign, More, more_arguments, more_items, more_lists, name, NamedTree, NamedTrees, next_list, NextList, no_arguments, not_sign, Nothing, number, one_list, Op, OpenMark, Operand, operand, Operator, parenthesized, pick, Placed, Punct, Reads, ReadsArgs, scan, several_lists, tighter, Token, truth, vector}
+use Rattle.std.proofs.Common.{◌≡◌, ◌<◌, ◌+◌, ◌∙◌, ℕ, suc, ℤ, Bool, List, [], ◌∷◌, ◌++◌, length, arith, refl, sym, ap, subst, append_assoc, add-one, Some, None}
+use Rattle.rdf_values.specs.{after_brace, after_list, AfterBrace, AfterList, bare, begin_values, beginning, between_lists, binary, BinOp, conditional, End, InCall, InChoice, InIndex, InList, InLists, InParens, last_argument, last_item, last_list, level_of, Mark, minus_sign, More, more_arguments, more_items, more_lists, name, NamedTree, NamedTrees, next_list, NextList, no_arguments, not_sign, Nothing, number, one_list, Op, OpenMark, Operand, operand, Operator, parenthesized, pick, Placed, Punct, Reads, ReadsArgs, scan, scan_step, ScanState, several_lists, tighter, Token, truth, vector}
 use Rattle.rdf_values.specs.Expressions as e
 use Rattle.rdf_values.specs.Tokens.{Word, Truth, Number}
 use Rattle.rdf_values.specs.Grammar.{call}
@@ -20,96 +20,73 @@ took_tighter k = record { tokens = k.tokens; split = k.split; reads = tighter k.
 pub took_next : {a : NamedTree} {old new : List Placed} → (n : ℕ) → Took (n + 1) a old new → Took (suc n) a old new
 took_next {a} {old} {new} n k = subst (λ m. Took m a old new) (add-one n) k
 
+-- tokens in a row, over which the scan comes from one state to another
+record Part (from to : List OpenMark → ScanState) (ts : List Token) (old new : List Placed) : Type 0 where
+  split : bare old ≡ ts ++ bare new
+  scans : (s : List OpenMark) → scan (from s) old ≡ scan (to s) new
+  fewer : length new < length old
+
+one : {from to : List OpenMark → ScanState} {t : Token} {old new : List Placed} → Begins t old new → ((s : List OpenMark) → scan_step (from s) t ≡ Some (to s)) → Part from to (t ∷ []) old new
+one {from} {to} b e = record { split = bare_after b; scans = λ s. scan_after (from s) (to s) b (e s); fewer = fewer_after b }
+
+both : {from mid to : List OpenMark → ScanState} {ts us : List Token} {old next new : List Placed} → Part from mid ts old next → Part mid to us next new → Part from to (ts ++ us) old new
+both {ts = ts} p q = record {
+  split = p.split ∙ ap (λ vs. ts ++ vs) q.split ∙ simp append_assoc;
+  scans = λ s. p.scans s ∙ q.scans s;
+  fewer = omega (arith, p.fewer, q.fewer);
+}
+
+onward : {from mid to : List OpenMark → ScanState} {ts : List Token} {old new : List Placed} → Part from mid ts old new → ((s : List OpenMark) → scan (mid s) new ≡ scan (to s) new) → Part from to ts old new
+onward p e = record { split = p.split; scans = λ s. p.scans s ∙ e s; fewer = p.fewer }
+
+-- an expression in open marks
+part : {n : ℕ} {a : NamedTree} {old new : List Placed} (under : List OpenMark → List OpenMark) (k : Took n a old new) → Part (λ s. (Operand, under s)) (λ s. (Operator, under s)) k.tokens old new
+part under k = record { split = k.split; scans = λ s. k.scans (under s); fewer = k.fewer }
+
+took : {n : ℕ} {a : NamedTree} {ts : List Token} {old new : List Placed} → Reads n ts a → Part (λ s. (Operand, s)) (λ s. (Operator, s)) ts old new → Took n a old new
+took {ts = ts} r p = record { tokens = ts; split = p.split; reads = r; scans = p.scans; fewer = p.fewer }
+
 pub took_number : {z : ℤ} {old new : List Placed} → Begins (Number z) old new → Took 9 (e.Lit z) old new
-took_number {z} b = record { tokens = Number z ∷ []; split = bare_after b; reads = number; scans = λ s. scan_after (Operand, s) (Operator, s) b refl; fewer = fewer_after b }
+took_number b = took number (one b (λ s. refl))
 
 pub took_truth : {v : Bool} {old new : List Placed} → Begins (Truth v) old new → Took 9 (e.Truth v) old new
-took_truth {v} b = record { tokens = Truth v ∷ []; split = bare_after b; reads = truth; scans = λ s. scan_after (Operand, s) (Operator, s) b refl; fewer = fewer_after b }
+took_truth b = took truth (one b (λ s. refl))
 
 pub took_name : {x : List ℕ} {old new : List Placed} → Begins (Word x) old new → BeginsNot (Punct Mark.Open) new → Took 9 (e.Col x) old new
-took_name {x} b isnt = record {
-  tokens = Word x ∷ [];
-  split = bare_after b;
-  reads = name;
-  scans = λ s. scan_after (Operand, s) (AfterName, s) b refl ∙ name_ends s _ isnt;
-  fewer = fewer_after b;
-}
+took_name b isnt = took name (onward (one b (λ s. refl)) (λ s. name_ends s _ isnt))
 
 pub took_minus_sign : {a : NamedTree} {old mid new : List Placed} → Begins (Op BinOp.Sub) old mid → Took 7 a mid new → Took 7 (e.Neg a) old new
-took_minus_sign b k = record {
-  tokens = Op BinOp.Sub ∷ k.tokens;
-  split = bare_after b ∙ ap (λ ts. Op BinOp.Sub ∷ ts) k.split;
-  reads = minus_sign k.reads;
-  scans = λ s. scan_after (Operand, s) (Operand, s) b refl ∙ k.scans s;
-  fewer = omega (arith, fewer_after b, k.fewer);
-}
+took_minus_sign b k = took (minus_sign k.reads) (both (one b (λ s. refl)) (part (λ s. s) k))
 
 pub took_not_sign : {a : NamedTree} {old mid new : List Placed} → Begins (Punct Mark.Bang) old mid → Took 7 a mid new → Took 7 (e.Not a) old new
-took_not_sign b k = record {
-  tokens = Punct Mark.Bang ∷ k.tokens;
-  split = bare_after b ∙ ap (λ ts. Punct Mark.Bang ∷ ts) k.split;
-  reads = not_sign k.reads;
-  scans = λ s. scan_after (Operand, s) (Operand, s) b refl ∙ k.scans s;
-  fewer = omega (arith, fewer_after b, k.fewer);
-}
+took_not_sign b k = took (not_sign k.reads) (both (one b (λ s. refl)) (part (λ s. s) k))
 
 pub took_binary : {n : ℕ} {o : BinOp} {a c : NamedTree} {old mid next new : List Placed}
     → Took n a old mid → level_of o ≡ n → Begins (Op o) mid next → Took (suc n) c next new → Took n (e.Bin o a c) old new
-took_binary {o = o} k l b r = record {
-  tokens = k.tokens ++ Op o ∷ r.tokens;
-  split = k.split ∙ ap (λ ts. k.tokens ++ ts) (bare_after b ∙ ap (λ ts. Op o ∷ ts) r.split) ∙ simp append_assoc;
-  reads = binary k.reads r.reads l refl;
-  scans = λ s. k.scans s ∙ scan_after (Operator, s) (Operand, s) b refl ∙ r.scans s;
-  fewer = omega (arith, k.fewer, fewer_after b, r.fewer);
-}
+took_binary k l b r = took (binary k.reads r.reads l refl) (both (part (λ s. s) k) (both (one b (λ s. refl)) (part (λ s. s) r)))
 
 pub took_conditional : {t a c : NamedTree} {old m1 m2 m3 m4 new : List Placed}
     → Took 1 t old m1 → Begins (Punct Mark.Question) m1 m2 → Took 0 a m2 m3 → Begins (Punct Mark.Colon) m3 m4 → Took 0 c m4 new → Took 0 (e.Cond t a c) old new
-took_conditional k b1 x b2 y = record {
-  tokens = k.tokens ++ (Punct Mark.Question ∷ (x.tokens ++ Punct Mark.Colon ∷ y.tokens));
-  split = k.split ∙ ap (λ ts. k.tokens ++ ts) (bare_after b1 ∙ ap (λ ts. Punct Mark.Question ∷ ts) (x.split ∙ ap (λ ts. x.tokens ++ ts) (bare_after b2 ∙ ap (λ ts. Punct Mark.Colon ∷ ts) y.split))) ∙ simp append_assoc;
-  reads = conditional k.reads x.reads y.reads refl;
-  scans = λ s. k.scans s ∙ scan_after (Operator, s) (Operand, InChoice ∷ s) b1 refl ∙ x.scans (InChoice ∷ s) ∙ scan_after (Operator, InChoice ∷ s) (Operand, s) b2 refl ∙ y.scans s;
-  fewer = omega (arith, k.fewer, fewer_after b1, x.fewer, fewer_after b2, y.fewer);
-}
+took_conditional k b1 x b2 y =
+    took (conditional k.reads x.reads y.reads refl)
+    (both (part (λ s. s) k) (both (one b1 (λ s. refl)) (both (part (λ s. InChoice ∷ s) x) (both (one b2 (λ s. refl)) (part (λ s. s) y)))))
 
 pub took_pick : {v i : NamedTree} {old m1 m2 m3 new : List Placed}
     → Took 8 v old m1 → Begins (Punct Mark.OpenBracket) m1 m2 → Took 0 i m2 m3 → Begins (Punct Mark.CloseBracket) m3 new → Took 8 (e.Pick v i) old new
-took_pick k b1 x b2 = record {
-  tokens = k.tokens ++ (Punct Mark.OpenBracket ∷ (x.tokens ++ Punct Mark.CloseBracket ∷ []));
-  split = k.split ∙ ap (λ ts. k.tokens ++ ts) (bare_after b1 ∙ ap (λ ts. Punct Mark.OpenBracket ∷ ts) (x.split ∙ ap (λ ts. x.tokens ++ ts) (bare_after b2))) ∙ simp append_assoc;
-  reads = pick k.reads x.reads refl;
-  scans = λ s. k.scans s ∙ scan_after (Operator, s) (Operand, InIndex ∷ s) b1 refl ∙ x.scans (InIndex ∷ s) ∙ scan_after (Operator, InIndex ∷ s) (Operator, s) b2 refl;
-  fewer = omega (arith, k.fewer, fewer_after b1, x.fewer, fewer_after b2);
-}
+took_pick k b1 x b2 = took (pick k.reads x.reads refl) (both (part (λ s. s) k) (both (one b1 (λ s. refl)) (both (part (λ s. InIndex ∷ s) x) (one b2 (λ s. refl)))))
 
 pub took_parens : {a : NamedTree} {old m1 m2 new : List Placed} → Begins (Punct Mark.Open) old m1 → Took 0 a m1 m2 → Begins (Punct Mark.Close) m2 new → Took 9 a old new
-took_parens b1 x b2 = record {
-  tokens = Punct Mark.Open ∷ (x.tokens ++ Punct Mark.Close ∷ []);
-  split = bare_after b1 ∙ ap (λ ts. Punct Mark.Open ∷ ts) (x.split ∙ ap (λ ts. x.tokens ++ ts) (bare_after b2)) ∙ simp append_assoc;
-  reads = parenthesized x.reads refl;
-  scans = λ s. scan_after (Operand, s) (Operand, InParens ∷ s) b1 refl ∙ x.scans (InParens ∷ s) ∙ scan_after (Operator, InParens ∷ s) (Operator, s) b2 refl;
-  fewer = omega (arith, fewer_after b1, x.fewer, fewer_after b2);
-}
+took_parens b1 x b2 = took (parenthesized x.reads refl) (both (one b1 (λ s. refl)) (both (part (λ s. InParens ∷ s) x) (one b2 (λ s. refl))))
 
 pub took_call_none : {f : List ℕ} {old m1 m2 new : List Placed} → Begins (Word f) old m1 → Begins (Punct Mark.Open) m1 m2 → Begins (Punct Mark.Close) m2 new → Took 9 (e.Call f End) old new
-took_call_none {f} b1 b2 b3 = record {
-  tokens = Word f ∷ Punct Mark.Open ∷ Punct Mark.Close ∷ [];
-  split = bare_after b1 ∙ ap (λ ts. Word f ∷ ts) (bare_after b2 ∙ ap (λ ts. Punct Mark.Open ∷ ts) (bare_after b3));
-  reads = call no_arguments refl;
-  scans = λ s. scan_after (Operand, s) (AfterName, s) b1 refl ∙ scan_after (AfterName, s) (FirstArgument, InCall ∷ s) b2 refl ∙ scan_after (FirstArgument, InCall ∷ s) (Operator, s) b3 refl;
-  fewer = omega (arith, fewer_after b1, fewer_after b2, fewer_after b3);
-}
+took_call_none b1 b2 b3 = took (call no_arguments refl) (both (one b1 (λ s. refl)) (both (one b2 (λ s. refl)) (one b3 (λ s. refl))))
 
 pub took_call : {f : List ℕ} {args : NamedTrees} {old m1 m2 new : List Placed}
     → Begins (Word f) old m1 → Begins (Punct Mark.Open) m1 m2 → BeginsNot (Punct Mark.Close) m2 → TookArgs args m2 new → Took 9 (e.Call f args) old new
-took_call {f} b1 b2 isnt x = record {
-  tokens = Word f ∷ Punct Mark.Open ∷ (x.tokens ++ Punct Mark.Close ∷ []);
-  split = bare_after b1 ∙ ap (λ ts. Word f ∷ ts) (bare_after b2 ∙ ap (λ ts. Punct Mark.Open ∷ ts) x.split) ∙ simp append_assoc;
-  reads = call x.reads refl;
-  scans = λ s. scan_after (Operand, s) (AfterName, s) b1 refl ∙ scan_after (AfterName, s) (FirstArgument, InCall ∷ s) b2 refl ∙ argument_first s _ isnt ∙ x.scans s;
-  fewer = omega (arith, fewer_after b1, fewer_after b2, x.fewer);
-}
+took_call b1 b2 isnt x = took (call x.reads refl) (both (one b1 (λ s. refl)) (both (onward (one b2 (λ s. refl)) (λ s. argument_first s _ isnt)) (inner x)))
+  where
+    inner : {r : NamedTrees} {old new : List Placed} (x : TookArgs r old new) → Part (λ s. (Operand, InCall ∷ s)) (λ s. (Operator, s)) (x.tokens ++ Punct Mark.Close ∷ []) old new
+    inner x = record { split = x.split ∙ simp append_assoc; scans = x.scans; fewer = x.fewer }
 
 pub took_last : {a : NamedTree} {old mid new : List Placed} → Took 0 a old mid → Begins (Punct Mark.Close) mid new → TookArgs (More a End) old new
 took_last k b = record {

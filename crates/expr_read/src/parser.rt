@@ -5,7 +5,7 @@ ghost use Rattle.rdf_values.specs.Tokens.{Word};
 ghost use Rattle.expr_read.specs.Valid.{are_valid};
 ghost use Rattle.expr_read.specs.Views.{placed_of};
 
-use crate::build;
+use crate::build::{boxed, name};
 use crate::fail::Fail;
 use crate::level::level_of;
 use crate::token::{Placed, Token};
@@ -111,7 +111,8 @@ impl<'a> Parser<'a> {
         let a = self.expr()?;
         self.expect(Mark::Colon)?;
         let b = self.expr()?;
-        build::conditional(self.alloc, test, a, b)
+        let alloc = self.alloc;
+        Ok(ExprNode::Cond(boxed(alloc, test)?, boxed(alloc, a)?, boxed(alloc, b)?))
     }
 
     // Operands that are tighter than the level, with its operators between.
@@ -128,7 +129,7 @@ impl<'a> Parser<'a> {
         let mut left = self.binary(level + 1)?;
         while let Some(op) = self.operator(level) {
             let right = self.binary(level + 1)?;
-            left = build::binary(self.alloc, op, left, right)?;
+            left = ExprNode::Bin(op, boxed(self.alloc, left)?, boxed(self.alloc, right)?);
         }
         Ok(left)
     }
@@ -141,11 +142,11 @@ impl<'a> Parser<'a> {
     {
         if self.eat_minus() {
             let operand = self.unary()?;
-            return build::negated(self.alloc, operand);
+            return Ok(ExprNode::Neg(boxed(self.alloc, operand)?));
         }
         if self.eat(Mark::Bang) {
             let operand = self.unary()?;
-            return build::inverted(self.alloc, operand);
+            return Ok(ExprNode::Not(boxed(self.alloc, operand)?));
         }
         self.postfix()
     }
@@ -162,7 +163,7 @@ impl<'a> Parser<'a> {
         while self.eat(Mark::OpenBracket) {
             let index = self.expr()?;
             self.expect(Mark::CloseBracket)?;
-            vector = build::pick(self.alloc, vector, index)?;
+            vector = ExprNode::Pick(boxed(self.alloc, vector)?, boxed(self.alloc, index)?);
         }
         Ok(vector)
     }
@@ -203,7 +204,7 @@ impl<'a> Parser<'a> {
         ensures took { IfOk result (λ e. (old : List At) → Begins (Word word.now) old (left_of self.old) → Took 9 (tree_of e) old (left_of self.new)) }
         ensures stuck { result ≡ Err Fail.Unexpected → IsStuckFrom after_name (left_of self.old) (left_of self.new) }
     {
-        let name = build::name(self.alloc, word)?;
+        let name = name(self.alloc, word)?;
         if !self.eat(Mark::Open) {
             return Ok(ExprNode::Col(name));
         }
@@ -223,9 +224,9 @@ impl<'a> Parser<'a> {
         let first = self.expr()?;
         if self.eat(Mark::Comma) {
             let rest = self.args()?;
-            return build::more(self.alloc, first, rest);
+            return Ok(Args::More(boxed(self.alloc, first)?, boxed(self.alloc, rest)?));
         }
         self.expect(Mark::Close)?;
-        build::more(self.alloc, first, Args::End)
+        Ok(Args::More(boxed(self.alloc, first)?, boxed(self.alloc, Args::End)?))
     }
 }

@@ -4,22 +4,14 @@ use Rattle.std.proofs.Common.{w64, SFits, to_z, of_z, ◌∷◌, ◌≡◌, ◌�
 use Rattle.std.proofs.lemmas.Int.{to_z-of_z}
 use Rattle.rdf_values.specs.{BinOp, InCall, InChoice, InIndex, InParens, Mark, Op, Operand, Operator, Placed, Punct}
 use Rattle.expr_read.specs.{BeginsNot, Stops, stuck_at, token_of}
-use Rattle.expr_read.proofs.Took.{took_tighter, took_next, took_number, took_truth, took_name, took_minus_sign, took_not_sign, took_binary, took_conditional, took_pick, took_parens, took_call_none, took_call, took_last, took_more, took_as, args_as, begins_seen}
+use Rattle.expr_read.proofs.Took.{took_tighter, took_next, took_number, took_truth, took_name, took_minus_sign, took_not_sign, took_binary, took_conditional, took_pick, took_parens, took_call_none, took_call, took_last, took_more, begins_seen}
 use Rattle.expr_read.proofs.Scanned.{scan_after, argument_first, stuck_inside, stops_postfix, stops_binary, stops_expr}
 use Rattle.expr_read.proofs.parser.Parser.+parse.Goals as goal
-
-pub args-returns-then-eat-clause-took : goal.args-returns-then-eat-clause-took
-args-returns-then-eat-clause-took t c =
-    IfOk-weaker c.more.result _ _ (λ _ e. args_as e (took_more c.in_ok-first.ensures.took c.if-eat.ensures c.in_ok-rest.ensures.took)) c.more.ensures.ok
 
 pub args-returns-in_err-expect-clause-stuck : goal.args-returns-in_err-expect-clause-stuck
 args-returns-in_err-expect-clause-stuck t c _ s =
     let nor = subst (λ (ts : List Placed). BeginsNot (Punct Mark.Close) ts) c.if-eat.ensures.0 c.in_err-expect.ensures.err.2 in
     c.in_ok-first.ensures.took.scans (InCall ∷ s) ∙ stuck_inside InCall s _ c.in_ok-first.ensures.stops nor (λ _. c.if-eat.ensures.1) ∙ ap stuck_at (sym (c.in_err-expect.ensures.err.1 ∙ c.if-eat.ensures.0))
-
-pub args-returns-clause-took : goal.args-returns-clause-took
-args-returns-clause-took t c =
-    IfOk-weaker c.more-2.result _ _ (λ _ e. args_as e (took_last (rw (← c.if-eat.ensures.0) at c.in_ok-first.ensures.took) c.in_ok-expect.ensures.ok)) c.more-2.ensures.ok
 
 pub expr-returns-then-not-eat-clause-took : goal.expr-returns-then-not-eat-clause-took
 expr-returns-then-not-eat-clause-took t c = rw c.if-not-eat.ensures.0 (took_tighter c.in_ok-test.ensures.took)
@@ -31,11 +23,6 @@ pub expr-returns-in_err-expect-clause-stuck : goal.expr-returns-in_err-expect-cl
 expr-returns-in_err-expect-clause-stuck t c _ s =
     c.in_ok-test.ensures.took.scans s ∙ scan_after (Operator, s) (Operand, InChoice ∷ s) c.if-not-eat.ensures refl ∙ c.in_ok-a.ensures.took.scans (InChoice ∷ s)
     ∙ stuck_inside InChoice s _ c.in_ok-a.ensures.stops c.in_err-expect.ensures.err.2 (λ e. absurd (cc e)) ∙ ap stuck_at (sym c.in_err-expect.ensures.err.1)
-
-pub expr-returns-clause-took : goal.expr-returns-clause-took
-expr-returns-clause-took t c =
-    IfOk-weaker c.conditional.result _ _ (λ _ e. took_as e (took_conditional c.in_ok-test.ensures.took c.if-not-eat.ensures c.in_ok-a.ensures.took c.in_ok-expect.ensures.ok c.in_ok-b.ensures.took))
-    c.conditional.ensures.ok
 
 pub name_or_call-returns-then-not-eat-clause-took : goal.name_or_call-returns-then-not-eat-clause-took
 name_or_call-returns-then-not-eat-clause-took t c old b = rw (c.in_ok-name.ensures.ok, c.if-not-eat.ensures.0) (took_name b c.if-not-eat.ensures.1)
@@ -57,9 +44,6 @@ pub postfix-returns-in_err-expect-clause-stuck : goal.postfix-returns-in_err-exp
 postfix-returns-in_err-expect-clause-stuck t c _ s =
     c.loop-self.invariant.scans s ∙ scan_after (Operator, s) (Operand, InIndex ∷ s) c.loop-self-test.ensures refl ∙ c.in_ok-index.ensures.took.scans (InIndex ∷ s)
     ∙ stuck_inside InIndex s _ c.in_ok-index.ensures.stops c.in_err-expect.ensures.err.2 (λ e. absurd (cc e)) ∙ ap stuck_at (sym c.in_err-expect.ensures.err.1)
-
-pub postfix-loop-self-preserved : goal.postfix-loop-self-preserved
-postfix-loop-self-preserved t c = took_as c.in_ok-vector-2.ensures.ok (took_pick c.loop-self.invariant c.loop-self-test.ensures c.in_ok-index.ensures.took c.in_ok-expect.ensures.ok)
 
 pub postfix-returns-clause-stops : goal.postfix-returns-clause-stops
 postfix-returns-clause-stops t c = subst (λ (ts : List Placed). Stops 8 ts) (sym c.loop-self-test.ensures.0) (stops_postfix 8 _ (omega arith) (omega arith) c.loop-self-test.ensures.1)
@@ -87,23 +71,10 @@ primary-returns-in_ok-expect-in-Some-Punct-Open-clause-took t c =
 pub binary-loop-op-init : goal.binary-loop-op-init
 binary-loop-op-init t c = record { took = took_tighter (took_next _ c.in_ok-left.ensures.took); stops = c.in_ok-left.ensures.stops }
 
-pub binary-loop-op-preserved : goal.binary-loop-op-preserved
-binary-loop-op-preserved t c = record {
-  took = took_as c.in_ok-left-2.ensures.ok (took_binary c.loop-op.invariant.took c.in-Some.ensures.0 c.in-Some.ensures.1 (took_next _ c.in_ok-right.ensures.took));
-  stops = c.in_ok-right.ensures.stops;
-}
-
 pub binary-returns-clause-stops : goal.binary-returns-clause-stops
 binary-returns-clause-stops t c =
     subst (λ (ts : List Placed). Stops c.args.level ts) (sym c.in_default.ensures.0)
     (stops_binary c.args.level _ (omega arith) (omega arith) c.loop-op.invariant.stops c.in_default.ensures.1)
-
-pub unary-returns-then-eat_minus-clause-took : goal.unary-returns-then-eat_minus-clause-took
-unary-returns-then-eat_minus-clause-took t c = IfOk-weaker c.negated.result _ _ (λ _ e. took_as e (took_minus_sign c.if-eat_minus.ensures c.in_ok-operand.ensures.took)) c.negated.ensures.ok
-
-pub unary-returns-then-eat-clause-took : goal.unary-returns-then-eat-clause-took
-unary-returns-then-eat-clause-took t c =
-    IfOk-weaker c.inverted.result _ _ (λ _ e. took_as e (took_not_sign (rw c.if-eat_minus.ensures.0 at c.if-eat.ensures) c.in_ok-operand-2.ensures.took)) c.inverted.ensures.ok
 
 pub unary-postfix-requires : goal.unary-postfix-requires
 unary-postfix-requires t c =
@@ -113,3 +84,31 @@ unary-postfix-requires t c =
 pub unary-returns-clause-took : goal.unary-returns-clause-took
 unary-returns-clause-took t c =
     IfOk-weaker c.postfix.result _ _ (λ _ k. took_tighter k) (rw (c.if-eat.ensures.0 ∙ c.if-eat_minus.ensures.0) at c.postfix.ensures.took)
+
+pub args-returns-then-eat-clause-took : goal.args-returns-then-eat-clause-took
+args-returns-then-eat-clause-took t c = rw (c.in_ok-boxed.ensures.ok, c.in_ok-boxed-2.ensures.ok) (took_more c.in_ok-first.ensures.took c.if-eat.ensures c.in_ok-rest.ensures.took)
+
+pub args-returns-clause-took : goal.args-returns-clause-took
+args-returns-clause-took t c =
+    rw (c.in_ok-boxed-3.ensures.ok, c.in_ok-boxed-4.ensures.ok) (took_last (rw (← c.if-eat.ensures.0) at c.in_ok-first.ensures.took) c.in_ok-expect.ensures.ok)
+
+pub expr-returns-clause-took : goal.expr-returns-clause-took
+expr-returns-clause-took t c =
+    rw (c.in_ok-boxed.ensures.ok, c.in_ok-boxed-2.ensures.ok, c.in_ok-boxed-3.ensures.ok)
+    (took_conditional c.in_ok-test.ensures.took c.if-not-eat.ensures c.in_ok-a.ensures.took c.in_ok-expect.ensures.ok c.in_ok-b.ensures.took)
+
+pub postfix-loop-self-preserved : goal.postfix-loop-self-preserved
+postfix-loop-self-preserved t c =
+    rw (c.in_ok-boxed.ensures.ok, c.in_ok-boxed-2.ensures.ok) (took_pick c.loop-self.invariant c.loop-self-test.ensures c.in_ok-index.ensures.took c.in_ok-expect.ensures.ok)
+
+pub binary-loop-op-preserved : goal.binary-loop-op-preserved
+binary-loop-op-preserved t c = record {
+  took = rw (c.in_ok-boxed.ensures.ok, c.in_ok-boxed-2.ensures.ok) (took_binary c.loop-op.invariant.took c.in-Some.ensures.0 c.in-Some.ensures.1 (took_next _ c.in_ok-right.ensures.took));
+  stops = c.in_ok-right.ensures.stops;
+}
+
+pub unary-returns-then-eat_minus-clause-took : goal.unary-returns-then-eat_minus-clause-took
+unary-returns-then-eat_minus-clause-took t c = rw c.in_ok-boxed.ensures.ok (took_minus_sign c.if-eat_minus.ensures c.in_ok-operand.ensures.took)
+
+pub unary-returns-then-eat-clause-took : goal.unary-returns-then-eat-clause-took
+unary-returns-then-eat-clause-took t c = rw c.in_ok-boxed-2.ensures.ok (took_not_sign (rw c.if-eat_minus.ensures.0 at c.if-eat.ensures) c.in_ok-operand-2.ensures.took)
