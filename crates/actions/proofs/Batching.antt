@@ -11,6 +11,7 @@ use Rattle.actions.specs.{fault_or_later, Fed, first_fault_in, first_lane, first
 use Rattle.actions.specs.declared.batch.Sources.TheVariants.{Entry, One, Weighted, Pair, WeightedPair}
 use Rattle.actions.specs.declared.state.State.{State}
 use Rattle.actions.proofs.Points.{points_of_ones}
+use Rattle.actions.proofs.States.{spread_take}
 
 -- ---- places
 
@@ -33,23 +34,17 @@ one_more_fed fed cluster is js all e =
 pub within_more : (s : State) (m n : ℕ) → m ≤ n → IsWithin m s → IsWithin n s
 within_more (State.Count k) m n h w = omega (arith, h, w)
 within_more (State.Sum c z) m n h w = omega (arith, h, w)
-within_more (State.Min c o) m n h w = tt
-within_more (State.Max c o) m n h w = tt
 within_more (State.Take c vs) m n h w = omega (arith, h, w)
-within_more (State.Reduce c r) m n h w = tt
 within_more (State.Histo1D g x w') m n h w = omega (arith, h, w)
 within_more (State.Histo2D g x y w') m n h w = omega (arith, h, w)
+within_more s m n h w = tt
 
 -- ---- a Take
-
-spread_taken : (c : List ℕ) (vs : List Value) → spread (ActionKind.Take c) vs ≡ map Single (first_scalar vs)
-spread_taken c [] = refl
-spread_taken c (v ∷ vs) = refl
 
 pub taken_items : (c : List ℕ) (s : Sources) (ps : List ℕ) → flat_map (λ p. spread (ActionKind.Take c) (values_at s p)) ps ≡ map Single (flat_map (λ p. first_scalar (values_at s p)) ps)
 taken_items c s [] = refl
 taken_items c s (p ∷ ps) =
-    ap (λ l. l ++ flat_map (λ q. spread (ActionKind.Take c) (values_at s q)) ps) (spread_taken c (values_at s p))
+    ap (λ l. l ++ flat_map (λ q. spread (ActionKind.Take c) (values_at s q)) ps) (spread_take c (values_at s p))
     ∙ ap (λ l. map Single (first_scalar (values_at s p)) ++ l) (taken_items c s ps)
     ∙ sym (map-append Single (first_scalar (values_at s p)) (flat_map (λ q. first_scalar (values_at s q)) ps))
 
@@ -119,11 +114,6 @@ number_items k s (p ∷ ps) h =
     ∙ ap (λ l. map Number (first_numbers (values_at s p)) ++ l) (number_items k s ps h)
     ∙ sym (map-append Number (first_numbers (values_at s p)) (flat_map (λ q. first_numbers (values_at s q)) ps))
 
-pub take_full : {A : Type 0} (n : ℕ) (xs : List A) → n ≤ length xs → n ≡ length (take n xs)
-take_full zero xs h = refl
-take_full (suc n) [] h = absurd (omega (arith, h))
-take_full (suc n) (x ∷ xs) h = ap (λ m. suc m) (take_full n xs (omega (arith, h)))
-
 -- ---- the first lane
 
 pub first_lane_numbers : (s : Sources) (x : Lane) (p : ℕ) → first_lane s ≡ Some x → first_numbers (values_at s p) ≡ numbers (lane_value x p)
@@ -140,38 +130,25 @@ no_lane_numbers (Weighted y v) p h = cc h
 no_lane_numbers (Pair y v) p h = cc h
 no_lane_numbers (WeightedPair y u v) p h = cc h
 
-same_each : {A : Type 0} (f g : ℕ → List A) (ps : List ℕ) → ((p : ℕ) → f p ≡ g p) → flat_map f ps ≡ flat_map g ps
-same_each f g [] h = refl
-same_each f g (p ∷ ps) h = ap (λ l. l ++ flat_map f ps) (h p) ∙ ap (λ l. g p ++ l) (same_each f g ps h)
-
-nothing_each : {A : Type 0} (f : ℕ → List A) (ps : List ℕ) → ((p : ℕ) → f p ≡ []) → flat_map f ps ≡ []
-nothing_each f [] h = refl
-nothing_each f (p ∷ ps) h = ap (λ l. l ++ flat_map f ps) (h p) ∙ nothing_each f ps h
-
 pub lane_numbers_in : (s : Sources) (x : Lane) (ps : List ℕ) → first_lane s ≡ Some x → flat_map (λ p. first_numbers (values_at s p)) ps ≡ numbers_in x ps
-lane_numbers_in s x ps h = same_each (λ p. first_numbers (values_at s p)) (λ p. numbers (lane_value x p)) ps (λ p. first_lane_numbers s x p h)
+lane_numbers_in s x ps h = λ i. flat_map (λ p. first_lane_numbers s x p h i) ps
 
 pub no_numbers_in : (s : Sources) (ps : List ℕ) → first_lane s ≡ None → flat_map (λ p. first_numbers (values_at s p)) ps ≡ []
-no_numbers_in s ps h = nothing_each (λ p. first_numbers (values_at s p)) ps (λ p. no_lane_numbers s p h)
+no_numbers_in s [] h = refl
+no_numbers_in s (p ∷ ps) h = ap (λ l. l ++ flat_map (λ q. first_numbers (values_at s q)) ps) (no_lane_numbers s p h) ∙ no_numbers_in s ps h
 
 pub few_numbers : (s : Sources) (x : Lane) (ps : List ℕ) → first_lane s ≡ Some x → All (λ p. length (first_numbers (values_at s p)) ≤ 4096) ps → length (numbers_in x ps) ≤ length ps * 4096
 few_numbers s x ps h all =
     let few = few_each (λ p. first_numbers (values_at s p)) ps all in
     let same = ap length (lane_numbers_in s x ps h) in omega (arith, few, same)
 
--- a Count is fed one item at each place
-pub one_each : (ps : List ℕ) → length (flat_map (λ (p : ℕ). Unit ∷ []) ps) ≡ length ps
-one_each [] = refl
-one_each (p ∷ ps) = ap (λ n. suc n) (one_each ps)
+-- where each place gives one
+pub singles_mapped : {A : Type 0} (f : ℕ → A) (ps : List ℕ) → flat_map (λ p. f p ∷ []) ps ≡ map f ps
+singles_mapped f [] = refl
+singles_mapped f (p ∷ ps) = ap (λ l. f p ∷ l) (singles_mapped f ps)
 
--- a lane of numbers has one at each place
-pub numbers_listed : (zs : List ℤ) (ps : List ℕ) → flat_map (λ p. get_or zs p (pos 0) ∷ []) ps ≡ map (λ p. get_or zs p (pos 0)) ps
-numbers_listed zs [] = refl
-numbers_listed zs (p ∷ ps) = ap (λ l. get_or zs p (pos 0) ∷ l) (numbers_listed zs ps)
-
-pub count_listed : (zs : List ℤ) (ps : List ℕ) → length (flat_map (λ p. get_or zs p (pos 0) ∷ []) ps) ≡ length ps
-count_listed zs [] = refl
-count_listed zs (p ∷ ps) = ap (λ n. suc n) (count_listed zs ps)
+pub singles_counted : {A : Type 0} (f : ℕ → A) (ps : List ℕ) → length (flat_map (λ p. f p ∷ []) ps) ≡ length ps
+singles_counted f ps = ap length (singles_mapped f ps) ∙ length-map ps f
 
 pub one_place_mapped : {A : Type 0} (f : ℕ → A) (ps : List ℕ) (i : ℕ) → i < length ps → map f (take (i + 1) ps) ≡ map f (take i ps) ++ f (get_or ps i 0) ∷ []
 one_place_mapped f ps i h = ap (map f) (take_more ps i 0 h) ∙ map-append f (take i ps) (get_or ps i 0 ∷ [])
@@ -190,18 +167,11 @@ one_more_light zs ps i h all one =
     subst (All (λ p. nat_abs (get_or zs p (pos 0)) < 2 ^ 31)) (sym (take_more ps i 0 h))
     (All-append (λ p. nat_abs (get_or zs p (pos 0)) < 2 ^ 31) (take i ps) (get_or ps i 0 ∷ []) all (All-cons (λ p. nat_abs (get_or zs p (pos 0)) < 2 ^ 31) (get_or ps i 0) [] one (λ k d l. absurd (omega (arith, l)))))
 
-pub light_all : (zs : List ℤ) (ps : List ℕ) (i : ℕ) → length ps ≤ i → All (λ p. nat_abs (get_or zs p (pos 0)) < 2 ^ 31) (take i ps) → All (λ p. nat_abs (get_or zs p (pos 0)) < 2 ^ 31) ps
-light_all zs ps i h all = subst (All (λ p. nat_abs (get_or zs p (pos 0)) < 2 ^ 31)) (take_all i ps h) all
-
 -- a lane holds numbers
 abbrev pub HoldsNumbers : Lane → (ℕ → ℤ) → Type 0
 HoldsNumbers x f = (p : ℕ) → lane_value x p ≡ Value.Int (f p)
 
 -- ---- points
-
-pub singles_mapped : {A : Type 0} (f : ℕ → A) (ps : List ℕ) → flat_map (λ p. f p ∷ []) ps ≡ map f ps
-singles_mapped f [] = refl
-singles_mapped f (p ∷ ps) = ap (λ l. f p ∷ l) (singles_mapped f ps)
 
 -- with one more point
 pub one_point_more : (before : List Item) (f : ℕ → Item) (ps : List ℕ) (i : ℕ) (item : Item) → i < length ps → item ≡ f (get_or ps i 0)
@@ -234,26 +204,23 @@ few_points edges c o s x (p ∷ ps) e h =
 pub weighted_points : (edges : List ℤ) (c : List ℕ) (o : Option (List ℕ)) (s : Sources) (x w : Lane) (ps : List ℕ) (f g : ℕ → ℤ) → s ≡ Weighted x w → HoldsNumbers x f → HoldsNumbers w g
     → flat_map (λ p. spread (ActionKind.Histo1D edges c o) (values_at s p)) ps ≡ map (λ p. Point (f p) (g p)) ps
 weighted_points edges c o s x w ps f g e h k =
-    same_each (λ p. spread (ActionKind.Histo1D edges c o) (values_at s p)) (λ p. Point (f p) (g p) ∷ []) ps
-    (λ p. ap (λ t. spread (ActionKind.Histo1D edges c o) (values_at t p)) e ∙ ap (λ v. spread (ActionKind.Histo1D edges c o) (v ∷ lane_value w p ∷ [])) (h p)
-    ∙ ap (λ v. spread (ActionKind.Histo1D edges c o) (Value.Int (f p) ∷ v ∷ [])) (k p))
+    (λ i. flat_map (λ p. (ap (λ t. spread (ActionKind.Histo1D edges c o) (values_at t p)) e ∙ ap (λ v. spread (ActionKind.Histo1D edges c o) (v ∷ lane_value w p ∷ [])) (h p)
+    ∙ ap (λ v. spread (ActionKind.Histo1D edges c o) (Value.Int (f p) ∷ v ∷ [])) (k p)) i) ps)
     ∙ singles_mapped (λ p. Point (f p) (g p)) ps
 
 -- a histogram of two axes is filled with the pairs of numbers
 pub paired_points : (xs ys : List ℤ) (c d : List ℕ) (o : Option (List ℕ)) (s : Sources) (x y : Lane) (ps : List ℕ) (f g : ℕ → ℤ) → s ≡ Pair x y → HoldsNumbers x f → HoldsNumbers y g
     → flat_map (λ p. spread (ActionKind.Histo2D xs ys c d o) (values_at s p)) ps ≡ map (λ p. Point2 (f p) (g p) (pos 1)) ps
 paired_points xs ys c d o s x y ps f g e h k =
-    same_each (λ p. spread (ActionKind.Histo2D xs ys c d o) (values_at s p)) (λ p. Point2 (f p) (g p) (pos 1) ∷ []) ps
-    (λ p. ap (λ t. spread (ActionKind.Histo2D xs ys c d o) (values_at t p)) e ∙ ap (λ v. spread (ActionKind.Histo2D xs ys c d o) (v ∷ lane_value y p ∷ [])) (h p)
-    ∙ ap (λ v. spread (ActionKind.Histo2D xs ys c d o) (Value.Int (f p) ∷ v ∷ [])) (k p))
+    (λ i. flat_map (λ p. (ap (λ t. spread (ActionKind.Histo2D xs ys c d o) (values_at t p)) e ∙ ap (λ v. spread (ActionKind.Histo2D xs ys c d o) (v ∷ lane_value y p ∷ [])) (h p)
+    ∙ ap (λ v. spread (ActionKind.Histo2D xs ys c d o) (Value.Int (f p) ∷ v ∷ [])) (k p)) i) ps)
     ∙ singles_mapped (λ p. Point2 (f p) (g p) (pos 1)) ps
 
 -- or with these and their weights
 pub weighted_pair_points : (xs ys : List ℤ) (c d : List ℕ) (o : Option (List ℕ)) (s : Sources) (x y w : Lane) (ps : List ℕ) (f g j : ℕ → ℤ) → s ≡ WeightedPair x y w
     → HoldsNumbers x f → HoldsNumbers y g → HoldsNumbers w j → flat_map (λ p. spread (ActionKind.Histo2D xs ys c d o) (values_at s p)) ps ≡ map (λ p. Point2 (f p) (g p) (j p)) ps
 weighted_pair_points xs ys c d o s x y w ps f g j e h k l =
-    same_each (λ p. spread (ActionKind.Histo2D xs ys c d o) (values_at s p)) (λ p. Point2 (f p) (g p) (j p) ∷ []) ps
-    (λ p. ap (λ t. spread (ActionKind.Histo2D xs ys c d o) (values_at t p)) e ∙ ap (λ v. spread (ActionKind.Histo2D xs ys c d o) (v ∷ lane_value y p ∷ lane_value w p ∷ [])) (h p)
+    (λ i. flat_map (λ p. (ap (λ t. spread (ActionKind.Histo2D xs ys c d o) (values_at t p)) e ∙ ap (λ v. spread (ActionKind.Histo2D xs ys c d o) (v ∷ lane_value y p ∷ lane_value w p ∷ [])) (h p)
     ∙ ap (λ v. spread (ActionKind.Histo2D xs ys c d o) (Value.Int (f p) ∷ v ∷ lane_value w p ∷ [])) (k p)
-    ∙ ap (λ v. spread (ActionKind.Histo2D xs ys c d o) (Value.Int (f p) ∷ Value.Int (g p) ∷ v ∷ [])) (l p))
+    ∙ ap (λ v. spread (ActionKind.Histo2D xs ys c d o) (Value.Int (f p) ∷ Value.Int (g p) ∷ v ∷ [])) (l p)) i) ps)
     ∙ singles_mapped (λ p. Point2 (f p) (g p) (j p)) ps

@@ -10,9 +10,8 @@ use Rattle.actions.specs.declared.taken.TakenValue.{TakenValue}
 use Rattle.actions.specs.declared.state.State.{State}
 use Rattle.actions.specs.{better_of, better_of_two, by_cluster, Fed, fed_value, Holds, in_file_order}
 use Rattle.actions.proofs.Folds.{extreme_fold}
-use Rattle.actions.proofs.Operations.{extreme_from, max_comm, max_swap, min_comm, min_swap, option_swaps}
+use Rattle.actions.proofs.Operations.{extreme_from, max_comm, max_swap, min_comm, min_swap, option_swap}
 use Rattle.actions.proofs.Reductions.{reduce_both}
-use Rattle.actions.proofs.States.{the_count, the_extreme, the_flat, the_square, the_sum}
 use Rattle.actions.proofs.Unordered.{both_same, flat_joined, items_of, length-in_file_order, square_joined, sum_both}
 
 plain_values : (vs : List TakenValue) → map (λ (v : TakenValue). v.value) vs ≡ flat_map scalar_of (items_of (map fed_value vs))
@@ -22,13 +21,14 @@ plain_values (v ∷ vs) = ap (λ l. v.value ∷ l) (plain_values vs)
 module _ (a b : List Fed) where
   pub merge_count : (n m : ℕ) → Holds (State.Count n) a → Holds (State.Count m) b → Holds (State.Count (n + m)) (a ++ b)
   merge_count n m h k = record {
-    made = ap Count (ap (λ x. x + m) (ap the_count h.made ∙ length-in_file_order a) ∙ ap (λ y. length a + y) (ap the_count k.made ∙ length-in_file_order b) ∙ sym (length-in_file_order (a ++ b) ∙ length-append a b));
+    made = ap Count (ap (λ x. x + m) (let was : n ≡ length (in_file_order a) = cc h.made in was ∙ length-in_file_order a) ∙ ap (λ y. length a + y) (let was : m ≡ length (in_file_order b) = cc k.made in was ∙ length-in_file_order b) ∙ sym (length-in_file_order (a ++ b) ∙ length-append a b));
     kept = refl;
   }
 
   pub merge_sum : (c d : List ℕ) (x y z : ℤ) → z ≡ x +ℤ y → Holds (State.Sum c x) a → Holds (State.Sum d y) b → Holds (State.Sum c z) (a ++ b)
   merge_sum c d x y z e h k = record {
-    made = ap Sum (e ∙ ap (λ s. s +ℤ y) (ap (λ f. the_sum f x) h.made) ∙ ap (λ s. integer_sum (numbers_of (in_file_order a)) +ℤ s) (ap (λ f. the_sum f y) k.made) ∙ sym (sum_both number_of a b));
+    made = ap Sum (e ∙ ap (λ s. s +ℤ y) (let was : x ≡ integer_sum (numbers_of (in_file_order a)) = cc h.made in was)
+        ∙ ap (λ s. integer_sum (numbers_of (in_file_order a)) +ℤ s) (let was : y ≡ integer_sum (numbers_of (in_file_order b)) = cc k.made in was) ∙ sym (sum_both number_of a b));
     kept = refl;
   }
 
@@ -37,27 +37,29 @@ module _ (a b : List Fed) where
   extreme_both better swap comm =
       let xs = numbers_of (in_file_order a) in
       let ys = numbers_of (in_file_order b) in
-      extreme_fold better (numbers_of (in_file_order (a ++ b))) ∙ both_same (better_of better) (option_swaps better swap comm) number_of a b None ∙ extreme_from better swap comm (fold (better_of better) None xs) ys
+      extreme_fold better (numbers_of (in_file_order (a ++ b))) ∙ both_same (better_of better) (option_swap better swap comm) number_of a b None ∙ extreme_from better swap comm (fold (better_of better) None xs) ys
       ∙ ap (λ o. better_of_two better o (extreme better ys)) (sym (extreme_fold better xs))
 
   pub merge_min : (c d : List ℕ) (x y z : Option ℤ) → z ≡ better_of_two int_min x y → Holds (State.Min c x) a → Holds (State.Min d y) b → Holds (State.Min c z) (a ++ b)
   merge_min c d x y z e h k = record {
-    made = ap Extreme (e ∙ ap (λ o. better_of_two int_min o y) (ap the_extreme h.made) ∙ ap (better_of_two int_min (extreme int_min (numbers_of (in_file_order a)))) (ap the_extreme k.made) ∙ sym (extreme_both int_min min_swap min_comm));
+    made = ap Extreme (e ∙ ap (λ o. better_of_two int_min o y) (let was : x ≡ extreme int_min (numbers_of (in_file_order a)) = cc h.made in was)
+        ∙ ap (better_of_two int_min (extreme int_min (numbers_of (in_file_order a)))) (let was : y ≡ extreme int_min (numbers_of (in_file_order b)) = cc k.made in was) ∙ sym (extreme_both int_min min_swap min_comm));
     kept = refl;
   }
 
   pub merge_max : (c d : List ℕ) (x y z : Option ℤ) → z ≡ better_of_two int_max x y → Holds (State.Max c x) a → Holds (State.Max d y) b → Holds (State.Max c z) (a ++ b)
   merge_max c d x y z e h k = record {
-    made = ap Extreme (e ∙ ap (λ o. better_of_two int_max o y) (ap the_extreme h.made) ∙ ap (better_of_two int_max (extreme int_max (numbers_of (in_file_order a)))) (ap the_extreme k.made) ∙ sym (extreme_both int_max max_swap max_comm));
+    made = ap Extreme (e ∙ ap (λ o. better_of_two int_max o y) (let was : x ≡ extreme int_max (numbers_of (in_file_order a)) = cc h.made in was)
+        ∙ ap (better_of_two int_max (extreme int_max (numbers_of (in_file_order a)))) (let was : y ≡ extreme int_max (numbers_of (in_file_order b)) = cc k.made in was) ∙ sym (extreme_both int_max max_swap max_comm));
     kept = refl;
   }
 
   pub merge_reduce : (c d : List ℕ) (o p : ReduceOp) (x y z : ℤ) → p ≡ o → z ≡ reduce_step o x y → Holds (State.Reduce c (record { op = o; value = x })) a → Holds (State.Reduce d (record { op = p; value = y })) b
       → Holds (State.Reduce c (record { op = o; value = z })) (a ++ b)
   merge_reduce c d o p x y z same e h k =
-      let second : y ≡ fold (reduce_step o) (reduce_start o) (numbers_of (in_file_order b)) = ap (λ f. the_sum f y) k.made ∙ ap (λ q. fold (reduce_step q) (reduce_start q) (numbers_of (in_file_order b))) same in
+      let second : y ≡ fold (reduce_step o) (reduce_start o) (numbers_of (in_file_order b)) = (let was : y ≡ fold (reduce_step p) (reduce_start p) (numbers_of (in_file_order b)) = cc k.made in was) ∙ ap (λ q. fold (reduce_step q) (reduce_start q) (numbers_of (in_file_order b))) same in
       record {
-        made = ap Reduced (e ∙ ap (λ s. reduce_step o s y) (ap (λ f. the_sum f x) h.made) ∙ ap (reduce_step o (fold (reduce_step o) (reduce_start o) (numbers_of (in_file_order a)))) second ∙ sym (reduce_both o a b));
+        made = ap Reduced (e ∙ ap (λ s. reduce_step o s y) (let was : x ≡ fold (reduce_step o) (reduce_start o) (numbers_of (in_file_order a)) = cc h.made in was) ∙ ap (reduce_step o (fold (reduce_step o) (reduce_start o) (numbers_of (in_file_order a)))) second ∙ sym (reduce_both o a b));
         kept = refl;
       }
 
@@ -69,13 +71,13 @@ module _ (a b : List Fed) where
   pub merge_flat : (g k g' : one.Flat) (x y : List ℕ) (o p : Option (List ℕ)) → ((points more : List Item) → HasFilled g points → HasFilled k more → HasFilled g' (points ++ more))
       → Holds (State.Histo1D g x o) a → Holds (State.Histo1D k y p) b → Holds (State.Histo1D g' x o) (a ++ b)
   merge_flat g k g' x y o p fill h l = record {
-    made = ap Flat ((fill (in_file_order a) (in_file_order b) (record { cells = ap the_flat h.made }) (record { cells = ap the_flat l.made })).cells ∙ flat_joined g'.edges a b);
+    made = ap Flat ((fill (in_file_order a) (in_file_order b) (record { cells = cc h.made }) (record { cells = cc l.made })).cells ∙ flat_joined g'.edges a b);
     kept = refl;
   }
 
   pub merge_square : (g k g' : two.Square) (x y z w : List ℕ) (o p : Option (List ℕ)) → ((points more : List Item) → HasFilled2 g points → HasFilled2 k more → HasFilled2 g' (points ++ more))
       → Holds (State.Histo2D g x y o) a → Holds (State.Histo2D k z w p) b → Holds (State.Histo2D g' x y o) (a ++ b)
   merge_square g k g' x y z w o p fill h l = record {
-    made = ap Square ((fill (in_file_order a) (in_file_order b) (record { cells = ap the_square h.made }) (record { cells = ap the_square l.made })).cells ∙ square_joined g'.x_edges g'.y_edges a b);
+    made = ap Square ((fill (in_file_order a) (in_file_order b) (record { cells = cc h.made }) (record { cells = cc l.made })).cells ∙ square_joined g'.x_edges g'.y_edges a b);
     kept = refl;
   }

@@ -4,6 +4,7 @@ use Rattle.std.specs.Int.{int_max, int_min}
 use Rattle.std.proofs.lemmas.Int.{clamps, ints}
 use Rattle.rdf_values.specs.{extreme}
 use Rattle.actions.specs.{better_of, better_of_two}
+use Rattle.actions.proofs.Folds.{some_fold}
 
 pub min_swap : (a x y : ℤ) → int_min (int_min a x) y ≡ int_min (int_min a y) x
 min_swap a x y = omega (arith, ints, clamps)
@@ -34,19 +35,12 @@ module _ (better : ℤ → ℤ → ℤ) (swap : (a x y : ℤ) → better (better
   pub fold_both : (xs ys : List ℤ) (s : ℤ) → better s s ≡ s → fold better (fold better s xs) ys ≡ better (fold better s xs) (fold better s ys)
   fold_both xs ys s h = ap (λ a. fold better a ys) (sym (keeps_start xs s s h)) ∙ fold_from ys (fold better s xs) s
 
-  option_swap : (a : Option ℤ) (x y : ℤ) → better_of better (better_of better a x) y ≡ better_of better (better_of better a y) x
+  pub option_swap : (a : Option ℤ) (x y : ℤ) → better_of better (better_of better a x) y ≡ better_of better (better_of better a y) x
   option_swap None x y = ap Some (comm x y)
   option_swap (Some a) x y = ap Some (swap a x y)
-
-  some_fold : (zs : List ℤ) (z : ℤ) → fold (better_of better) (Some z) zs ≡ Some (fold better z zs)
-  some_fold [] z = refl
-  some_fold (y ∷ ys) z = some_fold ys (better z y)
 
   -- a fold from a number that may be missing
   pub extreme_from : (o : Option ℤ) (zs : List ℤ) → fold (better_of better) o zs ≡ better_of_two better o (extreme better zs)
   extreme_from o [] = refl
-  extreme_from None (z ∷ zs) = some_fold zs z
-  extreme_from (Some m) (z ∷ zs) = some_fold zs (better m z) ∙ ap Some (fold_from zs m z)
-
-  pub option_swaps : (a : Option ℤ) (x y : ℤ) → better_of better (better_of better a x) y ≡ better_of better (better_of better a y) x
-  option_swaps = option_swap
+  extreme_from None (z ∷ zs) = some_fold better zs z
+  extreme_from (Some m) (z ∷ zs) = some_fold better zs (better m z) ∙ ap Some (fold_from zs m z)

@@ -2,7 +2,7 @@
 use Rattle.std.proofs.Common.{ℕ, ◌≡◌, ◌≤◌, ◌+◌, map, length, All, List, [], ◌∷◌, ◌++◌, ℤ, pos, ◌+ℤ◌, refl, ap, sym, ◌∙◌, length-append, lit≤, flat_map, Option, None, Result, Ok, Err, OnErr, OnOk, fold}
 use Rattle.std.proofs.lemmas.List.{map-append}
 use Rattle.std.specs.Int.{int_max, int_min}
-use Rattle.rdf_values.specs.{ActionKind, Extreme, extreme, Filled, Flat, Item, numbers_of, points, points2, reduce_start, reduce_step, Reduced, ReduceOp, Scalar, scalar_of, spread, Square, Taken, Value, weights}
+use Rattle.rdf_values.specs.{ActionKind, Extreme, extreme, Flat, integer_sum, Item, numbers_of, points, points2, reduce_start, reduce_step, Reduced, ReduceOp, Scalar, scalar_of, spread, Square, Taken, Value, weights}
 use Rattle.rdf_values.specs.declared.item.Item.TheVariants.{Number, Single, Unit}
 use Rattle.rdf_values.specs.Fold.{Cell, Count, Sum}
 use Rattle.histograms.specs.{flat_cells, HasFilled, HasFilled2, square_cells}
@@ -16,32 +16,6 @@ use Rattle.actions.specs.declared.items.Items.TheVariants.{Entry, One, Weighted,
 use Rattle.actions.specs.{better_of, by_cluster, Fed, fed_value, first_numbers, first_scalar, from_cluster, Holds, in_file_order, part_values, second_part, Suits, values_from, values_of, weight_part}
 use Rattle.actions.proofs.Folds.{extreme_numbers, fold_numbers, taken_singles}
 use Rattle.actions.proofs.Order.{by_cluster-feed, in_file_order-feed}
-
--- numbers out of a result
-abbrev pub the_count : Filled → ℕ
-the_count (Count n) = n
-the_count f = 0
-
-abbrev pub the_sum : Filled → ℤ → ℤ
-the_sum (Sum z) d = z
-the_sum (Reduced z) d = z
-the_sum f d = d
-
-abbrev pub the_extreme : Filled → Option ℤ
-the_extreme (Extreme o) = o
-the_extreme f = None
-
-abbrev pub the_taken : Filled → List Scalar
-the_taken (Taken xs) = xs
-the_taken f = []
-
-abbrev pub the_flat : Filled → List Cell
-the_flat (Flat cells) = cells
-the_flat f = []
-
-abbrev pub the_square : Filled → List (List Cell)
-the_square (Square cells) = cells
-the_square f = []
 
 -- the items of one column
 pub spread_sum : (c : List ℕ) (vs : List Value) → spread (ActionKind.Sum c) vs ≡ map Number (first_numbers vs)
@@ -60,7 +34,7 @@ pub spread_reduce : (o : ReduceOp) (c : List ℕ) (vs : List Value) → spread (
 spread_reduce o c [] = refl
 spread_reduce o c (v ∷ vs) = refl
 
-spread_take : (c : List ℕ) (vs : List Value) → spread (ActionKind.Take c) vs ≡ map Single (first_scalar vs)
+pub spread_take : (c : List ℕ) (vs : List Value) → spread (ActionKind.Take c) vs ≡ map Single (first_scalar vs)
 spread_take c [] = refl
 spread_take c (v ∷ vs) = refl
 
@@ -78,106 +52,79 @@ module _ (fed : List Fed) (cluster : ℕ) (below : All (λ f. f.cluster ≤ clus
 
   pub holds_counted : (n n' : ℕ) (items : List Item) → n' ≡ n + length items → Holds (State.Count n) fed → Holds (State.Count n') (fed ++ from_cluster cluster items)
   holds_counted n n' items e h = record {
-    made = ap Count (e ∙ ap (λ k. k + length items) (ap the_count h.made) ∙ sym (ap length (in_file_order-feed fed cluster items below) ∙ length-append (in_file_order fed) items));
+    made = ap Count (e ∙ ap (λ k. k + length items) (let was : n ≡ length (in_file_order fed) = cc h.made in was) ∙ sym (ap length (in_file_order-feed fed cluster items below) ∙ length-append (in_file_order fed) items));
     kept = refl;
   }
 
-  pub holds_count : (n : ℕ) → Holds (State.Count n) fed → Holds (State.Count (n + 1)) (fed ++ from_cluster cluster (spread ActionKind.Count []))
-  holds_count n h = holds_counted n (n + 1) (Unit ∷ []) refl h
-
   pub holds_summed : (c : List ℕ) (z z' : ℤ) (zs : List ℤ) (items : List Item) → z' ≡ fold ◌+ℤ◌ z zs → items ≡ map Number zs → Holds (State.Sum c z) fed → Holds (State.Sum c z') (fed ++ from_cluster cluster items)
   holds_summed c z z' zs items e is h = record {
-    made = ap Sum (e ∙ ap (λ a. fold ◌+ℤ◌ a zs) (ap (λ f. the_sum f z) h.made)
+    made = ap Sum (e ∙ ap (λ a. fold ◌+ℤ◌ a zs) (let was : z ≡ integer_sum (numbers_of (in_file_order fed)) = cc h.made in was)
         ∙ sym (ap (λ l. fold ◌+ℤ◌ (pos 0) (numbers_of l)) (after items (map Number zs) is) ∙ fold_numbers ◌+ℤ◌ (pos 0) (in_file_order fed) zs));
     kept = refl;
   }
 
-  pub holds_sum : (c : List ℕ) (z z' : ℤ) (vs : List Value) → z' ≡ fold ◌+ℤ◌ z (first_numbers vs) → Holds (State.Sum c z) fed → Holds (State.Sum c z') (fed ++ from_cluster cluster (spread (ActionKind.Sum c) vs))
-  holds_sum c z z' vs e h = holds_summed c z z' (first_numbers vs) (spread (ActionKind.Sum c) vs) e (spread_sum c vs) h
-
   pub holds_least : (c : List ℕ) (o o' : Option ℤ) (zs : List ℤ) (items : List Item) → o' ≡ fold (better_of int_min) o zs → items ≡ map Number zs → Holds (State.Min c o) fed → Holds (State.Min c o') (fed ++ from_cluster cluster items)
   holds_least c o o' zs items e is h = record {
-    made = ap Extreme (e ∙ ap (λ a. fold (better_of int_min) a zs) (ap the_extreme h.made)
+    made = ap Extreme (e ∙ ap (λ a. fold (better_of int_min) a zs) (let was : o ≡ extreme int_min (numbers_of (in_file_order fed)) = cc h.made in was)
         ∙ sym (ap (λ l. extreme int_min (numbers_of l)) (after items (map Number zs) is) ∙ extreme_numbers int_min (in_file_order fed) zs));
     kept = refl;
   }
 
-  pub holds_min : (c : List ℕ) (o o' : Option ℤ) (vs : List Value) → o' ≡ fold (better_of int_min) o (first_numbers vs) → Holds (State.Min c o) fed → Holds (State.Min c o') (fed ++ from_cluster cluster (spread (ActionKind.Min c) vs))
-  holds_min c o o' vs e h = holds_least c o o' (first_numbers vs) (spread (ActionKind.Min c) vs) e (spread_min c vs) h
-
   pub holds_greatest : (c : List ℕ) (o o' : Option ℤ) (zs : List ℤ) (items : List Item) → o' ≡ fold (better_of int_max) o zs → items ≡ map Number zs → Holds (State.Max c o) fed → Holds (State.Max c o') (fed ++ from_cluster cluster items)
   holds_greatest c o o' zs items e is h = record {
-    made = ap Extreme (e ∙ ap (λ a. fold (better_of int_max) a zs) (ap the_extreme h.made)
+    made = ap Extreme (e ∙ ap (λ a. fold (better_of int_max) a zs) (let was : o ≡ extreme int_max (numbers_of (in_file_order fed)) = cc h.made in was)
         ∙ sym (ap (λ l. extreme int_max (numbers_of l)) (after items (map Number zs) is) ∙ extreme_numbers int_max (in_file_order fed) zs));
     kept = refl;
   }
 
-  pub holds_max : (c : List ℕ) (o o' : Option ℤ) (vs : List Value) → o' ≡ fold (better_of int_max) o (first_numbers vs) → Holds (State.Max c o) fed → Holds (State.Max c o') (fed ++ from_cluster cluster (spread (ActionKind.Max c) vs))
-  holds_max c o o' vs e h = holds_greatest c o o' (first_numbers vs) (spread (ActionKind.Max c) vs) e (spread_max c vs) h
-
   pub holds_reduced : (c : List ℕ) (o : ReduceOp) (z z' : ℤ) (zs : List ℤ) (items : List Item) → z' ≡ fold (reduce_step o) z zs → items ≡ map Number zs → Holds (State.Reduce c (record { op = o; value = z })) fed
       → Holds (State.Reduce c (record { op = o; value = z' })) (fed ++ from_cluster cluster items)
   holds_reduced c o z z' zs items e is h = record {
-    made = ap Reduced (e ∙ ap (λ a. fold (reduce_step o) a zs) (ap (λ f. the_sum f z) h.made)
+    made = ap Reduced (e ∙ ap (λ a. fold (reduce_step o) a zs) (let was : z ≡ fold (reduce_step o) (reduce_start o) (numbers_of (in_file_order fed)) = cc h.made in was)
         ∙ sym (ap (λ l. fold (reduce_step o) (reduce_start o) (numbers_of l)) (after items (map Number zs) is) ∙ fold_numbers (reduce_step o) (reduce_start o) (in_file_order fed) zs));
     kept = refl;
   }
 
-  pub holds_reduce : (c : List ℕ) (o : ReduceOp) (z z' : ℤ) (vs : List Value) → z' ≡ fold (reduce_step o) z (first_numbers vs) → Holds (State.Reduce c (record { op = o; value = z })) fed
-      → Holds (State.Reduce c (record { op = o; value = z' })) (fed ++ from_cluster cluster (spread (ActionKind.Reduce o c) vs))
-  holds_reduce c o z z' vs e h = holds_reduced c o z z' (first_numbers vs) (spread (ActionKind.Reduce o c) vs) e (spread_reduce o c vs) h
-
   pub holds_taken : (c : List ℕ) (ts ts' : List TakenValue) (xs : List Scalar) (items : List Item) → ts' ≡ ts ++ values_from cluster xs → items ≡ map Single xs → Holds (State.Take c ts) fed → Holds (State.Take c ts') (fed ++ from_cluster cluster items)
   holds_taken c ts ts' xs items e is h = record {
-    made = ap Taken (ap (map (λ (v : TakenValue). v.value)) e ∙ map-append (λ (v : TakenValue). v.value) ts (values_from cluster xs) ∙ ap (λ l. map (λ (v : TakenValue). v.value) ts ++ l) (values_plain xs cluster) ∙ ap (λ l. l ++ xs) (ap the_taken h.made)
+    made = ap Taken (ap (map (λ (v : TakenValue). v.value)) e ∙ map-append (λ (v : TakenValue). v.value) ts (values_from cluster xs) ∙ ap (λ l. map (λ (v : TakenValue). v.value) ts ++ l) (values_plain xs cluster) ∙ ap (λ l. l ++ xs) (let was : map (λ (v : TakenValue). v.value) ts ≡ flat_map scalar_of (in_file_order fed) = cc h.made in was)
         ∙ sym (ap (flat_map scalar_of) (after items (map Single xs) is) ∙ taken_singles (in_file_order fed) xs));
     kept = ap (map fed_value) e ∙ map-append fed_value ts (values_from cluster xs) ∙ ap (λ l. map fed_value ts ++ l) (values_fed xs cluster) ∙ ap (λ l. l ++ from_cluster cluster (map Single xs)) h.kept
         ∙ sym (ap (λ l. by_cluster (fed ++ from_cluster cluster l)) is ∙ by_cluster-feed fed cluster (map Single xs) below);
   }
 
-  pub holds_take : (c : List ℕ) (ts ts' : List TakenValue) (xs : List Scalar) (vs : List Value) → ts' ≡ ts ++ values_from cluster xs → xs ≡ first_scalar vs → Holds (State.Take c ts) fed → Holds (State.Take c ts') (fed ++ from_cluster cluster (spread (ActionKind.Take c) vs))
-  holds_take c ts ts' xs vs e f h = holds_taken c ts ts' xs (spread (ActionKind.Take c) vs) e (spread_take c vs ∙ ap (map Single) (sym f)) h
-
   pub holds_flat : (g g' : one.Flat) (x : List ℕ) (o : Option (List ℕ)) (is js : List Item) → is ≡ js → ((before : List Item) → HasFilled g before → HasFilled g' (before ++ js))
       → Holds (State.Histo1D g x o) fed → Holds (State.Histo1D g' x o) (fed ++ from_cluster cluster is)
   holds_flat g g' x o is js e fill h = record {
-    made = ap Flat ((fill (in_file_order fed) (record { cells = ap the_flat h.made })).cells ∙ sym (ap (flat_cells g'.edges) (after is js e)));
+    made = ap Flat ((fill (in_file_order fed) (record { cells = cc h.made })).cells ∙ sym (ap (flat_cells g'.edges) (after is js e)));
     kept = refl;
   }
 
   pub holds_square : (g g' : two.Square) (x y : List ℕ) (o : Option (List ℕ)) (is js : List Item) → is ≡ js → ((before : List Item) → HasFilled2 g before → HasFilled2 g' (before ++ js))
       → Holds (State.Histo2D g x y o) fed → Holds (State.Histo2D g' x y o) (fed ++ from_cluster cluster is)
   holds_square g g' x y o is js e fill h = record {
-    made = ap Square ((fill (in_file_order fed) (record { cells = ap the_square h.made })).cells ∙ sym (ap (square_cells g'.x_edges g'.y_edges) (after is js e)));
+    made = ap Square ((fill (in_file_order fed) (record { cells = cc h.made })).cells ∙ sym (ap (square_cells g'.x_edges g'.y_edges) (after is js e)));
     kept = refl;
   }
 
 -- one column gives at most 4,096 numbers
 pub first_short : (c : List ℕ) (items : Items) → Suits (ActionKind.Sum c) items → length (first_numbers (values_of items)) ≤ 4096
-first_short c Entry h = absurd h
 first_short c (One (Part.Int z)) h = lit≤ tt
-first_short c (One (Part.Bool b)) h = absurd h
 first_short c (One (Part.Vect zs)) h = h
-first_short c (Weighted x w) h = absurd h
-first_short c (Pair x y) h = absurd h
-first_short c (WeightedPair x y w) h = absurd h
+first_short c items h = absurd h
 
 -- the points of an entry
 pub spread_flat : (edges : List ℤ) (x : List ℕ) (o : Option (List ℕ)) (items : Items) → Suits (ActionKind.Histo1D edges x o) items
     → spread (ActionKind.Histo1D edges x o) (values_of items) ≡ points (first_numbers (values_of items)) (weights (length (first_numbers (values_of items))) (part_values (weight_part items)))
-spread_flat edges x o Entry h = absurd h
 spread_flat edges x o (One p) h = refl
 spread_flat edges x o (Weighted p w) h = refl
-spread_flat edges x o (Pair p q) h = absurd h
-spread_flat edges x o (WeightedPair p q w) h = absurd h
+spread_flat edges x o items h = absurd h
 
 pub spread_square : (xs ys : List ℤ) (x y : List ℕ) (o : Option (List ℕ)) (items : Items) → Suits (ActionKind.Histo2D xs ys x y o) items
     → spread (ActionKind.Histo2D xs ys x y o) (values_of items) ≡ points2 (first_numbers (values_of items)) (second_part items) (weights (length (first_numbers (values_of items))) (part_values (weight_part items)))
-spread_square xs ys x y o Entry h = absurd h
-spread_square xs ys x y o (One p) h = absurd h
-spread_square xs ys x y o (Weighted p w) h = absurd h
 spread_square xs ys x y o (Pair p q) h = refl
 spread_square xs ys x y o (WeightedPair p q w) h = refl
+spread_square xs ys x y o items h = absurd h
 
 -- what follows however a call ends
 pub either_way : {T E : Type 0} (r : Result T E) (P Q R : Type 0) → OnOk r P → OnErr r Q → (P → R) → (Q → R) → R

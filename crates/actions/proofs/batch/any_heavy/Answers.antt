@@ -1,8 +1,9 @@
-use Rattle.std.proofs.Common.{rules, arith, ◌≡◌, ◌≤◌, ◌<◌, ◌^◌, length, get_or, pos, ap, sym, ◌∙◌, w64, FitsSigned, nat_abs}
+use Rattle.std.proofs.Common.{rules, arith, All, subst, ◌≡◌, ◌≤◌, ◌<◌, ◌^◌, length, get_or, pos, ap, sym, ◌∙◌, w64, FitsSigned, nat_abs}
 use Rattle.std.proofs.lemmas.Int.{to_z-of_z}
+use Rattle.std.proofs.lemmas.List.{take_all}
 use Rattle.lemmas.proofs.{neither}
 use Rattle.actions.specs.{places_of}
-use Rattle.actions.proofs.Batching.{light_all, one_more_light}
+use Rattle.actions.proofs.Batching.{one_more_light}
 use Rattle.actions.proofs.batch.any_heavy.Goals as goal
 
 pub loop-i-preserved : goal.loop-i-preserved
@@ -20,4 +21,4 @@ loop-i-preserved c = λ h.
 pub returns : goal.returns
 returns c = λ h.
     let whole : length (places_of c.args.places.now) ≤ c.loop-i.i = search rules in
-    light_all c.args.weights.now (places_of c.args.places.now) c.loop-i.i whole (c.loop-i.invariant h)
+    subst (All (λ p. nat_abs (get_or c.args.weights.now p (pos 0)) < 2 ^ 31)) (take_all c.loop-i.i (places_of c.args.places.now) whole) (c.loop-i.invariant h)

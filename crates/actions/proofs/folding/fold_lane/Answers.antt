@@ -1,13 +1,14 @@
-use Rattle.std.proofs.Common.{rules, arith, ℕ, ℤ, ◌≡◌, ◌<◌, ◌++◌, List, length, get_or, ap, sym, subst, ◌∙◌}
+use Rattle.std.proofs.Common.{rules, arith, ℕ, ℤ, ◌≡◌, ◌<◌, ◌++◌, List, length, get_or, pos, ap, sym, subst, ◌∙◌}
+use Rattle.lemmas.proofs.{take_full}
 use Rattle.rdf_values.specs.{numbers}
 use Rattle.actions.specs.{lane_value, places_of}
-use Rattle.actions.proofs.Batching.{count_listed, first_are_there, numbers_listed, numbers_of_first, take_full, taken_within}
+use Rattle.actions.proofs.Batching.{first_are_there, numbers_of_first, singles_counted, singles_mapped, taken_within}
 use Rattle.actions.proofs.folding.fold_lane.Goals as goal
 
 pub slice_bounds-take_in-end : goal.slice_bounds-take_in-end
 slice_bounds-take_in-end g c =
     let there = rw (c.in-Int-First.is-0, c.in-Int-First.is-1) at c.requires.there in
-    take_full c.in-Int-First.count c.in-Int-First.numbers.now (first_are_there c.in-Int-First.count (length c.in-Int-First.numbers.now) there)
+    sym (take_full c.in-Int-First.count c.in-Int-First.numbers.now (first_are_there c.in-Int-First.count (length c.in-Int-First.numbers.now) there))
 
 pub take_in-requires : goal.take_in-requires
 take_in-requires g c =
@@ -44,15 +45,15 @@ take_in-requires-in-loop-i g c =
 pub fold_listed-requires-clause-room : goal.fold_listed-requires-clause-room
 fold_listed-requires-clause-room g c =
     let room = rw (c.in-Int-Listed.is-0, c.in-Int-Listed.is-1) at c.requires.room in
-    let same = count_listed c.in-Int-Listed.numbers.now c.in-Int-Listed.listed.now in
+    let same = singles_counted (λ p. get_or c.in-Int-Listed.numbers.now p (pos 0)) c.in-Int-Listed.listed.now in
     omega (arith, room, same)
 
 pub returns-in-Int-Listed-clause-folded : goal.returns-in-Int-Listed-clause-folded
 returns-in-Int-Listed-clause-folded g c = λ start before h.
-    rw (c.in-Int-Listed.is-0, c.in-Int-Listed.is-1) (subst (λ (l : List ℤ). g.F.Folds.folded start c.fold_listed.new.folder (before ++ l)) (sym (numbers_listed c.in-Int-Listed.numbers.now c.in-Int-Listed.listed.now)) (c.fold_listed.ensures.folded start before h))
+    rw (c.in-Int-Listed.is-0, c.in-Int-Listed.is-1) (subst (λ (l : List ℤ). g.F.Folds.folded start c.fold_listed.new.folder (before ++ l)) (sym (singles_mapped (λ p. get_or c.in-Int-Listed.numbers.now p (pos 0)) c.in-Int-Listed.listed.now)) (c.fold_listed.ensures.folded start before h))
 
 pub returns-in-Int-Listed-clause-bounded : goal.returns-in-Int-Listed-clause-bounded
 returns-in-Int-Listed-clause-bounded g c =
-    let same = count_listed c.in-Int-Listed.numbers.now c.in-Int-Listed.listed.now in
+    let same = singles_counted (λ p. get_or c.in-Int-Listed.numbers.now p (pos 0)) c.in-Int-Listed.listed.now in
     let bounded = c.fold_listed.ensures.bounded in
     rw (c.in-Int-Listed.is-0, c.in-Int-Listed.is-1) (omega (arith, bounded, same))

@@ -1,9 +1,9 @@
 use Rattle.std.proofs.Common.{rules, arith, ◌≡◌, true, false, subst, sym, ◌++◌, ◌+ℤ◌, length, length-append, ap, ◌∙◌, w64, FitsSigned, flat_map, fold}
 use Rattle.std.specs.Int.{w128}
 use Rattle.std.proofs.lemmas.Int.{to_z-of_z}
-use Rattle.rdf_values.specs.{ActionKind, reduce_step}
+use Rattle.rdf_values.specs.{ActionKind, Item, reduce_step}
 use Rattle.actions.specs.{first_numbers_in, first_scalar, IsWithin, places_of, values_at}
-use Rattle.actions.proofs.Batching.{few_values, number_items, one_each, taken_items}
+use Rattle.actions.proofs.Batching.{few_values, number_items, singles_counted, taken_items}
 use Rattle.actions.proofs.States.{either_way, holds_counted, holds_greatest, holds_least, holds_reduced, holds_summed, holds_taken, on_ok, spread_max, spread_min, spread_reduce, spread_sum}
 use Rattle.actions.proofs.state.State.feed_batch.Goals as goal
 
@@ -11,7 +11,7 @@ pub returns-in-Count-clause-fed : goal.returns-in-Count-clause-fed
 returns-in-Count-clause-fed c = λ fed below held.
     let ps = places_of c.args.batch.now.places in
     let count = c.len.ensures in
-    let each = one_each ps in
+    let each = singles_counted (λ p. Item.Unit) ps in
     rw c.in-Count.is (holds_counted fed c.args.cluster below c.in-Count.entries _ _ (omega (arith, count, each)) (rw c.in-Count.is at held))
 
 pub returns-in-Sum-clause-fed : goal.returns-in-Sum-clause-fed
