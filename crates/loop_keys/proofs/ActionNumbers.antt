@@ -1,16 +1,15 @@
 -- What an action tries and reads: sites, and versions that can be read, one for each of its columns, which come to values that it takes.
-use Rattle.std.proofs.Common.{◌≡◌, ℕ, suc, ◌<◌, ◌≤◌, List, [], ◌∷◌, length, map, Some, sym, ◌∙◌, subst, arith, slice_get, length-append, true, ◌++◌, Option, None, Ok, Err, Result, refl, ap, if◌then◌else◌}
+use Rattle.std.proofs.Common.{◌≡◌, ℕ, ◌<◌, ◌≤◌, List, [], ◌∷◌, length, map, Some, ◌∙◌, arith, slice_get, length-append}
 use Rattle.std.specs.Prelude.{⊤}
 use Rattle.std.specs.List.{AllByRecursion}
-use Rattle.std.proofs.lemmas.List.{length-map, append_assoc, append-nil}
-use Rattle.rdf_values.specs.{ActionAt, ActionKind, AreAccepted, Booking, bookings, check_columns, check_edges, check_node, check_passes, check_results, ColType, column_kind, columns_of, FitsKind, FitsRow, fn_names, FunctionNames, GraphCause, may_begin, path, permitted_kinds, ReportOn, Scope, scope_at, scope_of, Statement, Under, Value}
+use Rattle.std.proofs.lemmas.List.{length-map}
+use Rattle.rdf_values.specs.{ActionAt, ActionKind, AreAccepted, Booking, columns_of, FitsRow, fn_names, path, ReportOn, scope_of, Statement, Under, Value}
 use Rattle.rdf_values.specs.declared.statement.Statement.TheVariants.{Action}
-use Rattle.rdf_model.specs.{column_value, Dataset, FitKinds, FitsFeed, for_all, Gives, Meets, Outcome}
+use Rattle.rdf_model.specs.{Dataset, FitsFeed, for_all, Gives}
 use Rattle.graph_numbers.specs.{filter_sites, IsBelow, own_sites, ResultAt, results, site_count, sites, source_in, sources, version_at, version_count}
 use Rattle.graph_numbers.proofs.ColumnSources.{column_source}
 use Rattle.graph_numbers.proofs.Equations.{below_of, version_value}
 use Rattle.graph_numbers.proofs.Extending.{Extends, further, itself, shorter}
-use Rattle.graph_numbers.proofs.Listed.{by_test}
 use Rattle.graph_numbers.proofs.Passing.{AreVisible, action_visible, values_are}
 use Rattle.graph_numbers.proofs.Ranges.{filter_sites_below, further_below}
 use Rattle.graph_numbers.proofs.Walks.{each_result}

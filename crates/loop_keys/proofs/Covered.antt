@@ -1,5 +1,5 @@
 -- Which named filters reports cover: by the nodes of the filters, and by their numbers.
-use Rattle.std.proofs.Common.{◌≡◌, ◌⊎◌, inl, inr, ℕ, zero, suc, ◌<◌, Bool, true, false, ◌||◌, List, [], ◌∷◌, length, map, Option, Some, None, refl, sym, ◌∙◌, ap, arith, nat_eq, get_or, slice_get, unwrap_or, Contains}
+use Rattle.std.proofs.Common.{◌≡◌, ◌⊎◌, inl, inr, ℕ, suc, ◌<◌, Bool, true, false, ◌||◌, List, [], ◌∷◌, length, map, Option, Some, None, refl, sym, ◌∙◌, ap, arith, nat_eq, get_or, slice_get, unwrap_or, Contains}
 use Rattle.std.specs.List.{list_any}
 use Rattle.std.proofs.lemmas.Bool.{cases_order}
 use Rattle.std.proofs.lemmas.Bool.Decides.{Decides-eqb}
@@ -87,17 +87,14 @@ module _ (fns : List Function) (columns : List Column) (before : List Statement)
           let one : same (filter_node x.at) (filter_node p) ≡ nat_eq f n =
           ap (λ r. same (filter_node x.at) (filter_node r)) (sym h.0.2) ∙ same_filter columns (fn_names fns) before good f n x h.0.0 q h.0.1 in
           let rest = go ns ps h.1 in λ i. one i || rest i
-      go [] (p ∷ ps) h = elim h [ ]
-      go (n ∷ ns) [] h = elim h [ ]
+      go ns ps h = elim h [ ]
 
 -- ---- the passes of a loop by numbers
 
 at_both : {A B C : Type 0} (F : List A → List C) (G : List B → List C) → F [] ≡ G [] → (xs : List (List A)) (ys : List (List B)) (n : ℕ) → map F xs ≡ map G ys → F (unwrap_or (slice_get xs n) []) ≡ G (unwrap_or (slice_get ys n) [])
 at_both F G e [] [] n h = e
-at_both F G e (x ∷ xs) (y ∷ ys) zero h = cc h
 at_both F G e (x ∷ xs) (y ∷ ys) (suc n) h = at_both F G e xs ys n (cc h)
-at_both F G e [] (y ∷ ys) n h = cc h
-at_both F G e (x ∷ xs) [] n h = cc h
+at_both F G e xs ys n h = cc h
 
 -- they are the passes of the loop
 pub passes_are : (j : JobView) → map (pass_at (history j.script)) (numbered_passes j) ≡ map (λ p. Some p) (passes_in j)
@@ -122,8 +119,7 @@ module _ (j : JobView) (job : IsJob j) (f : ℕ) (x : FilterAt) (q : slice_get (
   some_cover : (ms : List NumberedPass) (ps : List Pass) → map (pass_at (history j.script)) ms ≡ map (λ p. Some p) ps → list_any (is_covering (graph_results (job_graph j)) f) ms ≡ list_any (λ (p : Pass). reports_on (filter_node x.at) p.result.booking) ps
   some_cover [] [] h = refl
   some_cover (m ∷ ms) (p ∷ ps) h = let one = one_covers m p (cc h) in let rest = some_cover ms ps (cc h) in λ i. one i || rest i
-  some_cover [] (p ∷ ps) h = cc h
-  some_cover (m ∷ ms) [] h = cc h
+  some_cover ms ps h = cc h
 
   -- a report of the loop covers the filter by its node where one does by its number
   pub cover_is : list_any (is_covering (graph_results (job_graph j)) f) (numbered_passes j) ≡ is_covered (passes_in j) x.at

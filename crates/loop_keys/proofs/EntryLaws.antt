@@ -1,5 +1,5 @@
 -- One pass of an entry, over plain values.
-use Rattle.std.proofs.Common.{◌≡◌, ℕ, zero, suc, ◌+◌, ◌<◌, ◌≤◌, List, [], ◌∷◌, ◌++◌, length, take, Option, Some, None, option_map, refl, sym, ◌∙◌, ap, arith, get_or, slice_get, MatchOption}
+use Rattle.std.proofs.Common.{◌≡◌, ℕ, suc, ◌+◌, ◌<◌, ◌≤◌, List, ◌∷◌, ◌++◌, length, take, Option, Some, None, option_map, refl, sym, ◌∙◌, ap, arith, get_or, slice_get, MatchOption}
 use Rattle.std.proofs.lemmas.Option.{slice_get-get_or}
 use Rattle.lemmas.proofs.{take_all}
 use Rattle.rdf_values.specs.{ActionAt, ActionKind, Booking, Pass, Path, ReportOn}
@@ -8,7 +8,7 @@ use Rattle.graph_numbers.specs.{graph_results, kind_of_booking, Pass as Numbered
 use Rattle.loop_keys.specs.{actions_before, IsActionBooking, IsActionPass, IsReportPass, job_graph, JobView, numbered_in, numbered_passes, passes_in}
 use Rattle.loop_keys.proofs.PassNumbers.{result_there, some_same}
 use Rattle.loop_keys.proofs.PassTies.{pass_of}
-use Rattle.loop_keys.proofs.Taken.{place_next, place_same}
+use Rattle.loop_keys.proofs.Taken.{after_pass}
 
 -- ---- the kinds of passes
 
@@ -47,21 +47,19 @@ module _ (j : JobView) (n : ℕ) (m : NumberedPass) (its : numbered_in j n ≡ S
 -- ---- places
 
 pub actions_few : (n : ℕ) (ps : List Pass) → length (kinds_in (take n ps)) ≤ n
-actions_few zero [] = omega arith
-actions_few zero (p ∷ ps) = omega arith
-actions_few (suc n) [] = omega arith
 actions_few (suc n) (p ∷ ps) = go p.result.booking (actions_few n ps)
   where
     go : (b : Booking) → length (kinds_in (take n ps)) ≤ n → length (kind_in b ++ kinds_in (take n ps)) ≤ suc n
     go (ActionAt k at) h = omega (arith, h)
     go (ReportOn fs) h = omega (arith, h)
+actions_few n ps = omega arith
 
 pub action_next : (j : JobView) (n place : ℕ) → IsActionPass j n → place ≡ actions_before j n → place + 1 ≡ actions_before j (n + 1)
-action_next j n place h e = let a = action_of j n h in ap (λ m. m + 1) e ∙ place_next j n a.pass a.kind a.at a.its_pass a.booking
+action_next j n place h e = let a = action_of j n h in ap (λ m. m + 1) e ∙ sym (after_pass j n a.pass (ActionAt a.kind a.at) a.its_pass a.booking)
 
 pub report_next : (j : JobView) (n own place : ℕ) → IsReportPass j n own → place ≡ actions_before j n → place ≡ actions_before j (n + 1)
 report_next j n own place p e =
-    e ∙ place_same j n _ p.filters (pass_of j n p.numbered p.its_pass p.result (ap (slice_get (graph_results (job_graph j))) p.its_result ∙ p.there_is)) p.report
+    let d = after_pass j n _ (ReportOn p.filters) (pass_of j n p.numbered p.its_pass p.result (ap (slice_get (graph_results (job_graph j))) p.its_result ∙ p.there_is)) p.report in omega (arith, d, e)
 
 -- ---- a report's pass
 

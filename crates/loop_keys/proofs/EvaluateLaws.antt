@@ -16,6 +16,10 @@ use Rattle.loop_keys.specs.{Held, held_in, held_or_need, is_held, IsJob, IsMissi
 pub accepted_of : (j : JobView) → IsJob j → AreAccepted (fn_names j.dataset.fns) (scope_of j.dataset.columns) (history j.script)
 accepted_of j job = (verdict_is_the_first_refusal (fn_names j.dataset.fns) j.dataset.columns j.script).0 job.graph.accepted
 
+pub known_never : (o : Outcome ⊥ Value) → is_need (with_needs {M = ℕ} o) ≡ true → ⊥
+known_never (Needs m) e = elim m [ ]
+known_never o e = cc e
+
 -- nothing is missing of a site
 site_known : (j : JobView) (entry : ℕ) (u : Option ℕ) (t : ℕ) → site_in {M = ℕ} j entry u t ≡ with_needs (site_in j entry u t)
 site_known j entry u t = go (slice_get (graph_sites (job_graph j)) t)
@@ -92,10 +96,6 @@ module _ (j : JobView) (job : IsJob j) (entry : ℕ) (u : Option ℕ) (cells : L
   not_needed Held.Nothing c k e = cc k
   not_needed h c k e = cc e
 
-  never_needed : (o : Outcome ⊥ Value) (c : ℕ) → with_needs {M = ℕ} o ≡ Needs c → ⊥
-  never_needed (Needs m) c e = elim m [ ]
-  never_needed o c e = cc e
-
   -- what was found is the site's outcome
   pub found_right : (h : Held) → is_held h ≡ true → held_or_need 0 h ≡ looked → IsRight (site_in j entry u s) h
   found_right h k e = go looked (evaluate (version_in {M = ℕ} j entry u) (call_outcome j.dataset.fns) x.tree) closes e whole
@@ -106,15 +106,14 @@ module _ (j : JobView) (job : IsJob j) (entry : ℕ) (u : Option ℕ) (cells : L
 
   abbrev number_in : ℕ → Outcome ℕ Value → ℕ
   number_in d (Needs c) = c
-  number_in d (Gives v) = d
-  number_in d (Faults k) = d
+  number_in d o = d
 
   -- a version that was needed is missing
   pub needed_missing : (c : ℕ) → Needs c ≡ looked → IsLacking c
   needed_missing c e = go looked (evaluate (version_in {M = ℕ} j entry u) (call_outcome j.dataset.fns) x.tree) closes e whole
     where
       go : (o p : Outcome ℕ Value) → close.Close IsLacking o p → Needs c ≡ o → p ≡ with_needs (site_in j entry u s) → IsLacking c
-      go o p close.same q r = absurd (never_needed (site_in j entry u s) c (sym (q ∙ r)))
+      go o p close.same q r = absurd (known_never (site_in j entry u s) (ap is_need (sym (q ∙ r))))
       go o p (close.missing {d = d} n) q r = let i : d ≡ c = ap (number_in c) (sym q) in subst IsLacking i n
 
   -- and the evaluation meets it

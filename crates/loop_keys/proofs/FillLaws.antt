@@ -115,5 +115,4 @@ grows_on a b c p q k h = q k (ap is_held (p k h) ∙ h) ∙ p k h
 
 pub in_source : (D : ℕ → Bool) (t : ℕ) (x : Source) → IsSiteOf t x → IsSourceIn D x → D t ≡ true
 in_source D t (Source.Cell col) i h = elim i [ ]
-in_source D t (Source.Site s) i h = ap D (sym i) ∙ h
-in_source D t (Source.Element s k tags) i h = ap D (sym i) ∙ h
+in_source D t x i h = ap D (sym i) ∙ h

@@ -11,14 +11,13 @@ use Rattle.loop_keys.proofs.KeyLaws.{counted, key_small, keys_next, keys_none}
 -- ---- members and places
 
 one_more : {A : Type 0} (p : A → Bool) (n : ℕ) (xs : List A) → count_by p (take (suc n) xs) ≡ count_by p (take n xs) + (if holds_at p (slice_get xs n) then 1 else 0)
-one_more p zero [] = refl
-one_more p (suc n) [] = refl
 one_more p zero (x ∷ xs) = let a = counted p x [] in let b = same (p x) in omega (arith, a, b)
   where
     same : (b : Bool) → ◌≡◌ {A = ℕ} (cond b 1 0) (if b then 1 else 0)
     same true = refl
     same false = refl
 one_more p (suc n) (x ∷ xs) = let a = counted p x (take (suc n) xs) in let b = counted p x (take n xs) in let c = one_more p n xs in omega (arith, a, b, c)
+one_more p n xs = refl
 
 module _ {A : Type 0} (p : A → Bool) (xs : List A) (s : VarSet) (all : (v : ℕ) → has s v ≡ holds_at p (slice_get xs v)) where
   -- as many members are below a number as elements before that place pass the test

@@ -58,9 +58,8 @@ module _ (script : List Statement) where
         go (inl q) = ap (λ n. at (slice_get vs n)) q
         go (inr (inl l)) = let c = taken_apart (depends_on x) v w vs l h in absurd (omega (arith, c, e))
         go (inr (inr l)) = let c = taken_apart (depends_on x) w v vs l k in absurd (omega (arith, c, e))
-    same_varied v w true false h k e = cc e
-    same_varied v w false true h k e = cc e
     same_varied v w false false h k e = as_nominal (slice_get vs v) h ∙ sym (as_nominal (slice_get vs w) k)
+    same_varied v w a b h k e = cc e
 
     nominal_varied : (w : ℕ) (b : Bool) → holds_at (depends_on x) (slice_get vs w) ≡ b → 0 ≡ (if b then suc (count_by (depends_on x) (take w vs)) else 0) → at None ≡ at (slice_get vs w)
     nominal_varied w true k e = cc e
@@ -86,10 +85,9 @@ module _ (vs : List Variation) where
   keys_next (y ∷ xs) (suc s) x h = let e = keys_next xs s x h in omega (arith, e)
 
   pub keys_rise : (xs : List SiteAt) (s t : ℕ) → s ≤ t → keys_before vs xs s ≤ keys_before vs xs t
-  keys_rise [] s t h = omega arith
-  keys_rise (y ∷ xs) zero t h = omega arith
   keys_rise (y ∷ xs) (suc s) zero h = absurd (omega (arith, h))
   keys_rise (y ∷ xs) (suc s) (suc t) h = let e = keys_rise xs s t (omega (arith, h)) in omega (arith, e)
+  keys_rise xs s t h = omega arith
 
   module _ (xs : List SiteAt) where
     abbrev at_key : ℕ → SiteAt → Option ℕ → ℕ

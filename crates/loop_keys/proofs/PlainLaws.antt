@@ -14,7 +14,7 @@ use Rattle.graph_numbers.proofs.Listed.{by_test}
 use Rattle.rdf_model.proofs.KnownColumns.{each_weaker}
 use Rattle.loop_keys.specs.{ArePlain, is_vector_at, IsClosed, IsJob, IsPlainVersion, IsSound, IsSourceIn, job_graph, JobView, site_in, source_at, version_in}
 use Rattle.loop_keys.proofs.Elements.{of_option}
-use Rattle.loop_keys.proofs.EvaluateLaws.{whole}
+use Rattle.loop_keys.proofs.EvaluateLaws.{known_never, whole}
 
 -- the kinds of versions, as an expression lists them
 not_vector : (all : List ColType) (ks : List (ℕ × ColType)) (c : ℕ) → AllByRecursion (λ (k : ℕ × ColType). slice_get all k.0 ≡ Some k.1) ks → is_vector_at all c ≡ false → gives_vector (number_kind ks c) ≡ false
@@ -55,10 +55,6 @@ plain_expr j used s e plain u its =
     (λ c v. not_vector (graph_kinds (job_graph j)) e.kinds c (recursion_from_All (λ (c : ℕ × ColType). slice_get (graph_kinds (job_graph j)) c.0 ≡ Some c.1) e.kinds its.kinds) v.0) x.0.tree p.columns) p.parts)
 
 -- ---- what a plain site meets
-
-known_never : (o : Outcome ⊥ Value) → is_need (with_needs {M = ℕ} o) ≡ true → ⊥
-known_never (Needs m) e = elim m [ ]
-known_never o e = cc e
 
 module _ (j : JobView) (job : IsJob j) (entry : ℕ) (u : Option ℕ) (used : ℕ → Bool) (plain : ArePlain j used) where
   none_held : IsSound j entry []

@@ -26,8 +26,7 @@ module _ (j : JobView) (job : IsJob j) where
   number_there (n ∷ ns) (p ∷ ps) h zero f q =
       let e : n ≡ f = cc q in (h.0.0, ap (slice_get (graph_filters (job_graph j))) (sym e) ∙ h.0.1, ap Some (sym h.0.2))
   number_there (n ∷ ns) (p ∷ ps) h (suc k) f q = number_there ns ps h.1 k f q
-  number_there [] (p ∷ ps) h k f q = elim h [ ]
-  number_there (n ∷ ns) [] h k f q = elim h [ ]
+  number_there ns ps h k f q = elim h [ ]
 
   -- the report, and the filter among those that it covers
   pub record IsOfReport (f : ℕ) (c : IsCovered j f) : Type 0 where

@@ -24,16 +24,10 @@ actions_next (suc n) (x ∷ ps) p q =
     omega (arith, h, l, m)
 
 -- after an action's pass there is one more, and after a report's none
-after_pass : (j : JobView) (n : ℕ) (p : Pass) (c : Booking) → slice_get (passes_in j) n ≡ Some p → p.result.booking ≡ c → actions_before j (n + 1) ≡ actions_before j n + length (kind_in c)
+pub after_pass : (j : JobView) (n : ℕ) (p : Pass) (c : Booking) → slice_get (passes_in j) n ≡ Some p → p.result.booking ≡ c → actions_before j (n + 1) ≡ actions_before j n + length (kind_in c)
 after_pass j n p c q b =
     let e : n + 1 ≡ suc n = omega arith in
     ap (actions_before j) e ∙ actions_next n (passes_in j) p q ∙ ap (λ (x : Booking). actions_before j n + length (kind_in x)) b
-
-pub place_next : (j : JobView) (n : ℕ) (p : Pass) (k : ActionKind) (at : Path) → slice_get (passes_in j) n ≡ Some p → p.result.booking ≡ ActionAt k at → actions_before j n + 1 ≡ actions_before j (n + 1)
-place_next j n p k at q b = sym (after_pass j n p (ActionAt k at) q b)
-
-pub place_same : (j : JobView) (n : ℕ) (p : Pass) (fs : List Path) → slice_get (passes_in j) n ≡ Some p → p.result.booking ≡ ReportOn fs → actions_before j n ≡ actions_before j (n + 1)
-place_same j n p fs q b = let e = after_pass j n p (ReportOn fs) q b in omega (arith, e)
 
 module _ (d : Dataset) (row : List Value) where
   -- the kind of an action's pass, and what the row feeds to it, at its place
