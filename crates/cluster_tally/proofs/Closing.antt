@@ -97,10 +97,7 @@ module _ (c : ℕ) (old : List (Option Accumulator)) (first : List (List (Noted 
 
   pub closed_by : (n : ℕ) (v : Option Accumulator) (ts : List (List (Noted WatchPiece))) → n ≡ next + times_there (get_or watched i d) → v ≡ renewed (get_or watched i d) → ts ≡ noted_at c (get_or watched i d) trails next
       → AreClosedTo c old first (i + 1) n (set watched i v) ts
-  closed_by n v ts n_is v_is ts_is =
-      subst (λ k. AreClosedTo c old first (i + 1) k (set watched i v) ts) (sym n_is)
-      (subst (λ o. AreClosedTo c old first (i + 1) (next + times_there (get_or watched i d)) (set watched i o) ts) (sym v_is)
-      (subst (λ l. AreClosedTo c old first (i + 1) (next + times_there (get_or watched i d)) (set watched i (renewed (get_or watched i d))) l) (sym ts_is) closed_next))
+  closed_by n v ts n_is v_is ts_is = rw (n_is, v_is, ts_is) closed_next
 
 -- ---- what is noted
 
@@ -145,10 +142,7 @@ piece_is ActionKind.Count items w = (tt, refl)
 piece_is (ActionKind.Sum c) items w = (tt, refl)
 piece_is (ActionKind.Min c) items w = (tt, refl)
 piece_is (ActionKind.Max c) items w = (tt, refl)
-piece_is (ActionKind.Take c) items w = absurd w
-piece_is (ActionKind.Reduce o c) items w = absurd w
-piece_is (ActionKind.Histo1D e x o) items w = absurd w
-piece_is (ActionKind.Histo2D e d x y o) items w = absurd w
+piece_is k items w = absurd w
 
 -- ---- the whole tally
 

@@ -1,7 +1,7 @@
 -- A tally's first and last moments.
 use Rattle.std.proofs.Common.{◌≡◌, ℕ, ◌+◌, List, [], ◌∷◌, ◌++◌, length, map, Bool, true, false, Option, Some, inl, inr, refl, sym, ap, ap₂, ◌∙◌, subst, arith, append-nil, slice_get}
 use Rattle.std.proofs.lemmas.List.{length_push, map-append}
-use Rattle.std.proofs.lemmas.Option.{same_Some, slice_get-get_or}
+use Rattle.std.proofs.lemmas.Option.{slice_get-get_or}
 use Rattle.lemmas.proofs.{before_or_last, kept_at, last_at}
 use Rattle.rdf_values.proofs.Below.{map-below}
 use Rattle.rdf_values.specs.{ActionKind}
@@ -27,12 +27,12 @@ module _ (kinds : List ActionKind) (watched : List ℕ) (t : TallyView) (k : Act
       → (j : ActionKind) × (slice_get (kinds ++ k ∷ []) i ≡ Some j) × CanWatch j × (acc ≡ fresh_acc j)
   alone_now b can i acc at = elim (before_or_last t.watched (acc_if b k) i (Some acc) at) [
     | inl p ↦ (let one = h.alone i acc p in (one.0, kept_at kinds (k ∷ []) i one.0 one.1, one.2, one.3))
-    | inr p ↦ go b can (sym p.1) (ap (slice_get (kinds ++ k ∷ [])) (p.0 ∙ h.many) ∙ last_at kinds k)
+    | inr p ↦ (let is = if_there b p.1 in (k, ap (slice_get (kinds ++ k ∷ [])) (p.0 ∙ h.many) ∙ last_at kinds k, can is.0, is.1))
   ]
     where
-      go : (b : Bool) → (b ≡ true → CanWatch k) → Some acc ≡ acc_if b k → slice_get (kinds ++ k ∷ []) i ≡ Some k → (j : ActionKind) × (slice_get (kinds ++ k ∷ []) i ≡ Some j) × CanWatch j × (acc ≡ fresh_acc j)
-      go true can e last = (k, last, can refl, same_Some acc (fresh_acc k) e)
-      go false can e last = absurd (cc)
+      if_there : (b : Bool) → acc_if b k ≡ Some acc → (b ≡ true) × (acc ≡ fresh_acc k)
+      if_there true e = (refl, cc)
+      if_there false e = absurd (cc)
 
   trails_now : (b : Bool) → with_trail b t.trails ≡ map (λ p. []) (watched ++ place_if b kinds)
   trails_now true = ap (λ l. l ++ [] ∷ []) h.trails ∙ sym (map-append (λ p. []) watched (length kinds ∷ []))

@@ -1,6 +1,7 @@
 -- The beginning of clusters.
 use Rattle.std.proofs.Common.{◌≡◌, ℕ, ◌<◌, List, [], ◌∷◌, length, map, replicate, Some, refl, sym, ap, ap₂, ◌∙◌, subst, arith, add-zero, append-nil, slice_get}
-use Rattle.std.proofs.lemmas.List.{length-map}
+use Rattle.std.proofs.lemmas.List.{length-map, map-id}
+use Rattle.std.proofs.lemmas.Simd.{map-map}
 use Rattle.std.proofs.lemmas.List.Elements.{All-nil}
 use Rattle.rdf_values.proofs.Below.{length-below, map-below}
 use Rattle.rdf_values.proofs.UnionLemmas.{none_rises}
@@ -30,18 +31,11 @@ module _ (f : LoopFacts) (done : List ℕ) (c : ℕ) where
 
 -- ---- a fresh tally
 
-fresh_fed : (k : ActionKind) → HasFed (fresh_acc k) []
-fresh_fed k = record { filled = refl; kept = refl; below = λ j x lt. absurd (omega arith) }
-
 fresh_by : (f : LoopFacts) (c i : ℕ) (k : ActionKind) → IsFedBy f [] c (taken_in 0 1 0 i) i (fresh_acc k)
-fresh_by f c i k = record { fed = subst (HasFed (fresh_acc k)) (sym (fed_at_begin f [] c i)) (fresh_fed k); few = omega arith; last = omega arith }
+fresh_by f c i k = record { fed = subst (HasFed (fresh_acc k)) (sym (fed_at_begin f [] c i)) record { filled = refl; kept = refl; below = λ j x lt. absurd (omega arith) }; few = omega arith; last = omega arith }
 
 pub fresh_alone : (f : LoopFacts) (c i : ℕ) (k : ActionKind) → slice_get f.kinds i ≡ Some k → CanWatch k → IsFedAlone f c (taken_in 0 1 0 i) i (fresh_acc k)
 fresh_alone f c i k at watch = record { kind = at; watch = watch; held = fresh_by f c i k }
-
-same_kinds : (kinds : List ActionKind) → map kind_at (map fresh_acc kinds) ≡ kinds
-same_kinds [] = refl
-same_kinds (k ∷ ks) = ap (λ l. k ∷ l) (same_kinds ks)
 
 all_nothing : (xs : List ℕ) → map (λ i. nothing) xs ≡ replicate (length xs) nothing
 all_nothing [] = refl
@@ -60,7 +54,7 @@ fresh_holds f watched t c facts fresh flow = record {
   facts = facts;
   rises = none_rises;
   above = All-nil (λ d. d < c);
-  kinds = ap (map kind_at) fresh.accs ∙ same_kinds f.kinds;
+  kinds = ap (map kind_at) fresh.accs ∙ map-map kind_at fresh_acc f.kinds ∙ map-id f.kinds;
   accs = λ i acc at. (
       let of = of_mapped fresh_acc f.kinds i acc (ap (λ l. slice_get l i) (sym fresh.accs) ∙ at) in
       subst (IsFedBy f [] c (taken_in 0 1 0 i) i) (sym of.2) (fresh_by f c i of.0));

@@ -1,6 +1,6 @@
 -- What is taken in of a cluster, and what a block adds.
-use Rattle.std.proofs.Common.{◌≡◌, ℕ, ◌+◌, ◌<◌, ◌≤◌, ◌^◌, List, [], ◌∷◌, ◌++◌, length, take, drop, cond, true, false, Option, None, Some, sym, ap, ap₂, ◌∙◌, ⊎_elim, arith, append-nil, add_assoc, length-append, ◌-◌, count_by, flat_map, nat_lt, slice_get}
-use Rattle.std.proofs.lemmas.Bool.{cases_lt, cond-false, cond-true, le-ltb, lt-ltb}
+use Rattle.std.proofs.Common.{◌≡◌, ℕ, ◌+◌, ◌<◌, ◌≤◌, ◌^◌, List, [], ◌∷◌, ◌++◌, length, take, drop, cond, Option, None, Some, sym, ap, ap₂, ◌∙◌, arith, append-nil, add_assoc, length-append, ◌-◌, count_by, flat_map, slice_get}
+use Rattle.std.proofs.lemmas.Grind.{common_steps}
 use Rattle.std.proofs.lemmas.List.{length-drop, length-take, map-append}
 use Rattle.std.proofs.lemmas.List.Concat.{flat_map-append}
 use Rattle.std.proofs.lemmas.List.Sums.{sum_by-append}
@@ -17,19 +17,13 @@ use Rattle.cluster_tally.specs.{block_items, block_reaches, BlockStage, counted,
 -- ---- how many entries are taken in
 
 pub in_before : (e m l p : ℕ) → p < l → taken_in e m l p ≡ e + m
-in_before e m l p lt = cond-true {A = ℕ} (nat_lt p l) (e + m) e (lt-ltb p l lt)
+in_before e m l p lt = grind (arith, common_steps)
 
 pub in_from : (e m l p : ℕ) → l ≤ p → taken_in e m l p ≡ e
-in_from e m l p le = cond-false {A = ℕ} (nat_lt p l) (e + m) e (le-ltb p l le)
+in_from e m l p le = grind (arith, common_steps)
 
 pub in_same : (e m l p : ℕ) → (p ≡ l → ⊥) → taken_in e m (l + 1) p ≡ taken_in e m l p
-in_same e m l p ne = ⊎_elim
-    (λ (lt : p < l). in_before e m (l + 1) p (omega arith) ∙ sym (in_before e m l p lt))
-    (λ (ge : l ≤ p). ⊎_elim
-    (λ (more : l < p). in_from e m (l + 1) p (omega arith) ∙ sym (in_from e m l p ge))
-    (λ (le : p ≤ l). let same : p ≡ l = omega arith in absurd (ne same))
-    (cases_lt l p))
-    (cases_lt p l)
+in_same e m l p ne = grind (arith, common_steps, ne)
 
 -- ---- items
 
@@ -78,7 +72,7 @@ entries_with f done c =
 
 one_row : (o : Option Reach) → count_by is_reached (if_there o) ≤ 1
 one_row None = omega arith
-one_row (Some r) = elim (is_reached r) as (λ b. 0 + cond b 1 0 ≤ 1) [ true ↦ omega arith | false ↦ omega arith ]
+one_row (Some r) = grind (arith, common_steps)
 
 pub few_reached : (rows : List (List Reach)) (i : ℕ) → count_by is_reached (flat_map (λ (row : List Reach). if_there (slice_get row i)) rows) ≤ length rows
 few_reached [] i = omega arith
