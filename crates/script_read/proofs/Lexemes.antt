@@ -1,27 +1,15 @@
 -- Words and integers as the first bytes of a text.
-use Rattle.std.proofs.Common.{◌≡◌, ◌∙◌, ◌+◌, ℕ, Bool, true, false, List, [], ◌∷◌, length, get_or, take, drop, ◌-◌, suc, arith, refl, ap, sym, subst, ◌==◌, ◌||◌, take_while, if◌then◌else◌}
-use Rattle.std.specs.List.{list_all}
+use Rattle.std.proofs.Common.{◌≡◌, ◌∙◌, ◌+◌, ℕ, Bool, true, List, [], ◌∷◌, length, get_or, take, drop, ◌-◌, suc, arith, refl, ap, sym, subst, ◌==◌, ◌||◌, take_while, if◌then◌else◌}
 use Rattle.std.proofs.lemmas.List.{take_rest}
-use Rattle.std.proofs.lemmas.List.Sums.{take_while-cons}
 use Rattle.std.proofs.lemmas.List.Folds.{length-prefix_len}
 use Rattle.std.proofs.lemmas.Bool.Decides.{nat_tests}
 use Rattle.rdf_values.specs.{integer_lexeme, integer_of, is_blank, is_digit, is_word, is_word_byte, is_word_start, lexeme, word_lexeme}
+use Rattle.expr_read.proofs.FirstTokens.{run_passes, word_run}
 
 -- ---- runs
 
 take_run : (p : ℕ → Bool) (xs : List ℕ) (n : ℕ) → n ≡ length (take_while p xs) → take n xs ≡ take_while p xs
 take_run p xs n e = rw (e, length-prefix_len) refl
-
-passes_by : (p : ℕ → Bool) (x : ℕ) (xs : List ℕ) (b : Bool) → p x ≡ b → list_all p xs ≡ true → list_all p (if b then x ∷ xs else []) ≡ true
-passes_by p x xs true e h = rw e h
-passes_by p x xs false e h = refl
-
-run_passes : (p : ℕ → Bool) (xs : List ℕ) → list_all p (take_while p xs) ≡ true
-run_passes p [] = refl
-run_passes p (x ∷ xs) = rw take_while-cons (passes_by p x (take_while p xs) (p x) refl (run_passes p xs))
-
-word_run : (c : ℕ) (cs : List ℕ) → is_word_start c ≡ true → take_while is_word_byte (c ∷ cs) ≡ c ∷ take_while is_word_byte cs
-word_run c cs h = let first : is_word_byte c ≡ true = ap (λ (b : Bool). b || is_digit c) h in rw (take_while-cons, first) refl
 
 -- the word that a text begins with
 pub word_taken : (text : List ℕ) (n : ℕ) → is_word_start (get_or text 0 0) ≡ true → n ≡ length (take_while is_word_byte text) → is_word (take n text) ≡ true

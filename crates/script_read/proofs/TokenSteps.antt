@@ -75,20 +75,27 @@ at_first : (place c : ℕ) (cs : List ℕ) (x : Lexeme) → lexeme place c cs �
 unfolding tokens_from
 at_first place c cs x e = rw e refl
 
-pub at_place : (found : List PlacedToken) (line : List ℕ) (i : ℕ) (x : Lexeme) → i < length line → lexeme i (get_or line i 0) (drop (i + 1) line) ≡ x
-    → goes_on found line i ≡ before found (with_lexeme i x (λ more. tokens_from (drop (i + 1) line) more (i + 1)))
-at_place found line i x h e = rw (drop_more line i 0 h) (ap (before found) (at_first i (get_or line i 0) (drop (i + 1) line) x e))
+-- what stands at the place
+abbrev pub IsAt : List ℕ → ℕ → Lexeme → Type 0
+IsAt line i x = (c : ℕ) (cs : List ℕ) → drop i line ≡ c ∷ cs → x ≡ lexeme i c cs
 
-pub step_comment : (found : List PlacedToken) (line : List ℕ) (i : ℕ) → i < length line → lexeme i (get_or line i 0) (drop (i + 1) line) ≡ Comment → goes_on found line i ≡ Ok found
+here : (line : List ℕ) (i : ℕ) (x : Lexeme) → i < length line → IsAt line i x → lexeme i (get_or line i 0) (drop (i + 1) line) ≡ x
+here line i x h e = sym (e _ _ (drop_more line i 0 h))
+
+pub at_place : (found : List PlacedToken) (line : List ℕ) (i : ℕ) (x : Lexeme) → i < length line → IsAt line i x
+    → goes_on found line i ≡ before found (with_lexeme i x (λ more. tokens_from (drop (i + 1) line) more (i + 1)))
+at_place found line i x h e = rw (drop_more line i 0 h) (ap (before found) (at_first i (get_or line i 0) (drop (i + 1) line) x (here line i x h e)))
+
+pub step_comment : (found : List PlacedToken) (line : List ℕ) (i : ℕ) → i < length line → IsAt line i Comment → goes_on found line i ≡ Ok found
 step_comment found line i h e = at_place found line i Comment h e ∙ ap Ok (append-nil found)
 
 -- the bytes of a token stand in the line
-pub token_within : (line : List ℕ) (i : ℕ) (t : LineToken) (more : ℕ) → i < length line → lexeme i (get_or line i 0) (drop (i + 1) line) ≡ Found t more → i + (1 + more) ≤ length line
+pub token_within : (line : List ℕ) (i : ℕ) (t : LineToken) (more : ℕ) → i < length line → IsAt line i (Found t more) → i + (1 + more) ≤ length line
 token_within line i t more h e =
-    let short = subst (IsWithin (length (drop (i + 1) line))) e (lexeme_fits i (get_or line i 0) (drop (i + 1) line)) in
+    let short = subst (IsWithin (length (drop (i + 1) line))) (here line i (Found t more) h e) (lexeme_fits i (get_or line i 0) (drop (i + 1) line)) in
     omega (arith, short, length-drop (i + 1) line)
 
-pub step_token : (found : List PlacedToken) (line : List ℕ) (i : ℕ) (t : LineToken) (more : ℕ) → i < length line → lexeme i (get_or line i 0) (drop (i + 1) line) ≡ Found t more
+pub step_token : (found : List PlacedToken) (line : List ℕ) (i : ℕ) (t : LineToken) (more : ℕ) → i < length line → IsAt line i (Found t more)
     → goes_on found line i ≡ goes_on (found ++ record { token = t; place = i } ∷ []) line (i + (1 + more))
 step_token found line i t more h e =
     let short : more ≤ length (drop (i + 1) line) = let all = token_within line i t more h e in omega (arith, all, length-drop (i + 1) line) in

@@ -89,20 +89,11 @@ no_number (Token.Number z) isnt = absurd (isnt z refl)
 no_number (Token.Mark Mark.Equals) isnt = refl
 no_number t isnt = refl
 
-pub no_name : (t : Token) → ((x : Word) → t ≡ Token.Word x → ⊥) → next AWord (token_of t) ≡ None
-no_name (Token.Word x) isnt = absurd (isnt x refl)
-no_name (Token.Mark Mark.Equals) isnt = refl
-no_name t isnt = refl
-
-pub no_method : (t : Token) → ((x : Word) → t ≡ Token.Word x → ⊥) → next AMethod (token_of t) ≡ None
-no_method (Token.Word x) isnt = absurd (isnt x refl)
-no_method (Token.Mark Mark.Equals) isnt = refl
-no_method t isnt = refl
-
-pub no_line : (t : Token) → ((x : Word) → t ≡ Token.Word x → ⊥) → next ALine (token_of t) ≡ None
-no_line (Token.Word x) isnt = absurd (isnt x refl)
-no_line (Token.Mark Mark.Equals) isnt = refl
-no_line t isnt = refl
+-- no word stands there
+pub no_word : (t : Token) → ((x : Word) → t ≡ Token.Word x → ⊥) → (next AWord (token_of t) ≡ None) × (next AMethod (token_of t) ≡ None) × (next ALine (token_of t) ≡ None)
+no_word (Token.Word x) isnt = absurd (isnt x refl)
+no_word (Token.Mark Mark.Equals) isnt = (refl, refl, refl)
+no_word t isnt = (refl, refl, refl)
 
 pub is_name_next : (x : List ℕ) → is_free x ≡ true → next AWord (t.Word x) ≡ Some []
 is_name_next x f = rw f refl

@@ -8,26 +8,15 @@ pub(crate) struct OneOrMore<T> {
     pub(crate) rest: Vec<T>,
 }
 
-/// What is computed over the entries of a node.
+/// What is computed over the entries of a node; a Reduce names its operation before its column.
 #[derive(Drop)]
 pub(crate) enum Action<'a> {
     Count,
-    Sum {
-        column: Quoted<'a>,
-    },
-    Min {
-        column: Quoted<'a>,
-    },
-    Max {
-        column: Quoted<'a>,
-    },
-    Take {
-        column: Quoted<'a>,
-    },
-    Reduce {
-        operation: Quoted<'a>,
-        column: Quoted<'a>,
-    },
+    Sum(Quoted<'a>),
+    Min(Quoted<'a>),
+    Max(Quoted<'a>),
+    Take(Quoted<'a>),
+    Reduce(Quoted<'a>, Quoted<'a>),
     Histo1D {
         x_edges: OneOrMore<i64>,
         x: Quoted<'a>,
@@ -85,13 +74,7 @@ pub(crate) enum Form<'a> {
         parent: Word<'a>,
         method: Method<'a>,
     },
-    Print {
-        result: Word<'a>,
-    },
-    VariationsFor {
-        result: Word<'a>,
-    },
-    Watch {
-        result: Word<'a>,
-    },
+    Print(Word<'a>),
+    VariationsFor(Word<'a>),
+    Watch(Word<'a>),
 }

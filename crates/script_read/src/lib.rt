@@ -9,7 +9,6 @@ mod lexeme;
 mod line;
 mod lines;
 mod method;
-mod nodes;
 mod read;
 mod refusal;
 mod statement;

@@ -159,25 +159,13 @@ impl<'t, 'a> Walk<'t, 'a> {
                 self.expect(Mark::Close)?;
                 Ok(Action::Count)
             }
-            ActionName::Sum => {
-                let column = self.last_string()?;
-                Ok(Action::Sum { column })
-            }
-            ActionName::Min => {
-                let column = self.last_string()?;
-                Ok(Action::Min { column })
-            }
-            ActionName::Max => {
-                let column = self.last_string()?;
-                Ok(Action::Max { column })
-            }
-            ActionName::Take => {
-                let column = self.last_string()?;
-                Ok(Action::Take { column })
-            }
+            ActionName::Sum => Ok(Action::Sum(self.last_string()?)),
+            ActionName::Min => Ok(Action::Min(self.last_string()?)),
+            ActionName::Max => Ok(Action::Max(self.last_string()?)),
+            ActionName::Take => Ok(Action::Take(self.last_string()?)),
             ActionName::Reduce => {
                 let (operation, column) = self.two_strings()?;
-                Ok(Action::Reduce { operation, column })
+                Ok(Action::Reduce(operation, column))
             }
             ActionName::Histo1D => self.histo1d(),
             ActionName::Histo2D => self.histo2d(),

@@ -5,7 +5,6 @@ ghost use Rattle.rdf_values.specs.{all_edges, AName, AnExpression, FirstBad, for
 ghost use Rattle.script_read.specs.{action_of, edges_of, form_of, IsNamed, method_of, quoted_of, RefusedFor, strings_of};
 
 use crate::form::{Action, Form, Method, OneOrMore};
-use crate::nodes::Nodes;
 use crate::stop::LineStop;
 use crate::strings;
 use crate::token::{Quoted, Word};
@@ -37,84 +36,6 @@ fn definition(
     Ok((column, expr))
 }
 
-fn define(
-    alloc: Global,
-    nodes: Nodes,
-    column: &Quoted<'_>,
-    expr: &Quoted<'_>,
-) -> Result<Statement, LineStop>
-    ensures ok { IfOk result (λ s. Says (line.Books nodes.node nodes.parent (line.Define (quoted_of column.now) (quoted_of expr.now))) s) }
-    ensures err { IfErr result (λ e. RefusedFor (FirstBad (method_strings (line.Define (quoted_of column.now) (quoted_of expr.now)))) e) }
-{
-    let (column, expr) = definition(alloc, column, expr)?;
-    let Nodes { node, parent } = nodes;
-    Ok(Statement::Define {
-        node,
-        parent,
-        column,
-        expr,
-    })
-}
-
-fn redefine(
-    alloc: Global,
-    nodes: Nodes,
-    column: &Quoted<'_>,
-    expr: &Quoted<'_>,
-) -> Result<Statement, LineStop>
-    ensures ok { IfOk result (λ s. Says (line.Books nodes.node nodes.parent (line.Redefine (quoted_of column.now) (quoted_of expr.now))) s) }
-    ensures err { IfErr result (λ e. RefusedFor (FirstBad (method_strings (line.Redefine (quoted_of column.now) (quoted_of expr.now)))) e) }
-{
-    let (column, expr) = definition(alloc, column, expr)?;
-    let Nodes { node, parent } = nodes;
-    Ok(Statement::Redefine {
-        node,
-        parent,
-        column,
-        expr,
-    })
-}
-
-fn alias(
-    alloc: Global,
-    nodes: Nodes,
-    column: &Quoted<'_>,
-    target: &Quoted<'_>,
-) -> Result<Statement, LineStop>
-    ensures ok { IfOk result (λ s. Says (line.Books nodes.node nodes.parent (line.Alias (quoted_of column.now) (quoted_of target.now))) s) }
-    ensures err { IfErr result (λ e. RefusedFor (FirstBad (method_strings (line.Alias (quoted_of column.now) (quoted_of target.now)))) e) }
-{
-    let column = strings::name(alloc, column)?;
-    let target = strings::name(alloc, target)?;
-    let Nodes { node, parent } = nodes;
-    Ok(Statement::Alias {
-        node,
-        parent,
-        column,
-        target,
-    })
-}
-
-fn filter(
-    alloc: Global,
-    nodes: Nodes,
-    expr: &Quoted<'_>,
-    label: &Option<Quoted<'_>>,
-) -> Result<Statement, LineStop>
-    ensures ok { IfOk result (λ s. Says (line.Books nodes.node nodes.parent (line.Filter (quoted_of expr.now) (option_map quoted_of label.now))) s) }
-    ensures err { IfErr result (λ e. RefusedFor (FirstBad (method_strings (line.Filter (quoted_of expr.now) (option_map quoted_of label.now)))) e) }
-{
-    let expr = strings::expression(alloc, expr)?;
-    let label = strings::maybe_label(alloc, label)?;
-    let Nodes { node, parent } = nodes;
-    Ok(Statement::Filter {
-        node,
-        parent,
-        expr,
-        label,
-    })
-}
-
 // The name of a Vary of one column: its own, or the column's.
 fn variation(alloc: Global, column: &Name, name: &Option<Quoted<'_>>) -> Result<Name, LineStop>
     ensures ok { IfOk result (λ n. IsNamed column.now (option_map quoted_of name.now) n) }
@@ -138,13 +59,14 @@ fn only(alloc: Global, name: Name) -> Result<ListOf<Name>, LineStop>
 
 fn vary_one(
     alloc: Global,
-    nodes: Nodes,
+    node: Name,
+    parent: Name,
     column: &Quoted<'_>,
     values: &Quoted<'_>,
     tags: &OneOrMore<Quoted<'_>>,
     name: &Option<Quoted<'_>>,
 ) -> Result<Statement, LineStop>
-    ensures ok { IfOk result (λ s. Says (line.Books nodes.node nodes.parent (line.VaryOne (quoted_of column.now) (quoted_of values.now) (strings_of tags.now) (option_map quoted_of name.now))) s) }
+    ensures ok { IfOk result (λ s. Says (line.Books node parent (line.VaryOne (quoted_of column.now) (quoted_of values.now) (strings_of tags.now) (option_map quoted_of name.now))) s) }
     ensures err { IfErr result (λ e. RefusedFor (FirstBad (method_strings (line.VaryOne (quoted_of column.now) (quoted_of values.now) (strings_of tags.now) (option_map quoted_of name.now)))) e) }
 {
     let column = strings::name(alloc, column)?;
@@ -152,7 +74,6 @@ fn vary_one(
     let tags = strings::names(alloc, tags)?;
     let name = variation(alloc, &column, name)?;
     let columns = only(alloc, column)?;
-    let Nodes { node, parent } = nodes;
     Ok(Statement::Vary {
         node,
         parent,
@@ -165,20 +86,20 @@ fn vary_one(
 
 fn vary_all(
     alloc: Global,
-    nodes: Nodes,
+    node: Name,
+    parent: Name,
     columns: &OneOrMore<Quoted<'_>>,
     values: &Quoted<'_>,
     tags: &OneOrMore<Quoted<'_>>,
     name: &Quoted<'_>,
 ) -> Result<Statement, LineStop>
-    ensures ok { IfOk result (λ s. Says (line.Books nodes.node nodes.parent (line.VaryAll (strings_of columns.now) (quoted_of values.now) (strings_of tags.now) (quoted_of name.now))) s) }
+    ensures ok { IfOk result (λ s. Says (line.Books node parent (line.VaryAll (strings_of columns.now) (quoted_of values.now) (strings_of tags.now) (quoted_of name.now))) s) }
     ensures err { IfErr result (λ e. RefusedFor (FirstBad (method_strings (line.VaryAll (strings_of columns.now) (quoted_of values.now) (strings_of tags.now) (quoted_of name.now)))) e) }
 {
     let columns = strings::names(alloc, columns)?;
     let values = strings::values(alloc, values)?;
     let tags = strings::names(alloc, tags)?;
     let name = strings::name(alloc, name)?;
-    let Nodes { node, parent } = nodes;
     Ok(Statement::Vary {
         node,
         parent,
@@ -260,11 +181,11 @@ fn action_kind(alloc: Global, action: &Action<'_>) -> Result<ActionKind, LineSto
 {
     match action {
         Action::Count => Ok(ActionKind::Count),
-        Action::Sum { column } => Ok(ActionKind::Sum(strings::name(alloc, column)?)),
-        Action::Min { column } => Ok(ActionKind::Min(strings::name(alloc, column)?)),
-        Action::Max { column } => Ok(ActionKind::Max(strings::name(alloc, column)?)),
-        Action::Take { column } => Ok(ActionKind::Take(strings::name(alloc, column)?)),
-        Action::Reduce { operation, column } => reduce(alloc, operation, column),
+        Action::Sum(column) => Ok(ActionKind::Sum(strings::name(alloc, column)?)),
+        Action::Min(column) => Ok(ActionKind::Min(strings::name(alloc, column)?)),
+        Action::Max(column) => Ok(ActionKind::Max(strings::name(alloc, column)?)),
+        Action::Take(column) => Ok(ActionKind::Take(strings::name(alloc, column)?)),
+        Action::Reduce(operation, column) => reduce(alloc, operation, column),
         Action::Histo1D { x_edges, x, weight } => histo1d(alloc, x_edges, x, weight),
         Action::Histo2D {
             x_edges,
@@ -276,46 +197,79 @@ fn action_kind(alloc: Global, action: &Action<'_>) -> Result<ActionKind, LineSto
     }
 }
 
-fn booked_action(alloc: Global, nodes: Nodes, action: &Action<'_>) -> Result<Statement, LineStop>
-    ensures ok { IfOk result (λ s. Says (line.Books nodes.node nodes.parent (action_of action.now)) s) }
-    ensures err { IfErr result (λ e. RefusedFor (FirstBad (method_strings (action_of action.now))) e) }
-{
-    let kind = action_kind(alloc, action)?;
-    let Nodes { node, parent } = nodes;
-    Ok(Statement::Action {
-        result: node,
-        parent,
-        kind,
-    })
-}
-
 // What is booked on the parent.
-fn booking(alloc: Global, nodes: Nodes, method: &Method<'_>) -> Result<Statement, LineStop>
-    ensures ok { IfOk result (λ s. Says (line.Books nodes.node nodes.parent (method_of method.now)) s) }
+fn booking(
+    alloc: Global,
+    node: Name,
+    parent: Name,
+    method: &Method<'_>,
+) -> Result<Statement, LineStop>
+    ensures ok { IfOk result (λ s. Says (line.Books node parent (method_of method.now)) s) }
     ensures err { IfErr result (λ e. RefusedFor (FirstBad (method_strings (method_of method.now))) e) }
 {
     match method {
-        Method::Define { column, expr } => define(alloc, nodes, column, expr),
-        Method::Redefine { column, expr } => redefine(alloc, nodes, column, expr),
-        Method::Alias { column, target } => alias(alloc, nodes, column, target),
-        Method::Filter { expr, label } => filter(alloc, nodes, expr, label),
+        Method::Define { column, expr } => {
+            let (column, expr) = definition(alloc, column, expr)?;
+            Ok(Statement::Define {
+                node,
+                parent,
+                column,
+                expr,
+            })
+        }
+        Method::Redefine { column, expr } => {
+            let (column, expr) = definition(alloc, column, expr)?;
+            Ok(Statement::Redefine {
+                node,
+                parent,
+                column,
+                expr,
+            })
+        }
+        Method::Alias { column, target } => {
+            let column = strings::name(alloc, column)?;
+            let target = strings::name(alloc, target)?;
+            Ok(Statement::Alias {
+                node,
+                parent,
+                column,
+                target,
+            })
+        }
+        Method::Filter { expr, label } => {
+            let expr = strings::expression(alloc, expr)?;
+            let label = strings::maybe_label(alloc, label)?;
+            Ok(Statement::Filter {
+                node,
+                parent,
+                expr,
+                label,
+            })
+        }
         Method::VaryOne {
             column,
             values,
             tags,
             name,
-        } => vary_one(alloc, nodes, column, values, tags, name),
+        } => vary_one(alloc, node, parent, column, values, tags, name),
         Method::VaryAll {
             columns,
             values,
             tags,
             name,
-        } => vary_all(alloc, nodes, columns, values, tags, name),
+        } => vary_all(alloc, node, parent, columns, values, tags, name),
         Method::Report => Ok(Statement::Report {
-            result: nodes.node,
-            parent: nodes.parent,
+            result: node,
+            parent,
         }),
-        Method::Action(action) => booked_action(alloc, nodes, action),
+        Method::Action(action) => {
+            let kind = action_kind(alloc, action)?;
+            Ok(Statement::Action {
+                result: node,
+                parent,
+                kind,
+            })
+        }
     }
 }
 
@@ -332,15 +286,15 @@ pub(crate) fn read_statement(alloc: Global, form: &Form<'_>) -> Result<Statement
         } => {
             let node = name_of(alloc, name)?;
             let parent = name_of(alloc, parent)?;
-            booking(alloc, Nodes { node, parent }, method)
+            booking(alloc, node, parent, method)
         }
-        Form::Print { result: name } => Ok(Statement::Print {
+        Form::Print(name) => Ok(Statement::Print {
             result: name_of(alloc, name)?,
         }),
-        Form::VariationsFor { result: name } => Ok(Statement::VariationsFor {
+        Form::VariationsFor(name) => Ok(Statement::VariationsFor {
             result: name_of(alloc, name)?,
         }),
-        Form::Watch { result: name } => Ok(Statement::Watch {
+        Form::Watch(name) => Ok(Statement::Watch {
             result: name_of(alloc, name)?,
         }),
     }

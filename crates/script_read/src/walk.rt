@@ -25,11 +25,11 @@ fn asked<'a>(word: &[u8], name: Word<'a>) -> Form<'a>
     ensures { form_of result ≡ asked_form word.now name.entry.bytes.now }
 {
     if word == b"Print".as_slice() {
-        Form::Print { result: name }
+        Form::Print(name)
     } else if word == b"VariationsFor".as_slice() {
-        Form::VariationsFor { result: name }
+        Form::VariationsFor(name)
     } else {
-        Form::Watch { result: name }
+        Form::Watch(name)
     }
 }
 

@@ -1,5 +1,5 @@
+use Rattle.rdf_values.specs.Statements as st
 use Rattle.script_read.proofs.FirstBads.{handed_on, refused_here, refused_later, good_name}
-use Rattle.script_read.proofs.Said.{is_histo1d}
 use Rattle.script_read.proofs.statement.histo1d.Goals as goal
 
 pub returns-in_err-x-clause-err : goal.returns-in_err-x-clause-err
@@ -10,4 +10,4 @@ returns-in_err-weight-clause-err c =
     handed_on _ _ _ c.from_residual-in_err-weight.ensures.1 (refused_later _ _ _ (good_name _ _ c.in_ok-x.ensures.ok) c.in_err-weight.ensures.err)
 
 pub returns-clause-ok : goal.returns-clause-ok
-returns-clause-ok c = is_histo1d _ _ _ _ _ _ c.in_ok-x_edges.ensures.ok c.in_ok-x.ensures.ok c.in_ok-weight.ensures.ok
+returns-clause-ok c = rw c.in_ok-x_edges.ensures.ok (st.histo1d c.in_ok-x.ensures.ok c.in_ok-weight.ensures.ok)

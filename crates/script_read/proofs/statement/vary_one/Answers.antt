@@ -26,4 +26,4 @@ returns-in_err-name-clause-err c =
 
 pub returns-clause-ok : goal.returns-clause-ok
 returns-clause-ok c =
-    says_vary _ _ _ _ _ _ _ _ _ _ _ c.in_ok-column.ensures.ok c.in_ok-values.ensures.ok c.in_ok-tags.ensures.ok c.in_ok-name.ensures.ok c.in_ok-columns.ensures.ok
+    rw c.in_ok-columns.ensures.ok (says_vary _ _ _ _ _ _ _ _ _ _ c.in_ok-column.ensures.ok c.in_ok-values.ensures.ok c.in_ok-tags.ensures.ok c.in_ok-name.ensures.ok)

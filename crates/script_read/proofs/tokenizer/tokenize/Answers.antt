@@ -1,5 +1,5 @@
-use Rattle.std.proofs.Common.{◌≡◌, ◌∙◌, ◌∷◌, ◌++◌, [], map, sym, refl, arith}
-use Rattle.std.proofs.lemmas.List.{drop_more, map-append}
+use Rattle.std.proofs.Common.{◌≡◌, ◌∙◌, ◌∷◌, ◌++◌, [], map, refl, arith}
+use Rattle.std.proofs.lemmas.List.{map-append}
 use Rattle.std.proofs.lemmas.Grind.{common_steps}
 use Rattle.rdf_values.specs.{at_byte, Bad, Blank}
 use Rattle.script_read.specs.{placed_of}
@@ -8,35 +8,24 @@ use Rattle.script_read.proofs.tokenizer.tokenize.Goals as goal
 use Rattle.script_read.proofs.tokenizer.tokenize.Goals.{else-loop-place-test, then-loop-place-test+in-Comment}
 
 pub loop-place-preserved-in-Blank : goal.loop-place-preserved-in-Blank
-loop-place-preserved-in-Blank c =
-    let here = c.in-Blank.ensures _ _ (drop_more c.args.line.now c.loop-place.place 0 (omega arith)) in
-    record {
-      same = c.loop-place.invariant.same ∙ at_place _ c.args.line.now c.loop-place.place Blank (omega arith) (sym here);
-      within = omega arith;
-    }
+loop-place-preserved-in-Blank c = record {
+  same = c.loop-place.invariant.same ∙ at_place _ c.args.line.now c.loop-place.place Blank (omega arith) c.in-Blank.ensures;
+  within = omega arith;
+}
 
 pub returns-in-Bad-clause-err : goal.returns-in-Bad-clause-err
-returns-in-Bad-clause-err c =
-    let here = c.in-Bad.ensures _ _ (drop_more c.args.line.now c.loop-place.place 0 (omega arith)) in
-    at_byte (c.loop-place.invariant.same ∙ at_place _ c.args.line.now c.loop-place.place Bad (omega arith) (sym here))
+returns-in-Bad-clause-err c = at_byte (c.loop-place.invariant.same ∙ at_place _ c.args.line.now c.loop-place.place Bad (omega arith) c.in-Bad.ensures)
 
 pub overflow_add-place-in-Found : goal.overflow_add-place-in-Found
-overflow_add-place-in-Found c =
-    let here = c.in-Found.ensures _ _ (drop_more c.args.line.now c.loop-place.place 0 (omega arith)) in
-    let size = token_within c.args.line.now c.loop-place.place _ _ (omega arith) (sym here) in
-    omega arith
+overflow_add-place-in-Found c = omega (arith, token_within c.args.line.now c.loop-place.place _ _ (omega arith) c.in-Found.ensures)
 
 pub overflow_add-place-in-Found-2 : goal.overflow_add-place-in-Found-2
-overflow_add-place-in-Found-2 c =
-    let here = c.in-Found.ensures _ _ (drop_more c.args.line.now c.loop-place.place 0 (omega arith)) in
-    let size = token_within c.args.line.now c.loop-place.place _ _ (omega arith) (sym here) in
-    omega arith
+overflow_add-place-in-Found-2 c = omega (arith, token_within c.args.line.now c.loop-place.place _ _ (omega arith) c.in-Found.ensures)
 
 pub loop-place-preserved : goal.loop-place-preserved
 loop-place-preserved c =
-    let here = c.in-Found.ensures _ _ (drop_more c.args.line.now c.loop-place.place 0 (omega arith)) in
-    let size = token_within c.args.line.now c.loop-place.place _ _ (omega arith) (sym here) in
-    let one = step_token (map placed_of c.loop-place.found.items) c.args.line.now c.loop-place.place _ _ (omega arith) (sym here) in
+    let size = token_within c.args.line.now c.loop-place.place _ _ (omega arith) c.in-Found.ensures in
+    let one = step_token (map placed_of c.loop-place.found.items) c.args.line.now c.loop-place.place _ _ (omega arith) c.in-Found.ensures in
     let pushed : c.push.new.self.items ≡ c.loop-place.found.items ++ record { token = c.in-Found.token; place = c.loop-place.place } ∷ [] = grind (arith, common_steps) in
     record {
       same = c.loop-place.invariant.same ∙ one ∙ rw (pushed, map-append) refl;
@@ -46,7 +35,5 @@ loop-place-preserved c =
 pub returns-clause-ok : goal.returns-clause-ok
 returns-clause-ok c = elim c.loop-place-test.branch [
   | else-loop-place-test w ↦ c.loop-place.invariant.same ∙ at_end _ c.args.line.now c.loop-place.place (omega arith)
-  | then-loop-place-test+in-Comment w ↦
-      let here = w.in-Comment.ensures _ _ (drop_more c.args.line.now c.loop-place.place 0 (omega arith)) in
-      c.loop-place.invariant.same ∙ step_comment _ c.args.line.now c.loop-place.place (omega arith) (sym here)
+  | then-loop-place-test+in-Comment w ↦ c.loop-place.invariant.same ∙ step_comment _ c.args.line.now c.loop-place.place (omega arith) w.in-Comment.ensures
 ]

@@ -1,6 +1,6 @@
 use Rattle.std.proofs.Common.{◌∙◌, ap, sym}
 use Rattle.script_read.specs.{AWord, token_of}
-use Rattle.script_read.proofs.Walked.{took_seen, is_name_next, no_name, not_free, stuck_empty, stuck_token}
+use Rattle.script_read.proofs.Walked.{took_seen, is_name_next, no_word, not_free, stuck_empty, stuck_token}
 use Rattle.script_read.proofs.walk.Walk.name.Goals.{in_default-via-in-Word+else-is_free, in_default-via-in_default}
 use Rattle.script_read.proofs.walk.Walk.name.Goals as goal
 
@@ -12,4 +12,4 @@ returns-in-Word-clause-took c = took_seen AWord (ap token_of c.in-Word.is) c.in_
 
 pub returns-in_default-clause-stuck : goal.returns-in_default-clause-stuck
 returns-in_default-clause-stuck c _ =
-    elim c.in_default.branch [ in_default-via-in-Word+else-is_free w ↦ stuck_token AWord _ c.in_ok-word.ensures.sees (not_free _ _ w.in-Word.is (sym w.if-is_free.false ∙ w.is_free.ensures)) | in_default-via-in_default w ↦ stuck_token AWord _ c.in_ok-word.ensures.sees (no_name _ w.in_default.not-Word) ]
+    elim c.in_default.branch [ in_default-via-in-Word+else-is_free w ↦ stuck_token AWord _ c.in_ok-word.ensures.sees (not_free _ _ w.in-Word.is (sym w.if-is_free.false ∙ w.is_free.ensures)) | in_default-via-in_default w ↦ stuck_token AWord _ c.in_ok-word.ensures.sees (no_word _ w.in_default.not-Word).0 ]

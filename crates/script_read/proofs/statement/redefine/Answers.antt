@@ -1,5 +1,0 @@
-use Rattle.rdf_values.specs.Statements as st
-use Rattle.script_read.proofs.statement.redefine.Goals as goal
-
-pub returns-clause-ok : goal.returns-clause-ok
-returns-clause-ok c = st.redefine c.in_ok-column.ensures.ok.0 c.in_ok-column.ensures.ok.1
