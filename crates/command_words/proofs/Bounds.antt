@@ -1,5 +1,5 @@
 -- The numbers of a command are within their limits.
-use Rattle.std.proofs.Common.{◌≡◌, ◌≤◌, ℕ, ℤ, pos, negsuc, Bool, true, false, ◌&&◌, leb, List, Option, None, Some, if◌then◌else◌, refl, arith, subst}
+use Rattle.std.proofs.Common.{◌≡◌, ◌≤◌, ℕ, ℤ, pos, Bool, true, false, ◌&&◌, leb, List, Option, None, Some, if◌then◌else◌, refl, arith, subst}
 use Rattle.rdf_values.specs.{integer_of}
 use Rattle.clap.specs.Words.{Row, Text, matches_of}
 use Rattle.command_words.specs.{AreWithinLimits, asked_by, asked_in, asked_of, Command, Friend, generated_by, Input, input_from, input_of, input_with, is_taken, IsWithin, number_of, rdf_command, setting_of, within}
@@ -8,15 +8,13 @@ use Rattle.command_words.specs.{AreWithinLimits, asked_by, asked_in, asked_of, C
 abbrev Is : ℕ → ℕ → Option ℕ → Type 0
 Is least most o = (n : ℕ) → o ≡ Some n → (least ≤ n) × (n ≤ most)
 
-if_within : (least most n m : ℕ) (low high : Bool) → leb least n ≡ low → leb n most ≡ high → (if low && high then Some n else None) ≡ Some m → (least ≤ m) × (m ≤ most)
+pub if_within : (least most n m : ℕ) (low high : Bool) → leb least n ≡ low → leb n most ≡ high → (if low && high then Some n else None) ≡ Some m → (least ≤ m) × (m ≤ most)
 if_within least most n m true true l h e = grind arith
-if_within least most n m true false l h e = absurd (cc e)
-if_within least most n m false high l h e = absurd (cc e)
+if_within least most n m low high l h e = absurd (cc e)
 
 is_within : (least most : ℕ) (o : Option ℤ) → Is least most (within least most o)
-is_within least most None = λ n e. absurd (cc e)
-is_within least most (Some (negsuc k)) = λ n e. absurd (cc e)
 is_within least most (Some (pos k)) = λ n e. if_within least most k n (leb least k) (leb k most) refl refl e
+is_within least most o = λ n e. absurd (cc e)
 
 is_number : (least most : ℕ) (text : Text) → Is least most (number_of least most text)
 unfolding number_of
@@ -34,9 +32,8 @@ some_is : {A : Type 0} (x y : A) → Some x ≡ Some y → x ≡ y
 some_is x y e = cc e
 
 generated_fits : (entries seed : Option ℕ) → Is 1 1000000 entries → Is 0 4294967295 seed → Fits (generated_by entries seed)
-generated_fits None seed e s = λ i h. absurd (cc h)
-generated_fits (Some entries) None e s = λ i h. absurd (cc h)
 generated_fits (Some entries) (Some seed) e s = λ i h. subst IsWithin (some_is _ _ h) (let a = e entries refl in let b = s seed refl in (a.0, a.1, b.1))
+generated_fits entries seed e s = λ i h. absurd (cc h)
 
 input_fits : (is_made : Bool) (first second : Option Text) (friend : Option Friend) → Fits (input_from is_made first second friend)
 input_fits is_made None second friend = λ i h. absurd (cc h)
@@ -55,12 +52,9 @@ input_of_fits rows = with_fits _ _ _ _
 
 asked_by_fits : (slots cluster watch : Option ℕ) (input : Option Input) → Is 1 16 slots → Is 1 1000000 cluster → Is 1 1000000 watch → Fits input
     → (c : Command) → asked_by slots cluster watch input ≡ Some c → AreWithinLimits c
-asked_by_fits None cluster watch input s k w i c e = absurd (cc e)
-asked_by_fits (Some slots) None watch input s k w i c e = absurd (cc e)
-asked_by_fits (Some slots) (Some cluster) None input s k w i c e = absurd (cc e)
-asked_by_fits (Some slots) (Some cluster) (Some watch) None s k w i c e = absurd (cc e)
 asked_by_fits (Some slots) (Some cluster) (Some watch) (Some input) s k w i c e =
     subst AreWithinLimits (some_is _ _ e) (record { slots = s slots refl; cluster = k cluster refl; watch = w watch refl; input = i input refl })
+asked_by_fits slots cluster watch input s k w i c e = absurd (cc e)
 
 asked_in_fits : (rows : List Row) (c : Command) → asked_in rows ≡ Some c → AreWithinLimits c
 unfolding asked_in

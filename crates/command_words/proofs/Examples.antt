@@ -1,206 +1,92 @@
 -- What some words ask for, computed.
-use Rattle.std.proofs.Common.{◌≡◌, [], ◌∷◌, Option, None, Some, refl, codes, ℕ, ℤ, pos, negsuc}
+use Prim.Native.String.{String}
+use Rattle.std.proofs.Common.{List, [], ◌∷◌, Option, None, Some, refl, codes, map, ℕ, ℤ, pos, negsuc}
 use Rattle.clap.specs.Words.{fault_of}
 use Rattle.clap.specs.declared.error.kind.ErrorKind.TheVariants as kind
 use Rattle.clap.proofs.OnLiterals.{clap_on_literals}
 use Rattle.rdf_values.specs.{integer_of, is_name, magnitude_of}
+use Rattle.rdf_values.proofs.Examples.{AreDue}
 use Rattle.command_words.specs.{asked_in, asked_of, Command, Input, input_of, is_taken, number_of, rdf_command}
 use Rattle.command_words.specs.declared.command.Input.TheVariants.{Files, Generated}
+
+-- an example: what some words give, and what is due; the first argument says what it shows
+abbrev shown : {A : Type 0} → String → (List (List ℕ) → A) → List String → A → A × A
+shown what gives words due = (gives (map (λ w. codes w) words), due)
 
 abbrev asks : ℕ → ℕ → ℕ → Input → Option Command
 asks slots cluster watch input = Some (record { slots = slots; cluster = cluster; watch = watch; input = input })
 
-two_words : asked_of (codes "s.txt" ∷ codes "a.csv" ∷ []) ≡ asks 1 10000 1 (Files (codes "s.txt") (codes "a.csv") None)
+words_ask : AreDue (
+    shown "two words" asked_of ("s.txt" ∷ "a.csv" ∷ []) (asks 1 10000 1 (Files (codes "s.txt") (codes "a.csv") None))
+    ∷ shown "slots with an equals sign" asked_of ("s.txt" ∷ "--slots=3" ∷ "a.csv" ∷ []) (asks 3 10000 1 (Files (codes "s.txt") (codes "a.csv") None))
+    ∷ shown "all at their limits" asked_of ("--slots" ∷ "16" ∷ "--cluster" ∷ "1000000" ∷ "s.txt" ∷ "a.csv" ∷ "--watch=1000000" ∷ [])
+    (asks 16 1000000 1000000 (Files (codes "s.txt") (codes "a.csv") None))
+    ∷ shown "generated" asked_of ("--make" ∷ "200000" ∷ "7" ∷ "--slots" ∷ "8" ∷ []) (asks 8 10000 1 (Generated 200000 7))
+    ∷ shown "generated at the limits" asked_of ("1000000" ∷ "--make" ∷ "4294967295" ∷ []) (asks 1 10000 1 (Generated 1000000 4294967295))
+    ∷ [])
 unfolding asked_of asked_in input_of number_of rdf_command is_taken integer_of magnitude_of clap_on_literals
-two_words = refl
+words_ask = refl
 
-slots_with_an_equals_sign : asked_of (codes "s.txt" ∷ codes "--slots=3" ∷ codes "a.csv" ∷ []) ≡ asks 3 10000 1 (Files (codes "s.txt") (codes "a.csv") None)
+words_ask_nothing : AreDue (
+    shown "slots of 17" asked_of ("s.txt" ∷ "a.csv" ∷ "--slots" ∷ "17" ∷ []) None
+    ∷ shown "slots of zero" asked_of ("s.txt" ∷ "a.csv" ∷ "--slots" ∷ "0" ∷ []) None
+    ∷ shown "cluster too large" asked_of ("s.txt" ∷ "a.csv" ∷ "--cluster" ∷ "1000001" ∷ []) None
+    ∷ shown "watch of zero" asked_of ("s.txt" ∷ "a.csv" ∷ "--watch=0" ∷ []) None
+    ∷ shown "leading zero" asked_of ("s.txt" ∷ "a.csv" ∷ "--slots" ∷ "02" ∷ []) None
+    ∷ shown "plus sign" asked_of ("s.txt" ∷ "a.csv" ∷ "--slots" ∷ "+2" ∷ []) None
+    ∷ shown "empty number" asked_of ("s.txt" ∷ "a.csv" ∷ "--slots=" ∷ []) None
+    ∷ shown "no entries" asked_of ("0" ∷ "7" ∷ "--make" ∷ []) None
+    ∷ shown "too many entries" asked_of ("1000001" ∷ "7" ∷ "--make" ∷ []) None
+    ∷ shown "seed too large" asked_of ("1" ∷ "4294967296" ∷ "--make" ∷ []) None
+    ∷ shown "names for numbers" asked_of ("s.txt" ∷ "a.csv" ∷ "--make" ∷ []) None
+    ∷ shown "one name" asked_of ("s.txt" ∷ []) None
+    ∷ [])
 unfolding asked_of asked_in input_of number_of rdf_command is_taken integer_of magnitude_of clap_on_literals
-slots_with_an_equals_sign = refl
-
-all_at_their_limits : asked_of (codes "--slots" ∷ codes "16" ∷ codes "--cluster" ∷ codes "1000000" ∷ codes "s.txt" ∷ codes "a.csv" ∷ codes "--watch=1000000" ∷ []) ≡ asks 16 1000000 1000000 (Files (codes "s.txt") (codes "a.csv") None)
-unfolding asked_of asked_in input_of number_of rdf_command is_taken integer_of magnitude_of clap_on_literals
-all_at_their_limits = refl
-
-generated : asked_of (codes "--make" ∷ codes "200000" ∷ codes "7" ∷ codes "--slots" ∷ codes "8" ∷ []) ≡ asks 8 10000 1 (Generated 200000 7)
-unfolding asked_of asked_in input_of number_of rdf_command is_taken integer_of magnitude_of clap_on_literals
-generated = refl
-
-generated_at_the_limits : asked_of (codes "1000000" ∷ codes "--make" ∷ codes "4294967295" ∷ []) ≡ asks 1 10000 1 (Generated 1000000 4294967295)
-unfolding asked_of asked_in input_of number_of rdf_command is_taken integer_of magnitude_of clap_on_literals
-generated_at_the_limits = refl
-
-slots_of_17 : asked_of (codes "s.txt" ∷ codes "a.csv" ∷ codes "--slots" ∷ codes "17" ∷ []) ≡ None
-unfolding asked_of asked_in input_of number_of rdf_command is_taken integer_of magnitude_of clap_on_literals
-slots_of_17 = refl
-
-slots_of_zero : asked_of (codes "s.txt" ∷ codes "a.csv" ∷ codes "--slots" ∷ codes "0" ∷ []) ≡ None
-unfolding asked_of asked_in input_of number_of rdf_command is_taken integer_of magnitude_of clap_on_literals
-slots_of_zero = refl
-
-cluster_too_large : asked_of (codes "s.txt" ∷ codes "a.csv" ∷ codes "--cluster" ∷ codes "1000001" ∷ []) ≡ None
-unfolding asked_of asked_in input_of number_of rdf_command is_taken integer_of magnitude_of clap_on_literals
-cluster_too_large = refl
-
-watch_of_zero : asked_of (codes "s.txt" ∷ codes "a.csv" ∷ codes "--watch=0" ∷ []) ≡ None
-unfolding asked_of asked_in input_of number_of rdf_command is_taken integer_of magnitude_of clap_on_literals
-watch_of_zero = refl
-
-leading_zero : asked_of (codes "s.txt" ∷ codes "a.csv" ∷ codes "--slots" ∷ codes "02" ∷ []) ≡ None
-unfolding asked_of asked_in input_of number_of rdf_command is_taken integer_of magnitude_of clap_on_literals
-leading_zero = refl
-
-plus_sign : asked_of (codes "s.txt" ∷ codes "a.csv" ∷ codes "--slots" ∷ codes "+2" ∷ []) ≡ None
-unfolding asked_of asked_in input_of number_of rdf_command is_taken integer_of magnitude_of clap_on_literals
-plus_sign = refl
-
-empty_number : asked_of (codes "s.txt" ∷ codes "a.csv" ∷ codes "--slots=" ∷ []) ≡ None
-unfolding asked_of asked_in input_of number_of rdf_command is_taken integer_of magnitude_of clap_on_literals
-empty_number = refl
-
-no_entries : asked_of (codes "0" ∷ codes "7" ∷ codes "--make" ∷ []) ≡ None
-unfolding asked_of asked_in input_of number_of rdf_command is_taken integer_of magnitude_of clap_on_literals
-no_entries = refl
-
-too_many_entries : asked_of (codes "1000001" ∷ codes "7" ∷ codes "--make" ∷ []) ≡ None
-unfolding asked_of asked_in input_of number_of rdf_command is_taken integer_of magnitude_of clap_on_literals
-too_many_entries = refl
-
-seed_too_large : asked_of (codes "1" ∷ codes "4294967296" ∷ codes "--make" ∷ []) ≡ None
-unfolding asked_of asked_in input_of number_of rdf_command is_taken integer_of magnitude_of clap_on_literals
-seed_too_large = refl
-
-names_for_numbers : asked_of (codes "s.txt" ∷ codes "a.csv" ∷ codes "--make" ∷ []) ≡ None
-unfolding asked_of asked_in input_of number_of rdf_command is_taken integer_of magnitude_of clap_on_literals
-names_for_numbers = refl
-
-one_name : asked_of (codes "s.txt" ∷ []) ≡ None
-unfolding asked_of asked_in input_of number_of rdf_command is_taken integer_of magnitude_of clap_on_literals
-one_name = refl
+words_ask_nothing = refl
 
 -- ---- a friend's words
 
 abbrev asks_friend : ℤ → Option Command
 asks_friend missing = asks 1 10000 1 (Files (codes "s.txt") (codes "a.csv") (Some (record { file = codes "f.csv"; key = codes "pt"; missing = missing })))
 
-friend_with_its_key : asked_of (codes "s.txt" ∷ codes "a.csv" ∷ codes "--friend" ∷ codes "f.csv" ∷ codes "--key" ∷ codes "pt" ∷ []) ≡ asks_friend (pos 0)
+words_ask_for_a_friend : AreDue (
+    shown "friend with its key" asked_of ("s.txt" ∷ "a.csv" ∷ "--friend" ∷ "f.csv" ∷ "--key" ∷ "pt" ∷ []) (asks_friend (pos 0))
+    ∷ shown "what is missing" asked_of ("--missing" ∷ "7" ∷ "s.txt" ∷ "--key=pt" ∷ "a.csv" ∷ "--friend=f.csv" ∷ []) (asks_friend (pos 7))
+    ∷ shown "what is missing below zero" asked_of ("s.txt" ∷ "a.csv" ∷ "--friend" ∷ "f.csv" ∷ "--key" ∷ "pt" ∷ "--missing=-1" ∷ []) (asks_friend (negsuc 0))
+    ∷ shown "friend without a key" asked_of ("s.txt" ∷ "a.csv" ∷ "--friend" ∷ "f.csv" ∷ []) None
+    ∷ shown "key without a friend" asked_of ("s.txt" ∷ "a.csv" ∷ "--key" ∷ "pt" ∷ []) None
+    ∷ shown "number without a friend" asked_of ("s.txt" ∷ "a.csv" ∷ "--missing" ∷ "0" ∷ []) None
+    ∷ shown "key that is no name" asked_of ("s.txt" ∷ "a.csv" ∷ "--friend" ∷ "f.csv" ∷ "--key" ∷ "1pt" ∷ []) None
+    ∷ shown "key that is a truth value" asked_of ("s.txt" ∷ "a.csv" ∷ "--friend" ∷ "f.csv" ∷ "--key" ∷ "true" ∷ []) None
+    ∷ shown "number with a leading zero" asked_of ("s.txt" ∷ "a.csv" ∷ "--friend" ∷ "f.csv" ∷ "--key" ∷ "pt" ∷ "--missing" ∷ "00" ∷ []) None
+    ∷ shown "number of 65 bits" asked_of ("s.txt" ∷ "a.csv" ∷ "--friend" ∷ "f.csv" ∷ "--key" ∷ "pt" ∷ "--missing" ∷ "9223372036854775808" ∷ []) None
+    ∷ shown "friend of the generator" asked_of ("1" ∷ "7" ∷ "--make" ∷ "--friend" ∷ "f.csv" ∷ "--key" ∷ "pt" ∷ []) None
+    ∷ [])
 unfolding asked_of asked_in input_of number_of rdf_command is_taken integer_of magnitude_of is_name clap_on_literals
-friend_with_its_key = refl
-
-what_is_missing : asked_of (codes "--missing" ∷ codes "7" ∷ codes "s.txt" ∷ codes "--key=pt" ∷ codes "a.csv" ∷ codes "--friend=f.csv" ∷ []) ≡ asks_friend (pos 7)
-unfolding asked_of asked_in input_of number_of rdf_command is_taken integer_of magnitude_of is_name clap_on_literals
-what_is_missing = refl
-
-what_is_missing_below_zero : asked_of (codes "s.txt" ∷ codes "a.csv" ∷ codes "--friend" ∷ codes "f.csv" ∷ codes "--key" ∷ codes "pt" ∷ codes "--missing=-1" ∷ []) ≡ asks_friend (negsuc 0)
-unfolding asked_of asked_in input_of number_of rdf_command is_taken integer_of magnitude_of is_name clap_on_literals
-what_is_missing_below_zero = refl
-
-friend_without_a_key : asked_of (codes "s.txt" ∷ codes "a.csv" ∷ codes "--friend" ∷ codes "f.csv" ∷ []) ≡ None
-unfolding asked_of asked_in input_of number_of rdf_command is_taken integer_of magnitude_of is_name clap_on_literals
-friend_without_a_key = refl
-
-key_without_a_friend : asked_of (codes "s.txt" ∷ codes "a.csv" ∷ codes "--key" ∷ codes "pt" ∷ []) ≡ None
-unfolding asked_of asked_in input_of number_of rdf_command is_taken integer_of magnitude_of is_name clap_on_literals
-key_without_a_friend = refl
-
-number_without_a_friend : asked_of (codes "s.txt" ∷ codes "a.csv" ∷ codes "--missing" ∷ codes "0" ∷ []) ≡ None
-unfolding asked_of asked_in input_of number_of rdf_command is_taken integer_of magnitude_of is_name clap_on_literals
-number_without_a_friend = refl
-
-key_that_is_no_name : asked_of (codes "s.txt" ∷ codes "a.csv" ∷ codes "--friend" ∷ codes "f.csv" ∷ codes "--key" ∷ codes "1pt" ∷ []) ≡ None
-unfolding asked_of asked_in input_of number_of rdf_command is_taken integer_of magnitude_of is_name clap_on_literals
-key_that_is_no_name = refl
-
-key_that_is_a_truth_value : asked_of (codes "s.txt" ∷ codes "a.csv" ∷ codes "--friend" ∷ codes "f.csv" ∷ codes "--key" ∷ codes "true" ∷ []) ≡ None
-unfolding asked_of asked_in input_of number_of rdf_command is_taken integer_of magnitude_of is_name clap_on_literals
-key_that_is_a_truth_value = refl
-
-number_with_a_leading_zero : asked_of (codes "s.txt" ∷ codes "a.csv" ∷ codes "--friend" ∷ codes "f.csv" ∷ codes "--key" ∷ codes "pt" ∷ codes "--missing" ∷ codes "00" ∷ []) ≡ None
-unfolding asked_of asked_in input_of number_of rdf_command is_taken integer_of magnitude_of is_name clap_on_literals
-number_with_a_leading_zero = refl
-
-number_of_65_bits : asked_of (codes "s.txt" ∷ codes "a.csv" ∷ codes "--friend" ∷ codes "f.csv" ∷ codes "--key" ∷ codes "pt" ∷ codes "--missing" ∷ codes "9223372036854775808" ∷ []) ≡ None
-unfolding asked_of asked_in input_of number_of rdf_command is_taken integer_of magnitude_of is_name clap_on_literals
-number_of_65_bits = refl
-
-friend_of_the_generator : asked_of (codes "1" ∷ codes "7" ∷ codes "--make" ∷ codes "--friend" ∷ codes "f.csv" ∷ codes "--key" ∷ codes "pt" ∷ []) ≡ None
-unfolding asked_of asked_in input_of number_of rdf_command is_taken integer_of magnitude_of is_name clap_on_literals
-friend_of_the_generator = refl
+words_ask_for_a_friend = refl
 
 -- ---- why some words are not taken
 
-help_word : fault_of rdf_command (codes "s.txt" ∷ codes "a.csv" ∷ codes "--help" ∷ []) ≡ kind.DisplayHelp ∷ []
+words_have_faults : AreDue (
+    shown "help word" (fault_of rdf_command) ("s.txt" ∷ "a.csv" ∷ "--help" ∷ []) (kind.DisplayHelp ∷ [])
+    ∷ shown "dash word" (fault_of rdf_command) ("-s.txt" ∷ "a.csv" ∷ []) (kind.UnknownArgument ∷ [])
+    ∷ shown "again word" (fault_of rdf_command) ("s.txt" ∷ "a.csv" ∷ "--slots" ∷ "2" ∷ "--slots" ∷ "2" ∷ []) (kind.ArgumentConflict ∷ [])
+    ∷ shown "after dashes" (fault_of rdf_command) ("--" ∷ "-s.txt" ∷ "--make" ∷ []) []
+    ∷ shown "one word" (fault_of rdf_command) ("s.txt" ∷ []) (kind.MissingRequiredArgument ∷ [])
+    ∷ shown "no value" (fault_of rdf_command) ("s.txt" ∷ "a.csv" ∷ "--slots" ∷ []) (kind.InvalidValue ∷ [])
+    ∷ shown "dashes as value" (fault_of rdf_command) ("s.txt" ∷ "--slots" ∷ "--" ∷ "2" ∷ []) (kind.InvalidValue ∷ [])
+    ∷ shown "version word" (fault_of rdf_command) ("s.txt" ∷ "a.csv" ∷ "--version" ∷ []) (kind.UnknownArgument ∷ [])
+    ∷ shown "short word" (fault_of rdf_command) ("s.txt" ∷ "a.csv" ∷ "-x" ∷ []) (kind.UnknownArgument ∷ [])
+    ∷ shown "cut word" (fault_of rdf_command) ("s.txt" ∷ "a.csv" ∷ "--slo" ∷ "2" ∷ []) (kind.UnknownArgument ∷ [])
+    ∷ shown "minus two" (fault_of rdf_command) ("s.txt" ∷ "a.csv" ∷ "--slots" ∷ "-2" ∷ []) (kind.UnknownArgument ∷ [])
+    ∷ shown "third word" (fault_of rdf_command) ("s.txt" ∷ "a.csv" ∷ "b.csv" ∷ []) (kind.UnknownArgument ∷ [])
+    ∷ shown "short help" (fault_of rdf_command) ("-h" ∷ []) (kind.DisplayHelp ∷ [])
+    ∷ shown "flag value" (fault_of rdf_command) ("s.txt" ∷ "a.csv" ∷ "--make=true" ∷ []) (kind.TooManyValues ∷ [])
+    ∷ shown "flag again" (fault_of rdf_command) ("1" ∷ "2" ∷ "--make" ∷ "--make" ∷ []) (kind.ArgumentConflict ∷ [])
+    ∷ shown "empty value" (fault_of rdf_command) ("s.txt" ∷ "a.csv" ∷ "--slots=" ∷ []) []
+    ∷ shown "lone dash" (fault_of rdf_command) ("-" ∷ "" ∷ "help" ∷ []) (kind.UnknownArgument ∷ [])
+    ∷ shown "dash and empty" (fault_of rdf_command) ("-" ∷ "" ∷ []) []
+    ∷ shown "help is plain" (fault_of rdf_command) ("s.txt" ∷ "help" ∷ []) []
+    ∷ [])
 unfolding rdf_command clap_on_literals
-help_word = refl
-
-dash_word : fault_of rdf_command (codes "-s.txt" ∷ codes "a.csv" ∷ []) ≡ kind.UnknownArgument ∷ []
-unfolding rdf_command clap_on_literals
-dash_word = refl
-
-again_word : fault_of rdf_command (codes "s.txt" ∷ codes "a.csv" ∷ codes "--slots" ∷ codes "2" ∷ codes "--slots" ∷ codes "2" ∷ []) ≡ kind.ArgumentConflict ∷ []
-unfolding rdf_command clap_on_literals
-again_word = refl
-
-after_dashes : fault_of rdf_command (codes "--" ∷ codes "-s.txt" ∷ codes "--make" ∷ []) ≡ []
-unfolding rdf_command clap_on_literals
-after_dashes = refl
-
-one_word : fault_of rdf_command (codes "s.txt" ∷ []) ≡ kind.MissingRequiredArgument ∷ []
-unfolding rdf_command clap_on_literals
-one_word = refl
-
-no_value : fault_of rdf_command (codes "s.txt" ∷ codes "a.csv" ∷ codes "--slots" ∷ []) ≡ kind.InvalidValue ∷ []
-unfolding rdf_command clap_on_literals
-no_value = refl
-
-dashes_as_value : fault_of rdf_command (codes "s.txt" ∷ codes "--slots" ∷ codes "--" ∷ codes "2" ∷ []) ≡ kind.InvalidValue ∷ []
-unfolding rdf_command clap_on_literals
-dashes_as_value = refl
-
-version_word : fault_of rdf_command (codes "s.txt" ∷ codes "a.csv" ∷ codes "--version" ∷ []) ≡ kind.UnknownArgument ∷ []
-unfolding rdf_command clap_on_literals
-version_word = refl
-
-short_word : fault_of rdf_command (codes "s.txt" ∷ codes "a.csv" ∷ codes "-x" ∷ []) ≡ kind.UnknownArgument ∷ []
-unfolding rdf_command clap_on_literals
-short_word = refl
-
-cut_word : fault_of rdf_command (codes "s.txt" ∷ codes "a.csv" ∷ codes "--slo" ∷ codes "2" ∷ []) ≡ kind.UnknownArgument ∷ []
-unfolding rdf_command clap_on_literals
-cut_word = refl
-
-minus_two : fault_of rdf_command (codes "s.txt" ∷ codes "a.csv" ∷ codes "--slots" ∷ codes "-2" ∷ []) ≡ kind.UnknownArgument ∷ []
-unfolding rdf_command clap_on_literals
-minus_two = refl
-
-third_word : fault_of rdf_command (codes "s.txt" ∷ codes "a.csv" ∷ codes "b.csv" ∷ []) ≡ kind.UnknownArgument ∷ []
-unfolding rdf_command clap_on_literals
-third_word = refl
-
-short_help : fault_of rdf_command (codes "-h" ∷ []) ≡ kind.DisplayHelp ∷ []
-unfolding rdf_command clap_on_literals
-short_help = refl
-
-flag_value : fault_of rdf_command (codes "s.txt" ∷ codes "a.csv" ∷ codes "--make=true" ∷ []) ≡ kind.TooManyValues ∷ []
-unfolding rdf_command clap_on_literals
-flag_value = refl
-
-flag_again : fault_of rdf_command (codes "1" ∷ codes "2" ∷ codes "--make" ∷ codes "--make" ∷ []) ≡ kind.ArgumentConflict ∷ []
-unfolding rdf_command clap_on_literals
-flag_again = refl
-
-empty_value : fault_of rdf_command (codes "s.txt" ∷ codes "a.csv" ∷ codes "--slots=" ∷ []) ≡ []
-unfolding rdf_command clap_on_literals
-empty_value = refl
-
-lone_dash : fault_of rdf_command (codes "-" ∷ [] ∷ codes "help" ∷ []) ≡ kind.UnknownArgument ∷ []
-unfolding rdf_command clap_on_literals
-lone_dash = refl
-
-dash_and_empty : fault_of rdf_command (codes "-" ∷ [] ∷ []) ≡ []
-unfolding rdf_command clap_on_literals
-dash_and_empty = refl
-
-help_is_plain : fault_of rdf_command (codes "s.txt" ∷ codes "help" ∷ []) ≡ []
-unfolding rdf_command clap_on_literals
-help_is_plain = refl
+words_have_faults = refl

@@ -1,5 +1,5 @@
 -- What the command's words ask for.
-use Rattle.std.specs.Prelude.{ℕ, ℤ, pos, negsuc, Bool, true, false, ◌&&◌, leb, List, Option, Some, None, option_map, if◌then◌else◌, codes, bytes_eq}
+use Rattle.std.specs.Prelude.{ℕ, ℤ, pos, Bool, true, false, ◌&&◌, leb, List, Option, Some, None, option_map, if◌then◌else◌, codes, bytes_eq}
 use Rattle.clap.specs.Words.{Row, Text, first_of, matches_of}
 use Rattle.rdf_values.specs.{integer_of, is_name}
 use Rattle.command_words.specs.Arguments.{is_taken, rdf_command}
@@ -9,9 +9,8 @@ use Rattle.command_words.specs.declared.command.Input.{Input}
 use Rattle.command_words.specs.declared.command.Input.TheVariants.{Files, Generated}
 
 abbrev pub within : ℕ → ℕ → Option ℤ → Option ℕ
-within least most None = None
-within least most (Some (negsuc n)) = None
 within least most (Some (pos n)) = if leb least n && leb n most then Some n else None
+within least most o = None
 
 -- the number that the text is canonical for, within the limits
 unfoldable pub number_of : ℕ → ℕ → Text → Option ℕ
@@ -27,9 +26,8 @@ is_set None = false
 is_set (Some text) = bytes_eq text (codes "true")
 
 abbrev pub generated_by : Option ℕ → Option ℕ → Option Input
-generated_by None seed = None
-generated_by (Some entries) None = None
 generated_by (Some entries) (Some seed) = Some (Generated entries seed)
+generated_by entries seed = None
 
 -- ---- the friend
 
@@ -46,10 +44,8 @@ friend_with file key (Some missing) = if is_name key then Some (record { file = 
 -- no friend, or one: the file and the key come together, and the number only with them
 abbrev pub friend_from : Option Text → Option Text → Option Text → Option (Option Friend)
 friend_from None None None = Some None
-friend_from None None (Some number) = None
-friend_from None (Some key) number = None
-friend_from (Some file) None number = None
 friend_from (Some file) (Some key) number = option_map Some (friend_with file key (missing_of number))
+friend_from file key number = None
 
 -- ---- the input
 
@@ -72,12 +68,9 @@ input_of rows =
     (λ friend. input_from (is_set (first_of (codes "make") rows)) (first_of (codes "SCRIPT") rows) (first_of (codes "TABLE") rows) friend)
 
 abbrev pub asked_by : Option ℕ → Option ℕ → Option ℕ → Option Input → Option Command
-asked_by None cluster watch input = None
-asked_by (Some slots) None watch input = None
-asked_by (Some slots) (Some cluster) None input = None
-asked_by (Some slots) (Some cluster) (Some watch) None = None
 asked_by (Some slots) (Some cluster) (Some watch) (Some input) =
     Some (record { slots = slots; cluster = cluster; watch = watch; input = input })
+asked_by slots cluster watch input = None
 
 -- what is asked by the values of the arguments
 unfoldable pub asked_in : List Row → Option Command
