@@ -3,7 +3,7 @@ use Rattle.std.proofs.Common.{◌≡◌, List, [], ◌∷◌, ◌++◌, Option, 
 use Rattle.std.specs.Result.{IsErrAnd}
 use Rattle.rdf_values.specs.{check_list, check_lists, check_target, ColType, expect_kind, first_refusal, FunctionNames, GraphCause, NamedTree, path, refusal_in, refuse_unless, same_kind, Scope, scope_at, Statement}
 use Rattle.graph.specs.{Decides, IsStop, targets_at}
-use Rattle.graph.specs.declared.stop.Stop.{Stop}
+use Rattle.graph.specs.declared.refusals.Stop.{Stop}
 
 pub cause_refused : (k : Result ColType GraphCause) (c : GraphCause) → k ≡ Err c → refusal_in k ≡ Some c
 cause_refused k c h = ap refusal_in h

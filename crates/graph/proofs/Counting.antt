@@ -9,15 +9,13 @@ use Rattle.rdf_values.specs.declared.graph_cause.GraphCause.TheVariants.{TooMany
 use Rattle.graph_numbers.specs.{holds_at, version_at}
 use Rattle.graph.specs.{action_set, any_depends, any_has, AreRows, AreTables, count_below, count_of, depends_at, filter_numbers, front, has, IsAmount, IsBookedRow, IsRow, IsSet, Numbers, printed_rows, result_sets, row_passes, rows_named, site_sets, VarSet}
 use Rattle.graph.specs.declared.amounts.Amounts.{Amounts}
-use Rattle.graph.specs.declared.result_row.ResultRow.{ResultRow}
-use Rattle.graph.proofs.Listing.{zip_both, zip_by}
+use Rattle.graph.specs.declared.tables.ResultRow.{ResultRow}
+use Rattle.graph.proofs.Listing.{zip_both, zip_by, sets_any, row_set}
 use Rattle.std.proofs.lemmas.Bool.Decides.{Decides-ltb}
 use Rattle.rdf_model.proofs.Accepted.{both_none, if_fails}
 use Rattle.graph.specs.declared.tables.Tables.{Tables}
-use Rattle.graph.proofs.ResultSets.{beyond, result_is, result_beyond, action_beyond, filters_are, columns_are}
-use Rattle.graph.proofs.SetTables.{sets_any, row_set}
+use Rattle.graph.proofs.Depending.{beyond, result_is, result_beyond, action_beyond, filters_are, columns_are, tells, tags_count}
 use Rattle.graph.proofs.SiteTotals.{numbers_are}
-use Rattle.graph.proofs.Depending.{tells, tags_count}
 
 pub front_is : (rows xs : List ResultRow) (x : ResultRow) → rows ≡ xs ++ x ∷ [] → front rows ≡ xs
 front_is rows xs x e = ap front e ∙ go xs

@@ -7,7 +7,7 @@ use Rattle.rdf_values.specs.declared.statement.Statement.TheVariants.{Action, Re
 use Rattle.rdf_model.proofs.Accepted.{both_none, if_fails, unless_holds, itself}
 use Rattle.graph_numbers.proofs.Listed.{of_joined}
 use Rattle.graph_numbers.specs.{holds_at, numbered_pass, passes_from, places_from, result_passes}
-use Rattle.graph.specs.declared.result_row.ResultRow.{ResultRow}
+use Rattle.graph.specs.declared.tables.ResultRow.{ResultRow}
 use Rattle.graph.specs.{AreNamedInTurn, AreRowsOf, filled_count, has, IsNamedInTurn, IsRowOf, members_from, passes_of_row, passes_of_rows}
 use Rattle.graph.proofs.Listing.{zip_last}
 use Rattle.graph.proofs.Walking.{same_back}

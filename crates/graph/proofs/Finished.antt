@@ -1,29 +1,85 @@
--- The fields of a finished graph.
-use Rattle.std.proofs.Common.{◌≡◌, inl, inr, ℕ, ◌≤◌, Bool, List, [], ◌∷◌, map, length, reverse, Option, Some, None, option_map, refl, sym, ◌∙◌, ap, subst, arith, slice_get, length-append}
+-- The first line that is refused, the fields of a finished graph, and what they say of its numbers.
+use Rattle.std.proofs.Common.{◌≡◌, ℕ, List, [], ◌∷◌, ◌++◌, map, Option, Some, None, option_map, refl, sym, ◌∙◌, ap, subst, reverse, length, arith, inl, inr, ◌≤◌, Bool, slice_get, length-append, ◌+◌, ◌<◌, option_and_then}
+use Rattle.std.proofs.lemmas.List.{reverse-append, reverse-reverse, length-map}
+use Rattle.lemmas.proofs.{map_next}
+use Rattle.rdf_values.specs.{AreAccepted, check, Column, FunctionNames, GraphCause, history, Line, Scope, scope_of, Script, Statement, verdict, verdict_after, Booked, bookings, is_watched, IsBookable, IsHeader, IsShort, result_depends, variations, named_before}
+use Rattle.rdf_model.proofs.Verdicts.{onto}
+use Rattle.graph.specs.{GraphRefusal, IsRefusal, refused, refused_then, statements, AreAbove, AreLoops, AreNamedInTurn, AreRows as AreCheckRows, AreRowsOf, AreSourcesOf, AreTables, IsBooked, IsRow, IsRowOf, refused_at, result_sets, ResultSetsAreDependence, SiteSetsAreDependence, view_of, filler_of, has, IsSet, IsSite, labels, own_site_sets, paths, result_path, site_set, site_sets, VarSet}
 use Rattle.std.specs.List.{All, AllByRecursion}
-use Rattle.std.proofs.lemmas.List.{length-map, reverse-reverse}
 use Rattle.std.proofs.lemmas.List.Elements.{All-map, recursion_from_All}
 use Rattle.std.proofs.lemmas.List.Sorted.{All-permutation, IsPermutation-reverse}
 use Rattle.std.proofs.lemmas.Option.{slice_get-map}
 use Rattle.std.proofs.lemmas.Slice.Zip.{AllZip-long}
 use Rattle.rdf_values.specs.Answered.{Refuses}
-use Rattle.rdf_values.specs.{AreAccepted, Booked, bookings, Column, FunctionNames, is_watched, IsBookable, IsHeader, IsShort, Line, result_depends, scope_of, Script, Statement, variations, verdict}
 use Rattle.rdf_values.specs.declared.statement.Statement.TheVariants.{Print}
-use Rattle.rdf_model.specs.{Access, accesses, filled_by}
+use Rattle.rdf_model.specs.{Access, accesses, filled_by, loop_of, loop_results}
 use Rattle.graph_numbers.proofs.Resulting.{booked_are}
-use Rattle.graph_numbers.specs.{booked, booked_statements, booked_unless, graph_results, graph_sources, graph_variations, GraphView, holds_at, IsGraph, result_number, ResultAt, Version}
-use Rattle.graph_numbers.proofs.Extending.{versions_count}
-use Rattle.graph.specs.{AreAbove, AreLoops, AreNamedInTurn, AreRows as AreCheckRows, AreRowsOf, AreSourcesOf, AreTables, GraphRefusal, IsBooked, IsRefusal, IsRow, IsRowOf, refused, refused_at, result_sets, ResultSetsAreDependence, SiteSetsAreDependence, statements, view_of}
-use Rattle.graph.specs.declared.result_row.ResultRow.{ResultRow}
+use Rattle.graph_numbers.specs.{booked, booked_statements, booked_unless, graph_results, graph_sources, graph_variations, GraphView, holds_at, IsGraph, result_number, ResultAt, Version, FilterAt, graph_filters, graph_prints, graph_runs, graph_sites, IsSiteExpr, own_sites, result_depends_at, site_depends_at, SiteAt, sites}
+use Rattle.graph_numbers.proofs.Extending.{versions_count, itself}
+use Rattle.graph.specs.declared.tables.ResultRow.{ResultRow}
 use Rattle.graph.specs.declared.tables.Tables.{Tables}
 use Rattle.graph.specs.declared.loops.LoopTables.{LoopTables}
-use Rattle.graph.proofs.Counted.{filters_few, versions_are, sites_fit}
+use Rattle.graph.proofs.SiteTotals.{filters_few, versions_are, sites_fit, filters_are, labels_are, sites_counted}
 use Rattle.graph.proofs.Filled.{all_in_turn}
-use Rattle.graph.proofs.Looped.{bookings_few, loops_few}
-use Rattle.graph.proofs.Listing.{zip_by, zip_map}
-use Rattle.graph.proofs.SetTables.{row_set}
-use Rattle.graph.proofs.Refusing.{history_is, none_refused, verdict_of}
+use Rattle.graph.proofs.Looped.{bookings_few, loops_few, unwrapped}
+use Rattle.graph.proofs.Listing.{zip_by, zip_map, zip_at, row_set, set_at}
 use Rattle.graph.proofs.Sourced.{sources_are, versions_above}
+use Rattle.expr_check.specs.{CheckedExpr}
+use Rattle.graph.specs.declared.tables.ResultPath.{ResultPath}
+
+map_back : {A B : Type 0} (f : A → B) (xs : List A) → map f (reverse xs) ≡ reverse (map f xs)
+map_back f [] = refl
+map_back f (x ∷ xs) = ap (map f) (reverse-append (x ∷ []) xs) ∙ map_next f (reverse xs) x ∙ ap (λ ys. ys ++ f x ∷ []) (map_back f xs) ∙ sym (reverse-append (f x ∷ []) (map f xs))
+
+-- the statements of a script's lines, the latest first
+pub history_is : (script : Script) (ls : List Line) → ls ≡ reverse script.lines → statements ls ≡ history script
+history_is script ls e = ap statements e ∙ map_back (λ (l : Line). l.statement) script.lines
+
+module _ (names : FunctionNames) (header : Scope) where
+  -- the refusal of one more line at the end
+  verdict_more : (ls : List Line) (before : List Statement) (l : Line) → verdict_after names header before (ls ++ l ∷ []) ≡ refused_then l.number (verdict_after names header before ls) (check names header (onto ls before) l.statement)
+  verdict_more [] before l = go (check names header before l.statement)
+    where
+      go : (o : Option GraphCause) → (elim o as (λ _. Option (ℕ × GraphCause)) [ Some cause ↦ Some (l.number, cause) | None ↦ None ]) ≡ option_map (λ c. (l.number, c)) o
+      go None = refl
+      go (Some c) = refl
+  verdict_more (k ∷ ls) before l = go (check names header before k.statement) (verdict_more ls (k.statement ∷ before) l)
+    where
+      go : (o : Option GraphCause) → verdict_after names header (k.statement ∷ before) (ls ++ l ∷ []) ≡ refused_then l.number (verdict_after names header (k.statement ∷ before) ls) (check names header (onto ls (k.statement ∷ before)) l.statement)
+          → (elim o as (λ _. Option (ℕ × GraphCause)) [ Some cause ↦ Some (k.number, cause) | None ↦ verdict_after names header (k.statement ∷ before) (ls ++ l ∷ []) ])
+          ≡ refused_then l.number (elim o as (λ _. Option (ℕ × GraphCause)) [ Some cause ↦ Some (k.number, cause) | None ↦ verdict_after names header (k.statement ∷ before) ls ]) (check names header (onto ls (k.statement ∷ before)) l.statement)
+      go None e = e
+      go (Some c) e = refl
+
+  onto_back : (ls : List Line) → onto (reverse ls) [] ≡ statements ls
+  onto_back ls = ap (λ (xs : List Statement). reverse xs) (map_back (λ (l : Line). l.statement) ls) ∙ reverse-reverse (statements ls)
+
+  -- the first refusal of the lines in order
+  pub verdict_is : (ls : List Line) → verdict_after names header [] (reverse ls) ≡ refused names header ls
+  verdict_is [] = refl
+  verdict_is (l ∷ ls) =
+      ap (verdict_after names header []) (reverse-append (l ∷ []) ls) ∙ verdict_more (reverse ls) [] l
+      ∙ (λ i. refused_then l.number (verdict_is ls i) (check names header (onto_back ls i) l.statement))
+
+  -- a refusal is none where the statements were accepted
+  pub none_refused : (ls : List Line) → AreAccepted names header (statements ls) → refused names header ls ≡ None
+  none_refused [] h = refl
+  none_refused (l ∷ ls) h = (λ i. refused_then l.number (none_refused ls h.1 i) (h.0 i))
+
+  -- the latest line is refused where those before it were accepted
+  pub refused_last : (lines : List Line) (l : Line) (before : List Line) → lines ≡ l ∷ before → AreAccepted names header (statements before) → (r : GraphRefusal)
+      → IsRefusal (refused_then l.number None (check names header (statements before) l.statement)) r → IsRefusal (refused names header lines) r
+  refused_last lines l before e ok r h =
+      subst (λ (ls : List Line). IsRefusal (refused names header ls) r) (sym e)
+      (subst (λ (o : Option (ℕ × GraphCause)). IsRefusal (refused_then l.number o (check names header (statements before) l.statement)) r) (sym (none_refused before ok)) h)
+
+pub verdict_of : (names : FunctionNames) (header : List Column) (script : Script) (ls : List Line) → ls ≡ reverse script.lines → refused names (scope_of header) ls ≡ verdict names header script
+verdict_of names header script ls e =
+    sym (verdict_is names (scope_of header) ls) ∙ ap (verdict_after names (scope_of header) []) (ap (λ (xs : List Line). reverse xs) e ∙ reverse-reverse script.lines)
+
+pub empty : {A : Type 0} (xs : List A) → length xs ≡ 0 → [] ≡ xs
+empty [] h = refl
+empty (x ∷ xs) h = absurd (omega (arith, h))
 
 -- ---- the statements of a graph's lines
 
@@ -131,8 +187,8 @@ module _ (ls all : List Line) (header : List Column) (names : FunctionNames) (t 
     version_total : length t.versions.items ≤ 4294967295
     version_total = let n = ap length h.version_rows in let m = versions_count header names (statements ls) in let k = versions_are header names (statements ls) t h in let f = h.versions.few in omega (arith, n, m, k, f)
 
-    site_count : length t.sites.items ≤ 16777216
-    site_count = sites_fit header names (statements ls) t h short (let k = length-map ls (λ (l : Line). l.statement) in omega (arith, k, few))
+    site_total : length t.sites.items ≤ 16777216
+    site_total = sites_fit header names (statements ls) t h short (let k = length-map ls (λ (l : Line). l.statement) in omega (arith, k, few))
 
     made : IsBooked g t loops watched
     made = record {
@@ -150,7 +206,7 @@ module _ (ls all : List Line) (header : List Column) (names : FunctionNames) (t 
       few_filters = filter_total;
       few_prints = print_total;
       few_loops = loop_total;
-      few_sites = site_count;
+      few_sites = site_total;
       few_versions = version_total;
     }
 
@@ -158,3 +214,90 @@ module _ (ls all : List Line) (header : List Column) (names : FunctionNames) (t 
     pub finished : (columns : List Column) (functions : FunctionNames) → columns ≡ header → functions ≡ names → IsBooked (view_of ls columns functions) t loops watched
     finished columns functions c f =
         subst (λ (xs : List Column). IsBooked (view_of ls xs functions) t loops watched) (sym c) (subst (λ (fs : FunctionNames). IsBooked (view_of ls header fs) t loops watched) (sym f) made)
+
+-- ---- lists
+
+twice : {A B C : Type 0} (f : A → B) (g : B → C) (o : Option A) → option_map (λ x. g (f x)) o ≡ option_map g (option_map f o)
+twice f g None = refl
+twice f g (Some x) = refl
+
+-- an item of a list that stands for another one
+of_mapped : {A B C : Type 0} (f : A → B) (g : B → C) (xs : List A) (ys : List B) (n : ℕ) (y : B) → ys ≡ map f xs → slice_get ys n ≡ Some y → option_map (λ x. g (f x)) (slice_get xs n) ≡ Some (g y)
+of_mapped f g xs ys n y e h = twice f g (slice_get xs n) ∙ ap (option_map g) (sym (ap (λ zs. slice_get zs n) e ∙ slice_get-map f xs n) ∙ h)
+
+site_sets_count : (header : List Column) (names : FunctionNames) (before : List Statement) → length (site_sets header names before) ≡ length (sites header names before)
+site_sets_count header names [] = refl
+site_sets_count header names (s ∷ before) =
+    length-append (site_sets header names before) (own_site_sets header names before s)
+    ∙ (λ i. site_sets_count header names before i + length-map (own_sites header names before s) (site_set header names before) i)
+    ∙ sym (length-append (sites header names before) (own_sites header names before s))
+
+-- ---- the readers
+
+pub booked_now : {v g : GraphView} {t : Tables} {l : LoopTables} {w : List Bool} → v ≡ g → IsBooked v t l w → IsBooked g t l w
+booked_now {t = t} {l = l} {w = w} e h = subst (λ (x : GraphView). IsBooked x t l w) e h
+
+-- a number is within a list that has so many items
+pub within_list : {A : Type 0} {xs ys : List A} {n m : ℕ} → xs ≡ ys → length ys ≡ m → n < m → n < length xs
+within_list e c h = let l = ap length e in omega (arith, l, c, h)
+
+pub there_too : {A : Type 0} {xs ys : List A} (n : ℕ) {y : A} → xs ≡ ys → slice_get xs n ≡ Some y → slice_get ys n ≡ Some y
+there_too n e h = ap (λ zs. slice_get zs n) (sym e) ∙ h
+
+module _ {g : GraphView} {t : Tables} {l : LoopTables} {w : List Bool} (h : IsBooked g t l w) where
+  pub row_count : length t.results.items ≡ length (graph_results g)
+  row_count = AllZip-long IsRow _ t.results.items h.tables.results.0 ∙ sym (ap length (booked_are g.header g.names (booked_statements g))) ∙ length-map (graph_results g) (λ (x : ResultAt). x.booked)
+
+  pub watch_count : length w ≡ length (graph_results g)
+  watch_count = ap length h.watches ∙ length-map (bookings (booked_statements g)) _ ∙ sym (ap length (booked_are g.header g.names (booked_statements g))) ∙ length-map (graph_results g) (λ (x : ResultAt). x.booked)
+
+  pub name_is : (n : ℕ) (row : ResultRow) → slice_get t.results.items n ≡ Some row → option_map (λ (x : ResultAt). x.booked.name) (slice_get (graph_results g) n) ≡ Some row.name
+  name_is n row q =
+      let r = zip_at IsRow _ t.results.items n row h.tables.results.0 q in
+      of_mapped (λ (x : ResultAt). x.booked) (λ (b : Booked). b.name) (graph_results g) (bookings (booked_statements g)) n r.0 (sym (booked_are g.header g.names (booked_statements g))) r.1 ∙ ap Some (sym r.2.name)
+
+  pub set_is : (n : ℕ) (row : ResultRow) → slice_get t.results.items n ≡ Some row → (v : ℕ) → has row.set v ≡ result_depends_at g n v
+  set_is n row q v = row_set _ _ t.results.items h.tables.results n row q v ∙ h.result_sets n v
+
+  pub watch_is : (n : ℕ) (b : Bool) → slice_get w n ≡ Some b → option_map (λ (x : ResultAt). is_watched (booked_statements g) x.booked.name) (slice_get (graph_results g) n) ≡ Some b
+  watch_is n b q =
+      twice (λ (x : ResultAt). x.booked) (λ (b : Booked). is_watched (booked_statements g) b.name) (slice_get (graph_results g) n)
+      ∙ ap (option_map (λ (b : Booked). is_watched (booked_statements g) b.name)) (sym (slice_get-map (λ (x : ResultAt). x.booked) (graph_results g) n) ∙ ap (λ bs. slice_get bs n) (booked_are g.header g.names (booked_statements g)))
+      ∙ sym (slice_get-map (λ (b : Booked). is_watched (booked_statements g) b.name) (bookings (booked_statements g)) n) ∙ ap (λ bs. slice_get bs n) (sym h.watches) ∙ q
+
+  pub path_is : {B : Type 0} (f : ResultPath → B) (n : ℕ) (row : ResultRow) → slice_get t.results.items n ≡ Some row → option_map (λ (x : ResultAt). f (result_path x)) (slice_get (graph_results g) n) ≡ Some (f row.path)
+  path_is f n row q = of_mapped result_path f (graph_results g) (paths t.results.items) n row.path h.tables.paths (slice_get-map (λ (r : ResultRow). r.path) t.results.items n ∙ ap (option_map (λ (r : ResultRow). r.path)) q)
+
+  -- ---- Prints and loops
+
+  pub filling_is : (p n : ℕ) → slice_get l.filling.items p ≡ Some n → option_map (λ (a : Access). loop_of (booked_statements g) a.result) (slice_get (accesses (booked_statements g)) p) ≡ Some n
+  filling_is p n q =
+      sym (slice_get-map (λ (a : Access). loop_of (booked_statements g) a.result) (accesses (booked_statements g)) p)
+      ∙ ap (λ xs. slice_get xs p) (sym (unwrapped (λ (a : Access). filler_of (booked_statements g) a.result) l.filling.items (accesses (booked_statements g)) h.loops.filling)) ∙ q
+
+  -- ---- named filters
+
+  pub filter_count : length t.filters.items ≡ length (graph_filters g)
+  filter_count = ap length h.tables.filters ∙ length-map (graph_filters g) (λ (f : FilterAt). f.sites)
+
+  pub label_count : length t.filters.items ≡ length (named_before (booked_statements g))
+  label_count = filters_are g.header g.names (booked_statements g) t h.tables
+
+  pub label_is : (n : ℕ) (x : List ℕ) → slice_get (labels (booked_statements g)) n ≡ Some x → option_map (λ (f : FilterAt). f.label) (slice_get (graph_filters g) n) ≡ Some x
+  label_is n x q = sym (slice_get-map (λ (f : FilterAt). f.label) (graph_filters g) n) ∙ ap (λ xs. slice_get xs n) (labels_are g.header g.names (booked_statements g)) ∙ q
+
+  -- ---- sites and versions
+
+  pub site_count : length t.sites.items ≡ length (graph_sites g)
+  site_count = sites_counted _ g.names (graph_sites g) t.sites.items h.tables.sites
+
+  pub site_set_count : length t.site_sets.items ≡ length (graph_sites g)
+  site_set_count = AllZip-long IsSet _ t.site_sets.items h.tables.site_sets ∙ site_sets_count g.header g.names (booked_statements g)
+
+  pub site_is : (n : ℕ) (c : CheckedExpr) → slice_get t.sites.items n ≡ Some c → IsSiteExpr g n c
+  site_is n c q =
+      let x = zip_at (IsSite _ g.names) (graph_sites g) t.sites.items n c h.tables.sites q in
+      record { tree = ap (option_map (λ (y : SiteAt). y.tree)) x.1 ∙ ap Some x.2.tree; kinds = x.2.reads; typed = x.2.typed; calls = x.2.calls }
+
+  pub site_set_is : (n : ℕ) (s : VarSet) → slice_get t.site_sets.items n ≡ Some s → (v : ℕ) → has s v ≡ site_depends_at g n v
+  site_set_is n s q v = set_at _ t.site_sets.items h.tables.site_sets n s q v ∙ h.site_sets n v

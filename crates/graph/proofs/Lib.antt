@@ -1,6 +1,5 @@
 pub mod Bits
 pub mod Checking
-pub mod Counted
 pub mod Counting
 pub mod Depending
 pub mod Filled
@@ -8,14 +7,8 @@ pub mod Finished
 pub mod Gaining
 pub mod Listing
 pub mod Looped
-pub mod Reading
-pub mod Refusing
-pub mod ResultSets
-pub mod Rowed
 pub mod Scoping
-pub mod SetTables
 pub mod Shared
 pub mod SiteTotals
 pub mod Sourced
-pub mod Walked
 pub mod Walking

@@ -16,9 +16,9 @@ use Rattle.expr_check.specs.contracts.checked.Checked.TheInside.{the_row as chec
 use Rattle.expr_check.specs.contracts.checked.Checked.TheInside as C
 use Rattle.graph.specs.contracts.tables.Tables.{the_row as tables_row}
 use Rattle.graph.specs.contracts.tables.Tables as T
-use Rattle.graph.specs.contracts.result_path.ResultPath.{the_row as path_row}
-use Rattle.graph.specs.contracts.result_row.ResultRow.{the_row as result_row}
-use Rattle.graph.specs.contracts.result_row.ResultRow as R
+use Rattle.graph.specs.contracts.tables.ResultPath.{the_row as path_row}
+use Rattle.graph.specs.contracts.tables.ResultRow.{the_row as result_row}
+use Rattle.graph.specs.contracts.tables.ResultRow as R
 use Rattle.graph.specs.contracts.loops.LoopTables.{the_row as loops_row}
 use Rattle.graph.specs.contracts.graph.Graph.{the_row as graph_row}
 use Rattle.graph.specs.contracts.graph.Graph.TheInside.{the_row as inside_row}

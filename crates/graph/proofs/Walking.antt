@@ -1,12 +1,13 @@
 -- Steps of the look-ups that walk the statements so far.
-use Rattle.std.proofs.Common.{◌≡◌, ℕ, Bool, true, false, ◌||◌, List, [], ◌∷◌, ◌++◌, map, refl, sym, ◌∙◌, ap, arith, ◌+◌, if◌then◌else◌, length, subst}
-use Rattle.rdf_values.specs.{aliases, among, Booked, booked_by, Booking, bookings, ColType, column_kind, FunctionNames, is_alias, is_result, is_visible, kind_or_int, made_columns, names_of, Path, result_is, same, Scope, Statement, target_of, visible_columns, watched_results}
-use Rattle.rdf_values.specs.declared.statement.Statement.TheVariants.{Action, Report, Watch}
-use Rattle.rdf_model.proofs.Accepted.{itself, names_equal}
+use Rattle.std.proofs.Common.{◌≡◌, ℕ, Bool, true, false, ◌||◌, List, [], ◌∷◌, ◌++◌, map, refl, sym, ◌∙◌, ap, arith, ◌+◌, if◌then◌else◌, length, subst, zero, suc, ◌≤◌, Option, Some, None, add-one}
+use Rattle.rdf_values.specs.{aliases, among, Booked, booked_by, Booking, bookings, ColType, column_kind, FunctionNames, is_alias, is_result, is_visible, is_watched, kind_or_int, made_columns, names_of, Path, result_is, same, Scope, Statement, target_of, visible_columns, watched_results, Column, makes, named_before, parent_of, path, place}
+use Rattle.rdf_values.specs.declared.statement.Statement.TheVariants.{Action, Report, Watch, Define, Redefine, Filter, Vary}
+use Rattle.rdf_model.proofs.Accepted.{itself, names_equal, place_within}
 use Rattle.std.proofs.lemmas.List.{map-append, length-append}
 use Rattle.std.proofs.lemmas.List.Folds.{list_any-append}
 use Rattle.lemmas.proofs.{or_false}
-use Rattle.graph.specs.{books, IsSame, own_results, result_in}
+use Rattle.graph.specs.{books, result_in, count_from, is_named}
+use Rattle.graph_numbers.specs.{column_place, named_version, own_columns, own_version, version_count, version_or}
 
 -- a name among the names of two lists
 among_both : (name : List ℕ) (xs ys : List Booked) → among name (names_of (xs ++ ys)) ≡ (among name (names_of xs) || among name (names_of ys))
@@ -43,17 +44,6 @@ pub visible_else : (names : FunctionNames) (header : Scope) (at : Path) (name : 
     → m ≡ is_visible (visible_columns names header at) name
 visible_else names header at name a m p q h = h ∙ ap (λ b. b || is_visible (made_columns names header at) name) (sym q ∙ p) ∙ sym (visible_is names header at name)
 
-names_both : (xs ys : List Booked) → names_of (xs ++ ys) ≡ names_of xs ++ names_of ys
-names_both xs ys = map-append (λ (b : Booked). b.name) xs ys
-
-own_names : (before : List Statement) (s : Statement) → names_of (booked_by before s) ≡ own_results s
-own_names before (Action result parent k) = refl
-own_names before (Report result parent) = refl
-own_names before s = refl
-
-pub names_step : (before : List Statement) (s : Statement) → names_of (bookings (s ∷ before)) ≡ names_of (bookings before) ++ own_results s
-names_step before s = names_both (bookings before) (booked_by before s) ∙ ap (λ ns. names_of (bookings before) ++ ns) (own_names before s)
-
 pub count_step : (before : List Statement) (s : Statement) → length (bookings (s ∷ before)) ≡ length (bookings before) + length (booked_by before s)
 count_step before s = length-append (bookings before) (booked_by before s)
 
@@ -64,25 +54,46 @@ in_both test name (x ∷ xs) ys = grind (arith, in_both test name xs ys)
 pub result_is_step : (test : Booking → Bool) (before : List Statement) (s : Statement) (name : List ℕ) → result_is test (s ∷ before) name ≡ (result_is test before name || result_in test name (booked_by before s))
 result_is_step test before s name = in_both test name (bookings before) (booked_by before s)
 
-among_end : (x : List ℕ) (xs : List (List ℕ)) (r : List ℕ) → among x (xs ++ r ∷ []) ≡ (same x r || among x xs)
-among_end x [] r = refl
-among_end x (y ∷ xs) r = grind (arith, among_end x xs r)
+-- a result is among those that are watched exactly where a statement watches it
+pub watched_among : (before : List Statement) (r : List ℕ) → among r (watched_results before) ≡ is_watched before r
+watched_among [] r = refl
+watched_among (Watch p ∷ before) r = grind (arith, same_back, itself, names_equal, watched_among before)
+watched_among (s ∷ before) r = watched_among before r
 
-pub watched_none : IsSame [] []
-watched_none = record { count = refl; has = λ x. refl }
+count_next : (n k : ℕ) → count_from n (suc k) ≡ count_from n k ++ (n + k) ∷ []
+count_next n zero = let e : n ≡ n + 0 = omega arith in ap (λ m. m ∷ []) e
+count_next n (suc k) = let e : suc n + k ≡ n + suc k = omega arith in ap (λ ms. n ∷ ms) (count_next (suc n) k ∙ ap (λ m. count_from (suc n) k ++ m ∷ []) e)
 
-pub watched_again : (before : List Statement) (s : Statement) (r : List ℕ) (ys : List (List ℕ)) → IsSame (watched_results before) ys → (b : Bool) → b ≡ among r ys → b ≡ true → watched_results (s ∷ before) ≡ watched_results (Watch r ∷ before) → IsSame (watched_results (s ∷ before)) ys
-watched_again before w r ys s b e h q = subst (λ xs. IsSame xs ys) (sym (q ∙ sym (ap (λ c. if c then watched_results before else r ∷ watched_results before) (sym h ∙ e ∙ s.has r)))) s
+pub count_more : (n k : ℕ) → count_from n (k + 1) ≡ count_from n k ++ (n + k) ∷ []
+count_more n k = rw add-one (count_next n k)
 
-pub watched_more : (before : List Statement) (s : Statement) (r : List ℕ) (ys zs : List (List ℕ)) → IsSame (watched_results before) ys → (b : Bool) → b ≡ among r ys → b ≡ false → zs ≡ ys ++ r ∷ [] → watched_results (s ∷ before) ≡ watched_results (Watch r ∷ before) → IsSame (watched_results (s ∷ before)) zs
-watched_more before w r ys zs s b e h z q =
-    subst (λ xs. IsSame xs zs) (sym (q ∙ sym (ap (λ c. if c then watched_results before else r ∷ watched_results before) (sym h ∙ e ∙ s.has r)))) (record { count = count; has = has })
+-- one named filter more
+pub named_more : (s : Statement) (before : List Statement) → length (named_before (s ∷ before)) ≡ length (named_before before) + (if is_named s then 1 else 0)
+named_more (Filter node parent expr (Some label)) before = length-append (named_before before) ((Filter node parent expr (Some label) ∷ path before parent) ∷ [])
+named_more s before = omega arith
+
+column_few : (cs : List Column) (name : List ℕ) → column_place cs name ≤ length cs
+column_few [] name = omega arith
+column_few (c ∷ cs) name = grind (arith, column_few cs name)
+
+own_few : (s : Statement) (first above : ℕ) (name : List ℕ) → above ≤ first → own_version s first name above ≤ first + length (own_columns s)
+own_few (Define node parent column expr) first above name h = grind arith
+own_few (Redefine node parent column expr) first above name h = grind arith
+own_few (Vary node parent columns values tags vary) first above name h = go (place (same name) columns) refl
   where
-    count : length zs ≡ length (r ∷ watched_results before)
-    count = let a : length zs ≡ length ys + 1 = ap length z ∙ length-append ys (r ∷ []) in let c = s.count in omega (arith, a, c)
+    go : (o : Option ℕ) → place (same name) columns ≡ o → version_or first o above ≤ first + length columns
+    go None e = omega (arith, h)
+    go (Some i) e = let lt = place_within (same name) columns i e in omega (arith, lt)
+own_few s first above name h = omega (arith, h)
 
-    has : (x : List ℕ) → among x zs ≡ among x (r ∷ watched_results before)
-    has x = ap (among x) z ∙ among_end x ys r ∙ ap (λ c. same x r || c) (s.has x)
-
-pub watched_past : (before : List Statement) (s : Statement) (ys : List (List ℕ)) → IsSame (watched_results before) ys → watched_results (s ∷ before) ≡ watched_results before → IsSame (watched_results (s ∷ before)) ys
-watched_past before s ys h q = subst (λ xs. IsSame xs ys) (sym q) h
+-- a version is below their number, or it where there is no such column
+pub named_few : (header : List Column) (before : List Statement) (node name : List ℕ) → named_version header before node name ≤ version_count header before
+named_few header [] node name = column_few header name
+named_few header (s ∷ before) node name =
+    go (makes s node) (own_few s (version_count header before) (named_version header before (parent_of s) name) name (named_few header before (parent_of s) name)) (named_few header before node name)
+  where
+    go : (b : Bool) → own_version s (version_count header before) name (named_version header before (parent_of s) name) ≤ version_count header before + length (own_columns s)
+        → named_version header before node name ≤ version_count header before
+        → (if b then own_version s (version_count header before) name (named_version header before (parent_of s) name) else named_version header before node name) ≤ version_count header before + length (own_columns s)
+    go true h k = h
+    go false h k = omega (arith, k)

@@ -2,8 +2,8 @@
 use Rattle.std.specs.Prelude.{◌≡◌, ℕ, suc, ◌*◌, List, [], ◌∷◌, ◌++◌, Option, Some, None, sum_by, filter, if◌then◌else◌}
 use Rattle.rdf_values.specs.{has_variations, same, Statement}
 use Rattle.rdf_values.specs.declared.statement.Statement.TheVariants.{Action, Report, Print, VariationsFor}
-use Rattle.graph.specs.Sets.{count_of}
-use Rattle.graph.specs.declared.result_row.ResultRow.{ResultRow}
+use Rattle.graph.specs.Dependence.{count_of}
+use Rattle.graph.specs.declared.tables.ResultRow.{ResultRow}
 use Rattle.graph.specs.declared.amounts.Amounts.{Amounts}
 
 -- the statements, and where a result is given one more that asks for its variations

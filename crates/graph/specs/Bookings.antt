@@ -1,8 +1,9 @@
--- The first line of a script that is refused.
+-- The first line of a script that is refused, and how it is answered.
 use Rattle.std.specs.Prelude.{◌≡◌, ℕ, List, [], ◌∷◌, Option, Some, None, option_map}
 use Rattle.rdf_values.specs.{check, FunctionNames, GraphCause, Line, Scope}
 use Rattle.graph.specs.Lookups.{statements}
-use Rattle.graph.specs.declared.refusal.GraphRefusal.{GraphRefusal}
+use Rattle.graph.specs.declared.refusals.GraphRefusal.{GraphRefusal}
+use Rattle.graph.specs.declared.refusals.GraphRefusal.TheVariants.{At}
 
 -- a line's refusal after lines that may be refused before it
 abbrev pub refused_then : ℕ → Option (ℕ × GraphCause) → Option GraphCause → Option (ℕ × GraphCause)
@@ -18,3 +19,7 @@ refused names header (l ∷ before) = refused_then l.number (refused names heade
 abbrev pub IsRefusal : Option (ℕ × GraphCause) → GraphRefusal → Type 0
 IsRefusal wanted (GraphRefusal.At line cause) = wanted ≡ Some (line, cause)
 IsRefusal wanted GraphRefusal.Memory = Unit {0}
+
+-- a line that is refused, as it is answered
+abbrev pub refused_at : ℕ × GraphCause → GraphRefusal
+refused_at c = At c.0 c.1

@@ -1,8 +1,12 @@
--- What the check of a statement answers.
-use Rattle.std.specs.Prelude.{ℕ, List, map, ◌≡◌, Option, Some, None, Result, Ok, Err}
-use Rattle.rdf_values.specs.{check_target, first_refusal, FunctionNames, GraphCause, path, Scope, scope_at, Statement}
-use Rattle.graph.specs.declared.stop.Stop.{Stop}
-use Rattle.graph.specs.declared.stop.Stop.TheVariants.{Cause, Memory}
+-- What the check of a statement answers, and that of the expressions of a Vary.
+use Rattle.std.specs.Prelude.{ℕ, List, map, ◌≡◌, Option, Some, None, Result, Ok, Err, [], ◌∷◌, ◌++◌}
+use Rattle.rdf_values.specs.{check_target, first_refusal, FunctionNames, GraphCause, path, Scope, scope_at, Statement, Column, NamedTree, VaryValues}
+use Rattle.graph.specs.declared.refusals.Stop.{Stop}
+use Rattle.graph.specs.declared.refusals.Stop.TheVariants.{Cause, Memory}
+use Rattle.std.specs.List.{AllZip}
+use Rattle.rdf_values.specs.declared.vary_values.VaryValues.TheVariants.{Lists, Vector}
+use Rattle.expr_check.specs.{CheckedExpr}
+use Rattle.graph.specs.Lookups.{IsCheckedAt}
 
 -- the check refuses for that cause; nothing is said of want of memory
 abbrev pub IsStop : Option GraphCause → Stop → Type 0
@@ -17,3 +21,24 @@ Decides wanted (Err stop) = IsStop wanted stop
 -- the columns that a Vary at a node changes
 abbrev pub targets_at : FunctionNames → Scope → List Statement → List ℕ → List (List ℕ) → Option GraphCause
 targets_at names header before parent columns = first_refusal (map (check_target (scope_at names header before parent) (path before parent)) columns)
+
+-- the expressions of lists, one list after the other
+abbrev pub all_expressions : List (List NamedTree) → List NamedTree
+all_expressions [] = []
+all_expressions (es ∷ lists) = es ++ all_expressions lists
+
+-- the expressions of a Vary
+abbrev pub value_expressions : VaryValues → List NamedTree
+value_expressions (Lists lists) = all_expressions lists
+value_expressions (Vector e) = e ∷ []
+
+module _ (header : List Column) (names : FunctionNames) (before : List Statement) (node : List ℕ) where
+  -- the expressions were checked at the node, in order
+  abbrev pub AllCheckedAt : List NamedTree → List CheckedExpr → Type 0
+  AllCheckedAt es cs = AllZip (IsCheckedAt header names before node) es cs
+
+  -- a list to which the checked expressions were appended
+  pub record Appends (es : List NamedTree) (old new : List CheckedExpr) : Type 0 where
+    pub more : List CheckedExpr
+    pub appended : new ≡ old ++ more
+    pub each : AllCheckedAt es more

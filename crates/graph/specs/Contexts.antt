@@ -5,15 +5,13 @@ use Rattle.expr_check.specs.{CheckedExpr}
 use Rattle.graph_numbers.specs.{named_version, Version, version_at}
 use Rattle.graph.specs.Gains.{IsActionRow, IsGain}
 use Rattle.graph.specs.Lookups.{IsCheckedAt, statements}
-use Rattle.graph.specs.SiteNumbers.{site_total}
-use Rattle.graph.specs.VaryChecks.{AllCheckedAt, Appends}
-use Rattle.graph.specs.VarSets.{changed_set}
-use Rattle.graph.specs.Dependence.{Numbers}
-use Rattle.graph.specs.Rows.{varied_rows}
+use Rattle.graph.specs.Rows.{site_total, varied_rows}
+use Rattle.graph.specs.Checks.{AllCheckedAt, Appends}
+use Rattle.graph.specs.Dependence.{changed_set, Numbers}
 use Rattle.graph.specs.declared.before.Before.{Before}
-use Rattle.graph.specs.declared.change.Change.{Change}
-use Rattle.graph.specs.declared.gain.Gain.{Gain}
-use Rattle.graph.specs.declared.result_row.ResultRow.{ResultRow}
+use Rattle.graph.specs.declared.tables.Change.{Change}
+use Rattle.graph.specs.declared.tables.Gain.{Gain}
+use Rattle.graph.specs.declared.tables.ResultRow.{ResultRow}
 
 module _ (b : Before) where
   -- the statements so far, the latest first

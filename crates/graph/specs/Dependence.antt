@@ -1,11 +1,37 @@
--- Which variations versions, sites and results depend on, by numbers.
-use Rattle.std.specs.Prelude.{◌≡◌, ℕ, ◌+◌, Bool, false, ◌||◌, ◌&&◌, List, [], ◌∷◌, ◌++◌, map, length, slice_get, nat_le, nat_lt}
+-- Sets of variations, and which variations versions, sites and results depend on, by numbers.
+use Rattle.std.specs.Prelude.{◌≡◌, ◌<◌, ◌≤◌, ℕ, zero, suc, ◌+◌, Bool, true, false, if◌then◌else◌, nat_eq, ◌||◌, ◌&&◌, List, [], ◌∷◌, ◌++◌, map, length, slice_get, nat_le, nat_lt}
+use Rattle.std.specs.Int.{bit_at}
+use Rattle.graph.specs.declared.sets.VarSet.{VarSet}
 use Rattle.std.specs.List.{list_any, AllZip}
 use Rattle.rdf_values.specs.{callee, Column, columns_in, columns_of, FunctionNames, NamedTree, renamed, Statement, variations}
 use Rattle.rdf_values.specs.declared.statement.Statement.TheVariants.{Define, Redefine, Vary, Action, Report}
 use Rattle.graph_numbers.specs.{filter_sites, holds_at, named_version, own_sites, SiteAt, version_at}
-use Rattle.graph.specs.Sets.{has}
-use Rattle.graph.specs.declared.var_set.VarSet.{VarSet}
+use Rattle.expr_check.specs.{CheckedExpr}
+
+-- the number is in the set
+abbrev pub has : VarSet → ℕ → Bool
+has s v = nat_eq (bit_at s.bits v) 1
+
+-- how many numbers below a bound pass the test
+abbrev pub count_below : ℕ → (ℕ → Bool) → ℕ
+count_below zero p = 0
+count_below (suc k) p = (if p 0 then 1 else 0) + count_below k (λ v. p (suc v))
+
+-- how many numbers are in the set
+unfoldable pub count_of : VarSet → ℕ
+count_of s = count_below 128 (has s)
+
+-- how many members are below a number
+unfoldable pub members_below : VarSet → ℕ → ℕ
+members_below s zero = 0
+members_below s (suc v) = members_below s v + (if has s v then 1 else 0)
+
+-- the least member at or above a number
+pub record IsNext (s : VarSet) (v w : ℕ) : Type 0 where
+  pub above : v ≤ w
+  pub small : w < 128
+  pub member : has s w ≡ true
+  pub least : (u : ℕ) → v ≤ u → u < w → has s u ≡ false
 
 -- a set of variations by their numbers
 abbrev pub Numbers : Type 0
@@ -82,3 +108,28 @@ IsSet d s = (v : ℕ) → has s v ≡ d v
 -- one for each
 abbrev pub AreSets : List Numbers → List VarSet → Type 0
 AreSets ds ss = AllZip IsSet ds ss
+
+-- the set at a place has the variation
+abbrev pub has_at : List VarSet → ℕ → ℕ → Bool
+has_at sets c v = holds_at (λ (s : VarSet). has s v) (slice_get sets c)
+
+-- the set at one of the places has it
+abbrev pub any_has : List VarSet → List ℕ → ℕ → Bool
+any_has sets cs v = list_any (λ c. has_at sets c v) cs
+
+-- what an expression depends on, where versions have those sets
+abbrev pub read_set : List VarSet → CheckedExpr → Numbers
+read_set sets c v = any_has sets (columns_in c.tree) v
+
+abbrev pub read_sets : List VarSet → List CheckedExpr → List Numbers
+read_sets sets cs = map (read_set sets) cs
+
+-- what a column that a Vary at a node changes depends on
+abbrev pub changed_set : List Column → List Statement → List VarSet → List ℕ → ℕ → ℕ → List ℕ → Numbers
+changed_set header before sets parent first tags column v = is_among_own first tags v || has_at sets (named_version header before parent column) v
+
+-- a list to which those sets were appended
+pub record AppendsSets (ds : List Numbers) (old new : List VarSet) : Type 0 where
+  pub more : List VarSet
+  pub appended : new ≡ old ++ more
+  pub each : AreSets ds more

@@ -5,17 +5,14 @@ use Rattle.rdf_values.specs.{ActionKind, Booked, booked_by, bookings, cells_of, 
 use Rattle.rdf_values.specs.declared.statement.Statement.TheVariants.{Action, Report}
 use Rattle.expr_check.specs.{CallsFit, CheckedExpr, IsWellTyped}
 use Rattle.graph_numbers.specs.{FilterAt, filters, own_kinds, own_sites, results, SiteAt, sites, Version, version_kinds, versions}
-use Rattle.graph.specs.Dependence.{Numbers, AreSets, own_version_sets, version_sets, own_site_sets, site_sets, own_result_sets, result_sets}
-use Rattle.graph.specs.Names.{named}
-use Rattle.graph.specs.Rows.{filter_rows, result_path, result_rows, varied_rows, version_rows}
-use Rattle.graph.specs.SiteNumbers.{site_total}
-use Rattle.graph.specs.declared.change.Change.{Change}
-use Rattle.graph.specs.declared.result_path.ResultPath.{ResultPath}
-use Rattle.graph.specs.declared.var_set.VarSet.{VarSet}
+use Rattle.graph.specs.Dependence.{Numbers, AreSets, own_version_sets, version_sets, own_site_sets, site_sets, own_result_sets, result_sets, read_sets, changed_set}
+use Rattle.graph.specs.Rows.{named, filter_rows, result_path, result_rows, varied_rows, version_rows, site_total}
+use Rattle.graph.specs.declared.tables.Change.{Change}
+use Rattle.graph.specs.declared.tables.ResultPath.{ResultPath}
+use Rattle.graph.specs.declared.sets.VarSet.{VarSet}
 use Rattle.graph.specs.Lookups.{AreKinds, IsCheckedAt}
-use Rattle.graph.specs.VarSets.{read_sets, changed_set}
-use Rattle.graph.specs.declared.gain.Gain.{Gain}
-use Rattle.graph.specs.declared.result_row.ResultRow.{ResultRow}
+use Rattle.graph.specs.declared.tables.Gain.{Gain}
+use Rattle.graph.specs.declared.tables.ResultRow.{ResultRow}
 use Rattle.graph.specs.declared.tables.Tables.{Tables}
 
 -- a site's expression, with the kinds of its versions

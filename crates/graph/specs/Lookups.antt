@@ -73,17 +73,6 @@ pub record IsCheckedAt (header : List Column) (names : FunctionNames) (before : 
   pub typed : IsWellTyped names c
   pub calls : CallsFit names c.tree
 
--- the name of the result that a statement books
-abbrev pub own_results : Statement → List (List ℕ)
-own_results (Action result parent k) = result ∷ []
-own_results (Report result parent) = result ∷ []
-own_results s = []
-
 -- a result of that name among these passes the test
 abbrev pub result_in : (Booking → Bool) → List ℕ → List Booked → Bool
 result_in test name bs = list_any (λ (b : Booked). test b.booking) (results_named name bs)
-
--- a list has as many names as another, and the same ones
-pub record IsSame (xs ys : List (List ℕ)) : Type 0 where
-  pub count : length ys ≡ length xs
-  pub has : (x : List ℕ) → among x ys ≡ among x xs

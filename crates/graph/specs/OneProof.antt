@@ -9,11 +9,11 @@ use Rattle.rdf_values.specs.contracts.graph_cause.GraphCause.{the_row as cause_r
 use Rattle.rdf_values.specs.contracts.value.ColType.{the_row as kind_row}
 use Rattle.expr_check.specs.{AllCallsFit, CallsFit, CheckedExpr, IsCallOf}
 use Rattle.graph_numbers.specs.{SiteAt}
-use Rattle.graph.specs.declared.var_set.VarSet.{VarSet}
+use Rattle.graph.specs.declared.sets.VarSet.{VarSet}
 use Rattle.graph.specs.Dependence.{Numbers, AreSets, IsSet as IsSetOf}
 use Rattle.graph.specs.Gains.{IsSite, AreSites, IsRow, AreTables}
 use Rattle.graph.specs.LoopRows.{IsRowOf, AreRowsOf, IsScriptRows}
-use Rattle.graph.specs.declared.result_row.ResultRow.{ResultRow}
+use Rattle.graph.specs.declared.tables.ResultRow.{ResultRow}
 use Rattle.graph.specs.declared.tables.Tables.{Tables}
 
 refusal-set : IsSet (Option GraphCause)

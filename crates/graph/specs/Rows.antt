@@ -1,11 +1,43 @@
--- What a statement adds to the lists of versions, named filters and results, by the numbers of its first site and variation.
-use Rattle.std.specs.Prelude.{ℕ, zero, suc, ◌+◌, Bool, true, false, List, [], ◌∷◌, ◌++◌, map, length, Option, Some, None, option_to_list, if◌then◌else◌}
-use Rattle.rdf_values.specs.{Column, columns_of, makes, named_before, parent_of, Path, path, Statement, VaryValues}
+-- What a statement adds to the lists of versions, sites, named filters, results and variations, by the numbers of its first site and variation.
+use Rattle.std.specs.Prelude.{ℕ, ◌+◌, Bool, true, false, List, [], ◌∷◌, ◌++◌, length, if◌then◌else◌, zero, suc, map, Option, Some, None, option_to_list}
+use Rattle.rdf_values.specs.{makes, NamedTree, parent_of, Statement, Column, columns_of, named_before, VaryValues, same, Variation}
 use Rattle.rdf_values.specs.declared.vary_values.VaryValues.TheVariants.{Lists, Vector}
 use Rattle.rdf_values.specs.declared.statement.Statement.TheVariants.{Define, Redefine, Filter, Vary, Action, Report}
+use Rattle.std.specs.List.{list_any}
 use Rattle.graph_numbers.specs.{kind_of_booking, list_start, named_version, ResultAt, ResultKind, Version, version_at}
-use Rattle.graph.specs.SiteNumbers.{filter_numbers, own_number}
-use Rattle.graph.specs.declared.result_path.ResultPath.{ResultPath}
+use Rattle.graph.specs.declared.tables.ResultPath.{ResultPath}
+
+-- how many expressions lists have
+abbrev pub expression_total : List (List NamedTree) → ℕ
+expression_total [] = 0
+expression_total (es ∷ lists) = length es + expression_total lists
+
+abbrev pub own_site_total : Statement → ℕ
+own_site_total (Define node parent column expr) = 1
+own_site_total (Redefine node parent column expr) = 1
+own_site_total (Filter node parent expr label) = 1
+own_site_total (Vary node parent columns (Lists lists) tags vary) = expression_total lists
+own_site_total (Vary node parent columns (Vector e) tags vary) = 1
+own_site_total s = 0
+
+abbrev pub site_total : List Statement → ℕ
+site_total [] = 0
+site_total (s ∷ before) = site_total before + own_site_total s
+
+abbrev pub is_filter : Statement → Bool
+is_filter (Filter node parent expr label) = true
+is_filter s = false
+
+-- the number of a Filter's site, which is numbered next
+abbrev pub own_number : Bool → ℕ → List ℕ
+own_number true next = next ∷ []
+own_number false next = []
+
+-- the numbers of the sites of the filters above a node, head first
+abbrev pub filter_numbers : List Statement → List ℕ → List ℕ
+filter_numbers [] node = []
+filter_numbers (s ∷ before) node =
+    if makes s node then filter_numbers before (parent_of s) ++ own_number (is_filter s) (site_total before) else filter_numbers before node
 
 -- so many numbers from the first on
 abbrev pub count_from : ℕ → ℕ → List ℕ
@@ -76,14 +108,9 @@ named_numbers (s ∷ before) node =
 
 -- ---- results
 
--- the path isn't the head's
-abbrev pub has_made : Path → Bool
-has_made [] = false
-has_made (s ∷ up) = true
-
 -- the filters that a Report on a node covers
 abbrev pub covered_numbers : List Statement → List ℕ → List ℕ
-covered_numbers before node = if has_made (path before node) then named_numbers before node else count_from 0 (named_count before)
+covered_numbers before node = if list_any (λ s. makes s node) before then named_numbers before node else count_from 0 (named_count before)
 
 -- the result that a statement books
 abbrev pub result_rows : List Column → List Statement → Statement → List ResultPath
@@ -96,3 +123,11 @@ result_rows header before s = []
 -- a result as it is kept
 abbrev pub result_path : ResultAt → ResultPath
 result_path x = record { kind = kind_of_booking x.booked.booking; filters = x.filters; inputs = x.inputs; covers = x.covers }
+
+-- an earlier Vary has the name
+abbrev pub is_taken : List Variation → List ℕ → Bool
+is_taken vs name = list_any (λ (v : Variation). same v.name name) vs
+
+-- one variation for each tag
+abbrev pub named : List ℕ → List (List ℕ) → List Variation
+named name tags = map (λ t. record { name = name; tag = t }) tags

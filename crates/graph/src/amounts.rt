@@ -7,7 +7,7 @@ ghost use Rattle.rdf_values.specs.declared.statement.Statement.TheVariants.{Prin
 ghost use Rattle.graph.specs.{asked_after, front, IsAmount, printed_rows, row_passes, rows_below, rows_named, statements};
 
 use crate::refusals::{first_of, refuse_if};
-use crate::result_row::ResultRow;
+use crate::tables::ResultRow;
 use rdf_values::{ActionKind, GraphCause, Line, Memory, Name, Statement};
 
 const MOST_CELLS: usize = 1048576;

@@ -1,19 +1,91 @@
-// What stands before a statement.
-ghost use Rattle.std.specs.Prelude.{◌≡◌, ◌≤◌, length, map, IfOk};
+// What stands before a statement, the columns and expressions at its nodes, and the checks that several statements share.
+ghost use Rattle.std.specs.Prelude.{◌≡◌, ◌≤◌, ◌<◌, ◌++◌, ◌∷◌, [], length, map, slice_get, Some, Err, Result, MatchOption, IfOk, IfErr, OnOk};
 ghost use Rattle.std.specs.List.{AllByRecursion};
-ghost use Rattle.rdf_values.specs.{IsShort};
+ghost use Rattle.rdf_values.specs.{check_node, check_target, ColType, column_kind, columns_in, columns_in_all, expect_kind, GraphCause, is_visible, IsShort, kind_of, kind_or_int, path, refusal_in, same_kind, tree_of, trees_of};
+ghost use Rattle.rdf_values.specs.declared.graph_cause.GraphCause.TheVariants.{UnknownColumn};
+ghost use Rattle.expr_check.specs.{RefusedAs};
 ghost use Rattle.graph_numbers.specs.{version_at};
+ghost use Rattle.graph.specs.Checks.{IsStop};
 ghost use Rattle.graph.specs.Gains.{AreTables};
 ghost use Rattle.graph.specs.Lookups.{statements};
 ghost use Rattle.graph.specs.OneProof.{tables-prop};
 ghost use Rattle.graph.specs.ShortProof.{short_all-prop};
-ghost use Rattle.graph.specs.SiteNumbers.{filter_numbers, site_total};
 
-use crate::lookup::target_of;
+use crate::copies::push_name;
+use crate::lookup::{
+    filter_sites, is_alias, is_in_use, is_node, is_visible, named_version, target_of,
+};
+use crate::refusals::{Stop, first_of, refuse_if, refuse_unless};
 use crate::tables::Tables;
-use crate::walks::filter_sites;
-use rdf_values::{Column, FnNames, Line, ListOf, Memory, Name};
+use expr_check::{CheckRefusal, Checked, Scope, check};
+use rdf_values::{
+    Args, ColType, Column, Expr, ExprNode, FnNames, GraphCause, Line, ListOf, Memory, Name,
+};
 use std::alloc::Global;
+
+#[cycle(names)]
+fn push_names(alloc: Global, columns: &mut Vec<Name>, node: &ExprNode) -> Result<(), Memory>
+    ensures { OnOk result (columns.new.items ≡ columns.old.items ++ columns_in (tree_of node.now)) }
+{
+    match node {
+        ExprNode::Lit(_) | ExprNode::Truth(_) => Ok(()),
+        ExprNode::Col(name) => push_name(alloc, columns, name),
+        ExprNode::Neg(a) | ExprNode::Not(a) => push_names(alloc, columns, a),
+        ExprNode::Bin(_, a, b) | ExprNode::Pick(a, b) => {
+            push_names(alloc, columns, a)?;
+            push_names(alloc, columns, b)
+        }
+        ExprNode::Cond(condition, first, second) => {
+            push_names(alloc, columns, condition)?;
+            push_names(alloc, columns, first)?;
+            push_names(alloc, columns, second)
+        }
+        ExprNode::Call(_, args) => push_names_of_all(alloc, columns, args),
+    }
+}
+
+#[cycle(names)]
+fn push_names_of_all(alloc: Global, columns: &mut Vec<Name>, args: &Args) -> Result<(), Memory>
+    ensures { OnOk result (columns.new.items ≡ columns.old.items ++ columns_in_all (trees_of args.now)) }
+{
+    match args {
+        Args::End => Ok(()),
+        Args::More(first, rest) => {
+            push_names(alloc, columns, first)?;
+            push_names_of_all(alloc, columns, rest)
+        }
+    }
+}
+
+/// The columns that stand in an expression, from left to right.
+fn names_in(alloc: Global, expr: &Expr) -> Result<Vec<Name>, Memory>
+    ensures { IfOk result (λ v. v.items ≡ columns_in expr.now) }
+{
+    let mut columns = Vec::new(alloc);
+    push_names(alloc, &mut columns, &expr.node)?;
+    Ok(columns)
+}
+
+/// Why an expression has no kind, as a stop.
+#[tactic(auto, using(crate::proofs::Checking::cause_refused))]
+fn stop_of(refusal: CheckRefusal) -> Stop
+    ensures { (wanted : Result ColType GraphCause) → RefusedAs refusal wanted → IsStop (refusal_in wanted) result }
+{
+    match refusal {
+        CheckRefusal::UnknownColumn => Stop::Cause(GraphCause::UnknownColumn),
+        CheckRefusal::UnknownFunction => Stop::Cause(GraphCause::UnknownFunction),
+        CheckRefusal::WrongType => Stop::Cause(GraphCause::WrongType),
+        CheckRefusal::WrongCount => Stop::Cause(GraphCause::WrongCount),
+        CheckRefusal::Memory => Stop::Memory,
+    }
+}
+
+/// Whether two kinds are the same.
+pub(crate) fn same_kind(a: ColType, b: ColType) -> bool
+    ensures { result ≡ same_kind a b }
+{
+    a == b
+}
 
 /// What stands before a statement: the table's header, the functions' names, the lines so far, the latest first, and what is
 /// known of these.
@@ -29,9 +101,11 @@ pub(crate) struct Before<'a> {
 }
 
 impl Before<'_> {
+    ghost use Rattle.graph.specs.{AreNoted, Decides, filter_numbers, history, IsCheckedBefore, IsFound, IsScopeAt, IsScopeOf, named_version_before, scope_before, site_total};
+
     /// How many sites there are.
     pub(crate) fn sites(&self) -> u32
-        ensures value { result ≡ site_total (statements self.now.lines.now) }
+        ensures value { result ≡ site_total (history self.now) }
         ensures few { result ≤ 16777216 }
     {
         self.tables.sites.as_slice().len() as u32
@@ -39,14 +113,14 @@ impl Before<'_> {
 
     /// The sites of the filters above a node, head first.
     pub(crate) fn filters_above(&self, alloc: Global, node: &Name) -> Result<ListOf<u32>, Memory>
-        ensures { IfOk result (λ l. l ≡ filter_numbers (statements self.now.lines.now) node.now) }
+        ensures { IfOk result (λ l. l ≡ filter_numbers (history self.now) node.now) }
     {
         filter_sites(alloc, self.lines, self.sites(), node)
     }
 
     /// The version of a column at a node.
     fn version_at(&self, node: &Name, name: &Name) -> u32
-        ensures { result ≡ version_at self.now.header.now (statements self.now.lines.now) node.now name.now }
+        ensures { result ≡ version_at self.now.header.now (history self.now) node.now name.now }
     {
         self.named_version(node, target_of(self.lines, node, name))
     }
@@ -58,9 +132,165 @@ impl Before<'_> {
         node: &Name,
         columns: &[Name],
     ) -> Result<ListOf<u32>, Memory>
-        ensures { IfOk result (λ l. l ≡ map (version_at self.now.header.now (statements self.now.lines.now) node.now) columns.now) }
+        ensures { IfOk result (λ l. l ≡ map (version_at self.now.header.now (history self.now) node.now) columns.now) }
     {
         let versions = columns.iter().map(|column| self.version_at(node, column));
         Ok(ListOf::from_vec(versions.collect(alloc)?))
+    }
+
+    /// The version of a column that is no alias at a node.
+    pub(crate) fn named_version(&self, node: &Name, name: &Name) -> u32
+        ensures { result ≡ named_version_before self.now node.now name.now }
+    {
+        let count = self.tables.kinds.len();
+        named_version(self.lines, self.header, count, node, name) as u32
+    }
+
+    /// The kind of a version, and its number.
+    fn numbered_kind(&self, version: u32) -> (ColType, u32)
+        requires { version < length self.now.tables.now.kinds.items }
+        ensures { (slice_get self.now.tables.now.kinds.items version ≡ Some result.0) × (result.1 ≡ version) }
+    {
+        (self.tables.kinds[version as usize], version)
+    }
+
+    /// The kind and the version of a column at a node, where it is visible.
+    pub(crate) fn find_column(&self, node: &Name, name: &Name) -> Option<(ColType, u32)>
+        ensures { MatchOption result (column_kind (scope_before self.now node.now) name.now ≡ Err UnknownColumn)
+            (λ c. IsFound self.now.header.now self.now.names.now (history self.now) node.now self.now.tables.now.kinds.items name.now c.0 c.1) }
+    {
+        if !is_visible(self.lines, self.header, node, name) {
+            return None;
+        }
+        let target = target_of(self.lines, node, name);
+        Some(self.numbered_kind(self.named_version(node, target)))
+    }
+
+    /// The kind of a column, and that of a number where there is none.
+    pub(crate) fn kind_at(&self, node: &Name, column: &Name) -> ColType
+        ensures { result ≡ kind_or_int (column_kind (scope_before self.now node.now) column.now) }
+    {
+        match self.find_column(node, column) {
+            Some((kind, _)) => kind,
+            None => ColType::Int,
+        }
+    }
+
+    /// Brings a column into a scope, unless it is there or isn't visible.
+    fn note(&self, node: &Name, scope: &mut Scope, name: &Name) -> Result<(), Memory>
+        requires scope { IsScopeAt self.now.header.now self.now.names.now (history self.now) node.now self.now.tables.now.kinds.items scope.old }
+        ensures { OnOk result (AreNoted self.now.header.now self.now.names.now (history self.now) node.now self.now.tables.now.kinds.items scope.old scope.new (name.now ∷ [])) }
+    {
+        match self.find_column(node, name) {
+            None => Ok(()),
+            Some((kind, number)) => match scope.find(name) {
+                Some(_) => Ok(()),
+                None => scope.add(name, kind, number),
+            },
+        }
+    }
+
+    /// Brings columns into a scope.
+    fn note_all(&self, node: &Name, scope: &mut Scope, columns: &[Name]) -> Result<(), Memory>
+        requires scope { IsScopeAt self.now.header.now self.now.names.now (history self.now) node.now self.now.tables.now.kinds.items scope.old }
+        ensures { OnOk result (AreNoted self.now.header.now self.now.names.now (history self.now) node.now self.now.tables.now.kinds.items scope.old scope.new columns.now) }
+    {
+        let Some((first, rest)) = columns.split_first() else {
+            return Ok(());
+        };
+        self.note(node, scope, first)?;
+        self.note_all(node, scope, rest)
+    }
+
+    /// The columns of an expression at a node.
+    fn scope_for(&self, alloc: Global, node: &Name, expr: &Expr) -> Result<Scope, Memory>
+        ensures { IfOk result (λ scope. IsScopeOf self.now.header.now self.now.names.now (history self.now) node.now self.now.tables.now.kinds.items expr.now scope) }
+    {
+        let columns = names_in(alloc, expr)?;
+        let mut scope = Scope::new(alloc);
+        self.note_all(node, &mut scope, columns.as_slice())?;
+        Ok(scope)
+    }
+
+    /// The expression over the versions that its columns have at a node, or its first refusal.
+    pub(crate) fn check_at(
+        &self,
+        alloc: Global,
+        node: &Name,
+        expr: &Expr,
+    ) -> Result<Checked, CheckRefusal>
+        ensures checked { IfOk result (IsCheckedBefore self.now node.now expr.now) }
+        ensures refused { IfErr result (λ e. RefusedAs e (kind_of (scope_before self.now node.now) self.now.names.now expr.now)) }
+    {
+        match self.scope_for(alloc, node, expr) {
+            Err(_) => Err(CheckRefusal::Memory),
+            Ok(scope) => check(alloc, expr, &scope, self.names),
+        }
+    }
+
+    /// A new node or result.
+    pub(crate) fn check_node(&self, node: &Name, parent: &Name) -> Option<GraphCause>
+        ensures { result ≡ check_node (history self.now) node.now parent.now }
+    {
+        first_of(&[
+            refuse_if(is_in_use(self.lines, node), GraphCause::NameTaken),
+            refuse_unless(is_node(self.lines, parent), GraphCause::UnknownName),
+        ])
+    }
+
+    /// Whether a column is visible at a node.
+    pub(crate) fn sees(&self, node: &Name, column: &Name) -> bool
+        ensures { result ≡ is_visible (scope_before self.now node.now) column.now }
+    {
+        is_visible(self.lines, self.header, node, column)
+    }
+
+    /// A column that a statement changes.
+    pub(crate) fn check_target(&self, parent: &Name, column: &Name) -> Option<GraphCause>
+        ensures { result ≡ check_target (scope_before self.now parent.now) (path (history self.now) parent.now) column.now }
+    {
+        let visible = self.sees(parent, column);
+        let alias = is_alias(self.lines, parent, column);
+        first_of(&[
+            refuse_unless(visible, GraphCause::UnknownColumn),
+            refuse_if(alias, GraphCause::AliasTarget),
+        ])
+    }
+
+    /// An expression at a node.
+    #[tactic(auto, using(crate::proofs::Checking::kind_passed))]
+    pub(crate) fn expression(
+        &self,
+        alloc: Global,
+        node: &Name,
+        expr: &Expr,
+    ) -> Result<Checked, Stop>
+        ensures checked { IfOk result (IsCheckedBefore self.now node.now expr.now) }
+        ensures decided { Decides (refusal_in (kind_of (scope_before self.now node.now) self.now.names.now expr.now)) result }
+    {
+        match self.check_at(alloc, node, expr) {
+            Ok(checked) => Ok(checked),
+            Err(refusal) => Err(stop_of(refusal)),
+        }
+    }
+
+    /// An expression of a given kind.
+    #[tactic(auto, using(crate::proofs::Checking::kind_is, crate::proofs::Checking::kind_isnt, crate::proofs::Checking::kind_stopped, crate::proofs::Checking::handed_on))]
+    pub(crate) fn expected(
+        &self,
+        alloc: Global,
+        node: &Name,
+        kind: ColType,
+        expr: &Expr,
+    ) -> Result<Checked, Stop>
+        ensures checked { IfOk result (IsCheckedBefore self.now node.now expr.now) }
+        ensures decided { Decides (expect_kind kind (kind_of (scope_before self.now node.now) self.now.names.now expr.now)) result }
+    {
+        let checked = self.expression(alloc, node, expr)?;
+        if same_kind(checked.kind(), kind) {
+            Ok(checked)
+        } else {
+            Err(Stop::Cause(GraphCause::WrongType))
+        }
     }
 }

@@ -2,21 +2,20 @@
 ghost use Rattle.std.specs.Prelude.{◌≡◌, ◌<◌, ◌≤◌, ℕ, length, Some, option_map, slice_get, reverse, IfOk};
 ghost use Rattle.rdf_values.specs.{Answers, is_watched, IsBookable, IsHeader};
 ghost use Rattle.rdf_model.specs.{accesses, loop_of};
-ghost use Rattle.graph.specs.Sets.{has};
+ghost use Rattle.graph.specs.Dependence.{has};
 ghost use Rattle.graph_numbers.specs.{booked, booked_statements, graph_filters, graph_kinds, graph_loops, graph_prints, graph_results, graph_runs, graph_sites, graph_sources, graph_variations, graph_versions, IsGraph, IsSiteExpr, kind_of_booking, result_depends_at, site_depends_at};
-ghost use Rattle.graph.specs.Refusals.{refused_at};
+ghost use Rattle.graph.specs.Bookings.{refused_at};
 
 use crate::book::{book_lines, reversed};
 use crate::copies::{copy_header, copy_names};
 use crate::laws::{result_sets_are_dependence, site_sets_are_dependence};
+use crate::lookup::{at, label_of};
 use crate::loops::{LoopTables, ScriptRows, loop_tables, watched_results};
-use crate::refusal::GraphRefusal;
-use crate::result_path::ResultPath;
-use crate::sources::source_of;
-use crate::tables::Tables;
-use crate::var_set::VarSet;
+use crate::refusals::GraphRefusal;
+use crate::sets::VarSet;
+use crate::tables::{ResultPath, Tables};
 use crate::variations::Variations;
-use crate::walks::label_of;
+use crate::versions::source_of;
 use expr_check::Checked;
 use graph_numbers::{Pass, ResultKind, Source, Version};
 use rdf_values::{ColType, Column, FnName, FnNames, Label, Line, ListOf, Memory, Name, Script};
@@ -48,14 +47,6 @@ impl Model for Graph {
     ghost view = { λ g. view_of g.lines.items g.header g.names };
 
     ghost invariant = { λ g. IsBooked (view_of g.lines.items g.header g.names) g.tables g.loops g.watched.items };
-}
-
-/// The item of that number.
-fn at<T>(items: &[T], n: u32) -> &T
-    requires { n < length items.now }
-    ensures { slice_get items.now n ≡ Some result.now }
-{
-    &items[n as usize]
 }
 
 impl Graph {
@@ -156,13 +147,6 @@ impl Graph {
 
     // ---- results
 
-    /// How many results there are.
-    pub fn results(&self) -> u32
-        ensures { result ≡ length (graph_results self.now) }
-    {
-        self.tables.results.as_slice().len() as u32
-    }
-
     /// The name of a result.
     pub fn result_name(&self, r: u32) -> &Name
         requires { r < length (graph_results self.now) }
@@ -254,15 +238,7 @@ impl Graph {
         self.loops.loops.as_slice().len() as u32
     }
 
-    /// The loop that a Print runs; none where its result was filled before.
-    pub fn loop_of(&self, p: u32) -> Option<u32>
-        requires { p < length (graph_prints self.now) }
-        ensures { slice_get (graph_runs self.now) p ≡ Some result }
-    {
-        *at(self.loops.runs.as_slice(), p)
-    }
-
-    /// The loop that fills the result of a Print: the one that it runs, or one before.
+    /// The loop that fills the result of a Print.
     pub fn filling(&self, p: u32) -> u32
         requires { p < length (graph_prints self.now) }
         ensures { option_map (λ a. loop_of (booked_statements self.now) a.result) (slice_get (accesses (booked_statements self.now)) p) ≡ Some result }
@@ -334,14 +310,6 @@ impl Graph {
         ensures { result ≡ length (graph_versions self.now) }
     {
         self.tables.versions.as_slice().len() as u32
-    }
-
-    /// A version of a column.
-    pub fn version(&self, c: u32) -> &Version
-        requires { c < length (graph_versions self.now) }
-        ensures { slice_get (graph_versions self.now) c ≡ Some result.now }
-    {
-        at(self.tables.versions.as_slice(), c)
     }
 
     /// What gives a version its value under nominal or a variation; it takes at most one step for each Vary of the column.

@@ -3,41 +3,23 @@
 //! into tables: kinds of versions, checked expressions of sites, results, variations, and on which of these each depends.
 #![tactic(auto)]
 
-mod action_checks;
-pub mod amounts;
-mod asked_checks;
+mod amounts;
 mod before;
 mod book;
-mod change;
-mod check;
-pub mod columns;
 mod copies;
-mod gain;
-mod gains;
 pub mod graph;
 pub mod laws;
 pub mod lookup;
 mod loops;
-mod parts;
-mod push;
-pub mod refusal;
 mod refusals;
 mod result_checks;
-mod result_path;
-mod result_row;
-pub mod results;
-mod set_lists;
-pub mod sets;
-mod sources;
-mod stop;
+mod sets;
 mod tables;
-pub mod var_set;
-pub mod variations;
+mod variations;
 mod vary_checks;
 mod versions;
-mod walks;
 
 pub use crate::graph::Graph;
-pub use crate::refusal::GraphRefusal;
-pub use crate::var_set::VarSet;
+pub use crate::refusals::GraphRefusal;
+pub use crate::sets::VarSet;
 pub use crate::variations::Variations;

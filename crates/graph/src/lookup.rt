@@ -1,11 +1,23 @@
 // Look-ups in the statements so far, the latest first: each walks them as its definition does.
-ghost use Rattle.std.specs.Prelude.{◌≡◌, ◌<◌, ◌≤◌, ◌+◌, true, false, codes, length, MatchOption, IfSome};
+ghost use Rattle.std.specs.Prelude.{◌≡◌, ◌<◌, ◌≤◌, ◌+◌, true, false, codes, length, MatchOption, IfSome, Some, option_map, slice_get, IfOk, ◌∷◌, ◌++◌, ℕ, List, [], OnOk, IfNone};
 ghost use Rattle.std.specs.List.{list_any};
-ghost use Rattle.rdf_values.specs.{FunctionNames, is_alias, is_in_use, is_node, is_result, is_visible, made_columns, makes, parent_of, path, place, same, scope_at, scope_of, target_of};
-ghost use Rattle.graph.specs.{books, own_alias, own_made, own_target, statements};
-ghost use Rattle.graph_numbers.specs.{column_place, named_version, own_columns, own_version, version_count};
+ghost use Rattle.rdf_values.specs.{FunctionNames, is_alias, is_in_use, is_node, is_result, is_visible, made_columns, makes, parent_of, path, place, same, scope_at, scope_of, target_of, expression_count, named_before, ActionAt, among, booked_by, bookings, can_watch, filled, is_report, is_watched, names_of, Path, result_is, Statement, watched_results};
+ghost use Rattle.graph.specs.{books, own_alias, own_made, own_target, statements, count_from, covered_numbers, filter_numbers, is_named, labels, named_numbers, own_label, site_total, expression_total, is_filter, own_site_total, result_in};
+ghost use Rattle.graph_numbers.specs.{column_place, named_version, own_columns, own_version, version_count, list_start};
+ghost use Rattle.rdf_values.specs.declared.statement.Statement.TheVariants.{Watch};
 
-use rdf_values::{Column, Line, Name, Statement};
+use rdf_values::{
+    ActionKind, Column, Expr, Label, Line, ListOf, Memory, Name, Statement, VaryValues,
+};
+use std::alloc::Global;
+
+/// The item of that number.
+pub(crate) fn at<T>(items: &[T], n: u32) -> &T
+    requires { n < length items.now }
+    ensures { slice_get items.now n ≡ Some result.now }
+{
+    &items[n as usize]
+}
 
 /// The parent, where the statement makes the node.
 pub fn made_from<'a>(statement: &'a Statement, sought: &Name) -> Option<&'a Name>
@@ -252,5 +264,315 @@ pub fn named_version(
             name,
             named_version(rest, header, first, parent, name),
         ),
+    }
+}
+
+/// So many numbers from the first on.
+#[tactic(auto, using(crate::proofs::Walking::count_more))]
+pub(crate) fn numbers(alloc: Global, first: u32, count: u32) -> Result<ListOf<u32>, Memory>
+    requires { first + count < 4294967296 }
+    ensures { IfOk result (λ l. l ≡ count_from first count) }
+{
+    let mut list = ListOf::new(alloc);
+    for i in 0..count {
+        list.push(first + i)?;
+    }
+    Ok(list)
+}
+
+/// Where a list's first expression is among those of all lists; they have few expressions together.
+pub(crate) fn list_start(lists: &[ListOf<Expr>], i: usize) -> usize
+    requires { expression_count lists.now ≤ 65536 }
+    ensures value { result ≡ list_start lists.now i }
+    ensures few { result ≤ expression_count lists.now }
+{
+    if i == 0 {
+        return 0;
+    }
+    let Some((first, rest)) = lists.split_first() else {
+        return 0;
+    };
+    first.len() + list_start(rest, i - 1)
+}
+
+/// How many expressions lists have, at most so many.
+fn expression_total(lists: &[ListOf<Expr>], most: usize) -> usize
+    requires { expression_total lists.now ≤ most }
+    ensures { result ≡ expression_total lists.now }
+{
+    let Some((first, rest)) = lists.split_first() else {
+        return 0;
+    };
+    let own = first.len();
+    own + expression_total(rest, most - own)
+}
+
+/// How many sites a statement has, at most so many.
+pub fn own_site_total(statement: &Statement, most: usize) -> usize
+    requires { own_site_total statement.now ≤ most }
+    ensures { result ≡ own_site_total statement.now }
+{
+    match statement {
+        Statement::Define { .. } | Statement::Redefine { .. } | Statement::Filter { .. } => 1,
+        Statement::Vary {
+            values: VaryValues::Lists(lists),
+            ..
+        } => expression_total(lists.as_slice(), most),
+        Statement::Vary {
+            values: VaryValues::Vector(_),
+            ..
+        } => 1,
+        _ => 0,
+    }
+}
+
+/// Whether the statement is a Filter.
+pub(crate) fn is_filter(statement: &Statement) -> bool
+    ensures { result ≡ is_filter statement.now }
+{
+    matches!(statement, Statement::Filter { .. })
+}
+
+/// The sites of the filters above a node, head first, where there are so many sites.
+pub(crate) fn filter_sites(
+    alloc: Global,
+    before: &[Line],
+    count: u32,
+    node: &Name,
+) -> Result<ListOf<u32>, Memory>
+    requires { count ≡ site_total (statements before.now) }
+    ensures { IfOk result (λ l. l ≡ filter_numbers (statements before.now) node.now) }
+{
+    let Some((last, rest)) = before.split_first() else {
+        return Ok(ListOf::new(alloc));
+    };
+    let first = count - own_site_total(&last.statement, count as usize) as u32;
+    match made_from(&last.statement, node) {
+        None => filter_sites(alloc, rest, first, node),
+        Some(parent) => {
+            let mut above = filter_sites(alloc, rest, first, parent)?;
+            if is_filter(&last.statement) {
+                above.push(first)?;
+            }
+            Ok(above)
+        }
+    }
+}
+
+/// Whether the statement is a named Filter.
+fn is_named(statement: &Statement) -> bool
+    ensures { result ≡ is_named statement.now }
+{
+    matches!(statement, Statement::Filter { label: Some(_), .. })
+}
+
+/// The label of a named Filter.
+fn own_label(statement: &Statement) -> Option<&Label>
+    ensures { option_map (λ l. l.now) result ≡ own_label statement.now }
+{
+    match statement {
+        Statement::Filter {
+            label: Some(label),
+            ..
+        } => Some(label),
+        _ => None,
+    }
+}
+
+/// The label of the named filter of that number, of so many.
+pub(crate) fn label_of(lines: &[Line], f: usize, count: usize) -> &Label
+    requires all { count ≡ length (named_before (statements lines.now)) }
+    requires within { f < count }
+    ensures { slice_get (labels (statements lines.now)) f ≡ Some result.now }
+{
+    let Some((last, rest)) = lines.split_first() else {
+        unreachable!()
+    };
+    match own_label(&last.statement) {
+        None => label_of(rest, f, count),
+        Some(label) => {
+            if f == count - 1 {
+                label
+            } else {
+                label_of(rest, f, count - 1)
+            }
+        }
+    }
+}
+
+/// The named filters of the path of a node, head first, where there are so many named filters.
+#[tactic(auto, using(crate::proofs::Walking::named_more))]
+fn named_on(alloc: Global, before: &[Line], count: u32, node: &Name) -> Result<ListOf<u32>, Memory>
+    requires { count ≡ length (named_before (statements before.now)) }
+    ensures { IfOk result (λ l. l ≡ named_numbers (statements before.now) node.now) }
+{
+    let Some((last, rest)) = before.split_first() else {
+        return Ok(ListOf::new(alloc));
+    };
+    let own = is_named(&last.statement);
+    let first = if own { count - 1 } else { count };
+    match made_from(&last.statement, node) {
+        None => named_on(alloc, rest, first, node),
+        Some(parent) => {
+            let mut above = named_on(alloc, rest, first, parent)?;
+            if own {
+                above.push(first)?;
+            }
+            Ok(above)
+        }
+    }
+}
+
+/// The named filters that a Report on a node covers, where there are so many named filters.
+pub(crate) fn covered(
+    alloc: Global,
+    before: &[Line],
+    count: u32,
+    node: &Name,
+) -> Result<ListOf<u32>, Memory>
+    requires { count ≡ length (named_before (statements before.now)) }
+    ensures { IfOk result (λ l. l ≡ covered_numbers (statements before.now) node.now) }
+{
+    if is_made_node(before, node) {
+        named_on(alloc, before, count, node)
+    } else {
+        numbers(alloc, 0, count)
+    }
+}
+
+/// Whether the name is one of the names.
+pub(crate) fn is_among(names: &[Name], name: &Name) -> bool
+    ensures { result ≡ among name.now names.now }
+{
+    names.iter().any(|n| name.is(n))
+}
+
+/// The lines before the last Print that filled any results: the results that they book are filled.
+fn filled_lines(before: &[Line]) -> &[Line]
+    ensures { names_of (bookings (statements result.now)) ≡ filled (statements before.now) }
+{
+    let Some((last, rest)) = before.split_first() else {
+        return before;
+    };
+    let filled = filled_lines(rest);
+    match &last.statement {
+        Statement::Print { result } => {
+            if is_result(filled, result) {
+                filled
+            } else {
+                rest
+            }
+        }
+        _ => filled,
+    }
+}
+
+/// Whether the result is filled.
+pub(crate) fn is_filled(before: &[Line], name: &Name) -> bool
+    ensures { result ≡ among name.now (filled (statements before.now)) }
+{
+    is_result(filled_lines(before), name)
+}
+
+/// Whether a line asks for partial results of the result.
+pub(crate) fn is_watched(lines: &[Line], name: &Name) -> bool
+    ensures { result ≡ is_watched (statements lines.now) name.now }
+{
+    let Some((last, rest)) = lines.split_first() else {
+        return false;
+    };
+    let own = match &last.statement {
+        Statement::Watch { result } => result.is(name),
+        _ => false,
+    };
+    own || is_watched(rest, name)
+}
+
+/// How many results are watched.
+#[tactic(auto, using(crate::proofs::Walking::watched_among))]
+pub(crate) fn watched_count(before: &[Line]) -> usize
+    ensures value { result ≡ length (watched_results (statements before.now)) }
+    ensures few { result ≤ length before.now }
+{
+    let Some((last, rest)) = before.split_first() else {
+        return 0;
+    };
+    let count = watched_count(rest);
+    match &last.statement {
+        Statement::Watch { result } => {
+            if is_watched(rest, result) {
+                count
+            } else {
+                count + 1
+            }
+        }
+        _ => count,
+    }
+}
+
+/// Whether an action may be watched.
+fn can_watch(kind: &ActionKind) -> bool
+    ensures { (at : Path) → result ≡ can_watch (ActionAt kind.now at) }
+{
+    matches!(
+        kind,
+        ActionKind::Count | ActionKind::Sum(_) | ActionKind::Min(_) | ActionKind::Max(_)
+    )
+}
+
+/// Whether the statement books a result of that name which may be watched.
+fn own_watchable(statement: &Statement, name: &Name) -> bool
+    ensures { (before : List Statement) → result ≡ result_in can_watch name.now (booked_by before statement.now) }
+{
+    match statement {
+        Statement::Action { result, kind, .. } => result.is(name) && can_watch(kind),
+        _ => false,
+    }
+}
+
+/// Whether the statement books a report of that name.
+fn own_report(statement: &Statement, name: &Name) -> bool
+    ensures { (before : List Statement) → result ≡ result_in is_report name.now (booked_by before statement.now) }
+{
+    match statement {
+        Statement::Report { result, .. } => result.is(name),
+        _ => false,
+    }
+}
+
+/// Whether the result of that name may be watched.
+#[tactic(auto, using(crate::proofs::Walking::result_is_step))]
+pub(crate) fn is_watchable(before: &[Line], name: &Name) -> bool
+    ensures { result ≡ result_is can_watch (statements before.now) name.now }
+{
+    let Some((last, rest)) = before.split_first() else {
+        return false;
+    };
+    is_watchable(rest, name) || own_watchable(&last.statement, name)
+}
+
+/// Whether the result of that name is a report.
+#[tactic(auto, using(crate::proofs::Walking::result_is_step))]
+pub(crate) fn is_report(before: &[Line], name: &Name) -> bool
+    ensures { result ≡ result_is is_report (statements before.now) name.now }
+{
+    let Some((last, rest)) = before.split_first() else {
+        return false;
+    };
+    is_report(rest, name) || own_report(&last.statement, name)
+}
+
+/// How many results there are.
+#[tactic(auto, using(crate::proofs::Walking::count_step))]
+pub(crate) fn result_count(before: &[Line]) -> usize
+    ensures value { result ≡ length (bookings (statements before.now)) }
+    ensures few { result ≤ length before.now }
+{
+    let Some((last, rest)) = before.split_first() else {
+        return 0;
+    };
+    match &last.statement {
+        Statement::Action { .. } | Statement::Report { .. } => result_count(rest) + 1,
+        _ => result_count(rest),
     }
 }

@@ -5,13 +5,13 @@ ghost use Rattle.graph_numbers.specs.{numbered_pass};
 ghost use Rattle.graph.specs.LoopRows.{IsNoPrint, AreNamedInTurn, members_from, IsScriptRows, passes_of_rows, AreLoops, BeginsWith};
 ghost use Rattle.graph.specs.OneProof.{script_rows-prop};
 ghost use Rattle.graph.specs.Lookups.{statements};
-ghost use Rattle.graph.specs.Sets.{has};
+ghost use Rattle.graph.specs.Dependence.{has};
 
 use crate::amounts::has_variations;
-use crate::push::{push, push_many};
-use crate::result_row::ResultRow;
-use crate::results::result_count;
-use crate::var_set::VarSet;
+use crate::copies::{push, push_many};
+use crate::lookup::{is_watched, result_count};
+use crate::sets::VarSet;
+use crate::tables::ResultRow;
 use graph_numbers::Pass;
 use rdf_values::{Line, ListOf, Memory, Name, Statement};
 use std::alloc::Global;
@@ -25,12 +25,10 @@ pub(crate) struct ScriptRows<'a> {
     ghost are: { IsScriptRows (statements lines.now) results.now variations } by { script_rows-prop (statements lines.now) results.now variations },
 }
 
-/// The passes of each loop; for each Print the loop that it runs, its result, and the loop that fills it; and for each
-/// result that is filled its loop.
+/// The passes of each loop; for each Print its result and the loop that fills it; and for each result that is filled its loop.
 #[derive(Drop)]
 pub struct LoopTables {
     pub loops: Vec<ListOf<Pass>>,
-    pub runs: Vec<Option<u32>>,
     pub prints: Vec<u32>,
     pub filling: Vec<u32>,
     pub fillers: Vec<u32>,
@@ -47,18 +45,16 @@ impl LoopTables {
     {
         LoopTables {
             loops: Vec::new(alloc),
-            runs: Vec::new(alloc),
             prints: Vec::new(alloc),
             filling: Vec::new(alloc),
             fillers: Vec::new(alloc),
         }
     }
 
-    /// Notes a Print: its result, the loop that it runs, and the one that fills its result.
-    fn note(&mut self, n: u32, run: Option<u32>, filler: u32) -> Result<(), Memory>
-        ensures { OnOk result (IsNoted self.old n run filler self.new) }
+    /// Notes a Print: its result and the loop that fills it.
+    fn note(&mut self, n: u32, filler: u32) -> Result<(), Memory>
+        ensures { OnOk result (IsNoted self.old n filler self.new) }
     {
-        push(&mut self.runs, run)?;
         push(&mut self.prints, n)?;
         push(&mut self.filling, filler)
     }
@@ -84,14 +80,14 @@ impl LoopTables {
         let filled = self.fillers.as_slice().len();
         if n < filled {
             let filler = number_at(self.fillers.as_slice(), n);
-            self.note(n as u32, None, filler)
+            self.note(n as u32, filler)
         } else {
             let booked = result_count(before);
             let passes = waiting_passes(alloc, script, filled, booked)?;
             let place = self.loops.len() as u32;
             push(&mut self.loops, passes)?;
             push_many(&mut self.fillers, place, booked - filled)?;
-            self.note(n as u32, Some(place), place)
+            self.note(n as u32, place)
         }
     }
 }
@@ -136,20 +132,6 @@ fn printed(statement: &Statement) -> Option<&Name>
         Statement::Print { result } => Some(result),
         _ => None,
     }
-}
-
-/// Whether a line asks for partial results of the result.
-fn is_watched(lines: &[Line], name: &Name) -> bool
-    ensures { result ≡ is_watched (statements lines.now) name.now }
-{
-    let Some((last, rest)) = lines.split_first() else {
-        return false;
-    };
-    let own = match &last.statement {
-        Statement::Watch { result } => result.is(name),
-        _ => false,
-    };
-    own || is_watched(rest, name)
 }
 
 /// The number of the result of that name.

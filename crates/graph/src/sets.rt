@@ -1,9 +1,91 @@
 // Sets of variations of versions, sites and filters.
-ghost use Rattle.std.specs.Prelude.{◌≡◌, ◌≤◌, ◌+◌, ℕ};
-ghost use Rattle.graph.specs.{any_has, expression_total, has, has_at, is_among_own, is_filter, own_site_total};
+ghost use Rattle.std.specs.Prelude.{◌≡◌, ◌<◌, ◌≤◌, ◌||◌, ℕ, false, nat_eq, MatchOption, ◌+◌, ◌++◌, length, map, IfOk, OnOk};
+ghost use Rattle.graph.specs.{count_of, has, IsNext, members_below, any_has, has_at, is_among_own, AppendsSets, AreSets, changed_set, read_sets, scope_before, set_changed, variation_count};
+ghost use Rattle.rdf_values.specs.{column_kind, columns_in, kind_or_int};
 
-use crate::var_set::VarSet;
-use rdf_values::{Expr, ListOf, Statement, VaryValues};
+use crate::before::Before;
+use expr_check::Checked;
+use rdf_values::{ColType, Memory, Name};
+use std::alloc::Global;
+
+/// A set of numbers below 128.
+#[derive(Clone, Copy, Debug, PartialEq, Eq)]
+pub struct VarSet {
+    bits: u128,
+}
+
+impl VarSet {
+    /// No numbers.
+    #[tactic(auto, using(crate::proofs::Bits::none_in))]
+    pub fn empty() -> VarSet
+        ensures { (v : ℕ) → has result v ≡ false }
+    {
+        VarSet { bits: 0 }
+    }
+
+    /// The set with one number more.
+    #[tactic(auto, using(crate::proofs::Bits::more_in))]
+    pub fn with(self, v: u32) -> VarSet
+        requires { v < 128 }
+        ensures { (u : ℕ) → has result u ≡ (nat_eq u v || has self u) }
+    {
+        VarSet {
+            bits: self.bits | (1 << v),
+        }
+    }
+
+    /// The numbers of either set.
+    #[tactic(auto, using(crate::proofs::Bits::either_in))]
+    pub fn union(self, other: VarSet) -> VarSet
+        ensures { (v : ℕ) → has result v ≡ (has self v || has other v) }
+    {
+        VarSet {
+            bits: self.bits | other.bits,
+        }
+    }
+
+    /// Whether the number is in the set.
+    pub fn contains(self, v: u32) -> bool
+        requires { v < 128 }
+        ensures { result ≡ has self v }
+    {
+        (self.bits >> v) & 1 == 1
+    }
+
+    /// How many numbers are in the set.
+    pub fn count(self) -> u32
+        ensures value { result ≡ count_of self }
+        ensures members { result ≡ members_below self 128 }
+        ensures bound { result ≤ 128 }
+        ensures above { (v : ℕ) → 128 ≤ v → has self v ≡ false }
+    {
+        self.bits.count_ones()
+    }
+
+    /// How many numbers of the set are below a number.
+    pub fn count_below(self, v: u32) -> u32
+        requires { v < 128 }
+        ensures value { result ≡ members_below self v }
+        ensures bound { result ≤ v }
+    {
+        (self.bits & ((1 << v) - 1)).count_ones()
+    }
+
+    /// The least number of the set that is at or above a number.
+    pub fn next_from(self, v: u32) -> Option<u32>
+        ensures { MatchOption result ((u : ℕ) → v ≤ u → has self u ≡ false) (IsNext self v) }
+    {
+        if v >= 128 {
+            return None;
+        }
+        let rest = self.bits >> v;
+        if rest == 0 {
+            None
+        } else {
+            Some(v + rest.trailing_zeros())
+        }
+    }
+}
 
 /// The set at a place; the empty set where there is none.
 pub(crate) fn set_at(sets: &[VarSet], place: usize) -> VarSet
@@ -25,44 +107,6 @@ pub(crate) fn set_of(sets: &[VarSet], places: &[u32]) -> VarSet
     set_at(sets, *first as usize).union(set_of(sets, rest))
 }
 
-/// How many expressions lists have, at most so many.
-fn expression_total(lists: &[ListOf<Expr>], most: usize) -> usize
-    requires { expression_total lists.now ≤ most }
-    ensures { result ≡ expression_total lists.now }
-{
-    let Some((first, rest)) = lists.split_first() else {
-        return 0;
-    };
-    let own = first.len();
-    own + expression_total(rest, most - own)
-}
-
-/// How many sites a statement has, at most so many.
-pub fn own_site_total(statement: &Statement, most: usize) -> usize
-    requires { own_site_total statement.now ≤ most }
-    ensures { result ≡ own_site_total statement.now }
-{
-    match statement {
-        Statement::Define { .. } | Statement::Redefine { .. } | Statement::Filter { .. } => 1,
-        Statement::Vary {
-            values: VaryValues::Lists(lists),
-            ..
-        } => expression_total(lists.as_slice(), most),
-        Statement::Vary {
-            values: VaryValues::Vector(_),
-            ..
-        } => 1,
-        _ => 0,
-    }
-}
-
-/// Whether the statement is a Filter.
-pub(crate) fn is_filter(statement: &Statement) -> bool
-    ensures { result ≡ is_filter statement.now }
-{
-    matches!(statement, Statement::Filter { .. })
-}
-
 /// So many numbers from the first on.
 pub(crate) fn own_set(first: u32, count: u32) -> VarSet
     requires { first + count ≤ 128 }
@@ -73,4 +117,96 @@ pub(crate) fn own_set(first: u32, count: u32) -> VarSet
         set = set.with(v);
     }
     set
+}
+
+/// The variations on which an expression depends, where versions have those sets.
+#[tactic(auto, using(crate::proofs::Listing::any_distinct))]
+fn read_set(versions: &[VarSet], site: &Checked) -> VarSet
+    ensures { (v : ℕ) → has result v ≡ any_has versions.now (columns_in site.now.tree) v }
+{
+    set_of(versions, site.reads())
+}
+
+/// Those of expressions, appended.
+#[tactic(auto, using(crate::proofs::Listing::one_more))]
+fn push_sets(versions: &[VarSet], sites: &[Checked], sets: &mut Vec<VarSet>) -> Result<(), Memory>
+    ensures { OnOk result (AppendsSets (read_sets versions.now sites.now) sets.old.items sets.new.items) }
+{
+    let Some((first, rest)) = sites.split_first() else {
+        return Ok(());
+    };
+    sets.push(read_set(versions, first))?;
+    push_sets(versions, rest, sets)
+}
+
+/// The variations on which expressions depend, where versions have those sets.
+pub(crate) fn sets_of(
+    alloc: Global,
+    versions: &[VarSet],
+    sites: &[Checked],
+) -> Result<Vec<VarSet>, Memory>
+    ensures { IfOk result (λ sets. AreSets (read_sets versions.now sites.now) sets.items) }
+{
+    let mut sets = Vec::new(alloc);
+    push_sets(versions, sites, &mut sets)?;
+    Ok(sets)
+}
+
+/// What a column that a Vary changes depends on: the Vary's own variations, and what the version below does.
+fn changed_set(before: &Before<'_>, parent: &Name, tags: u32, column: &Name) -> VarSet
+    requires { variation_count before.now + tags ≤ 128 }
+    ensures { (v : ℕ) → has result v ≡ set_changed before.now parent.now tags column.now v }
+{
+    let first = before.tables.variations.len();
+    let versions = before.tables.version_sets.as_slice();
+    let below = before.named_version(parent, column);
+    own_set(first, tags).union(set_at(versions, below as usize))
+}
+
+/// Those of columns, appended.
+#[tactic(auto, using(crate::proofs::Listing::one_more))]
+fn push_changed(
+    before: &Before<'_>,
+    parent: &Name,
+    tags: u32,
+    columns: &[Name],
+    sets: &mut Vec<VarSet>,
+) -> Result<(), Memory>
+    requires { variation_count before.now + tags ≤ 128 }
+    ensures { OnOk result (AppendsSets (map (set_changed before.now parent.now tags) columns.now) sets.old.items sets.new.items) }
+{
+    let Some((column, rest)) = columns.split_first() else {
+        return Ok(());
+    };
+    sets.push(changed_set(before, parent, tags, column))?;
+    push_changed(before, parent, tags, rest, sets)
+}
+
+/// What the columns that a Vary changes depend on.
+pub(crate) fn changed_sets(
+    alloc: Global,
+    before: &Before<'_>,
+    parent: &Name,
+    tags: u32,
+    columns: &[Name],
+) -> Result<Vec<VarSet>, Memory>
+    requires { variation_count before.now + tags ≤ 128 }
+    ensures { IfOk result (λ sets. AreSets (map (set_changed before.now parent.now tags) columns.now) sets.items) }
+{
+    let mut sets = Vec::new(alloc);
+    push_changed(before, parent, tags, columns, &mut sets)?;
+    Ok(sets)
+}
+
+/// The kinds of columns at a node, and that of a number where there is none.
+pub(crate) fn kinds_at(
+    alloc: Global,
+    before: &Before<'_>,
+    parent: &Name,
+    columns: &[Name],
+) -> Result<Vec<ColType>, Memory>
+    ensures { IfOk result (λ found. found.items ≡ map (λ c. kind_or_int (column_kind (scope_before before.now parent.now) c)) columns.now) }
+{
+    let kinds = columns.iter().map(|column| before.kind_at(parent, column));
+    Ok(kinds.collect(alloc)?)
 }

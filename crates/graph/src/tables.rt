@@ -1,17 +1,63 @@
 // The tables that are kept while statements are booked.
-ghost use Rattle.std.specs.Prelude.{◌≡◌, ◌+◌, ◌≤◌, [], ℕ, false, true, length, map, IfOk, OnOk};
-ghost use Rattle.rdf_values.specs.{FunctionNames};
-ghost use Rattle.graph.specs.{AppendsSets};
+ghost use Rattle.std.specs.Prelude.{◌≤◌, length, ◌≡◌, ◌+◌, [], ℕ, false, true, map, IfOk, OnOk};
+ghost use Rattle.rdf_values.specs.{AreShortValues, FunctionNames};
+ghost use Rattle.graph.specs.ShortProof.{short-prop};
+ghost use Rattle.graph.specs.Dependence.{AppendsSets};
 
-use crate::gain::Gain;
-use crate::result_row::ResultRow;
-use crate::var_set::VarSet;
-use crate::variations::Variations;
+use crate::sets::VarSet;
+use crate::variations::{FullName, Variations};
 use crate::versions::push_cells;
 use expr_check::Checked;
-use graph_numbers::Version;
-use rdf_values::{ColType, Column, ListOf, Memory};
+use graph_numbers::{ResultKind, Version};
+use rdf_values::{ColType, Column, ListOf, Memory, Name, VaryValues};
 use std::alloc::Global;
+
+/// What a result is, the sites of the filters above it, the versions that it reads, and the named filters that it covers.
+#[derive(Drop)]
+pub struct ResultPath {
+    pub kind: ResultKind,
+    pub filters: ListOf<u32>,
+    pub inputs: ListOf<u32>,
+    pub covers: ListOf<u32>,
+}
+
+/// A result's name, how many histogram cells and Takes each of its passes has, the variations on which it depends, and what
+/// the loop reads of it.
+#[derive(Drop)]
+pub struct ResultRow {
+    pub name: Name,
+    pub cells: usize,
+    pub takes: usize,
+    pub set: VarSet,
+    pub path: ResultPath,
+}
+
+/// The versions that a statement makes, with their kinds and the variations on which they depend; its sites in the order of
+/// booking, with the same; the sites of a named filter; its result, where it books one; and its variations.
+#[derive(Drop)]
+pub struct Gain {
+    pub versions: Vec<Version>,
+    pub kinds: Vec<ColType>,
+    pub version_sets: Vec<VarSet>,
+    pub sites: Vec<Checked>,
+    pub site_sets: Vec<VarSet>,
+    pub filters: Vec<ListOf<u32>>,
+    pub results: Vec<ResultRow>,
+    pub variations: Vec<FullName>,
+}
+
+/// What a Vary changes at a node, how, and by which tags under which name.
+#[derive(Clone, Copy)]
+pub(crate) struct Change<'a> {
+    pub(crate) parent: &'a Name,
+    pub(crate) columns: &'a [Name],
+    pub(crate) values: &'a VaryValues,
+    pub(crate) tags: &'a [Name],
+    pub(crate) name: &'a Name,
+    ghost few_columns: { length columns.now ≤ 65536 },
+    ghost few_tags: { length tags.now ≤ 65536 },
+    ghost short: { AreShortValues values.now } by { short-prop values.now },
+}
 
 const MOST_VERSIONS: usize = 4294967295;
 
@@ -37,7 +83,7 @@ fn kinds_of(alloc: Global, header: &[Column]) -> Result<Vec<ColType>, Memory>
 }
 
 /// An empty set for each of the table's columns.
-#[tactic(auto, using(crate::proofs::SetTables::one_more))]
+#[tactic(auto, using(crate::proofs::Listing::one_more))]
 fn push_empty_sets(sets: &mut Vec<VarSet>, header: &[Column]) -> Result<(), Memory>
     ensures { OnOk result (AppendsSets (map (λ _ v. false) header.now) sets.old.items sets.new.items) }
 {

@@ -1,6 +1,6 @@
 // Variations in the order of their numbers.
 ghost use Rattle.std.specs.Prelude.{◌≡◌, ◌<◌, ◌≤◌, ◌+◌, ◌++◌, List, length, Some, option_map, slice_get, IfOk, OnOk, OnErr};
-ghost use Rattle.graph.specs.Names.{is_taken, named};
+ghost use Rattle.graph.specs.Rows.{is_taken, named};
 
 use rdf_values::{Memory, Name};
 use std::alloc::Global;

@@ -7,13 +7,11 @@ ghost use Rattle.rdf_values.specs.declared.value.ColType.TheVariants as a_kind;
 ghost use Rattle.rdf_values.specs.declared.vary_values.VaryValues.TheVariants.{Vector};
 ghost use Rattle.graph.specs.{all_expressions, AppendsChecked, AreCheckedBefore, Decides, history, scope_before, targets_at, value_expressions, verdict_after};
 
-use crate::before::Before;
-use crate::change::Change;
-use crate::parts::same_kind;
-use crate::push::{alone, push};
-use crate::refusals::{first_of, refuse_if, refuse_unless, stop_if};
-use crate::results::is_among;
-use crate::stop::Stop;
+use crate::before::{Before, same_kind};
+use crate::copies::{alone, push};
+use crate::lookup::is_among;
+use crate::refusals::{Stop, first_of, refuse_if, refuse_unless, stop_if};
+use crate::tables::Change;
 use crate::variations::Variations;
 use expr_check::Checked;
 use rdf_values::{ColType, Expr, GraphCause, ListOf, Name, VaryValues};

@@ -1,12 +1,13 @@
 // The versions that the table and a Vary make.
-ghost use Rattle.std.specs.Prelude.{◌≡◌, ◌≤◌, ◌+◌, ◌++◌, length, IfOk, OnOk};
-ghost use Rattle.graph.specs.{cell_rows, named_version_before, sites_so_far, variation_count, varied_row, versions_changed};
+ghost use Rattle.std.specs.Prelude.{◌≡◌, ◌≤◌, ◌+◌, ◌++◌, length, IfOk, OnOk, ◌<◌, ℕ, List, Some, slice_get, IfSome};
+ghost use Rattle.graph.specs.{cell_rows, named_version_before, sites_so_far, variation_count, varied_row, versions_changed, AreAbove, AreSourcesOf, HasSites, tag_at, tag_source};
+ghost use Rattle.graph_numbers.specs.{Source};
 
 use crate::before::Before;
-use crate::change::Change;
-use crate::push::push;
-use crate::walks::{list_start, numbers};
-use graph_numbers::Version;
+use crate::copies::push;
+use crate::lookup::{at, list_start, numbers};
+use crate::tables::Change;
+use graph_numbers::{Source, Version};
 use rdf_values::{Column, ListOf, Memory, Name, VaryValues};
 use std::alloc::Global;
 
@@ -96,4 +97,56 @@ pub(crate) fn varied_versions(
     let mut versions = Vec::new(alloc);
     push_varied(alloc, &mut versions, before, change, 0, change.columns)?;
     Ok(versions)
+}
+
+/// The place of a variation among so many from the first on.
+fn tag_at(under: Option<u32>, first: u32, tags: u32) -> Option<u32>
+    ensures value { result ≡ tag_at under first tags }
+    ensures within { IfSome result (λ k. k < tags) }
+{
+    match under {
+        Some(v) if first <= v && v - first < tags => Some(v - first),
+        _ => None,
+    }
+}
+
+/// A tag's site, or its element of the vector of the one site.
+fn tag_source(sites: &[u32], vector: bool, tags: u32, k: u32) -> Source
+    requires sites { HasSites vector (length sites.now) tags }
+    requires tag { k < tags }
+    ensures { tag_source sites.now vector tags k ≡ Some result }
+{
+    if vector {
+        Source::Element {
+            site: sites[0],
+            place: k,
+            tags,
+        }
+    } else {
+        Source::Site {
+            site: sites[k as usize],
+        }
+    }
+}
+
+/// The source of a version under nominal or a variation: at most one step for each Vary of its column.
+pub(crate) fn source_of(versions: &[Version], c: u32, under: Option<u32>) -> Source
+    requires within { c < length versions.now }
+    requires above { AreAbove versions.now }
+    ensures { (sources : List Source) → AreSourcesOf versions.now under sources → slice_get sources c ≡ Some result }
+{
+    match at(versions, c) {
+        Version::Cell { col } => Source::Cell { col: *col },
+        Version::Computed { site } => Source::Site { site: *site },
+        Version::Varied {
+            below,
+            first,
+            tags,
+            sites,
+            vector,
+        } => match tag_at(under, *first, *tags) {
+            None => source_of(versions, *below, under),
+            Some(k) => tag_source(sites.as_slice(), *vector, *tags, k),
+        },
+    }
 }

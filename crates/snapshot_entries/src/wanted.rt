@@ -5,8 +5,7 @@ ghost use Rattle.graph.specs.{filter_numbers, is_filter, own_number, own_site_to
 ghost use Rattle.snapshot_entries.specs.{AreVersions, data_of, IsWanted, IsWork, plan_of};
 
 use crate::job::SnapJob;
-use graph::lookup::{made_from, named_version, target_of};
-use graph::sets::own_site_total;
+use graph::lookup::{made_from, named_version, own_site_total, target_of};
 use rdf_values::{Line, ListOf, Memory, Name, Statement};
 use std::alloc::Global;
 

@@ -2,7 +2,7 @@ use Rattle.std.proofs.Common.{subst}
 use Rattle.rdf_values.specs.{check, scope_of}
 use Rattle.graph.specs.{AreTables, statements}
 use Rattle.graph.proofs.Gaining.{gain_fits}
-use Rattle.graph.proofs.Refusing.{empty, refused_last}
+use Rattle.graph.proofs.Finished.{empty, refused_last}
 use Rattle.graph.proofs.book.+book_lines.Goals as goal
 
 pub returns-in_default-clause-booked : goal.returns-in_default-clause-booked

@@ -1,8 +1,8 @@
 use Rattle.std.proofs.Common.{arith}
 use Rattle.graph.specs.{statements}
-use Rattle.graph.proofs.Counted.{versions_are}
+use Rattle.graph.proofs.SiteTotals.{versions_are}
 use Rattle.graph.proofs.Scoping.{kinds_counted}
-use Rattle.graph.proofs.Walked.{named_few}
+use Rattle.graph.proofs.Walking.{named_few}
 use Rattle.graph.proofs.before.Before.named_version.Goals as goal
 
 pub named_version-requires : goal.named_version-requires

@@ -1,4 +1,4 @@
-use Rattle.graph.proofs.Reading.{booked_now, there_too, filling_is}
+use Rattle.graph.proofs.Finished.{booked_now, there_too, filling_is}
 use Rattle.graph.proofs.graph.Graph.filling.Goals as goal
 
 pub returns : goal.returns

@@ -1,7 +1,7 @@
 use Rattle.std.proofs.Common.{subst, sym}
 use Rattle.graph_numbers.specs.{booked_statements}
 use Rattle.graph.specs.{AreKinds}
-use Rattle.graph.proofs.Reading.{booked_now}
+use Rattle.graph.proofs.Finished.{booked_now}
 use Rattle.graph.proofs.graph.Graph.kinds.Goals as goal
 
 pub returns : goal.returns

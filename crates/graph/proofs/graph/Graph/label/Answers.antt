@@ -1,8 +1,7 @@
 use Rattle.std.proofs.Common.{ap, length, ◌∙◌, sym, slice_get}
 use Rattle.rdf_values.specs.{named_before}
 use Rattle.graph.specs.{labels, statements}
-use Rattle.graph.proofs.Finished.{history_of}
-use Rattle.graph.proofs.Reading.{label_count, label_is, booked_now}
+use Rattle.graph.proofs.Finished.{history_of, label_count, label_is, booked_now}
 use Rattle.graph_numbers.specs.{booked_statements}
 use Rattle.graph.proofs.graph.Graph.label.Goals as goal
 

@@ -1,5 +1,5 @@
-use Rattle.graph.specs.declared.result_path.ResultPath.{ResultPath}
-use Rattle.graph.proofs.Reading.{booked_now, path_is, row_count, there_too, within_list}
+use Rattle.graph.specs.declared.tables.ResultPath.{ResultPath}
+use Rattle.graph.proofs.Finished.{booked_now, path_is, row_count, there_too, within_list}
 use Rattle.graph.proofs.graph.Graph.result_path.Goals as goal
 
 pub at-requires : goal.at-requires

@@ -1,4 +1,4 @@
-use Rattle.graph.proofs.Reading.{booked_now, within_list, there_too, site_set_count, site_set_is}
+use Rattle.graph.proofs.Finished.{booked_now, within_list, there_too, site_set_count, site_set_is}
 use Rattle.graph.proofs.graph.Graph.site_depends.Goals as goal
 
 pub at-requires : goal.at-requires

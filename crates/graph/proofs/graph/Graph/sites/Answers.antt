@@ -1,5 +1,5 @@
 use Rattle.std.proofs.Common.{ap, length, ◌∙◌}
-use Rattle.graph.proofs.Reading.{booked_now, site_count}
+use Rattle.graph.proofs.Finished.{booked_now, site_count}
 use Rattle.graph.proofs.graph.Graph.sites.Goals as goal
 
 pub returns : goal.returns

@@ -1,0 +1,48 @@
+use Rattle.std.proofs.Common.{refl, sym, ◌∙◌}
+use Rattle.rdf_values.specs.declared.statement.Statement.TheVariants.{Vary, VariationsFor, Watch, Print}
+use Rattle.graph.specs.{statements}
+use Rattle.graph.proofs.Gaining.{decided_at, gained, nothing_gained}
+use Rattle.graph.proofs.book.check_statement.Goals as goal
+
+pub returns-in-Define-clause-decided : goal.returns-in-Define-clause-decided
+returns-in-Define-clause-decided c = decided_at c.args.before.now.header.now c.args.before.now.names.now (statements c.args.before.now.lines.now) c.args.statement.now _ c.define_gain.result c.in-Define.is c.define_gain.ensures.decided
+
+pub returns-in-Redefine-clause-decided : goal.returns-in-Redefine-clause-decided
+returns-in-Redefine-clause-decided c = decided_at c.args.before.now.header.now c.args.before.now.names.now (statements c.args.before.now.lines.now) c.args.statement.now _ c.redefine_gain.result c.in-Redefine.is c.redefine_gain.ensures.decided
+
+pub returns-in-Filter-clause-decided : goal.returns-in-Filter-clause-decided
+returns-in-Filter-clause-decided c = decided_at c.args.before.now.header.now c.args.before.now.names.now (statements c.args.before.now.lines.now) c.args.statement.now _ c.filter_gain.result c.in-Filter.is c.filter_gain.ensures.decided
+
+pub returns-in-Vary-clause-decided : goal.returns-in-Vary-clause-decided
+returns-in-Vary-clause-decided c = decided_at c.args.before.now.header.now c.args.before.now.names.now (statements c.args.before.now.lines.now) c.args.statement.now _ c.vary_gain.result
+    (c.in-Vary.is ∙ (λ i. Vary c.in-Vary.node c.in-Vary.parent (sym c.as_slice.ensures i) c.in-Vary.values (sym c.as_slice-in-Vary.ensures i) c.in-Vary.name)) c.vary_gain.ensures.decided
+
+pub returns-in-Action-clause-decided : goal.returns-in-Action-clause-decided
+returns-in-Action-clause-decided c = decided_at c.args.before.now.header.now c.args.before.now.names.now (statements c.args.before.now.lines.now) c.args.statement.now _ c.action_gain.result c.in-Action.is c.action_gain.ensures.decided
+
+pub returns-in-Alias-clause-decided : goal.returns-in-Alias-clause-decided
+returns-in-Alias-clause-decided c = decided_at c.args.before.now.header.now c.args.before.now.names.now (statements c.args.before.now.lines.now) c.args.statement.now _ c.alias_gain.result c.in-Alias.is c.alias_gain.ensures.decided
+
+pub returns-in-VariationsFor-clause-gained : goal.returns-in-VariationsFor-clause-gained
+returns-in-VariationsFor-clause-gained c =
+    nothing_gained c.args.before.now.header.now c.args.before.now.names.now (statements c.args.before.now.lines.now) c.args.statement.now _ c.nothing.result c.in-VariationsFor.is (c.nothing.ensures.decided _ c.check_variations_for.ensures) c.nothing.ensures.empty
+    (λ g ok e. gained c.args.before.now.header.now c.args.before.now.names.now (statements c.args.before.now.lines.now) (VariationsFor c.in-VariationsFor.result) g ok e refl (λ out o. o) (λ out o. o) tt (tt, tt) refl)
+
+pub returns-in-VariationsFor-clause-decided : goal.returns-in-VariationsFor-clause-decided
+returns-in-VariationsFor-clause-decided c = decided_at c.args.before.now.header.now c.args.before.now.names.now (statements c.args.before.now.lines.now) c.args.statement.now _ c.nothing.result c.in-VariationsFor.is (c.nothing.ensures.decided _ c.check_variations_for.ensures)
+
+pub returns-in-Watch-clause-gained : goal.returns-in-Watch-clause-gained
+returns-in-Watch-clause-gained c =
+    nothing_gained c.args.before.now.header.now c.args.before.now.names.now (statements c.args.before.now.lines.now) c.args.statement.now _ c.nothing-in-Watch.result c.in-Watch.is (c.nothing-in-Watch.ensures.decided _ c.check_watch.ensures) c.nothing-in-Watch.ensures.empty
+    (λ g ok e. gained c.args.before.now.header.now c.args.before.now.names.now (statements c.args.before.now.lines.now) (Watch c.in-Watch.result) g ok e refl (λ out o. o) (λ out o. o) tt (tt, tt) refl)
+
+pub returns-in-Watch-clause-decided : goal.returns-in-Watch-clause-decided
+returns-in-Watch-clause-decided c = decided_at c.args.before.now.header.now c.args.before.now.names.now (statements c.args.before.now.lines.now) c.args.statement.now _ c.nothing-in-Watch.result c.in-Watch.is (c.nothing-in-Watch.ensures.decided _ c.check_watch.ensures)
+
+pub returns-in-Print-clause-gained : goal.returns-in-Print-clause-gained
+returns-in-Print-clause-gained c =
+    nothing_gained c.args.before.now.header.now c.args.before.now.names.now (statements c.args.before.now.lines.now) c.args.statement.now _ c.nothing-in-Print.result c.in-Print.is (c.nothing-in-Print.ensures.decided _ c.check_print.ensures) c.nothing-in-Print.ensures.empty
+    (λ g ok e. gained c.args.before.now.header.now c.args.before.now.names.now (statements c.args.before.now.lines.now) (Print c.in-Print.result) g ok e refl (λ out o. o) (λ out o. o) tt (tt, tt) refl)
+
+pub returns-in-Print-clause-decided : goal.returns-in-Print-clause-decided
+returns-in-Print-clause-decided c = decided_at c.args.before.now.header.now c.args.before.now.names.now (statements c.args.before.now.lines.now) c.args.statement.now _ c.nothing-in-Print.result c.in-Print.is (c.nothing-in-Print.ensures.decided _ c.check_print.ensures)

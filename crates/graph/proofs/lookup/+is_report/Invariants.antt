@@ -1,0 +1,5 @@
+use Rattle.std.proofs.Common.{length}
+use Rattle.graph.proofs.lookup.+is_report.Given as goal
+
+abbrev pub decreases-is_report : goal.decreases-is_report
+decreases-is_report l = length l.before.now

@@ -1,0 +1,5 @@
+use Rattle.std.proofs.Common.{length}
+use Rattle.graph.proofs.lookup.+named_on.Given as goal
+
+abbrev pub decreases-named_on : goal.decreases-named_on
+decreases-named_on l = length l.before.now

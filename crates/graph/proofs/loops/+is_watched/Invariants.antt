@@ -1,5 +1,0 @@
-use Rattle.std.proofs.Common.{length}
-use Rattle.graph.proofs.loops.+is_watched.Given as goal
-
-abbrev pub decreases-is_watched : goal.decreases-is_watched
-decreases-is_watched l = length l.lines.now

@@ -1,0 +1,14 @@
+use Rattle.std.proofs.Common.{◌∷◌, subst, sym}
+use Rattle.std.proofs.lemmas.List.{append-nil}
+use Rattle.rdf_values.specs.{bookings, variations}
+use Rattle.rdf_values.specs.declared.statement.Statement.TheVariants.{VariationsFor}
+use Rattle.graph.specs.{statements}
+use Rattle.graph.proofs.Counting.{AllPassed, passes_checked, rows_passed}
+use Rattle.graph.proofs.result_checks.passes_asked.Goals as goal
+
+pub returns : goal.returns
+returns c =
+    passes_checked (VariationsFor c.args.name.now ∷ statements c.args.before.now.lines.now) (bookings (statements c.args.before.now.lines.now)) c.as_slice-rows.result.now
+    (subst (AllPassed (VariationsFor c.args.name.now ∷ statements c.args.before.now.lines.now) (bookings (statements c.args.before.now.lines.now))) (sym c.as_slice-rows.ensures.value)
+    (rows_passed c.args.before.now.header.now c.args.before.now.names.now (VariationsFor c.args.name.now ∷ statements c.args.before.now.lines.now) (statements c.args.before.now.lines.now) (append-nil (variations (statements c.args.before.now.lines.now))) c.args.before.now.are.versions.accepted
+    c.args.before.now.tables.now.results.items c.args.before.now.are.results)) c.in_ok-amounts.amounts c.in_ok-amounts.ensures c.too_many.result c.too_many.ensures

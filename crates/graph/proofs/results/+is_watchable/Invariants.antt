@@ -1,5 +1,0 @@
-use Rattle.std.proofs.Common.{length}
-use Rattle.graph.proofs.results.+is_watchable.Given as goal
-
-abbrev pub decreases-is_watchable : goal.decreases-is_watchable
-decreases-is_watchable l = length l.before.now

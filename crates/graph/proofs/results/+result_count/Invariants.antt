@@ -1,5 +1,0 @@
-use Rattle.std.proofs.Common.{length}
-use Rattle.graph.proofs.results.+result_count.Given as goal
-
-abbrev pub decreases-result_count : goal.decreases-result_count
-decreases-result_count l = length l.before.now

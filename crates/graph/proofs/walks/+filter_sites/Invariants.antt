@@ -1,5 +1,0 @@
-use Rattle.std.proofs.Common.{length}
-use Rattle.graph.proofs.walks.+filter_sites.Given as goal
-
-abbrev pub decreases-filter_sites : goal.decreases-filter_sites
-decreases-filter_sites l = length l.before.now

@@ -1,5 +1,0 @@
-use Rattle.std.proofs.Common.{length}
-use Rattle.graph.proofs.walks.+list_start.Given as goal
-
-abbrev pub decreases-list_start : goal.decreases-list_start
-decreases-list_start l = length l.lists.now
