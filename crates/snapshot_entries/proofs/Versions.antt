@@ -6,7 +6,7 @@ use Rattle.graph_numbers.specs.{booked_statements, filter_sites, graph_sites, gr
 use Rattle.graph_numbers.proofs.Extending.{versions_count}
 use Rattle.graph.specs.{filter_numbers, site_total}
 use Rattle.graph.proofs.SiteTotals.{numbers_are, total_is}
-use Rattle.graph.proofs.Walked.{named_few}
+use Rattle.graph.proofs.Walking.{named_few}
 use Rattle.snapshot_plan.specs.{PlanView}
 use Rattle.snapshot_entries.specs.{IsWork}
 
