@@ -9,10 +9,11 @@ use mir.Val.{to_z, of_z}
 use Rattle.std.proofs.lemmas.Int.{ints}
 use native.Mathlib.Nat.{add-mul, mul-le-mul_right}
 use Rattle.std.proofs.lemmas.Option.{slice_get-get_or}
+use Rattle.lemmas.proofs.{drop_plus}
 use Rattle.columns.specs.{AreBlocks, block_values, IsBlock, IsWidth, low_bytes, number_in, packed_by, packed_of, packing_of}
 use Rattle.columns.specs.declared.block.Block.{Block}
 use Rattle.columns.specs.declared.packing.Packing.{Packing}
-use Rattle.columns.proofs.Unpacking.{drop_two, length-packed, packing_fits, packing_width, packing_word, value_at, values_back}
+use Rattle.columns.proofs.Unpacking.{length-packed, packing_fits, packing_width, packing_word, value_at, values_back}
 
 same_least : (b : Block) (p : Packing) → record { least = b.least; width = b.width } ≡ p → b.least ≡ p.least
 same_least b p e = ap (λ (q : Packing). q.least) e
@@ -103,7 +104,7 @@ block_value bytes b values i h l =
     let back = block_back bytes b values h in
     let n = h.entries in
     subst (λ (vs : List ℤ). slice_get vs i ≡ Some (b.least +ℤ pos (number_in b.width (drop (b.begin + i * b.width) bytes)))) back
-    (value_at b.least b.width b.entries (drop b.begin bytes) i (omega (arith, l, n)) ∙ ap (λ xs. Some (b.least +ℤ pos (number_in b.width xs))) (drop_two bytes b.begin (i * b.width)))
+    (value_at b.least b.width b.entries (drop b.begin bytes) i (omega (arith, l, n)) ∙ ap (λ xs. Some (b.least +ℤ pos (number_in b.width xs))) (drop_plus b.begin (i * b.width) bytes))
 
 -- ---- what the functions ask
 

@@ -1,27 +1,10 @@
 -- The numbers of the clusters are those of the column.
 use Rattle.std.proofs.Common.{◌≡◌, ◌≤◌, ◌<◌, ◌+◌, ◌-◌, ℕ, zero, suc, ℤ, List, [], ◌∷◌, ◌++◌, length, drop, take, Some, refl, sym, ap, ◌∙◌, arith, slice_get}
 use Rattle.std.proofs.lemmas.List.{take_all}
+use Rattle.lemmas.proofs.{drop_plus, take_plus}
 use Rattle.rdf_values.specs.{cut, Lead, Span}
 use Rattle.rdf_values.proofs.Leading.{cuts_lead}
 use Rattle.columns.specs.{cluster_values, joined}
-
-drop_none : (k : ℕ) → drop {A = ℤ} k [] ≡ []
-drop_none zero = refl
-drop_none (suc k) = refl
-
-pub drop_again : (xs : List ℤ) (m n : ℕ) → drop n (drop m xs) ≡ drop (m + n) xs
-drop_again xs zero n = let e : n ≡ 0 + n = omega arith in ap (λ (k : ℕ). drop k xs) e
-drop_again [] (suc m) n = drop_none n ∙ sym (drop_none (suc m + n))
-drop_again (x ∷ xs) (suc m) n = let e : suc m + n ≡ suc (m + n) = omega arith in drop_again xs m n ∙ ap (λ (k : ℕ). drop k (x ∷ xs)) (sym e)
-
-take_none : (k : ℕ) → take {A = ℤ} k [] ≡ []
-take_none zero = refl
-take_none (suc k) = refl
-
-take_two : (xs : List ℤ) (a b : ℕ) → take a xs ++ take b (drop a xs) ≡ take (a + b) xs
-take_two xs zero b = let e : b ≡ 0 + b = omega arith in ap (λ (k : ℕ). take k xs) e
-take_two [] (suc a) b = ap (take b) (drop_none (suc a)) ∙ take_none b ∙ sym (take_none (suc a + b))
-take_two (x ∷ xs) (suc a) b = let e : suc a + b ≡ suc (a + b) = omega arith in ap (λ l. x ∷ l) (take_two xs a b) ∙ ap (λ (k : ℕ). take k (x ∷ xs)) (sym e)
 
 -- a range of a list that leads
 ends_after : (spans : List Span) (lo hi : ℕ) → Lead lo hi spans → lo ≤ hi
@@ -52,8 +35,8 @@ joined_from (s ∷ ss) numbers lo hi h =
     let wide : s.hi - lo + (hi - s.hi) ≡ hi - lo = omega (arith, after, some) in
     let on : lo + (s.hi - lo) ≡ s.hi = omega (arith, some) in
     ap (λ (a : ℕ). take (s.hi - a) (drop a numbers) ++ joined (cluster_values ss numbers)) at
-    ∙ ap (λ l. take (s.hi - lo) (drop lo numbers) ++ l) (more ∙ ap (take (hi - s.hi)) (ap (λ (k : ℕ). drop k numbers) (sym on) ∙ sym (drop_again numbers lo (s.hi - lo))))
-    ∙ take_two (drop lo numbers) (s.hi - lo) (hi - s.hi) ∙ ap (λ (k : ℕ). take k (drop lo numbers)) wide
+    ∙ ap (λ l. take (s.hi - lo) (drop lo numbers) ++ l) (more ∙ ap (take (hi - s.hi)) (ap (λ (k : ℕ). drop k numbers) (sym on) ∙ sym (drop_plus lo (s.hi - lo) numbers)))
+    ∙ sym (take_plus (s.hi - lo) (hi - s.hi) (drop lo numbers)) ∙ ap (λ (k : ℕ). take k (drop lo numbers)) wide
 
 pub joined_back : (n size : ℕ) (marks : List ℕ) (numbers : List ℤ) → length numbers ≡ n → joined (cluster_values (cut n size marks) numbers) ≡ numbers
 joined_back n size marks numbers l = joined_from (cut n size marks) numbers 0 n (cuts_lead n size marks) ∙ take_all (n - 0) numbers (omega (arith, l))
@@ -66,14 +49,6 @@ packed_is_by n size marks numbers values l e =
     (back, e ∙ ap (cluster_values (cut n size marks)) (sym back))
 
 -- ---- one cluster, one number
-
-pub take_next_of : (xs : List (List ℤ)) (i : ℕ) (x : List ℤ) → slice_get xs i ≡ Some x → take (i + 1) xs ≡ take i xs ++ x ∷ []
-take_next_of xs i x e = let one : suc i ≡ i + 1 = omega arith in ap (λ (k : ℕ). take k xs) (sym one) ∙ go xs i e
-  where
-    go : (ys : List (List ℤ)) (k : ℕ) → slice_get ys k ≡ Some x → take (suc k) ys ≡ take k ys ++ x ∷ []
-    go [] k e = cc e
-    go (y ∷ ys) zero e = let same : y ≡ x = cc e in ap (λ z. z ∷ []) same
-    go (y ∷ ys) (suc k) e = ap (λ l. y ∷ l) (go ys k e)
 
 pub values_of_cluster : (spans : List Span) (numbers : List ℤ) (c : ℕ) (s : Span) → slice_get spans c ≡ Some s → slice_get (cluster_values spans numbers) c ≡ Some (take (s.hi - s.lo) (drop s.lo numbers))
 values_of_cluster [] numbers c s e = cc e

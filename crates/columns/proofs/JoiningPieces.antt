@@ -37,63 +37,58 @@ joined_all (suc i) (x ∷ xs) (y ∷ more) h l = ap (λ t. cells_joined x y ∷ 
 
 -- ---- the rows of the second stand behind those of the first
 
-kept_join : (kind : ColType) (x y : Cells) (n m : ℕ) → IsKept kind n x → IsKept kind m y → IsKept kind (n + m) (cells_joined x y)
-kept_join ColType.Int (Cells.Ints ns) (Cells.Ints ms) n m h l = omega (arith, h, l, length-append ns ms)
-kept_join ColType.Int (Cells.Ints ns) (Cells.Vects ws) n m h l = absurd l
-kept_join ColType.Int (Cells.Vects vs) y n m h l = absurd h
-kept_join ColType.Bool x y n m h l = absurd h
-kept_join ColType.Vect (Cells.Ints ns) y n m h l = absurd h
-kept_join ColType.Vect (Cells.Vects vs) (Cells.Ints ms) n m h l = absurd l
-kept_join ColType.Vect (Cells.Vects vs) (Cells.Vects ws) n m h l = omega (arith, h, l, length-append vs ws)
+-- a column with another behind it
+record CellsJoin (kind : ColType) (x y : Cells) (n m : ℕ) : Type 0 where
+  kept : IsKept kind (n + m) (cells_joined x y)
+  first : (e : ℕ) → e < n → cell_at e (cells_joined x y) ≡ cell_at e x
+  second : (e : ℕ) → cell_at (n + e) (cells_joined x y) ≡ cell_at e y
 
-are_kept_join : (columns : List Column) (xs ys : List Cells) (n m : ℕ) → AreKept n columns xs → AreKept m columns ys → AreKept (n + m) columns (columns_joined xs ys)
-are_kept_join [] [] ys n m h l = tt
-are_kept_join [] (x ∷ xs) ys n m h l = absurd h
-are_kept_join (c ∷ cs) [] ys n m h l = absurd h
-are_kept_join (c ∷ cs) (x ∷ xs) [] n m h l = absurd l
-are_kept_join (c ∷ cs) (x ∷ xs) (y ∷ ys) n m h l = (kept_join c.kind x y n m h.0 l.0, are_kept_join cs xs ys n m h.1 l.1)
+cells_join : (kind : ColType) (x y : Cells) (n m : ℕ) → IsKept kind n x → IsKept kind m y → CellsJoin kind x y n m
+cells_join ColType.Int (Cells.Ints ns) (Cells.Ints ms) n m h l = record {
+  kept = omega (arith, h, l, length-append ns ms);
+  first = λ e t. ap Value.Int (get_or_append_left ns ms (pos 0) e (omega (arith, h)));
+  second = λ e. rw (← h) (ap Value.Int (get_or-append-add ns ms e (pos 0)));
+}
+cells_join ColType.Int (Cells.Ints ns) (Cells.Vects ws) n m h l = absurd l
+cells_join ColType.Int (Cells.Vects vs) y n m h l = absurd h
+cells_join ColType.Bool x y n m h l = absurd h
+cells_join ColType.Vect (Cells.Ints ns) y n m h l = absurd h
+cells_join ColType.Vect (Cells.Vects vs) (Cells.Ints ms) n m h l = absurd l
+cells_join ColType.Vect (Cells.Vects vs) (Cells.Vects ws) n m h l = record {
+  kept = omega (arith, h, l, length-append vs ws);
+  first = λ e t. ap Value.Vect (get_or_append_left vs ws [] e (omega (arith, h)));
+  second = λ e. rw (← h) (ap Value.Vect (get_or-append-add vs ws e []));
+}
 
-cell_first : (kind : ColType) (x y : Cells) (n m e : ℕ) → IsKept kind n x → IsKept kind m y → e < n → cell_at e (cells_joined x y) ≡ cell_at e x
-cell_first ColType.Int (Cells.Ints ns) (Cells.Ints ms) n m e h l t = ap Value.Int (get_or_append_left ns ms (pos 0) e (omega (arith, h)))
-cell_first ColType.Int (Cells.Ints ns) (Cells.Vects ws) n m e h l t = absurd l
-cell_first ColType.Int (Cells.Vects vs) y n m e h l t = absurd h
-cell_first ColType.Bool x y n m e h l t = absurd h
-cell_first ColType.Vect (Cells.Ints ns) y n m e h l t = absurd h
-cell_first ColType.Vect (Cells.Vects vs) (Cells.Ints ms) n m e h l t = absurd l
-cell_first ColType.Vect (Cells.Vects vs) (Cells.Vects ws) n m e h l t = ap Value.Vect (get_or_append_left vs ws [] e (omega (arith, h)))
+-- columns with others behind them
+record ColumnsJoin (columns : List Column) (xs ys : List Cells) (n m : ℕ) : Type 0 where
+  kept : AreKept (n + m) columns (columns_joined xs ys)
+  first : (e : ℕ) → e < n → map (cell_at e) (columns_joined xs ys) ≡ map (cell_at e) xs
+  second : (e : ℕ) → map (cell_at (n + e)) (columns_joined xs ys) ≡ map (cell_at e) ys
 
-cell_second : (kind : ColType) (x y : Cells) (n m e : ℕ) → IsKept kind n x → IsKept kind m y → cell_at (n + e) (cells_joined x y) ≡ cell_at e y
-cell_second ColType.Int (Cells.Ints ns) (Cells.Ints ms) n m e h l = rw (← h) (ap Value.Int (get_or-append-add ns ms e (pos 0)))
-cell_second ColType.Int (Cells.Ints ns) (Cells.Vects ws) n m e h l = absurd l
-cell_second ColType.Int (Cells.Vects vs) y n m e h l = absurd h
-cell_second ColType.Bool x y n m e h l = absurd h
-cell_second ColType.Vect (Cells.Ints ns) y n m e h l = absurd h
-cell_second ColType.Vect (Cells.Vects vs) (Cells.Ints ms) n m e h l = absurd l
-cell_second ColType.Vect (Cells.Vects vs) (Cells.Vects ws) n m e h l = rw (← h) (ap Value.Vect (get_or-append-add vs ws e []))
-
-row_first : (columns : List Column) (xs ys : List Cells) (n m e : ℕ) → AreKept n columns xs → AreKept m columns ys → e < n → map (cell_at e) (columns_joined xs ys) ≡ map (cell_at e) xs
-row_first [] [] ys n m e h l t = refl
-row_first [] (x ∷ xs) ys n m e h l t = absurd h
-row_first (c ∷ cs) [] ys n m e h l t = absurd h
-row_first (c ∷ cs) (x ∷ xs) [] n m e h l t = absurd l
-row_first (c ∷ cs) (x ∷ xs) (y ∷ ys) n m e h l t = ap₂ (λ z zs. z ∷ zs) (cell_first c.kind x y n m e h.0 l.0 t) (row_first cs xs ys n m e h.1 l.1 t)
-
-row_second : (columns : List Column) (xs ys : List Cells) (n m e : ℕ) → AreKept n columns xs → AreKept m columns ys → map (cell_at (n + e)) (columns_joined xs ys) ≡ map (cell_at e) ys
-row_second [] [] [] n m e h l = refl
-row_second [] [] (y ∷ ys) n m e h l = absurd l
-row_second [] (x ∷ xs) ys n m e h l = absurd h
-row_second (c ∷ cs) [] ys n m e h l = absurd h
-row_second (c ∷ cs) (x ∷ xs) [] n m e h l = absurd l
-row_second (c ∷ cs) (x ∷ xs) (y ∷ ys) n m e h l = ap₂ (λ z zs. z ∷ zs) (cell_second c.kind x y n m e h.0 l.0) (row_second cs xs ys n m e h.1 l.1)
+columns_join : (columns : List Column) (xs ys : List Cells) (n m : ℕ) → AreKept n columns xs → AreKept m columns ys → ColumnsJoin columns xs ys n m
+columns_join [] [] [] n m h l = record { kept = tt; first = λ e t. refl; second = λ e. refl }
+columns_join [] [] (y ∷ ys) n m h l = absurd l
+columns_join [] (x ∷ xs) ys n m h l = absurd h
+columns_join (c ∷ cs) [] ys n m h l = absurd h
+columns_join (c ∷ cs) (x ∷ xs) [] n m h l = absurd l
+columns_join (c ∷ cs) (x ∷ xs) (y ∷ ys) n m h l =
+    let one = cells_join c.kind x y n m h.0 l.0 in
+    let others = columns_join cs xs ys n m h.1 l.1 in
+    record {
+      kept = (one.kept, others.kept);
+      first = λ e t. ap₂ (λ z zs. z ∷ zs) (one.first e t) (others.first e t);
+      second = λ e. ap₂ (λ z zs. z ∷ zs) (one.second e) (others.second e);
+    }
 
 rows_below : (columns : List Column) (xs ys : List Cells) (n m t : ℕ) → AreKept n columns xs → AreKept m columns ys
     → map (λ e. map (cell_at e) (columns_joined xs ys)) (below (n + t)) ≡ map (λ e. map (cell_at e) xs) (below n) ++ map (λ e. map (cell_at e) ys) (below t)
 rows_below columns xs ys n m zero h l =
     let none : n + 0 ≡ n = omega arith in
-    rw (none, append-nil (map (λ e. map (cell_at e) xs) (below n))) (map-below n (λ e. map (cell_at e) (columns_joined xs ys)) (λ e. map (cell_at e) xs) (λ e s. row_first columns xs ys n m e h l s))
+    rw (none, append-nil (map (λ e. map (cell_at e) xs) (below n))) (map-below n (λ e. map (cell_at e) (columns_joined xs ys)) (λ e. map (cell_at e) xs) (columns_join columns xs ys n m h l).first)
 rows_below columns xs ys n m (suc t) h l =
     let next : n + suc t ≡ suc (n + t) = omega arith in
-    rw (next, map-append (λ e. map (cell_at e) (columns_joined xs ys)) (below (n + t)) ((n + t) ∷ []), map-append (λ e. map (cell_at e) ys) (below t) (t ∷ []), rows_below columns xs ys n m t h l, row_second columns xs ys n m t h l)
+    rw (next, map-append (λ e. map (cell_at e) (columns_joined xs ys)) (below (n + t)) ((n + t) ∷ []), map-append (λ e. map (cell_at e) ys) (below t) (t ∷ []), rows_below columns xs ys n m t h l, (columns_join columns xs ys n m h l).second t)
     (append_assoc (map (λ e. map (cell_at e) xs) (below n)) (map (λ e. map (cell_at e) ys) (below t)) (map (cell_at t) ys ∷ []))
 
 pub rows_joined : (columns : List Column) (xs ys : List Cells) (n m : ℕ) → AreKept n columns xs → AreKept m columns ys → rows_kept (n + m) (columns_joined xs ys) ≡ rows_kept n xs ++ rows_kept m ys
@@ -107,7 +102,7 @@ fit_append columns (x ∷ xs) ys h l = (h.0, fit_append columns xs ys h.1 l)
 pub holds_joined : (columns : List Column) (xs ys at : List Cells) (n m t : ℕ) → HoldsTable columns xs n → HoldsTable columns ys m → n + m ≤ 1000000 → at ≡ columns_joined xs ys → t ≡ n + m → HoldsTable columns at t
 holds_joined columns xs ys at n m t h l few a s = rw (a, s) (record {
   header = h.header;
-  kept = are_kept_join columns xs ys n m h.kept l.kept;
+  kept = (columns_join columns xs ys n m h.kept l.kept).kept;
   fit = subst (λ rows. FitRows columns rows) (sym (rows_joined columns xs ys n m h.kept l.kept)) (fit_append columns (rows_kept n xs) (rows_kept m ys) h.fit l.fit);
   few = few;
 })

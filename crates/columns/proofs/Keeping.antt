@@ -2,7 +2,7 @@
 use Rattle.std.proofs.Common.{◌≡◌, ◌≤◌, ◌<◌, ◌-◌, ◌+◌, ℕ, zero, suc, ℤ, List, [], ◌∷◌, ◌++◌, length, get_or, drop, take, map, Some, refl, sym, ap, ap₂, ◌∙◌, arith, slice_get}
 use Rattle.std.specs.List.{AllByRecursion}
 use Rattle.std.proofs.lemmas.List.{length-drop, length-map, length-take, map-append, take-append-drop}
-use Rattle.std.proofs.lemmas.Option.{slice_get-get_or, slice_get-map, slice_get_within}
+use Rattle.std.proofs.lemmas.Option.{get_or_from_slice_get, slice_get-get_or, slice_get-map, slice_get_within}
 use Rattle.rdf_values.specs.{AreKept, ColType, Column, count, cut, IsIntColumn, Keep, kind_at, rows_kept, Span, TableView, Value}
 use Rattle.rdf_values.proofs.Leading.{cuts_lead}
 use Rattle.columns.specs.{cells_of, cluster_values, ColumnPieces, Holds, IsByCluster, joined, whole}
@@ -46,13 +46,8 @@ by_cluster columns all n col x values spans h e q i a =
 
 -- ---- one number
 
-get_of : (xs : List (List ℤ)) (c : ℕ) (x : List ℤ) → slice_get xs c ≡ Some x → get_or xs c [] ≡ x
-get_of [] c x h = cc h
-get_of (y ∷ ys) zero x h = let same : y ≡ x = cc h in same
-get_of (y ∷ ys) (suc c) x h = get_of ys c x h
-
 pub cluster_at : (spans : List Span) (numbers : List ℤ) (c : ℕ) (s : Span) → slice_get spans c ≡ Some s → get_or (cluster_values spans numbers) c [] ≡ take (s.hi - s.lo) (drop s.lo numbers)
-cluster_at spans numbers c s h = get_of (cluster_values spans numbers) c _ (values_of_cluster spans numbers c s h)
+cluster_at spans numbers c s h = get_or_from_slice_get (cluster_values spans numbers) c _ [] (values_of_cluster spans numbers c s h)
 
 pub cluster_there : (spans : List Span) (numbers : List ℤ) (c : ℕ) (s : Span) → slice_get spans c ≡ Some s → c < length (cluster_values spans numbers)
 cluster_there spans numbers c s h = slice_get_within (cluster_values spans numbers) c _ (values_of_cluster spans numbers c s h)

@@ -1,18 +1,13 @@
 -- Ranges that follow one another hold each number once.
-use Rattle.std.proofs.Common.{◌≡◌, ◌≤◌, ◌<◌, ◌+◌, ℕ, zero, suc, List, [], ◌∷◌, length, Some, arith, refl, ap, ◌⊎◌, inl, inr, slice_get}
+use Rattle.std.proofs.Common.{◌≡◌, ◌≤◌, ◌<◌, ◌+◌, ℕ, zero, suc, List, [], ◌∷◌, length, arith, refl, ap, ◌⊎◌, inl, inr}
 use Rattle.lemmas.proofs.{lt_or_le}
 use Rattle.rdf_values.specs.{Lead, Span}
 use Rattle.columns.specs.{Holds, IsInOne}
-
--- no range begins before the first
-begins_after : (rs : List Span) (from to place : ℕ) (r : Span) → Lead from to rs → slice_get rs place ≡ Some r → from ≤ r.lo
-begins_after [] from to place r h e = cc e
-begins_after (x ∷ xs) from to zero r h e = let same : x ≡ r = cc e in rw (← same) (let at = h.0 in omega arith)
-begins_after (x ∷ xs) from to (suc place) r h e = let later = begins_after xs x.hi to place r h.2 e in omega (arith, h.0, h.1)
+use Rattle.columns.proofs.Joining.{span_within}
 
 first_holds : (x : Span) (xs : List Span) (number from to other : ℕ) → Lead from to (x ∷ xs) → number < x.hi → Holds (x ∷ xs) number other → other ≡ 0
 first_holds x xs number from to zero h l held = refl
-first_holds x xs number from to (suc other) h l held = let later = begins_after xs x.hi to other held.range h.2 held.stands in absurd (omega (arith, held.from))
+first_holds x xs number from to (suc other) h l held = let later = (span_within xs x.hi to other held.range h.2 held.stands).0 in absurd (omega (arith, held.from))
 
 later_holds : (x : Span) (xs : List Span) (number place other : ℕ) → x.hi ≤ number → ((o : ℕ) → Holds xs number o → o ≡ place) → Holds (x ∷ xs) number other → other ≡ suc place
 later_holds x xs number place zero l one held = let same : x ≡ held.range = cc held.stands in absurd (omega (arith, held.below, ap (λ s. s.hi) same))

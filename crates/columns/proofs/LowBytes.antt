@@ -1,12 +1,7 @@
 -- The lowest bytes of a number, one after another.
-use Rattle.std.proofs.Common.{◌≡◌, ◌≤◌, ◌⊎◌, ℕ, zero, suc, List, [], ◌∷◌, length, take, inl, inr, arith, refl}
+use Rattle.std.proofs.Common.{◌≡◌, ◌⊎◌, ℕ, take, inl, inr, refl}
 use Rattle.std.specs.Int.{to_le_bytes, w64}
 use Rattle.columns.specs.{IsWidth, low_bytes}
-
-pub taken_size : (n : ℕ) (xs : List ℕ) → length (take n xs) ≤ n
-taken_size zero xs = omega arith
-taken_size (suc n) [] = omega arith
-taken_size (suc n) (x ∷ xs) = omega (arith, taken_size n xs)
 
 first_by : (w n : ℕ) → (w ≡ 0) ⊎ (w ≡ 1) ⊎ (w ≡ 2) ⊎ (w ≡ 4) ⊎ (w ≡ 8) → take w (to_le_bytes w64 n) ≡ low_bytes w n
 first_by w n (inl h) = rw h refl

@@ -9,6 +9,7 @@ use Rattle.std.proofs.lemmas.List.{get_or_append_left, length-drop, length-take,
 use Rattle.std.proofs.lemmas.List.Elements.{All-drop, All-take}
 use Rattle.std.proofs.lemmas.Option.{slice_get-get_or}
 use native.Mathlib.Nat.{add-mul, mul-le-mul_right}
+use Rattle.lemmas.proofs.{drop_plus}
 use Rattle.rdf_values.specs.{cut, Span}
 use Rattle.rdf_values.proofs.Leading.{cuts_lead}
 use Rattle.columns.specs.{AreBlocks, block_values, cluster_values, IsBlock, IsWidth, number_in, values_in}
@@ -16,7 +17,7 @@ use Rattle.columns.specs.declared.block.Block.{Block}
 use Rattle.columns.proofs.BlockSteps.{block_back, block_least, block_of, block_size, block_width}
 use Rattle.columns.proofs.Joining.{span_within}
 use Rattle.columns.proofs.Keeping.{cluster_at, cluster_there, entry_here, get_dropped, get_taken}
-use Rattle.columns.proofs.Unpacking.{drop_two, value_at}
+use Rattle.columns.proofs.Unpacking.{value_at}
 
 -- ---- one number more
 
@@ -59,7 +60,7 @@ later_values least w zero n bs = let none : 0 ≡ 0 * w = omega arith in let all
 later_values least w (suc i) n bs =
     let all : suc i + n ≡ suc (i + n) = omega arith in
     let wide : w + i * w ≡ suc i * w = omega (arith, add-mul i 1 w) in
-    ap (λ (m : ℕ). drop (suc i) (values_in least w m bs)) all ∙ later_values least w i n (drop w bs) ∙ ap (values_in least w n) (drop_two bs w (i * w) ∙ ap (λ (k : ℕ). drop k bs) wide)
+    ap (λ (m : ℕ). drop (suc i) (values_in least w m bs)) all ∙ later_values least w i n (drop w bs) ∙ ap (values_in least w n) (drop_plus w (i * w) bs ∙ ap (λ (k : ℕ). drop k bs) wide)
 
 -- some of a block's numbers, and their bytes
 some_inside : (bytes : List ℕ) (b : Block) (values : List ℤ) (i n : ℕ) → IsBlock bytes b values → i + n ≤ length values → b.begin + i * b.width + n * b.width ≤ length bytes
@@ -75,7 +76,7 @@ some_values bytes b values i n h l =
     let all : i + m ≡ b.entries = omega (arith, l, h.entries) in
     let whole : values_in b.least b.width (i + m) (drop b.begin bytes) ≡ values = ap (λ (k : ℕ). values_in b.least b.width k (drop b.begin bytes)) all ∙ block_back bytes b values h in
     let later : drop i values ≡ values_in b.least b.width m (drop (b.begin + i * b.width) bytes) =
-    ap (drop i) (sym whole) ∙ later_values b.least b.width i m (drop b.begin bytes) ∙ ap (values_in b.least b.width m) (drop_two bytes b.begin (i * b.width)) in
+    ap (drop i) (sym whole) ∙ later_values b.least b.width i m (drop b.begin bytes) ∙ ap (values_in b.least b.width m) (drop_plus b.begin (i * b.width) bytes) in
     sym (ap (take n) later ∙ first_values b.least b.width m n (drop (b.begin + i * b.width) bytes) (omega (arith, l, h.entries)))
 
 -- what is known of them

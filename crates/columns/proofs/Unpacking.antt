@@ -9,6 +9,8 @@ use Rattle.std.proofs.lemmas.Bool.Decides.{nat_tests}
 use Rattle.std.proofs.lemmas.List.Elements.{All-from_recursion, All-head, All-tail, recursion_from_All}
 use Rattle.std.proofs.lemmas.Nat.{from_le_bytes-to_le_bytes_2, from_le_bytes-to_le_bytes_4, from_le_bytes-to_le_bytes_8}
 use native.Mathlib.Nat.{add-mul}
+use Rattle.std.proofs.Math.Seq.{drop-append_seam}
+use Rattle.lemmas.proofs.{drop_plus}
 use Rattle.columns.specs.{greatest_from, IsWidth, least_from, low_bytes, number_in, packed_by, packing_of, values_in, width_of}
 use Rattle.columns.specs.declared.packing.Packing.{Packing}
 
@@ -80,10 +82,6 @@ number_back w n more h l = back_by w n more h.one_of l
 
 -- ---- many numbers
 
-pub drop_behind : (xs ys : List ℕ) (n : ℕ) → length xs ≡ n → drop n (xs ++ ys) ≡ ys
-drop_behind [] ys n h = rw (← h) refl
-drop_behind (x ∷ xs) ys n h = rw (← h) (drop_behind xs ys (length xs) refl)
-
 -- a number that fits above the least
 abbrev pub FitsAbove : Packing → ℤ → Type 0
 FitsAbove p z = (p.least ≤ℤ z) × (unsigned_abs (z -ℤ p.least) < 256 ^ p.width)
@@ -98,7 +96,8 @@ values_back p (z ∷ zs) more w h =
     let d = unsigned_abs (z -ℤ p.least) in
     let split : (low_bytes p.width d ++ packed_by p zs) ++ more ≡ low_bytes p.width d ++ (packed_by p zs ++ more) = append_assoc (low_bytes p.width d) (packed_by p zs) more in
     let first : p.least +ℤ pos (number_in p.width (low_bytes p.width d ++ (packed_by p zs ++ more))) ≡ z = ap (λ n. p.least +ℤ pos n) (number_back p.width d (packed_by p zs ++ more) w fit.1) ∙ above_least p.least z fit.0 in
-    let rest = drop_behind (low_bytes p.width d) (packed_by p zs ++ more) p.width (length-low_bytes p.width d w) in
+    let rest : drop p.width (low_bytes p.width d ++ (packed_by p zs ++ more)) ≡ packed_by p zs ++ more =
+    ap (λ (k : ℕ). drop k (low_bytes p.width d ++ (packed_by p zs ++ more))) (sym (length-low_bytes p.width d w)) ∙ drop-append_seam (low_bytes p.width d) (packed_by p zs ++ more) in
     let others = values_back p zs more w (All-tail (FitsAbove p) z zs h) in
     rw split (ap₂ (λ a b. a ∷ b) first (ap (values_in p.least p.width (length zs)) rest ∙ others))
 
@@ -175,22 +174,13 @@ length-packed p (z ∷ zs) w =
     suc_times : (n w : ℕ) → suc n * w ≡ w + n * w
     suc_times n w = omega (arith, add-mul n 1 w)
 
-drop_none : (k : ℕ) → drop {A = ℕ} k [] ≡ []
-drop_none zero = refl
-drop_none (suc k) = refl
-
-pub drop_two : (xs : List ℕ) (m n : ℕ) → drop n (drop m xs) ≡ drop (m + n) xs
-drop_two xs zero n = let e : n ≡ 0 + n = omega arith in ap (λ (k : ℕ). drop k xs) e
-drop_two [] (suc m) n = drop_none n ∙ sym (drop_none (suc m + n))
-drop_two (x ∷ xs) (suc m) n = let e : suc m + n ≡ suc (m + n) = omega arith in drop_two xs m n ∙ ap (λ (k : ℕ). drop k (x ∷ xs)) (sym e)
-
 -- the value at a place of those that the bytes spell
 pub value_at : (least : ℤ) (w n : ℕ) (bs : List ℕ) (i : ℕ) → i < n → slice_get (values_in least w n bs) i ≡ Some (least +ℤ pos (number_in w (drop (i * w) bs)))
 value_at least w zero bs i h = absurd (omega (arith, h))
 value_at least w (suc n) bs zero h = let none : 0 ≡ 0 * w = omega arith in ap (λ (k : ℕ). Some (least +ℤ pos (number_in w (drop k bs)))) none
 value_at least w (suc n) bs (suc i) h =
     let wide : w + i * w ≡ suc i * w = omega (arith, add-mul i 1 w) in
-    value_at least w n (drop w bs) i (omega (arith, h)) ∙ ap (λ l. Some (least +ℤ pos (number_in w l))) (drop_two bs w (i * w) ∙ ap (λ (k : ℕ). drop k bs) wide)
+    value_at least w n (drop w bs) i (omega (arith, h)) ∙ ap (λ l. Some (least +ℤ pos (number_in w l))) (drop_plus w (i * w) bs ∙ ap (λ (k : ℕ). drop k bs) wide)
 
 pub packing_word : (zs : List ℤ) → AreWords zs → FitsSigned w64 (packing_of zs).least
 packing_word [] h = omega (arith, ints)

@@ -4,9 +4,10 @@ use mir.Syntax.{w64}
 use native.Mathlib.Nat.{add-mul}
 use Rattle.std.proofs.Math.Facts.{to_z-of_z}
 use Rattle.std.proofs.lemmas.List.{take_all}
+use Rattle.lemmas.proofs.{take_at_most}
 use Rattle.columns.specs.{low_bytes, packed_by}
 use Rattle.columns.proofs.BlockSteps.{pack_step, words_step}
-use Rattle.columns.proofs.LowBytes.{first_bytes, taken_size}
+use Rattle.columns.proofs.LowBytes.{first_bytes}
 use Rattle.columns.proofs.bytes.push_each.Goals as goal
 
 pub loop-value-preserved : goal.loop-value-preserved
@@ -20,7 +21,7 @@ loop-value-preserved g c =
     let all : take c.loop-byte.byte-index low ≡ low = take_all c.loop-byte.byte-index low c.loop-byte-test.false in
     let bytes : low ≡ low_bytes w c.abs_diff.result = ap (take w) c.to_le_bytes-low.ensures ∙ first_bytes w c.abs_diff.result c.requires.width in
     let pushed = c.loop-byte.invariant.pushed ∙ ap (λ l. c.loop-value.bytes.items ++ l) (all ∙ bytes) in
-    let size = taken_size w c.to_le_bytes-low.result in
+    let size = take_at_most w c.to_le_bytes-low.result in
     let next : (i + 1) * w ≡ i * w + 1 * w = add-mul i 1 w in
     record {
       pushed = rw (to_z-of_z least) (pack_step c.args.bytes.items c.loop-value.bytes.items c.loop-byte.bytes.items (record { least = c.args.least; width = w }) c.args.values.now i c.abs_diff.result c.loop-value-test.true (rw (to_z-of_z least) at c.loop-value.invariant.pushed) pushed d);

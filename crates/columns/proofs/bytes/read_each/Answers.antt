@@ -1,4 +1,4 @@
-use Rattle.std.proofs.Common.{◌≡◌, ◌∙◌, arith, length, rules, sym}
+use Rattle.std.proofs.Common.{◌∙◌, arith, length, rules, sym}
 use Rattle.std.specs.Int.RustNames.{FitsSigned}
 use mir.Syntax.{w64}
 use Rattle.std.proofs.Math.Facts.{to_z-of_z}

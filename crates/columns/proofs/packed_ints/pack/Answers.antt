@@ -1,10 +1,11 @@
 use Rattle.std.proofs.Common.{◌≤◌, ◌∙◌, arith, length, take, drop, ◌-◌}
 use Rattle.std.proofs.lemmas.List.{length-map, take_all}
+use Rattle.lemmas.proofs.{take_next}
 use Rattle.rdf_values.specs.{cut}
 use Rattle.rdf_values.proofs.Leading.{cuts_lead}
 use Rattle.columns.specs.{cluster_values, joined}
 use Rattle.columns.proofs.BlockSteps.{block_more, blocks_back, blocks_hold}
-use Rattle.columns.proofs.Joining.{span_within, take_next_of, values_of_cluster}
+use Rattle.columns.proofs.Joining.{span_within, values_of_cluster}
 use Rattle.columns.proofs.packed_ints.pack.Goals as goal
 
 pub pack_range-requires-clause-some : goal.pack_range-requires-clause-some
@@ -20,7 +21,7 @@ pack_range-requires-clause-within c =
 pub loop-cluster-preserved : goal.loop-cluster-preserved
 loop-cluster-preserved c =
     let spans = cut c.args.cuts.now.entries c.args.cuts.now.size c.args.cuts.now.marks in
-    let one = take_next_of (cluster_values spans (joined c.args.pieces.now)) c.loop-cluster.cluster _ (values_of_cluster spans (joined c.args.pieces.now) c.loop-cluster.cluster c.range-range.result c.range-range.ensures) in
+    let one = take_next (cluster_values spans (joined c.args.pieces.now)) c.loop-cluster.cluster _ (values_of_cluster spans (joined c.args.pieces.now) c.loop-cluster.cluster c.range-range.result c.range-range.ensures) in
     rw (one, c.in_ok-push.ensures.items) (block_more c.loop-cluster.bytes.items c.in_ok-grown.grown.bytes.items c.loop-cluster.blocks.items _ c.in_ok-grown.grown.block _ c.loop-cluster.invariant c.in_ok-grown.ensures.grown c.in_ok-grown.ensures.block)
 
 pub invariant_of-result : goal.invariant_of-result

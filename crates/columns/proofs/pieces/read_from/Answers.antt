@@ -1,4 +1,4 @@
-use Rattle.std.proofs.Common.{arith, length, ◌∙◌, sym}
+use Rattle.std.proofs.Common.{arith, length}
 use Rattle.columns.proofs.InPieces.{end_within, none_read, read_more, read_on, read_to_the_end, read_whole}
 use Rattle.columns.proofs.pieces.read_from.Goals as goal
 use Rattle.columns.proofs.pieces.read_from.Goals.{then-lo-end, else-lo-end}
