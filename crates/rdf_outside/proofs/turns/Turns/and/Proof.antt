@@ -1,7 +1,6 @@
 -- `and` makes the empty struct, with the names that its clause says. Assumes `Logic`.
 use Rattle.std.proofs.Common.{List, [], ◌∷◌, ◌++◌, length, refl}
 use seplogic.Ra.Ura.{Ura}
-use mir.Syntax.{Fn}
 use mir.Val.{Val, vptr}
 use base.Logic.{SProp, ent}
 use prog.Memory.{Memory}
@@ -21,7 +20,7 @@ use denote.Builtin.{u8, RefOf, SliceRefOf}
 use denote.Signature.{plain, types_at}
 use denote.Slice.{slice_val}
 use denote.Steps.{nothing}
-use denote.Triple.Clauses.{Clauses, Ended, closing}
+use denote.Triple.Clauses.{Clauses, closing}
 use denote.Triple.Entry.{alive}
 use denote.Triple.Spec.{Meets, triple_of}
 use denote.Triple.Table.{entered}
@@ -33,13 +32,7 @@ use Rattle.rdf_outside.specs.contracts.turns.Turns.and.Key.{name as #self}
 use Rattle.rdf_outside.proofs.turns.Turns.and.Statement as stated
 use Rattle.rdf_outside.proofs.turns.Turns.and.Code as code
 
-abbrev function : Fn
-function = code.function
-
-abbrev ended : Ended
-ended = F.ended
-
-abbrev stayed : Stays ended.signature.params ended.kept
+abbrev stayed : Stays F.ended.signature.params F.ended.kept
 stayed = (
   stay_dropped (RefOf (0 ∷ []) tt (plain (λ _. Turns.the_row)) (λ _. tt)) yes,
   (stay_dropped (SliceRefOf (1 ∷ []) tt (plain (λ _. u8)) (λ _. tt)) yes, tt),
@@ -48,47 +41,44 @@ stayed = (
 module _ {M : Type 1} {𝓤 : Ura M} (𝓛 : Logic 𝓤) (at_mem : Memory → SProp 𝓤) (run : Routine → Fun 𝓤) where
   open 𝓛 use {H}
 
-  abbrev held : Clauses 𝓤 ended
+  abbrev held : Clauses 𝓤 F.ended
   held = F.clauses 𝓛 at_mem run
 
-  module _ (C : Calls 𝓤 H) (Λ : Loops 𝓤 H) (z : (walk_of 𝓛 ended stayed held).Ghost) where
+  module _ (C : Calls 𝓤 H) (Λ : Loops 𝓤 H) (z : (walk_of 𝓛 F.ended stayed held).Ghost) where
     abbrev Post : Val → SProp 𝓤
-    Post = (walk_of 𝓛 ended stayed held).post z
+    Post = (walk_of 𝓛 F.ended stayed held).post z
 
-    abbrev toks : SProp 𝓤
-    toks = alive 𝓛 ended.signature z.0.0 z.0.1
-
-    walks : ent 𝓤 ((walk_of 𝓛 ended stayed held).pre z) (WpFn 𝓤 H C Λ function ((walk_of 𝓛 ended stayed held).args z) Post)
+    walks : ent 𝓤 ((walk_of 𝓛 F.ended stayed held).pre z) (WpFn 𝓤 H C Λ code.function ((walk_of 𝓛 F.ended stayed held).args z) Post)
     walks =
         let a = z.0.3 in
         let vss = z.0.4 in
         let made : Turns.the_row.Denot = record { names = a.0.now.names ++ a.1.0.now ∷ [] } in
         let p = vptr a.0.ref_ptr.0 a.0.ref_ptr.1 in
         let name = slice_val a.1.0.ref_ptr (length a.1.0.now) in
-        qed 𝓛 ((raw toks ⊛ ‵ (owns (types_at ended.signature.params z.0.0) a vss)) ∷ raw ((held z.0.0 a).requires z.1) ∷ []) ∵
+        qed 𝓛 ((raw (alive 𝓛 F.ended.signature z.0.0 z.0.1) ⊛ ‵ (owns (types_at F.ended.signature.params z.0.0) a vss)) ∷ raw ((held z.0.0 a).requires z.1) ∷ []) ∵
         keep ! (0 ∷ []) $ split ! $ move ! (1 ∷ []) $
         fsplit ! $ fsplit ! $ feq_l ! (λ is₀. drop ! $
         fsplit ! $ fsplit ! $ fsplit ! $ feq_l ! (λ is₁. fsplit ! $ flt_l ! (λ count. flt_l ! (λ size. drop ! $ drop ! $
-        regoal ! (λ (us : List Val). prop (WpFn 𝓤 H C Λ function (us ++ (vss.1.0 ++ [])) Post)) is₀ refl $
-        regoal ! (λ (us : List Val). prop (WpFn 𝓤 H C Λ function ((p ∷ []) ++ (us ++ [])) Post)) is₁ refl $
-        enter ! C Λ function (p ∷ name ∷ []) Post $ alloc_all ! (λ l. pass_all ! refl ((tt, tt), ((tt, (tt, (record { fits = count }, tt))), tt)) $
+        regoal ! (λ (us : List Val). prop (WpFn 𝓤 H C Λ code.function (us ++ (vss.1.0 ++ [])) Post)) is₀ refl $
+        regoal ! (λ (us : List Val). prop (WpFn 𝓤 H C Λ code.function ((p ∷ []) ++ (us ++ [])) Post)) is₁ refl $
+        enter ! C Λ code.function (p ∷ name ∷ []) Post $ alloc_all ! (λ l. pass_all ! refl ((tt, tt), ((tt, (tt, (record { fits = count }, tt))), tt)) $
         sets ! (agg ! (no_more !)) refl (tt, tt) $
         nothing ! $ none_made ! $ fjoin ! $
         returns ! (look_at ! 0 refl) $ free_all ! refl $
-        suffices ! _ (ends_at 𝓛 ended stayed held z none made (tt, (tt, tt)) (tt, (tt, tt))) $ says ! refl $
+        suffices ! _ (ends_at 𝓛 F.ended stayed held z none made (tt, (tt, tt)) (tt, (tt, tt))) $ says ! refl $
         nothing ! $ nothing ! $ fjoin ! $ nothing ! $ fjoin ! $ move ! (2 ∷ 0 ∷ 1 ∷ []) $ done !)))))
 
-  meets : (𝓣 : Tables 𝓤 H) → Meets 𝓛 ended.signature (WpFn 𝓤 H 𝓣.C 𝓣.Λ function) (closing 𝓛 ended held)
+  meets : (𝓣 : Tables 𝓤 H) → Meets 𝓛 F.ended.signature (WpFn 𝓤 H 𝓣.C 𝓣.Λ code.function) (closing 𝓛 F.ended held)
   meets 𝓣 =
-      walk_Meets 𝓛 ended stayed (
+      walk_Meets 𝓛 F.ended stayed (
         Goes-dropped 𝓛 2 (RefOf (0 ∷ []) tt (plain (λ _. Turns.the_row)) (λ _. tt)) yes (λ κs x f. refl),
         (Goes-dropped 𝓛 2 (SliceRefOf (1 ∷ []) tt (plain (λ _. u8)) (λ _. tt)) yes (λ κs x f. refl), tt),
       ) held
-      (WpFn 𝓤 H 𝓣.C 𝓣.Λ function) (WpFn-mono 𝓤 H 𝓛.laws 𝓣 function) (walks 𝓣.C 𝓣.Λ)
+      (WpFn 𝓤 H 𝓣.C 𝓣.Λ code.function) (WpFn-mono 𝓤 H 𝓛.laws 𝓣 code.function) (walks 𝓣.C 𝓣.Λ)
 
 pub and_spec : {M : Type 1} → stated.statement M
 unfolding tables_of
 and_spec 𝓤 𝓛 𝓜 𝓡 wired =
     let 𝓣 : Tables 𝓤 𝓛.H = tables_of 𝓤 𝓛.H 𝓜 (tables 𝓤 𝓛.H 𝓜 𝓡 𝓡.env) in
-    entered 𝓤 𝓛.H (triple_of 𝓛 ended.signature (closing 𝓛 ended (held 𝓛 𝓜.mem 𝓡.returns))) 𝓣.C 𝓣.Λ #self function
+    entered 𝓤 𝓛.H (triple_of 𝓛 F.ended.signature (closing 𝓛 F.ended (held 𝓛 𝓜.mem 𝓡.returns))) 𝓣.C 𝓣.Λ #self code.function
     (code.unfolded 𝓤 𝓛.H 𝓜 𝓡 wired) (meets 𝓛 𝓜.mem 𝓡.returns 𝓣)
