@@ -65,11 +65,7 @@ kind_stopped t (Err d) (Stop.Cause c) h = h
 -- the first target's refusal, and then those of the others
 flat : (a : Option GraphCause) (rest : List (Option GraphCause)) → first_refusal (a ∷ first_refusal rest ∷ []) ≡ first_refusal (a ∷ rest)
 flat (Some c) rest = refl
-flat None rest = go (first_refusal rest)
-  where
-    go : (o : Option GraphCause) → first_refusal (o ∷ []) ≡ o
-    go None = refl
-    go (Some c) = refl
+flat None rest = alone (first_refusal rest)
 
 pub targets_more : (names : FunctionNames) (header : Scope) (before : List Statement) (parent first : List ℕ) (rest columns : List (List ℕ)) → columns ≡ first ∷ rest → (a b x : Option GraphCause)
     → a ≡ check_target (scope_at names header before parent) (path before parent) first → b ≡ targets_at names header before parent rest → x ≡ first_refusal (a ∷ b ∷ []) → x ≡ targets_at names header before parent columns

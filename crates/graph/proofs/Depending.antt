@@ -12,7 +12,7 @@ use Rattle.graph_numbers.specs.{column_place, holds_at, named_version, own_colum
 use Rattle.graph_numbers.proofs.Listed.{next_at, of_joined}
 use Rattle.graph_numbers.proofs.Meeting.{In, here, there, each_at}
 use Rattle.graph.specs.{depends_at, expression_set, is_among_own, Numbers, own_version_sets, varied_set, version_sets, action_set, any_depends, own_result_sets, own_site_sets, result_sets, ResultSetsAreDependence, site_set, site_sets, SiteSetsAreDependence, VersionsDependAsColumns}
-use Rattle.graph.proofs.Listing.{any_map, named_at, no_place, any_none}
+use Rattle.graph.proofs.Listing.{any_map, named_at, no_place, any_none, got_first}
 use Rattle.std.specs.Prelude.{⊤}
 use Rattle.std.proofs.lemmas.Bool.{le-leb}
 use Rattle.std.proofs.lemmas.List.Folds.{list_any-append}
@@ -231,9 +231,7 @@ module _ (header : List Column) (names : FunctionNames) (v : ℕ) (w : Variation
 -- ---- sets of places that are kept
 
 depends_kept : (xs ys : List Numbers) (c v : ℕ) → c < length xs → depends_at (xs ++ ys) c v ≡ depends_at xs c v
-depends_kept [] ys c v h = absurd (omega (arith, h))
-depends_kept (x ∷ xs) ys zero v h = refl
-depends_kept (x ∷ xs) ys (suc c) v h = depends_kept xs ys c v (omega (arith, h))
+depends_kept xs ys c v h = ap (holds_at (λ (d : Numbers). d v)) (got_first xs ys c h)
 
 any_kept : (xs ys : List Numbers) (n : ℕ) → n ≡ length xs → (cs : List ℕ) → AreBelow n cs → (v : ℕ) → any_depends (xs ++ ys) cs v ≡ any_depends xs cs v
 any_kept xs ys n e [] h v = refl

@@ -1,10 +1,10 @@
 -- The first line that is refused, the fields of a finished graph, and what they say of its numbers.
-use Rattle.std.proofs.Common.{◌≡◌, ℕ, List, [], ◌∷◌, ◌++◌, map, Option, Some, None, option_map, refl, sym, ◌∙◌, ap, subst, reverse, length, arith, inl, inr, ◌≤◌, Bool, slice_get, length-append, ◌+◌, ◌<◌, option_and_then}
+use Rattle.std.proofs.Common.{◌≡◌, ℕ, List, [], ◌∷◌, ◌++◌, map, Option, Some, None, option_map, refl, sym, ◌∙◌, ap, subst, reverse, length, arith, inl, inr, ◌≤◌, Bool, slice_get, length-append, ◌+◌, ◌<◌}
 use Rattle.std.proofs.lemmas.List.{reverse-append, reverse-reverse, length-map}
 use Rattle.lemmas.proofs.{map_next}
 use Rattle.rdf_values.specs.{AreAccepted, check, Column, FunctionNames, GraphCause, history, Line, Scope, scope_of, Script, Statement, verdict, verdict_after, Booked, bookings, is_watched, IsBookable, IsHeader, IsShort, result_depends, variations, named_before}
 use Rattle.rdf_model.proofs.Verdicts.{onto}
-use Rattle.graph.specs.{GraphRefusal, IsRefusal, refused, refused_then, statements, AreAbove, AreLoops, AreNamedInTurn, AreRows as AreCheckRows, AreRowsOf, AreSourcesOf, AreTables, IsBooked, IsRow, IsRowOf, refused_at, result_sets, ResultSetsAreDependence, SiteSetsAreDependence, view_of, filler_of, has, IsSet, IsSite, labels, own_site_sets, paths, result_path, site_set, site_sets, VarSet}
+use Rattle.graph.specs.{GraphRefusal, IsRefusal, refused, refused_then, statements, AreAbove, AreLoops, AreNamedInTurn, AreRows as AreCheckRows, AreRowsOf, AreSourcesOf, AreTables, IsBooked, IsRow, IsRowOf, refused_at, result_sets, ResultSetsAreDependence, SiteSetsAreDependence, view_of, filler_of, has, IsSet, IsSite, labels, paths, result_path, site_sets, VarSet}
 use Rattle.std.specs.List.{All, AllByRecursion}
 use Rattle.std.proofs.lemmas.List.Elements.{All-map, recursion_from_All}
 use Rattle.std.proofs.lemmas.List.Sorted.{All-permutation, IsPermutation-reverse}
@@ -12,14 +12,15 @@ use Rattle.std.proofs.lemmas.Option.{slice_get-map}
 use Rattle.std.proofs.lemmas.Slice.Zip.{AllZip-long}
 use Rattle.rdf_values.specs.Answered.{Refuses}
 use Rattle.rdf_values.specs.declared.statement.Statement.TheVariants.{Print}
-use Rattle.rdf_model.specs.{Access, accesses, filled_by, loop_of, loop_results}
+use Rattle.rdf_model.specs.{Access, accesses, filled_by, loop_of}
 use Rattle.graph_numbers.proofs.Resulting.{booked_are}
-use Rattle.graph_numbers.specs.{booked, booked_statements, booked_unless, graph_results, graph_sources, graph_variations, GraphView, holds_at, IsGraph, result_number, ResultAt, Version, FilterAt, graph_filters, graph_prints, graph_runs, graph_sites, IsSiteExpr, own_sites, result_depends_at, site_depends_at, SiteAt, sites}
-use Rattle.graph_numbers.proofs.Extending.{versions_count, itself}
+use Rattle.graph_numbers.specs.{booked, booked_statements, booked_unless, graph_results, graph_sources, graph_variations, GraphView, holds_at, IsGraph, result_number, ResultAt, Version, FilterAt, graph_filters, graph_sites, IsSiteExpr, result_depends_at, site_depends_at, SiteAt, sites}
+use Rattle.graph_numbers.proofs.Extending.{versions_count}
 use Rattle.graph.specs.declared.tables.ResultRow.{ResultRow}
 use Rattle.graph.specs.declared.tables.Tables.{Tables}
 use Rattle.graph.specs.declared.loops.LoopTables.{LoopTables}
 use Rattle.graph.proofs.SiteTotals.{filters_few, versions_are, sites_fit, filters_are, labels_are, sites_counted}
+use Rattle.graph.proofs.Depending.{site_set_count as sets_counted}
 use Rattle.graph.proofs.Filled.{all_in_turn}
 use Rattle.graph.proofs.Looped.{bookings_few, loops_few, unwrapped}
 use Rattle.graph.proofs.Listing.{zip_by, zip_map, zip_at, row_set, set_at}
@@ -38,18 +39,8 @@ history_is script ls e = ap statements e ∙ map_back (λ (l : Line). l.statemen
 module _ (names : FunctionNames) (header : Scope) where
   -- the refusal of one more line at the end
   verdict_more : (ls : List Line) (before : List Statement) (l : Line) → verdict_after names header before (ls ++ l ∷ []) ≡ refused_then l.number (verdict_after names header before ls) (check names header (onto ls before) l.statement)
-  verdict_more [] before l = go (check names header before l.statement)
-    where
-      go : (o : Option GraphCause) → (elim o as (λ _. Option (ℕ × GraphCause)) [ Some cause ↦ Some (l.number, cause) | None ↦ None ]) ≡ option_map (λ c. (l.number, c)) o
-      go None = refl
-      go (Some c) = refl
-  verdict_more (k ∷ ls) before l = go (check names header before k.statement) (verdict_more ls (k.statement ∷ before) l)
-    where
-      go : (o : Option GraphCause) → verdict_after names header (k.statement ∷ before) (ls ++ l ∷ []) ≡ refused_then l.number (verdict_after names header (k.statement ∷ before) ls) (check names header (onto ls (k.statement ∷ before)) l.statement)
-          → (elim o as (λ _. Option (ℕ × GraphCause)) [ Some cause ↦ Some (k.number, cause) | None ↦ verdict_after names header (k.statement ∷ before) (ls ++ l ∷ []) ])
-          ≡ refused_then l.number (elim o as (λ _. Option (ℕ × GraphCause)) [ Some cause ↦ Some (k.number, cause) | None ↦ verdict_after names header (k.statement ∷ before) ls ]) (check names header (onto ls (k.statement ∷ before)) l.statement)
-      go None e = e
-      go (Some c) e = refl
+  verdict_more [] before l = grind arith
+  verdict_more (k ∷ ls) before l = grind (arith, verdict_more ls (k.statement ∷ before) l)
 
   onto_back : (ls : List Line) → onto (reverse ls) [] ≡ statements ls
   onto_back ls = ap (λ (xs : List Statement). reverse xs) (map_back (λ (l : Line). l.statement) ls) ∙ reverse-reverse (statements ls)
@@ -225,21 +216,10 @@ twice f g (Some x) = refl
 of_mapped : {A B C : Type 0} (f : A → B) (g : B → C) (xs : List A) (ys : List B) (n : ℕ) (y : B) → ys ≡ map f xs → slice_get ys n ≡ Some y → option_map (λ x. g (f x)) (slice_get xs n) ≡ Some (g y)
 of_mapped f g xs ys n y e h = twice f g (slice_get xs n) ∙ ap (option_map g) (sym (ap (λ zs. slice_get zs n) e ∙ slice_get-map f xs n) ∙ h)
 
-site_sets_count : (header : List Column) (names : FunctionNames) (before : List Statement) → length (site_sets header names before) ≡ length (sites header names before)
-site_sets_count header names [] = refl
-site_sets_count header names (s ∷ before) =
-    length-append (site_sets header names before) (own_site_sets header names before s)
-    ∙ (λ i. site_sets_count header names before i + length-map (own_sites header names before s) (site_set header names before) i)
-    ∙ sym (length-append (sites header names before) (own_sites header names before s))
-
 -- ---- the readers
 
 pub booked_now : {v g : GraphView} {t : Tables} {l : LoopTables} {w : List Bool} → v ≡ g → IsBooked v t l w → IsBooked g t l w
 booked_now {t = t} {l = l} {w = w} e h = subst (λ (x : GraphView). IsBooked x t l w) e h
-
--- a number is within a list that has so many items
-pub within_list : {A : Type 0} {xs ys : List A} {n m : ℕ} → xs ≡ ys → length ys ≡ m → n < m → n < length xs
-within_list e c h = let l = ap length e in omega (arith, l, c, h)
 
 pub there_too : {A : Type 0} {xs ys : List A} (n : ℕ) {y : A} → xs ≡ ys → slice_get xs n ≡ Some y → slice_get ys n ≡ Some y
 there_too n e h = ap (λ zs. slice_get zs n) (sym e) ∙ h
@@ -292,7 +272,7 @@ module _ {g : GraphView} {t : Tables} {l : LoopTables} {w : List Bool} (h : IsBo
   site_count = sites_counted _ g.names (graph_sites g) t.sites.items h.tables.sites
 
   pub site_set_count : length t.site_sets.items ≡ length (graph_sites g)
-  site_set_count = AllZip-long IsSet _ t.site_sets.items h.tables.site_sets ∙ site_sets_count g.header g.names (booked_statements g)
+  site_set_count = AllZip-long IsSet _ t.site_sets.items h.tables.site_sets ∙ sets_counted g.header g.names (booked_statements g)
 
   pub site_is : (n : ℕ) (c : CheckedExpr) → slice_get t.sites.items n ≡ Some c → IsSiteExpr g n c
   site_is n c q =

@@ -33,17 +33,20 @@ named_are [] node = refl
 named_are (s ∷ before) node =
     λ i. if makes s node then named_are before (parent_of s) i ++ named_is s (length (named_before before)) i else named_are before node i
 
-covers_are : (before : List Statement) (node : List ℕ) → covered_at before node ≡ covered_numbers before node
-covers_are before node = go before ∙ (λ i. if list_any (λ s. makes s node) before then named_are before node i else counted_are 0 (named_before before) i)
+all_or_is : {A : Type 0} (before : List Statement) (node : List ℕ) (all : List A) (on : List ℕ)
+    → all_or (path before node) all on ≡ (if list_any (λ s. makes s node) before then on else numbers_from 0 all)
+all_or_is [] node all on = refl
+all_or_is (s ∷ before) node all on = go (makes s node) (all_or_is before node all on)
   where
-    go : (b : List Statement) → all_or (path b node) (named_before before) (filters_on before node) ≡ (if list_any (λ s. makes s node) b then filters_on before node else numbers_from 0 (named_before before))
-    go [] = refl
-    go (s ∷ b) = by (makes s node) (go b)
-      where
-        by : (m : Bool) → all_or (path b node) (named_before before) (filters_on before node) ≡ (if list_any (λ x. makes x node) b then filters_on before node else numbers_from 0 (named_before before))
-            → all_or (if m then s ∷ path b (parent_of s) else path b node) (named_before before) (filters_on before node) ≡ (if m || list_any (λ x. makes x node) b then filters_on before node else numbers_from 0 (named_before before))
-        by true h = refl
-        by false h = h
+    go : (b : Bool) → all_or (path before node) all on ≡ (if list_any (λ x. makes x node) before then on else numbers_from 0 all)
+        → all_or (if b then s ∷ path before (parent_of s) else path before node) all on ≡ (if b || list_any (λ x. makes x node) before then on else numbers_from 0 all)
+    go true h = refl
+    go false h = h
+
+covers_are : (before : List Statement) (node : List ℕ) → covered_at before node ≡ covered_numbers before node
+covers_are before node =
+    all_or_is before node (named_before before) (filters_on before node)
+    ∙ (λ i. if list_any (λ s. makes s node) before then named_are before node i else counted_are 0 (named_before before) i)
 
 module _ (header : List Column) (names : FunctionNames) (before : List Statement) where
   varied_is : (values : VaryValues) (below first site i : ℕ) (tags : List (List ℕ)) → varied_version header names values below first site tags i ≡ varied_row values below first site (length tags) i

@@ -1,7 +1,7 @@
 -- Tests over lists, places in lists, lists paired with lists, and lists of sets of variations.
-use Rattle.std.proofs.Common.{◌≡◌, ℕ, zero, suc, Bool, true, false, ◌||◌, List, [], ◌∷◌, ◌++◌, map, length, Some, None, refl, sym, ◌∙◌, ap, subst, arith, slice_get, take, drop, if◌then◌else◌, not, Result, Ok, Err, OnOk, nat_eq, append_assoc}
+use Rattle.std.proofs.Common.{◌≡◌, ℕ, zero, suc, Bool, true, false, ◌||◌, List, [], ◌∷◌, ◌++◌, map, length, Some, None, refl, sym, ◌∙◌, ap, subst, arith, slice_get, take, drop, if◌then◌else◌, not, Result, Ok, Err, OnOk, nat_eq, append_assoc, ◌<◌}
 use Rattle.std.specs.List.{list_any, AllZip, filter}
-use Rattle.lemmas.proofs.{any_at, eq_says, mapped_at}
+use Rattle.lemmas.proofs.{any_at, eq_says, kept_at, mapped_at, something_at}
 use Rattle.rdf_values.specs.{among, place, same, Booked, ColType, Column, columns_in, FunctionNames, Statement}
 use Rattle.rdf_model.proofs.Accepted.{names_equal}
 use Rattle.expr_check.specs.{CheckedExpr, distinct}
@@ -20,6 +20,9 @@ any_none p (x ∷ xs) h = (λ i. h x i || any_none p xs h i)
 pub any_same : {A : Type 0} (p q : A → Bool) (xs : List A) → ((x : A) → p x ≡ q x) → list_any p xs ≡ list_any q xs
 any_same p q [] h = refl
 any_same p q (x ∷ xs) h = (λ i. h x i || any_same p q xs h i)
+
+pub got_first : {A : Type 0} (xs ys : List A) (k : ℕ) → k < length xs → slice_get (xs ++ ys) k ≡ slice_get xs k
+got_first xs ys k lt = let t = something_at xs k lt in kept_at xs ys k t.0 t.1 ∙ sym t.1
 
 -- ---- places
 

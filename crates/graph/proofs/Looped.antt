@@ -1,7 +1,8 @@
 -- What a line adds to the lists of loops and Prints.
 use Rattle.std.proofs.Common.{if◌then◌else◌, ◌≡◌, ◌⊎◌, inl, inr, ℕ, zero, suc, ◌+◌, ◌-◌, ◌<◌, ◌≤◌, Bool, true, false, not, List, [], ◌∷◌, ◌++◌, map, length, take, drop, replicate, Option, Some, None, option_map, refl, sym, ◌∙◌, ap, subst, arith, slice_get, length-append, filter, filter_map, unwrap_or}
-use Rattle.std.proofs.lemmas.List.{append-nil, map-append, drop-take, length-replicate, take-append-drop}
+use Rattle.std.proofs.lemmas.List.{append-nil, map-append, map-id, drop-take, length-replicate, take-append-drop}
 use Rattle.std.proofs.lemmas.List.Elements.{filter_map-append}
+use Rattle.std.proofs.lemmas.Simd.{map-map}
 use Rattle.std.proofs.lemmas.Slice.Zip.{AllZip-long}
 use Rattle.lemmas.proofs.{neither, take_front, take_no_longer}
 use Rattle.rdf_values.specs.{among, Booked, booked_by, bookings, filled, Line, names_of, place, same, Statement, variations, waiting}
@@ -36,12 +37,9 @@ some_kept f g (l ∷ ls) (x ∷ xs) h e =
 
 -- numbers whose places are known
 pub unwrapped : {A : Type 0} (f : A → Option ℕ) (ls : List ℕ) (xs : List A) → map (λ l. Some l) ls ≡ map f xs → ls ≡ map (λ x. unwrap_or (f x) 0) xs
-unwrapped f [] [] e = refl
-unwrapped f [] (x ∷ xs) e = cc e
-unwrapped f (l ∷ ls) [] e = cc e
-unwrapped f (l ∷ ls) (x ∷ xs) e =
-    let first : Some l ≡ f x = cc e in let rest : map (λ l. Some l) ls ≡ map f xs = cc e in
-    λ i. unwrap_or (first i) 0 ∷ unwrapped f ls xs rest i
+unwrapped f ls xs e =
+    let out : Option ℕ → ℕ = λ o. unwrap_or o 0 in
+    sym (map-id ls) ∙ sym (map-map out (λ (l : ℕ). Some l) ls) ∙ ap (map out) e ∙ map-map out f xs
 
 -- ---- results and rows
 

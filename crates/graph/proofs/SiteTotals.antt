@@ -9,7 +9,7 @@ use Rattle.expr_check.specs.{CheckedExpr}
 use Rattle.graph_numbers.specs.{filter_sites, list_sites, lists_sites, own_filter_site, own_sites, site_count, SiteAt, sites, FilterAt, filters, own_filters, version_count}
 use Rattle.graph.specs.{AreSites, expression_total, filter_numbers, is_filter, IsSite, own_number, own_site_total, site_total, AreTables, labels, own_label, statements}
 use Rattle.std.specs.List.{AllByRecursion}
-use Rattle.graph_numbers.proofs.Bookable.{sites_few}
+use Rattle.graph_numbers.proofs.Bookable.{list_count, sites_few}
 use Rattle.graph_numbers.proofs.VersionKinds.{kind_count}
 use Rattle.graph.specs.declared.tables.Tables.{Tables}
 use Rattle.graph.proofs.Walking.{named_more}
@@ -20,15 +20,11 @@ pub sites_counted : (kinds : List ColType) (names : FunctionNames) (xs : List Si
 sites_counted kinds names xs cs h = AllZip-long (IsSite kinds names) xs cs h
 
 module _ (header : List Column) (names : FunctionNames) where
-  list_count : (before : List Statement) (parent node : List ℕ) (i k : ℕ) (es : List NamedTree) → length (list_sites header names before parent node i k es) ≡ length es
-  list_count before parent node i k [] = refl
-  list_count before parent node i k (e ∷ es) = ap suc (list_count before parent node i (suc k) es)
-
   lists_count : (before : List Statement) (parent node : List ℕ) (i : ℕ) (lists : List (List NamedTree)) → length (lists_sites header names before parent node i lists) ≡ expression_total lists
   lists_count before parent node i [] = refl
   lists_count before parent node i (es ∷ lists) =
       length-append (list_sites header names before parent node i 0 es) (lists_sites header names before parent node (suc i) lists)
-      ∙ (λ j. list_count before parent node i 0 es j + lists_count before parent node (suc i) lists j)
+      ∙ (λ j. list_count header names before parent node i 0 es j + lists_count before parent node (suc i) lists j)
 
   own_total_is : (before : List Statement) (s : Statement) → length (own_sites header names before s) ≡ own_site_total s
   own_total_is before (Define node parent column expr) = refl

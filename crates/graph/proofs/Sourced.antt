@@ -1,5 +1,5 @@
 -- The sources of versions are found by walking down the Varys of a column.
-use Rattle.std.proofs.Common.{◌≡◌, ◌⊎◌, inl, inr, ℕ, zero, suc, ◌+◌, ◌-◌, ◌<◌, ◌≤◌, Bool, true, false, ◌&&◌, List, [], ◌∷◌, ◌++◌, map, length, Option, Some, None, option_map, refl, sym, ◌∙◌, ap, subst, arith, nat_le, nat_lt, slice_get, if◌then◌else◌}
+use Rattle.std.proofs.Common.{◌≡◌, ◌⊎◌, inl, inr, ℕ, zero, suc, ◌+◌, ◌-◌, ◌<◌, ◌≤◌, Bool, true, false, ◌&&◌, List, [], ◌∷◌, map, length, Option, Some, None, option_map, refl, sym, ◌∙◌, ap, subst, arith, nat_le, nat_lt, slice_get, if◌then◌else◌}
 use Rattle.std.proofs.lemmas.Bool.Decides.{Decides-ltb}
 use Rattle.std.proofs.lemmas.Option.{slice_get_within, get_or_from_slice_get}
 use Rattle.lemmas.proofs.{any_at, kept_at, le_says, le_true, lt_true, mapped_at, same_some, something_at}
@@ -9,19 +9,14 @@ use Rattle.rdf_values.specs.declared.vary_values.VaryValues.TheVariants.{Lists, 
 use Rattle.rdf_model.proofs.Accepted.{both_none, if_fails, unless_holds, names_equal, itself as same_itself, visible_known, no_target, own_within}
 use Rattle.rdf_model.specs.{own_place}
 use Rattle.graph_numbers.proofs.Apart.{variation_number}
-use Rattle.graph_numbers.proofs.Extending.{Extends, itself, further, source_count, versions_count}
+use Rattle.graph_numbers.proofs.Extending.{Extends, itself, further, kept, source_count, versions_count}
 use Rattle.graph_numbers.proofs.Listed.{next_at, of_joined}
 use Rattle.graph_numbers.proofs.VersionKinds.{kind_count, visible_kind}
 use Rattle.graph_numbers.specs.{cell_sources, cell_versions, list_start, named_version, numbers_from, own_source, own_versions, site_count, Source, source_in, sources, under_at, varied_sources, varied_version, varied_versions, Version, version_at, version_count, version_kinds, versions}
 use Rattle.graph.specs.{AreAbove, AreSourcesOf, IsAbove, tag_at, tagged, version_source}
-use Rattle.graph.proofs.Listing.{named_at, no_place}
+use Rattle.graph.proofs.Listing.{got_first, named_at, no_place}
 
 -- ---- tests and lists
-
-got_first : {A : Type 0} (xs ys : List A) (k : ℕ) → k < length xs → slice_get (xs ++ ys) k ≡ slice_get xs k
-got_first [] ys k lt = absurd (omega (arith, lt))
-got_first (x ∷ xs) ys zero lt = refl
-got_first (x ∷ xs) ys (suc k) lt = got_first xs ys k (omega (arith, lt))
 
 at_number : {A : Type 0} (n k : ℕ) (xs : List A) → k < length xs → slice_get (numbers_from n xs) k ≡ Some (n + k)
 at_number n k [] lt = absurd (omega (arith, lt))
@@ -37,8 +32,7 @@ has_place : (xs : List (List ℕ)) (k : ℕ) (x : List ℕ) → slice_get xs k �
 has_place xs k x h e = cc (any_at (same x) xs k x h (same_itself x), no_place (same x) xs e)
 
 variation_kept : (before after : List Statement) → Extends before after → (k : ℕ) (x : Variation) → slice_get (variations before) k ≡ Some x → slice_get (variations after) k ≡ Some x
-variation_kept before after itself k x h = h
-variation_kept before after (further {after = c} s e) k x h = kept_at (variations c) (own_variations s) k x (variation_kept before c e k x h)
+variation_kept = kept variations (λ before s. own_variations s) (λ before s. refl)
 
 each_passes : {A : Type 0} (f : A → Option GraphCause) (xs : List A) (k : ℕ) (x : A) → first_refusal (map f xs) ≡ None → slice_get xs k ≡ Some x → f x ≡ None
 each_passes f [] k x h q = cc q

@@ -1,9 +1,9 @@
 // The booked graph.
-ghost use Rattle.std.specs.Prelude.{◌≡◌, ◌<◌, ◌≤◌, ℕ, length, Some, option_map, slice_get, reverse, IfOk};
+ghost use Rattle.std.specs.Prelude.{◌≡◌, ◌<◌, ◌≤◌, ℕ, length, Some, option_map, slice_get, IfOk};
 ghost use Rattle.rdf_values.specs.{Answers, is_watched, IsBookable, IsHeader};
 ghost use Rattle.rdf_model.specs.{accesses, loop_of};
 ghost use Rattle.graph.specs.Dependence.{has};
-ghost use Rattle.graph_numbers.specs.{booked, booked_statements, graph_filters, graph_kinds, graph_loops, graph_prints, graph_results, graph_runs, graph_sites, graph_sources, graph_variations, graph_versions, IsGraph, IsSiteExpr, kind_of_booking, result_depends_at, site_depends_at};
+ghost use Rattle.graph_numbers.specs.{booked, booked_statements, graph_filters, graph_loops, graph_prints, graph_results, graph_sites, graph_sources, graph_variations, graph_versions, IsGraph, IsSiteExpr, kind_of_booking, result_depends_at, site_depends_at};
 ghost use Rattle.graph.specs.Bookings.{refused_at};
 
 use crate::book::{book_lines, reversed};
@@ -17,7 +17,7 @@ use crate::tables::{ResultPath, Tables};
 use crate::variations::Variations;
 use crate::versions::source_of;
 use expr_check::Checked;
-use graph_numbers::{Pass, ResultKind, Source, Version};
+use graph_numbers::{Pass, ResultKind, Source};
 use rdf_values::{ColType, Column, FnName, FnNames, Label, Line, ListOf, Memory, Name, Script};
 use std::alloc::Global;
 use std::marker::Model;
@@ -34,7 +34,6 @@ pub struct Graph {
 }
 
 impl Model for Graph {
-    ghost use Rattle.std.specs.Prelude.{reverse};
     ghost use Rattle.std.specs.Coded.{codes};
     ghost use Rattle.rdf_values.specs.{named_code};
     ghost use Rattle.graph_numbers.specs.{GraphView};
@@ -148,6 +147,7 @@ impl Graph {
     // ---- results
 
     /// The name of a result.
+    #[tactic(auto, using(crate::proofs::Finished::row_count, crate::proofs::Finished::name_is))]
     pub fn result_name(&self, r: u32) -> &Name
         requires { r < length (graph_results self.now) }
         ensures { option_map (λ x. x.booked.name) (slice_get (graph_results self.now) r) ≡ Some result.now }
@@ -156,6 +156,7 @@ impl Graph {
     }
 
     /// What the loop reads of a result.
+    #[tactic(auto, using(crate::proofs::Finished::row_count))]
     fn result_path(&self, r: u32) -> &ResultPath
         requires { r < length (graph_results self.now) }
         ensures kind { option_map (λ x. kind_of_booking x.booked.booking) (slice_get (graph_results self.now) r) ≡ Some result.now.kind }
@@ -175,6 +176,7 @@ impl Graph {
     }
 
     /// The variations on which a result depends.
+    #[tactic(auto, using(crate::proofs::Finished::row_count, crate::proofs::Finished::set_is))]
     pub fn depends(&self, r: u32) -> VarSet
         requires { r < length (graph_results self.now) }
         ensures { (v : ℕ) → has result v ≡ result_depends_at self.now r v }
@@ -183,6 +185,7 @@ impl Graph {
     }
 
     /// Whether partial results of a result are asked for.
+    #[tactic(auto, using(crate::proofs::Finished::watch_count))]
     pub fn watched(&self, r: u32) -> bool
         requires { r < length (graph_results self.now) }
         ensures { option_map (λ x. is_watched (booked_statements self.now) x.booked.name) (slice_get (graph_results self.now) r) ≡ Some result }
@@ -283,6 +286,7 @@ impl Graph {
     // ---- sites and versions
 
     /// How many sites there are.
+    #[tactic(auto, using(crate::proofs::Finished::site_count))]
     pub fn sites(&self) -> u32
         ensures { result ≡ length (graph_sites self.now) }
     {
@@ -290,6 +294,7 @@ impl Graph {
     }
 
     /// A site's expression over versions.
+    #[tactic(auto, using(crate::proofs::Finished::site_count))]
     pub fn site(&self, s: u32) -> &Checked
         requires { s < length (graph_sites self.now) }
         ensures { IsSiteExpr self.now s result.now }
@@ -298,6 +303,7 @@ impl Graph {
     }
 
     /// The variations on which a site depends.
+    #[tactic(auto, using(crate::proofs::Finished::site_set_count, crate::proofs::Finished::site_set_is))]
     pub fn site_depends(&self, s: u32) -> VarSet
         requires { s < length (graph_sites self.now) }
         ensures { (v : ℕ) → has result v ≡ site_depends_at self.now s v }

@@ -1,5 +1,5 @@
 // Look-ups in the statements so far, the latest first: each walks them as its definition does.
-ghost use Rattle.std.specs.Prelude.{◌≡◌, ◌<◌, ◌≤◌, ◌+◌, true, false, codes, length, MatchOption, IfSome, Some, option_map, slice_get, IfOk, ◌∷◌, ◌++◌, ℕ, List, [], OnOk, IfNone};
+ghost use Rattle.std.specs.Prelude.{◌≡◌, ◌<◌, ◌≤◌, ◌+◌, true, false, codes, length, MatchOption, IfSome, Some, option_map, slice_get, IfOk, List, []};
 ghost use Rattle.std.specs.List.{list_any};
 ghost use Rattle.rdf_values.specs.{FunctionNames, is_alias, is_in_use, is_node, is_result, is_visible, made_columns, makes, parent_of, path, place, same, scope_at, scope_of, target_of, expression_count, named_before, ActionAt, among, booked_by, bookings, can_watch, filled, is_report, is_watched, names_of, Path, result_is, Statement, watched_results};
 ghost use Rattle.graph.specs.{books, own_alias, own_made, own_target, statements, count_from, covered_numbers, filter_numbers, is_named, labels, named_numbers, own_label, site_total, expression_total, is_filter, own_site_total, result_in};

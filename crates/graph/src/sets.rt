@@ -1,5 +1,5 @@
 // Sets of variations of versions, sites and filters.
-ghost use Rattle.std.specs.Prelude.{◌≡◌, ◌<◌, ◌≤◌, ◌||◌, ℕ, false, nat_eq, MatchOption, ◌+◌, ◌++◌, length, map, IfOk, OnOk};
+ghost use Rattle.std.specs.Prelude.{◌≡◌, ◌<◌, ◌≤◌, ◌||◌, ℕ, false, nat_eq, MatchOption, ◌+◌, map, IfOk, OnOk};
 ghost use Rattle.graph.specs.{count_of, has, IsNext, members_below, any_has, has_at, is_among_own, AppendsSets, AreSets, changed_set, read_sets, scope_before, set_changed, variation_count};
 ghost use Rattle.rdf_values.specs.{column_kind, columns_in, kind_or_int};
 
@@ -63,6 +63,7 @@ impl VarSet {
     }
 
     /// How many numbers of the set are below a number.
+    #[tactic(auto, using(crate::proofs::Bits::below_few, crate::proofs::Bits::counted, crate::proofs::Bits::one_at_least))]
     pub fn count_below(self, v: u32) -> u32
         requires { v < 128 }
         ensures value { result ≡ members_below self v }

@@ -1,5 +1,5 @@
 // The tables that are kept while statements are booked.
-ghost use Rattle.std.specs.Prelude.{◌≤◌, length, ◌≡◌, ◌+◌, [], ℕ, false, true, map, IfOk, OnOk};
+ghost use Rattle.std.specs.Prelude.{◌≤◌, length, ◌≡◌, ◌+◌, [], false, true, map, IfOk, OnOk};
 ghost use Rattle.rdf_values.specs.{AreShortValues, FunctionNames};
 ghost use Rattle.graph.specs.ShortProof.{short-prop};
 ghost use Rattle.graph.specs.Dependence.{AppendsSets};

@@ -30,18 +30,6 @@ impl FullName {
             tag: tag.copy(alloc)?,
         })
     }
-
-    fn name(&self) -> &Name
-        ensures { result.now ≡ self.now.name }
-    {
-        &self.name
-    }
-
-    fn tag(&self) -> &Name
-        ensures { result.now ≡ self.now.tag }
-    {
-        &self.tag
-    }
 }
 
 /// Variations, numbered from 0: full names in the order of their adding.
@@ -84,7 +72,7 @@ impl Variations {
         ensures { result ≡ is_taken self.now name.now }
     {
         // At most 128 are searched, and while booking alone.
-        self.items.iter().any(|item| item.name().is(name))
+        self.items.iter().any(|item| item.name.is(name))
     }
 
     /// The name of a variation's Vary.
@@ -92,7 +80,7 @@ impl Variations {
         requires { v < length self.now }
         ensures { option_map (λ x. x.name) (slice_get self.now v) ≡ Some result.now }
     {
-        self.items[v as usize].name()
+        &self.items[v as usize].name
     }
 
     /// A variation's tag.
@@ -100,7 +88,7 @@ impl Variations {
         requires { v < length self.now }
         ensures { option_map (λ x. x.tag) (slice_get self.now v) ≡ Some result.now }
     {
-        self.items[v as usize].tag()
+        &self.items[v as usize].tag
     }
 
     /// Appends variations.

@@ -1,5 +1,5 @@
 // The check of a Vary.
-ghost use Rattle.std.specs.Prelude.{◌≡◌, ◌∷◌, ◌++◌, ◌+◌, ℕ, List, [], length, map, nat_eq, nat_lt, true, ◌||◌, IfOk, IfErr, OnOk};
+ghost use Rattle.std.specs.Prelude.{◌≡◌, ◌∷◌, ◌+◌, ℕ, List, [], length, map, nat_eq, nat_lt, ◌||◌, IfOk, OnOk};
 ghost use Rattle.rdf_values.specs.{check_list, check_lists, check_tags, check_values, check_vector_column, expect_kind, first_refusal, kind_of, refuse_unless, repeats, scope_of, Statement, variations};
 ghost use Rattle.rdf_values.specs.declared.graph_cause.GraphCause.TheVariants as cause_of;
 ghost use Rattle.rdf_values.specs.declared.statement.Statement.TheVariants.{Vary};

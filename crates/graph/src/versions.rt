@@ -1,5 +1,5 @@
 // The versions that the table and a Vary make.
-ghost use Rattle.std.specs.Prelude.{◌≡◌, ◌≤◌, ◌+◌, ◌++◌, length, IfOk, OnOk, ◌<◌, ℕ, List, Some, slice_get, IfSome};
+ghost use Rattle.std.specs.Prelude.{◌≡◌, ◌≤◌, ◌+◌, ◌++◌, length, IfOk, OnOk, ◌<◌, List, Some, slice_get, IfSome};
 ghost use Rattle.graph.specs.{cell_rows, named_version_before, sites_so_far, variation_count, varied_row, versions_changed, AreAbove, AreSourcesOf, HasSites, tag_at, tag_source};
 ghost use Rattle.graph_numbers.specs.{Source};
 

@@ -1,9 +1,6 @@
 use Rattle.graph.specs.declared.tables.ResultPath.{ResultPath}
-use Rattle.graph.proofs.Finished.{booked_now, path_is, row_count, there_too, within_list}
+use Rattle.graph.proofs.Finished.{booked_now, path_is, there_too}
 use Rattle.graph.proofs.graph.Graph.result_path.Goals as goal
-
-pub at-requires : goal.at-requires
-at-requires c = within_list c.as_slice.ensures.value (row_count (booked_now c.self.view_is c.self.invariant)) c.requires
 
 pub returns-clause-kind : goal.returns-clause-kind
 returns-clause-kind c = path_is (booked_now c.self.view_is c.self.invariant) (λ (p : ResultPath). p.kind) c.args.r c.at.result.now (there_too _ c.as_slice.ensures.value c.at.ensures)
