@@ -36,12 +36,7 @@ named_are (s ∷ before) node =
 all_or_is : {A : Type 0} (before : List Statement) (node : List ℕ) (all : List A) (on : List ℕ)
     → all_or (path before node) all on ≡ (if list_any (λ s. makes s node) before then on else numbers_from 0 all)
 all_or_is [] node all on = refl
-all_or_is (s ∷ before) node all on = go (makes s node) (all_or_is before node all on)
-  where
-    go : (b : Bool) → all_or (path before node) all on ≡ (if list_any (λ x. makes x node) before then on else numbers_from 0 all)
-        → all_or (if b then s ∷ path before (parent_of s) else path before node) all on ≡ (if b || list_any (λ x. makes x node) before then on else numbers_from 0 all)
-    go true h = refl
-    go false h = h
+all_or_is (s ∷ before) node all on = grind (arith, all_or_is before node all on)
 
 covers_are : (before : List Statement) (node : List ℕ) → covered_at before node ≡ covered_numbers before node
 covers_are before node =

@@ -90,10 +90,5 @@ own_few s first above name h = omega (arith, h)
 pub named_few : (header : List Column) (before : List Statement) (node name : List ℕ) → named_version header before node name ≤ version_count header before
 named_few header [] node name = column_few header name
 named_few header (s ∷ before) node name =
-    go (makes s node) (own_few s (version_count header before) (named_version header before (parent_of s) name) name (named_few header before (parent_of s) name)) (named_few header before node name)
-  where
-    go : (b : Bool) → own_version s (version_count header before) name (named_version header before (parent_of s) name) ≤ version_count header before + length (own_columns s)
-        → named_version header before node name ≤ version_count header before
-        → (if b then own_version s (version_count header before) name (named_version header before (parent_of s) name) else named_version header before node name) ≤ version_count header before + length (own_columns s)
-    go true h k = h
-    go false h k = omega (arith, k)
+    let own = own_few s (version_count header before) (named_version header before (parent_of s) name) name (named_few header before (parent_of s) name) in
+    let above = named_few header before node name in grind (arith, own, above)

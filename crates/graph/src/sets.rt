@@ -53,6 +53,7 @@ impl VarSet {
     }
 
     /// How many numbers are in the set.
+    #[tactic(auto, using(crate::proofs::Bits::counted_all))]
     pub fn count(self) -> u32
         ensures value { result ≡ count_of self }
         ensures members { result ≡ members_below self 128 }
@@ -73,6 +74,7 @@ impl VarSet {
     }
 
     /// The least number of the set that is at or above a number.
+    #[tactic(auto, using(crate::proofs::Bits::none_above, crate::proofs::Bits::none_left))]
     pub fn next_from(self, v: u32) -> Option<u32>
         ensures { MatchOption result ((u : ℕ) → v ≤ u → has self u ≡ false) (IsNext self v) }
     {
