@@ -79,11 +79,7 @@ column_few (c ∷ cs) name = grind (arith, column_few cs name)
 own_few : (s : Statement) (first above : ℕ) (name : List ℕ) → above ≤ first → own_version s first name above ≤ first + length (own_columns s)
 own_few (Define node parent column expr) first above name h = grind arith
 own_few (Redefine node parent column expr) first above name h = grind arith
-own_few (Vary node parent columns values tags vary) first above name h = go (place (same name) columns) refl
-  where
-    go : (o : Option ℕ) → place (same name) columns ≡ o → version_or first o above ≤ first + length columns
-    go None e = omega (arith, h)
-    go (Some i) e = let lt = place_within (same name) columns i e in omega (arith, lt)
+own_few (Vary node parent columns values tags vary) first above name h = grind (arith, place_within)
 own_few s first above name h = omega (arith, h)
 
 -- a version is below their number, or it where there is no such column
