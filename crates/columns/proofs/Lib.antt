@@ -7,8 +7,6 @@ pub mod Joining
 pub mod JoiningPieces
 pub mod Keeping
 pub mod Leading
-pub mod LowBytes
-pub mod MarkedCuts
 pub mod Reading
 pub mod Tight
 pub mod Unpacking

@@ -1,6 +1,6 @@
 -- Packed bytes give their numbers back.
-use Rattle.std.proofs.Common.{◌≡◌, ◌≤◌, ◌<◌, ◌+◌, ◌*◌, ◌%◌, ◌^◌, ℕ, zero, suc, ℤ, pos, ◌+ℤ◌, ◌-ℤ◌, ◌≤ℤ◌, Bool, true, false, List, [], ◌∷◌, ◌++◌, length, drop, Some, refl, sym, ap, ap₂, ◌∙◌, ◌⊎◌, inl, inr, subst, arith, append_assoc, length-append, unsigned_abs, slice_get, if◌then◌else◌, nat_lt, nat_eq, All}
-use Rattle.std.specs.Int.{int_max, int_min}
+use Rattle.std.proofs.Common.{◌≡◌, ◌≤◌, ◌<◌, ◌+◌, ◌*◌, ◌%◌, ◌^◌, ℕ, zero, suc, ℤ, pos, ◌+ℤ◌, ◌-ℤ◌, ◌≤ℤ◌, Bool, true, false, List, [], ◌∷◌, ◌++◌, length, drop, take, Some, refl, sym, ap, ap₂, ◌∙◌, ◌⊎◌, inl, inr, subst, arith, append_assoc, length-append, unsigned_abs, slice_get, if◌then◌else◌, nat_lt, nat_eq, All}
+use Rattle.std.specs.Int.{int_max, int_min, to_le_bytes}
 use Rattle.std.specs.Int.RustNames.{FitsSigned}
 use Rattle.std.specs.List.{AllByRecursion}
 use mir.Syntax.{w64}
@@ -51,6 +51,17 @@ length_by w n (inr (inr (inr (inr h)))) = rw h refl
 
 pub length-low_bytes : (w n : ℕ) → IsWidth w → length (low_bytes w n) ≡ w
 length-low_bytes w n h = length_by w n h.one_of
+
+-- the lowest bytes of a number, one after another
+first_by : (w n : ℕ) → OneOf w → take w (to_le_bytes w64 n) ≡ low_bytes w n
+first_by w n (inl h) = rw h refl
+first_by w n (inr (inl h)) = rw h refl
+first_by w n (inr (inr (inl h))) = rw h refl
+first_by w n (inr (inr (inr (inl h)))) = rw h refl
+first_by w n (inr (inr (inr (inr h)))) = rw h refl
+
+pub first_bytes : (w n : ℕ) → IsWidth w → take w (to_le_bytes w64 n) ≡ low_bytes w n
+first_bytes w n h = first_by w n h.one_of
 
 back_0 : (n : ℕ) (more : List ℕ) → n < 256 ^ 0 → number_in 0 (low_bytes 0 n ++ more) ≡ n
 back_0 n more h = omega arith

@@ -7,7 +7,7 @@ use Rattle.std.proofs.lemmas.List.{take_all}
 use Rattle.lemmas.proofs.{take_at_most}
 use Rattle.columns.specs.{low_bytes, packed_by}
 use Rattle.columns.proofs.BlockSteps.{pack_step, words_step}
-use Rattle.columns.proofs.LowBytes.{first_bytes}
+use Rattle.columns.proofs.Unpacking.{first_bytes}
 use Rattle.columns.proofs.bytes.push_each.Goals as goal
 
 pub loop-value-preserved : goal.loop-value-preserved
