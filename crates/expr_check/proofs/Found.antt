@@ -17,19 +17,13 @@ abbrev pub IsNumbered : List ScopeColumn → ℕ → Option ScopeColumn → Type
 IsNumbered cs number None = number_kind (numbers_in cs) number ≡ Err UnknownColumn
 IsNumbered cs number (Some c) = number_kind (numbers_in cs) number ≡ Ok c.kind
 
-by_name : (cs : List ScopeColumn) (name : List ℕ) → IsNamed cs name (find (λ c. same c.name name) cs)
-by_name [] name = refl
-by_name (c ∷ cs) name = grind (arith, by_name cs name)
-
-by_number : (cs : List ScopeColumn) (number : ℕ) → IsNumbered cs number (find (λ c. nat_eq c.number number) cs)
-by_number [] number = refl
-by_number (c ∷ cs) number = grind (arith, by_number cs number)
-
 pub found_by_name : (cs : List ScopeColumn) (name : List ℕ) (found : Option ScopeColumn) → found ≡ find (λ c. same c.name name) cs → IsNamed cs name found
-found_by_name cs name found is = grind (arith, by_name cs name)
+found_by_name [] name found is = rw is refl
+found_by_name (c ∷ cs) name found is = grind (arith, found_by_name cs name _ refl)
 
 pub found_by_number : (cs : List ScopeColumn) (number : ℕ) (found : Option ScopeColumn) → found ≡ find (λ c. nat_eq c.number number) cs → IsNumbered cs number found
-found_by_number cs number found is = grind (arith, by_number cs number)
+found_by_number [] number found is = rw is refl
+found_by_number (c ∷ cs) number found is = grind (arith, found_by_number cs number _ refl)
 
 lacks_by_recursion : (cs : List ScopeColumn) (name : List ℕ) → column_kind (kinds_in cs) name ≡ Err UnknownColumn → AllByRecursion (λ (c : ScopeColumn). c.name ≢ name) cs
 lacks_by_recursion [] name is = tt
