@@ -1,10 +1,10 @@
 -- The first column of a scope with a name or a number.
-use Rattle.std.proofs.Common.{◌≡◌, ◌≢◌, ℕ, Bool, true, false, cond, List, [], ◌∷◌, Option, Some, None, Ok, Err, refl, nat_eq, arith, find}
+use Rattle.std.proofs.Common.{◌≡◌, ◌≢◌, ℕ, Bool, true, false, cond, List, [], ◌∷◌, Option, Some, None, Ok, Err, refl, nat_eq, arith, find, Result}
 use Rattle.std.specs.List.{AllByRecursion}
 use Rattle.std.proofs.lemmas.Bool.Decides.{Decides-eqb}
 use Rattle.std.proofs.lemmas.List.Elements.{All-from_recursion, recursion_from_All}
 use Rattle.std.proofs.lemmas.Slice.Eq.{bytes_eq-Decides}
-use Rattle.rdf_values.specs.{ColType, column_kind, kinds_in, number_in, same, ScopeColumn}
+use Rattle.rdf_values.specs.{ColType, column_kind, GraphCause, kinds_in, number_in, same, ScopeColumn}
 use Rattle.rdf_values.specs.declared.graph_cause.GraphCause.TheVariants.{UnknownColumn}
 use Rattle.expr_check.specs.{LacksColumn, number_kind, NumberHasKind, numbers_in, NumbersHaveKinds}
 
@@ -25,14 +25,15 @@ pub found_by_number : (cs : List ScopeColumn) (number : ℕ) (found : Option Sco
 found_by_number [] number found is = rw is refl
 found_by_number (c ∷ cs) number found is = grind (arith, found_by_number cs number _ refl)
 
+-- what isn't found isn't here, nor below
+not_here : (A : Type 0) {B : Type 0} (b : Bool) (k : ColType) (rest : Result ColType GraphCause) → (A → b ≡ true) → (rest ≡ Err UnknownColumn → B) → cond b (Ok k) rest ≡ Err UnknownColumn → (A → ⊥) × B
+not_here A true k rest here below is = cc is
+not_here A false k rest here below is = (λ a. let f = here a in cc f, below is)
+
 lacks_by_recursion : (cs : List ScopeColumn) (name : List ℕ) → column_kind (kinds_in cs) name ≡ Err UnknownColumn → AllByRecursion (λ (c : ScopeColumn). c.name ≢ name) cs
 lacks_by_recursion [] name is = tt
-lacks_by_recursion (c ∷ cs) name is = lacks_by (same c.name name) (λ e. (bytes_eq-Decides c.name name).1 e) (lacks_by_recursion cs name) is
-  where
-    lacks_by : (b : Bool) → (c.name ≡ name → b ≡ true) → (column_kind (kinds_in cs) name ≡ Err UnknownColumn → AllByRecursion (λ (d : ScopeColumn). d.name ≢ name) cs)
-        → cond b (Ok c.kind) (column_kind (kinds_in cs) name) ≡ Err UnknownColumn → (c.name ≢ name) × AllByRecursion (λ (d : ScopeColumn). d.name ≢ name) cs
-    lacks_by true here below is = cc is
-    lacks_by false here below is = (λ e. let f = here e in cc f, below is)
+lacks_by_recursion (c ∷ cs) name is =
+    not_here (c.name ≡ name) (same c.name name) c.kind (column_kind (kinds_in cs) name) (λ e. (bytes_eq-Decides c.name name).1 e) (lacks_by_recursion cs name) is
 
 -- a name that isn't found is no column's
 pub lacks_column : (cs : List ScopeColumn) (name : List ℕ) → column_kind (kinds_in cs) name ≡ Err UnknownColumn → LacksColumn name cs
@@ -40,12 +41,9 @@ lacks_column cs name is = All-from_recursion (λ (c : ScopeColumn). c.name ≢ n
 
 no_number_by_recursion : (cs : List ScopeColumn) (number : ℕ) (k : ColType) → number_kind (numbers_in cs) number ≡ Err UnknownColumn → AllByRecursion (λ (c : ScopeColumn). c.number ≡ number → c.kind ≡ k) cs
 no_number_by_recursion [] number k is = tt
-no_number_by_recursion (c ∷ cs) number k is = no_number_by (nat_eq c.number number) (λ e. (Decides-eqb c.number number).1 e) (no_number_by_recursion cs number k) is
-  where
-    no_number_by : (b : Bool) → (c.number ≡ number → b ≡ true) → (number_kind (numbers_in cs) number ≡ Err UnknownColumn → AllByRecursion (λ (d : ScopeColumn). d.number ≡ number → d.kind ≡ k) cs)
-        → cond b (Ok c.kind) (number_kind (numbers_in cs) number) ≡ Err UnknownColumn → (c.number ≡ number → c.kind ≡ k) × AllByRecursion (λ (d : ScopeColumn). d.number ≡ number → d.kind ≡ k) cs
-    no_number_by true here below is = cc is
-    no_number_by false here below is = (λ e. let f = here e in cc f, below is)
+no_number_by_recursion (c ∷ cs) number k is =
+    let p = not_here (c.number ≡ number) (nat_eq c.number number) c.kind (number_kind (numbers_in cs) number) (λ e. (Decides-eqb c.number number).1 e) (no_number_by_recursion cs number k) is in
+    (λ e. absurd (p.0 e), p.1)
 
 -- a number that isn't found may have any kind
 pub number_free : (cs : List ScopeColumn) (number : ℕ) (k : ColType) → number_kind (numbers_in cs) number ≡ Err UnknownColumn → NumberHasKind number k cs
