@@ -15,35 +15,24 @@ use Rattle.expr_check.proofs.Typed.{bind_ok, call_ok}
 
 negated_scalar : (s k : ColType) → negated_kind s ≡ Ok k → is_vector s ≡ false → is_vector k ≡ false
 negated_scalar ColType.Int k h p = ap gives_vector (sym h)
-negated_scalar ColType.Bool k h p = cc h
-negated_scalar ColType.Vect k h p = cc p
+negated_scalar s k h p = cc (h, p)
 
 inverted_scalar : (s k : ColType) → inverted_kind s ≡ Ok k → is_vector s ≡ false → is_vector k ≡ false
-inverted_scalar ColType.Int k h p = cc h
 inverted_scalar ColType.Bool k h p = ap gives_vector (sym h)
-inverted_scalar ColType.Vect k h p = cc p
+inverted_scalar s k h p = cc (h, p)
 
 arithmetic_scalar : (and_holds s t k : ColType) → is_vector and_holds ≡ false → arithmetic_kind and_holds s t ≡ Ok k → is_vector s ≡ false → is_vector t ≡ false → is_vector k ≡ false
 arithmetic_scalar and_holds ColType.Int ColType.Int k b h p q = ap gives_vector (sym h) ∙ b
-arithmetic_scalar and_holds ColType.Int ColType.Bool k b h p q = cc h
-arithmetic_scalar and_holds ColType.Bool t k b h p q = cc h
-arithmetic_scalar and_holds ColType.Vect t k b h p q = cc p
-arithmetic_scalar and_holds s ColType.Vect k b h p q = cc q
+arithmetic_scalar and_holds s t k b h p q = cc (h, p, q)
 
 logical_scalar : (s t k : ColType) → logical_kind s t ≡ Ok k → is_vector s ≡ false → is_vector t ≡ false → is_vector k ≡ false
 logical_scalar ColType.Bool ColType.Bool k h p q = ap gives_vector (sym h)
-logical_scalar ColType.Bool ColType.Int k h p q = cc h
-logical_scalar ColType.Int t k h p q = cc h
-logical_scalar ColType.Vect t k h p q = cc p
-logical_scalar s ColType.Vect k h p q = cc q
+logical_scalar s t k h p q = cc (h, p, q)
 
 equality_scalar : (s t k : ColType) → equality_kind s t ≡ Ok k → is_vector s ≡ false → is_vector t ≡ false → is_vector k ≡ false
 equality_scalar ColType.Bool ColType.Bool k h p q = ap gives_vector (sym h)
-equality_scalar ColType.Bool ColType.Int k h p q = cc h
 equality_scalar ColType.Int ColType.Int k h p q = ap gives_vector (sym h)
-equality_scalar ColType.Int ColType.Bool k h p q = cc h
-equality_scalar ColType.Vect t k h p q = cc p
-equality_scalar s ColType.Vect k h p q = cc q
+equality_scalar s t k h p q = cc (h, p, q)
 
 operator_scalar : (o : BinOp) (s t k : ColType) → operator_kind o s t ≡ Ok k → is_vector s ≡ false → is_vector t ≡ false → is_vector k ≡ false
 operator_scalar BinOp.And s t k h p q = logical_scalar s t k h p q
@@ -66,21 +55,17 @@ if_scalar false s k h p = cc h
 
 chosen_scalar : (c s t k : ColType) → chosen_kind c s t ≡ Ok k → is_vector s ≡ false → is_vector k ≡ false
 chosen_scalar ColType.Bool s t k h p = if_scalar (same_kind s t) s k h p
-chosen_scalar ColType.Int s t k h p = cc h
-chosen_scalar ColType.Vect s t k h p = cc h
+chosen_scalar c s t k h p = cc h
 
 -- nothing is picked from what is no vector
 picked_from_vector : (s t k : ColType) → picked_kind s t ≡ Ok k → is_vector s ≡ false → ⊥
-picked_from_vector ColType.Int t k h p = cc h
-picked_from_vector ColType.Bool t k h p = cc h
 picked_from_vector ColType.Vect t k h p = cc p
+picked_from_vector s t k h p = cc h
 
 -- nothing that is no vector is taken as one
 taken_as_vector : (ts rest : List ColType) → AllByRecursion (λ t. is_vector t ≡ false) ts → same_kinds ts (ColType.Vect ∷ rest) ≡ true → ⊥
-taken_as_vector [] rest each h = cc h
-taken_as_vector (ColType.Int ∷ ts) rest each h = cc h
-taken_as_vector (ColType.Bool ∷ ts) rest each h = cc h
 taken_as_vector (ColType.Vect ∷ ts) rest each h = cc each.0
+taken_as_vector ts rest each h = cc h
 
 vector_taken : (s : Shape) (ts rest : List ColType) (gives : ColType) → (let r : Result Shape GraphCause = Ok s in Ok (shape (ColType.Vect ∷ rest) gives) ≡ r) → AllByRecursion (λ t. is_vector t ≡ false) ts → same_kinds ts s.takes ≡ true → ⊥
 vector_taken s ts rest gives h each fit =
@@ -106,9 +91,8 @@ called_scalar names (Callee.Given i) s ts h each fit = (refl, given_scalar (slic
 
 call_gives : (counted : Bool) (kinds : Result (List ColType) GraphCause) (takes : List ColType) (gives k : ColType)
     → (if counted then (kinds >>= λ ts. if same_kinds ts takes then Ok gives else Err WrongType) else Err WrongCount) ≡ Ok k → is_vector gives ≡ false → is_vector k ≡ false
-call_gives false kinds takes gives k h p = cc h
-call_gives true (Err e) takes gives k h p = cc h
 call_gives true (Ok ts) takes gives k h p = if_scalar (same_kinds ts takes) gives k h p
+call_gives counted kinds takes gives k h p = cc h
 
 -- no column is a vector, so no part is one
 module _ (kinds : List (ℕ × ColType)) (names : FunctionNames) where

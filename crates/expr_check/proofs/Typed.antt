@@ -74,9 +74,8 @@ typed_ok false gives k h = cc h
 pub call_ok : (counted : Bool) (kinds : Result (List ColType) GraphCause) (takes : List ColType) (gives k : ColType)
     → (if counted then (kinds >>= λ ts. if same_kinds ts takes then Ok gives else Err WrongType) else Err WrongCount) ≡ Ok k
     → (ts : List ColType) × (kinds ≡ Ok ts) × (counted ≡ true) × (same_kinds ts takes ≡ true)
-call_ok false kinds takes gives k h = cc h
-call_ok true (Err e) takes gives k h = cc h
 call_ok true (Ok ts) takes gives k h = (ts, refl, refl, typed_ok (same_kinds ts takes) gives k h)
+call_ok counted kinds takes gives k h = cc h
 
 -- each column of an expression that has a kind is known
 module _ {C F : Type 0} (col : C → Result ColType GraphCause) (fun : F → Result Shape GraphCause) where
