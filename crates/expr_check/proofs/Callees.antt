@@ -40,10 +40,9 @@ chosen false names f g s t p q = q
 
 callee_shape-callee_in : (fs : List (List ℕ × Callee)) (ss : List (List ℕ × Shape)) (names : FunctionNames) (name : List ℕ) (other : Callee) (s : Result Shape GraphCause) → AreShaped names fs ss → callee_shape names other ≡ s → callee_shape names (callee_in fs name other) ≡ shape_in ss name s
 callee_shape-callee_in [] [] names name other s are is = is
-callee_shape-callee_in [] (t ∷ ts) names name other s are is = absurd are
-callee_shape-callee_in (f ∷ fs) [] names name other s are is = absurd are
 callee_shape-callee_in (f ∷ fs) (t ∷ ts) names name other s are is =
     rw are.0 (chosen (same t.0 name) names f.1 (callee_in fs name other) (Ok t.1) (shape_in ts name s) are.1 (callee_shape-callee_in fs ts names name other s are.2 is))
+callee_shape-callee_in fs ss names name other s are is = absurd are
 
 -- the functions of the list, from its place n on
 given_are_shaped : (fs : FunctionNames) (names : FunctionNames) (n : ℕ) → ((k : ℕ) → slice_get fs k ≡ slice_get names (n + k)) → AreShaped names (given_from n fs) (shapes fs)

@@ -193,8 +193,6 @@ each_of_two P Q R f (x ∷ xs) p q = (f x p.0 q.0, each_of_two P Q R f xs p.1 q.
 -- where no number has a vector's kind, none of the kinds beside them is one
 none_vector : (numbers : List ℕ) (kinds : List ColType) → NoTwice numbers → length kinds ≡ length numbers → AllByRecursion (λ i. gives_vector (number_kind (zip numbers kinds) i) ≡ false) numbers → list_any is_vector kinds ≡ false
 none_vector [] [] once beside each = refl
-none_vector [] (k ∷ ks) once beside each = absurd (omega arith)
-none_vector (n ∷ ns) [] once beside each = absurd (omega arith)
 none_vector (n ∷ ns) (k ∷ ks) once beside each =
     let itself : nat_eq n n ≡ true = (Decides-eqb n n).1 refl in
     let here : is_vector k ≡ false = sym (ap (λ b. gives_vector (cond b (Ok k) (number_kind (zip ns ks) n))) itself) ∙ each.0 in
@@ -202,6 +200,7 @@ none_vector (n ∷ ns) (k ∷ ks) once beside each =
     each_of_two (λ i. nat_eq n i ≡ false) (λ i. gives_vector (number_kind (zip (n ∷ ns) (k ∷ ks)) i) ≡ false) (λ i. gives_vector (number_kind (zip ns ks) i) ≡ false)
     (λ i differ scalar. sym (ap (λ b. gives_vector (cond b (Ok k) (number_kind (zip ns ks) i))) differ) ∙ scalar) ns once.0 each.1 in
     rw (here, none_vector ns ks once.1 (omega arith) below) refl
+none_vector numbers kinds once beside each = absurd (omega arith)
 
 -- a well typed expression is plain exactly where none of its columns is a vector
 pub plain_by_kinds : (names : FunctionNames) (tree : NumTree) (numbers : List ℕ) (kinds : List ColType) (k : ColType) → length kinds ≡ length numbers → IsWellTyped names (checked_expr tree (zip numbers kinds) k)
