@@ -29,9 +29,8 @@ block_back bytes b values h =
 
 pub blocks_back : (bytes : List ℕ) (bs : List Block) (vs : List (List ℤ)) → AreBlocks bytes bs vs → map (block_values bytes) bs ≡ vs
 blocks_back bytes [] [] h = refl
-blocks_back bytes [] (v ∷ vs) h = absurd h
-blocks_back bytes (b ∷ bs) [] h = absurd h
 blocks_back bytes (b ∷ bs) (v ∷ vs) h = ap₂ (λ x xs. x ∷ xs) (block_back bytes b v h.0) (blocks_back bytes bs vs h.1)
+blocks_back bytes bs vs h = absurd h
 
 pub blocks_hold : (bytes : List ℕ) (bs : List Block) (vs : List (List ℤ)) → AreBlocks bytes bs vs → AreBlocks bytes bs (map (block_values bytes) bs)
 blocks_hold bytes bs vs h = rw (blocks_back bytes bs vs h) h
@@ -52,16 +51,14 @@ still bytes more b values h =
     }
 
 grown : (bytes more : List ℕ) (bs : List Block) (vs : List (List ℤ)) → AreBlocks bytes bs vs → AreBlocks (bytes ++ more) bs vs
-grown bytes more [] [] h = h
-grown bytes more [] (v ∷ vs) h = h
-grown bytes more (b ∷ bs) [] h = h
 grown bytes more (b ∷ bs) (v ∷ vs) h = (still bytes more b v h.0, grown bytes more bs vs h.1)
+grown bytes more [] [] h = h
+grown bytes more bs vs h = absurd h
 
 one_more : (bytes : List ℕ) (bs : List Block) (vs : List (List ℤ)) (b : Block) (v : List ℤ) → AreBlocks bytes bs vs → IsBlock bytes b v → AreBlocks bytes (bs ++ b ∷ []) (vs ++ v ∷ [])
 one_more bytes [] [] b v h k = (k, tt)
-one_more bytes [] (w ∷ ws) b v h k = absurd h
-one_more bytes (c ∷ cs) [] b v h k = absurd h
 one_more bytes (c ∷ cs) (w ∷ ws) b v h k = (h.0, one_more bytes cs ws b v h.1 k)
+one_more bytes bs vs b v h k = absurd h
 
 pub block_more : (bytes new : List ℕ) (bs : List Block) (vs : List (List ℤ)) (b : Block) (v : List ℤ) → AreBlocks bytes bs vs → new ≡ bytes ++ packed_of v → IsBlock new b v → AreBlocks new (bs ++ b ∷ []) (vs ++ v ∷ [])
 block_more bytes new bs vs b v h e k = one_more new bs vs b v (rw e (grown bytes (packed_of v) bs vs h)) k
