@@ -26,7 +26,8 @@ found_by_number [] number found is = rw is refl
 found_by_number (c ∷ cs) number found is = grind (arith, found_by_number cs number _ refl)
 
 -- what isn't found isn't here, nor below
-not_here : (A : Type 0) {B : Type 0} (b : Bool) (k : ColType) (rest : Result ColType GraphCause) → (A → b ≡ true) → (rest ≡ Err UnknownColumn → B) → cond b (Ok k) rest ≡ Err UnknownColumn → (A → ⊥) × B
+not_here : (A : Type 0) {B : Type 0} (b : Bool) (k : ColType) (rest : Result ColType GraphCause) → (A → b ≡ true) → (rest ≡ Err UnknownColumn → B)
+    → cond b (Ok k) rest ≡ Err UnknownColumn → (A → ⊥) × B
 not_here A true k rest here below is = cc is
 not_here A false k rest here below is = (λ a. let f = here a in cc f, below is)
 

@@ -36,7 +36,8 @@ both {ts = ts} p q = record {
   fewer = omega (arith, p.fewer, q.fewer);
 }
 
-onward : {from mid to : List OpenMark → ScanState} {ts : List Token} {old new : List Placed} → Part from mid ts old new → ((s : List OpenMark) → scan (mid s) new ≡ scan (to s) new) → Part from to ts old new
+onward : {from mid to : List OpenMark → ScanState} {ts : List Token} {old new : List Placed} → Part from mid ts old new
+    → ((s : List OpenMark) → scan (mid s) new ≡ scan (to s) new) → Part from to ts old new
 onward p e = record { split = p.split; scans = λ s. p.scans s ∙ e s; fewer = p.fewer }
 
 -- an expression in open marks
