@@ -2,6 +2,7 @@
 use Rattle.std.proofs.Common.{◌≡◌, ℕ, zero, suc, ◌<◌, ◌≤◌, min, List, ◌∷◌, length, map, get_or, ltb, Option, None, Some, IfSome, refl, ap, subst, ⊎_elim, arith, IsPermutation}
 use Rattle.std.specs.List.{All, Contains}
 use Rattle.std.proofs.lemmas.Bool.{cases_lt, cond_both, ltb-false}
+use Rattle.std.proofs.lemmas.Option.{IfSome_then}
 use Rattle.std.proofs.lemmas.List.Elements.{All-cons, All-head, All-tail, All-weaker}
 use Rattle.std.proofs.lemmas.List.Sorted.{All-permutation, Contains-permutation, IsPermutation-map}
 use Rattle.slot_words.specs.declared.hand.ClaimHand.{ClaimHand}
@@ -13,15 +14,11 @@ abbrev Passes : ℕ → List ℕ → Option ℕ → Type 0
 Passes b drawn o = IfSome o (λ p. (b ≤ p) × (0 < length drawn) × (p ≡ last_of drawn))
 
 lower_still : (a b : ℕ) (h : ClaimHand) → a ≤ b → IsOver b h → IsOver a h
-lower_still a b h le o = record { looked = least h.looked o.looked; passed = passed h.passed o.passed; lowered = least h.lowered o.lowered }
-  where
-    least : (k : Option ℕ) → IfSome k (λ n. b ≤ n) → IfSome k (λ n. a ≤ n)
-    least None p = p
-    least (Some k) p = omega arith
-
-    passed : (k : Option ℕ) → Passes b h.drawn k → Passes a h.drawn k
-    passed None p = p
-    passed (Some k) p = (omega (arith, p.0), p.1, p.2)
+lower_still a b h le o = record {
+  looked = IfSome_then h.looked o.looked (λ n k. omega (arith, k));
+  passed = IfSome_then h.passed o.passed (λ p k. (omega (arith, k.0), k.1, k.2));
+  lowered = IfSome_then h.lowered o.lowered (λ n k. omega (arith, k));
+}
 
 abbrev lowered_by : ClaimHand → Option ℕ
 lowered_by h = h.lowered

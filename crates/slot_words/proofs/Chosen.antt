@@ -1,5 +1,5 @@
 -- The entries with a number between two bounds, and how many there are.
-use Rattle.std.proofs.Common.{◌≡◌, ℕ, zero, suc, ◌+◌, ◌≤◌, List, [], ◌∷◌, ◌++◌, length, map, min, Bool, true, false, not, cond, refl, sym, ap, ap₂, ◌∙◌, arith, flat_map}
+use Rattle.std.proofs.Common.{◌≡◌, ℕ, zero, suc, ◌+◌, ◌≤◌, List, [], ◌∷◌, ◌++◌, length, map, min, Bool, not, cond, refl, sym, ap, ap₂, ◌∙◌, arith, flat_map}
 use Rattle.std.specs.List.{All, concat, count_by, filter, sum_by, zip}
 use Rattle.std.proofs.lemmas.Grind.{common_steps}
 use Rattle.std.proofs.lemmas.List.{length-map, map-append}
@@ -62,8 +62,7 @@ module _ {A : Type 0} where
 
   module _ (f : A → ℕ) (low high : ℕ) (le : low ≤ high) where
     one_kept : (b : Bool) (e : ℕ × A) (es : List (ℕ × A)) → sum_by f (map (λ e. e.1) (cond b (e ∷ es) es)) ≡ cond b (f e.1) 0 + sum_by f (map (λ e. e.1) es)
-    one_kept true e es = sum_by-cons f e.1 (map (λ e. e.1) es)
-    one_kept false e es = omega arith
+    one_kept b e es = grind (arith, sum_by-cons f e.1 (map (λ e. e.1) es))
 
     parts : (n x : ℕ) → cond (is_between 0 high n) x 0 ≡ cond (is_between 0 low n) x 0 + cond (is_between low high n) x 0
     parts n x = grind (arith, common_steps)
@@ -100,11 +99,7 @@ module _ {A B : Type 0} (f : A → B) (low high : ℕ) where
   kept_mapped : (ns : List ℕ) (ts : List A) → map f (kept low high (zip ns ts)) ≡ kept low high (zip ns (map f ts))
   kept_mapped [] ts = refl
   kept_mapped (n ∷ ns) [] = refl
-  kept_mapped (n ∷ ns) (t ∷ ts) = one (is_between low high n) _ _ (kept_mapped ns ts)
-    where
-      one : (b : Bool) (xs : List (ℕ × A)) (ys : List (ℕ × B)) → map f (map (λ e. e.1) xs) ≡ map (λ e. e.1) ys → map f (map (λ e. e.1) (cond b ((n, t) ∷ xs) xs)) ≡ map (λ e. e.1) (cond b ((n, f t) ∷ ys) ys)
-      one true xs ys same = ap (λ l. f t ∷ l) same
-      one false xs ys same = same
+  kept_mapped (n ∷ ns) (t ∷ ts) = grind (arith, kept_mapped ns ts)
 
   pub added_mapped : (os : List (List ℕ)) (ts : List (List A)) → map f (added os low high ts) ≡ added os low high (map (map f) ts)
   added_mapped [] ts = refl

@@ -1,11 +1,12 @@
 -- Each step keeps what the rule says of the claim word.
-use Rattle.std.proofs.Common.{◌≡◌, ℕ, ◌+◌, ◌^◌, ◌<◌, ◌≤◌, min, List, [], ◌∷◌, ◌++◌, map, get_or, ltb, Option, None, Some, IfSome, ap, ◌∙◌, subst, arith, IsPermutation}
+use Rattle.std.proofs.Common.{◌≡◌, ℕ, ◌+◌, ◌^◌, ◌<◌, ◌≤◌, min, List, [], ◌∷◌, ◌++◌, map, get_or, ltb, Option, None, Some, ap, ◌∙◌, subst, arith, IsPermutation}
 use Rattle.std.specs.List.{All}
 use Rattle.std.specs.List.Sorted.{IsStrictlyIncreasing}
 use Rattle.std.proofs.lemmas.Bool.{cond_both, ltb-true, ltb-false}
 use Rattle.std.proofs.lemmas.List.Elements.{All-cons, All-head, All-tail, All-weaker}
 use Rattle.std.proofs.lemmas.List.Sorted.{All-permutation, length_permutation, sum_by-IsPermutation}
 use Rattle.std.proofs.lemmas.List.Sums.{sum_by-cons, sum_by-le}
+use Rattle.std.proofs.lemmas.Option.{IfSome_then}
 use Rattle.rdf_values.specs.{DrawnBy}
 use Rattle.slot_words.specs.declared.hand.ClaimHand.{ClaimHand}
 use Rattle.slot_words.specs.{IsClaimed, IsHand, kept_count}
@@ -19,11 +20,7 @@ abbrev kept_in : ClaimHand → ℕ
 kept_in h = kept_count h.kept
 
 later : (clusters w v : ℕ) (h : ClaimHand) → w ≤ v → IsHand clusters w h → IsHand clusters v h
-later clusters w v h le i = record { same = i.same; past = past h.kept i.past }
-  where
-    past : (k : Option ℕ) → IfSome k (λ k. (clusters ≤ k) × (k < w)) → IfSome k (λ k. (clusters ≤ k) × (k < v))
-    past None p = p
-    past (Some k) p = (p.0, omega arith)
+later clusters w v h le i = record { same = i.same; past = IfSome_then h.kept i.past (λ k p. (p.0, omega (arith, p.1))) }
 
 -- the hand after a draw is one of two
 pub drawn_hand : (P : ClaimHand → Type 0) (h : ClaimHand) (n : ℕ) → (n < h.clusters → P record h { drawn = h.drawn ++ n ∷ []; looked = None }) → (h.clusters ≤ n → P record h { kept = Some n; looked = None }) → P (draw h n)
@@ -77,8 +74,7 @@ word_fits clusters slots n hands c =
     omega arith
   where
     at_most : (k : Option ℕ) → kept_count k ≤ 1
-    at_most None = omega arith
-    at_most (Some k) = omega arith
+    at_most k = grind arith
 
 pub claimed_again : (clusters slots n : ℕ) (hands now : List ClaimHand) → IsPermutation hands now → IsClaimed clusters slots n hands → IsClaimed clusters slots n now
 claimed_again clusters slots n hands now same c = record {

@@ -1,5 +1,5 @@
 -- Runs and further numbers, put together from the greatest on.
-use Rattle.std.proofs.Common.{◌≡◌, ℕ, zero, suc, ◌+◌, ◌-◌, ◌<◌, ◌≤◌, List, [], ◌∷◌, ◌++◌, length, map, take, get_or, Bool, true, false, cond, Some, refl, sym, ap, ◌∙◌, subst, ⊎_elim, arith, append_assoc, append-nil, length-append, reverse, nat_eq, option_map, slice_get}
+use Rattle.std.proofs.Common.{◌≡◌, ℕ, zero, suc, ◌+◌, ◌-◌, ◌<◌, ◌≤◌, List, [], ◌∷◌, ◌++◌, length, map, take, get_or, Some, refl, sym, ap, ◌∙◌, subst, ⊎_elim, arith, append_assoc, append-nil, length-append, reverse, nat_eq, option_map, slice_get}
 use Rattle.std.specs.List.{range_with_len}
 use Rattle.std.specs.List.Sorted.{IsStrictlyIncreasing}
 use Rattle.std.proofs.Math.Seq.{take-suc, get_or-append_right}
@@ -48,11 +48,7 @@ front_one x (r ∷ rs) = refl
 
 front_joins : (a k : ℕ) (rs : List Run) → in_front a (run_in_front (record { first = a + 1; last = k }) rs) ≡ run_in_front (record { first = a; last = k }) rs
 front_joins a k [] = rw (eq_itself (a + 1)) refl
-front_joins a k (s ∷ ss) = by_bool (nat_eq (k + 1) s.first)
-  where
-    by_bool : (b : Bool) → in_front a (cond b (record { first = a + 1; last = s.last } ∷ ss) (record { first = a + 1; last = k } ∷ s ∷ ss)) ≡ cond b (record { first = a; last = s.last } ∷ ss) (record { first = a; last = k } ∷ s ∷ ss)
-    by_bool true = rw (eq_itself (a + 1)) refl
-    by_bool false = rw (eq_itself (a + 1)) refl
+front_joins a k (s ∷ ss) = grind (arith, eq_itself)
 
 -- a run's numbers in front of others
 runs_put : (a m k : ℕ) (done : List ℕ) → k ≡ a + m → maximal_runs (range_with_len a (suc m) ++ done) ≡ run_in_front (record { first = a; last = k }) (maximal_runs done)
