@@ -32,7 +32,8 @@ module _ (f : LoopFacts) (done : List ℕ) (c : ℕ) where
 -- ---- a fresh tally
 
 fresh_by : (f : LoopFacts) (c i : ℕ) (k : ActionKind) → IsFedBy f [] c (taken_in 0 1 0 i) i (fresh_acc k)
-fresh_by f c i k = record { fed = subst (HasFed (fresh_acc k)) (sym (fed_at_begin f [] c i)) record { filled = refl; kept = refl; below = λ j x lt. absurd (omega arith) }; few = omega arith; last = omega arith }
+fresh_by f c i k =
+    record { fed = subst (HasFed (fresh_acc k)) (sym (fed_at_begin f [] c i)) record { filled = refl; kept = refl; below = λ j x lt. absurd (omega arith) }; few = omega arith; last = omega arith }
 
 pub fresh_alone : (f : LoopFacts) (c i : ℕ) (k : ActionKind) → slice_get f.kinds i ≡ Some k → CanWatch k → IsFedAlone f c (taken_in 0 1 0 i) i (fresh_acc k)
 fresh_alone f c i k at watch = record { kind = at; watch = watch; held = fresh_by f c i k }

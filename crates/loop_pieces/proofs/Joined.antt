@@ -14,7 +14,8 @@ abbrev pub kind_at : Accumulator → ActionKind
 kind_at acc = acc.kind
 
 -- lists that agree at each place agree when they are mapped
-maps_agree : {B : Type 0} (g : Accumulator → B) (xs ys : List Accumulator) → length xs ≡ length ys → ((i : ℕ) (d : Accumulator) → i < length xs → g (get_or xs i d) ≡ g (get_or ys i d)) → map g xs ≡ map g ys
+maps_agree : {B : Type 0} (g : Accumulator → B) (xs ys : List Accumulator) → length xs ≡ length ys
+    → ((i : ℕ) (d : Accumulator) → i < length xs → g (get_or xs i d) ≡ g (get_or ys i d)) → map g xs ≡ map g ys
 maps_agree g [] [] e h = refl
 maps_agree g [] (y ∷ ys) e h = absurd (omega arith)
 maps_agree g (x ∷ xs) [] e h = absurd (omega arith)
@@ -31,7 +32,8 @@ module _ (f : LoopFacts) (mine theirs : List ℕ) (p q : LoopPiece) (s : StandsF
 pub pieces_of_one_set_agree : PiecesOfOneSetAgree
 pieces_of_one_set_agree f set p q s t = (
   maps_agree (λ (acc : Accumulator). acc.filled) p.accs.items q.accs.items (sym (same_many f set set p q s t))
-      (λ i d lt. (s.accs i d lt).fed.filled ∙ ap (λ k. fold_items k (in_file_order (fed_over f set i))) (sym (kind_of_place f set set p q s t i d lt)) ∙ sym (t.accs i d (omega (arith, same_many f set set p q s t))).fed.filled),
+      (λ i d lt. (s.accs i d lt).fed.filled
+      ∙ ap (λ k. fold_items k (in_file_order (fed_over f set i))) (sym (kind_of_place f set set p q s t i d lt)) ∙ sym (t.accs i d (omega (arith, same_many f set set p q s t))).fed.filled),
   s.flow ∙ sym t.flow,
 )
 
@@ -40,7 +42,8 @@ module _ (f : LoopFacts) (mine theirs all : List ℕ) (p q : LoopPiece) (s : Sta
   can_merge = record {
     many = same_many f mine theirs p q s t;
     kinds = kind_of_place f mine theirs p q s t;
-    room = λ i d lt. (let a = s.accs i d lt in let b = t.accs i d (omega (arith, same_many f mine theirs p q s t)) in omega (arith, a.few, b.few, entries_union f mine theirs all u, entries_few f all s.facts u.rising));
+    room = λ i d lt. (let a = s.accs i d lt in let b = t.accs i d (omega (arith, same_many f mine theirs p q s t)) in
+        omega (arith, a.few, b.few, entries_union f mine theirs all u, entries_few f all s.facts u.rising));
   }
 
   both_counts : (i : ℕ) → both (counts_at f mine i) (counts_at f theirs i) ≡ counts_at f all i

@@ -64,7 +64,9 @@ module _ (k : ActionKind) (i : ℕ) where
 
   few_of : (rows : List (List (List Item))) → All FitsRow rows → length (flat_map (λ row. list_at row i) rows) ≤ 4096 * length rows
   few_of [] h = omega arith
-  few_of (row ∷ rows) h = let first = (All-head FitsRow row rows h).few in let rest = few_of rows (All-tail FitsRow row rows h) in omega (arith, length-append (list_at row i) (flat_map (λ r. list_at r i) rows))
+  few_of (row ∷ rows) h =
+      let first = (All-head FitsRow row rows h).few in
+      let rest = few_of rows (All-tail FitsRow row rows h) in omega (arith, length-append (list_at row i) (flat_map (λ r. list_at r i) rows))
 
   fit_of : (rows : List (List (List Item))) → All FitsRow rows → All (FitsAction k) (flat_map (λ row. list_at row i) rows)
   fit_of [] h = All-nil (FitsAction k)

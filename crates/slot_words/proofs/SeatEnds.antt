@@ -11,4 +11,5 @@ seats_many c n seats is = ap length is ∙ length-map (range_with_len 0 n) (fres
 
 pub seats_ready : (c : ClaimsSeen) (n : ℕ) (seats : List SeatSeen) → seats ≡ fresh_seats c n → All (IsReady c) seats
 seats_ready c n seats is =
-    subst (All (IsReady c)) (sym is) (All-map (IsReady c) (fresh_seat c) (range_with_len 0 n) (λ k d lt. record { of = (refl, refl); undrawn = refl; unkept = refl; unpassed = refl; unlowered = refl }))
+    subst (All (IsReady c)) (sym is)
+    (All-map (IsReady c) (fresh_seat c) (range_with_len 0 n) (λ k d lt. record { of = (refl, refl); undrawn = refl; unkept = refl; unpassed = refl; unlowered = refl }))
