@@ -3,10 +3,7 @@ use Rattle.std.proofs.Common.{ℕ, ◌+◌, ◌*◌, ◌^◌, ◌<◌, ◌≤◌
 use Rattle.std.specs.Int.{w128}
 use Rattle.std.proofs.lemmas.Int.{fits_signed_from_abs}
 use Rattle.lemmas.proofs.{abs_add}
-
-pub abs_of_fit : (w : ℤ) → FitsSigned w64 w → nat_abs w ≤ 2 ^ 63
-abs_of_fit (pos n) h = let s = h.sfits in omega arith
-abs_of_fit (negsuc n) h = let s = h.sfits in omega arith
+use Rattle.histograms.proofs.Bounds.{abs_of_fit}
 
 pub fits_sum : (z : ℤ) → nat_abs z < 2 ^ 127 → FitsSigned w128 z
 fits_sum z h = fits_signed_from_abs w128 z h

@@ -15,7 +15,7 @@ use Rattle.chain_files.specs.{AreNext, digest_of, end_file_of, first_differing, 
 use Rattle.chain_files.proofs.Covered.{covered_are_next}
 use Rattle.chain_files.proofs.OnePart.{a_text_is_of_one_part}
 use Rattle.chain_runs.specs.{AreChecked, AreFiles, Chain, chain_part, part_over, tables_in, with_rows}
-use Rattle.chain_runs.proofs.Groups.{only_files_are_refused, parts_join_to_one_run}
+use Rattle.chain_runs.proofs.Groups.{only_files_are_refused, parts_join_to_one_run, dropped, taken}
 use Rattle.chain_runs.proofs.Joining.{all_files_are_the_chain}
 use Rattle.chain_runs.proofs.Parts.{chains_are_part}
 use Rattle.chain_transcripts.proofs.WholeText.{chain_prints_the_transcript}
@@ -65,16 +65,6 @@ table_is_there files name t Next d h due = go (files name) h due
     go (Some bytes) k g = text (nat_lt max_table (length bytes)) (table_of (csv_records bytes)) (le-ltb max_table (length bytes) k.0) k.1 g
 
 -- ---- lists
-
-dropped : {A : Type 0} (P : A → Type 0) (n : ℕ) (xs : List A) → AllByRecursion P xs → AllByRecursion P (drop n xs)
-dropped P zero xs h = h
-dropped P (suc n) [] h = tt
-dropped P (suc n) (x ∷ xs) h = dropped P n xs h.1
-
-taken : {A : Type 0} (P : A → Type 0) (n : ℕ) (xs : List A) → AllByRecursion P xs → AllByRecursion P (take n xs)
-taken P zero xs h = tt
-taken P (suc n) [] h = tt
-taken P (suc n) (x ∷ xs) h = (h.0, taken P n xs h.1)
 
 one_there : (f : MarkedTable → List (List Value)) (ts : List MarkedTable) (k : ℕ) (t : MarkedTable) → slice_get ts k ≡ Some t → (take 1 (drop k (map f ts)) ≡ f t ∷ []) × (k < length ts)
 one_there f [] k t h = absurd (cc h)

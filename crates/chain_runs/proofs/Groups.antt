@@ -115,12 +115,12 @@ parts_join_to_one_run bytes script c groups column first others files ordered co
 
 -- ---- what isn't refused
 
-dropped : {A : Type 0} (P : A → Type 0) (n : ℕ) (xs : List A) → AllByRecursion P xs → AllByRecursion P (drop n xs)
+pub dropped : {A : Type 0} (P : A → Type 0) (n : ℕ) (xs : List A) → AllByRecursion P xs → AllByRecursion P (drop n xs)
 dropped P zero xs h = h
 dropped P (suc n) [] h = tt
 dropped P (suc n) (x ∷ xs) h = dropped P n xs h.1
 
-taken : {A : Type 0} (P : A → Type 0) (n : ℕ) (xs : List A) → AllByRecursion P xs → AllByRecursion P (take n xs)
+pub taken : {A : Type 0} (P : A → Type 0) (n : ℕ) (xs : List A) → AllByRecursion P xs → AllByRecursion P (take n xs)
 taken P zero xs h = tt
 taken P (suc n) [] h = tt
 taken P (suc n) (x ∷ xs) h = (h.0, taken P n xs h.1)

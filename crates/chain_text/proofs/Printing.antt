@@ -11,9 +11,7 @@ use Rattle.merged_text.specs.{lines_of_result}
 use Rattle.chain_files.specs.{ChainFault, PartLoop}
 use Rattle.chain_files.specs.declared.part_loop.PartLoop.TheVariants.{Whole, Faulted}
 use Rattle.chain_text.specs.{access_printed, chain_fault_line, loop_printed, prints_text}
-
-in_front-twice : (a b : List ℕ) (p : Printed) → in_front_of a (in_front_of b p) ≡ in_front_of (a ++ b) p
-in_front-twice a b p = ap (λ l. record { bytes = l; status = p.status }) (sym (append_assoc a b p.bytes))
+use Rattle.merged_text.proofs.Printing.{in_front-twice}
 
 -- ---- what a Print gives
 

@@ -8,15 +8,11 @@ use Rattle.chain_words.specs.declared.command.ChainCommand.TheVariants.{Run, Map
 use Rattle.chain_words.specs.declared.command.Settings.{Settings}
 use Rattle.chain_words.specs.declared.reading.Awaits.{Awaits}
 use Rattle.chain_words.specs.declared.reading.Reading.{Reading}
+use Rattle.command_words.proofs.Bounds.{if_within}
 
 -- a number that stands in an option
 abbrev Is : ℕ → ℕ → Option ℕ → Type 0
 Is least most o = (n : ℕ) → o ≡ Some n → (least ≤ n) × (n ≤ most)
-
-if_within : (least most n m : ℕ) (low high : Bool) → leb least n ≡ low → leb n most ≡ high → (if low && high then Some n else None) ≡ Some m → (least ≤ m) × (m ≤ most)
-if_within least most n m true true l h e = grind arith
-if_within least most n m true false l h e = absurd (cc e)
-if_within least most n m false high l h e = absurd (cc e)
 
 is_within : (least most : ℕ) (o : Option ℤ) → Is least most (within least most o)
 is_within least most None = λ n e. absurd (cc e)

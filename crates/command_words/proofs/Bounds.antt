@@ -28,7 +28,7 @@ is_setting usual most (Some text) low high = is_number 1 most text
 abbrev Fits : Option Input → Type 0
 Fits o = (i : Input) → o ≡ Some i → IsWithin i
 
-some_is : {A : Type 0} (x y : A) → Some x ≡ Some y → x ≡ y
+pub some_is : {A : Type 0} (x y : A) → Some x ≡ Some y → x ≡ y
 some_is x y e = cc e
 
 generated_fits : (entries seed : Option ℕ) → Is 1 1000000 entries → Is 0 4294967295 seed → Fits (generated_by entries seed)

@@ -15,7 +15,7 @@ pub rdf_free : is_simple_and_free rdf_command ≡ true
 unfolding rdf_command clap_on_literals
 rdf_free = refl
 
-some_is : (k : ErrorKind) (ks : Kinds) → IsAmong k ks → has_none ks ≡ false
+pub some_is : (k : ErrorKind) (ks : Kinds) → IsAmong k ks → has_none ks ≡ false
 some_is k [] h = absurd h
 some_is k (x ∷ xs) h = refl
 

@@ -186,7 +186,7 @@ each_of_all : (P : ℕ → Type 0) → ((i : ℕ) → P i) → (xs : List ℕ) �
 each_of_all P f [] = tt
 each_of_all P f (x ∷ xs) = (f x, each_of_all P f xs)
 
-each_of_two : (P Q R : ℕ → Type 0) → ((i : ℕ) → P i → Q i → R i) → (xs : List ℕ) → AllByRecursion P xs → AllByRecursion Q xs → AllByRecursion R xs
+pub each_of_two : (P Q R : ℕ → Type 0) → ((i : ℕ) → P i → Q i → R i) → (xs : List ℕ) → AllByRecursion P xs → AllByRecursion Q xs → AllByRecursion R xs
 each_of_two P Q R f [] p q = tt
 each_of_two P Q R f (x ∷ xs) p q = (f x p.0 q.0, each_of_two P Q R f xs p.1 q.1)
 

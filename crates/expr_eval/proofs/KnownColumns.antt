@@ -9,7 +9,7 @@ use Rattle.rdf_model.specs.{Faults, FitsOutcome, Gives, Needs, Outcome}
 use Rattle.expr_check.specs.{callee_shape, CheckedExpr, gives_vector, is_plain, IsTyped, number_kind}
 use Rattle.expr_check.proofs.Each.{each_left, each_right}
 use Rattle.expr_check.proofs.Distinct.{each_from_distinct}
-use Rattle.expr_check.proofs.Plain.{columns_scalar}
+use Rattle.expr_check.proofs.Plain.{columns_scalar, each_of_two}
 use Rattle.expr_check.proofs.Typed.{columns_known}
 use Rattle.expr_eval.specs.{GivesScalar}
 
@@ -38,10 +38,6 @@ module _ {C F : Type 0} (P : C → Type 0) where
 each_number : (P : ℕ → Type 0) (kinds : List (ℕ × ColType)) → AllByRecursion (λ (c : ℕ × ColType). P c.0) kinds → AllByRecursion P (map (λ (c : ℕ × ColType). c.0) kinds)
 each_number P [] h = tt
 each_number P (c ∷ cs) h = (h.0, each_number P cs h.1)
-
-each_of_two : (P Q S : ℕ → Type 0) → ((i : ℕ) → P i → Q i → S i) → (xs : List ℕ) → AllByRecursion P xs → AllByRecursion Q xs → AllByRecursion S xs
-each_of_two P Q S f [] p q = tt
-each_of_two P Q S f (x ∷ xs) p q = (f x p.0 q.0, each_of_two P Q S f xs p.1 q.1)
 
 -- what holds of each column whose kind is there holds of each that stands in the expression
 module _ (e : CheckedExpr) (typed : IsTyped e) where

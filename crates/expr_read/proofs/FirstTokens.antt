@@ -31,7 +31,7 @@ word_run c cs h = let first : is_word_byte c ≡ true = ap (λ (b : Bool). b || 
 whole_word : (c : ℕ) (cs : List ℕ) → is_word_start c ≡ true → is_word (take_while is_word_byte (c ∷ cs)) ≡ true
 whole_word c cs h = rw (word_run c cs h, h) (run_passes is_word_byte cs)
 
-run_size : (p : ℕ → Bool) (xs : List ℕ) → length (take_while p xs) ≤ length xs
+pub run_size : (p : ℕ → Bool) (xs : List ℕ) → length (take_while p xs) ≤ length xs
 run_size p xs = omega (arith, length-take {A = ℕ})
 
 run_begins : (p : ℕ → Bool) (x : ℕ) (xs : List ℕ) → p x ≡ true → 0 < length (take_while p (x ∷ xs))

@@ -8,7 +8,8 @@ use Rattle.expr_read.proofs.SpelledTree.{IsReadable, AreReadable, spells_tree}
 use Rattle.std.proofs.lemmas.List.{append-nil, length-map}
 use Rattle.expr_read.proofs.Shown.{reads_shown, no_fewer, shown_whole}
 use Rattle.expr_read.proofs.TokenSteps.{no_tokens}
-use Rattle.expr_read.proofs.ValidTokens.{valid_tokens, few_tokens}
+use Rattle.expr_read.proofs.ValidTokens.{valid_tokens}
+use Rattle.rdf_values.proofs.ShortLists.{few_tokens}
 
 abbrev AreValid : List Token → Type 0
 AreValid [] = Unit {0}

@@ -14,7 +14,7 @@ use Rattle.std.specs.Str.{all_ascii_digits}
 use Rattle.std.specs.Str.Parse.{digits_value}
 use Rattle.std.proofs.lemmas.Str.Parse.{IsNumeralModel, numerals_by_value, tells_all_ascii_digits}
 use Rattle.std.proofs.lemmas.Fmt.{decimal_nonempty, digits_decimal}
-use Rattle.rdf_values.proofs.OneText.{magnitude_decimal}
+use Rattle.rdf_values.proofs.OneText.{magnitude_decimal, own}
 use Rattle.expr_read.specs.{is_number}
 
 -- before the rest, the text spells these tokens
@@ -206,9 +206,6 @@ name_head (c ∷ cs) rest h =
     unequal_by c _ refl (both_true (is_word_start c) (list_all is_word_byte cs) p.0).0
 
 -- ---- numbers
-
-own : IsNumeralModel (λ ds. all_ascii_digits ds ≡ true) (digits_value 10)
-own = numerals_by_value _ tells_all_ascii_digits
 
 apart_digit : (rest : List ℕ) → is_apart rest ≡ true → stops is_digit rest
 apart_digit [] h = tt

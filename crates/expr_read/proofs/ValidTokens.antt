@@ -59,6 +59,3 @@ all_fine text =
 
 pub valid_tokens : (text : List ℕ) (ts : List Placed) → tokens text ≡ Ok ts → are_valid (bare ts) ≡ true
 valid_tokens text ts e = let h = rw e at (all_fine text) in h.0
-
-pub few_tokens : (text : List ℕ) (ts : List Placed) → tokens text ≡ Ok ts → length ts ≤ 256
-few_tokens text ts e = let h = rw e at (all_fine text) in h.1

@@ -11,16 +11,14 @@ use Rattle.rdf_values.proofs.KeptLemmas.{map_below}
 use Rattle.friend_join.specs.{AreBelow, AreEntries, AreSmall, column_elements, elements, elements_of, IsSmall, length_for, matched_cells, matched_elements, row_elements, vector_for}
 use Rattle.columns.specs.{joined}
 use Rattle.friend_join.proofs.Removing.{remove_nil, there}
+use Rattle.rdf_values.proofs.DrawCounts.{sum_by-map as sum_map}
+use Rattle.columns.proofs.InPieces.{joined_more}
 
 -- ---- a sum, element by element
 
 -- one more term of a sum
 pub sum_next : {A : Type 0} (f : A → ℕ) (xs : List A) (i : ℕ) (x : A) → i < length xs → x ≡ get_or xs i x → sum_by f (take (i + 1) xs) ≡ sum_by f (take i xs) + f x
 sum_next f xs i x l e = sum_by_more f xs i x l ∙ ap (λ y. sum_by f (take i xs) + f y) (sym e)
-
-sum_map : {A B : Type 0} (f : B → ℕ) (g : A → B) (xs : List A) → sum_by f (map g xs) ≡ sum_by (λ x. f (g x)) xs
-sum_map f g [] = refl
-sum_map f g (x ∷ xs) = sum_by-cons f (g x) (map g xs) ∙ ap (λ n. f (g x) + n) (sum_map f g xs) ∙ sym (sum_by-cons (λ x. f (g x)) x xs)
 
 -- ---- rows and columns
 
@@ -128,10 +126,6 @@ entries_at ms (x ∷ xs) zero d h l = h.0
 entries_at ms (x ∷ xs) (suc i) d h l = entries_at ms xs i d h.1 (omega arith)
 
 -- ---- pieces
-
-pub joined_more : {A : Type 0} (pieces : List (List A)) (i : ℕ) (piece : List A) → piece ≡ get_or pieces i piece → i < length pieces → joined (take (i + 1) pieces) ≡ joined (take i pieces) ++ piece
-joined_more pieces i piece e l =
-    ap joined (take_more pieces i piece l) ∙ flat_map-append (λ p. p) (take i pieces) (get_or pieces i piece ∷ []) ∙ ap (λ ns. joined (take i pieces) ++ ns) (append-nil (get_or pieces i piece) ∙ sym e)
 
 joined_parts : {A : Type 0} (pieces : List (List A)) (i : ℕ) → joined (take i pieces) ++ joined (drop i pieces) ≡ joined pieces
 joined_parts pieces i = sym (flat_map-append (λ p. p) (take i pieces) (drop i pieces)) ∙ ap joined (take-append-drop i pieces)

@@ -93,7 +93,7 @@ number_kept : (xs : List Cells) (col e : ℕ) (x : Cells) → slice_get xs col �
 number_kept xs col e (Cells.Ints ns) q i = ap number_of (slice_get-map (cell_at e) xs col ∙ ap (option_map (cell_at e)) q)
 number_kept xs col e (Cells.Vects vs) q i = absurd i
 
-map_self : {A : Type 0} (xs : List A) → map (λ x. x) xs ≡ xs
+pub map_self : {A : Type 0} (xs : List A) → map (λ x. x) xs ≡ xs
 map_self [] = refl
 map_self (x ∷ xs) = ap (λ t. x ∷ t) (map_self xs)
 

@@ -11,4 +11,5 @@ pub mod Scoping
 pub mod Shared
 pub mod SiteTotals
 pub mod Sourced
+pub mod Verdicts
 pub mod Walking

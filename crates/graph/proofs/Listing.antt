@@ -26,10 +26,6 @@ got_first xs ys k lt = let t = something_at xs k lt in kept_at xs ys k t.0 t.1 �
 
 -- ---- places
 
-pub place_kept : {A : Type 0} (t : A → Bool) (xs ys : List A) (l : ℕ) → place t xs ≡ Some l → place t (xs ++ ys) ≡ Some l
-place_kept t [] ys l h = cc h
-place_kept t (x ∷ xs) ys l h = grind (arith, place_kept t xs ys)
-
 pub place_end : {A : Type 0} (t : A → Bool) (xs : List A) (y : A) → place t xs ≡ None → place t (xs ++ y ∷ []) ≡ (if t y then Some (length xs) else None)
 place_end t [] y h = refl
 place_end t (x ∷ xs) y h = grind (arith, place_end t xs y)

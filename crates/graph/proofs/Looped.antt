@@ -15,8 +15,9 @@ use Rattle.graph.specs.{AreLoops, AreNamedInTurn, AreRowsOf, BeginsWith, filled_
 use Rattle.graph.specs.declared.tables.ResultRow.{ResultRow}
 use Rattle.graph.specs.declared.loops.LoopTables.{LoopTables}
 use Rattle.graph.proofs.Filled.{among_less, filled_few, filled_first, later_named, loop_is, is_filled, is_waiting}
-use Rattle.graph.proofs.Listing.{place_at, place_end, place_kept, zip_first}
+use Rattle.graph.proofs.Listing.{place_at, place_end, zip_first}
 use Rattle.graph.proofs.Walking.{same_back}
+use Rattle.rdf_model.proofs.Turns.{place_within as place_kept}
 
 -- ---- lists
 

@@ -82,7 +82,7 @@ last_label lines l rest f count x e own all lt is =
 pub label_before : (lines : List Line) (l : Line) (rest : List Line) (f : ℕ) (x : List ℕ) → lines ≡ l ∷ rest → slice_get (labels (statements rest)) f ≡ Some x → slice_get (labels (statements lines)) f ≡ Some x
 label_before lines l rest f x e h = ap (λ ls. slice_get (labels (statements ls)) f) e ∙ kept_at (labels (statements rest)) (option_to_list (own_label l.statement)) f x h
 
-named_few : (before : List Statement) → length (named_before before) ≤ length before
+pub named_few : (before : List Statement) → length (named_before before) ≤ length before
 named_few [] = omega arith
 named_few (s ∷ before) = let n = named_few before in let m = named_more s before in grind (arith, n, m)
 

@@ -15,6 +15,7 @@ use Rattle.graph_numbers.proofs.VersionKinds.{kind_count, visible_kind}
 use Rattle.graph_numbers.specs.{cell_sources, cell_versions, list_start, named_version, numbers_from, own_source, own_versions, site_count, Source, source_in, sources, under_at, varied_sources, varied_version, varied_versions, Version, version_at, version_count, version_kinds, versions}
 use Rattle.graph.specs.{AreAbove, AreSourcesOf, IsAbove, tag_at, tagged, version_source}
 use Rattle.graph.proofs.Listing.{got_first, named_at, no_place}
+use Rattle.graph_numbers.proofs.VersionSources.{variation_kept}
 
 -- ---- tests and lists
 
@@ -30,9 +31,6 @@ numbers_count n (x ∷ xs) = ap suc (numbers_count (suc n) xs)
 -- a name in a list has a place
 has_place : (xs : List (List ℕ)) (k : ℕ) (x : List ℕ) → slice_get xs k ≡ Some x → place (same x) xs ≡ None → ⊥
 has_place xs k x h e = cc (any_at (same x) xs k x h (same_itself x), no_place (same x) xs e)
-
-variation_kept : (before after : List Statement) → Extends before after → (k : ℕ) (x : Variation) → slice_get (variations before) k ≡ Some x → slice_get (variations after) k ≡ Some x
-variation_kept = kept variations (λ before s. own_variations s) (λ before s. refl)
 
 each_passes : {A : Type 0} (f : A → Option GraphCause) (xs : List A) (k : ℕ) (x : A) → first_refusal (map f xs) ≡ None → slice_get xs k ≡ Some x → f x ≡ None
 each_passes f [] k x h q = cc q

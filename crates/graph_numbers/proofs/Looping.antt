@@ -10,7 +10,7 @@ use Rattle.graph_numbers.proofs.Listed.{by_test, next_at}
 use Rattle.std.proofs.lemmas.List.Elements.{filter_map-append}
 use Rattle.lemmas.proofs.{kept_at}
 
-booked_kept : (before after : List Statement) → Extends before after → (k : ℕ) (b : Booked) → slice_get (bookings before) k ≡ Some b → slice_get (bookings after) k ≡ Some b
+pub booked_kept : (before after : List Statement) → Extends before after → (k : ℕ) (b : Booked) → slice_get (bookings before) k ≡ Some b → slice_get (bookings after) k ≡ Some b
 booked_kept = kept bookings booked_by (λ before s. refl)
 
 -- the elements of a list stand in another one from a place on

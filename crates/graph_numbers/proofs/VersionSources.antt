@@ -32,7 +32,7 @@ number_at n (x ∷ xs) (suc k) lt = let e : suc n + k ≡ n + suc k = omega arit
 
 -- ---- variations
 
-variation_kept : (before after : List Statement) → Extends before after → (k : ℕ) (x : Variation) → slice_get (variations before) k ≡ Some x → slice_get (variations after) k ≡ Some x
+pub variation_kept : (before after : List Statement) → Extends before after → (k : ℕ) (x : Variation) → slice_get (variations before) k ≡ Some x → slice_get (variations after) k ≡ Some x
 variation_kept = kept variations (λ before s. own_variations s) (λ before s. refl)
 
 module _ (header : List Column) (names : FunctionNames) (script : List Statement) (good : AreAccepted names (scope_of header) script) (v : Option ℕ) where

@@ -11,17 +11,10 @@ use Rattle.graph_numbers.proofs.Extending.{Extends, shorter}
 use Rattle.graph_numbers.proofs.Listed.{of_joined}
 use Rattle.graph_numbers.proofs.VersionKinds.{kind_later, visible_kind}
 use Rattle.shard_runs.specs.{first_kind}
+use Rattle.graph.proofs.SiteTotals.{named_few}
+use Rattle.shard_runs.proofs.Takes.{column_known}
 
 -- ---- the checks of an action
-
--- a column that was checked has its kind
-column_known : (scope : Scope) (permitted : List (List ColType)) (kinds : List ColType) (c : List ℕ) (cs : List (List ℕ)) → check_columns scope permitted kinds (c ∷ cs) ≡ None → column_kind scope c ≡ Ok (kind_or_int (column_kind scope c))
-column_known scope permitted kinds c cs h = go (column_kind scope c) h
-  where
-    go : (r : Result ColType GraphCause) → (elim r as (λ _. Option GraphCause) [ Err cause' ↦ Some cause' | Ok t ↦ (if may_begin permitted (kinds ++ t ∷ []) then check_columns scope permitted (kinds ++ t ∷ []) cs else Some GraphCause.WrongType) ]) ≡ None
-        → r ≡ Ok (kind_or_int r)
-    go (Err e) q = cc q
-    go (Ok t) q = refl
 
 module _ (header : List Column) (names : FunctionNames) where
   abbrev scope : List Statement → List ℕ → Scope
@@ -137,14 +130,6 @@ module _ (header : List Column) (names : FunctionNames) where
   cells_are_few (Print result ∷ before) good n b at = cells_are_few before good.1 n b (earlier before n b at)
 
 -- ---- filters
-
-named_few : (before : List Statement) → length (named_before before) ≤ length before
-named_few [] = omega arith
-named_few (Filter node parent expr (Some label) ∷ before) =
-    let rest = named_few before in
-    let one = length-append (named_before before) ((Filter node parent expr (Some label) ∷ path before parent) ∷ []) in
-    omega arith
-named_few (s ∷ before) = (let rest = named_few before in omega arith)
 
 path_few : (before : List Statement) (node : List ℕ) → length (path before node) ≤ length before
 path_few [] node = omega arith

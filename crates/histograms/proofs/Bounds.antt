@@ -12,7 +12,7 @@ squares_below a b h = grind arith
 square_bound : (w : ℤ) → IsWeight w → nat_abs (w *ℤ w) ≤ 4611686014132420609
 square_bound w h = rw (unsigned_abs-mul w w) (squares_below (nat_abs w) 2147483647 h)
 
-abs_of_fit : (w : ℤ) → FitsSigned w64 w → nat_abs w ≤ 2 ^ 63
+pub abs_of_fit : (w : ℤ) → FitsSigned w64 w → nat_abs w ≤ 2 ^ 63
 abs_of_fit (pos n) h = let s = h.sfits in omega arith
 abs_of_fit (negsuc n) h = let s = h.sfits in omega arith
 

@@ -11,7 +11,7 @@ use Rattle.rdf_values.specs.declared.item.Item.TheVariants.{Point}
 use Rattle.rdf_values.specs.Fold.{Cell, cell_of}
 use Rattle.histograms.specs.{cell_seen, CellSum, flat_cells, together, with_weight}
 
-sum_from : (zs : List ℤ) (a : ℤ) → fold ◌+ℤ◌ a zs ≡ a +ℤ integer_sum zs
+pub sum_from : (zs : List ℤ) (a : ℤ) → fold ◌+ℤ◌ a zs ≡ a +ℤ integer_sum zs
 sum_from [] a = sym (+ℤ_idr a)
 sum_from (z ∷ zs) a =
     let head : pos 0 +ℤ z ≡ z = +ℤ_idl z in

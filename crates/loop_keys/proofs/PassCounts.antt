@@ -7,18 +7,11 @@ use Rattle.rdf_values.specs.declared.statement.Statement.TheVariants.{Action, Pr
 use Rattle.graph_numbers.specs.{graph_loops, graph_variations, loops, numbered_pass, own_loop, Pass as NumberedPass, passes_from, places_from, result_passes}
 use Rattle.graph_numbers.proofs.Listed.{by_test, joined}
 use Rattle.loop_keys.specs.{IsJob, job_graph, JobView, numbered_passes}
+use Rattle.graph.proofs.Looped.{bookings_few}
 
 places_few : {A : Type 0} (test : A → Bool) (n : ℕ) (xs : List A) → length (places_from test n xs) ≤ length xs
 places_few test n [] = omega arith
 places_few test n (x ∷ xs) = let h = places_few test (suc n) xs in by_test (test x) (λ e. rw e (omega (arith, h))) (λ e. rw e (omega (arith, h)))
-
-bookings_few : (before : List Statement) → length (bookings before) ≤ length before
-bookings_few [] = omega arith
-bookings_few (s ∷ before) = let l = length-append (bookings before) (booked_by before s) in let h = bookings_few before in let o = own s in omega (arith, l, h, o)
-  where
-    own : (s : Statement) → length (booked_by before s) ≤ 1
-    own (Action result parent k) = omega arith
-    own s = omega arith
 
 module _ (script : List Statement) where
   result_few : (n : ℕ) (b : Booked) → length (result_passes script n b) ≤ suc (length (variations script))

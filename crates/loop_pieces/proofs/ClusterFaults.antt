@@ -8,7 +8,7 @@ use Rattle.rdf_model.specs.{Dataset, fault_at, fault_or, first_fault_from, first
 use Rattle.loop_pieces.specs.{begin_of, cluster_faults, FirstClusterHasFirstFault, LowerClustersFaultFirst}
 use Rattle.loop_pieces.proofs.Places.{by_places, lead_up, ranges_join, range_none, range_whole}
 
-first_of-assoc : (a b c : Option Fault) → first_of (first_of a b) c ≡ first_of a (first_of b c)
+pub first_of-assoc : (a b c : Option Fault) → first_of (first_of a b) c ≡ first_of a (first_of b c)
 first_of-assoc None b c = refl
 first_of-assoc (Some f) b c = refl
 

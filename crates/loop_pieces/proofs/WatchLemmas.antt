@@ -72,7 +72,7 @@ module _ (k : ActionKind) (i : ℕ) where
   fit_of [] h = All-nil (FitsAction k)
   fit_of (row ∷ rows) h = All-append (FitsAction k) (list_at row i) (flat_map (λ r. list_at r i) rows) (All-head FitsRow row rows h).fit (fit_of rows (All-tail FitsRow row rows h))
 
-abs_small : (z : ℤ) → Has64Bits z → nat_abs z ≤ 2 ^ 63
+pub abs_small : (z : ℤ) → Has64Bits z → nat_abs z ≤ 2 ^ 63
 abs_small z h = grind (arith, ints)
 
 sum_few : (c : List ℕ) (items : List Item) (s : ℤ) (a : ℕ) → AllByRecursion (FitsAction (ActionKind.Sum c)) items → nat_abs s ≤ a → nat_abs (fold ◌+ℤ◌ s (numbers_of items)) ≤ a + length items * 2 ^ 63

@@ -79,7 +79,7 @@ print_at g print lt = something_at (accesses (booked_statements g)) print (omega
 
 -- ---- what a Print gives
 
-in_front-twice : (a b : List ℕ) (p : Printed) → in_front_of a (in_front_of b p) ≡ in_front_of (a ++ b) p
+pub in_front-twice : (a b : List ℕ) (p : Printed) → in_front_of a (in_front_of b p) ≡ in_front_of (a ++ b) p
 in_front-twice a b p = ap (λ l. record { bytes = l; status = p.status }) (sym (append_assoc a b p.bytes))
 
 module _ (g : GraphView) (loops : List ShardLoop) (print l : ℕ) (filling : option_map (λ (a : Access). loop_of (booked_statements g) a.result) (slice_get (accesses (booked_statements g)) print) ≡ Some l) (a : Access)

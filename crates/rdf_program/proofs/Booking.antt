@@ -1,25 +1,14 @@
 -- A script that can't be booked over a table is refused.
-use Rattle.std.proofs.Common.{Result, Err, ◌≡◌, ℕ, List, Option, None, Some, inr, inl, refl, ◌∙◌}
+use Rattle.std.proofs.Common.{◌≡◌, ℕ, List, Some, refl}
 use Rattle.rdf_values.specs.Answered.{Refuses}
 use Rattle.rdf_values.specs.{Column, fn_names, Function, FunctionNames, graph_cause_line, GraphCause, MarkedTable, Script, verdict}
-use Rattle.graph_numbers.specs.{booked, booked_unless, GraphView}
+use Rattle.graph_numbers.specs.{booked}
 use Rattle.graph.specs.{GraphRefusal, refused_at}
+use Rattle.graph.proofs.Verdicts.{refusal_of, refused_verdict}
 use Rattle.rdf_program.specs.Answers.{Answers}
 use Rattle.rdf_program.specs.{IsDueOver}
 use Rattle.rdf_program.specs.declared.answer.Answer.{Answer}
 use Rattle.rdf_program.specs.declared.status.Status.TheVariants.{ScriptRefused}
-
-refusal_of : (wanted : Result GraphView (ℕ × GraphCause)) (line : ℕ) (cause : GraphCause) → Refuses refused_at GraphRefusal.Memory wanted (GraphRefusal.At line cause) → wanted ≡ Err (line, cause)
-refusal_of wanted line cause (inl e) = absurd (cc e)
-refusal_of wanted line cause (inr h) =
-    let e = h.1 in
-    let p : h.0.0 ≡ line = cc e in
-    let q : h.0.1 ≡ cause = cc e in
-    h.2 ∙ (λ i. Err (p i, q i))
-
-refused_verdict : (g : GraphView) (v : Option (ℕ × GraphCause)) (c : ℕ × GraphCause) → ◌≡◌ {A = Result GraphView (ℕ × GraphCause)} (booked_unless g v) (Err c) → v ≡ Some c
-refused_verdict g None c e = absurd (cc e)
-refused_verdict g (Some d) c e = cc e
 
 pub over_refused : (fns : List Function) (size watch : ℕ) (script : Script) (header : List Column) (names : FunctionNames) (table : MarkedTable) (refusal : GraphRefusal) (line line' : ℕ) (cause cause' : GraphCause) (a : Answer)
     → header ≡ table.table.columns → names ≡ fn_names fns → refusal ≡ GraphRefusal.At line cause → Refuses refused_at GraphRefusal.Memory (booked script header names) refusal

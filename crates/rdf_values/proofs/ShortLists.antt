@@ -27,7 +27,7 @@ few_at (suc most) place (c ∷ text) ts e =
     then_few most place (first_token c text) (λ size. tokens_at most (place + size + blanks (drop size (c ∷ text))) (behind size (c ∷ text))) ts
     (λ size us q. few_at most (place + size + blanks (drop size (c ∷ text))) (behind size (c ∷ text)) us q) e
 
-few_tokens : (text : List ℕ) (ts : List Placed) → tokens text ≡ Ok ts → length ts ≤ 256
+pub few_tokens : (text : List ℕ) (ts : List Placed) → tokens text ≡ Ok ts → length ts ≤ 256
 few_tokens text ts e = few_at 256 (0 + blanks text) (behind 0 text) ts e
 
 -- ---- so the lists of a Vary are short

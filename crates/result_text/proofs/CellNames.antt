@@ -5,7 +5,8 @@ use Rattle.lemmas.proofs.{none_left as drop_whole}
 use Rattle.rdf_values.specs.Fold.{Cell}
 use Rattle.rdf_model.specs.{cell_line, cell_lines, cell_names, cell_names_from, plane_lines}
 use Rattle.result_text.specs.{behind, bin_name, line_at, lines_on, name_at, plane_at, planes_on}
-use Rattle.result_text.proofs.Lists.{map_same, none_left, one_left, put_last, put_next}
+use Rattle.result_text.proofs.Lists.{none_left, one_left, put_last, put_next}
+use Rattle.friend_join.proofs.JoinedRows.{map_self as map_same}
 
 from_over : (lo : ℤ) (es : List ℤ) → slice_get (cell_names_from lo es) (length es) ≡ Some (codes "over")
 from_over lo [] = refl

@@ -23,10 +23,6 @@ none_left xs i h = drop_after xs i h
 pub one_left : {A : Type 0} (xs : List A) (i : ℕ) (x : A) → slice_get xs i ≡ Some x → drop i xs ≡ x ∷ drop (i + 1) xs
 one_left xs i x h = drop_front xs i x h ∙ (let e : suc i ≡ i + 1 = omega arith in ap (λ k. x ∷ drop k xs) e)
 
-pub map_same : {A : Type 0} (xs : List A) → map (λ x. x) xs ≡ xs
-map_same [] = refl
-map_same (x ∷ xs) = ap (λ l. x ∷ l) (map_same xs)
-
 -- one piece of a text is put, and the rest is left
 pub put_next : (all text now piece rest left : List ℕ) → text ++ left ≡ all → left ≡ piece ++ rest → now ≡ text ++ piece → now ++ rest ≡ all
 put_next all text now piece rest left h e is = ap (λ l. l ++ rest) is ∙ append_assoc text piece rest ∙ sym (ap (λ l. text ++ l) e) ∙ h

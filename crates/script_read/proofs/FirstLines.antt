@@ -75,6 +75,3 @@ first_end text = at (nat_lt (position_or_len is_lf text) (length text)) refl
 pub none_behind : lines_of [] ≡ []
 unfolding lines_of
 none_behind = refl
-
-pub all_behind : (i : ℕ) (xs : List ℕ) → take (length xs - i) (drop i xs) ≡ drop i xs
-all_behind i xs = take_all (length xs - i) (drop i xs) (omega (arith, length-drop i xs))

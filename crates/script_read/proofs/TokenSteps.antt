@@ -7,11 +7,9 @@ use Rattle.std.proofs.lemmas.List.Sums.{prefix_len-le-length}
 use Rattle.std.proofs.lemmas.Bool.Decides.{nat_tests}
 use Rattle.rdf_values.specs.{Bad, between, Blank, Close, CloseBracket, Comma, Comment, content_of, Dot, Equals, Found, integer_lexeme, is_blank, is_digit, is_name, is_word_byte, is_word_start, Lexeme, lexeme, LineToken, mark_lexeme, Open, OpenBracket, PlacedToken, string_lexeme, tokens_from, with_lexeme, with_token, word_lexeme}
 use Rattle.rdf_values.proofs.ScriptSteps.{tokens_behind}
+use Rattle.expr_read.proofs.FirstTokens.{run_size as run_short}
 
 -- ---- how many bytes a lexeme has
-
-run_short : (p : ℕ → Bool) (xs : List ℕ) → length (take_while p xs) ≤ length xs
-run_short p xs = rw length-prefix_len (prefix_len-le-length p xs)
 
 -- the lexeme has no more than so many bytes behind its first
 abbrev IsWithin : ℕ → Lexeme → Type 0

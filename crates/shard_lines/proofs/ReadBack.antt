@@ -10,6 +10,7 @@ use Rattle.histograms.specs.{CellSum}
 use Rattle.shard_lines.specs.{are_alike, AreLimits, both_of, cell_of, counts_of_words, each_of, EachFits, extreme_of_word, extreme_word, FitsCell, FitsCount, FitsExtreme, FitsLine, FitsScalar, FitsTake, is_short, IsShort, IsSmall, kind_of_word, line_behind, line_of_kind, line_words, LineLimits, LinesReadBack, list_of, lone, numbered, one_sort, onto, pairs_of, ReadLinesFit, scalar_of, scalar_word, ShardLine, sum_of_word}
 use Rattle.shard_lines.specs.declared.line_kind.LineKind.{LineKind}
 use Rattle.shard_lines.proofs.Numerals.{Digits, decimal_digits, magnitude_reads, magnitude_says}
+use Rattle.rdf_values.proofs.CellWords.{integer_word as integer_fits}
 
 -- ---- tests of words
 
@@ -96,15 +97,6 @@ negative_fits w (Some (suc n)) z h e =
     let small : n < 2 ^ 63 = omega (arith, bound) in
     let number : negsuc n ≡ z = cc e in
     subst Has64Bits number small
-
-integer_fits : (w : List ℕ) (z : ℤ) → integer_of w ≡ Some z → Has64Bits z
-unfolding integer_of
-integer_fits [] z h = cc h
-integer_fits (b ∷ bs) z h = by (b == 45) h
-  where
-    by : (c : Bool) → (if c then negative (magnitude_of 9223372036854775808 bs) else positive (magnitude_of 9223372036854775807 (b ∷ bs))) ≡ Some z → Has64Bits z
-    by true h = negative_fits bs (magnitude_of 9223372036854775808 bs) z refl h
-    by false h = positive_fits (b ∷ bs) (magnitude_of 9223372036854775807 (b ∷ bs)) z refl h
 
 integer_says : (w : List ℕ) (z : ℤ) → integer_of w ≡ Some z → (signed_decimal z ≡ w) × Has64Bits z
 integer_says w z h = (text_of_integer w z h, integer_fits w z h)

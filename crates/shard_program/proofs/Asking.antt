@@ -5,6 +5,7 @@ use Rattle.rdf_values.specs.{integer_of}
 use Rattle.command_words.specs.{number_of, within}
 use Rattle.shard_words.specs.{asked_of, merge_of, run_of, run_with, ShardCommand, SpanRun}
 use Rattle.shard_words.specs.declared.command.ShardCommand.TheVariants.{Run, Merge}
+use Rattle.command_words.proofs.Bounds.{some_is}
 
 -- clusters have some entry, and a merging has 1 to 64 files
 abbrev IsFit : ShardCommand → Type 0
@@ -13,9 +14,6 @@ IsFit (Merge m) = (1 ≤ length m.files) × (length m.files ≤ 64)
 
 abbrev Fits : Option ShardCommand → Type 0
 Fits o = (c : ShardCommand) → o ≡ Some c → IsFit c
-
-some_is : {A : Type 0} (x y : A) → Some x ≡ Some y → x ≡ y
-some_is x y e = cc e
 
 -- ---- numbers
 

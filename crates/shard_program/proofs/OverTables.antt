@@ -7,6 +7,7 @@ use Rattle.columns.specs.ColumnsView.{ColumnsView}
 use Rattle.graph_numbers.specs.{booked, booked_unless, GraphView, IsGraph}
 use Rattle.input_files.specs.{due_of}
 use Rattle.graph.specs.{GraphRefusal, refused_at}
+use Rattle.graph.proofs.Verdicts.{accepted_verdict, refusal_of, refused_verdict}
 use Rattle.shard_files.specs.{IsShard, ShardView}
 use Rattle.shard_loop.specs.{cuts_of, table_of}
 use Rattle.shard_runs.proofs.Runs.{runs_are_shards}
@@ -21,22 +22,6 @@ use Rattle.shard_program.proofs.FileReading.{if_ok}
 
 -- ---- the checks of a script
 
-refusal_of : (wanted : Result GraphView (ℕ × GraphCause)) (line : ℕ) (cause : GraphCause) → Refuses refused_at GraphRefusal.Memory wanted (GraphRefusal.At line cause) → wanted ≡ Err (line, cause)
-refusal_of wanted line cause (inl e) = absurd (cc e)
-refusal_of wanted line cause (inr h) =
-    let e = h.1 in
-    let p : h.0.0 ≡ line = cc e in
-    let q : h.0.1 ≡ cause = cc e in
-    h.2 ∙ (λ i. Err (p i, q i))
-
-refused_verdict : (g : GraphView) (v : Option (ℕ × GraphCause)) (c : ℕ × GraphCause) → ◌≡◌ {A = Result GraphView (ℕ × GraphCause)} (booked_unless g v) (Err c) → v ≡ Some c
-refused_verdict g None c e = absurd (cc e)
-refused_verdict g (Some d) c e = cc e
-
-accepted_verdict : (g h : GraphView) (v : Option (ℕ × GraphCause)) → ◌≡◌ {A = Result GraphView (ℕ × GraphCause)} (booked_unless g v) (Ok h) → (v ≡ None) × (g ≡ h)
-accepted_verdict g h None e = (refl, cc e)
-accepted_verdict g h (Some d) e = absurd (cc e)
-
 module _ (fns : List Function) (script : Script) (columns header : List Column) (names : FunctionNames) (heads : header ≡ columns) (named : names ≡ fn_names fns) where
   same_booked : booked script header names ≡ booked script columns (fn_names fns)
   same_booked = λ i. booked script (heads i) (named i)
@@ -50,7 +35,7 @@ module _ (fns : List Function) (script : Script) (columns header : List Column) 
         final = is.final;
         is_due =
             subst (λ o. MatchOption o (Next (graph_over fns script columns) (due_in a)) (λ refused. due_in a ≡ due_of ScriptRefused (graph_cause_line refused.0 refused.1))) (sym both.0)
-            (subst (λ x. Next x (due_in a)) (sym both.1) is.is_due);
+            (subst (λ x. Next x (due_in a)) both.1 is.is_due);
       }
 
   -- a script with a line that is refused

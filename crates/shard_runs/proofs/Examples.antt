@@ -11,6 +11,7 @@ use Rattle.shard_files.specs.{line_text, merge_of, MergeCause, shard_text, Shard
 use Rattle.shard_files.specs.declared.shard_loop.ShardLoop.TheVariants.{Whole, Faulted}
 use Rattle.shard_spans.specs.{span_shard}
 use Rattle.shard_runs.specs.{IsChecked, script_shapes}
+use Rattle.rdf_model.proofs.Bounded.{of_elements as few_words}
 
 -- t = df.Take("pt")
 -- s = df.Sum("w")
@@ -41,9 +42,6 @@ abbrev second : Script → ShardView
 second s = span_shard s table (cut 4 2 []) 1 2
 
 -- ---- what the laws ask for is met
-
-few_words : (zs : List ℤ) → AllByRecursion Has64Bits zs → All Has64Bits zs
-few_words zs h = All-from_recursion Has64Bits zs h
 
 pub the_analysis_is_checked : IsChecked take_and_sum table
 unfolding is_name

@@ -18,15 +18,12 @@ use Rattle.shard_runs.proofs.Lines.{all_of_kind}
 use Rattle.shard_runs.proofs.Rows.{fault_within, rows_fit}
 use Rattle.shard_runs.proofs.Runs.{ArePasses, all_passes, fed}
 use Rattle.shard_runs.proofs.Takes.{FeedsWell}
+use Rattle.shard_spans.proofs.LinesOfBoth.{cells_long}
 
 -- ---- lengths
 
 pub equal : (a b : ℕ) → a ≡ b → nat_eq a b ≡ true
 equal a b h = grind (arith, nat_tests, h)
-
-cells_long : (f : ℕ → Cell) (js : List ℕ) → length (map cell_sum (map f js)) ≡ length js
-cells_long f [] = refl
-cells_long f (j ∷ js) = ap suc (cells_long f js)
 
 plane_long : (f : ℕ → ℕ → Cell) (is js : List ℕ) → length (flat_map (λ cells. map cell_sum cells) (map (λ i. map (f i) js) is)) ≡ length is * length js
 plane_long f [] js = grind arith

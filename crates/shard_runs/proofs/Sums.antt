@@ -9,6 +9,7 @@ use Rattle.lemmas.proofs.{abs_add}
 use Rattle.rdf_values.specs.{extreme, Has64Bits, integer_sum, reduce_start, reduce_step, ReduceOp}
 use Rattle.rdf_values.specs.Fold.{cell_of}
 use Rattle.shard_lines.specs.{FitsExtreme}
+use Rattle.loop_pieces.proofs.WatchLemmas.{abs_small as word_small}
 
 -- ---- lists
 
@@ -36,10 +37,6 @@ onto_small b a acc (z ∷ zs) h k =
 
 pub sum_small : (b : ℕ) (zs : List ℤ) → AreAtMost b zs → nat_abs (integer_sum zs) ≤ length zs * b
 sum_small b zs h = let all = onto_small b 0 (pos 0) zs (omega arith) h in omega arith
-
-word_small : (z : ℤ) → Has64Bits z → nat_abs z ≤ 2 ^ 63
-word_small (pos n) h = omega arith
-word_small (negsuc n) h = omega arith
 
 -- a sum of at most so many numbers of 64 bits
 pub sum_fits : (most : ℕ) (zs : List ℤ) → length zs ≤ most → AllByRecursion Has64Bits zs → nat_abs (integer_sum zs) ≤ most * 2 ^ 63

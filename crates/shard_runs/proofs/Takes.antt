@@ -6,7 +6,7 @@ use Rattle.rdf_values.specs.{ActionAt, ActionKind, AnswerIn64Bits, AreAccepted, 
 use Rattle.rdf_values.specs.declared.statement.Statement.TheVariants.{Action, Report}
 use Rattle.rdf_model.specs.{◌>>=◌, column_value, Dataset, Entry, entry_in, Faults, Feed, feed_outcome, FitKinds, FitsSpread, for_all, Gives, items_fed, items_of, Meets, Needs, Outcome, Skip, through, unless_fault}
 use Rattle.rdf_model.proofs.Accepted.{both_none, column_fits}
-use Rattle.rdf_model.proofs.Limits.{facts_meet_limits}
+use Rattle.rdf_model.proofs.Limits.{facts_meet_limits, path_words}
 use Rattle.rdf_model.proofs.Typing.{always, meets_bind}
 use Rattle.shard_runs.specs.{booking_kind}
 use Rattle.shard_runs.proofs.Lines.{IsOfKind, TakesAre}
@@ -14,7 +14,7 @@ use Rattle.shard_runs.proofs.Lines.{IsOfKind, TakesAre}
 -- ---- the kind of a Take's column
 
 -- a column that was checked has its kind
-column_known : (scope : Scope) (permitted : List (List ColType)) (kinds : List ColType) (c : List ℕ) (cs : List (List ℕ)) → check_columns scope permitted kinds (c ∷ cs) ≡ None → column_kind scope c ≡ Ok (kind_or_int (column_kind scope c))
+pub column_known : (scope : Scope) (permitted : List (List ColType)) (kinds : List ColType) (c : List ℕ) (cs : List (List ℕ)) → check_columns scope permitted kinds (c ∷ cs) ≡ None → column_kind scope c ≡ Ok (kind_or_int (column_kind scope c))
 column_known scope permitted kinds c cs h = go (column_kind scope c) h
   where
     go : (r : Result ColType GraphCause) → (elim r as (λ _. Option GraphCause) [ Err cause' ↦ Some cause' | Ok t ↦ (if may_begin permitted (kinds ++ t ∷ []) then check_columns scope permitted (kinds ++ t ∷ []) cs else Some GraphCause.WrongType) ]) ≡ None
@@ -64,14 +64,6 @@ module _ (d : Dataset) (row : List Value) (fits_row : FitsRow d.columns row) (be
       go false = tt
 
 -- ---- what a row feeds
-
-path_words : (before : List Statement) (node : List ℕ) → StatementsHaveWords before → StatementsHaveWords (path before node)
-path_words [] node h = tt
-path_words (s ∷ before) node h = go (makes s node) (path_words before (parent_of s) h.1) (path_words before node h.1)
-  where
-    go : (b : Bool) → StatementsHaveWords (path before (parent_of s)) → StatementsHaveWords (path before node) → StatementsHaveWords (if b then s ∷ path before (parent_of s) else path before node)
-    go true k l = (h.0, k)
-    go false k l = l
 
 row_fits : (d : Dataset) → AnswerIn64Bits d.fns → (row : List Value) → FitsRow d.columns row → (k : ActionKind) (at : Path) (u : Under) → StatementsHaveWords at → FitsSpread k (items_of d k at u row)
 row_fits d answers row fits k at u words =

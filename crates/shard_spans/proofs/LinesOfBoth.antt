@@ -12,7 +12,7 @@ use Rattle.actions.specs.Extremes as extremes
 use Rattle.actions.proofs.Folds.{extreme_fold}
 use Rattle.actions.proofs.Operations.{extreme_from, max_comm, max_swap, min_comm, min_swap}
 use Rattle.actions.proofs.Reductions.{reduce_both}
-use Rattle.actions.proofs.Unordered.{sum_both}
+use Rattle.actions.proofs.Unordered.{sum_both, map-flat_map}
 use Rattle.loop_pieces.specs.{Counts, counts_of}
 use Rattle.histograms.specs.{CellSum}
 use Rattle.shard_lines.specs.{action_shape, added_cells, added_counts, better_of, booking_shape, joined_line, ShardLine}
@@ -67,10 +67,6 @@ extreme_of_both better swap comm xs ys =
 
 -- ---- cells
 
-map-flat_map : (h : ℤ → ℤ) (f : Item → List ℤ) (items : List Item) → map h (flat_map f items) ≡ flat_map (λ i. map h (f i)) items
-map-flat_map h f [] = refl
-map-flat_map h f (i ∷ is) = map-append h (f i) (flat_map f is) ∙ ap (λ l. map h (f i) ++ l) (map-flat_map h f is)
-
 -- two lists of as many cells in front of others
 added-append : (ks bs cs ds : List CellSum) → length ks ≡ length bs → added_cells (ks ++ cs) (bs ++ ds) ≡ added_cells ks bs ++ added_cells cs ds
 added-append [] [] cs ds h = refl
@@ -78,7 +74,7 @@ added-append [] (b ∷ bs) cs ds h = absurd (omega arith)
 added-append (a ∷ ks) [] cs ds h = absurd (omega arith)
 added-append (a ∷ ks) (b ∷ bs) cs ds h = ap (λ (l : List CellSum). record { sum = a.sum +ℤ b.sum; squares = a.squares +ℤ b.squares } ∷ l) (added-append ks bs cs ds (omega arith))
 
-cells_long : (f : ℕ → Cell) (js : List ℕ) → length (map cell_sum (map f js)) ≡ length js
+pub cells_long : (f : ℕ → Cell) (js : List ℕ) → length (map cell_sum (map f js)) ≡ length js
 cells_long f [] = refl
 cells_long f (j ∷ js) = ap suc (cells_long f js)
 

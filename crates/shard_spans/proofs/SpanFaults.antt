@@ -9,6 +9,7 @@ use Rattle.rdf_model.specs.{Dataset, first_fault_from, first_fault_in, first_of,
 use Rattle.loop_pieces.specs.{begin_of, cluster_fault}
 use Rattle.loop_pieces.proofs.Places.{lead_up}
 use Rattle.shard_spans.specs.{clusters_from, clusters_in, FirstFaultyClusterHasTheFault, span_fault}
+use Rattle.loop_pieces.proofs.ClusterFaults.{first_of-assoc}
 
 -- ---- clusters
 
@@ -36,10 +37,6 @@ pub below_end : (lo hi : ℕ) → lo ≤ hi → All (λ c. c < hi) (clusters_in 
 below_end lo hi le = let same : lo + (hi - lo) ≡ hi = omega arith in subst (λ n. All (λ c. c < n) (clusters_in lo hi)) same (below_from lo (hi - lo))
 
 -- ---- faults
-
-first_of-assoc : (a b c : Option Fault) → first_of (first_of a b) c ≡ first_of a (first_of b c)
-first_of-assoc None b c = refl
-first_of-assoc (Some f) b c = refl
 
 pub first_in-append : (xs ys : List (Option Fault)) → first_in (xs ++ ys) ≡ first_of (first_in xs) (first_in ys)
 first_in-append [] ys = refl

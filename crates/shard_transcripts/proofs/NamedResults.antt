@@ -9,6 +9,7 @@ use Rattle.graph_numbers.proofs.Extending.{Extends, further, itself}
 use Rattle.graph.specs.{AreNamedInTurn}
 use Rattle.event_loop.proofs.LoopResults.{one_number}
 use Rattle.event_loop.proofs.Found.{AreOf, passes_are_of}
+use Rattle.graph_numbers.proofs.Looping.{booked_kept}
 
 -- ---- the only one that passes a test
 
@@ -68,10 +69,6 @@ is_among q (x ∷ xs) name h = go (q x) refl h (λ k. is_among q xs name k)
     go : (b : Bool) → q x ≡ b → among name (names_of (if b then x ∷ filter q xs else filter q xs)) ≡ true → (among name (names_of (filter q xs)) ≡ true → IsAmong q xs name) → IsAmong q (x ∷ xs) name
     go true e k next = first (same name x.name) refl e k next
     go false e k next = later (next k)
-
-booked_kept : (before after : List Statement) → Extends before after → (k : ℕ) (b : Booked) → slice_get (bookings before) k ≡ Some b → slice_get (bookings after) k ≡ Some b
-booked_kept before after itself k b h = h
-booked_kept before after (further {after = c} s e) k b h = kept_at (bookings c) (booked_by c s) k b (booked_kept before c e k b h)
 
 module _ (script : List Statement) (turn : AreNamedInTurn script) (before : List Statement) (begins : Extends before script) (name : List ℕ) (there : among name (names_of (waiting before)) ≡ true) where
   abbrev waits : Booked → Bool

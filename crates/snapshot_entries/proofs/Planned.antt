@@ -14,15 +14,11 @@ use Rattle.snapshot_entries.specs.declared.wanted.Wanted.{Wanted}
 use Rattle.snapshot_entries.proofs.Evaluated.{row_fits}
 use Rattle.snapshot_entries.proofs.Paths.{column_stored, column_there, columns_are, filters_are}
 use Rattle.snapshot_entries.proofs.Told.{accepted_of}
+use Rattle.snapshot_plan.proofs.Headed.{kept as no_bad}
 
 -- a visible column of a kind that tables hold
 abbrev IsShown : Scope → List ℕ → Type 0
 IsShown scope name = (t : ColType) × (column_kind scope name ≡ Ok t) × IsStored t
-
-no_bad : (b : Bool) (o : Option ℕ) (rest : Option SnapCause) → (if not b then Some SnapCause.BadNode else unless_bad o rest) ≡ None → o ≡ None
-no_bad true None rest h = refl
-no_bad true (Some i) rest h = cc h
-no_bad false o rest h = cc h
 
 stored : (r : Result ColType GraphCause) (b : Bool) → (not (is_stored r) || b) ≡ false → (t : ColType) × (r ≡ Ok t) × IsStored t
 stored (Ok ColType.Int) b h = (ColType.Int, refl, tt)

@@ -6,7 +6,7 @@ use Rattle.graph_numbers.specs.{booked_statements}
 use Rattle.graph.proofs.Walking.{same_back}
 use Rattle.snapshot_plan.specs.{column_at, first_bad, is_bad, is_stored, PlansHaveHeaders, scope_in, SnapCause, unless_bad}
 
-kept : (b : Bool) (o : Option ℕ) (rest : Option SnapCause) → (if not b then Some SnapCause.BadNode else unless_bad o rest) ≡ None → o ≡ None
+pub kept : (b : Bool) (o : Option ℕ) (rest : Option SnapCause) → (if not b then Some SnapCause.BadNode else unless_bad o rest) ≡ None → o ≡ None
 kept true None rest h = refl
 kept true (Some i) rest h = cc h
 kept false o rest h = cc h

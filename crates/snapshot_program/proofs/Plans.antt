@@ -2,7 +2,8 @@
 use Rattle.std.proofs.Common.{if◌then◌else◌, ◌≡◌, inl, inr, ◌<◌, ◌+◌, ℕ, suc, Bool, true, false, not, List, [], ◌∷◌, ◌++◌, length, Option, None, Some, Result, Ok, Err, IfOk, nat_lt, arith, ap, refl, sym, subst, ◌∙◌, MatchOption}
 use Rattle.rdf_values.specs.Answered.{Refuses}
 use Rattle.rdf_values.specs.{Column, fn_names, Function, FunctionNames, graph_cause_line, GraphCause, is_node, Scope, scope_at, scope_of, Script, Statement, TableView, Under, variations, verdict}
-use Rattle.graph_numbers.specs.{booked, booked_statements, booked_unless, GraphView}
+use Rattle.graph_numbers.specs.{booked, booked_statements, GraphView}
+use Rattle.graph.proofs.Verdicts.{accepted_verdict}
 use Rattle.input_files.specs.{due_of}
 use Rattle.snapshot_plan.specs.{cause_in, first_bad, is_bad, is_under, most_statements, planned, PlanView, SnapCause, SnapRefusal, statements_planned, under_of, unless_bad, unless_cause}
 use Rattle.snapshot_words.specs.{SnapCommand}
@@ -15,14 +16,10 @@ use Rattle.snapshot_program.specs.declared.planning.Planned.{Planned}
 
 -- ---- booking
 
-by_verdict : (g h : GraphView) (v : Option (ℕ × GraphCause)) → ◌≡◌ {A = Result GraphView (ℕ × GraphCause)} (booked_unless g v) (Ok h) → (v ≡ None) × (h ≡ g)
-by_verdict g h None e = (refl, cc e)
-by_verdict g h (Some refused) e = absurd (cc e)
-
 -- a booked graph's script is accepted
 pub booked_is : (script : Script) (header : List Column) (names : FunctionNames) (g : GraphView) → booked script header names ≡ Ok g
     → (verdict names header script ≡ None) × (g ≡ record { script = script; header = header; names = names })
-booked_is script header names g e = by_verdict (record { script = script; header = header; names = names }) g (verdict names header script) e
+booked_is script header names g e = accepted_verdict (record { script = script; header = header; names = names }) g (verdict names header script) e
 
 -- ---- planning
 

@@ -10,18 +10,14 @@ use Rattle.rdf_model.proofs.Bounded.{columns_are_bounded}
 use Rattle.rdf_model.proofs.Typing.{meets_bind}
 use Rattle.graph_numbers.specs.{booked_statements}
 use Rattle.snapshot_plan.specs.{column_at, first_bad, is_bad, is_stored, plan_columns, PlanView, scope_in, SnapCause, unless_bad}
-use Rattle.snapshot_plan.proofs.Headed.{plans_have_headers}
+use Rattle.snapshot_plan.proofs.Headed.{plans_have_headers, kept as sound_columns}
 use Rattle.snapshot_text.specs.{AreNamed}
 use Rattle.snapshot_text.proofs.TextBack.{text_reads_back}
 use Rattle.snapshot_rows.specs.{cells_in, columns_outcome, IsPlanOver, kept_row, plan_path, snapshot_entries, snapshot_fault, SnapshotIsATable, SnapshotReadsBack}
 use Rattle.snapshot_rows.proofs.Entries.{both, is_taken}
+use Rattle.rdf_model.proofs.Limits.{path_words}
 
 -- ---- the columns that are asked for are visible
-
-sound_columns : (b : Bool) (o : Option ℕ) (rest : Option SnapCause) → (if not b then Some SnapCause.BadNode else unless_bad o rest) ≡ None → o ≡ None
-sound_columns true None rest h = refl
-sound_columns true (Some i) rest h = cc h
-sound_columns false o rest h = cc h
 
 abbrev AreVisible : Scope → List (List ℕ) → Type 0
 AreVisible scope [] = ⊤
@@ -47,14 +43,6 @@ row_bounded [] [] h = tt
 row_bounded [] (x ∷ xs) h = absurd h
 row_bounded (c ∷ cs) [] h = absurd h
 row_bounded (c ∷ cs) (x ∷ xs) h = (h.0.1, row_bounded cs xs h.1)
-
-path_words : (before : List Statement) (node : List ℕ) → StatementsHaveWords before → StatementsHaveWords (path before node)
-path_words [] node h = tt
-path_words (s ∷ before) node h = go (makes s node) (path_words before (parent_of s) h.1) (path_words before node h.1)
-  where
-    go : (b : Bool) → StatementsHaveWords (path before (parent_of s)) → StatementsHaveWords (path before node) → StatementsHaveWords (if b then s ∷ path before (parent_of s) else path before node)
-    go true k l = (h.0, k)
-    go false k l = l
 
 fits_both : (t : ColType) (o : Outcome ⊥ Value) → Meets (FitsKind t) o → Meets IsBounded o → Meets (FitsColumn t) o
 fits_both t (Gives v) h k = (h, k)

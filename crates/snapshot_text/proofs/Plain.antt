@@ -11,6 +11,7 @@ use Rattle.std.proofs.lemmas.Bool.Decides.{nat_tests}
 use Rattle.lemmas.proofs.{both_true}
 use Rattle.csv.specs.Writing.{default_writer, needs_byte}
 use Rattle.rdf_values.specs.{Has64Bits, is_name, is_word_byte, is_word_start}
+use Rattle.rdf_values.proofs.OneText.{own}
 
 -- ---- bytes above the comma
 
@@ -63,9 +64,6 @@ digits_numeral (d ∷ ds) h =
     let both = both_true (is_ascii_digit d) (all_ascii_digits ds) h in
     let one = digit_by d both.0 in
     (one.0, one.1, digits_numeral ds both.1)
-
-own : IsNumeralModel (λ ds. all_ascii_digits ds ≡ true) (digits_value 10)
-own = numerals_by_value _ tells_all_ascii_digits
 
 decimal_numeral : (n : ℕ) → n < 2 ^ 64 → Numeral (decimal n)
 decimal_numeral n h = digits_numeral (decimal n) (digits_decimal own n h)

@@ -12,6 +12,7 @@ use Rattle.rdf_values.specs.{AreColumns, cells_from, ColType, Column, column_of,
 use Rattle.rdf_values.specs.TableText.{cell_of}
 use Rattle.snapshot_text.specs.{AreNamed, cell_field, column_field, kind_word}
 use Rattle.snapshot_text.proofs.Plain.{AllNumerals, Numeral, Wordy, name_bytes, number_numeral, number_some}
+use Rattle.rdf_values.proofs.Rows.{fits_length as row_length}
 
 -- ---- vectors
 
@@ -91,12 +92,6 @@ cells_back [] e i [] s h = refl
 cells_back [] e i (x ∷ xs) s h = absurd h
 cells_back (c ∷ cs) e i [] s h = absurd h
 cells_back (c ∷ cs) e i (x ∷ xs) s h = rw (cell_back e i c.kind x s.0 h.0, cells_back cs e (i + 1) xs s.1 h.1) refl
-
-pub row_length : (cols : List Column) (row : List Value) → FitsRow cols row → length row ≡ length cols
-row_length [] [] h = refl
-row_length [] (x ∷ xs) h = absurd h
-row_length (c ∷ cs) [] h = absurd h
-row_length (c ∷ cs) (x ∷ xs) h = ap suc (row_length cs xs h.1)
 
 abbrev unmarked : List Value → MarkedRow
 unmarked row = record { row = row; marked = false }

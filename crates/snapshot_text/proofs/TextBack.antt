@@ -13,7 +13,8 @@ use Rattle.rdf_values.specs.{ColType, Column, FitRows, FitsColumn, FitsRow, Has6
 use Rattle.snapshot_text.specs.{AreNamed, cell_field, column_field, entries_text, entry_text, header_text, kind_word, PartsJoin, table_text, TextReadsBack}
 use Rattle.snapshot_text.proofs.Plain.{Above, AllAbove, AllNumerals, Starts, above_joined, name_bytes, number_numeral, number_some, numeral_above, numerals_above, starts_joined, wordy_above}
 use Rattle.snapshot_text.proofs.RecordsBack.{HaveFields, many_written, none_written, one_written, records_back}
-use Rattle.snapshot_text.proofs.TableBack.{AllStored, all_stored, joined_some, numbers_numerals, row_length, table_back}
+use Rattle.snapshot_text.proofs.TableBack.{AllStored, all_stored, joined_some, numbers_numerals, table_back}
+use Rattle.rdf_values.proofs.Rows.{fits_length as row_length}
 
 -- ---- the header
 

@@ -10,20 +10,13 @@ use Rattle.snapshot_plan.specs.{Under}
 use Rattle.snapshot_words.specs.{asked_by, asked_in, asked_of, command_of, files_of, is_comma, is_taken, IsAsked, names_of, shown_by, shown_of, SnapCommand, snapshot_command, under_in}
 use Rattle.snapshot_words.specs.declared.read.Files.{Files}
 use Rattle.snapshot_words.specs.declared.read.Shown.{Shown}
-
-some_is : {A : Type 0} (x y : A) → Some x ≡ Some y → x ≡ y
-some_is x y e = cc e
+use Rattle.command_words.proofs.Bounds.{if_within, some_is}
 
 -- ---- numbers
 
 -- a number that stands in an option
 abbrev Is : ℕ → ℕ → Option ℕ → Type 0
 Is least most o = (n : ℕ) → o ≡ Some n → (least ≤ n) × (n ≤ most)
-
-if_within : (least most n m : ℕ) (low high : Bool) → leb least n ≡ low → leb n most ≡ high → (if low && high then Some n else None) ≡ Some m → (least ≤ m) × (m ≤ most)
-if_within least most n m true true l h e = grind arith
-if_within least most n m true false l h e = absurd (cc e)
-if_within least most n m false high l h e = absurd (cc e)
 
 is_within : (least most : ℕ) (o : Option ℤ) → Is least most (within least most o)
 is_within least most None = λ n e. absurd (cc e)

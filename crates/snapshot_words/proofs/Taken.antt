@@ -6,6 +6,7 @@ use Rattle.clap.specs.declared.parser.matches.ArgMatches.{ArgMatches}
 use Rattle.clap.proofs.OnLiterals.{clap_on_literals}
 use Rattle.command_words.specs.{has_none}
 use Rattle.snapshot_words.specs.{asked_in, asked_of, is_taken, snapshot_command}
+use Rattle.command_words.proofs.Taken.{some_is}
 
 pub is_simple_one : is_simple snapshot_command ≡ true
 unfolding snapshot_command clap_on_literals
@@ -17,10 +18,6 @@ is_free = refl
 
 none_is : (ks : Kinds) → ks ≡ [] → has_none ks ≡ true
 none_is ks e = rw e refl
-
-some_is : (k : ErrorKind) (ks : Kinds) → IsAmong k ks → has_none ks ≡ false
-some_is k [] h = absurd h
-some_is k (x ∷ xs) h = refl
 
 is_taken_at : (words : List Text) → fault_of snapshot_command words ≡ [] → is_taken words ≡ true
 unfolding is_taken

@@ -2,8 +2,9 @@ use Rattle.std.proofs.Common.{rules, arith, ◌<◌, ◌+ℤ◌, ◌∙◌, ap, 
 use Rattle.std.specs.Int.{w128}
 use Rattle.std.proofs.lemmas.Int.{to_z-of_z}
 use Rattle.std.proofs.lemmas.List.Sums.{fold_more}
-use Rattle.actions.proofs.Sums.{abs_of_fit, fits_sum, sum_bound}
+use Rattle.actions.proofs.Sums.{fits_sum, sum_bound}
 use Rattle.actions.proofs.numbers.sum_with.Goals as goal
+use Rattle.histograms.proofs.Bounds.{abs_of_fit}
 
 pub loop-number-preserved : goal.loop-number-preserved
 loop-number-preserved c =
