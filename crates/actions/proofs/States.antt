@@ -1,10 +1,10 @@
 -- What an accumulator holds after one more entry.
-use Rattle.std.proofs.Common.{ℕ, ◌≡◌, ◌≤◌, ◌+◌, map, length, All, List, [], ◌∷◌, ◌++◌, ℤ, pos, ◌+ℤ◌, refl, ap, sym, ◌∙◌, length-append, lit≤, flat_map, Option, None, Result, Ok, Err, OnErr, OnOk, fold}
+use Rattle.std.proofs.Common.{ℕ, ◌≡◌, ◌≤◌, ◌+◌, map, length, All, List, [], ◌∷◌, ◌++◌, ℤ, pos, ◌+ℤ◌, refl, ap, sym, ◌∙◌, length-append, lit≤, flat_map, Option, Result, Ok, Err, OnErr, OnOk, fold}
 use Rattle.std.proofs.lemmas.List.{map-append}
 use Rattle.std.specs.Int.{int_max, int_min}
 use Rattle.rdf_values.specs.{ActionKind, Extreme, extreme, Flat, integer_sum, Item, numbers_of, points, points2, reduce_start, reduce_step, Reduced, ReduceOp, Scalar, scalar_of, spread, Square, Taken, Value, weights}
-use Rattle.rdf_values.specs.declared.item.Item.TheVariants.{Number, Single, Unit}
-use Rattle.rdf_values.specs.Fold.{Cell, Count, Sum}
+use Rattle.rdf_values.specs.declared.item.Item.TheVariants.{Number, Single}
+use Rattle.rdf_values.specs.Fold.{Count, Sum}
 use Rattle.histograms.specs.{flat_cells, HasFilled, HasFilled2, square_cells}
 use Rattle.histograms.specs.OneAxis as one
 use Rattle.histograms.specs.TwoAxes as two
@@ -12,7 +12,7 @@ use Rattle.actions.specs.declared.taken.TakenValue.{TakenValue}
 use Rattle.actions.specs.declared.state.State.{State}
 use Rattle.actions.specs.declared.items.Part.{Part}
 use Rattle.actions.specs.declared.items.Items.{Items}
-use Rattle.actions.specs.declared.items.Items.TheVariants.{Entry, One, Weighted, Pair, WeightedPair}
+use Rattle.actions.specs.declared.items.Items.TheVariants.{One, Weighted, Pair, WeightedPair}
 use Rattle.actions.specs.{better_of, by_cluster, Fed, fed_value, first_numbers, first_scalar, from_cluster, Holds, in_file_order, part_values, second_part, Suits, values_from, values_of, weight_part}
 use Rattle.actions.proofs.Folds.{extreme_numbers, fold_numbers, taken_singles}
 use Rattle.actions.proofs.Order.{by_cluster-feed, in_file_order-feed}

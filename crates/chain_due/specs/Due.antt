@@ -1,5 +1,5 @@
 -- What is due to the words, the files and the caller's functions: a status and the bytes that are written with it.
-use Rattle.std.specs.Prelude.{◌≡◌, ◌⊎◌, ◌+◌, ℕ, List, [], ◌∷◌, ◌++◌, length, map, Option, Some, None, nat_lt, MatchOption, MatchResult, unwrap_or, slice_get}
+use Rattle.std.specs.Prelude.{◌≡◌, ◌⊎◌, ◌+◌, ℕ, List, [], ◌∷◌, ◌++◌, length, map, Option, nat_lt, MatchOption, MatchResult, unwrap_or, slice_get}
 use Rattle.std.specs.Bool.{MatchBool}
 use Rattle.rdf_values.specs.{Column, fn_names, Function, graph_cause_line, long_table_line, MarkedTable, Script, table_cause_line, table_of, verdict}
 use Rattle.rdf_model.specs.{Printed}

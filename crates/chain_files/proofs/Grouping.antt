@@ -1,11 +1,11 @@
 -- Parts may be joined in any groups.
-use Rattle.std.proofs.Common.{◌≡◌, ◌+◌, ◌+ℤ◌, ℕ, ℤ, Option, None, Some, List, [], ◌∷◌, ◌++◌, fold, refl, ap, ap₂, ◌∙◌, sym, arith, append_assoc}
+use Rattle.std.proofs.Common.{◌≡◌, ◌+◌, ◌+ℤ◌, ℕ, ℤ, Option, None, Some, List, [], ◌∷◌, ◌++◌, fold, refl, ap, ap₂, ◌∙◌, arith, append_assoc}
 use Rattle.std.proofs.lemmas.Int.{ints}
 use Rattle.std.specs.Int.{int_max, int_min}
 use Rattle.loop_pieces.specs.{Counts}
 use Rattle.histograms.specs.{CellSum}
 use Rattle.shard_lines.specs.{added_cells, added_counts, better_of, cells_of, count_of, counts_of, extreme_of, joined_line, joined_lines, number_of, PassShape, ShardLine, sum_of, taken_of}
-use Rattle.chain_files.specs.{GroupsAreFree, joined_loops, joined_part, joined_parts, JoiningIsAssociative, PartLoop, PartView}
+use Rattle.chain_files.specs.{GroupsAreFree, joined_loops, joined_part, JoiningIsAssociative, PartLoop, PartView}
 use Rattle.chain_files.specs.declared.part_loop.PartLoop.TheVariants.{Whole, Faulted}
 use Rattle.chain_files.proofs.Reductions.{max_assoc, min_assoc, step_assoc}
 

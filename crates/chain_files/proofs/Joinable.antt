@@ -1,5 +1,5 @@
 -- Parts that nothing refuses can be joined.
-use Rattle.std.proofs.Common.{◌≡◌, ◌+◌, ℕ, Bool, true, false, ◌&&◌, cond, Option, None, Some, List, [], ◌∷◌, refl, ap, ap₂, ◌∙◌, sym, subst, not, position}
+use Rattle.std.proofs.Common.{◌≡◌, ◌+◌, ℕ, Bool, true, false, ◌&&◌, cond, None, Some, List, [], ◌∷◌, refl, ap, ap₂, ◌∙◌, sym, not, position}
 use Rattle.std.specs.List.{list_all, position_from}
 use Rattle.std.proofs.lemmas.Iterator.Adapters.{position_from-zero}
 use Rattle.std.proofs.lemmas.Slice.Eq.{bytes_eq-Decides}
@@ -7,7 +7,7 @@ use Rattle.lemmas.proofs.{both_true}
 use Rattle.rdf_values.specs.{ColType, Column, same}
 use Rattle.shard_lines.specs.{PassShape}
 use Rattle.shard_files.specs.{same_column, same_columns, same_kind}
-use Rattle.chain_files.specs.{AcceptedCanJoin, are_loops, AreNext, CanJoin, CanJoinAll, first_differing, first_misshapen, first_uncovered, in_order, is_of, not_behind, PartView, placed}
+use Rattle.chain_files.specs.{AcceptedCanJoin, are_loops, AreNext, CanJoinAll, in_order, is_of, not_behind, PartView, placed}
 use Rattle.chain_files.proofs.Covered.{covered_are_next}
 
 -- ---- what is the same

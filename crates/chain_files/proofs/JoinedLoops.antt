@@ -1,5 +1,5 @@
 -- Where joining the loops of two parts ends.
-use Rattle.std.proofs.Common.{◌≡◌, ◌≤◌, ◌⊎◌, ℕ, zero, suc, List, [], ◌∷◌, ◌++◌, length, drop, refl, ap, ◌∙◌, sym, arith, append-nil, inl, inr}
+use Rattle.std.proofs.Common.{◌≡◌, ◌≤◌, ◌⊎◌, ℕ, List, [], ◌∷◌, ◌++◌, length, drop, refl, ap, ◌∙◌, sym, arith, append-nil, inl, inr}
 use Rattle.lemmas.proofs.{dropped_all}
 use Rattle.shard_lines.specs.{PassShape}
 use Rattle.chain_files.specs.{joined_loops, PartLoop}

@@ -1,15 +1,14 @@
 -- What two parts come to is within the limits of their entries together.
-use Rattle.std.proofs.Common.{◌≡◌, ◌≤◌, ◌<◌, ◌+◌, ◌*◌, ◌-◌, ◌^◌, ◌+ℤ◌, ℕ, ℤ, pos, negsuc, Bool, true, false, ◌&&◌, cond, Option, None, Some, List, [], ◌∷◌, ◌++◌, length, refl, ap, ap₂, ◌∙◌, sym, subst, arith, length-append, w64, ◌||◌, nat_abs, nat_eq, nat_lt, int_lt}
+use Rattle.std.proofs.Common.{◌≡◌, ◌≤◌, ◌<◌, ◌+◌, ◌*◌, ◌-◌, ◌^◌, ◌+ℤ◌, ℕ, ℤ, pos, negsuc, Bool, true, false, ◌&&◌, cond, Option, None, Some, List, [], ◌∷◌, ◌++◌, length, refl, ap, ap₂, ◌∙◌, sym, subst, arith, length-append, w64, ◌||◌, nat_abs, nat_eq, int_lt}
 use Rattle.std.specs.Int.{cast_signed, int_max, int_min}
 use Rattle.std.specs.List.{list_all}
 use Rattle.std.proofs.lemmas.Bool.Decides.{nat_tests}
-use Rattle.std.proofs.lemmas.Int.{ints}
 use Rattle.lemmas.proofs.{abs_add, both_true, or_true}
 use borrow.Author.Differences.{read_fits, up, down}
 use Rattle.rdf_values.specs.{ColType, Has64Bits, reduce_step, ReduceOp, Scalar}
 use Rattle.loop_pieces.specs.{Counts}
 use Rattle.histograms.specs.{CellSum}
-use Rattle.shard_lines.specs.{added_cells, added_counts, are_alike, are_cells, better_of, cells_of, count_of, counts_of, EachFits, extreme_of, FitLines, FitsCell, FitsCount, FitsExtreme, FitsLine, FitsScalar, FitsTake, has_shape, have_shapes, is_number, is_report, is_take_from, is_taken_from, is_truth, joined_line, joined_lines, number_of, PassShape, ShardLine, sum_of, taken_of}
+use Rattle.shard_lines.specs.{added_cells, added_counts, are_alike, are_cells, better_of, cells_of, count_of, counts_of, EachFits, extreme_of, FitLines, FitsCell, FitsCount, FitsExtreme, FitsLine, FitsScalar, has_shape, have_shapes, is_number, is_report, is_take_from, is_taken_from, is_truth, joined_line, joined_lines, number_of, PassShape, ShardLine, sum_of, taken_of}
 use Rattle.chain_files.specs.{are_loops, CanJoin, CanJoinAll, FitLoops, IsPart, joined_loops, joined_part, joined_parts, JoinedIsPart, JoinedKeepsShape, part_limits, PartLoop, PartView, view_of}
 use Rattle.chain_files.specs.declared.part.PartFields.{PartFields}
 use Rattle.chain_files.specs.declared.part_loop.PartLoop.TheVariants.{Whole, Faulted}

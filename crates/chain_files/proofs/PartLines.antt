@@ -3,9 +3,9 @@ use Rattle.std.proofs.Common.{◌≡◌, ◌≤◌, ◌<◌, ℕ, Bool, true, fa
 use Rattle.rdf_values.specs.{ColType, EntryFault, is_name, IsStored, magnitude_of, same}
 use Rattle.shard_lines.specs.{AreLimits, both_of, FitsLine, line_of_words, line_words, lone, ShardLine}
 use Rattle.shard_lines.proofs.ReadBack.{both_say, count_reads, count_says, lines_read_back, mapped, read_lines_fit, same_says}
-use Rattle.shard_files.specs.{fault_kind_of, fault_number, kind_word, name_of, stored_kind_of}
+use Rattle.shard_files.specs.{fault_kind_of, fault_number, name_of, stored_kind_of}
 use Rattle.shard_files.proofs.FileLines.{fault_reads, fault_says, kind_reads, kind_says, name_says}
-use Rattle.chain_files.specs.{bare, ChainFault, column_of_words, entries_of_word, fault_from, fault_of_words, files_of_words, four_of, is_digest, part_limits, part_line_behind, part_line_by, part_line_of, part_word_of, script_of_word, two_of, version_of_word, widest, words_of}
+use Rattle.chain_files.specs.{bare, ChainFault, column_of_words, entries_of_word, fault_from, fault_of_words, files_of_words, four_of, is_digest, part_line_behind, part_line_by, part_line_of, part_word_of, script_of_word, two_of, version_of_word, widest, words_of}
 use Rattle.chain_files.specs.declared.part_line.PartLine.{PartLine}
 use Rattle.chain_files.specs.declared.part_word.PartWord.{PartWord}
 

@@ -1,9 +1,9 @@
 -- The lines of each part are read, one after the other.
-use Rattle.std.proofs.Common.{◌≡◌, ◌≤◌, ◌<◌, ◌+◌, ◌*◌, ◌-◌, true, false, ◌&&◌, Option, None, Some, List, [], ◌∷◌, ◌++◌, length, map, flat_map, refl, ap, ap₂, ◌∙◌, sym, arith, append_assoc, append-nil, length-append, ◌||◌, if◌then◌else◌, nat_eq, nat_le, nat_lt, option_and_then}
+use Rattle.std.proofs.Common.{◌≡◌, ◌≤◌, ◌<◌, ◌+◌, ◌*◌, ◌-◌, true, false, ◌&&◌, Option, None, Some, List, [], ◌∷◌, ◌++◌, length, map, flat_map, refl, ap, ap₂, ◌∙◌, sym, arith, append_assoc, append-nil, length-append, ◌||◌, if◌then◌else◌, nat_le, nat_lt, option_and_then}
 use Rattle.std.proofs.lemmas.Bool.Decides.{nat_tests}
 use Rattle.rdf_values.specs.{AreColumns, Column}
 use Rattle.shard_lines.specs.{FitLines, ShardLine}
-use Rattle.chain_files.specs.{ChainFault, FitLoops, FitsFault, is_within, IsPart, loop_lines, part_limits, part_lines, PartLoop, PartView, step}
+use Rattle.chain_files.specs.{ChainFault, FitLoops, FitsFault, IsPart, loop_lines, part_limits, part_lines, PartLoop, PartView, step}
 use Rattle.chain_files.proofs.Within.{is_within_true}
 use Rattle.chain_files.specs.declared.part_line.PartLine.{PartLine}
 use Rattle.chain_files.specs.declared.progress.Progress.{Progress}

@@ -1,7 +1,6 @@
 -- Lines that so many entries can come to.
-use Rattle.std.proofs.Common.{◌≡◌, ◌≤◌, ◌*◌, ◌^◌, ℕ, ℤ, Bool, true, false, ◌&&◌, List, [], ◌∷◌, length, refl, ap₂, arith, nat_abs, nat_le}
+use Rattle.std.proofs.Common.{◌≡◌, ◌≤◌, ◌*◌, ◌^◌, ℕ, Bool, true, ◌&&◌, List, [], ◌∷◌, length, refl, ap₂, arith, nat_abs, nat_le}
 use Rattle.std.specs.List.{list_all}
-use Rattle.std.proofs.lemmas.Bool.Decides.{nat_tests}
 use Rattle.lemmas.proofs.{both_true, le_says, le_true}
 use Rattle.loop_pieces.specs.{Counts}
 use Rattle.histograms.specs.{CellSum}

@@ -1,5 +1,5 @@
 -- Laws of part files. Each is the contract of a function of this crate, and so proved.
-use Rattle.std.specs.Prelude.{◌≡◌, ℕ, true, Option, None, List, ◌∷◌, ◌++◌}
+use Rattle.std.specs.Prelude.{◌≡◌, ℕ, true, None, List, ◌∷◌, ◌++◌}
 use Rattle.shard_lines.specs.{PassShape}
 use Rattle.chain_files.specs.Covering.{AreInOrder, AreNext, IsFirstUncovered, first_uncovered, have_files, in_order, parts_with}
 use Rattle.chain_files.specs.Joining.{CanJoinAll, are_loops, joined_loops, joined_part, joined_parts}

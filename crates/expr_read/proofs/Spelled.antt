@@ -11,8 +11,6 @@ use Rattle.lemmas.proofs.{both_true, eq_says, le_false, le_says, not_true, right
 use Rattle.expr_read.proofs.FirstTokens.{first_word, first_number}
 use Rattle.std.specs.Fmt.{signed_decimal}
 use Rattle.std.specs.Str.{all_ascii_digits}
-use Rattle.std.specs.Str.Parse.{digits_value}
-use Rattle.std.proofs.lemmas.Str.Parse.{IsNumeralModel, numerals_by_value, tells_all_ascii_digits}
 use Rattle.std.proofs.lemmas.Fmt.{decimal_nonempty, digits_decimal}
 use Rattle.rdf_values.proofs.OneText.{magnitude_decimal, own}
 use Rattle.expr_read.specs.{is_number}

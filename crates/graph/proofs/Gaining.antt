@@ -1,5 +1,5 @@
 -- What accepted statements add to the tables, which is what the numbers of the script say.
-use Rattle.std.proofs.Common.{if◌then◌else◌, ◌≡◌, ℕ, suc, ◌+◌, Bool, true, false, ◌||◌, List, [], ◌∷◌, ◌++◌, map, length, Some, refl, sym, ◌∙◌, ap, ◌≤◌, Option, None, Result, Ok, Err, IfOk, OnOk, subst, arith}
+use Rattle.std.proofs.Common.{if◌then◌else◌, ◌≡◌, ℕ, suc, ◌+◌, false, ◌||◌, List, [], ◌∷◌, ◌++◌, map, length, Some, refl, sym, ◌∙◌, ap, ◌≤◌, Option, None, Result, Ok, Err, IfOk, OnOk, subst, arith}
 use Rattle.std.specs.List.{list_any}
 use Rattle.rdf_values.specs.{Column, columns_of, FunctionNames, makes, named_before, parent_of, path, Statement, variations, VaryValues, Booked, booked_by, bookings, check, ColType, kind_or_int, NamedTree, own_variations, scope_of}
 use Rattle.rdf_values.specs.declared.vary_values.VaryValues.TheVariants.{Lists, Vector}

@@ -9,7 +9,7 @@ use Rattle.rdf_values.specs.declared.vary_values.VaryValues.TheVariants.{Lists, 
 use Rattle.rdf_model.proofs.Accepted.{both_none, if_fails, unless_holds, names_equal, itself as same_itself, visible_known, no_target, own_within}
 use Rattle.rdf_model.specs.{own_place}
 use Rattle.graph_numbers.proofs.Apart.{variation_number}
-use Rattle.graph_numbers.proofs.Extending.{Extends, itself, further, kept, source_count, versions_count}
+use Rattle.graph_numbers.proofs.Extending.{Extends, itself, further, source_count, versions_count}
 use Rattle.graph_numbers.proofs.Listed.{next_at, of_joined}
 use Rattle.graph_numbers.proofs.VersionKinds.{kind_count, visible_kind}
 use Rattle.graph_numbers.specs.{cell_sources, cell_versions, list_start, named_version, numbers_from, own_source, own_versions, site_count, Source, source_in, sources, under_at, varied_sources, varied_version, varied_versions, Version, version_at, version_count, version_kinds, versions}

@@ -1,13 +1,13 @@
 -- Steps of the look-ups that walk the statements so far.
-use Rattle.std.proofs.Common.{◌≡◌, ℕ, Bool, true, false, ◌||◌, List, [], ◌∷◌, ◌++◌, map, refl, sym, ◌∙◌, ap, arith, ◌+◌, if◌then◌else◌, length, zero, suc, ◌≤◌, Option, Some, None, add-one}
-use Rattle.rdf_values.specs.{aliases, among, Booked, booked_by, Booking, bookings, ColType, column_kind, FunctionNames, is_alias, is_result, is_visible, is_watched, kind_or_int, made_columns, names_of, Path, result_is, same, Scope, Statement, target_of, visible_columns, watched_results, Column, makes, named_before, parent_of, path, place}
+use Rattle.std.proofs.Common.{◌≡◌, ℕ, Bool, true, false, ◌||◌, List, [], ◌∷◌, ◌++◌, map, refl, sym, ◌∙◌, ap, arith, ◌+◌, if◌then◌else◌, length, zero, suc, ◌≤◌, Some, add-one}
+use Rattle.rdf_values.specs.{aliases, among, Booked, booked_by, Booking, bookings, ColType, column_kind, FunctionNames, is_alias, is_result, is_visible, is_watched, kind_or_int, made_columns, names_of, Path, result_is, same, Scope, Statement, target_of, visible_columns, watched_results, Column, named_before, parent_of, path}
 use Rattle.rdf_values.specs.declared.statement.Statement.TheVariants.{Action, Report, Watch, Define, Redefine, Filter, Vary}
 use Rattle.rdf_model.proofs.Accepted.{itself, names_equal, place_within}
 use Rattle.std.proofs.lemmas.List.{map-append, length-append}
 use Rattle.std.proofs.lemmas.List.Folds.{list_any-append}
 use Rattle.lemmas.proofs.{or_false}
 use Rattle.graph.specs.{books, result_in, count_from, is_named}
-use Rattle.graph_numbers.specs.{column_place, named_version, own_columns, own_version, version_count, version_or}
+use Rattle.graph_numbers.specs.{column_place, named_version, own_columns, own_version, version_count}
 
 -- a name among the names of two lists
 among_both : (name : List ℕ) (xs ys : List Booked) → among name (names_of (xs ++ ys)) ≡ (among name (names_of xs) || among name (names_of ys))

@@ -1,5 +1,5 @@
 -- The shapes of a loop, pass by pass, and of a graph, loop by loop.
-use Rattle.std.proofs.Common.{◌≡◌, ◌≤◌, ◌<◌, ◌+◌, ℕ, zero, suc, List, [], ◌∷◌, ◌++◌, length, map, take, Option, Some, sym, ap, ap₂, ◌∙◌, arith, option_map, slice_get, unwrap_or}
+use Rattle.std.proofs.Common.{◌≡◌, ◌≤◌, ◌<◌, ◌+◌, ℕ, List, [], ◌∷◌, ◌++◌, length, map, take, Option, Some, sym, ap, ap₂, ◌∙◌, arith, option_map, slice_get, unwrap_or}
 use Rattle.std.proofs.lemmas.List.{length-map, map-append, take_all}
 use Rattle.std.proofs.lemmas.Option.{slice_get-map}
 use Rattle.lemmas.proofs.{something_at, take_next}

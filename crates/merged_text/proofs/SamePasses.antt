@@ -1,7 +1,7 @@
 -- A pass by its line prints what it prints by itself.
 use Rattle.std.proofs.Common.{◌≡◌, ℕ, zero, suc, List, [], ◌∷◌, ◌++◌, length, map, take, drop, refl, sym, ap, ap₂, ◌∙◌, arith, if◌then◌else◌, flat_map}
 use Rattle.std.proofs.lemmas.List.{length-map, map-append}
-use Rattle.rdf_values.specs.{ActionAt, ActionKind, Booking, cells_on, Filled, flat_cell, fold_items, Item, Pass, Path, ReportOn, same, square_cell, Under}
+use Rattle.rdf_values.specs.{ActionAt, ActionKind, Booking, cells_on, flat_cell, fold_items, Item, Pass, Path, ReportOn, same, square_cell}
 use Rattle.rdf_values.specs.Fold.{Cell}
 use Rattle.rdf_values.specs.Fold as f
 use Rattle.rdf_values.proofs.Below.{length-below}
@@ -9,7 +9,7 @@ use Rattle.rdf_model.specs.{booking_lines, cutflow, Dataset, filled_lines, filte
 use Rattle.histograms.specs.{cell_seen}
 use Rattle.loop_pieces.specs.{counts_of}
 use Rattle.shard_spans.specs.{booking_line, cell_sum, filled_line, pass_line}
-use Rattle.merged_text.specs.{booking_text, line_filled, lines_of_result, LinesPrintTheirPasses, pass_text, rows_of, with_labels}
+use Rattle.merged_text.specs.{booking_text, line_filled, LinesPrintTheirPasses, pass_text, rows_of, with_labels}
 
 -- ---- cells
 

@@ -1,5 +1,5 @@
 -- Texts with something between each two.
-use Rattle.std.proofs.Common.{◌≡◌, ℕ, ◌+◌, List, [], ◌∷◌, ◌++◌, map, drop, Option, Some, refl, sym, ap, ◌∙◌, append-nil, append_assoc, Result, Ok, Err, OnOk, codes, decimal, flat_map, slice_get}
+use Rattle.std.proofs.Common.{◌≡◌, ℕ, ◌+◌, List, [], ◌∷◌, ◌++◌, map, drop, Option, Some, refl, sym, ap, ◌∙◌, append-nil, append_assoc, codes, decimal, flat_map, slice_get}
 use Rattle.std.specs.List.{join_with_byte}
 use Rattle.rdf_values.specs.{Scalar, Span}
 use Rattle.rdf_model.specs.{FilterCounts, flow_line, percent, run_text, scalar_text, taken_text}

@@ -1,5 +1,5 @@
 -- Lists that are added place by place, up to the end of the shorter one.
-use Rattle.std.proofs.Common.{◌≡◌, ◌≤◌, ◌⊎◌, ℕ, zero, suc, List, [], ◌∷◌, ◌++◌, length, drop, refl, ap, ◌∙◌, sym, arith, append-nil, inl, inr}
+use Rattle.std.proofs.Common.{◌≡◌, ◌≤◌, ◌⊎◌, ℕ, List, [], ◌∷◌, ◌++◌, length, drop, refl, ap, ◌∙◌, sym, arith, append-nil, inl, inr}
 use Rattle.lemmas.proofs.{dropped_all}
 use Rattle.loop_pieces.specs.{Counts}
 use Rattle.histograms.specs.{CellSum}

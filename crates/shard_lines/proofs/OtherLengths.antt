@@ -1,5 +1,5 @@
 -- Lists of different lengths.
-use Rattle.std.proofs.Common.{◌≡◌, ◌≢◌, Bool, true, false, ◌&&◌, List, [], ◌∷◌, length, refl, ap, suc}
+use Rattle.std.proofs.Common.{◌≡◌, ◌≢◌, false, ◌&&◌, List, [], ◌∷◌, length, refl, ap, suc}
 use Rattle.lemmas.proofs.{and_right_false}
 use Rattle.shard_lines.specs.{has_shape, have_shapes, PassShape, ShardLine}
 

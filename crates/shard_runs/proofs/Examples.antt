@@ -1,9 +1,7 @@
 -- The definitions computed: two runs over one table, the file of each, and what they merge to.
-use Rattle.std.proofs.Common.{◌≡◌, ℤ, true, false, pos, List, [], ◌∷◌, Ok, Err, refl, arith, codes, All, flat_map}
+use Rattle.std.proofs.Common.{◌≡◌, true, false, pos, List, [], ◌∷◌, Ok, Err, refl, arith, codes, flat_map}
 use Rattle.std.specs.Fmt.{digits}
-use Rattle.std.specs.List.{AllByRecursion}
-use Rattle.std.proofs.lemmas.List.Elements.{All-from_recursion}
-use Rattle.rdf_values.specs.{ColType, cut, Has64Bits, is_name, line, Scalar, Script}
+use Rattle.rdf_values.specs.{ColType, cut, is_name, line, Scalar, Script}
 use Rattle.rdf_values.specs.declared.fault.EntryFault.TheVariants.{ZeroDivisor}
 use Rattle.rdf_model.proofs.Analyses.{col, count, define, div, gt, num, print, script, sub, sum, table, take}
 use Rattle.shard_lines.specs.{PassShape, ShardLine}

@@ -1,11 +1,11 @@
 -- The result of a Print among those that its loop fills.
 use Rattle.std.proofs.Common.{◌≡◌, ℕ, zero, suc, Bool, true, false, not, ◌||◌, List, [], ◌∷◌, ◌++◌, Some, refl, sym, ap, ap₂, ◌∙◌, arith, if◌then◌else◌, filter, flat_map, slice_get}
 use Rattle.std.proofs.lemmas.Grind.{flat_map-append}
-use Rattle.lemmas.proofs.{kept_at, same_some}
-use Rattle.rdf_values.specs.{ActionAt, among, Booked, booked_by, Booking, bookings, filled, is_watched, names_of, Pass, passes_of, ReportOn, results_named, same, Statement, waiting}
+use Rattle.lemmas.proofs.{same_some}
+use Rattle.rdf_values.specs.{ActionAt, among, Booked, Booking, bookings, filled, is_watched, names_of, Pass, passes_of, ReportOn, results_named, same, Statement, waiting}
 use Rattle.rdf_model.specs.{Course, Dataset, loop_of, loop_passes, named_lines, partial_line, partial_lines, partial_result, pass_lines, result_lines}
 use Rattle.rdf_model.proofs.Accepted.{names_equal}
-use Rattle.graph_numbers.proofs.Extending.{Extends, further, itself}
+use Rattle.graph_numbers.proofs.Extending.{Extends, itself}
 use Rattle.graph.specs.{AreNamedInTurn}
 use Rattle.event_loop.proofs.LoopResults.{one_number}
 use Rattle.event_loop.proofs.Found.{AreOf, passes_are_of}

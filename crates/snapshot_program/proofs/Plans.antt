@@ -1,7 +1,7 @@
 -- Plans and their refusals, and what is due of a run.
 use Rattle.std.proofs.Common.{if◌then◌else◌, ◌≡◌, inl, inr, ◌<◌, ◌+◌, ℕ, suc, Bool, true, false, not, List, [], ◌∷◌, ◌++◌, length, Option, None, Some, Result, Ok, Err, IfOk, nat_lt, arith, ap, refl, sym, subst, ◌∙◌, MatchOption}
 use Rattle.rdf_values.specs.Answered.{Refuses}
-use Rattle.rdf_values.specs.{Column, fn_names, Function, FunctionNames, graph_cause_line, GraphCause, is_node, Scope, scope_at, scope_of, Script, Statement, TableView, Under, variations, verdict}
+use Rattle.rdf_values.specs.{Column, fn_names, Function, FunctionNames, graph_cause_line, is_node, Scope, scope_at, scope_of, Script, Statement, TableView, Under, variations, verdict}
 use Rattle.graph_numbers.specs.{booked, booked_statements, GraphView}
 use Rattle.graph.proofs.Verdicts.{accepted_verdict}
 use Rattle.input_files.specs.{due_of}

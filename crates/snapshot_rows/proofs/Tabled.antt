@@ -3,13 +3,13 @@ use Rattle.std.proofs.Common.{◌≡◌, ◌≤◌, ℕ, ◌+◌, Bool, true, fa
 use Rattle.std.specs.Prelude.{⊤}
 use Rattle.std.specs.List.{cons_option}
 use Rattle.std.proofs.lemmas.List.Folds.{list_all-map}
-use Rattle.rdf_values.specs.{among, AreBounded, ColType, Column, column_kind, FitRows, FitsColumn, FitsKind, FitsRow, fn_names, GraphCause, is_name, is_node, IsBounded, IsTable, kind_or_int, makes, parent_of, path, Scope, scope_at, scope_of, Statement, StatementsHaveWords, TableView, Value, verdict}
+use Rattle.rdf_values.specs.{among, AreBounded, ColType, Column, column_kind, FitRows, FitsColumn, FitsKind, FitsRow, fn_names, GraphCause, is_name, is_node, IsBounded, IsTable, kind_or_int, Scope, scope_at, scope_of, TableView, Value, verdict}
 use Rattle.rdf_model.specs.{◌>>=◌, column_in, Dataset, Faults, for_all, Gives, Meets, Needs, Outcome, through}
 use Rattle.rdf_model.proofs.Accepted.{accepted_columns_fit}
 use Rattle.rdf_model.proofs.Bounded.{columns_are_bounded}
 use Rattle.rdf_model.proofs.Typing.{meets_bind}
 use Rattle.graph_numbers.specs.{booked_statements}
-use Rattle.snapshot_plan.specs.{column_at, first_bad, is_bad, is_stored, plan_columns, PlanView, scope_in, SnapCause, unless_bad}
+use Rattle.snapshot_plan.specs.{column_at, first_bad, is_bad, is_stored, plan_columns, PlanView, scope_in}
 use Rattle.snapshot_plan.proofs.Headed.{plans_have_headers, kept as sound_columns}
 use Rattle.snapshot_text.specs.{AreNamed}
 use Rattle.snapshot_text.proofs.TextBack.{text_reads_back}

@@ -1,14 +1,14 @@
 -- The fields that were written spell the table.
-use Rattle.std.proofs.Common.{◌≡◌, ◌≤◌, ◌<◌, ◌+◌, ℕ, ℤ, pos, negsuc, zero, suc, ◌^◌, Bool, true, false, ◌&&◌, List, [], ◌∷◌, ◌++◌, length, map, take, drop, All, refl, ap, ap₂, sym, subst, ◌∙◌, arith, codes, cond, append_assoc, length-append, Some, None, Option, Ok, Err, Result, not, ◌==◌, if◌then◌else◌, nat_eq, nat_le, nat_lt, ok_or, option_map}
+use Rattle.std.proofs.Common.{◌≡◌, ◌≤◌, ◌<◌, ◌+◌, ℕ, ℤ, pos, negsuc, suc, ◌^◌, Bool, true, false, ◌&&◌, List, [], ◌∷◌, ◌++◌, length, map, take, drop, All, refl, ap, ◌∙◌, arith, codes, cond, length-append, Some, Ok, not, ◌==◌, if◌then◌else◌, nat_eq, nat_le, nat_lt}
 use Rattle.std.specs.Fmt.{signed_decimal}
 use Rattle.std.specs.List.{after_first, before_first, join_with_byte, list_all, onto_first, position_or_len, slice_split}
-use Rattle.std.proofs.lemmas.List.{append-nil, length-map}
+use Rattle.std.proofs.lemmas.List.{length-map}
 use Rattle.std.proofs.lemmas.List.Elements.{All-head, All-tail}
 use Rattle.std.proofs.lemmas.Bool.Decides.{nat_tests}
 use Rattle.lemmas.proofs.{both_true}
 use lib.Signed.{mag}
 use Rattle.rdf_values.proofs.OneText.{integer_of_text}
-use Rattle.rdf_values.specs.{AreColumns, cells_from, ColType, Column, column_of, ends_in_cut, field_count, FitRows, FitsColumn, FitsRow, Has64Bits, has_name, Header, header_from, integer_of, integers_of, is_colon, is_cut, is_name, is_semicolon, IsStored, IsTable, MarkedRow, marks_from, next_column, row_of, rows_from, same, table_of, TableCause, TableView, type_of, Value, vector_of, with_column}
+use Rattle.rdf_values.specs.{AreColumns, cells_from, ColType, Column, column_of, ends_in_cut, FitRows, FitsColumn, FitsRow, Has64Bits, has_name, header_from, integer_of, integers_of, is_colon, is_cut, is_name, is_semicolon, IsStored, IsTable, MarkedRow, marks_from, next_column, row_of, rows_from, same, table_of, TableView, type_of, Value, vector_of}
 use Rattle.rdf_values.specs.TableText.{cell_of}
 use Rattle.snapshot_text.specs.{AreNamed, cell_field, column_field, kind_word}
 use Rattle.snapshot_text.proofs.Plain.{AllNumerals, Numeral, Wordy, name_bytes, number_numeral, number_some}

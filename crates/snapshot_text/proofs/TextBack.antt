@@ -1,5 +1,5 @@
 -- A table's text reads as the table.
-use Rattle.std.proofs.Common.{◌≡◌, ◌≤◌, ◌<◌, ℕ, Bool, true, false, ◌&&◌, List, [], ◌∷◌, ◌++◌, length, map, flat_map, All, refl, ap, ap₂, sym, subst, ◌∙◌, arith, length-append, Ok}
+use Rattle.std.proofs.Common.{◌≡◌, ◌≤◌, ◌<◌, ℕ, Bool, true, ◌&&◌, List, [], ◌∷◌, ◌++◌, length, map, refl, ap, ap₂, subst, ◌∙◌, arith, length-append}
 use Rattle.std.specs.Fmt.{signed_decimal}
 use Rattle.std.specs.List.{join_with_byte, list_all}
 use Rattle.std.proofs.lemmas.Grind.{flat_map-append}
@@ -9,9 +9,9 @@ use Rattle.lemmas.proofs.{both_true}
 use Rattle.csv.specs.Writing.{default_writer, row_text}
 use Rattle.csv.proofs.RoundTrip.{rows_text}
 use Rattle.table_csv.specs.{csv_records}
-use Rattle.rdf_values.specs.{ColType, Column, FitRows, FitsColumn, FitsRow, Has64Bits, is_name, IsBounded, IsHeader, IsStored, IsTable, line, table_of, TableView, Value}
+use Rattle.rdf_values.specs.{ColType, Column, FitRows, FitsColumn, FitsRow, Has64Bits, is_name, IsBounded, IsStored, IsTable, table_of, TableView, Value}
 use Rattle.snapshot_text.specs.{AreNamed, cell_field, column_field, entries_text, entry_text, header_text, kind_word, PartsJoin, table_text, TextReadsBack}
-use Rattle.snapshot_text.proofs.Plain.{Above, AllAbove, AllNumerals, Starts, above_joined, name_bytes, number_numeral, number_some, numeral_above, numerals_above, starts_joined, wordy_above}
+use Rattle.snapshot_text.proofs.Plain.{Above, AllAbove, Starts, above_joined, name_bytes, number_numeral, number_some, numeral_above, numerals_above, starts_joined, wordy_above}
 use Rattle.snapshot_text.proofs.RecordsBack.{HaveFields, many_written, none_written, one_written, records_back}
 use Rattle.snapshot_text.proofs.TableBack.{AllStored, all_stored, joined_some, numbers_numerals, table_back}
 use Rattle.rdf_values.proofs.Rows.{fits_length as row_length}
