@@ -56,14 +56,10 @@ module _ (script : List Statement) where
   AllPassed bs rs = AllZip IsPassed bs rs
 
   passes_counted : (b : Booked) (r : ResultRow) → IsPassed b r → length (passes_of script b) ≡ row_passes script r
-  passes_counted b r h = go (has_variations script b.name) ∙ ap (λ n. suc (if has_variations script n then count_of r.set else 0)) (sym h.name)
-    where
-      many : length (varied_passes script b) ≡ count_of r.set
-      many = length-map (filter (λ v. result_depends v b.booking) (variations script)) (λ (v : Variation). record { result = b; under = Some v }) ∙ sym h.varied
-
-      go : (c : Bool) → length {A = Pass} (record { result = b; under = None } ∷ (if c then varied_passes script b else [])) ≡ suc (if c then count_of r.set else 0)
-      go true = ap suc many
-      go false = refl
+  passes_counted b r h =
+      let many : length (varied_passes script b) ≡ count_of r.set =
+      length-map (filter (λ v. result_depends v b.booking) (variations script)) (λ (v : Variation). record { result = b; under = Some v }) ∙ sym h.varied in
+      let name = h.name in grind (arith, many, name)
 
   over_rows : (count : Booking → ℕ) (field : ResultRow → ℕ) → ((b : Booked) (r : ResultRow) → IsPassed b r → field r ≡ count b.booking) → (bs : List Booked) (rs : List ResultRow) → AllPassed bs rs
       → sum_by (λ (r : ResultRow). row_passes script r * field r) rs ≡ over_passes count script bs
