@@ -14,6 +14,7 @@ use Rattle.block_cache.specs.{begun_at, block_job, cells_at, fault_of, held_at, 
 use Rattle.loop_keys.specs.{IsMissingSource, IsSiteOf, job_graph, JobView, key, key_count, keys_before, slot_at, source_at}
 use Rattle.loop_keys.proofs.KeyLaws.{key_below}
 use Rattle.block_cache.specs.declared.wanted.Wanted.{Wanted}
+use Rattle.block_cache.proofs.Wants.{parts_of}
 use Rattle.block_cache.proofs.BegunLanes.{all_grown, all_newly, all_same, own_begun}
 use Rattle.block_cache.proofs.Knowns.{holds_nothing, same_holds}
 use Rattle.block_cache.proofs.Members.{filter_in}
@@ -28,12 +29,11 @@ key_lower g t s w u low inside =
     let p = ap (λ o. keys_before (graph_variations g) (graph_sites g) t + slot_at (graph_variations g) o w) x.1 in
     omega (arith, l, p)
 
-pub get_take : (lanes : List LaneView) (k i : ℕ) → i < k → slice_get (take k lanes) i ≡ slice_get lanes i
-get_take [] zero i low = absurd (omega (arith, low))
+pub get_take : {A : Type 0} (xs : List A) (k i : ℕ) → i < k → slice_get (take k xs) i ≡ slice_get xs i
+get_take xs zero i low = absurd (omega (arith, low))
 get_take [] (suc k) i low = refl
-get_take (l ∷ lanes) zero i low = absurd (omega (arith, low))
-get_take (l ∷ lanes) (suc k) zero low = refl
-get_take (l ∷ lanes) (suc k) (suc i) low = get_take lanes k i (omega (arith, low))
+get_take (x ∷ xs) (suc k) zero low = refl
+get_take (x ∷ xs) (suc k) (suc i) low = get_take xs k i (omega (arith, low))
 
 abbrev MissingSite : JobView → Option ℕ → ℕ → (ℕ → Type 0) → Source → Type 0
 MissingSite j u s Lacks x = (t : ℕ) × IsSiteOf t x × (t < s) × Lacks t
@@ -44,25 +44,14 @@ missing_site j u s lanes p (Source.Site t) h = (t, refl, h.0, holds_nothing (key
 missing_site j u s lanes p (Source.Element t k tags) h = (t, refl, h.0, holds_nothing (key_count (job_graph j)) lanes (key (job_graph j) t u) p h.1)
 
 of_fault : (o : Outcome ℕ Value) (k : EntryFault) → told_stop o ≡ Some (Fault k) → o ≡ Faults k
-of_fault (Gives v) k e = cc e
 of_fault (Faults f) k e = let same : f ≡ k = (let i = same_some e in cc i) in ap Faults same
-of_fault (Needs c) k e = cc e
+of_fault o k e = cc e
 
 module _
     {V : Type 0} {D : V → Type 0} {g : _} (w : Wanted V D g) {group left : List ℕ} {before new : List LaneView} {more : List Stopped} (t : IsTriedFor w group left before new [] more)
     (low : EachPlace group (λ p. p < w.block.now.count)) (lacks : EachPlace group (λ p. holds_at before (own_key w) p ≡ false))
   where
-    abbrev j : JobView
-    j = block_job w.block.now
-
-    abbrev first : ℕ
-    first = w.block.now.at.now.entry
-
-    abbrev u : Option ℕ
-    u = w.block.now.at.now.under
-
-    abbrev keys : ℕ
-    keys = key_count (job_graph j)
+    open parts_of w use {j, first, u, keys}
 
     unknown : EachPlace group (λ p. is_held t.at.own p ≡ false)
     unknown p i = ap (λ o. lane_holds o p) (sym t.at.is_own) ∙ lacks p i

@@ -8,6 +8,7 @@ use Rattle.expr_lanes.specs.{EachPlace, is_in}
 use Rattle.block_cache.specs.{begun_at, begun_count, block_job, cells_at, held_at, held_value, is_held, IsBegunAt, IsBegunFor, IsBrokenOffFor, IsGrownOver, IsLaneSet, IsOnlyCalled, IsSameAt, kinds_of, lane_begun, lane_holds, LaneView, own_key, room_of, rooms_of, tried_count}
 use Rattle.loop_keys.specs.{held_in, is_held as has_held, job_graph, JobView, key, key_count}
 use Rattle.block_cache.specs.declared.wanted.Wanted.{Wanted}
+use Rattle.block_cache.proofs.Wants.{parts_of}
 use Rattle.block_cache.proofs.BlockLaws.{held_of_lane, lane_held}
 use Rattle.block_cache.proofs.Knowns.{holds_is}
 use Rattle.block_cache.proofs.OverLaws.{by_key, held_false, held_true, lane_is, other_is}
@@ -20,20 +21,7 @@ module _
     {V : Type 0} {D : V → Type 0} {g : _} (w : Wanted V D g) {group : List ℕ} {before after : List LaneView} (at : IsLaneSet (own_key w) before after) (begun : IsBegunAt group at.own at.lane)
     (as_was : (p : ℕ) → (is_held at.own p ≡ true) ⊎ (is_in p group ≡ false) → held_at at.own p ≡ held_at at.lane p)
   where
-    abbrev j : JobView
-    j = block_job w.block.now
-
-    abbrev first : ℕ
-    first = w.block.now.at.now.entry
-
-    abbrev u : Option ℕ
-    u = w.block.now.at.now.under
-
-    abbrev keys : ℕ
-    keys = key_count (job_graph j)
-
-    abbrev own : ℕ
-    own = own_key w
+    open parts_of w use {j, first, u, keys, own}
 
     other_same : (k p : ℕ) → (k ≡ own → ⊥) → IsSameAt keys before after k p
     other_same k p n =

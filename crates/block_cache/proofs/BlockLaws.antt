@@ -17,9 +17,8 @@ lane_held None p = Held.Nothing
 lane_held (Some l) p = held_at l p
 
 none_held : (m i : ℕ) → get_or (replicate m Held.Nothing) i Held.Nothing ≡ Held.Nothing
-none_held zero i = refl
-none_held (suc m) zero = refl
 none_held (suc m) (suc i) = none_held m i
+none_held m i = refl
 
 held_then : (m : ℕ) (lanes : List LaneView) (p i : ℕ) → get_or (map (λ (l : LaneView). held_at l p) lanes ++ replicate m Held.Nothing) i Held.Nothing ≡ lane_held (slice_get lanes i) p
 held_then m [] p i = none_held m i
@@ -40,9 +39,8 @@ cells_long n lanes p few = omega (arith, long_then (n - length lanes) lanes p)
 
 taken : (lanes : List LaneView) (k i p : ℕ) (h : Held) (P : Held → Type 0) → P Held.Nothing → P (lane_held (slice_get lanes i) p) → P (lane_held (slice_get (take k lanes) i) p)
 taken lanes zero i p h P none is = none
-taken [] (suc k) i p h P none is = is
-taken (l ∷ lanes) (suc k) zero p h P none is = is
 taken (l ∷ lanes) (suc k) (suc i) p h P none is = taken lanes k i p h P none is
+taken lanes (suc k) i p h P none is = is
 
 -- what is held of them is right
 pub sound_below : (j : JobView) (entry n k p : ℕ) (lanes : List LaneView) → IsSound j entry (cells_at n lanes p) → IsSound j entry (cells_at n (take k lanes) p)
@@ -61,18 +59,15 @@ sound_alike j entry a b same sound = record { each = λ u s inside. subst (λ (h
 
 pub value_held : (v : Value) → has_held (held_value v) ≡ true
 value_held (Value.Int z) = refl
-value_held (Value.Bool b) = refl
-value_held (Value.Vect zs) = refl
+value_held v = refl
 
 pub value_told : (c : ℕ) (v : Value) → held_or_need c (held_value v) ≡ Gives v
 value_told c (Value.Int z) = refl
-value_told c (Value.Bool b) = refl
-value_told c (Value.Vect zs) = refl
+value_told c v = refl
 
 pub right_value : (o : Outcome ⊥ Value) (v : Value) → IsRight o (held_value v) → o ≡ Gives v
 right_value o (Value.Int z) h = sym h
-right_value o (Value.Bool b) h = sym h
-right_value o (Value.Vect zs) h = sym h
+right_value o v h = sym h
 
 module _ (j : JobView) (job : IsJob j) (entry : ℕ) (u : Option ℕ) (cells : List Held) (sound : IsSound j entry cells) (s : ℕ) (e : CheckedExpr) (its : IsSiteExpr (job_graph j) s e) where
   abbrev looked : Outcome ℕ Value
@@ -94,5 +89,4 @@ module _ (j : JobView) (job : IsJob j) (entry : ℕ) (u : Option ℕ) (cells : L
 
 pub given_right : (o : Outcome ⊥ Value) (v : Value) → o ≡ Gives v → IsRight o (held_value v)
 given_right o (Value.Int z) h = sym h
-given_right o (Value.Bool b) h = sym h
-given_right o (Value.Vect zs) h = sym h
+given_right o v h = sym h

@@ -15,9 +15,8 @@ use Rattle.expr_lanes.specs.{depth}
 use Rattle.block_cache.specs.{AreSiteKinds, CanFill, IsLoaded, IsRankedBelow}
 
 known_never : (o : Outcome ⊥ Value) → is_need (with_needs {M = ℕ} o) ≡ true → ⊥
-known_never (Gives v) e = cc e
-known_never (Faults k) e = cc e
 known_never (Needs m) e = elim m [ ]
+known_never o e = cc e
 
 -- what holds of each column of an expression holds of each that its evaluation meets
 pub met_each : (j : JobView) (job : IsJob j) (entry : ℕ) (u : Option ℕ) (s c : ℕ) (P : ℕ → Type 0) (met : MeetsAt j entry u s c) → EachColumn P met.0.tree → P c
@@ -75,13 +74,11 @@ falls_by_number j job u s x at =
   where
     lower : (src : Source) → IsBelow (length j.dataset.columns) s src → IsRankedBelow (λ n. n) s src
     lower (Source.Cell col) below = tt
-    lower (Source.Site t) below = below
-    lower (Source.Element t k tags) below = below
+    lower x below = below
 
-in_all : (x : Source) → IsSourceIn (λ t. true) x
+pub in_all : (x : Source) → IsSourceIn (λ t. true) x
 in_all (Source.Cell col) = tt
-in_all (Source.Site t) = refl
-in_all (Source.Element t k tags) = refl
+in_all x = refl
 
 -- each site can be filled, with vectors or without, where the levels of scratch are enough for each expression, the columns are there, and
 -- there is a level for each site

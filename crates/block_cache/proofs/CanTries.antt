@@ -7,24 +7,22 @@ use Rattle.expr_check.specs.{CheckedExpr, distinct}
 use Rattle.expr_lanes.specs.{depth}
 use Rattle.graph_numbers.specs.{graph_sites, graph_under, GraphView, IsBelow, IsSiteExpr, SiteAt, Source, version_count}
 use Rattle.graph_numbers.proofs.Equations.{columns_below}
-use Rattle.graph_numbers.proofs.Meeting.{In, here, there as further, each_at}
+use Rattle.graph_numbers.proofs.Listed.{by_test}
+use Rattle.graph_numbers.proofs.Meeting.{In, here, there as further, each_at, in_joined, in_left}
 use Rattle.block_cache.specs.{AreReadyOver, block_job, CanFillFor, HasLane, HasSource, IsLoaded, IsTriable, kinds_of, LaneView}
 use Rattle.loop_keys.specs.{job_graph, JobView, key, source_at}
 use Rattle.loop_keys.proofs.EvaluateLaws.{accepted_of}
 use Rattle.loop_keys.proofs.KeyLaws.{key_small}
 use Rattle.block_cache.specs.declared.wanted.Wanted.{Wanted}
+use Rattle.block_cache.proofs.Wants.{parts_of}
 use Rattle.block_cache.proofs.Attempts.{get_take, key_lower}
 
 -- ---- the columns of an expression
 
-kept_or_not : {A : Type 0} (x y : A) (xs ys : List A) (b : Bool) → In x (if b then y ∷ ys else ys) → (In x ys → In x xs) → In x (y ∷ xs)
-kept_or_not x y xs ys true here next = here
-kept_or_not x y xs ys true (further k) next = further (next k)
-kept_or_not x y xs ys false k next = further (next k)
-
 of_filter : {A : Type 0} {x : A} (p : A → Bool) (xs : List A) → In x (filter p xs) → In x xs
 of_filter p [] h = h
-of_filter {x = x} p (y ∷ xs) h = kept_or_not x y xs (filter p xs) (p y) h (of_filter p xs)
+of_filter p (y ∷ xs) h =
+    by_test (p y) (λ e. in_joined (y ∷ []) (filter p xs) (rw e at h) (in_left (y ∷ []) xs) (λ k. further (of_filter p xs k))) (λ e. further (of_filter p xs (rw e at h)))
 
 of_distinct : {n : ℕ} (xs : List ℕ) → In n (distinct xs) → In n xs
 of_distinct [] h = h
@@ -57,23 +55,8 @@ module _
     {V : Type 0} {D : V → Type 0} {g : _} (w : Wanted V D g) {lanes : List LaneView} (ready : AreReadyOver w.block.now lanes) {scratch levels : ℕ} (can : CanFillFor w (kinds_of lanes) scratch levels)
     (e : CheckedExpr) (its : IsSiteExpr (job_graph (block_job w.block.now)) w.site e)
   where
-    abbrev j : JobView
-    j = block_job w.block.now
-
-    abbrev first : ℕ
-    first = w.block.now.at.now.entry
-
-    abbrev u : Option ℕ
-    u = w.block.now.at.now.under
-
-    abbrev count : ℕ
-    count = w.block.now.count
-
-    abbrev s : ℕ
-    s = w.site
-
-    abbrev cells : List (List ℤ)
-    cells = w.block.now.cells.now
+    open parts_of w use {j, first, u, count, s}
+    open w.block.now.cells use {now as cells}
 
     counted : (l : LaneView) (k : ℕ) → slice_get lanes k ≡ Some l → k < length lanes → l.count ≡ count
     counted l k at among = ap (λ (y : LaneView). y.count) (sym (get_or_from_slice_get lanes k l l at)) ∙ ready.counts k l among

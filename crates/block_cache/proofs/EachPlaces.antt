@@ -21,44 +21,32 @@ set_mark false = refl
 -- is read back as the value
 pub read_back : (k : ColType) (vectors : List (List ℤ)) (v : Value) (z : ℤ) → FitsKind k v → IsNumberOf vectors v z → value_for k vectors z ≡ v
 read_back ColType.Int vectors (Value.Int x) z fits is = ap Value.Int is
-read_back ColType.Int vectors (Value.Bool b) z fits is = elim fits [ ]
-read_back ColType.Int vectors (Value.Vect xs) z fits is = elim fits [ ]
-read_back ColType.Bool vectors (Value.Int x) z fits is = elim fits [ ]
 read_back ColType.Bool vectors (Value.Bool b) z fits is = ap (λ y. Value.Bool (is_set y)) is ∙ ap Value.Bool (set_mark b)
-read_back ColType.Bool vectors (Value.Vect xs) z fits is = elim fits [ ]
-read_back ColType.Vect vectors (Value.Int x) z fits is = elim fits [ ]
-read_back ColType.Vect vectors (Value.Bool b) z fits is = elim fits [ ]
 read_back ColType.Vect vectors (Value.Vect xs) z fits is = ap Value.Vect is.1
+read_back k vectors v z fits is = elim fits [ ]
 
 pub is_there : (k : ColType) (vectors : List (List ℤ)) (v : Value) (z : ℤ) → FitsKind k v → IsNumberOf vectors v z → HasNumbered k vectors z
-is_there ColType.Int vectors v z fits is = tt
-is_there ColType.Bool vectors v z fits is = tt
-is_there ColType.Vect vectors (Value.Int x) z fits is = elim fits [ ]
-is_there ColType.Vect vectors (Value.Bool b) z fits is = elim fits [ ]
 is_there ColType.Vect vectors (Value.Vect xs) z fits is = is.0
+is_there ColType.Vect vectors v z fits is = elim fits [ ]
+is_there k vectors v z fits is = tt
 
 pub number_read : (k : ColType) (vectors : List (List ℤ)) (v : Value) (z : ℤ) → is_vector k ≡ false → FitsKind k v → IsNumberOf vectors v z → lane_number v ≡ z
-number_read k vectors (Value.Int x) z scalar fits is = sym is
-number_read k vectors (Value.Bool b) z scalar fits is = sym is
-number_read ColType.Int vectors (Value.Vect xs) z scalar fits is = elim fits [ ]
-number_read ColType.Bool vectors (Value.Vect xs) z scalar fits is = elim fits [ ]
 number_read ColType.Vect vectors (Value.Vect xs) z scalar fits is = cc scalar
+number_read k vectors (Value.Vect xs) z scalar fits is = elim fits [ ]
+number_read k vectors v z scalar fits is = sym is
 
 -- among more vectors it is the same
 number_more : (vectors more : List (List ℤ)) (v : Value) (z : ℤ) → AreKept vectors more → IsNumberOf vectors v z → IsNumberOf more v z
-number_more vectors more (Value.Int x) z kept is = is
-number_more vectors more (Value.Bool b) z kept is = is
 number_more vectors more (Value.Vect xs) z kept is = let k = kept _ is.0 in (k.0, k.1 ∙ is.1)
+number_more vectors more v z kept is = is
 
 pub value_more : (k : ColType) (vectors more : List (List ℤ)) (z : ℤ) → AreKept vectors more → HasNumbered k vectors z → value_for k more z ≡ value_for k vectors z
-value_more ColType.Int vectors more z kept there = refl
-value_more ColType.Bool vectors more z kept there = refl
 value_more ColType.Vect vectors more z kept there = ap Value.Vect (kept _ there).1
+value_more k vectors more z kept there = refl
 
 pub there_more : (k : ColType) (vectors more : List (List ℤ)) (z : ℤ) → AreKept vectors more → HasNumbered k vectors z → HasNumbered k more z
-there_more ColType.Int vectors more z kept there = tt
-there_more ColType.Bool vectors more z kept there = tt
 there_more ColType.Vect vectors more z kept there = (kept _ there).0
+there_more k vectors more z kept there = tt
 
 number_moved : (k : ColType) (o : Outcome ℕ Value) (vectors more : List (List ℤ)) (a b : ℤ) → AreKept vectors more → b ≡ a → HasNumber k o vectors a → HasNumber k o more b
 number_moved k o vectors more a b kept same h = record { value = h.value; gives = h.gives; fits = h.fits; numbered = number_more vectors more h.value b kept (subst (λ (z : ℤ). IsNumberOf vectors h.value z) (sym same) h.numbered) }
@@ -77,8 +65,7 @@ module _ (f : ℕ → Outcome ℕ Value) where
 
 one_stop : (o : Outcome ℕ Value) (q : ℕ) → length (with_stop q o []) ≤ 1
 one_stop (Gives v) q = omega arith
-one_stop (Faults k) q = omega arith
-one_stop (Needs c) q = omega arith
+one_stop o q = omega arith
 
 pub times_append : (t : Stopped → Bool) (xs ys : List Stopped) → times t (xs ++ ys) ≡ times t xs + times t ys
 times_append t [] ys = omega arith

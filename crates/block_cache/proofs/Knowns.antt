@@ -2,6 +2,7 @@
 use Rattle.std.proofs.Common.{if◌then◌else◌, ◌≡◌, ◌<◌, ◌+◌, not, ℕ, Bool, true, false, List, length, Option, Some, None, refl, sym, ◌∙◌, ap, subst, slice_get, get_or}
 use Rattle.std.specs.List.{filter}
 use Rattle.std.proofs.lemmas.Option.{slice_get-get_or}
+use Rattle.lemmas.proofs.{never_true}
 use Rattle.rdf_values.specs.{Value}
 use Rattle.rdf_model.specs.{fault_in, Gives}
 use Rattle.graph_numbers.specs.{graph_sites}
@@ -37,11 +38,7 @@ holds_on n a b k p grows holds = let was = holds_is n a k p ∙ holds in sym (ho
 
 -- what is held by one and the other
 pub lacks_before : (n : ℕ) (a b : List LaneView) (k p : ℕ) → Grows (cells_at n a p) (cells_at n b p) → holds_at b k p ≡ false → holds_at a k p ≡ false
-lacks_before n a b k p grows lacks = go (holds_at a k p) refl
-  where
-    go : (c : Bool) → holds_at a k p ≡ c → c ≡ false
-    go true h = absurd (cc (lacks, holds_on n a b k p grows h))
-    go false h = refl
+lacks_before n a b k p grows lacks = never_true (holds_at a k p) (λ h. cc (lacks, holds_on n a b k p grows h))
 
 -- a held value is the site's
 module _ (j : JobView) (first : ℕ) (u : Option ℕ) (count s : ℕ) (inside : s < length (graph_sites (job_graph j))) (lanes : List LaneView) (ready : AreReady j first count lanes) (p : ℕ) (low : p < count) where

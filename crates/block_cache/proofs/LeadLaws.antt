@@ -11,11 +11,12 @@ use Rattle.expr_lanes.specs.{AreRising, EachPlace, is_in, IsSelected}
 use Rattle.graph_numbers.proofs.Equations.{columns_below}
 use Rattle.graph_numbers.proofs.Extending.{versions_count}
 use Rattle.graph_numbers.specs.{graph_sites, graph_under, graph_versions, IsBelow, IsSiteExpr, SiteAt, Source, version_count}
-use Rattle.block_cache.specs.{AreReadyOver, below_fault, block_graph, block_job, CanFill, CanFillFor, first_read, first_read_in, found_or, holds_at, is_below, IsFaultOf, IsFilledFor, IsFilledTo, IsGrownOver, IsLeadFor, IsRankedBelow, IsSameAt, IsSpentFor, IsSpentOver, key_over, LaneView, own_key, PlaceFault, site_fault}
+use Rattle.block_cache.specs.{AreReadyOver, below_fault, block_graph, block_job, CanFill, CanFillFor, first_read, first_read_in, found_or, holds_at, is_below, IsFaultOf, IsFilledFor, IsFilledTo, IsGrownOver, IsLeadFor, IsOnlyCalled, IsRankedBelow, IsSpentFor, IsSpentOver, key_over, LaneView, own_key, PlaceFault, site_fault}
 use Rattle.loop_keys.specs.{ArePlain, IsJob, IsSiteOf, job_graph, JobView, key, key_count, MeetsAt, Place, place_of, site_in, source_at, version_in}
 use Rattle.loop_keys.proofs.EvaluateLaws.{accepted_of}
 use Rattle.loop_keys.proofs.KeyLaws.{key_small}
 use Rattle.block_cache.specs.declared.wanted.Wanted.{Wanted}
+use Rattle.block_cache.proofs.Wants.{parts_of}
 use Rattle.block_cache.proofs.CanFills.{can_below, falls_by_number, met_each, met_used, ranked}
 use Rattle.block_cache.proofs.CanTries.{site_tree}
 use Rattle.block_cache.proofs.GrownLaws.{grown_below, grown_on}
@@ -27,35 +28,28 @@ use Rattle.block_cache.proofs.UnderwayLaws.{below_both, below_found, fault_lift,
 -- ---- where what is read stands
 
 pub key_site : (f : ℕ → ℕ) (x : Source) (k : ℕ) → place_of f x ≡ Place.Key k → (t : ℕ) × IsSiteOf t x × (k ≡ f t)
-key_site f (Source.Cell col) k e = cc e
 key_site f (Source.Site s) k e = (s, refl, cc e)
-key_site f (Source.Element s i n) k e = cc e
+key_site f x k e = cc e
 
 pub element_site : (f : ℕ → ℕ) (x : Source) (k i n : ℕ) → place_of f x ≡ Place.Element k i n → (t : ℕ) × IsSiteOf t x × (k ≡ f t)
-element_site f (Source.Cell col) k i n e = cc e
-element_site f (Source.Site s) k i n e = cc e
 element_site f (Source.Element s a b) k i n e = (s, refl, cc e)
+element_site f x k i n e = cc e
 
 -- ---- what is read first is met
 
 bind_needs : {M A B : Type 0} (o : Outcome M A) (f : A → Outcome M B) → is_need o ≡ true → is_need (o >>= f) ≡ true
-bind_needs (Gives a) f h = cc h
-bind_needs (Faults k) f h = cc h
 bind_needs (Needs m) f h = refl
+bind_needs o f h = cc h
 
 operation_needs : {M : Type 0} (o : BinOp) (l r : Outcome M Value) → is_need l ≡ true → is_need (operation o l r) ≡ true
-operation_needs o (Gives a) r h = cc h
-operation_needs o (Faults k) r h = cc h
 operation_needs BinOp.And (Needs m) r h = refl
-operation_needs BinOp.Or (Needs m) r h = refl
 operation_needs o (Needs m) r h = refl
+operation_needs o l r h = cc h
 
 behind_needs : {M : Type 0} (o : BinOp) (z : ℤ) (r : Outcome M Value) → is_need r ≡ true → is_need (operation o (Gives (Value.Int z)) r) ≡ true
-behind_needs o z (Gives a) h = cc h
-behind_needs o z (Faults k) h = cc h
 behind_needs BinOp.And z (Needs m) h = refl
-behind_needs BinOp.Or z (Needs m) h = refl
 behind_needs o z (Needs m) h = refl
+behind_needs o z r h = cc h
 
 module _ {M F : Type 0} (look : ℕ → Outcome M Value) (call : F → List Value → Outcome M Value) (c : ℕ) (missing : is_need (look c) ≡ true) where
   mutual
@@ -66,14 +60,7 @@ module _ {M F : Type 0} (look : ℕ → Outcome M Value) (call : F → List Valu
     first_needs (Neg a) h = bind_needs (evaluate look call a) _ (first_needs a h)
     first_needs (Not a) h = bind_needs (evaluate look call a) _ (first_needs a h)
     first_needs (Bin o (Lit z) b) h = behind_needs o z (evaluate look call b) (first_needs b h)
-    first_needs (Bin o (Truth z) b) h = cc h
-    first_needs (Bin o (Col d) b) h = operation_needs o (evaluate look call (Col d)) (evaluate look call b) (first_needs (Col d) h)
-    first_needs (Bin o (Neg a) b) h = operation_needs o (evaluate look call (Neg a)) (evaluate look call b) (first_needs (Neg a) h)
-    first_needs (Bin o (Not a) b) h = operation_needs o (evaluate look call (Not a)) (evaluate look call b) (first_needs (Not a) h)
-    first_needs (Bin o (Bin p a d) b) h = operation_needs o (evaluate look call (Bin p a d)) (evaluate look call b) (first_needs (Bin p a d) h)
-    first_needs (Bin o (Cond a d e) b) h = operation_needs o (evaluate look call (Cond a d e)) (evaluate look call b) (first_needs (Cond a d e) h)
-    first_needs (Bin o (Pick a d) b) h = operation_needs o (evaluate look call (Pick a d)) (evaluate look call b) (first_needs (Pick a d) h)
-    first_needs (Bin o (Call f args) b) h = operation_needs o (evaluate look call (Call f args)) (evaluate look call b) (first_needs (Call f args) h)
+    first_needs (Bin o a b) h = operation_needs o (evaluate look call a) (evaluate look call b) (first_needs a h)
     first_needs (Cond a d e) h = bind_needs (evaluate look call a) _ (first_needs a h)
     first_needs (Pick v i) h = bind_needs (evaluate look call v) _ (first_needs v h)
     first_needs (Call f args) h = bind_needs (evaluate_all look call args) _ (first_needs_in args h)
@@ -82,13 +69,7 @@ module _ {M F : Type 0} (look : ℕ → Outcome M Value) (call : F → List Valu
     first_needs_in End h = cc h
     first_needs_in (More (Lit z) rest) h = bind_needs (evaluate_all look call rest) _ (first_needs_in rest h)
     first_needs_in (More (Truth z) rest) h = cc h
-    first_needs_in (More (Col d) rest) h = bind_needs (evaluate look call (Col d)) _ (first_needs (Col d) h)
-    first_needs_in (More (Neg a) rest) h = bind_needs (evaluate look call (Neg a)) _ (first_needs (Neg a) h)
-    first_needs_in (More (Not a) rest) h = bind_needs (evaluate look call (Not a)) _ (first_needs (Not a) h)
-    first_needs_in (More (Bin p a d) rest) h = bind_needs (evaluate look call (Bin p a d)) _ (first_needs (Bin p a d) h)
-    first_needs_in (More (Cond a d e) rest) h = bind_needs (evaluate look call (Cond a d e)) _ (first_needs (Cond a d e) h)
-    first_needs_in (More (Pick a d) rest) h = bind_needs (evaluate look call (Pick a d)) _ (first_needs (Pick a d) h)
-    first_needs_in (More (Call f args) rest) h = bind_needs (evaluate look call (Call f args)) _ (first_needs (Call f args) h)
+    first_needs_in (More a rest) h = bind_needs (evaluate look call a) _ (first_needs a h)
 
 met_first : (j : JobView) (entry : ℕ) (u : Option ℕ) (s : ℕ) (x : SiteAt) (c : ℕ) → slice_get (graph_sites (job_graph j)) s ≡ Some x → first_read x.tree ≡ Some c → MeetsAt j entry u s c
 met_first j entry u s x c at reads = (x, at, first_needs (without nat_eq c (version_in {M = ℕ} j entry u)) (call_outcome j.dataset.fns) c gone x.tree reads)
@@ -126,12 +107,10 @@ held_filled w {sel = sel} {lanes = lanes} ready selected holds = record {
 
 -- more places may be named
 wider : (j : JobView) (first : ℕ) (u : Option ℕ) (s : ℕ) (group sel : List ℕ) (a b : List LaneView) → EachPlace group (λ p. is_in p sel ≡ true) → IsGrownOver j first u s group a b → IsGrownOver j first u s sel a b
-wider j first u s group sel a b sub h = record { kinds = h.kinds; rooms = h.rooms; stays = h.stays; grows = h.grows; only = λ D each k p. go D k p (h.only D (λ q i. each q (sub q i)) k p) }
+wider j first u s group sel a b sub h = record { kinds = h.kinds; rooms = h.rooms; stays = h.stays; grows = h.grows; only = only }
   where
-    go : (D : ℕ → ℕ → Bool) (k p : ℕ) → IsSameAt (key_count (job_graph j)) a b k p ⊎ ((is_in p group ≡ true) × ((r : ℕ) × (r ≤ s) × (D p r ≡ true) × (k ≡ key (job_graph j) r u)))
-        → IsSameAt (key_count (job_graph j)) a b k p ⊎ ((is_in p sel ≡ true) × ((r : ℕ) × (r ≤ s) × (D p r ≡ true) × (k ≡ key (job_graph j) r u)))
-    go D k p (inl x) = inl x
-    go D k p (inr x) = inr (sub p x.0, x.1)
+    only : IsOnlyCalled j first u s sel a b
+    only D each k p = elim (h.only D (λ q i. each q (sub q i)) k p) [ inl x ↦ inl x | inr x ↦ inr (sub p x.0, x.1) ]
 
 -- of two limits the lower one counts
 lower_here : (x : ℕ) (xs : List ℕ) (m n : ℕ) → m ≤ n → filter (λ q. nat_lt q m) (filter (λ q. nat_lt q n) xs) ≡ filter (λ q. nat_lt q m) xs → (b : Bool) → nat_lt x n ≡ b → (c : Bool) → nat_lt x m ≡ c
@@ -147,23 +126,7 @@ lower_filter (x ∷ xs) m n le = lower_here x xs m n le (lower_filter xs m n le)
 -- ---- the site that is filled before
 
 module _ {V : Type 0} {D : V → Type 0} {g : _} (w : Wanted V D g) (t : ℕ) (lead : IsLeadFor w t) where
-  abbrev j : JobView
-  j = block_job w.block.now
-
-  abbrev job : IsJob j
-  job = w.block.now.fits.job
-
-  abbrev first : ℕ
-  first = w.block.now.at.now.entry
-
-  abbrev u : Option ℕ
-  u = w.block.now.at.now.under
-
-  abbrev count : ℕ
-  count = w.block.now.count
-
-  abbrev s : ℕ
-  s = w.site
+  open parts_of w use {j, job, first, u, count, s}
 
   -- it is a lower one
   pub lead_lower : t < s
@@ -206,7 +169,7 @@ module _ {V : Type 0} {D : V → Type 0} {g : _} (w : Wanted V D g) (t : ℕ) (l
         pub led_spent : IsSpentFor w sel before after start end
         led_spent = record {
           grown = grown_on j first u s sel before mid after led_begun.grown (wider j first u s left sel mid after left_in spent'.grown);
-          cost = (let a = spent.cost in let b = spent'.cost in omega (arith, a, b));
+          cost = omega (arith, spent.cost, spent'.cost);
         }
 
         module _ (rising : AreRising sel) (selected : IsSelected count sel []) {last : List ℕ} {found : Option PlaceFault} (filled' : IsFilledFor w left last after found) where

@@ -41,17 +41,15 @@ no_more count a b h = fewer (range_with_len 0 count) (is_tried a) (is_tried b) h
 
 still : (a b : List LaneView) (count : ℕ) → length b ≡ length a → ((k p : ℕ) → begun_at a k p ≡ true → begun_at b k p ≡ true) → left_to_begin count b ≤ left_to_begin count a
 still [] [] count long h = omega arith
-still [] (y ∷ b) count long h = absurd (omega (arith, long))
-still (x ∷ a) [] count long h = absurd (omega (arith, long))
 still (x ∷ a) (y ∷ b) count long h =
     omega (arith, sum_by-cons (lane_left count) x a, sum_by-cons (lane_left count) y b, no_more count x y (h 0), still a b count (omega (arith, long)) (λ k. h (suc k)))
+still a b count long h = absurd (omega (arith, long))
 
 -- one more was begun
 pub less_left : (a b : List LaneView) (k p count : ℕ) → length b ≡ length a → ((k p : ℕ) → begun_at a k p ≡ true → begun_at b k p ≡ true) → p < count → begun_at a k p ≡ false → begun_at b k p ≡ true → left_to_begin count b < left_to_begin count a
 less_left [] [] k p count long h low was now = cc now
-less_left [] (y ∷ b) k p count long h low was now = absurd (omega (arith, long))
-less_left (x ∷ a) [] k p count long h low was now = absurd (omega (arith, long))
 less_left (x ∷ a) (y ∷ b) zero p count long h low was now =
     omega (arith, sum_by-cons (lane_left count) x a, sum_by-cons (lane_left count) y b, strictly (range_with_len 0 count) (is_tried x) (is_tried y) p (h 0) (first_in_range count p low) was now, still a b count (omega (arith, long)) (λ k. h (suc k)))
 less_left (x ∷ a) (y ∷ b) (suc k) p count long h low was now =
     omega (arith, sum_by-cons (lane_left count) x a, sum_by-cons (lane_left count) y b, no_more count x y (h 0), less_left a b k p count (omega (arith, long)) (λ k. h (suc k)) low was now)
+less_left a b k p count long h low was now = absurd (omega (arith, long))

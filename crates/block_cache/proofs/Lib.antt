@@ -22,4 +22,5 @@ pub mod StopLists
 pub mod TableVectors
 pub mod UnderwayLaws
 pub mod VectorLists
+pub mod Wants
 pub mod WholeMarks

@@ -17,8 +17,7 @@ module _ {M : Type 0} (k : EntryFault) where
 
   bind_same : {A B : Type 0} (o : Outcome M A) (f h : A → Outcome M B) → ((a : A) → Stands (f a) (h a)) → Stands (o >>= f) (o >>= h)
   bind_same (Gives a) f h n = n a
-  bind_same (Faults e) f h n = same
-  bind_same (Needs d) f h n = same
+  bind_same o f h n = same
 
   bind_stands : {A B : Type 0} {o o' : Outcome M A} (f h : A → Outcome M B) → Stands o o' → ((a : A) → Stands (f a) (h a)) → Stands (o >>= f) (o' >>= h)
   bind_stands {o = o} f h same n = bind_same o f h n
@@ -29,12 +28,10 @@ module _ {M : Type 0} (k : EntryFault) where
 
   operation_needs : (o : BinOp) (d : M) (p : Outcome M Value) → operation o (Needs d) p ≡ Needs d
   operation_needs BinOp.And d p = refl
-  operation_needs BinOp.Or d p = refl
   operation_needs o d p = refl
 
   operation_faults : (o : BinOp) (e : EntryFault) (p : Outcome M Value) → operation o (Faults e) p ≡ Faults e
   operation_faults BinOp.And e p = refl
-  operation_faults BinOp.Or e p = refl
   operation_faults o e p = refl
 
   operation_same : (o : BinOp) (l p p' : Outcome M Value) → Stands p p' → Stands (operation o l p) (operation o l p')
@@ -52,8 +49,7 @@ module _ {M : Type 0} (k : EntryFault) where
   chosen_side_stands : (v : Value) {a a' b b' : Outcome M Value} → Stands a a' → Stands b b' → Stands (chosen_side v a b) (chosen_side v a' b')
   chosen_side_stands (Value.Bool true) c e = c
   chosen_side_stands (Value.Bool false) c e = e
-  chosen_side_stands (Value.Int z) c e = same
-  chosen_side_stands (Value.Vect zs) c e = same
+  chosen_side_stands v c e = same
 
   module _ {C F : Type 0} (look look' : C → Outcome M Value) (call : F → List Value → Outcome M Value) (each : (c : C) → Stands (look c) (look' c)) where
     mutual
@@ -77,9 +73,8 @@ needs_fault k o p same n m = absurd (cc (n, m))
 needs_fault k o p stood n m = refl
 
 never_need : (o : Outcome ⊥ Value) → is_need (with_needs {M = ℕ} o) ≡ false
-never_need (Gives a) = refl
-never_need (Faults k) = refl
 never_need (Needs m) = elim m [ ]
+never_need o = refl
 
 fault_of_known : (k : EntryFault) (o : Outcome ⊥ Value) → with_needs {M = ℕ} o ≡ Faults k → o ≡ Faults k
 fault_of_known k (Gives a) e = cc e

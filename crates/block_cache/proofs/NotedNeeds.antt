@@ -67,11 +67,10 @@ noted_at_fault stops before needs i d after inside so_far fault same =
 -- ---- marks of those that wait for another version
 
 pub marked_more : (places : List ℕ) (q : ℕ) (marks : List Bool) (f : ℕ → Bool) → EachPlace places (λ p. is_marked marks p ≡ f p) → q < length marks → EachPlace (places ++ q ∷ []) (λ p. is_marked (set marks q (f q)) p ≡ f p)
-marked_more places q marks f so_far inside p h = go (in_more p q places h)
-  where
-    go : (p ≡ q) ⊎ ((p ≡ q → ⊥) × (is_in p places ≡ true)) → is_marked (set marks q (f q)) p ≡ f p
-    go (inl e) = ap (is_marked (set marks q (f q))) e ∙ get_or-set_same marks q (f q) false inside ∙ ap f (sym e)
-    go (inr k) = get_or-set_other marks q p (f q) false k.0 ∙ so_far p k.1
+marked_more places q marks f so_far inside p h = elim (in_more p q places h) [
+  | inl e ↦ ap (is_marked (set marks q (f q))) e ∙ get_or-set_same marks q (f q) false inside ∙ ap f (sym e)
+  | inr k ↦ get_or-set_other marks q p (f q) false k.0 ∙ so_far p k.1
+]
 
 pub marked_at : (places : List ℕ) (i : ℕ) (marks : List Bool) (f : ℕ → Bool) → i < length places → EachPlace (take i places) (λ p. is_marked marks p ≡ f p) → get_or places i 0 < length marks → EachPlace (take (i + 1) places) (λ p. is_marked (set marks (get_or places i 0) (f (get_or places i 0))) p ≡ f p)
 marked_at places i marks f inside so_far room p h = marked_more (take i places) (get_or places i 0) marks f so_far room p (subst (λ (l : List ℕ). is_in p l ≡ true) (take_more places i 0 inside) h)

@@ -18,16 +18,15 @@ use Rattle.loop_keys.proofs.ColumnLaws.{can_evaluate}
 use Rattle.loop_keys.proofs.FillLaws.{written}
 use Rattle.loop_keys.proofs.KeyLaws.{key_small}
 use Rattle.block_cache.specs.declared.wanted.Wanted.{Wanted}
+use Rattle.block_cache.proofs.Wants.{parts_of}
 use Rattle.block_cache.proofs.BlockLaws.{cells_long, given_right, held_of_lane, lane_held, sound_alike, sound_below, tells, value_held}
 
 -- ---- a lane that is written
 
 get_other : (lanes : List LaneView) (k i : ℕ) (l : LaneView) → (i ≡ k → ⊥) → slice_get (set lanes k l) i ≡ slice_get lanes i
-get_other [] k i l other = refl
 get_other (x ∷ lanes) zero zero l other = absurd (other refl)
-get_other (x ∷ lanes) zero (suc i) l other = refl
-get_other (x ∷ lanes) (suc k) zero l other = refl
 get_other (x ∷ lanes) (suc k) (suc i) l other = get_other lanes k i l (λ e. other (ap suc e))
+get_other lanes k i l other = refl
 
 pub lane_is : {k : ℕ} {before after : List LaneView} (at : IsLaneSet k before after) → slice_get after k ≡ Some at.lane
 lane_is {k = k} {before = before} at = ap (λ (ls : List LaneView). slice_get ls k) at.written ∙ set_at before k at.lane (slice_get_within before k at.own at.is_own)
@@ -70,20 +69,7 @@ got_part [] (x ∷ rest) d some = refl
 got_part (x ∷ below) rest d some = got_part below rest d some
 
 module _ {V : Type 0} {D : V → Type 0} {g : _} (w : Wanted V D g) (below rest : List LaneView) (long : length below ≡ own_key w) (ready : AreReadyOver w.block.now (below ++ rest)) where
-  abbrev j : JobView
-  j = block_job w.block.now
-
-  abbrev first : ℕ
-  first = w.block.now.at.now.entry
-
-  abbrev u : Option ℕ
-  u = w.block.now.at.now.under
-
-  abbrev keys : ℕ
-  keys = key_count (job_graph j)
-
-  abbrev own_place : ℕ
-  own_place = own_key w
+  open parts_of w use {j, first, u, keys, own as own_place}
 
   abbrev lanes : List LaneView
   lanes = below ++ rest

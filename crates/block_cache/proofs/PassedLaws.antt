@@ -11,6 +11,7 @@ use Rattle.expr_lanes.proofs.PartSteps.{filter_alike}
 use Rattle.block_cache.specs.{block_job, cells_at, holds_at, is_held, IsFilledFor, IsPassedFor, IsSettled, kinds_of, lane_holds, LaneView, own_key, PlaceFault, value_for, value_of}
 use Rattle.loop_keys.specs.{Held, held_in, IsRight, job_graph, JobView, key_count, site_in, truth_in}
 use Rattle.block_cache.specs.declared.wanted.Wanted.{Wanted}
+use Rattle.block_cache.proofs.Wants.{parts_of}
 use Rattle.block_cache.proofs.BlockLaws.{held_of_lane, lane_held, right_value}
 use Rattle.block_cache.proofs.CanTries.{got_kind}
 use Rattle.block_cache.proofs.Members.{below_selected}
@@ -21,14 +22,7 @@ module _
     (same : k ≡ own_key w) (among : k < length lanes)
     (truth : slice_get (kinds_of lanes) (own_key w) ≡ Some ColType.Bool)
   where
-    abbrev j : JobView
-    j = block_job w.block.now
-
-    abbrev first : ℕ
-    first = w.block.now.at.now.entry
-
-    abbrev u : Option ℕ
-    u = w.block.now.at.now.under
+    open parts_of w use {j, first, u}
 
     abbrev l : LaneView
     l = get_or lanes k d

@@ -33,27 +33,19 @@ fault_back (suc (suc (suc (suc (suc (suc (suc n))))))) = EntryFault.Function
 
 fault_again : (k : EntryFault) → fault_back (fault_number k) ≡ k
 fault_again EntryFault.Overflow = refl
-fault_again EntryFault.ZeroDivisor = refl
-fault_again EntryFault.Index = refl
-fault_again EntryFault.EmptyVector = refl
-fault_again EntryFault.Lengths = refl
-fault_again EntryFault.VaryCount = refl
-fault_again EntryFault.Weight = refl
-fault_again EntryFault.Function = refl
+fault_again k = refl
 
 abbrev same_scalar : ScalarStop → ScalarStop → Bool
 same_scalar (Fault a) (Fault b) = nat_eq (fault_number a) (fault_number b)
-same_scalar (Fault a) (Need d) = false
-same_scalar (Need c) (Fault b) = false
 same_scalar (Need c) (Need d) = nat_eq c d
+same_scalar a b = false
 
 scalar_is : (a b : ScalarStop) → same_scalar a b ≡ true → a ≡ b
 scalar_is (Fault a) (Fault b) e =
     let n : fault_number a ≡ fault_number b = (Decides-eqb (fault_number a) (fault_number b)).0 e in
     ap Fault (sym (fault_again a) ∙ ap fault_back n ∙ fault_again b)
-scalar_is (Fault a) (Need d) e = cc e
-scalar_is (Need c) (Fault b) e = cc e
 scalar_is (Need c) (Need d) e = ap Need ((Decides-eqb c d).0 e)
+scalar_is a b e = cc e
 
 scalar_same : (a : ScalarStop) → same_scalar a a ≡ true
 scalar_same (Fault a) = (Decides-eqb (fault_number a) (fault_number a)).1 refl

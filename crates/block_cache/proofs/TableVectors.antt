@@ -24,5 +24,4 @@ column_seen j entry u cells c col stood = go (source_at j u c) stood
   where
     go : (x : Source) → place_of (key_under (job_graph j) u) x ≡ Place.Cell col → cell_value (slice_get (row_of j entry) col) ≡ looked_source j entry u cells c x
     go (Source.Cell k) e = let same : k ≡ col = cc e in ap (λ (n : ℕ). cell_value {M = ℕ} (slice_get (row_of j entry) n)) (sym same)
-    go (Source.Site s) e = cc e
-    go (Source.Element s i n) e = cc e
+    go x e = cc e

@@ -1,10 +1,10 @@
 -- The filling of a site, from its first evaluation to the last.
 use Rattle.std.proofs.Common.{◌≡◌, ◌<◌, ◌≤◌, ◌+◌, ◌⊎◌, inl, inr, not, ℕ, Bool, true, false, List, [], ◌∷◌, length, Option, Some, None, Result, Ok, Err, IfOk, OnOk, refl, sym, ◌∙◌, ap, subst, arith, cond, count_by, nat_eq}
 use Rattle.std.specs.List.{filter}
-use Rattle.std.proofs.lemmas.Bool.{cases_lt, lt-ltb, ltb-true}
+use Rattle.std.proofs.lemmas.Bool.{cases_lt, lt-ltb, ltb-true, true_from_ne_false}
 use Rattle.std.proofs.lemmas.Bool.Decides.{Decides-eqb}
 use Rattle.std.proofs.lemmas.List.Sums.{length-filter, sum_by-cons}
-use Rattle.lemmas.proofs.{not_true, same_some}
+use Rattle.lemmas.proofs.{never_true, not_true, same_some}
 use Rattle.rdf_values.specs.{EntryFault, Memory, Value}
 use Rattle.rdf_model.specs.{fault_in, Faults, Gives, Needs, Outcome}
 use Rattle.expr_lanes.specs.{AreRising, EachPlace, is_in, IsSelected}
@@ -14,6 +14,7 @@ use Rattle.block_cache.specs.{AreReadyOver, begun_at, below_fault, block_job, fo
 use Rattle.block_cache.proofs.LaneSteps.{filter_none}
 use Rattle.loop_keys.specs.{IsJob, IsSiteOf, job_graph, JobView, key, key_count, MeetsAt, site_in, source_at}
 use Rattle.block_cache.specs.declared.wanted.Wanted.{Wanted}
+use Rattle.block_cache.proofs.Wants.{parts_of}
 use Rattle.block_cache.proofs.Attempts.{key_lower}
 use Rattle.block_cache.proofs.GrownLaws.{grown_below, grown_on, later_keys, other_places, settled_all}
 use Rattle.block_cache.proofs.Knowns.{held_no_fault, lacks_before, same_holds, same_on}
@@ -32,8 +33,7 @@ count_all (p ∷ ps) f each =
 -- the site of a source is one
 pub same_site : (t r : ℕ) (x : Source) → IsSiteOf t x → IsSiteOf r x → t ≡ r
 same_site t r (Source.Cell col) h i = elim h [ ]
-same_site t r (Source.Site s) h i = sym h ∙ i
-same_site t r (Source.Element s k tags) h i = sym h ∙ i
+same_site t r x h i = sym h ∙ i
 
 pub fault_lift : (f : ℕ → Option EntryFault) (group sel : List ℕ) (found : Option PlaceFault) → EachPlace group (λ p. is_in p sel ≡ true) → IsFaultOf f group found → IsFaultOf f sel found
 fault_lift f group sel None sub h = tt
@@ -80,32 +80,7 @@ pub resumed_as : {V : Type 0} {D : V → Type 0} {g : _} (w : Wanted V D g) {fau
 resumed_as w r same_fault same_open same_needs = rw (sym same_fault, sym same_open, sym same_needs) r
 
 module _ {V : Type 0} {D : V → Type 0} {g : _} (w : Wanted V D g) where
-  abbrev j : JobView
-  j = block_job w.block.now
-
-  abbrev job : IsJob j
-  job = w.block.now.fits.job
-
-  abbrev first : ℕ
-  first = w.block.now.at.now.entry
-
-  abbrev u : Option ℕ
-  u = w.block.now.at.now.under
-
-  abbrev count : ℕ
-  count = w.block.now.count
-
-  abbrev s : ℕ
-  s = w.site
-
-  abbrev n : ℕ
-  n = key_count (job_graph j)
-
-  abbrev own : ℕ
-  own = own_key w
-
-  abbrev at : ℕ → ℕ
-  at t = key (job_graph j) t u
+  open parts_of w use {j, job, first, u, count, s, keys as n, own, at}
 
   other_key : (t : ℕ) → t < s → at t ≡ own → ⊥
   other_key t low e = let l = key_lower (job_graph j) t s u u low w.there in absurd (omega (arith, l, e))
@@ -132,11 +107,7 @@ module _ {V : Type 0} {D : V → Type 0} {g : _} (w : Wanted V D g) where
       began_selected = filter_selected lacks0 selected group_is
 
       not_begun : EachPlace group (λ p. not (begun_at before own p) ≡ true)
-      not_begun p h = go (begun_at before own p) refl
-        where
-          go : (b : Bool) → begun_at before own p ≡ b → not b ≡ true
-          go true e = absurd (cc (began_lacks p h, settled p (group_in p h) s (omega arith) e))
-          go false e = refl
+      not_begun p h = ap not (never_true (begun_at before own p) (λ e. cc (began_lacks p h, settled p (group_in p h) s (omega arith) e)))
 
       pub began : {new : List LaneView} {needs noted lacking : List ℕ} {least : Option PlaceFault} {start now : ℕ} → IsResumedFor w None group sel before new needs noted lacking least → now ≡ start + length group
           → IsUnderwayFor w sel before start new least lacking noted now
@@ -162,8 +133,7 @@ module _ {V : Type 0} {D : V → Type 0} {g : _} (w : Wanted V D g) where
         paid =
             (let many = count_all group (λ p. not (begun_at before own p)) not_begun in
             let size = ap (λ (l : List ℕ). length l) group_is ∙ length-filter lacks0 sel in
-            let newly = r.attempted.newly in
-            omega (arith, cost, many, size, newly));
+            omega (arith, cost, many, size, r.attempted.newly));
       }
         where
           grown : IsGrownOver j first u s sel before new
@@ -180,11 +150,7 @@ module _ {V : Type 0} {D : V → Type 0} {g : _} (w : Wanted V D g) where
       }
         where
           holds : (p : ℕ) → is_in p sel ≡ true → holds_at new own p ≡ true
-          holds p i = go (holds_at new own p) refl
-            where
-              go : (b : Bool) → holds_at new own p ≡ b → holds_at new own p ≡ true
-              go true e = e
-              go false e = whole p (in_group p i (lacks_before n before new own p ((attempted.grown sel group_in).grows p) e))
+          holds p i = true_from_ne_false (holds_at new own p) (λ e. cc (e, whole p (in_group p i (lacks_before n before new own p ((attempted.grown sel group_in).grows p) e))))
 
       -- else those that lack the value below the fault
       pub began_rest : {new : List LaneView} {needs noted after lacking : List ℕ} {found : Option PlaceFault} → IsAttemptedFor w group before new needs noted found → after ≡ noted
@@ -201,11 +167,7 @@ module _ {V : Type 0} {D : V → Type 0} {g : _} (w : Wanted V D g) where
       pub began_broken : {new : List LaneView} {start now : ℕ} → IsBrokenOffFor w group before new start now → IsSpentFor w sel before new start now
       began_broken b = record {
         grown = b.grown sel group_in;
-        cost =
-            (let many = count_all group (λ p. not (begun_at before own p)) not_begun in
-            let newly = b.newly in
-            let few = b.few in
-            omega (arith, many, newly, few));
+        cost = omega (arith, count_all group (λ p. not (begun_at before own p)) not_begun, b.newly, b.few);
       }
 
   -- ---- a turn
@@ -270,6 +232,9 @@ module _ {V : Type 0} {D : V → Type 0} {g : _} (w : Wanted V D g) where
             group_left : (p : ℕ) → is_in p group ≡ true → is_below under p ≡ true → is_in p left ≡ true
             group_left p i low = rw filled.filled.left_is (below_in under group p i low)
 
+            out_left : (p : ℕ) → is_in p group ≡ false → is_in p left ≡ false
+            out_left p out = never_true (is_in p left) (λ i. cc (out, left_group p i))
+
             pub left_selected : IsSelected count left []
             left_selected = below_selected under turn_selected filled.filled.left_is
 
@@ -283,12 +248,7 @@ module _ {V : Type 0} {D : V → Type 0} {g : _} (w : Wanted V D g) where
               cost =
                   (let many = count_all group (λ p. not (holds_at lanes (at t) p)) (λ p i. ap not (lacks_t p i)) in
                   let e = ap (λ (l : List ℕ). length l) filled.filled.left_is in
-                  let short = below_short under group in
-                  let newly = b.newly in
-                  let few = b.few in
-                  let paid = filled.paid in
-                  let so_far = h.paid in
-                  omega (arith, many, e, short, newly, few, paid, so_far));
+                  omega (arith, many, e, below_short under group, b.newly, b.few, filled.paid, h.paid));
             }
 
             under_t : IsFaultOf (site_fault j first u t) group under
@@ -342,11 +302,7 @@ module _ {V : Type 0} {D : V → Type 0} {g : _} (w : Wanted V D g) where
                 in_left p i low = group_left p i (below_found under fault p (below_next p low))
 
                 same_there : (k p : ℕ) → is_in p group ≡ false → IsSameAt n lanes new k p
-                same_there k p out = same_on n lanes mid new k p (other_places j first u t group lanes mid spent.grown k p out) (r.attempted.same k p (inr (not_left (is_in p left) refl)))
-                  where
-                    not_left : (b : Bool) → is_in p left ≡ b → b ≡ false
-                    not_left true i = absurd (cc (out, left_group p i))
-                    not_left false i = refl
+                same_there k p out = same_on n lanes mid new k p (other_places j first u t group lanes mid spent.grown k p out) (r.attempted.same k p (inr (out_left p out)))
 
                 settled_turn : EachPlace sel (λ p. is_below least p ≡ true → (r : ℕ) → r < s → begun_at new (at r) p ≡ true → holds_at new (at r) p ≡ true)
                 settled_turn p i low q lower begun = go (is_in p group) refl
@@ -373,12 +329,8 @@ module _ {V : Type 0} {D : V → Type 0} {g : _} (w : Wanted V D g) where
 
                     go : (b : Bool) → is_in p group ≡ b → IsWaiting j first u s new p (need_at noted p)
                     go true in' = r.attempted.waits p (in_left p in' low) (lacking_lacks p i) (below_found r.found (found_or under fault) p (rw r.least_is at low))
-                    go false out = subst (λ (m : ℕ). IsWaiting j first u s new p m) (sym (r.attempted.others p (not_left (is_in p left) refl))) (on (h.waits p (was_open p i)))
+                    go false out = subst (λ (m : ℕ). IsWaiting j first u s new p m) (sym (r.attempted.others p (out_left p out))) (on (h.waits p (was_open p i)))
                       where
-                        not_left : (b : Bool) → is_in p left ≡ b → b ≡ false
-                        not_left true k = absurd (cc (out, left_group p k))
-                        not_left false k = refl
-
                         on : IsWaiting j first u s lanes p (need_at needs p) → IsWaiting j first u s new p (need_at needs p)
                         on a = record { there = a.there; site = a.site; source = a.source; lower = a.lower; lacks = same_holds n lanes new (at a.site) p (same_there (at a.site) p out) ∙ a.lacks; met = a.met }
 
@@ -402,11 +354,7 @@ module _ {V : Type 0} {D : V → Type 0} {g : _} (w : Wanted V D g) where
                   paid =
                       (let many = count_all group (λ p. not (holds_at lanes (at t) p)) (λ p i. ap not (lacks_t p i)) in
                       let e = ap (λ (l : List ℕ). length l) filled.filled.left_is in
-                      let b = below_short under group in
-                      let newly = r.attempted.newly in
-                      let paid = filled.paid in
-                      let so_far = h.paid in
-                      omega (arith, cost, many, e, b, newly, paid, so_far));
+                      omega (arith, cost, many, e, below_short under group, r.attempted.newly, filled.paid, h.paid));
                 }
 
                 -- something was newly begun
@@ -414,11 +362,7 @@ module _ {V : Type 0} {D : V → Type 0} {g : _} (w : Wanted V D g) where
                 turned_less = less_left lanes new (at t) p0 count (r.attempted.ready.many ∙ sym h.ready.many) grown_turn.stays (h.inside p0 (turn_in p0 first_is)) not_begun (grown_last.stays (at t) p0 (begins p0 first_is (lacks_t p0 first_is)))
                   where
                     not_begun : begun_at lanes (at t) p0 ≡ false
-                    not_begun = go (begun_at lanes (at t) p0) refl
-                      where
-                        go : (b : Bool) → begun_at lanes (at t) p0 ≡ b → b ≡ false
-                        go true e = absurd (cc (lacks_t p0 first_is, turn_settled p0 first_is t (omega arith) e))
-                        go false e = refl
+                    not_begun = never_true (begun_at lanes (at t) p0) (λ e. cc (lacks_t p0 first_is, turn_settled p0 first_is t (omega arith) e))
 
   -- ---- the end
 
@@ -428,11 +372,7 @@ module _ {V : Type 0} {D : V → Type 0} {g : _} (w : Wanted V D g) where
     where
       module _ (none : length open_places ≡ 0) where
         all_held : EachPlace sel (λ p. is_below fault p ≡ true → holds_at lanes own p ≡ true)
-        all_held p i low = go (holds_at lanes own p) refl
-          where
-            go : (b : Bool) → holds_at lanes own p ≡ b → b ≡ true
-            go true e = refl
-            go false e = absurd (none_open open_places p none (h.rest p i low e))
+        all_held p i low = true_from_ne_false (holds_at lanes own p) (λ e. none_open open_places p none (h.rest p i low e))
 
         pub ended_filled : {left : List ℕ} → AreRising sel → left ≡ below_fault fault sel → IsPaidFor w sel left before lanes fault start now
         ended_filled rising left_is = record {

@@ -87,6 +87,5 @@ module _ (e : Extent) (count : ℕ) (written : List Bool) (v : MarksView) (view_
   long_seen = sym (marks_long e written) ∙ ap (λ (x : MarksView). length x.marks) view_is
     where
       marks_long : (x : Extent) (l : List Bool) → length (marks_of x count l) ≡ length l
-      marks_long Extent.Nothing l = refl
-      marks_long Extent.Some l = refl
       marks_long Extent.All l = marked_long l count
+      marks_long x l = refl
