@@ -1,7 +1,7 @@
 -- What a slot reserves stays what it was while a block is tried.
-use Rattle.std.proofs.Common.{◌≡◌, ℕ, List, [], ◌∷◌, length, sym, ◌∙◌, ap, subst, ℤ, if◌then◌else◌, ◌+◌, ◌<◌, ◌≤◌, true, false, All, Option, Some, None, refl, arith, slice_get, ◌⊎◌, inl, inr, zero, suc, ◌-◌, ◌*◌, Bool, map, take, unwrap_or, slice_index_or, count_by, slice_range}
+use Rattle.std.proofs.Common.{◌≡◌, ℕ, List, [], ◌∷◌, length, sym, ◌∙◌, ap, subst, ℤ, if◌then◌else◌, ◌+◌, ◌<◌, ◌≤◌, true, false, All, Option, Some, None, refl, arith, slice_get, ◌⊎◌, inl, inr, zero, suc, ◌-◌, ◌*◌, Bool, map, take, unwrap_or, slice_index_or, count_by, get_or, slice_range}
 use Rattle.std.specs.List.{AllByRecursion}
-use Rattle.std.proofs.lemmas.List.{length-map, length-take}
+use Rattle.std.proofs.lemmas.List.{get_or-map, get_or-take, get_or_past, length-map}
 use Rattle.std.proofs.lemmas.List.Elements.{All-from_recursion, recursion_from_All, All-weaker}
 use Rattle.rdf_values.specs.{ColType, EachColumn, history, Value}
 use Rattle.block_cache.specs.{AreReady, AreUnknown, begun_at, begun_count, CanFill, HaveRoom, held_value, holds_at, is_tried, IsLoaded, IsUnknown, kinds_of, lane_begun, LaneView, room_of, rooms_of, size_for, tried_count, value_of}
@@ -20,25 +20,22 @@ use Rattle.block_cache.proofs.CanFills.{can_fill_site}
 use Rattle.block_passes.specs.Spends.{Spends}
 use Rattle.block_passes.specs.declared.steps.Step.{Step}
 use Rattle.block_passes.proofs.SiteKinds.{filter_kind, site_kinds}
-use Rattle.block_passes.proofs.Demanding.{inputs_readable, site_there}
+use Rattle.block_passes.proofs.Demanding.{action_at, site_there}
+use Rattle.loop_keys.proofs.ActionLaws.{can_act}
 use Rattle.std.proofs.lemmas.List.Sums.{sum_by-cons}
-use Rattle.lemmas.proofs.{range_length}
+use Rattle.lemmas.proofs.{never_true, range_length, take_at_most}
+use Rattle.std.proofs.lemmas.Bool.{cases_lt}
+use Rattle.block_cache.proofs.Marking.{count_none}
 use Rattle.expr_lanes.specs.{is_marked}
 use Rattle.block_laws.specs.{marked_at, marked_in, row_demands}
 use Rattle.block_laws.proofs.Lanes.{marked_within}
 use Rattle.loop_keys.proofs.DemandCounts.{few_keys, has_all, keys_of_all}
 use Rattle.block_passes.proofs.Searching.{row_in_block}
 
-same_rooms : (n : ℕ) (before after : List LaneView) → rooms_of after ≡ rooms_of before → AllByRecursion (λ (l : LaneView). room_of l ≡ n) before → AllByRecursion (λ (l : LaneView). room_of l ≡ n) after
-same_rooms n [] [] e h = tt
-same_rooms n [] (m ∷ ms) e h = cc e
-same_rooms n (l ∷ ls) [] e h = cc e
-same_rooms n (l ∷ ls) (m ∷ ms) e h =
-    let a : room_of m ≡ room_of l = cc e in
-    let b : rooms_of ms ≡ rooms_of ls = cc e in (a ∙ h.0, same_rooms n ls ms b h.1)
-
 have_room : (n : ℕ) (before after : List LaneView) → rooms_of after ≡ rooms_of before → HaveRoom n before → HaveRoom n after
-have_room n before after e h = All-from_recursion (λ (l : LaneView). room_of l ≡ n) after (same_rooms n before after e (recursion_from_All (λ (l : LaneView). room_of l ≡ n) before h))
+have_room n before after e h i d low =
+    let there : i < length before = omega (arith, low, length-map after room_of, length-map before room_of, ap length e) in
+    sym (get_or-map room_of after i d 0 low) ∙ ap (λ ns. get_or ns i 0) e ∙ get_or-map room_of before i d 0 there ∙ h i d there
 
 same_many : (before after : List LaneView) → kinds_of after ≡ kinds_of before → length after ≡ length before
 same_many before after e = sym (length-map after (λ (l : LaneView). l.kind)) ∙ ap length e ∙ length-map before (λ (l : LaneView). l.kind)
@@ -73,12 +70,12 @@ all_get P xs all k x at = subst P (get_or_from_slice_get xs k x x at) (all k x (
 -- ---- nothing is known
 
 module _ (count : ℕ) (lanes : List LaneView) (unknown : AreUnknown count lanes) where
-  none_begun : (p : ℕ) → IsSettledAt lanes p
-  none_begun p k begun = go (slice_get lanes k) refl begun
+  never_begun : (k p : ℕ) → begun_at lanes k p ≡ true → ⊥
+  never_begun k p begun = go (slice_get lanes k) refl begun
     where
-      go : (o : Option LaneView) → slice_get lanes k ≡ o → lane_begun o p ≡ true → holds_at lanes k p ≡ true
+      go : (o : Option LaneView) → slice_get lanes k ≡ o → lane_begun o p ≡ true → ⊥
       go None q b = cc b
-      go (Some l) q b = let u = all_get (IsUnknown count) lanes unknown k l q in let n : is_tried l p ≡ false = u.tried p in absurd (cc (sym n ∙ b))
+      go (Some l) q b = let u = all_get (IsUnknown count) lanes unknown k l q in let n : is_tried l p ≡ false = u.tried p in cc (sym n ∙ b)
 
   nothing_held : (k p : ℕ) → lane_held (slice_get lanes k) p ≡ Held.Nothing
   nothing_held k p = go (slice_get lanes k) refl
@@ -124,7 +121,7 @@ module _ (j : JobView) (job : IsJob j) (first count : ℕ) (s : StateView) (stat
   ready : (p : IsPlan j s.plan) → IsReadyBelow j first count p.chains count s.lanes s.kept
   ready p = record {
     ready = unknown_ready count s.lanes unknown j first state.lanes some within;
-    settled = λ q low. none_begun count s.lanes unknown q;
+    settled = λ q low k begun. absurd (never_begun count s.lanes unknown k q begun);
     kept_are = record {
       many = state.kept ∙ sym p.steps.many;
       each = λ k made c m its at limit. absurd (never made (sym (all_get (λ (x : Kept). x.limit ≡ None) s.kept unmade k m at) ∙ limit));
@@ -167,7 +164,7 @@ module _ (j : JobView) (job : IsJob j) (first count : ℕ) (s : StateView) (stat
       inside k parent site u at = let f = its_step k parent site u at in site_there j job (longer f.up site u) f.up.sites site refl (state.plan.tried k (longer f.up site u) f.own)
 
   serve : CanServeAll j first count (kinds_of s.lanes) s.cells s.scratch s.levels
-  serve n k inputs u read = each inputs (inputs_readable j job n k inputs u read)
+  serve n k inputs u read = each inputs (can_act j job first (omega (arith, some, within)) _ k _ inputs (action_at read) u).inputs
     where
       servable : (x : Source) → IsBelow (length j.dataset.columns) (length (graph_sites (job_graph j))) x → IsServable j first u count (kinds_of s.lanes) s.cells s.scratch s.levels x
       servable (Source.Cell col) below = (below, loaded col)
@@ -194,34 +191,18 @@ own l = count_by (λ b. b) l
 own_more : (b : Bool) (bs : List Bool) → own (b ∷ bs) ≡ mark b + own bs
 own_more b bs = sum_by-cons mark b bs
 
-mark_none : (b : Bool) → (b ≡ true → ⊥) → mark b ≡ 0
-mark_none true h = absurd (h refl)
-mark_none false h = refl
-
-no_mark : (p : ℕ) → is_marked [] p ≡ true → ⊥
-no_mark zero e = cc e
-no_mark (suc p) e = cc e
-
-none_marked : (bs : List Bool) → ((p : ℕ) → is_marked bs p ≡ true → ⊥) → own bs ≡ 0
-none_marked [] h = refl
-none_marked (b ∷ bs) h = let a = own_more b bs in let c = none_marked bs (λ p e. h (suc p) e) in let d = mark_none b (h 0) in omega (arith, a, c, d)
-
 -- all that are marked are among the first
 front_counts : (bs : List Bool) (n : ℕ) → ((p : ℕ) → is_marked bs p ≡ true → p < n) → own bs ≤ own (take n bs)
 front_counts [] n h = let e : own [] ≡ 0 = refl in omega (arith, e)
-front_counts (b ∷ bs) zero h = let e = none_marked (b ∷ bs) (λ p q. absurd (let l = h p q in omega (arith, l))) in omega (arith, e)
+front_counts (b ∷ bs) zero h = let e = count_none (b ∷ bs) (λ p. never_true (is_marked (b ∷ bs) p) (λ q. let l = h p q in omega (arith, l))) in omega (arith, e)
 front_counts (b ∷ bs) (suc n) h =
     let a = own_more b bs in let c = own_more b (take n bs) in let r = front_counts bs n (λ p q. (let l = h (suc p) q in omega (arith, l))) in omega (arith, a, c, r)
 
 taken_mark : (bs : List Bool) (n p : ℕ) → is_marked (take n bs) p ≡ true → is_marked bs p ≡ true
-taken_mark [] zero p e = e
-taken_mark [] (suc n) p e = e
-taken_mark (b ∷ bs) zero p e = absurd (no_mark p e)
-taken_mark (b ∷ bs) (suc n) zero e = e
-taken_mark (b ∷ bs) (suc n) (suc p) e = taken_mark bs n p e
-
-taken_short : (bs : List Bool) (n : ℕ) → length (take n bs) ≤ n
-taken_short bs n = let e = length-take n bs in omega (arith, e)
+taken_mark bs n p e = elim (cases_lt p n) [
+  | inl low ↦ sym (get_or-take n bs p false low) ∙ e
+  | inr far ↦ cc (sym (get_or_past (take n bs) p false (omega (arith, far, take_at_most n bs))) ∙ e)
+]
 
 -- ---- of all lanes the places of a block
 
@@ -239,7 +220,7 @@ module _ (count : ℕ) where
 
   short : (n : ℕ) → count ≤ n → (lanes : List LaneView) → AllByRecursion (λ (l : List Bool). length l ≤ n) (map front lanes)
   short n le [] = tt
-  short n le (l ∷ ls) = ((let t = taken_short l.tried count in omega (arith, t, le)), short n le ls)
+  short n le (l ∷ ls) = (omega (arith, take_at_most count l.tried, le), short n le ls)
 
   one : (b d : Bool) → (b ≡ true → d ≡ true) → mark b ≤ mark d
   one true true f = omega arith
@@ -258,18 +239,12 @@ module _ (count : ℕ) where
 
 -- ---- what the entries demand
 
-not_begun : (count : ℕ) (lanes : List LaneView) (k p : ℕ) → AllByRecursion (IsUnknown count) lanes → begun_at lanes k p ≡ true → ⊥
-not_begun count [] k p h e = cc e
-not_begun count (l ∷ ls) zero p h e = let f : false ≡ true = sym (h.0.tried p) ∙ e in cc f
-not_begun count (l ∷ ls) (suc k) p h e = not_begun count ls k p h.1 e
-
 module _ (j : JobView) (first count : ℕ) (before after : List LaneView) (start end : ℕ) (within : first + count ≤ length j.dataset.rows) (unknown : AreUnknown count before) (spends : Spends j first count before after start end) where
   newly : (k p : ℕ) → begun_at after k p ≡ true → (p < count) × (keys_of_all j (first + p) k ≡ true)
-  newly k p e = go (spends.only (λ q. keys_of_all j (first + q)) (λ q lt. has_all j (first + q)) k p e)
-    where
-      go : (begun_at before k p ≡ true) ⊎ ((p < count) × (keys_of_all j (first + p) k ≡ true)) → (p < count) × (keys_of_all j (first + p) k ≡ true)
-      go (inl h) = absurd (not_begun count before k p (recursion_from_All (IsUnknown count) before unknown) h)
-      go (inr h) = h
+  newly k p e = elim (spends.only (λ q. keys_of_all j (first + q)) (λ q lt. has_all j (first + q)) k p e) [
+    | inl h ↦ absurd (never_begun count before unknown k p h)
+    | inr h ↦ h
+  ]
 
   abbrev rows : List (List Value)
   rows = slice_range j.dataset.rows first (first + count)

@@ -1,12 +1,12 @@
 -- The sites that a loop tries are there.
-use Rattle.std.proofs.Common.{◌≡◌, inl, inr, ℕ, ◌<◌, true, List, [], ◌∷◌, ◌++◌, length, sym, ◌∙◌, ap, subst, append_assoc, Option, Bool, false, None, Some, slice_get, unwrap_or, if◌then◌else◌, All}
+use Rattle.std.proofs.Common.{◌≡◌, inl, inr, ℕ, ◌<◌, true, List, [], ◌∷◌, ◌++◌, length, refl, sym, ◌∙◌, ap, subst, append_assoc, Option, Bool, false, None, Some, slice_get, unwrap_or, if◌then◌else◌, All}
 use Rattle.std.specs.List.{AllByRecursion}
 use Rattle.rdf_values.specs.{ActionAt, ActionKind, Booking, fn_names, history, Value}
 use Rattle.graph_numbers.specs.{FilterAt, graph_filters, graph_sites, graph_under, HasFilters, IfPassed, Pass as NumberedPass, ResultAt, through_sites}
 use Rattle.graph_numbers.proofs.Extending.{itself, versions_count}
 use Rattle.graph_numbers.proofs.Ranges.{filters_below}
 use Rattle.std.proofs.lemmas.List.Elements.{recursion_from_All}
-use Rattle.loop_keys.specs.{AreReadable, demand_key, HasAllDemands, HasPassed, HasTried, IsCovered, IsJob, IsPlainLoop, job_graph, JobView, row_of, site_in}
+use Rattle.loop_keys.specs.{AreReadable, demand_key, HasAllDemands, HasPassed, HasTried, IsActionAt, IsCovered, IsJob, IsPlainLoop, job_graph, JobView, row_of, site_in}
 use Rattle.loop_keys.proofs.ActionNumbers.{IsSoundBooking, result_sound, IsGivenBelow, IsSoundAction}
 use Rattle.loop_keys.proofs.EvaluateLaws.{accepted_of}
 use Rattle.block_passes.specs.{Chain, Demands, IsActionOf, IsDemandedAt, IsReadOf, IsTried}
@@ -50,18 +50,8 @@ module _ (j : JobView) (job : IsJob j) (c : Chain) (up : List ℕ) (s : ℕ) (e 
 
 -- ---- What the actions of a loop read is there.
 
--- each version that an action reads is there, and is given by a column of the table or by a site
-pub inputs_readable : (j : JobView) (job : IsJob j) (n : ℕ) (k : ActionKind) (inputs : List ℕ) (u : Option ℕ) → IsReadOf j n k inputs u → AreReadable j u inputs
-inputs_readable j job n k inputs u read = subst (AreReadable j u) read.inputs_are (readable read.result.inputs sound.inputs)
-  where
-    sound : IsSoundAction j.dataset (graph_under (job_graph j) u) (history j.script) read.result k
-    sound =
-        subst (λ (b : Booking). IsSoundBooking j.dataset (graph_under (job_graph j) u) (history j.script) read.result b) read.action.booking
-        (result_sound j.dataset (graph_under (job_graph j) u) (history j.script) (history j.script) (accepted_of j job) itself read.numbered.result read.result read.action.its_result)
-
-    readable : (cs : List ℕ) → AllByRecursion (IsGivenBelow j.dataset (graph_under (job_graph j) u) (history j.script)) cs → AreReadable j u cs
-    readable [] h = tt
-    readable (c ∷ cs) h = ((subst (λ (m : ℕ). c < m) (sym (versions_count j.dataset.columns (fn_names j.dataset.fns) (history j.script))) h.0.0, h.0.1), readable cs h.1)
+pub action_at : {j : JobView} {pass : ℕ} {k : ActionKind} {inputs : List ℕ} {u : Option ℕ} (read : IsReadOf j pass k inputs u) → IsActionAt j read.numbered.result k read.result.filters inputs
+action_at read = record { result = read.result; there_is = read.action.its_result; at = read.action.at; kind = read.action.booking; filters = refl; inputs = read.inputs_are }
 
 -- ---- What is evaluated for a pass at a place, the loop demands there.
 
@@ -141,9 +131,8 @@ module _ (j : JobView) (job : IsJob j) (entry : ℕ) (row : List Value) (here : 
       go : (o : Outcome ⊥ Bool) → IfPassed o (HasFilters (λ t. D t ≡ true) site (up ++ s ∷ rest)) → is_true (o >>= λ passed. if passed then through_sites site up else Gives false) ≡ true
           → (HasFilters (λ t. D t ≡ true) site (up ++ s ∷ rest) → is_true (through_sites site up) ≡ true → D s ≡ true) → D s ≡ true
       go (Gives true) a b next = next a b
-      go (Gives false) a b next = cc b
-      go (Faults k) a b next = cc b
       go (Needs m) a b next = elim m [ ]
+      go o a b next = cc b
 
   begin_split : (path : List ℕ) (c : Chain) (up rest : List ℕ) (s : ℕ) → c.sites ≡ up ++ s ∷ [] → path ≡ c.sites ++ rest → path ≡ up ++ s ∷ rest
   begin_split path c up rest s e h = h ∙ ap (λ l. l ++ rest) e ∙ append_assoc up (s ∷ []) rest

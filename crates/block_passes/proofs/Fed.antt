@@ -96,23 +96,11 @@ module _ (k : ActionKind) (s : Sources) (o : ℕ → Outcome ⊥ (List Value)) (
 
 nothing_weighed : (k : ActionKind) (v : Value) → feed_fault k (v ∷ []) ≡ None
 nothing_weighed ActionKind.Count v = refl
-nothing_weighed (ActionKind.Sum c) v = refl
-nothing_weighed (ActionKind.Min c) v = refl
-nothing_weighed (ActionKind.Max c) v = refl
-nothing_weighed (ActionKind.Take c) v = refl
-nothing_weighed (ActionKind.Reduce o c) v = refl
-nothing_weighed (ActionKind.Histo1D edges x w) v = refl
-nothing_weighed (ActionKind.Histo2D xs ys x y w) v = refl
+nothing_weighed k v = refl
 
 nothing_fed : (k : ActionKind) → feed_fault k [] ≡ None
 nothing_fed ActionKind.Count = refl
-nothing_fed (ActionKind.Sum c) = refl
-nothing_fed (ActionKind.Min c) = refl
-nothing_fed (ActionKind.Max c) = refl
-nothing_fed (ActionKind.Take c) = refl
-nothing_fed (ActionKind.Reduce o c) = refl
-nothing_fed (ActionKind.Histo1D edges x w) = refl
-nothing_fed (ActionKind.Histo2D xs ys x y w) = refl
+nothing_fed k = refl
 
 -- one value that is there can be fed
 pub few_fed : (k : ActionKind) (f : ℕ → Outcome ⊥ Value) (cs : List ℕ) → length cs < 2 → feeding_fault k (for_all f cs) ≡ None

@@ -31,15 +31,13 @@ use Rattle.block_passes.specs.declared.plan.NamedSteps.{NamedSteps}
 given_items : (k : ActionKind) (o : Outcome ⊥ Bool) (a : Outcome ⊥ (List Value)) (vs : List Value) → is_true o ≡ true → a ≡ Gives vs → feed_fault k vs ≡ None
     → items_fed k (o >>= λ passed. if passed then a >>= feed_outcome k else Gives Skip) ≡ spread k vs
 given_items k (Gives true) a vs t e f = ap (λ (x : Outcome ⊥ (List Value)). items_fed k (x >>= feed_outcome k)) e ∙ ap (λ (x : Option EntryFault). items_fed k (unless_fault {M = ⊥} vs x)) f
-given_items k (Gives false) a vs t e f = cc t
-given_items k (Faults x) a vs t e f = cc t
 given_items k (Needs m) a vs t e f = elim m [ ]
+given_items k o a vs t e f = cc t
 
 none_items : (k : ActionKind) (o : Outcome ⊥ Bool) (x : Outcome ⊥ Entry) → is_true o ≡ false → items_fed k (o >>= λ passed. if passed then x else Gives Skip) ≡ []
 none_items k (Gives true) x t = cc t
-none_items k (Gives false) x t = refl
-none_items k (Faults f) x t = refl
 none_items k (Needs m) x t = elim m [ ]
+none_items k o x t = refl
 
 some_list : (lists : List (List Item)) (i : ℕ) (xs : List Item) → slice_get lists i ≡ Some xs → list_at lists i ≡ xs
 some_list lists i xs h = ap (λ (o : Option (List Item)). elim o [ None ↦ [] | Some ys ↦ ys ]) h

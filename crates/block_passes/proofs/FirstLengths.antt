@@ -25,15 +25,10 @@ fits_at (c ∷ cs) [] i h lt = elim h [ ]
 fits_at (c ∷ cs) (v ∷ vs) zero h lt = (c, v, refl, refl, h.0)
 fits_at (c ∷ cs) (v ∷ vs) (suc i) h lt = fits_at cs vs i h.1 (omega (arith, lt))
 
-no_elements : (v : Value) → FitsKind ColType.Int v → elements_in v ≡ 0
-no_elements (Value.Int z) h = refl
-no_elements (Value.Bool b) h = refl
-no_elements (Value.Vect zs) h = elim h [ ]
-
-no_truths : (v : Value) → FitsKind ColType.Bool v → elements_in v ≡ 0
-no_truths (Value.Int z) h = refl
-no_truths (Value.Bool b) h = refl
-no_truths (Value.Vect zs) h = elim h [ ]
+no_elements : (k : ColType) (v : Value) → (k ≡ ColType.Vect → ⊥) → FitsKind k v → 0 ≡ elements_in v
+no_elements ColType.Vect v other h = absurd (other refl)
+no_elements k (Value.Vect zs) other h = elim h [ ]
+no_elements k v other h = refl
 
 module _ (t : TableView) (table : IsTable t) (e i : ℕ) (inside : i < length t.columns) where
   -- a cell of another column than one of vectors has no elements
@@ -42,12 +37,7 @@ module _ (t : TableView) (table : IsTable t) (e i : ℕ) (inside : i < length t.
       let w = fits_at t.columns row i (row_fits t.columns t.rows e row table.fit here) inside in
       let same : w.0.kind ≡ k = some_same w.0.kind k (sym (ap (option_map (λ (c : Column). c.kind)) w.2) ∙ its) in
       let is : w.1 ≡ v = some_same w.1 v (sym w.3 ∙ at) in
-      go k other (subst (λ (q : ColType). FitsKind q v) same (subst (λ (x : Value). FitsKind w.0.kind x) is w.4.0))
-    where
-      go : (q : ColType) → (q ≡ ColType.Vect → ⊥) → FitsKind q v → 0 ≡ elements_in v
-      go ColType.Int o f = sym (no_elements v f)
-      go ColType.Bool o f = sym (no_truths v f)
-      go ColType.Vect o f = absurd (o refl)
+      no_elements k v other (subst (λ (q : ColType). FitsKind q v) same (subst (λ (x : Value). FitsKind w.0.kind x) is w.4.0))
 
   -- a vector has few
   pub vect_cell : kind_at t.columns i ≡ Some ColType.Vect → e < length t.rows → (zs : List ℤ) → cell t e i ≡ Some (Value.Vect zs) → length zs ≤ 4096

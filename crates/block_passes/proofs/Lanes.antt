@@ -33,55 +33,35 @@ module _ (rows : List (List Value)) (col : ℕ) (vectors : List (List ℤ)) (are
 
 -- ---- The lanes that are gathered for an action suit it.
 
+one_given : (f : ℕ → Outcome ⊥ Value) (cs : List ℕ) → length cs ≡ 1 → (v : Value) → f (get_or cs 0 0) ≡ Gives v → for_all f cs ≡ Gives (v ∷ [])
+one_given f (a ∷ []) e v p = ap (λ o. o >>= λ y. Gives (y ∷ [])) p
+one_given f cs e v p = absurd (omega (arith, e))
+
+two_given : (f : ℕ → Outcome ⊥ Value) (cs : List ℕ) → length cs ≡ 2 → (v w : Value) → f (get_or cs 0 0) ≡ Gives v → f (get_or cs 1 0) ≡ Gives w → for_all f cs ≡ Gives (v ∷ w ∷ [])
+two_given f (a ∷ b ∷ []) e v w p q = λ i. p i >>= λ y. (q i >>= λ z. Gives (z ∷ [])) >>= λ ys. Gives (y ∷ ys)
+two_given f cs e v w p q = absurd (omega (arith, e))
+
+three_given : (f : ℕ → Outcome ⊥ Value) (cs : List ℕ) → length cs ≡ 3 → (v w x : Value) → f (get_or cs 0 0) ≡ Gives v → f (get_or cs 1 0) ≡ Gives w → f (get_or cs 2 0) ≡ Gives x
+    → for_all f cs ≡ Gives (v ∷ w ∷ x ∷ [])
+three_given f (a ∷ b ∷ c ∷ []) e v w x p q r = λ i. p i >>= λ y. (q i >>= λ z. (r i >>= λ s. Gives (s ∷ [])) >>= λ ys. Gives (z ∷ ys)) >>= λ ys. Gives (y ∷ ys)
+three_given f cs e v w x p q r = absurd (omega (arith, e))
+
+suits_one : (k : ActionKind) (x : Lane) (place : ℕ) → length (columns_of k) ≡ 1 → FitsFeed k (lane_value x place ∷ []) → SuitsAt k (One x) place
+suits_one (ActionKind.Sum c) x place n f = numeric_fits f.kinds (lane_value x place) f.permitted f.fit
+suits_one (ActionKind.Min c) x place n f = numeric_fits f.kinds (lane_value x place) f.permitted f.fit
+suits_one (ActionKind.Max c) x place n f = numeric_fits f.kinds (lane_value x place) f.permitted f.fit
+suits_one (ActionKind.Take c) x place n f = single_fits f.kinds (lane_value x place) f.permitted f.fit
+suits_one (ActionKind.Reduce o c) x place n f = integer_fits f.kinds (lane_value x place) f.permitted f.fit
+suits_one (ActionKind.Histo1D edges c None) x place n f = numeric_fits f.kinds (lane_value x place) f.permitted f.fit
+suits_one k x place n f = absurd (omega (arith, n))
+
 module _ (f : ℕ → Outcome ⊥ Value) (cs : List ℕ) where
-  one_given : length cs ≡ 1 → (v : Value) → f (get_or cs 0 0) ≡ Gives v → for_all f cs ≡ Gives (v ∷ [])
-  one_given e v p = go cs e p
-    where
-      go : (cs : List ℕ) → length cs ≡ 1 → f (get_or cs 0 0) ≡ Gives v → for_all f cs ≡ Gives (v ∷ [])
-      go [] e p = absurd (omega (arith, e))
-      go (a ∷ []) e p = ap (λ o. o >>= λ y. Gives (y ∷ [])) p
-      go (a ∷ b ∷ cs) e p = absurd (omega (arith, e))
-
-  two_given : length cs ≡ 2 → (v w : Value) → f (get_or cs 0 0) ≡ Gives v → f (get_or cs 1 0) ≡ Gives w → for_all f cs ≡ Gives (v ∷ w ∷ [])
-  two_given e v w p q = go cs e p q
-    where
-      go : (cs : List ℕ) → length cs ≡ 2 → f (get_or cs 0 0) ≡ Gives v → f (get_or cs 1 0) ≡ Gives w → for_all f cs ≡ Gives (v ∷ w ∷ [])
-      go [] e p q = absurd (omega (arith, e))
-      go (a ∷ []) e p q = absurd (omega (arith, e))
-      go (a ∷ b ∷ []) e p q = λ i. p i >>= λ y. (q i >>= λ z. Gives (z ∷ [])) >>= λ ys. Gives (y ∷ ys)
-      go (a ∷ b ∷ c ∷ cs) e p q = absurd (omega (arith, e))
-
-  three_given : length cs ≡ 3 → (v w x : Value) → f (get_or cs 0 0) ≡ Gives v → f (get_or cs 1 0) ≡ Gives w → f (get_or cs 2 0) ≡ Gives x → for_all f cs ≡ Gives (v ∷ w ∷ x ∷ [])
-  three_given e v w x p q r = go cs e p q r
-    where
-      go : (cs : List ℕ) → length cs ≡ 3 → f (get_or cs 0 0) ≡ Gives v → f (get_or cs 1 0) ≡ Gives w → f (get_or cs 2 0) ≡ Gives x → for_all f cs ≡ Gives (v ∷ w ∷ x ∷ [])
-      go [] e p q r = absurd (omega (arith, e))
-      go (a ∷ []) e p q r = absurd (omega (arith, e))
-      go (a ∷ b ∷ []) e p q r = absurd (omega (arith, e))
-      go (a ∷ b ∷ c ∷ []) e p q r = λ i. p i >>= λ y. (q i >>= λ z. (r i >>= λ s. Gives (s ∷ [])) >>= λ ys. Gives (z ∷ ys)) >>= λ ys. Gives (y ∷ ys)
-      go (a ∷ b ∷ c ∷ d ∷ cs) e p q r = absurd (omega (arith, e))
-
   module _ (P : ℕ → Type 0) (hand : AllByRecursion P cs) (place : ℕ) (k : ActionKind) (count : length cs ≡ length (columns_of k)) (fits : (vs : List Value) → for_all f cs ≡ Gives vs → FitsFeed k vs) where
-    suits_one : (x : Lane) → length (columns_of k) ≡ 1 → FitsFeed k (lane_value x place ∷ []) → SuitsAt k (One x) place
-    suits_one x n g = go k n g
-      where
-        go : (k : ActionKind) → length (columns_of k) ≡ 1 → FitsFeed k (lane_value x place ∷ []) → SuitsAt k (One x) place
-        go ActionKind.Count n f = absurd (omega (arith, n))
-        go (ActionKind.Sum c) n f = numeric_fits f.kinds (lane_value x place) f.permitted f.fit
-        go (ActionKind.Min c) n f = numeric_fits f.kinds (lane_value x place) f.permitted f.fit
-        go (ActionKind.Max c) n f = numeric_fits f.kinds (lane_value x place) f.permitted f.fit
-        go (ActionKind.Take c) n f = single_fits f.kinds (lane_value x place) f.permitted f.fit
-        go (ActionKind.Reduce o c) n f = integer_fits f.kinds (lane_value x place) f.permitted f.fit
-        go (ActionKind.Histo1D edges c None) n f = numeric_fits f.kinds (lane_value x place) f.permitted f.fit
-        go (ActionKind.Histo1D edges c (Some w)) n f = absurd (omega (arith, n))
-        go (ActionKind.Histo2D xs ys c d None) n f = absurd (omega (arith, n))
-        go (ActionKind.Histo2D xs ys c d (Some w)) n f = absurd (omega (arith, n))
-
     pub lanes_one : length cs ≡ 1 → (x : Lane) → (P (get_or cs 0 0) → IsLaneOf (f (get_or cs 0 0)) x place) → AreLanesOf (for_all f cs) k (One x) place
     lanes_one e x lx =
         let a = lx (All-from_recursion P cs hand 0 0 (omega (arith, e))) in
-        let given = one_given e (lane_value x place) a.value in
-        record { there = a.there; values = given; suits = suits_one x (sym count ∙ e) (fits (lane_value x place ∷ []) given) }
+        let given = one_given f cs e (lane_value x place) a.value in
+        record { there = a.there; values = given; suits = suits_one k x place (sym count ∙ e) (fits (lane_value x place ∷ []) given) }
 
     pub lanes_weighted : (edges : List ℤ) (c n : List ℕ) → k ≡ ActionKind.Histo1D edges c (Some n) → (x w : Lane) → (P (get_or cs 0 0) → IsLaneOf (f (get_or cs 0 0)) x place) → (P (get_or cs 1 0) → IsLaneOf (f (get_or cs 1 0)) w place)
         → AreLanesOf (for_all f cs) k (Weighted x w) place
@@ -89,7 +69,7 @@ module _ (f : ℕ → Outcome ⊥ Value) (cs : List ℕ) where
         let l : length cs ≡ 2 = count ∙ ap (λ (z : ActionKind). length (columns_of z)) e in
         let a = lx (All-from_recursion P cs hand 0 0 (omega (arith, l))) in
         let b = lw (All-from_recursion P cs hand 1 0 (omega (arith, l))) in
-        let given = two_given l (lane_value x place) (lane_value w place) a.value b.value in
+        let given = two_given f cs l (lane_value x place) (lane_value w place) a.value b.value in
         let g : FitsFeed (ActionKind.Histo1D edges c (Some n)) (lane_value x place ∷ lane_value w place ∷ []) = subst (λ (z : ActionKind). FitsFeed z (lane_value x place ∷ lane_value w place ∷ [])) e (fits _ given) in
         record {
           there = (a.there, b.there);
@@ -103,7 +83,7 @@ module _ (f : ℕ → Outcome ⊥ Value) (cs : List ℕ) where
         let l : length cs ≡ 2 = count ∙ ap (λ (z : ActionKind). length (columns_of z)) e in
         let a = lx (All-from_recursion P cs hand 0 0 (omega (arith, l))) in
         let b = ly (All-from_recursion P cs hand 1 0 (omega (arith, l))) in
-        let given = two_given l (lane_value x place) (lane_value y place) a.value b.value in
+        let given = two_given f cs l (lane_value x place) (lane_value y place) a.value b.value in
         let g : FitsFeed (ActionKind.Histo2D xs ys c d None) (lane_value x place ∷ lane_value y place ∷ []) = subst (λ (z : ActionKind). FitsFeed z (lane_value x place ∷ lane_value y place ∷ [])) e (fits _ given) in
         record {
           there = (a.there, b.there);
@@ -119,7 +99,7 @@ module _ (f : ℕ → Outcome ⊥ Value) (cs : List ℕ) where
         let a = lx (All-from_recursion P cs hand 0 0 (omega (arith, l))) in
         let b = ly (All-from_recursion P cs hand 1 0 (omega (arith, l))) in
         let o = lw (All-from_recursion P cs hand 2 0 (omega (arith, l))) in
-        let given = three_given l (lane_value x place) (lane_value y place) (lane_value w place) a.value b.value o.value in
+        let given = three_given f cs l (lane_value x place) (lane_value y place) (lane_value w place) a.value b.value o.value in
         let g : FitsFeed (ActionKind.Histo2D xs ys c d (Some n)) (lane_value x place ∷ lane_value y place ∷ lane_value w place ∷ []) =
         subst (λ (z : ActionKind). FitsFeed z (lane_value x place ∷ lane_value y place ∷ lane_value w place ∷ [])) e (fits _ given) in
         record {
@@ -163,18 +143,15 @@ vector_kind lanes k r there is = got_kind lanes k r there ∙ ap Some is
 
 pub cell_source : (f : ℕ → ℕ) (x : Source) (col : ℕ) → place_of f x ≡ Place.Cell col → x ≡ Source.Cell col
 cell_source f (Source.Cell c) col e = let same : c ≡ col = cc e in ap Source.Cell same
-cell_source f (Source.Site s) col e = cc e
-cell_source f (Source.Element s i n) col e = cc e
+cell_source f x col e = cc e
 
 pub key_source : (f : ℕ → ℕ) (x : Source) (k : ℕ) → place_of f x ≡ Place.Key k → (s : ℕ) × (x ≡ Source.Site s) × (f s ≡ k)
-key_source f (Source.Cell c) k e = cc e
 key_source f (Source.Site s) k e = (s, refl, cc e)
-key_source f (Source.Element s i n) k e = cc e
+key_source f x k e = cc e
 
 pub element_source : (f : ℕ → ℕ) (x : Source) (k i n : ℕ) → place_of f x ≡ Place.Element k i n → (s : ℕ) × (x ≡ Source.Element s i n)
-element_source f (Source.Cell c) k i n e = cc e
-element_source f (Source.Site s) k i n e = cc e
 element_source f (Source.Element s a b) k i n e = let first : a ≡ i = cc e in let second : b ≡ n = cc e in (s, λ t. Source.Element s (first t) (second t))
+element_source f x k i n e = cc e
 
 -- a site that is read
 module _ (j : JobView) (first count : ℕ) (u : Option ℕ) (kinds : List ColType) (cells : List (List ℤ)) (scratch levels : ℕ) (x : Source) (can : IsServable j first u count kinds cells scratch levels x) (k : ℕ) (stood : place_of (key_under (job_graph j) u) x ≡ Place.Key k) where

@@ -11,7 +11,8 @@ use Rattle.block_passes.specs.{GivesNumber, GivesVector, HasVector, Lowers, note
 use Rattle.block_passes.specs.declared.found.Found.{Found}
 use Rattle.block_passes.proofs.Searching.{fault_lowers, none_lowers}
 use Rattle.block_cache.proofs.LaneSteps.{filter_all}
-use Rattle.std.proofs.lemmas.Bool.{cases_eq}
+use Rattle.std.proofs.lemmas.Bool.{cases_eq, cond_both, or_cases}
+use Rattle.expr_lanes.proofs.Sequence.{first_in, rest_in}
 use Rattle.rdf_model.specs.{Gives, Outcome}
 use Rattle.expr_lanes.proofs.Choices.{in_filter}
 
@@ -101,18 +102,14 @@ chosen_below f p n h = below_range n p (and_left (is_in p (range_with_len 0 n)) 
 
 -- ---- the first fault
 
+first_or_rest : (p q : ℕ) (sel : List ℕ) → is_in q (p ∷ sel) ≡ true → (q ≡ p) ⊎ (is_in q sel ≡ true)
+first_or_rest p q sel h = elim (or_cases (nat_eq q p) (is_in q sel) h) [ inl e ↦ inl (eq_says q p e) | inr k ↦ inr k ]
+
 module _ (f : ℕ → Option EntryFault) where
   -- what is said of it
   abbrev pub IsOver : List ℕ → Option PlaceFault → Type 0
   IsOver sel None = EachPlace sel (λ p. f p ≡ None)
   IsOver sel (Some x) = (is_in x.place sel ≡ true) × (f x.place ≡ Some x.kind) × EachPlace sel (λ q. q < x.place → f q ≡ None)
-
-  first_or_rest : (p q : ℕ) (sel : List ℕ) → is_in q (p ∷ sel) ≡ true → (q ≡ p) ⊎ (is_in q sel ≡ true)
-  first_or_rest p q sel h = go (nat_eq q p) refl h
-    where
-      go : (b : Bool) → nat_eq q p ≡ b → (b || is_in q sel) ≡ true → (q ≡ p) ⊎ (is_in q sel ≡ true)
-      go true e k = inl (eq_says q p e)
-      go false e k = inr k
 
   pub over : (sel : List ℕ) → AreRising sel → IsOver sel (fault_over f sel)
   over [] rising = λ p h. cc h
@@ -120,31 +117,15 @@ module _ (f : ℕ → Option EntryFault) where
     where
       go : (o : Option EntryFault) → f p ≡ o → (rest : Option PlaceFault) → IsOver sel rest → IsOver (p ∷ sel) (fault_before p o rest)
       go (Some k) e rest h = (
-        ap (λ b. b || is_in p sel) ((Decides-eqb p p).1 refl),
+        first_in p sel,
         e,
-        λ q i lt. low q (first_or_rest p q sel i) lt,
+        λ q i lt. elim (first_or_rest p q sel i) [ inl x ↦ absurd (omega (arith, x, lt)) | inr x ↦ (let a = rising.0 q x in absurd (omega (arith, a, lt))) ],
       )
-        where
-          low : (q : ℕ) → (q ≡ p) ⊎ (is_in q sel ≡ true) → q < p → f q ≡ None
-          low q (inl i) lt = absurd (omega (arith, i, lt))
-          low q (inr i) lt = let a = rising.0 q i in absurd (omega (arith, a, lt))
-      go None e None h = λ q i. none q (first_or_rest p q sel i)
-        where
-          none : (q : ℕ) → (q ≡ p) ⊎ (is_in q sel ≡ true) → f q ≡ None
-          none q (inl i) = ap f i ∙ e
-          none q (inr i) = h q i
-      go None e (Some x) h = (ap (λ b. nat_eq x.place p || b) h.0 ∙ or_true (nat_eq x.place p), h.1, λ q i lt. none q (first_or_rest p q sel i) lt)
-        where
-          none : (q : ℕ) → (q ≡ p) ⊎ (is_in q sel ≡ true) → q < x.place → f q ≡ None
-          none q (inl i) lt = ap f i ∙ e
-          none q (inr i) lt = h.2 q i lt
+      go None e None h = λ q i. elim (first_or_rest p q sel i) [ inl x ↦ ap f x ∙ e | inr x ↦ h q x ]
+      go None e (Some x) h = (rest_in x.place p sel h.0, h.1, λ q i lt. elim (first_or_rest p q sel i) [ inl y ↦ ap f y ∙ e | inr y ↦ h.2 q y lt ])
 
   pub selected_or_none : (sel : List ℕ) (p : ℕ) → (is_in p sel ≡ true → f p ≡ None) → where_in f sel p ≡ None
-  selected_or_none sel p h = go (is_in p sel) refl
-    where
-      go : (b : Bool) → is_in p sel ≡ b → (if b then f p else None) ≡ None
-      go true e = h e
-      go false e = refl
+  selected_or_none sel p h = cond_both (is_in p sel) (f p) None (λ o. o ≡ None) h (λ e. refl)
 
   pub over_lowers : (sel : List ℕ) (first pass : ℕ) (s : Found) (o : Option PlaceFault) → AreRising sel → EachPlace sel (λ p. p < s.limit) → o ≡ fault_over f sel → Lowers (where_in f sel) first pass s (noted first pass s o)
   over_lowers sel first pass s o rising inside e = go o (subst (IsOver sel) (sym e) (over sel rising))
@@ -178,13 +159,12 @@ first_at (x ∷ xs) f (suc i) k lt before here =
 
 -- ---- a fact of each
 
-place_or_rest : (P : ℕ → Type 0) (p x : ℕ) (xs : List ℕ) → P x → (is_in p xs ≡ true → P p) → (b : Bool) → nat_eq p x ≡ b → (b || is_in p xs) ≡ true → P p
-place_or_rest P p x xs here rest true e q = subst P (sym ((Decides-eqb p x).0 e)) here
-place_or_rest P p x xs here rest false e q = rest q
-
 pub each_at : (xs : List ℕ) (P : ℕ → Type 0) → ((m : ℕ) → m < length xs → P (get_or xs m 0)) → EachPlace xs P
 each_at [] P h p i = cc i
-each_at (x ∷ xs) P h p i = place_or_rest P p x xs (h 0 (omega arith)) (each_at xs P (λ m l. h (suc m) (omega (arith, l))) p) (nat_eq p x) refl i
+each_at (x ∷ xs) P h p i = elim (first_or_rest x p xs i) [
+  | inl e ↦ subst P (sym e) (h 0 (omega arith))
+  | inr k ↦ each_at xs P (λ m l. h (suc m) (omega (arith, l))) p k
+]
 
 -- ---- numbers
 

@@ -55,8 +55,6 @@ module _ (d : Dataset) (row : List Value) (u : Under) (fits : FitsRow d.columns 
       let x : ResultAt = record { booked = record { name = result; booking = ReportOn (covered earlier (path earlier parent)) }; filters = filter_sites d.columns (fn_names d.fns) earlier parent; inputs = []; covers = covered_at earlier parent } in
       let is : x ≡ r = cc q in
       subst (λ (y : ResultAt). HaveFit y.inputs) is tt
-  own_fit earlier (Action result parent k) good e (suc n) r q = cc q
-  own_fit earlier (Report result parent) good e (suc n) r q = cc q
   own_fit earlier s good e n r q = cc q
 
   result_fits : (earlier : List Statement) → AreAccepted (fn_names d.fns) (scope_of d.columns) earlier → Extends earlier before
@@ -77,12 +75,8 @@ both_fit : (t k : ColType) (v : Value) → FitsKind t v → FitsKind k v → is_
 both_fit t ColType.Int v f g scalar nb = refl
 both_fit t ColType.Bool v f g scalar nb = absurd (nb refl)
 both_fit ColType.Vect ColType.Vect v f g scalar nb = cc scalar
-both_fit ColType.Int ColType.Vect (Value.Int z) f g scalar nb = elim g [ ]
-both_fit ColType.Int ColType.Vect (Value.Bool b) f g scalar nb = elim g [ ]
-both_fit ColType.Int ColType.Vect (Value.Vect zs) f g scalar nb = elim f [ ]
-both_fit ColType.Bool ColType.Vect (Value.Int z) f g scalar nb = elim g [ ]
-both_fit ColType.Bool ColType.Vect (Value.Bool b) f g scalar nb = elim g [ ]
-both_fit ColType.Bool ColType.Vect (Value.Vect zs) f g scalar nb = elim f [ ]
+both_fit t ColType.Vect (Value.Vect zs) f g scalar nb = elim f [ ]
+both_fit t ColType.Vect v f g scalar nb = elim g [ ]
 
 module _ (j : JobView) (job : IsJob j) (first : ℕ) (within : first < length j.dataset.rows) (u : Option ℕ) (loop : IsPlainLoop j) where
   row_fits : FitsRow j.dataset.columns (row_of j first)
@@ -110,8 +104,7 @@ module _ (j : JobView) (job : IsJob j) (first : ℕ) (within : first < length j.
 
       go : (x : Source) → FitsOutcome fit.0 (source_value {M = ℕ} (row_of j first) (site_in j first u) x) → IsServable j first u count kinds cells scratch levels x → IsSourceIn loop.used x → IsPlainSource j loop.used x
       go (Source.Cell col) f there i = cell_int col fit.0 plain_kind there.0 f
-      go (Source.Site s) f there i = i
-      go (Source.Element s k tags) f there i = i
+      go x f there i = i
 
   -- an action of a loop without vectors reads columns of numbers and sites without vectors
   pub plain_reads : (pass : ℕ) (k : ActionKind) (inputs : List ℕ) → IsReadOf j pass k inputs u → (count : ℕ) (kinds : List ColType) (cells : _) (scratch levels : ℕ) → AllByRecursion (CanServe j first u count kinds cells scratch levels) inputs → ArePlainSources j loop.used u inputs

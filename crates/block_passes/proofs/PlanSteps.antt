@@ -138,12 +138,8 @@ none_more j chains steps are = record { are = subst (λ (cs : List Chain). AreSt
 pub more_steps : (j : JobView) (chains a b : List Chain) (old new : List Step) → AreStepsOf j chains a old → AreStepsOf j (chains ++ a) b new → AreStepsOf j chains (a ++ b) new
 more_steps j chains a b old new h k = record {
   are = subst (λ (cs : List Chain). AreSteps cs new) (append_assoc chains a b) k.are;
-  tried = λ i c q. either i c (get_joined a b i c q);
+  tried = λ i c q. elim (get_joined a b i c q) [ inl x ↦ h.tried i c x | inr x ↦ k.tried x.0 c x.1 ];
 }
-  where
-    either : (i : ℕ) (c : Chain) → (slice_get a i ≡ Some c) ⊎ ((n : ℕ) × (slice_get b n ≡ Some c)) → IsTried j c
-    either i c (inl q) = h.tried i c q
-    either i c (inr q) = k.tried q.0 c q.1
 
 -- ---- pieces of the plan, one after another
 
@@ -311,7 +307,10 @@ pub planned : (j : JobView) (mid last : List Step) (passes : List ℕ) (filters 
 planned j mid last passes filters h k = record {
   chains = (root ++ h.more) ++ k.more;
   steps = k.steps_of.are;
-  tried = λ i c q. tried i c (get_joined (root ++ h.more) k.more i c q);
+  tried = λ i c q. elim (get_joined (root ++ h.more) k.more i c q) [
+    | inl x ↦ elim (get_joined root h.more i c x) [ inl y ↦ in_root i c y | inr y ↦ h.steps_of.tried y.0 c y.1 ]
+    | inr x ↦ k.steps_of.tried x.0 c x.1
+  ];
   many_passes = h.many;
   passes = λ n l q. pass_kept j (root ++ h.more) k.more n l (h.each n l q);
   many_filters = k.many;
@@ -321,14 +320,6 @@ planned j mid last passes filters h k = record {
     in_root : (i : ℕ) (c : Chain) → slice_get root i ≡ Some c → IsTried j c
     in_root zero c q = let e : record { sites = []; under = None } ≡ c = cc q in inl (sym (ap (λ (x : Chain). x.sites) e))
     in_root (suc i) c q = cc q
-
-    either : (i : ℕ) (c : Chain) → (slice_get root i ≡ Some c) ⊎ ((n : ℕ) × (slice_get h.more n ≡ Some c)) → IsTried j c
-    either i c (inl q) = in_root i c q
-    either i c (inr q) = h.steps_of.tried q.0 c q.1
-
-    tried : (i : ℕ) (c : Chain) → (slice_get (root ++ h.more) i ≡ Some c) ⊎ ((n : ℕ) × (slice_get k.more n ≡ Some c)) → IsTried j c
-    tried i c (inl q) = either i c (get_joined root h.more i c q)
-    tried i c (inr q) = k.steps_of.tried q.0 c q.1
 
 -- ---- answers
 

@@ -23,35 +23,22 @@ use Rattle.block_passes.proofs.Serving.{still_at_hand}
 
 module _ (count : ℕ) where
   pub remade_then : (a b c : List Kept) → AreRemade count a b → AreRemade count b c → AreRemade count a c
-  remade_then a b c h k i m e = go (k i m e)
-    where
-      go : (slice_get b i ≡ Some m) ⊎ IsMadeBelow count m → (slice_get a i ≡ Some m) ⊎ IsMadeBelow count m
-      go (inl q) = h i m q
-      go (inr q) = inr q
+  remade_then a b c h k i m e = elim (k i m e) [ inl q ↦ h i m q | inr q ↦ inr q ]
 
   -- one was made
   pub remade_set : (kept : List Kept) (k : ℕ) (x : Kept) (now : List Kept) → now ≡ slice_set kept k x → IsMadeBelow count x → AreRemade count kept now
-  remade_set kept k x now written made i m e = go (set_other kept k x i m (ap (λ ks. slice_get ks i) (sym written) ∙ e))
-    where
-      go : (slice_get kept i ≡ Some m) ⊎ ((i ≡ k) × (m ≡ x)) → (slice_get kept i ≡ Some m) ⊎ IsMadeBelow count m
-      go (inl q) = inl q
-      go (inr q) = inr (subst (λ (y : Kept). IsMadeBelow count y) (sym q.1) made)
+  remade_set kept k x now written made i m e = elim (set_other kept k x i m (ap (λ ks. slice_get ks i) (sym written) ∙ e)) [
+    | inl q ↦ inl q
+    | inr q ↦ inr (subst (λ (y : Kept). IsMadeBelow count y) (sym q.1) made)
+  ]
 
   -- the first behind others was made
   pub remade_behind : (above own : List Kept) (x : Kept) (now : List Kept) → now ≡ slice_set own 0 x → IsMadeBelow count x → AreRemade count (above ++ own) (above ++ now)
-  remade_behind above own x now written made i m e = go (set_behind above own x i m (ap (λ ks. slice_get (above ++ ks) i) (sym written) ∙ e))
-    where
-      go : (slice_get (above ++ own) i ≡ Some m) ⊎ ((i ≡ length above) × (m ≡ x)) → (slice_get (above ++ own) i ≡ Some m) ⊎ IsMadeBelow count m
-      go (inl q) = inl q
-      go (inr q) = inr (subst (λ (y : Kept). IsMadeBelow count y) (sym q.1) made)
+  remade_behind above own x now written made = remade_set (above ++ own) (length above) x (above ++ now) (ap (λ ks. above ++ ks) written ∙ set_behind above own x) made
 
   -- what was made stays so
   pub made_stays : (a b : List Kept) (k : ℕ) → AreRemade count a b → IsMadeAt count a k → IsMadeAt count b k
-  made_stays a b k h made m e = go (h k m e)
-    where
-      go : (slice_get a k ≡ Some m) ⊎ IsMadeBelow count m → IsMadeBelow count m
-      go (inl q) = made m q
-      go (inr q) = q
+  made_stays a b k h made m e = elim (h k m e) [ inl q ↦ made m q | inr q ↦ q ]
 
   pub made_set : (kept : List Kept) (k : ℕ) (x : Kept) → k < length kept → IsMadeBelow count x → IsMadeAt count (slice_set kept k x) k
   made_set kept k x lt made m e = subst (λ (y : Kept). IsMadeBelow count y) (some_same x m (sym (set_at kept k x lt) ∙ e)) made
@@ -139,9 +126,8 @@ module _ (j : JobView) (first count : ℕ) (before after : List LaneView) (start
 -- ---- the block's first fault
 
 same_fault : (j : JobView) (row : Option (List Value)) (p : Option Pass) → fault_in (outcome_of j row p) ≡ fault_of j.dataset row p
-same_fault j None p = refl
 same_fault j (Some row) None = refl
-same_fault j (Some row) (Some p) = refl
+same_fault j row p = refl
 
 -- where all passes were tried, the best fault is the first one of the block's rows
 pub first_searched : (j : JobView) (first count : ℕ) (s : Found) → first + count ≤ length j.dataset.rows → IsSearched (λ q n. pass_fault j (first + q) n) first count (length (passes_in j)) s

@@ -8,6 +8,7 @@ use Rattle.rdf_model.specs.{◌>>=◌, Dataset, Entry, fault_in, fault_or, Fault
 use Rattle.graph_numbers.specs.{action_numbers, FilterAt, report_numbers, ResultAt, through_filter, through_sites}
 use Rattle.loop_keys.specs.{JobView, site_in}
 use Rattle.lemmas.proofs.{lt_or_last}
+use Rattle.block_cache.proofs.Attempts.{get_take}
 
 -- the former fault, or else the latter
 abbrev pub or_else : Option EntryFault → Option EntryFault → Option EntryFault
@@ -34,14 +35,13 @@ module _ (a b : ℕ → Option EntryFault) (first pass : ℕ) (old mid new : Fou
   both_clear p lt = let f = k.falls in ap (λ o. or_else o (b p)) (h.clear p (omega (arith, lt, f))) ∙ k.clear p lt
 
   both_found : new.limit < old.limit → (kind : EntryFault) × (or_else (a new.limit) (b new.limit) ≡ Some kind) × (new ≡ fault_at first pass new.limit kind)
-  both_found lt = go (let f = k.falls in lt_or_last new.limit mid.limit (omega (arith, f)))
-    where
-      go : (new.limit < mid.limit) ⊎ (new.limit ≡ mid.limit) → (kind : EntryFault) × (or_else (a new.limit) (b new.limit) ≡ Some kind) × (new ≡ fault_at first pass new.limit kind)
-      go (inl q) = let w = k.found q in (w.0, ap (λ o. or_else o (b new.limit)) (h.clear new.limit q) ∙ w.1, w.2)
-      go (inr q) =
-          let e = k.same q in
-          let w = h.found (omega (arith, q, lt)) in
-          (w.0, ap (λ o. or_else o (b new.limit)) (ap a q ∙ w.1), e ∙ w.2 ∙ ap (λ n. fault_at first pass n w.0) (sym q))
+  both_found lt = elim (let f = k.falls in lt_or_last new.limit mid.limit (omega (arith, f))) [
+    | inl q ↦ let w = k.found q in (w.0, ap (λ o. or_else o (b new.limit)) (h.clear new.limit q) ∙ w.1, w.2)
+    | inr q ↦
+        let e = k.same q in
+        let w = h.found (omega (arith, q, lt)) in
+        (w.0, ap (λ o. or_else o (b new.limit)) (ap a q ∙ w.1), e ∙ w.2 ∙ ap (λ n. fault_at first pass n w.0) (sym q))
+  ]
 
   pub both_lower : Lowers (λ p. or_else (a p) (b p)) first pass old new
   both_lower = record {
@@ -74,15 +74,11 @@ module _ (fault : ℕ → ℕ → Option EntryFault) (first count : ℕ) where
 
   pub pass_ends : (left : ℕ → Option EntryFault) (pass : ℕ) (s : Found) → IsAmid fault left first count pass s → ((p : ℕ) → p < s.limit → left p ≡ None) → IsSearched fault first count (pass + 1) s
   pass_ends left pass s h none = record {
-    clear = λ p n lt k. go p n lt (lt_or_last n pass k);
+    clear = λ p n lt k. elim (lt_or_last n pass k) [ inl x ↦ h.clear p n lt x | inr x ↦ ap (fault p) x ∙ h.rest p lt ∙ none p lt ];
     whole = h.whole;
     within = h.within;
     at_limit = h.at_limit;
   }
-    where
-      go : (p n : ℕ) → p < s.limit → (n < pass) ⊎ (n ≡ pass) → fault p n ≡ None
-      go p n lt (inl k) = h.clear p n lt k
-      go p n lt (inr k) = ap (fault p) k ∙ h.rest p lt ∙ none p lt
 
   -- a part is tried, behind which others are left
   module _ (left part rest : ℕ → Option EntryFault) (pass : ℕ) (s t : Found) (h : IsAmid fault left first count pass s) (split : (p : ℕ) → p < s.limit → left p ≡ or_else (part p) (rest p)) (low : Lowers part first pass s t) where
@@ -117,7 +113,7 @@ module _ (fault : ℕ → ℕ → Option EntryFault) (first count : ℕ) where
       rest = λ p lt. (let f = low.falls in let q : p < s.limit = omega (arith, lt, f) in h.rest p q ∙ split p q ∙ ap (λ o. or_else o (rest p)) (low.clear p lt));
       whole = λ e. whole e stays;
       within = (let f = low.falls in let g = h.within in omega (arith, f, g));
-      at_limit = λ f e. at f e stays;
+      at_limit = λ f e. elim stays [ inl q ↦ at_found q f e | inr q ↦ at_same (low.same q) f e ];
     }
       where
         stays : (t.limit < s.limit) ⊎ (t.limit ≡ s.limit)
@@ -127,11 +123,6 @@ module _ (fault : ℕ → ℕ → Option EntryFault) (first count : ℕ) where
         whole e (inl q) = let w = low.found q in absurd (let x : ◌≡◌ {A = Option Fault} None (Some (record { entry = first + t.limit; pass = pass; kind = w.0 })) = sym e ∙ ap (λ (x : Found). x.best) w.2 in cc x)
         whole e (inr q) = q ∙ h.whole (ap (λ (x : Found). x.best) (sym (low.same q)) ∙ e)
 
-        at : (f : Fault) → t.best ≡ Some f → (t.limit < s.limit) ⊎ (t.limit ≡ s.limit)
-            → (f.entry ≡ first + t.limit) × (t.limit < count) × (f.pass < pass + 1) × (fault t.limit f.pass ≡ Some f.kind) × ((n : ℕ) → n < f.pass → fault t.limit n ≡ None)
-        at f e (inl q) = at_found q f e
-        at f e (inr q) = at_same (low.same q) f e
-
 -- ---- A pass in parts, by numbers: its filters one after another, the versions that it reads, and whether their values can be fed.
 
 -- ---- one filter
@@ -139,16 +130,13 @@ module _ (fault : ℕ → ℕ → Option EntryFault) (first count : ℕ) where
 -- the truth of a value is no fault
 pub truth_fault : (o : Outcome ⊥ Value) → fault_in (o >>= truth_of) ≡ fault_in o
 truth_fault (Gives (Value.Int z)) = refl
-truth_fault (Gives (Value.Bool b)) = refl
-truth_fault (Gives (Value.Vect zs)) = refl
-truth_fault (Faults k) = refl
 truth_fault (Needs m) = elim m [ ]
+truth_fault o = refl
 
 only_truth : (o : Outcome ⊥ Bool) → (o >>= λ passed. if passed then Gives true else Gives false) ≡ o
 only_truth (Gives true) = refl
-only_truth (Gives false) = refl
-only_truth (Faults k) = refl
 only_truth (Needs m) = elim m [ ]
+only_truth o = refl
 
 -- a choice of a choice
 chosen_twice : (o : Outcome ⊥ Bool) (a b : Outcome ⊥ Bool) (f : Bool → Outcome ⊥ Bool) → (a >>= f) ≡ b → (f false ≡ Gives false)
@@ -168,9 +156,8 @@ through_more site (t ∷ path) s =
 more_fault : (o : Outcome ⊥ Bool) (x : Outcome ⊥ Value)
     → fault_in (o >>= λ passed. if passed then x >>= truth_of else Gives false) ≡ or_else (fault_in o) (where_passed o (fault_in x))
 more_fault (Gives true) x = truth_fault x
-more_fault (Gives false) x = refl
-more_fault (Faults k) x = refl
 more_fault (Needs m) x = elim m [ ]
+more_fault o x = refl
 
 pub step_fault : (site : ℕ → Outcome ⊥ Value) (path : List ℕ) (s : ℕ)
     → fault_in (through_sites site (path ++ s ∷ [])) ≡ or_else (fault_in (through_sites site path)) (where_passed (through_sites site path) (fault_in (site s)))
@@ -178,9 +165,8 @@ step_fault site path s = ap (fault_in {A = Bool}) (through_more site path s) ∙
 
 more_true : (o : Outcome ⊥ Bool) (x : Outcome ⊥ Value) → is_true (o >>= λ passed. if passed then x >>= truth_of else Gives false) ≡ (is_true o && is_true (x >>= truth_of))
 more_true (Gives true) x = refl
-more_true (Gives false) x = refl
-more_true (Faults k) x = refl
 more_true (Needs m) x = elim m [ ]
+more_true o x = refl
 
 pub step_true : (site : ℕ → Outcome ⊥ Value) (path : List ℕ) (s : ℕ) → is_true (through_sites site (path ++ s ∷ [])) ≡ (is_true (through_sites site path) && is_true (site s >>= truth_of))
 step_true site path s = ap is_true (through_more site path s) ∙ more_true (through_sites site path) (site s)
@@ -188,11 +174,9 @@ step_true site path s = ap is_true (through_more site path s) ∙ more_true (thr
 -- ---- what is read
 
 all_fault : (x : Outcome ⊥ Value) (o : Outcome ⊥ (List Value)) → fault_in (x >>= λ v. o >>= λ vs. Gives (v ∷ vs)) ≡ or_else (fault_in x) (fault_in o)
-all_fault (Gives v) (Gives vs) = refl
-all_fault (Gives v) (Faults k) = refl
 all_fault (Gives v) (Needs m) = elim m [ ]
-all_fault (Faults k) o = refl
 all_fault (Needs m) o = elim m [ ]
+all_fault x o = refl
 
 pub inputs_fault : (version : ℕ → Outcome ⊥ Value) (c : ℕ) (cs : List ℕ) → fault_in (for_all version (c ∷ cs)) ≡ or_else (fault_in (version c)) (fault_in (for_all version cs))
 inputs_fault version c cs = all_fault (version c) (for_all version cs)
@@ -208,9 +192,8 @@ fed_fault k (Needs m) = elim m [ ]
 
 acted_fault : (o : Outcome ⊥ Bool) (x : Outcome ⊥ Entry) → fault_in (o >>= λ passed. if passed then x else Gives Skip) ≡ or_else (fault_in o) (where_passed o (fault_in x))
 acted_fault (Gives true) x = refl
-acted_fault (Gives false) x = refl
-acted_fault (Faults k) x = refl
 acted_fault (Needs m) x = elim m [ ]
+acted_fault o x = refl
 
 -- an action's pass: its filters, then what it reads, then whether it can be fed
 pub action_fault : (site version : ℕ → Outcome ⊥ Value) (k : ActionKind) (r : ResultAt)
@@ -223,9 +206,8 @@ action_fault site version k r =
 -- ---- reports
 
 tried_fault : (o : Outcome ⊥ Bool) (x : Outcome ⊥ Entry) → fault_in (o >>= λ passed. x) ≡ or_else (fault_in o) (fault_in x)
-tried_fault (Gives b) x = refl
-tried_fault (Faults k) x = refl
 tried_fault (Needs m) x = elim m [ ]
+tried_fault o x = refl
 
 pub report_fault : (nominal : ℕ → Outcome ⊥ Value) (filters : List FilterAt) (f : ℕ) (fs : List ℕ)
     → fault_in (report_numbers nominal filters (f ∷ fs)) ≡ or_else (fault_in (through_filter nominal (slice_get filters f))) (fault_in (report_numbers nominal filters fs))
@@ -235,9 +217,8 @@ report_fault nominal filters f fs = tried_fault (through_filter nominal (slice_g
 
 pub where_split : (o : Outcome ⊥ Bool) (a b : Option EntryFault) → where_passed o (or_else a b) ≡ or_else (where_passed o a) (where_passed o b)
 where_split (Gives true) a b = refl
-where_split (Gives false) a b = refl
-where_split (Faults k) a b = refl
 where_split (Needs m) a b = elim m [ ]
+where_split o a b = refl
 
 -- ---- the filters of a chain
 
@@ -317,15 +298,9 @@ get_dropped zero xs p = let e : p ≡ 0 + p = omega arith in ap (slice_get xs) e
 get_dropped (suc lo) [] p = refl
 get_dropped (suc lo) (x ∷ xs) p = let e : suc (lo + p) ≡ suc lo + p = omega arith in get_dropped lo xs p ∙ ap (slice_get (x ∷ xs)) e
 
-get_taken : {A : Type 0} (n : ℕ) (xs : List A) (p : ℕ) → p < n → slice_get (take n xs) p ≡ slice_get xs p
-get_taken zero xs p lt = absurd (omega (arith, lt))
-get_taken (suc n) [] p lt = refl
-get_taken (suc n) (x ∷ xs) zero lt = refl
-get_taken (suc n) (x ∷ xs) (suc p) lt = get_taken n xs p (omega (arith, lt))
-
 -- the row at a place of a block is that of its entry
 pub row_in_block : {A : Type 0} (xs : List A) (lo hi p : ℕ) → p < hi - lo → slice_get (slice_range xs lo hi) p ≡ slice_get xs (lo + p)
-row_in_block xs lo hi p lt = get_taken (hi - lo) (drop lo xs) p lt ∙ get_dropped lo xs p
+row_in_block xs lo hi p lt = get_take (drop lo xs) (hi - lo) p lt ∙ get_dropped lo xs p
 
 -- the same by other faults, which are alike at each place
 pub searched_as : (a b : ℕ → ℕ → Option EntryFault) (first count passes : ℕ) (s : Found) → ((p n : ℕ) → p < count → a p n ≡ b p n) → IsSearched a first count passes s → IsSearched b first count passes s

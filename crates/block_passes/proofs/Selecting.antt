@@ -15,7 +15,8 @@ use Rattle.block_passes.proofs.Demanding.{step_demanded}
 use Rattle.block_passes.proofs.Places.{chosen_below, in_chosen, all_pass, filter_twice, narrowed}
 use Rattle.block_passes.proofs.Searching.{step_fault, step_true, truth_fault, chain_through, both_lower, lowers_as, or_else, none_lowers}
 use Rattle.block_passes.proofs.Spending.{spends_filled}
-use Rattle.std.proofs.lemmas.Option.{slice_get_within, slice_get-get_or}
+use Rattle.std.proofs.lemmas.List.{set-get_or}
+use Rattle.std.proofs.lemmas.Option.{get_or_from_slice_get, slice_get_within, slice_get-get_or}
 use Rattle.lemmas.proofs.{kept_at, set_at, set_length}
 use Rattle.block_passes.specs.declared.steps.Step.{Step}
 use Rattle.loop_keys.proofs.PassNumbers.{some_same}
@@ -119,15 +120,9 @@ kept_lower j first chains limit lower kept le h = record {
 -- ---- a selection that is written
 
 pub set_other : {A : Type 0} (xs : List A) (k : ℕ) (y : A) (i : ℕ) (x : A) → slice_get (slice_set xs k y) i ≡ Some x → (slice_get xs i ≡ Some x) ⊎ ((i ≡ k) × (x ≡ y))
-set_other [] k y i x h = inl h
 set_other (z ∷ xs) zero y zero x h = inr (refl, cc h)
-set_other (z ∷ xs) zero y (suc i) x h = inl h
-set_other (z ∷ xs) (suc k) y zero x h = inl h
-set_other (z ∷ xs) (suc k) y (suc i) x h = go (set_other xs k y i x h)
-  where
-    go : (slice_get xs i ≡ Some x) ⊎ ((i ≡ k) × (x ≡ y)) → (slice_get xs i ≡ Some x) ⊎ ((suc i ≡ suc k) × (x ≡ y))
-    go (inl q) = inl q
-    go (inr q) = inr (ap (λ n. suc n) q.0, q.1)
+set_other (z ∷ xs) (suc k) y (suc i) x h = elim (set_other xs k y i x h) [ inl q ↦ inl q | inr q ↦ inr (ap (λ n. suc n) q.0, q.1) ]
+set_other xs k y i x h = inl h
 
 module _ (j : JobView) (first count : ℕ) (chains : List Chain) (pass k : ℕ) (c : Chain) (its : slice_get chains k ≡ Some c) (lanes : List LaneView) (kept now : List Kept) (s : Found)
     (ready : IsReadyBelow j first count chains s.limit lanes kept) (x : Kept) (limit : x.limit ≡ Some s.limit) (made : IsMade j first c s.limit s.limit x.places) (written : now ≡ slice_set kept k x) where
@@ -195,9 +190,7 @@ pub kept_inside : (j : JobView) (first limit : ℕ) (chains : List Chain) (steps
 kept_inside j first limit chains steps kept k are h lt = let a = are.many in let b = h.many in omega (arith, a, b, lt)
 
 pub set_same : {A : Type 0} (xs : List A) (k : ℕ) (x : A) → slice_get xs k ≡ Some x → slice_set xs k x ≡ xs
-set_same [] k x h = cc h
-set_same (y ∷ xs) zero x h = let e : x ≡ y = sym (cc h) in ap (λ z. z ∷ xs) e
-set_same (y ∷ xs) (suc k) x h = ap (λ l. y ∷ l) (set_same xs k x h)
+set_same xs k x h = ap (slice_set xs k) (sym (get_or_from_slice_get xs k x x h)) ∙ set-get_or xs k x
 
 module _ (old new : Kept) (limit : ℕ) (b : Bool) (none : old.limit ≡ None → (b ≡ false) × (new ≡ old)) (some : (made : ℕ) → old.limit ≡ Some made → (b ≡ true) × IsNarrowed limit made old new) where
   pub was_made : b ≡ true → (made : ℕ) × (old.limit ≡ Some made) × IsNarrowed limit made old new
@@ -218,22 +211,10 @@ module _ (old new : Kept) (limit : ℕ) (b : Bool) (none : old.limit ≡ None �
 
 -- ---- lists in two parts
 
--- an element of two lists, of which the first of the latter was written
-pub set_behind : {A : Type 0} (xs ys : List A) (y : A) (k : ℕ) (x : A) → slice_get (xs ++ slice_set ys 0 y) k ≡ Some x → (slice_get (xs ++ ys) k ≡ Some x) ⊎ ((k ≡ length xs) × (x ≡ y))
-set_behind [] [] y k x h = inl h
-set_behind [] (z ∷ ys) y zero x h = inr (refl, cc h)
-set_behind [] (z ∷ ys) y (suc k) x h = inl h
-set_behind (w ∷ xs) ys y zero x h = inl h
-set_behind (w ∷ xs) ys y (suc k) x h = go (set_behind xs ys y k x h)
-  where
-    go : (slice_get (xs ++ ys) k ≡ Some x) ⊎ ((k ≡ length xs) × (x ≡ y)) → (slice_get (xs ++ ys) k ≡ Some x) ⊎ ((suc k ≡ suc (length xs)) × (x ≡ y))
-    go (inl q) = inl q
-    go (inr q) = inr (ap (λ n. suc n) q.0, q.1)
-
-set_there : {A : Type 0} (xs ys : List A) (y : A) → 0 < length ys → slice_get (xs ++ slice_set ys 0 y) (length xs) ≡ Some y
-set_there [] [] y h = absurd (omega (arith, h))
-set_there [] (z ∷ ys) y h = refl
-set_there (w ∷ xs) ys y h = set_there xs ys y h
+-- of which the first of the latter was written
+pub set_behind : {A : Type 0} (xs ys : List A) (y : A) → xs ++ slice_set ys 0 y ≡ slice_set (xs ++ ys) (length xs) y
+set_behind [] ys y = refl
+set_behind (x ∷ xs) ys y = ap (λ l. x ∷ l) (set_behind xs ys y)
 
 -- ---- the step
 
@@ -275,34 +256,17 @@ module _ (j : JobView) (job : IsJob j) (first count pass : ℕ) (plan : PlanView
     falls : f2.limit ≤ f1.limit
     falls = part.falls
 
-    kept_now : AreKept j first p.chains f2.limit (above ++ now)
-    kept_now = record {
-      many = (
-          let a = length-append above now in
-          let b = length-append above own in
-          let c = ap length written ∙ set_length own 0 to in
-          let m = ready.kept_are.many in
-          omega (arith, a, b, c, m));
-      each = λ i made c x q r l. one i made c x q l (set_behind above own to i x (ap (λ ks. slice_get (above ++ ks) i) (sym written) ∙ r));
-    }
-      where
-        one : (i made : ℕ) (c : Chain) (x : Kept) → slice_get p.chains i ≡ Some c → x.limit ≡ Some made → (slice_get (above ++ own) i ≡ Some x) ⊎ ((i ≡ length above) × (x ≡ to)) → IsMade j first c f2.limit made x.places
-        one i made c x q l (inl r) = (kept_lower j first p.chains f1.limit f2.limit (above ++ own) falls ready.kept_are).each i made c x q r l
-        one i made c x q l (inr r) =
-            let at : i ≡ k = r.0 ∙ many in
-            let chain : longer s.up site u ≡ c = some_same (longer s.up site u) c (sym s.own ∙ ap (slice_get p.chains) (sym at) ∙ q) in
-            let limit : f2.limit ≡ made = some_same f2.limit made (sym h.its_limit ∙ ap (λ (y : Kept). y.limit) (sym r.1) ∙ l) in
-            subst (λ (y : Chain). IsMade j first y f2.limit made x.places) chain
-            (subst (λ (n : ℕ). IsMade j first (longer s.up site u) f2.limit n x.places) limit
-            (subst (λ (y : Kept). IsMade j first (longer s.up site u) f2.limit f2.limit y.places) (sym r.1) own_made))
+    own_selected : IsSelectedTo j first count p.chains pass k after (above ++ now) f2 f2
+    own_selected =
+        written_selected j first count p.chains pass k (longer s.up site u) s.own after (above ++ own) (above ++ now) f2
+        (record { ready = h.ready; settled = h.settled; kept_are = kept_lower j first p.chains f1.limit f2.limit (above ++ own) falls ready.kept_are; within = omega (arith, falls, ready.within) })
+        to h.its_limit own_made (ap (λ ks. above ++ ks) written ∙ set_behind above own to ∙ ap (λ n. slice_set (above ++ own) n to) many)
 
-    pub next_selected : 0 < length own → IsNextSelected j first count p.chains pass k parent site u after (above ++ now) f1 f2
-    next_selected some = record {
-      ready = record { ready = h.ready; settled = h.settled; kept_are = kept_now; within = (let a = falls in let b = ready.within in omega (arith, a, b)) };
+    pub next_selected : IsNextSelected j first count p.chains pass k parent site u after (above ++ now) f1 f2
+    next_selected = record {
+      ready = own_selected.ready;
       lowers = λ c q. subst (λ (y : Chain). Lowers (λ n. where_passed (through_chain j (first + n) y) (fault_in (truth_in j (first + n) u site))) first pass f1 f2) (some_same s.up c (sym s.its_up ∙ q)) part;
-      made = λ x q. (
-          let e : to ≡ x = some_same to x (sym (set_there above own to some) ∙ ap (λ ks. slice_get (above ++ ks) (length above)) (sym written) ∙ ap (slice_get (above ++ now)) many ∙ q) in
-          ap (λ (y : Kept). y.limit) (sym e) ∙ h.its_limit);
+      made = own_selected.made;
     }
 
 -- ---- How selections are made.

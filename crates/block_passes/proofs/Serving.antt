@@ -15,7 +15,7 @@ use Rattle.block_passes.specs.declared.kept.Kept.{Kept}
 use Rattle.block_passes.proofs.Places.{left_below, over_lowers, selected_or_none, filter_twice}
 use Rattle.block_passes.proofs.Searching.{none_lowers, both_lower, lowers_as, or_else, inputs_fault as all_fault}
 use Rattle.block_passes.proofs.Spending.{settled_outside, spends_filled}
-use Rattle.lemmas.proofs.{and_false, and_true, lt_says, something_at}
+use Rattle.lemmas.proofs.{and_false, and_true, lt_says, same_some, something_at}
 use Rattle.block_cache.proofs.LaneSteps.{filter_all}
 use Rattle.std.proofs.lemmas.Option.{slice_get-get_or, slice_get_read}
 use Rattle.rdf_model.proofs.Missing.{alike_is, tag_alike}
@@ -153,10 +153,7 @@ given_none (Needs m) h = elim m [ ]
 
 pub known_held : (h : Held) (n tags : ℕ) (v : Value) → held_element 0 h n tags ≡ Gives v → is_known h ≡ true
 known_held Held.Nothing n tags v e = cc e
-known_held (Held.Int z) n tags v e = refl
-known_held (Held.Bool b) n tags v e = refl
-known_held (Held.Vect zs) n tags v e = refl
-known_held (Held.Faulted k) n tags v e = refl
+known_held h n tags v e = refl
 
 -- a value that an input tells
 vect_told : (i : Input) (w : Value) → input_outcome 0 i ≡ Gives w → (zs : _) → i ≡ Input.Vect zs → w ≡ Value.Vect zs.now
@@ -194,30 +191,25 @@ module _ (j : JobView) (first count : ℕ) (u : Option ℕ) (s : ℕ) (inside : 
           let same : value_of l p ≡ v = (let f : ◌≡◌ {A = Outcome ℕ Value} (Gives (value_of l p)) (Gives v) = sym input_given ∙ is in cc f) in
           ap (λ (o : Outcome ⊥ Value). o >>= tag_element tags n) (lane_gives ∙ ap Gives same) ∙ none
 
+      pub never_stops : ((x : EntryFault) × (i ≡ Input.Faulted x)) ⊎ (i ≡ Input.Missing) → ⊥
+      never_stops (inl x) = let f : ◌≡◌ {A = Outcome ℕ Value} (Faults x.0) (Gives (value_of l p)) = sym (ap (input_outcome 0) x.1) ∙ input_given in cc f
+      never_stops (inr x) = let f : ◌≡◌ {A = Outcome ℕ Value} (Needs 0) (Gives (value_of l p)) = sym (ap (input_outcome 0) x) ∙ input_given in cc f
+
       -- a lane of vectors tells a vector
+      tells : slice_get (kinds_of lanes) k ≡ Some ColType.Vect → input_outcome 0 i ≡ Gives (value_for ColType.Vect l.vectors (at_place l.numbers p))
+      tells vectors = input_given ∙ ap (λ t. Gives (value_for t l.vectors (at_place l.numbers p))) (same_some (sym (got_kind lanes k l at) ∙ vectors))
+
       pub vect_only : slice_get (kinds_of lanes) k ≡ Some ColType.Vect → ((x : ℤ) × (i ≡ Input.Int x)) ⊎ (((x : Bool) × (i ≡ Input.Bool x)) ⊎ (((x : EntryFault) × (i ≡ Input.Faulted x)) ⊎ (i ≡ Input.Missing))) → ⊥
-      vect_only vectors other = go other
-        where
-          kind_is : l.kind ≡ ColType.Vect
-          kind_is = let f : ◌≡◌ {A = Option ColType} (Some l.kind) (Some ColType.Vect) = sym (got_kind lanes k l at) ∙ vectors in cc f
-
-          tells : input_outcome 0 i ≡ Gives (value_for ColType.Vect l.vectors (at_place l.numbers p))
-          tells = input_given ∙ ap (λ t. Gives (value_for t l.vectors (at_place l.numbers p))) kind_is
-
-          go : ((x : ℤ) × (i ≡ Input.Int x)) ⊎ (((x : Bool) × (i ≡ Input.Bool x)) ⊎ (((x : EntryFault) × (i ≡ Input.Faulted x)) ⊎ (i ≡ Input.Missing))) → ⊥
-          go (inl x) = let f : ◌≡◌ {A = Outcome ℕ Value} (Gives (Value.Int x.0)) (Gives (Value.Vect (slice_index_or l.vectors (nat_abs (at_place l.numbers p)) []))) = sym (ap (input_outcome 0) x.1) ∙ tells in cc f
-          go (inr (inl x)) = let f : ◌≡◌ {A = Outcome ℕ Value} (Gives (Value.Bool x.0)) (Gives (Value.Vect (slice_index_or l.vectors (nat_abs (at_place l.numbers p)) []))) = sym (ap (input_outcome 0) x.1) ∙ tells in cc f
-          go (inr (inr (inl x))) = let f : ◌≡◌ {A = Outcome ℕ Value} (Faults x.0) (Gives (value_of l p)) = sym (ap (input_outcome 0) x.1) ∙ input_given in cc f
-          go (inr (inr (inr x))) = let f : ◌≡◌ {A = Outcome ℕ Value} (Needs 0) (Gives (value_of l p)) = sym (ap (input_outcome 0) x) ∙ input_given in cc f
+      vect_only vectors (inl x) =
+          let f : ◌≡◌ {A = Outcome ℕ Value} (Gives (Value.Int x.0)) (Gives (Value.Vect (slice_index_or l.vectors (nat_abs (at_place l.numbers p)) []))) = sym (ap (input_outcome 0) x.1) ∙ tells vectors in cc f
+      vect_only vectors (inr (inl x)) =
+          let f : ◌≡◌ {A = Outcome ℕ Value} (Gives (Value.Bool x.0)) (Gives (Value.Vect (slice_index_or l.vectors (nat_abs (at_place l.numbers p)) []))) = sym (ap (input_outcome 0) x.1) ∙ tells vectors in cc f
+      vect_only vectors (inr (inr other)) = never_stops other
 
       -- what has no elements has 0 for each
       pub scalar_input : (tags n : ℕ) → ((x : ℤ) × (i ≡ Input.Int x)) ⊎ ((x : Bool) × (i ≡ Input.Bool x)) → (site_in {M = ⊥} j (first + p) u s >>= tag_element tags n) ≡ Gives (Value.Int (pos 0))
       scalar_input tags n (inl x) = input_other tags n (Value.Int x.0) (ap (input_outcome 0) x.1) refl
       scalar_input tags n (inr x) = input_other tags n (Value.Bool x.0) (ap (input_outcome 0) x.1) refl
-
-      pub never_stops : ((x : EntryFault) × (i ≡ Input.Faulted x)) ⊎ (i ≡ Input.Missing) → ⊥
-      never_stops (inl x) = let f : ◌≡◌ {A = Outcome ℕ Value} (Faults x.0) (Gives (value_of l p)) = sym (ap (input_outcome 0) x.1) ∙ input_given in cc f
-      never_stops (inr x) = let f : ◌≡◌ {A = Outcome ℕ Value} (Needs 0) (Gives (value_of l p)) = sym (ap (input_outcome 0) x) ∙ input_given in cc f
 
   held_site : holds_at lanes k p ≡ true → (w : Value) × (cell ≡ held_value w) × (site_in {M = ⊥} j (first + p) u s ≡ Gives w)
   held_site holds = go (slice_get lanes k) refl
@@ -278,9 +270,8 @@ kind_got cs now e i lt d t is = ap (option_map (λ (c : Column). c.kind)) (slice
 
 -- the site's fault is first that of its element
 element_or : (o : Outcome ⊥ Value) (tags n : ℕ) → or_else (fault_in o) (fault_in (o >>= tag_element tags n)) ≡ fault_in (o >>= tag_element tags n)
-element_or (Gives v) tags n = refl
-element_or (Faults k) tags n = refl
 element_or (Needs m) tags n = elim m [ ]
+element_or o tags n = refl
 
 -- ---- the site is filled, and then its elements are tested
 
@@ -314,8 +305,7 @@ still_at_hand j first count before after start end spends u p (Source.Element s 
 
 of_set : (D : ℕ → Bool) (x : Source) → HasSourceIn (λ s. D s ≡ true) x → IsSourceIn D x
 of_set D (Source.Cell col) h = tt
-of_set D (Source.Site s) h = h
-of_set D (Source.Element s k tags) h = h
+of_set D x h = h
 
 none_given : (o : Outcome ⊥ Value) (X : Type 0) → fault_in o ≡ None → IfGiven o X → X
 none_given (Gives v) X h x = x
@@ -354,10 +344,7 @@ module _ (j : JobView) (first : ℕ) (u : Option ℕ) (inputs cs : List ℕ) (c 
   pub rest_can : (count : ℕ) (kinds more : List ColType) (cells : List (List ℤ)) (scratch levels scratch2 levels2 : ℕ) → more ≡ kinds → scratch2 ≡ scratch → levels2 ≡ levels
       → AllByRecursion (CanServe j first u count kinds cells scratch levels) inputs → AllByRecursion (CanServe j first u count more cells scratch2 levels2) cs
   rest_can count kinds more cells scratch levels scratch2 levels2 same_kinds same_scratch same_levels h =
-      subst (λ (ks : List ColType). AllByRecursion (CanServe j first u count ks cells scratch2 levels2) cs) (sym same_kinds)
-      (subst (λ (n : ℕ). AllByRecursion (CanServe j first u count kinds cells n levels2) cs) (sym same_scratch)
-      (subst (λ (n : ℕ). AllByRecursion (CanServe j first u count kinds cells scratch n) cs) (sym same_levels)
-      (subst (λ (l : List ℕ). AllByRecursion (CanServe j first u count kinds cells scratch levels) l) e h).1))
+      rw (same_kinds, same_scratch, same_levels) (subst (λ (l : List ℕ). AllByRecursion (CanServe j first u count kinds cells scratch levels) l) e h).1
 
   pub first_demanded : (entry : ℕ) (T : ℕ → Bool) → DemandsInputs j entry u T inputs → DemandsSource j entry u T (source_at j u c)
   first_demanded entry T d =

@@ -168,7 +168,10 @@ module _ (header : List Column) (names : FunctionNames) where
   -- of a named filter, with those above it
   pub named_filters : (before : List Statement) → AreAccepted names (scope_of header) before → (n : ℕ) (f : FilterAt) → slice_get (filters header names before) n ≡ Some f → AllByRecursion (IsFilterSite before) f.sites
   named_filters [] good n f h = cc h
-  named_filters (s ∷ before) good n f h = go (named_filters before good.1 n f) (of_joined (filters header names before) (own_filters header names before s) n f h)
+  named_filters (s ∷ before) good n f h = elim (of_joined (filters header names before) (own_filters header names before s) n f h) [
+    | inl q ↦ further_sites before s f.sites (named_filters before good.1 n f q)
+    | inr q ↦ own s q.0 good q.2
+  ]
     where
       own : (s : Statement) (k : ℕ) → AreAccepted names (scope_of header) (s ∷ before) → slice_get (own_filters header names before s) k ≡ Some f → AllByRecursion (IsFilterSite (s ∷ before)) f.sites
       own (Filter node parent expr (Some label)) zero ok q =
@@ -176,19 +179,15 @@ module _ (header : List Column) (names : FunctionNames) where
           let is : x ≡ f = cc q in
           subst (λ (y : FilterAt). AllByRecursion (IsFilterSite (Filter node parent expr (Some label) ∷ before)) y.sites) is
           (with_own before (Filter node parent expr (Some label)) (filter_sites header names before parent) ok (path_filters before ok.1 parent))
-      own (Filter node parent expr (Some label)) (suc k) ok q = cc q
-      own (Filter node parent expr None) k ok q = cc q
       own s k ok q = cc q
-
-      go : (slice_get (filters header names before) n ≡ Some f → AllByRecursion (IsFilterSite before) f.sites)
-          → (slice_get (filters header names before) n ≡ Some f) ⊎ ((k : ℕ) × (n ≡ length (filters header names before) + k) × (slice_get (own_filters header names before s) k ≡ Some f)) → AllByRecursion (IsFilterSite (s ∷ before)) f.sites
-      go next (inl q) = further_sites before s f.sites (next q)
-      go next (inr q) = own s q.0 good q.2
 
   -- of a result
   pub result_filters : (before : List Statement) → AreAccepted names (scope_of header) before → (n : ℕ) (r : ResultAt) → slice_get (results header names before) n ≡ Some r → AllByRecursion (IsFilterSite before) r.filters
   result_filters [] good n r h = cc h
-  result_filters (s ∷ before) good n r h = go (result_filters before good.1 n r) (of_joined (results header names before) (own_results header names before s) n r h)
+  result_filters (s ∷ before) good n r h = elim (of_joined (results header names before) (own_results header names before s) n r h) [
+    | inl q ↦ further_sites before s r.filters (result_filters before good.1 n r q)
+    | inr q ↦ own s q.0 good q.2
+  ]
     where
       own : (s : Statement) (k : ℕ) → AreAccepted names (scope_of header) (s ∷ before) → slice_get (own_results header names before s) k ≡ Some r → AllByRecursion (IsFilterSite (s ∷ before)) r.filters
       own (Action result parent kind) zero ok q =
@@ -201,14 +200,7 @@ module _ (header : List Column) (names : FunctionNames) where
           let is : x ≡ r = cc q in
           subst (λ (y : ResultAt). AllByRecursion (IsFilterSite (Report result parent ∷ before)) y.filters) is
           (further_sites before (Report result parent) (filter_sites header names before parent) (path_filters before ok.1 parent))
-      own (Action result parent kind) (suc k) ok q = cc q
-      own (Report result parent) (suc k) ok q = cc q
       own s k ok q = cc q
-
-      go : (slice_get (results header names before) n ≡ Some r → AllByRecursion (IsFilterSite before) r.filters)
-          → (slice_get (results header names before) n ≡ Some r) ⊎ ((k : ℕ) × (n ≡ length (results header names before) + k) × (slice_get (own_results header names before s) k ≡ Some r)) → AllByRecursion (IsFilterSite (s ∷ before)) r.filters
-      go next (inl q) = further_sites before s r.filters (next q)
-      go next (inr q) = own s q.0 good q.2
 
 -- the kind of such a site of a job's graph
 pub kind_of_site : (j : JobView) (t : ColType) (s : ℕ) → IsSiteOf j.dataset.columns (fn_names j.dataset.fns) t (history j.script) s → (e : CheckedExpr) → IsSiteExpr (job_graph j) s e → e.kind ≡ t
@@ -258,21 +250,19 @@ module _ (header : List Column) (names : FunctionNames) where
 
   module _ (u : Under) where
     no_cell : (n : ℕ) (cs : List Column) (c t k tags : ℕ) → slice_get (cell_sources n cs) c ≡ Some (Source.Element t k tags) → ⊥
-    no_cell n [] c t k tags h = cc h
-    no_cell n (d ∷ cs) zero t k tags h = cc h
     no_cell n (d ∷ cs) (suc c) t k tags h = no_cell (suc n) cs c t k tags h
+    no_cell n cs c t k tags h = cc h
 
     abbrev OfVectors : List Statement → List Statement → Type 0
     OfVectors before after = (c t k tags : ℕ) → slice_get (sources header names u before) c ≡ Some (Source.Element t k tags) → IsVectorSite after t
 
     from_own : (before after : List Statement) (values : VaryValues) → OfVectors before after → ((e : _) → values ≡ Vector e → IsVectorSite after (site_count header names before))
         → (i n : ℕ) (o : Option ℕ) (v t k tags : ℕ) → own_source values (site_count header names before) i n o (source_in (sources header names u before) v) ≡ Source.Element t k tags → IsVectorSite after t
-    from_own before after (Lists lists) old own i n None v t k tags h = old v t k tags (of_some (sources header names u before) v t k tags h)
-    from_own before after (Vector e) old own i n None v t k tags h = old v t k tags (of_some (sources header names u before) v t k tags h)
     from_own before after (Lists lists) old own i n (Some m) v t k tags h = cc h
     from_own before after (Vector e) old own i n (Some m) v t k tags h =
         let is : site_count header names before ≡ t = cc h in
         subst (IsVectorSite after) is (own e refl)
+    from_own before after values old own i n o v t k tags h = old v t k tags (of_some (sources header names u before) v t k tags h)
 
     from_varied : (before after : List Statement) (parent : List ℕ) (values : VaryValues) (names_of : List (List ℕ)) (vary : _) → OfVectors before after → ((e : _) → values ≡ Vector e → IsVectorSite after (site_count header names before))
         → (i : ℕ) (columns : List (List ℕ)) (c t k tags : ℕ) → slice_get (varied_sources header names u before (sources header names u before) parent values names_of vary i columns) c ≡ Some (Source.Element t k tags) → IsVectorSite after t
@@ -283,10 +273,6 @@ module _ (header : List Column) (names : FunctionNames) where
 
     from_statement : (before : List Statement) (s : Statement) → AreAccepted names (scope_of header) (s ∷ before) → OfVectors before (s ∷ before)
         → (c t k tags : ℕ) → slice_get (own_sources header names u before (sources header names u before) s) c ≡ Some (Source.Element t k tags) → IsVectorSite (s ∷ before) t
-    from_statement before (Define node parent column expr) good old zero t k tags h = cc h
-    from_statement before (Define node parent column expr) good old (suc c) t k tags h = cc h
-    from_statement before (Redefine node parent column expr) good old zero t k tags h = cc h
-    from_statement before (Redefine node parent column expr) good old (suc c) t k tags h = cc h
     from_statement before (Vary node parent columns values tag_names vary) good old c t k tags h =
         from_varied before (Vary node parent columns values tag_names vary ∷ before) parent values tag_names vary old own 0 columns c t k tags h
       where
@@ -294,7 +280,8 @@ module _ (header : List Column) (names : FunctionNames) where
         own e is =
             subst (λ (v : VaryValues). AreAccepted names (scope_of header) (Vary node parent columns v tag_names vary ∷ before) → IsVectorSite (Vary node parent columns v tag_names vary ∷ before) (site_count header names before)) (sym is)
             (vector_own before node parent columns e tag_names vary) good
-    from_statement before s good old c t k tags h = cc h
+    from_statement before s good old zero t k tags h = cc h
+    from_statement before s good old (suc c) t k tags h = cc h
 
     -- the site of each element
     of_elements : (before : List Statement) → AreAccepted names (scope_of header) before → OfVectors before before
@@ -326,14 +313,13 @@ module _ (all : List ColType) where
 
   same_pairs : (ks ls : List (ℕ × ColType)) → map (λ (c : ℕ × ColType). c.0) ks ≡ map (λ (c : ℕ × ColType). c.0) ls → AllByRecursion HasKind ks → AllByRecursion HasKind ls → ks ≡ ls
   same_pairs [] [] e h k = refl
-  same_pairs [] (l ∷ ls) e h k = cc e
-  same_pairs (k ∷ ks) [] e h i = cc e
   same_pairs (k ∷ ks) (l ∷ ls) e h i =
       let number : k.0 ≡ l.0 = cc e in
       let rest : map (λ (c : ℕ × ColType). c.0) ks ≡ map (λ (c : ℕ × ColType). c.0) ls = cc e in
       let kind : k.1 ≡ l.1 = some_same k.1 l.1 (sym h.0 ∙ ap (slice_get all) number ∙ i.0) in
       let tails = same_pairs ks ls rest h.1 i.1 in
       λ x. (number x, kind x) ∷ tails x
+  same_pairs ks ls e h i = cc e
 
 pub one_kind : (g : GraphView) (s : ℕ) (e d : CheckedExpr) → IsSiteExpr g s e → IsSiteExpr g s d → e.kind ≡ d.kind
 one_kind g s e d its other = same (sym its.typed.typed ∙ (λ i. num_kind (pairs i) g.names (trees i)) ∙ other.typed.typed)

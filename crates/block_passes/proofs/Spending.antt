@@ -29,13 +29,9 @@ spends_then j first count a b c l m n h k = record {
   rooms = k.rooms ∙ h.rooms;
   stays = λ x p e. k.stays x p (h.stays x p e);
   grows = λ p. grows_on (cells_at (key_count (job_graph j)) a p) (cells_at (key_count (job_graph j)) b p) (cells_at (key_count (job_graph j)) c p) (h.grows p) (k.grows p);
-  only = λ T all x p e. either T all x p (k.only T all x p e);
+  only = λ T all x p e. elim (k.only T all x p e) [ inl y ↦ h.only T all x p y | inr y ↦ inr y ];
   cost = (let x = h.cost in let y = k.cost in omega (arith, x, y));
 }
-  where
-    either : (T : ℕ → ℕ → Bool) → ((p : ℕ) → p < count → HasAllDemands j (first + p) (T p)) → (x p : ℕ) → (begun_at b x p ≡ true) ⊎ ((p < count) × (T p x ≡ true)) → (begun_at a x p ≡ true) ⊎ ((p < count) × (T p x ≡ true))
-    either T all x p (inl e) = h.only T all x p e
-    either T all x p (inr e) = inr e
 
 -- ---- one site
 
@@ -68,13 +64,10 @@ module _ (j : JobView) (first count : ℕ) (u : Option ℕ) (s : ℕ) (sel : Lis
       picked_key p false e t q = cc q
 
       newly : (k p : ℕ) → begun_at after k p ≡ true → (begun_at before k p ≡ true) ⊎ ((p < count) × (T p k ≡ true))
-      newly k p begun = go (spent.grown.only (λ q. pick q (is_in q sel) refl) (λ q i. picked q (is_in q sel) refl i) k p)
-        where
-          go : ((begun_at after k p ≡ begun_at before k p) × (held_in (cells_at (key_count (job_graph j)) after p) k ≡ held_in (cells_at (key_count (job_graph j)) before p) k))
-              ⊎ ((is_in p sel ≡ true) × ((t : ℕ) × (t ≤ s) × (pick p (is_in p sel) refl t ≡ true) × (k ≡ key (job_graph j) t u)))
-              → (begun_at before k p ≡ true) ⊎ ((p < count) × (T p k ≡ true))
-          go (inl h) = inl (sym h.0 ∙ begun)
-          go (inr h) = inr (inside p h.0, ap (T p) h.1.3 ∙ picked_key p (is_in p sel) refl h.1.0 h.1.2)
+      newly k p begun = elim (spent.grown.only (λ q. pick q (is_in q sel) refl) (λ q i. picked q (is_in q sel) refl i) k p) [
+        | inl h ↦ inl (sym h.0 ∙ begun)
+        | inr h ↦ inr (inside p h.0, ap (T p) h.1.3 ∙ picked_key p (is_in p sel) refl h.1.0 h.1.2)
+      ]
 
     pub spends_filled : Spends j first count before after start end
     spends_filled = record {

@@ -15,7 +15,7 @@ use Rattle.loop_keys.proofs.TableLaws.{row_there}
 use Rattle.block_passes.specs.{AreAtHand, AreKept, CanGather, CanServe, Chain, chosen, DemandsInputs, filter_fault, filters_fault, inputs_fault, IsActionOf, IsLast, IsMade, IsNamed, IsPassTried, IsPlan, IsReadBelow, IsReadOf, IsReadyBelow, IsSelectedTo, IsServedTo, IsTriedTo, Lowers, PlanView, through_chain, unfed, where_in, where_passed}
 use Rattle.block_passes.specs.declared.found.Found.{Found}
 use Rattle.block_passes.specs.declared.kept.Kept.{Kept}
-use Rattle.block_passes.proofs.Demanding.{pass_set}
+use Rattle.block_passes.proofs.Demanding.{action_at, pass_set}
 use Rattle.block_passes.proofs.Places.{chosen_below, in_chosen, narrowed}
 use Rattle.block_passes.proofs.Searching.{action_fault, where_split, last_through, report_fault, step_fault, both_lower, lowers_as, or_else}
 use Rattle.block_passes.proofs.Selecting.{written_selected, kept_lower}
@@ -28,9 +28,8 @@ use Rattle.block_passes.proofs.PlanSteps.{covered_is, one_result}
 
 if_passed : (o : Outcome ⊥ Bool) (X : Type 0) → is_true o ≡ true → IfPassed o X → X
 if_passed (Gives true) X h x = x
-if_passed (Gives false) X h x = cc h
-if_passed (Faults k) X h x = cc h
 if_passed (Needs m) X h x = elim m [ ]
+if_passed o X h x = cc h
 
 or_else_twice : (a b c : Option EntryFault) → or_else (or_else a b) c ≡ or_else a (or_else b c)
 or_else_twice None b c = refl
@@ -54,14 +53,7 @@ last_none None b h = h
 last_none (Some k) b h = cc h
 
 module _ (j : JobView) (job : IsJob j) (first count pass : ℕ) (plan : PlanView) (p : IsPlan j plan) (within : first + count ≤ length j.dataset.rows) (k : ActionKind) (inputs : List ℕ) (u : Option ℕ) (own : IsReadOf j pass k inputs u) where
-  abbrev m : NumberedPass
-  m = own.numbered
-
-  abbrev r : ResultAt
-  r = own.result
-
-  action_at : IsActionAt j m.result k r.filters inputs
-  action_at = record { result = r; there_is = own.action.its_result; at = own.action.at; kind = own.action.booking; filters = refl; inputs = own.inputs_are }
+  open own use {numbered as m, result as r}
 
   -- its lanes can be gathered
   pub gathers : 0 < count → (kinds : List ColType) (cells : List (List ℤ)) (scratch levels : ℕ) → AllByRecursion (CanServe j first u count kinds cells scratch levels) inputs → CanGather j first count kinds cells k inputs u
@@ -69,8 +61,8 @@ module _ (j : JobView) (job : IsJob j) (first count pass : ℕ) (plan : PlanView
     scratch = scratch;
     levels = levels;
     can = can;
-    many = (can_act j job first (omega (arith, some, within)) m.result k r.filters inputs action_at u).count;
-    fits = λ q vs lt e. (can_act j job (first + q) (omega (arith, lt, within)) m.result k r.filters inputs action_at u).fits vs e;
+    many = (can_act j job first (omega (arith, some, within)) m.result k r.filters inputs (action_at own) u).count;
+    fits = λ q vs lt e. (can_act j job (first + q) (omega (arith, lt, within)) m.result k r.filters inputs (action_at own) u).fits vs e;
   }
 
   -- its last step

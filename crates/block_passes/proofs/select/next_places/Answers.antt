@@ -65,7 +65,7 @@ returns-clause-selected g c = λ p.
     next_selected (job_of c.args.at.now.job.now) c.requires.turn.fits.job c.args.at.now.first c.args.at.now.count c.args.at.now.pass c.args.at.now.plan.now p c.args.next.step c.args.next.parent c.args.next.filter.site c.args.next.filter.under c.requires.step
     c.requires.turn.within c.args.above.now c.args.own.now c.index-above-next.result here c.requires.above c.args.work.now.lanes.items c.args.work.now.found (c.requires.ready p)
     (c.requires.made c.index-above-next.result (kept_at c.args.above.now c.args.own.now c.args.next.parent c.index-above-next.result here))
-    c.filter_places.new.to _ c.filter_places.new.work.lanes.items c.filter_places.new.work.found h refl c.requires.own)
+    c.filter_places.new.to _ c.filter_places.new.work.lanes.items c.filter_places.new.work.found h refl)
     c.filter_places.ensures.filtered
 
 pub returns-clause-remade : goal.returns-clause-remade
