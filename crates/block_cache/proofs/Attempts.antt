@@ -10,7 +10,7 @@ use Rattle.expr_eval.specs.declared.stop.ScalarStop.TheVariants.{Fault, Need}
 use Rattle.expr_lanes.specs.{EachPlace, is_given, is_in, Stopped, stopped}
 use Rattle.expr_lanes.proofs.Sequence.{filtered_out}
 use Rattle.graph_numbers.specs.{graph_sites, graph_variations, GraphView, Source}
-use Rattle.block_cache.specs.{begun_at, block_job, cells_at, fault_of, held_at, holds_at, is_below, is_held, IsAttemptedFor, IsFaultOf, IsLeastFault, IsSameAt, IsTelling, IsTriedFor, IsWaiting, lane_holds, LaneView, need_at, own_key, PlaceFault, site_fault}
+use Rattle.block_cache.specs.{begun_at, cells_at, fault_of, held_at, holds_at, is_below, is_held, IsAttemptedFor, IsFaultOf, IsLeastFault, IsSameAt, IsTelling, IsTriedFor, IsWaiting, lane_holds, LaneView, need_at, own_key, PlaceFault, site_fault}
 use Rattle.loop_keys.specs.{IsMissingSource, IsSiteOf, job_graph, JobView, key, key_count, keys_before, slot_at, source_at}
 use Rattle.loop_keys.proofs.KeyLaws.{key_below}
 use Rattle.block_cache.specs.declared.wanted.Wanted.{Wanted}

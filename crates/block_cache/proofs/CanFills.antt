@@ -2,7 +2,7 @@
 use Rattle.std.proofs.Common.{◌≡◌, ◌<◌, ◌≤◌, ◌+◌, ℕ, ℤ, Bool, true, false, List, [], length, Option, Some, refl, sym, ◌∙◌, ap, subst, arith, nat_eq, slice_get, if◌then◌else◌}
 use Rattle.std.proofs.lemmas.Bool.Decides.{Decides-eqb}
 use Rattle.rdf_values.specs.{ColType, EachColumn, history, Value}
-use Rattle.rdf_model.specs.{call_outcome, Faults, Gives, is_need, Needs, Outcome, with_needs, without}
+use Rattle.rdf_model.specs.{call_outcome, is_need, Needs, Outcome, with_needs, without}
 use Rattle.rdf_model.proofs.Close as close
 use Rattle.rdf_model.proofs.KnownColumns.{each_weaker}
 use Rattle.graph_numbers.proofs.Equations.{columns_below}

@@ -1,9 +1,9 @@
 -- What is known over a block grows, one step after another.
 use Rattle.std.proofs.Common.{◌≡◌, ◌<◌, ◌≤◌, ◌+◌, ◌⊎◌, inl, inr, ℕ, Bool, true, false, List, length, Option, refl, sym, ◌∙◌, ap, arith}
-use Rattle.graph_numbers.specs.{graph_sites, Source}
+use Rattle.graph_numbers.specs.{graph_sites}
 use Rattle.expr_lanes.specs.{EachPlace, is_in}
 use Rattle.block_cache.specs.{begun_at, cells_at, holds_at, IsGrownOver, IsOnlyCalled, IsSameAt, IsSettled, IsSettledTo, LaneView}
-use Rattle.loop_keys.specs.{IsClosed, IsSiteOf, IsSourceIn, job_graph, JobView, key, key_count, MeetsAt, source_at}
+use Rattle.loop_keys.specs.{IsClosed, IsSiteOf, job_graph, JobView, key, key_count, MeetsAt, source_at}
 use Rattle.loop_keys.proofs.FillLaws.{grows_on, in_source}
 use Rattle.block_cache.proofs.Attempts.{key_lower}
 use Rattle.block_cache.proofs.CanFills.{in_all}

@@ -5,14 +5,14 @@ use Rattle.std.proofs.lemmas.Bool.{lt-ltb, ltb-true}
 use Rattle.std.proofs.lemmas.Bool.Decides.{Decides-eqb}
 use Rattle.rdf_values.specs.{Bin, BinOp, Call, Col, ColType, Cond, End, fn_names, history, Lit, More, Neg, Not, Pick, Tree, Trees, Value}
 use Rattle.rdf_values.specs.Expressions.{Truth}
-use Rattle.rdf_model.specs.{◌>>=◌, call_outcome, evaluate, evaluate_all, fault_in, Faults, Gives, is_need, Needs, operation, Outcome, without}
+use Rattle.rdf_model.specs.{◌>>=◌, call_outcome, evaluate, evaluate_all, fault_in, Gives, is_need, Needs, operation, Outcome, without}
 use Rattle.expr_check.specs.{CheckedExpr}
 use Rattle.expr_lanes.specs.{AreRising, EachPlace, is_in, IsSelected}
 use Rattle.graph_numbers.proofs.Equations.{columns_below}
 use Rattle.graph_numbers.proofs.Extending.{versions_count}
 use Rattle.graph_numbers.specs.{graph_sites, graph_under, graph_versions, IsBelow, IsSiteExpr, SiteAt, Source, version_count}
 use Rattle.block_cache.specs.{AreReadyOver, below_fault, block_graph, block_job, CanFill, CanFillFor, first_read, first_read_in, found_or, holds_at, is_below, IsFaultOf, IsFilledFor, IsFilledTo, IsGrownOver, IsLeadFor, IsOnlyCalled, IsRankedBelow, IsSpentFor, IsSpentOver, key_over, LaneView, own_key, PlaceFault, site_fault}
-use Rattle.loop_keys.specs.{ArePlain, IsJob, IsSiteOf, job_graph, JobView, key, key_count, MeetsAt, Place, place_of, site_in, source_at, version_in}
+use Rattle.loop_keys.specs.{ArePlain, IsSiteOf, job_graph, JobView, key_count, MeetsAt, Place, place_of, site_in, source_at, version_in}
 use Rattle.loop_keys.proofs.EvaluateLaws.{accepted_of}
 use Rattle.loop_keys.proofs.KeyLaws.{key_small}
 use Rattle.block_cache.specs.declared.wanted.Wanted.{Wanted}

@@ -1,5 +1,5 @@
 -- A site's lane after it was evaluated over a block.
-use Rattle.std.proofs.Common.{◌≡◌, ◌<◌, ◌+◌, ◌-◌, ◌++◌, ◌||◌, inl, inr, ℕ, zero, suc, Bool, true, false, List, [], ◌∷◌, length, length-set, take, set, get_or, All, Option, Some, refl, sym, ◌∙◌, ap, subst, arith, if◌then◌else◌, slice_get, get_or-set_same, get_or-set_other}
+use Rattle.std.proofs.Common.{◌≡◌, ◌<◌, ◌+◌, ◌-◌, ◌++◌, ◌||◌, inl, inr, ℕ, zero, suc, Bool, true, false, List, [], ◌∷◌, length, length-set, take, set, get_or, All, Some, refl, sym, ◌∙◌, ap, subst, arith, if◌then◌else◌, slice_get, get_or-set_same, get_or-set_other}
 use Rattle.std.proofs.Math.Seq.{take-append_seam}
 use Rattle.std.proofs.lemmas.Bool.{cases_eq}
 use Rattle.std.proofs.lemmas.List.{length-append, set-append_right}
@@ -11,8 +11,8 @@ use Rattle.rdf_model.specs.{Gives, Outcome}
 use Rattle.expr_check.specs.{CheckedExpr}
 use Rattle.expr_lanes.specs.{EachPlace, is_in, Stopped}
 use Rattle.graph_numbers.specs.{IsSiteExpr}
-use Rattle.block_cache.specs.{AreReadOver, AreReadyOver, block_job, cells_at, FitAt, HasSource, held_at, held_value, is_held, IsBegun, IsBegunFor, IsEvaluated, IsLaneSet, IsTelling, IsTriedFor, LaneView, outcome_over, own_key, value_of}
-use Rattle.loop_keys.specs.{CanEvaluate, CanLook, Held, held_count, held_in, IsFilled, IsSound, job_graph, JobView, key_count, site_in, source_at}
+use Rattle.block_cache.specs.{AreReadOver, AreReadyOver, cells_at, FitAt, HasSource, held_at, held_value, is_held, IsBegun, IsBegunFor, IsEvaluated, IsLaneSet, IsTelling, IsTriedFor, LaneView, outcome_over, own_key, value_of}
+use Rattle.loop_keys.specs.{CanEvaluate, CanLook, Held, held_count, held_in, IsFilled, IsSound, job_graph, site_in, source_at}
 use Rattle.block_cache.proofs.LaneSteps.{given_among}
 use Rattle.loop_keys.proofs.ColumnLaws.{can_evaluate}
 use Rattle.loop_keys.proofs.FillLaws.{written}

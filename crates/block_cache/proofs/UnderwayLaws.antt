@@ -10,9 +10,9 @@ use Rattle.rdf_model.specs.{fault_in, Faults, Gives, Needs, Outcome}
 use Rattle.expr_lanes.specs.{AreRising, EachPlace, is_in, IsSelected}
 use Rattle.expr_lanes.proofs.Sequence.{filtered_in, first_in, rest_in}
 use Rattle.graph_numbers.specs.{Source}
-use Rattle.block_cache.specs.{AreReadyOver, begun_at, below_fault, block_job, found_or, holds_at, is_below, IsAttemptedFor, IsBrokenOffFor, IsFaultOf, IsGrownOver, IsPaidFor, IsPaidOver, IsResumedFor, IsSameAt, IsSettled, IsSettledFor, IsSettledTo, IsSpentFor, IsSpentOver, IsUnderwayFor, IsWaiting, LaneView, left_to_begin, need_at, own_key, PlaceFault, site_fault}
+use Rattle.block_cache.specs.{AreReadyOver, begun_at, below_fault, found_or, holds_at, is_below, IsAttemptedFor, IsBrokenOffFor, IsFaultOf, IsGrownOver, IsPaidFor, IsPaidOver, IsResumedFor, IsSameAt, IsSettled, IsSettledFor, IsSettledTo, IsSpentFor, IsSpentOver, IsUnderwayFor, IsWaiting, LaneView, left_to_begin, need_at, own_key, PlaceFault, site_fault}
 use Rattle.block_cache.proofs.LaneSteps.{filter_none}
-use Rattle.loop_keys.specs.{IsJob, IsSiteOf, job_graph, JobView, key, key_count, MeetsAt, site_in, source_at}
+use Rattle.loop_keys.specs.{IsSiteOf, job_graph, key, MeetsAt, site_in, source_at}
 use Rattle.block_cache.specs.declared.wanted.Wanted.{Wanted}
 use Rattle.block_cache.proofs.Wants.{parts_of}
 use Rattle.block_cache.proofs.Attempts.{key_lower}

@@ -2,12 +2,12 @@
 use Rattle.std.proofs.Common.{◌≡◌, ℕ, List, [], ◌∷◌, length, sym, ◌∙◌, ap, subst, ℤ, if◌then◌else◌, ◌+◌, ◌<◌, ◌≤◌, true, false, All, Option, Some, None, refl, arith, slice_get, ◌⊎◌, inl, inr, zero, suc, ◌-◌, ◌*◌, Bool, map, take, unwrap_or, slice_index_or, count_by, get_or, slice_range}
 use Rattle.std.specs.List.{AllByRecursion}
 use Rattle.std.proofs.lemmas.List.{get_or-map, get_or-take, get_or_past, length-map}
-use Rattle.std.proofs.lemmas.List.Elements.{All-from_recursion, recursion_from_All, All-weaker}
+use Rattle.std.proofs.lemmas.List.Elements.{All-from_recursion, All-weaker}
 use Rattle.rdf_values.specs.{ColType, EachColumn, history, Value}
-use Rattle.block_cache.specs.{AreReady, AreUnknown, begun_at, begun_count, CanFill, HaveRoom, held_value, holds_at, is_tried, IsLoaded, IsUnknown, kinds_of, lane_begun, LaneView, room_of, rooms_of, size_for, tried_count, value_of}
+use Rattle.block_cache.specs.{AreReady, AreUnknown, begun_at, begun_count, CanFill, HaveRoom, held_value, is_tried, IsLoaded, IsUnknown, kinds_of, lane_begun, LaneView, room_of, rooms_of, size_for, tried_count, value_of}
 use Rattle.loop_keys.specs.{AreKeys, AreReadable, entry_demands, Held, IsJob, IsRight, job_graph, JobView, key, key_count, keys_in, passes_in, row_of, site_in, source_at}
 use Rattle.graph_numbers.specs.{graph_sites, graph_under, GraphView, IsBelow, SiteAt, Source, version_count}
-use Rattle.block_passes.specs.{AreDeepEnough, AreLoaded, block_demands, CanSelect, CanServe, CanServeAll, entries_from, HaveCells, HaveKinds, IsBegunBlock, IsFilterStep, IsPlan, IsReadyBelow, IsServable, IsSettledAt, IsStateOf, longer, StateView}
+use Rattle.block_passes.specs.{AreDeepEnough, AreLoaded, block_demands, CanSelect, CanServe, CanServeAll, entries_from, HaveCells, HaveKinds, IsBegunBlock, IsFilterStep, IsPlan, IsReadyBelow, IsServable, IsStateOf, longer, StateView}
 use Rattle.block_passes.specs.declared.found.Found.{Found}
 use Rattle.block_passes.specs.declared.kept.Kept.{Kept}
 use Rattle.std.proofs.lemmas.Option.{get_or_from_slice_get, slice_get_within}

@@ -3,14 +3,14 @@ use Rattle.std.proofs.Common.{◌≡◌, inl, inr, ℕ, ◌<◌, true, List, [],
 use Rattle.std.specs.List.{AllByRecursion}
 use Rattle.rdf_values.specs.{ActionAt, ActionKind, Booking, fn_names, history, Value}
 use Rattle.graph_numbers.specs.{FilterAt, graph_filters, graph_sites, graph_under, HasFilters, IfPassed, Pass as NumberedPass, ResultAt, through_sites}
-use Rattle.graph_numbers.proofs.Extending.{itself, versions_count}
+use Rattle.graph_numbers.proofs.Extending.{itself}
 use Rattle.graph_numbers.proofs.Ranges.{filters_below}
 use Rattle.std.proofs.lemmas.List.Elements.{recursion_from_All}
-use Rattle.loop_keys.specs.{AreReadable, demand_key, HasAllDemands, HasPassed, HasTried, IsActionAt, IsCovered, IsJob, IsPlainLoop, job_graph, JobView, row_of, site_in}
-use Rattle.loop_keys.proofs.ActionNumbers.{IsSoundBooking, result_sound, IsGivenBelow, IsSoundAction}
+use Rattle.loop_keys.specs.{demand_key, HasAllDemands, HasPassed, HasTried, IsActionAt, IsCovered, IsJob, IsPlainLoop, job_graph, JobView, row_of, site_in}
+use Rattle.loop_keys.proofs.ActionNumbers.{IsSoundBooking, result_sound}
 use Rattle.loop_keys.proofs.EvaluateLaws.{accepted_of}
 use Rattle.block_passes.specs.{Chain, Demands, IsActionOf, IsDemandedAt, IsReadOf, IsTried}
-use Rattle.rdf_model.specs.{◌>>=◌, booking_demands, Demand, Faults, filter_demands, Gives, is_true, Needs, Outcome, truth_of}
+use Rattle.rdf_model.specs.{◌>>=◌, booking_demands, Demand, filter_demands, Gives, is_true, Needs, Outcome, truth_of}
 use Rattle.graph_numbers.proofs.Closing.{IsDemanded, then_wider, wider_filters, wider_inputs}
 use Rattle.graph_numbers.proofs.Reporting.{IsActionDemanded, IsFilterDemanded, filter_demanded, result_demanded}
 use Rattle.loop_keys.proofs.DemandSets.{demanded_in, demands_closed, demands_keys, in_demands}

@@ -1,8 +1,8 @@
 -- Places of a block in their order, and those among them that pass a test.
 use Rattle.std.proofs.Common.{◌≡◌, ℕ, zero, suc, ◌+◌, ◌<◌, ◌≤◌, Bool, true, false, ◌&&◌, cond, List, [], ◌∷◌, ◌++◌, length, take, refl, ◌∙◌, ap, ap₂, arith, nat_lt, ◌⊎◌, inl, inr, ◌||◌, Option, None, Some, sym, subst, nat_eq, if◌then◌else◌, ℤ, length-set, set, get_or, get_or-set_same, get_or-set_other, pos, flat_map, slice_get, filter}
 use Rattle.std.specs.List.{range_with_len}
-use Rattle.lemmas.proofs.{and_false, and_left, and_true, eq_says, lt_false, lt_or_last, lt_true, or_true}
-use Rattle.std.proofs.lemmas.Bool.Decides.{Decides-eqb, Decides-ltb}
+use Rattle.lemmas.proofs.{and_false, and_left, and_true, eq_says, lt_false, lt_or_last, lt_true}
+use Rattle.std.proofs.lemmas.Bool.Decides.{Decides-ltb}
 use Rattle.rdf_values.specs.{EntryFault, Span, Value}
 use Rattle.expr_lanes.specs.{AreRising, at_place, EachPlace, is_in}
 use Rattle.expr_lanes.proofs.Dense.{below_range, first_in_range}

@@ -1,5 +1,5 @@
 -- What the actions of a loop without vectors read.
-use Rattle.std.proofs.Common.{◌≡◌, ◌⊎◌, inl, inr, ℕ, Bool, zero, suc, ◌+◌, ◌<◌, true, false, List, [], ◌∷◌, length, map, option_map, Option, Some, refl, sym, ◌∙◌, ap, subst, slice_get, get_or, unwrap_or}
+use Rattle.std.proofs.Common.{◌≡◌, ◌⊎◌, inl, inr, ℕ, Bool, zero, ◌+◌, ◌<◌, true, false, List, [], ◌∷◌, length, map, option_map, Option, Some, refl, sym, ◌∙◌, ap, subst, slice_get, get_or, unwrap_or}
 use Rattle.std.specs.List.{AllByRecursion}
 use Rattle.std.proofs.lemmas.List.Elements.{recursion_from_All}
 use Rattle.std.proofs.lemmas.Option.{get_or_from_slice_get}

@@ -1,5 +1,5 @@
 -- How the search goes on, part after part and pass after pass.
-use Rattle.std.proofs.Common.{◌≡◌, ◌⊎◌, inl, inr, ℕ, ◌+◌, ◌<◌, Option, None, Some, refl, sym, ◌∙◌, ap, subst, arith, if◌then◌else◌, Bool, true, false, ◌&&◌, List, [], ◌∷◌, ◌++◌, slice_get, zero, suc, ◌-◌, length, take, drop, slice_range}
+use Rattle.std.proofs.Common.{◌≡◌, ◌⊎◌, inl, inr, ℕ, ◌+◌, ◌<◌, Option, None, Some, refl, sym, ◌∙◌, ap, subst, arith, if◌then◌else◌, Bool, true, false, ◌&&◌, List, [], ◌∷◌, ◌++◌, slice_get, zero, suc, ◌-◌, length, drop, slice_range}
 use Rattle.rdf_values.specs.{ActionKind, EntryFault, Fault, feed_fault, Pass, Value}
 use Rattle.block_passes.specs.{Chain, fault_at, fault_of, feeding_fault, IsLast, IsSearched, Lowers, through_chain, where_passed}
 use Rattle.block_passes.specs.Searches.{IsAmid}

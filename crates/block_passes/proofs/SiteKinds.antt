@@ -6,7 +6,7 @@ use Rattle.std.proofs.lemmas.List.{append-nil, length-replicate, get_or-replicat
 use Rattle.std.proofs.lemmas.List.Elements.{recursion_from_All}
 use Rattle.lemmas.proofs.{kept_at, something_at}
 use Rattle.rdf_values.specs.{ActionAt, AreAccepted, callee, check_node, check_vector_column, ColType, Column, column_kind, columns_in, columns_of, covered, expect_kind, fn_names, FunctionNames, GraphCause, history, kind_by, kind_of, makes, NamedTree, NumTree, parent_of, path, refuse_unless, renamed, ReportOn, scope_at, scope_of, shape_of, Statement, Under, VaryValues}
-use Rattle.rdf_values.specs.declared.statement.Statement.TheVariants.{Action, Filter, Report, Define, Redefine, Vary}
+use Rattle.rdf_values.specs.declared.statement.Statement.TheVariants.{Action, Filter, Report, Vary}
 use Rattle.rdf_model.specs.{own_place, Site, site_at}
 use Rattle.rdf_model.proofs.Accepted.{both_none, kind_expected, checked_of}
 use Rattle.expr_check.specs.{callee_shape, CheckedExpr, distinct, IsWellTyped, num_kind, number_kind}

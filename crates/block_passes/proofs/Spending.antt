@@ -1,7 +1,7 @@
 -- What filling sites spends.
 use Rattle.std.proofs.Common.{◌≡◌, ◌⊎◌, inl, inr, ℕ, ◌+◌, ◌<◌, ◌≤◌, Bool, true, false, List, Option, refl, sym, ◌∙◌, ap, arith, subst}
 use Rattle.block_cache.specs.{begun_at, cells_at, IsSpentOver, LaneView}
-use Rattle.loop_keys.specs.{HasAllDemands, held_in, IsClosed, job_graph, job_of, JobView, key, key_count}
+use Rattle.loop_keys.specs.{HasAllDemands, IsClosed, job_graph, job_of, JobView, key, key_count}
 use Rattle.expr_lanes.specs.{EachPlace, is_in}
 use Rattle.block_passes.specs.{Demands, IsSettledAt, KeepsRoom, Leaves}
 use Rattle.block_passes.specs.Spends.{Spends}

@@ -3,11 +3,11 @@ use Rattle.std.proofs.Common.{◌≡◌, ℕ, ◌+◌, ◌<◌, ◌≤◌, ℤ, 
 use Rattle.std.specs.List.{AllByRecursion, list_any}
 use Rattle.std.proofs.lemmas.Option.{slice_get_within}
 use Rattle.rdf_values.specs.{ActionAt, ActionKind, ColType, EntryFault, ReportOn}
-use Rattle.rdf_model.specs.{fault_in, Faults, Gives, is_true, Needs, Outcome}
+use Rattle.rdf_model.specs.{fault_in, Gives, is_true, Needs, Outcome}
 use Rattle.graph_numbers.specs.{booking_numbers, FilterAt, graph_filters, graph_results, IfPassed, Pass as NumberedPass, ResultAt, through_filter, through_sites}
 use Rattle.expr_lanes.specs.{EachPlace, is_in}
 use Rattle.block_cache.specs.{LaneView}
-use Rattle.loop_keys.specs.{ArePlainVersions, covered_in, covers_of, HasAllDemands, is_covering, IsActionAt, IsCovered, IsJob, IsPlainLoop, IsPlainVersion, IsReportPass, job_graph, JobView, numbered_passes, pass_fault, passes_in, site_in, version_in}
+use Rattle.loop_keys.specs.{ArePlainVersions, covered_in, covers_of, HasAllDemands, is_covering, IsCovered, IsJob, IsPlainLoop, IsPlainVersion, IsReportPass, job_graph, JobView, numbered_passes, pass_fault, passes_in, site_in, version_in}
 use Rattle.std.proofs.lemmas.List.Elements.{recursion_from_All}
 use Rattle.loop_keys.proofs.ActionLaws.{can_act}
 use Rattle.loop_keys.proofs.PassTies.{pass_answer, pass_of}
