@@ -1,11 +1,27 @@
--- One more cell of an entry, and its mark.
-use Rattle.std.proofs.Common.{◌≡◌, ◌≢◌, ◌<◌, ◌≤◌, ◌+◌, ℕ, Bool, true, false, List, [], ◌∷◌, ◌++◌, length, get_or, drop, Result, Ok, Err, arith, refl, ◌∙◌, if◌then◌else◌, nat_eq, nat_le}
+-- One more cell of an entry, and its mark; what is read, with the answer for what is left behind it.
+use Rattle.std.proofs.Common.{◌≡◌, ◌≢◌, ◌<◌, ◌≤◌, ◌+◌, ℕ, Bool, true, false, List, [], ◌∷◌, ◌++◌, length, get_or, drop, Result, Ok, Err, arith, refl, ap, sym, append_assoc, inl, inr, MatchResult, ◌∙◌, if◌then◌else◌, nat_eq, nat_le}
 use mir.Val.{bool_byte}
 use Rattle.std.proofs.lemmas.List.{append-nil, drop_all, drop_more}
 use Rattle.std.proofs.lemmas.Bool.Decides.{nat_tests}
-use Rattle.rdf_values.specs.{cells_from, Column, field_count, Header, mark_of, MarkedRow, on_ok, row_of, TableCause, Value}
+use Rattle.rdf_values.specs.{Answers, Cells, cells_from, Column, field_count, Header, mark_of, MarkedRow, on_ok, result_cons, row_of, row_pushed, TableCause, Value}
 use Rattle.rdf_values.specs.TableText.{cell_of, mark_in}
-use Rattle.table_csv.proofs.Onto.{result_onto, result_onto-cons}
+use Rattle.rdf_values.specs.Answered.{Refuses}
+use Rattle.table_csv.specs.{IsRowPushed}
+use Rattle.table_csv.specs.declared.refusal.TableRefusal.{TableRefusal}
+
+abbrev pub result_onto : {A E : Type 0} → List A → Result (List A) E → Result (List A) E
+result_onto read (Err e) = Err e
+result_onto read (Ok xs) = Ok (read ++ xs)
+
+pub result_onto-none : {A E : Type 0} (left : Result (List A) E) → result_onto [] left ≡ left
+result_onto-none (Err e) = refl
+result_onto-none (Ok xs) = refl
+
+pub result_onto-cons : {A E : Type 0} (read : List A) (x : A) (left : Result (List A) E) → result_onto read (result_cons (Ok x) left) ≡ result_onto (read ++ x ∷ []) left
+result_onto-cons read x (Err e) = refl
+result_onto-cons read x (Ok xs) = ap Ok (sym (append_assoc read (x ∷ []) xs))
+
+-- ---- cells
 
 pub cells_stop : (e : ℕ) (row : List Value) (columns : List Column) (fields : List (List ℕ)) (i : ℕ) (c : Column) (bad : TableCause)
     → i < length columns → i < length fields → c ≡ get_or columns i c → cell_of e i c.kind (get_or fields i []) ≡ Err bad
@@ -80,3 +96,12 @@ row_early e h fields r q = go (nat_le 1000000 e) refl q
 pub one_if : (b : Bool) → bool_byte b ≡ (if b then 1 else 0)
 one_if true = refl
 one_if false = refl
+
+-- ---- the answer of an entry, from that of its mark
+
+pub after_mark : (row : List Value) (mark : Result Bool TableCause) (wanted : Result MarkedRow TableCause) (answer : Result Bool TableRefusal) (old new : List Cells)
+    → wanted ≡ on_ok mark (λ begins. Ok (record { row = row; marked = begins })) → new ≡ row_pushed old row → Answers TableRefusal.At TableRefusal.Memory mark answer
+    → MatchResult answer (λ begins. IsRowPushed wanted begins old new) (Refuses TableRefusal.At TableRefusal.Memory wanted)
+after_mark row mark wanted (Ok begins) old new w q a = record { row = row; spelt = w ∙ rw a refl; added = q }
+after_mark row mark wanted (Err e) old new w q (inl memory) = inl memory
+after_mark row mark wanted (Err e) old new w q (inr bad) = inr (bad.0, bad.1, w ∙ rw bad.2 refl)

@@ -8,8 +8,6 @@ pub mod Headed
 pub mod HeaderSteps
 pub mod MarksBehind
 pub mod LineCuts
-pub mod MarkAnswers
-pub mod Onto
 pub mod PushSteps
 pub mod PieceSteps
 pub mod ShiftedRows

@@ -8,10 +8,6 @@ use Rattle.lemmas.proofs.{take_next}
 use Rattle.rdf_values.specs.{AreMarks}
 use Rattle.table_csv.specs.{marks_behind}
 
--- ---- one more of a list
-
--- ---- marks
-
 pub marks_more : (old now more : List ℕ) (n i mark : ℕ) → now ≡ old ++ marks_behind n (take i more) → slice_get more i ≡ Some mark → now ++ (n + mark) ∷ [] ≡ old ++ marks_behind n (take (i + 1) more)
 marks_more old now more n i mark e s =
     rw (e, take_next more i mark s, map-append (λ m. n + m) (take i more) (mark ∷ [])) (append_assoc old (marks_behind n (take i more)) ((n + mark) ∷ []))

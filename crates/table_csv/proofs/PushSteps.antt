@@ -4,8 +4,7 @@ use Rattle.rdf_values.specs.{AreKept, Cells, cells_from, ColType, Column, IsKept
 use Rattle.rdf_values.specs.TableText.{cell_of}
 use Rattle.rdf_values.proofs.RowPushed.{kept_length}
 use Rattle.table_csv.specs.{AreCellsPushed, IsCellPushed, kind_of}
-use Rattle.table_csv.proofs.CellSteps.{cells_end, cells_more, cells_stop}
-use Rattle.table_csv.proofs.Onto.{result_onto, result_onto-none}
+use Rattle.table_csv.proofs.CellSteps.{cells_end, cells_more, cells_stop, result_onto, result_onto-none}
 
 -- ---- values behind those of the first columns
 

@@ -62,16 +62,16 @@ leads_end : (b : Bool) (f : List (List ℕ)) → 0 < length f → Leads 0 (if b 
 leads_end true f h = (omega arith, refl, h)
 leads_end false f h = tt
 
-leads_if : (b : Bool) (size : ℕ) (x y : Option Read) → (b ≡ true → Leads size x) → (b ≡ false → Leads size y) → Leads size (if b then x else y)
-leads_if true size x y h k = h refl
-leads_if false size x y h k = k refl
+if_holds : (P : Option Read → Type 0) (b : Bool) (x y : Option Read) → (b ≡ true → P x) → (b ≡ false → P y) → P (if b then x else y)
+if_holds P true x y h k = h refl
+if_holds P false x y h k = k refl
 
 leads : (xs : List ℕ) (s : State) (fields : List (List ℕ)) (field : List ℕ) → Leads (length xs) (next_record default_config s fields field xs)
 unfolding next_record
 leads [] s fields field = leads_end (ends_at_end s) (fields ++ (field ∷ [])) (omega (arith, length-append fields (field ∷ [])))
 leads (c ∷ rest) s fields field =
     let q = step default_config s c in
-    leads_if (is_end q.1) (length (c ∷ rest)) _ _
+    if_holds (Leads (length (c ∷ rest))) (is_end q.1) _ _
     (λ e. (omega arith, step_closes s c e, ended q.1 fields field e))
     (λ e. leads_more (length rest) (length (c ∷ rest)) _ (omega arith) (leads rest q.0 (fields_after q.1 fields field) (field_after q.1 c field)))
 
@@ -84,16 +84,12 @@ shrinks_leads : (m : ℕ) (o : Option Read) → Leads m o → Shrinks (suc m) o
 shrinks_leads m None l = tt
 shrinks_leads m (Some p) l = (omega arith, l.1, l.2)
 
-shrinks_if : (b : Bool) (size : ℕ) (x y : Option Read) → (b ≡ true → Shrinks size x) → (b ≡ false → Shrinks size y) → Shrinks size (if b then x else y)
-shrinks_if true size x y h k = h refl
-shrinks_if false size x y h k = k refl
-
 pub shrinks : (s : State) (xs : List ℕ) → ends_at_end s ≡ false → Shrinks (length xs) (next_record default_config s [] [] xs)
 unfolding next_record
 shrinks s [] h = rw h tt
 shrinks s (c ∷ rest) h =
     let q = step default_config s c in
-    shrinks_if (is_end q.1) (length (c ∷ rest)) _ _
+    if_holds (Shrinks (length (c ∷ rest))) (is_end q.1) _ _
     (λ e. (omega arith, step_closes s c e, ended q.1 [] [] e))
     (λ e. shrinks_leads (length rest) _ (leads rest q.0 (fields_after q.1 [] []) (field_after q.1 c [])))
 

@@ -5,7 +5,7 @@ use Rattle.std.proofs.lemmas.List.Elements.{All-cons}
 use Rattle.rdf_values.specs.{Cells, Column, Header, header_from, MarkedRow, MarkedTable, marks_from, on_ok, row_of, rows_from, rows_kept, table_of, table_with, TableCause, TableView, Value}
 use Rattle.rdf_values.proofs.RowPushed.{length-rows_kept}
 use Rattle.table_csv.specs.{entries_of}
-use Rattle.table_csv.proofs.Onto.{result_onto, result_onto-cons, result_onto-none}
+use Rattle.table_csv.proofs.CellSteps.{result_onto, result_onto-cons, result_onto-none}
 
 -- the table, where these rows are read and these entries are left
 pub table_from : Header → List MarkedRow → List (List (List ℕ)) → Result MarkedTable TableCause
