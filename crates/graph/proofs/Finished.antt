@@ -1,5 +1,5 @@
 -- The first line that is refused, the fields of a finished graph, and what they say of its numbers.
-use Rattle.std.proofs.Common.{◌≡◌, ℕ, List, [], ◌∷◌, ◌++◌, map, Option, Some, None, option_map, refl, sym, ◌∙◌, ap, subst, reverse, length, arith, inl, inr, ◌≤◌, Bool, slice_get, length-append, ◌+◌, ◌<◌}
+use Rattle.std.proofs.Common.{◌≡◌, ℕ, List, [], ◌∷◌, ◌++◌, map, Option, Some, None, option_map, refl, sym, ◌∙◌, ap, subst, reverse, length, arith, inl, inr, ◌≤◌, Bool, slice_get, length-append, ◌+◌, ◌<◌, option_and_then}
 use Rattle.std.proofs.lemmas.List.{reverse-append, reverse-reverse, length-map}
 use Rattle.lemmas.proofs.{map_next}
 use Rattle.rdf_values.specs.{AreAccepted, check, Column, FunctionNames, GraphCause, history, Line, Scope, scope_of, Script, Statement, verdict, verdict_after, Booked, bookings, is_watched, IsBookable, IsHeader, IsShort, result_depends, variations, named_before}
@@ -12,10 +12,11 @@ use Rattle.std.proofs.lemmas.Option.{slice_get-map}
 use Rattle.std.proofs.lemmas.Slice.Zip.{AllZip-long}
 use Rattle.rdf_values.specs.Answered.{Refuses}
 use Rattle.rdf_values.specs.declared.statement.Statement.TheVariants.{Print}
-use Rattle.rdf_model.specs.{Access, accesses, filled_by, loop_of}
+use Rattle.rdf_model.specs.{Access, accesses, filled_by, loop_of, loop_results}
 use Rattle.graph_numbers.proofs.Resulting.{booked_are}
-use Rattle.graph_numbers.specs.{booked, booked_statements, booked_unless, graph_results, graph_sources, graph_variations, GraphView, holds_at, IsGraph, result_number, ResultAt, Version, FilterAt, graph_filters, graph_sites, IsSiteExpr, result_depends_at, site_depends_at, SiteAt, sites}
-use Rattle.graph_numbers.proofs.Extending.{versions_count}
+use Rattle.graph_numbers.specs.{booked, booked_statements, booked_unless, graph_prints, graph_results, graph_runs, graph_sources, graph_variations, GraphView, holds_at, IsGraph, result_number, ResultAt, Version, FilterAt, graph_filters, graph_sites, IsSiteExpr, result_depends_at, site_depends_at, SiteAt, sites}
+use Rattle.graph_numbers.proofs.Extending.{itself, versions_count}
+use Rattle.graph_numbers.proofs.Looping.{runs_are}
 use Rattle.graph.specs.declared.tables.ResultRow.{ResultRow}
 use Rattle.graph.specs.declared.tables.Tables.{Tables}
 use Rattle.graph.specs.declared.loops.LoopTables.{LoopTables}
@@ -249,6 +250,11 @@ module _ {g : GraphView} {t : Tables} {l : LoopTables} {w : List Bool} (h : IsBo
   path_is f n row q = of_mapped result_path f (graph_results g) (paths t.results.items) n row.path h.tables.paths (slice_get-map (λ (r : ResultRow). r.path) t.results.items n ∙ ap (option_map (λ (r : ResultRow). r.path)) q)
 
   -- ---- Prints and loops
+
+  pub run_count : length l.runs.items ≡ length (graph_prints g)
+  run_count =
+      ap length h.loops.runs ∙ sym (length-map (graph_runs g) (λ (o : Option ℕ). option_and_then (slice_get (loop_results (booked_statements g))) o))
+      ∙ sym (ap length (runs_are (booked_statements g) (booked_statements g) itself)) ∙ length-map (accesses (booked_statements g)) (λ (a : Access). a.fills) ∙ sym (length-map (accesses (booked_statements g)) _)
 
   pub filling_is : (p n : ℕ) → slice_get l.filling.items p ≡ Some n → option_map (λ (a : Access). loop_of (booked_statements g) a.result) (slice_get (accesses (booked_statements g)) p) ≡ Some n
   filling_is p n q =

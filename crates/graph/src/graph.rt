@@ -3,7 +3,7 @@ ghost use Rattle.std.specs.Prelude.{◌≡◌, ◌<◌, ◌≤◌, ℕ, length, 
 ghost use Rattle.rdf_values.specs.{Answers, is_watched, IsBookable, IsHeader};
 ghost use Rattle.rdf_model.specs.{accesses, loop_of};
 ghost use Rattle.graph.specs.Dependence.{has};
-ghost use Rattle.graph_numbers.specs.{booked, booked_statements, graph_filters, graph_loops, graph_prints, graph_results, graph_sites, graph_sources, graph_variations, graph_versions, IsGraph, IsSiteExpr, kind_of_booking, result_depends_at, site_depends_at};
+ghost use Rattle.graph_numbers.specs.{booked, booked_statements, graph_filters, graph_loops, graph_prints, graph_results, graph_runs, graph_sites, graph_sources, graph_variations, graph_versions, IsGraph, IsSiteExpr, kind_of_booking, result_depends_at, site_depends_at};
 ghost use Rattle.graph.specs.Bookings.{refused_at};
 
 use crate::book::{book_lines, reversed};
@@ -17,7 +17,7 @@ use crate::tables::{ResultPath, Tables};
 use crate::variations::Variations;
 use crate::versions::source_of;
 use expr_check::Checked;
-use graph_numbers::{Pass, ResultKind, Source};
+use graph_numbers::{Pass, ResultKind, Source, Version};
 use rdf_values::{ColType, Column, FnName, FnNames, Label, Line, ListOf, Memory, Name, Script};
 use std::alloc::Global;
 use std::marker::Model;
@@ -146,6 +146,14 @@ impl Graph {
 
     // ---- results
 
+    /// How many results there are.
+    #[tactic(auto, using(crate::proofs::Finished::row_count))]
+    pub fn results(&self) -> u32
+        ensures { result ≡ length (graph_results self.now) }
+    {
+        self.tables.results.as_slice().len() as u32
+    }
+
     /// The name of a result.
     #[tactic(auto, using(crate::proofs::Finished::row_count, crate::proofs::Finished::name_is))]
     pub fn result_name(&self, r: u32) -> &Name
@@ -241,6 +249,15 @@ impl Graph {
         self.loops.loops.as_slice().len() as u32
     }
 
+    /// The loop that a Print runs; none where its result was filled before.
+    #[tactic(auto, using(crate::proofs::Finished::run_count))]
+    pub fn loop_of(&self, p: u32) -> Option<u32>
+        requires { p < length (graph_prints self.now) }
+        ensures { slice_get (graph_runs self.now) p ≡ Some result }
+    {
+        *at(self.loops.runs.as_slice(), p)
+    }
+
     /// The loop that fills the result of a Print.
     pub fn filling(&self, p: u32) -> u32
         requires { p < length (graph_prints self.now) }
@@ -316,6 +333,14 @@ impl Graph {
         ensures { result ≡ length (graph_versions self.now) }
     {
         self.tables.versions.as_slice().len() as u32
+    }
+
+    /// A version of a column.
+    pub fn version(&self, c: u32) -> &Version
+        requires { c < length (graph_versions self.now) }
+        ensures { slice_get (graph_versions self.now) c ≡ Some result.now }
+    {
+        at(self.tables.versions.as_slice(), c)
     }
 
     /// What gives a version its value under nominal or a variation; it takes at most one step for each Vary of the column.

@@ -25,10 +25,12 @@ pub(crate) struct ScriptRows<'a> {
     ghost are: { IsScriptRows (statements lines.now) results.now variations } by { script_rows-prop (statements lines.now) results.now variations },
 }
 
-/// The passes of each loop; for each Print its result and the loop that fills it; and for each result that is filled its loop.
+/// The passes of each loop; for each Print the loop that it runs, its result, and the loop that fills it; and for each
+/// result that is filled its loop.
 #[derive(Drop)]
 pub struct LoopTables {
     pub loops: Vec<ListOf<Pass>>,
+    pub runs: Vec<Option<u32>>,
     pub prints: Vec<u32>,
     pub filling: Vec<u32>,
     pub fillers: Vec<u32>,
@@ -45,16 +47,18 @@ impl LoopTables {
     {
         LoopTables {
             loops: Vec::new(alloc),
+            runs: Vec::new(alloc),
             prints: Vec::new(alloc),
             filling: Vec::new(alloc),
             fillers: Vec::new(alloc),
         }
     }
 
-    /// Notes a Print: its result and the loop that fills it.
-    fn note(&mut self, n: u32, filler: u32) -> Result<(), Memory>
-        ensures { OnOk result (IsNoted self.old n filler self.new) }
+    /// Notes a Print: its result, the loop that it runs, and the one that fills its result.
+    fn note(&mut self, n: u32, run: Option<u32>, filler: u32) -> Result<(), Memory>
+        ensures { OnOk result (IsNoted self.old n run filler self.new) }
     {
+        push(&mut self.runs, run)?;
         push(&mut self.prints, n)?;
         push(&mut self.filling, filler)
     }
@@ -80,14 +84,14 @@ impl LoopTables {
         let filled = self.fillers.as_slice().len();
         if n < filled {
             let filler = number_at(self.fillers.as_slice(), n);
-            self.note(n as u32, filler)
+            self.note(n as u32, None, filler)
         } else {
             let booked = result_count(before);
             let passes = waiting_passes(alloc, script, filled, booked)?;
             let place = self.loops.len() as u32;
             push(&mut self.loops, passes)?;
             push_many(&mut self.fillers, place, booked - filled)?;
-            self.note(n as u32, place)
+            self.note(n as u32, Some(place), place)
         }
     }
 }
