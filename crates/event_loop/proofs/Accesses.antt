@@ -1,27 +1,148 @@
--- What a session is after an access.
-use Rattle.std.proofs.Common.{if◌then◌else◌, ◌≡◌, ◌⊎◌, inl, inr, ℕ, ◌+◌, ◌<◌, ◌≤◌, Bool, true, List, [], ◌∷◌, ◌++◌, take, length, Option, Some, None, refl, sym, ◌∙◌, ap, subst, arith, length-append, IfSome, filter_map, option_map, slice_get, unwrap_or}
+-- The completed loop that fills a result, and what a session is after an access.
+use Rattle.std.proofs.Common.{if◌then◌else◌, ◌≡◌, ◌⊎◌, inl, inr, ℕ, ◌+◌, ◌<◌, ◌≤◌, Bool, true, false, List, [], ◌∷◌, ◌++◌, length, Option, Some, None, sym, ◌∙◌, ap, subst, arith, slice_get, unwrap_or, take, refl, length-append, IfSome, filter_map, option_map}
+use Rattle.std.proofs.lemmas.Bool.{cases_lt}
+use Rattle.std.proofs.lemmas.Option.{slice_get_within, IfSome_then}
+use Rattle.lemmas.proofs.{something_at, before_or_last, kept_at, same_some, take_next}
+use Rattle.rdf_values.specs.{Booked, history, Pass, passes_of, cut, Fault, first_in, Lead, Statement}
+use Rattle.rdf_model.specs.{kind_in, kinds_in, loop_passes, loop_results, Access, accesses, ComesInTurn, Dataset, filled_by, first_fault, first_fault_from, loop_of, loops_before}
+use Rattle.graph_numbers.specs.{graph_loops, graph_results, ResultAt, graph_prints}
+use Rattle.graph_numbers.proofs.Extending.{itself}
+use Rattle.graph_numbers.proofs.Listed.{next_at}
+use Rattle.loop_keys.specs.{passes_in}
+use Rattle.loop_pieces.specs.{place_if_watched, watched_from, watched_places}
+use Rattle.graph.proofs.Looped.{loops_few}
+use Rattle.event_loop.specs.{ArePartials, FilledLoop, fills, IsFilledAt, IsFilledPlace, IsFoundAt, IsPlaced, IsSession, IsUnfilled, session_job, SessionView, IsAccessed, IsFaulted, IsFilled, IsFilledIn, IsKept, job_facts, loop_filling, passes_run}
+use Rattle.event_loop.specs.declared.place.Place.{Place}
+use Rattle.event_loop.proofs.Found.{watched-append, statements_few, in_turn}
+use Rattle.event_loop.proofs.LoopResults.{many}
+use Rattle.event_loop.proofs.Printed.{place_first, printed_has_loop}
+use Rattle.graph.proofs.Listing.{place_at}
 use Rattle.std.specs.List.{cons_option}
-use Rattle.std.proofs.lemmas.Option.{IfSome_then, slice_get_within}
-use Rattle.lemmas.proofs.{before_or_last, kept_at, same_some, take_next}
-use Rattle.rdf_values.specs.{Booked, cut, Fault, first_in, history, Lead, Statement}
 use Rattle.rdf_values.specs.declared.statement.Statement.TheVariants.{Print}
 use Rattle.rdf_values.proofs.Leading.{cuts_lead}
-use Rattle.rdf_model.specs.{Access, accesses, ComesInTurn, Dataset, filled_by, first_fault, first_fault_from, loop_of, loop_passes, loop_results, loops_before}
 use Rattle.rdf_model.proofs.Turns.{loops_come_in_turn}
-use Rattle.graph_numbers.specs.{graph_prints}
-use Rattle.loop_keys.specs.{passes_in}
 use Rattle.loop_pieces.proofs.ClusterFaults.{first_cluster_has_first_fault}
-use Rattle.event_loop.specs.{FilledLoop, IsAccessed, IsFaulted, IsFilled, IsFilledIn, IsKept, IsRefused, IsSession, IsUnfilled, job_facts, loop_filling, passes_run, session_job, SessionView}
 use Rattle.event_loop.specs.declared.kept.Kept.{Kept}
-use Rattle.event_loop.proofs.LoopResults.{filter_map-append}
-use Rattle.event_loop.proofs.Found.{in_turn, statements_few}
-use Rattle.event_loop.proofs.Printed.{printed_has_loop}
+use Rattle.std.proofs.lemmas.List.Elements.{filter_map-append}
+
+-- ---- loops by their numbers
+
+module _ (s : SessionView) (is : IsSession s) where
+  pub loop_there : (l : ℕ) → l < length s.loops → l < length (graph_loops s.graph)
+  loop_there l lt = let few = is.few in let same_length = many (history s.graph.script) (history s.graph.script) itself in omega (arith, lt, few, same_length)
+
+  pub loop_few : (l : ℕ) → l < length s.loops → l < 256
+  loop_few l lt =
+      let there = loop_there l lt in
+      let few = loops_few (history s.graph.script) (history s.graph.script) in
+      let statements = statements_few s.graph is.booked in
+      omega (arith, there, few, statements)
+
+  results_of : (l : ℕ) → l < length s.loops → (results : List Booked) × (slice_get (loop_results (history s.graph.script)) l ≡ Some results)
+  results_of l lt = let few = is.few in something_at (loop_results (history s.graph.script)) l (omega (arith, lt, few))
+
+  -- no loop before fills the result
+  abbrev pub NoneBefore : List ℕ → ℕ → Type 0
+  NoneBefore name l = (k : ℕ) (results : List Booked) → k < l → slice_get (loop_results (history s.graph.script)) k ≡ Some results → fills name results ≡ false
+
+  pub one_more : (name : List ℕ) (l : ℕ) → NoneBefore name l → ((results : List Booked) → slice_get (loop_results (history s.graph.script)) l ≡ Some results → fills name results ≡ false) → NoneBefore name (l + 1)
+  one_more name l before own k results lt at = go (cases_lt k l)
+    where
+      go : (k < l) ⊎ (l ≤ k) → fills name results ≡ false
+      go (inl less) = before k results less at
+      go (inr ge) = let same_number : k ≡ l = omega arith in own results (ap (slice_get (loop_results (history s.graph.script))) (sym same_number) ∙ at)
+
+  pub none_left : (name : List ℕ) (n : ℕ) → length s.loops ≤ n → NoneBefore name n → IsUnfilled s name
+  none_left name n le before l at = go (cases_lt l (length s.loops))
+    where
+      go : (l < length s.loops) ⊎ (length s.loops ≤ l) → length s.loops ≤ l
+      go (inr ge) = ge
+      go (inl lt) = let p = place_at (fills name) (loop_results (history s.graph.script)) l at in let no = before l p.0 (omega arith) p.1 in let is_one = p.2 in absurd (cc)
+
+  pub found : (b : Booked) (l : ℕ) (place : Place) → l < length s.loops → NoneBefore b.name l
+      → ((results : List Booked) → slice_get (loop_results (history s.graph.script)) l ≡ Some results → IsFilledPlace (history s.graph.script) b results place) → IsFoundAt s b l place
+  found b l place lt before own =
+      let results = results_of l lt in
+      let f = own results.0 results.1 in
+      record {
+        its_number = place_first (fills b.name) (loop_results (history s.graph.script)) l results.0 results.1 f.filled (λ k y less there. before k y less there);
+        completed = lt;
+        placed = subst (λ (ps : List Pass). IsPlaced (history s.graph.script) ps b place) (sym (ap (λ (o : Option (List Booked)). loop_passes (history s.graph.script) (unwrap_or o [])) results.1)) f.placed;
+      }
+
+  pub result_is : (b : Booked) (l : ℕ) (place : Place) (f : FilledLoop) → IsFoundAt s b l place → slice_get s.loops l ≡ Some f → IsFilledAt s b f place
+  result_is b l place f h at = record { number = l; its_number = h.its_number; its_loop = at; placed = h.placed }
+
+  -- ---- watched results
+
+  -- the place of a result that is noted, among the watched ones
+  pub noted_at : (b : Booked) (ps : List Pass) (place : Place) → IsPlaced (history s.graph.script) ps b place
+      → ((n : ℕ) → place_if_watched (history s.graph.script) n (record { result = b; under = None }) ≡ n ∷ []) → slice_get (watched_places (history s.graph.script) ps) place.watched ≡ Some place.first
+  noted_at b ps place h noted =
+      let script = history s.graph.script in
+      let n = length (kinds_in h.before) in
+      let zero_more : 0 + n ≡ n = omega arith in
+      let more : place.watched ≡ length (watched_places script h.before) + 0 = (let w = h.watched in omega (arith, w)) in
+      ap (λ (l : List Pass). slice_get (watched_places script l) place.watched) h.passes_are
+      ∙ ap (λ (l : List ℕ). slice_get l place.watched) (watched-append script 0 h.before (passes_of script b ++ h.after))
+      ∙ next_at (watched_places script h.before) (watched_from script (0 + n) (passes_of script b ++ h.after)) 0 place.watched more
+      ∙ ap (λ (m : ℕ). slice_get (watched_from script m (passes_of script b ++ h.after)) 0) zero_more
+      ∙ first_one n
+      ∙ ap (λ (m : ℕ). Some m) (sym h.first)
+    where
+      rest_of : List Pass → List Pass
+      rest_of [] = []
+      rest_of (p ∷ qs) = qs
+
+      first_one : (n : ℕ) → slice_get (watched_from (history s.graph.script) n (passes_of (history s.graph.script) b ++ h.after)) 0 ≡ Some n
+      first_one n = ap (λ (l : List ℕ). slice_get (l ++ watched_from (history s.graph.script) (n + length (kind_in b.booking)) (rest_of (passes_of (history s.graph.script) b ++ h.after))) 0) (noted n)
+
+  pub lines_there : (b : Booked) (l : ℕ) (place : Place) → IsFoundAt s b l place → ((n : ℕ) → place_if_watched (history s.graph.script) n (record { result = b; under = None }) ≡ n ∷ [])
+      → (f : FilledLoop) → slice_get s.loops l ≡ Some f → place.watched < length f.partials
+  lines_there b l place h noted f at =
+      let its = is.filled l f at in
+      let many_lines = its.partials.over.are.many in
+      let within = slice_get_within (watched_places (history s.graph.script) (passes_in (session_job s l))) place.watched place.first (noted_at b (passes_in (session_job s l)) place h.placed noted) in
+      omega (arith, many_lines, within)
+
+  pub partials_are : (b : Booked) (l : ℕ) (place : Place) (lines : List _) → IsFoundAt s b l place → ((n : ℕ) → place_if_watched (history s.graph.script) n (record { result = b; under = None }) ≡ n ∷ [])
+      → ((f : FilledLoop) → slice_get s.loops l ≡ Some f → slice_get f.partials place.watched ≡ Some lines) → ArePartials s b lines
+  partials_are b l place lines h noted own =
+      let f = something_at s.loops l h.completed in
+      record {
+        filled = f.0;
+        place = place;
+        filled_at = result_is b l place f.0 h f.1;
+        watched = noted;
+        its_lines = own f.0 f.1;
+      }
+
+-- ---- by the result's number
+
+module _ (s : SessionView) (is : IsSession s) (r : ℕ) (lt : r < length (graph_results s.graph)) (l : ℕ) (place : Place)
+    (h : (x : ResultAt) → slice_get (graph_results s.graph) r ≡ Some x → IsFoundAt s x.booked l place) where
+  row : (x : ResultAt) × (slice_get (graph_results s.graph) r ≡ Some x)
+  row = something_at (graph_results s.graph) r lt
+
+  pub completed_at : l < length s.loops
+  completed_at = (h row.0 row.1).completed
+
+  module _ (t : Bool) (set : t ≡ true)
+      (noted : (x : ResultAt) (n : ℕ) → slice_get (graph_results s.graph) r ≡ Some x → place_if_watched (history s.graph.script) n (record { result = x.booked; under = None }) ≡ (if t then n ∷ [] else [])) where
+    is_noted : (x : ResultAt) → slice_get (graph_results s.graph) r ≡ Some x → (n : ℕ) → place_if_watched (history s.graph.script) n (record { result = x.booked; under = None }) ≡ n ∷ []
+    is_noted x at n = noted x n at ∙ ap (λ (b : Bool). if b then n ∷ [] else []) set
+
+    pub lines_there_at : (f : FilledLoop) → slice_get s.loops l ≡ Some f → place.watched < length f.partials
+    lines_there_at f at = lines_there s is row.0.booked l place (h row.0 row.1) (is_noted row.0 row.1) f at
+
+    pub partials_at : (lines : List _) → ((f : FilledLoop) → slice_get s.loops l ≡ Some f → slice_get f.partials place.watched ≡ Some lines) → (x : ResultAt) → slice_get (graph_results s.graph) r ≡ Some x → ArePartials s x.booked lines
+    partials_at lines own x at = partials_are s is x.booked l place lines (h x at) (is_noted x at) own
 
 -- ---- faults
 
 no_pass_no_fault : (d : Dataset) (e : ℕ) (rows : List _) → first_fault_from d e rows [] ≡ None
 no_pass_no_fault d e [] = refl
-no_pass_no_fault d e (row ∷ rows) = no_pass_no_fault d (e + 1) rows
+no_pass_no_fault d e (r ∷ rows) = no_pass_no_fault d (e + 1) rows
 
 pub job_fault : (s : SessionView) → IsSession s → (l : ℕ) → first_in (job_facts (session_job s l)).faults ≡ first_fault s.dataset (passes_in (session_job s l))
 job_fault s is l =
@@ -30,24 +151,18 @@ job_fault s is l =
 
 -- ---- one access more
 
-run_append : (xs ys : List Access) → filter_map (λ (a : Access). a.fills) (xs ++ ys) ≡ filter_map (λ (a : Access). a.fills) xs ++ filter_map (λ (a : Access). a.fills) ys
-run_append xs ys = filter_map-append (λ (a : Access). a.fills) xs ys
+-- an access runs one loop or none
+run_more : (script : List Statement) (p : ℕ) (a : Access) → slice_get (accesses script) p ≡ Some a → loops_before script (p + 1) ≡ loops_before script p + length (cons_option a.fills [])
+run_more script p a at =
+    ap (λ (l : List Access). length (filter_map (λ (x : Access). x.fills) l)) (take_next (accesses script) p a at)
+    ∙ ap (λ (l : List (List Booked)). length l) (filter_map-append (λ (x : Access). x.fills) (take p (accesses script)) (a ∷ []))
+    ∙ length-append (filter_map (λ (x : Access). x.fills) (take p (accesses script))) (filter_map (λ (x : Access). x.fills) (a ∷ []))
 
 pub none_more : (script : List Statement) (p : ℕ) (a : Access) → slice_get (accesses script) p ≡ Some a → a.fills ≡ None → loops_before script (p + 1) ≡ loops_before script p
-none_more script p a at none =
-    let front = ap (λ (l : List Access). length (filter_map (λ (x : Access). x.fills) l)) (take_next (accesses script) p a at) in
-    let both = ap (λ (l : List (List Booked)). length l) (run_append (take p (accesses script)) (a ∷ [])) in
-    let sum = length-append (filter_map (λ (x : Access). x.fills) (take p (accesses script))) (filter_map (λ (x : Access). x.fills) (a ∷ [])) in
-    let own : length (filter_map (λ (x : Access). x.fills) (a ∷ [])) ≡ 0 = ap (λ (o : Option (List Booked)). length (cons_option o [])) none in
-    front ∙ both ∙ sum ∙ omega (arith, own)
+none_more script p a at none = omega (arith, run_more script p a at, ap (λ (o : Option (List Booked)). length (cons_option o [])) none)
 
 pub one_loop_more : (script : List Statement) (p : ℕ) (a : Access) (results : List Booked) → slice_get (accesses script) p ≡ Some a → a.fills ≡ Some results → loops_before script (p + 1) ≡ loops_before script p + 1
-one_loop_more script p a results at some =
-    let front = ap (λ (l : List Access). length (filter_map (λ (x : Access). x.fills) l)) (take_next (accesses script) p a at) in
-    let both = ap (λ (l : List (List Booked)). length l) (run_append (take p (accesses script)) (a ∷ [])) in
-    let sum = length-append (filter_map (λ (x : Access). x.fills) (take p (accesses script))) (filter_map (λ (x : Access). x.fills) (a ∷ [])) in
-    let own : length (filter_map (λ (x : Access). x.fills) (a ∷ [])) ≡ 1 = ap (λ (o : Option (List Booked)). length (cons_option o [])) some in
-    front ∙ both ∙ sum ∙ omega (arith, own)
+one_loop_more script p a results at some = omega (arith, run_more script p a at, ap (λ (o : Option (List Booked)). length (cons_option o [])) some)
 
 -- what a push that took memory leaves
 pub pushed_items : {A : Type 0} (b : Bool) (xs ys zs : List A) → ys ≡ (if b then xs else zs) → b ≡ true → ys ≡ xs
@@ -80,139 +195,18 @@ pub pushed : (s : SessionView) (n : ℕ) (f : FilledLoop) (loops : List FilledLo
     → length s.loops < length (loop_results (history s.graph.script)) → length s.loops + 1 ≡ loops_before (history s.graph.script) n → IsSession (record s { next = n; loops = loops })
 pushed s n f loops is sound joined filled there turn =
     let many = ap (λ (l : List FilledLoop). length l) joined ∙ length-append s.loops (f ∷ []) in
-    changed s n loops s.fault is (λ l g at. go l g (before_or_last s.loops f l g (ap (λ (x : List FilledLoop). slice_get x l) (sym joined) ∙ at))) (omega (arith, many, there)) (λ e. many ∙ turn)
+    changed s n loops s.fault is (λ l g at. each l g (before_or_last s.loops f l g (ap (λ (x : List FilledLoop). slice_get x l) (sym joined) ∙ at))) (omega (arith, many, there)) (λ e. many ∙ turn)
     (subst (λ (o : Option Kept). IfSome o (IsKept (record s { next = n; loops = loops }))) (sym sound) tt)
   where
-    go : (l : ℕ) (g : FilledLoop) → (slice_get s.loops l ≡ Some g) ⊎ ((l ≡ length s.loops) × (f ≡ g)) → IsFilled (job_facts (session_job s l)) s.watch g
-    go l g (inl q) = is.filled l g q
-    go l g (inr q) = subst (λ (x : FilledLoop). IsFilled (job_facts (session_job s l)) s.watch x) q.1 (subst (λ (m : ℕ). IsFilled (job_facts (session_job s m)) s.watch f) (sym q.0) filled)
+    each : (l : ℕ) (g : FilledLoop) → (slice_get s.loops l ≡ Some g) ⊎ ((l ≡ length s.loops) × (f ≡ g)) → IsFilled (job_facts (session_job s l)) s.watch g
+    each l g (inl q) = is.filled l g q
+    each l g (inr q) = subst (λ (x : FilledLoop). IsFilled (job_facts (session_job s l)) s.watch x) q.1 (subst (λ (m : ℕ). IsFilled (job_facts (session_job s m)) s.watch f) (sym q.0) filled)
 
 pub faulted : (s : SessionView) (n : ℕ) (k : Kept) → IsSession s → k.loop_index ≡ length s.loops → k.loop_index < length (loop_results (history s.graph.script)) → first_fault s.dataset (passes_in (session_job s k.loop_index)) ≡ Some k.fault
     → IsSession (record s { next = n; fault = Some k })
 faulted s n k is number there first = changed s n s.loops (Some k) is is.filled is.few (λ e. absurd (cc)) (record { number = number; there = there; first = first })
 
--- ---- a Print
-
-module _ (s : SessionView) (is : IsSession s) (print : ℕ) (next : print ≡ s.next) (a : Access) (at : slice_get (accesses (history s.graph.script)) print ≡ Some a) where
-  same_access : (b : Access) → slice_get (accesses (history s.graph.script)) print ≡ Some b → a ≡ b
-  same_access b there = same_some (sym at ∙ there)
-
-  turn : ComesInTurn (history s.graph.script) print a
-  turn = loops_come_in_turn s.graph.names s.graph.header s.graph.script print a is.booked.accepted at
-
-  found : (l : ℕ) × (loop_filling (history s.graph.script) a.result ≡ Some l)
-  found = printed_has_loop (history s.graph.script) (in_turn s.graph is.booked) print a at
-
-  found_is : (l : ℕ) → loop_of (history s.graph.script) a.result ≡ l → loop_filling (history s.graph.script) a.result ≡ Some l
-  found_is l e = found.1 ∙ ap (λ (n : ℕ). Some n) (sym (ap (λ (o : Option ℕ). unwrap_or o 0) found.1) ∙ e)
-
-  loops_are : s.fault ≡ None → length s.loops ≡ loops_before (history s.graph.script) print
-  loops_are sound = is.turn sound ∙ ap (loops_before (history s.graph.script)) (sym next)
-
-  module _ (l : ℕ) (filling : loop_of (history s.graph.script) a.result ≡ l) where
-    -- the result was filled before
-    no_loop : l < length s.loops → s.fault ≡ None → a.fills ≡ None
-    no_loop lt sound = go a.fills refl
-      where
-        go : (o : Option (List Booked)) → a.fills ≡ o → o ≡ None
-        go None e = refl
-        go (Some results) e = let own = (turn.next results e).0 in let so_far = loops_are sound in absurd (omega (arith, filling, own, so_far, lt))
-
-    pub old_session : l < length s.loops → IsSession (record s { next = print + 1 })
-    old_session lt = advanced s (print + 1) is (λ sound. loops_are sound ∙ sym (none_more (history s.graph.script) print a at (no_loop lt sound)))
-
-    pub old_accessed : (r : ℕ) → slice_get (graph_prints s.graph) print ≡ Some (Some r) → l < length s.loops → IsAccessed s (record s { next = print + 1 }) print r
-    old_accessed r its lt = record {
-      its_result = its;
-      next = ap (λ (n : ℕ). n + 1) next;
-      fault = refl;
-      stays = λ k f there. there;
-      filled = λ b there. subst (λ (x : Access). IsFilledIn (record s { next = print + 1 }) x.result) (same_access b there) (record { number = l; its_number = found_is l filling; completed = lt });
-      again = λ b there h. refl;
-      sound = λ b there sound. subst (λ (x : Access). first_fault s.dataset (passes_run (history s.graph.script) x) ≡ None) (same_access b there)
-          (ap (λ (o : Option (List Booked)). first_fault s.dataset (loop_passes (history s.graph.script) (unwrap_or o []))) (no_loop lt sound) ∙ no_pass_no_fault s.dataset 0 s.dataset.rows);
-    }
-
-    -- the loop is run
-    pub record IsNext : Type 0 where
-      pub results : List Booked
-      pub fills : a.fills ≡ Some results
-      pub number : l ≡ length s.loops
-      pub its_results : slice_get (loop_results (history s.graph.script)) l ≡ Some results
-
-    pub is_next : length s.loops ≤ l → s.fault ≡ None → IsNext
-    is_next ge sound = go a.fills refl
-      where
-        go : (o : Option (List Booked)) → a.fills ≡ o → IsNext
-        go None e = let own = turn.filled_before e in let so_far = loops_are sound in absurd (omega (arith, filling, own, so_far, ge))
-        go (Some results) e =
-            let own = turn.next results e in
-            let same_number : loops_before (history s.graph.script) print ≡ l = sym own.0 ∙ filling in
-            record { results = results; fills = e; number = sym (loops_are sound ∙ same_number); its_results = ap (slice_get (loop_results (history s.graph.script))) (sym same_number) ∙ own.1 }
-
-    -- its passes are those that the Print runs
-    passes_are : (n : IsNext) → passes_in (session_job s l) ≡ passes_run (history s.graph.script) a
-    passes_are n = ap (λ (o : Option (List Booked)). loop_passes (history s.graph.script) (unwrap_or o [])) (n.its_results ∙ sym n.fills)
-
-    pub unfilled : length s.loops ≤ l → (b : Access) → slice_get (accesses (history s.graph.script)) print ≡ Some b → IsUnfilled s b.result
-    unfilled ge b there m m_fills =
-        let same_number : l ≡ m = same_some (sym (found_is l filling) ∙ ap (λ (x : Access). loop_filling (history s.graph.script) x.result) (same_access b there) ∙ m_fills) in
-        omega (arith, ge, same_number)
-
-    new_session : (n : IsNext) → s.fault ≡ None → (f : FilledLoop) (loops : List FilledLoop) → loops ≡ s.loops ++ f ∷ [] → IsFilled (job_facts (session_job s l)) s.watch f → IsSession (record s { next = print + 1; loops = loops })
-    new_session n sound f loops joined filled =
-        let number = n.number in
-        let within = slice_get_within (loop_results (history s.graph.script)) l n.results n.its_results in
-        pushed s (print + 1) f loops is sound joined (subst (λ (m : ℕ). IsFilled (job_facts (session_job s m)) s.watch f) number filled) (omega (arith, number, within))
-        (ap (λ (m : ℕ). m + 1) (loops_are sound) ∙ sym (one_loop_more (history s.graph.script) print a n.results at n.fills))
-
-    new_accessed : (n : IsNext) → (r : ℕ) → slice_get (graph_prints s.graph) print ≡ Some (Some r) → s.fault ≡ None → (f : FilledLoop) (loops : List FilledLoop) → loops ≡ s.loops ++ f ∷ [] → IsFilled (job_facts (session_job s l)) s.watch f
-        → IsAccessed s (record s { next = print + 1; loops = loops }) print r
-    new_accessed n r its sound f loops joined filled =
-        let number = n.number in
-        let many = ap (λ (x : List FilledLoop). length x) joined ∙ length-append s.loops (f ∷ []) in
-        record {
-          its_result = its;
-          next = ap (λ (m : ℕ). m + 1) next;
-          fault = refl;
-          stays = λ k g there. ap (λ (x : List FilledLoop). slice_get x k) joined ∙ kept_at s.loops (f ∷ []) k g there;
-          filled = λ b there. subst (λ (x : Access). IsFilledIn (record s { next = print + 1; loops = loops }) x.result) (same_access b there) (record { number = l; its_number = found_is l filling; completed = omega (arith, number, many) });
-          again = λ b there h. (
-              let same_number : l ≡ h.number = same_some (sym (found_is l filling) ∙ ap (λ (x : Access). loop_filling (history s.graph.script) x.result) (same_access b there) ∙ h.its_number) in
-              let lt = h.completed in absurd (omega (arith, number, same_number, lt))
-              );
-          sound = λ b there h. subst (λ (x : Access). first_fault s.dataset (passes_run (history s.graph.script) x) ≡ None) (same_access b there)
-              (ap (first_fault s.dataset) (sym (passes_are n)) ∙ sym (job_fault s is l) ∙ filled.sound);
-        }
-
-    faulted_session : (n : IsNext) → (f : Fault) → first_in (job_facts (session_job s l)).faults ≡ Some f → IsSession (record s { next = print + 1; fault = Some (record { loop_index = l; fault = f }) })
-    faulted_session n f first =
-        faulted s (print + 1) (record { loop_index = l; fault = f }) is n.number (slice_get_within (loop_results (history s.graph.script)) l n.results n.its_results) (sym (job_fault s is l) ∙ first)
-
-    faulted_access : (n : IsNext) → length s.loops ≤ l → s.fault ≡ None → (f : Fault) → IsFaulted s (record s { next = print + 1; fault = Some (record { loop_index = l; fault = f }) }) print l f
-    faulted_access n ge sound f = record {
-      next = ap (λ (m : ℕ). m + 1) next;
-      loops = refl;
-      fault = refl;
-      kept = λ k e. absurd (cc);
-      unfilled = unfilled ge;
-      ran = λ b there h. n.its_results ∙ sym n.fills ∙ ap (λ (x : Access). x.fills) (same_access b there);
-    }
-
-    kept_access : length s.loops ≤ l → (k : Kept) → s.fault ≡ Some k → IsFaulted s (record s { next = print + 1 }) print k.loop_index k.fault
-    kept_access ge k e = record {
-      next = ap (λ (m : ℕ). m + 1) next;
-      loops = refl;
-      fault = e;
-      kept = λ x q. refl;
-      unfilled = unfilled ge;
-      ran = λ b there h. absurd (cc);
-    }
-
-    refused_access : length s.loops ≤ l → s.fault ≡ None → IsRefused s s print
-    refused_access ge sound = record { same = refl; sound = sound; unfilled = unfilled ge }
-
--- ---- by what the graph tells of the Print
+-- ---- a Print, by what the graph tells of it
 
 access_of : (script : List Statement) (print l : ℕ) → option_map (λ (a : Access). loop_of script a.result) (slice_get (accesses script) print) ≡ Some l → (a : Access) × (slice_get (accesses script) print ≡ Some a) × (loop_of script a.result ≡ l)
 access_of script print l h = go (slice_get (accesses script) print) refl h
@@ -232,38 +226,121 @@ print_few s is print lt =
     let statements = statements_few s.graph is.booked in
     omega (arith, lt, few, statements)
 
-module _ (s : SessionView) (is : IsSession s) (print : ℕ) (next : print ≡ s.next) (l : ℕ) (filling : option_map (λ (a : Access). loop_of (history s.graph.script) a.result) (slice_get (accesses (history s.graph.script)) print) ≡ Some l) where
+module _ (s : SessionView) (is : IsSession s) (print : ℕ) (next : print ≡ s.next) (l : ℕ)
+    (told : option_map (λ (a : Access). loop_of (history s.graph.script) a.result) (slice_get (accesses (history s.graph.script)) print) ≡ Some l) where
   its : (a : Access) × (slice_get (accesses (history s.graph.script)) print ≡ Some a) × (loop_of (history s.graph.script) a.result ≡ l)
-  its = access_of (history s.graph.script) print l filling
+  its = access_of (history s.graph.script) print l told
+
+  abbrev a : Access
+  a = its.0
+
+  at : slice_get (accesses (history s.graph.script)) print ≡ Some a
+  at = its.1
+
+  filling : loop_of (history s.graph.script) a.result ≡ l
+  filling = its.2
+
+  same_access : (b : Access) → slice_get (accesses (history s.graph.script)) print ≡ Some b → a ≡ b
+  same_access b there = same_some (sym at ∙ there)
+
+  turn : ComesInTurn (history s.graph.script) print a
+  turn = loops_come_in_turn s.graph.names s.graph.header s.graph.script print a is.booked.accepted at
+
+  its_filler : (l : ℕ) × (loop_filling (history s.graph.script) a.result ≡ Some l)
+  its_filler = printed_has_loop (history s.graph.script) (in_turn s.graph is.booked) print a at
+
+  found_is : loop_filling (history s.graph.script) a.result ≡ Some l
+  found_is = its_filler.1 ∙ ap (λ (n : ℕ). Some n) (sym (ap (λ (o : Option ℕ). unwrap_or o 0) its_filler.1) ∙ filling)
+
+  loops_are : s.fault ≡ None → length s.loops ≡ loops_before (history s.graph.script) print
+  loops_are sound = is.turn sound ∙ ap (loops_before (history s.graph.script)) (sym next)
+
+  -- the result was filled before
+  no_loop : l < length s.loops → s.fault ≡ None → a.fills ≡ None
+  no_loop lt sound = go a.fills refl
+    where
+      go : (o : Option (List Booked)) → a.fills ≡ o → o ≡ None
+      go None e = refl
+      go (Some results) e = let own = (turn.next results e).0 in let so_far = loops_are sound in absurd (omega (arith, filling, own, so_far, lt))
 
   pub after_old : l < length s.loops → IsSession (record s { next = print + 1 })
-  after_old lt = old_session s is print next its.0 its.1 l its.2 lt
+  after_old lt = advanced s (print + 1) is (λ sound. loops_are sound ∙ sym (none_more (history s.graph.script) print a at (no_loop lt sound)))
 
   pub accessed_old : (q r : ℕ) → q ≡ r → slice_get (graph_prints s.graph) print ≡ Some (Some q) → l < length s.loops → IsAccessed s (record s { next = print + 1 }) print r
-  accessed_old q r same_result result lt = old_accessed s is print next its.0 its.1 l its.2 r (result ∙ ap (λ (n : ℕ). Some (Some n)) same_result) lt
+  accessed_old q r same_result result lt = record {
+    its_result = result ∙ ap (λ (n : ℕ). Some (Some n)) same_result;
+    next = ap (λ (n : ℕ). n + 1) next;
+    fault = refl;
+    stays = λ k f there. there;
+    filled = λ b there. subst (λ (x : Access). IsFilledIn (record s { next = print + 1 }) x.result) (same_access b there) (record { number = l; its_number = found_is; completed = lt });
+    again = λ b there h. refl;
+    sound = λ b there sound. subst (λ (x : Access). first_fault s.dataset (passes_run (history s.graph.script) x) ≡ None) (same_access b there)
+        (ap (λ (o : Option (List Booked)). first_fault s.dataset (loop_passes (history s.graph.script) (unwrap_or o []))) (no_loop lt sound) ∙ no_pass_no_fault s.dataset 0 s.dataset.rows);
+  }
+
+  -- the loop is run
+  record IsNext : Type 0 where
+    pub results : List Booked
+    pub fills : a.fills ≡ Some results
+    pub number : l ≡ length s.loops
+    pub its_results : slice_get (loop_results (history s.graph.script)) l ≡ Some results
+
+  unfilled : length s.loops ≤ l → (b : Access) → slice_get (accesses (history s.graph.script)) print ≡ Some b → IsUnfilled s b.result
+  unfilled ge b there m m_fills =
+      let same_number : l ≡ m = same_some (sym found_is ∙ ap (λ (x : Access). loop_filling (history s.graph.script) x.result) (same_access b there) ∙ m_fills) in
+      omega (arith, ge, same_number)
 
   module _ (ge : length s.loops ≤ l) (sound : s.fault ≡ None) where
-    next_loop : IsNext s is print next its.0 its.1 l its.2
-    next_loop = is_next s is print next its.0 its.1 l its.2 ge sound
+    next_loop : IsNext
+    next_loop = go a.fills refl
+      where
+        go : (o : Option (List Booked)) → a.fills ≡ o → IsNext
+        go None e = let own = turn.filled_before e in let so_far = loops_are sound in absurd (omega (arith, filling, own, so_far, ge))
+        go (Some results) e =
+            let own = turn.next results e in
+            let same_number : loops_before (history s.graph.script) print ≡ l = sym own.0 ∙ filling in
+            record { results = results; fills = e; number = sym (loops_are sound ∙ same_number); its_results = ap (slice_get (loop_results (history s.graph.script))) (sym same_number) ∙ own.1 }
+
+    -- its passes are those that the Print runs
+    passes_are : passes_in (session_job s l) ≡ passes_run (history s.graph.script) a
+    passes_are = ap (λ (o : Option (List Booked)). loop_passes (history s.graph.script) (unwrap_or o [])) (next_loop.its_results ∙ sym next_loop.fills)
 
     pub loop_within : l < length (loop_results (history s.graph.script))
     loop_within = slice_get_within (loop_results (history s.graph.script)) l next_loop.results next_loop.its_results
 
-    pub refused : IsRefused s s print
-    refused = refused_access s is print next its.0 its.1 l its.2 ge sound
-
     module _ (f : FilledLoop) (loops : List FilledLoop) (joined : loops ≡ s.loops ++ f ∷ []) (filled : IsFilled (job_facts (session_job s l)) s.watch f) where
       pub after_filled : IsSession (record s { next = print + 1; loops = loops })
-      after_filled = new_session s is print next its.0 its.1 l its.2 next_loop sound f loops joined filled
+      after_filled =
+          let number = next_loop.number in
+          let within = loop_within in
+          pushed s (print + 1) f loops is sound joined (subst (λ (m : ℕ). IsFilled (job_facts (session_job s m)) s.watch f) number filled) (omega (arith, number, within))
+          (ap (λ (m : ℕ). m + 1) (loops_are sound) ∙ sym (one_loop_more (history s.graph.script) print a next_loop.results at next_loop.fills))
 
       pub accessed_filled : (q r : ℕ) → q ≡ r → slice_get (graph_prints s.graph) print ≡ Some (Some q) → IsAccessed s (record s { next = print + 1; loops = loops }) print r
-      accessed_filled q r same_result result = new_accessed s is print next its.0 its.1 l its.2 next_loop r (result ∙ ap (λ (n : ℕ). Some (Some n)) same_result) sound f loops joined filled
+      accessed_filled q r same_result result =
+          let number = next_loop.number in
+          let many = ap (λ (x : List FilledLoop). length x) joined ∙ length-append s.loops (f ∷ []) in
+          record {
+            its_result = result ∙ ap (λ (n : ℕ). Some (Some n)) same_result;
+            next = ap (λ (m : ℕ). m + 1) next;
+            fault = refl;
+            stays = λ k g there. ap (λ (x : List FilledLoop). slice_get x k) joined ∙ kept_at s.loops (f ∷ []) k g there;
+            filled = λ b there. subst (λ (x : Access). IsFilledIn (record s { next = print + 1; loops = loops }) x.result) (same_access b there) (record { number = l; its_number = found_is; completed = omega (arith, number, many) });
+            again = λ b there h. (let le = unfilled ge b there h.number h.its_number in let lt = h.completed in absurd (omega arith));
+            sound = λ b there h. subst (λ (x : Access). first_fault s.dataset (passes_run (history s.graph.script) x) ≡ None) (same_access b there)
+                (ap (first_fault s.dataset) (sym passes_are) ∙ sym (job_fault s is l) ∙ filled.sound);
+          }
 
     module _ (f : Fault) (first : first_in (job_facts (session_job s l)).faults ≡ Some f) where
       pub after_faulted : IsSession (record s { next = print + 1; fault = Some (record { loop_index = l; fault = f }) })
-      after_faulted = faulted_session s is print next its.0 its.1 l its.2 next_loop f first
+      after_faulted = faulted s (print + 1) (record { loop_index = l; fault = f }) is next_loop.number loop_within (sym (job_fault s is l) ∙ first)
 
       pub faulted_new : (m : ℕ) (h : Fault) → l ≡ m → f ≡ h → IsFaulted s (record s { next = print + 1; fault = Some (record { loop_index = l; fault = f }) }) print m h
-      faulted_new m h same_loop same_fault =
-          subst (λ (n : ℕ). IsFaulted s (record s { next = print + 1; fault = Some (record { loop_index = l; fault = f }) }) print n h) same_loop
-          (subst (λ (x : Fault). IsFaulted s (record s { next = print + 1; fault = Some (record { loop_index = l; fault = f }) }) print l x) same_fault (faulted_access s is print next its.0 its.1 l its.2 next_loop ge sound f))
+      faulted_new m h same_loop same_fault = record {
+        next = ap (λ (m : ℕ). m + 1) next;
+        loops = refl;
+        fault = λ i. Some (record { loop_index = same_loop i; fault = same_fault i });
+        kept = λ k e. absurd (cc);
+        unfilled = unfilled ge;
+        ran = λ b there h. ap (slice_get (loop_results (history s.graph.script))) (sym same_loop) ∙ next_loop.its_results ∙ sym next_loop.fills ∙ ap (λ (x : Access). x.fills) (same_access b there);
+      }

@@ -1,11 +1,24 @@
--- One more pass.
-use Rattle.std.proofs.Common.{◌≡◌, ℕ, zero, suc, ◌+◌, ◌<◌, ◌≤◌, ◌^◌, Bool, true, false, ◌&&◌, List, [], ◌∷◌, ◌++◌, length, map, take, get_or, Option, None, Some, refl, sym, ◌∙◌, ap, ap₂, subst, arith, slice_get, unwrap_or, option_map, if◌then◌else◌, append-nil, length-append, is_none}
+-- One more pass, and what an accepted script says of its actions: their edges are those of an axis, and only numbers are watched.
+use Rattle.std.proofs.Common.{◌≡◌, inl, inr, ℕ, ◌≤◌, Bool, true, false, ◌&&◌, List, [], ◌∷◌, ◌++◌, length, map, None, Some, refl, sym, ◌∙◌, ap, subst, arith, slice_get, append-nil, if◌then◌else◌, ◌+◌, ◌<◌, ◌^◌, take, get_or, Option, ap₂, unwrap_or, option_map, length-append, is_none}
+use Rattle.std.specs.List.{AllByRecursion}
+use Rattle.std.proofs.lemmas.Bool.{and_parts, both_ways, cond_both, or_cases, or_left, or_right}
+use Rattle.std.proofs.lemmas.List.Elements.{All-map}
+use Rattle.std.proofs.lemmas.List.Sorted.{All-permutation, IsPermutation-reverse}
+use Rattle.std.proofs.lemmas.List.{length-map, length-take}
+use Rattle.std.proofs.lemmas.List.Elements.{recursion_from_All}
+use Rattle.lemmas.proofs.{and_right, same_some, something_at, take_front, mapped_at, take_next}
+use Rattle.rdf_values.specs.{ActionAt, ActionKind, among, are_edges, AreAccepted, Booked, booked_by, bookings, can_watch, check, check_columns, check_edges, check_node, check_passes, check_results, columns_of, FunctionNames, GraphCause, history, is_result, is_watched, IsBookable, IsShort, Line, names_of, Path, permitted_kinds, refuse_unless, ReportOn, result_is, same, Scope, scope_at, Script, Statement, Booking, fn_names, named_before, Pass, scope_of, variations}
+use Rattle.rdf_values.specs.declared.statement.Statement.TheVariants.{Action, Report, Watch}
+use Rattle.rdf_model.proofs.Accepted.{both_none, names_equal, third, unless_holds}
+use Rattle.histograms.specs.{IsAxis}
+use Rattle.actions.specs.{HasEdges}
+use Rattle.graph_numbers.proofs.Listed.{by_test, of_joined, only_at}
+use Rattle.graph.proofs.Filled.{all_in_turn, later_named}
+use Rattle.cluster_tally.specs.{CanWatch, IsFresh, place_if, TallyView}
+use Rattle.event_loop.proofs.LoopResults.{kept_any, one_number}
 use mir.Val.{bool_byte}
 use Rattle.std.proofs.lemmas.List.Concat.{flat_map-append}
-use Rattle.std.proofs.lemmas.List.{length-map, length-take}
 use Rattle.std.proofs.lemmas.Option.{same_Some}
-use Rattle.lemmas.proofs.{mapped_at, take_next}
-use Rattle.rdf_values.specs.{ActionAt, ActionKind, Booking, bookings, fn_names, history, is_watched, named_before, Pass, Path, ReportOn, scope_of, Statement, Variation, variations}
 use Rattle.rdf_model.specs.{is_covered, kind_in, kinds_in}
 use Rattle.graph_numbers.specs.{graph_filters, graph_loops, graph_results, graph_under, graph_variations, GraphView, kind_of_booking, Pass as NumberedPass, ResultAt, ResultKind, under_at}
 use Rattle.graph_numbers.proofs.Resulting.{booked_are}
@@ -17,24 +30,114 @@ use Rattle.loop_keys.proofs.Elements.{of_chosen}
 use Rattle.loop_keys.proofs.Covered.{covered_count, passes_count}
 use Rattle.loop_keys.proofs.EntryLaws.{read_pass}
 use Rattle.loop_keys.proofs.PassCounts.{few_passes}
-use Rattle.actions.specs.{HasEdges}
-use Rattle.cluster_tally.specs.{CanWatch, IsFresh, place_if, TallyView}
 use Rattle.loop_pieces.specs.{place_if_watched, watched_from, watched_places}
 use Rattle.result_text.proofs.Within.{IsIn, variation_within}
 use Rattle.event_loop.specs.{is_watched_pass, IsOfPasses, places_before, watched_before}
-use Rattle.event_loop.proofs.Accepting.{all_short, can_be_watched, has_edges}
-use Rattle.event_loop.proofs.Decoding.{watched-append}
+use Rattle.event_loop.proofs.Found.{kind_few, watched-append}
+
+-- ---- edges
+
+module _ (names : FunctionNames) (header : Scope) where
+  axis : (edges : List _) → are_edges edges ≡ true → length edges ≤ 65536 → IsAxis edges
+  axis edges rise few = record { rise = rise; few = omega (arith, few) }
+
+  of_kind : (k : ActionKind) (result parent : List ℕ) → check_edges k ≡ None → IsShort (Action result parent k) → HasEdges k
+  of_kind (ActionKind.Histo1D edges x w) r p h short = axis edges (unless_holds (are_edges edges) GraphCause.BadEdges h) short
+  of_kind (ActionKind.Histo2D xs ys x y w) r p h short =
+      let both = and_parts (are_edges xs) (are_edges ys) (unless_holds (are_edges xs && are_edges ys) GraphCause.BadEdges h) in
+      (axis xs both.0 short.0, axis ys both.1 short.1)
+  of_kind k r p h short = tt
+
+  edges_kept : (before : List Statement) (result parent : List ℕ) (k : ActionKind) → check names header before (Action result parent k) ≡ None → check_edges k ≡ None
+  edges_kept before result parent k h =
+      third (check_node before result parent) (check_columns (scope_at names header before parent) (permitted_kinds k) [] (columns_of k)) (check_edges k)
+      (check_results (Action result parent k ∷ before) ∷ check_passes before (bookings (Action result parent k ∷ before)) ∷ []) h
+
+  own_edges : (before : List Statement) (s : Statement) → check names header before s ≡ None → IsShort s → (n : ℕ) (b : Booked) (k : ActionKind) (at : Path) → slice_get (booked_by before s) n ≡ Some b
+      → b.booking ≡ ActionAt k at → HasEdges k
+  own_edges before (Action result parent j) h short n b k at is of =
+      let same_booking = ap (λ (x : Booked). x.booking) (only_at _ b n is) ∙ of in
+      let e : j ≡ k = cc in
+      subst HasEdges e (of_kind j result parent (edges_kept before result parent j h) short)
+  own_edges before (Report result parent) h short n b k at is of = let same_booking = ap (λ (x : Booked). x.booking) (only_at _ b n is) ∙ of in absurd (cc)
+  own_edges before s h short n b k at is of = cc is
+
+  -- the edges of a booked action
+  pub has_edges : (st : List Statement) → AreAccepted names header st → AllByRecursion IsShort st → (n : ℕ) (b : Booked) (k : ActionKind) (at : Path) → slice_get (bookings st) n ≡ Some b → b.booking ≡ ActionAt k at → HasEdges k
+  has_edges [] acc short n b k at is of = cc is
+  has_edges (s ∷ before) acc short n b k at is of = elim (of_joined (bookings before) (booked_by before s) n b is) [
+    | inl q ↦ has_edges before acc.1 short.1 n b k at q of
+    | inr q ↦ own_edges before s acc.0 short.0 q.0 b k at q.2 of
+  ]
+
+-- ---- names of results
+
+module _ (names : FunctionNames) (header : Scope) where
+  among_more : (xs ys : List Booked) (name : List ℕ) → among name (names_of xs) ≡ true → among name (names_of (xs ++ ys)) ≡ true
+  among_more [] ys name h = cc h
+  among_more (x ∷ xs) ys name h = elim (or_cases (same name x.name) (among name (names_of xs)) h) [
+    | inl p ↦ or_left (same name x.name) (among name (names_of (xs ++ ys))) p
+    | inr p ↦ or_right (same name x.name) (among name (names_of (xs ++ ys))) (among_more xs ys name p)
+  ]
+
+  -- a result that a statement books has a name of its own
+  new_name : (before : List Statement) (s : Statement) → AreAccepted names header (s ∷ before) → (n : ℕ) (b : Booked) → slice_get (bookings (s ∷ before)) n ≡ Some b → length (bookings before) ≤ n → is_result before b.name ≡ false
+  new_name before s acc n b is le =
+      subst (λ (bs : List Booked). among b.name (names_of bs) ≡ false) (take_front (bookings before) (booked_by before s))
+      (later_named (s ∷ before) (all_in_turn names header (s ∷ before) acc) n b is (length (bookings before)) le)
+
+  -- what is watched is a result
+  watched_named : (st : List Statement) → AreAccepted names header st → (name : List ℕ) → is_watched st name ≡ true → is_result st name ≡ true
+  watched_named [] acc name h = cc h
+  watched_named (Watch r ∷ before) acc name h = among_more (bookings before) [] name (elim (or_cases (same r name) (is_watched before name) h) [
+    | inl p ↦ subst (λ n. is_result before n ≡ true) (names_equal r name p) (unless_holds (is_result before r) GraphCause.UnknownName (both_none (refuse_unless (is_result before r) GraphCause.UnknownName) _ acc.0).0)
+    | inr p ↦ watched_named before acc.1 name p
+  ])
+  watched_named (s ∷ before) acc name h = among_more (bookings before) (booked_by before s) name (watched_named before acc.1 name h)
+
+  watched_can : (st : List Statement) → AreAccepted names header st → (n : ℕ) (b : Booked) → slice_get (bookings st) n ≡ Some b → is_watched st b.name ≡ true → can_watch b.booking ≡ true
+  watched_can [] acc n b is h = cc is
+  watched_can (Watch r ∷ before) acc n b is h =
+      let here : slice_get (bookings before) n ≡ Some b = ap (λ l. slice_get l n) (sym (append-nil (bookings before))) ∙ is in
+      elim (or_cases (same r b.name) (is_watched before b.name) h) [
+        | inl p ↦ (
+            let known = (both_none (refuse_unless (is_result before r) GraphCause.UnknownName) _ acc.0).1 in
+            let can = unless_holds (result_is can_watch before r) GraphCause.WrongKind (both_none (refuse_unless (result_is can_watch before r) GraphCause.WrongKind) _ known).0 in
+            let c = kept_any (λ (x : Booked). can_watch x.booking) (λ (x : Booked). same x.name r) (bookings before) can in
+            let same_name : same c.1.name b.name ≡ true = ap (λ (m : List ℕ). same m b.name) (names_equal c.1.name r c.3) ∙ p in
+            let number = one_number before (all_in_turn names header before acc.1) c.0 n c.1 b c.2 here same_name in
+            let one : c.1 ≡ b = same_some (sym c.2 ∙ ap (slice_get (bookings before)) number ∙ here) in
+            subst (λ (x : Booked). can_watch x.booking ≡ true) one c.4)
+        | inr p ↦ watched_can before acc.1 n b here p
+      ]
+  watched_can (s ∷ before) acc n b is h = elim (of_joined (bookings before) (booked_by before s) n b is) [
+    | inl q ↦ watched_can before acc.1 n b q h
+    | inr q ↦ absurd (both_ways (is_result before b.name) (new_name before s acc n b is (omega (arith, q.1))) (watched_named before acc.1 b.name h))
+  ]
+
+kind_can : (k : ActionKind) (at : Path) → can_watch (ActionAt k at) ≡ true → CanWatch k
+kind_can ActionKind.Count at h = tt
+kind_can (ActionKind.Sum c) at h = tt
+kind_can (ActionKind.Min c) at h = tt
+kind_can (ActionKind.Max c) at h = tt
+kind_can k at h = cc h
+
+-- what is watched can be
+pub can_be_watched : (names : FunctionNames) (header : Scope) (st : List Statement) → AreAccepted names header st → (n : ℕ) (b : Booked) (k : ActionKind) (at : Path) → slice_get (bookings st) n ≡ Some b → b.booking ≡ ActionAt k at
+    → is_watched st b.name ≡ true → CanWatch k
+can_be_watched names header st acc n b k at is of h = kind_can k at (ap can_watch (sym of) ∙ watched_can names header st acc n b is h)
+
+-- ---- short statements
+
+pub all_short : (script : Script) → IsBookable script → AllByRecursion IsShort (history script)
+all_short script h = recursion_from_All IsShort (history script)
+    (All-permutation IsShort _ (history script) (IsPermutation-reverse (map (λ (l : Line). l.statement) script.lines)) (All-map IsShort (λ (l : Line). l.statement) script.lines h.short))
 
 -- ---- the variation of a pass is one of the script
 
 under_there : (script : List Statement) (u : Option ℕ) → IsIn (length (variations script)) u → is_none (under_at script u) ≡ is_none u
 under_there script None h = refl
-under_there script (Some v) h = step (variations script) v h
-  where
-    step : (vs : List Variation) (k : ℕ) → k < length vs → is_none (slice_get vs k) ≡ false
-    step [] k lt = absurd (omega arith)
-    step (x ∷ xs) zero lt = refl
-    step (x ∷ xs) (suc k) lt = step xs k (omega arith)
+under_there script (Some v) h = ap is_none (something_at (variations script) v h).1
 
 -- ---- the passes of a job by numbers
 
@@ -123,11 +226,7 @@ module _ (j : JobView) (n : ℕ) (m : NumberedPass) (its : numbered_in j n ≡ S
     can_watch job k e on =
         let b = of_action k e in
         can_be_watched (fn_names j.dataset.fns) (scope_of j.dataset.columns) (history j.script) (accepted_of j job) m.result its_result.booked k b.0 booked_is b.1
-        (second (is_none (graph_under (job_graph j) m.variation)) (is_watched (history j.script) its_result.booked.name) on)
-      where
-        second : (a b : Bool) → (a && b) ≡ true → b ≡ true
-        second true b h = h
-        second false b h = cc h
+        (and_right (is_none (graph_under (job_graph j) m.variation)) (is_watched (history j.script) its_result.booked.name) on)
 
 -- ---- one more
 
@@ -149,11 +248,7 @@ module _ (j : JobView) (n : ℕ) (p : Pass) (here : slice_get (passes_in j) n �
   -- a report's pass adds nothing
   module _ (none : kind_in p.result.booking ≡ []) where
     no_place : place_if_watched (history j.script) (length (kinds_in (take n (passes_in j)))) p ≡ []
-    no_place = go (is_watched_pass (history j.script) p)
-      where
-        go : (b : Bool) → (if b then map (λ k. length (kinds_in (take n (passes_in j)))) (kind_in p.result.booking) else []) ≡ []
-        go true = ap (map (λ k. length (kinds_in (take n (passes_in j))))) none
-        go false = refl
+    no_place = by_test (is_watched_pass (history j.script) p) (λ e. rw e (ap (map (λ k. length (kinds_in (take n (passes_in j))))) none)) (λ e. rw e refl)
 
     same_kinds : kinds_in (take (n + 1) (passes_in j)) ≡ kinds_in (take n (passes_in j))
     same_kinds = kinds_next ∙ ap (λ l. kinds_in (take n (passes_in j)) ++ l) none ∙ append-nil (kinds_in (take n (passes_in j)))
@@ -187,21 +282,13 @@ module _ (j : JobView) (n : ℕ) (p : Pass) (here : slice_get (passes_in j) n �
     one_more b is =
         ap length more_places ∙ length-append (places_before j n) (place_if (is_watched_pass (history j.script) p) (kinds_in (take n (passes_in j))))
         ∙ ap (λ c. watched_before j n + length (place_if c (kinds_in (take n (passes_in j))))) (sym is)
-        ∙ ap (λ l. watched_before j n + l) (go b)
-      where
-        go : (c : Bool) → length (place_if c (kinds_in (take n (passes_in j)))) ≡ bool_byte c
-        go true = refl
-        go false = refl
+        ∙ ap (λ l. watched_before j n + l) (by_test b (λ e. rw e refl) (λ e. rw e refl))
 
 -- ---- how many are watched
 
 few_if : (script : List Statement) (n : ℕ) (p : Pass) → length (place_if_watched script n p) ≤ 1
-few_if script n p = go (is_watched_pass script p) p.result.booking
-  where
-    go : (b : Bool) (k : Booking) → length (if b then map (λ _. n) (kind_in k) else []) ≤ 1
-    go true (ActionAt k at) = omega arith
-    go true (ReportOn fs) = omega arith
-    go false k = omega arith
+few_if script n p = cond_both (is_watched_pass script p) _ _ (λ (l : List ℕ). length l ≤ 1)
+    (λ _. omega (arith, length-map (kind_in p.result.booking) (λ k. n), kind_few p.result.booking)) (λ _. omega arith)
 
 few_watched : (script : List Statement) (n : ℕ) (ps : List Pass) → length (watched_from script n ps) ≤ length ps
 few_watched script n [] = omega arith

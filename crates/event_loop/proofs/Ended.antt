@@ -1,20 +1,41 @@
 -- What the slots of a loop tell once all have stopped.
-use Rattle.std.proofs.Common.{◌≡◌, ◌⊎◌, ℕ, zero, suc, ◌<◌, ◌≤◌, min, List, [], ◌∷◌, ◌++◌, length, map, Option, None, Some, refl, sym, ap, ◌∙◌, subst, inl, inr, ⊎_elim, arith, flat_map, slice_get, IfSome, IsSomeAnd}
+use Rattle.std.proofs.Common.{◌≡◌, ℕ, suc, ◌-◌, ◌<◌, ◌≤◌, List, ◌∷◌, ◌++◌, length, get_or, drop, Option, Some, sym, ap, ◌∙◌, subst, arith, drop-cons, ◌⊎◌, zero, min, [], map, None, refl, inl, inr, ⊎_elim, flat_map, slice_get, IfSome, IsSomeAnd}
 use Rattle.std.specs.List.{All, concat}
+use Rattle.std.proofs.lemmas.List.Elements.{All-cons, All-nil, All-head, All-tail}
+use Rattle.lemmas.proofs.{same_some}
+use Rattle.rdf_values.specs.{Fault, least_fault, DrawnBy, first_in, once_below, times}
+use Rattle.event_loop.specs.{end_faults, fault_of, HasMemory, IsServed, SlotView, AreDone, AreFacts, done_in, done_or_none, finished_by, HasStopped, HasWorked, IsDone, JobFacts, seat_in, Stopped}
+use Rattle.event_loop.specs.declared.workers.Finished.{Finished}
+use Rattle.event_loop.specs.declared.workers.End.{End}
+use Rattle.event_loop.specs.declared.workers.End.TheVariants.{Over, Faulted, NoMemory}
 use Rattle.std.proofs.lemmas.Bool.{cases_lt}
-use Rattle.std.proofs.lemmas.List.Elements.{All-nil, All-cons, All-head, All-tail}
 use Rattle.std.proofs.lemmas.Option.{slice_get-get_or}
-use Rattle.rdf_values.specs.{DrawnBy, Fault, first_in, least_fault, once_below, times}
 use Rattle.rdf_values.proofs.DrawCounts.{times_concat, times_push, counts_by_drawn, once_inside, inside_once, times_self}
 use Rattle.rdf_values.proofs.UnionLemmas.{drawn_lists_unite}
 use Rattle.merge_core.proofs.Faults.{Among, Told, told_nothing, told_both, first_told, among_left, among_right}
 use Rattle.merge_core.proofs.Holding.{only}
 use Rattle.slot_words.specs.{BookSeen, ClaimsSeen, IsLeast, IsPassed, last_of, MetBar, RanOut, SeatSeen}
-use Rattle.event_loop.specs.{AreDone, AreFacts, done_in, done_or_none, end_faults, fault_of, finished_by, HasMemory, HasStopped, HasWorked, IsDone, IsServed, JobFacts, seat_in, SlotView, Stopped}
-use Rattle.event_loop.specs.declared.workers.Finished.{Finished}
 use Rattle.event_loop.specs.declared.workers.Slot.{Slot}
-use Rattle.event_loop.specs.declared.workers.End.{End}
-use Rattle.event_loop.specs.declared.workers.End.TheVariants.{Over, Faulted, NoMemory}
+
+-- what is known of the slots from place i on
+pub record IsLeastFrom (fs : List Finished) (i : ℕ) (least : Option Fault) : Type 0 where
+  pub within : i ≤ length fs
+  pub told : least ≡ least_fault (end_faults (drop i fs))
+  pub memory : All HasMemory (drop i fs)
+
+one_more : (fs : List Finished) (i : ℕ) (d : Finished) → 0 < i → i ≤ length fs → drop (i - 1) fs ≡ get_or fs (i - 1) d ∷ drop i fs
+one_more fs i d some within = drop-cons fs (i - 1) d (omega arith) ∙ (let e : suc (i - 1) ≡ i = omega arith in ap (λ k. get_or fs (i - 1) d ∷ drop k fs) e)
+
+-- one slot before them
+pub next_slot : (fs : List Finished) (i : ℕ) (d : Finished) (least now : Option Fault) → 0 < i → IsLeastFrom fs i least → IsServed (get_or fs (i - 1) d).end
+    → now ≡ least_fault (fault_of (get_or fs (i - 1) d).end ++ end_faults (drop i fs)) → IsLeastFrom fs (i - 1) now
+next_slot fs i d least now some h served is =
+    let more = one_more fs i d some h.within in
+    record {
+      within = (let w = h.within in omega arith);
+      told = is ∙ ap (λ l. least_fault (end_faults l)) (sym more);
+      memory = subst (All HasMemory) (sym more) (All-cons HasMemory (get_or fs (i - 1) d) (drop i fs) served h.memory);
+    }
 
 -- the clusters that each slot drew
 abbrev pub drawn_in : List Finished → List (List ℕ)
@@ -36,16 +57,13 @@ module _ (c : ClaimsSeen) (b : Option BookSeen) (job : JobFacts) (bar : ℕ) whe
   passed_above seat last is h = (subst (λ (o : Option ℕ). IfSome o (λ p. (bar ≤ p) × (0 < length seat.drawn) × (p ≡ last_of seat.drawn))) is h).0
 
   over_sound : (s : Slot) (state : SlotView) (k : ℕ) → HasWorked b job s.share state → RanOut c s.seat state.done ⊎ MetBar c s.seat state.done → IsPassed bar s.seat → 0 < times k s.seat.drawn → k < bar → slice_get job.faults k ≡ Some None
-  over_sound s state k worked how passed some lt = ⊎_elim
-      (λ (r : RanOut c s.seat state.done). worked.sound k (subst (λ (l : List ℕ). 0 < times k l) r.all some))
-      (λ (m : MetBar c s.seat state.done). ⊎_elim
-      (λ (here : 0 < times k state.done). worked.sound k here)
-      (λ (none : times k state.done ≤ 0).
-      let same = last_is k m.last state.done s.seat.drawn m.others some none in
-      let above = passed_above s.seat m.last m.passed passed in
-      absurd (omega arith))
-      (cases_lt 0 (times k state.done)))
-      how
+  over_sound s state k worked how passed some lt = elim how [
+    | inl r ↦ worked.sound k (subst (λ (l : List ℕ). 0 < times k l) r.all some)
+    | inr m ↦ elim (cases_lt 0 (times k state.done)) [
+      | inl here ↦ worked.sound k here
+      | inr none ↦ (let same = last_is k m.last state.done s.seat.drawn m.others some none in let above = passed_above s.seat m.last m.passed passed in absurd (omega arith))
+    ]
+  ]
 
   slot_told : (end : End) (s : Slot) → Stopped c b job end s → IsServed end → IsPassed bar s.seat → Told job.faults bar s.seat.drawn (fault_of end)
   slot_told (Over state) s stopped served passed = record { sound = λ k some lt. inl (over_sound s state k stopped.0 stopped.1 passed some lt); own = λ f a. elim a [ ] }
@@ -77,21 +95,15 @@ module _ (c : ClaimsSeen) (b : Option BookSeen) (job : JobFacts) (bar : ℕ) whe
   one_lowered : (end : End) (s : Slot) → Stopped c b job end s → IsServed end → s.seat.lowered ≡ Some bar → IsReached (fault_of end)
   one_lowered (Over state) s stopped served is = (let none = stopped.2 in absurd (cc))
   one_lowered (Faulted state g) s met served is =
-      let same : met.last ≡ bar = told_same met.last (sym met.lowered ∙ is) in
+      let same : met.last ≡ bar = same_some (sym met.lowered ∙ is) in
       (g, inl refl, subst (λ (j : ℕ). slice_get job.faults j ≡ Some (Some g)) same met.its_fault)
-    where
-      told_same : (n : ℕ) → Some n ≡ Some bar → n ≡ bar
-      told_same n e = cc
   one_lowered NoMemory s stopped served is = elim served [ ]
 
   reached_at : (fs : List Finished) (k : ℕ) → All Ran fs → All HasMemory fs → slice_get (map (λ (s : SeatSeen). s.lowered) (map seat_in fs)) k ≡ Some (Some bar) → IsReached (end_faults fs)
   reached_at [] k ran memory h = absurd (cc)
   reached_at (f ∷ fs) zero ran memory h =
-      let r = one_lowered f.end f.slot (All-head Ran f fs ran).stopped (All-head HasMemory f fs memory) (told_some f.slot.seat.lowered h) in
+      let r = one_lowered f.end f.slot (All-head Ran f fs ran).stopped (All-head HasMemory f fs memory) (same_some h) in
       (r.0, among_left r.0 (fault_of f.end) (end_faults fs) r.1, r.2)
-    where
-      told_some : (o : Option ℕ) → Some o ≡ Some (Some bar) → o ≡ Some bar
-      told_some o e = cc
   reached_at (f ∷ fs) (suc k) ran memory h =
       let r = reached_at fs k (All-tail Ran f fs ran) (All-tail HasMemory f fs memory) h in
       (r.0, among_right r.0 (fault_of f.end) (end_faults fs) r.1, r.2)
@@ -135,13 +147,10 @@ module _ (c : ClaimsSeen) (b : Option BookSeen) (job : JobFacts) (bar : ℕ) whe
   as_many (f ∷ fs) over = (let rest = as_many fs (All-tail IsOver f fs over) in omega (arith, rest, ap length (over_first f fs (All-head IsOver f fs over))))
 
   ran_out : (s : Slot) (state : SlotView) → c.clusters ≤ bar → RanOut c s.seat state.done ⊎ MetBar c s.seat state.done → IsPassed bar s.seat → RanOut c s.seat state.done
-  ran_out s state high how passed = ⊎_elim
-      (λ (r : RanOut c s.seat state.done). r)
-      (λ (m : MetBar c s.seat state.done).
-      let above = passed_above s.seat m.last m.passed passed in
-      let inside = m.cluster in
-      absurd (omega arith))
-      how
+  ran_out s state high how passed = elim how [
+    | inl r ↦ r
+    | inr m ↦ (let above = passed_above s.seat m.last m.passed passed in let inside = m.cluster in absurd (omega arith))
+  ]
 
   kept_more : (o : Option ℕ) (word : ℕ) → IsSomeAnd o (λ k. c.clusters ≤ k) → IfSome o (λ k. (c.clusters ≤ k) × (k < word)) → c.clusters ≤ word
   kept_more None word s k = elim s [ ]

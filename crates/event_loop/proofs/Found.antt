@@ -1,49 +1,203 @@
--- The place of a result in a loop, as it is found among the loop's passes.
-use Rattle.std.proofs.Common.{if◌then◌else◌, ◌≡◌, ◌⊎◌, inl, inr, ℕ, zero, suc, ◌+◌, ◌*◌, ◌≤◌, Bool, true, false, cond, List, [], ◌∷◌, ◌++◌, map, take, length, Some, None, refl, sym, ◌∙◌, ap, ap₂, arith, length-append, count_by, filter, nat_lt, option_map, slice_get}
-use Rattle.std.specs.Prelude.{⊤}
-use Rattle.std.specs.List.{position, position_or_len}
-use Rattle.std.proofs.lemmas.Bool.Decides.{nat_tests}
-use Rattle.std.proofs.lemmas.List.{length-map, length-reverse}
+-- The passes of a loop by numbers and by names, and the place of a result among them.
+use Rattle.std.proofs.Common.{if◌then◌else◌, ◌≡◌, ℕ, zero, suc, ◌+◌, ◌<◌, Bool, true, false, ◌&&◌, List, [], ◌∷◌, ◌++◌, map, take, drop, length, Option, None, Some, refl, sym, ap, ◌∙◌, arith, length-append, append_assoc, add-one, is_none, option_map, slice_get, ◌*◌, ◌≤◌, filter, ◌⊎◌, inl, inr, ap₂, count_by}
+use Rattle.std.proofs.lemmas.Bool.{cond_both}
+use Rattle.std.proofs.lemmas.List.{length-map, length-reverse, take-append-drop}
 use Rattle.std.proofs.lemmas.List.Concat.{flat_map-append}
-use Rattle.std.proofs.lemmas.Option.{slice_get_within}
-use Rattle.lemmas.proofs.{same_some, something_at, take_front}
-use native.Mathlib.Nat.{mul-le-mul_right}
-use Rattle.rdf_values.specs.{ActionAt, Booked, Booking, has_variations, Line, Pass, passes_of, ReportOn, result_depends, scope_of, Statement, Variation, variations, varied_passes}
+use Rattle.std.proofs.lemmas.Option.{slice_get-map, slice_get_within}
+use Rattle.lemmas.proofs.{and_false, kept_at, same_some, something_at, take_front}
+use Rattle.rdf_values.specs.{Booked, bookings, is_watched, Pass, Statement, Under, has_variations, passes_of, result_depends, Variation, variations, ActionAt, Booking, Line, ReportOn, scope_of}
 use Rattle.rdf_model.specs.{kind_in, kinds_in, loop_passes, loop_results}
+use Rattle.graph_numbers.specs.{booked_statements, graph_loops, graph_results, graph_variations, GraphView, Pass as NumberedPass, pass_at, ResultAt, under_at, loops, passes_from, result_passes, IsGraph}
+use Rattle.graph_numbers.proofs.Extending.{itself, Extends, further}
+use Rattle.graph_numbers.proofs.Listed.{by_test}
+use Rattle.graph_numbers.proofs.Looping.{loops_are}
+use Rattle.graph_numbers.proofs.Resulting.{booked_are}
+use Rattle.loop_pieces.specs.{place_if_watched, watched_from, watched_places}
+use Rattle.event_loop.specs.{IsPassOf, fills, IsFilledPlace}
+use Rattle.std.proofs.lemmas.List.Sums.{count_by-le-length, length-filter}
+use native.Mathlib.Nat.{mul-le-mul_right}
+use Rattle.graph.proofs.Looped.{bookings_few}
+use Rattle.event_loop.proofs.LoopResults.{loop_at, waits, passes_many, IsFound, IsMissed, found_or_missed, many, NoneOf, count_own, is_of, own_all, position_first, position_none}
+use Rattle.std.specs.Prelude.{⊤}
+use Rattle.std.specs.List.{position}
+use Rattle.std.proofs.lemmas.Bool.Decides.{nat_tests}
 use Rattle.rdf_model.proofs.Verdicts.{verdict_is_the_first_refusal}
-use Rattle.graph_numbers.specs.{booked_statements, graph_loops, graph_results, graph_variations, GraphView, IsGraph, Pass as NumberedPass, pass_at, result_passes, ResultAt}
-use Rattle.graph_numbers.proofs.Extending.{itself}
-use Rattle.loop_pieces.specs.{watched_places}
 use Rattle.graph.specs.{AreNamedInTurn}
 use Rattle.graph.proofs.Filled.{all_in_turn}
 use Rattle.result_text.proofs.Passes.{is_pass_at, result_within}
 use Rattle.result_text.proofs.Within.{is_in_for, variation_within}
-use Rattle.event_loop.specs.{fills, IsFilledPlace, IsPassOf}
-use Rattle.event_loop.proofs.Decoding.{AreDecoded, booked_row, decoded, decoded_front, of_row}
-use Rattle.event_loop.proofs.LoopResults.{IsFound, IsMissed, found_or_missed, many}
-use Rattle.event_loop.proofs.Sizes.{passes_few}
-use Rattle.event_loop.proofs.Splits.{AllOf, NoneOf, count_own, is_of, own_all, passes_many, position_first, position_none}
+
+-- the passes of some numbers have these names
+abbrev pub AreDecoded : List Statement → List NumberedPass → List Pass → Type 0
+AreDecoded script ps qs = map (pass_at script) ps ≡ map (λ (q : Pass). Some q) qs
+
+-- ---- a pass
+
+pub pass_is : (script : List Statement) (p : NumberedPass) (q : Pass) → pass_at script p ≡ Some q → (slice_get (bookings script) p.result ≡ Some q.result) × (q.under ≡ under_at script p.variation)
+pass_is script p q at = go (slice_get (bookings script) p.result) at
+  where
+    go : (o : Option Booked) → option_map (λ b. record { result = b; under = under_at script p.variation }) o ≡ Some q → (o ≡ Some q.result) × (q.under ≡ under_at script p.variation)
+    go None h = absurd (cc)
+    go (Some b) h = (ap (λ (x : Pass). Some x.result) (same_some h), sym (ap (λ (x : Pass). x.under) (same_some h)))
+
+-- the graph's row of the result
+pub row_is : (g : GraphView) (r : ℕ) (b : Booked) → slice_get (bookings (booked_statements g)) r ≡ Some b → option_map (λ (x : ResultAt). x.booked) (slice_get (graph_results g) r) ≡ Some b
+row_is g r b at = sym (slice_get-map (λ (x : ResultAt). x.booked) (graph_results g) r) ∙ ap (λ (bs : List Booked). slice_get bs r) (booked_are g.header g.names (booked_statements g)) ∙ at
+
+pub booked_row : (g : GraphView) (r : ℕ) (x : ResultAt) → slice_get (graph_results g) r ≡ Some x → slice_get (bookings (booked_statements g)) r ≡ Some x.booked
+booked_row g r x at = ap (λ (bs : List Booked). slice_get bs r) (sym (booked_are g.header g.names (booked_statements g))) ∙ slice_get-map (λ (y : ResultAt). y.booked) (graph_results g) r ∙ ap (option_map (λ (y : ResultAt). y.booked)) at
+
+-- what is known of the row is known of what was booked
+pub of_row : {A : Type 0} (f : Booked → A) (o : Option ResultAt) (b : Booked) (a : A) → option_map (λ (x : ResultAt). x.booked) o ≡ Some b → option_map (λ (x : ResultAt). f x.booked) o ≡ Some a → a ≡ f b
+of_row f None b a h k = absurd (cc)
+of_row f (Some x) b a h k = sym (same_some k) ∙ ap f (same_some h)
+
+-- ---- counts of a pass
+
+module _ (g : GraphView) (p : NumberedPass) (q : Pass) (is : pass_at (booked_statements g) p ≡ Some q) where
+  its_row : option_map (λ (x : ResultAt). x.booked) (slice_get (graph_results g) p.result) ≡ Some q.result
+  its_row = row_is g p.result q.result (pass_is (booked_statements g) p q is).0
+
+  pub actions_are : (n : ℕ) → option_map (λ (x : ResultAt). length (kind_in x.booked.booking)) (slice_get (graph_results g) p.result) ≡ Some n → n ≡ length (kind_in q.result.booking)
+  actions_are n h = of_row (λ (b : Booked). length (kind_in b.booking)) (slice_get (graph_results g) p.result) q.result n its_row h
+
+  places_by : (t : Bool) → (is_none q.under && is_watched (booked_statements g) q.result.name) ≡ t → length (place_if_watched (booked_statements g) 0 q) ≡ (if t then length (kind_in q.result.booking) else 0)
+  places_by true e = ap (λ (b : Bool). length {A = ℕ} (if b then map (λ k. 0) (kind_in q.result.booking) else [])) e ∙ length-map (kind_in q.result.booking) (λ k. 0)
+  places_by false e = ap (λ (b : Bool). length {A = ℕ} (if b then map (λ k. 0) (kind_in q.result.booking) else [])) e
+
+  pub varied_unwatched : (v : ℕ) → p.variation ≡ Some v → IsPassOf g p → length (place_if_watched (booked_statements g) 0 q) ≡ 0
+  varied_unwatched v e of =
+      let lt : v < length (graph_variations g) = of.its_variation v e in
+      let at = something_at (graph_variations g) v lt in
+      let under : q.under ≡ Some at.0 = (pass_is (booked_statements g) p q is).1 ∙ ap (under_at (booked_statements g)) e ∙ at.1 in
+      places_by false (ap (λ (u : Under). is_none u && is_watched (booked_statements g) q.result.name) under)
+
+  its_watch : (t : Bool) → option_map (λ (x : ResultAt). is_watched (booked_statements g) x.booked.name) (slice_get (graph_results g) p.result) ≡ Some t → is_watched (booked_statements g) q.result.name ≡ t
+  its_watch t h = sym (of_row (λ (b : Booked). is_watched (booked_statements g) b.name) (slice_get (graph_results g) p.result) q.result t its_row h)
+
+  pub unwatched : option_map (λ (x : ResultAt). is_watched (booked_statements g) x.booked.name) (slice_get (graph_results g) p.result) ≡ Some false → length (place_if_watched (booked_statements g) 0 q) ≡ 0
+  unwatched h = places_by false (ap (λ (t : Bool). is_none q.under && t) (its_watch false h) ∙ and_false (is_none q.under))
+
+  pub watched : p.variation ≡ None → option_map (λ (x : ResultAt). is_watched (booked_statements g) x.booked.name) (slice_get (graph_results g) p.result) ≡ Some true
+      → (n : ℕ) → option_map (λ (x : ResultAt). length (kind_in x.booked.booking)) (slice_get (graph_results g) p.result) ≡ Some n → n ≡ length (place_if_watched (booked_statements g) 0 q)
+  watched e h n k =
+      let under : q.under ≡ None = (pass_is (booked_statements g) p q is).1 ∙ ap (under_at (booked_statements g)) e in
+      actions_are n k ∙ sym (places_by true (ap (λ (u : Under). is_none u && is_watched (booked_statements g) q.result.name) under ∙ its_watch true h))
+
+-- ---- watched places
+
+pub watched-append : (script : List Statement) (n : ℕ) (ps qs : List Pass) → watched_from script n (ps ++ qs) ≡ watched_from script n ps ++ watched_from script (n + length (kinds_in ps)) qs
+watched-append script n [] qs = let e : n ≡ n + 0 = omega arith in ap (λ m. watched_from script m qs) e
+watched-append script n (p ∷ ps) qs =
+    let next = watched-append script (n + length (kind_in p.result.booking)) ps qs in
+    let many = length-append (kind_in p.result.booking) (kinds_in ps) in
+    let e : n + length (kind_in p.result.booking) + length (kinds_in ps) ≡ n + length (kinds_in (p ∷ ps)) = omega (arith, many) in
+    ap (λ l. place_if_watched script n p ++ l) (next ∙ ap (λ m. watched_from script (n + length (kind_in p.result.booking)) ps ++ watched_from script m qs) e)
+    ∙ sym (append_assoc (place_if_watched script n p) (watched_from script (n + length (kind_in p.result.booking)) ps) (watched_from script (n + length (kinds_in (p ∷ ps))) qs))
+
+-- how many places a pass has doesn't hang on which they are
+place_count : (script : List Statement) (n m : ℕ) (p : Pass) → length (place_if_watched script n p) ≡ length (place_if_watched script m p)
+place_count script n m p = by_test (is_none p.under && is_watched script p.result.name)
+    (λ e. rw e (length-map (kind_in p.result.booking) (λ k. n) ∙ sym (length-map (kind_in p.result.booking) (λ k. m)))) (λ e. rw e refl)
+
+-- ---- one pass more
+
+pub one_more : (script : List Statement) (ps : List NumberedPass) (qs : List Pass) (i : ℕ) (p : NumberedPass) → AreDecoded script ps qs → slice_get ps i ≡ Some p → (q : Pass) × (pass_at script p ≡ Some q) × (take (i + 1) qs ≡ take i qs ++ q ∷ [])
+one_more script [] qs i p e at = absurd (cc)
+one_more script (x ∷ ps) [] i p e at = absurd (cc)
+one_more script (x ∷ ps) (q ∷ qs) zero p e at = let is : x ≡ p = same_some at in let first : pass_at script x ≡ Some q = cc in (q, ap (pass_at script) (sym is) ∙ first, refl)
+one_more script (x ∷ ps) (q ∷ qs) (suc i) p e at =
+    let rest : AreDecoded script ps qs = cc in
+    let next = one_more script ps qs i p rest at in
+    (next.0, next.1, rw add-one (ap (λ l. q ∷ l) (rw add-one at next.2)))
+
+pub kinds_more : (qs : List Pass) (q : Pass) → length (kinds_in (qs ++ q ∷ [])) ≡ length (kinds_in qs) + length (kind_in q.result.booking)
+kinds_more qs q =
+    omega (arith, ap length (flat_map-append (λ (p : Pass). kind_in p.result.booking) qs (q ∷ [])), length-append (kinds_in qs) (kind_in q.result.booking ++ []), length-append (kind_in q.result.booking) [])
+
+pub watched_more : (script : List Statement) (qs : List Pass) (q : Pass) → length (watched_places script (qs ++ q ∷ [])) ≡ length (watched_places script qs) + length (place_if_watched script 0 q)
+watched_more script qs q =
+    let all = ap (λ (l : List ℕ). length l) (watched-append script 0 qs (q ∷ [])) in
+    let both = length-append (watched_places script qs) (place_if_watched script (0 + length (kinds_in qs)) q ++ []) in
+    let own = length-append (place_if_watched script (0 + length (kinds_in qs)) q) [] in
+    let same_count = place_count script (0 + length (kinds_in qs)) 0 q in
+    omega (arith, all, both, own, same_count)
+
+-- what the passes up to the next one count for
+pub next_counts : (g : GraphView) (ps : List NumberedPass) (i : ℕ) (p : NumberedPass) (actions watched_ones a w : ℕ) → slice_get ps i ≡ Some p
+    → ((qs : List Pass) → AreDecoded (booked_statements g) ps qs → (actions ≡ length (kinds_in (take i qs))) × (watched_ones ≡ length (watched_places (booked_statements g) (take i qs))))
+    → option_map (λ (x : ResultAt). length (kind_in x.booked.booking)) (slice_get (graph_results g) p.result) ≡ Some a
+    → ((q : Pass) → pass_at (booked_statements g) p ≡ Some q → w ≡ length (place_if_watched (booked_statements g) 0 q))
+    → (qs : List Pass) → AreDecoded (booked_statements g) ps qs → (actions + a ≡ length (kinds_in (take (i + 1) qs))) × (watched_ones + w ≡ length (watched_places (booked_statements g) (take (i + 1) qs)))
+next_counts g ps i p actions watched_ones a w at each own own_watched qs e =
+    let m = one_more (booked_statements g) ps qs i p e at in
+    let so_far = each qs e in
+    let before = so_far.0 in let watched_before = so_far.1 in
+    rw m.2 (
+      omega (arith, before, actions_are g p m.0 m.1 a own, kinds_more (take i qs) m.0),
+      omega (arith, watched_before, own_watched m.0 m.1, watched_more (booked_statements g) (take i qs) m.0),
+    )
+
+-- ---- a loop
+
+pub decoded : (g : GraphView) (l : ℕ) (ps : List NumberedPass) (results : List Booked) → slice_get (graph_loops g) l ≡ Some ps → slice_get (loop_results (booked_statements g)) l ≡ Some results → AreDecoded (booked_statements g) ps (loop_passes (booked_statements g) results)
+decoded g l ps results at there = same_some (
+    sym (ap (option_map (map (pass_at (booked_statements g)))) at) ∙ sym (slice_get-map (map (pass_at (booked_statements g))) (graph_loops g) l)
+    ∙ ap (λ ls. slice_get ls l) (loops_are (booked_statements g) (booked_statements g) itself)
+    ∙ slice_get-map (λ rs. map (λ (q : Pass). Some q) (loop_passes (booked_statements g) rs)) (loop_results (booked_statements g)) l
+    ∙ ap (option_map (λ rs. map (λ (q : Pass). Some q) (loop_passes (booked_statements g) rs))) there
+    )
+
+pub decoded_front : (script : List Statement) (ps rest : List NumberedPass) (qs more : List Pass) → AreDecoded script (ps ++ rest) (qs ++ more) → length ps ≡ length qs → AreDecoded script ps qs
+decoded_front script [] rest [] more e same_length = refl
+decoded_front script [] rest (q ∷ qs) more e same_length = absurd (omega arith)
+decoded_front script (p ∷ ps) rest [] more e same_length = absurd (omega arith)
+decoded_front script (p ∷ ps) rest (q ∷ qs) more e same_length =
+    let first : pass_at script p ≡ Some q = cc in
+    let next : AreDecoded script (ps ++ rest) (qs ++ more) = cc in
+    let shorter : length ps ≡ length qs = omega arith in
+    λ i. first i ∷ decoded_front script ps rest qs more next shorter i
+
+longer : (before after : List Statement) → Extends before after → length before ≤ length after
+longer before after itself = omega arith
+longer before after (further {after = c} s e) = let h = longer before c e in omega (arith, h)
+
+module _ (script : List Statement) where
+  own_few : (b : Booked) → length (passes_of script b) ≤ 1 + length (variations script)
+  own_few b =
+      let its : Variation → Pass = λ v. record { result = b; under = Some v } in
+      cond_both (has_variations script b.name) _ _ (λ (qs : List Pass). suc (length qs) ≤ 1 + length (variations script))
+      (λ _. omega (arith, length-map (filter (λ v. result_depends v b.booking) (variations script)) its, length-filter (λ v. result_depends v b.booking) (variations script), count_by-le-length (λ v. result_depends v b.booking) (variations script)))
+      (λ _. omega arith)
+
+  all_few : (test : Booked → Bool) (n : ℕ) (bs : List Booked) → length (passes_from script test n bs) ≤ length bs * (1 + length (variations script))
+  all_few test n [] = omega arith
+  all_few test n (b ∷ bs) =
+      let h = all_few test (suc n) bs in let own = own_few b in let same_own = passes_many script n b in
+      cond_both (test b) (result_passes script n b) [] (λ own_passes. length (own_passes ++ passes_from script test (suc n) bs) ≤ suc (length bs) * (1 + length (variations script)))
+      (λ _. omega (arith, length-append (result_passes script n b) (passes_from script test (suc n) bs))) (λ _. omega arith)
+
+  pub passes_few : (l : ℕ) (ps : List NumberedPass) (results : List Booked) → slice_get (loops script script) l ≡ Some ps → slice_get (loop_results script) l ≡ Some results → length ps ≤ length script * (1 + length (variations script))
+  passes_few l ps results at there =
+      let loop = loop_at script script itself l ps results at there in
+      let same_length = ap (λ (x : List NumberedPass). length x) loop.numbered in
+      let few = all_few (waits loop.before) 0 (bookings loop.before) in
+      let booked = bookings_few loop.before in
+      let shorter = longer loop.before script loop.begins in
+      let most : length (bookings loop.before) ≤ length script = omega (arith, booked, shorter) in
+      let product : length (bookings loop.before) * (1 + length (variations script)) ≤ length script * (1 + length (variations script)) = mul-le-mul_right (1 + length (variations script)) most in
+      omega (arith, same_length, few, product)
 
 pub taken_at : {A : Type 0} (n : ℕ) (xs : List A) (i : ℕ) (x : A) → slice_get (take n xs) i ≡ Some x → slice_get xs i ≡ Some x
-taken_at zero xs i x at = absurd (cc)
-taken_at (suc n) [] i x at = absurd (cc)
-taken_at (suc n) (y ∷ ys) zero x at = at
-taken_at (suc n) (y ∷ ys) (suc i) x at = taken_at n ys i x at
+taken_at n xs i x at = ap (λ l. slice_get l i) (sym (take-append-drop n xs)) ∙ kept_at (take n xs) (drop n xs) i x at
 
 -- ---- positions
 
 pub missed_at : (r : ℕ) (ps : List NumberedPass) → NoneOf r ps → position (is_of r) ps ≡ None
-missed_at r ps h =
-    let e = position_none r ps h in
-    let no : nat_lt (position_or_len (is_of r) ps) (length ps) ≡ false = grind (arith, nat_tests, e) in
-    ap (λ (b : Bool). cond b (Some (position_or_len (is_of r) ps)) None) no
+missed_at r ps h = grind (arith, nat_tests, position_none r ps h)
 
 pub found_at : (r : ℕ) (xs : List NumberedPass) (p : NumberedPass) (ps : List NumberedPass) → NoneOf r xs → is_of r p ≡ true → position (is_of r) (xs ++ p ∷ ps) ≡ Some (length xs)
-found_at r xs p ps h met =
-    let e = position_first r xs p ps h met in
-    let many = length-append xs (p ∷ ps) in
-    let yes : nat_lt (position_or_len (is_of r) (xs ++ p ∷ ps)) (length (xs ++ p ∷ ps)) ≡ true = grind (arith, nat_tests, e, many) in
-    ap (λ (b : Bool). cond b (Some (position_or_len (is_of r) (xs ++ p ∷ ps))) None) yes ∙ ap (λ (n : ℕ). Some n) e
+found_at r xs p ps h met = grind (arith, nat_tests, position_first r xs p ps h met, length-append xs (p ∷ ps))
 
 -- ---- the passes of a result
 
@@ -53,15 +207,11 @@ AreOf b [] = ⊤
 AreOf b (p ∷ ps) = (p.result ≡ b) × AreOf b ps
 
 pub passes_are_of : (script : List Statement) (b : Booked) → AreOf b (passes_of script b)
-passes_are_of script b = (refl, go (has_variations script b.name))
+passes_are_of script b = (refl, cond_both (has_variations script b.name) _ _ (AreOf b) (λ _. varied (filter (λ v. result_depends v b.booking) (variations script))) (λ _. tt))
   where
     varied : (vs : List Variation) → AreOf b (map (λ v. record { result = b; under = Some v }) vs)
     varied [] = tt
     varied (v ∷ vs) = (refl, varied vs)
-
-    go : (t : Bool) → AreOf b (if t then varied_passes script b else [])
-    go true = varied (filter (λ v. result_depends v b.booking) (variations script))
-    go false = tt
 
 own_kinds : (b : Booked) (own : List Pass) → AreOf b own → length (kinds_in own) ≡ length own * length (kind_in b.booking)
 own_kinds b [] h = omega arith
@@ -74,17 +224,13 @@ own_kinds b (p ∷ own) h =
 pub kinds-append : (ps qs : List Pass) → kinds_in (ps ++ qs) ≡ kinds_in ps ++ kinds_in qs
 kinds-append ps qs = flat_map-append (λ (p : Pass). kind_in p.result.booking) ps qs
 
+pub kind_few : (b : Booking) → length (kind_in b) ≤ 1
+kind_few (ActionAt k at) = omega arith
+kind_few (ReportOn filters) = omega arith
+
 kinds_few : (ps : List Pass) → length (kinds_in ps) ≤ length ps
 kinds_few [] = omega arith
-kinds_few (p ∷ ps) =
-    let both = length-append (kind_in p.result.booking) (kinds_in ps) in
-    let rest = kinds_few ps in
-    let own = at_most_one p.result.booking in
-    omega (arith, both, rest, own)
-  where
-    at_most_one : (b : Booking) → length (kind_in b) ≤ 1
-    at_most_one (ActionAt k at) = omega arith
-    at_most_one (ReportOn filters) = omega arith
+kinds_few (p ∷ ps) = omega (arith, length-append (kind_in p.result.booking) (kinds_in ps), kinds_few ps, kind_few p.result.booking)
 
 -- ---- a graph
 
@@ -123,26 +269,14 @@ module _ (g : GraphView) (is : IsGraph g) (l : ℕ) (ps : List NumberedPass) (lo
 
       -- the first of them is the nominal one
       at_start : (f : IsFound (booked_statements g) r x.booked ps results) → position (is_of r) ps ≡ Some (length f.start)
-      at_start f = ap (position (is_of r)) f.numbered ∙ go (result_passes (booked_statements g) r x.booked) refl (own_all (booked_statements g) r x.booked)
-        where
-          go : (own : List NumberedPass) → result_passes (booked_statements g) r x.booked ≡ own → AllOf r own → position (is_of r) (f.start ++ (result_passes (booked_statements g) r x.booked ++ f.rest)) ≡ Some (length f.start)
-          go [] e h = absurd (cc)
-          go (p ∷ own) e h = ap (λ (l : List NumberedPass). position (is_of r) (f.start ++ (l ++ f.rest))) e ∙ found_at r f.start p (own ++ f.rest) f.none_before h.0
+      at_start f = ap (position (is_of r)) f.numbered ∙ found_at r f.start _ _ f.none_before (own_all (booked_statements g) r x.booked).0
 
       pub none_found : position (is_of r) ps ≡ None → fills x.booked.name results ≡ false
-      none_found e = go found_or
-        where
-          go : IsMissed (booked_statements g) r x.booked ps results ⊎ IsFound (booked_statements g) r x.booked ps results → fills x.booked.name results ≡ false
-          go (inl m) = m.0
-          go (inr f) = absurd (cc (at_start f, e))
+      none_found e = elim found_or [ inl m ↦ m.0 | inr f ↦ absurd (cc (at_start f, e)) ]
 
       module _ (n : ℕ) (at : position (is_of r) ps ≡ Some n) where
         pub its_place : IsFound (booked_statements g) r x.booked ps results
-        its_place = go found_or
-          where
-            go : IsMissed (booked_statements g) r x.booked ps results ⊎ IsFound (booked_statements g) r x.booked ps results → IsFound (booked_statements g) r x.booked ps results
-            go (inl m) = absurd (cc (missed_at r ps m.1, at))
-            go (inr f) = f
+        its_place = elim found_or [ inl m ↦ absurd (cc (missed_at r ps m.1, at)) | inr f ↦ f ]
 
         start_is : n ≡ length its_place.start
         start_is = same_some (sym at ∙ at_start its_place)

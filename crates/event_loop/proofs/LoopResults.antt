@@ -1,69 +1,191 @@
--- Which results a loop fills, by their numbers.
-use Rattle.std.proofs.Common.{if◌then◌else◌, ◌≡◌, ◌⊎◌, inl, inr, ℕ, zero, suc, ◌+◌, ◌<◌, ◌≤◌, Bool, true, false, not, ◌||◌, List, [], ◌∷◌, ◌++◌, map, take, length, Option, Some, None, refl, sym, ◌∙◌, ap, subst, arith, slice_get, filter, filter_map}
-use Rattle.std.specs.List.{cons_option}
-use Rattle.std.proofs.lemmas.Bool.{cases_lt, or_right}
-use Rattle.std.proofs.lemmas.List.{append-nil, length-map}
+-- Which results a loop fills, and the passes of a result in a loop, by the numbers of results and by names.
+use Rattle.std.proofs.Common.{◌≡◌, ◌≢◌, ℕ, zero, suc, ◌+◌, ◌<◌, Bool, true, false, cond, List, [], ◌∷◌, ◌++◌, map, length, Some, refl, sym, ◌∙◌, ap, ap₂, arith, slice_get, if◌then◌else◌, length-append, append_assoc, count_by, filter, nat_eq, ◌⊎◌, inl, inr, not, ◌||◌, take, Option, None, subst}
+use Rattle.std.specs.Prelude.{⊤}
+use Rattle.std.specs.List.{list_any, position_or_len, cons_option}
+use Rattle.std.proofs.lemmas.Bool.{cond_both, eq-eqb, ne_eqb}
+use Rattle.std.proofs.lemmas.List.{length-map, append-nil}
+use Rattle.std.proofs.lemmas.List.Elements.{filter_map-append}
+use Rattle.std.proofs.lemmas.List.Sums.{sum_by-cons}
+use Rattle.rdf_values.specs.{Booked, has_variations, Pass, passes_of, result_depends, Statement, Variation, variations, among, booked_by, bookings, filled, names_of, same, waiting}
+use Rattle.rdf_model.specs.{loop_passes, Access, accesses, filled_by, loop_results}
+use Rattle.graph_numbers.specs.{numbered_pass, Pass as NumberedPass, passes_from, places_from, result_passes, loops, pass_at}
 use Rattle.std.proofs.lemmas.Option.{slice_get_within}
-use Rattle.lemmas.proofs.{before_or_last, kept_at, same_some}
-use Rattle.rdf_values.specs.{among, Booked, booked_by, bookings, filled, names_of, Pass, passes_of, same, Statement, waiting}
+use Rattle.lemmas.proofs.{before_or_last, never_true, or_right, same_some}
 use Rattle.rdf_values.specs.declared.statement.Statement.TheVariants.{Print}
-use Rattle.rdf_model.specs.{Access, accesses, filled_by, loop_passes, loop_results}
 use Rattle.rdf_model.proofs.Accepted.{itself, names_equal}
-use Rattle.graph_numbers.specs.{loops, Pass as NumberedPass, pass_at, passes_from, result_passes}
-use Rattle.graph_numbers.proofs.Extending.{Extends, itself as all_of_it, further, shorter}
+use Rattle.graph_numbers.proofs.Extending.{Extends, itself as all_of_it, kept, shorter}
+use Rattle.graph_numbers.proofs.Listed.{by_test}
 use Rattle.graph_numbers.proofs.Looping.{loops_are}
 use Rattle.graph.specs.{AreNamedInTurn}
 use Rattle.graph.proofs.Filled.{later_named}
+use Rattle.graph.proofs.Listing.{any_map}
 use Rattle.event_loop.specs.{fills}
-use Rattle.event_loop.proofs.Splits.{NoneOf, refused_none, split_at}
 
--- ---- lists
+-- the pass is of the result of that number
+abbrev pub is_of : ℕ → NumberedPass → Bool
+is_of r p = nat_eq p.result r
 
-pub filter_map-append : {A B : Type 0} (f : A → Option B) (xs ys : List A) → filter_map f (xs ++ ys) ≡ filter_map f xs ++ filter_map f ys
-filter_map-append f [] ys = refl
-filter_map-append {A} {B} f (x ∷ xs) ys = go (f x) (filter_map-append f xs ys)
-  where
-    go : (o : Option B) → filter_map f (xs ++ ys) ≡ filter_map f xs ++ filter_map f ys → cons_option o (filter_map f (xs ++ ys)) ≡ cons_option o (filter_map f xs) ++ filter_map f ys
-    go None h = h
-    go (Some y) h = ap (λ l. y ∷ l) h
+places_many : {A : Type 0} (t : A → Bool) (k : ℕ) (xs : List A) → length (places_from t k xs) ≡ length (filter t xs)
+places_many t k [] = refl
+places_many t k (x ∷ xs) = grind (arith, places_many t (suc k) xs)
+
+front_named : (script : List Statement) (t : Bool) (c : Booked) (rest : List Booked) → loop_passes script (if t then c ∷ rest else rest) ≡ (if t then passes_of script c else []) ++ loop_passes script rest
+front_named script true c rest = refl
+front_named script false c rest = refl
+
+-- none of the passes is
+abbrev pub NoneOf : ℕ → List NumberedPass → Type 0
+NoneOf r [] = ⊤
+NoneOf r (p ∷ ps) = (is_of r p ≡ false) × NoneOf r ps
+
+-- each is
+abbrev pub AllOf : ℕ → List NumberedPass → Type 0
+AllOf r [] = ⊤
+AllOf r (p ∷ ps) = (is_of r p ≡ true) × AllOf r ps
+
+pub none_both : (r : ℕ) (xs ys : List NumberedPass) → NoneOf r xs → NoneOf r ys → NoneOf r (xs ++ ys)
+none_both r [] ys h k = k
+none_both r (x ∷ xs) ys h k = (h.0, none_both r xs ys h.1 k)
+
+varied_all : (r : ℕ) (vs : List ℕ) → AllOf r (map (λ v. numbered_pass r (Some v)) vs)
+varied_all r [] = tt
+varied_all r (v ∷ vs) = (eq-eqb r r refl, varied_all r vs)
+
+varied_none : (r n : ℕ) → n ≢ r → (vs : List ℕ) → NoneOf r (map (λ v. numbered_pass n (Some v)) vs)
+varied_none r n ne [] = tt
+varied_none r n ne (v ∷ vs) = (ne_eqb n r ne, varied_none r n ne vs)
+
+-- what passes the test and stands in a list is among the names of those that pass
+kept_among : (test : Booked → Bool) (bs : List Booked) (k : ℕ) (b : Booked) → slice_get bs k ≡ Some b → test b ≡ true → among b.name (names_of (filter test bs)) ≡ true
+kept_among test [] k b at met = absurd (cc)
+kept_among test (c ∷ bs) zero b at met = grind (arith, itself)
+kept_among test (c ∷ bs) (suc k) b at met = grind (arith, kept_among test bs k b at met)
+
+-- and what is met among those that pass stands in the list
+pub kept_any : (p test : Booked → Bool) (bs : List Booked) → list_any p (filter test bs) ≡ true → (k : ℕ) × (c : Booked) × (slice_get bs k ≡ Some c) × (test c ≡ true) × (p c ≡ true)
+kept_any p test [] h = absurd (cc)
+kept_any p test (c ∷ bs) h =
+    let later : list_any p (filter test bs) ≡ true → (k : ℕ) × (d : Booked) × (slice_get (c ∷ bs) k ≡ Some d) × (test d ≡ true) × (p d ≡ true) =
+    λ q. (let r = kept_any p test bs q in (suc r.0, r.1, r.2, r.3, r.4)) in
+    by_test (test c) (λ met. by_test (p c) (λ is. (0, c, refl, met, is)) (λ not_it. later (rw (met, not_it) at h))) (λ other. later (rw other at h))
+
+module _ (script : List Statement) where
+  pub own_all : (r : ℕ) (b : Booked) → AllOf r (result_passes script r b)
+  own_all r b = (eq-eqb r r refl, cond_both (has_variations script b.name) _ _ (AllOf r) (λ _. varied_all r _) (λ _. tt))
+
+  pub other_none : (r n : ℕ) (b : Booked) → n ≢ r → NoneOf r (result_passes script n b)
+  other_none r n b ne = (ne_eqb n r ne, cond_both (has_variations script b.name) _ _ (NoneOf r) (λ _. varied_none r n ne _) (λ _. tt))
+
+  -- behind it no pass is of the result
+  pub later_none : (test : Booked → Bool) (r n : ℕ) → r < n → (bs : List Booked) → NoneOf r (passes_from script test n bs)
+  later_none test r n lt [] = tt
+  later_none test r n lt (b ∷ bs) =
+      none_both r (if test b then result_passes script n b else []) (passes_from script test (suc n) bs) (cond_both (test b) _ _ (NoneOf r) (λ _. other_none r n b (λ e. omega arith)) (λ _. tt))
+      (later_none test r (suc n) (omega arith) bs)
+
+  -- nor where the result doesn't pass the test
+  pub refused_none : (test : Booked → Bool) (r n : ℕ) (bs : List Booked) → ((k : ℕ) (b : Booked) → n + k ≡ r → slice_get bs k ≡ Some b → test b ≡ false) → NoneOf r (passes_from script test n bs)
+  refused_none test r n [] h = tt
+  refused_none test r n (b ∷ bs) h =
+      none_both r (if test b then result_passes script n b else []) (passes_from script test (suc n) bs)
+      (cond_both (test b) _ _ (NoneOf r) (λ is. other_none r n b (λ e. (let same : n + 0 ≡ r = omega arith in cc (is, h 0 b same refl)))) (λ _. tt))
+      (refused_none test r (suc n) bs (λ k c e at. h (suc k) c (omega arith) at))
+
+  -- the passes of the result stand together in the loop
+  pub record IsFound (r : ℕ) (b : Booked) (ps : List NumberedPass) (results : List Booked) : Type 0 where
+    pub start : List NumberedPass
+    pub rest : List NumberedPass
+    pub before : List Pass
+    pub after : List Pass
+    pub numbered : ps ≡ start ++ (result_passes script r b ++ rest)
+    pub named : loop_passes script results ≡ before ++ (passes_of script b ++ after)
+    pub same : length start ≡ length before
+    pub none_before : NoneOf r start
+    pub none_after : NoneOf r rest
+    pub filled : fills b.name results ≡ true
+
+  -- as many passes by numbers as by names
+  pub passes_many : (n : ℕ) (b : Booked) → length (result_passes script n b) ≡ length (passes_of script b)
+  passes_many n b = ap suc (by_test (has_variations script b.name)
+      (λ e. rw e (length-map (places_from (λ v. result_depends v b.booking) 0 (variations script)) (λ v. numbered_pass n (Some v))
+      ∙ places_many (λ v. result_depends v b.booking) 0 (variations script)
+      ∙ sym (length-map (filter (λ v. result_depends v b.booking) (variations script)) (λ (v : Variation). record { result = b; under = Some v }))))
+      (λ e. rw e refl))
+
+  pub split_at : (test : Booked → Bool) (r n k : ℕ) (bs : List Booked) (b : Booked) → n + k ≡ r → slice_get bs k ≡ Some b → test b ≡ true → IsFound r b (passes_from script test n bs) (filter test bs)
+  split_at test r n k [] b e at met = absurd (cc)
+  split_at test r n zero (c ∷ bs) b e at met =
+      let same_result : c ≡ b = cc in
+      let same_number : n ≡ r = omega arith in
+      let first : test c ≡ true = ap test same_result ∙ met in
+      record {
+        start = [];
+        rest = passes_from script test (suc n) bs;
+        before = [];
+        after = loop_passes script (filter test bs);
+        numbered = ap (λ (t : Bool). (if t then result_passes script n c else []) ++ passes_from script test (suc n) bs) first ∙ ap (λ (m : ℕ). result_passes script m c ++ passes_from script test (suc n) bs) same_number ∙ ap (λ (x : Booked). result_passes script r x ++ passes_from script test (suc n) bs) same_result;
+        named = front_named script (test c) c (filter test bs) ∙ ap (λ (t : Bool). (if t then passes_of script c else []) ++ loop_passes script (filter test bs)) first ∙ ap (λ (x : Booked). passes_of script x ++ loop_passes script (filter test bs)) same_result;
+        same = refl;
+        none_before = tt;
+        none_after = later_none test r (suc n) (omega arith) bs;
+        filled = kept_among test (c ∷ bs) 0 b at met;
+      }
+  split_at test r n (suc k) (c ∷ bs) b e at met =
+      let s = split_at test r (suc n) k bs b (omega arith) at met in
+      let own : List NumberedPass = if test c then result_passes script n c else [] in
+      let its : List Pass = if test c then passes_of script c else [] in
+      let same_own : length own ≡ length its = by_test (test c) (λ e. rw e (passes_many n c)) (λ e. rw e refl) in
+      let same_rest = s.same in
+      record {
+        start = own ++ s.start;
+        rest = s.rest;
+        before = its ++ s.before;
+        after = s.after;
+        numbered = ap (λ l. own ++ l) s.numbered ∙ sym (append_assoc own s.start (result_passes script r b ++ s.rest));
+        named = front_named script (test c) c (filter test bs) ∙ ap (λ l. its ++ l) s.named ∙ sym (append_assoc its s.before (passes_of script b ++ s.after));
+        same = length-append own s.start ∙ ap₂ (λ (x y : ℕ). x + y) same_own same_rest ∙ sym (length-append its s.before);
+        none_before = none_both r own s.start (cond_both (test c) _ _ (NoneOf r) (λ _. other_none r n c (λ q. omega arith)) (λ _. tt)) s.none_before;
+        none_after = s.none_after;
+        filled = kept_among test (c ∷ bs) (suc k) b at met;
+      }
+
+-- ---- what is found
+
+pub position_none : (r : ℕ) (ps : List NumberedPass) → NoneOf r ps → position_or_len (is_of r) ps ≡ length ps
+position_none r [] h = refl
+position_none r (p ∷ ps) h = let first = h.0 in let rest = position_none r ps h.1 in rw first (omega (arith, rest))
+
+pub position_first : (r : ℕ) (xs : List NumberedPass) (p : NumberedPass) (ps : List NumberedPass) → NoneOf r xs → is_of r p ≡ true → position_or_len (is_of r) (xs ++ p ∷ ps) ≡ length xs
+position_first r [] p ps h met = rw met refl
+position_first r (x ∷ xs) p ps h met = let first = h.0 in let rest = position_first r xs p ps h.1 met in rw first (omega (arith, rest))
+
+count_step : (r : ℕ) (p : NumberedPass) (l : List NumberedPass) (b : Bool) → is_of r p ≡ b → count_by (is_of r) (p ∷ l) ≡ cond {A = ℕ} b 1 0 + count_by (is_of r) l
+count_step r p l b e = sum_by-cons (λ x. cond {A = ℕ} (is_of r x) 1 0) p l ∙ ap (λ (x : Bool). cond {A = ℕ} x 1 0 + count_by (is_of r) l) e
+
+count_none : (r : ℕ) (ps : List NumberedPass) → NoneOf r ps → count_by (is_of r) ps ≡ 0
+count_none r [] h = refl
+count_none r (p ∷ ps) h = let one = count_step r p ps false h.0 in let rest = count_none r ps h.1 in omega (arith, one, rest)
+
+count_all : (r : ℕ) (ps qs : List NumberedPass) → AllOf r ps → count_by (is_of r) (ps ++ qs) ≡ length ps + count_by (is_of r) qs
+count_all r [] qs h = omega arith
+count_all r (p ∷ ps) qs h = let one = count_step r p (ps ++ qs) true h.0 in let rest = count_all r ps qs h.1 in omega (arith, one, rest)
+
+count_behind : (r : ℕ) (xs qs : List NumberedPass) → NoneOf r xs → count_by (is_of r) (xs ++ qs) ≡ count_by (is_of r) qs
+count_behind r [] qs h = refl
+count_behind r (p ∷ ps) qs h = let one = count_step r p (ps ++ qs) false h.0 in let rest = count_behind r ps qs h.1 in omega (arith, one, rest)
+
+pub count_own : (r : ℕ) (xs ps ys : List NumberedPass) → NoneOf r xs → AllOf r ps → NoneOf r ys → count_by (is_of r) (xs ++ (ps ++ ys)) ≡ length ps
+count_own r xs ps ys h all k =
+    let one = count_behind r xs (ps ++ ys) h in
+    let own = count_all r ps ys all in
+    let rest = count_none r ys k in
+    omega (arith, one, own, rest)
 
 among_front : (bs : List Booked) (i k : ℕ) (b : Booked) (name : List ℕ) → slice_get bs i ≡ Some b → i < k → same name b.name ≡ true → among name (names_of (take k bs)) ≡ true
 among_front [] i k b name at lt is = absurd (cc)
 among_front (c ∷ bs) i zero b name at lt is = absurd (omega arith)
 among_front (c ∷ bs) zero (suc k) b name at lt is = let one : same name c.name ≡ true = ap (λ (x : Booked). same name x.name) (same_some at) ∙ is in ap (λ (t : Bool). t || among name (names_of (take k bs))) one
 among_front (c ∷ bs) (suc i) (suc k) b name at lt is = or_right (same name c.name) (among name (names_of (take k bs))) (among_front bs i k b name at (omega arith) is)
-
--- what passes the test and stands in a list is among the names of those that pass
-kept_among : (test : Booked → Bool) (bs : List Booked) (k : ℕ) (b : Booked) → slice_get bs k ≡ Some b → test b ≡ true → among b.name (names_of (filter test bs)) ≡ true
-kept_among test [] k b at met = absurd (cc)
-kept_among test (c ∷ bs) zero b at met =
-    let is : c ≡ b = same_some at in
-    ap (λ (t : Bool). among b.name (names_of (if t then c ∷ filter test bs else filter test bs))) (ap test is ∙ met)
-    ∙ ap (λ (x : Booked). same b.name x.name || among b.name (names_of (filter test bs))) is ∙ ap (λ (t : Bool). t || among b.name (names_of (filter test bs))) (itself b.name)
-kept_among test (c ∷ bs) (suc k) b at met = go (test c) (kept_among test bs k b at met)
-  where
-    go : (t : Bool) → among b.name (names_of (filter test bs)) ≡ true → among b.name (names_of (if t then c ∷ filter test bs else filter test bs)) ≡ true
-    go true h = or_right (same b.name c.name) (among b.name (names_of (filter test bs))) h
-    go false h = h
-
--- and who is named there does
-abbrev Kept : (Booked → Bool) → List Booked → List ℕ → Type 0
-Kept test bs name = (k : ℕ) × (c : Booked) × (slice_get bs k ≡ Some c) × (test c ≡ true) × (same name c.name ≡ true)
-
-kept_is : (test : Booked → Bool) (bs : List Booked) (name : List ℕ) → among name (names_of (filter test bs)) ≡ true → Kept test bs name
-kept_is test [] name h = absurd (cc)
-kept_is test (c ∷ bs) name h = go (test c) refl h (λ q. kept_is test bs name q)
-  where
-    later : Kept test bs name → Kept test (c ∷ bs) name
-    later k = (suc k.0, k.1, k.2, k.3, k.4)
-
-    first : (s : Bool) → same name c.name ≡ s → test c ≡ true → (s || among name (names_of (filter test bs))) ≡ true → (among name (names_of (filter test bs)) ≡ true → Kept test bs name) → Kept test (c ∷ bs) name
-    first true is met q next = (0, c, refl, met, is)
-    first false is met q next = later (next q)
-
-    go : (t : Bool) → test c ≡ t → among name (names_of (if t then c ∷ filter test bs else filter test bs)) ≡ true → (among name (names_of (filter test bs)) ≡ true → Kept test bs name) → Kept test (c ∷ bs) name
-    go true met q next = first (same name c.name) refl met q next
-    go false met q next = later (next q)
 
 -- ---- names
 
@@ -72,24 +194,14 @@ one_name script turn i j b c at there is lt = cc (later_named script turn j c th
 
 -- results of one name have one number
 pub one_number : (script : List Statement) → AreNamedInTurn script → (i j : ℕ) (b c : Booked) → slice_get (bookings script) i ≡ Some b → slice_get (bookings script) j ≡ Some c → same b.name c.name ≡ true → i ≡ j
-one_number script turn i j b c at there is = go (cases_lt i j) (cases_lt j i)
-  where
-    equal : b.name ≡ c.name
-    equal = names_equal b.name c.name is
-
-    turned : same c.name b.name ≡ true
-    turned = ap (λ (n : List ℕ). same c.name n) equal ∙ itself c.name
-
-    go : (i < j) ⊎ (j ≤ i) → (j < i) ⊎ (i ≤ j) → i ≡ j
-    go (inl lt) h = absurd (one_name script turn i j b c at there turned lt)
-    go (inr le) (inl lt) = absurd (one_name script turn j i c b there at is lt)
-    go (inr le) (inr ge) = omega arith
+one_number script turn i j b c at there is =
+    let equal : b.name ≡ c.name = names_equal b.name c.name is in
+    grind (arith, one_name script turn i j b c at there (ap (same c.name) equal ∙ itself c.name), one_name script turn j i c b there at is)
 
 -- ---- loops
 
 booked_kept : (before after : List Statement) → Extends before after → (k : ℕ) (b : Booked) → slice_get (bookings before) k ≡ Some b → slice_get (bookings after) k ≡ Some b
-booked_kept before after all_of_it k b h = h
-booked_kept before after (further {after = c} s e) k b h = kept_at (bookings c) (booked_by c s) k b (booked_kept before c e k b h)
+booked_kept = kept bookings booked_by (λ before s. refl)
 
 -- the result waits behind these statements
 abbrev pub waits : List Statement → Booked → Bool
@@ -136,24 +248,11 @@ module _ (script : List Statement) where
       go false next p q = both next (before_or_last (loops script before) (passes_from script (waits before) 0 (bookings before)) l ps p) (before_or_last (loop_results before) (waiting before) l results q)
   loop_at (s ∷ before) e l ps results at there = loop_at before (shorter s before script e) l ps results (ap (λ x. slice_get x l) (sym (append-nil (loops script before))) ∙ at) there
 
-  -- the passes of the result stand together in the loop
-  pub record IsFound (r : ℕ) (b : Booked) (ps : List NumberedPass) (results : List Booked) : Type 0 where
-    pub start : List NumberedPass
-    pub rest : List NumberedPass
-    pub before : List Pass
-    pub after : List Pass
-    pub numbered : ps ≡ start ++ (result_passes script r b ++ rest)
-    pub named : loop_passes script results ≡ before ++ (passes_of script b ++ after)
-    pub same : length start ≡ length before
-    pub none_before : NoneOf r start
-    pub none_after : NoneOf r rest
-    pub filled : fills b.name results ≡ true
-
   abbrev pub IsMissed : ℕ → Booked → List NumberedPass → List Booked → Type 0
   IsMissed r b ps results = (fills b.name results ≡ false) × NoneOf r ps
 
   module _ (turn : AreNamedInTurn script) (r : ℕ) (b : Booked) (its : slice_get (bookings script) r ≡ Some b) where
-    in_loop : (before : List Statement) → Extends before script → IsMissed r b (passes_from script (waits before) 0 (bookings before)) (waiting before) ⊎ IsFound r b (passes_from script (waits before) 0 (bookings before)) (waiting before)
+    in_loop : (before : List Statement) → Extends before script → IsMissed r b (passes_from script (waits before) 0 (bookings before)) (waiting before) ⊎ IsFound script r b (passes_from script (waits before) 0 (bookings before)) (waiting before)
     in_loop before e = by_place (slice_get (bookings before) r) refl
       where
         is_it : (k : ℕ) (c : Booked) → slice_get (bookings before) k ≡ Some c → same b.name c.name ≡ true → (r ≡ k) × (b ≡ c)
@@ -162,46 +261,32 @@ module _ (script : List Statement) where
             (number, same_some (sym its ∙ ap (slice_get (bookings script)) number ∙ booked_kept before script e k c at))
 
         missed : ((c : Booked) → slice_get (bookings before) r ≡ Some c → waits before c ≡ false) → IsMissed r b (passes_from script (waits before) 0 (bookings before)) (waiting before)
-        missed h = (by_fill (fills b.name (waiting before)) refl, refused_none script (waits before) r 0 (bookings before) (λ k c q at. (let number : k ≡ r = omega arith in h c (ap (slice_get (bookings before)) (sym number) ∙ at))))
-          where
-            by_fill : (t : Bool) → fills b.name (waiting before) ≡ t → t ≡ false
-            by_fill false q = refl
-            by_fill true q =
-                let k = kept_is (waits before) (bookings before) b.name q in
-                let i = is_it k.0 k.1 k.2 k.4 in
-                let at : slice_get (bookings before) r ≡ Some k.1 = ap (slice_get (bookings before)) i.0 ∙ k.2 in
-                let no = h k.1 at in let met = k.3 in absurd (cc)
+        missed h = (
+          never_true (fills b.name (waiting before)) (λ q.
+              (let k = kept_any (λ (c : Booked). same b.name c.name) (waits before) (bookings before) (sym (any_map (λ (c : Booked). c.name) (same b.name) (waiting before)) ∙ q) in
+              let i = is_it k.0 k.1 k.2 k.4 in
+              let no = h k.1 (ap (slice_get (bookings before)) i.0 ∙ k.2) in let met = k.3 in absurd (cc))),
+          refused_none script (waits before) r 0 (bookings before) (λ k c q at. (let number : k ≡ r = omega arith in h c (ap (slice_get (bookings before)) (sym number) ∙ at))),
+        )
 
-        found : (c : Booked) → slice_get (bookings before) r ≡ Some c → waits before c ≡ true → IsFound r b (passes_from script (waits before) 0 (bookings before)) (waiting before)
+        found : (c : Booked) → slice_get (bookings before) r ≡ Some c → waits before c ≡ true → IsFound script r b (passes_from script (waits before) 0 (bookings before)) (waiting before)
         found c at met =
             let is : c ≡ b = same_some (sym (booked_kept before script e r c at) ∙ its) in
             let there : slice_get (bookings before) r ≡ Some b = at ∙ ap (λ (x : Booked). Some x) is in
             let waits_too : waits before b ≡ true = ap (waits before) (sym is) ∙ met in
-            let s = split_at script (waits before) r 0 r (bookings before) b (omega arith) there waits_too in
-            record {
-              start = s.start;
-              rest = s.rest;
-              before = s.before;
-              after = s.after;
-              numbered = s.numbered;
-              named = s.named;
-              same = s.same;
-              none_before = s.none_before;
-              none_after = s.none_after;
-              filled = kept_among (waits before) (bookings before) r b there waits_too;
-            }
+            split_at script (waits before) r 0 r (bookings before) b (omega arith) there waits_too
 
-        by_test : (c : Booked) → slice_get (bookings before) r ≡ Some c → (t : Bool) → waits before c ≡ t → IsMissed r b (passes_from script (waits before) 0 (bookings before)) (waiting before) ⊎ IsFound r b (passes_from script (waits before) 0 (bookings before)) (waiting before)
-        by_test c at true q = inr (found c at q)
-        by_test c at false q = inl (missed (λ x there. ap (waits before) (same_some (sym there ∙ at)) ∙ q))
+        by_kept : (c : Booked) → slice_get (bookings before) r ≡ Some c → (t : Bool) → waits before c ≡ t → IsMissed r b (passes_from script (waits before) 0 (bookings before)) (waiting before) ⊎ IsFound script r b (passes_from script (waits before) 0 (bookings before)) (waiting before)
+        by_kept c at true q = inr (found c at q)
+        by_kept c at false q = inl (missed (λ x there. ap (waits before) (same_some (sym there ∙ at)) ∙ q))
 
-        by_place : (o : Option Booked) → slice_get (bookings before) r ≡ o → IsMissed r b (passes_from script (waits before) 0 (bookings before)) (waiting before) ⊎ IsFound r b (passes_from script (waits before) 0 (bookings before)) (waiting before)
+        by_place : (o : Option Booked) → slice_get (bookings before) r ≡ o → IsMissed r b (passes_from script (waits before) 0 (bookings before)) (waiting before) ⊎ IsFound script r b (passes_from script (waits before) 0 (bookings before)) (waiting before)
         by_place None at = inl (missed (λ c there. absurd (cc (at, there))))
-        by_place (Some c) at = by_test c at (waits before c) refl
+        by_place (Some c) at = by_kept c at (waits before c) refl
 
     -- in each loop either all passes of the result stand together, or it has none
-    pub found_or_missed : (l : ℕ) (ps : List NumberedPass) (results : List Booked) → slice_get (loops script script) l ≡ Some ps → slice_get (loop_results script) l ≡ Some results → IsMissed r b ps results ⊎ IsFound r b ps results
+    pub found_or_missed : (l : ℕ) (ps : List NumberedPass) (results : List Booked) → slice_get (loops script script) l ≡ Some ps → slice_get (loop_results script) l ≡ Some results → IsMissed r b ps results ⊎ IsFound script r b ps results
     found_or_missed l ps results at there =
         let loop = loop_at script all_of_it l ps results at there in
-        subst (λ (x : List NumberedPass). IsMissed r b x results ⊎ IsFound r b x results) (sym loop.numbered)
-        (subst (λ (x : List Booked). IsMissed r b (passes_from script (waits loop.before) 0 (bookings loop.before)) x ⊎ IsFound r b (passes_from script (waits loop.before) 0 (bookings loop.before)) x) (sym loop.named) (in_loop loop.before loop.begins))
+        subst (λ (x : List NumberedPass). IsMissed r b x results ⊎ IsFound script r b x results) (sym loop.numbered)
+        (subst (λ (x : List Booked). IsMissed r b (passes_from script (waits loop.before) 0 (bookings loop.before)) x ⊎ IsFound script r b (passes_from script (waits loop.before) 0 (bookings loop.before)) x) (sym loop.named) (in_loop loop.before loop.begins))

@@ -1,24 +1,268 @@
--- The lines of what a session filled.
-use Rattle.std.proofs.Common.{◌≡◌, ◌⊎◌, inl, inr, ℕ, ◌+◌, ◌<◌, ◌≤◌, ◌^◌, Bool, true, false, List, [], ◌∷◌, ◌++◌, length, map, Option, Some, None, refl, sym, ◌∙◌, ap, ap₂, subst, arith, if◌then◌else◌, append-nil, append_assoc, Result, Ok, Err, OnOk, All, flat_map, option_map, slice_get, unwrap_or}
-use Rattle.std.proofs.lemmas.List.{length-map}
-use Rattle.lemmas.proofs.{something_at}
-use Rattle.rdf_values.specs.{ActionAt, ActionKind, below, Booked, Booking, cut, fn_names, has_variations, history, is_watched, Lead, named_before, Pass, passes_of, Path, ReportOn, Span, Statement, varied_passes}
+-- The lines of what a session filled: of actions, of watched results and of reports.
+use Rattle.std.proofs.Common.{◌≡◌, ℕ, zero, suc, ◌+◌, ◌<◌, List, [], ◌∷◌, ◌++◌, length, Some, refl, sym, ◌∙◌, ap, ap₂, subst, arith, append_assoc, length-append, flat_map, slice_get, ◌-◌, ◌≤◌, Bool, true, false, map, None, if◌then◌else◌, All, codes, nat_eq, ◌⊎◌, inl, inr, Option, filter, option_map, unwrap_or, ◌^◌, append-nil, Result, Ok, Err, OnOk}
+use Rattle.std.proofs.lemmas.List.{length-map, map-append}
+use Rattle.lemmas.proofs.{something_at, same_some}
+use Rattle.rdf_values.specs.{ActionAt, ActionKind, Booked, Booking, Pass, Path, Span, Filled, line, below, Column, covered, fn_names, Function, FunctionNames, has_variations, named_before, passes_of, path, ReportOn, result_depends, Statement, Variation, variations, varied_passes, cut, history, is_watched, Lead}
+use Rattle.rdf_model.specs.{action_pass, booking_lines, Dataset, filled_lines, kind_in, kinds_in, label, loop_facts, over_clusters, pass_lines, pass_result, in_front, maximal_runs, partial_line, partial_result, Run, run_text, value_text, cutflow, filter_label, first_fault, Course, flow_lines, loop_of, partial_lines}
+use Rattle.actions.specs.{Accumulator}
+use Rattle.graph_numbers.proofs.Listed.{by_test, joined, next_at, only_at}
+use Rattle.loop_pieces.specs.{LoopPiece, StandsFor, ArePartialLines, IsPartialLine, PartialLine, span_of, Counts, counts_at, counts_of, cluster_fault, FilledResult, place_if_watched}
+use Rattle.loop_pieces.proofs.WholeLoops.{piece_holds_results, watch_piece_is_partial_result, piece_holds_counts, all_clusters_are_the_table}
+use Rattle.result_text.specs.{acc_lines, lines_from, AreRuns, run_of, runs_text, watch_line, watch_lines, counts_seen, flow_at, booking_text, filled_text, FitsBooking, FitsResult}
+use Rattle.event_loop.proofs.Found.{AreOf, kinds-append, passes_are_of}
+use Rattle.std.specs.List.{AllByRecursion, join_with_byte}
+use Rattle.std.proofs.lemmas.Bool.{cond_both, eqb-true}
+use Rattle.std.proofs.lemmas.List.Elements.{All-from_recursion}
+use Rattle.std.proofs.lemmas.Option.{slice_get-map}
 use Rattle.rdf_values.proofs.Below.{length-below}
+use Rattle.rdf_values.specs.declared.statement.Statement.TheVariants.{Action, Filter, Report}
+use Rattle.graph_numbers.specs.{covered_at, FilterAt, filters, graph_filters, GraphView, own_filters, own_results, ResultAt, results, graph_results}
+use Rattle.graph_numbers.proofs.Covering.{AreNumbersOf, covered_numbers, filters_are, numbers_later}
+use Rattle.graph_numbers.proofs.Extending.{Extends, itself, shorter}
 use Rattle.rdf_values.proofs.Leading.{cuts_lead}
-use Rattle.rdf_model.specs.{action_pass, booking_lines, Course, first_fault, flow_lines, kind_in, kinds_in, loop_facts, loop_of, over_clusters, partial_line, partial_lines, partial_result, pass_lines}
-use Rattle.graph_numbers.specs.{graph_filters, graph_results, ResultAt}
-use Rattle.graph_numbers.proofs.Listed.{next_at}
 use Rattle.loop_keys.specs.{passes_in}
-use Rattle.loop_pieces.specs.{ArePartialLines, cluster_fault, FilledResult, PartialLine, place_if_watched, StandsFor}
-use Rattle.loop_pieces.proofs.WholeLoops.{all_clusters_are_the_table}
-use Rattle.result_text.specs.{AreRuns, booking_text, filled_text, FitsBooking, FitsResult, watch_lines}
 use Rattle.event_loop.specs.{ArePartials, FitsCourse, HasNoPartials, IsFilledIn, IsPlaced, IsResult, IsSession, IsUnfilled, job_facts, loop_filling, session_job, SessionView}
-use Rattle.event_loop.proofs.Accesses.{job_fault}
-use Rattle.event_loop.proofs.Finding.{noted_at}
-use Rattle.event_loop.proofs.Found.{passes_are_of}
-use Rattle.event_loop.proofs.ActionLines.{kind_at, lines_are, own_count}
-use Rattle.event_loop.proofs.ReportLines.{covers_are, filter_count, flow_length, flows_are, report_pass}
-use Rattle.event_loop.proofs.WatchLines.{each_has_runs, watched_are}
+use Rattle.event_loop.proofs.Accesses.{job_fault, noted_at}
+
+module _ (b : Booked) (k : ActionKind) (at : Path) (action : b.booking ≡ ActionAt k at) where
+  its_kinds : (p : Pass) → p.result ≡ b → kind_in p.result.booking ≡ k ∷ []
+  its_kinds p q = ap (λ (x : Booked). kind_in x.booking) q ∙ ap kind_in action
+
+  its_pass : (p : Pass) → p.result ≡ b → p ≡ action_pass b.name k at p.under
+  its_pass p q = ap (λ (x : Booked). record { result = x; under = p.under }) (q ∙ ap (λ (y : Booking). record { name = b.name; booking = y }) action)
+
+  -- the kinds of its passes
+  pub own_kind : (own : List Pass) (rest : List ActionKind) (i : ℕ) → AreOf b own → i < length own → slice_get (kinds_in own ++ rest) i ≡ Some k
+  own_kind [] rest i h lt = absurd (omega arith)
+  own_kind (p ∷ own) rest zero h lt = ap (λ l. slice_get ((l ++ kinds_in own) ++ rest) 0) (its_kinds p h.0)
+  own_kind (p ∷ own) rest (suc i) h lt = ap (λ l. slice_get ((l ++ kinds_in own) ++ rest) (suc i)) (its_kinds p h.0) ∙ own_kind own rest i h.1 (omega arith)
+
+  pub own_count : (own : List Pass) → AreOf b own → length (kinds_in own) ≡ length own
+  own_count [] h = refl
+  own_count (p ∷ own) h =
+      let both = length-append (kind_in p.result.booking) (kinds_in own) in
+      let one = ap (λ (l : List ActionKind). length l) (its_kinds p h.0) in
+      let rest = own_count own h.1 in
+      omega (arith, both, one, rest)
+
+  pub kind_at : (before own after : List Pass) (i : ℕ) → AreOf b own → i < length own → slice_get (kinds_in (before ++ (own ++ after))) (length (kinds_in before) + i) ≡ Some k
+  kind_at before own after i h lt =
+      ap (λ l. slice_get l (length (kinds_in before) + i)) (kinds-append before (own ++ after) ∙ ap (λ l. kinds_in before ++ l) (kinds-append own after))
+      ∙ next_at (kinds_in before) (kinds_in own ++ kinds_in after) i (length (kinds_in before) + i) refl ∙ own_kind own (kinds_in after) i h lt
+
+  module _ (d : Dataset) (filters : List Path) (spans : List Span) (set : List ℕ) (whole : over_clusters spans d set ≡ d) (piece : LoopPiece) where
+    -- an accumulator of its passes
+    acc_holds : (before after : List Pass) (p : Pass) → p.result ≡ b → StandsFor (loop_facts d filters spans (before ++ p ∷ after)) set piece
+        → (acc : Accumulator) × (slice_get piece.accs.items (length (kinds_in before)) ≡ Some acc) × (acc.filled ≡ pass_result d k at p.under)
+    acc_holds before after p q stands =
+        let is : p ≡ action_pass b.name k at p.under = its_pass p q in
+        let named = subst (λ (x : Pass). StandsFor (loop_facts d filters spans (before ++ x ∷ after)) set piece) is stands in
+        let many = length-map piece.accs.items (λ (acc : Accumulator). acc.kind) in
+        let kinds = ap (λ (l : List ActionKind). length l) (stands.kinds ∙ kinds-append before (p ∷ after)) in
+        let both = length-append (kinds_in before) (kinds_in (p ∷ after)) in
+        let own = length-append (kind_in p.result.booking) (kinds_in after) in
+        let one = ap (λ (l : List ActionKind). length l) (its_kinds p q) in
+        let acc = something_at piece.accs.items (length (kinds_in before)) (omega (arith, many, kinds, both, own, one)) in
+        let holds = piece_holds_results d filters spans set before after b.name k at p.under piece acc.0 named acc.1 in
+        (acc.0, acc.1, holds.1 ∙ ap (λ (x : Dataset). pass_result x k at p.under) whole)
+
+    one_line : (before after : List Pass) (p : Pass) → p.result ≡ b → StandsFor (loop_facts d filters spans (before ++ p ∷ after)) set piece
+        → acc_lines k (label p.result.name p.under) (slice_get piece.accs.items (length (kinds_in before))) ≡ pass_lines d p
+    one_line before after p q stands =
+        let acc = acc_holds before after p q stands in
+        ap (acc_lines k (label p.result.name p.under)) acc.1 ∙ ap (filled_lines k (label p.result.name p.under)) acc.2
+        ∙ sym (ap (booking_lines d p.result.name p.under) (ap (λ (x : Booked). x.booking) q ∙ action))
+
+    pub lines_are : (own before after : List Pass) (n : ℕ) → AreOf b own → n ≡ length (kinds_in before) → StandsFor (loop_facts d filters spans (before ++ (own ++ after))) set piece
+        → lines_from k piece.accs.items n own ≡ flat_map (pass_lines d) own
+    lines_are [] before after n h e stands = refl
+    lines_are (p ∷ own) before after n h e stands =
+        let joined : before ++ (p ∷ (own ++ after)) ≡ (before ++ p ∷ []) ++ (own ++ after) = sym (append_assoc before (p ∷ []) (own ++ after)) in
+        let kinds = ap (λ (l : List ActionKind). length l) (kinds-append before (p ∷ [])) in
+        let both = length-append (kinds_in before) (kinds_in (p ∷ [])) in
+        let own_kinds = length-append (kind_in p.result.booking) [] in
+        let one = ap (λ (l : List ActionKind). length l) (its_kinds p h.0) in
+        let next : n + 1 ≡ length (kinds_in (before ++ p ∷ [])) = omega (arith, e, kinds, both, own_kinds, one) in
+        ap₂ (λ (x y : List ℕ). x ++ y) (ap (λ (m : ℕ). acc_lines k (label p.result.name p.under) (slice_get piece.accs.items m)) e ∙ one_line before (own ++ after) p h.0 stands)
+        (lines_are own (before ++ p ∷ []) after (n + 1) h.1 next (subst (λ (l : List Pass). StandsFor (loop_facts d filters spans l) set piece) joined stands))
+
+-- ---- runs
+
+runs_back : (rs : List Run) → map run_of (map span_of rs) ≡ rs
+runs_back [] = refl
+runs_back (r ∷ rs) = let e : r.last + 1 - 1 ≡ r.last = omega arith in ap₂ (λ (l : ℕ) (xs : List Run). record { first = r.first; last = l } ∷ xs) e (runs_back rs)
+
+abbrev AreRising : List Run → Type 0
+AreRising rs = AllByRecursion (λ (r : Run). r.first ≤ r.last) rs
+
+front_rises : (x : ℕ) (rs : List Run) → AreRising rs → AreRising (in_front x rs)
+front_rises x [] h = (omega arith, tt)
+front_rises x (r ∷ rs) h = cond_both (nat_eq (x + 1) r.first) _ _ AreRising
+    (λ e. let is = eqb-true (x + 1) r.first e in let up = h.0 in (omega arith, h.1)) (λ _. (omega arith, h))
+
+runs_rise : (set : List ℕ) → AreRising (maximal_runs set)
+runs_rise [] = tt
+runs_rise (x ∷ xs) = front_rises x (maximal_runs xs) (runs_rise xs)
+
+spans_are_runs : (rs : List Run) → AreRising rs → AllByRecursion (λ (s : Span). s.lo < s.hi) (map span_of rs)
+spans_are_runs [] h = tt
+spans_are_runs (r ∷ rs) h = (let up = h.0 in omega arith, spans_are_runs rs h.1)
+
+runs_of_set : (runs : List Span) (set : List ℕ) → runs ≡ map span_of (maximal_runs set) → AreRuns runs
+runs_of_set runs set e = subst AreRuns (sym e) (All-from_recursion (λ (s : Span). s.lo < s.hi) (map span_of (maximal_runs set)) (spans_are_runs (maximal_runs set) (runs_rise set)))
+
+-- ---- lines
+
+module _ (d : Dataset) (filters : List Path) (spans : List Span) (before after : List Pass) (name : List ℕ) (k : ActionKind) (at : Path) where
+  one_partial : (set : List ℕ) (l : PartialLine) → IsPartialLine (loop_facts d filters spans (before ++ action_pass name k at None ∷ after)) (length (kinds_in before)) set l → watch_line name l ≡ partial_line name set (partial_result spans d set k at)
+  one_partial set l is =
+      let text : runs_text l.runs ≡ join_with_byte 44 (map run_text (maximal_runs set)) = ap runs_text is.runs ∙ ap (λ rs. join_with_byte 44 (map run_text rs)) (runs_back (maximal_runs set)) in
+      let value = watch_piece_is_partial_result d filters spans set before after name k at l.value is.stands in
+      ap₂ (λ (t : List ℕ) (v : Filled). line (codes "partial " ++ name ++ codes " over " ++ t ++ codes " = " ++ value_text v)) text value
+
+  pub watched_are : (sets : List (List ℕ)) (lines : List PartialLine) → ArePartialLines (loop_facts d filters spans (before ++ action_pass name k at None ∷ after)) (length (kinds_in before)) sets lines
+      → watch_lines name lines ≡ flat_map (λ set. partial_line name set (partial_result spans d set k at)) sets
+  watched_are [] [] h = refl
+  watched_are [] (l ∷ ls) h = elim h [ ]
+  watched_are (set ∷ sets) [] h = elim h [ ]
+  watched_are (set ∷ sets) (l ∷ ls) h = ap₂ (λ (x y : List ℕ). x ++ y) (one_partial set l h.0) (watched_are sets ls h.1)
+
+-- each line has runs
+lines_have_runs : (facts : _) (place : ℕ) (sets : List (List ℕ)) (lines : List PartialLine) → ArePartialLines facts place sets lines → AllByRecursion (λ (l : PartialLine). AreRuns l.runs) lines
+lines_have_runs facts place [] [] h = tt
+lines_have_runs facts place [] (l ∷ ls) h = elim h [ ]
+lines_have_runs facts place (set ∷ sets) [] h = elim h [ ]
+lines_have_runs facts place (set ∷ sets) (l ∷ ls) h = (runs_of_set l.runs set h.0.runs, lines_have_runs facts place sets ls h.1)
+
+pub each_has_runs : (facts : _) (place : ℕ) (sets : List (List ℕ)) (lines : List PartialLine) → ArePartialLines facts place sets lines → All (λ (l : PartialLine). AreRuns l.runs) lines
+each_has_runs facts place sets lines h = All-from_recursion (λ (l : PartialLine). AreRuns l.runs) lines (lines_have_runs facts place sets lines h)
+
+-- what stands before and behind an element
+pub record IsBetween {A : Type 0} (xs : List A) (n : ℕ) (x : A) : Type 0 where
+  pub before : List A
+  pub after : List A
+  pub joined : xs ≡ before ++ x ∷ after
+  pub number : length before ≡ n
+
+between : {A : Type 0} (xs : List A) (n : ℕ) (x : A) → slice_get xs n ≡ Some x → IsBetween xs n x
+between [] n x at = absurd (cc)
+between (y ∷ ys) zero x at = record { before = []; after = ys; joined = ap (λ z. z ∷ ys) (same_some at); number = refl }
+between (y ∷ ys) (suc n) x at =
+    let rest = between ys n x at in
+    record { before = y ∷ rest.before; after = rest.after; joined = ap (λ l. y ∷ l) rest.joined; number = ap suc rest.number }
+
+-- ---- named filters
+
+module _ (header : List Column) (names : FunctionNames) where
+  -- each has the label of its path
+  labels_are : (before : List Statement) → map (λ (f : FilterAt). f.label) (filters header names before) ≡ map (λ (f : FilterAt). filter_label f.at) (filters header names before)
+  labels_are [] = refl
+  labels_are (s ∷ before) =
+      map-append (λ (f : FilterAt). f.label) (filters header names before) (own_filters header names before s) ∙ own s (labels_are before)
+      ∙ sym (map-append (λ (f : FilterAt). filter_label f.at) (filters header names before) (own_filters header names before s))
+    where
+      own : (s : Statement) → map (λ (f : FilterAt). f.label) (filters header names before) ≡ map (λ (f : FilterAt). filter_label f.at) (filters header names before)
+          → map (λ (f : FilterAt). f.label) (filters header names before) ++ map (λ (f : FilterAt). f.label) (own_filters header names before s)
+          ≡ map (λ (f : FilterAt). filter_label f.at) (filters header names before) ++ map (λ (f : FilterAt). filter_label f.at) (own_filters header names before s)
+      own (Filter node parent expr (Some label)) h = ap (λ ls. ls ++ label ∷ []) h
+      own s h = ap (λ ls. ls ++ []) h
+
+  pub its_path : (before : List Statement) (n : ℕ) (f : FilterAt) → slice_get (filters header names before) n ≡ Some f → slice_get (named_before before) n ≡ Some f.at
+  its_path before n f at = ap (λ l. slice_get l n) (sym (filters_are header names before)) ∙ slice_get-map (λ (x : FilterAt). x.at) (filters header names before) n ∙ ap (option_map (λ (x : FilterAt). x.at)) at
+
+  pub its_label : (before : List Statement) (n : ℕ) (f : FilterAt) → slice_get (filters header names before) n ≡ Some f → f.label ≡ filter_label f.at
+  its_label before n f at = same_some (
+      sym (ap (option_map (λ (x : FilterAt). x.label)) at) ∙ sym (slice_get-map (λ (x : FilterAt). x.label) (filters header names before) n)
+      ∙ ap (λ l. slice_get l n) (labels_are before) ∙ slice_get-map (λ (x : FilterAt). filter_label x.at) (filters header names before) n ∙ ap (option_map (λ (x : FilterAt). filter_label x.at)) at
+      )
+
+  pub filter_count : (before : List Statement) → length (filters header names before) ≡ length (named_before before)
+  filter_count before = sym (length-map (filters header names before) (λ (f : FilterAt). f.at)) ∙ ap (λ (l : List Path). length l) (filters_are header names before)
+
+-- no named filter is the head
+named_nonempty : (before : List Statement) (n : ℕ) → slice_get (named_before before) n ≡ Some [] → ⊥
+named_nonempty [] n h = cc h
+named_nonempty (Filter node parent expr (Some label) ∷ before) n h =
+    joined (named_before before) ((Filter node parent expr (Some label) ∷ path before parent) ∷ []) n [] h (named_nonempty before n)
+    (λ k e q. let is = only_at (Filter node parent expr (Some label) ∷ path before parent) [] k q in absurd (cc))
+named_nonempty (Filter node parent expr None ∷ before) n h = named_nonempty before n h
+named_nonempty (s ∷ before) n h = named_nonempty before n h
+
+-- ---- what a report covers
+
+module _ (fns : List Function) (columns : List Column) where
+  covers_of : (script before : List Statement) → Extends before script → (r : ℕ) (x : ResultAt) (fs : List Path) → slice_get (results columns (fn_names fns) before) r ≡ Some x → x.booked.booking ≡ ReportOn fs
+      → AreNumbersOf fns columns script x.covers fs
+  covers_of script [] e r x fs at report = absurd (cc)
+  covers_of script (s ∷ before) e r x fs at report =
+      joined (results columns (fn_names fns) before) (own_results columns (fn_names fns) before s) r x at
+      (λ q. covers_of script before (shorter s before script e) r x fs q report) (λ k _ q. own s k q)
+    where
+      begins : Extends before script
+      begins = shorter s before script e
+
+      own : (s : Statement) → (k : ℕ) → slice_get (own_results columns (fn_names fns) before s) k ≡ Some x → AreNumbersOf fns columns script x.covers fs
+      own (Action result parent kind) k q = let is = ap (λ (y : ResultAt). y.booked.booking) (only_at _ x k q) ∙ report in absurd (cc)
+      own (Report result parent) k q =
+          let row = only_at _ x k q in
+          let booking = ap (λ (y : ResultAt). y.booked.booking) row ∙ report in
+          let same_list : covered before (path before parent) ≡ fs = cc in
+          subst (λ (ns : List ℕ). AreNumbersOf fns columns script ns fs) (ap (λ (y : ResultAt). y.covers) row)
+          (subst (λ (ps : List Path). AreNumbersOf fns columns script (covered_at before parent) ps) same_list
+          (numbers_later fns columns before script begins (covered_at before parent) (covered before (path before parent)) (covered_numbers fns columns before parent)))
+      own s k q = absurd (cc)
+
+  pub covers_are : (script : List Statement) (r : ℕ) (x : ResultAt) (fs : List Path) → slice_get (results columns (fn_names fns) script) r ≡ Some x → x.booked.booking ≡ ReportOn fs → AreNumbersOf fns columns script x.covers fs
+  covers_are script r x fs at report = covers_of script script itself r x fs at report
+
+-- ---- passes
+
+-- a report has no pass under a variation
+pub report_pass : (script : List Statement) (b : Booked) (fs : List Path) → b.booking ≡ ReportOn fs → passes_of script b ≡ record { result = b; under = None } ∷ []
+report_pass script b fs report = ap (λ l. record { result = b; under = None } ∷ l)
+    (cond_both (has_variations script b.name) (varied_passes script b) [] (λ ps. ps ≡ [])
+    (λ _. ap (map (λ (v : Variation). record { result = b; under = Some v })) (none (variations script))) (λ _. refl))
+  where
+    none : (vs : List Variation) → filter (λ v. result_depends v b.booking) vs ≡ []
+    none [] = refl
+    none (v ∷ vs) = ap (λ (k : Booking). if result_depends v k then v ∷ filter (λ w. result_depends w b.booking) vs else filter (λ w. result_depends w b.booking) vs) report ∙ none vs
+
+-- ---- counts
+
+module _ (script : List Statement) (d : Dataset) (spans : List Span) (set : List ℕ) (whole : over_clusters spans d set ≡ d) (passes : List Pass) (sound : first_fault d passes ≡ None) (piece : LoopPiece)
+    (stands : StandsFor (loop_facts d (named_before script) spans passes) set piece) where
+  pub flow_length : length piece.flow ≡ length (named_before script)
+  flow_length = ap (λ (l : List Counts). length l) stands.flow ∙ length-map (below (length (named_before script))) (counts_at (loop_facts d (named_before script) spans passes) set) ∙ length-below (length (named_before script))
+
+  module _ (p : Pass) (n : ℕ) (its : slice_get passes n ≡ Some p) (fs : List Path) (report : p.result.booking ≡ ReportOn fs) where
+    counts_are : (i m : ℕ) (f : Path) → slice_get fs i ≡ Some f → slice_get (named_before script) m ≡ Some f → slice_get piece.flow m ≡ Some (counts_of (cutflow d f))
+    counts_are i m [] at named = absurd (named_nonempty script m named)
+    counts_are i m (s ∷ up) at named =
+        let b = between (named_before script) m (s ∷ up) named in
+        let split = subst (λ (l : List Path). StandsFor (loop_facts d l spans passes) set piece) b.joined stands in
+        let still = ap (λ (x : Dataset). first_fault x passes) whole ∙ sound in
+        ap (slice_get piece.flow) (sym b.number) ∙ piece_holds_counts d b.before b.after s up spans set passes n i p fs piece its report at still split
+        ∙ ap (λ (x : Dataset). Some (counts_of (cutflow x (s ∷ up)))) whole
+
+    flows_from : (header : List Column) (fns : List Function) → (ns : List ℕ) (gs done : List Path) → fs ≡ done ++ gs → AreNumbersOf fns header script ns gs
+        → (g : GraphView) → graph_filters g ≡ filters header (fn_names fns) script → map (flow_at g piece.flow) ns ≡ map (λ f. (filter_label f, cutflow d f)) gs
+    flows_from header fns [] [] done joined h g same_filters = refl
+    flows_from header fns [] (f ∷ gs) done joined h g same_filters = elim h [ ]
+    flows_from header fns (m ∷ ns) [] done joined h g same_filters = elim h [ ]
+    flows_from header fns (m ∷ ns) (f ∷ gs) done joined h g same_filters =
+        let y = h.0.0 in
+        let at : slice_get (graph_filters g) m ≡ Some y = ap (λ l. slice_get l m) same_filters ∙ h.0.1 in
+        let its_label_is : y.label ≡ filter_label f = its_label header (fn_names fns) script m y h.0.1 ∙ ap filter_label h.0.2 in
+        let named : slice_get (named_before script) m ≡ Some f = its_path header (fn_names fns) script m y h.0.1 ∙ ap (λ q. Some q) h.0.2 in
+        let listed : slice_get fs (length done) ≡ Some f = (let none : length done ≡ length done + 0 = omega arith in ap (λ l. slice_get l (length done)) joined ∙ next_at done (f ∷ gs) 0 (length done) none) in
+        let counted = counts_are (length done) m f listed named in
+        let one : flow_at g piece.flow m ≡ (filter_label f, cutflow d f) =
+        λ i. ((ap (λ (o : Option FilterAt). unwrap_or (option_map (λ (x : FilterAt). x.label) o) []) at ∙ its_label_is) i, ap (λ (o : Option Counts). counts_seen (unwrap_or o (record { all = 0; pass = 0 }))) counted i) in
+        ap₂ (λ x xs. x ∷ xs) one (flows_from header fns ns gs (done ++ f ∷ []) (joined ∙ sym (append_assoc done (f ∷ []) gs)) h.1 g same_filters)
+
+    pub flows_are : (header : List Column) (fns : List Function) (ns : List ℕ) → AreNumbersOf fns header script ns fs → (g : GraphView) → graph_filters g ≡ filters header (fn_names fns) script
+        → map (flow_at g piece.flow) ns ≡ map (λ f. (filter_label f, cutflow d f)) fs
+    flows_are header fns ns h g same_filters = flows_from header fns ns fs [] refl h g same_filters
 
 module _ (s : SessionView) (is : IsSession s) where
   abbrev script_of : List Statement
@@ -51,14 +295,10 @@ module _ (s : SessionView) (is : IsSession s) where
   noted_action : (b : Booked) (n : ℕ) → place_if_watched script_of n (record { result = b; under = None }) ≡ n ∷ [] → (k : ActionKind) × (at : Path) × (b.booking ≡ ActionAt k at)
   noted_action b n e = go b.booking refl
     where
-      none : (t : Bool) → (if t then map (λ (k : ActionKind). n) [] else []) ≡ []
-      none true = refl
-      none false = refl
-
       go : (bk : Booking) → b.booking ≡ bk → (k : ActionKind) × (at : Path) × (b.booking ≡ ActionAt k at)
       go (ActionAt k at) q = (k, at, q)
       go (ReportOn filters) q =
-          let empty : place_if_watched script_of n (record { result = b; under = None }) ≡ [] = ap (λ (bk : Booking). if is_watched script_of b.name then map (λ k. n) (kind_in bk) else []) q ∙ none (is_watched script_of b.name) in
+          let empty : place_if_watched script_of n (record { result = b; under = None }) ≡ [] = ap (λ (bk : Booking). if is_watched script_of b.name then map (λ k. n) (kind_in bk) else []) q ∙ by_test (is_watched script_of b.name) (λ t. rw t refl) (λ t. rw t refl) in
           absurd (cc (e, empty))
 
   action_lines : (b : Booked) (lines : List PartialLine) (p : ArePartials s b lines) (course : Course) → FitsCourse s course → (k : ActionKind) (at : Path) → b.booking ≡ ActionAt k at
@@ -146,12 +386,12 @@ module _ (s : SessionView) (is : IsSession s) where
 
     -- of a report
     module _ (fs : List Path) (report : x.booked.booking ≡ ReportOn fs) where
-      filters_are : graph_filters s.graph ≡ graph_filters (record { script = s.graph.script; header = s.dataset.columns; names = fn_names s.dataset.fns })
-      filters_are = ap graph_filters is.graph
+      filters_same : graph_filters s.graph ≡ graph_filters (record { script = s.graph.script; header = s.dataset.columns; names = fn_names s.dataset.fns })
+      filters_same = ap graph_filters is.graph
 
       report_fits : FitsBooking s.graph x f (ReportOn fs)
       report_fits =
-          flow_length script_of s.dataset spans_of set_of whole passes sound f.piece.now stands ∙ sym (ap (λ (l : List _). length l) filters_are ∙ filter_count s.dataset.columns (fn_names s.dataset.fns) script_of)
+          flow_length script_of s.dataset spans_of set_of whole passes sound f.piece.now stands ∙ sym (ap (λ (l : List _). length l) filters_same ∙ filter_count s.dataset.columns (fn_names s.dataset.fns) script_of)
 
       nominal_there : slice_get passes (length placed.before) ≡ Some (record { result = x.booked; under = None })
       nominal_there =
@@ -161,7 +401,7 @@ module _ (s : SessionView) (is : IsSession s) where
       report_text : booking_text s.graph x f (ReportOn fs) ≡ flat_map (pass_lines s.dataset) (passes_of script_of x.booked)
       report_text =
           let numbers = covers_are s.dataset.fns s.dataset.columns script_of r x fs (ap (λ (l : List ResultAt). slice_get l r) (sym (ap graph_results is.graph)) ∙ its) report in
-          let flows = flows_are script_of s.dataset spans_of set_of whole passes sound f.piece.now stands (record { result = x.booked; under = None }) (length placed.before) nominal_there fs report s.dataset.columns s.dataset.fns x.covers numbers s.graph filters_are in
+          let flows = flows_are script_of s.dataset spans_of set_of whole passes sound f.piece.now stands (record { result = x.booked; under = None }) (length placed.before) nominal_there fs report s.dataset.columns s.dataset.fns x.covers numbers s.graph filters_same in
           ap (flow_lines x.booked.name) flows ∙ sym (ap (booking_lines s.dataset x.booked.name None) report) ∙ sym (append-nil (pass_lines s.dataset (record { result = x.booked; under = None })))
           ∙ ap (flat_map (pass_lines s.dataset)) (sym (report_pass script_of x.booked fs report))
 
@@ -196,9 +436,6 @@ module _ (s : SessionView) (is : IsSession s) (r : ℕ) where
 
   its_watch : (x : ResultAt) (t : Bool) → slice_get (graph_results s.graph) r ≡ Some x → option_map (λ (y : ResultAt). is_watched (history s.graph.script) y.booked.name) (slice_get (graph_results s.graph) r) ≡ Some t → is_watched (history s.graph.script) x.booked.name ≡ t
   its_watch x t at watched = same_some (sym (ap (option_map (λ (y : ResultAt). is_watched (history s.graph.script) y.booked.name)) at) ∙ watched)
-    where
-      same_some : {a b : Bool} → ◌≡◌ {A = Option Bool} (Some a) (Some b) → a ≡ b
-      same_some q = cc
 
   -- the lines that are put before those of the passes
   abbrev front_of : Course → ResultAt → List ℕ

@@ -1,20 +1,45 @@
--- The shares and the trails of slots that finished all clusters.
-use Rattle.std.proofs.Common.{◌≡◌, ℕ, zero, suc, ◌<◌, List, [], ◌∷◌, ◌++◌, length, map, Option, None, Some, refl, sym, ap, ap₂, ◌∙◌, subst, arith, flat_map, slice_get, slice_index_or}
-use Rattle.std.specs.List.{All, concat, sum_by}
-use Rattle.std.proofs.lemmas.List.Concat.{concat_is, length-flat_map}
-use Rattle.std.proofs.lemmas.List.Elements.{All-nil, All-cons, All-head, All-tail}
+-- The pieces, the shares and the trails of slots that finished all clusters.
+use Rattle.std.proofs.Common.{◌≡◌, ◌<◌, List, [], ◌∷◌, ◌++◌, length, get_or, sym, ap, ◌∙◌, subst, arith, append_assoc, append-nil, flat_map, ℕ, zero, suc, map, Option, None, Some, refl, ap₂, slice_get, slice_index_or}
+use Rattle.std.specs.List.{remove, All, concat, sum_by}
+use Rattle.std.proofs.lemmas.List.Elements.{All-tail, All-nil, All-cons, All-head}
+use Rattle.std.proofs.lemmas.List.Concat.{flat_map-append, concat_is, length-flat_map}
+use Rattle.loop_pieces.specs.{LoopPiece, HaveTrails, IsPass, PartialLine, StandsFor}
+use Rattle.slot_words.specs.{ShareSeen, AreNoted, BookSeen, HasSameBody, HaveAllTrails, HavePartialsOver, HaveSameBodies, many_in, noted_sets}
+use Rattle.event_loop.specs.declared.gather.Done.{Done}
+use Rattle.event_loop.specs.{AllAreGoing, ArePieces, IsGoing, IsPieceOf, share_or_none, shares_in, AreNotedPartials, CanFill, dones_of, finished_by, HasNoted, IsBookOf, IsDone, JobFacts, orders_of}
 use Rattle.std.proofs.lemmas.List.Sorted.{length_permutation}
-use Rattle.std.proofs.lemmas.List.Sums.{sum_by-cons}
+use Rattle.rdf_values.proofs.DrawCounts.{sum_by-map}
 use Rattle.rdf_values.specs.{below, DrawnBy, IsUnion}
 use Rattle.rdf_values.proofs.Below.{length-below}
 use Rattle.actions.specs.{Accumulator}
-use Rattle.loop_pieces.specs.{HaveTrails, IsPass, LoopPiece, PartialLine, StandsFor}
 use Rattle.merge_core.specs.{Stand}
 use Rattle.rdf_model.specs.declared.loop_facts.LoopFacts.{LoopFacts}
-use Rattle.slot_words.specs.{AreNoted, BookSeen, HasSameBody, HaveAllTrails, HavePartialsOver, HaveSameBodies, many_in, noted_sets, ShareSeen}
 use Rattle.slot_words.specs.Shares as book
-use Rattle.event_loop.specs.{AreNotedPartials, ArePieces, CanFill, dones_of, finished_by, HasNoted, IsBookOf, IsDone, IsPieceOf, JobFacts, orders_of, share_or_none, shares_in}
-use Rattle.event_loop.specs.declared.gather.Done.{Done}
+
+-- the first slots are pieces and shares, the others are left
+pub record AreMade (slots left : List Done) (pieces : List LoopPiece) (shares : List ShareSeen) : Type 0 where
+  pub made : List Done
+  pub all : slots ≡ made ++ left
+  pub pieces_of : ArePieces made pieces
+  pub shares_of : shares ≡ flat_map shares_in made
+  pub going : AllAreGoing left
+
+one_more : (ds : List Done) (ps : List LoopPiece) (d : Done) (p : LoopPiece) → ArePieces ds ps → IsPieceOf d.state p → ArePieces (ds ++ d ∷ []) (ps ++ p ∷ [])
+one_more [] [] d p h k = (k, tt)
+one_more [] (q ∷ qs) d p h k = elim h [ ]
+one_more (t ∷ ts) [] d p h k = elim h [ ]
+one_more (t ∷ ts) (q ∷ qs) d p h k = (h.0, one_more ts qs d p h.1 k)
+
+pub next_made : (slots left rest : List Done) (pieces now : List LoopPiece) (shares more : List ShareSeen) (d : Done) (p : LoopPiece)
+    → AreMade slots left pieces shares → 0 < length left → d ≡ get_or left 0 d → rest ≡ remove left 0 → more ≡ shares ++ share_or_none d.share → now ≡ pieces ++ p ∷ [] → IsPieceOf d.state p → AreMade slots rest now more
+next_made slots [] rest pieces now shares more d p m some is gone grown is_now k = absurd (omega arith)
+next_made slots (t ∷ ts) rest pieces now shares more d p m some is gone grown is_now k = record {
+  made = m.made ++ d ∷ [];
+  all = m.all ∙ ap (λ (l : List Done). m.made ++ l) (ap (λ (h : Done). h ∷ ts) (sym is) ∙ ap (λ (l : List Done). d ∷ l) (sym gone)) ∙ sym (append_assoc m.made (d ∷ []) rest);
+  pieces_of = subst (ArePieces (m.made ++ d ∷ [])) (sym is_now) (one_more m.made pieces d p m.pieces_of k);
+  shares_of = grown ∙ ap (λ (l : List ShareSeen). l ++ share_or_none d.share) m.shares_of ∙ ap (λ (l : List ShareSeen). flat_map shares_in m.made ++ l) (sym (append-nil (share_or_none d.share))) ∙ sym (flat_map-append shares_in m.made (d ∷ []));
+  going = subst AllAreGoing (sym gone) (All-tail IsGoing t ts m.going);
+}
 
 abbrev numbers_in : ShareSeen → List ℕ
 numbers_in s = s.numbers
@@ -46,13 +71,7 @@ module _ (b : BookSeen) (job : JobFacts) where
       }
 
 sum_lengths : (xs ys : List (List ℕ)) → map length xs ≡ map length ys → sum_by length xs ≡ sum_by length ys
-sum_lengths [] [] e = refl
-sum_lengths [] (y ∷ ys) e = absurd (cc)
-sum_lengths (x ∷ xs) [] e = absurd (cc)
-sum_lengths (x ∷ xs) (y ∷ ys) e =
-    let first : length x ≡ length y = cc in
-    let rest : map length xs ≡ map length ys = cc in
-    omega (arith, sum_by-cons length x xs, sum_by-cons length y ys, sum_lengths xs ys rest)
+sum_lengths xs ys e = sym (sum_by-map (λ n. n) length xs) ∙ ap (sum_by (λ n. n)) e ∙ sum_by-map (λ n. n) length ys
 
 -- as many as there are clusters
 many_finished : (dones : List (List ℕ)) (n : ℕ) → IsUnion dones (below n) → sum_by length dones ≡ n

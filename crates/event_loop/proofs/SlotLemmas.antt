@@ -1,18 +1,42 @@
--- A slot before and after a cluster.
-use Rattle.std.proofs.Common.{◌≡◌, ℕ, ◌+◌, ◌<◌, ◌≤◌, List, [], ◌∷◌, ◌++◌, length, map, Option, Some, refl, sym, ap, ◌∙◌, subst, arith, slice_get, All}
+-- A slot that finished no cluster, and one before and after a cluster.
+use Rattle.std.proofs.Common.{◌≡◌, ℕ, ◌<◌, ◌≤◌, List, [], ◌∷◌, ◌++◌, Option, None, Some, ap, subst, arith, slice_get, length, length-append, sym, ◌+◌, map, refl, ◌∙◌, All, replicate, unwrap_or}
+use Rattle.rdf_values.specs.{Fault, times, below, AnswerIn64Bits, Booked, history, named_before, Pass, StatementsHaveWords}
+use Rattle.rdf_values.proofs.DrawCounts.{times_push}
+use Rattle.event_loop.specs.{AreSound, IsSlotOf, job_facts, Phase, SlotView, IsFreshSlot, IsOfPasses}
 use Rattle.std.specs.List.Sorted.{IsStrictlyIncreasing}
+use Rattle.std.proofs.lemmas.Grind.{common_steps}
+use Rattle.std.proofs.lemmas.List.Kept.{AllPairs-from_increasing}
 use Rattle.std.proofs.lemmas.List.{length-map, map-append}
 use Rattle.std.proofs.lemmas.List.Elements.{All-cons, All-contains, All-head, All-nil, All-tail, All-weaker, Contains-push}
 use Rattle.std.specs.declared.snapshot.Snapshot.{Snapshot}
-use Rattle.lemmas.proofs.{mapped_at}
+use Rattle.lemmas.proofs.{mapped_at, something_at}
 use Rattle.rdf_values.proofs.Below.{length-below, slice_get-below}
 use Rattle.rdf_values.proofs.UnionLemmas.{Rises, rises_from}
-use Rattle.rdf_values.specs.{below, Fault}
 use Rattle.block_passes.specs.{at_end, CountsVectors, IsStateOf}
-use Rattle.loop_keys.specs.{facts_in, job_graph, job_spans, JobView, passes_in}
-use Rattle.cluster_tally.specs.{at_begin, Holds, IsAtEnd}
-use Rattle.loop_pieces.specs.{cluster_fault}
-use Rattle.event_loop.specs.{IsSlotOf, job_facts, Phase, SlotView}
+use Rattle.loop_keys.specs.{facts_in, job_graph, job_spans, JobView, passes_in, IsJob}
+use Rattle.cluster_tally.specs.{at_begin, Holds, IsAtEnd, IsFresh}
+use Rattle.loop_pieces.specs.{cluster_fault, nothing, watched_places}
+use Rattle.rdf_model.specs.{IsLoopFacts, kinds_in, loop_facts, loop_passes, loop_results}
+use Rattle.rdf_model.proofs.Limits.{cuts_are_in_order, loops_meet_limits}
+use Rattle.graph_numbers.specs.{graph_loops, pass_at}
+use Rattle.graph_numbers.proofs.Extending.{itself}
+use Rattle.graph_numbers.proofs.Looping.{loops_are}
+use Rattle.loop_keys.proofs.EntryLaws.{all_taken}
+use Rattle.cluster_tally.proofs.Stagings.{fresh_holds}
+use Rattle.event_loop.specs.declared.progress.Phase.TheVariants.{Going}
+
+-- one more cluster without a fault
+pub sound_more : (faults : List (Option Fault)) (done more : List ℕ) (n : ℕ) → AreSound faults done → slice_get faults n ≡ Some None → more ≡ done ++ n ∷ [] → AreSound faults more
+sound_more faults done more n sound its is = λ k some. grind (arith, common_steps, sound k, ap (times k) is, times_push k done n)
+
+-- all before the last are below it
+pub below_last : (xs : List ℕ) (n : ℕ) → IsStrictlyIncreasing (xs ++ n ∷ []) → All (λ y. y < n) xs
+below_last xs n up k d lt =
+    let pairs = AllPairs-from_increasing (xs ++ n ∷ []) up k (length xs) d lt (omega (arith, length-append xs (n ∷ []))) in
+    grind (arith, common_steps, pairs)
+
+pub below_drawn : (xs done drawn : List ℕ) (n : ℕ) → drawn ≡ xs ++ n ∷ [] → done ≡ xs → IsStrictlyIncreasing drawn → All (λ y. y < n) done
+below_drawn xs done drawn n is same up = subst (All (λ y. y < n)) (sym same) (below_last xs n (subst IsStrictlyIncreasing is up))
 
 -- there is a number above all of them
 pub one_above : (xs : List ℕ) → (c : ℕ) × All (λ d. d < c) xs
@@ -89,3 +113,36 @@ module _ (j : JobView) (s : SlotView) (h : IsSlotOf (job_facts j) s) where
 
 pub is_at_end : (j : JobView) (done : List ℕ) (cluster : ℕ) → IsAtEnd (facts_in j) (at_end (facts_in j) done cluster) cluster
 is_at_end j done cluster = record { at_cluster = refl; entries = refl; passes = refl; filters = refl }
+
+module _ (j : JobView) (job : IsJob j) where
+  loop_there : (results : List Booked) × (slice_get (loop_results (history j.script)) j.number ≡ Some results)
+  loop_there =
+      let all = loops_are (history j.script) (history j.script) itself in
+      let many = sym (length-map (graph_loops (job_graph j)) (map (pass_at (history j.script)))) ∙ ap length all
+      ∙ length-map (loop_results (history j.script)) (λ results. map (λ (p : Pass). Some p) (loop_passes (history j.script) results)) in
+      something_at (loop_results (history j.script)) j.number (let lt = job.loop in omega (arith, lt, many))
+
+  pub is_loop_facts : AnswerIn64Bits j.dataset.fns → StatementsHaveWords (history j.script) → IsLoopFacts (facts_in j)
+  is_loop_facts answers words =
+      let one = loop_there in
+      subst (λ ps. IsLoopFacts (loop_facts j.dataset (named_before (history j.script)) (job_spans j) ps)) (ap (λ o. loop_passes (history j.script) (unwrap_or o [])) (sym one.1))
+      (loops_meet_limits j.dataset j.script (named_before (history j.script)) (job_spans j) j.number one.0 answers words job.table.fit job.table.few (cuts_are_in_order j.cuts.entries j.cuts.size j.cuts.marks) one.1)
+
+  pub begun : AnswerIn64Bits j.dataset.fns → StatementsHaveWords (history j.script) → (s : SlotView) → IsStateOf j s.blocks → CountsVectors (job_graph j) s.vectors × (s.vectors < 1099511627776) → IsOfPasses j (length (passes_in j)) s.tally
+      → s.tally.flow ≡ replicate (length (named_before (history j.script))) nothing → length (job_spans j) ≤ s.room → s.done ≡ [] → s.phase ≡ Going
+      → IsFreshSlot (job_facts j) s
+  begun answers words s state vectors fresh flow room none going =
+      let all = all_taken (passes_in j) in
+      let of_all = subst (λ ps. IsFresh (kinds_in ps) (watched_places (history j.script) ps) s.tally) all fresh in
+      record {
+        slot = record {
+          blocks = state;
+          vectors = vectors.0;
+          few = vectors.1;
+          room = (let m = length-map (below (length (job_spans j))) (cluster_fault j.dataset (job_spans j) (passes_in j)) in omega (arith, room, m, length-below (length (job_spans j))));
+          holds = λ on c high. subst (λ d. Holds (facts_in j) (job_facts j).watched (at_begin d c) s.tally) (sym none)
+              (fresh_holds (facts_in j) (job_facts j).watched s.tally c (is_loop_facts answers words) of_all flow);
+        };
+        none = none;
+        going = going;
+      }

@@ -1,13 +1,14 @@
 -- Each loop can note some chain of sets.
-use Rattle.std.proofs.Common.{◌≡◌, ℕ, ◌+◌, ◌*◌, ◌/◌, ◌%◌, ◌<◌, ◌≤◌, List, map, length, get_or, Some, sym, ◌∙◌, ap, subst, arith, All, Contains, option_map, slice_get}
+use Rattle.std.proofs.Common.{◌≡◌, ℕ, ◌+◌, ◌*◌, ◌/◌, ◌%◌, ◌<◌, ◌≤◌, List, map, length, Some, sym, ◌∙◌, ap, subst, arith, All, Contains, option_map, slice_get}
 use Rattle.std.specs.List.Sorted.{IsStrictlyIncreasing}
 use Rattle.std.proofs.lemmas.List.{length-map}
+use Rattle.std.proofs.lemmas.List.Elements.{All-weaker}
 use Rattle.std.proofs.lemmas.Option.{get_or_from_slice_get, slice_get-map, slice_get_within}
 use Rattle.lemmas.proofs.{same_some}
 use native.Mathlib.Nat.{div-add-mod', mul-le-mul_right}
 use Rattle.rdf_values.specs.{below}
 use Rattle.rdf_values.proofs.Below.{length-below, slice_get-below}
-use Rattle.rdf_values.proofs.UnionLemmas.{below_rises}
+use Rattle.rdf_values.proofs.UnionLemmas.{all_below, below_rises}
 use Rattle.rdf_model.specs.{IsChain}
 
 -- the first so many clusters
@@ -27,18 +28,11 @@ its_set c g j set at =
     (lt, same_some (sym (ap (option_map (first_clusters g)) (slice_get-below (c / g) j lt)) ∙ sym (slice_get-map (first_clusters g) (below (c / g)) j) ∙ at))
 
 below_more : (m n : ℕ) → m ≤ n → All (λ x. x < n) (below m)
-below_more m n le k d lt =
-    let few = length-below m in
-    let inside : k < m = omega (arith, lt, few) in
-    let is : get_or (below m) k d ≡ k = get_or_from_slice_get (below m) k k d (slice_get-below m k inside) in
-    subst (λ (x : ℕ). x < n) (sym is) (omega (arith, inside, le))
+below_more m n le = All-weaker (λ x. x < m) (λ x. x < n) (λ x lt. omega arith) (below m) (all_below m)
 
 below_within : (m n : ℕ) → m ≤ n → All (Contains (below n)) (below m)
-below_within m n le k d lt =
-    let few = length-below m in let many = length-below n in
-    let inside : k < m = omega (arith, lt, few) in
-    let is : get_or (below m) k d ≡ k = get_or_from_slice_get (below m) k k d (slice_get-below m k inside) in
-    subst (Contains (below n)) (sym is) (k, omega (arith, inside, le, many), get_or_from_slice_get (below n) k k k (slice_get-below n k (omega (arith, inside, le))))
+below_within m n le = All-weaker (λ x. x < m) (Contains (below n))
+    (λ x lt. (x, omega (arith, length-below n), get_or_from_slice_get (below n) x x x (slice_get-below n x (omega arith)))) (below m) (all_below m)
 
 pub first_sets_are_a_chain : (c g : ℕ) → IsChain c g (first_sets c g)
 first_sets_are_a_chain c g = record {

@@ -1,17 +1,74 @@
--- What is known of a whole loop.
-use Rattle.std.proofs.Common.{◌≡◌, ℕ, ◌<◌, ◌≤◌, List, length, Option, None, Some, sym, ◌∙◌, subst, arith}
+-- What the slots of a loop begin with, and what is known of a whole loop.
+use Rattle.std.proofs.Common.{◌≡◌, ℕ, ◌+◌, List, [], ◌∷◌, ◌++◌, length, Option, None, Some, refl, sym, ap, ◌∙◌, subst, arith, append-nil, length-append, MatchOption, option_to_list, ◌<◌, ◌≤◌}
+use Rattle.std.specs.List.{All, range_with_len}
 use Rattle.std.proofs.lemmas.List.{length-map}
+use Rattle.std.proofs.lemmas.List.FromFn.{length-range_with_len}
+use Rattle.std.proofs.lemmas.List.Elements.{All-map, All-nil, All-push, All-pop}
+use Rattle.slot_words.specs.{BookSeen, fresh_share, fresh_shares, IsReady, SeatSeen, ShareSeen, ClaimsSeen}
+use Rattle.event_loop.specs.declared.workers.Shared.{Shared}
+use Rattle.event_loop.specs.declared.workers.Slot.{Slot}
+use Rattle.event_loop.specs.{AreBlank, HasNoted, IsBlank, IsFresh, AreFacts, AreFilled, CanFill, dones_of, FilledLoop, HasRoom, IsBookOf, IsFilled, IsOpened, IsOutcome, job_facts, JobFacts, orders_of}
 use Rattle.rdf_values.specs.{below, Fault, first_in, Lead}
 use Rattle.rdf_values.proofs.Below.{length-below}
 use Rattle.rdf_values.proofs.Leading.{cuts_lead}
 use Rattle.columns.proofs.Leading.{few_ranges}
-use Rattle.slot_words.specs.{BookSeen, ClaimsSeen}
 use Rattle.loop_keys.specs.{IsJob, job_spans, JobView, passes_in}
 use Rattle.loop_pieces.specs.{cluster_fault}
 use Rattle.loop_pieces.proofs.ClusterFaults.{lower_clusters_fault_first}
-use Rattle.event_loop.specs.{AreFacts, AreFilled, CanFill, dones_of, FilledLoop, HasRoom, IsBookOf, IsFilled, IsOpened, IsOutcome, job_facts, JobFacts, orders_of}
 use Rattle.event_loop.specs.declared.gather.Done.{Done}
 use Rattle.event_loop.specs.declared.gather.Outcome.{Outcome}
+
+many_shares : (b : BookSeen) (n : ℕ) → length (fresh_shares b n) ≡ n
+many_shares b n = length-map (range_with_len 0 n) (fresh_share b) ∙ length-range_with_len 0 n
+
+pub all_blank : (b : BookSeen) (n : ℕ) (shares : List ShareSeen) → shares ≡ fresh_shares b n → AreBlank (Some b) n shares
+all_blank b n shares is = (ap length is ∙ many_shares b n, subst (All (IsBlank b)) (sym is) (All-map (IsBlank b) (fresh_share b) (range_with_len 0 n) (λ k d lt. record { of = (refl, refl); unnoted = refl })))
+
+-- nothing comes of an empty vector
+pub none_popped : {S : Type 0} (r : Option S) (n m : ℕ) → MatchOption r ((n ≡ 0) × (m ≡ 0)) (λ _. m + 1 ≡ n) → r ≡ None → n ≡ 0
+none_popped None n m popped e = popped.0
+none_popped (Some s) n m popped e = absurd (cc)
+
+-- the next share, where there is a book
+pub next_share : (b : Option BookSeen) (n : ℕ) (old new : List ShareSeen) (r : Option ShareSeen)
+    → AreBlank b (n + 1) old → old ≡ new ++ option_to_list r → (r ≡ None → length old ≡ 0) → HasNoted b 0 r × AreBlank b n new
+next_share None n old new None blank popped none = (tt, sym (append-nil new) ∙ sym popped ∙ blank)
+next_share None n old new (Some s) blank popped some = absurd (none new (sym popped ∙ blank))
+  where
+    none : (xs : List ShareSeen) → xs ++ s ∷ [] ≡ [] → ⊥
+    none [] e = absurd (cc)
+    none (x ∷ xs) e = absurd (cc)
+next_share (Some b) n old new None blank popped none = (let e = none refl in let m = blank.0 in absurd (omega arith))
+next_share (Some b) n old new (Some s) blank popped some =
+    let all = All-pop (IsBlank b) old new (Some s) popped blank.1 in
+    let m = blank.0 in
+    ((all.1.of, ap length all.1.unnoted), (omega (arith, ap length popped, length-append new (s ∷ [])), all.0))
+
+-- what is left, and what is seated
+pub record AreSeated (shared : Shared) (seats : List SeatSeen) (shares : List ShareSeen) (slots : List Slot) : Type 0 where
+  pub ready : All (IsReady shared.claims) seats
+  pub blank : AreBlank shared.book (length seats) shares
+  pub done : All (IsFresh shared) slots
+
+pub none_seated : (shared : Shared) (seats : List SeatSeen) (shares : List ShareSeen) → All (IsReady shared.claims) seats → AreBlank shared.book (length seats) shares → AreSeated shared seats shares []
+none_seated shared seats shares ready blank = record { ready = ready; blank = blank; done = All-nil (IsFresh shared) }
+
+pub next_seated : (shared : Shared) (seats seats' : List SeatSeen) (shares shares' : List ShareSeen) (slots slots' : List Slot) (seat : SeatSeen) (share : Option ShareSeen) (slot : Slot)
+    → AreSeated shared seats shares slots → seats ≡ seats' ++ seat ∷ [] → shares ≡ shares' ++ option_to_list share → (share ≡ None → length shares ≡ 0)
+    → slots' ≡ slots ++ slot ∷ [] → slot.seat ≡ seat → slot.share ≡ share
+    → AreSeated shared seats' shares' slots'
+next_seated shared seats seats' shares shares' slots slots' seat share slot h seats_are shares_are none slots_are seat_is share_is =
+    let ready = All-pop (IsReady shared.claims) seats seats' (Some seat) seats_are h.ready in
+    let many : length seats ≡ length seats' + 1 = omega (arith, ap length seats_are, length-append seats' (seat ∷ [])) in
+    let noted = next_share shared.book (length seats') shares shares' share (subst (λ (n : ℕ). AreBlank shared.book n shares) many h.blank) shares_are none in
+    record {
+      ready = ready.0;
+      blank = noted.1;
+      done = subst (All (IsFresh shared)) (sym slots_are) (All-push (IsFresh shared) slots slot h.done record {
+        seat = subst (IsReady shared.claims) (sym seat_is) ready.1;
+        share = subst (HasNoted shared.book 0) (sym share_is) noted.0;
+      });
+    }
 
 -- no more clusters than entries
 pub few_clusters : (j : JobView) (n : ℕ) → n ≡ length (job_spans j) → j.cuts.entries ≤ 1000000 → n ≤ 1000000

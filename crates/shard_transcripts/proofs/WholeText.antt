@@ -15,7 +15,8 @@ use Rattle.event_loop.proofs.Accesses.{none_more, one_loop_more}
 use Rattle.event_loop.proofs.LoopResults.{many}
 use Rattle.event_loop.proofs.LoopResults as filling
 use Rattle.event_loop.proofs.Found.{in_turn}
-use Rattle.event_loop.proofs.Printed.{place_at, printed_has_loop}
+use Rattle.event_loop.proofs.Printed.{printed_has_loop}
+use Rattle.graph.proofs.Listing.{place_at}
 use Rattle.shard_lines.specs.{ShardLine}
 use Rattle.shard_files.specs.{fault_or_lines, ShardLoop, up_to_fault}
 use Rattle.shard_files.specs.declared.shard_loop.ShardLoop.TheVariants.{Whole, Faulted}

@@ -1,5 +1,5 @@
 use Rattle.std.proofs.Common.{rules}
-use Rattle.event_loop.proofs.Pieces.{next_made}
+use Rattle.event_loop.proofs.Shares.{next_made}
 use Rattle.event_loop.proofs.filling.pieces_of.Goals as goal
 
 pub loop-left-preserved : goal.loop-left-preserved

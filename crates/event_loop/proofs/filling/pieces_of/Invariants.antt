@@ -1,5 +1,5 @@
 use Rattle.std.proofs.Common.{vec_len}
-use Rattle.event_loop.proofs.Pieces.{AreMade}
+use Rattle.event_loop.proofs.Shares.{AreMade}
 use Rattle.event_loop.proofs.filling.pieces_of.Given as goal
 
 abbrev pub invariant-loop-left : goal.invariant-loop-left

@@ -1,6 +1,6 @@
 use Rattle.std.proofs.Common.{arith}
 use Rattle.std.proofs.lemmas.Option.{slice_get-get_or}
-use Rattle.event_loop.proofs.Decoding.{next_counts}
+use Rattle.event_loop.proofs.Found.{next_counts}
 use Rattle.event_loop.proofs.place.counts_of.Goals as goal
 
 pub loop-pass-preserved : goal.loop-pass-preserved

@@ -1,5 +1,5 @@
 use Rattle.std.proofs.Common.{Some, sym, ap, ◌∙◌}
-use Rattle.event_loop.proofs.Decoding.{unwatched, varied_unwatched, watched}
+use Rattle.event_loop.proofs.Found.{unwatched, varied_unwatched, watched}
 use Rattle.event_loop.proofs.place.watched_accumulators.Goals as goal
 
 pub returns-in-Some-clause-value : goal.returns-in-Some-clause-value

@@ -1,7 +1,7 @@
 use Rattle.std.proofs.Common.{◌<◌, length, refl, sym, ap, subst, ◌∙◌, slice_get}
 use Rattle.graph_numbers.specs.{graph_loops, GraphView}
 use Rattle.event_loop.specs.{session_of}
-use Rattle.event_loop.proofs.Turning.{fault_loop, fault_pass, goes_on, row_filled, row_within}
+use Rattle.event_loop.proofs.Courses.{fault_loop, fault_pass, goes_on, row_filled, row_within}
 use Rattle.event_loop.proofs.prints.put_print.Goals as goal
 
 pub put_result-requires-clause-result : goal.put_result-requires-clause-result

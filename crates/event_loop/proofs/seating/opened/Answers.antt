@@ -1,4 +1,4 @@
-use Rattle.event_loop.proofs.Fresh.{all_blank}
+use Rattle.event_loop.proofs.Whole.{all_blank}
 use Rattle.event_loop.proofs.seating.opened.Goals as goal
 
 pub returns : goal.returns

@@ -1,7 +1,7 @@
 use Rattle.std.proofs.Common.{[], ◌∷◌, length, length-append, ap, refl, arith, subst, sym}
 use Rattle.std.specs.List.{All}
 use Rattle.event_loop.specs.{AreBlank}
-use Rattle.event_loop.proofs.Fresh.{AreSeated, none_popped, next_seated, none_seated}
+use Rattle.event_loop.proofs.Whole.{AreSeated, none_popped, next_seated, none_seated}
 use Rattle.event_loop.proofs.seating.seated.Goals as goal
 use Rattle.slot_words.specs.{IsReady}
 

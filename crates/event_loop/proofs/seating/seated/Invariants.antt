@@ -2,7 +2,7 @@ use Rattle.std.proofs.Common.{◌≡◌, ◌+◌, length, vec_len}
 use Rattle.std.specs.List.{All}
 use Rattle.event_loop.specs.{AreBlank}
 use Rattle.event_loop.specs.declared.workers.Shared.{Shared}
-use Rattle.event_loop.proofs.Fresh.{AreSeated}
+use Rattle.event_loop.proofs.Whole.{AreSeated}
 use Rattle.event_loop.proofs.seating.seated.Given as goal
 use Rattle.slot_words.specs.{IsReady}
 

@@ -3,8 +3,7 @@ use Rattle.slot_words.specs.{SeatSeen}
 use Rattle.slot_words.specs.Seats.{IsOf}
 use Rattle.loop_keys.specs.{job_of}
 use Rattle.event_loop.specs.{AreSound, HasNoted, job_facts}
-use Rattle.event_loop.proofs.Growing.{sound_more}
-use Rattle.event_loop.proofs.Rising.{below_drawn}
+use Rattle.event_loop.proofs.SlotLemmas.{sound_more, below_drawn}
 use Rattle.event_loop.proofs.workers.work.Goals as goal
 
 pub process-requires-clause-above : goal.process-requires-clause-above

@@ -1,7 +1,7 @@
 use Rattle.std.proofs.Common.{refl, arith, length}
 use Rattle.std.proofs.lemmas.Option.{slice_get_read}
 use Rattle.event_loop.specs.{session_of}
-use Rattle.event_loop.proofs.Finding.{completed_at, result_is}
+use Rattle.event_loop.proofs.Accesses.{completed_at, result_is}
 use Rattle.event_loop.proofs.session.Session.filled.Goals as goal
 
 pub index-requires : goal.index-requires

@@ -1,6 +1,6 @@
 use Rattle.std.proofs.Common.{◌<◌, length, arith}
 use Rattle.event_loop.specs.{session_of}
-use Rattle.event_loop.proofs.Finding.{found, loop_few, loop_there, none_left, one_more}
+use Rattle.event_loop.proofs.Accesses.{found, loop_few, loop_there, none_left, one_more}
 use Rattle.event_loop.proofs.session.Session.find.Goals as goal
 
 pub loop-l-init : goal.loop-l-init

@@ -1,6 +1,6 @@
 use Rattle.std.proofs.Common.{inl}
 use Rattle.event_loop.specs.{session_of}
-use Rattle.event_loop.proofs.Finding.{completed_at, lines_there_at, partials_at}
+use Rattle.event_loop.proofs.Accesses.{completed_at, lines_there_at, partials_at}
 use Rattle.event_loop.proofs.session.Session.partials.Goals as goal
 
 pub lines_at-requires-clause-its_loop : goal.lines_at-requires-clause-its_loop

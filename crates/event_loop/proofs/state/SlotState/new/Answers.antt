@@ -7,7 +7,7 @@ use Rattle.loop_keys.specs.{job_of}
 use Rattle.graph_numbers.specs.{GraphView}
 use Rattle.event_loop.specs.contracts.state.SlotState.{the_view}
 use Rattle.event_loop.specs.{Phase}
-use Rattle.event_loop.proofs.Beginning.{begun}
+use Rattle.event_loop.proofs.SlotLemmas.{begun}
 use Rattle.event_loop.proofs.state.SlotState.new.Goals as goal
 
 pub returns : goal.returns
