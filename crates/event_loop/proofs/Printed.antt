@@ -10,7 +10,7 @@ use Rattle.rdf_model.proofs.Accepted.{names_equal}
 use Rattle.graph_numbers.proofs.Listed.{by_test}
 use Rattle.graph.specs.{AreNamedInTurn, filled_count}
 use Rattle.graph.proofs.Filled.{filled_first}
-use Rattle.graph.proofs.Listing.{place_kept}
+use Rattle.rdf_model.proofs.Turns.{place_within as place_kept}
 use Rattle.event_loop.specs.{fills, loop_filling}
 
 -- ---- places
