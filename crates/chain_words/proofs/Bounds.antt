@@ -1,9 +1,9 @@
 -- The numbers of a command are within their limits.
-use Rattle.std.proofs.Common.{◌≡◌, ◌≤◌, ◌<◌, ℕ, ℤ, pos, negsuc, Bool, true, false, ◌&&◌, ◌==◌, leb, List, [], ◌∷◌, ◌++◌, length, nat_lt, Option, None, Some, if◌then◌else◌, codes, refl, arith, subst, unwrap_or}
+use Rattle.std.proofs.Common.{◌≡◌, ◌≤◌, ◌<◌, ℕ, ℤ, pos, negsuc, Bool, true, false, not, ◌&&◌, ◌==◌, leb, List, [], ◌∷◌, ◌++◌, length, drop, nat_lt, Option, None, Some, if◌then◌else◌, codes, refl, arith, subst, unwrap_or}
 use Rattle.std.proofs.lemmas.Bool.Decides.{nat_tests}
 use Rattle.rdf_values.specs.{integer_of, same}
 use Rattle.command_words.specs.{within}
-use Rattle.chain_words.specs.{after, AreSettings, AreWithinLimits, asked_of, begins, ChainCommand, command_by, command_of, has_options, is_over, is_plain, join_of, joined_word, map_of, map_with, named, no_words, number_in, once, option_word, print_of, print_with, run_of, settings_of, with_cluster, with_slots, word_read, words_read}
+use Rattle.chain_words.specs.{after, any_word, AreSettings, AreWithinLimits, asked_of, awaiting, begins, ChainCommand, cluster_by, command_by, command_of, has_options, is_over, is_plain, join_of, joined_word, map_of, map_with, named, no_words, number_in, once, option_word, print_of, print_with, run_of, settings_of, slots_by, with_cluster, with_slots, word_read, words_read}
 use Rattle.chain_words.specs.declared.command.ChainCommand.TheVariants.{Run, Map, Join, Print}
 use Rattle.chain_words.specs.declared.command.Settings.{Settings}
 use Rattle.chain_words.specs.declared.reading.Awaits.{Awaits}

@@ -2,7 +2,7 @@
 use Rattle.std.proofs.Common.{◌≡◌, [], ◌∷◌, Some, None, refl, codes}
 use Rattle.rdf_values.specs.{integer_of, magnitude_of}
 use Rattle.chain_words.specs.{asked_of}
-use Rattle.chain_words.specs.declared.command.ChainCommand.TheVariants.{Run, Map, Print}
+use Rattle.chain_words.specs.declared.command.ChainCommand.TheVariants.{Run, Map, Join, Print}
 
 pub tables_in_order : asked_of (codes "run" ∷ codes "s" ∷ codes "b" ∷ codes "a" ∷ []) ≡ Some (Run (record { script = codes "s"; tables = codes "b" ∷ codes "a" ∷ []; settings = record { slots = 1; cluster = 10000 } }))
 tables_in_order = refl

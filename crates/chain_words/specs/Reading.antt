@@ -1,5 +1,5 @@
 -- Reading the words behind the command: names, and options that are set once.
-use Rattle.std.specs.Prelude.{ℕ, Bool, true, not, List, [], ◌∷◌, ◌++◌, Option, Some, None, length, take, if◌then◌else◌, ◌==◌, codes}
+use Rattle.std.specs.Prelude.{ℕ, Bool, true, not, drop, List, [], ◌∷◌, ◌++◌, Option, Some, None, length, take, if◌then◌else◌, ◌==◌, codes}
 use Rattle.rdf_values.specs.{integer_of, same}
 use Rattle.command_words.specs.{within}
 use Rattle.chain_words.specs.declared.reading.Awaits.{Awaits}

@@ -1,13 +1,13 @@
 -- What some words ask for, computed.
 use Prim.Native.String.{String}
-use Rattle.std.proofs.Common.{List, [], ◌∷◌, Option, None, Some, refl, codes, map, ℕ, ℤ}
+use Rattle.std.proofs.Common.{List, [], ◌∷◌, Option, None, Some, refl, codes, map, ℕ, ℤ, pos, negsuc}
 use Rattle.clap.specs.Words.{fault_of}
 use Rattle.clap.specs.declared.error.kind.ErrorKind.TheVariants as kind
 use Rattle.clap.proofs.OnLiterals.{clap_on_literals}
 use Rattle.rdf_values.specs.{integer_of, is_name, magnitude_of}
 use Rattle.rdf_values.proofs.Examples.{AreDue}
 use Rattle.command_words.specs.{asked_in, asked_of, Command, Input, input_of, is_taken, number_of, rdf_command}
-use Rattle.command_words.specs.declared.command.Input.TheVariants.{Files}
+use Rattle.command_words.specs.declared.command.Input.TheVariants.{Files, Generated}
 
 -- an example: what some words give, and what is due; the first argument says what it shows
 abbrev shown : {A : Type 0} → String → (List (List ℕ) → A) → List String → A → A × A
