@@ -167,11 +167,11 @@ module _ (j : JobView) (n : ℕ) (m : NumberedPass) (its : numbered_in j n ≡ S
   abbrev pub its_result : ResultAt
   its_result = (result_there j n m its).0
 
-  pub result_is : slice_get (graph_results (job_graph j)) m.result ≡ Some its_result
-  result_is = (result_there j n m its).1
+  pub its_result_is : slice_get (graph_results (job_graph j)) m.result ≡ Some its_result
+  its_result_is = (result_there j n m its).1
 
   pub its_pass : slice_get (passes_in j) n ≡ Some (record { result = its_result.booked; under = graph_under (job_graph j) m.variation })
-  its_pass = pass_of j n m its its_result result_is
+  its_pass = pass_of j n m its its_result its_result_is
 
   pub result_within : (g : GraphView) → g ≡ job_graph j → m.result < length (graph_results g)
   result_within g same = let lt = result_inside j n m its in let e = ap (λ (h : GraphView). length (graph_results h)) same in omega (arith, lt, e)
@@ -179,7 +179,7 @@ module _ (j : JobView) (n : ℕ) (m : NumberedPass) (its : numbered_in j n ≡ S
   booked_is : slice_get (bookings (history j.script)) m.result ≡ Some its_result.booked
   booked_is =
       ap (λ bs. slice_get bs m.result) (sym (booked_are j.dataset.columns (fn_names j.dataset.fns) (history j.script)))
-      ∙ mapped_at (λ (x : ResultAt). x.booked) (graph_results (job_graph j)) m.result its_result result_is
+      ∙ mapped_at (λ (x : ResultAt). x.booked) (graph_results (job_graph j)) m.result its_result its_result_is
 
   -- the pass is the nominal one of a watched result
   pub flag_is : (p : Pass) → slice_get (passes_in j) n ≡ Some p → m.variation ≡ None → (w : Bool) (g : GraphView) → g ≡ job_graph j
@@ -188,7 +188,7 @@ module _ (j : JobView) (n : ℕ) (m : NumberedPass) (its : numbered_in j n ≡ S
       let is = ap (λ (h : GraphView). option_map (λ (x : ResultAt). is_watched (history h.script) x.booked.name) (slice_get (graph_results h) m.result)) (sym of) ∙ at in
       let on : is_none m.variation ≡ true = ap is_none nominal in
       let same : record { result = its_result.booked; under = graph_under (job_graph j) m.variation } ≡ p = same_Some _ p (sym its_pass ∙ here) in
-      let told : is_watched (history j.script) its_result.booked.name ≡ w = same_Some _ w (sym (ap (option_map (λ (x : ResultAt). is_watched (history j.script) x.booked.name)) result_is) ∙ is) in
+      let told : is_watched (history j.script) its_result.booked.name ≡ w = same_Some _ w (sym (ap (option_map (λ (x : ResultAt). is_watched (history j.script) x.booked.name)) its_result_is) ∙ is) in
       ap (λ b. b && w) (sym on) ∙ ap₂ (λ a b. a && b) (sym under_same) (sym told) ∙ ap (is_watched_pass (history j.script)) same
 
   pub not_nominal : (p : Pass) (v : ℕ) → slice_get (passes_in j) n ≡ Some p → m.variation ≡ Some v → is_watched_pass (history j.script) p ≡ false
@@ -200,7 +200,7 @@ module _ (j : JobView) (n : ℕ) (m : NumberedPass) (its : numbered_in j n ≡ S
 
   module _ (kind : ResultKind) (g : GraphView) (same : g ≡ job_graph j) (is : option_map (λ (x : ResultAt). kind_of_booking x.booked.booking) (slice_get (graph_results g) m.result) ≡ Some kind) where
     kind_is : kind_of_booking its_result.booked.booking ≡ kind
-    kind_is = same_Some _ kind (sym (ap (option_map (λ (x : ResultAt). kind_of_booking x.booked.booking)) result_is)
+    kind_is = same_Some _ kind (sym (ap (option_map (λ (x : ResultAt). kind_of_booking x.booked.booking)) its_result_is)
         ∙ ap (λ (h : GraphView). option_map (λ (x : ResultAt). kind_of_booking x.booked.booking) (slice_get (graph_results h) m.result)) (sym same) ∙ is)
 
     pub of_action : (k : ActionKind) → kind ≡ ResultKind.Action k → (at : Path) × (its_result.booked.booking ≡ ActionAt k at)
@@ -222,8 +222,8 @@ module _ (j : JobView) (n : ℕ) (m : NumberedPass) (its : numbered_in j n ≡ S
         let b = of_action k e in
         has_edges (fn_names j.dataset.fns) (scope_of j.dataset.columns) (history j.script) (accepted_of j job) (all_short j.script job.graph.bookable) m.result its_result.booked k b.0 booked_is b.1
 
-    pub can_watch : (job : IsJob j) (k : ActionKind) → kind ≡ ResultKind.Action k → is_watched_pass (history j.script) (record { result = its_result.booked; under = graph_under (job_graph j) m.variation }) ≡ true → CanWatch k
-    can_watch job k e on =
+    pub may_watch : (job : IsJob j) (k : ActionKind) → kind ≡ ResultKind.Action k → is_watched_pass (history j.script) (record { result = its_result.booked; under = graph_under (job_graph j) m.variation }) ≡ true → CanWatch k
+    may_watch job k e on =
         let b = of_action k e in
         can_be_watched (fn_names j.dataset.fns) (scope_of j.dataset.columns) (history j.script) (accepted_of j job) m.result its_result.booked k b.0 booked_is b.1
         (and_right (is_none (graph_under (job_graph j) m.variation)) (is_watched (history j.script) its_result.booked.name) on)

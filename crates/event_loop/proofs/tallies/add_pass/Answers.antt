@@ -3,7 +3,7 @@ use Rattle.rdf_model.specs.{kinds_in}
 use Rattle.loop_keys.specs.{job_of, passes_in}
 use Rattle.cluster_tally.specs.{IsFresh, place_if}
 use Rattle.event_loop.specs.{places_before}
-use Rattle.event_loop.proofs.Adding.{added, can_watch, edges, its_pass, kept, of_action, of_report, result_within}
+use Rattle.event_loop.proofs.Adding.{added, may_watch, edges, its_pass, kept, of_action, of_report, result_within}
 use Rattle.event_loop.proofs.tallies.add_pass.Goals as goal
 
 pub kind-requires : goal.kind-requires
@@ -24,7 +24,7 @@ add_pass-requires-clause-edges g c =
 pub add_pass-requires-clause-watched : goal.add_pass-requires-clause-watched
 add_pass-requires-clause-watched g c = λ on.
     let its = c.pass_at-pass.ensures in
-    can_watch (job_of c.args.job.now) c.args.number _ its c.kind.result.now c.args.job.now.graph.now c.requires.job.graph c.kind.ensures
+    may_watch (job_of c.args.job.now) c.args.number _ its c.kind.result.now c.args.job.now.graph.now c.requires.job.graph c.kind.ensures
     c.requires.job.job c.in-Action.kind c.in-Action.is
     (sym (c.is_watched-is_watched.ensures c.args.number _ its (its_pass (job_of c.args.job.now) c.args.number _ its)) ∙ on)
 
