@@ -1,4 +1,4 @@
-// The checks of what books a result: Action and Report.
+// The checks of what books a result, and of what asks for one.
 ghost use Rattle.std.specs.Prelude.{◌≡◌, ◌∷◌, ◌++◌, [], ℕ, List, None, IfOk, length, nat_lt, OnOk};
 ghost use Rattle.rdf_values.specs.{ActionKind, bookings, check_columns, check_passes, check_results, columns_of, permitted_kinds, is_result, printed_results, refuse_if, refuse_unless, watched_results, are_edges, begins, check_edges, may_begin, rises, weight_column};
 ghost use Rattle.rdf_values.specs.declared.statement.Statement.TheVariants.{Action, Report, VariationsFor, Watch, Print};
