@@ -9,7 +9,7 @@ use Rattle.rdf_model.specs.{kind_in, kinds_in}
 use Rattle.graph_numbers.specs.{FilterAt, graph_filters, graph_results, graph_under, GraphView, kind_of_booking, Pass as NumberedPass, ResultAt, ResultKind}
 use Rattle.graph_numbers.proofs.AcceptedNumbers.{filters_are_the_scripts, reports_cover_filters}
 use Rattle.loop_keys.specs.{job_graph, JobView, numbered_in, passes_in}
-use Rattle.event_loop.proofs.Adding.{its_pass, its_result, of_action, of_report, result_is}
+use Rattle.event_loop.proofs.Adding.{its_pass, its_result, of_action, of_report, its_result_is}
 use Rattle.shard_loop.proofs.PassLines.{AreNumbered}
 
 kinds_next : (ps : List Pass) (n : ℕ) (p : Pass) → slice_get ps n ≡ Some p → kinds_in (take (n + 1) ps) ≡ kinds_in (take n ps) ++ kind_in p.result.booking
@@ -56,7 +56,7 @@ module _ (j : JobView) (n : ℕ) (m : NumberedPass) (its : numbered_in j n ≡ S
   pub is_report : kind ≡ ResultKind.Report → (covers : List ℕ) → option_map (λ (x : ResultAt). x.covers) (slice_get (graph_results g) m.result) ≡ Some covers → IsReport covers
   is_report e covers at =
       let b = report_on own.result.booking (of_report j n m its kind g same is e) in
-      let there = result_is j n m its in
+      let there = its_result_is j n m its in
       let mine : (its_result j n m its).covers ≡ covers = same_Some _ covers (sym (ap (option_map (λ (x : ResultAt). x.covers)) there) ∙ ap (λ (h : GraphView). option_map (λ (x : ResultAt). x.covers) (slice_get (graph_results h) m.result)) (sym same) ∙ at) in
       let by_number : (f : ℕ) → slice_get (named_before (history j.script)) f ≡ option_map (λ (x : FilterAt). x.at) (slice_get (graph_filters (job_graph j)) f)
       = λ f. ap (λ l. slice_get l f) (sym (filters_are_the_scripts (job_graph j))) ∙ slice_get-map (λ (x : FilterAt). x.at) (graph_filters (job_graph j)) f in
