@@ -9,7 +9,7 @@ use Rattle.std.proofs.lemmas.List.{append-nil, length-map}
 use Rattle.expr_read.proofs.Shown.{reads_shown, no_fewer, shown_whole}
 use Rattle.expr_read.proofs.TokenSteps.{no_tokens}
 use Rattle.expr_read.proofs.ValidTokens.{valid_tokens}
-use Rattle.rdf_values.proofs.ShortLists.{few_tokens}
+use Rattle.rdf_values.proofs.Literals.{few_tokens}
 
 abbrev AreValid : List Token → Type 0
 AreValid [] = Unit {0}

@@ -1,36 +1,15 @@
 -- The script that a text of at most 65,536 bytes is can be booked.
-use Rattle.std.proofs.Common.{◌≡◌, ℕ, zero, suc, ◌+◌, ◌<◌, ◌≤◌, Bool, true, false, List, [], ◌∷◌, ◌++◌, length, drop, Some, None, Ok, Err, Result, refl, ap, arith, length-append, if◌then◌else◌, ℤ, ◌&&◌, ◌==◌}
+use Rattle.std.proofs.Common.{◌≡◌, ℕ, zero, suc, ◌+◌, ◌<◌, ◌≤◌, Bool, true, false, List, [], ◌∷◌, ◌++◌, length, Some, None, Ok, Err, Result, refl, ap, arith, length-append, if◌then◌else◌, ℤ, ◌&&◌, ◌==◌}
 use Rattle.std.specs.List.{AllByRecursion}
 use Rattle.std.proofs.lemmas.List.{length-map}
 use Rattle.std.proofs.lemmas.List.Elements.{All-from_recursion}
-use Rattle.rdf_values.specs.{ActionKind, all_strings, and_then, AreLines, AreNames, AreRising, AreShortValues, arguments, Bad, bare, bare_tokens, before, begins_with, behind, Blank, blank_line, blanks, Close, Comma, Comment, edges_tokens, expression_count, First, first_token, Form, form_tokens, Found, IsAction, IsBookable, IsLine, IsScript, IsShort, last_item, last_list, Lexeme, lexeme, Line, lines_of, Mark, maybe_string, Method, more_edges, more_items, more_lists, more_names, more_strings, NamedTree, no_lines, no_names, one_list, Placed, PlacedToken, Punct, Quoted, QuotedText, ReadsList, ReadsLists, ReadsValues, ReadsValuesText, Refusal, Says, Script, several_lists, Statement, statement_line, strings_tokens, Token, tokens, tokens_at, tokens_from, VaryValues, vector, with_byte, with_lexeme, with_token}
+use Rattle.rdf_values.specs.{ActionKind, all_strings, AreLines, AreNames, AreRising, AreShortValues, arguments, Bad, bare, bare_tokens, begins_with, Blank, blank_line, Close, Comma, Comment, edges_tokens, expression_count, Form, form_tokens, Found, IsAction, IsBookable, IsLine, IsScript, IsShort, last_item, last_list, Lexeme, lexeme, Line, lines_of, Mark, maybe_string, Method, more_edges, more_items, more_lists, more_names, more_strings, NamedTree, no_lines, no_names, one_list, Placed, PlacedToken, Punct, Quoted, QuotedText, ReadsList, ReadsLists, ReadsValues, ReadsValuesText, Says, Script, several_lists, Statement, statement_line, strings_tokens, Token, tokens_from, VaryValues, vector, with_byte, with_lexeme, with_token}
+use Rattle.rdf_values.proofs.Literals.{few_tokens}
 use Rattle.rdf_values.specs.LineForms as form
 use Rattle.rdf_values.specs.Statements as says
 use Rattle.rdf_values.specs.declared.statement.Statement.TheVariants.{Action}
 
--- ---- an expression has at most 256 tokens
-
-before_few : (most : ℕ) (t : Placed) (r : Result (List Placed) Refusal) (ts : List Placed) → ((us : List Placed) → r ≡ Ok us → length us ≤ most) → before (t ∷ []) r ≡ Ok ts → length ts ≤ suc most
-before_few most t (Err e) ts h k = cc k
-before_few most t (Ok us) ts h k =
-    let these : t ∷ us ≡ ts = cc k in let n = ap length these in let m = h us refl in omega (arith, n, m)
-
-then_few : (most place : ℕ) (f : First) (others : ℕ → Result (List Placed) Refusal) (ts : List Placed) → ((size : ℕ) (us : List Placed) → others size ≡ Ok us → length us ≤ most) → and_then place f others ≡ Ok ts → length ts ≤ suc most
-then_few most place (Err e) others ts go k = cc k
-then_few most place (Ok t) others ts go k = before_few most (record { token = t.0; place = place }) (others t.1) ts (go t.1) k
-
-few_at : (most place : ℕ) (text : List ℕ) (ts : List Placed) → tokens_at most place text ≡ Ok ts → length ts ≤ most
-unfolding tokens_at
-few_at most place [] ts e = let none : [] ≡ ts = cc e in let n = ap length none in omega (arith, n)
-few_at zero place (c ∷ text) ts e = cc e
-few_at (suc most) place (c ∷ text) ts e =
-    then_few most place (first_token c text) (λ size. tokens_at most (place + size + blanks (drop size (c ∷ text))) (behind size (c ∷ text))) ts
-    (λ size us q. few_at most (place + size + blanks (drop size (c ∷ text))) (behind size (c ∷ text)) us q) e
-
-pub few_tokens : (text : List ℕ) (ts : List Placed) → tokens text ≡ Ok ts → length ts ≤ 256
-few_tokens text ts e = few_at 256 (0 + blanks text) (behind 0 text) ts e
-
--- ---- so the lists of a Vary are short
+-- ---- an expression has at most 256 tokens, so the lists of a Vary are short
 
 list_few : (ts : List Token) (es : List NamedTree) → ReadsList ts es → length es ≤ suc (length ts)
 list_few ts es (last_item h) = omega arith

@@ -1,27 +1,11 @@
-// Laws of unions of sets of numbers, which are rising lists. Each function does nothing; its contract is the law.
-ghost use Rattle.rdf_values.specs.UnionLaws as law;
+// Laws of unions of sets of numbers, which are rising lists.
+ghost use Rattle.rdf_values.specs.Draws as law;
 
-/// The union of sets is one.
-pub fn union_is_one()
-    ensures { law.UnionIsOne }
-{}
-
-/// The empty set changes no union.
-pub fn none_is_neutral()
-    ensures { law.NoneIsNeutral }
-{}
-
-/// Two sets are united in either order.
-pub fn order_does_not_matter()
-    ensures { law.OrderDoesNotMatter }
-{}
-
-/// Three sets are united from either side.
-pub fn unite_from_either_side()
-    ensures { law.UniteFromEitherSide }
-{}
-
-/// Lists that numbers were drawn into have all of them as their union.
-pub fn drawn_lists_unite()
-    ensures { law.DrawnListsUnite }
+/// It does nothing: its contract is the laws, and its proof theirs.
+pub fn unions_hold()
+    ensures union_is_one { law.UnionIsOne }
+    ensures none_is_neutral { law.NoneIsNeutral }
+    ensures order_does_not_matter { law.OrderDoesNotMatter }
+    ensures unite_from_either_side { law.UniteFromEitherSide }
+    ensures drawn_lists_unite { law.DrawnListsUnite }
 {}
