@@ -1,42 +1,48 @@
-// Laws of the search for a block's first fault. Each function does nothing; its contract is the law, and its proof the law's.
-ghost use Rattle.block_laws.specs.{BlockThenRest, LeadingBlocksHaveFirstFault, LimitFalls, PartsAreThePass, PartsGiveThePass, PassMajorIsFirstFault, SearchGoesOn};
+// The laws: how a cluster is cut into blocks, how a block's first fault is searched, what a block feeds, and how much is evaluated.
+// Each function does nothing: its contract is laws, which the modules of `specs` state and explain, and its proof theirs.
+ghost use Rattle.block_laws.specs.{
+  BatchIsOfThePass,
+  BlocksGoOn,
+  BlocksLead,
+  BlockThenRest,
+  CountGoesOn,
+  FirstBlockIsWhole,
+  LeadingBlocksHaveFirstFault,
+  LimitFalls,
+  MarkedAreWithin,
+  PartsAreThePass,
+  PartsGiveThePass,
+  PassDemandsAreDemanded,
+  PassMajorIsFirstFault,
+  PlainBlocksAreEven,
+  SearchGoesOn,
+  SelectedAloneFeed,
+  SelectionNarrows,
+  SelectionsAreCounted,
+};
 
-/// The limit never rises, and is that of the best fault.
-pub fn limit_falls<R, P>()
-    ensures { LimitFalls R P }
+/// All laws but those of any search.
+pub fn laws_hold()
+    ensures blocks_lead { BlocksLead }
+    ensures blocks_go_on { BlocksGoOn }
+    ensures first_block_is_whole { FirstBlockIsWhole }
+    ensures plain_blocks_are_even { PlainBlocksAreEven }
+    ensures parts_give_the_pass { PartsGiveThePass }
+    ensures pass_major_is_first_fault { PassMajorIsFirstFault }
+    ensures block_then_rest { BlockThenRest }
+    ensures leading_blocks_have_first_fault { LeadingBlocksHaveFirstFault }
+    ensures batch_is_of_the_pass { BatchIsOfThePass }
+    ensures selected_alone_feed { SelectedAloneFeed }
+    ensures selection_narrows { SelectionNarrows }
+    ensures selections_are_counted { SelectionsAreCounted }
+    ensures pass_demands_are_demanded { PassDemandsAreDemanded }
+    ensures count_goes_on { CountGoesOn }
 {}
 
-/// One turn of a loop over what is tried.
-pub fn search_goes_on<R, P>()
-    ensures { SearchGoesOn R P }
-{}
-
-/// A pass may be tried in parts, and leaves the search alike.
-#[tactic(auto, using(crate::proofs::PartFaults::parts_are))]
-pub fn parts_are_the_pass<R, P, S>()
-    ensures { PartsAreThePass R P S }
-{}
-
-/// The fault of a row in a pass is that of the first of its parts that has one.
-#[tactic(auto, using(crate::proofs::PartFaults::parts_give))]
-pub fn parts_give_the_pass()
-    ensures { PartsGiveThePass }
-{}
-
-/// Over the rows of a block, pass after pass with a falling limit finds the first fault of the passes.
-#[tactic(auto, using(crate::proofs::BlockFaults::is_first_fault))]
-pub fn pass_major_is_first_fault()
-    ensures { PassMajorIsFirstFault }
-{}
-
-/// One turn of a loop over the blocks of a cluster.
-#[tactic(auto, using(crate::proofs::BlockFaults::block_then_rest))]
-pub fn block_then_rest()
-    ensures { BlockThenRest }
-{}
-
-/// Over all blocks that lead through a cluster it is the cluster's first fault.
-#[tactic(auto, using(crate::proofs::BlockFaults::blocks_lead_through))]
-pub fn leading_blocks_have_first_fault()
-    ensures { LeadingBlocksHaveFirstFault }
+/// Those of a search over rows, passes and sources of any types.
+pub fn searches_hold<R, P, S>()
+    ensures limit_falls { LimitFalls R P }
+    ensures search_goes_on { SearchGoesOn R P }
+    ensures parts_are_the_pass { PartsAreThePass R P S }
+    ensures marked_are_within { MarkedAreWithin R }
 {}

@@ -2,7 +2,4 @@
 //! limit that falls, what a block feeds, and how much it may evaluate. It stands on `rdf_model`; nothing here runs.
 #![tactic(auto)]
 
-pub mod blocks;
-pub mod counts;
-pub mod feeds;
 pub mod laws;
