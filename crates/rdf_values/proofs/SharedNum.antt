@@ -50,11 +50,8 @@ args_hole = record { shared = (fix_sync knot.ring steps knot.member-NumArgs).sha
 pub node_sync : IsSync node.the_row
 node_sync = variants_sync node.enum (search (sendable, crosses, node_hole, args_hole) depth 40 fits 4000)
 
-node_whole : IsSync (as_row node.the_field)
-node_whole = record { shared = node_sync.shared }
-
 inside_sync : IsSync inside_row
-inside_sync = declared_sync I.the_type (node_whole, tt)
+inside_sync = declared_sync I.the_type (search (sendable, crosses, node_sync) depth 40 fits 4000)
 
 pub num_expr_sync : IsSync num_expr_row
 num_expr_sync = record { shared = λ d b o κ x. (inside_sync.shared x.0 b o κ, tt) }

@@ -2,12 +2,8 @@
 use denote.RattleType.{RattleType}
 use denote.Param.Send.{IsSync, sendable}
 use denote.Param.SendFields.{variants_sync, declared_sync}
-use denote.Hole.{as_row}
-use denote.Struct.Field.{row_field, u32-field}
 use Rattle.std.proofs.Crossing.{crosses}
-use Rattle.std.specs.contracts.option.Option.{the_row as option_row}
 use Rattle.rdf_values.specs.contracts.name.Name.{the_row as name_row}
-use Rattle.rdf_values.specs.contracts.expr.Expr.{the_row as expr_row}
 use Rattle.rdf_values.specs.contracts.label.Label.{the_row as label_row}
 use Rattle.rdf_values.specs.contracts.int_list.IntList.{the_row as ints_row}
 use Rattle.rdf_values.specs.contracts.action.ActionKind.{the_row as kind_row}
@@ -33,36 +29,17 @@ list_sync T s = search (sendable, crosses) depth 40 fits 4000
 pub kind_sync : IsSync kind_row
 kind_sync = search (sendable, crosses, name_sync, ints_sync) depth 40 fits 4000
 
-exprs_sync : IsSync (list_row expr_row)
-exprs_sync = list_sync expr_row expr_sync
-
 values_sync : IsSync values_row
-values_sync = variants_sync V.enum ((record { shared = (list_sync (list_row expr_row) exprs_sync).shared }, tt), ((record { shared = expr_sync.shared }, tt), tt))
+values_sync = variants_sync V.enum (search (sendable, crosses, list_sync, expr_sync) depth 40 fits 4000)
 
 pub names_sync : IsSync (list_row name_row)
 names_sync = list_sync name_row name_sync
 
-label_given : IsSync (as_row (row_field (option_row label_row)))
-label_given = search (sendable, crosses, label_sync) depth 40 fits 4000
-
 pub statement_sync : IsSync statement_row
-statement_sync = variants_sync S.enum
-    ((n, (n, (n, (e, tt)))), ((n, (n, (n, (e, tt)))), ((n, (n, (n, (n, tt)))), ((n, (n, (e, (record { shared = label_given.shared }, tt)))), ((n, (n, (l, (record { shared = values_sync.shared }, (l, (n, tt)))))), ((n, (n, (record { shared = kind_sync.shared }, tt))), ((n, (n, tt)), ((n, tt), ((n, tt), ((n, tt), tt))))))))))
-  where
-    n : IsSync (as_row (row_field name_row))
-    n = record { shared = name_sync.shared }
-
-    e : IsSync (as_row (row_field expr_row))
-    e = record { shared = expr_sync.shared }
-
-    l : IsSync (as_row (row_field (list_row name_row)))
-    l = record { shared = names_sync.shared }
+statement_sync = variants_sync S.enum (search (sendable, crosses, name_sync, names_sync, expr_sync, values_sync, kind_sync, label_sync) depth 40 fits 4000)
 
 pub line_sync : IsSync line_row
-line_sync = declared_sync L.the_type (record { shared = number_sync.shared }, (record { shared = statement_sync.shared }, tt))
-  where
-    number_sync : IsSync (as_row u32-field)
-    number_sync = search (sendable, crosses) depth 40 fits 4000
+line_sync = declared_sync L.the_type (search (sendable, crosses, statement_sync) depth 40 fits 4000)
 
 -- ---- the header
 
