@@ -6,6 +6,7 @@ use Rattle.rdf_values.specs.declared.statement.Statement.TheVariants.{Filter}
 use Rattle.rdf_model.specs.{◌>>=◌, action_pass, column_value, Dataset, expression_value, fault_in, Faults, feed_outcome, filter_reach, for_all, Gives, is_passed, is_reached, is_true, items_fed, items_of, kinds_in, list_at, Needs, Outcome, Reach, reach_of, Skip, spreads_of, through, truth_of}
 use Rattle.rdf_model.proofs.Parts.{items_at}
 use Rattle.block_laws.specs.{selected}
+use Rattle.rdf_model.proofs.Typing.{by_test}
 
 -- ---- what the batch is
 
@@ -28,12 +29,9 @@ module _ (d : Dataset) where
 
   pub selected_alone : (rows : List (List Value)) (k : ActionKind) (at : Path) (u : Under) → flat_map (items_of d k at u) rows ≡ flat_map (items_of d k at u) (selected d at u rows)
   selected_alone [] k at u = refl
-  selected_alone (row ∷ rows) k at u = go (is_true (through d.fns d.columns row at u)) refl (selected_alone rows k at u)
-    where
-      go : (b : Bool) → is_true (through d.fns d.columns row at u) ≡ b → flat_map (items_of d k at u) rows ≡ flat_map (items_of d k at u) (selected d at u rows)
-          → items_of d k at u row ++ flat_map (items_of d k at u) rows ≡ flat_map (items_of d k at u) (if b then row ∷ selected d at u rows else selected d at u rows)
-      go true q h = ap (λ l. items_of d k at u row ++ l) h
-      go false q h = ap (λ l. l ++ flat_map (items_of d k at u) rows) (feeds_nothing k at u row q) ∙ h
+  selected_alone (row ∷ rows) k at u =
+      by_test (is_true (through d.fns d.columns row at u)) (λ e. rw e (ap (λ l. items_of d k at u row ++ l) (selected_alone rows k at u)))
+      (λ e. rw e (ap (λ l. l ++ flat_map (items_of d k at u) rows) (feeds_nothing k at u row e) ∙ selected_alone rows k at u))
 
   -- ---- selections
 
@@ -80,12 +78,7 @@ module _ (d : Dataset) where
   counted test at s up (row ∷ rows) h =
       sum_by-cons (λ r. if test r then 1 else 0) (filter_reach d row (s ∷ up)) (map (λ r. filter_reach d r (s ∷ up)) rows)
       ∙ ap (λ b. (if b then 1 else 0) + count_by test (map (λ r. filter_reach d r (s ∷ up)) rows)) (h 0 row refl)
-      ∙ go (is_true (through d.fns d.columns row at None)) (counted test at s up rows (λ i r q. h (suc i) r q))
-    where
-      go : (b : Bool) → count_by test (map (λ r. filter_reach d r (s ∷ up)) rows) ≡ length (selected d at None rows)
-          → (if b then 1 else 0) + count_by test (map (λ r. filter_reach d r (s ∷ up)) rows) ≡ length (if b then row ∷ selected d at None rows else selected d at None rows)
-      go true k = omega (arith, k)
-      go false k = omega (arith, k)
+      ∙ (let k = counted test at s up rows (λ i r q. h (suc i) r q) in by_test (is_true (through d.fns d.columns row at None)) (λ e. rw e (omega (arith, k))) (λ e. rw e (omega (arith, k))))
 
   pub selections_are_counted : (rows : List (List Value)) (s : Statement) (up : Path)
       → ((i : ℕ) (row : List Value) → slice_get rows i ≡ Some row → fault_in (through d.fns d.columns row (s ∷ up) None) ≡ None)

@@ -4,6 +4,7 @@ use Rattle.std.proofs.lemmas.List.Sums.{sum_by-cons}
 use Rattle.lemmas.proofs.{map_length}
 use Rattle.rdf_values.specs.{Lead, Span, Value}
 use Rattle.block_laws.specs.{blocks_from, blocks_of, first_length, IsFirst, more_fit, one_more_fits, row_elements}
+use Rattle.rdf_model.proofs.Typing.{by_test}
 
 sum_more : (c : ℕ) (cs : List ℕ) → sum (c ∷ cs) ≡ c + sum cs
 sum_more c cs = sum_by-cons (λ n. n) c cs
@@ -11,12 +12,9 @@ sum_more c cs = sum_by-cons (λ n. n) c cs
 module _ (size most : ℕ) where
   lead_from : (cs : List ℕ) (lo n s : ℕ) → 1 ≤ n → Lead lo (lo + n + length cs) (blocks_from size most lo n s cs)
   lead_from [] lo n s h = (refl, omega (arith, h), let e : lo + n ≡ lo + n + 0 = omega arith in e)
-  lead_from (c ∷ cs) lo n s h = go (one_more_fits size most n s c) (lead_from cs lo (suc n) (s + c) (omega arith)) (lead_from cs (lo + n) 1 c (omega arith))
-    where
-      go : (b : Bool) → Lead lo (lo + suc n + length cs) (blocks_from size most lo (suc n) (s + c) cs) → Lead (lo + n) (lo + n + 1 + length cs) (blocks_from size most (lo + n) 1 c cs)
-          → Lead lo (lo + n + suc (length cs)) (if b then blocks_from size most lo (suc n) (s + c) cs else record { lo = lo; hi = lo + n } ∷ blocks_from size most (lo + n) 1 c cs)
-      go true k l = subst (λ (m : ℕ). Lead lo m (blocks_from size most lo (suc n) (s + c) cs)) (omega arith) k
-      go false k l = (refl, omega (arith, h), subst (λ (m : ℕ). Lead (lo + n) m (blocks_from size most (lo + n) 1 c cs)) (omega arith) l)
+  lead_from (c ∷ cs) lo n s h =
+      by_test (one_more_fits size most n s c) (λ e. rw e (subst (λ (m : ℕ). Lead lo m (blocks_from size most lo (suc n) (s + c) cs)) (omega arith) (lead_from cs lo (suc n) (s + c) (omega arith))))
+      (λ e. rw e (refl, omega (arith, h), subst (λ (m : ℕ). Lead (lo + n) m (blocks_from size most (lo + n) 1 c cs)) (omega arith) (lead_from cs (lo + n) 1 c (omega arith))))
 
   pub blocks_lead : (lo : ℕ) (costs : List ℕ) → Lead lo (lo + length costs) (blocks_of size most lo costs)
   blocks_lead lo [] = let e : lo ≡ lo + 0 = omega arith in e

@@ -1,6 +1,7 @@
 -- Members of lists: a list without repetition whose members are all in another is no longer than that.
-use Rattle.std.proofs.Common.{◌≡◌, ◌⊎◌, inl, inr, ℕ, zero, suc, Bool, true, false, ◌||◌, List, [], ◌∷◌, ◌++◌, Some, refl, sym, subst, arith, slice_get, flat_map, Contains}
+use Rattle.std.proofs.Common.{◌≡◌, ◌⊎◌, inl, inr, ℕ, zero, suc, Bool, true, List, [], ◌∷◌, ◌++◌, Some, refl, sym, subst, arith, slice_get, flat_map, Contains}
 use Rattle.std.specs.List.{list_any, AllByRecursion}
+use Rattle.rdf_model.proofs.Typing.{by_test}
 
 -- the element is one of the list
 abbrev pub In : {A : Type 0} → A → List A → Type 0
@@ -19,11 +20,7 @@ module _ {A : Type 0} where
 
   pub any_in : (test : A → Bool) (xs : List A) → list_any test xs ≡ true → (x : A) × In x xs × (test x ≡ true)
   any_in test [] h = cc h
-  any_in test (x ∷ xs) h = go (test x) refl h (any_in test xs)
-    where
-      go : (b : Bool) → test x ≡ b → (b || list_any test xs) ≡ true → (list_any test xs ≡ true → (y : A) × In y xs × (test y ≡ true)) → (y : A) × In y (x ∷ xs) × (test y ≡ true)
-      go true e q next = (x, inl refl, e)
-      go false e q next = let w = next q in (w.0, inr w.1, w.2)
+  any_in test (x ∷ xs) h = by_test (test x) (λ e. (x, inl refl, e)) (λ e. let w = any_in test xs (rw e at h) in (w.0, inr w.1, w.2))
 
   pub contained : (x : A) (xs : List A) → In x xs → Contains xs x
   contained x [] h = absurd h
