@@ -54,11 +54,7 @@ up_to ds n most w h = go (all_ascii_digits ds) w
   where
     go : (t : Bool) → (if t then Some (digits_value_after 10 0 ds) else None) ≡ Some n
         → (if t && leb (digits_value_after 10 0 ds) most then Some (digits_value_after 10 0 ds) else None) ≡ Some n
-    go true w =
-        let same : digits_value_after 10 0 ds ≡ n = cc w in
-        let within : leb (digits_value_after 10 0 ds) most ≡ true = grind (arith, nat_tests) in
-        rw within w
-    go false w = cc w
+    go t w = grind (arith, nat_tests)
 
 leading_magnitude : (text : List ℕ) (n count most : ℕ) → AreLeading text n count → 1000000000000000000 ≤ most → magnitude_of most (take count text) ≡ Some n
 unfolding magnitude_of

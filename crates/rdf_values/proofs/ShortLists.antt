@@ -32,9 +32,7 @@ short_values us vs le (several_lists {ts = ts} {ls = ls} h e) =
 short_values ts vs le (vector h) = tt
 
 values_short : (text : List ℕ) (vs : VaryValues) → ReadsValuesText text vs → AreShortValues vs
-values_short text vs h =
-    let n = few_tokens text h.found h.tokens_are in let m : length (bare h.found) ≡ length h.found = length-map h.found (λ (t : Placed). t.token) in
-    short_values (bare h.found) vs (omega (arith, n, m)) h.reads_as
+values_short text vs h = grind (arith, few_tokens, length-map, short_values)
 
 -- ---- a line has no more tokens than bytes
 
@@ -45,9 +43,7 @@ with_few most place Bad rest ts h k = cc k
 with_few most place (Found token more) rest ts h k = go (rest more) refl k
   where
     go : (r : Result (List PlacedToken) ℕ) → rest more ≡ r → with_token token place r ≡ Ok ts → length ts ≤ suc most
-    go (Ok us) q k =
-        let these : record { token = token; place = place } ∷ us ≡ ts = cc k in let n = ap length these in let m = h more us q in omega (arith, n, m)
-    go (Err e) q k = cc k
+    go r q k = grind arith
 
 line_few : (line : List ℕ) (passed place : ℕ) (ts : List PlacedToken) → tokens_from line passed place ≡ Ok ts → length ts ≤ length line
 unfolding tokens_from
@@ -97,10 +93,7 @@ says_short f s le (says.action {n = n} {p = p} {m = m} {k = k} h) = let i = insi
 says_short f s le h = tt
 
 line_short : (line : List ℕ) (s : Statement) → length line ≤ 65536 → IsLine line s → IsShort s
-line_short line s le h =
-    let n = line_few line 0 0 h.found h.tokens in let m : length (bare_tokens h.found) ≡ length h.found = length-map h.found (λ (t : PlacedToken). t.token) in
-    let e = ap length h.is_form.tokens in
-    says_short h.form s (omega (arith, n, m, e, le)) h.says
+line_short line s le h = grind (arith, line_few, length-map, says_short)
 
 -- ---- and no line is longer than the text
 
@@ -121,9 +114,7 @@ lines_within [] = tt
 lines_within (c ∷ cs) = go (c == 10) (c == 13 && begins_with 10 cs) (lines_within cs)
   where
     go : (a b : Bool) → AreWithin (length cs) (lines_of cs) → AreWithin (suc (length cs)) (if a then [] ∷ lines_of cs else (if b then lines_of cs else with_byte c (lines_of cs)))
-    go true b h = (omega arith, longer (length cs) (lines_of cs) h)
-    go false true h = longer (length cs) (lines_of cs) h
-    go false false h = one_more (length cs) c (lines_of cs) h
+    go a b h = grind (arith, longer, one_more)
 
 -- ---- a script
 

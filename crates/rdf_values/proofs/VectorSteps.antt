@@ -38,11 +38,7 @@ vector_from read parts = if nat_le (length read + length parts) 4096 then option
 
 vector_start : (cell : List ℕ) → 0 < length cell → vector_of cell ≡ vector_from [] (slice_split is_semicolon cell)
 unfolding vector_of vector_from
-vector_start [] h = absurd (omega arith)
-vector_start (b ∷ bs) h =
-    let parts = slice_split is_semicolon (b ∷ bs) in
-    let none : 0 + length parts ≡ length parts = omega arith in
-    rw (none, option_onto-none (integers_of parts)) refl
+vector_start cell h = grind (arith, option_onto-none)
 
 vector_empty : (cell : List ℕ) → length cell ≡ 0 → vector_of cell ≡ Some []
 unfolding vector_of
@@ -59,9 +55,7 @@ vector_bad read part parts e = rw e (by (nat_le (length read + length (part ∷ 
 
 vector_long : (read : List ℤ) (part : List ℕ) (parts : List (List ℕ)) → 4096 ≤ length read → vector_from read (part ∷ parts) ≡ None
 unfolding vector_from
-vector_long read part parts h =
-    let over : nat_le (length read + length (part ∷ parts)) 4096 ≡ false = grind (arith, nat_tests) in
-    rw over refl
+vector_long read part parts h = grind (arith, nat_tests)
 
 vector_more : (read : List ℤ) (part : List ℕ) (parts : List (List ℕ)) (n : ℤ) → integer_of part ≡ Some n → vector_from read (part ∷ parts) ≡ vector_from (read ++ n ∷ []) parts
 unfolding vector_from integers_of
@@ -71,9 +65,7 @@ vector_more read part parts n e =
 
 vector_end : (read : List ℤ) → length read ≤ 4096 → vector_from read [] ≡ Some read
 unfolding vector_from integers_of
-vector_end read h =
-    let within : nat_le (length read + 0) 4096 ≡ true = grind (arith, nat_tests) in
-    rw (within, append-nil read) refl
+vector_end read h = grind (arith, nat_tests, append-nil)
 
 -- the first element and the parts behind it
 element_parts : (text : List ℕ) (n : ℤ) (after : Option (Bor (List ℕ))) → IsElement text n after → (part : List ℕ) × (slice_split is_semicolon text ≡ part ∷ parts_of after) × (integer_of part ≡ Some n)
@@ -146,10 +138,7 @@ plain text z e = go z (numeral text z e)
 -- ---- where the number ends
 
 pub element_last : (text : List ℕ) (n : ℤ) (end : ℕ) → IsLeading text n end → end ≡ length text → IsElement text n None
-element_last text n end h e =
-    let whole : take end text ≡ text = take_all end text (omega arith) in
-    let spelt : integer_of text ≡ Some n = rw whole at h.spelt in
-    (text, slice_split_none is_semicolon text (plain text n spelt), spelt)
+element_last text n end h e = grind (arith, take_all, slice_split_none, plain)
 
 pub element_before : (text : List ℕ) (n : ℤ) (end : ℕ) (rest : List ℕ) → IsLeading text n end → end < length text → is_semicolon (get_or text end 0) ≡ true → rest ≡ drop (end + 1) text
     → (part : List ℕ) × (slice_split is_semicolon text ≡ part ∷ slice_split is_semicolon rest) × (integer_of part ≡ Some n) × (length rest < length text)

@@ -8,6 +8,4 @@ pub returns-in-None : goal.returns-in-None
 returns-in-None c = rw (sym c.in-None.ensures) at (cut_at is_semicolon c.args.text.now)
 
 pub returns-in-Some : goal.returns-in-Some
-returns-in-Some c =
-    let cut = rw (sym c.in-Some.ensures) at (cut_at is_semicolon c.args.text.now) in
-    rw (rest_of (c.in-Some.i + 1) c.args.text.now) (cut.1, omega (arith, length-drop (c.in-Some.i + 1) c.args.text.now))
+returns-in-Some = grind (arith, cut_at, rest_of, length-drop)

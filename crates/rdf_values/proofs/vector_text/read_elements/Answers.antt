@@ -16,14 +16,10 @@ pub returns-then-len-most-clause-read : goal.returns-then-len-most-clause-read
 returns-then-len-most-clause-read c = reading_long _ c.in-Some.left.now _ _ _ _ (rw c.in-Some.is at c.loop-rest.invariant) c.in-Some-first_element.ensures (search rules)
 
 pub loop-rest-preserved : goal.loop-rest-preserved
-loop-rest-preserved c =
-    let same : to_z w64 (of_z w64 c.in-Some-first_element.element) ≡ c.in-Some-first_element.element = search rules in
-    rw (c.in_ok-push.ensures.items, same) (reading_more _ c.in-Some.left.now _ c.loop-rest.elements.items _ _ (rw c.in-Some.is at c.loop-rest.invariant) c.in-Some-first_element.ensures (search rules))
+loop-rest-preserved = grind (arith, reading_more)
 
 pub loop-rest-smaller : goal.loop-rest-smaller
 loop-rest-smaller c = rw c.in-Some.is (element_shorter c.in-Some.left.now _ _ c.in-Some-first_element.ensures)
 
 pub returns-clause-read : goal.returns-clause-read
-returns-clause-read c =
-    let none : c.loop-rest.rest ≡ None = search rules in
-    reading_end _ _ _ (rw none at c.loop-rest.invariant)
+returns-clause-read = grind (arith, reading_end)

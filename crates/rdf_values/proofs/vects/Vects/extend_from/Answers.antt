@@ -3,12 +3,7 @@ use Rattle.rdf_values.proofs.PieceLemmas.{ascend_joined, ends_within, pieces_aft
 use Rattle.rdf_values.proofs.vects.Vects.extend_from.Goals as goal
 
 pub push_further-requires-clause-few : goal.push_further-requires-clause-few
-push_further-requires-clause-few c =
-    let ends = c.more.inside.ends.items in
-    let begin = c.len-begin.result in
-    subst (All (λ e. begin + e < 2 ^ 32)) (sym c.as_slice-2.ensures.value) (λ k d lt.
-    let here = ends_within ends 0 (length c.more.inside.elements.items) c.more.invariant k d lt in
-    omega (arith, here))
+push_further-requires-clause-few = grind (arith, ends_within)
 
 pub invariant_of-self-2 : goal.invariant_of-self-2
 invariant_of-self-2 c =
