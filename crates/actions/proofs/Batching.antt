@@ -27,33 +27,20 @@ one_place_more f ps i h =
 
 -- with the items of one place more
 pub one_more_fed : (fed : List Fed) (cluster : ℕ) (is js all : List Item) → all ≡ is ++ js → (fed ++ from_cluster cluster is) ++ from_cluster cluster js ≡ fed ++ from_cluster cluster all
-one_more_fed fed cluster is js all e =
-    append_assoc fed (from_cluster cluster is) (from_cluster cluster js)
-    ∙ ap (λ l. fed ++ l) (sym (map-append (λ (i : Item). record { cluster = cluster; item = i }) is js) ∙ ap (from_cluster cluster) (sym e))
+one_more_fed fed cluster is js all e = grind (arith, append_assoc, map-append)
 
 pub within_more : (s : State) (m n : ℕ) → m ≤ n → IsWithin m s → IsWithin n s
-within_more (State.Count k) m n h w = omega (arith, h, w)
-within_more (State.Sum c z) m n h w = omega (arith, h, w)
-within_more (State.Take c vs) m n h w = omega (arith, h, w)
-within_more (State.Histo1D g x w') m n h w = omega (arith, h, w)
-within_more (State.Histo2D g x y w') m n h w = omega (arith, h, w)
-within_more s m n h w = tt
+within_more s m n h w = grind arith
 
 -- ---- a Take
 
 pub taken_items : (c : List ℕ) (s : Sources) (ps : List ℕ) → flat_map (λ p. spread (ActionKind.Take c) (values_at s p)) ps ≡ map Single (flat_map (λ p. first_scalar (values_at s p)) ps)
 taken_items c s [] = refl
-taken_items c s (p ∷ ps) =
-    ap (λ l. l ++ flat_map (λ q. spread (ActionKind.Take c) (values_at s q)) ps) (spread_take c (values_at s p))
-    ∙ ap (λ l. map Single (first_scalar (values_at s p)) ++ l) (taken_items c s ps)
-    ∙ sym (map-append Single (first_scalar (values_at s p)) (flat_map (λ q. first_scalar (values_at s q)) ps))
+taken_items c s (p ∷ ps) = grind (arith, spread_take, map-append, taken_items c s ps)
 
 -- one value more, or none
 few_scalars : (vs : List Value) → length (first_scalar vs) ≤ 1
-few_scalars [] = lit≤ tt
-few_scalars (Value.Int z ∷ vs) = lit≤ tt
-few_scalars (Value.Bool b ∷ vs) = lit≤ tt
-few_scalars (Value.Vect zs ∷ vs) = lit≤ tt
+few_scalars vs = grind arith
 
 -- each place gives one value at most
 pub few_values : (cluster : ℕ) (s : Sources) (ps : List ℕ) → length (values_from cluster (flat_map (λ p. first_scalar (values_at s p)) ps)) ≤ length ps
@@ -100,35 +87,21 @@ numbers_of_first zs n h = go 0 n (omega (arith, h))
 
 -- there are so many places before the end of the lane
 pub first_are_there : (n m : ℕ) → All (λ p. p < m) (range_with_len 0 n) → n ≤ m
-first_are_there zero m h = omega arith
-first_are_there (suc n) m h =
-    let last = h n 0 (let l = length-range_with_len 0 (suc n) in omega (arith, l)) in
-    let e = get_or-range_with_len 0 (suc n) n 0 (omega arith) in omega (arith, last, e)
+first_are_there n m h = grind (arith, length-range_with_len, get_or-range_with_len)
 
 -- the numbers that an action of one column is fed
 pub number_items : (k : ActionKind) (s : Sources) (ps : List ℕ) → ((vs : List Value) → spread k vs ≡ map Number (first_numbers vs))
     → flat_map (λ p. spread k (values_at s p)) ps ≡ map Number (flat_map (λ p. first_numbers (values_at s p)) ps)
 number_items k s [] h = refl
-number_items k s (p ∷ ps) h =
-    ap (λ l. l ++ flat_map (λ q. spread k (values_at s q)) ps) (h (values_at s p))
-    ∙ ap (λ l. map Number (first_numbers (values_at s p)) ++ l) (number_items k s ps h)
-    ∙ sym (map-append Number (first_numbers (values_at s p)) (flat_map (λ q. first_numbers (values_at s q)) ps))
+number_items k s (p ∷ ps) h = grind (arith, map-append, number_items k s ps h)
 
 -- ---- the first lane
 
 pub first_lane_numbers : (s : Sources) (x : Lane) (p : ℕ) → first_lane s ≡ Some x → first_numbers (values_at s p) ≡ numbers (lane_value x p)
-first_lane_numbers Entry x p h = cc h
-first_lane_numbers (One y) x p h = let e : y ≡ x = cc h in ap (λ z. numbers (lane_value z p)) e
-first_lane_numbers (Weighted y v) x p h = let e : y ≡ x = cc h in ap (λ z. numbers (lane_value z p)) e
-first_lane_numbers (Pair y v) x p h = let e : y ≡ x = cc h in ap (λ z. numbers (lane_value z p)) e
-first_lane_numbers (WeightedPair y u v) x p h = let e : y ≡ x = cc h in ap (λ z. numbers (lane_value z p)) e
+first_lane_numbers s x p h = grind arith
 
 pub no_lane_numbers : (s : Sources) (p : ℕ) → first_lane s ≡ None → first_numbers (values_at s p) ≡ []
-no_lane_numbers Entry p h = refl
-no_lane_numbers (One y) p h = cc h
-no_lane_numbers (Weighted y v) p h = cc h
-no_lane_numbers (Pair y v) p h = cc h
-no_lane_numbers (WeightedPair y u v) p h = cc h
+no_lane_numbers s p h = grind arith
 
 pub lane_numbers_in : (s : Sources) (x : Lane) (ps : List ℕ) → first_lane s ≡ Some x → flat_map (λ p. first_numbers (values_at s p)) ps ≡ numbers_in x ps
 lane_numbers_in s x ps h = λ i. flat_map (λ p. first_lane_numbers s x p h i) ps
@@ -138,9 +111,7 @@ no_numbers_in s [] h = refl
 no_numbers_in s (p ∷ ps) h = ap (λ l. l ++ flat_map (λ q. first_numbers (values_at s q)) ps) (no_lane_numbers s p h) ∙ no_numbers_in s ps h
 
 pub few_numbers : (s : Sources) (x : Lane) (ps : List ℕ) → first_lane s ≡ Some x → All (λ p. length (first_numbers (values_at s p)) ≤ 4096) ps → length (numbers_in x ps) ≤ length ps * 4096
-few_numbers s x ps h all =
-    let few = few_each (λ p. first_numbers (values_at s p)) ps all in
-    let same = ap length (lane_numbers_in s x ps h) in omega (arith, few, same)
+few_numbers s x ps h all = grind (arith, few_each, lane_numbers_in)
 
 -- where each place gives one
 pub singles_mapped : {A : Type 0} (f : ℕ → A) (ps : List ℕ) → flat_map (λ p. f p ∷ []) ps ≡ map f ps
@@ -183,16 +154,11 @@ one_point_more before f ps i item h e =
 pub lane_points : (edges : List ℤ) (c : List ℕ) (o : Option (List ℕ)) (s : Sources) (x : Lane) (ps : List ℕ) → s ≡ One x
     → flat_map (λ p. spread (ActionKind.Histo1D edges c o) (values_at s p)) ps ≡ map (λ z. Point z (pos 1)) (numbers_in x ps)
 lane_points edges c o s x [] e = refl
-lane_points edges c o s x (p ∷ ps) e =
-    ap (λ l. l ++ flat_map (λ q. spread (ActionKind.Histo1D edges c o) (values_at s q)) ps) (ap (λ t. spread (ActionKind.Histo1D edges c o) (values_at t p)) e ∙ points_of_ones (numbers (lane_value x p)))
-    ∙ ap (λ l. map (λ z. Point z (pos 1)) (numbers (lane_value x p)) ++ l) (lane_points edges c o s x ps e)
-    ∙ sym (map-append (λ z. Point z (pos 1)) (numbers (lane_value x p)) (numbers_in x ps))
+lane_points edges c o s x (p ∷ ps) e = grind (arith, points_of_ones, map-append, lane_points edges c o s x ps e)
 
 -- such a place has few numbers
 numeric_short : (v : Value) → IsNumeric v → length (numbers v) ≤ 4096
-numeric_short (Value.Int z) h = lit≤ tt
-numeric_short (Value.Bool b) h = absurd h
-numeric_short (Value.Vect zs) h = h
+numeric_short v h = grind arith
 
 pub few_points : (edges : List ℤ) (c : List ℕ) (o : Option (List ℕ)) (s : Sources) (x : Lane) (ps : List ℕ) → s ≡ One x → All (SuitsAt (ActionKind.Histo1D edges c o) s) ps → length (numbers_in x ps) ≤ length ps * 4096
 few_points edges c o s x [] e h = omega arith

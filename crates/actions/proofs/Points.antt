@@ -29,16 +29,11 @@ points2_more xs ys ws i l d e = rw add-one (points2_next xs ys ws i l d e)
 -- what is filled with one more point
 pub points_filled : (xs ws : List ℤ) (i : ℕ) (before : List Item) (x w : ℤ) → i < length xs → length ws ≡ length xs → x ≡ get_or xs i (pos 0) → w ≡ get_or ws i (pos 0)
     → (before ++ points (take i xs) ws) ++ Point x w ∷ [] ≡ before ++ points (take (i + 1) xs) ws
-points_filled xs ws i before x w l e p q =
-    append_assoc before (points (take i xs) ws) (Point x w ∷ [])
-    ∙ ap (λ ps. before ++ ps) (ap (λ a. points (take i xs) ws ++ Point a w ∷ []) p ∙ ap (λ b. points (take i xs) ws ++ Point (get_or xs i (pos 0)) b ∷ []) q ∙ sym (points_more xs ws i l e))
+points_filled xs ws i before x w l e p q = grind (arith, append_assoc, points_more)
 
 pub points2_filled : (xs ys ws : List ℤ) (i : ℕ) (before : List Item) (x y w : ℤ) → i < length xs → length ys ≡ length xs → length ws ≡ length xs → x ≡ get_or xs i (pos 0) → y ≡ get_or ys i (pos 0) → w ≡ get_or ws i (pos 0)
     → (before ++ points2 (take i xs) ys ws) ++ Point2 x y w ∷ [] ≡ before ++ points2 (take (i + 1) xs) ys ws
-points2_filled xs ys ws i before x y w l d e p r q =
-    append_assoc before (points2 (take i xs) ys ws) (Point2 x y w ∷ [])
-    ∙ ap (λ ps. before ++ ps) (ap (λ a. points2 (take i xs) ys ws ++ Point2 a y w ∷ []) p ∙ ap (λ b. points2 (take i xs) ys ws ++ Point2 (get_or xs i (pos 0)) b w ∷ []) r
-    ∙ ap (λ b. points2 (take i xs) ys ws ++ Point2 (get_or xs i (pos 0)) (get_or ys i (pos 0)) b ∷ []) q ∙ sym (points2_more xs ys ws i l d e))
+points2_filled xs ys ws i before x y w l d e p r q = grind (arith, append_assoc, points2_more)
 
 -- ---- points without weights
 

@@ -38,13 +38,7 @@ xor_swap : (a x y : ℕ) → bit_xor (bit_xor a x) y ≡ bit_xor (bit_xor a y) x
 xor_swap a x y = same_from_bits _ _ (λ i. simp (bit_at_xor) (omega arith))
 
 wrap_swap : (a x y : ℤ) → int_wrapping_add w64 (int_wrapping_add w64 a x) y ≡ int_wrapping_add w64 (int_wrapping_add w64 a y) x
-wrap_swap a x y =
-    let p = cast_unsigned w64 a in
-    let q = cast_unsigned w64 x in
-    let r = cast_unsigned w64 y in
-    ap (λ n. cast_signed w64 ((n + r) % 2 ^ 64)) (of_z-to_z w64 ((p + q) % 2 ^ 64) (omega arith))
-    ∙ ap (cast_signed w64) (mod-add-mod (p + q) (2 ^ 64) r ∙ ap (λ n. n % 2 ^ 64) (let e : p + q + r ≡ p + r + q = omega arith in e) ∙ sym (mod-add-mod (p + r) (2 ^ 64) q))
-    ∙ sym (ap (λ n. cast_signed w64 ((n + q) % 2 ^ 64)) (of_z-to_z w64 ((p + r) % 2 ^ 64) (omega arith)))
+wrap_swap a x y = grind (arith, of_z-to_z, mod-add-mod)
 
 step_swap : (o : ReduceOp) (a x y : ℤ) → reduce_step o (reduce_step o a x) y ≡ reduce_step o (reduce_step o a y) x
 step_swap ReduceOp.Min a x y = min_swap a x y
@@ -55,20 +49,10 @@ step_swap ReduceOp.Xor a x y = bits_swap bit_xor (xor_lt 64) xor_swap a x y
 step_swap ReduceOp.WrapAdd a x y = wrap_swap a x y
 
 step_comm : (o : ReduceOp) (x y : ℤ) → reduce_step o x y ≡ reduce_step o y x
-step_comm ReduceOp.Min x y = min_comm x y
-step_comm ReduceOp.Max x y = max_comm x y
-step_comm ReduceOp.And x y = ap (cast_signed w64) (and_comm (cast_unsigned w64 x % 2 ^ 64) (cast_unsigned w64 y % 2 ^ 64))
-step_comm ReduceOp.Or x y = ap (cast_signed w64) (or_comm (cast_unsigned w64 x % 2 ^ 64) (cast_unsigned w64 y % 2 ^ 64))
-step_comm ReduceOp.Xor x y = ap (cast_signed w64) (xor_comm (cast_unsigned w64 x % 2 ^ 64) (cast_unsigned w64 y % 2 ^ 64))
-step_comm ReduceOp.WrapAdd x y = ap (λ n. cast_signed w64 (n % 2 ^ 64)) (let e : cast_unsigned w64 x + cast_unsigned w64 y ≡ cast_unsigned w64 y + cast_unsigned w64 x = omega arith in e)
+step_comm o x y = grind (arith, min_comm, max_comm, and_comm, or_comm, xor_comm)
 
 start_stays : (o : ReduceOp) → reduce_step o (reduce_start o) (reduce_start o) ≡ reduce_start o
-start_stays ReduceOp.Min = refl
-start_stays ReduceOp.Max = refl
-start_stays ReduceOp.And = refl
-start_stays ReduceOp.Or = refl
-start_stays ReduceOp.Xor = refl
-start_stays ReduceOp.WrapAdd = refl
+start_stays o = grind arith
 
 -- ---- the bits of a number of 64 bits
 
@@ -80,7 +64,4 @@ bits_small (negsuc n) h = mod-eq_of_lt (let l : 2 ^ 64 - suc n < 2 ^ 64 = omega 
 pub reduce_both : (o : ReduceOp) (a b : List Fed)
     → fold (reduce_step o) (reduce_start o) (numbers_of (in_file_order (a ++ b)))
     ≡ reduce_step o (fold (reduce_step o) (reduce_start o) (numbers_of (in_file_order a))) (fold (reduce_step o) (reduce_start o) (numbers_of (in_file_order b)))
-reduce_both o a b =
-    let s = reduce_start o in
-    both_same (reduce_step o) (step_swap o) number_of a b s
-    ∙ fold_both (reduce_step o) (step_swap o) (step_comm o) (numbers_of (in_file_order a)) (numbers_of (in_file_order b)) s (start_stays o)
+reduce_both o a b = grind (arith, both_same, step_swap, fold_both, step_comm, start_stays)

@@ -18,30 +18,16 @@ abs_of_fit (negsuc n) h = let s = h.sfits in omega arith
 
 -- a number of 64 bits fits 128, and so does its square
 pub widened : (w : ℤ) → FitsSigned w64 w → FitsSigned w128 w × FitsSigned w128 (w *ℤ w)
-widened w h =
-    let small = abs_of_fit w h in
-    (fits_signed_from_abs w128 w (omega arith), fits_signed_mul w128 w w (2 ^ 63) (2 ^ 63) small small (lit< tt))
+widened w h = grind (arith, abs_of_fit, fits_signed_from_abs, fits_signed_mul)
 
 pub bounded_with : (n : ℕ) (cell : CellSum) (w : ℤ) → IsWeight w → IsBounded n cell → IsBounded (n + 1) (with_weight cell w)
-bounded_with n cell w h b =
-    let sum = b.sum in
-    let squares = b.squares in
-    let more = abs_add cell.sum w in
-    let square = square_bound w h in
-    let more2 = abs_add cell.squares (w *ℤ w) in
-    record { sum = omega arith; squares = omega arith }
+bounded_with n cell w h b = grind (arith, abs_add, square_bound)
 
 bounded_more : (n m : ℕ) (cell : CellSum) → IsBounded n cell → IsBounded (n + m) cell
-bounded_more n m cell b =
-    let sum = b.sum in
-    let squares = b.squares in
-    record { sum = omega arith; squares = omega arith }
+bounded_more n m cell b = grind arith
 
 pub fits_bounded : (n : ℕ) (cell : CellSum) → n ≤ 2 ^ 40 → IsBounded n cell → FitsSigned w128 cell.sum × FitsSigned w128 cell.squares
-fits_bounded n cell few b =
-    let sum = b.sum in
-    let squares = b.squares in
-    (fits_signed_from_abs w128 cell.sum (omega arith), fits_signed_from_abs w128 cell.squares (omega arith))
+fits_bounded n cell few b = grind (arith, fits_signed_from_abs)
 
 -- the cells after one more fill
 pub all_bounded_with : (n : ℕ) (cells : List CellSum) (i : ℕ) (cell : CellSum) → IsBounded (n + 1) cell → All (IsBounded n) cells → All (IsBounded (n + 1)) (set cells i cell)

@@ -25,9 +25,7 @@ abbrev pub joined : Cell → Cell → Cell
 joined cell more = record { sum = cell.sum +ℤ more.sum; squares = cell.squares +ℤ more.squares }
 
 pub cell_of-append : (ws vs : List ℤ) → cell_of (ws ++ vs) ≡ joined (cell_of ws) (cell_of vs)
-cell_of-append ws vs =
-    let squares : integer_sum (map (λ w. w *ℤ w) (ws ++ vs)) ≡ integer_sum (map (λ w. w *ℤ w) ws) +ℤ integer_sum (map (λ w. w *ℤ w) vs) = rw (map-append (λ w. w *ℤ w) ws vs) (integer_sum-append (map (λ w. w *ℤ w) ws) (map (λ w. w *ℤ w) vs)) in
-    rw (integer_sum-append ws vs, squares) refl
+cell_of-append ws vs = grind (arith, map-append, integer_sum-append)
 
 pub length-cells_on : (edges : List ℤ) → length (cells_on edges) ≡ length edges + 1
 length-cells_on edges = length-below (suc (length edges)) ∙ sym (add-one (length edges))
@@ -55,16 +53,11 @@ weights_no edges x w k ne = rw (ne_eqb (bin edges x) k (λ e. ne (sym e))) refl
 
 cell_yes : (edges : List ℤ) (points : List Item) (x w : ℤ) (k : ℕ) → k ≡ bin edges x
     → flat_cell edges (points ++ Point x w ∷ []) k ≡ joined (flat_cell edges points k) (record { sum = w; squares = w *ℤ w })
-cell_yes edges points x w k e =
-    let ws = flat_map (weight_in edges k) points in
-    let split : flat_map (weight_in edges k) (points ++ Point x w ∷ []) ≡ ws ++ w ∷ [] = flat_map-append (weight_in edges k) points (Point x w ∷ []) ∙ ap (λ vs. ws ++ vs) (weights_yes edges x w k e) in
-    ap cell_of split ∙ cell_of-append ws (w ∷ []) ∙ rw (+ℤ_idl w, +ℤ_idl (w *ℤ w)) refl
+cell_yes edges points x w k e = grind (arith, flat_map-append, weights_yes, cell_of-append, +ℤ_idl)
 
 cell_no : (edges : List ℤ) (points : List Item) (x w : ℤ) (k : ℕ) → (k ≡ bin edges x → ⊥)
     → flat_cell edges (points ++ Point x w ∷ []) k ≡ flat_cell edges points k
-cell_no edges points x w k ne =
-    let ws = flat_map (weight_in edges k) points in
-    ap cell_of (flat_map-append (weight_in edges k) points (Point x w ∷ []) ∙ ap (λ vs. ws ++ vs) (weights_no edges x w k ne) ∙ append-nil ws)
+cell_no edges points x w k ne = grind (arith, flat_map-append, weights_no, append-nil)
 
 pub length-flat_cells : (edges : List ℤ) (points : List Item) → length (flat_cells edges points) ≡ length edges + 1
 length-flat_cells edges points = length-map (cells_on edges) (flat_cell edges points) ∙ length-cells_on edges
@@ -108,12 +101,7 @@ flat_cells-point edges points x w cells cell size within read same =
 pub flat_cells-append : (edges : List ℤ) (points more : List Item) (cells others all : List CellSum) → length cells ≡ length edges + 1 → length others ≡ length edges + 1 → length all ≡ length edges + 1
     → ((k : ℕ) (d : CellSum) → k < length cells → get_or all k d ≡ together (get_or cells k d) (get_or others k d))
     → map cell_seen cells ≡ flat_cells edges points → map cell_seen others ≡ flat_cells edges more → map cell_seen all ≡ flat_cells edges (points ++ more)
-flat_cells-append edges points more cells others all size size' size'' each same same' =
-    from_places edges (points ++ more) all size''
-    (λ k d l.
-    ap cell_seen (each k d (omega arith)) ∙ ap (λ c. joined c (cell_seen (get_or others k d))) (kept_at edges points cells k d size same l)
-    ∙ ap (λ c. joined (flat_cell edges points k) c) (kept_at edges more others k d size' same' l)
-    ∙ sym (ap cell_of (flat_map-append (weight_in edges k) points more) ∙ cell_of-append (flat_map (weight_in edges k) points) (flat_map (weight_in edges k) more)))
+flat_cells-append edges points more cells others all size size' h each same same' = grind (arith, from_places, kept_at, flat_map-append, cell_of-append)
 
 -- cells without weights are those of no points
 pub flat_cells-none : (edges : List ℤ) (cells : List CellSum) → length cells ≡ length edges + 1

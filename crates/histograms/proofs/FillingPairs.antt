@@ -75,9 +75,7 @@ module _ (xs ys : List ℤ) where
       ap cell_of (flat_map-append (weight_in2 xs ys i j) points (Point2 x y w ∷ []) ∙ ap (λ vs. ws ++ vs) (weights_yes x y w i j e f)) ∙ cell_of-append ws (w ∷ []) ∙ rw (+ℤ_idl w, +ℤ_idl (w *ℤ w)) refl
 
   cell_no : (points : List Item) (x y w : ℤ) (i j : ℕ) → flat_map (weight_in2 xs ys i j) (Point2 x y w ∷ []) ≡ [] → square_cell xs ys (points ++ Point2 x y w ∷ []) i j ≡ square_cell xs ys points i j
-  cell_no points x y w i j none =
-      let ws = flat_map (weight_in2 xs ys i j) points in
-      ap cell_of (flat_map-append (weight_in2 xs ys i j) points (Point2 x y w ∷ []) ∙ ap (λ vs. ws ++ vs) none ∙ append-nil ws)
+  cell_no points x y w i j none = grind (arith, flat_map-append, append-nil)
 
   -- the cells after one more point
   pub square_cells-point : (points : List Item) (x y w : ℤ) (cells : List CellSum) (cell : CellSum) (place : ℕ) → length cells ≡ (length xs + 1) * (length ys + 1) → bin xs x ≤ length xs → bin ys y ≤ length ys
@@ -128,10 +126,7 @@ module _ (xs ys : List ℤ) where
   -- one row of the cells that are seen
   pub cell_of_row : (cells : List CellSum) (i j : ℕ) (d : Cell) → i ≤ length xs → j ≤ length ys
       → get_or (get_or (rows_on xs ys (map cell_seen cells)) i []) j d ≡ get_or (map cell_seen cells) (i * (length ys + 1) + j) d
-  cell_of_row cells i j d l m =
-      let w = length ys + 1 in
-      ap (λ r. get_or r j d) (get_or-cells_on (λ k. take w (drop (k * w) (map cell_seen cells))) xs i [] l)
-      ∙ get_or-take w (drop (i * w) (map cell_seen cells)) j d (omega arith) ∙ get_or-drop (i * w) (map cell_seen cells) j d
+  cell_of_row cells i j d l m = grind (arith, get_or-cells_on, get_or-take, get_or-drop)
 
 -- the place of a cell lies in the list
 pub place_within : (xs ys : List ℤ) (i j place size : ℕ) → size ≡ (length xs + 1) * (length ys + 1) → i ≤ length xs → j ≤ length ys → place ≡ i * (length ys + 1) + j → place < size

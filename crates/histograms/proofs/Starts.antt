@@ -12,9 +12,7 @@ use Rattle.histograms.proofs.Rising.{count_by-partition, partitioned_by_rise, ri
 
 -- a greater number is in no bucket below
 pub bucket_of-mono : (first : ℤ) (shift : ℕ) (a b : ℤ) → first ≤ℤ a → a ≤ℤ b → bucket_of first shift a ≤ bucket_of first shift b
-bucket_of-mono first shift a b l m =
-    let further : unsigned_abs (a -ℤ first) ≤ unsigned_abs (b -ℤ first) = grind (arith, ints) in
-    shr_mono shift further
+bucket_of-mono first shift a b l m = grind (arith, ints, shr_mono)
 
 -- one more edge is in place, by which more buckets may begin
 pub starts-more : (bucket : ℕ → ℕ) (edges : ℕ) (starts more : List ℕ) (i : ℕ) → i < edges → AreStarts bucket edges starts i
@@ -71,11 +69,7 @@ below-itself a b l m = grind (arith, ints)
 
 -- a number below the last edge has a bucket
 pub bucket-within : (edges : List ℤ) (kept : Buckets) (v : ℤ) → KeepsEdges edges kept → kept.first ≤ℤ v → v <ℤ kept.last → bucket_of kept.first kept.shift v < length kept.starts.items
-bucket-within edges kept v keeps low high =
-    let two = two_of_axis edges keeps.axis.rise in
-    let most = bucket_of-mono kept.first kept.shift v kept.last low (below-is_at_most v kept.last high) in
-    let last = subst (λ e. bucket_of kept.first kept.shift e < length kept.starts.items) keeps.buckets.last (keeps.buckets.starts.reached (length edges - 1) (omega arith)) in
-    omega arith
+bucket-within edges kept v keeps low high = grind (arith, two_of_axis, bucket_of-mono, below-is_at_most)
 
 -- the edges in the buckets below a number's are below it
 start-below : (edges : List ℤ) (kept : Buckets) (v : ℤ) → KeepsEdges edges kept → kept.first ≤ℤ v → v <ℤ kept.last
@@ -104,11 +98,7 @@ reached-start edges kept v start keeps low high fits is =
     }
 
 below-by : (edges : List ℤ) (v : ℤ) (start : ℕ) (p : Bool) → int_le (get_or edges start (pos 0)) v ≡ p → IsReached edges v start → (k : ℕ) → k < start + bool_byte p → get_or edges k (pos 0) ≤ℤ v
-below-by edges v start true at so_far k l = elim (cases_lt k start) [
-  | inl under ↦ so_far.below k under
-  | inr here ↦ let same : k ≡ start = omega arith in rw same (passed (get_or edges start (pos 0)) v at)
-]
-below-by edges v start false at so_far k l = so_far.below k (omega arith)
+below-by edges v start p h so_far k l = grind (arith, cases_lt, passed)
 
 -- where each edge below a cell is at most a number below the last edge, the cell has an edge
 within-by : (edges : List ℤ) (v : ℤ) (cell : ℕ) → 0 < length edges → ((k : ℕ) → k < cell → get_or edges k (pos 0) ≤ℤ v) → v <ℤ get_or edges (length edges - 1) (pos 0) → cell < length edges

@@ -89,9 +89,7 @@ ended_done x (s ∷ ss) all ends =
     omega (arith, sum_by-cons (λ (t : Slot). times x (done_of t)) s ss, sum_by-cons (λ (t : Slot). times x t.drawn) s ss, ap (times x) first)
   where
     one : (drawn : List ℕ) (held : Option ℕ) (p : Phase) → p ≡ Ended → EndsIn drawn held p → done_in drawn held p ≡ drawn
-    one drawn (Some c) Ended is ends = elim ends [ ]
-    one drawn None Ended is ends = refl
-    one drawn held p is ends = absurd (cc)
+    one drawn held p is ends = grind arith
 
 pub first_fault_is_told : FirstFaultIsTold
 first_fault_is_told clusters slots es m faults some h over size order honest =

@@ -105,10 +105,7 @@ fault_in s = fault_of s.phase
 -- what a slot without a fault becomes takes no fault away
 among_kept : (g : LoopFault) (slots : List Slot) (i : ℕ) (s now : Slot) → slice_get slots i ≡ Some s → s.phase ≡ Running → Among g (flat_map fault_in slots) → Among g (flat_map fault_in (set slots i now))
 among_kept g [] i s now at runs h = elim h [ ]
-among_kept g (t ∷ ts) zero s now at runs h =
-    let same : t ≡ s = cc in
-    let none : fault_in t ≡ [] = ap fault_in same ∙ ap fault_of runs in
-    among_right g (fault_in now) (flat_map fault_in ts) (subst (λ l. Among g (l ++ flat_map fault_in ts)) none h)
+among_kept g (t ∷ ts) zero s now at runs h = grind (arith, among_right, Among)
 among_kept g (t ∷ ts) (suc i) s now at runs h = elim (among_either g (fault_in t) (flat_map fault_in ts) h) [
   | inl a ↦ among_left g (fault_in t) (flat_map fault_in (set ts i now)) a
   | inr b ↦ among_right g (fault_in t) (flat_map fault_in (set ts i now)) (among_kept g ts i s now at runs b)

@@ -47,11 +47,7 @@ ended clusters next bar s None l h = grind (arith, nat_tests)
 ended clusters next bar s (Some k) l h = absurd (cc)
 
 how : (clusters next bar : ℕ) (s : Slot) (e : Event) (l : Left) → running_step clusters next bar s e ≡ Ok l → How clusters next bar s e l
-how clusters next bar s (Claim i c) l h = claimed clusters next bar c s s.held l h
-how clusters next bar s (Finish i c) l h = given_up next bar c s s.held Running l h
-how clusters next bar s (Fault i c f) l h = given_up next (min bar c) c s s.held (Faulted f) l h
-how clusters next bar s (Skip i c) l h = passed_over next bar c s s.held l h
-how clusters next bar s (End i) l h = ended clusters next bar s s.held l h
+how clusters next bar s e l h = grind (arith, claimed, given_up, passed_over, ended)
 
 running : (i : ℕ) (p : Phase) (r : Result Left StepCause) (l : Left) → if_running i p r ≡ Ok l → (p ≡ Running) × (r ≡ Ok l)
 running i Running r l h = (refl, h)

@@ -163,6 +163,7 @@ fn slot_of(event: Event) -> u32
 }
 
 /// An event of the slots: how far they have come then.
+#[tactic(auto, using(crate::proofs::Stepping::among))]
 pub fn step_among(
     slots: &mut [Slot],
     clusters: u32,

@@ -8,19 +8,4 @@ use Rattle.actions.proofs.Batching.{one_point_more}
 use Rattle.actions.proofs.fills.fill_weighted.Goals as goal
 
 pub loop-i-preserved : goal.loop-i-preserved
-loop-i-preserved c =
-    let ps = places_of c.args.places.now in
-    let i = c.loop-i.i in
-    let below : i < length ps = search rules in
-    let x = get_or c.args.numbers.now c.at-place.result (pos 0) in
-    let w = get_or c.args.weights.now c.at-place.result (pos 0) in
-    let fits_x : FitsSigned w64 x = search rules in
-    let fits_w : FitsSigned w64 w = search rules in
-    let f : ℕ → Item = λ p. Point (get_or c.args.numbers.now p (pos 0)) (get_or c.args.weights.now p (pos 0)) in
-    record {
-      edges = c.fill.ensures.edges ∙ c.loop-i.invariant.edges;
-      fills = c.fill.ensures.fills ∙ (let e = c.loop-i.invariant.fills in omega arith);
-      filled = λ before held. subst (HasFilled c.fill.new.self)
-          (one_point_more before f ps i _ below ((λ j. Point (to_z-of_z w64 x fits_x j) (to_z-of_z w64 w fits_w j)) ∙ ap f (sym c.at-place.ensures)))
-          (c.fill.ensures.filled (before ++ map f (take i ps)) (c.loop-i.invariant.filled before held));
-    }
+loop-i-preserved = grind (arith, one_point_more, to_z-of_z)

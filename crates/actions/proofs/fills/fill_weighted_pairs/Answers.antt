@@ -8,22 +8,4 @@ use Rattle.actions.proofs.Batching.{one_point_more}
 use Rattle.actions.proofs.fills.fill_weighted_pairs.Goals as goal
 
 pub loop-i-preserved : goal.loop-i-preserved
-loop-i-preserved c =
-    let ps = places_of c.args.places.now in
-    let i = c.loop-i.i in
-    let below : i < length ps = search rules in
-    let x = get_or c.args.xs.now c.at-place.result (pos 0) in
-    let y = get_or c.args.ys.now c.at-place.result (pos 0) in
-    let fits_x : FitsSigned w64 x = search rules in
-    let fits_y : FitsSigned w64 y = search rules in
-    let w = get_or c.args.weights.now c.at-place.result (pos 0) in
-    let fits_w : FitsSigned w64 w = search rules in
-    let f : ℕ → Item = λ p. Point2 (get_or c.args.xs.now p (pos 0)) (get_or c.args.ys.now p (pos 0)) (get_or c.args.weights.now p (pos 0)) in
-    record {
-      x_edges = c.fill.ensures.x_edges ∙ c.loop-i.invariant.x_edges;
-      y_edges = c.fill.ensures.y_edges ∙ c.loop-i.invariant.y_edges;
-      fills = c.fill.ensures.fills ∙ (let e = c.loop-i.invariant.fills in omega arith);
-      filled = λ before held. subst (HasFilled2 c.fill.new.self)
-          (one_point_more before f ps i _ below ((λ j. Point2 (to_z-of_z w64 x fits_x j) (to_z-of_z w64 y fits_y j) (to_z-of_z w64 w fits_w j)) ∙ ap f (sym c.at-place.ensures)))
-          (c.fill.ensures.filled (before ++ map f (take i ps)) (c.loop-i.invariant.filled before held));
-    }
+loop-i-preserved = grind (arith, one_point_more, to_z-of_z)

@@ -31,16 +31,7 @@ returns-in-Int-First-clause-bounded g c =
     rw (c.in-Int-First.is-0, c.in-Int-First.is-1) (omega (arith, bounded, same))
 
 pub take_in-requires-in-loop-i : goal.take_in-requires-in-loop-i
-take_in-requires-in-loop-i g c =
-    let ps = places_of c.args.places.now in
-    let i = c.loop-i.i in
-    let f : ℕ → List ℤ = λ p. numbers (lane_value c.args.lane.now p) in
-    let below : i < length ps = search rules in
-    let within = taken_within f ps i below in
-    let bounded = c.loop-i.invariant.bounded in
-    let room = c.requires.room in
-    let here : length c.numbers.result.now ≡ length (f (get_or ps i 0)) = ap length (c.numbers.ensures ∙ ap f (sym c.at.ensures)) in
-    record { room = omega (arith, within, bounded, room, here) }
+take_in-requires-in-loop-i = grind (arith, taken_within)
 
 pub fold_listed-requires-clause-room : goal.fold_listed-requires-clause-room
 fold_listed-requires-clause-room g c =

@@ -10,10 +10,4 @@ invariant_of-self c =
     record { few = omega arith; within = c.in-Ok.ensures.within c.self.inside.entries c.self.invariant.within }
 
 pub returns-in-Ok-clause-fed : goal.returns-in-Ok-clause-fed
-returns-in-Ok-clause-fed c = λ fed held.
-    let before = rw (← c.self.view_is) at held in
-    let rising = rw (← c.self.view_is) at c.requires.rising in
-    let below = all_below fed c.self.inside.last c.args.cluster rising before.below in
-    let now = c.in-Ok.ensures.fed fed below (record { made = before.filled; kept = before.kept }) in
-    let items = spread (kind_of c.self.inside.state) (values_of c.args.items.now) in
-    rw (← c.self.view_is) (record { filled = now.made; kept = now.kept; below = all_below-feed fed c.args.cluster items below })
+returns-in-Ok-clause-fed = grind (arith, all_below, all_below-feed)

@@ -6,11 +6,7 @@ use Rattle.actions.proofs.Points.{one_filled}
 use Rattle.actions.proofs.folding.Hist1Folds.take_in.Goals as goal
 
 pub fill-requires-clause-room : goal.fill-requires-clause-room
-fill-requires-clause-room c =
-    let room = c.requires.room in
-    let fills = c.loop-number.invariant.fills in
-    let below : c.loop-number.number-index < length c.args.numbers.now = search rules in
-    omega (arith, room, fills, below)
+fill-requires-clause-room = grind arith
 
 pub loop-number-preserved : goal.loop-number-preserved
 loop-number-preserved c =

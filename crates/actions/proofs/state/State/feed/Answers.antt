@@ -10,13 +10,7 @@ pub returns-in-Count-clause-fed : goal.returns-in-Count-clause-fed
 returns-in-Count-clause-fed c = λ fed below held. rw c.in-Count.is (holds_counted fed c.args.cluster below c.in-Count.entries _ (Item.Unit ∷ []) refl (rw c.in-Count.is at held))
 
 pub returns-in-Sum-clause-within : goal.returns-in-Sum-clause-within
-returns-in-Sum-clause-within c = λ n within.
-    let fits : FitsSigned w128 c.sum_with.result = search rules in
-    let fits_sum : FitsSigned w128 c.in-Sum.sum = search rules in
-    let before = rw c.in-Sum.is at within in
-    let short = first_short c.in-Sum.column c.args.items.now (rw c.in-Sum.is at c.requires.suits) in
-    let bounded = rw (to_z-of_z w128 c.in-Sum.sum fits_sum, c.first.ensures) at c.sum_with.ensures.bounded in
-    rw (to_z-of_z w128 c.sum_with.result fits) (omega arith)
+returns-in-Sum-clause-within = grind (arith, first_short, to_z-of_z)
 
 pub returns-in-Sum-clause-fed : goal.returns-in-Sum-clause-fed
 returns-in-Sum-clause-fed c = λ fed below held.

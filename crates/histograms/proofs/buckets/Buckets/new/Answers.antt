@@ -5,11 +5,7 @@ use Rattle.histograms.proofs.Starts.{starts-more}
 use Rattle.histograms.proofs.buckets.Buckets.new.Goals as goal
 
 pub loop-cell-preserved : goal.loop-cell-preserved
-loop-cell-preserved c =
-    let edge : FitsSigned w64 (get_or c.args.edges.now c.loop-cell.cell (pos 0)) = search rules in
-    let begun = c.in_ok-begin_up_to.ensures in
-    let bucket = c.bucket_of.ensures ∙ ap (bucket_of _ c.shift_for-shift.result) (to_z-of_z w64 _ edge) in
-    starts-more _ _ _ _ c.loop-cell.cell c.loop-cell-test.true c.loop-cell.invariant begun.kept begun.begun begun.longer (subst (λ b. b < length c.begin_up_to.new.starts.items) bucket begun.reached)
+loop-cell-preserved = grind (arith, to_z-of_z, starts-more)
 
 pub returns : goal.returns
 returns c =

@@ -22,12 +22,7 @@ returns-then-value-self-2-clause-value c =
     (c.len.ensures ∙ size ∙ sym (bin-above c.self.inside.edges.items c.args.value rise (omega arith) (rw c.self.invariant.buckets.last (is_at_most _ _ last c.ranges.value c.if-value-self-2.true))))
 
 pub start-start-requires-clause-bucket : goal.start-start-requires-clause-bucket
-start-start-requires-clause-bucket c =
-    let first : FitsSigned w64 c.self.inside.buckets.first = search rules in
-    let last : FitsSigned w64 c.self.inside.buckets.last = search rules in
-    let low = not_below _ _ c.ranges.value first c.if-value-self.false in
-    let high = exceeds_it _ _ last c.ranges.value c.if-value-self-2.false in
-    rw (to_z-of_z w64 c.args.value c.ranges.value) (bucket-within c.self.inside.edges.items c.self.inside.buckets c.args.value c.self.invariant low high)
+start-start-requires-clause-bucket = grind (arith, not_below, exceeds_it, to_z-of_z, bucket-within)
 
 pub index-requires : goal.index-requires
 index-requires c =

@@ -21,13 +21,4 @@ invariant_of-self c =
     }
 
 pub returns-clause-filled : goal.returns-clause-filled
-returns-clause-filled c = λ points held.
-    let cells = c.self.inside.cells.items in
-    let edges = c.self.inside.x in
-    let kept : c.with.result ≡ with_weight c.index.result.now c.args.weight = c.with.ensures ∙ ap (with_weight c.index.result.now) (to_z-of_z w64 c.args.weight c.ranges.weight) in
-    let place : c.bin-place.result ≡ bin edges c.args.x = c.bin-place.ensures.value ∙ ap (bin edges) (to_z-of_z w64 c.args.x c.ranges.x) in
-    let before = rw (← c.self.view_is) at held in
-    record {
-      cells = ap (λ v. map cell_seen (set cells c.bin-place.result v)) kept ∙ ap (λ i. map cell_seen (set cells i (with_weight c.index.result.now c.args.weight))) place
-          ∙ flat_cells-point edges points c.args.x c.args.weight cells c.index.result.now c.self.invariant.size (subst (λ i. i ≤ length edges) place c.bin-place.ensures.within) (c.index.ensures ∙ ap (λ i. get_or cells i c.index.result.now) place) before.cells;
-    }
+returns-clause-filled = grind (arith, to_z-of_z, flat_cells-point)

@@ -6,13 +6,7 @@ use Rattle.histograms.proofs.FillingPairs.{cell_of_row, length-row, length-rows,
 use Rattle.histograms.proofs.hist2.Hist2.cell.Goals as goal
 
 pub index-requires : goal.index-requires
-index-requires c =
-    let size : vec_len c.self.inside.cells ≡ length c.self.inside.cells.items = search rules in
-    let rows = rw (← c.self.view_is, length-rows c.self.inside.x c.self.inside.y c.self.inside.cells.items) at c.requires.x in
-    let x : c.args.i ≤ length c.self.inside.x = omega arith in
-    let columns = rw (← c.self.view_is, length-row c.self.inside.x c.self.inside.y c.self.inside.cells.items c.args.i c.self.invariant.size x) at c.requires.y in
-    let y : c.args.j ≤ length c.self.inside.y = omega arith in
-    place_within c.self.inside.x c.self.inside.y c.args.i c.args.j c.place-at.result (vec_len c.self.inside.cells) (size ∙ c.self.invariant.size) x y (c.place-at.ensures ∙ ap (λ w. c.args.i * w + c.args.j) c.cells.ensures)
+index-requires = grind (arith, length-rows, length-row, place_within)
 
 pub returns : goal.returns
 returns c =

@@ -6,6 +6,4 @@ pub returns-clause-rows : goal.returns-clause-rows
 returns-clause-rows c = rw (← c.self.view_is) (c.cells.ensures ∙ sym (length-rows c.self.inside.x c.self.inside.y c.self.inside.cells.items))
 
 pub returns-clause-columns : goal.returns-clause-columns
-returns-clause-columns c = λ i l.
-    let at : i ≤ length c.self.inside.x = let e = c.cells.ensures in omega arith in
-    rw (← c.self.view_is) (length-row c.self.inside.x c.self.inside.y c.self.inside.cells.items i c.self.invariant.size at ∙ sym c.cells-2.ensures)
+returns-clause-columns = grind (arith, length-row)

@@ -11,10 +11,7 @@ bounded_next : (n : ℕ) (cells : List CellSum) (i : ℕ) (cell new : CellSum) (
 bounded_next n cells i cell new w h all l read e = subst (IsBounded (n + 1)) (sym e) (bounded_with n cell w h (subst (IsBounded n) (sym read) (all i cell l)))
 
 pub index-requires : goal.index-requires
-index-requires c =
-    let size : vec_len c.self.inside.cells ≡ length c.self.inside.cells.items = search rules in
-    place_within c.self.inside.x c.self.inside.y c.bin.result c.bin-2.result c.place-at.result (vec_len c.self.inside.cells) (size ∙ c.self.invariant.size) c.bin.ensures.within c.bin-2.ensures.within
-    (c.place-at.ensures ∙ ap (λ w. c.bin.result * w + c.bin-2.result) c.cells.ensures)
+index-requires = grind (arith, place_within)
 
 pub with-requires-clause-sum : goal.with-requires-clause-sum
 with-requires-clause-sum c =
@@ -35,10 +32,7 @@ with-requires-clause-squares c =
     (bounded_next c.self.inside.fills c.self.inside.cells.items c.place-at.result c.index.result.now _ c.args.weight c.requires.weight c.self.invariant.bounded below c.index.ensures refl)).1
 
 pub index_mut-requires : goal.index_mut-requires
-index_mut-requires c =
-    let size : vec_len c.self.inside.cells ≡ length c.self.inside.cells.items = search rules in
-    place_within c.self.inside.x c.self.inside.y c.bin.result c.bin-2.result c.place-at.result (vec_len c.self.inside.cells) (size ∙ c.self.invariant.size) c.bin.ensures.within c.bin-2.ensures.within
-    (c.place-at.ensures ∙ ap (λ w. c.bin.result * w + c.bin-2.result) c.cells.ensures)
+index_mut-requires = grind (arith, place_within)
 
 pub invariant_of-self : goal.invariant_of-self
 invariant_of-self c =
