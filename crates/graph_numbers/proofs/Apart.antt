@@ -8,7 +8,7 @@ use Rattle.rdf_values.specs.{among, AreAccepted, check, check_node, check_tags, 
 use Rattle.rdf_values.specs.declared.statement.Statement.TheVariants.{Define, Redefine, Filter, Vary}
 use Rattle.rdf_values.specs.declared.vary_values.VaryValues.TheVariants.{Lists, Vector}
 use Rattle.rdf_model.specs.{same_site, Site, site_at}
-use Rattle.rdf_model.proofs.Accepted.{both_none, if_fails, names_equal, itself}
+use Rattle.rdf_model.proofs.Accepted.{all_none, both_none, if_fails, names_equal, itself, turned}
 use Rattle.graph_numbers.specs.{list_sites, lists_sites, own_sites, site_in, SiteAt, sites}
 use Rattle.graph_numbers.proofs.Listed.{by_test, joined, only_at}
 
@@ -93,9 +93,8 @@ module _ (header : List Column) (names : FunctionNames) where
   -- a node that was checked is new
   pub is_new : (before : List Statement) (node parent : List ℕ) (rest : List (Option GraphCause)) → first_refusal (check_node before node parent ∷ rest) ≡ None → MadeBy before node ≡ false
   is_new before node parent rest ok =
-      let p = both_none (check_node before node parent) rest ok in
-      let q = both_none (refuse_if (is_in_use before node) GraphCause.NameTaken) (refuse_unless (is_node before parent) GraphCause.UnknownName ∷ []) p.0 in
-      let free : is_in_use before node ≡ false = if_fails (is_in_use before node) GraphCause.NameTaken q.0 in
+      let checks = (both_none (check_node before node parent) rest ok).0 in
+      let free = if_fails (is_in_use before node) GraphCause.NameTaken (both_none (refuse_if (is_in_use before node) GraphCause.NameTaken) (refuse_unless (is_node before parent) GraphCause.UnknownName ∷ []) checks).0 in
       (neither (same node (codes "df")) (MadeBy before node) (neither (is_node before node) (is_result before node) free).0).1
 
   -- the node is the statement's own, and new
@@ -156,7 +155,7 @@ any_false p (x ∷ xs) zero a h q = let e : x ≡ a = cc q in ap p (sym e) ∙ (
 any_false p (x ∷ xs) (suc k) a h q = any_false p xs k a (neither (p x) (list_any p xs) h).1 q
 
 pub other_way : (a b : List ℕ) → same a b ≡ false → same b a ≡ false
-other_way a b h = never_true (same b a) (λ e. cc (sym h ∙ ap (same a) (names_equal b a e) ∙ itself a))
+other_way a b h = turned b a ∙ h
 
 tags_apart : (tags : List (List ℕ)) → repeats tags ≡ false → AreApart same tags
 tags_apart [] h m n a b lt p q = cc p
@@ -178,14 +177,10 @@ module _ (header : List Column) (names : FunctionNames) where
   tags_checked before node parent vary columns tags values ok =
       let targets : Option GraphCause = first_refusal (map (check_target (scope_at names (scope_of header) before parent) (path before parent)) columns) in
       let value : Option GraphCause = check_values names (scope_at names (scope_of header) before parent) (length tags) columns values in
-      let a = both_none (check_node before node parent) (refuse_if (repeats columns) GraphCause.NameTaken ∷ targets ∷ check_tags before tags vary ∷ value ∷ []) ok in
-      let b = both_none (refuse_if (repeats columns) GraphCause.NameTaken) (targets ∷ check_tags before tags vary ∷ value ∷ []) a.1 in
-      let c = both_none targets (check_tags before tags vary ∷ value ∷ []) b.1 in
-      let d = both_none (check_tags before tags vary) (value ∷ []) c.1 in
+      let all = all_none (check_node before node parent ∷ refuse_if (repeats columns) GraphCause.NameTaken ∷ targets ∷ check_tags before tags vary ∷ value ∷ []) ok in
       let many : Option GraphCause = refuse_if (nat_lt 16 (length tags) || nat_lt 128 (length (variations before) + length tags)) GraphCause.TooMany in
-      let e = both_none (refuse_if (repeats tags) GraphCause.NameTaken) (refuse_if (is_variation_name before vary) GraphCause.NameTaken ∷ many ∷ []) d.0 in
-      let f = both_none (refuse_if (is_variation_name before vary) GraphCause.NameTaken) (many ∷ []) e.1 in
-      (if_fails (repeats tags) GraphCause.NameTaken e.0, if_fails (is_variation_name before vary) GraphCause.NameTaken f.0)
+      let own = all_none (refuse_if (repeats tags) GraphCause.NameTaken ∷ refuse_if (is_variation_name before vary) GraphCause.NameTaken ∷ many ∷ []) all.1.1.1.0 in
+      (if_fails (repeats tags) GraphCause.NameTaken own.0, if_fails (is_variation_name before vary) GraphCause.NameTaken own.1.0)
 
   own_variations_apart : (before : List Statement) (s : Statement) → check names (scope_of header) before s ≡ None → AreApart same_variation (own_variations s)
   own_variations_apart before (Vary node parent columns values tags vary) ok m n x y lt p q =

@@ -2,10 +2,10 @@
 use Rattle.std.proofs.Common.{option_map, ◌≡◌, ℕ, suc, ◌+◌, List, [], ◌∷◌, ◌++◌, length, map, Some, None, refl, sym, ◌∙◌, ap, subst, arith, slice_get, append_assoc, length-append}
 use Rattle.std.specs.Prelude.{⊤}
 use Rattle.std.proofs.lemmas.List.{append-nil, length-map, map-append}
-use Rattle.rdf_values.specs.{ActionAt, ActionKind, Column, covered, fn_names, Function, FunctionNames, makes, named_before, named_on, parent_of, Path, path, ReportOn, Statement, Under, Value}
+use Rattle.rdf_values.specs.{ActionAt, ActionKind, Column, covered, fn_names, Function, FunctionNames, history, makes, named_before, named_on, parent_of, Path, path, ReportOn, Statement, Under, Value}
 use Rattle.rdf_values.specs.declared.statement.Statement.TheVariants.{Filter, Action, Report}
 use Rattle.rdf_model.specs.{◌>>=◌, Outcome, report_outcome, site_at, through}
-use Rattle.graph_numbers.specs.{all_or, condition_in, condition_of, conditions_on, covered_at, filter_sites, FilterAt, filters, filters_on, numbers_from, own_filter, own_filter_site, own_filters, own_sites, report_numbers, ResultAt, results, site_count, site_in, sites, through_filter, through_sites}
+use Rattle.graph_numbers.specs.{all_or, condition_in, condition_of, conditions_on, covered_at, filter_sites, FilterAt, filters, FiltersAreTheScripts, filters_on, numbers_from, own_filter, own_filter_site, own_filters, own_sites, report_numbers, ReportsCoverFilters, ResultAt, results, site_count, site_in, sites, through_filter, through_sites}
 use Rattle.graph_numbers.proofs.Listed.{by_test, next_at}
 use Rattle.graph_numbers.proofs.Walks.{each_filter, each_result}
 use Rattle.graph_numbers.proofs.Extending.{Extends, itself, further, kept, site_kept, shorter}
@@ -198,3 +198,11 @@ module _ (fns : List Function) (columns : List Column) where
       subst (AreNumbersOf fns columns (Report result parent ∷ upto) (covered_at upto parent)) same
       (numbers_later fns columns upto (Report result parent ∷ upto) (further (Report result parent) itself) (covered_at upto parent) (covered upto (path upto parent)) (covered_numbers fns columns upto parent)))
       before n r h is)
+
+-- ---- as laws of a booked graph
+
+pub filters_are_the_scripts : FiltersAreTheScripts
+filters_are_the_scripts g = filters_are g.header g.names (history g.script)
+
+pub reports_cover_filters : ReportsCoverFilters
+reports_cover_filters script d n r paths h is = report_covers d.fns d.columns (history script) n r paths h is

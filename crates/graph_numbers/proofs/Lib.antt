@@ -8,7 +8,6 @@ pub mod Demands
 pub mod Equations
 pub mod Examples
 pub mod Extending
-pub mod AcceptedNumbers
 pub mod Looping
 pub mod Meeting
 pub mod Origins

@@ -5,7 +5,7 @@ use Rattle.std.proofs.lemmas.List.{append-nil}
 use Rattle.rdf_values.specs.{ActionKind, AreAccepted, bookings, check_columns, check_edges, check_node, check_passes, check_results, ColType, Column, column_kind, columns_of, fn_names, Function, GraphCause, makes, may_begin, NamedTree, parent_of, path, permitted_kinds, scope_at, scope_of, Statement, Under, Value}
 use Rattle.rdf_values.specs.declared.statement.Statement.TheVariants.{Filter, Action}
 use Rattle.rdf_model.specs.{◌>>=◌, action_outcome, column_value, expression_value, feed_outcome, for_all, Gives, Outcome, site_at, Skip, through, truth_of}
-use Rattle.rdf_model.proofs.Accepted.{both_none}
+use Rattle.rdf_model.proofs.Accepted.{all_none}
 use Rattle.graph_numbers.specs.{filter_sites, own_filter_site, site_count, site_in, site_outcome, site_value, sites, through_sites, version_at}
 use Rattle.graph_numbers.proofs.Listed.{by_test, next_at}
 use Rattle.graph_numbers.proofs.Extending.{shorter, Extends, site_kept}
@@ -90,9 +90,8 @@ module _ (M : Type 0) (fns : List Function) (columns : List Column) (row : List 
   pub action_visible : (earlier : List Statement) (result parent : List ℕ) (k : ActionKind) → AreAccepted (fn_names fns) (scope_of columns) (Action result parent k ∷ earlier) → AreVisible earlier parent (columns_of k)
   action_visible earlier result parent k good =
       let rest : List (Option GraphCause) = check_edges k ∷ check_results (Action result parent k ∷ earlier) ∷ check_passes earlier (bookings (Action result parent k ∷ earlier)) ∷ [] in
-      let p = both_none (check_node earlier result parent) (check_columns (scope_at (fn_names fns) (scope_of columns) earlier parent) (permitted_kinds k) [] (columns_of k) ∷ rest) good.0 in
-      let q = both_none (check_columns (scope_at (fn_names fns) (scope_of columns) earlier parent) (permitted_kinds k) [] (columns_of k)) rest p.1 in
-      checked_visible earlier parent (permitted_kinds k) [] (columns_of k) q.0
+      let all = all_none (check_node earlier result parent ∷ check_columns (scope_at (fn_names fns) (scope_of columns) earlier parent) (permitted_kinds k) [] (columns_of k) ∷ rest) good.0 in
+      checked_visible earlier parent (permitted_kinds k) [] (columns_of k) all.1.0
 
   -- an action by the numbers of its filters and of the versions that it reads
   pub action_is : (earlier : List Statement) (result parent : List ℕ) (k : ActionKind) → AreAccepted (fn_names fns) (scope_of columns) (Action result parent k ∷ earlier) → Extends earlier before

@@ -5,7 +5,7 @@ use Rattle.rdf_values.specs.{AreAccepted, callee, check, check_list, check_lists
 use Rattle.rdf_values.specs.declared.statement.Statement.TheVariants.{Define, Redefine, Filter, Vary}
 use Rattle.rdf_values.specs.declared.vary_values.VaryValues.TheVariants.{Lists, Vector}
 use Rattle.rdf_model.specs.{Site, site_at}
-use Rattle.rdf_model.proofs.Accepted.{both_none, kind_known, kind_expected, unless_holds, checked_of}
+use Rattle.rdf_model.proofs.Accepted.{all_none, both_none, kind_known, kind_expected, unless_holds, checked_of}
 use Rattle.rdf_model.proofs.KnownColumns.{IsKnownColumn, each_renamed, each_weaker, known_columns}
 use Rattle.graph_numbers.specs.{list_sites, lists_sites, own_sites, site_count, site_in, SiteAt, sites, version_at}
 use Rattle.graph_numbers.proofs.Listed.{joined, only_at}
@@ -59,8 +59,8 @@ module _ (header : List Column) (names : FunctionNames) where
   own_placed before (Redefine node parent column expr) k x ok h =
       let t = kind_known (kind_of (scope_at names (scope_of header) before parent) names expr) (checked_of names (scope_of header) before (Redefine node parent column expr) ok) in (parent, (site_at node, expr, t.0, sym (only_at _ x k h), t.1))
   own_placed before (Filter node parent expr label) k x ok h =
-      let p = both_none (check_node before node parent) (expect_kind ColType.Bool (kind_of (scope_at names (scope_of header) before parent) names expr) ∷ []) ok in
-      let q = both_none (expect_kind ColType.Bool (kind_of (scope_at names (scope_of header) before parent) names expr)) [] p.1 in (parent, (site_at node, expr, ColType.Bool, sym (only_at _ x k h), kind_expected ColType.Bool _ q.0))
+      let all = all_none (check_node before node parent ∷ expect_kind ColType.Bool (kind_of (scope_at names (scope_of header) before parent) names expr) ∷ []) ok in
+      (parent, (site_at node, expr, ColType.Bool, sym (only_at _ x k h), kind_expected ColType.Bool _ all.1.0))
   own_placed before (Vary node parent columns (Lists lists) tags vary) k x ok h =
       let c = checked_of names (scope_of header) before (Vary node parent columns (Lists lists) tags vary) ok in
       let p = both_none (refuse_unless (nat_eq (length lists) (length columns)) GraphCause.WrongCount) (check_lists names (scope_at names (scope_of header) before parent) (length tags) columns lists) c.1 in
@@ -68,10 +68,9 @@ module _ (header : List Column) (names : FunctionNames) where
       (parent, lists_own before parent node (length tags) 0 k columns lists x many p.1 h)
   own_placed before (Vary node parent columns (Vector e) tags vary) k x ok h =
       let c = checked_of names (scope_of header) before (Vary node parent columns (Vector e) tags vary) ok in
-      let p = both_none (refuse_unless (nat_eq (length columns) 1) GraphCause.WrongCount)
-      (expect_kind ColType.Vect (kind_of (scope_at names (scope_of header) before parent) names e) ∷ check_vector_column (scope_at names (scope_of header) before parent) columns ∷ []) c.1 in
-      let q = both_none (expect_kind ColType.Vect (kind_of (scope_at names (scope_of header) before parent) names e)) (check_vector_column (scope_at names (scope_of header) before parent) columns ∷ []) p.1 in
-      (parent, (site_at node, e, ColType.Vect, sym (only_at _ x k h), kind_expected ColType.Vect _ q.0))
+      let scope = scope_at names (scope_of header) before parent in
+      let all = all_none (refuse_unless (nat_eq (length columns) 1) GraphCause.WrongCount ∷ expect_kind ColType.Vect (kind_of scope names e) ∷ check_vector_column scope columns ∷ []) c.1 in
+      (parent, (site_at node, e, ColType.Vect, sym (only_at _ x k h), kind_expected ColType.Vect _ all.1.0))
   own_placed before s k x ok h = cc h
 
   placed_upto : (before upto : List Statement) → Extends upto before → AreAccepted names (scope_of header) upto → (s : ℕ) (x : SiteAt) → slice_get (sites header names upto) s ≡ Some x → IsPlaced before s x

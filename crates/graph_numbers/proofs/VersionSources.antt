@@ -6,7 +6,7 @@ use Rattle.rdf_values.specs.{AreAccepted, check_target, Column, first_refusal, F
 use Rattle.rdf_values.specs.declared.statement.Statement.TheVariants.{Define, Redefine, Vary}
 use Rattle.rdf_values.specs.declared.vary_values.VaryValues.TheVariants.{Lists, Vector}
 use Rattle.rdf_model.specs.{own_place}
-use Rattle.rdf_model.proofs.Accepted.{both_none, checked_of, if_fails, itself as same_as_itself, names_equal, no_target, unless_holds, visible_known}
+use Rattle.rdf_model.proofs.Accepted.{all_none, both_none, checked_of, if_fails, itself as same_as_itself, names_equal, no_target, unless_holds, visible_known}
 use Rattle.graph_numbers.specs.{cell_sources, cell_versions, IsSourceOf, list_start, named_version, numbers_from, own_source, own_sources, own_versions, site_count, Source, source_in, sources, tag_source, under_at, varied_sources, varied_version, varied_versions, Version, version_kinds, versions}
 use Rattle.graph_numbers.proofs.Apart.{variation_number}
 use Rattle.graph_numbers.proofs.Extending.{Extends, itself, further, kept, shorter, source_count, source_kept, versions_count}
@@ -138,10 +138,9 @@ module _ (header : List Column) (names : FunctionNames) (script : List Statement
       → check_target (scope_at names (scope_of header) before parent) (path before parent) name ≡ None
       → (b : Source) × (slice_get (list_of before) (named_version header before parent name) ≡ Some b)
   below_there before ok parent name h =
-      let p = both_none (refuse_unless (is_visible (scope_at names (scope_of header) before parent) name) GraphCause.UnknownColumn) (refuse_if (is_alias (path before parent) name) GraphCause.AliasTarget ∷ []) h in
-      let q = both_none (refuse_if (is_alias (path before parent) name) GraphCause.AliasTarget) [] p.1 in
+      let p = all_none (refuse_unless (is_visible (scope_at names (scope_of header) before parent) name) GraphCause.UnknownColumn ∷ refuse_if (is_alias (path before parent) name) GraphCause.AliasTarget ∷ []) h in
       let t = visible_known (scope_at names (scope_of header) before parent) name (unless_holds (is_visible (scope_at names (scope_of header) before parent) name) GraphCause.UnknownColumn p.0) in
-      let own : target_of (path before parent) name ≡ name = no_target (path before parent) name (if_fails (is_alias (path before parent) name) GraphCause.AliasTarget q.0) in
+      let own : target_of (path before parent) name ≡ name = no_target (path before parent) name (if_fails (is_alias (path before parent) name) GraphCause.AliasTarget p.1.0) in
       let at : slice_get (version_kinds header names before) (named_version header before parent name) ≡ Some t.0 =
       ap (λ n. slice_get (version_kinds header names before) (named_version header before parent n)) (sym own) ∙ visible_kind header names before ok parent name t.0 t.1 in
       let lt = slice_get_within (version_kinds header names before) (named_version header before parent name) t.0 at in

@@ -5,7 +5,7 @@ use Rattle.std.proofs.lemmas.Option.{same_Some, slice_get-map}
 use Rattle.rdf_values.specs.{ActionAt, ActionKind, Booked, Booking, bookings, fn_names, FnName, Function, FunctionNames, history, named_before, Pass, Path, ReportOn}
 use Rattle.rdf_model.specs.{Dataset, filled_lines, flow_lines, label, loop_passes, loop_results}
 use Rattle.graph_numbers.specs.{booked_statements, FilterAt, graph_filters, graph_loops, graph_of, graph_results, graph_variations, GraphView, kind_of_booking, Pass as NumberedPass, pass_at, ResultAt, ResultKind, under_at}
-use Rattle.graph_numbers.proofs.AcceptedNumbers.{filters_are_the_scripts, reports_cover_filters}
+use Rattle.graph_numbers.proofs.Covering.{filters_are_the_scripts, reports_cover_filters}
 use Rattle.graph_numbers.proofs.Extending.{itself}
 use Rattle.graph_numbers.proofs.Looping.{loops_are}
 use Rattle.graph_numbers.proofs.Resulting.{booked_are}

@@ -7,7 +7,7 @@ use Rattle.lemmas.proofs.{take_next}
 use Rattle.rdf_values.specs.{ActionAt, ActionKind, Booking, history, named_before, Pass, Path, ReportOn}
 use Rattle.rdf_model.specs.{kind_in, kinds_in}
 use Rattle.graph_numbers.specs.{FilterAt, graph_filters, graph_results, graph_under, GraphView, kind_of_booking, Pass as NumberedPass, ResultAt, ResultKind}
-use Rattle.graph_numbers.proofs.AcceptedNumbers.{filters_are_the_scripts, reports_cover_filters}
+use Rattle.graph_numbers.proofs.Covering.{filters_are_the_scripts, reports_cover_filters}
 use Rattle.loop_keys.specs.{job_graph, JobView, numbered_in, passes_in}
 use Rattle.event_loop.proofs.Adding.{its_pass, its_result, of_action, of_report, its_result_is}
 use Rattle.shard_loop.proofs.PassLines.{AreNumbered}
