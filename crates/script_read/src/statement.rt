@@ -1,5 +1,5 @@
 // What a form says.
-#![tactic(auto, using(crate::proofs::FirstBads::refused_here, crate::proofs::FirstBads::refused_later, crate::proofs::FirstBads::refused_before, crate::proofs::FirstBads::refused_after, crate::proofs::FirstBads::good_name, crate::proofs::FirstBads::good_operation, crate::proofs::FirstBads::good_expression, crate::proofs::FirstBads::good_values, crate::proofs::FirstBads::good_names))]
+#![tactic(auto, using(crate::proofs::FirstBads::refusals))]
 
 ghost use Rattle.std.specs.Prelude.{◌≡◌, [], ◌∷◌, option_map, IfOk, IfErr};
 ghost use Rattle.rdf_values.specs.LineForms as line;
