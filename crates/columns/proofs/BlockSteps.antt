@@ -1,31 +1,20 @@
 -- Blocks give their numbers back, and one more block.
-use Rattle.std.proofs.Common.{◌≡◌, ◌≤◌, ◌<◌, ◌+◌, ◌-◌, ◌*◌, ◌^◌, ℕ, zero, suc, ℤ, pos, ◌+ℤ◌, ◌-ℤ◌, List, [], ◌∷◌, ◌++◌, length, get_or, drop, take, map, Some, refl, sym, ap, ap₂, ◌∙◌, subst, arith, append_assoc, append-nil, length-append, unsigned_abs, slice_get, All}
+use Rattle.std.proofs.Common.{◌≡◌, ◌≤◌, ◌<◌, ◌+◌, ◌-◌, ◌*◌, ℕ, zero, suc, ℤ, pos, ◌-ℤ◌, List, [], ◌∷◌, ◌++◌, length, get_or, drop, take, map, refl, sym, ap, ap₂, ◌∙◌, subst, arith, append_assoc, append-nil, length-append, unsigned_abs, All}
 use Rattle.std.proofs.lemmas.List.{drop-append-le, length-drop, take-append-drop, take-append-le, take_all, take_more}
 use Rattle.std.proofs.lemmas.List.Elements.{All-append, All-cons}
 use Rattle.std.proofs.Math.Seq.{drop-append_seam}
 use Rattle.std.specs.Int.RustNames.{FitsSigned}
-use mir.Syntax.{w64, w128}
-use mir.Val.{to_z, of_z}
-use Rattle.std.proofs.lemmas.Int.{ints}
-use native.Mathlib.Nat.{add-mul, mul-le-mul_right}
-use Rattle.std.proofs.lemmas.Option.{slice_get-get_or}
-use Rattle.lemmas.proofs.{drop_plus}
-use Rattle.columns.specs.{AreBlocks, block_values, IsBlock, IsWidth, low_bytes, number_in, packed_by, packed_of, packing_of}
-use Rattle.columns.specs.declared.block.Block.{Block}
+use mir.Syntax.{w64}
+use Rattle.columns.specs.{AreBlocks, block_values, IsBlock, IsWidth, low_bytes, packed_by, packed_of, packing_of}
+use Rattle.columns.specs.declared.packed_ints.Block.{Block}
 use Rattle.columns.specs.declared.packing.Packing.{Packing}
-use Rattle.columns.proofs.Unpacking.{length-packed, packing_fits, packing_width, packing_word, value_at, values_back}
-
-same_least : (b : Block) (p : Packing) → record { least = b.least; width = b.width } ≡ p → b.least ≡ p.least
-same_least b p e = ap (λ (q : Packing). q.least) e
-
-same_width : (b : Block) (p : Packing) → record { least = b.least; width = b.width } ≡ p → b.width ≡ p.width
-same_width b p e = ap (λ (q : Packing). q.width) e
+use Rattle.columns.proofs.Unpacking.{length-packed, packing_fits, packing_width, values_back}
 
 pub block_back : (bytes : List ℕ) (b : Block) (values : List ℤ) → IsBlock bytes b values → block_values bytes b ≡ values
 block_back bytes b values h =
     let split : packed_of values ++ drop (length (packed_of values)) (drop b.begin bytes) ≡ drop b.begin bytes = subst (λ (l : List ℕ). l ++ drop (length (packed_of values)) (drop b.begin bytes) ≡ drop b.begin bytes) h.kept (take-append-drop (length (packed_of values)) (drop b.begin bytes)) in
     let back = values_back (packing_of values) values (drop (length (packed_of values)) (drop b.begin bytes)) (packing_width values) (packing_fits values h.words) in
-    rw (same_least b (packing_of values) h.packing, same_width b (packing_of values) h.packing, h.entries, ← split) back
+    rw (h.packing, h.entries, ← split) back
 
 pub blocks_back : (bytes : List ℕ) (bs : List Block) (vs : List (List ℤ)) → AreBlocks bytes bs vs → map (block_values bytes) bs ≡ vs
 blocks_back bytes [] [] h = refl
@@ -64,7 +53,7 @@ pub block_more : (bytes new : List ℕ) (bs : List Block) (vs : List (List ℤ))
 block_more bytes new bs vs b v h e k = one_more new bs vs b v (rw e (grown bytes (packed_of v) bs vs h)) k
 
 -- a block whose bytes were just appended
-pub block_made : (bytes new : List ℕ) (b : Block) (values : List ℤ) → new ≡ bytes ++ packed_of values → b.begin ≡ length bytes → b.entries ≡ length values → record { least = b.least; width = b.width } ≡ packing_of values
+pub block_made : (bytes new : List ℕ) (b : Block) (values : List ℤ) → new ≡ bytes ++ packed_of values → b.begin ≡ length bytes → b.entries ≡ length values → b.packing ≡ packing_of values
     → All (FitsSigned w64) values → IsBlock new b values
 block_made bytes new b values e at many p words = record {
   entries = many;
@@ -74,7 +63,7 @@ block_made bytes new b values e at many p words = record {
   words = words;
 }
 
--- ---- one number
+-- ---- one block
 
 pub block_at : (bytes : List ℕ) (bs : List Block) (vs : List (List ℤ)) (c : ℕ) (d : Block) → AreBlocks bytes bs vs → c < length vs → IsBlock bytes (get_or bs c d) (get_or vs c [])
 block_at bytes [] [] c d h l = absurd (omega (arith, l))
@@ -83,54 +72,23 @@ block_at bytes (b ∷ bs) [] c d h l = absurd h
 block_at bytes (b ∷ bs) (v ∷ vs) zero d h l = h.0
 block_at bytes (b ∷ bs) (v ∷ vs) (suc c) d h l = block_at bytes bs vs c d h.1 (omega (arith, l))
 
-pub block_width : (bytes : List ℕ) (b : Block) (values : List ℤ) → IsBlock bytes b values → IsWidth b.width
-block_width bytes b values h = rw (same_width b (packing_of values) h.packing) (packing_width values)
-
-pub block_inside : (bytes : List ℕ) (b : Block) (values : List ℤ) (i : ℕ) → IsBlock bytes b values → i < length values → b.begin + i * b.width + b.width ≤ length bytes
-block_inside bytes b values i h l =
-    let inside = h.inside in
-    let long = length-packed (packing_of values) values (packing_width values) in
-    let same = same_width b (packing_of values) h.packing in
-    let low : (i + 1) * b.width ≤ length values * b.width = (let step : i + 1 ≤ length values = omega (arith, l) in mul-le-mul_right b.width step) in
-    let step : (i + 1) * b.width ≡ i * b.width + b.width = omega (arith, add-mul i 1 b.width) in
-    let all : length values * b.width ≡ length values * (packing_of values).width = ap (λ (w : ℕ). length values * w) same in
-    omega (arith, inside, long, low, step, all)
-
-pub block_value : (bytes : List ℕ) (b : Block) (values : List ℤ) (i : ℕ) → IsBlock bytes b values → i < length values → slice_get values i ≡ Some (b.least +ℤ pos (number_in b.width (drop (b.begin + i * b.width) bytes)))
-block_value bytes b values i h l =
-    let back = block_back bytes b values h in
-    let n = h.entries in
-    subst (λ (vs : List ℤ). slice_get vs i ≡ Some (b.least +ℤ pos (number_in b.width (drop (b.begin + i * b.width) bytes)))) back
-    (value_at b.least b.width b.entries (drop b.begin bytes) i (omega (arith, l, n)) ∙ ap (λ xs. Some (b.least +ℤ pos (number_in b.width xs))) (drop_plus b.begin (i * b.width) bytes))
+pub block_width : (bytes : List ℕ) (b : Block) (values : List ℤ) → IsBlock bytes b values → IsWidth b.packing.width
+block_width bytes b values h = rw h.packing (packing_width values)
 
 -- ---- what the functions ask
 
 pub block_of : (bytes : List ℕ) (bs : List Block) (c : ℕ) (b : Block) → AreBlocks bytes bs (map (block_values bytes) bs) → c < length (map (block_values bytes) bs) → b ≡ get_or bs c b → IsBlock bytes b (get_or (map (block_values bytes) bs) c [])
 block_of bytes bs c b h l e = subst (λ (x : Block). IsBlock bytes x (get_or (map (block_values bytes) bs) c [])) (sym e) (block_at bytes bs (map (block_values bytes) bs) c b h l)
 
-pub block_size : (bytes : List ℕ) (b : Block) (values : List ℤ) → IsBlock bytes b values → b.entries * b.width ≡ length (packed_of values)
+pub block_size : (bytes : List ℕ) (b : Block) (values : List ℤ) → IsBlock bytes b values → b.entries * b.packing.width ≡ length (packed_of values)
 block_size bytes b values h =
-    let same = same_width b (packing_of values) h.packing in
-    ap₂ (λ (m n : ℕ). m * n) h.entries same ∙ sym (length-packed (packing_of values) values (packing_width values))
+    ap₂ (λ (m n : ℕ). m * n) h.entries (ap (λ (p : Packing). p.width) h.packing) ∙ sym (length-packed (packing_of values) values (packing_width values))
 
-pub block_bytes : (bytes : List ℕ) (b : Block) (values : List ℤ) → IsBlock bytes b values → take (b.begin + b.entries * b.width - b.begin) (drop b.begin bytes) ≡ packed_of values
+pub block_bytes : (bytes : List ℕ) (b : Block) (values : List ℤ) → IsBlock bytes b values → take (b.begin + b.entries * b.packing.width - b.begin) (drop b.begin bytes) ≡ packed_of values
 block_bytes bytes b values h =
     let size = block_size bytes b values h in
-    let same : b.begin + b.entries * b.width - b.begin ≡ length (packed_of values) = omega (arith, size) in
+    let same : b.begin + b.entries * b.packing.width - b.begin ≡ length (packed_of values) = omega (arith, size) in
     ap (λ (n : ℕ). take n (drop b.begin bytes)) same ∙ h.kept
-
-pub block_word : (bytes : List ℕ) (b : Block) (values : List ℤ) (i : ℕ) → IsBlock bytes b values → i < length values → FitsSigned w64 (b.least +ℤ pos (number_in b.width (drop (b.begin + i * b.width) bytes)))
-block_word bytes b values i h l =
-    let at = block_value bytes b values i h l in
-    let found : get_or values i (pos 0) ≡ b.least +ℤ pos (number_in b.width (drop (b.begin + i * b.width) bytes)) = cc (sym (slice_get-get_or values i (pos 0) l) ∙ at) in
-    subst (FitsSigned w64) found (h.words i (pos 0) l)
-
-pub block_least : (bytes : List ℕ) (b : Block) (values : List ℤ) → IsBlock bytes b values → FitsSigned w64 b.least
-block_least bytes b values h = rw (same_least b (packing_of values) h.packing) (packing_word values h.words)
-
--- a sum in 128 bits that has 64
-pub cast_back : (a : ℤ) (d : ℕ) (f g : ℤ) → f ≡ a → g ≡ pos d → FitsSigned w64 a → d < 2 ^ 64 → to_z w128 (of_z w128 (to_z w128 (of_z w128 f) +ℤ to_z w128 (of_z w128 g))) ≡ a +ℤ pos d
-cast_back a d f g e h k l = rw (e, h) (omega (arith, ints))
 
 -- ---- bytes that are appended
 

@@ -1,39 +1,29 @@
 -- Columns of a table with those of another behind them.
-use Rattle.std.proofs.Common.{◌≡◌, ◌≤◌, ◌<◌, ◌+◌, ℕ, zero, suc, pos, List, [], ◌∷◌, ◌++◌, length, get_or, set, drop, map, arith, refl, ap, ap₂, ◌∙◌, sym, subst, length-append, add-one, append-nil, append_assoc}
-use Rattle.std.proofs.lemmas.List.{get_or-append-add, get_or_append_left, get_or-map, length-drop, length-map, length-set, map-append, map-set}
+use Rattle.std.proofs.Common.{◌≡◌, ◌≤◌, ◌<◌, ◌+◌, ℕ, zero, suc, pos, List, [], ◌∷◌, ◌++◌, length, get_or, set, drop, take, map, arith, refl, ap, ap₂, ◌∙◌, sym, subst, length-append, add-one, append-nil, append_assoc}
+use Rattle.std.proofs.lemmas.List.{get_or-append-add, get_or_append_left, get_or-map, length-drop, length-map, length-set, map-append, map-set, take_all}
 use Rattle.rdf_values.specs.{AreKept, below, cell_at, Cells, ColType, Column, FitRows, HoldsTable, IsKept, rows_kept, Value}
 use Rattle.rdf_values.proofs.Below.{map-below}
 use Rattle.rdf_values.proofs.RowPushed.{kept_length}
 use Rattle.columns.specs.{cells_joined, ColumnPieces, columns_joined, whole}
 
--- ---- the first columns are joined
+-- ---- the first columns have others behind them
 
-abbrev pub partly_joined : ℕ → List Cells → List Cells → List Cells
-partly_joined zero xs more = xs
-partly_joined (suc i) [] more = []
-partly_joined (suc i) (x ∷ xs) [] = x ∷ xs
-partly_joined (suc i) (x ∷ xs) (y ∷ more) = cells_joined x y ∷ partly_joined i xs more
+pub alone : (xs more : List Cells) (n : ℕ) → n ≡ 0 → columns_joined xs (take n more) ≡ xs
+alone [] more n e = refl
+alone (x ∷ xs) more n e = rw e refl
 
 joined_set : (i : ℕ) (xs more : List Cells) (x y : Cells) → i < length xs → i < length more
-    → set (partly_joined i xs more) i (cells_joined (get_or (partly_joined i xs more) i x) (get_or more i y)) ≡ partly_joined (suc i) xs more
+    → set (columns_joined xs (take i more)) i (cells_joined (get_or (columns_joined xs (take i more)) i x) (get_or more i y)) ≡ columns_joined xs (take (suc i) more)
 joined_set i [] more x y h l = absurd (omega arith)
 joined_set i (w ∷ ws) [] x y h l = absurd (omega arith)
-joined_set zero (w ∷ ws) (u ∷ more) x y h l = refl
+joined_set zero (w ∷ ws) (u ∷ more) x y h l = ap (λ t. cells_joined w u ∷ t) (sym (alone ws more 0 refl))
 joined_set (suc i) (w ∷ ws) (u ∷ more) x y h l = ap (λ t. cells_joined w u ∷ t) (joined_set i ws more x y (omega arith) (omega arith))
 
-pub joined_more : (i : ℕ) (xs at more : List Cells) (d new y : Cells) → at ≡ partly_joined i xs more → i < length more → length more ≡ length xs → y ≡ get_or more i y → new ≡ cells_joined (get_or at i d) y
-    → set at i new ≡ partly_joined (i + 1) xs more
+joined_more : (i : ℕ) (xs at more : List Cells) (d new y : Cells) → at ≡ columns_joined xs (take i more) → i < length more → length more ≡ length xs → y ≡ get_or more i y → new ≡ cells_joined (get_or at i d) y
+    → set at i new ≡ columns_joined xs (take (i + 1) more)
 joined_more i xs at more d new y a l w q n =
     let step = joined_set i xs more d y (omega arith) l in
-    ap₂ (λ t z. set t i z) a (n ∙ ap₂ cells_joined (ap (λ t. get_or t i d) a) q) ∙ step ∙ ap (λ j. partly_joined j xs more) (sym (add-one i))
-
-pub joined_all : (i : ℕ) (xs more : List Cells) → length more ≤ i → length more ≡ length xs → partly_joined i xs more ≡ columns_joined xs more
-joined_all zero [] more h l = refl
-joined_all zero (x ∷ xs) [] h l = absurd (omega arith)
-joined_all zero (x ∷ xs) (y ∷ more) h l = absurd (omega arith)
-joined_all (suc i) [] more h l = refl
-joined_all (suc i) (x ∷ xs) [] h l = refl
-joined_all (suc i) (x ∷ xs) (y ∷ more) h l = ap (λ t. cells_joined x y ∷ t) (joined_all i xs more (omega arith) (omega arith))
+    ap₂ (λ t z. set t i z) a (n ∙ ap₂ cells_joined (ap (λ t. get_or t i d) a) q) ∙ step ∙ ap (λ j. columns_joined xs (take j more)) (sym (add-one i))
 
 -- ---- the rows of the second stand behind those of the first
 
@@ -123,8 +113,8 @@ piece_next (x ∷ more) rest (suc i) y d e =
     let on : suc i + 1 ≡ suc (i + 1) = omega arith in
     (omega (arith, lt), next.1, ap (λ (k : ℕ). drop k (x ∷ more)) on ∙ next.2)
 
-pub pieces_more : (xs at more rest : List ColumnPieces) (i col j : ℕ) (new old y : ColumnPieces) → map whole at ≡ partly_joined i (map whole xs) (map whole more) → drop i more ≡ y ∷ rest → length more ≡ length xs → length at ≡ length xs → col ≡ i → j ≡ i + 1
-    → old ≡ get_or at col old → whole new ≡ cells_joined (whole old) (whole y) → (map whole (set at col new) ≡ partly_joined j (map whole xs) (map whole more)) × (drop j more ≡ rest) × (length (set at col new) ≡ length xs)
+pub pieces_more : (xs at more rest : List ColumnPieces) (i col j : ℕ) (new old y : ColumnPieces) → map whole at ≡ columns_joined (map whole xs) (take i (map whole more)) → drop i more ≡ y ∷ rest → length more ≡ length xs → length at ≡ length xs → col ≡ i → j ≡ i + 1
+    → old ≡ get_or at col old → whole new ≡ cells_joined (whole old) (whole y) → (map whole (set at col new) ≡ columns_joined (map whole xs) (take j (map whole more))) × (drop j more ≡ rest) × (length (set at col new) ≡ length xs)
 pieces_more xs at more rest i col j new old y a e l k c n o w =
     let next = piece_next more rest i y new e in
     let lt = next.0 in
@@ -136,12 +126,11 @@ pieces_more xs at more rest i col j new old y a e l k c n o w =
     let own : whole new ≡ cells_joined (get_or (map whole at) i (whole new)) (whole y) = w ∙ ap (λ z. cells_joined z (whole y)) (ap whole was ∙ sym (get_or-map whole at i old (whole new) here)) in
     rw (c, n) (map-set whole at i new ∙ joined_more i (map whole xs) (map whole at) (map whole more) (whole new) (whole new) (whole y) a there wide his own, next.2, omega (arith, k, length-set at i new))
 
-pub pieces_all : (xs more rest : List ColumnPieces) (i : ℕ) → drop i more ≡ rest → length rest ≡ 0 → length more ≡ length xs → partly_joined i (map whole xs) (map whole more) ≡ columns_joined (map whole xs) (map whole more)
-pieces_all xs more rest i e n l =
+pub pieces_all : (xs more rest : List ColumnPieces) (i : ℕ) → drop i more ≡ rest → length rest ≡ 0 → columns_joined (map whole xs) (take i (map whole more)) ≡ columns_joined (map whole xs) (map whole more)
+pieces_all xs more rest i e n =
     let size = length-drop i more in
     let gone = ap length e in
-    let wide : length (map whole more) ≡ length (map whole xs) = omega (arith, l, length-map more whole, length-map xs whole) in
-    joined_all i (map whole xs) (map whole more) (omega (arith, size, gone, n, length-map more whole)) wide
+    ap (columns_joined (map whole xs)) (take_all i (map whole more) (omega (arith, size, gone, n, length-map more whole)))
 
 pub same_pieces : (xs more : List ColumnPieces) → length (map whole more) ≡ length (map whole xs) → length more ≡ length xs
 same_pieces xs more l = omega (arith, l, length-map more whole, length-map xs whole)

@@ -12,9 +12,10 @@ use native.Mathlib.Nat.{add-mul, mul-le-mul_right}
 use Rattle.lemmas.proofs.{drop_plus}
 use Rattle.rdf_values.specs.{cut, Span}
 use Rattle.rdf_values.proofs.Leading.{cuts_lead}
-use Rattle.columns.specs.{AreBlocks, block_values, cluster_values, IsBlock, IsWidth, number_in, values_in}
-use Rattle.columns.specs.declared.block.Block.{Block}
-use Rattle.columns.proofs.BlockSteps.{block_back, block_least, block_of, block_size, block_width}
+use Rattle.columns.specs.{AreBlocks, AreNumbers, block_values, cluster_values, IsBlock, number_in, values_in}
+use Rattle.columns.specs.declared.packed_ints.Block.{Block}
+use Rattle.columns.specs.declared.packing.Packing.{Packing}
+use Rattle.columns.proofs.BlockSteps.{block_back, block_of, block_size, block_width}
 use Rattle.columns.proofs.Joining.{span_within}
 use Rattle.columns.proofs.Keeping.{cluster_at, cluster_there, entry_here, get_dropped, get_taken}
 use Rattle.columns.proofs.Unpacking.{value_at}
@@ -63,48 +64,56 @@ later_values least w (suc i) n bs =
     ap (λ (m : ℕ). drop (suc i) (values_in least w m bs)) all ∙ later_values least w i n (drop w bs) ∙ ap (values_in least w n) (drop_plus w (i * w) bs ∙ ap (λ (k : ℕ). drop k bs) wide)
 
 -- some of a block's numbers, and their bytes
-some_inside : (bytes : List ℕ) (b : Block) (values : List ℤ) (i n : ℕ) → IsBlock bytes b values → i + n ≤ length values → b.begin + i * b.width + n * b.width ≤ length bytes
+some_inside : (bytes : List ℕ) (b : Block) (values : List ℤ) (i n : ℕ) → IsBlock bytes b values → i + n ≤ length values → b.begin + i * b.packing.width + n * b.packing.width ≤ length bytes
 some_inside bytes b values i n h l =
     let inside = h.inside in
     let size = block_size bytes b values h in
-    let few : (i + n) * b.width ≤ b.entries * b.width = (let m : i + n ≤ b.entries = omega (arith, l, h.entries) in mul-le-mul_right b.width m) in
-    omega (arith, inside, size, few, add-mul i n b.width)
+    let few : (i + n) * b.packing.width ≤ b.entries * b.packing.width = (let m : i + n ≤ b.entries = omega (arith, l, h.entries) in mul-le-mul_right b.packing.width m) in
+    omega (arith, inside, size, few, add-mul i n b.packing.width)
 
-some_values : (bytes : List ℕ) (b : Block) (values : List ℤ) (i n : ℕ) → IsBlock bytes b values → i + n ≤ length values → values_in b.least b.width n (drop (b.begin + i * b.width) bytes) ≡ take n (drop i values)
+some_values : (bytes : List ℕ) (b : Block) (values : List ℤ) (i n : ℕ) → IsBlock bytes b values → i + n ≤ length values → values_in b.packing.least b.packing.width n (drop (b.begin + i * b.packing.width) bytes) ≡ take n (drop i values)
 some_values bytes b values i n h l =
+    let p = b.packing in
     let m = b.entries - i in
     let all : i + m ≡ b.entries = omega (arith, l, h.entries) in
-    let whole : values_in b.least b.width (i + m) (drop b.begin bytes) ≡ values = ap (λ (k : ℕ). values_in b.least b.width k (drop b.begin bytes)) all ∙ block_back bytes b values h in
-    let later : drop i values ≡ values_in b.least b.width m (drop (b.begin + i * b.width) bytes) =
-    ap (drop i) (sym whole) ∙ later_values b.least b.width i m (drop b.begin bytes) ∙ ap (values_in b.least b.width m) (drop_plus b.begin (i * b.width) bytes) in
-    sym (ap (take n) later ∙ first_values b.least b.width m n (drop (b.begin + i * b.width) bytes) (omega (arith, l, h.entries)))
+    let whole : values_in p.least p.width (i + m) (drop b.begin bytes) ≡ values = ap (λ (k : ℕ). values_in p.least p.width k (drop b.begin bytes)) all ∙ block_back bytes b values h in
+    let later : drop i values ≡ values_in p.least p.width m (drop (b.begin + i * p.width) bytes) =
+    ap (drop i) (sym whole) ∙ later_values p.least p.width i m (drop b.begin bytes) ∙ ap (values_in p.least p.width m) (drop_plus b.begin (i * p.width) bytes) in
+    sym (ap (take n) later ∙ first_values p.least p.width m n (drop (b.begin + i * p.width) bytes) (omega (arith, l, h.entries)))
 
--- what is known of them
-pub record AreThere (bytes : List ℕ) (b : Block) (values : List ℤ) (i n : ℕ) : Type 0 where
-  pub inside : b.begin + i * b.width + n * b.width ≤ length bytes
-  pub width : IsWidth b.width
-  pub least : FitsSigned w64 b.least
-  pub spelt : values_in b.least b.width n (drop (b.begin + i * b.width) bytes) ≡ take n (drop i values)
-  pub words : All (FitsSigned w64) (values_in b.least b.width n (drop (b.begin + i * b.width) bytes))
+-- a block's numbers from a place on
+pub record FromPlace (bytes : List ℕ) (b : Block) (values : List ℤ) (i : ℕ) : Type 0 where
+  pub inside : b.begin + i * b.packing.width ≤ length bytes
+  pub numbers : (n : ℕ) → i + n ≤ length values → AreNumbers b.packing (drop (b.begin + i * b.packing.width) bytes) n (take n (drop i values))
 
-some_there : (bytes : List ℕ) (b : Block) (values : List ℤ) (i n : ℕ) → IsBlock bytes b values → i + n ≤ length values → AreThere bytes b values i n
-some_there bytes b values i n h l = record {
-  inside = some_inside bytes b values i n h l;
-  width = block_width bytes b values h;
-  least = block_least bytes b values h;
-  spelt = some_values bytes b values i n h l;
-  words = rw (some_values bytes b values i n h l) (All-take (FitsSigned w64) n (drop i values) (All-drop (FitsSigned w64) i values h.words));
+from_place : (bytes : List ℕ) (b : Block) (values : List ℤ) (i : ℕ) → IsBlock bytes b values → i ≤ length values → FromPlace bytes b values i
+from_place bytes b values i h l = record {
+  inside = omega (arith, some_inside bytes b values i 0 h (omega (arith, l)));
+  numbers = λ n m. record {
+    inside = omega (arith, some_inside bytes b values i n h m, length-drop (b.begin + i * b.packing.width) bytes);
+    width = block_width bytes b values h;
+    spelt = some_values bytes b values i n h m;
+    words = rw (some_values bytes b values i n h m) (All-take (FitsSigned w64) n (drop i values) (All-drop (FitsSigned w64) i values h.words));
+  };
 }
 
-pub there : (bytes : List ℕ) (bs : List Block) (c i n : ℕ) (b : Block) (views : List (List ℤ)) → AreBlocks bytes bs (map (block_values bytes) bs) → map (block_values bytes) bs ≡ views → c < length views → b ≡ get_or bs c b → i + n ≤ length (get_or views c [])
-    → AreThere bytes b (get_or views c []) i n
-there bytes bs c i n b views h v l e many =
-    some_there bytes b (get_or views c []) i n
+pub there : (bytes : List ℕ) (bs : List Block) (c i : ℕ) (b : Block) (views : List (List ℤ)) → AreBlocks bytes bs (map (block_values bytes) bs) → map (block_values bytes) bs ≡ views → c < length views → b ≡ get_or bs c b → i ≤ length (get_or views c [])
+    → FromPlace bytes b (get_or views c []) i
+there bytes bs c i b views h v l e many =
+    from_place bytes b (get_or views c []) i
     (subst (λ (vs : List (List ℤ)). IsBlock bytes b (get_or vs c [])) v (block_of bytes bs c b h (rw v l) e)) many
 
+-- the first of them, which stands at the place
+pub number_there : (p : Packing) (bytes : List ℕ) (values : List ℤ) (i d : ℕ) (z : ℤ) → AreNumbers p bytes 1 (take 1 (drop i values)) → FitsSigned w64 p.least → d < 2 ^ 64 → d ≡ number_in p.width bytes
+    → z ≡ cast_signed w64 ((cast_unsigned w64 p.least + d) % 2 ^ 64) → slice_get values i ≡ Some z
+number_there p bytes values i d z h f l e sum =
+    let word : FitsSigned w64 (p.least +ℤ pos d) = rw e (h.words 0 (pos 0) (omega arith)) in
+    let here : i + 0 ≡ i = omega arith in
+    rw (sum ∙ sum_back p.least d f l word, e) (sym (ap (slice_get values) here) ∙ sym (get_dropped values i 0) ∙ sym (get_taken (drop i values) 1 0 (omega arith)) ∙ ap (λ (zs : List ℤ). slice_get zs 0) (sym h.spelt))
+
 -- the bytes from a place on
-pub from_place : (bytes : List ℕ) (k : ℕ) → take (length bytes - k) (drop k bytes) ≡ drop k bytes
-from_place bytes k = take_all (length bytes - k) (drop k bytes) (omega (arith, length-drop k bytes))
+pub bytes_from : (bytes : List ℕ) (k : ℕ) → take (length bytes - k) (drop k bytes) ≡ drop k bytes
+bytes_from bytes k = take_all (length bytes - k) (drop k bytes) (omega (arith, length-drop k bytes))
 
 -- ---- numbers of a column
 

@@ -1,5 +1,5 @@
 -- Packed bytes give their numbers back.
-use Rattle.std.proofs.Common.{◌≡◌, ◌≤◌, ◌<◌, ◌+◌, ◌*◌, ◌%◌, ◌^◌, ℕ, zero, suc, ℤ, pos, ◌+ℤ◌, ◌-ℤ◌, ◌≤ℤ◌, Bool, true, false, List, [], ◌∷◌, ◌++◌, length, drop, take, Some, refl, sym, ap, ap₂, ◌∙◌, ◌⊎◌, inl, inr, subst, arith, append_assoc, length-append, unsigned_abs, slice_get, if◌then◌else◌, nat_lt, nat_eq, All}
+use Rattle.std.proofs.Common.{◌≡◌, ◌≤◌, ◌<◌, ◌+◌, ◌*◌, ◌%◌, ◌^◌, ℕ, zero, suc, ℤ, pos, ◌+ℤ◌, ◌-ℤ◌, ◌≤ℤ◌, Bool, true, false, List, [], ◌∷◌, ◌++◌, length, drop, take, Some, refl, sym, ap, ap₂, ◌∙◌, ◌⊎◌, inl, inr, arith, append_assoc, length-append, unsigned_abs, slice_get, if◌then◌else◌, nat_lt, nat_eq, All}
 use Rattle.std.specs.Int.{int_max, int_min, to_le_bytes}
 use Rattle.std.specs.Int.RustNames.{FitsSigned}
 use Rattle.std.specs.List.{AllByRecursion}
@@ -31,65 +31,35 @@ width_is n = record { one_of = go (nat_eq n 0) (nat_lt n 256) (nat_lt n 65536) (
 
 -- a number below 2 ^ 64 fits its width
 pub fits_width : (n : ℕ) → n < 2 ^ 64 → n < 256 ^ width_of n
-fits_width n h = go (nat_eq n 0) (nat_lt n 256) (nat_lt n 65536) (nat_lt n 4294967296) refl refl refl refl
+fits_width n h = grind (arith, nat_tests)
+
+-- what holds of each width
+by_width : (P : ℕ → Type 0) → P 0 → P 1 → P 2 → P 4 → P 8 → (w : ℕ) → IsWidth w → P w
+by_width P a b c d e w h = go h.one_of
   where
-    go : (a b c d : Bool) → nat_eq n 0 ≡ a → nat_lt n 256 ≡ b → nat_lt n 65536 ≡ c → nat_lt n 4294967296 ≡ d → n < 256 ^ (if a then 0 else if b then 1 else if c then 2 else if d then 4 else 8)
-    go true b c d p q r s = grind (arith, nat_tests)
-    go false true c d p q r s = grind (arith, nat_tests)
-    go false false true d p q r s = grind (arith, nat_tests)
-    go false false false true p q r s = grind (arith, nat_tests)
-    go false false false false p q r s = omega arith
+    go : OneOf w → P w
+    go (inl k) = rw k a
+    go (inr (inl k)) = rw k b
+    go (inr (inr (inl k))) = rw k c
+    go (inr (inr (inr (inl k)))) = rw k d
+    go (inr (inr (inr (inr k)))) = rw k e
 
 -- ---- one number
 
-length_by : (w n : ℕ) → OneOf w → length (low_bytes w n) ≡ w
-length_by w n (inl h) = rw h refl
-length_by w n (inr (inl h)) = rw h refl
-length_by w n (inr (inr (inl h))) = rw h refl
-length_by w n (inr (inr (inr (inl h)))) = rw h refl
-length_by w n (inr (inr (inr (inr h)))) = rw h refl
-
 pub length-low_bytes : (w n : ℕ) → IsWidth w → length (low_bytes w n) ≡ w
-length-low_bytes w n h = length_by w n h.one_of
+length-low_bytes w n h = by_width (λ v. length (low_bytes v n) ≡ v) refl refl refl refl refl w h
 
 -- the lowest bytes of a number, one after another
-first_by : (w n : ℕ) → OneOf w → take w (to_le_bytes w64 n) ≡ low_bytes w n
-first_by w n (inl h) = rw h refl
-first_by w n (inr (inl h)) = rw h refl
-first_by w n (inr (inr (inl h))) = rw h refl
-first_by w n (inr (inr (inr (inl h)))) = rw h refl
-first_by w n (inr (inr (inr (inr h)))) = rw h refl
-
 pub first_bytes : (w n : ℕ) → IsWidth w → take w (to_le_bytes w64 n) ≡ low_bytes w n
-first_bytes w n h = first_by w n h.one_of
+first_bytes w n h = by_width (λ v. take v (to_le_bytes w64 n) ≡ low_bytes v n) refl refl refl refl refl w h
 
-back_0 : (n : ℕ) (more : List ℕ) → n < 256 ^ 0 → number_in 0 (low_bytes 0 n ++ more) ≡ n
-back_0 n more h = omega arith
-
-mod_small : (n : ℕ) → n < 256 → n % 256 ≡ n
-mod_small n h = omega arith
-
-back_1 : (n : ℕ) (more : List ℕ) → n < 256 ^ 1 → number_in 1 (low_bytes 1 n ++ more) ≡ n
-back_1 n more h = let small : n < 256 = omega arith in mod_small n small
-
-back_2 : (n : ℕ) (more : List ℕ) → n < 256 ^ 2 → number_in 2 (low_bytes 2 n ++ more) ≡ n
-back_2 n more h = from_le_bytes-to_le_bytes_2 n (omega arith)
-
-back_4 : (n : ℕ) (more : List ℕ) → n < 256 ^ 4 → number_in 4 (low_bytes 4 n ++ more) ≡ n
-back_4 n more h = from_le_bytes-to_le_bytes_4 n (omega arith)
-
-back_8 : (n : ℕ) (more : List ℕ) → n < 256 ^ 8 → number_in 8 (low_bytes 8 n ++ more) ≡ n
-back_8 n more h = from_le_bytes-to_le_bytes_8 n (omega arith)
-
-back_by : (w n : ℕ) (more : List ℕ) → OneOf w → n < 256 ^ w → number_in w (low_bytes w n ++ more) ≡ n
-back_by w n more (inl h) l = subst (λ (v : ℕ). number_in v (low_bytes v n ++ more) ≡ n) (sym h) (back_0 n more (rw h at l))
-back_by w n more (inr (inl h)) l = subst (λ (v : ℕ). number_in v (low_bytes v n ++ more) ≡ n) (sym h) (back_1 n more (rw h at l))
-back_by w n more (inr (inr (inl h))) l = subst (λ (v : ℕ). number_in v (low_bytes v n ++ more) ≡ n) (sym h) (back_2 n more (rw h at l))
-back_by w n more (inr (inr (inr (inl h)))) l = subst (λ (v : ℕ). number_in v (low_bytes v n ++ more) ≡ n) (sym h) (back_4 n more (rw h at l))
-back_by w n more (inr (inr (inr (inr h)))) l = subst (λ (v : ℕ). number_in v (low_bytes v n ++ more) ≡ n) (sym h) (back_8 n more (rw h at l))
+one_back : (n : ℕ) → n < 256 → n % 256 ≡ n
+one_back n h = omega arith
 
 pub number_back : (w n : ℕ) (more : List ℕ) → IsWidth w → n < 256 ^ w → number_in w (low_bytes w n ++ more) ≡ n
-number_back w n more h l = back_by w n more h.one_of l
+number_back w n more h =
+    by_width (λ v. n < 256 ^ v → number_in v (low_bytes v n ++ more) ≡ n) (λ l. omega arith) (λ l. one_back n (omega arith))
+    (λ l. from_le_bytes-to_le_bytes_2 n (omega arith)) (λ l. from_le_bytes-to_le_bytes_4 n (omega arith)) (λ l. from_le_bytes-to_le_bytes_8 n (omega arith)) w h
 
 -- ---- many numbers
 
@@ -192,7 +162,3 @@ value_at least w (suc n) bs zero h = let none : 0 ≡ 0 * w = omega arith in ap 
 value_at least w (suc n) bs (suc i) h =
     let wide : w + i * w ≡ suc i * w = omega (arith, add-mul i 1 w) in
     value_at least w n (drop w bs) i (omega (arith, h)) ∙ ap (λ l. Some (least +ℤ pos (number_in w l))) (drop_plus w (i * w) bs ∙ ap (λ (k : ℕ). drop k bs) wide)
-
-pub packing_word : (zs : List ℤ) → AreWords zs → FitsSigned w64 (packing_of zs).least
-packing_word [] h = omega (arith, ints)
-packing_word (z ∷ zs) h = let all = recursion_from_All (FitsSigned w64) (z ∷ zs) h in least_of_all zs z all.0 all.1

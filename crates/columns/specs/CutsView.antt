@@ -1,7 +1,7 @@
 -- What a contract sees of cuts, and how their ranges are kept.
 use Rattle.std.specs.Prelude.{◌≡◌, ℕ, ◌≤◌, ◌<◌, List, [], ◌∷◌, All}
 use Rattle.rdf_values.specs.{AreMarks, cut, Span}
-use Rattle.columns.specs.declared.ranges.Ranges.{Ranges}
+use Rattle.columns.specs.declared.cuts.Ranges.{Ranges}
 
 -- so many entries, cut at the marks into clusters of at most this size
 pub record CutsView : Type 0 where

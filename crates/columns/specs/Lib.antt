@@ -10,7 +10,7 @@ pub mod Walk
 pub mod Wholes
 pub mod Widths
 -- what other crates name of these
-pub use Blocks.{AreBlocks, block_values, cluster_values, IsBlock}
+pub use Blocks.{AreBlocks, AreNumbers, block_values, cluster_values, IsBlock}
 pub use CutsView.{ranges_to}
 pub use Joins.{cells_joined, columns_joined, table_joined}
 pub use KeptColumns.{cells_of, IsByCluster}
@@ -20,4 +20,4 @@ pub use Walk.{IsAhead, IsPassed}
 pub use Wholes.{joined, whole}
 pub use Widths.{IsWidth}
 pub use declared.column_pieces.ColumnPieces.{ColumnPieces}
-pub use declared.pieces_parts.PiecesParts.{PiecesParts}
+pub use declared.table_pieces.PiecesParts.{PiecesParts}

@@ -1,15 +1,21 @@
 // How entries are cut into clusters.
-ghost use Rattle.std.specs.Prelude.{◌≡◌, ◌≤◌, ◌<◌, All, IfOk, length, slice_get};
-ghost use Rattle.rdf_values.specs.{cut, Lead};
+ghost use Rattle.std.specs.Prelude.{◌≡◌, ◌≤◌, ◌<◌, All, IfOk, Some, length, slice_get};
+ghost use Rattle.rdf_values.specs.{cut, even_cut, Lead};
+ghost use Rattle.columns.specs.{ranges_to};
 ghost use Rattle.columns.specs.CutsView.{AreCuts};
 ghost use Rattle.columns.specs.Ranges.{Holds, IsInOne};
 
 use crate::marked::ends;
-use crate::places::{even_range, range_at};
-use crate::ranges::Ranges;
 use rdf_values::{ListOf, Marks, Memory, Span};
 use std::alloc::Global;
 use std::marker::Model;
+
+/// Ranges of one size are computed; of ranges that begin at marks the ends are kept.
+#[derive(Drop)]
+pub(crate) enum Ranges {
+    Even,
+    Marked(ListOf<u32>),
+}
 
 /// So many entries, cut at the marks and into clusters of at most one size between them.
 #[derive(Drop)]
@@ -60,6 +66,30 @@ pub fn lead_to_the_end(entries: u32, size: u32, marks: &Marks)
     ensures leads { Lead 0 entries (cut entries size marks.now) }
     ensures once { IsInOne (cut entries size marks.now) 0 entries }
 {}
+
+// The entries of a cluster, where all clusters but the last have one size.
+fn even_range(entries: u32, size: u32, cluster: u32) -> Span
+    requires few { entries ≤ 1000000 }
+    requires some { 1 ≤ size }
+    requires there { cluster < length (even_cut entries size) }
+    ensures { slice_get (even_cut entries size) cluster ≡ Some result }
+{
+    let lo = cluster * size;
+    let hi = lo + size.min(entries - lo);
+    Span { lo, hi }
+}
+
+// The entries of a cluster, where the clusters end there.
+fn range_at(ends: &[u32], place: usize) -> Span
+    requires { place < length ends.now }
+    ensures { slice_get (ranges_to 0 ends.now) place ≡ Some result }
+{
+    let lo = if place == 0 { 0 } else { ends[place - 1] };
+    Span {
+        lo,
+        hi: ends[place],
+    }
+}
 
 impl Cuts {
     /// How many entries are cut.

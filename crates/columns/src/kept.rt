@@ -1,5 +1,5 @@
 // Columns as they are kept.
-ghost use Rattle.std.specs.Prelude.{◌≡◌, ◌≤◌, IfOk, length, map};
+ghost use Rattle.std.specs.Prelude.{◌≡◌, ◌≤◌, ◌+◌, IfOk, length, map};
 ghost use Rattle.std.specs.List.{AllByRecursion};
 ghost use Rattle.std.specs.Thread.{IsSync};
 ghost use Rattle.rdf_values.specs.{count, cut, Keep};
@@ -8,7 +8,6 @@ ghost use Rattle.columns.specs.{cells_of, IsByCluster, joined, whole};
 use crate::column_pieces::ColumnPieces;
 use crate::cuts::Cuts;
 use crate::packed_ints::{PackedInts, pack};
-use crate::slots::halves;
 use rdf_values::{Memory, Vects};
 use std::alloc::Global;
 use std::thread::{Threads, join};
@@ -88,6 +87,16 @@ fn half_of(columns: &[ColumnPieces]) -> usize
         }
     }
     columns.len()
+}
+
+/// The slots for either half of some work: at least one each, and all of them together.
+pub fn halves(slots: u32) -> (u32, u32)
+    requires { 2 ≤ slots }
+    ensures some { (1 ≤ result.0) × (1 ≤ result.1) }
+    ensures all { result.0 + result.1 ≡ slots }
+{
+    let first = slots / 2;
+    (first, slots - first)
 }
 
 /// What `keep_all` keeps, packed side by side: about half of the columns by half of the slots, the others by the

@@ -2,32 +2,25 @@
 //! the other, as several readers leave it. Stands on `rdf_values`.
 #![tactic(auto)]
 
-mod block;
 mod bytes;
 mod column_pieces;
 pub mod columns;
 pub mod cuts;
-mod grown;
 mod kept;
 mod marked;
 pub mod over;
 mod packed_ints;
 pub mod packing;
 mod pieces;
-mod pieces_parts;
-mod places;
-mod ranges;
-mod slots;
 mod table_pieces;
 
 pub use crate::column_pieces::ColumnPieces;
 pub use crate::columns::Columns;
 pub use crate::cuts::{Cuts, cut, lead_to_the_end};
+pub use crate::kept::halves;
 pub use crate::over::Over;
 pub use crate::packing::{Packing, packings_are_tight};
-pub use crate::pieces_parts::PiecesParts;
-pub use crate::slots::halves;
-pub use crate::table_pieces::TablePieces;
+pub use crate::table_pieces::{PiecesParts, TablePieces};
 
 #[cfg(test)]
 mod tests;

@@ -1,9 +1,8 @@
 // The columns over one cluster.
 ghost use Rattle.std.specs.Prelude.{◌≡◌, ◌≤◌, ◌<◌, ◌-◌, Some, length, slice_get};
 ghost use Rattle.columns.specs.ReadInts.{AreInts};
-ghost use Rattle.rdf_values.specs.{cell, cut, kind_at};
+ghost use Rattle.rdf_values.specs.{cut, kind_at};
 ghost use Rattle.rdf_values.specs.declared.value.ColType.TheVariants as k;
-ghost use Rattle.rdf_values.specs.declared.value.Value.TheVariants as v;
 
 use crate::columns::Columns;
 use rdf_values::Span;
@@ -41,19 +40,6 @@ impl Over<'_> {
         self.span
     }
 
-    /// The number of an entry of the cluster in an int column.
-    pub fn int_at(&self, entry: u32, col: u32) -> i64
-        requires from { self.now.span.lo ≤ entry }
-        requires below { entry < self.now.span.hi }
-        requires column { kind_at self.now.columns.now.table.columns col ≡ Some k.Int }
-        ensures { cell self.now.columns.now.table entry col ≡ Some (v.Int result) }
-    {
-        let place = entry - self.span.lo;
-        self.columns
-            .ints(col)
-            .at(self.cluster as usize, place as usize)
-    }
-
     /// Reads the numbers of entries of the cluster in an int column.
     pub fn read(&self, entries: Span, col: u32, numbers: &mut [i64])
         requires from { self.now.span.lo ≤ entries.lo }
@@ -71,15 +57,5 @@ impl Over<'_> {
                 &mut numbers[..count as usize],
             );
         }
-    }
-
-    /// The elements of an entry's vector in a vec column.
-    pub fn vec_at(&self, entry: u32, col: u32) -> &[i64]
-        requires from { self.now.span.lo ≤ entry }
-        requires below { entry < self.now.span.hi }
-        requires column { kind_at self.now.columns.now.table.columns col ≡ Some k.Vect }
-        ensures { cell self.now.columns.now.table entry col ≡ Some (v.Vect result.now) }
-    {
-        self.columns.vec_at(entry, col)
     }
 }

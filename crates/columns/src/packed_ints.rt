@@ -1,19 +1,32 @@
 // The numbers of an int column, packed.
-ghost use Rattle.std.specs.Prelude.{◌≡◌, ◌≤◌, ◌<◌, ◌+◌, ◌++◌, [], IfOk, Some, length, slice_get, slice_index_or, slice_range, drop, take};
+ghost use Rattle.std.specs.Prelude.{◌≡◌, ◌≤◌, ◌<◌, ◌+◌, ◌++◌, ℕ, [], IfOk, Some, length, slice_get, slice_index_or, slice_range, drop, take};
 ghost use Rattle.rdf_values.specs.{cut};
-ghost use Rattle.columns.specs.Blocks.{IsBlock, cluster_values};
+ghost use Rattle.columns.specs.Blocks.{AreNumbers, IsBlock, cluster_values};
 ghost use Rattle.columns.specs.Packings.{packed_of, packing_of};
 ghost use Rattle.columns.specs.Wholes.{joined};
 
-use crate::block::Block;
 use crate::bytes::{number_at, push_packed, read_packed};
 use crate::cuts::Cuts;
-use crate::grown::Grown;
 use crate::packing::Packing;
 use crate::pieces::gather;
 use rdf_values::{Memory, Numbers, Span};
 use std::alloc::Global;
 use std::marker::Model;
+
+/// How a cluster's numbers are packed, where their bytes begin, and how many they are.
+#[derive(Clone, Copy)]
+pub(crate) struct Block {
+    packing: Packing,
+    begin: usize,
+    entries: u32,
+}
+
+// Where the numbers of one more cluster stand, and all bytes up to theirs.
+#[derive(Drop)]
+struct Grown {
+    block: Block,
+    bytes: Vec<u8>,
+}
 
 /// The numbers of a column by cluster. Each cluster's bytes stand behind those of the one before.
 #[derive(Drop)]
@@ -42,9 +55,8 @@ fn pack_cluster(values: &[i64], bytes: Vec<u8>) -> Result<Grown, Memory>
 {
     let packing = Packing::of(values);
     let block = Block {
-        least: packing.least,
+        packing,
         begin: bytes.len(),
-        width: packing.width,
         entries: values.len() as u32,
     };
     let bytes = push_packed(values, packing, bytes)?;
@@ -94,11 +106,7 @@ impl PackedInts {
         requires { cluster < length self.now }
         ensures { result ≡ packing_of (slice_index_or self.now cluster []) }
     {
-        let block = &self.blocks[cluster];
-        Packing {
-            least: block.least,
-            width: block.width,
-        }
+        self.blocks[cluster].packing
     }
 
     /// The bytes of a cluster's numbers.
@@ -107,8 +115,19 @@ impl PackedInts {
         ensures { result.now ≡ packed_of (slice_index_or self.now cluster []) }
     {
         let block = &self.blocks[cluster];
-        let size = block.entries as usize * block.width as usize;
+        let size = block.entries as usize * block.packing.width as usize;
         &self.bytes[block.begin..block.begin + size]
+    }
+
+    // How a cluster's numbers are packed, and their bytes from a place on, with all that stand behind these.
+    fn packed_from(&self, cluster: usize, place: usize) -> (Packing, &[u8])
+        requires cluster { cluster < length self.now }
+        requires place { place ≤ length (slice_index_or self.now cluster []) }
+        ensures { (n : ℕ) → place + n ≤ length (slice_index_or self.now cluster []) → AreNumbers result.0 result.1.now n (take n (drop place (slice_index_or self.now cluster []))) }
+    {
+        let block = &self.blocks[cluster];
+        let begin = block.begin + place * block.packing.width as usize;
+        (block.packing, &self.bytes[begin..])
     }
 
     /// Reads numbers of a cluster, from a place on.
@@ -117,13 +136,8 @@ impl PackedInts {
         requires within { from + length numbers.old ≤ length (slice_index_or self.now cluster []) }
         ensures { numbers.new ≡ take (length numbers.old) (drop from (slice_index_or self.now cluster [])) }
     {
-        let block = &self.blocks[cluster];
-        let begin = block.begin + from * block.width as usize;
-        let packing = Packing {
-            least: block.least,
-            width: block.width,
-        };
-        read_packed(&self.bytes[begin..], packing, numbers);
+        let (packing, bytes) = self.packed_from(cluster, from);
+        read_packed(bytes, packing, numbers);
     }
 
     /// A number of a cluster, both counted from 0.
@@ -132,9 +146,8 @@ impl PackedInts {
         requires place { place < length (slice_index_or self.now cluster []) }
         ensures { slice_get (slice_index_or self.now cluster []) place ≡ Some result }
     {
-        let block = &self.blocks[cluster];
-        let at = block.begin + place * block.width as usize;
-        let difference = number_at(self.bytes.as_slice(), at, block.width);
-        (i128::from(block.least) + i128::from(difference)) as i64
+        let (packing, bytes) = self.packed_from(cluster, place);
+        let difference = number_at(bytes, 0, packing.width);
+        packing.least.wrapping_add_unsigned(difference)
     }
 }

@@ -5,7 +5,6 @@ ghost use Rattle.columns.specs.Joins.{columns_joined, table_joined};
 ghost use Rattle.columns.specs.Wholes.{whole};
 
 use crate::column_pieces::ColumnPieces;
-use crate::pieces_parts::PiecesParts;
 use rdf_values::{Cells, Column, ListOf, Memory, Table};
 use std::alloc::Global;
 use std::marker::Model;
@@ -30,6 +29,14 @@ impl Model for TablePieces {
     ghost invariant = { λ t. HoldsTable t.columns (map whole t.pieces.items) t.entries };
 }
 
+/// The columns of a table, the pieces of each, and how many entries there are.
+#[derive(Drop)]
+pub struct PiecesParts {
+    pub columns: ListOf<Column>,
+    pub pieces: Vec<ColumnPieces>,
+    pub entries: u32,
+}
+
 // Columns in one piece each.
 fn one_piece_each(alloc: Global, cells: Vec<Cells>) -> Result<Vec<ColumnPieces>, Memory>
     ensures { IfOk result (λ pieces. map whole pieces.items ≡ cells.items) }
@@ -42,6 +49,7 @@ fn one_piece_each(alloc: Global, cells: Vec<Cells>) -> Result<Vec<ColumnPieces>,
 }
 
 // Columns with the pieces of other columns behind their own.
+#[tactic(auto, using(crate::proofs::JoiningPieces::alone))]
 fn append_columns(
     mut columns: Vec<ColumnPieces>,
     more: Vec<ColumnPieces>,

@@ -10,27 +10,8 @@ use rdf_values::{ColType, Column, IntList, ListOf, Marks, Memory, Name, Numbers,
 use std::alloc::Global;
 use std::test::Fail;
 
-// An int column of two entries.
-fn ints(alloc: Global) -> Result<Option<Table>, Memory>
-    ensures { IfOk result (λ o. MatchOption o ⊤ (λ t. (kind_at t.columns 0 ≡ Some ColType.Int) × (length t.rows ≡ 2))) }
-{
-    let Some(name) = Name::read(alloc, b"pt")? else {
-        return Ok(None);
-    };
-    let kind = ColType::Int;
-    let mut columns = ListOf::new(alloc);
-    columns.push(Column { name, kind })?;
-    let mut table = Table::new(alloc, columns)?;
-    let mut row = ListOf::new(alloc);
-    row.push(Value::Int(10))?;
-    table.push(&mut row)?;
-    row.push(Value::Int(-3))?;
-    table.push(&mut row)?;
-    Ok(Some(table))
-}
-
 // An int column and a vec column of two entries.
-fn ints_and_vects(alloc: Global) -> Result<Option<Table>, Memory>
+fn table(alloc: Global) -> Result<Option<Table>, Memory>
     ensures { IfOk result (λ o. MatchOption o ⊤ (λ t. (kind_at t.columns 0 ≡ Some ColType.Int) × (kind_at t.columns 1 ≡ Some ColType.Vect) × (length t.rows ≡ 2))) }
 {
     let (Some(pt), Some(jets)) = (Name::read(alloc, b"pt")?, Name::read(alloc, b"jets")?) else {
@@ -57,42 +38,14 @@ fn ints_and_vects(alloc: Global) -> Result<Option<Table>, Memory>
 }
 
 #[test]
-fn gives_the_numbers_of_a_table(rt: HostRuntime) -> Result<(), Fail> {
-    let Some(table) = ints(rt.alloc())? else {
+fn gives_the_values_of_a_table(rt: HostRuntime) -> Result<(), Fail> {
+    let Some(table) = table(rt.alloc())? else {
         panic!(rt; "no name");
     };
     let cuts = cut(rt.alloc(), 2, 1, &Marks::new(rt.alloc()))?;
     let columns = Columns::build(rt.alloc(), table, cuts)?;
     assert_eq!(rt; columns.int_at(0, 0), 10);
     assert_eq!(rt; columns.int_at(1, 0), -3);
-    assert_eq!(rt; columns.over(1).int_at(1, 0), -3);
-    Ok(())
-}
-
-#[test]
-fn packs_the_numbers_of_a_cluster(rt: HostRuntime) -> Result<(), Fail> {
-    let Some(table) = ints(rt.alloc())? else {
-        panic!(rt; "no name");
-    };
-    let cuts = cut(rt.alloc(), 2, 2, &Marks::new(rt.alloc()))?;
-    let columns = Columns::build(rt.alloc(), table, cuts)?;
-    let packing = Packing {
-        least: -3,
-        width: 1,
-    };
-    assert_eq!(rt; columns.packing(0, 0), packing);
-    assert_eq!(rt; columns.packed(0, 0), [13, 0].as_slice());
-    assert_eq!(rt; columns.over(0).int_at(0, 0), 10);
-    Ok(())
-}
-
-#[test]
-fn gives_the_vectors_of_a_table(rt: HostRuntime) -> Result<(), Fail> {
-    let Some(table) = ints_and_vects(rt.alloc())? else {
-        panic!(rt; "no name");
-    };
-    let cuts = cut(rt.alloc(), 2, 1, &Marks::new(rt.alloc()))?;
-    let columns = Columns::build(rt.alloc(), table, cuts)?;
     assert_eq!(rt; columns.vec_at(0, 1), [3, 4].as_slice());
     assert!(rt; columns.vec_at(1, 1).is_empty());
     Ok(())
@@ -100,12 +53,18 @@ fn gives_the_vectors_of_a_table(rt: HostRuntime) -> Result<(), Fail> {
 
 #[test]
 fn two_slots_pack_a_column_each(rt: HostRuntime) -> Result<(), Fail> {
-    let Some(table) = ints_and_vects(rt.alloc())? else {
+    let Some(table) = table(rt.alloc())? else {
         panic!(rt; "no name");
     };
-    let cuts = cut(rt.alloc(), 2, 1, &Marks::new(rt.alloc()))?;
+    let cuts = cut(rt.alloc(), 2, 2, &Marks::new(rt.alloc()))?;
     let table = TablePieces::of(rt.alloc(), table)?;
     let columns = Columns::build_in_slots(&rt, rt.alloc(), table, cuts, 2)?;
+    let packing = Packing {
+        least: -3,
+        width: 1,
+    };
+    assert_eq!(rt; columns.packing(0, 0), packing);
+    assert_eq!(rt; columns.packed(0, 0), [13, 0].as_slice());
     assert_eq!(rt; columns.int_at(0, 0), 10);
     assert_eq!(rt; columns.int_at(1, 0), -3);
     assert_eq!(rt; columns.vec_at(0, 1), [3, 4].as_slice());

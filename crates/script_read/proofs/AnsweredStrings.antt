@@ -1,13 +1,14 @@
 -- A form says something, or one of its strings is the first that is bad.
-use Rattle.std.proofs.Common.{◌≡◌, ℕ, Bool, true, false, List, [], ◌∷◌, ◌++◌, Option, Some, None, refl, sym, ◌∙◌, inl, inr, ◌⊎◌}
-use Rattle.std.proofs.lemmas.Slice.Eq.{bytes_eq-Decides}
-use Rattle.rdf_values.specs.{a_label, a_name, ActionKind, ALabel, all_edges, all_strings, AName, AnExpression, AnOperation, AreNames, begin_expr, begin_values, FirstBad, Form, form_strings, here, is_label, is_name, IsAction, IsBad, IsMaybeLabel, IsMaybeName, IsName, later, LineRefusal, maybe_wanted, Method, method_strings, more_names, NamedTree, no_label, no_name, no_names, operation_text, QuotedText, Reads, ReadsText, ReadsValues, ReadsValuesText, ReduceOp, same, Says, SomeValues, Statement, VaryValues, wanted_names}
+use Rattle.std.proofs.Common.{◌≡◌, ℕ, Bool, true, false, List, [], ◌∷◌, ◌++◌, Option, Some, None, refl, sym, ap, ◌∙◌, inl, inr, ◌⊎◌}
+use Rattle.rdf_values.specs.{a_label, a_name, ActionKind, ALabel, all_edges, all_strings, AName, AnExpression, AnOperation, AreNames, begin_expr, begin_values, FirstBad, Form, form_strings, here, is_label, is_name, IsAction, IsBad, IsMaybeLabel, IsMaybeName, IsName, later, LineRefusal, maybe_wanted, Method, method_strings, more_names, NamedTree, no_label, no_name, no_names, operation_text, QuotedText, Reads, ReadsText, ReadsValues, ReadsValuesText, ReduceOp, Says, SomeValues, Statement, VaryValues, wanted_names}
 use Rattle.rdf_values.specs.LineForms as form
 use Rattle.rdf_values.specs.Statements.{Wanted}
 use Rattle.rdf_values.specs.Statements as st
 use Rattle.expr_read.proofs.Decided.{answered}
 use Rattle.expr_read.proofs.Whole.{whole, whole_values}
 use Rattle.expr_read.proofs.WholeReads.{reads_expr, reads_values}
+use Rattle.script_read.specs.{named}
+use Rattle.script_read.proofs.Named.{named_is}
 use Rattle.script_read.proofs.FirstBads.{IsGood, AreGood, bad_before, bad_after, good_name, good_operation, good_expression, good_values, good_names}
 
 -- ---- one string
@@ -40,37 +41,19 @@ expression_or_bad q = elim (answered (Reads 0) begin_expr whole reads_expr q.con
 values_or_bad : (q : QuotedText) → OrBad ((v : VaryValues) × ReadsValuesText q.content v) (q, SomeValues)
 values_or_bad q = elim (answered ReadsValues begin_values whole_values reads_values q.content) [ inl v ↦ inl v | inr r ↦ inr (_, st.no_values r.1) ]
 
--- the text is the word of none of those
-abbrev IsNone : List ℕ → List ReduceOp → Type 0
-IsNone w [] = Unit {0}
-IsNone w (o ∷ os) = (w ≡ operation_text o → ⊥) × IsNone w os
-
--- or it's that of one
-abbrev OneOf : List ℕ → List ReduceOp → Type 0
-OneOf w os = ((o : ReduceOp) × (w ≡ operation_text o)) ⊎ IsNone w os
-
-first_or_later : (w : List ℕ) (o : ReduceOp) (os : List ReduceOp) (b : Bool) → same w (operation_text o) ≡ b → OneOf w os → OneOf w (o ∷ os)
-first_or_later w o os true e rest = inl (o, (bytes_eq-Decides w (operation_text o)).0 e)
-first_or_later w o os false e (inl k) = inl k
-first_or_later w o os false e (inr none) = inr ((λ h. let is = (bytes_eq-Decides w (operation_text o)).1 h in cc (sym is ∙ e)), none)
-
-one_of : (w : List ℕ) (os : List ReduceOp) → OneOf w os
-one_of w [] = inr tt
-one_of w (o ∷ os) = first_or_later w o os (same w (operation_text o)) refl (one_of w os)
-
 abbrev operations : List ReduceOp
 operations = ReduceOp.Min ∷ ReduceOp.Max ∷ ReduceOp.And ∷ ReduceOp.Or ∷ ReduceOp.Xor ∷ ReduceOp.WrapAdd ∷ []
 
-is_none : (w : List ℕ) → IsNone w operations → (o : ReduceOp) → w ≡ operation_text o → ⊥
-is_none w k ReduceOp.Min = k.0
-is_none w k ReduceOp.Max = k.1.0
-is_none w k ReduceOp.And = k.1.1.0
-is_none w k ReduceOp.Or = k.1.1.1.0
-is_none w k ReduceOp.Xor = k.1.1.1.1.0
-is_none w k ReduceOp.WrapAdd = k.1.1.1.1.1.0
+operation_found : (o : ReduceOp) → named operation_text (operation_text o) operations ≡ Some o
+operation_found ReduceOp.Min = refl
+operation_found o = refl
 
 operation_or_bad : (q : QuotedText) → OrBad ((o : ReduceOp) × (q.content ≡ operation_text o)) (q, AnOperation)
-operation_or_bad q = elim (one_of q.content operations) [ inl o ↦ inl o | inr k ↦ inr (st.Syntax q.place, st.no_operation (is_none q.content k)) ]
+operation_or_bad q = go (named operation_text q.content operations) refl
+  where
+    go : (found : Option ReduceOp) → named operation_text q.content operations ≡ found → OrBad ((o : ReduceOp) × (q.content ≡ operation_text o)) (q, AnOperation)
+    go (Some o) e = inl (o, named_is operation_text q.content operations o e)
+    go None e = inr (st.Syntax q.place, st.no_operation (λ o h. let one = ap (λ w. named operation_text w operations) h ∙ operation_found o in cc (sym e ∙ one)))
 
 -- ---- several strings
 

@@ -65,3 +65,6 @@ bad_before vs ws r (later {ss = us} g b) = later g (bad_before us ws r b)
 
 pub refused_before : (vs ws : List (QuotedText × Wanted)) (e : LineStop) → RefusedFor (FirstBad vs) e → RefusedFor (FirstBad (vs ++ ws)) e
 refused_before vs ws e h = refused_as (FirstBad vs) (FirstBad (vs ++ ws)) (bad_before vs ws) e h
+
+-- what finds the refusal of a form's strings
+pub ruleset refusals = (refused_here, refused_later, refused_before, refused_after, good_name, good_operation, good_expression, good_values, good_names)

@@ -1,5 +1,5 @@
 -- The first line of a text, by the place of its LF.
-use Rattle.std.proofs.Common.{◌≡◌, ◌<◌, ◌≤◌, ◌+◌, ◌-◌, ℕ, suc, List, [], ◌∷◌, ◌++◌, length, take, drop, get_or, drop-cons, add-one, subst, Bool, true, false, None, Some, Option, arith, refl, ap, sym, ◌∙◌, not, nat_lt, ◌==◌, position, cond, if◌then◌else◌}
+use Rattle.std.proofs.Common.{◌≡◌, ◌<◌, ◌≤◌, ◌+◌, ℕ, suc, List, [], ◌∷◌, ◌++◌, length, take, drop, get_or, drop-cons, add-one, subst, Bool, true, false, None, Some, Option, arith, refl, ap, sym, ◌∙◌, not, nat_lt, ◌==◌, position, cond, if◌then◌else◌}
 use Rattle.std.specs.List.{list_all, position_or_len}
 use Rattle.std.specs.Io.BufRead.{strip_last}
 use Rattle.std.proofs.lemmas.List.{take_all, take-append-drop}

@@ -6,21 +6,21 @@ use Rattle.rdf_values.specs.LineTokens as t
 use Rattle.script_read.specs.{all_names, AMethod, Begins, name_of, name_word, named, next}
 use Rattle.script_read.specs.declared.method.MethodName.{MethodName}
 
-named_first : (word : List ℕ) (m : MethodName) (ms : List MethodName) (n : MethodName) (b : Bool) → same word (name_word m) ≡ b → (named word ms ≡ Some n → word ≡ name_word n) → named word (m ∷ ms) ≡ Some n → word ≡ name_word n
-named_first word m ms n true s later e =
-    let found : Some m ≡ Some n = sym (ap (λ (b : Bool). if b then Some m else named word ms) s) ∙ e in
-    let name : m ≡ n = cc found in
-    (bytes_eq-Decides word (name_word m)).0 s ∙ ap name_word name
-named_first word m ms n false s later e = later (sym (ap (λ (b : Bool). if b then Some m else named word ms) s) ∙ e)
+named_first : {A : Type 0} (word_of : A → List ℕ) (word : List ℕ) (y : A) (ys : List A) (x : A) (b : Bool) → same word (word_of y) ≡ b → (named word_of word ys ≡ Some x → word ≡ word_of x) → named word_of word (y ∷ ys) ≡ Some x → word ≡ word_of x
+named_first word_of word y ys x true s later e =
+    let found : Some y ≡ Some x = sym (ap (λ (b : Bool). if b then Some y else named word_of word ys) s) ∙ e in
+    let name : y ≡ x = cc found in
+    (bytes_eq-Decides word (word_of y)).0 s ∙ ap word_of name
+named_first word_of word y ys x false s later e = later (sym (ap (λ (b : Bool). if b then Some y else named word_of word ys) s) ∙ e)
 
--- a method's name is its word
-named_is : (word : List ℕ) (ns : List MethodName) (n : MethodName) → named word ns ≡ Some n → word ≡ name_word n
-named_is word [] n e = cc e
-named_is word (m ∷ ms) n e = named_first word m ms n (same word (name_word m)) refl (named_is word ms n) e
+-- what is named has the word
+pub named_is : {A : Type 0} (word_of : A → List ℕ) (word : List ℕ) (xs : List A) (x : A) → named word_of word xs ≡ Some x → word ≡ word_of x
+named_is word_of word [] x e = cc e
+named_is word_of word (y ∷ ys) x e = named_first word_of word y ys x (same word (word_of y)) refl (named_is word_of word ys x) e
 
 pub name_is : (word : List ℕ) (n : MethodName) → name_of word ≡ Some n → word ≡ name_word n
 unfolding name_of
-name_is word n e = named_is word all_names n e
+name_is word n e = named_is name_word word all_names n e
 
 pub no_method_named : (u : LineToken) (word : List ℕ) → u ≡ t.Word word → ((n : MethodName) → word ≡ name_word n → ⊥) → next AMethod u ≡ None
 no_method_named u word e isnt = rw (e, at (name_of word) refl) refl

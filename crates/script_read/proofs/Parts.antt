@@ -1,12 +1,11 @@
 -- What was taken, from what its parts took.
-use Rattle.std.proofs.Common.{◌≡◌, ◌∙◌, ℤ, List, [], ◌∷◌, ◌++◌, Some, map, refl, sym, ap, subst, append_assoc}
+use Rattle.std.proofs.Common.{◌≡◌, ◌∙◌, ℤ, List, [], ◌∷◌, ◌++◌, Some, refl, sym, ap, append_assoc}
 use Rattle.std.proofs.lemmas.List.{append-nil}
-use Rattle.rdf_values.specs.{bare_tokens, edges_tokens, LineToken, maybe_string, PlacedToken, QuotedText, strings_tokens}
+use Rattle.rdf_values.specs.{bare_tokens, LineToken, maybe_string, more_edges, more_strings, PlacedToken, QuotedText}
 use Rattle.rdf_values.specs.LineTokens as t
-use Rattle.script_read.specs.{AMark, ANumber, AString, Begins, BeginsNot, edges_wants, MaybeString, MoreEdges, MoreStrings, one_string_wants, quoted_of, strings_wants, Took, TookEdges, TookStrings, walk_placed, Want}
-use Rattle.script_read.specs.declared.token.Quoted.{Quoted}
+use Rattle.script_read.specs.{AMark, ANumber, AString, Begins, BeginsNot, MaybeString, MoreEdges, MoreStrings, one_string_wants, Took, walk_placed, Want}
 use Rattle.script_read.specs.declared.token.Mark.{Mark}
-use Rattle.script_read.proofs.Walked.{walk_over, close_wanted, strings_end, edges_end}
+use Rattle.script_read.proofs.Walked.{walk_over, close_wanted, IsList, a_string, an_edge, next_item, list_end}
 
 -- ---- a further string, or none
 
@@ -25,60 +24,50 @@ some_wanted old mid k b = walk_over MaybeString one_string_wants k b refl
 pub none_wanted : (old mid : List PlacedToken) (k : List Want) → mid ≡ old → BeginsNot t.Comma old → walk_placed old (MaybeString ∷ k) ≡ walk_placed mid (AMark Mark.Close ∷ k)
 none_wanted old mid k e isnt = close_wanted old k isnt ∙ ap (λ ts. walk_placed ts (AMark Mark.Close ∷ k)) (sym e)
 
--- ---- lists of strings
+-- ---- lists
 
-map_last : (xs : List Quoted) (x : Quoted) → map quoted_of (xs ++ x ∷ []) ≡ map quoted_of xs ++ quoted_of x ∷ []
-map_last [] x = refl
-map_last (y ∷ ys) x = ap (λ (l : List QuotedText). quoted_of y ∷ l) (map_last ys x)
+-- how the items of a list are wanted and written
+pub record ListKind (A : Type 0) : Type 0 where
+  pub item : Want
+  pub more : Want
+  pub listed : IsList item more
+  pub token : A → LineToken
+  pub tokens : List A → List LineToken
+  pub ends : tokens [] ≡ t.CloseBracket ∷ []
+  pub goes_on : (x : A) (xs : List A) → tokens (x ∷ xs) ≡ t.Comma ∷ token x ∷ tokens xs
 
-pub strings_more : {old m1 m2 new : List PlacedToken} (first x : Quoted) (rest more : List Quoted)
-    → TookStrings (quoted_of first) (map quoted_of rest) old m1 → Begins t.Comma m1 m2 → Took (AString ∷ []) (t.Quoted (quoted_of x) ∷ []) m2 new → more ≡ rest ++ x ∷ [] → TookStrings (quoted_of first) (map quoted_of more) old new
-strings_more {old} {m1} {m2} {new} first x rest more l b k e =
-    let longer : map quoted_of more ≡ map quoted_of rest ++ quoted_of x ∷ [] = ap (λ (ys : List Quoted). map quoted_of ys) e ∙ map_last rest x in
-    let taken : TookStrings (quoted_of first) (map quoted_of rest ++ quoted_of x ∷ []) old new = record {
-      split = λ us ts h.
-          l.split (quoted_of x ∷ us) ts (ap bare_tokens b.is ∙ ap (λ (s : List LineToken). t.Comma ∷ s) (k.split ∙ ap (λ (s : List LineToken). t.Quoted (quoted_of x) ∷ s) h))
-          ∙ ap (λ (us : List QuotedText). strings_tokens (record { first = quoted_of first; rest = us }) ++ ts) (sym (append_assoc (map quoted_of rest) (quoted_of x ∷ []) us));
-      walks = λ ws. l.walks ws ∙ walk_over MoreStrings (AString ∷ MoreStrings ∷ []) ws b refl ∙ k.walks (MoreStrings ∷ ws);
-    } in
-    subst (λ (us : List QuotedText). TookStrings (quoted_of first) us old new) (sym longer) taken
+abbrev pub strings : ListKind QuotedText
+strings = record { item = AString; more = MoreStrings; listed = a_string; token = λ q. t.Quoted q; tokens = more_strings; ends = refl; goes_on = λ x xs. refl }
 
-pub strings_done : {first : QuotedText} {rest : List QuotedText} {old m1 m2 new : List PlacedToken}
-    → TookStrings first rest old m1 → m2 ≡ m1 → BeginsNot t.Comma m1 → Took (AMark Mark.CloseBracket ∷ []) (t.CloseBracket ∷ []) m2 new → Took strings_wants (strings_tokens (record { first = first; rest = rest })) old new
-strings_done {first} {rest} {old} {m1} {m2} {new} l e isnt k = record {
-  split = l.split [] (bare_tokens new) (sym (ap bare_tokens e) ∙ k.split) ∙ ap (λ (us : List QuotedText). strings_tokens (record { first = first; rest = us }) ++ bare_tokens new) (append-nil rest);
-  walks = λ ws. l.walks ws ∙ strings_end m1 ws isnt ∙ ap (λ (ts : List PlacedToken). walk_placed ts (AMark Mark.CloseBracket ∷ ws)) (sym e) ∙ k.walks ws;
+abbrev pub edges : ListKind ℤ
+edges = record { item = ANumber; more = MoreEdges; listed = an_edge; token = λ z. t.Number z; tokens = more_edges; ends = refl; goes_on = λ x xs. refl }
+
+-- items of a list were taken, up to a comma or its end
+pub record TookItems {A : Type 0} (l : ListKind A) (first : A) (rest : List A) (old new : List PlacedToken) : Type 0 where
+  pub split : (us : List A) (ts : List LineToken) → bare_tokens new ≡ l.tokens us ++ ts → bare_tokens old ≡ t.OpenBracket ∷ l.token first ∷ (l.tokens (rest ++ us) ++ ts)
+  pub walks : (k : List Want) → walk_placed old (AMark Mark.OpenBracket ∷ l.item ∷ l.more ∷ k) ≡ walk_placed new (l.more ∷ k)
+
+pub items_go : {A : Type 0} {l : ListKind A} {first : A} {rest : List A} {old m1 : List PlacedToken} (m2 : List PlacedToken) (k : List Want) → TookItems l first rest old m1 → Begins t.Comma m1 m2
+    → walk_placed old (AMark Mark.OpenBracket ∷ l.item ∷ l.more ∷ k) ≡ walk_placed m2 (l.item ∷ l.more ∷ k)
+items_go {l = l} m2 k i b = i.walks k ∙ walk_over l.more (l.item ∷ l.more ∷ []) k b (next_item l.listed)
+
+pub items_close : {A : Type 0} {l : ListKind A} {first : A} {rest : List A} {old m1 : List PlacedToken} (m2 : List PlacedToken) (k : List Want) → TookItems l first rest old m1 → m2 ≡ m1 → BeginsNot t.Comma m1
+    → walk_placed old (AMark Mark.OpenBracket ∷ l.item ∷ l.more ∷ k) ≡ walk_placed m2 (AMark Mark.CloseBracket ∷ k)
+items_close {l = l} {m1 = m1} m2 k i e isnt = i.walks k ∙ list_end m1 k l.listed isnt ∙ ap (λ (ts : List PlacedToken). walk_placed ts (AMark Mark.CloseBracket ∷ k)) (sym e)
+
+pub items_more : {A : Type 0} {l : ListKind A} {first x : A} {rest more : List A} {old m1 m2 new : List PlacedToken}
+    → TookItems l first rest old m1 → Begins t.Comma m1 m2 → Took (l.item ∷ []) (l.token x ∷ []) m2 new → more ≡ rest ++ x ∷ [] → TookItems l first more old new
+items_more {l = l} {first} {x} {rest} {more} {old} {m1} {m2} {new} i b k e = record {
+  split = λ us ts h.
+      i.split (x ∷ us) ts (rw l.goes_on (ap bare_tokens b.is ∙ ap (λ (s : List LineToken). t.Comma ∷ s) (k.split ∙ ap (λ (s : List LineToken). l.token x ∷ s) h)))
+      ∙ ap (λ us. t.OpenBracket ∷ l.token first ∷ (l.tokens us ++ ts)) (sym (append_assoc rest (x ∷ []) us) ∙ ap (λ xs. xs ++ us) (sym e));
+  walks = λ ws. items_go m2 ws i b ∙ k.walks (l.more ∷ ws);
 }
 
-pub strings_go : {first : QuotedText} {rest : List QuotedText} {old m1 : List PlacedToken} (m2 : List PlacedToken) (k : List Want) → TookStrings first rest old m1 → Begins t.Comma m1 m2 → walk_placed old (strings_wants ++ k) ≡ walk_placed m2 (AString ∷ MoreStrings ∷ k)
-strings_go m2 k l b = l.walks k ∙ walk_over MoreStrings (AString ∷ MoreStrings ∷ []) k b refl
-
-pub strings_close : {first : QuotedText} {rest : List QuotedText} {old m1 : List PlacedToken} (m2 : List PlacedToken) (k : List Want) → TookStrings first rest old m1 → m2 ≡ m1 → BeginsNot t.Comma m1
-    → walk_placed old (strings_wants ++ k) ≡ walk_placed m2 (AMark Mark.CloseBracket ∷ k)
-strings_close {m1 = m1} m2 k l e isnt = l.walks k ∙ strings_end m1 k isnt ∙ ap (λ (ts : List PlacedToken). walk_placed ts (AMark Mark.CloseBracket ∷ k)) (sym e)
-
--- ---- lists of edges
-
-pub edges_more : {first x : ℤ} {rest more : List ℤ} {old m1 m2 new : List PlacedToken} → TookEdges first rest old m1 → Begins t.Comma m1 m2 → Took (ANumber ∷ []) (t.Number x ∷ []) m2 new → more ≡ rest ++ x ∷ [] → TookEdges first more old new
-edges_more {first} {x} {rest} {more} {old} {m1} {m2} {new} l b k e =
-    let taken : TookEdges first (rest ++ x ∷ []) old new = record {
-      split = λ us ts h.
-          l.split (x ∷ us) ts (ap bare_tokens b.is ∙ ap (λ (s : List LineToken). t.Comma ∷ s) (k.split ∙ ap (λ (s : List LineToken). t.Number x ∷ s) h))
-          ∙ ap (λ (us : List ℤ). edges_tokens (record { first = first; rest = us }) ++ ts) (sym (append_assoc rest (x ∷ []) us));
-      walks = λ ws. l.walks ws ∙ walk_over MoreEdges (ANumber ∷ MoreEdges ∷ []) ws b refl ∙ k.walks (MoreEdges ∷ ws);
-    } in
-    subst (λ (us : List ℤ). TookEdges first us old new) (sym e) taken
-
-pub edges_done : {first : ℤ} {rest : List ℤ} {old m1 m2 new : List PlacedToken}
-    → TookEdges first rest old m1 → m2 ≡ m1 → BeginsNot t.Comma m1 → Took (AMark Mark.CloseBracket ∷ []) (t.CloseBracket ∷ []) m2 new → Took edges_wants (edges_tokens (record { first = first; rest = rest })) old new
-edges_done {first} {rest} {old} {m1} {m2} {new} l e isnt k = record {
-  split = l.split [] (bare_tokens new) (sym (ap bare_tokens e) ∙ k.split) ∙ ap (λ (us : List ℤ). edges_tokens (record { first = first; rest = us }) ++ bare_tokens new) (append-nil rest);
-  walks = λ ws. l.walks ws ∙ edges_end m1 ws isnt ∙ ap (λ (ts : List PlacedToken). walk_placed ts (AMark Mark.CloseBracket ∷ ws)) (sym e) ∙ k.walks ws;
+pub items_done : {A : Type 0} {l : ListKind A} {first : A} {rest : List A} {old m1 m2 new : List PlacedToken}
+    → TookItems l first rest old m1 → m2 ≡ m1 → BeginsNot t.Comma m1 → Took (AMark Mark.CloseBracket ∷ []) (t.CloseBracket ∷ []) m2 new
+    → Took (AMark Mark.OpenBracket ∷ l.item ∷ l.more ∷ []) (t.OpenBracket ∷ l.token first ∷ l.tokens rest) old new
+items_done {l = l} {first} {rest} {old} {m1} {m2} {new} i e isnt k = record {
+  split = i.split [] (bare_tokens new) (rw l.ends (sym (ap bare_tokens e) ∙ k.split)) ∙ ap (λ us. t.OpenBracket ∷ l.token first ∷ (l.tokens us ++ bare_tokens new)) (append-nil rest);
+  walks = λ ws. items_close m2 ws i e isnt ∙ k.walks ws;
 }
-
-pub edges_go : {first : ℤ} {rest : List ℤ} {old m1 : List PlacedToken} (m2 : List PlacedToken) (k : List Want) → TookEdges first rest old m1 → Begins t.Comma m1 m2 → walk_placed old (edges_wants ++ k) ≡ walk_placed m2 (ANumber ∷ MoreEdges ∷ k)
-edges_go m2 k l b = l.walks k ∙ walk_over MoreEdges (ANumber ∷ MoreEdges ∷ []) k b refl
-
-pub edges_close : {first : ℤ} {rest : List ℤ} {old m1 : List PlacedToken} (m2 : List PlacedToken) (k : List Want) → TookEdges first rest old m1 → m2 ≡ m1 → BeginsNot t.Comma m1
-    → walk_placed old (edges_wants ++ k) ≡ walk_placed m2 (AMark Mark.CloseBracket ∷ k)
-edges_close {m1 = m1} m2 k l e isnt = l.walks k ∙ edges_end m1 k isnt ∙ ap (λ (ts : List PlacedToken). walk_placed ts (AMark Mark.CloseBracket ∷ k)) (sym e)

@@ -122,15 +122,21 @@ close_next t.Comma isnt = absurd (isnt refl)
 close_next t.Close isnt = refl
 close_next t isnt = refl
 
-strings_next : (u : LineToken) → (u ≡ t.Comma → ⊥) → next MoreStrings u ≡ (if is_mark Mark.CloseBracket u then Some [] else None)
-strings_next t.Comma isnt = absurd (isnt refl)
-strings_next t.CloseBracket isnt = refl
-strings_next t isnt = refl
+-- what is wanted for an item of a list, and behind it
+pub data IsList : Want → Want → Type 0 where
+  a_string : IsList AString MoreStrings
+  an_edge : IsList ANumber MoreEdges
 
-edges_next : (u : LineToken) → (u ≡ t.Comma → ⊥) → next MoreEdges u ≡ (if is_mark Mark.CloseBracket u then Some [] else None)
-edges_next t.Comma isnt = absurd (isnt refl)
-edges_next t.CloseBracket isnt = refl
-edges_next t isnt = refl
+pub next_item : {item more : Want} → IsList item more → next more t.Comma ≡ Some (item ∷ more ∷ [])
+next_item a_string = refl
+next_item an_edge = refl
+
+list_next : {item more : Want} (u : LineToken) → IsList item more → (u ≡ t.Comma → ⊥) → next more u ≡ (if is_mark Mark.CloseBracket u then Some [] else None)
+list_next t.Comma l isnt = absurd (isnt refl)
+list_next t.CloseBracket a_string isnt = refl
+list_next t.CloseBracket an_edge isnt = refl
+list_next u a_string isnt = refl
+list_next u an_edge isnt = refl
 
 vary_next : (t : Token) → ((q : Quoted) → t ≡ Token.Quoted q → ⊥)
     → next VaryArguments (token_of t) ≡ (if is_mark Mark.OpenBracket (token_of t) then Some (AString ∷ MoreStrings ∷ (variation_wants ++ AMark Mark.Comma ∷ one_string_wants)) else None)
@@ -143,11 +149,8 @@ pub close_wanted : (old : List PlacedToken) (k : List Want) → BeginsNot t.Comm
 close_wanted old k isnt = instead MaybeString Mark.Close [] old k (λ u new b. close_next u (first_is_not t.Comma u old new isnt b))
 
 -- without a comma the list ends
-pub strings_end : (old : List PlacedToken) (k : List Want) → BeginsNot t.Comma old → walk_placed old (MoreStrings ∷ k) ≡ walk_placed old (AMark Mark.CloseBracket ∷ k)
-strings_end old k isnt = instead MoreStrings Mark.CloseBracket [] old k (λ u new b. strings_next u (first_is_not t.Comma u old new isnt b))
-
-pub edges_end : (old : List PlacedToken) (k : List Want) → BeginsNot t.Comma old → walk_placed old (MoreEdges ∷ k) ≡ walk_placed old (AMark Mark.CloseBracket ∷ k)
-edges_end old k isnt = instead MoreEdges Mark.CloseBracket [] old k (λ u new b. edges_next u (first_is_not t.Comma u old new isnt b))
+pub list_end : {item more : Want} (old : List PlacedToken) (k : List Want) → IsList item more → BeginsNot t.Comma old → walk_placed old (more ∷ k) ≡ walk_placed old (AMark Mark.CloseBracket ∷ k)
+list_end {more = more} old k l isnt = instead more Mark.CloseBracket [] old k (λ u new b. list_next u l (first_is_not t.Comma u old new isnt b))
 
 -- a variation begins with a list of columns unless with a string
 pub columns_wanted : {s : Token} {seen : List PlacedToken} → (old : List PlacedToken) (k : List Want) → Begins (token_of s) old seen → ((q : Quoted) → s ≡ Token.Quoted q → ⊥)

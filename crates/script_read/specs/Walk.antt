@@ -1,6 +1,6 @@
 -- A walk over the tokens of a line, which takes each token that can stand where it does.
-use Rattle.std.specs.Prelude.{◌≡◌, ℕ, ℤ, Bool, true, false, List, [], ◌∷◌, ◌++◌, Option, Some, None, option_map, drop, codes, if◌then◌else◌}
-use Rattle.rdf_values.specs.{arguments, bare_tokens, edges_tokens, Form, form_tokens, has_free_names, is_free, LineToken, Method, method_word, more_edges, more_strings, PlacedToken, QuotedText, same, strings_tokens}
+use Rattle.std.specs.Prelude.{◌≡◌, ℕ, Bool, true, false, List, [], ◌∷◌, ◌++◌, Option, Some, None, option_map, drop, codes, if◌then◌else◌}
+use Rattle.rdf_values.specs.{arguments, bare_tokens, Form, form_tokens, has_free_names, is_free, LineToken, Method, method_word, PlacedToken, same}
 use Rattle.rdf_values.specs.LineTokens as t
 use Rattle.rdf_values.specs.LineForms as form
 use Rattle.script_read.specs.Views.{mark_token}
@@ -44,14 +44,14 @@ name_word (MethodName.Action ActionName.Histo2D) = codes "Histo2D"
 abbrev pub all_names : List MethodName
 all_names = MethodName.Define ∷ MethodName.Redefine ∷ MethodName.Alias ∷ MethodName.Filter ∷ MethodName.Vary ∷ (MethodName.Action ActionName.Count) ∷ MethodName.Report ∷ (MethodName.Action ActionName.Sum) ∷ (MethodName.Action ActionName.Min) ∷ (MethodName.Action ActionName.Max) ∷ (MethodName.Action ActionName.Take) ∷ (MethodName.Action ActionName.Reduce) ∷ (MethodName.Action ActionName.Histo1D) ∷ (MethodName.Action ActionName.Histo2D) ∷ []
 
--- the first of the names that is this word
-abbrev pub named : List ℕ → List MethodName → Option MethodName
-named word [] = None
-named word (n ∷ ns) = if same word (name_word n) then Some n else named word ns
+-- the first of those by whose word this one stands
+abbrev pub named : {A : Type 0} → (A → List ℕ) → List ℕ → List A → Option A
+named word_of word [] = None
+named word_of word (x ∷ xs) = if same word (word_of x) then Some x else named word_of word xs
 
 -- the method that the word names
 unfoldable pub name_of : List ℕ → Option MethodName
-name_of word = named word all_names
+name_of word = named name_word word all_names
 
 -- ---- what is wanted next
 
@@ -191,16 +191,6 @@ IsStuck ws old new = (k : List Want) → walk_placed old (ws ++ k) ≡ StuckAt n
 abbrev pub place_from : List PlacedToken → ℕ → ℕ
 place_from [] end = end
 place_from (p ∷ ps) end = p.place
-
--- strings of a list were taken, up to a comma or its end
-pub record TookStrings (first : QuotedText) (rest : List QuotedText) (old new : List PlacedToken) : Type 0 where
-  pub split : (us : List QuotedText) (ts : List LineToken) → bare_tokens new ≡ more_strings us ++ ts → bare_tokens old ≡ strings_tokens (record { first = first; rest = rest ++ us }) ++ ts
-  pub walks : (k : List Want) → walk_placed old (strings_wants ++ k) ≡ walk_placed new (MoreStrings ∷ k)
-
--- integers of a list were taken, up to a comma or its end
-pub record TookEdges (first : ℤ) (rest : List ℤ) (old new : List PlacedToken) : Type 0 where
-  pub split : (us : List ℤ) (ts : List LineToken) → bare_tokens new ≡ more_edges us ++ ts → bare_tokens old ≡ edges_tokens (record { first = first; rest = rest ++ us }) ++ ts
-  pub walks : (k : List Want) → walk_placed old (edges_wants ++ k) ≡ walk_placed new (MoreEdges ∷ k)
 
 -- the arguments of a method of that name were taken, and its closing parenthesis
 pub record TookArguments (n : MethodName) (m : Method) (old new : List PlacedToken) : Type 0 where

@@ -2,11 +2,9 @@
 //! It stands on the types and the grammar of `rdf_values`, and on `expr_read` for expressions and the values of a Vary.
 #![tactic(auto)]
 
-mod fail;
 mod form;
 mod laws;
 mod lexeme;
-mod line;
 mod lines;
 mod method;
 mod read;

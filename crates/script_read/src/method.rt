@@ -5,10 +5,9 @@ ghost use Rattle.rdf_values.specs.LineForms.{call};
 ghost use Rattle.script_read.specs.declared.method.MethodName.{MethodName as AnyMethod};
 ghost use Rattle.script_read.specs.{action_of, AMethod, arguments_wants, IsStuck, method_of, name_word, quoted_of, SeesMethod, strings_of, Took, TookArguments, variation_wants};
 
-use crate::fail::Fail;
 use crate::form::{Action, Method, OneOrMore};
 use crate::token::{Mark, Quoted, Token};
-use crate::walk::Walk;
+use crate::walk::{Fail, Walk};
 
 /// What an action is called.
 #[derive(Clone, Copy, Debug, PartialEq, Eq)]

@@ -1,16 +1,32 @@
 // Reads scripts.
-ghost use Rattle.std.specs.Prelude.{◌≡◌, ◌≤◌, ◌↔◌, ◌⊎◌, ℕ, List, length, IfOk, IfErr, MatchResult};
-ghost use Rattle.rdf_values.specs.{IsScript, RefusesLine, RefusesScript, Script, ScriptCause};
+ghost use Rattle.std.specs.Prelude.{◌≡◌, ◌≤◌, ◌↔◌, ◌⊎◌, ℕ, List, length, IfOk, IfErr, MatchOption, MatchResult};
+ghost use Rattle.rdf_values.specs.{IsBlankLine, IsLine, IsScript, RefusesLine, RefusesScript, Script, ScriptCause};
 ghost use Rattle.script_read.specs.{AddsLine, RefusedFor, RefusesFirstAs, RefusesTextAs};
 
-use crate::line::read_line;
 use crate::lines::first_line;
 use crate::refusal::ScriptRefusal;
+use crate::statement::read_statement;
 use crate::stop::LineStop;
-use rdf_values::{Line, ListOf, Script, ScriptCause};
+use crate::tokenizer::tokenize;
+use crate::walk::read_form;
+use rdf_values::{Line, ListOf, Script, ScriptCause, Statement};
 use std::alloc::Global;
 
 const MOST_STATEMENTS: usize = 256;
+
+// The statement of a line, if it has tokens.
+fn read_line(alloc: Global, line: &[u8]) -> Result<Option<Statement>, LineStop>
+    requires { length line.now ≤ 65536 }
+    ensures ok { IfOk result (λ o. MatchOption o (IsBlankLine line.now) (λ s. IsLine line.now s)) }
+    ensures err { IfErr result (λ e. RefusedFor (RefusesLine line.now) e) }
+{
+    let tokens = tokenize(alloc, line)?;
+    if tokens.is_empty() {
+        return Ok(None);
+    }
+    let form = read_form(alloc, tokens.as_slice(), line.len() as u32)?;
+    Ok(Some(read_statement(alloc, &form)?))
+}
 
 // What the stop of the line with that number is to the text.
 fn refusal_at(number: u32, stop: LineStop) -> ScriptRefusal

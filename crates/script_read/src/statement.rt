@@ -1,4 +1,6 @@
 // What a form says.
+#![tactic(auto, using(crate::proofs::FirstBads::refusals))]
+
 ghost use Rattle.std.specs.Prelude.{◌≡◌, [], ◌∷◌, option_map, IfOk, IfErr};
 ghost use Rattle.rdf_values.specs.LineForms as line;
 ghost use Rattle.rdf_values.specs.{all_edges, AName, AnExpression, FirstBad, form_strings, IsAction, IsName, maybe_wanted, method_strings, ReadsText, Says};
@@ -110,19 +112,6 @@ fn vary_all(
     })
 }
 
-fn reduce(
-    alloc: Global,
-    operation: &Quoted<'_>,
-    column: &Quoted<'_>,
-) -> Result<ActionKind, LineStop>
-    ensures ok { IfOk result (λ k. IsAction (line.Reduce (quoted_of operation.now) (quoted_of column.now)) k) }
-    ensures err { IfErr result (λ e. RefusedFor (FirstBad (method_strings (line.Reduce (quoted_of operation.now) (quoted_of column.now)))) e) }
-{
-    let operation = strings::operation(operation)?;
-    let column = strings::name(alloc, column)?;
-    Ok(ActionKind::Reduce(operation, column))
-}
-
 // The edges of an axis.
 fn edges(alloc: Global, numbers: &OneOrMore<i64>) -> Result<IntList, LineStop>
     ensures ok { IfOk result (λ es. es ≡ all_edges (edges_of numbers.now)) }
@@ -185,7 +174,11 @@ fn action_kind(alloc: Global, action: &Action<'_>) -> Result<ActionKind, LineSto
         Action::Min(column) => Ok(ActionKind::Min(strings::name(alloc, column)?)),
         Action::Max(column) => Ok(ActionKind::Max(strings::name(alloc, column)?)),
         Action::Take(column) => Ok(ActionKind::Take(strings::name(alloc, column)?)),
-        Action::Reduce(operation, column) => reduce(alloc, operation, column),
+        Action::Reduce(operation, column) => {
+            let operation = strings::operation(operation)?;
+            let column = strings::name(alloc, column)?;
+            Ok(ActionKind::Reduce(operation, column))
+        }
         Action::Histo1D { x_edges, x, weight } => histo1d(alloc, x_edges, x, weight),
         Action::Histo2D {
             x_edges,

@@ -3,7 +3,7 @@ ghost use Rattle.std.specs.Prelude.{◌≡◌};
 ghost use Rattle.script_read.specs.declared.stop.LineStop.TheVariants.{Memory as OutOfMemory};
 
 use rdf_values::{ExprCause, Memory};
-use std::alloc::{AllocError, AllocFailed};
+use std::alloc::AllocFailed;
 
 /// A fault at a place in the line, or want of memory.
 #[derive(Clone, Copy, Debug, PartialEq, Eq)]
@@ -17,14 +17,6 @@ impl From<Memory> for LineStop {
     ghost from_gives = { λ _ stop. stop ≡ OutOfMemory };
 
     fn from(_: Memory) -> LineStop {
-        LineStop::Memory
-    }
-}
-
-impl From<AllocError> for LineStop {
-    ghost from_gives = { λ _ stop. stop ≡ OutOfMemory };
-
-    fn from(_: AllocError) -> LineStop {
         LineStop::Memory
     }
 }

@@ -2,13 +2,19 @@
 ghost use Rattle.std.specs.Prelude.{◌≡◌, ◌<◌, ℕ, List, [], ◌∷◌, ◌++◌, Ok, Err, map, drop, true, false, length, OnOk, IfOk, IfErr, option_map};
 ghost use Rattle.rdf_values.specs.{bare_tokens, Close as AsClose, Comma as AsComma, edges_tokens, is_free as is_free_word, IsForm, line_tokens, maybe_string, Open as AsOpen, Quoted as AsQuoted, RefusesLine, strings_tokens};
 ghost use Rattle.rdf_values.specs.LineTokens.{Word as AsWord, Number as AsNumber};
-ghost use Rattle.script_read.specs.{ALine, AMark, ANumber, asked_form, asking_wants, AString, Ate, AWord, Begins, booking_wants, edges_of, edges_wants, form_of, IsStuck, mark_token, MaybeString, one_string_wants, place_from, placed_of, quoted_of, RefusedFor, strings_of, strings_wants, token_of, Took, TookBooking, TookForm, two_string_wants};
+ghost use Rattle.script_read.specs.{ALine, AMark, ANumber, asked_form, asking_wants, AString, Ate, AWord, Begins, booking_wants, edges_of, edges_wants, form_of, IsStuck, mark_token, MaybeString, one_string_wants, place_from, placed_of, quoted_of, RefusedFor, strings_of, strings_wants, token_of, Took, TookBooking, TookForm, two_string_wants, Want as AnyWant};
 
-use crate::fail::Fail;
 use crate::form::{Form, OneOrMore};
 use crate::stop::LineStop;
 use crate::token::{Mark, Placed, Quoted, Token, Word};
 use std::alloc::Global;
+
+/// The next token can't stand there, or no memory could be had.
+#[derive(Clone, Copy, Debug, PartialEq, Eq)]
+pub(crate) enum Fail {
+    Unexpected,
+    Memory,
+}
 
 // Whether a name in a line may be this word.
 fn is_free(word: &[u8]) -> bool
@@ -57,6 +63,7 @@ impl<'t, 'a> Walk<'t, 'a> {
     pub(crate) fn peek(&self) -> Result<Token<'a>, Fail>
         ensures sees { IfOk result (λ t. Begins (token_of t) (left_of self.now) (drop 1 (left_of self.now))) }
         ensures ends { IfErr result (λ e. left_of self.now ≡ []) }
+        ensures stuck { IfErr result (λ e. (w : AnyWant) → IsStuck (w ∷ []) (left_of self.now) (left_of self.now)) }
     {
         match self.left.first() {
             Some(placed) => Ok(placed.token),

@@ -2,9 +2,8 @@
 use Rattle.std.proofs.Common.{◌≡◌, ◌+◌, ℕ, List, [], ◌∷◌, ◌++◌, length, Bool, true, false, arith, refl, sym, ◌∙◌, append_assoc, append-nil, inl, inr, if◌then◌else◌, ◌==◌, ◌&&◌, nat_eq}
 use Rattle.std.specs.List.{list_any}
 use Rattle.lemmas.proofs.{and_false, neither}
-use Rattle.csv.specs.Machine.{ends_with, next_record, step, in_field, start_field, start_record}
+use Rattle.csv.specs.Machine.{next_record, step}
 use Rattle.csv.specs.Reading.{default_config, is_bom, records_from, strip_bom}
-use Rattle.csv.specs.declared.parser.Action.{Action}
 use Rattle.csv.specs.declared.parser.State.{State}
 use Rattle.csv.specs.declared.parser.State.TheVariants as st
 use Rattle.table_csv.specs.{csv_records, is_quote, is_special, IsCut}
@@ -21,45 +20,11 @@ unquoted st.AfterQuote = false
 unquoted st.InEscape = false
 unquoted st.InComment = false
 
-abbrev Stays : State × Action → Type 0
-Stays q = unquoted q.0 ≡ true
-
-stays_if : (t : Bool) (x y : State × Action) → Stays x → Stays y → Stays (if t then x else y)
-stays_if true x y h k = h
-stays_if false x y h k = k
-
-after : (t : Bool) → unquoted (if t then st.AfterCr else st.StartRecord) ≡ true
-after true = refl
-after false = refl
-
-in_field_stays : (c : ℕ) → Stays (in_field default_config c)
-in_field_stays c = stays_if (c == 44) _ _ refl (stays_if (ends_with default_config.terminator c) _ _ (after (c == 13)) refl)
-
-start_field_stays : (c : ℕ) → (c == 34) ≡ false → Stays (start_field default_config c)
-start_field_stays c n = rw n (in_field_stays c)
-
-start_record_stays : (c : ℕ) → (c == 34) ≡ false → Stays (start_record default_config c)
-start_record_stays c n = stays_if (ends_with default_config.terminator c) _ _ refl (start_field_stays c n)
-
-step_stays : (s : State) (c : ℕ) → unquoted s ≡ true → (c == 34) ≡ false → Stays (step default_config s c)
-step_stays st.StartRecord c h n = start_record_stays c n
-step_stays st.StartField c h n = start_field_stays c n
-step_stays st.InField c h n = in_field_stays c
-step_stays st.AfterCr c h n = stays_if (c == 10) _ _ refl (start_record_stays c n)
-step_stays st.InQuoted c h n = cc h
-step_stays st.AfterQuote c h n = cc h
-step_stays st.InEscape c h n = cc h
-step_stays st.InComment c h n = cc h
+step_stays : (s : State) (c : ℕ) → unquoted s ≡ true → (c == 34) ≡ false → unquoted (step default_config s c).0 ≡ true
+step_stays s c h n = grind arith
 
 line_ends : (s : State) → unquoted s ≡ true → (step default_config s 10).0 ≡ st.StartRecord
-line_ends st.StartRecord h = refl
-line_ends st.StartField h = refl
-line_ends st.InField h = refl
-line_ends st.AfterCr h = refl
-line_ends st.InQuoted h = cc h
-line_ends st.AfterQuote h = cc h
-line_ends st.InEscape h = cc h
-line_ends st.InComment h = cc h
+line_ends s h = grind arith
 
 lines_end : (front : List ℕ) (s : State) → unquoted s ≡ true → list_any is_quote front ≡ false → state_after s (front ++ 10 ∷ []) ≡ st.StartRecord
 unfolding state_after

@@ -3,6 +3,7 @@ use Rattle.std.proofs.Common.{if◌then◌else◌, ◌≡◌, ◌<◌, ◌≤◌
 use Rattle.std.specs.List.{after_first, before_first}
 use Rattle.std.proofs.lemmas.List.{append-nil, at_drop_more, drop_all, length-drop}
 use Rattle.std.proofs.lemmas.Bool.Decides.{nat_tests}
+use Rattle.lemmas.proofs.{and_left, not_true}
 use Rattle.rdf_values.specs.{AreColumns, ColType, Column, column_of, ends_in_cut, has_name, Header, header_from, if_new, is_colon, is_cut, is_name, IsHeader, IsStored, next_column, on_ok, same, TableCause, with_column}
 
 -- what is read, with the header of what is left behind it
@@ -105,15 +106,7 @@ next_by i size before field (Some c) go l e more =
 
 cut_behind : (before : List Column) (field : List ℕ) (rest : List (List ℕ)) → ends_in_cut before (field ∷ rest) ≡ true → 0 < length before
 unfolding is_cut
-cut_behind before field [] h = some (nat_eq (length before) 0) (and_first _ _ (and_first _ _ (and_first _ _ h))) refl
-  where
-    and_first : (a b : Bool) → (a && b) ≡ true → a ≡ true
-    and_first true b h = refl
-    and_first false b h = cc h
-
-    some : (b : Bool) → not b ≡ true → nat_eq (length before) 0 ≡ b → 0 < length before
-    some true h e = cc h
-    some false h e = grind (arith, nat_tests)
+cut_behind before field [] h = let other = not_true (nat_eq (length before) 0) (and_left _ _ (and_left _ _ (and_left _ _ h))) in grind (arith, nat_tests)
 cut_behind before field (x ∷ xs) h = cc h
 
 are_next_by : (b : Bool) (i size : ℕ) (before : List Column) (other : Result Header TableCause) → length before ≡ i → i ≤ 64 → (b ≡ true → 0 < length before) → AreNext i before size other

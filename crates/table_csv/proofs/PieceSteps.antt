@@ -10,7 +10,7 @@ use Rattle.rdf_values.specs.Answered.{Refuses}
 use Rattle.rdf_values.specs.{Header, MarkedTable, Memory, table_of, TableCause, Value}
 use Rattle.table_csv.specs.{csv_records, entries_of, is_quote, is_special, IsCut, IsHead, IsHeaded, IsPiece, MarkedPieces, marks_behind, Took}
 use Rattle.columns.specs.{table_joined}
-use Rattle.table_csv.specs.declared.marked.Marked.{Marked}
+use Rattle.table_csv.specs.declared.marked_pieces.Marked.{Marked}
 use Rattle.table_csv.specs.declared.refusal.TableRefusal.{TableRefusal}
 use Rattle.table_csv.proofs.CutLines.{csv_cut, no_quote}
 use Rattle.table_csv.proofs.ShiftedRows.{table_columns, table_join}

@@ -6,6 +6,7 @@ use Rattle.rdf_values.specs.{cells_from, ColType, Column, field_count, Header, h
 use Rattle.rdf_values.specs.TableText.{cell_of, mark_in}
 use Rattle.table_csv.specs.{entries_of, marked_joined, marks_behind}
 use Rattle.table_csv.proofs.CellSteps.{result_onto, result_onto-none}
+use Rattle.table_csv.proofs.TableSteps.{marks_append}
 
 -- where the one has a value, the other has the same
 abbrev Keeps : {A E : Type 0} → Result A E → Result A E → Type 0
@@ -106,19 +107,6 @@ rows_length [] e h rows q = let equal : [] ≡ rows = cc q in sym (ap length equ
 rows_length (x ∷ entries) e h rows q = cons_length (row_of e h x) (rows_from (e + 1) h entries) rows (length entries) q (λ zs. rows_length entries (e + 1) h zs)
 
 -- ---- marks one behind the other
-
-marks_append : (xs ys : List MarkedRow) (e : ℕ) → marks_from e (xs ++ ys) ≡ marks_from e xs ++ marks_from (e + length xs) ys
-marks_append [] ys e =
-    let none : e + 0 ≡ e = omega arith in
-    rw none refl
-marks_append (x ∷ xs) ys e =
-    let next : e + suc (length xs) ≡ e + 1 + length xs = omega arith in
-    rw next (go x.marked (marks_append xs ys (e + 1)))
-  where
-    go : (b : Bool) → marks_from (e + 1) (xs ++ ys) ≡ marks_from (e + 1) xs ++ marks_from (e + 1 + length xs) ys
-        → (if b then e ∷ marks_from (e + 1) (xs ++ ys) else marks_from (e + 1) (xs ++ ys)) ≡ (if b then e ∷ marks_from (e + 1) xs else marks_from (e + 1) xs) ++ marks_from (e + 1 + length xs) ys
-    go true h = ap (λ l. e ∷ l) h
-    go false h = h
 
 marks_shift : (rows : List MarkedRow) (n e : ℕ) → marks_from (n + e) rows ≡ marks_behind n (marks_from e rows)
 marks_shift [] n e = refl

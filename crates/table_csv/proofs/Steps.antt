@@ -1,7 +1,7 @@
 -- What a read of a record takes from the records that are left.
-use Rattle.std.proofs.Common.{◌≡◌, ◌≤◌, ◌<◌, ℕ, zero, suc, List, [], ◌∷◌, ◌++◌, length, Bool, true, false, None, Some, Option, arith, refl, ◌∙◌, inl, length-append, if◌then◌else◌, ◌==◌}
+use Rattle.std.proofs.Common.{◌≡◌, ◌≤◌, ◌<◌, ℕ, zero, suc, List, [], ◌∷◌, ◌++◌, length, Bool, true, false, None, Some, Option, arith, refl, ◌∙◌, inl, length-append, if◌then◌else◌}
 use Rattle.std.specs.Borrow.{Bor}
-use Rattle.csv.specs.Machine.{Read, ends_at_end, is_end, step, next_record, fields_after, field_after, after_end, ends_with}
+use Rattle.csv.specs.Machine.{Read, ends_at_end, is_end, step, next_record, fields_after, field_after}
 use Rattle.csv.specs.Reading.{NextIs, ReadsNext, ReadRecord, default_config, is_flexible, pending_of, records_from, reader_config, reader_state, reader_trim, records_next, Ready, source_of, took_first}
 use Rattle.csv.specs.declared.parser.State.{State}
 use Rattle.csv.specs.declared.parser.State.TheVariants as st
@@ -15,32 +15,8 @@ use Rattle.table_csv.specs.{Leaves, Took}
 abbrev Closes : State × Action → Type 0
 Closes q = is_end q.1 ≡ true → ends_at_end q.0 ≡ false
 
-closes_if : (b : Bool) (x y : State × Action) → Closes x → Closes y → Closes (if b then x else y)
-closes_if true x y h k = h
-closes_if false x y h k = k
-
-after : (b : Bool) → ends_at_end (if b then st.AfterCr else st.StartRecord) ≡ false
-after true = refl
-after false = refl
-
-in_field_closes : (c : ℕ) → Closes (if c == 44 then (st.StartField, act.EndField) else if ends_with default_config.terminator c then (after_end default_config.terminator c, act.EndRecord) else (st.InField, act.Copy))
-in_field_closes c = closes_if (c == 44) _ _ (λ e. cc e) (closes_if (ends_with default_config.terminator c) _ _ (λ e. after (c == 13)) (λ e. cc e))
-
-start_field_closes : (c : ℕ) → Closes (step default_config st.StartField c)
-start_field_closes c = closes_if (c == 34) _ _ (λ e. cc e) (in_field_closes c)
-
-start_record_closes : (c : ℕ) → Closes (step default_config st.StartRecord c)
-start_record_closes c = closes_if (ends_with default_config.terminator c) _ _ (λ e. cc e) (start_field_closes c)
-
 step_closes : (s : State) (c : ℕ) → Closes (step default_config s c)
-step_closes st.StartRecord c = start_record_closes c
-step_closes st.StartField c = start_field_closes c
-step_closes st.InField c = in_field_closes c
-step_closes st.InQuoted c = closes_if (c == 34) _ _ (λ e. cc e) (λ e. cc e)
-step_closes st.InEscape c = λ e. cc e
-step_closes st.AfterQuote c = closes_if (c == 34) _ _ (λ e. cc e) (in_field_closes c)
-step_closes st.InComment c = closes_if (c == 10) _ _ (λ e. cc e) (λ e. cc e)
-step_closes st.AfterCr c = closes_if (c == 10) _ _ (λ e. cc e) (start_record_closes c)
+step_closes s c e = grind arith
 
 -- a record has a field
 ended : (a : Action) (fields : List (List ℕ)) (field : List ℕ) → is_end a ≡ true → 0 < length (fields_after a fields field)

@@ -1,5 +1,5 @@
 -- One more entry of a table.
-use Rattle.std.proofs.Common.{if◌then◌else◌, ◌≡◌, ◌≤◌, ◌<◌, ◌+◌, ℕ, Bool, true, false, List, [], ◌∷◌, ◌++◌, length, map, All, Result, Ok, Err, arith, refl, ap, ap₂, sym, subst, ◌∙◌, length-append}
+use Rattle.std.proofs.Common.{if◌then◌else◌, ◌≡◌, ◌≤◌, ◌<◌, ◌+◌, ℕ, suc, Bool, true, false, List, [], ◌∷◌, ◌++◌, length, map, All, Result, Ok, Err, arith, refl, ap, ap₂, sym, subst, ◌∙◌, length-append}
 use Rattle.std.proofs.lemmas.List.{append-nil, map-append}
 use Rattle.std.proofs.lemmas.List.Elements.{All-cons}
 use Rattle.rdf_values.specs.{Cells, Column, Header, header_from, MarkedRow, MarkedTable, marks_from, on_ok, row_of, rows_from, rows_kept, table_of, table_with, TableCause, TableView, Value}
@@ -51,14 +51,21 @@ more answer h rows left fields rest n row a l e b =
 abbrev pub mark_if : Bool → ℕ → List ℕ
 mark_if b e = if b then e ∷ [] else []
 
-marks_more : (rows : List MarkedRow) (e n : ℕ) (row : MarkedRow) → length rows + e ≡ n → marks_from e (rows ++ row ∷ []) ≡ marks_from e rows ++ mark_if row.marked n
-marks_more [] e n row l = let same : e ≡ n = omega (arith, l) in ap (mark_if row.marked) same
-marks_more (r ∷ rs) e n row l = go r.marked (marks_more rs (e + 1) n row (omega (arith, l)))
+pub marks_append : (xs ys : List MarkedRow) (e : ℕ) → marks_from e (xs ++ ys) ≡ marks_from e xs ++ marks_from (e + length xs) ys
+marks_append [] ys e =
+    let none : e + 0 ≡ e = omega arith in
+    rw none refl
+marks_append (x ∷ xs) ys e =
+    let next : e + suc (length xs) ≡ e + 1 + length xs = omega arith in
+    rw next (go x.marked (marks_append xs ys (e + 1)))
   where
-    go : (b : Bool) → marks_from (e + 1) (rs ++ row ∷ []) ≡ marks_from (e + 1) rs ++ mark_if row.marked n
-        → (if b then e ∷ marks_from (e + 1) (rs ++ row ∷ []) else marks_from (e + 1) (rs ++ row ∷ [])) ≡ (if b then e ∷ marks_from (e + 1) rs else marks_from (e + 1) rs) ++ mark_if row.marked n
+    go : (b : Bool) → marks_from (e + 1) (xs ++ ys) ≡ marks_from (e + 1) xs ++ marks_from (e + 1 + length xs) ys
+        → (if b then e ∷ marks_from (e + 1) (xs ++ ys) else marks_from (e + 1) (xs ++ ys)) ≡ (if b then e ∷ marks_from (e + 1) xs else marks_from (e + 1) xs) ++ marks_from (e + 1 + length xs) ys
     go true h = ap (λ l. e ∷ l) h
     go false h = h
+
+marks_more : (rows : List MarkedRow) (e n : ℕ) (row : MarkedRow) → length rows + e ≡ n → marks_from e (rows ++ row ∷ []) ≡ marks_from e rows ++ mark_if row.marked n
+marks_more rows e n row l = let there : e + length rows ≡ n = omega (arith, l) in marks_append rows (row ∷ []) e ∙ ap (λ k. marks_from e rows ++ mark_if row.marked k) there
 
 marks_below : (rows : List MarkedRow) (e n : ℕ) → length rows + e ≤ n → All (λ m. m < n) (marks_from e rows)
 marks_below [] e n l = λ k d h. absurd (omega (arith, h))

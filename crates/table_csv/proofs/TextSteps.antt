@@ -3,7 +3,7 @@ use Rattle.std.proofs.Common.{◌≡◌, ◌<◌, ◌+◌, ◌-◌, ◌∙◌, �
 use Rattle.std.proofs.Math.Seq.{drop-append_seam}
 use Rattle.std.proofs.lemmas.Grind.{flat_map-append}
 use Rattle.std.proofs.lemmas.List.{take_all}
-use Rattle.std.proofs.lemmas.List.Elements.{All-append, All-drop, All-take}
+use Rattle.std.proofs.lemmas.List.Elements.{All-append, All-cons, All-drop, All-take}
 use Rattle.columns.specs.{joined}
 use Rattle.table_csv.specs.{EndsLine, IsCut}
 
@@ -12,15 +12,11 @@ use Rattle.table_csv.specs.{EndsLine, IsCut}
 pub ends_behind : (front lines : List ℕ) → EndsLine lines → EndsLine (front ++ lines)
 ends_behind front lines l = (front ++ l.0, rw l.1 (sym (append_assoc front l.0 (10 ∷ []))))
 
-one_more : (P : List ℕ → Type 0) (x : List ℕ) → P x → (i : ℕ) (d : List ℕ) → i < 1 → P (get_or (x ∷ []) i d)
-one_more P x p zero d h = p
-one_more P x p (suc i) d h = absurd (omega arith)
-
 joined_more : (lines : List (List ℕ)) (line : List ℕ) → joined (lines ++ line ∷ []) ≡ joined lines ++ line
 joined_more lines line = flat_map-append (λ l. l) lines (line ∷ []) ∙ ap (λ l. joined lines ++ l) (append-nil line)
 
 pub lines_more : (lines all : List (List ℕ)) (last beginning rest line : List ℕ) → All EndsLine lines → IsCut beginning rest → 0 < length rest → line ≡ last ++ beginning → all ≡ lines ++ line ∷ [] → All EndsLine all
-lines_more lines all last beginning rest line h (inl l) some e a = rw a (All-append EndsLine lines (line ∷ []) h (one_more EndsLine line (rw e (ends_behind last beginning l))))
+lines_more lines all last beginning rest line h (inl l) some e a = rw a (All-append EndsLine lines (line ∷ []) h (All-cons EndsLine line [] (rw e (ends_behind last beginning l)) (λ k d l. absurd (omega (arith, l)))))
 lines_more lines all last beginning rest line h (inr none) some e a = absurd (omega (arith, ap length none))
 
 pub part_cut : (parts lines all more : List (List ℕ)) (last part beginning rest line left : List ℕ) → joined parts ≡ (joined lines ++ last) ++ (part ++ joined more) → beginning ++ rest ≡ part → line ≡ last ++ beginning

@@ -1,13 +1,13 @@
-// Tables from records, one after another.
+// The reading of a whole table, from one record after another.
 ghost use Rattle.std.specs.Prelude.{◌≡◌, ◌<◌, All, IfOk, List, ℕ, MatchResult, Ok, length};
 ghost use Rattle.rdf_values.specs.Answered.{Refuses};
 ghost use Rattle.rdf_values.specs.{IsHeader, table_of};
-ghost use Rattle.table_csv.specs.{entries_of, IsHeaded, Leaves};
+ghost use Rattle.table_csv.specs.{csv_records, entries_of, IsHeaded, Leaves};
 
 use crate::cells::push_row;
 use crate::header::{Heading, read_header};
-use crate::marked::Marked;
-use crate::records::next;
+use crate::marked_pieces::Marked;
+use crate::records::{next, open};
 use crate::refusal::TableRefusal;
 use csv::{ByteRecord, Reader};
 use rdf_values::{Marks, Table, TableCause, TableParts};
@@ -62,4 +62,15 @@ pub(crate) fn read_entries(
         entries: entry,
     });
     Ok(Marked { table, marks })
+}
+
+/// The table that CSV bytes spell, with its marks. The first record is the header, each other record an entry.
+pub fn read_table(alloc: Global, bytes: &[u8]) -> Result<Marked, TableRefusal>
+    ensures value { MatchResult result (λ m. table_of (csv_records bytes.now) ≡ Ok (record { table = m.table; marks = m.marks }))
+        (Refuses TableRefusal.At TableRefusal.Memory (table_of (csv_records bytes.now))) }
+    ensures within { IfOk result (λ m. All (λ e. e < length m.table.rows) m.marks) }
+{
+    let mut reader = open(alloc, bytes);
+    let heading = read_heading(alloc, &mut reader)?;
+    read_entries(alloc, heading, &mut reader)
 }

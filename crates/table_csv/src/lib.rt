@@ -1,26 +1,22 @@
 //! Reads a table from CSV bytes. The records are those of the crate `csv`; what they mean as a table is `table_of` of `rdf_values`.
 #![tactic(auto)]
 
-mod appending;
 mod cells;
 mod entries;
 mod header;
 mod lines;
-mod marked;
 mod marked_pieces;
 mod packed;
 mod parts;
 mod pieces;
-mod reading;
 mod records;
 mod refusal;
 mod slots;
 mod texts;
 
-pub use crate::marked::Marked;
-pub use crate::marked_pieces::MarkedPieces;
+pub use crate::entries::read_table;
+pub use crate::marked_pieces::{Marked, MarkedPieces};
 pub use crate::packed::read_columns;
-pub use crate::reading::read_table;
 pub use crate::refusal::TableRefusal;
 pub use crate::slots::read_table_in_slots;
 

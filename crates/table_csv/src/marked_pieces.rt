@@ -1,11 +1,18 @@
-// Tables in pieces that mark their clusters.
+// Tables that mark their clusters.
 ghost use Rattle.std.specs.Prelude.{◌≡◌, ◌≤◌, ◌<◌, All, IfOk, length};
 ghost use Rattle.table_csv.specs.{columns_over};
 
 use columns::{Columns, TablePieces, cut};
-use rdf_values::{Marks, Memory};
+use rdf_values::{Marks, Memory, Table};
 use std::alloc::Global;
 use std::thread::Threads;
+
+/// A table, and the entries at which its column of marks says that a cluster begins.
+#[derive(Drop)]
+pub struct Marked {
+    pub table: Table,
+    pub marks: Marks,
+}
 
 /// A table in pieces, and the entries at which its column of marks says that a cluster begins.
 #[derive(Drop)]

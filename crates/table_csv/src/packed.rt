@@ -16,20 +16,6 @@ use rdf_values::{Bytes, Memory};
 use std::alloc::Global;
 use std::thread::{Threads, join};
 
-// The table that CSV bytes spell. The bytes go once they are read.
-fn read_owned<R: Threads + Sync>(
-    rt: &R,
-    alloc: Global,
-    bytes: Bytes,
-    slots: u32,
-) -> Result<MarkedPieces, TableRefusal>
-    ensures value { MatchResult result (λ m. table_of (csv_records bytes) ≡ Ok (record { table = m.table; marks = m.marks }))
-        (Refuses TableRefusal.At TableRefusal.Memory (table_of (csv_records bytes))) }
-    ensures within { IfOk result (λ m. All (λ e. e < length m.table.rows) m.marks) }
-{
-    read_table_in_slots(rt, alloc, bytes.as_slice(), slots)
-}
-
 // Gives texts' bytes back, by at most so many threads.
 fn give_back<R: Threads + Sync>(rt: &R, mut texts: Vec<Text>, slots: u32) {
     if slots < 2 {
@@ -91,6 +77,7 @@ pub fn read_columns<R: Threads + Sync>(
         Some(bytes) => bytes,
         None => Bytes::new(alloc),
     };
-    let marked = read_owned(rt, alloc, bytes, slots)?;
+    let marked = read_table_in_slots(rt, alloc, bytes.as_slice(), slots)?;
+    drop(bytes);
     Ok(marked.into_columns(rt, alloc, size, slots)?)
 }

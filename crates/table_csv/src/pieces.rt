@@ -1,17 +1,15 @@
 // Pieces of a table: a header line, and some of the lines behind it.
-ghost use Rattle.std.specs.Prelude.{◌≡◌, ◌≤◌, ◌+◌, ◌<◌, ◌++◌, true, All, IfOk, IfSome, length};
+ghost use Rattle.std.specs.Prelude.{◌≡◌, ◌≤◌, ◌+◌, ◌<◌, ◌++◌, true, All, IfOk, IfSome, OnOk, length};
 ghost use Rattle.table_csv.specs.{IsHead, IsPiece, marks_behind};
 ghost use Rattle.columns.specs.{table_joined};
 
-use crate::appending::append_marks;
 use crate::entries::{read_entries, read_heading};
 use crate::lines::has_special;
-use crate::marked::Marked;
-use crate::marked_pieces::MarkedPieces;
+use crate::marked_pieces::{Marked, MarkedPieces};
 use crate::records::{next, open};
 use columns::TablePieces;
 use csv::ByteRecord;
-use rdf_values::Memory;
+use rdf_values::{Marks, Memory};
 use std::alloc::Global;
 
 const MAX_ENTRIES: u32 = 1_000_000;
@@ -50,6 +48,18 @@ pub(crate) fn read_piece(alloc: Global, head: &[u8], lines: &[u8]) -> Option<Mar
     let heading = read_heading(alloc, &mut open(alloc, head)).ok()?;
     let marked = read_entries(alloc, heading, &mut open(alloc, lines)).ok()?;
     in_one_piece(alloc, marked).ok()
+}
+
+// Puts the marks of entries behind those of so many entries before them.
+fn append_marks(marks: &mut Marks, entries: u32, more: &Marks) -> Result<(), Memory>
+    requires before { All (λ m. m < entries) marks.old }
+    requires few { All (λ m. entries + m < 1000000) more.now }
+    ensures { OnOk result (marks.new ≡ marks.old ++ marks_behind entries more.now) }
+{
+    for i in 0..more.len() {
+        marks.push(entries + more.at(i))?;
+    }
+    Ok(())
 }
 
 /// Puts the entries of a piece behind those of the piece before it, where a table holds so many.

@@ -6,11 +6,11 @@ ghost use Rattle.rdf_values.specs.{table_of};
 ghost use Rattle.columns.specs.{joined};
 ghost use Rattle.table_csv.specs.{csv_records, EndsLine, IsCut, IsHead, IsPiece};
 
+use crate::entries::read_table;
 use crate::lines::{cut_lines, has_quote};
 use crate::marked_pieces::MarkedPieces;
 use crate::parts::Parts;
 use crate::pieces::{append_pieces, in_one_piece, is_head, read_piece};
-use crate::reading::read_table;
 use crate::refusal::TableRefusal;
 use crate::texts::{Text, Texts, halved, together};
 use columns::halves;

@@ -49,18 +49,19 @@ fn cuts_at_each_byte(rt: HostRuntime) -> Result<(), Fail> {
     let lines = "1\r\n22\n\n\r\n-333\r\n4\n";
     for pad in 0..12 {
         for slots in 2..5 {
-            let text = padded(alloc, pad, lines, 0)?;
-            let marked = read_side_by_side(&rt, alloc, text.as_bytes(), slots).expect(&rt, "plain");
-            assert!(rt;
-                holds(marked, pad, [1, 22, -333, 4].as_slice(), 0),
-                "{pad} before, {slots} slots"
-            );
-            let text = padded(alloc, 0, lines, pad)?;
-            let marked = read_side_by_side(&rt, alloc, text.as_bytes(), slots).expect(&rt, "plain");
-            assert!(rt;
-                holds(marked, 0, [1, 22, -333, 4].as_slice(), pad),
-                "{pad} behind, {slots} slots"
-            );
+            for (before, behind) in [(pad, 0), (0, pad)] {
+                let text = padded(alloc, before, lines, behind)?;
+                let marked = read_side_by_side(&rt, alloc, text.as_bytes(), slots);
+                assert!(rt;
+                    holds(
+                        marked.expect(&rt, "plain"),
+                        before,
+                        [1, 22, -333, 4].as_slice(),
+                        behind
+                    ),
+                    "{before} before, {behind} behind, {slots} slots"
+                );
+            }
         }
     }
     Ok(())
@@ -90,17 +91,16 @@ fn leaves_other_bytes_to_one_reader(rt: HostRuntime) -> Result<(), Fail> {
 #[test]
 fn reads_a_table_in_slots(rt: HostRuntime) -> Result<(), Fail> {
     let alloc = rt.alloc();
-    let text = padded(alloc, 40_000, "1\n", 30_000)?;
-    for slots in 0..6 {
-        let marked = read_table_in_slots(&rt, alloc, text.as_bytes(), slots)?;
-        assert!(rt;
-            holds(marked, 40_000, [1].as_slice(), 30_000),
-            "{slots} slots"
-        );
+    for line in ["1\n", "\"1\"\n"] {
+        let text = padded(alloc, 40_000, line, 30_000)?;
+        for slots in 0..6 {
+            let marked = read_table_in_slots(&rt, alloc, text.as_bytes(), slots)?;
+            assert!(rt;
+                holds(marked, 40_000, [1].as_slice(), 30_000),
+                "{line:?}, {slots} slots"
+            );
+        }
     }
-    let quoted = padded(alloc, 40_000, "\"1\"\n", 30_000)?;
-    let marked = read_table_in_slots(&rt, alloc, quoted.as_bytes(), 4)?;
-    assert!(rt; holds(marked, 40_000, [1].as_slice(), 30_000));
     Ok(())
 }
 

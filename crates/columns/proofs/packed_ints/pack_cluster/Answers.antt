@@ -1,7 +1,4 @@
 use Rattle.std.proofs.Common.{◌≡◌, ◌++◌, length, refl, rules}
-use Rattle.std.specs.Int.RustNames.{FitsSigned}
-use mir.Syntax.{w64}
-use Rattle.std.proofs.Math.Facts.{to_z-of_z}
 use Rattle.columns.specs.{packed_of}
 use Rattle.columns.proofs.BlockSteps.{block_made}
 use Rattle.columns.proofs.Unpacking.{packing_width}
@@ -12,7 +9,6 @@ push_packed-requires-clause-width c = rw c.of-packing.ensures (packing_width c.a
 
 pub returns-clause-block : goal.returns-clause-block
 returns-clause-block c =
-    let least : FitsSigned w64 c.of-packing.result.least = search rules in
     let size : c.len.result ≡ length c.args.bytes.items = search rules in
     let made : c.in_ok-bytes.bytes.items ≡ c.args.bytes.items ++ packed_of c.args.values.now = rw c.of-packing.ensures at c.in_ok-bytes.ensures.grown in
-    block_made c.args.bytes.items c.in_ok-bytes.bytes.items _ c.args.values.now made size refl (rw (to_z-of_z least) c.of-packing.ensures) c.in_ok-bytes.ensures.words
+    block_made c.args.bytes.items c.in_ok-bytes.bytes.items _ c.args.values.now made size refl c.of-packing.ensures c.in_ok-bytes.ensures.words

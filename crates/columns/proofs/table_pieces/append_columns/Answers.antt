@@ -14,4 +14,4 @@ returns c =
     let inv = c.loop-col.invariant in
     let size : c.loop-col.col-iterator.iter.rest.len ≡ length c.loop-col.col-iterator.iter.rest.items = search rules in
     let none : length c.loop-col.col-iterator.iter.rest.items ≡ 0 = sym size ∙ c.in-None.ensures.steps.0.0 in
-    inv.0 ∙ pieces_all c.args.columns.items c.args.more.items c.loop-col.col-iterator.iter.rest.items c.loop-col.col-iterator.count inv.1 none c.requires
+    inv.0 ∙ pieces_all c.args.columns.items c.args.more.items c.loop-col.col-iterator.iter.rest.items c.loop-col.col-iterator.count inv.1 none

@@ -1,37 +1,15 @@
 use Rattle.rdf_values.specs.Statements as st
-use Rattle.script_read.proofs.FirstBads.{handed_on, refused_here, refused_later, good_name, good_expression}
+use Rattle.script_read.proofs.FirstBads.{handed_on, refused_later, good_expression}
 use Rattle.script_read.proofs.statement.booking.Goals as goal
-
-pub returns-in_err-column-in-Define-clause-err : goal.returns-in_err-column-in-Define-clause-err
-returns-in_err-column-in-Define-clause-err c = rw c.in-Define.is (handed_on _ _ _ c.from_residual.ensures.1 c.in_err-column-in-Define.ensures.err)
 
 pub returns-in_ok-column-in-Define-clause-ok : goal.returns-in_ok-column-in-Define-clause-ok
 returns-in_ok-column-in-Define-clause-ok c = rw c.in-Define.is (st.define c.in_ok-column-in-Define.ensures.ok.0 c.in_ok-column-in-Define.ensures.ok.1)
 
-pub returns-in_err-column-in-Redefine-clause-err : goal.returns-in_err-column-in-Redefine-clause-err
-returns-in_err-column-in-Redefine-clause-err c = rw c.in-Redefine.is (handed_on _ _ _ c.from_residual-in_err-column-in-Redefine.ensures.1 c.in_err-column-in-Redefine.ensures.err)
-
 pub returns-in_ok-column-in-Redefine-clause-ok : goal.returns-in_ok-column-in-Redefine-clause-ok
 returns-in_ok-column-in-Redefine-clause-ok c = rw c.in-Redefine.is (st.redefine c.in_ok-column-in-Redefine.ensures.ok.0 c.in_ok-column-in-Redefine.ensures.ok.1)
 
-pub returns-in_err-column-in-Alias-clause-err : goal.returns-in_err-column-in-Alias-clause-err
-returns-in_err-column-in-Alias-clause-err c = rw c.in-Alias.is (handed_on _ _ _ c.from_residual-in_err-column-in-Alias.ensures.1 (refused_here _ _ _ c.in_err-column-in-Alias.ensures.err))
-
-pub returns-in_err-target-in-Alias-clause-err : goal.returns-in_err-target-in-Alias-clause-err
-returns-in_err-target-in-Alias-clause-err c =
-    rw c.in-Alias.is (handed_on _ _ _ c.from_residual-in_err-target-in-Alias.ensures.1
-    (refused_later _ _ _ (good_name _ _ c.in_ok-column-in-Alias.ensures.ok) (refused_here _ _ _ c.in_err-target-in-Alias.ensures.err)))
-
 pub returns-in_ok-target-in-Alias-clause-ok : goal.returns-in_ok-target-in-Alias-clause-ok
 returns-in_ok-target-in-Alias-clause-ok c = rw c.in-Alias.is (st.alias c.in_ok-column-in-Alias.ensures.ok c.in_ok-target-in-Alias.ensures.ok)
-
-pub returns-in_err-expr-in-Filter-clause-err : goal.returns-in_err-expr-in-Filter-clause-err
-returns-in_err-expr-in-Filter-clause-err c = rw c.in-Filter.is (handed_on _ _ _ c.from_residual-in_err-expr-in-Filter.ensures.1 (refused_here _ _ _ c.in_err-expr-in-Filter.ensures.err))
-
-pub returns-in_err-label-in-Filter-clause-err : goal.returns-in_err-label-in-Filter-clause-err
-returns-in_err-label-in-Filter-clause-err c =
-    rw c.in-Filter.is (handed_on _ _ _ c.from_residual-in_err-label-in-Filter.ensures.1
-    (refused_later _ _ _ (good_expression _ _ c.in_ok-expr-in-Filter.ensures.ok) c.in_err-label-in-Filter.ensures.err))
 
 pub returns-in_ok-label-in-Filter-clause-ok : goal.returns-in_ok-label-in-Filter-clause-ok
 returns-in_ok-label-in-Filter-clause-ok c = rw c.in-Filter.is (st.filter c.in_ok-expr-in-Filter.ensures.ok c.in_ok-label-in-Filter.ensures.ok)
@@ -39,8 +17,10 @@ returns-in_ok-label-in-Filter-clause-ok c = rw c.in-Filter.is (st.filter c.in_ok
 pub returns-in-Report-clause-ok : goal.returns-in-Report-clause-ok
 returns-in-Report-clause-ok c = rw c.in-Report.is st.report
 
-pub returns-in_err-kind-in-Action-clause-err : goal.returns-in_err-kind-in-Action-clause-err
-returns-in_err-kind-in-Action-clause-err c = rw c.in-Action.is (handed_on _ _ _ c.from_residual-in_err-kind-in-Action.ensures.1 c.in_err-kind-in-Action.ensures.err)
-
 pub returns-in_ok-kind-in-Action-clause-ok : goal.returns-in_ok-kind-in-Action-clause-ok
 returns-in_ok-kind-in-Action-clause-ok c = rw c.in-Action.is (st.action c.in_ok-kind-in-Action.ensures.ok)
+
+pub returns-in_err-label-in-Filter-clause-err : goal.returns-in_err-label-in-Filter-clause-err
+returns-in_err-label-in-Filter-clause-err c =
+    rw c.in-Filter.is (handed_on _ _ _ c.from_residual-in_err-label-in-Filter.ensures.1
+    (refused_later _ _ _ (good_expression _ _ c.in_ok-expr-in-Filter.ensures.ok) c.in_err-label-in-Filter.ensures.err))

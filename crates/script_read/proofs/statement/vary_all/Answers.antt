@@ -2,13 +2,8 @@ use Rattle.rdf_values.specs.Statements as st
 use Rattle.script_read.proofs.FirstBads.{handed_on, refused_here, refused_later, refused_before, refused_after, good_values, good_names}
 use Rattle.script_read.proofs.statement.vary_all.Goals as goal
 
-pub returns-in_err-columns-clause-err : goal.returns-in_err-columns-clause-err
-returns-in_err-columns-clause-err c = handed_on _ _ _ c.from_residual.ensures.1 (refused_before _ _ _ c.in_err-columns.ensures.err)
-
-pub returns-in_err-values-clause-err : goal.returns-in_err-values-clause-err
-returns-in_err-values-clause-err c =
-    handed_on _ _ _ c.from_residual-in_err-values.ensures.1
-    (refused_after _ _ _ (good_names _ _ c.in_ok-columns.ensures.ok) (refused_here _ _ _ c.in_err-values.ensures.err))
+pub returns-clause-ok : goal.returns-clause-ok
+returns-clause-ok c = st.vary_all c.in_ok-columns.ensures.ok c.in_ok-values.ensures.ok c.in_ok-tags.ensures.ok c.in_ok-name.ensures.ok
 
 pub returns-in_err-tags-clause-err : goal.returns-in_err-tags-clause-err
 returns-in_err-tags-clause-err c =
@@ -24,6 +19,3 @@ returns-in_err-name-clause-err c =
     (refused_later _ _ _ (good_values _ _ c.in_ok-values.ensures.ok)
     (refused_after _ _ _ (good_names _ _ c.in_ok-tags.ensures.ok)
     (refused_here _ _ _ c.in_err-name.ensures.err))))
-
-pub returns-clause-ok : goal.returns-clause-ok
-returns-clause-ok c = st.vary_all c.in_ok-columns.ensures.ok c.in_ok-values.ensures.ok c.in_ok-tags.ensures.ok c.in_ok-name.ensures.ok

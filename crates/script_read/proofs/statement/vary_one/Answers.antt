@@ -1,14 +1,10 @@
-use Rattle.script_read.proofs.FirstBads.{handed_on, refused_here, refused_later, refused_before, refused_after, good_name, good_values, good_names}
+use Rattle.script_read.proofs.FirstBads.{handed_on, refused_later, refused_before, refused_after, good_name, good_values, good_names}
 use Rattle.script_read.proofs.Said.{says_vary}
 use Rattle.script_read.proofs.statement.vary_one.Goals as goal
 
-pub returns-in_err-column-clause-err : goal.returns-in_err-column-clause-err
-returns-in_err-column-clause-err c = handed_on _ _ _ c.from_residual.ensures.1 (refused_here _ _ _ c.in_err-column.ensures.err)
-
-pub returns-in_err-values-clause-err : goal.returns-in_err-values-clause-err
-returns-in_err-values-clause-err c =
-    handed_on _ _ _ c.from_residual-in_err-values.ensures.1
-    (refused_later _ _ _ (good_name _ _ c.in_ok-column.ensures.ok) (refused_here _ _ _ c.in_err-values.ensures.err))
+pub returns-clause-ok : goal.returns-clause-ok
+returns-clause-ok c =
+    rw c.in_ok-columns.ensures.ok (says_vary _ _ _ _ _ _ _ _ _ _ c.in_ok-column.ensures.ok c.in_ok-values.ensures.ok c.in_ok-tags.ensures.ok c.in_ok-name.ensures.ok)
 
 pub returns-in_err-tags-clause-err : goal.returns-in_err-tags-clause-err
 returns-in_err-tags-clause-err c =
@@ -23,7 +19,3 @@ returns-in_err-name-clause-err c =
     (refused_later _ _ _ (good_name _ _ c.in_ok-column.ensures.ok)
     (refused_later _ _ _ (good_values _ _ c.in_ok-values.ensures.ok)
     (refused_after _ _ _ (good_names _ _ c.in_ok-tags.ensures.ok) c.in_err-name.ensures.err)))
-
-pub returns-clause-ok : goal.returns-clause-ok
-returns-clause-ok c =
-    rw c.in_ok-columns.ensures.ok (says_vary _ _ _ _ _ _ _ _ _ _ c.in_ok-column.ensures.ok c.in_ok-values.ensures.ok c.in_ok-tags.ensures.ok c.in_ok-name.ensures.ok)

@@ -2,12 +2,9 @@ use Rattle.std.proofs.Common.{◌∙◌, ap, sym, true, false, arith}
 use Rattle.std.proofs.lemmas.Grind.{common_steps}
 use Rattle.std.proofs.lemmas.Result.{IfOk-weaker}
 use Rattle.script_read.specs.{ALine, form_of, token_of}
-use Rattle.script_read.proofs.Walked.{stuck_empty, stuck_token, no_word}
+use Rattle.script_read.proofs.Walked.{stuck_token, no_word}
 use Rattle.script_read.proofs.Joined.{line_wanted, took_line, took_asking}
 use Rattle.script_read.proofs.walk.Walk.line.Goals as goal
-
-pub returns-in_err-first-clause-stuck : goal.returns-in_err-first-clause-stuck
-returns-in_err-first-clause-stuck c _ = stuck_empty ALine _ c.in_err-first.ensures.ends
 
 pub returns-in_default-clause-stuck : goal.returns-in_default-clause-stuck
 returns-in_default-clause-stuck c _ = stuck_token ALine _ c.in_ok-first.ensures.sees (no_word _ c.in_default.not-Word).2

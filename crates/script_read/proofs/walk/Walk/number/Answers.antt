@@ -3,11 +3,8 @@ use Rattle.std.proofs.lemmas.Grind.{common_steps}
 use Rattle.std.proofs.lemmas.Int.{to_z-of_z}
 use Rattle.rdf_values.specs.LineTokens.{Number}
 use Rattle.script_read.specs.{ANumber, token_of}
-use Rattle.script_read.proofs.Walked.{took_seen, no_number, stuck_empty, stuck_token}
+use Rattle.script_read.proofs.Walked.{took_seen, no_number, stuck_token}
 use Rattle.script_read.proofs.walk.Walk.number.Goals as goal
-
-pub returns-in_err-n-clause-stuck : goal.returns-in_err-n-clause-stuck
-returns-in_err-n-clause-stuck c _ = stuck_empty ANumber _ c.in_err-n.ensures.ends
 
 pub returns-in-Number-clause-took : goal.returns-in-Number-clause-took
 returns-in-Number-clause-took c =

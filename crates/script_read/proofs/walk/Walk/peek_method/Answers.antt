@@ -1,11 +1,8 @@
 use Rattle.std.proofs.Common.{ap}
 use Rattle.script_read.specs.{AMethod, token_of}
-use Rattle.script_read.proofs.Walked.{no_word, stuck_empty, stuck_token}
+use Rattle.script_read.proofs.Walked.{no_word, stuck_token}
 use Rattle.script_read.proofs.Named.{no_method_named, method_seen}
 use Rattle.script_read.proofs.walk.Walk.peek_method.Goals as goal
-
-pub returns-in_err-word-clause-stuck : goal.returns-in_err-word-clause-stuck
-returns-in_err-word-clause-stuck c _ = stuck_empty AMethod _ c.in_err-word.ensures.ends
 
 pub returns-in_default-clause-stuck : goal.returns-in_default-clause-stuck
 returns-in_default-clause-stuck c _ = stuck_token AMethod _ c.in_ok-word.ensures.sees (no_word _ c.in_default.not-Word).1

@@ -1,10 +1,7 @@
 use Rattle.std.proofs.Common.{ap, refl}
 use Rattle.script_read.specs.{AString, token_of}
-use Rattle.script_read.proofs.Walked.{took_seen, no_string, stuck_empty, stuck_token}
+use Rattle.script_read.proofs.Walked.{took_seen, no_string, stuck_token}
 use Rattle.script_read.proofs.walk.Walk.string.Goals as goal
-
-pub returns-in_err-text-clause-stuck : goal.returns-in_err-text-clause-stuck
-returns-in_err-text-clause-stuck c _ = stuck_empty AString _ c.in_err-text.ensures.ends
 
 pub returns-in-Quoted-clause-took : goal.returns-in-Quoted-clause-took
 returns-in-Quoted-clause-took c = took_seen AString (ap token_of c.in-Quoted.is) c.in_ok-text.ensures.sees c.advance.ensures refl

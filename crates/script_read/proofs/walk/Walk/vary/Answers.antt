@@ -2,12 +2,9 @@ use Rattle.std.proofs.Common.{◌∷◌, ◌++◌, [], ◌∙◌, ap, refl, arit
 use Rattle.std.proofs.lemmas.Grind.{common_steps}
 use Rattle.script_read.specs.{AMark, MaybeString, one_string_wants, quoted_of, strings_of, token_of, variation_wants, VaryArguments}
 use Rattle.script_read.specs.declared.token.Mark.{Mark}
-use Rattle.script_read.proofs.Walked.{stuck_empty, columns_wanted}
+use Rattle.script_read.proofs.Walked.{columns_wanted}
 use Rattle.script_read.proofs.Joined.{walk_seen, took_vary_one, took_vary_all}
 use Rattle.script_read.proofs.walk.Walk.vary.Goals as goal
-
-pub returns-in_err-column-clause-stuck : goal.returns-in_err-column-clause-stuck
-returns-in_err-column-clause-stuck c _ = stuck_empty VaryArguments _ c.in_err-column.ensures.ends
 
 pub returns-in_err-values-in-Quoted-clause-stuck : goal.returns-in_err-values-in-Quoted-clause-stuck
 returns-in_err-values-in-Quoted-clause-stuck c h k =

@@ -1,6 +1,6 @@
 use Rattle.std.proofs.Common.{◌≡◌, ◌+◌, ◌*◌, ◌∙◌, arith, min, refl}
 use Rattle.columns.proofs.Clusters.{length-even, even_at, starts_below}
-use Rattle.columns.proofs.places.even_range.Goals as goal
+use Rattle.columns.proofs.cuts.even_range.Goals as goal
 
 pub overflow_mul-lo : goal.overflow_mul-lo
 overflow_mul-lo c =

@@ -1,6 +1,6 @@
 use Rattle.columns.proofs.Ends.{first_range, next_range}
-use Rattle.columns.proofs.places.range_at.Goals as goal
-use Rattle.columns.proofs.places.range_at.Goals.{then-place-eq0, else-place-eq0}
+use Rattle.columns.proofs.cuts.range_at.Goals as goal
+use Rattle.columns.proofs.cuts.range_at.Goals.{then-place-eq0, else-place-eq0}
 
 pub returns : goal.returns
 returns c =

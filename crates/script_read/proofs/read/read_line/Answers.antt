@@ -1,7 +1,7 @@
 use Rattle.rdf_values.specs.{at_string, FirstBad, form_strings, RefusesLine}
 use Rattle.script_read.specs.{form_of}
 use Rattle.script_read.proofs.FirstBads.{handed_on, refused_as}
-use Rattle.script_read.proofs.line.read_line.Goals as goal
+use Rattle.script_read.proofs.read.read_line.Goals as goal
 
 pub returns-in_err-read_statement-clause-err : goal.returns-in_err-read_statement-clause-err
 returns-in_err-read_statement-clause-err c =

@@ -1,6 +1,6 @@
 use Rattle.std.proofs.Common.{◌∙◌}
 use Rattle.table_csv.proofs.MarksBehind.{mark_few, marks_above, marks_more}
-use Rattle.table_csv.proofs.appending.append_marks.Goals as goal
+use Rattle.table_csv.proofs.pieces.append_marks.Goals as goal
 
 pub push-requires-clause-above : goal.push-requires-clause-above
 push-requires-clause-above c =
