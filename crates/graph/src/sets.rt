@@ -1,6 +1,6 @@
 // Sets of variations of versions, sites and filters.
 ghost use Rattle.std.specs.Prelude.{◌≡◌, ◌<◌, ◌≤◌, ◌||◌, ℕ, false, nat_eq, MatchOption, ◌+◌, map, IfOk, OnOk};
-ghost use Rattle.graph.specs.{count_of, has, IsNext, members_below, any_has, has_at, is_among_own, AppendsSets, AreSets, changed_set, read_sets, scope_before, set_changed, variation_count};
+ghost use Rattle.graph.specs.{has, IsNext, members_below, any_has, has_at, is_among_own, AppendsSets, AreSets, changed_set, read_sets, scope_before, set_changed, variation_count};
 ghost use Rattle.rdf_values.specs.{column_kind, columns_in, kind_or_int};
 
 use crate::before::Before;
@@ -55,7 +55,6 @@ impl VarSet {
     /// How many numbers are in the set.
     #[tactic(auto, using(crate::proofs::Bits::counted_all))]
     pub fn count(self) -> u32
-        ensures value { result ≡ count_of self }
         ensures members { result ≡ members_below self 128 }
         ensures bound { result ≤ 128 }
         ensures above { (v : ℕ) → 128 ≤ v → has self v ≡ false }
