@@ -1,5 +1,5 @@
 // What stands before a statement, the columns and expressions at its nodes, and the checks that several statements share.
-ghost use Rattle.std.specs.Prelude.{◌≡◌, ◌≤◌, ◌<◌, ◌++◌, ◌∷◌, [], length, map, slice_get, Some, Err, Result, MatchOption, IfOk, IfErr, OnOk};
+ghost use Rattle.std.specs.Prelude.{◌≡◌, ◌≤◌, ◌<◌, ◌++◌, ◌∷◌, [], length, map, slice_get, Some, Err, Result, MatchOption, IfOk, OnOk};
 ghost use Rattle.std.specs.List.{AllByRecursion};
 ghost use Rattle.rdf_values.specs.{check_node, check_target, ColType, column_kind, columns_in, columns_in_all, expect_kind, GraphCause, is_visible, IsShort, kind_of, kind_or_int, path, refusal_in, refuse_if, same_kind, tree_of, trees_of};
 ghost use Rattle.rdf_values.specs.declared.graph_cause.GraphCause.TheVariants.{NameTaken, UnknownColumn};
@@ -213,22 +213,6 @@ impl Before<'_> {
         Ok(scope)
     }
 
-    /// The expression over the versions that its columns have at a node, or its first refusal.
-    pub(crate) fn check_at(
-        &self,
-        alloc: Global,
-        node: &Name,
-        expr: &Expr,
-    ) -> Result<Checked, CheckRefusal>
-        ensures checked { IfOk result (IsCheckedBefore self.now node.now expr.now) }
-        ensures refused { IfErr result (λ e. RefusedAs e (kind_of (scope_before self.now node.now) self.now.names.now expr.now)) }
-    {
-        match self.scope_for(alloc, node, expr) {
-            Err(_) => Err(CheckRefusal::Memory),
-            Ok(scope) => check(alloc, expr, &scope, self.names),
-        }
-    }
-
     /// A new node or result.
     pub(crate) fn check_node(&self, node: &Name, parent: &Name) -> Option<GraphCause>
         ensures { result ≡ check_node (history self.now) node.now parent.now }
@@ -265,8 +249,8 @@ impl Before<'_> {
         ])
     }
 
-    /// An expression at a node.
-    #[tactic(auto, using(crate::proofs::Checking::kind_passed))]
+    /// An expression over the versions that its columns have at a node.
+    #[tactic(auto, using(crate::proofs::Checking::no_memory))]
     pub(crate) fn expression(
         &self,
         alloc: Global,
@@ -276,7 +260,8 @@ impl Before<'_> {
         ensures checked { IfOk result (IsCheckedBefore self.now node.now expr.now) }
         ensures decided { Decides (refusal_in (kind_of (scope_before self.now node.now) self.now.names.now expr.now)) result }
     {
-        match self.check_at(alloc, node, expr) {
+        let scope = self.scope_for(alloc, node, expr)?;
+        match check(alloc, expr, &scope, self.names) {
             Ok(checked) => Ok(checked),
             Err(refusal) => Err(stop_of(refusal)),
         }

@@ -12,11 +12,11 @@ use crate::refusals::{GraphRefusal, Stop, first_of, refuse_unless, stop_if};
 use crate::result_checks::{
     check_action, check_print, check_report, check_variations_for, check_watch,
 };
-use crate::sets::{VarSet, changed_sets, kinds_at, sets_of};
+use crate::sets::{VarSet, kinds_at, push_changed, sets_of};
 use crate::tables::{Change, Gain, ResultPath, ResultRow, Tables};
 use crate::variations::full_names;
 use crate::vary_checks::check_vary;
-use crate::versions::varied_versions;
+use crate::versions::push_varied;
 use expr_check::Checked;
 use graph_numbers::{ResultKind, Version};
 use rdf_values::{
@@ -98,27 +98,19 @@ pub(crate) fn check_statement(
             parent,
             column,
             expr,
-        } => made_gain(
-            alloc,
-            before,
-            node,
-            parent,
-            before.check_new(parent, column),
-            expr,
-        ),
+        } => {
+            let taken = before.check_new(parent, column);
+            made_gain(alloc, before, node, parent, taken, expr)
+        }
         Statement::Redefine {
             node,
             parent,
             column,
             expr,
-        } => made_gain(
-            alloc,
-            before,
-            node,
-            parent,
-            before.check_target(parent, column),
-            expr,
-        ),
+        } => {
+            let wrong = before.check_target(parent, column);
+            made_gain(alloc, before, node, parent, wrong, expr)
+        }
         Statement::Filter {
             node,
             parent,
@@ -372,9 +364,11 @@ fn varied_gain(
 {
     let columns = change.columns;
     let tags = change.tags.len() as u32;
-    let versions = varied_versions(alloc, before, change)?;
+    let mut versions = Vec::new(alloc);
+    push_varied(alloc, &mut versions, before, change, 0, columns)?;
     let kinds = kinds_at(alloc, before, change.parent, columns)?;
-    let version_sets = changed_sets(alloc, before, change.parent, tags, columns)?;
+    let mut version_sets = Vec::new(alloc);
+    push_changed(before, change.parent, tags, columns, &mut version_sets)?;
     let sets = before.tables.version_sets.as_slice();
     let site_sets = sets_of(alloc, sets, sites.as_slice())?;
     Ok(Gain {

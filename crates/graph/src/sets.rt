@@ -165,9 +165,9 @@ fn changed_set(before: &Before<'_>, parent: &Name, tags: u32, column: &Name) -> 
     own_set(first, tags).union(set_at(versions, below as usize))
 }
 
-/// Those of columns, appended.
+/// Those of columns that a Vary changes, appended.
 #[tactic(auto, using(crate::proofs::Listing::one_more))]
-fn push_changed(
+pub(crate) fn push_changed(
     before: &Before<'_>,
     parent: &Name,
     tags: u32,
@@ -182,22 +182,6 @@ fn push_changed(
     };
     sets.push(changed_set(before, parent, tags, column))?;
     push_changed(before, parent, tags, rest, sets)
-}
-
-/// What the columns that a Vary changes depend on.
-pub(crate) fn changed_sets(
-    alloc: Global,
-    before: &Before<'_>,
-    parent: &Name,
-    tags: u32,
-    columns: &[Name],
-) -> Result<Vec<VarSet>, Memory>
-    requires { variation_count before.now + tags ≤ 128 }
-    ensures { IfOk result (λ sets. AreSets (map (set_changed before.now parent.now tags) columns.now) sets.items) }
-{
-    let mut sets = Vec::new(alloc);
-    push_changed(before, parent, tags, columns, &mut sets)?;
-    Ok(sets)
 }
 
 /// The kinds of columns at a node, and that of a number where there is none.

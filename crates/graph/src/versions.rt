@@ -69,7 +69,7 @@ fn varied_version(
 }
 
 /// Appends the columns that a Vary changes, from a place on.
-fn push_varied(
+pub(crate) fn push_varied(
     alloc: Global,
     versions: &mut Vec<Version>,
     before: &Before<'_>,
@@ -85,19 +85,6 @@ fn push_varied(
     };
     push(versions, varied_version(alloc, before, change, i, column)?)?;
     push_varied(alloc, versions, before, change, i + 1, rest)
-}
-
-/// The columns that a Vary changes.
-pub(crate) fn varied_versions(
-    alloc: Global,
-    before: &Before<'_>,
-    change: &Change<'_>,
-) -> Result<Vec<Version>, Memory>
-    ensures { IfOk result (λ v. v.items ≡ versions_changed before.now change.now 0 change.now.columns.now) }
-{
-    let mut versions = Vec::new(alloc);
-    push_varied(alloc, &mut versions, before, change, 0, change.columns)?;
-    Ok(versions)
 }
 
 /// The place of a variation among so many from the first on.

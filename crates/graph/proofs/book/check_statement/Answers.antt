@@ -7,18 +7,18 @@ use Rattle.graph.proofs.book.check_statement.Goals as goal
 pub returns-in-Define-clause-gained : goal.returns-in-Define-clause-gained
 returns-in-Define-clause-gained c =
     subst (λ s. IfOk c.made_gain.result (IsGain c.args.before.now.header.now c.args.before.now.names.now (statements c.args.before.now.lines.now) s)) (sym c.in-Define.is)
-    (define_made c.args.before.now.header.now c.args.before.now.names.now (statements c.args.before.now.lines.now) c.args.before.now.tables.now c.args.before.now.are _ _ _ _ _ c.made_gain.result c.check_new.ensures c.made_gain.ensures.made c.made_gain.ensures.decided)
+    (define_made c.args.before.now.header.now c.args.before.now.names.now (statements c.args.before.now.lines.now) c.args.before.now.tables.now c.args.before.now.are _ _ _ _ _ c.made_gain.result c.check_new-taken.ensures c.made_gain.ensures.made c.made_gain.ensures.decided)
 
 pub returns-in-Define-clause-decided : goal.returns-in-Define-clause-decided
-returns-in-Define-clause-decided c = decided_at c.args.before.now.header.now c.args.before.now.names.now (statements c.args.before.now.lines.now) c.args.statement.now _ c.made_gain.result c.in-Define.is (rw c.check_new.ensures at c.made_gain.ensures.decided)
+returns-in-Define-clause-decided c = decided_at c.args.before.now.header.now c.args.before.now.names.now (statements c.args.before.now.lines.now) c.args.statement.now _ c.made_gain.result c.in-Define.is (rw c.check_new-taken.ensures at c.made_gain.ensures.decided)
 
 pub returns-in-Redefine-clause-gained : goal.returns-in-Redefine-clause-gained
 returns-in-Redefine-clause-gained c =
     subst (λ s. IfOk c.made_gain-in-Redefine.result (IsGain c.args.before.now.header.now c.args.before.now.names.now (statements c.args.before.now.lines.now) s)) (sym c.in-Redefine.is)
-    (redefine_made c.args.before.now.header.now c.args.before.now.names.now (statements c.args.before.now.lines.now) c.args.before.now.tables.now c.args.before.now.are _ _ _ _ _ c.made_gain-in-Redefine.result c.check_target.ensures c.made_gain-in-Redefine.ensures.made c.made_gain-in-Redefine.ensures.decided)
+    (redefine_made c.args.before.now.header.now c.args.before.now.names.now (statements c.args.before.now.lines.now) c.args.before.now.tables.now c.args.before.now.are _ _ _ _ _ c.made_gain-in-Redefine.result c.check_target-wrong.ensures c.made_gain-in-Redefine.ensures.made c.made_gain-in-Redefine.ensures.decided)
 
 pub returns-in-Redefine-clause-decided : goal.returns-in-Redefine-clause-decided
-returns-in-Redefine-clause-decided c = decided_at c.args.before.now.header.now c.args.before.now.names.now (statements c.args.before.now.lines.now) c.args.statement.now _ c.made_gain-in-Redefine.result c.in-Redefine.is (rw c.check_target.ensures at c.made_gain-in-Redefine.ensures.decided)
+returns-in-Redefine-clause-decided c = decided_at c.args.before.now.header.now c.args.before.now.names.now (statements c.args.before.now.lines.now) c.args.statement.now _ c.made_gain-in-Redefine.result c.in-Redefine.is (rw c.check_target-wrong.ensures at c.made_gain-in-Redefine.ensures.decided)
 
 pub returns-in-Filter-clause-decided : goal.returns-in-Filter-clause-decided
 returns-in-Filter-clause-decided c = decided_at c.args.before.now.header.now c.args.before.now.names.now (statements c.args.before.now.lines.now) c.args.statement.now _ c.filter_gain.result c.in-Filter.is c.filter_gain.ensures.decided
