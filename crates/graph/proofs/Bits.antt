@@ -1,12 +1,10 @@
 -- Members of sets, by the bits of a number.
 use Rattle.std.proofs.Common.{◌≡◌, ℕ, zero, suc, ◌+◌, ◌-◌, ◌*◌, ◌/◌, ◌%◌, ◌^◌, ◌<◌, ◌≤◌, max, Bool, true, false, ◌||◌, if◌then◌else◌, refl, sym, ◌∙◌, ap, subst, nat_eq, count_ones, bit_or, arith, shr-shr, nat_lt, Decides, bit_and}
 use Rattle.std.proofs.lemmas.Bool.Decides.{Decides-eqb, Decides-ltb}
-use Rattle.std.proofs.lemmas.Nat.{ones_le_self, shr_le, and_mask, mod-pow-add, mod_below, ones_cat, one_shl, pow_pos}
-use Rattle.std.proofs.lemmas.Nat.Bits.{bit_at-zero, bit_at-lt, bit_at_or, bit_at-suc, bit_at_lowest, bit_at_above, bit_at-trailing_zeros, bit_at_set_same, bit_at_set_other}
+use Rattle.std.proofs.lemmas.Nat.{shr_le, and_mask, mod-pow-add, mod_below, ones_cat, one_shl, pow_pos}
+use Rattle.std.proofs.lemmas.Nat.Bits.{bit_at-zero, bit_at-lt, bit_at_or, bit_at_above, bit_at-trailing_zeros, bit_at_set_same, bit_at_set_other}
 use Rattle.std.specs.Int.{bit_at, w128, trailing_zeros}
 use Rattle.graph.specs.{has, IsNext, members_below, VarSet}
-use native.Mathlib.Nat.{pow-suc}
-use lib.Count.{ones_step}
 use Rattle.std.proofs.Math.Nat.{mod-eq_of_lt}
 use Rattle.std.specs.Int.Count.{ones-ones}
 
