@@ -1,12 +1,10 @@
 -- Members of sets, by the bits of a number.
 use Rattle.std.proofs.Common.{◌≡◌, ℕ, zero, suc, ◌+◌, ◌-◌, ◌*◌, ◌/◌, ◌%◌, ◌^◌, ◌<◌, ◌≤◌, max, Bool, true, false, ◌||◌, if◌then◌else◌, refl, sym, ◌∙◌, ap, subst, nat_eq, count_ones, bit_or, arith, shr-shr, nat_lt, Decides, bit_and}
 use Rattle.std.proofs.lemmas.Bool.Decides.{Decides-eqb, Decides-ltb}
-use Rattle.std.proofs.lemmas.Nat.{ones_le_self, shr_le, and_mask, mod-pow-add, mod_below, ones_cat, one_shl, pow_pos}
-use Rattle.std.proofs.lemmas.Nat.Bits.{bit_at-zero, bit_at-lt, bit_at_or, bit_at-suc, bit_at_lowest, bit_at_above, bit_at-trailing_zeros, bit_at_set_same, bit_at_set_other}
+use Rattle.std.proofs.lemmas.Nat.{shr_le, and_mask, mod-pow-add, mod_below, ones_cat, one_shl, pow_pos}
+use Rattle.std.proofs.lemmas.Nat.Bits.{bit_at-zero, bit_at-lt, bit_at_or, bit_at_above, bit_at-trailing_zeros, bit_at_set_same, bit_at_set_other}
 use Rattle.std.specs.Int.{bit_at, w128, trailing_zeros}
-use Rattle.graph.specs.{count_below, has, IsNext, members_below, VarSet}
-use native.Mathlib.Nat.{pow-suc}
-use lib.Count.{ones_step}
+use Rattle.graph.specs.{has, IsNext, members_below, VarSet}
 use Rattle.std.proofs.Math.Nat.{mod-eq_of_lt}
 use Rattle.std.specs.Int.Count.{ones-ones}
 
@@ -31,27 +29,6 @@ more_in a v h u = go (nat_eq u v) refl
     go : (b : Bool) → nat_eq u v ≡ b → nat_eq (bit_at (bit_or a (1 * 2 ^ v % 2 ^ 128)) u) 1 ≡ (b || nat_eq (bit_at a u) 1)
     go true e = let same : u ≡ v = (Decides-eqb u v).0 e in subst (λ n. nat_eq (bit_at (bit_or a (1 * 2 ^ v % 2 ^ 128)) n) 1 ≡ true) (sym same) (ap (λ n. nat_eq n 1) (bit_at_set_same w128 a v h))
     go false e = ap (λ n. nat_eq n 1) (bit_at_set_other w128 a v h u (λ q. cc (sym e ∙ (Decides-eqb u v).1 q)))
-
-one_bit : (b : ℕ) → b < 2 → b ≡ (if nat_eq b 1 then 1 else 0)
-one_bit zero h = refl
-one_bit (suc zero) h = refl
-one_bit (suc (suc b)) h = absurd (omega arith)
-
-lowest_bit : (n : ℕ) → n % 2 ≡ (if nat_eq (bit_at n 0) 1 then 1 else 0)
-lowest_bit n = sym (bit_at_lowest n) ∙ one_bit (bit_at n 0) (bit_at-lt n 0)
-
-halved : (k n : ℕ) → n < 2 ^ suc k → n / 2 < 2 ^ k
-halved k n h = let p : 2 ^ suc k ≡ 2 ^ k * 2 = pow-suc 2 k in omega (arith, p, h)
-
-no_ones : count_ones 0 ≡ 0
-no_ones = let h = ones_le_self 0 in omega (arith, h)
-
--- a count of ones is the count of members
-pub ones_are_members : (k n : ℕ) → n < 2 ^ k → count_ones n ≡ count_below k (λ v. nat_eq (bit_at n v) 1)
-ones_are_members zero n h = let z : n ≡ 0 = omega (arith, h) in ap count_ones z ∙ no_ones
-ones_are_members (suc k) n h =
-    ones_step n ∙ (λ i. lowest_bit n i + ones_are_members k (n / 2) (halved k n h) i)
-    ∙ ap (λ p. (if nat_eq (bit_at n 0) 1 then 1 else 0) + count_below k p) (λ i v. nat_eq (sym (bit_at-suc n v) i) 1)
 
 -- a number from v on is a bit of what is left after a shift
 shifted : (n v u : ℕ) → v ≤ u → bit_at n u ≡ bit_at (n / 2 ^ v) (u - v)

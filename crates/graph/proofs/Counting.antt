@@ -1,21 +1,21 @@
 -- Counts over the passes of results, by their rows.
-use Rattle.std.proofs.Common.{◌≡◌, ℕ, zero, suc, ◌+◌, ◌*◌, ◌≤◌, Bool, true, false, List, [], ◌∷◌, ◌++◌, length, Option, Some, None, slice_get, nat_lt, if◌then◌else◌, refl, sym, ◌∙◌, ap, subst, arith, ◌<◌, ◌||◌, map, Decides}
+use Rattle.std.proofs.Common.{◌≡◌, ℕ, zero, suc, ◌+◌, ◌*◌, ◌≤◌, Bool, true, false, List, [], ◌∷◌, ◌++◌, length, Option, Some, None, slice_get, nat_lt, if◌then◌else◌, refl, sym, ◌∙◌, ap, subst, arith, ◌<◌, ◌||◌, map, take, Decides}
 use Rattle.std.specs.List.{sum_by, filter, AllZip}
 use Rattle.std.proofs.lemmas.List.{append-nil, length-map, length-append}
 use Rattle.std.proofs.lemmas.List.Sums.{sum_by-cons}
 use Rattle.rdf_values.specs.{ActionAt, ActionKind, AreAccepted, Booked, Booking, bookings, cells_of, check, check_columns, check_node, check_passes, check_tags, check_target, check_values, Column, columns_of, first_refusal, FunctionNames, GraphCause, has_variations, is_variation_name, over_passes, own_variations, Pass, passes_of, path, permitted_kinds, printed_results, refuse_if, repeats, result_depends, results_named, same, scope_at, scope_of, Statement, takes_of, Variation, variations, varied_passes, VaryValues}
 use Rattle.rdf_values.specs.declared.statement.Statement.TheVariants.{Action, Report, Print, Vary}
 use Rattle.rdf_values.specs.declared.graph_cause.GraphCause.TheVariants.{TooMany}
-use Rattle.graph_numbers.specs.{holds_at, version_at}
-use Rattle.graph.specs.{action_set, any_depends, any_has, AreRows, AreTables, count_below, count_of, depends_at, filter_numbers, front, has, IsAmount, IsBookedRow, IsRow, IsSet, Numbers, printed_rows, result_sets, row_passes, rows_named, site_sets, VarSet}
+use Rattle.graph_numbers.specs.{filter_sites, holds_at, version_at}
+use Rattle.graph.specs.{action_set, any_has, AreRows, AreTables, depends_at, front, has, IsAmount, IsBookedRow, IsRow, IsSet, members_below, Numbers, printed_rows, result_sets, row_passes, rows_named, site_sets, VarSet}
 use Rattle.graph.specs.declared.amounts.Amounts.{Amounts}
 use Rattle.graph.specs.declared.tables.ResultRow.{ResultRow}
 use Rattle.graph.proofs.Listing.{zip_both, zip_by, sets_any, row_set}
 use Rattle.std.proofs.lemmas.Bool.Decides.{Decides-ltb}
 use Rattle.rdf_model.proofs.Accepted.{both_none, if_fails}
 use Rattle.graph.specs.declared.tables.Tables.{Tables}
-use Rattle.graph.proofs.Depending.{beyond, result_is, result_beyond, action_beyond, filters_are, columns_are, tells, tags_count}
-use Rattle.graph.proofs.SiteTotals.{numbers_are}
+use Rattle.graph.proofs.Depending.{action_is, known_at, result_is, tags_count}
+use Rattle.lemmas.proofs.{take_all}
 
 pub front_is : (rows xs : List ResultRow) (x : ResultRow) → rows ≡ xs ++ x ∷ [] → front rows ≡ xs
 front_is rows xs x e = ap front e ∙ go xs
@@ -27,20 +27,21 @@ front_is rows xs x e = ap front e ∙ go xs
 
 -- ---- how many members
 
-none_below : (k : ℕ) (q : ℕ → Bool) → ((v : ℕ) → q v ≡ false) → count_below k q ≡ 0
-none_below zero q h = refl
-none_below (suc k) q h = let n = none_below k (λ v. q (suc v)) (λ v. h (suc v)) in let e : 0 + count_below k (λ v. q (suc v)) ≡ 0 = omega (arith, n) in (λ i. (if h 0 i then 1 else 0) + count_below k (λ v. q (suc v))) ∙ e
+module _ {A : Type 0} (p : A → Bool) where
+  filter_next : (k : ℕ) (xs : List A) → length (filter p (take (suc k) xs)) ≡ length (filter p (take k xs)) + (if holds_at p (slice_get xs k) then 1 else 0)
+  filter_next zero [] = refl
+  filter_next zero (x ∷ xs) = grind arith
+  filter_next (suc k) [] = refl
+  filter_next (suc k) (x ∷ xs) = grind (arith, filter_next k xs)
 
--- the places of the elements that pass a test, counted
-pub count_filter : {A : Type 0} (p : A → Bool) (k : ℕ) (xs : List A) (q : ℕ → Bool) → length xs ≤ k → ((v : ℕ) → q v ≡ holds_at p (slice_get xs v)) → count_below k q ≡ length (filter p xs)
-count_filter p k [] q le h = none_below k q h
-count_filter p zero (x ∷ xs) q le h = absurd (omega (arith, le))
-count_filter p (suc k) (x ∷ xs) q le h =
-    let first = h 0 in let rest = count_filter p k xs (λ v. q (suc v)) (omega (arith, le)) (λ v. h (suc v)) in grind (arith, first, rest)
+  members_first : (xs : List A) (s : VarSet) → ((v : ℕ) → has s v ≡ holds_at p (slice_get xs v)) → (k : ℕ) → members_below s k ≡ length (filter p (take k xs))
+  unfolding members_below
+  members_first xs s h zero = refl
+  members_first xs s h (suc k) = let a = members_first xs s h k in let b = filter_next k xs in let e = h k in grind (arith, a, b, e)
 
-pub set_counted : {A : Type 0} (p : A → Bool) (xs : List A) (s : VarSet) → length xs ≤ 128 → ((v : ℕ) → has s v ≡ holds_at p (slice_get xs v)) → count_of s ≡ length (filter p xs)
-unfolding count_of
-set_counted p xs s le h = count_filter p 128 xs (has s) le h
+  -- the places of the elements that pass a test, counted
+  set_counted : (xs : List A) (s : VarSet) → length xs ≤ 128 → ((v : ℕ) → has s v ≡ holds_at p (slice_get xs v)) → members_below s 128 ≡ length (filter p xs)
+  set_counted xs s le h = members_first xs s h 128 ∙ ap (λ ys. length (filter p ys)) (take_all xs 128 le)
 
 -- ---- passes
 
@@ -50,14 +51,14 @@ module _ (script : List Statement) where
     pub name : r.name ≡ b.name
     pub cells : r.cells ≡ cells_of b.booking
     pub takes : r.takes ≡ takes_of b.booking
-    pub varied : count_of r.set ≡ length (filter (λ v. result_depends v b.booking) (variations script))
+    pub varied : members_below r.set 128 ≡ length (filter (λ v. result_depends v b.booking) (variations script))
 
   abbrev pub AllPassed : List Booked → List ResultRow → Type 0
   AllPassed bs rs = AllZip IsPassed bs rs
 
   passes_counted : (b : Booked) (r : ResultRow) → IsPassed b r → length (passes_of script b) ≡ row_passes script r
   passes_counted b r h =
-      let many : length (varied_passes script b) ≡ count_of r.set =
+      let many : length (varied_passes script b) ≡ members_below r.set 128 =
       length-map (filter (λ v. result_depends v b.booking) (variations script)) (λ (v : Variation). record { result = b; under = Some v }) ∙ sym h.varied in
       let name = h.name in grind (arith, many, name)
 
@@ -161,11 +162,7 @@ module _ (header : List Column) (names : FunctionNames) where
   -- a result's set has the numbers of the variations on which it depends
   depends_is : (before : List Statement) → AreAccepted names (scope_of header) before → (r : ℕ) (b : Booked) → slice_get (bookings before) r ≡ Some b → (v : ℕ)
       → depends_at (result_sets header names before) r v ≡ holds_at (λ w. result_depends w b.booking) (slice_get (variations before) v)
-  depends_is before good r b h v = go (slice_get (variations before) v) refl
-    where
-      go : (o : Option Variation) → slice_get (variations before) v ≡ o → depends_at (result_sets header names before) r v ≡ holds_at (λ w. result_depends w b.booking) o
-      go None e = result_beyond header names v before (beyond (variations before) v e) r
-      go (Some w) e = result_is header names v w before good (tells header names before good v w e) r b h
+  depends_is before good r b h v = result_is header names v before good r ∙ ap (holds_at (λ (c : Booked). holds_at (λ w. result_depends w c.booking) (slice_get (variations before) v))) h
 
   passed_from : (script : List Statement) (bs : List Booked) (ds : List Numbers) (rs : List ResultRow) → length (variations script) ≤ 128 → AreRows bs ds rs
       → ((r : ℕ) (b : Booked) → slice_get bs r ≡ Some b → (v : ℕ) → depends_at ds r v ≡ holds_at (λ w. result_depends w b.booking) (slice_get (variations script) v)) → AllPassed script bs rs
@@ -185,18 +182,6 @@ module _ (header : List Column) (names : FunctionNames) where
       passed_from script (bookings before) (result_sets header names before) rs (subst (λ (vs : List Variation). length vs ≤ 128) (sym same) (few_variations before good)) h
       (λ r b q v. depends_is before good r b q v ∙ ap (λ (vs : List Variation). holds_at (λ w. result_depends w b.booking) (slice_get vs v)) (sym same))
 
-  -- an action whose columns were checked
-  action_is : (before : List Statement) → AreAccepted names (scope_of header) before → (parent : List ℕ) (k : ActionKind)
-      → check_columns (scope_at names (scope_of header) before parent) (permitted_kinds k) [] (columns_of k) ≡ None → (v : ℕ)
-      → action_set header names before parent (columns_of k) v ≡ holds_at (λ w. result_depends w (ActionAt k (path before parent))) (slice_get (variations before) v)
-  action_is before good parent k known v = go (slice_get (variations before) v) refl
-    where
-      go : (o : Option Variation) → slice_get (variations before) v ≡ o → action_set header names before parent (columns_of k) v ≡ holds_at (λ w. result_depends w (ActionAt k (path before parent))) o
-      go None e = action_beyond header names v before (beyond (variations before) v e) parent (columns_of k)
-      go (Some w) e =
-          let tell = tells header names before good v w e in
-          λ i. sym (filters_are header names v w before good tell parent) i || sym (columns_are header names v w before good tell parent (permitted_kinds k) [] (columns_of k) known) i
-
   -- the rows of the tables and of one action more
   pub action_passed : (before : List Statement) → AreAccepted names (scope_of header) before → (rs : List ResultRow) → AreRows (bookings before) (result_sets header names before) rs
       → (name parent : List ℕ) (k : ActionKind) → check_columns (scope_at names (scope_of header) before parent) (permitted_kinds k) [] (columns_of k) ≡ None
@@ -208,7 +193,7 @@ module _ (header : List Column) (names : FunctionNames) where
           name = own.rows.0.0.name;
           cells = own.rows.0.0.cells;
           takes = own.rows.0.0.takes;
-          varied = set_counted (λ w. result_depends w (ActionAt k (path before parent))) (variations before) r.set (few_variations before good) (λ v. own.rows.1.0 v ∙ action_is before good parent k known v);
+          varied = set_counted (λ w. result_depends w (ActionAt k (path before parent))) (variations before) r.set (few_variations before good) (λ v. own.rows.1.0 v ∙ action_is header names v (slice_get (variations before) v) before good (known_at header names v before good) parent k known);
         },
         tt,
       )
@@ -217,10 +202,10 @@ module _ (header : List Column) (names : FunctionNames) where
 
   -- the set of an action
   pub action_set_is : (before : List Statement) (t : Tables) → AreTables header names before t → (parent : List ℕ) (cs columns : List (List ℕ)) → cs ≡ columns → (f i u : VarSet) (fs is : List VarSet) → fs ≡ t.site_sets.items → is ≡ t.version_sets.items
-      → ((v : ℕ) → has f v ≡ any_has fs (filter_numbers before parent) v) → ((v : ℕ) → has i v ≡ any_has is (map (version_at header before parent) cs) v)
+      → ((v : ℕ) → has f v ≡ any_has fs (filter_sites header names before parent) v) → ((v : ℕ) → has i v ≡ any_has is (map (version_at header before parent) cs) v)
       → ((v : ℕ) → has u v ≡ (has f v || has i v)) → IsSet (action_set header names before parent columns) u
   action_set_is before t h parent cs columns e f i u fs is a b p q r v =
       r v ∙ (λ j. p v j || q v j)
       ∙ (λ j.
-      (ap (λ ss. any_has ss (filter_numbers before parent) v) a ∙ sets_any _ t.site_sets.items h.site_sets (filter_numbers before parent) v ∙ ap (λ ns. any_depends (site_sets header names before) ns v) (numbers_are header names before parent)) j
+      (ap (λ ss. any_has ss (filter_sites header names before parent) v) a ∙ sets_any _ t.site_sets.items h.site_sets (filter_sites header names before parent) v) j
       || ((λ l. any_has (b l) (map (version_at header before parent) (e l)) v) ∙ sets_any _ t.version_sets.items h.version_sets (map (version_at header before parent) columns) v) j)

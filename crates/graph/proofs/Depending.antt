@@ -1,9 +1,9 @@
 -- A column, a site or a result depends on a variation exactly where its set has its number.
 use Rattle.std.proofs.Common.{if◌then◌else◌, ◌≡◌, ℕ, suc, ◌+◌, Bool, true, false, ◌&&◌, ◌||◌, List, [], ◌∷◌, ◌++◌, map, length, Option, Some, None, Ok, slice_get, refl, sym, ◌∙◌, ap, subst, arith, ◌⊎◌, inl, inr, ◌<◌, ◌≤◌, nat_le, nat_lt, zero, Err, Result}
-use Rattle.std.specs.List.{list_any, AllByRecursion}
+use Rattle.std.specs.List.{list_any, AllByRecursion, AllZip}
 use Rattle.std.proofs.lemmas.List.{length-append, length-map, map-append, append-nil}
 use Rattle.lemmas.proofs.{and_holds, and_left_false, and_right_false, any_at, kept_at, le_false, mapped_at, neither, or_false}
-use Rattle.rdf_values.specs.{all_renamed, among, AreAccepted, Bin, Call, callee, check, Col, ColType, Column, column_depends, column_kind, columns_in, columns_in_all, Cond, EachColumn, End, FunctionNames, is_own, is_variation_name, kind_of, Lit, made_columns, makes, More, named_depends, NamedTree, Neg, Not, own_variations, parent_of, path, Pick, place, renamed, same, scope_at, scope_of, shape_of, site_depends, Statement, target_of, Tree, Trees, Variation, variations, VaryValues, ActionAt, ActionKind, Booked, booked_by, bookings, check_columns, check_edges, check_node, check_passes, check_results, columns_of, covered, expect_kind, filters_depend, GraphCause, history, may_begin, permitted_kinds, ReportOn, result_depends}
+use Rattle.rdf_values.specs.{all_renamed, among, AreAccepted, Bin, Call, callee, check, Col, ColType, Column, column_depends, column_kind, columns_in, columns_in_all, Cond, EachColumn, End, FunctionNames, is_own, is_variation_name, kind_of, Lit, made_columns, makes, More, named_depends, NamedTree, Neg, Not, own_variations, parent_of, path, Pick, place, renamed, same, scope_at, scope_of, shape_of, site_depends, Statement, target_of, Tree, Trees, Variation, variations, VaryValues, ActionAt, ActionKind, Booked, booked_by, bookings, check_columns, check_node, columns_of, expect_kind, filters_depend, GraphCause, history, may_begin, permitted_kinds, result_depends}
 use Rattle.rdf_values.specs.Expressions.{Truth}
 use Rattle.rdf_values.specs.declared.statement.Statement.TheVariants.{Define, Redefine, Vary, Filter, Action, Report}
 use Rattle.rdf_model.proofs.Accepted.{kind_known, checked_of, sound_path, visible_resolved, itself, both_none, kind_expected}
@@ -12,7 +12,7 @@ use Rattle.graph_numbers.specs.{column_place, holds_at, named_version, own_colum
 use Rattle.graph_numbers.proofs.Listed.{next_at, of_joined}
 use Rattle.graph_numbers.proofs.Meeting.{In, here, there, each_at}
 use Rattle.graph.specs.{depends_at, expression_set, is_among_own, Numbers, own_version_sets, varied_set, version_sets, action_set, any_depends, own_result_sets, own_site_sets, result_sets, ResultSetsAreDependence, site_set, site_sets, SiteSetsAreDependence, VersionsDependAsColumns}
-use Rattle.graph.proofs.Listing.{any_map, named_at, no_place, any_none, got_first}
+use Rattle.graph.proofs.Listing.{any_map, named_at, no_place, any_none, got_first, holds_mapped, zip_both, zip_holds, zip_mapped}
 use Rattle.std.specs.Prelude.{⊤}
 use Rattle.std.proofs.lemmas.Bool.{le-leb}
 use Rattle.std.proofs.lemmas.List.Folds.{list_any-append}
@@ -288,41 +288,9 @@ module _ (header : List Column) (names : FunctionNames) (v : ℕ) where
       lack_any v (site_sets header names before) (sites_lack before h) (filter_sites header names before parent) i
       || lack_any v (version_sets header names before) (versions_lack before h) (map (version_at header before parent) cs) i
 
-  results_lack : (before : List Statement) → length (variations before) ≤ v → AllLack v (result_sets header names before)
-  results_lack [] h = tt
-  results_lack (s ∷ before) h = lack_both v (result_sets header names before) (own_result_sets header names before s) (results_lack before (fewer before s h)) (own s)
-    where
-      own : (t : Statement) → AllLack v (own_result_sets header names before t)
-      own (Action result parent k) =
-          (action_beyond before (fewer before s h) parent (columns_of k), tt)
-      own (Report result parent) = (refl, tt)
-      own t = tt
-
-  pub site_beyond : (before : List Statement) → length (variations before) ≤ v → (s : ℕ) → depends_at (site_sets header names before) s v ≡ false
-  site_beyond before h s = none_at v (site_sets header names before) (sites_lack before h) s
-
-  pub result_beyond : (before : List Statement) → length (variations before) ≤ v → (r : ℕ) → depends_at (result_sets header names before) r v ≡ false
-  result_beyond before h r = none_at v (result_sets header names before) (results_lack before h) r
-
 -- ---- sites
 
-abbrev booked_action : List Statement → List ℕ → List ℕ → ActionKind → Booked
-booked_action before name parent k = record { name = name; booking = ActionAt k (path before parent) }
-
-abbrev booked_report : List Statement → List ℕ → List ℕ → Booked
-booked_report before name parent = record { name = name; booking = ReportOn (covered before (path before parent)) }
-
 module _ (header : List Column) (names : FunctionNames) where
-  own_result_count : (before : List Statement) (s : Statement) → length (own_result_sets header names before s) ≡ length (booked_by before s)
-  own_result_count before (Action name parent k) = refl
-  own_result_count before (Report name parent) = refl
-  own_result_count before s = refl
-
-  pub result_set_count : (before : List Statement) → length (result_sets header names before) ≡ length (bookings before)
-  result_set_count [] = refl
-  result_set_count (s ∷ before) =
-      length-append (result_sets header names before) (own_result_sets header names before s) ∙ (λ i. result_set_count before i + own_result_count before s i) ∙ sym (length-append (bookings before) (booked_by before s))
-
   pub site_set_count : (before : List Statement) → length (site_sets header names before) ≡ site_count header names before
   site_set_count [] = refl
   site_set_count (s ∷ before) =
@@ -330,28 +298,7 @@ module _ (header : List Column) (names : FunctionNames) where
       ∙ sym (length-append (sites header names before) (own_sites header names before s))
 
 module _ (header : List Column) (names : FunctionNames) (v : ℕ) (w : Variation) where
-  -- a site depends on the variation exactly where its set has its number
-  pub site_is : (before : List Statement) → AreAccepted names (scope_of header) before → Tells v w before → (s : ℕ) (x : SiteAt) → slice_get (sites header names before) s ≡ Some x
-      → depends_at (site_sets header names before) s v ≡ site_depends w x.at x.expr
-  site_is [] good tell s x h = cc h
-  site_is (t ∷ before) good tell s x h = go (site_is before good.1 tell.1 s x) (of_joined (sites header names before) (own_sites header names before t) s x h)
-    where
-      own : (k : ℕ) → slice_get (own_sites header names before t) k ≡ Some x → site_set header names before x v ≡ site_depends w x.at x.expr
-      own k q =
-          let o = own_placed header names before t k x good.0 q in
-          subst (λ (y : SiteAt). site_set header names before y v ≡ site_depends w y.at y.expr) (sym o.1.3) (sym (expression_set_is header names v w before good.1 tell.1 o.0 o.1.1 o.1.2 o.1.4))
-
-      go : (slice_get (sites header names before) s ≡ Some x → depends_at (site_sets header names before) s v ≡ site_depends w x.at x.expr)
-          → (slice_get (sites header names before) s ≡ Some x) ⊎ ((k : ℕ) × (s ≡ length (sites header names before) + k) × (slice_get (own_sites header names before t) k ≡ Some x))
-          → depends_at (site_sets header names (t ∷ before)) s v ≡ site_depends w x.at x.expr
-      go next (inl q) =
-          let l = slice_get_within (sites header names before) s x q in
-          depends_kept (site_sets header names before) (own_site_sets header names before t) s v (let c = site_set_count header names before in omega (arith, l, c)) ∙ next q
-      go next (inr q) =
-          let n : s ≡ length (site_sets header names before) + q.0 = (let c = site_set_count header names before in let e = q.1 in omega (arith, c, e)) in
-          ap (holds_at (λ (d : Numbers). d v)) (next_at (site_sets header names before) (own_site_sets header names before t) q.0 s n ∙ mapped_at (site_set header names before) (own_sites header names before t) q.0 x q.2) ∙ own q.0 q.2
-
-  -- the filters of a node do so
+  -- the filters of a node depend on the variation exactly where the sets of their sites have its number
   pub filters_are : (before : List Statement) → AreAccepted names (scope_of header) before → Tells v w before → (node : List ℕ)
       → filters_depend w (path before node) ≡ any_depends (site_sets header names before) (filter_sites header names before node) v
   filters_are [] good tell node = refl
@@ -402,33 +349,89 @@ module _ (header : List Column) (names : FunctionNames) (v : ℕ) (w : Variation
           by true k = λ i. set_is header names v w before (version_at header before parent c) (column_depends w (path before parent) c) (visible_set header names v w before good tell parent c t e) i || next (kinds ++ t ∷ []) k i
           by false k = cc k
 
-  own_result : (before : List Statement) (s : Statement) → AreAccepted names (scope_of header) (s ∷ before) → Tells v w before → (k : ℕ) (b : Booked) → slice_get (booked_by before s) k ≡ Some b
-      → depends_at (own_result_sets header names before s) k v ≡ result_depends w b.booking
-  own_result before (Action name parent k) good tell zero b h =
-      let e : booked_action before name parent k ≡ b = cc h in
-      let p = both_none (check_node before name parent) (check_columns (scope_at names (scope_of header) before parent) (permitted_kinds k) [] (columns_of k) ∷ check_edges k ∷ check_results (Action name parent k ∷ before) ∷ check_passes before (bookings (Action name parent k ∷ before)) ∷ []) good.0 in
-      let q = both_none (check_columns (scope_at names (scope_of header) before parent) (permitted_kinds k) [] (columns_of k)) (check_edges k ∷ check_results (Action name parent k ∷ before) ∷ check_passes before (bookings (Action name parent k ∷ before)) ∷ []) p.1 in
-      (λ i. sym (filters_are before good.1 tell parent) i || sym (columns_are before good.1 tell parent (permitted_kinds k) [] (columns_of k) q.0) i) ∙ ap (λ (x : Booked). result_depends w x.booking) e
-  own_result before (Action name parent k) good tell (suc n) b h = cc h
-  own_result before (Report name parent) good tell zero b h = let e : booked_report before name parent ≡ b = cc h in ap (λ (x : Booked). result_depends w x.booking) e
-  own_result before (Report name parent) good tell (suc n) b h = cc h
-  own_result before s good tell n b h = cc h
+-- ---- with a variation of the number, or without
 
-  -- a result depends on the variation exactly where its set has its number
-  pub result_is : (before : List Statement) → AreAccepted names (scope_of header) before → Tells v w before → (r : ℕ) (b : Booked) → slice_get (bookings before) r ≡ Some b
-      → depends_at (result_sets header names before) r v ≡ result_depends w b.booking
-  result_is [] good tell r b h = cc h
-  result_is (s ∷ before) good tell r b h = go (result_is before good.1 tell.1 r b) (of_joined (bookings before) (booked_by before s) r b h)
+-- a place where nothing stands is beyond a list
+beyond : {A : Type 0} (xs : List A) (v : ℕ) → slice_get xs v ≡ None → length xs ≤ v
+beyond [] v e = omega arith
+beyond (x ∷ xs) zero e = cc e
+beyond (x ∷ xs) (suc v) e = let h = beyond xs v e in omega (arith, h)
+
+never : {A : Type 0} (o : Option A) → false ≡ holds_at (λ x. false) o
+never None = refl
+never (Some x) = refl
+
+-- the variation of number v is told by it, or no variation has it
+abbrev Knows : ℕ → Option Variation → List Statement → Type 0
+Knows v None before = length (variations before) ≤ v
+Knows v (Some w) before = Tells v w before
+
+module _ (header : List Column) (names : FunctionNames) (v : ℕ) where
+  pub known_at : (before : List Statement) → AreAccepted names (scope_of header) before → Knows v (slice_get (variations before) v) before
+  known_at before good = go (slice_get (variations before) v) refl
     where
-      go : (slice_get (bookings before) r ≡ Some b → depends_at (result_sets header names before) r v ≡ result_depends w b.booking)
-          → (slice_get (bookings before) r ≡ Some b) ⊎ ((k : ℕ) × (r ≡ length (bookings before) + k) × (slice_get (booked_by before s) k ≡ Some b))
-          → depends_at (result_sets header names (s ∷ before)) r v ≡ result_depends w b.booking
-      go next (inl q) =
-          let l = slice_get_within (bookings before) r b q in
-          depends_kept (result_sets header names before) (own_result_sets header names before s) r v (let c = result_set_count header names before in omega (arith, l, c)) ∙ next q
-      go next (inr q) =
-          let n : r ≡ length (result_sets header names before) + q.0 = (let c = result_set_count header names before in let e = q.1 in omega (arith, c, e)) in
-          ap (holds_at (λ (d : Numbers). d v)) (next_at (result_sets header names before) (own_result_sets header names before s) q.0 r n) ∙ own_result before s good tell.1 q.0 b q.2
+      go : (o : Option Variation) → slice_get (variations before) v ≡ o → Knows v o before
+      go None e = beyond (variations before) v e
+      go (Some w) e = tells header names before good v w e
+
+  known_less : (u : Option Variation) (before : List Statement) (s : Statement) → Knows v u (s ∷ before) → Knows v u before
+  known_less None before s h = fewer header names v before s h
+  known_less (Some w) before s h = h.1
+
+  abbrev SiteFits : Option Variation → SiteAt → Numbers → Type 0
+  SiteFits u x d = d v ≡ holds_at (depends_on x) u
+
+  abbrev ResultFits : Option Variation → Booked → Numbers → Type 0
+  ResultFits u b d = d v ≡ holds_at (λ w. result_depends w b.booking) u
+
+  own_site : (u : Option Variation) (before : List Statement) → AreAccepted names (scope_of header) before → Knows v u before → (s : Statement) → check names (scope_of header) before s ≡ None
+      → (k : ℕ) (x : SiteAt) → slice_get (own_sites header names before s) k ≡ Some x → site_set header names before x v ≡ holds_at (depends_on x) u
+  own_site None before good h s ok k x q = lack_any v (version_sets header names before) (versions_lack header names v before h) (columns_in x.tree)
+  own_site (Some w) before good h s ok k x q =
+      let o = own_placed header names before s k x ok q in
+      subst (λ (y : SiteAt). site_set header names before y v ≡ site_depends w y.at y.expr) (sym o.1.3) (sym (expression_set_is header names v w before good h o.0 o.1.1 o.1.2 o.1.4))
+
+  -- a site depends on the variation exactly where its set has its number
+  sites_are : (u : Option Variation) (before : List Statement) → AreAccepted names (scope_of header) before → Knows v u before → AllZip (SiteFits u) (sites header names before) (site_sets header names before)
+  sites_are u [] good h = tt
+  sites_are u (s ∷ before) good h =
+      let l = known_less u before s h in
+      zip_both (SiteFits u) (sites header names before) (own_sites header names before s) (site_sets header names before) (own_site_sets header names before s) (sites_are u before good.1 l)
+      (zip_mapped (SiteFits u) (site_set header names before) (own_sites header names before s) (own_site u before good.1 l s good.0))
+
+  -- and so does an action whose columns were checked
+  pub action_is : (u : Option Variation) (before : List Statement) → AreAccepted names (scope_of header) before → Knows v u before → (parent : List ℕ) (k : ActionKind)
+      → check_columns (scope_at names (scope_of header) before parent) (permitted_kinds k) [] (columns_of k) ≡ None
+      → action_set header names before parent (columns_of k) v ≡ holds_at (λ w. result_depends w (ActionAt k (path before parent))) u
+  action_is None before good h parent k known = action_beyond header names v before h parent (columns_of k)
+  action_is (Some w) before good h parent k known =
+      λ i. sym (filters_are header names v w before good h parent) i || sym (columns_are header names v w before good h parent (permitted_kinds k) [] (columns_of k) known) i
+
+  -- and each result
+  results_are : (u : Option Variation) (before : List Statement) → AreAccepted names (scope_of header) before → Knows v u before → AllZip (ResultFits u) (bookings before) (result_sets header names before)
+  results_are u [] good h = tt
+  results_are u (s ∷ before) good h =
+      zip_both (ResultFits u) (bookings before) (booked_by before s) (result_sets header names before) (own_result_sets header names before s) (results_are u before good.1 (known_less u before s h)) (own s good.0)
+    where
+      own : (t : Statement) → check names (scope_of header) before t ≡ None → AllZip (ResultFits u) (booked_by before t) (own_result_sets header names before t)
+      own (Action name parent k) ok =
+          let p = both_none (check_node before name parent) _ ok in
+          let q = both_none (check_columns (scope_at names (scope_of header) before parent) (permitted_kinds k) [] (columns_of k)) _ p.1 in
+          (action_is u before good.1 (known_less u before s h) parent k q.0, tt)
+      own (Report name parent) ok = (never u, tt)
+      own t ok = tt
+
+  pub result_is : (before : List Statement) → AreAccepted names (scope_of header) before → (r : ℕ)
+      → depends_at (result_sets header names before) r v ≡ holds_at (λ (b : Booked). holds_at (λ w. result_depends w b.booking) (slice_get (variations before) v)) (slice_get (bookings before) r)
+  result_is before good r =
+      zip_holds (ResultFits (slice_get (variations before) v)) (λ b. holds_at (λ w. result_depends w b.booking) (slice_get (variations before) v)) (λ d. d v) (λ b d e. e)
+      (bookings before) (result_sets header names before) (results_are (slice_get (variations before) v) before good (known_at before good)) r
+
+  site_is : (before : List Statement) → AreAccepted names (scope_of header) before → (s : ℕ)
+      → depends_at (site_sets header names before) s v ≡ holds_at (λ (x : SiteAt). holds_at (depends_on x) (slice_get (variations before) v)) (slice_get (sites header names before) s)
+  site_is before good s =
+      zip_holds (SiteFits (slice_get (variations before) v)) (λ x. holds_at (depends_on x) (slice_get (variations before) v)) (λ d. d v) (λ x d e. e)
+      (sites header names before) (site_sets header names before) (sites_are (slice_get (variations before) v) before good (known_at before good)) s
 
 accepted : (g : GraphView) → IsGraph g → AreAccepted g.names (scope_of g.header) (history g.script)
 accepted g h = (verdict_is_the_first_refusal g.names g.header g.script).0 h.accepted
@@ -437,48 +440,11 @@ pub versions_depend : VersionsDependAsColumns
 versions_depend g h node name t k v w e =
     sym (set_is g.header g.names v w (history g.script) _ _ (visible_set g.header g.names v w (history g.script) (accepted g h) (tells g.header g.names (history g.script) (accepted g h) v w e) node name t k))
 
--- a place where nothing stands is beyond a list
-pub beyond : {A : Type 0} (xs : List A) (v : ℕ) → slice_get xs v ≡ None → length xs ≤ v
-beyond [] v e = omega arith
-beyond (x ∷ xs) zero e = cc e
-beyond (x ∷ xs) (suc v) e = let h = beyond xs v e in omega (arith, h)
-
-none_there : (ds : List Numbers) (s v : ℕ) → length ds ≤ s → depends_at ds s v ≡ false
-none_there [] s v h = refl
-none_there (d ∷ ds) zero v h = absurd (omega (arith, h))
-none_there (d ∷ ds) (suc s) v h = none_there ds s v (omega (arith, h))
-
 pub sites_depend : SiteSetsAreDependence
-sites_depend g h s v = go (slice_get (sites g.header g.names (history g.script)) s) refl
-  where
-    at : (x : SiteAt) → slice_get (sites g.header g.names (history g.script)) s ≡ Some x → (o : Option Variation) → slice_get (variations (history g.script)) v ≡ o
-        → depends_at (site_sets g.header g.names (history g.script)) s v ≡ holds_at (depends_on x) o
-    at x e None q = site_beyond g.header g.names v (history g.script) (beyond (variations (history g.script)) v q) s
-    at x e (Some w) q = site_is g.header g.names v w (history g.script) (accepted g h) (tells g.header g.names (history g.script) (accepted g h) v w q) s x e
-
-    go : (o : Option SiteAt) → slice_get (sites g.header g.names (history g.script)) s ≡ o
-        → depends_at (site_sets g.header g.names (history g.script)) s v ≡ holds_at (λ x. holds_at (depends_on x) (slice_get (variations (history g.script)) v)) o
-    go None e =
-        none_there (site_sets g.header g.names (history g.script)) s v
-        (let b = beyond (sites g.header g.names (history g.script)) s e in let c = site_set_count g.header g.names (history g.script) in omega (arith, b, c))
-    go (Some x) e = at x e (slice_get (variations (history g.script)) v) refl
+sites_depend g h s v = site_is g.header g.names v (history g.script) (accepted g h) s
 
 pub results_depend : ResultSetsAreDependence
-results_depend g h r v = go (slice_get (results g.header g.names (history g.script)) r) refl
-  where
-    at : (b : Booked) → slice_get (bookings (history g.script)) r ≡ Some b → (o : Option Variation) → slice_get (variations (history g.script)) v ≡ o
-        → depends_at (result_sets g.header g.names (history g.script)) r v ≡ holds_at (λ w. result_depends w b.booking) o
-    at b e None q = result_beyond g.header g.names v (history g.script) (beyond (variations (history g.script)) v q) r
-    at b e (Some w) q = result_is g.header g.names v w (history g.script) (accepted g h) (tells g.header g.names (history g.script) (accepted g h) v w q) r b e
-
-    count : length (results g.header g.names (history g.script)) ≡ length (bookings (history g.script))
-    count = sym (length-map (results g.header g.names (history g.script)) (λ (x : ResultAt). x.booked)) ∙ ap (λ (bs : List Booked). length bs) (booked_are g.header g.names (history g.script))
-
-    go : (o : Option ResultAt) → slice_get (results g.header g.names (history g.script)) r ≡ o
-        → depends_at (result_sets g.header g.names (history g.script)) r v ≡ holds_at (λ (x : ResultAt). holds_at (λ w. result_depends w x.booked.booking) (slice_get (variations (history g.script)) v)) o
-    go None e =
-        none_there (result_sets g.header g.names (history g.script)) r v
-        (let b = beyond (results g.header g.names (history g.script)) r e in let c = result_set_count g.header g.names (history g.script) in omega (arith, b, c, count))
-    go (Some x) e =
-        at x.booked (ap (λ (bs : List Booked). slice_get bs r) (sym (booked_are g.header g.names (history g.script))) ∙ mapped_at (λ (y : ResultAt). y.booked) (results g.header g.names (history g.script)) r x e)
-        (slice_get (variations (history g.script)) v) refl
+results_depend g h r v =
+    let test : Booked → Bool = λ b. holds_at (λ w. result_depends w b.booking) (slice_get (variations (history g.script)) v) in
+    result_is g.header g.names v (history g.script) (accepted g h) r ∙ ap (λ bs. holds_at test (slice_get bs r)) (sym (booked_are g.header g.names (history g.script)))
+    ∙ holds_mapped (λ (x : ResultAt). x.booked) test (results g.header g.names (history g.script)) r

@@ -1,5 +1,5 @@
 -- The first line that is refused, the fields of a finished graph, and what they say of its numbers.
-use Rattle.std.proofs.Common.{◌≡◌, ℕ, List, [], ◌∷◌, ◌++◌, map, Option, Some, None, option_map, refl, sym, ◌∙◌, ap, subst, reverse, length, arith, inl, inr, ◌≤◌, Bool, slice_get, length-append, ◌+◌, ◌<◌, option_and_then}
+use Rattle.std.proofs.Common.{◌≡◌, ℕ, List, [], ◌∷◌, ◌++◌, map, Option, Some, None, option_map, refl, sym, ◌∙◌, ap, subst, reverse, length, arith, inl, inr, ◌≤◌, Bool, slice_get, length-append, ◌+◌, option_and_then}
 use Rattle.std.proofs.lemmas.List.{reverse-append, reverse-reverse, length-map}
 use Rattle.lemmas.proofs.{map_next}
 use Rattle.rdf_values.specs.{AreAccepted, check, Column, FunctionNames, GraphCause, history, Line, Scope, scope_of, Script, Statement, verdict, verdict_after, Booked, bookings, is_watched, IsBookable, IsHeader, IsShort, result_depends, variations, named_before}
@@ -25,7 +25,8 @@ use Rattle.graph.proofs.Depending.{site_set_count as sets_counted}
 use Rattle.graph.proofs.Filled.{all_in_turn}
 use Rattle.graph.proofs.Looped.{bookings_few, loops_few, unwrapped}
 use Rattle.graph.proofs.Listing.{zip_by, zip_map, zip_at, row_set, set_at}
-use Rattle.graph.proofs.Sourced.{sources_are, versions_above}
+use Rattle.graph.proofs.Sourced.{versions_above}
+use Rattle.graph_numbers.proofs.VersionSources.{version_source}
 use Rattle.expr_check.specs.{CheckedExpr}
 use Rattle.graph.specs.declared.tables.ResultPath.{ResultPath}
 
@@ -192,7 +193,7 @@ module _ (ls all : List Line) (header : List Column) (names : FunctionNames) (t 
           ∙ (λ i. map (λ (c : Booked). is_watched (history_of ls header names i) c.name) (bookings (history_of ls header names i)));
       site_sets = λ s v. site_law g graph s v;
       result_sets = λ n v. result_law g graph n v;
-      sources = λ u. subst (λ (vs : List Version). AreSourcesOf vs u (graph_sources g u)) (sym tables_of.version_rows) (sources_are header names (booked_statements g) accepted_here u);
+      sources = λ u. subst (λ (vs : List Version). AreSourcesOf vs u (graph_sources g u)) (sym tables_of.version_rows) (version_source header names (booked_statements g) accepted_here u);
       above = subst AreAbove (sym tables_of.version_rows) (versions_above header names (booked_statements g) accepted_here);
       few_results = result_total;
       few_filters = filter_total;

@@ -87,6 +87,24 @@ module _ {A B : Type 0} (R : A → B → Type 0) where
   zip_map f g (x ∷ xs) [] e h = absurd h
   zip_map f g (x ∷ xs) (y ∷ ys) e h = λ i. e x y h.0 i ∷ zip_map f g xs ys e h.1 i
 
+  -- tests that agree on each pair agree at each place
+  pub zip_holds : (p : A → Bool) (q : B → Bool) → ((x : A) (y : B) → R x y → q y ≡ p x) → (xs : List A) (ys : List B) → AllZip R xs ys → (n : ℕ) → holds_at q (slice_get ys n) ≡ holds_at p (slice_get xs n)
+  zip_holds p q e [] [] h n = refl
+  zip_holds p q e [] (y ∷ ys) h n = absurd h
+  zip_holds p q e (x ∷ xs) [] h n = absurd h
+  zip_holds p q e (x ∷ xs) (y ∷ ys) h zero = e x y h.0
+  zip_holds p q e (x ∷ xs) (y ∷ ys) h (suc n) = zip_holds p q e xs ys h.1 n
+
+  pub zip_mapped : (f : A → B) (xs : List A) → ((n : ℕ) (x : A) → slice_get xs n ≡ Some x → R x (f x)) → AllZip R xs (map f xs)
+  zip_mapped f [] h = tt
+  zip_mapped f (x ∷ xs) h = (h 0 x refl, zip_mapped f xs (λ n. h (suc n)))
+
+-- a test of what was mapped
+pub holds_mapped : {A B : Type 0} (f : A → B) (test : B → Bool) (xs : List A) (n : ℕ) → holds_at test (slice_get (map f xs) n) ≡ holds_at (λ x. test (f x)) (slice_get xs n)
+holds_mapped f test [] n = refl
+holds_mapped f test (x ∷ xs) zero = refl
+holds_mapped f test (x ∷ xs) (suc n) = holds_mapped f test xs n
+
 -- a test of distinct numbers
 any_filtered : (p : ℕ → Bool) (x : ℕ) (ys : List ℕ) → p x ≡ false → list_any p (filter (λ y. not (nat_eq x y)) ys) ≡ list_any p ys
 any_filtered p x [] h = refl
@@ -106,11 +124,7 @@ one_more (Ok u) f all x xs old mid new s is h m a =
     subst (λ ys. AppendsSets (map f ys) old new) (sym is) (record { more = s ∷ a.more; appended = a.appended ∙ ap (λ ys. ys ++ a.more) m ∙ append_assoc old (s ∷ []) a.more; each = (h, a.each) })
 
 pub sets_at : (ds : List Numbers) (ss : List VarSet) → AreSets ds ss → (c v : ℕ) → has_at ss c v ≡ depends_at ds c v
-sets_at [] [] h c v = refl
-sets_at [] (s ∷ ss) h c v = elim h [ ]
-sets_at (d ∷ ds) [] h c v = elim h [ ]
-sets_at (d ∷ ds) (s ∷ ss) h zero v = h.0 v
-sets_at (d ∷ ds) (s ∷ ss) h (suc c) v = sets_at ds ss h.1 c v
+sets_at ds ss h c v = zip_holds IsSet (λ (d : Numbers). d v) (λ s. has s v) (λ d s e. e v) ds ss h c
 
 -- the set in a list, and that of a result's row
 pub set_at : (ds : List Numbers) (ss : List VarSet) → AreSets ds ss → (n : ℕ) (s : VarSet) → slice_get ss n ≡ Some s → IsSet (depends_at ds n) s

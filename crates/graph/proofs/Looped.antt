@@ -11,7 +11,7 @@ use Rattle.rdf_model.proofs.Accepted.{names_equal, itself}
 use Rattle.rdf_model.specs.{Access, accesses, filled_by, loop_results}
 use Rattle.graph_numbers.proofs.Listed.{of_joined}
 use Rattle.graph_numbers.specs.{loops, own_loop, own_run, Pass, passes_from, result_number, runs}
-use Rattle.graph.specs.{AreLoops, AreNamedInTurn, AreRowsOf, BeginsWith, filled_count, filler_of, IsNamedInTurn, IsNoPrint, IsNoted, IsRowOf, passes_of_rows, statements}
+use Rattle.graph.specs.{AreLoops, AreNamedInTurn, AreRowsOf, BeginsWith, filled_count, filler_of, IsNamedInTurn, IsNoted, IsRowOf, passes_of_rows, statements}
 use Rattle.graph.specs.declared.tables.ResultRow.{ResultRow}
 use Rattle.graph.specs.declared.loops.LoopTables.{LoopTables}
 use Rattle.graph.proofs.Filled.{among_less, filled_few, filled_first, later_named, loop_is, is_filled, is_waiting}
@@ -141,8 +141,8 @@ module _ (script before : List Statement) where
   }
 
   -- a line that is no Print
-  pub loops_kept : (s : Statement) (t : LoopTables) → IsNoPrint s → AreLoops script before t → AreLoops script (s ∷ before) t
-  loops_kept (Print r) t is h = absurd is
+  loops_kept : (s : Statement) (t : LoopTables) → ((r : List ℕ) → s ≡ Print r → ⊥) → AreLoops script before t → AreLoops script (s ∷ before) t
+  loops_kept (Print r) t is h = absurd (is r refl)
   loops_kept s t is h = unchanged s t h refl refl refl refl
 
   module _ (r : List ℕ) (turn : IsNamedInTurn before (Print r)) (begins : BeginsWith script before) (n : ℕ) (number : place (λ (b : Booked). same b.name r) (bookings script) ≡ Some n) where
@@ -318,5 +318,5 @@ pub no_lines : (script : List Statement) (lines : List Line) (t : LoopTables) �
 no_lines script [] t e h = h
 no_lines script (l ∷ lines) t e h = absurd (omega (arith, e))
 
-pub line_kept : (script : List Statement) (lines : List Line) (l : Line) (rest : List Line) (t : LoopTables) → lines ≡ l ∷ rest → IsNoPrint l.statement → AreLoops script (statements rest) t → AreLoops script (statements lines) t
+pub line_kept : (script : List Statement) (lines : List Line) (l : Line) (rest : List Line) (t : LoopTables) → lines ≡ l ∷ rest → ((r : List ℕ) → l.statement ≡ Print r → ⊥) → AreLoops script (statements rest) t → AreLoops script (statements lines) t
 line_kept script lines l rest t e is h = subst (λ (ls : List Line). AreLoops script (statements ls) t) (sym e) (loops_kept script (statements rest) l.statement t is h)

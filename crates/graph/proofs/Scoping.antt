@@ -1,5 +1,5 @@
 -- A scope of the columns of an expression means what the node's columns do.
-use Rattle.std.proofs.Common.{if◌then◌else◌, ◌≡◌, ℕ, ◌<◌, Bool, true, false, List, [], ◌∷◌, ◌++◌, All, length, Some, Result, Ok, Err, OnOk, IfOk, IfErr, refl, sym, ◌∙◌, ap, subst, slice_get, nat_eq, arith}
+use Rattle.std.proofs.Common.{if◌then◌else◌, ◌≡◌, ℕ, ◌<◌, Bool, true, false, List, [], ◌∷◌, ◌++◌, All, length, Some, Result, Ok, Err, OnOk, refl, sym, ◌∙◌, ap, subst, slice_get, nat_eq, arith}
 use Rattle.std.specs.List.{AllByRecursion}
 use Rattle.std.proofs.lemmas.List.Elements.{All-push, All-weaker, recursion_from_All}
 use Rattle.lemmas.proofs.{eq_says, within}
@@ -7,7 +7,7 @@ use Rattle.rdf_values.specs.{◌>>=◌, all_renamed, args_count, Bin, Call, call
 use Rattle.rdf_values.specs.Expressions.{Truth}
 use Rattle.rdf_values.specs.declared.graph_cause.GraphCause.TheVariants.{UnknownColumn, WrongCount}
 use Rattle.rdf_model.proofs.Accepted.{names_equal, itself, visible_known}
-use Rattle.expr_check.specs.{CallsFit, CheckedExpr, CheckRefusal, IsWellTyped, number_kind, numbers_in, RefusedAs}
+use Rattle.expr_check.specs.{CallsFit, CheckedExpr, IsWellTyped, number_kind, numbers_in}
 use Rattle.graph.specs.{AreKinds, AreNoted, IsAlike, IsCheckedAt, IsFound, IsScopeAt, IsScopeOf}
 use Rattle.graph_numbers.specs.{named_version, version_at, version_count}
 use Rattle.rdf_model.proofs.KnownColumns.{IsKnownColumn, known_columns, each_weaker}
@@ -177,11 +177,3 @@ module _ (header : List Column) (names : FunctionNames) (before : List Statement
         typed = typed;
         calls = calls;
       }
-
-  pub checked_ok : (r : Result CheckedExpr CheckRefusal) → IfOk r (λ c. kind_of (kinds_in scope) names e ≡ Ok c.kind) → IfOk r (λ c. c.tree ≡ numbered scope names e) → IfOk r (λ c. All (λ n. number_kind (numbers_in scope) n.0 ≡ Ok n.1) c.kinds)
-      → IfOk r (IsWellTyped names) → IfOk r (λ c. CallsFit names c.tree) → IfOk r (IsCheckedAt header names before node e)
-  checked_ok (Ok c) h tree ks typed calls = checked_at c h tree ks typed calls
-  checked_ok (Err x) h tree ks typed calls = tt
-
-  pub checked_err : (r : Result CheckedExpr CheckRefusal) → IfErr r (λ x. RefusedAs x (kind_of (kinds_in scope) names e)) → IfErr r (λ x. RefusedAs x (kind_of (scope_at names (scope_of header) before node) names e))
-  checked_err r h = subst (λ k. IfErr r (λ x. RefusedAs x k)) scope_kind h

@@ -90,8 +90,8 @@ module _ (header : List Column) (names : FunctionNames) (before : List Statement
   pub versions_are : length t.kinds.items ≡ version_count header before
   versions_are = ap length h.versions.are ∙ kind_count header names before
 
-  pub sites_are : length t.sites.items ≡ site_total before
-  sites_are = sites_counted _ names (sites header names before) t.sites.items h.sites ∙ total_is header names before
+  pub sites_are : length t.sites.items ≡ site_count header names before
+  sites_are = sites_counted _ names (sites header names before) t.sites.items h.sites
 
   pub sites_fit : AllByRecursion IsShort before → length before ≤ 256 → length t.sites.items ≤ 16777216
   sites_fit short few =

@@ -1,13 +1,14 @@
 -- Steps of the look-ups that walk the statements so far.
 use Rattle.std.proofs.Common.{◌≡◌, ℕ, Bool, true, false, ◌||◌, List, [], ◌∷◌, ◌++◌, map, refl, sym, ◌∙◌, ap, arith, ◌+◌, if◌then◌else◌, length, zero, suc, ◌≤◌, Some, add-one}
-use Rattle.rdf_values.specs.{aliases, among, Booked, booked_by, Booking, bookings, ColType, column_kind, FunctionNames, is_alias, is_result, is_visible, is_watched, kind_or_int, made_columns, names_of, Path, result_is, same, Scope, Statement, target_of, visible_columns, watched_results, Column, named_before, parent_of, path}
+use Rattle.rdf_values.specs.{aliases, among, Booked, booked_by, Booking, bookings, ColType, column_kind, FunctionNames, is_alias, is_result, is_visible, is_watched, kind_or_int, made_columns, names_of, Path, result_is, same, Scope, Statement, target_of, visible_columns, watched_results, Column, makes, named_before, parent_of, path}
 use Rattle.rdf_values.specs.declared.statement.Statement.TheVariants.{Action, Report, Watch, Define, Redefine, Filter, Vary}
 use Rattle.rdf_model.proofs.Accepted.{itself, names_equal, place_within}
 use Rattle.std.proofs.lemmas.List.{map-append, length-append}
 use Rattle.std.proofs.lemmas.List.Folds.{list_any-append}
 use Rattle.lemmas.proofs.{or_false}
-use Rattle.graph.specs.{books, result_in, count_from, is_named}
-use Rattle.graph_numbers.specs.{column_place, named_version, own_columns, own_version, version_count}
+use Rattle.graph.specs.{books, result_in, count_from, is_named, own_number}
+use Rattle.std.specs.List.{list_any}
+use Rattle.graph_numbers.specs.{all_or, column_place, covered_at, filters_on, named_version, numbers_from, own_columns, own_filter, own_version, version_count}
 
 -- a name among the names of two lists
 among_both : (name : List ℕ) (xs ys : List Booked) → among name (names_of (xs ++ ys)) ≡ (among name (names_of xs) || among name (names_of ys))
@@ -88,3 +89,20 @@ named_few header [] node name = column_few header name
 named_few header (s ∷ before) node name =
     let own = own_few s (version_count header before) (named_version header before (parent_of s) name) name (named_few header before (parent_of s) name) in
     let above = named_few header before node name in grind (arith, own, above)
+
+-- ---- what a Report covers
+
+pub counted_are : {A : Type 0} (n : ℕ) (xs : List A) → numbers_from n xs ≡ count_from n (length xs)
+counted_are n [] = refl
+counted_are n (x ∷ xs) = ap (λ ms. n ∷ ms) (counted_are (suc n) xs)
+
+pub named_is : (s : Statement) (n : ℕ) → own_filter s n ≡ own_number (is_named s) n
+named_is (Filter node parent expr (Some label)) n = refl
+named_is s n = refl
+
+all_or_is : {A : Type 0} (before : List Statement) (node : List ℕ) (all : List A) (on : List ℕ) → all_or (path before node) all on ≡ (if list_any (λ s. makes s node) before then on else numbers_from 0 all)
+all_or_is [] node all on = refl
+all_or_is (s ∷ before) node all on = grind (arith, all_or_is before node all on)
+
+pub covers_are : (before : List Statement) (node : List ℕ) → covered_at before node ≡ (if list_any (λ s. makes s node) before then filters_on before node else count_from 0 (length (named_before before)))
+covers_are before node = all_or_is before node (named_before before) (filters_on before node) ∙ (λ i. if list_any (λ s. makes s node) before then filters_on before node else counted_are 0 (named_before before) i)

@@ -2,7 +2,7 @@
 use Rattle.std.specs.Prelude.{◌≡◌, ℕ, suc, ◌*◌, List, [], ◌∷◌, ◌++◌, Option, Some, None, sum_by, filter, if◌then◌else◌}
 use Rattle.rdf_values.specs.{has_variations, same, Statement}
 use Rattle.rdf_values.specs.declared.statement.Statement.TheVariants.{Action, Report, Print, VariationsFor}
-use Rattle.graph.specs.Dependence.{count_of}
+use Rattle.graph.specs.Dependence.{members_below}
 use Rattle.graph.specs.declared.tables.ResultRow.{ResultRow}
 use Rattle.graph.specs.declared.amounts.Amounts.{Amounts}
 
@@ -13,7 +13,7 @@ asked_after (Some result) before = VariationsFor result ∷ before
 
 -- the passes of a result: the nominal one, and one for each variation on which it depends, where these are asked for
 abbrev pub row_passes : List Statement → ResultRow → ℕ
-row_passes script r = suc (if has_variations script r.name then count_of r.set else 0)
+row_passes script r = suc (if has_variations script r.name then members_below r.set 128 else 0)
 
 abbrev pub cells_in : List Statement → List ResultRow → ℕ
 cells_in script rows = sum_by (λ (r : ResultRow). row_passes script r * r.cells) rows

@@ -2,10 +2,9 @@
 use Rattle.std.specs.Prelude.{ℕ, List, length, Option}
 use Rattle.rdf_values.specs.{ActionKind, check, GraphCause, NamedTree, Scope, scope_at, scope_of, Statement, variations}
 use Rattle.expr_check.specs.{CheckedExpr}
-use Rattle.graph_numbers.specs.{named_version, Version, version_at}
+use Rattle.graph_numbers.specs.{named_version, site_count, varied_versions, Version}
 use Rattle.graph.specs.Gains.{IsActionRow, IsGain}
 use Rattle.graph.specs.Lookups.{IsCheckedAt, statements}
-use Rattle.graph.specs.Rows.{site_total, varied_rows}
 use Rattle.graph.specs.Checks.{AllCheckedAt, Appends}
 use Rattle.graph.specs.Dependence.{changed_set, Numbers}
 use Rattle.graph.specs.declared.before.Before.{Before}
@@ -24,7 +23,7 @@ module _ (b : Before) where
 
   -- how many sites they make
   abbrev pub sites_so_far : ℕ
-  sites_so_far = site_total (statements b.lines.now)
+  sites_so_far = site_count b.header.now b.names.now (statements b.lines.now)
 
   -- what is visible at a node
   abbrev pub scope_before : List ℕ → Scope
@@ -54,11 +53,7 @@ module _ (b : Before) where
   abbrev pub AppendsChecked : List ℕ → List NamedTree → List CheckedExpr → List CheckedExpr → Type 0
   AppendsChecked node es old new = Appends b.header.now b.names.now (statements b.lines.now) node es old new
 
-  -- the version of a column at a node
-  abbrev pub version_before : List ℕ → List ℕ → ℕ
-  version_before node name = version_at b.header.now (statements b.lines.now) node name
-
-  -- that of a column that is no alias
+  -- the version of a column at a node that is no alias
   abbrev pub named_version_before : List ℕ → List ℕ → ℕ
   named_version_before node name = named_version b.header.now (statements b.lines.now) node name
 
@@ -68,4 +63,4 @@ module _ (b : Before) where
 
   -- the versions that a Vary makes of columns, from a place among them on
   abbrev pub versions_changed : Change → ℕ → List (List ℕ) → List Version
-  versions_changed c i columns = varied_rows b.header.now (statements b.lines.now) c.parent.now c.values.now variation_count sites_so_far (length c.tags.now) i columns
+  versions_changed c i columns = varied_versions b.header.now b.names.now (statements b.lines.now) c.parent.now c.values.now c.tags.now i columns

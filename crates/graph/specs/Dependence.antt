@@ -12,15 +12,6 @@ use Rattle.expr_check.specs.{CheckedExpr}
 abbrev pub has : VarSet → ℕ → Bool
 has s v = nat_eq (bit_at s.bits v) 1
 
--- how many numbers below a bound pass the test
-abbrev pub count_below : ℕ → (ℕ → Bool) → ℕ
-count_below zero p = 0
-count_below (suc k) p = (if p 0 then 1 else 0) + count_below k (λ v. p (suc v))
-
--- how many numbers are in the set
-unfoldable pub count_of : VarSet → ℕ
-count_of s = count_below 128 (has s)
-
 -- how many members are below a number
 unfoldable pub members_below : VarSet → ℕ → ℕ
 members_below s zero = 0

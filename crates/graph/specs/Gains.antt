@@ -4,9 +4,9 @@ use Rattle.std.specs.List.{AllZip}
 use Rattle.rdf_values.specs.{ActionKind, Booked, booked_by, bookings, cells_of, check, ColType, Column, column_kind, FunctionNames, kind_or_int, NamedTree, own_variations, scope_at, scope_of, Statement, takes_of, Variation, variations}
 use Rattle.rdf_values.specs.declared.statement.Statement.TheVariants.{Action, Report}
 use Rattle.expr_check.specs.{CallsFit, CheckedExpr, IsWellTyped}
-use Rattle.graph_numbers.specs.{FilterAt, filters, own_kinds, own_sites, results, SiteAt, sites, Version, version_kinds, versions}
+use Rattle.graph_numbers.specs.{FilterAt, filters, own_filters, own_kinds, own_results, own_sites, own_versions, results, site_count, SiteAt, sites, varied_versions, Version, version_kinds, versions}
 use Rattle.graph.specs.Dependence.{Numbers, AreSets, own_version_sets, version_sets, own_site_sets, site_sets, own_result_sets, result_sets, read_sets, changed_set}
-use Rattle.graph.specs.Rows.{named, filter_rows, result_path, result_rows, varied_rows, version_rows, site_total}
+use Rattle.graph.specs.Rows.{named, result_path}
 use Rattle.graph.specs.declared.tables.Change.{Change}
 use Rattle.graph.specs.declared.tables.ResultPath.{ResultPath}
 use Rattle.graph.specs.declared.sets.VarSet.{VarSet}
@@ -43,7 +43,7 @@ paths rs = map (λ (r : ResultRow). r.path) rs
 -- the row of the result that a statement books
 pub record IsBookedRow (header : List Column) (names : FunctionNames) (before : List Statement) (s : Statement) (r : ResultRow) : Type 0 where
   pub rows : AreRows (booked_by before s) (own_result_sets header names before s) (r ∷ [])
-  pub path : r.path ∷ [] ≡ result_rows header before s
+  pub path : r.path ∷ [] ≡ map result_path (own_results header names before s)
 
 -- the row of an action
 abbrev pub IsActionRow : List Column → FunctionNames → List Statement → List ℕ → List ℕ → ActionKind → ResultRow → Type 0
@@ -64,14 +64,14 @@ pub record AreTables (header : List Column) (names : FunctionNames) (before : Li
 -- an accepted statement, and what it adds
 pub record IsGain (header : List Column) (names : FunctionNames) (before : List Statement) (s : Statement) (g : Gain) : Type 0 where
   pub accepted : check names (scope_of header) before s ≡ None
-  pub version_rows : g.versions.items ≡ version_rows header before (length (variations before)) (site_total before) s
+  pub version_rows : g.versions.items ≡ own_versions header names before s
   pub kinds : g.kinds.items ≡ own_kinds header names before s
   pub version_sets : AreSets (own_version_sets header names before (version_sets header names before) s) g.version_sets.items
   pub sites : AreSites (version_kinds header names before) names (own_sites header names before s) g.sites.items
   pub site_sets : AreSets (own_site_sets header names before s) g.site_sets.items
-  pub filters : g.filters.items ≡ filter_rows before (site_total before) s
+  pub filters : g.filters.items ≡ map (λ (f : FilterAt). f.sites) (own_filters header names before s)
   pub results : AreRows (booked_by before s) (own_result_sets header names before s) g.results.items
-  pub paths : paths g.results.items ≡ result_rows header before s
+  pub paths : paths g.results.items ≡ map result_path (own_results header names before s)
   pub variations : g.variations.items ≡ own_variations s
 
 -- tables grow by what one more accepted statement adds
@@ -111,19 +111,19 @@ IsColumnGain versions site c g = Gives (Version.Computed site ∷ []) (c.kind �
 pub record IsMadeGain (header : List Column) (names : FunctionNames) (before : List Statement) (versions : List VarSet) (parent : List ℕ) (expr : NamedTree) (g : Gain) : Type 0 where
   pub site : CheckedExpr
   pub checked : IsCheckedAt header names before parent expr site
-  pub gain : IsColumnGain versions (site_total before) site g
+  pub gain : IsColumnGain versions (site_count header names before) site g
 
 -- a report's row
-pub record IsReportGain (before : List Statement) (name parent : List ℕ) (g : Gain) : Type 0 where
+pub record IsReportGain (header : List Column) (names : FunctionNames) (before : List Statement) (name parent : List ℕ) (g : Gain) : Type 0 where
   pub row : ResultRow
-  pub is : (header : List Column) (names : FunctionNames) → IsBookedRow header names before (Report name parent) row
+  pub is : IsBookedRow header names before (Report name parent) row
   pub gain : IsRowGain row g
 
 -- the columns, sites and variations of a Vary
 abbrev pub IsVaryGain : List Column → FunctionNames → List Statement → Tables → Change → List CheckedExpr → Gain → Type 0
 IsVaryGain header names before t c cs g =
     Gives
-    (varied_rows header before c.parent.now c.values.now (length (variations before)) (site_total before) (length c.tags.now) 0 c.columns.now)
+    (varied_versions header names before c.parent.now c.values.now c.tags.now 0 c.columns.now)
     (map (λ n. kind_or_int (column_kind (scope_at names (scope_of header) before c.parent.now) n)) c.columns.now)
     (map (changed_set header before t.version_sets.items c.parent.now (length (variations before)) (length c.tags.now)) c.columns.now)
     cs (read_sets t.version_sets.items cs) [] [] (named c.name.now c.tags.now) g

@@ -11,11 +11,6 @@ use Rattle.graph.specs.declared.loops.LoopTables.{LoopTables}
 
 -- ---- statements
 
--- the statement is no Print
-abbrev pub IsNoPrint : Statement → Type 0
-IsNoPrint (Print result) = ⊥
-IsNoPrint s = ⊤
-
 -- a result that is booked is new, and one that is printed isn't
 abbrev pub IsNamedInTurn : List Statement → Statement → Type 0
 IsNamedInTurn before (Action result parent k) = is_result before result ≡ false

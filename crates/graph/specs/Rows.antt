@@ -1,10 +1,10 @@
--- What a statement adds to the lists of versions, sites, named filters, results and variations, by the numbers of its first site and variation.
+-- How many sites statements have, the numbers of their filters, and what is kept of columns, named filters, results and variations.
 use Rattle.std.specs.Prelude.{ℕ, ◌+◌, Bool, true, false, List, [], ◌∷◌, ◌++◌, length, if◌then◌else◌, zero, suc, map, Option, Some, None, option_to_list}
-use Rattle.rdf_values.specs.{makes, NamedTree, parent_of, Statement, Column, columns_of, named_before, VaryValues, same, Variation}
+use Rattle.rdf_values.specs.{Column, FunctionNames, makes, NamedTree, parent_of, same, Statement, Variation}
 use Rattle.rdf_values.specs.declared.vary_values.VaryValues.TheVariants.{Lists, Vector}
-use Rattle.rdf_values.specs.declared.statement.Statement.TheVariants.{Define, Redefine, Filter, Vary, Action, Report}
+use Rattle.rdf_values.specs.declared.statement.Statement.TheVariants.{Define, Redefine, Filter, Vary}
 use Rattle.std.specs.List.{list_any}
-use Rattle.graph_numbers.specs.{kind_of_booking, list_start, named_version, ResultAt, ResultKind, Version, version_at}
+use Rattle.graph_numbers.specs.{filter_sites, kind_of_booking, ResultAt, site_count, Version}
 use Rattle.graph.specs.declared.tables.ResultPath.{ResultPath}
 
 -- how many expressions lists have
@@ -51,24 +51,6 @@ abbrev pub cell_rows : ℕ → List Column → List Version
 cell_rows n [] = []
 cell_rows n (c ∷ cs) = Version.Cell n ∷ cell_rows (suc n) cs
 
--- a column that a Vary changes, over the version below
-abbrev pub varied_row : VaryValues → ℕ → ℕ → ℕ → ℕ → ℕ → Version
-varied_row (Lists lists) below first site tags i = Version.Varied below first tags (count_from (site + list_start lists i) tags) false
-varied_row (Vector e) below first site tags i = Version.Varied below first tags (site ∷ []) true
-
--- those that a Vary changes, from place i on
-abbrev pub varied_rows : List Column → List Statement → List ℕ → VaryValues → ℕ → ℕ → ℕ → ℕ → List (List ℕ) → List Version
-varied_rows header before parent values first site tags i [] = []
-varied_rows header before parent values first site tags i (name ∷ columns) =
-    varied_row values (named_version header before parent name) first site tags i ∷ varied_rows header before parent values first site tags (suc i) columns
-
--- the columns that a statement makes or changes
-abbrev pub version_rows : List Column → List Statement → ℕ → ℕ → Statement → List Version
-version_rows header before first site (Define node parent column expr) = Version.Computed site ∷ []
-version_rows header before first site (Redefine node parent column expr) = Version.Computed site ∷ []
-version_rows header before first site (Vary node parent columns values tags vary) = varied_rows header before parent values first site (length tags) 0 columns
-version_rows header before first site s = []
-
 -- ---- named filters
 
 -- the statement is a named Filter
@@ -87,38 +69,11 @@ labels [] = []
 labels (s ∷ before) = labels before ++ option_to_list (own_label s)
 
 -- the sites of a Filter at a node, where it is named: of those above it, and its own
-abbrev pub named_rows : List Statement → ℕ → List ℕ → Option (List ℕ) → List (List ℕ)
-named_rows before site parent (Some label) = (filter_numbers before parent ++ site ∷ []) ∷ []
-named_rows before site parent None = []
-
--- those of the statement
-abbrev pub filter_rows : List Statement → ℕ → Statement → List (List ℕ)
-filter_rows before site (Filter node parent expr label) = named_rows before site parent label
-filter_rows before site s = []
-
--- so many named filters
-abbrev pub named_count : List Statement → ℕ
-named_count before = length (named_before before)
-
--- the named filters of the path of a node, head first
-abbrev pub named_numbers : List Statement → List ℕ → List ℕ
-named_numbers [] node = []
-named_numbers (s ∷ before) node =
-    if makes s node then named_numbers before (parent_of s) ++ own_number (is_named s) (named_count before) else named_numbers before node
+abbrev pub named_rows : List Column → FunctionNames → List Statement → List ℕ → Option (List ℕ) → List (List ℕ)
+named_rows header names before parent (Some label) = (filter_sites header names before parent ++ site_count header names before ∷ []) ∷ []
+named_rows header names before parent None = []
 
 -- ---- results
-
--- the filters that a Report on a node covers
-abbrev pub covered_numbers : List Statement → List ℕ → List ℕ
-covered_numbers before node = if list_any (λ s. makes s node) before then named_numbers before node else count_from 0 (named_count before)
-
--- the result that a statement books
-abbrev pub result_rows : List Column → List Statement → Statement → List ResultPath
-result_rows header before (Action result parent k) =
-    record { kind = ResultKind.Action k; filters = filter_numbers before parent; inputs = map (version_at header before parent) (columns_of k); covers = [] } ∷ []
-result_rows header before (Report result parent) =
-    record { kind = ResultKind.Report; filters = filter_numbers before parent; inputs = []; covers = covered_numbers before parent } ∷ []
-result_rows header before s = []
 
 -- a result as it is kept
 abbrev pub result_path : ResultAt → ResultPath

@@ -1,10 +1,10 @@
 // What stands before a statement, the columns and expressions at its nodes, and the checks that several statements share.
-ghost use Rattle.std.specs.Prelude.{◌≡◌, ◌≤◌, ◌<◌, ◌++◌, ◌∷◌, [], length, map, slice_get, Some, Err, Result, MatchOption, IfOk, IfErr, OnOk};
+ghost use Rattle.std.specs.Prelude.{◌≡◌, ◌≤◌, ◌<◌, ◌++◌, ◌∷◌, [], length, map, slice_get, Some, Err, Result, MatchOption, IfOk, OnOk};
 ghost use Rattle.std.specs.List.{AllByRecursion};
-ghost use Rattle.rdf_values.specs.{check_node, check_target, ColType, column_kind, columns_in, columns_in_all, expect_kind, GraphCause, is_visible, IsShort, kind_of, kind_or_int, path, refusal_in, same_kind, tree_of, trees_of};
-ghost use Rattle.rdf_values.specs.declared.graph_cause.GraphCause.TheVariants.{UnknownColumn};
+ghost use Rattle.rdf_values.specs.{check_node, check_target, ColType, column_kind, columns_in, columns_in_all, expect_kind, GraphCause, is_visible, IsShort, kind_of, kind_or_int, path, refusal_in, refuse_if, same_kind, tree_of, trees_of};
+ghost use Rattle.rdf_values.specs.declared.graph_cause.GraphCause.TheVariants.{NameTaken, UnknownColumn};
 ghost use Rattle.expr_check.specs.{RefusedAs};
-ghost use Rattle.graph_numbers.specs.{version_at};
+ghost use Rattle.graph_numbers.specs.{filter_sites, version_at};
 ghost use Rattle.graph.specs.Checks.{IsStop};
 ghost use Rattle.graph.specs.Gains.{AreTables};
 ghost use Rattle.graph.specs.Lookups.{statements};
@@ -101,19 +101,20 @@ pub(crate) struct Before<'a> {
 }
 
 impl Before<'_> {
-    ghost use Rattle.graph.specs.{AreNoted, Decides, filter_numbers, history, IsCheckedBefore, IsFound, IsScopeAt, IsScopeOf, named_version_before, scope_before, site_total};
+    ghost use Rattle.graph.specs.{AreNoted, Decides, history, IsCheckedBefore, IsFound, IsScopeAt, IsScopeOf, named_version_before, scope_before, sites_so_far};
 
     /// How many sites there are.
     pub(crate) fn sites(&self) -> u32
-        ensures value { result ≡ site_total (history self.now) }
+        ensures value { result ≡ sites_so_far self.now }
         ensures few { result ≤ 16777216 }
     {
         self.tables.sites.as_slice().len() as u32
     }
 
     /// The sites of the filters above a node, head first.
+    #[tactic(auto, using(crate::proofs::SiteTotals::numbers_are, crate::proofs::SiteTotals::total_is))]
     pub(crate) fn filters_above(&self, alloc: Global, node: &Name) -> Result<ListOf<u32>, Memory>
-        ensures { IfOk result (λ l. l ≡ filter_numbers (history self.now) node.now) }
+        ensures { IfOk result (λ l. l ≡ filter_sites self.now.header.now self.now.names.now (history self.now) node.now) }
     {
         filter_sites(alloc, self.lines, self.sites(), node)
     }
@@ -212,22 +213,6 @@ impl Before<'_> {
         Ok(scope)
     }
 
-    /// The expression over the versions that its columns have at a node, or its first refusal.
-    pub(crate) fn check_at(
-        &self,
-        alloc: Global,
-        node: &Name,
-        expr: &Expr,
-    ) -> Result<Checked, CheckRefusal>
-        ensures checked { IfOk result (IsCheckedBefore self.now node.now expr.now) }
-        ensures refused { IfErr result (λ e. RefusedAs e (kind_of (scope_before self.now node.now) self.now.names.now expr.now)) }
-    {
-        match self.scope_for(alloc, node, expr) {
-            Err(_) => Err(CheckRefusal::Memory),
-            Ok(scope) => check(alloc, expr, &scope, self.names),
-        }
-    }
-
     /// A new node or result.
     pub(crate) fn check_node(&self, node: &Name, parent: &Name) -> Option<GraphCause>
         ensures { result ≡ check_node (history self.now) node.now parent.now }
@@ -245,6 +230,13 @@ impl Before<'_> {
         is_visible(self.lines, self.header, node, column)
     }
 
+    /// A column or an alias that a statement makes new.
+    pub(crate) fn check_new(&self, parent: &Name, column: &Name) -> Option<GraphCause>
+        ensures { result ≡ refuse_if (is_visible (scope_before self.now parent.now) column.now) NameTaken }
+    {
+        refuse_if(self.sees(parent, column), GraphCause::NameTaken)
+    }
+
     /// A column that a statement changes.
     pub(crate) fn check_target(&self, parent: &Name, column: &Name) -> Option<GraphCause>
         ensures { result ≡ check_target (scope_before self.now parent.now) (path (history self.now) parent.now) column.now }
@@ -257,8 +249,8 @@ impl Before<'_> {
         ])
     }
 
-    /// An expression at a node.
-    #[tactic(auto, using(crate::proofs::Checking::kind_passed))]
+    /// An expression over the versions that its columns have at a node.
+    #[tactic(auto, using(crate::proofs::Checking::no_memory))]
     pub(crate) fn expression(
         &self,
         alloc: Global,
@@ -268,7 +260,8 @@ impl Before<'_> {
         ensures checked { IfOk result (IsCheckedBefore self.now node.now expr.now) }
         ensures decided { Decides (refusal_in (kind_of (scope_before self.now node.now) self.now.names.now expr.now)) result }
     {
-        match self.check_at(alloc, node, expr) {
+        let scope = self.scope_for(alloc, node, expr)?;
+        match check(alloc, expr, &scope, self.names) {
             Ok(checked) => Ok(checked),
             Err(refusal) => Err(stop_of(refusal)),
         }

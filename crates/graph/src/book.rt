@@ -1,22 +1,22 @@
 // The booking of a script's lines: each is checked after those before it, and then added.
-ghost use Rattle.std.specs.Prelude.{◌≡◌, ◌≤◌, length, reverse, None, Option, IfOk, IfErr, ◌+◌};
+ghost use Rattle.std.specs.Prelude.{◌≡◌, ◌≤◌, ◌∷◌, [], length, reverse, None, Option, IfOk, IfErr, ◌+◌};
 ghost use Rattle.std.specs.List.{AllByRecursion};
-ghost use Rattle.rdf_values.specs.{GraphCause, IsShort, kind_of, refusal_in, scope_of};
+ghost use Rattle.rdf_values.specs.{check_node, first_refusal, GraphCause, IsShort, kind_of, refusal_in, scope_of};
 ghost use Rattle.graph.specs.{AreTables, IsRefusal, IsStop, refused, refused_then, statements, Decides, IsGainAfter, verdict_after, history, IsColumnGain, IsEmptyGain, IsFilterGain, IsMadeGain, IsReportGain, IsRowGain, IsVaryGain, named_rows, scope_before, sites_so_far, variation_count};
-ghost use Rattle.rdf_values.specs.declared.statement.Statement.TheVariants.{Define, Redefine, Alias, Filter, Vary, Action, Report};
+ghost use Rattle.rdf_values.specs.declared.statement.Statement.TheVariants.{Alias, Filter, Vary, Action, Report};
 
 use crate::before::Before;
 use crate::copies::alone;
 use crate::lookup::covered;
-use crate::refusals::{GraphRefusal, Stop, first_of, refuse_if, refuse_unless, stop_if};
+use crate::refusals::{GraphRefusal, Stop, first_of, refuse_unless, stop_if};
 use crate::result_checks::{
     check_action, check_print, check_report, check_variations_for, check_watch,
 };
-use crate::sets::{VarSet, changed_sets, kinds_at, sets_of};
+use crate::sets::{VarSet, kinds_at, push_changed, sets_of};
 use crate::tables::{Change, Gain, ResultPath, ResultRow, Tables};
 use crate::variations::full_names;
 use crate::vary_checks::check_vary;
-use crate::versions::varied_versions;
+use crate::versions::push_varied;
 use expr_check::Checked;
 use graph_numbers::{ResultKind, Version};
 use rdf_values::{
@@ -98,13 +98,19 @@ pub(crate) fn check_statement(
             parent,
             column,
             expr,
-        } => define_gain(alloc, before, node, parent, column, expr),
+        } => {
+            let taken = before.check_new(parent, column);
+            made_gain(alloc, before, node, parent, taken, expr)
+        }
         Statement::Redefine {
             node,
             parent,
             column,
             expr,
-        } => redefine_gain(alloc, before, node, parent, column, expr),
+        } => {
+            let wrong = before.check_target(parent, column);
+            made_gain(alloc, before, node, parent, wrong, expr)
+        }
         Statement::Filter {
             node,
             parent,
@@ -139,7 +145,7 @@ pub(crate) fn check_statement(
             parent,
             column,
             target,
-        } => alias_gain(alloc, before, node, parent, column, target),
+        } => nothing(alloc, Ok(check_alias(before, node, parent, column, target))),
         Statement::VariationsFor { result } => nothing(alloc, check_variations_for(before, result)),
         Statement::Watch { result } => nothing(alloc, Ok(check_watch(before, result))),
         Statement::Print { result } => nothing(alloc, check_print(before, result)),
@@ -181,7 +187,7 @@ fn named_filter(
     parent: &Name,
     label: &Option<Label>,
 ) -> Result<Vec<ListOf<u32>>, Memory>
-    ensures { IfOk result (λ rows. rows.items ≡ named_rows (history before.now) (sites_so_far before.now) parent.now label.now) }
+    ensures { IfOk result (λ rows. rows.items ≡ named_rows before.now.header.now before.now.names.now (history before.now) parent.now label.now) }
 {
     match label {
         None => Ok(Vec::new(alloc)),
@@ -201,7 +207,7 @@ fn site_gain(
     label: &Option<Label>,
     site: Checked,
 ) -> Result<Gain, Memory>
-    ensures { IfOk result (IsFilterGain before.now.tables.now.version_sets.items site (named_rows (history before.now) (sites_so_far before.now) parent.now label.now)) }
+    ensures { IfOk result (IsFilterGain before.now.tables.now.version_sets.items site (named_rows before.now.header.now before.now.names.now (history before.now) parent.now label.now)) }
 {
     let filters = named_filter(alloc, before, parent, label)?;
     let sites = alone(alloc, site)?;
@@ -258,52 +264,23 @@ pub(crate) fn filter_gain(
     Ok(gain)
 }
 
-/// An expression at a node as a site, and the version that it makes.
-#[tactic(auto, using(crate::proofs::Checking::handed_on, crate::proofs::Checking::no_memory))]
-fn made_gain(alloc: Global, before: &Before<'_>, parent: &Name, expr: &Expr) -> Result<Gain, Stop>
+/// What a statement adds that makes a column by an expression, where there may be something wrong with the column.
+#[tactic(auto, using(crate::proofs::Checking::no_memory))]
+fn made_gain(
+    alloc: Global,
+    before: &Before<'_>,
+    node: &Name,
+    parent: &Name,
+    wrong: Option<GraphCause>,
+    expr: &Expr,
+) -> Result<Gain, Stop>
     ensures made { IfOk result (IsMadeGain before.now.header.now before.now.names.now (history before.now) before.now.tables.now.version_sets.items parent.now expr.now) }
-    ensures decided { Decides (refusal_in (kind_of (scope_before before.now parent.now) before.now.names.now expr.now)) result }
+    ensures decided { Decides (first_refusal (check_node (history before.now) node.now parent.now ∷ wrong ∷ refusal_in (kind_of (scope_before before.now parent.now) before.now.names.now expr.now) ∷ [])) result }
 {
+    stop_if(first_of(&[before.check_node(node, parent), wrong]))?;
     let site = before.expression(alloc, parent, expr)?;
     let gain = column_gain(alloc, before, site)?;
     Ok(gain)
-}
-
-/// What a Define adds.
-pub(crate) fn define_gain(
-    alloc: Global,
-    before: &Before<'_>,
-    node: &Name,
-    parent: &Name,
-    column: &Name,
-    expr: &Expr,
-) -> Result<Gain, Stop>
-    ensures gained { IfOk result (IsGainAfter before.now (Define node.now parent.now column.now expr.now)) }
-    ensures decided { Decides (verdict_after before.now (Define node.now parent.now column.now expr.now)) result }
-{
-    let taken = before.sees(parent, column);
-    stop_if(first_of(&[
-        before.check_node(node, parent),
-        refuse_if(taken, GraphCause::NameTaken),
-    ]))?;
-    made_gain(alloc, before, parent, expr)
-}
-
-/// What a Redefine adds.
-pub(crate) fn redefine_gain(
-    alloc: Global,
-    before: &Before<'_>,
-    node: &Name,
-    parent: &Name,
-    column: &Name,
-    expr: &Expr,
-) -> Result<Gain, Stop>
-    ensures gained { IfOk result (IsGainAfter before.now (Redefine node.now parent.now column.now expr.now)) }
-    ensures decided { Decides (verdict_after before.now (Redefine node.now parent.now column.now expr.now)) result }
-{
-    let wrong = before.check_target(parent, column);
-    stop_if(first_of(&[before.check_node(node, parent), wrong]))?;
-    made_gain(alloc, before, parent, expr)
 }
 
 /// A result.
@@ -340,7 +317,7 @@ fn booked_report(
     name: &Name,
     parent: &Name,
 ) -> Result<Gain, Memory>
-    ensures { IfOk result (IsReportGain (history before.now) name.now parent.now) }
+    ensures { IfOk result (IsReportGain before.now.header.now before.now.names.now (history before.now) name.now parent.now) }
 {
     let named = before.tables.filters.as_slice().len() as u32;
     let path = ResultPath {
@@ -387,9 +364,11 @@ fn varied_gain(
 {
     let columns = change.columns;
     let tags = change.tags.len() as u32;
-    let versions = varied_versions(alloc, before, change)?;
+    let mut versions = Vec::new(alloc);
+    push_varied(alloc, &mut versions, before, change, 0, columns)?;
     let kinds = kinds_at(alloc, before, change.parent, columns)?;
-    let version_sets = changed_sets(alloc, before, change.parent, tags, columns)?;
+    let mut version_sets = Vec::new(alloc);
+    push_changed(before, change.parent, tags, columns, &mut version_sets)?;
     let sets = before.tables.version_sets.as_slice();
     let site_sets = sets_of(alloc, sets, sites.as_slice())?;
     Ok(Gain {
@@ -419,24 +398,20 @@ pub(crate) fn vary_gain(
     Ok(gain)
 }
 
-/// What an Alias adds: nothing.
-pub(crate) fn alias_gain(
-    alloc: Global,
+/// An Alias.
+fn check_alias(
     before: &Before<'_>,
     node: &Name,
     parent: &Name,
     column: &Name,
     target: &Name,
-) -> Result<Gain, Stop>
-    ensures gained { IfOk result (IsGainAfter before.now (Alias node.now parent.now column.now target.now)) }
-    ensures decided { Decides (verdict_after before.now (Alias node.now parent.now column.now target.now)) result }
+) -> Option<GraphCause>
+    ensures { result ≡ verdict_after before.now (Alias node.now parent.now column.now target.now) }
 {
-    let taken = before.sees(parent, column);
     let known = before.sees(parent, target);
-    stop_if(first_of(&[
+    first_of(&[
         before.check_node(node, parent),
-        refuse_if(taken, GraphCause::NameTaken),
+        before.check_new(parent, column),
         refuse_unless(known, GraphCause::UnknownColumn),
-    ]))?;
-    Ok(empty_gain(alloc))
+    ])
 }

@@ -2,8 +2,8 @@
 ghost use Rattle.std.specs.Prelude.{◌≡◌, ◌<◌, ◌≤◌, ◌+◌, true, false, codes, length, MatchOption, IfSome, Some, option_map, slice_get, IfOk, List, []};
 ghost use Rattle.std.specs.List.{list_any};
 ghost use Rattle.rdf_values.specs.{FunctionNames, is_alias, is_in_use, is_node, is_result, is_visible, made_columns, makes, parent_of, path, place, same, scope_at, scope_of, target_of, expression_count, named_before, ActionAt, among, booked_by, bookings, can_watch, filled, is_report, is_watched, names_of, Path, result_is, Statement, watched_results};
-ghost use Rattle.graph.specs.{books, own_alias, own_made, own_target, statements, count_from, covered_numbers, filter_numbers, is_named, labels, named_numbers, own_label, site_total, expression_total, is_filter, own_site_total, result_in};
-ghost use Rattle.graph_numbers.specs.{column_place, named_version, own_columns, own_version, version_count, list_start};
+ghost use Rattle.graph.specs.{books, own_alias, own_made, own_target, statements, count_from, filter_numbers, is_named, labels, own_label, site_total, expression_total, is_filter, own_site_total, result_in};
+ghost use Rattle.graph_numbers.specs.{column_place, covered_at, filters_on, named_version, own_columns, own_version, version_count, list_start};
 ghost use Rattle.rdf_values.specs.declared.statement.Statement.TheVariants.{Watch};
 
 use rdf_values::{
@@ -401,10 +401,10 @@ pub(crate) fn label_of(lines: &[Line], f: usize, count: usize) -> &Label
 }
 
 /// The named filters of the path of a node, head first, where there are so many named filters.
-#[tactic(auto, using(crate::proofs::Walking::named_more))]
+#[tactic(auto, using(crate::proofs::Walking::named_more, crate::proofs::Walking::named_is))]
 fn named_on(alloc: Global, before: &[Line], count: u32, node: &Name) -> Result<ListOf<u32>, Memory>
     requires { count ≡ length (named_before (statements before.now)) }
-    ensures { IfOk result (λ l. l ≡ named_numbers (statements before.now) node.now) }
+    ensures { IfOk result (λ l. l ≡ filters_on (statements before.now) node.now) }
 {
     let Some((last, rest)) = before.split_first() else {
         return Ok(ListOf::new(alloc));
@@ -424,6 +424,7 @@ fn named_on(alloc: Global, before: &[Line], count: u32, node: &Name) -> Result<L
 }
 
 /// The named filters that a Report on a node covers, where there are so many named filters.
+#[tactic(auto, using(crate::proofs::Walking::covers_are))]
 pub(crate) fn covered(
     alloc: Global,
     before: &[Line],
@@ -431,7 +432,7 @@ pub(crate) fn covered(
     node: &Name,
 ) -> Result<ListOf<u32>, Memory>
     requires { count ≡ length (named_before (statements before.now)) }
-    ensures { IfOk result (λ l. l ≡ covered_numbers (statements before.now) node.now) }
+    ensures { IfOk result (λ l. l ≡ covered_at (statements before.now) node.now) }
 {
     if is_made_node(before, node) {
         named_on(alloc, before, count, node)

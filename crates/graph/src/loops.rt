@@ -1,8 +1,8 @@
 // The event loops of a script and the loop that each Print runs.
-ghost use Rattle.std.specs.Prelude.{◌≡◌, ◌≤◌, ◌<◌, ◌+◌, ◌++◌, ◌∷◌, [], Some, length, map, take, drop, ◌-◌, List, IfOk, IfSome, OnOk, MatchOption, slice_get};
+ghost use Rattle.std.specs.Prelude.{◌≡◌, ◌≤◌, ◌<◌, ◌+◌, ◌++◌, ◌∷◌, [], Some, length, map, take, drop, ◌-◌, List, IfOk, IfSome, OnOk, slice_get};
 ghost use Rattle.rdf_values.specs.{is_watched, place, same};
 ghost use Rattle.graph_numbers.specs.{numbered_pass};
-ghost use Rattle.graph.specs.LoopRows.{IsNoPrint, AreNamedInTurn, members_from, IsScriptRows, passes_of_rows, AreLoops, BeginsWith};
+ghost use Rattle.graph.specs.LoopRows.{AreNamedInTurn, members_from, IsScriptRows, passes_of_rows, AreLoops, BeginsWith};
 ghost use Rattle.graph.specs.OneProof.{script_rows-prop};
 ghost use Rattle.graph.specs.Lookups.{statements};
 ghost use Rattle.graph.specs.Dependence.{has};
@@ -119,22 +119,12 @@ pub(crate) fn loop_tables(
         return Ok(LoopTables::new(alloc));
     };
     let mut tables = loop_tables(alloc, script, rest)?;
-    match printed(&last.statement) {
-        None => Ok(tables),
-        Some(name) => {
-            tables.add_print(alloc, script, rest, name)?;
+    match &last.statement {
+        Statement::Print { result } => {
+            tables.add_print(alloc, script, rest, result)?;
             Ok(tables)
         }
-    }
-}
-
-/// The result of a Print.
-fn printed(statement: &Statement) -> Option<&Name>
-    ensures { MatchOption result (IsNoPrint statement.now) (λ r. statement.now ≡ Statement.Print r.now) }
-{
-    match statement {
-        Statement::Print { result } => Some(result),
-        _ => None,
+        _ => Ok(tables),
     }
 }
 

@@ -1,6 +1,6 @@
 // Sets of variations of versions, sites and filters.
 ghost use Rattle.std.specs.Prelude.{◌≡◌, ◌<◌, ◌≤◌, ◌||◌, ℕ, false, nat_eq, MatchOption, ◌+◌, map, IfOk, OnOk};
-ghost use Rattle.graph.specs.{count_of, has, IsNext, members_below, any_has, has_at, is_among_own, AppendsSets, AreSets, changed_set, read_sets, scope_before, set_changed, variation_count};
+ghost use Rattle.graph.specs.{has, IsNext, members_below, any_has, has_at, is_among_own, AppendsSets, AreSets, changed_set, read_sets, scope_before, set_changed, variation_count};
 ghost use Rattle.rdf_values.specs.{column_kind, columns_in, kind_or_int};
 
 use crate::before::Before;
@@ -55,7 +55,6 @@ impl VarSet {
     /// How many numbers are in the set.
     #[tactic(auto, using(crate::proofs::Bits::counted_all))]
     pub fn count(self) -> u32
-        ensures value { result ≡ count_of self }
         ensures members { result ≡ members_below self 128 }
         ensures bound { result ≤ 128 }
         ensures above { (v : ℕ) → 128 ≤ v → has self v ≡ false }
@@ -166,9 +165,9 @@ fn changed_set(before: &Before<'_>, parent: &Name, tags: u32, column: &Name) -> 
     own_set(first, tags).union(set_at(versions, below as usize))
 }
 
-/// Those of columns, appended.
+/// Those of columns that a Vary changes, appended.
 #[tactic(auto, using(crate::proofs::Listing::one_more))]
-fn push_changed(
+pub(crate) fn push_changed(
     before: &Before<'_>,
     parent: &Name,
     tags: u32,
@@ -183,22 +182,6 @@ fn push_changed(
     };
     sets.push(changed_set(before, parent, tags, column))?;
     push_changed(before, parent, tags, rest, sets)
-}
-
-/// What the columns that a Vary changes depend on.
-pub(crate) fn changed_sets(
-    alloc: Global,
-    before: &Before<'_>,
-    parent: &Name,
-    tags: u32,
-    columns: &[Name],
-) -> Result<Vec<VarSet>, Memory>
-    requires { variation_count before.now + tags ≤ 128 }
-    ensures { IfOk result (λ sets. AreSets (map (set_changed before.now parent.now tags) columns.now) sets.items) }
-{
-    let mut sets = Vec::new(alloc);
-    push_changed(before, parent, tags, columns, &mut sets)?;
-    Ok(sets)
 }
 
 /// The kinds of columns at a node, and that of a number where there is none.

@@ -1,7 +1,7 @@
 // The versions that the table and a Vary make.
-ghost use Rattle.std.specs.Prelude.{◌≡◌, ◌≤◌, ◌+◌, ◌++◌, length, IfOk, OnOk, ◌<◌, List, Some, slice_get, IfSome};
-ghost use Rattle.graph.specs.{cell_rows, named_version_before, sites_so_far, variation_count, varied_row, versions_changed, AreAbove, AreSourcesOf, HasSites, tag_at, tag_source};
-ghost use Rattle.graph_numbers.specs.{Source};
+ghost use Rattle.std.specs.Prelude.{◌≡◌, ◌≤◌, ◌+◌, ◌++◌, length, IfOk, OnOk, ◌<◌, List, Some, slice_get, MatchOption, ℕ};
+ghost use Rattle.graph.specs.{cell_rows, named_version_before, sites_so_far, variation_count, versions_changed, AreAbove, AreSourcesOf, HasSites};
+ghost use Rattle.graph_numbers.specs.{Source, tag_source, varied_version};
 
 use crate::before::Before;
 use crate::copies::push;
@@ -28,6 +28,7 @@ pub(crate) fn push_cells(
 }
 
 /// The column at a place of a Vary, over the version below it.
+#[tactic(auto, using(crate::proofs::Walking::counted_are))]
 fn varied_version(
     alloc: Global,
     before: &Before<'_>,
@@ -35,7 +36,7 @@ fn varied_version(
     i: usize,
     column: &Name,
 ) -> Result<Version, Memory>
-    ensures { IfOk result (λ v. v ≡ varied_row change.now.values.now (named_version_before before.now change.now.parent.now column.now) (variation_count before.now) (sites_so_far before.now) (length change.now.tags.now) i) }
+    ensures { IfOk result (λ v. v ≡ varied_version before.now.header.now before.now.names.now change.now.values.now (named_version_before before.now change.now.parent.now column.now) (variation_count before.now) (sites_so_far before.now) change.now.tags.now i) }
 {
     let below = before.named_version(change.parent, column);
     let first = before.tables.variations.len();
@@ -68,7 +69,7 @@ fn varied_version(
 }
 
 /// Appends the columns that a Vary changes, from a place on.
-fn push_varied(
+pub(crate) fn push_varied(
     alloc: Global,
     versions: &mut Vec<Version>,
     before: &Before<'_>,
@@ -86,23 +87,9 @@ fn push_varied(
     push_varied(alloc, versions, before, change, i + 1, rest)
 }
 
-/// The columns that a Vary changes.
-pub(crate) fn varied_versions(
-    alloc: Global,
-    before: &Before<'_>,
-    change: &Change<'_>,
-) -> Result<Vec<Version>, Memory>
-    ensures { IfOk result (λ v. v.items ≡ versions_changed before.now change.now 0 change.now.columns.now) }
-{
-    let mut versions = Vec::new(alloc);
-    push_varied(alloc, &mut versions, before, change, 0, change.columns)?;
-    Ok(versions)
-}
-
 /// The place of a variation among so many from the first on.
 fn tag_at(under: Option<u32>, first: u32, tags: u32) -> Option<u32>
-    ensures value { result ≡ tag_at under first tags }
-    ensures within { IfSome result (λ k. k < tags) }
+    ensures { MatchOption result ((k : ℕ) → k < tags → under ≡ Some (first + k) → ⊥) (λ k. (k < tags) × (under ≡ Some (first + k))) }
 {
     match under {
         Some(v) if first <= v && v - first < tags => Some(v - first),
@@ -114,7 +101,7 @@ fn tag_at(under: Option<u32>, first: u32, tags: u32) -> Option<u32>
 fn tag_source(sites: &[u32], vector: bool, tags: u32, k: u32) -> Source
     requires sites { HasSites vector (length sites.now) tags }
     requires tag { k < tags }
-    ensures { tag_source sites.now vector tags k ≡ Some result }
+    ensures { tag_source sites.now tags vector k ≡ Some result }
 {
     if vector {
         Source::Element {

@@ -17,8 +17,8 @@ covered-requires c = ap length c.as_slice.ensures.value ∙ filters_are c.args.b
 
 pub returns : goal.returns
 returns c =
-    report_alone (statements c.args.before.now.lines.now) c.args.name.now c.args.parent.now _ c.row_gain.result
-    (λ header names. record {
+    report_alone c.args.before.now.header.now c.args.before.now.names.now (statements c.args.before.now.lines.now) c.args.name.now c.args.parent.now _ c.row_gain.result
+    (record {
       rows = ((record { name = c.in_ok-copy.ensures; cells = refl; takes = refl }, tt), (c.empty.ensures, tt));
       path = λ i. record { kind = ResultKind.Report; filters = c.in_ok-filters_above.ensures i; inputs = c.new.ensures i; covers = c.in_ok-covered.ensures i } ∷ [];
     }) c.row_gain.ensures

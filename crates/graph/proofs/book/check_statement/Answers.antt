@@ -1,14 +1,24 @@
-use Rattle.std.proofs.Common.{refl, sym, ◌∙◌}
-use Rattle.rdf_values.specs.declared.statement.Statement.TheVariants.{Vary, VariationsFor, Watch, Print}
-use Rattle.graph.specs.{statements}
-use Rattle.graph.proofs.Gaining.{decided_at, gained, nothing_gained}
+use Rattle.std.proofs.Common.{IfOk, refl, sym, subst, ◌∙◌}
+use Rattle.rdf_values.specs.declared.statement.Statement.TheVariants.{Alias, Vary, VariationsFor, Watch, Print}
+use Rattle.graph.specs.{IsGain, statements}
+use Rattle.graph.proofs.Gaining.{decided_at, define_made, gained, nothing_gained, redefine_made}
 use Rattle.graph.proofs.book.check_statement.Goals as goal
 
+pub returns-in-Define-clause-gained : goal.returns-in-Define-clause-gained
+returns-in-Define-clause-gained c =
+    subst (λ s. IfOk c.made_gain.result (IsGain c.args.before.now.header.now c.args.before.now.names.now (statements c.args.before.now.lines.now) s)) (sym c.in-Define.is)
+    (define_made c.args.before.now.header.now c.args.before.now.names.now (statements c.args.before.now.lines.now) c.args.before.now.tables.now c.args.before.now.are _ _ _ _ _ c.made_gain.result c.check_new-taken.ensures c.made_gain.ensures.made c.made_gain.ensures.decided)
+
 pub returns-in-Define-clause-decided : goal.returns-in-Define-clause-decided
-returns-in-Define-clause-decided c = decided_at c.args.before.now.header.now c.args.before.now.names.now (statements c.args.before.now.lines.now) c.args.statement.now _ c.define_gain.result c.in-Define.is c.define_gain.ensures.decided
+returns-in-Define-clause-decided c = decided_at c.args.before.now.header.now c.args.before.now.names.now (statements c.args.before.now.lines.now) c.args.statement.now _ c.made_gain.result c.in-Define.is (rw c.check_new-taken.ensures at c.made_gain.ensures.decided)
+
+pub returns-in-Redefine-clause-gained : goal.returns-in-Redefine-clause-gained
+returns-in-Redefine-clause-gained c =
+    subst (λ s. IfOk c.made_gain-in-Redefine.result (IsGain c.args.before.now.header.now c.args.before.now.names.now (statements c.args.before.now.lines.now) s)) (sym c.in-Redefine.is)
+    (redefine_made c.args.before.now.header.now c.args.before.now.names.now (statements c.args.before.now.lines.now) c.args.before.now.tables.now c.args.before.now.are _ _ _ _ _ c.made_gain-in-Redefine.result c.check_target-wrong.ensures c.made_gain-in-Redefine.ensures.made c.made_gain-in-Redefine.ensures.decided)
 
 pub returns-in-Redefine-clause-decided : goal.returns-in-Redefine-clause-decided
-returns-in-Redefine-clause-decided c = decided_at c.args.before.now.header.now c.args.before.now.names.now (statements c.args.before.now.lines.now) c.args.statement.now _ c.redefine_gain.result c.in-Redefine.is c.redefine_gain.ensures.decided
+returns-in-Redefine-clause-decided c = decided_at c.args.before.now.header.now c.args.before.now.names.now (statements c.args.before.now.lines.now) c.args.statement.now _ c.made_gain-in-Redefine.result c.in-Redefine.is (rw c.check_target-wrong.ensures at c.made_gain-in-Redefine.ensures.decided)
 
 pub returns-in-Filter-clause-decided : goal.returns-in-Filter-clause-decided
 returns-in-Filter-clause-decided c = decided_at c.args.before.now.header.now c.args.before.now.names.now (statements c.args.before.now.lines.now) c.args.statement.now _ c.filter_gain.result c.in-Filter.is c.filter_gain.ensures.decided
@@ -20,16 +30,21 @@ returns-in-Vary-clause-decided c = decided_at c.args.before.now.header.now c.arg
 pub returns-in-Action-clause-decided : goal.returns-in-Action-clause-decided
 returns-in-Action-clause-decided c = decided_at c.args.before.now.header.now c.args.before.now.names.now (statements c.args.before.now.lines.now) c.args.statement.now _ c.action_gain.result c.in-Action.is c.action_gain.ensures.decided
 
+pub returns-in-Alias-clause-gained : goal.returns-in-Alias-clause-gained
+returns-in-Alias-clause-gained c =
+    nothing_gained c.args.before.now.header.now c.args.before.now.names.now (statements c.args.before.now.lines.now) c.args.statement.now _ c.nothing.result c.in-Alias.is (c.nothing.ensures.decided _ c.check_alias.ensures) c.nothing.ensures.empty
+    (λ g ok e. gained c.args.before.now.header.now c.args.before.now.names.now (statements c.args.before.now.lines.now) (Alias c.in-Alias.node c.in-Alias.parent c.in-Alias.column c.in-Alias.target) g ok e refl (λ out o. o) (λ out o. o) tt (tt, tt) refl)
+
 pub returns-in-Alias-clause-decided : goal.returns-in-Alias-clause-decided
-returns-in-Alias-clause-decided c = decided_at c.args.before.now.header.now c.args.before.now.names.now (statements c.args.before.now.lines.now) c.args.statement.now _ c.alias_gain.result c.in-Alias.is c.alias_gain.ensures.decided
+returns-in-Alias-clause-decided c = decided_at c.args.before.now.header.now c.args.before.now.names.now (statements c.args.before.now.lines.now) c.args.statement.now _ c.nothing.result c.in-Alias.is (c.nothing.ensures.decided _ c.check_alias.ensures)
 
 pub returns-in-VariationsFor-clause-gained : goal.returns-in-VariationsFor-clause-gained
 returns-in-VariationsFor-clause-gained c =
-    nothing_gained c.args.before.now.header.now c.args.before.now.names.now (statements c.args.before.now.lines.now) c.args.statement.now _ c.nothing.result c.in-VariationsFor.is (c.nothing.ensures.decided _ c.check_variations_for.ensures) c.nothing.ensures.empty
+    nothing_gained c.args.before.now.header.now c.args.before.now.names.now (statements c.args.before.now.lines.now) c.args.statement.now _ c.nothing-in-VariationsFor.result c.in-VariationsFor.is (c.nothing-in-VariationsFor.ensures.decided _ c.check_variations_for.ensures) c.nothing-in-VariationsFor.ensures.empty
     (λ g ok e. gained c.args.before.now.header.now c.args.before.now.names.now (statements c.args.before.now.lines.now) (VariationsFor c.in-VariationsFor.result) g ok e refl (λ out o. o) (λ out o. o) tt (tt, tt) refl)
 
 pub returns-in-VariationsFor-clause-decided : goal.returns-in-VariationsFor-clause-decided
-returns-in-VariationsFor-clause-decided c = decided_at c.args.before.now.header.now c.args.before.now.names.now (statements c.args.before.now.lines.now) c.args.statement.now _ c.nothing.result c.in-VariationsFor.is (c.nothing.ensures.decided _ c.check_variations_for.ensures)
+returns-in-VariationsFor-clause-decided c = decided_at c.args.before.now.header.now c.args.before.now.names.now (statements c.args.before.now.lines.now) c.args.statement.now _ c.nothing-in-VariationsFor.result c.in-VariationsFor.is (c.nothing-in-VariationsFor.ensures.decided _ c.check_variations_for.ensures)
 
 pub returns-in-Watch-clause-gained : goal.returns-in-Watch-clause-gained
 returns-in-Watch-clause-gained c =

@@ -10,6 +10,6 @@ returns-in_err-stop_if-clause-decided c = handed_on _ _ _ c.from_residual.ensure
 
 pub returns-clause-gained : goal.returns-clause-gained
 returns-clause-gained c =
-    let row = c.in_ok-gain.ensures.is c.args.before.now.header.now c.args.before.now.names.now in
+    let row = c.in_ok-gain.ensures.is in
     gained c.args.before.now.header.now c.args.before.now.names.now (statements c.args.before.now.lines.now) (Report c.args.name.now c.args.parent.now) c.in_ok-gain.gain (sym c.check_report.ensures ∙ c.in_ok-stop_if.ensures) c.in_ok-gain.ensures.gain refl
     (λ out o. o) (λ out o. o) tt row.rows row.path

@@ -20,5 +20,5 @@ loop_tables-requires t c =
       ),
     )
 
-pub returns-in-None : goal.returns-in-None
-returns-in-None t c = line_kept (statements c.args.script.now.lines.now) c.args.lines.now c.in-Some.last.now c.in-Some.rest.now c.in_ok-tables.tables c.in-Some.ensures.cases.0 c.in-None.ensures c.in_ok-tables.ensures
+pub returns-in_default-statement : goal.returns-in_default-statement
+returns-in_default-statement t c = line_kept (statements c.args.script.now.lines.now) c.args.lines.now c.in-Some.last.now c.in-Some.rest.now c.in_ok-tables.tables c.in-Some.ensures.cases.0 c.in_default-statement.not-Print c.in_ok-tables.ensures
