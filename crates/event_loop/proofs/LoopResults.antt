@@ -5,17 +5,17 @@ use Rattle.std.specs.List.{list_any, position_or_len, cons_option}
 use Rattle.std.proofs.lemmas.Bool.{cond_both, eq-eqb, ne_eqb}
 use Rattle.std.proofs.lemmas.List.{length-map, append-nil}
 use Rattle.std.proofs.lemmas.List.Elements.{filter_map-append}
-use Rattle.std.proofs.lemmas.List.Sums.{sum_by-cons}
-use Rattle.rdf_values.specs.{Booked, has_variations, Pass, passes_of, result_depends, Statement, Variation, variations, among, booked_by, bookings, filled, names_of, same, waiting}
+use Rattle.std.proofs.lemmas.List.Sums.{sum_by-append, sum_by-cons}
+use Rattle.rdf_values.specs.{Booked, has_variations, Pass, passes_of, result_depends, Statement, Variation, variations, among, bookings, filled, names_of, same, waiting}
 use Rattle.rdf_model.specs.{loop_passes, Access, accesses, filled_by, loop_results}
 use Rattle.graph_numbers.specs.{numbered_pass, Pass as NumberedPass, passes_from, places_from, result_passes, loops, pass_at}
 use Rattle.std.proofs.lemmas.Option.{slice_get_within}
 use Rattle.lemmas.proofs.{before_or_last, never_true, or_right, same_some}
 use Rattle.rdf_values.specs.declared.statement.Statement.TheVariants.{Print}
 use Rattle.rdf_model.proofs.Accepted.{itself, names_equal}
-use Rattle.graph_numbers.proofs.Extending.{Extends, itself as all_of_it, kept, shorter}
+use Rattle.graph_numbers.proofs.Extending.{Extends, itself as all_of_it, shorter}
 use Rattle.graph_numbers.proofs.Listed.{by_test}
-use Rattle.graph_numbers.proofs.Looping.{loops_are}
+use Rattle.graph_numbers.proofs.Looping.{booked_kept, loops_are}
 use Rattle.graph.specs.{AreNamedInTurn}
 use Rattle.graph.proofs.Filled.{later_named}
 use Rattle.graph.proofs.Listing.{any_map}
@@ -170,16 +170,13 @@ count_all : (r : ℕ) (ps qs : List NumberedPass) → AllOf r ps → count_by (i
 count_all r [] qs h = omega arith
 count_all r (p ∷ ps) qs h = let one = count_step r p (ps ++ qs) true h.0 in let rest = count_all r ps qs h.1 in omega (arith, one, rest)
 
-count_behind : (r : ℕ) (xs qs : List NumberedPass) → NoneOf r xs → count_by (is_of r) (xs ++ qs) ≡ count_by (is_of r) qs
-count_behind r [] qs h = refl
-count_behind r (p ∷ ps) qs h = let one = count_step r p (ps ++ qs) false h.0 in let rest = count_behind r ps qs h.1 in omega (arith, one, rest)
-
 pub count_own : (r : ℕ) (xs ps ys : List NumberedPass) → NoneOf r xs → AllOf r ps → NoneOf r ys → count_by (is_of r) (xs ++ (ps ++ ys)) ≡ length ps
 count_own r xs ps ys h all k =
-    let one = count_behind r xs (ps ++ ys) h in
+    let both = sum_by-append (λ x. cond {A = ℕ} (is_of r x) 1 0) xs (ps ++ ys) in
+    let none = count_none r xs h in
     let own = count_all r ps ys all in
     let rest = count_none r ys k in
-    omega (arith, one, own, rest)
+    omega (arith, both, none, own, rest)
 
 among_front : (bs : List Booked) (i k : ℕ) (b : Booked) (name : List ℕ) → slice_get bs i ≡ Some b → i < k → same name b.name ≡ true → among name (names_of (take k bs)) ≡ true
 among_front [] i k b name at lt is = absurd (cc)
@@ -199,9 +196,6 @@ one_number script turn i j b c at there is =
     grind (arith, one_name script turn i j b c at there (ap (same c.name) equal ∙ itself c.name), one_name script turn j i c b there at is)
 
 -- ---- loops
-
-booked_kept : (before after : List Statement) → Extends before after → (k : ℕ) (b : Booked) → slice_get (bookings before) k ≡ Some b → slice_get (bookings after) k ≡ Some b
-booked_kept = kept bookings booked_by (λ before s. refl)
 
 -- the result waits behind these statements
 abbrev pub waits : List Statement → Booked → Bool
