@@ -16,7 +16,6 @@ use Rattle.graph_numbers.proofs.Listed.{by_test, of_joined, only_at}
 use Rattle.graph.proofs.Filled.{all_in_turn, later_named}
 use Rattle.cluster_tally.specs.{CanWatch, IsFresh, place_if, TallyView}
 use Rattle.event_loop.proofs.LoopResults.{kept_any, one_number}
-use Rattle.std.proofs.lemmas.List.Concat.{flat_map-append}
 use Rattle.std.proofs.lemmas.Option.{same_Some}
 use Rattle.rdf_model.specs.{is_covered, kind_in, kinds_in}
 use Rattle.graph_numbers.specs.{graph_filters, graph_loops, graph_results, graph_under, graph_variations, GraphView, kind_of_booking, Pass as NumberedPass, ResultAt, ResultKind, under_at}
@@ -28,6 +27,7 @@ use Rattle.loop_keys.proofs.Elements.{of_chosen}
 use Rattle.loop_keys.proofs.Covered.{covered_count}
 use Rattle.loop_keys.proofs.EntryLaws.{read_pass}
 use Rattle.loop_keys.proofs.PassCounts.{few_passes}
+use Rattle.loop_keys.proofs.Taken.{kinds_next}
 use Rattle.loop_pieces.specs.{place_if_watched, watched_from, watched_places}
 use Rattle.result_text.proofs.PassLines.{action_booking}
 use Rattle.result_text.proofs.Within.{IsIn, variation_within}
@@ -226,12 +226,6 @@ module _ (j : JobView) (n : ℕ) (m : NumberedPass) (its : numbered_in j n ≡ S
 -- ---- one more
 
 module _ (j : JobView) (n : ℕ) (p : Pass) (here : slice_get (passes_in j) n ≡ Some p) where
-  kinds_next : kinds_in (take (n + 1) (passes_in j)) ≡ kinds_in (take n (passes_in j)) ++ kind_in p.result.booking
-  kinds_next =
-      ap kinds_in (take_next (passes_in j) n p here)
-      ∙ flat_map-append (λ (q : Pass). kind_in q.result.booking) (take n (passes_in j)) (p ∷ [])
-      ∙ ap (λ l. kinds_in (take n (passes_in j)) ++ l) (append-nil (kind_in p.result.booking))
-
   places_next : places_before j (n + 1) ≡ places_before j n ++ place_if_watched (history j.script) (length (kinds_in (take n (passes_in j)))) p
   places_next =
       let e : 0 + length (kinds_in (take n (passes_in j))) ≡ length (kinds_in (take n (passes_in j))) = omega arith in
@@ -246,7 +240,7 @@ module _ (j : JobView) (n : ℕ) (p : Pass) (here : slice_get (passes_in j) n �
     no_place = by_test (is_watched_pass (history j.script) p) (λ e. rw e (ap (map (λ k. length (kinds_in (take n (passes_in j))))) none)) (λ e. rw e refl)
 
     same_kinds : kinds_in (take (n + 1) (passes_in j)) ≡ kinds_in (take n (passes_in j))
-    same_kinds = kinds_next ∙ ap (λ l. kinds_in (take n (passes_in j)) ++ l) none ∙ append-nil (kinds_in (take n (passes_in j)))
+    same_kinds = kinds_next (passes_in j) n p here ∙ ap (λ l. kinds_in (take n (passes_in j)) ++ l) none ∙ append-nil (kinds_in (take n (passes_in j)))
 
     same_places : places_before j (n + 1) ≡ places_before j n
     same_places = places_next ∙ ap (λ l. places_before j n ++ l) no_place ∙ append-nil (places_before j n)
@@ -257,7 +251,7 @@ module _ (j : JobView) (n : ℕ) (p : Pass) (here : slice_get (passes_in j) n �
   -- an action's pass adds its kind, and its place where it is watched
   module _ (k : ActionKind) (at : Path) (of : p.result.booking ≡ ActionAt k at) where
     more_kinds : kinds_in (take (n + 1) (passes_in j)) ≡ kinds_in (take n (passes_in j)) ++ k ∷ []
-    more_kinds = kinds_next ∙ ap (λ b. kinds_in (take n (passes_in j)) ++ kind_in b) of
+    more_kinds = kinds_next (passes_in j) n p here ∙ ap (λ b. kinds_in (take n (passes_in j)) ++ kind_in b) of
 
     one_place : place_if_watched (history j.script) (length (kinds_in (take n (passes_in j)))) p ≡ place_if (is_watched_pass (history j.script) p) (kinds_in (take n (passes_in j)))
     one_place = ap (λ b. if is_watched_pass (history j.script) p then map (λ k. length (kinds_in (take n (passes_in j)))) (kind_in b) else []) of

@@ -45,12 +45,10 @@ module _ (g : GraphView) where
 
   -- the name that the graph has for the result is that of what was booked
   pub name_is : (r : ℕ) (b : Booked) (name : List ℕ) → slice_get (bookings (booked_statements g)) r ≡ Some b → option_map (λ (x : ResultAt). x.booked.name) (slice_get (graph_results g) r) ≡ Some name → name ≡ b.name
-  name_is r b name its named = go (slice_get (graph_results g) r)
-      (sym (slice_get-map (λ (x : ResultAt). x.booked) (graph_results g) r) ∙ ap (λ (bs : List Booked). slice_get bs r) (booked_are g.header g.names (booked_statements g)) ∙ its) named
-    where
-      go : (o : Option ResultAt) → option_map (λ (x : ResultAt). x.booked) o ≡ Some b → option_map (λ (x : ResultAt). x.booked.name) o ≡ Some name → name ≡ b.name
-      go None e k = absurd (cc)
-      go (Some x) e k = sym (same_some k) ∙ ap (λ (y : Booked). y.name) (same_some e)
+  name_is r b name its named =
+      let row = of_option (λ (x : ResultAt). x.booked) (slice_get (graph_results g) r) b
+      (sym (slice_get-map (λ (x : ResultAt). x.booked) (graph_results g) r) ∙ ap (λ (bs : List Booked). slice_get bs r) (booked_are g.header g.names (booked_statements g)) ∙ its) in
+      same_some (sym named ∙ ap (option_map (λ (x : ResultAt). x.booked.name)) row.1) ∙ ap (λ (y : Booked). y.name) row.2
 
   under_is : (v : Option ℕ) → under_in (graph_variations g) v ≡ under_at (booked_statements g) v
   under_is None = refl
