@@ -8,7 +8,7 @@ use Rattle.block_cache.specs.{LaneView}
 use Rattle.cluster_tally.specs.{at_begin, block_begin, BlockStage, Holds, HoldsIn, Stage, TallyView}
 use Rattle.cluster_tally.proofs.BlockFeeds.{begins_block, ends_block}
 use Rattle.loop_keys.specs.{facts_in, IsJob, job_graph, job_spans, JobView, passes_in}
-use Rattle.loop_keys.proofs.PassTies.{pass_of}
+use Rattle.loop_keys.proofs.PassNumbers.{pass_of}
 use Rattle.block_passes.specs.{after_block, at_end, at_entry, at_filter, at_pass, block_demands, block_rows, demands_in, entries_from, IsBefore, IsBlockAnswer, IsBlockOf, IsBlockTried, IsClear, IsClusterAnswer, IsMadeAt, IsOverAll, IsPlan, IsPlanMade, IsReadyBelow, IsSearchedTo, PlanView, span_demands}
 use Rattle.block_passes.specs.Fed.{IsAmid}
 use Rattle.block_passes.specs.declared.found.Found.{Found}

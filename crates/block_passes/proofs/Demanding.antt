@@ -7,14 +7,14 @@ use Rattle.graph_numbers.proofs.Extending.{itself}
 use Rattle.graph_numbers.proofs.Ranges.{filters_below}
 use Rattle.std.proofs.lemmas.List.Elements.{recursion_from_All}
 use Rattle.loop_keys.specs.{demand_key, HasAllDemands, HasPassed, HasTried, IsActionAt, IsCovered, IsJob, IsPlainLoop, job_graph, JobView, row_of, site_in}
-use Rattle.loop_keys.proofs.ActionNumbers.{IsSoundBooking, result_sound}
+use Rattle.loop_keys.proofs.ActionLaws.{IsSoundBooking, result_sound}
 use Rattle.loop_keys.proofs.EvaluateLaws.{accepted_of}
 use Rattle.block_passes.specs.{Chain, Demands, IsActionOf, IsDemandedAt, IsReadOf, IsTried}
 use Rattle.rdf_model.specs.{◌>>=◌, booking_demands, Demand, filter_demands, Gives, is_true, Needs, Outcome, truth_of}
 use Rattle.graph_numbers.proofs.Closing.{IsDemanded, then_wider, wider_filters, wider_inputs}
 use Rattle.graph_numbers.proofs.Reporting.{IsActionDemanded, IsFilterDemanded, filter_demanded, result_demanded}
 use Rattle.loop_keys.proofs.DemandSets.{demanded_in, demands_closed, demands_keys, in_demands}
-use Rattle.loop_keys.proofs.PassTies.{pass_of}
+use Rattle.loop_keys.proofs.PassNumbers.{pass_of}
 use Rattle.loop_keys.proofs.ReportTies.{has_filter}
 
 pub all_at : (P : ℕ → Type 0) (up rest : List ℕ) (s : ℕ) → AllByRecursion P (up ++ s ∷ rest) → P s

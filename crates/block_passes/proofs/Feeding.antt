@@ -1,5 +1,5 @@
 -- What a block feeds to a pass, and what it does at a named filter.
-use Rattle.std.proofs.Common.{◌≡◌, ℕ, zero, suc, ◌+◌, ◌<◌, ◌≤◌, Bool, true, false, cond, List, [], ◌∷◌, ◌++◌, length, length-drop, map, take, drop, Option, None, Some, option_map, refl, sym, ◌∙◌, ap, subst, arith, slice_get, unwrap_or, if◌then◌else◌, get_or, count_by, flat_map, slice_range, filter}
+use Rattle.std.proofs.Common.{◌≡◌, ℕ, zero, suc, ◌+◌, ◌<◌, ◌≤◌, Bool, true, false, cond, List, [], ◌∷◌, ◌++◌, length, length-drop, map, take, drop, Option, None, Some, refl, sym, ◌∙◌, ap, subst, arith, slice_get, unwrap_or, if◌then◌else◌, get_or, count_by, flat_map, slice_range, filter}
 use Rattle.std.specs.List.{range_with_len}
 use Rattle.std.proofs.lemmas.List.{length-map}
 use Rattle.std.proofs.lemmas.List.Sums.{sum_by-cons}
@@ -11,7 +11,6 @@ use Rattle.graph_numbers.specs.{action_numbers, booking_numbers, FilterAt, graph
 use Rattle.cluster_tally.specs.{block_items, block_reaches, BlockStage, CanNoteCounts, counted, HoldsIn, IsWithin, TallyView}
 use Rattle.loop_keys.specs.{actions_before, covered_in, facts_in, IsJob, job_graph, job_spans, JobView, outcome_of, pass_outcome, passes_in, row_of, site_in, version_in}
 use Rattle.loop_keys.proofs.NamedLaws.{stopped_answer, tried_answer}
-use Rattle.loop_keys.proofs.PassTies.{pass_answer, pass_of}
 use Rattle.loop_keys.proofs.TableLaws.{row_there}
 use Rattle.loop_keys.proofs.Covered.{cover_at, covered_count}
 use Rattle.loop_keys.proofs.Taken.{at_place, covered_reach, uncovered_reach}
@@ -19,7 +18,7 @@ use Rattle.block_passes.specs.Laws as law
 use Rattle.block_passes.specs.{AreCountable, AreKept, at_filter, Chain, IsActionOf, IsLast, IsMade, IsNamed, IsPlan, PlanView, through_chain}
 use Rattle.block_passes.proofs.Searching.{get_dropped, row_in_block, through_more, last_through}
 use Rattle.block_passes.proofs.Places.{filter_alike, flat_filtered_range, flat_first}
-use Rattle.loop_keys.proofs.PassNumbers.{some_same}
+use Rattle.loop_keys.proofs.PassNumbers.{pass_answer, pass_of, some_same}
 use Rattle.std.proofs.lemmas.Option.{slice_get-get_or, slice_get_within}
 use Rattle.loop_pieces.specs.{Counts}
 use Rattle.block_passes.specs.Fed.{IsAmid}
@@ -178,23 +177,17 @@ module _ (j : JobView) (s : BlockStage) (span : Span) (its : slice_get (job_span
       reached : (q : ℕ) → q < s.block → fault_in (all q) ≡ None → (is_reached (its_reach q) ≡ is_true (above q)) × (is_passed (its_reach q) ≡ is_true (all q))
       reached q lt clear = go (above q) refl (site_in j (entry_at q) None own >>= truth_of) refl
         where
-          named : option_map (λ (y : FilterAt). y.sites) (slice_get (graph_filters (job_graph j)) f) ≡ Some x.sites
-          named = ap (option_map (λ (y : FilterAt). y.sites)) here
-
-          within_table : entry_at q < length j.dataset.rows
-          within_table = omega (arith, lt, within, inside)
-
           more : all q ≡ (above q >>= λ passed. if passed then site_in j (entry_at q) None own >>= truth_of else Gives false)
           more = through_more (site_in j (entry_at q) None) up own
 
           go : (o : Outcome ⊥ Bool) → above q ≡ o → (y : Outcome ⊥ Bool) → (site_in j (entry_at q) None own >>= truth_of) ≡ y → (is_reached (its_reach q) ≡ is_true (above q)) × (is_passed (its_reach q) ≡ is_true (all q))
           go (Gives false) e y i =
               let a : all q ≡ Gives false = more ∙ ap (λ (w : Outcome ⊥ Bool). w >>= λ passed. if passed then site_in j (entry_at q) None own >>= truth_of else Gives false) e in
-              let r = (stopped_answer j job f x.sites named up own split (entry_at q) within_table [] [] 0 0 e a (row_of j (entry_at q)) x (row_here q lt) here).0 in
+              let r = stopped_answer j f x here up own split (entry_at q) e in
               (ap is_reached r ∙ sym (ap is_true e), ap is_passed r ∙ sym (ap is_true a))
           go (Gives true) e (Gives v) i =
               let a : all q ≡ Gives v = more ∙ ap (λ (w : Outcome ⊥ Bool). w >>= λ passed. if passed then site_in j (entry_at q) None own >>= truth_of else Gives false) e ∙ i in
-              let r = (tried_answer j job f x.sites named up own split (entry_at q) within_table [] [] 0 0 v e a (row_of j (entry_at q)) x (row_here q lt) here).0 in
+              let r = tried_answer j f x here up own split (entry_at q) v e a in
               (ap is_reached r ∙ reached_if v ∙ sym (ap is_true e), ap is_passed r ∙ passed_if v ∙ sym (ap is_true a))
           go (Gives true) e (Faults g) i =
               let a : all q ≡ Faults g = more ∙ ap (λ (w : Outcome ⊥ Bool). w >>= λ passed. if passed then site_in j (entry_at q) None own >>= truth_of else Gives false) e ∙ i in

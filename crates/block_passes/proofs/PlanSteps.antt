@@ -10,8 +10,7 @@ use Rattle.std.specs.List.{list_any}
 use Rattle.rdf_values.specs.{ActionAt, ActionKind, Booking, ReportOn}
 use Rattle.graph_numbers.specs.{FilterAt, graph_filters, graph_results, GraphView, kind_of_booking, Pass as NumberedPass, ResultAt, ResultKind}
 use Rattle.loop_keys.specs.{covered_in, is_covering, IsJob, job_graph, JobView, numbered_in, numbered_passes, passes_in}
-use Rattle.loop_keys.proofs.Covered.{cover_at, cover_is}
-use Rattle.loop_keys.proofs.FilterLaws.{plan_covered}
+use Rattle.loop_keys.proofs.Covered.{cover_at, cover_is, plan_covered}
 use Rattle.block_passes.specs.declared.plan.NamedSteps.{NamedSteps}
 
 -- ---- lists that grow

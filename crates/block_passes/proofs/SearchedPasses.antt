@@ -9,10 +9,10 @@ use Rattle.block_passes.specs.declared.found.Found.{Found}
 use Rattle.block_passes.specs.declared.kept.Kept.{Kept}
 use Rattle.block_passes.specs.declared.plan.NamedSteps.{NamedSteps}
 use Rattle.block_passes.proofs.Selecting.{set_behind, set_other}
-use Rattle.loop_keys.proofs.PassNumbers.{some_same}
+use Rattle.loop_keys.proofs.PassNumbers.{passes_count, some_same}
 use Rattle.std.proofs.lemmas.Option.{slice_get_within}
 use Rattle.graph_numbers.specs.{FilterAt, graph_filters, graph_results}
-use Rattle.loop_keys.proofs.Covered.{covered_there, passes_count}
+use Rattle.loop_keys.proofs.Covered.{covered_there}
 use Rattle.loop_keys.proofs.ReportTies.{contained_at, of_report}
 use Rattle.block_passes.proofs.PlanSteps.{covered_is}
 use Rattle.rdf_values.specs.{EntryFault, Pass, Value}

@@ -9,11 +9,12 @@ use Rattle.graph_numbers.specs.{graph_loops, graph_results, ResultAt, graph_prin
 use Rattle.graph_numbers.proofs.Extending.{itself}
 use Rattle.graph_numbers.proofs.Listed.{next_at}
 use Rattle.loop_keys.specs.{passes_in}
+use Rattle.loop_keys.proofs.PassCounts.{lines_few}
 use Rattle.loop_pieces.specs.{place_if_watched, watched_from, watched_places}
 use Rattle.graph.proofs.Looped.{loops_few}
 use Rattle.event_loop.specs.{ArePartials, FilledLoop, fills, IsFilledAt, IsFilledPlace, IsFoundAt, IsPlaced, IsSession, IsUnfilled, session_job, SessionView, IsAccessed, IsFaulted, IsFilled, IsFilledIn, IsKept, job_facts, loop_filling, passes_run}
 use Rattle.event_loop.specs.declared.place.Place.{Place}
-use Rattle.event_loop.proofs.Found.{watched-append, statements_few, in_turn}
+use Rattle.event_loop.proofs.Found.{watched-append, in_turn}
 use Rattle.event_loop.proofs.LoopResults.{many}
 use Rattle.event_loop.proofs.Printed.{place_first, printed_has_loop}
 use Rattle.graph.proofs.Listing.{place_at}
@@ -35,7 +36,7 @@ module _ (s : SessionView) (is : IsSession s) where
   loop_few l lt =
       let there = loop_there l lt in
       let few = loops_few (history s.graph.script) (history s.graph.script) in
-      let statements = statements_few s.graph is.booked in
+      let statements = lines_few s.graph.script is.booked.bookable.few in
       omega (arith, there, few, statements)
 
   results_of : (l : ℕ) → l < length s.loops → (results : List Booked) × (slice_get (loop_results (history s.graph.script)) l ≡ Some results)
@@ -97,26 +98,6 @@ module _ (s : SessionView) (is : IsSession s) where
       first_one : (n : ℕ) → slice_get (watched_from (history s.graph.script) n (passes_of (history s.graph.script) b ++ h.after)) 0 ≡ Some n
       first_one n = ap (λ (l : List ℕ). slice_get (l ++ watched_from (history s.graph.script) (n + length (kind_in b.booking)) (rest_of (passes_of (history s.graph.script) b ++ h.after))) 0) (noted n)
 
-  pub lines_there : (b : Booked) (l : ℕ) (place : Place) → IsFoundAt s b l place → ((n : ℕ) → place_if_watched (history s.graph.script) n (record { result = b; under = None }) ≡ n ∷ [])
-      → (f : FilledLoop) → slice_get s.loops l ≡ Some f → place.watched < length f.partials
-  lines_there b l place h noted f at =
-      let its = is.filled l f at in
-      let many_lines = its.partials.over.are.many in
-      let within = slice_get_within (watched_places (history s.graph.script) (passes_in (session_job s l))) place.watched place.first (noted_at b (passes_in (session_job s l)) place h.placed noted) in
-      omega (arith, many_lines, within)
-
-  pub partials_are : (b : Booked) (l : ℕ) (place : Place) (lines : List _) → IsFoundAt s b l place → ((n : ℕ) → place_if_watched (history s.graph.script) n (record { result = b; under = None }) ≡ n ∷ [])
-      → ((f : FilledLoop) → slice_get s.loops l ≡ Some f → slice_get f.partials place.watched ≡ Some lines) → ArePartials s b lines
-  partials_are b l place lines h noted own =
-      let f = something_at s.loops l h.completed in
-      record {
-        filled = f.0;
-        place = place;
-        filled_at = result_is b l place f.0 h f.1;
-        watched = noted;
-        its_lines = own f.0 f.1;
-      }
-
 -- ---- by the result's number
 
 module _ (s : SessionView) (is : IsSession s) (r : ℕ) (lt : r < length (graph_results s.graph)) (l : ℕ) (place : Place)
@@ -133,10 +114,16 @@ module _ (s : SessionView) (is : IsSession s) (r : ℕ) (lt : r < length (graph_
     is_noted x at n = noted x n at ∙ ap (λ (b : Bool). if b then n ∷ [] else []) set
 
     pub lines_there_at : (f : FilledLoop) → slice_get s.loops l ≡ Some f → place.watched < length f.partials
-    lines_there_at f at = lines_there s is row.0.booked l place (h row.0 row.1) (is_noted row.0 row.1) f at
+    lines_there_at f at =
+        let passes = passes_in (session_job s l) in
+        let many_lines = (is.filled l f at).partials.over.are.many in
+        let within = slice_get_within (watched_places (history s.graph.script) passes) place.watched place.first (noted_at s is row.0.booked passes place (h row.0 row.1).placed (is_noted row.0 row.1)) in
+        omega (arith, many_lines, within)
 
     pub partials_at : (lines : List _) → ((f : FilledLoop) → slice_get s.loops l ≡ Some f → slice_get f.partials place.watched ≡ Some lines) → (x : ResultAt) → slice_get (graph_results s.graph) r ≡ Some x → ArePartials s x.booked lines
-    partials_at lines own x at = partials_are s is x.booked l place lines (h x at) (is_noted x at) own
+    partials_at lines own x at =
+        let f = something_at s.loops l (h x at).completed in
+        record { filled = f.0; place = place; filled_at = result_is s is x.booked l place f.0 (h x at) f.1; watched = is_noted x at; its_lines = own f.0 f.1 }
 
 -- ---- faults
 
@@ -223,7 +210,7 @@ accesses_few (s ∷ before) = let rest = accesses_few before in omega (arith, re
 pub print_few : (s : SessionView) → IsSession s → (print : ℕ) → print < length (accesses (history s.graph.script)) → print < 256
 print_few s is print lt =
     let few = accesses_few (history s.graph.script) in
-    let statements = statements_few s.graph is.booked in
+    let statements = lines_few s.graph.script is.booked.bookable.few in
     omega (arith, lt, few, statements)
 
 module _ (s : SessionView) (is : IsSession s) (print : ℕ) (next : print ≡ s.next) (l : ℕ)

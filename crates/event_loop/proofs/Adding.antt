@@ -1,10 +1,10 @@
 -- One more pass, and what an accepted script says of its actions: their edges are those of an axis, and only numbers are watched.
-use Rattle.std.proofs.Common.{◌≡◌, inl, inr, ℕ, ◌≤◌, Bool, true, false, ◌&&◌, List, [], ◌∷◌, ◌++◌, length, map, None, Some, refl, sym, ◌∙◌, ap, subst, arith, slice_get, append-nil, if◌then◌else◌, ◌+◌, ◌<◌, ◌^◌, take, get_or, Option, ap₂, unwrap_or, option_map, length-append, is_none}
+use Rattle.std.proofs.Common.{◌≡◌, inl, inr, ℕ, ◌≤◌, Bool, true, false, ◌&&◌, List, [], ◌∷◌, ◌++◌, length, map, None, Some, refl, sym, ◌∙◌, ap, subst, arith, slice_get, append-nil, if◌then◌else◌, ◌+◌, ◌<◌, ◌^◌, take, get_or, Option, ap₂, unwrap_or, option_map, is_none}
 use Rattle.std.specs.List.{AllByRecursion}
-use Rattle.std.proofs.lemmas.Bool.{and_parts, both_ways, cond_both, or_cases, or_left, or_right}
+use Rattle.std.proofs.lemmas.Bool.{and_parts, both_ways, or_cases, or_left, or_right}
 use Rattle.std.proofs.lemmas.List.Elements.{All-map}
 use Rattle.std.proofs.lemmas.List.Sorted.{All-permutation, IsPermutation-reverse}
-use Rattle.std.proofs.lemmas.List.{length-map, length-take}
+use Rattle.std.proofs.lemmas.List.{length-map}
 use Rattle.std.proofs.lemmas.List.Elements.{recursion_from_All}
 use Rattle.lemmas.proofs.{and_right, same_some, something_at, take_front, mapped_at, take_next}
 use Rattle.rdf_values.specs.{ActionAt, ActionKind, among, are_edges, AreAccepted, Booked, booked_by, bookings, can_watch, check, check_columns, check_edges, check_node, check_passes, check_results, columns_of, FunctionNames, GraphCause, history, is_result, is_watched, IsBookable, IsShort, Line, names_of, Path, permitted_kinds, refuse_unless, ReportOn, result_is, same, Scope, scope_at, Script, Statement, Booking, fn_names, named_before, Pass, scope_of, variations}
@@ -16,24 +16,23 @@ use Rattle.graph_numbers.proofs.Listed.{by_test, of_joined, only_at}
 use Rattle.graph.proofs.Filled.{all_in_turn, later_named}
 use Rattle.cluster_tally.specs.{CanWatch, IsFresh, place_if, TallyView}
 use Rattle.event_loop.proofs.LoopResults.{kept_any, one_number}
-use mir.Val.{bool_byte}
-use Rattle.std.proofs.lemmas.List.Concat.{flat_map-append}
 use Rattle.std.proofs.lemmas.Option.{same_Some}
 use Rattle.rdf_model.specs.{is_covered, kind_in, kinds_in}
 use Rattle.graph_numbers.specs.{graph_filters, graph_loops, graph_results, graph_under, graph_variations, GraphView, kind_of_booking, Pass as NumberedPass, ResultAt, ResultKind, under_at}
 use Rattle.graph_numbers.proofs.Resulting.{booked_are}
 use Rattle.loop_keys.specs.{IsJob, job_graph, JobView, numbered_in, numbered_passes, passes_in}
 use Rattle.loop_keys.proofs.EvaluateLaws.{accepted_of}
-use Rattle.loop_keys.proofs.PassNumbers.{result_inside, result_there}
-use Rattle.loop_keys.proofs.PassTies.{pass_of}
+use Rattle.loop_keys.proofs.PassNumbers.{pass_of, passes_count, result_inside, result_there}
 use Rattle.loop_keys.proofs.Elements.{of_chosen}
-use Rattle.loop_keys.proofs.Covered.{covered_count, passes_count}
+use Rattle.loop_keys.proofs.Covered.{covered_count}
 use Rattle.loop_keys.proofs.EntryLaws.{read_pass}
 use Rattle.loop_keys.proofs.PassCounts.{few_passes}
+use Rattle.loop_keys.proofs.Taken.{kinds_next}
 use Rattle.loop_pieces.specs.{place_if_watched, watched_from, watched_places}
+use Rattle.result_text.proofs.PassLines.{action_booking}
 use Rattle.result_text.proofs.Within.{IsIn, variation_within}
-use Rattle.event_loop.specs.{is_watched_pass, IsOfPasses, places_before, watched_before}
-use Rattle.event_loop.proofs.Found.{kind_few, watched-append}
+use Rattle.event_loop.specs.{is_watched_pass, IsOfPasses, places_before}
+use Rattle.event_loop.proofs.Found.{watched-append}
 
 -- ---- edges
 
@@ -204,11 +203,7 @@ module _ (j : JobView) (n : ℕ) (m : NumberedPass) (its : numbered_in j n ≡ S
         ∙ ap (λ (h : GraphView). option_map (λ (x : ResultAt). kind_of_booking x.booked.booking) (slice_get (graph_results h) m.result)) (sym same) ∙ is)
 
     pub of_action : (k : ActionKind) → kind ≡ ResultKind.Action k → (at : Path) × (its_result.booked.booking ≡ ActionAt k at)
-    of_action k e = go its_result.booked.booking refl (kind_is ∙ e)
-      where
-        go : (b : Booking) → its_result.booked.booking ≡ b → kind_of_booking b ≡ ResultKind.Action k → (at : Path) × (its_result.booked.booking ≡ ActionAt k at)
-        go (ActionAt l at) q h = (at, q ∙ ap (λ x. ActionAt x at) (cc h))
-        go (ReportOn fs) q h = cc h
+    of_action k e = action_booking its_result.booked.booking k (kind_is ∙ e)
 
     pub of_report : kind ≡ ResultKind.Report → kind_in its_result.booked.booking ≡ []
     of_report e = go its_result.booked.booking (kind_is ∙ e)
@@ -231,12 +226,6 @@ module _ (j : JobView) (n : ℕ) (m : NumberedPass) (its : numbered_in j n ≡ S
 -- ---- one more
 
 module _ (j : JobView) (n : ℕ) (p : Pass) (here : slice_get (passes_in j) n ≡ Some p) where
-  kinds_next : kinds_in (take (n + 1) (passes_in j)) ≡ kinds_in (take n (passes_in j)) ++ kind_in p.result.booking
-  kinds_next =
-      ap kinds_in (take_next (passes_in j) n p here)
-      ∙ flat_map-append (λ (q : Pass). kind_in q.result.booking) (take n (passes_in j)) (p ∷ [])
-      ∙ ap (λ l. kinds_in (take n (passes_in j)) ++ l) (append-nil (kind_in p.result.booking))
-
   places_next : places_before j (n + 1) ≡ places_before j n ++ place_if_watched (history j.script) (length (kinds_in (take n (passes_in j)))) p
   places_next =
       let e : 0 + length (kinds_in (take n (passes_in j))) ≡ length (kinds_in (take n (passes_in j))) = omega arith in
@@ -251,7 +240,7 @@ module _ (j : JobView) (n : ℕ) (p : Pass) (here : slice_get (passes_in j) n �
     no_place = by_test (is_watched_pass (history j.script) p) (λ e. rw e (ap (map (λ k. length (kinds_in (take n (passes_in j))))) none)) (λ e. rw e refl)
 
     same_kinds : kinds_in (take (n + 1) (passes_in j)) ≡ kinds_in (take n (passes_in j))
-    same_kinds = kinds_next ∙ ap (λ l. kinds_in (take n (passes_in j)) ++ l) none ∙ append-nil (kinds_in (take n (passes_in j)))
+    same_kinds = kinds_next (passes_in j) n p here ∙ ap (λ l. kinds_in (take n (passes_in j)) ++ l) none ∙ append-nil (kinds_in (take n (passes_in j)))
 
     same_places : places_before j (n + 1) ≡ places_before j n
     same_places = places_next ∙ ap (λ l. places_before j n ++ l) no_place ∙ append-nil (places_before j n)
@@ -259,13 +248,10 @@ module _ (j : JobView) (n : ℕ) (p : Pass) (here : slice_get (passes_in j) n �
     pub kept : (t : TallyView) → IsOfPasses j n t → IsOfPasses j (n + 1) t
     kept t h = subst (λ ks. IsFresh ks (places_before j (n + 1)) t) (sym same_kinds) (subst (λ ws. IsFresh (kinds_in (take n (passes_in j))) ws t) (sym same_places) h)
 
-    pub none_more : watched_before j (n + 1) ≡ watched_before j n + 0
-    none_more = omega (arith, ap length same_places)
-
   -- an action's pass adds its kind, and its place where it is watched
   module _ (k : ActionKind) (at : Path) (of : p.result.booking ≡ ActionAt k at) where
     more_kinds : kinds_in (take (n + 1) (passes_in j)) ≡ kinds_in (take n (passes_in j)) ++ k ∷ []
-    more_kinds = kinds_next ∙ ap (λ b. kinds_in (take n (passes_in j)) ++ kind_in b) of
+    more_kinds = kinds_next (passes_in j) n p here ∙ ap (λ b. kinds_in (take n (passes_in j)) ++ kind_in b) of
 
     one_place : place_if_watched (history j.script) (length (kinds_in (take n (passes_in j)))) p ≡ place_if (is_watched_pass (history j.script) p) (kinds_in (take n (passes_in j)))
     one_place = ap (λ b. if is_watched_pass (history j.script) p then map (λ k. length (kinds_in (take n (passes_in j)))) (kind_in b) else []) of
@@ -277,28 +263,6 @@ module _ (j : JobView) (n : ℕ) (p : Pass) (here : slice_get (passes_in j) n �
     added t h =
         subst (λ ks. IsFresh ks (places_before j (n + 1)) t) (sym more_kinds)
         (subst (λ ws. IsFresh (kinds_in (take n (passes_in j)) ++ k ∷ []) ws t) (sym more_places) h)
-
-    pub one_more : (b : Bool) → b ≡ is_watched_pass (history j.script) p → watched_before j (n + 1) ≡ watched_before j n + bool_byte b
-    one_more b is =
-        ap length more_places ∙ length-append (places_before j n) (place_if (is_watched_pass (history j.script) p) (kinds_in (take n (passes_in j))))
-        ∙ ap (λ c. watched_before j n + length (place_if c (kinds_in (take n (passes_in j))))) (sym is)
-        ∙ ap (λ l. watched_before j n + l) (by_test b (λ e. rw e refl) (λ e. rw e refl))
-
--- ---- how many are watched
-
-few_if : (script : List Statement) (n : ℕ) (p : Pass) → length (place_if_watched script n p) ≤ 1
-few_if script n p = cond_both (is_watched_pass script p) _ _ (λ (l : List ℕ). length l ≤ 1)
-    (λ _. omega (arith, length-map (kind_in p.result.booking) (λ k. n), kind_few p.result.booking)) (λ _. omega arith)
-
-few_watched : (script : List Statement) (n : ℕ) (ps : List Pass) → length (watched_from script n ps) ≤ length ps
-few_watched script n [] = omega arith
-few_watched script n (p ∷ ps) =
-    let one = few_if script n p in
-    let rest = few_watched script (n + length (kind_in p.result.booking)) ps in
-    omega (arith, length-append (place_if_watched script n p) (watched_from script (n + length (kind_in p.result.booking)) ps))
-
-pub watched_few : (j : JobView) (n : ℕ) → watched_before j n ≤ n
-watched_few j n = let few = few_watched (history j.script) 0 (take n (passes_in j)) in omega (arith, length-take n (passes_in j))
 
 -- ---- named filters
 

@@ -1,7 +1,7 @@
 -- What one Print adds to a text, the course of a run, and its whole text.
 use Rattle.std.proofs.Common.{if◌then◌else◌, ◌≡◌, ℕ, zero, suc, ◌<◌, Bool, true, false, List, [], ◌∷◌, ◌++◌, length, filter, Option, Some, None, refl, sym, ◌∙◌, ap, ap₂, subst, arith, append-nil, append_assoc, IfSome, flat_map, option_map, slice_get, unwrap_or, ◌+◌, ◌≤◌, drop}
-use Rattle.std.proofs.lemmas.List.{drop_more, length-map}
-use Rattle.std.proofs.lemmas.Option.{get_or_from_slice_get, slice_get-map, slice_get_within}
+use Rattle.std.proofs.lemmas.List.{length-map}
+use Rattle.std.proofs.lemmas.Option.{slice_get-map, slice_get_within}
 use Rattle.lemmas.proofs.{none_left, same_some, something_at}
 use Rattle.rdf_values.specs.{Booked, bookings, Fault, history, Pass, results_named, same, cut, Span, stride}
 use Rattle.rdf_model.specs.{Access, access_printed, accesses, Course, Dataset, in_front_of, loop_passes, loop_results, named_lines, Printed, result_lines, access_passes, first_fault, IsChain, IsCourse, printed}
@@ -19,6 +19,7 @@ use Rattle.graph.proofs.Listing.{place_at}
 use Rattle.graph_numbers.proofs.Listed.{by_test}
 use Rattle.columns.specs.CutsView.{CutsView}
 use Rattle.loop_pieces.specs.{ArePartialLines, PartialLine}
+use Rattle.result_text.proofs.Lists.{one_left}
 use Rattle.event_loop.proofs.SomeChain.{first_sets, first_sets_are_a_chain}
 
 -- ---- the only one that passes a test
@@ -198,9 +199,6 @@ IsSoFar s0 s text n =
 
 pub parts_further : (s0 old new : SessionView) → HasSameParts s0 old → HasSameParts old new → HasSameParts s0 new
 parts_further s0 old new h k = record { graph = k.graph ∙ h.graph; dataset = k.dataset ∙ h.dataset; cuts = k.cuts ∙ h.cuts; slots = k.slots ∙ h.slots; watch = k.watch ∙ h.watch }
-
-one_left : (xs : List Access) (n : ℕ) (x : Access) → slice_get xs n ≡ Some x → drop n xs ≡ x ∷ drop (n + 1) xs
-one_left xs n x at = drop_more xs n x (slice_get_within xs n x at) ∙ ap (λ y. y ∷ drop (n + 1) xs) (get_or_from_slice_get xs n x x at)
 
 module _ (s0 old : SessionView) (parts : HasSameParts s0 old) (n : ℕ) (before after : List ℕ) (so_far : IsSoFar s0 old before n) where
   gives : Course → GraphView → Dataset → Access → Printed → Printed

@@ -1,23 +1,23 @@
 -- The passes of a loop by numbers and by names, and the place of a result among them.
-use Rattle.std.proofs.Common.{if◌then◌else◌, ◌≡◌, ℕ, zero, suc, ◌+◌, ◌<◌, Bool, true, false, ◌&&◌, List, [], ◌∷◌, ◌++◌, map, take, drop, length, Option, None, Some, refl, sym, ap, ◌∙◌, arith, length-append, append_assoc, add-one, is_none, option_map, slice_get, ◌*◌, ◌≤◌, filter, ◌⊎◌, inl, inr, ap₂, count_by}
+use Rattle.std.proofs.Common.{if◌then◌else◌, ◌≡◌, ℕ, ◌+◌, ◌<◌, Bool, true, false, ◌&&◌, List, [], ◌∷◌, ◌++◌, map, take, drop, length, Option, None, Some, refl, sym, ap, ◌∙◌, subst, arith, length-append, append_assoc, is_none, option_map, slice_get, ◌*◌, ◌≤◌, filter, ◌⊎◌, inl, inr, ap₂, count_by}
 use Rattle.std.proofs.lemmas.Bool.{cond_both}
-use Rattle.std.proofs.lemmas.List.{length-map, length-reverse, take-append-drop}
+use Rattle.std.proofs.lemmas.List.{length-map, take-append-drop}
 use Rattle.std.proofs.lemmas.List.Concat.{flat_map-append}
-use Rattle.std.proofs.lemmas.Option.{slice_get-map, slice_get_within}
-use Rattle.lemmas.proofs.{and_false, kept_at, same_some, something_at, take_front}
-use Rattle.rdf_values.specs.{Booked, bookings, is_watched, Pass, Statement, Under, has_variations, passes_of, result_depends, Variation, variations, ActionAt, Booking, Line, ReportOn, scope_of}
+use Rattle.std.proofs.lemmas.Option.{slice_get-map}
+use Rattle.lemmas.proofs.{and_false, kept_at, mapped_at, same_some, something_at, take_front, take_next}
+use Rattle.rdf_values.specs.{Booked, bookings, is_watched, Pass, Statement, Under, has_variations, passes_of, result_depends, Variation, variations, scope_of}
 use Rattle.rdf_model.specs.{kind_in, kinds_in, loop_passes, loop_results}
-use Rattle.graph_numbers.specs.{booked_statements, graph_loops, graph_results, graph_variations, GraphView, Pass as NumberedPass, pass_at, ResultAt, under_at, loops, passes_from, result_passes, IsGraph}
-use Rattle.graph_numbers.proofs.Extending.{itself, Extends, further}
+use Rattle.graph_numbers.specs.{booked_statements, graph_loops, graph_results, graph_variations, GraphView, Pass as NumberedPass, pass_at, ResultAt, under_at, result_passes, IsGraph}
+use Rattle.graph_numbers.proofs.Extending.{itself}
 use Rattle.graph_numbers.proofs.Listed.{by_test}
-use Rattle.graph_numbers.proofs.Looping.{loops_are}
+use Rattle.graph_numbers.proofs.Looping.{loops_are, result_are}
 use Rattle.graph_numbers.proofs.Resulting.{booked_are}
 use Rattle.loop_pieces.specs.{place_if_watched, watched_from, watched_places}
 use Rattle.event_loop.specs.{IsPassOf, fills, IsFilledPlace}
-use Rattle.std.proofs.lemmas.List.Sums.{count_by-le-length, length-filter}
-use native.Mathlib.Nat.{mul-le-mul_right}
-use Rattle.graph.proofs.Looped.{bookings_few}
-use Rattle.event_loop.proofs.LoopResults.{loop_at, waits, passes_many, IsFound, IsMissed, found_or_missed, many, NoneOf, count_own, is_of, own_all, position_first, position_none}
+use Rattle.loop_keys.proofs.Elements.{of_mapped}
+use Rattle.loop_keys.proofs.EntryLaws.{actions_few, all_taken}
+use Rattle.loop_keys.proofs.PassCounts.{loop_few as passes_few}
+use Rattle.event_loop.proofs.LoopResults.{IsFound, IsMissed, found_or_missed, many, NoneOf, count_own, is_of, own_all, position_first, position_none}
 use Rattle.std.specs.Prelude.{⊤}
 use Rattle.std.specs.List.{position}
 use Rattle.std.proofs.lemmas.Bool.Decides.{nat_tests}
@@ -103,13 +103,8 @@ place_count script n m p = by_test (is_none p.under && is_watched script p.resul
 -- ---- one pass more
 
 pub one_more : (script : List Statement) (ps : List NumberedPass) (qs : List Pass) (i : ℕ) (p : NumberedPass) → AreDecoded script ps qs → slice_get ps i ≡ Some p → (q : Pass) × (pass_at script p ≡ Some q) × (take (i + 1) qs ≡ take i qs ++ q ∷ [])
-one_more script [] qs i p e at = absurd (cc)
-one_more script (x ∷ ps) [] i p e at = absurd (cc)
-one_more script (x ∷ ps) (q ∷ qs) zero p e at = let is : x ≡ p = same_some at in let first : pass_at script x ≡ Some q = cc in (q, ap (pass_at script) (sym is) ∙ first, refl)
-one_more script (x ∷ ps) (q ∷ qs) (suc i) p e at =
-    let rest : AreDecoded script ps qs = cc in
-    let next = one_more script ps qs i p rest at in
-    (next.0, next.1, rw add-one (ap (λ l. q ∷ l) (rw add-one at next.2)))
+one_more script ps qs i p e at =
+    let q = of_mapped (λ (q : Pass). Some q) qs i (pass_at script p) (ap (λ l. slice_get l i) (sym e) ∙ mapped_at (pass_at script) ps i p at) in (q.0, sym q.2, take_next qs i q.0 q.1)
 
 pub kinds_more : (qs : List Pass) (q : Pass) → length (kinds_in (qs ++ q ∷ [])) ≡ length (kinds_in qs) + length (kind_in q.result.booking)
 kinds_more qs q =
@@ -148,45 +143,23 @@ decoded g l ps results at there = same_some (
     ∙ ap (option_map (λ rs. map (λ (q : Pass). Some q) (loop_passes (booked_statements g) rs))) there
     )
 
-pub decoded_front : (script : List Statement) (ps rest : List NumberedPass) (qs more : List Pass) → AreDecoded script (ps ++ rest) (qs ++ more) → length ps ≡ length qs → AreDecoded script ps qs
-decoded_front script [] rest [] more e same_length = refl
-decoded_front script [] rest (q ∷ qs) more e same_length = absurd (omega arith)
-decoded_front script (p ∷ ps) rest [] more e same_length = absurd (omega arith)
-decoded_front script (p ∷ ps) rest (q ∷ qs) more e same_length =
+-- the passes of a front of the numbers, and those of the rest
+parted : (script : List Statement) (ps rest : List NumberedPass) (qs : List Pass) → AreDecoded script (ps ++ rest) qs
+    → (front : List Pass) × (back : List Pass) × (qs ≡ front ++ back) × AreDecoded script ps front × AreDecoded script rest back
+parted script [] rest qs e = ([], qs, refl, refl, e)
+parted script (p ∷ ps) rest [] e = absurd (cc)
+parted script (p ∷ ps) rest (q ∷ qs) e =
     let first : pass_at script p ≡ Some q = cc in
-    let next : AreDecoded script (ps ++ rest) (qs ++ more) = cc in
-    let shorter : length ps ≡ length qs = omega arith in
-    λ i. first i ∷ decoded_front script ps rest qs more next shorter i
+    let next : AreDecoded script (ps ++ rest) qs = cc in
+    let r = parted script ps rest qs next in
+    (q ∷ r.0, r.1, ap (λ l. q ∷ l) r.2, (λ i. first i ∷ r.3 i), r.4)
 
-longer : (before after : List Statement) → Extends before after → length before ≤ length after
-longer before after itself = omega arith
-longer before after (further {after = c} s e) = let h = longer before c e in omega (arith, h)
-
-module _ (script : List Statement) where
-  own_few : (b : Booked) → length (passes_of script b) ≤ 1 + length (variations script)
-  own_few b =
-      let its : Variation → Pass = λ v. record { result = b; under = Some v } in
-      cond_both (has_variations script b.name) _ _ (λ (qs : List Pass). suc (length qs) ≤ 1 + length (variations script))
-      (λ _. omega (arith, length-map (filter (λ v. result_depends v b.booking) (variations script)) its, length-filter (λ v. result_depends v b.booking) (variations script), count_by-le-length (λ v. result_depends v b.booking) (variations script)))
-      (λ _. omega arith)
-
-  all_few : (test : Booked → Bool) (n : ℕ) (bs : List Booked) → length (passes_from script test n bs) ≤ length bs * (1 + length (variations script))
-  all_few test n [] = omega arith
-  all_few test n (b ∷ bs) =
-      let h = all_few test (suc n) bs in let own = own_few b in let same_own = passes_many script n b in
-      cond_both (test b) (result_passes script n b) [] (λ own_passes. length (own_passes ++ passes_from script test (suc n) bs) ≤ suc (length bs) * (1 + length (variations script)))
-      (λ _. omega (arith, length-append (result_passes script n b) (passes_from script test (suc n) bs))) (λ _. omega arith)
-
-  pub passes_few : (l : ℕ) (ps : List NumberedPass) (results : List Booked) → slice_get (loops script script) l ≡ Some ps → slice_get (loop_results script) l ≡ Some results → length ps ≤ length script * (1 + length (variations script))
-  passes_few l ps results at there =
-      let loop = loop_at script script itself l ps results at there in
-      let same_length = ap (λ (x : List NumberedPass). length x) loop.numbered in
-      let few = all_few (waits loop.before) 0 (bookings loop.before) in
-      let booked = bookings_few loop.before in
-      let shorter = longer loop.before script loop.begins in
-      let most : length (bookings loop.before) ≤ length script = omega (arith, booked, shorter) in
-      let product : length (bookings loop.before) * (1 + length (variations script)) ≤ length script * (1 + length (variations script)) = mul-le-mul_right (1 + length (variations script)) most in
-      omega (arith, same_length, few, product)
+same_passes : (xs ys : List Pass) → map (λ (q : Pass). Some q) xs ≡ map (λ (q : Pass). Some q) ys → xs ≡ ys
+same_passes [] [] e = refl
+same_passes (x ∷ xs) (y ∷ ys) e =
+    let first : x ≡ y = cc in
+    let rest : map (λ (q : Pass). Some q) xs ≡ map (λ (q : Pass). Some q) ys = cc in λ i. first i ∷ same_passes xs ys rest i
+same_passes xs ys e = cc e
 
 pub taken_at : {A : Type 0} (n : ℕ) (xs : List A) (i : ℕ) (x : A) → slice_get (take n xs) i ≡ Some x → slice_get xs i ≡ Some x
 taken_at n xs i x at = ap (λ l. slice_get l i) (sym (take-append-drop n xs)) ∙ kept_at (take n xs) (drop n xs) i x at
@@ -213,7 +186,7 @@ passes_are_of script b = (refl, cond_both (has_variations script b.name) _ _ (Ar
     varied [] = tt
     varied (v ∷ vs) = (refl, varied vs)
 
-own_kinds : (b : Booked) (own : List Pass) → AreOf b own → length (kinds_in own) ≡ length own * length (kind_in b.booking)
+pub own_kinds : (b : Booked) (own : List Pass) → AreOf b own → length (kinds_in own) ≡ length own * length (kind_in b.booking)
 own_kinds b [] h = omega arith
 own_kinds b (p ∷ own) h =
     let both = length-append (kind_in p.result.booking) (kinds_in own) in
@@ -224,108 +197,83 @@ own_kinds b (p ∷ own) h =
 pub kinds-append : (ps qs : List Pass) → kinds_in (ps ++ qs) ≡ kinds_in ps ++ kinds_in qs
 kinds-append ps qs = flat_map-append (λ (p : Pass). kind_in p.result.booking) ps qs
 
-pub kind_few : (b : Booking) → length (kind_in b) ≤ 1
-kind_few (ActionAt k at) = omega arith
-kind_few (ReportOn filters) = omega arith
-
 kinds_few : (ps : List Pass) → length (kinds_in ps) ≤ length ps
-kinds_few [] = omega arith
-kinds_few (p ∷ ps) = omega (arith, length-append (kind_in p.result.booking) (kinds_in ps), kinds_few ps, kind_few p.result.booking)
+kinds_few ps = subst (λ (qs : List Pass). length (kinds_in qs) ≤ length ps) (all_taken ps) (actions_few (length ps) ps)
 
 -- ---- a graph
 
 pub in_turn : (g : GraphView) → IsGraph g → AreNamedInTurn (booked_statements g)
 in_turn g is = all_in_turn g.names (scope_of g.header) (booked_statements g) ((verdict_is_the_first_refusal g.names g.header g.script).0 is.accepted)
 
-pub statements_few : (g : GraphView) → IsGraph g → length (booked_statements g) ≤ 256
-statements_few g is =
-    let few = is.bookable.few in
-    let turned = length-reverse (map (λ (l : Line). l.statement) g.script.lines) in
-    let many = length-map g.script.lines (λ (l : Line). l.statement) in
-    omega (arith, few, turned, many)
-
 module _ (g : GraphView) (is : IsGraph g) (l : ℕ) (ps : List NumberedPass) (loop : slice_get (graph_loops g) l ≡ Some ps) where
   pub pass_of : (i : ℕ) (p : NumberedPass) → slice_get ps i ≡ Some p → IsPassOf g p
   pass_of i p at = record { its_result = result_within g l i p (is_pass_at g l i ps p loop at); its_variation = is_in_for (length (graph_variations g)) p.variation (variation_within g l i ps p loop at) }
 
-  -- the loop's results
-  pub its_results : (results : List Booked) × (slice_get (loop_results (booked_statements g)) l ≡ Some results)
-  its_results =
-      let within = slice_get_within (graph_loops g) l ps loop in
-      let same_length = many (booked_statements g) (booked_statements g) itself in
-      something_at (loop_results (booked_statements g)) l (omega (arith, within, same_length))
+  module _ (results : List Booked) (there : slice_get (loop_results (booked_statements g)) l ≡ Some results) (r : ℕ) (x : ResultAt) (its : slice_get (graph_results g) r ≡ Some x) where
+    found_or : IsMissed (booked_statements g) r x.booked ps results ⊎ IsFound (booked_statements g) r x.booked ps results
+    found_or = found_or_missed (booked_statements g) (in_turn g is) r x.booked (booked_row g r x its) l ps results loop there
 
-  module _ (results : List Booked) (there : slice_get (loop_results (booked_statements g)) l ≡ Some results) where
-    pub few_passes : length (graph_variations g) ≤ 128 → length ps ≤ 33024
-    few_passes few =
-        let most = passes_few (booked_statements g) l ps results loop there in
-        let statements = statements_few g is in
-        let product : length (booked_statements g) * (1 + length (graph_variations g)) ≤ 256 * (1 + length (graph_variations g)) = mul-le-mul_right (1 + length (graph_variations g)) statements in
-        omega (arith, most, product, few)
+    -- the first of them is the nominal one
+    at_start : (f : IsFound (booked_statements g) r x.booked ps results) → position (is_of r) ps ≡ Some (length f.start)
+    at_start f = ap (position (is_of r)) f.numbered ∙ found_at r f.start _ _ f.none_before (own_all (booked_statements g) r x.booked).0
 
-    module _ (r : ℕ) (x : ResultAt) (its : slice_get (graph_results g) r ≡ Some x) where
-      found_or : IsMissed (booked_statements g) r x.booked ps results ⊎ IsFound (booked_statements g) r x.booked ps results
-      found_or = found_or_missed (booked_statements g) (in_turn g is) r x.booked (booked_row g r x its) l ps results loop there
+    pub none_found : position (is_of r) ps ≡ None → fills x.booked.name results ≡ false
+    none_found e = elim found_or [ inl m ↦ m.0 | inr f ↦ absurd (cc (at_start f, e)) ]
 
-      -- the first of them is the nominal one
-      at_start : (f : IsFound (booked_statements g) r x.booked ps results) → position (is_of r) ps ≡ Some (length f.start)
-      at_start f = ap (position (is_of r)) f.numbered ∙ found_at r f.start _ _ f.none_before (own_all (booked_statements g) r x.booked).0
+    module _ (n : ℕ) (at : position (is_of r) ps ≡ Some n) where
+      pub its_place : IsFound (booked_statements g) r x.booked ps results
+      its_place = elim found_or [ inl m ↦ absurd (cc (missed_at r ps m.1, at)) | inr f ↦ f ]
 
-      pub none_found : position (is_of r) ps ≡ None → fills x.booked.name results ≡ false
-      none_found e = elim found_or [ inl m ↦ m.0 | inr f ↦ absurd (cc (at_start f, e)) ]
+      start_is : n ≡ length its_place.start
+      start_is = same_some (sym at ∙ at_start its_place)
 
-      module _ (n : ℕ) (at : position (is_of r) ps ≡ Some n) where
-        pub its_place : IsFound (booked_statements g) r x.booked ps results
-        its_place = elim found_or [ inl m ↦ absurd (cc (missed_at r ps m.1, at)) | inr f ↦ f ]
+      front_is : take n ps ≡ its_place.start
+      front_is = ap₂ (λ (k : ℕ) (l : List NumberedPass). take k l) start_is its_place.numbered ∙ take_front its_place.start (result_passes (booked_statements g) r x.booked ++ its_place.rest)
 
-        start_is : n ≡ length its_place.start
-        start_is = same_some (sym at ∙ at_start its_place)
+      pub own_many : count_by (is_of r) ps ≡ length (passes_of (booked_statements g) x.booked)
+      own_many =
+          let script = booked_statements g in
+          let own = result_passes script r x.booked in
+          ap (count_by (is_of r)) its_place.numbered ∙ count_own r its_place.start own its_place.rest its_place.none_before (own_all script r x.booked) its_place.none_after
+          ∙ sym (length-map own (pass_at script)) ∙ ap length (result_are script r x.booked (booked_row g r x its)) ∙ length-map (passes_of script x.booked) (λ (q : Pass). Some q)
 
-        front_is : take n ps ≡ its_place.start
-        front_is = ap₂ (λ (k : ℕ) (l : List NumberedPass). take k l) start_is its_place.numbered ∙ take_front its_place.start (result_passes (booked_statements g) r x.booked ++ its_place.rest)
-
-        pub front_decoded : AreDecoded (booked_statements g) (take n ps) its_place.before
-        front_decoded = ap (map (pass_at (booked_statements g))) front_is ∙ decoded_front (booked_statements g) its_place.start (result_passes (booked_statements g) r x.booked ++ its_place.rest) its_place.before (passes_of (booked_statements g) x.booked ++ its_place.after) whole its_place.same
-          where
-            whole : AreDecoded (booked_statements g) (its_place.start ++ (result_passes (booked_statements g) r x.booked ++ its_place.rest)) (its_place.before ++ (passes_of (booked_statements g) x.booked ++ its_place.after))
-            whole = ap (map (pass_at (booked_statements g))) (sym its_place.numbered) ∙ decoded g l ps results loop there ∙ ap (map (λ (q : Pass). Some q)) its_place.named
-
-        pub own_many : count_by (is_of r) ps ≡ length (passes_of (booked_statements g) x.booked)
-        own_many = ap (count_by (is_of r)) its_place.numbered ∙ count_own r its_place.start (result_passes (booked_statements g) r x.booked) its_place.rest its_place.none_before (own_all (booked_statements g) r x.booked) its_place.none_after ∙ passes_many (booked_statements g) r x.booked
-
-        pub place_is : length ps ≤ 33024 → (first watched own accumulators : ℕ)
-            → ((qs : List Pass) → AreDecoded (booked_statements g) (take n ps) qs → (first ≡ length (kinds_in qs)) × (watched ≡ length (watched_places (booked_statements g) qs)))
-            → own ≡ count_by (is_of r) ps → option_map (λ (y : ResultAt). length (kind_in y.booked.booking)) (slice_get (graph_results g) r) ≡ Some accumulators
-            → IsFilledPlace (booked_statements g) x.booked results (record { first = first; passes = own * accumulators; watched = watched })
-        place_is few first watched own accumulators counts own_is accumulators_is =
-            let both = counts its_place.before front_decoded in
-            let many : accumulators ≡ length (kind_in x.booked.booking) = of_row (λ (b : Booked). length (kind_in b.booking)) (slice_get (graph_results g) r) x.booked accumulators (ap (option_map (λ (y : ResultAt). y.booked)) its) accumulators_is in
-            let first_is = both.0 in
-            let passes_is = ap₂ (λ (m k : ℕ). m * k) (own_is ∙ own_many) many ∙ sym (own_kinds x.booked (passes_of (booked_statements g) x.booked) (passes_are_of (booked_statements g) x.booked)) in
-            let all = ap (λ (l : List Pass). length (kinds_in l)) its_place.named in
-            let front = ap (λ (l : List _). length l) (kinds-append its_place.before (passes_of (booked_statements g) x.booked ++ its_place.after)) in
-            let back = ap (λ (l : List _). length l) (kinds-append (passes_of (booked_statements g) x.booked) its_place.after) in
-            let front_count = length-append (kinds_in its_place.before) (kinds_in (passes_of (booked_statements g) x.booked ++ its_place.after)) in
-            let back_count = length-append (kinds_in (passes_of (booked_statements g) x.booked)) (kinds_in its_place.after) in
-            let few_kinds = kinds_few (loop_passes (booked_statements g) results) in
-            let same_length : length ps ≡ length (loop_passes (booked_statements g) results) =
-            sym (length-map ps (pass_at (booked_statements g))) ∙ ap (λ (l : List _). length l) (decoded g l ps results loop there) ∙ length-map (loop_passes (booked_statements g) results) (λ (q : Pass). Some q) in
-            record {
-              filled = its_place.filled;
-              placed = record {
-                before = its_place.before;
-                after = its_place.after;
-                passes_are = its_place.named;
-                first = both.0;
-                passes = passes_is;
-                watched = both.1;
-                few = omega (arith, few, first_is, passes_is, all, front, back, front_count, back_count, few_kinds, same_length);
-              };
-            }
+      pub place_is : length ps ≤ 33024 → (first watched own accumulators : ℕ)
+          → ((qs : List Pass) → AreDecoded (booked_statements g) (take n ps) qs → (first ≡ length (kinds_in qs)) × (watched ≡ length (watched_places (booked_statements g) qs)))
+          → own ≡ count_by (is_of r) ps → option_map (λ (y : ResultAt). length (kind_in y.booked.booking)) (slice_get (graph_results g) r) ≡ Some accumulators
+          → IsFilledPlace (booked_statements g) x.booked results (record { first = first; passes = own * accumulators; watched = watched })
+      place_is few first watched own accumulators counts own_is accumulators_is =
+          let script = booked_statements g in
+          let passes = loop_passes script results in
+          let its_own = passes_of script x.booked in
+          let all_decoded = decoded g l ps results loop there in
+          let parts = parted script its_place.start (result_passes script r x.booked ++ its_place.rest) passes (ap (map (pass_at script)) (sym its_place.numbered) ∙ all_decoded) in
+          let behind = parted script (result_passes script r x.booked) its_place.rest parts.1 parts.4 in
+          let own_same = same_passes behind.0 its_own (sym behind.3 ∙ result_are script r x.booked (booked_row g r x its)) in
+          let named : passes ≡ parts.0 ++ (its_own ++ behind.1) = parts.2 ∙ ap (λ (q : List Pass). parts.0 ++ q) (behind.2 ∙ ap (λ (q : List Pass). q ++ behind.1) own_same) in
+          let both = counts parts.0 (ap (map (pass_at script)) front_is ∙ parts.3) in
+          let many : accumulators ≡ length (kind_in x.booked.booking) = of_row (λ (b : Booked). length (kind_in b.booking)) (slice_get (graph_results g) r) x.booked accumulators (ap (option_map (λ (y : ResultAt). y.booked)) its) accumulators_is in
+          let first_is = both.0 in
+          let passes_is = ap₂ (λ (m k : ℕ). m * k) (own_is ∙ own_many) many ∙ sym (own_kinds x.booked its_own (passes_are_of script x.booked)) in
+          let all = ap (λ (q : List Pass). length (kinds_in q)) named in
+          let front = ap (λ (q : List _). length q) (kinds-append parts.0 (its_own ++ behind.1)) in
+          let back = ap (λ (q : List _). length q) (kinds-append its_own behind.1) in
+          let front_count = length-append (kinds_in parts.0) (kinds_in (its_own ++ behind.1)) in
+          let back_count = length-append (kinds_in its_own) (kinds_in behind.1) in
+          let few_kinds = kinds_few passes in
+          let same_length : length ps ≡ length passes = sym (length-map ps (pass_at script)) ∙ ap (λ (q : List _). length q) all_decoded ∙ length-map passes (λ (q : Pass). Some q) in
+          record {
+            filled = its_place.filled;
+            placed = record {
+              before = parts.0;
+              after = behind.1;
+              passes_are = named;
+              first = both.0;
+              passes = passes_is;
+              watched = both.1;
+              few = omega (arith, few, first_is, passes_is, all, front, back, front_count, back_count, few_kinds, same_length);
+            };
+          }
 
 -- few passes, by the numbers of variations
 pub loop_few : (g : GraphView) → IsGraph g → (l : ℕ) (ps : List NumberedPass) → slice_get (graph_loops g) l ≡ Some ps → (vs : List Variation) (n : ℕ) → vs ≡ graph_variations g → n ≡ length vs → n ≤ 128 → length ps ≤ 33024
-loop_few g is l ps loop vs n same_list count few =
-    let results = its_results g is l ps loop in
-    let many_variations = ap (λ (x : List Variation). length x) same_list in
-    few_passes g is l ps loop results.0 results.1 (omega (arith, many_variations, count, few))
+loop_few g is l ps loop vs n same_list count few = passes_few g is (omega (arith, ap (λ (x : List Variation). length x) same_list, count, few)) l ps loop

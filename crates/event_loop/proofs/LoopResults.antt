@@ -1,21 +1,21 @@
 -- Which results a loop fills, and the passes of a result in a loop, by the numbers of results and by names.
-use Rattle.std.proofs.Common.{◌≡◌, ◌≢◌, ℕ, zero, suc, ◌+◌, ◌<◌, Bool, true, false, cond, List, [], ◌∷◌, ◌++◌, map, length, Some, refl, sym, ◌∙◌, ap, ap₂, arith, slice_get, if◌then◌else◌, length-append, append_assoc, count_by, filter, nat_eq, ◌⊎◌, inl, inr, not, ◌||◌, take, Option, None, subst}
+use Rattle.std.proofs.Common.{◌≡◌, ◌≢◌, ℕ, zero, suc, ◌+◌, ◌<◌, Bool, true, false, cond, List, [], ◌∷◌, ◌++◌, map, length, Some, refl, sym, ◌∙◌, ap, arith, slice_get, if◌then◌else◌, append_assoc, count_by, filter, nat_eq, ◌⊎◌, inl, inr, not, ◌||◌, take, Option, None, subst}
 use Rattle.std.specs.Prelude.{⊤}
 use Rattle.std.specs.List.{list_any, position_or_len, cons_option}
 use Rattle.std.proofs.lemmas.Bool.{cond_both, eq-eqb, ne_eqb}
 use Rattle.std.proofs.lemmas.List.{length-map, append-nil}
 use Rattle.std.proofs.lemmas.List.Elements.{filter_map-append}
-use Rattle.std.proofs.lemmas.List.Sums.{sum_by-cons}
-use Rattle.rdf_values.specs.{Booked, has_variations, Pass, passes_of, result_depends, Statement, Variation, variations, among, booked_by, bookings, filled, names_of, same, waiting}
+use Rattle.std.proofs.lemmas.List.Sums.{sum_by-append, sum_by-cons}
+use Rattle.rdf_values.specs.{Booked, has_variations, Pass, Statement, among, bookings, filled, names_of, same, waiting}
 use Rattle.rdf_model.specs.{loop_passes, Access, accesses, filled_by, loop_results}
-use Rattle.graph_numbers.specs.{numbered_pass, Pass as NumberedPass, passes_from, places_from, result_passes, loops, pass_at}
+use Rattle.graph_numbers.specs.{numbered_pass, Pass as NumberedPass, passes_from, result_passes, loops, pass_at}
 use Rattle.std.proofs.lemmas.Option.{slice_get_within}
 use Rattle.lemmas.proofs.{before_or_last, never_true, or_right, same_some}
 use Rattle.rdf_values.specs.declared.statement.Statement.TheVariants.{Print}
 use Rattle.rdf_model.proofs.Accepted.{itself, names_equal}
-use Rattle.graph_numbers.proofs.Extending.{Extends, itself as all_of_it, kept, shorter}
+use Rattle.graph_numbers.proofs.Extending.{Extends, itself as all_of_it, shorter}
 use Rattle.graph_numbers.proofs.Listed.{by_test}
-use Rattle.graph_numbers.proofs.Looping.{loops_are}
+use Rattle.graph_numbers.proofs.Looping.{booked_kept, loops_are}
 use Rattle.graph.specs.{AreNamedInTurn}
 use Rattle.graph.proofs.Filled.{later_named}
 use Rattle.graph.proofs.Listing.{any_map}
@@ -24,14 +24,6 @@ use Rattle.event_loop.specs.{fills}
 -- the pass is of the result of that number
 abbrev pub is_of : ℕ → NumberedPass → Bool
 is_of r p = nat_eq p.result r
-
-places_many : {A : Type 0} (t : A → Bool) (k : ℕ) (xs : List A) → length (places_from t k xs) ≡ length (filter t xs)
-places_many t k [] = refl
-places_many t k (x ∷ xs) = grind (arith, places_many t (suc k) xs)
-
-front_named : (script : List Statement) (t : Bool) (c : Booked) (rest : List Booked) → loop_passes script (if t then c ∷ rest else rest) ≡ (if t then passes_of script c else []) ++ loop_passes script rest
-front_named script true c rest = refl
-front_named script false c rest = refl
 
 -- none of the passes is
 abbrev pub NoneOf : ℕ → List NumberedPass → Type 0
@@ -95,22 +87,10 @@ module _ (script : List Statement) where
   pub record IsFound (r : ℕ) (b : Booked) (ps : List NumberedPass) (results : List Booked) : Type 0 where
     pub start : List NumberedPass
     pub rest : List NumberedPass
-    pub before : List Pass
-    pub after : List Pass
     pub numbered : ps ≡ start ++ (result_passes script r b ++ rest)
-    pub named : loop_passes script results ≡ before ++ (passes_of script b ++ after)
-    pub same : length start ≡ length before
     pub none_before : NoneOf r start
     pub none_after : NoneOf r rest
     pub filled : fills b.name results ≡ true
-
-  -- as many passes by numbers as by names
-  pub passes_many : (n : ℕ) (b : Booked) → length (result_passes script n b) ≡ length (passes_of script b)
-  passes_many n b = ap suc (by_test (has_variations script b.name)
-      (λ e. rw e (length-map (places_from (λ v. result_depends v b.booking) 0 (variations script)) (λ v. numbered_pass n (Some v))
-      ∙ places_many (λ v. result_depends v b.booking) 0 (variations script)
-      ∙ sym (length-map (filter (λ v. result_depends v b.booking) (variations script)) (λ (v : Variation). record { result = b; under = Some v }))))
-      (λ e. rw e refl))
 
   pub split_at : (test : Booked → Bool) (r n k : ℕ) (bs : List Booked) (b : Booked) → n + k ≡ r → slice_get bs k ≡ Some b → test b ≡ true → IsFound r b (passes_from script test n bs) (filter test bs)
   split_at test r n k [] b e at met = absurd (cc)
@@ -121,11 +101,7 @@ module _ (script : List Statement) where
       record {
         start = [];
         rest = passes_from script test (suc n) bs;
-        before = [];
-        after = loop_passes script (filter test bs);
         numbered = ap (λ (t : Bool). (if t then result_passes script n c else []) ++ passes_from script test (suc n) bs) first ∙ ap (λ (m : ℕ). result_passes script m c ++ passes_from script test (suc n) bs) same_number ∙ ap (λ (x : Booked). result_passes script r x ++ passes_from script test (suc n) bs) same_result;
-        named = front_named script (test c) c (filter test bs) ∙ ap (λ (t : Bool). (if t then passes_of script c else []) ++ loop_passes script (filter test bs)) first ∙ ap (λ (x : Booked). passes_of script x ++ loop_passes script (filter test bs)) same_result;
-        same = refl;
         none_before = tt;
         none_after = later_none test r (suc n) (omega arith) bs;
         filled = kept_among test (c ∷ bs) 0 b at met;
@@ -133,17 +109,10 @@ module _ (script : List Statement) where
   split_at test r n (suc k) (c ∷ bs) b e at met =
       let s = split_at test r (suc n) k bs b (omega arith) at met in
       let own : List NumberedPass = if test c then result_passes script n c else [] in
-      let its : List Pass = if test c then passes_of script c else [] in
-      let same_own : length own ≡ length its = by_test (test c) (λ e. rw e (passes_many n c)) (λ e. rw e refl) in
-      let same_rest = s.same in
       record {
         start = own ++ s.start;
         rest = s.rest;
-        before = its ++ s.before;
-        after = s.after;
         numbered = ap (λ l. own ++ l) s.numbered ∙ sym (append_assoc own s.start (result_passes script r b ++ s.rest));
-        named = front_named script (test c) c (filter test bs) ∙ ap (λ l. its ++ l) s.named ∙ sym (append_assoc its s.before (passes_of script b ++ s.after));
-        same = length-append own s.start ∙ ap₂ (λ (x y : ℕ). x + y) same_own same_rest ∙ sym (length-append its s.before);
         none_before = none_both r own s.start (cond_both (test c) _ _ (NoneOf r) (λ _. other_none r n c (λ q. omega arith)) (λ _. tt)) s.none_before;
         none_after = s.none_after;
         filled = kept_among test (c ∷ bs) (suc k) b at met;
@@ -170,16 +139,13 @@ count_all : (r : ℕ) (ps qs : List NumberedPass) → AllOf r ps → count_by (i
 count_all r [] qs h = omega arith
 count_all r (p ∷ ps) qs h = let one = count_step r p (ps ++ qs) true h.0 in let rest = count_all r ps qs h.1 in omega (arith, one, rest)
 
-count_behind : (r : ℕ) (xs qs : List NumberedPass) → NoneOf r xs → count_by (is_of r) (xs ++ qs) ≡ count_by (is_of r) qs
-count_behind r [] qs h = refl
-count_behind r (p ∷ ps) qs h = let one = count_step r p (ps ++ qs) false h.0 in let rest = count_behind r ps qs h.1 in omega (arith, one, rest)
-
 pub count_own : (r : ℕ) (xs ps ys : List NumberedPass) → NoneOf r xs → AllOf r ps → NoneOf r ys → count_by (is_of r) (xs ++ (ps ++ ys)) ≡ length ps
 count_own r xs ps ys h all k =
-    let one = count_behind r xs (ps ++ ys) h in
+    let both = sum_by-append (λ x. cond {A = ℕ} (is_of r x) 1 0) xs (ps ++ ys) in
+    let none = count_none r xs h in
     let own = count_all r ps ys all in
     let rest = count_none r ys k in
-    omega (arith, one, own, rest)
+    omega (arith, both, none, own, rest)
 
 among_front : (bs : List Booked) (i k : ℕ) (b : Booked) (name : List ℕ) → slice_get bs i ≡ Some b → i < k → same name b.name ≡ true → among name (names_of (take k bs)) ≡ true
 among_front [] i k b name at lt is = absurd (cc)
@@ -199,9 +165,6 @@ one_number script turn i j b c at there is =
     grind (arith, one_name script turn i j b c at there (ap (same c.name) equal ∙ itself c.name), one_name script turn j i c b there at is)
 
 -- ---- loops
-
-booked_kept : (before after : List Statement) → Extends before after → (k : ℕ) (b : Booked) → slice_get (bookings before) k ≡ Some b → slice_get (bookings after) k ≡ Some b
-booked_kept = kept bookings booked_by (λ before s. refl)
 
 -- the result waits behind these statements
 abbrev pub waits : List Statement → Booked → Bool

@@ -1,24 +1,25 @@
 -- The lines of what a session filled: of actions, of watched results and of reports.
-use Rattle.std.proofs.Common.{◌≡◌, ℕ, zero, suc, ◌+◌, ◌<◌, List, [], ◌∷◌, ◌++◌, length, Some, refl, sym, ◌∙◌, ap, ap₂, subst, arith, append_assoc, length-append, flat_map, slice_get, ◌-◌, ◌≤◌, Bool, true, false, map, None, if◌then◌else◌, All, codes, nat_eq, ◌⊎◌, inl, inr, Option, filter, option_map, unwrap_or, ◌^◌, append-nil, Result, Ok, Err, OnOk}
-use Rattle.std.proofs.lemmas.List.{length-map, map-append}
+use Rattle.std.proofs.Common.{◌≡◌, ℕ, zero, suc, ◌+◌, ◌*◌, ◌<◌, List, [], ◌∷◌, ◌++◌, length, Some, refl, sym, ◌∙◌, ap, ap₂, subst, arith, append_assoc, length-append, flat_map, slice_get, ◌-◌, ◌≤◌, Bool, true, false, map, None, if◌then◌else◌, All, codes, nat_eq, ◌⊎◌, inl, inr, Option, filter, option_map, unwrap_or, ◌^◌, append-nil, Result, Ok, Err, OnOk}
+use Rattle.std.proofs.lemmas.List.{length-map}
 use Rattle.lemmas.proofs.{something_at, same_some}
-use Rattle.rdf_values.specs.{ActionAt, ActionKind, Booked, Booking, Pass, Path, Span, Filled, line, below, Column, covered, fn_names, Function, FunctionNames, has_variations, named_before, passes_of, path, ReportOn, result_depends, Statement, Variation, variations, varied_passes, cut, history, is_watched, Lead}
+use Rattle.rdf_values.specs.{ActionAt, ActionKind, Booked, Booking, Pass, Path, Span, Filled, line, below, Column, fn_names, Function, FunctionNames, has_variations, named_before, passes_of, ReportOn, result_depends, Statement, Variation, variations, varied_passes, cut, history, is_watched, Lead}
 use Rattle.rdf_model.specs.{action_pass, booking_lines, Dataset, filled_lines, kind_in, kinds_in, label, loop_facts, over_clusters, pass_lines, pass_result, in_front, maximal_runs, partial_line, partial_result, Run, run_text, value_text, cutflow, filter_label, first_fault, Course, flow_lines, loop_of, partial_lines}
 use Rattle.actions.specs.{Accumulator}
-use Rattle.graph_numbers.proofs.Listed.{by_test, joined, next_at, only_at}
+use Rattle.graph_numbers.proofs.Listed.{by_test, joined, next_at}
 use Rattle.loop_pieces.specs.{LoopPiece, StandsFor, ArePartialLines, IsPartialLine, PartialLine, span_of, Counts, counts_at, counts_of, cluster_fault, FilledResult, place_if_watched}
 use Rattle.loop_pieces.proofs.WholeLoops.{piece_holds_results, watch_piece_is_partial_result, piece_holds_counts, all_clusters_are_the_table}
 use Rattle.result_text.specs.{acc_lines, lines_from, AreRuns, run_of, runs_text, watch_line, watch_lines, counts_seen, flow_at, booking_text, filled_text, FitsBooking, FitsResult}
-use Rattle.event_loop.proofs.Found.{AreOf, kinds-append, passes_are_of}
+use Rattle.event_loop.proofs.Found.{AreOf, kinds-append, own_kinds, passes_are_of}
 use Rattle.std.specs.List.{AllByRecursion, join_with_byte}
 use Rattle.std.proofs.lemmas.Bool.{cond_both, eqb-true}
 use Rattle.std.proofs.lemmas.List.Elements.{All-from_recursion}
 use Rattle.std.proofs.lemmas.Option.{slice_get-map}
 use Rattle.rdf_values.proofs.Below.{length-below}
-use Rattle.rdf_values.specs.declared.statement.Statement.TheVariants.{Action, Filter, Report}
-use Rattle.graph_numbers.specs.{covered_at, FilterAt, filters, graph_filters, GraphView, own_filters, own_results, ResultAt, results, graph_results}
-use Rattle.graph_numbers.proofs.Covering.{AreNumbersOf, covered_numbers, filters_are, numbers_later}
-use Rattle.graph_numbers.proofs.Extending.{Extends, itself, shorter}
+use Rattle.graph_numbers.specs.{FilterAt, filters, graph_filters, GraphView, ResultAt, results, graph_results}
+use Rattle.graph_numbers.proofs.Covering.{AreNumbersOf, filters_are}
+use Rattle.graph_numbers.proofs.Extending.{itself}
+use Rattle.graph_numbers.proofs.Walks.{each_filter}
+use Rattle.loop_keys.proofs.Covered.{AreCovers, covers_are as booked_covers}
 use Rattle.rdf_values.proofs.Leading.{cuts_lead}
 use Rattle.loop_keys.specs.{passes_in}
 use Rattle.event_loop.specs.{ArePartials, FitsCourse, HasNoPartials, IsFilledIn, IsPlaced, IsResult, IsSession, IsUnfilled, job_facts, loop_filling, session_job, SessionView}
@@ -38,12 +39,7 @@ module _ (b : Booked) (k : ActionKind) (at : Path) (action : b.booking ≡ Actio
   own_kind (p ∷ own) rest (suc i) h lt = ap (λ l. slice_get ((l ++ kinds_in own) ++ rest) (suc i)) (its_kinds p h.0) ∙ own_kind own rest i h.1 (omega arith)
 
   pub own_count : (own : List Pass) → AreOf b own → length (kinds_in own) ≡ length own
-  own_count [] h = refl
-  own_count (p ∷ own) h =
-      let both = length-append (kind_in p.result.booking) (kinds_in own) in
-      let one = ap (λ (l : List ActionKind). length l) (its_kinds p h.0) in
-      let rest = own_count own h.1 in
-      omega (arith, both, one, rest)
+  own_count own h = own_kinds b own h ∙ (let one = ap (λ (c : Booking). length own * length (kind_in c)) action in omega (arith, one))
 
   pub kind_at : (before own after : List Pass) (i : ℕ) → AreOf b own → i < length own → slice_get (kinds_in (before ++ (own ++ after))) (length (kinds_in before) + i) ≡ Some k
   kind_at before own after i h lt =
@@ -154,66 +150,25 @@ between (y ∷ ys) (suc n) x at =
 -- ---- named filters
 
 module _ (header : List Column) (names : FunctionNames) where
-  -- each has the label of its path
-  labels_are : (before : List Statement) → map (λ (f : FilterAt). f.label) (filters header names before) ≡ map (λ (f : FilterAt). filter_label f.at) (filters header names before)
-  labels_are [] = refl
-  labels_are (s ∷ before) =
-      map-append (λ (f : FilterAt). f.label) (filters header names before) (own_filters header names before s) ∙ own s (labels_are before)
-      ∙ sym (map-append (λ (f : FilterAt). filter_label f.at) (filters header names before) (own_filters header names before s))
-    where
-      own : (s : Statement) → map (λ (f : FilterAt). f.label) (filters header names before) ≡ map (λ (f : FilterAt). filter_label f.at) (filters header names before)
-          → map (λ (f : FilterAt). f.label) (filters header names before) ++ map (λ (f : FilterAt). f.label) (own_filters header names before s)
-          ≡ map (λ (f : FilterAt). filter_label f.at) (filters header names before) ++ map (λ (f : FilterAt). filter_label f.at) (own_filters header names before s)
-      own (Filter node parent expr (Some label)) h = ap (λ ls. ls ++ label ∷ []) h
-      own s h = ap (λ ls. ls ++ []) h
-
   pub its_path : (before : List Statement) (n : ℕ) (f : FilterAt) → slice_get (filters header names before) n ≡ Some f → slice_get (named_before before) n ≡ Some f.at
   its_path before n f at = ap (λ l. slice_get l n) (sym (filters_are header names before)) ∙ slice_get-map (λ (x : FilterAt). x.at) (filters header names before) n ∙ ap (option_map (λ (x : FilterAt). x.at)) at
 
+  -- its label is that of its path
   pub its_label : (before : List Statement) (n : ℕ) (f : FilterAt) → slice_get (filters header names before) n ≡ Some f → f.label ≡ filter_label f.at
-  its_label before n f at = same_some (
-      sym (ap (option_map (λ (x : FilterAt). x.label)) at) ∙ sym (slice_get-map (λ (x : FilterAt). x.label) (filters header names before) n)
-      ∙ ap (λ l. slice_get l n) (labels_are before) ∙ slice_get-map (λ (x : FilterAt). filter_label x.at) (filters header names before) n ∙ ap (option_map (λ (x : FilterAt). filter_label x.at)) at
-      )
+  its_label = each_filter header names (λ upto f. f.label ≡ filter_label f.at) (λ upto s f h. h) (λ upto node parent expr label. refl)
+
+  -- and that isn't the head's
+  path_nonempty : (before : List Statement) (n : ℕ) (f : FilterAt) → slice_get (filters header names before) n ≡ Some f → f.at ≡ [] → ⊥
+  path_nonempty = each_filter header names (λ upto f. f.at ≡ [] → ⊥) (λ upto s f h. h) (λ upto node parent expr label e. cc e)
 
   pub filter_count : (before : List Statement) → length (filters header names before) ≡ length (named_before before)
   filter_count before = sym (length-map (filters header names before) (λ (f : FilterAt). f.at)) ∙ ap (λ (l : List Path). length l) (filters_are header names before)
 
--- no named filter is the head
-named_nonempty : (before : List Statement) (n : ℕ) → slice_get (named_before before) n ≡ Some [] → ⊥
-named_nonempty [] n h = cc h
-named_nonempty (Filter node parent expr (Some label) ∷ before) n h =
-    joined (named_before before) ((Filter node parent expr (Some label) ∷ path before parent) ∷ []) n [] h (named_nonempty before n)
-    (λ k e q. let is = only_at (Filter node parent expr (Some label) ∷ path before parent) [] k q in absurd (cc))
-named_nonempty (Filter node parent expr None ∷ before) n h = named_nonempty before n h
-named_nonempty (s ∷ before) n h = named_nonempty before n h
-
 -- ---- what a report covers
 
-module _ (fns : List Function) (columns : List Column) where
-  covers_of : (script before : List Statement) → Extends before script → (r : ℕ) (x : ResultAt) (fs : List Path) → slice_get (results columns (fn_names fns) before) r ≡ Some x → x.booked.booking ≡ ReportOn fs
-      → AreNumbersOf fns columns script x.covers fs
-  covers_of script [] e r x fs at report = absurd (cc)
-  covers_of script (s ∷ before) e r x fs at report =
-      joined (results columns (fn_names fns) before) (own_results columns (fn_names fns) before s) r x at
-      (λ q. covers_of script before (shorter s before script e) r x fs q report) (λ k _ q. own s k q)
-    where
-      begins : Extends before script
-      begins = shorter s before script e
-
-      own : (s : Statement) → (k : ℕ) → slice_get (own_results columns (fn_names fns) before s) k ≡ Some x → AreNumbersOf fns columns script x.covers fs
-      own (Action result parent kind) k q = let is = ap (λ (y : ResultAt). y.booked.booking) (only_at _ x k q) ∙ report in absurd (cc)
-      own (Report result parent) k q =
-          let row = only_at _ x k q in
-          let booking = ap (λ (y : ResultAt). y.booked.booking) row ∙ report in
-          let same_list : covered before (path before parent) ≡ fs = cc in
-          subst (λ (ns : List ℕ). AreNumbersOf fns columns script ns fs) (ap (λ (y : ResultAt). y.covers) row)
-          (subst (λ (ps : List Path). AreNumbersOf fns columns script (covered_at before parent) ps) same_list
-          (numbers_later fns columns before script begins (covered_at before parent) (covered before (path before parent)) (covered_numbers fns columns before parent)))
-      own s k q = absurd (cc)
-
-  pub covers_are : (script : List Statement) (r : ℕ) (x : ResultAt) (fs : List Path) → slice_get (results columns (fn_names fns) script) r ≡ Some x → x.booked.booking ≡ ReportOn fs → AreNumbersOf fns columns script x.covers fs
-  covers_are script r x fs at report = covers_of script script itself r x fs at report
+pub covers_are : (fns : List Function) (columns : List Column) (script : List Statement) (r : ℕ) (x : ResultAt) (fs : List Path) → slice_get (results columns (fn_names fns) script) r ≡ Some x → x.booked.booking ≡ ReportOn fs
+    → AreNumbersOf fns columns script x.covers fs
+covers_are fns columns script r x fs at report = subst (λ (b : Booking). AreCovers fns columns script b x.covers) report (booked_covers fns columns script script itself r x at)
 
 -- ---- passes
 
@@ -235,9 +190,9 @@ module _ (script : List Statement) (d : Dataset) (spans : List Span) (set : List
   flow_length = ap (λ (l : List Counts). length l) stands.flow ∙ length-map (below (length (named_before script))) (counts_at (loop_facts d (named_before script) spans passes) set) ∙ length-below (length (named_before script))
 
   module _ (p : Pass) (n : ℕ) (its : slice_get passes n ≡ Some p) (fs : List Path) (report : p.result.booking ≡ ReportOn fs) where
-    counts_are : (i m : ℕ) (f : Path) → slice_get fs i ≡ Some f → slice_get (named_before script) m ≡ Some f → slice_get piece.flow m ≡ Some (counts_of (cutflow d f))
-    counts_are i m [] at named = absurd (named_nonempty script m named)
-    counts_are i m (s ∷ up) at named =
+    counts_are : (i m : ℕ) (f : Path) → (f ≡ [] → ⊥) → slice_get fs i ≡ Some f → slice_get (named_before script) m ≡ Some f → slice_get piece.flow m ≡ Some (counts_of (cutflow d f))
+    counts_are i m [] some at named = absurd (some refl)
+    counts_are i m (s ∷ up) some at named =
         let b = between (named_before script) m (s ∷ up) named in
         let split = subst (λ (l : List Path). StandsFor (loop_facts d l spans passes) set piece) b.joined stands in
         let still = ap (λ (x : Dataset). first_fault x passes) whole ∙ sound in
@@ -255,7 +210,7 @@ module _ (script : List Statement) (d : Dataset) (spans : List Span) (set : List
         let its_label_is : y.label ≡ filter_label f = its_label header (fn_names fns) script m y h.0.1 ∙ ap filter_label h.0.2 in
         let named : slice_get (named_before script) m ≡ Some f = its_path header (fn_names fns) script m y h.0.1 ∙ ap (λ q. Some q) h.0.2 in
         let listed : slice_get fs (length done) ≡ Some f = (let none : length done ≡ length done + 0 = omega arith in ap (λ l. slice_get l (length done)) joined ∙ next_at done (f ∷ gs) 0 (length done) none) in
-        let counted = counts_are (length done) m f listed named in
+        let counted = counts_are (length done) m f (λ e. path_nonempty header (fn_names fns) script m y h.0.1 (h.0.2 ∙ e)) listed named in
         let one : flow_at g piece.flow m ≡ (filter_label f, cutflow d f) =
         λ i. ((ap (λ (o : Option FilterAt). unwrap_or (option_map (λ (x : FilterAt). x.label) o) []) at ∙ its_label_is) i, ap (λ (o : Option Counts). counts_seen (unwrap_or o (record { all = 0; pass = 0 }))) counted i) in
         ap₂ (λ x xs. x ∷ xs) one (flows_from header fns ns gs (done ++ f ∷ []) (joined ∙ sym (append_assoc done (f ∷ []) gs)) h.1 g same_filters)

@@ -1,17 +1,17 @@
 -- A slot that finished no cluster, and one before and after a cluster.
 use Rattle.std.proofs.Common.{◌≡◌, ℕ, ◌<◌, ◌≤◌, List, [], ◌∷◌, ◌++◌, Option, None, Some, ap, subst, arith, slice_get, length, length-append, sym, ◌+◌, map, refl, ◌∙◌, All, replicate, unwrap_or}
 use Rattle.rdf_values.specs.{Fault, times, below, AnswerIn64Bits, Booked, history, named_before, Pass, StatementsHaveWords}
-use Rattle.rdf_values.proofs.DrawCounts.{times_push}
+use Rattle.rdf_values.proofs.DrawCounts.{rises_push, times_push}
+use Rattle.slot_words.proofs.Steps.{rising_room}
 use Rattle.event_loop.specs.{AreSound, IsSlotOf, job_facts, Phase, SlotView, IsFreshSlot, IsOfPasses}
 use Rattle.std.specs.List.Sorted.{IsStrictlyIncreasing}
 use Rattle.std.proofs.lemmas.Grind.{common_steps}
 use Rattle.std.proofs.lemmas.List.Kept.{AllPairs-from_increasing}
 use Rattle.std.proofs.lemmas.List.{length-map, map-append}
-use Rattle.std.proofs.lemmas.List.Elements.{All-cons, All-contains, All-head, All-nil, All-tail, All-weaker, Contains-push}
+use Rattle.std.proofs.lemmas.List.Elements.{All-cons, All-contains, All-nil, All-weaker, Contains-push}
 use Rattle.std.specs.declared.snapshot.Snapshot.{Snapshot}
 use Rattle.lemmas.proofs.{mapped_at, something_at}
 use Rattle.rdf_values.proofs.Below.{length-below, slice_get-below}
-use Rattle.rdf_values.proofs.UnionLemmas.{Rises, rises_from}
 use Rattle.block_passes.specs.{at_end, CountsVectors, IsStateOf}
 use Rattle.loop_keys.specs.{facts_in, job_graph, job_spans, JobView, passes_in, IsJob}
 use Rattle.cluster_tally.specs.{at_begin, Holds, IsAtEnd, IsFresh}
@@ -48,13 +48,8 @@ one_above (x ∷ xs) =
     )
 
 -- rising numbers below another are fewer
-few_rising : (x : ℕ) (xs : List ℕ) (c : ℕ) → Rises (x ∷ xs) → All (λ d. d < c) (x ∷ xs) → x + 1 + length xs ≤ c
-few_rising x [] c up high = let lt = All-head (λ d. d < c) x [] high in omega arith
-few_rising x (y ∷ ys) c up high = let lt = up.0.0 in let rest = few_rising y ys c up.1 (All-tail (λ d. d < c) x (y ∷ ys) high) in omega arith
-
 pub fewer : (xs : List ℕ) (c : ℕ) → IsStrictlyIncreasing xs → All (λ d. d < c) xs → length xs ≤ c
-fewer [] c up high = omega arith
-fewer (x ∷ xs) c up high = let few = few_rising x xs c (rises_from (x ∷ xs) up) high in omega arith
+fewer xs c up high = rising_room xs c (rises_push xs c up high)
 
 -- what snapshots show, with one more
 pub seen_with : (done more : List (Snapshot ℕ)) (cluster : ℕ) (s : Snapshot ℕ) → s.value ≡ cluster → more ≡ done ++ s ∷ [] → map (λ (d : Snapshot ℕ). d.value) more ≡ map (λ (d : Snapshot ℕ). d.value) done ++ cluster ∷ []

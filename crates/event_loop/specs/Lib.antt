@@ -17,7 +17,7 @@ pub use Filling.{AllAreGoing, AreFilled, ArePieces, CanFill, dones_of, IsBookOf,
 pub use Gathered.{AreDone, AreFacts, done_in, done_or_none, end_faults, fault_of, finished_by, HasMemory, HasStopped, IsDone, IsOutcome, IsServed, seat_in}
 pub use Jobs.{job_facts, JobFacts}
 pub use Parts.{job_with}
-pub use Passes.{is_watched_pass, IsOfPasses, places_before, watched_before}
+pub use Passes.{is_watched_pass, IsOfPasses, places_before}
 pub use Places.{fills, IsFilledPlace, IsPassOf, IsPlaced, loop_filling}
 pub use Seated.{AreBlank, IsBlank, IsOpened}
 pub use Sessions.{ArePartials, dataset_of, fresh_session, HasNoPartials, HasSameParts, IsAccessed, IsFaulted, IsFilledAt, IsFilledIn, IsFoundAt, IsKept, IsRefused, IsResult, IsSession, IsUnfilled, passes_run, session_job, session_of, SessionView}

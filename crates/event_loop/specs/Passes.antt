@@ -1,5 +1,5 @@
 -- The passes of a loop, as they are added to a tally.
-use Rattle.std.specs.Prelude.{◌&&◌, ℕ, Bool, List, is_none, length, take}
+use Rattle.std.specs.Prelude.{◌&&◌, ℕ, Bool, List, is_none, take}
 use Rattle.rdf_values.specs.{history, is_watched, Pass, Statement}
 use Rattle.rdf_model.specs.{kinds_in}
 use Rattle.loop_keys.specs.{JobView, passes_in}
@@ -13,10 +13,6 @@ is_watched_pass script p = is_none p.under && is_watched script p.result.name
 -- the places of the watched passes among the first so many passes
 abbrev pub places_before : JobView → ℕ → List ℕ
 places_before j n = watched_places (history j.script) (take n (passes_in j))
-
--- and how many there are
-abbrev pub watched_before : JobView → ℕ → ℕ
-watched_before j n = length (places_before j n)
 
 -- nothing was told to the tally, and it is one of the first so many passes
 abbrev pub IsOfPasses : JobView → ℕ → TallyView → Type 0

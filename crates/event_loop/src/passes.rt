@@ -1,11 +1,12 @@
 // The passes of a loop.
-ghost use Rattle.std.specs.Prelude.{◌≡◌, ◌<◌, ◌+◌, ℕ, Some, length, slice_get};
+ghost use Rattle.std.specs.Prelude.{◌≡◌, ◌<◌, ℕ, Some, length, slice_get};
 ghost use Rattle.rdf_values.specs.Bookings as bookings;
 ghost use Rattle.rdf_values.specs.{history};
 ghost use Rattle.loop_keys.specs.{Fits, job_of, numbered_in, passes_in};
-ghost use Rattle.event_loop.specs.{is_watched_pass, job_facts, watched_before};
+ghost use Rattle.event_loop.specs.{is_watched_pass, job_facts};
 
-use graph_numbers::{Pass, ResultKind};
+use crate::place::counts_of;
+use graph_numbers::Pass;
 use loop_keys::Job;
 
 /// How many passes the loop has.
@@ -40,30 +41,14 @@ pub(crate) fn pass_at(job: &Job<'_>, number: u32) -> Pass
     job.graph.passes(job.loop_index)[number as usize]
 }
 
-// How many watched results the pass of that number adds: one or none.
-fn watched_at(job: &Job<'_>, number: u32) -> u32
-    requires job { Fits job.now }
-    requires number { number < length (passes_in (job_of job.now)) }
-    ensures { watched_before (job_of job.now) (number + 1) ≡ watched_before (job_of job.now) number + result }
-{
-    let pass = pass_at(job, number);
-    match job.graph.kind(pass.result) {
-        ResultKind::Report => 0,
-        ResultKind::Action(_) => {
-            let is_watched = is_watched(job, pass);
-            u32::from(is_watched)
-        }
-    }
-}
-
 /// How many results of the loop are watched.
 pub fn watched_in(job: &Job<'_>) -> u32
     requires { Fits job.now }
     ensures { result ≡ length (job_facts (job_of job.now)).watched }
 {
-    let mut watched = 0;
-    for number in 0..pass_count(job) {
-        watched += watched_at(job, number);
-    }
-    watched
+    job.graph.is_booked();
+    let _variations = job.graph.variations().len();
+    let passes = job.graph.passes(job.loop_index);
+    let counts = counts_of(job.graph, passes);
+    counts.watched
 }

@@ -2,8 +2,8 @@
 ghost use Rattle.std.specs.Prelude.{◌≡◌, ◌<◌, ◌≤◌, ◌^◌, ◌∷◌, [], ℕ, List, MatchOption, None, Some, if◌then◌else◌, count_by, false, length, map, nat_eq, option_map, slice_get};
 ghost use Rattle.std.specs.List.{position};
 ghost use Rattle.rdf_values.specs.{Booked, Pass as NamedPass};
-ghost use Rattle.rdf_model.specs.{kind_in, kinds_in, loop_passes, loop_results};
-ghost use Rattle.graph_numbers.specs.{booked_statements, graph_loops, graph_results, IsGraph, Pass as NumberedPass, pass_at, ResultAt};
+ghost use Rattle.rdf_model.specs.{kind_in, kinds_in, loop_results};
+ghost use Rattle.graph_numbers.specs.{booked_statements, graph_loops, graph_results, Pass as NumberedPass, pass_at, ResultAt};
 ghost use Rattle.loop_pieces.specs.{place_if_watched, watched_places};
 ghost use Rattle.event_loop.specs.{fills, IsFilledPlace, IsPassOf};
 
@@ -19,11 +19,11 @@ pub struct Place {
     pub watched: u32,
 }
 
-// How many action passes there are among some passes, and how many of them are watched.
+/// How many action passes there are among some passes, and how many of them are watched.
 #[derive(Clone, Copy)]
-struct PassCounts {
-    actions: u32,
-    watched: u32,
+pub struct PassCounts {
+    pub actions: u32,
+    pub watched: u32,
 }
 
 // How many accumulators each pass of a result has: of an action one, and of a report none.
@@ -56,8 +56,8 @@ fn watched_accumulators(graph: &Graph, pass: Pass) -> u32
     }
 }
 
-// The counts of some passes.
-fn counts_of(graph: &Graph, passes: &[Pass]) -> PassCounts
+/// The counts of some passes.
+pub fn counts_of(graph: &Graph, passes: &[Pass]) -> PassCounts
     requires passes { (i : ℕ) (p : NumberedPass) → slice_get passes.now i ≡ Some p → IsPassOf graph.now p }
     requires few { length passes.now < 2 ^ 32 }
     ensures { (qs : List NamedPass) → map (pass_at (booked_statements graph.now)) passes.now ≡ map (λ q. Some q) qs

@@ -40,7 +40,7 @@ module _ (script : List Statement) where
   all_variations k v q = ap (slice_get (variations script)) (zero-add k) ∙ q
 
   -- the passes of a result
-  result_are : (n : ℕ) (b : Booked) → slice_get (bookings script) n ≡ Some b → map (pass_at script) (result_passes script n b) ≡ map (λ p. Some p) (passes_of script b)
+  pub result_are : (n : ℕ) (b : Booked) → slice_get (bookings script) n ≡ Some b → map (pass_at script) (result_passes script n b) ≡ map (λ p. Some p) (passes_of script b)
   result_are n b h =
       by_test (has_variations script b.name) (λ e. rw e (λ i. nominal i ∷ varied_are n b h 0 (variations script) all_variations i)) (λ e. rw e (λ i. nominal i ∷ []))
     where

@@ -1,27 +1,26 @@
 -- Which named filters reports cover: by the nodes of the filters, and by their numbers.
-use Rattle.std.proofs.Common.{◌≡◌, ◌⊎◌, inl, inr, ℕ, suc, ◌<◌, Bool, true, false, ◌||◌, List, [], ◌∷◌, length, map, Option, Some, None, refl, sym, ◌∙◌, ap, arith, nat_eq, get_or, slice_get, unwrap_or, Contains}
+use Rattle.std.proofs.Common.{◌≡◌, ◌⊎◌, inl, inr, ℕ, suc, ◌<◌, Bool, true, false, ◌||◌, List, [], ◌∷◌, length, map, Option, Some, None, refl, sym, ◌∙◌, ap, arith, nat_eq, slice_get, Contains}
 use Rattle.std.specs.List.{list_any}
 use Rattle.std.proofs.lemmas.Bool.{cases_order}
 use Rattle.std.proofs.lemmas.Bool.Decides.{Decides-eqb}
 use Rattle.std.proofs.lemmas.List.{length-map}
-use Rattle.std.proofs.lemmas.Option.{slice_get-get_or, slice_get_within}
-use Rattle.lemmas.proofs.{mapped_at, or_left, or_right}
-use Rattle.rdf_values.specs.{ActionAt, AreAccepted, Booked, Booking, bookings, check, Column, fn_names, Function, FunctionNames, history, makes, named_before, Pass, ReportOn, same, scope_of, Statement}
+use Rattle.std.proofs.lemmas.Map.Views.{Contains-from_any}
+use Rattle.std.proofs.lemmas.Option.{slice_get_within}
+use Rattle.lemmas.proofs.{mapped_at, or_left, or_right, something_at}
+use Rattle.rdf_values.specs.{ActionAt, AreAccepted, Booking, check, Column, fn_names, Function, FunctionNames, history, makes, named_before, Pass, ReportOn, same, scope_of, Statement}
 use Rattle.rdf_values.specs.declared.statement.Statement.TheVariants.{Filter, Report}
-use Rattle.rdf_model.specs.{filter_node, is_covered, loop_passes, loop_results, reports_on}
+use Rattle.rdf_model.specs.{filter_node, is_covered, reports_on}
 use Rattle.rdf_model.proofs.Accepted.{itself as same_itself, names_equal}
-use Rattle.graph_numbers.specs.{FilterAt, filters, graph_filters, graph_loops, graph_results, own_filters, Pass as NumberedPass, pass_at, ResultAt, results}
+use Rattle.graph_numbers.specs.{FilterAt, filters, graph_filters, graph_results, own_filters, Pass as NumberedPass, pass_at, ResultAt, results}
 use Rattle.graph_numbers.proofs.Apart.{AreApart, MadeBy, both_apart, eq_false, is_new, one_apart, other_way}
 use Rattle.graph_numbers.proofs.Closing.{some_is}
 use Rattle.graph_numbers.proofs.Covering.{AreNumbersOf, covered_numbers, filters_are, numbers_later}
 use Rattle.graph_numbers.proofs.Extending.{Extends, itself, shorter}
 use Rattle.graph_numbers.proofs.Listed.{by_test, only_at}
-use Rattle.graph_numbers.proofs.Looping.{loops_are}
 use Rattle.graph_numbers.proofs.Walks.{each_filter, each_result}
-use Rattle.graph_numbers.proofs.Resulting.{booked_are}
 use Rattle.loop_keys.specs.{covered_in, covers_of, is_covering, IsCovered, IsJob, job_graph, JobView, numbered_passes, passes_in}
 use Rattle.loop_keys.proofs.EvaluateLaws.{accepted_of}
-use Rattle.loop_keys.proofs.Elements.{of_mapped, of_option}
+use Rattle.loop_keys.proofs.PassNumbers.{numbered_result, passes_are, some_same}
 
 -- ---- no two named filters have one node
 
@@ -89,32 +88,15 @@ module _ (fns : List Function) (columns : List Column) (before : List Statement)
           let rest = go ns ps h.1 in λ i. one i || rest i
       go ns ps h = elim h [ ]
 
--- ---- the passes of a loop by numbers
-
-at_both : {A B C : Type 0} (F : List A → List C) (G : List B → List C) → F [] ≡ G [] → (xs : List (List A)) (ys : List (List B)) (n : ℕ) → map F xs ≡ map G ys → F (unwrap_or (slice_get xs n) []) ≡ G (unwrap_or (slice_get ys n) [])
-at_both F G e [] [] n h = e
-at_both F G e (x ∷ xs) (y ∷ ys) (suc n) h = at_both F G e xs ys n (cc h)
-at_both F G e xs ys n h = cc h
-
--- they are the passes of the loop
-pub passes_are : (j : JobView) → map (pass_at (history j.script)) (numbered_passes j) ≡ map (λ p. Some p) (passes_in j)
-passes_are j =
-    at_both (map (pass_at (history j.script))) (λ results. map (λ (p : Pass). Some p) (loop_passes (history j.script) results)) refl (graph_loops (job_graph j)) (loop_results (history j.script)) j.number
-    (loops_are (history j.script) (history j.script) itself)
-
-pub passes_count : (j : JobView) → length (numbered_passes j) ≡ length (passes_in j)
-passes_count j =
-    sym (length-map (numbered_passes j) (pass_at (history j.script))) ∙ ap length (passes_are j) ∙ length-map (passes_in j) (λ (p : Pass). Some p)
+-- ---- the filters of a loop by their numbers
 
 module _ (j : JobView) (job : IsJob j) (f : ℕ) (x : FilterAt) (q : slice_get (graph_filters (job_graph j)) f ≡ Some x) where
   one_covers : (m : NumberedPass) (p : Pass) → pass_at (history j.script) m ≡ Some p → is_covering (graph_results (job_graph j)) f m ≡ reports_on (filter_node x.at) p.result.booking
   one_covers m p h =
-      let b = of_option (λ (b : Booked). record { result = b; under = _ }) (slice_get (bookings (history j.script)) m.result) p h in
-      let e = ap (λ bs. slice_get bs m.result) (booked_are j.dataset.columns (fn_names j.dataset.fns) (history j.script)) ∙ b.1 in
-      let r = of_mapped (λ (x : ResultAt). x.booked) (graph_results (job_graph j)) m.result b.0 e in
+      let r = numbered_result j m p h in
       let s = same_covers j.dataset.fns j.dataset.columns (history j.script) (accepted_of j job) f x q r.0.booked.booking r.0.covers
       (covers_are j.dataset.fns j.dataset.columns (history j.script) (history j.script) itself m.result r.0 r.1) in
-      ap (λ o. list_any (nat_eq f) (covers_of o)) r.1 ∙ sym s ∙ ap (λ (y : Booked). reports_on (filter_node x.at) y.booking) r.2 ∙ ap (λ (y : Pass). reports_on (filter_node x.at) y.result.booking) b.2
+      ap (λ o. list_any (nat_eq f) (covers_of o)) r.1 ∙ sym s ∙ ap (λ (y : Pass). reports_on (filter_node x.at) y.result.booking) (sym r.2)
 
   some_cover : (ms : List NumberedPass) (ps : List Pass) → map (pass_at (history j.script)) ms ≡ map (λ p. Some p) ps → list_any (is_covering (graph_results (job_graph j)) f) ms ≡ list_any (λ (p : Pass). reports_on (filter_node x.at) p.result.booking) ps
   some_cover [] [] h = refl
@@ -142,20 +124,17 @@ any_at : {A : Type 0} (test : A → Bool) (xs : List A) → list_any test xs ≡
 any_at test [] h = cc h
 any_at test (x ∷ xs) h = by_test (test x) (λ e. (0, x, refl, e)) (λ e. let w = any_at test xs (rw e at h) in (suc w.0, w.1, w.2, w.3))
 
-pub some_contains : (f : ℕ) (ns : List ℕ) → list_any (nat_eq f) ns ≡ true → Contains ns f
-some_contains f ns h =
-    let w = any_at (nat_eq f) ns h in
-    let e : f ≡ w.1 = (Decides-eqb f w.1).0 w.3 in
-    let l = slice_get_within ns w.0 w.1 w.2 in
-    let g : ◌≡◌ {A = Option ℕ} (Some (get_or ns w.0 f)) (Some f) = sym (slice_get-get_or ns w.0 f l) ∙ w.2 ∙ ap Some (sym e) in
-    (w.0, l, cc g)
-
 covers_there : (f : ℕ) (o : Option ResultAt) → list_any (nat_eq f) (covers_of o) ≡ true → (r : ResultAt) × (o ≡ Some r) × Contains r.covers f
 covers_there f None h = cc h
-covers_there f (Some r) h = (r, refl, some_contains f r.covers h)
+covers_there f (Some r) h = (r, refl, Contains-from_any (λ x y e. (Decides-eqb x y).0 e) f r.covers h)
 
 pub covered_there : (j : JobView) (f : ℕ) → list_any (is_covering (graph_results (job_graph j)) f) (numbered_passes j) ≡ true → IsCovered j f
 covered_there j f h =
     let w = any_at (is_covering (graph_results (job_graph j)) f) (numbered_passes j) h in
     let r = covers_there f (slice_get (graph_results (job_graph j)) w.1.result) w.3 in
     record { pass = w.0; numbered = w.1; result = r.0; its_pass = w.2; its_result = r.1; covers = r.2 }
+
+pub plan_covered : (j : JobView) (job : IsJob j) (f : ℕ) → slice_get (covered_in j) f ≡ Some true → IsCovered j f
+plan_covered j job f h =
+    let x = something_at (graph_filters (job_graph j)) f (let l = slice_get_within (covered_in j) f true h in let n = covered_count j in omega (arith, l, n)) in
+    covered_there j f (cover_is j job f x.0 x.1 ∙ some_same _ _ (sym (cover_at j job f x.0 x.1) ∙ h))

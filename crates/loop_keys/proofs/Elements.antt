@@ -1,7 +1,7 @@
 -- What stands in a list, and tests and facts of its elements; and from what an answer comes.
-use Rattle.std.proofs.Common.{◌≡◌, ℕ, zero, suc, Bool, true, ◌||◌, List, [], ◌∷◌, map, Option, Some, None, option_map, refl, sym, subst, ap, slice_get, unwrap_or, ◌+◌, ◌<◌, ◌++◌, length, arith, get_or, flat_map}
+use Rattle.std.proofs.Common.{◌≡◌, ℕ, zero, suc, Bool, true, ◌||◌, List, [], ◌∷◌, map, Option, Some, None, option_map, refl, sym, ◌∙◌, subst, ap, slice_get, unwrap_or, ◌+◌, ◌<◌, ◌++◌, length, arith, get_or, flat_map}
 use Rattle.std.proofs.lemmas.List.{length_push}
-use Rattle.std.proofs.lemmas.Option.{slice_get-get_or}
+use Rattle.std.proofs.lemmas.Option.{slice_get-get_or, slice_get-map}
 use Rattle.std.specs.List.{list_any, AllByRecursion}
 use Rattle.lemmas.proofs.{or_right}
 use Rattle.graph_numbers.proofs.Listed.{by_test, joined, only_at}
@@ -29,11 +29,6 @@ in_flat f [] n x y h k = cc h
 in_flat f (z ∷ xs) zero x y h k = let e : z ≡ x = cc h in in_left (f z) (flat_map f xs) (subst (λ (w : _). In y (f w)) (sym e) k)
 in_flat f (z ∷ xs) (suc n) x y h k = in_right (f z) (flat_map f xs) (in_flat f xs n x y h k)
 
-pub of_mapped : {A B : Type 0} (f : A → B) (xs : List A) (n : ℕ) (y : B) → slice_get (map f xs) n ≡ Some y → (x : A) × (slice_get xs n ≡ Some x) × (f x ≡ y)
-of_mapped f [] n y h = cc h
-of_mapped f (x ∷ xs) zero y h = (x, refl, cc h)
-of_mapped f (x ∷ xs) (suc n) y h = of_mapped f xs n y h
-
 pub of_chosen : {A : Type 0} (o : Option (List A)) (n : ℕ) (x : A) → slice_get (unwrap_or o []) n ≡ Some x → (xs : List A) × (o ≡ Some xs) × (slice_get xs n ≡ Some x)
 of_chosen None n x h = cc h
 of_chosen (Some xs) n x h = (xs, refl, h)
@@ -41,6 +36,9 @@ of_chosen (Some xs) n x h = (xs, refl, h)
 pub of_option : {A B : Type 0} (f : A → B) (o : Option A) (y : B) → option_map f o ≡ Some y → (x : A) × (o ≡ Some x) × (f x ≡ y)
 of_option f None y h = cc h
 of_option f (Some x) y h = (x, refl, cc h)
+
+pub of_mapped : {A B : Type 0} (f : A → B) (xs : List A) (n : ℕ) (y : B) → slice_get (map f xs) n ≡ Some y → (x : A) × (slice_get xs n ≡ Some x) × (f x ≡ y)
+of_mapped f xs n y h = of_option f (slice_get xs n) y (sym (slice_get-map f xs n) ∙ h)
 
 -- ---- lists that are right at each place
 

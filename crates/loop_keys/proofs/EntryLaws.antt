@@ -2,33 +2,14 @@
 use Rattle.std.proofs.Common.{◌≡◌, ℕ, suc, ◌+◌, ◌<◌, ◌≤◌, List, ◌∷◌, ◌++◌, length, take, Option, Some, None, option_map, refl, sym, ◌∙◌, ap, arith, get_or, slice_get, MatchOption}
 use Rattle.std.proofs.lemmas.Option.{slice_get-get_or}
 use Rattle.lemmas.proofs.{take_all}
-use Rattle.rdf_values.specs.{ActionAt, ActionKind, Booking, Pass, Path, ReportOn}
+use Rattle.rdf_values.specs.{ActionAt, Booking, Pass, ReportOn}
 use Rattle.rdf_model.specs.{kind_in, kinds_in}
 use Rattle.graph_numbers.specs.{graph_results, kind_of_booking, Pass as NumberedPass, ResultAt, ResultKind}
 use Rattle.loop_keys.specs.{actions_before, IsActionBooking, IsActionPass, IsReportPass, job_graph, JobView, numbered_in, numbered_passes, passes_in}
-use Rattle.loop_keys.proofs.PassNumbers.{result_there, some_same}
-use Rattle.loop_keys.proofs.PassTies.{pass_of}
+use Rattle.loop_keys.proofs.PassNumbers.{pass_of, result_there, some_same}
 use Rattle.loop_keys.proofs.Taken.{after_pass}
 
 -- ---- the kinds of passes
-
-pub record IsOf (j : JobView) (n : ℕ) : Type 0 where
-  pub pass : Pass
-  pub its_pass : slice_get (passes_in j) n ≡ Some pass
-  pub kind : ActionKind
-  pub at : Path
-  pub booking : pass.result.booking ≡ ActionAt kind at
-
-pub action_of : (j : JobView) (n : ℕ) → IsActionPass j n → IsOf j n
-action_of j n h = go (slice_get (passes_in j) n) refl h
-  where
-    booked : (p : Pass) → slice_get (passes_in j) n ≡ Some p → (b : Booking) → p.result.booking ≡ b → IsActionBooking b → IsOf j n
-    booked p q (ActionAt k at) e i = record { pass = p; its_pass = q; kind = k; at = at; booking = e }
-    booked p q (ReportOn fs) e i = elim i [ ]
-
-    go : (o : Option Pass) → slice_get (passes_in j) n ≡ o → MatchOption o ⊥ (λ (p : Pass). IsActionBooking p.result.booking) → IsOf j n
-    go None q i = elim i [ ]
-    go (Some p) q i = booked p q p.result.booking refl i
 
 module _ (j : JobView) (n : ℕ) (m : NumberedPass) (its : numbered_in j n ≡ Some m) (found : ResultKind) (q : option_map (λ (x : ResultAt). kind_of_booking x.booked.booking) (slice_get (graph_results (job_graph j)) m.result) ≡ Some found) where
   abbrev its_result : ResultAt
@@ -55,7 +36,15 @@ actions_few (suc n) (p ∷ ps) = go p.result.booking (actions_few n ps)
 actions_few n ps = omega arith
 
 pub action_next : (j : JobView) (n place : ℕ) → IsActionPass j n → place ≡ actions_before j n → place + 1 ≡ actions_before j (n + 1)
-action_next j n place h e = let a = action_of j n h in ap (λ m. m + 1) e ∙ sym (after_pass j n a.pass (ActionAt a.kind a.at) a.its_pass a.booking)
+action_next j n place h e = go (slice_get (passes_in j) n) refl h
+  where
+    booked : (p : Pass) → slice_get (passes_in j) n ≡ Some p → (b : Booking) → p.result.booking ≡ b → IsActionBooking b → place + 1 ≡ actions_before j (n + 1)
+    booked p q (ActionAt k at) b i = ap (λ m. m + 1) e ∙ sym (after_pass j n p (ActionAt k at) q b)
+    booked p q (ReportOn fs) b i = elim i [ ]
+
+    go : (o : Option Pass) → slice_get (passes_in j) n ≡ o → MatchOption o ⊥ (λ (p : Pass). IsActionBooking p.result.booking) → place + 1 ≡ actions_before j (n + 1)
+    go None q i = elim i [ ]
+    go (Some p) q i = booked p q p.result.booking refl i
 
 pub report_next : (j : JobView) (n own place : ℕ) → IsReportPass j n own → place ≡ actions_before j n → place ≡ actions_before j (n + 1)
 report_next j n own place p e =

@@ -1,12 +1,10 @@
--- The keys of sites as they are kept.
-use Rattle.std.proofs.Common.{◌≡◌, ℕ, zero, suc, ◌+◌, ◌<◌, ◌≤◌, Bool, true, false, cond, List, [], ◌∷◌, length, take, Option, Some, None, refl, sym, ◌∙◌, ap, arith, get_or, slice_get, if◌then◌else◌, count_by}
-use Rattle.std.proofs.lemmas.Option.{slice_get-get_or}
+-- The keys of sites, one site after another.
+use Rattle.std.proofs.Common.{◌≡◌, ℕ, zero, suc, ◌+◌, ◌<◌, ◌≤◌, Bool, true, false, cond, List, [], ◌∷◌, length, take, Option, Some, None, refl, sym, ◌∙◌, ap, arith, add-one, slice_get, if◌then◌else◌, count_by}
 use Rattle.lemmas.proofs.{something_at, take_all}
 use Rattle.graph.specs.{has, members_below, VarSet}
 use Rattle.graph_numbers.specs.{depends_on, graph_sites, graph_variations, GraphView, holds_at, site_depends_at, SiteAt}
-use Rattle.loop_keys.specs.{AreKeysAt, AreSiteKeys, key, key_count, keys_before, own_keys, slot, slot_at, slot_in}
-use Rattle.loop_keys.specs.declared.keys.SiteKeys.{SiteKeys}
-use Rattle.loop_keys.proofs.KeyLaws.{counted, key_small, keys_next, keys_none}
+use Rattle.loop_keys.specs.{key, keys_before, slot, slot_in}
+use Rattle.loop_keys.proofs.KeyLaws.{counted, key_is, keys_next, keys_none}
 
 -- ---- members and places
 
@@ -43,47 +41,30 @@ module _ {A : Type 0} (p : A → Bool) (xs : List A) (s : VarSet) (all : (v : �
 
 -- ---- the keys of a site
 
-module _ (g : GraphView) (s : ℕ) (k : SiteKeys) (kept : AreKeysAt g s k) (x : SiteAt) (its : slice_get (graph_sites g) s ≡ Some x) where
-  depends_is : (v : ℕ) → has k.depends v ≡ holds_at (depends_on x) (slice_get (graph_variations g) v)
-  depends_is v = kept.depends v ∙ ap (holds_at (λ y. holds_at (depends_on y) (slice_get (graph_variations g) v))) its
+module _ (g : GraphView) (s : ℕ) (inside : s < length (graph_sites g)) (depends : VarSet) (its : (v : ℕ) → has depends v ≡ site_depends_at g s v)
+    (first : ℕ) (next : first ≡ keys_before (graph_variations g) (graph_sites g) s) where
+  abbrev x : SiteAt
+  x = (something_at (graph_sites g) s inside).0
 
-  slot_is : (u : Option ℕ) → slot_in k.depends u ≡ slot (graph_variations g) x u
+  at : slice_get (graph_sites g) s ≡ Some x
+  at = (something_at (graph_sites g) s inside).1
+
+  depends_is : (v : ℕ) → has depends v ≡ holds_at (depends_on x) (slice_get (graph_variations g) v)
+  depends_is v = its v ∙ ap (holds_at (λ y. holds_at (depends_on y) (slice_get (graph_variations g) v))) at
+
+  slot_is : (u : Option ℕ) → slot_in depends u ≡ slot (graph_variations g) x u
   slot_is None = refl
-  slot_is (Some v) = λ i. if depends_is v i then suc (members_counted (depends_on x) (graph_variations g) k.depends depends_is v i) else 0
+  slot_is (Some v) = λ i. if depends_is v i then suc (members_counted (depends_on x) (graph_variations g) depends depends_is v i) else 0
 
-  pub own_is : ((v : ℕ) → 128 ≤ v → has k.depends v ≡ false) → suc (members_below k.depends 128) ≡ own_keys (graph_variations g) x
-  own_is none = ap suc (members_all (depends_on x) (graph_variations g) k.depends depends_is none)
+  pub here_key : (u : Option ℕ) → first + slot_in depends u ≡ key g s u
+  here_key u = let a = slot_is u in let b = key_is g s x u at in omega (arith, next, a, b)
 
-module _ (g : GraphView) (ks : List SiteKeys) (kept : AreSiteKeys g ks) (s : ℕ) (inside : s < length (graph_sites g)) (d : SiteKeys) (u : Option ℕ) (n : ℕ) (is : n ≡ slot_in (get_or ks s d).depends u) where
-  at : AreKeysAt g s (get_or ks s d)
-  at = kept.sites.each s (get_or ks s d) (slice_get-get_or ks s d (let c = kept.sites.many in omega (arith, c, inside)))
-
-  -- the key that is read
-  pub kept_key : (get_or ks s d).first + n ≡ key g s u
-  kept_key =
-      let x = something_at (graph_sites g) s inside in
-      let a = at.first in
-      let b : n ≡ slot_at (graph_variations g) (slice_get (graph_sites g) s) u = is ∙ slot_is g s (get_or ks s d) at x.0 x.1 u ∙ ap (λ o. slot_at (graph_variations g) o u) (sym x.1) in
-      omega (arith, a, b)
-
-  pub kept_small : (get_or ks s d).first + n < key_count g
-  kept_small = let a = kept_key in let b = key_small g s u inside in omega (arith, a, b)
-
--- ---- one more site
-
-module _ (g : GraphView) (site : ℕ) (k : SiteKeys) (first : ℕ) (inside : site < length (graph_sites g)) (next : first ≡ keys_before (graph_variations g) (graph_sites g) site)
-    (is : k.first ≡ first) (depends : (v : ℕ) → has k.depends v ≡ site_depends_at g site v) where
-  pub here_kept : AreKeysAt g site k
-  here_kept = record { first = is ∙ next; depends = depends }
-
-  pub next_first : (count : ℕ) → count ≡ members_below k.depends 128 → ((v : ℕ) → 128 ≤ v → has k.depends v ≡ false) → first + (1 + count) ≡ keys_before (graph_variations g) (graph_sites g) (site + 1)
+  -- where the keys of the next site begin
+  pub next_first : (count : ℕ) → count ≡ members_below depends 128 → ((v : ℕ) → 128 ≤ v → has depends v ≡ false) → first + (1 + count) ≡ keys_before (graph_variations g) (graph_sites g) (s + 1)
   next_first count e none =
-      let x = something_at (graph_sites g) site inside in
-      let a = own_is g site k here_kept x.0 x.1 none in
-      let b = keys_next (graph_variations g) (graph_sites g) site x.0 x.1 in
-      let f : suc site ≡ site + 1 = omega arith in
-      let c : keys_before (graph_variations g) (graph_sites g) (suc site) ≡ keys_before (graph_variations g) (graph_sites g) (site + 1) = ap (keys_before (graph_variations g) (graph_sites g)) f in
-      omega (arith, next, a, b, c, e)
+      let a = members_all (depends_on x) (graph_variations g) depends depends_is none in
+      let b = keys_next (graph_variations g) (graph_sites g) s x at in
+      rw add-one (omega (arith, next, a, b, e))
 
 -- no sites
 pub no_keys : (g : GraphView) → 0 ≡ keys_before (graph_variations g) (graph_sites g) 0

@@ -1,5 +1,4 @@
 pub mod ActionLaws
-pub mod ActionNumbers
 pub mod ColumnLaws
 pub mod Covered
 pub mod DemandCounts
@@ -8,13 +7,11 @@ pub mod Elements
 pub mod EntryLaws
 pub mod EvaluateLaws
 pub mod FillLaws
-pub mod FilterLaws
 pub mod KeptKeys
 pub mod KeyLaws
 pub mod NamedLaws
 pub mod PassCounts
 pub mod PassNumbers
-pub mod PassTies
 pub mod PlainLaws
 pub mod PlanLaws
 pub mod ReportTies

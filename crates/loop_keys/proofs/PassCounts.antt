@@ -4,7 +4,7 @@ use Rattle.std.proofs.Math.Nat.{mul-le-mul, mul-le-mul_right}
 use Rattle.std.proofs.lemmas.List.{length-map, length-reverse}
 use Rattle.rdf_values.specs.{among, Booked, bookings, filled, has_variations, history, Line, result_depends, Script, Statement, variations}
 use Rattle.rdf_values.specs.declared.statement.Statement.TheVariants.{Print}
-use Rattle.graph_numbers.specs.{graph_loops, graph_variations, loops, numbered_pass, own_loop, Pass as NumberedPass, passes_from, places_from, result_passes}
+use Rattle.graph_numbers.specs.{booked_statements, graph_loops, graph_variations, GraphView, IsGraph, loops, numbered_pass, own_loop, Pass as NumberedPass, passes_from, places_from, result_passes}
 use Rattle.graph_numbers.proofs.Listed.{by_test, joined}
 use Rattle.loop_keys.specs.{IsJob, job_graph, JobView, numbered_passes}
 use Rattle.graph.proofs.Looped.{bookings_few}
@@ -44,9 +44,16 @@ module _ (script : List Statement) where
       own (Print result) i q = printed (among result (filled before)) i q
       own s i q = cc q
 
-lines_few : (script : Script) → length script.lines ≤ 256 → length (history script) ≤ 256
+pub lines_few : (script : Script) → length script.lines ≤ 256 → length (history script) ≤ 256
 lines_few script h =
     let a = length-reverse (map (λ (l : Line). l.statement) script.lines) in let b = length-map script.lines (λ (l : Line). l.statement) in omega (arith, a, b, h)
+
+-- few passes in a loop
+pub loop_few : (g : GraphView) → IsGraph g → length (graph_variations g) ≤ 128 → (l : ℕ) (ps : List NumberedPass) → slice_get (graph_loops g) l ≡ Some ps → length ps ≤ 33024
+loop_few g is few l ps q =
+    let a = loops_few (booked_statements g) (booked_statements g) l ps q in
+    let b : length (booked_statements g) * suc (length (graph_variations g)) ≤ 256 * 129 =
+    mul-le-mul {n₁ = length (booked_statements g)} {m₁ = suc (length (graph_variations g))} {n₂ = 256} {m₂ = 129} (lines_few g.script is.bookable.few) (omega (arith, few)) in omega (arith, a, b)
 
 -- fewer than can be numbered
 pub few_passes : (j : JobView) → IsJob j → length (graph_variations (job_graph j)) ≤ 128 → length (numbered_passes j) < 2 ^ 32
@@ -54,7 +61,4 @@ few_passes j job few = go (slice_get (graph_loops (job_graph j)) j.number) refl
   where
     go : (o : Option (List NumberedPass)) → slice_get (graph_loops (job_graph j)) j.number ≡ o → length (unwrap_or o []) < 2 ^ 32
     go None q = omega arith
-    go (Some ps) q =
-        let a = loops_few (history j.script) (history j.script) j.number ps q in
-        let b : length (history j.script) * suc (length (graph_variations (job_graph j))) ≤ 256 * 129 =
-        mul-le-mul {n₁ = length (history j.script)} {m₁ = suc (length (graph_variations (job_graph j)))} {n₂ = 256} {m₂ = 129} (lines_few j.script job.graph.bookable.few) (omega (arith, few)) in omega (arith, a, b)
+    go (Some ps) q = let few_passes = loop_few (job_graph j) job.graph few j.number ps q in omega (arith, few_passes)

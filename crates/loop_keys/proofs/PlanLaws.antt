@@ -1,19 +1,12 @@
 -- The plan of a loop, as it is made and read.
-use Rattle.std.proofs.Common.{◌≡◌, ℕ, zero, suc, ◌+◌, ◌<◌, ◌≤◌, Bool, true, false, List, [], ◌∷◌, length, take, Option, Some, None, option_map, refl, sym, ◌∙◌, ap, arith, nat_eq, get_or, slice_get}
+use Rattle.std.proofs.Common.{◌≡◌, ℕ, ◌+◌, ◌<◌, ◌≤◌, Bool, true, false, ◌||◌, List, length, take, Option, Some, None, option_map, sym, ◌∙◌, ap, arith, nat_eq, get_or, slice_get}
 use Rattle.std.specs.List.{list_any}
+use Rattle.std.proofs.lemmas.List.Folds.{list_any_at, list_any_more}
 use Rattle.std.proofs.lemmas.Option.{slice_get-get_or}
-use Rattle.lemmas.proofs.{any_at, neither, or_fails, take_all}
+use Rattle.lemmas.proofs.{take_all}
 use Rattle.graph_numbers.specs.{graph_results, GraphView, Pass as NumberedPass, ResultAt}
 use Rattle.loop_keys.specs.{covers_of, is_covering, job_graph, JobView, numbered_passes}
 use Rattle.loop_keys.proofs.PassNumbers.{result_inside}
-
--- ---- tests of a list's elements
-
-any_next : {A : Type 0} (test : A → Bool) (xs : List A) (i : ℕ) (d : A) → i < length xs → list_any test (take i xs) ≡ false → test (get_or xs i d) ≡ false → list_any test (take (suc i) xs) ≡ false
-any_next test [] i d lt h e = absurd (omega (arith, lt))
-any_next test (x ∷ xs) zero d lt h e = or_fails (test x) (list_any test (take 0 xs)) e refl
-any_next test (x ∷ xs) (suc i) d lt h e =
-    let p = neither (test x) (list_any test (take i xs)) h in or_fails (test x) (list_any test (take (suc i) xs)) p.0 (any_next test xs i d (omega (arith, lt)) p.1 e)
 
 -- ---- a report of the loop
 
@@ -36,10 +29,10 @@ module _ (j : JobView) (ps : List NumberedPass) (e : ps ≡ numbered_passes j) (
       let l : length (graph_results g) ≡ length (graph_results (job_graph j)) = ap (λ (v : GraphView). length (graph_results v)) h in omega (arith, a, l)
 
   pub cover_next : (i : ℕ) (d : NumberedPass) → i < length ps → list_any test (take i ps) ≡ false → test (get_or ps i d) ≡ false → list_any test (take (i + 1) ps) ≡ false
-  cover_next i d lt h k = let s : i + 1 ≡ suc i = omega arith in ap (λ n. list_any test (take n ps)) s ∙ any_next test ps i d lt h k
+  cover_next i d lt h k = list_any_more test ps i d lt ∙ (λ t. h t || k t)
 
   pub cover_found : (i : ℕ) (d : NumberedPass) → i < length ps → test (get_or ps i d) ≡ true → true ≡ list_any test (numbered_passes j)
-  cover_found i d lt k = sym (ap (list_any test) (sym e) ∙ any_at test ps i (get_or ps i d) (slice_get-get_or ps i d lt) k)
+  cover_found i d lt k = sym (ap (list_any test) (sym e) ∙ list_any_at test ps i d lt k)
 
   pub cover_none : (i : ℕ) → length ps ≤ i → list_any test (take i ps) ≡ false → false ≡ list_any test (numbered_passes j)
   cover_none i le h = sym (ap (list_any test) (sym e) ∙ ap (list_any test) (sym (take_all ps i le)) ∙ h)

@@ -8,7 +8,7 @@ use Rattle.graph_numbers.specs.{booking_numbers, FilterAt, graph_filters, graph_
 use Rattle.graph_numbers.proofs.Covering.{AreNumbersOf}
 use Rattle.graph_numbers.proofs.Extending.{itself}
 use Rattle.loop_keys.specs.{demand_key, HasAllDemands, HasFilterDemands, IsCovered, IsJob, IsReportPass, job_graph, JobView, pass_fault, site_in, version_in}
-use Rattle.loop_keys.proofs.PassTies.{pass_answer, pass_of}
+use Rattle.loop_keys.proofs.PassNumbers.{pass_answer, pass_of}
 use Rattle.loop_keys.proofs.Covered.{AreCovers, covers_are}
 use Rattle.loop_keys.proofs.Elements.{at_in, each_in, in_flat}
 

@@ -6,9 +6,7 @@ use Rattle.std.proofs.lemmas.Option.{get_or_from_slice_get, slice_get_past}
 use Rattle.rdf_values.specs.{Variation}
 use Rattle.graph_numbers.specs.{booked_statements, depends_on, graph_sites, graph_sources, graph_variations, GraphView, holds_at, SiteAt, Source, source_in, sources}
 use Rattle.loop_keys.proofs.Elements.{more_each, read_each}
-use Rattle.loop_keys.specs.{AreEach, AreKeys, AreSiteKeys, AreUnder, IsRow, key, key_count, key_or_count, key_under, keys_before, Place, place_of, Row, row_under, slot_at, slot_in}
-use Rattle.loop_keys.specs.declared.keys.SiteKeys.{SiteKeys}
-use Rattle.loop_keys.proofs.KeptKeys.{kept_key}
+use Rattle.loop_keys.specs.{AreEach, AreKeys, AreUnder, IsRow, key, key_count, key_or_count, key_under, keys_before, Place, place_of, Row, row_under, slot_at}
 use Rattle.loop_keys.proofs.KeyLaws.{key_small}
 
 -- ---- keys
@@ -47,13 +45,6 @@ module _ (g : GraphView) (u : Option ℕ) (keys : List ℕ) (all : AreUnder g u 
       let h : p ≡ place_of (key_under g u) (source_in (graph_sources g u) n) = e ∙ place_found x ∙ ap (place_of (key_under g u)) (sym (get_or_from_slice_get (graph_sources g u) n x (Source.Cell 0) at)) in
       subst (λ (rs : List Place). AreEach (λ c r. r ≡ place_of (key_under g u) (source_in (graph_sources g u) c)) (n + 1) rs) (sym q)
       (more_each (λ c r. r ≡ place_of (key_under g u) (source_in (graph_sources g u) c)) n ps each p h)
-
--- one more site
-pub more_keys : (g : GraphView) (u : Option ℕ) (sites : List SiteKeys) → AreSiteKeys g sites → (n : ℕ) → n < length (graph_sites g) → (d : SiteKeys) (ks : List ℕ) → AreEach (λ s k. k ≡ key g s u) n ks
-    → (m : ℕ) → m ≡ slot_in (get_or sites n d).depends u → (qs : List ℕ) → qs ≡ ks ++ ((get_or sites n d).first + m) ∷ [] → AreEach (λ s k. k ≡ key g s u) (n + 1) qs
-more_keys g u sites kept n inside d ks each m e qs q =
-    subst (λ (rs : List ℕ). AreEach (λ s k. k ≡ key g s u) (n + 1) rs) (sym q)
-    (more_each (λ s k. k ≡ key g s u) n ks each ((get_or sites n d).first + m) (kept_key g sites kept n inside d u m e))
 
 -- one more variation
 pub more_rows : (g : GraphView) (v : ℕ) (rs : List Row) → AreEach (λ i r. IsRow g (row_under i) r) (suc v) rs → (r : Row) → IsRow g (Some v) r → (qs : List Row) → qs ≡ rs ++ r ∷ [] → AreEach (λ i q. IsRow g (row_under i) q) (suc (v + 1)) qs

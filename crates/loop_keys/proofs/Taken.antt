@@ -1,7 +1,8 @@
 -- What the next entry gives to a tally, by the passes of a job's loop.
-use Rattle.std.proofs.Common.{◌≡◌, ℕ, zero, suc, ◌+◌, true, false, List, [], ◌∷◌, ◌++◌, length, take, Some, sym, ◌∙◌, ap, arith, slice_get, if◌then◌else◌, refl, length-append, zero-add}
+use Rattle.std.proofs.Common.{◌≡◌, ℕ, zero, suc, ◌+◌, true, false, List, [], ◌∷◌, ◌++◌, length, take, Some, sym, ◌∙◌, ap, slice_get, if◌then◌else◌, refl, length-append}
 use Rattle.std.proofs.lemmas.List.{append-nil}
-use Rattle.lemmas.proofs.{mapped_at}
+use Rattle.std.proofs.lemmas.List.Concat.{flat_map-append}
+use Rattle.lemmas.proofs.{mapped_at, take_next}
 use Rattle.rdf_values.specs.{ActionAt, ActionKind, Booking, history, named_before, Pass, Path, ReportOn, Value}
 use Rattle.rdf_model.specs.{Dataset, filter_reach, is_covered, items_of, kind_in, kinds_in, Reach, reaches_of, spread_in, spreads_of}
 use Rattle.rdf_model.specs.declared.loop_facts.Reach.TheVariants.{Stopped}
@@ -15,19 +16,14 @@ module _ (j : JobView) (entry : ℕ) (row : List Value) (here : slice_get j.data
 
 -- ---- the places of action passes
 
-actions_next : (n : ℕ) (ps : List Pass) (p : Pass) → slice_get ps n ≡ Some p → length (kinds_in (take (suc n) ps)) ≡ length (kinds_in (take n ps)) + length (kind_in p.result.booking)
-actions_next n [] p q = cc q
-actions_next zero (x ∷ ps) p q =
-    let e : x ≡ p = cc q in ap length (append-nil (kind_in x.result.booking)) ∙ ap (λ (y : Pass). length (kind_in y.result.booking)) e ∙ sym (zero-add (length (kind_in p.result.booking)))
-actions_next (suc n) (x ∷ ps) p q =
-    let h = actions_next n ps p q in let l = length-append (kind_in x.result.booking) (kinds_in (take (suc n) ps)) in let m = length-append (kind_in x.result.booking) (kinds_in (take n ps)) in
-    omega (arith, h, l, m)
+pub kinds_next : (ps : List Pass) (n : ℕ) (p : Pass) → slice_get ps n ≡ Some p → kinds_in (take (n + 1) ps) ≡ kinds_in (take n ps) ++ kind_in p.result.booking
+kinds_next ps n p here =
+    ap kinds_in (take_next ps n p here) ∙ flat_map-append (λ (q : Pass). kind_in q.result.booking) (take n ps) (p ∷ []) ∙ ap (λ l. kinds_in (take n ps) ++ l) (append-nil (kind_in p.result.booking))
 
 -- after an action's pass there is one more, and after a report's none
 pub after_pass : (j : JobView) (n : ℕ) (p : Pass) (c : Booking) → slice_get (passes_in j) n ≡ Some p → p.result.booking ≡ c → actions_before j (n + 1) ≡ actions_before j n + length (kind_in c)
 after_pass j n p c q b =
-    let e : n + 1 ≡ suc n = omega arith in
-    ap (actions_before j) e ∙ actions_next n (passes_in j) p q ∙ ap (λ (x : Booking). actions_before j n + length (kind_in x)) b
+    ap length (kinds_next (passes_in j) n p q) ∙ length-append (kinds_in (take n (passes_in j))) (kind_in p.result.booking) ∙ ap (λ (x : Booking). actions_before j n + length (kind_in x)) b
 
 module _ (d : Dataset) (row : List Value) where
   -- the kind of an action's pass, and what the row feeds to it, at its place

@@ -1,7 +1,7 @@
 -- What a contract sees of the evaluations that the passes of an entry share.
 use Rattle.std.specs.Prelude.{◌≡◌, ⊤, ℕ, Bool, true, List, [], Option, Some, None, slice_get, All, Contains, unwrap_or, MatchOption}
 use Rattle.rdf_values.specs.{ActionAt, Booking, Pass, ReportOn, Value}
-use Rattle.rdf_model.specs.{Demand, fault_in, filter_demands, filter_reach, pass_demands, Reach, through}
+use Rattle.rdf_model.specs.{Demand, filter_demands, pass_demands}
 use Rattle.graph_numbers.specs.{FilterAt, graph_filters, graph_loops, graph_results, Pass as NumberedPass, ResultAt}
 use Rattle.loop_keys.specs.Jobs.{JobView, job_graph, passes_in}
 use Rattle.loop_keys.specs.Keys.{demand_key}
@@ -20,12 +20,6 @@ abbrev pub HasFilterDemands : JobView → ℕ → ℕ → (ℕ → Bool) → Typ
 HasFilterDemands j entry f T =
     (row : List Value) (x : FilterAt) → slice_get j.dataset.rows entry ≡ Some row → slice_get (graph_filters (job_graph j)) f ≡ Some x
     → All (λ (d : Demand). T (demand_key (job_graph j) d) ≡ true) (filter_demands j.dataset.fns j.dataset.columns row x.at None)
-
--- what a named filter does by itself under nominal, where neither it nor one above it faults
-abbrev pub IsReach : JobView → ℕ → ℕ → Reach → Type 0
-IsReach j entry f r =
-    (row : List Value) (x : FilterAt) → slice_get j.dataset.rows entry ≡ Some row → slice_get (graph_filters (job_graph j)) f ≡ Some x
-    → (filter_reach j.dataset row x.at ≡ r) × (fault_in (through j.dataset.fns j.dataset.columns row x.at None) ≡ None)
 
 -- the pass of that number, by numbers
 abbrev pub numbered_in : JobView → ℕ → Option NumberedPass

@@ -1,10 +1,9 @@
 -- The keys of an entry's evaluations: for each site in order one for nominal and one for each variation on which it depends.
-use Rattle.std.specs.Prelude.{◌≡◌, ◌<◌, ◌^◌, ℕ, zero, suc, ◌+◌, List, [], ◌∷◌, length, take, Option, Some, None, if◌then◌else◌, slice_get, slice_index_or, count_by}
+use Rattle.std.specs.Prelude.{◌≡◌, ℕ, zero, suc, ◌+◌, List, [], ◌∷◌, length, take, Option, Some, None, if◌then◌else◌, slice_get, slice_index_or, count_by}
 use Rattle.rdf_values.specs.{place, same_variation, Under, Variation}
 use Rattle.rdf_model.specs.{Demand, same_site}
 use Rattle.graph.specs.{has, members_below, VarSet}
-use Rattle.graph_numbers.specs.{depends_on, graph_sites, graph_sources, graph_variations, graph_versions, GraphView, holds_at, site_depends_at, SiteAt, Source, source_in}
-use Rattle.loop_keys.specs.declared.keys.SiteKeys.{SiteKeys}
+use Rattle.graph_numbers.specs.{depends_on, graph_sites, graph_sources, graph_variations, graph_versions, GraphView, holds_at, SiteAt, Source, source_in}
 use Rattle.loop_keys.specs.declared.rows.Place.{Place}
 use Rattle.loop_keys.specs.declared.rows.Row.{Row}
 
@@ -50,27 +49,15 @@ key_or_first g (Some s) u = key g s (under_number g u)
 abbrev pub demand_key : GraphView → Demand → ℕ
 demand_key g d = key_or_first g (place (λ x. same_site d.site x.site) (graph_sites g)) d.under
 
--- ---- the keys of a graph's sites, as they are kept
-
 -- the place of a variation's key after that of nominal, by the set of variations on which a site depends
 abbrev pub slot_in : VarSet → Option ℕ → ℕ
 slot_in depends None = 0
 slot_in depends (Some v) = if has depends v then suc (members_below depends v) else 0
 
--- the keys begin at this number, and the set has the variations on which the site depends
-pub record AreKeysAt (g : GraphView) (s : ℕ) (k : SiteKeys) : Type 0 where
-  pub first : k.first ≡ keys_before (graph_variations g) (graph_sites g) s
-  pub depends : (v : ℕ) → has k.depends v ≡ site_depends_at g s v
-
 -- each element of a list of so many is right at its place
 pub record AreEach {A : Type 0} (P : ℕ → A → Type 0) (n : ℕ) (xs : List A) : Type 0 where
   pub many : length xs ≡ n
   pub each : (i : ℕ) (x : A) → slice_get xs i ≡ Some x → P i x
-
--- where the keys of each site begin
-pub record AreSiteKeys (g : GraphView) (ks : List SiteKeys) : Type 0 where
-  pub sites : AreEach (AreKeysAt g) (length (graph_sites g)) ks
-  pub small : key_count g < 2 ^ 64
 
 -- ---- where what is read stands
 

@@ -1,7 +1,7 @@
 -- What is held of the sites of an entry, and what an evaluation is told of it.
 use Rattle.std.specs.Prelude.{if◌then◌else◌, ◌≡◌, ⊤, ◌≤◌, ◌<◌, ◌⊎◌, ℕ, zero, suc, ◌+◌, Bool, true, false, List, [], length, Option, Some, None, slice_get, slice_index_or, count_by, unwrap_or, MatchOption, All}
 use Rattle.rdf_values.specs.{ColType, Value}
-use Rattle.rdf_model.specs.{◌>>=◌, Faults, FitsOutcome, Gives, Needs, Outcome, tag_element}
+use Rattle.rdf_model.specs.{◌>>=◌, Faults, FitsOutcome, Gives, Needs, Outcome, tag_element, truth_of}
 use Rattle.expr_check.specs.{CheckedExpr}
 use Rattle.graph_numbers.specs.{cell_value, graph_sites, graph_sources, graph_under, graph_versions, HasFilters, HasInputs, IfPassed, IsBelow, meets, site_outcome, site_value, SiteAt, Source, source_in, source_value, through_sites}
 use Rattle.loop_keys.specs.Jobs.{JobView, job_graph}
@@ -45,6 +45,10 @@ row_of j entry = row_in j.dataset.rows entry
 -- what a site comes to in an entry, under nominal or a variation
 abbrev pub site_in : {M : Type 0} → JobView → ℕ → Option ℕ → ℕ → Outcome M Value
 site_in j entry u s = site_value (λ x. site_outcome j.dataset.fns j.dataset.columns (row_of j entry) x (graph_under (job_graph j) u)) (slice_get (graph_sites (job_graph j)) s)
+
+-- whether the entry passes the filter of a site
+abbrev pub truth_in : JobView → ℕ → Option ℕ → ℕ → Outcome ⊥ Bool
+truth_in j entry u s = site_in j entry u s >>= truth_of
 
 -- the source of a version
 abbrev pub source_at : JobView → Option ℕ → ℕ → Source
@@ -139,16 +143,6 @@ pub record IsFilled (j : JobView) (entry : ℕ) (u : Option ℕ) (s : ℕ) (befo
   pub filled : is_held (held_in after (key (job_graph j) s u)) ≡ true
   pub more : held_count before < held_count after
   pub rest : (t : ℕ) (w : Option ℕ) → s < t → t < length (graph_sites (job_graph j)) → held_in after (key (job_graph j) t w) ≡ held_in before (key (job_graph j) t w)
-  pub only : (D : ℕ → Bool) → IsClosed j entry u D → D s ≡ true → OnlyIn j u D s before after
-
--- sites below s were filled for it, of which nothing is held yet
-pub record IsGrown (j : JobView) (entry : ℕ) (u : Option ℕ) (s : ℕ) (before after : List Held) : Type 0 where
-  pub sized : length after ≡ length before
-  pub sound : IsSound j entry after
-  pub grows : Grows before after
-  pub empty : held_in after (key (job_graph j) s u) ≡ Held.Nothing
-  pub more : held_count before ≤ held_count after
-  pub rest : (t : ℕ) (w : Option ℕ) → s ≤ t → t < length (graph_sites (job_graph j)) → held_in after (key (job_graph j) t w) ≡ held_in before (key (job_graph j) t w)
   pub only : (D : ℕ → Bool) → IsClosed j entry u D → D s ≡ true → OnlyIn j u D s before after
 
 -- ---- one evaluation

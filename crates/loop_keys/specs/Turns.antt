@@ -1,8 +1,8 @@
 -- What trying a pass of an entry does.
-use Rattle.std.specs.Prelude.{◌≡◌, ℕ, Bool, List, [], Option, None, Some, length, slice_get, take, unwrap_or, nat_eq}
+use Rattle.std.specs.Prelude.{◌≡◌, ℕ, Bool, List, [], Option, None, Some, length, map, slice_get, take, unwrap_or, nat_eq}
 use Rattle.std.specs.List.{list_any}
-use Rattle.rdf_values.specs.{EntryFault, Path, ReportOn}
-use Rattle.rdf_model.specs.{fault_in, kinds_in}
+use Rattle.rdf_values.specs.{EntryFault, history, named_before, Path, ReportOn}
+use Rattle.rdf_model.specs.{fault_in, is_covered, kinds_in}
 use Rattle.graph_numbers.specs.{graph_loops, graph_results, Pass as NumberedPass, ResultAt}
 use Rattle.loop_keys.specs.Caches.{HasDemands, numbered_in}
 use Rattle.loop_keys.specs.Jobs.{JobView, job_graph, pass_outcome, passes_in}
@@ -20,6 +20,10 @@ abbrev pub pass_fault : JobView → ℕ → ℕ → Option EntryFault
 pass_fault j entry pass = fault_in (pass_outcome j entry pass)
 
 -- ---- reports
+
+-- for each named filter whether a report of the loop covers it
+abbrev pub covered_in : JobView → List Bool
+covered_in j = map (is_covered (passes_in j)) (named_before (history j.script))
 
 -- the filters that a result covers, by their numbers
 abbrev pub covers_of : Option ResultAt → List ℕ

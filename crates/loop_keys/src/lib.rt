@@ -4,7 +4,6 @@
 
 pub mod held;
 pub mod job;
-pub mod keys;
 pub mod reading;
 pub mod rows;
 

@@ -1,10 +1,8 @@
 // Where what is read of an entry stands, under nominal and each variation.
-ghost use Rattle.std.specs.Prelude.{◌≡◌, ◌<◌, IfOk, length, slice_get};
-ghost use Rattle.graph_numbers.specs.{graph_sites};
-ghost use Rattle.loop_keys.specs.{AreKeys, ArePlaces, AreSiteKeys, AreUnder, IsRow, key_count, key_or_count, place_of as place_in, row_under};
+ghost use Rattle.std.specs.Prelude.{◌≡◌, ◌≤◌, IfOk};
+ghost use Rattle.loop_keys.specs.{AreKeys, ArePlaces, AreUnder, IsRow, key_count, key_or_count, place_of as place_in, slot_in};
 
-use crate::keys::{SiteKeys, keys_of, slot};
-use graph::Graph;
+use graph::{Graph, VarSet};
 use graph_numbers::Source;
 use rdf_values::{ListOf, Memory};
 use std::alloc::Global;
@@ -52,21 +50,38 @@ fn place_of(keys: &[usize], count: usize, source: Source) -> Place
     }
 }
 
-/// The keys of the sites under nominal or a variation.
+/// The place of nominal or a variation among the keys of a site: that of nominal where the site doesn't depend on the variation.
+fn slot(depends: VarSet, under: Option<u32>) -> usize
+    ensures value { result ≡ slot_in depends under }
+    ensures bound { result ≤ 128 }
+{
+    let Some(v) = under else {
+        return 0;
+    };
+    if v < 128 && depends.contains(v) {
+        1 + depends.count_below(v) as usize
+    } else {
+        0
+    }
+}
+
+/// The key of each site under nominal or a variation, and how many keys there are: the first key of a site is that of nominal,
+/// and each variation on which it depends has one of the next.
 fn keys_under(
     alloc: Global,
-    _graph: &Graph,
-    sites: &[SiteKeys],
+    graph: &Graph,
     under: Option<u32>,
-) -> Result<ListOf<usize>, Memory>
-    requires sites { AreSiteKeys _graph.now sites.now }
-    ensures { IfOk result (λ ks. AreUnder _graph.now under ks) }
+) -> Result<(ListOf<usize>, usize), Memory>
+    ensures { IfOk result (λ r. AreUnder graph.now under r.0 × (r.1 ≡ key_count graph.now)) }
 {
     let mut keys = ListOf::new(alloc);
-    for i in 0..sites.len() {
-        keys.push(sites[i].first + slot(sites[i].depends, under))?;
+    let mut first = 0;
+    for site in 0..graph.sites() {
+        let depends = graph.site_depends(site);
+        keys.push(first + slot(depends, under))?;
+        first += 1 + depends.count() as usize;
     }
-    Ok(keys)
+    Ok((keys, first))
 }
 
 /// The places of the versions under nominal or a variation.
@@ -88,32 +103,25 @@ fn places_under(
     Ok(places)
 }
 
-/// The row of nominal or a variation.
-fn row_under(
-    alloc: Global,
-    graph: &Graph,
-    sites: &[SiteKeys],
-    count: usize,
-    under: Option<u32>,
-) -> Result<Row, Memory>
-    requires sites { AreSiteKeys graph.now sites.now }
-    requires count { count ≡ key_count graph.now }
-    ensures { IfOk result (λ r. IsRow graph.now under r) }
+/// The row of nominal or a variation, and how many keys there are.
+fn row_under(alloc: Global, graph: &Graph, under: Option<u32>) -> Result<(Row, usize), Memory>
+    ensures { IfOk result (λ r. IsRow graph.now under r.0 × (r.1 ≡ key_count graph.now)) }
 {
-    let keys = keys_under(alloc, graph, sites, under)?;
+    let (keys, count) = keys_under(alloc, graph, under)?;
     let places = places_under(alloc, graph, keys.as_slice(), count, under)?;
-    Ok(Row { keys, places })
+    Ok((Row { keys, places }, count))
 }
 
 /// The row of nominal, and then that of each variation; and how many keys there are.
 pub fn rows_of(alloc: Global, graph: &Graph) -> Result<(ListOf<Row>, usize), Memory>
     ensures { IfOk result (λ r. AreKeys graph.now r.0 × (r.1 ≡ key_count graph.now)) }
 {
-    let (sites, count) = keys_of(alloc, graph)?;
+    let (nominal, count) = row_under(alloc, graph, None)?;
     let mut rows = ListOf::new(alloc);
-    rows.push(row_under(alloc, graph, sites.as_slice(), count, None)?)?;
+    rows.push(nominal)?;
     for v in 0..graph.variations().len() {
-        rows.push(row_under(alloc, graph, sites.as_slice(), count, Some(v))?)?;
+        let (row, _) = row_under(alloc, graph, Some(v))?;
+        rows.push(row)?;
     }
     Ok((rows, count))
 }

@@ -1,5 +1,5 @@
 -- The first fault, cluster by cluster.
-use Rattle.std.proofs.Common.{◌≡◌, ◌⊎◌, ℕ, suc, ◌+◌, ◌-◌, ◌<◌, ◌≤◌, List, [], ◌∷◌, ◌++◌, length, map, drop, Option, None, Some, refl, sym, ap, ap₂, ◌∙◌, inl, inr, arith, slice_get, slice_range, option_map}
+use Rattle.std.proofs.Common.{◌≡◌, ◌⊎◌, ℕ, suc, ◌+◌, ◌-◌, ◌<◌, ◌≤◌, List, [], ◌∷◌, ◌++◌, length, map, Option, None, Some, refl, sym, ap, ap₂, ◌∙◌, inl, inr, arith, slice_get, slice_range, option_map}
 use Rattle.std.proofs.lemmas.Option.{slice_get-map}
 use Rattle.lemmas.proofs.{range_length, same_some, take_at_most}
 use Rattle.rdf_values.specs.{EntryFault, Fault, first_in, Lead, Pass, Span, Value}
@@ -73,19 +73,7 @@ its_span : (d : Dataset) (spans : List Span) (ps : List Pass) (c : ℕ) (f : Fau
 its_span d spans ps c f at = go (slice_get spans c) refl (sym (slice_get-map (λ s. fault_of d ps (Some s)) spans c) ∙ ap (λ l. slice_get l c) (sym (by_places (fault_of d ps) spans)) ∙ at)
   where
     go : (o : Option Span) → slice_get spans c ≡ o → option_map (λ s. fault_of d ps (Some s)) o ≡ Some (Some f) → HasSpan d spans ps c f
-    go None is h = absurd (cc)
-    go (Some s) is h =
-        let w = fault_within d ps (slice_range d.rows s.lo s.hi) s.lo f (same_some h) in
-        let low = w.0 in
-        let high = w.1 in
-        let short = take_at_most (s.hi - s.lo) (drop s.lo d.rows) in
-        (s, is, low, omega arith)
+    go o is h = grind (arith, fault_within, same_some, take_at_most)
 
 pub lower_clusters_fault_first : LowerClustersFaultFirst
-lower_clusters_fault_first d spans ps leads a b f g lt here there =
-    let x = its_span d spans ps a f here in
-    let y = its_span d spans ps b g there in
-    let order = led_are_in_order 0 (length d.rows) spans a b x.0 y.0 leads lt x.1 y.1 in
-    let high = x.3 in
-    let low = y.2 in
-    omega arith
+lower_clusters_fault_first = grind (arith, its_span, led_are_in_order)

@@ -70,9 +70,7 @@ module _ (items : ℕ → List Item) where
 
   plain : (set : List ℕ) → map (λ (f : Fed). f.item) (flat_map (λ d. from_cluster d (items d)) set) ≡ flat_map items set
   plain [] = refl
-  plain (c ∷ cs) =
-      map-append (λ (f : Fed). f.item) (from_cluster c (items c)) (flat_map (λ d. from_cluster d (items d)) cs)
-      ∙ ap₂ (λ a b. a ++ b) (plain_run c (items c)) (plain cs)
+  plain (c ∷ cs) = grind (arith, map-append, plain_run, plain cs)
 
   pub in_order : (set : List ℕ) → IsStrictlyIncreasing set → in_file_order (flat_map (λ d. from_cluster d (items d)) set) ≡ flat_map items set
   in_order set up = ap (map (λ (f : Fed). f.item)) (order_kept _ (rising_sorted set (rises_from set up))) ∙ plain set

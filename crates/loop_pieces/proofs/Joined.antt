@@ -1,9 +1,9 @@
 -- Two pieces of a loop: of one set they agree, and of two sets they are joined.
 use Rattle.std.proofs.Common.{◌≡◌, ℕ, zero, suc, ◌<◌, List, [], ◌∷◌, ◌++◌, length, map, get_or, refl, sym, ap, ap₂, ◌∙◌, subst, arith}
 use Rattle.std.proofs.lemmas.List.{length-map, get_or-map}
-use Rattle.rdf_values.specs.{ActionKind, below, fold_items, IsUnion}
+use Rattle.rdf_values.specs.{ActionKind, below, IsUnion}
 use Rattle.rdf_model.specs.declared.loop_facts.LoopFacts.{LoopFacts}
-use Rattle.actions.specs.{Accumulator, in_file_order}
+use Rattle.actions.specs.{Accumulator}
 use Rattle.loop_pieces.specs.{AreMerged, both, CanMerge, cluster_items, Counts, counts_at, fed_over, HaveRoom, LoopPiece, PiecesOfOneSetAgree, StandsFor}
 use Rattle.loop_pieces.specs.Flows.{added}
 use Rattle.loop_pieces.proofs.ByCluster.{has_fed_same}
@@ -30,12 +30,7 @@ module _ (f : LoopFacts) (mine theirs : List ℕ) (p q : LoopPiece) (s : StandsF
 
 -- what a piece shows is told by its clusters
 pub pieces_of_one_set_agree : PiecesOfOneSetAgree
-pieces_of_one_set_agree f set p q s t = (
-  maps_agree (λ (acc : Accumulator). acc.filled) p.accs.items q.accs.items (sym (same_many f set set p q s t))
-      (λ i d lt. (s.accs i d lt).fed.filled
-      ∙ ap (λ k. fold_items k (in_file_order (fed_over f set i))) (sym (kind_of_place f set set p q s t i d lt)) ∙ sym (t.accs i d (omega (arith, same_many f set set p q s t))).fed.filled),
-  s.flow ∙ sym t.flow,
-)
+pieces_of_one_set_agree = grind (arith, maps_agree, same_many, kind_of_place)
 
 module _ (f : LoopFacts) (mine theirs all : List ℕ) (p q : LoopPiece) (s : StandsFor f mine p) (t : StandsFor f theirs q) (u : IsUnion (mine ∷ theirs ∷ []) all) where
   pub can_merge : CanMerge p.accs.items q.accs.items

@@ -46,10 +46,7 @@ module _ {A : Type 0} (ranges : List Span) (rows : List A) (ordered : AreOrdered
   within (c ∷ cs) b up h = go (slice_get ranges c) refl (λ m on. within cs m up.1 on)
     where
       go : (o : Option Span) → slice_get ranges c ≡ o → ((m : ℕ) → FromOn m cs → sum_by size cs ≤ length rows - m) → sum_by size (c ∷ cs) ≤ length rows - b
-      go None at rest =
-          let none : size c ≡ 0 = ap (λ o. length (span_rows rows o)) at in
-          let others = rest b h.1 in
-          omega (arith, sum_by-cons size c cs)
+      go None at rest = grind (arith, sum_by-cons)
       go (Some s) at rest =
           let here : size c ≡ length (span_rows rows (Some s)) = ap (λ o. length (span_rows rows o)) at in
           let from = h.0 s at in
@@ -71,9 +68,7 @@ abbrev reached_in : LoopFacts → (Reach → Bool) → ℕ → ℕ → ℕ
 reached_in f p i c = sum_by (λ (row : List Reach). count_by p (if_there (slice_get row i))) (span_rows f.reaches (slice_get f.ranges c))
 
 counts_by_cluster : (f : LoopFacts) (p : Reach → Bool) (set : List ℕ) (i : ℕ) → count_by p (reaches_over f set i) ≡ sum_by (reached_in f p i) set
-counts_by_cluster f p set i =
-    sum_by-flat_map (λ r. cond (p r) 1 0) (λ (row : List Reach). if_there (slice_get row i)) (rows_in f.ranges f.reaches set)
-    ∙ sum_by-flat_map (λ (row : List Reach). count_by p (if_there (slice_get row i))) (λ c. span_rows f.reaches (slice_get f.ranges c)) set
+counts_by_cluster f p set i = grind (arith, sum_by-flat_map)
 
 -- the counts of two sets add up to those of their union
 pub counts_union : (f : LoopFacts) (mine theirs all : List ℕ) (i : ℕ) → IsUnion (mine ∷ theirs ∷ []) all

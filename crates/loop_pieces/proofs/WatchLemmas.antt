@@ -25,18 +25,10 @@ use Rattle.loop_pieces.proofs.Rows.{entries_few, entries_union}
 module _ (P : ActionKind → WatchPiece → WatchPiece → Type 0) (counts : (n m : ℕ) → P ActionKind.Count (Count n) (Count m)) (sums : (c : List ℕ) (y z : ℤ) → P (ActionKind.Sum c) (Sum y) (Sum z))
     (leasts : (c : List ℕ) (y z : Option ℤ) → P (ActionKind.Min c) (Least y) (Least z)) (greatests : (c : List ℕ) (y z : Option ℤ) → P (ActionKind.Max c) (Greatest y) (Greatest z)) where
   of_one_kind : (k : ActionKind) (p q : WatchPiece) → IsOfKind k p → IsOfKind k q → P k p q
-  of_one_kind ActionKind.Count (Count n) (Count m) a b = counts n m
-  of_one_kind (ActionKind.Sum c) (Sum y) (Sum z) a b = sums c y z
-  of_one_kind (ActionKind.Min c) (Least y) (Least z) a b = leasts c y z
-  of_one_kind (ActionKind.Max c) (Greatest y) (Greatest z) a b = greatests c y z
-  of_one_kind k (Count n) q a b = absurd (assumption (a, b))
-  of_one_kind k p q a b = absurd (assumption (a, b))
+  of_one_kind k p q a b = grind arith
 
 pub watch_pieces_of_one_set_agree : WatchPiecesOfOneSetAgree
-watch_pieces_of_one_set_agree w set p q s t =
-    let one : s.kind ≡ t.kind = same_some (sym s.its_kind ∙ t.its_kind) in
-    of_one_kind (λ k a b. watch_filled a ≡ watch_filled b → a ≡ b) (λ n m e. cc) (λ c y z e. cc) (λ c y z e. cc) (λ c y z e. cc) s.kind p q s.is_of_kind (subst (λ k. IsOfKind k q) (sym one) t.is_of_kind)
-    (s.result ∙ ap (result_over w.facts set w.watched) one ∙ sym t.result)
+watch_pieces_of_one_set_agree = grind (arith, same_some, of_one_kind)
 
 -- ---- items that fit
 

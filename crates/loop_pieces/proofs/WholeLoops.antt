@@ -1,10 +1,10 @@
 -- A piece gives what separate passes give over the rows of its clusters.
-use Rattle.std.proofs.Common.{◌≡◌, ℕ, zero, suc, ◌<◌, ◌≤◌, Bool, true, List, [], ◌∷◌, ◌++◌, length, get_or, Option, None, Some, refl, sym, ap, ap₂, ◌∙◌, subst, arith, length-append, flat_map, slice_get, slice_range, option_map, All}
+use Rattle.std.proofs.Common.{◌≡◌, ℕ, zero, suc, ◌<◌, ◌≤◌, Bool, true, List, [], ◌∷◌, ◌++◌, length, get_or, Option, None, Some, refl, sym, ap, ◌∙◌, subst, arith, length-append, flat_map, slice_get, slice_range, option_map, All}
 use Rattle.std.proofs.lemmas.Option.{slice_get-get_or, slice_get-map, slice_get_within, get_or_from_slice_get}
 use Rattle.lemmas.proofs.{any_at, same_some}
 use Rattle.rdf_values.specs.{ActionAt, ActionKind, below, Booking, fold_items, Lead, Pass, Path, ReportOn, same, Span, Under, Value}
 use Rattle.rdf_values.proofs.Below.{slice_get-below}
-use Rattle.rdf_model.specs.{◌>>=◌, action_pass, booking_outcome, Dataset, Entry, fault_in, Faults, filter_in, filter_node, FilterCounts, Gives, is_covered, kind_in, kinds_in, loop_facts, Needs, Outcome, over_clusters, report_in, reports_on, result_over, rows_in, span_rows}
+use Rattle.rdf_model.specs.{◌>>=◌, action_pass, booking_outcome, Dataset, Entry, fault_in, filter_in, filter_node, FilterCounts, is_covered, kind_in, kinds_in, loop_facts, Outcome, over_clusters, report_in, reports_on, result_over, rows_in, span_rows}
 use Rattle.rdf_model.proofs.Accepted.{itself}
 use Rattle.rdf_model.proofs.Faults.{first_fault_is_least}
 use Rattle.rdf_model.proofs.Parts.{facts_give_results, facts_give_counts}
@@ -19,10 +19,7 @@ use Rattle.loop_pieces.proofs.Places.{joined_places, lead_up, ranges_join, range
 module _ {A : Type 0} (rows : List A) where
   between : (spans : List Span) (lo hi : ℕ) → Lead lo hi spans → hi ≤ length rows → flat_map (λ (s : Span). span_rows rows (Some s)) spans ≡ slice_range rows lo hi
   between [] lo hi h le = sym (ap (λ k. slice_range rows lo k) (sym h) ∙ range_none rows lo)
-  between (s ∷ ss) lo hi h le =
-      let up = lead_up ss s.hi hi h.2 in
-      let first = h.1 in
-      ap₂ (λ a b. a ++ b) (ap (λ k. slice_range rows k s.hi) h.0) (between ss s.hi hi h.2 le) ∙ ranges_join rows lo s.hi hi (omega arith) up le
+  between (s ∷ ss) lo hi h le = grind (arith, lead_up, ranges_join, between ss s.hi hi h.2 le)
 
   all_rows : (spans : List Span) → Lead 0 (length rows) spans → rows_in spans rows (below (length spans)) ≡ rows
   all_rows spans leads = joined_places (span_rows rows) spans ∙ between spans 0 (length rows) leads (omega arith) ∙ range_whole rows
@@ -66,9 +63,7 @@ watch_piece_is_partial_result d filters spans set before after name k at piece s
 
 -- a report without a fault tries each of its filters without one
 first_faultless : (o : Outcome ⊥ Bool) (rest : Outcome ⊥ Entry) → fault_in (o >>= λ passed. rest) ≡ None → (fault_in o ≡ None) × (fault_in rest ≡ None)
-first_faultless (Gives b) rest h = (refl, h)
-first_faultless (Faults kind) rest h = absurd (cc)
-first_faultless (Needs m) rest h = elim m [ ]
+first_faultless o rest h = grind arith
 
 filter_faultless : (d : Dataset) (row : List Value) (filters : List Path) (i : ℕ) (f : Path) → fault_in (report_in d row filters) ≡ None → slice_get filters i ≡ Some f → fault_in (filter_in d row f) ≡ None
 filter_faultless d row [] i f h at = absurd (cc)

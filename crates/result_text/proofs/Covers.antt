@@ -1,25 +1,23 @@
 -- The filters that a report covers are named filters of the script.
-use Rattle.std.proofs.Common.{◌≡◌, ℕ, zero, suc, ◌+◌, ◌<◌, ◌≤◌, Bool, true, false, List, [], ◌∷◌, ◌++◌, length, Option, None, Some, refl, subst, arith, if◌then◌else◌, length-append, slice_get, All}
-use Rattle.std.specs.List.{AllByRecursion}
-use Rattle.std.proofs.lemmas.List.Elements.{All-from_recursion}
+use Rattle.std.proofs.Common.{◌≡◌, ℕ, suc, ◌+◌, ◌<◌, ◌≤◌, List, [], ◌∷◌, length, None, Some, sym, ap, ◌∙◌, arith, length-append, slice_get, All}
+use Rattle.std.proofs.lemmas.Bool.{cond_both}
+use Rattle.std.proofs.lemmas.List.{length-map}
+use Rattle.std.proofs.lemmas.List.Elements.{All-append, All-cons, All-nil, All-weaker}
 use Rattle.rdf_values.specs.{Column, FunctionNames, makes, named_before, parent_of, Path, path, Statement}
-use Rattle.rdf_values.specs.declared.statement.Statement.TheVariants.{Filter, Action, Report}
-use Rattle.graph_numbers.specs.{all_or, booked_statements, covered_at, filters, filters_on, graph_filters, graph_results, GraphView, numbers_from, own_filter, own_filters, own_results, ResultAt, results}
+use Rattle.rdf_values.specs.declared.statement.Statement.TheVariants.{Filter}
+use Rattle.graph_numbers.specs.{all_or, booked_statements, covered_at, FilterAt, filters_on, graph_filters, graph_results, GraphView, numbers_from, own_filter, ResultAt, results}
+use Rattle.graph_numbers.proofs.Covering.{filters_are}
+use Rattle.graph_numbers.proofs.Walks.{each_result}
 
 abbrev Below : ℕ → List ℕ → Type 0
-Below n xs = AllByRecursion (λ x. x < n) xs
+Below n xs = All (λ x. x < n) xs
 
 below_more : (m n : ℕ) (xs : List ℕ) → m ≤ n → Below m xs → Below n xs
-below_more m n [] le h = tt
-below_more m n (x ∷ xs) le h = (let first = h.0 in omega arith, below_more m n xs le h.1)
-
-below_both : (n : ℕ) (xs ys : List ℕ) → Below n xs → Below n ys → Below n (xs ++ ys)
-below_both n [] ys h k = k
-below_both n (x ∷ xs) ys h k = (h.0, below_both n xs ys h.1 k)
+below_more m n xs le h = All-weaker (λ x. x < m) (λ x. x < n) (λ x lt. omega arith) xs h
 
 numbers_below : {A : Type 0} (n top : ℕ) (xs : List A) → n + length xs ≤ top → Below top (numbers_from n xs)
-numbers_below n top [] le = tt
-numbers_below n top (x ∷ xs) le = (omega arith, numbers_below (suc n) top xs (omega arith))
+numbers_below n top [] le = All-nil (λ k. k < top)
+numbers_below n top (x ∷ xs) le = All-cons (λ k. k < top) n (numbers_from (suc n) xs) (omega arith) (numbers_below (suc n) top xs (omega arith))
 
 more_named : (s : Statement) (before : List Statement) → length (named_before before) ≤ length (named_before (s ∷ before))
 more_named (Filter node parent expr (Some label)) before = omega (arith, length-append (named_before before) ((Filter node parent expr (Some label) ∷ path before parent) ∷ []))
@@ -27,18 +25,18 @@ more_named (Filter node parent expr None) before = omega arith
 more_named s before = omega arith
 
 own_below : (s : Statement) (before : List Statement) → Below (length (named_before (s ∷ before))) (own_filter s (length (named_before before)))
-own_below (Filter node parent expr (Some label)) before = (omega (arith, length-append (named_before before) ((Filter node parent expr (Some label) ∷ path before parent) ∷ [])), tt)
-own_below (Filter node parent expr None) before = tt
-own_below s before = tt
+own_below (Filter node parent expr (Some label)) before =
+    let named = length-append (named_before before) ((Filter node parent expr (Some label) ∷ path before parent) ∷ []) in
+    All-cons (λ k. k < length (named_before (Filter node parent expr (Some label) ∷ before))) (length (named_before before)) [] (omega (arith, named)) (All-nil (λ k. k < length (named_before (Filter node parent expr (Some label) ∷ before))))
+own_below s before = All-nil (λ k. k < length (named_before (s ∷ before)))
 
 on_below : (before : List Statement) (node : List ℕ) → Below (length (named_before before)) (filters_on before node)
-on_below [] node = tt
-on_below (s ∷ before) node = go (makes s node) (on_below before (parent_of s)) (on_below before node)
-  where
-    go : (b : Bool) → Below (length (named_before before)) (filters_on before (parent_of s)) → Below (length (named_before before)) (filters_on before node)
-        → Below (length (named_before (s ∷ before))) (if b then filters_on before (parent_of s) ++ own_filter s (length (named_before before)) else filters_on before node)
-    go true h k = below_both (length (named_before (s ∷ before))) (filters_on before (parent_of s)) (own_filter s (length (named_before before))) (below_more _ _ (filters_on before (parent_of s)) (more_named s before) h) (own_below s before)
-    go false h k = below_more _ _ (filters_on before node) (more_named s before) k
+on_below [] node = All-nil (λ k. k < 0)
+on_below (s ∷ before) node =
+    let top = length (named_before (s ∷ before)) in
+    let up = below_more (length (named_before before)) top (filters_on before (parent_of s)) (more_named s before) (on_below before (parent_of s)) in
+    let rest = below_more (length (named_before before)) top (filters_on before node) (more_named s before) (on_below before node) in
+    cond_both (makes s node) _ _ (Below top) (λ _. All-append (λ k. k < top) (filters_on before (parent_of s)) (own_filter s (length (named_before before))) up (own_below s before)) (λ _. rest)
 
 covered_below : (before : List Statement) (node : List ℕ) → Below (length (named_before before)) (covered_at before node)
 covered_below before node = go (path before node) (on_below before node)
@@ -47,43 +45,12 @@ covered_below before node = go (path before node) (on_below before node)
     go [] h = numbers_below 0 (length (named_before before)) (named_before before) (omega arith)
     go (s ∷ up) h = h
 
-module _ (header : List Column) (names : FunctionNames) where
-  filters_many : (before : List Statement) → length (filters header names before) ≡ length (named_before before)
-  filters_many [] = refl
-  filters_many (Filter node parent expr (Some label) ∷ before) = omega (arith, filters_many before, length-append (filters header names before) (own_filters header names before (Filter node parent expr (Some label))), length-append (named_before before) ((Filter node parent expr (Some label) ∷ path before parent) ∷ []))
-  filters_many (Filter node parent expr None ∷ before) = omega (arith, filters_many before, length-append (filters header names before) [])
-  filters_many (s ∷ before) = omega (arith, filters_many before, length-append (filters header names before) [])
-
-  abbrev EachCovers : ℕ → List ResultAt → Type 0
-  EachCovers n xs = AllByRecursion (λ (x : ResultAt). Below n x.covers) xs
-
-  each_more : (m n : ℕ) (xs : List ResultAt) → m ≤ n → EachCovers m xs → EachCovers n xs
-  each_more m n [] le h = tt
-  each_more m n (x ∷ xs) le h = (below_more m n x.covers le h.0, each_more m n xs le h.1)
-
-  each_both : (n : ℕ) (xs ys : List ResultAt) → EachCovers n xs → EachCovers n ys → EachCovers n (xs ++ ys)
-  each_both n [] ys h k = k
-  each_both n (x ∷ xs) ys h k = (h.0, each_both n xs ys h.1 k)
-
-  own_covers : (s : Statement) (before : List Statement) → EachCovers (length (named_before (s ∷ before))) (own_results header names before s)
-  own_covers (Action result parent k) before = (tt, tt)
-  own_covers (Report result parent) before = (covered_below before parent, tt)
-  own_covers s before = tt
-
-  covers_below : (before : List Statement) → EachCovers (length (named_before before)) (results header names before)
-  covers_below [] = tt
-  covers_below (s ∷ before) = each_both (length (named_before (s ∷ before))) (results header names before) (own_results header names before s) (each_more _ _ (results header names before) (more_named s before) (covers_below before)) (own_covers s before)
-
-  cover_at : (n : ℕ) (xs : List ResultAt) (r : ℕ) (x : ResultAt) → EachCovers n xs → slice_get xs r ≡ Some x → Below n x.covers
-  cover_at n [] r x h at = absurd (cc)
-  cover_at n (y ∷ ys) zero x h at = subst (λ (z : ResultAt). Below n z.covers) (same_some at) h.0
-    where
-      same_some : {a b : ResultAt} → ◌≡◌ {A = Option ResultAt} (Some a) (Some b) → a ≡ b
-      same_some q = cc
-  cover_at n (y ∷ ys) (suc r) x h at = cover_at n ys r x h.1 at
+covers_below : (header : List Column) (names : FunctionNames) (before : List Statement) (r : ℕ) (x : ResultAt) → slice_get (results header names before) r ≡ Some x → Below (length (named_before before)) x.covers
+covers_below header names = each_result header names (λ upto x. Below (length (named_before upto)) x.covers)
+    (λ upto s x h. below_more (length (named_before upto)) (length (named_before (s ∷ upto))) x.covers (more_named s upto) h)
+    (λ upto result parent k. All-nil (λ f. f < length (named_before upto))) (λ upto result parent. covered_below upto parent)
 
 pub covers_within : (g : GraphView) (r : ℕ) (x : ResultAt) → slice_get (graph_results g) r ≡ Some x → All (λ f. f < length (graph_filters g)) x.covers
 covers_within g r x at =
-    let below = cover_at g.header g.names (length (named_before (booked_statements g))) (graph_results g) r x (covers_below g.header g.names (booked_statements g)) at in
-    let same = filters_many g.header g.names (booked_statements g) in
-    All-from_recursion (λ f. f < length (graph_filters g)) x.covers (below_more _ _ x.covers (omega arith) below)
+    let many = sym (length-map (graph_filters g) (λ (f : FilterAt). f.at)) ∙ ap (λ (l : List Path). length l) (filters_are g.header g.names (booked_statements g)) in
+    below_more (length (named_before (booked_statements g))) (length (graph_filters g)) x.covers (omega (arith, many)) (covers_below g.header g.names (booked_statements g) r x at)

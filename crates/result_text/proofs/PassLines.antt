@@ -10,6 +10,9 @@ use Rattle.loop_pieces.specs.{Counts}
 use Rattle.graph_numbers.specs.{booked_statements, graph_results, graph_variations, GraphView, holds_at, kind_of_booking, result_depends_at, ResultAt, ResultKind}
 use Rattle.result_text.specs.{acc_lines, flow_at, lines_from, members_from, under_lines, value_lines}
 
+behind_line : (a b c : List ℕ) → ((a ++ b) ++ 10 ∷ []) ++ c ≡ a ++ ((b ++ 10 ∷ []) ++ c)
+behind_line a b c = ap (λ x. x ++ c) (append_assoc a b (10 ∷ [])) ∙ append_assoc a (b ++ 10 ∷ []) c
+
 -- the label and the equals sign, and then what the action holds
 pub filled_is : (k : ActionKind) (l : List ℕ) (f : Filled) → filled_lines k l f ≡ (l ++ codes " = ") ++ value_lines k f
 filled_is k l (filled.Count n) = append_assoc (l ++ codes " = ") _ (10 ∷ [])
@@ -18,13 +21,7 @@ filled_is k l (filled.Extreme z) = append_assoc (l ++ codes " = ") _ (10 ∷ [])
 filled_is k l (filled.Taken xs) = append_assoc (l ++ codes " = ") _ (10 ∷ [])
 filled_is k l (filled.Reduced z) = append_assoc (l ++ codes " = ") _ (10 ∷ [])
 filled_is k l (filled.Flat cells) = behind_line (l ++ codes " = ") _ _
-  where
-    behind_line : (a b c : List ℕ) → ((a ++ b) ++ 10 ∷ []) ++ c ≡ a ++ ((b ++ 10 ∷ []) ++ c)
-    behind_line a b c = ap (λ x. x ++ c) (append_assoc a b (10 ∷ [])) ∙ append_assoc a (b ++ 10 ∷ []) c
 filled_is k l (filled.Square cells) = behind_line (l ++ codes " = ") _ _
-  where
-    behind_line : (a b c : List ℕ) → ((a ++ b) ++ 10 ∷ []) ++ c ≡ a ++ ((b ++ 10 ∷ []) ++ c)
-    behind_line a b c = ap (λ x. x ++ c) (append_assoc a b (10 ∷ [])) ∙ append_assoc a (b ++ 10 ∷ []) c
 
 -- ---- passes under variations
 

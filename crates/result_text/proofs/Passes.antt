@@ -1,8 +1,8 @@
 -- The passes of a graph's loops are those of the script.
-use Rattle.std.proofs.Common.{◌≡◌, ℕ, zero, suc, ◌<◌, List, [], ◌∷◌, length, map, get_or, Option, None, Some, refl, sym, ap, ◌∙◌, arith, option_map, slice_get, unwrap_or}
+use Rattle.std.proofs.Common.{◌≡◌, ℕ, ◌<◌, List, [], length, map, get_or, Option, None, Some, refl, sym, ap, ◌∙◌, arith, option_map, slice_get, unwrap_or}
 use Rattle.std.proofs.lemmas.List.{length-map}
-use Rattle.std.proofs.lemmas.Option.{slice_get-map, slice_get_within}
-use Rattle.lemmas.proofs.{same_some}
+use Rattle.std.proofs.lemmas.Option.{slice_get-get_or, slice_get-map, slice_get_within}
+use Rattle.lemmas.proofs.{mapped_at, same_some}
 use Rattle.rdf_values.specs.{Booked, bookings, Pass}
 use Rattle.rdf_model.specs.{label, loop_passes, loop_results, pass_label}
 use Rattle.graph_numbers.specs.{booked_statements, graph_loops, graph_results, graph_variations, GraphView, Pass as NumberedPass, pass_at, ResultAt, under_at}
@@ -10,6 +10,10 @@ use Rattle.graph_numbers.proofs.Extending.{itself}
 use Rattle.graph_numbers.proofs.Looping.{loops_are}
 use Rattle.graph_numbers.proofs.Resulting.{booked_are}
 use Rattle.result_text.specs.{passes_at, under_in}
+
+of_option : {A B : Type 0} (f : A → B) (o : Option A) (y : B) → option_map f o ≡ Some y → (x : A) × (o ≡ Some x) × (f x ≡ y)
+of_option f None y h = cc h
+of_option f (Some x) y h = (x, refl, cc h)
 
 module _ (g : GraphView) where
   -- the result and the variation of a numbered pass, which is the pass of that place in the script's loop
@@ -19,32 +23,19 @@ module _ (g : GraphView) where
     pub its_pass : slice_get (passes_at g l) n ≡ Some (record { result = booked; under = under_at (booked_statements g) p.variation })
 
   pub is_pass_at : (l n : ℕ) (ps : List NumberedPass) (p : NumberedPass) → slice_get (graph_loops g) l ≡ Some ps → slice_get ps n ≡ Some p → IsPassAt l n p
-  is_pass_at l n ps p loop at = by_loop (slice_get (loop_results (booked_statements g)) l) refl both_loops
-    where
-      both_loops : ◌≡◌ {A = Option (List (Option Pass))} (Some (map (pass_at (booked_statements g)) ps)) (option_map (λ results. map (λ (q : Pass). Some q) (loop_passes (booked_statements g) results)) (slice_get (loop_results (booked_statements g)) l))
-      both_loops =
-          sym (ap (option_map (map (pass_at (booked_statements g)))) loop) ∙ sym (slice_get-map (map (pass_at (booked_statements g))) (graph_loops g) l)
-          ∙ ap (λ ls. slice_get ls l) (loops_are (booked_statements g) (booked_statements g) itself)
-          ∙ slice_get-map (λ results. map (λ (q : Pass). Some q) (loop_passes (booked_statements g) results)) (loop_results (booked_statements g)) l
-
-      by_loop : (o : Option (List Booked)) → slice_get (loop_results (booked_statements g)) l ≡ o
-          → ◌≡◌ {A = Option (List (Option Pass))} (Some (map (pass_at (booked_statements g)) ps)) (option_map (λ results. map (λ (q : Pass). Some q) (loop_passes (booked_statements g) results)) o) → IsPassAt l n p
-      by_loop None is e = absurd (cc)
-      by_loop (Some results) is e = by_pass (slice_get (loop_passes (booked_statements g) results) n) refl
-          (sym (ap (option_map (pass_at (booked_statements g))) at) ∙ sym (slice_get-map (pass_at (booked_statements g)) ps n) ∙ ap (λ qs. slice_get qs n) (same_some e) ∙ slice_get-map (λ (q : Pass). Some q) (loop_passes (booked_statements g) results) n)
-        where
-          by_booked : (q : Pass) → slice_get (loop_passes (booked_statements g) results) n ≡ Some q → (b : Option Booked) → slice_get (bookings (booked_statements g)) p.result ≡ b
-              → option_map (λ (x : Booked). record { result = x; under = under_at (booked_statements g) p.variation }) b ≡ Some q → IsPassAt l n p
-          by_booked q there None none k = absurd (cc)
-          by_booked q there (Some b) found k = record {
-            booked = b;
-            its_result = found;
-            its_pass = ap (λ (r : Option (List Booked)). slice_get (loop_passes (booked_statements g) (unwrap_or r [])) n) is ∙ there ∙ sym k;
-          }
-
-          by_pass : (q : Option Pass) → slice_get (loop_passes (booked_statements g) results) n ≡ q → ◌≡◌ {A = Option (Option Pass)} (Some (pass_at (booked_statements g) p)) (option_map (λ (x : Pass). Some x) q) → IsPassAt l n p
-          by_pass None there k = absurd (cc)
-          by_pass (Some q) there k = by_booked q there (slice_get (bookings (booked_statements g)) p.result) refl (same_some k)
+  is_pass_at l n ps p loop at =
+      let s = booked_statements g in
+      let named : List Booked → List (Option Pass) = λ rs. map (λ (q : Pass). Some q) (loop_passes s rs) in
+      let results = of_option named (slice_get (loop_results s) l) (map (pass_at s) ps)
+      (sym (slice_get-map named (loop_results s) l) ∙ ap (λ ls. slice_get ls l) (sym (loops_are s s itself)) ∙ mapped_at (map (pass_at s)) (graph_loops g) l ps loop) in
+      let pass = of_option (λ (q : Pass). Some q) (slice_get (loop_passes s results.0) n) (pass_at s p)
+      (sym (slice_get-map (λ (q : Pass). Some q) (loop_passes s results.0) n) ∙ ap (λ qs. slice_get qs n) results.2 ∙ mapped_at (pass_at s) ps n p at) in
+      let booked = of_option (λ (b : Booked). record { result = b; under = under_at s p.variation }) (slice_get (bookings s) p.result) pass.0 (sym pass.2) in
+      record {
+        booked = booked.0;
+        its_result = booked.1;
+        its_pass = ap (λ (r : Option (List Booked)). slice_get (loop_passes s (unwrap_or r [])) n) results.1 ∙ pass.1 ∙ ap (λ (q : Pass). Some q) (sym booked.2);
+      }
 
   pub result_within : (l n : ℕ) (p : NumberedPass) → IsPassAt l n p → p.result < length (graph_results g)
   result_within l n p is =
@@ -54,12 +45,10 @@ module _ (g : GraphView) where
 
   -- the name that the graph has for the result is that of what was booked
   pub name_is : (r : ℕ) (b : Booked) (name : List ℕ) → slice_get (bookings (booked_statements g)) r ≡ Some b → option_map (λ (x : ResultAt). x.booked.name) (slice_get (graph_results g) r) ≡ Some name → name ≡ b.name
-  name_is r b name its named = go (slice_get (graph_results g) r)
-      (sym (slice_get-map (λ (x : ResultAt). x.booked) (graph_results g) r) ∙ ap (λ (bs : List Booked). slice_get bs r) (booked_are g.header g.names (booked_statements g)) ∙ its) named
-    where
-      go : (o : Option ResultAt) → option_map (λ (x : ResultAt). x.booked) o ≡ Some b → option_map (λ (x : ResultAt). x.booked.name) o ≡ Some name → name ≡ b.name
-      go None e k = absurd (cc)
-      go (Some x) e k = sym (same_some k) ∙ ap (λ (y : Booked). y.name) (same_some e)
+  name_is r b name its named =
+      let row = of_option (λ (x : ResultAt). x.booked) (slice_get (graph_results g) r) b
+      (sym (slice_get-map (λ (x : ResultAt). x.booked) (graph_results g) r) ∙ ap (λ (bs : List Booked). slice_get bs r) (booked_are g.header g.names (booked_statements g)) ∙ its) in
+      same_some (sym named ∙ ap (option_map (λ (x : ResultAt). x.booked.name)) row.1) ∙ ap (λ (y : Booked). y.name) row.2
 
   under_is : (v : Option ℕ) → under_in (graph_variations g) v ≡ under_at (booked_statements g) v
   under_is None = refl
@@ -73,6 +62,4 @@ module _ (g : GraphView) where
       ∙ ap (label is.booked.name) (under_is p.variation) ∙ sym (ap pass_label is.its_pass)
 
 pub pass_there : (ps : List NumberedPass) (n : ℕ) (d : NumberedPass) → n < length ps → slice_get ps n ≡ Some (get_or ps n d)
-pass_there [] n d lt = absurd (omega arith)
-pass_there (p ∷ ps) zero d lt = refl
-pass_there (p ∷ ps) (suc n) d lt = pass_there ps n d (omega arith)
+pass_there ps n d lt = slice_get-get_or ps n d lt

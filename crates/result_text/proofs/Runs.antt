@@ -1,6 +1,8 @@
 -- Texts with something between each two.
-use Rattle.std.proofs.Common.{◌≡◌, ℕ, ◌+◌, List, [], ◌∷◌, ◌++◌, map, drop, Option, Some, refl, sym, ap, ◌∙◌, append-nil, append_assoc, codes, decimal, flat_map, slice_get}
+use Rattle.std.proofs.Common.{◌≡◌, ℕ, ◌+◌, List, [], ◌∷◌, ◌++◌, map, drop, Some, sym, ap, ◌∙◌, append-nil, append_assoc, codes, decimal, flat_map, slice_get}
 use Rattle.std.specs.List.{join_with_byte}
+use Rattle.std.proofs.lemmas.Simd.{map-map}
+use Rattle.lemmas.proofs.{same_some}
 use Rattle.rdf_values.specs.{Scalar, Span}
 use Rattle.rdf_model.specs.{FilterCounts, flow_line, percent, run_text, scalar_text, taken_text}
 use Rattle.result_text.proofs.Lists.{one_left, put_next}
@@ -11,12 +13,8 @@ pub joined_front : {A : Type 0} (c : ℕ) (f : A → List ℕ) (x : A) (xs : Lis
 joined_front c f x [] = sym (append-nil (f x))
 joined_front c f x (y ∷ ys) = ap (λ l. f x ++ (c ∷ l)) (joined_front c f y ys)
 
-map_twice : {A B C : Type 0} (g : B → C) (f : A → B) (xs : List A) → map g (map f xs) ≡ map (λ x. g (f x)) xs
-map_twice g f [] = refl
-map_twice g f (x ∷ xs) = ap (λ l. g (f x) ∷ l) (map_twice g f xs)
-
 pub runs_front : (r : Span) (rs : List Span) → runs_text (r ∷ rs) ≡ run_text (run_of r) ++ more_runs rs
-runs_front r rs = ap (join_with_byte 44) (map_twice run_text run_of (r ∷ rs)) ∙ joined_front 44 (λ (s : Span). run_text (run_of s)) r rs
+runs_front r rs = ap (join_with_byte 44) (map-map run_text run_of (r ∷ rs)) ∙ joined_front 44 (λ (s : Span). run_text (run_of s)) r rs
 
 pub taken_next : (text t1 now all : List ℕ) (xs : List Scalar) (i : ℕ) (x : Scalar) → text ++ more_taken (drop i xs) ≡ all → slice_get xs i ≡ Some x → t1 ≡ text ++ 32 ∷ [] → now ≡ t1 ++ scalar_text x → now ++ more_taken (drop (i + 1) xs) ≡ all
 taken_next text t1 now all xs i x h at e is =
@@ -24,10 +22,7 @@ taken_next text t1 now all xs i x h at e is =
 
 pub taken_front : (xs : List Scalar) (x : Scalar) → slice_get xs 0 ≡ Some x → taken_text xs ≡ scalar_text x ++ more_taken (drop 1 xs)
 taken_front [] x at = absurd (cc)
-taken_front (y ∷ ys) x at = joined_front 32 scalar_text y ys ∙ ap (λ z. scalar_text z ++ more_taken ys) (same at)
-  where
-    same : {a b : Scalar} → ◌≡◌ {A = Option Scalar} (Some a) (Some b) → a ≡ b
-    same q = cc
+taken_front (y ∷ ys) x at = joined_front 32 scalar_text y ys ∙ ap (λ z. scalar_text z ++ more_taken ys) (same_some at)
 
 -- the line of a filter, put piece by piece
 pub flow_put : (text name l : List ℕ) (first : ℕ) (n : FilterCounts) (t1 t2 t3 t4 t5 bytes : List ℕ) → t1 ≡ text ++ name → t2 ≡ t1 ++ codes ": " → bytes ≡ l → t3 ≡ t2 ++ bytes

@@ -14,8 +14,8 @@ use Rattle.slot_words.specs.{AreNoted, chain_of, set_before}
 use Rattle.slot_words.proofs.Noting.{set_rises, set_within, set_many, set_grows}
 
 -- a multiple that is counted is no greater than the number
-pub multiple_below : (c g j : ℕ) → 0 < g → j < c / g → (j + 1) * g ≤ c
-multiple_below c g j some lt =
+pub multiple_below : (c g j : ℕ) → j < c / g → (j + 1) * g ≤ c
+multiple_below c g j lt =
     let low : (c / g) * g ≤ c = omega arith in
     let high : (j + 1) * g ≤ (c / g) * g = mul-le-mul_right g (omega arith) in
     omega arith
@@ -26,14 +26,14 @@ at_below f n j x h =
     let inside : j < n = omega (arith, slice_get_within (map f (below n)) j x h, length-map (below n) f, length-below n) in
     (inside, same_some (sym (slice_get-map f (below n) j ∙ ap (option_map f) (slice_get-below n j inside)) ∙ h))
 
-module _ (os ds : List (List ℕ)) (clusters step : ℕ) (noted : AreNoted os ds clusters) (some : 0 < step) where
+module _ (os ds : List (List ℕ)) (clusters step : ℕ) (noted : AreNoted os ds clusters) where
   abbrev set_at : ℕ → List ℕ
   set_at j = set_before os ds clusters ((j + 1) * step)
 
   pub is_chain : IsChain clusters step (chain_of os ds clusters step)
   is_chain = record {
     count = length-map (below (clusters / step)) set_at ∙ length-below (clusters / step);
-    sizes = λ j set at. (let b = at_below set_at (clusters / step) j set at in ap length (sym b.1) ∙ set_many os ds clusters noted ((j + 1) * step) (multiple_below clusters step j some b.0));
+    sizes = λ j set at. (let b = at_below set_at (clusters / step) j set at in ap length (sym b.1) ∙ set_many os ds clusters noted ((j + 1) * step) (multiple_below clusters step j b.0));
     rising = λ j set at. (let b = at_below set_at (clusters / step) j set at in subst IsStrictlyIncreasing b.1 (set_rises os ds clusters noted ((j + 1) * step)));
     clusters = λ j set at. (let b = at_below set_at (clusters / step) j set at in subst (All (λ x. x < clusters)) b.1 (set_within os ds clusters noted ((j + 1) * step)));
     nested = λ j set next at after.

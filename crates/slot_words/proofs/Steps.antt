@@ -83,7 +83,7 @@ may_look h n me is lt unpassed = subst (λ (m : Me ℕ (List ClaimHand)). (m ≡
     (refl, drawn_hand (λ g. g.passed ≡ None) h n (λ _. unpassed) (λ _. unpassed), drawn_hand (λ g. 0 < length g.drawn) h n (λ _. omega (arith, length-append h.drawn (n ∷ []))) (λ le. absurd (omega arith)))
 
 -- a rising list has no more numbers than stand below its last
-rising_room : (xs : List ℕ) (n : ℕ) → IsStrictlyIncreasing (xs ++ n ∷ []) → length xs ≤ n
+pub rising_room : (xs : List ℕ) (n : ℕ) → IsStrictlyIncreasing (xs ++ n ∷ []) → length xs ≤ n
 rising_room xs n up =
     let most = at_least (xs ++ n ∷ []) up (length xs) (omega (arith, length-append xs (n ∷ []))) in
     grind (arith, common_steps)

@@ -81,12 +81,12 @@ more_lines facts places sets w place all now lines h at one is = record {
 
 -- all lines are the partial results
 pub have_partials : (facts : LoopFacts) (places : List ℕ) (os ds : List (List ℕ)) (clusters step watch w : ℕ) (all : List (List PartialLine))
-    → AreNoted os ds clusters → 0 < step → step ≡ stride clusters watch → length facts.ranges ≡ clusters → w ≡ length places → AreLinesUpTo facts places (chain_of os ds clusters step) w all
+    → AreNoted os ds clusters → step ≡ stride clusters watch → length facts.ranges ≡ clusters → w ≡ length places → AreLinesUpTo facts places (chain_of os ds clusters step) w all
     → HavePartialsOver facts places watch (noted_sets os ds clusters watch) all
-have_partials facts places os ds clusters step watch w all noted some step_is ranges w_is h = record {
+have_partials facts places os ds clusters step watch w all noted step_is ranges w_is h = record {
   are = record {
     sets = chain_of os ds clusters step;
-    chain = λ any. subst (λ (c : ℕ). IsChain c (stride c watch) (chain_of os ds clusters step)) (sym ranges) (subst (λ (g : ℕ). IsChain clusters g (chain_of os ds clusters step)) step_is (is_chain os ds clusters step noted some));
+    chain = λ any. subst (λ (c : ℕ). IsChain c (stride c watch) (chain_of os ds clusters step)) (sym ranges) (subst (λ (g : ℕ). IsChain clusters g (chain_of os ds clusters step)) step_is (is_chain os ds clusters step noted));
     many = h.many ∙ w_is;
     each = h.each;
   };

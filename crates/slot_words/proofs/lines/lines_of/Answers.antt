@@ -7,12 +7,12 @@ use Rattle.slot_words.proofs.lines.lines_of.Goals as goal
 
 pub first_line-requires : goal.first_line-requires
 first_line-requires c =
-    let within = multiple_below c.args.clusters c.args.step 0 c.requires.step (omega arith) in
+    let within = multiple_below c.args.clusters c.args.step 0 (omega arith) in
     record { noted = (c.args.clusters, c.requires.noted, (c.requires.step, omega arith, c.requires.few)) }
 
 pub loop-j-init : goal.loop-j-init
 loop-j-init c =
-    let within = multiple_below c.args.clusters c.args.step 0 c.requires.step (omega arith) in
+    let within = multiple_below c.args.clusters c.args.step 0 (omega arith) in
     let line = c.in_ok-first_line.field-0 in
     record {
       many = ap length (c.in_ok-push.ensures.ok ∙ ap (λ l. l ++ line ∷ []) c.new-lines.ensures);
@@ -27,7 +27,7 @@ pub next_line-requires-clause-noted : goal.next_line-requires-clause-noted
 next_line-requires-clause-noted c =
     let w = c.requires.noted in
     let j = c.loop-j.j in
-    let within = multiple_below c.args.clusters c.args.step j c.requires.step (omega arith) in (
+    let within = multiple_below c.args.clusters c.args.step j (omega arith) in (
       c.args.clusters,
       w,
       (omega arith, within, c.requires.few),
@@ -40,7 +40,7 @@ loop-j-preserved c = record {
   are = λ w.
       (let j = c.loop-j.j in
       let sets = set_at c.args.orders.now.slots c.args.clusters c.args.trails.now w in
-      let within = multiple_below c.args.clusters c.args.step j c.requires.step (omega arith) in
+      let within = multiple_below c.args.clusters c.args.step j (omega arith) in
       let before = last_line w.facts w.place sets c.args.step j c.loop-j.lines c.at-before.result.now (c.loop-j.invariant.are w) (omega arith) c.at-before.ensures in
       lines_next w.facts w.place (λ k. sets ((k + 1) * c.args.step)) j c.loop-j.lines _ c.in_ok-line.line (c.loop-j.invariant.are w) (c.in_ok-line.ensures c.args.clusters w (omega arith, within, c.requires.few) before) c.in_ok-push-2.ensures.ok);
 }

@@ -33,4 +33,4 @@ loop-w-preserved c = record {
 
 pub returns-clause-partials : goal.returns-clause-partials
 returns-clause-partials c = λ facts places dones noted have many ranges.
-    have_partials facts places c.args.orders.now.slots dones c.args.clusters c.stride-step.result c.args.watch c.loop-w.w c.loop-w.all noted (omega arith) c.stride-step.ensures ranges (omega (arith, many)) (c.loop-w.invariant.lines facts places dones noted have many)
+    have_partials facts places c.args.orders.now.slots dones c.args.clusters c.stride-step.result c.args.watch c.loop-w.w c.loop-w.all noted c.stride-step.ensures ranges (omega (arith, many)) (c.loop-w.invariant.lines facts places dones noted have many)

@@ -2,8 +2,8 @@ use Rattle.std.proofs.Common.{◌≡◌, suc, false, sym, ◌∙◌, ap, arith, 
 use Rattle.graph.proofs.Bits.{none_above}
 use Rattle.graph.specs.{has, members_below}
 use Rattle.loop_keys.specs.{slot_in}
-use Rattle.loop_keys.proofs.keys.slot.Goals as goal
-use Rattle.loop_keys.proofs.keys.slot.Goals.{else-v-lt128-via-then-v-lt128+else-contains, else-v-lt128-via-else-v-lt128}
+use Rattle.loop_keys.proofs.rows.slot.Goals as goal
+use Rattle.loop_keys.proofs.rows.slot.Goals.{else-v-lt128-via-then-v-lt128+else-contains, else-v-lt128-via-else-v-lt128}
 
 pub returns-else-v-lt128-clause-value : goal.returns-else-v-lt128-clause-value
 returns-else-v-lt128-clause-value c =
