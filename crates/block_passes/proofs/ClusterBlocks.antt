@@ -202,14 +202,6 @@ module _ (j : JobView) (job : IsJob j) (cluster size keys : ℕ) (some : 1 ≤ s
     at_hi : lo ≡ span.hi
     at_hi = let t = at.to in omega (arith, t, end)
 
-    pub no_fault : cluster_fault j.dataset (job_spans j) (passes_in j) cluster ≡ None
-    no_fault =
-        at.fault ∙ ap (λ k. first_fault_from j.dataset lo (slice_range j.dataset.rows k span.hi) (passes_in j)) at_hi
-        ∙ ap (λ rows. first_fault_from j.dataset lo rows (passes_in j)) (range_none j.dataset.rows span.hi)
-
-    pub cost_all : steps ≤ start + 2 * span_demands j size keys cluster
-    cost_all = let a = at.cost in let e = demands_are in omega (arith, a, e)
-
     all_rows : lo - span.lo ≡ length (span_rows (map (spreads_of j.dataset (passes_in j)) j.dataset.rows) (slice_get (job_spans j) cluster))
     all_rows =
         let e = at_hi in

@@ -123,24 +123,6 @@ module _ (rows : List (List Value)) (keys size most hi : ℕ) where
           let f = at.first in
           let up = at.above in omega (arith, f, a, up)
 
-    full : (n s : ℕ) (cs : List ℕ) → size ≤ n → more_fit size most n s cs ≡ 0
-    full n s [] le = refl
-    full n s (x ∷ xs) le =
-        ap (λ b. if b then suc (more_fit size most (suc n) (s + x) xs) else 0)
-        (let e : one_more_fits size most n s x ≡ false = ap (λ b. b && nat_le (s + x) most) (le-ltb n size le) in e)
-
-    -- the block is as long as any, or there are no more entries
-    pub at_last : (end ≡ lo + size) ⊎ (end ≡ hi) → end ≡ lo + first_length size most (costs_from lo)
-    at_last (inl e) =
-        let a = full (end - lo) elements (costs_from end) (omega (arith, e)) in
-        let f = at.first in
-        let up = at.above in omega (arith, f, a, up)
-    at_last (inr e) =
-        let none : costs_from end ≡ [] = ap (λ k. costs_from k) e ∙ ap (map (row_elements keys)) (range_none rows hi) in
-        let a : more_fit size most (end - lo) elements (costs_from end) ≡ 0 = ap (more_fit size most (end - lo) elements) none in
-        let f = at.first in
-        let up = at.above in omega (arith, f, a, up)
-
   -- ---- by the elements that are counted at an entry
 
   abbrev AreOf : ℕ → ℕ → Type 0

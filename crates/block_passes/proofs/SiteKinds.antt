@@ -15,9 +15,10 @@ use Rattle.expr_check.proofs.Distinct.{each_from_distinct}
 use Rattle.expr_check.proofs.Typed.{columns_known, kind_by-renamed, kind_by-same}
 use Rattle.graph_numbers.specs.{cell_sources, covered_at, depends_on, filter_sites, FilterAt, filters, graph_kinds, graph_sites, graph_under, graph_variations, GraphView, holds_at, IsSiteExpr, named_version, own_filter_site, own_filters, own_results, own_sites, own_source, own_sources, ResultAt, results, site_count, site_depends_at, site_in, SiteAt, sites, Source, source_in, sources, varied_sources, version_at, version_kinds}
 use Rattle.graph_numbers.proofs.Extending.{further, itself}
-use Rattle.graph_numbers.proofs.Listed.{next_at, of_joined}
+use Rattle.graph_numbers.proofs.Listed.{by_test, next_at, of_joined}
 use Rattle.graph_numbers.proofs.Placing.{IsPlaced}
 use Rattle.graph_numbers.proofs.VersionKinds.{kind_later, visible_kind}
+use Rattle.graph_numbers.proofs.Walks.{each_filter, each_result}
 use Rattle.loop_keys.specs.{IsJob, job_graph, JobView, key, keys_before, own_keys, slot, slot_at, source_at}
 use Rattle.loop_keys.proofs.EvaluateLaws.{accepted_of}
 use Rattle.block_passes.specs.{Chain, HaveKinds, IsTried}
@@ -44,11 +45,10 @@ module _ (all : List ColType) where
 
   listed_more : (k : ℕ × ColType) (ks : List (ℕ × ColType)) → slice_get all k.0 ≡ Some k.1 → (vs : List ℕ) → AllByRecursion (IsListed ks) vs → AllByRecursion (IsListed (k ∷ ks)) vs
   listed_more k ks h [] each = tt
-  listed_more k ks h (v ∷ vs) each = (go (nat_eq k.0 v) refl, listed_more k ks h vs each.1)
-    where
-      go : (b : Bool) → nat_eq k.0 v ≡ b → (if b then Ok k.1 else number_kind ks v) ≡ known (slice_get all v)
-      go true e = let i : k.0 ≡ v = (Decides-eqb k.0 v).0 e in ap known (sym h ∙ ap (slice_get all) i)
-      go false e = each.0
+  listed_more k ks h (v ∷ vs) each = (
+    by_test (nat_eq k.0 v) (λ e. (let i : k.0 ≡ v = (Decides-eqb k.0 v).0 e in rw e (ap known (sym h ∙ ap (slice_get all) i)))) (λ e. rw e each.0),
+    listed_more k ks h vs each.1,
+  )
 
   listed : (ks : List (ℕ × ColType)) → AllByRecursion (λ (k : ℕ × ColType). slice_get all k.0 ≡ Some k.1) ks → AllByRecursion (IsListed ks) (map (λ (c : ℕ × ColType). c.0) ks)
   listed [] h = tt
@@ -158,49 +158,22 @@ module _ (header : List Column) (names : FunctionNames) where
 
   pub path_filters : (before : List Statement) → AreAccepted names (scope_of header) before → (node : List ℕ) → AllByRecursion (IsFilterSite before) (filter_sites header names before node)
   path_filters [] good node = tt
-  path_filters (s ∷ before) good node = go (makes s node) (path_filters before good.1 (parent_of s)) (path_filters before good.1 node)
-    where
-      go : (b : Bool) → AllByRecursion (IsFilterSite before) (filter_sites header names before (parent_of s)) → AllByRecursion (IsFilterSite before) (filter_sites header names before node)
-          → AllByRecursion (IsFilterSite (s ∷ before)) (if b then filter_sites header names before (parent_of s) ++ own_filter_site s (site_count header names before) else filter_sites header names before node)
-      go true h k = with_own before s (filter_sites header names before (parent_of s)) good h
-      go false h k = further_sites before s (filter_sites header names before node) k
+  path_filters (s ∷ before) good node =
+      by_test (makes s node) (λ e. rw e (with_own before s (filter_sites header names before (parent_of s)) good (path_filters before good.1 (parent_of s))))
+      (λ e. rw e (further_sites before s (filter_sites header names before node) (path_filters before good.1 node)))
 
   -- of a named filter, with those above it
   pub named_filters : (before : List Statement) → AreAccepted names (scope_of header) before → (n : ℕ) (f : FilterAt) → slice_get (filters header names before) n ≡ Some f → AllByRecursion (IsFilterSite before) f.sites
-  named_filters [] good n f h = cc h
-  named_filters (s ∷ before) good n f h = elim (of_joined (filters header names before) (own_filters header names before s) n f h) [
-    | inl q ↦ further_sites before s f.sites (named_filters before good.1 n f q)
-    | inr q ↦ own s q.0 good q.2
-  ]
-    where
-      own : (s : Statement) (k : ℕ) → AreAccepted names (scope_of header) (s ∷ before) → slice_get (own_filters header names before s) k ≡ Some f → AllByRecursion (IsFilterSite (s ∷ before)) f.sites
-      own (Filter node parent expr (Some label)) zero ok q =
-          let x : FilterAt = record { label = label; at = Filter node parent expr (Some label) ∷ path before parent; sites = filter_sites header names before parent ++ site_count header names before ∷ [] } in
-          let is : x ≡ f = cc q in
-          subst (λ (y : FilterAt). AllByRecursion (IsFilterSite (Filter node parent expr (Some label) ∷ before)) y.sites) is
-          (with_own before (Filter node parent expr (Some label)) (filter_sites header names before parent) ok (path_filters before ok.1 parent))
-      own s k ok q = cc q
+  named_filters before good n f h =
+      each_filter header names (λ upto f. AreAccepted names (scope_of header) upto → AllByRecursion (IsFilterSite upto) f.sites) (λ upto s f next ok. further_sites upto s f.sites (next ok.1))
+      (λ upto node parent expr label ok. with_own upto (Filter node parent expr (Some label)) (filter_sites header names upto parent) ok (path_filters upto ok.1 parent)) before n f h good
 
   -- of a result
   pub result_filters : (before : List Statement) → AreAccepted names (scope_of header) before → (n : ℕ) (r : ResultAt) → slice_get (results header names before) n ≡ Some r → AllByRecursion (IsFilterSite before) r.filters
-  result_filters [] good n r h = cc h
-  result_filters (s ∷ before) good n r h = elim (of_joined (results header names before) (own_results header names before s) n r h) [
-    | inl q ↦ further_sites before s r.filters (result_filters before good.1 n r q)
-    | inr q ↦ own s q.0 good q.2
-  ]
-    where
-      own : (s : Statement) (k : ℕ) → AreAccepted names (scope_of header) (s ∷ before) → slice_get (own_results header names before s) k ≡ Some r → AllByRecursion (IsFilterSite (s ∷ before)) r.filters
-      own (Action result parent kind) zero ok q =
-          let x : ResultAt = record { booked = record { name = result; booking = ActionAt kind (path before parent) }; filters = filter_sites header names before parent; inputs = map (version_at header before parent) (columns_of kind); covers = [] } in
-          let is : x ≡ r = cc q in
-          subst (λ (y : ResultAt). AllByRecursion (IsFilterSite (Action result parent kind ∷ before)) y.filters) is
-          (further_sites before (Action result parent kind) (filter_sites header names before parent) (path_filters before ok.1 parent))
-      own (Report result parent) zero ok q =
-          let x : ResultAt = record { booked = record { name = result; booking = ReportOn (covered before (path before parent)) }; filters = filter_sites header names before parent; inputs = []; covers = covered_at before parent } in
-          let is : x ≡ r = cc q in
-          subst (λ (y : ResultAt). AllByRecursion (IsFilterSite (Report result parent ∷ before)) y.filters) is
-          (further_sites before (Report result parent) (filter_sites header names before parent) (path_filters before ok.1 parent))
-      own s k ok q = cc q
+  result_filters before good n r h =
+      each_result header names (λ upto r. AreAccepted names (scope_of header) upto → AllByRecursion (IsFilterSite upto) r.filters) (λ upto s r next ok. further_sites upto s r.filters (next ok.1))
+      (λ upto result parent k ok. further_sites upto (Action result parent k) (filter_sites header names upto parent) (path_filters upto ok.1 parent))
+      (λ upto result parent ok. further_sites upto (Report result parent) (filter_sites header names upto parent) (path_filters upto ok.1 parent)) before n r h good
 
 -- the kind of such a site of a job's graph
 pub kind_of_site : (j : JobView) (t : ColType) (s : ℕ) → IsSiteOf j.dataset.columns (fn_names j.dataset.fns) t (history j.script) s → (e : CheckedExpr) → IsSiteExpr (job_graph j) s e → e.kind ≡ t
