@@ -16,7 +16,7 @@ use Rattle.block_passes.proofs.Places.{chosen_below, in_chosen, all_pass, filter
 use Rattle.block_passes.proofs.Searching.{step_fault, step_true, truth_fault, chain_through, both_lower, lowers_as, or_else, none_lowers}
 use Rattle.block_passes.proofs.Spending.{spends_filled}
 use Rattle.std.proofs.lemmas.List.{set-get_or}
-use Rattle.std.proofs.lemmas.Option.{get_or_from_slice_get, slice_get_within, slice_get-get_or}
+use Rattle.std.proofs.lemmas.Option.{get_or_from_slice_get, slice_get_read, slice_get_within, slice_get-get_or}
 use Rattle.lemmas.proofs.{kept_at, set_at, set_length}
 use Rattle.block_passes.specs.declared.steps.Step.{Step}
 use Rattle.loop_keys.proofs.PassNumbers.{some_same}
@@ -153,13 +153,6 @@ module _ (j : JobView) (first count : ℕ) (chains : List Chain) (pass k : ℕ) 
           subst (λ (a : Chain). IsMade j first a s.limit m y.places) chain
           (subst (λ (n : ℕ). IsMade j first c s.limit n y.places) same (subst (λ (z : Kept). IsMade j first c s.limit s.limit z.places) (sym r.1) made))
 
--- one that was there, narrowed
-pub narrowed_selected : (j : JobView) (first count : ℕ) (chains : List Chain) (pass k : ℕ) (c : Chain) → slice_get chains k ≡ Some c → (lanes : List LaneView) (kept now : List Kept) (s : Found) → IsReadyBelow j first count chains s.limit lanes kept
-    → (old new : Kept) (made : ℕ) → slice_get kept k ≡ Some old → old.limit ≡ Some made → IsNarrowed s.limit made old new → now ≡ slice_set kept k new → IsSelectedTo j first count chains pass k lanes now s s
-narrowed_selected j first count chains pass k c its lanes kept now s ready old new made there limit narrowed written =
-    let w = narrowed_made j first c s.limit made old new limit (ready.kept_are.each k made c old its there limit) narrowed in
-    written_selected j first count chains pass k c its lanes kept now s ready new w.0 w.1 written
-
 -- all places
 pub whole_selected : (j : JobView) (first count : ℕ) (chains : List Chain) (pass k : ℕ) → slice_get chains k ≡ Some (record { sites = []; under = None }) → (lanes : List LaneView) (kept now : List Kept) (s : Found) → IsReadyBelow j first count chains s.limit lanes kept
     → (new : Kept) → new.limit ≡ Some s.limit → new.places ≡ range_with_len 0 s.limit → now ≡ slice_set kept k new → IsSelectedTo j first count chains pass k lanes now s s
@@ -219,8 +212,8 @@ set_behind (x ∷ xs) ys y = ap (λ l. x ∷ l) (set_behind xs ys y)
 -- ---- the step
 
 module _ (j : JobView) (job : IsJob j) (first count pass : ℕ) (plan : PlanView) (p : IsPlan j plan) (k parent site : ℕ) (u : Option ℕ) (its : slice_get plan.steps k ≡ Some (Step.Filter parent site u))
-    (within : first + count ≤ length j.dataset.rows) (above own : List Kept) (from : Kept) (here : slice_get above parent ≡ Some from) (many : length above ≡ k)
-    (before : List LaneView) (f1 : Found) (ready : IsReadyBelow j first count p.chains f1.limit before (above ++ own)) (made : from.limit ≡ Some f1.limit) where
+    (within : first + count ≤ length j.dataset.rows) (above own : List Kept) (many : length above ≡ k) (before : List LaneView) (f1 : Found) (ready : IsReadyBelow j first count p.chains f1.limit before (above ++ own))
+    (limits : (x : Kept) → slice_get (above ++ own) parent ≡ Some x → x.limit ≡ Some f1.limit) (from : Kept) (read : from ≡ get_or above parent from) where
   abbrev s : IsFilterStep p.chains k parent site u
   s = p.steps.each k (Step.Filter parent site u) its
 
@@ -228,8 +221,11 @@ module _ (j : JobView) (job : IsJob j) (first count pass : ℕ) (plan : PlanView
   tried = p.tried k (longer s.up site u) s.own
 
   -- the selection of the parent
+  here : slice_get (above ++ own) parent ≡ Some from
+  here = kept_at above own parent from (slice_get_read above (length above) parent from refl (let b = s.before in omega (arith, b, many)) read)
+
   from_is : from.places ≡ chosen j first s.up f1.limit
-  from_is = (ready.kept_are.each parent f1.limit s.up from s.its_up (kept_at above own parent from here) made).is
+  from_is = (ready.kept_are.each parent f1.limit s.up from s.its_up here (limits from here)).is
 
   pub from_inside : EachPlace from.places (λ q. q < f1.limit)
   from_inside q i = chosen_below (λ n. is_true (through_chain j (first + n) s.up)) q f1.limit (sym (ap (is_in q) from_is) ∙ i)
@@ -250,7 +246,7 @@ module _ (j : JobView) (job : IsJob j) (first count pass : ℕ) (plan : PlanView
     own_made : IsMade j first (longer s.up site u) f2.limit f2.limit to.places
     own_made =
         step_made j first s.up site u s.alike count pass to after f1 f1 f2
-        (none_lowers (λ q. fault_in (through_chain j (first + q) s.up)) first pass f1 (ready.kept_are.each parent f1.limit s.up from s.its_up (kept_at above own parent from here) made).clear)
+        (none_lowers (λ q. fault_in (through_chain j (first + q) s.up)) first pass f1 (ready.kept_are.each parent f1.limit s.up from s.its_up here (limits from here)).clear)
         done
 
     falls : f2.limit ≤ f1.limit
