@@ -72,13 +72,7 @@ module _ (j : JobView) (first count : ℕ) (f : ℕ → Option EntryFault) (pass
   left_of made (inr n) = (n.1, n.2)
 
   pub part_served : to.limit ≡ Some old.limit → IsNarrowed new.limit old.limit to now → IsServedTo j first count f pass to.places now lanes old new
-  part_served made narrowed = record {
-    ready = ready;
-    settled = λ p lt. (let falls = lowered.falls in settled p (omega (arith, lt, falls)));
-    lowers = lowered;
-    its_limit = (left_of made narrowed).0;
-    left = (left_of made narrowed).1;
-  }
+  part_served made narrowed = grind (arith, lowered, left_of)
 
 -- ---- a batch
 

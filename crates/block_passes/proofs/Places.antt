@@ -1,5 +1,5 @@
 -- Places of a block in their order, and those among them that pass a test.
-use Rattle.std.proofs.Common.{◌≡◌, ℕ, zero, suc, ◌+◌, ◌^◌, ◌<◌, ◌≤◌, Bool, true, false, ◌&&◌, cond, List, [], ◌∷◌, ◌++◌, length, take, refl, ◌∙◌, ap, ap₂, arith, nat_lt, ◌⊎◌, inl, inr, ◌||◌, Option, None, Some, sym, subst, nat_eq, if◌then◌else◌, ℤ, length-set, set, get_or, get_or-set_same, get_or-set_other, pos, flat_map, slice_get, filter}
+use Rattle.std.proofs.Common.{◌≡◌, ℕ, zero, suc, ◌+◌, ◌^◌, ◌<◌, ◌≤◌, Bool, true, false, ◌&&◌, cond, List, [], ◌∷◌, ◌++◌, length, take, refl, ◌∙◌, ap, ap₂, arith, nat_lt, ◌⊎◌, inl, inr, Option, None, Some, sym, subst, nat_eq, ℤ, length-set, set, get_or, get_or-set_same, get_or-set_other, pos, flat_map, slice_get, filter}
 use Rattle.std.specs.List.{range_with_len}
 use Rattle.lemmas.proofs.{and_false, and_left, and_true, eq_says, lt_false, lt_or_last, lt_true}
 use Rattle.std.proofs.lemmas.Bool.Decides.{Decides-ltb}
@@ -129,11 +129,7 @@ module _ (f : ℕ → Option EntryFault) where
   over_lowers sel first pass s o rising inside e = go o (subst (IsOver sel) (sym e) (over sel rising))
     where
       go : (x : Option PlaceFault) → IsOver sel x → Lowers (where_in f sel) first pass s (noted first pass s x)
-      go None h = none_lowers (where_in f sel) first pass s (λ p lt. selected_or_none sel p (h p))
-      go (Some x) h =
-          fault_lowers (where_in f sel) first pass s x.place x.kind (inside x.place h.0)
-          (ap (λ b. if b then f x.place else None) h.0 ∙ h.1)
-          (λ p lt. selected_or_none sel p (λ i. h.2 p i lt))
+      go x h = grind (arith, none_lowers, selected_or_none, fault_lowers)
 
   -- left are those below the limit
   pub left_below : (sel : List ℕ) (first pass : ℕ) (s : Found) (o : Option PlaceFault) → EachPlace sel (λ p. p < s.limit) → below_fault o sel ≡ filter (λ p. nat_lt p (noted first pass s o).limit) sel

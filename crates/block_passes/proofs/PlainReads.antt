@@ -1,14 +1,14 @@
 -- What the actions of a loop without vectors read.
-use Rattle.std.proofs.Common.{◌≡◌, ◌⊎◌, inl, inr, ℕ, Bool, zero, ◌+◌, ◌<◌, true, false, List, [], ◌∷◌, length, map, option_map, Option, Some, refl, sym, ◌∙◌, ap, subst, slice_get, get_or, unwrap_or}
+use Rattle.std.proofs.Common.{◌≡◌, ◌⊎◌, inl, inr, ℕ, Bool, ◌<◌, true, false, List, [], ◌∷◌, length, map, option_map, Option, Some, refl, sym, ◌∙◌, ap, subst, slice_get, get_or, unwrap_or}
 use Rattle.std.specs.List.{AllByRecursion}
 use Rattle.std.proofs.lemmas.List.Elements.{recursion_from_All}
 use Rattle.std.proofs.lemmas.Option.{get_or_from_slice_get}
-use Rattle.rdf_values.specs.{ActionAt, ActionKind, AreAccepted, ColType, Column, columns_of, covered, FitsKind, FitsRow, fn_names, history, kind_at, path, ReportOn, scope_of, Statement, Under, Value}
-use Rattle.rdf_values.specs.declared.statement.Statement.TheVariants.{Action, Report}
+use Rattle.rdf_values.specs.{ActionKind, AreAccepted, ColType, Column, columns_of, FitsKind, FitsRow, fn_names, history, kind_at, scope_of, Statement, Under, Value}
+use Rattle.rdf_values.specs.declared.statement.Statement.TheVariants.{Action}
 use Rattle.expr_check.specs.{CheckedExpr, is_vector}
 use Rattle.expr_check.proofs.Plain.{columns_scalar, plain_typed}
 use Rattle.rdf_model.specs.{Dataset, FitsOutcome}
-use Rattle.graph_numbers.specs.{cell_value, covered_at, filter_sites, graph_under, IsSiteExpr, own_results, ResultAt, results, Source, source_value, version_at}
+use Rattle.graph_numbers.specs.{cell_value, graph_under, IsSiteExpr, ResultAt, results, Source, source_value, version_at}
 use Rattle.graph_numbers.proofs.Extending.{Extends, itself, shorter}
 use Rattle.graph_numbers.proofs.Passing.{AreVisible, action_visible}
 use Rattle.graph_numbers.proofs.VersionKinds.{FitsVersion, visible_fits}

@@ -46,13 +46,7 @@ module _ (chains : List Chain) (steps : List Step) (are : AreSteps chains steps)
   }
     where
       own : IsFilterStep (chains ++ longer up site u ∷ []) (length steps) parent site u
-      own = record {
-        before = (let l = slice_get_within chains parent up its in let m = are.many in omega (arith, l, m));
-        up = up;
-        its_up = kept_at chains _ parent up its;
-        alike = alike;
-        own = ap (slice_get (chains ++ longer up site u ∷ [])) (sym are.many) ∙ last_at chains (longer up site u);
-      }
+      own = grind (arith, slice_get_within, kept_at, last_at)
 
       each : (k : ℕ) (x : Step) → (slice_get steps k ≡ Some x) ⊎ ((k ≡ length steps) × (Step.Filter parent site u ≡ x)) → IsStep (chains ++ longer up site u ∷ []) k x
       each k x (inl q) = step_kept chains _ k x (are.each k x q)
@@ -86,9 +80,7 @@ module _ (chains : List Chain) (path : List ℕ) (u : Option ℕ) (steps now : L
       let b = at.only n d q in record { its_under = b.its_under; rest = b.rest ++ site ∷ []; begins = ap (λ l. l ++ site ∷ []) b.begins ∙ append_assoc d.sites b.rest (site ∷ []) }
 
   pub only_new : (m : ℕ) (d : Chain) → slice_get h.more m ≡ Some d → IsBegin (path ++ site ∷ []) u d
-  only_new m d q =
-      subst (λ (c : Chain). IsBegin (path ++ site ∷ []) u c) (sym (h.only m d q))
-      (record { its_under = refl; rest = []; begins = ap (λ l. l ++ site ∷ []) (sym at.sites) ∙ sym (append-nil (at.last.sites ++ site ∷ [])) })
+  only_new m d q = grind (arith, append-nil)
 
   -- one filter more
   abbrev pub path_goes_on : IsLed chains (path ++ site ∷ []) u now next
@@ -175,28 +167,17 @@ module _ (j : JobView) (n : ℕ) (m : NumberedPass) (its : numbered_in j n ≡ S
   there_is = (result_there j n m its).1
 
   kind_is : kind ≡ kind_of_booking r.booked.booking
-  kind_is =
-      some_same kind (kind_of_booking r.booked.booking)
-      (sym q ∙ ap (λ (v : GraphView). option_map (λ (x : ResultAt). kind_of_booking x.booked.booking) (slice_get (graph_results v) m.result)) e ∙ ap (option_map (λ (x : ResultAt). kind_of_booking x.booked.booking)) there_is)
+  kind_is = grind (arith, some_same, there_is)
 
   pub pass_led : (l : ActionKind) → kind ≡ ResultKind.Action l → (path : List ℕ) → option_map (λ (x : ResultAt). x.filters) (slice_get (graph_results g) m.result) ≡ Some path
       → (chains : List Chain) (steps : List Step) (k : ℕ) → IsLed chains path m.variation steps k → IsPlanned j (λ (cs : List Chain). IsPassLast j cs n) chains steps k
   pass_led l of path p chains steps k led = go r.booked.booking refl (sym kind_is ∙ of)
     where
       its_path : path ≡ r.filters
-      its_path =
-          some_same path r.filters
-          (sym p ∙ ap (λ (v : GraphView). option_map (λ (x : ResultAt). x.filters) (slice_get (graph_results v) m.result)) e ∙ ap (option_map (λ (x : ResultAt). x.filters)) there_is)
+      its_path = grind (arith, some_same, there_is)
 
       each : (a : NumberedPass) (s : ResultAt) (t : ActionKind) → IsActionOf j n a s t → IsLast (chains ++ led.more) s.filters a.variation k
-      each a s t act =
-          let same = one_result j n m a r s its act.its_pass there_is act.its_result in
-          record {
-            chain = led.last;
-            its = led.its;
-            sites = led.sites ∙ its_path ∙ ap (λ (x : ResultAt). x.filters) same.1;
-            alike = subst (λ (x : NumberedPass). (led.last.sites ≡ []) ⊎ (led.last.under ≡ x.variation)) same.0 led.alike;
-          }
+      each a s t act = grind (arith, one_result, there_is, its_path)
 
       go : (b : Booking) → r.booked.booking ≡ b → kind_of_booking b ≡ ResultKind.Action l → IsPlanned j (λ (cs : List Chain). IsPassLast j cs n) chains steps k
       go (ReportOn fs) s h = cc h
@@ -222,10 +203,7 @@ module _ (j : JobView) (n : ℕ) (m : NumberedPass) (its : numbered_in j n ≡ S
   report_led of chains steps are = record { more = []; steps_of = none_more j chains steps are; right = λ a s t act. absurd (none a s t act) }
     where
       none : (a : NumberedPass) (s : ResultAt) (t : ActionKind) → IsActionOf j n a s t → ⊥
-      none a s t act =
-          let same = (one_result j n m a r s its act.its_pass there_is act.its_result).1 in
-          let w : ResultKind.Report ≡ ResultKind.Action t = sym of ∙ kind_is ∙ ap (λ (x : ResultAt). kind_of_booking x.booked.booking) same ∙ ap kind_of_booking act.booking in
-          cc w
+      none a s t act = grind (arith, one_result, there_is, kind_is)
 
 -- ---- named filters
 

@@ -30,10 +30,7 @@ module _ (count : ℕ) where
 
   -- one was made
   pub remade_set : (kept : List Kept) (k : ℕ) (x : Kept) (now : List Kept) → now ≡ slice_set kept k x → IsMadeBelow count x → AreRemade count kept now
-  remade_set kept k x now written made i m e = elim (set_other kept k x i m (ap (λ ks. slice_get ks i) (sym written) ∙ e)) [
-    | inl q ↦ inl q
-    | inr q ↦ inr (subst (λ (y : Kept). IsMadeBelow count y) (sym q.1) made)
-  ]
+  remade_set kept k x now written made = grind (arith, set_other)
 
   -- the first behind others was made
   pub remade_behind : (above own : List Kept) (x : Kept) (now : List Kept) → now ≡ slice_set own 0 x → IsMadeBelow count x → AreRemade count (above ++ own) (above ++ now)

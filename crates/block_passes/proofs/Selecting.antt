@@ -1,5 +1,5 @@
 -- A step's selection from that of the step above it.
-use Rattle.std.proofs.Common.{◌≡◌, ◌⊎◌, inl, inr, ℕ, ◌+◌, ◌≤◌, Bool, true, ◌&&◌, List, [], length, Option, None, Some, refl, sym, ◌∙◌, ap, subst, arith, nat_lt, if◌then◌else◌, zero, suc, ◌<◌, false, ◌∷◌, slice_get, get_or, ◌++◌, filter, slice_set}
+use Rattle.std.proofs.Common.{◌≡◌, ◌⊎◌, inl, inr, ℕ, ◌+◌, ◌≤◌, Bool, true, ◌&&◌, List, [], length, Option, None, Some, refl, sym, ◌∙◌, ap, subst, arith, if◌then◌else◌, zero, suc, ◌<◌, false, ◌∷◌, slice_get, get_or, ◌++◌, filter, slice_set}
 use Rattle.std.specs.List.{range_with_len}
 use Rattle.rdf_model.specs.{fault_in, is_true, Outcome}
 use Rattle.graph_numbers.specs.{through_sites}
@@ -29,9 +29,7 @@ module _ (j : JobView) (first : ℕ) (up : Chain) (site : ℕ) (u : Option ℕ) 
   up_alike p = chain_through j up u alike (first + p)
 
   pub own_fault : (p : ℕ) → or_else (fault_in (through_chain j (first + p) up)) (where_passed (through_chain j (first + p) up) (fault_in (truth_in j (first + p) u site))) ≡ fault_in (through_chain j (first + p) (longer up site u))
-  own_fault p =
-      (λ i. or_else (fault_in (up_alike p i)) (where_passed (up_alike p i) (truth_fault (site_in j (first + p) u site) i)))
-      ∙ sym (step_fault (site_in j (first + p) u) up.sites site)
+  own_fault p = grind (arith, or_else, up_alike, truth_fault, step_fault)
 
   own_true : (p : ℕ) → (is_true (through_chain j (first + p) up) && is_true (truth_in j (first + p) u site)) ≡ is_true (through_chain j (first + p) (longer up site u))
   own_true p = ap (λ (o : Outcome ⊥ Bool). is_true o && is_true (truth_in j (first + p) u site)) (up_alike p) ∙ sym (step_true (site_in j (first + p) u) up.sites site)
@@ -39,9 +37,7 @@ module _ (j : JobView) (first : ℕ) (up : Chain) (site : ℕ) (u : Option ℕ) 
   module _ (count pass : ℕ) (to : Kept) (lanes : List LaneView) (f0 f1 f2 : Found) (above : Lowers (λ p. fault_in (through_chain j (first + p) up)) first pass f0 f1)
       (h : IsFilteredTo j first count u site pass (chosen j first up f1.limit) to lanes f1 f2) where
     own_part : Lowers (λ p. where_passed (through_chain j (first + p) up) (fault_in (truth_in j (first + p) u site))) first pass f1 f2
-    own_part =
-        lowers_as (where_in (λ p. fault_in (truth_in j (first + p) u site)) (chosen j first up f1.limit)) (λ p. where_passed (through_chain j (first + p) up) (fault_in (truth_in j (first + p) u site))) first pass f1 f2
-        (λ p lt. ap (λ b. if b then fault_in (truth_in j (first + p) u site) else None) (in_chosen (λ q. is_true (through_chain j (first + q) up)) p f1.limit lt)) h.lowers
+    own_part = grind (arith, lowers_as, in_chosen)
 
     -- the step's filters lower the limit
     pub step_lowers : Lowers (λ p. fault_in (through_chain j (first + p) (longer up site u))) first pass f0 f2
@@ -83,27 +79,11 @@ module _ (j : JobView) (first : ℕ) (up : Chain) (site : ℕ) (u : Option ℕ) 
 module _ (j : JobView) (first : ℕ) (c : Chain) (limit made : ℕ) where
   -- a selection that is there, narrowed
   pub narrowed_made : (old new : Kept) → old.limit ≡ Some made → IsMade j first c limit made old.places → IsNarrowed limit made old new → (new.limit ≡ Some limit) × IsMade j first c limit limit new.places
-  narrowed_made old new l h (inl n) =
-      let le = n.0 in
-      let under = h.under in
-      let same : made ≡ limit = omega (arith, le, under) in (
-        ap (λ (k : Kept). k.limit) n.1 ∙ l ∙ ap Some same,
-        record { under = omega arith; is = ap (λ (k : Kept). k.places) n.1 ∙ h.is ∙ ap (chosen j first c) same; clear = h.clear },
-      )
-  narrowed_made old new l h (inr n) = (
-    n.1,
-    record {
-      under = omega arith;
-      is = n.2 ∙ ap (filter (λ p. nat_lt p limit)) h.is ∙ narrowed (λ p. is_true (through_chain j (first + p) c)) limit made h.under;
-      clear = h.clear;
-    },
-  )
+  narrowed_made old new l h k = grind (arith, narrowed)
 
 -- all places are selected
 pub whole_made : (j : JobView) (first limit : ℕ) (c : Chain) (places : List ℕ) → c ≡ record { sites = []; under = None } → places ≡ range_with_len 0 limit → IsMade j first c limit limit places
-whole_made j first limit c places e is =
-    subst (λ (x : Chain). IsMade j first x limit limit places) (sym e)
-    (record { under = omega arith; is = is ∙ all_pass limit 0; clear = λ p lt. refl })
+whole_made j first limit c places e is = grind (arith, all_pass)
 
 -- where the limit falls, those made before are as right
 pub kept_lower : (j : JobView) (first : ℕ) (chains : List Chain) (limit lower : ℕ) (kept : List Kept) → lower ≤ limit → AreKept j first chains limit kept → AreKept j first chains lower kept
@@ -269,11 +249,7 @@ module _ (j : JobView) (job : IsJob j) (first count pass : ℕ) (plan : PlanView
 
 -- a selection of places of a block
 pub selected : (count : ℕ) (sel : List ℕ) (limit n : ℕ) → count ≤ MAX_PLACES → limit ≤ count → EachPlace sel (λ p. p < limit) → n ≡ length sel → n ≤ MAX_PLACES → IsSelected count sel []
-selected count sel limit n small le inside many few = record {
-  small = small;
-  inside = λ p i. (let l = inside p i in omega (arith, l, le));
-  room = omega (arith, many, few);
-}
+selected count sel limit n small le h many few = grind (arith, inside)
 
 module _ (j : JobView) (first count : ℕ) (u : Option ℕ) (s pass : ℕ) (sel left : List ℕ) (before after : List LaneView) (start end : ℕ) (old new : Found) (fault : Option PlaceFault)
     (spent : IsSpentOver j first u s sel before after start end) (passed : IsPassedOver j first u count s sel left after fault)

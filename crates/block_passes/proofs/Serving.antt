@@ -1,5 +1,5 @@
 -- Filling what a pass reads lowers the limit at its first fault.
-use Rattle.std.proofs.Common.{◌≡◌, ℕ, ◌+◌, ◌<◌, ◌≤◌, Bool, true, false, ◌&&◌, List, Option, None, Some, sym, ◌∙◌, ap, subst, arith, nat_lt, refl, slice_get, if◌then◌else◌, ◌⊎◌, inl, inr, ℤ, get_or, option_map, Result, [], length, pos, ◌∷◌, filter, nat_abs, slice_index_or, suc, drop, drop-cons, length-drop}
+use Rattle.std.proofs.Common.{◌≡◌, ℕ, ◌+◌, ◌<◌, ◌≤◌, Bool, true, false, ◌&&◌, List, Option, None, Some, sym, ◌∙◌, ap, subst, arith, nat_lt, refl, slice_get, if◌then◌else◌, ◌⊎◌, inl, inr, ℤ, get_or, option_map, Result, [], length, pos, ◌∷◌, filter, suc, drop, drop-cons, length-drop}
 use Rattle.std.specs.List.{AllByRecursion}
 use Rattle.std.proofs.lemmas.Bool.Decides.{Decides-ltb}
 use Rattle.std.proofs.lemmas.List.{nil_from_length}
@@ -110,15 +110,10 @@ module _ (j : JobView) (first count : ℕ) (part : ℕ → Option EntryFault) (p
 module _ (j : JobView) (first count : ℕ) (a b : ℕ → Option EntryFault) (pass : ℕ) (sel : List ℕ) (mid to : Kept) (between lanes : List LaneView) (f0 f1 f2 : Found)
     (h : IsServedTo j first count a pass sel mid between f0 f1) (k : IsServedTo j first count b pass mid.places to lanes f1 f2) where
   same_below : (p : ℕ) → p < f1.limit → where_in b mid.places p ≡ where_in b sel p
-  same_below p lt =
-      ap (λ c. if c then b p else None)
-      (ap (is_in p) h.left ∙ in_filter (λ q. nat_lt q f1.limit) p sel ∙ ap (λ c. is_in p sel && c) ((Decides-ltb p f1.limit).1 lt) ∙ and_true (is_in p sel))
+  same_below p lt = grind (arith, in_filter, Decides-ltb, and_true)
 
   below : (x : ℕ) → (nat_lt x f1.limit && nat_lt x f2.limit) ≡ nat_lt x f2.limit
-  below x =
-      by_test (nat_lt x f2.limit)
-      (λ q. rw q (and_true (nat_lt x f1.limit) ∙ (let l = (Decides-ltb x f2.limit).0 q in let f = k.lowers.falls in (Decides-ltb x f1.limit).1 (omega (arith, l, f)))))
-      (λ q. rw q (and_false (nat_lt x f1.limit)))
+  below x = grind (arith, by_test, and_true, Decides-ltb, and_false)
 
   -- both are a part, which faults where one of them does
   pub served_then : (part : ℕ → Option EntryFault) → ((p : ℕ) → or_else (a p) (b p) ≡ part p) → IsServedTo j first count part pass sel to lanes f0 f2
@@ -144,14 +139,10 @@ tag_told : (tags n : ℕ) (v : Value) → tag_element {M = ℕ} tags n v ≡ wit
 tag_told tags n v = alike_is _ _ (tag_alike ⊥ ℕ [] [] [] tags n v)
 
 given_back : (o : Outcome ⊥ Value) (v : Value) → with_needs {M = ℕ} o ≡ Gives v → o ≡ Gives v
-given_back (Gives a) v e = let i : a ≡ v = cc e in ap Gives i
-given_back (Faults k) v e = cc e
-given_back (Needs m) v e = elim m [ ]
+given_back o v e = grind arith
 
 pub given_none : (o : Outcome ⊥ Value) → fault_in o ≡ None → (v : Value) × (o ≡ Gives v)
-given_none (Gives v) h = (v, refl)
-given_none (Faults k) h = cc h
-given_none (Needs m) h = elim m [ ]
+given_none o h = grind arith
 
 pub known_held : (h : Held) (n tags : ℕ) (v : Value) → held_element 0 h n tags ≡ Gives v → is_known h ≡ true
 known_held Held.Nothing n tags v e = cc e
@@ -206,11 +197,7 @@ module _ (j : JobView) (first count : ℕ) (u : Option ℕ) (s : ℕ) (inside : 
       tells vectors = input_given ∙ ap (λ t. Gives (value_for t l.vectors (at_place l.numbers p))) (same_some (sym (got_kind lanes k l at) ∙ vectors))
 
       pub vect_only : slice_get (kinds_of lanes) k ≡ Some ColType.Vect → ((x : ℤ) × (i ≡ Input.Int x)) ⊎ (((x : Bool) × (i ≡ Input.Bool x)) ⊎ (((x : EntryFault) × (i ≡ Input.Faulted x)) ⊎ (i ≡ Input.Missing))) → ⊥
-      vect_only vectors (inl x) =
-          let f : ◌≡◌ {A = Outcome ℕ Value} (Gives (Value.Int x.0)) (Gives (Value.Vect (slice_index_or l.vectors (nat_abs (at_place l.numbers p)) []))) = sym (ap (input_outcome 0) x.1) ∙ tells vectors in cc f
-      vect_only vectors (inr (inl x)) =
-          let f : ◌≡◌ {A = Outcome ℕ Value} (Gives (Value.Bool x.0)) (Gives (Value.Vect (slice_index_or l.vectors (nat_abs (at_place l.numbers p)) []))) = sym (ap (input_outcome 0) x.1) ∙ tells vectors in cc f
-      vect_only vectors (inr (inr other)) = never_stops other
+      vect_only vectors h = grind (arith, tells, never_stops)
 
       -- what has no elements has 0 for each
       pub scalar_input : (tags n : ℕ) → ((x : ℤ) × (i ≡ Input.Int x)) ⊎ ((x : Bool) × (i ≡ Input.Bool x)) → (site_in {M = ⊥} j (first + p) u s >>= tag_element tags n) ≡ Gives (Value.Int (pos 0))
@@ -235,12 +222,7 @@ module _ (j : JobView) (first count : ℕ) (u : Option ℕ) (s : ℕ) (inside : 
     hand_holds h = sym (holds_is (key_count (job_graph j)) lanes k p) ∙ known_held cell n tags h.0 h.1
 
     pub hand_value : IsAtHand j lanes u p (Source.Element s n tags) → (v : Value) × ((site_in {M = ⊥} j (first + p) u s >>= tag_element tags n) ≡ Gives v)
-    hand_value h =
-        let w = held_site (hand_holds h) in (
-          h.0,
-          ap (λ (o : Outcome ⊥ Value). o >>= tag_element tags n) w.2
-              ∙ given_back (tag_element tags n w.0) h.0 (sym (tag_told tags n w.0) ∙ sym (ap (λ (o : Outcome ℕ Value). o >>= tag_element tags n) (value_told 0 w.0)) ∙ sym (ap (λ (x : Held). held_element 0 x n tags) w.1) ∙ h.1),
-        )
+    hand_value h = grind (arith, held_site, hand_holds, given_back, tag_told, value_told)
 
 -- the number of an element
 pub number_of : (o : Outcome ⊥ Value) (tags n : ℕ) (zs : List ℤ) (r : Result ℤ EntryFault) → o ≡ Gives (Value.Vect zs) → IsNumberOf (tag_element {M = ⊥} tags n (Value.Vect zs)) r → IsNumberOf (o >>= tag_element tags n) r
@@ -295,20 +277,14 @@ module _ (j : JobView) (first count : ℕ) (u : Option ℕ) (s n tags pass : ℕ
 pub still_at_hand : (j : JobView) (first count : ℕ) (before after : List LaneView) (start end : ℕ) → Spends j first count before after start end → (u : Option ℕ) (p : ℕ) (x : Source) → IsAtHand j before u p x → IsAtHand j after u p x
 still_at_hand j first count before after start end spends u p (Source.Cell col) h = tt
 still_at_hand j first count before after start end spends u p (Source.Site s) h = holds_on (key_count (job_graph j)) before after (key (job_graph j) s u) p (spends.grows p) h
-still_at_hand j first count before after start end spends u p (Source.Element s k tags) h =
-    let cell = held_in (cells_at (key_count (job_graph j)) before p) (key (job_graph j) s u) in (
-      h.0,
-      ap (λ (x : Held). held_element 0 x k tags) (spends.grows p (key (job_graph j) s u) (known_held cell k tags h.0 h.1)) ∙ h.1,
-    )
+still_at_hand j first count before after start end spends u p (Source.Element s k tags) h = grind (arith, known_held)
 
 of_set : (D : ℕ → Bool) (x : Source) → HasSourceIn (λ s. D s ≡ true) x → IsSourceIn D x
 of_set D (Source.Cell col) h = tt
 of_set D x h = h
 
 none_given : (o : Outcome ⊥ Value) (X : Type 0) → fault_in o ≡ None → IfGiven o X → X
-none_given (Gives v) X h x = x
-none_given (Faults k) X h x = cc h
-none_given (Needs m) X h x = elim m [ ]
+none_given o X h x = grind arith
 
 -- none are read
 pub none_clear : (j : JobView) (first : ℕ) (u : Option ℕ) (inputs : List ℕ) → inputs ≡ [] → (sel : List ℕ) → EachPlace sel (λ p. inputs_fault j first u inputs p ≡ None)
@@ -328,9 +304,7 @@ module _ (j : JobView) (first : ℕ) (u : Option ℕ) (inputs cs : List ℕ) (c 
   first_can P h = (subst (λ (l : List ℕ). AllByRecursion P l) e h).0
 
   pub first_demanded : (entry : ℕ) (T : ℕ → Bool) → DemandsInputs j entry u T inputs → DemandsSource j entry u T (source_at j u c)
-  first_demanded entry T d =
-      let w = subst (λ (l : List ℕ). DemandsInputs j entry u T l) e d in
-      (w.0, w.1, of_set w.0 (source_at j u c) w.2.0)
+  first_demanded entry T d = grind (arith, of_set)
 
   -- ---- one after another
 

@@ -1,11 +1,11 @@
 -- The sites of filters come to truth values.
-use Rattle.std.proofs.Common.{◌≡◌, ◌⊎◌, inl, inr, ℕ, zero, suc, ◌+◌, Bool, true, false, List, [], ◌∷◌, ◌++◌, map, length, All, Option, Some, None, Result, Ok, Err, refl, sym, ◌∙◌, ap, subst, arith, nat_eq, option_map, slice_get, if◌then◌else◌, ◌<◌, ◌≤◌, length-append, replicate, IsOk, count_by}
+use Rattle.std.proofs.Common.{◌≡◌, ◌⊎◌, inl, inr, ℕ, zero, suc, ◌+◌, Bool, false, List, [], ◌∷◌, ◌++◌, map, length, All, Option, Some, None, Result, Ok, Err, refl, sym, ◌∙◌, ap, subst, arith, nat_eq, option_map, slice_get, if◌then◌else◌, ◌<◌, ◌≤◌, length-append, replicate, IsOk, count_by}
 use Rattle.std.specs.List.{AllByRecursion}
 use Rattle.std.proofs.lemmas.Bool.Decides.{Decides-eqb}
 use Rattle.std.proofs.lemmas.List.{append-nil, length-replicate, get_or-replicate}
 use Rattle.std.proofs.lemmas.List.Elements.{recursion_from_All}
 use Rattle.lemmas.proofs.{kept_at, something_at}
-use Rattle.rdf_values.specs.{ActionAt, AreAccepted, callee, check_node, check_vector_column, ColType, Column, column_kind, columns_in, columns_of, covered, expect_kind, fn_names, FunctionNames, GraphCause, history, kind_by, kind_of, makes, NamedTree, NumTree, parent_of, path, refuse_unless, renamed, ReportOn, scope_at, scope_of, shape_of, Statement, Under, VaryValues}
+use Rattle.rdf_values.specs.{AreAccepted, callee, check_node, check_vector_column, ColType, Column, column_kind, columns_in, expect_kind, fn_names, FunctionNames, GraphCause, history, kind_by, kind_of, makes, NamedTree, NumTree, parent_of, refuse_unless, renamed, scope_at, scope_of, shape_of, Statement, Under, VaryValues}
 use Rattle.rdf_values.specs.declared.statement.Statement.TheVariants.{Action, Filter, Report, Vary}
 use Rattle.rdf_model.specs.{own_place, Site, site_at}
 use Rattle.rdf_model.proofs.Accepted.{both_none, kind_expected, checked_of}
@@ -13,7 +13,7 @@ use Rattle.expr_check.specs.{callee_shape, CheckedExpr, distinct, IsWellTyped, n
 use Rattle.expr_check.proofs.Callees.{callee_shape-callee}
 use Rattle.expr_check.proofs.Distinct.{each_from_distinct}
 use Rattle.expr_check.proofs.Typed.{columns_known, kind_by-renamed, kind_by-same}
-use Rattle.graph_numbers.specs.{cell_sources, covered_at, depends_on, filter_sites, FilterAt, filters, graph_kinds, graph_sites, graph_under, graph_variations, GraphView, holds_at, IsSiteExpr, named_version, own_filter_site, own_filters, own_results, own_sites, own_source, own_sources, ResultAt, results, site_count, site_depends_at, site_in, SiteAt, sites, Source, source_in, sources, varied_sources, version_at, version_kinds}
+use Rattle.graph_numbers.specs.{cell_sources, depends_on, filter_sites, FilterAt, filters, graph_kinds, graph_sites, graph_variations, GraphView, holds_at, IsSiteExpr, named_version, own_filter_site, own_sites, own_source, own_sources, ResultAt, results, site_count, site_depends_at, site_in, SiteAt, sites, Source, source_in, sources, varied_sources, version_at, version_kinds}
 use Rattle.graph_numbers.proofs.Extending.{further, itself}
 use Rattle.graph_numbers.proofs.Listed.{by_test, next_at, of_joined}
 use Rattle.graph_numbers.proofs.Placing.{IsPlaced}
@@ -152,8 +152,7 @@ module _ (header : List Column) (names : FunctionNames) where
   -- a statement's own filter, and those above it
   with_own : (before : List Statement) (s : Statement) (ss : List ℕ) → AreAccepted names (scope_of header) (s ∷ before) → AllByRecursion (IsFilterSite before) ss
       → AllByRecursion (IsFilterSite (s ∷ before)) (ss ++ own_filter_site s (site_count header names before))
-  with_own before (Filter node parent expr label) ss good h =
-      one_more (IsFilterSite (Filter node parent expr label ∷ before)) ss (site_count header names before) (further_sites before (Filter node parent expr label) ss h) (filter_own before node parent expr label good)
+  with_own before (Filter node parent expr label) ss good h = grind (arith, one_more, further_sites, filter_own)
   with_own before s ss good h = subst (λ (l : List ℕ). AllByRecursion (IsFilterSite (s ∷ before)) l) (sym (append-nil ss)) (further_sites before s ss h)
 
   pub path_filters : (before : List Statement) → AreAccepted names (scope_of header) before → (node : List ℕ) → AllByRecursion (IsFilterSite before) (filter_sites header names before node)
@@ -189,12 +188,7 @@ module _ (j : JobView) (job : IsJob j) (c : Chain) (up : List ℕ) (s : ℕ) (e 
 
   -- the last filter of a chain that is tried
   filter_site : IsTried j c → IsTruth s
-  filter_site (inl q) = absurd (not_empty up s (sym e ∙ q))
-  filter_site (inr (inl p)) =
-      in_list j job c up s e IsTruth p.result.filters p.begins.rest p.begins.begins
-      (result_filters j.dataset.columns (fn_names j.dataset.fns) (history j.script) (accepted_of j job) p.numbered.result p.result p.action.its_result)
-  filter_site (inr (inr f)) =
-      in_list j job c up s e IsTruth f.named.sites f.begins.rest f.begins.begins (named_filters j.dataset.columns (fn_names j.dataset.fns) (history j.script) (accepted_of j job) f.filter f.named f.its_filter)
+  filter_site h = grind (arith, not_empty, in_list, result_filters, accepted_of, named_filters)
 
   -- comes to truth values
   pub filter_kind : IsTried j c → (x : CheckedExpr) → IsSiteExpr (job_graph j) s x → x.kind ≡ ColType.Bool
@@ -270,11 +264,7 @@ module _ (header : List Column) (names : FunctionNames) where
 
 -- the site of an element that gives a version its value is one of vectors
 pub element_kind : (j : JobView) → IsJob j → (u : Option ℕ) (c t k tags : ℕ) → source_at j u c ≡ Source.Element t k tags → (e : CheckedExpr) → IsSiteExpr (job_graph j) t e → e.kind ≡ ColType.Vect
-element_kind j job u c t k tags is e its =
-    let h =
-    of_elements j.dataset.columns (fn_names j.dataset.fns) (graph_under (job_graph j) u) (history j.script) (accepted_of j job) c t k tags
-    (of_some (sources j.dataset.columns (fn_names j.dataset.fns) (graph_under (job_graph j) u) (history j.script)) c t k tags is) in
-    kind_of_site j ColType.Vect t h e its
+element_kind j job u c t k tags is e its = grind (arith, of_elements, accepted_of, of_some, kind_of_site)
 
 -- ---- The kinds of keys, site by site.
 
