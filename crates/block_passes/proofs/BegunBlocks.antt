@@ -1,5 +1,5 @@
 -- What a slot reserves stays what it was while a block is tried.
-use Rattle.std.proofs.Common.{◌≡◌, ℕ, List, [], ◌∷◌, length, sym, ◌∙◌, ap, subst, ℤ, if◌then◌else◌, ◌+◌, ◌<◌, ◌≤◌, true, false, All, Option, Some, None, refl, arith, slice_get, ◌⊎◌, inl, inr, zero, suc, ◌-◌, ◌*◌, Bool, map, take, unwrap_or, slice_index_or, count_by, get_or, slice_range}
+use Rattle.std.proofs.Common.{◌≡◌, ℕ, List, [], ◌∷◌, length, sym, ◌∙◌, ap, subst, ℤ, if◌then◌else◌, ◌+◌, ◌<◌, ◌≤◌, true, false, All, Option, Some, None, refl, arith, slice_get, inl, inr, zero, suc, ◌-◌, ◌*◌, Bool, map, take, unwrap_or, slice_index_or, count_by, get_or, slice_range}
 use Rattle.std.specs.List.{AllByRecursion}
 use Rattle.std.proofs.lemmas.List.{get_or-map, get_or-take, get_or_past, length-map}
 use Rattle.std.proofs.lemmas.List.Elements.{All-from_recursion, All-weaker}
@@ -133,9 +133,7 @@ module _ (j : JobView) (job : IsJob j) (first count : ℕ) (s : StateView) (stat
       never made e = cc e
 
   source_loaded : (x : Source) → IsLoaded j first count s.cells x
-  source_loaded (Source.Cell col) = loaded col
-  source_loaded (Source.Site t) = tt
-  source_loaded (Source.Element t k tags) = tt
+  source_loaded x = grind arith
 
   -- each site can be filled
   pub can_fill : (u : Option ℕ) (t : ℕ) → t < length (graph_sites (job_graph j)) → CanFill j first u count (kinds_of s.lanes) s.cells s.scratch s.levels t
@@ -167,9 +165,7 @@ module _ (j : JobView) (job : IsJob j) (first count : ℕ) (s : StateView) (stat
   serve n k inputs u read = each inputs (can_act j job first (omega (arith, some, within)) _ k _ inputs (action_at read) u).inputs
     where
       servable : (x : Source) → IsBelow (length j.dataset.columns) (length (graph_sites (job_graph j))) x → IsServable j first u count (kinds_of s.lanes) s.cells s.scratch s.levels x
-      servable (Source.Cell col) below = (below, loaded col)
-      servable (Source.Site t) below = (below, can_fill u t below)
-      servable (Source.Element t i tags) below = (below, can_fill u t below)
+      servable x below = grind (arith, can_fill)
 
       each : (cs : List ℕ) → AreReadable j u cs → AllByRecursion (CanServe j first u count (kinds_of s.lanes) s.cells s.scratch s.levels) cs
       each [] h = tt
@@ -199,10 +195,7 @@ front_counts (b ∷ bs) (suc n) h =
     let a = own_more b bs in let c = own_more b (take n bs) in let r = front_counts bs n (λ p q. (let l = h (suc p) q in omega (arith, l))) in omega (arith, a, c, r)
 
 taken_mark : (bs : List Bool) (n p : ℕ) → is_marked (take n bs) p ≡ true → is_marked bs p ≡ true
-taken_mark bs n p e = elim (cases_lt p n) [
-  | inl low ↦ sym (get_or-take n bs p false low) ∙ e
-  | inr far ↦ cc (sym (get_or_past (take n bs) p false (omega (arith, far, take_at_most n bs))) ∙ e)
-]
+taken_mark bs n p e = grind (arith, cases_lt, get_or-take, get_or_past, take_at_most)
 
 -- ---- of all lanes the places of a block
 
@@ -223,10 +216,7 @@ module _ (count : ℕ) where
   short n le (l ∷ ls) = (omega (arith, take_at_most count l.tried, le), short n le ls)
 
   one : (b d : Bool) → (b ≡ true → d ≡ true) → mark b ≤ mark d
-  one true true f = omega arith
-  one true false f = absurd (cc (f refl))
-  one false true f = omega arith
-  one false false f = omega arith
+  one b d f = grind arith
 
   -- the keys that were begun at a place are within a set
   few_at : (T : ℕ → Bool) (i base : ℕ) (lanes : List LaneView) → ((k : ℕ) → begun_at lanes k i ≡ true → T (base + k) ≡ true) → marked_at (map front lanes) i ≤ keys_in T base (length lanes)

@@ -1,5 +1,5 @@
 -- A block that was searched without a fault is clear, and is taken in.
-use Rattle.std.proofs.Common.{◌≡◌, ℕ, ◌+◌, ◌-◌, ◌*◌, ◌≤◌, List, length, None, Some, Ok, Err, refl, ◌∙◌, ap, subst, arith, slice_get, ◌<◌, map, Option, sym, Result, slice_range}
+use Rattle.std.proofs.Common.{◌≡◌, ℕ, ◌+◌, ◌-◌, ◌*◌, ◌≤◌, List, length, None, Some, Ok, Err, refl, ◌∙◌, ap, subst, arith, slice_get, ◌<◌, map, Option, Result, slice_range}
 use Rattle.std.proofs.lemmas.Option.{slice_get_within}
 use Rattle.lemmas.proofs.{map_length, range_length, something_at}
 use Rattle.rdf_model.specs.{first_fault_from, first_of, kinds_in, span_rows, spreads_of}
@@ -20,7 +20,6 @@ use Rattle.rdf_values.proofs.Leading.{cuts_lead}
 use Rattle.rdf_values.specs.{Fault, Span, Value}
 use Rattle.columns.proofs.Joining.{span_within}
 use Rattle.loop_pieces.specs.{begin_of, cluster_fault}
-use Rattle.loop_pieces.proofs.Places.{range_none}
 use Rattle.block_laws.specs.{cluster_demands, first_length, IsFirst, row_elements}
 use Rattle.block_laws.proofs.BlockCuts.{first_is}
 use Rattle.block_laws.proofs.BlockFaults.{block_then_rest, is_first_fault}
@@ -202,23 +201,8 @@ module _ (j : JobView) (job : IsJob j) (cluster size keys : ℕ) (some : 1 ≤ s
     at_hi : lo ≡ span.hi
     at_hi = let t = at.to in omega (arith, t, end)
 
-    pub no_fault : cluster_fault j.dataset (job_spans j) (passes_in j) cluster ≡ None
-    no_fault =
-        at.fault ∙ ap (λ k. first_fault_from j.dataset lo (slice_range j.dataset.rows k span.hi) (passes_in j)) at_hi
-        ∙ ap (λ rows. first_fault_from j.dataset lo rows (passes_in j)) (range_none j.dataset.rows span.hi)
-
-    pub cost_all : steps ≤ start + 2 * span_demands j size keys cluster
-    cost_all = let a = at.cost in let e = demands_are in omega (arith, a, e)
-
     all_rows : lo - span.lo ≡ length (span_rows (map (spreads_of j.dataset (passes_in j)) j.dataset.rows) (slice_get (job_spans j) cluster))
-    all_rows =
-        let e = at_hi in
-        let w = ends_within in
-        let u = bounds.1 in
-        let many = length-map j.dataset.rows (spreads_of j.dataset (passes_in j)) in
-        let long = range_length (map (spreads_of j.dataset (passes_in j)) j.dataset.rows) span.lo span.hi (omega (arith, u)) (omega (arith, w, many)) in
-        (let d : lo - span.lo ≡ span.hi - span.lo = omega (arith, e) in d) ∙ sym long
-        ∙ ap (λ (o : Option Span). length (span_rows (map (spreads_of j.dataset (passes_in j)) j.dataset.rows) o)) (sym its)
+    all_rows = grind (arith, at_hi, ends_within, length-map, range_length)
 
     pub holds_all : (watched done : List ℕ) → Holds (facts_in j) watched (at_begin done cluster) first → Holds (facts_in j) watched (at_end (facts_in j) done cluster) tally
     holds_all watched done h = subst (λ (n : ℕ). Holds (facts_in j) watched (at_entry done cluster n) tally) all_rows (at.holds watched done h)

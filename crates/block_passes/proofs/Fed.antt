@@ -71,13 +71,7 @@ module _ (j : JobView) (first count : ℕ) (f : ℕ → Option EntryFault) (pass
   left_of made (inr n) = (n.1, n.2)
 
   pub part_served : to.limit ≡ Some old.limit → IsNarrowed new.limit old.limit to now → IsServedTo j first count f pass to.places now lanes old new
-  part_served made narrowed = record {
-    ready = ready;
-    settled = λ p lt. (let falls = lowered.falls in settled p (omega (arith, lt, falls)));
-    lowers = lowered;
-    its_limit = (left_of made narrowed).0;
-    left = (left_of made narrowed).1;
-  }
+  part_served made narrowed = grind (arith, lowered, left_of)
 
 -- ---- a batch
 
@@ -128,26 +122,14 @@ module _ (j : JobView) (job : IsJob j) (first count : ℕ) (pass : ℕ) (k : Act
       -- ---- what is fed
 
       module _ (lanes : List LaneView) (feedable : IsFeedable j first count lanes kept last k inputs u) (d : Kept) where
-        got : slice_get kept last ≡ Some (get_or kept last d)
-        got = slice_get-get_or kept last d last_there
-
-        pub fed_low : (s : BlockStage) → IsAmid j first count s → EachPlace (get_or kept last d).places (λ q. q < count)
-        fed_low s amid q i =
-            let is = its_places j first count s amid u p.chains kept are own.result.filters last last_led (get_or kept last d) got (feedable.over_all (get_or kept last d) got) in
-            subst (λ (n : ℕ). q < n) amid.block (chosen_below (λ x. is_true (through_sites (site_in j (amid.in_cluster.span.lo + s.entries + x) u) own.result.filters)) q s.block (subst (λ (l : List ℕ). is_in q l ≡ true) is i))
-
-        pub fed_hand : EachPlace (get_or kept last d).places (AreAtHand j lanes u inputs)
-        fed_hand q i = (feedable.each (get_or kept last d) got q i).hand
-
-      -- ---- a batch
-
-      module _ (lanes : List LaneView) (feedable : IsFeedable j first count lanes kept last k inputs u) (d : Kept) (batch : Batch) (places : places_of batch.places ≡ (get_or kept last d).places)
-          (gathered : (q : ℕ) → q < count → is_in q (get_or kept last d).places ≡ true → AreAtHand j lanes u inputs q → AreLanesOf (for_all (version_in {M = ⊥} j (first + q) u) inputs) k batch.sources q) where
         abbrev sel : Kept
         sel = get_or kept last d
 
         sel_at : slice_get kept last ≡ Some sel
         sel_at = slice_get-get_or kept last d last_there
+
+        pub fed_hand : EachPlace sel.places (AreAtHand j lanes u inputs)
+        fed_hand q i = (feedable.each sel sel_at q i).hand
 
         module _ (s : BlockStage) (amid : IsAmid j first count s) where
           abbrev entry : ℕ → ℕ
@@ -159,18 +141,8 @@ module _ (j : JobView) (job : IsJob j) (first count : ℕ) (pass : ℕ) (k : Act
           sel_is : sel.places ≡ filter passes (range_with_len 0 s.block)
           sel_is = its_places j first count s amid u p.chains kept are own.result.filters last last_led sel sel_at (feedable.over_all sel sel_at)
 
-          -- what is known at a place that is fed
-          chosen_low : (q : ℕ) → is_in q sel.places ≡ true → q < count
-          chosen_low q i = subst (λ (n : ℕ). q < n) amid.block (chosen_below passes q s.block (subst (λ (l : List ℕ). is_in q l ≡ true) sel_is i))
-
-          lanes_at : (q : ℕ) → is_in q sel.places ≡ true → AreLanesOf (for_all (version_in {M = ⊥} j (first + q) u) inputs) k batch.sources q
-          lanes_at q i = gathered q (chosen_low q i) i (feedable.each sel sel_at q i).hand
-
-          clear_at : (q : ℕ) → is_in q sel.places ≡ true → feed_fault k (values_at batch.sources q) ≡ None
-          clear_at q i = ap (feeding_fault k) (sym (lanes_at q i).values) ∙ (feedable.each sel sel_at q i).clear
-
-          over_places : (P : ℕ → Type 0) → EachPlace sel.places P → All P (places_of batch.places)
-          over_places P h = subst (λ (l : List ℕ). All P l) (sym places) (all_places P sel.places h)
+          pub fed_low : EachPlace sel.places (λ q. q < count)
+          fed_low q i = subst (λ (n : ℕ). q < n) amid.block (chosen_below passes q s.block (subst (λ (l : List ℕ). is_in q l ≡ true) sel_is i))
 
           in_sel : (q : ℕ) → q < s.block → passes q ≡ true → is_in q sel.places ≡ true
           in_sel q low through = subst (λ (l : List ℕ). is_in q l ≡ true) (sym sel_is) (in_chosen passes q s.block low ∙ through)
@@ -178,42 +150,53 @@ module _ (j : JobView) (job : IsJob j) (first count : ℕ) (pass : ℕ) (k : Act
           same_place : (q : ℕ) → first + q ≡ entry q
           same_place q = ap (λ (n : ℕ). n + q) amid.begins
 
-          its_items : batch_items k batch ≡ block_items (facts_in j) s (actions_before j pass)
-          its_items =
-              ap (flat_map (λ q. spread k (values_at batch.sources q))) (places ∙ sel_is)
-              ∙ (λ i. flat_map (λ q. spread k (values_at batch.sources q)) (filter (λ q. is_true (through_sites (site_in j (entry q) (sym own.its_under i)) own.result.filters)) (range_with_len 0 s.block)))
-              ∙ feeds j s pass own.numbered own.result k (λ q. values_at batch.sources q) job amid.in_cluster own.action
-              (λ q low through. fed_at q (in_sel q low (ap (λ (v : Option ℕ). is_true (through_sites (site_in j (entry q) v) own.result.filters)) (sym own.its_under) ∙ through)))
-            where
-              fed_at : (q : ℕ) → is_in q sel.places ≡ true
-                  → (for_all (version_in {M = ⊥} j (entry q) own.numbered.variation) own.result.inputs ≡ Gives (values_at batch.sources q)) × (feed_fault k (values_at batch.sources q) ≡ None)
-              fed_at q i = ((λ t. for_all (version_in {M = ⊥} j (sym (same_place q) t) (own.its_under t)) (own.inputs_are t)) ∙ (lanes_at q i).values, clear_at q i)
-
           kind_here : slice_get (facts_in j).kinds (actions_before j pass) ≡ Some k
           kind_here = let c = amid.in_cluster in block_kind j s c.span c.its_span c.within c.inside job pass own.numbered own.result k own.action
 
-          pub can_feed : (watched : List ℕ) (place cluster : ℕ) (t : TallyView) → place ≡ actions_before j pass → s.cluster ≡ cluster → s.passes ≡ place → HoldsIn (facts_in j) watched s t → CanFeedBatch (facts_in j) watched s t place cluster batch
-          can_feed watched place cluster t is its at_pass holds = record {
-            holds = holds;
-            at_pass = at_pass;
-            at_cluster = its;
-            within = block_within j first count s amid;
-            kind = k;
-            its_kind = ap (slice_get (facts_in j).kinds) is ∙ kind_here;
-            there = over_places (HasValues batch.sources) (λ q i. (lanes_at q i).there);
-            suits = over_places (SuitsAt k batch.sources) (λ q i. (lanes_at q i).suits);
-            no_fault = over_places (λ p. feed_fault k (values_at batch.sources p) ≡ None) clear_at;
-            few = (let a = ap (λ (l : List ℕ). length l) (places ∙ sel_is) in let b = filter_short passes (range_with_len 0 s.block) in let e = length-range_with_len 0 s.block in omega (arith, a, b, e));
-            fed = its_items ∙ ap (block_items (facts_in j) s) (sym is);
-          }
+          -- ---- a batch
 
-      -- so is each batch of what the action reads
+          module _ (batch : Batch) (places : places_of batch.places ≡ sel.places)
+              (gathered : (q : ℕ) → q < count → is_in q sel.places ≡ true → AreAtHand j lanes u inputs q → AreLanesOf (for_all (version_in {M = ⊥} j (first + q) u) inputs) k batch.sources q) where
+            lanes_at : (q : ℕ) → is_in q sel.places ≡ true → AreLanesOf (for_all (version_in {M = ⊥} j (first + q) u) inputs) k batch.sources q
+            lanes_at q i = gathered q (fed_low q i) i (fed_hand q i)
 
-      module _ (lanes : List LaneView) (feedable : IsFeedable j first count lanes kept last k inputs u) (d : Kept) where
-        pub feeds_any : (s : BlockStage) (amid : IsAmid j first count s) (watched : List ℕ) (place cluster : ℕ) (t : TallyView) → place ≡ actions_before j pass → s.cluster ≡ cluster → s.passes ≡ place → HoldsIn (facts_in j) watched s t
-            → CanFeedAny j first count lanes k inputs u (get_or kept last d).places (facts_in j) watched s t place cluster
-        unfolding can_feed
-        feeds_any s amid watched place cluster t is its at_pass holds b of = (can_feed lanes feedable d b of.places of.gathered s amid watched place cluster t is its at_pass holds, refl)
+            clear_at : (q : ℕ) → is_in q sel.places ≡ true → feed_fault k (values_at batch.sources q) ≡ None
+            clear_at q i = ap (feeding_fault k) (sym (lanes_at q i).values) ∙ (feedable.each sel sel_at q i).clear
+
+            over_places : (P : ℕ → Type 0) → EachPlace sel.places P → All P (places_of batch.places)
+            over_places P h = subst (λ (l : List ℕ). All P l) (sym places) (all_places P sel.places h)
+
+            its_items : batch_items k batch ≡ block_items (facts_in j) s (actions_before j pass)
+            its_items =
+                ap (flat_map (λ q. spread k (values_at batch.sources q))) (places ∙ sel_is)
+                ∙ (λ i. flat_map (λ q. spread k (values_at batch.sources q)) (filter (λ q. is_true (through_sites (site_in j (entry q) (sym own.its_under i)) own.result.filters)) (range_with_len 0 s.block)))
+                ∙ feeds j s pass own.numbered own.result k (λ q. values_at batch.sources q) job amid.in_cluster own.action
+                (λ q low through. fed_at q (in_sel q low (ap (λ (v : Option ℕ). is_true (through_sites (site_in j (entry q) v) own.result.filters)) (sym own.its_under) ∙ through)))
+              where
+                fed_at : (q : ℕ) → is_in q sel.places ≡ true
+                    → (for_all (version_in {M = ⊥} j (entry q) own.numbered.variation) own.result.inputs ≡ Gives (values_at batch.sources q)) × (feed_fault k (values_at batch.sources q) ≡ None)
+                fed_at q i = ((λ t. for_all (version_in {M = ⊥} j (sym (same_place q) t) (own.its_under t)) (own.inputs_are t)) ∙ (lanes_at q i).values, clear_at q i)
+
+            can_feed : (watched : List ℕ) (place cluster : ℕ) (t : TallyView) → place ≡ actions_before j pass → s.cluster ≡ cluster → s.passes ≡ place → HoldsIn (facts_in j) watched s t → CanFeedBatch (facts_in j) watched s t place cluster batch
+            can_feed watched place cluster t is its at_pass holds = record {
+              holds = holds;
+              at_pass = at_pass;
+              at_cluster = its;
+              within = block_within j first count s amid;
+              kind = k;
+              its_kind = ap (slice_get (facts_in j).kinds) is ∙ kind_here;
+              there = over_places (HasValues batch.sources) (λ q i. (lanes_at q i).there);
+              suits = over_places (SuitsAt k batch.sources) (λ q i. (lanes_at q i).suits);
+              no_fault = over_places (λ p. feed_fault k (values_at batch.sources p) ≡ None) clear_at;
+              few = (let a = ap (λ (l : List ℕ). length l) (places ∙ sel_is) in let b = filter_short passes (range_with_len 0 s.block) in let e = length-range_with_len 0 s.block in omega (arith, a, b, e));
+              fed = its_items ∙ ap (block_items (facts_in j) s) (sym is);
+            }
+
+          -- so is each batch of what the action reads
+          pub feeds_any : (watched : List ℕ) (place cluster : ℕ) (t : TallyView) → place ≡ actions_before j pass → s.cluster ≡ cluster → s.passes ≡ place → HoldsIn (facts_in j) watched s t
+              → CanFeedAny j first count lanes k inputs u sel.places (facts_in j) watched s t place cluster
+          unfolding can_feed
+          feeds_any watched place cluster t is its at_pass holds b of = (can_feed b of.places of.gathered watched place cluster t is its at_pass holds, refl)
 
 -- only a Take wants memory
 pub only_takes : (k kind : ActionKind) → kind ≡ k → (r : Result (Unit {0}) Memory) → OnErr r (IsTake kind) → OnErr r (IsTake k)
@@ -228,13 +211,7 @@ read_action j n k inputs u own =
 
 no_take : (k : ActionKind) → IsNoTake k → IsTake k → ⊥
 no_take (ActionKind.Take c) h take = h
-no_take ActionKind.Count h take = take
-no_take (ActionKind.Sum c) h take = take
-no_take (ActionKind.Min c) h take = take
-no_take (ActionKind.Max c) h take = take
-no_take (ActionKind.Reduce o c) h take = take
-no_take (ActionKind.Histo1D edges c w) h take = take
-no_take (ActionKind.Histo2D xs ys c d w) h take = take
+no_take k h take = take
 
 -- no pass of a loop without Takes takes
 pub takes_none : (j : JobView) (n : ℕ) (k : ActionKind) (inputs : List ℕ) (u : Option ℕ) → IsReadOf j n k inputs u → All IsNoTake (kinds_in (passes_in j)) → IsTake k → ⊥

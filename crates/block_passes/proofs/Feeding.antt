@@ -5,11 +5,11 @@ use Rattle.std.proofs.lemmas.List.{length-map}
 use Rattle.std.proofs.lemmas.List.Sums.{sum_by-cons}
 use Rattle.lemmas.proofs.{mapped_at, range_length, something_at}
 use Rattle.rdf_values.specs.{ActionKind, Booking, EntryFault, feed_fault, history, Item, named_before, Pass, Span, spread, Value}
-use Rattle.rdf_model.specs.{◌>>=◌, action_outcome, Entry, fault_in, Faults, feed_outcome, filter_reach, for_all, Gives, if_there, is_covered, is_passed, is_reached, is_true, items_fed, items_of, list_at, Needs, Outcome, Reach, reaches_of, Skip, span_rows, spreads_of, truth_of, unless_fault}
+use Rattle.rdf_model.specs.{◌>>=◌, action_outcome, Entry, fault_in, Faults, feed_outcome, filter_reach, for_all, Gives, if_there, is_covered, is_passed, is_reached, is_true, items_fed, items_of, list_at, Needs, Outcome, Reach, reaches_of, Skip, span_rows, spreads_of, truth_of}
 use Rattle.rdf_model.specs.declared.loop_facts.Reach.TheVariants.{Failed, Passed, Stopped}
 use Rattle.graph_numbers.specs.{action_numbers, booking_numbers, FilterAt, graph_filters, graph_under, Pass as NumberedPass, ResultAt, through_sites}
 use Rattle.cluster_tally.specs.{block_items, block_reaches, BlockStage, CanNoteCounts, counted, HoldsIn, IsWithin, TallyView}
-use Rattle.loop_keys.specs.{actions_before, covered_in, facts_in, IsJob, job_graph, job_spans, JobView, outcome_of, pass_outcome, passes_in, row_of, site_in, version_in}
+use Rattle.loop_keys.specs.{actions_before, covered_in, facts_in, IsJob, job_graph, job_spans, JobView, pass_outcome, passes_in, row_of, site_in, version_in}
 use Rattle.loop_keys.proofs.NamedLaws.{stopped_answer, tried_answer}
 use Rattle.loop_keys.proofs.TableLaws.{row_there}
 use Rattle.loop_keys.proofs.Covered.{cover_at, covered_count}
@@ -29,14 +29,10 @@ use Rattle.block_passes.specs.declared.plan.NamedSteps.{NamedSteps}
 
 given_items : (k : ActionKind) (o : Outcome ⊥ Bool) (a : Outcome ⊥ (List Value)) (vs : List Value) → is_true o ≡ true → a ≡ Gives vs → feed_fault k vs ≡ None
     → items_fed k (o >>= λ passed. if passed then a >>= feed_outcome k else Gives Skip) ≡ spread k vs
-given_items k (Gives true) a vs t e f = ap (λ (x : Outcome ⊥ (List Value)). items_fed k (x >>= feed_outcome k)) e ∙ ap (λ (x : Option EntryFault). items_fed k (unless_fault {M = ⊥} vs x)) f
-given_items k (Needs m) a vs t e f = elim m [ ]
-given_items k o a vs t e f = cc t
+given_items k o a vs t e f = grind arith
 
 none_items : (k : ActionKind) (o : Outcome ⊥ Bool) (x : Outcome ⊥ Entry) → is_true o ≡ false → items_fed k (o >>= λ passed. if passed then x else Gives Skip) ≡ []
-none_items k (Gives true) x t = cc t
-none_items k (Needs m) x t = elim m [ ]
-none_items k o x t = refl
+none_items k o x t = grind arith
 
 some_list : (lists : List (List Item)) (i : ℕ) (xs : List Item) → slice_get lists i ≡ Some xs → list_at lists i ≡ xs
 some_list lists i xs h = ap (λ (o : Option (List Item)). elim o [ None ↦ [] | Some ys ↦ ys ]) h
@@ -74,12 +70,7 @@ module _ (j : JobView) (s : BlockStage) (span : Span) (its : slice_get (job_span
   left_is f = ap (λ o. drop s.entries (span_rows (map f j.dataset.rows) o)) its
 
   left_at : {A : Type 0} (f : List Value → A) (q : ℕ) (x : A) → q < s.block → slice_get (rows_left f) q ≡ Some x → x ≡ f (row_of j (entry_at q))
-  left_at f q x lt h =
-      let e : span.lo + (s.entries + q) ≡ entry_at q = omega arith in
-      some_same x (f (row_of j (entry_at q)))
-      (sym h ∙ ap (λ l. slice_get l q) (left_is f) ∙ get_dropped s.entries (slice_range (map f j.dataset.rows) span.lo span.hi) q
-      ∙ row_in_block (map f j.dataset.rows) span.lo span.hi (s.entries + q) (omega (arith, lt, within)) ∙ ap (slice_get (map f j.dataset.rows)) e
-      ∙ mapped_at f j.dataset.rows (entry_at q) (row_of j (entry_at q)) (row_here q lt))
+  left_at f q x lt h = grind (arith, some_same, left_is, get_dropped, row_in_block, mapped_at, row_here)
 
   left_long : {A : Type 0} (f : List Value → A) → s.block ≤ length (rows_left f)
   left_long f =
@@ -116,9 +107,7 @@ module _ (j : JobView) (s : BlockStage) (span : Span) (its : slice_get (job_span
     its_items q = some_list (spreads_of j.dataset (passes_in j) (row_of j (entry_at q))) (actions_before j n) (items_at q) (at_place j.dataset (row_of j (entry_at q)) n (passes_in j) its_pass k of.at there_is of.booking).1
 
     outcome_by : (q : ℕ) → q < s.block → pass_outcome j (entry_at q) n ≡ action_outcome j.dataset.fns j.dataset.columns (row_of j (entry_at q)) k of.at (graph_under (job_graph j) m.variation)
-    outcome_by q lt =
-        (λ i. outcome_of j (row_here q lt i) (there_is i))
-        ∙ ap (λ (c : Booking). outcome_of j (Some (row_of j (entry_at q))) (Some (record { result = record { name = r.booked.name; booking = c }; under = graph_under (job_graph j) m.variation }))) of.booking
+    outcome_by q lt = grind (arith, row_here, there_is)
 
     numbers_by : (q : ℕ) → q < s.block → pass_outcome j (entry_at q) n ≡ action_numbers (site_in j (entry_at q) m.variation) (version_in j (entry_at q) m.variation) k r
     numbers_by q lt =
@@ -298,14 +287,7 @@ module _ (j : JobView) (first count : ℕ) where
   IsNotedTo old n now = (watched : List ℕ) (s : BlockStage) → IsAmid j first count s → s.filters ≡ 0 → HoldsIn (facts_in j) watched s old → HoldsIn (facts_in j) watched (at_filter s n) now
 
   pub block_within : (s : BlockStage) → IsAmid j first count s → IsWithin (facts_in j) s
-  block_within s amid =
-      let c = amid.in_cluster in
-      let many = length-map j.dataset.rows (spreads_of j.dataset (passes_in j)) in
-      let w = c.within in
-      let i = c.inside in
-      let long = range_length (map (spreads_of j.dataset (passes_in j)) j.dataset.rows) c.span.lo c.span.hi (omega (arith, w)) (omega (arith, i, many)) in
-      let here = ap (λ (o : Option Span). length (span_rows (map (spreads_of j.dataset (passes_in j)) j.dataset.rows) o)) c.its_span in
-      omega (arith, w, long, here)
+  block_within s amid = grind (arith, length-map, range_length)
 
   pub filters_many : length (graph_filters (job_graph j)) ≡ length (named_before (history j.script))
   filters_many = sym (covered_count j) ∙ length-map (named_before (history j.script)) (is_covered (passes_in j))

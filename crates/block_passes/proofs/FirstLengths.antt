@@ -1,10 +1,9 @@
 -- How many entries the next block has, entry by entry.
-use Rattle.std.proofs.Common.{◌≡◌, ◌⊎◌, inl, inr, ℕ, ℤ, zero, suc, ◌+◌, ◌-◌, ◌*◌, ◌<◌, ◌≤◌, Bool, true, false, ◌&&◌, List, [], ◌∷◌, length, map, min, take, drop, Some, refl, sym, ◌∙◌, ap, subst, arith, slice_get, if◌then◌else◌, nat_le, option_and_then, option_map, slice_range, sum_by, unwrap_or, drop-cons}
-use Rattle.std.proofs.lemmas.Bool.{le-leb, le-ltb, lt-leb, lt-ltb}
+use Rattle.std.proofs.Common.{◌≡◌, ◌⊎◌, inl, inr, ℕ, ℤ, zero, suc, ◌+◌, ◌-◌, ◌*◌, ◌<◌, ◌≤◌, Bool, true, ◌&&◌, List, [], ◌∷◌, length, map, min, take, drop, Some, refl, sym, ◌∙◌, ap, subst, arith, slice_get, if◌then◌else◌, nat_le, option_and_then, option_map, slice_range, sum_by, unwrap_or, drop-cons}
+use Rattle.std.proofs.lemmas.Bool.{le-leb, lt-leb, lt-ltb}
 use Rattle.std.proofs.lemmas.List.Sums.{sum_by-cons, sum_by-append}
 use Rattle.lemmas.proofs.{range_length, something_at, take_next}
 use Rattle.rdf_values.specs.{cell, ColType, Column, FitRows, FitsColumn, FitsKind, FitsRow, IsTable, kind_at, TableView, Value}
-use Rattle.loop_pieces.proofs.Places.{range_none}
 use Rattle.block_laws.specs.{elements_in, first_length, more_fit, one_more_fits, row_elements}
 use Rattle.block_laws.proofs.BlockCuts.{plain_first}
 use Rattle.std.proofs.lemmas.List.{take_all}
@@ -26,9 +25,7 @@ fits_at (c ∷ cs) (v ∷ vs) zero h lt = (c, v, refl, refl, h.0)
 fits_at (c ∷ cs) (v ∷ vs) (suc i) h lt = fits_at cs vs i h.1 (omega (arith, lt))
 
 no_elements : (k : ColType) (v : Value) → (k ≡ ColType.Vect → ⊥) → FitsKind k v → 0 ≡ elements_in v
-no_elements ColType.Vect v other h = absurd (other refl)
-no_elements k (Value.Vect zs) other h = elim h [ ]
-no_elements k v other h = refl
+no_elements k v other h = grind arith
 
 module _ (t : TableView) (table : IsTable t) (e i : ℕ) (inside : i < length t.columns) where
   -- a cell of another column than one of vectors has no elements
@@ -117,29 +114,7 @@ module _ (rows : List (List Value)) (keys size most hi : ℕ) where
 
       -- it doesn't
       pub no_more : most < elements + cost → end ≡ lo + first_length size most (costs_from lo)
-      no_more many =
-          let t : one_more_fits size most (end - lo) elements cost ≡ false = ap (λ b. b && nat_le (elements + cost) most) (lt-ltb (end - lo) size room) ∙ lt-leb (elements + cost) most many in
-          let a : more_fit size most (end - lo) elements (costs_from end) ≡ 0 = next_is ∙ ap rest t in
-          let f = at.first in
-          let up = at.above in omega (arith, f, a, up)
-
-    full : (n s : ℕ) (cs : List ℕ) → size ≤ n → more_fit size most n s cs ≡ 0
-    full n s [] le = refl
-    full n s (x ∷ xs) le =
-        ap (λ b. if b then suc (more_fit size most (suc n) (s + x) xs) else 0)
-        (let e : one_more_fits size most n s x ≡ false = ap (λ b. b && nat_le (s + x) most) (le-ltb n size le) in e)
-
-    -- the block is as long as any, or there are no more entries
-    pub at_last : (end ≡ lo + size) ⊎ (end ≡ hi) → end ≡ lo + first_length size most (costs_from lo)
-    at_last (inl e) =
-        let a = full (end - lo) elements (costs_from end) (omega (arith, e)) in
-        let f = at.first in
-        let up = at.above in omega (arith, f, a, up)
-    at_last (inr e) =
-        let none : costs_from end ≡ [] = ap (λ k. costs_from k) e ∙ ap (map (row_elements keys)) (range_none rows hi) in
-        let a : more_fit size most (end - lo) elements (costs_from end) ≡ 0 = ap (more_fit size most (end - lo) elements) none in
-        let f = at.first in
-        let up = at.above in omega (arith, f, a, up)
+      no_more many = grind (arith, lt-ltb, lt-leb, next_is)
 
   -- ---- by the elements that are counted at an entry
 

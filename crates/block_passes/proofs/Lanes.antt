@@ -1,5 +1,5 @@
 -- The vectors of a table's column, as a lane.
-use Rattle.std.proofs.Common.{◌≡◌, ◌<◌, ℕ, ℤ, List, [], length, Option, None, Some, get_or, map, slice_get, ap, arith, zero, suc, ◌∷◌, sym, ◌∙◌, subst, ◌≤◌, ◌+◌, pos, negsuc, true, refl, IfSome, option_and_then, unwrap_or}
+use Rattle.std.proofs.Common.{◌≡◌, ◌<◌, ℕ, ℤ, List, [], length, Option, None, Some, get_or, map, slice_get, ap, arith, ◌∷◌, sym, ◌∙◌, subst, ◌≤◌, ◌+◌, true, refl, IfSome, option_and_then, unwrap_or}
 use Rattle.std.proofs.lemmas.Option.{slice_get-get_or, get_or_from_slice_get, slice_get_within}
 use Rattle.rdf_values.proofs.KeptLemmas.{cell_of_column, column_length}
 use Rattle.rdf_values.specs.{ActionKind, ColType, columns_of, Value}
@@ -12,7 +12,7 @@ use Rattle.actions.specs.declared.batch.Sources.TheVariants.{One, Weighted, Pair
 use Rattle.block_passes.specs.{AreLanesOf, HasHeld, IsAtHand, IsLaneOf, IsServable, IsWhole, source_fault}
 use Rattle.loop_keys.proofs.SuitsLaws.{integer_fits, numeric_fits, pair_fits, single_fits, triple_fits, weighted_fits}
 use Rattle.lemmas.proofs.{something_at}
-use Rattle.block_cache.specs.{AreReady, holds_at, kinds_of, LaneView, value_for, value_of}
+use Rattle.block_cache.specs.{AreReady, holds_at, kinds_of, LaneView, value_of}
 use Rattle.expr_lanes.specs.{at_place, EachPlace}
 use Rattle.loop_keys.proofs.KeyLaws.{key_small}
 use Rattle.block_cache.proofs.CanTries.{got_kind}
@@ -47,21 +47,12 @@ three_given f (a ∷ b ∷ c ∷ []) e v w x p q r = λ i. p i >>= λ y. (q i >>
 three_given f cs e v w x p q r = absurd (omega (arith, e))
 
 suits_one : (k : ActionKind) (x : Lane) (place : ℕ) → length (columns_of k) ≡ 1 → FitsFeed k (lane_value x place ∷ []) → SuitsAt k (One x) place
-suits_one (ActionKind.Sum c) x place n f = numeric_fits f.kinds (lane_value x place) f.permitted f.fit
-suits_one (ActionKind.Min c) x place n f = numeric_fits f.kinds (lane_value x place) f.permitted f.fit
-suits_one (ActionKind.Max c) x place n f = numeric_fits f.kinds (lane_value x place) f.permitted f.fit
-suits_one (ActionKind.Take c) x place n f = single_fits f.kinds (lane_value x place) f.permitted f.fit
-suits_one (ActionKind.Reduce o c) x place n f = integer_fits f.kinds (lane_value x place) f.permitted f.fit
-suits_one (ActionKind.Histo1D edges c None) x place n f = numeric_fits f.kinds (lane_value x place) f.permitted f.fit
-suits_one k x place n f = absurd (omega (arith, n))
+suits_one k x place n f = grind (arith, numeric_fits, single_fits, integer_fits)
 
 module _ (f : ℕ → Outcome ⊥ Value) (cs : List ℕ) where
   module _ (P : ℕ → Type 0) (hand : AllByRecursion P cs) (place : ℕ) (k : ActionKind) (count : length cs ≡ length (columns_of k)) (fits : (vs : List Value) → for_all f cs ≡ Gives vs → FitsFeed k vs) where
     pub lanes_one : length cs ≡ 1 → (x : Lane) → (P (get_or cs 0 0) → IsLaneOf (f (get_or cs 0 0)) x place) → AreLanesOf (for_all f cs) k (One x) place
-    lanes_one e x lx =
-        let a = lx (All-from_recursion P cs hand 0 0 (omega (arith, e))) in
-        let given = one_given f cs e (lane_value x place) a.value in
-        record { there = a.there; values = given; suits = suits_one k x place (sym count ∙ e) (fits (lane_value x place ∷ []) given) }
+    lanes_one e x lx = grind (arith, All-from_recursion, one_given, suits_one)
 
     pub lanes_weighted : (edges : List ℤ) (c n : List ℕ) → k ≡ ActionKind.Histo1D edges c (Some n) → (x w : Lane) → (P (get_or cs 0 0) → IsLaneOf (f (get_or cs 0 0)) x place) → (P (get_or cs 1 0) → IsLaneOf (f (get_or cs 1 0)) w place)
         → AreLanesOf (for_all f cs) k (Weighted x w) place
@@ -112,9 +103,7 @@ module _ (f : ℕ → Outcome ⊥ Value) (cs : List ℕ) where
 
 -- a mark counts as true alike
 same_truth : (z : ℤ) → is_set z ≡ truth_of z
-same_truth (pos zero) = refl
-same_truth (pos (suc n)) = refl
-same_truth (negsuc n) = refl
+same_truth z = grind arith
 
 -- a lane of numbers or truths has what is held of its key
 module _ (lanes : List LaneView) (k : ℕ) (r : LaneView) (its : slice_get lanes k ≡ Some r) (numbers : List ℤ) (are : numbers ≡ r.numbers) (long : r.count ≤ length numbers) where
@@ -125,16 +114,10 @@ module _ (lanes : List LaneView) (k : ℕ) (r : LaneView) (its : slice_get lanes
   inside l at p low = let e = ap (λ (x : LaneView). x.count) (same_lane l at) in omega (arith, e, long, low)
 
   pub int_held : r.kind ≡ ColType.Int → (l : LaneView) → slice_get lanes k ≡ Some l → (p : ℕ) → p < l.count → (p < length numbers) × (Value.Int (at_place numbers p) ≡ value_of l p)
-  int_held is l at p low = (
-    inside l at p low,
-    ap (λ (zs : List ℤ). Value.Int (at_place zs p)) are ∙ ap (λ t. value_for t r.vectors (at_place r.numbers p)) (sym is) ∙ ap (λ (x : LaneView). value_of x p) (same_lane l at),
-  )
+  int_held is l h p low = grind (arith, inside, same_lane)
 
   pub bool_held : r.kind ≡ ColType.Bool → (l : LaneView) → slice_get lanes k ≡ Some l → (p : ℕ) → p < l.count → (p < length numbers) × (Value.Bool (truth_of (at_place numbers p)) ≡ value_of l p)
-  bool_held is l at p low = (
-    inside l at p low,
-    ap Value.Bool (sym (same_truth (at_place numbers p))) ∙ ap (λ (zs : List ℤ). Value.Bool (is_set (at_place zs p))) are ∙ ap (λ t. value_for t r.vectors (at_place r.numbers p)) (sym is) ∙ ap (λ (x : LaneView). value_of x p) (same_lane l at),
-  )
+  bool_held is l h p low = grind (arith, inside, same_truth, same_lane)
 
 pub vector_kind : (lanes : List LaneView) (k : ℕ) (r : LaneView) → slice_get lanes k ≡ Some r → r.kind ≡ ColType.Vect → slice_get (kinds_of lanes) k ≡ Some ColType.Vect
 vector_kind lanes k r there is = got_kind lanes k r there ∙ ap Some is

@@ -1,8 +1,9 @@
 -- Places of a block in their order, and those among them that pass a test.
-use Rattle.std.proofs.Common.{◌≡◌, ℕ, zero, suc, ◌+◌, ◌<◌, ◌≤◌, Bool, true, false, ◌&&◌, cond, List, [], ◌∷◌, ◌++◌, length, take, refl, ◌∙◌, ap, ap₂, arith, nat_lt, ◌⊎◌, inl, inr, ◌||◌, Option, None, Some, sym, subst, nat_eq, if◌then◌else◌, ℤ, length-set, set, get_or, get_or-set_same, get_or-set_other, pos, flat_map, slice_get, filter}
+use Rattle.std.proofs.Common.{◌≡◌, ℕ, zero, suc, ◌+◌, ◌^◌, ◌<◌, ◌≤◌, Bool, true, false, ◌&&◌, cond, List, [], ◌∷◌, ◌++◌, length, take, refl, ◌∙◌, ap, ap₂, arith, nat_lt, ◌⊎◌, inl, inr, Option, None, Some, sym, subst, nat_eq, ℤ, length-set, set, get_or, get_or-set_same, get_or-set_other, pos, flat_map, slice_get, filter}
 use Rattle.std.specs.List.{range_with_len}
 use Rattle.lemmas.proofs.{and_false, and_left, and_true, eq_says, lt_false, lt_or_last, lt_true}
 use Rattle.std.proofs.lemmas.Bool.Decides.{Decides-ltb}
+use Rattle.graph_numbers.proofs.Listed.{by_test}
 use Rattle.rdf_values.specs.{EntryFault, Span, Value}
 use Rattle.expr_lanes.specs.{AreRising, at_place, EachPlace, is_in}
 use Rattle.expr_lanes.proofs.Dense.{below_range, first_in_range}
@@ -68,12 +69,9 @@ pub flat_filtered_range : {B : Type 0} (f g : ℕ → List B) (p : ℕ → Bool)
     → flat_map f (range_with_len a n) ≡ flat_map g (filter p (range_with_len a n))
 flat_filtered_range f g p zero a gives none = refl
 flat_filtered_range f g p (suc n) a gives none =
-    go (p a) refl (flat_filtered_range f g p n (a + 1) (λ i l k. gives i (omega (arith, l)) (omega (arith, k))) (λ i l k. none i (omega (arith, l)) (omega (arith, k))))
-  where
-    go : (b : Bool) → p a ≡ b → flat_map f (range_with_len (a + 1) n) ≡ flat_map g (filter p (range_with_len (a + 1) n))
-        → f a ++ flat_map f (range_with_len (a + 1) n) ≡ flat_map g (cond b (a ∷ filter p (range_with_len (a + 1) n)) (filter p (range_with_len (a + 1) n)))
-    go true q h = ap₂ (λ x y. x ++ y) (gives a (omega arith) (omega arith) q) h
-    go false q h = ap (λ l. l ++ flat_map f (range_with_len (a + 1) n)) (none a (omega arith) (omega arith) q) ∙ h
+    let rest = flat_filtered_range f g p n (a + 1) (λ i l k. gives i (omega (arith, l)) (omega (arith, k))) (λ i l k. none i (omega (arith, l)) (omega (arith, k))) in
+    by_test (p a) (λ q. rw q (ap₂ (λ x y. x ++ y) (gives a (omega arith) (omega arith) q) rest))
+    (λ q. rw q (ap (λ l. l ++ flat_map f (range_with_len (a + 1) n)) (none a (omega arith) (omega arith) q) ∙ rest))
 
 -- what rows give, by their places from a on
 flat_taken : {A B : Type 0} (f : A → List B) (g : ℕ → List B) (n : ℕ) (xs : List A) (a : ℕ) → n ≤ length xs
@@ -131,11 +129,7 @@ module _ (f : ℕ → Option EntryFault) where
   over_lowers sel first pass s o rising inside e = go o (subst (IsOver sel) (sym e) (over sel rising))
     where
       go : (x : Option PlaceFault) → IsOver sel x → Lowers (where_in f sel) first pass s (noted first pass s x)
-      go None h = none_lowers (where_in f sel) first pass s (λ p lt. selected_or_none sel p (h p))
-      go (Some x) h =
-          fault_lowers (where_in f sel) first pass s x.place x.kind (inside x.place h.0)
-          (ap (λ b. if b then f x.place else None) h.0 ∙ h.1)
-          (λ p lt. selected_or_none sel p (λ i. h.2 p i lt))
+      go x h = grind (arith, none_lowers, selected_or_none, fault_lowers)
 
   -- left are those below the limit
   pub left_below : (sel : List ℕ) (first pass : ℕ) (s : Found) (o : Option PlaceFault) → EachPlace sel (λ p. p < s.limit) → below_fault o sel ≡ filter (λ p. nat_lt p (noted first pass s o).limit) sel
@@ -146,6 +140,11 @@ module _ (f : ℕ → Option EntryFault) where
 pub fault_selected : (f : ℕ → Option EntryFault) (sel : List ℕ) → AreRising sel → (o : Option PlaceFault) → o ≡ fault_over f sel → (x : PlaceFault) → o ≡ Some x → is_in x.place sel ≡ true
 fault_selected f sel rising o e x q =
     let h : IsOver f sel (Some x) = subst (IsOver f sel) (sym e ∙ q) (over f sel rising) in h.0
+
+-- whose entry has a small number
+pub fault_few : (f : ℕ → Option EntryFault) (sel : List ℕ) (limit count first : ℕ) → AreRising sel → EachPlace sel (λ p. p < limit) → limit ≤ count → first + count ≤ 1000000
+    → (o : Option PlaceFault) → o ≡ fault_over f sel → (x : PlaceFault) → o ≡ Some x → first + x.place < 2 ^ 32
+fault_few f sel limit count first rising inside le few o e x q = let l = inside x.place (fault_selected f sel rising o e x q) in omega (arith, l, le, few)
 
 -- ---- Places one after another.
 

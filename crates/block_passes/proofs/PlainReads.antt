@@ -1,18 +1,18 @@
 -- What the actions of a loop without vectors read.
-use Rattle.std.proofs.Common.{◌≡◌, ◌⊎◌, inl, inr, ℕ, Bool, zero, ◌+◌, ◌<◌, true, false, List, [], ◌∷◌, length, map, option_map, Option, Some, refl, sym, ◌∙◌, ap, subst, slice_get, get_or, unwrap_or}
+use Rattle.std.proofs.Common.{◌≡◌, ◌⊎◌, inl, inr, ℕ, Bool, ◌<◌, true, false, List, [], ◌∷◌, length, map, option_map, Option, Some, refl, sym, ◌∙◌, ap, subst, slice_get, get_or, unwrap_or}
 use Rattle.std.specs.List.{AllByRecursion}
 use Rattle.std.proofs.lemmas.List.Elements.{recursion_from_All}
 use Rattle.std.proofs.lemmas.Option.{get_or_from_slice_get}
-use Rattle.rdf_values.specs.{ActionAt, ActionKind, AreAccepted, ColType, Column, columns_of, covered, FitsKind, FitsRow, fn_names, history, kind_at, path, ReportOn, scope_of, Statement, Under, Value}
-use Rattle.rdf_values.specs.declared.statement.Statement.TheVariants.{Action, Report}
+use Rattle.rdf_values.specs.{ActionKind, AreAccepted, ColType, Column, columns_of, FitsKind, FitsRow, fn_names, history, kind_at, scope_of, Statement, Under, Value}
+use Rattle.rdf_values.specs.declared.statement.Statement.TheVariants.{Action}
 use Rattle.expr_check.specs.{CheckedExpr, is_vector}
 use Rattle.expr_check.proofs.Plain.{columns_scalar, plain_typed}
 use Rattle.rdf_model.specs.{Dataset, FitsOutcome}
-use Rattle.graph_numbers.specs.{cell_value, covered_at, filter_sites, graph_under, IsSiteExpr, own_results, ResultAt, results, Source, source_value, version_at}
+use Rattle.graph_numbers.specs.{cell_value, graph_under, IsSiteExpr, ResultAt, results, Source, source_value, version_at}
 use Rattle.graph_numbers.proofs.Extending.{Extends, itself, shorter}
-use Rattle.graph_numbers.proofs.Listed.{of_joined}
 use Rattle.graph_numbers.proofs.Passing.{AreVisible, action_visible}
 use Rattle.graph_numbers.proofs.VersionKinds.{FitsVersion, visible_fits}
+use Rattle.graph_numbers.proofs.Walks.{each_result}
 use Rattle.loop_keys.specs.{ArePlain, IsJob, IsPlainLoop, IsPlainVersion, IsSourceIn, job_graph, JobView, row_of, site_in, source_at}
 use Rattle.loop_keys.proofs.ColumnLaws.{fits_at}
 use Rattle.loop_keys.proofs.EvaluateLaws.{accepted_of}
@@ -45,29 +45,12 @@ module _ (d : Dataset) (row : List Value) (u : Under) (fits : FitsRow d.columns 
   inputs_fit earlier ok e node [] v = tt
   inputs_fit earlier ok e node (c ∷ cs) v = (visible_fits d row u fits before earlier ok e node c v.0.0 v.0.1, inputs_fit earlier ok e node cs v.1)
 
-  own_fit : (earlier : List Statement) (s : Statement) → AreAccepted (fn_names d.fns) (scope_of d.columns) (s ∷ earlier) → Extends earlier before
-      → (n : ℕ) (r : ResultAt) → slice_get (own_results d.columns (fn_names d.fns) earlier s) n ≡ Some r → HaveFit r.inputs
-  own_fit earlier (Action result parent k) good e zero r q =
-      let x : ResultAt = record { booked = record { name = result; booking = ActionAt k (path earlier parent) }; filters = filter_sites d.columns (fn_names d.fns) earlier parent; inputs = map (version_at d.columns earlier parent) (columns_of k); covers = [] } in
-      let is : x ≡ r = cc q in
-      subst (λ (y : ResultAt). HaveFit y.inputs) is (inputs_fit earlier good.1 e parent (columns_of k) (action_visible ⊥ d.fns d.columns [] u before earlier result parent k good))
-  own_fit earlier (Report result parent) good e zero r q =
-      let x : ResultAt = record { booked = record { name = result; booking = ReportOn (covered earlier (path earlier parent)) }; filters = filter_sites d.columns (fn_names d.fns) earlier parent; inputs = []; covers = covered_at earlier parent } in
-      let is : x ≡ r = cc q in
-      subst (λ (y : ResultAt). HaveFit y.inputs) is tt
-  own_fit earlier s good e n r q = cc q
-
   result_fits : (earlier : List Statement) → AreAccepted (fn_names d.fns) (scope_of d.columns) earlier → Extends earlier before
       → (n : ℕ) (r : ResultAt) → slice_get (results d.columns (fn_names d.fns) earlier) n ≡ Some r → HaveFit r.inputs
-  result_fits [] good e n r h = cc h
-  result_fits (s ∷ earlier) good e n r h =
-      go (result_fits earlier good.1 (shorter s earlier before e) n r) (of_joined (results d.columns (fn_names d.fns) earlier) (own_results d.columns (fn_names d.fns) earlier s) n r h)
-    where
-      go : (slice_get (results d.columns (fn_names d.fns) earlier) n ≡ Some r → HaveFit r.inputs)
-          → (slice_get (results d.columns (fn_names d.fns) earlier) n ≡ Some r) ⊎ ((k : ℕ) × (n ≡ length (results d.columns (fn_names d.fns) earlier) + k) × (slice_get (own_results d.columns (fn_names d.fns) earlier s) k ≡ Some r))
-          → HaveFit r.inputs
-      go next (inl q) = next q
-      go next (inr q) = own_fit earlier s good (shorter s earlier before e) q.0 r q.2
+  result_fits earlier good e n r h =
+      each_result d.columns (fn_names d.fns) (λ upto r. AreAccepted (fn_names d.fns) (scope_of d.columns) upto → Extends upto before → HaveFit r.inputs) (λ upto s r next ok i. next ok.1 (shorter s upto before i))
+      (λ upto result parent k ok i. inputs_fit upto ok.1 (shorter (Action result parent k) upto before i) parent (columns_of k) (action_visible ⊥ d.fns d.columns [] u before upto result parent k ok))
+      (λ upto result parent ok i. tt) earlier n r h good e
 
 -- ---- a column that a version without vectors is given by
 

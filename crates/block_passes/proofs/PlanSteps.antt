@@ -11,15 +11,9 @@ use Rattle.rdf_values.specs.{ActionAt, ActionKind, Booking, ReportOn}
 use Rattle.graph_numbers.specs.{FilterAt, graph_filters, graph_results, GraphView, kind_of_booking, Pass as NumberedPass, ResultAt, ResultKind}
 use Rattle.loop_keys.specs.{covered_in, is_covering, IsJob, job_graph, JobView, numbered_in, numbered_passes, passes_in}
 use Rattle.loop_keys.proofs.Covered.{cover_at, cover_is, plan_covered}
+use Rattle.loop_keys.proofs.Elements.{of_option}
+use Rattle.graph_numbers.proofs.Listed.{joined, only_at}
 use Rattle.block_passes.specs.declared.plan.NamedSteps.{NamedSteps}
-
--- ---- lists that grow
-
--- an element of two lists is of the one or the other
-pub get_joined : {A : Type 0} (xs ys : List A) (k : ℕ) (x : A) → slice_get (xs ++ ys) k ≡ Some x → (slice_get xs k ≡ Some x) ⊎ ((i : ℕ) × (slice_get ys i ≡ Some x))
-get_joined [] ys k x h = inr (k, h)
-get_joined (z ∷ xs) ys zero x h = inl h
-get_joined (z ∷ xs) ys (suc k) x h = get_joined xs ys k x h
 
 -- ---- steps
 
@@ -47,21 +41,11 @@ module _ (chains : List Chain) (steps : List Step) (are : AreSteps chains steps)
     more = longer up site u ∷ [];
     are = subst (λ (x : List Step). AreSteps (chains ++ longer up site u ∷ []) x) (sym e) all;
     its = ap (slice_get (chains ++ longer up site u ∷ [])) (sym are.many) ∙ last_at chains (longer up site u);
-    only = λ i d q. only i d q;
+    only = λ i d q. sym (only_at (longer up site u) d i q);
   }
     where
-      only : (i : ℕ) (d : Chain) → slice_get (longer up site u ∷ []) i ≡ Some d → d ≡ longer up site u
-      only zero d q = some_same d (longer up site u) (sym q)
-      only (suc i) d q = cc q
-
       own : IsFilterStep (chains ++ longer up site u ∷ []) (length steps) parent site u
-      own = record {
-        before = (let l = slice_get_within chains parent up its in let m = are.many in omega (arith, l, m));
-        up = up;
-        its_up = kept_at chains _ parent up its;
-        alike = alike;
-        own = ap (slice_get (chains ++ longer up site u ∷ [])) (sym are.many) ∙ last_at chains (longer up site u);
-      }
+      own = grind (arith, slice_get_within, kept_at, last_at)
 
       each : (k : ℕ) (x : Step) → (slice_get steps k ≡ Some x) ⊎ ((k ≡ length steps) × (Step.Filter parent site u ≡ x)) → IsStep (chains ++ longer up site u ∷ []) k x
       each k x (inl q) = step_kept chains _ k x (are.each k x q)
@@ -90,12 +74,12 @@ path_begins chains u steps are =
     }
 
 module _ (chains : List Chain) (path : List ℕ) (u : Option ℕ) (steps now : List Step) (k next site : ℕ) (at : IsLed chains path u steps k) (h : IsStepped (chains ++ at.more) (longer at.last site u) now next) where
-  pub only_on : (n : ℕ) (d : Chain) → (slice_get at.more n ≡ Some d) ⊎ ((m : ℕ) × (slice_get h.more m ≡ Some d)) → IsBegin (path ++ site ∷ []) u d
-  only_on n d (inl q) =
+  pub only_old : (n : ℕ) (d : Chain) → slice_get at.more n ≡ Some d → IsBegin (path ++ site ∷ []) u d
+  only_old n d q =
       let b = at.only n d q in record { its_under = b.its_under; rest = b.rest ++ site ∷ []; begins = ap (λ l. l ++ site ∷ []) b.begins ∙ append_assoc d.sites b.rest (site ∷ []) }
-  only_on n d (inr q) =
-      subst (λ (c : Chain). IsBegin (path ++ site ∷ []) u c) (sym (h.only q.0 d q.1))
-      (record { its_under = refl; rest = []; begins = ap (λ l. l ++ site ∷ []) (sym at.sites) ∙ sym (append-nil (at.last.sites ++ site ∷ [])) })
+
+  pub only_new : (m : ℕ) (d : Chain) → slice_get h.more m ≡ Some d → IsBegin (path ++ site ∷ []) u d
+  only_new m d q = grind (arith, append-nil)
 
   -- one filter more
   abbrev pub path_goes_on : IsLed chains (path ++ site ∷ []) u now next
@@ -106,7 +90,7 @@ module _ (chains : List Chain) (path : List ℕ) (u : Option ℕ) (steps now : L
     its = sym (ap (λ cs. slice_get cs next) (append_assoc chains at.more h.more)) ∙ h.its;
     sites = ap (λ l. l ++ site ∷ []) at.sites;
     alike = inr refl;
-    only = λ n d q. only_on n d (get_joined at.more h.more n d q);
+    only = λ n d q. joined at.more h.more n d q (λ x. only_old n d x) (λ m e x. only_new m d x);
   }
 
 -- the last step is there
@@ -137,7 +121,7 @@ none_more j chains steps are = record { are = subst (λ (cs : List Chain). AreSt
 pub more_steps : (j : JobView) (chains a b : List Chain) (old new : List Step) → AreStepsOf j chains a old → AreStepsOf j (chains ++ a) b new → AreStepsOf j chains (a ++ b) new
 more_steps j chains a b old new h k = record {
   are = subst (λ (cs : List Chain). AreSteps cs new) (append_assoc chains a b) k.are;
-  tried = λ i c q. elim (get_joined a b i c q) [ inl x ↦ h.tried i c x | inr x ↦ k.tried x.0 c x.1 ];
+  tried = λ i c q. joined a b i c q (λ x. h.tried i c x) (λ n e x. k.tried n c x);
 }
 
 -- ---- pieces of the plan, one after another
@@ -182,28 +166,17 @@ module _ (j : JobView) (n : ℕ) (m : NumberedPass) (its : numbered_in j n ≡ S
   there_is = (result_there j n m its).1
 
   kind_is : kind ≡ kind_of_booking r.booked.booking
-  kind_is =
-      some_same kind (kind_of_booking r.booked.booking)
-      (sym q ∙ ap (λ (v : GraphView). option_map (λ (x : ResultAt). kind_of_booking x.booked.booking) (slice_get (graph_results v) m.result)) e ∙ ap (option_map (λ (x : ResultAt). kind_of_booking x.booked.booking)) there_is)
+  kind_is = grind (arith, some_same, there_is)
 
   pub pass_led : (l : ActionKind) → kind ≡ ResultKind.Action l → (path : List ℕ) → option_map (λ (x : ResultAt). x.filters) (slice_get (graph_results g) m.result) ≡ Some path
       → (chains : List Chain) (steps : List Step) (k : ℕ) → IsLed chains path m.variation steps k → IsPlanned j (λ (cs : List Chain). IsPassLast j cs n) chains steps k
   pass_led l of path p chains steps k led = go r.booked.booking refl (sym kind_is ∙ of)
     where
       its_path : path ≡ r.filters
-      its_path =
-          some_same path r.filters
-          (sym p ∙ ap (λ (v : GraphView). option_map (λ (x : ResultAt). x.filters) (slice_get (graph_results v) m.result)) e ∙ ap (option_map (λ (x : ResultAt). x.filters)) there_is)
+      its_path = grind (arith, some_same, there_is)
 
       each : (a : NumberedPass) (s : ResultAt) (t : ActionKind) → IsActionOf j n a s t → IsLast (chains ++ led.more) s.filters a.variation k
-      each a s t act =
-          let same = one_result j n m a r s its act.its_pass there_is act.its_result in
-          record {
-            chain = led.last;
-            its = led.its;
-            sites = led.sites ∙ its_path ∙ ap (λ (x : ResultAt). x.filters) same.1;
-            alike = subst (λ (x : NumberedPass). (led.last.sites ≡ []) ⊎ (led.last.under ≡ x.variation)) same.0 led.alike;
-          }
+      each a s t act = grind (arith, one_result, there_is, its_path)
 
       go : (b : Booking) → r.booked.booking ≡ b → kind_of_booking b ≡ ResultKind.Action l → IsPlanned j (λ (cs : List Chain). IsPassLast j cs n) chains steps k
       go (ReportOn fs) s h = cc h
@@ -229,10 +202,7 @@ module _ (j : JobView) (n : ℕ) (m : NumberedPass) (its : numbered_in j n ≡ S
   report_led of chains steps are = record { more = []; steps_of = none_more j chains steps are; right = λ a s t act. absurd (none a s t act) }
     where
       none : (a : NumberedPass) (s : ResultAt) (t : ActionKind) → IsActionOf j n a s t → ⊥
-      none a s t act =
-          let same = (one_result j n m a r s its act.its_pass there_is act.its_result).1 in
-          let w : ResultKind.Report ≡ ResultKind.Action t = sym of ∙ kind_is ∙ ap (λ (x : ResultAt). kind_of_booking x.booked.booking) same ∙ ap kind_of_booking act.booking in
-          cc w
+      none a s t act = grind (arith, one_result, there_is, kind_is)
 
 -- ---- named filters
 
@@ -243,11 +213,8 @@ module _ (j : JobView) (job : IsJob j) (f : ℕ) (covered : slice_get (covered_i
     (g : GraphView) (e : g ≡ job_graph j) (p : option_map (λ (x : FilterAt). x.sites) (slice_get (graph_filters g) f) ≡ Some path)
     (chains : List Chain) (mid new : List Step) (above own : ℕ) (led : IsLed chains up None mid above) (stepped : IsStepped (chains ++ led.more) (longer led.last site None) new own) where
   named_found : (x : FilterAt) × (slice_get (graph_filters (job_graph j)) f ≡ Some x) × (x.sites ≡ path)
-  named_found = go (slice_get (graph_filters (job_graph j)) f) refl (ap (λ (v : GraphView). option_map (λ (x : FilterAt). x.sites) (slice_get (graph_filters v) f)) (sym e) ∙ p)
-    where
-      go : (o : Option FilterAt) → slice_get (graph_filters (job_graph j)) f ≡ o → option_map (λ (x : FilterAt). x.sites) o ≡ Some path → (x : FilterAt) × (slice_get (graph_filters (job_graph j)) f ≡ Some x) × (x.sites ≡ path)
-      go None s w = cc w
-      go (Some x) s w = (x, s, some_same x.sites path w)
+  named_found =
+      of_option (λ (x : FilterAt). x.sites) (slice_get (graph_filters (job_graph j)) f) path (ap (λ (v : GraphView). option_map (λ (x : FilterAt). x.sites) (slice_get (graph_filters v) f)) (sym e) ∙ p)
 
   of_filter : (c : Chain) (rest : List ℕ) → c.under ≡ None → path ≡ c.sites ++ rest → IsTried j c
   of_filter c rest u w = inr (inr (record {
@@ -306,19 +273,13 @@ pub planned : (j : JobView) (mid last : List Step) (passes : List ℕ) (filters 
 planned j mid last passes filters h k = record {
   chains = (root ++ h.more) ++ k.more;
   steps = k.steps_of.are;
-  tried = λ i c q. elim (get_joined (root ++ h.more) k.more i c q) [
-    | inl x ↦ elim (get_joined root h.more i c x) [ inl y ↦ in_root i c y | inr y ↦ h.steps_of.tried y.0 c y.1 ]
-    | inr x ↦ k.steps_of.tried x.0 c x.1
-  ];
+  tried = λ i c q.
+      joined (root ++ h.more) k.more i c q (λ x. joined root h.more i c x (λ y. inl (sym (ap (λ (z : Chain). z.sites) (only_at _ c i y)))) (λ n e y. h.steps_of.tried n c y)) (λ n e x. k.steps_of.tried n c x);
   many_passes = h.many;
   passes = λ n l q. pass_kept j (root ++ h.more) k.more n l (h.each n l q);
   many_filters = k.many;
   filters = k.each;
 }
-  where
-    in_root : (i : ℕ) (c : Chain) → slice_get root i ≡ Some c → IsTried j c
-    in_root zero c q = let e : record { sites = []; under = None } ≡ c = cc q in inl (sym (ap (λ (x : Chain). x.sites) e))
-    in_root (suc i) c q = cc q
 
 -- ---- answers
 

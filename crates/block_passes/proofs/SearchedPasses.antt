@@ -1,16 +1,19 @@
 -- Selections that were made stay made.
-use Rattle.std.proofs.Common.{◌≡◌, ◌⊎◌, inl, inr, ℕ, ◌<◌, List, [], ◌∷◌, ◌++◌, Option, Some, sym, ◌∙◌, ap, subst, slice_get, length, zero, suc, true, refl, arith, ◌-◌, ◌+◌, ◌≤◌, None, slice_set, slice_range}
-use Rattle.std.specs.List.{AllByRecursion, list_any}
+use Rattle.std.proofs.Common.{◌≡◌, ◌⊎◌, inl, inr, ℕ, ◌<◌, List, [], ◌∷◌, ◌++◌, Option, Some, sym, ◌∙◌, ap, subst, slice_get, length, zero, suc, Bool, true, false, refl, arith, ◌-◌, ◌+◌, ◌≤◌, None, get_or, slice_set, slice_range}
+use Rattle.std.specs.List.{AllByRecursion, list_any, range_with_len}
 use Rattle.lemmas.proofs.{lt_or_last, range_length, set_at}
 use Rattle.block_cache.specs.{LaneView}
 use Rattle.loop_keys.specs.{is_covering, IsCovered, IsJob, IsReportPass, job_graph, JobView, numbered_passes, outcome_of, pass_fault, passes_in, source_at}
-use Rattle.block_passes.specs.{AreAtHand, AreRemade, Chain, fault_of, IsMadeAt, IsMadeBelow, IsNamedMade, IsPassMade, IsPassTried, IsPlan, IsPlanMade, IsReadBelow, IsSearched, IsSearchedTo, IsSelectedTo, PlanView}
+use Rattle.block_passes.specs.{AreAtHand, AreRemade, Chain, fault_of, IsMadeAt, IsMadeBelow, IsNamedMade, IsNarrowed, IsPassMade, IsPassTried, IsPlan, IsPlanMade, IsPlanOfTurn, IsReadBelow, IsReadyInTurn, IsSearched, IsSearchedTo, IsSelectedInTurn, IsSelectedTo, PlanView, turn_job}
 use Rattle.block_passes.specs.declared.found.Found.{Found}
 use Rattle.block_passes.specs.declared.kept.Kept.{Kept}
 use Rattle.block_passes.specs.declared.plan.NamedSteps.{NamedSteps}
-use Rattle.block_passes.proofs.Selecting.{set_behind, set_other}
+use Rattle.block_passes.specs.declared.steps.Step.{Step}
+use Rattle.block_passes.specs.declared.turn.Turn.{Turn}
+use Rattle.block_passes.specs.declared.turn.Work.{Work}
+use Rattle.block_passes.proofs.Selecting.{chain_at, kept_inside, narrowed_made, set_behind, set_other, set_same, was_made, was_not, whole_selected, written_selected}
 use Rattle.loop_keys.proofs.PassNumbers.{passes_count, some_same}
-use Rattle.std.proofs.lemmas.Option.{slice_get_within}
+use Rattle.std.proofs.lemmas.Option.{slice_get-get_or, slice_get_within}
 use Rattle.graph_numbers.specs.{FilterAt, graph_filters, graph_results}
 use Rattle.loop_keys.proofs.Covered.{covered_there}
 use Rattle.loop_keys.proofs.ReportTies.{contained_at, of_report}
@@ -27,10 +30,7 @@ module _ (count : ℕ) where
 
   -- one was made
   pub remade_set : (kept : List Kept) (k : ℕ) (x : Kept) (now : List Kept) → now ≡ slice_set kept k x → IsMadeBelow count x → AreRemade count kept now
-  remade_set kept k x now written made i m e = elim (set_other kept k x i m (ap (λ ks. slice_get ks i) (sym written) ∙ e)) [
-    | inl q ↦ inl q
-    | inr q ↦ inr (subst (λ (y : Kept). IsMadeBelow count y) (sym q.1) made)
-  ]
+  remade_set kept k x now written made = grind (arith, set_other)
 
   -- the first behind others was made
   pub remade_behind : (above own : List Kept) (x : Kept) (now : List Kept) → now ≡ slice_set own 0 x → IsMadeBelow count x → AreRemade count (above ++ own) (above ++ now)
@@ -49,6 +49,44 @@ module _ (count : ℕ) where
 
   pub named_stays : (plan : PlanView) (a b : List Kept) (f : ℕ) → AreRemade count a b → IsNamedMade count plan a f → IsNamedMade count plan b f
   named_stays plan a b f h made s its = let w = made s its in (made_stays a b s.above h w.0, made_stays a b s.own h w.1)
+
+-- ---- The selection of a step, as `narrow` leaves it, where the search is at a limit.
+
+module _ {V : Type 0} {D : V → Type 0} {g : _} (t : Turn V D g) (p : IsPlanOfTurn t) (w : Work) (kept : List Kept) (k : ℕ) (inside : k < length t.plan.now.steps) (ready : IsReadyInTurn t p.chains w.found.limit w.lanes.items kept) (d : Kept) where
+  there : slice_get kept k ≡ Some (get_or kept k d)
+  there = slice_get-get_or kept k d (kept_inside (turn_job t) t.first w.found.limit p.chains t.plan.now.steps kept k p.steps ready.kept_are inside)
+
+  narrowed_selected : (new : Kept) (made : ℕ) → (get_or kept k d).limit ≡ Some made → IsNarrowed w.found.limit made (get_or kept k d) new
+      → IsSelectedInTurn t p.chains k w.lanes.items (slice_set kept k new) w.found w.found × AreRemade t.count kept (slice_set kept k new)
+  narrowed_selected new made limit narrowed =
+      let chain = chain_at p.chains t.plan.now.steps k p.steps inside in
+      let m = narrowed_made (turn_job t) t.first chain.0 w.found.limit made (get_or kept k d) new limit (ready.kept_are.each k made chain.0 (get_or kept k d) chain.1 there limit) narrowed in (
+        written_selected (turn_job t) t.first t.count p.chains t.pass k chain.0 chain.1 w.lanes.items kept (slice_set kept k new) w.found ready new m.0 m.1 refl,
+        remade_set t.count kept k new (slice_set kept k new) refl (w.found.limit, m.0, ready.within),
+      )
+
+  -- one that was made below the limit
+  pub made_again : (made : ℕ) → (get_or kept k d).limit ≡ Some made → made ≤ w.found.limit → IsSelectedInTurn t p.chains k w.lanes.items kept w.found w.found
+  made_again made limit le =
+      subst (λ (ks : List Kept). IsSelectedInTurn t p.chains k w.lanes.items ks w.found w.found) (set_same kept k (get_or kept k d) there) (narrowed_selected (get_or kept k d) made limit (inl (le, refl))).0
+
+  module _ (new : Kept) (b : Bool) (none : (get_or kept k d).limit ≡ None → (b ≡ false) × (new ≡ get_or kept k d)) (some : (made : ℕ) → (get_or kept k d).limit ≡ Some made → (b ≡ true) × IsNarrowed w.found.limit made (get_or kept k d) new) where
+    -- one that was there
+    pub there_selected : b ≡ true → IsSelectedInTurn t p.chains k w.lanes.items (slice_set kept k new) w.found w.found × AreRemade t.count kept (slice_set kept k new)
+    there_selected e = let was = was_made (get_or kept k d) new w.found.limit b none some e in narrowed_selected new was.0 was.1 was.2
+
+    -- where none was, all is as before
+    pub none_there : b ≡ false → slice_set kept k new ≡ kept
+    none_there e = ap (slice_set kept k) (was_not (get_or kept k d) new w.found.limit b none some e) ∙ set_same kept k (get_or kept k d) there
+
+    -- and all places are selected
+    pub block_selected : b ≡ false → slice_get t.plan.now.steps k ≡ Some Step.Block → (all : Kept) → all.limit ≡ Some w.found.limit → all.places ≡ range_with_len 0 w.found.limit
+        → IsSelectedInTurn t p.chains k w.lanes.items (slice_set (slice_set kept k new) k all) w.found w.found × AreRemade t.count kept (slice_set (slice_set kept k new) k all)
+    block_selected e block all limit places =
+        let same = ap (λ (ks : List Kept). slice_set ks k all) (none_there e) in (
+          whole_selected (turn_job t) t.first t.count p.chains t.pass k (p.steps.each k Step.Block block) w.lanes.items kept (slice_set (slice_set kept k new) k all) w.found ready all limit places same,
+          remade_set t.count kept k all (slice_set (slice_set kept k new) k all) same (w.found.limit, limit, ready.within),
+        )
 
 -- what a pass takes stays so
 pub pass_stays : (j : JobView) (count : ℕ) (plan : PlanView) (a b : List Kept) (n : ℕ) → AreRemade count a b → IsPassMade j count plan a n → IsPassMade j count plan b n

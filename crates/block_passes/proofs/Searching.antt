@@ -1,10 +1,10 @@
 -- How the search goes on, part after part and pass after pass.
 use Rattle.std.proofs.Common.{◌≡◌, ◌⊎◌, inl, inr, ℕ, ◌+◌, ◌<◌, Option, None, Some, refl, sym, ◌∙◌, ap, subst, arith, if◌then◌else◌, Bool, true, false, ◌&&◌, List, [], ◌∷◌, ◌++◌, slice_get, zero, suc, ◌-◌, length, drop, slice_range}
-use Rattle.rdf_values.specs.{ActionKind, EntryFault, Fault, feed_fault, Pass, Value}
+use Rattle.rdf_values.specs.{ActionKind, EntryFault, Fault, Pass, Value}
 use Rattle.block_passes.specs.{Chain, fault_at, fault_of, feeding_fault, IsLast, IsSearched, Lowers, through_chain, where_passed}
 use Rattle.block_passes.specs.Searches.{IsAmid}
 use Rattle.block_passes.specs.declared.found.Found.{Found}
-use Rattle.rdf_model.specs.{◌>>=◌, Dataset, Entry, fault_in, fault_or, Faults, feed_outcome, first_fault_from, first_fault_in, first_of, for_all, Gives, is_true, Needs, Outcome, Skip, truth_of, unless_fault}
+use Rattle.rdf_model.specs.{◌>>=◌, Dataset, Entry, fault_in, fault_or, feed_outcome, first_fault_from, first_fault_in, first_of, for_all, Gives, is_true, Needs, Outcome, Skip, truth_of, unless_fault}
 use Rattle.graph_numbers.specs.{action_numbers, FilterAt, report_numbers, ResultAt, through_filter, through_sites}
 use Rattle.loop_keys.specs.{JobView, site_in}
 use Rattle.lemmas.proofs.{lt_or_last}
@@ -22,12 +22,7 @@ none_lowers part first pass s h = record { falls = omega arith; clear = h; same 
 
 pub fault_lowers : (part : ℕ → Option EntryFault) (first pass : ℕ) (s : Found) (q : ℕ) (kind : EntryFault) → q < s.limit → part q ≡ Some kind → ((p : ℕ) → p < q → part p ≡ None)
     → Lowers part first pass s (fault_at first pass q kind)
-fault_lowers part first pass s q kind lt is h = record {
-  falls = omega (arith, lt);
-  clear = h;
-  same = λ e. absurd (omega (arith, e, lt));
-  found = λ k. (kind, is, refl);
-}
+fault_lowers part first pass s q kind lt is h = grind arith
 
 -- one part after another
 module _ (a b : ℕ → Option EntryFault) (first pass : ℕ) (old mid new : Found) (h : Lowers a first pass old mid) (k : Lowers b first pass mid new) where
@@ -44,21 +39,11 @@ module _ (a b : ℕ → Option EntryFault) (first pass : ℕ) (old mid new : Fou
   ]
 
   pub both_lower : Lowers (λ p. or_else (a p) (b p)) first pass old new
-  both_lower = record {
-    falls = (let f = h.falls in let g = k.falls in omega (arith, f, g));
-    clear = both_clear;
-    same = λ e. (let f = h.falls in let g = k.falls in k.same (omega (arith, f, g, e)) ∙ h.same (omega (arith, f, g, e)));
-    found = both_found;
-  }
+  both_lower = grind (arith, both_clear, both_found)
 
 -- the same by other faults, which are alike below the limit
 pub lowers_as : (a b : ℕ → Option EntryFault) (first pass : ℕ) (old new : Found) → ((p : ℕ) → p < old.limit → a p ≡ b p) → Lowers a first pass old new → Lowers b first pass old new
-lowers_as a b first pass old new e h = record {
-  falls = h.falls;
-  clear = λ p lt. (let f = h.falls in sym (e p (omega (arith, lt, f))) ∙ h.clear p lt);
-  same = h.same;
-  found = λ lt. (let w = h.found lt in (w.0, sym (e new.limit lt) ∙ w.1, w.2));
-}
+lowers_as a b first pass old new e h = grind arith
 
 -- ---- the passes
 
@@ -94,18 +79,7 @@ module _ (fault : ℕ → ℕ → Option EntryFault) (first count : ℕ) where
 
     at_found : t.limit < s.limit → (f : Fault) → t.best ≡ Some f
         → (f.entry ≡ first + t.limit) × (t.limit < count) × (f.pass < pass + 1) × (fault t.limit f.pass ≡ Some f.kind) × ((n : ℕ) → n < f.pass → fault t.limit n ≡ None)
-    at_found lt f q =
-        let w = low.found lt in
-        let same : record { entry = first + t.limit; pass = pass; kind = w.0 } ≡ f = (let e : ◌≡◌ {A = Option Fault} (Some (record { entry = first + t.limit; pass = pass; kind = w.0 })) (Some f) = sym (ap (λ (x : Found). x.best) w.2) ∙ q in cc e) in
-        let its_pass : f.pass ≡ pass = sym (ap (λ (x : Fault). x.pass) same) in
-        let its_kind : w.0 ≡ f.kind = ap (λ (x : Fault). x.kind) same in
-        let up = h.within in (
-          sym (ap (λ (x : Fault). x.entry) same),
-          omega (arith, lt, up),
-          omega (arith, its_pass),
-          ap (fault t.limit) its_pass ∙ part_fault t.limit w.0 lt w.1 ∙ ap Some its_kind,
-          λ n k. h.clear t.limit n lt (omega (arith, k, its_pass)),
-        )
+    at_found lt f q = grind (arith, part_fault)
 
     pub part_tried : IsAmid fault rest first count pass t
     part_tried = record {
@@ -129,22 +103,15 @@ module _ (fault : ℕ → ℕ → Option EntryFault) (first count : ℕ) where
 
 -- the truth of a value is no fault
 pub truth_fault : (o : Outcome ⊥ Value) → fault_in (o >>= truth_of) ≡ fault_in o
-truth_fault (Gives (Value.Int z)) = refl
-truth_fault (Needs m) = elim m [ ]
-truth_fault o = refl
+truth_fault o = grind arith
 
 only_truth : (o : Outcome ⊥ Bool) → (o >>= λ passed. if passed then Gives true else Gives false) ≡ o
-only_truth (Gives true) = refl
-only_truth (Needs m) = elim m [ ]
-only_truth o = refl
+only_truth o = grind arith
 
 -- a choice of a choice
 chosen_twice : (o : Outcome ⊥ Bool) (a b : Outcome ⊥ Bool) (f : Bool → Outcome ⊥ Bool) → (a >>= f) ≡ b → (f false ≡ Gives false)
     → (o >>= λ passed. if passed then b else Gives false) ≡ ((o >>= λ passed. if passed then a else Gives false) >>= f)
-chosen_twice (Gives true) a b f h k = sym h
-chosen_twice (Gives false) a b f h k = sym k
-chosen_twice (Faults e) a b f h k = refl
-chosen_twice (Needs m) a b f h k = elim m [ ]
+chosen_twice o a b f h k = grind arith
 
 -- one filter more
 pub through_more : (site : ℕ → Outcome ⊥ Value) (path : List ℕ) (s : ℕ)
@@ -155,18 +122,14 @@ through_more site (t ∷ path) s =
 
 more_fault : (o : Outcome ⊥ Bool) (x : Outcome ⊥ Value)
     → fault_in (o >>= λ passed. if passed then x >>= truth_of else Gives false) ≡ or_else (fault_in o) (where_passed o (fault_in x))
-more_fault (Gives true) x = truth_fault x
-more_fault (Needs m) x = elim m [ ]
-more_fault o x = refl
+more_fault o x = grind (arith, truth_fault)
 
 pub step_fault : (site : ℕ → Outcome ⊥ Value) (path : List ℕ) (s : ℕ)
     → fault_in (through_sites site (path ++ s ∷ [])) ≡ or_else (fault_in (through_sites site path)) (where_passed (through_sites site path) (fault_in (site s)))
 step_fault site path s = ap (fault_in {A = Bool}) (through_more site path s) ∙ more_fault (through_sites site path) (site s)
 
 more_true : (o : Outcome ⊥ Bool) (x : Outcome ⊥ Value) → is_true (o >>= λ passed. if passed then x >>= truth_of else Gives false) ≡ (is_true o && is_true (x >>= truth_of))
-more_true (Gives true) x = refl
-more_true (Needs m) x = elim m [ ]
-more_true o x = refl
+more_true o x = grind arith
 
 pub step_true : (site : ℕ → Outcome ⊥ Value) (path : List ℕ) (s : ℕ) → is_true (through_sites site (path ++ s ∷ [])) ≡ (is_true (through_sites site path) && is_true (site s >>= truth_of))
 step_true site path s = ap is_true (through_more site path s) ∙ more_true (through_sites site path) (site s)
@@ -174,9 +137,7 @@ step_true site path s = ap is_true (through_more site path s) ∙ more_true (thr
 -- ---- what is read
 
 all_fault : (x : Outcome ⊥ Value) (o : Outcome ⊥ (List Value)) → fault_in (x >>= λ v. o >>= λ vs. Gives (v ∷ vs)) ≡ or_else (fault_in x) (fault_in o)
-all_fault (Gives v) (Needs m) = elim m [ ]
-all_fault (Needs m) o = elim m [ ]
-all_fault x o = refl
+all_fault x o = grind arith
 
 pub inputs_fault : (version : ℕ → Outcome ⊥ Value) (c : ℕ) (cs : List ℕ) → fault_in (for_all version (c ∷ cs)) ≡ or_else (fault_in (version c)) (fault_in (for_all version cs))
 inputs_fault version c cs = all_fault (version c) (for_all version cs)
@@ -186,22 +147,16 @@ unless_fault_is vs None = refl
 unless_fault_is vs (Some k) = refl
 
 fed_fault : (k : ActionKind) (o : Outcome ⊥ (List Value)) → fault_in (o >>= feed_outcome k) ≡ or_else (fault_in o) (feeding_fault k o)
-fed_fault k (Gives vs) = unless_fault_is vs (feed_fault k vs)
-fed_fault k (Faults e) = refl
-fed_fault k (Needs m) = elim m [ ]
+fed_fault k o = grind (arith, unless_fault_is)
 
 acted_fault : (o : Outcome ⊥ Bool) (x : Outcome ⊥ Entry) → fault_in (o >>= λ passed. if passed then x else Gives Skip) ≡ or_else (fault_in o) (where_passed o (fault_in x))
-acted_fault (Gives true) x = refl
-acted_fault (Needs m) x = elim m [ ]
-acted_fault o x = refl
+acted_fault o x = grind arith
 
 -- an action's pass: its filters, then what it reads, then whether it can be fed
 pub action_fault : (site version : ℕ → Outcome ⊥ Value) (k : ActionKind) (r : ResultAt)
     → fault_in (action_numbers site version k r)
     ≡ or_else (fault_in (through_sites site r.filters)) (where_passed (through_sites site r.filters) (or_else (fault_in (for_all version r.inputs)) (feeding_fault k (for_all version r.inputs))))
-action_fault site version k r =
-    acted_fault (through_sites site r.filters) (for_all version r.inputs >>= feed_outcome k)
-    ∙ ap (λ e. or_else (fault_in (through_sites site r.filters)) (where_passed (through_sites site r.filters) e)) (fed_fault k (for_all version r.inputs))
+action_fault site version k r = grind (arith, acted_fault, fed_fault)
 
 -- ---- reports
 
@@ -216,9 +171,7 @@ report_fault nominal filters f fs = tried_fault (through_filter nominal (slice_g
 -- ---- parts where the filters are passed
 
 pub where_split : (o : Outcome ⊥ Bool) (a b : Option EntryFault) → where_passed o (or_else a b) ≡ or_else (where_passed o a) (where_passed o b)
-where_split (Gives true) a b = refl
-where_split (Needs m) a b = elim m [ ]
-where_split o a b = refl
+where_split o a b = grind arith
 
 -- ---- the filters of a chain
 

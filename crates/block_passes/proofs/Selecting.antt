@@ -1,5 +1,5 @@
 -- A step's selection from that of the step above it.
-use Rattle.std.proofs.Common.{◌≡◌, ◌⊎◌, inl, inr, ℕ, ◌+◌, ◌≤◌, Bool, true, ◌&&◌, List, [], length, Option, None, Some, refl, sym, ◌∙◌, ap, subst, arith, nat_lt, if◌then◌else◌, zero, suc, ◌<◌, false, ◌∷◌, slice_get, get_or, ◌++◌, filter, slice_set}
+use Rattle.std.proofs.Common.{◌≡◌, ◌⊎◌, inl, inr, ℕ, ◌+◌, ◌≤◌, Bool, true, ◌&&◌, List, [], length, Option, None, Some, refl, sym, ◌∙◌, ap, subst, arith, if◌then◌else◌, zero, suc, ◌<◌, false, ◌∷◌, slice_get, get_or, ◌++◌, filter, slice_set}
 use Rattle.std.specs.List.{range_with_len}
 use Rattle.rdf_model.specs.{fault_in, is_true, Outcome}
 use Rattle.graph_numbers.specs.{through_sites}
@@ -16,7 +16,7 @@ use Rattle.block_passes.proofs.Places.{chosen_below, in_chosen, all_pass, filter
 use Rattle.block_passes.proofs.Searching.{step_fault, step_true, truth_fault, chain_through, both_lower, lowers_as, or_else, none_lowers}
 use Rattle.block_passes.proofs.Spending.{spends_filled}
 use Rattle.std.proofs.lemmas.List.{set-get_or}
-use Rattle.std.proofs.lemmas.Option.{get_or_from_slice_get, slice_get_within, slice_get-get_or}
+use Rattle.std.proofs.lemmas.Option.{get_or_from_slice_get, slice_get_read, slice_get_within, slice_get-get_or}
 use Rattle.lemmas.proofs.{kept_at, set_at, set_length}
 use Rattle.block_passes.specs.declared.steps.Step.{Step}
 use Rattle.loop_keys.proofs.PassNumbers.{some_same}
@@ -29,9 +29,7 @@ module _ (j : JobView) (first : ℕ) (up : Chain) (site : ℕ) (u : Option ℕ) 
   up_alike p = chain_through j up u alike (first + p)
 
   pub own_fault : (p : ℕ) → or_else (fault_in (through_chain j (first + p) up)) (where_passed (through_chain j (first + p) up) (fault_in (truth_in j (first + p) u site))) ≡ fault_in (through_chain j (first + p) (longer up site u))
-  own_fault p =
-      (λ i. or_else (fault_in (up_alike p i)) (where_passed (up_alike p i) (truth_fault (site_in j (first + p) u site) i)))
-      ∙ sym (step_fault (site_in j (first + p) u) up.sites site)
+  own_fault p = grind (arith, or_else, up_alike, truth_fault, step_fault)
 
   own_true : (p : ℕ) → (is_true (through_chain j (first + p) up) && is_true (truth_in j (first + p) u site)) ≡ is_true (through_chain j (first + p) (longer up site u))
   own_true p = ap (λ (o : Outcome ⊥ Bool). is_true o && is_true (truth_in j (first + p) u site)) (up_alike p) ∙ sym (step_true (site_in j (first + p) u) up.sites site)
@@ -39,9 +37,7 @@ module _ (j : JobView) (first : ℕ) (up : Chain) (site : ℕ) (u : Option ℕ) 
   module _ (count pass : ℕ) (to : Kept) (lanes : List LaneView) (f0 f1 f2 : Found) (above : Lowers (λ p. fault_in (through_chain j (first + p) up)) first pass f0 f1)
       (h : IsFilteredTo j first count u site pass (chosen j first up f1.limit) to lanes f1 f2) where
     own_part : Lowers (λ p. where_passed (through_chain j (first + p) up) (fault_in (truth_in j (first + p) u site))) first pass f1 f2
-    own_part =
-        lowers_as (where_in (λ p. fault_in (truth_in j (first + p) u site)) (chosen j first up f1.limit)) (λ p. where_passed (through_chain j (first + p) up) (fault_in (truth_in j (first + p) u site))) first pass f1 f2
-        (λ p lt. ap (λ b. if b then fault_in (truth_in j (first + p) u site) else None) (in_chosen (λ q. is_true (through_chain j (first + q) up)) p f1.limit lt)) h.lowers
+    own_part = grind (arith, lowers_as, in_chosen)
 
     -- the step's filters lower the limit
     pub step_lowers : Lowers (λ p. fault_in (through_chain j (first + p) (longer up site u))) first pass f0 f2
@@ -83,27 +79,11 @@ module _ (j : JobView) (first : ℕ) (up : Chain) (site : ℕ) (u : Option ℕ) 
 module _ (j : JobView) (first : ℕ) (c : Chain) (limit made : ℕ) where
   -- a selection that is there, narrowed
   pub narrowed_made : (old new : Kept) → old.limit ≡ Some made → IsMade j first c limit made old.places → IsNarrowed limit made old new → (new.limit ≡ Some limit) × IsMade j first c limit limit new.places
-  narrowed_made old new l h (inl n) =
-      let le = n.0 in
-      let under = h.under in
-      let same : made ≡ limit = omega (arith, le, under) in (
-        ap (λ (k : Kept). k.limit) n.1 ∙ l ∙ ap Some same,
-        record { under = omega arith; is = ap (λ (k : Kept). k.places) n.1 ∙ h.is ∙ ap (chosen j first c) same; clear = h.clear },
-      )
-  narrowed_made old new l h (inr n) = (
-    n.1,
-    record {
-      under = omega arith;
-      is = n.2 ∙ ap (filter (λ p. nat_lt p limit)) h.is ∙ narrowed (λ p. is_true (through_chain j (first + p) c)) limit made h.under;
-      clear = h.clear;
-    },
-  )
+  narrowed_made old new l h k = grind (arith, narrowed)
 
 -- all places are selected
 pub whole_made : (j : JobView) (first limit : ℕ) (c : Chain) (places : List ℕ) → c ≡ record { sites = []; under = None } → places ≡ range_with_len 0 limit → IsMade j first c limit limit places
-whole_made j first limit c places e is =
-    subst (λ (x : Chain). IsMade j first x limit limit places) (sym e)
-    (record { under = omega arith; is = is ∙ all_pass limit 0; clear = λ p lt. refl })
+whole_made j first limit c places e is = grind (arith, all_pass)
 
 -- where the limit falls, those made before are as right
 pub kept_lower : (j : JobView) (first : ℕ) (chains : List Chain) (limit lower : ℕ) (kept : List Kept) → lower ≤ limit → AreKept j first chains limit kept → AreKept j first chains lower kept
@@ -152,13 +132,6 @@ module _ (j : JobView) (first count : ℕ) (chains : List Chain) (pass k : ℕ) 
           let same : s.limit ≡ m = some_same s.limit m (sym limit ∙ ap (λ (z : Kept). z.limit) (sym r.1) ∙ l) in
           subst (λ (a : Chain). IsMade j first a s.limit m y.places) chain
           (subst (λ (n : ℕ). IsMade j first c s.limit n y.places) same (subst (λ (z : Kept). IsMade j first c s.limit s.limit z.places) (sym r.1) made))
-
--- one that was there, narrowed
-pub narrowed_selected : (j : JobView) (first count : ℕ) (chains : List Chain) (pass k : ℕ) (c : Chain) → slice_get chains k ≡ Some c → (lanes : List LaneView) (kept now : List Kept) (s : Found) → IsReadyBelow j first count chains s.limit lanes kept
-    → (old new : Kept) (made : ℕ) → slice_get kept k ≡ Some old → old.limit ≡ Some made → IsNarrowed s.limit made old new → now ≡ slice_set kept k new → IsSelectedTo j first count chains pass k lanes now s s
-narrowed_selected j first count chains pass k c its lanes kept now s ready old new made there limit narrowed written =
-    let w = narrowed_made j first c s.limit made old new limit (ready.kept_are.each k made c old its there limit) narrowed in
-    written_selected j first count chains pass k c its lanes kept now s ready new w.0 w.1 written
 
 -- all places
 pub whole_selected : (j : JobView) (first count : ℕ) (chains : List Chain) (pass k : ℕ) → slice_get chains k ≡ Some (record { sites = []; under = None }) → (lanes : List LaneView) (kept now : List Kept) (s : Found) → IsReadyBelow j first count chains s.limit lanes kept
@@ -219,8 +192,8 @@ set_behind (x ∷ xs) ys y = ap (λ l. x ∷ l) (set_behind xs ys y)
 -- ---- the step
 
 module _ (j : JobView) (job : IsJob j) (first count pass : ℕ) (plan : PlanView) (p : IsPlan j plan) (k parent site : ℕ) (u : Option ℕ) (its : slice_get plan.steps k ≡ Some (Step.Filter parent site u))
-    (within : first + count ≤ length j.dataset.rows) (above own : List Kept) (from : Kept) (here : slice_get above parent ≡ Some from) (many : length above ≡ k)
-    (before : List LaneView) (f1 : Found) (ready : IsReadyBelow j first count p.chains f1.limit before (above ++ own)) (made : from.limit ≡ Some f1.limit) where
+    (within : first + count ≤ length j.dataset.rows) (above own : List Kept) (many : length above ≡ k) (before : List LaneView) (f1 : Found) (ready : IsReadyBelow j first count p.chains f1.limit before (above ++ own))
+    (limits : (x : Kept) → slice_get (above ++ own) parent ≡ Some x → x.limit ≡ Some f1.limit) (from : Kept) (read : from ≡ get_or above parent from) where
   abbrev s : IsFilterStep p.chains k parent site u
   s = p.steps.each k (Step.Filter parent site u) its
 
@@ -228,8 +201,11 @@ module _ (j : JobView) (job : IsJob j) (first count pass : ℕ) (plan : PlanView
   tried = p.tried k (longer s.up site u) s.own
 
   -- the selection of the parent
+  here : slice_get (above ++ own) parent ≡ Some from
+  here = kept_at above own parent from (slice_get_read above (length above) parent from refl (let b = s.before in omega (arith, b, many)) read)
+
   from_is : from.places ≡ chosen j first s.up f1.limit
-  from_is = (ready.kept_are.each parent f1.limit s.up from s.its_up (kept_at above own parent from here) made).is
+  from_is = (ready.kept_are.each parent f1.limit s.up from s.its_up here (limits from here)).is
 
   pub from_inside : EachPlace from.places (λ q. q < f1.limit)
   from_inside q i = chosen_below (λ n. is_true (through_chain j (first + n) s.up)) q f1.limit (sym (ap (is_in q) from_is) ∙ i)
@@ -250,7 +226,7 @@ module _ (j : JobView) (job : IsJob j) (first count pass : ℕ) (plan : PlanView
     own_made : IsMade j first (longer s.up site u) f2.limit f2.limit to.places
     own_made =
         step_made j first s.up site u s.alike count pass to after f1 f1 f2
-        (none_lowers (λ q. fault_in (through_chain j (first + q) s.up)) first pass f1 (ready.kept_are.each parent f1.limit s.up from s.its_up (kept_at above own parent from here) made).clear)
+        (none_lowers (λ q. fault_in (through_chain j (first + q) s.up)) first pass f1 (ready.kept_are.each parent f1.limit s.up from s.its_up here (limits from here)).clear)
         done
 
     falls : f2.limit ≤ f1.limit
@@ -273,11 +249,7 @@ module _ (j : JobView) (job : IsJob j) (first count pass : ℕ) (plan : PlanView
 
 -- a selection of places of a block
 pub selected : (count : ℕ) (sel : List ℕ) (limit n : ℕ) → count ≤ MAX_PLACES → limit ≤ count → EachPlace sel (λ p. p < limit) → n ≡ length sel → n ≤ MAX_PLACES → IsSelected count sel []
-selected count sel limit n small le inside many few = record {
-  small = small;
-  inside = λ p i. (let l = inside p i in omega (arith, l, le));
-  room = omega (arith, many, few);
-}
+selected count sel limit n small le h many few = grind (arith, inside)
 
 module _ (j : JobView) (first count : ℕ) (u : Option ℕ) (s pass : ℕ) (sel left : List ℕ) (before after : List LaneView) (start end : ℕ) (old new : Found) (fault : Option PlaceFault)
     (spent : IsSpentOver j first u s sel before after start end) (passed : IsPassedOver j first u count s sel left after fault)

@@ -1,26 +1,30 @@
 -- Filling what a pass reads lowers the limit at its first fault.
-use Rattle.std.proofs.Common.{◌≡◌, ℕ, ◌+◌, ◌<◌, ◌≤◌, Bool, true, false, ◌&&◌, List, Option, None, Some, sym, ◌∙◌, ap, subst, arith, nat_lt, refl, slice_get, if◌then◌else◌, ◌⊎◌, inl, inr, ℤ, get_or, option_map, Result, [], length, pos, ◌∷◌, filter, nat_abs, slice_index_or}
+use Rattle.std.proofs.Common.{◌≡◌, ℕ, ◌+◌, ◌<◌, ◌≤◌, Bool, true, false, ◌&&◌, List, Option, None, Some, sym, ◌∙◌, ap, subst, arith, nat_lt, refl, slice_get, if◌then◌else◌, ◌⊎◌, inl, inr, ℤ, get_or, option_map, Result, [], length, pos, ◌∷◌, filter, suc, drop, drop-cons, length-drop}
 use Rattle.std.specs.List.{AllByRecursion}
 use Rattle.std.proofs.lemmas.Bool.Decides.{Decides-ltb}
+use Rattle.std.proofs.lemmas.List.{nil_from_length}
 use Rattle.rdf_model.specs.{◌>>=◌, fault_in, Faults, Gives, Needs, Outcome, tag_element, with_needs}
 use Rattle.graph_numbers.specs.{cell_value, graph_sites, HasInputs, HasSourceIn, IfGiven, IsSiteExpr, Source}
 use Rattle.expr_lanes.specs.{AreRising, at_place, EachPlace, is_in}
 use Rattle.block_cache.specs.{AreReady, AreSiteKinds, below_fault, cells_at, fault_over, held_value, holds_at, is_held, IsFilledTo, IsSettled, IsSpentOver, kinds_of, lane_holds, LaneView, PlaceFault, site_fault, value_for, value_of}
 use Rattle.loop_keys.specs.{ArePlainVersions, HasAllDemands, Held, held_element, held_in, is_held as is_known, IsRight, IsSourceIn, job_graph, JobView, key, key_count, row_of, site_in, source_at, version_in}
 use Rattle.rdf_values.specs.{ColType, Column, EntryFault, kind_at, Value}
-use Rattle.block_passes.specs.{AreAtHand, CanServe, DemandsInputs, DemandsSource, element_fault, inputs_fault, IsAtHand, IsNumberOf, IsServedTo, IsSettledAt, Lowers, noted, source_fault, where_in}
+use Rattle.block_passes.specs.{AreAtHand, DemandsInputs, DemandsSource, element_fault, inputs_fault, inputs_fault_in_turn, IsAtHand, IsKnown, IsNumberOf, IsSelected, IsServedInTurn, IsServedTo, IsSettledAt, Leaves, Lowers, noted, source_fault, source_fault_in_turn, source_in_turn, turn_job, where_in}
 use Rattle.block_passes.specs.Spends.{Spends}
 use Rattle.block_passes.specs.declared.found.Found.{Found}
 use Rattle.block_passes.specs.declared.kept.Kept.{Kept}
+use Rattle.block_passes.specs.declared.turn.Turn.{Turn}
+use Rattle.block_passes.specs.declared.turn.Work.{Work}
 use Rattle.block_passes.proofs.Places.{left_below, over_lowers, selected_or_none, filter_twice}
 use Rattle.block_passes.proofs.Searching.{none_lowers, both_lower, lowers_as, or_else, inputs_fault as all_fault}
-use Rattle.block_passes.proofs.Spending.{settled_outside, spends_filled}
+use Rattle.block_passes.proofs.Spending.{leaves_then, settled_outside, spends_filled, spends_none, spends_then}
 use Rattle.lemmas.proofs.{and_false, and_true, lt_says, same_some, something_at}
 use Rattle.block_cache.proofs.LaneSteps.{filter_all}
 use Rattle.std.proofs.lemmas.Option.{slice_get-get_or, slice_get_read}
 use Rattle.rdf_model.proofs.Missing.{alike_is, tag_alike}
 use Rattle.expr_eval.specs.{Input, input_outcome}
 use Rattle.loop_keys.proofs.KeyLaws.{key_small}
+use Rattle.graph_numbers.proofs.Listed.{by_test}
 use Rattle.block_cache.proofs.BlockLaws.{held_of_lane, lane_held, right_value, value_told}
 use Rattle.block_cache.proofs.CanTries.{got_kind}
 use Rattle.block_cache.proofs.OverLaws.{held_true}
@@ -43,11 +47,10 @@ module _ (f : ℕ → Option EntryFault) (j : JobView) (first count : ℕ) (u : 
   lowered = subst (λ (x : Found). Lowers (where_in f sel) first pass old x) (sym now) (over_lowers f sel first pass old fault rising inside is)
 
   settled_at : (p : ℕ) → p < new.limit → IsSettledAt after p
-  settled_at p lt = go (is_in p sel) refl
-    where
-      go : (b : Bool) → is_in p sel ≡ b → IsSettledAt after p
-      go true i = all_settled p (ap (is_in p) below_is ∙ in_filter (λ q. nat_lt q new.limit) p sel ∙ ap (λ b. b && nat_lt p new.limit) i ∙ (Decides-ltb p new.limit).1 lt)
-      go false i = let l = lowered.falls in settled_outside j first count u s sel before after start end spent p i (known p (omega (arith, lt, l)))
+  settled_at p lt =
+      by_test (is_in p sel)
+      (λ i. all_settled p (ap (is_in p) below_is ∙ in_filter (λ q. nat_lt q new.limit) p sel ∙ ap (λ b. b && nat_lt p new.limit) i ∙ (Decides-ltb p new.limit).1 lt))
+      (λ i. (let l = lowered.falls in settled_outside j first count u s sel before after start end spent p i (known p (omega (arith, lt, l)))))
 
   pub filled_over : (below_fault fault sel ≡ filter (λ p. nat_lt p new.limit) sel) × Lowers (where_in f sel) first pass old new × ((p : ℕ) → p < new.limit → IsSettledAt after p)
   filled_over = (below_is, lowered, settled_at)
@@ -107,16 +110,10 @@ module _ (j : JobView) (first count : ℕ) (part : ℕ → Option EntryFault) (p
 module _ (j : JobView) (first count : ℕ) (a b : ℕ → Option EntryFault) (pass : ℕ) (sel : List ℕ) (mid to : Kept) (between lanes : List LaneView) (f0 f1 f2 : Found)
     (h : IsServedTo j first count a pass sel mid between f0 f1) (k : IsServedTo j first count b pass mid.places to lanes f1 f2) where
   same_below : (p : ℕ) → p < f1.limit → where_in b mid.places p ≡ where_in b sel p
-  same_below p lt =
-      ap (λ c. if c then b p else None)
-      (ap (is_in p) h.left ∙ in_filter (λ q. nat_lt q f1.limit) p sel ∙ ap (λ c. is_in p sel && c) ((Decides-ltb p f1.limit).1 lt) ∙ and_true (is_in p sel))
+  same_below p lt = grind (arith, in_filter, Decides-ltb, and_true)
 
   below : (x : ℕ) → (nat_lt x f1.limit && nat_lt x f2.limit) ≡ nat_lt x f2.limit
-  below x = go (nat_lt x f2.limit) refl
-    where
-      go : (c : Bool) → nat_lt x f2.limit ≡ c → (nat_lt x f1.limit && c) ≡ c
-      go true q = and_true (nat_lt x f1.limit) ∙ (let l = (Decides-ltb x f2.limit).0 q in let f = k.lowers.falls in (Decides-ltb x f1.limit).1 (omega (arith, l, f)))
-      go false q = and_false (nat_lt x f1.limit)
+  below x = grind (arith, by_test, and_true, Decides-ltb, and_false)
 
   -- both are a part, which faults where one of them does
   pub served_then : (part : ℕ → Option EntryFault) → ((p : ℕ) → or_else (a p) (b p) ≡ part p) → IsServedTo j first count part pass sel to lanes f0 f2
@@ -142,18 +139,18 @@ tag_told : (tags n : ℕ) (v : Value) → tag_element {M = ℕ} tags n v ≡ wit
 tag_told tags n v = alike_is _ _ (tag_alike ⊥ ℕ [] [] [] tags n v)
 
 given_back : (o : Outcome ⊥ Value) (v : Value) → with_needs {M = ℕ} o ≡ Gives v → o ≡ Gives v
-given_back (Gives a) v e = let i : a ≡ v = cc e in ap Gives i
-given_back (Faults k) v e = cc e
-given_back (Needs m) v e = elim m [ ]
+given_back o v e = grind arith
 
 pub given_none : (o : Outcome ⊥ Value) → fault_in o ≡ None → (v : Value) × (o ≡ Gives v)
-given_none (Gives v) h = (v, refl)
-given_none (Faults k) h = cc h
-given_none (Needs m) h = elim m [ ]
+given_none o h = grind arith
 
 pub known_held : (h : Held) (n tags : ℕ) (v : Value) → held_element 0 h n tags ≡ Gives v → is_known h ≡ true
 known_held Held.Nothing n tags v e = cc e
 known_held h n tags v e = refl
+
+-- a site has a lane
+pub lane_there : (j : JobView) (first count : ℕ) (u : Option ℕ) (s : ℕ) → s < length (graph_sites (job_graph j)) → (lanes : List LaneView) → AreReady j first count lanes → (l : LaneView) × (slice_get lanes (key (job_graph j) s u) ≡ Some l)
+lane_there j first count u s inside lanes ready = something_at lanes (key (job_graph j) s u) (let small = key_small (job_graph j) s u inside in let many = ready.many in omega (arith, small, many))
 
 -- a value that an input tells
 vect_told : (i : Input) (w : Value) → input_outcome 0 i ≡ Gives w → (zs : _) → i ≡ Input.Vect zs → w ≡ Value.Vect zs.now
@@ -200,11 +197,7 @@ module _ (j : JobView) (first count : ℕ) (u : Option ℕ) (s : ℕ) (inside : 
       tells vectors = input_given ∙ ap (λ t. Gives (value_for t l.vectors (at_place l.numbers p))) (same_some (sym (got_kind lanes k l at) ∙ vectors))
 
       pub vect_only : slice_get (kinds_of lanes) k ≡ Some ColType.Vect → ((x : ℤ) × (i ≡ Input.Int x)) ⊎ (((x : Bool) × (i ≡ Input.Bool x)) ⊎ (((x : EntryFault) × (i ≡ Input.Faulted x)) ⊎ (i ≡ Input.Missing))) → ⊥
-      vect_only vectors (inl x) =
-          let f : ◌≡◌ {A = Outcome ℕ Value} (Gives (Value.Int x.0)) (Gives (Value.Vect (slice_index_or l.vectors (nat_abs (at_place l.numbers p)) []))) = sym (ap (input_outcome 0) x.1) ∙ tells vectors in cc f
-      vect_only vectors (inr (inl x)) =
-          let f : ◌≡◌ {A = Outcome ℕ Value} (Gives (Value.Bool x.0)) (Gives (Value.Vect (slice_index_or l.vectors (nat_abs (at_place l.numbers p)) []))) = sym (ap (input_outcome 0) x.1) ∙ tells vectors in cc f
-      vect_only vectors (inr (inr other)) = never_stops other
+      vect_only vectors h = grind (arith, tells, never_stops)
 
       -- what has no elements has 0 for each
       pub scalar_input : (tags n : ℕ) → ((x : ℤ) × (i ≡ Input.Int x)) ⊎ ((x : Bool) × (i ≡ Input.Bool x)) → (site_in {M = ⊥} j (first + p) u s >>= tag_element tags n) ≡ Gives (Value.Int (pos 0))
@@ -212,11 +205,7 @@ module _ (j : JobView) (first count : ℕ) (u : Option ℕ) (s : ℕ) (inside : 
       scalar_input tags n (inr x) = input_other tags n (Value.Bool x.0) (ap (input_outcome 0) x.1) refl
 
   held_site : holds_at lanes k p ≡ true → (w : Value) × (cell ≡ held_value w) × (site_in {M = ⊥} j (first + p) u s ≡ Gives w)
-  held_site holds = go (slice_get lanes k) refl
-    where
-      go : (o : Option LaneView) → slice_get lanes k ≡ o → (w : Value) × (cell ≡ held_value w) × (site_in {M = ⊥} j (first + p) u s ≡ Gives w)
-      go None e = let f : lane_holds None p ≡ true = ap (λ o. lane_holds o p) (sym e) ∙ holds in cc f
-      go (Some l) e = (value_of l p, cell_is l e holds, lane_gives l e holds)
+  held_site holds = let l = lane_there j first count u s inside lanes ready in (value_of l.0 p, cell_is l.0 l.1 holds, lane_gives l.0 l.1 holds)
 
   -- ---- its elements
 
@@ -233,12 +222,7 @@ module _ (j : JobView) (first count : ℕ) (u : Option ℕ) (s : ℕ) (inside : 
     hand_holds h = sym (holds_is (key_count (job_graph j)) lanes k p) ∙ known_held cell n tags h.0 h.1
 
     pub hand_value : IsAtHand j lanes u p (Source.Element s n tags) → (v : Value) × ((site_in {M = ⊥} j (first + p) u s >>= tag_element tags n) ≡ Gives v)
-    hand_value h =
-        let w = held_site (hand_holds h) in (
-          h.0,
-          ap (λ (o : Outcome ⊥ Value). o >>= tag_element tags n) w.2
-              ∙ given_back (tag_element tags n w.0) h.0 (sym (tag_told tags n w.0) ∙ sym (ap (λ (o : Outcome ℕ Value). o >>= tag_element tags n) (value_told 0 w.0)) ∙ sym (ap (λ (x : Held). held_element 0 x n tags) w.1) ∙ h.1),
-        )
+    hand_value h = grind (arith, held_site, hand_holds, given_back, tag_told, value_told)
 
 -- the number of an element
 pub number_of : (o : Outcome ⊥ Value) (tags n : ℕ) (zs : List ℤ) (r : Result ℤ EntryFault) → o ≡ Gives (Value.Vect zs) → IsNumberOf (tag_element {M = ⊥} tags n (Value.Vect zs)) r → IsNumberOf (o >>= tag_element tags n) r
@@ -249,10 +233,6 @@ no_number o k v e = let f : ◌≡◌ {A = Outcome ⊥ Value} (Gives v.0) (Fault
 
 pub fault_is : (o : Outcome ⊥ Value) (k : EntryFault) → o ≡ Faults k → fault_in o ≡ Some k
 fault_is o k e = ap fault_in e
-
--- a site has a lane
-pub lane_there : (j : JobView) (first count : ℕ) (u : Option ℕ) (s : ℕ) → s < length (graph_sites (job_graph j)) → (lanes : List LaneView) → AreReady j first count lanes → (l : LaneView) × (slice_get lanes (key (job_graph j) s u) ≡ Some l)
-lane_there j first count u s inside lanes ready = something_at lanes (key (job_graph j) s u) (let small = key_small (job_graph j) s u inside in let many = ready.many in omega (arith, small, many))
 
 pub lane_of_kind : (j : JobView) (first count : ℕ) (u : Option ℕ) (s : ℕ) → s < length (graph_sites (job_graph j)) → (lanes : List LaneView) → AreReady j first count lanes → (e : CheckedExpr) → IsSiteExpr (job_graph j) s e → AreSiteKinds (job_graph j) (kinds_of lanes)
     → slice_get (kinds_of lanes) (key (job_graph j) s u) ≡ Some e.kind
@@ -297,20 +277,14 @@ module _ (j : JobView) (first count : ℕ) (u : Option ℕ) (s n tags pass : ℕ
 pub still_at_hand : (j : JobView) (first count : ℕ) (before after : List LaneView) (start end : ℕ) → Spends j first count before after start end → (u : Option ℕ) (p : ℕ) (x : Source) → IsAtHand j before u p x → IsAtHand j after u p x
 still_at_hand j first count before after start end spends u p (Source.Cell col) h = tt
 still_at_hand j first count before after start end spends u p (Source.Site s) h = holds_on (key_count (job_graph j)) before after (key (job_graph j) s u) p (spends.grows p) h
-still_at_hand j first count before after start end spends u p (Source.Element s k tags) h =
-    let cell = held_in (cells_at (key_count (job_graph j)) before p) (key (job_graph j) s u) in (
-      h.0,
-      ap (λ (x : Held). held_element 0 x k tags) (spends.grows p (key (job_graph j) s u) (known_held cell k tags h.0 h.1)) ∙ h.1,
-    )
+still_at_hand j first count before after start end spends u p (Source.Element s k tags) h = grind (arith, known_held)
 
 of_set : (D : ℕ → Bool) (x : Source) → HasSourceIn (λ s. D s ≡ true) x → IsSourceIn D x
 of_set D (Source.Cell col) h = tt
 of_set D x h = h
 
 none_given : (o : Outcome ⊥ Value) (X : Type 0) → fault_in o ≡ None → IfGiven o X → X
-none_given (Gives v) X h x = x
-none_given (Faults k) X h x = cc h
-none_given (Needs m) X h x = elim m [ ]
+none_given o X h x = grind arith
 
 -- none are read
 pub none_clear : (j : JobView) (first : ℕ) (u : Option ℕ) (inputs : List ℕ) → inputs ≡ [] → (sel : List ℕ) → EachPlace sel (λ p. inputs_fault j first u inputs p ≡ None)
@@ -318,18 +292,6 @@ none_clear j first u inputs e sel p i = ap (λ l. inputs_fault j first u l p) e
 
 pub none_held : (j : JobView) (lanes : List LaneView) (u : Option ℕ) (inputs : List ℕ) → inputs ≡ [] → (sel : List ℕ) → EachPlace sel (AreAtHand j lanes u inputs)
 none_held j lanes u inputs e sel p i = subst (λ (l : List ℕ). AreAtHand j lanes u l p) (sym e) tt
-
--- one version is read, which is at hand
-module _ (j : JobView) (u : Option ℕ) (inputs cs : List ℕ) (c : ℕ) (e : inputs ≡ c ∷ cs) (none : cs ≡ []) where
-  alone : inputs ≡ c ∷ []
-  alone = e ∙ ap (λ l. c ∷ l) none
-
-  pub one_held : (lanes : List LaneView) (sel : List ℕ) → EachPlace sel (λ p. IsAtHand j lanes u p (source_at j u c)) → EachPlace sel (AreAtHand j lanes u inputs)
-  one_held lanes sel h p i = subst (λ (l : List ℕ). AreAtHand j lanes u l p) (sym alone) (h p i, tt)
-
-  pub one_clear : (first : ℕ) (sel : List ℕ) → EachPlace sel (λ p. source_fault j first u (source_at j u c) p ≡ None) → EachPlace sel (λ p. inputs_fault j first u inputs p ≡ None)
-  one_clear first sel h p i =
-      ap (λ l. inputs_fault j first u l p) alone ∙ all_fault (version_in j (first + p) u) c [] ∙ ap (λ o. or_else o (inputs_fault j first u [] p)) (h p i)
 
 -- the first of versions without vectors
 pub first_plain : (used : ℕ → Bool) (j : JobView) (u : Option ℕ) (inputs cs : List ℕ) (c : ℕ) → inputs ≡ c ∷ cs → ArePlainVersions j used u inputs → IsSourceIn used (source_at j u c)
@@ -341,15 +303,8 @@ module _ (j : JobView) (first : ℕ) (u : Option ℕ) (inputs cs : List ℕ) (c 
   pub first_can : (P : ℕ → Type 0) → AllByRecursion P inputs → P c
   first_can P h = (subst (λ (l : List ℕ). AllByRecursion P l) e h).0
 
-  pub rest_can : (count : ℕ) (kinds more : List ColType) (cells : List (List ℤ)) (scratch levels scratch2 levels2 : ℕ) → more ≡ kinds → scratch2 ≡ scratch → levels2 ≡ levels
-      → AllByRecursion (CanServe j first u count kinds cells scratch levels) inputs → AllByRecursion (CanServe j first u count more cells scratch2 levels2) cs
-  rest_can count kinds more cells scratch levels scratch2 levels2 same_kinds same_scratch same_levels h =
-      rw (same_kinds, same_scratch, same_levels) (subst (λ (l : List ℕ). AllByRecursion (CanServe j first u count kinds cells scratch levels) l) e h).1
-
   pub first_demanded : (entry : ℕ) (T : ℕ → Bool) → DemandsInputs j entry u T inputs → DemandsSource j entry u T (source_at j u c)
-  first_demanded entry T d =
-      let w = subst (λ (l : List ℕ). DemandsInputs j entry u T l) e d in
-      (w.0, w.1, of_set w.0 (source_at j u c) w.2.0)
+  first_demanded entry T d = grind (arith, of_set)
 
   -- ---- one after another
 
@@ -375,3 +330,68 @@ module _ (j : JobView) (first : ℕ) (u : Option ℕ) (inputs cs : List ℕ) (c 
           let was = served_among j first count (inputs_fault j first u cs) pass mid.places to lanes f1 f2 k p i in
           subst (λ (l : List ℕ). AreAtHand j lanes u l p) (sym e)
           (still_at_hand j first count between lanes start end spends u p (source_at j u c) (one p was), rest p i)
+
+-- so many of the versions were served at the places of a selection: what is left of it, and what follows where the others are served there
+pub record AreServedTo {V : Type 0} {D : V → Type 0} {g : _} (t : Turn V D g) (u : Option ℕ) (inputs sel : List ℕ) (old : Work) (start n : ℕ) (w : Work) (to : Kept) (steps : ℕ) : Type 0 where
+  pub leaves : Leaves t old w start steps
+  pub known : IsKnown t w
+  pub selected : IsSelected w.found.limit to
+  pub demanded : (p : ℕ) (T : ℕ → Bool) → is_in p to.places ≡ true → HasAllDemands (turn_job t) (t.first + p) T → DemandsInputs (turn_job t) (t.first + p) u T (drop n inputs)
+  pub served : (last : Kept) (lanes : List LaneView) (f : Found) → IsServedInTurn t (inputs_fault_in_turn t u (drop n inputs)) to.places last lanes w.found f → IsServedInTurn t (inputs_fault_in_turn t u inputs) sel last lanes old.found f
+  pub held : (last : Kept) (lanes : List LaneView) (f : Found) → IsServedInTurn t (inputs_fault_in_turn t u (drop n inputs)) to.places last lanes w.found f → (end : ℕ) → Spends (turn_job t) t.first t.count w.lanes.items lanes steps end
+      → EachPlace last.places (AreAtHand (turn_job t) lanes u (drop n inputs)) → EachPlace last.places (AreAtHand (turn_job t) lanes u inputs)
+
+module _ {V : Type 0} {D : V → Type 0} {g : _} (t : Turn V D g) (u : Option ℕ) (inputs : List ℕ) where
+  pub begin_served : (w : Work) (to : Kept) (steps : ℕ) → IsKnown t w → IsSelected w.found.limit to
+      → ((p : ℕ) (T : ℕ → Bool) → is_in p to.places ≡ true → HasAllDemands (turn_job t) (t.first + p) T → DemandsInputs (turn_job t) (t.first + p) u T inputs) → AreServedTo t u inputs to.places w steps 0 w to steps
+  begin_served w to steps known selected demanded = record {
+    leaves = record { spends = spends_none (turn_job t) t.first t.count w.lanes.items steps; scratch = refl; levels = refl };
+    known = known;
+    selected = selected;
+    demanded = demanded;
+    served = λ last lanes f k. k;
+    held = λ last lanes f k end spends h. h;
+  }
+
+  module _ (sel : List ℕ) (old : Work) (start n : ℕ) (w : Work) (to : Kept) (steps : ℕ) (h : AreServedTo t u inputs sel old start n w to steps) where
+    -- the next one is served
+    pub next_served : n < length inputs → (now : Work) (left : Kept) (after : ℕ) → Leaves t w now steps after → IsServedInTurn t (source_fault_in_turn t u (get_or inputs n 0)) to.places left now.lanes.items w.found now.found
+        → EachPlace left.places (λ p. IsAtHand (turn_job t) now.lanes.items u p (source_in_turn t u (get_or inputs n 0))) → AreServedTo t u inputs sel old start (n + 1) now left after
+    next_served low now left after l s one =
+        let j = turn_job t in
+        let c = get_or inputs n 0 in
+        let m : suc n ≡ n + 1 = omega arith in
+        let e : drop n inputs ≡ c ∷ drop (n + 1) inputs = drop-cons inputs n 0 low ∙ ap (λ k. c ∷ drop k inputs) m in
+        let falls = s.lowers.falls in
+        let le = h.known.limit in
+        let both : (last : Kept) (lanes : List LaneView) (f : Found) → IsServedInTurn t (inputs_fault_in_turn t u (drop (n + 1) inputs)) left.places last lanes now.found f → IsServedInTurn t (inputs_fault_in_turn t u (drop n inputs)) to.places last lanes w.found f =
+        λ last lanes f k. inputs_served j t.first u (drop n inputs) (drop (n + 1) inputs) c e t.count t.pass to.places left w.lanes.items now.lanes.items w.found now.found s last lanes f k in
+        record {
+          leaves = leaves_then t old w now start steps after h.leaves l;
+          known = record { turn = h.known.turn; ready = s.ready; limit = omega (arith, falls, le); settled = s.settled };
+          selected = record { made = s.its_limit; inside = served_inside j t.first t.count (source_fault_in_turn t u c) t.pass to.places left now.lanes.items w.found now.found s };
+          demanded = rest_demanded j t.first u (drop n inputs) (drop (n + 1) inputs) c e t.count t.pass to.places left w.lanes.items now.lanes.items w.found now.found s h.demanded;
+          served = λ last lanes f k. h.served last lanes f (both last lanes f k);
+          held = λ last lanes f k end spends rest.
+              h.held last lanes f (both last lanes f k) end (spends_then j t.first t.count w.lanes.items now.lanes.items lanes steps after end l.spends spends)
+              (inputs_held j t.first u (drop n inputs) (drop (n + 1) inputs) c e t.count t.pass to.places left w.lanes.items now.lanes.items w.found now.found s last lanes f k after end spends one rest);
+        }
+
+    -- which is at hand
+    pub hand_served : n < length inputs → EachPlace to.places (λ p. source_fault_in_turn t u (get_or inputs n 0) p ≡ None) → EachPlace to.places (λ p. IsAtHand (turn_job t) w.lanes.items u p (source_in_turn t u (get_or inputs n 0)))
+        → AreServedTo t u inputs sel old start (n + 1) w to steps
+    hand_served low clear hand =
+        next_served low w to steps (record { spends = spends_none (turn_job t) t.first t.count w.lanes.items steps; scratch = refl; levels = refl })
+        (none_served (turn_job t) t.first t.count (source_fault_in_turn t u (get_or inputs n 0)) t.pass to w.lanes.items w.found h.known.ready h.selected.made h.selected.inside h.known.settled clear) hand
+
+    pub next_demanded : n < length inputs → (p : ℕ) (T : ℕ → Bool) → is_in p to.places ≡ true → HasAllDemands (turn_job t) (t.first + p) T → DemandsSource (turn_job t) (t.first + p) u T (source_in_turn t u (get_or inputs n 0))
+    next_demanded low p T i all = first_demanded (turn_job t) t.first u (drop n inputs) (drop (suc n) inputs) (get_or inputs n 0) (drop-cons inputs n 0 low) (t.first + p) T (h.demanded p T i all)
+
+    -- none is left
+    pub all_served : length inputs ≤ n → IsServedInTurn t (inputs_fault_in_turn t u inputs) sel to w.lanes.items old.found w.found × EachPlace to.places (AreAtHand (turn_job t) w.lanes.items u inputs)
+    all_served le =
+        let j = turn_job t in
+        let e : drop n inputs ≡ [] = nil_from_length (drop n inputs) (let l = length-drop n inputs in omega (arith, l, le)) in
+        let none =
+        none_served j t.first t.count (inputs_fault_in_turn t u (drop n inputs)) t.pass to w.lanes.items w.found h.known.ready h.selected.made h.selected.inside h.known.settled (none_clear j t.first u (drop n inputs) e to.places) in
+        (h.served to w.lanes.items w.found none, h.held to w.lanes.items w.found none steps (spends_none j t.first t.count w.lanes.items steps) (none_held j w.lanes.items u (drop n inputs) e to.places))

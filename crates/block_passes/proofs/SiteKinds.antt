@@ -1,11 +1,11 @@
 -- The sites of filters come to truth values.
-use Rattle.std.proofs.Common.{◌≡◌, ◌⊎◌, inl, inr, ℕ, zero, suc, ◌+◌, Bool, true, false, List, [], ◌∷◌, ◌++◌, map, length, All, Option, Some, None, Result, Ok, Err, refl, sym, ◌∙◌, ap, subst, arith, nat_eq, option_map, slice_get, if◌then◌else◌, ◌<◌, ◌≤◌, length-append, replicate, IsOk, count_by}
+use Rattle.std.proofs.Common.{◌≡◌, ◌⊎◌, inl, inr, ℕ, zero, suc, ◌+◌, Bool, false, List, [], ◌∷◌, ◌++◌, map, length, All, Option, Some, None, Result, Ok, Err, refl, sym, ◌∙◌, ap, subst, arith, nat_eq, option_map, slice_get, if◌then◌else◌, ◌<◌, ◌≤◌, length-append, replicate, IsOk, count_by}
 use Rattle.std.specs.List.{AllByRecursion}
 use Rattle.std.proofs.lemmas.Bool.Decides.{Decides-eqb}
 use Rattle.std.proofs.lemmas.List.{append-nil, length-replicate, get_or-replicate}
 use Rattle.std.proofs.lemmas.List.Elements.{recursion_from_All}
 use Rattle.lemmas.proofs.{kept_at, something_at}
-use Rattle.rdf_values.specs.{ActionAt, AreAccepted, callee, check_node, check_vector_column, ColType, Column, column_kind, columns_in, columns_of, covered, expect_kind, fn_names, FunctionNames, GraphCause, history, kind_by, kind_of, makes, NamedTree, NumTree, parent_of, path, refuse_unless, renamed, ReportOn, scope_at, scope_of, shape_of, Statement, Under, VaryValues}
+use Rattle.rdf_values.specs.{AreAccepted, callee, check_node, check_vector_column, ColType, Column, column_kind, columns_in, expect_kind, fn_names, FunctionNames, GraphCause, history, kind_by, kind_of, makes, NamedTree, NumTree, parent_of, refuse_unless, renamed, scope_at, scope_of, shape_of, Statement, Under, VaryValues}
 use Rattle.rdf_values.specs.declared.statement.Statement.TheVariants.{Action, Filter, Report, Vary}
 use Rattle.rdf_model.specs.{own_place, Site, site_at}
 use Rattle.rdf_model.proofs.Accepted.{both_none, kind_expected, checked_of}
@@ -13,11 +13,12 @@ use Rattle.expr_check.specs.{callee_shape, CheckedExpr, distinct, IsWellTyped, n
 use Rattle.expr_check.proofs.Callees.{callee_shape-callee}
 use Rattle.expr_check.proofs.Distinct.{each_from_distinct}
 use Rattle.expr_check.proofs.Typed.{columns_known, kind_by-renamed, kind_by-same}
-use Rattle.graph_numbers.specs.{cell_sources, covered_at, depends_on, filter_sites, FilterAt, filters, graph_kinds, graph_sites, graph_under, graph_variations, GraphView, holds_at, IsSiteExpr, named_version, own_filter_site, own_filters, own_results, own_sites, own_source, own_sources, ResultAt, results, site_count, site_depends_at, site_in, SiteAt, sites, Source, source_in, sources, varied_sources, version_at, version_kinds}
+use Rattle.graph_numbers.specs.{cell_sources, depends_on, filter_sites, FilterAt, filters, graph_kinds, graph_sites, graph_variations, GraphView, holds_at, IsSiteExpr, named_version, own_filter_site, own_sites, own_source, own_sources, ResultAt, results, site_count, site_depends_at, site_in, SiteAt, sites, Source, source_in, sources, varied_sources, version_at, version_kinds}
 use Rattle.graph_numbers.proofs.Extending.{further, itself}
-use Rattle.graph_numbers.proofs.Listed.{next_at, of_joined}
+use Rattle.graph_numbers.proofs.Listed.{by_test, next_at, of_joined}
 use Rattle.graph_numbers.proofs.Placing.{IsPlaced}
 use Rattle.graph_numbers.proofs.VersionKinds.{kind_later, visible_kind}
+use Rattle.graph_numbers.proofs.Walks.{each_filter, each_result}
 use Rattle.loop_keys.specs.{IsJob, job_graph, JobView, key, keys_before, own_keys, slot, slot_at, source_at}
 use Rattle.loop_keys.proofs.EvaluateLaws.{accepted_of}
 use Rattle.block_passes.specs.{Chain, HaveKinds, IsTried}
@@ -44,11 +45,10 @@ module _ (all : List ColType) where
 
   listed_more : (k : ℕ × ColType) (ks : List (ℕ × ColType)) → slice_get all k.0 ≡ Some k.1 → (vs : List ℕ) → AllByRecursion (IsListed ks) vs → AllByRecursion (IsListed (k ∷ ks)) vs
   listed_more k ks h [] each = tt
-  listed_more k ks h (v ∷ vs) each = (go (nat_eq k.0 v) refl, listed_more k ks h vs each.1)
-    where
-      go : (b : Bool) → nat_eq k.0 v ≡ b → (if b then Ok k.1 else number_kind ks v) ≡ known (slice_get all v)
-      go true e = let i : k.0 ≡ v = (Decides-eqb k.0 v).0 e in ap known (sym h ∙ ap (slice_get all) i)
-      go false e = each.0
+  listed_more k ks h (v ∷ vs) each = (
+    by_test (nat_eq k.0 v) (λ e. (let i : k.0 ≡ v = (Decides-eqb k.0 v).0 e in rw e (ap known (sym h ∙ ap (slice_get all) i)))) (λ e. rw e each.0),
+    listed_more k ks h vs each.1,
+  )
 
   listed : (ks : List (ℕ × ColType)) → AllByRecursion (λ (k : ℕ × ColType). slice_get all k.0 ≡ Some k.1) ks → AllByRecursion (IsListed ks) (map (λ (c : ℕ × ColType). c.0) ks)
   listed [] h = tt
@@ -152,55 +152,27 @@ module _ (header : List Column) (names : FunctionNames) where
   -- a statement's own filter, and those above it
   with_own : (before : List Statement) (s : Statement) (ss : List ℕ) → AreAccepted names (scope_of header) (s ∷ before) → AllByRecursion (IsFilterSite before) ss
       → AllByRecursion (IsFilterSite (s ∷ before)) (ss ++ own_filter_site s (site_count header names before))
-  with_own before (Filter node parent expr label) ss good h =
-      one_more (IsFilterSite (Filter node parent expr label ∷ before)) ss (site_count header names before) (further_sites before (Filter node parent expr label) ss h) (filter_own before node parent expr label good)
+  with_own before (Filter node parent expr label) ss good h = grind (arith, one_more, further_sites, filter_own)
   with_own before s ss good h = subst (λ (l : List ℕ). AllByRecursion (IsFilterSite (s ∷ before)) l) (sym (append-nil ss)) (further_sites before s ss h)
 
   pub path_filters : (before : List Statement) → AreAccepted names (scope_of header) before → (node : List ℕ) → AllByRecursion (IsFilterSite before) (filter_sites header names before node)
   path_filters [] good node = tt
-  path_filters (s ∷ before) good node = go (makes s node) (path_filters before good.1 (parent_of s)) (path_filters before good.1 node)
-    where
-      go : (b : Bool) → AllByRecursion (IsFilterSite before) (filter_sites header names before (parent_of s)) → AllByRecursion (IsFilterSite before) (filter_sites header names before node)
-          → AllByRecursion (IsFilterSite (s ∷ before)) (if b then filter_sites header names before (parent_of s) ++ own_filter_site s (site_count header names before) else filter_sites header names before node)
-      go true h k = with_own before s (filter_sites header names before (parent_of s)) good h
-      go false h k = further_sites before s (filter_sites header names before node) k
+  path_filters (s ∷ before) good node =
+      by_test (makes s node) (λ e. rw e (with_own before s (filter_sites header names before (parent_of s)) good (path_filters before good.1 (parent_of s))))
+      (λ e. rw e (further_sites before s (filter_sites header names before node) (path_filters before good.1 node)))
 
   -- of a named filter, with those above it
   pub named_filters : (before : List Statement) → AreAccepted names (scope_of header) before → (n : ℕ) (f : FilterAt) → slice_get (filters header names before) n ≡ Some f → AllByRecursion (IsFilterSite before) f.sites
-  named_filters [] good n f h = cc h
-  named_filters (s ∷ before) good n f h = elim (of_joined (filters header names before) (own_filters header names before s) n f h) [
-    | inl q ↦ further_sites before s f.sites (named_filters before good.1 n f q)
-    | inr q ↦ own s q.0 good q.2
-  ]
-    where
-      own : (s : Statement) (k : ℕ) → AreAccepted names (scope_of header) (s ∷ before) → slice_get (own_filters header names before s) k ≡ Some f → AllByRecursion (IsFilterSite (s ∷ before)) f.sites
-      own (Filter node parent expr (Some label)) zero ok q =
-          let x : FilterAt = record { label = label; at = Filter node parent expr (Some label) ∷ path before parent; sites = filter_sites header names before parent ++ site_count header names before ∷ [] } in
-          let is : x ≡ f = cc q in
-          subst (λ (y : FilterAt). AllByRecursion (IsFilterSite (Filter node parent expr (Some label) ∷ before)) y.sites) is
-          (with_own before (Filter node parent expr (Some label)) (filter_sites header names before parent) ok (path_filters before ok.1 parent))
-      own s k ok q = cc q
+  named_filters before good n f h =
+      each_filter header names (λ upto f. AreAccepted names (scope_of header) upto → AllByRecursion (IsFilterSite upto) f.sites) (λ upto s f next ok. further_sites upto s f.sites (next ok.1))
+      (λ upto node parent expr label ok. with_own upto (Filter node parent expr (Some label)) (filter_sites header names upto parent) ok (path_filters upto ok.1 parent)) before n f h good
 
   -- of a result
   pub result_filters : (before : List Statement) → AreAccepted names (scope_of header) before → (n : ℕ) (r : ResultAt) → slice_get (results header names before) n ≡ Some r → AllByRecursion (IsFilterSite before) r.filters
-  result_filters [] good n r h = cc h
-  result_filters (s ∷ before) good n r h = elim (of_joined (results header names before) (own_results header names before s) n r h) [
-    | inl q ↦ further_sites before s r.filters (result_filters before good.1 n r q)
-    | inr q ↦ own s q.0 good q.2
-  ]
-    where
-      own : (s : Statement) (k : ℕ) → AreAccepted names (scope_of header) (s ∷ before) → slice_get (own_results header names before s) k ≡ Some r → AllByRecursion (IsFilterSite (s ∷ before)) r.filters
-      own (Action result parent kind) zero ok q =
-          let x : ResultAt = record { booked = record { name = result; booking = ActionAt kind (path before parent) }; filters = filter_sites header names before parent; inputs = map (version_at header before parent) (columns_of kind); covers = [] } in
-          let is : x ≡ r = cc q in
-          subst (λ (y : ResultAt). AllByRecursion (IsFilterSite (Action result parent kind ∷ before)) y.filters) is
-          (further_sites before (Action result parent kind) (filter_sites header names before parent) (path_filters before ok.1 parent))
-      own (Report result parent) zero ok q =
-          let x : ResultAt = record { booked = record { name = result; booking = ReportOn (covered before (path before parent)) }; filters = filter_sites header names before parent; inputs = []; covers = covered_at before parent } in
-          let is : x ≡ r = cc q in
-          subst (λ (y : ResultAt). AllByRecursion (IsFilterSite (Report result parent ∷ before)) y.filters) is
-          (further_sites before (Report result parent) (filter_sites header names before parent) (path_filters before ok.1 parent))
-      own s k ok q = cc q
+  result_filters before good n r h =
+      each_result header names (λ upto r. AreAccepted names (scope_of header) upto → AllByRecursion (IsFilterSite upto) r.filters) (λ upto s r next ok. further_sites upto s r.filters (next ok.1))
+      (λ upto result parent k ok. further_sites upto (Action result parent k) (filter_sites header names upto parent) (path_filters upto ok.1 parent))
+      (λ upto result parent ok. further_sites upto (Report result parent) (filter_sites header names upto parent) (path_filters upto ok.1 parent)) before n r h good
 
 -- the kind of such a site of a job's graph
 pub kind_of_site : (j : JobView) (t : ColType) (s : ℕ) → IsSiteOf j.dataset.columns (fn_names j.dataset.fns) t (history j.script) s → (e : CheckedExpr) → IsSiteExpr (job_graph j) s e → e.kind ≡ t
@@ -216,12 +188,7 @@ module _ (j : JobView) (job : IsJob j) (c : Chain) (up : List ℕ) (s : ℕ) (e 
 
   -- the last filter of a chain that is tried
   filter_site : IsTried j c → IsTruth s
-  filter_site (inl q) = absurd (not_empty up s (sym e ∙ q))
-  filter_site (inr (inl p)) =
-      in_list j job c up s e IsTruth p.result.filters p.begins.rest p.begins.begins
-      (result_filters j.dataset.columns (fn_names j.dataset.fns) (history j.script) (accepted_of j job) p.numbered.result p.result p.action.its_result)
-  filter_site (inr (inr f)) =
-      in_list j job c up s e IsTruth f.named.sites f.begins.rest f.begins.begins (named_filters j.dataset.columns (fn_names j.dataset.fns) (history j.script) (accepted_of j job) f.filter f.named f.its_filter)
+  filter_site h = grind (arith, not_empty, in_list, result_filters, accepted_of, named_filters)
 
   -- comes to truth values
   pub filter_kind : IsTried j c → (x : CheckedExpr) → IsSiteExpr (job_graph j) s x → x.kind ≡ ColType.Bool
@@ -297,11 +264,7 @@ module _ (header : List Column) (names : FunctionNames) where
 
 -- the site of an element that gives a version its value is one of vectors
 pub element_kind : (j : JobView) → IsJob j → (u : Option ℕ) (c t k tags : ℕ) → source_at j u c ≡ Source.Element t k tags → (e : CheckedExpr) → IsSiteExpr (job_graph j) t e → e.kind ≡ ColType.Vect
-element_kind j job u c t k tags is e its =
-    let h =
-    of_elements j.dataset.columns (fn_names j.dataset.fns) (graph_under (job_graph j) u) (history j.script) (accepted_of j job) c t k tags
-    (of_some (sources j.dataset.columns (fn_names j.dataset.fns) (graph_under (job_graph j) u) (history j.script)) c t k tags is) in
-    kind_of_site j ColType.Vect t h e its
+element_kind j job u c t k tags is e its = grind (arith, of_elements, accepted_of, of_some, kind_of_site)
 
 -- ---- The kinds of keys, site by site.
 

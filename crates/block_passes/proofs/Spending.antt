@@ -1,5 +1,5 @@
 -- What filling sites spends.
-use Rattle.std.proofs.Common.{◌≡◌, ◌⊎◌, inl, inr, ℕ, ◌+◌, ◌<◌, ◌≤◌, Bool, true, false, List, Option, refl, sym, ◌∙◌, ap, arith, subst}
+use Rattle.std.proofs.Common.{◌≡◌, ◌⊎◌, inl, inr, ℕ, ◌+◌, ◌<◌, Bool, true, false, List, Option, refl, sym, ◌∙◌, ap, arith}
 use Rattle.block_cache.specs.{begun_at, cells_at, IsSpentOver, LaneView}
 use Rattle.loop_keys.specs.{HasAllDemands, IsClosed, job_graph, job_of, JobView, key, key_count}
 use Rattle.expr_lanes.specs.{EachPlace, is_in}
@@ -14,14 +14,7 @@ use Rattle.loop_keys.proofs.FillLaws.{grows_on}
 -- ---- one after another
 
 pub spends_none : (j : JobView) (first count : ℕ) (lanes : List LaneView) (n : ℕ) → Spends j first count lanes lanes n n
-spends_none j first count lanes n = record {
-  kinds = refl;
-  rooms = refl;
-  stays = λ k p h. h;
-  grows = λ p k h. refl;
-  only = λ T all k p h. inl h;
-  cost = omega arith;
-}
+spends_none j first count lanes n = grind arith
 
 pub spends_then : (j : JobView) (first count : ℕ) (a b c : List LaneView) (l m n : ℕ) → Spends j first count a b l m → Spends j first count b c m n → Spends j first count a c l n
 spends_then j first count a b c l m n h k = record {
@@ -90,8 +83,4 @@ leaves_then t a b c l m n h k = record {
 
 -- what evaluates nothing leaves it so
 pub leaves_kept : {V : Type 0} {D : V → Type 0} {g : _} (t : Turn V D g) (a b c : Work) (m n : ℕ) → Leaves t a b m n → c.lanes.items ≡ b.lanes.items → KeepsRoom b c → Leaves t a c m n
-leaves_kept t a b c m n h same room = record {
-  spends = subst (λ (ls : List LaneView). Spends (job_of t.job.now) t.first t.count a.lanes.items ls m n) (sym same) h.spends;
-  scratch = room.scratch ∙ h.scratch;
-  levels = room.levels ∙ h.levels;
-}
+leaves_kept t a b c m n h same room = grind arith

@@ -2,8 +2,8 @@
 use Rattle.std.proofs.Common.{◌≡◌, ℕ, ◌+◌, ◌<◌, ◌≤◌, ℤ, Bool, true, false, List, [], ◌∷◌, length, Option, None, Some, refl, sym, ◌∙◌, ap, subst, arith, slice_get, nat_lt, if◌then◌else◌, nat_eq, slice_set, filter}
 use Rattle.std.specs.List.{AllByRecursion, list_any}
 use Rattle.std.proofs.lemmas.Option.{slice_get_within}
-use Rattle.rdf_values.specs.{ActionAt, ActionKind, ColType, EntryFault, ReportOn}
-use Rattle.rdf_model.specs.{fault_in, Gives, is_true, Needs, Outcome}
+use Rattle.rdf_values.specs.{ActionKind, ColType, EntryFault}
+use Rattle.rdf_model.specs.{fault_in, is_true, Outcome}
 use Rattle.graph_numbers.specs.{booking_numbers, FilterAt, graph_filters, graph_results, IfPassed, Pass as NumberedPass, ResultAt, through_filter, through_sites}
 use Rattle.expr_lanes.specs.{EachPlace, is_in}
 use Rattle.block_cache.specs.{LaneView}
@@ -26,9 +26,7 @@ use Rattle.block_passes.specs.declared.plan.NamedSteps.{NamedSteps}
 use Rattle.block_passes.proofs.PlanSteps.{covered_is, one_result}
 
 if_passed : (o : Outcome ⊥ Bool) (X : Type 0) → is_true o ≡ true → IfPassed o X → X
-if_passed (Gives true) X h x = x
-if_passed (Needs m) X h x = elim m [ ]
-if_passed o X h x = cc h
+if_passed o X h x = grind arith
 
 or_else_twice : (a b c : Option EntryFault) → or_else (or_else a b) c ≡ or_else a (or_else b c)
 or_else_twice None b c = refl
@@ -147,9 +145,7 @@ module _ (j : JobView) (job : IsJob j) (first count pass : ℕ) (plan : PlanView
             (λ q lt. ap (λ b. if b then inputs_fault j first u inputs q else None) (ap (is_in q) made.is ∙ in_chosen passes_at q f1.limit lt)) s.lowers
 
         fed_part : Lowers (λ q. where_passed (through_chain j (first + q) is_last.chain) (unfed j first k inputs u q)) first pass f2 f3
-        fed_part =
-            lowers_as (where_in (unfed j first k inputs u) to2.places) (λ q. where_passed (through_chain j (first + q) is_last.chain) (unfed j first k inputs u q)) first pass f2 f3
-            (λ q lt. ap (λ b. if b then unfed j first k inputs u q else None) (ap (is_in q) is_second ∙ in_chosen passes_at q f2.limit lt)) t.lowers
+        fed_part = grind (arith, lowers_as, is_second, in_chosen)
 
         all_lower : Lowers (λ q. pass_fault j (first + q) pass) first pass f0 f3
         all_lower =
@@ -170,16 +166,7 @@ module _ (j : JobView) (job : IsJob j) (first count pass : ℕ) (plan : PlanView
         base = record { ready = t.ready; settled = t.settled; kept_are = kept_lower j first p.chains f1.limit f3.limit kept lower h.ready.kept_are; within = (let a = lower in let b = h.ready.within in omega (arith, a, b)) }
 
         all_read : IsReadBelow j first lanes2 f3.limit pass
-        all_read m2 r2 k2 of2 q lt passed =
-            let falls = t.lowers.falls in
-            let below : q < f2.limit = omega (arith, lt, falls) in
-            let e = one_result j pass m m2 r r2 own.action.its_pass of2.its_pass own.action.its_result of2.its_result in
-            let passed_own : is_true (through_sites (site_in {M = ⊥} j (first + q) m.variation) r.filters) ≡ true = (λ i. is_true (through_sites (site_in {M = ⊥} j (first + q) (e.0 i).variation) (e.1 i).filters)) ∙ passed in
-            let inside : is_in q to2.places ≡ true = ap (is_in q) is_second ∙ in_chosen passes_at q f2.limit below ∙ ap is_true (through_is (first + q)) ∙ passed_own in
-            subst (λ (n : NumberedPass). AreAtHand j lanes2 n.variation r2.inputs q) e.0
-            (subst (λ (x : ResultAt). AreAtHand j lanes2 m.variation x.inputs q) e.1
-            (subst (λ (v : Option ℕ). AreAtHand j lanes2 v r.inputs q) (sym own.its_under)
-            (subst (λ (cs : List ℕ). AreAtHand j lanes2 u cs q) (sym own.inputs_are) (held q inside))))
+        all_read = grind (arith, one_result, is_second, in_chosen, through_is)
 
         pub action_tried : (now : List Kept) → now ≡ slice_set kept last to3 → IsPassTried j first count p.chains pass lanes2 now f0 f3
         action_tried now e = record {
@@ -264,16 +251,11 @@ filters_tried j first count chains pass filters fs f e lanes after kept now a b 
 
 -- its pass is not an action's
 pub no_action : (j : JobView) (pass own : ℕ) (rep : IsReportPass j pass own) (m : NumberedPass) (r : ResultAt) (k : ActionKind) → IsActionOf j pass m r k → ⊥
-no_action j pass own rep m r k of =
-    let same = (one_result j pass rep.numbered m rep.result r rep.its_pass of.its_pass (ap (slice_get (graph_results (job_graph j))) rep.its_result ∙ rep.there_is) of.its_result).1 in
-    let bad : ReportOn rep.filters ≡ ActionAt k of.at = sym rep.report ∙ ap (λ (x : ResultAt). x.booked.booking) same ∙ of.booking in
-    cc bad
+no_action j pass own rep m r k of = grind (arith, one_result)
 
 -- it is one report's
 pub same_report : (j : JobView) (pass own other : ℕ) (rep : IsReportPass j pass own) (rep2 : IsReportPass j pass other) → rep.result ≡ rep2.result
-same_report j pass own other rep rep2 =
-    let found = slice_get (graph_results (job_graph j)) in
-    (one_result j pass rep.numbered rep2.numbered rep.result rep2.result rep.its_pass rep2.its_pass (ap found rep.its_result ∙ rep.there_is) (ap found rep2.its_result ∙ rep2.there_is)).1
+same_report j pass own other rep rep2 = grind (arith, one_result)
 
 -- its pass was tried
 pub report_tried : (j : JobView) (job : IsJob j) (first count : ℕ) (chains : List Chain) (pass own : ℕ) (rep : IsReportPass j pass own) (ns : List ℕ) → rep.result.covers ≡ ns → first + count ≤ length j.dataset.rows

@@ -12,7 +12,7 @@ ghost use Rattle.loop_keys.specs.{ArePlain, job_graph, key as key_of, row_of, si
 ghost use Rattle.graph_numbers.specs.declared.source.Source.TheVariants as source;
 ghost use Rattle.block_passes.specs.{AreCopiedInTurn, AreHeldInTurn, ArePlainInTurn, AreWholeInTurn, CanServeWith, GivesNumber, GivesVector, HasVector, IsAtHand, IsCopyInTurn, IsOver, IsPlainSource, IsTurn, IsWhole, source_in_turn, turn_job};
 
-use crate::elements::{SiteElement, element_at};
+use crate::elements::{SiteElement, element_at, place_at};
 use crate::inputs::source_under;
 use crate::turn::{ActionRead, Turn};
 use block_cache::Lane;
@@ -123,9 +123,8 @@ fn copy_vectors(
     ensures { IfOk result (λ v. EachPlace selection.now (λ p. GivesVector v.elements.items v.spans.items p (site_in {M = ⊥} (turn_job at.now) (at.now.first + p) under site))) }
 {
     let mut vectors = CopiedVectors::new(at.plan.alloc(), at.count)?;
-    let places = selection.as_slice();
-    for i in 0..places.len() {
-        let place = places[i];
+    for i in 0..selection.len() {
+        let place = place_at(selection, i);
         vectors.put(place, site_vector(at, lanes, site, under, place))?;
     }
     Ok(vectors)
@@ -167,9 +166,8 @@ fn copy_elements(
     ensures { IfOk result (λ v. EachPlace selection.now (λ p. GivesNumber v.items p (source_value {M = ⊥} (row_of (turn_job at.now) (at.now.first + p)) (site_in (turn_job at.now) (at.now.first + p) of.now.under) (source.Element of.now.site of.now.nth of.now.tags)))) }
 {
     let mut numbers = vec![in at.plan.alloc(); 0; at.count as usize]?;
-    let places = selection.as_slice();
-    for i in 0..places.len() {
-        let place = places[i];
+    for i in 0..selection.len() {
+        let place = place_at(selection, i);
         write_number(&mut numbers, place, given_at(at, lanes, of, place));
     }
     Ok(numbers)

@@ -1,10 +1,10 @@
 // The elements of a site's vector that are the values of a Vary.
-ghost use Rattle.std.specs.Prelude.{◌≡◌, ◌<◌, ◌+◌, length, true, Some};
+ghost use Rattle.std.specs.Prelude.{◌≡◌, ◌<◌, ◌+◌, length, slice_index_or, true, Some};
 ghost use Rattle.rdf_values.specs.declared.value.Value.TheVariants as val;
 ghost use Rattle.rdf_model.specs.{tag_element};
 ghost use Rattle.graph_numbers.specs.{graph_sites, source_value};
 ghost use Rattle.graph_numbers.specs.declared.source.Source.TheVariants as source;
-ghost use Rattle.expr_lanes.specs.{EachPlace};
+ghost use Rattle.expr_lanes.specs.{EachPlace, is_in};
 ghost use Rattle.loop_keys.specs.{job_graph, key as key_of, row_of, site_in};
 ghost use Rattle.block_cache.specs.{fault_over, holds_at};
 ghost use Rattle.block_passes.specs.{element_fault_in_turn, IsKnown, IsNumberOf, IsOver, IsSelected, IsServedInTurn, KeepsRoom, turn_job};
@@ -67,6 +67,16 @@ pub(crate) fn element_at(
     }
 }
 
+/// The place of that number among those that are selected.
+#[tactic(auto, using(expr_lanes::proofs::Selected::is_in_at))]
+pub(crate) fn place_at(selection: &Selection, nth: usize) -> u32
+    requires { nth < length selection.now }
+    ensures among { is_in result selection.now ≡ true }
+    ensures value { result ≡ slice_index_or selection.now nth 0 }
+{
+    selection.as_slice()[nth]
+}
+
 /// The first of the selected places at which there isn't an element for each tag.
 fn first_without(
     at: &Turn<'_>,
@@ -80,9 +90,8 @@ fn first_without(
     requires held { EachPlace selection.now (λ p. holds_at lanes.now (key_of (job_graph (turn_job at.now)) of.now.site of.now.under) p ≡ true) }
     ensures { result ≡ fault_over (element_fault_in_turn at.now of.now) selection.now }
 {
-    let places = selection.as_slice();
-    for i in 0..places.len() {
-        let place = places[i];
+    for i in 0..selection.len() {
+        let place = place_at(selection, i);
         match element_at(at, lanes, of, place) {
             Ok(_) => {}
             Err(kind) => return Some(PlaceFault { place, kind }),

@@ -60,30 +60,6 @@ fn is_at_hand(
     }
 }
 
-/// Whether all versions that are read are seen to be so. It is asked only where there is one at most, as most actions read.
-#[inline(always)]
-fn are_at_hand(
-    at: &Turn<'_>,
-    lanes: &[Lane],
-    selection: &Selection,
-    inputs: &[u32],
-    under: Option<u32>,
-) -> bool
-    requires over { IsOver at.now lanes.now }
-    requires can { (scratch levels : ℕ) × AllByRecursion (CanServeWith at.now under lanes.now scratch levels) inputs.now }
-    requires inside { EachPlace selection.now (λ p. p < at.now.count) }
-    ensures held { result ≡ true → EachPlace selection.now (AreAtHand (turn_job at.now) lanes.now under inputs.now) }
-    ensures clear { result ≡ true → EachPlace selection.now (λ p. inputs_fault_in_turn at.now under inputs.now p ≡ None) }
-{
-    let Some((version, rest)) = inputs.split_first() else {
-        return true;
-    };
-    if !rest.is_empty() {
-        return false;
-    }
-    is_at_hand(at, lanes, selection, *version, under)
-}
-
 /// Fills a site at the places of a selection, up to the first at which it faults, which lowers the limit; the places below it are left.
 #[inline(never)]
 fn serve_site<L: Ledger>(
@@ -168,6 +144,7 @@ fn serve_element<L: Ledger>(
 }
 
 /// Fills what gives a version its value, likewise.
+#[inline(never)]
 fn serve_version<L: Ledger>(
     at: &Turn<'_>,
     work: &mut Work,
@@ -186,9 +163,6 @@ fn serve_version<L: Ledger>(
     ensures held { OnOk result (EachPlace to.new.places (λ p. IsAtHand (turn_job at.now) work.new.lanes.items under p (source_in_turn at.now under version))) }
     ensures plain { (used : ℕ → Bool) → ArePlain (turn_job at.now) used → IsSourceIn used (source_in_turn at.now under version) → OnErr result ⊥ }
 {
-    if is_at_hand(at, &work.lanes, &to.places, version, under) {
-        return Ok(());
-    }
     match source_under(at, version, under) {
         Source::Cell { .. } => Ok(()),
         Source::Site { site } => serve_site(at, work, to, site, under, steps),
@@ -204,36 +178,7 @@ fn serve_version<L: Ledger>(
     }
 }
 
-/// Fills what gives these versions their values, one after another.
-fn serve_each<L: Ledger>(
-    at: &Turn<'_>,
-    work: &mut Work,
-    to: &mut Kept,
-    inputs: &[u32],
-    under: Option<u32>,
-    steps: &mut Steps<L>,
-) -> Result<(), Memory>
-    requires known { IsKnown at.now work.old }
-    requires can { AllByRecursion (CanServeInTurn at.now under work.old) inputs.now }
-    requires selected { IsSelected work.old.found.limit to.old }
-    requires demanded { (p : ℕ) (T : ℕ → Bool) → is_in p to.old.places ≡ true → HasAllDemands (turn_job at.now) (at.now.first + p) T
-        → DemandsInputs (turn_job at.now) (at.now.first + p) under T inputs.now }
-    ensures leaves { Leaves at.now work.old work.new steps.old steps.new }
-    ensures served { OnOk result (IsServedInTurn at.now (inputs_fault_in_turn at.now under inputs.now) to.old.places to.new work.new.lanes.items work.old.found work.new.found) }
-    ensures held { OnOk result (EachPlace to.new.places (AreAtHand (turn_job at.now) work.new.lanes.items under inputs.now)) }
-    ensures plain { (used : ℕ → Bool) → ArePlain (turn_job at.now) used → ArePlainVersions (turn_job at.now) used under inputs.now → OnErr result ⊥ }
-{
-    let Some((version, rest)) = inputs.split_first() else {
-        return Ok(());
-    };
-    match serve_version(at, work, to, *version, under, steps) {
-        Ok(()) if rest.is_empty() => Ok(()),
-        Ok(()) => serve_each(at, work, to, rest, under, steps),
-        Err(Memory) => Err(Memory),
-    }
-}
-
-/// Fills what gives these versions their values, likewise: nearly always they are at hand.
+/// Fills what gives these versions their values, one after another: nearly always they are at hand.
 #[inline(always)]
 pub(crate) fn serve_inputs<L: Ledger>(
     at: &Turn<'_>,
@@ -253,8 +198,11 @@ pub(crate) fn serve_inputs<L: Ledger>(
     ensures held { OnOk result (EachPlace to.new.places (AreAtHand (turn_job at.now) work.new.lanes.items under inputs.now)) }
     ensures plain { (used : ℕ → Bool) → ArePlain (turn_job at.now) used → ArePlainVersions (turn_job at.now) used under inputs.now → OnErr result ⊥ }
 {
-    if are_at_hand(at, &work.lanes, &to.places, inputs, under) {
-        return Ok(());
+    for version in inputs {
+        if is_at_hand(at, &work.lanes, &to.places, *version, under) {
+            continue;
+        }
+        serve_version(at, work, to, *version, under, steps)?;
     }
-    serve_each(at, work, to, inputs, under, steps)
+    Ok(())
 }

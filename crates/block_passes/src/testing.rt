@@ -84,6 +84,30 @@ fn first_unfed(
     Ok(placed(batch.first_fault()))
 }
 
+/// Tests likewise what an action of several columns reads.
+#[inline(never)]
+fn test_several(
+    at: &Turn<'_>,
+    work: &mut Work,
+    to: &mut Kept,
+    own: &ActionRead<'_>,
+) -> Result<(), Memory>
+    requires known { IsKnown at.now work.old }
+    requires can { CanGatherInTurn at.now own.now work.old.lanes.items }
+    requires selected { IsSelected work.old.found.limit to.old }
+    requires hand { EachPlace to.old.places (AreHeldInTurn at.now own.now work.old.lanes.items) }
+    ensures tested { OnOk result (IsServedInTurn at.now (unfed_in_turn at.now own.now) to.old.places to.new work.old.lanes.items work.old.found work.new.found) }
+    ensures lanes { work.new.lanes.items ≡ work.old.lanes.items }
+    ensures room { KeepsRoom work.old work.new }
+    ensures plain { (used : ℕ → Bool) → ArePlain (turn_job at.now) used → ArePlainInTurn at.now own.now used → OnErr result ⊥ }
+{
+    let _rising = to.places.as_slice();
+    let fault = first_unfed(at, &work.lanes, &to.places, own)?;
+    work.found.note(at.first, at.pass, fault);
+    let _made = to.narrow(work.found.limit);
+    Ok(())
+}
+
 /// Tests whether an action can be fed what it reads at the selected places, where all of that is at hand: the first at which it can't
 /// lowers the limit, below which the places are left.
 pub(crate) fn test_feeding(
@@ -101,13 +125,9 @@ pub(crate) fn test_feeding(
     ensures room { KeepsRoom work.old work.new }
     ensures plain { (used : ℕ → Bool) → ArePlain (turn_job at.now) used → ArePlainInTurn at.now own.now used → OnErr result ⊥ }
 {
-    let _rising = to.places.as_slice();
     // A single value that is there can be fed.
     if own.inputs.len() < 2 {
         return Ok(());
     }
-    let fault = first_unfed(at, &work.lanes, &to.places, own)?;
-    work.found.note(at.first, at.pass, fault);
-    let _made = to.narrow(work.found.limit);
-    Ok(())
+    test_several(at, work, to, own)
 }

@@ -1,17 +1,13 @@
-use Rattle.std.proofs.Common.{arith}
 use Rattle.loop_keys.specs.{job_of}
 use Rattle.block_passes.specs.{element_fault}
-use Rattle.block_passes.proofs.Places.{fault_selected}
+use Rattle.block_passes.proofs.Places.{fault_few}
 use Rattle.block_passes.proofs.Fed.{part_served}
 use Rattle.block_passes.proofs.elements.test_elements.Goals as goal
 
 pub note-requires : goal.note-requires
-note-requires g c = λ x q.
-    let i = fault_selected (element_fault (job_of c.args.at.now.job.now) c.args.at.now.first c.args.of.now.under c.args.of.now.site c.args.of.now.nth c.args.of.now.tags) c.args.to.now.places c.as_slice-rising.ensures.rising c.first_without-fault.result c.first_without-fault.ensures x q in
-    let l = c.requires.selected.inside x.place i in
-    let le = c.requires.known.limit in
-    let few = c.requires.known.turn.few in
-    omega (arith, l, le, few)
+note-requires g c =
+    fault_few (element_fault (job_of c.args.at.now.job.now) c.args.at.now.first c.args.of.now.under c.args.of.now.site c.args.of.now.nth c.args.of.now.tags) c.args.to.now.places c.args.work.now.found.limit c.args.at.now.count c.args.at.now.first c.as_slice-rising.ensures.rising c.requires.selected.inside c.requires.known.limit c.requires.known.turn.few
+    c.first_without-fault.result c.first_without-fault.ensures
 
 pub returns-clause-tested : goal.returns-clause-tested
 returns-clause-tested g c =

@@ -1,8 +1,5 @@
-use Rattle.std.proofs.Common.{◌∙◌, length, subst, sym, List}
-use Rattle.rdf_values.specs.{ColType}
-use Rattle.block_cache.specs.{kinds_of, LaneView}
+use Rattle.std.proofs.Common.{◌∙◌, length}
 use Rattle.loop_keys.specs.{job_of}
-use Rattle.block_passes.specs.{CanServeAll, IsClear}
 use Rattle.block_passes.specs.declared.stop.BlockStop.{BlockStop}
 use Rattle.block_passes.proofs.BegunBlocks.{spent_few}
 use Rattle.block_passes.proofs.ClusterBlocks.{searched_clear, tried_clear, tried_stopped}
@@ -22,18 +19,12 @@ returns-in-Some-clause-tried g c =
     (c.in-Ok.ensures.fault ∙ c.in-Some.is)
 
 pub take_in-requires-clause-serve : goal.take_in-requires-clause-serve
-take_in-requires-clause-serve g c = (
-  length c.args.work.now.scratch.items,
-  length c.args.work.now.levels.items,
-  subst (λ (ls : List LaneView). CanServeAll (job_of c.args.at.now.job.now) c.args.at.now.first c.args.at.now.count (kinds_of ls) c.args.at.now.cells.now (length c.args.work.now.scratch.items) (length c.args.work.now.levels.items)) (sym c.deref.ensures.value)
-      (subst (λ (ks : List ColType). CanServeAll (job_of c.args.at.now.job.now) c.args.at.now.first c.args.at.now.count ks c.args.at.now.cells.now (length c.args.work.now.scratch.items) (length c.args.work.now.levels.items)) (sym c.try_passes.ensures.leaves.spends.kinds) c.requires.serve),
-)
+take_in-requires-clause-serve g c = (length c.args.work.now.scratch.items, length c.args.work.now.levels.items, rw (c.deref.ensures.value, c.try_passes.ensures.leaves.spends.kinds) c.requires.serve)
 
 pub take_in-requires-clause-clear : goal.take_in-requires-clause-clear
 take_in-requires-clause-clear g c = λ p.
-    let j = job_of c.args.at.now.job.now in
-    subst (λ (ls : List LaneView). IsClear j c.args.at.now.first c.args.at.now.count p.chains c.args.at.now.plan.now ls c.try_passes.new.kept) (sym c.deref.ensures.value)
-    (searched_clear j c.args.at.now.first c.args.at.now.count c.args.at.now.plan.now p c.try_passes.new.work.lanes.items c.try_passes.new.kept c.try_passes.new.work.found (c.in-Ok.ensures.searched p) c.in-Ok.ensures.made c.in_default.is)
+    rw c.deref.ensures.value
+    (searched_clear (job_of c.args.at.now.job.now) c.args.at.now.first c.args.at.now.count c.args.at.now.plan.now p c.try_passes.new.work.lanes.items c.try_passes.new.kept c.try_passes.new.work.found (c.in-Ok.ensures.searched p) c.in-Ok.ensures.made c.in_default.is)
 
 pub returns-in-Ok-take_in-clause-tried : goal.returns-in-Ok-take_in-clause-tried
 returns-in-Ok-take_in-clause-tried g c =

@@ -1,24 +1,49 @@
-use Rattle.std.proofs.Common.{List, arith, length, subst, sym}
-use Rattle.std.specs.List.{AllByRecursion}
-use Rattle.block_cache.specs.{kinds_of, LaneView}
-use Rattle.loop_keys.specs.{job_of}
-use Rattle.block_passes.specs.{CanServe, inputs_fault}
-use Rattle.block_passes.proofs.Serving.{none_served}
+use Rattle.std.proofs.Common.{arith, length}
+use Rattle.std.proofs.lemmas.List.Elements.{All-from_recursion}
+use Rattle.loop_keys.specs.{IsSourceIn, job_of, source_at}
+use Rattle.block_passes.specs.{CanServeInTurn}
+use Rattle.block_passes.proofs.Serving.{all_served, begin_served, hand_served, next_demanded, next_served}
+use Rattle.block_passes.proofs.Spending.{leaves_then}
 use Rattle.block_passes.proofs.inputs.serve_inputs.Goals as goal
 
-pub are_at_hand-requires-clause-can : goal.are_at_hand-requires-clause-can
-are_at_hand-requires-clause-can g c =
-    let scratch = length c.args.work.now.scratch.items in
-    let levels = length c.args.work.now.levels.items in (
-      scratch,
-      levels,
-      subst (λ (ls : List LaneView). AllByRecursion (CanServe (job_of c.args.at.now.job.now) c.args.at.now.first c.args.under c.args.at.now.count (kinds_of ls) c.args.at.now.cells.now scratch levels) c.args.inputs.now) (sym c.deref.ensures.value) c.requires.can,
-    )
+pub loop-version-init : goal.loop-version-init
+loop-version-init g c = begin_served c.args.at.now c.args.under c.args.inputs.now c.args.work.now c.args.to.now c.args.steps.now c.requires.known c.requires.selected c.requires.demanded
 
-pub are_at_hand-requires-clause-inside : goal.are_at_hand-requires-clause-inside
-are_at_hand-requires-clause-inside g c = λ p i. let low = c.requires.selected.inside p i in let le = c.requires.known.limit in omega (arith, low, le)
+pub is_at_hand-requires-clause-can : goal.is_at_hand-requires-clause-can
+is_at_hand-requires-clause-can g c =
+    let leaves = c.loop-version.invariant.leaves in
+    (length c.args.work.now.scratch.items, length c.args.work.now.levels.items, rw (c.deref.ensures.value, leaves.spends.kinds) (All-from_recursion (CanServeInTurn c.args.at.now c.args.under c.args.work.now) c.args.inputs.now c.requires.can c.loop-version.version-index 0 c.loop-version-test.true))
 
-pub returns-then-are_at_hand-clause-served : goal.returns-then-are_at_hand-clause-served
-returns-then-are_at_hand-clause-served g c =
-    none_served (job_of c.args.at.now.job.now) c.args.at.now.first c.args.at.now.count (inputs_fault (job_of c.args.at.now.job.now) c.args.at.now.first c.args.under c.args.inputs.now) c.args.at.now.pass c.args.to.now c.args.work.now.lanes.items c.args.work.now.found
-    c.requires.known.ready c.requires.selected.made c.requires.selected.inside c.requires.known.settled (c.are_at_hand.ensures.clear c.if-are_at_hand.true)
+pub is_at_hand-requires-clause-inside : goal.is_at_hand-requires-clause-inside
+is_at_hand-requires-clause-inside g c = λ p i. let low = c.loop-version.invariant.selected.inside p i in let le = c.loop-version.invariant.known.limit in omega (arith, low, le)
+
+pub loop-version-preserved-then-is_at_hand : goal.loop-version-preserved-then-is_at_hand
+loop-version-preserved-then-is_at_hand g c =
+    let yes = c.if-is_at_hand.true in
+    hand_served c.args.at.now c.args.under c.args.inputs.now c.args.to.now.places c.args.work.now c.args.steps.now c.loop-version.version-index c.loop-version.work c.loop-version.to c.loop-version.steps c.loop-version.invariant c.loop-version-test.true (c.is_at_hand.ensures.clear yes) (rw c.deref.ensures.value at (c.is_at_hand.ensures.held yes))
+
+pub serve_version-requires-clause-can : goal.serve_version-requires-clause-can
+serve_version-requires-clause-can g c =
+    let leaves = c.loop-version.invariant.leaves in
+    rw (leaves.spends.kinds, leaves.scratch, leaves.levels) (All-from_recursion (CanServeInTurn c.args.at.now c.args.under c.args.work.now) c.args.inputs.now c.requires.can c.loop-version.version-index 0 c.loop-version-test.true)
+
+pub serve_version-requires-clause-demanded : goal.serve_version-requires-clause-demanded
+serve_version-requires-clause-demanded g c = next_demanded c.args.at.now c.args.under c.args.inputs.now c.args.to.now.places c.args.work.now c.args.steps.now c.loop-version.version-index c.loop-version.work c.loop-version.to c.loop-version.steps c.loop-version.invariant c.loop-version-test.true
+
+pub loop-version-preserved : goal.loop-version-preserved
+loop-version-preserved g c =
+    next_served c.args.at.now c.args.under c.args.inputs.now c.args.to.now.places c.args.work.now c.args.steps.now c.loop-version.version-index c.loop-version.work c.loop-version.to c.loop-version.steps c.loop-version.invariant c.loop-version-test.true c.serve_version.new.work c.serve_version.new.to c.serve_version.new.steps
+    c.serve_version.ensures.leaves c.in_ok-serve_version.ensures.served c.in_ok-serve_version.ensures.held
+
+pub returns-in_err-serve_version-clause-leaves : goal.returns-in_err-serve_version-clause-leaves
+returns-in_err-serve_version-clause-leaves g c = leaves_then _ _ _ _ _ _ _ c.loop-version.invariant.leaves c.serve_version.ensures.leaves
+
+pub returns-in_err-serve_version-clause-plain : goal.returns-in_err-serve_version-clause-plain
+returns-in_err-serve_version-clause-plain g c = λ used p all.
+    absurd (c.in_err-serve_version.ensures.plain used p (All-from_recursion (λ v. IsSourceIn used (source_at (job_of c.args.at.now.job.now) c.args.under v)) c.args.inputs.now all c.loop-version.version-index 0 c.loop-version-test.true))
+
+pub returns-clause-served : goal.returns-clause-served
+returns-clause-served g c = (all_served c.args.at.now c.args.under c.args.inputs.now c.args.to.now.places c.args.work.now c.args.steps.now c.loop-version.version-index c.loop-version.work c.loop-version.to c.loop-version.steps c.loop-version.invariant c.loop-version-test.false).0
+
+pub returns-clause-held : goal.returns-clause-held
+returns-clause-held g c = (all_served c.args.at.now c.args.under c.args.inputs.now c.args.to.now.places c.args.work.now c.args.steps.now c.loop-version.version-index c.loop-version.work c.loop-version.to c.loop-version.steps c.loop-version.invariant c.loop-version-test.false).1

@@ -3,17 +3,14 @@ use Rattle.std.proofs.lemmas.List.{with_items_is}
 use Rattle.block_cache.specs.{LaneView, site_fault}
 use Rattle.loop_keys.specs.{job_of}
 use Rattle.block_passes.specs.{IsServedTo, IsSettledAt}
-use Rattle.block_passes.proofs.Places.{fault_selected}
+use Rattle.block_passes.proofs.Places.{fault_few}
 use Rattle.block_passes.proofs.Serving.{site_served}
 use Rattle.block_passes.proofs.inputs.serve_site.Goals as goal
 
 pub note-requires : goal.note-requires
-note-requires g c = λ x q.
-    let i = fault_selected (site_fault (job_of c.args.at.now.job.now) c.args.at.now.first c.args.under c.args.site) c.args.to.now.places c.as_slice-rising.ensures.rising c.in_ok-fault.fault c.in_ok-fault.ensures.filled.fault x q in
-    let l = c.requires.inside x.place i in
-    let le = c.requires.known.limit in
-    let few = c.requires.known.turn.few in
-    omega (arith, l, le, few)
+note-requires g c =
+    fault_few (site_fault (job_of c.args.at.now.job.now) c.args.at.now.first c.args.under c.args.site) c.args.to.now.places c.args.work.now.found.limit c.args.at.now.count c.args.at.now.first c.as_slice-rising.ensures.rising c.requires.inside c.requires.known.limit c.requires.known.turn.few
+    c.in_ok-fault.fault c.in_ok-fault.ensures.filled.fault
 
 pub returns-clause-served : goal.returns-clause-served
 returns-clause-served g c =

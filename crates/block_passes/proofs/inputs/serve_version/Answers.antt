@@ -1,27 +1,8 @@
-use Rattle.std.proofs.Common.{◌∙◌, List, arith, length, subst, sym}
-use Rattle.block_cache.specs.{kinds_of, LaneView}
+use Rattle.std.proofs.Common.{◌∙◌, subst}
 use Rattle.loop_keys.specs.{IsSourceIn, job_of, source_at}
-use Rattle.block_passes.specs.{CanServe, source_fault}
+use Rattle.block_passes.specs.{source_fault}
 use Rattle.block_passes.proofs.Serving.{column_clear, none_served, source_spends}
 use Rattle.block_passes.proofs.inputs.serve_version.Goals as goal
-
-pub is_at_hand-requires-clause-can : goal.is_at_hand-requires-clause-can
-is_at_hand-requires-clause-can g c =
-    let scratch = length c.args.work.now.scratch.items in
-    let levels = length c.args.work.now.levels.items in (
-      scratch,
-      levels,
-      subst (λ (ls : List LaneView). CanServe (job_of c.args.at.now.job.now) c.args.at.now.first c.args.under c.args.at.now.count (kinds_of ls) c.args.at.now.cells.now scratch levels c.args.version) (sym c.deref.ensures.value) c.requires.can,
-    )
-
-pub is_at_hand-requires-clause-inside : goal.is_at_hand-requires-clause-inside
-is_at_hand-requires-clause-inside g c = λ p i. let low = c.requires.selected.inside p i in let le = c.requires.known.limit in omega (arith, low, le)
-
-pub returns-then-is_at_hand-clause-served : goal.returns-then-is_at_hand-clause-served
-returns-then-is_at_hand-clause-served g c =
-    let j = job_of c.args.at.now.job.now in
-    none_served j c.args.at.now.first c.args.at.now.count (source_fault j c.args.at.now.first c.args.under (source_at j c.args.under c.args.version)) c.args.at.now.pass c.args.to.now c.args.work.now.lanes.items c.args.work.now.found
-    c.requires.known.ready c.requires.selected.made c.requires.selected.inside c.requires.known.settled (c.is_at_hand.ensures.clear c.if-is_at_hand.true)
 
 pub returns-in-Cell-clause-served : goal.returns-in-Cell-clause-served
 returns-in-Cell-clause-served g c =

@@ -4,17 +4,14 @@ use Rattle.expr_lanes.specs.{is_in}
 use Rattle.block_cache.specs.{LaneView, site_fault}
 use Rattle.loop_keys.specs.{job_of}
 use Rattle.block_passes.specs.{IsFilteredTo, IsSettledAt}
-use Rattle.block_passes.proofs.Places.{fault_selected}
+use Rattle.block_passes.proofs.Places.{fault_few}
 use Rattle.block_passes.proofs.Selecting.{filtered_to, selected}
 use Rattle.block_passes.proofs.select.filter_places.Goals as goal
 
 pub note-requires : goal.note-requires
-note-requires g c = λ x q.
-    let i = fault_selected (site_fault (job_of c.args.at.now.job.now) c.args.at.now.first c.args.filter.under c.args.filter.site) c.copy_from.new.self c.as_slice-rising.ensures.rising c.in_ok-fault.fault c.in_ok-fault.ensures.passed.fault x q in
-    let l = c.requires.inside x.place (sym (ap (is_in x.place) c.copy_from.ensures) ∙ i) in
-    let le = c.requires.known.limit in
-    let few = c.requires.known.turn.few in
-    omega (arith, l, le, few)
+note-requires g c =
+    fault_few (site_fault (job_of c.args.at.now.job.now) c.args.at.now.first c.args.filter.under c.args.filter.site) c.copy_from.new.self c.args.work.now.found.limit c.args.at.now.count c.args.at.now.first c.as_slice-rising.ensures.rising (λ p i. c.requires.inside p (sym (ap (is_in p) c.copy_from.ensures) ∙ i)) c.requires.known.limit c.requires.known.turn.few
+    c.in_ok-fault.fault c.in_ok-fault.ensures.passed.fault
 
 pub pass_filter-requires-clause-selected : goal.pass_filter-requires-clause-selected
 pass_filter-requires-clause-selected g c =
