@@ -85,10 +85,7 @@ block_size bytes b values h =
     ap₂ (λ (m n : ℕ). m * n) h.entries (ap (λ (p : Packing). p.width) h.packing) ∙ sym (length-packed (packing_of values) values (packing_width values))
 
 pub block_bytes : (bytes : List ℕ) (b : Block) (values : List ℤ) → IsBlock bytes b values → take (b.begin + b.entries * b.packing.width - b.begin) (drop b.begin bytes) ≡ packed_of values
-block_bytes bytes b values h =
-    let size = block_size bytes b values h in
-    let same : b.begin + b.entries * b.packing.width - b.begin ≡ length (packed_of values) = omega (arith, size) in
-    ap (λ (n : ℕ). take n (drop b.begin bytes)) same ∙ h.kept
+block_bytes bytes b values h = grind (arith, block_size)
 
 -- ---- bytes that are appended
 

@@ -20,10 +20,7 @@ pub is_even : (n size : ℕ) (marks : List ℕ) → 1 ≤ size → marks ≡ [] 
 is_even n size marks s e = ap (cut n size) e ∙ unmarked_cuts_are_even n size s
 
 pub starts_below : (n size cluster : ℕ) → 1 ≤ size → cluster < div_ceil n size → cluster * size < n
-starts_below n size cluster s h =
-    let all = div_ceil_times n size s in
-    let next : (cluster + 1) * size ≤ div_ceil n size * size = grind (arith, mul-le) in
-    omega (arith, all.1)
+starts_below n size cluster s h = grind (arith, div_ceil_times, mul-le)
 
 pub even_at : (n size cluster : ℕ) → cluster < div_ceil n size → slice_get (even_cut n size) cluster ≡ Some (record { lo = cluster * size; hi = min ((cluster + 1) * size) n })
 even_at n size cluster h = slice_get-map _ (below (div_ceil n size)) cluster ∙ rw (slice_get-below (div_ceil n size) cluster h) refl

@@ -57,19 +57,10 @@ first_by ends i number zero low high l from below = go (le_or_lt i 0)
 first_by ends i number (suc p) low high l from below = go (le_or_lt i (suc p)) (le_or_lt i p)
   where
     go : (i ≤ suc p) ⊎ (suc p < i) → (i ≤ p) ⊎ (p < i) → i ≡ suc p
-    go (inr h) q = let bad = low (suc p) h in absurd (omega (arith, bad, below))
-    go (inl h) (inl q) = let bad = high p q (omega (arith, l)) in absurd (omega (arith, bad, from))
-    go (inl h) (inr q) = omega (arith, h, q)
+    go h q = grind arith
 
 pub first_above : (ends : List ℕ) (i number place : ℕ) → AllWithin (λ x. leb x number ≡ true) ends 0 i → AllWithin (λ x. leb x number ≡ false) ends i (length ends) → Holds (ranges_to 0 ends) number place → i ≡ place
-first_above ends i number place low high held =
-    let l = ranges_within ends 0 place held.range held.stands in
-    let at : Some held.range ≡ Some (record { lo = get_or (0 ∷ ends) place 0; hi = get_or ends place 0 }) = sym held.stands ∙ ranges_at ends 0 place l in
-    let lo : held.range.lo ≡ get_or (0 ∷ ends) place 0 = cc at in
-    let hi : held.range.hi ≡ get_or ends place 0 = cc at in
-    let from = held.from in
-    let below = held.below in
-    first_by ends i number place (λ k h. (let t = low k 0 (omega arith) h in grind (arith, nat_tests, t))) (λ k h q. (let t = high k 0 h q in grind (arith, nat_tests, t))) l (omega (arith, from, lo)) (omega (arith, below, hi))
+first_above ends i number place low high held = grind (arith, ranges_within, ranges_at, first_by, nat_tests)
 
 pub first_range : (ends : List ℕ) (place : ℕ) → place ≡ 0 → place < length ends → slice_get (ranges_to 0 ends) place ≡ Some (record { lo = 0; hi = get_or ends place 0 })
 first_range ends place e l = ranges_at ends 0 place l ∙ rw e refl

@@ -30,16 +30,10 @@ size_more pieces i n piece e l s =
 -- ---- a range that stands in one piece
 
 range_first : (xs ys : List ℤ) (lo hi : ℕ) → lo ≤ hi → hi ≤ length xs → take (hi - lo) (drop lo (xs ++ ys)) ≡ take (hi - lo) (drop lo xs)
-range_first xs ys lo hi h l =
-    let from : lo ≤ length xs = omega (arith, h, l) in
-    let wide : hi - lo ≤ length (drop lo xs) = omega (arith, l, length-drop lo xs) in
-    ap (take (hi - lo)) (drop-append-le lo xs ys from) ∙ take-append-le (hi - lo) (drop lo xs) ys wide
+range_first xs ys lo hi h l = grind (arith, length-drop, drop-append-le, take-append-le)
 
 range_last : (xs ys : List ℤ) (n lo hi : ℕ) → n ≡ length xs → n ≤ lo → lo ≤ hi → take (hi - lo) (drop lo (xs ++ ys)) ≡ take (hi - n - (lo - n)) (drop (lo - n) ys)
-range_last xs ys n lo hi s f h =
-    let on : lo ≡ length xs + (lo - n) = omega (arith, s, f) in
-    let size : hi - lo ≡ hi - n - (lo - n) = omega (arith, f, h) in
-    ap₂ (λ (k m : ℕ). take k (drop m (xs ++ ys))) size on ∙ ap (take (hi - n - (lo - n))) (drop-append-add xs ys (lo - n))
+range_last xs ys n lo hi s f h = grind (arith, drop-append-add)
 
 pub in_piece : (pieces : List (List ℤ)) (i n : ℕ) (piece : List ℤ) (lo hi : ℕ) → piece ≡ get_or pieces i piece → i < length pieces → n ≡ length (joined (take i pieces)) → n ≤ lo → lo ≤ hi → hi ≤ n + length piece
     → take (hi - n - (lo - n)) (drop (lo - n) piece) ≡ take (hi - lo) (drop lo (joined pieces))
@@ -101,11 +95,7 @@ read_more pieces lo n i before after from to piece numbers part now r e l a long
 
 -- all are read
 pub read_whole : (pieces : List (List ℤ)) (lo n i before : ℕ) (numbers : List ℤ) → AreReadUpTo pieces lo n i before numbers → length numbers ≡ n → lo + n ≤ before → numbers ≡ take n (drop lo (joined pieces))
-read_whole pieces lo n i before numbers r long h =
-    let all : min (lo + n) before - lo ≡ n = omega (arith, h) in
-    sym (take_all n numbers (omega (arith, long))) ∙ rw all at r.same
+read_whole pieces lo n i before numbers r long h = grind (arith, take_all)
 
 pub read_to_the_end : (pieces : List (List ℤ)) (lo n i before : ℕ) (numbers : List ℤ) → AreReadUpTo pieces lo n i before numbers → length numbers ≡ n → length pieces ≤ i → lo + n ≤ length (joined pieces) → numbers ≡ take n (drop lo (joined pieces))
-read_to_the_end pieces lo n i before numbers r long e h =
-    let all : before ≡ length (joined pieces) = r.here ∙ ap (λ ps. length (joined ps)) (take_all i pieces e) in
-    read_whole pieces lo n i before numbers r long (omega (arith, h, all))
+read_to_the_end pieces lo n i before numbers r long e h = grind (arith, take_all, read_whole)

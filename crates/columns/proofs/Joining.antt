@@ -13,12 +13,7 @@ ends_after (s ∷ ss) lo hi h = let more = ends_after ss s.hi hi h.2 in let some
 
 pub span_within : (spans : List Span) (lo hi c : ℕ) (s : Span) → Lead lo hi spans → slice_get spans c ≡ Some s → (lo ≤ s.lo) × (s.lo < s.hi) × (s.hi ≤ hi)
 span_within [] lo hi c s h e = cc e
-span_within (x ∷ xs) lo hi zero s h e =
-    let same : x ≡ s = cc e in
-    let more = ends_after xs x.hi hi h.2 in
-    let at = h.0 in
-    let some = h.1 in
-    rw (← same) (omega (arith, at), omega (arith, at, some), more)
+span_within (x ∷ xs) lo hi zero s h e = grind (arith, ends_after)
 span_within (x ∷ xs) lo hi (suc c) s h e =
     let more = span_within xs x.hi hi c s h.2 e in
     let some = h.1 in
@@ -44,9 +39,7 @@ joined_back n size marks numbers l = joined_from (cut n size marks) numbers 0 n 
 -- so numbers that were packed are kept by cluster
 pub packed_is_by : (n size : ℕ) (marks : List ℕ) (numbers : List ℤ) (values : List (List ℤ)) → length numbers ≡ n → values ≡ cluster_values (cut n size marks) numbers
     → (joined values ≡ numbers) × (values ≡ cluster_values (cut n size marks) (joined values))
-packed_is_by n size marks numbers values l e =
-    let back : joined values ≡ numbers = ap joined e ∙ joined_back n size marks numbers l in
-    (back, e ∙ ap (cluster_values (cut n size marks)) (sym back))
+packed_is_by n size marks numbers values l e = grind (arith, joined_back)
 
 -- ---- one cluster, one number
 

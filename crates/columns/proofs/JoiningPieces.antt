@@ -21,9 +21,7 @@ joined_set (suc i) (w ∷ ws) (u ∷ more) x y h l = ap (λ t. cells_joined w u 
 
 joined_more : (i : ℕ) (xs at more : List Cells) (d new y : Cells) → at ≡ columns_joined xs (take i more) → i < length more → length more ≡ length xs → y ≡ get_or more i y → new ≡ cells_joined (get_or at i d) y
     → set at i new ≡ columns_joined xs (take (i + 1) more)
-joined_more i xs at more d new y a l w q n =
-    let step = joined_set i xs more d y (omega arith) l in
-    ap₂ (λ t z. set t i z) a (n ∙ ap₂ cells_joined (ap (λ t. get_or t i d) a) q) ∙ step ∙ ap (λ j. columns_joined xs (take j more)) (sym (add-one i))
+joined_more i xs at more d new y a l w q n = grind (arith, joined_set)
 
 -- ---- the rows of the second stand behind those of the first
 
@@ -127,10 +125,7 @@ pieces_more xs at more rest i col j new old y a e l k c n o w =
     rw (c, n) (map-set whole at i new ∙ joined_more i (map whole xs) (map whole at) (map whole more) (whole new) (whole new) (whole y) a there wide his own, next.2, omega (arith, k, length-set at i new))
 
 pub pieces_all : (xs more rest : List ColumnPieces) (i : ℕ) → drop i more ≡ rest → length rest ≡ 0 → columns_joined (map whole xs) (take i (map whole more)) ≡ columns_joined (map whole xs) (map whole more)
-pieces_all xs more rest i e n =
-    let size = length-drop i more in
-    let gone = ap length e in
-    ap (columns_joined (map whole xs)) (take_all i (map whole more) (omega (arith, size, gone, n, length-map more whole)))
+pieces_all xs more rest i e n = grind (arith, length-drop, take_all, length-map)
 
 pub same_pieces : (xs more : List ColumnPieces) → length (map whole more) ≡ length (map whole xs) → length more ≡ length xs
 same_pieces xs more l = omega (arith, l, length-map more whole, length-map xs whole)

@@ -14,9 +14,7 @@ pub col_within : (columns : List Column) (all : List Kept) (n col : ℕ) (kind :
 col_within columns all n col kind h e = let l = kept_within columns (map cells_of all) n col kind h e in omega (arith, l, length-map all cells_of)
 
 found : (columns : List Column) (all : List Kept) (n col : ℕ) (kind : ColType) (x : Kept) → AreKept n columns (map cells_of all) → kind_at columns col ≡ Some kind → x ≡ get_or all col x → slice_get (map cells_of all) col ≡ Some (cells_of x)
-found columns all n col kind x h e q =
-    let there : slice_get all col ≡ Some x = slice_get-get_or all col x (col_within columns all n col kind h e) ∙ ap Some (sym q) in
-    slice_get-map cells_of all col ∙ rw there refl
+found columns all n col kind x h e q = grind (arith, slice_get-get_or, col_within, slice_get-map)
 
 pub ints_found : (columns : List Column) (all : List Kept) (n col : ℕ) (x : Kept) (values : List (List ℤ)) → AreKept n columns (map cells_of all) → kind_at columns col ≡ Some ColType.Int → x ≡ get_or all col x → x ≡ Kept.Ints values
     → map (λ row. slice_get row col) (rows_kept n (map cells_of all)) ≡ map (λ z. Some (Value.Int z)) (joined values)
@@ -39,10 +37,7 @@ at_by P (x ∷ xs) (suc col) d h l = at_by P xs col d h.1 (omega (arith, l))
 
 pub by_cluster : (columns : List Column) (all : List Kept) (n col : ℕ) (x : Kept) (values : List (List ℤ)) (spans : List Span) → AreKept n columns (map cells_of all) → kind_at columns col ≡ Some ColType.Int → x ≡ get_or all col x → x ≡ Kept.Ints values
     → AllByRecursion (IsByCluster spans) all → values ≡ cluster_values spans (joined values)
-by_cluster columns all n col x values spans h e q i a =
-    let here = at_by (IsByCluster spans) all col x a (col_within columns all n col ColType.Int h e) in
-    let same : get_or all col x ≡ Kept.Ints values = sym q ∙ i in
-    rw same at here
+by_cluster columns all n col x values spans h e q i a = grind (arith, at_by, col_within)
 
 -- ---- one number
 
@@ -65,9 +60,7 @@ get_dropped [] (suc n) i = let e : suc n + i ≡ suc (n + i) = omega arith in sy
 get_dropped (x ∷ xs) (suc n) i = let e : suc n + i ≡ suc (n + i) = omega arith in get_dropped xs n i ∙ sym (ap (λ (k : ℕ). slice_get (x ∷ xs) k) e)
 
 pub number_here : (numbers : List ℤ) (s : Span) (entry : ℕ) → s.lo ≤ entry → entry < s.hi → slice_get (take (s.hi - s.lo) (drop s.lo numbers)) (entry - s.lo) ≡ slice_get numbers entry
-number_here numbers s entry from below =
-    let e : s.lo + (entry - s.lo) ≡ entry = omega (arith, from) in
-    get_taken (drop s.lo numbers) (s.hi - s.lo) (entry - s.lo) (omega (arith, from, below)) ∙ get_dropped numbers s.lo (entry - s.lo) ∙ ap (λ (k : ℕ). slice_get numbers k) e
+number_here numbers s entry from below = grind (arith, get_taken, get_dropped)
 
 pub place_here : (numbers : List ℤ) (s : Span) (entry : ℕ) → s.lo ≤ entry → entry < s.hi → s.hi ≤ length numbers → entry - s.lo < length (take (s.hi - s.lo) (drop s.lo numbers))
 place_here numbers s entry from below few = omega (arith, from, below, few, length-take (s.hi - s.lo) (drop s.lo numbers), length-drop s.lo numbers)

@@ -32,11 +32,7 @@ wrapped_small d l = let same : d % 2 ^ 64 ≡ d = omega (arith, l) in ap (cast_s
 
 -- a sum in 64 bits
 sum_back : (a : ℤ) (d : ℕ) → FitsSigned w64 a → d < 2 ^ 64 → FitsSigned w64 (a +ℤ pos d) → cast_signed w64 ((cast_unsigned w64 a + d) % 2 ^ 64) ≡ a +ℤ pos d
-sum_back a d f l g =
-    let none : d % 2 ^ 64 ≡ d = omega (arith, l) in
-    let few : cast_unsigned w64 a < 2 ^ 64 = Fits-lt-pow (Fits-of_z f) in
-    let wrapped : int_wrap w64 (pos d) ≡ cast_signed w64 d = wrapped_small d l in
-    wrapping_add-bits w64 (cast_unsigned w64 a) d few l ∙ ap₂ (λ x y. int_wrap w64 (x +ℤ y)) (to_z-of_z w64 a f) (sym wrapped) ∙ int_wrap-add_right w64 a (pos d) ∙ int_wrap_fits w64 (a +ℤ pos d) g
+sum_back a d f l g = grind (arith, Fits-lt-pow, Fits-of_z, wrapped_small, wrapping_add-bits, to_z-of_z, int_wrap-add_right, int_wrap_fits)
 
 pub read_step : (least : ℤ) (w n : ℕ) (bs : List ℕ) (numbers : List ℤ) (i d : ℕ) (z : ℤ) → length numbers ≡ n → i < n → FitsSigned w64 least → All (FitsSigned w64) (values_in least w n bs) → d < 2 ^ 64 → d ≡ number_in w (drop (i * w) bs)
     → z ≡ cast_signed w64 ((cast_unsigned w64 least + d) % 2 ^ 64) → take i numbers ≡ take i (values_in least w n bs) → take (i + 1) (set numbers i z) ≡ take (i + 1) (values_in least w n bs)

@@ -31,15 +31,7 @@ greatest_reached (x ∷ xs) z = further z (int_max z x) x (greatest_from (int_ma
 -- the width is the least that holds the number
 width_by : (n w : ℕ) (a b c d : Bool) → nat_eq n 0 ≡ a → nat_lt n 256 ≡ b → nat_lt n 65536 ≡ c → nat_lt n 4294967296 ≡ d → (w ≡ 0) ⊎ (w ≡ 1) ⊎ (w ≡ 2) ⊎ (w ≡ 4) ⊎ (w ≡ 8) → n < 256 ^ w
     → (if a then 0 else if b then 1 else if c then 2 else if d then 4 else 8) ≤ w
-width_by n w true b c d p q r s one h = omega arith
-width_by n w false b c d p q r s (inl e) h = let few : n < 1 = rw e at h in absurd (let none : nat_eq n 0 ≡ true = grind (arith, nat_tests) in cc (sym none ∙ p))
-width_by n w false true c d p q r s (inr one) h = omega arith
-width_by n w false false c d p q r s (inr (inl e)) h = let few : n < 256 = rw e at h in absurd (let low : nat_lt n 256 ≡ true = grind (arith, nat_tests) in cc (sym low ∙ q))
-width_by n w false false true d p q r s (inr (inr one)) h = omega arith
-width_by n w false false false d p q r s (inr (inr (inl e))) h = let few : n < 65536 = rw e at h in absurd (let low : nat_lt n 65536 ≡ true = grind (arith, nat_tests) in cc (sym low ∙ r))
-width_by n w false false false true p q r s (inr (inr (inr one))) h = omega arith
-width_by n w false false false false p q r s (inr (inr (inr (inl e)))) h = let few : n < 4294967296 = rw e at h in absurd (let low : nat_lt n 4294967296 ≡ true = grind (arith, nat_tests) in cc (sym low ∙ s))
-width_by n w false false false false p q r s (inr (inr (inr (inr e)))) h = omega (arith, e)
+width_by n w a b c d p q r s one h = grind (arith, nat_tests)
 
 width_least : (n w : ℕ) → IsWidth w → n < 256 ^ w → width_of n ≤ w
 width_least n w i h = width_by n w (nat_eq n 0) (nat_lt n 256) (nat_lt n 65536) (nat_lt n 4294967296) refl refl refl refl i.one_of h

@@ -23,11 +23,7 @@ pub width_is : (n : ℕ) → IsWidth (width_of n)
 width_is n = record { one_of = go (nat_eq n 0) (nat_lt n 256) (nat_lt n 65536) (nat_lt n 4294967296) }
   where
     go : (a b c d : Bool) → OneOf (if a then 0 else if b then 1 else if c then 2 else if d then 4 else 8)
-    go true b c d = inl refl
-    go false true c d = inr (inl refl)
-    go false false true d = inr (inr (inl refl))
-    go false false false true = inr (inr (inr (inl refl)))
-    go false false false false = inr (inr (inr (inr refl)))
+    go a b c d = grind arith
 
 -- a number below 2 ^ 64 fits its width
 pub fits_width : (n : ℕ) → n < 2 ^ 64 → n < 256 ^ width_of n
@@ -38,11 +34,7 @@ by_width : (P : ℕ → Type 0) → P 0 → P 1 → P 2 → P 4 → P 8 → (w :
 by_width P a b c d e w h = go h.one_of
   where
     go : OneOf w → P w
-    go (inl k) = rw k a
-    go (inr (inl k)) = rw k b
-    go (inr (inr (inl k))) = rw k c
-    go (inr (inr (inr (inl k)))) = rw k d
-    go (inr (inr (inr (inr k)))) = rw k e
+    go h = grind arith
 
 -- ---- one number
 
@@ -57,9 +49,7 @@ one_back : (n : ℕ) → n < 256 → n % 256 ≡ n
 one_back n h = omega arith
 
 pub number_back : (w n : ℕ) (more : List ℕ) → IsWidth w → n < 256 ^ w → number_in w (low_bytes w n ++ more) ≡ n
-number_back w n more h =
-    by_width (λ v. n < 256 ^ v → number_in v (low_bytes v n ++ more) ≡ n) (λ l. omega arith) (λ l. one_back n (omega arith))
-    (λ l. from_le_bytes-to_le_bytes_2 n (omega arith)) (λ l. from_le_bytes-to_le_bytes_4 n (omega arith)) (λ l. from_le_bytes-to_le_bytes_8 n (omega arith)) w h
+number_back w n more h k = grind (arith, by_width, one_back, from_le_bytes-to_le_bytes_2, from_le_bytes-to_le_bytes_4, from_le_bytes-to_le_bytes_8)
 
 -- ---- many numbers
 

@@ -38,11 +38,7 @@ pub not_marked : (marks : List ℕ) (next entry : ℕ) → IsStrictlyIncreasing 
 not_marked marks next entry rising passed ahead other = any_none marks entry (λ k l. go k l (at_or next k))
   where
     after : (k : ℕ) → k < length marks → (k ≡ next) ⊎ (next < k) → get_or marks k 0 ≢ entry
-    after k l (inl h) = subst (λ (n : ℕ). get_or marks n 0 ≢ entry) (sym h) (other (omega (arith, h, l)))
-    after k l (inr h) = λ q.
-        let more = AllPairs-from_increasing marks rising next k 0 h l in
-        let low = ahead.above next (omega arith) (omega (arith, h, l)) in
-        absurd (omega (arith, more, low, q))
+    after k l h = grind (arith, AllPairs-from_increasing)
 
     go : (k : ℕ) → k < length marks → (k < next) ⊎ (next ≤ k) → get_or marks k 0 ≢ entry
     go k l (inl h) = λ q. (let low = passed.below k h in absurd (omega (arith, low, q)))

@@ -30,12 +30,7 @@ loop-value-preserved g c =
     }
 
 pub returns-clause-grown : goal.returns-clause-grown
-returns-clause-grown g c =
-    let least : FitsSigned w64 c.args.least = search rules in
-    let all = take_all c.loop-value.value-index c.args.values.now c.loop-value-test.false in
-    (rw (to_z-of_z least) at c.loop-value.invariant.pushed) ∙ ap (λ zs. c.args.bytes.items ++ packed_by (record { least = c.args.least; width = g.row.WIDTH }) zs) all
+returns-clause-grown = grind (arith, take_all, to_z-of_z)
 
 pub returns-clause-words : goal.returns-clause-words
-returns-clause-words g c =
-    let all = take_all c.loop-value.value-index c.args.values.now c.loop-value-test.false in
-    rw all at c.loop-value.invariant.words
+returns-clause-words = grind (arith, take_all)

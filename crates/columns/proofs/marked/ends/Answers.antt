@@ -20,6 +20,4 @@ loop-entry-preserved c =
     ]
 
 pub returns : goal.returns
-returns c =
-    let all : c.loop-entry.entry ≡ c.args.entries = omega (arith, c.loop-entry-test.false, c.loop-entry.auto.entry-end, c.requires.some) in
-    rw c.in_ok-push-2.ensures.ok (walk_end c.args.entries c.args.size c.args.marks.now c.loop-entry.ends c.loop-entry.lo c.loop-entry.entry c.loop-entry.next c.loop-entry.invariant all)
+returns = grind (arith, walk_end)

@@ -7,8 +7,4 @@ pub returns-then-marks-next-clause-ahead : goal.returns-then-marks-next-clause-a
 returns-then-marks-next-clause-ahead c = ahead_one c.args.marks.now c.args.next c.args.entry c.requires.rising c.requires.ahead c.if-next-marks.true
 
 pub returns-else-next-marks-clause-ahead : goal.returns-else-next-marks-clause-ahead
-returns-else-next-marks-clause-ahead c =
-    elim c.else-next-marks.branch [
-      | else-next-marks-via-then-next-marks+else-marks-next w ↦ ahead_still c.args.marks.now c.args.next c.args.entry c.requires.rising (λ l. omega (arith, w.if-marks-next.false))
-      | else-next-marks-via-else-next-marks w ↦ ahead_still c.args.marks.now c.args.next c.args.entry c.requires.rising (λ l. absurd (omega (arith, l, w.if-next-marks.false)))
-    ]
+returns-else-next-marks-clause-ahead = grind (arith, else-next-marks-via-then-next-marks+else-marks-next, ahead_still, else-next-marks-via-else-next-marks)

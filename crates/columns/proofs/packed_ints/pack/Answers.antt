@@ -28,7 +28,4 @@ pub invariant_of-result : goal.invariant_of-result
 invariant_of-result c = blocks_hold c.loop-cluster.bytes.items c.loop-cluster.blocks.items _ c.loop-cluster.invariant
 
 pub returns : goal.returns
-returns c =
-    let spans = cut c.args.cuts.now.entries c.args.cuts.now.size c.args.cuts.now.marks in
-    let all : length (cluster_values spans (joined c.args.pieces.now)) ≤ c.loop-cluster.cluster = omega (arith, length-map spans (λ s. take (s.hi - s.lo) (drop s.lo (joined c.args.pieces.now))), c.count-cluster-end.ensures.value, c.loop-cluster-test.false) in
-    blocks_back c.loop-cluster.bytes.items c.loop-cluster.blocks.items _ c.loop-cluster.invariant ∙ take_all c.loop-cluster.cluster (cluster_values spans (joined c.args.pieces.now)) all
+returns = grind (arith, length-map, blocks_back, take_all)

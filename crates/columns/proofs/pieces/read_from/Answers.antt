@@ -4,10 +4,7 @@ use Rattle.columns.proofs.pieces.read_from.Goals as goal
 use Rattle.columns.proofs.pieces.read_from.Goals.{then-lo-end, else-lo-end}
 
 pub overflow_add-end : goal.overflow_add-end
-overflow_add-end c =
-    let few = end_within c.args.pieces.now c.loop-piece.piece-index c.loop-piece.before c.piece-item.result c.piece-item.is c.loop-piece-test.true c.loop-piece.invariant.here in
-    let size = c.len.ensures in
-    omega (arith, few, c.requires.few, size)
+overflow_add-end = grind (arith, end_within)
 
 pub loop-piece-init : goal.loop-piece-init
 loop-piece-init c = none_read c.args.pieces.now c.args.lo (length c.args.numbers.now) c.args.numbers.now

@@ -5,25 +5,13 @@ use Rattle.columns.specs.{whole}
 use Rattle.columns.proofs.columns.Columns.build.Goals as goal
 
 pub keep_all-requires-clause-keep : goal.keep_all-requires-clause-keep
-keep_all-requires-clause-keep c =
-    let parts = c.into_parts-parts.result in
-    let many : c.args.cuts.entries ≡ parts.entries = c.requires ∙ ap (λ (t : TableView). length t.rows) (sym c.in_ok-of.ensures ∙ c.into_parts-parts.ensures.same) ∙ length-rows_kept parts.entries (map whole parts.pieces.items) in
-    rw many (keep parts.columns (map whole parts.pieces.items) parts.entries c.into_parts-parts.ensures.holds.kept)
+keep_all-requires-clause-keep = grind (arith, length-rows_kept, keep)
 
 pub keep_all-requires-clause-few : goal.keep_all-requires-clause-few
-keep_all-requires-clause-few c =
-    let parts = c.into_parts-parts.result in
-    let many : c.args.cuts.entries ≡ parts.entries = c.requires ∙ ap (λ (t : TableView). length t.rows) (sym c.in_ok-of.ensures ∙ c.into_parts-parts.ensures.same) ∙ length-rows_kept parts.entries (map whole parts.pieces.items) in
-    omega (arith, many, c.into_parts-parts.ensures.holds.few)
+keep_all-requires-clause-few = grind (arith, length-rows_kept)
 
 pub invariant_of-result : goal.invariant_of-result
-invariant_of-result c =
-    let parts = c.into_parts-parts.result in
-    let many : c.args.cuts.entries ≡ parts.entries = c.requires ∙ ap (λ (t : TableView). length t.rows) (sym c.in_ok-of.ensures ∙ c.into_parts-parts.ensures.same) ∙ length-rows_kept parts.entries (map whole parts.pieces.items) in
-    record { table = rw (c.in_ok-kept.ensures.same, many) c.into_parts-parts.ensures.holds; clusters = c.in_ok-kept.ensures.clusters }
+invariant_of-result = grind (arith, length-rows_kept)
 
 pub returns : goal.returns
-returns c =
-    let parts = c.into_parts-parts.result in
-    let many : c.args.cuts.entries ≡ parts.entries = c.requires ∙ ap (λ (t : TableView). length t.rows) (sym c.in_ok-of.ensures ∙ c.into_parts-parts.ensures.same) ∙ length-rows_kept parts.entries (map whole parts.pieces.items) in
-    rw (← c.in_ok-of.ensures, c.into_parts-parts.ensures.same, c.in_ok-kept.ensures.same, many) refl
+returns = grind (arith, length-rows_kept)

@@ -12,9 +12,7 @@ use Rattle.columns.proofs.Keeping.{entry_here}
 use Rattle.columns.proofs.columns.Columns.int_at.Goals as goal
 
 pub cluster_of-cluster-requires : goal.cluster_of-cluster-requires
-cluster_of-cluster-requires c =
-    let rows = ap (λ (x : ColumnsView). length x.table.rows) c.self.view_is in
-    omega (arith, c.requires.row, rows, length-rows_kept c.self.inside.cuts.entries (map cells_of c.self.inside.kept.items))
+cluster_of-cluster-requires = grind (arith, length-rows_kept)
 
 pub range-first-requires : goal.range-first-requires
 range-first-requires c = slice_get_within _ c.cluster_of-cluster.result _ c.cluster_of-cluster.ensures.stands

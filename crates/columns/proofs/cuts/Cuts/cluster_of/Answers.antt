@@ -5,19 +5,10 @@ use Rattle.columns.proofs.Leading.{few_ends, holds_first, they_rise}
 use Rattle.columns.proofs.cuts.Cuts.cluster_of.Goals as goal
 
 pub overflow_cast-result : goal.overflow_cast-result
-overflow_cast-result c =
-    let kept = rw c.in-Marked.is at c.self.invariant.kept in
-    let few = few_ends c.in-Marked.ends c.self.inside.entries c.self.inside.size c.self.inside.marks kept in
-    let bound = rw c.as_slice.ensures at c.partition_point.ensures.bound in
-    omega (arith, few, bound, c.self.invariant.valid.few)
+overflow_cast-result = grind (arith, few_ends)
 
 pub returns-in-Even : goal.returns-in-Even
-returns-in-Even c =
-    let none = rw c.in-Even.is at c.self.invariant.kept in
-    let some = c.self.invariant.valid.some in
-    let there = rw (← c.self.view_is) at c.requires in
-    rw (← c.self.view_is, is_even c.self.inside.entries c.self.inside.size c.self.inside.marks some none)
-    (even_holds c.self.inside.entries c.self.inside.size c.args.entry (c.args.entry / c.self.inside.size) some there (div_low c.args.entry c.self.inside.size some) (div_high c.args.entry c.self.inside.size some))
+returns-in-Even = grind (arith, is_even, even_holds, div_low, div_high)
 
 pub returns-in-Marked : goal.returns-in-Marked
 returns-in-Marked c =

@@ -19,7 +19,4 @@ slice_bounds-result-end c =
     rw c.deref.ensures.value (omega (arith, size, inside))
 
 pub returns : goal.returns
-returns c =
-    let there = rw (← c.self.view_is) at c.requires in
-    let block = block_of c.self.inside.bytes.items c.self.inside.blocks.items c.args.cluster c.index-block.result.now c.self.invariant there c.index-block.ensures in
-    rw (c.deref.ensures.value, ← c.self.view_is) (block_bytes c.self.inside.bytes.items c.index-block.result.now _ block)
+returns = grind (arith, block_of, block_bytes)
