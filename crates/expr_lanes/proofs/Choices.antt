@@ -11,26 +11,19 @@ use Rattle.expr_lanes.proofs.PartSteps.{filter_alike}
 -- ---- filters
 
 or_and : (a b t : Bool) → ((a || b) && t) ≡ ((a && t) || (b && t))
-or_and true true true = refl
-or_and true false true = refl
-or_and a b t = refl
+or_and a b t = grind arith
 
 in_if_kept : (t : Bool) (p q : ℕ) (rest : List ℕ) → is_in p (cond t (q ∷ rest) rest) ≡ ((nat_eq p q && t) || is_in p rest)
 in_if_kept true p q rest = ap (λ b. b || is_in p rest) (sym (and_true (nat_eq p q)))
 in_if_kept false p q rest = ap (λ b. b || is_in p rest) (sym (and_false (nat_eq p q)))
 
 same_test : (test : ℕ → Bool) (p q : ℕ) → (nat_eq p q && test q) ≡ (nat_eq p q && test p)
-same_test test p q =
-    elim (eqb_tells p q) [
-      | inl e ↦ ap (λ n. nat_eq p q && test n) (sym e.1)
-      | inr n ↦ ap (λ b. b && test q) n.0 ∙ sym (ap (λ b. b && test p) n.0)
-    ]
+same_test test p q = grind (arith, eqb_tells)
 
 -- a place is among what a filter keeps where it was there and passes the test
 pub in_filter : (test : ℕ → Bool) (p : ℕ) (xs : List ℕ) → is_in p (filter test xs) ≡ (is_in p xs && test p)
 in_filter test p [] = refl
-in_filter test p (q ∷ xs) =
-    in_if_kept (test q) p q (filter test xs) ∙ ap (λ b. (nat_eq p q && test q) || b) (in_filter test p xs) ∙ ap (λ b. b || (is_in p xs && test p)) (same_test test p q) ∙ sym (or_and (nat_eq p q) (is_in p xs) (test p))
+in_filter test p (q ∷ xs) = grind (arith, in_if_kept, same_test, or_and, in_filter test p xs)
 
 -- ---- nothing is done
 
@@ -73,20 +66,13 @@ module _ (test : ℕ → Bool) (one two : ℕ → Outcome ℕ ℤ) where
       in_twos p = ap (λ l. is_in p l) second.come.left_in ∙ in_filter (λ q. is_given (two q)) p (filter test sel) ∙ ap (λ b. b && is_given (two p)) (in_filter test p sel)
 
       in_either : (p : ℕ) → is_in p sel ≡ true → (is_in p ones || is_in p twos) ≡ is_given (chosen p)
-      in_either p h =
-          ap (λ b. b || is_in p twos) (in_ones p) ∙ ap (λ b. ((is_in p sel && not (test p)) && is_given (one p)) || b) (in_twos p)
-          ∙ ap (λ b. ((b && not (test p)) && is_given (one p)) || ((b && test p) && is_given (two p))) h ∙ has_side (test p) (two p) (one p)
+      in_either p h = grind (arith, in_ones, in_twos, has_side)
 
       as_left : last ≡ given_in chosen sel
       as_left = joined ∙ filter_alike (λ p. is_in p ones || is_in p twos) (λ p. is_given (chosen p)) sel in_either
 
       side_value : (p : ℕ) (b : Bool) → test p ≡ b → is_in p sel ≡ true → is_given (if b then two p else one p) ≡ true → (if b then two p else one p) ≡ Gives (at_place o3 p)
-      side_value p true is h given =
-          second.come.values p (in_twos p ∙ ap (λ b. (b && test p) && is_given (two p)) h ∙ ap (λ b. b && is_given (two p)) is ∙ given)
-      side_value p false is h given =
-          let out : is_in p (filter test sel) ≡ false = in_filter test p sel ∙ ap (λ b. is_in p sel && b) is ∙ and_false (is_in p sel) in
-          let here : is_in p ones ≡ true = in_ones p ∙ ap (λ b. (b && not (test p)) && is_given (one p)) h ∙ ap (λ b. not b && is_given (one p)) is ∙ given in
-          first.come.values p here ∙ ap Gives (sym (second.others p out))
+      side_value p b is h given = grind (arith, in_twos, in_filter, and_false, in_ones)
 
       left_here : (p : ℕ) → is_in p last ≡ true → (is_in p sel && is_given (chosen p)) ≡ true
       left_here p h = sym (in_filter (λ q. is_given (chosen q)) p sel) ∙ ap (λ l. is_in p l) (sym as_left) ∙ h
@@ -114,9 +100,7 @@ module _
 
     -- where the condition is 0 the lane still holds that
     untouched : Evaluated (λ p. a (at_place o1 p) p) (filter (λ p. not (zero_at p)) left) others1 o1 o2 s1 s2 → EachPlace (filter zero_at left) (λ p. b (at_place o2 p) p ≡ b (at_place o1 p) p)
-    untouched second p h =
-        let zero : zero_at p ≡ true = and_right (is_in p left) (zero_at p) (sym (in_filter zero_at p left) ∙ h) in
-        ap (λ z. b z p) (second.others p (in_filter (λ q. not (zero_at q)) p left ∙ ap (λ t. is_in p left && not t) zero ∙ and_false (is_in p left)))
+    untouched second = grind (arith, and_right, in_filter, and_false)
 
     -- each side may take the number that the condition came to
     pub choice : Evaluated (λ p. a (at_place o1 p) p) others others1 o1 o2 s1 s2 → Evaluated (λ p. b (at_place o2 p) p) zeros zeros1 o2 o3 s2 s3 → last ≡ filter (λ p. is_in p others1 || is_in p zeros1) left

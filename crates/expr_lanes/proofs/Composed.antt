@@ -21,9 +21,7 @@ has_at_hand size f side sel hand inside p h = (hand p (inside p h)).0
 -- ---- operators
 
 both_taken : (o : BinOp) (l r : Outcome ℕ ℤ) → is_decider o ≡ false → (l >>= λ x. r >>= λ y. number_operation o x y) ≡ lane_operation o l r
-both_taken BinOp.And l r h = absurd (cc h)
-both_taken BinOp.Or l r h = absurd (cc h)
-both_taken o l r h = refl
+both_taken o l r h = grind arith
 
 pub operated : (o : BinOp) (f g : ℕ → Outcome ℕ ℤ) (sel left right last : List ℕ) (x y : ℕ → ℤ) (before after : List ℤ) (s0 s1 s2 s3 : List Stopped) → is_decider o ≡ false → HasCome f sel left x s0 s1 → HasCome g left right y s1 s2
     → Evaluated (λ p. number_operation o (x p) (y p)) right last before after s2 s3 → Evaluated (λ p. lane_operation o (f p) (g p)) sel last before after s0 s3
@@ -42,9 +40,7 @@ as_difference o = refl
 
 -- the other truth value is an equality with 0
 equal_to_zero : (z : ℤ) → (int_le z (pos 0) && int_le (pos 0) z) ≡ is_zero z
-equal_to_zero (pos zero) = refl
-equal_to_zero (pos (suc n)) = rw compare.suc-zero refl
-equal_to_zero (negsuc n) = refl
+equal_to_zero z = grind arith
 
 as_equality : (o : Outcome ℕ ℤ) → (o >>= λ x. Gives (mark (int_le x (pos 0) && int_le (pos 0) x))) ≡ (o >>= λ x. Gives (mark (is_zero x)))
 as_equality (Gives z) = ap (λ b. Gives (mark b)) (equal_to_zero z)
@@ -52,15 +48,11 @@ as_equality o = refl
 
 -- an operator with two sides in place of one
 pub same_depth : (e : NumTree) → depth (with_zero e) ≡ depth e
-same_depth (Neg a) = omega arith
-same_depth (Not a) = omega arith
-same_depth e = refl
+same_depth e = grind arith
 
 module _ {S : Type 0} (IsNumbers IsTold : S → ℕ → Type 0) (functions : S → List Function) (s : S) (levels : ℕ) where
   able_with_zero : (e : NumTree) → IsAble IsNumbers IsTold functions s levels e → IsAble IsNumbers IsTold functions s levels (with_zero e)
-  able_with_zero (Neg a) x = record { can = (tt, x.can); calls = (tt, x.calls); deep = omega (arith, x.deep) }
-  able_with_zero (Not a) x = record { can = (x.can, tt); calls = (x.calls, tt); deep = omega (arith, x.deep) }
-  able_with_zero e x = x
+  able_with_zero e x = grind arith
 
   pub able_sides : (e sides : NumTree) → sides ≡ with_zero e → IsAble IsNumbers IsTold functions s levels e → IsAble IsNumbers IsTold functions s levels sides
   able_sides e sides is x = subst (λ (t : NumTree). IsAble IsNumbers IsTold functions s levels t) (sym is) (able_with_zero e x)

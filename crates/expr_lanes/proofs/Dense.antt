@@ -21,9 +21,7 @@ range_more a (suc n) =
 
 -- one more place is numbered
 pub number_more : (places : List ℕ) (i : ℕ) → take i places ≡ range_with_len 0 i → i < length places → take (i + 1) (set places i i) ≡ range_with_len 0 (i + 1)
-number_more places i so_far inside =
-    let last : i ≡ 0 + i = omega arith in
-    take_more_set places i i inside ∙ ap (λ l. l ++ i ∷ []) so_far ∙ ap (λ m. range_with_len 0 i ++ m ∷ []) last ∙ sym (range_more 0 i)
+number_more places i so_far inside = grind (arith, take_more_set, range_more)
 
 pub first_in_range : (n p : ℕ) → p < n → is_in p (range_with_len 0 n) ≡ true
 first_in_range n p h =
@@ -46,11 +44,7 @@ pub below_range : (n p : ℕ) → is_in p (range_with_len 0 n) ≡ true → p < 
 below_range n p h = let below : p < 0 + n = below_end n 0 p h in omega arith
 
 pub outside_range : (n p : ℕ) → is_in p (range_with_len 0 n) ≡ false → n ≤ p
-outside_range n p h =
-    elim (cases_lt p n) [
-      | inl low ↦ let both : true ≡ false = sym (first_in_range n p low) ∙ h in absurd (cc both)
-      | inr high ↦ high
-    ]
+outside_range n p h = grind (arith, cases_lt, first_in_range)
 
 -- ---- places that are covered
 
@@ -71,9 +65,7 @@ covered f sel before after stops values others = record {
 -- one does: what was written until then is written over, or is of no place that is left
 pub sifted_anew : (f : ℕ → Outcome ℕ ℤ) (sel given left : List ℕ) (before middle after : List ℤ) (stops more : List Stopped) → given ≡ sel → ((p : ℕ) → is_in p sel ≡ false → at_place middle p ≡ at_place before p) → Evaluated f given left middle after stops more
     → Evaluated f sel left before after stops more
-sifted_anew f sel given left before middle after stops more same others e =
-    let here : Evaluated f sel left middle after stops more = subst (λ (l : List ℕ). Evaluated f l left middle after stops more) same e in
-    record { come = here.come; others = λ p h. here.others p h ∙ others p h }
+sifted_anew f sel given left before middle after stops more same others e = grind arith
 
 -- ---- what each place of such a selection has, the first have
 

@@ -38,11 +38,7 @@ parts_of test sel = length-filter_both test (λ p. not (test p)) (λ p. refl) se
 
 -- the part that passes a test
 pub selected_part : (test : ℕ → Bool) (size : ℕ) (sel part : List ℕ) (stops : List Stopped) → IsSelected size sel stops → part ≡ filter test sel → IsSelected size part stops
-selected_part test size sel part stops ready is = record {
-  small = ready.small;
-  inside = λ p h. ready.inside p (filtered_in test p sel (subst (λ (l : List ℕ). is_in p l ≡ true) is h));
-  room = omega (arith, parts_of test sel, ap (λ (l : List ℕ). length l) is, ready.room);
-}
+selected_part test size sel part stops ready is = grind (arith, filtered_in, parts_of)
 
 -- it, after the other part was evaluated
 pub selected_other : (test : ℕ → Bool) (f : ℕ → Outcome ℕ ℤ) (size : ℕ) (sel part others left : List ℕ) (before after : List ℤ) (stops more : List Stopped)

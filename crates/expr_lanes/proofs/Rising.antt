@@ -50,13 +50,7 @@ filter_whole f (p ∷ sel) h = kept_whole f (f p) p sel (filter_whole f sel) h
 
 -- where the test of the numbers passes, as many are left as there were
 pub dense_left : (f : ℕ → Bool) (n m : ℕ) (old new : List ℕ) → take n old ≡ range_with_len 0 n → n ≤ length old → m ≤ length new → take m new ≡ filter f (take n old) → nat_eq m n ≡ true → take m new ≡ range_with_len 0 m
-dense_left f n m old new first long room kept all =
-    elim (eqb_tells m n) [
-      | inl e ↦
-          let many : length (filter f (take n old)) ≡ length (take n old) = omega (arith, e.1, ap (λ (l : List ℕ). length l) kept, length-take-le n old long, length-take-le m new room) in
-          kept ∙ filter_whole f (take n old) many ∙ first ∙ ap (λ k. range_with_len 0 k) (sym e.1)
-      | inr o ↦ let both : true ≡ false = sym all ∙ o.0 in absurd (cc both)
-    ]
+dense_left f n m old new first long room kept all = grind (arith, eqb_tells, length-take-le, filter_whole)
 
 -- and what is left rises
 pub rising_left : (f : ℕ → Bool) (sel left : List ℕ) → AreRising sel → left ≡ filter f sel → AreRising left

@@ -62,9 +62,7 @@ times_with t p o xs = omega arith
 module _ {A B : Type 0} (g : ℕ → Outcome ℕ A) (f : ℕ → Outcome ℕ B) (through : (p : ℕ) → Through (g p) (f p)) where
   given_step : (p : ℕ) (ps : List ℕ) (o : Outcome ℕ A) → Through o (f p) → given_in f (given_in g ps) ≡ given_in f ps
       → given_in f (cond (is_given o) (p ∷ given_in g ps) (given_in g ps)) ≡ cond (is_given (f p)) (p ∷ given_in f ps) (given_in f ps)
-  given_step p ps (Gives z) h e = ap (λ l. cond (is_given (f p)) (p ∷ l) l) e
-  given_step p ps (Faults k) h e = e ∙ ap (λ o. cond (is_given o) (p ∷ given_in f ps) (given_in f ps)) (sym h)
-  given_step p ps (Needs c) h e = e ∙ ap (λ o. cond (is_given o) (p ∷ given_in f ps) (given_in f ps)) (sym h)
+  given_step p ps o h e = grind arith
 
   pub given_through : (ps : List ℕ) → given_in f (given_in g ps) ≡ given_in f ps
   given_through [] = refl
@@ -73,9 +71,7 @@ module _ {A B : Type 0} (g : ℕ → Outcome ℕ A) (f : ℕ → Outcome ℕ B) 
   times_step : (t : Stopped → Bool) (p : ℕ) (ps : List ℕ) (o : Outcome ℕ A) → Through o (f p)
       → times t (stops_in g ps) + times t (stops_in f (given_in g ps)) ≡ times t (stops_in f ps)
       → times t (with_stop p o (stops_in g ps)) + times t (stops_in f (cond (is_given o) (p ∷ given_in g ps) (given_in g ps))) ≡ times t (with_stop p (f p) (stops_in f ps))
-  times_step t p ps (Gives z) h e = omega (arith, times_with t p (f p) (stops_in f (given_in g ps)), times_with t p (f p) (stops_in f ps))
-  times_step t p ps (Faults k) h e = omega (arith, ap (λ o. times t (with_stop p o (stops_in f ps))) h)
-  times_step t p ps (Needs c) h e = omega (arith, ap (λ o. times t (with_stop p o (stops_in f ps))) h)
+  times_step t p ps o h e = grind (arith, times_with)
 
   pub times_through : (t : Stopped → Bool) (ps : List ℕ) → times t (stops_in g ps) + times t (stops_in f (given_in g ps)) ≡ times t (stops_in f ps)
   times_through t [] = refl
@@ -116,18 +112,12 @@ module _ {A : Type 0} (number : ℕ → A) where
 
   -- what is told needs no evaluation
   pub come_told : (sel : List ℕ) (stops : List Stopped) → HasCome (told number) sel sel number stops stops
-  come_told sel stops = record {
-    left_in = sym (all_given sel);
-    values = λ p h. refl;
-    joined = λ t. let none : times t (stops_in (told number) sel) ≡ 0 = ap (times t) (nothing_stops sel) in omega arith;
-  }
+  come_told sel stops = grind (arith, all_given, nothing_stops)
 
 -- ---- one after the other
 
 through_bind : {A B : Type 0} (o : Outcome ℕ A) (k : A → Outcome ℕ B) → Through o (o >>= k)
-through_bind (Gives a) k = tt
-through_bind (Faults e) k = refl
-through_bind (Needs c) k = refl
+through_bind o k = grind arith
 
 module _ {A : Type 0} (g : ℕ → Outcome ℕ A) (sel left last : List ℕ) (x : ℕ → A) (s0 s1 s2 : List Stopped) (first : HasCome g sel left x s0 s1) where
   -- with the places that the first left, and what it came to there, the second goes on

@@ -17,9 +17,7 @@ at_rest ys xs i d e =
 
 module _ (f : ℕ → Outcome ℕ ℤ) where
   with_push : (o : Outcome ℕ ℤ) (x : ℕ) (whole one two : List Stopped) → whole ≡ one ++ two → with_stop x o whole ≡ with_stop x o one ++ two
-  with_push (Gives z) x whole one two e = e
-  with_push (Faults k) x whole one two e = ap (λ l. stopped x (Fault k) ∷ l) e
-  with_push (Needs c) x whole one two e = ap (λ l. stopped x (Need c) ∷ l) e
+  with_push o x whole one two e = grind arith
 
   stops_push : (xs : List ℕ) (p : ℕ) → stops_in f (xs ++ p ∷ []) ≡ stops_in f xs ++ with_stop p (f p) []
   stops_push [] p = refl

@@ -8,9 +8,7 @@ pub at-requires : goal.at-requires
 at-requires g c = c.requires.can _ (read_in c.args.places.now c.loop-i.places c.args.count c.loop-i.i 0 c.loop-i.invariant.front.rest (omega arith) (omega arith))
 
 pub bounds-lane-place : goal.bounds-lane-place
-bounds-lane-place g c =
-    let inside : get_or c.loop-i.places c.loop-i.i 0 < length c.args.lane.now = c.requires.inside _ (read_in c.args.places.now c.loop-i.places c.args.count c.loop-i.i 0 c.loop-i.invariant.front.rest (omega arith) (omega arith)) in
-    omega arith
+bounds-lane-place = grind (arith, read_in)
 
 pub loop-i-preserved : goal.loop-i-preserved
 loop-i-preserved g c =

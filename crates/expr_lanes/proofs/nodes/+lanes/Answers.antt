@@ -79,9 +79,7 @@ eval_choice-returns g t c =
     choice _ _ _ _ _ _ _ _ _ c.eval_node.ensures c.part.ensures.others c.part.ensures.zeros _ _ _ _ _ _ _ _ _ c.eval_branch.ensures c.eval_branch-2.ensures c.rejoin.ensures
 
 pub gather_more-eval_node-requires : goal.gather_more-eval_node-requires
-gather_more-eval_node-requires g t c =
-    let ready : IsReady (g.S.LaneInputs.size c.args.arguments.now.scope.now) c.args.selection.now c.args.level.now.left c.args.stops.now.items = record { selected = c.requires.ready; long = omega (arith, c.requires.ready.small) } in
-    search rules
+gather_more-eval_node-requires = grind arith
 
 pub gather_more-gather-requires : goal.gather_more-gather-requires
 gather_more-gather-requires g t c =
@@ -118,14 +116,7 @@ eval_call-returns-in-None g t c =
     (go_on _ _ _ _ _ _ _ _ c.gather.ensures (λ p zs. lane_call (g.S.Calls.functions scope) c.args.called.now.callee zs) _ _ _ (λ p h. refl) (rw c.args_length.ensures at c.call_lanes.ensures))
 
 pub eval_unary-eval_operator-requires : goal.eval_unary-eval_operator-requires
-eval_unary-eval_operator-requires g t c =
-    let same : Bin c.match-node.op.0 (num_tree c.match-node.op.1.now) (num_tree c.match-node.op.2.now) ≡ with_zero (num_tree c.args.node.now) =
-    elim c.match-node.branch [ eval_unary-in-Neg w ↦ rw (w.op-is, w.in-Neg.is) (search rules) | eval_unary-in-Not w ↦ rw (w.op-is, w.in-Not.is) (search rules) ] in
-    let able : IsAble g.S.LaneInputs.can g.S.LaneInputs.can_tell g.S.Calls.functions c.args.scope.now (length c.args.scratch.now)
-    (Bin c.match-node.op.0 (num_tree c.match-node.op.1.now) (num_tree c.match-node.op.2.now)) =
-    able_sides _ _ _ _ _ _ _ same c.requires.able in
-    let less : depth (Bin c.match-node.op.0 (num_tree c.match-node.op.1.now) (num_tree c.match-node.op.2.now)) ≡ depth (num_tree c.args.node.now) = ap depth same ∙ same_depth (num_tree c.args.node.now) in
-    search rules
+eval_unary-eval_operator-requires = grind (arith, eval_unary-in-Neg, eval_unary-in-Not, able_sides, same_depth)
 
 pub eval_unary-returns : goal.eval_unary-returns
 eval_unary-returns g t c =

@@ -7,6 +7,4 @@ pub loop-i-preserved : goal.loop-i-preserved
 loop-i-preserved c = number_more _ _ c.loop-i.invariant (omega arith)
 
 pub returns : goal.returns
-returns c =
-    let all : c.loop-i.i ≡ c.args.count = omega arith in
-    subst (λ (n : ℕ). take n c.loop-i.places ≡ range_with_len 0 n) all c.loop-i.invariant
+returns = grind arith
