@@ -15,16 +15,11 @@ use Rattle.slot_words.proofs.Noting.{set_rises, set_within, set_many, set_grows}
 
 -- a multiple that is counted is no greater than the number
 pub multiple_below : (c g j : ℕ) → j < c / g → (j + 1) * g ≤ c
-multiple_below c g j lt =
-    let low : (c / g) * g ≤ c = omega arith in
-    let high : (j + 1) * g ≤ (c / g) * g = mul-le-mul_right g (omega arith) in
-    omega arith
+multiple_below c g j lt = grind arith
 
 -- an item of a list by numbers
 pub at_below : {A : Type 0} (f : ℕ → A) (n j : ℕ) (x : A) → slice_get (map f (below n)) j ≡ Some x → (j < n) × (f j ≡ x)
-at_below f n j x h =
-    let inside : j < n = omega (arith, slice_get_within (map f (below n)) j x h, length-map (below n) f, length-below n) in
-    (inside, same_some (sym (slice_get-map f (below n) j ∙ ap (option_map f) (slice_get-below n j inside)) ∙ h))
+at_below f n j x h = grind (arith, slice_get_within, length-map, length-below, same_some, slice_get-map, slice_get-below)
 
 module _ (os ds : List (List ℕ)) (clusters step : ℕ) (noted : AreNoted os ds clusters) where
   abbrev set_at : ℕ → List ℕ
@@ -54,19 +49,12 @@ module _ (facts : LoopFacts) (place : ℕ) where
 
   pub lines_next : (f : ℕ → List ℕ) (j : ℕ) (ls now : List PartialLine) (l : PartialLine)
       → ArePartialLines facts place (map f (below j)) ls → IsPartialLine facts place (f j) l → now ≡ ls ++ l ∷ [] → ArePartialLines facts place (map f (below (j + 1))) now
-  lines_next f j ls now l h one is =
-      let next : suc j ≡ j + 1 = omega arith in
-      subst (λ k. ArePartialLines facts place (map f (below k)) now) next
-      (subst (λ (sets : List (List ℕ)). ArePartialLines facts place sets now) (sym (map-append f (below j) (j ∷ [])))
-      (subst (ArePartialLines facts place (map f (below j) ++ f j ∷ [])) (sym is) (lines_push (map f (below j)) ls (f j) l h one)))
+  lines_next f j ls now l h one is = grind (arith, map-append, lines_push)
 
   line_in : (sets : List (List ℕ)) (ls : List PartialLine) (j : ℕ) (set : List ℕ) (l : PartialLine) → ArePartialLines facts place sets ls → slice_get sets j ≡ Some set → slice_get ls j ≡ Some l → IsPartialLine facts place set l
   line_in [] ls j set l h at there = absurd (cc)
   line_in (s ∷ ss) [] j set l h at there = elim h [ ]
-  line_in (s ∷ ss) (m ∷ ms) zero set l h at there =
-      let same : s ≡ set = cc at in
-      let line : m ≡ l = cc there in
-      subst (λ (x : PartialLine). IsPartialLine facts place set x) line (subst (λ (x : List ℕ). IsPartialLine facts place x m) same h.0)
+  line_in (s ∷ ss) (m ∷ ms) zero set l h at there = grind arith
   line_in (s ∷ ss) (m ∷ ms) (suc j) set l h at there = line_in ss ms j set l h.1 at there
 
   -- the last of the lines so far

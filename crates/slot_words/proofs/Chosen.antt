@@ -104,9 +104,7 @@ module _ {A B : Type 0} (f : A → B) (low high : ℕ) where
   pub added_mapped : (os : List (List ℕ)) (ts : List (List A)) → map f (added os low high ts) ≡ added os low high (map (map f) ts)
   added_mapped [] ts = refl
   added_mapped (o ∷ os) [] = refl
-  added_mapped (o ∷ os) (t ∷ ts) =
-      ap (map f) (kept_both low high (zip o t) (numbered os ts)) ∙ map-append f (kept low high (zip o t)) (added os low high ts) ∙ ap₂ (λ x y. x ++ y) (kept_mapped o t) (added_mapped os ts)
-      ∙ sym (kept_both low high (zip o (map f t)) (numbered os (map (map f) ts)))
+  added_mapped (o ∷ os) (t ∷ ts) = grind (arith, kept_both, map-append, kept_mapped, added_mapped os ts)
 
 pub lengths_mapped : {A B : Type 0} (f : A → B) (ts : List (List A)) → map length (map (map f) ts) ≡ map length ts
 lengths_mapped f [] = refl

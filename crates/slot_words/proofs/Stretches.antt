@@ -29,13 +29,7 @@ no_fall xs up i j d le lt = ⊎_elim (λ (same : i ≡ j). omega (arith, ap (λ 
 module _ (ns : List ℕ) (low high s e : ℕ) (le : low ≤ high) (start : IsPartitionPoint (λ y. nat_lt y low ≡ true) (λ y. nat_lt y low ≡ false) ns s)
     (end : IsPartitionPoint (λ y. nat_lt y high ≡ true) (λ y. nat_lt y high ≡ false) ns e) (within : s ≤ length ns) (within' : e ≤ length ns) where
   in_order : s ≤ e
-  in_order = ⊎_elim
-      (λ (lt : e < s).
-      let less = ltb-true (get_or ns e 0) low (start.0 e 0 (omega arith) lt) in
-      let most = ltb-false (get_or ns e 0) high (end.1 e 0 (omega arith) (omega arith)) in
-      absurd (omega arith))
-      (λ (most : s ≤ e). most)
-      (cases_lt e s)
+  in_order = grind (arith, ltb-true, ltb-false, cases_lt)
 
   pub is_stretch : IsStretch ns low high s (e - s) × (s ≤ e)
   is_stretch = let order = in_order in (

@@ -29,9 +29,7 @@ choose_between-requires g c =
     }
 
 pub loop-i-preserved : goal.loop-i-preserved
-loop-i-preserved g c =
-    let h = rw (c.as_slice.ensures, c.as_slice-in-loop-i.ensures) at c.in_ok-choose_between.ensures in
-    trail_added c.args.orders.now.slots c.args.trails.now c.args.low c.args.below c.loop-i.i c.at.result.now c.at-in-loop-i.result.now _ _ _ _ c.loop-i.invariant c.at.ensures c.at-in-loop-i.ensures h.clusters h.pieces
+loop-i-preserved = grind (arith, trail_added)
 
 -- all trails are gone through
 gone : (g : Over) (c : After-sort_unstable g) → AreOf c.loop-i.clusters.items c.loop-i.pieces.items (added c.args.orders.now.slots c.args.low c.args.below c.args.trails.now)

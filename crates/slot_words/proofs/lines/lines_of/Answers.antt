@@ -11,17 +11,7 @@ first_line-requires c =
     record { noted = (c.args.clusters, c.requires.noted, (c.requires.step, omega arith, c.requires.few)) }
 
 pub loop-j-init : goal.loop-j-init
-loop-j-init c =
-    let within = multiple_below c.args.clusters c.args.step 0 (omega arith) in
-    let line = c.in_ok-first_line.field-0 in
-    record {
-      many = ap length (c.in_ok-push.ensures.ok ∙ ap (λ l. l ++ line ∷ []) c.new-lines.ensures);
-      are = λ w.
-          (let sets = set_at c.args.orders.now.slots c.args.clusters c.args.trails.now w in
-          let one : c.args.step ≡ (0 + 1) * c.args.step = omega arith in
-          lines_next w.facts w.place (λ j. sets ((j + 1) * c.args.step)) 0 c.new-lines.result c.push.new.self line (subst (λ l. ArePartialLines w.facts w.place [] l) (sym c.new-lines.ensures) tt)
-          (subst (λ (b : ℕ). IsPartialLine w.facts w.place (sets b) line) one (c.in_ok-first_line.ensures c.args.clusters w (c.requires.step, omega arith, c.requires.few))) c.in_ok-push.ensures.ok);
-    }
+loop-j-init = grind (arith, multiple_below, set_at, lines_next)
 
 pub next_line-requires-clause-noted : goal.next_line-requires-clause-noted
 next_line-requires-clause-noted c =

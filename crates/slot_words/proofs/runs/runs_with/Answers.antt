@@ -6,11 +6,7 @@ use Rattle.slot_words.proofs.runs.runs_with.Goals as goal
 use Rattle.slot_words.proofs.runs.runs_with.Goals.{then-i-gt0, else-i-gt0+then-k-gt0}
 
 pub loop-i-init : goal.loop-i-init
-loop-i-init c = record {
-  runs_within = omega arith;
-  numbers_within = omega arith;
-  joining = λ xs all are u. none_yet xs all c.args.numbers.now c.args.runs.now c.new-joined.result.items are u c.new-joined.ensures.items;
-}
+loop-i-init = grind (arith, none_yet)
 
 pub loop-i-preserved-in-Continue-1 : goal.loop-i-preserved-in-Continue-1
 loop-i-preserved-in-Continue-1 c =

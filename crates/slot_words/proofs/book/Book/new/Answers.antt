@@ -14,9 +14,7 @@ split_seat-seat-requires c =
     (c.loop-slot.invariant.of, omega (arith, c.in_ok-table.ensures), deals (AreNotings key) (again key) c.loop-slot.first.id c.loop-slot.first.me.0 (omega arith))
 
 pub fresh-requires : goal.fresh-requires
-fresh-requires c =
-    let s = c.split_seat-seat.ensures in
-    s.4 ∙ ap (λ v. (v, [])) (one_dealt _ _ _ _ _ _ _ _ c.loop-slot.invariant (omega arith))
+fresh-requires = grind (arith, one_dealt)
 
 pub loop-slot-preserved : goal.loop-slot-preserved
 loop-slot-preserved c =
@@ -26,6 +24,4 @@ loop-slot-preserved c =
     (c.in_ok-fresh.ensures ∙ ap (λ t. record { table = t; slot = c.loop-slot.slot; clusters = c.args.clusters; numbers = [] }) (s.3 ∙ i.of))
 
 pub returns : goal.returns
-returns c =
-    let book : BookSeen = record { table = c.in_ok-table.table.shared.table_id; clusters = c.args.clusters; slots = c.args.slots } in
-    (refl, refl, c.loop-slot.invariant.dealt ∙ ap (fresh_shares book) (omega arith))
+returns = grind arith

@@ -28,6 +28,4 @@ loop-slot-preserved c =
     next_dealt _ _ _ _ _ _ _ _ i (c.args.slots - (c.loop-slot.slot + 1)) _ _ _ _ (omega arith) s.0 s.2 c.in_ok-push.ensures.ok (fresh_value claims c.loop-slot.slot c.split_seat-seat.result.table_id c.split_seat-seat.result.me (s.3 ∙ i.of) one)
 
 pub returns : goal.returns
-returns c =
-    let claims : ClaimsSeen = record { table = c.in_ok-table.table.shared.table_id; clusters = c.args.clusters; slots = c.args.slots } in
-    (refl, refl, c.loop-slot.invariant.dealt ∙ ap (fresh_seats claims) (omega arith))
+returns = grind arith
