@@ -25,7 +25,7 @@ returns c =
           sym (source_is ⊥ d.fns d.columns row u (history script) _ _ (column_source ⊥ d.fns d.columns row u (history script) (accepted script d g) node name t h));
       below = λ script d g u s x h.
           each_weaker _ _ (λ c k. (let n = versions_count d.columns (fn_names d.fns) (history script) in let m = k.0 in omega (arith, n, m), k.1)) x.tree
-              (columns_below d.fns d.columns u (history script) (accepted script d g) s x h);
+          (columns_below d.fns d.columns u (history script) (accepted script d g) s x h);
       sites_apart = λ script d g s x h. site_number d.columns (fn_names d.fns) (history script) (accepted script d g) s x h;
       variations_apart = λ script d g v x h. variation_number d.columns (fn_names d.fns) (history script) (accepted script d g) v x h;
       bookings = λ g. booked_are g.header g.names (history g.script);
