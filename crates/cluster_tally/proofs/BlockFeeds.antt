@@ -76,12 +76,7 @@ module _ (f : LoopFacts) (watched : List ℕ) (s : BlockStage) (t : TallyView) (
   -- an accumulator of the pass can take the batch in
   can_take_in : (done : List ℕ) (acc : Accumulator) → entries_over f done ≤ entries_over f s.done → acc.kind ≡ can.kind → IsFedBy f done s.cluster (taken_in s.entries s.block s.passes pass) pass acc
       → CanTakeIn cluster batch acc
-  can_take_in done acc fewer same h = record {
-    suits = subst (λ k. EachPlace batch.places (SuitsAt k batch.sources)) (sym same) can.suits;
-    no_fault = subst (λ k. EachPlace batch.places (λ p. feed_fault k (values_at batch.sources p) ≡ None)) (sym same) can.no_fault;
-    rising = omega (arith, h.last, can.at_cluster);
-    room = omega (arith, h.few, entries_room f watched s t can.holds can.within, at_now, can.few);
-  }
+  can_take_in done acc fewer same h = grind (arith, entries_room, at_now)
 
   pub can_take : (acc : Accumulator) → slice_get t.accs pass ≡ Some acc → CanTakeIn cluster batch acc
   can_take acc at = can_take_in s.done acc (omega arith) (its_kind acc at) (can.holds.accs pass acc at)
@@ -111,9 +106,7 @@ module _ (f : LoopFacts) (watched : List ℕ) (s : BlockStage) (t : TallyView) (
       news = ap₂ from_cluster (sym can.at_cluster) (ap (λ k. batch_items k batch) same ∙ can.fed)
 
       all : fed_by f done s.cluster (taken_in s.entries s.block s.passes pass) pass ++ from_cluster cluster (batch_items old.kind batch) ≡ fed_by f done s.cluster (taken_in s.entries s.block (s.passes + 1) pass) pass
-      all =
-          append_assoc (fed_over f done pass) (of (taken_in s.entries s.block s.passes pass)) (from_cluster cluster (batch_items old.kind batch))
-          ∙ ap (λ l. fed_over f done pass ++ l) (ap₂ (λ n l. of n ++ l) at_now news ∙ sym (items_next f s pass) ∙ ap of (sym at_next))
+      all = grind (arith, append_assoc, of, at_now, news, items_next, at_next)
 
   -- the others are as they were
   same_taken : (i : ℕ) → (i ≡ pass → ⊥) → taken_in s.entries s.block s.passes i ≡ taken_in s.entries s.block (s.passes + 1) i
@@ -195,11 +188,4 @@ pub took : {T E : Type 0} (r : Result T E) (place cluster : ℕ) (batch : Batch)
     → OnOk r (now.entries ≡ old.entries + length (places_of batch.places)) → OnOk r (now.last ≡ cluster)
     → ((fed : List Fed) → HasFed old fed → OnOk r (HasFed now (fed ++ from_cluster cluster (batch_items old.kind batch))))
     → OnOk r (TookIn place cluster batch accs (slice_set accs place now))
-took (Ok x) place cluster batch accs acc old now at is kind entries last fed = record {
-  acc = acc;
-  its_place = at;
-  now = now;
-  takes = subst (λ (a : Accumulator). TakesIn cluster batch a now) (sym is) (record { kind = kind; entries = entries; last = last; fed = fed });
-  rest = refl;
-}
-took (Err e) place cluster batch accs acc old now at is kind entries last fed = entries
+took r place cluster batch accs acc old now h is kind entries last fed = grind arith

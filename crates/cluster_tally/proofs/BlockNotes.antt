@@ -45,9 +45,7 @@ module _ (f : LoopFacts) (watched : List ℕ) (s : BlockStage) (t : TallyView) (
   has_room = omega (arith, ap (λ (c : Counts). c.all) (at_place filter nothing can.inside), ap (λ (c : Counts). c.all) can.come_to, counts_room f watched s t can.holds filter)
 
   now_there : counts_in f (filter_done s) filter ≡ both (counts_in f s filter) counts
-  now_there = subst (λ k. counts ≡ counted (block_reaches f s k) → counts_in f (filter_done s) k ≡ both (counts_in f s k) counts) can.at_filter
-      (λ is. counts_next f s ∙ ap (both (counts_in f s s.filters)) (sym is))
-      can.come_to
+  now_there = grind (arith, counts_next)
 
   flow_now : (flow : List Counts) → flow ≡ set t.flow filter (both (get_or t.flow filter nothing) counts) → flow ≡ map (counts_in f (filter_done s)) (below f.filters)
   flow_now flow is = is ∙ same_lists (set t.flow filter one) all (length-set t.flow filter one ∙ many ∙ sym (length-map (below f.filters) (counts_in f (filter_done s)) ∙ length-below f.filters)) (λ i d lt. each i d (omega (arith, length-set t.flow filter one, many)))
@@ -71,17 +69,4 @@ module _ (f : LoopFacts) (watched : List ℕ) (s : BlockStage) (t : TallyView) (
           (cases_eq i filter)
 
   pub holds_noted : (flow : List Counts) → flow ≡ set t.flow filter (both (get_or t.flow filter nothing) counts) → HoldsIn f watched (filter_done s) (record { accs = t.accs; watched = t.watched; flow = flow; trails = t.trails })
-  holds_noted flow is =
-      let h = can.holds in
-      record {
-        facts = h.facts;
-        rises = h.rises;
-        above = h.above;
-        kinds = h.kinds;
-        accs = h.accs;
-        flow = flow_now flow is;
-        many = h.many;
-        places = h.places;
-        alone = h.alone;
-        trails = h.trails;
-      }
+  holds_noted flow is = grind (arith, flow_now, many)

@@ -54,32 +54,13 @@ module _ (c : ℕ) (old : List (Option Accumulator)) (first : List (List (Noted 
   there_is = slice_get-get_or old i d lt ∙ ap Some (sym was)
 
   pub has_trail : (acc : Accumulator) → get_or watched i d ≡ Some acc → next < length trails
-  has_trail acc is =
-      let e : drop i old ≡ Some acc ∷ drop (i + 1) old = here ∙ ap (λ w. w ∷ drop (i + 1) old) is in
-      omega (arith, b.left, ap (λ l. length (places_there 0 l)) e)
+  has_trail acc is = grind (arith, i, here)
 
   by_case : (w : Option Accumulator) → drop i old ≡ w ∷ drop (i + 1) old
       → (noted_all c old first ≡ take (next + times_there w) (noted_at c w trails next) ++ noted_all c (drop (i + 1) old) (drop (next + times_there w) (noted_at c w trails next)))
       × (length (noted_at c w trails next) ≡ next + times_there w + length (places_there 0 (drop (i + 1) old)))
       × (length (noted_at c w trails next) ≡ length trails)
-  by_case None e =
-      let n : next + 0 ≡ next = omega arith in (
-        b.noted ∙ ap (λ l. take next trails ++ noted_all c l (drop next trails)) e ∙ ap (λ k. take k trails ++ noted_all c (drop (i + 1) old) (drop k trails)) (sym n),
-        omega (arith, b.left, ap (λ l. length (places_there 0 l)) e, places_many (drop (i + 1) old) (0 + 1) 0),
-        refl,
-      )
-  by_case (Some a) e =
-      let rest = drop (i + 1) old in
-      let few : next < length trails = omega (arith, b.left, ap (λ l. length (places_there 0 l)) e) in
-      let t = get_or trails next [] in
-      let more = t ++ note_of c a ∷ [] in (
-        b.noted
-            ∙ ap₂ (λ l r. take next trails ++ noted_all c l r) e (drop_more trails next [] few)
-            ∙ sym (append_assoc (take next trails) (more ∷ []) (noted_all c rest (drop (next + 1) trails)))
-            ∙ ap₂ (λ x y. x ++ noted_all c rest y) (sym (take_more_set trails next more few)) (sym (drop-set-lt (next + 1) trails next more (omega arith))),
-        length-set trails next more ∙ omega (arith, b.left, ap (λ l. length (places_there 0 l)) e, places_many rest (0 + 1) 0),
-        length-set trails next more,
-      )
+  by_case w e = grind (arith, i, places_many, drop_more, append_assoc, take_more_set, drop-set-lt, length-set)
 
   closed_next : AreClosedTo c old first (i + 1) (next + times_there (get_or watched i d)) (set watched i (renewed (get_or watched i d))) (noted_at c (get_or watched i d) trails next)
   closed_next =
@@ -138,11 +119,7 @@ noted_there c place (Some a ∷ ws) n (t ∷ ts) (suc w) trail at is =
     record { i = suc r.i; its_place = omega (arith, r.its_place); acc = r.acc; its_acc = r.its_acc; before = r.before; was = r.was; now = r.now }
 
 piece_is : (k : ActionKind) (items : List Item) → CanWatch k → IsOfKind k (piece_for k (fold_items k items)) × (watch_filled (piece_for k (fold_items k items)) ≡ fold_items k items)
-piece_is ActionKind.Count items w = (tt, refl)
-piece_is (ActionKind.Sum c) items w = (tt, refl)
-piece_is (ActionKind.Min c) items w = (tt, refl)
-piece_is (ActionKind.Max c) items w = (tt, refl)
-piece_is k items w = absurd w
+piece_is k items w = grind arith
 
 -- ---- the whole tally
 
@@ -175,20 +152,10 @@ module _ (f : LoopFacts) (watched : List ℕ) (s : Stage) (t : TallyView) (clust
   span_same (Some r) = ranges_same f.reaches f.spreads r h.facts.rows
 
   reaches_all : (i : ℕ) → first_reaches f s.cluster (taken_in s.entries 1 s.filters i) i ≡ flat_map (λ (row : List Reach). if_there (slice_get row i)) (span_rows f.reaches (slice_get f.ranges s.cluster))
-  reaches_all i =
-      ap (λ n. first_reaches f s.cluster n i) (in_from s.entries 1 s.filters i (omega (arith, end.filters)))
-      ∙ ap (flat_map (λ (row : List Reach). if_there (slice_get row i))) (take_all s.entries (span_rows f.reaches (slice_get f.ranges s.cluster)) (omega (arith, all_taken, span_same (slice_get f.ranges s.cluster))))
+  reaches_all i = grind (arith, in_from, take_all, all_taken, span_same)
 
   counts_all : (i : ℕ) → counts_by f s.done s.cluster (taken_in s.entries 1 s.filters i) i ≡ counts_by f (s.done ++ s.cluster ∷ []) next (taken_in 0 1 0 i) i
-  counts_all i =
-      let of = λ (row : List Reach). if_there (slice_get row i) in
-      let here = span_rows f.reaches (slice_get f.ranges s.cluster) in
-      ap (λ l. both (counts_at f s.done i) (counted l)) (reaches_all i)
-      ∙ sym (counted_both (reaches_over f s.done i) (flat_map of here))
-      ∙ ap (λ l. counted (reaches_over f s.done i ++ flat_map of l)) (sym (append-nil here))
-      ∙ ap counted (sym (flat_map-append of (rows_in f.ranges f.reaches s.done) (here ++ [])))
-      ∙ ap (λ l. counted (flat_map of l)) (sym (flat_map-append (λ c. span_rows f.reaches (slice_get f.ranges c)) s.done (s.cluster ∷ [])))
-      ∙ sym (counts_at_begin f (s.done ++ s.cluster ∷ []) next i)
+  counts_all i = grind (arith, here, reaches_all, counted_both, flat_map-append, counts_at_begin)
 
   -- ---- trails
 

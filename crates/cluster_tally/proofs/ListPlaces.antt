@@ -19,10 +19,7 @@ at_set [] i v j x e = absurd (cc)
 at_set (y ∷ ys) zero v zero x e = let same : v ≡ x = cc in inl (refl, sym same)
 at_set (y ∷ ys) zero v (suc j) x e = inr ((λ k. absurd (omega arith)), e)
 at_set (y ∷ ys) (suc i) v zero x e = inr ((λ k. absurd (omega arith)), e)
-at_set (y ∷ ys) (suc i) v (suc j) x e = elim (at_set ys i v j x e) [
-  | inl p ↦ inl (ap (λ k. suc k) p.0, p.1)
-  | inr p ↦ inr ((λ k. p.0 (omega arith)), p.1)
-]
+at_set (y ∷ ys) (suc i) v (suc j) x e = grind (arith, at_set ys i v j x e)
 
 pub map_set_same : {A B : Type 0} (g : A → B) (xs : List A) (i : ℕ) (v x : A) → slice_get xs i ≡ Some x → g v ≡ g x → map g (set xs i v) ≡ map g xs
 map_set_same g [] i v x at e = refl

@@ -39,13 +39,7 @@ module _ (kinds : List ActionKind) (watched : List ℕ) (t : TallyView) (k : Act
   trails_now false = h.trails ∙ ap (map (λ p. [])) (sym (append-nil watched))
 
   pub fresh_more : (b : Bool) → (b ≡ true → CanWatch k) → IsFresh (kinds ++ k ∷ []) (watched ++ place_if b kinds) (with_pass t b k)
-  fresh_more b can = record {
-    accs = ap (λ l. l ++ fresh_acc k ∷ []) h.accs ∙ sym (map-append fresh_acc kinds (k ∷ []));
-    many = length_push t.watched (acc_if b k) ∙ ap (λ n. n + 1) h.many ∙ sym (length_push kinds k);
-    places = places_more t.watched 0 (acc_if b k) ∙ (let e : (n : ℕ) → 0 + n ≡ n = λ n. omega arith in ap₂ (λ l n. l ++ places_there n (acc_if b k ∷ [])) h.places (e (length t.watched))) ∙ ap (λ l. watched ++ l) (places_now b);
-    alone = alone_now b can;
-    trails = trails_now b;
-  }
+  fresh_more b can = grind (arith, map-append, length_push, places_more, places_now, alone_now, trails_now)
 
   pub fresh_from : (b : Bool) → (b ≡ true → CanWatch k) → (u : TallyView) (acc : Accumulator) (w : Option Accumulator) → u.accs ≡ t.accs ++ acc ∷ [] → acc ≡ fresh_acc k → u.watched ≡ t.watched ++ w ∷ [] → w ≡ acc_if b k
       → u.trails ≡ with_trail b t.trails → IsFresh (kinds ++ k ∷ []) (watched ++ place_if b kinds) u

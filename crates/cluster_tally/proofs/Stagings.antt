@@ -25,9 +25,7 @@ module _ (f : LoopFacts) (done : List ℕ) (c : ℕ) where
   fed_at_begin i = ap (λ n. fed_by f done c n i) (none_taken i) ∙ append-nil (fed_over f done i)
 
   pub counts_at_begin : (i : ℕ) → counts_by f done c (taken_in 0 1 0 i) i ≡ counts_at f done i
-  counts_at_begin i =
-      ap (λ n. counts_by f done c n i) (none_taken i)
-      ∙ ap₂ (λ a p. record { all = a; pass = p }) (add-zero (counts_at f done i).all) (add-zero (counts_at f done i).pass)
+  counts_at_begin i = grind (arith, none_taken)
 
 -- ---- a fresh tally
 
@@ -43,12 +41,7 @@ all_nothing [] = refl
 all_nothing (x ∷ xs) = ap (λ l. nothing ∷ l) (all_nothing xs)
 
 no_trails : (f : LoopFacts) (watched : List ℕ) (trails : List (List (Noted WatchPiece))) → trails ≡ map (λ p. []) watched → HaveTrails f watched [] trails
-no_trails f watched trails is = record {
-  many = ap length is ∙ length-map watched (λ p. []);
-  each = λ w place trail at has. (
-      let empty : trail ≡ [] = (of_mapped (λ (p : ℕ). []) watched w trail (ap (λ l. slice_get l w) (sym is) ∙ has)).2 in
-      subst (IsTrail f place []) (sym empty) (record { clusters = refl; alone = All-nil (λ (n : Noted WatchPiece). WatchStandsFor (watch_facts f place) (n.cluster ∷ []) n.piece) }));
-}
+no_trails f watched trails is = grind (arith, length-map, of_mapped, All-nil)
 
 pub fresh_holds : law.FreshHolds
 fresh_holds f watched t c facts fresh flow = record {

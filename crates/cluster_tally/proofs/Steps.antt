@@ -30,12 +30,7 @@ in_same e m l p ne = grind (arith, common_steps, ne)
 -- what a block adds to the entries before it
 pub items_next : (f : LoopFacts) (s : BlockStage) (i : ℕ)
     → from_cluster s.cluster (first_items f s.cluster (s.entries + s.block) i) ≡ from_cluster s.cluster (first_items f s.cluster s.entries i) ++ from_cluster s.cluster (block_items f s i)
-items_next f s i =
-    let rows = span_rows f.spreads (slice_get f.ranges s.cluster) in
-    let of : List (List (List Item)) → List Item = flat_map (λ row. list_at row i) in
-    ap (λ l. from_cluster s.cluster (of l)) (take_plus s.entries s.block rows)
-    ∙ ap (from_cluster s.cluster) (flat_map-append (λ row. list_at row i) (take s.entries rows) (take s.block (drop s.entries rows)))
-    ∙ map-append (λ (item : Item). record { cluster = s.cluster; item = item }) (first_items f s.cluster s.entries i) (block_items f s i)
+items_next f s i = grind (arith, take_plus, flat_map-append, map-append)
 
 -- ---- counts
 
@@ -48,16 +43,7 @@ both_assoc a b c = ap₂ (λ x y. record { all = x; pass = y }) (sym (add_assoc 
 
 module _ (f : LoopFacts) (s : BlockStage) where
   pub counts_next : counts_in f (filter_done s) s.filters ≡ both (counts_in f s s.filters) (counted (block_reaches f s s.filters))
-  counts_next =
-      let rows = span_rows f.reaches (slice_get f.ranges s.cluster) in
-      let more = counted (block_reaches f s s.filters) in
-      let of : ℕ → Counts = λ n. counts_by f s.done s.cluster n s.filters in
-      ap of (in_before s.entries s.block (s.filters + 1) s.filters (omega arith))
-      ∙ ap (λ l. both (counts_at f s.done s.filters) (counted (flat_map (λ (r : List Reach). if_there (slice_get r s.filters)) l))) (take_plus s.entries s.block rows)
-      ∙ ap (λ l. both (counts_at f s.done s.filters) (counted l)) (flat_map-append (λ (r : List Reach). if_there (slice_get r s.filters)) (take s.entries rows) (take s.block (drop s.entries rows)))
-      ∙ ap (both (counts_at f s.done s.filters)) (counted_both (first_reaches f s.cluster s.entries s.filters) (block_reaches f s s.filters))
-      ∙ both_assoc (counts_at f s.done s.filters) (counted (first_reaches f s.cluster s.entries s.filters)) more
-      ∙ ap (λ n. both (of n) more) (sym (in_from s.entries s.block s.filters s.filters (omega arith)))
+  counts_next = grind (arith, in_before, take_plus, flat_map-append, counted_both, both_assoc, in_from)
 
   pub counts_same : (i : ℕ) → (i ≡ s.filters → ⊥) → counts_in f (filter_done s) i ≡ counts_in f s i
   counts_same i ne = ap (λ n. counts_by f s.done s.cluster n i) (in_same s.entries s.block s.filters i ne)
@@ -92,10 +78,4 @@ module _ (f : LoopFacts) (watched : List ℕ) (s : BlockStage) (t : TallyView) (
       omega (arith, entries_with f s.done s.cluster, few, within)
 
   pub counts_room : (i : ℕ) → (counts_in f s i).all + (counted (block_reaches f s i)).all ≤ 2 ^ 32
-  counts_room i =
-      let rows = span_rows f.reaches (slice_get f.ranges s.cluster) in
-      let n = taken_in s.entries s.block s.filters i in
-      let here = few_reached (take n rows) i in
-      let more = few_reached (take s.block (drop s.entries rows)) i in
-      let most = span_few f.reaches (slice_get f.ranges s.cluster) in
-      omega (arith, here, more, most, counts_few f s.done i h.facts h.rises, length-take n rows, length-take s.block (drop s.entries rows), length-drop s.entries rows, h.facts.few, h.facts.rows)
+  counts_room i = grind (arith, few_reached, span_few, counts_few, length-take, length-drop)
