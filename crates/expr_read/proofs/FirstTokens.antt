@@ -44,9 +44,7 @@ unfolding is_name
 named w h few t f = rw (h, few, t, f) refl
 
 token_by : (w : List ℕ) (t f : Bool) → same w (codes "true") ≡ t → same w (codes "false") ≡ f → is_word w ≡ true → nat_le (length w) 64 ≡ true → is_valid (word_token w) ≡ true
-token_by w true f e g h few = rw e refl
-token_by w false true e g h few = rw (e, g) refl
-token_by w false false e g h few = rw (e, g) (named w h few e g)
+token_by w t f e g h few = grind (arith, named)
 
 word_fine : (w : List ℕ) (n : ℕ) (b : Bool) → nat_le (length w) 64 ≡ b → 0 < length w → length w ≤ n → is_word w ≡ true → IsFine n (word_first w)
 unfolding word_first
@@ -103,9 +101,7 @@ first_word c cs e = ap (λ (b : Bool). if b then word_first (take_while is_word_
 
 pub first_number : (c : ℕ) (cs : List ℕ) → is_word_start c ≡ false → is_digit c ≡ true → first_token c cs ≡ number_first (take_while is_digit (c ∷ cs))
 unfolding first_token
-first_number c cs e h =
-    ap (λ (b : Bool). if b then word_first (take_while is_word_byte (c ∷ cs)) else (if is_digit c then number_first (take_while is_digit (c ∷ cs)) else mark_first c cs)) e
-    ∙ ap (λ (b : Bool). if b then number_first (take_while is_digit (c ∷ cs)) else mark_first c cs) h
+first_number c cs e h = grind arith
 
 pub first_mark : (c : ℕ) (cs : List ℕ) → is_word_start c ≡ false → is_digit c ≡ false → first_token c cs ≡ mark_first c cs
 unfolding first_token

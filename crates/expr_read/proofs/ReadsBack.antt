@@ -61,6 +61,4 @@ spelled_back a r few =
     }
 
 pub reads_back : (text : List ℕ) (a : NamedTree) → ReadsText text a → ReadsText (text_of a) a
-reads_back text a r =
-    spelled_back a (readable r.reads_as (valid_tokens text r.found r.tokens_are))
-    (omega (arith, no_fewer (bare r.found) a r.reads_as, ap length (shown_whole a), length-map r.found (λ (t : Placed). t.token), few_tokens text r.found r.tokens_are))
+reads_back text a r = grind (arith, spelled_back, readable, valid_tokens, no_fewer, shown_whole, length-map, few_tokens)

@@ -55,17 +55,7 @@ takes_comma InList = true
 takes_comma o = false
 
 inside_step : (o : OpenMark) (s : List OpenMark) (t : Token) → continues 0 t ≡ false → (t ≡ Punct (closing o) → ⊥) → (takes_comma o ≡ true → t ≡ Punct Mark.Comma → ⊥) → operator t (o ∷ s) ≡ None
-inside_step o s (Op k) h isnt nor = absurd (never (level_of k) h)
-inside_step o s (Punct Mark.OpenBracket) h isnt nor = cc h
-inside_step o s (Punct Mark.Question) h isnt nor = cc h
-inside_step InChoice s (Punct Mark.Colon) h isnt nor = absurd (isnt refl)
-inside_step InCall s (Punct Mark.Comma) h isnt nor = absurd (nor refl refl)
-inside_step InList s (Punct Mark.Comma) h isnt nor = absurd (nor refl refl)
-inside_step InParens s (Punct Mark.Close) h isnt nor = absurd (isnt refl)
-inside_step InCall s (Punct Mark.Close) h isnt nor = absurd (isnt refl)
-inside_step InIndex s (Punct Mark.CloseBracket) h isnt nor = absurd (isnt refl)
-inside_step InList s (Punct Mark.CloseBrace) h isnt nor = absurd (isnt refl)
-inside_step o s t h isnt nor = refl
+inside_step o s t h isnt nor = grind (arith, never)
 
 pub stuck_inside : (o : OpenMark) (s : List OpenMark) (ts : List Placed) → Stops 0 ts → BeginsNot (Punct (closing o)) ts
     → (takes_comma o ≡ true → BeginsNot (Punct Mark.Comma) ts) → scan (Operator, o ∷ s) ts ≡ stuck_at ts
@@ -74,10 +64,7 @@ stuck_inside o s (p ∷ ts) h isnt nor =
     refused_at (Operator, o ∷ s) p ts (inside_step o s p.token h (first_is_not (Punct (closing o)) p ts isnt) (λ e. first_is_not (Punct Mark.Comma) p ts (nor e)))
 
 end_step : (t : Token) → continues 0 t ≡ false → operator t [] ≡ None
-end_step (Op o) h = absurd (never (level_of o) h)
-end_step (Punct Mark.OpenBracket) h = cc h
-end_step (Punct Mark.Question) h = cc h
-end_step t h = refl
+end_step t h = grind (arith, never)
 
 pub refused_end : (p : Placed) (ts : List Placed) → Stops 0 (p ∷ ts) → scan (Operator, []) (p ∷ ts) ≡ Refused p.place
 refused_end p ts h = refused_at (Operator, []) p ts (end_step p.token h)
@@ -96,33 +83,21 @@ pub positive : (n : ℕ) → 1 ≤ n → nat_eq n 0 ≡ false
 positive n h = grind (arith, nat_tests)
 
 postfix_step : (n : ℕ) (t : Token) → 7 ≤ n → n ≤ 8 → (t ≡ Punct Mark.OpenBracket → ⊥) → continues n t ≡ false
-postfix_step n (Op o) low high isnt = le_false n (level_of o) (omega (arith, level_low o))
-postfix_step n (Punct Mark.OpenBracket) low high isnt = absurd (isnt refl)
-postfix_step n (Punct Mark.Question) low high isnt = positive n (omega arith)
-postfix_step n t low high isnt = refl
+postfix_step n t low high isnt = grind (arith, le_false, level_low, positive)
 
 pub stops_postfix : (n : ℕ) (ts : List Placed) → 7 ≤ n → n ≤ 8 → BeginsNot (Punct Mark.OpenBracket) ts → Stops n ts
 stops_postfix n [] low high isnt = tt
 stops_postfix n (p ∷ ts) low high isnt = postfix_step n p.token low high (first_is_not (Punct Mark.OpenBracket) p ts isnt)
 
 sides_step : (n : ℕ) (t : Token) → 1 ≤ n → n ≤ 6 → continues (n + 1) t ≡ false → ((o : BinOp) → level_of o ≡ n → t ≡ Op o → ⊥) → continues n t ≡ false
-sides_step n (Op o) low high h isnt =
-    let under : level_of o < n + 1 = le_not (n + 1) (level_of o) h in
-    let other : level_of o ≡ n → ⊥ = λ e. isnt o e refl in
-    le_false n (level_of o) (omega arith)
-sides_step n (Punct Mark.OpenBracket) low high h isnt = absurd (let far : 8 < n + 1 = le_not (n + 1) 8 h in omega arith)
-sides_step n (Punct Mark.Question) low high h isnt = positive n low
-sides_step n t low high h isnt = refl
+sides_step n t low high h isnt = grind (arith, le_not, le_false, positive)
 
 pub stops_binary : (n : ℕ) (ts : List Placed) → 1 ≤ n → n ≤ 6 → Stops (n + 1) ts → ((o : BinOp) → level_of o ≡ n → BeginsNot (Op o) ts) → Stops n ts
 stops_binary n [] low high h isnt = tt
 stops_binary n (p ∷ ts) low high h isnt = sides_step n p.token low high h (λ o e. first_is_not (Op o) p ts (isnt o e))
 
 expr_step : (t : Token) → continues 1 t ≡ false → (t ≡ Punct Mark.Question → ⊥) → continues 0 t ≡ false
-expr_step (Op o) h isnt = absurd (let far : level_of o < 1 = le_not 1 (level_of o) h in omega (arith, level_high o))
-expr_step (Punct Mark.OpenBracket) h isnt = cc h
-expr_step (Punct Mark.Question) h isnt = absurd (isnt refl)
-expr_step t h isnt = refl
+expr_step t h isnt = grind (arith, le_not, level_high)
 
 pub stops_expr : (ts : List Placed) → Stops 1 ts → BeginsNot (Punct Mark.Question) ts → Stops 0 ts
 stops_expr [] h isnt = tt

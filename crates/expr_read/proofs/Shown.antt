@@ -59,9 +59,7 @@ extra_low true = omega arith
 extra_low false = omega arith
 
 extra_looser : (n l : ℕ) (b d : Bool) → nat_le n l ≡ b → nat_le (suc n) l ≡ d → extra b ≤ extra d
-extra_looser n l true d h k = omega arith
-extra_looser n l false true h k = absurd (let low : l < n = le_not n l h in let high : suc n ≤ l = le_says (suc n) l k in omega arith)
-extra_looser n l false false h k = omega arith
+extra_looser n l b d h k = grind (arith, le_not, le_says)
 
 shown_looser : (n : ℕ) (a : NamedTree) → length (tokens_at_level n a) ≤ length (tokens_at_level (suc n) a)
 shown_looser n a = omega (arith, enclosed_size (nat_le n (tree_level a)) (tokens_of a), enclosed_size (nat_le (suc n) (tree_level a)) (tokens_of a), extra_looser n (tree_level a) _ _ refl refl)

@@ -107,19 +107,7 @@ long c d o rest b e = joined (blank (c ∷ d ∷ 32 ∷ rest)) (joined (token c 
 
 pub operator : (o : BinOp) (rest : List ℕ) → Spells (op_text o) (Op o ∷ []) rest
 unfolding first_token long_mark short_mark
-operator BinOp.Mul rest = short 42 BinOp.Mul rest refl refl
-operator BinOp.Div rest = short 47 BinOp.Div rest refl refl
-operator BinOp.Rem rest = short 37 BinOp.Rem rest refl refl
-operator BinOp.Add rest = short 43 BinOp.Add rest refl refl
-operator BinOp.Sub rest = short 45 BinOp.Sub rest refl refl
-operator BinOp.Lt rest = short 60 BinOp.Lt rest refl refl
-operator BinOp.Le rest = long 60 61 BinOp.Le rest refl refl
-operator BinOp.Gt rest = short 62 BinOp.Gt rest refl refl
-operator BinOp.Ge rest = long 62 61 BinOp.Ge rest refl refl
-operator BinOp.Eq rest = long 61 61 BinOp.Eq rest refl refl
-operator BinOp.Ne rest = long 33 61 BinOp.Ne rest refl refl
-operator BinOp.And rest = long 38 38 BinOp.And rest refl refl
-operator BinOp.Or rest = long 124 124 BinOp.Or rest refl refl
+operator o rest = grind (arith, short, long)
 
 -- ---- words
 
@@ -143,9 +131,7 @@ apart_stops [] h = tt
 apart_stops (c ∷ cs) h = not_true (is_word_byte c) h
 
 blank_by : (c : ℕ) (b d : Bool) → nat_eq c 32 ≡ b → nat_eq c 9 ≡ d → is_word_start c ≡ true → is_blank c ≡ false
-blank_by c true d e f h = let k = subst (λ (x : ℕ). is_word_start x ≡ true) (eq_says c 32 e) h in cc k
-blank_by c false true e f h = let k = subst (λ (x : ℕ). is_word_start x ≡ true) (eq_says c 9 f) h in cc k
-blank_by c false false e f h = rw (e, f) refl
+blank_by c b d e f h = grind (arith, eq_says)
 
 starts_byte : (c : ℕ) → is_word_start c ≡ true → is_word_byte c ≡ true
 starts_byte c h = ap (λ (b : Bool). b || is_digit c) h
@@ -170,11 +156,7 @@ bang [] h = token 33 [] (Punct Mark.Bang) [] refl refl
 bang (d ∷ rest) h = let other : nat_eq d 61 ≡ false = not_true (nat_eq d 61) h in token 33 [] (Punct Mark.Bang) (d ∷ rest) refl (rw other refl)
 
 name_by : (a b c d : Bool) → (a && b && c && d) ≡ true → (a ≡ true) × (b ≡ true) × (c ≡ true) × (d ≡ true)
-name_by true true true true h = (refl, refl, refl, refl)
-name_by false b c d h = cc h
-name_by true false c d h = cc h
-name_by true true false d h = cc h
-name_by true true true false h = cc h
+name_by a b c d h = grind arith
 
 name_parts : (x : List ℕ) → is_name x ≡ true → (is_word x ≡ true) × (nat_le (length x) 64 ≡ true) × (not (same x (codes "true")) ≡ true) × (not (same x (codes "false")) ≡ true)
 unfolding is_name
@@ -248,10 +230,7 @@ number (negsuc n) rest h apart = cc h
 
 head_digits : (ds rest : List ℕ) → 0 < length ds → all_ascii_digits ds ≡ true → is_unequal (ds ++ rest) ≡ true
 head_digits [] rest some all = absurd (omega arith)
-head_digits (c ∷ cs) rest some all =
-    let first : is_digit c ≡ true = (both_true (is_digit c) (list_all is_digit cs) all).0 in
-    let high : c ≤ 57 = le_says c 57 (both_true (nat_le 48 c) (nat_le c 57) first).1 in
-    rw (unequal c 61 (omega arith)) refl
+head_digits (c ∷ cs) rest some all = grind (arith, both_true, le_says, unequal)
 
 pub number_head : (z : ℤ) (rest : List ℕ) → is_number z ≡ true → is_unequal (signed_decimal z ++ rest) ≡ true
 number_head (pos n) rest h = let low = below n h in head_digits (decimal n) rest (decimal_nonempty n (omega arith)) (digits_decimal own n (omega arith))

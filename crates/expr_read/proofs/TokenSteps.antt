@@ -16,10 +16,7 @@ before_none (Err e) = refl
 -- ---- at the first byte
 
 pub first_blank : (most place c : ℕ) (cs : List ℕ) → is_blank c ≡ true → tokens_within most place (c ∷ cs) ≡ tokens_within most (place + 1) cs
-first_blank most place c cs b =
-    let more : 1 + prefix_len is_blank cs ≡ suc (prefix_len is_blank cs) = omega arith in
-    let there : place + suc (prefix_len is_blank cs) ≡ (place + 1) + prefix_len is_blank cs = omega arith in
-    rw (b, more, there) refl
+first_blank most place c cs b = grind arith
 
 begins : (most place c : ℕ) (cs : List ℕ) → is_blank c ≡ false → tokens_within most place (c ∷ cs) ≡ tokens_at most place (c ∷ cs)
 begins most place c cs b = rw (b, add-zero) refl
@@ -65,9 +62,7 @@ step_bad found text i e h b f few =
 pub step_many : (found : List Placed) (text : List ℕ) (i : ℕ) (f : First) → i < length text → is_blank (get_or text i 0) ≡ false
     → first_token (get_or text i 0) (drop (i + 1) text) ≡ f → length found ≡ 256
     → goes_on found text i ≡ Err (too_many i f)
-step_many found text i f h b e full =
-    let room : 256 - length found ≡ 0 = omega arith in
-    rw (drop_more text i 0 h, room) (ap (before found) (first_many i (get_or text i 0) (drop (i + 1) text) b ∙ ap (λ (x : First). Err (too_many i x)) e))
+step_many found text i f h b e full = grind (arith, drop_more, first_many)
 
 pub step_token : (found : List Placed) (text : List ℕ) (i : ℕ) (t : Token × ℕ) → i < length text → is_blank (get_or text i 0) ≡ false
     → first_token (get_or text i 0) (drop (i + 1) text) ≡ Ok t → length found < 256

@@ -166,9 +166,7 @@ lists_done {es = es} l k b = record {
 -- ---- where the scan stops
 
 between_step : (s : List OpenMark) (t : Token) → (t ≡ Punct Mark.Comma → ⊥) → (t ≡ Punct Mark.CloseBrace → ⊥) → between_lists t s ≡ None
-between_step s (Punct Mark.Comma) isnt nor = absurd (isnt refl)
-between_step s (Punct Mark.CloseBrace) isnt nor = absurd (nor refl)
-between_step s t isnt nor = refl
+between_step s t isnt nor = grind arith
 
 pub stuck_between : (ts : List Placed) → BeginsNot (Punct Mark.Comma) ts → BeginsNot (Punct Mark.CloseBrace) ts → scan (AfterList, InLists ∷ []) ts ≡ stuck_at ts
 stuck_between [] isnt nor = refl

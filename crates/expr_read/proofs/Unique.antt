@@ -130,20 +130,11 @@ Loose n (Bang ∷ fs) = 7 ≤ n
 Loose n fs = Unit {0}
 
 looser : (n : ℕ) (fs : List Frame) → Loose n fs → Loose (suc n) fs
-looser n [] h = tt
-looser n (Left a o ∷ fs) h = omega arith
-looser n (Minus ∷ fs) h = omega arith
-looser n (Bang ∷ fs) h = omega arith
-looser n (f ∷ fs) h = tt
+looser n fs h = grind (arith, Left)
 
 -- such frames go on waiting
 waits : (n : ℕ) (fs : List Frame) (t : NamedTree) → 1 ≤ n → n ≤ 6 → Loose n fs → reduce n fs t ≡ (t, fs)
-waits n [] t low high h = refl
-waits n (Left a o ∷ fs) t low high h = rw (le_false n (level_of o) h) refl
-waits n (Minus ∷ fs) t low high h = absurd (omega arith)
-waits n (Bang ∷ fs) t low high h = absurd (omega arith)
-waits n (Other c a ∷ fs) t low high h = rw (positive n low) refl
-waits n (f ∷ fs) t low high h = refl
+waits n fs t low high h = grind (arith, Left, le_false, Other, positive)
 
 waits_postfix : (fs : List Frame) (t : NamedTree) → reduce 8 fs t ≡ (t, fs)
 waits_postfix [] t = refl

@@ -21,11 +21,7 @@ earlier_below a b end true e h k = rw e h
 earlier_below a b end false e h k = rw e k
 
 many_below : (place size : ℕ) (f : First) → IsFine size f → (too_many place f).place ≤ place + size
-many_below place size (Ok t) h = omega arith
-many_below place size (Err e) h =
-    let a : place + e.place ≤ place + size = omega arith in
-    let b : place ≤ place + size = omega arith in
-    earlier_below (from place e) (record { cause = ExprCause.TooLong; place = place }) (place + size) _ refl a b
+many_below place size f h = grind (arith, earlier_below)
 
 before_fine : (most end : ℕ) (t : Placed) (tokens : Result (List Placed) Refusal) → is_valid t.token ≡ true → t.place ≤ end → AreFine most end tokens → AreFine (suc most) end (before (t ∷ []) tokens)
 before_fine most end t (Ok ts) v h k = (and_holds (is_valid t.token) (are_valid (bare ts)) v k.0, omega (arith, k.1), more_tokens h k.2)

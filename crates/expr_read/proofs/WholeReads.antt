@@ -16,17 +16,7 @@ data First (t : Token) (old : List Placed) : Type 0 where
   isnt : BeginsNot t old → First t old
 
 seen : (m : Mark) (t : Token) → (t ≡ Punct m) ⊎ (t ≡ Punct m → ⊥)
-seen Mark.Open (Punct Mark.Open) = inl refl
-seen Mark.Close (Punct Mark.Close) = inl refl
-seen Mark.OpenBracket (Punct Mark.OpenBracket) = inl refl
-seen Mark.CloseBracket (Punct Mark.CloseBracket) = inl refl
-seen Mark.OpenBrace (Punct Mark.OpenBrace) = inl refl
-seen Mark.CloseBrace (Punct Mark.CloseBrace) = inl refl
-seen Mark.Comma (Punct Mark.Comma) = inl refl
-seen Mark.Question (Punct Mark.Question) = inl refl
-seen Mark.Colon (Punct Mark.Colon) = inl refl
-seen Mark.Bang (Punct Mark.Bang) = inl refl
-seen m t = inr (λ e. cc e)
+seen m t = grind arith
 
 eat : (m : Mark) (old : List Placed) → First (Punct m) old
 eat m [] = isnt (λ new b. let never = b.is in cc never)

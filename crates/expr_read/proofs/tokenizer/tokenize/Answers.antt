@@ -8,11 +8,7 @@ use Rattle.expr_read.proofs.FirstTokens.{token_sized, refusal_sized, from_place}
 use Rattle.expr_read.proofs.tokenizer.tokenize.Goals as goal
 
 pub loop-place-preserved-then-is_blank : goal.loop-place-preserved-then-is_blank
-loop-place-preserved-then-is_blank c = record {
-  same = c.loop-place.invariant.same ∙ step_blank _ c.args.text.now c.loop-place.place (omega arith) (search rules);
-  within = omega arith;
-  few = c.loop-place.invariant.few;
-}
+loop-place-preserved-then-is_blank = grind (arith, step_blank)
 
 pub overflow_add-result : goal.overflow_add-result
 overflow_add-result c =

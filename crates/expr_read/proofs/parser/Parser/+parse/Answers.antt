@@ -49,24 +49,16 @@ pub postfix-returns-clause-stops : goal.postfix-returns-clause-stops
 postfix-returns-clause-stops t c = subst (λ (ts : List Placed). Stops 8 ts) (sym c.loop-self-test.ensures.0) (stops_postfix 8 _ (omega arith) (omega arith) c.loop-self-test.ensures.1)
 
 pub primary-returns-in_err-expect-in-Some-Punct-Open-clause-stuck : goal.primary-returns-in_err-expect-in-Some-Punct-Open-clause-stuck
-primary-returns-in_err-expect-in-Some-Punct-Open-clause-stuck t c _ s =
-    let opens = begins_seen (ap token_of c.in-Some-Punct-Open.field-0-is ∙ ap Punct c.in-Some-Punct-Open.field-0-0-is) c.in-Some-Punct-Open.ensures.sees c.advance-in-Some-Punct-Open.ensures in
-    scan_after (Operand, s) (Operand, InParens ∷ s) opens refl ∙ c.in_ok-inner-in-Some-Punct-Open.ensures.took.scans (InParens ∷ s)
-    ∙ stuck_inside InParens s _ c.in_ok-inner-in-Some-Punct-Open.ensures.stops c.in_err-expect-in-Some-Punct-Open.ensures.err.2 (λ e. absurd (cc e)) ∙ ap stuck_at (sym c.in_err-expect-in-Some-Punct-Open.ensures.err.1)
+primary-returns-in_err-expect-in-Some-Punct-Open-clause-stuck = grind (arith, begins_seen, scan_after, stuck_inside)
 
 pub primary-returns-in-Some-Number-clause-took : goal.primary-returns-in-Some-Number-clause-took
-primary-returns-in-Some-Number-clause-took t c =
-    let fits : SFits w64 c.in-Some-Number.n = first_of (search rules, grind (arith, common_steps)) in
-    let same : to_z w64 (of_z w64 c.in-Some-Number.n) ≡ c.in-Some-Number.n = to_z-of_z w64 c.in-Some-Number.n fits in
-    rw same (took_number (begins_seen (ap token_of c.in-Some-Number.field-0-is) c.in-Some-Number.ensures.sees c.advance.ensures))
+primary-returns-in-Some-Number-clause-took = grind (arith, common_steps, to_z-of_z, took_number, begins_seen)
 
 pub primary-returns-in-Some-Truth-clause-took : goal.primary-returns-in-Some-Truth-clause-took
 primary-returns-in-Some-Truth-clause-took t c = took_truth (begins_seen (ap token_of c.in-Some-Truth.field-0-is) c.in-Some-Truth.ensures.sees c.advance-in-Some-Truth.ensures)
 
 pub primary-returns-in_ok-expect-in-Some-Punct-Open-clause-took : goal.primary-returns-in_ok-expect-in-Some-Punct-Open-clause-took
-primary-returns-in_ok-expect-in-Some-Punct-Open-clause-took t c =
-    let opens = begins_seen (ap token_of c.in-Some-Punct-Open.field-0-is ∙ ap Punct c.in-Some-Punct-Open.field-0-0-is) c.in-Some-Punct-Open.ensures.sees c.advance-in-Some-Punct-Open.ensures in
-    took_parens opens c.in_ok-inner-in-Some-Punct-Open.ensures.took c.in_ok-expect-in-Some-Punct-Open.ensures.ok
+primary-returns-in_ok-expect-in-Some-Punct-Open-clause-took = grind (arith, begins_seen, took_parens)
 
 pub binary-loop-op-init : goal.binary-loop-op-init
 binary-loop-op-init t c = record { took = took_tighter (took_next _ c.in_ok-left.ensures.took); stops = c.in_ok-left.ensures.stops }
@@ -93,19 +85,14 @@ args-returns-clause-took t c =
     rw (c.in_ok-boxed-3.ensures.ok, c.in_ok-boxed-4.ensures.ok) (took_last (rw (← c.if-eat.ensures.0) at c.in_ok-first.ensures.took) c.in_ok-expect.ensures.ok)
 
 pub expr-returns-clause-took : goal.expr-returns-clause-took
-expr-returns-clause-took t c =
-    rw (c.in_ok-boxed.ensures.ok, c.in_ok-boxed-2.ensures.ok, c.in_ok-boxed-3.ensures.ok)
-    (took_conditional c.in_ok-test.ensures.took c.if-not-eat.ensures c.in_ok-a.ensures.took c.in_ok-expect.ensures.ok c.in_ok-b.ensures.took)
+expr-returns-clause-took = grind (arith, took_conditional)
 
 pub postfix-loop-self-preserved : goal.postfix-loop-self-preserved
 postfix-loop-self-preserved t c =
     rw (c.in_ok-boxed.ensures.ok, c.in_ok-boxed-2.ensures.ok) (took_pick c.loop-self.invariant c.loop-self-test.ensures c.in_ok-index.ensures.took c.in_ok-expect.ensures.ok)
 
 pub binary-loop-op-preserved : goal.binary-loop-op-preserved
-binary-loop-op-preserved t c = record {
-  took = rw (c.in_ok-boxed.ensures.ok, c.in_ok-boxed-2.ensures.ok) (took_binary c.loop-op.invariant.took c.in-Some.ensures.0 c.in-Some.ensures.1 (took_next _ c.in_ok-right.ensures.took));
-  stops = c.in_ok-right.ensures.stops;
-}
+binary-loop-op-preserved = grind (arith, took_binary, took_next)
 
 pub unary-returns-then-eat_minus-clause-took : goal.unary-returns-then-eat_minus-clause-took
 unary-returns-then-eat_minus-clause-took t c = rw c.in_ok-boxed.ensures.ok (took_minus_sign c.if-eat_minus.ensures c.in_ok-operand.ensures.took)

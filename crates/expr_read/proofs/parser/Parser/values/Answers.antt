@@ -9,9 +9,7 @@ pub returns-in_err-node-clause-stuck : goal.returns-in_err-node-clause-stuck
 returns-in_err-node-clause-stuck c = grind (arith, common_steps, vector_first)
 
 pub returns-then-not-eat-clause-took : goal.returns-then-not-eat-clause-took
-returns-then-not-eat-clause-took c =
-    let isnt = subst (λ (ts : List Placed). BeginsNot (Punct Mark.OpenBrace) ts) (sym c.if-not-eat.ensures.0) c.if-not-eat.ensures.1 in
-    rw (← c.if-not-eat.ensures.0) (took_vector isnt c.in_ok-node.ensures.took c.in_ok-node.ensures.stops)
+returns-then-not-eat-clause-took = grind (arith, took_vector)
 
 pub returns-then-eat-clause-took : goal.returns-then-eat-clause-took
 returns-then-eat-clause-took c = took_lists c.if-not-eat.ensures c.if-eat.ensures c.in_ok-lists.ensures.took
@@ -20,6 +18,4 @@ pub returns-in_err-list-clause-stuck : goal.returns-in_err-list-clause-stuck
 returns-in_err-list-clause-stuck c = grind (arith, common_steps, item_first)
 
 pub returns-clause-took : goal.returns-clause-took
-returns-clause-took c =
-    let lists = c.in_ok-push.ensures.ok ∙ ap (λ (ls : List (List NamedTree)). ls ++ c.in_ok-list.list ∷ []) c.new-lists.ensures in
-    rw lists (took_list c.if-not-eat.ensures c.if-eat.ensures.1 (rw c.if-eat.ensures.0 at c.in_ok-list.ensures.took))
+returns-clause-took = grind (arith, took_list)
