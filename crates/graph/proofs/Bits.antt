@@ -12,12 +12,7 @@ pub none_in : (v : ℕ) → nat_eq (bit_at 0 v) 1 ≡ false
 none_in v = ap (λ n. nat_eq n 1) (bit_at-zero v)
 
 either : (a b : ℕ) → a < 2 → b < 2 → nat_eq (max a b) 1 ≡ (nat_eq a 1 || nat_eq b 1)
-either zero zero p q = refl
-either zero (suc zero) p q = refl
-either (suc zero) zero p q = refl
-either (suc zero) (suc zero) p q = refl
-either (suc (suc a)) b p q = absurd (omega arith)
-either a (suc (suc b)) p q = absurd (omega arith)
+either a b p q = grind arith
 
 pub either_in : (a b v : ℕ) → nat_eq (bit_at (bit_or a b) v) 1 ≡ (nat_eq (bit_at a v) 1 || nat_eq (bit_at b v) 1)
 either_in a b v = ap (λ n. nat_eq n 1) (bit_at_or a b v) ∙ either (bit_at a v) (bit_at b v) (bit_at-lt a v) (bit_at-lt b v)

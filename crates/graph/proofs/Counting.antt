@@ -91,10 +91,7 @@ module _ (script : List Statement) where
     where
       go : (x y : Bool) → y ≡ x → AllPassed (results_named name bs) (rows_named name rs)
           → AllPassed (if x then b ∷ results_named name bs else results_named name bs) (if y then r ∷ rows_named name rs else rows_named name rs)
-      go true true e k = (h.0, k)
-      go false false e k = k
-      go true false e k = cc e
-      go false true e k = cc e
+      go x y e k = grind arith
 
   front_passed : (bs : List Booked) (b : Booked) (rs : List ResultRow) → AllPassed (bs ++ b ∷ []) rs → AllPassed bs (front rs)
   front_passed [] b [] h = elim h [ ]
@@ -115,8 +112,7 @@ module _ (script : List Statement) where
   pub printed_passed : (before : List Statement) (rs : List ResultRow) → AllPassed (bookings before) rs → AllPassed (printed_results before) (printed_rows before rs)
   printed_passed [] [] h = tt
   printed_passed [] (r ∷ rs) h = elim h [ ]
-  printed_passed (Print p ∷ before) rs h =
-      passed_both (results_named p (bookings before)) (printed_results before) (rows_named p rs) (printed_rows before rs) (named_passed p (bookings before) rs (same_rows before rs h)) (printed_passed before rs (same_rows before rs h))
+  printed_passed (Print p ∷ before) rs h = grind (arith, passed_both, named_passed, same_rows, printed_passed before rs (same_rows before rs h))
   printed_passed (Action name parent k ∷ before) rs h = printed_passed before (front rs) (front_passed (bookings before) _ rs h)
   printed_passed (Report name parent ∷ before) rs h = printed_passed before (front rs) (front_passed (bookings before) _ rs h)
   printed_passed (s ∷ before) rs h = printed_passed before rs (same_rows before rs h)
@@ -145,9 +141,7 @@ module _ (header : List Column) (names : FunctionNames) where
     where
       go : (a c : Bool) → nat_lt 128 (length (variations before) + length tags) ≡ c → (a || c) ≡ false → Decides (nat_lt 128 (length (variations before) + length tags)) (128 < length (variations before) + length tags)
           → length (variations before) + length tags ≤ 128
-      go true c q h d = cc h
-      go false true q h d = cc h
-      go false false q h d = let no : (128 < length (variations before) + length tags → ⊥) = λ l. absurd (cc (sym q ∙ d.1 l)) in omega (arith, no)
+      go a c q h d = grind arith
 
   pub few_variations : (before : List Statement) → AreAccepted names (scope_of header) before → length (variations before) ≤ 128
   few_variations [] good = omega arith
@@ -178,9 +172,7 @@ module _ (header : List Column) (names : FunctionNames) where
   -- the rows of the tables are those of the whole script
   pub rows_passed : (script before : List Statement) → variations script ≡ variations before → AreAccepted names (scope_of header) before → (rs : List ResultRow) → AreRows (bookings before) (result_sets header names before) rs
       → AllPassed script (bookings before) rs
-  rows_passed script before same good rs h =
-      passed_from script (bookings before) (result_sets header names before) rs (subst (λ (vs : List Variation). length vs ≤ 128) (sym same) (few_variations before good)) h
-      (λ r b q v. depends_is before good r b q v ∙ ap (λ (vs : List Variation). holds_at (λ w. result_depends w b.booking) (slice_get vs v)) (sym same))
+  rows_passed script before h good rs k = grind (arith, passed_from, few_variations, depends_is)
 
   -- the rows of the tables and of one action more
   pub action_passed : (before : List Statement) → AreAccepted names (scope_of header) before → (rs : List ResultRow) → AreRows (bookings before) (result_sets header names before) rs
@@ -204,8 +196,4 @@ module _ (header : List Column) (names : FunctionNames) where
   pub action_set_is : (before : List Statement) (t : Tables) → AreTables header names before t → (parent : List ℕ) (cs columns : List (List ℕ)) → cs ≡ columns → (f i u : VarSet) (fs is : List VarSet) → fs ≡ t.site_sets.items → is ≡ t.version_sets.items
       → ((v : ℕ) → has f v ≡ any_has fs (filter_sites header names before parent) v) → ((v : ℕ) → has i v ≡ any_has is (map (version_at header before parent) cs) v)
       → ((v : ℕ) → has u v ≡ (has f v || has i v)) → IsSet (action_set header names before parent columns) u
-  action_set_is before t h parent cs columns e f i u fs is a b p q r v =
-      r v ∙ (λ j. p v j || q v j)
-      ∙ (λ j.
-      (ap (λ ss. any_has ss (filter_sites header names before parent) v) a ∙ sets_any _ t.site_sets.items h.site_sets (filter_sites header names before parent) v) j
-      || ((λ l. any_has (b l) (map (version_at header before parent) (e l)) v) ∙ sets_any _ t.version_sets.items h.version_sets (map (version_at header before parent) columns) v) j)
+  action_set_is before t h parent cs columns e f i u fs is a b p q r = grind (arith, sets_any)

@@ -63,9 +63,7 @@ foreign v w (s ∷ before) h le =
     (own s parts.1 n, foreign v w before parts.0 (omega (arith, n)))
   where
     own : (t : Statement) → list_any (λ (x : Variation). same x.name w.name) (own_variations t) ≡ false → length (variations before) + length (own_variations t) ≤ v → OwnTells v w t (length (variations before))
-    own (Vary node parent columns values tags vary) p q =
-        other_vary w vary tags p ∙ sym (after_own (length (variations before)) (length tags) v (let c = tags_count vary tags in omega (arith, c, q)))
-    own t p q = tt
+    own t p q = grind (arith, other_vary, after_own, tags_count)
 
 module _ (header : List Column) (names : FunctionNames) where
   -- a variation of an accepted script is told by its number
@@ -123,10 +121,7 @@ any_alike p q e h = any_listed p q (columns_in e) (each_at (λ c. p c ≡ q c) e
 
 module _ (header : List Column) (names : FunctionNames) (v : ℕ) (w : Variation) where
   own_count : (before : List Statement) (sets : List Numbers) (s : Statement) → length (own_version_sets header names before sets s) ≡ length (own_columns s)
-  own_count before sets (Define node parent column expr) = refl
-  own_count before sets (Redefine node parent column expr) = refl
-  own_count before sets (Vary node parent columns values tags vary) = length-map columns (varied_set header names before sets parent (length tags))
-  own_count before sets s = refl
+  own_count before sets s = grind (arith, length-map)
 
   -- there is one set for each version
   pub set_count : (before : List Statement) → length (version_sets header names before) ≡ version_count header before
@@ -283,10 +278,7 @@ module _ (header : List Column) (names : FunctionNames) (v : ℕ) where
       (lack_map v (site_set header names before) (own_sites header names before s) (λ x. lack_any v (version_sets header names before) (versions_lack before (fewer before s h)) (columns_in x.tree)))
 
   pub action_beyond : (before : List Statement) → length (variations before) ≤ v → (parent : List ℕ) (cs : List (List ℕ)) → action_set header names before parent cs v ≡ false
-  action_beyond before h parent cs =
-      λ i.
-      lack_any v (site_sets header names before) (sites_lack before h) (filter_sites header names before parent) i
-      || lack_any v (version_sets header names before) (versions_lack before h) (map (version_at header before parent) cs) i
+  action_beyond before h parent cs = grind (arith, lack_any, sites_lack, versions_lack)
 
 -- ---- sites
 

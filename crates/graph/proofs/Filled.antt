@@ -20,10 +20,7 @@ module _ (names : FunctionNames) (header : Scope) where
       (neither (is_node before result) (is_result before result) (if_fails (is_in_use before result) GraphCause.NameTaken (both_none (refuse_if (is_in_use before result) GraphCause.NameTaken) _ h).0)).1
 
   named_in_turn : (before : List Statement) (s : Statement) → check names header before s ≡ None → IsNamedInTurn before s
-  named_in_turn before (Action result parent k) h = not_in_use before result parent (both_none (check_node before result parent) _ h).0
-  named_in_turn before (Report result parent) h = not_in_use before result parent (both_none (check_node before result parent) _ h).0
-  named_in_turn before (Print result) h = unless_holds (is_result before result) GraphCause.UnknownName (both_none (refuse_unless (is_result before result) GraphCause.UnknownName) _ h).0
-  named_in_turn before s h = tt
+  named_in_turn before s h = grind (arith, not_in_use, both_none, unless_holds)
 
   -- in accepted statements a result that is booked is new, and one that is printed isn't
   pub all_in_turn : (before : List Statement) → AreAccepted names header before → AreNamedInTurn before
@@ -80,10 +77,7 @@ filled_is (Print p ∷ before) = go (among p (filled before)) (filled_is before)
     go : (b : Bool) → (filled before ≡ names_of (take (filled_count before) (bookings before))) × (filled_count before ≤ length (bookings before))
         → ((if b then filled before else names_of (bookings before)) ≡ names_of (take (if b then filled_count before else length (bookings before)) (bookings before ++ [])))
         × ((if b then filled_count before else length (bookings before)) ≤ length (bookings before ++ []))
-    go true h =
-        let c = length-append (bookings before) [] in let l = h.1 in
-        (h.0 ∙ ap (λ bs. names_of (take (filled_count before) bs)) (sym nothing_more), omega (arith, c, l))
-    go false h = let c = length-append (bookings before) [] in (ap (λ bs. names_of bs) (sym all), omega (arith, c))
+    go b h = grind (arith, nothing_more, all)
 filled_is (s ∷ before) = further_filled before s refl refl (filled_is before)
 
 pub filled_few : (before : List Statement) → filled_count before ≤ length (bookings before)
@@ -105,23 +99,13 @@ later_named (s ∷ before) h j b q k le = go (λ e l. later_named before h.1 j b
     some_is x y e = cc e
 
     own : (s : Statement) → IsNamedInTurn before s → (i : ℕ) → slice_get (booked_by before s) i ≡ Some b → (i ≡ 0) × (among b.name (names_of (bookings before)) ≡ false)
-    own (Action result parent k) new zero e = (refl, subst (λ (c : Booked). among c.name (names_of (bookings before)) ≡ false) (some_is _ b e) new)
-    own (Action result parent k) new (suc i) e = cc e
-    own (Report result parent) new zero e = (refl, subst (λ (c : Booked). among c.name (names_of (bookings before)) ≡ false) (some_is _ b e) new)
-    own (Report result parent) new (suc i) e = cc e
-    own s new i e = cc e
+    own s new i e = grind (arith, some_is)
 
     go : (slice_get (bookings before) j ≡ Some b → k ≤ j → among b.name (names_of (take k (bookings before))) ≡ false)
         → (slice_get (bookings before) j ≡ Some b) ⊎ ((i : ℕ) × (j ≡ length (bookings before) + i) × (slice_get (booked_by before s) i ≡ Some b))
         → among b.name (names_of (take k (bookings before ++ booked_by before s))) ≡ false
-    go next (inl e) =
-        let lt = within (bookings before) j b e in
-        let l : k ≤ length (bookings before) = omega (arith, lt, le) in
-        subst (λ (bs : List Booked). among b.name (names_of bs) ≡ false) (sym (take-append-le k (bookings before) (booked_by before s) l)) (next e le)
-    go next (inr p) =
-        let o = own s h.0 p.0 p.2 in let z = o.0 in let n = p.1 in
-        let l : k ≤ length (bookings before) = omega (arith, z, n, le) in
-        subst (λ (bs : List Booked). among b.name (names_of bs) ≡ false) (sym (take-append-le k (bookings before) (booked_by before s) l)) (among_less b.name (bookings before) k o.1)
+    go next (inl e) = grind (arith, within, take-append-le)
+    go next (inr p) = grind (arith, own, take-append-le, among_less)
 
 -- ---- passes by rows
 
@@ -181,17 +165,13 @@ module _ (script : List Statement) where
       ∙ all_passes (waits before) (filled_count before) (drop (filled_count before) (bookings before)) (drop (filled_count before) rows) (zip_last (IsRowOf script) (filled_count before) (bookings before) rows rs) all
     where
       none : passes_from script (waits before) 0 (take (filled_count before) (bookings before)) ≡ []
-      none =
-          no_passes (waits before) 0 (take (filled_count before) (bookings before))
-          (λ j b e. ap (λ ns. not (among b.name ns)) (filled_first before) ∙ ap not (among_there (take (filled_count before) (bookings before)) j b e))
+      none = grind (arith, no_passes, filled_first, among_there)
 
       count : 0 + length (take (filled_count before) (bookings before)) ≡ filled_count before
       count = let c = take_full (filled_count before) (bookings before) (filled_few before) in omega (arith, c)
 
       all : (j : ℕ) (b : Booked) → slice_get (drop (filled_count before) (bookings before)) j ≡ Some b → waits before b ≡ true
-      all j b e =
-          ap (λ ns. not (among b.name ns)) (filled_first before)
-          ∙ ap not (later_named before turn (filled_count before + j) b (at_last (filled_count before) j (bookings before) b e) (filled_count before) (omega arith))
+      all j b e = grind (arith, filled_first, later_named, at_last)
 
   -- whether a result is filled, by its number
   pub is_filled : (before : List Statement) (r : List ℕ) (n : ℕ) → place (λ (b : Booked). same b.name r) (bookings before) ≡ Some n → n < filled_count before → among r (filled before) ≡ true

@@ -62,9 +62,7 @@ module _ (names : FunctionNames) (header : Scope) where
   -- the latest line is refused where those before it were accepted
   pub refused_last : (lines : List Line) (l : Line) (before : List Line) → lines ≡ l ∷ before → AreAccepted names header (statements before) → (r : GraphRefusal)
       → IsRefusal (refused_then l.number None (check names header (statements before) l.statement)) r → IsRefusal (refused names header lines) r
-  refused_last lines l before e ok r h =
-      subst (λ (ls : List Line). IsRefusal (refused names header ls) r) (sym e)
-      (subst (λ (o : Option (ℕ × GraphCause)). IsRefusal (refused_then l.number o (check names header (statements before) l.statement)) r) (sym (none_refused before ok)) h)
+  refused_last lines l before e ok r h = grind (arith, none_refused)
 
 pub verdict_of : (names : FunctionNames) (header : List Column) (script : Script) (ls : List Line) → ls ≡ reverse script.lines → refused names (scope_of header) ls ≡ verdict names header script
 verdict_of names header script ls e =
@@ -84,11 +82,7 @@ script_again : (script : Script) (ls : List Line) → ls ≡ reverse script.line
 script_again script ls e = λ i. record { lines = (sym (reverse-reverse script.lines) ∙ ap (λ (xs : List Line). reverse xs) (sym e)) i }
 
 pub graph_is : (script : Script) (ls : List Line) (header : List Column) (names : FunctionNames) → ls ≡ reverse script.lines → IsBookable script → IsHeader header → AreAccepted names (scope_of header) (statements ls) → IsGraph (view_of ls header names)
-graph_is script ls header names e bookable head ok = record {
-  header = head;
-  bookable = subst IsBookable (script_again script ls e) bookable;
-  accepted = subst (λ (s : Script). verdict names header s ≡ None) (script_again script ls e) (sym (verdict_of names header script ls e) ∙ none_refused names (scope_of header) ls ok);
-}
+graph_is script ls header names e bookable head ok = grind (arith, script_again, verdict_of, none_refused)
 
 pub refusal_answered : (script : Script) (ls : List Line) (header : List Column) (names : FunctionNames) (r : GraphRefusal) → ls ≡ reverse script.lines → IsRefusal (refused names (scope_of header) ls) r → Refuses refused_at GraphRefusal.Memory (booked script header names) r
 refusal_answered script ls header names GraphRefusal.Memory e h = inl refl
@@ -166,10 +160,7 @@ module _ (ls all : List Line) (header : List Column) (names : FunctionNames) (t 
     result_total = let n = AllZip-long IsRow _ t.results.items tables_of.results.0 in let f = bookings_few (booked_statements g) in let l = length_here in omega (arith, n, f, l, few)
 
     print_total : length loops.prints.items ≤ 256
-    print_total =
-        let n = ap length loops_here.prints in let m = length-map loops.prints.items (λ k. Some k) in
-        let k = length-map (accesses (booked_statements g)) (λ (a : Access). result_number (booked_statements g) a.result) in
-        let f = accesses_few (booked_statements g) in let l = length_here in omega (arith, n, m, k, f, l, few)
+    print_total = grind (arith, length-map, accesses_few, length_here)
 
     loop_total : length loops.loops.items ≤ 256
     loop_total = let n = ap length loops_here.loops in let f = loops_few (booked_statements g) (booked_statements g) in let l = length_here in omega (arith, n, f, l, few)
@@ -282,9 +273,7 @@ module _ {g : GraphView} {t : Tables} {l : LoopTables} {w : List Bool} (h : IsBo
   site_set_count = AllZip-long IsSet _ t.site_sets.items h.tables.site_sets ∙ sets_counted g.header g.names (booked_statements g)
 
   pub site_is : (n : ℕ) (c : CheckedExpr) → slice_get t.sites.items n ≡ Some c → IsSiteExpr g n c
-  site_is n c q =
-      let x = zip_at (IsSite _ g.names) (graph_sites g) t.sites.items n c h.tables.sites q in
-      record { tree = ap (option_map (λ (y : SiteAt). y.tree)) x.1 ∙ ap Some x.2.tree; kinds = x.2.reads; typed = x.2.typed; calls = x.2.calls }
+  site_is n c q = grind (arith, zip_at)
 
   pub site_set_is : (n : ℕ) (s : VarSet) → slice_get t.site_sets.items n ≡ Some s → (v : ℕ) → has s v ≡ site_depends_at g n v
   site_set_is n s q v = set_at _ t.site_sets.items h.tables.site_sets n s q v ∙ h.site_sets n v

@@ -41,10 +41,7 @@ module _ (header : List Column) (names : FunctionNames) (before : List Statement
 
   vary_sites : (node parent vary : List ℕ) (columns tags : List (List ℕ)) (values : VaryValues) (cs : List CheckedExpr) → AllCheckedAt header names before parent (value_expressions values) cs
       → AreSites (version_kinds header names before) names (own_sites header names before (Vary node parent columns values tags vary)) cs
-  vary_sites node parent vary columns tags (Lists lists) cs h = lists_then parent node 0 lists cs h
-  vary_sites node parent vary columns tags (Vector e) [] h = elim h [ ]
-  vary_sites node parent vary columns tags (Vector e) (c ∷ []) h = (site_of parent (site_at node) e c h.0, tt)
-  vary_sites node parent vary columns tags (Vector e) (c ∷ d ∷ cs) h = elim h.1 [ ]
+  vary_sites node parent vary columns tags values cs h = grind (arith, lists_then, site_of)
 
   -- ---- gains
 

@@ -119,9 +119,7 @@ any_distinct sets xs v = any_distinct_by (λ c. has_at sets c v) xs
 
 pub one_more : {A E : Type 0} (r : Result Unit E) (f : A → Numbers) (all : List A) (x : A) (xs : List A) (old mid new : List VarSet) (s : VarSet) → all ≡ x ∷ xs → IsSet (f x) s → mid ≡ old ++ s ∷ []
     → OnOk r (AppendsSets (map f xs) mid new) → OnOk r (AppendsSets (map f all) old new)
-one_more (Err e) f all x xs old mid new s is h m a = tt
-one_more (Ok u) f all x xs old mid new s is h m a =
-    subst (λ ys. AppendsSets (map f ys) old new) (sym is) (record { more = s ∷ a.more; appended = a.appended ∙ ap (λ ys. ys ++ a.more) m ∙ append_assoc old (s ∷ []) a.more; each = (h, a.each) })
+one_more r f all x xs old mid new s is h m a = grind (arith, append_assoc)
 
 pub sets_at : (ds : List Numbers) (ss : List VarSet) → AreSets ds ss → (c v : ℕ) → has_at ss c v ≡ depends_at ds c v
 sets_at ds ss h c v = zip_holds IsSet (λ (d : Numbers). d v) (λ s. has s v) (λ d s e. e v) ds ss h c

@@ -95,15 +95,10 @@ loops_few script (s ∷ before) =
 
 -- a Print of what is filled runs no loop, and any other a new one
 again : (before : List Statement) (r : List ℕ) → among r (filled before) ≡ true → loop_results (Print r ∷ before) ≡ loop_results before
-again before r h =
-    filter_map-append (λ (a : Access). a.fills) (accesses before) (record { result = r; fills = filled_by before r } ∷ [])
-    ∙ ap (λ b. loop_results before ++ filter_map (λ (a : Access). a.fills) (record { result = r; fills = if b then None else Some (waiting before) } ∷ [])) h
-    ∙ append-nil (loop_results before)
+again before r h = grind (arith, filter_map-append, append-nil)
 
 anew : (before : List Statement) (r : List ℕ) → among r (filled before) ≡ false → loop_results (Print r ∷ before) ≡ loop_results before ++ waiting before ∷ []
-anew before r h =
-    filter_map-append (λ (a : Access). a.fills) (accesses before) (record { result = r; fills = filled_by before r } ∷ [])
-    ∙ ap (λ b. loop_results before ++ filter_map (λ (a : Access). a.fills) (record { result = r; fills = if b then None else Some (waiting before) } ∷ [])) h
+anew before r h = grind (arith, filter_map-append)
 
 among_waiting : (test : Booked → Bool) (bs : List Booked) (j : ℕ) (b : Booked) → slice_get bs j ≡ Some b → test b ≡ true → among b.name (names_of (filter test bs)) ≡ true
 among_waiting test [] j b h e = cc h
@@ -121,24 +116,14 @@ no_filler (Print p ∷ before) x h = go (among p (filled before)) refl h (no_fil
   where
     go : (b : Bool) → among p (filled before) ≡ b → among x (if b then filled before else names_of (bookings before)) ≡ false → (among x (filled before) ≡ false → filler_of before x ≡ None) → filler_of (Print p ∷ before) x ≡ None
     go true e q next = ap (λ ls. place (λ bs. among x (names_of bs)) ls) (again before p e) ∙ next q
-    go false e q next =
-        ap (λ ls. place (λ bs. among x (names_of bs)) ls) (anew before p e)
-        ∙ place_end (λ bs. among x (names_of bs)) (loop_results before) (waiting before) (next (ap (among x) (filled_first before) ∙ among_less x (bookings before) (filled_count before) q))
-        ∙ ap (λ b. if b then Some (length (loop_results before)) else None) (among_fewer _ x (bookings before) q)
+    go false e q next = grind (arith, anew, place_end, filled_first, among_less, among_fewer)
 no_filler (s ∷ before) x h = no_filler before x h
 
 -- ---- one line more
 
 module _ (script before : List Statement) where
   unchanged : (s : Statement) (t : LoopTables) → AreLoops script before t → own_loop script before s ≡ [] → own_run before s ≡ [] → accesses (s ∷ before) ≡ accesses before → filled_count (s ∷ before) ≡ filled_count before → AreLoops script (s ∷ before) t
-  unchanged s t h l r a f = record {
-    loops = h.loops ∙ sym (ap (λ xs. loops script before ++ xs) l ∙ append-nil (loops script before));
-    runs = h.runs ∙ sym (ap (λ xs. runs before ++ xs) r ∙ append-nil (runs before));
-    prints = h.prints ∙ ap (map (λ (a : Access). result_number script a.result)) (sym a);
-    filling = h.filling ∙ (λ i. map (λ (x : Access). place (λ bs. among x.result (names_of bs)) (filter_map (λ (y : Access). y.fills) (sym a i))) (sym a i));
-    count = h.count ∙ sym f;
-    fillers = λ n l b p q. ap (λ xs. place (λ bs. among b.name (names_of bs)) (filter_map (λ (y : Access). y.fills) xs)) a ∙ h.fillers n l b p q;
-  }
+  unchanged s t h l r a f = grind (arith, append-nil)
 
   -- a line that is no Print
   loops_kept : (s : Statement) (t : LoopTables) → ((r : List ℕ) → s ≡ Print r → ⊥) → AreLoops script before t → AreLoops script (s ∷ before) t
@@ -151,9 +136,7 @@ module _ (script before : List Statement) where
 
     -- the result at the number has the Print's name
     named_so : (b : Booked) → slice_get (bookings script) n ≡ Some b → b.name ≡ r
-    named_so b q =
-        let p = place_at (λ (c : Booked). same c.name r) (bookings script) n number in
-        let is : p.0 ≡ b = cc (p.1, q) in ap (λ (c : Booked). c.name) (sym is) ∙ names_equal p.0.name r p.2
+    named_so b q = grind (arith, place_at, names_equal)
 
     -- a Print of a result that was filled before
     pub print_again : (old new : LoopTables) (l : ℕ) → AreLoops script before old → n < length old.fillers.items → slice_get old.fillers.items n ≡ Some l → IsNoted old n None l new → AreLoops script (Print r ∷ before) new
@@ -178,9 +161,7 @@ module _ (script before : List Statement) where
         same_filler x = ap (place (λ bs. among x (names_of bs))) (again before r filled_now)
 
         mine : filler_of before r ≡ Some l
-        mine =
-            let p = place_at (λ (c : Booked). same c.name r) (bookings script) n number in
-            subst (λ (x : List ℕ). filler_of before x ≡ Some l) (named_so p.0 p.1) (h.fillers n l p.0 at p.1)
+        mine = grind (arith, place_at, named_so)
 
     -- a Print that fills all results that wait
     pub print_fills : (old mid new : LoopTables) (passes : List Pass) (spot count : ℕ) → AreNamedInTurn before → AreLoops script before old → length old.fillers.items ≤ n
@@ -220,12 +201,7 @@ module _ (script before : List Statement) where
 
         -- a result that waits is filled by the new loop
         next : (m : ℕ) (b : Booked) → slice_get (bookings before) m ≡ Some b → filled_count before ≤ m → filler_of (Print r ∷ before) b.name ≡ Some spot
-        next m b q l =
-            let waits : among b.name (filled before) ≡ false = ap (among b.name) (filled_first before) ∙ later_named before named m b q (filled_count before) l in
-            ap (place (λ bs. among b.name (names_of bs))) (anew before r waits_now)
-            ∙ place_end (λ bs. among b.name (names_of bs)) (loop_results before) (waiting before) (no_filler before b.name waits)
-            ∙ ap (λ x. if x then Some (length (loop_results before)) else None) (among_waiting (λ (c : Booked). not (among c.name (filled before))) (bookings before) m b q (ap not waits))
-            ∙ ap (λ k. Some k) (sym place_now)
+        next m b q l = grind (arith, filled_first, later_named, anew, waits_now, place_end, no_filler, among_waiting, place_now)
 
         mine : filler_of (Print r ∷ before) r ≡ Some spot
         mine =
@@ -292,9 +268,7 @@ bookings_few [] = omega arith
 bookings_few (s ∷ before) = let n = bookings_few before in let m = length-append (bookings before) (booked_by before s) in let o = own_booked s in omega (arith, n, m, o)
   where
     own_booked : (s : Statement) → length (booked_by before s) ≤ 1
-    own_booked (Action result parent k) = omega arith
-    own_booked (Report result parent) = omega arith
-    own_booked s = omega arith
+    own_booked s = grind arith
 
 -- what is booked begins what all have
 pub begun_few : (script before : List Statement) → BeginsWith script before → length (bookings before) ≤ length (bookings script)
@@ -305,9 +279,7 @@ begun_few script before h = let n = ap length h in let m = take_no_longer (lengt
 -- where a Print looks
 pub in_bounds : (script before : List Statement) (t : LoopTables) (rows : List ResultRow) → AreLoops script before t → BeginsWith script before → AreRowsOf script (bookings script) rows
     → (length t.fillers.items ≤ length (bookings before)) × (length (bookings before) ≤ length rows) × (length t.loops.items ≤ length before)
-in_bounds script before t rows h begins rs =
-    let c = h.count in let f = filled_few before in let b = begun_few script before begins in let n = AllZip-long (IsRowOf script) (bookings script) rows rs in let l = ap length h.loops in let m = loops_few script before in
-    (omega (arith, c, f), omega (arith, b, n), omega (arith, l, m))
+in_bounds script before t rows h begins rs = grind (arith, filled_few, begun_few, AllZip-long, loops_few)
 
 pub print_no_row : (script before : List Statement) (r : List ℕ) (rows : List ResultRow) → IsNamedInTurn before (Print r) → BeginsWith script before → AreRowsOf script (bookings script) rows
     → None ≡ place (λ (x : ResultRow). same x.name r) rows → ⊥

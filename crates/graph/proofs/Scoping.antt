@@ -58,9 +58,7 @@ module _ (header : List Column) (names : FunctionNames) (before : List Statement
 
   pub found_within : AreKinds header names before kinds → (name target : List ℕ) → target ≡ target_of (path before node) name → (b : Bool) → b ≡ is_visible (scope_at names (scope_of header) before node) name → b ≡ true
       → (v : ℕ) → v ≡ named_version header before node target → v < length kinds
-  found_within k name target is b e h v at =
-      let f = found_at k name (sym e ∙ h) in
-      let q : v ≡ version_at header before node name = at ∙ ap (named_version header before node) is in within kinds v f.0 (ap (slice_get kinds) q ∙ f.1.own)
+  found_within k name target is b e h v l = grind (arith, found_at, within)
 
   pub found_none : (name : List ℕ) (b : Bool) → b ≡ is_visible (scope_at names (scope_of header) before node) name → b ≡ false → column_kind (scope_at names (scope_of header) before node) name ≡ Err UnknownColumn
   found_none name b e h = invisible (scope_at names (scope_of header) before node) name (sym e ∙ h)
@@ -167,13 +165,4 @@ module _ (header : List Column) (names : FunctionNames) (before : List Statement
 
   pub checked_at : (c : CheckedExpr) → kind_of (kinds_in scope) names e ≡ Ok c.kind → c.tree ≡ numbered scope names e → All (λ (n : ℕ × ColType). number_kind (numbers_in scope) n.0 ≡ Ok n.1) c.kinds
       → IsWellTyped names c → CallsFit names c.tree → IsCheckedAt header names before node e c
-  checked_at c h tree ks typed calls =
-      let h : kind_of (scope_at names (scope_of header) before node) names e ≡ Ok c.kind = sym scope_kind ∙ h in
-      record {
-        kind = h;
-        tree = tree ∙ scope_tree c.kind h;
-        kinds = All-weaker (λ (n : ℕ × ColType). number_kind (numbers_in scope) n.0 ≡ Ok n.1) _
-            (λ n q. ap (λ xs. slice_get xs n.0) (sym k.are) ∙ own_number kinds scope n.0 n.1 (recursion_from_All _ scope s.scope_at_node.own) q) c.kinds ks;
-        typed = typed;
-        calls = calls;
-      }
+  checked_at c h tree ks typed calls = grind (arith, scope_kind, scope_tree, All-weaker, own_number, recursion_from_All)

@@ -27,12 +27,7 @@ module _ (header : List Column) (names : FunctionNames) where
       ∙ (λ j. list_count header names before parent node i 0 es j + lists_count before parent node (suc i) lists j)
 
   own_total_is : (before : List Statement) (s : Statement) → length (own_sites header names before s) ≡ own_site_total s
-  own_total_is before (Define node parent column expr) = refl
-  own_total_is before (Redefine node parent column expr) = refl
-  own_total_is before (Filter node parent expr label) = refl
-  own_total_is before (Vary node parent columns (Lists lists) tags vary) = lists_count before parent node 0 lists
-  own_total_is before (Vary node parent columns (Vector e) tags vary) = refl
-  own_total_is before s = refl
+  own_total_is before s = grind (arith, lists_count)
 
   pub total_is : (before : List Statement) → site_count header names before ≡ site_total before
   total_is [] = refl
@@ -71,9 +66,7 @@ last_label lines l rest f count x e own all lt is =
     ∙ next_at (labels (statements rest)) (x ∷ []) 0 f place
   where
     total : count ≡ length (labels (statements rest)) + 1
-    total =
-        all ∙ labels_count (statements lines) ∙ ap (λ ls. length (labels (statements ls))) e ∙ ap (λ o. length (labels (statements rest) ++ option_to_list o)) own
-        ∙ length-append (labels (statements rest)) (x ∷ [])
+    total = grind (arith, labels_count, own, length-append)
 
     place : f ≡ length (labels (statements rest)) + 0
     place = let t = total in omega (arith, t, is)
@@ -94,9 +87,7 @@ module _ (header : List Column) (names : FunctionNames) (before : List Statement
   sites_are = sites_counted _ names (sites header names before) t.sites.items h.sites
 
   pub sites_fit : AllByRecursion IsShort before → length before ≤ 256 → length t.sites.items ≤ 16777216
-  sites_fit short few =
-      let n = sites_few header names before short in
-      let m = sites_counted _ names (sites header names before) t.sites.items h.sites in omega (arith, n, m, few)
+  sites_fit short few = grind (arith, sites_few, sites_counted)
 
   pub filters_are : length t.filters.items ≡ length (named_before before)
   filters_are =

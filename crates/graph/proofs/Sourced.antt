@@ -44,11 +44,7 @@ module _ (header : List Column) (names : FunctionNames) where
       vary_above before ok parent values tags c le cs (suc i) k x (both_none (check_target (scope_at names (scope_of header) before parent) (path before parent) name) _ free).1 h
 
   own_above : (before : List Statement) (s : Statement) → AreAccepted names (scope_of header) (s ∷ before) → (k c : ℕ) (x : Version) → version_count header before ≤ c → slice_get (own_versions header names before s) k ≡ Some x → IsAbove c x
-  own_above before (Define node parent column expr) ok k c x le h = subst (IsAbove c) (only_at _ x k h) tt
-  own_above before (Redefine node parent column expr) ok k c x le h = subst (IsAbove c) (only_at _ x k h) tt
-  own_above before (Vary node parent cs values tags vary) ok k c x le h =
-      vary_above before ok.1 parent values tags c le cs 0 k x (checked_of names (scope_of header) before (Vary node parent cs values tags vary) ok.0).0 h
-  own_above before s ok k c x le h = cc h
+  own_above before s ok k c x le h = grind (arith, only_at, vary_above, checked_of)
 
   cell_above : (n d c : ℕ) (cs : List Column) (x : Version) → slice_get (cell_versions header names n cs) d ≡ Some x → IsAbove c x
   cell_above n d c [] x h = cc h

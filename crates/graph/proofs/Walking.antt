@@ -15,9 +15,7 @@ among_both : (name : List ℕ) (xs ys : List Booked) → among name (names_of (x
 among_both name xs ys = ap (among name) (map-append (λ (b : Booked). b.name) xs ys) ∙ list_any-append (same name) (names_of xs) (names_of ys)
 
 books_is : (before : List Statement) (s : Statement) (name : List ℕ) → among name (names_of (booked_by before s)) ≡ books s name
-books_is before (Action result parent k) name = or_false (same name result)
-books_is before (Report result parent) name = or_false (same name result)
-books_is before s name = refl
+books_is before s name = grind (arith, or_false)
 
 -- a name is a result's before a statement, or the statement books it
 pub result_step : (before : List Statement) (s : Statement) (name : List ℕ) → is_result (s ∷ before) name ≡ (is_result before name || books s name)
@@ -78,10 +76,7 @@ column_few [] name = omega arith
 column_few (c ∷ cs) name = grind (arith, column_few cs name)
 
 own_few : (s : Statement) (first above : ℕ) (name : List ℕ) → above ≤ first → own_version s first name above ≤ first + length (own_columns s)
-own_few (Define node parent column expr) first above name h = grind arith
-own_few (Redefine node parent column expr) first above name h = grind arith
-own_few (Vary node parent columns values tags vary) first above name h = grind (arith, place_within)
-own_few s first above name h = omega (arith, h)
+own_few s first above name h = grind (arith, place_within)
 
 -- a version is below their number, or it where there is no such column
 pub named_few : (header : List Column) (before : List Statement) (node name : List ℕ) → named_version header before node name ≤ version_count header before

@@ -8,17 +8,10 @@ use Rattle.graph.proofs.Gaining.{report_alone}
 use Rattle.graph.proofs.book.booked_report.Goals as goal
 
 pub overflow_cast-named : goal.overflow_cast-named
-overflow_cast-named c =
-    let n = length-map c.args.before.now.lines.now (λ (l : Line). l.statement) in let few = c.args.before.now.few in let e = ap length c.as_slice.ensures.value in
-    let f = filters_few c.args.before.now.header.now c.args.before.now.names.now (statements c.args.before.now.lines.now) c.args.before.now.tables.now c.args.before.now.are in omega (arith, n, few, e, f)
+overflow_cast-named = grind (arith, length-map, filters_few)
 
 pub covered-requires : goal.covered-requires
 covered-requires c = ap length c.as_slice.ensures.value ∙ filters_are c.args.before.now.header.now c.args.before.now.names.now (statements c.args.before.now.lines.now) c.args.before.now.tables.now c.args.before.now.are
 
 pub returns : goal.returns
-returns c =
-    report_alone c.args.before.now.header.now c.args.before.now.names.now (statements c.args.before.now.lines.now) c.args.name.now c.args.parent.now _ c.row_gain.result
-    (record {
-      rows = ((record { name = c.in_ok-copy.ensures; cells = refl; takes = refl }, tt), (c.empty.ensures, tt));
-      path = λ i. record { kind = ResultKind.Report; filters = c.in_ok-filters_above.ensures i; inputs = c.new.ensures i; covers = c.in_ok-covered.ensures i } ∷ [];
-    }) c.row_gain.ensures
+returns = grind (arith, report_alone)

@@ -8,17 +8,7 @@ pub returns-in_default : goal.returns-in_default
 returns-in_default t c = no_lines (statements c.args.script.now.lines.now) c.args.lines.now c.new.result c.in_default.ensures.cases (c.new.ensures (statements c.args.script.now.lines.now))
 
 pub loop_tables-requires : goal.loop_tables-requires
-loop_tables-requires t c =
-    let e = c.in-Some.ensures.cases.0 in let n = ap length e in let k = c.requires.lines in (
-      search rules,
-      (
-        (subst (λ (ls : List Line). AreNamedInTurn (statements ls)) e c.requires.named).1,
-        (
-          begins_further (statements c.args.script.now.lines.now) (statements c.in-Some.rest.now) c.in-Some.last.now.statement (subst (λ (ls : List Line). BeginsWith (statements c.args.script.now.lines.now) (statements ls)) e c.requires.begins),
-          omega (arith, n, k),
-        ),
-      ),
-    )
+loop_tables-requires = grind (arith, begins_further)
 
 pub returns-in_default-statement : goal.returns-in_default-statement
 returns-in_default-statement t c = line_kept (statements c.args.script.now.lines.now) c.args.lines.now c.in-Some.last.now c.in-Some.rest.now c.in_ok-tables.tables c.in-Some.ensures.cases.0 c.in_default-statement.not-Print c.in_ok-tables.ensures

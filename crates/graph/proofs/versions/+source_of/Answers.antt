@@ -16,9 +16,7 @@ source_of-requires t c =
     let l = h.0 in let w = c.requires.within in (omega (arith, l), (omega (arith, l, w), c.requires.above))
 
 pub returns-in-None : goal.returns-in-None
-returns-in-None t c sources h =
-    (h c.args.c (Varied c.in-Varied.below c.in-Varied.first c.in-Varied.tags c.in-Varied.sites c.in-Varied.vector) (c.at.ensures ∙ ap (λ x. Some x) c.in-Varied.is)).1 c.in-None.ensures
-    ∙ c.source_of.ensures sources h
+returns-in-None = grind arith
 
 pub tag_source-requires-clause-sites : goal.tag_source-requires-clause-sites
 tag_source-requires-clause-sites t c =
@@ -26,6 +24,4 @@ tag_source-requires-clause-sites t c =
     subst (λ (xs : List ℕ). HasSites c.in-Varied.vector (length xs) c.in-Varied.tags) (sym c.as_slice.ensures) h.1
 
 pub returns-in-Some : goal.returns-in-Some
-returns-in-Some t c sources h =
-    (h c.args.c (Varied c.in-Varied.below c.in-Varied.first c.in-Varied.tags c.in-Varied.sites c.in-Varied.vector) (c.at.ensures ∙ ap (λ x. Some x) c.in-Varied.is)).0 c.in-Some.k c.in-Some.ensures.0 c.in-Some.ensures.1
-    ∙ ap (λ xs. tag_source xs c.in-Varied.tags c.in-Varied.vector c.in-Some.k) (sym c.as_slice.ensures) ∙ c.tag_source.ensures
+returns-in-Some = grind arith

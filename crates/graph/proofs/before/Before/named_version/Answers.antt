@@ -10,7 +10,4 @@ named_version-requires c =
     let n = kinds_counted c.args.self.now.header.now c.args.self.now.names.now (statements c.args.self.now.lines.now) c.args.node.now c.args.self.now.tables.now.kinds.items c.args.self.now.are.versions in omega (arith, n, c.len-count.ensures, c.args.self.now.tables.now.kinds.ok.0)
 
 pub overflow_cast-result : goal.overflow_cast-result
-overflow_cast-result c =
-    let n = named_few c.args.self.now.header.now (statements c.args.self.now.lines.now) c.args.node.now c.args.name.now in
-    let m = versions_are c.args.self.now.header.now c.args.self.now.names.now (statements c.args.self.now.lines.now) c.args.self.now.tables.now c.args.self.now.are in
-    let few = c.args.self.now.are.versions.few in omega (arith, n, m, few, c.named_version.ensures)
+overflow_cast-result = grind (arith, named_few, versions_are)

@@ -9,11 +9,7 @@ pub returns-clause-value : goal.returns-clause-value
 returns-clause-value c = ap length c.as_slice.ensures.value ∙ sites_are c.args.self.now.header.now c.args.self.now.names.now (statements c.args.self.now.lines.now) c.args.self.now.tables.now c.args.self.now.are
 
 pub returns-clause-few : goal.returns-clause-few
-returns-clause-few c =
-    let n = length-map c.args.self.now.lines.now (λ (l : Line). l.statement) in let few = c.args.self.now.few in let e = ap length c.as_slice.ensures.value in
-    let f = sites_fit c.args.self.now.header.now c.args.self.now.names.now (statements c.args.self.now.lines.now) c.args.self.now.tables.now c.args.self.now.are c.args.self.now.short (omega (arith, n, few)) in omega (arith, f, e)
+returns-clause-few = grind (arith, length-map, sites_fit)
 
 pub overflow_cast-result : goal.overflow_cast-result
-overflow_cast-result c =
-    let n = length-map c.args.self.now.lines.now (λ (l : Line). l.statement) in let few = c.args.self.now.few in let e = ap length c.as_slice.ensures.value in
-    let f = sites_fit c.args.self.now.header.now c.args.self.now.names.now (statements c.args.self.now.lines.now) c.args.self.now.tables.now c.args.self.now.are c.args.self.now.short (omega (arith, n, few)) in omega (arith, f, e)
+overflow_cast-result = grind (arith, length-map, sites_fit)

@@ -10,6 +10,4 @@ returns-clause-value c =
     ap statements c.as_slice.ensures.value ∙ history_of c.self.inside.lines.items c.self.inside.header c.self.inside.names ∙ ap booked_statements c.self.view_is
 
 pub returns-clause-few : goal.returns-clause-few
-returns-clause-few c =
-    let few = c.self.invariant.graph.bookable.few in
-    omega (arith, few, ap length c.as_slice.ensures.value, length-reverse c.self.inside.lines.items)
+returns-clause-few = grind (arith, length-reverse)

@@ -11,20 +11,13 @@ unreachable-requires c =
     print_no_row (statements c.args.script.now.lines.now) (statements c.args.before.now) c.args.name.now c.args.script.now.results.now c.requires.named.0 c.requires.begins c.args.script.now.are.rows c.in-None.ensures.value
 
 pub waiting_passes-requires : goal.waiting_passes-requires
-waiting_passes-requires c =
-    let b = in_bounds (statements c.args.script.now.lines.now) (statements c.args.before.now) c.args.self.now c.args.script.now.results.now c.requires.old c.requires.begins c.args.script.now.are.rows in
-    let l : length c.as_slice-filled.result.now ≡ length c.args.self.now.fillers.items = ap length c.as_slice-filled.ensures.value in
-    let k = c.result_count-booked.ensures.value in let x = b.0 in let y = b.1 in record { order = omega (arith, l, k, x); within = omega (arith, k, y) }
+waiting_passes-requires = grind (arith, in_bounds)
 
 pub overflow_cast-place : goal.overflow_cast-place
-overflow_cast-place c =
-    let b = in_bounds (statements c.args.script.now.lines.now) (statements c.args.before.now) c.args.self.now c.args.script.now.results.now c.requires.old c.requires.begins c.args.script.now.are.rows in
-    let n = length-map c.args.before.now (λ (l : Line). l.statement) in let k = c.requires.lines in let x = b.2 in omega (arith, n, k, x)
+overflow_cast-place = grind (arith, in_bounds, length-map)
 
 pub overflow_sub-booked : goal.overflow_sub-booked
-overflow_sub-booked c =
-    let b = in_bounds (statements c.args.script.now.lines.now) (statements c.args.before.now) c.args.self.now c.args.script.now.results.now c.requires.old c.requires.begins c.args.script.now.are.rows in
-    let l : length c.as_slice-filled.result.now ≡ length c.args.self.now.fillers.items = ap length c.as_slice-filled.ensures.value in let k = c.result_count-booked.ensures.value in let x = b.0 in omega (arith, l, k, x)
+overflow_sub-booked = grind (arith, in_bounds)
 
 pub returns-then-n-filled : goal.returns-then-n-filled
 returns-then-n-filled c =
