@@ -6,7 +6,7 @@ use Rattle.std.proofs.lemmas.List.FromFn.{get_or-range_with_len, length-range_wi
 use Rattle.std.proofs.lemmas.Grind.{flat_map-append}
 use Rattle.std.proofs.lemmas.List.Elements.{All-append, All-cons, All-head, All-tail}
 use Rattle.rdf_values.specs.{ActionKind, feed_fault, Item, numbers, Scalar, spread, Value}
-use Rattle.rdf_values.specs.declared.item.Item.TheVariants.{Number, Point, Point2, Single}
+use Rattle.rdf_values.specs.declared.results.item.Item.TheVariants.{Number, Point, Point2, Single}
 use Rattle.actions.specs.{fault_or_later, Fed, first_fault_in, first_lane, first_numbers, first_scalar, from_cluster, IsNumeric, IsWithin, Lane, lane_value, numbers_in, Sources, SuitsAt, values_at, values_from}
 use Rattle.actions.specs.declared.batch.Sources.TheVariants.{Entry, One, Weighted, Pair, WeightedPair}
 use Rattle.actions.specs.declared.state.State.{State}

@@ -1,7 +1,7 @@
 -- The fault of what an entry feeds.
 use Rattle.std.proofs.Common.{◌≡◌, Bool, true, false, [], ◌∷◌, refl, if◌then◌else◌, Option, Some, ◌&&◌}
 use Rattle.rdf_values.specs.{ActionKind, as_long_as, EntryFault, feed_fault, is_weight, weight_fault}
-use Rattle.rdf_values.specs.declared.fault.EntryFault.TheVariants.{Lengths}
+use Rattle.rdf_values.specs.declared.results.fault.EntryFault.TheVariants.{Lengths}
 use Rattle.actions.specs.declared.items.Part.{Part}
 use Rattle.actions.specs.declared.items.Items.TheVariants.{Pair, Weighted}
 use Rattle.actions.specs.{part_value, Suits}

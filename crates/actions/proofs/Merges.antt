@@ -2,7 +2,7 @@
 use Rattle.std.proofs.Common.{ℕ, ◌≡◌, ◌+◌, map, length, List, [], ◌∷◌, ◌++◌, ℤ, ◌+ℤ◌, refl, ap, sym, ◌∙◌, length-append, flat_map, Option, None, fold}
 use Rattle.std.specs.Int.{int_max, int_min}
 use Rattle.rdf_values.specs.{Extreme, extreme, Flat, integer_sum, Item, number_of, numbers_of, reduce_start, reduce_step, Reduced, ReduceOp, scalar_of, Square, Taken}
-use Rattle.rdf_values.specs.Fold.{Count, Sum}
+use Rattle.rdf_values.specs.results.Fold.{Count, Sum}
 use Rattle.histograms.specs.{HasFilled, HasFilled2}
 use Rattle.histograms.specs.OneAxis as one
 use Rattle.histograms.specs.TwoAxes as two

@@ -2,7 +2,7 @@
 use Rattle.std.proofs.Common.{ℕ, zero, map, suc, ◌≡◌, ◌+◌, ◌<◌, length, get_or, take, List, [], ◌∷◌, ◌++◌, ℤ, pos, arith, refl, ap, sym, ◌∙◌, add-one, append_assoc, append-nil, subst, replicate}
 use Rattle.std.proofs.lemmas.List.{map-append, take_more}
 use Rattle.rdf_values.specs.{Item, points, points2}
-use Rattle.rdf_values.specs.declared.item.Item.TheVariants.{Point, Point2}
+use Rattle.rdf_values.specs.declared.results.item.Item.TheVariants.{Point, Point2}
 use Rattle.histograms.specs.{Flat, HasFilled}
 
 points_next : (xs ws : List ℤ) (i : ℕ) → i < length xs → length ws ≡ length xs → points (take (suc i) xs) ws ≡ points (take i xs) ws ++ Point (get_or xs i (pos 0)) (get_or ws i (pos 0)) ∷ []

@@ -3,8 +3,8 @@ use Rattle.std.proofs.Common.{ℕ, ◌≡◌, ◌≤◌, ◌+◌, map, length, A
 use Rattle.std.proofs.lemmas.List.{map-append}
 use Rattle.std.specs.Int.{int_max, int_min}
 use Rattle.rdf_values.specs.{ActionKind, Extreme, extreme, Flat, integer_sum, Item, numbers_of, points, points2, reduce_start, reduce_step, Reduced, ReduceOp, Scalar, scalar_of, spread, Square, Taken, Value, weights}
-use Rattle.rdf_values.specs.declared.item.Item.TheVariants.{Number, Single}
-use Rattle.rdf_values.specs.Fold.{Count, Sum}
+use Rattle.rdf_values.specs.declared.results.item.Item.TheVariants.{Number, Single}
+use Rattle.rdf_values.specs.results.Fold.{Count, Sum}
 use Rattle.histograms.specs.{flat_cells, HasFilled, HasFilled2, square_cells}
 use Rattle.histograms.specs.OneAxis as one
 use Rattle.histograms.specs.TwoAxes as two

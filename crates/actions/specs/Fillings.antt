@@ -1,5 +1,5 @@
 -- What an accumulator answers.
-use Rattle.rdf_values.specs.Fold as fold
+use Rattle.rdf_values.specs.results.Fold as fold
 use Rattle.actions.specs.declared.filled.Filled.{Filled}
 use Rattle.actions.specs.declared.filled.Filled.TheVariants.{Count, Sum, Extreme, Taken, Number, Flat, Square}
 

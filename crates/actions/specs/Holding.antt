@@ -1,7 +1,7 @@
 -- What an accumulator holds.
 use Rattle.std.specs.Prelude.{ℕ, ◌≡◌, ◌≤◌, ◌*◌, ⊤, List, [], length, map, nat_abs}
 use Rattle.rdf_values.specs.{ActionKind, Extreme, Filled, Flat, fold_items, Reduced, Square, Taken}
-use Rattle.rdf_values.specs.Fold.{Count, Sum}
+use Rattle.rdf_values.specs.results.Fold.{Count, Sum}
 use Rattle.histograms.specs.{IsAxis}
 use Rattle.actions.specs.declared.state.State.{State}
 use Rattle.actions.specs.Feeding.{Fed, by_cluster, in_file_order}

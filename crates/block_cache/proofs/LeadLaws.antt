@@ -4,7 +4,7 @@ use Rattle.std.specs.List.{filter}
 use Rattle.std.proofs.lemmas.Bool.{lt-ltb, ltb-true}
 use Rattle.std.proofs.lemmas.Bool.Decides.{Decides-eqb}
 use Rattle.rdf_values.specs.{Bin, BinOp, Call, Col, ColType, Cond, End, fn_names, history, Lit, More, Neg, Not, Pick, Tree, Trees, Value}
-use Rattle.rdf_values.specs.Expressions.{Truth}
+use Rattle.rdf_values.specs.expressions.Expressions.{Truth}
 use Rattle.rdf_model.specs.{◌>>=◌, call_outcome, evaluate, evaluate_all, fault_in, Gives, is_need, Needs, operation, Outcome, without}
 use Rattle.expr_check.specs.{CheckedExpr}
 use Rattle.expr_lanes.specs.{AreRising, EachPlace, is_in, IsSelected}

@@ -2,7 +2,7 @@
 use Rattle.std.proofs.Common.{◌≡◌, ℕ, Bool, true, false, List, [], refl, sym, ◌∙◌, ap, subst, nat_eq, slice_get, Option, Some, None, if◌then◌else◌}
 use Rattle.std.proofs.lemmas.Bool.Decides.{Decides-eqb}
 use Rattle.rdf_values.specs.{Bin, BinOp, Call, Col, Cond, End, EntryFault, Lit, More, Neg, Not, Pick, Tree, Trees, Value}
-use Rattle.rdf_values.specs.Expressions.{Truth}
+use Rattle.rdf_values.specs.expressions.Expressions.{Truth}
 use Rattle.rdf_model.specs.{◌>>=◌, call_outcome, chosen_side, evaluate, evaluate_all, Faults, Gives, in_order, is_need, Needs, operation, Outcome, picked, tag_element, value_operation, with_needs, without}
 use Rattle.graph_numbers.specs.{graph_sites, graph_under, site_outcome, site_value, SiteAt, Source, source_value}
 use Rattle.loop_keys.specs.{IsJob, IsSiteOf, IsSound, job_graph, JobView, MeetsAt, row_of, site_in, source_at, version_in}

@@ -1,7 +1,7 @@
 -- What the evaluation of a site reads first.
 use Rattle.std.specs.Prelude.{ℕ, Option, None, Some}
 use Rattle.rdf_values.specs.{Bin, Call, Col, Cond, End, Lit, More, Neg, Not, Pick, Tree, Trees}
-use Rattle.rdf_values.specs.Expressions.{Truth}
+use Rattle.rdf_values.specs.expressions.Expressions.{Truth}
 use Rattle.loop_keys.specs.{IsSiteOf, JobView, MeetsAt, source_at}
 
 -- a number reads nothing, and what stands behind it is read next

@@ -1,7 +1,7 @@
 // The numbers of a table's columns over a block.
 ghost use Rattle.std.specs.Prelude.{◌≡◌, ◌≤◌, ◌-◌, IfOk, Some, length};
 ghost use Rattle.rdf_values.specs.{kind_at};
-ghost use Rattle.rdf_values.specs.declared.value.ColType.TheVariants as kind;
+ghost use Rattle.rdf_values.specs.declared.tables.value.ColType.TheVariants as kind;
 ghost use Rattle.block_cache.specs.Blocks.{IsColumn};
 
 use columns::Over;

@@ -1,7 +1,7 @@
 // The columns of an evaluation at one place of a block, by what is held.
 ghost use Rattle.std.specs.Prelude.{◌≡◌, ◌<◌, ◌+◌, ℕ, ℤ, List, Some, length, slice_get};
 ghost use Rattle.rdf_values.specs.{kind_at, Value};
-ghost use Rattle.rdf_values.specs.declared.value.ColType.TheVariants as kind;
+ghost use Rattle.rdf_values.specs.declared.tables.value.ColType.TheVariants as kind;
 ghost use Rattle.expr_lanes.specs.{at_place};
 ghost use Rattle.rdf_model.specs.{tag_element};
 ghost use Rattle.expr_eval.specs.{input_outcome};

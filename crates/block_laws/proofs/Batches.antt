@@ -2,7 +2,7 @@
 use Rattle.std.proofs.Common.{◌≡◌, ℕ, suc, ◌+◌, Bool, true, false, List, [], ◌∷◌, ◌++◌, length, map, Some, None, refl, ◌∙◌, ap, ap₂, arith, if◌then◌else◌, slice_get, flat_map, count_by}
 use Rattle.std.proofs.lemmas.List.Sums.{sum_by-cons}
 use Rattle.rdf_values.specs.{ActionKind, columns_of, Pass, Path, Statement, Under, Value}
-use Rattle.rdf_values.specs.declared.statement.Statement.TheVariants.{Filter}
+use Rattle.rdf_values.specs.declared.scripts.statement.Statement.TheVariants.{Filter}
 use Rattle.rdf_model.specs.{◌>>=◌, action_pass, column_value, Dataset, expression_value, fault_in, Faults, feed_outcome, filter_reach, for_all, Gives, is_passed, is_reached, is_true, items_fed, items_of, kinds_in, list_at, Needs, Outcome, Reach, reach_of, Skip, spreads_of, through, truth_of}
 use Rattle.rdf_model.proofs.Parts.{items_at}
 use Rattle.block_laws.specs.{selected}

@@ -2,7 +2,7 @@
 use Rattle.std.specs.Prelude.{◌≡◌, ◌⊎◌, ◌<◌, ◌≤◌, ℕ, suc, ◌+◌, ◌*◌, Bool, ◌&&◌, List, [], ◌∷◌, length, map, take, if◌then◌else◌, nat_le, nat_lt, sum, slice_range}
 use Rattle.std.specs.List.{sum_by}
 use Rattle.rdf_values.specs.{Span, Value}
-use Rattle.rdf_values.specs.declared.value.Value.TheVariants.{Vect}
+use Rattle.rdf_values.specs.declared.tables.value.Value.TheVariants.{Vect}
 
 -- the elements of a cell
 abbrev pub elements_in : Value → ℕ

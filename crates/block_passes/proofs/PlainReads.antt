@@ -4,7 +4,7 @@ use Rattle.std.specs.List.{AllByRecursion}
 use Rattle.std.proofs.lemmas.List.Elements.{recursion_from_All}
 use Rattle.std.proofs.lemmas.Option.{get_or_from_slice_get}
 use Rattle.rdf_values.specs.{ActionKind, AreAccepted, ColType, Column, columns_of, FitsKind, FitsRow, fn_names, history, kind_at, scope_of, Statement, Under, Value}
-use Rattle.rdf_values.specs.declared.statement.Statement.TheVariants.{Action}
+use Rattle.rdf_values.specs.declared.scripts.statement.Statement.TheVariants.{Action}
 use Rattle.expr_check.specs.{CheckedExpr, is_vector}
 use Rattle.expr_check.proofs.Plain.{columns_scalar, plain_typed}
 use Rattle.rdf_model.specs.{Dataset, FitsOutcome}

@@ -1,8 +1,8 @@
 // What is copied of the versions that an action reads, where it can't read them in place.
 ghost use Rattle.std.specs.Prelude.{◌≡◌, ◌<◌, ◌+◌, ℕ, Bool, ℤ, List, IfOk, OnErr, OnOk, Some, length, slice_get, slice_index_or, slice_set, true};
 ghost use Rattle.std.specs.List.{AllByRecursion};
-ghost use Rattle.rdf_values.specs.declared.value.ColType.TheVariants as kind;
-ghost use Rattle.rdf_values.specs.declared.value.Value.TheVariants as val;
+ghost use Rattle.rdf_values.specs.declared.tables.value.ColType.TheVariants as kind;
+ghost use Rattle.rdf_values.specs.declared.tables.value.Value.TheVariants as val;
 ghost use Rattle.rdf_model.specs.{Gives};
 ghost use Rattle.expr_check.specs.{CheckedExpr};
 ghost use Rattle.graph_numbers.specs.{graph_sites, IsSiteExpr, source_value};

@@ -1,6 +1,6 @@
 // The elements of a site's vector that are the values of a Vary.
 ghost use Rattle.std.specs.Prelude.{◌≡◌, ◌<◌, ◌+◌, length, slice_index_or, true, Some};
-ghost use Rattle.rdf_values.specs.declared.value.Value.TheVariants as val;
+ghost use Rattle.rdf_values.specs.declared.tables.value.Value.TheVariants as val;
 ghost use Rattle.rdf_model.specs.{tag_element};
 ghost use Rattle.graph_numbers.specs.{graph_sites, source_value};
 ghost use Rattle.graph_numbers.specs.declared.source.Source.TheVariants as source;

@@ -1,6 +1,6 @@
 // Selecting the places of a block that pass filters.
 ghost use Rattle.std.specs.Prelude.{◌≡◌, ◌<◌, ◌+◌, ◌++◌, ℕ, OnOk, Some, length, slice_get, OnErr, Bool, true};
-ghost use Rattle.rdf_values.specs.declared.value.ColType.TheVariants as kind;
+ghost use Rattle.rdf_values.specs.declared.tables.value.ColType.TheVariants as kind;
 ghost use Rattle.graph_numbers.specs.{graph_sites};
 ghost use Rattle.expr_lanes.specs.{EachPlace};
 ghost use Rattle.block_cache.specs.{CanFill, kinds_of};

@@ -1,7 +1,7 @@
 // The lanes that an action reads.
 ghost use Rattle.std.specs.Prelude.{◌≡◌, ◌<◌, ◌+◌, ℕ, IfSome, None, Some, length, slice_get, true};
 ghost use Rattle.rdf_values.specs.{kind_at};
-ghost use Rattle.rdf_values.specs.declared.value.ColType.TheVariants as kind;
+ghost use Rattle.rdf_values.specs.declared.tables.value.ColType.TheVariants as kind;
 ghost use Rattle.rdf_model.specs.{for_all};
 ghost use Rattle.graph_numbers.specs.{source_value};
 ghost use Rattle.graph_numbers.specs.declared.source.Source.TheVariants as source;

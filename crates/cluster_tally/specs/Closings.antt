@@ -1,6 +1,6 @@
 -- What the end of a cluster makes of the watched results.
 use Rattle.std.specs.Prelude.{ℕ, List, [], ◌∷◌, ◌++◌, Option, None, Some, slice_index_or, slice_set}
-use Rattle.rdf_values.specs.Fold as fold
+use Rattle.rdf_values.specs.results.Fold as fold
 use Rattle.rdf_values.specs.{ActionKind}
 use Rattle.actions.specs.{Accumulator}
 use Rattle.merge_core.specs.{Noted}

@@ -1,8 +1,8 @@
 // The columns of a table over its clusters.
 ghost use Rattle.std.specs.Prelude.{◌≡◌, ◌<◌, ℤ, List, IfOk, Some, length, slice_get, slice_range};
 ghost use Rattle.rdf_values.specs.{cell, cut, IsIntColumn, IsTable, IsVectColumn, kind_at, Span};
-ghost use Rattle.rdf_values.specs.declared.value.ColType.TheVariants as k;
-ghost use Rattle.rdf_values.specs.declared.value.Value.TheVariants as v;
+ghost use Rattle.rdf_values.specs.declared.tables.value.ColType.TheVariants as k;
+ghost use Rattle.rdf_values.specs.declared.tables.value.Value.TheVariants as v;
 ghost use Rattle.columns.specs.Blocks.{cluster_values};
 ghost use Rattle.columns.specs.Packings.{packed_of, packing_of};
 ghost use Rattle.columns.specs.Wholes.{joined};

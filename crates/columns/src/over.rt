@@ -2,7 +2,7 @@
 ghost use Rattle.std.specs.Prelude.{◌≡◌, ◌≤◌, ◌<◌, ◌-◌, Some, length, slice_get};
 ghost use Rattle.columns.specs.ReadInts.{AreInts};
 ghost use Rattle.rdf_values.specs.{cut, kind_at};
-ghost use Rattle.rdf_values.specs.declared.value.ColType.TheVariants as k;
+ghost use Rattle.rdf_values.specs.declared.tables.value.ColType.TheVariants as k;
 
 use crate::columns::Columns;
 use rdf_values::Span;

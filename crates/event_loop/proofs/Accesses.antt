@@ -19,7 +19,7 @@ use Rattle.event_loop.proofs.LoopResults.{many}
 use Rattle.event_loop.proofs.Printed.{place_first, printed_has_loop}
 use Rattle.graph.proofs.Listing.{place_at}
 use Rattle.std.specs.List.{cons_option}
-use Rattle.rdf_values.specs.declared.statement.Statement.TheVariants.{Print}
+use Rattle.rdf_values.specs.declared.scripts.statement.Statement.TheVariants.{Print}
 use Rattle.rdf_values.proofs.Leading.{cuts_lead}
 use Rattle.rdf_model.proofs.Turns.{loops_come_in_turn}
 use Rattle.loop_pieces.proofs.ClusterFaults.{first_cluster_has_first_fault}

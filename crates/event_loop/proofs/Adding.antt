@@ -8,7 +8,7 @@ use Rattle.std.proofs.lemmas.List.{length-map}
 use Rattle.std.proofs.lemmas.List.Elements.{recursion_from_All}
 use Rattle.lemmas.proofs.{and_right, same_some, something_at, take_front, mapped_at, take_next}
 use Rattle.rdf_values.specs.{ActionAt, ActionKind, among, are_edges, AreAccepted, Booked, booked_by, bookings, can_watch, check, check_columns, check_edges, check_node, check_passes, check_results, columns_of, FunctionNames, GraphCause, history, is_result, is_watched, IsBookable, IsShort, Line, names_of, Path, permitted_kinds, refuse_unless, ReportOn, result_is, same, Scope, scope_at, Script, Statement, Booking, fn_names, named_before, Pass, scope_of, variations}
-use Rattle.rdf_values.specs.declared.statement.Statement.TheVariants.{Action, Report, Watch}
+use Rattle.rdf_values.specs.declared.scripts.statement.Statement.TheVariants.{Action, Report, Watch}
 use Rattle.rdf_model.proofs.Accepted.{both_none, names_equal, third, unless_holds}
 use Rattle.histograms.specs.{IsAxis}
 use Rattle.actions.specs.{HasEdges}

@@ -11,7 +11,7 @@ use Rattle.rdf_model.specs.{loop_passes, Access, accesses, filled_by, loop_resul
 use Rattle.graph_numbers.specs.{numbered_pass, Pass as NumberedPass, passes_from, result_passes, loops, pass_at}
 use Rattle.std.proofs.lemmas.Option.{slice_get_within}
 use Rattle.lemmas.proofs.{before_or_last, never_true, or_right, same_some}
-use Rattle.rdf_values.specs.declared.statement.Statement.TheVariants.{Print}
+use Rattle.rdf_values.specs.declared.scripts.statement.Statement.TheVariants.{Print}
 use Rattle.rdf_model.proofs.Accepted.{itself, names_equal}
 use Rattle.graph_numbers.proofs.Extending.{Extends, itself as all_of_it, shorter}
 use Rattle.graph_numbers.proofs.Listed.{by_test}

@@ -4,7 +4,7 @@ use Rattle.std.proofs.lemmas.List.{append-nil}
 use Rattle.std.proofs.lemmas.List.Elements.{filter_map-append}
 use Rattle.lemmas.proofs.{before_or_last}
 use Rattle.rdf_values.specs.{among, Booked, bookings, filled, names_of, place, same, Statement, waiting}
-use Rattle.rdf_values.specs.declared.statement.Statement.TheVariants.{Print}
+use Rattle.rdf_values.specs.declared.scripts.statement.Statement.TheVariants.{Print}
 use Rattle.rdf_model.specs.{Access, accesses, filled_by, loop_results}
 use Rattle.rdf_model.proofs.Accepted.{names_equal}
 use Rattle.graph_numbers.proofs.Listed.{by_test}

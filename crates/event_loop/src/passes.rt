@@ -1,6 +1,6 @@
 // The passes of a loop.
 ghost use Rattle.std.specs.Prelude.{◌≡◌, ◌<◌, ℕ, Some, length, slice_get};
-ghost use Rattle.rdf_values.specs.Bookings as bookings;
+ghost use Rattle.rdf_values.specs.scripts.Bookings as bookings;
 ghost use Rattle.rdf_values.specs.{history};
 ghost use Rattle.loop_keys.specs.{Fits, job_of, numbered_in, passes_in};
 ghost use Rattle.event_loop.specs.{is_watched_pass, job_facts};

@@ -5,7 +5,7 @@ use Rattle.std.proofs.lemmas.List.{take-replicate}
 use Rattle.std.proofs.lemmas.List.Elements.{All-head, All-tail}
 use Rattle.std.proofs.lemmas.Slice.Eq.{bytes_eq-Decides}
 use Rattle.rdf_values.specs.{AreFnNames, built_in, built_in_shapes, Callee, callee, callee_in, ColType, FnName, FunctionNames, given_from, GraphCause, HaveDistinctNames, LacksName, same, Shape, shape, shape_in, shape_of, shapes}
-use Rattle.rdf_values.specs.declared.graph_cause.GraphCause.TheVariants.{UnknownFunction}
+use Rattle.rdf_values.specs.declared.scripts.graph_cause.GraphCause.TheVariants.{UnknownFunction}
 use Rattle.expr_check.specs.{callee_shape, given_shape}
 
 differ : (x y : List ℕ) → x ≢ y → same x y ≡ false

@@ -5,7 +5,7 @@ use Rattle.std.proofs.lemmas.Bool.Decides.{Decides-eqb}
 use Rattle.std.proofs.lemmas.List.Elements.{All-from_recursion, recursion_from_All}
 use Rattle.std.proofs.lemmas.Slice.Eq.{bytes_eq-Decides}
 use Rattle.rdf_values.specs.{ColType, column_kind, GraphCause, kinds_in, number_in, same, ScopeColumn}
-use Rattle.rdf_values.specs.declared.graph_cause.GraphCause.TheVariants.{UnknownColumn}
+use Rattle.rdf_values.specs.declared.scripts.graph_cause.GraphCause.TheVariants.{UnknownColumn}
 use Rattle.expr_check.specs.{LacksColumn, number_kind, NumberHasKind, numbers_in, NumbersHaveKinds}
 
 -- what a search by name found: nothing, or the column that the name means

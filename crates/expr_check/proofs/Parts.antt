@@ -4,7 +4,7 @@ use Rattle.std.specs.List.{AllByRecursion}
 use Rattle.std.proofs.lemmas.List.Elements.{recursion_from_All, All-from_recursion}
 use Rattle.lemmas.proofs.{and_left, and_right}
 use Rattle.rdf_values.specs.{args_count, Bin, Call, Callee, Col, ColType, columns_in, columns_in_all, Cond, End, FunctionNames, kinds_by, Lit, More, Neg, Not, NumTree, Pick, Trees}
-use Rattle.rdf_values.specs.Expressions.{Truth}
+use Rattle.rdf_values.specs.expressions.Expressions.{Truth}
 use Rattle.expr_check.specs.{all_are_plain, callee_shape, gives_vector, HasNoVector, is_plain, num_kind, number_kind, parts, parts_of_all, takes_no_vector}
 use Rattle.expr_check.proofs.Each.{each_left, each_right, each_append}
 use Rattle.expr_check.proofs.Plain.{plain_typed, columns_scalar}

@@ -6,8 +6,8 @@ use Rattle.std.proofs.lemmas.Bool.Decides.{Decides-eqb}
 use Rattle.std.proofs.lemmas.Slice.Zip.{firsts-zip}
 use Rattle.lemmas.proofs.{and_holds, and_left, and_right, left_false, not_true, right_false}
 use Rattle.rdf_values.specs.{◌>>=◌, args_count, arithmetic_kind, Bin, BinOp, Call, Callee, chosen_kind, Col, ColType, columns_in, columns_in_all, Cond, End, equality_kind, FnName, FunctionNames, GraphCause, inverted_kind, kinds_by, Lit, logical_kind, More, Neg, negated_kind, Not, NumTree, operator_kind, Pick, picked_kind, same_kind, same_kinds, Shape, shape, Trees}
-use Rattle.rdf_values.specs.Expressions.{Truth}
-use Rattle.rdf_values.specs.declared.graph_cause.GraphCause.TheVariants.{WrongType, WrongCount}
+use Rattle.rdf_values.specs.expressions.Expressions.{Truth}
+use Rattle.rdf_values.specs.declared.scripts.graph_cause.GraphCause.TheVariants.{WrongType, WrongCount}
 use Rattle.expr_check.specs.{all_are_plain, callee_shape, checked_expr, distinct, given_shape, gives_vector, is_plain, is_vector, IsWellTyped, num_kind, number_kind, takes_no_vector}
 use Rattle.expr_check.proofs.Each.{each_left, each_right, each_append}
 use Rattle.expr_check.proofs.Distinct.{each_distinct, NoTwice, NoTwice-distinct}

@@ -6,7 +6,7 @@ use Rattle.std.proofs.lemmas.List.{length-replicate, length-map}
 use Rattle.std.proofs.lemmas.Slice.Zip.{firsts-zip}
 use Rattle.std.proofs.lemmas.List.Elements.{All-from_recursion}
 use Rattle.rdf_values.specs.{args_count, Bin, Call, Callee, callee, Col, ColType, column_kind, columns_in, Cond, End, FnName, FunctionNames, GraphCause, kind_by, kind_of, kinds_by, kinds_in, Lit, More, NamedTree, Neg, Not, number_in, numbered, NumTree, Pick, ScopeColumn, Shape, shape, shape_of, Trees}
-use Rattle.rdf_values.specs.Expressions.{Truth}
+use Rattle.rdf_values.specs.expressions.Expressions.{Truth}
 use Rattle.expr_check.specs.{AllCallsFit, callee_shape, CallsFit, checked_expr, CheckedExpr, distinct, given_shape, IsCallOf, IsWellTyped, num_kind, number_kind, numbers_in, NumbersHaveKinds}
 use Rattle.expr_check.proofs.Callees.{callee_shape-callee}
 use Rattle.expr_check.proofs.Distinct.{each_distinct, each_from_distinct}

@@ -4,7 +4,7 @@ use Rattle.std.specs.List.{AllByRecursion}
 use Rattle.std.proofs.lemmas.Bool.Decides.{Decides-eqb}
 use Rattle.std.proofs.lemmas.List.Elements.{recursion_from_All}
 use Rattle.rdf_values.specs.{Bin, Call, Col, ColType, columns_in, columns_in_all, Cond, EachArgument, EachColumn, End, GraphCause, Lit, More, Neg, Not, Pick, Tree, Trees, Value}
-use Rattle.rdf_values.specs.Expressions.{Truth}
+use Rattle.rdf_values.specs.expressions.Expressions.{Truth}
 use Rattle.rdf_model.specs.{Faults, FitsOutcome, Gives, Needs, Outcome}
 use Rattle.expr_check.specs.{callee_shape, CheckedExpr, gives_vector, is_plain, IsTyped, number_kind}
 use Rattle.expr_check.proofs.Each.{each_left, each_right}

@@ -1,7 +1,7 @@
 -- Calls that a list of functions can answer.
 use Rattle.std.specs.Prelude.{◌≡◌, ◌<◌, ◌≤◌, ℕ, List, length, HoldsAt}
 use Rattle.rdf_values.specs.{args_count, Bin, Call, Callee, Col, Cond, End, Function, Lit, More, Neg, Not, NumTree, Pick, Trees}
-use Rattle.rdf_values.specs.Expressions.{Truth}
+use Rattle.rdf_values.specs.expressions.Expressions.{Truth}
 
 -- a call of a built-in function
 abbrev pub IsBuiltIn : Callee → Type 0

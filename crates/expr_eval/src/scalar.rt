@@ -1,7 +1,7 @@
 // Evaluation without vectors.
 ghost use Rattle.std.specs.Prelude.{◌≡◌, ◌+◌, ◌<◌, ◌≤◌, ℕ, ℤ, true, length, All, OnOk, IfOk};
 ghost use Rattle.rdf_values.specs.{args_count, Call as CallTree, EachArgument, EachColumn, FitsKind, fn_names, Neg as NegTree, Not as NotTree, num_tree, num_trees};
-ghost use Rattle.rdf_values.specs.declared.value.Value.TheVariants.{Int as ValueInt, Bool as ValueBool};
+ghost use Rattle.rdf_values.specs.declared.tables.value.Value.TheVariants.{Int as ValueInt, Bool as ValueBool};
 ghost use Rattle.rdf_model.specs.{argument, call_outcome, evaluate, evaluate_all, FitsOutcome, Gives, of_numbers, operation, value_operation};
 ghost use Rattle.entry_fns.specs.{functions_in};
 ghost use Rattle.expr_check.specs.{CallsFit, is_plain};

@@ -1,7 +1,7 @@
 -- How many levels of scratch an evaluation takes.
 use Rattle.std.specs.Prelude.{ℕ, ◌+◌, max, Bool, true, false}
 use Rattle.rdf_values.specs.{args_count, Bin, BinOp, Call, Callee, Col, Cond, End, Lit, More, Neg, Not, NumTree, Pick, Trees}
-use Rattle.rdf_values.specs.Expressions.{Truth}
+use Rattle.rdf_values.specs.expressions.Expressions.{Truth}
 
 abbrev mutual
   -- one for each part that stands in another, at the deepest

@@ -1,7 +1,7 @@
 -- Built-in functions of a vector that give a number.
 use Rattle.std.specs.Prelude.{◌≡◌, ℕ, true, [], ◌∷◌, Option, Some, None, MatchOption}
 use Rattle.rdf_values.specs.{Bin, Call, Callee, Col, Cond, End, Lit, More, Neg, Not, NumTree, Pick, Trees, Value}
-use Rattle.rdf_values.specs.Expressions.{Truth}
+use Rattle.rdf_values.specs.expressions.Expressions.{Truth}
 use Rattle.rdf_model.specs.{◌>>=◌, call_outcome, Outcome}
 use Rattle.expr_check.specs.{takes_no_vector}
 use Rattle.expr_lanes.specs.declared.folds.Fold.{Fold}

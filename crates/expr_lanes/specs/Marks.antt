@@ -1,7 +1,7 @@
 -- Expressions over numbers, where a truth value is its mark: what a lane holds of them.
 use Rattle.std.specs.Prelude.{ℕ, ℤ, pos, neg_ℤ, nat_abs, List, [], ◌∷◌, map, if◌then◌else◌, slice_get, Option, Some, None}
 use Rattle.rdf_values.specs.{Bin, BinOp, Call, Callee, Col, ColType, Cond, End, Function, Lit, More, Neg, Not, NumTree, Pick, Trees, Value}
-use Rattle.rdf_values.specs.Expressions.{Truth}
+use Rattle.rdf_values.specs.expressions.Expressions.{Truth}
 use Rattle.rdf_model.specs.{◌>>=◌, answer_outcome, checked, Faults, Gives, is_set, is_zero, mark, Needs, number_operation, Outcome}
 use Rattle.expr_lanes.specs.declared.folds.FoldCall.{FoldCall}
 use Rattle.expr_lanes.specs.declared.scratch.Scratch.{Scratch}

@@ -1,6 +1,6 @@
 // Calls with the numbers that several lanes hold.
 ghost use Rattle.std.specs.Prelude.{◌≡◌, ◌+◌, ◌<◌, ◌≤◌, ◌++◌, ℕ, length, pos, nat_abs, slice_get};
-ghost use Rattle.rdf_values.specs.declared.num_expr.Callee.TheVariants as fn;
+ghost use Rattle.rdf_values.specs.declared.expressions.num_expr.Callee.TheVariants as fn;
 ghost use Rattle.expr_eval.specs.{CallFits};
 ghost use Rattle.expr_lanes.specs.Marks.{numbers_at, lane_call, given_number};
 ghost use Rattle.expr_lanes.specs.Places.{answered_at, EachPlace, Evaluated};

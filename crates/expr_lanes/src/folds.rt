@@ -2,7 +2,7 @@
 ghost use Rattle.std.specs.Prelude.{◌≡◌, ◌+◌, ◌<◌, ◌≤◌, ℕ, true, List, [], ◌∷◌, length};
 ghost use Rattle.std.specs.Int.{int_max, int_min};
 ghost use Rattle.rdf_values.specs.{End, num_tree, num_trees};
-ghost use Rattle.rdf_values.specs.declared.value.Value.TheVariants as val;
+ghost use Rattle.rdf_values.specs.declared.tables.value.Value.TheVariants as val;
 ghost use Rattle.rdf_model.specs.{extreme_element};
 ghost use Rattle.expr_eval.specs.{input_outcome, number_value, sum_of};
 ghost use Rattle.expr_lanes.specs.Folds.{column_of, fold_named, fold_outcome, fold_read, fold_told, only_column};

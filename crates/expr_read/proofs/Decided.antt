@@ -1,7 +1,7 @@
 -- Each text reads as one thing, or has one refusal.
 use Rattle.std.proofs.Common.{◌≡◌, ◌∙◌, ℕ, List, Ok, inl, inr, sym, subst, length, refl, Err, ap, Result, ◌⊎◌}
 use Rattle.rdf_values.specs.{at_end, at_scan, at_token, bare, begin_expr, begin_values, ExprCause, IsText, NamedTree, Partial, Placed, Reads, ReadsText, ReadsValues, ReadsValuesText, Refusal, Refused, scan, ScanEnd, ScanState, Token, tokens, VaryValues, Whole}
-use Rattle.rdf_values.specs.Scans.{Refuses}
+use Rattle.rdf_values.specs.expressions.Scans.{Refuses}
 use Rattle.expr_read.specs.{ExprRefusal, IsRefusalOf, RefusesTextAs, RefusesTokensAs}
 use Rattle.expr_read.proofs.Whole.{whole, whole_values}
 use Rattle.expr_read.proofs.Unique.{unique, unique_values}

@@ -7,7 +7,7 @@ use Rattle.std.specs.List.{prefix_len, list_all}
 use Rattle.std.proofs.lemmas.Bool.Decides.{nat_tests}
 use Rattle.lemmas.proofs.{both_true}
 use Rattle.rdf_values.specs.{First, first_token, is_digit, is_name, is_word, is_word_byte, is_word_start, long_first, long_mark, long_marks, magnitude_of, mark_first, number_first, number_found, Refusal, same, short_first, short_mark, short_marks, Token, word_first, word_token}
-use Rattle.rdf_values.specs.Tokens.{mark_in}
+use Rattle.rdf_values.specs.expressions.Tokens.{mark_in}
 use Rattle.rdf_values.proofs.OneText.{magnitude_bound}
 use Rattle.expr_read.specs.{is_valid}
 

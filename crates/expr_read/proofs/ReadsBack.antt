@@ -2,7 +2,7 @@
 use Rattle.std.proofs.Common.{◌≡◌, ℕ, true, List, [], ◌∷◌, ◌++◌, subst, ◌≤◌, ◌+◌, ◌-◌, ◌∙◌, length, Ok, arith, refl, sym, ap}
 use Rattle.lemmas.proofs.{both_true}
 use Rattle.rdf_values.specs.{bare, before, binary, conditional, last_argument, minus_sign, more_arguments, name, NamedTree, NamedTrees, no_arguments, not_sign, number, parenthesized, pick, Placed, Reads, ReadsArgs, ReadsText, text_of, tighter, Token, tokens, tokens_of, tokens_within, truth}
-use Rattle.rdf_values.specs.Grammar.{call}
+use Rattle.rdf_values.specs.expressions.Grammar.{call}
 use Rattle.expr_read.specs.{are_valid, is_valid}
 use Rattle.expr_read.proofs.SpelledTree.{IsReadable, AreReadable, spells_tree}
 use Rattle.std.proofs.lemmas.List.{append-nil, length-map}

@@ -3,8 +3,8 @@ use Rattle.std.proofs.Common.{◌≡◌, ◌≤◌, ◌<◌, ◌+◌, ◌-◌, �
 use Rattle.std.proofs.lemmas.List.{append-nil}
 use Rattle.lemmas.proofs.{le_not, le_says, le_true}
 use Rattle.rdf_values.specs.{args_tokens, Bin, binary, Call, Col, Cond, conditional, enclosed, End, last_argument, level_of, Lit, Mark, minus_sign, More, more_arguments, name, NamedTree, NamedTrees, Neg, no_arguments, Not, not_sign, number, parenthesized, Pick, pick, Punct, Reads, ReadsArgs, tighter, Token, tokens_at_level, tokens_of, tree_level, truth}
-use Rattle.rdf_values.specs.Expressions as e
-use Rattle.rdf_values.specs.Grammar.{call}
+use Rattle.rdf_values.specs.expressions.Expressions as e
+use Rattle.rdf_values.specs.expressions.Grammar.{call}
 use Rattle.expr_read.proofs.Scanned.{level_low}
 
 -- an expression reads at each looser level

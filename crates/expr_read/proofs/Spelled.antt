@@ -2,7 +2,7 @@
 use Rattle.std.proofs.Common.{◌≡◌, ◌+◌, ◌∙◌, ℕ, suc, Bool, true, false, List, [], ◌∷◌, ◌++◌, length, drop, Ok, arith, refl, sym, ap, subst, append_assoc, add-zero, zero-add, nat_eq, length-append, ◌≤◌, ◌<◌, ◌^◌, ℤ, pos, negsuc, Some, not, codes, take_while, nat_le, ◌&&◌, ◌||◌, decimal}
 use Rattle.std.proofs.lemmas.List.{map-append}
 use Rattle.rdf_values.specs.{bare, before, BinOp, first_token, is_blank, is_digit, is_name, is_word, is_word_byte, is_word_start, long_mark, magnitude_of, Mark, number_first, Op, op_text, Placed, Punct, same, short_mark, Token, tokens_within, truth_text, word_first, word_token}
-use Rattle.rdf_values.specs.Tokens.{Word, Truth, Number}
+use Rattle.rdf_values.specs.expressions.Tokens.{Word, Truth, Number}
 use Rattle.expr_read.proofs.TokenSteps.{before_more, before_none, first_blank, first_found}
 use Rattle.std.specs.List.{prefix_len, list_all}
 use Rattle.std.proofs.Math.Seq.{take-append_seam}

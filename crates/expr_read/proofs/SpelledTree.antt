@@ -1,7 +1,7 @@
 -- The canonical text of an expression spells its canonical tokens.
 use Rattle.std.proofs.Common.{◌≡◌, ◌+◌, ℕ, suc, Bool, true, false, List, [], ◌∷◌, ◌++◌, refl, ap, subst, append_assoc, add-one, nat_le}
 use Rattle.rdf_values.specs.{args_text, args_tokens, Bin, BinOp, Call, Col, Cond, enclosed, End, in_parens, is_name, level_of, Lit, Mark, More, more_text, more_tokens, NamedTree, NamedTrees, Neg, Not, op_text, Pick, Punct, text_of, Token, tokens_of, tree_level}
-use Rattle.rdf_values.specs.Expressions as e
+use Rattle.rdf_values.specs.expressions.Expressions as e
 use Rattle.expr_read.specs.{is_number}
 use Rattle.expr_read.proofs.Spelled.{Spells, joined, nothing, spells_as, is_apart, is_unequal, minus, open_paren, close_paren, open_bracket, close_bracket, comma, question, colon, operator, name, name_head, truth, bang, number, number_head}
 

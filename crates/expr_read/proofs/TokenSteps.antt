@@ -3,7 +3,7 @@ use Rattle.std.proofs.Common.{◌≡◌, ◌≤◌, ◌<◌, ◌+◌, ◌-◌, �
 use Rattle.std.specs.List.{prefix_len}
 use Rattle.std.proofs.lemmas.List.{drop_more, drop_all, drop-drop, append-nil}
 use Rattle.rdf_values.specs.{and_then, before, First, first_token, from, is_blank, Placed, Refusal, Token, tokens_at, tokens_within}
-use Rattle.rdf_values.specs.Tokens.{too_many}
+use Rattle.rdf_values.specs.expressions.Tokens.{too_many}
 
 pub before_more : (ts us : List Placed) (r : Result (List Placed) Refusal) → before ts (before us r) ≡ before (ts ++ us) r
 before_more ts us (Ok vs) = ap Ok (sym (append_assoc ts us vs))

@@ -1,12 +1,12 @@
 -- What was read, from what its parts read.
 use Rattle.std.proofs.Common.{◌≡◌, ◌<◌, ◌+◌, ◌∙◌, ℕ, suc, ℤ, Bool, List, [], ◌∷◌, ◌++◌, length, arith, refl, sym, ap, subst, append_assoc, add-one, Some, None}
 use Rattle.rdf_values.specs.{after_brace, after_list, AfterBrace, AfterList, bare, begin_values, beginning, between_lists, binary, BinOp, conditional, End, InCall, InChoice, InIndex, InList, InLists, InParens, last_argument, last_item, last_list, level_of, Mark, minus_sign, More, more_arguments, more_items, more_lists, name, NamedTree, NamedTrees, next_list, NextList, no_arguments, not_sign, Nothing, number, one_list, Op, OpenMark, Operand, operand, Operator, parenthesized, pick, Placed, Punct, Reads, ReadsArgs, scan, scan_step, ScanState, several_lists, tighter, Token, truth, vector}
-use Rattle.rdf_values.specs.Expressions as e
-use Rattle.rdf_values.specs.Tokens.{Word, Truth, Number}
-use Rattle.rdf_values.specs.Grammar.{call}
+use Rattle.rdf_values.specs.expressions.Expressions as e
+use Rattle.rdf_values.specs.expressions.Tokens.{Word, Truth, Number}
+use Rattle.rdf_values.specs.expressions.Grammar.{call}
 use Rattle.expr_read.specs.{Begins, BeginsNot, ends_at, in_list, Listing, Listings, Stops, stuck_at, Took, TookArgs, TookList, TookLists, TookValues}
 use Rattle.expr_read.proofs.Scanned.{scan_after, name_ends, argument_first, first_is_not, refused_at, same_step, refused_end}
-use Rattle.rdf_values.specs.declared.vary_values.VaryValues.TheVariants.{Lists as ListsOf, Vector as VectorOf}
+use Rattle.rdf_values.specs.declared.scripts.vary_values.VaryValues.TheVariants.{Lists as ListsOf, Vector as VectorOf}
 
 pub bare_after : {t : Token} {old new : List Placed} → Begins t old new → bare old ≡ t ∷ bare new
 bare_after b = ap bare b.is

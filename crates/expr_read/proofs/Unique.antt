@@ -3,10 +3,10 @@ use Rattle.std.proofs.Common.{◌≡◌, ◌<◌, ◌≤◌, ◌∙◌, ℕ, suc
 use Rattle.std.proofs.lemmas.Bool.Decides.{nat_tests}
 use Rattle.lemmas.proofs.{le_false, le_true}
 use Rattle.rdf_values.specs.{Bin, binary, BinOp, Call, Col, Cond, conditional, End, last_argument, last_item, last_list, level_of, Lit, Mark, minus_sign, More, more_arguments, more_items, more_lists, name, NamedTree, NamedTrees, Neg, no_arguments, Not, not_sign, number, one_list, Op, parenthesized, Pick, pick, Punct, Reads, ReadsArgs, ReadsList, ReadsLists, ReadsValues, several_lists, tighter, Token, truth, VaryValues, vector}
-use Rattle.rdf_values.specs.Expressions as e
-use Rattle.rdf_values.specs.Tokens.{Word, Truth, Number}
-use Rattle.rdf_values.specs.Grammar.{call}
-use Rattle.rdf_values.specs.declared.vary_values.VaryValues.TheVariants.{Lists, Vector}
+use Rattle.rdf_values.specs.expressions.Expressions as e
+use Rattle.rdf_values.specs.expressions.Tokens.{Word, Truth, Number}
+use Rattle.rdf_values.specs.expressions.Grammar.{call}
+use Rattle.rdf_values.specs.declared.scripts.vary_values.VaryValues.TheVariants.{Lists, Vector}
 use Rattle.expr_read.proofs.Scanned.{positive, level_low, level_high}
 
 -- what waits for the tree that is being read

@@ -3,7 +3,7 @@ use Rattle.std.proofs.Common.{◌≡◌, ◌≤◌, ◌+◌, ℕ, zero, suc, Boo
 use Rattle.std.proofs.lemmas.List.Sums.{prefix_len-le-length}
 use Rattle.lemmas.proofs.{and_holds}
 use Rattle.rdf_values.specs.{and_then, bare, before, behind, blanks, earlier, ExprCause, First, first_token, from, is_blank, Placed, Refusal, tokens, tokens_at}
-use Rattle.rdf_values.specs.Tokens.{too_many}
+use Rattle.rdf_values.specs.expressions.Tokens.{too_many}
 use Rattle.expr_read.specs.{are_valid, is_valid}
 use Rattle.expr_read.proofs.FirstTokens.{IsFine, fine}
 

@@ -1,8 +1,8 @@
 -- Tokens that read are refused by no scan, and leave nothing open.
 use Rattle.std.proofs.Common.{◌≡◌, ◌∙◌, ℕ, Bool, true, false, List, [], ◌∷◌, ◌++◌, Some, refl, sym, ap, append_assoc, append-nil, not}
 use Rattle.rdf_values.specs.{after_list, AfterBrace, AfterName, bare, begin_expr, begin_values, binary, BinOp, conditional, End, FirstArgument, InCall, InChoice, InIndex, InList, InLists, InParens, last_argument, last_item, last_list, Mark, minus_sign, more_arguments, more_items, more_lists, name, NamedTree, NamedTrees, NextList, no_arguments, not_sign, Nothing, number, one_list, Op, OpenMark, Operand, Operator, parenthesized, pick, Placed, Punct, Reads, ReadsArgs, ReadsList, ReadsLists, ReadsValues, scan, scan_step, ScanState, several_lists, tighter, Token, truth, VaryValues, vector, Whole}
-use Rattle.rdf_values.specs.Tokens.{Word, Truth, Number}
-use Rattle.rdf_values.specs.Grammar.{call}
+use Rattle.rdf_values.specs.expressions.Tokens.{Word, Truth, Number}
+use Rattle.rdf_values.specs.expressions.Grammar.{call}
 use Rattle.expr_read.specs.{BeginsNot}
 use Rattle.expr_read.proofs.Scanned.{name_ends, argument_first}
 use Rattle.expr_read.proofs.Took.{vector_first, item_first}

@@ -1,7 +1,7 @@
 -- What a refusal says.
 use Rattle.std.specs.Prelude.{◌≡◌, ℕ, List, [], ◌∷◌, ◌⊎◌}
 use Rattle.rdf_values.specs.{ExprCause, Partial, Placed, Refused, scan, ScanState, Token}
-use Rattle.rdf_values.specs.Scans.{Refuses}
+use Rattle.rdf_values.specs.expressions.Scans.{Refuses}
 use Rattle.expr_read.specs.declared.refusal.ExprRefusal.{ExprRefusal}
 
 -- the place of the first token, or the end

@@ -2,7 +2,7 @@
 use Rattle.std.specs.Prelude.{ℤ, pos, negsuc, Bool, true, false, List, nat_lt}
 use Rattle.std.specs.List.{list_all}
 use Rattle.rdf_values.specs.{is_name, Token}
-use Rattle.rdf_values.specs.Tokens.{Word, Number}
+use Rattle.rdf_values.specs.expressions.Tokens.{Word, Number}
 
 -- a number of a token isn't below 0, and is below 2 ^ 63
 abbrev pub is_number : ℤ → Bool

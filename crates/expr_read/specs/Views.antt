@@ -1,7 +1,7 @@
 -- What tokens and refusals are to the definitions.
 use Rattle.std.specs.Prelude.{◌≡◌, Result, Ok, Err}
 use Rattle.rdf_values.specs.{First, Op, Placed, Punct, Refusal, Token}
-use Rattle.rdf_values.specs.Tokens.{Word, Truth, Number}
+use Rattle.rdf_values.specs.expressions.Tokens.{Word, Truth, Number}
 use Rattle.expr_read.specs.declared.token.Token.{Token as Seen}
 use Rattle.expr_read.specs.declared.token.Token.TheVariants as seen
 use Rattle.expr_read.specs.declared.token.Placed.{Placed as SeenAt}

@@ -4,8 +4,8 @@ ghost use Rattle.rdf_values.specs.{first_token, long_mark, mark_first, number_fi
 ghost use Rattle.expr_read.specs.{first_of, token_of};
 
 use crate::token::Token;
-use rdf_values::name::is_word_start;
-use rdf_values::word::{digits_size, is_digit, word_size};
+use rdf_values::scripts::name::is_word_start;
+use rdf_values::tables::word::{digits_size, is_digit, word_size};
 use rdf_values::{BinOp, ExprCause, Mark, read_magnitude};
 
 const LONGEST_WORD: usize = 64;
@@ -25,7 +25,7 @@ pub(crate) struct Misread {
 }
 
 // The token that a word is.
-#[tactic(auto, unfolding(rdf_values::specs::Tokens::word_first))]
+#[tactic(auto, unfolding(rdf_values::specs::expressions::Tokens::word_first))]
 fn word(word: &[u8]) -> Result<Lexeme<'_>, Misread>
     ensures { first_of result ≡ word_first word.now }
 {
@@ -49,7 +49,7 @@ fn word(word: &[u8]) -> Result<Lexeme<'_>, Misread>
 }
 
 // The token that some digits are.
-#[tactic(auto, unfolding(rdf_values::specs::Tokens::number_first))]
+#[tactic(auto, unfolding(rdf_values::specs::expressions::Tokens::number_first))]
 fn number(digits: &[u8]) -> Result<Lexeme<'_>, Misread>
     ensures { first_of result ≡ number_first digits.now }
 {
@@ -66,7 +66,7 @@ fn number(digits: &[u8]) -> Result<Lexeme<'_>, Misread>
 }
 
 // The token of a mark of two bytes.
-#[tactic(auto, unfolding(rdf_values::specs::Tokens::long_mark))]
+#[tactic(auto, unfolding(rdf_values::specs::expressions::Tokens::long_mark))]
 fn long_mark(first: u8, second: u8) -> Option<Token<'static>>
     ensures { option_map token_of result ≡ long_mark first second }
 {
@@ -82,7 +82,7 @@ fn long_mark(first: u8, second: u8) -> Option<Token<'static>>
 }
 
 // The token of a mark of one byte.
-#[tactic(auto, unfolding(rdf_values::specs::Tokens::short_mark))]
+#[tactic(auto, unfolding(rdf_values::specs::expressions::Tokens::short_mark))]
 fn short_mark(byte: u8) -> Option<Token<'static>>
     ensures { option_map token_of result ≡ short_mark byte }
 {
@@ -127,7 +127,7 @@ fn mark(first: u8, rest: &[u8]) -> Result<Lexeme<'static>, Misread>
 }
 
 /// The token that a text begins with; its first byte isn't blank.
-#[tactic(auto, unfolding(rdf_values::specs::Tokens::first_token))]
+#[tactic(auto, unfolding(rdf_values::specs::expressions::Tokens::first_token))]
 pub(crate) fn first_token<'a>(text: &'a [u8]) -> Result<Lexeme<'a>, Misread>
     requires { 0 < length text.now }
     ensures { (c : ℕ) (cs : List ℕ) → text.now ≡ c ∷ cs → first_of result ≡ first_token c cs }

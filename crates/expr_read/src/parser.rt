@@ -1,7 +1,7 @@
 // Reads tokens as an expression, from the left with one token in hand.
 ghost use Rattle.std.specs.Prelude.{◌≡◌, ◌≤◌, ◌<◌, [], ◌∷◌, List, ℕ, length, drop, OnOk, IfOk, IfErr, IfSome, map, true};
 ghost use Rattle.rdf_values.specs.{bare, is_name, Op, Placed as At, Punct, tree_of, trees_of};
-ghost use Rattle.rdf_values.specs.Tokens.{Word};
+ghost use Rattle.rdf_values.specs.expressions.Tokens.{Word};
 ghost use Rattle.expr_read.specs.Valid.{are_valid};
 ghost use Rattle.expr_read.specs.Views.{placed_of};
 

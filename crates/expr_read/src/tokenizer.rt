@@ -1,7 +1,7 @@
 // Cuts a text into tokens.
 ghost use Rattle.std.specs.Prelude.{◌≡◌, ◌≤◌, ℕ, Ok, map, length, MatchResult};
 ghost use Rattle.rdf_values.specs.{is_blank, tokens};
-ghost use Rattle.rdf_values.specs.Tokens.{too_many};
+ghost use Rattle.rdf_values.specs.expressions.Tokens.{too_many};
 ghost use Rattle.expr_read.specs.{first_of, IsRefusalOf, placed_of};
 
 use crate::lexeme::{Lexeme, Misread, first_token};

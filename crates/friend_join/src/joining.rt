@@ -2,7 +2,7 @@
 ghost use Rattle.std.specs.Prelude.{◌≡◌, ◌++◌, Some, IfOk, map};
 ghost use Rattle.std.specs.List.{remove};
 ghost use Rattle.rdf_values.specs.{Answers, HoldsTable, IsHeader, kind_at, rows_kept};
-ghost use Rattle.rdf_values.specs.declared.value.ColType.TheVariants as k;
+ghost use Rattle.rdf_values.specs.declared.tables.value.ColType.TheVariants as k;
 ghost use Rattle.columns.specs.{whole};
 ghost use Rattle.friend_join.specs.{AreEntries, join_entries, join_of, keyed_in, matched_cells};
 

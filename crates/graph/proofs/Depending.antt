@@ -4,8 +4,8 @@ use Rattle.std.specs.List.{list_any, AllByRecursion, AllZip}
 use Rattle.std.proofs.lemmas.List.{length-append, length-map, map-append, append-nil}
 use Rattle.lemmas.proofs.{and_holds, and_left_false, and_right_false, any_at, kept_at, le_false, mapped_at, neither, or_false}
 use Rattle.rdf_values.specs.{all_renamed, among, AreAccepted, Bin, Call, callee, check, Col, ColType, Column, column_depends, column_kind, columns_in, columns_in_all, Cond, EachColumn, End, FunctionNames, is_own, is_variation_name, kind_of, Lit, made_columns, makes, More, named_depends, NamedTree, Neg, Not, own_variations, parent_of, path, Pick, place, renamed, same, scope_at, scope_of, shape_of, site_depends, Statement, target_of, Tree, Trees, Variation, variations, VaryValues, ActionAt, ActionKind, Booked, booked_by, bookings, check_columns, check_node, columns_of, expect_kind, filters_depend, GraphCause, history, may_begin, permitted_kinds, result_depends}
-use Rattle.rdf_values.specs.Expressions.{Truth}
-use Rattle.rdf_values.specs.declared.statement.Statement.TheVariants.{Define, Redefine, Vary, Filter, Action, Report}
+use Rattle.rdf_values.specs.expressions.Expressions.{Truth}
+use Rattle.rdf_values.specs.declared.scripts.statement.Statement.TheVariants.{Define, Redefine, Vary, Filter, Action, Report}
 use Rattle.rdf_model.proofs.Accepted.{kind_known, checked_of, sound_path, visible_resolved, itself, both_none, kind_expected}
 use Rattle.rdf_model.proofs.KnownColumns.{IsKnownColumn, known_columns, each_weaker}
 use Rattle.graph_numbers.specs.{column_place, holds_at, named_version, own_columns, own_version, version_at, version_count, version_or, depends_on, filter_sites, GraphView, IsGraph, own_filter_site, own_sites, ResultAt, results, site_count, SiteAt, sites}
@@ -18,7 +18,7 @@ use Rattle.std.proofs.lemmas.Bool.{le-leb}
 use Rattle.std.proofs.lemmas.List.Folds.{list_any-append}
 use Rattle.std.proofs.lemmas.Option.{slice_get_within}
 use Rattle.graph_numbers.proofs.Apart.{any_false, other_way, of_tags, tags_checked}
-use Rattle.rdf_values.specs.declared.graph_cause.GraphCause.TheVariants.{WrongType}
+use Rattle.rdf_values.specs.declared.scripts.graph_cause.GraphCause.TheVariants.{WrongType}
 use Rattle.graph_numbers.proofs.Placing.{own_placed}
 use Rattle.graph_numbers.proofs.Ranges.{AreBelow, filter_sites_below}
 use Rattle.rdf_model.proofs.Verdicts.{verdict_is_the_first_refusal}

@@ -11,7 +11,7 @@ use Rattle.std.proofs.lemmas.List.Sorted.{All-permutation, IsPermutation-reverse
 use Rattle.std.proofs.lemmas.Option.{slice_get-map}
 use Rattle.std.proofs.lemmas.Slice.Zip.{AllZip-long}
 use Rattle.rdf_values.specs.Answered.{Refuses}
-use Rattle.rdf_values.specs.declared.statement.Statement.TheVariants.{Print}
+use Rattle.rdf_values.specs.declared.scripts.statement.Statement.TheVariants.{Print}
 use Rattle.rdf_model.specs.{Access, accesses, filled_by, loop_of, loop_results}
 use Rattle.graph_numbers.proofs.Resulting.{booked_are}
 use Rattle.graph_numbers.specs.{booked, booked_statements, booked_unless, graph_prints, graph_results, graph_runs, graph_sources, graph_variations, GraphView, holds_at, IsGraph, result_number, ResultAt, Version, FilterAt, graph_filters, graph_sites, IsSiteExpr, result_depends_at, site_depends_at, SiteAt, sites}

@@ -1,7 +1,7 @@
 -- How many histogram cells and Takes the passes of results have, by the rows of the results.
 use Rattle.std.specs.Prelude.{◌≡◌, ℕ, suc, ◌*◌, List, [], ◌∷◌, ◌++◌, Option, Some, None, sum_by, filter, if◌then◌else◌}
 use Rattle.rdf_values.specs.{has_variations, same, Statement}
-use Rattle.rdf_values.specs.declared.statement.Statement.TheVariants.{Action, Report, Print, VariationsFor}
+use Rattle.rdf_values.specs.declared.scripts.statement.Statement.TheVariants.{Action, Report, Print, VariationsFor}
 use Rattle.graph.specs.Dependence.{members_below}
 use Rattle.graph.specs.declared.tables.ResultRow.{ResultRow}
 use Rattle.graph.specs.declared.amounts.Amounts.{Amounts}

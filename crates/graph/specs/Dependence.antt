@@ -4,7 +4,7 @@ use Rattle.std.specs.Int.{bit_at}
 use Rattle.graph.specs.declared.sets.VarSet.{VarSet}
 use Rattle.std.specs.List.{list_any, AllZip}
 use Rattle.rdf_values.specs.{callee, Column, columns_in, columns_of, FunctionNames, NamedTree, renamed, Statement, variations}
-use Rattle.rdf_values.specs.declared.statement.Statement.TheVariants.{Define, Redefine, Vary, Action, Report}
+use Rattle.rdf_values.specs.declared.scripts.statement.Statement.TheVariants.{Define, Redefine, Vary, Action, Report}
 use Rattle.graph_numbers.specs.{filter_sites, holds_at, named_version, own_sites, SiteAt, version_at}
 use Rattle.expr_check.specs.{CheckedExpr}
 

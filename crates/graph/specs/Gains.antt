@@ -2,7 +2,7 @@
 use Rattle.std.specs.Prelude.{◌≡◌, ℕ, List, [], ◌∷◌, length, map, All, Some, None, slice_get}
 use Rattle.std.specs.List.{AllZip}
 use Rattle.rdf_values.specs.{ActionKind, Booked, booked_by, bookings, cells_of, check, ColType, Column, column_kind, FunctionNames, kind_or_int, NamedTree, own_variations, scope_at, scope_of, Statement, takes_of, Variation, variations}
-use Rattle.rdf_values.specs.declared.statement.Statement.TheVariants.{Action, Report}
+use Rattle.rdf_values.specs.declared.scripts.statement.Statement.TheVariants.{Action, Report}
 use Rattle.expr_check.specs.{CallsFit, CheckedExpr, IsWellTyped}
 use Rattle.graph_numbers.specs.{FilterAt, filters, own_filters, own_kinds, own_results, own_sites, own_versions, results, site_count, SiteAt, sites, varied_versions, Version, version_kinds, versions}
 use Rattle.graph.specs.Dependence.{Numbers, AreSets, own_version_sets, version_sets, own_site_sets, site_sets, own_result_sets, result_sets, read_sets, changed_set}

@@ -2,7 +2,7 @@
 use Rattle.std.specs.Prelude.{◌≡◌, ◌≤◌, ℕ, Bool, false, List, [], map, length, All, Some, Ok, if◌then◌else◌, slice_get}
 use Rattle.std.specs.List.{AllByRecursion, list_any}
 use Rattle.rdf_values.specs.{AreAccepted, Booked, Booking, callee, ColType, Column, column_kind, EachColumn, FunctionNames, kind_of, kinds_in, Line, NamedTree, number_in, renamed, results_named, same, scope_at, scope_of, ScopeColumn, Statement}
-use Rattle.rdf_values.specs.declared.statement.Statement.TheVariants.{Define, Redefine, Alias, Action, Report}
+use Rattle.rdf_values.specs.declared.scripts.statement.Statement.TheVariants.{Define, Redefine, Alias, Action, Report}
 use Rattle.expr_check.specs.{CallsFit, CheckedExpr, IsWellTyped}
 use Rattle.graph_numbers.specs.{version_at, version_kinds}
 

@@ -2,7 +2,7 @@
 use Rattle.std.specs.Prelude.{◌≡◌, ⊤, ◌≤◌, ℕ, zero, suc, Bool, true, false, List, [], ◌∷◌, ◌++◌, map, length, take, Option, Some, None, if◌then◌else◌, slice_get}
 use Rattle.std.specs.List.{AllZip}
 use Rattle.rdf_values.specs.{among, Booked, bookings, filled, has_variations, is_result, names_of, place, result_depends, Statement, variations}
-use Rattle.rdf_values.specs.declared.statement.Statement.TheVariants.{Action, Report, Print}
+use Rattle.rdf_values.specs.declared.scripts.statement.Statement.TheVariants.{Action, Report, Print}
 use Rattle.rdf_model.specs.{Access, accesses, loop_results}
 use Rattle.graph_numbers.specs.{holds_at, loops, numbered_pass, Pass, result_number, runs}
 use Rattle.graph.specs.declared.tables.ResultRow.{ResultRow}

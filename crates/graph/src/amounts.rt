@@ -2,8 +2,8 @@
 ghost use Rattle.std.specs.Prelude.{◌≡◌, ◌∷◌, ◌++◌, ◌+◌, ◌*◌, ◌||◌, List, [], nat_lt, IfOk};
 ghost use Rattle.std.specs.Option.{option_copied};
 ghost use Rattle.rdf_values.specs.{ActionAt, cells_of, first_refusal, has_variations, Path, refuse_if, takes_of};
-ghost use Rattle.rdf_values.specs.declared.graph_cause.GraphCause.TheVariants as cause_of;
-ghost use Rattle.rdf_values.specs.declared.statement.Statement.TheVariants.{Print};
+ghost use Rattle.rdf_values.specs.declared.scripts.graph_cause.GraphCause.TheVariants as cause_of;
+ghost use Rattle.rdf_values.specs.declared.scripts.statement.Statement.TheVariants.{Print};
 ghost use Rattle.graph.specs.{asked_after, front, IsAmount, printed_rows, rows_below, rows_named, statements};
 
 use crate::refusals::{first_of, refuse_if};

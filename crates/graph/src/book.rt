@@ -3,7 +3,7 @@ ghost use Rattle.std.specs.Prelude.{◌≡◌, ◌≤◌, ◌∷◌, [], length,
 ghost use Rattle.std.specs.List.{AllByRecursion};
 ghost use Rattle.rdf_values.specs.{check_node, first_refusal, GraphCause, IsShort, kind_of, refusal_in, scope_of};
 ghost use Rattle.graph.specs.{AreTables, IsRefusal, IsStop, refused, refused_then, statements, Decides, IsGainAfter, verdict_after, history, IsColumnGain, IsEmptyGain, IsFilterGain, IsMadeGain, IsReportGain, IsRowGain, IsVaryGain, named_rows, scope_before, sites_so_far, variation_count};
-ghost use Rattle.rdf_values.specs.declared.statement.Statement.TheVariants.{Alias, Filter, Vary, Action, Report};
+ghost use Rattle.rdf_values.specs.declared.scripts.statement.Statement.TheVariants.{Alias, Filter, Vary, Action, Report};
 
 use crate::before::Before;
 use crate::copies::alone;

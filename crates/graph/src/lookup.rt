@@ -4,7 +4,7 @@ ghost use Rattle.std.specs.List.{list_any};
 ghost use Rattle.rdf_values.specs.{FunctionNames, is_alias, is_in_use, is_node, is_result, is_visible, made_columns, makes, parent_of, path, place, same, scope_at, scope_of, target_of, expression_count, named_before, ActionAt, among, booked_by, bookings, can_watch, filled, is_report, is_watched, names_of, Path, result_is, Statement, watched_results};
 ghost use Rattle.graph.specs.{books, own_alias, own_made, own_target, statements, count_from, filter_numbers, is_named, labels, own_label, site_total, expression_total, is_filter, own_site_total, result_in};
 ghost use Rattle.graph_numbers.specs.{column_place, covered_at, filters_on, named_version, own_columns, own_version, version_count, list_start};
-ghost use Rattle.rdf_values.specs.declared.statement.Statement.TheVariants.{Watch};
+ghost use Rattle.rdf_values.specs.declared.scripts.statement.Statement.TheVariants.{Watch};
 
 use rdf_values::{
     ActionKind, Column, Expr, Label, Line, ListOf, Memory, Name, Statement, VaryValues,

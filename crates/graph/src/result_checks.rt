@@ -1,9 +1,9 @@
 // The checks of what books a result, and of what asks for one.
 ghost use Rattle.std.specs.Prelude.{◌≡◌, ◌∷◌, ◌++◌, [], ℕ, List, None, IfOk, length, nat_lt, OnOk};
 ghost use Rattle.rdf_values.specs.{ActionKind, bookings, check_columns, check_passes, check_results, columns_of, permitted_kinds, is_result, printed_results, refuse_if, refuse_unless, watched_results, are_edges, begins, check_edges, may_begin, rises, weight_column};
-ghost use Rattle.rdf_values.specs.declared.statement.Statement.TheVariants.{Action, Report, VariationsFor, Watch, Print};
+ghost use Rattle.rdf_values.specs.declared.scripts.statement.Statement.TheVariants.{Action, Report, VariationsFor, Watch, Print};
 ghost use Rattle.graph.specs.{Decides, history, IsActionRowAfter, scope_before, statements, verdict_after};
-ghost use Rattle.rdf_values.specs.declared.graph_cause.GraphCause.TheVariants as cause_of;
+ghost use Rattle.rdf_values.specs.declared.scripts.graph_cause.GraphCause.TheVariants as cause_of;
 
 use crate::amounts::{
     amounts_of, amounts_printed_with, amounts_with, cells_of, takes_of, too_many,

@@ -1,10 +1,10 @@
 // The check of a Vary.
 ghost use Rattle.std.specs.Prelude.{◌≡◌, ◌∷◌, ◌+◌, ℕ, List, [], length, map, nat_eq, nat_lt, ◌||◌, IfOk, OnOk};
 ghost use Rattle.rdf_values.specs.{check_list, check_lists, check_tags, check_values, check_vector_column, expect_kind, first_refusal, kind_of, refuse_unless, repeats, scope_of, Statement, variations};
-ghost use Rattle.rdf_values.specs.declared.graph_cause.GraphCause.TheVariants as cause_of;
-ghost use Rattle.rdf_values.specs.declared.statement.Statement.TheVariants.{Vary};
-ghost use Rattle.rdf_values.specs.declared.value.ColType.TheVariants as a_kind;
-ghost use Rattle.rdf_values.specs.declared.vary_values.VaryValues.TheVariants.{Vector};
+ghost use Rattle.rdf_values.specs.declared.scripts.graph_cause.GraphCause.TheVariants as cause_of;
+ghost use Rattle.rdf_values.specs.declared.scripts.statement.Statement.TheVariants.{Vary};
+ghost use Rattle.rdf_values.specs.declared.tables.value.ColType.TheVariants as a_kind;
+ghost use Rattle.rdf_values.specs.declared.scripts.vary_values.VaryValues.TheVariants.{Vector};
 ghost use Rattle.graph.specs.{all_expressions, AppendsChecked, AreCheckedBefore, Decides, history, scope_before, targets_at, value_expressions, verdict_after};
 
 use crate::before::{Before, same_kind};

@@ -5,8 +5,8 @@ use Rattle.std.proofs.lemmas.Bool.Decides.{Decides-eqb}
 use Rattle.std.proofs.lemmas.Option.{slice_get_within}
 use Rattle.lemmas.proofs.{and_holds, and_left_false, and_right_false, eq_itself, neither, never_true, or_left, or_right}
 use Rattle.rdf_values.specs.{among, AreAccepted, check, check_node, check_tags, check_target, check_values, Column, first_refusal, FunctionNames, GraphCause, is_in_use, is_node, is_result, is_variation_name, makes, NamedTree, own_variations, path, place, refuse_if, refuse_unless, repeats, same, same_variation, scope_at, scope_of, Statement, Variation, variations, VaryValues}
-use Rattle.rdf_values.specs.declared.statement.Statement.TheVariants.{Define, Redefine, Filter, Vary}
-use Rattle.rdf_values.specs.declared.vary_values.VaryValues.TheVariants.{Lists, Vector}
+use Rattle.rdf_values.specs.declared.scripts.statement.Statement.TheVariants.{Define, Redefine, Filter, Vary}
+use Rattle.rdf_values.specs.declared.scripts.vary_values.VaryValues.TheVariants.{Lists, Vector}
 use Rattle.rdf_model.specs.{same_site, Site, site_at}
 use Rattle.rdf_model.proofs.Accepted.{all_none, both_none, if_fails, names_equal, itself, turned}
 use Rattle.graph_numbers.specs.{list_sites, lists_sites, own_sites, site_in, SiteAt, sites}

@@ -2,8 +2,8 @@
 use Rattle.std.proofs.Common.{◌≡◌, ℕ, suc, ◌+◌, ◌*◌, ◌≤◌, List, [], ◌∷◌, length, refl, ◌∙◌, ap, arith, length-append}
 use Rattle.std.specs.List.{AllByRecursion}
 use Rattle.rdf_values.specs.{before, Column, expression_count, FunctionNames, IsShort, NamedTree, Statement}
-use Rattle.rdf_values.specs.declared.statement.Statement.TheVariants.{Vary}
-use Rattle.rdf_values.specs.declared.vary_values.VaryValues.TheVariants.{Lists}
+use Rattle.rdf_values.specs.declared.scripts.statement.Statement.TheVariants.{Vary}
+use Rattle.rdf_values.specs.declared.scripts.vary_values.VaryValues.TheVariants.{Lists}
 use Rattle.graph_numbers.specs.{list_sites, lists_sites, own_sites, sites}
 
 module _ (header : List Column) (names : FunctionNames) where

@@ -2,7 +2,7 @@
 use Rattle.std.proofs.Common.{◌≡◌, ℕ, Bool, true, false, List, [], ◌∷◌, ◌++◌, map, Option, Some, Ok, refl, sym, ◌∙◌, ap, subst, nat_eq, slice_get, if◌then◌else◌}
 use Rattle.std.specs.Prelude.{⊤}
 use Rattle.rdf_values.specs.{ActionAt, ActionKind, AreAccepted, callee, ColType, Column, column_kind, columns_in, columns_of, fn_names, Function, makes, parent_of, path, place, scope_at, scope_of, shape_of, Statement, target_of, Under, Value}
-use Rattle.rdf_values.specs.declared.statement.Statement.TheVariants.{Filter, Action}
+use Rattle.rdf_values.specs.declared.scripts.statement.Statement.TheVariants.{Filter, Action}
 use Rattle.rdf_model.specs.{◌>>=◌, booking_demands, call_outcome, column_demands, column_value, Demand, demands_after, Faults, filter_demands, Gives, input_demands, is_need, IsKnown, met_columns, named_call, Needs, Outcome, same_site, site_at, site_demands, through, truth_of, with_needs, without}
 use Rattle.rdf_model.specs.Laws.{gives, faults}
 use Rattle.rdf_model.proofs.Evaluations.{evaluate_renamed, call_known}

@@ -1,7 +1,7 @@
 -- The version of a visible column is given by what gives the column its value at that node, and demands what reading the column demands.
 use Rattle.std.proofs.Common.{◌≡◌, ℕ, List, [], ◌∷◌, Ok, refl, ap, slice_get}
 use Rattle.rdf_values.specs.{AreAccepted, ColType, Column, column_kind, fn_names, Function, parent_of, path, scope_at, scope_of, Statement, Under, Value}
-use Rattle.rdf_values.specs.declared.statement.Statement.TheVariants.{Define}
+use Rattle.rdf_values.specs.declared.scripts.statement.Statement.TheVariants.{Define}
 use Rattle.rdf_model.specs.{◌>>=◌, column_demands, column_value, Demand, expression_value, named_demands, named_value, Outcome, site_demands, tag_demands, tag_element, tag_value, value_if}
 use Rattle.graph_numbers.specs.{cell_value, site_outcome, Source, version_at}
 use Rattle.graph_numbers.proofs.Origins as origin

@@ -3,7 +3,7 @@ use Rattle.std.proofs.Common.{option_map, ◌≡◌, ℕ, suc, ◌+◌, List, []
 use Rattle.std.specs.Prelude.{⊤}
 use Rattle.std.proofs.lemmas.List.{append-nil, length-map, map-append}
 use Rattle.rdf_values.specs.{ActionAt, ActionKind, Column, covered, fn_names, Function, FunctionNames, history, makes, named_before, named_on, parent_of, Path, path, ReportOn, Statement, Under, Value}
-use Rattle.rdf_values.specs.declared.statement.Statement.TheVariants.{Filter, Action, Report}
+use Rattle.rdf_values.specs.declared.scripts.statement.Statement.TheVariants.{Filter, Action, Report}
 use Rattle.rdf_model.specs.{◌>>=◌, Outcome, report_outcome, site_at, through}
 use Rattle.graph_numbers.specs.{all_or, condition_in, condition_of, conditions_on, covered_at, filter_sites, FilterAt, filters, FiltersAreTheScripts, filters_on, numbers_from, own_filter, own_filter_site, own_filters, own_sites, report_numbers, ReportsCoverFilters, ResultAt, results, site_count, site_in, sites, through_filter, through_sites}
 use Rattle.graph_numbers.proofs.Listed.{by_test, next_at}

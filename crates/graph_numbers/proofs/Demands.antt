@@ -1,8 +1,8 @@
 -- What a reading demands has with each site the sites of the columns that its evaluation meets.
 use Rattle.std.proofs.Common.{◌≡◌, ℕ, ◌+◌, Bool, true, false, List, [], ◌∷◌, ◌++◌, length, Option, Some, None, refl, ◌∙◌, ap, arith, slice_get, if◌then◌else◌, flat_map}
 use Rattle.rdf_values.specs.{ActionAt, ActionKind, Column, columns_of, fn_names, Function, makes, NamedTree, parent_of, path, place, same, Statement, target_of, Under, Value, VaryValues}
-use Rattle.rdf_values.specs.declared.statement.Statement.TheVariants.{Define, Redefine, Filter, Vary}
-use Rattle.rdf_values.specs.declared.vary_values.VaryValues.TheVariants.{Lists, Vector}
+use Rattle.rdf_values.specs.declared.scripts.statement.Statement.TheVariants.{Define, Redefine, Filter, Vary}
+use Rattle.rdf_values.specs.declared.scripts.vary_values.VaryValues.TheVariants.{Lists, Vector}
 use Rattle.rdf_model.specs.{booking_demands, column_demands, column_value, Demand, demands_after, expression_at, Faults, filter_demands, Gives, input_demands, met_columns, named_demands, Needs, Outcome, own_place, projected, site_at, site_demands, tag_demands, through, varied}
 use Rattle.graph_numbers.specs.{lists_sites, own_sites, site_count, site_in, SiteAt, sites}
 use Rattle.graph_numbers.proofs.Listed.{by_test, next_at}

@@ -2,7 +2,7 @@
 use Rattle.std.proofs.Common.{◌≡◌, ℕ, suc, ◌+◌, List, [], ◌∷◌, ◌++◌, length, Some, refl, ◌∙◌, ap, slice_get, length-append}
 use Rattle.lemmas.proofs.{kept_at}
 use Rattle.rdf_values.specs.{Column, FunctionNames, Statement, Under, VaryValues}
-use Rattle.rdf_values.specs.declared.statement.Statement.TheVariants.{Vary}
+use Rattle.rdf_values.specs.declared.scripts.statement.Statement.TheVariants.{Vary}
 use Rattle.graph_numbers.specs.{cell_sources, cell_versions, own_columns, own_sites, own_sources, own_versions, SiteAt, sites, Source, sources, varied_sources, varied_versions, version_count, versions}
 
 -- the latter statements are the former with others after them

@@ -2,7 +2,7 @@
 use Rattle.std.proofs.Common.{◌≡◌, ℕ, suc, ◌+◌, Bool, true, false, not, List, [], ◌∷◌, ◌++◌, map, length, Option, Some, None, option_map, refl, sym, ◌∙◌, ap, arith, slice_get, if◌then◌else◌, zero-add, filter, filter_map, flat_map, option_and_then}
 use Rattle.std.proofs.lemmas.List.{append-nil, map-append}
 use Rattle.rdf_values.specs.{among, Booked, booked_by, bookings, filled, has_variations, Pass, passes_of, result_depends, Statement, Variation, variations, waiting}
-use Rattle.rdf_values.specs.declared.statement.Statement.TheVariants.{Print}
+use Rattle.rdf_values.specs.declared.scripts.statement.Statement.TheVariants.{Print}
 use Rattle.rdf_model.specs.{Access, accesses, filled_by, loop_passes, loop_results}
 use Rattle.graph_numbers.specs.{loops, numbered_pass, own_loop, own_run, Pass as NumberedPass, pass_at, passes_from, places_from, result_passes, runs}
 use Rattle.graph_numbers.proofs.Extending.{Extends, itself, further, kept, shorter}

@@ -3,7 +3,7 @@ use Rattle.std.proofs.Common.{◌≡◌, ◌≢◌, ℕ, Bool, true, false, List
 use Rattle.std.proofs.lemmas.Bool.Decides.{Decides-eqb}
 use Rattle.rdf_values.specs.{Bin, Call, Col, columns_in, columns_in_all, Cond, EachArgument, EachColumn, End, Lit, More, Neg, Not, Pick, same, Tree, Trees, Value}
 use Rattle.rdf_model.specs.{evaluate, Faults, Gives, is_met, is_need, IsKnown, Needs, Outcome, untyped, without}
-use Rattle.rdf_values.specs.Expressions.{Truth}
+use Rattle.rdf_values.specs.expressions.Expressions.{Truth}
 use Rattle.rdf_model.specs.Laws.{gives, faults}
 use Rattle.rdf_model.proofs.Accepted.{names_equal, itself}
 use Rattle.rdf_model.proofs.Close as close

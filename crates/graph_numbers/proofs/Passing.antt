@@ -3,7 +3,7 @@ use Rattle.std.proofs.Common.{◌≡◌, ℕ, ◌+◌, Bool, true, false, List, 
 use Rattle.std.specs.Prelude.{⊤}
 use Rattle.std.proofs.lemmas.List.{append-nil}
 use Rattle.rdf_values.specs.{ActionKind, AreAccepted, bookings, check_columns, check_edges, check_node, check_passes, check_results, ColType, Column, column_kind, columns_of, fn_names, Function, GraphCause, makes, may_begin, NamedTree, parent_of, path, permitted_kinds, scope_at, scope_of, Statement, Under, Value}
-use Rattle.rdf_values.specs.declared.statement.Statement.TheVariants.{Filter, Action}
+use Rattle.rdf_values.specs.declared.scripts.statement.Statement.TheVariants.{Filter, Action}
 use Rattle.rdf_model.specs.{◌>>=◌, action_outcome, column_value, expression_value, feed_outcome, for_all, Gives, Outcome, site_at, Skip, through, truth_of}
 use Rattle.rdf_model.proofs.Accepted.{all_none}
 use Rattle.graph_numbers.specs.{filter_sites, own_filter_site, site_count, site_in, site_outcome, site_value, sites, through_sites, version_at}

@@ -2,8 +2,8 @@
 use Rattle.std.proofs.Common.{subst, ◌≡◌, ℕ, sym, zero, suc, ◌≤◌, List, [], ◌∷◌, length, map, Some, None, Ok, arith, nat_eq, slice_get}
 use Rattle.std.proofs.lemmas.Bool.Decides.{Decides-eqb}
 use Rattle.rdf_values.specs.{AreAccepted, callee, check, check_list, check_lists, check_node, check_vector_column, ColType, Column, column_kind, EachColumn, expect_kind, first_refusal, FunctionNames, GraphCause, kind_of, kind_or_int, NamedTree, refuse_unless, scope_at, scope_of, shape_of, Statement}
-use Rattle.rdf_values.specs.declared.statement.Statement.TheVariants.{Define, Redefine, Filter, Vary}
-use Rattle.rdf_values.specs.declared.vary_values.VaryValues.TheVariants.{Lists, Vector}
+use Rattle.rdf_values.specs.declared.scripts.statement.Statement.TheVariants.{Define, Redefine, Filter, Vary}
+use Rattle.rdf_values.specs.declared.scripts.vary_values.VaryValues.TheVariants.{Lists, Vector}
 use Rattle.rdf_model.specs.{Site, site_at}
 use Rattle.rdf_model.proofs.Accepted.{all_none, both_none, kind_known, kind_expected, unless_holds, checked_of}
 use Rattle.rdf_model.proofs.KnownColumns.{IsKnownColumn, each_renamed, each_weaker, known_columns}

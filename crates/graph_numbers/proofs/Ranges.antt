@@ -3,7 +3,7 @@ use Rattle.std.proofs.Common.{◌≡◌, ℕ, ◌<◌, ◌≤◌, List, [], ◌�
 use Rattle.std.proofs.lemmas.List.{append-nil}
 use Rattle.std.specs.List.{AllByRecursion}
 use Rattle.rdf_values.specs.{Column, FunctionNames, makes, parent_of, Statement}
-use Rattle.rdf_values.specs.declared.statement.Statement.TheVariants.{Filter}
+use Rattle.rdf_values.specs.declared.scripts.statement.Statement.TheVariants.{Filter}
 use Rattle.graph_numbers.specs.{filter_sites, FilterAt, filters, own_filter_site, own_sites, site_count, sites}
 use Rattle.graph_numbers.proofs.Listed.{by_test}
 use Rattle.graph_numbers.proofs.Walks.{each_filter}

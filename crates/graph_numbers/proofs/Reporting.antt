@@ -2,7 +2,7 @@
 use Rattle.std.proofs.Common.{◌≡◌, ℕ, List, Some, None, slice_get}
 use Rattle.std.specs.Prelude.{⊤}
 use Rattle.rdf_values.specs.{ActionAt, AreAccepted, Booking, Column, fn_names, Function, ReportOn, scope_of, Statement, Under, Value}
-use Rattle.rdf_values.specs.declared.statement.Statement.TheVariants.{Filter, Action}
+use Rattle.rdf_values.specs.declared.scripts.statement.Statement.TheVariants.{Filter, Action}
 use Rattle.rdf_model.specs.{booking_demands, Demand, filter_demands, Outcome}
 use Rattle.graph_numbers.specs.{FilterAt, filters, HasFilters, HasInputs, IfPassed, ResultAt, results, source_in, sources, through_sites}
 use Rattle.graph_numbers.proofs.Closing.{IsDemanded, action_demanded, filter_statement, filters_demanded}

@@ -2,7 +2,7 @@
 use Rattle.std.proofs.Common.{◌≡◌, ℕ, List, [], ◌∷◌, ◌++◌, map, Some, None, refl, ◌∙◌, slice_get}
 use Rattle.std.proofs.lemmas.List.{map-append}
 use Rattle.rdf_values.specs.{AreAccepted, booked_by, bookings, Column, covered, fn_names, Function, FunctionNames, path, scope_of, Statement, Under, Value}
-use Rattle.rdf_values.specs.declared.statement.Statement.TheVariants.{Action, Report}
+use Rattle.rdf_values.specs.declared.scripts.statement.Statement.TheVariants.{Action, Report}
 use Rattle.rdf_model.specs.{booking_outcome, Entry, Outcome}
 use Rattle.graph_numbers.specs.{booking_numbers, covered_at, filters, own_results, ResultAt, results}
 use Rattle.graph_numbers.proofs.Extending.{Extends, shorter}

@@ -3,7 +3,7 @@ use Rattle.std.proofs.Common.{◌≡◌, ℕ, ◌+◌, Bool, true, false, List, 
 use Rattle.std.proofs.lemmas.List.{length-append, length-map}
 use Rattle.lemmas.proofs.{kept_at, mapped_at}
 use Rattle.rdf_values.specs.{aliases, AreAccepted, check_target, ColType, Column, column_kind, EachColumn, first_refusal, FitsRow, fn_names, FunctionNames, kind_or_int, made_columns, makes, parent_of, path, place, same, scope_at, scope_of, Statement, target_of, Under, Value, visible_columns}
-use Rattle.rdf_values.specs.declared.statement.Statement.TheVariants.{Define, Redefine, Vary}
+use Rattle.rdf_values.specs.declared.scripts.statement.Statement.TheVariants.{Define, Redefine, Vary}
 use Rattle.rdf_model.specs.{column_value, Dataset, Faults, FitsOutcome, Gives, Needs, Outcome, with_needs}
 use Rattle.rdf_model.proofs.Accepted.{passed_over, checked_of, target_is_none, visible_resolved, sound_path, column_fits}
 use Rattle.rdf_model.proofs.Typing.{same_ok}

@@ -1,7 +1,7 @@
 -- What holds of each named filter and of each result where it is booked, and goes on to hold, holds of all.
 use Rattle.std.proofs.Common.{◌≡◌, ℕ, List, [], ◌∷◌, ◌++◌, map, Some, subst, slice_get}
 use Rattle.rdf_values.specs.{ActionAt, ActionKind, Column, columns_of, covered, FunctionNames, NamedTree, path, ReportOn, Statement}
-use Rattle.rdf_values.specs.declared.statement.Statement.TheVariants.{Filter, Action, Report}
+use Rattle.rdf_values.specs.declared.scripts.statement.Statement.TheVariants.{Filter, Action, Report}
 use Rattle.graph_numbers.specs.{covered_at, filter_sites, FilterAt, filters, own_filters, own_results, ResultAt, results, site_count, version_at}
 use Rattle.graph_numbers.proofs.Listed.{joined, only_at}
 

@@ -1,7 +1,7 @@
 -- The results, named filters and loops of a script by numbers.
 use Rattle.std.specs.Prelude.{ℕ, suc, Bool, not, List, [], ◌∷◌, ◌++◌, map, length, Option, Some, None, if◌then◌else◌, slice_get, option_map}
 use Rattle.rdf_values.specs.{ActionAt, among, Booked, Booking, bookings, Column, columns_of, covered, filled, FunctionNames, has_variations, makes, named_before, parent_of, Pass, Path, path, place, ReportOn, result_depends, same, Statement, Under, variations}
-use Rattle.rdf_values.specs.declared.statement.Statement.TheVariants.{Filter, Action, Report, Print}
+use Rattle.rdf_values.specs.declared.scripts.statement.Statement.TheVariants.{Filter, Action, Report, Print}
 use Rattle.rdf_model.specs.{loop_results}
 use Rattle.graph_numbers.specs.Versions.{version_at}
 use Rattle.graph_numbers.specs.Sites.{filter_sites, site_count}

@@ -4,7 +4,7 @@ use Rattle.std.specs.Prelude.{⊤}
 use Rattle.std.proofs.lemmas.Bool.Decides.{nat_tests}
 use Rattle.std.proofs.lemmas.List.Sums.{sum_by-cons}
 use Rattle.rdf_values.specs.{ActionAt, ActionKind, AreAccepted, Booked, booked_by, Booking, bookings, cells_of, check_columns, check_edges, check_node, check_passes, check_results, ColType, Column, column_kind, columns_of, covered, FunctionNames, GraphCause, kind_or_int, makes, named_on, over_passes, parent_of, passes_of, Path, path, permitted_kinds, refuse_if, ReportOn, Scope, scope_at, scope_of, Statement, takes_of, visible_columns}
-use Rattle.rdf_values.specs.declared.statement.Statement.TheVariants.{Action, Alias, Define, Filter, Print, Redefine, Report, VariationsFor, Vary, Watch}
+use Rattle.rdf_values.specs.declared.scripts.statement.Statement.TheVariants.{Action, Alias, Define, Filter, Print, Redefine, Report, VariationsFor, Vary, Watch}
 use Rattle.rdf_model.proofs.Accepted.{both_none, if_fails}
 use Rattle.graph_numbers.specs.{covered_at, filter_sites, own_results, ResultAt, results, version_at, version_kinds}
 use Rattle.graph_numbers.proofs.Extending.{Extends, shorter}

@@ -1,6 +1,6 @@
 // The shapes of a graph's passes.
 ghost use Rattle.std.specs.Prelude.{◌≡◌, ◌<◌, ◌≤◌, ◌+◌, ◌*◌, [], ℕ, IfOk, Some, length, option_map, slice_get};
-ghost use Rattle.rdf_values.specs.Bookings as bookings;
+ghost use Rattle.rdf_values.specs.scripts.Bookings as bookings;
 ghost use Rattle.rdf_values.specs.{cells_of};
 ghost use Rattle.graph_numbers.specs.{graph_loops, graph_results};
 ghost use Rattle.merged_text.specs.{IsPassIn};

@@ -7,8 +7,8 @@ use Rattle.std.proofs.lemmas.List.Sums.{fold-append}
 use Rattle.std.proofs.Math.IntN.{+ℤ_idl, +ℤ_idr, +ℤ_assoc}
 use Rattle.rdf_values.proofs.Below.{length-below}
 use Rattle.rdf_values.specs.{below, bin, cells_on, flat_cell, integer_sum, Item, weight_in}
-use Rattle.rdf_values.specs.declared.item.Item.TheVariants.{Point}
-use Rattle.rdf_values.specs.Fold.{Cell, cell_of}
+use Rattle.rdf_values.specs.declared.results.item.Item.TheVariants.{Point}
+use Rattle.rdf_values.specs.results.Fold.{Cell, cell_of}
 use Rattle.histograms.specs.{cell_seen, CellSum, flat_cells, together, with_weight}
 
 pub sum_from : (zs : List ℤ) (a : ℤ) → fold ◌+ℤ◌ a zs ≡ a +ℤ integer_sum zs

@@ -7,8 +7,8 @@ use Rattle.std.proofs.lemmas.Nat.{same_from_place, rows}
 use Rattle.std.proofs.Math.IntN.{+ℤ_idl}
 use Rattle.rdf_values.proofs.Below.{map-below}
 use Rattle.rdf_values.specs.{bin, cells_on, Item, square_cell, weight_in2}
-use Rattle.rdf_values.specs.declared.item.Item.TheVariants.{Point2}
-use Rattle.rdf_values.specs.Fold.{Cell, cell_of}
+use Rattle.rdf_values.specs.declared.results.item.Item.TheVariants.{Point2}
+use Rattle.rdf_values.specs.results.Fold.{Cell, cell_of}
 use Rattle.histograms.specs.{cell_seen, CellSum, rows_on, square_cells, together, with_weight}
 use Rattle.histograms.proofs.Filling.{cell_of-append, get_or-cells_on, joined, length-cells_on}
 

@@ -1,7 +1,7 @@
 -- The cells of a histogram, as they are kept.
 use Rattle.std.specs.Prelude.{ℕ, ◌*◌, ◌≤◌, ℤ, ◌+ℤ◌, ◌*ℤ◌, nat_abs, FitsSigned}
 use Rattle.std.specs.Int.{w128}
-use Rattle.rdf_values.specs.Fold.{Cell}
+use Rattle.rdf_values.specs.results.Fold.{Cell}
 use Rattle.histograms.specs.declared.cell_sum.CellSum.{CellSum}
 
 -- a weight that a histogram takes

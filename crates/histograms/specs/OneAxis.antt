@@ -1,7 +1,7 @@
 -- Histograms of one axis.
 use Rattle.std.specs.Prelude.{ℕ, ◌≡◌, ◌≤◌, ◌+◌, ◌^◌, ℤ, List, length, map, All}
 use Rattle.rdf_values.specs.{cells_on, flat_cell, Item}
-use Rattle.rdf_values.specs.Fold.{Cell}
+use Rattle.rdf_values.specs.results.Fold.{Cell}
 use Rattle.histograms.specs.declared.cell_sum.CellSum.{CellSum}
 use Rattle.histograms.specs.Axis.{IsAxis}
 use Rattle.histograms.specs.Cells.{IsBounded}

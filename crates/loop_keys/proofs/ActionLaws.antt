@@ -4,7 +4,7 @@ use Rattle.std.specs.Prelude.{⊤}
 use Rattle.std.specs.List.{AllByRecursion}
 use Rattle.std.proofs.lemmas.List.{length-map}
 use Rattle.rdf_values.specs.{ActionAt, ActionKind, AreAccepted, Booking, columns_of, FitsRow, fn_names, history, path, ReportOn, scope_of, Statement, Under, Value}
-use Rattle.rdf_values.specs.declared.statement.Statement.TheVariants.{Action}
+use Rattle.rdf_values.specs.declared.scripts.statement.Statement.TheVariants.{Action}
 use Rattle.rdf_model.specs.{Dataset, FitsFeed, for_all, Gives}
 use Rattle.graph_numbers.specs.{filter_sites, graph_under, IsBelow, own_sites, ResultAt, results, site_count, sites, source_in, sources, version_at, versions}
 use Rattle.graph_numbers.proofs.ColumnSources.{column_source}

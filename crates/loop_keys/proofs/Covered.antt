@@ -8,7 +8,7 @@ use Rattle.std.proofs.lemmas.Map.Views.{Contains-from_any}
 use Rattle.std.proofs.lemmas.Option.{slice_get_within}
 use Rattle.lemmas.proofs.{mapped_at, or_left, or_right, something_at}
 use Rattle.rdf_values.specs.{ActionAt, AreAccepted, Booking, check, Column, fn_names, Function, FunctionNames, history, makes, named_before, Pass, ReportOn, same, scope_of, Statement}
-use Rattle.rdf_values.specs.declared.statement.Statement.TheVariants.{Filter, Report}
+use Rattle.rdf_values.specs.declared.scripts.statement.Statement.TheVariants.{Filter, Report}
 use Rattle.rdf_model.specs.{filter_node, is_covered, reports_on}
 use Rattle.rdf_model.proofs.Accepted.{itself as same_itself, names_equal}
 use Rattle.graph_numbers.specs.{FilterAt, filters, graph_filters, graph_results, own_filters, Pass as NumberedPass, pass_at, ResultAt, results}

@@ -2,7 +2,7 @@
 use Rattle.std.proofs.Common.{◌≡◌, ℕ, Bool, true, false, List, [], ◌∷◌, ◌++◌, None, Some, ◌∙◌, ap, slice_get, if◌then◌else◌}
 use Rattle.std.proofs.lemmas.List.{same_from_push}
 use Rattle.rdf_values.specs.{fn_names, history, path, Statement, Value}
-use Rattle.rdf_values.specs.declared.statement.Statement.TheVariants.{Filter}
+use Rattle.rdf_values.specs.declared.scripts.statement.Statement.TheVariants.{Filter}
 use Rattle.rdf_model.specs.{Dataset, filter_reach, Gives, reach_of, through}
 use Rattle.rdf_model.specs.declared.loop_facts.Reach.TheVariants.{Stopped, Failed, Passed}
 use Rattle.graph_numbers.specs.{filter_sites, FilterAt, filters, graph_filters, through_sites}

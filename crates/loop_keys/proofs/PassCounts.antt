@@ -3,7 +3,7 @@ use Rattle.std.proofs.Common.{◌≡◌, ℕ, zero, suc, ◌*◌, ◌<◌, ◌�
 use Rattle.std.proofs.Math.Nat.{mul-le-mul, mul-le-mul_right}
 use Rattle.std.proofs.lemmas.List.{length-map, length-reverse}
 use Rattle.rdf_values.specs.{among, Booked, bookings, filled, has_variations, history, Line, result_depends, Script, Statement, variations}
-use Rattle.rdf_values.specs.declared.statement.Statement.TheVariants.{Print}
+use Rattle.rdf_values.specs.declared.scripts.statement.Statement.TheVariants.{Print}
 use Rattle.graph_numbers.specs.{booked_statements, graph_loops, graph_variations, GraphView, IsGraph, loops, numbered_pass, own_loop, Pass as NumberedPass, passes_from, places_from, result_passes}
 use Rattle.graph_numbers.proofs.Listed.{by_test, joined}
 use Rattle.loop_keys.specs.{IsJob, job_graph, JobView, numbered_passes}

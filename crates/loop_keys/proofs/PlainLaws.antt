@@ -5,7 +5,7 @@ use Rattle.std.proofs.lemmas.Bool.Decides.{Decides-eqb}
 use Rattle.std.proofs.lemmas.List.Elements.{recursion_from_All}
 use Rattle.lemmas.proofs.{both_true}
 use Rattle.rdf_values.specs.{Bin, Call, Callee, Col, ColType, Cond, EachArgument, EachColumn, End, Lit, More, Neg, Not, NumTree, Pick, Trees, Value}
-use Rattle.rdf_values.specs.Expressions.{Truth}
+use Rattle.rdf_values.specs.expressions.Expressions.{Truth}
 use Rattle.rdf_model.specs.{call_outcome, evaluate, is_need, Needs, Outcome, with_needs, without}
 use Rattle.rdf_model.proofs.Close as close
 use Rattle.expr_check.specs.{all_are_plain, CheckedExpr, gives_vector, is_plain, is_vector, number_kind, takes_no_vector}

@@ -8,7 +8,7 @@ use Rattle.std.proofs.lemmas.List.Elements.{All-append, All-drop, All-head, All-
 use Rattle.std.proofs.lemmas.Option.{slice_get-get_or}
 use Rattle.lemmas.proofs.{abs_add, same_some}
 use Rattle.rdf_values.specs.{ActionKind, Filled, fold_items, Has64Bits, IsUnion, Item, numbers_of, Span}
-use Rattle.rdf_values.specs.Fold as filled
+use Rattle.rdf_values.specs.results.Fold as filled
 use Rattle.rdf_model.specs.{FitsAction, FitsSpread, IsLoopFacts, items_over, list_at, result_over, rows_in, span_rows}
 use Rattle.rdf_model.specs.declared.loop_facts.LoopFacts.{LoopFacts}
 use Rattle.actions.specs.{better_of_two, Fed, in_file_order}

@@ -2,7 +2,7 @@
 use Rattle.std.specs.Prelude.{◌≡◌, ◌<◌, ◌+◌, ◌^◌, ◌+ℤ◌, ⊤, ℕ, List, Some, slice_get, nat_abs}
 use Rattle.std.specs.Int.{int_max, int_min}
 use Rattle.std.specs.List.Sorted.{IsStrictlyIncreasing}
-use Rattle.rdf_values.specs.Fold as fold
+use Rattle.rdf_values.specs.results.Fold as fold
 use Rattle.rdf_values.specs.{ActionKind}
 use Rattle.rdf_model.specs.{IsLoopFacts, result_over}
 use Rattle.actions.specs.{better_of_two}

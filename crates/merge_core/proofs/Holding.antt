@@ -10,7 +10,7 @@ use Rattle.std.proofs.lemmas.List.{length-set}
 use Rattle.std.proofs.lemmas.List.Elements.{All-pop, All-push, All-set, All-weaker}
 use Rattle.std.proofs.lemmas.List.Sums.{sum_by-set}
 use Rattle.rdf_values.specs.{Ended, Event, Fault as LoopFault, fault_of, Faulted, finished, IsHonest, IsHonestEvent, Machine, once_below, Phase, Running, Slot, slot_faults, slot_of, times}
-use Rattle.rdf_values.specs.declared.event.Event.TheVariants.{Claim, Finish, Fault, Skip, End}
+use Rattle.rdf_values.specs.declared.clusters.event.Event.TheVariants.{Claim, Finish, Fault, Skip, End}
 use Rattle.rdf_values.proofs.DrawCounts.{one_if, times_push, times_append, once_next, rises_push}
 use Rattle.merge_core.proofs.Faults.{Among, among_left, among_right, among_either}
 use Rattle.merge_core.proofs.Stepped.{IsStepped, slot_with, left, changed}

@@ -2,7 +2,7 @@
 use Rattle.std.proofs.Common.{◌≡◌, ℕ, ◌+◌, ◌<◌, ◌≤◌, List, [], ◌∷◌, ◌++◌, min, Option, None, Some, refl, sym, subst, append-nil, append_assoc, arith, Result, Ok, Err, slice_get, slice_set}
 use Rattle.std.proofs.lemmas.Bool.Decides.{nat_tests}
 use Rattle.rdf_values.specs.{claim_next, claim_step, end_slot, Ended, Event, Faulted, give_up, if_running, Left, Machine, pass_over, Phase, replay_from, Running, running_step, Slot, slot_of, step_of, StepCause, with_slot}
-use Rattle.rdf_values.specs.declared.event.Event.TheVariants.{Claim, Finish, Fault, Skip, End}
+use Rattle.rdf_values.specs.declared.clusters.event.Event.TheVariants.{Claim, Finish, Fault, Skip, End}
 
 abbrev pub slot_with : List ℕ → Option ℕ → Phase → Slot
 slot_with drawn held phase = record { drawn = drawn; held = held; phase = phase }

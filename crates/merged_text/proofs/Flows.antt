@@ -4,7 +4,7 @@ use Rattle.std.proofs.lemmas.List.{map-append}
 use Rattle.std.proofs.lemmas.Option.{same_Some, slice_get-map}
 use Rattle.lemmas.proofs.{none_left}
 use Rattle.rdf_values.specs.{Column, FunctionNames, named_before, Path, path, Statement}
-use Rattle.rdf_values.specs.declared.statement.Statement.TheVariants.{Filter}
+use Rattle.rdf_values.specs.declared.scripts.statement.Statement.TheVariants.{Filter}
 use Rattle.rdf_model.specs.{filter_label, FilterCounts, flow_line, flow_lines}
 use Rattle.loop_pieces.specs.{Counts}
 use Rattle.graph_numbers.specs.{FilterAt, filters, own_filters}

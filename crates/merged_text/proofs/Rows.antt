@@ -1,6 +1,6 @@
 -- The rows of the cells of a plane.
 use Rattle.std.proofs.Common.{◌≡◌, ℕ, ℤ, zero, suc, ◌+◌, ◌-◌, ◌<◌, ◌≤◌, append-nil, List, [], ◌∷◌, ◌++◌, map, take, drop, refl, sym, ap, ◌∙◌, arith}
-use Rattle.rdf_values.specs.Fold.{Cell}
+use Rattle.rdf_values.specs.results.Fold.{Cell}
 use Rattle.histograms.specs.{cell_seen, CellSum}
 use Rattle.result_text.specs.{plane_at, planes_on}
 use Rattle.result_text.proofs.Lists.{put_next}

@@ -1,8 +1,8 @@
 -- What merged loops print.
 use Rattle.std.specs.Prelude.{◌≡◌, ◌≤◌, ◌<◌, ℕ, zero, suc, List, [], ◌∷◌, ◌++◌, length, map, take, drop, Option, Some, None, if◌then◌else◌, slice_get}
 use Rattle.rdf_values.specs.{ActionAt, ActionKind, Booking, Fault, Filled, Pass, Path, ReportOn, same, Under}
-use Rattle.rdf_values.specs.Fold.{Cell}
-use Rattle.rdf_values.specs.Fold as f
+use Rattle.rdf_values.specs.results.Fold.{Cell}
+use Rattle.rdf_values.specs.results.Fold as f
 use Rattle.rdf_model.specs.{Access, accesses, fault_line, filled_lines, filter_label, FilterCounts, flow_lines, in_front_of, label, loop_of, Printed}
 use Rattle.loop_pieces.specs.{Counts}
 use Rattle.graph_numbers.specs.{booked_statements, graph_loops, GraphView}

@@ -1,7 +1,7 @@
 // The lines of passes, by the lines that shards hold of them.
 ghost use Rattle.std.specs.Prelude.{◌≡◌, ◌<◌, ◌++◌, ℕ, All, OnOk, Some, length, slice_get};
 ghost use Rattle.rdf_model.specs.{flow_lines};
-ghost use Rattle.rdf_values.specs.Bookings as bookings;
+ghost use Rattle.rdf_values.specs.scripts.Bookings as bookings;
 ghost use Rattle.graph_numbers.specs.{graph_filters, graph_loops};
 ghost use Rattle.result_text.specs.{passes_at};
 ghost use Rattle.shard_lines.specs.{counts_of};

@@ -2,8 +2,8 @@
 use Rattle.std.specs.Prelude.{[], ◌∷◌, codes, refl}
 use Rattle.std.specs.Fmt.{digits}
 use Rattle.rdf_values.specs.{entry_line, generated_table, graph_cause_line, no_file_line, read_failed_line, residues, script_cause_line, ScriptCause, table_cause_line, TableCause}
-use Rattle.rdf_values.specs.declared.expr_cause.ExprCause.TheVariants.{BadNumber}
-use Rattle.rdf_values.specs.declared.graph_cause.GraphCause.TheVariants.{AliasTarget, WrongKind}
+use Rattle.rdf_values.specs.declared.expressions.expr_cause.ExprCause.TheVariants.{BadNumber}
+use Rattle.rdf_values.specs.declared.scripts.graph_cause.GraphCause.TheVariants.{AliasTarget, WrongKind}
 use Rattle.rdf_values.proofs.Examples.{shown, AreDue}
 
 -- ---- refusals

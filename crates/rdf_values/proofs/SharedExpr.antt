@@ -10,15 +10,15 @@ use Rattle.std.specs.contracts.boxed.Box as B
 use Rattle.std.specs.contracts.alloc.Global as H
 use Rattle.std.below.std_heap.specs.contracts.GlobalAllocator.TheImpl.{ghosts}
 use Rattle.std.proofs.Crossing.{crosses}
-use Rattle.rdf_values.specs.contracts.name.Name.{the_row as name_row}
-use Rattle.rdf_values.specs.contracts.name.Name as N
-use Rattle.rdf_values.specs.contracts.expr.BinOp as O
-use Rattle.rdf_values.specs.contracts.expr.Expr.{the_row as expr_row}
-use Rattle.rdf_values.specs.contracts.expr.Expr.TheInside.{the_row as inside_row}
-use Rattle.rdf_values.specs.contracts.expr.Expr.TheInside as I
-use Rattle.rdf_values.specs.contracts.expr.ExprNode as node
-use Rattle.rdf_values.specs.contracts.expr.Args.TheKnot as knot
-use Rattle.rdf_values.specs.declared.expr.Args.TheBlock.{the_members, member-Args, member-ExprNode}
+use Rattle.rdf_values.specs.contracts.scripts.name.Name.{the_row as name_row}
+use Rattle.rdf_values.specs.contracts.scripts.name.Name as N
+use Rattle.rdf_values.specs.contracts.expressions.expr.BinOp as O
+use Rattle.rdf_values.specs.contracts.expressions.expr.Expr.{the_row as expr_row}
+use Rattle.rdf_values.specs.contracts.expressions.expr.Expr.TheInside.{the_row as inside_row}
+use Rattle.rdf_values.specs.contracts.expressions.expr.Expr.TheInside as I
+use Rattle.rdf_values.specs.contracts.expressions.expr.ExprNode as node
+use Rattle.rdf_values.specs.contracts.expressions.expr.Args.TheKnot as knot
+use Rattle.rdf_values.specs.declared.expressions.expr.Args.TheBlock.{the_members, member-Args, member-ExprNode}
 
 args_layer : (a b : RattleType) → IsSync a → IsSync b → IsSync (knot.layer-Args a b)
 args_layer a b sa sb = variants_sync (knot.type-Args a b) (search (sendable, crosses, sa, sb) depth 40 fits 4000)

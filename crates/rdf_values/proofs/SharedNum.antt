@@ -7,14 +7,14 @@ use denote.Hole.FixLaws.{layer_row}
 use denote.Hole.{as_row}
 use denote.Struct.Field.{row_field, u32-field}
 use Rattle.std.proofs.Crossing.{crosses}
-use Rattle.rdf_values.specs.contracts.num_expr.Callee as N
-use Rattle.rdf_values.specs.contracts.num_expr.NumExpr.{the_row as num_expr_row}
-use Rattle.rdf_values.specs.contracts.num_expr.NumExpr.TheInside.{the_row as inside_row}
-use Rattle.rdf_values.specs.contracts.num_expr.NumExpr.TheInside as I
-use Rattle.rdf_values.specs.contracts.num_expr.NumNode as node
-use Rattle.rdf_values.specs.contracts.num_expr.NumArgs.TheKnot as knot
+use Rattle.rdf_values.specs.contracts.expressions.num_expr.Callee as N
+use Rattle.rdf_values.specs.contracts.expressions.num_expr.NumExpr.{the_row as num_expr_row}
+use Rattle.rdf_values.specs.contracts.expressions.num_expr.NumExpr.TheInside.{the_row as inside_row}
+use Rattle.rdf_values.specs.contracts.expressions.num_expr.NumExpr.TheInside as I
+use Rattle.rdf_values.specs.contracts.expressions.num_expr.NumNode as node
+use Rattle.rdf_values.specs.contracts.expressions.num_expr.NumArgs.TheKnot as knot
 use Rattle.rdf_values.proofs.SharedExpr.{i64_sync, bool_sync, boxed_sync, op_field}
-use Rattle.rdf_values.specs.declared.num_expr.NumArgs.TheBlock.{the_members, member-NumArgs, member-NumNode}
+use Rattle.rdf_values.specs.declared.expressions.num_expr.NumArgs.TheBlock.{the_members, member-NumArgs, member-NumNode}
 
 args_layer : (a b : RattleType) → IsSync a → IsSync b → IsSync (knot.layer-NumArgs a b)
 args_layer a b sa sb = variants_sync (knot.type-NumArgs a b) (search (sendable, crosses, sa, sb) depth 40 fits 4000)

@@ -3,18 +3,18 @@ use denote.RattleType.{RattleType}
 use denote.Param.Send.{IsSync, sendable}
 use denote.Param.SendFields.{variants_sync, declared_sync}
 use Rattle.std.proofs.Crossing.{crosses}
-use Rattle.rdf_values.specs.contracts.name.Name.{the_row as name_row}
-use Rattle.rdf_values.specs.contracts.label.Label.{the_row as label_row}
-use Rattle.rdf_values.specs.contracts.int_list.IntList.{the_row as ints_row}
-use Rattle.rdf_values.specs.contracts.action.ActionKind.{the_row as kind_row}
+use Rattle.rdf_values.specs.contracts.scripts.name.Name.{the_row as name_row}
+use Rattle.rdf_values.specs.contracts.scripts.label.Label.{the_row as label_row}
+use Rattle.rdf_values.specs.contracts.tables.int_list.IntList.{the_row as ints_row}
+use Rattle.rdf_values.specs.contracts.scripts.action.ActionKind.{the_row as kind_row}
 use Rattle.rdf_values.specs.contracts.list.ListOf.{the_row as list_row}
-use Rattle.rdf_values.specs.contracts.vary_values.VaryValues.{the_row as values_row}
-use Rattle.rdf_values.specs.contracts.vary_values.VaryValues as V
-use Rattle.rdf_values.specs.contracts.statement.Statement.{the_row as statement_row}
-use Rattle.rdf_values.specs.contracts.statement.Statement as S
-use Rattle.rdf_values.specs.contracts.script.Line.{the_row as line_row}
-use Rattle.rdf_values.specs.contracts.script.Line as L
-use Rattle.rdf_values.specs.contracts.column.Column.{the_row as column_row}
+use Rattle.rdf_values.specs.contracts.scripts.vary_values.VaryValues.{the_row as values_row}
+use Rattle.rdf_values.specs.contracts.scripts.vary_values.VaryValues as V
+use Rattle.rdf_values.specs.contracts.scripts.statement.Statement.{the_row as statement_row}
+use Rattle.rdf_values.specs.contracts.scripts.statement.Statement as S
+use Rattle.rdf_values.specs.contracts.scripts.script.Line.{the_row as line_row}
+use Rattle.rdf_values.specs.contracts.scripts.script.Line as L
+use Rattle.rdf_values.specs.contracts.tables.column.Column.{the_row as column_row}
 use Rattle.rdf_values.proofs.SharedExpr.{name_sync, expr_sync}
 
 pub label_sync : IsSync label_row

@@ -5,9 +5,9 @@ use Rattle.std.proofs.lemmas.List.{length-map}
 use Rattle.std.proofs.lemmas.List.Elements.{All-from_recursion}
 use Rattle.rdf_values.specs.{ActionKind, all_strings, AreLines, AreNames, AreRising, AreShortValues, arguments, Bad, bare, bare_tokens, begins_with, Blank, blank_line, Close, Comma, Comment, edges_tokens, expression_count, Form, form_tokens, Found, IsAction, IsBookable, IsLine, IsScript, IsShort, last_item, last_list, Lexeme, lexeme, Line, lines_of, Mark, maybe_string, Method, more_edges, more_items, more_lists, more_names, more_strings, NamedTree, no_lines, no_names, one_list, Placed, PlacedToken, Punct, Quoted, QuotedText, ReadsList, ReadsLists, ReadsValues, ReadsValuesText, Says, Script, several_lists, Statement, statement_line, strings_tokens, Token, tokens_from, VaryValues, vector, with_byte, with_lexeme, with_token}
 use Rattle.rdf_values.proofs.Literals.{few_tokens}
-use Rattle.rdf_values.specs.LineForms as form
-use Rattle.rdf_values.specs.Statements as says
-use Rattle.rdf_values.specs.declared.statement.Statement.TheVariants.{Action}
+use Rattle.rdf_values.specs.scripts.LineForms as form
+use Rattle.rdf_values.specs.scripts.Statements as says
+use Rattle.rdf_values.specs.declared.scripts.statement.Statement.TheVariants.{Action}
 
 -- ---- an expression has at most 256 tokens, so the lists of a Vary are short
 

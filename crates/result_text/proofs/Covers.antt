@@ -4,7 +4,7 @@ use Rattle.std.proofs.lemmas.Bool.{cond_both}
 use Rattle.std.proofs.lemmas.List.{length-map}
 use Rattle.std.proofs.lemmas.List.Elements.{All-append, All-cons, All-nil, All-weaker}
 use Rattle.rdf_values.specs.{Column, FunctionNames, makes, named_before, parent_of, Path, path, Statement}
-use Rattle.rdf_values.specs.declared.statement.Statement.TheVariants.{Filter}
+use Rattle.rdf_values.specs.declared.scripts.statement.Statement.TheVariants.{Filter}
 use Rattle.graph_numbers.specs.{all_or, booked_statements, covered_at, FilterAt, filters_on, graph_filters, graph_results, GraphView, numbers_from, own_filter, ResultAt, results}
 use Rattle.graph_numbers.proofs.Covering.{filters_are}
 use Rattle.graph_numbers.proofs.Walks.{each_result}

@@ -3,7 +3,7 @@ use Rattle.std.proofs.Common.{if◌then◌else◌, ◌≡◌, ℕ, suc, ◌+◌,
 use Rattle.std.proofs.lemmas.List.{length-map}
 use Rattle.std.proofs.lemmas.List.Folds.{flat_map-map}
 use Rattle.rdf_values.specs.{ActionAt, ActionKind, Booked, Booking, Filled, has_variations, Pass, passes_of, Path, ReportOn, result_depends, Statement, Variation, variations, varied_passes}
-use Rattle.rdf_values.specs.Fold as filled
+use Rattle.rdf_values.specs.results.Fold as filled
 use Rattle.rdf_model.specs.{filled_lines, FilterCounts, flow_line, flow_lines, label}
 use Rattle.actions.specs.{Accumulator}
 use Rattle.loop_pieces.specs.{Counts}

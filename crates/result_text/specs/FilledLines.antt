@@ -2,7 +2,7 @@
 use Rattle.std.specs.Prelude.{◌≡◌, ◌<◌, ◌+◌, ◌++◌, ◌≤◌, ◌^◌, ℕ, ℤ, Bool, if◌then◌else◌, codes, decimal, flat_map, List, [], ◌∷◌, Option, Some, None, length, map, option_map, slice_get, unwrap_or}
 use Rattle.std.specs.Fmt.{signed_decimal}
 use Rattle.rdf_values.specs.{ActionAt, ActionKind, Booking, Extreme, Filled, Flat, line, Pass, passes_of, Reduced, ReportOn, Scalar, Square, Taken, Under, Variation}
-use Rattle.rdf_values.specs.Fold.{Count, Sum, Cell}
+use Rattle.rdf_values.specs.results.Fold.{Count, Sum, Cell}
 use Rattle.rdf_model.specs.{cell_line, cell_lines, cell_names, filled_lines, FilterCounts, flow_lines, label, loop_passes, loop_results, option_text, plane_lines, scalar_text, taken_text, x_edges_of, y_edges_of}
 use Rattle.actions.specs.{Accumulator}
 use Rattle.loop_pieces.specs.{Counts, FilledResult}

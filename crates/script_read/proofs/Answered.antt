@@ -3,8 +3,8 @@ use Rattle.std.proofs.Common.{◌≡◌, ◌∙◌, ◌<◌, ◌≤◌, ◌+◌,
 use Rattle.std.proofs.lemmas.Bool.{cases_order}
 use Rattle.std.proofs.lemmas.List.{append-nil}
 use Rattle.rdf_values.specs.{AreLines, bare_tokens, cause_at, FirstBad, Form, form_strings, IsBlankLine, IsForm, IsLine, IsScript, Line, line_tokens, LineRefusal, lines_of, PlacedToken, RefusesLine, RefusesLines, RefusesScript, Says, Script, ScriptCause, Statement}
-use Rattle.rdf_values.specs.Statements as refused
-use Rattle.rdf_values.specs.Scripts as script
+use Rattle.rdf_values.specs.scripts.Statements as refused
+use Rattle.rdf_values.specs.scripts.Scripts as script
 use Rattle.script_read.specs.{ALine, Done, place_from, StuckAt, walk_placed, WalkEnd}
 use Rattle.script_read.proofs.Stuck.{line_walked, refuses_line}
 use Rattle.script_read.proofs.AnsweredStrings.{form_says}

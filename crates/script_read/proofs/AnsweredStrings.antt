@@ -1,9 +1,9 @@
 -- A form says something, or one of its strings is the first that is bad.
 use Rattle.std.proofs.Common.{◌≡◌, ℕ, Bool, true, false, List, [], ◌∷◌, ◌++◌, Option, Some, None, refl, sym, ap, ◌∙◌, inl, inr, ◌⊎◌}
 use Rattle.rdf_values.specs.{a_label, a_name, ActionKind, ALabel, all_edges, all_strings, AName, AnExpression, AnOperation, AreNames, begin_expr, begin_values, FirstBad, Form, form_strings, here, is_label, is_name, IsAction, IsBad, IsMaybeLabel, IsMaybeName, IsName, later, LineRefusal, maybe_wanted, Method, method_strings, more_names, NamedTree, no_label, no_name, no_names, operation_text, QuotedText, Reads, ReadsText, ReadsValues, ReadsValuesText, ReduceOp, Says, SomeValues, Statement, VaryValues, wanted_names}
-use Rattle.rdf_values.specs.LineForms as form
-use Rattle.rdf_values.specs.Statements.{Wanted}
-use Rattle.rdf_values.specs.Statements as st
+use Rattle.rdf_values.specs.scripts.LineForms as form
+use Rattle.rdf_values.specs.scripts.Statements.{Wanted}
+use Rattle.rdf_values.specs.scripts.Statements as st
 use Rattle.expr_read.proofs.Decided.{answered}
 use Rattle.expr_read.proofs.Whole.{whole, whole_values}
 use Rattle.expr_read.proofs.WholeReads.{reads_expr, reads_values}

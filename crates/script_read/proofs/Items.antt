@@ -2,9 +2,9 @@
 use Rattle.std.proofs.Common.{◌≡◌, ◌∙◌, ℕ, ℤ, pos, Bool, true, false, List, [], ◌∷◌, ◌++◌, Option, Some, None, refl, sym, ap, append_assoc, codes, option_map, if◌then◌else◌}
 use Rattle.std.proofs.lemmas.List.{append-nil}
 use Rattle.rdf_values.specs.{arguments, Form, form_tokens, has_free_names, is_free, LineToken, maybe_string, Method, method_word, more_edges, more_strings, QuotedText}
-use Rattle.rdf_values.specs.LineTokens as t
-use Rattle.rdf_values.specs.LineForms.{call}
-use Rattle.rdf_values.specs.LineForms as form
+use Rattle.rdf_values.specs.scripts.LineTokens as t
+use Rattle.rdf_values.specs.scripts.LineForms.{call}
+use Rattle.rdf_values.specs.scripts.LineForms as form
 use Rattle.script_read.specs.{ALine, AMark, AMethod, ANumber, arguments_wants, asked_form, asking_wants, AString, AWord, booking_wants, is_mark, mark_token, MaybeString, method_wants, MoreEdges, MoreStrings, name_of, name_word, next, VaryArguments, Want}
 use Rattle.script_read.specs.declared.method.MethodName.{MethodName}
 use Rattle.script_read.specs.declared.method.ActionName.{ActionName}

@@ -2,9 +2,9 @@
 use Rattle.std.proofs.Common.{◌≡◌, ◌∙◌, ℕ, Bool, true, false, List, [], ◌∷◌, ◌++◌, Option, Some, refl, sym, ap, subst, append_assoc, codes, not, ◌||◌, if◌then◌else◌}
 use Rattle.std.proofs.lemmas.Slice.Eq.{bytes_eq-Decides}
 use Rattle.rdf_values.specs.{arguments, bare_tokens, edges_tokens, Form, form_tokens, has_free_names, is_free, LineToken, maybe_string, Method, method_word, PlacedToken, QuotedText, same, Strings, strings_tokens}
-use Rattle.rdf_values.specs.LineTokens as t
-use Rattle.rdf_values.specs.LineForms.{Edges, call}
-use Rattle.rdf_values.specs.LineForms as form
+use Rattle.rdf_values.specs.scripts.LineTokens as t
+use Rattle.rdf_values.specs.scripts.LineForms.{Edges, call}
+use Rattle.rdf_values.specs.scripts.LineForms as form
 use Rattle.script_read.specs.{ALine, AMark, AMethod, arguments_wants, asked_form, asking_wants, AString, AWord, Begins, booking_wants, edges_wants, MaybeString, method_wants, name_of, name_word, next, one_string_wants, strings_wants, token_of, Took, TookArguments, TookBooking, TookForm, variation_wants, VaryArguments, walk_placed, Want}
 use Rattle.script_read.specs.declared.method.MethodName.{MethodName}
 use Rattle.script_read.specs.declared.method.ActionName.{ActionName}

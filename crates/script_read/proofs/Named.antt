@@ -2,7 +2,7 @@
 use Rattle.std.proofs.Common.{subst, ◌≡◌, ◌∙◌, ℕ, Bool, true, false, List, [], ◌∷◌, Option, Some, None, refl, sym, ap, if◌then◌else◌}
 use Rattle.std.proofs.lemmas.Slice.Eq.{bytes_eq-Decides}
 use Rattle.rdf_values.specs.{LineToken, PlacedToken, same}
-use Rattle.rdf_values.specs.LineTokens as t
+use Rattle.rdf_values.specs.scripts.LineTokens as t
 use Rattle.script_read.specs.{all_names, AMethod, Begins, name_of, name_word, named, next}
 use Rattle.script_read.specs.declared.method.MethodName.{MethodName}
 

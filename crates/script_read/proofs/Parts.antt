@@ -2,7 +2,7 @@
 use Rattle.std.proofs.Common.{◌≡◌, ◌∙◌, ℤ, List, [], ◌∷◌, ◌++◌, Some, refl, sym, ap, append_assoc}
 use Rattle.std.proofs.lemmas.List.{append-nil}
 use Rattle.rdf_values.specs.{bare_tokens, LineToken, maybe_string, more_edges, more_strings, PlacedToken, QuotedText}
-use Rattle.rdf_values.specs.LineTokens as t
+use Rattle.rdf_values.specs.scripts.LineTokens as t
 use Rattle.script_read.specs.{AMark, ANumber, AString, Begins, BeginsNot, MaybeString, MoreEdges, MoreStrings, one_string_wants, Took, walk_placed, Want}
 use Rattle.script_read.specs.declared.token.Mark.{Mark}
 use Rattle.script_read.proofs.Walked.{walk_over, close_wanted, IsList, a_string, an_edge, next_item, list_end}

@@ -1,7 +1,7 @@
 -- A refusal of an expression's text stands in the text, or at its end.
 use Rattle.std.proofs.Common.{◌≡◌, ◌≤◌, ℕ, List, [], ◌∷◌, length, Option, Some, None, arith}
 use Rattle.rdf_values.specs.{AfterName, at_end, at_scan, at_token, continued, ending, Nothing, OpenMark, Operator, Placed, Refusal, Refused, scan, scan_step, ScanState, Token}
-use Rattle.rdf_values.specs.Scans.{Wanted, Refuses}
+use Rattle.rdf_values.specs.expressions.Scans.{Wanted, Refuses}
 use Rattle.expr_read.specs.{ExprRefusal, RefusesTextAs}
 use Rattle.expr_read.proofs.ValidTokens.{StandBelow, no_tokens, more_tokens, all_fine}
 use Rattle.script_read.specs.{StandsWithin}

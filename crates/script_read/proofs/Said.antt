@@ -1,8 +1,8 @@
 -- What a Vary of one column says.
 use Rattle.std.proofs.Common.{ℕ, List, [], ◌∷◌, Option, Some, None}
 use Rattle.rdf_values.specs.{all_strings, AreNames, IsName, QuotedText, ReadsValuesText, Says, Statement, Strings, VaryValues}
-use Rattle.rdf_values.specs.LineForms as form
-use Rattle.rdf_values.specs.Statements as st
+use Rattle.rdf_values.specs.scripts.LineForms as form
+use Rattle.rdf_values.specs.scripts.Statements as st
 use Rattle.script_read.specs.{IsNamed}
 
 pub says_vary : (n p : List ℕ) (c v : QuotedText) (ts : Strings) (m : Option QuotedText) (x : List ℕ) (vs : VaryValues) (tags : List (List ℕ)) (y : List ℕ)

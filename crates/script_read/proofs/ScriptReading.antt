@@ -3,7 +3,7 @@ use Rattle.std.proofs.Common.{◌≡◌, ◌<◌, ◌≤◌, ◌+◌, ◌⊎◌,
 use Rattle.std.proofs.lemmas.List.{append-nil}
 use Rattle.std.proofs.lemmas.Bool.Decides.{nat_tests}
 use Rattle.rdf_values.specs.{AreLines, IsScript, Line, lines_of, RefusesLines, RefusesScript, Script, ScriptCause}
-use Rattle.rdf_values.specs.Scripts as script
+use Rattle.rdf_values.specs.scripts.Scripts as script
 use Rattle.rdf_values.proofs.OneScript.{script_or_refusal, one_cause}
 use Rattle.expr_read.proofs.ReadOnce.{read_once}
 use Rattle.script_read.specs.declared.refusal.ScriptRefusal.{ScriptRefusal}

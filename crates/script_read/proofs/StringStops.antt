@@ -1,6 +1,6 @@
 -- The refusal of what a string holds refuses the string.
 use Rattle.rdf_values.specs.{AnExpression, begin_expr, begin_values, IsBad, QuotedText, Reads, ReadsValues, SomeValues}
-use Rattle.rdf_values.specs.Statements as st
+use Rattle.rdf_values.specs.scripts.Statements as st
 use Rattle.expr_read.specs.{ExprRefusal, RefusesTextAs}
 use Rattle.script_read.specs.{RefusedFor, stop_in}
 

@@ -2,8 +2,8 @@
 use Rattle.std.proofs.Common.{◌≡◌, ◌∙◌, ◌<◌, ◌+◌, ℕ, suc, add-one, List, [], ◌∷◌, ◌++◌, length, take, map, Option, Some, None, Ok, refl, sym, ap, subst, append_assoc, slice_get, ◌==◌, false}
 use Rattle.std.proofs.lemmas.List.{append-nil, length-map, map-append}
 use Rattle.rdf_values.specs.{bare_tokens, BeginsLine, Form, IsForm, line_tokens, LineToken, PlacedToken, RefusesLine, StopsAt}
-use Rattle.rdf_values.specs.Scripts as script
-use Rattle.rdf_values.specs.Statements as refused
+use Rattle.rdf_values.specs.scripts.Scripts as script
+use Rattle.rdf_values.specs.scripts.Statements as refused
 use Rattle.script_read.specs.{ALine, Done, next, place_from, placed_of, RefusedFor, StuckAt, walk, walk_on, walk_placed, WalkEnd, Want}
 use Rattle.script_read.specs.declared.token.Placed.{Placed}
 use Rattle.script_read.specs.declared.stop.LineStop.{LineStop}

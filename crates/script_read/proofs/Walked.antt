@@ -1,7 +1,7 @@
 -- Steps of the walk over tokens.
 use Rattle.std.proofs.Common.{◌≡◌, ◌∙◌, ℕ, ℤ, List, [], ◌∷◌, ◌++◌, Option, Some, None, Bool, true, false, refl, sym, ap, subst, if◌then◌else◌}
 use Rattle.rdf_values.specs.{bare_tokens, is_free, LineToken, PlacedToken}
-use Rattle.rdf_values.specs.LineTokens as t
+use Rattle.rdf_values.specs.scripts.LineTokens as t
 use Rattle.script_read.specs.{ALine, AMark, AMethod, ANumber, AString, AWord, Begins, BeginsNot, is_mark, IsStuck, mark_token, MaybeString, MoreEdges, MoreStrings, next, one_string_wants, strings_wants, token_of, Took, variation_wants, VaryArguments, walk, walk_on, walk_placed, Want}
 use Rattle.script_read.specs.declared.token.Token.{Token}
 use Rattle.script_read.specs.declared.token.Word.{Word}

@@ -1,7 +1,7 @@
 -- What stops say.
 use Rattle.std.specs.Prelude.{ℕ, List}
 use Rattle.rdf_values.specs.{LineRefusal, RefusesScript}
-use Rattle.rdf_values.specs.Statements as refused
+use Rattle.rdf_values.specs.scripts.Statements as refused
 use Rattle.script_read.specs.declared.stop.LineStop.{LineStop}
 use Rattle.script_read.specs.declared.refusal.ScriptRefusal.{ScriptRefusal}
 

@@ -1,9 +1,9 @@
 -- What tokens and forms are to the definitions.
 use Rattle.std.specs.Prelude.{ℤ, map, option_map}
 use Rattle.rdf_values.specs.{LineToken, PlacedToken, QuotedText, Strings}
-use Rattle.rdf_values.specs.LineTokens as t
-use Rattle.rdf_values.specs.LineForms.{Edges}
-use Rattle.rdf_values.specs.LineForms as f
+use Rattle.rdf_values.specs.scripts.LineTokens as t
+use Rattle.rdf_values.specs.scripts.LineForms.{Edges}
+use Rattle.rdf_values.specs.scripts.LineForms as f
 use Rattle.script_read.specs.declared.token.Mark.{Mark}
 use Rattle.script_read.specs.declared.token.Token.{Token}
 use Rattle.script_read.specs.declared.token.Quoted.{Quoted}

@@ -1,8 +1,8 @@
 -- A walk over the tokens of a line, which takes each token that can stand where it does.
 use Rattle.std.specs.Prelude.{◌≡◌, ℕ, Bool, true, false, List, [], ◌∷◌, ◌++◌, Option, Some, None, option_map, drop, codes, if◌then◌else◌}
 use Rattle.rdf_values.specs.{arguments, bare_tokens, Form, form_tokens, has_free_names, is_free, LineToken, Method, method_word, PlacedToken, same}
-use Rattle.rdf_values.specs.LineTokens as t
-use Rattle.rdf_values.specs.LineForms as form
+use Rattle.rdf_values.specs.scripts.LineTokens as t
+use Rattle.rdf_values.specs.scripts.LineForms as form
 use Rattle.script_read.specs.Views.{mark_token}
 use Rattle.script_read.specs.declared.method.MethodName.{MethodName}
 use Rattle.script_read.specs.declared.method.ActionName.{ActionName}

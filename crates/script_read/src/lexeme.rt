@@ -5,9 +5,9 @@ ghost use Rattle.rdf_values.specs.{between, integer_lexeme, integer_of, is_digit
 ghost use Rattle.script_read.specs.{lexeme_of};
 
 use crate::token::{Mark, Quoted, Token, Word};
-use rdf_values::name::is_word_start;
 use rdf_values::read_integer;
-use rdf_values::word::{digits_size, is_digit, word_size};
+use rdf_values::scripts::name::is_word_start;
+use rdf_values::tables::word::{digits_size, is_digit, word_size};
 
 const LONGEST_NAME: usize = 64;
 
@@ -33,7 +33,7 @@ fn are_printable(bytes: &[u8]) -> bool
 }
 
 // Whether the word is a name.
-#[tactic(auto, unfolding(rdf_values::specs::Names::is_name))]
+#[tactic(auto, unfolding(rdf_values::specs::scripts::Names::is_name))]
 fn is_name(word: &[u8]) -> bool
     requires { is_word word.now ≡ true }
     ensures { result ≡ is_name word.now }
@@ -48,7 +48,7 @@ fn quote_place(text: &[u8]) -> Option<usize>
 }
 
 // The lexeme of a word.
-#[tactic(auto, unfolding(rdf_values::specs::LineTokens::word_lexeme))]
+#[tactic(auto, unfolding(rdf_values::specs::scripts::LineTokens::word_lexeme))]
 fn word(bytes: &[u8]) -> Lexeme<'_>
     requires { is_word bytes.now ≡ true }
     ensures { lexeme_of result ≡ word_lexeme bytes.now }
@@ -77,7 +77,7 @@ fn integer(text: &[u8]) -> Lexeme<'static>
 }
 
 // The lexeme of a string whose quote stands at the place, before the text.
-#[tactic(auto, unfolding(rdf_values::specs::LineTokens::string_lexeme))]
+#[tactic(auto, unfolding(rdf_values::specs::scripts::LineTokens::string_lexeme))]
 fn string(place: u32, text: &[u8]) -> Lexeme<'_>
     requires { place + length text.now < 65536 }
     ensures { lexeme_of result ≡ string_lexeme place text.now }
@@ -115,7 +115,7 @@ fn mark(byte: u8) -> Lexeme<'static>
 }
 
 /// What the line has at the place.
-#[tactic(auto, unfolding(rdf_values::specs::LineTokens::lexeme))]
+#[tactic(auto, unfolding(rdf_values::specs::scripts::LineTokens::lexeme))]
 pub(crate) fn lexeme_at(line: &[u8], place: usize) -> Lexeme<'_>
     requires inside { place < length line.now }
     requires short { length line.now ≤ 65536 }

@@ -1,7 +1,7 @@
 // The methods that are called on a node: their names, and their arguments.
 ghost use Rattle.std.specs.Prelude.{◌≡◌, [], ◌∷◌, ◌++◌, Err, IfOk, MatchOption};
 ghost use Rattle.rdf_values.specs.{arguments, Comma as AsComma, method_word, Quoted as AsQuoted, strings_tokens};
-ghost use Rattle.rdf_values.specs.LineForms.{call};
+ghost use Rattle.rdf_values.specs.scripts.LineForms.{call};
 ghost use Rattle.script_read.specs.declared.method.MethodName.{MethodName as AnyMethod};
 ghost use Rattle.script_read.specs.{action_of, AMethod, arguments_wants, IsStuck, method_of, name_word, quoted_of, SeesMethod, strings_of, Took, TookArguments, variation_wants};
 

@@ -2,7 +2,7 @@
 #![tactic(auto, using(crate::proofs::FirstBads::refusals))]
 
 ghost use Rattle.std.specs.Prelude.{◌≡◌, [], ◌∷◌, option_map, IfOk, IfErr};
-ghost use Rattle.rdf_values.specs.LineForms as line;
+ghost use Rattle.rdf_values.specs.scripts.LineForms as line;
 ghost use Rattle.rdf_values.specs.{all_edges, AName, AnExpression, FirstBad, form_strings, IsAction, IsName, maybe_wanted, method_strings, ReadsText, Says};
 ghost use Rattle.script_read.specs.{action_of, edges_of, form_of, IsNamed, method_of, quoted_of, RefusedFor, strings_of};
 

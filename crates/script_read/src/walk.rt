@@ -1,7 +1,7 @@
 // Reads the tokens of a line as a form, from the left with one token in hand.
 ghost use Rattle.std.specs.Prelude.{◌≡◌, ◌<◌, ℕ, List, [], ◌∷◌, ◌++◌, Ok, Err, map, drop, true, false, length, OnOk, IfOk, IfErr, option_map};
 ghost use Rattle.rdf_values.specs.{bare_tokens, Close as AsClose, Comma as AsComma, edges_tokens, is_free as is_free_word, IsForm, line_tokens, maybe_string, Open as AsOpen, Quoted as AsQuoted, RefusesLine, strings_tokens};
-ghost use Rattle.rdf_values.specs.LineTokens.{Word as AsWord, Number as AsNumber};
+ghost use Rattle.rdf_values.specs.scripts.LineTokens.{Word as AsWord, Number as AsNumber};
 ghost use Rattle.script_read.specs.{ALine, AMark, ANumber, asked_form, asking_wants, AString, Ate, AWord, Begins, booking_wants, edges_of, edges_wants, form_of, IsStuck, mark_token, MaybeString, one_string_wants, place_from, placed_of, quoted_of, RefusedFor, strings_of, strings_wants, token_of, Took, TookBooking, TookForm, two_string_wants, Want as AnyWant};
 
 use crate::form::{Form, OneOrMore};

@@ -7,7 +7,7 @@ use Rattle.std.proofs.lemmas.List.Elements.{All-from_recursion}
 use Rattle.std.proofs.lemmas.Option.{get_or_from_slice_get, same_Some, slice_get_within}
 use Rattle.lemmas.proofs.{something_at}
 use Rattle.rdf_values.specs.{ActionAt, ActionKind, below, Booking, EntryFault, Fault, named_before, Pass, Path, path, ReportOn, Span, Statement, Value}
-use Rattle.rdf_values.specs.declared.statement.Statement.TheVariants.{Filter}
+use Rattle.rdf_values.specs.declared.scripts.statement.Statement.TheVariants.{Filter}
 use Rattle.rdf_values.proofs.Below.{length-below}
 use Rattle.rdf_model.specs.{action_pass, cutflow, Dataset, fault_at, fault_or, first_fault, first_fault_from, first_fault_in, first_of, kind_in, kinds_in, loop_facts, over_clusters, pass_result}
 use Rattle.actions.specs.{Accumulator}

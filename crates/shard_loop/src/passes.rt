@@ -1,6 +1,6 @@
 // The lines of a loop's passes over a span.
 ghost use Rattle.std.specs.Prelude.{◌≡◌, ◌<◌, ◌≤◌, ◌+◌, ℕ, IfOk, Some, length, map, slice_get, take};
-ghost use Rattle.rdf_values.specs.Bookings as bookings;
+ghost use Rattle.rdf_values.specs.scripts.Bookings as bookings;
 ghost use Rattle.rdf_model.specs.{kinds_in};
 ghost use Rattle.loop_keys.specs.{Fits, job_of, numbered_in, passes_in};
 ghost use Rattle.shard_spans.specs.{pass_line};

@@ -4,7 +4,7 @@ use Rattle.std.specs.Prelude.{⊤}
 use Rattle.std.specs.List.{AllByRecursion, list_all}
 use Rattle.lemmas.proofs.{or_true}
 use Rattle.rdf_values.specs.{ActionKind, bin, cells_on, ColType, flat_cell, fold_items, Has64Bits, Item, numbers_of, Scalar, scalar_of, square_cell, weight_in, weight_in2}
-use Rattle.rdf_values.specs.Fold.{Cell, cell_of}
+use Rattle.rdf_values.specs.results.Fold.{Cell, cell_of}
 use Rattle.rdf_model.specs.{FitsAction}
 use Rattle.histograms.specs.{CellSum}
 use Rattle.shard_lines.specs.Lines as lines

@@ -4,8 +4,8 @@ use Rattle.std.specs.List.{AllByRecursion, cons_option}
 use Rattle.std.proofs.lemmas.Bool.Decides.{nat_tests}
 use Rattle.std.proofs.lemmas.List.{length-map}
 use Rattle.rdf_values.specs.{among, AreAccepted, Booked, booked_by, bookings, check_columns, check_edges, check_node, check_passes, check_results, check_tags, check_target, check_values, filled, first_refusal, FunctionNames, GraphCause, has_variations, is_result, is_variation_name, names_of, own_variations, Pass, passes_of, path, permitted_kinds, printed_results, refuse_if, refuse_unless, repeats, result_depends, same, Scope, scope_at, Statement, StatementsHaveWords, Variation, variations, varied_passes, waiting}
-use Rattle.rdf_values.specs.declared.graph_cause.GraphCause.TheVariants.{NameTaken, TooMany, UnknownName}
-use Rattle.rdf_values.specs.declared.statement.Statement.TheVariants.{Action, Alias, Define, Filter, Print, Redefine, Report, VariationsFor, Vary, Watch}
+use Rattle.rdf_values.specs.declared.scripts.graph_cause.GraphCause.TheVariants.{NameTaken, TooMany, UnknownName}
+use Rattle.rdf_values.specs.declared.scripts.statement.Statement.TheVariants.{Action, Alias, Define, Filter, Print, Redefine, Report, VariationsFor, Vary, Watch}
 use Rattle.rdf_model.specs.{Access, accesses, filled_by, loop_passes, loop_results}
 use Rattle.rdf_model.proofs.Accepted.{both_none, if_fails, names_equal, third, unless_holds}
 use Rattle.shard_runs.proofs.Sums.{all_both}

@@ -5,7 +5,7 @@ use Rattle.std.proofs.lemmas.Bool.Decides.{nat_tests}
 use Rattle.std.proofs.lemmas.List.{length-map}
 use Rattle.lemmas.proofs.{lt_true}
 use Rattle.rdf_values.specs.{ActionAt, ActionKind, Booking, cells_on, Fault, FitRows, flat_cell, Item, Pass, Path, ReportOn, Span, square_cell, Value}
-use Rattle.rdf_values.specs.Fold.{Cell}
+use Rattle.rdf_values.specs.results.Fold.{Cell}
 use Rattle.rdf_values.proofs.Below.{length-below}
 use Rattle.rdf_model.specs.{cutflow, Dataset, items_of, rows_in}
 use Rattle.histograms.specs.{CellSum}

@@ -7,7 +7,7 @@ use Rattle.std.proofs.lemmas.Int.{SFits-int_wrap, unsigned_abs-mul, wrapping_add
 use Rattle.std.proofs.lemmas.Nat.{and_le_l, mul-le, or_lt, xor_lt}
 use Rattle.lemmas.proofs.{abs_add}
 use Rattle.rdf_values.specs.{extreme, Has64Bits, integer_sum, reduce_start, reduce_step, ReduceOp}
-use Rattle.rdf_values.specs.Fold.{cell_of}
+use Rattle.rdf_values.specs.results.Fold.{cell_of}
 use Rattle.shard_lines.specs.{FitsExtreme}
 use Rattle.loop_pieces.proofs.WatchLemmas.{abs_small as word_small}
 

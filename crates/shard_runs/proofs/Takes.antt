@@ -3,7 +3,7 @@ use Rattle.std.proofs.Common.{◌≡◌, ℕ, Bool, true, false, List, [], ◌�
 use Rattle.std.specs.Prelude.{⊤}
 use Rattle.std.specs.List.{AllByRecursion}
 use Rattle.rdf_values.specs.{ActionAt, ActionKind, AnswerIn64Bits, AreAccepted, Booked, booked_by, Booking, bookings, check_columns, check_edges, check_node, check_passes, check_results, ColType, column_kind, columns_of, EntryFault, feed_fault, FitsKind, FitsRow, fn_names, FunctionNames, GraphCause, Item, kind_or_int, may_begin, Pass, Path, path, permitted_kinds, ReportOn, scalar_value, Scope, scope_at, scope_of, spread, Statement, StatementsHaveWords, Under, Value}
-use Rattle.rdf_values.specs.declared.statement.Statement.TheVariants.{Action, Report}
+use Rattle.rdf_values.specs.declared.scripts.statement.Statement.TheVariants.{Action, Report}
 use Rattle.rdf_model.specs.{◌>>=◌, column_value, Dataset, Entry, entry_in, Faults, Feed, feed_outcome, FitKinds, FitsSpread, for_all, Gives, items_fed, items_of, Meets, Needs, Outcome, Skip, through, unless_fault}
 use Rattle.rdf_model.proofs.Accepted.{both_none, column_fits}
 use Rattle.rdf_model.proofs.Limits.{facts_meet_limits, path_words}

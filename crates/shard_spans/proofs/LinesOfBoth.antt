@@ -5,7 +5,7 @@ use Rattle.std.proofs.lemmas.Grind.{flat_map-append}
 use Rattle.std.proofs.lemmas.List.{map-append}
 use Rattle.std.proofs.lemmas.List.Sums.{fold-append, sum_by-append}
 use Rattle.rdf_values.specs.{ActionAt, ActionKind, Booking, cells_on, ColType, extreme, flat_cell, fold_items, integer_sum, Item, number_of, numbers_of, Pass, Path, reduce_start, reduce_step, ReduceOp, ReportOn, scalar_of, square_cell, Value, weight_in, weight_in2}
-use Rattle.rdf_values.specs.Fold.{Cell, cell_of}
+use Rattle.rdf_values.specs.results.Fold.{Cell, cell_of}
 use Rattle.rdf_model.specs.{cutflow, Dataset, items_of, passes_filters}
 use Rattle.actions.specs.{better_of_two, by_cluster, Fed, from_cluster, in_file_order, put}
 use Rattle.actions.specs.Extremes as extremes

@@ -1,8 +1,8 @@
 -- What a run over a span of clusters finds.
 use Rattle.std.specs.Prelude.{ℕ, ◌+◌, ◌-◌, List, [], ◌∷◌, length, map, flat_map, Option, slice_get}
 use Rattle.rdf_values.specs.{ActionAt, below, Booking, Fault, Filled, history, Pass, ReportOn, Script, Span}
-use Rattle.rdf_values.specs.Fold.{Cell}
-use Rattle.rdf_values.specs.Fold as f
+use Rattle.rdf_values.specs.results.Fold.{Cell}
+use Rattle.rdf_values.specs.results.Fold as f
 use Rattle.rdf_model.specs.{cutflow, Dataset, first_fault_from, loop_passes, loop_results, over_clusters, pass_result}
 use Rattle.histograms.specs.{CellSum}
 use Rattle.loop_pieces.specs.{begin_of, counts_of}

@@ -2,7 +2,7 @@
 use Rattle.std.specs.Prelude.{ℕ, ◌+◌, ◌*◌, Bool, true, false, not, ◌||◌, List, [], ◌∷◌, ◌++◌, length, filter, Option, Some, None, Result, Ok, Err, if◌then◌else◌, nat_lt}
 use Rattle.std.specs.List.{list_any}
 use Rattle.rdf_values.specs.{among, ColType, Column, column_kind, FunctionNames, GraphCause, is_node, same_variation, Scope, scope_at, scope_of, Statement, Under, Variation, variations}
-use Rattle.rdf_values.specs.declared.statement.Statement.TheVariants.{Define, Redefine, Alias, Filter, Vary}
+use Rattle.rdf_values.specs.declared.scripts.statement.Statement.TheVariants.{Define, Redefine, Alias, Filter, Vary}
 use Rattle.snapshot_plan.specs.declared.cause.SnapCause.{SnapCause}
 
 -- ---- columns

@@ -7,7 +7,7 @@ use denote.Param.SendFields.{declared_sync}
 use denote.Struct.Tuple.{TupleAt, type_at}
 use Rattle.std.proofs.Crossing.{crosses}
 use Rattle.rdf_values.specs.contracts.list.ListOf.{the_row as list_row}
-use Rattle.rdf_values.specs.contracts.name.Name.{the_row as name_row}
+use Rattle.rdf_values.specs.contracts.scripts.name.Name.{the_row as name_row}
 use Rattle.rdf_values.proofs.SharedExpr.{name_sync}
 use Rattle.rdf_values.proofs.SharedScript.{columns_sync, list_sync}
 use Rattle.graph.proofs.Shared.{graph_sync}

@@ -4,7 +4,7 @@ use Rattle.std.specs.Fmt.{signed_decimal}
 use Rattle.std.specs.List.{join_with_byte}
 use Rattle.std.proofs.lemmas.List.{append-nil}
 use Rattle.rdf_values.specs.{Column, value_of}
-use Rattle.rdf_values.specs.declared.cell.Cell.{Cell}
+use Rattle.rdf_values.specs.declared.tables.cell.Cell.{Cell}
 use Rattle.snapshot_text.specs.{cell_field, column_field, record_text}
 
 pub joined_behind : {A : Type 0} (c : ℕ) (f : A → List ℕ) (x : A) (xs : List A) → join_with_byte c (map f (x ∷ xs)) ≡ f x ++ flat_map (λ y. c ∷ f y) xs

@@ -9,7 +9,7 @@ use Rattle.lemmas.proofs.{both_true}
 use lib.Signed.{mag}
 use Rattle.rdf_values.proofs.OneText.{integer_of_text}
 use Rattle.rdf_values.specs.{AreColumns, cells_from, ColType, Column, column_of, ends_in_cut, FitRows, FitsColumn, FitsRow, Has64Bits, has_name, header_from, integer_of, integers_of, is_colon, is_cut, is_name, is_semicolon, IsStored, IsTable, MarkedRow, marks_from, next_column, row_of, rows_from, same, table_of, TableView, type_of, Value, vector_of}
-use Rattle.rdf_values.specs.TableText.{cell_of}
+use Rattle.rdf_values.specs.tables.TableText.{cell_of}
 use Rattle.snapshot_text.specs.{AreNamed, cell_field, column_field, kind_word}
 use Rattle.snapshot_text.proofs.Plain.{AllNumerals, Numeral, Wordy, name_bytes, number_numeral, number_some}
 use Rattle.rdf_values.proofs.Rows.{fits_length as row_length}

@@ -4,7 +4,7 @@ use mir.Val.{bool_byte}
 use Rattle.std.proofs.lemmas.List.{append-nil, drop_all, drop_more}
 use Rattle.std.proofs.lemmas.Bool.Decides.{nat_tests}
 use Rattle.rdf_values.specs.{Answers, Cells, cells_from, Column, field_count, Header, mark_of, MarkedRow, on_ok, result_cons, row_of, row_pushed, TableCause, Value}
-use Rattle.rdf_values.specs.TableText.{cell_of, mark_in}
+use Rattle.rdf_values.specs.tables.TableText.{cell_of, mark_in}
 use Rattle.rdf_values.specs.Answered.{Refuses}
 use Rattle.table_csv.specs.{IsRowPushed}
 use Rattle.table_csv.specs.declared.refusal.TableRefusal.{TableRefusal}

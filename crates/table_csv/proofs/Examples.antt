@@ -4,7 +4,7 @@ use Rattle.std.proofs.Common.{ℕ, List, [], ◌∷◌, ◌++◌, Ok, Err, refl,
 use Rattle.csv.proofs.OnLiterals.{csv_on_literals}
 use Rattle.rdf_values.proofs.Examples.{AreDue}
 use Rattle.rdf_values.specs.{cells_from, ColType, Column, column_of, header_from, integer_of, integers_of, is_cut, is_name, magnitude_of, mark_of, MarkedTable, next_column, row_of, rows_from, table_of, TableCause, Value, vector_of}
-use Rattle.rdf_values.specs.TableText.{cell_of}
+use Rattle.rdf_values.specs.tables.TableText.{cell_of}
 use Rattle.table_csv.specs.{csv_records}
 
 -- an example: what the bytes spell, and what is due; the first argument says what it shows

@@ -1,7 +1,7 @@
 -- One more value for a column, in an entry that is read.
 use Rattle.std.proofs.Common.{◌≡◌, ◌<◌, ◌≤◌, ◌+◌, ◌∙◌, ℕ, zero, suc, List, [], ◌∷◌, ◌++◌, length, get_or, set, drop, Result, Err, ap, arith, refl, sym, length-append}
 use Rattle.rdf_values.specs.{AreKept, Cells, cells_from, ColType, Column, IsKept, pushed, row_pushed, TableCause, Value}
-use Rattle.rdf_values.specs.TableText.{cell_of}
+use Rattle.rdf_values.specs.tables.TableText.{cell_of}
 use Rattle.rdf_values.proofs.RowPushed.{kept_length}
 use Rattle.table_csv.specs.{AreCellsPushed, IsCellPushed, kind_of}
 use Rattle.table_csv.proofs.CellSteps.{cells_end, cells_more, cells_stop, result_onto, result_onto-none}

@@ -3,7 +3,7 @@ use Rattle.std.proofs.Common.{if◌then◌else◌, ◌≡◌, ◌≤◌, ◌<◌
 use Rattle.std.proofs.lemmas.List.{length-map, map-append}
 use Rattle.std.proofs.lemmas.Bool.Decides.{nat_tests}
 use Rattle.rdf_values.specs.{cells_from, ColType, Column, field_count, Header, header_from, integer_of, mark_of, MarkedRow, MarkedTable, marks_from, on_ok, result_cons, row_of, rows_from, same, table_of, table_with, TableCause, Value, vector_of}
-use Rattle.rdf_values.specs.TableText.{cell_of, mark_in}
+use Rattle.rdf_values.specs.tables.TableText.{cell_of, mark_in}
 use Rattle.table_csv.specs.{entries_of, marked_joined, marks_behind}
 use Rattle.table_csv.proofs.CellSteps.{result_onto, result_onto-none}
 use Rattle.table_csv.proofs.TableSteps.{marks_append}

@@ -2,9 +2,9 @@
 ghost use Rattle.std.specs.Prelude.{◌≡◌, ◌≤◌, ◌<◌, [], List, ℕ, Ok, MatchResult, length};
 ghost use Rattle.rdf_values.specs.{Answers, AreKept, cells_from, mark_of, row_of};
 ghost use Rattle.rdf_values.specs.Answered.{Refuses};
-ghost use Rattle.rdf_values.specs.TableText.{cell_of};
-ghost use Rattle.rdf_values.specs.declared.cells.Cells.TheVariants as kept;
-ghost use Rattle.rdf_values.specs.declared.value.ColType.TheVariants as k;
+ghost use Rattle.rdf_values.specs.tables.TableText.{cell_of};
+ghost use Rattle.rdf_values.specs.declared.tables.cells.Cells.TheVariants as kept;
+ghost use Rattle.rdf_values.specs.declared.tables.value.ColType.TheVariants as k;
 ghost use Rattle.csv.specs.Records.{fields_of};
 ghost use Rattle.table_csv.specs.{AreCellsPushed, IsCellPushed, IsRowPushed, kind_of};
 
@@ -16,7 +16,7 @@ use rdf_values::{Cells, Column, TableCause, Vects, read_integer};
 const MAX_ENTRIES: u32 = 1_000_000;
 
 // Puts the vector of a cell behind the others of its column.
-#[tactic(auto, unfolding(rdf_values::specs::TableText::cell_of))]
+#[tactic(auto, unfolding(rdf_values::specs::tables::TableText::cell_of))]
 fn push_vector(entry: u32, field: u32, cell: &[u8], vectors: &mut Vects) -> Result<(), TableRefusal>
     ensures { MatchResult result (λ _. IsCellPushed (cell_of entry field k.Vect cell.now) (kept.Vects vectors.old) (kept.Vects vectors.new))
         (Refuses TableRefusal.At TableRefusal.Memory (cell_of entry field k.Vect cell.now)) }
@@ -29,7 +29,7 @@ fn push_vector(entry: u32, field: u32, cell: &[u8], vectors: &mut Vects) -> Resu
 }
 
 // Puts the value of a cell behind the others of its column.
-#[tactic(auto, unfolding(rdf_values::specs::TableText::cell_of))]
+#[tactic(auto, unfolding(rdf_values::specs::tables::TableText::cell_of))]
 fn push_cell(entry: u32, field: u32, cell: &[u8], column: &mut Cells) -> Result<(), TableRefusal>
     ensures { MatchResult result (λ _. IsCellPushed (cell_of entry field (kind_of column.old) cell.now) column.old column.new)
         (Refuses TableRefusal.At TableRefusal.Memory (cell_of entry field (kind_of column.old) cell.now)) }
@@ -44,7 +44,7 @@ fn push_cell(entry: u32, field: u32, cell: &[u8], column: &mut Cells) -> Result<
 }
 
 // Whether the cell of a mark says that a cluster begins at its entry.
-#[tactic(auto, unfolding(rdf_values::specs::TableText::mark_of))]
+#[tactic(auto, unfolding(rdf_values::specs::tables::TableText::mark_of))]
 fn read_mark(entry: u32, field: u32, cell: &[u8]) -> Result<bool, TableRefusal>
     ensures { Answers TableRefusal.At TableRefusal.Memory (mark_of entry field cell.now) result }
 {

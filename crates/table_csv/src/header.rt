@@ -42,7 +42,7 @@ fn find_colon(field: &[u8]) -> Option<usize>
 }
 
 // The column of a header's field, if it is one.
-#[tactic(auto, unfolding(rdf_values::specs::TableText::column_of))]
+#[tactic(auto, unfolding(rdf_values::specs::tables::TableText::column_of))]
 fn read_column(alloc: Global, field: &[u8]) -> Result<Option<Column>, Memory>
     ensures { IfOk result (λ column. column ≡ column_of field.now) }
 {
@@ -59,7 +59,7 @@ fn read_column(alloc: Global, field: &[u8]) -> Result<Option<Column>, Memory>
 }
 
 // The same, where it may stand behind these columns.
-#[tactic(auto, unfolding(rdf_values::specs::TableText::next_column))]
+#[tactic(auto, unfolding(rdf_values::specs::tables::TableText::next_column))]
 fn next_column(alloc: Global, before: &[Column], field: &[u8]) -> Result<Option<Column>, Memory>
     ensures value { IfOk result (λ column. column ≡ next_column before.now field.now) }
     ensures room { IfOk result (λ column. OnSome column (length before.now < 64)) }
@@ -77,7 +77,7 @@ fn next_column(alloc: Global, before: &[Column], field: &[u8]) -> Result<Option<
 }
 
 // Whether the field, the last of a header, says that its cells are marks.
-#[tactic(auto, unfolding(rdf_values::specs::TableText::is_cut))]
+#[tactic(auto, unfolding(rdf_values::specs::tables::TableText::is_cut))]
 fn is_cut(alloc: Global, before: &[Column], field: &[u8]) -> Result<bool, Memory>
     ensures { IfOk result (λ cut. cut ≡ is_cut before.now field.now) }
 {

@@ -2,7 +2,7 @@
 use Rattle.std.proofs.Common.{◌≡◌, ℕ, Bool, true, false, not, ◌||◌, List, [], ◌∷◌, ◌++◌, map, reverse, Option, None, Some, refl, sym, ap, ap₂, ◌∙◌, append-nil, if◌then◌else◌, filter, filter_map}
 use Rattle.std.proofs.lemmas.List.{reverse-append}
 use Rattle.rdf_values.specs.{ActionAt, among, Booked, bookings, covered, filled, has_variations, history, is_watched, Line, makes, named_before, names_of, own_variations, parent_of, Pass, passes_of, Path, path, ReportOn, result_depends, same, Script, Statement, variations, waiting}
-use Rattle.rdf_values.specs.declared.statement.Statement.TheVariants.{Action, Filter, Print, Report, VariationsFor, Watch}
+use Rattle.rdf_values.specs.declared.scripts.statement.Statement.TheVariants.{Action, Filter, Print, Report, VariationsFor, Watch}
 use Rattle.rdf_model.specs.{Access, accesses, loop_passes, loop_results}
 use Rattle.unwatched_scripts.specs.{DroppedWatchesChangeNoLoop, is_watch, unwatched}
 

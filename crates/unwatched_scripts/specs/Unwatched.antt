@@ -1,7 +1,7 @@
 -- A script without its Watch lines.
 use Rattle.std.specs.Prelude.{Bool, true, false, not, filter}
 use Rattle.rdf_values.specs.{Line, Script, Statement}
-use Rattle.rdf_values.specs.declared.statement.Statement.TheVariants.{Watch}
+use Rattle.rdf_values.specs.declared.scripts.statement.Statement.TheVariants.{Watch}
 
 -- the statement asks for partial results
 abbrev pub is_watch : Statement → Bool

@@ -1,7 +1,7 @@
 use Rattle.std.proofs.Common.{rules, arith, ℕ, ◌<◌, ◌++◌, length, get_or, map, pos, take, ap, sym, subst, ◌∙◌, w64, FitsSigned}
 use Rattle.std.proofs.lemmas.Int.{to_z-of_z}
 use Rattle.rdf_values.specs.{Item}
-use Rattle.rdf_values.specs.declared.item.Item.TheVariants.{Point2}
+use Rattle.rdf_values.specs.declared.results.item.Item.TheVariants.{Point2}
 use Rattle.histograms.specs.{HasFilled2}
 use Rattle.actions.specs.{places_of}
 use Rattle.actions.proofs.Batching.{one_point_more}

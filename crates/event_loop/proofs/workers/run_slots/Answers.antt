@@ -7,7 +7,7 @@ use denote.Param.Object.{Vt, ghosts_of}
 use denote.Param.Send.{IsSync, sendable, shr_sync}
 use denote.Struct.Field.{u32-field}
 use Rattle.std.proofs.Crossing.{crosses, dyn_box_sync}
-use Rattle.rdf_values.proofs.fn_names.FnNames.TheSendSync as names
+use Rattle.rdf_values.proofs.expressions.fn_names.FnNames.TheSendSync as names
 use Rattle.std.specs.contracts.alloc.Global.{the_row as global_row}
 use Rattle.graph.specs.contracts.graph.Graph.{the_row as graph_row}
 use Rattle.graph.proofs.Shared.{graph_sync}

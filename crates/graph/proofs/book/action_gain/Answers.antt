@@ -1,5 +1,5 @@
 use Rattle.std.proofs.Common.{refl}
-use Rattle.rdf_values.specs.declared.statement.Statement.TheVariants.{Action}
+use Rattle.rdf_values.specs.declared.scripts.statement.Statement.TheVariants.{Action}
 use Rattle.graph.specs.{statements}
 use Rattle.graph.proofs.Gaining.{gained}
 use Rattle.graph.proofs.book.action_gain.Goals as goal

@@ -1,5 +1,5 @@
 use Rattle.std.proofs.Common.{IfOk, refl, sym, subst, ◌∙◌}
-use Rattle.rdf_values.specs.declared.statement.Statement.TheVariants.{Alias, Vary, VariationsFor, Watch, Print}
+use Rattle.rdf_values.specs.declared.scripts.statement.Statement.TheVariants.{Alias, Vary, VariationsFor, Watch, Print}
 use Rattle.graph.specs.{IsGain, statements}
 use Rattle.graph.proofs.Gaining.{decided_at, define_made, gained, nothing_gained, redefine_made}
 use Rattle.graph.proofs.book.check_statement.Goals as goal

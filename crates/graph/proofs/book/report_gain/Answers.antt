@@ -1,5 +1,5 @@
 use Rattle.std.proofs.Common.{refl, sym, ◌∙◌}
-use Rattle.rdf_values.specs.declared.statement.Statement.TheVariants.{Report}
+use Rattle.rdf_values.specs.declared.scripts.statement.Statement.TheVariants.{Report}
 use Rattle.graph.specs.{statements}
 use Rattle.graph.proofs.Checking.{handed_on, stops_for}
 use Rattle.graph.proofs.Gaining.{gained}

@@ -1,6 +1,6 @@
 use Rattle.std.proofs.Common.{[], ◌∷◌, ◌∙◌, sym}
 use Rattle.rdf_values.specs.{bookings, check_columns, check_edges, check_node, check_passes, check_results, columns_of, first_refusal, permitted_kinds, scope_at, scope_of}
-use Rattle.rdf_values.specs.declared.statement.Statement.TheVariants.{Action}
+use Rattle.rdf_values.specs.declared.scripts.statement.Statement.TheVariants.{Action}
 use Rattle.rdf_model.proofs.Accepted.{both_none}
 use Rattle.graph.specs.{statements}
 use Rattle.graph.proofs.Checking.{stopped_before, decided_last, handed_on}

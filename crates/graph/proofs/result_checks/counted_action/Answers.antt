@@ -1,6 +1,6 @@
 use Rattle.std.proofs.Common.{◌∷◌, ◌++◌, [], subst, sym, ◌∙◌}
 use Rattle.rdf_values.specs.{bookings}
-use Rattle.rdf_values.specs.declared.statement.Statement.TheVariants.{Action}
+use Rattle.rdf_values.specs.declared.scripts.statement.Statement.TheVariants.{Action}
 use Rattle.graph.specs.{statements}
 use Rattle.graph.proofs.Checking.{handed_on, stops_for}
 use Rattle.graph.proofs.Counting.{AllPassed, passes_checked, action_passed}

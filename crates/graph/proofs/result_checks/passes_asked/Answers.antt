@@ -1,7 +1,7 @@
 use Rattle.std.proofs.Common.{◌∷◌, subst, sym}
 use Rattle.std.proofs.lemmas.List.{append-nil}
 use Rattle.rdf_values.specs.{bookings, variations}
-use Rattle.rdf_values.specs.declared.statement.Statement.TheVariants.{VariationsFor}
+use Rattle.rdf_values.specs.declared.scripts.statement.Statement.TheVariants.{VariationsFor}
 use Rattle.graph.specs.{statements}
 use Rattle.graph.proofs.Counting.{AllPassed, passes_checked, rows_passed}
 use Rattle.graph.proofs.result_checks.passes_asked.Goals as goal

@@ -1,6 +1,6 @@
 use Rattle.std.proofs.Common.{◌∷◌, refl, subst, sym}
 use Rattle.rdf_values.specs.{bookings, printed_results}
-use Rattle.rdf_values.specs.declared.statement.Statement.TheVariants.{Print}
+use Rattle.rdf_values.specs.declared.scripts.statement.Statement.TheVariants.{Print}
 use Rattle.graph.specs.{printed_rows, statements}
 use Rattle.graph.proofs.Counting.{AllPassed, passes_checked, printed_with, rows_passed}
 use Rattle.graph.proofs.result_checks.passes_printed.Goals as goal

@@ -1,4 +1,4 @@
-use Rattle.rdf_values.specs.Scripts.{too_many}
+use Rattle.rdf_values.specs.scripts.Scripts.{too_many}
 use Rattle.script_read.specs.{adds_nothing, adds_statement}
 use Rattle.std.proofs.Common.{sym, ◌∙◌, arith}
 use Rattle.script_read.proofs.read.add_line.Goals as goal

@@ -1,4 +1,4 @@
-use Rattle.rdf_values.specs.Statements as st
+use Rattle.rdf_values.specs.scripts.Statements as st
 use Rattle.script_read.proofs.statement.action_kind.Goals as goal
 
 pub returns-in-Count-clause-ok : goal.returns-in-Count-clause-ok

@@ -1,4 +1,4 @@
-use Rattle.rdf_values.specs.Statements as st
+use Rattle.rdf_values.specs.scripts.Statements as st
 use Rattle.script_read.proofs.FirstBads.{handed_on, refused_later, good_expression}
 use Rattle.script_read.proofs.statement.booking.Goals as goal
 

@@ -1,4 +1,4 @@
-use Rattle.rdf_values.specs.Statements as st
+use Rattle.rdf_values.specs.scripts.Statements as st
 use Rattle.script_read.proofs.statement.histo2d.Goals as goal
 
 pub returns-clause-ok : goal.returns-clause-ok

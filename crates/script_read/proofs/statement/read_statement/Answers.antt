@@ -1,4 +1,4 @@
-use Rattle.rdf_values.specs.Statements as st
+use Rattle.rdf_values.specs.scripts.Statements as st
 use Rattle.script_read.proofs.statement.read_statement.Goals as goal
 
 pub returns-in_ok-name_of-in-Print-clause-ok : goal.returns-in_ok-name_of-in-Print-clause-ok

@@ -1,4 +1,4 @@
-use Rattle.rdf_values.specs.Statements as st
+use Rattle.rdf_values.specs.scripts.Statements as st
 use Rattle.script_read.proofs.FirstBads.{handed_on, refused_here, refused_later, refused_before, refused_after, good_values, good_names}
 use Rattle.script_read.proofs.statement.vary_all.Goals as goal
 

@@ -1,4 +1,4 @@
-use Rattle.rdf_values.specs.Statements as st
+use Rattle.rdf_values.specs.scripts.Statements as st
 use Rattle.script_read.proofs.strings.name.Goals as goal
 
 pub returns-in-None-clause-err : goal.returns-in-None-clause-err

@@ -6,7 +6,7 @@ use denote.Param.Callables.{held_fn}
 use denote.Param.Object.{Vt, ghosts_of}
 use denote.Param.Send.{IsSync, sendable, shr_sync}
 use Rattle.std.proofs.Crossing.{crosses, dyn_box_sync}
-use Rattle.rdf_values.proofs.fn_names.FnNames.TheSendSync as names
+use Rattle.rdf_values.proofs.expressions.fn_names.FnNames.TheSendSync as names
 use Rattle.std.specs.contracts.alloc.Global.{the_row as global_row}
 use Rattle.columns.specs.contracts.columns.Columns.{the_row as columns_row}
 use Rattle.slot_words.specs.contracts.claims.Claims.{the_row as claims_row}

@@ -1,0 +1,20 @@
+use Rattle.std.proofs.Common.{◌≡◌, length, rules}
+use Rattle.rdf_values.proofs.KeptLemmas.{ints_column, found_cells, kept_within, no_vects}
+use Rattle.rdf_values.proofs.tables.table.Table.ints.Goals as goal
+
+pub index-requires : goal.index-requires
+index-requires c =
+    let size : c.self.inside.cells.len ≡ length c.self.inside.cells.items = search rules in
+    rw size (kept_within c.self.inside.columns c.self.inside.cells.items c.self.inside.entries c.args.col _ c.self.invariant.kept (rw (← c.self.view_is) at c.requires))
+
+pub unreachable-requires : goal.unreachable-requires
+unreachable-requires c =
+    let kind = rw (← c.self.view_is) at c.requires in
+    let found = found_cells c.self.inside.columns c.self.inside.cells.items c.self.inside.entries c.args.col _ c.index.result.now c.self.invariant.kept kind c.index.ensures in
+    no_vects c.self.inside.columns c.self.inside.cells.items c.self.inside.entries c.args.col _ _ c.self.invariant.kept kind found c.in-Vects.is
+
+pub returns : goal.returns
+returns c =
+    let kind = rw (← c.self.view_is) at c.requires in
+    let found = found_cells c.self.inside.columns c.self.inside.cells.items c.self.inside.entries c.args.col _ c.index.result.now c.self.invariant.kept kind c.index.ensures in
+    rw (← c.self.view_is) (ints_column c.self.inside.columns c.self.inside.cells.items c.self.inside.entries c.args.col _ _ c.self.invariant.kept kind found (c.in-Ints.is))

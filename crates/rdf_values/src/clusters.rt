@@ -1,0 +1,6 @@
+// Clusters, and the slots that claim them.
+
+pub mod event;
+pub mod span;
+pub mod step_cause;
+pub mod unions;

@@ -1,0 +1,5 @@
+// What results are fed, and the lines of refusals.
+
+pub mod fault;
+pub mod item;
+pub mod text;

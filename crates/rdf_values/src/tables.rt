@@ -1,0 +1,18 @@
+// Tables: their text, their values and how these are kept.
+
+pub mod cell;
+pub mod cells;
+pub mod column;
+pub(crate) mod filling;
+pub mod int_list;
+pub mod integer;
+pub mod marks;
+pub(crate) mod narrow;
+pub mod numbers;
+pub mod table;
+pub mod table_cause;
+pub mod table_parts;
+pub mod value;
+pub(crate) mod vector_text;
+pub mod vects;
+pub mod word;
