@@ -3,9 +3,11 @@
 function whose body takes N lines and more gets a call of `grind` with the lemmas that the body cites, all at once; a check tells which are refused; these are
 put back, and what stands inside them is tried in their place, until the crate is proved again. Some six to ten checks of what changed.
 
-    cd crates/NAME && ../../tools/shorten.py [--lines N] [--steps S] [FILE..]     (3 lines; 800000 steps a call; all files of proofs/)
+    cd crates/NAME && ../../tools/shorten.py [--through] [--lines N] [--steps S] [FILE..]     (3 lines; 800000 steps a call; all files of proofs/)
 
-What is kept is printed. Read the diff: a proof whose steps a comment tells is better put back. What was refused is noted in out/, so a second run is short.
+By --through it tries bodies of any length, and lists in place of each lemma that nothing else cites those that this one cites: where that is proved, the lemma
+in between goes. What is kept is printed. Read the diff: a proof whose steps a comment tells is better put back. What was refused is noted in out/, so a second
+run is short.
 """
 import argparse
 import glob
@@ -16,6 +18,7 @@ import subprocess
 import sys
 
 MOST_LEMMAS = 12
+MOST_USES = 4
 MOST_CHECKS = 24
 WIDTH = 170
 NOTE = os.path.join("out", "shorten.json")
@@ -78,6 +81,13 @@ def tokens(text):
     return [word.strip(".") for word in re.findall(r"[^\s(){}\[\];,:=λ«»\"|@]+", text)]
 
 
+def has_clause(lines, at, signature):
+    """Whether a signature is a lemma's, and no record's field."""
+    deep = len(signature[1])
+    after = next((line for line in lines[at + 1 :] if indent(line) <= deep and not line.strip().startswith("unfolding ")), "")
+    return re.match(rf"^ {{{deep}}}{re.escape(signature[3])}(?: |$)", after) is not None
+
+
 class Lemma:
     """A signature and its clauses, by their lines."""
 
@@ -125,10 +135,11 @@ def lemmas(lines, low, high, least_deep):
 
 
 class Place:
-    """A body that may give way to a call, and the places inside it, for when it may not."""
+    """A body that may give way to a call, and the places inside it, for when it may not. bring: the names that its call needs, each with its module;
+    passed: the lemmas in between that it doesn't."""
 
-    def __init__(self, name, start, end, call, inside):
-        self.name, self.start, self.end, self.call, self.inside = name, start, end, call, inside
+    def __init__(self, name, start, end, call, inside, bring, passed):
+        self.name, self.start, self.end, self.call, self.inside, self.bring, self.passed = name, start, end, call, inside, bring, passed
 
     @property
     def key(self):
@@ -138,23 +149,122 @@ class Place:
         return self.end - self.start - len(self.call)
 
 
-class Source:
-    """A file of proofs, with its places."""
+def is_told(line):
+    """Whether a line's words count as uses."""
+    return not line.strip().startswith(("--", "//", "use ", "pub use ", "ghost use "))
 
-    def __init__(self, path, least):
-        self.path, self.least = path, least
+
+class Between:
+    """The lemmas of a crate, and where they are cited."""
+
+    def __init__(self, crate):
+        self.home, self.uses, twice = {}, {}, set()
+        for path in [*glob.glob("../*/**/*.antt", recursive=True), *glob.glob("../*/**/*.rt", recursive=True), *glob.glob("../../edits/*/*.edit")]:
+            if "/out/" in path:
+                continue
+            path = os.path.relpath(path)
+            with open(path, encoding="utf-8") as file:
+                lines = file.read().split("\n")
+            for at, line in enumerate(lines):
+                for word in tokens(line.replace("::", " ")) if is_told(line) else []:
+                    self.uses.setdefault(word, []).append((path, at))
+            if path.startswith("proofs/") and not path.endswith(("Answers.antt", "Invariants.antt", "Lib.antt")) and "Example" not in path:
+                for lemma in lemmas(lines, 0, len(lines), 0):
+                    if lemma.name in self.home:
+                        twice.add(lemma.name)
+                    self.home[lemma.name] = path, lemma
+        self.home = {name: it for name, it in self.home.items() if name not in twice}
+        self.crate, self.sources = crate, {}
+
+    def source(self, path):
+        if path not in self.sources:
+            self.sources[path] = Source(path, 1)
+        return self.sources[path]
+
+    def stands(self, name):
+        """The source of a lemma, the lemma, and its lines."""
+        path, lemma = self.home[name]
+        source = self.source(path)
+        return source, lemma, range(source.first_of(lemma), lemma.end)
+
+    def from_outside(self, name, gone=()):
+        """Where a lemma is cited, but in itself and in lemmas that go."""
+        passed = [(source.path, lines) for source, _, lines in map(self.stands, {name, *gone})]
+        return [(at, line) for at, line in self.uses.get(name, []) if not any(at == path and line in lines for path, lines in passed)]
+
+    def few(self, name, path, start):
+        """The source and lemma of a name that few lines cite, or None, also where a place is in the lemma itself."""
+        if name not in self.home or len(self.from_outside(name)) > MOST_USES:
+            return None
+        source, lemma, lines = self.stands(name)
+        return None if source.path == path and start in lines else (source, lemma)
+
+    def idle(self, names):
+        """Those of the lemmas that nothing cites but others of them."""
+        gone = set(names) & set(self.home)
+        while found := next((name for name in gone if self.from_outside(name, gone)), None):
+            gone.remove(found)
+        return gone
+
+    def module(self, path):
+        return f"Rattle.{self.crate}." + path.removesuffix(".antt").replace("/", ".")
+
+
+class Source:
+    """A file of proofs, with its places. between: the lemmas that calls may pass over."""
+
+    def __init__(self, path, least, between=None):
+        self.path, self.least, self.between = path, least, between
         with open(path, encoding="utf-8") as file:
             self.lines = file.read().split("\n")
         self.brought = {name.split(" as ")[-1].strip(): use[1] for use in map(USE.match, self.lines) if use for name in use[2].split(",")}
-        self.own = {found[3] for found in map(SIGNATURE.match, self.lines) if found}
+        self.aliases = {name.split(" as ")[-1].strip() for use in map(USE.match, self.lines) if use for name in use[2].split(",") if " as " in name}
+        signed = [found for at, found in enumerate(map(SIGNATURE.match, self.lines)) if found and has_clause(self.lines, at, found)]
+        self.own, self.shared = {it[3] for it in signed}, {it[3] for it in signed if it[2]}
         self.opened = {name for line in self.lines if line.strip().startswith("unfolding ") for name in re.split(r"[\s,]+", line.strip()[10:])}
-        self.live = list(self.places(0, len(self.lines), 0, 0))
-        self.shown = {}
+        self.live, self.shown = [], {}
 
-    def cited(self, text, bound):
-        """The lemmas that a text cites."""
+    def find(self):
+        self.live = list(self.places(0, len(self.lines), 0, 0))
+        return self
+
+    def first_of(self, lemma):
+        """The line of a lemma's signature."""
+        at = lemma.first - 1
+        while not ((found := SIGNATURE.match(self.lines[at])) and found[3] == lemma.name):
+            at -= 1
+        return at
+
+    def passing(self, cited, start, bring, passed, deep=0):
+        """What a call at a place lists in place of the lemmas in between, whose names are noted as passed."""
         found = []
-        for word in tokens(text):
+        for name in cited:
+            lemma = self.between.few(name, self.path, start) if deep < 3 else None
+            inner = lemma and self.through(*lemma, start, bring, passed, deep)
+            found += [it for it in ([name] if inner is None else inner) if it not in found]
+        return found
+
+    def through(self, home, lemma, start, bring, passed, deep):
+        """What a lemma in between cites, or None where this file can't."""
+        body = "\n".join(home.lines[lemma.first : lemma.end])
+        recurs = lemma.name in tokens(body.replace(lemma.name, "", len(lemma.clauses)))
+        if recurs or lemma.name in [*passed, *home.opened] or VALUE.match(split_outside(lemma.signature.split(" : ", 1)[1], "→")[-1]):
+            return None
+        cited = home.cited(lemma.first, lemma.end, {lemma.name, *home.arguments(lemma)})
+        brought = {}
+        for name in cited if home.path != self.path else []:
+            module = self.between.module(home.path) if name in home.own else home.brought[name]
+            if name in home.own - home.shared or name in home.aliases or self.brought.get(name, module) != module or name in self.own:
+                return None
+            brought[name] = module
+        bring.update(brought)
+        passed.append(lemma.name)
+        return self.passing(cited, start, bring, passed, deep + 1)
+
+    def cited(self, start, end, bound):
+        """The lemmas that lines cite, but those that stand in them."""
+        found, bound = [], {*bound, *(it[3] for it in map(SIGNATURE.match, self.lines[start:end]) if it)}
+        for word in tokens("\n".join(self.lines[start:end])):
             home = self.brought.get(word, "")
             is_lemma = word in self.own or (".proofs." in home or home.endswith(".proofs")) and "Common" not in home
             if is_lemma and word not in WORDS and word not in bound and word not in found:
@@ -194,14 +304,22 @@ class Source:
             itself = re.compile(rf"(?<![\w.\-]){re.escape(lemma.name)}(?![\w\-])")
             recurs = len(itself.findall(body)) > len(lemma.clauses)
             result = split_outside(lemma.signature.split(" : ", 1)[1], "→")[-1]
-            call = None
+            call, bring, passed = None, {}, []
             if not recurs and not VALUE.match(result):
                 names = self.arguments(lemma)
                 head = " " * lemma.deep + " ".join([lemma.name, *names])
-                call = self.call(lemma.deep, head, self.cited(body, {lemma.name, *names}), lemma.end - lemma.first)
+                call, bring, passed = self.offer(lemma.deep, head, self.cited(lemma.first, lemma.end, {lemma.name, *names}), lemma.first, lemma.end)
             inside = list(self.inside(lemma, recurs, level))
             if call or inside:
-                yield Place(lemma.name, lemma.first, lemma.end, call, inside)
+                yield Place(lemma.name, lemma.first, lemma.end, call, inside, bring, passed)
+
+    def offer(self, deep, head, cited, start, end, again=()):
+        """The call for a body, and what it brings; by way of lemmas in between where these are asked for."""
+        bring, passed = {}, []
+        if not self.between:
+            return self.call(deep, head, [*cited, *again], end - start), bring, passed
+        listed = self.passing(cited, start, bring, passed)
+        return self.call(deep, head, [*listed, *again], end - start + 2 * len(passed)) if passed else None, bring, passed
 
     def inside(self, lemma, recurs, level):
         """A lemma's clauses, and what stands behind their `where`."""
@@ -214,9 +332,9 @@ class Source:
             text = "\n".join(self.lines[start:end])
             argument = r"(?: (?:[^\s()]+|\([^()]*\)))+"
             again = dict.fromkeys(re.findall(rf"[(] ?({re.escape(lemma.name)}{argument})\)", text[len(head) :]))
-            call = self.call(lemma.deep, head, [*self.cited(text, {lemma.name, *tokens(head)}), *again], end - start)
+            call, bring, passed = self.offer(lemma.deep, head, self.cited(start, end, {lemma.name, *tokens(head)}), start, end, again)
             if call or behind:
-                yield Place(lemma.name, start, end, call, behind)
+                yield Place(lemma.name, start, end, call, behind, bring, passed)
 
     def settle(self, refused):
         """Places that may not give way make room for those inside them."""
@@ -239,8 +357,63 @@ class Source:
             self.shown.update({len(out) + 1 + it: place for it in range(len(new))})
             out += new
             at = place.end
+        out += self.lines[at:]
+        self.bring(out, {name: module for place in self.live for name, module in place.bring.items() if self.brought.get(name) != module})
         with open(self.path, "w", encoding="utf-8") as file:
-            file.write("\n".join([*out, *self.lines[at:]]))
+            file.write("\n".join(out))
+
+    def bring(self, lines, names):
+        """Adds imports, each in place of a line or beside one, so that no line moves."""
+        for name, module in names.items():
+            uses = [at for at, line in enumerate(lines) if line.startswith("use ")]
+            own = [at for at in uses if lines[at].startswith(f"use {module}.{{")]
+            if own:
+                lines[own[0]] = lines[own[0]].replace("}", f", {name}}}")
+            else:
+                lines[uses[-1]] += f"\nuse {module}.{{{name}}}"
+                self.shown = {line + 1: place for line, place in self.shown.items()}
+
+    def drop(self, lemma):
+        """Drops a lemma that nothing cites any more, with its comment."""
+        first, end = self.first_of(lemma), lemma.end
+        while self.lines[first - 1].strip().startswith("--") and not self.lines[first - 1].strip().startswith("-- ----"):
+            first -= 1
+        while not self.lines[end - 1].strip():
+            end -= 1
+        if end < len(self.lines) and not self.lines[end].strip():
+            end += 1
+        with open(self.path, "w", encoding="utf-8") as file:
+            file.write("\n".join(self.lines[:first] + self.lines[end:]))
+
+
+def keep_what_serves(crate, sources):
+    """Puts back the calls that save no line because what they pass over is cited elsewhere too."""
+    passed = {name for source in sources.values() for place in source.live for name in place.passed}
+    idle = Between(crate).idle(passed)
+    for source in sources.values():
+        source.live = [place for place in source.live if idle & set(place.passed) or place.saves() > 0]
+
+
+def drop_idle(crate, names):
+    """Drops those of the lemmas that nothing cites any more."""
+    for name in sorted(Between(crate).idle(names)):
+        source, lemma, _ = Between(crate).stands(name)
+        source.drop(lemma)
+        unimport(f"use Rattle.{crate}." + source.path.removesuffix(".antt").replace("/", ".") + ".{", name)
+        print(f"{source.path}: {name} goes")
+
+
+def unimport(start, name):
+    """Drops a name from the lines of imports that begin so."""
+    for path in glob.glob("proofs/**/*.antt", recursive=True):
+        with open(path, encoding="utf-8") as file:
+            lines = file.read().split("\n")
+        for at, line in enumerate(lines):
+            if line.removeprefix("pub ").startswith(start):
+                names = [it.strip() for it in line[line.index("{") + 1 : line.rindex("}")].split(",") if it.split(" as ")[0].strip() != name]
+                lines[at] = line[: line.index("{") + 1] + ", ".join(names) + "}" if names else None
+        with open(path, "w", encoding="utf-8") as file:
+            file.write("\n".join(line for line in lines if line is not None))
 
 
 def check(sources, steps):
@@ -249,7 +422,11 @@ def check(sources, steps):
         source.write(steps)
     ran = subprocess.run(["rt", "check"], stdout=subprocess.PIPE, stderr=subprocess.STDOUT, text=True, errors="replace")
     at = [sources[path].shown.get(int(line)) for path, line in ERROR.findall(ran.stdout) if path in sources]
-    return ran.returncode, list(dict.fromkeys(place for place in at if place))
+    hit = list(dict.fromkeys(place for place in at if place))
+    if ran.returncode:
+        with open(os.path.join("out", "shorten.log"), "w", encoding="utf-8") as file:
+            file.write(ran.stdout)
+    return ran.returncode, hit
 
 
 def resting_on_none(hit):
@@ -279,20 +456,28 @@ def shorten(sources, steps):
 
 def main():
     options = argparse.ArgumentParser(description="Writes calls of grind in place of long proofs.")
-    options.add_argument("--lines", type=int, default=3)
+    options.add_argument("--through", action="store_true")
+    options.add_argument("--lines", type=int)
     options.add_argument("--steps", type=int, default=800000)
     options.add_argument("files", nargs="*")
     given = options.parse_args()
     files = given.files or [it for it in sorted(glob.glob("proofs/**/*.antt", recursive=True)) if "Example" not in it and not it.endswith("Lib.antt")]
-    sources = {file: Source(file, given.lines) for file in files}
-    is_proved = shorten(sources, given.steps) and check(sources, 0)[0] == 0
+    between = Between(os.path.basename(os.getcwd())) if given.through else None
+    sources = {file: Source(file, given.lines or (1 if given.through else 3), between).find() for file in files}
+    is_proved = shorten(sources, given.steps)
+    if between and is_proved:
+        keep_what_serves(between.crate, sources)
+    is_proved = is_proved and check(sources, 0)[0] == 0
     if not is_proved:
         for source in sources.values():
             source.live = []
         check(sources, 0)
         print("not proved, so all is put back")
     kept = [(source.path, place) for source in sources.values() for place in source.live]
-    print("\n".join([*(f"{path}: {place.name}, {place.saves()} lines" for path, place in kept), f"{sum(place.saves() for _, place in kept)} lines fewer"]))
+    if given.through and is_proved:
+        drop_idle(between.crate, {name for _, place in kept for name in place.passed})
+        is_proved = subprocess.run(["rt", "check", "--fix-imports"], stdout=subprocess.DEVNULL, stderr=subprocess.STDOUT).returncode == 0
+    print("\n".join([*(f"{path}: {place.name}, {place.saves()} lines" for path, place in kept), f"{sum(place.saves() for _, place in kept)} lines fewer" + " and the lemmas that go" * given.through]))
     return 0 if is_proved else 1
 
 
