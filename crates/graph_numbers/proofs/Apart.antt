@@ -156,14 +156,11 @@ module _ (header : List Column) (names : FunctionNames) where
       (if_fails (repeats tags) GraphCause.NameTaken own.0, if_fails (is_variation_name before vary) GraphCause.NameTaken own.1.0)
 
   own_variations_apart : (before : List Statement) (s : Statement) → check names (scope_of header) before s ≡ None → AreApart same_variation (own_variations s)
-  own_variations_apart before (Vary node parent columns values tags vary) ok m n x y lt p q =
-      and_right_false (same x.name y.name) (same x.tag y.tag) (tags_apart tags (tags_checked before node parent vary columns tags values ok).0 m n x.tag y.tag lt (of_tags tags vary m x p).1 (of_tags tags vary n y q).1)
-  own_variations_apart before s ok m n x y lt p q = cc p
+  own_variations_apart before s ok = grind (arith, and_right_false, tags_apart, all_none, if_fails, of_tags)
 
   own_variation_new : (before : List Statement) (s : Statement) (m n : ℕ) (x y : Variation) → check names (scope_of header) before s ≡ None → slice_get (own_variations s) m ≡ Some x → slice_get (variations before) n ≡ Some y → same_variation x y ≡ false
   own_variation_new before (Vary node parent columns values tags vary) m n x y ok p q =
-      let f : same y.name vary ≡ false = any_false (λ (v : Variation). same v.name vary) (variations before) n y (tags_checked before node parent vary columns tags values ok).1 q in
-      and_left_false (same x.name y.name) (same x.tag y.tag) (ap (λ v. same v y.name) (of_tags tags vary m x p).0 ∙ other_way y.name vary f)
+      grind (arith, any_false, all_none, if_fails, and_left_false, of_tags, turned)
   own_variation_new before s m n x y ok p q = cc p
 
   variations_apart : (before : List Statement) → AreAccepted names (scope_of header) before → AreApart same_variation (variations before)

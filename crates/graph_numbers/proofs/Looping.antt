@@ -77,13 +77,7 @@ module _ (script : List Statement) where
 
 loops_kept : (before after : List Statement) → Extends before after → (k : ℕ) (x : List Booked) → slice_get (loop_results before) k ≡ Some x → slice_get (loop_results after) k ≡ Some x
 loops_kept before after itself k x h = h
-loops_kept before after (further {after = c} s e) k x h = go s (loops_kept before c e k x h)
-  where
-    go : (s : Statement) → slice_get (loop_results c) k ≡ Some x → slice_get (loop_results (s ∷ c)) k ≡ Some x
-    go (Print result) q =
-        let a : Access = record { result = result; fills = filled_by c result } in
-        ap (λ (rs : List (List Booked)). slice_get rs k) (fills_append c (accesses c) a) ∙ kept_at (loop_results c) (filter_map (λ (b : Access). b.fills) (a ∷ [])) k x q
-    go s q = q
+loops_kept before after (further {after = c} s e) k x h = grind (arith, filter_map-append, kept_at, loops_kept before c e k x h)
 
 module _ (script : List Statement) where
   abbrev run_results : List (Option ℕ) → List (Option (List Booked))
