@@ -1,15 +1,14 @@
 -- No two sites of an accepted script have one node and places, and no two variations one name and tag.
-use Rattle.std.proofs.Common.{◌≡◌, ◌≢◌, ℕ, zero, suc, ◌+◌, ◌<◌, ◌≤◌, Bool, true, false, ◌||◌, ◌&&◌, List, [], ◌∷◌, ◌++◌, length, map, Option, Some, None, option_map, refl, sym, ◌∙◌, ap, arith, nat_eq, nat_lt, slice_get, codes}
+use Rattle.std.proofs.Common.{◌≡◌, ◌≢◌, ℕ, zero, suc, ◌+◌, ◌<◌, ◌≤◌, Bool, true, false, ◌||◌, ◌&&◌, List, [], ◌∷◌, ◌++◌, length, map, Option, Some, None, option_map, refl, sym, ◌∙◌, ap, arith, nat_eq, nat_lt, slice_get}
 use Rattle.std.specs.List.{list_any}
 use Rattle.std.proofs.lemmas.Bool.Decides.{Decides-eqb}
 use Rattle.std.proofs.lemmas.Option.{slice_get_within}
 use Rattle.lemmas.proofs.{and_holds, and_left_false, and_right_false, eq_itself, neither, never_true, or_left, or_right}
-use Rattle.rdf_values.specs.{among, AreAccepted, check, check_node, check_tags, check_target, check_values, Column, first_refusal, FunctionNames, GraphCause, is_in_use, is_node, is_result, is_variation_name, makes, NamedTree, own_variations, path, place, refuse_if, refuse_unless, repeats, same, same_variation, scope_at, scope_of, Statement, Variation, variations, VaryValues}
-use Rattle.rdf_values.specs.declared.scripts.statement.Statement.TheVariants.{Define, Redefine, Filter, Vary}
-use Rattle.rdf_values.specs.declared.scripts.vary_values.VaryValues.TheVariants.{Lists, Vector}
-use Rattle.rdf_model.specs.{same_site, Site, site_at}
+use Rattle.rdf_values.specs.{among, AreAccepted, check, check_node, check_tags, check_target, check_values, Column, first_refusal, FunctionNames, GraphCause, is_variation_name, makes, NamedTree, own_variations, path, place, refuse_if, repeats, same, same_variation, scope_at, scope_of, Statement, Variation, variations, VaryValues}
+use Rattle.rdf_values.specs.declared.scripts.statement.Statement.TheVariants.{Vary}
+use Rattle.rdf_model.specs.{same_site, Site}
 use Rattle.rdf_model.proofs.Accepted.{all_none, both_none, if_fails, names_equal, itself, turned}
-use Rattle.graph_numbers.specs.{list_sites, lists_sites, own_sites, site_in, SiteAt, sites}
+use Rattle.graph_numbers.specs.{list_sites, lists_sites, own_sites, SiteAt, sites}
 use Rattle.graph_numbers.proofs.Listed.{by_test, joined, only_at}
 
 -- ---- lists without two elements that are alike
@@ -44,9 +43,6 @@ other_node a b h = rw h refl
 other_column : (a b : Site) → a.column ≢ b.column → same_site a b ≡ false
 other_column a b h = and_left_false (same a.node b.node && nat_eq a.column b.column) _ (and_right_false (same a.node b.node) _ (eq_false a.column b.column h))
 
-other_tag : (a b : Site) → a.tag ≢ b.tag → same_site a b ≡ false
-other_tag a b h = and_right_false (same a.node b.node && nat_eq a.column b.column) _ (eq_false a.tag b.tag h)
-
 same_itself : (a : Site) → same_site a a ≡ true
 same_itself a = and_holds (same a.node a.node && nat_eq a.column a.column) _ (and_holds (same a.node a.node) _ (itself a.node) (eq_itself a.column)) (eq_itself a.tag)
 
@@ -68,9 +64,7 @@ module _ (header : List Column) (names : FunctionNames) where
 
     list_places : (i k l : ℕ) (es : List NamedTree) (x : SiteAt) → slice_get (of_list i k es) l ≡ Some x → (x.site.node ≡ node) × (x.site.column ≡ i) × (x.site.tag ≡ k + l)
     list_places i k l [] x h = cc h
-    list_places i k zero (e ∷ es) x h =
-        let q : site_in header names before parent (record { node = node; column = i; tag = k }) e ≡ x = cc h in
-        let z : k ≡ k + 0 = omega arith in (sym (ap (λ (y : SiteAt). y.site.node) q), sym (ap (λ (y : SiteAt). y.site.column) q), sym (ap (λ (y : SiteAt). y.site.tag) q) ∙ z)
+    list_places i k zero (e ∷ es) x h = grind arith
     list_places i k (suc l) (e ∷ es) x h = let p = list_places i (suc k) l es x h in let z : suc k + l ≡ k + suc l = omega arith in (p.0, p.1, p.2 ∙ z)
 
     lists_places : (i l : ℕ) (lists : List (List NamedTree)) (x : SiteAt) → slice_get (of_lists i lists) l ≡ Some x → (x.site.node ≡ node) × (i ≤ x.site.column)
@@ -81,8 +75,7 @@ module _ (header : List Column) (names : FunctionNames) where
         (λ k e q. let p = lists_places (suc i) k lists x q in (p.0, (let d = p.1 in omega (arith, d))))
 
     list_apart : (i k : ℕ) (es : List NamedTree) → AreApart alike (of_list i k es)
-    list_apart i k es s t x y lt h j =
-        other_tag x.site y.site (λ e. let a = (list_places i k s es x h).2 in let b = (list_places i k t es y j).2 in absurd (omega (arith, a, b, e, lt)))
+    list_apart i k es = grind (arith, and_right_false, eq_false, list_places)
 
     lists_apart : (i : ℕ) (lists : List (List NamedTree)) → AreApart alike (of_lists i lists)
     lists_apart i [] s t x y lt h k = cc h
@@ -92,10 +85,7 @@ module _ (header : List Column) (names : FunctionNames) where
 
   -- a node that was checked is new
   pub is_new : (before : List Statement) (node parent : List ℕ) (rest : List (Option GraphCause)) → first_refusal (check_node before node parent ∷ rest) ≡ None → MadeBy before node ≡ false
-  is_new before node parent rest ok =
-      let checks = (both_none (check_node before node parent) rest ok).0 in
-      let free = if_fails (is_in_use before node) GraphCause.NameTaken (both_none (refuse_if (is_in_use before node) GraphCause.NameTaken) (refuse_unless (is_node before parent) GraphCause.UnknownName ∷ []) checks).0 in
-      (neither (same node (codes "df")) (MadeBy before node) (neither (is_node before node) (is_result before node) free).0).1
+  is_new before node parent rest ok = grind (arith, both_none, if_fails, neither)
 
   -- the node is the statement's own, and new
   abbrev IsOwn : List Statement → Statement → List ℕ → Type 0
@@ -104,19 +94,9 @@ module _ (header : List Column) (names : FunctionNames) where
   new : (before : List Statement) (s : Statement) (node parent : List ℕ) (rest : List (Option GraphCause)) (x : SiteAt) → first_refusal (check_node before node parent ∷ rest) ≡ None → x.site.node ≡ node → makes s node ≡ true → IsOwn before s x.site.node
   new before s node parent rest x ok e m = (ap (makes s) e ∙ m, ap (MadeBy before) e ∙ is_new before node parent rest ok)
 
-  new_one : (before : List Statement) (s : Statement) (node parent : List ℕ) (expr : NamedTree) (rest : List (Option GraphCause)) (k : ℕ) (x : SiteAt)
-      → slice_get (site_in header names before parent (site_at node) expr ∷ []) k ≡ Some x → first_refusal (check_node before node parent ∷ rest) ≡ None → makes s node ≡ true → IsOwn before s x.site.node
-  new_one before s node parent expr rest k x h ok m = new before s node parent rest x ok (sym (ap (λ (y : SiteAt). y.site.node) (only_at (site_in header names before parent (site_at node) expr) x k h))) m
-
   -- the node of a statement's sites is its own, and is new where the statement was checked
   own_node : (before : List Statement) (s : Statement) (k : ℕ) (x : SiteAt) → check names (scope_of header) before s ≡ None → slice_get (own_sites header names before s) k ≡ Some x → IsOwn before s x.site.node
-  own_node before (Define node parent column expr) k x ok h = new_one before (Define node parent column expr) node parent expr _ k x h ok (itself node)
-  own_node before (Redefine node parent column expr) k x ok h = new_one before (Redefine node parent column expr) node parent expr _ k x h ok (itself node)
-  own_node before (Filter node parent expr label) k x ok h = new_one before (Filter node parent expr label) node parent expr _ k x h ok (itself node)
-  own_node before (Vary node parent columns (Lists lists) tags vary) k x ok h =
-      new before (Vary node parent columns (Lists lists) tags vary) node parent _ x ok (lists_places before parent node 0 k lists x h).0 (itself node)
-  own_node before (Vary node parent columns (Vector e) tags vary) k x ok h = new_one before (Vary node parent columns (Vector e) tags vary) node parent e _ k x h ok (itself node)
-  own_node before s k x ok h = cc h
+  own_node before s k x ok h = grind (arith, new, only_at, itself, lists_places)
 
   -- each site's node was made
   site_made : (before : List Statement) → AreAccepted names (scope_of header) before → (s : ℕ) (x : SiteAt) → slice_get (sites header names before) s ≡ Some x → MadeBy before x.site.node ≡ true
@@ -126,12 +106,7 @@ module _ (header : List Column) (names : FunctionNames) where
       (λ k e q. or_left (makes t x.site.node) (MadeBy before x.site.node) (own_node before t k x good.0 q).0)
 
   own_apart : (before : List Statement) (s : Statement) → AreApart alike (own_sites header names before s)
-  own_apart before (Define node parent column expr) m n x y lt h k = one_apart alike _ m n x y lt h k
-  own_apart before (Redefine node parent column expr) m n x y lt h k = one_apart alike _ m n x y lt h k
-  own_apart before (Filter node parent expr label) m n x y lt h k = one_apart alike _ m n x y lt h k
-  own_apart before (Vary node parent columns (Lists lists) tags vary) m n x y lt h k = lists_apart before parent node 0 lists m n x y lt h k
-  own_apart before (Vary node parent columns (Vector e) tags vary) m n x y lt h k = one_apart alike _ m n x y lt h k
-  own_apart before s m n x y lt h k = cc h
+  own_apart before s = grind (arith, one_apart, lists_apart)
 
   -- two sites differ
   apart : (before : List Statement) → AreAccepted names (scope_of header) before → AreApart alike (sites header names before)
@@ -160,14 +135,12 @@ other_way a b h = turned b a ∙ h
 tags_apart : (tags : List (List ℕ)) → repeats tags ≡ false → AreApart same tags
 tags_apart [] h m n a b lt p q = cc p
 tags_apart (x ∷ xs) h zero n a b lt p q = absurd (omega (arith, lt))
-tags_apart (x ∷ xs) h (suc m) zero a b lt p q =
-    let e : x ≡ b = cc q in other_way b a (ap (λ v. same v a) (sym e) ∙ any_false (same x) xs m a (neither (among x xs) (repeats xs) h).0 p)
+tags_apart (x ∷ xs) h (suc m) zero a b lt p q = grind (arith, other_way, any_false, neither)
 tags_apart (x ∷ xs) h (suc m) (suc n) a b lt p q = tags_apart xs (neither (among x xs) (repeats xs) h).1 m n a b (omega (arith, lt)) p q
 
 pub of_tags : (tags : List (List ℕ)) (name : List ℕ) (k : ℕ) (x : Variation) → slice_get (map (λ t. record { name = name; tag = t }) tags) k ≡ Some x → (x.name ≡ name) × (slice_get tags k ≡ Some x.tag)
 of_tags [] name k x h = cc h
-of_tags (t ∷ tags) name zero x h =
-    let e : ◌≡◌ {A = Variation} (record { name = name; tag = t }) x = cc h in (sym (ap (λ (v : Variation). v.name) e), ap (λ (v : Variation). Some v.tag) e)
+of_tags (t ∷ tags) name zero x h = grind arith
 of_tags (t ∷ tags) name (suc k) x h = of_tags tags name k x h
 
 module _ (header : List Column) (names : FunctionNames) where
@@ -183,14 +156,11 @@ module _ (header : List Column) (names : FunctionNames) where
       (if_fails (repeats tags) GraphCause.NameTaken own.0, if_fails (is_variation_name before vary) GraphCause.NameTaken own.1.0)
 
   own_variations_apart : (before : List Statement) (s : Statement) → check names (scope_of header) before s ≡ None → AreApart same_variation (own_variations s)
-  own_variations_apart before (Vary node parent columns values tags vary) ok m n x y lt p q =
-      and_right_false (same x.name y.name) (same x.tag y.tag) (tags_apart tags (tags_checked before node parent vary columns tags values ok).0 m n x.tag y.tag lt (of_tags tags vary m x p).1 (of_tags tags vary n y q).1)
-  own_variations_apart before s ok m n x y lt p q = cc p
+  own_variations_apart before s ok = grind (arith, and_right_false, tags_apart, all_none, if_fails, of_tags)
 
   own_variation_new : (before : List Statement) (s : Statement) (m n : ℕ) (x y : Variation) → check names (scope_of header) before s ≡ None → slice_get (own_variations s) m ≡ Some x → slice_get (variations before) n ≡ Some y → same_variation x y ≡ false
   own_variation_new before (Vary node parent columns values tags vary) m n x y ok p q =
-      let f : same y.name vary ≡ false = any_false (λ (v : Variation). same v.name vary) (variations before) n y (tags_checked before node parent vary columns tags values ok).1 q in
-      and_left_false (same x.name y.name) (same x.tag y.tag) (ap (λ v. same v y.name) (of_tags tags vary m x p).0 ∙ other_way y.name vary f)
+      grind (arith, any_false, all_none, if_fails, and_left_false, of_tags, turned)
   own_variation_new before s m n x y ok p q = cc p
 
   variations_apart : (before : List Statement) → AreAccepted names (scope_of header) before → AreApart same_variation (variations before)

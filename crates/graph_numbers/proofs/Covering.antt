@@ -45,12 +45,7 @@ module _ (header : List Column) (names : FunctionNames) where
   -- there is one named filter for each that is booked
   pub filters_are : (before : List Statement) → map (λ (f : FilterAt). f.at) (filters header names before) ≡ named_before before
   filters_are [] = refl
-  filters_are (s ∷ before) = map-append (λ (f : FilterAt). f.at) (filters header names before) (own_filters header names before s) ∙ own s (filters_are before)
-    where
-      own : (s : Statement) → map (λ (f : FilterAt). f.at) (filters header names before) ≡ named_before before
-          → map (λ (f : FilterAt). f.at) (filters header names before) ++ map (λ (f : FilterAt). f.at) (own_filters header names before s) ≡ named_before (s ∷ before)
-      own (Filter node parent expr (Some label)) h = ap (λ ps. ps ++ (Filter node parent expr (Some label) ∷ path before parent) ∷ []) h
-      own s h = append-nil _ ∙ h
+  filters_are (s ∷ before) = grind (arith, map-append, append-nil, filters_are before)
 
 -- the filters of the paths have these numbers, and the sites of each are those above a node and its own
 module _ (fns : List Function) (columns : List Column) where
@@ -59,11 +54,6 @@ module _ (fns : List Function) (columns : List Column) where
 
   pub numbers_later : (before after : List Statement) → Extends before after → (ns : List ℕ) (ps : List Path) → AreNumbersOf before ns ps → AreNumbersOf after ns ps
   numbers_later before after e = at_kept _ (filters columns (fn_names fns) before) (filters columns (fn_names fns) after) (filter_kept columns (fn_names fns) before after e)
-
-  unnamed : (before : List Statement) (s : Statement) (node : List ℕ) → AreNumbersOf before (filters_on before node) (named_on (path before node)) → AreNumbersOf (s ∷ before) (filters_on before node ++ []) (named_on (path before node))
-  unnamed before s node h =
-      subst (λ (ns : List ℕ). AreNumbersOf (s ∷ before) ns (named_on (path before node))) (sym (append-nil (filters_on before node)))
-      (numbers_later before (s ∷ before) (further s itself) (filters_on before node) (named_on (path before node)) h)
 
   -- all of a list's from n on
   all_numbers : (before : List Statement) (n : ℕ) (done fs : List FilterAt) → filters columns (fn_names fns) before ≡ done ++ fs → length done ≡ n → AreNumbersOf before (numbers_from n fs) (map (λ (f : FilterAt). f.at) fs)
@@ -83,7 +73,7 @@ module _ (fns : List Function) (columns : List Column) where
       at_append _ (filters columns (fn_names fns) (Filter node parent expr (Some label) ∷ before)) (filters_on before parent) (length (named_before before) ∷ []) (named_on (path before parent)) ((Filter node parent expr (Some label) ∷ path before parent) ∷ [])
       (numbers_later before (Filter node parent expr (Some label) ∷ before) (further (Filter node parent expr (Some label)) itself) (filters_on before parent) (named_on (path before parent)) h)
       ((_, next_at (filters columns (fn_names fns) before) (own_filters columns (fn_names fns) before (Filter node parent expr (Some label))) 0 _ n, refl), tt)
-  named_numbers before s h = unnamed before s (parent_of s) h
+  named_numbers before s h = grind (arith, append-nil, numbers_later, further, itself)
 
   on_path : (before : List Statement) (node : List ℕ) → AreNumbersOf before (filters_on before node) (named_on (path before node))
   on_path [] node = tt
@@ -162,9 +152,7 @@ module _ (header : List Column) (names : FunctionNames) where
   -- the sites of the filters above a node
   sites_on_path : (before : List Statement) (node : List ℕ) → Numbered before (filter_sites header names before node) (path before node)
   sites_on_path [] node = tt
-  sites_on_path (s ∷ before) node =
-      by_test (makes s node) (λ e. rw e (at_statement before s (sites_on_path before (parent_of s))))
-      (λ e. rw e (further_list before s (filter_sites header names before node) (path before node) (sites_on_path before node)))
+  sites_on_path (s ∷ before) node = grind (arith, by_test, at_statement, further_list, sites_on_path before (parent_of s), sites_on_path before node)
 
   -- the sites of a named filter evaluate the filters above it and its own
   pub filter_conditions : (before : List Statement) (n : ℕ) (f : FilterAt) → slice_get (filters header names before) n ≡ Some f

@@ -1,9 +1,9 @@
 -- What a reading demands has with each site the sites of the columns that its evaluation meets.
 use Rattle.std.proofs.Common.{◌≡◌, ℕ, ◌+◌, Bool, true, false, List, [], ◌∷◌, ◌++◌, length, Option, Some, None, refl, ◌∙◌, ap, arith, slice_get, if◌then◌else◌, flat_map}
-use Rattle.rdf_values.specs.{ActionAt, ActionKind, Column, columns_of, fn_names, Function, makes, NamedTree, parent_of, path, place, same, Statement, target_of, Under, Value, VaryValues}
+use Rattle.rdf_values.specs.{ActionAt, ActionKind, Column, fn_names, Function, makes, NamedTree, parent_of, path, place, same, Statement, target_of, Under, Value, VaryValues}
 use Rattle.rdf_values.specs.declared.scripts.statement.Statement.TheVariants.{Define, Redefine, Filter, Vary}
 use Rattle.rdf_values.specs.declared.scripts.vary_values.VaryValues.TheVariants.{Lists, Vector}
-use Rattle.rdf_model.specs.{booking_demands, column_demands, column_value, Demand, demands_after, expression_at, Faults, filter_demands, Gives, input_demands, met_columns, named_demands, Needs, Outcome, own_place, projected, site_at, site_demands, tag_demands, through, varied}
+use Rattle.rdf_model.specs.{booking_demands, column_demands, column_value, Demand, demands_after, expression_at, filter_demands, input_demands, met_columns, named_demands, Outcome, own_place, projected, site_at, site_demands, tag_demands, through, varied}
 use Rattle.graph_numbers.specs.{lists_sites, own_sites, site_count, site_in, SiteAt, sites}
 use Rattle.graph_numbers.proofs.Listed.{by_test, next_at}
 use Rattle.graph_numbers.proofs.Extending.{Extends, site_kept, shorter}
@@ -46,17 +46,7 @@ module _ (fns : List Function) (columns : List Column) (row : List Value) (u : U
   -- a site with what it meets
   pub site_explained : (s : ℕ) (x : SiteAt) → slice_get (sites columns (fn_names fns) before) s ≡ Some x → ((c : List ℕ) → AreExplained (column_demands fns columns row x.at u c))
       → AreExplained (site_demands fns columns row x.at u x.site x.expr (column_demands fns columns row x.at u))
-  site_explained s x h k d here =
-      record {
-        number = s;
-        site = x;
-        there_is = h;
-        is = refl;
-        met = λ name m e l. there (in_flat (column_demands fns columns row x.at u) name (met_columns fns columns row x.at u x.expr) m l);
-      }
-  site_explained s x h k d (there l) =
-      wider (flat_map (column_demands fns columns row x.at u) (met_columns fns columns row x.at u x.expr)) _ (λ e n. there n) d
-      (flat_explained (column_demands fns columns row x.at u) (met_columns fns columns row x.at u x.expr) k d l)
+  site_explained s x h k = grind (arith, here, there, in_flat, wider, flat_explained)
 
   if_explained : (b : Bool) (xs ys : List Demand) → AreExplained xs → AreExplained ys → AreExplained (if b then xs else ys)
   if_explained true xs ys h k = h
@@ -121,9 +111,7 @@ module _ (fns : List Function) (columns : List Column) (row : List Value) (u : U
   column_explained earlier e node name = named_explained earlier e node (target_of (path earlier node) name)
 
   after_explained : {A : Type 0} (o : Outcome ⊥ A) (next : A → List Demand) → ((a : A) → AreExplained (next a)) → AreExplained (demands_after o next)
-  after_explained (Gives a) next h = h a
-  after_explained (Faults k) next h = none_explained
-  after_explained (Needs m) next h = elim m [ ]
+  after_explained o next h = grind (arith, none_explained)
 
   -- trying the filters of a node
   pub filter_statement : (earlier : List Statement) (s : Statement) → Extends (s ∷ earlier) before → AreExplained (filter_demands fns columns row (path earlier (parent_of s)) u)
@@ -150,6 +138,4 @@ module _ (fns : List Function) (columns : List Column) (row : List Value) (u : U
 
   -- an action: its filters, and where the entry passes them its columns
   pub action_explained : (earlier : List Statement) → Extends earlier before → (node : List ℕ) (k : ActionKind) → AreExplained (booking_demands fns columns row (ActionAt k (path earlier node)) u)
-  action_explained earlier e node k =
-      append_explained (filter_demands fns columns row (path earlier node) u) _ (filters_explained earlier e node)
-      (after_explained (through fns columns row (path earlier node) u) _ (λ passed. if_explained passed _ [] (inputs_explained earlier e node (columns_of k)) none_explained))
+  action_explained earlier e node k = grind (arith, append_explained, filters_explained, after_explained, if_explained, inputs_explained, none_explained)

@@ -2,7 +2,7 @@
 use Rattle.std.proofs.Common.{◌≡◌, ℕ, ◌<◌, ◌≤◌, List, [], length, Some, refl, sym, ◌∙◌, ap, subst, arith, slice_get}
 use Rattle.std.proofs.lemmas.Option.{get_or_from_slice_get, slice_get_within}
 use Rattle.rdf_values.specs.{AreAccepted, callee, Column, column_kind, EachColumn, fn_names, Function, path, renamed, scope_at, scope_of, shape_of, Statement, Tree, Under, Value}
-use Rattle.rdf_model.specs.{◌>>=◌, call_outcome, column_value, evaluate, named_call, Outcome, tag_element}
+use Rattle.rdf_model.specs.{call_outcome, column_value, evaluate, named_call, Outcome}
 use Rattle.rdf_model.proofs.Close.{Close, same, missing, evaluate_close}
 use Rattle.rdf_model.proofs.Evaluations.{evaluate_renamed}
 use Rattle.graph_numbers.specs.{IsBelow, site_count, site_in, site_outcome, site_value, SiteAt, sites, Source, source_in, source_value, sources, version_at, version_count}
@@ -35,9 +35,7 @@ module _ (M : Type 0) (fns : List Function) (columns : List Column) (row : List 
   version_value before c = source_value row (number_value before) (source_in (sources columns (fn_names fns) u before) c)
 
   given_value : (before : List Statement) (src : Source) (o : Outcome M Value) → IsGiven M fns columns row u before src o → source_value row (number_value before) src ≡ o
-  given_value before (Source.Cell col) o h = sym h.1
-  given_value before (Source.Site t) o h = ap (site_value (λ x. site_outcome fns columns row x u)) h.1 ∙ sym h.2
-  given_value before (Source.Element t k tags) o h = ap (λ p. site_value (λ x. site_outcome fns columns row x u) p >>= tag_element tags k) h.1 ∙ sym h.2
+  given_value before src o h = grind arith
 
   -- the value of a version by its number is what its source gives
   pub source_is : (before : List Statement) (c : ℕ) (o : Outcome M Value) → HasSource M fns columns row u before c o → version_value before c ≡ o
@@ -74,9 +72,7 @@ module _ (fns : List Function) (columns : List Column) (u : Under) where
       )
     where
       go : (src : Source) → IsGiven ⊥ fns columns [] u earlier src o → IsBelow (length columns) s src
-      go (Source.Cell col) k = k.0
-      go (Source.Site t) k = let lt = slice_get_within (sites columns (fn_names fns) earlier) t k.0 k.1 in omega (arith, lt, le)
-      go (Source.Element t i tags) k = let lt = slice_get_within (sites columns (fn_names fns) earlier) t k.0 k.1 in omega (arith, lt, le)
+      go src k = grind (arith, slice_get_within)
 
   -- the columns of a site are versions, given by the table's columns and by sites with lower numbers
   pub columns_below : (before : List Statement) → AreAccepted (fn_names fns) (scope_of columns) before → (s : ℕ) (x : SiteAt) → slice_get (sites columns (fn_names fns) before) s ≡ Some x

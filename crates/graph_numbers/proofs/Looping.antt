@@ -1,7 +1,7 @@
 -- The loops by numbers are the event loops of the script.
-use Rattle.std.proofs.Common.{◌≡◌, ℕ, suc, ◌+◌, Bool, true, false, not, List, [], ◌∷◌, ◌++◌, map, length, Option, Some, None, option_map, refl, sym, ◌∙◌, ap, arith, slice_get, if◌then◌else◌, zero-add, filter, filter_map, flat_map, option_and_then}
+use Rattle.std.proofs.Common.{◌≡◌, ℕ, suc, ◌+◌, Bool, true, false, not, List, [], ◌∷◌, ◌++◌, map, length, Option, Some, None, option_map, refl, sym, ◌∙◌, ap, arith, slice_get, if◌then◌else◌, filter, filter_map, flat_map, option_and_then}
 use Rattle.std.proofs.lemmas.List.{append-nil, map-append}
-use Rattle.rdf_values.specs.{among, Booked, booked_by, bookings, filled, has_variations, Pass, passes_of, result_depends, Statement, Variation, variations, waiting}
+use Rattle.rdf_values.specs.{among, Booked, booked_by, bookings, filled, Pass, passes_of, result_depends, Statement, Variation, variations, waiting}
 use Rattle.rdf_values.specs.declared.scripts.statement.Statement.TheVariants.{Print}
 use Rattle.rdf_model.specs.{Access, accesses, filled_by, loop_passes, loop_results}
 use Rattle.graph_numbers.specs.{loops, numbered_pass, own_loop, own_run, Pass as NumberedPass, pass_at, passes_from, places_from, result_passes, runs}
@@ -36,16 +36,9 @@ module _ (script : List Statement) where
       one : pass_at script (numbered_pass n (Some k)) ≡ Some (record { result = b; under = Some v })
       one = λ i. option_map (λ (c : Booked). record { result = c; under = first_of (variations script) k v vs from i }) (h i)
 
-  all_variations : AreFrom (variations script) 0 (variations script)
-  all_variations k v q = ap (slice_get (variations script)) (zero-add k) ∙ q
-
   -- the passes of a result
   pub result_are : (n : ℕ) (b : Booked) → slice_get (bookings script) n ≡ Some b → map (pass_at script) (result_passes script n b) ≡ map (λ p. Some p) (passes_of script b)
-  result_are n b h =
-      by_test (has_variations script b.name) (λ e. rw e (λ i. nominal i ∷ varied_are n b h 0 (variations script) all_variations i)) (λ e. rw e (λ i. nominal i ∷ []))
-    where
-      nominal : pass_at script (numbered_pass n None) ≡ Some (record { result = b; under = None })
-      nominal = ap (option_map (λ (c : Booked). record { result = c; under = None })) h
+  result_are n b h = grind (arith, by_test, varied_are)
 
   -- the passes of the results that pass a test
   passes_are : (test : Booked → Bool) (n : ℕ) (bs : List Booked) → AreFrom (bookings script) n bs → map (pass_at script) (passes_from script test n bs) ≡ map (λ p. Some p) (loop_passes script (filter test bs))
@@ -56,9 +49,6 @@ module _ (script : List Statement) where
       (λ e. rw e (map-append (pass_at script) (result_passes script n b) (passes_from script test (suc n) bs) ∙ (λ i. result_are n b (first_of (bookings script) n b bs from) i ++ next i)
       ∙ sym (map-append (λ (p : Pass). Some p) (passes_of script b) (flat_map (passes_of script) (filter test bs)))))
       (λ e. rw e next)
-
-  from_before : (before : List Statement) → Extends before script → AreFrom (bookings script) 0 (bookings before)
-  from_before before e k b q = ap (slice_get (bookings script)) (zero-add k) ∙ booked_kept before script e k b q
 
   fills_append : (xs : List Access) (x : Access) → filter_map (λ (a : Access). a.fills) (xs ++ x ∷ []) ≡ filter_map (λ (a : Access). a.fills) xs ++ filter_map (λ (a : Access). a.fills) (x ∷ [])
   fills_append xs x = filter_map-append (λ (a : Access). a.fills) xs (x ∷ [])
@@ -80,21 +70,14 @@ module _ (script : List Statement) where
     where
       go : (b : Bool) → decoded (if b then [] else passes_from script (λ (b : Booked). not (among b.name (filled before))) 0 (bookings before) ∷ [])
           ≡ wanted (filter_map (λ (a : Access). a.fills) (record { result = result; fills = (if b then None else Some (waiting before)) } ∷ []))
-      go true = refl
-      go false = ap (λ x. x ∷ []) (passes_are (λ (b : Booked). not (among b.name (filled before))) 0 (bookings before) (from_before before (shorter (Print result) before script e)))
+      go b = grind (arith, passes_are, booked_kept, shorter)
   loops_are (s ∷ before) e = ap decoded (append-nil (loops script before)) ∙ loops_are before (shorter s before script e)
 
 -- ---- for each Print its loop
 
 loops_kept : (before after : List Statement) → Extends before after → (k : ℕ) (x : List Booked) → slice_get (loop_results before) k ≡ Some x → slice_get (loop_results after) k ≡ Some x
 loops_kept before after itself k x h = h
-loops_kept before after (further {after = c} s e) k x h = go s (loops_kept before c e k x h)
-  where
-    go : (s : Statement) → slice_get (loop_results c) k ≡ Some x → slice_get (loop_results (s ∷ c)) k ≡ Some x
-    go (Print result) q =
-        let a : Access = record { result = result; fills = filled_by c result } in
-        ap (λ (rs : List (List Booked)). slice_get rs k) (fills_append c (accesses c) a) ∙ kept_at (loop_results c) (filter_map (λ (b : Access). b.fills) (a ∷ [])) k x q
-    go s q = q
+loops_kept before after (further {after = c} s e) k x h = grind (arith, filter_map-append, kept_at, loops_kept before c e k x h)
 
 module _ (script : List Statement) where
   abbrev run_results : List (Option ℕ) → List (Option (List Booked))

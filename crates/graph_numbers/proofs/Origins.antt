@@ -37,9 +37,7 @@ module _ (header : List Column) (names : FunctionNames) (before : List Statement
   list_site_at : (i k l : ℕ) (es : List NamedTree) (e : NamedTree) → slice_get es l ≡ Some e
       → slice_get (list_sites header names before parent node i k es) l ≡ Some (site_in header names before parent (record { node = node; column = i; tag = k + l }) e)
   list_site_at i k l [] e h = cc h
-  list_site_at i k zero (x ∷ es) e h =
-      let at : k ≡ k + 0 = omega arith in let is : x ≡ e = cc h in
-      λ j. Some (site_in header names before parent (record { node = node; column = i; tag = at j }) (is j))
+  list_site_at i k zero (x ∷ es) e h = grind arith
   list_site_at i k (suc l) (x ∷ es) e h =
       let at : suc k + l ≡ k + suc l = omega arith in
       list_site_at i (suc k) l es e h ∙ (λ j. Some (site_in header names before parent (record { node = node; column = i; tag = at j }) e))
@@ -94,9 +92,7 @@ module _ {A : Type 0} (columns : List Column) (names : FunctionNames) (u : Under
   HasSource before c a = (src : Source) × (slice_get (sources columns names u before) c ≡ Some src) × IsGiven before src a
 
   given_later : (before after : List Statement) → Extends before after → (src : Source) (a : A) → IsGiven before src a → IsGiven after src a
-  given_later before after e (Source.Cell col) a h = h
-  given_later before after e (Source.Site t) a h = (h.0, site_kept columns names before after e t h.0 h.1, h.2)
-  given_later before after e (Source.Element t k tags) a h = (h.0, site_kept columns names before after e t h.0 h.1, h.2)
+  given_later before after e src a h = grind (arith, site_kept)
 
   pub source_later : (before after : List Statement) → Extends before after → (c : ℕ) (a : A) → HasSource before c a → HasSource after c a
   source_later before after e c a h = (h.0, source_kept columns names u before after e c h.0 h.1, given_later before after e h.0 a h.2)

@@ -1,8 +1,8 @@
 -- Filters, actions and reports by numbers are those of the paths.
-use Rattle.std.proofs.Common.{◌≡◌, ℕ, ◌+◌, Bool, true, false, List, [], ◌∷◌, ◌++◌, length, map, Option, Some, None, Ok, Err, Result, refl, sym, ◌∙◌, ap, arith, if◌then◌else◌}
+use Rattle.std.proofs.Common.{◌≡◌, ℕ, ◌+◌, false, List, [], ◌∷◌, ◌++◌, length, map, Option, Some, None, Ok, Err, Result, refl, sym, ap, arith, if◌then◌else◌}
 use Rattle.std.specs.Prelude.{⊤}
 use Rattle.std.proofs.lemmas.List.{append-nil}
-use Rattle.rdf_values.specs.{ActionKind, AreAccepted, bookings, check_columns, check_edges, check_node, check_passes, check_results, ColType, Column, column_kind, columns_of, fn_names, Function, GraphCause, makes, may_begin, NamedTree, parent_of, path, permitted_kinds, scope_at, scope_of, Statement, Under, Value}
+use Rattle.rdf_values.specs.{ActionKind, AreAccepted, bookings, check_columns, check_edges, check_node, check_passes, check_results, ColType, Column, column_kind, columns_of, fn_names, Function, GraphCause, may_begin, NamedTree, parent_of, path, permitted_kinds, scope_at, scope_of, Statement, Under, Value}
 use Rattle.rdf_values.specs.declared.scripts.statement.Statement.TheVariants.{Filter, Action}
 use Rattle.rdf_model.specs.{◌>>=◌, action_outcome, column_value, expression_value, feed_outcome, for_all, Gives, Outcome, site_at, Skip, through, truth_of}
 use Rattle.rdf_model.proofs.Accepted.{all_none}
@@ -14,17 +14,8 @@ use Rattle.graph_numbers.proofs.Equations.{number_value, version_value, source_i
 
 module _ {M : Type 0} (site : ℕ → Outcome M Value) where
   through_append : (ts : List ℕ) (s : ℕ) → through_sites site (ts ++ s ∷ []) ≡ (through_sites site ts >>= λ b. if b then (site s >>= truth_of) else Gives false)
-  through_append [] s = last (site s >>= truth_of)
-    where
-      last : (o : Outcome M Bool) → (o >>= λ b. if b then Gives true else Gives false) ≡ o
-      last (Gives true) = refl
-      last o = refl
-  through_append (t ∷ ts) s =
-      ap (λ r. site t >>= truth_of >>= λ b. if b then r else Gives false) (through_append ts s) ∙ step (site t >>= truth_of) (through_sites site ts)
-    where
-      step : (o r : Outcome M Bool) → (o >>= λ b. if b then (r >>= λ c. if c then (site s >>= truth_of) else Gives false) else Gives false) ≡ ((o >>= λ b. if b then r else Gives false) >>= λ c. if c then (site s >>= truth_of) else Gives false)
-      step (Gives true) r = refl
-      step o r = refl
+  through_append [] s = grind arith
+  through_append (t ∷ ts) s = grind (arith, through_append ts s)
 
 module _ (M : Type 0) (fns : List Function) (columns : List Column) (row : List Value) (u : Under) (before : List Statement) where
   abbrev numbered : ℕ → Outcome M Value
@@ -46,18 +37,14 @@ module _ (M : Type 0) (fns : List Function) (columns : List Column) (row : List 
       → through fns columns row {M = M} (path earlier (parent_of s)) u ≡ through_sites numbered (filter_sites columns (fn_names fns) earlier (parent_of s))
       → through fns columns row {M = M} (s ∷ path earlier (parent_of s)) u
       ≡ through_sites numbered (filter_sites columns (fn_names fns) earlier (parent_of s) ++ own_filter_site s (site_count columns (fn_names fns) earlier))
-  through_statement earlier (Filter node parent expr label) e h =
-      (λ i. h i >>= λ b. if b then (sym (at_filter earlier node parent expr label e) i >>= truth_of) else Gives false)
-      ∙ sym (through_append numbered (filter_sites columns (fn_names fns) earlier parent) (site_count columns (fn_names fns) earlier))
-  through_statement earlier s e h = h ∙ ap (through_sites numbered) (sym (append-nil (filter_sites columns (fn_names fns) earlier (parent_of s))))
+  through_statement earlier s e h = grind (arith, at_filter, through_append, append-nil)
 
   -- the filters above a node by the numbers of their sites
   pub through_is : (earlier : List Statement) → Extends earlier before → (node : List ℕ)
       → through fns columns row {M = M} (path earlier node) u ≡ through_sites numbered (filter_sites columns (fn_names fns) earlier node)
   through_is [] e node = refl
   through_is (s ∷ earlier) e node =
-      by_test (makes s node) (λ t. rw t (through_statement earlier s e (through_is earlier (shorter s earlier before e) (parent_of s))))
-      (λ t. rw t (through_is earlier (shorter s earlier before e) node))
+      grind (arith, by_test, through_statement, shorter, through_is earlier (shorter s earlier before e) (parent_of s), through_is earlier (shorter s earlier before e) node)
 
   -- ---- actions
 

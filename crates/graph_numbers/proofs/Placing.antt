@@ -1,7 +1,7 @@
 -- Where each site stands: after those of the statements before its own, over columns that are visible there.
-use Rattle.std.proofs.Common.{subst, ◌≡◌, ℕ, sym, zero, suc, ◌≤◌, List, [], ◌∷◌, length, map, Some, None, Ok, arith, nat_eq, slice_get}
+use Rattle.std.proofs.Common.{◌≡◌, ℕ, sym, zero, suc, ◌≤◌, List, [], ◌∷◌, length, map, Some, None, Ok, arith, nat_eq, slice_get}
 use Rattle.std.proofs.lemmas.Bool.Decides.{Decides-eqb}
-use Rattle.rdf_values.specs.{AreAccepted, callee, check, check_list, check_lists, check_node, check_vector_column, ColType, Column, column_kind, EachColumn, expect_kind, first_refusal, FunctionNames, GraphCause, kind_of, kind_or_int, NamedTree, refuse_unless, scope_at, scope_of, shape_of, Statement}
+use Rattle.rdf_values.specs.{AreAccepted, check, check_list, check_lists, check_vector_column, ColType, Column, column_kind, EachColumn, expect_kind, first_refusal, FunctionNames, GraphCause, kind_of, kind_or_int, NamedTree, refuse_unless, scope_at, scope_of, Statement}
 use Rattle.rdf_values.specs.declared.scripts.statement.Statement.TheVariants.{Define, Redefine, Filter, Vary}
 use Rattle.rdf_values.specs.declared.scripts.vary_values.VaryValues.TheVariants.{Lists, Vector}
 use Rattle.rdf_model.specs.{Site, site_at}
@@ -34,9 +34,7 @@ module _ (header : List Column) (names : FunctionNames) where
       → first_refusal (map (λ e. expect_kind t (kind_of (scope_at names (scope_of header) before parent) names e)) es) ≡ None
       → slice_get (list_sites header names before parent node i k es) l ≡ Some x → IsOwn before parent x
   list_own before parent node i k l t [] x ok h = cc h
-  list_own before parent node i k zero t (e ∷ es) x ok h =
-      let p = both_none (expect_kind t (kind_of (scope_at names (scope_of header) before parent) names e)) (map (λ e. expect_kind t (kind_of (scope_at names (scope_of header) before parent) names e)) es) ok in
-      (record { node = node; column = i; tag = k }, e, t, cc h, kind_expected t _ p.0)
+  list_own before parent node i k zero t (e ∷ es) x ok h = grind (arith, both_none, kind_expected)
   list_own before parent node i k (suc l) t (e ∷ es) x ok h =
       let p = both_none (expect_kind t (kind_of (scope_at names (scope_of header) before parent) names e)) (map (λ e. expect_kind t (kind_of (scope_at names (scope_of header) before parent) names e)) es) ok in
       list_own before parent node i (suc k) l t es x p.1 h
@@ -54,13 +52,9 @@ module _ (header : List Column) (names : FunctionNames) where
 
   -- the sites of a statement that was checked
   pub own_placed : (before : List Statement) (s : Statement) (k : ℕ) (x : SiteAt) → check names (scope_of header) before s ≡ None → slice_get (own_sites header names before s) k ≡ Some x → (parent : List ℕ) × IsOwn before parent x
-  own_placed before (Define node parent column expr) k x ok h =
-      let t = kind_known (kind_of (scope_at names (scope_of header) before parent) names expr) (checked_of names (scope_of header) before (Define node parent column expr) ok) in (parent, (site_at node, expr, t.0, sym (only_at _ x k h), t.1))
-  own_placed before (Redefine node parent column expr) k x ok h =
-      let t = kind_known (kind_of (scope_at names (scope_of header) before parent) names expr) (checked_of names (scope_of header) before (Redefine node parent column expr) ok) in (parent, (site_at node, expr, t.0, sym (only_at _ x k h), t.1))
-  own_placed before (Filter node parent expr label) k x ok h =
-      let all = all_none (check_node before node parent ∷ expect_kind ColType.Bool (kind_of (scope_at names (scope_of header) before parent) names expr) ∷ []) ok in
-      (parent, (site_at node, expr, ColType.Bool, sym (only_at _ x k h), kind_expected ColType.Bool _ all.1.0))
+  own_placed before (Define node parent column expr) k x ok h = grind (arith, kind_known, checked_of, only_at)
+  own_placed before (Redefine node parent column expr) k x ok h = grind (arith, kind_known, checked_of, only_at)
+  own_placed before (Filter node parent expr label) k x ok h = grind (arith, all_none, only_at, kind_expected)
   own_placed before (Vary node parent columns (Lists lists) tags vary) k x ok h =
       let c = checked_of names (scope_of header) before (Vary node parent columns (Lists lists) tags vary) ok in
       let p = both_none (refuse_unless (nat_eq (length lists) (length columns)) GraphCause.WrongCount) (check_lists names (scope_at names (scope_of header) before parent) (length tags) columns lists) c.1 in
@@ -99,8 +93,4 @@ module _ (header : List Column) (names : FunctionNames) where
   -- what holds of the version of each visible column holds of each that a placed site reads
   pub each_version : (Q : ℕ → Type 0) (before : List Statement) (s : ℕ) (x : SiteAt) (p : IsPlaced before s x)
       → ((c : List ℕ) (t : ColType) → column_kind (scope_at names (scope_of header) p.earlier p.parent) c ≡ Ok t → Q (version_at header p.earlier p.parent c)) → EachColumn Q x.tree
-  each_version Q before s x p f =
-      subst (λ (y : SiteAt). EachColumn Q y.tree) (sym p.is)
-      (each_renamed (version_at header p.earlier p.parent) (callee names) Q p.expr
-      (each_weaker (IsKnownColumn (column_kind (scope_at names (scope_of header) p.earlier p.parent)) (shape_of names)) _ (λ c k. f c k.0 k.1) p.expr
-      (known_columns (column_kind (scope_at names (scope_of header) p.earlier p.parent)) (shape_of names) p.expr p.kind p.typed)))
+  each_version Q before s x p f = grind (arith, each_renamed, each_weaker, IsKnownColumn, known_columns)

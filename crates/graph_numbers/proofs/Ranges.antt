@@ -2,7 +2,7 @@
 use Rattle.std.proofs.Common.{◌≡◌, ℕ, ◌<◌, ◌≤◌, List, [], ◌∷◌, ◌++◌, Some, sym, subst, arith, slice_get, length-append}
 use Rattle.std.proofs.lemmas.List.{append-nil}
 use Rattle.std.specs.List.{AllByRecursion}
-use Rattle.rdf_values.specs.{Column, FunctionNames, makes, parent_of, Statement}
+use Rattle.rdf_values.specs.{Column, FunctionNames, parent_of, Statement}
 use Rattle.rdf_values.specs.declared.scripts.statement.Statement.TheVariants.{Filter}
 use Rattle.graph_numbers.specs.{filter_sites, FilterAt, filters, own_filter_site, own_sites, site_count, sites}
 use Rattle.graph_numbers.proofs.Listed.{by_test}
@@ -32,8 +32,7 @@ module _ (header : List Column) (names : FunctionNames) where
   pub filter_sites_below : (before : List Statement) (node : List ℕ) → AreBelow (site_count header names before) (filter_sites header names before node)
   filter_sites_below [] node = tt
   filter_sites_below (s ∷ before) node =
-      by_test (makes s node) (λ e. rw e (own_below before s (filter_sites header names before (parent_of s)) (filter_sites_below before (parent_of s))))
-      (λ e. rw e (further_below _ _ (filter_sites header names before node) (more_sites before s) (filter_sites_below before node)))
+      grind (arith, by_test, own_below, further_below, more_sites, filter_sites_below before (parent_of s), filter_sites_below before node)
 
   pub filters_below : (before : List Statement) (n : ℕ) (f : FilterAt) → slice_get (filters header names before) n ≡ Some f → AreBelow (site_count header names before) f.sites
   filters_below =

@@ -4,7 +4,7 @@ use Rattle.std.proofs.lemmas.List.{length-append, length-map}
 use Rattle.lemmas.proofs.{kept_at, mapped_at}
 use Rattle.rdf_values.specs.{aliases, AreAccepted, check_target, ColType, Column, column_kind, EachColumn, first_refusal, FitsRow, fn_names, FunctionNames, kind_or_int, made_columns, makes, parent_of, path, place, same, scope_at, scope_of, Statement, target_of, Under, Value, visible_columns}
 use Rattle.rdf_values.specs.declared.scripts.statement.Statement.TheVariants.{Define, Redefine, Vary}
-use Rattle.rdf_model.specs.{column_value, Dataset, Faults, FitsOutcome, Gives, Needs, Outcome, with_needs}
+use Rattle.rdf_model.specs.{column_value, Dataset, FitsOutcome, Outcome, with_needs}
 use Rattle.rdf_model.proofs.Accepted.{passed_over, checked_of, target_is_none, visible_resolved, sound_path, column_fits}
 use Rattle.rdf_model.proofs.Typing.{same_ok}
 use Rattle.graph_numbers.specs.{column_place, named_version, own_columns, own_kinds, own_version, SiteAt, sites, version_at, version_count, version_kinds, version_or}
@@ -83,9 +83,7 @@ module _ (header : List Column) (names : FunctionNames) where
 -- ---- values
 
 needs_fit : (M : Type 0) (t : ColType) (o : Outcome ⊥ Value) → FitsOutcome t o → FitsOutcome t (with_needs {M = M} o)
-needs_fit M t (Gives v) h = h
-needs_fit M t (Faults k) h = tt
-needs_fit M t (Needs m) h = elim m [ ]
+needs_fit M t o h = grind arith
 
 module _ (d : Dataset) (row : List Value) (u : Under) (fits : FitsRow d.columns row) where
   -- the version has a kind, and comes to a value of it

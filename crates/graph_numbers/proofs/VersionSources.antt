@@ -3,7 +3,7 @@ use Rattle.std.proofs.Common.{◌≡◌, ℕ, zero, suc, ◌+◌, ◌<◌, Bool,
 use Rattle.std.proofs.lemmas.Option.{get_or_from_slice_get, slice_get_within}
 use Rattle.lemmas.proofs.{mapped_at, something_at}
 use Rattle.rdf_values.specs.{AreAccepted, check_target, Column, first_refusal, FunctionNames, GraphCause, is_alias, is_visible, own_variations, path, place, refuse_if, refuse_unless, same, scope_at, scope_of, Statement, target_of, Under, Variation, variations, VaryValues}
-use Rattle.rdf_values.specs.declared.scripts.statement.Statement.TheVariants.{Define, Redefine, Vary}
+use Rattle.rdf_values.specs.declared.scripts.statement.Statement.TheVariants.{Vary}
 use Rattle.rdf_values.specs.declared.scripts.vary_values.VaryValues.TheVariants.{Lists, Vector}
 use Rattle.rdf_model.specs.{own_place}
 use Rattle.rdf_model.proofs.Accepted.{all_none, both_none, checked_of, if_fails, itself as same_as_itself, names_equal, no_target, unless_holds, visible_known}
@@ -72,9 +72,7 @@ module _ (header : List Column) (names : FunctionNames) (script : List Statement
       same_place n w at false is k q = cc q
 
       found : (u : Option ℕ) (w : Under) → v ≡ u → under_at script u ≡ w → (k : ℕ) → own_place w vary tags ≡ Some k → (k < length tags) × (u ≡ Some (length (variations before) + k))
-      found None w p r k q = absurd (cc (sym q ∙ ap (λ (x : Under). own_place x vary tags) (sym r)))
-      found (Some n) None p r k q = cc q
-      found (Some n) (Some w) p r k q = let s = same_place n w r (same w.name vary) refl k q in (s.0, ap Some s.1)
+      found u w p r k q = grind (arith, same_place)
 
       none : own_place under vary tags ≡ None → (k : ℕ) → k < length tags → v ≡ Some (length (variations before) + k) → ⊥
       none q k lt is =
@@ -175,12 +173,7 @@ module _ (header : List Column) (names : FunctionNames) (script : List Statement
 
   own_said : (before : List Statement) (s : Statement) → AreAccepted names (scope_of header) (s ∷ before) → Extends (s ∷ before) script → (c : ℕ) (x : Version)
       → slice_get (own_versions header names before s) c ≡ Some x → HasSaid before (own_sources header names under before (list_of before) s) x c
-  own_said before (Define node parent column expr) ok e c x h = said_by_site before c x h
-  own_said before (Redefine node parent column expr) ok e c x h = said_by_site before c x h
-  own_said before (Vary node parent cs values tags vary) ok e c x h =
-      said_by_columns before ok.1 parent values tags vary (own_place_is before node parent cs values tags vary e) 0 c cs x
-      (checked_of names (scope_of header) before (Vary node parent cs values tags vary) ok.0).0 h
-  own_said before s ok e c x h = cc h
+  own_said before s ok e c x h = grind (arith, said_by_site, said_by_columns, own_place_is, checked_of)
 
   said : (before : List Statement) → AreAccepted names (scope_of header) before → Extends before script → (c : ℕ) (x : Version)
       → slice_get (versions header names before) c ≡ Some x → HasSaid before (list_of before) x c
