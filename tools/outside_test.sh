@@ -194,6 +194,8 @@ run dir a.csv
 judge "a folder as script" 3 "read failed: dir"
 run s.txt dir
 judge "a folder as table" 3 "read failed: dir"
+run s.txt a.csv/a.csv
+judge "a file for a folder" 3 "read failed: a.csv/a.csv"
 run bad.txt dir
 judge "a script that is refused before the table is read" 6 "script refused at line 1 place 13: S1 Syntax"
 run s.txt dir --slots 0

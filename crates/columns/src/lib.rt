@@ -21,6 +21,3 @@ pub use crate::kept::halves;
 pub use crate::over::Over;
 pub use crate::packing::{Packing, packings_are_tight};
 pub use crate::table_pieces::{PiecesParts, TablePieces};
-
-#[cfg(test)]
-mod tests;

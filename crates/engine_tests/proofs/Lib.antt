@@ -1,2 +1,1 @@
-mod Booked
 pub mod Fitting

@@ -97,39 +97,3 @@ pub fn scalar_answer(
     let answer = counted_scalar::<Brand>(Blank::new(1), &expr, cells, functions);
     Ok(Some(scalar_words(alloc, answer, cells)?))
 }
-
-// What the text comes to by both evaluators, where it isn't what is wanted.
-fn difference(
-    alloc: Global,
-    row: (&str, &str),
-    cells: &[Cell<'_>],
-    functions: &FnList,
-) -> Result<Option<String>, Fail> {
-    let (text, want) = row;
-    let value = value_answer(alloc, text, cells, functions)?;
-    if value.as_str() != want {
-        return Ok(Some(format!(in alloc; "{text} is {value}, not {want}; ")?));
-    }
-    match scalar_answer(alloc, text, cells, functions)? {
-        Some(scalar) if scalar.as_str() != want => {
-            Ok(Some(format!(in alloc; "{text} without vectors is {scalar}, not {want}; ")?))
-        }
-        _ => Ok(None),
-    }
-}
-
-/// The texts that don't come to what stands beside them, each with what it comes to.
-pub fn differences(
-    alloc: Global,
-    rows: &[(&str, &str)],
-    cells: &[Cell<'_>],
-    functions: &FnList,
-) -> Result<String, Fail> {
-    let mut words = String::new(alloc);
-    for row in rows {
-        if let Some(found) = difference(alloc, *row, cells, functions)? {
-            words.push_str(found.as_str())?;
-        }
-    }
-    Ok(words)
-}

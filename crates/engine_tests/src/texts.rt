@@ -1,7 +1,4 @@
-// What a text reads as, printed again, and what a checked expression reads.
-use crate::answer::checked;
-use crate::cells::{int, vect};
-use entry_fns::FnList;
+// What a text reads as, printed again.
 use expr_read::{print_expr, read_expr};
 use std::test::Fail;
 
@@ -41,20 +38,5 @@ fn prints_what_it_reads(rt: HostRuntime) -> Result<(), Fail> {
         let printed = print_expr(rt.alloc(), &expr)?;
         assert_eq!(rt; printed.as_bytes(), wanted.as_bytes(), "at {text}");
     }
-    Ok(())
-}
-
-// Columns are numbered by their places; each is read once, in the order of the text.
-#[test]
-fn reads_each_column_once_in_order(rt: HostRuntime) -> Result<(), Fail> {
-    let alloc = rt.alloc();
-    let cells = [int("j", 0), vect("v", &[]), int("i", 0)];
-    let functions = FnList::new(alloc);
-    let sum = checked(alloc, "i + j * i", &cells, &functions)?;
-    assert_eq!(rt; sum.reads(), [2, 0].as_slice());
-    assert!(rt; sum.plain());
-    let size = checked(alloc, "7 + Size(v)", &cells, &functions)?;
-    assert_eq!(rt; size.reads(), [1].as_slice());
-    assert!(rt; !size.plain());
     Ok(())
 }

@@ -1,23 +1,8 @@
 // Answers in words.
 use crate::cells::Cell;
-use expr_check::CheckRefusal;
 use expr_eval::{EvalStop, ScalarStop};
-use expr_read::ExprRefusal;
-use rdf_values::{EntryFault, ExprCause, Scalar, Value};
+use rdf_values::{Scalar, Value};
 use std::alloc::{AllocError, Global};
-
-fn fault_words(fault: EntryFault) -> &'static str {
-    match fault {
-        EntryFault::Overflow => "F1 Overflow",
-        EntryFault::ZeroDivisor => "F2 ZeroDivisor",
-        EntryFault::Index => "F3 Index",
-        EntryFault::EmptyVector => "F4 EmptyVector",
-        EntryFault::Lengths => "F5 Lengths",
-        EntryFault::VaryCount => "F6 VaryCount",
-        EntryFault::Weight => "F7 Weight",
-        EntryFault::Function => "F8 Function",
-    }
-}
 
 // The need of a column, by its name.
 fn need_words(alloc: Global, number: u32, cells: &[Cell<'_>]) -> Result<String, AllocError> {
@@ -49,7 +34,7 @@ pub fn value_words(
         Ok(Value::Int(number)) => format!(in alloc; "{number}"),
         Ok(Value::Bool(truth)) => format!(in alloc; "{truth}"),
         Ok(Value::Vect(elements)) => vector_words(alloc, elements.as_slice()),
-        Err(EvalStop::Fault(fault)) => String::from_str(alloc, fault_words(fault)),
+        Err(EvalStop::Fault(fault)) => format!(in alloc; "{fault:?}"),
         Err(EvalStop::Need(number)) => need_words(alloc, number, cells),
         Err(EvalStop::Memory) => String::from_str(alloc, "memory"),
     }
@@ -64,7 +49,7 @@ pub fn scalar_words(
     match answer {
         Ok(Scalar::Int(number)) => format!(in alloc; "{number}"),
         Ok(Scalar::Bool(truth)) => format!(in alloc; "{truth}"),
-        Err(ScalarStop::Fault(fault)) => String::from_str(alloc, fault_words(fault)),
+        Err(ScalarStop::Fault(fault)) => format!(in alloc; "{fault:?}"),
         Err(ScalarStop::Need(number)) => need_words(alloc, number, cells),
     }
 }

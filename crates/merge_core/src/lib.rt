@@ -18,6 +18,3 @@ pub use crate::merge::merge_all;
 pub use crate::noted::{Noted, Trail, TrailList};
 pub use crate::piece::Piece;
 pub use crate::refusal::{ReplayRefusal, StepRefusal};
-
-#[cfg(test)]
-mod tests;

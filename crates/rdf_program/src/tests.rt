@@ -10,7 +10,6 @@ use std::test::Fail;
 use std::thread::Threads;
 
 mod faults;
-mod friends;
 mod functions;
 mod side_by_side;
 
@@ -24,14 +23,12 @@ const TWO_FILES: &[&str] = &["s.txt", "a.csv"];
 // The room of an output.
 const ROOM: usize = 4_000;
 
-// A script over a table, with the words after the names of the files, what is written and the status.
+// A script over a table, with the words after the names of the files.
 #[derive(Clone, Copy)]
 struct Case {
     script: &'static str,
     table: &'static str,
     options: &'static [&'static str],
-    output: &'static str,
-    status: Status,
 }
 
 fn words_of(alloc: Global, words: &[&str], options: &[&str]) -> Result<WordList, Fail> {

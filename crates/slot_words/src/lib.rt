@@ -27,6 +27,3 @@ pub use crate::lines::partial_lines;
 pub use crate::orders::Orders;
 pub use crate::seat::{ClaimSeat, SeatList};
 pub use crate::share::{Share, ShareList};
-
-#[cfg(test)]
-mod tests;

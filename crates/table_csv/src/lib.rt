@@ -19,10 +19,3 @@ pub use crate::marked_pieces::{Marked, MarkedPieces};
 pub use crate::packed::read_columns;
 pub use crate::refusal::TableRefusal;
 pub use crate::slots::read_table_in_slots;
-
-#[cfg(test)]
-mod tests;
-#[cfg(test)]
-mod tests_parts;
-#[cfg(test)]
-mod tests_slots;

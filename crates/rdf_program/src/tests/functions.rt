@@ -5,14 +5,21 @@ ghost use Rattle.entry_fns.specs.{square_of};
 use super::*;
 use entry_fns::shipped::Square;
 use entry_fns::{Closure, Stored};
-use rdf_values::{Memory, Name};
+use rdf_values::Name;
 use std::sync::Arc;
 use std::sync::atomic::{AtomicU64, Ordering};
 
-pub(super) fn name(alloc: Global, bytes: &[u8]) -> Result<Name, Memory> {
-    match Name::read(alloc, bytes)? {
-        Some(name) => Ok(name),
-        None => Err(Memory),
+// Adds the function under that name.
+pub(super) fn add(
+    alloc: Global,
+    functions: &mut FnList,
+    name: &[u8],
+    function: Stored,
+) -> Result<(), Fail> {
+    let name = Name::read(alloc, name)?.ok_or("no name")?;
+    match functions.add(name, function) {
+        Ok(()) => Ok(()),
+        Err(_) => Err(Fail::from("not added")),
     }
 }
 
@@ -50,12 +57,12 @@ fn counted_closure(rt: HostRuntime) -> Result<(), Fail> {
             Square::answer(args)
         },
     )?;
-    if functions
-        .add(name(alloc, b"square")?, Stored::new::<Square>(square))
-        .is_err()
-    {
-        return Err(Fail::from("not added"));
-    }
+    add(
+        alloc,
+        &mut functions,
+        b"square",
+        Stored::new::<Square>(square),
+    )?;
     for (script, table, output, demanded, most) in [
         (SHARED, TABLE, "s = 15\nt = 15\nm = 9\nn = 2\n", 4, 4),
         (VARIED, NUMBERS, UNDER_VARIATIONS, 34, 68),
@@ -65,14 +72,12 @@ fn counted_closure(rt: HostRuntime) -> Result<(), Fail> {
             script,
             table,
             options: &["--slots", "1"],
-            output,
-            status: Status::Done,
         };
         let before = calls.load(Ordering::SeqCst);
         let (status, sink) = run(&rt, alloc, &case, &functions, &OpenGate)?;
         let called = calls.load(Ordering::SeqCst).wrapping_sub(before);
-        assert!(rt; status == case.status);
-        assert_eq!(rt; sink.bytes(), case.output.as_bytes());
+        assert!(rt; status == Status::Done);
+        assert_eq!(rt; sink.bytes(), output.as_bytes());
         assert!(rt; demanded <= called && called <= most, "{called} calls");
     }
     Ok(())

@@ -3,10 +3,9 @@ ghost use Rattle.std.specs.Prelude.{◌≡◌, length, slice_get};
 ghost use Rattle.entry_fns.specs.{square_of};
 
 use super::*;
-use crate::tests::functions::name;
+use crate::tests::functions::add;
 use entry_fns::shipped::Square;
 use entry_fns::{Closure, Rule, Stored};
-use rdf_values::Text;
 use std::sync::Arc;
 use std::sync::atomic::{AtomicBool, AtomicU64, Ordering};
 
@@ -16,60 +15,14 @@ const TURNS: u32 = 1_000_000_000;
 // How often it looks after the fault was met: some milliseconds.
 const LATER_TURNS: u32 = 10_000_000;
 
-const FIRST: u64 = 0;
-
-// It holds the first slot that comes until another one had a turn.
-#[derive(Drop)]
-struct FirstWaits {
-    // The slot that came first, plus 1.
-    first: AtomicU64,
-    other_came: AtomicBool,
-    released: AtomicBool,
-}
-
-impl Gate for FirstWaits {
-    fn turn(&self, slot: u32, _cluster: u32) {
-        let own = slot as u64 + 1;
-        let first = match self
-            .first
-            .compare_exchange(FIRST, own, Ordering::SeqCst, Ordering::SeqCst)
-        {
-            Ok(_) => own,
-            Err(first) => first,
-        };
-        if first != own {
-            self.other_came.store(true, Ordering::SeqCst);
-            return;
-        }
-        for _ in 0..TURNS {
-            if self.other_came.load(Ordering::SeqCst) {
-                self.released.store(true, Ordering::SeqCst);
-                return;
-            }
+// Whether the flag was set before it gave up.
+fn was_set(flag: &AtomicBool) -> bool {
+    for _ in 0..TURNS {
+        if flag.load(Ordering::SeqCst) {
+            return true;
         }
     }
-}
-
-#[test]
-fn two_slots_at_once(rt: HostRuntime) -> Result<(), Fail> {
-    let case = Case {
-        script: COUNT,
-        table: TABLE,
-        options: &["--slots", "2", "--cluster", "1"],
-        output: "n = 4\n",
-        status: Status::Done,
-    };
-    let gate = FirstWaits {
-        first: AtomicU64::new(FIRST),
-        other_came: AtomicBool::new(false),
-        released: AtomicBool::new(false),
-    };
-    let functions = FnList::new(rt.alloc());
-    let (status, sink) = run(&rt, rt.alloc(), &case, &functions, &gate)?;
-    assert!(rt; status == case.status);
-    assert_eq!(rt; sink.bytes(), case.output.as_bytes());
-    assert!(rt; gate.released.load(Ordering::SeqCst));
-    Ok(())
+    false
 }
 
 // A function that answers its argument.
@@ -86,21 +39,19 @@ impl Rule for Same {
 // It holds the first call until a second one has begun.
 #[derive(Drop)]
 struct Meeting {
-    begun: AtomicU64,
+    first_came: AtomicBool,
+    second_came: AtomicBool,
     released: AtomicBool,
 }
 
 impl Meeting {
     fn call(&self) {
-        if self.begun.fetch_add(1, Ordering::SeqCst) > 0 {
+        if self.first_came.swap(true, Ordering::SeqCst) {
+            self.second_came.store(true, Ordering::SeqCst);
             return;
         }
-        for _ in 0..TURNS {
-            if self.begun.load(Ordering::SeqCst) > 1 {
-                self.released.store(true, Ordering::SeqCst);
-                return;
-            }
-        }
+        self.released
+            .store(was_set(&self.second_came), Ordering::SeqCst);
     }
 }
 
@@ -111,7 +62,8 @@ fn two_slots_evaluate_at_once(rt: HostRuntime) -> Result<(), Fail> {
     let meeting = Arc::new(
         alloc,
         Meeting {
-            begun: AtomicU64::new(0),
+            first_came: AtomicBool::new(false),
+            second_came: AtomicBool::new(false),
             released: AtomicBool::new(false),
         },
     )?;
@@ -128,19 +80,15 @@ fn two_slots_evaluate_at_once(rt: HostRuntime) -> Result<(), Fail> {
     )?;
     let stored = Stored::new::<Same>(meet);
     let mut functions = FnList::new(alloc);
-    if functions.add(name(alloc, b"meet")?, stored).is_err() {
-        return Err(Fail::from("not added"));
-    }
+    add(alloc, &mut functions, b"meet", stored)?;
     let case = Case {
         script: "d = df.Define(\"z\", \"meet(w)\")\ns = d.Sum(\"z\")\nPrint(s)\n",
         table: TABLE,
         options: &["--slots", "2", "--cluster", "1"],
-        output: "s = 1\n",
-        status: Status::Done,
     };
     let (status, sink) = run(&rt, alloc, &case, &functions, &OpenGate)?;
-    assert!(rt; status == case.status);
-    assert_eq!(rt; sink.bytes(), case.output.as_bytes());
+    assert!(rt; status == Status::Done);
+    assert_eq!(rt; sink.bytes(), b"s = 1\n".as_slice());
     assert!(rt; meeting.released.load(Ordering::SeqCst));
     Ok(())
 }
@@ -157,14 +105,9 @@ impl Gate for FirstClusterWaits {
         if cluster == 3 {
             self.last_came.store(true, Ordering::SeqCst);
         }
-        if cluster != 0 {
-            return;
-        }
-        for _ in 0..TURNS {
-            if self.last_came.load(Ordering::SeqCst) {
-                self.released.store(true, Ordering::SeqCst);
-                return;
-            }
+        if cluster == 0 {
+            self.released
+                .store(was_set(&self.last_came), Ordering::SeqCst);
         }
     }
 }
@@ -175,8 +118,6 @@ fn held_cluster_comes_late(rt: HostRuntime) -> Result<(), Fail> {
         script: "n = df.Count()\nWatch(n)\nPrint(n)\n",
         table: TABLE,
         options: &["--slots", "2", "--cluster", "1", "--watch", "1"],
-        output: "partial n over 1 = 1\npartial n over 1-2 = 2\n",
-        status: Status::Done,
     };
     let gate = FirstClusterWaits {
         last_came: AtomicBool::new(false),
@@ -184,8 +125,11 @@ fn held_cluster_comes_late(rt: HostRuntime) -> Result<(), Fail> {
     };
     let functions = FnList::new(rt.alloc());
     let (status, sink) = run(&rt, rt.alloc(), &case, &functions, &gate)?;
-    assert!(rt; status == case.status);
-    assert!(rt; sink.bytes().starts_with(case.output.as_bytes()));
+    assert!(rt; status == Status::Done);
+    assert!(rt;
+        sink.bytes()
+            .starts_with(b"partial n over 1 = 1\npartial n over 1-2 = 2\n")
+    );
     assert!(rt; gate.released.load(Ordering::SeqCst));
     Ok(())
 }
@@ -203,11 +147,7 @@ impl Gate for FaultIsMet {
         if cluster == 0 {
             return;
         }
-        for _ in 0..TURNS {
-            if self.met.load(Ordering::SeqCst) {
-                break;
-            }
-        }
+        was_set(&self.met);
         let mut met = 0_u64;
         for _ in 0..LATER_TURNS {
             if self.met.load(Ordering::SeqCst) {
@@ -221,14 +161,8 @@ impl Gate for FaultIsMet {
 // The square of the first entry is no number of 64 bits.
 const OVERFLOWING: i64 = 4_000_000_000;
 
-fn hundred_entries(alloc: Global) -> Result<Text, Fail> {
-    let mut table = Text::new(alloc);
-    table.extend(b"x:int\n4000000000\n")?;
-    for _ in 1..100 {
-        table.extend(b"1\n")?;
-    }
-    Ok(table)
-}
+const THIRTY_ENTRIES: &str =
+    "x:int\n4000000000\n1\n1\n1\n1\n1\n1\n1\n1\n1\n1\n1\n1\n1\n1\n1\n1\n1\n1\n1\n1\n1\n1\n1\n1\n1\n1\n1\n1\n1\n";
 
 #[test]
 fn bar_is_lowered(rt: HostRuntime) -> Result<(), Fail> {
@@ -248,26 +182,22 @@ fn bar_is_lowered(rt: HostRuntime) -> Result<(), Fail> {
         },
     )?;
     let mut functions = FnList::new(alloc);
-    if functions
-        .add(name(alloc, b"square")?, Stored::new::<Square>(square))
-        .is_err()
-    {
-        return Err(Fail::from("not added"));
-    }
+    add(
+        alloc,
+        &mut functions,
+        b"square",
+        Stored::new::<Square>(square),
+    )?;
     let gate = FaultIsMet {
         met,
         turns: AtomicU64::new(0),
     };
-    let table = hundred_entries(alloc)?;
-    let script = "f = df.Filter(\"square(x) > 0\")\nn = f.Count()\nPrint(n)\n";
-    let words = words_of(alloc, TWO_FILES, &["--slots", "2", "--cluster", "1"])?;
-    let mut shelf = shelf_of(alloc, script.as_bytes(), table.as_bytes())?;
-    let mut sink = MemorySink::new(alloc, ROOM)?;
-    let host = Host {
-        rt: &rt,
-        gate: &gate,
+    let case = Case {
+        script: "f = df.Filter(\"square(x) > 0\")\nn = f.Count()\nPrint(n)\n",
+        table: THIRTY_ENTRIES,
+        options: &["--slots", "2", "--cluster", "1"],
     };
-    let status = rdf_top(&host, alloc, &words, &mut shelf, &mut sink, &functions);
+    let (status, sink) = run(&rt, alloc, &case, &functions, &gate)?;
     assert!(rt; status == Status::LoopFault);
     assert_eq!(rt;
         sink.bytes(),

@@ -1,7 +1,7 @@
 use Rattle.std.proofs.Common.{refl}
 use Rattle.entry_fns.proofs.Made.{boxed_answers}
-use Rattle.engine_tests.proofs.calls.each_call_that_is_met_calls_the_closure_once.OwnLists.{own-1, at-1-1, at-1-2}
-use Rattle.engine_tests.proofs.calls.each_call_that_is_met_calls_the_closure_once.Goals as goal
+use Rattle.engine_tests.proofs.calls.what_is_met_is_called_once_or_needed.OwnLists.{own-1, at-1-1, at-1-2}
+use Rattle.engine_tests.proofs.calls.what_is_met_is_called_once_or_needed.Goals as goal
 
 pub new-requires-4-clause-can : goal.new-requires-4-clause-can
 new-requires-4-clause-can g c = λ args e. boxed_answers own-1 at-1-1 _ _ _ c.into_dyn_box.ensures.1 _ _ refl
