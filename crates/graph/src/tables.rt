@@ -61,6 +61,13 @@ pub struct Tables {
     pub variations: Variations,
 }
 
+/// The kinds of the table's columns.
+fn kinds_of(alloc: Global, header: &[Column]) -> Result<Vec<ColType>, Memory>
+    ensures { IfOk result (λ kinds. kinds.items ≡ map (λ c. c.kind) header.now) }
+{
+    Ok(header.iter().map(|column| column.kind).collect(alloc)?)
+}
+
 /// An empty set for each of the table's columns.
 #[tactic(auto, using(crate::proofs::Listing::one_more))]
 fn push_empty_sets(sets: &mut Vec<VarSet>, header: &[Column]) -> Result<(), Memory>
@@ -90,14 +97,18 @@ impl Tables {
     {
         let mut versions = Vec::new(alloc);
         push_cells(&mut versions, 0, header)?;
-        let kinds = header.iter().map(|column| column.kind).collect(alloc)?;
+        let kinds = kinds_of(alloc, header)?;
         let mut version_sets = Vec::new(alloc);
         push_empty_sets(&mut version_sets, header)?;
         Ok(Tables {
             versions,
             kinds,
             version_sets,
-            ..Tables::empty(alloc)
+            sites: Vec::new(alloc),
+            site_sets: Vec::new(alloc),
+            filters: Vec::new(alloc),
+            results: Vec::new(alloc),
+            variations: Variations::new(alloc),
         })
     }
 
