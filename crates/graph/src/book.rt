@@ -14,7 +14,7 @@ use crate::refusals::{GraphRefusal, Stop, first_of, refuse_unless, stop_if};
 use crate::result_checks::{
     check_action, check_print, check_report, check_variations_for, check_watch,
 };
-use crate::sets::{push_changed, sets_of};
+use crate::sets::{kinds_at, push_changed, sets_of};
 use crate::tables::{Change, ResultRow, Tables};
 use crate::variations::full_names;
 use crate::vary_checks::check_vary;
@@ -269,10 +269,7 @@ fn varied_gain(
     let tags = change.tags.len() as u32;
     let mut versions = Vec::new(before.alloc);
     push_varied(&mut versions, before, change, 0, columns)?;
-    let kinds = columns
-        .iter()
-        .map(|column| before.kind_at(change.parent, column))
-        .collect(before.alloc)?;
+    let kinds = kinds_at(before, change.parent, columns)?;
     let mut version_sets = Vec::new(before.alloc);
     push_changed(before, change.parent, tags, columns, &mut version_sets)?;
     let sets = before.tables.version_sets.as_slice();

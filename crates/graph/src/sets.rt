@@ -183,3 +183,15 @@ pub(crate) fn push_changed(
     sets.push(changed_set(before, parent, tags, column))?;
     push_changed(before, parent, tags, rest, sets)
 }
+
+/// The kinds of columns at a node, and that of a number where there is none.
+pub(crate) fn kinds_at(
+    before: &Before<'_>,
+    parent: &Name,
+    columns: &[Name],
+) -> Result<Vec<ColType>, Memory>
+    ensures { IfOk result (λ found. found.items ≡ map (λ c. kind_or_int (column_kind (scope_before before.now parent.now) c)) columns.now) }
+{
+    let kinds = columns.iter().map(|column| before.kind_at(parent, column));
+    Ok(kinds.collect(before.alloc)?)
+}
