@@ -1,7 +1,6 @@
 -- What accepted statements add to the tables, which is what the numbers of the script say.
 use Rattle.std.proofs.Common.{◌≡◌, ℕ, suc, ◌+◌, ◌||◌, List, [], ◌∷◌, ◌++◌, map, length, Some, refl, sym, ◌∙◌, ap, ◌≤◌, Option, None, Result, Ok, Err, IfOk, OnOk, subst, arith}
 use Rattle.rdf_values.specs.{Column, FunctionNames, path, Statement, variations, VaryValues, Booked, booked_by, bookings, check, check_node, check_target, ColType, first_refusal, GraphCause, is_visible, kind_of, kind_or_int, NamedTree, own_variations, refusal_in, refuse_if, scope_at, scope_of}
-use Rattle.rdf_values.specs.declared.scripts.vary_values.VaryValues.TheVariants.{Lists, Vector}
 use Rattle.rdf_values.specs.declared.scripts.statement.Statement.TheVariants.{Define, Redefine, Filter, Vary}
 use Rattle.graph_numbers.specs.{FilterAt, named_version, own_filters, own_results, own_versions, filters, list_sites, lists_sites, own_kinds, own_sites, results, site_in, SiteAt, sites, version_kinds}
 use Rattle.graph.specs.{result_path, all_expressions, AllCheckedAt, AreRows, AreSets, AreSites, AreTables, changed_set, Decides, Gives, GrowBy, is_among_own, IsBookedRow, IsCheckedAt, IsEmptyGain, IsFilterGain, IsGain, IsMadeGain, IsRow, IsRowGain, IsSet, IsSite, IsVaryGain, named_rows, Numbers, own_result_sets, own_site_sets, own_version_sets, paths, read_sets, result_sets, site_set, site_sets, value_expressions, varied_set, VarSet, version_sets}

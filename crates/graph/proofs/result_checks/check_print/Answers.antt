@@ -1,5 +1,5 @@
-use Rattle.std.proofs.Common.{[], ◌∷◌, ◌∙◌, ap, refl, subst, sym}
-use Rattle.rdf_values.specs.{bookings, first_refusal, GraphCause, refuse_if, printed_results}
+use Rattle.std.proofs.Common.{[], ◌∷◌, ◌∙◌, refl, subst, sym}
+use Rattle.rdf_values.specs.{bookings, first_refusal, printed_results}
 use Rattle.rdf_values.specs.declared.scripts.statement.Statement.TheVariants.{Print}
 use Rattle.graph.specs.{printed_rows, statements}
 use Rattle.graph.proofs.Counting.{AllPassed, passes_checked, printed_with, rows_passed}

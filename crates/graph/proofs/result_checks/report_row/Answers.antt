@@ -1,6 +1,5 @@
 use Rattle.std.proofs.Common.{[], ◌∷◌, ◌∙◌, ap, arith, length, refl}
 use Rattle.std.proofs.lemmas.List.{length-map}
-use Rattle.rdf_values.specs.{Line}
 use Rattle.graph_numbers.specs.{ResultKind}
 use Rattle.graph.specs.{statements}
 use Rattle.graph.proofs.SiteTotals.{filters_are, filters_few}
