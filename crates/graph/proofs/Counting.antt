@@ -1,13 +1,13 @@
 -- Counts over the passes of results, by their rows.
-use Rattle.std.proofs.Common.{◌≡◌, ℕ, zero, suc, ◌+◌, ◌*◌, ◌≤◌, Bool, true, false, List, [], ◌∷◌, ◌++◌, length, Option, Some, None, slice_get, nat_lt, if◌then◌else◌, refl, sym, ◌∙◌, ap, subst, arith, ◌<◌, ◌||◌, map, take, Decides}
+use Rattle.std.proofs.Common.{◌≡◌, ℕ, zero, suc, ◌+◌, ◌*◌, ◌≤◌, Bool, false, List, [], ◌∷◌, ◌++◌, length, Option, Some, None, slice_get, nat_lt, if◌then◌else◌, refl, sym, ◌∙◌, ap, subst, arith, ◌<◌, ◌||◌, map, take, Decides}
 use Rattle.std.specs.List.{sum_by, filter, AllZip}
 use Rattle.std.proofs.lemmas.List.{append-nil, length-map, length-append}
 use Rattle.std.proofs.lemmas.List.Sums.{sum_by-cons}
-use Rattle.rdf_values.specs.{ActionAt, ActionKind, AreAccepted, Booked, Booking, bookings, cells_of, check, check_columns, check_node, check_passes, check_tags, check_target, check_values, Column, columns_of, first_refusal, FunctionNames, GraphCause, has_variations, is_variation_name, over_passes, own_variations, Pass, passes_of, path, permitted_kinds, printed_results, refuse_if, repeats, result_depends, results_named, same, scope_at, scope_of, Statement, takes_of, Variation, variations, varied_passes, VaryValues}
+use Rattle.rdf_values.specs.{ActionAt, ActionKind, AreAccepted, Booked, Booking, bookings, cells_of, check, check_columns, check_node, check_passes, check_tags, check_target, check_values, Column, columns_of, first_refusal, FunctionNames, GraphCause, is_variation_name, over_passes, own_variations, passes_of, path, permitted_kinds, printed_results, refuse_if, repeats, result_depends, results_named, same, scope_at, scope_of, Statement, takes_of, Variation, variations, varied_passes, VaryValues}
 use Rattle.rdf_values.specs.declared.scripts.statement.Statement.TheVariants.{Action, Report, Print, Vary}
 use Rattle.rdf_values.specs.declared.scripts.graph_cause.GraphCause.TheVariants.{TooMany}
 use Rattle.graph_numbers.specs.{filter_sites, holds_at, version_at}
-use Rattle.graph.specs.{action_set, any_has, AreRows, AreTables, depends_at, front, has, IsAmount, IsBookedRow, IsRow, IsSet, members_below, Numbers, printed_rows, result_sets, row_passes, rows_named, site_sets, VarSet}
+use Rattle.graph.specs.{action_set, any_has, AreRows, AreTables, depends_at, front, has, IsAmount, IsBookedRow, IsRow, IsSet, members_below, Numbers, printed_rows, result_sets, row_passes, rows_named, VarSet}
 use Rattle.graph.specs.declared.amounts.Amounts.{Amounts}
 use Rattle.graph.specs.declared.tables.ResultRow.{ResultRow}
 use Rattle.graph.proofs.Listing.{zip_both, zip_by, sets_any, row_set}

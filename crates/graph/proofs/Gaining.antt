@@ -1,10 +1,9 @@
 -- What accepted statements add to the tables, which is what the numbers of the script say.
 use Rattle.std.proofs.Common.{◌≡◌, ℕ, suc, ◌+◌, ◌||◌, List, [], ◌∷◌, ◌++◌, map, length, Some, refl, sym, ◌∙◌, ap, ◌≤◌, Option, None, Result, Ok, Err, IfOk, OnOk, subst, arith}
 use Rattle.rdf_values.specs.{Column, FunctionNames, path, Statement, variations, VaryValues, Booked, booked_by, bookings, check, check_node, check_target, ColType, first_refusal, GraphCause, is_visible, kind_of, kind_or_int, NamedTree, own_variations, refusal_in, refuse_if, scope_at, scope_of}
-use Rattle.rdf_values.specs.declared.scripts.vary_values.VaryValues.TheVariants.{Lists, Vector}
-use Rattle.rdf_values.specs.declared.scripts.statement.Statement.TheVariants.{Define, Redefine, Filter, Vary, Report}
+use Rattle.rdf_values.specs.declared.scripts.statement.Statement.TheVariants.{Define, Redefine, Filter, Vary}
 use Rattle.graph_numbers.specs.{FilterAt, named_version, own_filters, own_results, own_versions, filters, list_sites, lists_sites, own_kinds, own_sites, results, site_in, SiteAt, sites, version_kinds}
-use Rattle.graph.specs.{result_path, all_expressions, AllCheckedAt, AreRows, AreSets, AreSites, AreTables, changed_set, Decides, Gives, GrowBy, is_among_own, IsBookedRow, IsCheckedAt, IsEmptyGain, IsFilterGain, IsGain, IsMadeGain, IsReportGain, IsRow, IsRowGain, IsSet, IsSite, IsVaryGain, named_rows, Numbers, own_result_sets, own_site_sets, own_version_sets, paths, read_sets, result_sets, site_set, site_sets, value_expressions, varied_set, VarSet, version_sets}
+use Rattle.graph.specs.{result_path, all_expressions, AllCheckedAt, AreRows, AreSets, AreSites, AreTables, changed_set, Decides, Gives, GrowBy, is_among_own, IsBookedRow, IsCheckedAt, IsEmptyGain, IsFilterGain, IsGain, IsMadeGain, IsRow, IsRowGain, IsSet, IsSite, IsVaryGain, named_rows, Numbers, own_result_sets, own_site_sets, own_version_sets, paths, read_sets, result_sets, site_set, site_sets, value_expressions, varied_set, VarSet, version_sets}
 use Rattle.std.proofs.lemmas.List.{length-append, map-append}
 use Rattle.std.proofs.lemmas.List.Elements.{All-weaker}
 use Rattle.lemmas.proofs.{kept_at}
@@ -12,7 +11,6 @@ use Rattle.rdf_model.specs.{Site, site_at}
 use Rattle.expr_check.specs.{CheckedExpr}
 use Rattle.graph.specs.declared.refusals.Stop.{Stop}
 use Rattle.graph.specs.declared.tables.Change.{Change}
-use Rattle.graph.specs.declared.tables.Gain.{Gain}
 use Rattle.graph.specs.declared.tables.ResultRow.{ResultRow}
 use Rattle.graph.specs.declared.tables.Tables.{Tables}
 use Rattle.graph.proofs.Counting.{few_variations}
@@ -46,7 +44,7 @@ module _ (header : List Column) (names : FunctionNames) (before : List Statement
   -- ---- gains
 
   -- an accepted statement adds what it gives, where the sets that were read are those on which its versions and sites depend
-  pub gained : (s : Statement) (g : Gain) {types : List ColType} {ds es : List Numbers} {cs : List CheckedExpr} {rs : List ResultRow} → check names (scope_of header) before s ≡ None
+  pub gained : (s : Statement) (g : Tables) {types : List ColType} {ds es : List Numbers} {cs : List CheckedExpr} {rs : List ResultRow} → check names (scope_of header) before s ≡ None
       → Gives (own_versions header names before s) types ds cs es (map (λ (f : FilterAt). f.sites) (own_filters header names before s)) rs (own_variations s) g → types ≡ own_kinds header names before s
       → ((out : List VarSet) → AreSets ds out → AreSets (own_version_sets header names before (version_sets header names before) s) out)
       → ((out : List VarSet) → AreSets es out → AreSets (own_site_sets header names before s) out)
@@ -66,16 +64,25 @@ module _ (header : List Column) (names : FunctionNames) (before : List Statement
   }
 
   -- what asks for something of a result adds nothing
-  pub nothing_gained : (s u : Statement) (r : Result Gain Stop) → s ≡ u → Decides (check names (scope_of header) before u) r → IfOk r IsEmptyGain
-      → ((g : Gain) → check names (scope_of header) before u ≡ None → IsEmptyGain g → IsGain header names before u g) → IfOk r (IsGain header names before s)
+  pub nothing_gained : (s u : Statement) (r : Result Tables Stop) → s ≡ u → Decides (check names (scope_of header) before u) r → IfOk r IsEmptyGain
+      → ((g : Tables) → check names (scope_of header) before u ≡ None → IsEmptyGain g → IsGain header names before u g) → IfOk r (IsGain header names before s)
   nothing_gained s u (Ok g) is d e f = subst (λ x. IsGain header names before x g) (sym is) (f g d e)
   nothing_gained s u (Err e) is d h f = tt
+
+  -- the row of a result alone is what an accepted statement adds that books it
+  pub row_gained : (s u : Statement) (row : Result ResultRow Stop) (r : Result Tables Stop) → s ≡ u → ((x : ResultRow) → row ≡ Ok x → IfOk r (IsRowGain x)) → ((wanted : Option GraphCause) → Decides wanted row → Decides wanted r)
+      → IfOk row (IsBookedRow header names before u) → Decides (check names (scope_of header) before u) row
+      → ((g : Tables) (x : ResultRow) → check names (scope_of header) before u ≡ None → IsRowGain x g → IsBookedRow header names before u x → IsGain header names before u g) → IfOk r (IsGain header names before s)
+  row_gained s u row (Err e) is m d b k f = tt
+  row_gained s u (Ok x) (Ok g) is m d b k f = subst (λ v. IsGain header names before v g) (sym is) (f g x k (m x refl) b)
+  row_gained s u (Err (Stop.Cause c)) (Ok g) is m d b k f = cc (d (Some c) refl)
+  row_gained s u (Err Stop.Memory) (Ok g) is m d b k f = cc (d (Some GraphCause.NameTaken) tt)
 
   module _ (t : Tables) (h : AreTables header names before t) where
     read_back : (xs : List SiteAt) (cs : List CheckedExpr) → AreSites (version_kinds header names before) names xs cs → (out : List VarSet) → AreSets (read_sets t.version_sets.items cs) out → AreSets (map (site_set header names before) xs) out
     read_back xs cs k out o = sites_read header names before t.version_sets.items h.version_sets (version_kinds header names before) xs cs out k o
 
-    pub filter_gained : (node parent : List ℕ) (expr : NamedTree) (label : Option (List ℕ)) (c : CheckedExpr) (g : Gain) → check names (scope_of header) before (Filter node parent expr label) ≡ None → IsCheckedAt header names before parent expr c
+    pub filter_gained : (node parent : List ℕ) (expr : NamedTree) (label : Option (List ℕ)) (c : CheckedExpr) (g : Tables) → check names (scope_of header) before (Filter node parent expr label) ≡ None → IsCheckedAt header names before parent expr c
         → IsFilterGain t.version_sets.items c (named_rows header names before parent label) g → IsGain header names before (Filter node parent expr label) g
     filter_gained node parent expr label c g ok k e =
         let own : AreSites (version_kinds header names before) names (site_in header names before parent (site_at node) expr ∷ []) (c ∷ []) = (site_of parent (site_at node) expr c k, tt) in
@@ -85,7 +92,7 @@ module _ (header : List Column) (names : FunctionNames) (before : List Statement
         filter_named None = refl
         filter_named (Some x) = refl
 
-    pub define_made : (node parent column : List ℕ) (expr : NamedTree) (wrong : Option GraphCause) (r : Result Gain Stop) → wrong ≡ refuse_if (is_visible (scope_at names (scope_of header) before parent) column) GraphCause.NameTaken
+    pub define_made : (node parent column : List ℕ) (expr : NamedTree) (wrong : Option GraphCause) (r : Result Tables Stop) → wrong ≡ refuse_if (is_visible (scope_at names (scope_of header) before parent) column) GraphCause.NameTaken
         → IfOk r (IsMadeGain header names before t.version_sets.items parent expr) → Decides (first_refusal (check_node before node parent ∷ wrong ∷ refusal_in (kind_of (scope_at names (scope_of header) before parent) names expr) ∷ [])) r
         → IfOk r (IsGain header names before (Define node parent column expr))
     define_made node parent column expr wrong (Ok g) e m d =
@@ -94,7 +101,7 @@ module _ (header : List Column) (names : FunctionNames) (before : List Statement
         gained (Define node parent column expr) g (rw e at d) m.gain (sym (ap (λ r. kind_or_int r ∷ []) m.checked.kind)) read read own (tt, tt) refl
     define_made node parent column expr wrong (Err s) e m d = tt
 
-    pub redefine_made : (node parent column : List ℕ) (expr : NamedTree) (wrong : Option GraphCause) (r : Result Gain Stop) → wrong ≡ check_target (scope_at names (scope_of header) before parent) (path before parent) column
+    pub redefine_made : (node parent column : List ℕ) (expr : NamedTree) (wrong : Option GraphCause) (r : Result Tables Stop) → wrong ≡ check_target (scope_at names (scope_of header) before parent) (path before parent) column
         → IfOk r (IsMadeGain header names before t.version_sets.items parent expr) → Decides (first_refusal (check_node before node parent ∷ wrong ∷ refusal_in (kind_of (scope_at names (scope_of header) before parent) names expr) ∷ [])) r
         → IfOk r (IsGain header names before (Redefine node parent column expr))
     redefine_made node parent column expr wrong (Ok g) e m d =
@@ -103,7 +110,7 @@ module _ (header : List Column) (names : FunctionNames) (before : List Statement
         gained (Redefine node parent column expr) g (rw e at d) m.gain (sym (ap (λ r. kind_or_int r ∷ []) m.checked.kind)) read read own (tt, tt) refl
     redefine_made node parent column expr wrong (Err s) e m d = tt
 
-    pub vary_gained : (node : List ℕ) (u : Change) (cs : List CheckedExpr) (g : Gain)
+    pub vary_gained : (node : List ℕ) (u : Change) (cs : List CheckedExpr) (g : Tables)
         → check names (scope_of header) before (Vary node u.parent.now u.columns.now u.values.now u.tags.now u.name.now) ≡ None → AllCheckedAt header names before u.parent.now (value_expressions u.values.now) cs
         → IsVaryGain header names before t u cs g → IsGain header names before (Vary node u.parent.now u.columns.now u.values.now u.tags.now u.name.now) g
     vary_gained node u cs g ok k e =
@@ -125,7 +132,7 @@ rows_both bs cs ds es rs ss h k =
     (zip_both IsRow bs cs rs ss h.0 k.0, subst (AreSets (ds ++ es)) (sym (map-append (λ (r : ResultRow). r.set) rs ss)) (zip_both IsSet ds es _ _ h.1 k.1))
 
 -- the tables after an accepted statement
-pub record AreAppended (old new : Tables) (g : Gain) : Type 0 where
+pub record AreAppended (old new : Tables) (g : Tables) : Type 0 where
   pub versions : new.versions.items ≡ old.versions.items ++ g.versions.items
   pub kinds : new.kinds.items ≡ old.kinds.items ++ g.kinds.items
   pub few : length old.kinds.items + length g.kinds.items ≤ 4294967295
@@ -135,7 +142,7 @@ pub record AreAppended (old new : Tables) (g : Gain) : Type 0 where
   pub filters : new.filters.items ≡ old.filters.items ++ g.filters.items
   pub results : new.results.items ≡ old.results.items ++ g.results.items
 
-pub added : {E : Type 0} (r : Result Unit E) (old new : Tables) (g : Gain) → AreAppended old new g → OnOk r (new.variations ≡ old.variations ++ g.variations.items) → OnOk r (GrowBy old g new)
+pub added : {E : Type 0} (r : Result Unit E) (old new : Tables) (g : Tables) → AreAppended old new g → OnOk r (new.variations ≡ old.variations ++ g.variations) → OnOk r (GrowBy old g new)
 added (Err e) old new g a v = tt
 added (Ok u) old new g a v = λ header names before s h k.
     let n : length new.kinds.items ≡ length old.kinds.items + length g.kinds.items = ap length a.kinds ∙ length-append old.kinds.items g.kinds.items in
@@ -154,16 +161,10 @@ added (Ok u) old new g a v = λ header names before s h k.
     }
 
 -- the variations of an accepted script with those of a gain are few
-pub gain_fits : (header : List Column) (names : FunctionNames) (before : List Statement) (s : Statement) (t : Tables) (g : Gain) → AreTables header names before t → IsGain header names before s g → length t.variations + length g.variations.items ≤ 128
+pub gain_fits : (header : List Column) (names : FunctionNames) (before : List Statement) (s : Statement) (t : Tables) (g : Tables) → AreTables header names before t → IsGain header names before s g → length t.variations + length g.variations ≤ 128
 gain_fits header names before s t g h k =
     let f = few_variations header names (s ∷ before) (k.accepted, h.versions.accepted) in
     let n = length-append (variations before) (own_variations s) in let a = ap length h.variations in let b = ap length k.variations in omega (arith, f, n, a, b)
-
--- a report's row alone
-pub report_alone : {E : Type 0} (header : List Column) (names : FunctionNames) (before : List Statement) (name parent : List ℕ) (row : ResultRow) (r : Result Gain E) → IsBookedRow header names before (Report name parent) row → IfOk r (IsRowGain row)
-    → IfOk r (IsReportGain header names before name parent)
-report_alone header names before name parent row (Ok g) is h = record { row = row; is = is; gain = h }
-report_alone header names before name parent row (Err e) is h = tt
 
 -- the check of a statement decides that of the same one
 pub decided_at : {A : Type 0} (header : List Column) (names : FunctionNames) (before : List Statement) (s t : Statement) (r : Result A Stop) → s ≡ t → Decides (check names (scope_of header) before t) r → Decides (check names (scope_of header) before s) r

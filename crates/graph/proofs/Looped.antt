@@ -6,7 +6,7 @@ use Rattle.std.proofs.lemmas.Simd.{map-map}
 use Rattle.std.proofs.lemmas.Slice.Zip.{AllZip-long}
 use Rattle.lemmas.proofs.{neither, take_front, take_no_longer}
 use Rattle.rdf_values.specs.{among, Booked, booked_by, bookings, filled, Line, names_of, place, same, Statement, variations, waiting}
-use Rattle.rdf_values.specs.declared.scripts.statement.Statement.TheVariants.{Action, Report, Print}
+use Rattle.rdf_values.specs.declared.scripts.statement.Statement.TheVariants.{Print}
 use Rattle.rdf_model.proofs.Accepted.{names_equal, itself}
 use Rattle.rdf_model.specs.{Access, accesses, filled_by, loop_results}
 use Rattle.graph_numbers.proofs.Listed.{of_joined}

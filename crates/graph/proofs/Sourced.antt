@@ -3,7 +3,6 @@ use Rattle.std.proofs.Common.{◌≡◌, ℕ, zero, suc, ◌+◌, ◌<◌, ◌�
 use Rattle.std.proofs.lemmas.Option.{slice_get_within}
 use Rattle.lemmas.proofs.{same_some}
 use Rattle.rdf_values.specs.{AreAccepted, check_target, Column, first_refusal, FunctionNames, GraphCause, is_alias, is_visible, path, refuse_if, refuse_unless, scope_at, scope_of, Statement, variations, VaryValues}
-use Rattle.rdf_values.specs.declared.scripts.statement.Statement.TheVariants.{Define, Redefine, Vary}
 use Rattle.rdf_values.specs.declared.scripts.vary_values.VaryValues.TheVariants.{Lists, Vector}
 use Rattle.rdf_model.proofs.Accepted.{both_none, checked_of, if_fails, no_target, unless_holds, visible_known}
 use Rattle.graph_numbers.proofs.Extending.{versions_count}

@@ -1,7 +1,7 @@
 -- Steps of the look-ups that walk the statements so far.
 use Rattle.std.proofs.Common.{◌≡◌, ℕ, Bool, true, false, ◌||◌, List, [], ◌∷◌, ◌++◌, map, refl, sym, ◌∙◌, ap, arith, ◌+◌, if◌then◌else◌, length, zero, suc, ◌≤◌, Some, add-one}
 use Rattle.rdf_values.specs.{aliases, among, Booked, booked_by, Booking, bookings, ColType, column_kind, FunctionNames, is_alias, is_result, is_visible, is_watched, kind_or_int, made_columns, names_of, Path, result_is, same, Scope, Statement, target_of, visible_columns, watched_results, Column, makes, named_before, parent_of, path}
-use Rattle.rdf_values.specs.declared.scripts.statement.Statement.TheVariants.{Action, Report, Watch, Define, Redefine, Filter, Vary}
+use Rattle.rdf_values.specs.declared.scripts.statement.Statement.TheVariants.{Watch, Filter}
 use Rattle.rdf_model.proofs.Accepted.{itself, names_equal, place_within}
 use Rattle.std.proofs.lemmas.List.{map-append, length-append}
 use Rattle.std.proofs.lemmas.List.Folds.{list_any-append}

@@ -1,15 +1,15 @@
 -- What a statement is checked in: what stands before it, as contracts name it.
 use Rattle.std.specs.Prelude.{ℕ, List, length, Option}
-use Rattle.rdf_values.specs.{ActionKind, check, GraphCause, NamedTree, Scope, scope_at, scope_of, Statement, variations}
+use Rattle.rdf_values.specs.{check, GraphCause, NamedTree, Scope, scope_at, scope_of, Statement, variations}
 use Rattle.expr_check.specs.{CheckedExpr}
 use Rattle.graph_numbers.specs.{named_version, site_count, varied_versions, Version}
-use Rattle.graph.specs.Gains.{IsActionRow, IsGain}
+use Rattle.graph.specs.Gains.{IsBookedRow, IsGain}
 use Rattle.graph.specs.Lookups.{IsCheckedAt, statements}
 use Rattle.graph.specs.Checks.{AllCheckedAt, Appends}
 use Rattle.graph.specs.Dependence.{changed_set, Numbers}
 use Rattle.graph.specs.declared.before.Before.{Before}
 use Rattle.graph.specs.declared.tables.Change.{Change}
-use Rattle.graph.specs.declared.tables.Gain.{Gain}
+use Rattle.graph.specs.declared.tables.Tables.{Tables}
 use Rattle.graph.specs.declared.tables.ResultRow.{ResultRow}
 
 module _ (b : Before) where
@@ -34,12 +34,12 @@ module _ (b : Before) where
   verdict_after s = check b.names.now (scope_of b.header.now) (statements b.lines.now) s
 
   -- the next statement is accepted, and adds this
-  abbrev pub IsGainAfter : Statement → Gain → Type 0
+  abbrev pub IsGainAfter : Statement → Tables → Type 0
   IsGainAfter s g = IsGain b.header.now b.names.now (statements b.lines.now) s g
 
-  -- the row of the next statement's action
-  abbrev pub IsActionRowAfter : List ℕ → List ℕ → ActionKind → ResultRow → Type 0
-  IsActionRowAfter name parent action r = IsActionRow b.header.now b.names.now (statements b.lines.now) name parent action r
+  -- the row of the result that the next statement books
+  abbrev pub IsRowAfter : Statement → ResultRow → Type 0
+  IsRowAfter s r = IsBookedRow b.header.now b.names.now (statements b.lines.now) s r
 
   -- an expression at a node, checked and over versions
   abbrev pub IsCheckedBefore : List ℕ → NamedTree → CheckedExpr → Type 0

@@ -1,8 +1,7 @@
 -- The tables that are kept while statements are booked, as functions of the statements so far, and what one statement adds to them.
 use Rattle.std.specs.Prelude.{◌≡◌, ℕ, List, [], ◌∷◌, length, map, All, Some, None, slice_get}
 use Rattle.std.specs.List.{AllZip}
-use Rattle.rdf_values.specs.{ActionKind, Booked, booked_by, bookings, cells_of, check, ColType, Column, column_kind, FunctionNames, kind_or_int, NamedTree, own_variations, scope_at, scope_of, Statement, takes_of, Variation, variations}
-use Rattle.rdf_values.specs.declared.scripts.statement.Statement.TheVariants.{Action, Report}
+use Rattle.rdf_values.specs.{Booked, booked_by, bookings, cells_of, check, ColType, Column, column_kind, FunctionNames, kind_or_int, NamedTree, own_variations, scope_at, scope_of, Statement, takes_of, Variation, variations}
 use Rattle.expr_check.specs.{CallsFit, CheckedExpr, IsWellTyped}
 use Rattle.graph_numbers.specs.{FilterAt, filters, own_filters, own_kinds, own_results, own_sites, own_versions, results, site_count, SiteAt, sites, varied_versions, Version, version_kinds, versions}
 use Rattle.graph.specs.Dependence.{Numbers, AreSets, own_version_sets, version_sets, own_site_sets, site_sets, own_result_sets, result_sets, read_sets, changed_set}
@@ -11,7 +10,6 @@ use Rattle.graph.specs.declared.tables.Change.{Change}
 use Rattle.graph.specs.declared.tables.ResultPath.{ResultPath}
 use Rattle.graph.specs.declared.sets.VarSet.{VarSet}
 use Rattle.graph.specs.Lookups.{AreKinds, IsCheckedAt}
-use Rattle.graph.specs.declared.tables.Gain.{Gain}
 use Rattle.graph.specs.declared.tables.ResultRow.{ResultRow}
 use Rattle.graph.specs.declared.tables.Tables.{Tables}
 
@@ -45,10 +43,6 @@ pub record IsBookedRow (header : List Column) (names : FunctionNames) (before : 
   pub rows : AreRows (booked_by before s) (own_result_sets header names before s) (r ∷ [])
   pub path : r.path ∷ [] ≡ map result_path (own_results header names before s)
 
--- the row of an action
-abbrev pub IsActionRow : List Column → FunctionNames → List Statement → List ℕ → List ℕ → ActionKind → ResultRow → Type 0
-IsActionRow header names before name parent action r = IsBookedRow header names before (Action name parent action) r
-
 -- the tables of statements that were accepted
 pub record AreTables (header : List Column) (names : FunctionNames) (before : List Statement) (t : Tables) : Type 0 where
   pub version_rows : t.versions.items ≡ versions header names before
@@ -62,7 +56,7 @@ pub record AreTables (header : List Column) (names : FunctionNames) (before : Li
   pub variations : t.variations ≡ variations before
 
 -- an accepted statement, and what it adds
-pub record IsGain (header : List Column) (names : FunctionNames) (before : List Statement) (s : Statement) (g : Gain) : Type 0 where
+pub record IsGain (header : List Column) (names : FunctionNames) (before : List Statement) (s : Statement) (g : Tables) : Type 0 where
   pub accepted : check names (scope_of header) before s ≡ None
   pub version_rows : g.versions.items ≡ own_versions header names before s
   pub kinds : g.kinds.items ≡ own_kinds header names before s
@@ -72,16 +66,16 @@ pub record IsGain (header : List Column) (names : FunctionNames) (before : List 
   pub filters : g.filters.items ≡ map (λ (f : FilterAt). f.sites) (own_filters header names before s)
   pub results : AreRows (booked_by before s) (own_result_sets header names before s) g.results.items
   pub paths : paths g.results.items ≡ map result_path (own_results header names before s)
-  pub variations : g.variations.items ≡ own_variations s
+  pub variations : g.variations ≡ own_variations s
 
 -- tables grow by what one more accepted statement adds
-abbrev pub GrowBy : Tables → Gain → Tables → Type 0
+abbrev pub GrowBy : Tables → Tables → Tables → Type 0
 GrowBy old g new = (header : List Column) (names : FunctionNames) (before : List Statement) (s : Statement) → AreTables header names before old → IsGain header names before s g → AreTables header names (s ∷ before) new
 
 -- ---- forms of gains
 
 -- these versions with their kinds, these checked expressions as sites, with what each depends on, and these filters, results and variations
-pub record Gives (made : List Version) (types : List ColType) (made_sets : List Numbers) (checked : List CheckedExpr) (checked_sets : List Numbers) (labelled : List (List ℕ)) (booked : List ResultRow) (varied : List Variation) (g : Gain) : Type 0 where
+pub record Gives (made : List Version) (types : List ColType) (made_sets : List Numbers) (checked : List CheckedExpr) (checked_sets : List Numbers) (labelled : List (List ℕ)) (booked : List ResultRow) (varied : List Variation) (g : Tables) : Type 0 where
   pub version_rows : g.versions.items ≡ made
   pub kinds : g.kinds.items ≡ types
   pub version_sets : AreSets made_sets g.version_sets.items
@@ -89,38 +83,32 @@ pub record Gives (made : List Version) (types : List ColType) (made_sets : List 
   pub site_sets : AreSets checked_sets g.site_sets.items
   pub filters : g.filters.items ≡ labelled
   pub results : g.results.items ≡ booked
-  pub variations : g.variations.items ≡ varied
+  pub variations : g.variations ≡ varied
 
 -- nothing
-abbrev pub IsEmptyGain : Gain → Type 0
+abbrev pub IsEmptyGain : Tables → Type 0
 IsEmptyGain g = Gives [] [] [] [] [] [] [] [] g
 
 -- a result
-abbrev pub IsRowGain : ResultRow → Gain → Type 0
+abbrev pub IsRowGain : ResultRow → Tables → Type 0
 IsRowGain r g = Gives [] [] [] [] [] [] (r ∷ []) [] g
 
 -- a Filter's site, over versions with those sets, and its rows
-abbrev pub IsFilterGain : List VarSet → CheckedExpr → List (List ℕ) → Gain → Type 0
+abbrev pub IsFilterGain : List VarSet → CheckedExpr → List (List ℕ) → Tables → Type 0
 IsFilterGain versions c rows g = Gives [] [] [] (c ∷ []) (read_sets versions (c ∷ [])) rows [] [] g
 
 -- a site of that number, over versions with those sets, and the version that it makes
-abbrev pub IsColumnGain : List VarSet → ℕ → CheckedExpr → Gain → Type 0
+abbrev pub IsColumnGain : List VarSet → ℕ → CheckedExpr → Tables → Type 0
 IsColumnGain versions site c g = Gives (Version.Computed site ∷ []) (c.kind ∷ []) (read_sets versions (c ∷ [])) (c ∷ []) (read_sets versions (c ∷ [])) [] [] [] g
 
 -- an expression that was checked at a node as a site, over versions with those sets, and the version that it makes
-pub record IsMadeGain (header : List Column) (names : FunctionNames) (before : List Statement) (versions : List VarSet) (parent : List ℕ) (expr : NamedTree) (g : Gain) : Type 0 where
+pub record IsMadeGain (header : List Column) (names : FunctionNames) (before : List Statement) (versions : List VarSet) (parent : List ℕ) (expr : NamedTree) (g : Tables) : Type 0 where
   pub site : CheckedExpr
   pub checked : IsCheckedAt header names before parent expr site
   pub gain : IsColumnGain versions (site_count header names before) site g
 
--- a report's row
-pub record IsReportGain (header : List Column) (names : FunctionNames) (before : List Statement) (name parent : List ℕ) (g : Gain) : Type 0 where
-  pub row : ResultRow
-  pub is : IsBookedRow header names before (Report name parent) row
-  pub gain : IsRowGain row g
-
 -- the columns, sites and variations of a Vary
-abbrev pub IsVaryGain : List Column → FunctionNames → List Statement → Tables → Change → List CheckedExpr → Gain → Type 0
+abbrev pub IsVaryGain : List Column → FunctionNames → List Statement → Tables → Change → List CheckedExpr → Tables → Type 0
 IsVaryGain header names before t c cs g =
     Gives
     (varied_versions header names before c.parent.now c.values.now c.tags.now 0 c.columns.now)

@@ -1,5 +1,5 @@
 -- Lines as look-ups walk them, the latest first, and what a statement adds to each answer.
-use Rattle.std.specs.Prelude.{◌≡◌, ◌≤◌, ℕ, Bool, false, List, [], map, length, All, Some, Ok, if◌then◌else◌, slice_get}
+use Rattle.std.specs.Prelude.{◌≡◌, ◌≤◌, ℕ, Bool, false, List, map, length, All, Some, Ok, if◌then◌else◌, slice_get}
 use Rattle.std.specs.List.{AllByRecursion, list_any}
 use Rattle.rdf_values.specs.{AreAccepted, Booked, Booking, callee, ColType, Column, column_kind, EachColumn, FunctionNames, kind_of, kinds_in, Line, NamedTree, number_in, renamed, results_named, same, scope_at, scope_of, ScopeColumn, Statement}
 use Rattle.rdf_values.specs.declared.scripts.statement.Statement.TheVariants.{Define, Redefine, Alias, Action, Report}

@@ -43,11 +43,7 @@ pub(crate) fn cells_of(action: &ActionKind) -> Result<usize, Memory>
             x_edges,
             y_edges,
             ..
-        } => {
-            let rows = total(x_edges.len(), 1)?;
-            let columns = total(y_edges.len(), 1)?;
-            product(rows, columns)
-        }
+        } => product(total(x_edges.len(), 1)?, total(y_edges.len(), 1)?),
         _ => Ok(0),
     }
 }
@@ -56,9 +52,10 @@ pub(crate) fn cells_of(action: &ActionKind) -> Result<usize, Memory>
 pub(crate) fn takes_of(action: &ActionKind) -> usize
     ensures { (at : Path) → result ≡ takes_of (ActionAt action.now at) }
 {
-    match action {
-        ActionKind::Take(_) => 1,
-        _ => 0,
+    if matches!(action, ActionKind::Take(_)) {
+        1
+    } else {
+        0
     }
 }
 
@@ -66,10 +63,7 @@ pub(crate) fn takes_of(action: &ActionKind) -> usize
 fn asks(statement: &Statement, name: &Name) -> bool
     ensures { (before : List Statement) → has_variations (statement.now ∷ before) name.now ≡ (result || has_variations before name.now) }
 {
-    match statement {
-        Statement::VariationsFor { result } => result.is(name),
-        _ => false,
-    }
+    matches!(statement, Statement::VariationsFor { result } if result.is(name))
 }
 
 /// Whether the variations of the result are asked for.

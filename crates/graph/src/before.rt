@@ -88,9 +88,10 @@ pub(crate) fn same_kind(a: ColType, b: ColType) -> bool
 }
 
 /// What stands before a statement: the table's header, the functions' names, the lines so far, the latest first, and what is
-/// known of these.
+/// known of these, with what allocates.
 #[derive(Clone, Copy)]
 pub(crate) struct Before<'a> {
+    pub(crate) alloc: Global,
     pub(crate) header: &'a [Column],
     pub(crate) names: &'a FnNames,
     pub(crate) lines: &'a [Line],
@@ -113,10 +114,10 @@ impl Before<'_> {
 
     /// The sites of the filters above a node, head first.
     #[tactic(auto, using(crate::proofs::SiteTotals::numbers_are, crate::proofs::SiteTotals::total_is))]
-    pub(crate) fn filters_above(&self, alloc: Global, node: &Name) -> Result<ListOf<u32>, Memory>
+    pub(crate) fn filters_above(&self, node: &Name) -> Result<ListOf<u32>, Memory>
         ensures { IfOk result (λ l. l ≡ filter_sites self.now.header.now self.now.names.now (history self.now) node.now) }
     {
-        filter_sites(alloc, self.lines, self.sites(), node)
+        filter_sites(self.alloc, self.lines, self.sites(), node)
     }
 
     /// The version of a column at a node.
@@ -127,16 +128,11 @@ impl Before<'_> {
     }
 
     /// The versions of columns at a node.
-    pub(crate) fn versions_of(
-        &self,
-        alloc: Global,
-        node: &Name,
-        columns: &[Name],
-    ) -> Result<ListOf<u32>, Memory>
+    pub(crate) fn versions_of(&self, node: &Name, columns: &[Name]) -> Result<ListOf<u32>, Memory>
         ensures { IfOk result (λ l. l ≡ map (version_at self.now.header.now (history self.now) node.now) columns.now) }
     {
         let versions = columns.iter().map(|column| self.version_at(node, column));
-        Ok(ListOf::from_vec(versions.collect(alloc)?))
+        Ok(ListOf::from_vec(versions.collect(self.alloc)?))
     }
 
     /// The version of a column that is no alias at a node.
@@ -204,11 +200,11 @@ impl Before<'_> {
     }
 
     /// The columns of an expression at a node.
-    fn scope_for(&self, alloc: Global, node: &Name, expr: &Expr) -> Result<Scope, Memory>
+    fn scope_for(&self, node: &Name, expr: &Expr) -> Result<Scope, Memory>
         ensures { IfOk result (λ scope. IsScopeOf self.now.header.now self.now.names.now (history self.now) node.now self.now.tables.now.kinds.items expr.now scope) }
     {
-        let columns = names_in(alloc, expr)?;
-        let mut scope = Scope::new(alloc);
+        let columns = names_in(self.alloc, expr)?;
+        let mut scope = Scope::new(self.alloc);
         self.note_all(node, &mut scope, columns.as_slice())?;
         Ok(scope)
     }
@@ -241,27 +237,23 @@ impl Before<'_> {
     pub(crate) fn check_target(&self, parent: &Name, column: &Name) -> Option<GraphCause>
         ensures { result ≡ check_target (scope_before self.now parent.now) (path (history self.now) parent.now) column.now }
     {
-        let visible = self.sees(parent, column);
-        let alias = is_alias(self.lines, parent, column);
         first_of(&[
-            refuse_unless(visible, GraphCause::UnknownColumn),
-            refuse_if(alias, GraphCause::AliasTarget),
+            refuse_unless(self.sees(parent, column), GraphCause::UnknownColumn),
+            refuse_if(
+                is_alias(self.lines, parent, column),
+                GraphCause::AliasTarget,
+            ),
         ])
     }
 
     /// An expression over the versions that its columns have at a node.
     #[tactic(auto, using(crate::proofs::Checking::no_memory))]
-    pub(crate) fn expression(
-        &self,
-        alloc: Global,
-        node: &Name,
-        expr: &Expr,
-    ) -> Result<Checked, Stop>
+    pub(crate) fn expression(&self, node: &Name, expr: &Expr) -> Result<Checked, Stop>
         ensures checked { IfOk result (IsCheckedBefore self.now node.now expr.now) }
         ensures decided { Decides (refusal_in (kind_of (scope_before self.now node.now) self.now.names.now expr.now)) result }
     {
-        let scope = self.scope_for(alloc, node, expr)?;
-        match check(alloc, expr, &scope, self.names) {
+        let scope = self.scope_for(node, expr)?;
+        match check(self.alloc, expr, &scope, self.names) {
             Ok(checked) => Ok(checked),
             Err(refusal) => Err(stop_of(refusal)),
         }
@@ -269,17 +261,11 @@ impl Before<'_> {
 
     /// An expression of a given kind.
     #[tactic(auto, using(crate::proofs::Checking::kind_is, crate::proofs::Checking::kind_isnt, crate::proofs::Checking::kind_stopped, crate::proofs::Checking::handed_on))]
-    pub(crate) fn expected(
-        &self,
-        alloc: Global,
-        node: &Name,
-        kind: ColType,
-        expr: &Expr,
-    ) -> Result<Checked, Stop>
+    pub(crate) fn expected(&self, node: &Name, kind: ColType, expr: &Expr) -> Result<Checked, Stop>
         ensures checked { IfOk result (IsCheckedBefore self.now node.now expr.now) }
         ensures decided { Decides (expect_kind kind (kind_of (scope_before self.now node.now) self.now.names.now expr.now)) result }
     {
-        let checked = self.expression(alloc, node, expr)?;
+        let checked = self.expression(node, expr)?;
         if same_kind(checked.kind(), kind) {
             Ok(checked)
         } else {

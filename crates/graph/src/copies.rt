@@ -10,10 +10,7 @@ fn copy_weight(alloc: Global, weight: &Option<Name>) -> Result<Option<Name>, Mem
 {
     match weight {
         None => Ok(None),
-        Some(name) => {
-            let name = name.copy(alloc)?;
-            Ok(Some(name))
-        }
+        Some(name) => Ok(Some(name.copy(alloc)?)),
     }
 }
 

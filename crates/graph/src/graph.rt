@@ -1,4 +1,6 @@
 // The booked graph.
+#![tactic(auto, using(crate::proofs::Finished::row_count, crate::proofs::Finished::name_is, crate::proofs::Finished::set_is, crate::proofs::Finished::watch_count, crate::proofs::Finished::run_count, crate::proofs::Finished::site_count, crate::proofs::Finished::site_set_count, crate::proofs::Finished::site_set_is))]
+
 ghost use Rattle.std.specs.Prelude.{◌≡◌, ◌<◌, ◌≤◌, ℕ, length, Some, option_map, slice_get, IfOk};
 ghost use Rattle.rdf_values.specs.{Answers, is_watched, IsBookable, IsHeader};
 ghost use Rattle.rdf_model.specs.{accesses, loop_of};
@@ -147,7 +149,6 @@ impl Graph {
     // ---- results
 
     /// How many results there are.
-    #[tactic(auto, using(crate::proofs::Finished::row_count))]
     pub fn results(&self) -> u32
         ensures { result ≡ length (graph_results self.now) }
     {
@@ -155,7 +156,6 @@ impl Graph {
     }
 
     /// The name of a result.
-    #[tactic(auto, using(crate::proofs::Finished::row_count, crate::proofs::Finished::name_is))]
     pub fn result_name(&self, r: u32) -> &Name
         requires { r < length (graph_results self.now) }
         ensures { option_map (λ x. x.booked.name) (slice_get (graph_results self.now) r) ≡ Some result.now }
@@ -164,7 +164,6 @@ impl Graph {
     }
 
     /// What the loop reads of a result.
-    #[tactic(auto, using(crate::proofs::Finished::row_count))]
     fn result_path(&self, r: u32) -> &ResultPath
         requires { r < length (graph_results self.now) }
         ensures kind { option_map (λ x. kind_of_booking x.booked.booking) (slice_get (graph_results self.now) r) ≡ Some result.now.kind }
@@ -184,7 +183,6 @@ impl Graph {
     }
 
     /// The variations on which a result depends.
-    #[tactic(auto, using(crate::proofs::Finished::row_count, crate::proofs::Finished::set_is))]
     pub fn depends(&self, r: u32) -> VarSet
         requires { r < length (graph_results self.now) }
         ensures { (v : ℕ) → has result v ≡ result_depends_at self.now r v }
@@ -193,7 +191,6 @@ impl Graph {
     }
 
     /// Whether partial results of a result are asked for.
-    #[tactic(auto, using(crate::proofs::Finished::watch_count))]
     pub fn watched(&self, r: u32) -> bool
         requires { r < length (graph_results self.now) }
         ensures { option_map (λ x. is_watched (booked_statements self.now) x.booked.name) (slice_get (graph_results self.now) r) ≡ Some result }
@@ -250,7 +247,6 @@ impl Graph {
     }
 
     /// The loop that a Print runs; none where its result was filled before.
-    #[tactic(auto, using(crate::proofs::Finished::run_count))]
     pub fn loop_of(&self, p: u32) -> Option<u32>
         requires { p < length (graph_prints self.now) }
         ensures { slice_get (graph_runs self.now) p ≡ Some result }
@@ -303,7 +299,6 @@ impl Graph {
     // ---- sites and versions
 
     /// How many sites there are.
-    #[tactic(auto, using(crate::proofs::Finished::site_count))]
     pub fn sites(&self) -> u32
         ensures { result ≡ length (graph_sites self.now) }
     {
@@ -311,7 +306,6 @@ impl Graph {
     }
 
     /// A site's expression over versions.
-    #[tactic(auto, using(crate::proofs::Finished::site_count))]
     pub fn site(&self, s: u32) -> &Checked
         requires { s < length (graph_sites self.now) }
         ensures { IsSiteExpr self.now s result.now }
@@ -320,7 +314,6 @@ impl Graph {
     }
 
     /// The variations on which a site depends.
-    #[tactic(auto, using(crate::proofs::Finished::site_set_count, crate::proofs::Finished::site_set_is))]
     pub fn site_depends(&self, s: u32) -> VarSet
         requires { s < length (graph_sites self.now) }
         ensures { (v : ℕ) → has result v ≡ site_depends_at self.now s v }

@@ -68,18 +68,11 @@ pub fn target_of<'a>(before: &'a [Line], node: &Name, name: &'a Name) -> &'a Nam
     }
 }
 
-/// Whether the name is the head's.
-fn is_head(node: &Name) -> bool
-    ensures { result ≡ same node.now (codes "df") }
-{
-    node.bytes() == b"df".as_slice()
-}
-
 /// Whether the name is a node's.
 pub fn is_node(before: &[Line], node: &Name) -> bool
     ensures { result ≡ is_node (statements before.now) node.now }
 {
-    is_head(node) || is_made_node(before, node)
+    node.bytes() == b"df".as_slice() || is_made_node(before, node)
 }
 
 /// Whether the statement books the result.
@@ -114,10 +107,7 @@ pub fn is_in_use(before: &[Line], name: &Name) -> bool
 fn own_alias(statement: &Statement, name: &Name) -> bool
     ensures { result ≡ own_alias statement.now name.now }
 {
-    match statement {
-        Statement::Alias { column, .. } => name.is(column),
-        _ => false,
-    }
+    matches!(statement, Statement::Alias { column, .. } if name.is(column))
 }
 
 /// Whether the name is an alias at a node.
@@ -185,10 +175,7 @@ fn place_of(columns: &[Name], name: &Name) -> Option<usize>
     if name.is(first) {
         return Some(0);
     }
-    match place_of(rest, name) {
-        None => None,
-        Some(i) => Some(i + 1),
-    }
+    Some(place_of(rest, name)? + 1)
 }
 
 /// The place of the table's column of that name, and their number where there is none.
@@ -314,14 +301,10 @@ pub fn own_site_total(statement: &Statement, most: usize) -> usize
 {
     match statement {
         Statement::Define { .. } | Statement::Redefine { .. } | Statement::Filter { .. } => 1,
-        Statement::Vary {
-            values: VaryValues::Lists(lists),
-            ..
-        } => expression_total(lists.as_slice(), most),
-        Statement::Vary {
-            values: VaryValues::Vector(_),
-            ..
-        } => 1,
+        Statement::Vary { values, .. } => match values {
+            VaryValues::Lists(lists) => expression_total(lists.as_slice(), most),
+            VaryValues::Vector(_) => 1,
+        },
         _ => 0,
     }
 }
@@ -457,13 +440,7 @@ fn filled_lines(before: &[Line]) -> &[Line]
     };
     let filled = filled_lines(rest);
     match &last.statement {
-        Statement::Print { result } => {
-            if is_result(filled, result) {
-                filled
-            } else {
-                rest
-            }
-        }
+        Statement::Print { result } if !is_result(filled, result) => rest,
         _ => filled,
     }
 }
@@ -482,10 +459,7 @@ pub(crate) fn is_watched(lines: &[Line], name: &Name) -> bool
     let Some((last, rest)) = lines.split_first() else {
         return false;
     };
-    let own = match &last.statement {
-        Statement::Watch { result } => result.is(name),
-        _ => false,
-    };
+    let own = matches!(&last.statement, Statement::Watch { result } if result.is(name));
     own || is_watched(rest, name)
 }
 
@@ -500,13 +474,7 @@ pub(crate) fn watched_count(before: &[Line]) -> usize
     };
     let count = watched_count(rest);
     match &last.statement {
-        Statement::Watch { result } => {
-            if is_watched(rest, result) {
-                count
-            } else {
-                count + 1
-            }
-        }
+        Statement::Watch { result } if !is_watched(rest, result) => count + 1,
         _ => count,
     }
 }
@@ -525,20 +493,14 @@ fn can_watch(kind: &ActionKind) -> bool
 fn own_watchable(statement: &Statement, name: &Name) -> bool
     ensures { (before : List Statement) → result ≡ result_in can_watch name.now (booked_by before statement.now) }
 {
-    match statement {
-        Statement::Action { result, kind, .. } => result.is(name) && can_watch(kind),
-        _ => false,
-    }
+    matches!(statement, Statement::Action { result, kind, .. } if result.is(name) && can_watch(kind))
 }
 
 /// Whether the statement books a report of that name.
 fn own_report(statement: &Statement, name: &Name) -> bool
     ensures { (before : List Statement) → result ≡ result_in is_report name.now (booked_by before statement.now) }
 {
-    match statement {
-        Statement::Report { result, .. } => result.is(name),
-        _ => false,
-    }
+    matches!(statement, Statement::Report { result, .. } if result.is(name))
 }
 
 /// Whether the result of that name may be watched.

@@ -9,7 +9,7 @@ ghost use Rattle.graph.specs.Dependence.{has};
 
 use crate::amounts::has_variations;
 use crate::copies::{push, push_many};
-use crate::lookup::{is_watched, result_count};
+use crate::lookup::{at, is_watched, result_count};
 use crate::sets::VarSet;
 use crate::tables::ResultRow;
 use graph_numbers::Pass;
@@ -83,7 +83,7 @@ impl LoopTables {
         };
         let filled = self.fillers.as_slice().len();
         if n < filled {
-            let filler = number_at(self.fillers.as_slice(), n);
+            let filler = *at(self.fillers.as_slice(), n as u32);
             self.note(n as u32, None, filler)
         } else {
             let booked = result_count(before);
@@ -94,14 +94,6 @@ impl LoopTables {
             self.note(n as u32, Some(place), place)
         }
     }
-}
-
-/// The number at a place.
-fn number_at(numbers: &[u32], n: usize) -> u32
-    requires { n < length numbers.now }
-    ensures { slice_get numbers.now n ≡ Some result }
-{
-    numbers[n]
 }
 
 /// The loops of lines of a script, the latest first.
@@ -139,10 +131,7 @@ fn number_of(results: &[ResultRow], name: &Name) -> Option<usize>
     if first.name.is(name) {
         return Some(0);
     }
-    match number_of(rest, name) {
-        None => None,
-        Some(n) => Some(n + 1),
-    }
+    Some(number_of(rest, name)? + 1)
 }
 
 /// Appends the passes of a result under those of so many variations from v on that are in the set.

@@ -1,8 +1,10 @@
 // The checks of what books a result, and of what asks for one.
+#![tactic(auto, using(crate::proofs::Checking::no_memory, crate::proofs::Walking::watched_among))]
+
 ghost use Rattle.std.specs.Prelude.{◌≡◌, ◌∷◌, ◌++◌, [], ℕ, List, None, IfOk, length, nat_lt, OnOk};
 ghost use Rattle.rdf_values.specs.{ActionKind, bookings, check_columns, check_passes, check_results, columns_of, permitted_kinds, is_result, printed_results, refuse_if, refuse_unless, watched_results, are_edges, begins, check_edges, may_begin, rises, weight_column};
 ghost use Rattle.rdf_values.specs.declared.scripts.statement.Statement.TheVariants.{Action, Report, VariationsFor, Watch, Print};
-ghost use Rattle.graph.specs.{Decides, history, IsActionRowAfter, scope_before, statements, verdict_after};
+ghost use Rattle.graph.specs.{Decides, history, IsRowAfter, scope_before, statements, verdict_after};
 ghost use Rattle.rdf_values.specs.declared.scripts.graph_cause.GraphCause.TheVariants as cause_of;
 
 use crate::amounts::{
@@ -11,10 +13,10 @@ use crate::amounts::{
 use crate::before::{Before, same_kind};
 use crate::copies::{copy_kind, push_name};
 use crate::lookup::{
-    is_filled, is_report, is_result, is_watchable, is_watched, result_count, watched_count,
+    covered, is_filled, is_report, is_result, is_watchable, is_watched, result_count, watched_count,
 };
 use crate::refusals::{Stop, first_of, refuse_if, refuse_unless, stop_if};
-use crate::sets::set_of;
+use crate::sets::{VarSet, set_of};
 use crate::tables::{ResultPath, ResultRow};
 use graph_numbers::ResultKind;
 use rdf_values::{ActionKind, ColType, GraphCause, IntList, Line, ListOf, Memory, Name};
@@ -28,36 +30,61 @@ fn one_result_more(before: &[Line]) -> Option<GraphCause>
     refuse_if(result_count(before) >= 64, GraphCause::TooMany)
 }
 
-/// A Report.
-pub(crate) fn check_report(before: &Before<'_>, name: &Name, parent: &Name) -> Option<GraphCause>
-    ensures { result ≡ verdict_after before.now (Report name.now parent.now) }
+/// A Report, and its row.
+pub(crate) fn check_report(
+    before: &Before<'_>,
+    name: &Name,
+    parent: &Name,
+) -> Result<ResultRow, Stop>
+    ensures row { IfOk result (IsRowAfter before.now (Report name.now parent.now)) }
+    ensures decided { Decides (verdict_after before.now (Report name.now parent.now)) result }
 {
     let many = one_result_more(before.lines);
-    first_of(&[before.check_node(name, parent), many])
+    stop_if(first_of(&[before.check_node(name, parent), many]))?;
+    Ok(report_row(before, name, parent)?)
+}
+
+/// The row of a report.
+fn report_row(before: &Before<'_>, name: &Name, parent: &Name) -> Result<ResultRow, Memory>
+    ensures { IfOk result (IsRowAfter before.now (Report name.now parent.now)) }
+{
+    let named = before.tables.filters.as_slice().len() as u32;
+    let path = ResultPath {
+        kind: ResultKind::Report,
+        filters: before.filters_above(parent)?,
+        inputs: ListOf::new(before.alloc),
+        covers: covered(before.alloc, before.lines, named, parent)?,
+    };
+    Ok(ResultRow {
+        name: name.copy(before.alloc)?,
+        cells: 0,
+        takes: 0,
+        set: VarSet::empty(),
+        path,
+    })
 }
 
 /// The row of an action.
 fn action_row(
-    alloc: Global,
     before: &Before<'_>,
     name: &Name,
     parent: &Name,
     action: &ActionKind,
 ) -> Result<ResultRow, Memory>
-    ensures { IfOk result (IsActionRowAfter before.now name.now parent.now action.now) }
+    ensures { IfOk result (IsRowAfter before.now (Action name.now parent.now action.now)) }
 {
-    let columns = columns_of(alloc, action)?;
+    let columns = columns_of(before.alloc, action)?;
     let path = ResultPath {
-        kind: ResultKind::Action(copy_kind(alloc, action)?),
-        filters: before.filters_above(alloc, parent)?,
-        inputs: before.versions_of(alloc, parent, columns.as_slice())?,
-        covers: ListOf::new(alloc),
+        kind: ResultKind::Action(copy_kind(before.alloc, action)?),
+        filters: before.filters_above(parent)?,
+        inputs: before.versions_of(parent, columns.as_slice())?,
+        covers: ListOf::new(before.alloc),
     };
     let tables = before.tables;
     let filters = set_of(tables.site_sets.as_slice(), path.filters.as_slice());
     let inputs = set_of(tables.version_sets.as_slice(), path.inputs.as_slice());
     Ok(ResultRow {
-        name: name.copy(alloc)?,
+        name: name.copy(before.alloc)?,
         cells: cells_of(action)?,
         takes: takes_of(action),
         set: filters.union(inputs),
@@ -66,58 +93,49 @@ fn action_row(
 }
 
 /// The row of an action, where there aren't too many passes with its own.
-#[tactic(auto, using(crate::proofs::Checking::no_memory))]
 fn counted_action(
-    alloc: Global,
     before: &Before<'_>,
     name: &Name,
     parent: &Name,
     action: &ActionKind,
 ) -> Result<ResultRow, Stop>
     requires known { check_columns (scope_before before.now parent.now) (permitted_kinds action.now) [] (columns_of action.now) ≡ None }
-    ensures row { IfOk result (IsActionRowAfter before.now name.now parent.now action.now) }
+    ensures row { IfOk result (IsRowAfter before.now (Action name.now parent.now action.now)) }
     ensures decided { Decides (check_passes (history before.now) (bookings (Action name.now parent.now action.now ∷ history before.now))) result }
 {
-    let row = action_row(alloc, before, name, parent, action)?;
+    let row = action_row(before, name, parent, action)?;
     let amounts = amounts_with(before.lines, before.tables.results.as_slice(), &row)?;
     stop_if(too_many(amounts))?;
     Ok(row)
 }
 
 /// An Action.
-#[tactic(auto, using(crate::proofs::Checking::no_memory))]
 pub(crate) fn check_action(
-    alloc: Global,
     before: &Before<'_>,
     name: &Name,
     parent: &Name,
     action: &ActionKind,
 ) -> Result<ResultRow, Stop>
-    ensures row { IfOk result (IsActionRowAfter before.now name.now parent.now action.now) }
+    ensures row { IfOk result (IsRowAfter before.now (Action name.now parent.now action.now)) }
     ensures decided { Decides (verdict_after before.now (Action name.now parent.now action.now)) result }
 {
-    let wrong = action_columns(alloc, before, parent, action)?;
+    let wrong = action_columns(before, parent, action)?;
     stop_if(first_of(&[
         before.check_node(name, parent),
         wrong,
         check_edges(action),
         one_result_more(before.lines),
     ]))?;
-    counted_action(alloc, before, name, parent, action)
+    counted_action(before, name, parent, action)
 }
 
 /// Whether one more watched result is too many.
-#[tactic(auto, using(crate::proofs::Walking::watched_among))]
 fn one_watch_more(before: &[Line], name: &Name) -> Option<GraphCause>
     ensures { result ≡ refuse_if (nat_lt 8 (length (watched_results (Watch name.now ∷ statements before.now)))) cause_of.TooMany }
 {
     let count = watched_count(before);
-    let many = if is_watched(before, name) {
-        count > 8
-    } else {
-        count >= 8
-    };
-    refuse_if(many, GraphCause::TooMany)
+    let limit = if is_watched(before, name) { 9 } else { 8 };
+    refuse_if(count >= limit, GraphCause::TooMany)
 }
 
 /// A result of that name.
@@ -139,15 +157,6 @@ pub(crate) fn check_watch(before: &Before<'_>, name: &Name) -> Option<GraphCause
     ])
 }
 
-/// Whether there are too many passes, where the variations of one result more are asked for.
-fn passes_asked(before: &Before<'_>, name: &Name) -> Result<Option<GraphCause>, Memory>
-    ensures { IfOk result (λ o. o ≡ check_passes (VariationsFor name.now ∷ history before.now) (bookings (history before.now))) }
-{
-    let rows = before.tables.results.as_slice();
-    let amounts = amounts_of(before.lines, Some(name), rows)?;
-    Ok(too_many(amounts))
-}
-
 /// What asks for the variations of a result.
 pub(crate) fn check_variations_for(
     before: &Before<'_>,
@@ -155,30 +164,23 @@ pub(crate) fn check_variations_for(
 ) -> Result<Option<GraphCause>, Memory>
     ensures { IfOk result (λ o. o ≡ verdict_after before.now (VariationsFor name.now)) }
 {
-    let many = passes_asked(before, name)?;
+    let rows = before.tables.results.as_slice();
+    let amounts = amounts_of(before.lines, Some(name), rows)?;
     Ok(first_of(&[
         known_result(before.lines, name),
         refuse_if(is_report(before.lines, name), GraphCause::WrongKind),
         refuse_if(is_filled(before.lines, name), GraphCause::Late),
-        many,
+        too_many(amounts),
     ]))
-}
-
-/// Whether the printed passes are too many with those of one Print more.
-fn passes_printed(before: &Before<'_>, name: &Name) -> Result<Option<GraphCause>, Memory>
-    ensures { IfOk result (λ o. o ≡ check_passes (history before.now) (printed_results (Print name.now ∷ history before.now))) }
-{
-    let rows = before.tables.results.as_slice();
-    let amounts = amounts_printed_with(before.lines, rows, name)?;
-    Ok(too_many(amounts))
 }
 
 /// A Print.
 pub(crate) fn check_print(before: &Before<'_>, name: &Name) -> Result<Option<GraphCause>, Memory>
     ensures { IfOk result (λ o. o ≡ verdict_after before.now (Print name.now)) }
 {
-    let many = passes_printed(before, name)?;
-    Ok(first_of(&[known_result(before.lines, name), many]))
+    let rows = before.tables.results.as_slice();
+    let amounts = amounts_printed_with(before.lines, rows, name)?;
+    Ok(first_of(&[known_result(before.lines, name), too_many(amounts)]))
 }
 
 fn begins(kinds: &[ColType], permitted: &[ColType]) -> bool
@@ -317,14 +319,13 @@ pub(crate) fn check_edges(action: &ActionKind) -> Option<GraphCause>
 
 /// The columns of an action.
 pub(crate) fn action_columns(
-    alloc: Global,
     before: &Before<'_>,
     node: &Name,
     action: &ActionKind,
 ) -> Result<Option<GraphCause>, Memory>
     ensures { IfOk result (λ o. o ≡ check_columns (scope_before before.now node.now) (permitted_kinds action.now) [] (columns_of action.now)) }
 {
-    let columns = columns_of(alloc, action)?;
-    let mut seen = Vec::new(alloc);
+    let columns = columns_of(before.alloc, action)?;
+    let mut seen = Vec::new(before.alloc);
     check_columns(before, node, action, &mut seen, columns.as_slice())
 }

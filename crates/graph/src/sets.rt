@@ -186,7 +186,6 @@ pub(crate) fn push_changed(
 
 /// The kinds of columns at a node, and that of a number where there is none.
 pub(crate) fn kinds_at(
-    alloc: Global,
     before: &Before<'_>,
     parent: &Name,
     columns: &[Name],
@@ -194,5 +193,5 @@ pub(crate) fn kinds_at(
     ensures { IfOk result (λ found. found.items ≡ map (λ c. kind_or_int (column_kind (scope_before before.now parent.now) c)) columns.now) }
 {
     let kinds = columns.iter().map(|column| before.kind_at(parent, column));
-    Ok(kinds.collect(alloc)?)
+    Ok(kinds.collect(before.alloc)?)
 }

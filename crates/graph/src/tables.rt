@@ -5,7 +5,7 @@ ghost use Rattle.graph.specs.ShortProof.{short-prop};
 ghost use Rattle.graph.specs.Dependence.{AppendsSets};
 
 use crate::sets::VarSet;
-use crate::variations::{FullName, Variations};
+use crate::variations::Variations;
 use crate::versions::push_cells;
 use expr_check::Checked;
 use graph_numbers::{ResultKind, Version};
@@ -32,20 +32,6 @@ pub struct ResultRow {
     pub path: ResultPath,
 }
 
-/// The versions that a statement makes, with their kinds and the variations on which they depend; its sites in the order of
-/// booking, with the same; the sites of a named filter; its result, where it books one; and its variations.
-#[derive(Drop)]
-pub struct Gain {
-    pub versions: Vec<Version>,
-    pub kinds: Vec<ColType>,
-    pub version_sets: Vec<VarSet>,
-    pub sites: Vec<Checked>,
-    pub site_sets: Vec<VarSet>,
-    pub filters: Vec<ListOf<u32>>,
-    pub results: Vec<ResultRow>,
-    pub variations: Vec<FullName>,
-}
-
 /// What a Vary changes at a node, how, and by which tags under which name.
 #[derive(Clone, Copy)]
 pub(crate) struct Change<'a> {
@@ -61,8 +47,8 @@ pub(crate) struct Change<'a> {
 
 const MOST_VERSIONS: usize = 4294967295;
 
-/// The versions so far with their kinds, the expressions of the sites, the sites of each named filter, the results, and the
-/// variations; and for each version and site the variations on which it depends.
+/// Versions with their kinds, the expressions of the sites, the sites of each named filter, the results, and the variations; and for
+/// each version and site the variations on which it depends. They are those of the statements so far, or what one statement adds.
 #[derive(Drop)]
 pub struct Tables {
     pub versions: Vec<Version>,
@@ -102,7 +88,7 @@ fn has_room(kinds: &[ColType], more: &[ColType]) -> bool
 }
 
 impl Tables {
-    ghost use Rattle.graph.specs.{AreTables, GrowBy};
+    ghost use Rattle.graph.specs.{AreTables, GrowBy, IsEmptyGain};
 
     /// The tables before the first statement.
     pub fn start(alloc: Global, header: &[Column]) -> Result<Tables, Memory>
@@ -126,9 +112,25 @@ impl Tables {
         })
     }
 
+    /// Nothing.
+    pub(crate) fn empty(alloc: Global) -> Tables
+        ensures { IsEmptyGain result }
+    {
+        Tables {
+            versions: Vec::new(alloc),
+            kinds: Vec::new(alloc),
+            version_sets: Vec::new(alloc),
+            sites: Vec::new(alloc),
+            site_sets: Vec::new(alloc),
+            filters: Vec::new(alloc),
+            results: Vec::new(alloc),
+            variations: Variations::new(alloc),
+        }
+    }
+
     /// Adds what an accepted statement adds. After want of memory the tables say nothing any more.
-    pub(crate) fn add(&mut self, mut gain: Gain) -> Result<(), Memory>
-        requires { length self.old.variations + length gain.variations.items ≤ 128 }
+    pub(crate) fn add(&mut self, mut gain: Tables) -> Result<(), Memory>
+        requires { length self.old.variations + length gain.variations ≤ 128 }
         ensures { OnOk result (GrowBy self.old gain self.new) }
     {
         if !has_room(self.kinds.as_slice(), gain.kinds.as_slice()) {
@@ -141,6 +143,6 @@ impl Tables {
         self.site_sets.append(&mut gain.site_sets)?;
         self.filters.append(&mut gain.filters)?;
         self.results.append(&mut gain.results)?;
-        self.variations.append(&mut gain.variations)
+        self.variations.append(gain.variations)
     }
 }

@@ -21,17 +21,6 @@ impl Model for FullName {
     ghost view = { λ f. record { name = f.name; tag = f.tag } };
 }
 
-impl FullName {
-    fn new(alloc: Global, name: &Name, tag: &Name) -> Result<FullName, Memory>
-        ensures { IfOk result (λ f. f ≡ record { name = name.now; tag = tag.now }) }
-    {
-        Ok(FullName {
-            name: name.copy(alloc)?,
-            tag: tag.copy(alloc)?,
-        })
-    }
-}
-
 /// Variations, numbered from 0: full names in the order of their adding.
 #[derive(Drop)]
 pub struct Variations {
@@ -92,23 +81,27 @@ impl Variations {
     }
 
     /// Appends variations.
-    pub(crate) fn append(&mut self, more: &mut Vec<FullName>) -> Result<(), Memory>
-        requires { length self.old + length more.old.items ≤ 128 }
-        ensures added { OnOk result (self.new ≡ self.old ++ more.old.items) }
+    pub(crate) fn append(&mut self, mut more: Variations) -> Result<(), Memory>
+        requires { length self.old + length more ≤ 128 }
+        ensures added { OnOk result (self.new ≡ self.old ++ more) }
         ensures unchanged { OnErr result (self.new ≡ self.old) }
     {
-        self.items.append(more)?;
+        self.items.append(&mut more.items)?;
         Ok(())
     }
 }
 
 /// The variations of a Vary, one for each tag.
-pub(crate) fn full_names(alloc: Global, name: &Name, tags: &[Name]) -> Result<Vec<FullName>, Memory>
-    ensures { IfOk result (λ v. v.items ≡ named name.now tags.now) }
+pub(crate) fn full_names(alloc: Global, name: &Name, tags: &[Name]) -> Result<Variations, Memory>
+    requires { length tags.now ≤ 128 }
+    ensures { IfOk result (λ v. v ≡ named name.now tags.now) }
 {
     let mut items = Vec::new(alloc);
     for tag in tags {
-        items.push(FullName::new(alloc, name, tag)?)?;
+        items.push(FullName {
+            name: name.copy(alloc)?,
+            tag: tag.copy(alloc)?,
+        })?;
     }
-    Ok(items)
+    Ok(Variations { items })
 }

@@ -1,4 +1,6 @@
 // The check of a Vary.
+#![tactic(auto, using(crate::proofs::Checking::targets_more, crate::proofs::Checking::each_stop, crate::proofs::Checking::each_next, crate::proofs::Checking::handed_on, crate::proofs::Checking::no_memory, crate::proofs::Checking::decides_stop, crate::proofs::Checking::counted))]
+
 ghost use Rattle.std.specs.Prelude.{◌≡◌, ◌∷◌, ◌+◌, ℕ, List, [], length, map, nat_eq, nat_lt, ◌||◌, IfOk, OnOk};
 ghost use Rattle.rdf_values.specs.{check_list, check_lists, check_tags, check_values, check_vector_column, expect_kind, first_refusal, kind_of, refuse_unless, repeats, scope_of, Statement, variations};
 ghost use Rattle.rdf_values.specs.declared.scripts.graph_cause.GraphCause.TheVariants as cause_of;
@@ -15,7 +17,6 @@ use crate::tables::Change;
 use crate::variations::Variations;
 use expr_check::Checked;
 use rdf_values::{ColType, Expr, GraphCause, ListOf, Name, VaryValues};
-use std::alloc::Global;
 
 const MOST_TAGS: usize = 16;
 
@@ -50,7 +51,6 @@ fn are_too_many(known: &Variations, tags: &[Name]) -> bool
 }
 
 /// The columns that a Vary changes.
-#[tactic(auto, using(crate::proofs::Checking::targets_more))]
 fn check_targets(before: &Before<'_>, parent: &Name, columns: &[Name]) -> Option<GraphCause>
     ensures { result ≡ targets_at before.now.names.now (scope_of before.now.header.now) (history before.now) parent.now columns.now }
 {
@@ -63,27 +63,8 @@ fn check_targets(before: &Before<'_>, parent: &Name, columns: &[Name]) -> Option
     ])
 }
 
-/// An expression of a given kind, appended.
-#[tactic(auto, using(crate::proofs::Checking::handed_on, crate::proofs::Checking::no_memory))]
-fn push_expected(
-    alloc: Global,
-    before: &Before<'_>,
-    node: &Name,
-    kind: ColType,
-    expr: &Expr,
-    found: &mut Vec<Checked>,
-) -> Result<(), Stop>
-    ensures checked { OnOk result (AppendsChecked before.now node.now (expr.now ∷ []) found.old.items found.new.items) }
-    ensures decided { Decides (expect_kind kind (kind_of (scope_before before.now node.now) before.now.names.now expr.now)) result }
-{
-    push(found, before.expected(alloc, node, kind, expr)?)?;
-    Ok(())
-}
-
 /// Expressions of a given kind, appended.
-#[tactic(auto, using(crate::proofs::Checking::each_stop, crate::proofs::Checking::each_next, crate::proofs::Checking::handed_on))]
 fn check_exprs(
-    alloc: Global,
     before: &Before<'_>,
     node: &Name,
     kind: ColType,
@@ -96,8 +77,8 @@ fn check_exprs(
     let Some((first, rest)) = exprs.split_first() else {
         return Ok(());
     };
-    push_expected(alloc, before, node, kind, first, found)?;
-    check_exprs(alloc, before, node, kind, rest, found)
+    push(found, before.expected(node, kind, first)?)?;
+    check_exprs(before, node, kind, rest, found)
 }
 
 /// Whether a list has so many items.
@@ -108,9 +89,7 @@ fn has_count<T>(items: &[T], count: usize) -> bool
 }
 
 /// The list of a column: an expression of the column's kind for each tag.
-#[tactic(auto, using(crate::proofs::Checking::decides_stop, crate::proofs::Checking::counted))]
 fn check_list(
-    alloc: Global,
     before: &Before<'_>,
     node: &Name,
     tags: usize,
@@ -124,14 +103,13 @@ fn check_list(
         return Err(Stop::Cause(GraphCause::WrongCount));
     }
     let kind = before.kind_at(node, column);
-    let mut found = Vec::new(alloc);
-    check_exprs(alloc, before, node, kind, exprs, &mut found)?;
+    let mut found = Vec::new(before.alloc);
+    check_exprs(before, node, kind, exprs, &mut found)?;
     Ok(found)
 }
 
 /// A list for each column, as many lists as columns.
 fn check_lists(
-    alloc: Global,
     before: &Before<'_>,
     node: &Name,
     tags: usize,
@@ -143,13 +121,13 @@ fn check_lists(
     ensures decided { Decides (first_refusal (check_lists before.now.names.now (scope_before before.now node.now) tags columns.now lists.now)) result }
 {
     let Some((exprs, lists)) = lists.split_first() else {
-        return Ok(Vec::new(alloc));
+        return Ok(Vec::new(before.alloc));
     };
     let Some((column, columns)) = columns.split_first() else {
-        return Ok(Vec::new(alloc));
+        return Ok(Vec::new(before.alloc));
     };
-    let mut found = check_list(alloc, before, node, tags, column, exprs.as_slice())?;
-    let mut more = check_lists(alloc, before, node, tags, columns, lists)?;
+    let mut found = check_list(before, node, tags, column, exprs.as_slice())?;
+    let mut more = check_lists(before, node, tags, columns, lists)?;
     match found.append(&mut more) {
         Ok(()) => Ok(found),
         Err(_) => Err(Stop::Memory),
@@ -165,17 +143,12 @@ fn check_vector_column(before: &Before<'_>, node: &Name, columns: &[Name]) -> Op
     };
     match before.find_column(node, column) {
         None => Some(GraphCause::UnknownColumn),
-        Some((kind, _)) => {
-            let fits = same_kind(kind, ColType::Int);
-            refuse_unless(fits, GraphCause::WrongType)
-        }
+        Some((kind, _)) => refuse_unless(same_kind(kind, ColType::Int), GraphCause::WrongType),
     }
 }
 
 /// A vector for the only column.
-#[tactic(auto, using(crate::proofs::Checking::no_memory))]
 fn vector_value(
-    alloc: Global,
     before: &Before<'_>,
     node: &Name,
     columns: &[Name],
@@ -187,15 +160,14 @@ fn vector_value(
     if !has_count(columns, 1) {
         return Err(Stop::Cause(GraphCause::WrongCount));
     }
-    let checked = before.expected(alloc, node, ColType::Vect, expr)?;
+    let checked = before.expected(node, ColType::Vect, expr)?;
     stop_if(check_vector_column(before, node, columns))?;
-    let found = alone(alloc, checked)?;
+    let found = alone(before.alloc, checked)?;
     Ok(found)
 }
 
 /// The values of a Vary.
 fn check_values(
-    alloc: Global,
     before: &Before<'_>,
     node: &Name,
     tags: usize,
@@ -210,15 +182,14 @@ fn check_values(
             if !has_count(lists.as_slice(), columns.len()) {
                 return Err(Stop::Cause(GraphCause::WrongCount));
             }
-            check_lists(alloc, before, node, tags, columns, lists.as_slice())
+            check_lists(before, node, tags, columns, lists.as_slice())
         }
-        VaryValues::Vector(expr) => vector_value(alloc, before, node, columns, expr),
+        VaryValues::Vector(expr) => vector_value(before, node, columns, expr),
     }
 }
 
 /// A Vary.
 pub(crate) fn check_vary(
-    alloc: Global,
     before: &Before<'_>,
     node: &Name,
     change: &Change<'_>,
@@ -235,5 +206,5 @@ pub(crate) fn check_vary(
         check_tags(&before.tables.variations, change.tags, change.name),
     ]))?;
     let tags = change.tags.len();
-    check_values(alloc, before, parent, tags, columns, change.values)
+    check_values(before, parent, tags, columns, change.values)
 }

@@ -9,7 +9,6 @@ use crate::lookup::{at, list_start, numbers};
 use crate::tables::Change;
 use graph_numbers::{Source, Version};
 use rdf_values::{Column, ListOf, Memory, Name, VaryValues};
-use std::alloc::Global;
 
 /// Appends the table's columns, numbered from n on.
 pub(crate) fn push_cells(
@@ -30,7 +29,6 @@ pub(crate) fn push_cells(
 /// The column at a place of a Vary, over the version below it.
 #[tactic(auto, using(crate::proofs::Walking::counted_are))]
 fn varied_version(
-    alloc: Global,
     before: &Before<'_>,
     change: &Change<'_>,
     i: usize,
@@ -45,7 +43,7 @@ fn varied_version(
     match change.values {
         VaryValues::Lists(lists) => {
             let start = site + list_start(lists.as_slice(), i) as u32;
-            let sites = numbers(alloc, start, tags)?;
+            let sites = numbers(before.alloc, start, tags)?;
             Ok(Version::Varied {
                 below,
                 first,
@@ -54,23 +52,18 @@ fn varied_version(
                 vector: false,
             })
         }
-        VaryValues::Vector(_) => {
-            let mut sites = ListOf::new(alloc);
-            sites.push(site)?;
-            Ok(Version::Varied {
-                below,
-                first,
-                tags,
-                sites,
-                vector: true,
-            })
-        }
+        VaryValues::Vector(_) => Ok(Version::Varied {
+            below,
+            first,
+            tags,
+            sites: numbers(before.alloc, site, 1)?,
+            vector: true,
+        }),
     }
 }
 
 /// Appends the columns that a Vary changes, from a place on.
 pub(crate) fn push_varied(
-    alloc: Global,
     versions: &mut Vec<Version>,
     before: &Before<'_>,
     change: &Change<'_>,
@@ -83,8 +76,8 @@ pub(crate) fn push_varied(
     let Some((column, rest)) = columns.split_first() else {
         return Ok(());
     };
-    push(versions, varied_version(alloc, before, change, i, column)?)?;
-    push_varied(alloc, versions, before, change, i + 1, rest)
+    push(versions, varied_version(before, change, i, column)?)?;
+    push_varied(versions, before, change, i + 1, rest)
 }
 
 /// The place of a variation among so many from the first on.

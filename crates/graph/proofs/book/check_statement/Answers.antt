@@ -1,7 +1,7 @@
 use Rattle.std.proofs.Common.{IfOk, refl, sym, subst, ◌∙◌}
-use Rattle.rdf_values.specs.declared.scripts.statement.Statement.TheVariants.{Alias, Vary, VariationsFor, Watch, Print}
+use Rattle.rdf_values.specs.declared.scripts.statement.Statement.TheVariants.{Action, Alias, Report, Vary, VariationsFor, Watch, Print}
 use Rattle.graph.specs.{IsGain, statements}
-use Rattle.graph.proofs.Gaining.{decided_at, define_made, gained, nothing_gained, redefine_made}
+use Rattle.graph.proofs.Gaining.{decided_at, define_made, gained, nothing_gained, redefine_made, row_gained}
 use Rattle.graph.proofs.book.check_statement.Goals as goal
 
 pub returns-in-Define-clause-gained : goal.returns-in-Define-clause-gained
@@ -27,8 +27,21 @@ pub returns-in-Vary-clause-decided : goal.returns-in-Vary-clause-decided
 returns-in-Vary-clause-decided c = decided_at c.args.before.now.header.now c.args.before.now.names.now (statements c.args.before.now.lines.now) c.args.statement.now _ c.vary_gain.result
     (c.in-Vary.is ∙ (λ i. Vary c.in-Vary.node c.in-Vary.parent (sym c.as_slice.ensures i) c.in-Vary.values (sym c.as_slice-in-Vary.ensures i) c.in-Vary.name)) c.vary_gain.ensures.decided
 
+pub returns-in-Action-clause-gained : goal.returns-in-Action-clause-gained
+returns-in-Action-clause-gained c =
+    row_gained c.args.before.now.header.now c.args.before.now.names.now (statements c.args.before.now.lines.now) c.args.statement.now _ c.check_action.result c.row_gain.result c.in-Action.is c.row_gain.ensures.gained c.row_gain.ensures.decided c.check_action.ensures.row c.check_action.ensures.decided
+    (λ g x ok e row. gained c.args.before.now.header.now c.args.before.now.names.now (statements c.args.before.now.lines.now) (Action c.in-Action.result c.in-Action.parent c.in-Action.kind) g ok e refl (λ out o. o) (λ out o. o) tt row.rows row.path)
+
 pub returns-in-Action-clause-decided : goal.returns-in-Action-clause-decided
-returns-in-Action-clause-decided c = decided_at c.args.before.now.header.now c.args.before.now.names.now (statements c.args.before.now.lines.now) c.args.statement.now _ c.action_gain.result c.in-Action.is c.action_gain.ensures.decided
+returns-in-Action-clause-decided c = decided_at c.args.before.now.header.now c.args.before.now.names.now (statements c.args.before.now.lines.now) c.args.statement.now _ c.row_gain.result c.in-Action.is (c.row_gain.ensures.decided _ c.check_action.ensures.decided)
+
+pub returns-in-Report-clause-gained : goal.returns-in-Report-clause-gained
+returns-in-Report-clause-gained c =
+    row_gained c.args.before.now.header.now c.args.before.now.names.now (statements c.args.before.now.lines.now) c.args.statement.now _ c.check_report.result c.row_gain-in-Report.result c.in-Report.is c.row_gain-in-Report.ensures.gained c.row_gain-in-Report.ensures.decided c.check_report.ensures.row c.check_report.ensures.decided
+    (λ g x ok e row. gained c.args.before.now.header.now c.args.before.now.names.now (statements c.args.before.now.lines.now) (Report c.in-Report.result c.in-Report.parent) g ok e refl (λ out o. o) (λ out o. o) tt row.rows row.path)
+
+pub returns-in-Report-clause-decided : goal.returns-in-Report-clause-decided
+returns-in-Report-clause-decided c = decided_at c.args.before.now.header.now c.args.before.now.names.now (statements c.args.before.now.lines.now) c.args.statement.now _ c.row_gain-in-Report.result c.in-Report.is (c.row_gain-in-Report.ensures.decided _ c.check_report.ensures.decided)
 
 pub returns-in-Alias-clause-gained : goal.returns-in-Alias-clause-gained
 returns-in-Alias-clause-gained c =

@@ -1,6 +1,5 @@
-use Rattle.std.proofs.Common.{List, arith, rules, ap, length, subst}
-use Rattle.rdf_values.specs.{Line}
-use Rattle.graph.specs.{AreNamedInTurn, BeginsWith, statements}
+use Rattle.std.proofs.Common.{arith}
+use Rattle.graph.specs.{statements}
 use Rattle.graph.proofs.Looped.{begins_further, line_kept, no_lines}
 use Rattle.graph.proofs.loops.+loop_tables.Goals as goal
 

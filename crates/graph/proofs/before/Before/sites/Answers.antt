@@ -1,6 +1,5 @@
 use Rattle.std.proofs.Common.{arith, ap, length, ◌∙◌}
 use Rattle.std.proofs.lemmas.List.{length-map}
-use Rattle.rdf_values.specs.{Line}
 use Rattle.graph.specs.{statements}
 use Rattle.graph.proofs.SiteTotals.{sites_are, sites_fit}
 use Rattle.graph.proofs.before.Before.sites.Goals as goal

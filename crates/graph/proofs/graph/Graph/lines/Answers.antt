@@ -1,4 +1,4 @@
-use Rattle.std.proofs.Common.{◌∙◌, ap, arith, length}
+use Rattle.std.proofs.Common.{◌∙◌, ap, arith}
 use Rattle.std.proofs.lemmas.List.{length-reverse}
 use Rattle.graph.specs.{statements}
 use Rattle.graph_numbers.specs.{booked_statements}

@@ -1,7 +1,6 @@
 use Rattle.std.proofs.Common.{◌≡◌, ◌-◌, length, take, drop, ap, ◌∙◌, arith, slice_get, refl, sym}
 use Rattle.std.proofs.lemmas.List.{length-map}
 use Rattle.lemmas.proofs.{on_ok}
-use Rattle.rdf_values.specs.{Line}
 use Rattle.graph.specs.{passes_of_rows, statements}
 use Rattle.graph.proofs.Looped.{in_bounds, print_no_row, print_again, print_fills, open_passes, place_of_row}
 use Rattle.graph.proofs.loops.LoopTables.add_print.Goals as goal
@@ -23,9 +22,9 @@ pub returns-then-n-filled : goal.returns-then-n-filled
 returns-then-n-filled c =
     on_ok c.note.result _ _
     (print_again (statements c.args.script.now.lines.now) (statements c.args.before.now) c.args.name.now c.requires.named.0 c.requires.begins c.in-Some.n
-    (sym (place_of_row (statements c.args.script.now.lines.now) _ c.args.script.now.results.now c.args.name.now c.args.script.now.are.rows) ∙ sym c.in-Some.ensures.value) c.args.self.now c.note.new.self c.number_at-filler.result c.requires.old
+    (sym (place_of_row (statements c.args.script.now.lines.now) _ c.args.script.now.results.now c.args.name.now c.args.script.now.are.rows) ∙ sym c.in-Some.ensures.value) c.args.self.now c.note.new.self c.at-filler.result.now c.requires.old
     (let l : length c.as_slice-filled.result.now ≡ length c.args.self.now.fillers.items = ap length c.as_slice-filled.ensures.value in let lt = c.if-n-filled.true in omega (arith, l, lt))
-    (ap (λ xs. slice_get xs c.in-Some.n) (sym c.as_slice.ensures.value) ∙ c.number_at-filler.ensures)) c.note.ensures
+    (ap (λ xs. slice_get xs c.in-Some.n) (sym c.as_slice.ensures.value) ∙ c.at-filler.ensures)) c.note.ensures
 
 pub returns-in_ok-push_many : goal.returns-in_ok-push_many
 returns-in_ok-push_many c =
