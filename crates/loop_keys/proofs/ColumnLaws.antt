@@ -1,10 +1,10 @@
 -- The columns of a site can be asked for, and come to values of their kinds.
-use Rattle.std.proofs.Common.{◌≡◌, inl, inr, ℕ, zero, suc, ◌<◌, Bool, not, List, [], ◌∷◌, map, length, Option, Some, sym, ◌∙◌, subst, arith, nat_eq, slice_get, filter, unwrap_or}
+use Rattle.std.proofs.Common.{◌≡◌, ℕ, zero, suc, ◌<◌, Bool, not, List, [], ◌∷◌, map, length, Option, Some, sym, subst, arith, nat_eq, slice_get, filter, unwrap_or}
 use Rattle.std.specs.List.{AllByRecursion}
 use Rattle.std.proofs.lemmas.List.Elements.{All-from_recursion, recursion_from_All}
 use Rattle.std.proofs.lemmas.Option.{slice_get_within}
-use Rattle.rdf_values.specs.{ColType, Column, columns_in, FitRows, FitsRow, fn_names, history, NumTree, Value}
-use Rattle.rdf_model.specs.{FitsOutcome, Outcome}
+use Rattle.rdf_values.specs.{ColType, Column, columns_in, FitRows, FitsRow, history, NumTree, Value}
+use Rattle.rdf_model.specs.{FitsOutcome}
 use Rattle.expr_check.specs.{CheckedExpr, distinct}
 use Rattle.graph_numbers.specs.{graph_kinds, graph_sites, graph_under, IsBelow, IsSiteExpr, SiteAt, Source, version_count}
 use Rattle.graph_numbers.proofs.Equations.{columns_below}
@@ -13,7 +13,7 @@ use Rattle.graph_numbers.proofs.Listed.{by_test}
 use Rattle.graph_numbers.proofs.Meeting.{In, here, there, each_both, in_joined, in_left, each_at}
 use Rattle.graph_numbers.proofs.VersionKinds.{FitsVersion, site_fits}
 use Rattle.loop_keys.proofs.Elements.{at_in, each_in, of_option}
-use Rattle.loop_keys.specs.{CanEvaluate, CanLook, Held, IsJob, IsReadable, IsSound, job_graph, JobView, look_at, row_of, source_at, version_in}
+use Rattle.loop_keys.specs.{CanEvaluate, CanLook, Held, IsJob, IsReadable, IsSound, job_graph, JobView, look_at, row_of, source_at}
 use Rattle.loop_keys.proofs.EvaluateLaws.{accepted_of, told, IsToldOf}
 
 of_filter : {A : Type 0} {x : A} (p : A → Bool) (xs : List A) → In x (filter p xs) → In x xs
@@ -39,10 +39,7 @@ module _ (j : JobView) (job : IsJob j) (entry : ℕ) (u : Option ℕ) (cells : L
   told_fits : (x : SiteAt) (at : slice_get (graph_sites (job_graph j)) s ≡ Some x) (c : ℕ) (t : ColType) → slice_get (graph_kinds (job_graph j)) c ≡ Some t
       → IsToldOf j job entry u cells sound s x at c → FitsVersion j.dataset (row_of j entry) (graph_under (job_graph j) u) (fits_at j.dataset.columns j.dataset.rows entry job.table.fit can.within) (history j.script) c
       → FitsOutcome t (look_at j entry u cells c)
-  told_fits x at c t k (inl q) f =
-      let i : t ≡ f.0 = (let a : ◌≡◌ {A = Option ColType} (Some t) (Some f.0) = sym k ∙ f.1 in cc a) in
-      subst (λ (o : Outcome ℕ Value). FitsOutcome t o) (sym q) (subst (λ (v : ColType). FitsOutcome v (version_in {M = ℕ} j entry u c)) (sym i) f.2)
-  told_fits x at c t k (inr q) f = subst (λ (o : Outcome ℕ Value). FitsOutcome t o) (sym q.0) tt
+  told_fits x at c t k h f = grind arith
 
   pub can_evaluate : CanEvaluate j entry u cells e
   can_evaluate = let x = of_option (λ (x : SiteAt). x.tree) (slice_get (graph_sites (job_graph j)) s) e.tree its.tree in at_site x.0 x.1 x.2
@@ -75,7 +72,4 @@ module _ (j : JobView) (job : IsJob j) (entry : ℕ) (u : Option ℕ) (cells : L
           further_below src h = let lt = slice_get_within (graph_sites (job_graph j)) s x q in omega (arith, h, lt)
 
           readable : (c : ℕ) → (c < version_count j.dataset.columns (history j.script)) × IsBelow (length j.dataset.columns) s (source_at j u c) → IsReadable j u c
-          readable c h = (
-            subst (λ (n : ℕ). c < n) (sym (versions_count j.dataset.columns (fn_names j.dataset.fns) (history j.script))) h.0,
-            further_below (source_at j u c) h.1,
-          )
+          readable c h = grind (arith, versions_count, further_below)

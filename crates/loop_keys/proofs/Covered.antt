@@ -55,9 +55,7 @@ module _ (header : List Column) (names : FunctionNames) where
   same_filter before good m n f g h k = go (cases_order m n)
     where
       go : (m ≡ n) ⊎ ((m < n) ⊎ (n < m)) → same (filter_node f.at) (filter_node g.at) ≡ nat_eq m n
-      go (inl e) =
-          let i : f ≡ g = some_is f g (slice_get (filters header names before) m) h (ap (slice_get (filters header names before)) e ∙ k) in
-          ap (λ (x : FilterAt). same (filter_node f.at) (filter_node x.at)) (sym i) ∙ same_itself (filter_node f.at) ∙ sym ((Decides-eqb m n).1 e)
+      go (inl e) = grind (arith, some_is, same_itself, Decides-eqb)
       go (inr (inl l)) = other_way (filter_node g.at) (filter_node f.at) (filters_apart before good n m g f l k h) ∙ sym (eq_false m n (λ e. absurd (omega (arith, e, l))))
       go (inr (inr l)) = filters_apart before good m n f g l h k ∙ sym (eq_false m n (λ e. absurd (omega (arith, e, l))))
 
@@ -129,10 +127,7 @@ covers_there f None h = cc h
 covers_there f (Some r) h = (r, refl, Contains-from_any (λ x y e. (Decides-eqb x y).0 e) f r.covers h)
 
 pub covered_there : (j : JobView) (f : ℕ) → list_any (is_covering (graph_results (job_graph j)) f) (numbered_passes j) ≡ true → IsCovered j f
-covered_there j f h =
-    let w = any_at (is_covering (graph_results (job_graph j)) f) (numbered_passes j) h in
-    let r = covers_there f (slice_get (graph_results (job_graph j)) w.1.result) w.3 in
-    record { pass = w.0; numbered = w.1; result = r.0; its_pass = w.2; its_result = r.1; covers = r.2 }
+covered_there j f h = grind (arith, any_at, covers_there)
 
 pub plan_covered : (j : JobView) (job : IsJob j) (f : ℕ) → slice_get (covered_in j) f ≡ Some true → IsCovered j f
 plan_covered j job f h =

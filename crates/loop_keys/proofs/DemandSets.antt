@@ -1,11 +1,11 @@
 -- What a pass demands, as a set of sites by their keys; and how many keys that is.
-use Rattle.std.proofs.Common.{◌≡◌, ℕ, zero, suc, ◌+◌, ◌<◌, ◌≤◌, Bool, true, false, ◌||◌, List, [], ◌∷◌, length, Option, Some, refl, sym, ◌∙◌, ap, subst, arith, nat_eq, slice_get, if◌then◌else◌, take, None, All, count_by}
+use Rattle.std.proofs.Common.{◌≡◌, ℕ, zero, suc, ◌+◌, ◌<◌, ◌≤◌, Bool, true, false, ◌||◌, List, [], ◌∷◌, length, Option, Some, refl, sym, ◌∙◌, ap, arith, nat_eq, slice_get, if◌then◌else◌, All}
 use Rattle.std.specs.List.{list_any}
 use Rattle.std.proofs.lemmas.Bool.Decides.{Decides-eqb}
 use Rattle.std.proofs.lemmas.List.Elements.{recursion_from_All}
-use Rattle.rdf_values.specs.{fn_names, history, site_depends, Variation}
+use Rattle.rdf_values.specs.{fn_names, history}
 use Rattle.rdf_model.specs.{Demand, projected}
-use Rattle.graph_numbers.specs.{depends_on, graph_sites, graph_under, graph_variations, HasSourceIn, holds_at, SiteAt, Source}
+use Rattle.graph_numbers.specs.{graph_sites, graph_under, graph_variations, HasSourceIn, SiteAt, Source}
 use Rattle.graph_numbers.proofs.Closing.{IsDemanded, closed}
 use Rattle.graph_numbers.proofs.Demands.{AreExplained}
 use Rattle.graph_numbers.proofs.Meeting.{In}
@@ -23,10 +23,7 @@ keys_of_two P Q k zero = omega arith
 keys_of_two P Q k (suc n) = let a = keys_of_two P Q (suc k) n in let b = one (P k) (Q k) in omega (arith, a, b)
   where
     one : (p q : Bool) → (if (p || q) then 1 else 0) ≤ (if p then 1 else 0) + (if q then 1 else 0)
-    one true true = omega arith
-    one true false = omega arith
-    one false true = omega arith
-    one false false = omega arith
+    one p q = grind arith
 
 -- none of the keys after a key
 keys_past : (m k n : ℕ) → m < k → keys_in (λ i. nat_eq i m) k n ≡ 0
@@ -55,17 +52,7 @@ keys_few f (d ∷ ds) k n =
 
 module _ (j : JobView) (job : IsJob j) where
   slot_is : (x : SiteAt) (u : Option ℕ) → slot (graph_variations (job_graph j)) x (under_number (job_graph j) (projected x.at x.expr (graph_under (job_graph j) u))) ≡ slot (graph_variations (job_graph j)) x u
-  slot_is x None = refl
-  slot_is x (Some v) = go (slice_get (graph_variations (job_graph j)) v) refl
-    where
-      go : (o : Option Variation) → slice_get (graph_variations (job_graph j)) v ≡ o
-          → slot (graph_variations (job_graph j)) x (under_number (job_graph j) (projected x.at x.expr o)) ≡ (if holds_at (depends_on x) o then suc (count_by (depends_on x) (take v (graph_variations (job_graph j)))) else 0)
-      go None q = refl
-      go (Some w) q =
-          by_test (site_depends w x.at x.expr)
-          (λ e. rw (e, variation_number j.dataset.columns (fn_names j.dataset.fns) (history j.script) (accepted_of j job) v w q)
-          (ap (λ (b : Bool). if b then suc (count_by (depends_on x) (take v (graph_variations (job_graph j)))) else 0) (ap (holds_at (depends_on x)) q ∙ e)))
-          (λ e. rw e refl)
+  slot_is x u = grind (arith, by_test, variation_number, accepted_of)
 
   -- of a site under nominal or a variation
   pub demand_key_is : (s : ℕ) (x : SiteAt) (u : Option ℕ) → slice_get (graph_sites (job_graph j)) s ≡ Some x
@@ -89,24 +76,14 @@ module _ (j : JobView) (job : IsJob j) (entry : ℕ) (u : Option ℕ) (ds : List
 
   -- a demanded site is one of them
   pub demanded_in : (s : ℕ) → Demanded s → in_demands s ≡ true
-  demanded_in s h =
-      in_any (λ d. nat_eq (key (job_graph j) s u) (demand_key (job_graph j) d)) _ ds h.2
-      ((Decides-eqb (key (job_graph j) s u) _).1 (sym (demand_key_is j job s h.0 u h.1)))
+  demanded_in s h = grind (arith, in_any, Decides-eqb, demand_key_is)
 
   -- and each of them is demanded
   pub in_demanded : (s : ℕ) (x : SiteAt) → slice_get (graph_sites (job_graph j)) s ≡ Some x → in_demands s ≡ true → Demanded s
-  in_demanded s x q h =
-      let d = any_in (λ d. nat_eq (key (job_graph j) s u) (demand_key (job_graph j) d)) ds h in
-      let w = explained d.0 d.1 in
-      let a : key (job_graph j) s u ≡ demand_key (job_graph j) d.0 = (Decides-eqb (key (job_graph j) s u) (demand_key (job_graph j) d.0)).0 d.2 in
-      let b : demand_key (job_graph j) d.0 ≡ key (job_graph j) w.number u = ap (demand_key (job_graph j)) w.is ∙ demand_key_is j job w.number w.site u w.there_is in
-      let n : s ≡ w.number = key_site (graph_variations (job_graph j)) (graph_sites (job_graph j)) s w.number x w.site u u q w.there_is (sym (key_is (job_graph j) s x u q) ∙ a ∙ b ∙ key_is (job_graph j) w.number w.site u w.there_is) in
-      (w.site, ap (slice_get (graph_sites (job_graph j))) n ∙ w.there_is, subst (λ (y : Demand). In y ds) w.is d.1)
+  in_demanded s x q h = grind (arith, any_in, Decides-eqb, demand_key_is, key_site, key_is, In)
 
   source_by : (x : Source) → HasSourceIn Demanded x → IsSourceIn in_demands x
-  source_by (Source.Cell col) h = tt
-  source_by (Source.Site s) h = demanded_in s h
-  source_by (Source.Element s k tags) h = demanded_in s h
+  source_by x h = grind (arith, demanded_in)
 
   -- the set has with each site those of the versions that its evaluation meets
   pub demands_closed : IsClosed j entry u in_demands

@@ -1,9 +1,9 @@
 -- One pass of an entry, over plain values.
-use Rattle.std.proofs.Common.{◌≡◌, ℕ, suc, ◌+◌, ◌<◌, ◌≤◌, List, ◌∷◌, ◌++◌, length, take, Option, Some, None, option_map, refl, sym, ◌∙◌, ap, arith, get_or, slice_get, MatchOption}
+use Rattle.std.proofs.Common.{◌≡◌, ℕ, suc, ◌+◌, ◌<◌, ◌≤◌, List, ◌∷◌, length, take, Option, Some, None, option_map, refl, sym, ◌∙◌, ap, arith, get_or, slice_get, MatchOption}
 use Rattle.std.proofs.lemmas.Option.{slice_get-get_or}
 use Rattle.lemmas.proofs.{take_all}
 use Rattle.rdf_values.specs.{ActionAt, Booking, Pass, ReportOn}
-use Rattle.rdf_model.specs.{kind_in, kinds_in}
+use Rattle.rdf_model.specs.{kinds_in}
 use Rattle.graph_numbers.specs.{graph_results, kind_of_booking, Pass as NumberedPass, ResultAt, ResultKind}
 use Rattle.loop_keys.specs.{actions_before, IsActionBooking, IsActionPass, IsReportPass, job_graph, JobView, numbered_in, numbered_passes, passes_in}
 use Rattle.loop_keys.proofs.PassNumbers.{pass_of, result_there, some_same}
@@ -19,20 +19,12 @@ module _ (j : JobView) (n : ℕ) (m : NumberedPass) (its : numbered_in j n ≡ S
   found_is = some_same found (kind_of_booking its_result.booked.booking) (sym q ∙ ap (option_map (λ (x : ResultAt). kind_of_booking x.booked.booking)) (result_there j n m its).1)
 
   pub found_report : found ≡ ResultKind.Report → IsReportPass j n m.result
-  found_report e = go its_result.booked.booking refl (sym found_is ∙ e)
-    where
-      go : (b : Booking) → its_result.booked.booking ≡ b → kind_of_booking b ≡ ResultKind.Report → IsReportPass j n m.result
-      go (ActionAt l at) s h = cc h
-      go (ReportOn fs) s h = record { numbered = m; its_pass = its; its_result = refl; result = its_result; there_is = (result_there j n m its).1; filters = fs; report = s }
+  found_report e = grind (arith, found_is, result_there)
 
 -- ---- places
 
 pub actions_few : (n : ℕ) (ps : List Pass) → length (kinds_in (take n ps)) ≤ n
-actions_few (suc n) (p ∷ ps) = go p.result.booking (actions_few n ps)
-  where
-    go : (b : Booking) → length (kinds_in (take n ps)) ≤ n → length (kind_in b ++ kinds_in (take n ps)) ≤ suc n
-    go (ActionAt k at) h = omega (arith, h)
-    go (ReportOn fs) h = omega (arith, h)
+actions_few (suc n) (p ∷ ps) = grind (arith, actions_few n ps)
 actions_few n ps = omega arith
 
 pub action_next : (j : JobView) (n place : ℕ) → IsActionPass j n → place ≡ actions_before j n → place + 1 ≡ actions_before j (n + 1)

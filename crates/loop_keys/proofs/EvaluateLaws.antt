@@ -3,7 +3,7 @@ use Rattle.std.proofs.Common.{◌≡◌, ◌≢◌, ◌⊎◌, inl, inr, ℕ, �
 use Rattle.std.proofs.lemmas.Bool.Decides.{Decides-eqb}
 use Rattle.std.proofs.lemmas.Option.{slice_get_within}
 use Rattle.rdf_values.specs.{AreAccepted, EachColumn, fn_names, history, scope_of, Value}
-use Rattle.rdf_model.specs.{◌>>=◌, call_outcome, evaluate, Faults, Gives, is_need, Needs, Outcome, tag_element, with_needs, without}
+use Rattle.rdf_model.specs.{◌>>=◌, call_outcome, evaluate, is_need, Needs, Outcome, tag_element, with_needs, without}
 use Rattle.rdf_model.proofs.Close as close
 use Rattle.rdf_model.proofs.Verdicts.{verdict_is_the_first_refusal}
 use Rattle.graph_numbers.specs.{graph_sites, graph_under, IsBelow, site_outcome, site_value, SiteAt, Source, source_value, version_count}
@@ -52,11 +52,7 @@ module _ (j : JobView) (job : IsJob j) (entry : ℕ) (u : Option ℕ) (cells : L
       (λ e. inr (ap (λ h. held_or_need c h >>= tag_element tags i) e, (b, e))) (λ k. inl (ap (λ o. o >>= tag_element tags i) (k c)))
 
   told_column : (c : ℕ) → (c < version_count j.dataset.columns (history j.script)) × IsBelow (length j.dataset.columns) s (source_at j u c) → IsToldOf c
-  told_column c b = go (told_source c (source_at j u c) b.1)
-    where
-      go : (look_at j entry u cells c ≡ version_in j entry u c) ⊎ ((look_at j entry u cells c ≡ Needs c) × IsMissingSource j u cells s (source_at j u c)) → IsToldOf c
-      go (inl e) = inl e
-      go (inr k) = inr (k.0, (subst (λ (n : ℕ). c < n) (sym (versions_count j.dataset.columns (fn_names j.dataset.fns) (history j.script))) b.0, k.1))
+  told_column c b = grind (arith, told_source, versions_count)
 
   pub told : EachColumn IsToldOf x.tree
   told =
@@ -82,27 +78,13 @@ module _ (j : JobView) (job : IsJob j) (entry : ℕ) (u : Option ℕ) (cells : L
   closes : close.Close IsLacking looked (evaluate (version_in {M = ℕ} j entry u) (call_outcome j.dataset.fns) x.tree)
   closes = close.evaluate_close IsLacking (look_at j entry u cells) (version_in j entry u) (call_outcome j.dataset.fns) x.tree (each_weaker IsToldOf _ close_column x.tree told)
 
-  -- an outcome that isn't held as a need
-  right_of : (h : Held) (o : Outcome ⊥ Value) → is_held h ≡ true → held_or_need 0 h ≡ with_needs o → IsRight o h
-  right_of Held.Nothing o k e = cc k
-  right_of h (Needs m) k e = elim m [ ]
-  right_of (Held.Int z) (Gives v) k e = let i : Value.Int z ≡ v = cc e in ap Gives i
-  right_of (Held.Bool z) (Gives v) k e = let i : Value.Bool z ≡ v = cc e in ap Gives i
-  right_of (Held.Vect z) (Gives v) k e = let i : Value.Vect z ≡ v = cc e in ap Gives i
-  right_of (Held.Faulted f) (Faults g) k e = let i : f ≡ g = cc e in ap Faults i
-  right_of h o k e = cc e
-
-  not_needed : (h : Held) (c : ℕ) → is_held h ≡ true → held_or_need 0 h ≡ Needs c → ⊥
-  not_needed Held.Nothing c k e = cc k
-  not_needed h c k e = cc e
-
   -- what was found is the site's outcome
   pub found_right : (h : Held) → is_held h ≡ true → held_or_need 0 h ≡ looked → IsRight (site_in j entry u s) h
   found_right h k e = go looked (evaluate (version_in {M = ℕ} j entry u) (call_outcome j.dataset.fns) x.tree) closes e whole
     where
       go : (o p : Outcome ℕ Value) → close.Close IsLacking o p → held_or_need 0 h ≡ o → p ≡ with_needs (site_in j entry u s) → IsRight (site_in j entry u s) h
-      go o p close.same q r = right_of h (site_in j entry u s) k (q ∙ r)
-      go o p (close.missing {d = d} n) q r = absurd (not_needed h d k q)
+      go o p close.same q r = grind arith
+      go o p (close.missing {d = d} n) q r = grind arith
 
   abbrev number_in : ℕ → Outcome ℕ Value → ℕ
   number_in d (Needs c) = c

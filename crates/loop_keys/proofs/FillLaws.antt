@@ -1,13 +1,11 @@
 -- Writing an outcome, and filling one site after another.
-use Rattle.std.proofs.Common.{◌≡◌, ℕ, ◌+◌, ◌<◌, ◌≤◌, Bool, true, List, Option, Some, sym, ◌∙◌, ap, subst, arith, length, get_or-set_same, get_or-set_other, cond, ◌⊎◌, inl, inr, slice_get, slice_set}
+use Rattle.std.proofs.Common.{◌≡◌, ℕ, ◌+◌, ◌<◌, Bool, true, List, Option, Some, sym, ◌∙◌, ap, subst, arith, length, get_or-set_same, get_or-set_other, ◌⊎◌, inl, inr, slice_get, slice_set}
 use Rattle.std.proofs.lemmas.Bool.{cases_eq}
 use Rattle.std.proofs.lemmas.List.Sums.{sum_by-set}
 use Rattle.lemmas.proofs.{something_at}
-use Rattle.rdf_values.specs.{history, Value}
-use Rattle.rdf_model.specs.{Outcome}
 use Rattle.expr_check.specs.{CheckedExpr}
-use Rattle.graph_numbers.specs.{graph_sites, graph_under, graph_variations, IsSiteExpr, site_outcome, site_value, SiteAt, Source}
-use Rattle.loop_keys.specs.{CanLook, Grows, Held, held_count, held_in, is_held, IsFilled, IsJob, IsRight, IsSiteOf, IsSound, IsSourceIn, job_graph, JobView, key, key_count, OnlyIn, row_of, site_in, slot}
+use Rattle.graph_numbers.specs.{graph_sites, graph_variations, IsSiteExpr, SiteAt, Source}
+use Rattle.loop_keys.specs.{CanLook, Grows, Held, held_count, held_in, is_held, IsFilled, IsJob, IsRight, IsSiteOf, IsSound, IsSourceIn, job_graph, JobView, key, key_count, OnlyIn, site_in}
 use Rattle.loop_keys.specs.declared.held.Held.TheVariants.{Nothing}
 use Rattle.loop_keys.proofs.Elements.{of_option}
 use Rattle.loop_keys.proofs.KeyLaws.{key_below, key_is, key_site, same_slot}
@@ -43,17 +41,7 @@ module _ (j : JobView) (entry : ℕ) (u : Option ℕ) (cells : List Held) (can :
       subst (λ (m : ℕ). key (job_graph j) m w ≡ key (job_graph j) s u → IsRight (site_in j entry w m) h) (sym n) (λ k. here x.0 x.1 k) e
     where
       here : (x : SiteAt) → slice_get (graph_sites (job_graph j)) s ≡ Some x → key (job_graph j) s w ≡ key (job_graph j) s u → IsRight (site_in j entry w s) h
-      here x q k =
-          let a = sym (key_is (job_graph j) s x w q) ∙ k ∙ key_is (job_graph j) s x u q in
-          let b : slot (graph_variations (job_graph j)) x w ≡ slot (graph_variations (job_graph j)) x u = omega (arith, a) in
-          let v = value_of x q w b in
-          subst (λ (o : Outcome ⊥ Value). IsRight o h) v right
-        where
-          value_of : (x : SiteAt) → slice_get (graph_sites (job_graph j)) s ≡ Some x → (w : Option ℕ) → slot (graph_variations (job_graph j)) x w ≡ slot (graph_variations (job_graph j)) x u → site_in {M = ⊥} j entry u s ≡ site_in j entry w s
-          value_of x q w b =
-              let o = same_slot (history j.script) {M = ⊥} j.dataset.fns j.dataset.columns (row_of j entry) x u w (sym b) in
-              ap (site_value (λ x. site_outcome j.dataset.fns j.dataset.columns (row_of j entry) x (graph_under (job_graph j) u))) q ∙ o
-              ∙ ap (site_value (λ x. site_outcome j.dataset.fns j.dataset.columns (row_of j entry) x (graph_under (job_graph j) w))) (sym q)
+      here x q k = grind (arith, key_is, same_slot)
 
   sound_after : IsSound j entry (slice_set cells (key (job_graph j) s u) h)
   sound_after = record { each = λ w t lt. go w t lt (cases_eq (key (job_graph j) t w) (key (job_graph j) s u)) }
@@ -67,12 +55,7 @@ module _ (j : JobView) (entry : ℕ) (u : Option ℕ) (cells : List Held) (can :
   not_here k p e = absurd (cc (sym p ∙ ap (λ x. is_held (held_in cells x)) e ∙ ap is_held empty))
 
   count_after : held_count (slice_set cells (key (job_graph j) s u) h) ≡ held_count cells + 1
-  count_after =
-      let e : held_count (slice_set cells (key (job_graph j) s u) h) + cond (is_held (held_in cells (key (job_graph j) s u))) 1 0 ≡ held_count cells + cond (is_held h) 1 0 =
-      sum_by-set (λ (x : Held). cond (is_held x) 1 0) cells (key (job_graph j) s u) h Nothing place_inside in
-      let p : cond (is_held (held_in cells (key (job_graph j) s u))) 1 0 ≡ ◌+◌ 0 0 = ap (λ x. cond (is_held x) 1 0) empty in
-      let q : cond (is_held h) 1 0 ≡ 0 + 1 = ap (λ b. cond b 1 0) held in
-      omega (arith, e, p, q)
+  count_after = grind (arith, sum_by-set, place_inside)
 
   -- a key of a later site is another one
   later : (t : ℕ) (w : Option ℕ) → s < t → t < length (graph_sites (job_graph j)) → key (job_graph j) t w ≡ key (job_graph j) s u → ⊥
@@ -83,11 +66,7 @@ module _ (j : JobView) (entry : ℕ) (u : Option ℕ) (cells : List Held) (can :
       absurd (omega (arith, a, b, e))
 
   only_after : (D : ℕ → Bool) → D s ≡ true → OnlyIn j u D s cells (slice_set cells (key (job_graph j) s u) h)
-  only_after D d k p = go (cases_eq k (key (job_graph j) s u))
-    where
-      go : (k ≡ key (job_graph j) s u) ⊎ (k ≡ key (job_graph j) s u → ⊥) → (is_held (held_in cells k) ≡ true) ⊎ ((t : ℕ) × (t ≤ s) × (D t ≡ true) × (k ≡ key (job_graph j) t u))
-      go (inl e) = inr (s, omega arith, d, e)
-      go (inr n) = inl (ap is_held (sym (at_other k n)) ∙ p)
+  only_after D d = grind (arith, cases_eq, at_other)
 
   at_key : IsFilled j entry u s cells (slice_set cells (key (job_graph j) s u) h) × (held_count (slice_set cells (key (job_graph j) s u) h) ≡ held_count cells + 1)
   at_key = (
@@ -104,9 +83,7 @@ module _ (j : JobView) (entry : ℕ) (u : Option ℕ) (cells : List Held) (can :
 
   -- the outcome is written at the site's key
   pub written : (after : List Held) → after ≡ slice_set cells place h → IsFilled j entry u s cells after × (held_count after ≡ held_count cells + 1)
-  written after e =
-      subst (λ (hs : List Held). IsFilled j entry u s cells hs × (held_count hs ≡ held_count cells + 1)) (sym e)
-      (subst (λ (k : ℕ). IsFilled j entry u s cells (slice_set cells k h) × (held_count (slice_set cells k h) ≡ held_count cells + 1)) (sym is) at_key)
+  written after e = grind (arith, at_key)
 
 -- ---- one site after another
 

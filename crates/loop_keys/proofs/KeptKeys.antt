@@ -1,5 +1,5 @@
 -- The keys of sites, one site after another.
-use Rattle.std.proofs.Common.{◌≡◌, ℕ, zero, suc, ◌+◌, ◌<◌, ◌≤◌, Bool, true, false, cond, List, [], ◌∷◌, length, take, Option, Some, None, refl, sym, ◌∙◌, ap, arith, add-one, slice_get, if◌then◌else◌, count_by}
+use Rattle.std.proofs.Common.{◌≡◌, ℕ, zero, suc, ◌+◌, ◌<◌, ◌≤◌, Bool, false, List, ◌∷◌, length, take, Option, Some, None, refl, sym, ◌∙◌, ap, arith, add-one, slice_get, if◌then◌else◌, count_by}
 use Rattle.lemmas.proofs.{something_at, take_all}
 use Rattle.graph.specs.{has, members_below, VarSet}
 use Rattle.graph_numbers.specs.{depends_on, graph_sites, graph_variations, GraphView, holds_at, site_depends_at, SiteAt}
@@ -9,11 +9,7 @@ use Rattle.loop_keys.proofs.KeyLaws.{counted, key_is, keys_next, keys_none}
 -- ---- members and places
 
 one_more : {A : Type 0} (p : A → Bool) (n : ℕ) (xs : List A) → count_by p (take (suc n) xs) ≡ count_by p (take n xs) + (if holds_at p (slice_get xs n) then 1 else 0)
-one_more p zero (x ∷ xs) = let a = counted p x [] in let b = same (p x) in omega (arith, a, b)
-  where
-    same : (b : Bool) → ◌≡◌ {A = ℕ} (cond b 1 0) (if b then 1 else 0)
-    same true = refl
-    same false = refl
+one_more p zero (x ∷ xs) = grind (arith, counted)
 one_more p (suc n) (x ∷ xs) = let a = counted p x (take (suc n) xs) in let b = counted p x (take n xs) in let c = one_more p n xs in omega (arith, a, b, c)
 one_more p n xs = refl
 

@@ -67,10 +67,7 @@ module _ (script : List Statement) where
 
     -- one slot, one outcome
     pub same_slot : (u w : Option ℕ) → slot vs x u ≡ slot vs x w → at (under_at script u) ≡ at (under_at script w)
-    same_slot None None e = refl
-    same_slot None (Some w) e = nominal_varied w (holds_at (depends_on x) (slice_get vs w)) refl e
-    same_slot (Some v) None e = sym (nominal_varied v (holds_at (depends_on x) (slice_get vs v)) refl (sym e))
-    same_slot (Some v) (Some w) e = same_varied v w (holds_at (depends_on x) (slice_get vs v)) (holds_at (depends_on x) (slice_get vs w)) refl refl e
+    same_slot u w e = grind (arith, nominal_varied, same_varied)
 
 -- ---- sites
 
@@ -95,8 +92,7 @@ module _ (vs : List Variation) where
 
     -- a site's keys end where those of the next one begin
     pub key_below : (s t : ℕ) (x : SiteAt) (u : Option ℕ) → slice_get xs s ≡ Some x → s < t → at_key s x u < keys_before vs xs t
-    key_below s t x u h lt =
-        let a = keys_next xs s x h in let b = slot_small vs x u in let c = keys_rise xs (suc s) t (omega (arith, lt)) in omega (arith, a, b, c)
+    key_below s t x u h lt = grind (arith, keys_next, by_test, taken_fewer, keys_rise)
 
     -- the keys of two sites differ
     pub key_site : (s t : ℕ) (x y : SiteAt) (u w : Option ℕ) → slice_get xs s ≡ Some x → slice_get xs t ≡ Some y → at_key s x u ≡ at_key t y w → s ≡ t

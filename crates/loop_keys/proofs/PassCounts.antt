@@ -1,10 +1,10 @@
 -- How many passes a loop has.
-use Rattle.std.proofs.Common.{◌≡◌, ℕ, zero, suc, ◌*◌, ◌<◌, ◌≤◌, ◌^◌, Bool, true, false, not, List, [], ◌∷◌, length, map, Option, Some, None, refl, ap, arith, slice_get, unwrap_or, if◌then◌else◌, length-append}
+use Rattle.std.proofs.Common.{◌≡◌, ℕ, suc, ◌*◌, ◌<◌, ◌≤◌, ◌^◌, Bool, not, List, [], ◌∷◌, length, map, Option, Some, None, refl, arith, slice_get, unwrap_or, if◌then◌else◌, length-append}
 use Rattle.std.proofs.Math.Nat.{mul-le-mul, mul-le-mul_right}
 use Rattle.std.proofs.lemmas.List.{length-map, length-reverse}
-use Rattle.rdf_values.specs.{among, Booked, bookings, filled, has_variations, history, Line, result_depends, Script, Statement, variations}
+use Rattle.rdf_values.specs.{among, Booked, bookings, filled, history, Line, Script, Statement, variations}
 use Rattle.rdf_values.specs.declared.scripts.statement.Statement.TheVariants.{Print}
-use Rattle.graph_numbers.specs.{booked_statements, graph_loops, graph_variations, GraphView, IsGraph, loops, numbered_pass, own_loop, Pass as NumberedPass, passes_from, places_from, result_passes}
+use Rattle.graph_numbers.specs.{booked_statements, graph_loops, graph_variations, GraphView, IsGraph, loops, own_loop, Pass as NumberedPass, passes_from, places_from, result_passes}
 use Rattle.graph_numbers.proofs.Listed.{by_test, joined}
 use Rattle.loop_keys.specs.{IsJob, job_graph, JobView, numbered_passes}
 use Rattle.graph.proofs.Looped.{bookings_few}
@@ -15,9 +15,7 @@ places_few test n (x ∷ xs) = let h = places_few test (suc n) xs in by_test (te
 
 module _ (script : List Statement) where
   result_few : (n : ℕ) (b : Booked) → length (result_passes script n b) ≤ suc (length (variations script))
-  result_few n b =
-      let l = length-map (places_from (λ v. result_depends v b.booking) 0 (variations script)) (λ v. numbered_pass n (Some v)) in
-      let h = places_few (λ v. result_depends v b.booking) 0 (variations script) in by_test (has_variations script b.name) (λ e. rw e (omega (arith, h, l))) (λ e. rw e (omega arith))
+  result_few n b = grind (arith, length-map, places_few, by_test)
 
   passes_few : (test : Booked → Bool) (n : ℕ) (bs : List Booked) → length (passes_from script test n bs) ≤ length bs * suc (length (variations script))
   passes_few test n [] = omega arith
@@ -31,14 +29,7 @@ module _ (script : List Statement) where
     where
       printed : (b : Bool) (i : ℕ) → slice_get (if b then [] else passes_from script (λ (b : Booked). not (among b.name (filled before))) 0 (bookings before) ∷ []) i ≡ Some ps
           → length ps ≤ suc (length before) * suc (length (variations script))
-      printed true i q = cc q
-      printed false (suc i) q = cc q
-      printed false zero q =
-          let e : passes_from script (λ (b : Booked). not (among b.name (filled before))) 0 (bookings before) ≡ ps = cc q in
-          let l : length (passes_from script (λ (b : Booked). not (among b.name (filled before))) 0 (bookings before)) ≡ length ps = ap length e in
-          let a = passes_few (λ (b : Booked). not (among b.name (filled before))) 0 (bookings before) in
-          let b = mul-le-mul_right {m = length (bookings before)} {n = suc (length before)} (suc (length (variations script))) (let c = bookings_few before in omega (arith, c)) in
-          omega (arith, l, a, b)
+      printed b i q = grind (arith, passes_few, mul-le-mul_right, bookings_few)
 
       own : (s : Statement) (i : ℕ) → slice_get (own_loop script before s) i ≡ Some ps → length ps ≤ suc (length before) * suc (length (variations script))
       own (Print result) i q = printed (among result (filled before)) i q

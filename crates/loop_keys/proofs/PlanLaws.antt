@@ -24,9 +24,7 @@ module _ (j : JobView) (ps : List NumberedPass) (e : ps ≡ numbered_passes j) (
   test m = is_covering (graph_results (job_graph j)) f m
 
   pub result_below : (g : GraphView) → g ≡ job_graph j → (i : ℕ) (d : NumberedPass) → i < length ps → (get_or ps i d).result < length (graph_results g)
-  result_below g h i d lt =
-      let a = result_inside j i (get_or ps i d) (ap (λ qs. slice_get qs i) (sym e) ∙ slice_get-get_or ps i d lt) in
-      let l : length (graph_results g) ≡ length (graph_results (job_graph j)) = ap (λ (v : GraphView). length (graph_results v)) h in omega (arith, a, l)
+  result_below g h i d lt = grind (arith, result_inside, slice_get-get_or)
 
   pub cover_next : (i : ℕ) (d : NumberedPass) → i < length ps → list_any test (take i ps) ≡ false → test (get_or ps i d) ≡ false → list_any test (take (i + 1) ps) ≡ false
   cover_next i d lt h k = list_any_more test ps i d lt ∙ (λ t. h t || k t)

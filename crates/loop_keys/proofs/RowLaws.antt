@@ -1,10 +1,9 @@
 -- Where what is read of an entry stands, and how it is found there.
-use Rattle.std.proofs.Common.{◌≡◌, ◌⊎◌, inl, inr, ℕ, zero, suc, ◌+◌, ◌<◌, ◌≤◌, List, [], ◌∷◌, ◌++◌, length, Option, Some, None, refl, sym, ◌∙◌, ap, subst, arith, get_or, slice_get, if◌then◌else◌, count_by, take}
+use Rattle.std.proofs.Common.{◌≡◌, ◌⊎◌, inl, inr, ℕ, zero, suc, ◌+◌, ◌<◌, ◌≤◌, List, [], ◌∷◌, ◌++◌, length, Option, Some, None, refl, sym, ◌∙◌, ap, subst, arith, get_or, slice_get}
 use Rattle.std.proofs.lemmas.List.{get_or_past}
 use Rattle.std.proofs.lemmas.Bool.{cases_lt}
 use Rattle.std.proofs.lemmas.Option.{get_or_from_slice_get, slice_get_past}
-use Rattle.rdf_values.specs.{Variation}
-use Rattle.graph_numbers.specs.{booked_statements, depends_on, graph_sites, graph_sources, graph_variations, GraphView, holds_at, SiteAt, Source, source_in, sources}
+use Rattle.graph_numbers.specs.{graph_sites, graph_sources, graph_variations, GraphView, SiteAt, Source, source_in}
 use Rattle.loop_keys.proofs.Elements.{more_each, read_each}
 use Rattle.loop_keys.specs.{AreEach, AreKeys, AreUnder, IsRow, key, key_count, key_or_count, key_under, keys_before, Place, place_of, Row, row_under, slot_at}
 use Rattle.loop_keys.proofs.KeyLaws.{key_small}
@@ -34,9 +33,7 @@ module _ (g : GraphView) (u : Option ℕ) (keys : List ℕ) (all : AreUnder g u 
       go (inr le) = get_or_past keys s count (let m = all.many in omega (arith, m, le)) ∙ is ∙ sym (key_past g s u le)
 
   pub place_found : (x : Source) → place_of (key_or_count keys count) x ≡ place_of (key_under g u) x
-  place_found (Source.Cell col) = refl
-  place_found (Source.Site s) = ap Place.Key (key_found s)
-  place_found (Source.Element s k tags) = ap (λ n. Place.Element n k tags) (key_found s)
+  place_found x = grind (arith, key_found)
 
   -- one more version
   pub more_places : (n : ℕ) (ps : List Place) → AreEach (λ c p. p ≡ place_of (key_under g u) (source_in (graph_sources g u) c)) n ps → (x : Source) → slice_get (graph_sources g u) n ≡ Some x
@@ -57,28 +54,10 @@ more_rows g v rs each r h qs q =
 
 module _ (g : GraphView) (v : ℕ) (past : length (graph_variations g) ≤ v) where
   as_nominal : (s : ℕ) → key g s None ≡ key g s (Some v)
-  as_nominal s = ap (λ n. keys_before (graph_variations g) (graph_sites g) s + n) (go (slice_get (graph_sites g) s))
-    where
-      go : (o : Option SiteAt) → slot_at (graph_variations g) o None ≡ slot_at (graph_variations g) o (Some v)
-      go None = refl
-      go (Some x) = sym (ap (λ (w : Option Variation). if holds_at (depends_on x) w then suc (count_by (depends_on x) (take v (graph_variations g))) else 0) (slice_get_past (graph_variations g) v past))
+  as_nominal s = grind (arith, slice_get_past)
 
   pub as_nominal_row : (r : Row) → IsRow g None r → IsRow g (Some v) r
-  as_nominal_row r h = record {
-    keys = record { many = h.keys.many; each = λ s k q. h.keys.each s k q ∙ as_nominal s };
-    places = record {
-      many = h.places.many;
-      each = λ c p q. h.places.each c p q ∙ moved (source_in (graph_sources g None) c) ∙ ap (λ (xs : List Source). place_of (key_under g (Some v)) (source_in xs c)) sources_same;
-    };
-  }
-    where
-      moved : (x : Source) → place_of (key_under g None) x ≡ place_of (key_under g (Some v)) x
-      moved (Source.Cell col) = refl
-      moved (Source.Site s) = ap Place.Key (as_nominal s)
-      moved (Source.Element s k tags) = ap (λ n. Place.Element n k tags) (as_nominal s)
-
-      sources_same : graph_sources g None ≡ graph_sources g (Some v)
-      sources_same = ap (λ (w : Option Variation). sources g.header g.names w (booked_statements g)) (sym (slice_get_past (graph_variations g) v past))
+  as_nominal_row r h = grind (arith, as_nominal, slice_get_past)
 
 -- ---- the row of nominal or a variation
 

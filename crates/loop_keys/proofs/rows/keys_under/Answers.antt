@@ -1,6 +1,6 @@
 use Rattle.std.proofs.Common.{◌≡◌, ◌<◌, ◌+◌, length, sym, subst, ◌∙◌, ap, arith}
-use Rattle.graph_numbers.specs.{graph_sites, graph_variations}
-use Rattle.loop_keys.specs.{AreEach, key, keys_before}
+use Rattle.graph_numbers.specs.{graph_sites}
+use Rattle.loop_keys.specs.{AreEach, key}
 use Rattle.loop_keys.proofs.Elements.{more_each, none_each}
 use Rattle.loop_keys.proofs.KeptKeys.{here_key, next_first, no_keys}
 use Rattle.loop_keys.proofs.rows.keys_under.Goals as goal
@@ -13,11 +13,7 @@ overflow_add-first-in-loop-site c =
     let a = c.loop-site.invariant.small in let b = c.count.ensures.bound in let d = c.loop-site-test.true in let e = c.sites-site-end.type_inv in omega (arith, a, b, d, e)
 
 pub loop-site-init : goal.loop-site-init
-loop-site-init c = record {
-  each = subst (AreEach (λ s k. k ≡ key c.args.graph.now s c.args.under) 0) (sym c.new-keys.ensures) (none_each (λ s k. k ≡ key c.args.graph.now s c.args.under));
-  next = no_keys c.args.graph.now;
-  small = omega arith;
-}
+loop-site-init = grind (arith, none_each, no_keys)
 
 pub loop-site-preserved : goal.loop-site-preserved
 loop-site-preserved c =
@@ -34,7 +30,4 @@ loop-site-preserved c =
     }
 
 pub returns : goal.returns
-returns c =
-    let done : c.loop-site.site ≡ length (graph_sites c.args.graph.now) = (let a = c.loop-site-test.false in let b = c.loop-site.auto.site-end in let e = c.sites-site-end.ensures in omega (arith, a, b, e)) in
-    let i = c.loop-site.invariant in
-    (record { many = i.each.many ∙ done; each = i.each.each }, i.next ∙ ap (keys_before (graph_variations c.args.graph.now) (graph_sites c.args.graph.now)) done)
+returns = grind arith
