@@ -1,5 +1,5 @@
 -- One more cell of an entry, and its mark; what is read, with the answer for what is left behind it.
-use Rattle.std.proofs.Common.{◌≡◌, ◌≢◌, ◌<◌, ◌≤◌, ◌+◌, ℕ, Bool, true, false, List, [], ◌∷◌, ◌++◌, length, get_or, drop, Result, Ok, Err, arith, refl, ap, sym, append_assoc, inl, inr, MatchResult, ◌∙◌, if◌then◌else◌, nat_eq, nat_le}
+use Rattle.std.proofs.Common.{◌≡◌, ◌≢◌, ◌<◌, ◌≤◌, ◌+◌, ℕ, Bool, true, false, List, [], ◌∷◌, ◌++◌, length, get_or, drop, Result, Ok, Err, arith, refl, ap, sym, append_assoc, MatchResult, ◌∙◌, if◌then◌else◌}
 use mir.Val.{bool_byte}
 use Rattle.std.proofs.lemmas.List.{append-nil, drop_all, drop_more}
 use Rattle.std.proofs.lemmas.Bool.Decides.{nat_tests}
@@ -42,16 +42,11 @@ cells_end e row columns fields i h = rw (drop_all i columns h, append-nil row) r
 
 pub row_many : (e : ℕ) (h : Header) (fields : List (List ℕ)) → 1000000 ≤ e → row_of e h fields ≡ Err (TableCause.TooMany e)
 unfolding row_of
-row_many e h fields l =
-    let yes : nat_le 1000000 e ≡ true = grind (arith, nat_tests) in
-    rw yes refl
+row_many e h fields l = grind (arith, nat_tests)
 
 pub row_short : (e : ℕ) (h : Header) (fields : List (List ℕ)) → e < 1000000 → length fields ≢ field_count h → row_of e h fields ≡ Err (TableCause.FieldCount e)
 unfolding row_of
-row_short e h fields l n =
-    let few : nat_le 1000000 e ≡ false = grind (arith, nat_tests) in
-    let no : nat_eq (length fields) (field_count h) ≡ false = grind (arith, nat_tests) in
-    rw (few, no) refl
+row_short e h fields l n = grind (arith, nat_tests)
 
 -- the row, from its cells and its mark
 abbrev with_mark : Result (List Value) TableCause → Result Bool TableCause → Result MarkedRow TableCause
@@ -60,10 +55,7 @@ with_mark cells mark = on_ok cells (λ row. on_ok mark (λ marked. Ok (record { 
 row_whole : (e : ℕ) (h : Header) (fields : List (List ℕ)) → e < 1000000 → length fields ≡ field_count h
     → row_of e h fields ≡ with_mark (cells_from e 0 h.columns fields) (mark_in e (length h.columns) h.marked (drop (length h.columns) fields))
 unfolding row_of
-row_whole e h fields l q =
-    let few : nat_le 1000000 e ≡ false = grind (arith, nat_tests) in
-    let yes : nat_eq (length fields) (field_count h) ≡ true = grind (arith, nat_tests) in
-    rw (few, yes) refl
+row_whole e h fields l q = grind (arith, nat_tests)
 
 pub row_bad : (e : ℕ) (h : Header) (fields : List (List ℕ)) (bad : TableCause) → e < 1000000 → length fields ≡ field_count h → cells_from e 0 h.columns fields ≡ Err bad → row_of e h fields ≡ Err bad
 row_bad e h fields bad l q b = row_whole e h fields l q ∙ rw b refl
@@ -84,13 +76,7 @@ row_marked e columns false fields row mark l q m b k = cc m
 -- an entry that has a row is one of the first
 pub row_early : (e : ℕ) (h : Header) (fields : List (List ℕ)) (r : MarkedRow) → row_of e h fields ≡ Ok r → e < 1000000
 unfolding row_of
-row_early e h fields r q = go (nat_le 1000000 e) refl q
-  where
-    go : (b : Bool) → nat_le 1000000 e ≡ b
-        → (if b then Err (TableCause.TooMany e) else if nat_eq (length fields) (field_count h) then on_ok (cells_from e 0 h.columns fields) (λ row. on_ok (mark_in e (length h.columns) h.marked (drop (length h.columns) fields)) (λ marked. Ok (record { row = row; marked = marked }))) else Err (TableCause.FieldCount e)) ≡ Ok r
-        → e < 1000000
-    go true t u = cc u
-    go false t u = grind (arith, nat_tests)
+row_early e h fields r q = grind (arith, nat_tests)
 
 -- the field of a mark counts as one
 pub one_if : (b : Bool) → bool_byte b ≡ (if b then 1 else 0)
@@ -102,6 +88,4 @@ one_if false = refl
 pub after_mark : (row : List Value) (mark : Result Bool TableCause) (wanted : Result MarkedRow TableCause) (answer : Result Bool TableRefusal) (old new : List Cells)
     → wanted ≡ on_ok mark (λ begins. Ok (record { row = row; marked = begins })) → new ≡ row_pushed old row → Answers TableRefusal.At TableRefusal.Memory mark answer
     → MatchResult answer (λ begins. IsRowPushed wanted begins old new) (Refuses TableRefusal.At TableRefusal.Memory wanted)
-after_mark row mark wanted (Ok begins) old new w q a = record { row = row; spelt = w ∙ rw a refl; added = q }
-after_mark row mark wanted (Err e) old new w q (inl memory) = inl memory
-after_mark row mark wanted (Err e) old new w q (inr bad) = inr (bad.0, bad.1, w ∙ rw bad.2 refl)
+after_mark row mark wanted answer old new w q a = grind arith

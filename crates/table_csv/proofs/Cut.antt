@@ -42,14 +42,7 @@ start_record_idle : (c : ℕ) → Idle false (start_record default_config c)
 start_record_idle c = idle_if (ends_with default_config.terminator c) false _ _ (λ e f. (refl, refl)) (start_field_idle false c)
 
 step_idle : (s : State) (c : ℕ) → Idle (begun s) (step default_config s c)
-step_idle st.StartRecord c = start_record_idle c
-step_idle st.StartField c = start_field_idle true c
-step_idle st.InField c = in_field_idle true c
-step_idle st.InQuoted c = idle_if (c == 34) true _ _ (λ e f. cc f) (λ e f. cc f)
-step_idle st.InEscape c = λ e f. cc f
-step_idle st.AfterQuote c = idle_if (c == 34) true _ _ (λ e f. cc f) (in_field_idle true c)
-step_idle st.InComment c = idle_if (c == 10) false _ _ (λ e f. (refl, refl)) (λ e f. (refl, refl))
-step_idle st.AfterCr c = idle_if (c == 10) false _ _ (λ e f. (refl, refl)) (start_record_idle c)
+step_idle s c = grind (arith, start_record_idle, start_field_idle, in_field_idle, idle_if)
 
 -- the next record of bytes with others behind them, from that of the bytes alone
 abbrev Joined : List ℕ → State → List (List ℕ) → List ℕ → Option Read → Option Read → Type 0

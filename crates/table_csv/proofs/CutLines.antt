@@ -43,12 +43,7 @@ no_quote (c ∷ bytes) n =
 
 no_mark : (bytes : List ℕ) → list_any is_special bytes ≡ false → strip_bom bytes ≡ bytes
 unfolding strip_bom
-no_mark [] n = refl
-no_mark (a ∷ []) n = refl
-no_mark (a ∷ b ∷ []) n = refl
-no_mark (a ∷ b ∷ c ∷ rest) n =
-    let p = neither (is_special a) (list_any is_special (b ∷ c ∷ rest)) n in
-    rw ((neither (nat_eq a 34) (nat_eq a 239) p.0).1) refl
+no_mark bytes n = grind (arith, neither)
 
 no_second : (b c : Bool) → ((b && false) && c) ≡ false
 no_second true c = refl
@@ -60,9 +55,7 @@ no_mark_if false x y e = refl
 
 line_kept : (rest : List ℕ) → strip_bom (10 ∷ rest) ≡ 10 ∷ rest
 unfolding strip_bom
-line_kept [] = refl
-line_kept (b ∷ []) = refl
-line_kept (b ∷ c ∷ rest) = refl
+line_kept rest = grind arith
 
 -- a byte order mark stands before the first line's end, if there is one
 record Stripped (front : List ℕ) : Type 0 where
@@ -84,11 +77,7 @@ stripped (a ∷ b ∷ []) n =
 stripped (a ∷ b ∷ c ∷ front) n = go (is_bom a b c) refl
   where
     go : (t : Bool) → is_bom a b c ≡ t → Stripped (a ∷ b ∷ c ∷ front)
-    go true e =
-        let p = neither (is_quote a) (list_any is_quote (b ∷ c ∷ front)) n in
-        let q = neither (is_quote b) (list_any is_quote (c ∷ front)) p.1 in
-        let r = neither (is_quote c) (list_any is_quote front) q.1 in
-        record { kept = front; plain = r.1; same = λ rest. rw e refl }
+    go true e = grind (arith, neither)
     go false e = record { kept = a ∷ b ∷ c ∷ front; plain = n; same = λ rest. rw e refl }
 
 -- ---- the records

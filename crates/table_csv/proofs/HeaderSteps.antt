@@ -1,10 +1,9 @@
 -- One more field of a header, and that columns of a header are those of a table.
-use Rattle.std.proofs.Common.{if◌then◌else◌, ◌≡◌, ◌<◌, ◌≤◌, ◌+◌, ℕ, suc, List, [], ◌∷◌, ◌++◌, length, get_or, drop, Bool, true, false, None, Some, Option, Result, Ok, Err, arith, refl, ap, sym, ◌∙◌, append_assoc, length-append, codes, not, ◌&&◌, nat_eq, nat_lt, option_and_then, option_map, ok_or}
-use Rattle.std.specs.List.{after_first, before_first}
+use Rattle.std.proofs.Common.{if◌then◌else◌, ◌≡◌, ◌<◌, ◌≤◌, ◌+◌, ℕ, suc, List, [], ◌∷◌, ◌++◌, length, get_or, drop, Bool, true, false, None, Some, Option, Result, Ok, Err, arith, refl, ap, sym, ◌∙◌, append_assoc, length-append, not, ◌&&◌, nat_eq, option_and_then, option_map, ok_or}
 use Rattle.std.proofs.lemmas.List.{append-nil, at_drop_more, drop_all, length-drop}
 use Rattle.std.proofs.lemmas.Bool.Decides.{nat_tests}
 use Rattle.lemmas.proofs.{and_left, not_true}
-use Rattle.rdf_values.specs.{AreColumns, ColType, Column, column_of, ends_in_cut, has_name, Header, header_from, if_new, is_colon, is_cut, is_name, IsHeader, IsStored, next_column, on_ok, same, TableCause, with_column}
+use Rattle.rdf_values.specs.{AreColumns, ColType, Column, column_of, ends_in_cut, has_name, Header, header_from, if_new, is_cut, IsHeader, IsStored, next_column, on_ok, TableCause, with_column}
 
 -- what is read, with the header of what is left behind it
 abbrev pub header_onto : List Column → Result Header TableCause → Result Header TableCause
@@ -58,29 +57,18 @@ header_end columns fields i h = rw (drop_all i fields h, append-nil columns) ref
 
 -- what a column of a header is
 if_new_by : (b d : Bool) (before : List Column) (x c : Column) → has_name before x.name ≡ d → (if b && not d then Some x else None) ≡ Some c → (b ≡ true) × (has_name before c.name ≡ false) × (x ≡ c)
-if_new_by true true before x c t e = cc e
-if_new_by true false before x c t e = let equal : x ≡ c = cc e in (refl, rw (← equal) t, equal)
-if_new_by false true before x c t e = cc e
-if_new_by false false before x c t e = cc e
+if_new_by b d before x c t e = grind arith
 
 new_by : (before : List Column) (o : Option Column) (c : Column) → option_and_then (if_new before) o ≡ Some c → (length before < 64) × (has_name before c.name ≡ false) × (o ≡ Some c)
-new_by before None c e = cc e
-new_by before (Some x) c e =
-    let p = if_new_by (nat_lt (length before) 64) (has_name before x.name) before x c refl e in
-    (grind (arith, nat_tests, p.0), p.1, ap Some p.2)
+new_by before o c e = grind (arith, if_new_by, nat_tests)
 
 stored_by : (a b d : Bool) (name : List ℕ) (c : Column)
     → (if d then option_map (λ kind. record { name = name; kind = kind }) (if a then Some ColType.Int else if b then Some ColType.Vect else None) else None) ≡ Some c → IsStored c.kind
-stored_by true b true name c e = let equal : record { name = name; kind = ColType.Int } ≡ c = cc e in rw (← equal) tt
-stored_by false true true name c e = let equal : record { name = name; kind = ColType.Vect } ≡ c = cc e in rw (← equal) tt
-stored_by false false true name c e = cc e
-stored_by a b false name c e = cc e
+stored_by a b d name c e = grind arith
 
 column_stored : (field : List ℕ) (c : Column) → column_of field ≡ Some c → IsStored c.kind
 unfolding column_of
-column_stored field c e =
-    let word = after_first is_colon field in
-    stored_by (same word (codes "int")) (same word (codes "vec")) (is_name (before_first is_colon field)) (before_first is_colon field) c e
+column_stored field c e = grind (arith, stored_by)
 
 next_new : (before : List Column) (field : List ℕ) (c : Column) → next_column before field ≡ Some c → (length before < 64) × (has_name before c.name ≡ false) × IsStored c.kind
 unfolding next_column
@@ -99,10 +87,7 @@ next_cons i size before c (Ok h) new stored a = (let few = a.1 in ((new, stored,
 next_by : (i size : ℕ) (before : List Column) (field : List ℕ) (o : Option Column) (go : Column → Result Header TableCause) → length before ≡ i
     → next_column before field ≡ o → ((c : Column) → length before < 64 → AreNext (i + 1) (before ++ c ∷ []) size (go c))
     → AreNext i before (suc size) (on_ok (ok_or o (TableCause.Header i)) (λ c. with_column c (go c)))
-next_by i size before field None go l e more = tt
-next_by i size before field (Some c) go l e more =
-    let new = next_new before field c e in
-    next_cons i size before c (go c) new.1 new.2 (more c new.0)
+next_by i size before field o go l e more = grind (arith, next_new, next_cons)
 
 cut_behind : (before : List Column) (field : List ℕ) (rest : List (List ℕ)) → ends_in_cut before (field ∷ rest) ≡ true → 0 < length before
 unfolding is_cut
@@ -123,6 +108,4 @@ are_next (field ∷ fields) i before l few =
     (λ c room. are_next fields (i + 1) (before ++ c ∷ []) (omega (arith, length-append before (c ∷ []))) (omega arith)))
 
 pub header_is : (fields : List (List ℕ)) (h : Header) → 0 < length fields → header_from 0 [] fields ≡ Ok h → IsHeader h.columns
-header_is fields h l e =
-    let a = rw e at (are_next fields 0 [] refl (omega arith)) in
-    let some = a.2 (omega (arith, l)) in let few = a.1 in record { some = omega (arith, some); few = omega (arith, few); distinct = a.0 }
+header_is fields h l e = grind (arith, are_next)

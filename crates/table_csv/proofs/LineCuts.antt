@@ -1,5 +1,5 @@
 -- Where a line ends.
-use Rattle.std.proofs.Common.{◌≡◌, ◌<◌, ◌+◌, ◌∙◌, ℕ, List, [], ◌∷◌, ◌++◌, length, take, drop, get_or, Bool, true, false, None, Some, arith, refl, sym, ap, length-drop, get_or-drop, cond, nat_eq, nat_lt, position}
+use Rattle.std.proofs.Common.{◌≡◌, ◌<◌, ◌+◌, ◌∙◌, ℕ, List, [], ◌∷◌, ◌++◌, length, take, drop, get_or, Bool, None, Some, arith, refl, sym, ap, length-drop, get_or-drop, cond, nat_lt, position}
 use Rattle.std.specs.List.{position_or_len}
 use Rattle.std.proofs.lemmas.List.{take_more}
 use Rattle.std.proofs.lemmas.List.Sums.{passes_at_first}
@@ -7,12 +7,7 @@ use Rattle.std.proofs.lemmas.Bool.Decides.{nat_tests}
 use Rattle.table_csv.specs.{EndsLine, is_line_end}
 
 found : (xs : List ℕ) (b : Bool) (i : ℕ) → nat_lt (position_or_len is_line_end xs) (length xs) ≡ b → cond b (Some (position_or_len is_line_end xs)) None ≡ Some i → (i < length xs) × (get_or xs i 0 ≡ 10)
-found xs true i t e =
-    let equal : position_or_len is_line_end xs ≡ i = cc e in
-    let within : position_or_len is_line_end xs < length xs = grind (arith, nat_tests) in
-    let here : nat_eq (get_or xs (position_or_len is_line_end xs) 0) 10 ≡ true = passes_at_first is_line_end xs 0 within in
-    rw (← equal) (within, grind (arith, nat_tests, here))
-found xs false i t e = cc e
+found xs b i t e = grind (arith, nat_tests, passes_at_first)
 
 -- the bytes up to a line's end are lines
 pub lines_to : (bytes : List ℕ) (from i : ℕ) → position is_line_end (drop from bytes) ≡ Some i → (from + i < length bytes) × EndsLine (take (from + i + 1) bytes)

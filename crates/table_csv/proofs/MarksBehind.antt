@@ -27,7 +27,4 @@ marks_above old now more n i mark e before a s =
     rw e (All-append (λ m. m < n + mark) old (marks_behind n (take i more)) (λ j d h. let b = before j d h in omega (arith, b)) (All-map (λ m. m < n + mark) (λ m. n + m) (take i more) each))
 
 pub mark_few : (more : List ℕ) (n i mark : ℕ) → All (λ m. n + m < 1000000) more → slice_get more i ≡ Some mark → n + mark < 1000000
-mark_few more n i mark few s =
-    let f = few i 0 (slice_get_within more i mark s) in
-    let same = get_or_from_slice_get more i mark 0 s in
-    omega (arith, f, same)
+mark_few more n i mark few s = grind (arith, slice_get_within, get_or_from_slice_get)

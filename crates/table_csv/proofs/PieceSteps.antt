@@ -1,5 +1,5 @@
 -- Answers about pieces of a table.
-use Rattle.std.proofs.Common.{◌≡◌, ◌<◌, ◌≤◌, ◌+◌, ◌∙◌, ◌++◌, ℕ, Bool, true, false, not, All, List, [], ◌∷◌, length, None, Option, Some, Result, Ok, Err, ap, length-append, arith, sym, IfOk, IfSome, MatchResult}
+use Rattle.std.proofs.Common.{◌≡◌, ◌<◌, ◌≤◌, ◌+◌, ◌∙◌, ◌++◌, ℕ, Bool, true, false, not, All, List, ◌∷◌, length, None, Option, Some, Result, Ok, Err, ap, length-append, arith, IfOk, IfSome, MatchResult}
 use Rattle.std.specs.Borrow.{Bor}
 use Rattle.std.specs.List.{list_any}
 use Rattle.std.specs.Result.{result_ok}
@@ -23,9 +23,7 @@ one_record bytes fields second rest false after r t n = (fields, r ∙ ap (λ l.
 
 -- the records of a header line stand before those of the lines
 pub behind_head : (head : List ℕ) (records : List (List (List ℕ))) (h : Header) (after : Reader (Bor (List ℕ))) → IsHead head → IsHeaded (csv_records head) h after → table_of (csv_records head ++ records) ≡ entries_of h records
-behind_head head records h after one i =
-    let none : i.left ≡ [] = cc (sym i.first ∙ one.1) in
-    table_good (csv_records head ++ records) i.fields records h (ap (λ l. l ++ records) (i.first ∙ ap (λ l. i.fields ∷ l) none)) i.spells
+behind_head head records h after one i = grind (arith, table_good)
 
 -- what is said of an answer that is good
 pub good_answer : {A E : Type 0} (answer : Result A E) (value : A) (P : A → Type 0) (Q : E → Type 0) → result_ok answer ≡ Some value → MatchResult answer P Q → P value
@@ -36,21 +34,12 @@ good_answer (Err e) value P Q some h = cc some
 pub piece_of : (head lines : List ℕ) (answer : Result Marked TableRefusal) (read : Marked) (out : Result MarkedPieces Memory) (wanted : Result MarkedTable TableCause) → list_any is_special lines ≡ false → table_of (csv_records head ++ csv_records lines) ≡ wanted
     → MatchResult answer (λ m. wanted ≡ Ok (record { table = m.table; marks = m.marks })) (Refuses TableRefusal.At TableRefusal.Memory wanted) → IfOk answer (λ m. All (λ e. e < length m.table.rows) m.marks) → result_ok answer ≡ Some read
     → IfOk out (λ m. m.table ≡ read.table) → IfOk out (λ m. m.marks ≡ read.marks) → IfSome (result_ok out) (λ m. IsPiece head lines m)
-piece_of head lines (Err e) read out wanted plain w a within some t k = cc some
-piece_of head lines (Ok r) read (Err e) wanted plain w a within some t k = tt
-piece_of head lines (Ok r) read (Ok m) wanted plain w a within some t k =
-    let same : r ≡ read = cc some in
-    let its = rw same at a in
-    let marks = rw same at within in
-    record { plain = plain; read = rw (t, k) (w ∙ its); within = rw (t, k) marks }
+piece_of head lines answer read out wanted plain w a within some t k = grind arith
 
 -- ---- two pieces
 
 pub same_columns : (head front back : List ℕ) (a b : MarkedPieces) → IsHead head → IsPiece head front a → IsPiece head back b → b.table.columns ≡ a.table.columns
-same_columns head front back a b one p q =
-    let first = rw one.1 at p.read in
-    let second = rw one.1 at q.read in
-    table_columns one.0 (csv_records front) (csv_records back) (record { table = a.table; marks = a.marks }) (record { table = b.table; marks = b.marks }) first second
+same_columns head front back a b one p q = grind (arith, table_columns)
 
 within_joined : (first second : List (List Value)) (marks more : List ℕ) → All (λ e. e < length first) marks → All (λ e. e < length second) more → All (λ e. e < length (first ++ second)) (marks ++ marks_behind (length first) more)
 within_joined first second marks more h k =

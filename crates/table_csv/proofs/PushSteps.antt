@@ -25,11 +25,7 @@ set_pushed (x ∷ xs) (w ∷ row) value d h = ap (λ t. pushed x w ∷ t) (set_p
 -- ---- the types of columns
 
 kind_kept : (kind : ColType) (n : ℕ) (x : Cells) → IsKept kind n x → kind ≡ kind_of x
-kind_kept ColType.Int n (Cells.Ints ns) h = refl
-kind_kept ColType.Int n (Cells.Vects vs) h = absurd h
-kind_kept ColType.Bool n x h = absurd h
-kind_kept ColType.Vect n (Cells.Ints ns) h = absurd h
-kind_kept ColType.Vect n (Cells.Vects vs) h = refl
+kind_kept kind n x h = grind arith
 
 -- the column at a place, and its type
 column_at : (columns : List Column) (cells : List Cells) (n i : ℕ) (d : Cells) → AreKept n columns cells → i < length columns → (c : Column) × (c ≡ get_or columns i c) × (c.kind ≡ kind_of (get_or cells i d))

@@ -1,8 +1,8 @@
 -- The table of two parts, from that of each.
-use Rattle.std.proofs.Common.{if◌then◌else◌, ◌≡◌, ◌≤◌, ◌<◌, ◌+◌, ℕ, suc, List, [], ◌∷◌, ◌++◌, length, map, drop, Bool, true, false, None, Some, Option, Result, Ok, Err, arith, refl, ap, sym, ◌∙◌, codes, nat_eq, nat_le, ok_or, option_map}
+use Rattle.std.proofs.Common.{if◌then◌else◌, ◌≡◌, ◌≤◌, ◌<◌, ◌+◌, ℕ, suc, List, [], ◌∷◌, ◌++◌, length, map, Bool, true, false, None, Some, Option, Result, Ok, Err, arith, refl, ap, sym, ◌∙◌, ok_or}
 use Rattle.std.proofs.lemmas.List.{length-map, map-append}
 use Rattle.std.proofs.lemmas.Bool.Decides.{nat_tests}
-use Rattle.rdf_values.specs.{cells_from, ColType, Column, field_count, Header, header_from, integer_of, mark_of, MarkedRow, MarkedTable, marks_from, on_ok, result_cons, row_of, rows_from, same, table_of, table_with, TableCause, Value, vector_of}
+use Rattle.rdf_values.specs.{cells_from, ColType, Column, Header, header_from, mark_of, MarkedRow, MarkedTable, marks_from, on_ok, result_cons, row_of, rows_from, table_of, table_with, TableCause}
 use Rattle.rdf_values.specs.tables.TableText.{cell_of, mark_in}
 use Rattle.table_csv.specs.{entries_of, marked_joined, marks_behind}
 use Rattle.table_csv.proofs.CellSteps.{result_onto, result_onto-none}
@@ -14,9 +14,7 @@ Keeps (Err e) other = Unit {0}
 Keeps (Ok x) other = other ≡ Ok x
 
 keeps_cons : {A E : Type 0} (x y : Result A E) (xs ys : Result (List A) E) → Keeps x y → Keeps xs ys → Keeps (result_cons x xs) (result_cons y ys)
-keeps_cons (Err e) y xs ys h k = tt
-keeps_cons (Ok x) y (Err e) ys h k = tt
-keeps_cons (Ok x) y (Ok xs) ys h k = rw (h, k) refl
+keeps_cons x y xs ys h k = grind arith
 
 keeps_on : {A B E : Type 0} (x y : Result A E) (f g : A → Result B E) → Keeps x y → ((a : A) → Keeps (f a) (g a)) → Keeps (on_ok x f) (on_ok y g)
 keeps_on (Err e) y f g h k = tt
@@ -34,9 +32,7 @@ keeps_if false x y v w h k = k
 
 cell_keeps : (e f i : ℕ) (kind : ColType) (text : List ℕ) → Keeps (cell_of e i kind text) (cell_of f i kind text)
 unfolding cell_of
-cell_keeps e f i ColType.Int text = keeps_or (option_map Value.Int (integer_of text)) _ _
-cell_keeps e f i ColType.Vect text = keeps_or (option_map Value.Vect (vector_of text)) _ _
-cell_keeps e f i ColType.Bool text = tt
+cell_keeps e f i kind text = grind (arith, keeps_or)
 
 cells_keep : (columns : List Column) (fields : List (List ℕ)) (e f i : ℕ) → Keeps (cells_from e i columns fields) (cells_from f i columns fields)
 unfolding cells_from
@@ -46,31 +42,11 @@ cells_keep (c ∷ cs) (x ∷ fields) e f i = keeps_cons _ _ _ _ (cell_keeps e f 
 
 mark_keeps : (e f i : ℕ) (marked : Bool) (fields : List (List ℕ)) → Keeps (mark_in e i marked fields) (mark_in f i marked fields)
 unfolding mark_of
-mark_keeps e f i false fields = refl
-mark_keeps e f i true [] = refl
-mark_keeps e f i true (x ∷ fields) = keeps_if (same x (codes "0")) _ _ _ _ refl (keeps_if (same x (codes "1")) _ _ _ _ refl tt)
+mark_keeps e f i marked fields = grind (arith, keeps_if)
 
 row_keeps : (e f : ℕ) (h : Header) (fields : List (List ℕ)) → f < 1000000 → Keeps (row_of e h fields) (row_of f h fields)
 unfolding row_of
-row_keeps e f h fields l = go (nat_le 1000000 e)
-  where
-    few : nat_le 1000000 f ≡ false
-    few = grind (arith, nat_tests)
-
-    inner : ℕ → Result MarkedRow TableCause
-    inner n =
-        if nat_eq (length fields) (field_count h) then on_ok (cells_from n 0 h.columns fields) (λ row. on_ok (mark_in n (length h.columns) h.marked (drop (length h.columns) fields)) (λ marked. Ok (record { row = row; marked = marked })))
-        else Err (TableCause.FieldCount n)
-
-    whole : Keeps (inner e) (inner f)
-    whole =
-        keeps_if (nat_eq (length fields) (field_count h)) _ _ _ _
-        (keeps_on _ _ _ _ (cells_keep h.columns fields e f 0) (λ row. keeps_on _ _ _ _ (mark_keeps e f (length h.columns) h.marked (drop (length h.columns) fields)) (λ marked. refl)))
-        tt
-
-    go : (t : Bool) → Keeps (if t then Err (TableCause.TooMany e) else inner e) (if nat_le 1000000 f then Err (TableCause.TooMany f) else inner f)
-    go true = tt
-    go false = rw few whole
+row_keeps e f h fields l = grind (arith, nat_tests, keeps_if, keeps_on, cells_keep, mark_keeps)
 
 rows_keep : (entries : List (List (List ℕ))) (e f : ℕ) (h : Header) → f + length entries ≤ 1000000 → Keeps (rows_from e h entries) (rows_from f h entries)
 unfolding rows_from
@@ -80,26 +56,17 @@ rows_keep (x ∷ entries) e f h l = keeps_cons _ _ _ _ (row_keeps e f h x (omega
 -- ---- rows one behind the other
 
 onto_cons : {A E : Type 0} (x : Result A E) (xs ys : Result (List A) E) → result_cons x (on_ok xs (λ zs. result_onto zs ys)) ≡ on_ok (result_cons x xs) (λ zs. result_onto zs ys)
-onto_cons (Err e) xs ys = refl
-onto_cons (Ok x) (Err e) ys = refl
-onto_cons (Ok x) (Ok xs) (Err e) = refl
-onto_cons (Ok x) (Ok xs) (Ok ys) = refl
+onto_cons x xs ys = grind arith
 
 rows_append : (xs ys : List (List (List ℕ))) (e : ℕ) (h : Header) → rows_from e h (xs ++ ys) ≡ on_ok (rows_from e h xs) (λ zs. result_onto zs (rows_from (e + length xs) h ys))
 unfolding rows_from
-rows_append [] ys e h =
-    let none : e + 0 ≡ e = omega arith in
-    rw none (sym (result_onto-none (rows_from e h ys)))
-rows_append (x ∷ xs) ys e h =
-    let next : e + suc (length xs) ≡ e + 1 + length xs = omega arith in
-    rw next (ap (λ r. result_cons (row_of e h x) r) (rows_append xs ys (e + 1) h) ∙ onto_cons (row_of e h x) (rows_from (e + 1) h xs) (rows_from (e + 1 + length xs) h ys))
+rows_append [] ys e h = grind (arith, result_onto-none)
+rows_append (x ∷ xs) ys e h = grind (arith, onto_cons, rows_append xs ys (e + 1) h)
 
 -- an entry each
 cons_length : (x : Result MarkedRow TableCause) (xs : Result (List MarkedRow) TableCause) (rows : List MarkedRow) (n : ℕ) → result_cons x xs ≡ Ok rows
     → ((zs : List MarkedRow) → xs ≡ Ok zs → length zs ≡ n) → length rows ≡ suc n
-cons_length (Err e) xs rows n q h = cc q
-cons_length (Ok x) (Err e) rows n q h = cc q
-cons_length (Ok x) (Ok xs) rows n q h = let equal : x ∷ xs ≡ rows = cc q in sym (ap length equal) ∙ ap suc (h xs refl)
+cons_length x xs rows n q h = grind arith
 
 rows_length : (entries : List (List (List ℕ))) (e : ℕ) (h : Header) (rows : List MarkedRow) → rows_from e h entries ≡ Ok rows → length rows ≡ length entries
 unfolding rows_from
@@ -110,14 +77,7 @@ rows_length (x ∷ entries) e h rows q = cons_length (row_of e h x) (rows_from (
 
 marks_shift : (rows : List MarkedRow) (n e : ℕ) → marks_from (n + e) rows ≡ marks_behind n (marks_from e rows)
 marks_shift [] n e = refl
-marks_shift (x ∷ rows) n e =
-    let next : n + e + 1 ≡ n + (e + 1) = omega arith in
-    rw next (go x.marked (marks_shift rows n (e + 1)))
-  where
-    go : (b : Bool) → marks_from (n + (e + 1)) rows ≡ marks_behind n (marks_from (e + 1) rows)
-        → (if b then (n + e) ∷ marks_from (n + (e + 1)) rows else marks_from (n + (e + 1)) rows) ≡ marks_behind n (if b then e ∷ marks_from (e + 1) rows else marks_from (e + 1) rows)
-    go true h = ap (λ l. (n + e) ∷ l) h
-    go false h = h
+marks_shift (x ∷ rows) n e = grind (arith, marks_shift rows n (e + 1))
 
 -- ---- tables
 
@@ -169,7 +129,4 @@ columns_of h entries t q = let r = read_by h (rows_from 0 h entries) t q in sym 
 -- tables of one header have its columns
 pub table_columns : (header : List (List ℕ)) (xs ys : List (List (List ℕ))) (a b : MarkedTable) → table_of (header ∷ xs) ≡ Ok a → table_of (header ∷ ys) ≡ Ok b → b.table.columns ≡ a.table.columns
 unfolding table_of
-table_columns header xs ys a b p q =
-    let r = ok_by (header_from 0 [] header) (λ h. entries_of h xs) a p in
-    let s = rw r.1 at q in
-    columns_of r.0 ys b s ∙ sym (columns_of r.0 xs a r.2)
+table_columns header xs ys a b p q = grind (arith, ok_by, columns_of)

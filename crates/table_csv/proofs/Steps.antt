@@ -63,11 +63,7 @@ shrinks_leads m (Some p) l = (omega arith, l.1, l.2)
 pub shrinks : (s : State) (xs : List ℕ) → ends_at_end s ≡ false → Shrinks (length xs) (next_record default_config s [] [] xs)
 unfolding next_record
 shrinks s [] h = rw h tt
-shrinks s (c ∷ rest) h =
-    let q = step default_config s c in
-    if_holds (Shrinks (length (c ∷ rest))) (is_end q.1) _ _
-    (λ e. (omega arith, step_closes s c e, ended q.1 [] [] e))
-    (λ e. shrinks_leads (length rest) _ (leads rest q.0 (fields_after q.1 [] []) (field_after q.1 c [])))
+shrinks s (c ∷ rest) h = grind (arith, if_holds, step_closes, ended, shrinks_leads, leads)
 
 -- what a read that found a record, or none, says of the records that were left
 Outcome : Bool → ℕ → State → List ℕ → Option (List ℕ) → List (List ℕ) → State → Type 0
@@ -87,9 +83,7 @@ outcome : (found : Bool) (m : ℕ) (s : State) (y : List ℕ) (k : Option (List 
     → ends_at_end s ≡ false → length y < suc m → ReadsNext default_config s (Some y) k found fields s2 → Outcome found m s y k fields s2
 unfolding Outcome records_from
 outcome true m s y None fields s2 e l r = absurd r
-outcome true m s y (Some z) fields s2 e l r =
-    let t = took_some (next_record default_config s [] [] y) m (length y) fields s2 z r (shrinks s y e) l in
-    (z, refl, t.0, t.1, t.2, t.3)
+outcome true m s y (Some z) fields s2 e l r = grind (arith, took_some, shrinks)
 outcome false m s y None fields s2 e l r = absurd r
 outcome false m s y (Some z) fields s2 e l r = took_none (next_record default_config s [] [] y) m fields s2 z r
 
@@ -103,13 +97,7 @@ finish : (found : Bool) (old new : Reader (Bor (List ℕ))) (m : ℕ) (y : List 
     → reader_trim new ≡ trim.None → Ready new → reader_config new ≡ default_config → is_flexible new ≡ true
     → Took found left fields new
 unfolding Outcome
-finish true old new m y fields left e o t r c fl = (
-  records_from default_config m (reader_state new) o.0,
-  e ∙ o.2,
-  record { trims = t; ready = r; flexible = fl; config = c; bytes = o.0; source = o.1; fuel = m; enough = o.3; between = o.4; rest = refl },
-  o.5,
-)
-finish false old new m y fields left e o t r c fl = e ∙ o
+finish found old new m y fields left e o t r c fl = grind arith
 
 pub takes : (found : Bool) (old new : Reader (Bor (List ℕ))) (fields : List (List ℕ)) (left : List (List (List ℕ)))
     → Leaves old left → took_first new ≡ true → is_flexible new ≡ is_flexible old → ReadRecord (λ s. Some s.now) old new found fields → Took found left fields new

@@ -1,5 +1,5 @@
 -- One more entry of a table.
-use Rattle.std.proofs.Common.{if◌then◌else◌, ◌≡◌, ◌≤◌, ◌<◌, ◌+◌, ℕ, suc, Bool, true, false, List, [], ◌∷◌, ◌++◌, length, map, All, Result, Ok, Err, arith, refl, ap, ap₂, sym, subst, ◌∙◌, length-append}
+use Rattle.std.proofs.Common.{if◌then◌else◌, ◌≡◌, ◌≤◌, ◌<◌, ◌+◌, ℕ, Bool, true, false, List, [], ◌∷◌, ◌++◌, length, map, All, Result, Ok, Err, arith, refl, ap, sym, subst, ◌∙◌, length-append}
 use Rattle.std.proofs.lemmas.List.{append-nil, map-append}
 use Rattle.std.proofs.lemmas.List.Elements.{All-cons}
 use Rattle.rdf_values.specs.{Cells, Column, Header, header_from, MarkedRow, MarkedTable, marks_from, on_ok, row_of, rows_from, rows_kept, table_of, table_with, TableCause, TableView, Value}
@@ -52,17 +52,8 @@ abbrev pub mark_if : Bool → ℕ → List ℕ
 mark_if b e = if b then e ∷ [] else []
 
 pub marks_append : (xs ys : List MarkedRow) (e : ℕ) → marks_from e (xs ++ ys) ≡ marks_from e xs ++ marks_from (e + length xs) ys
-marks_append [] ys e =
-    let none : e + 0 ≡ e = omega arith in
-    rw none refl
-marks_append (x ∷ xs) ys e =
-    let next : e + suc (length xs) ≡ e + 1 + length xs = omega arith in
-    rw next (go x.marked (marks_append xs ys (e + 1)))
-  where
-    go : (b : Bool) → marks_from (e + 1) (xs ++ ys) ≡ marks_from (e + 1) xs ++ marks_from (e + 1 + length xs) ys
-        → (if b then e ∷ marks_from (e + 1) (xs ++ ys) else marks_from (e + 1) (xs ++ ys)) ≡ (if b then e ∷ marks_from (e + 1) xs else marks_from (e + 1) xs) ++ marks_from (e + 1 + length xs) ys
-    go true h = ap (λ l. e ∷ l) h
-    go false h = h
+marks_append [] ys e = grind arith
+marks_append (x ∷ xs) ys e = grind (arith, marks_append xs ys (e + 1))
 
 marks_more : (rows : List MarkedRow) (e n : ℕ) (row : MarkedRow) → length rows + e ≡ n → marks_from e (rows ++ row ∷ []) ≡ marks_from e rows ++ mark_if row.marked n
 marks_more rows e n row l = let there : e + length rows ≡ n = omega (arith, l) in marks_append rows (row ∷ []) e ∙ ap (λ k. marks_from e rows ++ mark_if row.marked k) there
@@ -111,9 +102,7 @@ reading_more answer marked table new marks entry left fields rest row begins r l
 
 pub reading_end : (answer : Result MarkedTable TableCause) (marked : Bool) (table : TableView) (marks : List ℕ) (entry : ℕ) (left : List (List (List ℕ))) → Reading answer marked table marks entry left → left ≡ []
     → answer ≡ Ok (record { table = table; marks = marks })
-reading_end answer marked table marks entry left r l =
-    r.so_far ∙ ap (table_from (record { columns = table.columns; marked = marked }) r.read) l ∙ end (record { columns = table.columns; marked = marked }) r.read
-    ∙ ap₂ (λ rows ms. Ok (record { table = record { columns = table.columns; rows = rows }; marks = ms })) r.rows r.marks_read
+reading_end answer marked table marks entry left r l = grind (arith, table_from, end)
 
 -- ---- a table without rows, taken apart
 

@@ -9,9 +9,7 @@ pub loop-i-init : goal.loop-i-init
 loop-i-init c = pushing_start c.args.entry c.args.columns.now (fields_of c.args.fields.now) c.args.cells.now
 
 pub bounds-cells-i : goal.bounds-cells-i
-bounds-cells-i c =
-    let size = kept_length c.args.columns.now c.args.cells.now c.args.entry c.requires.kept in
-    omega (arith, size, c.loop-i.auto.cells)
+bounds-cells-i = grind (arith, kept_length)
 
 pub returns-in_err-push_cell : goal.returns-in_err-push_cell
 returns-in_err-push_cell c =

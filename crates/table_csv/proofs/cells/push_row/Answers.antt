@@ -9,9 +9,7 @@ pub returns-then-entry-ge-MAX_ENTRIES : goal.returns-then-entry-ge-MAX_ENTRIES
 returns-then-entry-ge-MAX_ENTRIES c = inr (_, refl, row_many c.args.entry _ (fields_of c.args.fields.now) (omega arith))
 
 pub returns-then-len-columns : goal.returns-then-len-columns
-returns-then-len-columns c =
-    let one = one_if c.args.marked in
-    inr (_, refl, row_short c.args.entry _ (fields_of c.args.fields.now) (omega arith) (λ q. c.if-len-columns.true (omega (arith, q, one, c.len.ensures, c.from.ensures))))
+returns-then-len-columns = grind (arith, one_if, row_short)
 
 pub returns-in_err-push_cells : goal.returns-in_err-push_cells
 returns-in_err-push_cells c =
@@ -24,11 +22,7 @@ returns-in_err-push_cells c =
     ])
 
 pub returns-then-not-marked : goal.returns-then-not-marked
-returns-then-not-marked c =
-    let one = one_if c.args.marked in
-    let all : length (fields_of c.args.fields.now) ≡ field_count (record { columns = c.args.columns.now; marked = c.args.marked }) = omega (arith, one, c.if-len-columns.false, c.len.ensures, c.from.ensures) in
-    let read = c.in_ok-push_cells.ensures in
-    record { row = read.row; spelt = row_plain c.args.entry c.args.columns.now c.args.marked (fields_of c.args.fields.now) read.row (omega arith) all c.if-not-marked.true read.spelt; added = read.added }
+returns-then-not-marked = grind (arith, one_if, row_plain)
 
 pub returns : goal.returns
 returns c =

@@ -1,4 +1,4 @@
-use Rattle.std.proofs.Common.{◌≡◌, ◌<◌, ◌+◌, ◌∙◌, [], ◌∷◌, arith, inr, refl, sym, length, length-append}
+use Rattle.std.proofs.Common.{◌<◌, ◌∙◌, [], ◌∷◌, arith, refl, sym, length, length-append}
 use Rattle.csv.specs.Records.{fields_of}
 use Rattle.table_csv.proofs.HeaderSteps.{NoCut, header_cut, header_end, header_more, header_onto-none, header_stop}
 use Rattle.table_csv.proofs.header.read_header.Goals as goal
@@ -8,19 +8,10 @@ pub loop-i-init : goal.loop-i-init
 loop-i-init c = rw c.new-columns.ensures (sym (header_onto-none _), refl, omega arith)
 
 pub returns-then-branch-clause-value : goal.returns-then-branch-clause-value
-returns-then-branch-clause-value c =
-    let last : c.loop-i.i + 1 ≡ length (fields_of c.args.header.now) = omega (arith, c.if-i-len.true, c.len.ensures) in
-    c.loop-i.invariant.0 ∙ header_cut c.loop-i.columns (fields_of c.args.header.now) c.loop-i.i last (rw (← c.as_slice.ensures, ← c.field-text.ensures) (sym c.in_ok-is_cut.ensures ∙ c.if-branch.true))
+returns-then-branch-clause-value = grind (arith, header_cut)
 
 pub returns-in_default-clause-value : goal.returns-in_default-clause-value
-returns-in_default-clause-value c =
-    let no : NoCut c.loop-i.columns (fields_of c.args.header.now) c.loop-i.i = elim c.else-i-len.branch [
-      | else-i-len-via-then-i-len+in_ok-is_cut+else-branch w ↦ λ _. rw (← w.as_slice.ensures, ← c.field-text.ensures) (sym w.in_ok-is_cut.ensures ∙ w.if-branch.false)
-      | else-i-len-via-else-i-len w ↦ λ q. absurd (omega (arith, q, w.if-i-len.false, c.len.ensures))
-    ] in
-    let there : c.loop-i.i < length (fields_of c.args.header.now) = omega (arith, c.loop-i-test.true, c.len-i-end.ensures) in
-    let none = rw (c.as_slice-in-loop-i.ensures, c.field-text.ensures) at (sym c.in_ok-column.ensures.value ∙ c.in_default.is) in
-    inr (_, refl, c.loop-i.invariant.0 ∙ header_stop c.loop-i.columns (fields_of c.args.header.now) c.loop-i.i there no none)
+returns-in_default-clause-value = grind (arith, NoCut, else-i-len-via-then-i-len+in_ok-is_cut+else-branch, else-i-len-via-else-i-len, header_stop)
 
 pub loop-i-preserved : goal.loop-i-preserved
 loop-i-preserved c =

@@ -5,10 +5,7 @@ use Rattle.table_csv.proofs.TextSteps.{behind_ends, halves_cut, halves_whole}
 use Rattle.table_csv.proofs.texts.halved.Goals as goal
 
 pub returns-clause-whole : goal.returns-clause-whole
-returns-clause-whole c =
-    let half = c.in-Some.others / 2 in
-    let within : half < length c.args.texts.lines.now = omega arith in
-    halves_whole c.args.texts.lines.now half c.as_slice.result.now c.args.texts.last.now within (cc c.index-lines-half.is)
+returns-clause-whole = grind (arith, halves_whole)
 
 pub returns-clause-cut : goal.returns-clause-cut
 returns-clause-cut c =
