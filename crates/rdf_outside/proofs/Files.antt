@@ -96,8 +96,10 @@ takes left after n m buf buf' e a b =
 pub nothing_left : (fs : List MemoryFile) (place : Option Place) (p : Place) (bs : List ℕ) → place ≡ Some p → bytes_at fs p.file ≡ bs → length bs ≤ p.read → ◌≡◌ {A = List ℕ} [] (left_at fs place)
 nothing_left fs place p bs e b h = sym (left_is fs place p bs e b ∙ drop_of_length-le bs h)
 
-pub some_left : (fs : List MemoryFile) (place : Option Place) (p : Place) (bs slice : List ℕ) → place ≡ Some p → bytes_at fs p.file ≡ bs → slice ≡ bs → take (length slice - p.read) (drop p.read slice) ≡ left_at fs place
-some_left fs place p bs slice e b s = rw (left_is fs place p bs e b, s) (take_all (length bs - p.read) (drop p.read bs) (simp length-drop (omega arith)))
+pub some_left : (fs : List MemoryFile) (place : Option Place) (p : Place) (bs slice : List ℕ) (n : ℕ) → place ≡ Some p → bytes_at fs p.file ≡ bs → slice ≡ bs → n ≡ min p.read (length slice) → take (length slice - n) (drop n slice) ≡ left_at fs place
+some_left fs place p bs slice n e b s m =
+    rw (left_is fs place p bs e b, m, s)
+    (take_all (length bs - min p.read (length bs)) (drop (min p.read (length bs)) bs) (simp length-drop (omega arith)) ∙ drop_min bs p.read (length bs) (omega arith))
 
 -- a read takes from what is left, where that is told
 pub reads_where_told : (lost : Bool) (left after : List ℕ) (n : ℕ) (buf : List ℕ) → (n ≤ length buf) × Takes left (Some after) n buf

@@ -30,10 +30,7 @@ impl CallList {
         ensures ok { OnOk result (self.new.listed.items ≡ self.old.listed.items ++ call ∷ []) }
         ensures err { OnErr result (self.new.listed.items ≡ self.old.listed.items) }
     {
-        match self.listed.push(call) {
-            Ok(()) => Ok(()),
-            Err(_) => Err(Memory),
-        }
+        Ok(self.listed.push(call)?)
     }
 
     /// Counts a call and answers whether it is to fail.

@@ -32,13 +32,11 @@ fn whole_len<F: OpenFile + Seek>(file: &mut F, max: usize) -> Option<usize>
     let Ok(0) = file.stream_position() else {
         return None;
     };
-    let Ok(metadata) = file.metadata() else {
-        return None;
-    };
-    if metadata.len() > max as u64 {
+    let len = file.metadata().ok()?.len();
+    if len > max as u64 {
         return None;
     }
-    Some(metadata.len() as usize)
+    Some(len as usize)
 }
 
 impl FileParts for File {

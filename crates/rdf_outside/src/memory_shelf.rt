@@ -1,5 +1,5 @@
 // Files in memory.
-ghost use Rattle.std.specs.Prelude.{◌≡◌, ◌≤◌, ◌∷◌, ◌++◌, [], Some, None, ℕ, List, IfOk, OnErr, OnOk, position, if◌then◌else◌};
+ghost use Rattle.std.specs.Prelude.{◌≡◌, ◌≤◌, ◌∷◌, ◌++◌, [], Some, None, ℕ, List, OnErr, OnOk, position, if◌then◌else◌};
 ghost use Rattle.rdf_outside.specs.Memory.{has_name, left_at, moved, same_bytes};
 
 use crate::call_list::CallList;
@@ -70,11 +70,9 @@ impl MemoryShelf {
     {
         self.turned = None;
         self.is_lost = false;
-        let file = make_file(self.alloc, name.as_bytes(), bytes)?;
-        match self.items.insert(0, file) {
-            Ok(()) => Ok(()),
-            Err(_) => Err(Memory),
-        }
+        let name = Vec::from_slice(self.alloc, name.as_bytes())?;
+        let bytes = Vec::from_slice(self.alloc, bytes)?;
+        Ok(self.items.insert(0, MemoryFile { name, bytes })?)
     }
 
     /// The call with that number is to fail, counted from 0 over both methods of the shelf.
@@ -92,60 +90,32 @@ impl MemoryShelf {
     }
 }
 
-fn make_file(alloc: Global, name: &[u8], bytes: &[u8]) -> Result<MemoryFile, Memory>
-    ensures { IfOk result (λ f. (f.name.items ≡ name.now) × (f.bytes.items ≡ bytes.now)) }
-{
-    let Ok(name) = Vec::from_slice(alloc, name) else {
-        return Err(Memory);
-    };
-    match Vec::from_slice(alloc, bytes) {
-        Ok(bytes) => Ok(MemoryFile { name, bytes }),
-        Err(_) => Err(Memory),
-    }
-}
-
-fn has_name(file: &MemoryFile, name: &[u8]) -> bool
-    ensures { result ≡ has_name name.now file.now }
-{
-    file.name.as_slice() == name
-}
-
 fn find(items: &[MemoryFile], name: &[u8]) -> Option<usize>
     ensures { result ≡ position (has_name name.now) items.now }
 {
-    items.iter().position(|file| has_name(file, name))
+    items.iter().position(|file| file.name.as_slice() == name)
 }
 
 // What is left of the file at a place.
 fn rest_at(items: &[MemoryFile], place: Option<Place>) -> &[u8]
     ensures { result.now ≡ left_at items.now place }
 {
-    match place {
-        None => &[],
-        Some(place) => {
-            if place.file >= items.len() {
-                return &[];
-            }
-            let bytes = items[place.file].bytes.as_slice();
-            let len = bytes.len();
-            if place.read >= len {
-                return &[];
-            }
-            &bytes[place.read..]
-        }
+    let Some(place) = place else {
+        return &[];
+    };
+    if place.file >= items.len() {
+        return &[];
     }
+    let bytes = items[place.file].bytes.as_slice();
+    &bytes[place.read.min(bytes.len())..]
 }
 
 fn further(place: Option<Place>, count: usize) -> Option<Place>
     ensures { result ≡ moved place count }
 {
-    match place {
-        None => None,
-        Some(place) => Some(Place {
-            file: place.file,
-            read: place.read.saturating_add(count),
-        }),
-    }
+    let Place { file, read } = place?;
+    let read = read.saturating_add(count);
+    Some(Place { file, read })
 }
 
 impl Shelf for MemoryShelf {

@@ -30,16 +30,13 @@ impl MemorySink {
     pub fn new(alloc: Global, room: usize) -> Result<MemorySink, Memory>
         ensures { IfOk result (λ s. IsNew s room) }
     {
-        match Vec::with_capacity(alloc, room) {
-            Ok(bytes) => Ok(MemorySink {
-                bytes,
-                room,
-                at_most: usize::MAX,
-                calls: CallList::new(alloc),
-                faults: 0,
-            }),
-            Err(_) => Err(Memory),
-        }
+        Ok(MemorySink {
+            bytes: Vec::with_capacity(alloc, room)?,
+            room,
+            at_most: usize::MAX,
+            calls: CallList::new(alloc),
+            faults: 0,
+        })
     }
 
     /// The write with that number is to fail, counted from 0.

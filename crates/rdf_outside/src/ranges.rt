@@ -19,20 +19,17 @@ fn read_range<F: FileExt>(alloc: Global, file: &F, from: usize, len: usize) -> O
     requires { from + len < 2 ^ 64 }
     ensures { IfSome result (λ bytes. length bytes ≡ len) }
 {
-    let Ok(mut zeros) = zeros(alloc, PIECE) else {
-        return None;
-    };
+    let mut zeros = zeros(alloc, PIECE).ok()?;
     let buffer = zeros.as_mut_slice();
     let mut bytes = Bytes::new(alloc);
     while bytes.len() < len {
         let want = buffer.len().min(len - bytes.len());
         let offset = from + bytes.len();
-        let Ok(count) = file.read_at(&mut buffer[..want], offset as u64) else {
-            return None;
-        };
-        if count == 0 || bytes.extend(&buffer[..count]).is_err() {
+        let count = file.read_at(&mut buffer[..want], offset as u64).ok()?;
+        if count == 0 {
             return None;
         }
+        bytes.extend(&buffer[..count]).ok()?;
     }
     Some(bytes)
 }
@@ -66,10 +63,8 @@ fn read_parts<R: Threads + Sync, F: FileExt + Sync>(
         { read_parts(rt, alloc, file, start, back, others) },
     );
     let mut parts = more?;
-    match parts.insert(0, first?) {
-        Ok(()) => Some(parts),
-        Err(_) => None,
-    }
+    parts.insert(0, first?).ok()?;
+    Some(parts)
 }
 
 // Whether a file has no byte at that length.
@@ -92,9 +87,5 @@ pub(crate) fn read_ranges<R: Threads + Sync, F: FileExt + Sync>(
         return None;
     }
     let parts = read_parts(rt, alloc, file, 0, len, count)?;
-    if has_end(file, len) {
-        Some(parts)
-    } else {
-        None
-    }
+    has_end(file, len).then_some(parts)
 }

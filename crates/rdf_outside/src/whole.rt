@@ -35,9 +35,7 @@ pub fn read_whole<S: Shelf>(alloc: Global, shelf: &mut S, max: usize) -> Result<
     ensures failed { IsErrOf result ReadRefusal.Failed → Rose (S.faults shelf.old) (S.faults shelf.new) }
     ensures kept { (IsErrOf result ReadRefusal.Failed → ⊥) → S.faults shelf.new ≡ S.faults shelf.old }
 {
-    let Ok(mut zeros) = zeros(alloc, PIECE) else {
-        return Err(ReadRefusal::Memory);
-    };
+    let mut zeros = zeros(alloc, PIECE).map_err(|_| ReadRefusal::Memory)?;
     let buffer = zeros.as_mut_slice();
     let mut bytes = Bytes::new(alloc);
     while bytes.len() <= max {
@@ -55,10 +53,8 @@ pub fn one_part(alloc: Global, bytes: Bytes) -> Result<Vec<Bytes>, Memory>
     ensures { IfOk result (λ parts. in_a_row parts.items ≡ bytes) }
 {
     let mut parts = Vec::new(alloc);
-    match parts.push(bytes) {
-        Ok(()) => Ok(parts),
-        Err(_) => Err(Memory),
-    }
+    parts.push(bytes)?;
+    Ok(parts)
 }
 
 /// What `read_whole` reads, in one part or, where the shelf can, in several that so many slots read side by side.
@@ -83,19 +79,13 @@ pub fn read_parts<R: Threads + Sync, S: Shelf>(
         return Ok(parts);
     }
     let bytes = read_whole(alloc, shelf, max)?;
-    match one_part(alloc, bytes) {
-        Ok(parts) => Ok(parts),
-        Err(Memory) => Err(ReadRefusal::Memory),
-    }
+    one_part(alloc, bytes).map_err(|_| ReadRefusal::Memory)
 }
 
 pub(crate) fn zeros(alloc: Global, len: usize) -> Result<Vec<u8>, Memory>
     ensures { IfOk result (λ v. length v.items ≡ len) }
 {
-    match Vec::from_elem(alloc, 0, len) {
-        Ok(bytes) => Ok(bytes),
-        Err(_) => Err(Memory),
-    }
+    Ok(Vec::from_elem(alloc, 0, len)?)
 }
 
 // Reads at most `room` bytes behind those that are there, and answers how many.
@@ -120,10 +110,10 @@ fn read_piece<S: Shelf>(
     let Ok(count) = shelf.read(&mut buffer[..want]) else {
         return Err(ReadRefusal::Failed);
     };
-    match bytes.extend(&buffer[..count]) {
-        Ok(()) => Ok(count),
-        Err(Memory) => Err(ReadRefusal::Memory),
-    }
+    bytes
+        .extend(&buffer[..count])
+        .map_err(|_| ReadRefusal::Memory)?;
+    Ok(count)
 }
 
 /// Writes all the bytes, or a first part of them where the sink fails. It takes no memory.

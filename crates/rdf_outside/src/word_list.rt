@@ -37,13 +37,8 @@ impl WordList {
         ensures ok { OnOk result (self.new ≡ self.old ++ word.now ∷ []) }
         ensures err { OnErr result (self.new ≡ self.old) }
     {
-        let Ok(text) = String::from_str(self.alloc, word) else {
-            return Err(Memory);
-        };
-        match self.words.push(text) {
-            Ok(()) => Ok(()),
-            Err(_) => Err(Memory),
-        }
+        let text = String::from_str(self.alloc, word)?;
+        Ok(self.words.push(text)?)
     }
 
     /// How many words there are.

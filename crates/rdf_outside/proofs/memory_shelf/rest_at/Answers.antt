@@ -6,15 +6,8 @@ pub returns-then-place-items : goal.returns-then-place-items
 returns-then-place-items c =
     nothing_left _ _ c.in-Some.place _ c.in-Some.is (bytes_past c.args.items.now c.in-Some.place.file c.if-place-items.true) (omega arith)
 
-pub returns-then-place-len : goal.returns-then-place-len
-returns-then-place-len c =
+pub returns : goal.returns
+returns c =
     let bytes = bytes_at_is c.args.items.now c.in-Some.place.file c.index-items-place.result c.if-place-items.false c.index-items-place.is in
     let slice = rw (← c.index-items-place.is) at c.as_slice-bytes.ensures.value in
-    let h = rw slice at c.if-place-len.true in
-    nothing_left _ _ c.in-Some.place _ c.in-Some.is bytes h
-
-pub returns-else-place-len : goal.returns-else-place-len
-returns-else-place-len c =
-    let bytes = bytes_at_is c.args.items.now c.in-Some.place.file c.index-items-place.result c.if-place-items.false c.index-items-place.is in
-    let slice = rw (← c.index-items-place.is) at c.as_slice-bytes.ensures.value in
-    some_left _ _ c.in-Some.place _ c.as_slice-bytes.result.now c.in-Some.is bytes slice
+    some_left _ _ c.in-Some.place _ c.as_slice-bytes.result.now c.min.result c.in-Some.is bytes slice c.min.ensures
