@@ -39,9 +39,7 @@ abbrev MissingSite : JobView → Option ℕ → ℕ → (ℕ → Type 0) → Sou
 MissingSite j u s Lacks x = (t : ℕ) × IsSiteOf t x × (t < s) × Lacks t
 
 missing_site : (j : JobView) (u : Option ℕ) (s : ℕ) (lanes : List LaneView) (p : ℕ) (x : Source) → IsMissingSource j u (cells_at (key_count (job_graph j)) lanes p) s x → MissingSite j u s (λ t. holds_at lanes (key (job_graph j) t u) p ≡ false) x
-missing_site j u s lanes p (Source.Cell col) h = elim h [ ]
-missing_site j u s lanes p (Source.Site t) h = (t, refl, h.0, holds_nothing (key_count (job_graph j)) lanes (key (job_graph j) t u) p h.1)
-missing_site j u s lanes p (Source.Element t k tags) h = (t, refl, h.0, holds_nothing (key_count (job_graph j)) lanes (key (job_graph j) t u) p h.1)
+missing_site j u s lanes p x h = grind (arith, holds_nothing)
 
 of_fault : (o : Outcome ℕ Value) (k : EntryFault) → told_stop o ≡ Some (Fault k) → o ≡ Faults k
 of_fault (Faults f) k e = let same : f ≡ k = (let i = same_some e in cc i) in ap Faults same

@@ -5,7 +5,7 @@ use Rattle.std.proofs.lemmas.List.Sums.{sum_by-set}
 use Rattle.std.proofs.lemmas.Option.{slice_get_within, get_or_from_slice_get}
 use Rattle.lemmas.proofs.{or_right}
 use Rattle.expr_lanes.specs.{EachPlace, is_in}
-use Rattle.block_cache.specs.{begun_at, begun_count, cells_at, held_at, held_value, is_held, IsBegunAt, IsBegunFor, IsBrokenOffFor, IsGrownOver, IsLaneSet, IsOnlyCalled, IsSameAt, kinds_of, lane_begun, lane_holds, LaneView, own_key, room_of, rooms_of, tried_count}
+use Rattle.block_cache.specs.{begun_at, begun_count, cells_at, held_at, is_held, IsBegunAt, IsBegunFor, IsBrokenOffFor, IsGrownOver, IsLaneSet, IsOnlyCalled, IsSameAt, kinds_of, lane_begun, lane_holds, LaneView, own_key, room_of, rooms_of, tried_count}
 use Rattle.loop_keys.specs.{held_in, is_held as has_held, job_graph, key}
 use Rattle.block_cache.specs.declared.wanted.Wanted.{Wanted}
 use Rattle.block_cache.proofs.Wants.{parts_of}
@@ -77,11 +77,7 @@ module _
 -- memory was wanted
 module _ {V : Type 0} {D : V → Type 0} {g : _} (w : Wanted V D g) {group : List ℕ} {before after : List LaneView} (t : IsBegunFor w group before after) where
   as_before : (p : ℕ) → (is_held t.at.own p ≡ true) ⊎ (is_in p group ≡ false) → held_at t.at.own p ≡ held_at t.at.lane p
-  as_before p h = by (is_held t.at.own p) refl
-    where
-      by : (b : Bool) → is_held t.at.own p ≡ b → held_at t.at.own p ≡ held_at t.at.lane p
-      by true was = held_true t.at.own p was ∙ ap held_value (sym (t.begun.kept p was)) ∙ sym (held_true t.at.lane p (t.begun.held p ∙ was))
-      by false was = held_false t.at.own p was ∙ sym (held_false t.at.lane p (t.begun.held p ∙ was))
+  as_before p h = grind (arith, held_true, held_false)
 
   pub broken_off : {start end : ℕ} → end ≤ start + length group → IsBrokenOffFor w group before after start end
   broken_off few = record { grown = all_grown w t.at t.begun.begun as_before; newly = all_newly w t.at t.begun.begun as_before; few = few }

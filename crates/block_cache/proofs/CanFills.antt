@@ -41,9 +41,7 @@ pub met_used : (j : JobView) (job : IsJob j) (entry : ℕ) (u : Option ℕ) (s c
 met_used j job entry u s c t used plain has met site = in_source used t (source_at j u c) site ((plain_closed j job entry u used plain).each s c has met)
 
 pub ranked : (rank : ℕ → ℕ) (m t : ℕ) (x : Source) → IsSiteOf t x → IsRankedBelow rank m x → rank t < m
-ranked rank m t (Source.Cell col) site h = elim site [ ]
-ranked rank m t (Source.Site s) site h = subst (λ (n : ℕ). rank n < m) site h
-ranked rank m t (Source.Element s k tags) site h = subst (λ (n : ℕ). rank n < m) site h
+ranked rank m t x site h = grind arith
 
 -- with one level fewer
 pub can_below : (j : JobView) (job : IsJob j) {first : ℕ} {u : Option ℕ} {count s : ℕ} (c t p : ℕ) {kinds : List ColType} {cells : List (List ℤ)} {scratch levels : ℕ} (fewer : ℕ)

@@ -1,10 +1,9 @@
 -- A site that can be filled can be tried.
-use Rattle.std.proofs.Common.{◌≡◌, ◌<◌, ◌≤◌, ℕ, ℤ, zero, suc, Bool, not, List, [], ◌∷◌, length, map, take, All, get_or, Option, Some, None, refl, sym, ◌∙◌, ap, subst, arith, nat_eq, slice_get, if◌then◌else◌, filter, option_map}
+use Rattle.std.proofs.Common.{◌≡◌, ◌<◌, ℕ, zero, suc, Bool, not, List, [], ◌∷◌, length, map, take, All, get_or, Some, sym, ◌∙◌, ap, subst, arith, nat_eq, slice_get, filter}
 use Rattle.std.proofs.lemmas.Option.{get_or_from_slice_get}
 use Rattle.lemmas.proofs.{mapped_at, something_at}
 use Rattle.rdf_values.specs.{ColType, columns_in, history, NumTree}
 use Rattle.expr_check.specs.{CheckedExpr, distinct}
-use Rattle.expr_lanes.specs.{depth}
 use Rattle.graph_numbers.specs.{graph_sites, graph_under, GraphView, IsBelow, IsSiteExpr, SiteAt, Source, version_count}
 use Rattle.graph_numbers.proofs.Equations.{columns_below}
 use Rattle.graph_numbers.proofs.Listed.{by_test}
@@ -45,11 +44,7 @@ got_kind lanes k l at = mapped_at (λ (x : LaneView). x.kind) lanes k l at
 
 -- the site whose expression it is
 pub site_tree : {g : GraphView} {s : ℕ} {e : CheckedExpr} → IsSiteExpr g s e → (x : SiteAt) × (slice_get (graph_sites g) s ≡ Some x) × (x.tree ≡ e.tree)
-site_tree {g = g} {s = s} {e = e} its = go (slice_get (graph_sites g) s) refl its.tree
-  where
-    go : (o : Option SiteAt) → slice_get (graph_sites g) s ≡ o → option_map (λ (x : SiteAt). x.tree) o ≡ Some e.tree → (x : SiteAt) × (slice_get (graph_sites g) s ≡ Some x) × (x.tree ≡ e.tree)
-    go None q k = cc k
-    go (Some x) q k = (x, q, cc k)
+site_tree its = grind arith
 
 module _
     {V : Type 0} {D : V → Type 0} {g : _} (w : Wanted V D g) {lanes : List LaneView} (ready : AreReadyOver w.block.now lanes) {scratch levels : ℕ} (can : CanFillFor w (kinds_of lanes) scratch levels)
@@ -70,9 +65,7 @@ module _
         (l.0, get_take lanes (key (job_graph j) s u) (key (job_graph j) t u) lower ∙ l.1, counted l.0 (key (job_graph j) t u) l.1 among)
 
     source_of : (src : Source) → IsLoaded j first count cells src → IsBelow (length j.dataset.columns) s src → HasSource j first u count (take (key (job_graph j) s u) lanes) cells src
-    source_of (Source.Cell col) loaded below = loaded
-    source_of (Source.Site t) loaded below = lane_below t below
-    source_of (Source.Element t k tags) loaded below = lane_below t below
+    source_of src loaded below = grind (arith, lane_below)
 
     sources : All (λ (c : ℕ × ColType). HasSource j first u count (take (key (job_graph j) s u) lanes) cells (source_at j u c.0)) e.kinds
     sources k d low =
@@ -85,8 +78,4 @@ module _
         (columns_below j.dataset.fns j.dataset.columns (graph_under (job_graph j) u) (history j.script) (accepted_of j w.block.now.fits.job) s tree.0 tree.1) c.0 standing).1
 
     pub can_try : IsTriable j first u count lanes cells scratch s e
-    can_try = record {
-      kind = λ l at. can.kinds_are s u e l.kind its (got_kind lanes (key (job_graph j) s u) l at);
-      deep = (let tree = site_tree its in subst (λ (t : NumTree). depth t ≤ scratch) tree.2 (can.each s tree.0 can.has tree.1).deep);
-      sources = sources;
-    }
+    can_try = grind (arith, got_kind, site_tree, sources)

@@ -3,10 +3,9 @@ use Rattle.std.proofs.Common.{◌≡◌, ◌<◌, ◌≤◌, ◌+◌, ◌++◌, 
 use Rattle.std.specs.List.{filter}
 use Rattle.std.proofs.lemmas.List.{take_more, length-append}
 use Rattle.rdf_values.specs.{ColType, FitsKind, Value}
-use Rattle.rdf_model.specs.{Faults, Gives, is_set, mark, Needs, Outcome}
+use Rattle.rdf_model.specs.{Gives, is_set, mark, Outcome}
 use Rattle.expr_check.specs.{is_vector}
-use Rattle.expr_lanes.specs.{at_place, EachPlace, given_in, is_given, is_in, is_marked, lane_number, Stopped, stopped, stops_in, times, with_stop}
-use Rattle.expr_eval.specs.declared.stop.ScalarStop.TheVariants.{Fault, Need}
+use Rattle.expr_lanes.specs.{at_place, EachPlace, given_in, is_given, is_in, is_marked, lane_number, Stopped, stops_in, times, with_stop}
 use Rattle.expr_lanes.proofs.Selected.{in_more, is_in_at}
 use Rattle.expr_lanes.proofs.Sequence.{first_in, rest_in}
 use Rattle.block_cache.specs.{AreKept, AreWritten, HasNumber, HasNumbered, HaveCome, IsNumberOf, IsTurned, IsWritten, value_for}
@@ -20,20 +19,13 @@ set_mark false = refl
 
 -- is read back as the value
 pub read_back : (k : ColType) (vectors : List (List ℤ)) (v : Value) (z : ℤ) → FitsKind k v → IsNumberOf vectors v z → value_for k vectors z ≡ v
-read_back ColType.Int vectors (Value.Int x) z fits is = ap Value.Int is
-read_back ColType.Bool vectors (Value.Bool b) z fits is = ap (λ y. Value.Bool (is_set y)) is ∙ ap Value.Bool (set_mark b)
-read_back ColType.Vect vectors (Value.Vect xs) z fits is = ap Value.Vect is.1
-read_back k vectors v z fits is = elim fits [ ]
+read_back k vectors v z h is = grind (arith, set_mark)
 
 pub is_there : (k : ColType) (vectors : List (List ℤ)) (v : Value) (z : ℤ) → FitsKind k v → IsNumberOf vectors v z → HasNumbered k vectors z
-is_there ColType.Vect vectors (Value.Vect xs) z fits is = is.0
-is_there ColType.Vect vectors v z fits is = elim fits [ ]
-is_there k vectors v z fits is = tt
+is_there k vectors v z h is = grind arith
 
 pub number_read : (k : ColType) (vectors : List (List ℤ)) (v : Value) (z : ℤ) → is_vector k ≡ false → FitsKind k v → IsNumberOf vectors v z → lane_number v ≡ z
-number_read ColType.Vect vectors (Value.Vect xs) z scalar fits is = cc scalar
-number_read k vectors (Value.Vect xs) z scalar fits is = elim fits [ ]
-number_read k vectors v z scalar fits is = sym is
+number_read k vectors v z scalar h is = grind arith
 
 -- among more vectors it is the same
 number_more : (vectors more : List (List ℤ)) (v : Value) (z : ℤ) → AreKept vectors more → IsNumberOf vectors v z → IsNumberOf more v z
@@ -55,9 +47,7 @@ number_moved k o vectors more a b kept same h = record { value = h.value; gives 
 
 module _ (f : ℕ → Outcome ℕ Value) where
   with_push : (o : Outcome ℕ Value) (x : ℕ) (whole one two : List Stopped) → whole ≡ one ++ two → with_stop x o whole ≡ with_stop x o one ++ two
-  with_push (Gives z) x whole one two e = e
-  with_push (Faults k) x whole one two e = ap (λ l. stopped x (Fault k) ∷ l) e
-  with_push (Needs c) x whole one two e = ap (λ l. stopped x (Need c) ∷ l) e
+  with_push o x whole one two e = grind arith
 
   stops_push : (xs : List ℕ) (p : ℕ) → stops_in f (xs ++ p ∷ []) ≡ stops_in f xs ++ with_stop p (f p) []
   stops_push [] p = refl
@@ -83,11 +73,7 @@ pub record AreTurnedTo (k : ColType) (f : ℕ → Outcome ℕ Value) (places : L
 
 -- what was written at one of the places
 pub written_on : (places : List ℕ) (numbers0 numbers after : List ℤ) (vectors0 vectors more : List (List ℤ)) (q : ℕ) → is_in q places ≡ true → AreWritten places numbers0 numbers vectors0 vectors → IsWritten q numbers after vectors more → AreWritten places numbers0 after vectors0 more
-written_on places numbers0 numbers after vectors0 vectors more q among so_far w = record {
-  long = w.long ∙ so_far.long;
-  others = λ p out. w.others p (λ e. cc (among, sym (ap (λ n. is_in n places) e) ∙ out)) ∙ so_far.others p out;
-  kept = kept_on vectors0 vectors more so_far.kept w.kept;
-}
+written_on places numbers0 numbers after vectors0 vectors more q among so_far w = grind (arith, kept_on)
 
 pub written_of : (k : ColType) (f : ℕ → Outcome ℕ Value) (places : List ℕ) (numbers0 numbers : List ℤ) (vectors0 vectors : List (List ℤ)) (marks0 marks : List Bool) (stops0 stops : List Stopped) (i : ℕ) → AreTurnedTo k f places numbers0 numbers vectors0 vectors marks0 marks stops0 stops i
     → AreWritten places numbers0 numbers vectors0 vectors

@@ -44,10 +44,7 @@ module _ (j : JobView) (first : ℕ) (u : Option ℕ) (s : ℕ) (sel : List ℕ)
       ]
         where
           each_below : EachPlace group (λ p. IsClosed j (first + p) u (D p) × (D p t ≡ true))
-          each_below q i =
-              let e = each q (sub q i) in
-              let m = meets q i in
-              (e.0, in_source (D q) t (source_at j u m.0) m.2 (e.0.each s m.0 e.1 m.1))
+          each_below = grind (arith, in_source)
 
 -- keys of later sites are as they were, and so is all at other places
 module _ (j : JobView) (first : ℕ) (u : Option ℕ) (s : ℕ) (sel : List ℕ) (a b : List LaneView) (h : IsGrownOver j first u s sel a b) where

@@ -30,9 +30,7 @@ filter_none f (p ∷ sel) each = ap (λ b. cond b (p ∷ filter f sel) (filter f
 -- ---- what a slice leaves in its vector
 
 pub written : {A : Type 0} (n : ℕ) (new seen old : List A) → length new ≡ length seen → length seen ≡ n → take n (new ++ drop (length new) old) ≡ new
-written n new seen old same many =
-    let long : length new ≡ n = omega arith in
-    ap (λ k. take k (new ++ drop (length new) old)) (sym long) ∙ take-append_seam new (drop (length new) old)
+written n new seen old same many = grind (arith, take-append_seam)
 
 -- ---- an evaluation
 
@@ -67,9 +65,7 @@ module _
     kept_exact scalar p was = ap lane_number (kept_value p was) ∙ lane.exact scalar p was ∙ sym (w.others p (not_selected p was))
 
     behind : (p : ℕ) → count ≤ p → is_marked tried p ≡ false
-    behind p far =
-        let same : count ≡ v.count = ap (λ (l : LaneView). l.count) view_is in
-        tried_at p ∙ or_fails (is_in p sel) (is_marked tried0 p) (never_true (is_in p sel) (λ i. let near : p < v.count = inside p i in absurd (omega (arith, near, far, same)))) (lane.behind p far)
+    behind p far = grind (arith, or_fails, never_true)
 
     was_not : (p : ℕ) → is_marked tried p ≡ false → is_marked held0 p ≡ false
     was_not p none = lane.begun p (right_false (is_in p sel) (is_marked tried0 p) (sym (tried_at p) ∙ none))
@@ -80,16 +76,7 @@ module _
 
     -- memory was wanted
     pub lane_begun : IsLane (lane_of k count numbers vectors tried held0)
-    lane_begun = record {
-      small = omega (arith, lane.small, w.long);
-      tried = long_tried ∙ lane.tried ∙ sym w.long;
-      held = lane.held ∙ sym w.long;
-      within = omega (arith, lane.within, w.long);
-      behind = behind;
-      begun = was_not;
-      exact = kept_exact;
-      there = kept_there;
-    }
+    lane_begun = grind (arith, behind, was_not, kept_exact, kept_there)
 
     pub begun_after : count_by (λ b. b) tried ≡ count_by (λ b. b) tried0 + count_by (λ p. not (is_marked tried0 p)) sel → IsBegun sel v (lane_of k count numbers vectors tried held0)
     begun_after newly = subst (λ (l : LaneView). IsBegun sel l (lane_of k count numbers vectors tried held0)) view_is (record { begun = begun_at held0 newly; held = λ p. refl; kept = kept_value })
@@ -114,37 +101,16 @@ module _
         there_at p is false h = kept_there p (was_held p h is)
 
         pub lane_after : IsLane (lane_of k count numbers vectors tried held)
-        lane_after = record {
-          small = lane_begun.small;
-          tried = lane_begun.tried;
-          held = long_held ∙ lane_begun.held;
-          within = lane_begun.within;
-          behind = behind;
-          begun = λ p none.
-              held_at p ∙ or_fails (is_in p left) (is_marked held0 p) (ap (λ l. is_in p l) left_is ∙ filtered_out (λ q. is_given (f q)) p sel (left_false (is_in p sel) (is_marked tried0 p) (sym (tried_at p) ∙ none))) (was_not p none);
-          exact = λ scalar p is. exact_at scalar p is (is_in p left) refl;
-          there = λ p is. there_at p is (is_in p left) refl;
-        }
+        lane_after = grind (arith, behind, or_fails, filtered_out, left_false, was_not, exact_at, there_at)
 
         pub evaluated_after : {stops more : List Stopped} → IsJoined stops (stops_in f sel) more → count_by (λ b. b) tried ≡ count_by (λ b. b) tried0 + count_by (λ p. not (is_marked tried0 p)) sel
             → IsEvaluated f sel left v (lane_of k count numbers vectors tried held) stops more
-        evaluated_after {stops = stops} {more = more} joined newly =
-            subst (λ (l : LaneView). IsEvaluated f sel left l (lane_of k count numbers vectors tried held) stops more) view_is
-            (record {
-              begun = begun_at held newly;
-              left_in = left_is;
-              held = held_at;
-              values = λ p h. let n = number p h in n.gives ∙ ap Gives (sym (read_back k vectors n.value (at_place numbers p) n.fits n.numbered));
-              kept = λ p out was. kept_value p was;
-              joined = joined;
-            })
+        evaluated_after joined newly = grind (arith, begun_at, number, read_back, kept_value)
 
 -- ---- at all places at once
 
 scalar_number : (k : ColType) (f : ℕ → Outcome ℕ Value) (p : ℕ) (vectors : List (List ℤ)) (z : ℤ) → is_vector k ≡ false → f p ≡ Gives (lane_value k z) → lane_outcome (f p) ≡ Gives z → HasNumber k (f p) vectors z
-scalar_number ColType.Int f p vectors z scalar gives exact = record { value = lane_value ColType.Int z; gives = gives; fits = tt; numbered = refl }
-scalar_number ColType.Bool f p vectors z scalar gives exact = record { value = lane_value ColType.Bool z; gives = gives; fits = tt; numbered = sym (same_given (ap lane_outcome (sym gives) ∙ exact)) }
-scalar_number ColType.Vect f p vectors z scalar gives exact = cc scalar
+scalar_number k f p vectors z scalar gives exact = grind (arith, same_given)
 
 module _ {k : ColType} {f : ℕ → Outcome ℕ Value} {sel left : List ℕ} {numbers0 numbers : List ℤ} {stops more : List Stopped} (come : HasValues k f sel left numbers0 numbers stops more) (vectors : List (List ℤ)) where
   pub scalar_written : length numbers ≡ length numbers0 → AreWritten sel numbers0 numbers vectors vectors
@@ -159,9 +125,7 @@ module _
     {k : ColType} {f : ℕ → Outcome ℕ Value} {sel : List ℕ} {numbers : List ℤ} {vectors : List (List ℤ)} {marks : List Bool} {stops more : List Stopped} (come : HaveCome k f sel numbers vectors marks stops more)
   where
     pub each_value : {own : ColType} → k ≡ own → {left : List ℕ} → left ≡ given_in f sel → EachPlace left (λ p. HasNumber own (f p) vectors (at_place numbers p))
-    each_value same is p h =
-        let given = subst (λ (l : List ℕ). is_in p l ≡ true) is h in
-        subst (λ (x : ColType). HasNumber x (f p) vectors (at_place numbers p)) same (come.values p (filtered_in (λ q. is_given (f q)) p sel given) (filter_passes sel (λ q. is_given (f q)) p given))
+    each_value same is = grind (arith, filtered_in, filter_passes)
 
     pub each_joined : IsJoined stops (stops_in f sel) more
     each_joined t = ap (times t) come.stopped ∙ times_append t stops (stops_in f sel)
@@ -170,13 +134,4 @@ module _
 
 -- of which nothing is known, it is a lane
 pub unknown_lane : (l : LaneView) (size : ℕ) → room_of l ≤ MAX_PLACES → length l.tried ≡ room_of l → length l.held ≡ room_of l → l.count ≤ room_of l → IsUnknown size l → IsLane l
-unknown_lane l size small long_tried long_held within unknown = record {
-  small = small;
-  tried = long_tried;
-  held = long_held;
-  within = within;
-  behind = λ p far. unknown.tried p;
-  begun = λ p none. unknown.held p;
-  exact = λ scalar p is. absurd (cc (is, unknown.held p));
-  there = λ p is. absurd (cc (is, unknown.held p));
-}
+unknown_lane l size small long_tried long_held within unknown = grind (arith, behind)

@@ -1,5 +1,5 @@
 -- What an evaluation reads first is met in every entry, and a site may be filled behind it.
-use Rattle.std.proofs.Common.{if◌then◌else◌, ◌≡◌, ◌<◌, ◌≤◌, ◌+◌, ◌⊎◌, inl, inr, ℕ, ℤ, Bool, true, false, List, [], ◌∷◌, length, Option, Some, None, refl, sym, ◌∙◌, ap, subst, arith, cond, nat_eq, nat_lt, slice_get}
+use Rattle.std.proofs.Common.{if◌then◌else◌, ◌≡◌, ◌<◌, ◌≤◌, ◌+◌, inl, inr, ℕ, ℤ, Bool, true, List, [], ◌∷◌, length, Option, Some, None, refl, sym, ◌∙◌, ap, subst, arith, cond, nat_eq, nat_lt, slice_get}
 use Rattle.std.specs.List.{filter}
 use Rattle.std.proofs.lemmas.Bool.{lt-ltb, ltb-true}
 use Rattle.std.proofs.lemmas.Bool.Decides.{Decides-eqb}
@@ -42,14 +42,10 @@ bind_needs (Needs m) f h = refl
 bind_needs o f h = cc h
 
 operation_needs : {M : Type 0} (o : BinOp) (l r : Outcome M Value) → is_need l ≡ true → is_need (operation o l r) ≡ true
-operation_needs BinOp.And (Needs m) r h = refl
-operation_needs o (Needs m) r h = refl
-operation_needs o l r h = cc h
+operation_needs o l r h = grind arith
 
 behind_needs : {M : Type 0} (o : BinOp) (z : ℤ) (r : Outcome M Value) → is_need r ≡ true → is_need (operation o (Gives (Value.Int z)) r) ≡ true
-behind_needs BinOp.And z (Needs m) h = refl
-behind_needs o z (Needs m) h = refl
-behind_needs o z r h = cc h
+behind_needs o z r h = grind arith
 
 module _ {M F : Type 0} (look : ℕ → Outcome M Value) (call : F → List Value → Outcome M Value) (c : ℕ) (missing : is_need (look c) ≡ true) where
   mutual
@@ -115,9 +111,7 @@ wider j first u s group sel a b sub h = record { kinds = h.kinds; rooms = h.room
 -- of two limits the lower one counts
 lower_here : (x : ℕ) (xs : List ℕ) (m n : ℕ) → m ≤ n → filter (λ q. nat_lt q m) (filter (λ q. nat_lt q n) xs) ≡ filter (λ q. nat_lt q m) xs → (b : Bool) → nat_lt x n ≡ b → (c : Bool) → nat_lt x m ≡ c
     → filter (λ q. nat_lt q m) (cond b (x ∷ filter (λ q. nat_lt q n) xs) (filter (λ q. nat_lt q n) xs)) ≡ cond c (x ∷ filter (λ q. nat_lt q m) xs) (filter (λ q. nat_lt q m) xs)
-lower_here x xs m n le rest true e c f = (λ i. cond (f i) (x ∷ rest i) (rest i))
-lower_here x xs m n le rest false e true f = let a = ltb-true x m f in let b = lt-ltb x n (omega (arith, a, le)) in absurd (cc (b, e))
-lower_here x xs m n le rest false e false f = rest
+lower_here x xs m n le rest b e c f = grind (arith, ltb-true, lt-ltb)
 
 lower_filter : (xs : List ℕ) (m n : ℕ) → m ≤ n → filter (λ q. nat_lt q m) (filter (λ q. nat_lt q n) xs) ≡ filter (λ q. nat_lt q m) xs
 lower_filter [] m n le = refl
@@ -183,9 +177,7 @@ module _ {V : Type 0} {D : V → Type 0} {g : _} (w : Wanted V D g) (t : ℕ) (l
           left_low p i = below_low under sel p (rw filled.left_is at i)
 
           in_last : (p : ℕ) → is_in p sel ≡ true → is_below (found_or found under) p ≡ true → is_in p last ≡ true
-          in_last p i low =
-              let in_left = below_in under sel p i (below_both (site_fault j first u s) left found under p left_low found_left low) in
-              rw filled'.left_is (below_in found left p (rw filled.left_is in_left) (below_found found under p low))
+          in_last p i low = grind (arith, below_in, below_both, left_low, found_left, below_found)
 
           lefts : (o : Option PlaceFault) → IsFaultOf (site_fault j first u s) left o → below_fault o left ≡ below_fault (found_or o under) sel
           lefts None h = filled.left_is

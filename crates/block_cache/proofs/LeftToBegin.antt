@@ -13,9 +13,7 @@ abbrev lacking : (ℕ → Bool) → ℕ → ℕ
 lacking f p = cond (not (f p)) 1 0
 
 one_less : (b c : Bool) → (b ≡ true → c ≡ true) → cond (not c) 1 0 ≤ cond (not b) 1 0
-one_less true c h = let e : ◌≡◌ {A = ℕ} (cond (not c) 1 0) 0 = ap (λ d. cond (not d) 1 0) (h refl) in omega (arith, e)
-one_less false true h = omega arith
-one_less false false h = omega arith
+one_less b c h = grind arith
 
 fewer : (ps : List ℕ) (f g : ℕ → Bool) → ((p : ℕ) → f p ≡ true → g p ≡ true) → sum_by (lacking g) ps ≤ sum_by (lacking f) ps
 fewer [] f g h = omega arith

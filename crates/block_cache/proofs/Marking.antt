@@ -1,5 +1,5 @@
 -- Marks that are set at one place after another.
-use Rattle.std.proofs.Common.{◌≡◌, ◌<◌, ◌+◌, ◌||◌, not, ℕ, suc, zero, Bool, true, false, inl, inr, List, [], ◌∷◌, length, get_or, take, set, ◌∙◌, refl, ap, cond, if◌then◌else◌, arith, length-set, nat_eq, count_by}
+use Rattle.std.proofs.Common.{◌≡◌, ◌<◌, ◌+◌, ◌||◌, not, ℕ, suc, zero, Bool, true, false, List, [], ◌∷◌, length, get_or, take, set, ◌∙◌, refl, ap, cond, if◌then◌else◌, arith, length-set, nat_eq, count_by}
 use Rattle.std.proofs.lemmas.Bool.Decides.{eqb_tells}
 use Rattle.std.proofs.lemmas.List.Sums.{sum_by-cons, sum_by_more, sum_by-set}
 use Rattle.expr_lanes.specs.{AreRising, is_in, is_marked}
@@ -31,11 +31,7 @@ count_none (m ∷ marks) h = count_head m marks (h 0) (count_none marks (λ p. h
 -- ---- rising places
 
 apart : (q x : ℕ) (rest : Bool) → x < q → rest ≡ false → (nat_eq q x || rest) ≡ false
-apart q x rest above h =
-    elim (eqb_tells q x) [
-      | inl e ↦ let same : q ≡ x = e.1 in absurd (omega arith)
-      | inr n ↦ ap (λ b. b || rest) n.0 ∙ h
-    ]
+apart q x rest above h = grind (arith, eqb_tells)
 
 -- a place of the list is none of those before it
 pub not_before : (places : List ℕ) (i : ℕ) → AreRising places → i < length places → is_in (get_or places i 0) (take i places) ≡ false

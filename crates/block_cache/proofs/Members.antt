@@ -8,15 +8,12 @@ use Rattle.lemmas.proofs.{not_true}
 use Rattle.rdf_values.specs.{EntryFault}
 use Rattle.expr_lanes.specs.{AreRising, EachPlace, is_in, IsSelected}
 use Rattle.expr_lanes.proofs.Sequence.{filtered_in, first_in, rest_in}
-use Rattle.block_cache.specs.{below_fault, fault_at, fault_before, fault_over, is_below, IsFaultOf, PlaceFault}
+use Rattle.block_cache.specs.{below_fault, fault_before, fault_over, is_below, IsFaultOf, PlaceFault}
 
 -- ---- filters
 
 kept_here : (f : ℕ → Bool) (p q : ℕ) (xs : List ℕ) → f p ≡ true → (b : Bool) → nat_eq p q ≡ b → (c : Bool) → f q ≡ c → (b || is_in p xs) ≡ true → (is_in p xs ≡ true → is_in p (filter f xs) ≡ true) → is_in p (cond c (q ∷ filter f xs) (filter f xs)) ≡ true
-kept_here f p q xs passes true e true k h rest = ap (λ b. b || is_in p (filter f xs)) e
-kept_here f p q xs passes true e false k h rest = absurd (cc (ap f ((Decides-eqb p q).0 e), passes, k))
-kept_here f p q xs passes false e true k h rest = rest_in p q (filter f xs) (rest h)
-kept_here f p q xs passes false e false k h rest = rest h
+kept_here f p q xs passes b e c k h rest = grind (arith, Decides-eqb, rest_in)
 
 pub filter_in : (xs : List ℕ) (f : ℕ → Bool) (p : ℕ) → is_in p xs ≡ true → f p ≡ true → is_in p (filter f xs) ≡ true
 filter_in [] f p among passes = cc among
@@ -61,11 +58,7 @@ below_short (Some f) sel = filter_short (λ q. nat_lt q f.place) sel
 
 -- what a test or a fault leaves of a selection
 pub filter_selected : {count : ℕ} (f : ℕ → Bool) {sel left : List ℕ} → IsSelected count sel [] → left ≡ filter f sel → IsSelected count left []
-filter_selected f {sel = sel} selected is = record {
-  small = selected.small;
-  inside = λ p i. selected.inside p (filtered_in f p sel (rw is at i));
-  room = (let e = ap (λ (l : List ℕ). length l) is in omega (arith, selected.room, e, filter_short f sel));
-}
+filter_selected f selected is = grind (arith, filtered_in, filter_short)
 
 pub below_selected : {count : ℕ} (fault : Option PlaceFault) {sel left : List ℕ} → IsSelected count sel [] → left ≡ below_fault fault sel → IsSelected count left []
 below_selected None selected is = rw is selected
@@ -99,11 +92,7 @@ no_fault_over (p ∷ sel) f none = ap (λ o. fault_before p o (fault_over f sel)
 
 first_here : (p : ℕ) (sel : List ℕ) (f : ℕ → Option EntryFault) (x : PlaceFault) → f x.place ≡ Some x.kind → (b : Bool) → nat_eq x.place p ≡ b → (b || is_in x.place sel) ≡ true → (is_in x.place sel ≡ true → f p ≡ None) → (is_in x.place sel ≡ true → Some x ≡ fault_over f sel)
     → Some x ≡ fault_before p (f p) (fault_over f sel)
-first_here p sel f x at true e h none rest =
-    let same : x.place ≡ p = (Decides-eqb x.place p).0 e in
-    let here : f p ≡ Some x.kind = ap f (sym same) ∙ at in
-    (λ i. Some (fault_at (same i) x.kind)) ∙ ap (λ o. fault_before p o (fault_over f sel)) (sym here)
-first_here p sel f x at false e h none rest = rest h ∙ ap (λ o. fault_before p o (fault_over f sel)) (sym (none h))
+first_here p sel f x h b e k none rest = grind (arith, Decides-eqb)
 
 first_over : (sel : List ℕ) (f : ℕ → Option EntryFault) (x : PlaceFault) → AreRising sel → is_in x.place sel ≡ true → f x.place ≡ Some x.kind → EachPlace sel (λ p. nat_lt p x.place ≡ true → f p ≡ None) → Some x ≡ fault_over f sel
 first_over [] f x rising among at below = cc among
@@ -118,9 +107,4 @@ fault_first (Some x) sel f rising is none = first_over sel f x rising is.0 is.1 
 -- what is known of the first fault of a list
 pub over_first : (sel : List ℕ) (f : ℕ → Option EntryFault) → IsFaultOf f sel (fault_over f sel)
 over_first [] f = tt
-over_first (p ∷ sel) f = go (f p) refl (fault_over f sel) (over_first sel f)
-  where
-    go : (o : Option EntryFault) → f p ≡ o → (r : Option PlaceFault) → IsFaultOf f sel r → IsFaultOf f (p ∷ sel) (fault_before p o r)
-    go None e None h = tt
-    go None e (Some x) h = (rest_in x.place p sel h.0, h.1)
-    go (Some k) e r h = (first_in p sel, e)
+over_first (p ∷ sel) f = grind (arith, rest_in, first_in, over_first sel f)

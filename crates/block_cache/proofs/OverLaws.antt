@@ -1,5 +1,5 @@
 -- A site's lane after it was evaluated over a block.
-use Rattle.std.proofs.Common.{◌≡◌, ◌<◌, ◌+◌, ◌-◌, ◌++◌, ◌||◌, inl, inr, ℕ, zero, suc, Bool, true, false, List, [], ◌∷◌, length, length-set, take, set, get_or, All, Some, refl, sym, ◌∙◌, ap, subst, arith, if◌then◌else◌, slice_get, get_or-set_same, get_or-set_other}
+use Rattle.std.proofs.Common.{◌≡◌, ◌<◌, ◌+◌, ◌-◌, ◌++◌, ◌||◌, ℕ, zero, suc, Bool, true, false, List, [], ◌∷◌, length, length-set, take, set, get_or, All, Some, refl, sym, ◌∙◌, ap, subst, arith, if◌then◌else◌, slice_get, get_or-set_same, get_or-set_other}
 use Rattle.std.proofs.Math.Seq.{take-append_seam}
 use Rattle.std.proofs.lemmas.Bool.{cases_eq}
 use Rattle.std.proofs.lemmas.List.{length-append, set-append_right}
@@ -36,10 +36,7 @@ other_is {k = k} {before = before} at i other = ap (λ (ls : List LaneView). sli
 
 -- a key, and any other
 pub by_key : (own : ℕ) (P : ℕ → Type 0) → P own → ((k : ℕ) → (k ≡ own → ⊥) → P k) → (k : ℕ) → P k
-by_key own P here other k = elim (cases_eq k own) [
-  | inl e ↦ subst P (sym e) here
-  | inr n ↦ other k n
-]
+by_key own P here other k = grind (arith, cases_eq)
 
 -- ---- what it holds
 
@@ -51,15 +48,7 @@ held_false l p h = ap (λ b. if b then held_value (value_of l p) else Held.Nothi
 
 -- a place that came to no value holds what it held
 pub same_held : (f : ℕ → Outcome ℕ Value) (sel left : List ℕ) (own lane : LaneView) (stops more : List Stopped) → IsEvaluated f sel left own lane stops more → EachPlace sel (λ p. is_held own p ≡ false) → (p : ℕ) → is_in p left ≡ false → held_at own p ≡ held_at lane p
-same_held f sel left own lane stops more ev unknown p not_left = by (is_held own p) refl (is_in p sel) refl
-  where
-    as_was : is_held lane p ≡ is_held own p
-    as_was = ev.held p ∙ ap (λ b. b || is_held own p) not_left
-
-    by : (b : Bool) → is_held own p ≡ b → (s : Bool) → is_in p sel ≡ s → held_at own p ≡ held_at lane p
-    by false was s _ = held_false own p was ∙ sym (held_false lane p (as_was ∙ was))
-    by true was true among = absurd (cc (was, unknown p among))
-    by true was false outside = held_true own p was ∙ ap held_value (sym (ev.kept p outside was)) ∙ sym (held_true lane p (as_was ∙ was))
+same_held f sel left own lane stops more ev unknown p not_left = grind (arith, held_false, held_true)
 
 -- ---- the lanes of the keys below a site's, and the others, of which its own is the first
 
@@ -91,9 +80,7 @@ module _ {V : Type 0} {D : V → Type 0} {g : _} (w : Wanted V D g) (below rest 
     own_at = ap (slice_get lanes) (sym long) ∙ got_part below rest d own_there
 
     pub own_count : own.count ≡ w.block.now.count
-    own_count =
-        let among : own_place < length lanes = omega (arith, small, ready.many) in
-        ap (λ (l : LaneView). l.count) (sym (get_or_from_slice_get lanes own_place own d own_at)) ∙ ready.counts own_place d among
+    own_count = grind (arith, small, get_or_from_slice_get, own_at)
 
     abbrev set_own : (lane : LaneView) (new : List LaneView) → new ≡ below ++ set rest 0 lane → IsLaneSet own_place lanes new
     set_own lane new is = record {

@@ -41,11 +41,7 @@ same_scalar (Need c) (Need d) = nat_eq c d
 same_scalar a b = false
 
 scalar_is : (a b : ScalarStop) → same_scalar a b ≡ true → a ≡ b
-scalar_is (Fault a) (Fault b) e =
-    let n : fault_number a ≡ fault_number b = (Decides-eqb (fault_number a) (fault_number b)).0 e in
-    ap Fault (sym (fault_again a) ∙ ap fault_back n ∙ fault_again b)
-scalar_is (Need c) (Need d) e = ap Need ((Decides-eqb c d).0 e)
-scalar_is a b e = cc e
+scalar_is a b e = grind (arith, Decides-eqb, fault_again)
 
 scalar_same : (a : ScalarStop) → same_scalar a a ≡ true
 scalar_same (Fault a) = (Decides-eqb (fault_number a) (fault_number a)).1 refl
@@ -55,11 +51,7 @@ abbrev same_stop : Stopped → Stopped → Bool
 same_stop x y = nat_eq x.place y.place && same_scalar x.stop y.stop
 
 stop_is : (x y : Stopped) → same_stop x y ≡ true → x ≡ y
-stop_is x y e =
-    let h = both_true (nat_eq x.place y.place) (same_scalar x.stop y.stop) e in
-    let p : x.place ≡ y.place = (Decides-eqb x.place y.place).0 h.0 in
-    let a : x.stop ≡ y.stop = scalar_is x.stop y.stop h.1 in
-    λ i. stopped (p i) (a i)
+stop_is x y e = grind (arith, both_true, Decides-eqb, scalar_is)
 
 -- ---- how often a test passes
 
@@ -114,9 +106,7 @@ module _ (f : ℕ → Outcome ℕ Value) where
   told_head sel p a among is = (λ i. among i && is_stop (is i) a) ∙ scalar_same a
 
   untold_head : (sel : List ℕ) (p : ℕ) (o : Outcome ℕ Value) → f p ≡ o → is_in p sel ≡ true → times (λ x. not (is_told f sel x)) (with_stop p o []) ≡ 0
-  untold_head sel p (Gives v) is among = refl
-  untold_head sel p (Faults k) is among = ap (λ b. cond (not b) 1 0 + 0) (told_head sel p (Fault k) among (ap told_stop is))
-  untold_head sel p (Needs c) is among = ap (λ b. cond (not b) 1 0 + 0) (told_head sel p (Need c) among (ap told_stop is))
+  untold_head sel p o is among = grind (arith, told_head)
 
   none_untold : (ps sel : List ℕ) → EachPlace ps (λ p. is_in p sel ≡ true) → times (λ x. not (is_told f sel x)) (stops_in f ps) ≡ 0
   none_untold [] sel each = refl
@@ -136,30 +126,10 @@ module _ (f : ℕ → Outcome ℕ Value) where
       (h.0, stop_of (told_stop (f x.place)) x.stop h.1)
 
   one_head : (p : ℕ) (a : ScalarStop) (o : Outcome ℕ Value) → told_stop o ≡ Some a → times (same_stop (stopped p a)) (with_stop p o []) ≡ 1
-  one_head p a (Gives v) is = cc is
-  one_head p a (Faults k) is = counts p a (Fault k) is
-    where
-      counts : (p : ℕ) (a b : ScalarStop) → ◌≡◌ {A = Option ScalarStop} (Some b) (Some a) → cond (nat_eq p p && same_scalar a b) 1 0 + 0 ≡ 1
-      counts p a b e =
-          let same : b ≡ a = cc e in
-          ap (λ c. cond (c && same_scalar a b) 1 0 + 0) ((Decides-eqb p p).1 refl) ∙ ap (λ c. cond (same_scalar a c) 1 0 + 0) same ∙ ap (λ c. cond c 1 0 + 0) (scalar_same a)
-  one_head p a (Needs c) is = counts p a (Need c) is
-    where
-      counts : (p : ℕ) (a b : ScalarStop) → ◌≡◌ {A = Option ScalarStop} (Some b) (Some a) → cond (nat_eq p p && same_scalar a b) 1 0 + 0 ≡ 1
-      counts p a b e =
-          let same : b ≡ a = cc e in
-          ap (λ c. cond (c && same_scalar a b) 1 0 + 0) ((Decides-eqb p p).1 refl) ∙ ap (λ c. cond (same_scalar a c) 1 0 + 0) same ∙ ap (λ c. cond c 1 0 + 0) (scalar_same a)
+  one_head p a o is = grind (arith, Decides-eqb, scalar_same)
 
   there_here : (p q : ℕ) (ps : List ℕ) (a : ScalarStop) → told_stop (f p) ≡ Some a → (b : Bool) → nat_eq p q ≡ b → (b || is_in p ps) ≡ true → (is_in p ps ≡ true → 0 < times (same_stop (stopped p a)) (stops_in f ps)) → 0 < times (same_stop (stopped p a)) (with_stop q (f q) (stops_in f ps))
-  there_here p q ps a is true e h rest =
-      let split = times_with (same_stop (stopped p a)) q (f q) (stops_in f ps) in
-      let same : p ≡ q = (Decides-eqb p q).0 e in
-      let one : times (same_stop (stopped p a)) (with_stop q (f q) []) ≡ 1 = ap (λ n. times (same_stop (stopped p a)) (with_stop n (f n) [])) (sym same) ∙ one_head p a (f p) is in
-      omega (arith, split, one)
-  there_here p q ps a is false e h rest =
-      let split = times_with (same_stop (stopped p a)) q (f q) (stops_in f ps) in
-      let more = rest h in
-      omega (arith, split, more)
+  there_here p q ps a is b e h rest = grind (arith, times_with, Decides-eqb, one_head)
 
   some_there : (ps : List ℕ) (p : ℕ) (a : ScalarStop) → is_in p ps ≡ true → told_stop (f p) ≡ Some a → 0 < times (same_stop (stopped p a)) (stops_in f ps)
   some_there [] p a among is = cc among

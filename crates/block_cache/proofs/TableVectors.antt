@@ -1,11 +1,11 @@
 -- The vectors of the table's columns.
-use Rattle.std.proofs.Common.{◌≡◌, ◌<◌, ℕ, ℤ, List, [], Option, Some, None, map, length, sym, ap, arith, slice_get, unwrap_or}
+use Rattle.std.proofs.Common.{◌≡◌, ◌<◌, ℕ, ℤ, List, [], Option, Some, None, map, length, ap, arith, slice_get, unwrap_or}
 use Rattle.std.specs.Option.{option_and_then}
 use Rattle.rdf_values.proofs.KeptLemmas.{cell_of_column, column_length}
 use Rattle.rdf_values.specs.{Value}
-use Rattle.graph_numbers.specs.{cell_value, Source}
+use Rattle.graph_numbers.specs.{cell_value}
 use Rattle.expr_lanes.specs.{IsVectorAt}
-use Rattle.loop_keys.specs.{Held, job_graph, JobView, key_under, look_at, looked_source, Place, place_of, row_in, row_of, source_at}
+use Rattle.loop_keys.specs.{Held, job_graph, JobView, key_under, look_at, Place, place_of, row_in, row_of, source_at}
 
 row_cell : (o : Option (List Value)) (col : ℕ) (x : Value) → option_and_then (λ row. slice_get row col) o ≡ Some x → slice_get (unwrap_or o []) col ≡ Some x
 row_cell None col x h = cc h
@@ -20,8 +20,4 @@ vector_of_entry rows col e vectors h low = record {
 
 -- a version that stands in a column comes to the column's value
 pub column_seen : (j : JobView) (entry : ℕ) (u : Option ℕ) (cells : List Held) (c col : ℕ) → place_of (key_under (job_graph j) u) (source_at j u c) ≡ Place.Cell col → cell_value (slice_get (row_of j entry) col) ≡ look_at j entry u cells c
-column_seen j entry u cells c col stood = go (source_at j u c) stood
-  where
-    go : (x : Source) → place_of (key_under (job_graph j) u) x ≡ Place.Cell col → cell_value (slice_get (row_of j entry) col) ≡ looked_source j entry u cells c x
-    go (Source.Cell k) e = let same : k ≡ col = cc e in ap (λ (n : ℕ). cell_value {M = ℕ} (slice_get (row_of j entry) n)) (sym same)
-    go x e = cc e
+column_seen j entry u cells c col stood = grind arith

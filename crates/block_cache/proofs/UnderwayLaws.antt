@@ -6,7 +6,7 @@ use Rattle.std.proofs.lemmas.Bool.Decides.{Decides-eqb}
 use Rattle.std.proofs.lemmas.List.Sums.{length-filter, sum_by-cons}
 use Rattle.lemmas.proofs.{never_true, not_true, same_some}
 use Rattle.rdf_values.specs.{EntryFault, Memory, Value}
-use Rattle.rdf_model.specs.{fault_in, Faults, Gives, Needs, Outcome}
+use Rattle.rdf_model.specs.{fault_in, Faults, Outcome}
 use Rattle.expr_lanes.specs.{AreRising, EachPlace, is_in, IsSelected}
 use Rattle.expr_lanes.proofs.Sequence.{filtered_in, first_in, rest_in}
 use Rattle.graph_numbers.specs.{Source}
@@ -51,15 +51,10 @@ below_found (Some x) fault p h = h
 pub below_both : (f : ℕ → Option EntryFault) (group : List ℕ) (found fault : Option PlaceFault) (p : ℕ) → EachPlace group (λ q. is_below fault q ≡ true) → IsFaultOf f group found → is_below (found_or found fault) p ≡ true → is_below fault p ≡ true
 below_both f group None fault p low h below = below
 below_both f group (Some x) None p low h below = refl
-below_both f group (Some x) (Some y) p low h below =
-    let a : p < x.place = ltb-true p x.place below in
-    let b : x.place < y.place = ltb-true x.place y.place (low x.place h.0) in
-    lt-ltb p y.place (omega (arith, a, b))
+below_both f group (Some x) (Some y) p low h below = grind (arith, ltb-true, lt-ltb)
 
 pub faults_of : (o : Outcome ⊥ Value) (k : EntryFault) → fault_in o ≡ Some k → o ≡ Faults k
-faults_of (Gives v) k h = cc h
-faults_of (Faults f) k h = ap Faults (same_some h)
-faults_of (Needs m) k h = elim m [ ]
+faults_of o k h = grind (arith, same_some)
 
 or_none : (found : Option PlaceFault) → found_or found None ≡ found
 or_none None = refl
@@ -156,12 +151,7 @@ module _ {V : Type 0} {D : V → Type 0} {g : _} (w : Wanted V D g) where
       pub began_rest : {new : List LaneView} {needs noted after lacking : List ℕ} {found : Option PlaceFault} → IsAttemptedFor w group before new needs noted found → after ≡ noted
           → lacking ≡ below_fault found (filter (λ p. not (holds_at new own p)) sel)
           → IsResumedFor w None group sel before new needs after lacking found
-      began_rest {new = new} {needs = needs} {found = found} attempted same open_is = record {
-        found = found;
-        attempted = subst (λ (l : List ℕ). IsAttemptedFor w group before new needs l found) (sym same) attempted;
-        least_is = sym (or_none found);
-        open_is = open_is;
-      }
+      began_rest attempted same open_is = grind (arith, or_none)
 
       -- memory was wanted
       pub began_broken : {new : List LaneView} {start now : ℕ} → IsBrokenOffFor w group before new start now → IsSpentFor w sel before new start now
@@ -187,9 +177,7 @@ module _ {V : Type 0} {D : V → Type 0} {g : _} (w : Wanted V D g) where
       turn_in p i = h.among p (group_open p i)
 
       waiting : EachPlace group (λ p. IsWaiting j first u s lanes p c)
-      waiting p i =
-          let same : need_at needs p ≡ c = (Decides-eqb (need_at needs p) c).0 (filter_passes open_places needing p (rw group_is at i)) in
-          subst (λ (m : ℕ). IsWaiting j first u s lanes p m) same (h.waits p (group_open p i))
+      waiting = grind (arith, Decides-eqb, filter_passes, group_open)
 
       pub turn_waits : IsWaiting j first u s lanes p0 c
       turn_waits = waiting p0 first_is
@@ -308,9 +296,7 @@ module _ {V : Type 0} {D : V → Type 0} {g : _} (w : Wanted V D g) where
                 settled_turn p i low q lower begun = go (is_in p group) refl
                   where
                     go : (b : Bool) → is_in p group ≡ b → holds_at new (at q) p ≡ true
-                    go false out =
-                        let same = same_there (at q) p out in
-                        same_holds n lanes new (at q) p same ∙ h.settled p i (below_fault_before p low) q lower (sym same.0 ∙ begun)
+                    go false out = grind (arith, same_there, same_holds, below_fault_before, low)
                     go true in' =
                         let same = r.attempted.same (at q) p (inl (other_key q lower)) in
                         same_holds n mid new (at q) p same ∙ before_last (cases_lt t q) (sym same.0 ∙ begun)

@@ -5,9 +5,7 @@ use Rattle.block_cache.specs.{AreKept, AreThere, cells_in}
 use Rattle.block_cache.specs.declared.vectors.Cells.{Cells}
 
 same_cells : (all more : List ℤ) (c : Cells) → AreThere all c → cells_in (all ++ more) c ≡ cells_in all c
-same_cells all more c there =
-    ap (take (c.to - c.from)) (drop-append-le c.from all more (omega (arith, there.0, there.1)))
-    ∙ take-append-le (c.to - c.from) (drop c.from all) more (omega (arith, there.0, there.1, length-drop c.from all))
+same_cells all more c there = grind (arith, drop-append-le, take-append-le, length-drop)
 
 -- those that there were
 pub grown : (ranges : List Cells) (all more : List ℤ) → All (AreThere all) ranges → map (cells_in (all ++ more)) ranges ≡ map (cells_in all) ranges

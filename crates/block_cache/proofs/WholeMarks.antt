@@ -60,11 +60,7 @@ none_counted (p ∷ sel) f each =
     omega (arith, sum_by-cons (λ q. cond (f q) 1 0) p sel, none, none_counted sel f (λ q i. each q (rest_in q p sel i)))
 
 pub still_marked : (marks : List Bool) (sel : List ℕ) → EachPlace sel (λ p. is_marked marks p ≡ true) → (p : ℕ) → is_marked marks p ≡ (is_in p sel || is_marked marks p)
-still_marked marks sel each p = go (is_in p sel) refl
-  where
-    go : (b : Bool) → is_in p sel ≡ b → is_marked marks p ≡ (b || is_marked marks p)
-    go true i = each p i
-    go false i = refl
+still_marked marks sel each p = grind arith
 
 pub none_newly : (marks : List Bool) (sel : List ℕ) → EachPlace sel (λ p. is_marked marks p ≡ true) → count_by (λ b. b) marks ≡ count_by (λ b. b) marks + count_by (λ p. not (is_marked marks p)) sel
 none_newly marks sel each = let none = none_counted sel (λ p. not (is_marked marks p)) (λ p i. ap not (each p i)) in omega (arith, none)
@@ -79,13 +75,7 @@ module _ (e : Extent) (count : ℕ) (written : List Bool) (v : MarksView) (view_
   nothing_seen h p = ap (λ l. is_marked l p) (nothing_is h) ∙ subst (λ (x : Extent). IsBare x written) h are.bare p
 
   pub all_seen : e ≡ Extent.All → (p : ℕ) → p < v.count → is_marked v.marks p ≡ true
-  all_seen h p low =
-      let same : count ≡ v.count = ap (λ (x : MarksView). x.count) view_is in
-      ap (λ (x : MarksView). is_marked x.marks p) (sym view_is) ∙ ap (λ (x : Extent). is_marked (marks_of x count written) p) h ∙ marked_below written count p (omega (arith, low, same)) are.within
+  all_seen h p low = grind (arith, marked_below)
 
   pub long_seen : length written ≡ length v.marks
-  long_seen = sym (marks_long e written) ∙ ap (λ (x : MarksView). length x.marks) view_is
-    where
-      marks_long : (x : Extent) (l : List Bool) → length (marks_of x count l) ≡ length l
-      marks_long Extent.All l = marked_long l count
-      marks_long x l = refl
+  long_seen = grind (arith, marked_long)

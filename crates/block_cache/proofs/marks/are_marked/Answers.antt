@@ -24,8 +24,4 @@ pub returns-clause-marked : goal.returns-clause-marked
 returns-clause-marked c = λ _. subst (λ (l : List ℕ). EachPlace l (λ p. is_marked c.args.marks.now p ≡ true)) (take_all c.loop-place.place-index c.as_slice-places.result.now c.loop-place-test.false ∙ c.as_slice-places.ensures.value) c.loop-place.invariant
 
 pub returns-then-not-marks-place-clause-exact : goal.returns-then-not-marks-place-clause-exact
-returns-then-not-marks-place-clause-exact c = λ each.
-    let here : is_marked c.args.marks.now (get_or c.as_slice-places.result.now c.loop-place.place-index 0) ≡ true =
-    subst (λ (l : List ℕ). is_marked c.args.marks.now (get_or l c.loop-place.place-index 0) ≡ true) (sym c.as_slice-places.ensures.value)
-    (each _ (is_in_at c.args.selection.now c.loop-place.place-index 0 (let e = ap (λ (l : List ℕ). length l) c.as_slice-places.ensures.value in omega (arith, e)))) in
-    absurd (cc (here, c.if-not-marks-place.true))
+returns-then-not-marks-place-clause-exact = grind (arith, is_in_at)

@@ -7,9 +7,7 @@ pub returns-in_err-extend_from_slice-clause-kept : goal.returns-in_err-extend_fr
 returns-in_err-extend_from_slice-clause-kept c = kept_all _ _ ((λ i. map (cells_in (c.in_err-extend_from_slice.ensures.items i)) c.self.inside.ranges.items) ∙ c.self.view_is)
 
 pub returns-in_err-push-clause-kept : goal.returns-in_err-push-clause-kept
-returns-in_err-push-clause-kept c =
-    kept_all _ _
-    ((λ i. map (cells_in (c.in_ok-extend_from_slice.ensures.items i)) (c.in_err-push.ensures.items i)) ∙ grown c.self.inside.ranges.items c.self.inside.cells.items c.args.vector.now c.self.invariant ∙ c.self.view_is)
+returns-in_err-push-clause-kept = grind (arith, kept_all, grown)
 
 pub returns-clause-kept : goal.returns-clause-kept
 returns-clause-kept c =
@@ -19,7 +17,4 @@ returns-clause-kept c =
     ∙ pushed c.self.inside.ranges.items c.self.inside.cells.items c.args.vector.now _ c.self.invariant (omega (arith, c.len-from.ensures)) (omega (arith, c.len-to.ensures, ap length e)) ∙ ap (λ l. l ++ c.args.vector.now ∷ []) c.self.view_is)
 
 pub returns-clause-pushed : goal.returns-clause-pushed
-returns-clause-pushed c =
-    let e = c.in_ok-extend_from_slice.ensures.items in
-    (λ i. map (cells_in (e i)) (c.in_ok-push.ensures.items i))
-    ∙ pushed c.self.inside.ranges.items c.self.inside.cells.items c.args.vector.now _ c.self.invariant (omega (arith, c.len-from.ensures)) (omega (arith, c.len-to.ensures, ap length e)) ∙ ap (λ l. l ++ c.args.vector.now ∷ []) c.self.view_is
+returns-clause-pushed = grind (arith, pushed)
