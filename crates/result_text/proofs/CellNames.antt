@@ -30,6 +30,12 @@ nothing_left : (m : ℕ) → ◌≡◌ {A = List (List ℕ)} (drop m []) []
 nothing_left zero = refl
 nothing_left (suc m) = refl
 
+-- none is behind a place that has none
+none_behind : (ns : List (List ℕ)) (k : ℕ) → slice_get ns k ≡ None → drop (k + 1) ns ≡ []
+none_behind [] k h = nothing_left (k + 1)
+none_behind (n ∷ ns) zero h = absurd (cc)
+none_behind (n ∷ ns) (suc k) h = (let e : suc k + 1 ≡ suc (k + 1) = omega arith in ap (λ m. drop m (n ∷ ns)) e) ∙ none_behind ns k h
+
 no_lines : (names : List (List ℕ)) → cell_lines names [] ≡ []
 no_lines [] = refl
 no_lines (n ∷ ns) = refl
@@ -39,11 +45,6 @@ pub lines_are : (before : List ℕ) (edges : List ℤ) (i : ℕ) (cells : List C
 lines_are before edges i [] = sym (no_lines (map (λ n. before ++ n) (drop i (cell_names edges))))
 lines_are before edges i (c ∷ cs) = go (name_at edges i) refl (lines_are before edges (i + 1) cs)
   where
-    none_behind : (ns : List (List ℕ)) (k : ℕ) → slice_get ns k ≡ None → drop (k + 1) ns ≡ []
-    none_behind [] k h = nothing_left (k + 1)
-    none_behind (n ∷ ns) zero h = absurd (cc)
-    none_behind (n ∷ ns) (suc k) h = (let e : suc k + 1 ≡ suc (k + 1) = omega arith in ap (λ m. drop m (n ∷ ns)) e) ∙ none_behind ns k h
-
     go : (o : Option (List ℕ)) → name_at edges i ≡ o → lines_on before edges (i + 1) cs ≡ cell_lines (map (λ n. before ++ n) (drop (i + 1) (cell_names edges))) cs
         → lines_on before edges i (c ∷ cs) ≡ cell_lines (map (λ n. before ++ n) (drop i (cell_names edges))) (c ∷ cs)
     go None at rest =
@@ -67,16 +68,11 @@ pub planes_are : (xs ys : List ℤ) (i : ℕ) (rows : List (List Cell)) → plan
 planes_are xs ys i [] = sym (no_planes (drop i (cell_names xs)) (cell_names ys))
 planes_are xs ys i (row ∷ rows) = go (name_at xs i) refl (planes_are xs ys (i + 1) rows)
   where
-    behind_none : (ns : List (List ℕ)) (k : ℕ) → slice_get ns k ≡ None → drop (k + 1) ns ≡ []
-    behind_none [] k h = nothing_left (k + 1)
-    behind_none (n ∷ ns) zero h = absurd (cc)
-    behind_none (n ∷ ns) (suc k) h = (let e : suc k + 1 ≡ suc (k + 1) = omega arith in ap (λ m. drop m (n ∷ ns)) e) ∙ behind_none ns k h
-
     go : (o : Option (List ℕ)) → name_at xs i ≡ o → planes_on xs ys (i + 1) rows ≡ plane_lines (drop (i + 1) (cell_names xs)) (cell_names ys) rows
         → planes_on xs ys i (row ∷ rows) ≡ plane_lines (drop i (cell_names xs)) (cell_names ys) (row ∷ rows)
     go None at rest =
         ap (λ (o : Option (List ℕ)). (elim o [ None ↦ [] | Some name ↦ lines_on (name ++ codes " ") ys 0 row ]) ++ planes_on xs ys (i + 1) rows) at
-        ∙ rest ∙ ap (λ l. plane_lines l (cell_names ys) rows) (behind_none (cell_names xs) i at)
+        ∙ rest ∙ ap (λ l. plane_lines l (cell_names ys) rows) (none_behind (cell_names xs) i at)
         ∙ sym (ap (λ l. plane_lines l (cell_names ys) (row ∷ rows)) (none_left (cell_names xs) i at))
     go (Some name) at rest =
         ap (λ (o : Option (List ℕ)). (elim o [ None ↦ [] | Some x ↦ lines_on (x ++ codes " ") ys 0 row ]) ++ planes_on xs ys (i + 1) rows) at

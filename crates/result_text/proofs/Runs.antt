@@ -4,7 +4,7 @@ use Rattle.std.specs.List.{join_with_byte}
 use Rattle.std.proofs.lemmas.Simd.{map-map}
 use Rattle.lemmas.proofs.{same_some}
 use Rattle.rdf_values.specs.{Scalar, Span}
-use Rattle.rdf_model.specs.{FilterCounts, flow_line, percent, run_text, scalar_text, taken_text}
+use Rattle.rdf_model.specs.{run_text, scalar_text, taken_text}
 use Rattle.result_text.proofs.Lists.{one_left, put_next}
 use Rattle.result_text.specs.{more_runs, more_taken, run_of, runs_text}
 
@@ -23,19 +23,6 @@ taken_next text t1 now all xs i x h at e is =
 pub taken_front : (xs : List Scalar) (x : Scalar) → slice_get xs 0 ≡ Some x → taken_text xs ≡ scalar_text x ++ more_taken (drop 1 xs)
 taken_front [] x at = absurd (cc)
 taken_front (y ∷ ys) x at = joined_front 32 scalar_text y ys ∙ ap (λ z. scalar_text z ++ more_taken ys) (same_some at)
-
--- the line of a filter, put piece by piece
-pub flow_put : (text name l : List ℕ) (first : ℕ) (n : FilterCounts) (t1 t2 t3 t4 t5 bytes : List ℕ) → t1 ≡ text ++ name → t2 ≡ t1 ++ codes ": " → bytes ≡ l → t3 ≡ t2 ++ bytes
-    → t4 ≡ t3 ++ codes " pass=" ++ decimal n.pass ++ codes " all=" ++ decimal n.all
-    → t5 ≡ t4 ++ codes " eff=" ++ percent n.pass n.all ++ codes " cumulative=" ++ percent n.pass first ++ 10 ∷ []
-    → t5 ≡ text ++ flow_line name first l n
-flow_put text name l first n t1 t2 t3 t4 t5 bytes e1 e2 e e3 e4 e5 =
-    e5 ∙ ap (λ t. t ++ codes " eff=" ++ percent n.pass n.all ++ codes " cumulative=" ++ percent n.pass first ++ 10 ∷ []) (e4 ∙ ap (λ t. t ++ codes " pass=" ++ decimal n.pass ++ codes " all=" ++ decimal n.all) (e3 ∙ ap (λ b. t2 ++ b) e ∙ ap (λ t. t ++ l) (e2 ∙ ap (λ t. t ++ codes ": ") e1)))
-    ∙ front text name l (codes " pass=") (decimal n.pass) (codes " all=") (decimal n.all) (codes " eff=") (percent n.pass n.all) (codes " cumulative=") (percent n.pass first) (codes ": ")
-  where
-    front : (a b d e f g h i j k m colon : List ℕ)
-        → a ++ b ++ colon ++ d ++ e ++ f ++ g ++ h ++ i ++ j ++ k ++ m ++ 10 ∷ [] ≡ a ++ (b ++ colon ++ d ++ e ++ f ++ g ++ h ++ i ++ j ++ k ++ m ++ 10 ∷ [])
-    front a b d e f g h i j k m colon = simp append_assoc
 
 -- the line of a fault, put piece by piece
 pub fault_put : (text l shown kind bytes : List ℕ) (entry : ℕ) (t1 t2 t3 t4 t5 t6 t7 : List ℕ) → t1 ≡ text ++ codes "fault at entry " → t2 ≡ t1 ++ decimal entry → t3 ≡ t2 ++ codes " in " → t4 ≡ t3 ++ l → l ≡ shown

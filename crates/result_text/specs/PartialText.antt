@@ -1,5 +1,5 @@
 -- What is printed of partial results.
-use Rattle.std.specs.Prelude.{◌≡◌, ◌<◌, ◌-◌, ◌∷◌, ◌++◌, ℕ, List, All, codes, flat_map, map}
+use Rattle.std.specs.Prelude.{◌<◌, ◌-◌, ◌∷◌, ◌++◌, ℕ, List, All, codes, flat_map, map}
 use Rattle.std.specs.List.{join_with_byte}
 use Rattle.rdf_values.specs.{line, Span}
 use Rattle.rdf_model.specs.{Run, run_text, value_text}

@@ -2,7 +2,7 @@
 ghost use Rattle.std.specs.Prelude.{◌≡◌, ◌≤◌, ◌<◌, ◌+◌, ◌++◌, ℕ, List, [], OnOk, Some, codes, length, slice_index_or, unwrap_or};
 ghost use Rattle.rdf_model.specs.{cell_lines, cell_names, plane_lines};
 ghost use Rattle.histograms.specs.{cell_seen};
-ghost use Rattle.result_text.specs.{behind, bin_name, line_at, lines_on, name_at, plane_at};
+ghost use Rattle.result_text.specs.{behind, bin_name, line_at, name_at, plane_at};
 
 use crate::numbers::{put_number, put_sum};
 use histograms::{CellSum, Hist1, Hist2};
@@ -68,27 +68,8 @@ pub fn put_flat(alloc: Global, text: &mut Text, edges: &[i64], hist: &Hist1) -> 
     Ok(())
 }
 
-// Appends the lines of the cells of the second axis for a cell of the first, whose name stands before each.
-fn put_row(
-    alloc: Global,
-    text: &mut Text,
-    before: &[u8],
-    edges: &[i64],
-    hist: &Hist2,
-    i: u32,
-) -> Result<(), Memory>
-    requires { i < length hist.now.cells }
-    ensures { OnOk result (text.new ≡ text.old ++ lines_on before.now edges.now 0 (slice_index_or hist.now.cells i [])) }
-{
-    let (_, columns) = hist.cells();
-    for j in 0..columns {
-        put_cell(alloc, text, before, edges, j, hist.cell(i, j))?;
-    }
-    Ok(())
-}
-
 // Appends the lines of the cells of the second axis for a cell of the first; a place that the first doesn't have has none.
-fn put_named_row(
+fn put_row(
     alloc: Global,
     text: &mut Text,
     x_edges: &[i64],
@@ -102,10 +83,15 @@ fn put_named_row(
     if i as usize > x_edges.len() {
         return Ok(());
     }
-    let mut before = Text::new(alloc);
-    put_cell_name(alloc, &mut before, x_edges, i as usize)?;
-    before.push(b' ')?;
-    put_row(alloc, text, before.as_bytes(), y_edges, hist, i)
+    let mut name = Text::new(alloc);
+    put_cell_name(alloc, &mut name, x_edges, i as usize)?;
+    name.push(b' ')?;
+    let before = name.as_bytes();
+    let (_, columns) = hist.cells();
+    for j in 0..columns {
+        put_cell(alloc, text, before, y_edges, j, hist.cell(i, j))?;
+    }
+    Ok(())
 }
 
 /// Appends the lines of the cells of a histogram of two axes.
@@ -120,7 +106,7 @@ pub fn put_square(
 {
     let (rows, _) = hist.cells();
     for i in 0..rows {
-        put_named_row(alloc, text, x_edges, y_edges, hist, i)?;
+        put_row(alloc, text, x_edges, y_edges, hist, i)?;
     }
     Ok(())
 }

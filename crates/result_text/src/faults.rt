@@ -1,5 +1,5 @@
 // The line of a fault.
-ghost use Rattle.std.specs.Prelude.{◌≡◌, ◌<◌, ◌++◌, List, IfOk, OnOk, Some, length, slice_get};
+ghost use Rattle.std.specs.Prelude.{◌≡◌, ◌<◌, List, IfOk, Some, length, slice_get};
 ghost use Rattle.graph_numbers.specs.{graph_loops, Pass};
 ghost use Rattle.rdf_model.specs.{fault_line, fault_name};
 ghost use Rattle.result_text.specs.{passes_at};
@@ -25,33 +25,6 @@ fn fault_name(kind: EntryFault) -> &'static str
     }
 }
 
-// Appends the line of a fault.
-fn put_fault(
-    alloc: Global,
-    text: &mut Text,
-    graph: &Graph,
-    loop_index: u32,
-    fault: &Fault,
-) -> Result<(), Memory>
-    requires its_loop { loop_index < length (graph_loops graph.now) }
-    requires its_pass { (ps : List Pass) → slice_get (graph_loops graph.now) loop_index ≡ Some ps → fault.now.pass < length ps }
-    ensures { OnOk result (text.new ≡ text.old ++ fault_line (passes_at graph.now loop_index) fault.now) }
-{
-    let pass = graph.passes(loop_index)[fault.pass as usize];
-    text.extend(b"fault at entry ")?;
-    put_count(alloc, text, u64::from(fault.entry))?;
-    text.extend(b" in ")?;
-    put_label(
-        text,
-        graph.result_name(pass.result),
-        graph.variations(),
-        pass.variation,
-    )?;
-    text.extend(b": ")?;
-    text.extend(fault_name(fault.kind).as_bytes())?;
-    text.push(b'\n')
-}
-
 /// The line of a fault in a loop of the graph.
 pub fn fault_line(
     alloc: Global,
@@ -63,7 +36,15 @@ pub fn fault_line(
     requires its_pass { (ps : List Pass) → slice_get (graph_loops graph.now) loop_index ≡ Some ps → fault.now.pass < length ps }
     ensures { IfOk result (λ text. text ≡ fault_line (passes_at graph.now loop_index) fault.now) }
 {
+    let pass = graph.passes(loop_index)[fault.pass as usize];
+    let name = graph.result_name(pass.result);
     let mut text = Text::new(alloc);
-    put_fault(alloc, &mut text, graph, loop_index, fault)?;
+    text.extend(b"fault at entry ")?;
+    put_count(alloc, &mut text, u64::from(fault.entry))?;
+    text.extend(b" in ")?;
+    put_label(&mut text, name, graph.variations(), pass.variation)?;
+    text.extend(b": ")?;
+    text.extend(fault_name(fault.kind).as_bytes())?;
+    text.push(b'\n')?;
     Ok(text)
 }

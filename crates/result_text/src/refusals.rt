@@ -122,19 +122,15 @@ fn join_cause_line(alloc: Global, cause: JoinCause) -> Result<String, Memory>
     ensures { IfOk result (λ l. string_bytes l ≡ join_cause_line cause) }
 {
     match cause {
-        JoinCause::NoKey { friend: _ } => Ok(format!(in alloc; "friend refused: J1 NoKey\n")?),
-        JoinCause::NameTaken { column: _ } => {
-            Ok(format!(in alloc; "friend refused: J2 NameTaken\n")?)
-        }
-        JoinCause::TooManyColumns { count: _ } => {
+        JoinCause::NoKey { .. } => Ok(format!(in alloc; "friend refused: J1 NoKey\n")?),
+        JoinCause::NameTaken { .. } => Ok(format!(in alloc; "friend refused: J2 NameTaken\n")?),
+        JoinCause::TooManyColumns { .. } => {
             Ok(format!(in alloc; "friend refused: J3 TooManyColumns\n")?)
         }
         JoinCause::Duplicate { entry } => {
             Ok(format!(in alloc; "friend refused at entry {entry}: J4 Duplicate\n")?)
         }
-        JoinCause::TooLarge { elements: _ } => {
-            Ok(format!(in alloc; "friend refused: J5 TooLarge\n")?)
-        }
+        JoinCause::TooLarge { .. } => Ok(format!(in alloc; "friend refused: J5 TooLarge\n")?),
     }
 }
 

@@ -1,39 +1,13 @@
 // The lines of reports.
-ghost use Rattle.std.specs.Prelude.{◌≡◌, ◌<◌, ◌++◌, All, OnOk, flat_map, length, map};
+ghost use Rattle.std.specs.Prelude.{◌≡◌, ◌<◌, ◌++◌, All, OnOk, length, map};
 ghost use Rattle.graph_numbers.specs.{graph_filters};
-ghost use Rattle.rdf_model.specs.{flow_line, flow_lines};
+ghost use Rattle.rdf_model.specs.{flow_lines};
 ghost use Rattle.result_text.specs.{flow_at};
 
 use crate::printed::PrintedReport;
 use crate::shares::put_flow_line;
 use rdf_values::{Memory, Text};
 use std::alloc::Global;
-
-// Appends the lines of named filters, of which the first shown was reached by so many entries.
-fn put_flows(
-    alloc: Global,
-    text: &mut Text,
-    report: &PrintedReport<'_>,
-    reached: u64,
-    covered: &[u32],
-) -> Result<(), Memory>
-    requires covered { All (λ f. f < length (graph_filters report.now.graph.now)) covered.now }
-    requires flow { length report.now.flow.now ≡ length (graph_filters report.now.graph.now) }
-    ensures { OnOk result (text.new ≡ text.old ++ flat_map (λ f. flow_line report.now.name.now reached (flow_at report.now.graph.now report.now.flow.now f).0 (flow_at report.now.graph.now report.now.flow.now f).1) covered.now) }
-{
-    for f in covered {
-        let label = report.graph.label(*f);
-        put_flow_line(
-            alloc,
-            text,
-            report.name,
-            reached,
-            label,
-            report.flow.counts(*f),
-        )?;
-    }
-    Ok(())
-}
 
 /// Appends the lines of a report on named filters, by their numbers.
 pub fn put_report(
@@ -51,5 +25,10 @@ pub fn put_report(
         return text.extend(b": no named filters\n");
     };
     let reached = report.flow.counts(*first).all;
-    put_flows(alloc, text, report, reached, covered)
+    for f in covered {
+        let label = report.graph.label(*f);
+        let counts = report.flow.counts(*f);
+        put_flow_line(alloc, text, report.name, reached, label, counts)?;
+    }
+    Ok(())
 }

@@ -51,13 +51,11 @@ fn put_action(
     requires filled { (x : ResultAt) → slice_get (graph_results graph.now) r ≡ Some x → FitsResult graph.now x filled.now }
     ensures { (x : ResultAt) → slice_get (graph_results graph.now) r ≡ Some x → OnOk result (text.new ≡ text.old ++ filled_text graph.now x filled.now) }
 {
-    let name = graph.result_name(r);
-    let variations = graph.variations();
     let nominal = filled.piece.acc(filled.first);
     let action = &PrintedAction {
-        name,
+        name: graph.result_name(r),
         kind,
-        variations,
+        variations: graph.variations(),
     };
     put_pass(alloc, text, action, None, nominal)?;
     if filled.passes == 1 {
@@ -82,14 +80,9 @@ pub fn result_lines(
         ResultKind::Action(kind) => put_action(alloc, &mut text, graph, r, kind, filled)?,
         ResultKind::Report => {
             let name = graph.result_name(r).bytes();
-            let covered = graph.covered(r);
             let flow = filled.piece.flow();
-            put_report(
-                alloc,
-                &mut text,
-                &PrintedReport { name, graph, flow },
-                covered,
-            )?;
+            let report = &PrintedReport { name, graph, flow };
+            put_report(alloc, &mut text, report, graph.covered(r))?;
         }
     }
     Ok(text)

@@ -1,7 +1,6 @@
 // The values of a Take.
-ghost use Rattle.std.specs.Prelude.{◌≡◌, ◌++◌, OnOk, drop};
+ghost use Rattle.std.specs.Prelude.{◌≡◌, ◌++◌, OnOk};
 ghost use Rattle.rdf_model.specs.{scalar_text, taken_text};
-ghost use Rattle.result_text.specs.{more_taken};
 
 use crate::numbers::put_number;
 use actions::Taken;
@@ -18,17 +17,6 @@ fn put_scalar(alloc: Global, text: &mut Text, value: Scalar) -> Result<(), Memor
     }
 }
 
-// Appends all values but the first, each behind a space.
-fn put_others(alloc: Global, text: &mut Text, taken: &Taken<'_>) -> Result<(), Memory>
-    ensures { OnOk result (text.new ≡ text.old ++ more_taken (drop 1 taken.now)) }
-{
-    for i in 1..taken.len() {
-        text.push(b' ')?;
-        put_scalar(alloc, text, taken.at(i))?;
-    }
-    Ok(())
-}
-
 /// Appends the values with one space between, or `none`.
 pub fn put_taken(alloc: Global, text: &mut Text, taken: &Taken<'_>) -> Result<(), Memory>
     ensures { OnOk result (text.new ≡ text.old ++ taken_text taken.now) }
@@ -37,5 +25,9 @@ pub fn put_taken(alloc: Global, text: &mut Text, taken: &Taken<'_>) -> Result<()
         return text.extend(b"none");
     }
     put_scalar(alloc, text, taken.at(0))?;
-    put_others(alloc, text, taken)
+    for i in 1..taken.len() {
+        text.push(b' ')?;
+        put_scalar(alloc, text, taken.at(i))?;
+    }
+    Ok(())
 }

@@ -1,5 +1,5 @@
 // The lines of what an action holds.
-ghost use Rattle.std.specs.Prelude.{◌≡◌, ◌<◌, ◌+◌, ◌++◌, OnOk, decimal, length};
+ghost use Rattle.std.specs.Prelude.{◌≡◌, ◌<◌, ◌++◌, OnOk, length};
 ghost use Rattle.std.specs.Option.{ForSome};
 ghost use Rattle.actions.specs.{filled_seen};
 ghost use Rattle.rdf_model.specs.{filled_lines, label, x_edges_of, y_edges_of};
@@ -33,13 +33,6 @@ fn y_edges(kind: &ActionKind) -> &[i64]
     }
 }
 
-// Appends how many cells an axis has.
-fn put_cell_count(alloc: Global, text: &mut Text, edges: &[i64]) -> Result<(), Memory>
-    ensures { OnOk result (text.new ≡ text.old ++ decimal (length edges.now + 1)) }
-{
-    put_wide(alloc, text, edges.len() as u128 + 1)
-}
-
 // Appends what an action holds, behind the label.
 fn put_filled(
     alloc: Global,
@@ -57,15 +50,15 @@ fn put_filled(
         Filled::Number(z) => put_number(alloc, text, *z)?,
         Filled::Flat(hist) => {
             text.extend(b"histo1d ")?;
-            put_cell_count(alloc, text, x_edges(kind))?;
+            put_wide(alloc, text, x_edges(kind).len() as u128 + 1)?;
             text.push(b'\n')?;
             return put_flat(alloc, text, x_edges(kind), hist);
         }
         Filled::Square(hist) => {
             text.extend(b"histo2d ")?;
-            put_cell_count(alloc, text, x_edges(kind))?;
+            put_wide(alloc, text, x_edges(kind).len() as u128 + 1)?;
             text.push(b' ')?;
-            put_cell_count(alloc, text, y_edges(kind))?;
+            put_wide(alloc, text, y_edges(kind).len() as u128 + 1)?;
             text.push(b'\n')?;
             return put_square(alloc, text, x_edges(kind), y_edges(kind), hist);
         }

@@ -4,7 +4,7 @@ use Rattle.result_text.proofs.cells.put_square.Goals as goal
 
 pub loop-i-preserved : goal.loop-i-preserved
 loop-i-preserved c =
-    plane_next c.loop-i.text c.put_named_row.new.text _ c.args.x_edges.now c.args.y_edges.now c.loop-i.i c.args.hist.now.cells c.loop-i.invariant (omega arith) c.in_ok-put_named_row.ensures
+    plane_next c.loop-i.text c.put_row.new.text _ c.args.x_edges.now c.args.y_edges.now c.loop-i.i c.args.hist.now.cells c.loop-i.invariant (omega arith) c.in_ok-put_row.ensures
 
 pub returns : goal.returns
 returns c =

@@ -1,9 +1,17 @@
-use Rattle.std.proofs.Common.{◌++◌, ap, ◌∙◌}
-use Rattle.lemmas.proofs.{on_ok}
+use Rattle.std.proofs.Common.{◌++◌, ap, ◌∙◌, arith, flat_map}
+use Rattle.lemmas.proofs.{none_left}
+use Rattle.rdf_model.specs.{flow_line}
+use Rattle.result_text.specs.{flow_at}
+use Rattle.result_text.proofs.Lists.{put_last}
 use Rattle.result_text.proofs.PassLines.{report_lines}
 use Rattle.result_text.proofs.reports.put_report.Goals as goal
 
 pub returns : goal.returns
-returns c = on_ok c.put_flows.result _ _
-    (λ e. e ∙ ap (λ l. c.args.text.now ++ l) (report_lines c.args.report.now.graph.now c.args.report.now.flow.now c.args.report.now.name.now c.in-Some.first.now _ c.args.covered.now c.counts-reached.result c.in-Some.ensures.cases.0 c.counts-reached.ensures))
-    c.put_flows.ensures
+returns c =
+    let report = c.args.report.now in
+    let covered = c.args.covered.now in
+    let counts = c.counts-reached.result in
+    let g = report.graph.now in
+    let flow = report.flow.now in
+    put_last _ _ _ c.loop-f.invariant (ap (flat_map (λ f. flow_line report.name.now counts.all (flow_at g flow f).0 (flow_at g flow f).1)) (none_left covered c.loop-f.f-index (omega arith)))
+    ∙ ap (λ l. c.args.text.now ++ l) (report_lines g flow report.name.now c.in-Some.first.now _ covered counts c.in-Some.ensures.cases.0 c.counts-reached.ensures)

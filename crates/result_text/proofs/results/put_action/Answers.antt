@@ -21,9 +21,9 @@ pub returns-then-filled-eq1 : goal.returns-then-filled-eq1
 returns-then-filled-eq1 c = λ x at.
     let g = c.args.graph.now in
     let filled = c.args.filled.now in
-    let name = c.result_name-name.result.now in
+    let name = c.result_name.result.now in
     c.in_ok-put_pass.ensures
-    ∙ ap (λ n. c.args.text.now ++ filled_lines c.args.kind.now (label n None) c.acc-nominal.result.now.filled) (its_name (graph_results g) c.args.r x name at c.result_name-name.ensures)
+    ∙ ap (λ n. c.args.text.now ++ filled_lines c.args.kind.now (label n None) c.acc-nominal.result.now.filled) (its_name (graph_results g) c.args.r x name at c.result_name.ensures)
     ∙ ap (λ l. c.args.text.now ++ l) (sym (nominal_text g x filled c.args.kind.now (c.requires.action x at) (c.requires.filled x at) c.acc-nominal.result.now c.acc-nominal.ensures c.if-filled-eq1.true))
 
 pub put_varied-requires-clause-passes : goal.put_varied-requires-clause-passes
@@ -33,7 +33,7 @@ put_varied-requires-clause-passes c =
     let x = something_at (graph_results g) c.args.r c.requires.result in
     let many = passes_many g x.0 filled c.args.kind.now (c.requires.action x.0 x.1) (c.requires.filled x.0 x.1) in
     members_many g x.0 filled c.args.kind.now (c.requires.action x.0 x.1) (c.requires.filled x.0 x.1) c.args.r (has c.depends.result) x.1 c.depends.ensures (omega arith)
-    ∙ ap (λ vs. length (members_from (has c.depends.result) 0 vs) + 1) (sym c.variations-variations.ensures)
+    ∙ ap (λ vs. length (members_from (has c.depends.result) 0 vs) + 1) (sym c.variations.ensures)
 
 pub put_varied-requires-clause-accs : goal.put_varied-requires-clause-accs
 put_varied-requires-clause-accs c = λ i lt.
@@ -54,15 +54,15 @@ returns c = λ x at.
     let g = c.args.graph.now in
     let filled = c.args.filled.now in
     let kind = c.args.kind.now in
-    let name = c.result_name-name.result.now in
+    let name = c.result_name.result.now in
     let accs = filled.piece.now.accs.items in
-    let members = members_from (has c.depends.result) 0 c.variations-variations.result.now in
+    let members = members_from (has c.depends.result) 0 c.variations.result.now in
     let many = passes_many g x filled kind (c.requires.action x at) (c.requires.filled x at) in
-    let named = its_name (graph_results g) c.args.r x name at c.result_name-name.ensures in
+    let named = its_name (graph_results g) c.args.r x name at c.result_name.ensures in
     on_ok c.put_varied.result _ _
     (λ e. e ∙ ap (λ t. t ++ under_lines name kind accs (filled.first + 1) members) c.in_ok-put_pass.ensures
     ∙ append_assoc c.args.text.now (filled_lines kind (label name None) c.acc-nominal.result.now.filled) (under_lines name kind accs (filled.first + 1) members)
     ∙ ap (λ n. c.args.text.now ++ (filled_lines kind (label n None) c.acc-nominal.result.now.filled ++ under_lines n kind accs (filled.first + 1) members)) named
-    ∙ ap (λ vs. c.args.text.now ++ (filled_lines kind (label x.booked.name None) c.acc-nominal.result.now.filled ++ under_lines x.booked.name kind accs (filled.first + 1) (members_from (has c.depends.result) 0 vs))) c.variations-variations.ensures
+    ∙ ap (λ vs. c.args.text.now ++ (filled_lines kind (label x.booked.name None) c.acc-nominal.result.now.filled ++ under_lines x.booked.name kind accs (filled.first + 1) (members_from (has c.depends.result) 0 vs))) c.variations.ensures
     ∙ ap (λ l. c.args.text.now ++ l) (sym (varied_text g x filled kind (c.requires.action x at) (c.requires.filled x at) c.args.r (has c.depends.result) at c.depends.ensures (omega arith) c.acc-nominal.result.now c.acc-nominal.ensures)))
     c.put_varied.ensures

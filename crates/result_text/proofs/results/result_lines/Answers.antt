@@ -9,4 +9,4 @@ pub put_report-requires-clause-covered : goal.put_report-requires-clause-covered
 put_report-requires-clause-covered c =
     let g = c.args.graph.now in
     let x = something_at (graph_results g) c.args.r c.requires.result in
-    subst (λ l. All (λ f. f < length (graph_filters g)) l) (sym (its_covers (graph_results g) c.args.r x.0 c.covered-covered.result.now x.1 c.covered-covered.ensures)) (covers_within g c.args.r x.0 x.1)
+    subst (λ l. All (λ f. f < length (graph_filters g)) l) (sym (its_covers (graph_results g) c.args.r x.0 c.covered.result.now x.1 c.covered.ensures)) (covers_within g c.args.r x.0 x.1)

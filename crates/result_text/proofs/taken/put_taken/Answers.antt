@@ -1,11 +1,19 @@
-use Rattle.std.proofs.Common.{◌++◌, drop, sym, ap, ◌∙◌, append_assoc}
-use Rattle.lemmas.proofs.{on_ok}
+use Rattle.std.proofs.Common.{◌++◌, drop, sym, ap, ◌∙◌, append_assoc, arith}
+use Rattle.lemmas.proofs.{none_left}
 use Rattle.result_text.specs.{more_taken}
-use Rattle.result_text.proofs.Runs.{taken_front}
+use Rattle.result_text.proofs.Lists.{put_last}
+use Rattle.result_text.proofs.Runs.{taken_front, taken_next}
 use Rattle.result_text.proofs.taken.put_taken.Goals as goal
 
+pub loop-i-preserved : goal.loop-i-preserved
+loop-i-preserved c = record {
+  begun = omega arith;
+  text = taken_next c.loop-i.text c.push.new.self c.put_scalar-in-loop-i.new.text _ c.args.taken.now c.loop-i.i c.at-in-loop-i.result c.loop-i.invariant.text c.at-in-loop-i.ensures c.in_ok-push.ensures.ok c.in_ok-put_scalar-2.ensures;
+}
+
 pub returns : goal.returns
-returns c = on_ok c.put_others.result _ _
-    (λ e. e ∙ ap (λ l. l ++ more_taken (drop 1 c.args.taken.now)) c.in_ok-put_scalar.ensures ∙ append_assoc c.args.text.now _ (more_taken (drop 1 c.args.taken.now))
-    ∙ ap (λ l. c.args.text.now ++ l) (sym (taken_front c.args.taken.now c.at.result c.at.ensures)))
-    c.put_others.ensures
+returns c =
+    let others = more_taken (drop 1 c.args.taken.now) in
+    put_last _ _ _ c.loop-i.invariant.text (ap more_taken (none_left c.args.taken.now c.loop-i.i (omega arith)))
+    ∙ ap (λ l. l ++ others) c.in_ok-put_scalar.ensures ∙ append_assoc c.args.text.now _ others
+    ∙ ap (λ l. c.args.text.now ++ l) (sym (taken_front c.args.taken.now c.at.result c.at.ensures))

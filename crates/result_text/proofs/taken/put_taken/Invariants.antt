@@ -1,9 +1,9 @@
 use Rattle.std.proofs.Common.{◌≡◌, ◌≤◌, ◌++◌, drop}
 use Rattle.result_text.specs.{more_taken}
-use Rattle.result_text.proofs.taken.put_others.Given as goal
+use Rattle.result_text.proofs.taken.put_taken.Given as goal
 
 abbrev pub invariant-loop-i : goal.invariant-loop-i
 invariant-loop-i l = record {
   begun : 1 ≤ l.i;
-  text : l.text ++ more_taken (drop l.i l.taken) ≡ l.fn.text ++ more_taken (drop 1 l.taken);
+  text : l.text ++ more_taken (drop l.i l.taken) ≡ l.initial.text ++ more_taken (drop 1 l.taken);
 }
