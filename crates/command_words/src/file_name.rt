@@ -25,9 +25,7 @@ impl FileName {
     pub fn of(alloc: Global, word: &str) -> Result<FileName, Memory>
         ensures { IfOk result (λ name. name ≡ word.now) }
     {
-        let Ok(name) = String::from_str(alloc, word) else {
-            return Err(Memory);
-        };
+        let name = String::from_str(alloc, word)?;
         Ok(FileName { name })
     }
 

@@ -1,7 +1,7 @@
 // Reading the command's words.
 ghost use Rattle.std.specs.Prelude.{◌≡◌, IfOk, option_map, map};
 ghost use Rattle.clap.specs.Words.{first_of, found_of, rows_of};
-ghost use Rattle.command_words.specs.{asked_in, asked_of, friend_from, friend_with, input_from, is_set, missing_of, number_of, setting_of};
+ghost use Rattle.command_words.specs.{asked_in, asked_of, friend_from, input_from, is_set, missing_of, number_of, setting_of};
 
 use crate::arguments::arguments;
 use crate::command::{Command, Friend, Input};
@@ -46,19 +46,13 @@ pub fn number(text: &str, least: u32, most: u32) -> Option<u32>
 fn setting(text: Option<&str>, usual: u32, most: u32) -> Option<u32>
     ensures { result ≡ setting_of usual most (option_map (λ s. s.now) text.entry) }
 {
-    match text {
-        Some(text) => number(text, 1, most),
-        None => Some(usual),
-    }
+    text.map_or(Some(usual), |text| number(text, 1, most))
 }
 
 fn is_set(text: Option<&str>) -> bool
     ensures { result ≡ is_set (option_map (λ s. s.now) text.entry) }
 {
-    match text {
-        Some(text) => text == "true",
-        None => false,
-    }
+    text.is_some_and(|text| text == "true")
 }
 
 // The first value of an argument.
@@ -72,29 +66,7 @@ fn value<'a>(matches: &ArgMatches<'a>, id: &str) -> Option<&'a str>
 fn missing(text: Option<&str>) -> Option<i64>
     ensures { result ≡ missing_of (option_map (λ s. s.now) text.entry) }
 {
-    match text {
-        Some(text) => read_integer(text.as_bytes()),
-        None => Some(0),
-    }
-}
-
-// The friend in a file, where its key is a name and the number canonical.
-fn friend(
-    alloc: Global,
-    file: &str,
-    key: &str,
-    missing: Option<i64>,
-) -> Result<Option<Friend>, Memory>
-    ensures { IfOk result (λ friend. friend ≡ friend_with file.now key.now missing) }
-{
-    let Some(missing) = missing else {
-        return Ok(None);
-    };
-    let Some(key) = Name::read(alloc, key.as_bytes())? else {
-        return Ok(None);
-    };
-    let file = FileName::of(alloc, file)?;
-    Ok(Some(Friend { file, key, missing }))
+    text.map_or(Some(0), |text| read_integer(text.as_bytes()))
 }
 
 // The friend that is asked for, if one is. There is no answer where the file and the key don't come together, the number
@@ -109,15 +81,16 @@ fn friend_asked(
 {
     let Some(file) = file else {
         let none_asked = key.is_none() && number.is_none();
-        return Ok(if none_asked { Some(None) } else { None });
+        return Ok(none_asked.then_some(None));
     };
-    let Some(key) = key else {
+    let (Some(key), Some(missing)) = (key, missing(number)) else {
         return Ok(None);
     };
-    match friend(alloc, file, key, missing(number))? {
-        Some(friend) => Ok(Some(Some(friend))),
-        None => Ok(None),
-    }
+    let Some(key) = Name::read(alloc, key.as_bytes())? else {
+        return Ok(None);
+    };
+    let file = FileName::of(alloc, file)?;
+    Ok(Some(Some(Friend { file, key, missing })))
 }
 
 fn input(
@@ -129,10 +102,7 @@ fn input(
 ) -> Result<Option<Input>, Memory>
     ensures { IfOk result (λ input. input ≡ input_from is_made (option_map (λ s. s.now) first.entry) (option_map (λ s. s.now) second.entry) friend) }
 {
-    let Some(first) = first else {
-        return Ok(None);
-    };
-    let Some(second) = second else {
+    let (Some(first), Some(second)) = (first, second) else {
         return Ok(None);
     };
     if !is_made {
@@ -145,10 +115,8 @@ fn input(
     if friend.is_some() {
         return Ok(None);
     }
-    let Some(entries) = number(first, 1, MAX_ENTRIES) else {
-        return Ok(None);
-    };
-    let Some(seed) = number(second, 0, u32::MAX) else {
+    let entries = number(first, 1, MAX_ENTRIES);
+    let (Some(entries), Some(seed)) = (entries, number(second, 0, u32::MAX)) else {
         return Ok(None);
     };
     Ok(Some(Input::Generated { entries, seed }))
@@ -201,11 +169,8 @@ fn asked(alloc: Global, matches: &ArgMatches<'_>) -> Result<Option<Command>, Mem
 pub fn read_command(alloc: Global, words: &WordList) -> Result<Option<Command>, Memory>
     ensures { IfOk result (λ command. command ≡ asked_of words.now) }
 {
-    let Ok(arguments) = arguments(alloc) else {
-        return Err(Memory);
-    };
     let list = borrowed(alloc, words)?;
-    match arguments.try_get_matches_from(list.as_slice()) {
+    match arguments(alloc)?.try_get_matches_from(list.as_slice()) {
         Ok(matches) => asked(alloc, &matches),
         Err(error) => match error.kind() {
             ErrorKind::OutOfMemory => Err(Memory),
