@@ -3,9 +3,9 @@
 function whose body takes N lines and more gets a call of `grind` with the lemmas that the body cites, all at once; a check tells which are refused; these are
 put back, and what stands inside them is tried in their place, until the crate is proved again. Some six to ten checks of what changed.
 
-    cd crates/NAME && ../../tools/shorten.py [--through] [--lines N] [--steps S] [FILE..]     (3 lines; 800000 steps a call; all files of proofs/)
+    cd crates/NAME && ../../tools/shorten.py [--by search] [--through] [--lines N] [--steps S] [FILE..]     (3 lines; 800000 steps a call; all files of proofs/)
 
-By --through it tries bodies of any length, and lists in place of each lemma that nothing else cites those that this one cites: where that is proved, the lemma
+By --by search it writes `search (arith, LEMMAS)`, which finds some proofs that `grind` doesn't. By --through it tries bodies of any length, and lists in place of each lemma that nothing else cites those that this one cites: where that is proved, the lemma
 in between goes. What is kept is printed. Read the diff: a proof whose steps a comment tells is better put back. What was refused is noted in out/, so a second
 run is short.
 """
@@ -213,6 +213,8 @@ class Between:
 class Source:
     """A file of proofs, with its places. between: the lemmas that calls may pass over."""
 
+    tactic = "grind"
+
     def __init__(self, path, least, between=None):
         self.path, self.least, self.between = path, least, between
         with open(path, encoding="utf-8") as file:
@@ -272,10 +274,10 @@ class Source:
         return found
 
     def call(self, deep, head, cited, room):
-        """The lines of a clause that is a call of `grind`, or None where it would be too long."""
+        """The lines of a clause that is a call of the tactic, or None where it would be too long."""
         if len(cited) > MOST_LEMMAS:
             return None
-        call = "grind (arith, " + ", ".join(cited) + ")" if cited else "grind arith"
+        call = f"{self.tactic} (arith, {', '.join(cited)})" if cited else f"{self.tactic} arith"
         lines = [f"{head} = {call} STEPS"]
         if len(lines[0]) > WIDTH:
             lines = [f"{head} =", " " * (deep + 4) + f"{call} STEPS"]
@@ -350,10 +352,11 @@ class Source:
 
     def write(self, steps):
         """Writes the file with its places' calls, and notes where they stand in it."""
+        bound = f" steps {steps}" if steps and self.tactic == "grind" else ""
         out, at, self.shown = [], 0, {}
         for place in self.live:
             out += self.lines[at : place.start]
-            new = [line.replace(" STEPS", f" steps {steps}" if steps else "") for line in place.call]
+            new = [line.replace(" STEPS", bound) for line in place.call]
             self.shown.update({len(out) + 1 + it: place for it in range(len(new))})
             out += new
             at = place.end
@@ -456,11 +459,13 @@ def shorten(sources, steps):
 
 def main():
     options = argparse.ArgumentParser(description="Writes calls of grind in place of long proofs.")
+    options.add_argument("--by", choices=["grind", "search"], default="grind")
     options.add_argument("--through", action="store_true")
     options.add_argument("--lines", type=int)
     options.add_argument("--steps", type=int, default=800000)
     options.add_argument("files", nargs="*")
     given = options.parse_args()
+    Source.tactic = given.by
     files = given.files or [it for it in sorted(glob.glob("proofs/**/*.antt", recursive=True)) if "Example" not in it and not it.endswith("Lib.antt")]
     between = Between(os.path.basename(os.getcwd())) if given.through else None
     sources = {file: Source(file, given.lines or (1 if given.through else 3), between).find() for file in files}
