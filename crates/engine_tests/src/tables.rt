@@ -21,11 +21,11 @@ fn table(alloc: Global) -> Result<Option<Table>, Memory>
         kind: ColType::Int,
     })?;
     let mut table = Table::new(alloc, columns)?;
-    for number in [10, -3] {
-        let mut row = ListOf::new(alloc);
-        row.push(Value::Int(number))?;
-        table.push(&mut row)?;
-    }
+    let mut row = ListOf::new(alloc);
+    row.push(Value::Int(10))?;
+    table.push(&mut row)?;
+    row.push(Value::Int(-3))?;
+    table.push(&mut row)?;
     Ok(Some(table))
 }
 
