@@ -268,7 +268,7 @@ class Source:
         found, bound = [], {*bound, *(it[3] for it in map(SIGNATURE.match, self.lines[start:end]) if it)}
         for word in tokens("\n".join(self.lines[start:end])):
             home = self.brought.get(word, "")
-            is_lemma = not word[0].isupper() and (word in self.own or re.search(r"\.proofs(\.|$)", home) and not re.search("Common|Goals", home))
+            is_lemma = not word[:1].isupper() and (word in self.own or re.search(r"\.proofs(\.|$)", home) and not re.search("Common|Goals", home))
             if is_lemma and word not in WORDS and word not in bound and word not in found:
                 found.append(word)
         return found
