@@ -3,7 +3,7 @@ use Rattle.std.proofs.Common.{if◌then◌else◌, ◌≡◌, ◌⊎◌, inl, in
 use Rattle.std.proofs.lemmas.Bool.{cases_lt}
 use Rattle.std.proofs.lemmas.Option.{slice_get_within, IfSome_then}
 use Rattle.lemmas.proofs.{something_at, before_or_last, kept_at, same_some, take_next}
-use Rattle.rdf_values.specs.{Booked, history, Pass, passes_of, cut, Fault, first_in, Lead, Statement}
+use Rattle.rdf_values.specs.{Booked, history, Pass, passes_of, Fault, first_in, Statement}
 use Rattle.rdf_model.specs.{kind_in, kinds_in, loop_passes, loop_results, Access, accesses, ComesInTurn, Dataset, filled_by, first_fault, first_fault_from, loop_of, loops_before}
 use Rattle.graph_numbers.specs.{graph_loops, graph_results, ResultAt, graph_prints}
 use Rattle.graph_numbers.proofs.Extending.{itself}
@@ -47,18 +47,10 @@ module _ (s : SessionView) (is : IsSession s) where
   NoneBefore name l = (k : ℕ) (results : List Booked) → k < l → slice_get (loop_results (history s.graph.script)) k ≡ Some results → fills name results ≡ false
 
   pub one_more : (name : List ℕ) (l : ℕ) → NoneBefore name l → ((results : List Booked) → slice_get (loop_results (history s.graph.script)) l ≡ Some results → fills name results ≡ false) → NoneBefore name (l + 1)
-  one_more name l before own k results lt at = go (cases_lt k l)
-    where
-      go : (k < l) ⊎ (l ≤ k) → fills name results ≡ false
-      go (inl less) = before k results less at
-      go (inr ge) = let same_number : k ≡ l = omega arith in own results (ap (slice_get (loop_results (history s.graph.script))) (sym same_number) ∙ at)
+  one_more name l before own = grind (arith, cases_lt)
 
   pub none_left : (name : List ℕ) (n : ℕ) → length s.loops ≤ n → NoneBefore name n → IsUnfilled s name
-  none_left name n le before l at = go (cases_lt l (length s.loops))
-    where
-      go : (l < length s.loops) ⊎ (length s.loops ≤ l) → length s.loops ≤ l
-      go (inr ge) = ge
-      go (inl lt) = let p = place_at (fills name) (loop_results (history s.graph.script)) l at in let no = before l p.0 (omega arith) p.1 in let is_one = p.2 in absurd (cc)
+  none_left name n le before = grind (arith, cases_lt, place_at)
 
   pub found : (b : Booked) (l : ℕ) (place : Place) → l < length s.loops → NoneBefore b.name l
       → ((results : List Booked) → slice_get (loop_results (history s.graph.script)) l ≡ Some results → IsFilledPlace (history s.graph.script) b results place) → IsFoundAt s b l place
@@ -132,9 +124,7 @@ no_pass_no_fault d e [] = refl
 no_pass_no_fault d e (r ∷ rows) = no_pass_no_fault d (e + 1) rows
 
 pub job_fault : (s : SessionView) → IsSession s → (l : ℕ) → first_in (job_facts (session_job s l)).faults ≡ first_fault s.dataset (passes_in (session_job s l))
-job_fault s is l =
-    let leads = subst (λ (n : ℕ). Lead 0 n (cut s.cuts.entries s.cuts.size s.cuts.marks)) is.cuts (cuts_lead s.cuts.entries s.cuts.size s.cuts.marks) in
-    first_cluster_has_first_fault s.dataset (cut s.cuts.entries s.cuts.size s.cuts.marks) (passes_in (session_job s l)) leads
+job_fault s is l = grind (arith, cuts_lead, first_cluster_has_first_fault)
 
 -- ---- one access more
 
@@ -196,11 +186,7 @@ faulted s n k is number there first = changed s n s.loops (Some k) is is.filled 
 -- ---- a Print, by what the graph tells of it
 
 access_of : (script : List Statement) (print l : ℕ) → option_map (λ (a : Access). loop_of script a.result) (slice_get (accesses script) print) ≡ Some l → (a : Access) × (slice_get (accesses script) print ≡ Some a) × (loop_of script a.result ≡ l)
-access_of script print l h = go (slice_get (accesses script) print) refl h
-  where
-    go : (o : Option Access) → slice_get (accesses script) print ≡ o → option_map (λ (a : Access). loop_of script a.result) o ≡ Some l → (a : Access) × (slice_get (accesses script) print ≡ Some a) × (loop_of script a.result ≡ l)
-    go None e q = absurd (cc)
-    go (Some a) e q = (a, e, same_some q)
+access_of script print l h = grind (arith, same_some)
 
 accesses_few : (before : List Statement) → length (accesses before) ≤ length before
 accesses_few [] = omega arith
@@ -208,10 +194,7 @@ accesses_few (Print result ∷ before) = let rest = accesses_few before in let b
 accesses_few (s ∷ before) = let rest = accesses_few before in omega (arith, rest)
 
 pub print_few : (s : SessionView) → IsSession s → (print : ℕ) → print < length (accesses (history s.graph.script)) → print < 256
-print_few s is print lt =
-    let few = accesses_few (history s.graph.script) in
-    let statements = lines_few s.graph.script is.booked.bookable.few in
-    omega (arith, lt, few, statements)
+print_few s is print lt = grind (arith, accesses_few, lines_few)
 
 module _ (s : SessionView) (is : IsSession s) (print : ℕ) (next : print ≡ s.next) (l : ℕ)
     (told : option_map (λ (a : Access). loop_of (history s.graph.script) a.result) (slice_get (accesses (history s.graph.script)) print) ≡ Some l) where
@@ -254,16 +237,7 @@ module _ (s : SessionView) (is : IsSession s) (print : ℕ) (next : print ≡ s.
   after_old lt = advanced s (print + 1) is (λ sound. loops_are sound ∙ sym (none_more (history s.graph.script) print a at (no_loop lt sound)))
 
   pub accessed_old : (q r : ℕ) → q ≡ r → slice_get (graph_prints s.graph) print ≡ Some (Some q) → l < length s.loops → IsAccessed s (record s { next = print + 1 }) print r
-  accessed_old q r same_result result lt = record {
-    its_result = result ∙ ap (λ (n : ℕ). Some (Some n)) same_result;
-    next = ap (λ (n : ℕ). n + 1) next;
-    fault = refl;
-    stays = λ k f there. there;
-    filled = λ b there. subst (λ (x : Access). IsFilledIn (record s { next = print + 1 }) x.result) (same_access b there) (record { number = l; its_number = found_is; completed = lt });
-    again = λ b there h. refl;
-    sound = λ b there sound. subst (λ (x : Access). first_fault s.dataset (passes_run (history s.graph.script) x) ≡ None) (same_access b there)
-        (ap (λ (o : Option (List Booked)). first_fault s.dataset (loop_passes (history s.graph.script) (unwrap_or o []))) (no_loop lt sound) ∙ no_pass_no_fault s.dataset 0 s.dataset.rows);
-  }
+  accessed_old q r same_result result lt = grind (arith, same_access, found_is, no_loop, no_pass_no_fault)
 
   -- the loop is run
   record IsNext : Type 0 where
@@ -273,9 +247,7 @@ module _ (s : SessionView) (is : IsSession s) (print : ℕ) (next : print ≡ s.
     pub its_results : slice_get (loop_results (history s.graph.script)) l ≡ Some results
 
   unfilled : length s.loops ≤ l → (b : Access) → slice_get (accesses (history s.graph.script)) print ≡ Some b → IsUnfilled s b.result
-  unfilled ge b there m m_fills =
-      let same_number : l ≡ m = same_some (sym found_is ∙ ap (λ (x : Access). loop_filling (history s.graph.script) x.result) (same_access b there) ∙ m_fills) in
-      omega (arith, ge, same_number)
+  unfilled ge b there = grind (arith, same_some, found_is, same_access)
 
   module _ (ge : length s.loops ≤ l) (sound : s.fault ≡ None) where
     next_loop : IsNext

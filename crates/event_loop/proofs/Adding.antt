@@ -1,5 +1,5 @@
 -- One more pass, and what an accepted script says of its actions: their edges are those of an axis, and only numbers are watched.
-use Rattle.std.proofs.Common.{◌≡◌, inl, inr, ℕ, ◌≤◌, Bool, true, false, ◌&&◌, List, [], ◌∷◌, ◌++◌, length, map, None, Some, refl, sym, ◌∙◌, ap, subst, arith, slice_get, append-nil, if◌then◌else◌, ◌+◌, ◌<◌, ◌^◌, take, get_or, Option, ap₂, unwrap_or, option_map, is_none}
+use Rattle.std.proofs.Common.{◌≡◌, inl, inr, ℕ, ◌≤◌, Bool, true, false, List, [], ◌∷◌, ◌++◌, length, map, None, Some, refl, sym, ◌∙◌, ap, subst, arith, slice_get, append-nil, if◌then◌else◌, ◌+◌, ◌<◌, ◌^◌, take, get_or, Option, unwrap_or, option_map, is_none}
 use Rattle.std.specs.List.{AllByRecursion}
 use Rattle.std.proofs.lemmas.Bool.{and_parts, both_ways, or_cases, or_left, or_right}
 use Rattle.std.proofs.lemmas.List.Elements.{All-map}
@@ -7,8 +7,8 @@ use Rattle.std.proofs.lemmas.List.Sorted.{All-permutation, IsPermutation-reverse
 use Rattle.std.proofs.lemmas.List.{length-map}
 use Rattle.std.proofs.lemmas.List.Elements.{recursion_from_All}
 use Rattle.lemmas.proofs.{and_right, same_some, something_at, take_front, mapped_at, take_next}
-use Rattle.rdf_values.specs.{ActionAt, ActionKind, among, are_edges, AreAccepted, Booked, booked_by, bookings, can_watch, check, check_columns, check_edges, check_node, check_passes, check_results, columns_of, FunctionNames, GraphCause, history, is_result, is_watched, IsBookable, IsShort, Line, names_of, Path, permitted_kinds, refuse_unless, ReportOn, result_is, same, Scope, scope_at, Script, Statement, Booking, fn_names, named_before, Pass, scope_of, variations}
-use Rattle.rdf_values.specs.declared.scripts.statement.Statement.TheVariants.{Action, Report, Watch}
+use Rattle.rdf_values.specs.{ActionAt, ActionKind, among, are_edges, AreAccepted, Booked, booked_by, bookings, can_watch, check, check_edges, FunctionNames, GraphCause, history, is_result, is_watched, IsBookable, IsShort, Line, names_of, Path, refuse_unless, result_is, same, Scope, Script, Statement, fn_names, named_before, Pass, scope_of, variations}
+use Rattle.rdf_values.specs.declared.scripts.statement.Statement.TheVariants.{Action, Watch}
 use Rattle.rdf_model.proofs.Accepted.{both_none, names_equal, third, unless_holds}
 use Rattle.histograms.specs.{IsAxis}
 use Rattle.actions.specs.{HasEdges}
@@ -42,24 +42,15 @@ module _ (names : FunctionNames) (header : Scope) where
 
   of_kind : (k : ActionKind) (result parent : List ℕ) → check_edges k ≡ None → IsShort (Action result parent k) → HasEdges k
   of_kind (ActionKind.Histo1D edges x w) r p h short = axis edges (unless_holds (are_edges edges) GraphCause.BadEdges h) short
-  of_kind (ActionKind.Histo2D xs ys x y w) r p h short =
-      let both = and_parts (are_edges xs) (are_edges ys) (unless_holds (are_edges xs && are_edges ys) GraphCause.BadEdges h) in
-      (axis xs both.0 short.0, axis ys both.1 short.1)
+  of_kind (ActionKind.Histo2D xs ys x y w) r p h short = grind (arith, and_parts, unless_holds, axis)
   of_kind k r p h short = tt
 
   edges_kept : (before : List Statement) (result parent : List ℕ) (k : ActionKind) → check names header before (Action result parent k) ≡ None → check_edges k ≡ None
-  edges_kept before result parent k h =
-      third (check_node before result parent) (check_columns (scope_at names header before parent) (permitted_kinds k) [] (columns_of k)) (check_edges k)
-      (check_results (Action result parent k ∷ before) ∷ check_passes before (bookings (Action result parent k ∷ before)) ∷ []) h
+  edges_kept before result parent k h = grind (arith, third)
 
   own_edges : (before : List Statement) (s : Statement) → check names header before s ≡ None → IsShort s → (n : ℕ) (b : Booked) (k : ActionKind) (at : Path) → slice_get (booked_by before s) n ≡ Some b
       → b.booking ≡ ActionAt k at → HasEdges k
-  own_edges before (Action result parent j) h short n b k at is of =
-      let same_booking = ap (λ (x : Booked). x.booking) (only_at _ b n is) ∙ of in
-      let e : j ≡ k = cc in
-      subst HasEdges e (of_kind j result parent (edges_kept before result parent j h) short)
-  own_edges before (Report result parent) h short n b k at is of = let same_booking = ap (λ (x : Booked). x.booking) (only_at _ b n is) ∙ of in absurd (cc)
-  own_edges before s h short n b k at is of = cc is
+  own_edges before s h short n b k at is of = grind (arith, only_at, of_kind, edges_kept)
 
   -- the edges of a booked action
   pub has_edges : (st : List Statement) → AreAccepted names header st → AllByRecursion IsShort st → (n : ℕ) (b : Booked) (k : ActionKind) (at : Path) → slice_get (bookings st) n ≡ Some b → b.booking ≡ ActionAt k at → HasEdges k
@@ -115,11 +106,7 @@ module _ (names : FunctionNames) (header : Scope) where
   ]
 
 kind_can : (k : ActionKind) (at : Path) → can_watch (ActionAt k at) ≡ true → CanWatch k
-kind_can ActionKind.Count at h = tt
-kind_can (ActionKind.Sum c) at h = tt
-kind_can (ActionKind.Min c) at h = tt
-kind_can (ActionKind.Max c) at h = tt
-kind_can k at h = cc h
+kind_can k at h = grind arith
 
 -- what is watched can be
 pub can_be_watched : (names : FunctionNames) (header : Scope) (st : List Statement) → AreAccepted names header st → (n : ℕ) (b : Booked) (k : ActionKind) (at : Path) → slice_get (bookings st) n ≡ Some b → b.booking ≡ ActionAt k at
@@ -147,10 +134,7 @@ pub counted : (j : JobView) (ps : List NumberedPass) → ps ≡ numbered_passes 
 counted j ps e = ap length e ∙ passes_count j
 
 pub fewer : (j : JobView) → IsJob j → (g : GraphView) → g ≡ job_graph j → (n : ℕ) → n ≡ length (graph_variations g) → n ≤ 128 → (ps : List NumberedPass) → ps ≡ numbered_passes j → length ps < 2 ^ 32
-fewer j job g e n q le ps is =
-    let l : length (graph_variations g) ≡ length (graph_variations (job_graph j)) = ap (λ (h : GraphView). length (graph_variations h)) e in
-    let h = few_passes j job (omega (arith, l, q, le)) in
-    omega (arith, ap length is, h)
+fewer j job g e n q le ps is = grind (arith, few_passes)
 
 pub numbered_at : (j : JobView) (g : GraphView) (ps : List NumberedPass) → g ≡ job_graph j → slice_get (graph_loops g) j.number ≡ Some ps → (n : ℕ) → n < length (passes_in j) → (d : NumberedPass) → numbered_in j n ≡ Some (get_or ps n d)
 numbered_at j g ps e q n lt d = let is = read j g ps e q in read_pass j ps is n (omega (arith, lt, counted j ps is)) d
@@ -183,17 +167,10 @@ module _ (j : JobView) (n : ℕ) (m : NumberedPass) (its : numbered_in j n ≡ S
   -- the pass is the nominal one of a watched result
   pub flag_is : (p : Pass) → slice_get (passes_in j) n ≡ Some p → m.variation ≡ None → (w : Bool) (g : GraphView) → g ≡ job_graph j
       → option_map (λ (x : ResultAt). is_watched (history g.script) x.booked.name) (slice_get (graph_results g) m.result) ≡ Some w → w ≡ is_watched_pass (history j.script) p
-  flag_is p here nominal w g of at =
-      let is = ap (λ (h : GraphView). option_map (λ (x : ResultAt). is_watched (history h.script) x.booked.name) (slice_get (graph_results h) m.result)) (sym of) ∙ at in
-      let on : is_none m.variation ≡ true = ap is_none nominal in
-      let same : record { result = its_result.booked; under = graph_under (job_graph j) m.variation } ≡ p = same_Some _ p (sym its_pass ∙ here) in
-      let told : is_watched (history j.script) its_result.booked.name ≡ w = same_Some _ w (sym (ap (option_map (λ (x : ResultAt). is_watched (history j.script) x.booked.name)) its_result_is) ∙ is) in
-      ap (λ b. b && w) (sym on) ∙ ap₂ (λ a b. a && b) (sym under_same) (sym told) ∙ ap (is_watched_pass (history j.script)) same
+  flag_is p here nominal w g of h = grind (arith, same_Some, its_pass, its_result_is, under_same)
 
   pub not_nominal : (p : Pass) (v : ℕ) → slice_get (passes_in j) n ≡ Some p → m.variation ≡ Some v → is_watched_pass (history j.script) p ≡ false
-  not_nominal p v here under =
-      let same : record { result = its_result.booked; under = graph_under (job_graph j) m.variation } ≡ p = same_Some _ p (sym its_pass ∙ here) in
-      sym (ap (is_watched_pass (history j.script)) same) ∙ ap (λ b. b && is_watched (history j.script) its_result.booked.name) (under_same ∙ ap is_none under)
+  not_nominal p v here under = grind (arith, same_Some, its_pass, under_same)
 
   -- ---- what it is
 
@@ -206,11 +183,7 @@ module _ (j : JobView) (n : ℕ) (m : NumberedPass) (its : numbered_in j n ≡ S
     of_action k e = action_booking its_result.booked.booking k (kind_is ∙ e)
 
     pub of_report : kind ≡ ResultKind.Report → kind_in its_result.booked.booking ≡ []
-    of_report e = go its_result.booked.booking (kind_is ∙ e)
-      where
-        go : (b : Booking) → kind_of_booking b ≡ ResultKind.Report → kind_in b ≡ []
-        go (ActionAt l at) h = cc h
-        go (ReportOn fs) h = refl
+    of_report e = grind (arith, kind_is)
 
     pub edges : (job : IsJob j) (k : ActionKind) → kind ≡ ResultKind.Action k → HasEdges k
     edges job k e =
@@ -260,9 +233,7 @@ module _ (j : JobView) (n : ℕ) (p : Pass) (here : slice_get (passes_in j) n �
     more_places = places_next ∙ ap (λ l. places_before j n ++ l) one_place
 
     pub added : (t : TallyView) → IsFresh (kinds_in (take n (passes_in j)) ++ k ∷ []) (places_before j n ++ place_if (is_watched_pass (history j.script) p) (kinds_in (take n (passes_in j)))) t → IsOfPasses j (n + 1) t
-    added t h =
-        subst (λ ks. IsFresh ks (places_before j (n + 1)) t) (sym more_kinds)
-        (subst (λ ws. IsFresh (kinds_in (take n (passes_in j)) ++ k ∷ []) ws t) (sym more_places) h)
+    added t h = grind (arith, more_kinds, more_places)
 
 -- ---- named filters
 

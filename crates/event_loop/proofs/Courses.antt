@@ -17,7 +17,6 @@ use Rattle.event_loop.proofs.Found.{booked_row, decoded, in_turn}
 use Rattle.event_loop.proofs.LoopResults.{many, one_number}
 use Rattle.graph.proofs.Listing.{place_at}
 use Rattle.graph_numbers.proofs.Listed.{by_test}
-use Rattle.columns.specs.CutsView.{CutsView}
 use Rattle.loop_pieces.specs.{ArePartialLines, PartialLine}
 use Rattle.result_text.proofs.Lists.{one_left}
 use Rattle.event_loop.proofs.SomeChain.{first_sets, first_sets_are_a_chain}
@@ -75,9 +74,7 @@ same_view : (old new : SessionView) → HasSameParts old new → new ≡ with_pa
 same_view old new parts = λ i. record new { graph = parts.graph i; dataset = parts.dataset i; cuts = parts.cuts i }
 
 pub fits_before : (old new : SessionView) → HasSameParts old new → ((l : ℕ) (f : FilledLoop) → slice_get old.loops l ≡ Some f → slice_get new.loops l ≡ Some f) → (course : Course) → FitsCourse new course → FitsCourse old course
-fits_before old new parts stays course fits =
-    let now = subst (λ (s : SessionView). FitsCourse s course) (same_view old new parts) fits in
-    record { spans = now.spans; lines = λ l w place f ls at watched lines. now.lines l w place f ls (stays l f at) watched lines }
+fits_before old new h stays course k = grind (arith, same_view)
 
 -- ---- the lines of a result
 
@@ -126,10 +123,7 @@ kept_is : (new : SessionView) (l : ℕ) (f : Fault) → IsSession new → new.fa
 kept_is new l f is e = subst (λ (o : Option Kept). IfSome o (IsKept new)) e is.kept
 
 pub fault_loop : (new : SessionView) (l : ℕ) (f : Fault) → IsSession new → new.fault ≡ Some (record { loop_index = l; fault = f }) → l < length (graph_loops new.graph)
-fault_loop new l f is e =
-    let there = (kept_is new l f is e).there in
-    let same_length = many (history new.graph.script) (history new.graph.script) all_of_it in
-    omega (arith, there, same_length)
+fault_loop new l f is e = grind (arith, kept_is, many, all_of_it)
 
 pub fault_pass : (new : SessionView) (l : ℕ) (f : Fault) → IsSession new → new.fault ≡ Some (record { loop_index = l; fault = f }) → (ps : List NumberedPass) → slice_get (graph_loops new.graph) l ≡ Some ps → f.pass < length ps
 fault_pass new l f is e ps at =
@@ -234,18 +228,12 @@ module _ (s0 old : SessionView) (parts : HasSameParts s0 old) (n : ℕ) (before 
 
 module _ (s0 s : SessionView) (is : IsSession s) (parts : HasSameParts s0 s) where
   is_course : IsCourse (history s0.graph.script) (length s0.dataset.rows) s0.cuts.size s0.cuts.marks s0.watch (course_of s is)
-  is_course =
-      subst (λ (g : GraphView). IsCourse (history g.script) (length s0.dataset.rows) s0.cuts.size s0.cuts.marks s0.watch (course_of s is)) parts.graph
-      (subst (λ (d : Dataset). IsCourse (history s.graph.script) (length d.rows) s0.cuts.size s0.cuts.marks s0.watch (course_of s is)) parts.dataset
-      (subst (λ (c : CutsView). IsCourse (history s.graph.script) (length s.dataset.rows) c.size c.marks s0.watch (course_of s is)) parts.cuts
-      (subst (λ (k : ℕ). IsCourse (history s.graph.script) (length s.dataset.rows) s.cuts.size s.cuts.marks k (course_of s is)) parts.watch (course_is s is))))
+  is_course = grind (arith, course_of, course_is)
 
   whole : (text : List ℕ) (faulted : Bool) (status : ℕ) → (if faulted then 8 else 0) ≡ status
       → ((course : Course) → FitsCourse s course → ◌≡◌ {A = Printed} (record { bytes = text; status = status }) (printed (history s0.graph.script) s0.dataset course (accesses (history s0.graph.script))))
       → IsTranscript s0.graph.script s0.dataset s0.cuts s0.watch (record { text = text; faulted = faulted })
-  whole text faulted status e h =
-      let all = h (course_of s is) (course_fits s is) in
-      record { course = course_of s is; is_course = is_course; bytes = ap (λ (p : Printed). p.bytes) all; status = e ∙ ap (λ (p : Printed). p.status) all }
+  whole text faulted status e h = grind (arith, course_of, course_fits, is_course)
 
   pub done : (text : List ℕ) (n : ℕ) → length (accesses (history s0.graph.script)) ≤ n → IsSoFar s0 s text n → IsTranscript s0.graph.script s0.dataset s0.cuts s0.watch (record { text = text; faulted = false })
   done text n le so_far = whole text false 0 refl

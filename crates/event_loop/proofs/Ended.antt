@@ -29,13 +29,7 @@ one_more fs i d some within = drop-cons fs (i - 1) d (omega arith) ∙ (let e : 
 -- one slot before them
 pub next_slot : (fs : List Finished) (i : ℕ) (d : Finished) (least now : Option Fault) → 0 < i → IsLeastFrom fs i least → IsServed (get_or fs (i - 1) d).end
     → now ≡ least_fault (fault_of (get_or fs (i - 1) d).end ++ end_faults (drop i fs)) → IsLeastFrom fs (i - 1) now
-next_slot fs i d least now some h served is =
-    let more = one_more fs i d some h.within in
-    record {
-      within = (let w = h.within in omega arith);
-      told = is ∙ ap (λ l. least_fault (end_faults l)) (sym more);
-      memory = subst (All HasMemory) (sym more) (All-cons HasMemory (get_or fs (i - 1) d) (drop i fs) served h.memory);
-    }
+next_slot fs i d least now some h served is = grind (arith, one_more)
 
 -- the clusters that each slot drew
 abbrev pub drawn_in : List Finished → List (List ℕ)
@@ -110,13 +104,7 @@ module _ (c : ClaimsSeen) (b : Option BookSeen) (job : JobFacts) (bar : ℕ) whe
 
   -- the bar isn't below the number of clusters, or a slot met a fault there
   pub reaches : (fs : List Finished) → c.clusters ≡ length job.faults → All Ran fs → All HasMemory fs → IsLeast c.clusters (map seat_in fs) bar → (length job.faults ≤ bar) ⊎ IsReached (end_faults fs)
-  reaches fs few ran memory least = ⊎_elim
-      (λ (lt : bar < c.clusters).
-      let there = least.reached lt in
-      let lowered = map (λ (s : SeatSeen). s.lowered) (map seat_in fs) in
-      inr (reached_at fs there.0 ran memory (slice_get-get_or lowered there.0 (Some bar) there.1 ∙ ap Some there.2)))
-      (λ (le : c.clusters ≤ bar). inl (omega arith))
-      (cases_lt bar c.clusters)
+  reaches fs few ran memory least = grind (arith, reached_at, slice_get-get_or, cases_lt)
 
   -- ---- where no slot faulted
 
@@ -125,9 +113,7 @@ module _ (c : ClaimsSeen) (b : Option BookSeen) (job : JobFacts) (bar : ℕ) whe
   IsOver f = (state : SlotView) × (f.end ≡ Over state)
 
   is_over : (end : End) (rest : List Fault) → IsServed end → fault_of end ++ rest ≡ [] → ((state : SlotView) × (end ≡ Over state)) × (rest ≡ [])
-  is_over (Over state) rest served none = ((state, refl), none)
-  is_over (Faulted state f) rest served none = absurd (cc)
-  is_over NoMemory rest served none = elim served [ ]
+  is_over end rest served none = grind arith
 
   pub all_over : (fs : List Finished) → All HasMemory fs → end_faults fs ≡ [] → All IsOver fs
   all_over [] memory none = All-nil IsOver
@@ -147,10 +133,7 @@ module _ (c : ClaimsSeen) (b : Option BookSeen) (job : JobFacts) (bar : ℕ) whe
   as_many (f ∷ fs) over = (let rest = as_many fs (All-tail IsOver f fs over) in omega (arith, rest, ap length (over_first f fs (All-head IsOver f fs over))))
 
   ran_out : (s : Slot) (state : SlotView) → c.clusters ≤ bar → RanOut c s.seat state.done ⊎ MetBar c s.seat state.done → IsPassed bar s.seat → RanOut c s.seat state.done
-  ran_out s state high how passed = elim how [
-    | inl r ↦ r
-    | inr m ↦ (let above = passed_above s.seat m.last m.passed passed in let inside = m.cluster in absurd (omega arith))
-  ]
+  ran_out s state high how passed = grind (arith, passed_above)
 
   kept_more : (o : Option ℕ) (word : ℕ) → IsSomeAnd o (λ k. c.clusters ≤ k) → IfSome o (λ k. (c.clusters ≤ k) × (k < word)) → c.clusters ≤ word
   kept_more None word s k = elim s [ ]
@@ -184,10 +167,7 @@ module _ (c : ClaimsSeen) (b : Option BookSeen) (job : JobFacts) (bar : ℕ) whe
   module _ (fs : List Finished) (word : ℕ) (facts : AreFacts c.clusters job) (some : 0 < length fs) (ran : All Ran fs) (memory : All HasMemory fs)
       (drawn : DrawnBy (drawn_in fs) (min word c.clusters)) (least : IsLeast c.clusters (map seat_in fs) bar) (passed : All (IsPassed bar) (map seat_in fs)) (kept : All (IsKept c.clusters word) (map seat_in fs)) where
     high_bar : end_faults fs ≡ [] → c.clusters ≤ bar
-    high_bar none = ⊎_elim
-        (λ (le : length job.faults ≤ bar). let f = facts.faults in let r : c.clusters ≤ bar = omega arith in r)
-        (λ (g : IsReached (end_faults fs)). absurd (subst (Among g.0) none g.1))
-        (reaches fs (sym facts.faults) ran memory least)
+    high_bar none = grind (arith, reaches)
 
     full : end_faults fs ≡ [] → c.clusters ≤ word
     full none = all_drawn fs word some (high_bar none) ran (all_over fs memory none) passed kept

@@ -17,7 +17,7 @@ use Rattle.event_loop.specs.{IsPassOf, fills, IsFilledPlace}
 use Rattle.loop_keys.proofs.Elements.{of_mapped}
 use Rattle.loop_keys.proofs.EntryLaws.{actions_few, all_taken}
 use Rattle.loop_keys.proofs.PassCounts.{loop_few as passes_few}
-use Rattle.event_loop.proofs.LoopResults.{IsFound, IsMissed, found_or_missed, many, NoneOf, count_own, is_of, own_all, position_first, position_none}
+use Rattle.event_loop.proofs.LoopResults.{IsFound, IsMissed, found_or_missed, NoneOf, count_own, is_of, own_all, position_first, position_none}
 use Rattle.std.specs.Prelude.{⊤}
 use Rattle.std.specs.List.{position}
 use Rattle.std.proofs.lemmas.Bool.Decides.{nat_tests}
@@ -34,11 +34,7 @@ AreDecoded script ps qs = map (pass_at script) ps ≡ map (λ (q : Pass). Some q
 -- ---- a pass
 
 pub pass_is : (script : List Statement) (p : NumberedPass) (q : Pass) → pass_at script p ≡ Some q → (slice_get (bookings script) p.result ≡ Some q.result) × (q.under ≡ under_at script p.variation)
-pass_is script p q at = go (slice_get (bookings script) p.result) at
-  where
-    go : (o : Option Booked) → option_map (λ b. record { result = b; under = under_at script p.variation }) o ≡ Some q → (o ≡ Some q.result) × (q.under ≡ under_at script p.variation)
-    go None h = absurd (cc)
-    go (Some b) h = (ap (λ (x : Pass). Some x.result) (same_some h), sym (ap (λ (x : Pass). x.under) (same_some h)))
+pass_is script p q h = grind (arith, same_some)
 
 -- the graph's row of the result
 pub row_is : (g : GraphView) (r : ℕ) (b : Booked) → slice_get (bookings (booked_statements g)) r ≡ Some b → option_map (λ (x : ResultAt). x.booked) (slice_get (graph_results g) r) ≡ Some b
@@ -80,9 +76,7 @@ module _ (g : GraphView) (p : NumberedPass) (q : Pass) (is : pass_at (booked_sta
 
   pub watched : p.variation ≡ None → option_map (λ (x : ResultAt). is_watched (booked_statements g) x.booked.name) (slice_get (graph_results g) p.result) ≡ Some true
       → (n : ℕ) → option_map (λ (x : ResultAt). length (kind_in x.booked.booking)) (slice_get (graph_results g) p.result) ≡ Some n → n ≡ length (place_if_watched (booked_statements g) 0 q)
-  watched e h n k =
-      let under : q.under ≡ None = (pass_is (booked_statements g) p q is).1 ∙ ap (under_at (booked_statements g)) e in
-      actions_are n k ∙ sym (places_by true (ap (λ (u : Under). is_none u && is_watched (booked_statements g) q.result.name) under ∙ its_watch true h))
+  watched e h n k = grind (arith, pass_is, actions_are, places_by, its_watch)
 
 -- ---- watched places
 
@@ -124,14 +118,7 @@ pub next_counts : (g : GraphView) (ps : List NumberedPass) (i : ℕ) (p : Number
     → option_map (λ (x : ResultAt). length (kind_in x.booked.booking)) (slice_get (graph_results g) p.result) ≡ Some a
     → ((q : Pass) → pass_at (booked_statements g) p ≡ Some q → w ≡ length (place_if_watched (booked_statements g) 0 q))
     → (qs : List Pass) → AreDecoded (booked_statements g) ps qs → (actions + a ≡ length (kinds_in (take (i + 1) qs))) × (watched_ones + w ≡ length (watched_places (booked_statements g) (take (i + 1) qs)))
-next_counts g ps i p actions watched_ones a w at each own own_watched qs e =
-    let m = one_more (booked_statements g) ps qs i p e at in
-    let so_far = each qs e in
-    let before = so_far.0 in let watched_before = so_far.1 in
-    rw m.2 (
-      omega (arith, before, actions_are g p m.0 m.1 a own, kinds_more (take i qs) m.0),
-      omega (arith, watched_before, own_watched m.0 m.1, watched_more (booked_statements g) (take i qs) m.0),
-    )
+next_counts g ps i p actions watched_ones a w h each own own_watched qs e = grind (arith, one_more, actions_are, kinds_more, watched_more)
 
 -- ---- a loop
 

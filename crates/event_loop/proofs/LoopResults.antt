@@ -6,9 +6,9 @@ use Rattle.std.proofs.lemmas.Bool.{cond_both, eq-eqb, ne_eqb}
 use Rattle.std.proofs.lemmas.List.{length-map, append-nil}
 use Rattle.std.proofs.lemmas.List.Elements.{filter_map-append}
 use Rattle.std.proofs.lemmas.List.Sums.{sum_by-append, sum_by-cons}
-use Rattle.rdf_values.specs.{Booked, has_variations, Pass, Statement, among, bookings, filled, names_of, same, waiting}
-use Rattle.rdf_model.specs.{loop_passes, Access, accesses, filled_by, loop_results}
-use Rattle.graph_numbers.specs.{numbered_pass, Pass as NumberedPass, passes_from, result_passes, loops, pass_at}
+use Rattle.rdf_values.specs.{Booked, has_variations, Statement, among, bookings, filled, names_of, same, waiting}
+use Rattle.rdf_model.specs.{Access, accesses, filled_by, loop_results}
+use Rattle.graph_numbers.specs.{numbered_pass, Pass as NumberedPass, passes_from, result_passes, loops}
 use Rattle.std.proofs.lemmas.Option.{slice_get_within}
 use Rattle.lemmas.proofs.{before_or_last, never_true, or_right, same_some}
 use Rattle.rdf_values.specs.declared.scripts.statement.Statement.TheVariants.{Print}
@@ -71,9 +71,7 @@ module _ (script : List Statement) where
   -- behind it no pass is of the result
   pub later_none : (test : Booked → Bool) (r n : ℕ) → r < n → (bs : List Booked) → NoneOf r (passes_from script test n bs)
   later_none test r n lt [] = tt
-  later_none test r n lt (b ∷ bs) =
-      none_both r (if test b then result_passes script n b else []) (passes_from script test (suc n) bs) (cond_both (test b) _ _ (NoneOf r) (λ _. other_none r n b (λ e. omega arith)) (λ _. tt))
-      (later_none test r (suc n) (omega arith) bs)
+  later_none test r n lt (b ∷ bs) = grind (arith, none_both, cond_both, other_none, later_none test r (suc n) (omega arith) bs)
 
   -- nor where the result doesn't pass the test
   pub refused_none : (test : Booked → Bool) (r n : ℕ) (bs : List Booked) → ((k : ℕ) (b : Booked) → n + k ≡ r → slice_get bs k ≡ Some b → test b ≡ false) → NoneOf r (passes_from script test n bs)
@@ -179,9 +177,7 @@ module _ (script : List Statement) where
     pub named : results ≡ waiting before
 
   pub many : (before : List Statement) → Extends before script → length (loops script before) ≡ length (loop_results before)
-  many before e =
-      let same_length = ap length (loops_are script before e) in
-      sym (length-map (loops script before) (map (pass_at script))) ∙ same_length ∙ length-map (loop_results before) (λ results. map (λ (p : Pass). Some p) (loop_passes script results))
+  many before e = grind (arith, loops_are, length-map)
 
   pub loop_at : (before : List Statement) → Extends before script → (l : ℕ) (ps : List NumberedPass) (results : List Booked) → slice_get (loops script before) l ≡ Some ps → slice_get (loop_results before) l ≡ Some results → IsLoop ps results
   loop_at [] e l ps results at there = absurd (cc)
@@ -198,11 +194,7 @@ module _ (script : List Statement) where
       both : (slice_get (loops script before) l ≡ Some ps → slice_get (loop_results before) l ≡ Some results → IsLoop ps results)
           → (slice_get (loops script before) l ≡ Some ps) ⊎ ((l ≡ length (loops script before)) × (passes_from script (waits before) 0 (bookings before) ≡ ps))
           → (slice_get (loop_results before) l ≡ Some results) ⊎ ((l ≡ length (loop_results before)) × (waiting before ≡ results)) → IsLoop ps results
-      both next (inl p) (inl q) = next p q
-      both next (inl p) (inr q) = let lt = slice_get_within (loops script before) l ps p in let e1 = q.0 in let e2 = many before ends in absurd (omega arith)
-      both next (inr p) (inl q) = let lt = slice_get_within (loop_results before) l results q in let e1 = p.0 in let e2 = many before ends in absurd (omega arith)
-      both next (inr p) (inr q) =
-          subst (λ (x : List NumberedPass). IsLoop x results) p.1 (subst (λ (x : List Booked). IsLoop (passes_from script (waits before) 0 (bookings before)) x) q.1 own)
+      both next h k = grind (arith, slice_get_within, many, ends, own)
 
       go : (b : Bool) → (slice_get (loops script before) l ≡ Some ps → slice_get (loop_results before) l ≡ Some results → IsLoop ps results)
           → slice_get (loops script before ++ (if b then [] else passes_from script (waits before) 0 (bookings before) ∷ [])) l ≡ Some ps

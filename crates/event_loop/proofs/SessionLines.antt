@@ -1,5 +1,5 @@
 -- The lines of what a session filled: of actions, of watched results and of reports.
-use Rattle.std.proofs.Common.{◌≡◌, ℕ, zero, suc, ◌+◌, ◌*◌, ◌<◌, List, [], ◌∷◌, ◌++◌, length, Some, refl, sym, ◌∙◌, ap, ap₂, subst, arith, append_assoc, length-append, flat_map, slice_get, ◌-◌, ◌≤◌, Bool, true, false, map, None, if◌then◌else◌, All, codes, nat_eq, ◌⊎◌, inl, inr, Option, filter, option_map, unwrap_or, ◌^◌, append-nil, Result, Ok, Err, OnOk}
+use Rattle.std.proofs.Common.{◌≡◌, ℕ, zero, suc, ◌+◌, ◌*◌, ◌<◌, List, [], ◌∷◌, ◌++◌, length, Some, refl, sym, ◌∙◌, ap, ap₂, subst, arith, append_assoc, length-append, flat_map, slice_get, ◌-◌, ◌≤◌, Bool, true, false, map, None, if◌then◌else◌, All, codes, ◌⊎◌, inl, inr, Option, filter, option_map, unwrap_or, ◌^◌, append-nil, Result, Ok, Err, OnOk}
 use Rattle.std.proofs.lemmas.List.{length-map}
 use Rattle.lemmas.proofs.{something_at, same_some}
 use Rattle.rdf_values.specs.{ActionAt, ActionKind, Booked, Booking, Pass, Path, Span, Filled, line, below, Column, fn_names, Function, FunctionNames, has_variations, named_before, passes_of, ReportOn, result_depends, Statement, Variation, variations, varied_passes, cut, history, is_watched, Lead}
@@ -92,9 +92,7 @@ abbrev AreRising : List Run → Type 0
 AreRising rs = AllByRecursion (λ (r : Run). r.first ≤ r.last) rs
 
 front_rises : (x : ℕ) (rs : List Run) → AreRising rs → AreRising (in_front x rs)
-front_rises x [] h = (omega arith, tt)
-front_rises x (r ∷ rs) h = cond_both (nat_eq (x + 1) r.first) _ _ AreRising
-    (λ e. let is = eqb-true (x + 1) r.first e in let up = h.0 in (omega arith, h.1)) (λ _. (omega arith, h))
+front_rises x rs h = grind (arith, cond_both, eqb-true)
 
 runs_rise : (set : List ℕ) → AreRising (maximal_runs set)
 runs_rise [] = tt
@@ -248,13 +246,7 @@ module _ (s : SessionView) (is : IsSession s) where
 
   -- a result that is noted is an action
   noted_action : (b : Booked) (n : ℕ) → place_if_watched script_of n (record { result = b; under = None }) ≡ n ∷ [] → (k : ActionKind) × (at : Path) × (b.booking ≡ ActionAt k at)
-  noted_action b n e = go b.booking refl
-    where
-      go : (bk : Booking) → b.booking ≡ bk → (k : ActionKind) × (at : Path) × (b.booking ≡ ActionAt k at)
-      go (ActionAt k at) q = (k, at, q)
-      go (ReportOn filters) q =
-          let empty : place_if_watched script_of n (record { result = b; under = None }) ≡ [] = ap (λ (bk : Booking). if is_watched script_of b.name then map (λ k. n) (kind_in bk) else []) q ∙ by_test (is_watched script_of b.name) (λ t. rw t refl) (λ t. rw t refl) in
-          absurd (cc (e, empty))
+  noted_action b n e = grind (arith, by_test)
 
   action_lines : (b : Booked) (lines : List PartialLine) (p : ArePartials s b lines) (course : Course) → FitsCourse s course → (k : ActionKind) (at : Path) → b.booking ≡ ActionAt k at
       → watch_lines b.name lines ≡ partial_lines script_of s.dataset course b.name (ActionAt k at)
@@ -276,10 +268,7 @@ module _ (s : SessionView) (is : IsSession s) where
   no_lines b course watched none = go b.booking refl
     where
       go : (bk : Booking) → b.booking ≡ bk → partial_lines script_of s.dataset course b.name bk ≡ []
-      go (ReportOn filters) q = refl
-      go (ActionAt k at) q =
-          let one : place_if_watched script_of 0 (record { result = b; under = None }) ≡ 0 ∷ [] = ap (λ (t : Bool). if t then map (λ k. 0) (kind_in b.booking) else []) watched ∙ ap (λ (x : Booking). map (λ k. 0) (kind_in x)) q in
-          absurd (cc (one, none))
+      go bk q = grind (arith, none)
 
   pub watched_lines : (b : Booked) (lines : List PartialLine) (course : Course) → FitsCourse s course → is_watched script_of b.name ≡ true → IsFilledIn s b.name → ArePartials s b lines ⊎ ((lines ≡ []) × HasNoPartials s b)
       → watch_lines b.name lines ≡ partial_lines script_of s.dataset course b.name b.booking
@@ -368,11 +357,7 @@ module _ (s : SessionView) (is : IsSession s) where
         go (ReportOn fs) q = subst (FitsBooking s.graph x f) (sym q) (report_fits fs q)
 
     pub text_is : filled_text s.graph x f ≡ flat_map (pass_lines s.dataset) (passes_of script_of x.booked)
-    text_is = go x.booked.booking refl
-      where
-        go : (bk : Booking) → x.booked.booking ≡ bk → booking_text s.graph x f x.booked.booking ≡ flat_map (pass_lines s.dataset) (passes_of script_of x.booked)
-        go (ActionAt k at) q = ap (booking_text s.graph x f) q ∙ action_text k at q
-        go (ReportOn fs) q = ap (booking_text s.graph x f) q ∙ report_text fs q
+    text_is = grind (arith, action_text, report_text)
 
 -- ---- by the result's number
 
@@ -404,10 +389,7 @@ module _ (s : SessionView) (is : IsSession s) (r : ℕ) where
   pub watched_put : (x : ResultAt) (course : Course) (lines : List PartialLine) (t : Bool) (text now bytes put : List ℕ) → slice_get (graph_results s.graph) r ≡ Some x → FitsCourse s course → IsFilledIn s x.booked.name
       → ArePartials s x.booked lines ⊎ ((lines ≡ []) × HasNoPartials s x.booked) → option_map (λ (y : ResultAt). is_watched (history s.graph.script) y.booked.name) (slice_get (graph_results s.graph) r) ≡ Some t → t ≡ true
       → put ≡ watch_lines x.booked.name lines → bytes ≡ put → now ≡ text ++ bytes → now ≡ text ++ front_of course x
-  watched_put x course lines t text now bytes put at fits_course filled are watched e put_is same_bytes added =
-      let is_one = its_watch x t at watched ∙ e in
-      added ∙ ap (λ (l : List ℕ). text ++ l) (same_bytes ∙ put_is ∙ watched_lines s is x.booked lines course fits_course is_one filled are)
-      ∙ ap (λ (b : Bool). text ++ (if b then partial_lines (history s.graph.script) s.dataset course x.booked.name x.booked.booking else [])) (sym is_one)
+  watched_put x course lines t text now bytes put h fits_course filled are watched e put_is same_bytes added = grind (arith, its_watch, watched_lines)
 
 -- both parts of a result's lines, put one after the other
 pub both_put : {E : Type 0} (r : Result (Unit {0}) E) (text middle now front back : List ℕ) → middle ≡ text ++ front → OnOk r (now ≡ middle ++ back) → OnOk r (now ≡ text ++ (front ++ back))

@@ -1,9 +1,9 @@
 -- The pieces, the shares and the trails of slots that finished all clusters.
-use Rattle.std.proofs.Common.{◌≡◌, ◌<◌, List, [], ◌∷◌, ◌++◌, length, get_or, sym, ap, ◌∙◌, subst, arith, append_assoc, append-nil, flat_map, ℕ, zero, suc, map, Option, None, Some, refl, ap₂, slice_get, slice_index_or}
+use Rattle.std.proofs.Common.{◌≡◌, ◌<◌, List, [], ◌∷◌, ◌++◌, length, get_or, sym, ap, ◌∙◌, subst, arith, append_assoc, append-nil, flat_map, ℕ, zero, suc, map, Option, None, Some, refl, ap₂, slice_get}
 use Rattle.std.specs.List.{remove, All, concat, sum_by}
 use Rattle.std.proofs.lemmas.List.Elements.{All-tail, All-nil, All-cons, All-head}
 use Rattle.std.proofs.lemmas.List.Concat.{flat_map-append, concat_is, length-flat_map}
-use Rattle.loop_pieces.specs.{LoopPiece, HaveTrails, IsPass, PartialLine, StandsFor}
+use Rattle.loop_pieces.specs.{LoopPiece, HaveTrails, PartialLine, StandsFor}
 use Rattle.slot_words.specs.{ShareSeen, AreNoted, BookSeen, HasSameBody, HaveAllTrails, HavePartialsOver, HaveSameBodies, many_in, noted_sets}
 use Rattle.event_loop.specs.declared.gather.Done.{Done}
 use Rattle.event_loop.specs.{AllAreGoing, ArePieces, IsGoing, IsPieceOf, share_or_none, shares_in, AreNotedPartials, CanFill, dones_of, finished_by, HasNoted, IsBookOf, IsDone, JobFacts, orders_of}
@@ -11,7 +11,6 @@ use Rattle.std.proofs.lemmas.List.Sorted.{length_permutation}
 use Rattle.rdf_values.proofs.DrawCounts.{sum_by-map}
 use Rattle.rdf_values.specs.{below, DrawnBy, IsUnion}
 use Rattle.rdf_values.proofs.Below.{length-below}
-use Rattle.actions.specs.{Accumulator}
 use Rattle.merge_core.specs.{Stand}
 use Rattle.rdf_model.specs.declared.loop_facts.LoopFacts.{LoopFacts}
 use Rattle.slot_words.specs.Shares as book
@@ -78,11 +77,7 @@ many_finished : (dones : List (List ℕ)) (n : ℕ) → IsUnion dones (below n) 
 many_finished dones n u = sym (ap length (concat_is dones) ∙ length-flat_map (λ (x : List ℕ). x) dones) ∙ sym (length_permutation (concat dones) (below n) u.each_once) ∙ length-below n
 
 pub are_noted : (dones orders : List (List ℕ)) (n : ℕ) → IsUnion dones (below n) → map length orders ≡ map length dones → DrawnBy orders (many_in orders) → AreNoted orders dones n
-are_noted dones orders n u same drawn = record {
-  unite = u;
-  drawn = subst (DrawnBy orders) (sum_lengths orders dones same ∙ many_finished dones n u) drawn;
-  many = same;
-}
+are_noted dones orders n u same drawn = grind (arith, sum_lengths, many_finished)
 
 module _ (b : Option BookSeen) (job : JobFacts) where
   first_piece : (d : Done) (ds : List Done) (p : LoopPiece) → All (IsDone b job) (d ∷ ds) → IsPieceOf d.state p → StandsFor job.facts d.state.done p × HaveTrails job.facts job.watched d.state.done p.trails.items
@@ -101,21 +96,12 @@ module _ (b : Option BookSeen) (job : JobFacts) where
     where
       at_either : (k : ℕ) (done : List ℕ) (q : LoopPiece) → slice_get (map finished_by (d ∷ ds)) k ≡ Some done → slice_get (p ∷ ps) k ≡ Some q → HaveTrails job.facts job.watched d.state.done p.trails.items → HaveAllTrails job.facts job.watched (map finished_by ds) ps
           → HaveTrails job.facts job.watched done q.trails.items
-      at_either zero done q at there first rest =
-          let same : d.state.done ≡ done = cc in
-          let piece : p ≡ q = cc in
-          subst (λ (x : LoopPiece). HaveTrails job.facts job.watched done x.trails.items) piece (subst (λ (l : List ℕ). HaveTrails job.facts job.watched l p.trails.items) same first)
+      at_either zero done q at there first rest = grind arith
       at_either (suc k) done q at there first rest = rest.each k done q at there
 
   -- a piece stands for its clusters also without its trails
   stands_so : (f : LoopFacts) (set : List ℕ) (p q : LoopPiece) → HasSameBody p q → StandsFor f set p → StandsFor f set q
-  stands_so f set p q same s = record {
-    facts = s.facts;
-    rises = s.rises;
-    kinds = ap (map (λ (acc : Accumulator). acc.kind)) same.accs ∙ s.kinds;
-    accs = subst (λ (l : List Accumulator). (i : ℕ) (d : Accumulator) → i < length l → IsPass f set i (slice_index_or l i d)) (sym same.accs) s.accs;
-    flow = same.flow ∙ s.flow;
-  }
+  stands_so f set p q same s = grind arith
 
   rest_bodies : (p q : LoopPiece) (ps qs : List LoopPiece) → HaveSameBodies (p ∷ ps) (q ∷ qs) → HaveSameBodies ps qs
   rest_bodies p q ps qs h = record { many = (let m = h.many in omega arith); each = λ k x y a c. h.each (suc k) x y a c }

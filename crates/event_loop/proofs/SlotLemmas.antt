@@ -58,9 +58,7 @@ seen_with done more cluster s shows is = ap (map (λ (d : Snapshot ℕ). d.value
 -- ---- phases
 
 pub goes_on : (p : Phase) → (p ≡ Phase.NoMemory → ⊥) → (p ≡ Phase.Faulted → ⊥) → p ≡ Phase.Going
-goes_on Phase.Going a b = refl
-goes_on Phase.Faulted a b = absurd (b refl)
-goes_on Phase.NoMemory a b = absurd (a refl)
+goes_on p a b = grind arith
 
 -- ---- faults
 
@@ -78,13 +76,7 @@ cluster_within j cluster lt = omega (arith, length-map (below (length (job_spans
 module _ (j : JobView) (s : SlotView) (h : IsSlotOf (job_facts j) s) where
   -- one that doesn't go on
   pub stopped : (t : SlotView) → IsStateOf j t.blocks → t.vectors ≡ s.vectors → t.room ≡ s.room → (t.phase ≡ Phase.Going → ⊥) → IsSlotOf (job_facts j) t
-  stopped t state vectors room ended = record {
-    blocks = state;
-    vectors = subst (CountsVectors (job_graph j)) (sym vectors) h.vectors;
-    few = (let f = h.few in omega (arith, f, vectors));
-    room = (let r = h.room in omega (arith, room));
-    holds = λ going. absurd (ended going);
-  }
+  stopped t state vectors room ended = grind arith
 
   module _ (going : s.phase ≡ Phase.Going) (cluster : ℕ) (within : cluster < length (job_facts j).faults) (above : All (λ c. c < cluster) s.done) where
     pub begins : Holds (facts_in j) (job_facts j).watched (at_begin s.done cluster) s.tally

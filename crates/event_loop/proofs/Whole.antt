@@ -8,12 +8,11 @@ use Rattle.slot_words.specs.{BookSeen, fresh_share, fresh_shares, IsReady, SeatS
 use Rattle.event_loop.specs.declared.workers.Shared.{Shared}
 use Rattle.event_loop.specs.declared.workers.Slot.{Slot}
 use Rattle.event_loop.specs.{AreBlank, HasNoted, IsBlank, IsFresh, AreFacts, AreFilled, CanFill, dones_of, FilledLoop, HasRoom, IsBookOf, IsFilled, IsOpened, IsOutcome, job_facts, JobFacts, orders_of}
-use Rattle.rdf_values.specs.{below, Fault, first_in, Lead}
+use Rattle.rdf_values.specs.{Fault, first_in}
 use Rattle.rdf_values.proofs.Below.{length-below}
 use Rattle.rdf_values.proofs.Leading.{cuts_lead}
 use Rattle.columns.proofs.Leading.{few_ranges}
-use Rattle.loop_keys.specs.{IsJob, job_spans, JobView, passes_in}
-use Rattle.loop_pieces.specs.{cluster_fault}
+use Rattle.loop_keys.specs.{IsJob, job_spans, JobView}
 use Rattle.loop_pieces.proofs.ClusterFaults.{lower_clusters_fault_first}
 use Rattle.event_loop.specs.declared.gather.Done.{Done}
 use Rattle.event_loop.specs.declared.gather.Outcome.{Outcome}
@@ -75,11 +74,7 @@ pub few_clusters : (j : JobView) (n : ℕ) → n ≡ length (job_spans j) → j.
 few_clusters j n is few = omega (arith, few_ranges (job_spans j) 0 j.cuts.entries (cuts_lead j.cuts.entries j.cuts.size j.cuts.marks))
 
 pub facts_of : (j : JobView) (n : ℕ) → IsJob j → n ≡ length (job_spans j) → AreFacts n (job_facts j)
-facts_of j n job is = record {
-  ranges = sym is;
-  faults = length-map (below (length (job_spans j))) (cluster_fault j.dataset (job_spans j) (passes_in j)) ∙ length-below (length (job_spans j)) ∙ sym is;
-  order = lower_clusters_fault_first j.dataset (job_spans j) (passes_in j) (subst (λ (k : ℕ). Lead 0 k (job_spans j)) job.cuts (cuts_lead j.cuts.entries j.cuts.size j.cuts.marks));
-}
+facts_of j n job is = grind (arith, length-map, length-below, lower_clusters_fault_first, cuts_lead)
 
 booked_for : (o : Option BookSeen) (watched slots clusters n : ℕ) → IsOpened watched slots clusters o → n ≡ slots → IsBookOf watched n o
 booked_for None watched slots clusters n h is = h
@@ -94,9 +89,7 @@ has_room (Some b) watched slots clusters n h is = let same = h.1 in omega arith
 pub can_fill : (o : Option BookSeen) (c : ClaimsSeen) (watched slots clusters : ℕ) (job : JobFacts) (end : Outcome) (ds : _)
     → AreFacts c.clusters job → c.clusters ≡ clusters → c.slots ≡ slots → IsOutcome o job c.slots end → end ≡ Outcome.Processed ds → 0 < slots → length job.watched ≡ watched → IsOpened watched slots clusters o
     → CanFill o watched clusters job ds.items
-can_fill o c watched slots clusters job end ds facts same many ended is some watches opened =
-    let e = subst (IsOutcome o job c.slots) is ended in
-    record { facts = subst (λ (n : ℕ). AreFacts n job) same facts; done = e.1; some = omega (arith, e.2); watches = watches; booked = booked_for o watched slots clusters (length ds.items) opened (e.2 ∙ many) }
+can_fill o c watched slots clusters job end ds facts same many ended is some watches opened = grind (arith, booked_for)
 
 pub first_is : (o : Option BookSeen) (n : ℕ) (job : JobFacts) (end : Outcome) (fault : Fault) → IsOutcome o job n end → end ≡ Outcome.Faulted fault → first_in job.faults ≡ Some fault
 first_is o n job end fault ended is = subst (IsOutcome o job n) is ended

@@ -1,5 +1,5 @@
 -- The lines of the passes of an action.
-use Rattle.std.proofs.Common.{◌≡◌, ℕ, suc, ◌+◌, ◌<◌, ◌≤◌, ◌^◌, Bool, true, false, List, [], ◌∷◌, ◌++◌, length, map, drop, Option, None, Some, sym, ap, ◌∙◌, subst, arith, if◌then◌else◌, option_map, slice_get}
+use Rattle.std.proofs.Common.{◌≡◌, ℕ, ◌+◌, ◌<◌, ◌≤◌, ◌^◌, Bool, true, false, List, [], ◌∷◌, ◌++◌, length, drop, Option, None, Some, sym, ap, ◌∙◌, subst, arith, if◌then◌else◌, option_map, slice_get}
 use Rattle.std.proofs.lemmas.List.{length-map}
 use Rattle.std.proofs.lemmas.Option.{slice_get_within}
 use Rattle.lemmas.proofs.{same_some}
@@ -24,11 +24,7 @@ members_no at vs v x there other =
 
 pub members_few : (at : ℕ → Bool) (vs : List Variation) (n : ℕ) → length (members_from at n vs) ≤ length vs
 members_few at [] n = omega arith
-members_few at (v ∷ vs) n = go (at n) (members_few at vs (n + 1))
-  where
-    go : (b : Bool) → length (members_from at (n + 1) vs) ≤ length vs → length (if b then v ∷ members_from at (n + 1) vs else members_from at (n + 1) vs) ≤ suc (length vs)
-    go true h = omega arith
-    go false h = omega arith
+members_few at (v ∷ vs) n = grind (arith, members_few at vs (n + 1))
 
 -- one pass under a variation is put
 pub varied_next : (text now all name : List ℕ) (k : ActionKind) (accs : List Accumulator) (first p q v : ℕ) (vs ms rest : List Variation) (x : Variation) (acc : Accumulator)
@@ -53,17 +49,13 @@ module _ (g : GraphView) (x : ResultAt) (filled : FilledResult) (k : ActionKind)
   numbers_few = fit.1
 
   pub accs_within : (i : ℕ) → i < filled.passes → filled.first + i < length filled.piece.now.accs.items
-  accs_within i lt =
-      let within = slice_get_within (map (λ (acc : Accumulator). acc.kind) filled.piece.now.accs.items) (filled.first + i) k (fit.2 i lt) in
-      omega (arith, length-map filled.piece.now.accs.items (λ (acc : Accumulator). acc.kind))
+  accs_within i lt = grind (arith, slice_get_within, length-map)
 
   text_is : filled_text g x filled ≡ booking_text g x filled (ActionAt k (action_booking x.booked.booking k action).0)
   text_is = ap (booking_text g x filled) (action_booking x.booked.booking k action).1
 
   pub nominal_text : (acc : Accumulator) → slice_get filled.piece.now.accs.items filled.first ≡ Some acc → filled.passes ≡ 1 → filled_text g x filled ≡ filled_lines k (label x.booked.name None) acc.filled
-  nominal_text acc there one =
-      text_is ∙ nominal_alone (booked_statements g) x.booked k filled.piece.now.accs.items filled.first (sym passes_many ∙ one)
-      ∙ ap (acc_lines k (label x.booked.name None)) there
+  nominal_text acc there one = grind (arith, text_is, nominal_alone, passes_many)
 
   module _ (r : ℕ) (at : ℕ → Bool) (its : slice_get (graph_results g) r ≡ Some x) (depends : (v : ℕ) → at v ≡ result_depends_at g r v) (several : 1 < filled.passes) where
     pub members_many : filled.passes ≡ length (members_from at 0 (graph_variations g)) + 1

@@ -1,5 +1,5 @@
 -- The names of an axis's cells, by their places, and the lines of cells.
-use Rattle.std.proofs.Common.{◌≡◌, ℕ, zero, suc, ◌+◌, ◌<◌, ◌≤◌, ℤ, pos, List, [], ◌∷◌, ◌++◌, length, map, drop, get_or, Option, None, Some, refl, sym, ap, ap₂, ◌∙◌, arith, append_assoc, codes, slice_get}
+use Rattle.std.proofs.Common.{◌≡◌, ℕ, zero, suc, ◌+◌, ◌<◌, ◌≤◌, ℤ, pos, List, [], ◌∷◌, ◌++◌, length, map, drop, get_or, Option, None, Some, refl, sym, ap, ◌∙◌, arith, append_assoc, codes, slice_get}
 use Rattle.std.specs.Fmt.{signed_decimal}
 use Rattle.lemmas.proofs.{none_left as drop_whole}
 use Rattle.rdf_values.specs.results.Fold.{Cell}
@@ -22,9 +22,7 @@ from_bin lo (hi ∷ es) zero lt = refl
 from_bin lo (hi ∷ es) (suc k) lt = from_bin hi es k (omega arith)
 
 pub bin_at : (edges : List ℤ) (k i : ℕ) → i ≡ k + 1 → i < length edges → name_at edges i ≡ Some (bin_name (get_or edges k (pos 0)) (get_or edges i (pos 0)))
-bin_at [] k i e lt = absurd (omega arith)
-bin_at (lo ∷ es) k zero e lt = absurd (omega arith)
-bin_at (lo ∷ es) k (suc i) e lt = from_bin lo es i (omega arith) ∙ (let same : i ≡ k = omega arith in ap (λ n. Some (bin_name (get_or (lo ∷ es) n (pos 0)) (get_or es i (pos 0)))) same)
+bin_at edges k i e lt = grind (arith, from_bin)
 
 nothing_left : (m : ℕ) → ◌≡◌ {A = List (List ℕ)} (drop m []) []
 nothing_left zero = refl
@@ -43,19 +41,7 @@ no_lines (n ∷ ns) = refl
 -- the lines from a place of the axis on, with a text before each name
 pub lines_are : (before : List ℕ) (edges : List ℤ) (i : ℕ) (cells : List Cell) → lines_on before edges i cells ≡ cell_lines (map (λ n. before ++ n) (drop i (cell_names edges))) cells
 lines_are before edges i [] = sym (no_lines (map (λ n. before ++ n) (drop i (cell_names edges))))
-lines_are before edges i (c ∷ cs) = go (name_at edges i) refl (lines_are before edges (i + 1) cs)
-  where
-    go : (o : Option (List ℕ)) → name_at edges i ≡ o → lines_on before edges (i + 1) cs ≡ cell_lines (map (λ n. before ++ n) (drop (i + 1) (cell_names edges))) cs
-        → lines_on before edges i (c ∷ cs) ≡ cell_lines (map (λ n. before ++ n) (drop i (cell_names edges))) (c ∷ cs)
-    go None at rest =
-        let none = none_left (cell_names edges) i at in
-        ap (λ (o : Option (List ℕ)). (elim o [ None ↦ [] | Some name ↦ cell_line (before ++ name) c ]) ++ lines_on before edges (i + 1) cs) at
-        ∙ rest ∙ ap (λ l. cell_lines (map (λ n. before ++ n) l) cs) (none_behind (cell_names edges) i at)
-        ∙ sym (ap (λ l. cell_lines (map (λ n. before ++ n) l) (c ∷ cs)) none)
-    go (Some name) at rest =
-        ap (λ (o : Option (List ℕ)). (elim o [ None ↦ [] | Some x ↦ cell_line (before ++ x) c ]) ++ lines_on before edges (i + 1) cs) at
-        ∙ ap (λ l. cell_line (before ++ name) c ++ l) rest
-        ∙ sym (ap (λ l. cell_lines (map (λ n. before ++ n) l) (c ∷ cs)) (one_left (cell_names edges) i name at))
+lines_are before edges i (c ∷ cs) = grind (arith, none_left, none_behind, one_left, lines_are before edges (i + 1) cs)
 
 pub flat_lines : (edges : List ℤ) (cells : List Cell) → lines_on [] edges 0 cells ≡ cell_lines (cell_names edges) cells
 flat_lines edges cells = lines_are [] edges 0 cells ∙ ap (λ l. cell_lines l cells) (map_same (cell_names edges))
@@ -66,18 +52,7 @@ no_planes (x ∷ xs) ys = refl
 
 pub planes_are : (xs ys : List ℤ) (i : ℕ) (rows : List (List Cell)) → planes_on xs ys i rows ≡ plane_lines (drop i (cell_names xs)) (cell_names ys) rows
 planes_are xs ys i [] = sym (no_planes (drop i (cell_names xs)) (cell_names ys))
-planes_are xs ys i (row ∷ rows) = go (name_at xs i) refl (planes_are xs ys (i + 1) rows)
-  where
-    go : (o : Option (List ℕ)) → name_at xs i ≡ o → planes_on xs ys (i + 1) rows ≡ plane_lines (drop (i + 1) (cell_names xs)) (cell_names ys) rows
-        → planes_on xs ys i (row ∷ rows) ≡ plane_lines (drop i (cell_names xs)) (cell_names ys) (row ∷ rows)
-    go None at rest =
-        ap (λ (o : Option (List ℕ)). (elim o [ None ↦ [] | Some name ↦ lines_on (name ++ codes " ") ys 0 row ]) ++ planes_on xs ys (i + 1) rows) at
-        ∙ rest ∙ ap (λ l. plane_lines l (cell_names ys) rows) (none_behind (cell_names xs) i at)
-        ∙ sym (ap (λ l. plane_lines l (cell_names ys) (row ∷ rows)) (none_left (cell_names xs) i at))
-    go (Some name) at rest =
-        ap (λ (o : Option (List ℕ)). (elim o [ None ↦ [] | Some x ↦ lines_on (x ++ codes " ") ys 0 row ]) ++ planes_on xs ys (i + 1) rows) at
-        ∙ ap₂ (λ a b. a ++ b) (lines_are (name ++ codes " ") ys 0 row) rest
-        ∙ sym (ap (λ l. plane_lines l (cell_names ys) (row ∷ rows)) (one_left (cell_names xs) i name at))
+planes_are xs ys i (row ∷ rows) = grind (arith, none_behind, none_left, lines_are, one_left, planes_are xs ys (i + 1) rows)
 
 -- ---- one line
 
@@ -88,10 +63,7 @@ past_names lo (hi ∷ es) zero lt = absurd (omega arith)
 past_names lo (hi ∷ es) (suc k) lt = past_names hi es k (omega arith)
 
 no_name : (edges : List ℤ) (i : ℕ) → length edges < i → name_at edges i ≡ None
-no_name [] zero lt = absurd (omega arith)
-no_name [] (suc i) lt = refl
-no_name (lo ∷ es) zero lt = absurd (omega arith)
-no_name (lo ∷ es) (suc i) lt = past_names lo es i (omega arith)
+no_name edges i lt = grind (arith, past_names)
 
 pub no_line : (before : List ℕ) (edges : List ℤ) (i : ℕ) (c : Cell) → length edges < i → line_at before edges i c ≡ []
 no_line before edges i c lt = ap (λ (o : Option (List ℕ)). elim o [ None ↦ [] | Some name ↦ cell_line (before ++ name) c ]) (no_name edges i lt)
@@ -115,11 +87,7 @@ cell_put text before edges i c t1 t2 t3 t4 t5 t6 t7 t8 e1 e2 e3 e4 e5 e6 e7 e8 =
 
 pub plane_put : (xs ys : List ℤ) (i : ℕ) (row : List Cell) (text b0 b1 b2 b3 now : List ℕ) → b0 ≡ [] → Some b1 ≡ behind b0 (name_at xs i) → b2 ≡ b1 ++ codes " " → b3 ≡ b2
     → now ≡ text ++ lines_on b3 ys 0 row → now ≡ text ++ plane_at xs ys i row
-plane_put xs ys i row text b0 b1 b2 b3 now e0 e1 e2 e3 e = go (name_at xs i) e1
-  where
-    go : (o : Option (List ℕ)) → Some b1 ≡ behind b0 o → now ≡ text ++ (elim o [ None ↦ [] | Some name ↦ lines_on (name ++ codes " ") ys 0 row ])
-    go None h = absurd (cc)
-    go (Some n) h = e ∙ ap (λ b. text ++ lines_on b ys 0 row) (e3 ∙ e2 ∙ ap (λ l. l ++ codes " ") (same_text h ∙ ap (λ l. l ++ n) e0))
+plane_put xs ys i row text b0 b1 b2 b3 now e0 e1 e2 e3 e = grind (arith, same_text)
 
 -- ---- turns
 

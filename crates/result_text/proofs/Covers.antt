@@ -5,7 +5,7 @@ use Rattle.std.proofs.lemmas.List.{length-map}
 use Rattle.std.proofs.lemmas.List.Elements.{All-append, All-cons, All-nil, All-weaker}
 use Rattle.rdf_values.specs.{Column, FunctionNames, makes, named_before, parent_of, Path, path, Statement}
 use Rattle.rdf_values.specs.declared.scripts.statement.Statement.TheVariants.{Filter}
-use Rattle.graph_numbers.specs.{all_or, booked_statements, covered_at, FilterAt, filters_on, graph_filters, graph_results, GraphView, numbers_from, own_filter, ResultAt, results}
+use Rattle.graph_numbers.specs.{booked_statements, covered_at, FilterAt, filters_on, graph_filters, graph_results, GraphView, numbers_from, own_filter, ResultAt, results}
 use Rattle.graph_numbers.proofs.Covering.{filters_are}
 use Rattle.graph_numbers.proofs.Walks.{each_result}
 
@@ -39,11 +39,7 @@ on_below (s ∷ before) node =
     cond_both (makes s node) _ _ (Below top) (λ _. All-append (λ k. k < top) (filters_on before (parent_of s)) (own_filter s (length (named_before before))) up (own_below s before)) (λ _. rest)
 
 covered_below : (before : List Statement) (node : List ℕ) → Below (length (named_before before)) (covered_at before node)
-covered_below before node = go (path before node) (on_below before node)
-  where
-    go : (p : Path) → Below (length (named_before before)) (filters_on before node) → Below (length (named_before before)) (all_or p (named_before before) (filters_on before node))
-    go [] h = numbers_below 0 (length (named_before before)) (named_before before) (omega arith)
-    go (s ∷ up) h = h
+covered_below before node = grind (arith, on_below, numbers_below)
 
 covers_below : (header : List Column) (names : FunctionNames) (before : List Statement) (r : ℕ) (x : ResultAt) → slice_get (results header names before) r ≡ Some x → Below (length (named_before before)) x.covers
 covers_below header names = each_result header names (λ upto x. Below (length (named_before upto)) x.covers)

@@ -1,13 +1,13 @@
 -- The lines of passes.
-use Rattle.std.proofs.Common.{if◌then◌else◌, ◌≡◌, ℕ, suc, ◌+◌, ◌<◌, Bool, true, false, List, [], ◌∷◌, ◌++◌, length, map, Option, None, Some, refl, sym, ap, ◌∙◌, arith, append_assoc, append-nil, codes, flat_map, filter, slice_get, unwrap_or}
+use Rattle.std.proofs.Common.{if◌then◌else◌, ◌≡◌, ℕ, suc, ◌+◌, ◌<◌, Bool, List, [], ◌∷◌, ◌++◌, length, map, Option, None, Some, refl, sym, ap, ◌∙◌, arith, append_assoc, append-nil, codes, flat_map, filter, slice_get, unwrap_or}
 use Rattle.std.proofs.lemmas.List.{length-map}
 use Rattle.std.proofs.lemmas.List.Folds.{flat_map-map}
-use Rattle.rdf_values.specs.{ActionAt, ActionKind, Booked, Booking, Filled, has_variations, Pass, passes_of, Path, ReportOn, result_depends, Statement, Variation, variations, varied_passes}
+use Rattle.rdf_values.specs.{ActionAt, ActionKind, Booked, Booking, Filled, has_variations, Pass, passes_of, Path, result_depends, Statement, Variation, variations, varied_passes}
 use Rattle.rdf_values.specs.results.Fold as filled
 use Rattle.rdf_model.specs.{filled_lines, FilterCounts, flow_line, flow_lines, label}
 use Rattle.actions.specs.{Accumulator}
 use Rattle.loop_pieces.specs.{Counts}
-use Rattle.graph_numbers.specs.{booked_statements, graph_results, graph_variations, GraphView, holds_at, kind_of_booking, result_depends_at, ResultAt, ResultKind}
+use Rattle.graph_numbers.specs.{booked_statements, graph_results, graph_variations, GraphView, kind_of_booking, result_depends_at, ResultAt, ResultKind}
 use Rattle.result_text.specs.{acc_lines, flow_at, lines_from, members_from, under_lines, value_lines}
 
 behind_line : (a b c : List ℕ) → ((a ++ b) ++ 10 ∷ []) ++ c ≡ a ++ ((b ++ 10 ∷ []) ++ c)
@@ -40,19 +40,12 @@ members_are test at (v ∷ vs) n h =
 -- the variations on which the graph says that a result depends
 pub depends_are : (g : GraphView) (r : ℕ) (x : ResultAt) (at : ℕ → Bool) → slice_get (graph_results g) r ≡ Some x → ((v : ℕ) → at v ≡ result_depends_at g r v)
     → members_from at 0 (graph_variations g) ≡ filter (λ v. result_depends v x.booked.booking) (variations (booked_statements g))
-depends_are g r x at its h = members_are (λ v. result_depends v x.booked.booking) at (graph_variations g) 0 (λ i v there.
-    (let e : 0 + i ≡ i = omega arith in ap at e) ∙ h i
-    ∙ ap (λ (o : Option ResultAt). holds_at (λ (y : ResultAt). holds_at (λ w. result_depends w y.booked.booking) (slice_get (graph_variations g) i)) o) its
-    ∙ ap (holds_at (λ w. result_depends w x.booked.booking)) there)
+depends_are g r x at its h = grind (arith, members_are)
 
 -- ---- results
 
 pub action_booking : (b : Booking) (k : ActionKind) → kind_of_booking b ≡ ResultKind.Action k → (at : Path) × (b ≡ ActionAt k at)
-action_booking (ActionAt j at) k e = (at, ap (λ (x : ActionKind). ActionAt x at) (same e))
-  where
-    same : {a c : ActionKind} → ◌≡◌ {A = ResultKind} (ResultKind.Action a) (ResultKind.Action c) → a ≡ c
-    same q = cc
-action_booking (ReportOn filters) k e = absurd (cc)
+action_booking b k e = grind arith
 
 abbrev the_pass : Booked → Variation → Pass
 the_pass b v = record { result = b; under = Some v }
@@ -61,20 +54,7 @@ the_pass b v = record { result = b; under = Some v }
 pub passes_are : (script : List Statement) (b : Booked) (k : ActionKind) (accs : List Accumulator) (n : ℕ) (vs : List Variation)
     → vs ≡ filter (λ v. result_depends v b.booking) (variations script) → 1 < length (passes_of script b)
     → (lines_from k accs n (passes_of script b) ≡ acc_lines k (label b.name None) (slice_get accs n) ++ under_lines b.name k accs (n + 1) vs) × (length (passes_of script b) ≡ length vs + 1)
-passes_are script b k accs n vs is more = go (has_variations script b.name) more
-  where
-    go : (t : Bool) → 1 < suc (length (if t then varied_passes script b else []))
-        → (acc_lines k (label b.name None) (slice_get accs n) ++ lines_from k accs (n + 1) (if t then varied_passes script b else []) ≡ acc_lines k (label b.name None) (slice_get accs n) ++ under_lines b.name k accs (n + 1) vs)
-        × (suc (length (if t then varied_passes script b else [])) ≡ length vs + 1)
-    go true h = (
-      ap (λ l. acc_lines k (label b.name None) (slice_get accs n) ++ l)
-          (varied_lines b k accs (n + 1) (filter (λ v. result_depends v b.booking) (variations script)) ∙ ap (under_lines b.name k accs (n + 1)) (sym is)),
-      many,
-    )
-      where
-        many : suc (length (map (λ (v : Variation). the_pass b v) (filter (λ v. result_depends v b.booking) (variations script)))) ≡ length vs + 1
-        many = omega (arith, length-map (filter (λ v. result_depends v b.booking) (variations script)) (λ (v : Variation). the_pass b v), ap length is)
-    go false h = absurd (omega arith)
+passes_are script b k accs n vs is more = grind (arith, varied_lines, length-map)
 
 pub nominal_alone : (script : List Statement) (b : Booked) (k : ActionKind) (accs : List Accumulator) (n : ℕ) → length (passes_of script b) ≡ 1 → lines_from k accs n (passes_of script b) ≡ acc_lines k (label b.name None) (slice_get accs n)
 nominal_alone script b k accs n one = go (if has_variations script b.name then varied_passes script b else []) one

@@ -57,9 +57,7 @@ module _ (g : GraphView) where
   -- the label of a pass by the numbers of its loop and place
   pub label_is : (l n : ℕ) (p : NumberedPass) (name : List ℕ) → IsPassAt l n p → option_map (λ (x : ResultAt). x.booked.name) (slice_get (graph_results g) p.result) ≡ Some name
       → label name (under_in (graph_variations g) p.variation) ≡ pass_label (slice_get (passes_at g l) n)
-  label_is l n p name is named =
-      ap (λ (x : List ℕ). label x (under_in (graph_variations g) p.variation)) (name_is p.result is.booked name is.its_result named)
-      ∙ ap (label is.booked.name) (under_is p.variation) ∙ sym (ap pass_label is.its_pass)
+  label_is l n p name is named = grind (arith, name_is, under_is)
 
 pub pass_there : (ps : List NumberedPass) (n : ℕ) (d : NumberedPass) → n < length ps → slice_get ps n ≡ Some (get_or ps n d)
 pass_there ps n d lt = slice_get-get_or ps n d lt

@@ -1,4 +1,4 @@
-use Rattle.std.proofs.Common.{◌≡◌, List, length, map, sym, ap, ◌∙◌, subst, arith}
+use Rattle.std.proofs.Common.{◌≡◌, List, length, map, sym, ◌∙◌, subst, arith}
 use Rattle.std.proofs.lemmas.List.{with_items_is}
 use Rattle.rdf_values.specs.{below}
 use Rattle.loop_pieces.specs.{LoopPiece, StandsFor}
@@ -9,14 +9,7 @@ use Rattle.event_loop.proofs.Shares.{as_many_pieces, stand}
 use Rattle.event_loop.proofs.filling.filled.Goals as goal
 
 pub merge_all-requires-clause-some : goal.merge_all-requires-clause-some
-merge_all-requires-clause-some c =
-    let before = c.in_ok-pieces.pieces in
-    let now = c.lines_in.new.pieces in
-    let ok = before.ok.0 in
-    let bodies : HaveSameBodies before.items now = subst (λ (l : List LoopPiece). HaveSameBodies l now) c.as_mut_slice.ensures.value c.in_ok-partials.ensures.bodies in
-    let same : c.from_vec.result ≡ now = c.from_vec.ensures ∙ with_items_is before now (omega (arith, bodies.many)) in
-    let d = c.requires.done in
-    omega (arith, ap length same, bodies.many, as_many_pieces c.args.book d.0 c.args.slots.items before.items c.in_ok-pieces.ensures.pieces, d.1.some)
+merge_all-requires-clause-some = grind (arith, with_items_is, as_many_pieces)
 
 pub merge_all-requires-clause-apart : goal.merge_all-requires-clause-apart
 merge_all-requires-clause-apart c =

@@ -21,9 +21,7 @@ run_slots-requires-clause-can g c = λ κs h. record {
 }
 
 pub gathered-requires-clause-some : goal.gathered-requires-clause-some
-gathered-requires-clause-some g c =
-    let many = seats_many c.in_ok-claims.claims c.args.slots c.in_ok-claims.seats c.in_ok-claims.ensures.2 in
-    omega (arith, c.in_ok-finished.ensures.len, c.in_ok-fresh.ensures.many, many, c.requires.slots.0)
+gathered-requires-clause-some = grind (arith, seats_many)
 
 pub gathered-requires-clause-many : goal.gathered-requires-clause-many
 gathered-requires-clause-many g c =

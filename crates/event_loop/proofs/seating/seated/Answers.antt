@@ -1,21 +1,9 @@
-use Rattle.std.proofs.Common.{[], ◌∷◌, length, length-append, ap, refl, arith, subst, sym}
-use Rattle.std.specs.List.{All}
-use Rattle.event_loop.specs.{AreBlank}
-use Rattle.event_loop.proofs.Whole.{AreSeated, none_popped, next_seated, none_seated}
+use Rattle.std.proofs.Common.{[], ◌∷◌, length, length-append, ap, refl, arith}
+use Rattle.event_loop.proofs.Whole.{none_popped, next_seated, none_seated}
 use Rattle.event_loop.proofs.seating.seated.Goals as goal
-use Rattle.slot_words.specs.{IsReady}
 
 pub loop-seat-init : goal.loop-seat-init
-loop-seat-init c =
-    let seats = c.into_vec-seats.result.items in
-    let shares = c.into_vec-shares.result.items in
-    let same = sym c.into_vec-seats.ensures in
-    record {
-      many = omega (arith, ap length c.into_vec-seats.ensures, ap length c.new-slots.ensures.items, c.new-slots.result.ok.0);
-      seated = λ shared ready blank.
-          subst (AreSeated shared seats shares) (sym c.new-slots.ensures.items)
-          (none_seated shared seats shares (subst (All (IsReady shared.claims)) same ready) (subst (λ l. AreBlank shared.book (length l) shares) same (subst (AreBlank shared.book (length c.args.seats)) (sym c.into_vec-shares.ensures) blank)));
-    }
+loop-seat-init = grind (arith, none_seated)
 
 pub loop-seat-preserved : goal.loop-seat-preserved
 loop-seat-preserved c = record {

@@ -18,13 +18,7 @@ acc-nominal-requires c =
     omega arith
 
 pub returns-then-filled-eq1 : goal.returns-then-filled-eq1
-returns-then-filled-eq1 c = λ x at.
-    let g = c.args.graph.now in
-    let filled = c.args.filled.now in
-    let name = c.result_name.result.now in
-    c.in_ok-put_pass.ensures
-    ∙ ap (λ n. c.args.text.now ++ filled_lines c.args.kind.now (label n None) c.acc-nominal.result.now.filled) (its_name (graph_results g) c.args.r x name at c.result_name.ensures)
-    ∙ ap (λ l. c.args.text.now ++ l) (sym (nominal_text g x filled c.args.kind.now (c.requires.action x at) (c.requires.filled x at) c.acc-nominal.result.now c.acc-nominal.ensures c.if-filled-eq1.true))
+returns-then-filled-eq1 = grind (arith, its_name, nominal_text)
 
 pub put_varied-requires-clause-passes : goal.put_varied-requires-clause-passes
 put_varied-requires-clause-passes c =

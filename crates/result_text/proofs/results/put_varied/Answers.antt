@@ -22,15 +22,7 @@ acc-acc-requires c =
     c.requires.accs c.loop-v.pass (omega arith)
 
 pub overflow_add-pass : goal.overflow_add-pass
-overflow_add-pass c =
-    let here = something_at c.args.action.now.variations.now c.loop-v.v (omega arith) in
-    let m = ap length (members_yes (has c.args.depends) c.args.action.now.variations.now c.loop-v.v here.0 here.1 (sym c.contains.ensures ∙ c.if-contains.true)) in
-    let count = c.loop-v.invariant.count in
-    let many = c.requires.passes in
-    let few = members_few (has c.args.depends) c.args.action.now.variations.now 0 in
-    let size = c.len-v-end.ensures.count in
-    let most = c.len-v-end.ensures.few in
-    omega arith
+overflow_add-pass = grind (arith, something_at, members_yes, members_few)
 
 pub loop-v-preserved : goal.loop-v-preserved
 loop-v-preserved c =
