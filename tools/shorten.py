@@ -166,7 +166,7 @@ class Between:
             with open(path, encoding="utf-8") as file:
                 lines = file.read().split("\n")
             for at, line in enumerate(lines):
-                for word in tokens(line.replace("::", " ")) if is_told(line) else []:
+                for word in tokens(re.sub(r"::|\.", " ", line)) if is_told(line) else []:
                     self.uses.setdefault(word, []).append((path, at))
             if path.startswith("proofs/") and not path.endswith(("Answers.antt", "Invariants.antt", "Lib.antt")) and "Example" not in path:
                 for lemma in lemmas(lines, 0, len(lines), 0):
