@@ -1,7 +1,6 @@
 -- The operations of a Reduce, and extremes, over two lists.
 use Rattle.std.proofs.Common.{◌≡◌, List, [], ◌∷◌, ℤ, arith, refl, ap, sym, ◌∙◌, Option, Some, None, fold}
-use Rattle.std.specs.Int.{int_max, int_min}
-use Rattle.std.proofs.lemmas.Int.{clamps, ints}
+use Rattle.lemmas.proofs.{clamps, int_max, int_min, ints}
 use Rattle.rdf_values.specs.{extreme}
 use Rattle.actions.specs.{better_of, better_of_two}
 use Rattle.actions.proofs.Folds.{some_fold}

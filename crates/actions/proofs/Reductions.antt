@@ -1,10 +1,6 @@
 -- The operations of a Reduce over two lists of numbers that have 64 bits.
 use Rattle.std.proofs.Common.{ℕ, suc, ◌≡◌, ◌+◌, ◌-◌, ◌<◌, ◌^◌, ◌%◌, List, ◌++◌, ℤ, pos, negsuc, arith, refl, ap, sym, ◌∙◌, w64, FitsSigned, fold, bit_and, bit_or, bit_xor}
-use Rattle.std.specs.Int.{cast_signed, cast_unsigned, int_wrapping_add}
-use Rattle.std.proofs.lemmas.Int.{of_z-to_z}
-use Rattle.std.proofs.lemmas.Nat.{and_comm, and_le_l, or_comm, or_lt, xor_comm, xor_lt}
-use Rattle.std.proofs.lemmas.Nat.Bits.{bit_at_and, bit_at_or, bit_at_xor, same_from_bits}
-use Rattle.std.proofs.Math.Nat.{mod-eq_of_lt, mod-add-mod}
+use Rattle.lemmas.proofs.{and_comm, and_le_l, bit_at_and, bit_at_or, bit_at_xor, cast_signed, cast_unsigned, int_wrapping_add, mod-add-mod, mod-eq_of_lt, of_z-to_z, or_comm, or_lt, same_from_bits, xor_comm, xor_lt}
 use Rattle.rdf_values.specs.{number_of, numbers_of, on_bits, reduce_start, reduce_step, ReduceOp}
 use Rattle.actions.specs.{Fed, in_file_order}
 use Rattle.actions.proofs.Operations.{fold_both, max_swap, min_swap, min_comm, max_comm}

@@ -1,7 +1,6 @@
 -- What an accumulator holds after one more entry.
 use Rattle.std.proofs.Common.{ℕ, ◌≡◌, ◌≤◌, ◌+◌, map, length, All, List, [], ◌∷◌, ◌++◌, ℤ, pos, ◌+ℤ◌, refl, ap, sym, ◌∙◌, length-append, lit≤, flat_map, Option, Result, Ok, Err, OnErr, OnOk, fold}
-use Rattle.std.proofs.lemmas.List.{map-append}
-use Rattle.std.specs.Int.{int_max, int_min}
+use Rattle.lemmas.proofs.{int_max, int_min, map-append}
 use Rattle.rdf_values.specs.{ActionKind, Extreme, extreme, Flat, integer_sum, Item, numbers_of, points, points2, reduce_start, reduce_step, Reduced, ReduceOp, Scalar, scalar_of, spread, Square, Taken, Value, weights}
 use Rattle.rdf_values.specs.declared.results.item.Item.TheVariants.{Number, Single}
 use Rattle.rdf_values.specs.results.Fold.{Count, Sum}

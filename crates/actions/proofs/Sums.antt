@@ -1,8 +1,6 @@
 -- Sums in 128 bits.
 use Rattle.std.proofs.Common.{ℕ, ◌+◌, ◌*◌, ◌^◌, ◌<◌, ◌≤◌, ℤ, ◌+ℤ◌, arith, w64, FitsSigned, nat_abs}
-use Rattle.std.specs.Int.{w128}
-use Rattle.std.proofs.lemmas.Int.{fits_signed_from_abs}
-use Rattle.lemmas.proofs.{abs_add}
+use Rattle.lemmas.proofs.{abs_add, fits_signed_from_abs, w128}
 use Rattle.histograms.proofs.Bounds.{abs_of_fit}
 
 pub fits_sum : (z : ℤ) → nat_abs z < 2 ^ 127 → FitsSigned w128 z

@@ -1,8 +1,6 @@
 -- What one evaluation of a site at the places of a group comes to.
 use Rattle.std.proofs.Common.{◌≡◌, ◌<◌, ◌≤◌, ◌+◌, ◌⊎◌, inl, inr, ℕ, zero, suc, true, false, List, [], ◌∷◌, length, take, Option, Some, None, refl, sym, ◌∙◌, ap, subst, arith, slice_get, Contains}
-use Rattle.std.proofs.lemmas.Bool.{ltb-true}
-use Rattle.lemmas.proofs.{never_true, or_left, same_some, something_at}
-use Rattle.std.proofs.lemmas.List.Elements.{All-contains}
+use Rattle.lemmas.proofs.{All-contains, ltb-true, never_true, or_left, same_some, something_at}
 use Rattle.rdf_values.specs.{EntryFault, Value}
 use Rattle.rdf_model.specs.{fault_in, Faults, Gives, Needs, Outcome}
 use Rattle.expr_eval.specs.{ScalarStop}

@@ -1,9 +1,6 @@
 -- A site whose evaluation was begun at the places of a group, over the lanes of all keys.
 use Rattle.std.proofs.Common.{◌≡◌, ◌≤◌, ◌+◌, ◌||◌, ◌⊎◌, inl, inr, not, ℕ, Bool, true, false, List, length, arith, refl, sym, ◌∙◌, ap, slice_get, count_by}
-use Rattle.std.proofs.Math.Seq.{map-set_same}
-use Rattle.std.proofs.lemmas.List.Sums.{sum_by-set}
-use Rattle.std.proofs.lemmas.Option.{slice_get_within, get_or_from_slice_get}
-use Rattle.lemmas.proofs.{or_right}
+use Rattle.lemmas.proofs.{get_or_from_slice_get, map-set_same, or_right, slice_get_within, sum_by-set}
 use Rattle.expr_lanes.specs.{EachPlace, is_in}
 use Rattle.block_cache.specs.{begun_at, begun_count, cells_at, held_at, is_held, IsBegunAt, IsBegunFor, IsBrokenOffFor, IsGrownOver, IsLaneSet, IsOnlyCalled, IsSameAt, kinds_of, lane_begun, lane_holds, LaneView, own_key, room_of, rooms_of, tried_count}
 use Rattle.loop_keys.specs.{held_in, is_held as has_held, job_graph, key}

@@ -1,7 +1,6 @@
 -- A site that can be filled can be tried.
 use Rattle.std.proofs.Common.{◌≡◌, ◌<◌, ℕ, zero, suc, Bool, not, List, [], ◌∷◌, length, map, take, All, get_or, Some, sym, ◌∙◌, ap, subst, arith, nat_eq, slice_get, filter}
-use Rattle.std.proofs.lemmas.Option.{get_or_from_slice_get}
-use Rattle.lemmas.proofs.{mapped_at, something_at}
+use Rattle.lemmas.proofs.{get_or_from_slice_get, mapped_at, something_at}
 use Rattle.rdf_values.specs.{ColType, columns_in, history, NumTree}
 use Rattle.expr_check.specs.{CheckedExpr, distinct}
 use Rattle.graph_numbers.specs.{graph_sites, graph_under, GraphView, IsBelow, IsSiteExpr, SiteAt, Source, version_count}

@@ -1,7 +1,6 @@
 -- One place after another.
 use Rattle.std.proofs.Common.{◌≡◌, ◌<◌, ◌≤◌, ◌+◌, ◌++◌, ◌⊎◌, inl, inr, not, ℕ, ℤ, Bool, true, false, List, [], ◌∷◌, length, get_or, take, ◌∙◌, refl, ap, sym, subst, arith, append_assoc, cond}
-use Rattle.std.specs.List.{filter}
-use Rattle.std.proofs.lemmas.List.{take_more, length-append}
+use Rattle.lemmas.proofs.{filter, length-append, take_more}
 use Rattle.rdf_values.specs.{ColType, FitsKind, Value}
 use Rattle.rdf_model.specs.{Gives, is_set, mark, Outcome}
 use Rattle.expr_check.specs.{is_vector}

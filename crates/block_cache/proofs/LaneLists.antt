@@ -1,10 +1,6 @@
 -- The lanes of all keys, one after another.
 use Rattle.std.proofs.Common.{◌≡◌, ◌<◌, ◌≤◌, ◌+◌, ◌++◌, ℕ, List, [], ◌∷◌, length, get_or, take, set, ◌∙◌, ap, sym, arith, length-set}
-use Rattle.std.specs.List.{All, AllWithin}
-use Rattle.std.proofs.lemmas.List.{take_more}
-use Rattle.std.proofs.Math.Seq.{map-set_same}
-use Rattle.std.proofs.lemmas.List.Elements.{All-push, All-set, AllWithin-more_set}
-use Rattle.lemmas.proofs.{map_next}
+use Rattle.lemmas.proofs.{All, All-push, All-set, AllWithin, AllWithin-more_set, map-set_same, map_next, take_more}
 use Rattle.rdf_values.specs.{ColType}
 use Rattle.block_cache.specs.{AreUnknown, HaveRoom, IsSameLane, IsUnknown, kinds_of, LaneView, room_of, rooms_of}
 

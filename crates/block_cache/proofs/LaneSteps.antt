@@ -1,8 +1,6 @@
 -- A lane before and after an evaluation.
 use Rattle.std.proofs.Common.{◌≡◌, ◌<◌, ◌≤◌, ◌+◌, ◌||◌, ◌++◌, not, ℕ, ℤ, Bool, true, false, List, [], ◌∷◌, length, take, drop, ◌∙◌, refl, ap, sym, subst, cond, arith, count_by}
-use Rattle.std.specs.List.{filter}
-use Rattle.std.proofs.Math.Seq.{take-append_seam}
-use Rattle.lemmas.proofs.{left_false, never_true, or_fails, right_false}
+use Rattle.lemmas.proofs.{filter, left_false, never_true, or_fails, right_false, take-append_seam}
 use Rattle.rdf_values.specs.{ColType, Value}
 use Rattle.rdf_model.specs.{Gives, Outcome}
 use Rattle.expr_check.specs.{is_vector}

@@ -1,8 +1,6 @@
 -- What an evaluation reads first is met in every entry, and a site may be filled behind it.
 use Rattle.std.proofs.Common.{if◌then◌else◌, ◌≡◌, ◌<◌, ◌≤◌, ◌+◌, inl, inr, ℕ, ℤ, Bool, true, List, [], ◌∷◌, length, Option, Some, None, refl, sym, ◌∙◌, ap, subst, arith, cond, nat_eq, nat_lt, slice_get}
-use Rattle.std.specs.List.{filter}
-use Rattle.std.proofs.lemmas.Bool.{lt-ltb, ltb-true}
-use Rattle.std.proofs.lemmas.Bool.Decides.{Decides-eqb}
+use Rattle.lemmas.proofs.{Decides-eqb, filter, lt-ltb, ltb-true}
 use Rattle.rdf_values.specs.{Bin, BinOp, Call, Col, ColType, Cond, End, fn_names, history, Lit, More, Neg, Not, Pick, Tree, Trees, Value}
 use Rattle.rdf_values.specs.expressions.Expressions.{Truth}
 use Rattle.rdf_model.specs.{◌>>=◌, call_outcome, evaluate, evaluate_all, fault_in, Gives, is_need, Needs, operation, Outcome, without}

@@ -1,8 +1,6 @@
 -- The least fault so far, one stop after another.
 use Rattle.std.proofs.Common.{◌≡◌, ◌<◌, ◌≤◌, ◌+◌, ◌++◌, ℕ, Bool, true, false, List, [], ◌∷◌, length, take, get_or, Option, Some, None, refl, sym, subst, arith, if◌then◌else◌, nat_le}
-use Rattle.std.proofs.lemmas.Bool.{leb-true, leb-false}
-use Rattle.std.proofs.lemmas.List.{take_more}
-use Rattle.std.proofs.lemmas.List.Elements.{All-push, Contains-append_left, Contains-push}
+use Rattle.lemmas.proofs.{All-push, Contains-append_left, Contains-push, leb-false, leb-true, take_more}
 use Rattle.expr_eval.specs.{ScalarStop}
 use Rattle.expr_eval.specs.declared.stop.ScalarStop.TheVariants.{Fault, Need}
 use Rattle.expr_lanes.specs.{Stopped, stopped}

@@ -1,7 +1,6 @@
 -- Marks that are set at one place after another.
 use Rattle.std.proofs.Common.{◌≡◌, ◌<◌, ◌+◌, ◌||◌, not, ℕ, suc, zero, Bool, true, false, List, [], ◌∷◌, length, get_or, take, set, ◌∙◌, refl, ap, cond, if◌then◌else◌, arith, length-set, nat_eq, count_by}
-use Rattle.std.proofs.lemmas.Bool.Decides.{eqb_tells}
-use Rattle.std.proofs.lemmas.List.Sums.{sum_by-cons, sum_by_more, sum_by-set}
+use Rattle.lemmas.proofs.{eqb_tells, sum_by-cons, sum_by-set, sum_by_more}
 use Rattle.expr_lanes.specs.{AreRising, is_in, is_marked}
 use Rattle.expr_lanes.proofs.PartSteps.{mark_more}
 use Rattle.expr_lanes.proofs.Selected.{is_in_at}

@@ -1,10 +1,6 @@
 -- Places of selections that a test keeps, and the first fault among them.
 use Rattle.std.proofs.Common.{◌≡◌, ◌≤◌, ◌||◌, not, ℕ, Bool, true, false, List, [], ◌∷◌, length, Option, Some, None, refl, sym, ◌∙◌, ap, arith, cond, nat_eq, nat_lt}
-use Rattle.std.specs.List.{filter}
-use Rattle.std.proofs.lemmas.Bool.{lt-ltb}
-use Rattle.std.proofs.lemmas.Bool.Decides.{Decides-eqb}
-use Rattle.std.proofs.lemmas.List.Sums.{length-filter, count_by-le-length}
-use Rattle.lemmas.proofs.{not_true}
+use Rattle.lemmas.proofs.{count_by-le-length, Decides-eqb, filter, length-filter, lt-ltb, not_true}
 use Rattle.rdf_values.specs.{EntryFault}
 use Rattle.expr_lanes.specs.{AreRising, EachPlace, is_in, IsSelected}
 use Rattle.expr_lanes.proofs.Sequence.{filtered_in, first_in, rest_in}

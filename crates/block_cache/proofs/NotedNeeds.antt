@@ -1,8 +1,6 @@
 -- What is noted of stops, one after another.
 use Rattle.std.proofs.Common.{◌≡◌, ◌<◌, ◌+◌, ◌++◌, ◌⊎◌, inl, inr, All, ℕ, Bool, true, false, List, [], ◌∷◌, length, length-set, take, set, get_or, sym, ◌∙◌, ap, subst, arith, get_or-set_same, get_or-set_other, Contains}
-use Rattle.std.proofs.lemmas.Bool.{cases_eq}
-use Rattle.std.proofs.lemmas.List.Elements.{Contains-append_left, Contains-push, Contains-push_cases}
-use Rattle.std.proofs.lemmas.List.{take_more}
+use Rattle.lemmas.proofs.{cases_eq, Contains-append_left, Contains-push, Contains-push_cases, take_more}
 use Rattle.expr_eval.specs.declared.stop.ScalarStop.TheVariants.{Need}
 use Rattle.expr_lanes.specs.{EachPlace, is_in, is_marked, Stopped, stopped}
 use Rattle.expr_lanes.proofs.Selected.{in_more}

@@ -1,11 +1,6 @@
 -- A site's lane after it was evaluated over a block.
 use Rattle.std.proofs.Common.{◌≡◌, ◌<◌, ◌+◌, ◌-◌, ◌++◌, ◌||◌, ℕ, zero, suc, Bool, true, false, List, [], ◌∷◌, length, length-set, take, set, get_or, All, Some, refl, sym, ◌∙◌, ap, subst, arith, if◌then◌else◌, slice_get, get_or-set_same, get_or-set_other}
-use Rattle.std.proofs.Math.Seq.{take-append_seam}
-use Rattle.std.proofs.lemmas.Bool.{cases_eq}
-use Rattle.std.proofs.lemmas.List.{length-append, set-append_right}
-use Rattle.std.proofs.lemmas.List.Elements.{All-set}
-use Rattle.std.proofs.lemmas.Option.{slice_get_within, get_or_from_slice_get}
-use Rattle.lemmas.proofs.{set_at}
+use Rattle.lemmas.proofs.{All-set, cases_eq, get_or_from_slice_get, length-append, set-append_right, set_at, slice_get_within, take-append_seam}
 use Rattle.rdf_values.specs.{ColType, Value}
 use Rattle.rdf_model.specs.{Gives, Outcome}
 use Rattle.expr_check.specs.{CheckedExpr}

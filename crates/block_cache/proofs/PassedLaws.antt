@@ -1,8 +1,6 @@
 -- The places of a selection that pass a filter.
 use Rattle.std.proofs.Common.{◌≡◌, ◌<◌, ◌+◌, ℕ, true, false, List, [], length, get_or, Option, Some, sym, ◌∙◌, ap, subst, slice_get}
-use Rattle.std.proofs.lemmas.Option.{slice_get-get_or}
-use Rattle.std.specs.List.{filter}
-use Rattle.lemmas.proofs.{same_some}
+use Rattle.lemmas.proofs.{filter, same_some, slice_get-get_or}
 use Rattle.rdf_values.specs.{ColType}
 use Rattle.rdf_model.specs.{◌>>=◌, Gives, is_set, is_true, truth_of}
 use Rattle.expr_check.specs.{is_vector}

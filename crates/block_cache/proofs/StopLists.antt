@@ -1,7 +1,6 @@
 -- The stops of a group: one for each place that came to no value.
 use Rattle.std.proofs.Common.{◌≡◌, ◌<◌, ◌+◌, ◌&&◌, ◌||◌, not, ℕ, zero, suc, Bool, true, false, List, [], ◌∷◌, length, Option, Some, None, refl, sym, ◌∙◌, ap, subst, arith, cond, nat_eq, get_or, Contains}
-use Rattle.std.proofs.lemmas.Bool.Decides.{Decides-eqb}
-use Rattle.lemmas.proofs.{both_true, not_false}
+use Rattle.lemmas.proofs.{both_true, Decides-eqb, not_false}
 use Rattle.rdf_values.specs.{EntryFault, Value}
 use Rattle.rdf_model.specs.{Faults, Gives, Needs, Outcome}
 use Rattle.expr_eval.specs.{ScalarStop}

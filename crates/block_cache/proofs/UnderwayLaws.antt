@@ -1,10 +1,6 @@
 -- The filling of a site, from its first evaluation to the last.
 use Rattle.std.proofs.Common.{◌≡◌, ◌<◌, ◌≤◌, ◌+◌, ◌⊎◌, inl, inr, not, ℕ, Bool, true, false, List, [], ◌∷◌, length, Option, Some, None, Result, Ok, Err, IfOk, OnOk, refl, sym, ◌∙◌, ap, subst, arith, cond, count_by, nat_eq}
-use Rattle.std.specs.List.{filter}
-use Rattle.std.proofs.lemmas.Bool.{cases_lt, lt-ltb, ltb-true, true_from_ne_false}
-use Rattle.std.proofs.lemmas.Bool.Decides.{Decides-eqb}
-use Rattle.std.proofs.lemmas.List.Sums.{length-filter, sum_by-cons}
-use Rattle.lemmas.proofs.{never_true, not_true, same_some}
+use Rattle.lemmas.proofs.{cases_lt, Decides-eqb, filter, length-filter, lt-ltb, ltb-true, never_true, not_true, same_some, sum_by-cons, true_from_ne_false}
 use Rattle.rdf_values.specs.{EntryFault, Memory, Value}
 use Rattle.rdf_model.specs.{fault_in, Faults, Outcome}
 use Rattle.expr_lanes.specs.{AreRising, EachPlace, is_in, IsSelected}

@@ -1,9 +1,7 @@
 -- The marks of a block, of which all may be set without being written.
 use Rattle.std.proofs.Common.{◌≡◌, ◌<◌, ◌≤◌, ◌+◌, ◌||◌, not, ℕ, zero, suc, Bool, true, false, List, [], ◌∷◌, length, get_or, set, ◌∙◌, refl, ap, sym, subst, arith, cond, count_by}
-use Rattle.std.specs.List.{range_with_len}
+use Rattle.lemmas.proofs.{get_or-range_with_len, length-range_with_len, range_with_len, sum_by-cons}
 use Rattle.std.proofs.lemmas.List.{take_all}
-use Rattle.std.proofs.lemmas.List.FromFn.{length-range_with_len, get_or-range_with_len}
-use Rattle.std.proofs.lemmas.List.Sums.{sum_by-cons}
 use Rattle.expr_lanes.specs.{EachPlace, is_in, is_marked}
 use Rattle.expr_lanes.proofs.Rising.{rising_range}
 use Rattle.expr_lanes.proofs.Sequence.{first_in, rest_in}

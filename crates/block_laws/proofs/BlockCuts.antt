@@ -1,7 +1,6 @@
 -- Blocks lead through their entries, and each is as long as it may be.
 use Rattle.std.proofs.Common.{◌≡◌, ◌⊎◌, inl, inr, ℕ, zero, suc, ◌+◌, ◌<◌, ◌≤◌, Bool, true, false, List, [], ◌∷◌, length, map, take, drop, refl, sym, subst, ◌∙◌, ap, arith, if◌then◌else◌, min, sum}
-use Rattle.std.proofs.lemmas.List.Sums.{sum_by-cons}
-use Rattle.lemmas.proofs.{map_length}
+use Rattle.lemmas.proofs.{map_length, sum_by-cons}
 use Rattle.rdf_values.specs.{Lead, Span, Value}
 use Rattle.block_laws.specs.{blocks_from, blocks_of, first_length, IsFirst, more_fit, one_more_fits, row_elements}
 use Rattle.rdf_model.proofs.Typing.{by_test}

@@ -1,7 +1,6 @@
 -- The first fault of the passes of a loop, block after block.
 use Rattle.std.proofs.Common.{◌≡◌, ℕ, zero, suc, ◌+◌, ◌-◌, ◌≤◌, List, [], ◌∷◌, ◌++◌, length, map, take, drop, Option, Some, refl, sym, ◌∙◌, ap, arith, slice_get, slice_range}
-use Rattle.std.specs.List.{enumerate_from}
-use Rattle.lemmas.proofs.{drop_plus, range_length, take_plus}
+use Rattle.lemmas.proofs.{drop_plus, enumerate_from, range_length, take_plus}
 use Rattle.rdf_values.specs.{EntryFault, Lead, Pass, Span, Value}
 use Rattle.rdf_model.specs.{Dataset, fault_at, fault_or, first_fault_from, first_fault_in, first_of}
 use Rattle.block_laws.specs.{after_trial, block_major, pass_major, row_fault, row_major, Search, trial_major, Trials}

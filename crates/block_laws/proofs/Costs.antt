@@ -1,10 +1,6 @@
 -- What blocks demand, one after another.
 use Rattle.std.proofs.Common.{◌≡◌, ℕ, ◌+◌, ◌-◌, ◌<◌, ◌≤◌, Bool, true, false, List, [], ◌∷◌, ◌++◌, length, map, take, drop, Option, Some, None, refl, sym, ◌∙◌, ap, arith, if◌then◌else◌, is_some, slice_range}
-use Rattle.std.specs.List.{sum_by}
-use Rattle.std.proofs.Math.Seq.{drop-append_seam}
-use Rattle.std.proofs.lemmas.List.{drop-map}
-use Rattle.std.proofs.lemmas.List.Sums.{sum_by-cons}
-use Rattle.lemmas.proofs.{map_length, range_length}
+use Rattle.lemmas.proofs.{drop-append_seam, drop-map, map_length, range_length, sum_by, sum_by-cons}
 use Rattle.rdf_values.specs.{EntryFault, Fault, Pass, Span, Value}
 use Rattle.rdf_model.specs.{Dataset, fault_at, fault_or, first_fault_from, first_fault_in, first_of}
 use Rattle.block_laws.specs.{blocks_demand, blocks_of, cluster_blocks, cluster_demands, first_length, row_elements, rows_demand, up_to_fault}

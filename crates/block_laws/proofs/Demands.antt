@@ -1,7 +1,6 @@
 -- What passes demand of a row, each demand once.
 use Rattle.std.proofs.Common.{◌≡◌, ◌⊎◌, inl, inr, ℕ, Bool, true, false, List, [], ◌∷◌, Some, refl, sym, ◌∙◌, subst, slice_get, if◌then◌else◌, flat_map, All, Contains}
-use Rattle.std.specs.List.{list_any}
-use Rattle.std.proofs.lemmas.List.Elements.{All-from_recursion}
+use Rattle.lemmas.proofs.{All-from_recursion, list_any}
 use Rattle.rdf_values.specs.{Pass, Value}
 use Rattle.rdf_model.specs.{Dataset, Demand, demanded, distinct, pass_demands, same_demand}
 use Rattle.rdf_model.proofs.Demands.{demand_is}

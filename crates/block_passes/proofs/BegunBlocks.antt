@@ -1,8 +1,6 @@
 -- What a slot reserves stays what it was while a block is tried.
 use Rattle.std.proofs.Common.{◌≡◌, ℕ, List, [], ◌∷◌, length, sym, ◌∙◌, ap, subst, ℤ, if◌then◌else◌, ◌+◌, ◌<◌, ◌≤◌, true, false, All, Option, Some, None, refl, arith, slice_get, inl, inr, zero, suc, ◌-◌, ◌*◌, Bool, map, take, unwrap_or, slice_index_or, count_by, get_or, slice_range}
-use Rattle.std.specs.List.{AllByRecursion}
-use Rattle.std.proofs.lemmas.List.{get_or-map, get_or-take, get_or_past, length-map}
-use Rattle.std.proofs.lemmas.List.Elements.{All-from_recursion, All-weaker}
+use Rattle.lemmas.proofs.{All-from_recursion, All-weaker, AllByRecursion, cases_lt, get_or-map, get_or-take, get_or_from_slice_get, get_or_past, length-map, never_true, range_length, slice_get_within, sum_by-cons, take_at_most}
 use Rattle.rdf_values.specs.{ColType, EachColumn, history, Value}
 use Rattle.block_cache.specs.{AreReady, AreUnknown, begun_at, begun_count, CanFill, HaveRoom, held_value, is_tried, IsLoaded, IsUnknown, kinds_of, lane_begun, LaneView, room_of, rooms_of, size_for, tried_count, value_of}
 use Rattle.loop_keys.specs.{AreKeys, AreReadable, entry_demands, Held, IsJob, IsRight, job_graph, JobView, key, key_count, keys_in, passes_in, row_of, site_in, source_at}
@@ -10,7 +8,6 @@ use Rattle.graph_numbers.specs.{graph_sites, graph_under, GraphView, IsBelow, Si
 use Rattle.block_passes.specs.{AreDeepEnough, AreLoaded, block_demands, CanSelect, CanServe, CanServeAll, entries_from, HaveCells, HaveKinds, IsBegunBlock, IsFilterStep, IsPlan, IsReadyBelow, IsServable, IsStateOf, longer, StateView}
 use Rattle.block_passes.specs.declared.found.Found.{Found}
 use Rattle.block_passes.specs.declared.kept.Kept.{Kept}
-use Rattle.std.proofs.lemmas.Option.{get_or_from_slice_get, slice_get_within}
 use Rattle.rdf_model.proofs.KnownColumns.{each_weaker}
 use Rattle.expr_lanes.specs.declared.TheConstants.{MAX_PLACES}
 use Rattle.graph_numbers.proofs.Equations.{columns_below}
@@ -22,9 +19,6 @@ use Rattle.block_passes.specs.declared.steps.Step.{Step}
 use Rattle.block_passes.proofs.SiteKinds.{filter_kind, site_kinds}
 use Rattle.block_passes.proofs.Demanding.{action_at, site_there}
 use Rattle.loop_keys.proofs.ActionLaws.{can_act}
-use Rattle.std.proofs.lemmas.List.Sums.{sum_by-cons}
-use Rattle.lemmas.proofs.{never_true, range_length, take_at_most}
-use Rattle.std.proofs.lemmas.Bool.{cases_lt}
 use Rattle.block_cache.proofs.Marking.{count_none}
 use Rattle.expr_lanes.specs.{is_marked}
 use Rattle.block_laws.specs.{marked_at, marked_in, row_demands}

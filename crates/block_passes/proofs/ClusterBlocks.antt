@@ -1,7 +1,6 @@
 -- A block that was searched without a fault is clear, and is taken in.
 use Rattle.std.proofs.Common.{◌≡◌, ℕ, ◌+◌, ◌-◌, ◌*◌, ◌≤◌, List, length, None, Some, Ok, Err, refl, ◌∙◌, ap, subst, arith, slice_get, ◌<◌, map, Option, Result, slice_range}
-use Rattle.std.proofs.lemmas.Option.{slice_get_within}
-use Rattle.lemmas.proofs.{map_length, range_length, something_at}
+use Rattle.lemmas.proofs.{length-map, map_length, range_length, slice_get_within, something_at}
 use Rattle.rdf_model.specs.{first_fault_from, first_of, kinds_in, span_rows, spreads_of}
 use Rattle.graph_numbers.specs.{graph_filters}
 use Rattle.block_cache.specs.{LaneView}
@@ -15,7 +14,6 @@ use Rattle.block_passes.specs.declared.found.Found.{Found}
 use Rattle.block_passes.specs.declared.kept.Kept.{Kept}
 use Rattle.block_passes.specs.declared.stop.BlockStop.{BlockStop}
 use Rattle.block_passes.proofs.Feeding.{filters_many}
-use Rattle.std.proofs.lemmas.List.{length-map}
 use Rattle.rdf_values.proofs.Leading.{cuts_lead}
 use Rattle.rdf_values.specs.{Fault, Span, Value}
 use Rattle.columns.proofs.Joining.{span_within}

@@ -1,11 +1,10 @@
 -- The sites that a loop tries are there.
 use Rattle.std.proofs.Common.{◌≡◌, inl, inr, ℕ, ◌<◌, true, List, [], ◌∷◌, ◌++◌, length, refl, sym, ◌∙◌, ap, subst, append_assoc, Option, Bool, false, None, Some, slice_get, unwrap_or, if◌then◌else◌, All}
-use Rattle.std.specs.List.{AllByRecursion}
+use Rattle.lemmas.proofs.{AllByRecursion, recursion_from_All}
 use Rattle.rdf_values.specs.{ActionAt, ActionKind, Booking, fn_names, history, Value}
 use Rattle.graph_numbers.specs.{FilterAt, graph_filters, graph_sites, graph_under, HasFilters, IfPassed, Pass as NumberedPass, ResultAt, through_sites}
 use Rattle.graph_numbers.proofs.Extending.{itself}
 use Rattle.graph_numbers.proofs.Ranges.{filters_below}
-use Rattle.std.proofs.lemmas.List.Elements.{recursion_from_All}
 use Rattle.loop_keys.specs.{demand_key, HasAllDemands, HasPassed, HasTried, IsActionAt, IsCovered, IsJob, IsPlainLoop, job_graph, JobView, row_of, site_in}
 use Rattle.loop_keys.proofs.ActionLaws.{IsSoundBooking, result_sound}
 use Rattle.loop_keys.proofs.EvaluateLaws.{accepted_of}

@@ -1,9 +1,6 @@
 -- The first place at which an action can't be fed what it reads.
 use Rattle.std.proofs.Common.{◌≡◌, inl, inr, ℕ, ◌<◌, ◌||◌, List, [], ◌∷◌, length, Option, None, Some, refl, sym, ◌∙◌, ap, subst, arith, nat_eq, nat_lt, ◌+◌, Bool, true, get_or, slice_get, All, OnErr, Result, flat_map, MatchOption, filter}
-use Rattle.std.specs.List.{range_with_len}
-use Rattle.std.proofs.lemmas.Bool.Decides.{Decides-eqb, Decides-ltb}
-use Rattle.std.proofs.lemmas.List.Elements.{All-cons, All-nil, All-get_or}
-use Rattle.std.proofs.lemmas.List.FromFn.{length-range_with_len}
+use Rattle.lemmas.proofs.{All-cons, All-get_or, All-nil, Decides-eqb, Decides-ltb, length-range_with_len, or_true, range_with_len, slice_get-get_or, slice_get_within}
 use Rattle.rdf_values.specs.{ActionKind, EntryFault, feed_fault, Memory, Pass, spread, Value}
 use Rattle.rdf_model.specs.{◌>>=◌, Faults, for_all, Gives, is_true, kinds_in, Needs, Outcome}
 use Rattle.actions.specs.{Batch, batch_items, fault_or_later, first_fault_in, HasValues, IsTake, PlaceFault as BatchFault, places_of, Sources, SuitsAt, values_at}
@@ -14,9 +11,7 @@ use Rattle.block_passes.specs.{AreAtHand, AreKept, AreLanesOf, at_pass, CanFeedA
 use Rattle.block_passes.specs.declared.found.Found.{Found}
 use Rattle.block_passes.specs.declared.kept.Kept.{Kept}
 use Rattle.block_passes.proofs.Places.{over_lowers, chosen_below, in_chosen}
-use Rattle.lemmas.proofs.{or_true}
 use Rattle.block_cache.proofs.LaneSteps.{filter_all}
-use Rattle.std.proofs.lemmas.Option.{slice_get-get_or, slice_get_within}
 use Rattle.graph_numbers.specs.{through_sites}
 use Rattle.cluster_tally.specs.{block_items, BlockStage, CanFeedBatch, HoldsIn, pass_done, TallyView}
 use Rattle.block_cache.proofs.Members.{filter_short}

@@ -1,9 +1,6 @@
 -- What a block feeds to a pass, and what it does at a named filter.
 use Rattle.std.proofs.Common.{◌≡◌, ℕ, zero, suc, ◌+◌, ◌<◌, ◌≤◌, Bool, true, false, cond, List, [], ◌∷◌, ◌++◌, length, length-drop, map, take, drop, Option, None, Some, refl, sym, ◌∙◌, ap, subst, arith, slice_get, unwrap_or, if◌then◌else◌, get_or, count_by, flat_map, slice_range, filter}
-use Rattle.std.specs.List.{range_with_len}
-use Rattle.std.proofs.lemmas.List.{length-map}
-use Rattle.std.proofs.lemmas.List.Sums.{sum_by-cons}
-use Rattle.lemmas.proofs.{mapped_at, range_length, something_at}
+use Rattle.lemmas.proofs.{length-map, mapped_at, range_length, range_with_len, slice_get-get_or, slice_get_within, something_at, sum_by-cons}
 use Rattle.rdf_values.specs.{ActionKind, Booking, EntryFault, feed_fault, history, Item, named_before, Pass, Span, spread, Value}
 use Rattle.rdf_model.specs.{◌>>=◌, action_outcome, Entry, fault_in, Faults, feed_outcome, filter_reach, for_all, Gives, if_there, is_covered, is_passed, is_reached, is_true, items_fed, items_of, list_at, Needs, Outcome, Reach, reaches_of, Skip, span_rows, spreads_of, truth_of}
 use Rattle.rdf_model.specs.declared.loop_facts.Reach.TheVariants.{Failed, Passed, Stopped}
@@ -19,7 +16,6 @@ use Rattle.block_passes.specs.{AreCountable, AreKept, at_filter, Chain, IsAction
 use Rattle.block_passes.proofs.Searching.{get_dropped, row_in_block, through_more, last_through}
 use Rattle.block_passes.proofs.Places.{filter_alike, flat_filtered_range, flat_first}
 use Rattle.loop_keys.proofs.PassNumbers.{pass_answer, pass_of, some_same}
-use Rattle.std.proofs.lemmas.Option.{slice_get-get_or, slice_get_within}
 use Rattle.loop_pieces.specs.{Counts}
 use Rattle.block_passes.specs.Fed.{IsAmid}
 use Rattle.block_passes.specs.declared.kept.Kept.{Kept}

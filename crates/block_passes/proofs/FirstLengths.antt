@@ -1,8 +1,6 @@
 -- How many entries the next block has, entry by entry.
 use Rattle.std.proofs.Common.{◌≡◌, ◌⊎◌, inl, inr, ℕ, ℤ, zero, suc, ◌+◌, ◌-◌, ◌*◌, ◌<◌, ◌≤◌, Bool, true, ◌&&◌, List, [], ◌∷◌, length, map, min, take, drop, Some, refl, sym, ◌∙◌, ap, subst, arith, slice_get, if◌then◌else◌, nat_le, option_and_then, option_map, slice_range, sum_by, unwrap_or, drop-cons}
-use Rattle.std.proofs.lemmas.Bool.{le-leb, lt-leb, lt-ltb}
-use Rattle.std.proofs.lemmas.List.Sums.{sum_by-cons, sum_by-append}
-use Rattle.lemmas.proofs.{range_length, something_at, take_next}
+use Rattle.lemmas.proofs.{get_or_from_slice_get, le-leb, lt-leb, lt-ltb, range_length, slice_get_within, something_at, sum_by-append, sum_by-cons, take_next}
 use Rattle.rdf_values.specs.{cell, ColType, Column, FitRows, FitsColumn, FitsKind, FitsRow, IsTable, kind_at, TableView, Value}
 use Rattle.block_laws.specs.{elements_in, first_length, more_fit, one_more_fits, row_elements}
 use Rattle.block_laws.proofs.BlockCuts.{plain_first}
@@ -10,7 +8,6 @@ use Rattle.std.proofs.lemmas.List.{take_all}
 use Rattle.rdf_values.proofs.Rows.{fits_length}
 use Rattle.loop_keys.proofs.PassNumbers.{some_same}
 use Rattle.loop_keys.proofs.ColumnLaws.{fits_at as fits_rows}
-use Rattle.std.proofs.lemmas.Option.{slice_get_within, get_or_from_slice_get}
 
 -- ---- the cells of an entry
 

@@ -1,24 +1,21 @@
 -- The vectors of a table's column, as a lane.
 use Rattle.std.proofs.Common.{◌≡◌, ◌<◌, ℕ, ℤ, List, [], length, Option, None, Some, get_or, map, slice_get, ap, arith, ◌∷◌, sym, ◌∙◌, subst, ◌≤◌, ◌+◌, true, refl, IfSome, option_and_then, unwrap_or}
-use Rattle.std.proofs.lemmas.Option.{slice_get-get_or, get_or_from_slice_get, slice_get_within}
+use Rattle.lemmas.proofs.{All-from_recursion, AllByRecursion, get_or_from_slice_get, slice_get-get_or, slice_get_within, something_at}
 use Rattle.rdf_values.proofs.KeptLemmas.{cell_of_column, column_length}
 use Rattle.rdf_values.specs.{ActionKind, ColType, columns_of, Value}
 use Rattle.rdf_model.specs.{◌>>=◌, FitsFeed, for_all, Gives, is_set, Outcome}
 use Rattle.graph_numbers.specs.{cell_value, graph_sites, Source, source_value}
 use Rattle.loop_keys.specs.{job_graph, JobView, key, key_under, Place, place_of, row_in, row_of, site_in}
-use Rattle.std.specs.List.{AllByRecursion}
 use Rattle.actions.specs.{Lane, lane_value, SuitsAt, truth_of}
 use Rattle.actions.specs.declared.batch.Sources.TheVariants.{One, Weighted, Pair, WeightedPair}
 use Rattle.block_passes.specs.{AreLanesOf, HasHeld, IsAtHand, IsLaneOf, IsServable, IsWhole, source_fault}
 use Rattle.loop_keys.proofs.SuitsLaws.{integer_fits, numeric_fits, pair_fits, single_fits, triple_fits, weighted_fits}
-use Rattle.lemmas.proofs.{something_at}
 use Rattle.block_cache.specs.{AreReady, holds_at, kinds_of, LaneView, value_of}
 use Rattle.expr_lanes.specs.{at_place, EachPlace}
 use Rattle.loop_keys.proofs.KeyLaws.{key_small}
 use Rattle.block_cache.proofs.CanTries.{got_kind}
 use Rattle.block_cache.proofs.Knowns.{held_no_fault}
 use Rattle.block_passes.proofs.Serving.{lane_gives as site_gives}
-use Rattle.std.proofs.lemmas.List.Elements.{All-from_recursion}
 
 cell_given : (o : Option (List Value)) (col : ℕ) (v : Value) → option_and_then (λ row. slice_get row col) o ≡ Some v → cell_value {M = ⊥} (slice_get (unwrap_or o []) col) ≡ Gives v
 cell_given None col v h = cc h

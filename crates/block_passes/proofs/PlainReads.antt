@@ -1,8 +1,6 @@
 -- What the actions of a loop without vectors read.
 use Rattle.std.proofs.Common.{◌≡◌, ◌⊎◌, inl, inr, ℕ, Bool, ◌<◌, true, false, List, [], ◌∷◌, length, map, option_map, Option, Some, refl, sym, ◌∙◌, ap, subst, slice_get, get_or, unwrap_or}
-use Rattle.std.specs.List.{AllByRecursion}
-use Rattle.std.proofs.lemmas.List.Elements.{recursion_from_All}
-use Rattle.std.proofs.lemmas.Option.{get_or_from_slice_get}
+use Rattle.lemmas.proofs.{AllByRecursion, get_or_from_slice_get, recursion_from_All}
 use Rattle.rdf_values.specs.{ActionKind, AreAccepted, ColType, Column, columns_of, FitsKind, FitsRow, fn_names, history, kind_at, scope_of, Statement, Under, Value}
 use Rattle.rdf_values.specs.declared.scripts.statement.Statement.TheVariants.{Action}
 use Rattle.expr_check.specs.{CheckedExpr, is_vector}

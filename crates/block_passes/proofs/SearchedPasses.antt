@@ -1,7 +1,6 @@
 -- Selections that were made stay made.
 use Rattle.std.proofs.Common.{◌≡◌, ◌⊎◌, inl, inr, ℕ, ◌<◌, List, [], ◌∷◌, ◌++◌, Option, Some, sym, ◌∙◌, ap, subst, slice_get, length, zero, suc, Bool, true, false, refl, arith, ◌-◌, ◌+◌, ◌≤◌, None, get_or, slice_set, slice_range}
-use Rattle.std.specs.List.{AllByRecursion, list_any, range_with_len}
-use Rattle.lemmas.proofs.{lt_or_last, range_length, set_at}
+use Rattle.lemmas.proofs.{AllByRecursion, list_any, lt_or_last, range_length, range_with_len, set_at, slice_get-get_or, slice_get_within}
 use Rattle.block_cache.specs.{LaneView}
 use Rattle.loop_keys.specs.{is_covering, IsCovered, IsJob, IsReportPass, job_graph, JobView, numbered_passes, outcome_of, pass_fault, passes_in, source_at}
 use Rattle.block_passes.specs.{AreAtHand, AreRemade, Chain, fault_of, IsMadeAt, IsMadeBelow, IsNamedMade, IsNarrowed, IsPassMade, IsPassTried, IsPlan, IsPlanMade, IsPlanOfTurn, IsReadBelow, IsReadyInTurn, IsSearched, IsSearchedTo, IsSelectedInTurn, IsSelectedTo, PlanView, turn_job}
@@ -13,7 +12,6 @@ use Rattle.block_passes.specs.declared.turn.Turn.{Turn}
 use Rattle.block_passes.specs.declared.turn.Work.{Work}
 use Rattle.block_passes.proofs.Selecting.{chain_at, kept_inside, narrowed_made, set_behind, set_other, set_same, was_made, was_not, whole_selected, written_selected}
 use Rattle.loop_keys.proofs.PassNumbers.{passes_count, some_same}
-use Rattle.std.proofs.lemmas.Option.{slice_get-get_or, slice_get_within}
 use Rattle.graph_numbers.specs.{FilterAt, graph_filters, graph_results}
 use Rattle.loop_keys.proofs.Covered.{covered_there}
 use Rattle.loop_keys.proofs.ReportTies.{contained_at, of_report}

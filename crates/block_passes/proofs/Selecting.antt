@@ -1,6 +1,6 @@
 -- A step's selection from that of the step above it.
 use Rattle.std.proofs.Common.{◌≡◌, ◌⊎◌, inl, inr, ℕ, ◌+◌, ◌≤◌, Bool, true, ◌&&◌, List, [], length, Option, None, Some, refl, sym, ◌∙◌, ap, subst, arith, if◌then◌else◌, zero, suc, ◌<◌, false, ◌∷◌, slice_get, get_or, ◌++◌, filter, slice_set}
-use Rattle.std.specs.List.{range_with_len}
+use Rattle.lemmas.proofs.{get_or_from_slice_get, kept_at, range_with_len, set-get_or, set_at, set_length, slice_get-get_or, slice_get_read, slice_get_within}
 use Rattle.rdf_model.specs.{fault_in, is_true, Outcome}
 use Rattle.graph_numbers.specs.{through_sites}
 use Rattle.expr_lanes.specs.{AreRising, EachPlace, is_in, IsSelected}
@@ -15,9 +15,6 @@ use Rattle.block_passes.proofs.Demanding.{step_demanded}
 use Rattle.block_passes.proofs.Places.{chosen_below, in_chosen, all_pass, filter_twice, narrowed}
 use Rattle.block_passes.proofs.Searching.{step_fault, step_true, truth_fault, chain_through, both_lower, lowers_as, or_else, none_lowers}
 use Rattle.block_passes.proofs.Spending.{spends_filled}
-use Rattle.std.proofs.lemmas.List.{set-get_or}
-use Rattle.std.proofs.lemmas.Option.{get_or_from_slice_get, slice_get_read, slice_get_within, slice_get-get_or}
-use Rattle.lemmas.proofs.{kept_at, set_at, set_length}
 use Rattle.block_passes.specs.declared.steps.Step.{Step}
 use Rattle.loop_keys.proofs.PassNumbers.{some_same}
 use Rattle.expr_lanes.specs.declared.TheConstants.{MAX_PLACES}

@@ -1,8 +1,6 @@
 -- Filling what a pass reads lowers the limit at its first fault.
 use Rattle.std.proofs.Common.{◌≡◌, ℕ, ◌+◌, ◌<◌, ◌≤◌, Bool, true, false, ◌&&◌, List, Option, None, Some, sym, ◌∙◌, ap, subst, arith, nat_lt, refl, slice_get, if◌then◌else◌, ◌⊎◌, inl, inr, ℤ, get_or, option_map, Result, [], length, pos, ◌∷◌, filter, suc, drop, drop-cons, length-drop}
-use Rattle.std.specs.List.{AllByRecursion}
-use Rattle.std.proofs.lemmas.Bool.Decides.{Decides-ltb}
-use Rattle.std.proofs.lemmas.List.{nil_from_length}
+use Rattle.lemmas.proofs.{AllByRecursion, and_false, and_true, Decides-ltb, lt_says, nil_from_length, same_some, slice_get-get_or, slice_get_read, something_at}
 use Rattle.rdf_model.specs.{◌>>=◌, fault_in, Faults, Gives, Needs, Outcome, tag_element, with_needs}
 use Rattle.graph_numbers.specs.{cell_value, graph_sites, HasInputs, HasSourceIn, IfGiven, IsSiteExpr, Source}
 use Rattle.expr_lanes.specs.{AreRising, at_place, EachPlace, is_in}
@@ -18,9 +16,7 @@ use Rattle.block_passes.specs.declared.turn.Work.{Work}
 use Rattle.block_passes.proofs.Places.{left_below, over_lowers, selected_or_none, filter_twice}
 use Rattle.block_passes.proofs.Searching.{none_lowers, both_lower, lowers_as, or_else, inputs_fault as all_fault}
 use Rattle.block_passes.proofs.Spending.{leaves_then, settled_outside, spends_filled, spends_none, spends_then}
-use Rattle.lemmas.proofs.{and_false, and_true, lt_says, same_some, something_at}
 use Rattle.block_cache.proofs.LaneSteps.{filter_all}
-use Rattle.std.proofs.lemmas.Option.{slice_get-get_or, slice_get_read}
 use Rattle.rdf_model.proofs.Missing.{alike_is, tag_alike}
 use Rattle.expr_eval.specs.{Input, input_outcome}
 use Rattle.loop_keys.proofs.KeyLaws.{key_small}

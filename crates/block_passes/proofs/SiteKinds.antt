@@ -1,10 +1,6 @@
 -- The sites of filters come to truth values.
 use Rattle.std.proofs.Common.{◌≡◌, ◌⊎◌, inl, inr, ℕ, zero, suc, ◌+◌, Bool, false, List, [], ◌∷◌, ◌++◌, map, length, All, Option, Some, None, Result, Ok, Err, refl, sym, ◌∙◌, ap, subst, arith, nat_eq, option_map, slice_get, if◌then◌else◌, ◌<◌, ◌≤◌, length-append, replicate, IsOk, count_by}
-use Rattle.std.specs.List.{AllByRecursion}
-use Rattle.std.proofs.lemmas.Bool.Decides.{Decides-eqb}
-use Rattle.std.proofs.lemmas.List.{append-nil, length-replicate, get_or-replicate}
-use Rattle.std.proofs.lemmas.List.Elements.{recursion_from_All}
-use Rattle.lemmas.proofs.{kept_at, something_at}
+use Rattle.lemmas.proofs.{AllByRecursion, append-nil, cases_eq, Decides-eqb, get_or-replicate, kept_at, length-replicate, recursion_from_All, slice_get-get_or, slice_get_within, something_at}
 use Rattle.rdf_values.specs.{AreAccepted, callee, check_node, check_vector_column, ColType, Column, column_kind, columns_in, expect_kind, fn_names, FunctionNames, GraphCause, history, kind_by, kind_of, makes, NamedTree, NumTree, parent_of, refuse_unless, renamed, scope_at, scope_of, shape_of, Statement, Under, VaryValues}
 use Rattle.rdf_values.specs.declared.scripts.statement.Statement.TheVariants.{Action, Filter, Report, Vary}
 use Rattle.rdf_model.specs.{own_place, Site, site_at}
@@ -25,8 +21,6 @@ use Rattle.block_passes.specs.{Chain, HaveKinds, IsTried}
 use Rattle.block_passes.proofs.Demanding.{in_list, not_empty}
 use Rattle.loop_keys.proofs.PassNumbers.{some_same}
 use Rattle.rdf_values.specs.declared.scripts.vary_values.VaryValues.TheVariants.{Lists, Vector}
-use Rattle.std.proofs.lemmas.Bool.{cases_eq}
-use Rattle.std.proofs.lemmas.Option.{slice_get_within, slice_get-get_or}
 use Rattle.graph.specs.{has, members_below, VarSet}
 use Rattle.loop_keys.proofs.KeptKeys.{members_all}
 use Rattle.loop_keys.proofs.KeyLaws.{keys_next, slot_small}

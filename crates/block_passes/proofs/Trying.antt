@@ -1,14 +1,12 @@
 -- An action's pass, tried part by part.
 use Rattle.std.proofs.Common.{◌≡◌, ℕ, ◌+◌, ◌<◌, ◌≤◌, ℤ, Bool, true, false, List, [], ◌∷◌, length, Option, None, Some, refl, sym, ◌∙◌, ap, subst, arith, slice_get, nat_lt, if◌then◌else◌, nat_eq, slice_set, filter}
-use Rattle.std.specs.List.{AllByRecursion, list_any}
-use Rattle.std.proofs.lemmas.Option.{slice_get_within}
+use Rattle.lemmas.proofs.{AllByRecursion, any_at, Decides-eqb, list_any, recursion_from_All, slice_get_within}
 use Rattle.rdf_values.specs.{ActionKind, ColType, EntryFault}
 use Rattle.rdf_model.specs.{fault_in, is_true, Outcome}
 use Rattle.graph_numbers.specs.{booking_numbers, FilterAt, graph_filters, graph_results, IfPassed, Pass as NumberedPass, ResultAt, through_filter, through_sites}
 use Rattle.expr_lanes.specs.{EachPlace, is_in}
 use Rattle.block_cache.specs.{LaneView}
 use Rattle.loop_keys.specs.{ArePlainVersions, covered_in, covers_of, HasAllDemands, is_covering, IsCovered, IsJob, IsPlainLoop, IsPlainVersion, IsReportPass, job_graph, JobView, numbered_passes, pass_fault, passes_in, site_in, version_in}
-use Rattle.std.proofs.lemmas.List.Elements.{recursion_from_All}
 use Rattle.loop_keys.proofs.ActionLaws.{can_act}
 use Rattle.loop_keys.proofs.TableLaws.{row_there}
 use Rattle.block_passes.specs.{AreAtHand, AreKept, CanGather, CanServe, Chain, chosen, DemandsInputs, filter_fault, filters_fault, inputs_fault, IsActionOf, IsLast, IsMade, IsNamed, IsPassTried, IsPlan, IsReadBelow, IsReadOf, IsReadyBelow, IsSelectedTo, IsServedTo, IsTriedTo, Lowers, PlanView, through_chain, unfed, where_in, where_passed}
@@ -19,8 +17,6 @@ use Rattle.block_passes.proofs.Places.{chosen_below, in_chosen, narrowed}
 use Rattle.block_passes.proofs.Searching.{action_fault, where_split, last_through, report_fault, step_fault, both_lower, lowers_as, or_else}
 use Rattle.block_passes.proofs.Selecting.{written_selected, kept_lower}
 use Rattle.loop_keys.proofs.PassNumbers.{pass_answer, pass_of, some_same}
-use Rattle.std.proofs.lemmas.Bool.Decides.{Decides-eqb}
-use Rattle.lemmas.proofs.{any_at}
 use Rattle.loop_keys.proofs.ReportTies.{contained_at, filter_there, report_fault as its_fault}
 use Rattle.block_passes.specs.declared.plan.NamedSteps.{NamedSteps}
 use Rattle.block_passes.proofs.PlanSteps.{covered_is, one_result}

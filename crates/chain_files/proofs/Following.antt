@@ -1,8 +1,6 @@
 -- What was read so far, line after line: the lines so far begin some part, and the lines of each part can be read.
 use Rattle.std.proofs.Common.{◌≡◌, ◌≤◌, ◌<◌, ◌*◌, ◌-◌, ℕ, true, false, ◌&&◌, Some, List, [], ◌∷◌, ◌++◌, length, map, flat_map, refl, ap, ap₂, ◌∙◌, sym, subst, arith, append_assoc, append-nil, codes, length-append, ◌||◌, nat_eq, nat_le, nat_lt}
-use Rattle.std.specs.List.{list_all}
-use Rattle.std.proofs.lemmas.Bool.Decides.{nat_tests}
-use Rattle.lemmas.proofs.{both_true, if_none, if_some, map_next, neither}
+use Rattle.lemmas.proofs.{both_true, if_none, if_some, list_all, map_next, nat_tests, neither}
 use Rattle.rdf_values.specs.{AreColumns, ColType, Column, has_name, is_name, IsHeader}
 use Rattle.shard_lines.specs.{EachFits, FitLines, FitsLine, ShardLine}
 use Rattle.chain_files.specs.{Begins, ChainFault, FitLoops, FitsFault, is_digest, is_within, IsPart, loop_lines, on_columns, on_within, part_limits, part_lines, part_of, PartLoop, PartView, step, step_at}

@@ -1,9 +1,6 @@
 -- Parts that nothing refuses can be joined.
 use Rattle.std.proofs.Common.{◌≡◌, ◌+◌, ℕ, Bool, true, false, ◌&&◌, cond, None, Some, List, [], ◌∷◌, refl, ap, ap₂, ◌∙◌, sym, not, position}
-use Rattle.std.specs.List.{list_all, position_from}
-use Rattle.std.proofs.lemmas.Iterator.Adapters.{position_from-zero}
-use Rattle.std.proofs.lemmas.Slice.Eq.{bytes_eq-Decides}
-use Rattle.lemmas.proofs.{both_true}
+use Rattle.lemmas.proofs.{both_true, bytes_eq-Decides, list_all, position_from, position_from-zero}
 use Rattle.rdf_values.specs.{ColType, Column, same}
 use Rattle.shard_lines.specs.{PassShape}
 use Rattle.shard_files.specs.{same_column, same_columns, same_kind}

@@ -1,7 +1,6 @@
 -- Lines that so many entries can come to.
 use Rattle.std.proofs.Common.{◌≡◌, ◌≤◌, ◌*◌, ◌^◌, ℕ, Bool, true, ◌&&◌, List, [], ◌∷◌, length, refl, ap₂, arith, nat_abs, nat_le}
-use Rattle.std.specs.List.{list_all}
-use Rattle.lemmas.proofs.{both_true, le_says, le_true}
+use Rattle.lemmas.proofs.{both_true, le_says, le_true, list_all}
 use Rattle.loop_pieces.specs.{Counts}
 use Rattle.histograms.specs.{CellSum}
 use Rattle.shard_lines.specs.{EachFits, FitLines, FitsCell, FitsCount, FitsLine, ShardLine}

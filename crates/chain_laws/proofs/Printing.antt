@@ -1,11 +1,6 @@
 -- Parts of a run, joined in whatever groups, and what is printed of them.
 use Rattle.std.proofs.Common.{Result, Ok, Err, ◌≡◌, ◌≤◌, ◌<◌, ◌+◌, ◌-◌, inl, inr, ℕ, zero, suc, Bool, true, false, ◌&&◌, cond, List, [], ◌∷◌, ◌++◌, length, map, take, drop, nat_lt, Option, None, Some, refl, sym, ap, ap₂, ◌∙◌, subst, arith, append_assoc, append-nil, MatchOption, MatchResult, slice_get, slice_range}
-use Rattle.std.specs.Bool.{MatchBool}
-use Rattle.std.specs.List.{AllByRecursion}
-use Rattle.std.proofs.lemmas.Bool.{le-ltb}
-use Rattle.std.proofs.lemmas.List.{length-map}
-use Rattle.std.proofs.lemmas.List.Elements.{All-from_recursion, recursion_from_All}
-use Rattle.lemmas.proofs.{le_true, lt_not, range_length}
+use Rattle.lemmas.proofs.{All-from_recursion, AllByRecursion, le-ltb, le_true, length-map, lt_not, MatchBool, range_length, recursion_from_All}
 use Rattle.rdf_values.specs.{Column, fn_names, Function, graph_cause_line, GraphCause, long_table_line, MarkedTable, Script, Span, table_cause_line, table_of, TableCause, Value, verdict}
 use Rattle.table_csv.specs.{csv_records}
 use Rattle.shard_runs.specs.{IsChecked}

@@ -1,11 +1,6 @@
 -- Tables of a chain, one after the other.
 use Rattle.std.proofs.Common.{◌≡◌, ◌≤◌, ◌<◌, ◌+◌, inl, ℕ, zero, suc, Bool, true, false, List, [], ◌∷◌, ◌++◌, length, drop, map, Option, None, Some, IfSome, arith, ap, ap₂, refl, sym, subst, ◌∙◌, slice_get}
-use Rattle.std.specs.Bool.{MatchBool}
-use Rattle.std.specs.List.{AllByRecursion, list_all}
-use Rattle.std.proofs.lemmas.List.{length-append, length-map, map-append}
-use Rattle.std.proofs.lemmas.List.Elements.{All-from_recursion}
-use Rattle.std.proofs.lemmas.Slice.Eq.{bytes_eq-Decides}
-use Rattle.lemmas.proofs.{both_true}
+use Rattle.lemmas.proofs.{All-from_recursion, AllByRecursion, both_true, bytes_eq-Decides, length-append, length-map, list_all, map-append, MatchBool}
 use Rattle.rdf_values.specs.{AnswerIn64Bits, ColType, Column, FitRows, fn_names, Function, history, is_name, IsHeader, IsTable, MarkedTable, same, Script, StatementsHaveWords, TableView, Value, verdict}
 use Rattle.rdf_model.specs.{Printed}
 use Rattle.graph_numbers.specs.{GraphView}

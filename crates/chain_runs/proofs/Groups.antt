@@ -1,9 +1,7 @@
 -- Parts over some files each of one chain, named in any order.
 use Rattle.std.proofs.Common.{◌≡◌, ℕ, zero, suc, ◌+◌, ◌-◌, ◌<◌, ◌≤◌, Bool, true, false, not, ◌&&◌, List, [], ◌∷◌, length, map, drop, take, fold, None, refl, sym, ap, ap₂, ◌∙◌, subst, arith, if◌then◌else◌, slice_range}
 use Rattle.std.specs.Prelude.{⊤}
-use Rattle.std.specs.List.{AllByRecursion}
-use Rattle.std.proofs.lemmas.List.Elements.{All-from_recursion, recursion_from_All}
-use Rattle.lemmas.proofs.{range_length}
+use Rattle.lemmas.proofs.{All-from_recursion, AllByRecursion, range_length, recursion_from_All}
 use Rattle.rdf_values.specs.{ColType, Pass, Script, Span, Value}
 use Rattle.rdf_model.proofs.Accepted.{itself}
 use Rattle.loop_pieces.proofs.Places.{ranges_join}

@@ -1,9 +1,6 @@
 -- The loops of a run over a chain have the shapes of the script's passes.
 use Rattle.std.proofs.Common.{◌≡◌, ℕ, ◌<◌, true, ◌&&◌, List, [], ◌∷◌, length, map, Option, None, Some, refl, ap₂, ap, ◌∙◌, arith}
-use Rattle.std.specs.List.{AllByRecursion}
-use Rattle.std.proofs.lemmas.List.{length-map}
-use Rattle.std.proofs.lemmas.List.Elements.{recursion_from_All}
-use Rattle.lemmas.proofs.{lt_true}
+use Rattle.lemmas.proofs.{AllByRecursion, length-map, lt_true, recursion_from_All}
 use Rattle.rdf_values.specs.{ActionAt, Booking, ColType, Pass, ReportOn, Script, Value}
 use Rattle.shard_lines.specs.{booking_shape, PassShape}
 use Rattle.shard_spans.specs.{loops_of, pass_line, pass_shapes}

@@ -1,7 +1,6 @@
 -- The line of a fault with its file, from the line without.
 use Rattle.std.proofs.Common.{◌≡◌, ◌-◌, ◌++◌, ℕ, List, [], ◌∷◌, length, drop, take, sym, ap, ◌∙◌, append_assoc, codes, decimal, slice_get}
-use Rattle.std.proofs.Math.Seq.{take-length}
-use Rattle.std.proofs.lemmas.List.{length-drop}
+use Rattle.lemmas.proofs.{length-drop, take-length}
 use Rattle.rdf_values.specs.{Fault, Pass}
 use Rattle.rdf_model.specs.{fault_line, fault_name, pass_label}
 use Rattle.chain_files.specs.{ChainFault}

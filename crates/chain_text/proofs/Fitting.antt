@@ -1,8 +1,6 @@
 -- Loops with the shapes of a graph's passes fit the graph.
 use Rattle.std.proofs.Common.{◌≡◌, ℕ, zero, suc, ◌<◌, ◌≤◌, true, ◌&&◌, List, [], ◌∷◌, length, map, Option, None, Some, refl, sym, ap, ◌∙◌, arith, option_map, slice_get, unwrap_or}
-use Rattle.std.proofs.lemmas.List.{length-map}
-use Rattle.std.proofs.lemmas.Option.{same_Some, slice_get-map}
-use Rattle.lemmas.proofs.{and_right, lt_says}
+use Rattle.lemmas.proofs.{and_right, length-map, lt_says, same_Some, slice_get-map}
 use Rattle.rdf_values.specs.{Booked, ColType, history, Pass}
 use Rattle.rdf_model.specs.{loop_passes, loop_results}
 use Rattle.graph_numbers.specs.{graph_loops, GraphView, pass_at}

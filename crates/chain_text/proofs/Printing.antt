@@ -1,7 +1,6 @@
 -- The Prints in order, and what each gives.
 use Rattle.std.proofs.Common.{◌≡◌, ℕ, ◌+◌, ◌≤◌, List, [], ◌++◌, length, drop, Option, Some, sym, ap, ◌∙◌, append-nil, option_map, slice_get}
-use Rattle.std.proofs.lemmas.Option.{same_Some}
-use Rattle.lemmas.proofs.{none_left}
+use Rattle.lemmas.proofs.{none_left, same_Some}
 use Rattle.rdf_model.specs.{Access, accesses, in_front_of, loop_of, Printed}
 use Rattle.graph_numbers.specs.{booked_statements, GraphView}
 use Rattle.result_text.specs.{passes_at}

@@ -1,8 +1,6 @@
 -- A tally after a block fed a pass, and at the ends of a block.
 use Rattle.std.proofs.Common.{◌≡◌, ℕ, ◌+◌, ◌<◌, ◌≤◌, List, [], ◌++◌, length, map, Option, None, Some, inl, inr, refl, sym, ap, ap₂, ◌∙◌, subst, arith, append_assoc, Err, Ok, OnOk, Result, slice_get, slice_set}
-use Rattle.std.proofs.lemmas.List.{length-map, length-set}
-use Rattle.std.proofs.lemmas.Option.{same_Some, slice_get_within}
-use Rattle.lemmas.proofs.{mapped_at, something_at}
+use Rattle.lemmas.proofs.{length-map, length-set, mapped_at, same_Some, slice_get_within, something_at}
 use Rattle.rdf_values.proofs.Below.{map-below}
 use Rattle.rdf_values.specs.{ActionKind, feed_fault}
 use Rattle.rdf_model.specs.declared.loop_facts.LoopFacts.{LoopFacts}

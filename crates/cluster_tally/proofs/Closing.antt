@@ -1,10 +1,7 @@
 -- The end of a cluster.
 use Rattle.std.proofs.Common.{◌≡◌, ℕ, zero, suc, ◌+◌, ◌<◌, List, [], ◌∷◌, ◌++◌, length, map, take, drop, set, get_or, Option, None, Some, refl, sym, ap, ap₂, ◌∙◌, subst, arith, append_assoc, append-nil, All, Err, Ok, OnOk, Result, flat_map, slice_get}
-use Rattle.std.specs.List.Sorted.{IsStrictlyIncreasing}
+use Rattle.lemmas.proofs.{All-push, All-weaker, flat_map-append, IsStrictlyIncreasing, same_Some, slice_get-get_or}
 use Rattle.std.proofs.lemmas.List.{drop-drop, drop-set-lt, drop_more, length-map, length-set, map-append, map_more, take_all, take_more_set}
-use Rattle.std.proofs.lemmas.List.Concat.{flat_map-append}
-use Rattle.std.proofs.lemmas.List.Elements.{All-push, All-weaker}
-use Rattle.std.proofs.lemmas.Option.{same_Some, slice_get-get_or}
 use Rattle.rdf_values.proofs.Below.{map-below}
 use Rattle.rdf_values.proofs.DrawCounts.{rises_push}
 use Rattle.rdf_values.specs.{ActionKind, fold_items, Item, Span}

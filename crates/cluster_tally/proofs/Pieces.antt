@@ -1,8 +1,6 @@
 -- A tally's first and last moments.
 use Rattle.std.proofs.Common.{◌≡◌, ℕ, ◌+◌, List, [], ◌∷◌, ◌++◌, length, map, Bool, true, false, Option, Some, inl, inr, refl, sym, ap, ap₂, ◌∙◌, subst, arith, append-nil, slice_get}
-use Rattle.std.proofs.lemmas.List.{length_push, map-append}
-use Rattle.std.proofs.lemmas.Option.{slice_get-get_or}
-use Rattle.lemmas.proofs.{before_or_last, kept_at, last_at}
+use Rattle.lemmas.proofs.{before_or_last, kept_at, last_at, length_push, map-append, slice_get-get_or}
 use Rattle.rdf_values.proofs.Below.{map-below}
 use Rattle.rdf_values.specs.{ActionKind}
 use Rattle.rdf_model.specs.declared.loop_facts.LoopFacts.{LoopFacts}

@@ -1,8 +1,6 @@
 -- The beginning of clusters.
 use Rattle.std.proofs.Common.{◌≡◌, ℕ, ◌<◌, List, [], ◌∷◌, length, map, replicate, Some, refl, sym, ap, ap₂, ◌∙◌, subst, arith, add-zero, append-nil, slice_get}
-use Rattle.std.proofs.lemmas.List.{length-map, map-id}
-use Rattle.std.proofs.lemmas.Simd.{map-map}
-use Rattle.std.proofs.lemmas.List.Elements.{All-nil}
+use Rattle.lemmas.proofs.{All-nil, length-map, map-id, map-map}
 use Rattle.rdf_values.proofs.Below.{length-below, map-below}
 use Rattle.rdf_values.proofs.UnionLemmas.{none_rises}
 use Rattle.rdf_values.specs.{ActionKind, below}

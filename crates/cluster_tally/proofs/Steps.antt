@@ -1,10 +1,6 @@
 -- What is taken in of a cluster, and what a block adds.
 use Rattle.std.proofs.Common.{◌≡◌, ℕ, ◌+◌, ◌<◌, ◌≤◌, ◌^◌, List, [], ◌∷◌, ◌++◌, length, take, drop, cond, Option, None, Some, sym, ap, ap₂, ◌∙◌, arith, append-nil, add_assoc, length-append, ◌-◌, count_by, flat_map, slice_get}
-use Rattle.std.proofs.lemmas.Grind.{common_steps}
-use Rattle.std.proofs.lemmas.List.{length-drop, length-take, map-append}
-use Rattle.std.proofs.lemmas.List.Concat.{flat_map-append}
-use Rattle.std.proofs.lemmas.List.Sums.{sum_by-append}
-use Rattle.lemmas.proofs.{take_plus}
+use Rattle.lemmas.proofs.{common_steps, flat_map-append, length-drop, length-take, map-append, sum_by-append, take_plus}
 use Rattle.rdf_values.proofs.DrawCounts.{rises_push}
 use Rattle.rdf_values.specs.{Item, Span}
 use Rattle.rdf_model.specs.{if_there, is_passed, is_reached, list_at, Reach, rows_in, span_rows}

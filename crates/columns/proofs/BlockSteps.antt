@@ -1,9 +1,7 @@
 -- Blocks give their numbers back, and one more block.
 use Rattle.std.proofs.Common.{◌≡◌, ◌≤◌, ◌<◌, ◌+◌, ◌-◌, ◌*◌, ℕ, zero, suc, ℤ, pos, ◌-ℤ◌, List, [], ◌∷◌, ◌++◌, length, get_or, drop, take, map, refl, sym, ap, ap₂, ◌∙◌, subst, arith, append_assoc, append-nil, length-append, unsigned_abs, All}
 use Rattle.std.proofs.lemmas.List.{drop-append-le, length-drop, take-append-drop, take-append-le, take_all, take_more}
-use Rattle.std.proofs.lemmas.List.Elements.{All-append, All-cons}
-use Rattle.std.proofs.Math.Seq.{drop-append_seam}
-use Rattle.std.specs.Int.RustNames.{FitsSigned}
+use Rattle.lemmas.proofs.{All-append, All-cons, drop-append_seam, FitsSigned}
 use mir.Syntax.{w64}
 use Rattle.columns.specs.{AreBlocks, block_values, IsBlock, IsWidth, low_bytes, packed_by, packed_of, packing_of}
 use Rattle.columns.specs.declared.packed_ints.Block.{Block}

@@ -1,12 +1,7 @@
 -- The ranges of clusters of one size.
 use Rattle.std.proofs.Common.{◌≡◌, ◌≤◌, ◌<◌, ◌+◌, ◌*◌, ◌/◌, ℕ, List, [], length, min, Some, arith, refl, ◌∙◌, ap, slice_get}
-use Rattle.std.specs.Int.{div_ceil}
-use Rattle.std.proofs.lemmas.Grind.{div_ceil_times}
-use Rattle.std.proofs.lemmas.List.{length-map}
-use Rattle.std.proofs.lemmas.Nat.{mul-le}
-use Rattle.std.proofs.lemmas.Option.{slice_get-map}
+use Rattle.lemmas.proofs.{div_ceil, div_ceil_times, length-map, mul-le, mul_comm, slice_get-map}
 use native.Mathlib.Nat.{add-mul}
-use Rattle.std.proofs.Math.Nat.{mul_comm}
 use Rattle.rdf_values.proofs.Below.{length-below, slice_get-below}
 use Rattle.rdf_values.proofs.Evenly.{unmarked_cuts_are_even}
 use Rattle.rdf_values.specs.{below, cut, even_cut}

@@ -1,8 +1,6 @@
 -- Ranges by their ends.
 use Rattle.std.proofs.Common.{◌≡◌, ◌≢◌, ◌≤◌, ◌<◌, ◌-◌, ℕ, zero, suc, true, false, leb, List, [], ◌∷◌, ◌++◌, length, get_or, Some, arith, refl, ap, sym, ◌∙◌, ◌⊎◌, inl, inr, slice_get}
-use Rattle.std.specs.List.{AllWithin}
-use Rattle.std.proofs.lemmas.Bool.Decides.{nat_tests}
-use Rattle.lemmas.proofs.{le_or_lt}
+use Rattle.lemmas.proofs.{AllWithin, le_or_lt, nat_tests}
 use Rattle.rdf_values.specs.{Lead, Span}
 use Rattle.columns.specs.{Holds, ranges_to}
 

@@ -2,9 +2,7 @@
 use Rattle.std.proofs.Common.{◌≡◌, ◌≤◌, ◌<◌, ◌+◌, ◌-◌, ℕ, ℤ, List, [], ◌∷◌, ◌++◌, length, get_or, drop, take, max, min, refl, sym, ap, ap₂, ◌∙◌, arith, append-nil, length-append}
 use borrow.Rule.Slice.PartMut.{mid_len, mid_of, put_mid}
 use Rattle.std.proofs.lemmas.List.{drop-append-le, drop-drop, length-drop, length-take-le, take-append-drop, take-append-le, take_all, take_more}
-use Rattle.std.proofs.lemmas.Slice.{take-put_mid}
-use Rattle.std.proofs.lemmas.Grind.{flat_map-append}
-use Rattle.std.proofs.Math.Seq.{drop-append-add, take-add}
+use Rattle.lemmas.proofs.{drop-append-add, flat_map-append, take-add, take-put_mid}
 use Rattle.columns.specs.{joined}
 
 -- ---- the first pieces

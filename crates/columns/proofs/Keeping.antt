@@ -1,8 +1,6 @@
 -- What is kept gives the table's columns.
 use Rattle.std.proofs.Common.{◌≡◌, ◌≤◌, ◌<◌, ◌-◌, ◌+◌, ℕ, zero, suc, ℤ, List, [], ◌∷◌, ◌++◌, length, get_or, drop, take, map, Some, refl, sym, ap, ap₂, ◌∙◌, arith, slice_get}
-use Rattle.std.specs.List.{AllByRecursion}
-use Rattle.std.proofs.lemmas.List.{length-drop, length-map, length-take, map-append, take-append-drop}
-use Rattle.std.proofs.lemmas.Option.{get_or_from_slice_get, slice_get-get_or, slice_get-map, slice_get_within}
+use Rattle.lemmas.proofs.{AllByRecursion, get_or_from_slice_get, length-drop, length-map, length-take, map-append, slice_get-get_or, slice_get-map, slice_get_within, take-append-drop}
 use Rattle.rdf_values.specs.{AreKept, ColType, Column, count, cut, IsIntColumn, Keep, kind_at, rows_kept, Span, TableView, Value}
 use Rattle.rdf_values.proofs.Leading.{cuts_lead}
 use Rattle.columns.specs.{cells_of, cluster_values, ColumnPieces, Holds, IsByCluster, joined, whole}

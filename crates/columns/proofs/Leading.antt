@@ -1,8 +1,6 @@
 -- Ranges that follow one another hold each number once, and cuts whose ranges are kept by their ends.
 use Rattle.std.proofs.Common.{◌≡◌, ◌≤◌, ◌<◌, ◌+◌, ℕ, zero, suc, true, false, leb, List, [], ◌∷◌, length, arith, refl, ap, sym, ◌∙◌, ◌⊎◌, inl, inr}
-use Rattle.std.specs.List.{AllWithin}
-use Rattle.std.specs.List.Sorted.{IsNonDecreasingBy}
-use Rattle.lemmas.proofs.{lt_or_le}
+use Rattle.lemmas.proofs.{AllWithin, IsNonDecreasingBy, lt_or_le}
 use Rattle.rdf_values.specs.{cut, Lead, Span}
 use Rattle.rdf_values.proofs.Leading.{cuts_lead}
 use Rattle.columns.specs.{Holds, IsInOne, ranges_to}

@@ -1,15 +1,10 @@
 -- Numbers are read from their bytes.
 use Rattle.std.proofs.Common.{◌≡◌, ◌≤◌, ◌<◌, ◌+◌, ◌-◌, ◌*◌, ◌%◌, ◌^◌, ◌++◌, ℕ, zero, suc, ℤ, pos, ◌+ℤ◌, List, [], ◌∷◌, length, get_or, set, drop, take, map, Some, refl, sym, ap, ap₂, ◌∙◌, subst, arith, slice_get, All}
 use Rattle.std.specs.Int.{cast_signed, cast_unsigned, int_wrap}
-use Rattle.std.specs.Int.RustNames.{FitsSigned}
+use Rattle.lemmas.proofs.{All-drop, All-take, drop_plus, Fits-lt-pow, Fits-of_z, FitsSigned, int_wrap-add_right, int_wrap_fits, slice_get-get_or, to_z-of_z, wrapping_add-bits}
 use mir.Syntax.{w64}
-use Rattle.std.proofs.Math.Facts.{Fits-lt-pow, Fits-of_z}
-use Rattle.std.proofs.lemmas.Int.{int_wrap-add_right, int_wrap_fits, to_z-of_z, wrapping_add-bits}
 use Rattle.std.proofs.lemmas.List.{get_or_append_left, length-drop, length-take, take_all, take_more, take_more_set}
-use Rattle.std.proofs.lemmas.List.Elements.{All-drop, All-take}
-use Rattle.std.proofs.lemmas.Option.{slice_get-get_or}
 use native.Mathlib.Nat.{add-mul, mul-le-mul_right}
-use Rattle.lemmas.proofs.{drop_plus}
 use Rattle.rdf_values.specs.{cut, Span}
 use Rattle.rdf_values.proofs.Leading.{cuts_lead}
 use Rattle.columns.specs.{AreBlocks, AreNumbers, block_values, cluster_values, IsBlock, number_in, values_in}

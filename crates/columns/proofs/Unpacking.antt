@@ -1,16 +1,8 @@
 -- Packed bytes give their numbers back.
 use Rattle.std.proofs.Common.{◌≡◌, ◌≤◌, ◌<◌, ◌+◌, ◌*◌, ◌%◌, ◌^◌, ℕ, zero, suc, ℤ, pos, ◌+ℤ◌, ◌-ℤ◌, ◌≤ℤ◌, Bool, true, false, List, [], ◌∷◌, ◌++◌, length, drop, take, Some, refl, sym, ap, ap₂, ◌∙◌, ◌⊎◌, inl, inr, arith, append_assoc, length-append, unsigned_abs, slice_get, if◌then◌else◌, nat_lt, nat_eq, All}
-use Rattle.std.specs.Int.{int_max, int_min, to_le_bytes}
-use Rattle.std.specs.Int.RustNames.{FitsSigned}
-use Rattle.std.specs.List.{AllByRecursion}
+use Rattle.lemmas.proofs.{All-from_recursion, All-head, All-tail, AllByRecursion, clamps, drop-append_seam, drop_plus, FitsSigned, from_le_bytes-to_le_bytes_2, from_le_bytes-to_le_bytes_4, from_le_bytes-to_le_bytes_8, int_max, int_min, ints, nat_tests, recursion_from_All, to_le_bytes}
 use mir.Syntax.{w64}
-use Rattle.std.proofs.lemmas.Int.{clamps, ints}
-use Rattle.std.proofs.lemmas.Bool.Decides.{nat_tests}
-use Rattle.std.proofs.lemmas.List.Elements.{All-from_recursion, All-head, All-tail, recursion_from_All}
-use Rattle.std.proofs.lemmas.Nat.{from_le_bytes-to_le_bytes_2, from_le_bytes-to_le_bytes_4, from_le_bytes-to_le_bytes_8}
 use native.Mathlib.Nat.{add-mul}
-use Rattle.std.proofs.Math.Seq.{drop-append_seam}
-use Rattle.lemmas.proofs.{drop_plus}
 use Rattle.columns.specs.{greatest_from, IsWidth, least_from, low_bytes, number_in, packed_by, packing_of, values_in, width_of}
 use Rattle.columns.specs.declared.packing.Packing.{Packing}
 

@@ -1,10 +1,6 @@
 -- One more entry of a walk along marks.
 use Rattle.std.proofs.Common.{if◌then◌else◌, ◌≡◌, ◌≢◌, ◌≤◌, ◌<◌, ◌+◌, ◌-◌, ℕ, zero, suc, Bool, true, false, ◌||◌, List, [], ◌∷◌, ◌++◌, length, get_or, arith, refl, ap, sym, ◌∙◌, ◌⊎◌, inl, inr, subst, nat_eq, nat_lt}
-use Rattle.std.specs.List.{list_any}
-use Rattle.std.specs.List.Sorted.{IsStrictlyIncreasing}
-use Rattle.std.proofs.lemmas.Bool.Decides.{Decides-eqb, nat_tests}
-use Rattle.std.proofs.lemmas.List.Kept.{AllPairs-from_increasing}
-use Rattle.lemmas.proofs.{or_fails, or_left, or_right, or_true}
+use Rattle.lemmas.proofs.{AllPairs-from_increasing, Decides-eqb, IsStrictlyIncreasing, list_any, nat_tests, or_fails, or_left, or_right, or_true}
 use Rattle.rdf_values.specs.{begins_at, cut, cut_from, Span}
 use Rattle.columns.specs.{IsAhead, IsPassed, ranges_to}
 use Rattle.columns.proofs.Ends.{last_or, last_push, ranges_push}

@@ -1,8 +1,6 @@
 -- Columns of a test that are of the kinds that a scope says.
 use Rattle.std.proofs.Common.{◌≡◌, ◌≤◌, ◌+◌, ℕ, Bool, true, false, List, [], ◌∷◌, ◌++◌, Some, Result, Ok, All, refl, subst, cond, nat_eq, nat_le, length, arith, slice_get}
-use Rattle.std.specs.List.{AllByRecursion}
-use Rattle.std.proofs.lemmas.Bool.Decides.{Decides-eqb}
-use Rattle.std.proofs.lemmas.List.Elements.{recursion_from_All, All-from_recursion}
+use Rattle.lemmas.proofs.{All-from_recursion, AllByRecursion, Decides-eqb, recursion_from_All}
 use Rattle.expr_check.proofs.ScopeKinds.{each_weaker}
 use Rattle.rdf_values.specs.{ColType, GraphCause, ScopeColumn, Value}
 use Rattle.rdf_model.specs.{FitsOutcome, Needs, Outcome}

@@ -1,8 +1,6 @@
 -- The completed loop that fills a result, and what a session is after an access.
 use Rattle.std.proofs.Common.{if◌then◌else◌, ◌≡◌, ◌⊎◌, inl, inr, ℕ, ◌+◌, ◌<◌, ◌≤◌, Bool, true, false, List, [], ◌∷◌, ◌++◌, length, Option, Some, None, sym, ◌∙◌, ap, subst, arith, slice_get, unwrap_or, take, refl, length-append, IfSome, filter_map, option_map}
-use Rattle.std.proofs.lemmas.Bool.{cases_lt}
-use Rattle.std.proofs.lemmas.Option.{slice_get_within, IfSome_then}
-use Rattle.lemmas.proofs.{something_at, before_or_last, kept_at, same_some, take_next}
+use Rattle.lemmas.proofs.{before_or_last, cases_lt, cons_option, filter_map-append, IfSome_then, kept_at, same_some, slice_get_within, something_at, take_next}
 use Rattle.rdf_values.specs.{Booked, history, Pass, passes_of, Fault, first_in, Statement}
 use Rattle.rdf_model.specs.{kind_in, kinds_in, loop_passes, loop_results, Access, accesses, ComesInTurn, Dataset, filled_by, first_fault, first_fault_from, loop_of, loops_before}
 use Rattle.graph_numbers.specs.{graph_loops, graph_results, ResultAt, graph_prints}
@@ -18,13 +16,11 @@ use Rattle.event_loop.proofs.Found.{watched-append, in_turn}
 use Rattle.event_loop.proofs.LoopResults.{many}
 use Rattle.event_loop.proofs.Printed.{place_first, printed_has_loop}
 use Rattle.graph.proofs.Listing.{place_at}
-use Rattle.std.specs.List.{cons_option}
 use Rattle.rdf_values.specs.declared.scripts.statement.Statement.TheVariants.{Print}
 use Rattle.rdf_values.proofs.Leading.{cuts_lead}
 use Rattle.rdf_model.proofs.Turns.{loops_come_in_turn}
 use Rattle.loop_pieces.proofs.ClusterFaults.{first_cluster_has_first_fault}
 use Rattle.event_loop.specs.declared.kept.Kept.{Kept}
-use Rattle.std.proofs.lemmas.List.Elements.{filter_map-append}
 
 -- ---- loops by their numbers
 

@@ -1,12 +1,7 @@
 -- One more pass, and what an accepted script says of its actions: their edges are those of an axis, and only numbers are watched.
 use Rattle.std.proofs.Common.{◌≡◌, inl, inr, ℕ, ◌≤◌, Bool, true, false, List, [], ◌∷◌, ◌++◌, length, map, None, Some, refl, sym, ◌∙◌, ap, subst, arith, slice_get, append-nil, if◌then◌else◌, ◌+◌, ◌<◌, ◌^◌, take, get_or, Option, unwrap_or, option_map, is_none}
-use Rattle.std.specs.List.{AllByRecursion}
+use Rattle.lemmas.proofs.{All-map, All-permutation, AllByRecursion, and_right, IsPermutation-reverse, length-map, mapped_at, recursion_from_All, same_Some, same_some, something_at, take_front, take_next}
 use Rattle.std.proofs.lemmas.Bool.{and_parts, both_ways, or_cases, or_left, or_right}
-use Rattle.std.proofs.lemmas.List.Elements.{All-map}
-use Rattle.std.proofs.lemmas.List.Sorted.{All-permutation, IsPermutation-reverse}
-use Rattle.std.proofs.lemmas.List.{length-map}
-use Rattle.std.proofs.lemmas.List.Elements.{recursion_from_All}
-use Rattle.lemmas.proofs.{and_right, same_some, something_at, take_front, mapped_at, take_next}
 use Rattle.rdf_values.specs.{ActionAt, ActionKind, among, are_edges, AreAccepted, Booked, booked_by, bookings, can_watch, check, check_edges, FunctionNames, GraphCause, history, is_result, is_watched, IsBookable, IsShort, Line, names_of, Path, refuse_unless, result_is, same, Scope, Script, Statement, fn_names, named_before, Pass, scope_of, variations}
 use Rattle.rdf_values.specs.declared.scripts.statement.Statement.TheVariants.{Action, Watch}
 use Rattle.rdf_model.proofs.Accepted.{both_none, names_equal, third, unless_holds}
@@ -16,7 +11,6 @@ use Rattle.graph_numbers.proofs.Listed.{by_test, of_joined, only_at}
 use Rattle.graph.proofs.Filled.{all_in_turn, later_named}
 use Rattle.cluster_tally.specs.{CanWatch, IsFresh, place_if, TallyView}
 use Rattle.event_loop.proofs.LoopResults.{kept_any, one_number}
-use Rattle.std.proofs.lemmas.Option.{same_Some}
 use Rattle.rdf_model.specs.{is_covered, kind_in, kinds_in}
 use Rattle.graph_numbers.specs.{graph_filters, graph_loops, graph_results, graph_under, graph_variations, GraphView, kind_of_booking, Pass as NumberedPass, ResultAt, ResultKind, under_at}
 use Rattle.graph_numbers.proofs.Resulting.{booked_are}

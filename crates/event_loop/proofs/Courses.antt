@@ -1,8 +1,6 @@
 -- What one Print adds to a text, the course of a run, and its whole text.
 use Rattle.std.proofs.Common.{if◌then◌else◌, ◌≡◌, ℕ, zero, suc, ◌<◌, Bool, true, false, List, [], ◌∷◌, ◌++◌, length, filter, Option, Some, None, refl, sym, ◌∙◌, ap, ap₂, subst, arith, append-nil, append_assoc, IfSome, flat_map, option_map, slice_get, unwrap_or, ◌+◌, ◌≤◌, drop}
-use Rattle.std.proofs.lemmas.List.{length-map}
-use Rattle.std.proofs.lemmas.Option.{slice_get-map, slice_get_within}
-use Rattle.lemmas.proofs.{none_left, same_some, something_at}
+use Rattle.lemmas.proofs.{length-map, none_left, same_some, slice_get-map, slice_get_within, something_at}
 use Rattle.rdf_values.specs.{Booked, bookings, Fault, history, Pass, results_named, same, cut, Span, stride}
 use Rattle.rdf_model.specs.{Access, access_printed, accesses, Course, Dataset, in_front_of, loop_passes, loop_results, named_lines, Printed, result_lines, access_passes, first_fault, IsChain, IsCourse, printed}
 use Rattle.rdf_model.proofs.Accepted.{names_equal}

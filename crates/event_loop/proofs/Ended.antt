@@ -1,15 +1,11 @@
 -- What the slots of a loop tell once all have stopped.
 use Rattle.std.proofs.Common.{◌≡◌, ℕ, suc, ◌-◌, ◌<◌, ◌≤◌, List, ◌∷◌, ◌++◌, length, get_or, drop, Option, Some, sym, ap, ◌∙◌, subst, arith, drop-cons, ◌⊎◌, zero, min, [], map, None, refl, inl, inr, ⊎_elim, flat_map, slice_get, IfSome, IsSomeAnd}
-use Rattle.std.specs.List.{All, concat}
-use Rattle.std.proofs.lemmas.List.Elements.{All-cons, All-nil, All-head, All-tail}
-use Rattle.lemmas.proofs.{same_some}
+use Rattle.lemmas.proofs.{All, All-cons, All-head, All-nil, All-tail, cases_lt, concat, same_some, slice_get-get_or}
 use Rattle.rdf_values.specs.{Fault, least_fault, DrawnBy, first_in, once_below, times}
 use Rattle.event_loop.specs.{end_faults, fault_of, HasMemory, IsServed, SlotView, AreDone, AreFacts, done_in, done_or_none, finished_by, HasStopped, HasWorked, IsDone, JobFacts, seat_in, Stopped}
 use Rattle.event_loop.specs.declared.workers.Finished.{Finished}
 use Rattle.event_loop.specs.declared.workers.End.{End}
 use Rattle.event_loop.specs.declared.workers.End.TheVariants.{Over, Faulted, NoMemory}
-use Rattle.std.proofs.lemmas.Bool.{cases_lt}
-use Rattle.std.proofs.lemmas.Option.{slice_get-get_or}
 use Rattle.rdf_values.proofs.DrawCounts.{times_concat, times_push, counts_by_drawn, once_inside, inside_once, times_self}
 use Rattle.rdf_values.proofs.UnionLemmas.{drawn_lists_unite}
 use Rattle.merge_core.proofs.Faults.{Among, Told, told_nothing, told_both, first_told, among_left, among_right}

@@ -1,10 +1,6 @@
 -- The passes of a loop by numbers and by names, and the place of a result among them.
 use Rattle.std.proofs.Common.{if◌then◌else◌, ◌≡◌, ℕ, ◌+◌, ◌<◌, Bool, true, false, ◌&&◌, List, [], ◌∷◌, ◌++◌, map, take, drop, length, Option, None, Some, refl, sym, ap, ◌∙◌, subst, arith, length-append, append_assoc, is_none, option_map, slice_get, ◌*◌, ◌≤◌, filter, ◌⊎◌, inl, inr, ap₂, count_by}
-use Rattle.std.proofs.lemmas.Bool.{cond_both}
-use Rattle.std.proofs.lemmas.List.{length-map, take-append-drop}
-use Rattle.std.proofs.lemmas.List.Concat.{flat_map-append}
-use Rattle.std.proofs.lemmas.Option.{slice_get-map}
-use Rattle.lemmas.proofs.{and_false, kept_at, mapped_at, same_some, something_at, take_front, take_next}
+use Rattle.lemmas.proofs.{and_false, cond_both, flat_map-append, kept_at, length-map, mapped_at, nat_tests, position, same_some, slice_get-map, something_at, take-append-drop, take_front, take_next}
 use Rattle.rdf_values.specs.{Booked, bookings, is_watched, Pass, Statement, Under, has_variations, passes_of, result_depends, Variation, variations, scope_of}
 use Rattle.rdf_model.specs.{kind_in, kinds_in, loop_passes, loop_results}
 use Rattle.graph_numbers.specs.{booked_statements, graph_loops, graph_results, graph_variations, GraphView, Pass as NumberedPass, pass_at, ResultAt, under_at, result_passes, IsGraph}
@@ -19,8 +15,6 @@ use Rattle.loop_keys.proofs.EntryLaws.{actions_few, all_taken}
 use Rattle.loop_keys.proofs.PassCounts.{loop_few as passes_few}
 use Rattle.event_loop.proofs.LoopResults.{IsFound, IsMissed, found_or_missed, NoneOf, count_own, is_of, own_all, position_first, position_none}
 use Rattle.std.specs.Prelude.{⊤}
-use Rattle.std.specs.List.{position}
-use Rattle.std.proofs.lemmas.Bool.Decides.{nat_tests}
 use Rattle.rdf_model.proofs.Verdicts.{verdict_is_the_first_refusal}
 use Rattle.graph.specs.{AreNamedInTurn}
 use Rattle.graph.proofs.Filled.{all_in_turn}

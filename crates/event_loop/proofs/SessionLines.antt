@@ -1,7 +1,6 @@
 -- The lines of what a session filled: of actions, of watched results and of reports.
 use Rattle.std.proofs.Common.{◌≡◌, ℕ, zero, suc, ◌+◌, ◌*◌, ◌<◌, List, [], ◌∷◌, ◌++◌, length, Some, refl, sym, ◌∙◌, ap, ap₂, subst, arith, append_assoc, length-append, flat_map, slice_get, ◌-◌, ◌≤◌, Bool, true, false, map, None, if◌then◌else◌, All, codes, ◌⊎◌, inl, inr, Option, filter, option_map, unwrap_or, ◌^◌, append-nil, Result, Ok, Err, OnOk}
-use Rattle.std.proofs.lemmas.List.{length-map}
-use Rattle.lemmas.proofs.{something_at, same_some}
+use Rattle.lemmas.proofs.{All-from_recursion, AllByRecursion, cond_both, eqb-true, join_with_byte, length-map, same_some, slice_get-map, something_at}
 use Rattle.rdf_values.specs.{ActionAt, ActionKind, Booked, Booking, Pass, Path, Span, Filled, line, below, Column, fn_names, Function, FunctionNames, has_variations, named_before, passes_of, ReportOn, result_depends, Statement, Variation, variations, varied_passes, cut, history, is_watched, Lead}
 use Rattle.rdf_model.specs.{action_pass, booking_lines, Dataset, filled_lines, kind_in, kinds_in, label, loop_facts, over_clusters, pass_lines, pass_result, in_front, maximal_runs, partial_line, partial_result, Run, run_text, value_text, cutflow, filter_label, first_fault, Course, flow_lines, loop_of, partial_lines}
 use Rattle.actions.specs.{Accumulator}
@@ -10,10 +9,6 @@ use Rattle.loop_pieces.specs.{LoopPiece, StandsFor, ArePartialLines, IsPartialLi
 use Rattle.loop_pieces.proofs.WholeLoops.{piece_holds_results, watch_piece_is_partial_result, piece_holds_counts, all_clusters_are_the_table}
 use Rattle.result_text.specs.{acc_lines, lines_from, AreRuns, run_of, runs_text, watch_line, watch_lines, counts_seen, flow_at, booking_text, filled_text, FitsBooking, FitsResult}
 use Rattle.event_loop.proofs.Found.{AreOf, kinds-append, own_kinds, passes_are_of}
-use Rattle.std.specs.List.{AllByRecursion, join_with_byte}
-use Rattle.std.proofs.lemmas.Bool.{cond_both, eqb-true}
-use Rattle.std.proofs.lemmas.List.Elements.{All-from_recursion}
-use Rattle.std.proofs.lemmas.Option.{slice_get-map}
 use Rattle.rdf_values.proofs.Below.{length-below}
 use Rattle.graph_numbers.specs.{FilterAt, filters, graph_filters, GraphView, ResultAt, results, graph_results}
 use Rattle.graph_numbers.proofs.Covering.{AreNumbersOf, filters_are}

@@ -1,13 +1,10 @@
 -- The pieces, the shares and the trails of slots that finished all clusters.
 use Rattle.std.proofs.Common.{◌≡◌, ◌<◌, List, [], ◌∷◌, ◌++◌, length, get_or, sym, ap, ◌∙◌, subst, arith, append_assoc, append-nil, flat_map, ℕ, zero, suc, map, Option, None, Some, refl, ap₂, slice_get}
-use Rattle.std.specs.List.{remove, All, concat, sum_by}
-use Rattle.std.proofs.lemmas.List.Elements.{All-tail, All-nil, All-cons, All-head}
-use Rattle.std.proofs.lemmas.List.Concat.{flat_map-append, concat_is, length-flat_map}
+use Rattle.lemmas.proofs.{All, All-cons, All-head, All-nil, All-tail, concat, concat_is, flat_map-append, length-flat_map, length_permutation, remove, sum_by}
 use Rattle.loop_pieces.specs.{LoopPiece, HaveTrails, PartialLine, StandsFor}
 use Rattle.slot_words.specs.{ShareSeen, AreNoted, BookSeen, HasSameBody, HaveAllTrails, HavePartialsOver, HaveSameBodies, many_in, noted_sets}
 use Rattle.event_loop.specs.declared.gather.Done.{Done}
 use Rattle.event_loop.specs.{AllAreGoing, ArePieces, IsGoing, IsPieceOf, share_or_none, shares_in, AreNotedPartials, CanFill, dones_of, finished_by, HasNoted, IsBookOf, IsDone, JobFacts, orders_of}
-use Rattle.std.proofs.lemmas.List.Sorted.{length_permutation}
 use Rattle.rdf_values.proofs.DrawCounts.{sum_by-map}
 use Rattle.rdf_values.specs.{below, DrawnBy, IsUnion}
 use Rattle.rdf_values.proofs.Below.{length-below}

@@ -4,13 +4,8 @@ use Rattle.rdf_values.specs.{Fault, times, below, AnswerIn64Bits, Booked, histor
 use Rattle.rdf_values.proofs.DrawCounts.{rises_push, times_push}
 use Rattle.slot_words.proofs.Steps.{rising_room}
 use Rattle.event_loop.specs.{AreSound, IsSlotOf, job_facts, Phase, SlotView, IsFreshSlot, IsOfPasses}
-use Rattle.std.specs.List.Sorted.{IsStrictlyIncreasing}
-use Rattle.std.proofs.lemmas.Grind.{common_steps}
-use Rattle.std.proofs.lemmas.List.Kept.{AllPairs-from_increasing}
-use Rattle.std.proofs.lemmas.List.{length-map, map-append}
-use Rattle.std.proofs.lemmas.List.Elements.{All-cons, All-contains, All-nil, All-weaker, Contains-push}
+use Rattle.lemmas.proofs.{All-cons, All-contains, All-nil, All-weaker, AllPairs-from_increasing, common_steps, Contains-push, IsStrictlyIncreasing, length-map, map-append, mapped_at, something_at}
 use Rattle.std.specs.declared.snapshot.Snapshot.{Snapshot}
-use Rattle.lemmas.proofs.{mapped_at, something_at}
 use Rattle.rdf_values.proofs.Below.{length-below, slice_get-below}
 use Rattle.block_passes.specs.{at_end, CountsVectors, IsStateOf}
 use Rattle.loop_keys.specs.{facts_in, job_graph, job_spans, JobView, passes_in, IsJob}

@@ -1,9 +1,6 @@
 -- What the slots of a loop begin with, and what is known of a whole loop.
 use Rattle.std.proofs.Common.{◌≡◌, ℕ, ◌+◌, List, [], ◌∷◌, ◌++◌, length, Option, None, Some, refl, sym, ap, ◌∙◌, subst, arith, append-nil, length-append, MatchOption, option_to_list, ◌<◌, ◌≤◌}
-use Rattle.std.specs.List.{All, range_with_len}
-use Rattle.std.proofs.lemmas.List.{length-map}
-use Rattle.std.proofs.lemmas.List.FromFn.{length-range_with_len}
-use Rattle.std.proofs.lemmas.List.Elements.{All-map, All-nil, All-push, All-pop}
+use Rattle.lemmas.proofs.{All, All-map, All-nil, All-pop, All-push, length-map, length-range_with_len, range_with_len}
 use Rattle.slot_words.specs.{BookSeen, fresh_share, fresh_shares, IsReady, SeatSeen, ShareSeen, ClaimsSeen}
 use Rattle.event_loop.specs.declared.workers.Shared.{Shared}
 use Rattle.event_loop.specs.declared.workers.Slot.{Slot}

@@ -1,9 +1,6 @@
 -- Which function a name calls, and its shape.
 use Rattle.std.proofs.Common.{◌≡◌, ◌≢◌, ℕ, zero, suc, ◌+◌, ◌<◌, ◌≤◌, take, Bool, true, false, List, [], ◌∷◌, length, Some, None, Result, Ok, Err, refl, sym, ap, ◌∙◌, cond, arith, slice_get, HoldsAt, replicate}
-use Rattle.std.proofs.lemmas.Bool.{false_from_ne_true}
-use Rattle.std.proofs.lemmas.List.{take-replicate}
-use Rattle.std.proofs.lemmas.List.Elements.{All-head, All-tail}
-use Rattle.std.proofs.lemmas.Slice.Eq.{bytes_eq-Decides}
+use Rattle.lemmas.proofs.{All-head, All-tail, bytes_eq-Decides, false_from_ne_true, take-replicate}
 use Rattle.rdf_values.specs.{AreFnNames, built_in, built_in_shapes, Callee, callee, callee_in, ColType, FnName, FunctionNames, given_from, GraphCause, HaveDistinctNames, LacksName, same, Shape, shape, shape_in, shape_of, shapes}
 use Rattle.rdf_values.specs.declared.scripts.graph_cause.GraphCause.TheVariants.{UnknownFunction}
 use Rattle.expr_check.specs.{callee_shape, given_shape}

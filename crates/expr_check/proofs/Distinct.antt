@@ -1,9 +1,6 @@
 -- The numbers of a list, each once.
 use Rattle.std.proofs.Common.{◌≡◌, ℕ, Bool, true, false, List, [], ◌∷◌, ◌++◌, refl, ap, subst, sym, ◌∙◌, cond, arith, take, length, get_or, ◌<◌, ◌+◌, nat_eq, not}
-use Rattle.std.specs.List.{AllByRecursion, filter, list_any}
-use Rattle.std.proofs.lemmas.Grind.{common_steps}
-use Rattle.std.proofs.lemmas.Bool.Decides.{Decides-eqb}
-use Rattle.std.proofs.lemmas.List.{take_more}
+use Rattle.lemmas.proofs.{AllByRecursion, common_steps, Decides-eqb, filter, list_any, take_more}
 use Rattle.expr_check.specs.{distinct, with_new}
 
 -- what a filter by another number keeps

@@ -1,9 +1,6 @@
 -- The first column of a scope with a name or a number.
 use Rattle.std.proofs.Common.{◌≡◌, ◌≢◌, ℕ, Bool, true, false, cond, List, [], ◌∷◌, Option, Some, None, Ok, Err, refl, nat_eq, arith, find, Result}
-use Rattle.std.specs.List.{AllByRecursion}
-use Rattle.std.proofs.lemmas.Bool.Decides.{Decides-eqb}
-use Rattle.std.proofs.lemmas.List.Elements.{All-from_recursion, recursion_from_All}
-use Rattle.std.proofs.lemmas.Slice.Eq.{bytes_eq-Decides}
+use Rattle.lemmas.proofs.{All-from_recursion, AllByRecursion, bytes_eq-Decides, Decides-eqb, recursion_from_All}
 use Rattle.rdf_values.specs.{ColType, column_kind, GraphCause, kinds_in, number_in, same, ScopeColumn}
 use Rattle.rdf_values.specs.declared.scripts.graph_cause.GraphCause.TheVariants.{UnknownColumn}
 use Rattle.expr_check.specs.{LacksColumn, number_kind, NumberHasKind, numbers_in, NumbersHaveKinds}

@@ -1,8 +1,6 @@
 -- No part of a plain expression is a vector.
 use Rattle.std.proofs.Common.{◌≡◌, ◌↔◌, ℕ, Bool, true, false, List, ◌++◌, length, Ok, refl, ap, sym, ◌∙◌, nat_eq, ◌&&◌, All}
-use Rattle.std.specs.List.{AllByRecursion}
-use Rattle.std.proofs.lemmas.List.Elements.{recursion_from_All, All-from_recursion}
-use Rattle.lemmas.proofs.{and_left, and_right}
+use Rattle.lemmas.proofs.{All-from_recursion, AllByRecursion, and_left, and_right, recursion_from_All}
 use Rattle.rdf_values.specs.{args_count, Bin, Call, Callee, Col, ColType, columns_in, columns_in_all, Cond, End, FunctionNames, kinds_by, Lit, More, Neg, Not, NumTree, Pick, Trees}
 use Rattle.rdf_values.specs.expressions.Expressions.{Truth}
 use Rattle.expr_check.specs.{all_are_plain, callee_shape, gives_vector, HasNoVector, is_plain, num_kind, number_kind, parts, parts_of_all, takes_no_vector}

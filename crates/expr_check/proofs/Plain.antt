@@ -1,10 +1,6 @@
 -- A well typed expression is plain where none of its columns is a vector.
 use Rattle.std.proofs.Common.{◌≡◌, ℕ, Bool, true, false, List, [], ◌∷◌, ◌++◌, length, Option, Some, None, Result, Ok, Err, refl, ap, sym, ◌∙◌, subst, cond, arith, nat_eq, not, ◌&&◌, ◌||◌, slice_get, replicate, if◌then◌else◌}
-use Rattle.std.specs.List.{AllByRecursion, zip, list_any}
-use Rattle.std.proofs.lemmas.Bool.{false_from_ne_true}
-use Rattle.std.proofs.lemmas.Bool.Decides.{Decides-eqb}
-use Rattle.std.proofs.lemmas.Slice.Zip.{firsts-zip}
-use Rattle.lemmas.proofs.{and_holds, and_left, and_right, left_false, not_true, right_false}
+use Rattle.lemmas.proofs.{AllByRecursion, and_holds, and_left, and_right, Decides-eqb, false_from_ne_true, firsts-zip, left_false, list_any, not_true, right_false, zip}
 use Rattle.rdf_values.specs.{◌>>=◌, args_count, arithmetic_kind, Bin, BinOp, Call, Callee, chosen_kind, Col, ColType, columns_in, columns_in_all, Cond, End, equality_kind, FnName, FunctionNames, GraphCause, inverted_kind, kinds_by, Lit, logical_kind, More, Neg, negated_kind, Not, NumTree, operator_kind, Pick, picked_kind, same_kind, same_kinds, Shape, shape, Trees}
 use Rattle.rdf_values.specs.expressions.Expressions.{Truth}
 use Rattle.rdf_values.specs.declared.scripts.graph_cause.GraphCause.TheVariants.{WrongType, WrongCount}

@@ -1,9 +1,6 @@
 -- The kinds of a scope's columns by their names and by their numbers.
 use Rattle.std.proofs.Common.{◌≡◌, ℕ, Bool, true, false, List, [], ◌∷◌, map, Result, Ok, Err, IsOk, refl, ap, sym, ◌∙◌, cond, nat_eq}
-use Rattle.std.specs.List.{AllByRecursion, zip}
-use Rattle.std.proofs.lemmas.Bool.Decides.{Decides-eqb}
-use Rattle.std.proofs.lemmas.List.Elements.{recursion_from_All}
-use Rattle.lemmas.proofs.{eq_itself}
+use Rattle.lemmas.proofs.{AllByRecursion, Decides-eqb, eq_itself, recursion_from_All, zip}
 use Rattle.rdf_values.specs.{ColType, column_kind, GraphCause, kinds_in, number_in, same, ScopeColumn}
 use Rattle.expr_check.specs.{number_kind, NumberHasKind, numbers_in, NumbersHaveKinds}
 

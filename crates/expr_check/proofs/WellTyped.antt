@@ -1,10 +1,6 @@
 -- A checked expression is well typed.
 use Rattle.std.proofs.Common.{◌≡◌, ℕ, true, List, [], ◌∷◌, length, map, Option, Some, None, Result, Ok, IsOk, refl, ap, sym, ◌∙◌, subst, nat_eq, All, slice_get, replicate, MatchOption}
-use Rattle.std.specs.List.{AllByRecursion, zip}
-use Rattle.std.proofs.lemmas.Bool.Decides.{Decides-eqb}
-use Rattle.std.proofs.lemmas.List.{length-replicate, length-map}
-use Rattle.std.proofs.lemmas.Slice.Zip.{firsts-zip}
-use Rattle.std.proofs.lemmas.List.Elements.{All-from_recursion}
+use Rattle.lemmas.proofs.{All-from_recursion, AllByRecursion, Decides-eqb, firsts-zip, length-map, length-replicate, zip}
 use Rattle.rdf_values.specs.{args_count, Bin, Call, Callee, callee, Col, ColType, column_kind, columns_in, Cond, End, FnName, FunctionNames, GraphCause, kind_by, kind_of, kinds_by, kinds_in, Lit, More, NamedTree, Neg, Not, number_in, numbered, NumTree, Pick, ScopeColumn, Shape, shape, shape_of, Trees}
 use Rattle.rdf_values.specs.expressions.Expressions.{Truth}
 use Rattle.expr_check.specs.{AllCallsFit, callee_shape, CallsFit, checked_expr, CheckedExpr, distinct, given_shape, IsCallOf, IsWellTyped, num_kind, number_kind, numbers_in, NumbersHaveKinds}

@@ -1,8 +1,6 @@
 -- What holds of the columns whose kinds a checked expression has holds of each column that stands in it.
 use Rattle.std.proofs.Common.{◌≡◌, ℕ, Bool, true, false, List, [], ◌∷◌, ◌++◌, map, Result, Ok, Err, IsOk, refl, subst, cond, nat_eq, All}
-use Rattle.std.specs.List.{AllByRecursion}
-use Rattle.std.proofs.lemmas.Bool.Decides.{Decides-eqb}
-use Rattle.std.proofs.lemmas.List.Elements.{recursion_from_All}
+use Rattle.lemmas.proofs.{AllByRecursion, Decides-eqb, recursion_from_All}
 use Rattle.rdf_values.specs.{Bin, Call, Col, ColType, columns_in, columns_in_all, Cond, EachArgument, EachColumn, End, GraphCause, Lit, More, Neg, Not, Pick, Tree, Trees, Value}
 use Rattle.rdf_values.specs.expressions.Expressions.{Truth}
 use Rattle.rdf_model.specs.{Faults, FitsOutcome, Gives, Needs, Outcome}

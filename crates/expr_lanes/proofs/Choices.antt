@@ -1,8 +1,6 @@
 -- Evaluations of which each place takes one of two.
 use Rattle.std.proofs.Common.{◌≡◌, ◌+◌, ℕ, ℤ, Bool, true, false, not, ◌||◌, ◌&&◌, List, [], ◌∷◌, inl, inr, ◌∙◌, refl, ap, sym, subst, cond, if◌then◌else◌, arith, nat_eq}
-use Rattle.std.specs.List.{filter}
-use Rattle.std.proofs.lemmas.Bool.Decides.{eqb_tells}
-use Rattle.lemmas.proofs.{and_false, and_left, and_right, and_true, or_false}
+use Rattle.lemmas.proofs.{and_false, and_left, and_right, and_true, eqb_tells, filter, or_false}
 use Rattle.rdf_model.specs.{◌>>=◌, Gives, is_zero, Outcome}
 use Rattle.expr_lanes.specs.{at_place, EachPlace, Evaluated, given_in, is_given, is_in, Stopped, stops_in, times, with_stop}
 use Rattle.expr_lanes.proofs.Sequence.{alike, come_told, filtered_out, go_on, times_with}

@@ -1,10 +1,6 @@
 -- Selections of the first places of a block.
 use Rattle.std.proofs.Common.{◌≡◌, ◌<◌, ◌≤◌, ◌+◌, ℕ, suc, zero, ℤ, true, false, ◌||◌, List, [], ◌∷◌, ◌++◌, length, get_or, take, set, ◌∙◌, ap, sym, subst, inl, inr, arith}
-use Rattle.std.specs.List.{range_with_len}
-use Rattle.std.proofs.lemmas.Bool.{cases_lt}
-use Rattle.std.proofs.lemmas.Bool.Decides.{eqb_tells}
-use Rattle.std.proofs.lemmas.List.{take_more_set}
-use Rattle.std.proofs.lemmas.List.FromFn.{length-range_with_len, get_or-range_with_len}
+use Rattle.lemmas.proofs.{cases_lt, eqb_tells, get_or-range_with_len, length-range_with_len, range_with_len, take_more_set}
 use Rattle.rdf_model.specs.{Gives, Outcome}
 use Rattle.expr_lanes.specs.{at_place, EachPlace, Evaluated, is_in, Stopped}
 use Rattle.expr_lanes.proofs.Selected.{is_in_at}

@@ -1,8 +1,6 @@
 -- Loops that part a selection, mark its places and keep those that are marked.
 use Rattle.std.proofs.Common.{◌≡◌, ◌<◌, ◌+◌, ℕ, Bool, true, false, ◌||◌, List, [], ◌∷◌, length, get_or, take, set, ◌∙◌, refl, ap, sym, cond, if◌then◌else◌, inl, inr, get_or-set_same, get_or-set_other, nat_eq}
-use Rattle.std.specs.List.{filter}
-use Rattle.std.proofs.lemmas.Bool.Decides.{eqb_tells}
-use Rattle.std.proofs.lemmas.List.Folds.{list_any_more}
+use Rattle.lemmas.proofs.{eqb_tells, filter, list_any_more}
 use Rattle.expr_lanes.specs.{EachPlace, is_in, is_marked}
 use Rattle.expr_lanes.proofs.Sequence.{first_in, rest_in}
 

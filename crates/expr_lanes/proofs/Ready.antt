@@ -1,7 +1,6 @@
 -- A selection with room for its stops stays so.
 use Rattle.std.proofs.Common.{◌≡◌, ◌+◌, ℕ, ℤ, Bool, true, not, List, [], ◌∷◌, ◌∙◌, length, refl, ap, subst, cond, arith}
-use Rattle.std.specs.List.{filter}
-use Rattle.std.proofs.lemmas.List.Filters.{length-filter_both}
+use Rattle.lemmas.proofs.{filter, length-filter_both}
 use Rattle.rdf_model.specs.{Gives, Outcome}
 use Rattle.expr_lanes.specs.{at_place, Evaluated, given_in, HasCome, is_given, is_in, IsSelected, Stopped, stops_in, times, with_stop}
 use Rattle.expr_lanes.proofs.Sequence.{come_from, filtered_in}

@@ -1,9 +1,6 @@
 -- Selections whose places rise.
 use Rattle.std.proofs.Common.{◌≡◌, ◌<◌, ◌≤◌, ◌+◌, ◌||◌, ℕ, suc, zero, Bool, true, false, inl, inr, List, [], ◌∷◌, length, take, ◌∙◌, refl, ap, sym, subst, cond, arith, nat_eq}
-use Rattle.std.specs.List.{filter, range_with_len}
-use Rattle.std.proofs.lemmas.Bool.Decides.{eqb_tells}
-use Rattle.std.proofs.lemmas.List.Sums.{length-filter, count_by-le-length}
-use Rattle.std.proofs.lemmas.List.{length-take-le}
+use Rattle.lemmas.proofs.{count_by-le-length, eqb_tells, filter, length-filter, length-take-le, range_with_len}
 use Rattle.expr_lanes.specs.{AreRising, EachPlace, is_in}
 use Rattle.expr_lanes.proofs.Sequence.{filtered_in}
 

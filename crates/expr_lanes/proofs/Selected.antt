@@ -1,9 +1,6 @@
 -- Places of selections.
 use Rattle.std.proofs.Common.{◌≡◌, ◌≢◌, ◌<◌, ℕ, ℤ, pos, true, false, ◌||◌, List, [], ◌∷◌, ◌++◌, length, get_or, set, ◌∙◌, refl, ap, sym, subst, ◌⊎◌, inl, inr, get_or-set_same, get_or-set_other, nat_eq}
-use Rattle.std.proofs.lemmas.Bool.{eq-eqb}
-use Rattle.std.proofs.lemmas.Bool.Decides.{eqb_tells}
-use Rattle.std.proofs.lemmas.List.Folds.{list_any-append, list_any_at}
-use Rattle.lemmas.proofs.{or_false}
+use Rattle.lemmas.proofs.{eq-eqb, eqb_tells, list_any-append, list_any_at, or_false}
 use Rattle.rdf_model.specs.{Gives, Outcome}
 use Rattle.expr_lanes.specs.{at_place, EachPlace, is_in}
 

@@ -1,8 +1,6 @@
 -- Evaluations one after the other.
 use Rattle.std.proofs.Common.{◌≡◌, ◌+◌, ℕ, ℤ, Bool, true, false, ◌||◌, List, [], ◌∷◌, ◌∙◌, refl, ap, sym, subst, cond, arith, nat_eq}
-use Rattle.std.specs.List.{filter}
-use Rattle.std.proofs.lemmas.Bool.{eq-eqb}
-use Rattle.lemmas.proofs.{or_right}
+use Rattle.lemmas.proofs.{eq-eqb, filter, or_right}
 use Rattle.rdf_model.specs.{◌>>=◌, Faults, Gives, Needs, Outcome}
 use Rattle.expr_lanes.specs.{at_place, EachPlace, Evaluated, given_in, HasCome, is_given, is_in, Stopped, stops_in, times, with_stop}
 

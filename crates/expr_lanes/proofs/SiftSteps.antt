@@ -1,7 +1,6 @@
 -- One more place, as a loop over a selection meets it.
 use Rattle.std.proofs.Common.{◌≡◌, ◌≢◌, ◌<◌, ◌≤◌, ◌+◌, ℕ, ℤ, Bool, true, false, List, [], ◌∷◌, ◌++◌, length, get_or, take, drop, set, ◌∙◌, refl, ap, sym, subst, append_assoc, add-zero, arith, Result, Err}
-use Rattle.std.proofs.lemmas.List.{take_more, take_more_set, get_or-drop, get_or-take, length-take-le, length-append, append-nil}
-use Rattle.std.proofs.lemmas.List.Filters.{FiltersInPlace, FiltersInPlace-more_no, FiltersInPlace-more_set}
+use Rattle.lemmas.proofs.{append-nil, FiltersInPlace, FiltersInPlace-more_no, FiltersInPlace-more_set, get_or-drop, get_or-take, length-append, length-take-le, take_more, take_more_set}
 use Rattle.rdf_model.specs.{Faults, Gives, Needs, Outcome}
 use Rattle.expr_eval.specs.{ScalarStop}
 use Rattle.expr_eval.specs.declared.stop.ScalarStop.TheVariants.{Fault, Need}

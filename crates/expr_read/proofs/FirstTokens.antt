@@ -1,11 +1,6 @@
 -- The first token of a text: how many bytes it takes, and what holds of it.
 use Rattle.std.proofs.Common.{◌≡◌, ◌≤◌, ◌<◌, ◌+◌, ℕ, Bool, true, false, List, [], ◌∷◌, length, Option, Some, None, Ok, Err, arith, refl, sym, ap, subst, ◌∙◌, length-take, length-drop, ◌-◌, get_or, drop, take, take_while, nat_le, codes, ◌||◌, MatchResult, IfSome, if◌then◌else◌}
-use Rattle.std.proofs.lemmas.List.{drop_more}
-use Rattle.std.proofs.lemmas.List.Sums.{take_while-cons}
-use Rattle.std.proofs.lemmas.Grind.{common_steps}
-use Rattle.std.specs.List.{prefix_len, list_all}
-use Rattle.std.proofs.lemmas.Bool.Decides.{nat_tests}
-use Rattle.lemmas.proofs.{both_true}
+use Rattle.lemmas.proofs.{both_true, common_steps, drop_more, list_all, nat_tests, prefix_len, take_while-cons}
 use Rattle.rdf_values.specs.{First, first_token, is_digit, is_name, is_word, is_word_byte, is_word_start, long_first, long_mark, long_marks, magnitude_of, mark_first, number_first, number_found, Refusal, same, short_first, short_mark, short_marks, Token, word_first, word_token}
 use Rattle.rdf_values.specs.expressions.Tokens.{mark_in}
 use Rattle.rdf_values.proofs.OneText.{magnitude_bound}

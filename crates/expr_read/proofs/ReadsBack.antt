@@ -1,11 +1,10 @@
 -- The canonical text of an expression that was read from a text reads as this expression.
 use Rattle.std.proofs.Common.{◌≡◌, ℕ, true, List, [], ◌∷◌, ◌++◌, subst, ◌≤◌, ◌+◌, ◌-◌, ◌∙◌, length, Ok, arith, refl, sym, ap}
-use Rattle.lemmas.proofs.{both_true}
+use Rattle.lemmas.proofs.{append-nil, both_true, length-map}
 use Rattle.rdf_values.specs.{bare, before, binary, conditional, last_argument, minus_sign, more_arguments, name, NamedTree, NamedTrees, no_arguments, not_sign, number, parenthesized, pick, Placed, Reads, ReadsArgs, ReadsText, text_of, tighter, Token, tokens, tokens_of, tokens_within, truth}
 use Rattle.rdf_values.specs.expressions.Grammar.{call}
 use Rattle.expr_read.specs.{are_valid, is_valid}
 use Rattle.expr_read.proofs.SpelledTree.{IsReadable, AreReadable, spells_tree}
-use Rattle.std.proofs.lemmas.List.{append-nil, length-map}
 use Rattle.expr_read.proofs.Shown.{reads_shown, no_fewer, shown_whole}
 use Rattle.expr_read.proofs.TokenSteps.{no_tokens}
 use Rattle.expr_read.proofs.ValidTokens.{valid_tokens}

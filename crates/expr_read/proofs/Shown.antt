@@ -1,7 +1,6 @@
 -- The canonical tokens read as the tree, and no tokens that do are fewer.
 use Rattle.std.proofs.Common.{◌≡◌, ◌≤◌, ◌<◌, ◌+◌, ◌-◌, ℕ, zero, suc, zero-add, add-zero, Bool, true, false, List, [], ◌∷◌, length, arith, refl, sym, ap, subst, length-append, nat_le}
-use Rattle.std.proofs.lemmas.List.{append-nil}
-use Rattle.lemmas.proofs.{le_not, le_says, le_true}
+use Rattle.lemmas.proofs.{append-nil, le_not, le_says, le_true}
 use Rattle.rdf_values.specs.{args_tokens, Bin, binary, Call, Col, Cond, conditional, enclosed, End, last_argument, level_of, Lit, Mark, minus_sign, More, more_arguments, name, NamedTree, NamedTrees, Neg, no_arguments, Not, not_sign, number, parenthesized, Pick, pick, Punct, Reads, ReadsArgs, tighter, Token, tokens_at_level, tokens_of, tree_level, truth}
 use Rattle.rdf_values.specs.expressions.Expressions as e
 use Rattle.rdf_values.specs.expressions.Grammar.{call}

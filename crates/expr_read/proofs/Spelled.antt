@@ -1,17 +1,10 @@
 -- Texts that spell tokens.
 use Rattle.std.proofs.Common.{◌≡◌, ◌+◌, ◌∙◌, ℕ, suc, Bool, true, false, List, [], ◌∷◌, ◌++◌, length, drop, Ok, arith, refl, sym, ap, subst, append_assoc, add-zero, zero-add, nat_eq, length-append, ◌≤◌, ◌<◌, ◌^◌, ℤ, pos, negsuc, Some, not, codes, take_while, nat_le, ◌&&◌, ◌||◌, decimal}
-use Rattle.std.proofs.lemmas.List.{map-append}
+use Rattle.lemmas.proofs.{all_ascii_digits, both_true, decimal_nonempty, digits_decimal, eq_says, le_false, le_says, list_all, map-append, nat_tests, not_true, prefix_len, right_false, signed_decimal, take-append_seam}
 use Rattle.rdf_values.specs.{bare, before, BinOp, first_token, is_blank, is_digit, is_name, is_word, is_word_byte, is_word_start, long_mark, magnitude_of, Mark, number_first, Op, op_text, Placed, Punct, same, short_mark, Token, tokens_within, truth_text, word_first, word_token}
 use Rattle.rdf_values.specs.expressions.Tokens.{Word, Truth, Number}
 use Rattle.expr_read.proofs.TokenSteps.{before_more, before_none, first_blank, first_found}
-use Rattle.std.specs.List.{prefix_len, list_all}
-use Rattle.std.proofs.Math.Seq.{take-append_seam}
-use Rattle.std.proofs.lemmas.Bool.Decides.{nat_tests}
-use Rattle.lemmas.proofs.{both_true, eq_says, le_false, le_says, not_true, right_false}
 use Rattle.expr_read.proofs.FirstTokens.{first_word, first_number}
-use Rattle.std.specs.Fmt.{signed_decimal}
-use Rattle.std.specs.Str.{all_ascii_digits}
-use Rattle.std.proofs.lemmas.Fmt.{decimal_nonempty, digits_decimal}
 use Rattle.rdf_values.proofs.OneText.{magnitude_decimal, own}
 use Rattle.expr_read.specs.{is_number}
 

@@ -1,7 +1,6 @@
 -- One more token of a text.
 use Rattle.std.proofs.Common.{◌≡◌, ◌≤◌, ◌<◌, ◌+◌, ◌-◌, ◌∙◌, ℕ, suc, true, false, List, [], ◌∷◌, ◌++◌, length, get_or, drop, Ok, Err, arith, refl, ap, sym, add-zero, append_assoc, length-append, Result}
-use Rattle.std.specs.List.{prefix_len}
-use Rattle.std.proofs.lemmas.List.{drop_more, drop_all, drop-drop, append-nil}
+use Rattle.lemmas.proofs.{append-nil, drop-drop, drop_all, drop_more, prefix_len}
 use Rattle.rdf_values.specs.{and_then, before, First, first_token, from, is_blank, Placed, Refusal, Token, tokens_at, tokens_within}
 use Rattle.rdf_values.specs.expressions.Tokens.{too_many}
 

@@ -1,7 +1,6 @@
 -- Tokens read as one tree, and as one value of a Vary: a machine that shifts and reduces comes to it.
 use Rattle.std.proofs.Common.{◌≡◌, ◌<◌, ◌≤◌, ◌∙◌, ℕ, suc, true, List, [], ◌∷◌, ◌++◌, arith, refl, sym, ap, append_assoc, nat_eq, nat_le, if◌then◌else◌}
-use Rattle.std.proofs.lemmas.Bool.Decides.{nat_tests}
-use Rattle.lemmas.proofs.{le_false, le_true}
+use Rattle.lemmas.proofs.{le_false, le_true, nat_tests}
 use Rattle.rdf_values.specs.{Bin, binary, BinOp, Call, Col, Cond, conditional, End, last_argument, last_item, last_list, level_of, Lit, Mark, minus_sign, More, more_arguments, more_items, more_lists, name, NamedTree, NamedTrees, Neg, no_arguments, Not, not_sign, number, one_list, Op, parenthesized, Pick, pick, Punct, Reads, ReadsArgs, ReadsList, ReadsLists, ReadsValues, several_lists, tighter, Token, truth, VaryValues, vector}
 use Rattle.rdf_values.specs.expressions.Expressions as e
 use Rattle.rdf_values.specs.expressions.Tokens.{Word, Truth, Number}

@@ -1,11 +1,6 @@
 -- The header of two tables together.
 use Rattle.std.proofs.Common.{◌≡◌, ◌≤◌, ◌<◌, ◌+◌, ◌-◌, ℕ, zero, suc, Bool, true, false, ◌||◌, ◌&&◌, List, [], ◌∷◌, ◌++◌, length, refl, ap, ◌∙◌, sym, arith, None, Some, length-append, append-nil, append_assoc, cond, subst, not, position, slice_get, option_map}
-use Rattle.std.specs.List.{position_from, remove}
-use Rattle.std.proofs.lemmas.Iterator.Adapters.{position_from-zero}
-use Rattle.std.proofs.lemmas.List.Edits.{length-remove}
-use Rattle.std.proofs.lemmas.Bool.{false_from_ne_true}
-use Rattle.std.proofs.lemmas.Slice.Eq.{bytes_eq-Decides}
-use Rattle.lemmas.proofs.{and_left, and_right, left_false, or_fails, right_false, within}
+use Rattle.lemmas.proofs.{and_left, and_right, bytes_eq-Decides, false_from_ne_true, left_false, length-remove, or_fails, position_from, position_from-zero, remove, right_false, within}
 use Rattle.rdf_values.specs.{AreColumns, ColType, Column, has_name, IsHeader, kind_at, same}
 use Rattle.friend_join.specs.{first_taken, has_column, is_int, is_key, is_taken, key_place}
 use Rattle.friend_join.proofs.Removing.{remove_nil}

@@ -1,11 +1,6 @@
 -- The rows of a table with a friend's columns that are laid out anew.
 use Rattle.std.proofs.Common.{◌≡◌, ◌<◌, ◌+◌, ℕ, ℤ, zero, suc, pos, Bool, true, false, List, [], ◌∷◌, ◌++◌, length, map, filter, get_or, refl, ap, ap₂, ◌∙◌, sym, arith, Option, None, Some, length-append, cond, subst, option_map, slice_get, unwrap_or}
-use Rattle.std.specs.List.{position_from, remove}
-use Rattle.std.specs.Ordering.{int_eq}
-use Rattle.std.proofs.lemmas.Iterator.Adapters.{position_from-zero}
-use Rattle.std.proofs.lemmas.List.{map-append}
-use Rattle.std.proofs.lemmas.Option.{slice_get-map}
-use Rattle.std.proofs.lemmas.Simd.{map-map}
+use Rattle.lemmas.proofs.{int_eq, map-append, map-map, position_from, position_from-zero, remove, slice_get-map}
 use Rattle.rdf_values.specs.{AreKept, below, cell_at, Cells, ColType, Column, IsKept, rows_kept, TableView, Value}
 use Rattle.rdf_values.proofs.Below.{map-below, slice_get-below}
 use Rattle.rdf_values.proofs.KeptLemmas.{map_below}

@@ -1,7 +1,6 @@
 -- Lists without the element at a place, and elements that are there.
 use Rattle.std.proofs.Common.{◌≡◌, ◌<◌, ℕ, zero, suc, List, [], ◌∷◌, length, map, get_or, refl, ap, ◌∙◌, sym, arith, Some, slice_get}
-use Rattle.std.specs.List.{remove}
-use Rattle.std.proofs.lemmas.List.{get_or-map}
+use Rattle.lemmas.proofs.{get_or-map, remove}
 use Rattle.columns.specs.{ColumnPieces, whole}
 
 pub remove_nil : {A : Type 0} (p : ℕ) → remove {X = A} [] p ≡ []

@@ -1,9 +1,6 @@
 -- Numbers that stood before.
 use Rattle.std.proofs.Common.{◌≡◌, ◌<◌, ◌+◌, ℕ, ℤ, suc, true, false, Bool, cond, List, [], ◌∷◌, ◌++◌, length, get_or, take, drop, Option, Some, ap, ◌∙◌, sym, add-one, drop-cons, if◌then◌else◌, not}
-use Rattle.std.specs.List.{list_any}
-use Rattle.std.specs.Ordering.{int_eq}
-use Rattle.std.proofs.lemmas.List.{take_more}
-use Rattle.lemmas.proofs.{not_false, not_true}
+use Rattle.lemmas.proofs.{int_eq, list_any, not_false, not_true, take_more}
 use Rattle.friend_join.specs.{repeat_from}
 
 -- a new number goes on

@@ -1,12 +1,7 @@
 -- Members of sets, by the bits of a number.
 use Rattle.std.proofs.Common.{◌≡◌, ℕ, zero, suc, ◌+◌, ◌-◌, ◌*◌, ◌/◌, ◌%◌, ◌^◌, ◌<◌, ◌≤◌, max, Bool, true, false, ◌||◌, if◌then◌else◌, refl, sym, ◌∙◌, ap, subst, nat_eq, count_ones, bit_or, arith, shr-shr, nat_lt, Decides, bit_and}
-use Rattle.std.proofs.lemmas.Bool.Decides.{Decides-eqb, Decides-ltb}
-use Rattle.std.proofs.lemmas.Nat.{shr_le, and_mask, mod-pow-add, mod_below, ones_cat, one_shl, pow_pos}
-use Rattle.std.proofs.lemmas.Nat.Bits.{bit_at-zero, bit_at-lt, bit_at_or, bit_at_above, bit_at-trailing_zeros, bit_at_set_same, bit_at_set_other}
-use Rattle.std.specs.Int.{bit_at, w128, trailing_zeros}
+use Rattle.lemmas.proofs.{and_mask, bit_at, bit_at-lt, bit_at-trailing_zeros, bit_at-zero, bit_at_above, bit_at_or, bit_at_set_other, bit_at_set_same, Decides-eqb, Decides-ltb, mod-eq_of_lt, mod-pow-add, mod_below, one_shl, ones-ones, ones_cat, pow_pos, shr_le, trailing_zeros, w128}
 use Rattle.graph.specs.{has, IsNext, members_below, VarSet}
-use Rattle.std.proofs.Math.Nat.{mod-eq_of_lt}
-use Rattle.std.specs.Int.Count.{ones-ones}
 
 pub none_in : (v : ℕ) → nat_eq (bit_at 0 v) 1 ≡ false
 none_in v = ap (λ n. nat_eq n 1) (bit_at-zero v)

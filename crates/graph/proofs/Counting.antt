@@ -1,8 +1,6 @@
 -- Counts over the passes of results, by their rows.
 use Rattle.std.proofs.Common.{◌≡◌, ℕ, zero, suc, ◌+◌, ◌*◌, ◌≤◌, Bool, false, List, [], ◌∷◌, ◌++◌, length, Option, Some, None, slice_get, nat_lt, if◌then◌else◌, refl, sym, ◌∙◌, ap, subst, arith, ◌<◌, ◌||◌, map, take, Decides}
-use Rattle.std.specs.List.{sum_by, filter, AllZip}
-use Rattle.std.proofs.lemmas.List.{append-nil, length-map, length-append}
-use Rattle.std.proofs.lemmas.List.Sums.{sum_by-cons}
+use Rattle.lemmas.proofs.{AllZip, append-nil, Decides-ltb, filter, length-append, length-map, sum_by, sum_by-cons, take_all}
 use Rattle.rdf_values.specs.{ActionAt, ActionKind, AreAccepted, Booked, Booking, bookings, cells_of, check, check_columns, check_node, check_passes, check_tags, check_target, check_values, Column, columns_of, first_refusal, FunctionNames, GraphCause, is_variation_name, over_passes, own_variations, passes_of, path, permitted_kinds, printed_results, refuse_if, repeats, result_depends, results_named, same, scope_at, scope_of, Statement, takes_of, Variation, variations, varied_passes, VaryValues}
 use Rattle.rdf_values.specs.declared.scripts.statement.Statement.TheVariants.{Action, Report, Print, Vary}
 use Rattle.rdf_values.specs.declared.scripts.graph_cause.GraphCause.TheVariants.{TooMany}
@@ -11,11 +9,9 @@ use Rattle.graph.specs.{action_set, any_has, AreRows, AreTables, depends_at, fro
 use Rattle.graph.specs.declared.amounts.Amounts.{Amounts}
 use Rattle.graph.specs.declared.tables.ResultRow.{ResultRow}
 use Rattle.graph.proofs.Listing.{zip_both, zip_by, sets_any, row_set}
-use Rattle.std.proofs.lemmas.Bool.Decides.{Decides-ltb}
 use Rattle.rdf_model.proofs.Accepted.{both_none, if_fails}
 use Rattle.graph.specs.declared.tables.Tables.{Tables}
 use Rattle.graph.proofs.Depending.{action_is, known_at, result_is, tags_count}
-use Rattle.lemmas.proofs.{take_all}
 
 pub front_is : (rows xs : List ResultRow) (x : ResultRow) → rows ≡ xs ++ x ∷ [] → front rows ≡ xs
 front_is rows xs x e = ap front e ∙ go xs

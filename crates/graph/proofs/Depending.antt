@@ -1,8 +1,6 @@
 -- A column, a site or a result depends on a variation exactly where its set has its number.
 use Rattle.std.proofs.Common.{if◌then◌else◌, ◌≡◌, ℕ, suc, ◌+◌, Bool, true, false, ◌&&◌, ◌||◌, List, [], ◌∷◌, ◌++◌, map, length, Option, Some, None, Ok, slice_get, refl, sym, ◌∙◌, ap, subst, arith, ◌⊎◌, inl, inr, ◌<◌, ◌≤◌, nat_le, nat_lt, zero, Err, Result}
-use Rattle.std.specs.List.{list_any, AllByRecursion, AllZip}
-use Rattle.std.proofs.lemmas.List.{length-append, length-map, map-append, append-nil}
-use Rattle.lemmas.proofs.{and_holds, and_left_false, and_right_false, any_at, kept_at, le_false, mapped_at, neither, or_false}
+use Rattle.lemmas.proofs.{AllByRecursion, AllZip, and_holds, and_left_false, and_right_false, any_at, append-nil, kept_at, le-leb, le_false, length-append, length-map, list_any, list_any-append, map-append, mapped_at, neither, or_false, slice_get_within}
 use Rattle.rdf_values.specs.{all_renamed, among, AreAccepted, Bin, Call, callee, check, Col, ColType, Column, column_depends, column_kind, columns_in, columns_in_all, Cond, EachColumn, End, FunctionNames, is_own, is_variation_name, kind_of, Lit, made_columns, makes, More, named_depends, NamedTree, Neg, Not, own_variations, parent_of, path, Pick, place, renamed, same, scope_at, scope_of, shape_of, site_depends, Statement, target_of, Tree, Trees, Variation, variations, VaryValues, ActionAt, ActionKind, Booked, booked_by, bookings, check_columns, check_node, columns_of, expect_kind, filters_depend, GraphCause, history, may_begin, permitted_kinds, result_depends}
 use Rattle.rdf_values.specs.expressions.Expressions.{Truth}
 use Rattle.rdf_values.specs.declared.scripts.statement.Statement.TheVariants.{Define, Redefine, Vary, Filter, Action, Report}
@@ -14,9 +12,6 @@ use Rattle.graph_numbers.proofs.Meeting.{In, here, there, each_at}
 use Rattle.graph.specs.{depends_at, expression_set, is_among_own, Numbers, own_version_sets, varied_set, version_sets, action_set, any_depends, own_result_sets, own_site_sets, result_sets, ResultSetsAreDependence, site_set, site_sets, SiteSetsAreDependence, VersionsDependAsColumns}
 use Rattle.graph.proofs.Listing.{any_map, named_at, no_place, any_none, got_first, holds_mapped, zip_both, zip_holds, zip_mapped}
 use Rattle.std.specs.Prelude.{⊤}
-use Rattle.std.proofs.lemmas.Bool.{le-leb}
-use Rattle.std.proofs.lemmas.List.Folds.{list_any-append}
-use Rattle.std.proofs.lemmas.Option.{slice_get_within}
 use Rattle.graph_numbers.proofs.Apart.{any_false, other_way, of_tags, tags_checked}
 use Rattle.rdf_values.specs.declared.scripts.graph_cause.GraphCause.TheVariants.{WrongType}
 use Rattle.graph_numbers.proofs.Placing.{own_placed}

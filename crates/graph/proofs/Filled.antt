@@ -1,7 +1,6 @@
 -- Which results are filled, and the passes of a loop, by the numbers of results.
 use Rattle.std.proofs.Common.{if◌then◌else◌, ◌≡◌, ◌⊎◌, inl, inr, ℕ, zero, suc, ◌+◌, ◌<◌, ◌≤◌, Bool, true, false, not, List, [], ◌∷◌, ◌++◌, map, length, take, drop, Some, None, refl, sym, ◌∙◌, ap, arith, slice_get, length-append, append_assoc, nat_lt}
-use Rattle.std.proofs.lemmas.List.{append-nil, take-append-drop, take-append-le}
-use Rattle.lemmas.proofs.{lt_false, lt_true, neither, take_front, take_full, within}
+use Rattle.lemmas.proofs.{append-nil, lt_false, lt_true, neither, take-append-drop, take-append-le, take_front, take_full, within}
 use Rattle.rdf_values.specs.{among, AreAccepted, Booked, booked_by, bookings, check, check_node, filled, FunctionNames, GraphCause, has_variations, is_in_use, is_node, is_result, names_of, place, refuse_if, result_depends, same, Scope, Statement, Variation, variations}
 use Rattle.rdf_values.specs.declared.scripts.statement.Statement.TheVariants.{Print}
 use Rattle.rdf_model.proofs.Accepted.{both_none, if_fails, unless_holds, itself}

@@ -1,15 +1,9 @@
 -- The first line that is refused, the fields of a finished graph, and what they say of its numbers.
 use Rattle.std.proofs.Common.{◌≡◌, ℕ, List, [], ◌∷◌, ◌++◌, map, Option, Some, None, option_map, refl, sym, ◌∙◌, ap, subst, reverse, length, arith, inl, inr, ◌≤◌, Bool, slice_get, length-append, option_and_then}
-use Rattle.std.proofs.lemmas.List.{reverse-append, reverse-reverse, length-map}
-use Rattle.lemmas.proofs.{map_next}
+use Rattle.lemmas.proofs.{All, All-map, All-permutation, AllByRecursion, AllZip-long, IsPermutation-reverse, length-map, map_next, recursion_from_All, reverse-append, reverse-reverse, slice_get-map}
 use Rattle.rdf_values.specs.{AreAccepted, check, Column, FunctionNames, history, Line, Scope, scope_of, Script, Statement, verdict, verdict_after, Booked, bookings, is_watched, IsBookable, IsHeader, IsShort, result_depends, variations, named_before}
 use Rattle.rdf_model.proofs.Verdicts.{onto}
 use Rattle.graph.specs.{GraphRefusal, IsRefusal, refused, refused_then, statements, AreAbove, AreLoops, AreNamedInTurn, AreRows as AreCheckRows, AreRowsOf, AreSourcesOf, AreTables, IsBooked, IsRow, IsRowOf, refused_at, result_sets, ResultSetsAreDependence, SiteSetsAreDependence, view_of, filler_of, has, IsSet, labels, paths, result_path, VarSet}
-use Rattle.std.specs.List.{All, AllByRecursion}
-use Rattle.std.proofs.lemmas.List.Elements.{All-map, recursion_from_All}
-use Rattle.std.proofs.lemmas.List.Sorted.{All-permutation, IsPermutation-reverse}
-use Rattle.std.proofs.lemmas.Option.{slice_get-map}
-use Rattle.std.proofs.lemmas.Slice.Zip.{AllZip-long}
 use Rattle.rdf_values.specs.Answered.{Refuses}
 use Rattle.rdf_values.specs.declared.scripts.statement.Statement.TheVariants.{Print}
 use Rattle.rdf_model.specs.{Access, accesses, filled_by, loop_of, loop_results}

@@ -4,9 +4,7 @@ use Rattle.rdf_values.specs.{Column, FunctionNames, path, Statement, variations,
 use Rattle.rdf_values.specs.declared.scripts.statement.Statement.TheVariants.{Define, Redefine, Filter, Vary}
 use Rattle.graph_numbers.specs.{FilterAt, named_version, own_filters, own_results, own_versions, filters, list_sites, lists_sites, own_kinds, own_sites, results, site_in, SiteAt, sites, version_kinds}
 use Rattle.graph.specs.{result_path, all_expressions, AllCheckedAt, AreRows, AreSets, AreSites, AreTables, changed_set, Decides, Gives, GrowBy, is_among_own, IsBookedRow, IsCheckedAt, IsEmptyGain, IsFilterGain, IsGain, IsMadeGain, IsRow, IsRowGain, IsSet, IsSite, IsVaryGain, named_rows, Numbers, own_result_sets, own_site_sets, own_version_sets, paths, read_sets, result_sets, site_set, site_sets, value_expressions, varied_set, VarSet, version_sets}
-use Rattle.std.proofs.lemmas.List.{length-append, map-append}
-use Rattle.std.proofs.lemmas.List.Elements.{All-weaker}
-use Rattle.lemmas.proofs.{kept_at}
+use Rattle.lemmas.proofs.{All-weaker, kept_at, length-append, map-append}
 use Rattle.rdf_model.specs.{Site, site_at}
 use Rattle.expr_check.specs.{CheckedExpr}
 use Rattle.graph.specs.declared.refusals.Stop.{Stop}

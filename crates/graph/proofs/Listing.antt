@@ -1,7 +1,6 @@
 -- Tests over lists, places in lists, lists paired with lists, and lists of sets of variations.
 use Rattle.std.proofs.Common.{◌≡◌, ℕ, zero, suc, Bool, true, false, ◌||◌, List, [], ◌∷◌, ◌++◌, map, length, Some, None, refl, sym, ◌∙◌, ap, subst, arith, slice_get, take, drop, if◌then◌else◌, not, Result, OnOk, nat_eq, append_assoc, ◌<◌}
-use Rattle.std.specs.List.{list_any, AllZip, filter}
-use Rattle.lemmas.proofs.{any_at, eq_says, kept_at, mapped_at, something_at}
+use Rattle.lemmas.proofs.{AllZip, any_at, eq_says, filter, kept_at, list_any, mapped_at, something_at}
 use Rattle.rdf_values.specs.{among, place, same, Booked, ColType, Column, columns_in, FunctionNames, Statement}
 use Rattle.rdf_model.proofs.Accepted.{names_equal}
 use Rattle.expr_check.specs.{CheckedExpr, distinct}

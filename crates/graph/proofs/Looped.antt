@@ -1,10 +1,6 @@
 -- What a line adds to the lists of loops and Prints.
 use Rattle.std.proofs.Common.{if◌then◌else◌, ◌≡◌, ◌⊎◌, inl, inr, ℕ, zero, suc, ◌+◌, ◌-◌, ◌<◌, ◌≤◌, Bool, true, false, not, List, [], ◌∷◌, ◌++◌, map, length, take, drop, replicate, Option, Some, None, option_map, refl, sym, ◌∙◌, ap, subst, arith, slice_get, length-append, filter, filter_map, unwrap_or}
-use Rattle.std.proofs.lemmas.List.{append-nil, map-append, map-id, drop-take, length-replicate, take-append-drop}
-use Rattle.std.proofs.lemmas.List.Elements.{filter_map-append}
-use Rattle.std.proofs.lemmas.Simd.{map-map}
-use Rattle.std.proofs.lemmas.Slice.Zip.{AllZip-long}
-use Rattle.lemmas.proofs.{neither, take_front, take_no_longer}
+use Rattle.lemmas.proofs.{AllZip-long, append-nil, drop-take, filter_map-append, length-replicate, map-append, map-id, map-map, neither, take-append-drop, take_front, take_no_longer}
 use Rattle.rdf_values.specs.{among, Booked, booked_by, bookings, filled, Line, names_of, place, same, Statement, variations, waiting}
 use Rattle.rdf_values.specs.declared.scripts.statement.Statement.TheVariants.{Print}
 use Rattle.rdf_model.proofs.Accepted.{names_equal, itself}

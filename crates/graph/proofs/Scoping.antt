@@ -1,8 +1,6 @@
 -- A scope of the columns of an expression means what the node's columns do.
 use Rattle.std.proofs.Common.{if◌then◌else◌, ◌≡◌, ℕ, ◌<◌, Bool, true, false, List, [], ◌∷◌, ◌++◌, All, length, Some, Result, Ok, Err, OnOk, refl, sym, ◌∙◌, ap, subst, slice_get, nat_eq, arith}
-use Rattle.std.specs.List.{AllByRecursion}
-use Rattle.std.proofs.lemmas.List.Elements.{All-push, All-weaker, recursion_from_All}
-use Rattle.lemmas.proofs.{eq_says, within}
+use Rattle.lemmas.proofs.{All-push, All-weaker, AllByRecursion, eq_says, recursion_from_All, within}
 use Rattle.rdf_values.specs.{◌>>=◌, all_renamed, args_count, Bin, Call, callee, chosen_kind, Col, ColType, Column, column_kind, columns_in, Cond, EachArgument, EachColumn, End, FunctionNames, GraphCause, inverted_kind, is_visible, kind_by, kind_of, kinds_by, kinds_in, Lit, More, NamedTree, Neg, negated_kind, Not, number_in, numbered, operator_kind, path, Pick, picked_kind, renamed, result_kind, same, Scope, scope_at, scope_of, ScopeColumn, Shape, shape_of, Statement, target_of, Tree, Trees}
 use Rattle.rdf_values.specs.expressions.Expressions.{Truth}
 use Rattle.rdf_values.specs.declared.scripts.graph_cause.GraphCause.TheVariants.{UnknownColumn, WrongCount}

@@ -1,18 +1,15 @@
 -- How many sites, versions, variations and named filters there are, and the numbers of filters, whatever table they stand over.
 use Rattle.std.proofs.Common.{◌≡◌, ℕ, suc, ◌+◌, List, [], ◌∷◌, ◌++◌, length, if◌then◌else◌, refl, sym, ◌∙◌, ap, ◌≤◌, arith, ◌-◌, ◌<◌, map, Some, slice_get, option_to_list}
-use Rattle.std.proofs.lemmas.List.{length-append, length-map, map-append}
-use Rattle.std.proofs.lemmas.Slice.Zip.{AllZip-long}
+use Rattle.lemmas.proofs.{AllByRecursion, AllZip-long, kept_at, length-append, length-map, map-append}
 use Rattle.rdf_values.specs.{ColType, Column, FunctionNames, makes, NamedTree, parent_of, Statement, IsShort, Line, named_before}
 use Rattle.rdf_values.specs.declared.scripts.statement.Statement.TheVariants.{Filter}
 use Rattle.expr_check.specs.{CheckedExpr}
 use Rattle.graph_numbers.specs.{filter_sites, list_sites, lists_sites, own_filter_site, own_sites, site_count, SiteAt, sites, FilterAt, filters, own_filters, version_count}
 use Rattle.graph.specs.{AreSites, expression_total, filter_numbers, is_filter, IsSite, own_number, own_site_total, site_total, AreTables, labels, own_label, statements}
-use Rattle.std.specs.List.{AllByRecursion}
 use Rattle.graph_numbers.proofs.Bookable.{list_count, sites_few}
 use Rattle.graph_numbers.proofs.VersionKinds.{kind_count}
 use Rattle.graph.specs.declared.tables.Tables.{Tables}
 use Rattle.graph.proofs.Walking.{named_more}
-use Rattle.lemmas.proofs.{kept_at}
 use Rattle.graph_numbers.proofs.Listed.{next_at}
 
 pub sites_counted : (kinds : List ColType) (names : FunctionNames) (xs : List SiteAt) (cs : List CheckedExpr) → AreSites kinds names xs cs → length cs ≡ length xs

@@ -1,7 +1,6 @@
 -- Each version stands above the version below it, so that a walk down the Varys of a column ends.
 use Rattle.std.proofs.Common.{◌≡◌, ℕ, zero, suc, ◌+◌, ◌<◌, ◌≤◌, List, [], ◌∷◌, map, length, None, Some, refl, ap, subst, arith, slice_get}
-use Rattle.std.proofs.lemmas.Option.{slice_get_within}
-use Rattle.lemmas.proofs.{same_some}
+use Rattle.lemmas.proofs.{same_some, slice_get_within}
 use Rattle.rdf_values.specs.{AreAccepted, check_target, Column, first_refusal, FunctionNames, GraphCause, is_alias, is_visible, path, refuse_if, refuse_unless, scope_at, scope_of, Statement, variations, VaryValues}
 use Rattle.rdf_values.specs.declared.scripts.vary_values.VaryValues.TheVariants.{Lists, Vector}
 use Rattle.rdf_model.proofs.Accepted.{both_none, checked_of, if_fails, no_target, unless_holds, visible_known}

@@ -3,11 +3,8 @@ use Rattle.std.proofs.Common.{◌≡◌, ℕ, Bool, true, false, ◌||◌, List,
 use Rattle.rdf_values.specs.{aliases, among, Booked, booked_by, Booking, bookings, ColType, column_kind, FunctionNames, is_alias, is_result, is_visible, is_watched, kind_or_int, made_columns, names_of, Path, result_is, same, Scope, Statement, target_of, visible_columns, watched_results, Column, makes, named_before, parent_of, path}
 use Rattle.rdf_values.specs.declared.scripts.statement.Statement.TheVariants.{Watch, Filter}
 use Rattle.rdf_model.proofs.Accepted.{itself, names_equal, place_within}
-use Rattle.std.proofs.lemmas.List.{map-append, length-append}
-use Rattle.std.proofs.lemmas.List.Folds.{list_any-append}
-use Rattle.lemmas.proofs.{or_false}
+use Rattle.lemmas.proofs.{length-append, list_any, list_any-append, map-append, or_false}
 use Rattle.graph.specs.{books, result_in, count_from, is_named, own_number}
-use Rattle.std.specs.List.{list_any}
 use Rattle.graph_numbers.specs.{all_or, column_place, covered_at, filters_on, named_version, numbers_from, own_columns, own_filter, own_version, version_count}
 
 -- a name among the names of two lists

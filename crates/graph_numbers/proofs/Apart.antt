@@ -1,9 +1,6 @@
 -- No two sites of an accepted script have one node and places, and no two variations one name and tag.
 use Rattle.std.proofs.Common.{◌≡◌, ◌≢◌, ℕ, zero, suc, ◌+◌, ◌<◌, ◌≤◌, Bool, true, false, ◌||◌, ◌&&◌, List, [], ◌∷◌, ◌++◌, length, map, Option, Some, None, option_map, refl, sym, ◌∙◌, ap, arith, nat_eq, nat_lt, slice_get}
-use Rattle.std.specs.List.{list_any}
-use Rattle.std.proofs.lemmas.Bool.Decides.{Decides-eqb}
-use Rattle.std.proofs.lemmas.Option.{slice_get_within}
-use Rattle.lemmas.proofs.{and_holds, and_left_false, and_right_false, eq_itself, neither, never_true, or_left, or_right}
+use Rattle.lemmas.proofs.{and_holds, and_left_false, and_right_false, Decides-eqb, eq_itself, list_any, neither, never_true, or_left, or_right, slice_get_within}
 use Rattle.rdf_values.specs.{among, AreAccepted, check, check_node, check_tags, check_target, check_values, Column, first_refusal, FunctionNames, GraphCause, is_variation_name, makes, NamedTree, own_variations, path, place, refuse_if, repeats, same, same_variation, scope_at, scope_of, Statement, Variation, variations, VaryValues}
 use Rattle.rdf_values.specs.declared.scripts.statement.Statement.TheVariants.{Vary}
 use Rattle.rdf_model.specs.{same_site, Site}

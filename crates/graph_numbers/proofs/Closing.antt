@@ -7,8 +7,7 @@ use Rattle.rdf_model.specs.{◌>>=◌, booking_demands, call_outcome, column_dem
 use Rattle.rdf_model.specs.Laws.{gives, faults}
 use Rattle.rdf_model.proofs.Evaluations.{evaluate_renamed, call_known}
 use Rattle.graph_numbers.specs.{filter_sites, HasFilters, HasInputs, HasSourceIn, IfGiven, IfPassed, meets, own_filter_site, site_count, site_in, SiteAt, sites, Source, source_in, sources, through_sites, version_at}
-use Rattle.std.proofs.lemmas.List.{append-nil}
-use Rattle.std.proofs.lemmas.Option.{get_or_from_slice_get}
+use Rattle.lemmas.proofs.{append-nil, get_or_from_slice_get}
 use Rattle.graph_numbers.proofs.Apart.{site_number}
 use Rattle.graph_numbers.proofs.Extending.{Extends, shorter}
 use Rattle.graph_numbers.proofs.ColumnSources.{HasDemandsOf, column_demanded, column_source, demands}

@@ -1,14 +1,12 @@
 -- The loops by numbers are the event loops of the script.
 use Rattle.std.proofs.Common.{◌≡◌, ℕ, suc, ◌+◌, Bool, true, false, not, List, [], ◌∷◌, ◌++◌, map, length, Option, Some, None, option_map, refl, sym, ◌∙◌, ap, arith, slice_get, if◌then◌else◌, filter, filter_map, flat_map, option_and_then}
-use Rattle.std.proofs.lemmas.List.{append-nil, map-append}
+use Rattle.lemmas.proofs.{append-nil, filter_map-append, kept_at, map-append}
 use Rattle.rdf_values.specs.{among, Booked, booked_by, bookings, filled, Pass, passes_of, result_depends, Statement, Variation, variations, waiting}
 use Rattle.rdf_values.specs.declared.scripts.statement.Statement.TheVariants.{Print}
 use Rattle.rdf_model.specs.{Access, accesses, filled_by, loop_passes, loop_results}
 use Rattle.graph_numbers.specs.{loops, numbered_pass, own_loop, own_run, Pass as NumberedPass, pass_at, passes_from, places_from, result_passes, runs}
 use Rattle.graph_numbers.proofs.Extending.{Extends, itself, further, kept, shorter}
 use Rattle.graph_numbers.proofs.Listed.{by_test, next_at}
-use Rattle.std.proofs.lemmas.List.Elements.{filter_map-append}
-use Rattle.lemmas.proofs.{kept_at}
 
 pub booked_kept : (before after : List Statement) → Extends before after → (k : ℕ) (b : Booked) → slice_get (bookings before) k ≡ Some b → slice_get (bookings after) k ≡ Some b
 booked_kept = kept bookings booked_by (λ before s. refl)

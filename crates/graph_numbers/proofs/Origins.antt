@@ -1,8 +1,6 @@
 -- The version of a visible column is given by what gives the column its value at that node.
 use Rattle.std.proofs.Common.{◌≡◌, ℕ, zero, suc, ◌+◌, ◌<◌, Bool, true, false, List, [], ◌∷◌, length, map, Option, Some, None, Ok, refl, sym, ◌∙◌, ap, subst, arith, nat_eq, slice_get, if◌then◌else◌}
-use Rattle.std.proofs.lemmas.Option.{get_or_from_slice_get}
-use Rattle.std.proofs.lemmas.Bool.Decides.{Decides-eqb}
-use Rattle.lemmas.proofs.{kept_at}
+use Rattle.lemmas.proofs.{Decides-eqb, get_or_from_slice_get, kept_at}
 use Rattle.rdf_values.specs.{aliases, AreAccepted, check_lists, check_target, check_values, ColType, Column, column_kind, first_refusal, FunctionNames, GraphCause, kind_or_int, made_columns, makes, NamedTree, parent_of, Path, path, place, refuse_unless, same, scope_at, scope_of, Statement, target_of, Under, Value, VaryValues, visible_columns}
 use Rattle.rdf_values.specs.declared.scripts.statement.Statement.TheVariants.{Define, Redefine, Vary}
 use Rattle.rdf_values.specs.declared.scripts.vary_values.VaryValues.TheVariants.{Lists, Vector}

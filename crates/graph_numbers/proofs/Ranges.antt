@@ -1,7 +1,6 @@
 -- The sites of filters are sites.
 use Rattle.std.proofs.Common.{◌≡◌, ℕ, ◌<◌, ◌≤◌, List, [], ◌∷◌, ◌++◌, Some, sym, subst, arith, slice_get, length-append}
-use Rattle.std.proofs.lemmas.List.{append-nil}
-use Rattle.std.specs.List.{AllByRecursion}
+use Rattle.lemmas.proofs.{AllByRecursion, append-nil}
 use Rattle.rdf_values.specs.{Column, FunctionNames, parent_of, Statement}
 use Rattle.rdf_values.specs.declared.scripts.statement.Statement.TheVariants.{Filter}
 use Rattle.graph_numbers.specs.{filter_sites, FilterAt, filters, own_filter_site, own_sites, site_count, sites}

@@ -1,7 +1,6 @@
 -- The version of a visible column has the column's kind, and comes to a value of it.
 use Rattle.std.proofs.Common.{◌≡◌, ℕ, ◌+◌, Bool, true, false, List, [], ◌∷◌, map, length, Option, Some, None, Ok, refl, sym, ◌∙◌, ap, subst, arith, slice_get, if◌then◌else◌}
-use Rattle.std.proofs.lemmas.List.{length-append, length-map}
-use Rattle.lemmas.proofs.{kept_at, mapped_at}
+use Rattle.lemmas.proofs.{kept_at, length-append, length-map, mapped_at}
 use Rattle.rdf_values.specs.{aliases, AreAccepted, check_target, ColType, Column, column_kind, EachColumn, first_refusal, FitsRow, fn_names, FunctionNames, kind_or_int, made_columns, makes, parent_of, path, place, same, scope_at, scope_of, Statement, target_of, Under, Value, visible_columns}
 use Rattle.rdf_values.specs.declared.scripts.statement.Statement.TheVariants.{Define, Redefine, Vary}
 use Rattle.rdf_model.specs.{column_value, Dataset, FitsOutcome, Outcome, with_needs}

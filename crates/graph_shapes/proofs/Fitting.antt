@@ -1,11 +1,7 @@
 -- Joined loops are printed for the graph whose shapes their files have.
 use Rattle.std.proofs.Common.{◌≡◌, ℕ, zero, suc, ◌<◌, ◌≤◌, ◌+◌, Bool, cond, true, false, not, ◌&&◌, List, [], ◌∷◌, length, map, Option, None, Some, Result, Ok, refl, sym, ap, ◌∙◌, subst, arith, if◌then◌else◌, nat_lt, option_map, slice_get, unwrap_or}
 use Rattle.std.specs.Prelude.{⊤}
-use Rattle.std.specs.List.{position_from}
-use Rattle.std.proofs.lemmas.Iterator.Adapters.{position_from-zero}
-use Rattle.std.proofs.lemmas.List.{length-map}
-use Rattle.std.proofs.lemmas.Option.{slice_get-map}
-use Rattle.lemmas.proofs.{and_right, lt_says}
+use Rattle.lemmas.proofs.{and_right, length-map, lt_says, position_from, position_from-zero, slice_get-map}
 use Rattle.rdf_values.specs.{Booked, Fault}
 use Rattle.rdf_model.specs.{loop_passes, loop_results}
 use Rattle.graph_numbers.specs.{booked_statements, GraphView}

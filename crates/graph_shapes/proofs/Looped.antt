@@ -1,8 +1,7 @@
 -- The shapes of a loop, pass by pass, and of a graph, loop by loop.
 use Rattle.std.proofs.Common.{◌≡◌, ◌≤◌, ◌<◌, ◌+◌, ℕ, List, [], ◌∷◌, ◌++◌, length, map, take, Option, Some, sym, ap, ap₂, ◌∙◌, arith, option_map, slice_get, unwrap_or}
 use Rattle.std.proofs.lemmas.List.{length-map, map-append, take_all}
-use Rattle.std.proofs.lemmas.Option.{slice_get-map}
-use Rattle.lemmas.proofs.{something_at, take_next}
+use Rattle.lemmas.proofs.{slice_get-map, something_at, take_next}
 use Rattle.rdf_values.specs.{Booked, ColType, Pass}
 use Rattle.rdf_model.specs.{loop_passes, loop_results}
 use Rattle.graph_numbers.specs.{booked_statements, graph_loops, GraphView, pass_at}

@@ -1,8 +1,6 @@
 -- The shape of a pass by its numbers.
 use Rattle.std.proofs.Common.{◌≡◌, ℕ, ◌≤◌, List, [], length, map, Option, None, Some, refl, sym, ap, ◌∙◌, subst, arith, option_map, slice_get, unwrap_or}
-use Rattle.std.proofs.lemmas.List.{length-map, length-reverse}
-use Rattle.std.proofs.lemmas.Option.{slice_get-map}
-use Rattle.lemmas.proofs.{same_some}
+use Rattle.lemmas.proofs.{length-map, length-reverse, same_some, slice_get-map}
 use Rattle.rdf_values.specs.{ActionAt, ActionKind, AreAccepted, Booked, Booking, bookings, cells_of, ColType, history, Line, named_before, Pass, Path, ReportOn, scope_of}
 use Rattle.rdf_model.proofs.Verdicts.{verdict_is_the_first_refusal}
 use Rattle.graph_numbers.specs.{booked_statements, graph_results, GraphView, IsGraph, kind_of_booking, Pass as NumberedPass, ResultAt, ResultKind}

@@ -1,9 +1,6 @@
 -- Bounds on a cell's sums.
 use Rattle.std.proofs.Common.{ℕ, ◌≡◌, ◌+◌, ◌*◌, ◌^◌, ◌<◌, ◌≤◌, get_or, List, ℤ, pos, negsuc, ◌+ℤ◌, ◌*ℤ◌, arith, lit<, set, w64, FitsSigned, nat_abs, All}
-use Rattle.std.specs.Int.{w128}
-use Rattle.std.proofs.lemmas.Int.{fits_signed_from_abs, fits_signed_mul, unsigned_abs-mul}
-use Rattle.std.proofs.lemmas.List.Elements.{All-set}
-use Rattle.lemmas.proofs.{abs_add}
+use Rattle.lemmas.proofs.{abs_add, All-set, fits_signed_from_abs, fits_signed_mul, unsigned_abs-mul, w128}
 use Rattle.histograms.specs.{CellSum, IsBounded, IsWeight, with_weight}
 
 squares_below : (a b : ℕ) → a ≤ b → a * a ≤ b * b

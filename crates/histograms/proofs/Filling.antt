@@ -1,10 +1,6 @@
 -- What a cell holds after one more point.
 use Rattle.std.proofs.Common.{ℕ, zero, suc, ◌≡◌, ◌+◌, ◌<◌, ◌≤◌, length, get_or, set, map, List, [], ◌∷◌, ◌++◌, ℤ, pos, ◌+ℤ◌, ◌*ℤ◌, arith, refl, ap, sym, ◌∙◌, ⊎_elim, add-one, flat_map, fold}
-use Rattle.std.proofs.lemmas.Bool.{cases_eq, eq-eqb, ne_eqb}
-use Rattle.std.proofs.lemmas.Grind.{flat_map-append}
-use Rattle.std.proofs.lemmas.List.{append-nil, get_or-map, get_or-set_other, get_or-set_same, get_or_append_left, get_or_at, length-map, length-set, map-append, same_lists}
-use Rattle.std.proofs.lemmas.List.Sums.{fold-append}
-use Rattle.std.proofs.Math.IntN.{+ℤ_idl, +ℤ_idr, +ℤ_assoc}
+use Rattle.lemmas.proofs.{+ℤ_assoc, +ℤ_idl, +ℤ_idr, append-nil, cases_eq, eq-eqb, flat_map-append, fold-append, get_or-map, get_or-set_other, get_or-set_same, get_or_append_left, get_or_at, length-map, length-set, map-append, ne_eqb, same_lists}
 use Rattle.rdf_values.proofs.Below.{length-below}
 use Rattle.rdf_values.specs.{below, bin, cells_on, flat_cell, integer_sum, Item, weight_in}
 use Rattle.rdf_values.specs.declared.results.item.Item.TheVariants.{Point}

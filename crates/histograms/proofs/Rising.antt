@@ -1,11 +1,6 @@
 -- Edges that rise, and the place of a value among them.
 use Rattle.std.proofs.Common.{ℕ, zero, suc, ◌≡◌, ◌<◌, ◌≤◌, Bool, true, false, cond, ◌&&◌, length, get_or, List, [], ◌∷◌, ℤ, ◌<ℤ◌, arith, refl, sym, ◌∙◌, add-one, int_lt, int_le, count_by, nat_le}
-use Rattle.std.proofs.lemmas.Bool.{leb-true}
-use Rattle.std.proofs.lemmas.Int.{ints}
-use Rattle.std.proofs.lemmas.List.Sums.{sum_by-cons}
-use Rattle.std.specs.List.{IsAllAdjacentAnswer}
-use Rattle.std.specs.List.Sorted.{IsPartitionPoint, IsPartitionedBy}
-use Rattle.lemmas.proofs.{both_true}
+use Rattle.lemmas.proofs.{both_true, ints, IsAllAdjacentAnswer, IsPartitionedBy, IsPartitionPoint, leb-true, sum_by-cons}
 use Rattle.rdf_values.specs.{are_edges, rises}
 
 rises_all : (xs : List ℤ) → ((k : ℕ) (d : ℤ) → suc k < length xs → true ≡ int_lt (get_or xs k d) (get_or xs (suc k) d)) → rises xs ≡ true

@@ -1,10 +1,7 @@
 -- Where the buckets of an axis begin, and the cell that is found by them.
 use mir.Val.{bool_byte}
 use Rattle.std.proofs.Common.{ℕ, ◌≡◌, ◌<◌, ◌≤◌, ◌+◌, ◌-◌, inl, inr, Bool, true, false, length, get_or, List, [], ℤ, pos, ◌-ℤ◌, ◌<ℤ◌, ◌≤ℤ◌, FitsSigned, w64, to_z, of_z, arith, refl, sym, subst, ◌∙◌, ap, int_le, int_lt, unsigned_abs}
-use Rattle.std.proofs.Math.Pow.{shr_mono}
-use Rattle.std.proofs.lemmas.Int.{ints, to_z-of_z}
-use Rattle.std.proofs.lemmas.Bool.{cases_Bool, cases_lt, false_from_ne_true}
-use Rattle.std.proofs.lemmas.List.{get_or_default}
+use Rattle.lemmas.proofs.{cases_Bool, cases_lt, false_from_ne_true, get_or_default, ints, shr_mono, to_z-of_z}
 use Rattle.rdf_values.specs.{are_edges, bin, rises}
 use Rattle.histograms.specs.{AreStarts, bucket_of, KeepsEdges}
 use Rattle.histograms.specs.declared.buckets.Buckets.{Buckets}

@@ -1,8 +1,7 @@
 -- What an action tries and reads: sites, and versions that can be read, one for each of its columns, which come to values that it takes.
 use Rattle.std.proofs.Common.{◌≡◌, ℕ, ◌<◌, ◌≤◌, List, [], ◌∷◌, length, map, Option, Some, sym, ◌∙◌, ap, subst, arith, slice_get, length-append}
 use Rattle.std.specs.Prelude.{⊤}
-use Rattle.std.specs.List.{AllByRecursion}
-use Rattle.std.proofs.lemmas.List.{length-map}
+use Rattle.lemmas.proofs.{AllByRecursion, length-map}
 use Rattle.rdf_values.specs.{ActionAt, ActionKind, AreAccepted, Booking, columns_of, FitsRow, fn_names, history, path, ReportOn, scope_of, Statement, Under, Value}
 use Rattle.rdf_values.specs.declared.scripts.statement.Statement.TheVariants.{Action}
 use Rattle.rdf_model.specs.{Dataset, FitsFeed, for_all, Gives}

@@ -1,8 +1,6 @@
 -- The columns of a site can be asked for, and come to values of their kinds.
 use Rattle.std.proofs.Common.{◌≡◌, ℕ, zero, suc, ◌<◌, Bool, not, List, [], ◌∷◌, map, length, Option, Some, sym, subst, arith, nat_eq, slice_get, filter, unwrap_or}
-use Rattle.std.specs.List.{AllByRecursion}
-use Rattle.std.proofs.lemmas.List.Elements.{All-from_recursion, recursion_from_All}
-use Rattle.std.proofs.lemmas.Option.{slice_get_within}
+use Rattle.lemmas.proofs.{All-from_recursion, AllByRecursion, recursion_from_All, slice_get_within}
 use Rattle.rdf_values.specs.{ColType, Column, columns_in, FitRows, FitsRow, history, NumTree, Value}
 use Rattle.rdf_model.specs.{FitsOutcome}
 use Rattle.expr_check.specs.{CheckedExpr, distinct}

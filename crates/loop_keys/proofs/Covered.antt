@@ -1,12 +1,6 @@
 -- Which named filters reports cover: by the nodes of the filters, and by their numbers.
 use Rattle.std.proofs.Common.{◌≡◌, ◌⊎◌, inl, inr, ℕ, suc, ◌<◌, Bool, true, false, ◌||◌, List, [], ◌∷◌, length, map, Option, Some, None, refl, sym, ◌∙◌, ap, arith, nat_eq, slice_get, Contains}
-use Rattle.std.specs.List.{list_any}
-use Rattle.std.proofs.lemmas.Bool.{cases_order}
-use Rattle.std.proofs.lemmas.Bool.Decides.{Decides-eqb}
-use Rattle.std.proofs.lemmas.List.{length-map}
-use Rattle.std.proofs.lemmas.Map.Views.{Contains-from_any}
-use Rattle.std.proofs.lemmas.Option.{slice_get_within}
-use Rattle.lemmas.proofs.{mapped_at, or_left, or_right, something_at}
+use Rattle.lemmas.proofs.{cases_order, Contains-from_any, Decides-eqb, length-map, list_any, mapped_at, or_left, or_right, slice_get_within, something_at}
 use Rattle.rdf_values.specs.{ActionAt, AreAccepted, Booking, check, Column, fn_names, Function, FunctionNames, history, makes, named_before, Pass, ReportOn, same, scope_of, Statement}
 use Rattle.rdf_values.specs.declared.scripts.statement.Statement.TheVariants.{Filter, Report}
 use Rattle.rdf_model.specs.{filter_node, is_covered, reports_on}

@@ -1,8 +1,6 @@
 -- How many keys the passes of an entry demand: at most as many as there are demands, each counted once.
 use Rattle.std.proofs.Common.{◌≡◌, ℕ, ◌≤◌, Bool, true, List, [], refl, sym, ap, subst, nat_eq, unwrap_or, flat_map}
-use Rattle.std.specs.List.{list_any}
-use Rattle.std.proofs.lemmas.Bool.Decides.{Decides-eqb}
-use Rattle.std.proofs.lemmas.List.Elements.{All-from_recursion}
+use Rattle.lemmas.proofs.{All-from_recursion, Decides-eqb, list_any}
 use Rattle.rdf_values.specs.{Value}
 use Rattle.rdf_model.specs.{Demand, demanded, distinct, pass_demands, same_demand}
 use Rattle.rdf_model.proofs.Demands.{demand_is}

@@ -1,8 +1,6 @@
 -- What a pass demands, as a set of sites by their keys; and how many keys that is.
 use Rattle.std.proofs.Common.{◌≡◌, ℕ, zero, suc, ◌+◌, ◌<◌, ◌≤◌, Bool, true, false, ◌||◌, List, [], ◌∷◌, length, Option, Some, refl, sym, ◌∙◌, ap, arith, nat_eq, slice_get, if◌then◌else◌, All}
-use Rattle.std.specs.List.{list_any}
-use Rattle.std.proofs.lemmas.Bool.Decides.{Decides-eqb}
-use Rattle.std.proofs.lemmas.List.Elements.{recursion_from_All}
+use Rattle.lemmas.proofs.{Decides-eqb, list_any, recursion_from_All}
 use Rattle.rdf_values.specs.{fn_names, history}
 use Rattle.rdf_model.specs.{Demand, projected}
 use Rattle.graph_numbers.specs.{graph_sites, graph_under, graph_variations, HasSourceIn, SiteAt, Source}

@@ -1,7 +1,6 @@
 -- One pass of an entry, over plain values.
 use Rattle.std.proofs.Common.{◌≡◌, ℕ, suc, ◌+◌, ◌<◌, ◌≤◌, List, ◌∷◌, length, take, Option, Some, None, option_map, refl, sym, ◌∙◌, ap, arith, get_or, slice_get, MatchOption}
-use Rattle.std.proofs.lemmas.Option.{slice_get-get_or}
-use Rattle.lemmas.proofs.{take_all}
+use Rattle.lemmas.proofs.{slice_get-get_or, take_all}
 use Rattle.rdf_values.specs.{ActionAt, Booking, Pass, ReportOn}
 use Rattle.rdf_model.specs.{kinds_in}
 use Rattle.graph_numbers.specs.{graph_results, kind_of_booking, Pass as NumberedPass, ResultAt, ResultKind}

@@ -1,8 +1,6 @@
 -- Writing an outcome, and filling one site after another.
 use Rattle.std.proofs.Common.{◌≡◌, ℕ, ◌+◌, ◌<◌, Bool, true, List, Option, Some, sym, ◌∙◌, ap, subst, arith, length, get_or-set_same, get_or-set_other, ◌⊎◌, inl, inr, slice_get, slice_set}
-use Rattle.std.proofs.lemmas.Bool.{cases_eq}
-use Rattle.std.proofs.lemmas.List.Sums.{sum_by-set}
-use Rattle.lemmas.proofs.{something_at}
+use Rattle.lemmas.proofs.{cases_eq, something_at, sum_by-set}
 use Rattle.expr_check.specs.{CheckedExpr}
 use Rattle.graph_numbers.specs.{graph_sites, graph_variations, IsSiteExpr, SiteAt, Source}
 use Rattle.loop_keys.specs.{CanLook, Grows, Held, held_count, held_in, is_held, IsFilled, IsJob, IsRight, IsSiteOf, IsSound, IsSourceIn, job_graph, JobView, key, key_count, OnlyIn, site_in}

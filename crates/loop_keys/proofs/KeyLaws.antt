@@ -1,13 +1,11 @@
 -- The keys of two sites differ, and one site has one outcome under the variations of one key.
 use Rattle.std.proofs.Common.{◌≡◌, ◌⊎◌, inl, inr, ℕ, zero, suc, ◌+◌, ◌<◌, ◌≤◌, Bool, true, false, cond, List, [], ◌∷◌, length, take, Option, Some, None, refl, sym, ◌∙◌, ap, arith, slice_get, if◌then◌else◌, count_by}
-use Rattle.std.proofs.lemmas.Bool.{cases_order}
-use Rattle.std.proofs.lemmas.List.Sums.{sum_by-cons}
+use Rattle.lemmas.proofs.{cases_order, something_at, sum_by-cons}
 use Rattle.rdf_values.specs.{Column, Function, Statement, Under, Value, Variation, variations}
 use Rattle.rdf_model.specs.{Outcome}
 use Rattle.rdf_model.proofs.Variations.{unvaried_site}
 use Rattle.graph_numbers.specs.{depends_on, graph_sites, graph_variations, GraphView, holds_at, site_outcome, SiteAt, under_at}
 use Rattle.graph_numbers.proofs.Listed.{by_test}
-use Rattle.lemmas.proofs.{something_at}
 use Rattle.loop_keys.specs.{key, key_count, keys_before, own_keys, slot, slot_at}
 
 -- ---- counts

@@ -1,7 +1,6 @@
 -- How many passes a loop has.
 use Rattle.std.proofs.Common.{◌≡◌, ℕ, suc, ◌*◌, ◌<◌, ◌≤◌, ◌^◌, Bool, not, List, [], ◌∷◌, length, map, Option, Some, None, refl, arith, slice_get, unwrap_or, if◌then◌else◌, length-append}
-use Rattle.std.proofs.Math.Nat.{mul-le-mul, mul-le-mul_right}
-use Rattle.std.proofs.lemmas.List.{length-map, length-reverse}
+use Rattle.lemmas.proofs.{length-map, length-reverse, mul-le-mul, mul-le-mul_right}
 use Rattle.rdf_values.specs.{among, Booked, bookings, filled, history, Line, Script, Statement, variations}
 use Rattle.rdf_values.specs.declared.scripts.statement.Statement.TheVariants.{Print}
 use Rattle.graph_numbers.specs.{booked_statements, graph_loops, graph_variations, GraphView, IsGraph, loops, own_loop, Pass as NumberedPass, passes_from, places_from, result_passes}

@@ -1,8 +1,6 @@
 -- The passes of a job's loop by the numbers of their results and variations: what they come to and demand.
 use Rattle.std.proofs.Common.{◌≡◌, ℕ, suc, ◌<◌, List, [], ◌∷◌, length, map, Option, Some, None, refl, sym, ◌∙◌, ap, unwrap_or, slice_get}
-use Rattle.std.proofs.lemmas.List.{length-map}
-use Rattle.std.proofs.lemmas.Option.{slice_get_within}
-use Rattle.lemmas.proofs.{mapped_at}
+use Rattle.lemmas.proofs.{length-map, mapped_at, slice_get_within}
 use Rattle.rdf_values.specs.{Booked, bookings, fn_names, history, Pass, Value}
 use Rattle.rdf_model.specs.{booking_outcome, loop_passes, loop_results}
 use Rattle.graph_numbers.specs.{booking_numbers, graph_filters, graph_loops, graph_results, graph_under, Pass as NumberedPass, pass_at, ResultAt}

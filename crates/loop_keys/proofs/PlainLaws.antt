@@ -1,9 +1,6 @@
 -- Sites without vectors: no evaluation of them wants memory, and what they need is among them.
 use Rattle.std.proofs.Common.{◌≡◌, ℕ, Bool, true, false, ◌&&◌, not, List, [], ◌∷◌, Option, Some, refl, sym, ◌∙◌, ap, subst, nat_eq, slice_get, unwrap_or, if◌then◌else◌}
-use Rattle.std.specs.List.{AllByRecursion}
-use Rattle.std.proofs.lemmas.Bool.Decides.{Decides-eqb}
-use Rattle.std.proofs.lemmas.List.Elements.{recursion_from_All}
-use Rattle.lemmas.proofs.{both_true}
+use Rattle.lemmas.proofs.{AllByRecursion, both_true, Decides-eqb, recursion_from_All}
 use Rattle.rdf_values.specs.{Bin, Call, Callee, Col, ColType, Cond, EachArgument, EachColumn, End, Lit, More, Neg, Not, NumTree, Pick, Trees, Value}
 use Rattle.rdf_values.specs.expressions.Expressions.{Truth}
 use Rattle.rdf_model.specs.{call_outcome, evaluate, is_need, Needs, Outcome, with_needs, without}

@@ -1,9 +1,6 @@
 -- The plan of a loop, as it is made and read.
 use Rattle.std.proofs.Common.{◌≡◌, ℕ, ◌+◌, ◌<◌, ◌≤◌, Bool, true, false, ◌||◌, List, length, take, Option, Some, None, option_map, sym, ◌∙◌, ap, arith, nat_eq, get_or, slice_get}
-use Rattle.std.specs.List.{list_any}
-use Rattle.std.proofs.lemmas.List.Folds.{list_any_at, list_any_more}
-use Rattle.std.proofs.lemmas.Option.{slice_get-get_or}
-use Rattle.lemmas.proofs.{take_all}
+use Rattle.lemmas.proofs.{list_any, list_any_at, list_any_more, slice_get-get_or, take_all}
 use Rattle.graph_numbers.specs.{graph_results, GraphView, Pass as NumberedPass, ResultAt}
 use Rattle.loop_keys.specs.{covers_of, is_covering, job_graph, JobView, numbered_passes}
 use Rattle.loop_keys.proofs.PassNumbers.{result_inside}

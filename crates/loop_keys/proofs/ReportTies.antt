@@ -1,7 +1,6 @@
 -- Reports: what their filters come to and demand, by their numbers.
 use Rattle.std.proofs.Common.{◌≡◌, ℕ, zero, suc, Bool, true, List, [], ◌∷◌, Option, Some, None, refl, sym, ◌∙◌, ap, subst, slice_get, All, Contains, flat_map}
-use Rattle.std.proofs.lemmas.List.Elements.{All-from_recursion, recursion_from_All}
-use Rattle.std.proofs.lemmas.Option.{slice_get-get_or}
+use Rattle.lemmas.proofs.{All-from_recursion, recursion_from_All, slice_get-get_or}
 use Rattle.rdf_values.specs.{ActionAt, Booking, history, Path, ReportOn, Value}
 use Rattle.rdf_model.specs.{booking_demands, Demand, Entry, fault_in, filter_demands, Outcome}
 use Rattle.graph_numbers.specs.{booking_numbers, FilterAt, graph_filters, graph_results, graph_under, report_numbers}

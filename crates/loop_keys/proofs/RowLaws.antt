@@ -1,8 +1,6 @@
 -- Where what is read of an entry stands, and how it is found there.
 use Rattle.std.proofs.Common.{◌≡◌, ◌⊎◌, inl, inr, ℕ, zero, suc, ◌+◌, ◌<◌, ◌≤◌, List, [], ◌∷◌, ◌++◌, length, Option, Some, None, refl, sym, ◌∙◌, ap, subst, arith, get_or, slice_get}
-use Rattle.std.proofs.lemmas.List.{get_or_past}
-use Rattle.std.proofs.lemmas.Bool.{cases_lt}
-use Rattle.std.proofs.lemmas.Option.{get_or_from_slice_get, slice_get_past}
+use Rattle.lemmas.proofs.{cases_lt, get_or_from_slice_get, get_or_past, slice_get_past}
 use Rattle.graph_numbers.specs.{graph_sites, graph_sources, graph_variations, GraphView, SiteAt, Source, source_in}
 use Rattle.loop_keys.proofs.Elements.{more_each, read_each}
 use Rattle.loop_keys.specs.{AreEach, AreKeys, AreUnder, IsRow, key, key_count, key_or_count, key_under, keys_before, Place, place_of, Row, row_under, slot_at}

@@ -1,8 +1,6 @@
 -- What the next entry gives to a tally, by the passes of a job's loop.
 use Rattle.std.proofs.Common.{◌≡◌, ℕ, zero, suc, ◌+◌, true, false, List, [], ◌∷◌, ◌++◌, length, take, Some, sym, ◌∙◌, ap, slice_get, if◌then◌else◌, refl, length-append}
-use Rattle.std.proofs.lemmas.List.{append-nil}
-use Rattle.std.proofs.lemmas.List.Concat.{flat_map-append}
-use Rattle.lemmas.proofs.{mapped_at, take_next}
+use Rattle.lemmas.proofs.{append-nil, flat_map-append, mapped_at, take_next}
 use Rattle.rdf_values.specs.{ActionAt, ActionKind, Booking, history, named_before, Pass, Path, ReportOn, Value}
 use Rattle.rdf_model.specs.{Dataset, filter_reach, is_covered, items_of, kind_in, kinds_in, Reach, reaches_of, spread_in, spreads_of}
 use Rattle.rdf_model.specs.declared.loop_facts.Reach.TheVariants.{Stopped}

@@ -1,8 +1,6 @@
 -- Counts that are added filter by filter.
 use Rattle.std.proofs.Common.{◌≡◌, ℕ, zero, suc, ◌<◌, List, [], ◌∷◌, length, get_or, refl, arith}
-use Rattle.std.specs.List.{All}
-use Rattle.std.proofs.lemmas.List.{ext_get_or}
-use Rattle.std.proofs.lemmas.List.Elements.{All-from_get_or}
+use Rattle.lemmas.proofs.{All, All-from_get_or, ext_get_or}
 use Rattle.loop_pieces.specs.{AreCounts, both, Counts, HaveRoom, nothing}
 use Rattle.loop_pieces.specs.Flows.{added}
 

@@ -1,12 +1,7 @@
 -- Items by the clusters that fed them.
 use Rattle.std.proofs.Common.{◌≡◌, ℕ, ◌<◌, ◌≤◌, List, [], ◌∷◌, ◌++◌, map, false, refl, sym, ap, ap₂, ◌∙◌, subst, arith, ◌==◌, nat_le, IsPermutation}
 use Rattle.std.specs.Prelude.{⊤}
-use Rattle.std.specs.List.{All, filter}
-use Rattle.std.proofs.lemmas.Bool.{cond_both, eq-eqb, cond-true, cond-false, leb-true, leb-false, ne_eqb}
-use Rattle.std.proofs.lemmas.Bool.Decides.{nat_tests}
-use Rattle.std.proofs.lemmas.Grind.{common_steps}
-use Rattle.std.proofs.lemmas.List.Elements.{filter-append}
-use Rattle.std.proofs.lemmas.List.Sorted.{All-permutation, IsPermutation-append_comm, IsPermutation-append_left, IsPermutation-cons, IsPermutation-refl, IsPermutation-sym, IsPermutation-trans}
+use Rattle.lemmas.proofs.{All, All-permutation, common_steps, cond-false, cond-true, cond_both, eq-eqb, filter, filter-append, IsPermutation-append_comm, IsPermutation-append_left, IsPermutation-cons, IsPermutation-refl, IsPermutation-sym, IsPermutation-trans, leb-false, leb-true, nat_tests, ne_eqb}
 use Rattle.rdf_values.specs.{ActionKind, fold_items}
 use Rattle.actions.specs.{Accumulator, by_cluster, Fed, HasFed, kept_of, put}
 

@@ -1,7 +1,6 @@
 -- The first fault, cluster by cluster.
 use Rattle.std.proofs.Common.{◌≡◌, ◌⊎◌, ℕ, suc, ◌+◌, ◌-◌, ◌<◌, ◌≤◌, List, [], ◌∷◌, ◌++◌, length, map, Option, None, Some, refl, sym, ap, ap₂, ◌∙◌, inl, inr, arith, slice_get, slice_range, option_map}
-use Rattle.std.proofs.lemmas.Option.{slice_get-map}
-use Rattle.lemmas.proofs.{range_length, same_some, take_at_most}
+use Rattle.lemmas.proofs.{range_length, same_some, slice_get-map, take_at_most}
 use Rattle.rdf_values.specs.{EntryFault, Fault, first_in, Lead, Pass, Span, Value}
 use Rattle.rdf_values.proofs.Leading.{led_are_in_order}
 use Rattle.rdf_model.specs.{Dataset, fault_at, fault_or, first_fault_from, first_fault_in, first_of, span_rows}

@@ -1,9 +1,6 @@
 -- The items of the clusters in a set.
 use Rattle.std.proofs.Common.{◌≡◌, ℕ, zero, suc, ◌+◌, ◌≤◌, List, [], ◌∷◌, ◌++◌, map, false, inl, inr, refl, sym, ap, ap₂, ◌∙◌, subst, arith, append_assoc, ◌==◌, flat_map, slice_get}
-use Rattle.std.specs.List.Sorted.{IsStrictlyIncreasing}
-use Rattle.std.proofs.lemmas.Bool.{cases_eq, ne_eqb}
-use Rattle.std.proofs.lemmas.List.{map-append}
-use Rattle.std.proofs.lemmas.Grind.{flat_map-append}
+use Rattle.lemmas.proofs.{cases_eq, flat_map-append, IsStrictlyIncreasing, map-append, ne_eqb}
 use Rattle.rdf_values.specs.{IsUnion, Item, times}
 use Rattle.rdf_model.specs.{items_over, list_at, span_rows}
 use Rattle.rdf_model.specs.declared.loop_facts.LoopFacts.{LoopFacts}

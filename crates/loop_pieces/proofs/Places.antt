@@ -1,9 +1,7 @@
 -- Clusters by their numbers, and clusters that lead from one entry to another.
 use Rattle.std.proofs.Common.{◌≡◌, ℕ, zero, suc, ◌+◌, ◌-◌, ◌≤◌, List, [], ◌∷◌, ◌++◌, length, map, take, drop, Option, Some, refl, sym, ap, ◌∙◌, arith, flat_map, slice_get, slice_range}
 use Rattle.std.proofs.lemmas.List.{map-append, take_all}
-use Rattle.std.proofs.lemmas.List.Folds.{flat_map-map}
-use Rattle.std.proofs.lemmas.Simd.{map-map}
-use Rattle.lemmas.proofs.{drop_plus, take_plus}
+use Rattle.lemmas.proofs.{drop_plus, flat_map-map, map-map, take_plus}
 use Rattle.rdf_values.specs.{below, Lead, Span}
 
 below_front : (n : ℕ) → below (suc n) ≡ 0 ∷ map (λ k. suc k) (below n)

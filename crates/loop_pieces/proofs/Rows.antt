@@ -1,12 +1,6 @@
 -- How many rows and counts the clusters of a set have.
 use Rattle.std.proofs.Common.{◌≡◌, ℕ, ◌+◌, ◌-◌, ◌<◌, ◌≤◌, List, [], ◌∷◌, ◌++◌, length, drop, cond, Bool, Option, None, Some, refl, sym, ap, ap₂, ◌∙◌, arith, append-nil, length-drop, flat_map, slice_get, count_by}
-use Rattle.std.specs.List.{sum_by}
-use Rattle.std.specs.List.Sorted.{IsStrictlyIncreasing}
-use Rattle.std.proofs.lemmas.Grind.{common_steps}
-use Rattle.std.proofs.lemmas.List.{length-take}
-use Rattle.std.proofs.lemmas.List.Concat.{length-flat_map}
-use Rattle.std.proofs.lemmas.List.Sums.{sum_by-cons, sum_by-append, sum_by-le}
-use Rattle.std.proofs.lemmas.List.Sorted.{sum_by-IsPermutation}
+use Rattle.lemmas.proofs.{common_steps, IsStrictlyIncreasing, length-flat_map, length-take, sum_by, sum_by-append, sum_by-cons, sum_by-IsPermutation, sum_by-le}
 use Rattle.rdf_values.specs.{IsUnion, Span}
 use Rattle.rdf_model.specs.{if_there, is_passed, is_reached, IsLoopFacts, Reach, reaches_over, rows_in, span_rows}
 use Rattle.rdf_model.specs.declared.loop_facts.LoopFacts.{LoopFacts}

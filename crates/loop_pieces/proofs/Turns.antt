@@ -1,7 +1,6 @@
 -- One turn of merging accumulators.
 use Rattle.std.proofs.Common.{◌≡◌, ℕ, ◌+◌, ◌<◌, ◌≤◌, List, length, set, get_or, sym, ◌∙◌, subst, ⊎_elim, arith, get_or-set_same, get_or-set_other}
-use Rattle.std.proofs.lemmas.Bool.{cases_lt}
-use Rattle.std.proofs.lemmas.List.{get_or_default}
+use Rattle.lemmas.proofs.{cases_lt, get_or_default}
 use Rattle.actions.specs.{Accumulator}
 use Rattle.loop_pieces.specs.{IsMerged}
 

@@ -1,12 +1,6 @@
 -- Pieces of a watched result.
 use Rattle.std.proofs.Common.{◌≡◌, ℕ, ◌+◌, ◌-◌, ◌*◌, ◌^◌, ◌≤◌, ℤ, pos, ◌+ℤ◌, List, [], ◌∷◌, ◌++◌, length, map, get_or, drop, Option, None, Some, refl, sym, ap, ◌∙◌, subst, arith, length-append, flat_map, fold, nat_abs, slice_get}
-use Rattle.std.specs.List.{All, AllByRecursion}
-use Rattle.std.specs.Int.{int_max, int_min}
-use Rattle.std.specs.List.Sorted.{IsStrictlyIncreasing}
-use Rattle.std.proofs.lemmas.Int.{ints}
-use Rattle.std.proofs.lemmas.List.Elements.{All-append, All-drop, All-head, All-nil, All-tail, All-take, recursion_from_All}
-use Rattle.std.proofs.lemmas.Option.{slice_get-get_or}
-use Rattle.lemmas.proofs.{abs_add, same_some}
+use Rattle.lemmas.proofs.{abs_add, All, All-append, All-drop, All-head, All-nil, All-tail, All-take, AllByRecursion, int_max, int_min, ints, IsStrictlyIncreasing, recursion_from_All, same_some, slice_get-get_or}
 use Rattle.rdf_values.specs.{ActionKind, Filled, fold_items, Has64Bits, IsUnion, Item, numbers_of, Span}
 use Rattle.rdf_values.specs.results.Fold as filled
 use Rattle.rdf_model.specs.{FitsAction, FitsSpread, IsLoopFacts, items_over, list_at, result_over, rows_in, span_rows}

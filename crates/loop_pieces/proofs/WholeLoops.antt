@@ -1,7 +1,6 @@
 -- A piece gives what separate passes give over the rows of its clusters.
 use Rattle.std.proofs.Common.{◌≡◌, ℕ, zero, suc, ◌<◌, ◌≤◌, Bool, true, List, [], ◌∷◌, ◌++◌, length, get_or, Option, None, Some, refl, sym, ap, ◌∙◌, subst, arith, length-append, flat_map, slice_get, slice_range, option_map, All}
-use Rattle.std.proofs.lemmas.Option.{slice_get-get_or, slice_get-map, slice_get_within, get_or_from_slice_get}
-use Rattle.lemmas.proofs.{any_at, same_some}
+use Rattle.lemmas.proofs.{any_at, get_or_from_slice_get, same_some, slice_get-get_or, slice_get-map, slice_get_within}
 use Rattle.rdf_values.specs.{ActionAt, ActionKind, below, Booking, fold_items, Lead, Pass, Path, ReportOn, same, Span, Under, Value}
 use Rattle.rdf_values.proofs.Below.{slice_get-below}
 use Rattle.rdf_model.specs.{◌>>=◌, action_pass, booking_outcome, Dataset, Entry, fault_in, filter_in, filter_node, FilterCounts, is_covered, kind_in, kinds_in, loop_facts, Outcome, over_clusters, report_in, reports_on, result_over, rows_in, span_rows}

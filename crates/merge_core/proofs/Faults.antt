@@ -1,8 +1,6 @@
 -- The first fault, from what is known of the clusters that were drawn.
 use Rattle.std.proofs.Common.{◌≡◌, ◌⊎◌, ℕ, zero, suc, ◌<◌, ◌≤◌, List, [], ◌∷◌, ◌++◌, length, Option, None, Some, refl, sym, ap, ◌∙◌, inl, inr, ⊎_elim, arith, slice_get, nat_le}
-use Rattle.std.proofs.lemmas.Bool.{cases_lt, cond-true, cond-false, le-leb, lt-leb}
-use Rattle.std.proofs.lemmas.Option.{slice_get_within}
-use Rattle.lemmas.proofs.{le_or_lt}
+use Rattle.lemmas.proofs.{cases_lt, cond-false, cond-true, le-leb, le_or_lt, lt-leb, slice_get_within}
 use Rattle.rdf_values.specs.{AreInEntryOrder, Fault, first_in, least_fault, lesser_fault, times}
 use Rattle.rdf_values.proofs.DrawCounts.{times_append}
 

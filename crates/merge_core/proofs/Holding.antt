@@ -1,14 +1,7 @@
 -- What holds of every machine that honest events lead to.
 use Rattle.std.proofs.Common.{◌≡◌, ◌⊎◌, ℕ, zero, suc, ◌+◌, ◌<◌, ◌≤◌, min, List, [], ◌∷◌, ◌++◌, length, set, cond, Option, None, Some, refl, sym, ap, ◌∙◌, subst, inl, inr, ⊎_elim, arith, ◌==◌, slice_get, flat_map}
 use Rattle.std.specs.Prelude.{⊤}
-use Rattle.std.specs.List.{All, sum_by}
-use Rattle.std.specs.List.Sorted.{IsStrictlyIncreasing}
-use Rattle.std.proofs.lemmas.Bool.{cases_lt}
-use Rattle.std.proofs.lemmas.Grind.{common_steps}
-use Rattle.std.proofs.lemmas.Option.{slice_get_within, get_or_from_slice_get}
-use Rattle.std.proofs.lemmas.List.{length-set}
-use Rattle.std.proofs.lemmas.List.Elements.{All-pop, All-push, All-set, All-weaker}
-use Rattle.std.proofs.lemmas.List.Sums.{sum_by-set}
+use Rattle.lemmas.proofs.{All, All-pop, All-push, All-set, All-weaker, cases_lt, common_steps, get_or_from_slice_get, IsStrictlyIncreasing, length-set, slice_get_within, sum_by, sum_by-set}
 use Rattle.rdf_values.specs.{Ended, Event, Fault as LoopFault, fault_of, Faulted, finished, IsHonest, IsHonestEvent, Machine, once_below, Phase, Running, Slot, slot_faults, slot_of, times}
 use Rattle.rdf_values.specs.declared.clusters.event.Event.TheVariants.{Claim, Finish, Fault, Skip, End}
 use Rattle.rdf_values.proofs.DrawCounts.{one_if, times_push, times_append, once_next, rises_push}

@@ -1,9 +1,6 @@
 -- Pieces that are joined one after another.
 use Rattle.std.proofs.Common.{◌≡◌, ℕ, ◌+◌, List, [], ◌∷◌, ◌++◌, refl, ap, ◌∙◌, subst, arith, Some}
-use Rattle.std.specs.List.{All, sum_by}
-use Rattle.std.specs.List.Sorted.{IsStrictlyIncreasing}
-use Rattle.std.proofs.lemmas.List.Elements.{All-pop, All-cons}
-use Rattle.std.proofs.lemmas.List.Sums.{sum_by-cons, sum_by_push}
+use Rattle.lemmas.proofs.{All, All-cons, All-pop, IsStrictlyIncreasing, sum_by, sum_by-cons, sum_by_push}
 use Rattle.rdf_values.specs.{IsUnion, times}
 use Rattle.rdf_values.proofs.UnionLemmas.{counted, united, by_counts, first_rises, rest_rise, both_rise, alone}
 use Rattle.merge_core.specs.{Stand}

@@ -1,7 +1,6 @@
 -- A step of one slot among all.
 use Rattle.std.proofs.Common.{◌≡◌, ℕ, ◌<◌, List, length, get_or, set, Some, sym, ap, ◌∙◌, Result, Ok, Err, slice_get, option_map}
-use Rattle.std.proofs.lemmas.Option.{slice_get-map, slice_get-get_or}
-use Rattle.std.proofs.lemmas.List.{map-set, set-get_or}
+use Rattle.lemmas.proofs.{map-set, set-get_or, slice_get-get_or, slice_get-map}
 use Rattle.rdf_values.specs.{claim_step, Event, if_running, Left, running_step, slot_of, step_of, StepCause, with_slot}
 use Rattle.merge_core.specs.declared.front.Front.{Front}
 use Rattle.merge_core.specs.declared.slot.Slot.{Slot as CoreSlot}

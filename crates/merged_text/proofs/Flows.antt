@@ -1,8 +1,6 @@
 -- The lines of a report's filters, by their numbers.
 use Rattle.std.proofs.Common.{◌≡◌, ◌⊎◌, inl, inr, ℕ, ◌+◌, ◌<◌, ◌≤◌, List, [], ◌∷◌, ◌++◌, length, map, drop, Option, None, Some, refl, sym, ap, ap₂, ◌∙◌, arith, append_assoc, append-nil, codes, flat_map, option_map, slice_get, unwrap_or}
-use Rattle.std.proofs.lemmas.List.{map-append}
-use Rattle.std.proofs.lemmas.Option.{same_Some, slice_get-map}
-use Rattle.lemmas.proofs.{none_left}
+use Rattle.lemmas.proofs.{map-append, none_left, same_Some, slice_get-map}
 use Rattle.rdf_values.specs.{Column, FunctionNames, named_before, Path, path, Statement}
 use Rattle.rdf_values.specs.declared.scripts.statement.Statement.TheVariants.{Filter}
 use Rattle.rdf_model.specs.{filter_label, FilterCounts, flow_line, flow_lines}

@@ -1,8 +1,6 @@
 -- The Prints in order, and the lines of each.
 use Rattle.std.proofs.Common.{if◌then◌else◌, ◌≡◌, ◌⊎◌, inl, inr, ℕ, suc, ◌+◌, ◌<◌, ◌≤◌, Bool, true, false, List, [], ◌∷◌, ◌++◌, length, drop, Option, None, Some, refl, sym, ap, ap₂, ◌∙◌, arith, append_assoc, append-nil, option_map, slice_get}
-use Rattle.std.proofs.lemmas.List.{length-map}
-use Rattle.std.proofs.lemmas.Option.{same_Some, slice_get-map, slice_get_within}
-use Rattle.lemmas.proofs.{none_left, something_at}
+use Rattle.lemmas.proofs.{length-map, none_left, same_Some, slice_get-map, slice_get_within, something_at}
 use Rattle.rdf_values.specs.{Booked, bookings, Fault, Pass, place, same}
 use Rattle.rdf_model.specs.{Access, accesses, fault_line, in_front_of, loop_of, Printed}
 use Rattle.rdf_model.proofs.Accepted.{names_equal}

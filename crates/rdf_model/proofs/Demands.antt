@@ -1,7 +1,6 @@
 -- Demands that are alike are one.
 use Rattle.std.proofs.Common.{◌≡◌, true, ◌&&◌, Some, None, refl, ap, nat_eq}
-use Rattle.std.proofs.lemmas.Bool.Decides.{Decides-eqb}
-use Rattle.lemmas.proofs.{both_true}
+use Rattle.lemmas.proofs.{both_true, Decides-eqb}
 use Rattle.rdf_values.specs.{same, same_variation, Under, Variation}
 use Rattle.rdf_model.specs.{Demand, same_demand, same_site, same_under, Site}
 use Rattle.rdf_model.proofs.Accepted.{names_equal}

@@ -1,10 +1,7 @@
 -- Files in memory, place by place.
 use Rattle.std.proofs.Common.{◌≡◌, ◌≤◌, ◌<◌, ◌+◌, ◌-◌, ◌^◌, ⊎_elim, min, ℕ, zero, suc, List, [], ◌∷◌, ◌++◌, Option, None, Some, Bool, Ok, if◌then◌else◌, position, cond, not, length, take, drop, refl, ap, sym, ◌∙◌, arith, length-drop, length-append, true, false, get_or}
-use Rattle.std.specs.List.{position_or_len}
-use Rattle.std.proofs.Math.ListN.{drop_of_length-le}
+use Rattle.lemmas.proofs.{cases_lt, cond-false, cond-true, drop_of_length-le, le-ltb, lt-ltb, position_or_len, take-append_seam}
 use Rattle.std.proofs.lemmas.List.{drop-drop, length-take, nil_from_length, take_all}
-use Rattle.std.proofs.Math.Seq.{take-append_seam}
-use Rattle.std.proofs.lemmas.Bool.{cases_lt, cond-true, cond-false, lt-ltb, le-ltb}
 use Rattle.rdf_outside.specs.declared.failed.Failed.{Failed}
 use Rattle.rdf_outside.specs.declared.memory_shelf.MemoryFile.{MemoryFile}
 use Rattle.rdf_outside.specs.declared.memory_shelf.Place.{Place}

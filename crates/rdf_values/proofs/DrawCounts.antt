@@ -1,13 +1,7 @@
 -- How often numbers stand in lists, and lists with the same counts.
 use Rattle.std.proofs.Common.{◌≡◌, ℕ, zero, suc, ◌+◌, ◌<◌, List, [], ◌∷◌, ◌++◌, map, cond, true, false, refl, sym, ap, ◌∙◌, ⊎_elim, arith, get_or, ◌==◌, IsPermutation}
 use lib.Dec.{ltb}
-use Rattle.std.specs.List.{All, Contains, concat, sum_by, remove}
-use Rattle.std.specs.List.Sorted.{IsStrictlyIncreasing}
-use Rattle.std.proofs.lemmas.Bool.{cases_Bool, eqb-true, lt-ltb, le-ltb, cond-true, cond-false}
-use Rattle.std.proofs.lemmas.Grind.{common_steps}
-use Rattle.std.proofs.lemmas.List.Elements.{Contains-append_right}
-use Rattle.std.proofs.lemmas.List.Sorted.{IsPermutation-refl, IsPermutation-cons, IsPermutation-remove, IsPermutation-trans, sum_by-IsPermutation}
-use Rattle.std.proofs.lemmas.List.Sums.{sum_by-cons, sum_by-append, sum_by_push}
+use Rattle.lemmas.proofs.{All, cases_Bool, common_steps, concat, cond-false, cond-true, Contains, Contains-append_right, eqb-true, IsPermutation-cons, IsPermutation-refl, IsPermutation-remove, IsPermutation-trans, IsStrictlyIncreasing, le-ltb, lt-ltb, remove, sum_by, sum_by-append, sum_by-cons, sum_by-IsPermutation, sum_by_push}
 use Rattle.rdf_values.specs.{below, DrawnBy, once_below, SharedOut, times}
 
 -- 1 where y is x

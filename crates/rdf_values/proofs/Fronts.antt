@@ -1,7 +1,6 @@
 -- The first items of a list.
 use Rattle.std.proofs.Common.{◌≡◌, ◌+◌, ◌∙◌, ◌++◌, ◌∷◌, [], ℕ, List, Some, ap, append_assoc, length, sym, take, slice_get}
-use Rattle.lemmas.proofs.{take_next}
-use Rattle.std.proofs.Math.Seq.{take-append_seam}
+use Rattle.lemmas.proofs.{take-append_seam, take_next}
 
 -- without what was appended
 pub front_of : {A : Type 0} (xs ys more now : List A) (n : ℕ) → n ≡ length xs → ys ≡ xs ++ more → now ≡ take n ys → now ≡ xs

@@ -1,8 +1,6 @@
 -- The script that a text of at most 65,536 bytes is can be booked.
 use Rattle.std.proofs.Common.{◌≡◌, ℕ, zero, suc, ◌+◌, ◌<◌, ◌≤◌, Bool, true, false, List, [], ◌∷◌, ◌++◌, length, Some, None, Ok, Err, Result, refl, ap, arith, length-append, if◌then◌else◌, ℤ, ◌&&◌, ◌==◌}
-use Rattle.std.specs.List.{AllByRecursion}
-use Rattle.std.proofs.lemmas.List.{length-map}
-use Rattle.std.proofs.lemmas.List.Elements.{All-from_recursion}
+use Rattle.lemmas.proofs.{All-from_recursion, AllByRecursion, length-map}
 use Rattle.rdf_values.specs.{ActionKind, all_strings, AreLines, AreNames, AreRising, AreShortValues, arguments, Bad, bare, bare_tokens, begins_with, Blank, blank_line, Close, Comma, Comment, edges_tokens, expression_count, Form, form_tokens, Found, IsAction, IsBookable, IsLine, IsScript, IsShort, last_item, last_list, Lexeme, lexeme, Line, lines_of, Mark, maybe_string, Method, more_edges, more_items, more_lists, more_names, more_strings, NamedTree, no_lines, no_names, one_list, Placed, PlacedToken, Punct, Quoted, QuotedText, ReadsList, ReadsLists, ReadsValues, ReadsValuesText, Says, Script, several_lists, Statement, statement_line, strings_tokens, Token, tokens_from, VaryValues, vector, with_byte, with_lexeme, with_token}
 use Rattle.rdf_values.proofs.Literals.{few_tokens}
 use Rattle.rdf_values.specs.scripts.LineForms as form

@@ -2,13 +2,8 @@
 use Rattle.std.proofs.Common.{◌≡◌, ℕ, zero, suc, ◌+◌, ◌<◌, ◌≤◌, List, [], ◌∷◌, cond, true, false, Bool, refl, sym, ap, ◌∙◌, arith, add-one}
 use Rattle.std.specs.Prelude.{⊤}
 use lib.Dec.{ltb}
-use Rattle.std.specs.List.{All, concat, sum_by, filter}
-use Rattle.std.specs.List.Sorted.{IsStrictlyIncreasing}
-use Rattle.std.proofs.lemmas.Grind.{common_steps}
-use Rattle.std.proofs.lemmas.List.Kept.{IsStrictlyIncreasing-filter}
+use Rattle.lemmas.proofs.{All, All-cons, All-head, All-nil, All-push, All-tail, All-weaker, common_steps, concat, filter, IsStrictlyIncreasing, IsStrictlyIncreasing-filter, sum_by, sum_by-cons}
 use native.Mathlib.Numerals.{unary_clauses}
-use Rattle.std.proofs.lemmas.List.Elements.{All-nil, All-cons, All-head, All-tail, All-push, All-weaker}
-use Rattle.std.proofs.lemmas.List.Sums.{sum_by-cons}
 use Rattle.rdf_values.specs.{below, DrawnListsUnite, IsUnion, NoneIsNeutral, OrderDoesNotMatter, times, UnionIsOne, UniteFromEitherSide}
 use Rattle.rdf_values.proofs.DrawCounts.{rises_push, one_if, times_cons, times_self, times_other, times_concat, times_permuted, permuted_by_counts}
 

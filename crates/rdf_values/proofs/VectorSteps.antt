@@ -1,15 +1,9 @@
 -- The elements of a vector's text, part by part.
 use Rattle.std.proofs.Common.{if◌then◌else◌, ◌≡◌, ◌<◌, ◌≤◌, ◌+◌, ◌-◌, ◌∙◌, ℕ, ℤ, pos, negsuc, List, [], ◌∷◌, ◌++◌, length, Bool, true, false, None, Some, Option, Result, Ok, ap, append_assoc, arith, refl, suc, sym, length-append, take, drop, get_or, IfOk, nat_le, ◌&&◌}
-use Rattle.std.specs.Borrow.{Bor}
-use Rattle.std.specs.List.{slice_split, All}
+use Rattle.lemmas.proofs.{All, All-cons, All-nil, all_ascii_digits, Bor, is_ascii_digit, nat_tests, slice_split, slice_split_at, slice_split_none}
 use Rattle.std.proofs.lemmas.List.{append-nil, drop_more, length-drop, take-append-drop, take_all}
-use Rattle.std.proofs.lemmas.Bool.Decides.{nat_tests}
 use Rattle.rdf_values.specs.{AreRead, HasNoElement, integer_of, integers_of, is_semicolon, IsElement, IsLeading, Memory, option_cons, vector_of}
-use Rattle.std.specs.Char.{is_ascii_digit}
-use Rattle.std.specs.Str.{all_ascii_digits}
-use Rattle.std.proofs.lemmas.List.Elements.{All-cons, All-nil}
 use Rattle.rdf_values.proofs.OneText.{IsNumeral, numeral}
-use Rattle.std.proofs.lemmas.List.Splits.{slice_split_at, slice_split_none}
 
 abbrev option_onto : {A : Type 0} → List A → Option (List A) → Option (List A)
 option_onto read None = None

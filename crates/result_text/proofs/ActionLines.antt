@@ -1,8 +1,6 @@
 -- The lines of the passes of an action.
 use Rattle.std.proofs.Common.{◌≡◌, ℕ, ◌+◌, ◌<◌, ◌≤◌, ◌^◌, Bool, true, false, List, [], ◌∷◌, ◌++◌, length, drop, Option, None, Some, sym, ap, ◌∙◌, subst, arith, if◌then◌else◌, option_map, slice_get}
-use Rattle.std.proofs.lemmas.List.{length-map}
-use Rattle.std.proofs.lemmas.Option.{slice_get_within}
-use Rattle.lemmas.proofs.{same_some}
+use Rattle.lemmas.proofs.{length-map, same_some, slice_get_within}
 use Rattle.rdf_values.specs.{ActionAt, ActionKind, passes_of, Variation}
 use Rattle.rdf_model.specs.{filled_lines, label}
 use Rattle.actions.specs.{Accumulator}

@@ -1,7 +1,6 @@
 -- The names of an axis's cells, by their places, and the lines of cells.
 use Rattle.std.proofs.Common.{◌≡◌, ℕ, zero, suc, ◌+◌, ◌<◌, ◌≤◌, ℤ, pos, List, [], ◌∷◌, ◌++◌, length, map, drop, get_or, Option, None, Some, refl, sym, ap, ◌∙◌, arith, append_assoc, codes, slice_get}
-use Rattle.std.specs.Fmt.{signed_decimal}
-use Rattle.lemmas.proofs.{none_left as drop_whole}
+use Rattle.lemmas.proofs.{none_left as drop_whole, signed_decimal}
 use Rattle.rdf_values.specs.results.Fold.{Cell}
 use Rattle.rdf_model.specs.{cell_line, cell_lines, cell_names, cell_names_from, plane_lines}
 use Rattle.result_text.specs.{behind, bin_name, line_at, lines_on, name_at, plane_at, planes_on}

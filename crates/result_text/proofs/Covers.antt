@@ -1,8 +1,6 @@
 -- The filters that a report covers are named filters of the script.
 use Rattle.std.proofs.Common.{◌≡◌, ℕ, suc, ◌+◌, ◌<◌, ◌≤◌, List, [], ◌∷◌, length, None, Some, sym, ap, ◌∙◌, arith, length-append, slice_get, All}
-use Rattle.std.proofs.lemmas.Bool.{cond_both}
-use Rattle.std.proofs.lemmas.List.{length-map}
-use Rattle.std.proofs.lemmas.List.Elements.{All-append, All-cons, All-nil, All-weaker}
+use Rattle.lemmas.proofs.{All-append, All-cons, All-nil, All-weaker, cond_both, length-map}
 use Rattle.rdf_values.specs.{Column, FunctionNames, makes, named_before, parent_of, Path, path, Statement}
 use Rattle.rdf_values.specs.declared.scripts.statement.Statement.TheVariants.{Filter}
 use Rattle.graph_numbers.specs.{booked_statements, covered_at, FilterAt, filters_on, graph_filters, graph_results, GraphView, numbers_from, own_filter, ResultAt, results}

@@ -1,7 +1,6 @@
 -- The lines of passes.
 use Rattle.std.proofs.Common.{if◌then◌else◌, ◌≡◌, ℕ, suc, ◌+◌, ◌<◌, Bool, List, [], ◌∷◌, ◌++◌, length, map, Option, None, Some, refl, sym, ap, ◌∙◌, arith, append_assoc, append-nil, codes, flat_map, filter, slice_get, unwrap_or}
-use Rattle.std.proofs.lemmas.List.{length-map}
-use Rattle.std.proofs.lemmas.List.Folds.{flat_map-map}
+use Rattle.lemmas.proofs.{flat_map-map, length-map}
 use Rattle.rdf_values.specs.{ActionAt, ActionKind, Booked, Booking, Filled, has_variations, Pass, passes_of, Path, result_depends, Statement, Variation, variations, varied_passes}
 use Rattle.rdf_values.specs.results.Fold as filled
 use Rattle.rdf_model.specs.{filled_lines, FilterCounts, flow_line, flow_lines, label}

@@ -1,8 +1,6 @@
 -- The passes of a graph's loops are those of the script.
 use Rattle.std.proofs.Common.{◌≡◌, ℕ, ◌<◌, List, [], length, map, get_or, Option, None, Some, refl, sym, ap, ◌∙◌, arith, option_map, slice_get, unwrap_or}
-use Rattle.std.proofs.lemmas.List.{length-map}
-use Rattle.std.proofs.lemmas.Option.{slice_get-get_or, slice_get-map, slice_get_within}
-use Rattle.lemmas.proofs.{mapped_at, same_some}
+use Rattle.lemmas.proofs.{length-map, mapped_at, same_some, slice_get-get_or, slice_get-map, slice_get_within}
 use Rattle.rdf_values.specs.{Booked, bookings, Pass}
 use Rattle.rdf_model.specs.{label, loop_passes, loop_results, pass_label}
 use Rattle.graph_numbers.specs.{booked_statements, graph_loops, graph_results, graph_variations, GraphView, Pass as NumberedPass, pass_at, ResultAt, under_at}

@@ -1,8 +1,6 @@
 -- Texts with something between each two.
 use Rattle.std.proofs.Common.{◌≡◌, ℕ, ◌+◌, List, [], ◌∷◌, ◌++◌, map, drop, Some, sym, ap, ◌∙◌, append-nil, append_assoc, codes, decimal, flat_map, slice_get}
-use Rattle.std.specs.List.{join_with_byte}
-use Rattle.std.proofs.lemmas.Simd.{map-map}
-use Rattle.lemmas.proofs.{same_some}
+use Rattle.lemmas.proofs.{join_with_byte, map-map, same_some}
 use Rattle.rdf_values.specs.{Scalar, Span}
 use Rattle.rdf_model.specs.{run_text, scalar_text, taken_text}
 use Rattle.result_text.proofs.Lists.{one_left, put_next}

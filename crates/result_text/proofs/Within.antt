@@ -1,9 +1,7 @@
 -- The numbers in a graph's tables are in range.
 use Rattle.std.proofs.Common.{◌≡◌, ℕ, suc, ◌+◌, ◌<◌, ◌≤◌, Bool, true, false, List, [], ◌∷◌, length, Option, None, Some, subst, arith, if◌then◌else◌, not, slice_get, All}
 use Rattle.std.specs.Prelude.{⊤}
-use Rattle.std.proofs.lemmas.Bool.{cond_both}
-use Rattle.std.proofs.lemmas.List.Elements.{All-append, All-cons, All-map, All-nil}
-use Rattle.std.proofs.lemmas.Option.{get_or_from_slice_get, slice_get_within}
+use Rattle.lemmas.proofs.{All-append, All-cons, All-map, All-nil, cond_both, get_or_from_slice_get, slice_get_within}
 use Rattle.rdf_values.specs.{among, Booked, bookings, filled, has_variations, result_depends, Statement, variations}
 use Rattle.rdf_values.specs.declared.scripts.statement.Statement.TheVariants.{Print}
 use Rattle.graph_numbers.specs.{booked_statements, graph_loops, graph_variations, GraphView, loops, numbered_pass, own_loop, Pass as NumberedPass, passes_from, places_from, result_passes}

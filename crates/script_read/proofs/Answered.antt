@@ -1,7 +1,6 @@
 -- Each text is a script, or is refused.
 use Rattle.std.proofs.Common.{◌≡◌, ◌∙◌, ◌<◌, ◌≤◌, ◌+◌, ℕ, suc, List, [], ◌∷◌, length, Result, Ok, Err, inl, inr, refl, arith, ◌⊎◌}
-use Rattle.std.proofs.lemmas.Bool.{cases_order}
-use Rattle.std.proofs.lemmas.List.{append-nil}
+use Rattle.lemmas.proofs.{append-nil, cases_order}
 use Rattle.rdf_values.specs.{AreLines, bare_tokens, cause_at, FirstBad, Form, form_strings, IsBlankLine, IsForm, IsLine, IsScript, Line, line_tokens, LineRefusal, lines_of, PlacedToken, RefusesLine, RefusesLines, RefusesScript, Says, Script, ScriptCause, Statement}
 use Rattle.rdf_values.specs.scripts.Statements as refused
 use Rattle.rdf_values.specs.scripts.Scripts as script

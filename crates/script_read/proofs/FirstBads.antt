@@ -1,7 +1,6 @@
 -- Refusals of the first bad string of several.
 use Rattle.std.proofs.Common.{◌≡◌, ◌∙◌, ℕ, List, [], ◌∷◌, ◌++◌, ap, Result, IfErr}
-use Rattle.std.specs.Result.{IsErrAnd}
-use Rattle.std.proofs.lemmas.Result.{err_from_is_err_and}
+use Rattle.lemmas.proofs.{err_from_is_err_and, IsErrAnd}
 use Rattle.rdf_values.specs.{AName, AnExpression, AnOperation, AreNames, FirstBad, here, is_name, IsBad, IsName, later, LineRefusal, more_names, NamedTree, no_names, operation_text, QuotedText, ReadsText, ReadsValuesText, ReduceOp, SomeValues, VaryValues, wanted_names}
 use Rattle.rdf_values.specs.scripts.Statements.{Wanted}
 use Rattle.rdf_values.specs.scripts.Statements as st

@@ -1,11 +1,7 @@
 -- The first line of a text, by the place of its LF.
 use Rattle.std.proofs.Common.{◌≡◌, ◌<◌, ◌≤◌, ◌+◌, ℕ, suc, List, [], ◌∷◌, ◌++◌, length, take, drop, get_or, drop-cons, add-one, subst, Bool, true, false, None, Some, Option, arith, refl, ap, sym, ◌∙◌, not, nat_lt, ◌==◌, position, cond, if◌then◌else◌}
-use Rattle.std.specs.List.{list_all, position_or_len}
-use Rattle.std.specs.Io.BufRead.{strip_last}
+use Rattle.lemmas.proofs.{and_holds, list_all, nat_tests, position-Some, position_or_len, strip_last}
 use Rattle.std.proofs.lemmas.List.{take_all, take-append-drop}
-use Rattle.std.proofs.lemmas.List.Quantifiers.{position-Some}
-use Rattle.std.proofs.lemmas.Bool.Decides.{nat_tests}
-use Rattle.lemmas.proofs.{and_holds}
 use native.Mathlib.Numerals.{unary_clauses}
 use Rattle.rdf_values.specs.{lines_of}
 use Rattle.rdf_values.proofs.ScriptSteps.{is_in_line, without_cr, lines_of_line, lines_of_last}

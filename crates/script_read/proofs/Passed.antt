@@ -1,11 +1,10 @@
 -- The walk passes over every line.
 use Rattle.std.proofs.Common.{◌≡◌, ◌∙◌, ℕ, ℤ, List, [], ◌∷◌, ◌++◌, Option, Some, None, true, refl, ap, append_assoc, codes}
-use Rattle.std.proofs.lemmas.List.{append-nil}
+use Rattle.lemmas.proofs.{append-nil, both_true}
 use Rattle.rdf_values.specs.{arguments, edges_tokens, Form, form_tokens, has_free_names, is_free, LineToken, maybe_string, Method, method_word, more_edges, more_strings, QuotedText, strings_tokens}
 use Rattle.rdf_values.specs.scripts.LineTokens as t
 use Rattle.rdf_values.specs.scripts.LineForms.{call}
 use Rattle.rdf_values.specs.scripts.LineForms as form
-use Rattle.lemmas.proofs.{both_true}
 use Rattle.script_read.specs.{ALine, AMark, AMethod, arguments_wants, asking_wants, AString, AWord, booking_wants, Done, edges_wants, MaybeString, method_wants, MoreEdges, MoreStrings, name_word, next, one_string_wants, variation_wants, walk, WalkEnd, Want}
 use Rattle.script_read.specs.declared.method.MethodName.{MethodName}
 use Rattle.script_read.specs.declared.method.ActionName.{ActionName}

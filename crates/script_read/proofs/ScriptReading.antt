@@ -1,7 +1,6 @@
 -- The reading of a script, line by line.
 use Rattle.std.proofs.Common.{◌≡◌, ◌<◌, ◌≤◌, ◌+◌, ◌⊎◌, inl, inr, ℕ, suc, List, [], ◌∷◌, ◌++◌, length, length-append, append_assoc, arith, refl, ap, subst, Bool, true, ◌==◌}
-use Rattle.std.proofs.lemmas.List.{append-nil}
-use Rattle.std.proofs.lemmas.Bool.Decides.{nat_tests}
+use Rattle.lemmas.proofs.{append-nil, nat_tests}
 use Rattle.rdf_values.specs.{AreLines, IsScript, Line, lines_of, RefusesLines, RefusesScript, Script, ScriptCause}
 use Rattle.rdf_values.specs.scripts.Scripts as script
 use Rattle.rdf_values.proofs.OneScript.{script_or_refusal, one_cause}

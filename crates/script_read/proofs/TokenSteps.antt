@@ -1,8 +1,6 @@
 -- One more token of a line.
 use Rattle.std.proofs.Common.{◌≡◌, ◌≤◌, ◌<◌, ◌+◌, ◌∙◌, ℕ, Bool, true, false, Some, None, List, [], ◌∷◌, ◌++◌, length, get_or, drop, Ok, Err, arith, refl, ap, sym, subst, append_assoc, length-drop, Result, Option, ◌&&◌, ◌||◌, ◌==◌, ℤ, take_while, nat_lt, if◌then◌else◌}
-use Rattle.std.specs.List.{list_all}
-use Rattle.std.proofs.lemmas.List.{drop_more, drop_all, drop-drop, append-nil}
-use Rattle.std.proofs.lemmas.Bool.Decides.{nat_tests}
+use Rattle.lemmas.proofs.{append-nil, drop-drop, drop_all, drop_more, list_all, nat_tests}
 use Rattle.rdf_values.specs.{Bad, between, Blank, Close, CloseBracket, Comma, Comment, content_of, Dot, Equals, Found, integer_lexeme, is_blank, is_digit, is_name, is_word_byte, is_word_start, Lexeme, lexeme, LineToken, mark_lexeme, Open, OpenBracket, PlacedToken, string_lexeme, tokens_from, with_lexeme, with_token, word_lexeme}
 use Rattle.rdf_values.proofs.ScriptSteps.{tokens_behind}
 use Rattle.expr_read.proofs.FirstTokens.{run_size as run_short}

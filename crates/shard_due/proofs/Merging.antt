@@ -1,10 +1,6 @@
 -- That merging what runs are due is due the transcript of one run.
 use Rattle.std.proofs.Common.{◌≡◌, inr, ◌≤◌, ◌<◌, ◌+◌, ℕ, Bool, true, false, ◌&&◌, List, [], ◌∷◌, ◌++◌, length, map, nat_lt, Option, None, Some, Result, Ok, refl, sym, ap, ◌∙◌, subst, arith, append-nil, append_assoc, All, MatchOption, MatchResult, nat_le, unwrap_or}
-use Rattle.std.specs.Bool.{MatchBool}
-use Rattle.std.proofs.lemmas.Bool.{le-ltb}
-use Rattle.std.proofs.lemmas.Bool.Decides.{nat_tests}
-use Rattle.std.proofs.lemmas.List.Elements.{All-nil, All-cons}
-use Rattle.std.proofs.lemmas.List.Sums.{sum_by-cons}
+use Rattle.lemmas.proofs.{All-cons, All-nil, le-ltb, MatchBool, nat_tests, sum_by-cons}
 use Rattle.rdf_values.specs.{Function, graph_cause_line, Lead, long_script_line, MarkedTable, no_file_line, Script, Span}
 use Rattle.rdf_values.proofs.Leading.{cuts_lead}
 use Rattle.rdf_values.proofs.ShortLists.{scripts_are_bookable}

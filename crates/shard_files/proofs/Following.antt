@@ -1,8 +1,6 @@
 -- What was read so far, line after line: the lines so far begin some shard, and the lines of each shard can be read.
 use Rattle.std.proofs.Common.{◌≡◌, ◌≤◌, ◌<◌, ℕ, true, false, ◌&&◌, Some, List, [], ◌∷◌, ◌++◌, length, map, flat_map, refl, ap, ap₂, ◌∙◌, sym, subst, arith, append_assoc, append-nil, codes, length-append, ◌||◌, nat_eq, nat_le, nat_lt}
-use Rattle.std.specs.List.{list_all}
-use Rattle.std.proofs.lemmas.Bool.Decides.{nat_tests}
-use Rattle.lemmas.proofs.{both_true, if_none, if_some, map_next, neither}
+use Rattle.lemmas.proofs.{both_true, if_none, if_some, list_all, map_next, nat_tests, neither}
 use Rattle.rdf_values.specs.{AreColumns, ColType, Column, Fault, has_name, is_name, IsHeader}
 use Rattle.shard_lines.specs.{EachFits, FitLines, FitsLine, ShardLine}
 use Rattle.shard_files.specs.{Begins, file_lines, FitLoops, FitsFault, IsShard, loop_lines, on_between, on_columns, on_within, shard_limits, shard_of, ShardLoop, ShardView, step, step_at}

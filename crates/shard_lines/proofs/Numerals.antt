@@ -1,15 +1,7 @@
 -- A number of 128 bits has one canonical text, which reads as that number.
 use Rattle.std.proofs.Common.{◌≡◌, ◌≤◌, ◌<◌, ◌+◌, ◌*◌, ◌/◌, ◌%◌, ◌^◌, ℕ, zero, suc, Bool, true, false, ◌&&◌, cond, None, Some, List, [], ◌∷◌, ◌++◌, length, refl, ap, ap₂, ◌∙◌, sym, subst, arith, decimal, leb, not, ◌==◌, if◌then◌else◌}
-use Rattle.std.specs.Char.{digit_value, is_ascii_digit}
+use Rattle.lemmas.proofs.{all_ascii_digits, both_true, decimal_by_steps_wide, decimal_digit, decimal_is_IsNumeral_wide, decimal_step_wide, digit_value, digit_value_digit, digits_value, digits_value_push, is_ascii_digit, lt-ltb, nat_tests}
 use Rattle.std.specs.Fmt.{digit_glyph, digits, digits_onto}
-use Rattle.std.specs.Str.{all_ascii_digits}
-use Rattle.std.specs.Str.Parse.{digits_value}
-use Rattle.std.proofs.lemmas.Bool.{lt-ltb}
-use Rattle.std.proofs.lemmas.Bool.Decides.{nat_tests}
-use Rattle.std.proofs.lemmas.Fmt.{decimal_by_steps_wide, decimal_digit, decimal_is_IsNumeral_wide, decimal_step_wide}
-use Rattle.std.proofs.lemmas.Int.Digits.{digits_value_push}
-use Rattle.std.proofs.lemmas.Str.{digit_value_digit}
-use Rattle.lemmas.proofs.{both_true}
 use Rattle.rdf_values.proofs.Digits.{grows}
 use Rattle.rdf_values.specs.{begins_badly, digits_up_to, is_empty, magnitude_of}
 

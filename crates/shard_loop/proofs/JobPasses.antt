@@ -1,9 +1,6 @@
 -- A pass of a job by its number: how many accumulators it has, and which filters it covers.
 use Rattle.std.proofs.Common.{◌≡◌, ℕ, ◌+◌, List, [], ◌∷◌, ◌++◌, length, map, take, Some, refl, sym, ap, ◌∙◌, append-nil, length-append, option_map, slice_get}
-use Rattle.std.proofs.lemmas.Grind.{flat_map-append}
-use Rattle.std.proofs.lemmas.List.{map-append}
-use Rattle.std.proofs.lemmas.Option.{same_Some, slice_get-map}
-use Rattle.lemmas.proofs.{take_next}
+use Rattle.lemmas.proofs.{flat_map-append, map-append, same_Some, slice_get-map, take_next}
 use Rattle.rdf_values.specs.{ActionAt, ActionKind, Booking, history, named_before, Pass, Path, ReportOn}
 use Rattle.rdf_model.specs.{kind_in, kinds_in}
 use Rattle.graph_numbers.specs.{FilterAt, graph_filters, graph_results, graph_under, GraphView, kind_of_booking, Pass as NumberedPass, ResultAt, ResultKind}

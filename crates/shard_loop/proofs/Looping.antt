@@ -1,8 +1,6 @@
 -- The loops of a graph over a span, one after another.
 use Rattle.std.proofs.Common.{◌≡◌, ℕ, zero, suc, ◌+◌, ◌<◌, ◌≤◌, true, false, List, [], ◌∷◌, ◌++◌, length, map, drop, Option, Some, refl, sym, ap, ◌∙◌, subst, arith, append-nil, append_assoc, option_map, slice_get, unwrap_or}
-use Rattle.std.proofs.lemmas.List.{length-map}
-use Rattle.std.proofs.lemmas.Option.{slice_get-map}
-use Rattle.lemmas.proofs.{none_left, something_at}
+use Rattle.lemmas.proofs.{length-map, none_left, slice_get-map, something_at}
 use Rattle.rdf_values.specs.{Booked, Fault, history, Pass, Script, Span}
 use Rattle.rdf_model.specs.{Dataset, loop_passes, loop_results}
 use Rattle.graph_numbers.specs.{graph_loops, GraphView, pass_at}

@@ -1,11 +1,6 @@
 -- The lines of passes, from what a piece holds.
 use Rattle.std.proofs.Common.{◌≡◌, ◌⊎◌, inl, inr, ℕ, zero, suc, ◌+◌, ◌<◌, List, [], ◌∷◌, ◌++◌, length, map, take, drop, get_or, Option, None, Some, refl, sym, ap, ap₂, ◌∙◌, subst, arith, append_assoc, length-append, All, slice_get}
-use Rattle.std.specs.List.{AllByRecursion}
-use Rattle.std.proofs.lemmas.Grind.{flat_map-append}
-use Rattle.std.proofs.lemmas.List.{length-map}
-use Rattle.std.proofs.lemmas.List.Elements.{All-from_recursion}
-use Rattle.std.proofs.lemmas.Option.{get_or_from_slice_get, same_Some, slice_get_within}
-use Rattle.lemmas.proofs.{something_at}
+use Rattle.lemmas.proofs.{All-from_recursion, AllByRecursion, flat_map-append, get_or_from_slice_get, length-map, same_Some, slice_get_within, something_at}
 use Rattle.rdf_values.specs.{ActionAt, ActionKind, below, Booking, EntryFault, Fault, named_before, Pass, Path, path, ReportOn, Span, Statement, Value}
 use Rattle.rdf_values.specs.declared.scripts.statement.Statement.TheVariants.{Filter}
 use Rattle.rdf_values.proofs.Below.{length-below}

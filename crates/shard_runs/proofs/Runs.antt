@@ -1,9 +1,6 @@
 -- What a run over a span finds is a shard.
 use Rattle.std.proofs.Common.{◌≡◌, ℕ, ◌*◌, ◌<◌, ◌≤◌, List, [], ◌∷◌, ◌++◌, length, map, Option, None, Some, refl, arith, length-append, flat_map, slice_get}
-use Rattle.std.specs.List.{AllByRecursion}
-use Rattle.std.proofs.lemmas.List.{length-map}
-use Rattle.std.proofs.lemmas.List.Elements.{recursion_from_All}
-use Rattle.std.proofs.lemmas.List.Sums.{count_by-le-length}
+use Rattle.lemmas.proofs.{AllByRecursion, count_by-le-length, length-map, recursion_from_All}
 use Rattle.rdf_values.specs.{ActionAt, ActionKind, AreAccepted, Booked, Booking, ColType, Fault, FitRows, fn_names, history, Item, Lead, Pass, Path, ReportOn, scope_of, Script, Span, Under, Value}
 use Rattle.rdf_model.specs.{cutflow, Dataset, FitsAction, items_of, loop_passes, loop_results, passes_filters, rows_in}
 use Rattle.rdf_model.proofs.Verdicts.{verdict_is_the_first_refusal}

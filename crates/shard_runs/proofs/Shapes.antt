@@ -1,9 +1,6 @@
 -- The lines of a run have the shapes of the script's passes.
 use Rattle.std.proofs.Common.{◌≡◌, ℕ, suc, ◌+◌, ◌*◌, ◌<◌, true, ◌&&◌, List, [], ◌∷◌, length, map, Option, None, Some, refl, ap, ap₂, ◌∙◌, arith, length-append, flat_map, nat_eq, slice_get}
-use Rattle.std.specs.List.{AllByRecursion}
-use Rattle.std.proofs.lemmas.Bool.Decides.{nat_tests}
-use Rattle.std.proofs.lemmas.List.{length-map}
-use Rattle.lemmas.proofs.{lt_true}
+use Rattle.lemmas.proofs.{AllByRecursion, length-map, lt_true, nat_tests}
 use Rattle.rdf_values.specs.{ActionAt, ActionKind, Booking, cells_on, Fault, FitRows, flat_cell, Item, Pass, Path, ReportOn, Span, square_cell, Value}
 use Rattle.rdf_values.specs.results.Fold.{Cell}
 use Rattle.rdf_values.proofs.Below.{length-below}

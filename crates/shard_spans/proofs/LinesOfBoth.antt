@@ -1,9 +1,6 @@
 -- The lines of a pass over two lists of rows, one behind the other.
 use Rattle.std.proofs.Common.{◌≡◌, ℕ, suc, ◌+◌, ℤ, ◌+ℤ◌, ◌*ℤ◌, Bool, List, [], ◌∷◌, ◌++◌, length, map, Option, None, Some, refl, sym, ap, ap₂, ◌∙◌, arith, cond, length-append, count_by, flat_map, fold}
-use Rattle.std.specs.Int.{int_max, int_min}
-use Rattle.std.proofs.lemmas.Grind.{flat_map-append}
-use Rattle.std.proofs.lemmas.List.{map-append}
-use Rattle.std.proofs.lemmas.List.Sums.{fold-append, sum_by-append}
+use Rattle.lemmas.proofs.{flat_map-append, fold-append, int_max, int_min, map-append, sum_by-append}
 use Rattle.rdf_values.specs.{ActionAt, ActionKind, Booking, cells_on, ColType, extreme, flat_cell, fold_items, integer_sum, Item, number_of, numbers_of, Pass, Path, reduce_start, reduce_step, ReduceOp, ReportOn, scalar_of, square_cell, Value, weight_in, weight_in2}
 use Rattle.rdf_values.specs.results.Fold.{Cell, cell_of}
 use Rattle.rdf_model.specs.{cutflow, Dataset, items_of, passes_filters}

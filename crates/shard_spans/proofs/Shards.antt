@@ -1,8 +1,6 @@
 -- Shards of spans that hold each cluster once are joined to one run over all clusters.
 use Rattle.std.proofs.Common.{◌≡◌, ℕ, zero, suc, ◌+◌, ◌<◌, ◌≤◌, Bool, true, false, cond, List, [], ◌∷◌, length, map, None, Some, refl, sym, ap, ap₂, ◌∙◌, arith, if◌then◌else◌, All, nat_eq, not, slice_get}
-use Rattle.std.specs.List.{position_from}
-use Rattle.std.proofs.lemmas.Bool.Decides.{nat_tests}
-use Rattle.std.proofs.lemmas.Iterator.Adapters.{position_from-zero}
+use Rattle.lemmas.proofs.{nat_tests, position_from, position_from-zero}
 use Rattle.rdf_values.specs.{below, ColType, Lead, Pass, Script, Span}
 use Rattle.rdf_values.proofs.Below.{slice_get-below}
 use Rattle.rdf_model.specs.{Dataset}

@@ -1,9 +1,6 @@
 -- The first fault of a span, cluster by cluster.
 use Rattle.std.proofs.Common.{◌≡◌, ℕ, zero, suc, ◌+◌, ◌-◌, ◌<◌, ◌≤◌, List, [], ◌∷◌, ◌++◌, length, map, Option, None, Some, refl, sym, ap, ap₂, ◌∙◌, subst, arith, append-nil, length-append, All, slice_get, slice_range}
-use Rattle.std.proofs.lemmas.Grind.{flat_map-append}
-use Rattle.std.proofs.lemmas.List.{map-append}
-use Rattle.std.proofs.lemmas.List.Elements.{All-nil, All-push}
-use Rattle.lemmas.proofs.{range_length}
+use Rattle.lemmas.proofs.{All-nil, All-push, flat_map-append, map-append, range_length}
 use Rattle.rdf_values.specs.{Fault, first_in, Lead, Pass, Span, Value}
 use Rattle.rdf_model.specs.{Dataset, first_fault_from, first_fault_in, first_of, rows_in, span_rows}
 use Rattle.loop_pieces.specs.{begin_of, cluster_fault}

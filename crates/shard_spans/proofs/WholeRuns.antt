@@ -1,9 +1,6 @@
 -- The loops of spans that follow one another come to those of one run over all clusters.
 use Rattle.std.proofs.Common.{if◌then◌else◌, ◌≡◌, ◌⊎◌, inl, inr, ℕ, zero, suc, ◌+◌, ◌-◌, ◌<◌, ◌≤◌, Bool, false, List, [], ◌∷◌, ◌++◌, length, map, Option, None, Some, refl, sym, ap, ap₂, ◌∙◌, subst, arith, append-nil, append_assoc, ⊎_elim, flat_map, fold, nat_lt, slice_get}
-use Rattle.std.proofs.lemmas.Bool.Decides.{nat_tests}
-use Rattle.std.proofs.lemmas.Grind.{flat_map-append}
-use Rattle.std.proofs.lemmas.List.{map-append}
-use Rattle.std.proofs.lemmas.Option.{slice_get-map}
+use Rattle.lemmas.proofs.{flat_map-append, map-append, nat_tests, slice_get-map}
 use Rattle.rdf_values.specs.{below, ColType, Fault, first_in, Lead, Pass, Span, Value}
 use Rattle.rdf_values.proofs.Below.{slice_get-below}
 use Rattle.rdf_model.specs.{Dataset, first_of, rows_in, span_rows}

@@ -1,7 +1,6 @@
 -- The result of a Print among those that its loop fills.
 use Rattle.std.proofs.Common.{◌≡◌, ℕ, zero, suc, Bool, true, false, not, ◌||◌, List, [], ◌∷◌, ◌++◌, Some, refl, sym, ap, ap₂, ◌∙◌, arith, if◌then◌else◌, filter, flat_map, slice_get}
-use Rattle.std.proofs.lemmas.Grind.{flat_map-append}
-use Rattle.lemmas.proofs.{same_some}
+use Rattle.lemmas.proofs.{flat_map-append, same_some}
 use Rattle.rdf_values.specs.{ActionAt, among, Booked, Booking, bookings, filled, is_watched, names_of, Pass, passes_of, ReportOn, results_named, same, Statement, waiting}
 use Rattle.rdf_model.specs.{Course, Dataset, loop_of, loop_passes, named_lines, partial_line, partial_lines, partial_result, pass_lines, result_lines}
 use Rattle.rdf_model.proofs.Accepted.{names_equal}

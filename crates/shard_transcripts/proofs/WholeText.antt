@@ -1,7 +1,6 @@
 -- What the loops of one run over all clusters print.
 use Rattle.std.proofs.Common.{◌≡◌, ◌⊎◌, ℕ, zero, suc, ◌+◌, ◌-◌, ◌<◌, List, [], ◌∷◌, length, map, drop, Option, None, Some, refl, sym, ap, ap₂, ◌∙◌, subst, arith, ⊎_elim, option_map, slice_get, unwrap_or}
-use Rattle.std.proofs.lemmas.Option.{same_Some, slice_get-map, slice_get_within}
-use Rattle.lemmas.proofs.{lt_or_last, something_at}
+use Rattle.lemmas.proofs.{lt_or_last, same_Some, slice_get-map, slice_get_within, something_at}
 use Rattle.rdf_values.specs.{below, Booked, bookings, Fault, first_in, fn_names, history, Lead, Pass, results_named, Script, Span, Statement, Value}
 use Rattle.rdf_model.specs.{Access, access_passes, access_printed, accesses, ComesInTurn, Course, Dataset, fault_line, first_fault, first_fault_from, in_front_of, loop_of, loop_passes, loop_results, loops_before, named_lines, over_clusters, Printed, printed, transcript}
 use Rattle.rdf_model.proofs.Turns.{loops_come_in_turn}

@@ -1,10 +1,7 @@
 -- Pieces of single clusters.
 use Rattle.std.proofs.Common.{◌≡◌, ℕ, ◌≤◌, List, [], ◌∷◌, map, eqb, false, refl, sym, ap, ◌∙◌, subst, arith, IsPermutation}
 use Rattle.std.specs.List.{AllByRecursion, IsDistinct, concat}
-use Rattle.std.specs.List.Sorted.{IsStrictlyIncreasing, IsNonDecreasing}
-use Rattle.std.proofs.lemmas.Grind.{common_steps}
-use Rattle.std.proofs.lemmas.List.Elements.{All-head, All-map, All-tail}
-use Rattle.std.proofs.lemmas.Map.Keys.{IsStrictlyIncreasing-from_distinct}
+use Rattle.lemmas.proofs.{All-head, All-map, All-tail, common_steps, IsNonDecreasing, IsStrictlyIncreasing, IsStrictlyIncreasing-from_distinct}
 use Rattle.merge_core.specs.{Noted, Stand}
 use Rattle.rdf_values.specs.{IsUnion, times}
 use Rattle.rdf_values.proofs.DrawCounts.{times_cons, times_self, times_permuted}

@@ -1,10 +1,6 @@
 -- Each step keeps what the rule says of the bar.
 use Rattle.std.proofs.Common.{◌≡◌, ℕ, zero, suc, ◌<◌, ◌≤◌, min, List, ◌∷◌, length, map, get_or, ltb, Option, None, Some, IfSome, refl, ap, subst, ⊎_elim, arith, IsPermutation}
-use Rattle.std.specs.List.{All, Contains}
-use Rattle.std.proofs.lemmas.Bool.{cases_lt, cond_both, ltb-false}
-use Rattle.std.proofs.lemmas.Option.{IfSome_then}
-use Rattle.std.proofs.lemmas.List.Elements.{All-cons, All-head, All-tail, All-weaker}
-use Rattle.std.proofs.lemmas.List.Sorted.{All-permutation, Contains-permutation, IsPermutation-map}
+use Rattle.lemmas.proofs.{All, All-cons, All-head, All-permutation, All-tail, All-weaker, cases_lt, cond_both, Contains, Contains-permutation, IfSome_then, IsPermutation-map, ltb-false}
 use Rattle.slot_words.specs.declared.hand.ClaimHand.{ClaimHand}
 use Rattle.slot_words.specs.{IsBarred, IsOver, last_of, look, lower}
 use Rattle.slot_words.specs.Seats.{draw}

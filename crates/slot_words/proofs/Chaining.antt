@@ -1,10 +1,6 @@
 -- The sets after every so many clusters are a chain.
 use Rattle.std.proofs.Common.{◌≡◌, ℕ, zero, suc, ◌+◌, ◌-◌, ◌*◌, ◌/◌, ◌<◌, ◌≤◌, List, [], ◌∷◌, ◌++◌, length, map, Some, sym, ap, ◌∙◌, subst, arith, mul-le-mul_right, slice_get, option_map, Contains}
-use Rattle.std.specs.List.{All}
-use Rattle.std.specs.List.Sorted.{IsStrictlyIncreasing}
-use Rattle.std.proofs.lemmas.List.{length-map, map-append}
-use Rattle.std.proofs.lemmas.Option.{slice_get-map, slice_get_within}
-use Rattle.lemmas.proofs.{same_some}
+use Rattle.lemmas.proofs.{All, IsStrictlyIncreasing, length-map, map-append, same_some, slice_get-map, slice_get_within}
 use Rattle.rdf_values.specs.{below}
 use Rattle.rdf_values.proofs.Below.{length-below, slice_get-below}
 use Rattle.rdf_model.specs.{IsChain}

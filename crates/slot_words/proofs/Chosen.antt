@@ -1,13 +1,6 @@
 -- The entries with a number between two bounds, and how many there are.
 use Rattle.std.proofs.Common.{◌≡◌, ℕ, zero, suc, ◌+◌, ◌≤◌, List, [], ◌∷◌, ◌++◌, length, map, min, Bool, not, cond, refl, sym, ap, ap₂, ◌∙◌, arith, flat_map}
-use Rattle.std.specs.List.{All, concat, count_by, filter, sum_by, zip}
-use Rattle.std.proofs.lemmas.Grind.{common_steps}
-use Rattle.std.proofs.lemmas.List.{length-map, map-append}
-use Rattle.std.proofs.lemmas.List.Elements.{All-append, All-cons, All-filter, All-head, All-map, All-nil, All-tail, filter-append}
-use Rattle.std.proofs.lemmas.List.Filters.{sum_by-filter_both}
-use Rattle.std.proofs.lemmas.List.Sorted.{sum_by-IsPermutation}
-use Rattle.std.proofs.lemmas.List.Sums.{length-filter, sum_by-cons, sum_by_push}
-use Rattle.std.proofs.lemmas.Slice.Zip.{firsts-zip, seconds-zip}
+use Rattle.lemmas.proofs.{All, All-append, All-cons, All-filter, All-head, All-map, All-nil, All-tail, common_steps, concat, count_by, filter, filter-append, firsts-zip, length-filter, length-map, map-append, seconds-zip, sum_by, sum_by-cons, sum_by-filter_both, sum_by-IsPermutation, sum_by_push, zip}
 use Rattle.rdf_values.specs.{below}
 use Rattle.rdf_values.proofs.DrawCounts.{one_if, sum_by-map}
 use Rattle.slot_words.specs.{added, AsManyAsTheBound, chosen, cluster_in, HaveNumbers, HigherBoundKeeps, is_between, kept, numbered}

@@ -1,12 +1,6 @@
 -- Each step keeps what the rule says of the claim word.
 use Rattle.std.proofs.Common.{◌≡◌, ℕ, ◌+◌, ◌^◌, ◌<◌, ◌≤◌, min, List, [], ◌∷◌, ◌++◌, map, get_or, ltb, Option, None, Some, ap, ◌∙◌, subst, arith, IsPermutation}
-use Rattle.std.specs.List.{All}
-use Rattle.std.specs.List.Sorted.{IsStrictlyIncreasing}
-use Rattle.std.proofs.lemmas.Bool.{cond_both, ltb-true, ltb-false}
-use Rattle.std.proofs.lemmas.List.Elements.{All-cons, All-head, All-tail, All-weaker}
-use Rattle.std.proofs.lemmas.List.Sorted.{All-permutation, length_permutation, sum_by-IsPermutation}
-use Rattle.std.proofs.lemmas.List.Sums.{sum_by-cons, sum_by-le}
-use Rattle.std.proofs.lemmas.Option.{IfSome_then}
+use Rattle.lemmas.proofs.{All, All-cons, All-head, All-permutation, All-tail, All-weaker, cond_both, IfSome_then, IsStrictlyIncreasing, length_permutation, ltb-false, ltb-true, sum_by-cons, sum_by-IsPermutation, sum_by-le}
 use Rattle.rdf_values.specs.{DrawnBy}
 use Rattle.slot_words.specs.declared.hand.ClaimHand.{ClaimHand}
 use Rattle.slot_words.specs.{IsClaimed, IsHand, kept_count}

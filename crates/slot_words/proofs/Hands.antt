@@ -1,13 +1,6 @@
 -- The hands of views of which one has changed, that were dealt out, and that were taken in; and the numbers that hands share out.
 use Rattle.std.proofs.Common.{◌≡◌, ◌≢◌, ℕ, zero, suc, ◌+◌, List, [], ◌∷◌, ◌++◌, length, set, map, get_or, replicate, sym, ap, ◌∙◌, subst, arith, append_assoc, append-nil, length-append, IsPermutation}
-use Rattle.std.specs.List.{concat, range_with_len}
-use Rattle.std.specs.List.Sorted.{IsStrictlyIncreasing}
-use Rattle.std.proofs.lemmas.List.{map-append, nil_from_length, set_comm}
-use Rattle.std.proofs.lemmas.List.Concat.{concat_is, flat_map-append, length-flat_map}
-use Rattle.std.proofs.lemmas.List.Elements.{All-nil, All-cons, All-head, All-tail}
-use Rattle.std.proofs.lemmas.List.FromFn.{map-range_with_len_more}
-use Rattle.std.proofs.lemmas.List.Sorted.{IsPermutation-append_comm, IsPermutation-append_left, IsPermutation-append_right, IsPermutation-cons, IsPermutation-map, IsPermutation-refl, IsPermutation-sym, IsPermutation-to_front, IsPermutation-trans, All-permutation, length_permutation, sum_by-IsPermutation}
-use Rattle.std.proofs.lemmas.List.Sums.{sum_by-cons}
+use Rattle.lemmas.proofs.{All-cons, All-head, All-nil, All-permutation, All-tail, concat, concat_is, flat_map-append, IsPermutation-append_comm, IsPermutation-append_left, IsPermutation-append_right, IsPermutation-cons, IsPermutation-map, IsPermutation-refl, IsPermutation-sym, IsPermutation-to_front, IsPermutation-trans, IsStrictlyIncreasing, length-flat_map, length_permutation, map-append, map-range_with_len_more, nil_from_length, range_with_len, set_comm, sum_by-cons, sum_by-IsPermutation}
 use mathlib.Core.Option.{some, some-injective, some-ne-none}
 use lib.ListN.{get_elem?}
 use Rattle.atomic_table.proofs.Lists.{set_else}

@@ -1,14 +1,6 @@
 -- Runs and further numbers, put together from the greatest on.
 use Rattle.std.proofs.Common.{◌≡◌, ℕ, zero, suc, ◌+◌, ◌-◌, ◌<◌, ◌≤◌, List, [], ◌∷◌, ◌++◌, length, map, take, get_or, Some, refl, sym, ap, ◌∙◌, subst, ⊎_elim, arith, append_assoc, append-nil, length-append, reverse, nat_eq, option_map, slice_get}
-use Rattle.std.specs.List.{range_with_len}
-use Rattle.std.specs.List.Sorted.{IsStrictlyIncreasing}
-use Rattle.std.proofs.Math.Seq.{take-suc, get_or-append_right}
-use Rattle.std.proofs.lemmas.Bool.{cases_lt, cond_both, eqb-true}
-use Rattle.std.proofs.lemmas.Grind.{common_steps}
-use Rattle.std.proofs.lemmas.List.{length-map}
-use Rattle.std.proofs.lemmas.List.FromFn.{get_or-range_with_len, length-range_with_len}
-use Rattle.std.proofs.lemmas.Option.{slice_get-get_or, slice_get-map}
-use Rattle.lemmas.proofs.{eq_itself, take_all}
+use Rattle.lemmas.proofs.{cases_lt, common_steps, cond_both, eq_itself, eqb-true, get_or-append_right, get_or-range_with_len, IsStrictlyIncreasing, length-map, length-range_with_len, range_with_len, slice_get-get_or, slice_get-map, take-suc, take_all}
 use Rattle.rdf_values.specs.{IsUnion, Span, times}
 use Rattle.rdf_values.proofs.DrawCounts.{times_append, times_self}
 use Rattle.rdf_values.proofs.UnionLemmas.{rises_from, once_rising, same_rising, counted, two, first_rises, rest_rise}

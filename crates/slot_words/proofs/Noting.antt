@@ -1,14 +1,7 @@
 -- The clusters that were noted first.
 use Rattle.std.proofs.Common.{◌≡◌, ℕ, suc, ◌+◌, ◌<◌, ◌≤◌, List, [], ◌∷◌, length, map, get_or, Bool, cond, refl, sym, ap, ap₂, ◌∙◌, arith, nat_lt, IsPermutation, Contains}
 use Rattle.std.specs.List.{concat, All as Every}
-use Rattle.std.specs.List.Sorted.{IsStrictlyIncreasing}
-use Rattle.std.proofs.lemmas.Grind.{common_steps}
-use Rattle.std.proofs.lemmas.List.{length-map, nil_from_length}
-use Rattle.std.proofs.lemmas.List.Concat.{concat_is}
-use Rattle.std.proofs.lemmas.List.Elements.{All-filter}
-use Rattle.std.proofs.lemmas.List.Kept.{IsStrictlyIncreasing-filter}
-use Rattle.std.proofs.lemmas.List.Sorted.{length_permutation}
-use Rattle.std.proofs.lemmas.Option.{slice_get-get_or}
+use Rattle.lemmas.proofs.{All-filter, common_steps, concat_is, IsStrictlyIncreasing, IsStrictlyIncreasing-filter, length-map, length_permutation, nil_from_length, slice_get-get_or}
 use Rattle.rdf_values.specs.{below, IsUnion, once_below, times}
 use Rattle.rdf_values.proofs.DrawCounts.{one_if, times_below, times_contains, times_permuted, permuted_by_counts, inside_once}
 use Rattle.rdf_values.proofs.UnionLemmas.{below_rises, all_below, times_filter, rises_from, same_rising, by_counts, both_rise, two}

@@ -1,9 +1,6 @@
 -- Seats that did nothing.
 use Rattle.std.proofs.Common.{◌≡◌, ◌∙◌, ℕ, List, length, refl, sym, ap, subst}
-use Rattle.std.specs.List.{All, range_with_len}
-use Rattle.std.proofs.lemmas.List.{length-map}
-use Rattle.std.proofs.lemmas.List.Elements.{All-map}
-use Rattle.std.proofs.lemmas.List.FromFn.{length-range_with_len}
+use Rattle.lemmas.proofs.{All, All-map, length-map, length-range_with_len, range_with_len}
 use Rattle.slot_words.specs.{ClaimsSeen, fresh_seat, fresh_seats, IsReady, SeatSeen}
 
 pub seats_many : (c : ClaimsSeen) (n : ℕ) (seats : List SeatSeen) → seats ≡ fresh_seats c n → length seats ≡ n

@@ -1,14 +1,6 @@
 -- The entries whose number is between two bounds, trail by trail.
 use Rattle.std.proofs.Common.{◌≡◌, ℕ, zero, suc, ◌+◌, ◌-◌, ◌<◌, ◌≤◌, List, [], ◌∷◌, ◌++◌, length, map, drop, take, get_or, true, false, Some, refl, sym, ap, ap₂, ◌∙◌, subst, ⊎_elim, arith, append_assoc, append-nil, drop-cons, nat_lt, slice_get, option_map}
-use Rattle.std.specs.List.{zip}
-use Rattle.std.specs.List.Sorted.{IsNonDecreasingBy, IsPartitionPoint, IsStrictlyIncreasing}
-use Rattle.std.proofs.Math.Seq.{take-suc}
-use Rattle.std.proofs.lemmas.Bool.{cases_eq, cases_lt, cond-false, cond-true, ltb-true, ltb-false}
-use Rattle.std.proofs.lemmas.Grind.{common_steps}
-use Rattle.std.proofs.lemmas.List.{length-map, map-append}
-use Rattle.std.proofs.lemmas.List.Kept.{AllPairs-from_increasing}
-use Rattle.std.proofs.lemmas.Option.{get_or_from_slice_get, slice_get-map, slice_get_within}
-use Rattle.lemmas.proofs.{none_left, same_some}
+use Rattle.lemmas.proofs.{AllPairs-from_increasing, cases_eq, cases_lt, common_steps, cond-false, cond-true, get_or_from_slice_get, IsNonDecreasingBy, IsPartitionPoint, IsStrictlyIncreasing, length-map, ltb-false, ltb-true, map-append, none_left, same_some, slice_get-map, slice_get_within, take-suc, zip}
 use Rattle.merge_core.specs.{Noted}
 use Rattle.slot_words.specs.{added, added_in, AreOf, cluster_in, HaveNumbers, is_between, kept, piece_in}
 use Rattle.slot_words.proofs.Chosen.{kept_both}

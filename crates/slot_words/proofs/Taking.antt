@@ -1,8 +1,6 @@
 -- Trails that are taken out of pieces, one piece after another.
 use Rattle.std.proofs.Common.{◌≡◌, ℕ, ◌+◌, ◌<◌, ◌≤◌, List, [], ◌∷◌, ◌++◌, length, Some, sym, ap, ◌∙◌, subst, ⊎_elim, arith, length-append, slice_get, slice_set}
-use Rattle.std.proofs.lemmas.Option.{slice_get_within}
-use Rattle.std.proofs.lemmas.Bool.{cases_lt}
-use Rattle.lemmas.proofs.{before_or_last, same_some, set_at, set_length}
+use Rattle.lemmas.proofs.{before_or_last, cases_lt, same_some, set_at, set_length, slice_get_within}
 use Rattle.merge_core.specs.{Noted}
 use Rattle.loop_pieces.specs.{LoopPiece, WatchPiece}
 use Rattle.slot_words.specs.{AreLeft, AreTaken, HasSameBody}

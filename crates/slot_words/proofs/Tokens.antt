@@ -1,9 +1,6 @@
 -- Seats and shares as they are made and as they are handed back, under a rule that says nothing of the hands' order.
 use Rattle.std.proofs.Common.{◌≡◌, ℕ, suc, ◌+◌, ◌-◌, ◌%◌, ◌^◌, ◌<◌, List, [], ◌∷◌, ◌++◌, length, map, replicate, refl, sym, ap, ◌∙◌, subst, arith, append-nil, Some, IsPermutation, slice_index, slice_set}
-use Rattle.std.specs.List.{All, range_with_len}
-use Rattle.std.proofs.lemmas.List.{get_or-map, length-map, length-replicate, nil_from_length}
-use Rattle.std.proofs.lemmas.List.Elements.{All-pop}
-use Rattle.std.proofs.lemmas.List.Sorted.{IsPermutation-sym}
+use Rattle.lemmas.proofs.{All, All-pop, get_or-map, IsPermutation-sym, length-map, length-replicate, nil_from_length, range_with_len}
 use Rattle.atomic_table.specs.Seated.{TableId}
 use Rattle.atomic_table.specs.Table.{State, Me, Splits, Joins, Enters, Allows, keeps}
 use Rattle.slot_words.specs.{first_alone, hands_in, others}

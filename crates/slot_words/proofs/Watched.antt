@@ -1,8 +1,6 @@
 -- The watched results whose trails are taken out of the pieces, one result after another.
 use Rattle.std.proofs.Common.{◌≡◌, ℕ, ◌+◌, ◌<◌, ◌≤◌, List, [], ◌∷◌, ◌++◌, length, get_or, Some, sym, ap, ◌∙◌, subst, ⊎_elim, arith, length-append, slice_get}
-use Rattle.std.specs.List.{All}
-use Rattle.std.proofs.lemmas.Option.{slice_get-get_or, slice_get_within}
-use Rattle.lemmas.proofs.{before_or_last, same_some, set_length, something_at}
+use Rattle.lemmas.proofs.{All, before_or_last, same_some, set_length, slice_get-get_or, slice_get_within, something_at}
 use Rattle.rdf_values.specs.{stride}
 use Rattle.rdf_model.specs.{IsChain}
 use Rattle.rdf_model.specs.declared.loop_facts.LoopFacts.{LoopFacts}

@@ -1,7 +1,6 @@
 -- What is evaluated of a site, where all that it reads is known.
 use Rattle.std.proofs.Common.{◌≡◌, ℕ, zero, suc, ◌<◌, List, [], ◌∷◌, map, length, Option, Some, None, Ok, Err, refl, sym, ◌∙◌, ap, subst, arith, option_map, slice_get, unwrap_or}
-use Rattle.std.specs.List.{All, AllByRecursion}
-use Rattle.std.proofs.lemmas.List.Elements.{All-from_recursion, recursion_from_All}
+use Rattle.lemmas.proofs.{All, All-from_recursion, AllByRecursion, recursion_from_All, slice_get_within}
 use Rattle.rdf_values.specs.{ColType, Column, columns_in, EntryFault, FitRows, FitsRow, fn_names, NumTree, Scalar, Value}
 use Rattle.rdf_model.specs.{call_outcome, Dataset, evaluate, Faults, FitsOutcome, Gives, Needs, Outcome, with_needs}
 use Rattle.expr_check.specs.{CheckedExpr}
@@ -9,7 +8,6 @@ use Rattle.expr_eval.specs.{EvalStop, scalar_outcome, scalar_value, ScalarStop, 
 use Rattle.graph_numbers.specs.{booked_statements, graph_kinds, graph_sites, graph_versions, IsBelow, IsSiteExpr, SiteAt, Source}
 use Rattle.graph_numbers.proofs.Extending.{versions_count}
 use Rattle.graph_numbers.proofs.Meeting.{In, here, there}
-use Rattle.std.proofs.lemmas.Option.{slice_get_within}
 use Rattle.snapshot_plan.specs.{PlanView}
 use Rattle.snapshot_entries.specs.{AreHeld, AreKnown, IsReadable, IsSourceHeld, IsWork, plan_graph, row_in, site_in, site_total, source_of, version_in}
 use Rattle.snapshot_entries.specs.declared.known.Known.{Known}

@@ -1,10 +1,6 @@
 -- The entries of a range, one after another.
 use Rattle.std.proofs.Common.{◌≡◌, ℕ, zero, suc, ◌+◌, ◌-◌, ◌<◌, ◌≤◌, List, [], ◌∷◌, ◌++◌, length, get_or, take, drop, Option, Some, None, Err, refl, sym, ◌∙◌, ap, subst, arith, length-drop, slice_range}
-use Rattle.std.specs.List.{cons_option}
-use Rattle.std.proofs.lemmas.List.{append-nil, append_assoc}
-use Rattle.std.proofs.lemmas.List.Concat.{flat_map-append}
-use Rattle.std.proofs.lemmas.Option.{unwrap_or-slice_get}
-use Rattle.lemmas.proofs.{take_full}
+use Rattle.lemmas.proofs.{append-nil, append_assoc, cons_option, flat_map-append, take_full, unwrap_or-slice_get}
 use Rattle.rdf_values.specs.{EntryFault, Span, Value}
 use Rattle.rdf_model.specs.{Dataset, Faults, Gives}
 use Rattle.snapshot_plan.specs.{PlanView}

@@ -1,9 +1,6 @@
 -- The variation that is asked for, among those of a graph.
 use Rattle.std.proofs.Common.{◌≡◌, ◌<◌, ℕ, true, ◌&&◌, List, length, get_or, Some, ap, ap₂, sym, ◌∙◌}
-use Rattle.std.proofs.lemmas.List.Folds.{list_any_at}
-use Rattle.std.proofs.lemmas.Option.{slice_get-get_or}
-use Rattle.std.proofs.lemmas.Slice.Eq.{bytes_eq-Decides}
-use Rattle.lemmas.proofs.{both_true}
+use Rattle.lemmas.proofs.{both_true, bytes_eq-Decides, list_any_at, slice_get-get_or}
 use Rattle.rdf_values.specs.{same, same_variation, Variation}
 use Rattle.snapshot_plan.specs.{IsNumber, no_variation}
 

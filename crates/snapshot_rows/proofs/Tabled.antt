@@ -1,8 +1,7 @@
 -- A snapshot is a table, whose text reads back.
 use Rattle.std.proofs.Common.{◌≡◌, ◌≤◌, ℕ, ◌+◌, Bool, true, false, ◌||◌, List, [], ◌∷◌, ◌++◌, length, map, Option, Some, None, Result, Ok, Err, refl, sym, ◌∙◌, ap, ap₂, subst, arith, not, if◌then◌else◌, filter_map}
 use Rattle.std.specs.Prelude.{⊤}
-use Rattle.std.specs.List.{cons_option}
-use Rattle.std.proofs.lemmas.List.Folds.{list_all-map}
+use Rattle.lemmas.proofs.{cons_option, list_all-map}
 use Rattle.rdf_values.specs.{among, AreBounded, ColType, Column, column_kind, FitRows, FitsColumn, FitsKind, FitsRow, fn_names, GraphCause, is_name, is_node, IsBounded, IsTable, kind_or_int, Scope, scope_at, scope_of, TableView, Value, verdict}
 use Rattle.rdf_model.specs.{◌>>=◌, column_in, Dataset, Faults, for_all, Gives, Meets, Needs, Outcome, through}
 use Rattle.rdf_model.proofs.Accepted.{accepted_columns_fit}

@@ -1,7 +1,6 @@
 -- The clusters of a table, one after another: their first fault, and their records.
 use Rattle.std.proofs.Common.{◌≡◌, ℕ, ◌+◌, ◌-◌, ◌<◌, ◌≤◌, List, [], ◌∷◌, ◌++◌, length, map, drop, Option, Some, None, refl, sym, ◌∙◌, ap, ap₂, arith, slice_get, flat_map, option_map, slice_range}
-use Rattle.std.proofs.lemmas.Option.{slice_get-map}
-use Rattle.lemmas.proofs.{range_length, take_at_most}
+use Rattle.lemmas.proofs.{range_length, slice_get-map, take_at_most}
 use Rattle.rdf_values.specs.{AreInEntryOrder, Fault, first_in, Lead, Path, Span, Under, Value}
 use Rattle.rdf_values.proofs.Leading.{led_are_in_order}
 use Rattle.rdf_model.specs.{Dataset}

@@ -1,14 +1,10 @@
 -- What one cluster gives.
 use Rattle.std.proofs.Common.{◌≡◌, ℕ, zero, suc, ◌<◌, ◌≤◌, List, [], ◌∷◌, ◌++◌, length, Some, None, Ok, Err, refl, sym, ap, ◌∙◌, subst, arith, ⊎_elim, option_map, slice_get}
-use Rattle.std.specs.List.{All}
-use Rattle.std.proofs.lemmas.Bool.{cases_lt}
-use Rattle.std.proofs.lemmas.List.{map-append}
-use Rattle.std.proofs.lemmas.List.Elements.{All-push}
+use Rattle.lemmas.proofs.{All, All-push, cases_lt, map-append, slice_get-map}
 use Rattle.rdf_values.specs.{Lead, Span, times}
 use Rattle.rdf_values.proofs.DrawCounts.{times_push}
 use Rattle.merge_core.proofs.Holding.{only}
 use Rattle.snapshot_pieces.specs.{AreMade, clusters_of, IsPieceOf, Piece, SnapFacts}
-use Rattle.std.proofs.lemmas.Option.{slice_get-map}
 use Rattle.rdf_values.proofs.Leading.{cuts_lead}
 use Rattle.rdf_model.specs.{Dataset}
 use Rattle.loop_pieces.proofs.Places.{lead_up}

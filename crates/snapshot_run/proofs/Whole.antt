@@ -1,7 +1,6 @@
 -- What is known of a whole run.
 use Rattle.std.proofs.Common.{◌≡◌, ℕ, ◌≤◌, ◌++◌, List, [], ◌∷◌, length, map, Option, None, Some, Ok, Err, refl, sym, ap, ap₂, ◌∙◌, subst, flat_map, option_map, Result}
-use Rattle.std.proofs.lemmas.List.{length-map}
-use Rattle.std.proofs.lemmas.List.Concat.{flat_map-append}
+use Rattle.lemmas.proofs.{flat_map-append, length-map}
 use Rattle.rdf_values.specs.{Column, Fault, first_in, fn_names, FunctionNames, IsTable, Lead, Span, TableView, Value}
 use Rattle.rdf_values.proofs.Leading.{cuts_lead}
 use Rattle.rdf_model.specs.{Dataset}

@@ -1,8 +1,6 @@
 -- Texts with a byte between them are the first, and each other one behind that byte.
 use Rattle.std.proofs.Common.{◌≡◌, ℕ, ℤ, List, [], ◌∷◌, ◌++◌, length, map, flat_map, refl, ap, sym, ◌∙◌, append_assoc}
-use Rattle.std.specs.Fmt.{signed_decimal}
-use Rattle.std.specs.List.{join_with_byte}
-use Rattle.std.proofs.lemmas.List.{append-nil}
+use Rattle.lemmas.proofs.{append-nil, join_with_byte, signed_decimal}
 use Rattle.rdf_values.specs.{Column, value_of}
 use Rattle.rdf_values.specs.declared.tables.cell.Cell.{Cell}
 use Rattle.snapshot_text.specs.{cell_field, column_field, record_text}

@@ -1,11 +1,6 @@
 -- A table's text reads as the table.
 use Rattle.std.proofs.Common.{◌≡◌, ◌≤◌, ◌<◌, ℕ, Bool, true, ◌&&◌, List, [], ◌∷◌, ◌++◌, length, map, refl, ap, ap₂, subst, ◌∙◌, arith, length-append}
-use Rattle.std.specs.Fmt.{signed_decimal}
-use Rattle.std.specs.List.{join_with_byte, list_all}
-use Rattle.std.proofs.lemmas.Grind.{flat_map-append}
-use Rattle.std.proofs.lemmas.List.{length-map}
-use Rattle.std.proofs.lemmas.List.Elements.{All-head}
-use Rattle.lemmas.proofs.{both_true}
+use Rattle.lemmas.proofs.{All-head, both_true, flat_map-append, join_with_byte, length-map, list_all, signed_decimal}
 use Rattle.csv.specs.Writing.{default_writer, row_text}
 use Rattle.csv.proofs.RoundTrip.{rows_text}
 use Rattle.table_csv.specs.{csv_records}

@@ -1,8 +1,6 @@
 -- What is asked for is within its limits.
 use Rattle.std.proofs.Common.{◌≡◌, ◌≤◌, ◌<◌, ℕ, ℤ, pos, negsuc, Bool, true, false, ◌&&◌, leb, List, length, Option, None, Some, if◌then◌else◌, refl, arith, subst, nat_le}
-use Rattle.std.specs.List.{list_all, slice_split}
-use Rattle.std.proofs.lemmas.Bool.Decides.{nat_tests}
-use Rattle.std.proofs.lemmas.List.Splits.{length-slice_split}
+use Rattle.lemmas.proofs.{length-slice_split, list_all, nat_tests, slice_split}
 use Rattle.clap.specs.Words.{Row, Text, matches_of}
 use Rattle.command_words.specs.{number_of, setting_of, within}
 use Rattle.rdf_values.specs.{integer_of, is_name}

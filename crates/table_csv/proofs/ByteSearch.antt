@@ -1,9 +1,6 @@
 -- What the first place of a byte tells.
 use Rattle.std.proofs.Common.{◌≡◌, ℕ, Bool, List, get_or, Option, None, Some, sym, ap, ◌∙◌, arith, is_some}
-use Rattle.std.specs.List.{list_any}
-use Rattle.std.proofs.lemmas.List.{get_or_default}
-use Rattle.std.proofs.lemmas.List.Folds.{list_any-from_Any, list_any_none}
-use Rattle.lemmas.proofs.{never_true}
+use Rattle.lemmas.proofs.{get_or_default, list_any, list_any-from_Any, list_any_none, never_true}
 use Rattle.memchr.specs.Find.{IsFirstByte}
 
 -- there is one exactly where a byte passes

@@ -1,8 +1,7 @@
 -- One more cell of an entry, and its mark; what is read, with the answer for what is left behind it.
 use Rattle.std.proofs.Common.{◌≡◌, ◌≢◌, ◌<◌, ◌≤◌, ◌+◌, ℕ, Bool, true, false, List, [], ◌∷◌, ◌++◌, length, get_or, drop, Result, Ok, Err, arith, refl, ap, sym, append_assoc, MatchResult, ◌∙◌, if◌then◌else◌}
 use mir.Val.{bool_byte}
-use Rattle.std.proofs.lemmas.List.{append-nil, drop_all, drop_more}
-use Rattle.std.proofs.lemmas.Bool.Decides.{nat_tests}
+use Rattle.lemmas.proofs.{append-nil, drop_all, drop_more, nat_tests}
 use Rattle.rdf_values.specs.{Answers, Cells, cells_from, Column, field_count, Header, mark_of, MarkedRow, on_ok, result_cons, row_of, row_pushed, TableCause, Value}
 use Rattle.rdf_values.specs.tables.TableText.{cell_of, mark_in}
 use Rattle.rdf_values.specs.Answered.{Refuses}

@@ -1,7 +1,6 @@
 -- Records of bytes without a double quote that are cut behind a line's end.
 use Rattle.std.proofs.Common.{◌≡◌, ◌+◌, ℕ, List, [], ◌∷◌, ◌++◌, length, Bool, true, false, arith, refl, sym, ◌∙◌, append_assoc, append-nil, inl, inr, if◌then◌else◌, ◌==◌, ◌&&◌, nat_eq}
-use Rattle.std.specs.List.{list_any}
-use Rattle.lemmas.proofs.{and_false, neither}
+use Rattle.lemmas.proofs.{and_false, list_any, neither}
 use Rattle.csv.specs.Machine.{next_record, step}
 use Rattle.csv.specs.Reading.{default_config, is_bom, records_from, strip_bom}
 use Rattle.csv.specs.declared.parser.State.{State}

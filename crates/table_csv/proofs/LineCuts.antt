@@ -1,9 +1,6 @@
 -- Where a line ends.
 use Rattle.std.proofs.Common.{◌≡◌, ◌<◌, ◌+◌, ◌∙◌, ℕ, List, [], ◌∷◌, ◌++◌, length, take, drop, get_or, Bool, None, Some, arith, refl, sym, ap, length-drop, get_or-drop, cond, nat_lt, position}
-use Rattle.std.specs.List.{position_or_len}
-use Rattle.std.proofs.lemmas.List.{take_more}
-use Rattle.std.proofs.lemmas.List.Sums.{passes_at_first}
-use Rattle.std.proofs.lemmas.Bool.Decides.{nat_tests}
+use Rattle.lemmas.proofs.{nat_tests, passes_at_first, position_or_len, take_more}
 use Rattle.table_csv.specs.{EndsLine, is_line_end}
 
 found : (xs : List ℕ) (b : Bool) (i : ℕ) → nat_lt (position_or_len is_line_end xs) (length xs) ≡ b → cond b (Some (position_or_len is_line_end xs)) None ≡ Some i → (i < length xs) × (get_or xs i 0 ≡ 10)

@@ -1,10 +1,6 @@
 -- Marks behind others.
 use Rattle.std.proofs.Common.{◌≡◌, ◌<◌, ◌+◌, ℕ, List, [], ◌∷◌, ◌++◌, take, All, Some, arith, length-take, append_assoc, slice_get}
-use Rattle.std.proofs.lemmas.List.{get_or-take, map-append}
-use Rattle.std.proofs.lemmas.List.Elements.{All-append, All-map}
-use Rattle.std.proofs.lemmas.List.Kept.{AllPairs-from_increasing}
-use Rattle.std.proofs.lemmas.Option.{get_or_from_slice_get, slice_get_within}
-use Rattle.lemmas.proofs.{take_next}
+use Rattle.lemmas.proofs.{All-append, All-map, AllPairs-from_increasing, get_or-take, get_or_from_slice_get, map-append, slice_get_within, take_next}
 use Rattle.rdf_values.specs.{AreMarks}
 use Rattle.table_csv.specs.{marks_behind}
 

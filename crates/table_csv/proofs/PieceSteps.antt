@@ -1,10 +1,6 @@
 -- Answers about pieces of a table.
 use Rattle.std.proofs.Common.{◌≡◌, ◌<◌, ◌≤◌, ◌+◌, ◌∙◌, ◌++◌, ℕ, Bool, true, false, not, All, List, ◌∷◌, length, None, Option, Some, Result, Ok, Err, ap, length-append, arith, IfOk, IfSome, MatchResult}
-use Rattle.std.specs.Borrow.{Bor}
-use Rattle.std.specs.List.{list_any}
-use Rattle.std.specs.Result.{result_ok}
-use Rattle.std.proofs.lemmas.List.Elements.{All-append, All-map}
-use Rattle.std.proofs.lemmas.List.Folds.{list_any-append}
+use Rattle.lemmas.proofs.{All-append, All-map, Bor, list_any, list_any-append, result_ok}
 use Rattle.csv.specs.declared.reader.Reader.{Reader}
 use Rattle.rdf_values.specs.Answered.{Refuses}
 use Rattle.rdf_values.specs.{Header, MarkedTable, Memory, table_of, TableCause, Value}

@@ -1,7 +1,6 @@
 -- The table of two parts, from that of each.
 use Rattle.std.proofs.Common.{if◌then◌else◌, ◌≡◌, ◌≤◌, ◌<◌, ◌+◌, ℕ, suc, List, [], ◌∷◌, ◌++◌, length, map, Bool, true, false, None, Some, Option, Result, Ok, Err, arith, refl, ap, sym, ◌∙◌, ok_or}
-use Rattle.std.proofs.lemmas.List.{length-map, map-append}
-use Rattle.std.proofs.lemmas.Bool.Decides.{nat_tests}
+use Rattle.lemmas.proofs.{length-map, map-append, nat_tests}
 use Rattle.rdf_values.specs.{cells_from, ColType, Column, Header, header_from, mark_of, MarkedRow, MarkedTable, marks_from, on_ok, result_cons, row_of, rows_from, table_of, table_with, TableCause}
 use Rattle.rdf_values.specs.tables.TableText.{cell_of, mark_in}
 use Rattle.table_csv.specs.{entries_of, marked_joined, marks_behind}

@@ -1,9 +1,7 @@
 -- Texts that end where lines do.
 use Rattle.std.proofs.Common.{◌≡◌, ◌<◌, ◌+◌, ◌-◌, ◌∙◌, ℕ, zero, suc, All, List, [], ◌∷◌, ◌++◌, length, take, drop, get_or, add-one, append-nil, append_assoc, ap, arith, inl, inr, length-drop, refl, sym}
-use Rattle.std.proofs.Math.Seq.{drop-append_seam}
-use Rattle.std.proofs.lemmas.Grind.{flat_map-append}
+use Rattle.lemmas.proofs.{All-append, All-cons, All-drop, All-take, drop-append_seam, flat_map-append}
 use Rattle.std.proofs.lemmas.List.{take_all}
-use Rattle.std.proofs.lemmas.List.Elements.{All-append, All-cons, All-drop, All-take}
 use Rattle.columns.specs.{joined}
 use Rattle.table_csv.specs.{EndsLine, IsCut}
 

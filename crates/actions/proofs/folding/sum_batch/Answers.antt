@@ -1,6 +1,5 @@
 use Rattle.std.proofs.Common.{rules, [], ◌+ℤ◌, ◌∙◌, ap, refl, FitsSigned, fold}
-use Rattle.std.specs.Int.{w128}
-use Rattle.std.proofs.lemmas.Int.{to_z-of_z}
+use Rattle.lemmas.proofs.{to_z-of_z, w128}
 use Rattle.actions.specs.{first_numbers_in}
 use Rattle.actions.proofs.folding.sum_batch.Goals as goal
 

@@ -1,6 +1,5 @@
 use Rattle.std.proofs.Common.{rules, ◌<◌, ◌∙◌, ap, sym, get_or, length, pos, w64, FitsSigned}
-use Rattle.std.proofs.lemmas.Int.{to_z-of_z}
-use Rattle.std.proofs.lemmas.List.Sums.{fold_more}
+use Rattle.lemmas.proofs.{fold_more, to_z-of_z}
 use Rattle.rdf_values.specs.{reduce_step}
 use Rattle.actions.proofs.numbers.reduce_with.Goals as goal
 

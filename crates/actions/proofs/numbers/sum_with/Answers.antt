@@ -1,7 +1,5 @@
 use Rattle.std.proofs.Common.{rules, arith, ◌<◌, ◌+ℤ◌, ◌∙◌, ap, sym, get_or, length, pos, w64, FitsSigned, to_z, nat_abs}
-use Rattle.std.specs.Int.{w128}
-use Rattle.std.proofs.lemmas.Int.{to_z-of_z}
-use Rattle.std.proofs.lemmas.List.Sums.{fold_more}
+use Rattle.lemmas.proofs.{fold_more, to_z-of_z, w128}
 use Rattle.actions.proofs.Sums.{fits_sum, sum_bound}
 use Rattle.actions.proofs.numbers.sum_with.Goals as goal
 use Rattle.histograms.proofs.Bounds.{abs_of_fit}

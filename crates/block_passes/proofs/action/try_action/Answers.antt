@@ -1,6 +1,5 @@
 use Rattle.std.proofs.Common.{◌≡◌, ◌∙◌, ℕ, arith, List, get_or, length, refl, subst, sym, slice_set}
-use Rattle.std.specs.List.{AllByRecursion}
-use Rattle.std.proofs.lemmas.Option.{slice_get-get_or}
+use Rattle.lemmas.proofs.{AllByRecursion, on_ok_weaker, slice_get-get_or}
 use Rattle.rdf_values.specs.{ColType}
 use Rattle.block_cache.specs.{kinds_of, LaneView}
 use Rattle.loop_keys.specs.{job_of}
@@ -11,7 +10,6 @@ use Rattle.block_passes.proofs.Spending.{leaves_kept, leaves_then}
 use Rattle.block_passes.proofs.Selecting.{kept_inside}
 use Rattle.block_passes.proofs.Trying.{action_tried, gathers, has_step, last_there, read_plain, to_demanded, to_inside, to_limit}
 use Rattle.block_passes.proofs.PlainReads.{plain_reads}
-use Rattle.std.proofs.lemmas.Result.{on_ok_weaker}
 use Rattle.block_passes.proofs.action.try_action.Goals as goal
 use Rattle.loop_keys.proofs.PassNumbers.{some_same}
 

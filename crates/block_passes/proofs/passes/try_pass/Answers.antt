@@ -1,6 +1,5 @@
 use Rattle.std.proofs.Common.{◌≡◌, ◌∙◌, List, Some, ap, option_map, slice_get, subst, sym, ℕ}
-use Rattle.std.specs.List.{AllByRecursion}
-use Rattle.std.proofs.lemmas.Result.{on_ok_weaker}
+use Rattle.lemmas.proofs.{AllByRecursion, on_ok_weaker}
 use Rattle.graph_numbers.specs.{graph_results, GraphView, ResultAt}
 use Rattle.loop_keys.specs.{job_of}
 use Rattle.loop_keys.proofs.EntryLaws.{own_covers}

@@ -1,6 +1,5 @@
 use Rattle.std.proofs.Common.{List, subst, sym, ℕ}
-use Rattle.std.specs.List.{AllByRecursion}
-use Rattle.std.proofs.lemmas.Result.{on_ok_weaker}
+use Rattle.lemmas.proofs.{AllByRecursion, on_ok_weaker}
 use Rattle.loop_keys.specs.{job_of}
 use Rattle.block_passes.specs.{AreRemade, filters_fault, IsNamedMade, IsTriedTo}
 use Rattle.block_passes.proofs.SearchedPasses.{named_stays, remade_then}

@@ -1,7 +1,6 @@
 use Rattle.std.proofs.Common.{ℕ, List, get_or, subst, sym, take}
 use Rattle.std.proofs.lemmas.List.{take_all}
-use Rattle.std.proofs.lemmas.Option.{slice_get-get_or}
-use Rattle.lemmas.proofs.{take_next}
+use Rattle.lemmas.proofs.{slice_get-get_or, take_next}
 use Rattle.block_passes.specs.{IsLed}
 use Rattle.block_passes.proofs.PlanSteps.{led_there, path_begins, path_goes_on}
 use Rattle.block_passes.proofs.steps.path_steps.Goals as goal

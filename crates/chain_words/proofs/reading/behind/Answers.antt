@@ -1,6 +1,5 @@
 use Rattle.std.proofs.Common.{ap, ◌∙◌, sym, take, drop}
-use Rattle.std.proofs.Math.Seq.{take-length}
-use Rattle.std.proofs.lemmas.List.{length-drop}
+use Rattle.lemmas.proofs.{length-drop, take-length}
 use Rattle.chain_words.proofs.reading.behind.Goals as goal
 
 pub returns : goal.returns

@@ -1,6 +1,5 @@
 use Rattle.std.proofs.Common.{◌∙◌, length, Some, refl, sym, ap, subst}
-use Rattle.std.proofs.lemmas.List.{set-get_or}
-use Rattle.std.proofs.lemmas.Option.{same_Some, slice_get_read}
+use Rattle.lemmas.proofs.{same_Some, set-get_or, slice_get_read}
 use Rattle.actions.specs.{Accumulator}
 use Rattle.cluster_tally.specs.{TakesIn}
 use Rattle.cluster_tally.proofs.tally.feed_watched_batch.Goals as goal

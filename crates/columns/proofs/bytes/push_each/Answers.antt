@@ -1,10 +1,8 @@
 use Rattle.std.proofs.Common.{◌≡◌, ◌∙◌, ◌++◌, ◌+◌, ◌*◌, ap, arith, get_or, pos, rules, take}
-use Rattle.std.specs.Int.RustNames.{FitsSigned}
+use Rattle.lemmas.proofs.{FitsSigned, take_at_most, to_z-of_z}
 use mir.Syntax.{w64}
 use native.Mathlib.Nat.{add-mul}
-use Rattle.std.proofs.Math.Facts.{to_z-of_z}
 use Rattle.std.proofs.lemmas.List.{take_all}
-use Rattle.lemmas.proofs.{take_at_most}
 use Rattle.columns.specs.{low_bytes, packed_by}
 use Rattle.columns.proofs.BlockSteps.{pack_step, words_step}
 use Rattle.columns.proofs.Unpacking.{first_bytes}

@@ -1,6 +1,5 @@
 use Rattle.std.proofs.Common.{◌≡◌, ◌<◌, length, map, min, sym, ap, ◌∙◌, subst, arith}
-use Rattle.std.specs.List.{All}
-use Rattle.std.proofs.lemmas.List.Elements.{All-map}
+use Rattle.lemmas.proofs.{All, All-map}
 use Rattle.rdf_values.specs.{DrawnBy, least_fault}
 use Rattle.slot_words.specs.{IsLeast, IsPassed, SeatSeen}
 use Rattle.slot_words.specs.Seats.{IsOf}

@@ -1,6 +1,5 @@
 use Rattle.std.proofs.Common.{rules, FitsSigned, w64, get_or, pos}
-use Rattle.std.specs.Int.{int_min}
-use Rattle.std.proofs.lemmas.Int.{to_z-of_z}
+use Rattle.lemmas.proofs.{int_min, to_z-of_z}
 use Rattle.expr_eval.proofs.InOrder.{extreme_goes_on}
 use Rattle.expr_eval.proofs.elements.least.Goals as goal
 

@@ -1,7 +1,6 @@
 use Rattle.std.proofs.Common.{◌≡◌, ◌<◌, ◌∙◌, List, [], ◌∷◌, ◌++◌, map, length, sym, arith, rules, refl, ap, Err, Result}
 use Rattle.rdf_values.specs.{Placed, Refusal}
-use Rattle.std.proofs.lemmas.List.{map-append}
-use Rattle.std.proofs.lemmas.Grind.{common_steps}
+use Rattle.lemmas.proofs.{common_steps, map-append}
 use Rattle.expr_read.specs.{placed_of}
 use Rattle.expr_read.proofs.TokenSteps.{step_blank, step_bad, step_many, step_token, at_end}
 use Rattle.expr_read.proofs.FirstTokens.{token_sized, refusal_sized, from_place}

@@ -1,7 +1,5 @@
 use Rattle.std.proofs.Common.{◌∙◌, ◌++◌, ◌∷◌, [], ap, append_assoc, map, rules, sym, take, w64, FitsSigned}
-use Rattle.std.proofs.lemmas.Int.{to_z-of_z}
-use Rattle.std.proofs.lemmas.List.{map_push}
-use Rattle.lemmas.proofs.{take_next}
+use Rattle.lemmas.proofs.{map_push, take_next, to_z-of_z}
 use Rattle.friend_join.specs.{entry_of}
 use Rattle.friend_join.proofs.matches.match_numbers.Goals as goal
 

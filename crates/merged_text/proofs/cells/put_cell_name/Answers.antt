@@ -1,6 +1,5 @@
 use Rattle.std.proofs.Common.{◌-◌, Some, pos, get_or, sym, ap, ◌∙◌, arith, rules, w64, FitsSigned}
-use Rattle.std.proofs.lemmas.Int.{to_z-of_z}
-use Rattle.lemmas.proofs.{on_ok}
+use Rattle.lemmas.proofs.{on_ok, to_z-of_z}
 use Rattle.result_text.specs.{behind}
 use Rattle.result_text.proofs.CellNames.{bin_at, last_name}
 use Rattle.merged_text.proofs.cells.put_cell_name.Goals as goal

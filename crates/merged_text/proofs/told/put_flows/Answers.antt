@@ -1,6 +1,5 @@
 use Rattle.std.proofs.Common.{◌++◌, ap, ◌∙◌, inl, inr, arith, sym}
-use Rattle.std.proofs.lemmas.Option.{slice_get-get_or}
-use Rattle.lemmas.proofs.{on_ok}
+use Rattle.lemmas.proofs.{on_ok, slice_get-get_or}
 use Rattle.graph_numbers.specs.{graph_filters}
 use Rattle.merged_text.proofs.Flows.{first_flow, flow_end, flow_next, no_flows}
 use Rattle.merged_text.proofs.told.put_flows.Goals as goal

@@ -1,6 +1,5 @@
 use Rattle.std.proofs.Common.{None, arith, inl, inr, length, refl, slice_index_or}
-use Rattle.std.proofs.lemmas.Option.{slice_get_read}
-use Rattle.lemmas.proofs.{something_at}
+use Rattle.lemmas.proofs.{slice_get_read, something_at}
 use Rattle.graph_numbers.specs.{Pass}
 use Rattle.result_text.specs.{passes_at}
 use Rattle.result_text.proofs.Passes.{pass_there}

@@ -1,7 +1,5 @@
 use Rattle.std.proofs.Common.{◌++◌, sym, ap, ◌∙◌, append-nil, rules, FitsSigned}
-use Rattle.std.specs.Int.{w128}
-use Rattle.std.proofs.lemmas.Int.{to_z-of_z}
-use Rattle.lemmas.proofs.{on_ok}
+use Rattle.lemmas.proofs.{on_ok, to_z-of_z, w128}
 use Rattle.histograms.specs.{cell_seen}
 use Rattle.result_text.proofs.CellNames.{cell_put, no_line}
 use Rattle.result_text.proofs.cells.put_cell.Goals as goal

@@ -1,6 +1,5 @@
 use Rattle.std.proofs.Common.{Some, sym, ap, ◌∙◌, arith}
-use Rattle.std.proofs.lemmas.Int.{to_z-of_z}
-use Rattle.lemmas.proofs.{on_ok}
+use Rattle.lemmas.proofs.{on_ok, to_z-of_z}
 use Rattle.result_text.specs.{behind}
 use Rattle.result_text.proofs.CellNames.{bin_at, last_name}
 use Rattle.result_text.proofs.cells.put_cell_name.Goals as goal

@@ -1,6 +1,5 @@
 use Rattle.std.proofs.Common.{◌≡◌, ◌∙◌, ◌∷◌, ◌++◌, [], map, refl, arith}
-use Rattle.std.proofs.lemmas.List.{map-append}
-use Rattle.std.proofs.lemmas.Grind.{common_steps}
+use Rattle.lemmas.proofs.{common_steps, map-append}
 use Rattle.rdf_values.specs.{at_byte, Bad, Blank}
 use Rattle.script_read.specs.{placed_of}
 use Rattle.script_read.proofs.TokenSteps.{at_place, step_comment, step_token, token_within, at_end}

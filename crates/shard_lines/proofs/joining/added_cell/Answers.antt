@@ -1,6 +1,5 @@
 use Rattle.std.proofs.Common.{◌+ℤ◌, ◌∙◌, ap₂, rules, FitsSigned, ℤ}
-use Rattle.std.specs.Int.{w128}
-use Rattle.std.proofs.lemmas.Int.{to_z-of_z}
+use Rattle.lemmas.proofs.{to_z-of_z, w128}
 use Rattle.histograms.specs.{CellSum}
 use Rattle.shard_lines.proofs.joining.added_cell.Goals as goal
 

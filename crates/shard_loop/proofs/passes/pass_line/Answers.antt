@@ -1,6 +1,5 @@
 use Rattle.std.proofs.Common.{◌<◌, sym, ap, ◌∙◌, subst, arith, get_or, length, map, take, All, slice_get}
-use Rattle.std.proofs.lemmas.Option.{same_Some, slice_get_within}
-use Rattle.std.proofs.lemmas.Result.{IfOk-weaker}
+use Rattle.lemmas.proofs.{IfOk-weaker, same_Some, slice_get_within}
 use Rattle.rdf_values.specs.{history, named_before}
 use Rattle.rdf_model.specs.{kinds_in}
 use Rattle.loop_keys.specs.{job_of, job_spans, passes_in}

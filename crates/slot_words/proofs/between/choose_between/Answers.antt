@@ -1,6 +1,5 @@
 use Rattle.std.proofs.Common.{◌≡◌, ◌≤◌, ◌++◌, ◌-◌, map, take, drop, ap, ◌∙◌, arith, rules, nat_lt}
-use Rattle.std.proofs.lemmas.List.Sorted.{IsPartitionPoint-from_clause, IsPartitionedBy-ltb}
-use Rattle.lemmas.proofs.{take_all}
+use Rattle.lemmas.proofs.{IsPartitionedBy-ltb, IsPartitionPoint-from_clause, take_all}
 use Rattle.slot_words.specs.{added_in, cluster_in, piece_in}
 use Rattle.slot_words.proofs.Stretches.{IsStretch, entry_appended, is_stretch, no_fall, stretch}
 use Rattle.slot_words.proofs.between.choose_between.Goals as goal

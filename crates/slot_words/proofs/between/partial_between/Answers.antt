@@ -1,8 +1,5 @@
 use Rattle.std.proofs.Common.{map, length, [], ap, sym, ◌∙◌, refl, subst, arith, IsPermutation}
-use Rattle.std.specs.List.Sorted.{IsStrictlyIncreasing}
-use Rattle.std.proofs.lemmas.List.{length-map}
-use Rattle.std.proofs.lemmas.List.Sorted.{IsNonDecreasingBy-from_sort}
-use Rattle.std.proofs.lemmas.Option.{get_or_from_slice_get}
+use Rattle.lemmas.proofs.{get_or_from_slice_get, IsNonDecreasingBy-from_sort, IsStrictlyIncreasing, length-map}
 use Rattle.rdf_values.specs.{IsUnion}
 use Rattle.slot_words.specs.{added, AreOf, cluster_in, piece_in}
 use Rattle.slot_words.proofs.Alone.{single, stand_alone, unite}

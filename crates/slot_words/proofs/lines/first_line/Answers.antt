@@ -1,6 +1,5 @@
 use Rattle.std.proofs.Common.{◌<◌, ℕ, List, [], ◌∷◌, map, refl, ap, sym, ◌∙◌, subst, arith}
-use Rattle.std.specs.List.{All}
-use Rattle.std.specs.List.Sorted.{IsStrictlyIncreasing}
+use Rattle.lemmas.proofs.{All, IsStrictlyIncreasing}
 use Rattle.rdf_values.proofs.UnionLemmas.{by_counts, both_rise, none_rises, two}
 use Rattle.rdf_model.specs.{maximal_runs}
 use Rattle.loop_pieces.specs.{span_of, watch_facts}

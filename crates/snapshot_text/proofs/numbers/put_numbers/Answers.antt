@@ -1,8 +1,5 @@
 use Rattle.std.proofs.Common.{rules, ◌≡◌, ◌∷◌, FitsSigned}
-use Rattle.std.specs.Fmt.{signed_decimal}
-use Rattle.std.specs.Int.{w64}
-use Rattle.std.proofs.lemmas.Int.{to_z-of_z}
-use Rattle.lemmas.proofs.{on_ok}
+use Rattle.lemmas.proofs.{on_ok, signed_decimal, to_z-of_z, w64}
 use Rattle.snapshot_text.proofs.Joined.{grown_by}
 use Rattle.snapshot_text.proofs.numbers.put_numbers.Goals as goal
 

@@ -1,6 +1,5 @@
 use Rattle.std.proofs.Common.{rules, arith, ◌∷◌, [], ◌∙◌, ap, map, sym, w64, FitsSigned, ◌+ℤ◌, refl, fold}
-use Rattle.std.specs.Int.{w128, int_max, int_min}
-use Rattle.std.proofs.lemmas.Int.{to_z-of_z}
+use Rattle.lemmas.proofs.{int_max, int_min, to_z-of_z, w128}
 use Rattle.rdf_values.specs.{Item, reduce_step}
 use Rattle.actions.specs.{better_of, values_of}
 use Rattle.actions.proofs.States.{first_short, holds_counted, holds_flat, holds_greatest, holds_least, holds_reduced, holds_square, holds_summed, holds_taken, on_ok, spread_flat, spread_max, spread_min, spread_reduce, spread_square, spread_sum, spread_take}

@@ -1,6 +1,5 @@
 use Rattle.std.proofs.Common.{rules, arith, ◌≡◌, true, false, subst, sym, ◌++◌, ◌+ℤ◌, length, length-append, ap, ◌∙◌, w64, FitsSigned, flat_map, fold}
-use Rattle.std.specs.Int.{w128}
-use Rattle.std.proofs.lemmas.Int.{to_z-of_z}
+use Rattle.lemmas.proofs.{to_z-of_z, w128}
 use Rattle.rdf_values.specs.{ActionKind, Item, reduce_step}
 use Rattle.actions.specs.{first_numbers_in, first_scalar, IsWithin, places_of, values_at}
 use Rattle.actions.proofs.Batching.{few_values, number_items, singles_counted, taken_items}

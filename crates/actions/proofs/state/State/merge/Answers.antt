@@ -1,7 +1,5 @@
 use Rattle.std.proofs.Common.{rules, arith, ◌≡◌, ◌+ℤ◌, ◌∙◌, w64, FitsSigned}
-use Rattle.std.specs.Int.{w128}
-use Rattle.std.proofs.lemmas.Int.{to_z-of_z}
-use Rattle.lemmas.proofs.{abs_add}
+use Rattle.lemmas.proofs.{abs_add, to_z-of_z, w128}
 use Rattle.actions.proofs.Merges.{merge_count, merge_flat, merge_max, merge_min, merge_reduce, merge_square, merge_sum, merge_take}
 use Rattle.actions.proofs.Sums.{fits_sum}
 use Rattle.actions.proofs.state.State.merge.Goals as goal

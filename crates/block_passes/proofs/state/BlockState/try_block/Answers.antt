@@ -1,6 +1,5 @@
 use Rattle.std.proofs.Common.{arith, List, ◌-◌, ◌∙◌, ap, length, subst, sym, ℤ, refl}
-use Rattle.std.specs.Vec.{with_items}
-use Rattle.std.proofs.lemmas.List.{with_items_is}
+use Rattle.lemmas.proofs.{with_items, with_items_is}
 use Rattle.block_cache.specs.{kinds_of}
 use Rattle.loop_keys.specs.{job_of}
 use Rattle.block_passes.specs.{CanServeAll, entries_from, IsPlan, IsReadyBelow, IsStateOf, StateView}

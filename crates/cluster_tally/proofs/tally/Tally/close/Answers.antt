@@ -1,6 +1,5 @@
 use Rattle.std.proofs.Common.{◌≡◌, ◌∙◌, ◌++◌, ◌∷◌, [], length, map, ap, arith, subst, sym, slice_get}
-use Rattle.std.specs.Vec.{with_items}
-use Rattle.std.proofs.lemmas.List.{with_items_is}
+use Rattle.lemmas.proofs.{with_items, with_items_is}
 use Rattle.cluster_tally.specs.{at_begin, Holds, noted_all, renewed, TallyView}
 use Rattle.cluster_tally.specs.contracts.tally.Tally.{the_view}
 use Rattle.cluster_tally.proofs.Closing.{holds_closed, on_both_ok}

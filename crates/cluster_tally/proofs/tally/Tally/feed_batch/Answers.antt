@@ -1,7 +1,5 @@
 use Rattle.std.proofs.Common.{◌∙◌, length, ap, arith, subst, sym, slice_get}
-use Rattle.std.specs.Vec.{with_items}
-use Rattle.std.proofs.lemmas.List.{with_items_is}
-use Rattle.std.proofs.lemmas.Result.{on_err_weaker, on_ok_weaker}
+use Rattle.lemmas.proofs.{on_err_weaker, on_ok_weaker, with_items, with_items_is}
 use Rattle.actions.specs.{IsTake}
 use Rattle.cluster_tally.specs.{CanFeedBatch, TallyView, TookIn, TookInIfThere}
 use Rattle.cluster_tally.specs.contracts.tally.Tally.{the_view}

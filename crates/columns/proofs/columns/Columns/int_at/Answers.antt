@@ -1,8 +1,6 @@
 use Rattle.std.proofs.Common.{◌≡◌, ◌∙◌, arith, ap, length, map, rules, sym}
-use Rattle.std.specs.Int.RustNames.{FitsSigned}
+use Rattle.lemmas.proofs.{FitsSigned, slice_get_within, to_z-of_z}
 use mir.Syntax.{w64}
-use Rattle.std.proofs.Math.Facts.{to_z-of_z}
-use Rattle.std.proofs.lemmas.Option.{slice_get_within}
 use Rattle.rdf_values.specs.{Value}
 use Rattle.rdf_values.proofs.KeptLemmas.{cell_of_column, column_length}
 use Rattle.rdf_values.proofs.RowPushed.{length-rows_kept}

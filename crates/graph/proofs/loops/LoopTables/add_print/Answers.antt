@@ -1,6 +1,5 @@
 use Rattle.std.proofs.Common.{◌≡◌, ◌-◌, length, take, drop, ap, ◌∙◌, arith, slice_get, refl, sym}
-use Rattle.std.proofs.lemmas.List.{length-map}
-use Rattle.lemmas.proofs.{on_ok}
+use Rattle.lemmas.proofs.{length-map, on_ok}
 use Rattle.graph.specs.{passes_of_rows, statements}
 use Rattle.graph.proofs.Looped.{in_bounds, print_no_row, print_again, print_fills, open_passes, place_of_row}
 use Rattle.graph.proofs.loops.LoopTables.add_print.Goals as goal

@@ -1,6 +1,5 @@
 use Rattle.std.proofs.Common.{rules, w64, FitsSigned}
-use Rattle.std.specs.Int.{w128}
-use Rattle.std.proofs.lemmas.Int.{to_z-of_z}
+use Rattle.lemmas.proofs.{to_z-of_z, w128}
 use Rattle.histograms.proofs.Bounds.{widened}
 use Rattle.histograms.proofs.cell_sum.CellSum.with.Goals as goal
 

@@ -1,7 +1,5 @@
 use Rattle.std.proofs.Common.{subst, sym, arith}
-use Rattle.std.specs.Vec.{with_items}
-use Rattle.std.proofs.lemmas.List.{with_items_is}
-use Rattle.lemmas.proofs.{on_ok}
+use Rattle.lemmas.proofs.{on_ok, with_items, with_items_is}
 use Rattle.loop_pieces.specs.{AreMerged, CanMerge, LoopPiece}
 use Rattle.loop_pieces.proofs.Joined.{can_merge, have_room, joined}
 use Rattle.loop_pieces.proofs.joining.LoopPiecePiece.join.Goals as goal

@@ -1,6 +1,5 @@
 use Rattle.std.proofs.Common.{◌∙◌, ap, sym, true, false, arith}
-use Rattle.std.proofs.lemmas.Grind.{common_steps}
-use Rattle.std.proofs.lemmas.Result.{IfOk-weaker}
+use Rattle.lemmas.proofs.{common_steps, IfOk-weaker}
 use Rattle.script_read.specs.{ALine, form_of, token_of}
 use Rattle.script_read.proofs.Walked.{stuck_token, no_word}
 use Rattle.script_read.proofs.Joined.{line_wanted, took_line, took_asking}

@@ -1,6 +1,5 @@
 use Rattle.std.proofs.Common.{◌∙◌, arith}
-use Rattle.std.proofs.lemmas.Grind.{common_steps}
-use Rattle.std.proofs.lemmas.Result.{IfOk-weaker}
+use Rattle.lemmas.proofs.{common_steps, IfOk-weaker}
 use Rattle.script_read.specs.{method_of}
 use Rattle.script_read.proofs.Joined.{method_wanted, took_method}
 use Rattle.script_read.proofs.walk.Walk.method.Goals as goal

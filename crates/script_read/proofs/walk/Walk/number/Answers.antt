@@ -1,6 +1,5 @@
 use Rattle.std.proofs.Common.{◌≡◌, ◌∙◌, sym, w64, SFits, to_z, of_z, ap, refl, arith, rules}
-use Rattle.std.proofs.lemmas.Grind.{common_steps}
-use Rattle.std.proofs.lemmas.Int.{to_z-of_z}
+use Rattle.lemmas.proofs.{common_steps, to_z-of_z}
 use Rattle.rdf_values.specs.scripts.LineTokens.{Number}
 use Rattle.script_read.specs.{ANumber, token_of}
 use Rattle.script_read.proofs.Walked.{took_seen, no_number, stuck_token}

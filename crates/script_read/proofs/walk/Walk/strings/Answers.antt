@@ -1,6 +1,5 @@
 use Rattle.std.proofs.Common.{◌∷◌, ◌∙◌, [], ap, arith, map}
-use Rattle.std.proofs.lemmas.Grind.{common_steps}
-use Rattle.std.proofs.lemmas.List.{map-append}
+use Rattle.lemmas.proofs.{common_steps, map-append}
 use Rattle.script_read.specs.{quoted_of}
 use Rattle.script_read.proofs.Parts.{items_more, items_done, items_go, items_close}
 use Rattle.script_read.proofs.walk.Walk.strings.Goals as goal

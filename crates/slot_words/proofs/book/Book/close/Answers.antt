@@ -1,10 +1,8 @@
 use Rattle.std.proofs.Common.{ℕ, List, ◌≡◌, [], ◌∷◌, ◌++◌, map, length, sym, ap, ◌∙◌, subst, arith, reverse, append-nil}
-use Rattle.std.proofs.lemmas.List.{length-map, nil_from_length, reverse-append}
-use Rattle.std.proofs.lemmas.List.Elements.{All-weaker}
+use Rattle.lemmas.proofs.{All-weaker, length-map, map-map, nil_from_length, reverse-append}
 use Rattle.rdf_values.specs.{DrawnBy}
 use Rattle.slot_words.specs.{AreNotings, many_in, ShareSeen}
 use Rattle.slot_words.specs.Shares.{IsOf, hand_seen}
-use Rattle.std.proofs.lemmas.Simd.{map-map}
 use Rattle.slot_words.proofs.Notes.{again, closed, noted_by}
 use Rattle.slot_words.proofs.Hands.{taken_next}
 use Rattle.slot_words.proofs.Tokens.{IsGathering, all_gathered, enters, gathers, next_gathered, next_of, none_gathered}

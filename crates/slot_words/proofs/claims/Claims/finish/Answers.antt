@@ -1,10 +1,7 @@
 use Rattle.std.proofs.Common.{◌≡◌, [], ◌∷◌, ◌+◌, map, length, min, subst₂, Some, sym, ap, ◌∙◌, subst, arith}
-use Rattle.std.specs.List.{Contains}
-use Rattle.std.proofs.lemmas.List.{length-map}
-use Rattle.std.proofs.lemmas.List.Elements.{All-weaker}
+use Rattle.lemmas.proofs.{All-weaker, Contains, length-map, map-map}
 use Rattle.rdf_values.specs.{DrawnBy}
 use Rattle.rdf_values.proofs.DrawCounts.{sum_by-map}
-use Rattle.std.proofs.lemmas.Simd.{map-map}
 use Rattle.slot_words.specs.declared.hand.ClaimHand.{ClaimHand}
 use Rattle.slot_words.specs.{AreClaimed, IsBarred, IsClaimed, IsHand, IsOver, kept_count, SeatSeen}
 use Rattle.slot_words.specs.Seats.{IsOf, hand_seen}
