@@ -63,7 +63,7 @@ def lost_from_root(top, crate):
         root = os.path.join(top, "crates", crate, part, "Lib.antt")
         for module, names in PASSED_ON.findall(text_of(root)) if os.path.isfile(root) else []:
             home = os.path.join(top, "crates", crate, part, *module.split(".")) + ".antt"
-            if module.startswith("declared"):
+            if module.startswith(("declared", "Rattle.std.")):
                 continue
             for name in split(names):
                 if not os.path.isfile(home) or name not in defined_in(home) and not begins_a_line(home, name):
