@@ -1,12 +1,6 @@
 pub mod Batching
-pub mod Faults
+pub mod Points
 pub mod Folds
 pub mod Merges
-pub mod Merging
-pub mod Operations
-pub mod Order
-pub mod Points
 pub mod Reductions
 pub mod States
-pub mod Sums
-pub mod Unordered

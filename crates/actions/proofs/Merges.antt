@@ -9,10 +9,8 @@ use Rattle.histograms.specs.TwoAxes as two
 use Rattle.actions.specs.declared.taken.TakenValue.{TakenValue}
 use Rattle.actions.specs.declared.state.State.{State}
 use Rattle.actions.specs.{better_of, better_of_two, by_cluster, Fed, fed_value, Holds, in_file_order}
-use Rattle.actions.proofs.Folds.{extreme_fold}
-use Rattle.actions.proofs.Operations.{extreme_from, max_comm, max_swap, min_comm, min_swap, option_swap}
-use Rattle.actions.proofs.Reductions.{reduce_both}
-use Rattle.actions.proofs.Unordered.{both_same, flat_joined, items_of, length-in_file_order, square_joined, sum_both}
+use Rattle.actions.proofs.Folds.{extreme_fold, both_same, flat_joined, items_of, length-in_file_order, square_joined, sum_both}
+use Rattle.actions.proofs.Reductions.{extreme_from, max_comm, max_swap, min_comm, min_swap, option_swap, reduce_both}
 
 plain_values : (vs : List TakenValue) → map (λ (v : TakenValue). v.value) vs ≡ flat_map scalar_of (items_of (map fed_value vs))
 plain_values [] = refl

@@ -1,9 +1,24 @@
--- The points of an entry, one more at a time.
-use Rattle.std.proofs.Common.{ℕ, zero, map, suc, ◌≡◌, ◌+◌, ◌<◌, length, get_or, take, List, [], ◌∷◌, ◌++◌, ℤ, pos, arith, refl, ap, sym, ◌∙◌, add-one, append_assoc, append-nil, subst, replicate}
+-- Sums in 128 bits.
+use Rattle.std.proofs.Common.{ℕ, ◌+◌, ◌*◌, ◌^◌, ◌<◌, ◌≤◌, ℤ, ◌+ℤ◌, arith, w64, FitsSigned, nat_abs, zero, map, suc, ◌≡◌, length, get_or, take, List, [], ◌∷◌, ◌++◌, pos, refl, ap, sym, ◌∙◌, add-one, append_assoc, append-nil, subst, replicate, Bool, true, false, if◌then◌else◌, Option, Some, ◌&&◌}
+use Rattle.lemmas.proofs.{abs_add, fits_signed_from_abs, w128}
+use Rattle.histograms.proofs.Filling.{abs_of_fit}
 use Rattle.std.proofs.lemmas.List.{map-append, take_more}
-use Rattle.rdf_values.specs.{Item, points, points2}
+use Rattle.rdf_values.specs.{Item, points, points2, ActionKind, as_long_as, EntryFault, feed_fault, is_weight, weight_fault}
 use Rattle.rdf_values.specs.declared.results.item.Item.TheVariants.{Point, Point2}
 use Rattle.histograms.specs.{Flat, HasFilled}
+use Rattle.rdf_values.specs.declared.results.fault.EntryFault.TheVariants.{Lengths}
+use Rattle.actions.specs.declared.items.Part.{Part}
+use Rattle.actions.specs.declared.items.Items.TheVariants.{Pair, Weighted}
+use Rattle.actions.specs.{part_value, Suits}
+
+pub fits_sum : (z : ℤ) → nat_abs z < 2 ^ 127 → FitsSigned w128 z
+fits_sum z h = fits_signed_from_abs w128 z h
+
+-- one more number of 64 bits adds at most 2^63
+pub sum_bound : (sum z : ℤ) (a i : ℕ) → FitsSigned w64 z → nat_abs sum ≤ a + i * 2 ^ 63 → nat_abs (sum +ℤ z) ≤ a + (i + 1) * 2 ^ 63
+sum_bound sum z a i fits h = let more = abs_add sum z in let small = abs_of_fit z fits in omega arith
+
+-- ---- The points of an entry, one more at a time.
 
 points_next : (xs ws : List ℤ) (i : ℕ) → i < length xs → length ws ≡ length xs → points (take (suc i) xs) ws ≡ points (take i xs) ws ++ Point (get_or xs i (pos 0)) (get_or ws i (pos 0)) ∷ []
 points_next [] ws i l e = absurd (omega arith)
@@ -53,3 +68,17 @@ none_filled g = (refl, omega arith, λ before h. subst (HasFilled g) (sym (appen
 pub points_of_ones : (xs : List ℤ) → points xs (replicate (length xs) (pos 1)) ≡ map (λ z. Point z (pos 1)) xs
 points_of_ones [] = refl
 points_of_ones (x ∷ xs) = ap (λ ps. Point x (pos 1) ∷ ps) (points_of_ones xs)
+
+-- ---- The fault of what an entry feeds.
+
+-- by whether the vectors have one length, and whether the weight is in range
+abbrev pub fault_by : Bool → Bool → Option EntryFault
+fault_by b w = if b then weight_fault w else Some Lengths
+
+pub fault_weighted : (k : ActionKind) (x w : Part) (b : Bool) → Suits k (Weighted x w) → b ≡ as_long_as (part_value x) (part_value w) → fault_by b (is_weight (part_value w)) ≡ feed_fault k (part_value x ∷ part_value w ∷ [])
+fault_weighted (ActionKind.Histo1D edges c o) x w b s e = rw e (elim (as_long_as (part_value x) (part_value w)) as (λ l. fault_by l (is_weight (part_value w)) ≡ fault_by (l && true) (is_weight (part_value w) && true)) [ true ↦ (elim (is_weight (part_value w)) as (λ m. fault_by true m ≡ fault_by true (m && true)) [ true ↦ refl | false ↦ refl ]) | false ↦ refl ])
+fault_weighted k x w b s e = absurd s
+
+pub fault_pair : (k : ActionKind) (x y : Part) (b : Bool) → Suits k (Pair x y) → b ≡ as_long_as (part_value x) (part_value y) → fault_by b true ≡ feed_fault k (part_value x ∷ part_value y ∷ [])
+fault_pair (ActionKind.Histo2D xs ys c d o) x y b s e = rw e (elim (as_long_as (part_value x) (part_value y)) as (λ l. fault_by l true ≡ fault_by (l && true) true) [ true ↦ refl | false ↦ refl ])
+fault_pair k x y b s e = absurd s

@@ -13,8 +13,7 @@ use Rattle.actions.specs.declared.items.Part.{Part}
 use Rattle.actions.specs.declared.items.Items.{Items}
 use Rattle.actions.specs.declared.items.Items.TheVariants.{One, Weighted, Pair, WeightedPair}
 use Rattle.actions.specs.{better_of, by_cluster, Fed, fed_value, first_numbers, first_scalar, from_cluster, Holds, in_file_order, part_values, second_part, Suits, values_from, values_of, weight_part}
-use Rattle.actions.proofs.Folds.{extreme_numbers, fold_numbers, taken_singles}
-use Rattle.actions.proofs.Order.{by_cluster-feed, in_file_order-feed}
+use Rattle.actions.proofs.Folds.{extreme_numbers, fold_numbers, taken_singles, by_cluster-feed, in_file_order-feed}
 
 -- the items of one column
 pub spread_sum : (c : List ℕ) (vs : List Value) → spread (ActionKind.Sum c) vs ≡ map Number (first_numbers vs)

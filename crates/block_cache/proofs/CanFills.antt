@@ -3,7 +3,7 @@ use Rattle.std.proofs.Common.{◌≡◌, ◌<◌, ◌≤◌, ◌+◌, ℕ, ℤ, 
 use Rattle.std.proofs.lemmas.Bool.Decides.{Decides-eqb}
 use Rattle.rdf_values.specs.{ColType, EachColumn, history, Value}
 use Rattle.rdf_model.specs.{call_outcome, is_need, Needs, Outcome, with_needs, without}
-use Rattle.rdf_model.proofs.Close as close
+use Rattle.rdf_model.proofs.Evaluations as close
 use Rattle.rdf_model.proofs.KnownColumns.{each_weaker}
 use Rattle.graph_numbers.proofs.Equations.{columns_below}
 use Rattle.graph_numbers.specs.{graph_sites, graph_under, IsBelow, SiteAt, Source, version_count}

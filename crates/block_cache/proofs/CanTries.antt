@@ -5,7 +5,7 @@ use Rattle.rdf_values.specs.{ColType, columns_in, history, NumTree}
 use Rattle.expr_check.specs.{CheckedExpr, distinct}
 use Rattle.graph_numbers.specs.{graph_sites, graph_under, GraphView, IsBelow, IsSiteExpr, SiteAt, Source, version_count}
 use Rattle.graph_numbers.proofs.Equations.{columns_below}
-use Rattle.graph_numbers.proofs.Listed.{by_test}
+use Rattle.graph_numbers.proofs.Walks.{by_test}
 use Rattle.graph_numbers.proofs.Meeting.{In, here, there as further, each_at, in_joined, in_left}
 use Rattle.block_cache.specs.{AreReadyOver, block_job, CanFillFor, HasLane, HasSource, IsLoaded, IsTriable, kinds_of, LaneView}
 use Rattle.loop_keys.specs.{job_graph, key, source_at}

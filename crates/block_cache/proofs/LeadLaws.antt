@@ -7,7 +7,7 @@ use Rattle.rdf_model.specs.{◌>>=◌, call_outcome, evaluate, evaluate_all, fau
 use Rattle.expr_check.specs.{CheckedExpr}
 use Rattle.expr_lanes.specs.{AreRising, EachPlace, is_in, IsSelected}
 use Rattle.graph_numbers.proofs.Equations.{columns_below}
-use Rattle.graph_numbers.proofs.Extending.{versions_count}
+use Rattle.graph_numbers.proofs.Placing.{versions_count}
 use Rattle.graph_numbers.specs.{graph_sites, graph_under, graph_versions, IsBelow, IsSiteExpr, SiteAt, Source, version_count}
 use Rattle.block_cache.specs.{AreReadyOver, below_fault, block_graph, block_job, CanFill, CanFillFor, first_read, first_read_in, found_or, holds_at, is_below, IsFaultOf, IsFilledFor, IsFilledTo, IsGrownOver, IsLeadFor, IsOnlyCalled, IsRankedBelow, IsSpentFor, IsSpentOver, key_over, LaneView, own_key, PlaceFault, site_fault}
 use Rattle.loop_keys.specs.{ArePlain, IsSiteOf, job_graph, JobView, key_count, MeetsAt, Place, place_of, site_in, source_at, version_in}

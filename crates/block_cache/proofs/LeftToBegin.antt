@@ -2,7 +2,7 @@
 use Rattle.std.proofs.Common.{◌≡◌, ◌<◌, ◌≤◌, ◌||◌, not, ℕ, zero, suc, Bool, true, false, List, [], ◌∷◌, length, refl, sym, ◌∙◌, ap, arith, cond, nat_eq}
 use Rattle.lemmas.proofs.{Decides-eqb, range_with_len, sum_by, sum_by-cons}
 use Rattle.expr_lanes.specs.{is_in}
-use Rattle.expr_lanes.proofs.Dense.{first_in_range}
+use Rattle.expr_lanes.proofs.Selected.{first_in_range}
 use Rattle.block_cache.specs.{begun_at, is_tried, lane_left, LaneView, left_to_begin}
 
 -- ---- of one lane

@@ -1,4 +1,4 @@
-pub mod Answering
+pub mod StopLists
 pub mod Attempts
 pub mod BegunLanes
 pub mod BlockLaws
@@ -10,17 +10,13 @@ pub mod Knowns
 pub mod LaneLists
 pub mod LaneSteps
 pub mod LeadLaws
-pub mod LeastFaults
 pub mod LeftToBegin
 pub mod Marking
 pub mod Members
 pub mod MetFaults
-pub mod NotedNeeds
 pub mod OverLaws
 pub mod PassedLaws
-pub mod StopLists
 pub mod TableVectors
 pub mod UnderwayLaws
 pub mod VectorLists
 pub mod Wants
-pub mod WholeMarks

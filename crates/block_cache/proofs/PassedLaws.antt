@@ -5,7 +5,7 @@ use Rattle.rdf_values.specs.{ColType}
 use Rattle.rdf_model.specs.{◌>>=◌, Gives, is_set, is_true, truth_of}
 use Rattle.expr_check.specs.{is_vector}
 use Rattle.expr_lanes.specs.{at_place, IsSelected}
-use Rattle.expr_lanes.proofs.PartSteps.{filter_alike}
+use Rattle.expr_lanes.proofs.SiftSteps.{filter_alike}
 use Rattle.block_cache.specs.{cells_at, holds_at, is_held, IsFilledFor, IsPassedFor, IsSettled, kinds_of, lane_holds, LaneView, own_key, PlaceFault, value_for, value_of}
 use Rattle.loop_keys.specs.{Held, held_in, IsRight, job_graph, key_count, site_in, truth_in}
 use Rattle.block_cache.specs.declared.wanted.Wanted.{Wanted}

@@ -2,8 +2,3 @@ pub mod Batches
 pub mod BlockCuts
 pub mod BlockFaults
 pub mod Costs
-pub mod Demands
-pub mod Lanes
-pub mod Members
-pub mod PartFaults
-pub mod Searches

@@ -22,8 +22,8 @@ use Rattle.loop_keys.proofs.ActionLaws.{can_act}
 use Rattle.block_cache.proofs.Marking.{count_none}
 use Rattle.expr_lanes.specs.{is_marked}
 use Rattle.block_laws.specs.{marked_at, marked_in, row_demands}
-use Rattle.block_laws.proofs.Lanes.{marked_within}
-use Rattle.loop_keys.proofs.DemandCounts.{few_keys, has_all, keys_of_all}
+use Rattle.block_laws.proofs.Batches.{marked_within}
+use Rattle.loop_keys.proofs.DemandSets.{few_keys, has_all, keys_of_all}
 use Rattle.block_passes.proofs.Searching.{row_in_block}
 
 have_room : (n : ℕ) (before after : List LaneView) → rooms_of after ≡ rooms_of before → HaveRoom n before → HaveRoom n after

@@ -14,9 +14,9 @@ use Rattle.block_passes.specs.declared.found.Found.{Found}
 use Rattle.block_passes.specs.declared.kept.Kept.{Kept}
 use Rattle.block_passes.specs.declared.stop.BlockStop.{BlockStop}
 use Rattle.block_passes.proofs.Feeding.{filters_many}
-use Rattle.rdf_values.proofs.Leading.{cuts_lead}
+use Rattle.rdf_values.proofs.Evenly.{cuts_lead}
 use Rattle.rdf_values.specs.{Fault, Span, Value}
-use Rattle.columns.proofs.Joining.{span_within}
+use Rattle.columns.proofs.BlockSteps.{span_within}
 use Rattle.loop_pieces.specs.{begin_of, cluster_fault}
 use Rattle.block_laws.specs.{cluster_demands, first_length, IsFirst, row_elements}
 use Rattle.block_laws.proofs.BlockCuts.{first_is}

@@ -3,8 +3,8 @@ use Rattle.std.proofs.Common.{◌≡◌, inl, inr, ℕ, ◌<◌, true, List, [],
 use Rattle.lemmas.proofs.{AllByRecursion, recursion_from_All}
 use Rattle.rdf_values.specs.{ActionAt, ActionKind, Booking, fn_names, history, Value}
 use Rattle.graph_numbers.specs.{FilterAt, graph_filters, graph_sites, graph_under, HasFilters, IfPassed, Pass as NumberedPass, ResultAt, through_sites}
-use Rattle.graph_numbers.proofs.Extending.{itself}
-use Rattle.graph_numbers.proofs.Ranges.{filters_below}
+use Rattle.graph_numbers.proofs.Placing.{itself}
+use Rattle.graph_numbers.proofs.Walks.{filters_below}
 use Rattle.loop_keys.specs.{demand_key, HasAllDemands, HasPassed, HasTried, IsActionAt, IsCovered, IsJob, IsPlainLoop, job_graph, JobView, row_of, site_in}
 use Rattle.loop_keys.proofs.ActionLaws.{IsSoundBooking, result_sound}
 use Rattle.loop_keys.proofs.EvaluateLaws.{accepted_of}

@@ -17,9 +17,8 @@ use Rattle.cluster_tally.specs.{block_items, BlockStage, CanFeedBatch, HoldsIn, 
 use Rattle.block_cache.proofs.Members.{filter_short}
 use Rattle.block_passes.specs.Fed.{IsAmid}
 use Rattle.block_passes.proofs.Feeding.{block_within, its_places, block_kind, feeds}
-use Rattle.loop_keys.proofs.PassNumbers.{pass_of, some_same}
+use Rattle.loop_keys.proofs.PassNumbers.{pass_of, some_same, at_place}
 use Rattle.loop_keys.proofs.EntryLaws.{all_actions}
-use Rattle.loop_keys.proofs.Taken.{at_place}
 use Rattle.block_passes.proofs.Trying.{read_inside, placed, unfed_none}
 
 -- ---- places

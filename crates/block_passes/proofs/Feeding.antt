@@ -7,15 +7,13 @@ use Rattle.rdf_model.specs.declared.loop_facts.Reach.TheVariants.{Failed, Passed
 use Rattle.graph_numbers.specs.{action_numbers, booking_numbers, FilterAt, graph_filters, graph_under, Pass as NumberedPass, ResultAt, through_sites}
 use Rattle.cluster_tally.specs.{block_items, block_reaches, BlockStage, CanNoteCounts, counted, HoldsIn, IsWithin, TallyView}
 use Rattle.loop_keys.specs.{actions_before, covered_in, facts_in, IsJob, job_graph, job_spans, JobView, pass_outcome, passes_in, row_of, site_in, version_in}
-use Rattle.loop_keys.proofs.NamedLaws.{stopped_answer, tried_answer}
+use Rattle.loop_keys.proofs.ReportTies.{stopped_answer, tried_answer, cover_at, covered_count}
 use Rattle.loop_keys.proofs.TableLaws.{row_there}
-use Rattle.loop_keys.proofs.Covered.{cover_at, covered_count}
-use Rattle.loop_keys.proofs.Taken.{at_place, covered_reach, uncovered_reach}
+use Rattle.loop_keys.proofs.PassNumbers.{at_place, covered_reach, uncovered_reach, pass_answer, pass_of, some_same}
 use Rattle.block_passes.specs.Laws as law
 use Rattle.block_passes.specs.{AreCountable, AreKept, at_filter, Chain, IsActionOf, IsLast, IsMade, IsNamed, IsPlan, PlanView, through_chain}
 use Rattle.block_passes.proofs.Searching.{get_dropped, row_in_block, through_more, last_through}
 use Rattle.block_passes.proofs.Places.{filter_alike, flat_filtered_range, flat_first}
-use Rattle.loop_keys.proofs.PassNumbers.{pass_answer, pass_of, some_same}
 use Rattle.loop_pieces.specs.{Counts}
 use Rattle.block_passes.specs.Fed.{IsAmid}
 use Rattle.block_passes.specs.declared.kept.Kept.{Kept}

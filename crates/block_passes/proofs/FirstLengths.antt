@@ -5,7 +5,7 @@ use Rattle.rdf_values.specs.{cell, ColType, Column, FitRows, FitsColumn, FitsKin
 use Rattle.block_laws.specs.{elements_in, first_length, more_fit, one_more_fits, row_elements}
 use Rattle.block_laws.proofs.BlockCuts.{plain_first}
 use Rattle.std.proofs.lemmas.List.{take_all}
-use Rattle.rdf_values.proofs.Rows.{fits_length}
+use Rattle.rdf_values.proofs.KeptLemmas.{fits_length}
 use Rattle.loop_keys.proofs.PassNumbers.{some_same}
 use Rattle.loop_keys.proofs.ColumnLaws.{fits_at as fits_rows}
 

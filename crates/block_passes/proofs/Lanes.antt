@@ -9,7 +9,7 @@ use Rattle.loop_keys.specs.{job_graph, JobView, key, key_under, Place, place_of,
 use Rattle.actions.specs.{Lane, lane_value, SuitsAt, truth_of}
 use Rattle.actions.specs.declared.batch.Sources.TheVariants.{One, Weighted, Pair, WeightedPair}
 use Rattle.block_passes.specs.{AreLanesOf, HasHeld, IsAtHand, IsLaneOf, IsServable, IsWhole, source_fault}
-use Rattle.loop_keys.proofs.SuitsLaws.{integer_fits, numeric_fits, pair_fits, single_fits, triple_fits, weighted_fits}
+use Rattle.loop_keys.proofs.ActionLaws.{integer_fits, numeric_fits, pair_fits, single_fits, triple_fits, weighted_fits}
 use Rattle.block_cache.specs.{AreReady, holds_at, kinds_of, LaneView, value_of}
 use Rattle.expr_lanes.specs.{at_place, EachPlace}
 use Rattle.loop_keys.proofs.KeyLaws.{key_small}

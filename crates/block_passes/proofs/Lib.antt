@@ -6,12 +6,11 @@ pub mod Feeding
 pub mod FirstLengths
 pub mod Lanes
 pub mod Places
-pub mod PlainReads
+pub mod Serving
 pub mod PlanSteps
 pub mod SearchedPasses
 pub mod Searching
 pub mod Selecting
-pub mod Serving
 pub mod SiteKinds
 pub mod Spending
 pub mod Trying

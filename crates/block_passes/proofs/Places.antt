@@ -1,10 +1,10 @@
 -- Places of a block in their order, and those among them that pass a test.
 use Rattle.std.proofs.Common.{◌≡◌, ℕ, zero, suc, ◌+◌, ◌^◌, ◌<◌, ◌≤◌, Bool, true, false, ◌&&◌, cond, List, [], ◌∷◌, ◌++◌, length, take, refl, ◌∙◌, ap, ap₂, arith, nat_lt, ◌⊎◌, inl, inr, Option, None, Some, sym, subst, nat_eq, ℤ, length-set, set, get_or, get_or-set_same, get_or-set_other, pos, flat_map, slice_get, filter}
 use Rattle.lemmas.proofs.{and_false, and_left, and_true, cases_eq, cond_both, Decides-ltb, eq_says, lt_false, lt_or_last, lt_true, or_cases, range_with_len}
-use Rattle.graph_numbers.proofs.Listed.{by_test}
+use Rattle.graph_numbers.proofs.Walks.{by_test}
 use Rattle.rdf_values.specs.{EntryFault, Span, Value}
 use Rattle.expr_lanes.specs.{AreRising, at_place, EachPlace, is_in}
-use Rattle.expr_lanes.proofs.Dense.{below_range, first_in_range}
+use Rattle.expr_lanes.proofs.Selected.{below_range, first_in_range}
 use Rattle.block_cache.specs.{below_fault, fault_at, fault_before, fault_over, PlaceFault}
 use Rattle.block_passes.specs.{GivesNumber, GivesVector, HasVector, Lowers, noted, where_in}
 use Rattle.block_passes.specs.declared.found.Found.{Found}
@@ -12,7 +12,7 @@ use Rattle.block_passes.proofs.Searching.{fault_lowers, none_lowers}
 use Rattle.block_cache.proofs.LaneSteps.{filter_all}
 use Rattle.expr_lanes.proofs.Sequence.{first_in, rest_in}
 use Rattle.rdf_model.specs.{Gives, Outcome}
-use Rattle.expr_lanes.proofs.Choices.{in_filter}
+use Rattle.expr_lanes.proofs.Composed.{in_filter}
 
 -- ---- filters
 

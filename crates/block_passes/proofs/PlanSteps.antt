@@ -7,9 +7,9 @@ use Rattle.loop_keys.proofs.PassNumbers.{some_same, result_inside, result_there}
 use Rattle.rdf_values.specs.{ActionAt, ActionKind, Booking, ReportOn}
 use Rattle.graph_numbers.specs.{FilterAt, graph_filters, graph_results, GraphView, kind_of_booking, Pass as NumberedPass, ResultAt, ResultKind}
 use Rattle.loop_keys.specs.{covered_in, is_covering, IsJob, job_graph, JobView, numbered_in, numbered_passes, passes_in}
-use Rattle.loop_keys.proofs.Covered.{cover_at, cover_is, plan_covered}
+use Rattle.loop_keys.proofs.ReportTies.{cover_at, cover_is, plan_covered}
 use Rattle.loop_keys.proofs.Elements.{of_option}
-use Rattle.graph_numbers.proofs.Listed.{joined, only_at}
+use Rattle.graph_numbers.proofs.Walks.{joined, only_at}
 use Rattle.block_passes.specs.declared.plan.NamedSteps.{NamedSteps}
 
 -- ---- steps

@@ -13,8 +13,7 @@ use Rattle.block_passes.specs.declared.turn.Work.{Work}
 use Rattle.block_passes.proofs.Selecting.{chain_at, kept_inside, narrowed_made, set_behind, set_other, set_same, was_made, was_not, whole_selected, written_selected}
 use Rattle.loop_keys.proofs.PassNumbers.{passes_count, some_same}
 use Rattle.graph_numbers.specs.{FilterAt, graph_filters, graph_results}
-use Rattle.loop_keys.proofs.Covered.{covered_there}
-use Rattle.loop_keys.proofs.ReportTies.{contained_at, of_report}
+use Rattle.loop_keys.proofs.ReportTies.{covered_there, contained_at, of_report}
 use Rattle.block_passes.proofs.PlanSteps.{covered_is}
 use Rattle.rdf_values.specs.{EntryFault, Pass, Value}
 use Rattle.rdf_model.specs.{fault_in, first_fault_from}

@@ -6,15 +6,13 @@ use Rattle.rdf_values.specs.declared.scripts.statement.Statement.TheVariants.{Ac
 use Rattle.rdf_model.specs.{own_place, Site, site_at}
 use Rattle.rdf_model.proofs.Accepted.{both_none, kind_expected, checked_of}
 use Rattle.expr_check.specs.{callee_shape, CheckedExpr, distinct, IsWellTyped, num_kind, number_kind}
-use Rattle.expr_check.proofs.Callees.{callee_shape-callee}
+use Rattle.expr_check.proofs.Calls.{callee_shape-callee}
 use Rattle.expr_check.proofs.Distinct.{each_from_distinct}
 use Rattle.expr_check.proofs.Typed.{columns_known, kind_by-renamed, kind_by-same}
 use Rattle.graph_numbers.specs.{cell_sources, depends_on, filter_sites, FilterAt, filters, graph_kinds, graph_sites, graph_variations, GraphView, holds_at, IsSiteExpr, named_version, own_filter_site, own_sites, own_source, own_sources, ResultAt, results, site_count, site_depends_at, site_in, SiteAt, sites, Source, source_in, sources, varied_sources, version_at, version_kinds}
-use Rattle.graph_numbers.proofs.Extending.{further, itself}
-use Rattle.graph_numbers.proofs.Listed.{by_test, next_at, of_joined}
-use Rattle.graph_numbers.proofs.Placing.{IsPlaced}
-use Rattle.graph_numbers.proofs.VersionKinds.{kind_later, visible_kind}
-use Rattle.graph_numbers.proofs.Walks.{each_filter, each_result}
+use Rattle.graph_numbers.proofs.Placing.{further, itself, IsPlaced}
+use Rattle.graph_numbers.proofs.Walks.{by_test, next_at, of_joined, each_filter, each_result}
+use Rattle.graph_numbers.proofs.Meeting.{kind_later, visible_kind}
 use Rattle.loop_keys.specs.{IsJob, job_graph, JobView, key, keys_before, own_keys, slot, slot_at, source_at}
 use Rattle.loop_keys.proofs.EvaluateLaws.{accepted_of}
 use Rattle.block_passes.specs.{Chain, HaveKinds, IsTried}
@@ -22,8 +20,7 @@ use Rattle.block_passes.proofs.Demanding.{in_list, not_empty}
 use Rattle.loop_keys.proofs.PassNumbers.{some_same}
 use Rattle.rdf_values.specs.declared.scripts.vary_values.VaryValues.TheVariants.{Lists, Vector}
 use Rattle.graph.specs.{has, members_below, VarSet}
-use Rattle.loop_keys.proofs.KeptKeys.{members_all}
-use Rattle.loop_keys.proofs.KeyLaws.{keys_next, slot_small}
+use Rattle.loop_keys.proofs.KeyLaws.{members_all, keys_next, slot_small}
 use Rattle.block_cache.specs.{AreSiteKinds}
 use Rattle.block_cache.proofs.CanTries.{site_tree}
 

@@ -2,8 +2,8 @@
 use Rattle.std.proofs.Common.{◌≡◌, ℕ, ◌+◌, ◌-◌, List, [], ◌∷◌, length, map, Option, None, Some, refl, sym, ap, ap₂, ◌∙◌, subst, arith, append-nil, option_map}
 use Rattle.std.proofs.lemmas.List.{length-map}
 use Rattle.rdf_values.specs.{below, Fault, first_in, Lead, Pass}
-use Rattle.rdf_values.proofs.Below.{length-below}
-use Rattle.rdf_values.proofs.Leading.{cuts_lead}
+use Rattle.rdf_values.proofs.UnionLemmas.{length-below}
+use Rattle.rdf_values.proofs.Evenly.{cuts_lead}
 use Rattle.rdf_model.specs.{Dataset, first_fault, over_clusters}
 use Rattle.loop_keys.specs.{facts_in, IsJob, job_spans, JobView, passes_in}
 use Rattle.loop_pieces.specs.{cluster_fault, LoopPiece, StandsFor}

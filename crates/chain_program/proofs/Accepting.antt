@@ -4,7 +4,7 @@ use Rattle.rdf_values.specs.Answered.{Refuses}
 use Rattle.rdf_values.specs.{Column, fn_names, Function, FunctionNames, graph_cause_line, GraphCause, Script, verdict}
 use Rattle.graph_numbers.specs.{booked, GraphView}
 use Rattle.graph.specs.{GraphRefusal, refused_at}
-use Rattle.graph.proofs.Verdicts.{accepted_verdict, refusal_of, refused_verdict}
+use Rattle.graph.proofs.Finished.{accepted_verdict, refusal_of, refused_verdict}
 use Rattle.chain_due.specs.{graph_over, WithAccepted}
 use Rattle.chain_due.specs.declared.status.ChainStatus.TheVariants.{ScriptRefused}
 use Rattle.chain_program.specs.Answers.{Answers}

@@ -4,7 +4,7 @@ use Rattle.std.specs.Prelude.{⊤}
 use Rattle.lemmas.proofs.{All-from_recursion, AllByRecursion, range_length, recursion_from_All}
 use Rattle.rdf_values.specs.{ColType, Pass, Script, Span, Value}
 use Rattle.rdf_model.proofs.Accepted.{itself}
-use Rattle.loop_pieces.proofs.Places.{ranges_join}
+use Rattle.loop_pieces.proofs.ByCluster.{ranges_join}
 use Rattle.shard_lines.specs.{PassShape}
 use Rattle.shard_spans.specs.{loops_of, pass_shapes}
 use Rattle.shard_runs.specs.{IsChecked, script_shapes}

@@ -3,7 +3,7 @@ use Rattle.std.proofs.Common.{◌≡◌, ℕ, ◌+◌, List, [], ◌∷◌, ◌+
 use Rattle.std.proofs.lemmas.Grind.{flat_map-append}
 use Rattle.rdf_values.specs.{ColType, Pass, Value}
 use Rattle.rdf_model.specs.{Dataset}
-use Rattle.loop_pieces.proofs.Places.{range_whole}
+use Rattle.loop_pieces.proofs.ByCluster.{range_whole}
 use Rattle.shard_lines.specs.{joined_lines, PassShape, ShardLine}
 use Rattle.shard_spans.specs.{loops_of, pass_line, pass_shapes}
 use Rattle.shard_spans.proofs.LinesOfBoth.{line_of_both}

@@ -4,7 +4,7 @@ use Rattle.lemmas.proofs.{and_right, length-map, lt_says, same_Some, slice_get-m
 use Rattle.rdf_values.specs.{Booked, ColType, history, Pass}
 use Rattle.rdf_model.specs.{loop_passes, loop_results}
 use Rattle.graph_numbers.specs.{graph_loops, GraphView, pass_at}
-use Rattle.graph_numbers.proofs.Extending.{itself}
+use Rattle.graph_numbers.proofs.Placing.{itself}
 use Rattle.graph_numbers.proofs.Looping.{loops_are}
 use Rattle.result_text.specs.{passes_at}
 use Rattle.shard_lines.specs.{booking_shape, have_shapes, PassShape}

@@ -4,7 +4,7 @@ use Rattle.lemmas.proofs.{none_left, same_Some}
 use Rattle.rdf_model.specs.{Access, accesses, in_front_of, loop_of, Printed}
 use Rattle.graph_numbers.specs.{booked_statements, GraphView}
 use Rattle.result_text.specs.{passes_at}
-use Rattle.result_text.proofs.Lists.{one_left}
+use Rattle.result_text.proofs.CellNames.{one_left}
 use Rattle.shard_lines.specs.{ShardLine}
 use Rattle.merged_text.specs.{lines_of_result}
 use Rattle.chain_files.specs.{ChainFault, PartLoop}

@@ -2,7 +2,7 @@
 use Rattle.std.proofs.Common.{◌≡◌, ◌⊎◌, inl, inr, ℕ, List, [], ◌∷◌, ◌++◌, length, map, Option, None, Some, refl, sym, ap, ap₂, ◌∙◌, subst, append_assoc, append-nil, option_map, slice_get}
 use Rattle.std.proofs.lemmas.Option.{slice_get-map}
 use Rattle.rdf_values.specs.{cut, Lead, Pass, Span}
-use Rattle.rdf_values.proofs.Leading.{cuts_lead}
+use Rattle.rdf_values.proofs.Evenly.{cuts_lead}
 use Rattle.rdf_model.specs.{Access, accesses, Dataset, fault_line, first_fault, in_front_of, loop_of, Printed, transcript}
 use Rattle.graph_numbers.specs.{booked_statements, graph_of, GraphView}
 use Rattle.result_text.specs.{passes_at}

@@ -1,7 +1,7 @@
 -- A tally after a block's counts were noted of a filter.
 use Rattle.std.proofs.Common.{◌≡◌, ℕ, ◌+◌, ◌<◌, ◌≤◌, ◌^◌, List, [], ◌∷◌, length, map, set, get_or, sym, ap, ◌∙◌, subst, ⊎_elim, arith, get_or-set_same, get_or-set_other, count_by}
 use Rattle.lemmas.proofs.{cases_eq, common_steps, get_or-map, get_or_from_slice_get, length-map, length-set, same_lists}
-use Rattle.rdf_values.proofs.Below.{length-below, slice_get-below}
+use Rattle.rdf_values.proofs.UnionLemmas.{length-below, slice_get-below}
 use Rattle.rdf_values.specs.{below}
 use Rattle.rdf_model.specs.{is_passed, is_reached, Reach}
 use Rattle.rdf_model.specs.declared.loop_facts.LoopFacts.{LoopFacts}

@@ -2,18 +2,16 @@
 use Rattle.std.proofs.Common.{◌≡◌, ℕ, zero, suc, ◌+◌, ◌<◌, List, [], ◌∷◌, ◌++◌, length, map, take, drop, set, get_or, Option, None, Some, refl, sym, ap, ap₂, ◌∙◌, subst, arith, append_assoc, append-nil, All, Err, Ok, OnOk, Result, flat_map, slice_get}
 use Rattle.lemmas.proofs.{All-push, All-weaker, flat_map-append, IsStrictlyIncreasing, same_Some, slice_get-get_or}
 use Rattle.std.proofs.lemmas.List.{drop-drop, drop-set-lt, drop_more, length-map, length-set, map-append, map_more, take_all, take_more_set}
-use Rattle.rdf_values.proofs.Below.{map-below}
-use Rattle.rdf_values.proofs.DrawCounts.{rises_push}
+use Rattle.rdf_values.proofs.UnionLemmas.{map-below, rises_push}
 use Rattle.rdf_values.specs.{ActionKind, fold_items, Item, Span}
 use Rattle.rdf_model.specs.{if_there, list_at, Reach, reaches_over, rows_in, span_rows}
 use Rattle.rdf_model.specs.declared.loop_facts.LoopFacts.{LoopFacts}
 use Rattle.actions.specs.{Accumulator, from_cluster, HasFed, in_file_order}
 use Rattle.loop_pieces.specs.{both, cluster_items, counts_at, fed_over, IsOfKind, IsTrail, watch_facts, watch_filled, WatchPiece, WatchStandsFor}
 use Rattle.merge_core.specs.{Noted}
-use Rattle.loop_pieces.proofs.FedOver.{items_in_order}
+use Rattle.loop_pieces.proofs.ByCluster.{items_in_order}
 use Rattle.cluster_tally.specs.{at_begin, CanWatch, counted, counts_by, fed_by, first_items, first_reaches, fresh_acc, Holds, IsAtEnd, IsFedAlone, note_of, noted_all, noted_at, piece_for, places_there, renewed, Stage, taken_in, TallyView, times_there}
-use Rattle.cluster_tally.proofs.ListPlaces.{of_mapped, ranges_same}
-use Rattle.cluster_tally.proofs.Stagings.{counts_at_begin, fed_at_begin, fresh_alone}
+use Rattle.cluster_tally.proofs.Pieces.{of_mapped, ranges_same, counts_at_begin, fed_at_begin, fresh_alone}
 use Rattle.cluster_tally.proofs.Steps.{counted_both, entries_with, in_from}
 
 -- ---- the loop over the watchers

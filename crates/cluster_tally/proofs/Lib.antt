@@ -1,7 +1,5 @@
 pub mod BlockFeeds
 pub mod BlockNotes
 pub mod Closing
-pub mod ListPlaces
 pub mod Pieces
-pub mod Stagings
 pub mod Steps

@@ -1,15 +1,106 @@
--- A tally's first and last moments.
-use Rattle.std.proofs.Common.{◌≡◌, ℕ, ◌+◌, List, [], ◌∷◌, ◌++◌, length, map, Bool, true, false, Option, Some, inl, inr, refl, sym, ap, ap₂, ◌∙◌, subst, arith, append-nil, slice_get}
-use Rattle.lemmas.proofs.{before_or_last, kept_at, last_at, length_push, map-append, slice_get-get_or}
-use Rattle.rdf_values.proofs.Below.{map-below}
-use Rattle.rdf_values.specs.{ActionKind}
-use Rattle.rdf_model.specs.declared.loop_facts.LoopFacts.{LoopFacts}
+-- Lists by their places.
+use Rattle.std.proofs.Common.{◌≡◌, ℕ, zero, suc, ◌+◌, List, [], ◌∷◌, ◌++◌, length, map, drop, set, Option, None, Some, ◌⊎◌, inl, inr, refl, sym, ap, ◌∙◌, arith, ◌-◌, slice_get, slice_range, ◌<◌, replicate, ap₂, subst, add-zero, append-nil, Bool, true, false}
+use Rattle.std.proofs.lemmas.List.{length-drop, length-take}
+use Rattle.rdf_values.specs.{ActionKind, Span, below}
 use Rattle.actions.specs.{Accumulator, HasFed}
-use Rattle.loop_pieces.specs.{counts_at, LoopPiece, StandsFor}
-use Rattle.cluster_tally.specs.{acc_if, at_begin, CanWatch, counts_by, fresh_acc, Holds, IsFresh, place_if, places_there, taken_in, TallyView, with_trail}
-use Rattle.cluster_tally.proofs.ListPlaces.{places_more}
-use Rattle.cluster_tally.proofs.Stagings.{counts_at_begin, fed_at_begin}
+use Rattle.cluster_tally.specs.{places_there, CanWatch, counts_by, fed_by, fresh_acc, IsFedAlone, IsFedBy, taken_in, acc_if, at_begin, Holds, IsFresh, place_if, TallyView, with_trail}
+use Rattle.lemmas.proofs.{All-nil, length-map, map-id, map-map, before_or_last, kept_at, last_at, length_push, map-append, slice_get-get_or}
+use Rattle.rdf_values.proofs.UnionLemmas.{length-below, map-below, none_rises}
+use Rattle.rdf_model.specs.declared.loop_facts.LoopFacts.{LoopFacts}
+use Rattle.loop_pieces.specs.{counts_at, fed_over, HaveTrails, IsTrail, nothing, watch_facts, WatchPiece, WatchStandsFor, LoopPiece, StandsFor}
+use Rattle.merge_core.specs.{Noted}
 use Rattle.cluster_tally.proofs.Steps.{in_from}
+use Rattle.cluster_tally.specs.Laws as law
+
+abbrev pub kind_at : Accumulator → ActionKind
+kind_at acc = acc.kind
+
+pub of_mapped : {A B : Type 0} (g : A → B) (xs : List A) (i : ℕ) (y : B) → slice_get (map g xs) i ≡ Some y → (x : A) × (slice_get xs i ≡ Some x) × (y ≡ g x)
+of_mapped g [] i y e = absurd (cc)
+of_mapped g (x ∷ xs) zero y e = let same : g x ≡ y = cc in (x, refl, sym same)
+of_mapped g (x ∷ xs) (suc i) y e = of_mapped g xs i y e
+
+-- what stands at a place after a write
+pub at_set : {A : Type 0} (xs : List A) (i : ℕ) (v : A) (j : ℕ) (x : A) → slice_get (set xs i v) j ≡ Some x → ((j ≡ i) × (x ≡ v)) ⊎ ((j ≡ i → ⊥) × (slice_get xs j ≡ Some x))
+at_set [] i v j x e = absurd (cc)
+at_set (y ∷ ys) zero v zero x e = let same : v ≡ x = cc in inl (refl, sym same)
+at_set (y ∷ ys) zero v (suc j) x e = inr ((λ k. absurd (omega arith)), e)
+at_set (y ∷ ys) (suc i) v zero x e = inr ((λ k. absurd (omega arith)), e)
+at_set (y ∷ ys) (suc i) v (suc j) x e = grind (arith, at_set ys i v j x e)
+
+pub map_set_same : {A B : Type 0} (g : A → B) (xs : List A) (i : ℕ) (v x : A) → slice_get xs i ≡ Some x → g v ≡ g x → map g (set xs i v) ≡ map g xs
+map_set_same g [] i v x at e = refl
+map_set_same g (y ∷ ys) zero v x at e = let same : y ≡ x = cc in ap (λ z. z ∷ map g ys) (e ∙ sym (ap g same))
+map_set_same g (y ∷ ys) (suc i) v x at e = ap (λ l. g y ∷ l) (map_set_same g ys i v x at e)
+
+-- the places at which something_at is one stay where one is written over another
+pub places_kept : (xs : List (Option Accumulator)) (n i : ℕ) (v x : Accumulator) → slice_get xs i ≡ Some (Some x) → places_there n (set xs i (Some v)) ≡ places_there n xs
+places_kept [] n i v x at = refl
+places_kept (None ∷ xs) n zero v x at = absurd (cc)
+places_kept (Some a ∷ xs) n zero v x at = refl
+places_kept (None ∷ xs) n (suc i) v x at = places_kept xs (n + 1) i v x at
+places_kept (Some a ∷ xs) n (suc i) v x at = ap (λ l. n ∷ l) (places_kept xs (n + 1) i v x at)
+
+-- lists of one length have as many in a range
+pub ranges_same : {A B : Type 0} (xs : List A) (ys : List B) (r : Span) → length xs ≡ length ys → length (slice_range xs r.lo r.hi) ≡ length (slice_range ys r.lo r.hi)
+ranges_same xs ys r e = omega (arith, length-take (r.hi - r.lo) (drop r.lo xs), length-take (r.hi - r.lo) (drop r.lo ys), length-drop r.lo xs, length-drop r.lo ys)
+
+pub places_more : (xs : List (Option Accumulator)) (n : ℕ) (o : Option Accumulator) → places_there n (xs ++ o ∷ []) ≡ places_there n xs ++ places_there (n + length xs) (o ∷ [])
+places_more [] n o = let e : n ≡ n + 0 = omega arith in ap (λ k. places_there k (o ∷ [])) e
+places_more (None ∷ xs) n o = places_more xs (n + 1) o ∙ (let e : n + 1 + length xs ≡ n + suc (length xs) = omega arith in ap (λ k. places_there (n + 1) xs ++ places_there k (o ∷ [])) e)
+places_more (Some a ∷ xs) n o = ap (λ l. n ∷ l) (places_more xs (n + 1) o ∙ (let e : n + 1 + length xs ≡ n + suc (length xs) = omega arith in ap (λ k. places_there (n + 1) xs ++ places_there k (o ∷ [])) e))
+
+-- ---- The beginning of clusters.
+
+-- ---- the beginning of a cluster
+
+none_taken : (i : ℕ) → taken_in 0 1 0 i ≡ 0
+none_taken i = in_from 0 1 0 i (omega arith)
+
+module _ (f : LoopFacts) (done : List ℕ) (c : ℕ) where
+  pub fed_at_begin : (i : ℕ) → fed_by f done c (taken_in 0 1 0 i) i ≡ fed_over f done i
+  fed_at_begin i = ap (λ n. fed_by f done c n i) (none_taken i) ∙ append-nil (fed_over f done i)
+
+  pub counts_at_begin : (i : ℕ) → counts_by f done c (taken_in 0 1 0 i) i ≡ counts_at f done i
+  counts_at_begin i = grind (arith, none_taken)
+
+-- ---- a fresh tally
+
+fresh_by : (f : LoopFacts) (c i : ℕ) (k : ActionKind) → IsFedBy f [] c (taken_in 0 1 0 i) i (fresh_acc k)
+fresh_by f c i k =
+    record { fed = subst (HasFed (fresh_acc k)) (sym (fed_at_begin f [] c i)) record { filled = refl; kept = refl; below = λ j x lt. absurd (omega arith) }; few = omega arith; last = omega arith }
+
+pub fresh_alone : (f : LoopFacts) (c i : ℕ) (k : ActionKind) → slice_get f.kinds i ≡ Some k → CanWatch k → IsFedAlone f c (taken_in 0 1 0 i) i (fresh_acc k)
+fresh_alone f c i k at watch = record { kind = at; watch = watch; held = fresh_by f c i k }
+
+all_nothing : (xs : List ℕ) → map (λ i. nothing) xs ≡ replicate (length xs) nothing
+all_nothing [] = refl
+all_nothing (x ∷ xs) = ap (λ l. nothing ∷ l) (all_nothing xs)
+
+no_trails : (f : LoopFacts) (watched : List ℕ) (trails : List (List (Noted WatchPiece))) → trails ≡ map (λ p. []) watched → HaveTrails f watched [] trails
+no_trails f watched trails is = grind (arith, length-map, of_mapped, All-nil)
+
+pub fresh_holds : law.FreshHolds
+fresh_holds f watched t c facts fresh flow = record {
+  facts = facts;
+  rises = none_rises;
+  above = All-nil (λ d. d < c);
+  kinds = ap (map kind_at) fresh.accs ∙ map-map kind_at fresh_acc f.kinds ∙ map-id f.kinds;
+  accs = λ i acc at. (
+      let of = of_mapped fresh_acc f.kinds i acc (ap (λ l. slice_get l i) (sym fresh.accs) ∙ at) in
+      subst (IsFedBy f [] c (taken_in 0 1 0 i) i) (sym of.2) (fresh_by f c i of.0));
+  flow =
+      flow
+      ∙ ap (λ n. replicate n nothing) (sym (length-below f.filters))
+      ∙ sym (all_nothing (below f.filters))
+      ∙ map-below f.filters (λ i. nothing) (λ i. counts_by f [] c (taken_in 0 1 0 i) i) (λ i lt. sym (counts_at_begin f [] c i));
+  many = fresh.many ∙ sym (ap length fresh.accs ∙ length-map f.kinds fresh_acc);
+  places = fresh.places;
+  alone = λ i acc at. (let of = fresh.alone i acc at in subst (IsFedAlone f c (taken_in 0 1 0 i) i) (sym of.3) (fresh_alone f c i of.0 of.1 of.2));
+  trails = no_trails f watched t.trails fresh.trails;
+}
+
+-- ---- A tally's first and last moments.
 
 -- ---- the first
 

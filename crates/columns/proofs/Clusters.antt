@@ -1,11 +1,12 @@
 -- The ranges of clusters of one size.
-use Rattle.std.proofs.Common.{◌≡◌, ◌≤◌, ◌<◌, ◌+◌, ◌*◌, ◌/◌, ℕ, List, [], length, min, Some, arith, refl, ◌∙◌, ap, slice_get}
-use Rattle.lemmas.proofs.{div_ceil, div_ceil_times, length-map, mul-le, mul_comm, slice_get-map}
+use Rattle.std.proofs.Common.{◌≡◌, ◌≤◌, ◌<◌, ◌+◌, ◌*◌, ◌/◌, ℕ, List, [], length, min, Some, arith, refl, ◌∙◌, ap, slice_get, ◌≢◌, ◌-◌, zero, suc, true, false, leb, ◌∷◌, ◌++◌, get_or, sym, ◌⊎◌, inl, inr, if◌then◌else◌, Bool, ◌||◌, subst, nat_eq, nat_lt}
+use Rattle.lemmas.proofs.{div_ceil, div_ceil_times, length-map, mul-le, mul_comm, slice_get-map, AllWithin, le_or_lt, nat_tests, IsNonDecreasingBy, lt_or_le, AllPairs-from_increasing, Decides-eqb, IsStrictlyIncreasing, list_any, or_fails, or_left, or_right, or_true}
 use native.Mathlib.Nat.{add-mul}
-use Rattle.rdf_values.proofs.Below.{length-below, slice_get-below}
-use Rattle.rdf_values.proofs.Evenly.{unmarked_cuts_are_even}
-use Rattle.rdf_values.specs.{below, cut, even_cut}
-use Rattle.columns.specs.{Holds}
+use Rattle.rdf_values.proofs.UnionLemmas.{length-below, slice_get-below}
+use Rattle.rdf_values.proofs.Evenly.{unmarked_cuts_are_even, cuts_lead}
+use Rattle.rdf_values.specs.{below, cut, even_cut, Lead, Span, begins_at, cut_from}
+use Rattle.columns.specs.{Holds, ranges_to, IsInOne, IsAhead, IsPassed}
+use Rattle.columns.proofs.BlockSteps.{span_within}
 
 pub length-even : (n size : ℕ) → length (even_cut n size) ≡ div_ceil n size
 length-even n size = length-map (below (div_ceil n size)) _ ∙ length-below (div_ceil n size)
@@ -34,3 +35,265 @@ div_low x n h = omega (arith, mul_comm (x / n) n)
 
 pub div_high : (x n : ℕ) → 1 ≤ n → x < (x / n + 1) * n
 div_high x n h = omega (arith, mul_comm (x / n) n, add-mul (x / n) 1 n)
+
+-- ---- Ranges by their ends.
+
+pub length-ranges_to : (ends : List ℕ) (lo : ℕ) → length (ranges_to lo ends) ≡ length ends
+length-ranges_to [] lo = refl
+length-ranges_to (x ∷ xs) lo = ap suc (length-ranges_to xs x)
+
+-- the range at a place, and that there is one only where there is an end
+pub ranges_at : (ends : List ℕ) (lo place : ℕ) → place < length ends → slice_get (ranges_to lo ends) place ≡ Some (record { lo = get_or (lo ∷ ends) place 0; hi = get_or ends place 0 })
+ranges_at [] lo place h = absurd (omega (arith, h))
+ranges_at (x ∷ xs) lo zero h = refl
+ranges_at (x ∷ xs) lo (suc place) h = ranges_at xs x place (omega (arith, h))
+
+pub ranges_within : (ends : List ℕ) (lo place : ℕ) (r : Span) → slice_get (ranges_to lo ends) place ≡ Some r → place < length ends
+ranges_within [] lo place r h = cc h
+ranges_within (x ∷ xs) lo zero r h = omega arith
+ranges_within (x ∷ xs) lo (suc place) r h = let more = ranges_within xs x place r h in omega (arith, more)
+
+-- one more range
+abbrev pub last_or : ℕ → List ℕ → ℕ
+last_or lo [] = lo
+last_or lo (x ∷ xs) = last_or x xs
+
+pub ranges_push : (ends : List ℕ) (lo hi : ℕ) (rest : List Span) → ranges_to lo (ends ++ hi ∷ []) ++ rest ≡ ranges_to lo ends ++ record { lo = last_or lo ends; hi = hi } ∷ rest
+ranges_push [] lo hi rest = refl
+ranges_push (x ∷ xs) lo hi rest = ap (λ l. record { lo = lo; hi = x } ∷ l) (ranges_push xs x hi rest)
+
+pub last_push : (ends : List ℕ) (lo hi : ℕ) → last_or lo (ends ++ hi ∷ []) ≡ hi
+last_push [] lo hi = refl
+last_push (x ∷ xs) lo hi = last_push xs x hi
+
+-- the ends rise
+above : (ends : List ℕ) (lo to : ℕ) → Lead lo to (ranges_to lo ends) → (j d : ℕ) → j < length ends → lo < get_or ends j d
+above [] lo to h j d l = absurd (omega (arith, l))
+above (x ∷ xs) lo to h zero d l = h.1
+above (x ∷ xs) lo to h (suc j) d l = let more = above xs x to h.2 j d (omega (arith, l)) in let some = h.1 in omega (arith, more, some)
+
+pub ends_rise : (ends : List ℕ) (lo to : ℕ) → Lead lo to (ranges_to lo ends) → (i j d : ℕ) → i ≤ j → j < length ends → get_or ends i d ≤ get_or ends j d
+ends_rise [] lo to h i j d le l = absurd (omega (arith, l))
+ends_rise (x ∷ xs) lo to h zero zero d le l = omega arith
+ends_rise (x ∷ xs) lo to h zero (suc j) d le l = let more = above xs x to h.2 j d (omega (arith, l)) in omega (arith, more)
+ends_rise (x ∷ xs) lo to h (suc i) zero d le l = absurd (omega (arith, le))
+ends_rise (x ∷ xs) lo to h (suc i) (suc j) d le l = ends_rise xs x to h.2 i j d (omega (arith, le)) (omega (arith, l))
+
+first_by : (ends : List ℕ) (i number place : ℕ) → ((k : ℕ) → k < i → get_or ends k 0 ≤ number) → ((k : ℕ) → i ≤ k → k < length ends → number < get_or ends k 0) → place < length ends
+    → get_or (0 ∷ ends) place 0 ≤ number → number < get_or ends place 0 → i ≡ place
+first_by ends i number zero low high l from below = go (le_or_lt i 0)
+  where
+    go : (i ≤ 0) ⊎ (0 < i) → i ≡ 0
+    go (inl h) = omega (arith, h)
+    go (inr h) = let bad = low 0 h in absurd (omega (arith, bad, below))
+first_by ends i number (suc p) low high l from below = go (le_or_lt i (suc p)) (le_or_lt i p)
+  where
+    go : (i ≤ suc p) ⊎ (suc p < i) → (i ≤ p) ⊎ (p < i) → i ≡ suc p
+    go h q = grind arith
+
+pub first_above : (ends : List ℕ) (i number place : ℕ) → AllWithin (λ x. leb x number ≡ true) ends 0 i → AllWithin (λ x. leb x number ≡ false) ends i (length ends) → Holds (ranges_to 0 ends) number place → i ≡ place
+first_above ends i number place low high held = grind (arith, ranges_within, ranges_at, first_by, nat_tests)
+
+pub first_range : (ends : List ℕ) (place : ℕ) → place ≡ 0 → place < length ends → slice_get (ranges_to 0 ends) place ≡ Some (record { lo = 0; hi = get_or ends place 0 })
+first_range ends place e l = ranges_at ends 0 place l ∙ rw e refl
+
+pub next_range : (ends : List ℕ) (place : ℕ) → place ≢ 0 → place < length ends → slice_get (ranges_to 0 ends) place ≡ Some (record { lo = get_or ends (place - 1) 0; hi = get_or ends place 0 })
+next_range ends zero n l = absurd (n refl)
+next_range ends (suc p) n l = let one : p ≡ suc p - 1 = omega arith in ranges_at ends 0 (suc p) l ∙ ap (λ (m : ℕ). Some (record { lo = get_or ends m 0; hi = get_or ends (suc p) 0 })) one
+
+-- ---- Ranges that follow one another hold each number once, and cuts whose ranges are kept by their ends.
+
+first_holds : (x : Span) (xs : List Span) (number from to other : ℕ) → Lead from to (x ∷ xs) → number < x.hi → Holds (x ∷ xs) number other → other ≡ 0
+first_holds x xs number from to zero h l held = refl
+first_holds x xs number from to (suc other) h l held = let later = (span_within xs x.hi to other held.range h.2 held.stands).0 in absurd (omega (arith, held.from))
+
+later_holds : (x : Span) (xs : List Span) (number place other : ℕ) → x.hi ≤ number → ((o : ℕ) → Holds xs number o → o ≡ place) → Holds (x ∷ xs) number other → other ≡ suc place
+later_holds x xs number place zero l one held = let same : x ≡ held.range = cc held.stands in absurd (omega (arith, held.below, ap (λ s. s.hi) same))
+later_holds x xs number place (suc other) l one held = ap suc (one other (record { range = held.range; stands = held.stands; from = held.from; below = held.below }))
+
+in_one_by : (x : Span) (xs : List Span) (from to number : ℕ) → Lead from to (x ∷ xs) → from ≤ number → number < to → IsInOne xs x.hi to → ((number < x.hi) ⊎ (x.hi ≤ number))
+    → (place : ℕ) × Holds (x ∷ xs) number place × ((other : ℕ) → Holds (x ∷ xs) number other → other ≡ place)
+in_one_by x xs from to number h a b later (inl l) =
+    (0, record { range = x; stands = refl; from = (let at = h.0 in omega arith); below = l }, λ other held. first_holds x xs number from to other h l held)
+in_one_by x xs from to number h a b later (inr r) =
+    let one = later number r b in
+    (suc one.0, record { range = one.1.range; stands = one.1.stands; from = one.1.from; below = one.1.below }, λ other held. later_holds x xs number one.0 other r one.2 held)
+
+pub in_one : (rs : List Span) (from to : ℕ) → Lead from to rs → IsInOne rs from to
+in_one [] from to h number a b = absurd (omega arith)
+in_one (x ∷ xs) from to h number a b = in_one_by x xs from to number h a b (in_one xs x.hi to h.2) (lt_or_le number x.hi)
+
+-- none is empty, so there are no more than numbers
+pub few_ranges : (rs : List Span) (from to : ℕ) → Lead from to rs → length rs + from ≤ to
+few_ranges [] from to h = omega (arith, h)
+few_ranges (x ∷ xs) from to h = let more = few_ranges xs x.hi to h.2 in let some = h.1 in omega (arith, more, some)
+
+-- ---- cuts by their ends
+
+ends_lead : (ends : List ℕ) (n size : ℕ) (marks : List ℕ) → ranges_to 0 ends ≡ cut n size marks → Lead 0 n (ranges_to 0 ends)
+ends_lead ends n size marks h = rw h (cuts_lead n size marks)
+
+pub few_ends : (ends : List ℕ) (n size : ℕ) (marks : List ℕ) → ranges_to 0 ends ≡ cut n size marks → length ends ≤ n
+few_ends ends n size marks h = let few = few_ranges (ranges_to 0 ends) 0 n (ends_lead ends n size marks h) in omega (arith, few, length-ranges_to ends 0)
+
+pub as_many : (ends : List ℕ) (n size : ℕ) (marks : List ℕ) → ranges_to 0 ends ≡ cut n size marks → length ends ≡ length (cut n size marks)
+as_many ends n size marks h = sym (length-ranges_to ends 0) ∙ ap length h
+
+pub they_rise : (ends : List ℕ) (n size : ℕ) (marks : List ℕ) → ranges_to 0 ends ≡ cut n size marks → IsNonDecreasingBy (λ x. x) ends
+they_rise ends n size marks h = ends_rise ends 0 n (ends_lead ends n size marks h)
+
+pub holds_first : (ends : List ℕ) (n size : ℕ) (marks : List ℕ) (number i : ℕ) → ranges_to 0 ends ≡ cut n size marks → number < n → AllWithin (λ x. leb x number ≡ true) ends 0 i
+    → AllWithin (λ x. leb x number ≡ false) ends i (length ends) → Holds (cut n size marks) number i
+holds_first ends n size marks number i h l low high =
+    let one = in_one (ranges_to 0 ends) 0 n (ends_lead ends n size marks h) number (omega arith) l in
+    let same : i ≡ one.0 = first_above ends i number one.0 low high one.1 in
+    rw (same, ← h) one.1
+
+-- ---- One more entry of a walk along marks.
+
+-- ---- marks
+
+any_cons : (e x : ℕ) (xs : List ℕ) → e ≡ x → list_any (nat_eq e) (x ∷ xs) ≡ true
+any_cons e x xs h = rw ((Decides-eqb e x).1 h) refl
+
+pub any_at : (xs : List ℕ) (e k : ℕ) → k < length xs → get_or xs k 0 ≡ e → list_any (nat_eq e) xs ≡ true
+any_at [] e k l h = absurd (omega (arith, l))
+any_at (x ∷ xs) e zero l h = any_cons e x xs (sym h)
+any_at (x ∷ xs) e (suc k) l h = rw (any_at xs e k (omega (arith, l)) h) (or_true (nat_eq e x))
+
+pub any_none : (xs : List ℕ) (e : ℕ) → ((k : ℕ) → k < length xs → get_or xs k 0 ≢ e) → list_any (nat_eq e) xs ≡ false
+any_none [] e h = refl
+any_none (x ∷ xs) e h = both (nat_eq e x) refl (any_none xs e (λ k l. h (suc k) (omega (arith, l))))
+  where
+    both : (b : Bool) → nat_eq e x ≡ b → list_any (nat_eq e) xs ≡ false → (b || list_any (nat_eq e) xs) ≡ false
+    both true q r = absurd (h 0 (omega arith) (sym ((Decides-eqb e x).0 q)))
+    both false q r = r
+
+at_or : (next k : ℕ) → (k < next) ⊎ (next ≤ k)
+at_or next k = grind arith
+
+at_or_after : (next k : ℕ) → next ≤ k → (k ≡ next) ⊎ (next < k)
+at_or_after next k h = grind arith
+
+-- no mark is the entry, where the first that isn't below is not
+pub not_marked : (marks : List ℕ) (next entry : ℕ) → IsStrictlyIncreasing marks → IsPassed marks next entry → IsAhead marks next entry → (next < length marks → get_or marks next 0 ≢ entry) → list_any (nat_eq entry) marks ≡ false
+not_marked marks next entry rising passed ahead other = any_none marks entry (λ k l. go k l (at_or next k))
+  where
+    after : (k : ℕ) → k < length marks → (k ≡ next) ⊎ (next < k) → get_or marks k 0 ≢ entry
+    after k l h = grind (arith, AllPairs-from_increasing)
+
+    go : (k : ℕ) → k < length marks → (k < next) ⊎ (next ≤ k) → get_or marks k 0 ≢ entry
+    go k l (inl h) = λ q. (let low = passed.below k h in absurd (omega (arith, low, q)))
+    go k l (inr h) = after k l (at_or_after next k h)
+
+pub marked_is : (marks : List ℕ) (next entry : ℕ) → IsStrictlyIncreasing marks → IsPassed marks next entry → IsAhead marks next entry → next < length marks → nat_eq (get_or marks next 0) entry ≡ list_any (nat_eq entry) marks
+marked_is marks next entry rising passed ahead l = go (nat_eq (get_or marks next 0) entry) refl
+  where
+    go : (b : Bool) → nat_eq (get_or marks next 0) entry ≡ b → b ≡ list_any (nat_eq entry) marks
+    go true q = sym (any_at marks entry next l ((Decides-eqb (get_or marks next 0) entry).0 q))
+    go false q = sym (not_marked marks next entry rising passed ahead (λ m e. cc (sym q ∙ (Decides-eqb (get_or marks next 0) entry).1 e)))
+
+pub none_left : (marks : List ℕ) (next entry : ℕ) → IsStrictlyIncreasing marks → IsPassed marks next entry → IsAhead marks next entry → length marks ≤ next → nat_lt next (length marks) ≡ list_any (nat_eq entry) marks
+none_left marks next entry rising passed ahead l =
+    let past : nat_lt next (length marks) ≡ false = grind (arith, nat_tests) in
+    past ∙ sym (not_marked marks next entry rising passed ahead (λ m. absurd (omega (arith, l, m))))
+
+pub ahead_one : (marks : List ℕ) (next entry : ℕ) → IsStrictlyIncreasing marks → IsAhead marks next (entry - 1) → next < length marks → IsAhead marks (next + 1) entry
+ahead_one marks next entry rising ahead l = record {
+  above = λ k h q.
+      let more = AllPairs-from_increasing marks rising next k 0 (omega (arith, h)) q in
+      let low = ahead.above next (omega arith) l in
+      omega (arith, more, low);
+}
+
+pub ahead_still : (marks : List ℕ) (next entry : ℕ) → IsStrictlyIncreasing marks → (next < length marks → entry ≤ get_or marks next 0) → IsAhead marks next entry
+ahead_still marks next entry rising h = record { above = λ k q l. go k l (at_or_after next k q) }
+  where
+    go : (k : ℕ) → k < length marks → (k ≡ next) ⊎ (next < k) → entry ≤ get_or marks k 0
+    go k l (inl e) = subst (λ (n : ℕ). entry ≤ get_or marks n 0) (sym e) (h (omega (arith, e, l)))
+    go k l (inr q) = let more = AllPairs-from_increasing marks rising next k 0 q l in let low = h (omega (arith, q, l)) in omega (arith, more, low)
+
+-- ---- the ranges so far
+
+-- up to an entry the clusters end there, and the last began at lo
+pub record Walked (n size : ℕ) (marks ends : List ℕ) (lo entry next : ℕ) : Type 0 where
+  pub so_far : cut n size marks ≡ ranges_to 0 ends ++ cut_from size marks lo entry (n - entry)
+  pub last : lo ≡ last_or 0 ends
+  pub begun : lo < entry
+  pub passed : IsPassed marks next entry
+  pub ahead : IsAhead marks next (entry - 1)
+
+pub walk_start : (n size : ℕ) (marks : List ℕ) → 0 < n → Walked n size marks [] 0 1 0
+walk_start zero size marks h = absurd (omega (arith, h))
+walk_start (suc n) size marks h = record { so_far = (let one : n ≡ suc n - 1 = omega arith in ap (cut_from size marks 0 1) one); last = refl; begun = omega arith; passed = record { below = λ k l. absurd (omega (arith, l)) }; ahead = record { above = λ k l q. omega arith } }
+
+passed_on : (marks : List ℕ) (next entry : ℕ) → IsPassed marks next entry → IsPassed marks next (entry + 1)
+passed_on marks next entry p = record { below = λ k h. (let low = p.below k h in omega (arith, low)) }
+
+ahead_on : (marks : List ℕ) (next entry : ℕ) → IsAhead marks next entry → IsAhead marks next (entry + 1 - 1)
+ahead_on marks next entry a = record { above = λ k h l. (let low = a.above k h l in omega (arith, low)) }
+
+fewer : (n entry : ℕ) → entry < n → n - entry ≡ suc (n - (entry + 1))
+fewer n entry h = omega (arith, h)
+
+cut_step : (size : ℕ) (marks : List ℕ) (lo entry r : ℕ) (b : Bool) → begins_at size marks lo entry ≡ b
+    → cut_from size marks lo entry (suc r) ≡ (if b then record { lo = lo; hi = entry } ∷ cut_from size marks entry (entry + 1) r else cut_from size marks lo (entry + 1) r)
+cut_step size marks lo entry r b h = let next : suc entry ≡ entry + 1 = omega arith in rw (h, next) refl
+
+at_size : (lo entry size : ℕ) → lo < entry → entry - lo ≡ size → nat_eq entry (lo + size) ≡ true
+at_size lo entry size l h = (Decides-eqb entry (lo + size)).1 (omega (arith, l, h))
+
+not_false : (b : Bool) → b ≢ true → b ≡ false
+not_false true h = absurd (h refl)
+not_false false h = refl
+
+off_size : (lo entry size : ℕ) → lo < entry → entry - lo ≢ size → nat_eq entry (lo + size) ≡ false
+off_size lo entry size l h = not_false (nat_eq entry (lo + size)) (λ q. h (let e = (Decides-eqb entry (lo + size)).0 q in omega (arith, e)))
+
+-- a cluster begins at the entry
+abbrev pub Begins : ℕ → ℕ → List ℕ → ℕ → Type 0
+Begins size lo marks entry = (list_any (nat_eq entry) marks ≡ true) ⊎ (entry - lo ≡ size)
+
+pub walk_begin : (n size : ℕ) (marks ends : List ℕ) (lo entry old next : ℕ) → Walked n size marks ends lo entry old → entry < n → IsPassed marks next entry → IsAhead marks next entry → Begins size lo marks entry
+    → Walked n size marks (ends ++ entry ∷ []) entry (entry + 1) next
+walk_begin n size marks ends lo entry old next w h p a b = record {
+  so_far =
+      w.so_far ∙ ap (λ r. ranges_to 0 ends ++ cut_from size marks lo entry r) (fewer n entry h)
+      ∙ ap (λ l. ranges_to 0 ends ++ l) (cut_step size marks lo entry (n - (entry + 1)) true (begins b))
+      ∙ ap (λ x. ranges_to 0 ends ++ record { lo = x; hi = entry } ∷ cut_from size marks entry (entry + 1) (n - (entry + 1))) w.last
+      ∙ sym (ranges_push ends 0 entry (cut_from size marks entry (entry + 1) (n - (entry + 1))));
+  last = sym (last_push ends 0 entry);
+  begun = omega arith;
+  passed = passed_on marks next entry p;
+  ahead = ahead_on marks next entry a;
+}
+  where
+    begins : Begins size lo marks entry → begins_at size marks lo entry ≡ true
+    begins (inl m) = or_right (nat_eq entry (lo + size)) (list_any (nat_eq entry) marks) m
+    begins (inr s) = or_left (nat_eq entry (lo + size)) (list_any (nat_eq entry) marks) (at_size lo entry size w.begun s)
+
+pub walk_on : (n size : ℕ) (marks ends : List ℕ) (lo entry old next : ℕ) → Walked n size marks ends lo entry old → entry < n → IsPassed marks next entry → IsAhead marks next entry → list_any (nat_eq entry) marks ≡ false → entry - lo ≢ size
+    → Walked n size marks ends lo (entry + 1) next
+walk_on n size marks ends lo entry old next w h p a m s = record {
+  so_far =
+      w.so_far ∙ ap (λ r. ranges_to 0 ends ++ cut_from size marks lo entry r) (fewer n entry h)
+      ∙ ap (λ l. ranges_to 0 ends ++ l) (cut_step size marks lo entry (n - (entry + 1)) false (or_fails (nat_eq entry (lo + size)) (list_any (nat_eq entry) marks) (off_size lo entry size w.begun s) m));
+  last = w.last;
+  begun = (let b = w.begun in omega (arith, b));
+  passed = passed_on marks next entry p;
+  ahead = ahead_on marks next entry a;
+}
+
+nil_end : (xs : List Span) → xs ++ [] ≡ xs
+nil_end [] = refl
+nil_end (x ∷ xs) = ap (λ l. x ∷ l) (nil_end xs)
+
+pub walk_end : (n size : ℕ) (marks ends : List ℕ) (lo entry next : ℕ) → Walked n size marks ends lo entry next → entry ≡ n → ranges_to 0 (ends ++ n ∷ []) ≡ cut n size marks
+walk_end n size marks ends lo entry next w h =
+    sym (nil_end (ranges_to 0 (ends ++ n ∷ []))) ∙ ranges_push ends 0 n [] ∙ sym (w.so_far ∙ ap (λ r. ranges_to 0 ends ++ cut_from size marks lo entry r) none ∙ ap₂_span)
+  where
+    none : n - entry ≡ 0
+    none = omega (arith, h)
+
+    ap₂_span : ranges_to 0 ends ++ cut_from size marks lo entry 0 ≡ ranges_to 0 ends ++ record { lo = last_or 0 ends; hi = n } ∷ []
+    ap₂_span = rw (← h, w.last) refl

@@ -1,9 +1,14 @@
 -- Numbers in pieces.
-use Rattle.std.proofs.Common.{◌≡◌, ◌≤◌, ◌<◌, ◌+◌, ◌-◌, ℕ, ℤ, List, [], ◌∷◌, ◌++◌, length, get_or, drop, take, max, min, refl, sym, ap, ap₂, ◌∙◌, arith, append-nil, length-append}
+use Rattle.std.proofs.Common.{◌≡◌, ◌≤◌, ◌<◌, ◌+◌, ◌-◌, ℕ, ℤ, List, [], ◌∷◌, ◌++◌, length, get_or, drop, take, max, min, refl, sym, ap, ap₂, ◌∙◌, arith, append-nil, length-append, zero, suc, map, Some, slice_get}
 use borrow.Rule.Slice.PartMut.{mid_len, mid_of, put_mid}
 use Rattle.std.proofs.lemmas.List.{drop-append-le, drop-drop, length-drop, length-take-le, take-append-drop, take-append-le, take_all, take_more}
-use Rattle.lemmas.proofs.{drop-append-add, flat_map-append, take-add, take-put_mid}
-use Rattle.columns.specs.{joined}
+use Rattle.lemmas.proofs.{drop-append-add, flat_map-append, take-add, take-put_mid, AllByRecursion, get_or_from_slice_get, length-map, length-take, map-append, slice_get-get_or, slice_get-map, slice_get_within}
+use Rattle.columns.specs.{joined, cells_of, cluster_values, ColumnPieces, Holds, IsByCluster, whole}
+use Rattle.rdf_values.specs.{AreKept, ColType, Column, count, cut, IsIntColumn, Keep, kind_at, rows_kept, Span, TableView, Value}
+use Rattle.rdf_values.proofs.Evenly.{cuts_lead}
+use Rattle.rdf_values.proofs.KeptLemmas.{ints_column, kept_within, no_ints, no_vects, vects_column}
+use Rattle.columns.specs.declared.kept.Kept.{Kept}
+use Rattle.columns.proofs.BlockSteps.{span_within, values_of_cluster}
 
 -- ---- the first pieces
 
@@ -97,3 +102,123 @@ read_whole pieces lo n i before numbers r long h = grind (arith, take_all)
 
 pub read_to_the_end : (pieces : List (List ℤ)) (lo n i before : ℕ) (numbers : List ℤ) → AreReadUpTo pieces lo n i before numbers → length numbers ≡ n → length pieces ≤ i → lo + n ≤ length (joined pieces) → numbers ≡ take n (drop lo (joined pieces))
 read_to_the_end pieces lo n i before numbers r long e h = grind (arith, take_all, read_whole)
+
+-- ---- What is kept gives the table's columns.
+
+pub col_within : (columns : List Column) (all : List Kept) (n col : ℕ) (kind : ColType) → AreKept n columns (map cells_of all) → kind_at columns col ≡ Some kind → col < length all
+col_within columns all n col kind h e = let l = kept_within columns (map cells_of all) n col kind h e in omega (arith, l, length-map all cells_of)
+
+found : (columns : List Column) (all : List Kept) (n col : ℕ) (kind : ColType) (x : Kept) → AreKept n columns (map cells_of all) → kind_at columns col ≡ Some kind → x ≡ get_or all col x → slice_get (map cells_of all) col ≡ Some (cells_of x)
+found columns all n col kind x h e q = grind (arith, slice_get-get_or, col_within, slice_get-map)
+
+pub ints_found : (columns : List Column) (all : List Kept) (n col : ℕ) (x : Kept) (values : List (List ℤ)) → AreKept n columns (map cells_of all) → kind_at columns col ≡ Some ColType.Int → x ≡ get_or all col x → x ≡ Kept.Ints values
+    → map (λ row. slice_get row col) (rows_kept n (map cells_of all)) ≡ map (λ z. Some (Value.Int z)) (joined values)
+ints_found columns all n col x values h e q i = ints_column columns (map cells_of all) n col (cells_of x) (joined values) h e (found columns all n col ColType.Int x h e q) (ap cells_of i)
+
+pub vects_found : (columns : List Column) (all : List Kept) (n col : ℕ) (x : Kept) (vectors : List (List ℤ)) → AreKept n columns (map cells_of all) → kind_at columns col ≡ Some ColType.Vect → x ≡ get_or all col x → x ≡ Kept.Vects vectors
+    → map (λ row. slice_get row col) (rows_kept n (map cells_of all)) ≡ map (λ zs. Some (Value.Vect zs)) vectors
+vects_found columns all n col x vectors h e q i = vects_column columns (map cells_of all) n col (cells_of x) vectors h e (found columns all n col ColType.Vect x h e q) (ap cells_of i)
+
+pub not_vects : (columns : List Column) (all : List Kept) (n col : ℕ) (x : Kept) (vectors : List (List ℤ)) → AreKept n columns (map cells_of all) → kind_at columns col ≡ Some ColType.Int → x ≡ get_or all col x → x ≡ Kept.Vects vectors → ⊥
+not_vects columns all n col x vectors h e q i = no_vects columns (map cells_of all) n col (cells_of x) vectors h e (found columns all n col ColType.Int x h e q) (ap cells_of i)
+
+pub not_ints : (columns : List Column) (all : List Kept) (n col : ℕ) (x : Kept) (values : List (List ℤ)) → AreKept n columns (map cells_of all) → kind_at columns col ≡ Some ColType.Vect → x ≡ get_or all col x → x ≡ Kept.Ints values → ⊥
+not_ints columns all n col x values h e q i = no_ints columns (map cells_of all) n col (cells_of x) (joined values) h e (found columns all n col ColType.Vect x h e q) (ap cells_of i)
+
+at_by : (P : Kept → Type 0) (all : List Kept) (col : ℕ) (d : Kept) → AllByRecursion P all → col < length all → P (get_or all col d)
+at_by P [] col d h l = absurd (omega (arith, l))
+at_by P (x ∷ xs) zero d h l = h.0
+at_by P (x ∷ xs) (suc col) d h l = at_by P xs col d h.1 (omega (arith, l))
+
+pub by_cluster : (columns : List Column) (all : List Kept) (n col : ℕ) (x : Kept) (values : List (List ℤ)) (spans : List Span) → AreKept n columns (map cells_of all) → kind_at columns col ≡ Some ColType.Int → x ≡ get_or all col x → x ≡ Kept.Ints values
+    → AllByRecursion (IsByCluster spans) all → values ≡ cluster_values spans (joined values)
+by_cluster columns all n col x values spans h e q i a = grind (arith, at_by, col_within)
+
+-- ---- one number
+
+pub cluster_at : (spans : List Span) (numbers : List ℤ) (c : ℕ) (s : Span) → slice_get spans c ≡ Some s → get_or (cluster_values spans numbers) c [] ≡ take (s.hi - s.lo) (drop s.lo numbers)
+cluster_at spans numbers c s h = get_or_from_slice_get (cluster_values spans numbers) c _ [] (values_of_cluster spans numbers c s h)
+
+pub cluster_there : (spans : List Span) (numbers : List ℤ) (c : ℕ) (s : Span) → slice_get spans c ≡ Some s → c < length (cluster_values spans numbers)
+cluster_there spans numbers c s h = slice_get_within (cluster_values spans numbers) c _ (values_of_cluster spans numbers c s h)
+
+pub get_taken : (xs : List ℤ) (n i : ℕ) → i < n → slice_get (take n xs) i ≡ slice_get xs i
+get_taken [] zero i l = refl
+get_taken [] (suc n) i l = refl
+get_taken (x ∷ xs) zero i l = absurd (omega (arith, l))
+get_taken (x ∷ xs) (suc n) zero l = refl
+get_taken (x ∷ xs) (suc n) (suc i) l = get_taken xs n i (omega (arith, l))
+
+pub get_dropped : (xs : List ℤ) (n i : ℕ) → slice_get (drop n xs) i ≡ slice_get xs (n + i)
+get_dropped xs zero i = let e : i ≡ 0 + i = omega arith in ap (λ (k : ℕ). slice_get xs k) e
+get_dropped [] (suc n) i = let e : suc n + i ≡ suc (n + i) = omega arith in sym (ap (λ (k : ℕ). slice_get [] k) e)
+get_dropped (x ∷ xs) (suc n) i = let e : suc n + i ≡ suc (n + i) = omega arith in get_dropped xs n i ∙ sym (ap (λ (k : ℕ). slice_get (x ∷ xs) k) e)
+
+pub number_here : (numbers : List ℤ) (s : Span) (entry : ℕ) → s.lo ≤ entry → entry < s.hi → slice_get (take (s.hi - s.lo) (drop s.lo numbers)) (entry - s.lo) ≡ slice_get numbers entry
+number_here numbers s entry from below = grind (arith, get_taken, get_dropped)
+
+pub place_here : (numbers : List ℤ) (s : Span) (entry : ℕ) → s.lo ≤ entry → entry < s.hi → s.hi ≤ length numbers → entry - s.lo < length (take (s.hi - s.lo) (drop s.lo numbers))
+place_here numbers s entry from below few = omega (arith, from, below, few, length-take (s.hi - s.lo) (drop s.lo numbers), length-drop s.lo numbers)
+
+pub entry_here : (n size : ℕ) (marks : List ℕ) (numbers : List ℤ) (values : List (List ℤ)) (entry c : ℕ) (s : Span) → values ≡ cluster_values (cut n size marks) numbers → length numbers ≡ n → Holds (cut n size marks) entry c
+    → slice_get (cut n size marks) c ≡ Some s → (c < length values) × (s.lo ≤ entry) × (entry - s.lo < length (get_or values c [])) × (slice_get (get_or values c []) (entry - s.lo) ≡ slice_get numbers entry)
+entry_here n size marks numbers values entry c s e l held at =
+    let spans = cut n size marks in
+    let same : held.range ≡ s = cc (sym held.stands ∙ at) in
+    let lo : held.range.lo ≡ s.lo = ap (λ (x : Span). x.lo) same in
+    let hi : held.range.hi ≡ s.hi = ap (λ (x : Span). x.hi) same in
+    let hf = held.from in
+    let hb = held.below in
+    let from : s.lo ≤ entry = omega (arith, hf, lo) in
+    let below : entry < s.hi = omega (arith, hb, hi) in
+    let within = span_within spans 0 n c s (cuts_lead n size marks) at in
+    let top = within.2 in
+    let few : s.hi ≤ length numbers = omega (arith, top, l) in
+    rw (e, cluster_at spans numbers c s at) (cluster_there spans numbers c s at, from, place_here numbers s entry from below few, number_here numbers s entry from below)
+
+one_list : (xs ys : List ℤ) → map (λ z. Some (Value.Int z)) xs ≡ map (λ z. Some (Value.Int z)) ys → xs ≡ ys
+one_list [] [] h = refl
+one_list [] (y ∷ ys) h = cc h
+one_list (x ∷ xs) [] h = cc h
+one_list (x ∷ xs) (y ∷ ys) h =
+    let first : x ≡ y = cc h in
+    let rest : map (λ z. Some (Value.Int z)) xs ≡ map (λ z. Some (Value.Int z)) ys = cc h in
+    ap₂ (λ a b. a ∷ b) first (one_list xs ys rest)
+
+pub cluster_numbers : (table : TableView) (col : ℕ) (spans : List Span) (values : List (List ℤ)) (numbers : List ℤ) (c : ℕ) (s : Span) → IsIntColumn table col (joined values) → IsIntColumn table col numbers
+    → values ≡ cluster_values spans (joined values) → slice_get spans c ≡ Some s → get_or values c [] ≡ take (s.hi - s.lo) (drop s.lo numbers)
+cluster_numbers table col spans values numbers c s h k e at =
+    let same = one_list (joined values) numbers (sym h ∙ k) in
+    ap (λ (vs : List (List ℤ)). get_or vs c []) (e ∙ ap (cluster_values spans) same) ∙ cluster_at spans numbers c s at
+
+-- each of the columns that are taken in turn keeps so many values
+pub keep_next : (n : ℕ) (taken : List ColumnPieces) (x : ColumnPieces) (rest all : List ColumnPieces) → Keep n (map whole all) → all ≡ taken ++ x ∷ rest → count (whole x) ≡ n
+keep_next n taken x rest all h e = go taken (rw e at h)
+  where
+    go : (ys : List ColumnPieces) → Keep n (map whole (ys ++ x ∷ rest)) → count (whole x) ≡ n
+    go [] k = k.0
+    go (y ∷ ys) k = go ys k.1
+
+-- ---- columns in two halves
+
+pub keep_front : (n k : ℕ) (all : List ColumnPieces) → Keep n (map whole all) → Keep n (map whole (take k all))
+keep_front n zero all h = tt
+keep_front n (suc k) [] h = tt
+keep_front n (suc k) (x ∷ xs) h = (h.0, keep_front n k xs h.1)
+
+pub keep_back : (n k : ℕ) (all : List ColumnPieces) → Keep n (map whole all) → Keep n (map whole (drop k all))
+keep_back n zero all h = h
+keep_back n (suc k) [] h = tt
+keep_back n (suc k) (x ∷ xs) h = keep_back n k xs h.1
+
+pub halves_joined : (k : ℕ) (all first last : List ColumnPieces) (front back both : List Kept) → first ≡ take k all → last ≡ drop k all → map cells_of front ≡ map whole first → map cells_of back ≡ map whole last → both ≡ front ++ back
+    → map cells_of both ≡ map whole all
+halves_joined k all first last front back both t d f b e =
+    ap (map cells_of) e ∙ map-append cells_of front back ∙ ap₂ (λ xs ys. xs ++ ys) (f ∙ ap (map whole) t) (b ∙ ap (map whole) d) ∙ sym (map-append whole (take k all) (drop k all)) ∙ ap (map whole) (take-append-drop k all)
+
+all_behind : (P : Kept → Type 0) (front back : List Kept) → AllByRecursion P front → AllByRecursion P back → AllByRecursion P (front ++ back)
+all_behind P [] back f b = b
+all_behind P (x ∷ xs) back f b = (f.0, all_behind P xs back f.1 b)
+
+pub halves_by_cluster : (spans : List Span) (front back both : List Kept) → AllByRecursion (IsByCluster spans) front → AllByRecursion (IsByCluster spans) back → both ≡ front ++ back → AllByRecursion (IsByCluster spans) both
+halves_by_cluster spans front back both f b e = rw e (all_behind (IsByCluster spans) front back f b)

@@ -2,8 +2,8 @@
 use Rattle.std.proofs.Common.{◌≡◌, ◌≤◌, ◌<◌, ◌+◌, ℕ, zero, suc, pos, List, [], ◌∷◌, ◌++◌, length, get_or, set, drop, take, map, arith, refl, ap, ap₂, ◌∙◌, sym, subst, length-append, add-one, append-nil, append_assoc}
 use Rattle.std.proofs.lemmas.List.{get_or-append-add, get_or_append_left, get_or-map, length-drop, length-map, length-set, map-append, map-set, take_all}
 use Rattle.rdf_values.specs.{AreKept, below, cell_at, Cells, ColType, Column, FitRows, HoldsTable, IsKept, rows_kept, Value}
-use Rattle.rdf_values.proofs.Below.{map-below}
-use Rattle.rdf_values.proofs.RowPushed.{kept_length}
+use Rattle.rdf_values.proofs.UnionLemmas.{map-below}
+use Rattle.rdf_values.proofs.KeptLemmas.{kept_length}
 use Rattle.columns.specs.{cells_joined, ColumnPieces, columns_joined, whole}
 
 -- ---- the first columns have others behind them

@@ -1,13 +1,8 @@
 pub mod BlockSteps
 pub mod Clusters
-pub mod Ends
 pub mod Examples
 pub mod InPieces
-pub mod Joining
 pub mod JoiningPieces
-pub mod Keeping
-pub mod Leading
 pub mod Reading
 pub mod Tight
 pub mod Unpacking
-pub mod Walking

@@ -6,13 +6,12 @@ use mir.Syntax.{w64}
 use Rattle.std.proofs.lemmas.List.{get_or_append_left, length-drop, length-take, take_all, take_more, take_more_set}
 use native.Mathlib.Nat.{add-mul, mul-le-mul_right}
 use Rattle.rdf_values.specs.{cut, Span}
-use Rattle.rdf_values.proofs.Leading.{cuts_lead}
+use Rattle.rdf_values.proofs.Evenly.{cuts_lead}
 use Rattle.columns.specs.{AreBlocks, AreNumbers, block_values, cluster_values, IsBlock, number_in, values_in}
 use Rattle.columns.specs.declared.packed_ints.Block.{Block}
 use Rattle.columns.specs.declared.packing.Packing.{Packing}
-use Rattle.columns.proofs.BlockSteps.{block_back, block_of, block_size, block_width}
-use Rattle.columns.proofs.Joining.{span_within}
-use Rattle.columns.proofs.Keeping.{cluster_at, cluster_there, entry_here, get_dropped, get_taken}
+use Rattle.columns.proofs.BlockSteps.{block_back, block_of, block_size, block_width, span_within}
+use Rattle.columns.proofs.InPieces.{cluster_at, cluster_there, entry_here, get_dropped, get_taken}
 use Rattle.columns.proofs.Unpacking.{value_at}
 
 -- ---- one number more

@@ -4,10 +4,10 @@ use Rattle.lemmas.proofs.{before_or_last, cases_lt, cons_option, filter_map-appe
 use Rattle.rdf_values.specs.{Booked, history, Pass, passes_of, Fault, first_in, Statement}
 use Rattle.rdf_model.specs.{kind_in, kinds_in, loop_passes, loop_results, Access, accesses, ComesInTurn, Dataset, filled_by, first_fault, first_fault_from, loop_of, loops_before}
 use Rattle.graph_numbers.specs.{graph_loops, graph_results, ResultAt, graph_prints}
-use Rattle.graph_numbers.proofs.Extending.{itself}
-use Rattle.graph_numbers.proofs.Listed.{next_at}
+use Rattle.graph_numbers.proofs.Placing.{itself}
+use Rattle.graph_numbers.proofs.Walks.{next_at}
 use Rattle.loop_keys.specs.{passes_in}
-use Rattle.loop_keys.proofs.PassCounts.{lines_few}
+use Rattle.loop_keys.proofs.PassNumbers.{lines_few}
 use Rattle.loop_pieces.specs.{place_if_watched, watched_from, watched_places}
 use Rattle.graph.proofs.Looped.{loops_few}
 use Rattle.event_loop.specs.{ArePartials, FilledLoop, fills, IsFilledAt, IsFilledPlace, IsFoundAt, IsPlaced, IsSession, IsUnfilled, session_job, SessionView, IsAccessed, IsFaulted, IsFilled, IsFilledIn, IsKept, job_facts, loop_filling, passes_run}
@@ -17,7 +17,7 @@ use Rattle.event_loop.proofs.LoopResults.{many}
 use Rattle.event_loop.proofs.Printed.{place_first, printed_has_loop}
 use Rattle.graph.proofs.Listing.{place_at}
 use Rattle.rdf_values.specs.declared.scripts.statement.Statement.TheVariants.{Print}
-use Rattle.rdf_values.proofs.Leading.{cuts_lead}
+use Rattle.rdf_values.proofs.Evenly.{cuts_lead}
 use Rattle.rdf_model.proofs.Turns.{loops_come_in_turn}
 use Rattle.loop_pieces.proofs.ClusterFaults.{first_cluster_has_first_fault}
 use Rattle.event_loop.specs.declared.kept.Kept.{Kept}

@@ -7,7 +7,7 @@ use Rattle.rdf_values.specs.declared.scripts.statement.Statement.TheVariants.{Ac
 use Rattle.rdf_model.proofs.Accepted.{both_none, names_equal, third, unless_holds}
 use Rattle.histograms.specs.{IsAxis}
 use Rattle.actions.specs.{HasEdges}
-use Rattle.graph_numbers.proofs.Listed.{by_test, of_joined, only_at}
+use Rattle.graph_numbers.proofs.Walks.{by_test, of_joined, only_at}
 use Rattle.graph.proofs.Filled.{all_in_turn, later_named}
 use Rattle.cluster_tally.specs.{CanWatch, IsFresh, place_if, TallyView}
 use Rattle.event_loop.proofs.LoopResults.{kept_any, one_number}
@@ -16,12 +16,10 @@ use Rattle.graph_numbers.specs.{graph_filters, graph_loops, graph_results, graph
 use Rattle.graph_numbers.proofs.Resulting.{booked_are}
 use Rattle.loop_keys.specs.{IsJob, job_graph, JobView, numbered_in, numbered_passes, passes_in}
 use Rattle.loop_keys.proofs.EvaluateLaws.{accepted_of}
-use Rattle.loop_keys.proofs.PassNumbers.{pass_of, passes_count, result_inside, result_there}
+use Rattle.loop_keys.proofs.PassNumbers.{pass_of, passes_count, result_inside, result_there, few_passes, kinds_next}
 use Rattle.loop_keys.proofs.Elements.{of_chosen}
-use Rattle.loop_keys.proofs.Covered.{covered_count}
+use Rattle.loop_keys.proofs.ReportTies.{covered_count}
 use Rattle.loop_keys.proofs.EntryLaws.{read_pass}
-use Rattle.loop_keys.proofs.PassCounts.{few_passes}
-use Rattle.loop_keys.proofs.Taken.{kinds_next}
 use Rattle.loop_pieces.specs.{place_if_watched, watched_from, watched_places}
 use Rattle.result_text.proofs.PassLines.{action_booking}
 use Rattle.result_text.proofs.Within.{IsIn, variation_within}

@@ -6,7 +6,7 @@ use Rattle.rdf_model.specs.{Access, access_printed, accesses, Course, Dataset, i
 use Rattle.rdf_model.proofs.Accepted.{names_equal}
 use Rattle.rdf_model.proofs.Faults.{first_fault_is_least}
 use Rattle.graph_numbers.specs.{graph_loops, graph_prints, graph_results, GraphView, Pass as NumberedPass, pass_at, result_number, ResultAt}
-use Rattle.graph_numbers.proofs.Extending.{itself as all_of_it}
+use Rattle.graph_numbers.proofs.Placing.{itself as all_of_it}
 use Rattle.graph_numbers.proofs.Resulting.{booked_are}
 use Rattle.loop_keys.specs.{passes_in}
 use Rattle.event_loop.specs.{FilledLoop, FitsCourse, GoesOn, HasSameParts, IsAccessed, IsFilledIn, IsKept, IsSession, session_job, SessionView, EndsAt, IsTranscript, job_facts, print_gives}
@@ -14,10 +14,10 @@ use Rattle.event_loop.specs.declared.kept.Kept.{Kept}
 use Rattle.event_loop.proofs.Found.{booked_row, decoded, in_turn}
 use Rattle.event_loop.proofs.LoopResults.{many, one_number}
 use Rattle.graph.proofs.Listing.{place_at}
-use Rattle.graph_numbers.proofs.Listed.{by_test}
+use Rattle.graph_numbers.proofs.Walks.{by_test}
 use Rattle.loop_pieces.specs.{ArePartialLines, PartialLine}
-use Rattle.result_text.proofs.Lists.{one_left}
-use Rattle.event_loop.proofs.SomeChain.{first_sets, first_sets_are_a_chain}
+use Rattle.result_text.proofs.CellNames.{one_left}
+use Rattle.event_loop.proofs.SlotLemmas.{first_sets, first_sets_are_a_chain}
 
 -- ---- the only one that passes a test
 

@@ -6,8 +6,7 @@ use Rattle.event_loop.specs.{end_faults, fault_of, HasMemory, IsServed, SlotView
 use Rattle.event_loop.specs.declared.workers.Finished.{Finished}
 use Rattle.event_loop.specs.declared.workers.End.{End}
 use Rattle.event_loop.specs.declared.workers.End.TheVariants.{Over, Faulted, NoMemory}
-use Rattle.rdf_values.proofs.DrawCounts.{times_concat, times_push, counts_by_drawn, once_inside, inside_once, times_self}
-use Rattle.rdf_values.proofs.UnionLemmas.{drawn_lists_unite}
+use Rattle.rdf_values.proofs.UnionLemmas.{times_concat, times_push, counts_by_drawn, once_inside, inside_once, times_self, drawn_lists_unite}
 use Rattle.merge_core.proofs.Faults.{Among, Told, told_nothing, told_both, first_told, among_left, among_right}
 use Rattle.merge_core.proofs.Holding.{only}
 use Rattle.slot_words.specs.{BookSeen, ClaimsSeen, IsLeast, IsPassed, last_of, MetBar, RanOut, SeatSeen}

@@ -4,21 +4,21 @@ use Rattle.lemmas.proofs.{and_false, cond_both, flat_map-append, kept_at, length
 use Rattle.rdf_values.specs.{Booked, bookings, is_watched, Pass, Statement, Under, has_variations, passes_of, result_depends, Variation, variations, scope_of}
 use Rattle.rdf_model.specs.{kind_in, kinds_in, loop_passes, loop_results}
 use Rattle.graph_numbers.specs.{booked_statements, graph_loops, graph_results, graph_variations, GraphView, Pass as NumberedPass, pass_at, ResultAt, under_at, result_passes, IsGraph}
-use Rattle.graph_numbers.proofs.Extending.{itself}
-use Rattle.graph_numbers.proofs.Listed.{by_test}
+use Rattle.graph_numbers.proofs.Placing.{itself}
+use Rattle.graph_numbers.proofs.Walks.{by_test}
 use Rattle.graph_numbers.proofs.Looping.{loops_are, result_are}
 use Rattle.graph_numbers.proofs.Resulting.{booked_are}
 use Rattle.loop_pieces.specs.{place_if_watched, watched_from, watched_places}
 use Rattle.event_loop.specs.{IsPassOf, fills, IsFilledPlace}
 use Rattle.loop_keys.proofs.Elements.{of_mapped}
 use Rattle.loop_keys.proofs.EntryLaws.{actions_few, all_taken}
-use Rattle.loop_keys.proofs.PassCounts.{loop_few as passes_few}
+use Rattle.loop_keys.proofs.PassNumbers.{loop_few as passes_few}
 use Rattle.event_loop.proofs.LoopResults.{IsFound, IsMissed, found_or_missed, NoneOf, count_own, is_of, own_all, position_first, position_none}
 use Rattle.std.specs.Prelude.{⊤}
-use Rattle.rdf_model.proofs.Verdicts.{verdict_is_the_first_refusal}
+use Rattle.rdf_model.proofs.Accepted.{verdict_is_the_first_refusal}
 use Rattle.graph.specs.{AreNamedInTurn}
 use Rattle.graph.proofs.Filled.{all_in_turn}
-use Rattle.result_text.proofs.Passes.{is_pass_at, result_within}
+use Rattle.result_text.proofs.PassLines.{is_pass_at, result_within}
 use Rattle.result_text.proofs.Within.{is_in_for, variation_within}
 
 -- the passes of some numbers have these names

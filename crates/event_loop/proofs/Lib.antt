@@ -9,5 +9,4 @@ pub mod SessionLines
 pub mod Shares
 pub mod Sharing
 pub mod SlotLemmas
-pub mod SomeChain
 pub mod Whole

@@ -7,8 +7,8 @@ use Rattle.rdf_model.specs.{Access, accesses, filled_by, loop_results}
 use Rattle.graph_numbers.specs.{numbered_pass, Pass as NumberedPass, passes_from, result_passes, loops}
 use Rattle.rdf_values.specs.declared.scripts.statement.Statement.TheVariants.{Print}
 use Rattle.rdf_model.proofs.Accepted.{itself, names_equal}
-use Rattle.graph_numbers.proofs.Extending.{Extends, itself as all_of_it, shorter}
-use Rattle.graph_numbers.proofs.Listed.{by_test}
+use Rattle.graph_numbers.proofs.Placing.{Extends, itself as all_of_it, shorter}
+use Rattle.graph_numbers.proofs.Walks.{by_test}
 use Rattle.graph_numbers.proofs.Looping.{booked_kept, loops_are}
 use Rattle.graph.specs.{AreNamedInTurn}
 use Rattle.graph.proofs.Filled.{later_named}

@@ -5,7 +5,7 @@ use Rattle.rdf_values.specs.{among, Booked, bookings, filled, names_of, place, s
 use Rattle.rdf_values.specs.declared.scripts.statement.Statement.TheVariants.{Print}
 use Rattle.rdf_model.specs.{Access, accesses, filled_by, loop_results}
 use Rattle.rdf_model.proofs.Accepted.{names_equal}
-use Rattle.graph_numbers.proofs.Listed.{by_test}
+use Rattle.graph_numbers.proofs.Walks.{by_test}
 use Rattle.graph.specs.{AreNamedInTurn, filled_count}
 use Rattle.graph.proofs.Filled.{filled_first}
 use Rattle.rdf_model.proofs.Turns.{place_within as place_kept}

@@ -4,18 +4,17 @@ use Rattle.lemmas.proofs.{All-from_recursion, AllByRecursion, cond_both, eqb-tru
 use Rattle.rdf_values.specs.{ActionAt, ActionKind, Booked, Booking, Pass, Path, Span, Filled, line, below, Column, fn_names, Function, FunctionNames, has_variations, named_before, passes_of, ReportOn, result_depends, Statement, Variation, variations, varied_passes, cut, history, is_watched, Lead}
 use Rattle.rdf_model.specs.{action_pass, booking_lines, Dataset, filled_lines, kind_in, kinds_in, label, loop_facts, over_clusters, pass_lines, pass_result, in_front, maximal_runs, partial_line, partial_result, Run, run_text, value_text, cutflow, filter_label, first_fault, Course, flow_lines, loop_of, partial_lines}
 use Rattle.actions.specs.{Accumulator}
-use Rattle.graph_numbers.proofs.Listed.{by_test, joined, next_at}
+use Rattle.graph_numbers.proofs.Walks.{by_test, joined, next_at, each_filter}
 use Rattle.loop_pieces.specs.{LoopPiece, StandsFor, ArePartialLines, IsPartialLine, PartialLine, span_of, Counts, counts_at, counts_of, cluster_fault, FilledResult, place_if_watched}
 use Rattle.loop_pieces.proofs.WholeLoops.{piece_holds_results, watch_piece_is_partial_result, piece_holds_counts, all_clusters_are_the_table}
 use Rattle.result_text.specs.{acc_lines, lines_from, AreRuns, run_of, runs_text, watch_line, watch_lines, counts_seen, flow_at, booking_text, filled_text, FitsBooking, FitsResult}
 use Rattle.event_loop.proofs.Found.{AreOf, kinds-append, own_kinds, passes_are_of}
-use Rattle.rdf_values.proofs.Below.{length-below}
+use Rattle.rdf_values.proofs.UnionLemmas.{length-below}
 use Rattle.graph_numbers.specs.{FilterAt, filters, graph_filters, GraphView, ResultAt, results, graph_results}
 use Rattle.graph_numbers.proofs.Covering.{AreNumbersOf, filters_are}
-use Rattle.graph_numbers.proofs.Extending.{itself}
-use Rattle.graph_numbers.proofs.Walks.{each_filter}
-use Rattle.loop_keys.proofs.Covered.{AreCovers, covers_are as booked_covers}
-use Rattle.rdf_values.proofs.Leading.{cuts_lead}
+use Rattle.graph_numbers.proofs.Placing.{itself}
+use Rattle.loop_keys.proofs.ReportTies.{AreCovers, covers_are as booked_covers}
+use Rattle.rdf_values.proofs.Evenly.{cuts_lead}
 use Rattle.loop_keys.specs.{passes_in}
 use Rattle.event_loop.specs.{ArePartials, FitsCourse, HasNoPartials, IsFilledIn, IsPlaced, IsResult, IsSession, IsUnfilled, job_facts, loop_filling, session_job, SessionView}
 use Rattle.event_loop.proofs.Accesses.{job_fault, noted_at}

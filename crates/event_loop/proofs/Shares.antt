@@ -5,9 +5,8 @@ use Rattle.loop_pieces.specs.{LoopPiece, HaveTrails, PartialLine, StandsFor}
 use Rattle.slot_words.specs.{ShareSeen, AreNoted, BookSeen, HasSameBody, HaveAllTrails, HavePartialsOver, HaveSameBodies, many_in, noted_sets}
 use Rattle.event_loop.specs.declared.gather.Done.{Done}
 use Rattle.event_loop.specs.{AllAreGoing, ArePieces, IsGoing, IsPieceOf, share_or_none, shares_in, AreNotedPartials, CanFill, dones_of, finished_by, HasNoted, IsBookOf, IsDone, JobFacts, orders_of}
-use Rattle.rdf_values.proofs.DrawCounts.{sum_by-map}
+use Rattle.rdf_values.proofs.UnionLemmas.{sum_by-map, length-below}
 use Rattle.rdf_values.specs.{below, DrawnBy, IsUnion}
-use Rattle.rdf_values.proofs.Below.{length-below}
 use Rattle.merge_core.specs.{Stand}
 use Rattle.rdf_model.specs.declared.loop_facts.LoopFacts.{LoopFacts}
 use Rattle.slot_words.specs.Shares as book

@@ -6,7 +6,7 @@ use denote.Param.Send.{IsSync, sendable}
 use denote.Param.SendFields.{declared_sync}
 use denote.Struct.Tuple.{TupleAt, type_at}
 use Rattle.std.proofs.Crossing.{crosses}
-use Rattle.rdf_values.proofs.SharedScript.{columns_sync}
+use Rattle.rdf_values.proofs.Shared.{columns_sync}
 use Rattle.columns.specs.contracts.cuts.Cuts.{the_row as cuts_row}
 use Rattle.columns.specs.contracts.columns.Columns.{the_row as columns_row}
 use Rattle.slot_words.proofs.book.Book.TheSendSync as book

@@ -1,24 +1,40 @@
--- A slot that finished no cluster, and one before and after a cluster.
-use Rattle.std.proofs.Common.{◌≡◌, ℕ, ◌<◌, ◌≤◌, List, [], ◌∷◌, ◌++◌, Option, None, Some, ap, subst, arith, slice_get, length, length-append, sym, ◌+◌, map, refl, ◌∙◌, All, replicate, unwrap_or}
-use Rattle.rdf_values.specs.{Fault, times, below, AnswerIn64Bits, Booked, history, named_before, Pass, StatementsHaveWords}
-use Rattle.rdf_values.proofs.DrawCounts.{rises_push, times_push}
+-- Each loop can note some chain of sets.
+use Rattle.std.proofs.Common.{ℕ, List, [], ◌∷◌, ◌∙◌, sym, refl, arith, ◌≡◌, ◌<◌, ◌≤◌, ◌++◌, Option, None, Some, ap, subst, slice_get, length, length-append, ◌+◌, map, All, replicate, unwrap_or}
+use Rattle.rdf_values.specs.{below, Fault, times, AnswerIn64Bits, Booked, history, named_before, Pass, StatementsHaveWords}
+use Rattle.rdf_values.proofs.UnionLemmas.{below_rises, both_rise, by_counts, none_rises, two, rises_push, times_push, length-below, slice_get-below}
+use Rattle.rdf_model.specs.{IsChain, IsLoopFacts, kinds_in, loop_facts, loop_passes, loop_results}
+use Rattle.slot_words.specs.{chain_of}
+use Rattle.slot_words.proofs.Noting.{is_chain}
 use Rattle.slot_words.proofs.Steps.{rising_room}
 use Rattle.event_loop.specs.{AreSound, IsSlotOf, job_facts, Phase, SlotView, IsFreshSlot, IsOfPasses}
 use Rattle.lemmas.proofs.{All-cons, All-contains, All-nil, All-weaker, AllPairs-from_increasing, common_steps, Contains-push, IsStrictlyIncreasing, length-map, map-append, mapped_at, something_at}
 use Rattle.std.specs.declared.snapshot.Snapshot.{Snapshot}
-use Rattle.rdf_values.proofs.Below.{length-below, slice_get-below}
 use Rattle.block_passes.specs.{at_end, CountsVectors, IsStateOf}
 use Rattle.loop_keys.specs.{facts_in, job_graph, job_spans, JobView, passes_in, IsJob}
 use Rattle.cluster_tally.specs.{at_begin, Holds, IsAtEnd, IsFresh}
 use Rattle.loop_pieces.specs.{cluster_fault, nothing, watched_places}
-use Rattle.rdf_model.specs.{IsLoopFacts, kinds_in, loop_facts, loop_passes, loop_results}
 use Rattle.rdf_model.proofs.Limits.{cuts_are_in_order, loops_meet_limits}
 use Rattle.graph_numbers.specs.{graph_loops, pass_at}
-use Rattle.graph_numbers.proofs.Extending.{itself}
+use Rattle.graph_numbers.proofs.Placing.{itself}
 use Rattle.graph_numbers.proofs.Looping.{loops_are}
 use Rattle.loop_keys.proofs.EntryLaws.{all_taken}
-use Rattle.cluster_tally.proofs.Stagings.{fresh_holds}
+use Rattle.cluster_tally.proofs.Pieces.{fresh_holds}
 use Rattle.event_loop.specs.declared.progress.Phase.TheVariants.{Going}
+
+-- one of two slots finishes all clusters in order
+abbrev by_one : ℕ → List (List ℕ)
+by_one c = [] ∷ below c ∷ []
+
+-- the sets that the slots note then
+abbrev pub first_sets : ℕ → ℕ → List (List ℕ)
+first_sets c g = chain_of (by_one c) (by_one c) c g
+
+pub first_sets_are_a_chain : (c g : ℕ) → IsChain c g (first_sets c g)
+first_sets_are_a_chain c g =
+    let u = by_counts (by_one c) (below c) (both_rise [] (below c) none_rises (below_rises c)) (below_rises c) (λ x. sym (two x [] (below c) ∙ omega arith)) in
+    is_chain (by_one c) (by_one c) c g record { unite = u; drawn = record { rising = u.sets_rise; each_once = u.each_once }; many = refl }
+
+-- ---- A slot that finished no cluster, and one before and after a cluster.
 
 -- one more cluster without a fault
 pub sound_more : (faults : List (Option Fault)) (done more : List ℕ) (n : ℕ) → AreSound faults done → slice_get faults n ≡ Some None → more ≡ done ++ n ∷ [] → AreSound faults more

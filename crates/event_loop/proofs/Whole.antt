@@ -6,9 +6,9 @@ use Rattle.event_loop.specs.declared.workers.Shared.{Shared}
 use Rattle.event_loop.specs.declared.workers.Slot.{Slot}
 use Rattle.event_loop.specs.{AreBlank, HasNoted, IsBlank, IsFresh, AreFacts, AreFilled, CanFill, dones_of, FilledLoop, HasRoom, IsBookOf, IsFilled, IsOpened, IsOutcome, job_facts, JobFacts, orders_of}
 use Rattle.rdf_values.specs.{Fault, first_in}
-use Rattle.rdf_values.proofs.Below.{length-below}
-use Rattle.rdf_values.proofs.Leading.{cuts_lead}
-use Rattle.columns.proofs.Leading.{few_ranges}
+use Rattle.rdf_values.proofs.UnionLemmas.{length-below}
+use Rattle.rdf_values.proofs.Evenly.{cuts_lead}
+use Rattle.columns.proofs.Clusters.{few_ranges}
 use Rattle.loop_keys.specs.{IsJob, job_spans, JobView}
 use Rattle.loop_pieces.proofs.ClusterFaults.{lower_clusters_fault_first}
 use Rattle.event_loop.specs.declared.gather.Done.{Done}

@@ -1,9 +1,5 @@
-pub mod Callees
 pub mod Calls
 pub mod Distinct
-pub mod Each
-pub mod Found
-pub mod Parts
 pub mod Plain
 pub mod Refused
 pub mod ScopeKinds

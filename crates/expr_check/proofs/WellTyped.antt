@@ -4,7 +4,7 @@ use Rattle.lemmas.proofs.{All-from_recursion, AllByRecursion, Decides-eqb, first
 use Rattle.rdf_values.specs.{args_count, Bin, Call, Callee, callee, Col, ColType, column_kind, columns_in, Cond, End, FnName, FunctionNames, GraphCause, kind_by, kind_of, kinds_by, kinds_in, Lit, More, NamedTree, Neg, Not, number_in, numbered, NumTree, Pick, ScopeColumn, Shape, shape, shape_of, Trees}
 use Rattle.rdf_values.specs.expressions.Expressions.{Truth}
 use Rattle.expr_check.specs.{AllCallsFit, callee_shape, CallsFit, checked_expr, CheckedExpr, distinct, given_shape, IsCallOf, IsWellTyped, num_kind, number_kind, numbers_in, NumbersHaveKinds}
-use Rattle.expr_check.proofs.Callees.{callee_shape-callee}
+use Rattle.expr_check.proofs.Calls.{callee_shape-callee}
 use Rattle.expr_check.proofs.Distinct.{each_distinct, each_from_distinct}
 use Rattle.expr_check.proofs.ScopeKinds.{number_kind-number_in, each_weaker, each_by_zip}
 use Rattle.expr_check.proofs.Typed.{kind_by-renamed, kind_by-same, columns_known, bind_ok, call_ok}

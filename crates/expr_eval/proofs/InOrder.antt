@@ -1,10 +1,27 @@
--- Elements one after the other.
-use Rattle.std.proofs.Common.{◌≡◌, ◌<◌, ◌+◌, ℕ, zero, suc, ℤ, pos, negsuc, List, [], ◌∷◌, ◌++◌, length, drop, get_or, ◌∙◌, append_assoc, refl, ap, sym, ◌+ℤ◌, fold, Bool, true, false, if◌then◌else◌}
+-- Operations whose left side may decide.
+use Rattle.std.proofs.Common.{◌≡◌, ℕ, Bool, true, false, None, Result, refl, ◌<◌, ◌+◌, zero, suc, ℤ, pos, negsuc, List, [], ◌∷◌, ◌++◌, length, drop, get_or, ◌∙◌, append_assoc, ap, sym, ◌+ℤ◌, fold, if◌then◌else◌}
+use Rattle.rdf_values.specs.{BinOp, Value, EntryFault}
+use Rattle.rdf_model.specs.{◌>>=◌, Gives, operation, Outcome, value_operation, checked, Faults, for_all, gives_int, is_set, marked, Needs, pairs, sum_from}
+use Rattle.expr_eval.specs.{AnswersAs, decision, EvalStop, following, StopsAs}
 use Rattle.std.proofs.lemmas.List.{at_drop_more}
-use Rattle.rdf_model.specs.{◌>>=◌, checked, Faults, for_all, Gives, gives_int, is_set, marked, Needs, Outcome, pairs, sum_from}
-use Rattle.rdf_values.specs.{EntryFault, Value}
-use Rattle.expr_eval.specs.{EvalStop, following, StopsAs}
 use Rattle.expr_eval.specs.declared.stop.EvalStop.TheVariants.{Fault, Need, Memory}
+
+leaves_open : (o : BinOp) (v : Value) (p : Outcome ℕ Value) → decision o v ≡ None → operation o (Gives v) p ≡ (p >>= value_operation o v)
+leaves_open BinOp.And (Value.Bool false) p e = absurd (cc)
+leaves_open BinOp.And (Value.Bool true) p e = refl
+leaves_open BinOp.And (Value.Int z) p e = refl
+leaves_open BinOp.And (Value.Vect zs) p e = refl
+leaves_open BinOp.Or (Value.Bool true) p e = absurd (cc)
+leaves_open BinOp.Or (Value.Bool false) p e = refl
+leaves_open BinOp.Or (Value.Int z) p e = refl
+leaves_open BinOp.Or (Value.Vect zs) p e = refl
+leaves_open o v p e = refl
+
+module _ (o : BinOp) (v : Value) (left right : Outcome ℕ Value) (given : left ≡ Gives v) where
+  pub both_sides : {B : Type 0} (view : B → Value) (w : Value) (r : Result B EvalStop) → decision o v ≡ None → right ≡ Gives w → AnswersAs view (value_operation o v w) r → AnswersAs view (operation o left right) r
+  both_sides view w r e h a = rw (given, leaves_open o v right e, h) a
+
+-- ---- Elements one after the other.
 
 following_one : {A : Type 0} (out : List A) (y : A) (o : Outcome ℕ (List A)) → following out (o >>= λ ys. Gives (y ∷ ys)) ≡ following (out ++ y ∷ []) o
 following_one out y (Gives ys) = ap Gives (sym (append_assoc out (y ∷ []) ys))

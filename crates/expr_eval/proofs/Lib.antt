@@ -1,5 +1,2 @@
-pub mod CheckedCalls
-pub mod Deciding
-pub mod InOrder
-pub mod KnownColumns
 pub mod OfItsKind
+pub mod InOrder

@@ -1,13 +1,5 @@
 pub mod Agreement
-pub mod ByValue
-pub mod Choices
 pub mod Composed
-pub mod Dense
-pub mod Gathered
-pub mod PartSteps
-pub mod Ready
-pub mod Rising
 pub mod Selected
 pub mod Sequence
 pub mod SiftSteps
-pub mod Whole

@@ -140,3 +140,12 @@ module _ {A : Type 0} (g : ℕ → Outcome ℕ A) (sel left last : List ℕ) (x 
     come = come_on k (at_place after) second.come;
     others = λ p h. second.others p (subst (λ (l : List ℕ). is_in p l ≡ false) (sym first.left_in) (filtered_out (λ q. is_given (g q)) p sel h)) ∙ kept p h;
   }
+
+-- ---- The arguments of a call, each in a lane of its own.
+
+-- one more argument
+pub gathered_more : (a : ℕ → Outcome ℕ ℤ) (f : ℕ → Outcome ℕ (List ℤ)) (sel left last : List ℕ) (z : ℕ → ℤ) (numbers : ℕ → List ℤ) (s0 s1 s2 : List Stopped)
+    → HasCome a sel left z s0 s1 → HasCome f left last numbers s1 s2 → HasCome (λ p. a p >>= λ x. f p >>= λ zs. Gives (x ∷ zs)) sel last (λ p. z p ∷ numbers p) s0 s2
+gathered_more a f sel left last z numbers s0 s1 s2 first rest =
+    come_on a sel left last z s0 s1 s2 first (λ p x. f p >>= λ zs. Gives (x ∷ zs)) (λ p. z p ∷ numbers p)
+    (come_on f left last last numbers s1 s2 s2 rest (λ p zs. Gives (z p ∷ zs)) (λ p. z p ∷ numbers p) (come_told (λ p. z p ∷ numbers p) last s2))

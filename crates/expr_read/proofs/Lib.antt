@@ -1,13 +1,9 @@
 pub mod Decided
 pub mod Examples
-pub mod FirstTokens
-pub mod ReadOnce
-pub mod ReadsBack
+pub mod TokenSteps
 pub mod Scanned
 pub mod Shown
-pub mod Spelled
 pub mod SpelledTree
-pub mod TokenSteps
 pub mod Took
 pub mod Unique
 pub mod ValidTokens

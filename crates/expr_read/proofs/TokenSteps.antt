@@ -1,8 +1,134 @@
--- One more token of a text.
-use Rattle.std.proofs.Common.{◌≡◌, ◌≤◌, ◌<◌, ◌+◌, ◌-◌, ◌∙◌, ℕ, suc, true, false, List, [], ◌∷◌, ◌++◌, length, get_or, drop, Ok, Err, arith, refl, ap, sym, add-zero, append_assoc, length-append, Result}
-use Rattle.lemmas.proofs.{append-nil, drop-drop, drop_all, drop_more, prefix_len}
-use Rattle.rdf_values.specs.{and_then, before, First, first_token, from, is_blank, Placed, Refusal, Token, tokens_at, tokens_within}
-use Rattle.rdf_values.specs.expressions.Tokens.{too_many}
+-- The first token of a text: how many bytes it takes, and what holds of it.
+use Rattle.std.proofs.Common.{◌≡◌, ◌≤◌, ◌<◌, ◌+◌, ℕ, Bool, true, false, List, [], ◌∷◌, length, Option, Some, None, Ok, Err, arith, refl, sym, ap, subst, ◌∙◌, length-take, length-drop, ◌-◌, get_or, drop, take, take_while, nat_le, codes, ◌||◌, MatchResult, IfSome, if◌then◌else◌, suc, ◌++◌, add-zero, append_assoc, length-append, Result}
+use Rattle.lemmas.proofs.{both_true, common_steps, drop_more, list_all, nat_tests, prefix_len, take_while-cons, append-nil, drop-drop, drop_all}
+use Rattle.rdf_values.specs.{First, first_token, is_digit, is_name, is_word, is_word_byte, is_word_start, long_first, long_mark, long_marks, magnitude_of, mark_first, number_first, number_found, Refusal, same, short_first, short_mark, short_marks, Token, word_first, word_token, and_then, before, from, is_blank, Placed, tokens_at, tokens_within}
+use Rattle.rdf_values.specs.expressions.Tokens.{mark_in, too_many}
+use Rattle.rdf_values.proofs.OneText.{magnitude_bound}
+use Rattle.expr_read.specs.{is_valid}
+
+-- a token has at least one byte, no more than there are, and is valid; a refusal stands within them
+abbrev pub IsFine : ℕ → First → Type 0
+IsFine n first = MatchResult first (λ t. (0 < t.1) × (t.1 ≤ n) × (is_valid t.0 ≡ true)) (λ e. e.place ≤ n)
+
+-- ---- runs
+
+passes_by : (p : ℕ → Bool) (x : ℕ) (xs : List ℕ) (b : Bool) → p x ≡ b → list_all p xs ≡ true → list_all p (if b then x ∷ xs else []) ≡ true
+passes_by p x xs true e h = rw e h
+passes_by p x xs false e h = refl
+
+pub run_passes : (p : ℕ → Bool) (xs : List ℕ) → list_all p (take_while p xs) ≡ true
+run_passes p [] = refl
+run_passes p (x ∷ xs) = rw take_while-cons (passes_by p x (take_while p xs) (p x) refl (run_passes p xs))
+
+pub word_run : (c : ℕ) (cs : List ℕ) → is_word_start c ≡ true → take_while is_word_byte (c ∷ cs) ≡ c ∷ take_while is_word_byte cs
+word_run c cs h = let first : is_word_byte c ≡ true = ap (λ (b : Bool). b || is_digit c) h in rw (take_while-cons, first) refl
+
+whole_word : (c : ℕ) (cs : List ℕ) → is_word_start c ≡ true → is_word (take_while is_word_byte (c ∷ cs)) ≡ true
+whole_word c cs h = rw (word_run c cs h, h) (run_passes is_word_byte cs)
+
+pub run_size : (p : ℕ → Bool) (xs : List ℕ) → length (take_while p xs) ≤ length xs
+run_size p xs = omega (arith, length-take {A = ℕ})
+
+run_begins : (p : ℕ → Bool) (x : ℕ) (xs : List ℕ) → p x ≡ true → 0 < length (take_while p (x ∷ xs))
+run_begins p x xs h = rw h (omega (arith, length-take {A = ℕ} (1 + prefix_len p xs) (x ∷ xs)))
+
+-- ---- words, numbers and marks
+
+named : (w : List ℕ) → is_word w ≡ true → nat_le (length w) 64 ≡ true → same w (codes "true") ≡ false → same w (codes "false") ≡ false → is_name w ≡ true
+unfolding is_name
+named w h few t f = rw (h, few, t, f) refl
+
+token_by : (w : List ℕ) (t f : Bool) → same w (codes "true") ≡ t → same w (codes "false") ≡ f → is_word w ≡ true → nat_le (length w) 64 ≡ true → is_valid (word_token w) ≡ true
+token_by w t f e g h few = grind (arith, named)
+
+word_fine : (w : List ℕ) (n : ℕ) (b : Bool) → nat_le (length w) 64 ≡ b → 0 < length w → length w ≤ n → is_word w ≡ true → IsFine n (word_first w)
+unfolding word_first
+word_fine w n true e h k r = rw e (h, k, token_by w (same w (codes "true")) (same w (codes "false")) refl refl r e)
+word_fine w n false e h k r = rw e (let long : 64 < length w = grind (arith, nat_tests) in omega arith)
+
+number_fine : (size n : ℕ) (o : Option ℕ) → ((m : ℕ) → o ≡ Some m → m ≤ 9223372036854775807) → 0 < size → size ≤ n → IsFine n (number_found size o)
+number_fine size n None low h k = omega arith
+number_fine size n (Some m) low h k = (h, k, let small = low m refl in grind (arith, nat_tests))
+
+run_fine : (ds : List ℕ) (n : ℕ) → 0 < length ds → length ds ≤ n → IsFine n (number_first ds)
+unfolding number_first
+run_fine ds n h k = number_fine (length ds) n (magnitude_of 9223372036854775807 ds) (λ m e. magnitude_bound 9223372036854775807 m ds e) h k
+
+abbrev IsValidMark : Option Token → Type 0
+IsValidMark o = IfSome o (λ t. is_valid t ≡ true)
+
+mark_by : (b : Bool) (t : Token) (o : Option Token) → is_valid t ≡ true → IsValidMark o → IsValidMark (if b then Some t else o)
+mark_by true t o h k = h
+mark_by false t o h k = k
+
+abbrev are_marks : List (List ℕ × Token) → Bool
+are_marks ms = list_all (λ m. is_valid m.1) ms
+
+mark_valid : (ms : List (List ℕ × Token)) (text : List ℕ) → are_marks ms ≡ true → IsValidMark (mark_in ms text)
+mark_valid [] text h = tt
+mark_valid (m ∷ ms) text h = let p = both_true (is_valid m.1) (are_marks ms) h in mark_by (same text m.0) m.1 (mark_in ms text) p.0 (mark_valid ms text p.1)
+
+short_fine : (c n : ℕ) → IsFine (n + 1) (short_first (short_mark c))
+unfolding short_mark
+short_fine c n = by_mark (short_mark c) (mark_valid short_marks (c ∷ []) refl)
+  where
+    by_mark : (o : Option Token) → IsValidMark o → IsFine (n + 1) (short_first o)
+    by_mark None v = omega arith
+    by_mark (Some t) v = (omega arith, omega arith, v)
+
+long_fine : (c d n : ℕ) → IsFine (n + 2) (long_first c (long_mark c d))
+unfolding long_mark
+long_fine c d n = by_mark (long_mark c d) (mark_valid long_marks (c ∷ d ∷ []) refl)
+  where
+    by_mark : (o : Option Token) → IsValidMark o → IsFine (n + 2) (long_first c o)
+    by_mark None v = let e : n + 2 ≡ (n + 1) + 1 = omega arith in rw e (short_fine c (n + 1))
+    by_mark (Some t) v = (omega arith, omega arith, v)
+
+mark_fine : (c : ℕ) (cs : List ℕ) → IsFine (length cs + 1) (mark_first c cs)
+mark_fine c [] = short_fine c 0
+mark_fine c (d ∷ cs) = let e : length (d ∷ cs) + 1 ≡ length cs + 2 = omega arith in rw e (long_fine c d (length cs))
+
+-- ---- the first token
+
+pub first_word : (c : ℕ) (cs : List ℕ) → is_word_start c ≡ true → first_token c cs ≡ word_first (take_while is_word_byte (c ∷ cs))
+unfolding first_token
+first_word c cs e = ap (λ (b : Bool). if b then word_first (take_while is_word_byte (c ∷ cs)) else (if is_digit c then number_first (take_while is_digit (c ∷ cs)) else mark_first c cs)) e
+
+pub first_number : (c : ℕ) (cs : List ℕ) → is_word_start c ≡ false → is_digit c ≡ true → first_token c cs ≡ number_first (take_while is_digit (c ∷ cs))
+unfolding first_token
+first_number c cs e h = grind arith
+
+pub first_mark : (c : ℕ) (cs : List ℕ) → is_word_start c ≡ false → is_digit c ≡ false → first_token c cs ≡ mark_first c cs
+unfolding first_token
+first_mark c cs e h = rw (e, h) refl
+
+fine_by : (c : ℕ) (cs : List ℕ) (b d : Bool) → is_word_start c ≡ b → is_digit c ≡ d → IsFine (length cs + 1) (first_token c cs)
+fine_by c cs true d e h =
+    let starts : is_word_byte c ≡ true = rw e refl in
+    subst (IsFine (length cs + 1)) (sym (first_word c cs e)) (word_fine (take_while is_word_byte (c ∷ cs)) (length cs + 1) _ refl (run_begins is_word_byte c cs starts) (omega (arith, run_size is_word_byte (c ∷ cs))) (whole_word c cs e))
+fine_by c cs false true e h =
+    subst (IsFine (length cs + 1)) (sym (first_number c cs e h)) (run_fine (take_while is_digit (c ∷ cs)) (length cs + 1) (run_begins is_digit c cs h) (omega (arith, run_size is_digit (c ∷ cs))))
+fine_by c cs false false e h = subst (IsFine (length cs + 1)) (sym (first_mark c cs e h)) (mark_fine c cs)
+
+pub fine : (c : ℕ) (cs : List ℕ) → IsFine (length cs + 1) (first_token c cs)
+fine c cs = fine_by c cs (is_word_start c) (is_digit c) refl refl
+
+fine_at : (text : List ℕ) (i : ℕ) (f : First) → i < length text → f ≡ first_token (get_or text i 0) (drop (i + 1) text) → IsFine (length text - i) f
+fine_at text i f h e =
+    let n : length text - i ≡ length (drop (i + 1) text) + 1 = omega (arith, length-drop (i + 1) text) in
+    rw (e, n) (fine (get_or text i 0) (drop (i + 1) text))
+
+pub token_sized : (text : List ℕ) (i : ℕ) (t : Token × ℕ) → i < length text → Ok t ≡ first_token (get_or text i 0) (drop (i + 1) text) → (0 < t.1) × (t.1 ≤ length text - i)
+token_sized text i t h e = let k = fine_at text i (Ok t) h e in (k.0, k.1)
+
+pub refusal_sized : (text : List ℕ) (i : ℕ) (e : Refusal) → i < length text → Err e ≡ first_token (get_or text i 0) (drop (i + 1) text) → e.place ≤ length text - i
+refusal_sized text i r h e = fine_at text i (Err r) h e
+
+-- the text from a place on, as a slice of it is seen
+pub from_place : (text : List ℕ) (i : ℕ) → i < length text → take (length text - i) (drop i text) ≡ get_or text i 0 ∷ drop (i + 1) text
+from_place text i h = rw (← drop_more text i 0 h) (grind (arith, common_steps))
+
+-- ---- One more token of a text.
 
 pub before_more : (ts us : List Placed) (r : Result (List Placed) Refusal) → before ts (before us r) ≡ before (ts ++ us) r
 before_more ts us (Ok vs) = ap Ok (sym (append_assoc ts us vs))

@@ -4,7 +4,7 @@ use Rattle.lemmas.proofs.{and_holds, prefix_len-le-length}
 use Rattle.rdf_values.specs.{and_then, bare, before, behind, blanks, earlier, ExprCause, First, first_token, from, is_blank, Placed, Refusal, tokens, tokens_at}
 use Rattle.rdf_values.specs.expressions.Tokens.{too_many}
 use Rattle.expr_read.specs.{are_valid, is_valid}
-use Rattle.expr_read.proofs.FirstTokens.{IsFine, fine}
+use Rattle.expr_read.proofs.TokenSteps.{IsFine, fine}
 
 -- each token stands before a place, or at it
 pub data StandBelow (end : ℕ) : List Placed → Type 0 where

@@ -3,12 +3,11 @@ use Rattle.std.proofs.Common.{◌≡◌, ◌≤◌, ◌<◌, ◌+◌, ℕ, ℤ, 
 use Rattle.std.specs.Prelude.{⊤}
 use Rattle.lemmas.proofs.{flat_map-append, get_or-append-add, get_or_append_left, remove, sum_by, sum_by-append, sum_by-cons, sum_by_more, take-append-drop}
 use Rattle.rdf_values.specs.{AreKept, below, cell_at, Cells, ColType, Column, count, FitRows, FitsColumn, HoldsTable, IsKept, rows_kept, Value}
-use Rattle.rdf_values.proofs.Below.{slice_get-below}
+use Rattle.rdf_values.proofs.UnionLemmas.{slice_get-below, sum_by-map as sum_map}
 use Rattle.rdf_values.proofs.KeptLemmas.{map_below}
 use Rattle.friend_join.specs.{AreBelow, AreEntries, AreSmall, column_elements, elements, elements_of, IsSmall, length_for, matched_cells, matched_elements, row_elements, vector_for}
 use Rattle.columns.specs.{joined}
 use Rattle.friend_join.proofs.Removing.{remove_nil, there}
-use Rattle.rdf_values.proofs.DrawCounts.{sum_by-map as sum_map}
 use Rattle.columns.proofs.InPieces.{joined_more}
 
 -- ---- a sum, element by element

@@ -2,7 +2,7 @@
 use Rattle.std.proofs.Common.{◌≡◌, ◌<◌, ◌+◌, ℕ, ℤ, zero, suc, pos, Bool, true, false, List, [], ◌∷◌, ◌++◌, length, map, filter, get_or, refl, ap, ap₂, ◌∙◌, sym, arith, Option, None, Some, length-append, cond, subst, option_map, slice_get, unwrap_or}
 use Rattle.lemmas.proofs.{int_eq, map-append, map-map, position_from, position_from-zero, remove, slice_get-map}
 use Rattle.rdf_values.specs.{AreKept, below, cell_at, Cells, ColType, Column, IsKept, rows_kept, TableView, Value}
-use Rattle.rdf_values.proofs.Below.{map-below, slice_get-below}
+use Rattle.rdf_values.proofs.UnionLemmas.{map-below, slice_get-below}
 use Rattle.rdf_values.proofs.KeptLemmas.{map_below}
 use Rattle.friend_join.specs.{AreBelow, AreInts, entry_of, first_or, friend_rows, gained, ints_in, joined_row, KeyedTable, keys_of, matched_cells, missing_row, missing_value, number_at, number_for, number_of, vector_for}
 use Rattle.friend_join.proofs.Removing.{map-remove, mapped, there}

@@ -2,8 +2,7 @@
 use Rattle.std.proofs.Common.{◌≡◌, ◌≤◌, ◌<◌, ◌+◌, ℕ, ℤ, List, ◌++◌, length, map, get_or, refl, ap, ap₂, ◌∙◌, sym, arith, subst, Option, Some, slice_get}
 use Rattle.lemmas.proofs.{length-map, length-remove, remove, sum_by}
 use Rattle.rdf_values.specs.{AreKept, Cells, ColType, Column, count, Has64Bits, HoldsTable, IsHeader, IsKept, kind_at, rows_kept, TableView, Value}
-use Rattle.rdf_values.proofs.KeptLemmas.{found_cells, kept_at, kept_within}
-use Rattle.rdf_values.proofs.RowPushed.{kept_length}
+use Rattle.rdf_values.proofs.KeptLemmas.{found_cells, kept_at, kept_within, kept_length}
 use Rattle.columns.specs.{ColumnPieces, whole}
 use Rattle.friend_join.specs.{AreBelow, AreEntries, AreInts, AreSmall, column_elements, elements, entry_of, first_repeat, ints_in, joined_row, joined_table, KeyedTable, keys_of, matched_cells, matched_elements}
 use Rattle.friend_join.proofs.Counting.{all_small, elements_joined, small_remove}

@@ -4,10 +4,10 @@ use Rattle.lemmas.proofs.{AllByRecursion, AllZip, and_holds, and_left_false, and
 use Rattle.rdf_values.specs.{all_renamed, among, AreAccepted, Bin, Call, callee, check, Col, ColType, Column, column_depends, column_kind, columns_in, columns_in_all, Cond, EachColumn, End, FunctionNames, is_own, is_variation_name, kind_of, Lit, made_columns, makes, More, named_depends, NamedTree, Neg, Not, own_variations, parent_of, path, Pick, place, renamed, same, scope_at, scope_of, shape_of, site_depends, Statement, target_of, Tree, Trees, Variation, variations, VaryValues, ActionAt, ActionKind, Booked, booked_by, bookings, check_columns, check_node, columns_of, expect_kind, filters_depend, GraphCause, history, may_begin, permitted_kinds, result_depends}
 use Rattle.rdf_values.specs.expressions.Expressions.{Truth}
 use Rattle.rdf_values.specs.declared.scripts.statement.Statement.TheVariants.{Define, Redefine, Vary, Filter, Action, Report}
-use Rattle.rdf_model.proofs.Accepted.{kind_known, checked_of, sound_path, visible_resolved, itself, both_none, kind_expected}
+use Rattle.rdf_model.proofs.Accepted.{kind_known, checked_of, sound_path, visible_resolved, itself, both_none, kind_expected, verdict_is_the_first_refusal}
 use Rattle.rdf_model.proofs.KnownColumns.{IsKnownColumn, known_columns, each_weaker}
 use Rattle.graph_numbers.specs.{column_place, holds_at, named_version, own_columns, own_version, version_at, version_count, version_or, depends_on, filter_sites, GraphView, IsGraph, own_filter_site, own_sites, ResultAt, results, site_count, SiteAt, sites}
-use Rattle.graph_numbers.proofs.Listed.{next_at, of_joined}
+use Rattle.graph_numbers.proofs.Walks.{next_at, of_joined, AreBelow, filter_sites_below}
 use Rattle.graph_numbers.proofs.Meeting.{In, here, there, each_at}
 use Rattle.graph.specs.{depends_at, expression_set, is_among_own, Numbers, own_version_sets, varied_set, version_sets, action_set, any_depends, own_result_sets, own_site_sets, result_sets, ResultSetsAreDependence, site_set, site_sets, SiteSetsAreDependence, VersionsDependAsColumns}
 use Rattle.graph.proofs.Listing.{any_map, named_at, no_place, any_none, got_first, holds_mapped, zip_both, zip_holds, zip_mapped}
@@ -15,8 +15,6 @@ use Rattle.std.specs.Prelude.{⊤}
 use Rattle.graph_numbers.proofs.Apart.{any_false, other_way, of_tags, tags_checked}
 use Rattle.rdf_values.specs.declared.scripts.graph_cause.GraphCause.TheVariants.{WrongType}
 use Rattle.graph_numbers.proofs.Placing.{own_placed}
-use Rattle.graph_numbers.proofs.Ranges.{AreBelow, filter_sites_below}
-use Rattle.rdf_model.proofs.Verdicts.{verdict_is_the_first_refusal}
 use Rattle.graph_numbers.proofs.Resulting.{booked_are}
 
 -- the variation w of number v is one of a Vary's own by its name exactly where it is by its number

@@ -4,7 +4,7 @@ use Rattle.lemmas.proofs.{append-nil, lt_false, lt_true, neither, take-append-dr
 use Rattle.rdf_values.specs.{among, AreAccepted, Booked, booked_by, bookings, check, check_node, filled, FunctionNames, GraphCause, has_variations, is_in_use, is_node, is_result, names_of, place, refuse_if, result_depends, same, Scope, Statement, Variation, variations}
 use Rattle.rdf_values.specs.declared.scripts.statement.Statement.TheVariants.{Print}
 use Rattle.rdf_model.proofs.Accepted.{both_none, if_fails, unless_holds, itself}
-use Rattle.graph_numbers.proofs.Listed.{of_joined}
+use Rattle.graph_numbers.proofs.Walks.{of_joined}
 use Rattle.graph_numbers.specs.{holds_at, numbered_pass, passes_from, places_from, result_passes}
 use Rattle.graph.specs.declared.tables.ResultRow.{ResultRow}
 use Rattle.graph.specs.{AreNamedInTurn, AreRowsOf, filled_count, has, IsNamedInTurn, IsRowOf, members_from, passes_of_row, passes_of_rows}

@@ -1,28 +1,45 @@
--- The first line that is refused, the fields of a finished graph, and what they say of its numbers.
-use Rattle.std.proofs.Common.{◌≡◌, ℕ, List, [], ◌∷◌, ◌++◌, map, Option, Some, None, option_map, refl, sym, ◌∙◌, ap, subst, reverse, length, arith, inl, inr, ◌≤◌, Bool, slice_get, length-append, option_and_then}
-use Rattle.lemmas.proofs.{All, All-map, All-permutation, AllByRecursion, AllZip-long, IsPermutation-reverse, length-map, map_next, recursion_from_All, reverse-append, reverse-reverse, slice_get-map}
-use Rattle.rdf_values.specs.{AreAccepted, check, Column, FunctionNames, history, Line, Scope, scope_of, Script, Statement, verdict, verdict_after, Booked, bookings, is_watched, IsBookable, IsHeader, IsShort, result_depends, variations, named_before}
-use Rattle.rdf_model.proofs.Verdicts.{onto}
-use Rattle.graph.specs.{GraphRefusal, IsRefusal, refused, refused_then, statements, AreAbove, AreLoops, AreNamedInTurn, AreRows as AreCheckRows, AreRowsOf, AreSourcesOf, AreTables, IsBooked, IsRow, IsRowOf, refused_at, result_sets, ResultSetsAreDependence, SiteSetsAreDependence, view_of, filler_of, has, IsSet, labels, paths, result_path, VarSet}
+-- What a booked graph, or a refusal, says of the verdict.
+use Rattle.std.proofs.Common.{◌≡◌, ◌∙◌, Err, None, Ok, Option, Result, Some, inl, inr, refl, ℕ, List, [], ◌∷◌, ◌++◌, map, option_map, sym, ap, subst, reverse, length, arith, ◌≤◌, Bool, slice_get, length-append, option_and_then}
 use Rattle.rdf_values.specs.Answered.{Refuses}
+use Rattle.rdf_values.specs.{GraphCause, AreAccepted, check, Column, FunctionNames, history, Line, Scope, scope_of, Script, Statement, verdict, verdict_after, Booked, bookings, is_watched, IsBookable, IsHeader, IsShort, result_depends, variations, named_before}
+use Rattle.graph_numbers.specs.{booked_unless, GraphView, booked, booked_statements, graph_prints, graph_results, graph_runs, graph_sources, graph_variations, holds_at, IsGraph, ResultAt, Version, FilterAt, graph_filters, graph_sites, IsSiteExpr, result_depends_at, site_depends_at}
+use Rattle.graph.specs.{GraphRefusal, refused_at, IsRefusal, refused, refused_then, statements, AreAbove, AreLoops, AreNamedInTurn, AreRows as AreCheckRows, AreRowsOf, AreSourcesOf, AreTables, IsBooked, IsRow, IsRowOf, result_sets, ResultSetsAreDependence, SiteSetsAreDependence, view_of, filler_of, has, IsSet, labels, paths, result_path, VarSet}
+use Rattle.lemmas.proofs.{All, All-map, All-permutation, AllByRecursion, AllZip-long, IsPermutation-reverse, length-map, map_next, recursion_from_All, reverse-append, reverse-reverse, slice_get-map}
+use Rattle.rdf_model.proofs.Accepted.{onto}
 use Rattle.rdf_values.specs.declared.scripts.statement.Statement.TheVariants.{Print}
 use Rattle.rdf_model.specs.{Access, accesses, filled_by, loop_of, loop_results}
 use Rattle.graph_numbers.proofs.Resulting.{booked_are}
-use Rattle.graph_numbers.specs.{booked, booked_statements, booked_unless, graph_prints, graph_results, graph_runs, graph_sources, graph_variations, GraphView, holds_at, IsGraph, ResultAt, Version, FilterAt, graph_filters, graph_sites, IsSiteExpr, result_depends_at, site_depends_at}
-use Rattle.graph_numbers.proofs.Extending.{itself, versions_count}
+use Rattle.graph_numbers.proofs.Placing.{itself, versions_count}
 use Rattle.graph_numbers.proofs.Looping.{runs_are}
 use Rattle.graph.specs.declared.tables.ResultRow.{ResultRow}
 use Rattle.graph.specs.declared.tables.Tables.{Tables}
 use Rattle.graph.specs.declared.loops.LoopTables.{LoopTables}
-use Rattle.graph.proofs.SiteTotals.{filters_few, versions_are, sites_fit, filters_are, labels_are, sites_counted}
+use Rattle.graph.proofs.SiteTotals.{filters_few, versions_are, sites_fit, filters_are, labels_are, sites_counted, versions_above}
 use Rattle.graph.proofs.Depending.{site_set_count as sets_counted}
 use Rattle.graph.proofs.Filled.{all_in_turn}
 use Rattle.graph.proofs.Looped.{bookings_few, loops_few, unwrapped}
 use Rattle.graph.proofs.Listing.{zip_by, zip_map, zip_at, row_set, set_at}
-use Rattle.graph.proofs.Sourced.{versions_above}
 use Rattle.graph_numbers.proofs.VersionSources.{version_source}
 use Rattle.expr_check.specs.{CheckedExpr}
 use Rattle.graph.specs.declared.tables.ResultPath.{ResultPath}
+
+pub refusal_of : (wanted : Result GraphView (ℕ × GraphCause)) (line : ℕ) (cause : GraphCause) → Refuses refused_at GraphRefusal.Memory wanted (GraphRefusal.At line cause) → wanted ≡ Err (line, cause)
+refusal_of wanted line cause (inl e) = absurd (cc e)
+refusal_of wanted line cause (inr h) =
+    let e = h.1 in
+    let p : h.0.0 ≡ line = cc e in
+    let q : h.0.1 ≡ cause = cc e in
+    h.2 ∙ (λ i. Err (p i, q i))
+
+pub refused_verdict : (g : GraphView) (v : Option (ℕ × GraphCause)) (c : ℕ × GraphCause) → ◌≡◌ {A = Result GraphView (ℕ × GraphCause)} (booked_unless g v) (Err c) → v ≡ Some c
+refused_verdict g None c e = absurd (cc e)
+refused_verdict g (Some d) c e = cc e
+
+pub accepted_verdict : (g h : GraphView) (v : Option (ℕ × GraphCause)) → ◌≡◌ {A = Result GraphView (ℕ × GraphCause)} (booked_unless g v) (Ok h) → (v ≡ None) × (h ≡ g)
+accepted_verdict g h None e = (refl, (cc e))
+accepted_verdict g h (Some d) e = absurd (cc e)
+
+-- ---- The first line that is refused, the fields of a finished graph, and what they say of its numbers.
 
 map_back : {A B : Type 0} (f : A → B) (xs : List A) → map f (reverse xs) ≡ reverse (map f xs)
 map_back f [] = refl

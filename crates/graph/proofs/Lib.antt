@@ -10,6 +10,4 @@ pub mod Looped
 pub mod Scoping
 pub mod Shared
 pub mod SiteTotals
-pub mod Sourced
-pub mod Verdicts
 pub mod Walking

@@ -5,7 +5,7 @@ use Rattle.rdf_values.specs.{among, Booked, booked_by, bookings, filled, Line, n
 use Rattle.rdf_values.specs.declared.scripts.statement.Statement.TheVariants.{Print}
 use Rattle.rdf_model.proofs.Accepted.{names_equal, itself}
 use Rattle.rdf_model.specs.{Access, accesses, filled_by, loop_results}
-use Rattle.graph_numbers.proofs.Listed.{of_joined}
+use Rattle.graph_numbers.proofs.Walks.{of_joined}
 use Rattle.graph_numbers.specs.{loops, own_loop, own_run, Pass, passes_from, result_number, runs}
 use Rattle.graph.specs.{AreLoops, AreNamedInTurn, AreRowsOf, BeginsWith, filled_count, filler_of, IsNamedInTurn, IsNoted, IsRowOf, passes_of_rows, statements}
 use Rattle.graph.specs.declared.tables.ResultRow.{ResultRow}

@@ -8,8 +8,7 @@ use Rattle.std.below.std_heap.specs.contracts.GlobalAllocator.TheImpl.{ghosts}
 use Rattle.rdf_values.specs.contracts.scripts.script.Line.{the_row as line_row}
 use Rattle.rdf_values.specs.contracts.list.ListOf.{the_row as list_row}
 use Rattle.rdf_values.specs.contracts.expressions.fn_names.FnName.{the_row as fn_name_row}
-use Rattle.rdf_values.proofs.SharedExpr.{name_sync}
-use Rattle.rdf_values.proofs.SharedScript.{line_sync, list_sync, columns_sync}
+use Rattle.rdf_values.proofs.Shared.{name_sync, line_sync, list_sync, columns_sync}
 use Rattle.rdf_values.proofs.SharedNum.{num_expr_sync}
 use Rattle.expr_check.specs.contracts.checked.Checked.{the_row as checked_row}
 use Rattle.expr_check.specs.contracts.checked.Checked.TheInside.{the_row as checked_inside_row}

@@ -6,7 +6,7 @@ use Rattle.rdf_values.specs.declared.scripts.statement.Statement.TheVariants.{Va
 use Rattle.rdf_model.specs.{same_site, Site}
 use Rattle.rdf_model.proofs.Accepted.{all_none, both_none, if_fails, names_equal, itself, turned}
 use Rattle.graph_numbers.specs.{list_sites, lists_sites, own_sites, SiteAt, sites}
-use Rattle.graph_numbers.proofs.Listed.{by_test, joined, only_at}
+use Rattle.graph_numbers.proofs.Walks.{by_test, joined, only_at}
 
 -- ---- lists without two elements that are alike
 

@@ -9,18 +9,17 @@ use Rattle.rdf_model.proofs.Evaluations.{evaluate_renamed, call_known}
 use Rattle.graph_numbers.specs.{filter_sites, HasFilters, HasInputs, HasSourceIn, IfGiven, IfPassed, meets, own_filter_site, site_count, site_in, SiteAt, sites, Source, source_in, sources, through_sites, version_at}
 use Rattle.lemmas.proofs.{append-nil, get_or_from_slice_get}
 use Rattle.graph_numbers.proofs.Apart.{site_number}
-use Rattle.graph_numbers.proofs.Extending.{Extends, shorter}
+use Rattle.graph_numbers.proofs.Placing.{Extends, shorter, IsPlaced, placed}
 use Rattle.graph_numbers.proofs.ColumnSources.{HasDemandsOf, column_demanded, column_source, demands}
 use Rattle.graph_numbers.proofs.Demands.{demand_of, AreExplained, own_site}
 use Rattle.graph_numbers.proofs.Equations.{number_value, version_value, source_is, source_later}
 use Rattle.rdf_model.proofs.KnownColumns.{IsKnownColumn, known_columns, each_weaker}
-use Rattle.graph_numbers.proofs.Listed.{by_test}
+use Rattle.graph_numbers.proofs.Walks.{by_test}
 use Rattle.graph_numbers.proofs.Meeting.{each_at, In, here, in_left, in_right, met_name}
 use Rattle.rdf_model.specs.Alike as alike
 use Rattle.rdf_model.specs.Alike.{Alike}
 use Rattle.rdf_model.proofs.Missing.{named_alike, alike_is, call_alike}
 use Rattle.graph_numbers.proofs.Passing.{through_is, AreVisible, action_visible}
-use Rattle.graph_numbers.proofs.Placing.{IsPlaced, placed}
 use Rattle.graph_numbers.proofs.Origins as origin
 
 with_needs_known : {M A : Type 0} (o : Outcome ⊥ A) → IsKnown (with_needs {M = M} o)

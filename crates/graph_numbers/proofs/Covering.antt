@@ -6,9 +6,8 @@ use Rattle.rdf_values.specs.{ActionAt, ActionKind, Column, covered, fn_names, Fu
 use Rattle.rdf_values.specs.declared.scripts.statement.Statement.TheVariants.{Filter, Action, Report}
 use Rattle.rdf_model.specs.{◌>>=◌, Outcome, report_outcome, site_at, through}
 use Rattle.graph_numbers.specs.{all_or, condition_in, condition_of, conditions_on, covered_at, filter_sites, FilterAt, filters, FiltersAreTheScripts, filters_on, numbers_from, own_filter, own_filter_site, own_filters, own_sites, report_numbers, ReportsCoverFilters, ResultAt, results, site_count, site_in, sites, through_filter, through_sites}
-use Rattle.graph_numbers.proofs.Listed.{by_test, next_at}
-use Rattle.graph_numbers.proofs.Walks.{each_filter, each_result}
-use Rattle.graph_numbers.proofs.Extending.{Extends, itself, further, kept, site_kept, shorter}
+use Rattle.graph_numbers.proofs.Walks.{by_test, next_at, each_filter, each_result}
+use Rattle.graph_numbers.proofs.Placing.{Extends, itself, further, kept, site_kept, shorter}
 use Rattle.graph_numbers.proofs.Equations.{number_value}
 use Rattle.graph_numbers.proofs.Passing.{through_statement, through_is}
 

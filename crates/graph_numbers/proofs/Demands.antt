@@ -5,8 +5,8 @@ use Rattle.rdf_values.specs.declared.scripts.statement.Statement.TheVariants.{De
 use Rattle.rdf_values.specs.declared.scripts.vary_values.VaryValues.TheVariants.{Lists, Vector}
 use Rattle.rdf_model.specs.{booking_demands, column_demands, column_value, Demand, demands_after, expression_at, filter_demands, input_demands, met_columns, named_demands, Outcome, own_place, projected, site_at, site_demands, tag_demands, through, varied}
 use Rattle.graph_numbers.specs.{lists_sites, own_sites, site_count, site_in, SiteAt, sites}
-use Rattle.graph_numbers.proofs.Listed.{by_test, next_at}
-use Rattle.graph_numbers.proofs.Extending.{Extends, site_kept, shorter}
+use Rattle.graph_numbers.proofs.Walks.{by_test, next_at}
+use Rattle.graph_numbers.proofs.Placing.{Extends, site_kept, shorter}
 use Rattle.graph_numbers.proofs.Meeting.{In, here, there, in_joined, in_left, in_right}
 use Rattle.graph_numbers.proofs.Origins.{lists_site_at}
 

@@ -3,14 +3,12 @@ use Rattle.std.proofs.Common.{◌≡◌, ℕ, ◌<◌, ◌≤◌, List, [], leng
 use Rattle.std.proofs.lemmas.Option.{get_or_from_slice_get, slice_get_within}
 use Rattle.rdf_values.specs.{AreAccepted, callee, Column, column_kind, EachColumn, fn_names, Function, path, renamed, scope_at, scope_of, shape_of, Statement, Tree, Under, Value}
 use Rattle.rdf_model.specs.{call_outcome, column_value, evaluate, named_call, Outcome}
-use Rattle.rdf_model.proofs.Close.{Close, same, missing, evaluate_close}
-use Rattle.rdf_model.proofs.Evaluations.{evaluate_renamed}
+use Rattle.rdf_model.proofs.Evaluations.{Close, same, missing, evaluate_close, evaluate_renamed}
 use Rattle.graph_numbers.specs.{IsBelow, site_count, site_in, site_outcome, site_value, SiteAt, sites, Source, source_in, source_value, sources, version_at, version_count}
-use Rattle.graph_numbers.proofs.Extending.{Extends, source_kept, source_count}
+use Rattle.graph_numbers.proofs.Placing.{Extends, source_kept, source_count, each_version, placed}
 use Rattle.rdf_model.proofs.KnownColumns.{known_columns, each_weaker, IsKnownColumn}
 use Rattle.graph_numbers.proofs.Origins as origin
 use Rattle.graph_numbers.proofs.ColumnSources.{IsGiven, HasSource, column_source, values}
-use Rattle.graph_numbers.proofs.Placing.{each_version, placed}
 
 -- ---- looks that agree
 

@@ -1,4 +1,4 @@
-pub mod Listed
+pub mod Walks
 pub mod Apart
 pub mod Bookable
 pub mod Closing
@@ -7,15 +7,11 @@ pub mod Covering
 pub mod Demands
 pub mod Equations
 pub mod Examples
-pub mod Extending
+pub mod Placing
 pub mod Looping
 pub mod Meeting
 pub mod Origins
 pub mod Passing
-pub mod Placing
-pub mod Ranges
 pub mod Reporting
 pub mod Resulting
-pub mod VersionKinds
 pub mod VersionSources
-pub mod Walks

@@ -5,8 +5,8 @@ use Rattle.rdf_values.specs.{among, Booked, booked_by, bookings, filled, Pass, p
 use Rattle.rdf_values.specs.declared.scripts.statement.Statement.TheVariants.{Print}
 use Rattle.rdf_model.specs.{Access, accesses, filled_by, loop_passes, loop_results}
 use Rattle.graph_numbers.specs.{loops, numbered_pass, own_loop, own_run, Pass as NumberedPass, pass_at, passes_from, places_from, result_passes, runs}
-use Rattle.graph_numbers.proofs.Extending.{Extends, itself, further, kept, shorter}
-use Rattle.graph_numbers.proofs.Listed.{by_test, next_at}
+use Rattle.graph_numbers.proofs.Placing.{Extends, itself, further, kept, shorter}
+use Rattle.graph_numbers.proofs.Walks.{by_test, next_at}
 
 pub booked_kept : (before after : List Statement) → Extends before after → (k : ℕ) (b : Booked) → slice_get (bookings before) k ≡ Some b → slice_get (bookings after) k ≡ Some b
 booked_kept = kept bookings booked_by (λ before s. refl)

@@ -8,8 +8,8 @@ use Rattle.rdf_model.specs.{cell, expression_at, own_place, site_at, varied}
 use Rattle.rdf_model.proofs.Accepted.{both_none, unless_holds, passed_over, sound_path, checked_of, target_is_none, own_within, lists_kind, visible_resolved}
 use Rattle.graph_numbers.specs.{cell_sources, cell_value, column_place, list_sites, list_start, lists_sites, named_version, own_sites, own_source, own_sources, own_version, site_count, site_in, SiteAt, sites, Source, source_in, sources, varied_sources, version_at, version_count, version_or}
 use Rattle.graph_numbers.proofs.Bookable.{list_count}
-use Rattle.graph_numbers.proofs.Listed.{by_test, next_at, place_gives}
-use Rattle.graph_numbers.proofs.Extending.{Extends, itself, further, site_kept, source_kept, source_count}
+use Rattle.graph_numbers.proofs.Walks.{by_test, next_at, place_gives}
+use Rattle.graph_numbers.proofs.Placing.{Extends, itself, further, site_kept, source_kept, source_count}
 
 -- ---- the table's columns
 

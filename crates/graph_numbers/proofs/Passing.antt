@@ -7,8 +7,8 @@ use Rattle.rdf_values.specs.declared.scripts.statement.Statement.TheVariants.{Fi
 use Rattle.rdf_model.specs.{◌>>=◌, action_outcome, column_value, expression_value, feed_outcome, for_all, Gives, Outcome, site_at, Skip, through, truth_of}
 use Rattle.rdf_model.proofs.Accepted.{all_none}
 use Rattle.graph_numbers.specs.{filter_sites, own_filter_site, site_count, site_in, site_outcome, site_value, sites, through_sites, version_at}
-use Rattle.graph_numbers.proofs.Listed.{by_test, next_at}
-use Rattle.graph_numbers.proofs.Extending.{shorter, Extends, site_kept}
+use Rattle.graph_numbers.proofs.Walks.{by_test, next_at}
+use Rattle.graph_numbers.proofs.Placing.{shorter, Extends, site_kept}
 use Rattle.graph_numbers.proofs.ColumnSources.{column_source}
 use Rattle.graph_numbers.proofs.Equations.{number_value, version_value, source_is, source_later}
 

@@ -8,7 +8,7 @@ use Rattle.graph_numbers.specs.{FilterAt, filters, HasFilters, HasInputs, IfPass
 use Rattle.graph_numbers.proofs.Closing.{IsDemanded, action_demanded, filter_statement, filters_demanded}
 use Rattle.graph_numbers.proofs.Demands.{AreExplained, action_explained, filter_statement as filter_explained, filters_explained}
 use Rattle.graph_numbers.proofs.Equations.{number_value, version_value}
-use Rattle.graph_numbers.proofs.Extending.{Extends, shorter}
+use Rattle.graph_numbers.proofs.Placing.{Extends, shorter}
 use Rattle.graph_numbers.proofs.Walks.{each_filter, each_result}
 
 module _ (fns : List Function) (columns : List Column) (row : List Value) (before : List Statement) (good : AreAccepted (fn_names fns) (scope_of columns) before) where

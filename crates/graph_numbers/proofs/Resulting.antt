@@ -5,7 +5,7 @@ use Rattle.rdf_values.specs.{AreAccepted, booked_by, bookings, Column, covered, 
 use Rattle.rdf_values.specs.declared.scripts.statement.Statement.TheVariants.{Action, Report}
 use Rattle.rdf_model.specs.{booking_outcome, Entry, Outcome}
 use Rattle.graph_numbers.specs.{booking_numbers, covered_at, filters, own_results, ResultAt, results}
-use Rattle.graph_numbers.proofs.Extending.{Extends, shorter}
+use Rattle.graph_numbers.proofs.Placing.{Extends, shorter}
 use Rattle.graph_numbers.proofs.Equations.{number_value, version_value}
 use Rattle.graph_numbers.proofs.Passing.{action_is}
 use Rattle.graph_numbers.proofs.Walks.{each_result}

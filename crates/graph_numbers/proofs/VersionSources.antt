@@ -8,9 +8,9 @@ use Rattle.rdf_model.specs.{own_place}
 use Rattle.rdf_model.proofs.Accepted.{all_none, both_none, checked_of, if_fails, itself as same_as_itself, names_equal, no_target, unless_holds, visible_known}
 use Rattle.graph_numbers.specs.{cell_sources, cell_versions, IsSourceOf, list_start, named_version, numbers_from, own_source, own_sources, own_versions, site_count, Source, source_in, sources, tag_source, under_at, varied_sources, varied_version, varied_versions, Version, version_kinds, versions}
 use Rattle.graph_numbers.proofs.Apart.{variation_number}
-use Rattle.graph_numbers.proofs.Extending.{Extends, itself, further, kept, shorter, source_count, source_kept, versions_count}
-use Rattle.graph_numbers.proofs.Listed.{by_test, joined, next_at, place_gives}
-use Rattle.graph_numbers.proofs.VersionKinds.{kind_count, visible_kind}
+use Rattle.graph_numbers.proofs.Placing.{Extends, itself, further, kept, shorter, source_count, source_kept, versions_count}
+use Rattle.graph_numbers.proofs.Walks.{by_test, joined, next_at, place_gives}
+use Rattle.graph_numbers.proofs.Meeting.{kind_count, visible_kind}
 
 -- ---- places of names and numbers
 

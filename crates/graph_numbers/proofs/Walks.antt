@@ -1,9 +1,43 @@
--- What holds of each named filter and of each result where it is booked, and goes on to hold, holds of all.
-use Rattle.std.proofs.Common.{◌≡◌, ℕ, List, [], ◌∷◌, ◌++◌, map, Some, subst, slice_get}
-use Rattle.rdf_values.specs.{ActionAt, ActionKind, Column, columns_of, covered, FunctionNames, NamedTree, path, ReportOn, Statement}
+-- Elements of lists by their places, and tests by their two answers.
+use Rattle.std.proofs.Common.{◌≡◌, ◌⊎◌, inl, inr, ℕ, zero, suc, ◌+◌, Bool, true, false, List, [], ◌∷◌, ◌++◌, length, Some, refl, sym, ◌∙◌, ap, arith, slice_get, zero-add, map, subst, ◌<◌, ◌≤◌, length-append}
+use Rattle.rdf_values.specs.{place, same, ActionAt, ActionKind, Column, columns_of, covered, FunctionNames, NamedTree, path, ReportOn, Statement, parent_of}
+use Rattle.rdf_model.proofs.Accepted.{names_equal, place_after}
 use Rattle.rdf_values.specs.declared.scripts.statement.Statement.TheVariants.{Filter, Action, Report}
-use Rattle.graph_numbers.specs.{covered_at, filter_sites, FilterAt, filters, own_filters, own_results, ResultAt, results, site_count, version_at}
-use Rattle.graph_numbers.proofs.Listed.{joined, only_at}
+use Rattle.graph_numbers.specs.{covered_at, filter_sites, FilterAt, filters, own_filters, own_results, ResultAt, results, site_count, version_at, own_filter_site, own_sites, sites}
+use Rattle.lemmas.proofs.{AllByRecursion, append-nil}
+
+pub by_test : {P : Type 0} (b : Bool) → (b ≡ true → P) → (b ≡ false → P) → P
+by_test true f g = f refl
+by_test false f g = g refl
+
+-- what stands in the second one
+pub next_at : {A : Type 0} (xs ys : List A) (k n : ℕ) → n ≡ length xs + k → slice_get (xs ++ ys) n ≡ slice_get ys k
+next_at [] ys k n h = ap (slice_get ys) (h ∙ zero-add k)
+next_at (x ∷ xs) ys k zero h = absurd (omega (arith, h))
+next_at (x ∷ xs) ys k (suc n) h = next_at xs ys k n (omega (arith, h))
+
+-- an element stands in the first list, or in the second one
+pub joined : {A P : Type 0} (xs ys : List A) (n : ℕ) (x : A) → slice_get (xs ++ ys) n ≡ Some x → (slice_get xs n ≡ Some x → P) → ((k : ℕ) → n ≡ length xs + k → slice_get ys k ≡ Some x → P) → P
+joined [] ys n x h first second = second n (sym (zero-add n)) h
+joined (y ∷ xs) ys zero x h first second = first h
+joined (y ∷ xs) ys (suc n) x h first second = joined xs ys n x h first (λ k e q. second k (omega (arith, e)) q)
+
+pub of_joined : {A : Type 0} (xs ys : List A) (n : ℕ) (x : A) → slice_get (xs ++ ys) n ≡ Some x → (slice_get xs n ≡ Some x) ⊎ ((k : ℕ) × (n ≡ length xs + k) × (slice_get ys k ≡ Some x))
+of_joined xs ys n x h = joined xs ys n x h (λ q. inl q) (λ k e q. inr (k, e, q))
+
+-- what stands in a list of one
+pub only_at : {A : Type 0} (x y : A) (k : ℕ) → slice_get (x ∷ []) k ≡ Some y → x ≡ y
+only_at x y zero h = cc h
+only_at x y (suc k) h = cc h
+
+-- a name stands at its place
+pub place_gives : (name : List ℕ) (names : List (List ℕ)) (k : ℕ) → place (same name) names ≡ Some k → slice_get names k ≡ Some name
+place_gives name [] k h = cc h
+place_gives name (x ∷ xs) k h =
+    by_test (same name x) (λ e. let first : 0 ≡ k = cc (rw e at h) in rw (← first) (ap Some (sym (names_equal name x e))))
+    (λ e. let w = place_after (place (same name) xs) k (rw e at h) in rw (← w.2) (place_gives name xs w.0 w.1))
+
+-- ---- What holds of each named filter and of each result where it is booked, and goes on to hold, holds of all.
 
 module _ (header : List Column) (names : FunctionNames) where
   abbrev filter_at : List Statement → List ℕ → List ℕ → NamedTree → List ℕ → FilterAt
@@ -56,3 +90,36 @@ module _ (header : List Column) (names : FunctionNames) where
       own (Action result parent kind) k q = subst (P (Action result parent kind ∷ before)) (only_at (action_at before result parent kind) r k q) (action before result parent kind)
       own (Report result parent) k q = subst (P (Report result parent ∷ before)) (only_at (report_at before result parent) r k q) (report before result parent)
       own s k q = cc q
+
+-- ---- The sites of filters are sites.
+
+abbrev pub AreBelow : ℕ → List ℕ → Type 0
+AreBelow n ss = AllByRecursion (λ (s : ℕ). s < n) ss
+
+pub further_below : (m n : ℕ) (ss : List ℕ) → m ≤ n → AreBelow m ss → AreBelow n ss
+further_below m n [] le h = tt
+further_below m n (s ∷ ss) le h = (let q = h.0 in omega (arith, q, le), further_below m n ss le h.1)
+
+one_further : (n s : ℕ) (ss : List ℕ) → s < n → AreBelow n ss → AreBelow n (ss ++ s ∷ [])
+one_further n s [] lt h = (lt, tt)
+one_further n s (t ∷ ss) lt h = (h.0, one_further n s ss lt h.1)
+
+module _ (header : List Column) (names : FunctionNames) where
+  more_sites : (before : List Statement) (s : Statement) → site_count header names before ≤ site_count header names (s ∷ before)
+  more_sites before s = let e = length-append (sites header names before) (own_sites header names before s) in omega (arith, e)
+
+  own_below : (before : List Statement) (s : Statement) (ss : List ℕ) → AreBelow (site_count header names before) ss → AreBelow (site_count header names (s ∷ before)) (ss ++ own_filter_site s (site_count header names before))
+  own_below before (Filter node parent expr label) ss h =
+      let e = length-append (sites header names before) (own_sites header names before (Filter node parent expr label)) in
+      one_further _ (site_count header names before) ss (omega (arith, e)) (further_below _ _ ss (more_sites before (Filter node parent expr label)) h)
+  own_below before s ss h = subst (AreBelow (site_count header names (s ∷ before))) (sym (append-nil ss)) (further_below _ _ ss (more_sites before s) h)
+
+  pub filter_sites_below : (before : List Statement) (node : List ℕ) → AreBelow (site_count header names before) (filter_sites header names before node)
+  filter_sites_below [] node = tt
+  filter_sites_below (s ∷ before) node =
+      grind (arith, by_test, own_below, further_below, more_sites, filter_sites_below before (parent_of s), filter_sites_below before node)
+
+  pub filters_below : (before : List Statement) (n : ℕ) (f : FilterAt) → slice_get (filters header names before) n ≡ Some f → AreBelow (site_count header names before) f.sites
+  filters_below =
+      each_filter header names (λ before f. AreBelow (site_count header names before) f.sites) (λ before s f h. further_below _ _ f.sites (more_sites before s) h)
+      (λ before node parent expr label. own_below before (Filter node parent expr (Some label)) (filter_sites header names before parent) (filter_sites_below before parent))

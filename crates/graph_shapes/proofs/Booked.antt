@@ -6,9 +6,9 @@ use Rattle.rdf_values.specs.{ActionAt, ActionKind, AreAccepted, Booked, booked_b
 use Rattle.rdf_values.specs.declared.scripts.statement.Statement.TheVariants.{Action, Alias, Define, Filter, Print, Redefine, Report, VariationsFor, Vary, Watch}
 use Rattle.rdf_model.proofs.Accepted.{both_none, if_fails}
 use Rattle.graph_numbers.specs.{covered_at, filter_sites, own_results, ResultAt, results, version_at, version_kinds}
-use Rattle.graph_numbers.proofs.Extending.{Extends, shorter}
-use Rattle.graph_numbers.proofs.Listed.{of_joined}
-use Rattle.graph_numbers.proofs.VersionKinds.{kind_later, visible_kind}
+use Rattle.graph_numbers.proofs.Placing.{Extends, shorter}
+use Rattle.graph_numbers.proofs.Walks.{of_joined}
+use Rattle.graph_numbers.proofs.Meeting.{kind_later, visible_kind}
 use Rattle.shard_runs.specs.{first_kind}
 use Rattle.graph.proofs.SiteTotals.{named_few}
 use Rattle.shard_runs.proofs.Takes.{column_known}

@@ -5,7 +5,7 @@ use Rattle.lemmas.proofs.{slice_get-map, something_at, take_next}
 use Rattle.rdf_values.specs.{Booked, ColType, Pass}
 use Rattle.rdf_model.specs.{loop_passes, loop_results}
 use Rattle.graph_numbers.specs.{booked_statements, graph_loops, GraphView, pass_at}
-use Rattle.graph_numbers.proofs.Extending.{itself}
+use Rattle.graph_numbers.proofs.Placing.{itself}
 use Rattle.graph_numbers.proofs.Looping.{loops_are}
 use Rattle.result_text.specs.{passes_at}
 use Rattle.shard_lines.specs.{booking_shape, PassShape}

@@ -1,7 +1,7 @@
 -- What a cell of two axes holds after one more point, and rows kept in one list.
 use Rattle.std.proofs.Common.{ℕ, suc, ◌≡◌, ◌+◌, ◌*◌, ◌<◌, ◌≤◌, length, get_or, set, map, take, drop, List, [], ◌∷◌, ◌++◌, ℤ, pos, ◌*ℤ◌, arith, refl, ap, sym, ◌∙◌, ⊎_elim, length-drop, flat_map}
 use Rattle.lemmas.proofs.{+ℤ_idl, append-nil, cases_eq, eq-eqb, flat_map-append, get_or-drop, get_or-map, get_or-set_other, get_or-set_same, get_or-take, length-map, length-set, length-take-le, ne_eqb, rows, same_from_place, same_lists}
-use Rattle.rdf_values.proofs.Below.{map-below}
+use Rattle.rdf_values.proofs.UnionLemmas.{map-below}
 use Rattle.rdf_values.specs.{bin, cells_on, Item, square_cell, weight_in2}
 use Rattle.rdf_values.specs.declared.results.item.Item.TheVariants.{Point2}
 use Rattle.rdf_values.specs.results.Fold.{Cell, cell_of}

@@ -1,21 +1,21 @@
 -- What an action tries and reads: sites, and versions that can be read, one for each of its columns, which come to values that it takes.
-use Rattle.std.proofs.Common.{◌≡◌, ℕ, ◌<◌, ◌≤◌, List, [], ◌∷◌, length, map, Option, Some, sym, ◌∙◌, ap, subst, arith, slice_get, length-append}
+use Rattle.std.proofs.Common.{◌≡◌, ℕ, ◌<◌, ◌≤◌, List, [], ◌∷◌, length, map, Option, Some, sym, ◌∙◌, ap, subst, arith, slice_get, length-append, true}
 use Rattle.std.specs.Prelude.{⊤}
 use Rattle.lemmas.proofs.{AllByRecursion, length-map}
-use Rattle.rdf_values.specs.{ActionAt, ActionKind, AreAccepted, Booking, columns_of, FitsRow, fn_names, history, path, ReportOn, scope_of, Statement, Under, Value}
+use Rattle.rdf_values.specs.{ActionAt, ActionKind, AreAccepted, Booking, columns_of, FitsRow, fn_names, history, path, ReportOn, scope_of, Statement, Under, Value, ColType, may_begin}
 use Rattle.rdf_values.specs.declared.scripts.statement.Statement.TheVariants.{Action}
-use Rattle.rdf_model.specs.{Dataset, FitsFeed, for_all, Gives}
+use Rattle.rdf_model.specs.{Dataset, FitsFeed, for_all, Gives, FitKinds}
 use Rattle.graph_numbers.specs.{filter_sites, graph_under, IsBelow, own_sites, ResultAt, results, site_count, sites, source_in, sources, version_at, versions}
 use Rattle.graph_numbers.proofs.ColumnSources.{column_source}
 use Rattle.graph_numbers.proofs.Equations.{below_of, version_value}
-use Rattle.graph_numbers.proofs.Extending.{Extends, further, itself, shorter, versions_count}
+use Rattle.graph_numbers.proofs.Placing.{Extends, further, itself, shorter, versions_count}
 use Rattle.graph_numbers.proofs.Passing.{AreVisible, action_visible, values_are}
-use Rattle.graph_numbers.proofs.Ranges.{filter_sites_below, further_below}
-use Rattle.graph_numbers.proofs.Walks.{each_result}
+use Rattle.graph_numbers.proofs.Walks.{filter_sites_below, further_below, each_result}
 use Rattle.rdf_model.proofs.Feeds.{action_values_fit}
 use Rattle.loop_keys.specs.{AreReadable, CanAct, IsActionAt, IsJob, job_graph, JobView, row_of, version_in}
 use Rattle.loop_keys.proofs.ColumnLaws.{fits_at}
 use Rattle.loop_keys.proofs.EvaluateLaws.{accepted_of}
+use Rattle.actions.specs.{AreAlike, IsInteger, IsNumeric, IsSingle, WeightSuits}
 
 module _ (d : Dataset) (u : Under) (before : List Statement) where
   -- the version is there, and is given by a column of the table or by a site
@@ -84,3 +84,54 @@ can_act j job entry within n k path inputs at u =
       count = ap length (sym at.inputs) ∙ sound.count;
       fits = λ vs e. sound.fits (row_of j entry) (fits_at j.dataset.columns j.dataset.rows entry job.table.fit within) vs (ap (for_all (version_in {M = ⊥} j entry u)) at.inputs ∙ e);
     }
+
+-- ---- Values of the kinds that an action takes suit it.
+
+abbrev numeric : List (List ColType)
+numeric = (ColType.Int ∷ []) ∷ (ColType.Vect ∷ []) ∷ []
+
+abbrev weighted : List (List ColType)
+weighted = (ColType.Int ∷ ColType.Int ∷ []) ∷ (ColType.Vect ∷ ColType.Int ∷ []) ∷ (ColType.Vect ∷ ColType.Vect ∷ []) ∷ []
+
+abbrev pairs : List (List ColType)
+pairs = (ColType.Int ∷ ColType.Int ∷ []) ∷ (ColType.Vect ∷ ColType.Vect ∷ []) ∷ []
+
+abbrev triples : List (List ColType)
+triples = (ColType.Int ∷ ColType.Int ∷ ColType.Int ∷ []) ∷ (ColType.Vect ∷ ColType.Vect ∷ ColType.Int ∷ []) ∷ (ColType.Vect ∷ ColType.Vect ∷ ColType.Vect ∷ []) ∷ []
+
+-- ---- one value
+
+pub numeric_fits : (ts : List ColType) (v : Value) → may_begin numeric ts ≡ true → FitKinds ts (v ∷ []) → IsNumeric v
+numeric_fits (ColType.Int ∷ []) (Value.Int a) m f = tt
+numeric_fits (ColType.Vect ∷ []) (Value.Vect a) m f = f.0
+numeric_fits ts v m f = absurd (first_of (assumption f, cc m))
+
+pub single_fits : (ts : List ColType) (v : Value) → may_begin ((ColType.Int ∷ []) ∷ (ColType.Bool ∷ []) ∷ []) ts ≡ true → FitKinds ts (v ∷ []) → IsSingle v
+single_fits (ColType.Int ∷ []) (Value.Int a) m f = tt
+single_fits (ColType.Bool ∷ []) (Value.Bool a) m f = tt
+single_fits ts v m f = absurd (first_of (assumption f, cc m))
+
+pub integer_fits : (ts : List ColType) (v : Value) → may_begin ((ColType.Int ∷ []) ∷ []) ts ≡ true → FitKinds ts (v ∷ []) → IsInteger v
+integer_fits (ColType.Int ∷ []) (Value.Int a) m f = tt
+integer_fits ts v m f = absurd (first_of (assumption f, cc m))
+
+-- ---- with a weight
+
+pub weighted_fits : (ts : List ColType) (v w : Value) → may_begin weighted ts ≡ true → FitKinds ts (v ∷ w ∷ []) → IsNumeric v × WeightSuits v w
+weighted_fits (ColType.Int ∷ ColType.Int ∷ []) (Value.Int a) (Value.Int b) m f = (tt, tt)
+weighted_fits (ColType.Vect ∷ ColType.Int ∷ []) (Value.Vect a) (Value.Int b) m f = (f.0, tt)
+weighted_fits (ColType.Vect ∷ ColType.Vect ∷ []) (Value.Vect a) (Value.Vect b) m f = (f.0, f.1.0)
+weighted_fits ts v w m f = absurd (first_of (assumption f, cc m))
+
+-- ---- two coordinates
+
+pub pair_fits : (ts : List ColType) (v w : Value) → may_begin pairs ts ≡ true → FitKinds ts (v ∷ w ∷ []) → IsNumeric v × IsNumeric w × AreAlike v w
+pair_fits (ColType.Int ∷ ColType.Int ∷ []) (Value.Int a) (Value.Int b) m f = (tt, tt, tt)
+pair_fits (ColType.Vect ∷ ColType.Vect ∷ []) (Value.Vect a) (Value.Vect b) m f = (f.0, f.1.0, tt)
+pair_fits ts v w m f = absurd (first_of (assumption f, cc m))
+
+pub triple_fits : (ts : List ColType) (v w x : Value) → may_begin triples ts ≡ true → FitKinds ts (v ∷ w ∷ x ∷ []) → IsNumeric v × IsNumeric w × AreAlike v w × WeightSuits v x
+triple_fits (ColType.Int ∷ ColType.Int ∷ ColType.Int ∷ []) (Value.Int a) (Value.Int b) (Value.Int c) m f = (tt, tt, tt, tt)
+triple_fits (ColType.Vect ∷ ColType.Vect ∷ ColType.Int ∷ []) (Value.Vect a) (Value.Vect b) (Value.Int c) m f = (f.0, f.1.0, tt, tt)
+triple_fits (ColType.Vect ∷ ColType.Vect ∷ ColType.Vect ∷ []) (Value.Vect a) (Value.Vect b) (Value.Vect c) m f = (f.0, f.1.0, tt, f.1.1.0)
+triple_fits ts v w x m f = absurd (first_of (assumption f, cc m))

@@ -6,10 +6,9 @@ use Rattle.rdf_model.specs.{FitsOutcome}
 use Rattle.expr_check.specs.{CheckedExpr, distinct}
 use Rattle.graph_numbers.specs.{graph_kinds, graph_sites, graph_under, IsBelow, IsSiteExpr, SiteAt, Source, version_count}
 use Rattle.graph_numbers.proofs.Equations.{columns_below}
-use Rattle.graph_numbers.proofs.Extending.{versions_count}
-use Rattle.graph_numbers.proofs.Listed.{by_test}
-use Rattle.graph_numbers.proofs.Meeting.{In, here, there, each_both, in_joined, in_left, each_at}
-use Rattle.graph_numbers.proofs.VersionKinds.{FitsVersion, site_fits}
+use Rattle.graph_numbers.proofs.Placing.{versions_count}
+use Rattle.graph_numbers.proofs.Walks.{by_test}
+use Rattle.graph_numbers.proofs.Meeting.{In, here, there, each_both, in_joined, in_left, each_at, FitsVersion, site_fits}
 use Rattle.loop_keys.proofs.Elements.{at_in, each_in, of_option}
 use Rattle.loop_keys.specs.{CanEvaluate, CanLook, Held, IsJob, IsReadable, IsSound, job_graph, JobView, look_at, row_of, source_at}
 use Rattle.loop_keys.proofs.EvaluateLaws.{accepted_of, told, IsToldOf}

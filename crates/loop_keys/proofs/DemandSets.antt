@@ -1,18 +1,19 @@
 -- What a pass demands, as a set of sites by their keys; and how many keys that is.
-use Rattle.std.proofs.Common.{◌≡◌, ℕ, zero, suc, ◌+◌, ◌<◌, ◌≤◌, Bool, true, false, ◌||◌, List, [], ◌∷◌, length, Option, Some, refl, sym, ◌∙◌, ap, arith, nat_eq, slice_get, if◌then◌else◌, All}
-use Rattle.lemmas.proofs.{Decides-eqb, list_any, recursion_from_All}
-use Rattle.rdf_values.specs.{fn_names, history}
-use Rattle.rdf_model.specs.{Demand, projected}
+use Rattle.std.proofs.Common.{◌≡◌, ℕ, zero, suc, ◌+◌, ◌<◌, ◌≤◌, Bool, true, false, ◌||◌, List, [], ◌∷◌, length, Option, Some, refl, sym, ◌∙◌, ap, arith, nat_eq, slice_get, if◌then◌else◌, All, subst, unwrap_or, flat_map}
+use Rattle.lemmas.proofs.{Decides-eqb, list_any, recursion_from_All, All-from_recursion}
+use Rattle.rdf_values.specs.{fn_names, history, Value}
+use Rattle.rdf_model.specs.{Demand, projected, demanded, distinct, pass_demands, same_demand}
 use Rattle.graph_numbers.specs.{graph_sites, graph_under, graph_variations, HasSourceIn, SiteAt, Source}
 use Rattle.graph_numbers.proofs.Closing.{IsDemanded, closed}
 use Rattle.graph_numbers.proofs.Demands.{AreExplained}
-use Rattle.graph_numbers.proofs.Meeting.{In}
-use Rattle.loop_keys.specs.{demand_key, HasAllKeys, IsClosed, IsJob, IsSourceIn, job_graph, JobView, key, key_or_first, keys_before, keys_in, row_of, slot, slot_at, source_at, under_number}
-use Rattle.loop_keys.proofs.Elements.{any_in, at_in, in_any}
-use Rattle.graph_numbers.proofs.Listed.{by_test}
+use Rattle.graph_numbers.proofs.Meeting.{In, here, there}
+use Rattle.loop_keys.specs.{demand_key, HasAllKeys, IsClosed, IsJob, IsSourceIn, job_graph, JobView, key, key_or_first, keys_before, keys_in, row_of, slot, slot_at, source_at, under_number, entry_demands, HasAllDemands, passes_in}
+use Rattle.loop_keys.proofs.Elements.{any_in, at_in, in_any, each_in, in_flat}
+use Rattle.graph_numbers.proofs.Walks.{by_test}
 use Rattle.loop_keys.proofs.EvaluateLaws.{accepted_of}
 use Rattle.loop_keys.proofs.KeyLaws.{key_is, key_site}
 use Rattle.graph_numbers.proofs.Apart.{site_number, variation_number}
+use Rattle.rdf_model.proofs.Demands.{demand_is}
 
 -- ---- how many keys a list has
 
@@ -94,3 +95,35 @@ module _ (j : JobView) (job : IsJob j) (entry : ℕ) (u : Option ℕ) (ds : List
   demands_keys T all s h =
       let d = any_in (λ d. nat_eq (key (job_graph j) s u) (demand_key (job_graph j) d)) ds h in
       ap T ((Decides-eqb (key (job_graph j) s u) (demand_key (job_graph j) d.0)).0 d.2) ∙ at_in (λ (d : Demand). T (demand_key (job_graph j) d) ≡ true) d.0 ds (recursion_from_All (λ (d : Demand). T (demand_key (job_graph j) d) ≡ true) ds all) d.1
+
+-- ---- How many keys the passes of an entry demand: at most as many as there are demands, each counted once.
+
+-- each demand is among those that are kept once
+kept_once : (d : Demand) (ds : List Demand) → In d ds → In d (distinct ds)
+kept_once d ds (here {xs = ps}) =
+    by_test (list_any (same_demand d) (distinct ps)) (λ e. let w = any_in (same_demand d) (distinct ps) e in rw e (subst (λ (x : Demand). In x (distinct ps)) (sym (demand_is d w.0 w.2)) w.1)) (λ e. rw e here)
+kept_once d ds (there {y = p} {xs = ps} h) = by_test (list_any (same_demand p) (distinct ps)) (λ e. rw e (kept_once d ps h)) (λ e. rw e (there (kept_once d ps h)))
+
+-- ---- the keys of an entry's demands
+
+module _ (j : JobView) (entry : ℕ) where
+  abbrev all_demands : List Demand
+  all_demands = demanded j.dataset.fns j.dataset.columns (row_of j entry) (passes_in j)
+
+  abbrev pub keys_of_all : ℕ → Bool
+  keys_of_all k = list_any (λ d. nat_eq k (demand_key (job_graph j) d)) all_demands
+
+  pub has_all : HasAllDemands j entry keys_of_all
+  has_all pass row p its_row its =
+      let same_row : row_of j entry ≡ row = ap (λ o. unwrap_or o []) its_row in
+      All-from_recursion (λ (d : Demand). keys_of_all (demand_key (job_graph j) d) ≡ true) (pass_demands j.dataset.fns j.dataset.columns row p)
+      (each_in (λ (d : Demand). keys_of_all (demand_key (job_graph j) d) ≡ true) (pass_demands j.dataset.fns j.dataset.columns row p) (λ d k.
+      in_any (λ e. nat_eq (demand_key (job_graph j) d) (demand_key (job_graph j) e)) d all_demands
+      (kept_once d (flat_map (pass_demands j.dataset.fns j.dataset.columns (row_of j entry)) (passes_in j))
+      (in_flat (pass_demands j.dataset.fns j.dataset.columns (row_of j entry)) (passes_in j) pass p d its
+      (subst (λ (r : List Value). In d (pass_demands j.dataset.fns j.dataset.columns r p)) (sym same_row) k)))
+      ((Decides-eqb (demand_key (job_graph j) d) (demand_key (job_graph j) d)).1 refl)))
+
+  -- at most as many keys as demands
+  pub few_keys : (n : ℕ) → keys_in keys_of_all 0 n ≤ entry_demands j entry
+  few_keys n = keys_few (demand_key (job_graph j)) all_demands 0 n

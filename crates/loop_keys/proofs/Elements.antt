@@ -1,7 +1,7 @@
 -- What stands in a list, and tests and facts of its elements; and from what an answer comes.
 use Rattle.std.proofs.Common.{◌≡◌, ℕ, zero, suc, Bool, true, ◌||◌, List, [], ◌∷◌, map, Option, Some, None, option_map, refl, sym, ◌∙◌, subst, ap, slice_get, unwrap_or, ◌+◌, ◌<◌, ◌++◌, length, arith, get_or, flat_map}
 use Rattle.lemmas.proofs.{AllByRecursion, length_push, list_any, or_right, slice_get-get_or, slice_get-map}
-use Rattle.graph_numbers.proofs.Listed.{by_test, joined, only_at}
+use Rattle.graph_numbers.proofs.Walks.{by_test, joined, only_at}
 use Rattle.loop_keys.specs.{AreEach}
 use Rattle.graph_numbers.proofs.Meeting.{In, here, there, in_left, in_right}
 

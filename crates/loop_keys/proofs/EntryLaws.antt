@@ -5,8 +5,7 @@ use Rattle.rdf_values.specs.{ActionAt, Booking, Pass, ReportOn}
 use Rattle.rdf_model.specs.{kinds_in}
 use Rattle.graph_numbers.specs.{graph_results, kind_of_booking, Pass as NumberedPass, ResultAt, ResultKind}
 use Rattle.loop_keys.specs.{actions_before, IsActionBooking, IsActionPass, IsReportPass, job_graph, JobView, numbered_in, numbered_passes, passes_in}
-use Rattle.loop_keys.proofs.PassNumbers.{pass_of, result_there, some_same}
-use Rattle.loop_keys.proofs.Taken.{after_pass}
+use Rattle.loop_keys.proofs.PassNumbers.{pass_of, result_there, some_same, after_pass}
 
 -- ---- the kinds of passes
 

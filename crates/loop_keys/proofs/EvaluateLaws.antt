@@ -3,11 +3,11 @@ use Rattle.std.proofs.Common.{◌≡◌, ◌≢◌, ◌⊎◌, inl, inr, ℕ, �
 use Rattle.lemmas.proofs.{Decides-eqb, slice_get_within}
 use Rattle.rdf_values.specs.{AreAccepted, EachColumn, fn_names, history, scope_of, Value}
 use Rattle.rdf_model.specs.{◌>>=◌, call_outcome, evaluate, is_need, Needs, Outcome, tag_element, with_needs, without}
-use Rattle.rdf_model.proofs.Close as close
-use Rattle.rdf_model.proofs.Verdicts.{verdict_is_the_first_refusal}
+use Rattle.rdf_model.proofs.Evaluations as close
+use Rattle.rdf_model.proofs.Accepted.{verdict_is_the_first_refusal}
 use Rattle.graph_numbers.specs.{graph_sites, graph_under, IsBelow, site_outcome, site_value, SiteAt, Source, source_value, version_count}
 use Rattle.graph_numbers.proofs.Equations as equations
-use Rattle.graph_numbers.proofs.Extending.{versions_count}
+use Rattle.graph_numbers.proofs.Placing.{versions_count}
 use Rattle.rdf_model.proofs.KnownColumns.{each_weaker}
 use Rattle.rdf_model.proofs.Missing.{site_alike, alike_is}
 use Rattle.loop_keys.specs.{Held, held_in, held_or_need, is_held, IsJob, IsMissing, IsMissingSource, IsRight, IsSound, job_graph, JobView, key, look_at, looked_source, MeetsAt, row_of, site_in, source_at, version_in}

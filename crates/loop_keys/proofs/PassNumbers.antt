@@ -1,15 +1,67 @@
--- The passes of a job's loop by the numbers of their results and variations: what they come to and demand.
-use Rattle.std.proofs.Common.{◌≡◌, ℕ, suc, ◌<◌, List, [], ◌∷◌, length, map, Option, Some, None, refl, sym, ◌∙◌, ap, unwrap_or, slice_get}
-use Rattle.lemmas.proofs.{length-map, mapped_at, slice_get_within}
-use Rattle.rdf_values.specs.{Booked, bookings, fn_names, history, Pass, Value}
-use Rattle.rdf_model.specs.{booking_outcome, loop_passes, loop_results}
-use Rattle.graph_numbers.specs.{booking_numbers, graph_filters, graph_loops, graph_results, graph_under, Pass as NumberedPass, pass_at, ResultAt}
-use Rattle.graph_numbers.proofs.Extending.{itself}
+-- How many passes a loop has.
+use Rattle.std.proofs.Common.{◌≡◌, ℕ, suc, ◌*◌, ◌<◌, ◌≤◌, ◌^◌, Bool, not, List, [], ◌∷◌, length, map, Option, Some, None, refl, arith, slice_get, unwrap_or, if◌then◌else◌, length-append, sym, ◌∙◌, ap, zero, ◌+◌, true, false, ◌++◌, take}
+use Rattle.lemmas.proofs.{length-map, length-reverse, mul-le-mul, mul-le-mul_right, mapped_at, slice_get_within, append-nil, flat_map-append, take_next}
+use Rattle.rdf_values.specs.{among, Booked, bookings, filled, history, Line, Script, Statement, variations, fn_names, Pass, Value, ActionAt, ActionKind, Booking, named_before, Path, ReportOn}
+use Rattle.rdf_values.specs.declared.scripts.statement.Statement.TheVariants.{Print}
+use Rattle.graph_numbers.specs.{booked_statements, graph_loops, graph_variations, GraphView, IsGraph, loops, own_loop, Pass as NumberedPass, passes_from, places_from, result_passes, booking_numbers, graph_filters, graph_results, graph_under, pass_at, ResultAt, FilterAt}
+use Rattle.graph_numbers.proofs.Walks.{by_test, joined}
+use Rattle.loop_keys.specs.{IsJob, job_graph, JobView, numbered_passes, numbered_in, outcome_of, pass_outcome, passes_in, row_of, site_in, version_in, actions_before}
+use Rattle.graph.proofs.Looped.{bookings_few}
+use Rattle.rdf_model.specs.{booking_outcome, loop_passes, loop_results, Dataset, filter_reach, is_covered, items_of, kind_in, kinds_in, Reach, reaches_of, spread_in, spreads_of}
+use Rattle.graph_numbers.proofs.Placing.{itself}
 use Rattle.graph_numbers.proofs.Looping.{loops_are}
 use Rattle.graph_numbers.proofs.Resulting.{booked_are, result_is}
 use Rattle.loop_keys.proofs.Elements.{of_mapped, of_option}
-use Rattle.loop_keys.specs.{IsJob, job_graph, JobView, numbered_in, numbered_passes, outcome_of, pass_outcome, passes_in, row_of, site_in, version_in}
 use Rattle.loop_keys.proofs.EvaluateLaws.{accepted_of}
+use Rattle.rdf_model.specs.declared.loop_facts.Reach.TheVariants.{Stopped}
+use Rattle.graph_numbers.proofs.Covering.{filters_are}
+
+places_few : {A : Type 0} (test : A → Bool) (n : ℕ) (xs : List A) → length (places_from test n xs) ≤ length xs
+places_few test n [] = omega arith
+places_few test n (x ∷ xs) = let h = places_few test (suc n) xs in by_test (test x) (λ e. rw e (omega (arith, h))) (λ e. rw e (omega (arith, h)))
+
+module _ (script : List Statement) where
+  result_few : (n : ℕ) (b : Booked) → length (result_passes script n b) ≤ suc (length (variations script))
+  result_few n b = grind (arith, length-map, places_few, by_test)
+
+  passes_few : (test : Booked → Bool) (n : ℕ) (bs : List Booked) → length (passes_from script test n bs) ≤ length bs * suc (length (variations script))
+  passes_few test n [] = omega arith
+  passes_few test n (b ∷ bs) =
+      let h = passes_few test (suc n) bs in let l = length-append (result_passes script n b) (passes_from script test (suc n) bs) in let r = result_few n b in
+      by_test (test b) (λ e. rw e (omega (arith, l, h, r))) (λ e. rw e (omega (arith, h)))
+
+  loops_few : (before : List Statement) (k : ℕ) (ps : List NumberedPass) → slice_get (loops script before) k ≡ Some ps → length ps ≤ length before * suc (length (variations script))
+  loops_few [] k ps h = cc h
+  loops_few (s ∷ before) k ps h = joined (loops script before) (own_loop script before s) k ps h (λ q. let n = loops_few before k ps q in omega (arith, n)) (λ i e q. own s i q)
+    where
+      printed : (b : Bool) (i : ℕ) → slice_get (if b then [] else passes_from script (λ (b : Booked). not (among b.name (filled before))) 0 (bookings before) ∷ []) i ≡ Some ps
+          → length ps ≤ suc (length before) * suc (length (variations script))
+      printed b i q = grind (arith, passes_few, mul-le-mul_right, bookings_few)
+
+      own : (s : Statement) (i : ℕ) → slice_get (own_loop script before s) i ≡ Some ps → length ps ≤ suc (length before) * suc (length (variations script))
+      own (Print result) i q = printed (among result (filled before)) i q
+      own s i q = cc q
+
+pub lines_few : (script : Script) → length script.lines ≤ 256 → length (history script) ≤ 256
+lines_few script h =
+    let a = length-reverse (map (λ (l : Line). l.statement) script.lines) in let b = length-map script.lines (λ (l : Line). l.statement) in omega (arith, a, b, h)
+
+-- few passes in a loop
+pub loop_few : (g : GraphView) → IsGraph g → length (graph_variations g) ≤ 128 → (l : ℕ) (ps : List NumberedPass) → slice_get (graph_loops g) l ≡ Some ps → length ps ≤ 33024
+loop_few g is few l ps q =
+    let a = loops_few (booked_statements g) (booked_statements g) l ps q in
+    let b : length (booked_statements g) * suc (length (graph_variations g)) ≤ 256 * 129 =
+    mul-le-mul {n₁ = length (booked_statements g)} {m₁ = suc (length (graph_variations g))} {n₂ = 256} {m₂ = 129} (lines_few g.script is.bookable.few) (omega (arith, few)) in omega (arith, a, b)
+
+-- fewer than can be numbered
+pub few_passes : (j : JobView) → IsJob j → length (graph_variations (job_graph j)) ≤ 128 → length (numbered_passes j) < 2 ^ 32
+few_passes j job few = go (slice_get (graph_loops (job_graph j)) j.number) refl
+  where
+    go : (o : Option (List NumberedPass)) → slice_get (graph_loops (job_graph j)) j.number ≡ o → length (unwrap_or o []) < 2 ^ 32
+    go None q = omega arith
+    go (Some ps) q = let few_passes = loop_few (job_graph j) job.graph few j.number ps q in omega (arith, few_passes)
+
+-- ---- The passes of a job's loop by the numbers of their results and variations: what they come to and demand.
 
 pub some_same : {A : Type 0} (a b : A) → ◌≡◌ {A = Option A} (Some a) (Some b) → a ≡ b
 some_same a b e = cc e
@@ -71,3 +123,51 @@ module _ (j : JobView) (job : IsJob j) (entry : ℕ) (row : List Value) (here : 
       (λ i. outcome_of j (here i) (pass_of j n m its r its_result i))
       ∙ ap (λ (x : List Value). booking_outcome j.dataset.fns j.dataset.columns x {M = ⊥} r.booked.booking (graph_under (job_graph j) m.variation)) same_row
       ∙ result_is ⊥ j.dataset.fns j.dataset.columns (row_of j entry) (graph_under (job_graph j) m.variation) (history j.script) (history j.script) (accepted_of j job) itself m.result r its_result
+
+-- ---- What the next entry gives to a tally, by the passes of a job's loop.
+
+module _ (j : JobView) (entry : ℕ) (row : List Value) (here : slice_get j.dataset.rows entry ≡ Some row) where
+  abbrev pub own_reaches : List Reach
+  own_reaches = reaches_of j.dataset (passes_in j) (named_before (history j.script)) row
+
+-- ---- the places of action passes
+
+pub kinds_next : (ps : List Pass) (n : ℕ) (p : Pass) → slice_get ps n ≡ Some p → kinds_in (take (n + 1) ps) ≡ kinds_in (take n ps) ++ kind_in p.result.booking
+kinds_next ps n p here =
+    ap kinds_in (take_next ps n p here) ∙ flat_map-append (λ (q : Pass). kind_in q.result.booking) (take n ps) (p ∷ []) ∙ ap (λ l. kinds_in (take n ps) ++ l) (append-nil (kind_in p.result.booking))
+
+-- after an action's pass there is one more, and after a report's none
+pub after_pass : (j : JobView) (n : ℕ) (p : Pass) (c : Booking) → slice_get (passes_in j) n ≡ Some p → p.result.booking ≡ c → actions_before j (n + 1) ≡ actions_before j n + length (kind_in c)
+after_pass j n p c q b =
+    ap length (kinds_next (passes_in j) n p q) ∙ length-append (kinds_in (take n (passes_in j))) (kind_in p.result.booking) ∙ ap (λ (x : Booking). actions_before j n + length (kind_in x)) b
+
+module _ (d : Dataset) (row : List Value) where
+  -- the kind of an action's pass, and what the row feeds to it, at its place
+  pub at_place : (n : ℕ) (ps : List Pass) (p : Pass) (k : ActionKind) (at : Path) → slice_get ps n ≡ Some p → p.result.booking ≡ ActionAt k at
+      → (slice_get (kinds_in ps) (length (kinds_in (take n ps))) ≡ Some k) × (slice_get (spreads_of d ps row) (length (kinds_in (take n ps))) ≡ Some (items_of d k at p.under row))
+  at_place n [] p k at q b = cc q
+  at_place zero (x ∷ ps) p k at q b =
+      let i : x ≡ p = cc q in let c : x.result.booking ≡ ActionAt k at = ap (λ (y : Pass). y.result.booking) i ∙ b in rw c (refl, ap (λ (y : Pass). Some (items_of d k at y.under row)) i)
+  at_place (suc n) (x ∷ ps) p k at q b = go x.result.booking (at_place n ps p k at q b)
+    where
+      go : (c : Booking)
+          → (slice_get (kinds_in ps) (length (kinds_in (take n ps))) ≡ Some k) × (slice_get (spreads_of d ps row) (length (kinds_in (take n ps))) ≡ Some (items_of d k at p.under row))
+          → (slice_get (kind_in c ++ kinds_in ps) (length (kind_in c ++ kinds_in (take n ps))) ≡ Some k)
+          × (slice_get (spread_in d row x c ++ spreads_of d ps row) (length (kind_in c ++ kinds_in (take n ps))) ≡ Some (items_of d k at p.under row))
+      go (ActionAt l up) h = h
+      go (ReportOn fs) h = h
+
+-- ---- what named filters do
+
+module _ (j : JobView) (entry : ℕ) (row : List Value) (here : slice_get j.dataset.rows entry ≡ Some row) (f : ℕ) (x : FilterAt) (q : slice_get (graph_filters (job_graph j)) f ≡ Some x) where
+  pub filter_at : slice_get (named_before (history j.script)) f ≡ Some x.at
+  filter_at = ap (λ ps. slice_get ps f) (sym (filters_are j.dataset.columns _ (history j.script))) ∙ mapped_at (λ (y : FilterAt). y.at) (graph_filters (job_graph j)) f x q
+
+  its_reach : slice_get (own_reaches j entry row here) f ≡ Some (if is_covered (passes_in j) x.at then filter_reach j.dataset row x.at else Stopped)
+  its_reach = mapped_at (λ g. if is_covered (passes_in j) g then filter_reach j.dataset row g else Stopped) (named_before (history j.script)) f x.at filter_at
+
+  pub uncovered_reach : is_covered (passes_in j) x.at ≡ false → slice_get (own_reaches j entry row here) f ≡ Some Stopped
+  uncovered_reach h = its_reach ∙ ap (λ b. Some (if b then filter_reach j.dataset row x.at else Stopped)) h
+
+  pub covered_reach : is_covered (passes_in j) x.at ≡ true → (r : Reach) → filter_reach j.dataset row x.at ≡ r → slice_get (own_reaches j entry row here) f ≡ Some r
+  covered_reach h r e = its_reach ∙ ap (λ b. Some (if b then filter_reach j.dataset row x.at else Stopped)) h ∙ ap Some e

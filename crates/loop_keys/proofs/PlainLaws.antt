@@ -1,17 +1,18 @@
 -- Sites without vectors: no evaluation of them wants memory, and what they need is among them.
-use Rattle.std.proofs.Common.{◌≡◌, ℕ, Bool, true, false, ◌&&◌, not, List, [], ◌∷◌, Option, Some, refl, sym, ◌∙◌, ap, subst, nat_eq, slice_get, unwrap_or, if◌then◌else◌}
-use Rattle.lemmas.proofs.{AllByRecursion, both_true, Decides-eqb, recursion_from_All}
+use Rattle.std.proofs.Common.{◌≡◌, ℕ, Bool, true, false, ◌&&◌, not, List, [], ◌∷◌, Option, Some, refl, sym, ◌∙◌, ap, subst, nat_eq, slice_get, unwrap_or, if◌then◌else◌, ◌+◌, ◌<◌, ◌≤◌, ◌||◌, length, take, None, option_map, arith, get_or}
+use Rattle.lemmas.proofs.{AllByRecursion, both_true, Decides-eqb, recursion_from_All, list_any, list_any_at, list_any_more, slice_get-get_or, take_all}
 use Rattle.rdf_values.specs.{Bin, Call, Callee, Col, ColType, Cond, EachArgument, EachColumn, End, Lit, More, Neg, Not, NumTree, Pick, Trees, Value}
 use Rattle.rdf_values.specs.expressions.Expressions.{Truth}
 use Rattle.rdf_model.specs.{call_outcome, evaluate, is_need, Needs, Outcome, with_needs, without}
-use Rattle.rdf_model.proofs.Close as close
 use Rattle.expr_check.specs.{all_are_plain, CheckedExpr, gives_vector, is_plain, is_vector, number_kind, takes_no_vector}
-use Rattle.graph_numbers.specs.{graph_kinds, graph_sites, IsSiteExpr, SiteAt}
-use Rattle.graph_numbers.proofs.Listed.{by_test}
+use Rattle.graph_numbers.specs.{graph_kinds, graph_sites, IsSiteExpr, SiteAt, graph_results, GraphView, Pass as NumberedPass, ResultAt}
+use Rattle.graph_numbers.proofs.Walks.{by_test}
 use Rattle.rdf_model.proofs.KnownColumns.{each_weaker}
-use Rattle.loop_keys.specs.{ArePlain, is_vector_at, IsClosed, IsJob, IsPlainVersion, IsSound, IsSourceIn, job_graph, JobView, site_in, source_at, version_in}
+use Rattle.loop_keys.specs.{ArePlain, is_vector_at, IsClosed, IsJob, IsPlainVersion, IsSound, IsSourceIn, job_graph, JobView, site_in, source_at, version_in, covers_of, is_covering, numbered_passes}
 use Rattle.loop_keys.proofs.Elements.{of_option}
 use Rattle.loop_keys.proofs.EvaluateLaws.{known_never, whole}
+use Rattle.loop_keys.proofs.PassNumbers.{result_inside}
+use Rattle.rdf_model.proofs.Evaluations as close
 
 -- the kinds of versions, as an expression lists them
 not_vector : (all : List ColType) (ks : List (ℕ × ColType)) (c : ℕ) → AllByRecursion (λ (k : ℕ × ColType). slice_get all k.0 ≡ Some k.1) ks → is_vector_at all c ≡ false → gives_vector (number_kind ks c) ≡ false
@@ -75,3 +76,32 @@ module _ (j : JobView) (job : IsJob j) (entry : ℕ) (u : Option ℕ) (used : �
 
   pub plain_closed : IsClosed j entry u used
   plain_closed = record { each = λ s c us m. met_source s c m.0 m.1 us m.2 }
+
+-- ---- The plan of a loop, as it is made and read.
+
+-- ---- a report of the loop
+
+covers_are : (o : Option ResultAt) (ns : List ℕ) → option_map (λ (x : ResultAt). x.covers) o ≡ Some ns → covers_of o ≡ ns
+covers_are None ns h = cc h
+covers_are (Some r) ns h = cc h
+
+module _ (j : JobView) (g : GraphView) (e : g ≡ job_graph j) (f : ℕ) (m : NumberedPass) (ns : List ℕ) (q : option_map (λ (x : ResultAt). x.covers) (slice_get (graph_results g) m.result) ≡ Some ns) where
+  pub covering_is : (b : Bool) → b ≡ list_any (nat_eq f) ns → is_covering (graph_results (job_graph j)) f m ≡ b
+  covering_is b h =
+      ap (list_any (nat_eq f)) (ap (λ (v : GraphView). covers_of (slice_get (graph_results v) m.result)) (sym e) ∙ covers_are (slice_get (graph_results g) m.result) ns q) ∙ sym h
+
+module _ (j : JobView) (ps : List NumberedPass) (e : ps ≡ numbered_passes j) (f : ℕ) where
+  abbrev test : NumberedPass → Bool
+  test m = is_covering (graph_results (job_graph j)) f m
+
+  pub result_below : (g : GraphView) → g ≡ job_graph j → (i : ℕ) (d : NumberedPass) → i < length ps → (get_or ps i d).result < length (graph_results g)
+  result_below g h i d lt = grind (arith, result_inside, slice_get-get_or)
+
+  pub cover_next : (i : ℕ) (d : NumberedPass) → i < length ps → list_any test (take i ps) ≡ false → test (get_or ps i d) ≡ false → list_any test (take (i + 1) ps) ≡ false
+  cover_next i d lt h k = list_any_more test ps i d lt ∙ (λ t. h t || k t)
+
+  pub cover_found : (i : ℕ) (d : NumberedPass) → i < length ps → test (get_or ps i d) ≡ true → true ≡ list_any test (numbered_passes j)
+  cover_found i d lt k = sym (ap (list_any test) (sym e) ∙ list_any_at test ps i d lt k)
+
+  pub cover_none : (i : ℕ) → length ps ≤ i → list_any test (take i ps) ≡ false → false ≡ list_any test (numbered_passes j)
+  cover_none i le h = sym (ap (list_any test) (sym e) ∙ ap (list_any test) (sym (take_all ps i le)) ∙ h)

@@ -1,7 +1,7 @@
 -- The columns of a table.
 use Rattle.std.proofs.Common.{◌≡◌, ℕ, Some, slice_get, ◌<◌, List, [], length, get_or, sym, ◌∙◌, ap, subst}
 use Rattle.std.proofs.lemmas.Option.{slice_get-get_or}
-use Rattle.rdf_values.proofs.RowPushed.{stored_at}
+use Rattle.rdf_values.proofs.KeptLemmas.{stored_at}
 use Rattle.rdf_values.specs.{AreColumns, ColType, Column, IsStored, Value}
 
 -- no column of a table is of truth values

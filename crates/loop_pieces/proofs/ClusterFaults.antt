@@ -2,10 +2,10 @@
 use Rattle.std.proofs.Common.{◌≡◌, ◌⊎◌, ℕ, suc, ◌+◌, ◌-◌, ◌<◌, ◌≤◌, List, [], ◌∷◌, ◌++◌, length, map, Option, None, Some, refl, sym, ap, ap₂, ◌∙◌, inl, inr, arith, slice_get, slice_range, option_map}
 use Rattle.lemmas.proofs.{range_length, same_some, slice_get-map, take_at_most}
 use Rattle.rdf_values.specs.{EntryFault, Fault, first_in, Lead, Pass, Span, Value}
-use Rattle.rdf_values.proofs.Leading.{led_are_in_order}
+use Rattle.rdf_values.proofs.Evenly.{led_are_in_order}
 use Rattle.rdf_model.specs.{Dataset, fault_at, fault_or, first_fault_from, first_fault_in, first_of, span_rows}
 use Rattle.loop_pieces.specs.{begin_of, cluster_faults, FirstClusterHasFirstFault, LowerClustersFaultFirst}
-use Rattle.loop_pieces.proofs.Places.{by_places, lead_up, ranges_join, range_none, range_whole}
+use Rattle.loop_pieces.proofs.ByCluster.{by_places, lead_up, ranges_join, range_none, range_whole}
 
 pub first_of-assoc : (a b c : Option Fault) → first_of (first_of a b) c ≡ first_of a (first_of b c)
 first_of-assoc None b c = refl

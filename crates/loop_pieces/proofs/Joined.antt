@@ -1,14 +1,32 @@
--- Two pieces of a loop: of one set they agree, and of two sets they are joined.
-use Rattle.std.proofs.Common.{◌≡◌, ℕ, zero, suc, ◌<◌, List, [], ◌∷◌, ◌++◌, length, map, get_or, refl, sym, ap, ap₂, ◌∙◌, subst, arith}
+-- Joining, by the sets.
+use Rattle.std.proofs.Common.{ℕ, List, [], ◌≡◌, zero, suc, ◌<◌, ◌∷◌, ◌++◌, length, map, get_or, refl, sym, ap, ap₂, ◌∙◌, subst, arith, ◌+◌, ◌≤◌, set, ⊎_elim, get_or-set_same, get_or-set_other}
+use Rattle.rdf_values.proofs.UnionLemmas.{none_is_neutral, order_does_not_matter, unite_from_either_side}
 use Rattle.std.proofs.lemmas.List.{length-map, get_or-map}
 use Rattle.rdf_values.specs.{ActionKind, below, IsUnion}
 use Rattle.rdf_model.specs.declared.loop_facts.LoopFacts.{LoopFacts}
 use Rattle.actions.specs.{Accumulator}
-use Rattle.loop_pieces.specs.{AreMerged, both, CanMerge, cluster_items, Counts, counts_at, fed_over, HaveRoom, LoopPiece, PiecesOfOneSetAgree, StandsFor}
+use Rattle.loop_pieces.specs.{AreMerged, both, CanMerge, cluster_items, Counts, counts_at, fed_over, HaveRoom, LoopPiece, PiecesOfOneSetAgree, StandsFor, AreCounts, nothing, IsMerged}
 use Rattle.loop_pieces.specs.Flows.{added}
-use Rattle.loop_pieces.proofs.ByCluster.{has_fed_same}
-use Rattle.loop_pieces.proofs.FedOver.{order_union}
-use Rattle.loop_pieces.proofs.Rows.{counts_union, counts_few, entries_union, entries_few}
+use Rattle.loop_pieces.proofs.ByCluster.{has_fed_same, order_union, counts_union, counts_few, entries_union, entries_few}
+use Rattle.lemmas.proofs.{All, All-from_get_or, ext_get_or, cases_lt, get_or_default}
+use Rattle.loop_pieces.specs.PieceLaws as law
+
+module _ {P : Type 0} (stands : List ℕ → P → Type 0) where
+  pub no_cluster_is_neutral : law.NoClusterIsNeutral stands
+  no_cluster_is_neutral set p none right left up here empty first second =
+      let both = none_is_neutral set up in
+      (first set [] set here empty both.0, second [] set set empty here both.1)
+
+  pub joins_in_either_order : law.JoinsInEitherOrder stands
+  joins_in_either_order mine theirs all p q pq qp here there union first second =
+      (first mine theirs all here there union, second theirs mine all there here (order_does_not_matter mine theirs all union))
+
+  pub joins_from_either_side : law.JoinsFromEitherSide stands
+  joins_from_either_side a b c ab all p q r pq left qr right x y z two three first second third fourth =
+      let other = unite_from_either_side a b c ab all two three in
+      (second ab c all (first a b ab x y two) z three, fourth a other.0 all x (third b c other.0 y z other.1) other.2)
+
+-- ---- Two pieces of a loop: of one set they agree, and of two sets they are joined.
 
 abbrev pub kind_at : Accumulator → ActionKind
 kind_at acc = acc.kind
@@ -72,3 +90,60 @@ module _ (f : LoopFacts) (mine theirs all : List ℕ) (p q : LoopPiece) (s : Sta
         });
     flow = flow ∙ ap₂ added s.flow t.flow ∙ flows (below f.filters);
   }
+
+-- ---- Counts that are added filter by filter.
+
+pub length-added : (xs ys : List Counts) → length ys ≡ length xs → length (added xs ys) ≡ length xs
+length-added [] ys e = refl
+length-added (x ∷ xs) [] e = absurd (omega arith)
+length-added (x ∷ xs) (y ∷ ys) e = let r = length-added xs ys (omega arith) in omega arith
+
+pub get_or-added : (xs ys : List Counts) (k : ℕ) → length ys ≡ length xs → k < length xs → get_or (added xs ys) k nothing ≡ both (get_or xs k nothing) (get_or ys k nothing)
+get_or-added [] ys k e lt = absurd (omega arith)
+get_or-added (x ∷ xs) [] k e lt = absurd (omega arith)
+get_or-added (x ∷ xs) (y ∷ ys) zero e lt = refl
+get_or-added (x ∷ xs) (y ∷ ys) (suc k) e lt = get_or-added xs ys k (omega arith) (omega arith)
+
+pub sum_is : (old theirs new : List Counts) → length theirs ≡ length old → length new ≡ length old → ((k : ℕ) → k < length old → get_or new k nothing ≡ both (get_or old k nothing) (get_or theirs k nothing)) → new ≡ added old theirs
+sum_is old theirs new e f h = ext_get_or nothing new (added old theirs) (omega (arith, length-added old theirs e)) (λ k lt. let here : k < length old = omega arith in rw (get_or-added old theirs k e here) (h k here))
+
+pub are_counts : (old theirs : List Counts) → length theirs ≡ length old → HaveRoom old theirs → All AreCounts old → All AreCounts theirs → All AreCounts (added old theirs)
+are_counts old theirs e room a b = All-from_get_or AreCounts (added old theirs) nothing (λ k lt.
+    let here : k < length old = omega (arith, length-added old theirs e) in
+    let mine = a k nothing here in
+    let yours = b k nothing (omega arith) in
+    rw (get_or-added old theirs k e here) record { few = room k here; pass = omega (arith, mine.pass, yours.pass) })
+
+-- ---- One turn of merging accumulators.
+
+module _ (old theirs mine : List Accumulator) (i : ℕ) (acc merged e : Accumulator) where
+  -- what holds before the turn of this place, whose accumulator is merged in it
+  pub record IsBefore : Type 0 where
+    pub within : i < length mine
+    pub same : length mine ≡ length old
+    pub enough : length theirs ≡ length old
+    pub left : (k : ℕ) (d : Accumulator) → i ≤ k → get_or mine k d ≡ get_or old k d
+    pub done : (k : ℕ) (d : Accumulator) → k < i → IsMerged (get_or old k d) (get_or theirs k d) (get_or mine k d)
+    pub acc_is : acc ≡ get_or theirs i acc
+    pub merged_is : IsMerged (get_or mine i e) acc merged
+
+  pub left_next : IsBefore → (k : ℕ) (d : Accumulator) → i + 1 ≤ k → get_or (set mine i merged) k d ≡ get_or old k d
+  left_next b k d le = get_or-set_other mine i k merged d (λ e. absurd (omega arith)) ∙ b.left k d (omega arith)
+
+  mine_is : IsBefore → (d : Accumulator) → get_or mine i e ≡ get_or old i d
+  mine_is b d = get_or_default mine i e d b.within ∙ b.left i d (omega arith)
+
+  theirs_is : IsBefore → (d : Accumulator) → acc ≡ get_or theirs i d
+  theirs_is b d = let lt = b.within in let s = b.same in let t = b.enough in b.acc_is ∙ get_or_default theirs i acc d (omega arith)
+
+  here : IsBefore → (d : Accumulator) → IsMerged (get_or old i d) (get_or theirs i d) (get_or (set mine i merged) i d)
+  here b d =
+      subst (λ a. IsMerged a (get_or theirs i d) (get_or (set mine i merged) i d)) (mine_is b d)
+      (subst (λ a. IsMerged (get_or mine i e) a (get_or (set mine i merged) i d)) (theirs_is b d)
+      (subst (IsMerged (get_or mine i e) acc) (sym (get_or-set_same mine i merged d b.within)) b.merged_is))
+
+  pub done_next : IsBefore → (k : ℕ) (d : Accumulator) → k < i + 1 → IsMerged (get_or old k d) (get_or theirs k d) (get_or (set mine i merged) k d)
+  done_next b k d lt = ⊎_elim
+      (λ (less : k < i). subst (IsMerged (get_or old k d) (get_or theirs k d)) (sym (get_or-set_other mine i k merged d (λ e. absurd (omega arith)))) (b.done k d less))
+      (λ (least : i ≤ k). subst (λ j. IsMerged (get_or old j d) (get_or theirs j d) (get_or (set mine i merged) j d)) (let e : i ≡ k = omega arith in e) (here b d))
+      (cases_lt k i)

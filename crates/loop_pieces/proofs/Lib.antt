@@ -1,11 +1,5 @@
-pub mod Added
+pub mod Joined
 pub mod ByCluster
 pub mod ClusterFaults
-pub mod FedOver
-pub mod Joined
-pub mod Joins
-pub mod Places
-pub mod Rows
-pub mod Turns
 pub mod WatchLemmas
 pub mod WholeLoops

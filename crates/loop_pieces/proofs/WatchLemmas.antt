@@ -11,8 +11,7 @@ use Rattle.loop_pieces.specs.{CanAdd, cluster_items, entries_over, fed_over, IsO
 use Rattle.loop_pieces.specs.Watching.{added}
 use Rattle.loop_pieces.specs.declared.watch_piece.WatchFacts.{WatchFacts}
 use Rattle.loop_pieces.specs.declared.watch_piece.WatchPiece.TheVariants.{Count, Sum, Least, Greatest}
-use Rattle.loop_pieces.proofs.FedOver.{items_in_order, order_union}
-use Rattle.loop_pieces.proofs.Rows.{entries_few, entries_union}
+use Rattle.loop_pieces.proofs.ByCluster.{items_in_order, order_union, entries_few, entries_union}
 
 -- ---- two pieces of one kind
 

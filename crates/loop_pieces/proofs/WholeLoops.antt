@@ -2,16 +2,14 @@
 use Rattle.std.proofs.Common.{◌≡◌, ℕ, zero, suc, ◌<◌, ◌≤◌, Bool, true, List, [], ◌∷◌, ◌++◌, length, get_or, Option, None, Some, refl, sym, ap, ◌∙◌, subst, arith, length-append, flat_map, slice_get, slice_range, option_map, All}
 use Rattle.lemmas.proofs.{any_at, get_or_from_slice_get, same_some, slice_get-get_or, slice_get-map, slice_get_within}
 use Rattle.rdf_values.specs.{ActionAt, ActionKind, below, Booking, fold_items, Lead, Pass, Path, ReportOn, same, Span, Under, Value}
-use Rattle.rdf_values.proofs.Below.{slice_get-below}
+use Rattle.rdf_values.proofs.UnionLemmas.{slice_get-below}
 use Rattle.rdf_model.specs.{◌>>=◌, action_pass, booking_outcome, Dataset, Entry, fault_in, filter_in, filter_node, FilterCounts, is_covered, kind_in, kinds_in, loop_facts, Outcome, over_clusters, report_in, reports_on, result_over, rows_in, span_rows}
 use Rattle.rdf_model.proofs.Accepted.{itself}
-use Rattle.rdf_model.proofs.Faults.{first_fault_is_least}
-use Rattle.rdf_model.proofs.Parts.{facts_give_results, facts_give_counts}
+use Rattle.rdf_model.proofs.Faults.{first_fault_is_least, facts_give_results, facts_give_counts}
 use Rattle.actions.specs.{Accumulator, in_file_order}
 use Rattle.loop_pieces.specs.{AllClustersAreTheTable, counts_at, counts_of, fed_over, PieceHoldsCounts, PieceHoldsResults, WatchPieceIsPartialResult}
-use Rattle.loop_pieces.proofs.FedOver.{items_in_order}
+use Rattle.loop_pieces.proofs.ByCluster.{items_in_order, joined_places, lead_up, ranges_join, range_none, range_whole}
 use Rattle.loop_pieces.proofs.Joined.{kind_at}
-use Rattle.loop_pieces.proofs.Places.{joined_places, lead_up, ranges_join, range_none, range_whole}
 
 -- ---- all rows
 

@@ -2,8 +2,7 @@
 use Rattle.std.proofs.Common.{◌≡◌, ℕ, ◌<◌, ◌≤◌, List, [], ◌∷◌, ◌++◌, length, map, Option, None, Some, refl, sym, ap, ◌∙◌, subst, inl, inr, ⊎_elim, arith, mul-zero, slice_get, IsTrue, flat_map, Ok}
 use Rattle.lemmas.proofs.{All, All-cons, All-head, All-map, All-nil, All-replicate, All-tail, cases_lt, common_steps, concat, IsStrictlyIncreasing, length-replicate, sum_by, sum_by-cons, sum_by-replicate}
 use Rattle.rdf_values.specs.{below, drawn_lists, Ended, Event, Fault as LoopFault, fault_of, Faulted, finished, is_over, Machine, once_below, opening, Phase, replayed, Running, Slot, slot_faults, times}
-use Rattle.rdf_values.proofs.DrawCounts.{times_push, times_self, times_below, times_concat, permuted_by_counts, once_inside, inside_once, drawn_by_counts, sum_by-map}
-use Rattle.rdf_values.proofs.UnionLemmas.{none_rises}
+use Rattle.rdf_values.proofs.UnionLemmas.{times_push, times_self, times_below, times_concat, permuted_by_counts, once_inside, inside_once, drawn_by_counts, sum_by-map, none_rises}
 use Rattle.merge_core.specs.{EachIsDrawnOnce, FirstFaultIsTold}
 use Rattle.merge_core.proofs.Faults.{Among, Told, Reaches, told_nothing, told_both, first_told}
 use Rattle.merge_core.proofs.Stepped.{replays}

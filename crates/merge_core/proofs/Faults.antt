@@ -2,7 +2,7 @@
 use Rattle.std.proofs.Common.{◌≡◌, ◌⊎◌, ℕ, zero, suc, ◌<◌, ◌≤◌, List, [], ◌∷◌, ◌++◌, length, Option, None, Some, refl, sym, ap, ◌∙◌, inl, inr, ⊎_elim, arith, slice_get, nat_le}
 use Rattle.lemmas.proofs.{cases_lt, cond-false, cond-true, le-leb, le_or_lt, lt-leb, slice_get_within}
 use Rattle.rdf_values.specs.{AreInEntryOrder, Fault, first_in, least_fault, lesser_fault, times}
-use Rattle.rdf_values.proofs.DrawCounts.{times_append}
+use Rattle.rdf_values.proofs.UnionLemmas.{times_append}
 
 -- it is one of the faults
 abbrev pub Among : Fault → List Fault → Type 0

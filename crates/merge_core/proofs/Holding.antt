@@ -4,7 +4,7 @@ use Rattle.std.specs.Prelude.{⊤}
 use Rattle.lemmas.proofs.{All, All-pop, All-push, All-set, All-weaker, cases_lt, common_steps, get_or_from_slice_get, IsStrictlyIncreasing, length-set, slice_get_within, sum_by, sum_by-set}
 use Rattle.rdf_values.specs.{Ended, Event, Fault as LoopFault, fault_of, Faulted, finished, IsHonest, IsHonestEvent, Machine, once_below, Phase, Running, Slot, slot_faults, slot_of, times}
 use Rattle.rdf_values.specs.declared.clusters.event.Event.TheVariants.{Claim, Finish, Fault, Skip, End}
-use Rattle.rdf_values.proofs.DrawCounts.{one_if, times_push, times_append, once_next, rises_push}
+use Rattle.rdf_values.proofs.UnionLemmas.{one_if, times_push, times_append, once_next, rises_push}
 use Rattle.merge_core.proofs.Faults.{Among, among_left, among_right, among_either}
 use Rattle.merge_core.proofs.Stepped.{IsStepped, slot_with, left, changed}
 

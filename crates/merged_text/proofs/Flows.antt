@@ -7,7 +7,7 @@ use Rattle.rdf_model.specs.{filter_label, FilterCounts, flow_line, flow_lines}
 use Rattle.loop_pieces.specs.{Counts}
 use Rattle.graph_numbers.specs.{FilterAt, filters, own_filters}
 use Rattle.result_text.specs.{counts_seen}
-use Rattle.result_text.proofs.Lists.{one_left, put_last, put_next}
+use Rattle.result_text.proofs.CellNames.{one_left, put_last, put_next}
 use Rattle.merged_text.specs.{filter_counts, label_of, with_labels}
 
 -- the lines of filters, of which the first shown was reached by so many entries

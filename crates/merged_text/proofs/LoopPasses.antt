@@ -5,12 +5,11 @@ use Rattle.rdf_values.specs.{ActionAt, ActionKind, Booked, Booking, bookings, fn
 use Rattle.rdf_model.specs.{Dataset, filled_lines, flow_lines, label, loop_passes, loop_results}
 use Rattle.graph_numbers.specs.{booked_statements, FilterAt, graph_filters, graph_loops, graph_of, graph_results, graph_variations, GraphView, kind_of_booking, Pass as NumberedPass, pass_at, ResultAt, ResultKind, under_at}
 use Rattle.graph_numbers.proofs.Covering.{filters_are_the_scripts, reports_cover_filters}
-use Rattle.graph_numbers.proofs.Extending.{itself}
+use Rattle.graph_numbers.proofs.Placing.{itself}
 use Rattle.graph_numbers.proofs.Looping.{loops_are}
 use Rattle.graph_numbers.proofs.Resulting.{booked_are}
 use Rattle.result_text.specs.{passes_at, under_in, value_lines}
-use Rattle.result_text.proofs.PassLines.{filled_is}
-use Rattle.result_text.proofs.Passes.{IsPassAt}
+use Rattle.result_text.proofs.PassLines.{filled_is, IsPassAt}
 use Rattle.shard_lines.specs.{counts_of, ShardLine}
 use Rattle.merged_text.specs.{booking_text, filter_counts, line_filled, pass_text}
 use Rattle.merged_text.proofs.Flows.{labels_with}

@@ -7,8 +7,8 @@ use Rattle.rdf_model.proofs.Accepted.{names_equal}
 use Rattle.graph_numbers.specs.{booked_statements, graph_prints, graph_results, GraphView, result_number, ResultAt}
 use Rattle.graph_numbers.proofs.Resulting.{booked_are}
 use Rattle.result_text.specs.{passes_at}
-use Rattle.result_text.proofs.Lists.{one_left, put_last, put_next}
-use Rattle.result_text.proofs.Passes.{name_is}
+use Rattle.result_text.proofs.CellNames.{one_left, put_last, put_next}
+use Rattle.result_text.proofs.PassLines.{name_is}
 use Rattle.shard_lines.specs.{ShardLine}
 use Rattle.shard_files.specs.{ShardLoop}
 use Rattle.shard_files.specs.declared.shard_loop.ShardLoop.TheVariants.{Whole, Faulted}

@@ -3,7 +3,7 @@ use Rattle.std.proofs.Common.{◌≡◌, ℕ, ℤ, zero, suc, ◌+◌, ◌-◌, 
 use Rattle.rdf_values.specs.results.Fold.{Cell}
 use Rattle.histograms.specs.{cell_seen, CellSum}
 use Rattle.result_text.specs.{plane_at, planes_on}
-use Rattle.result_text.proofs.Lists.{put_next}
+use Rattle.result_text.proofs.CellNames.{put_next}
 use Rattle.merged_text.specs.{rows_of}
 
 pub map-take : {A B : Type 0} (f : A → B) (n : ℕ) (xs : List A) → map f (take n xs) ≡ take n (map f xs)

@@ -4,7 +4,7 @@ use Rattle.std.proofs.lemmas.List.{length-map, map-append}
 use Rattle.rdf_values.specs.{ActionAt, ActionKind, Booking, cells_on, flat_cell, fold_items, Item, Pass, Path, ReportOn, same, square_cell}
 use Rattle.rdf_values.specs.results.Fold.{Cell}
 use Rattle.rdf_values.specs.results.Fold as f
-use Rattle.rdf_values.proofs.Below.{length-below}
+use Rattle.rdf_values.proofs.UnionLemmas.{length-below}
 use Rattle.rdf_model.specs.{booking_lines, cutflow, Dataset, filled_lines, filter_label, flow_lines, items_of, label, pass_lines}
 use Rattle.histograms.specs.{cell_seen}
 use Rattle.loop_pieces.specs.{counts_of}

@@ -1,9 +1,11 @@
 -- Demands that are alike are one.
-use Rattle.std.proofs.Common.{◌≡◌, true, ◌&&◌, Some, None, refl, ap, nat_eq}
+use Rattle.std.proofs.Common.{◌≡◌, true, ◌&&◌, Some, None, refl, ap, nat_eq, ℕ, ◌≤◌, Bool, false, cond, List, [], ◌∷◌, arith, if◌then◌else◌, count_by, ◌⊎◌, inl, inr, ◌++◌, Option, flat_map}
 use Rattle.lemmas.proofs.{both_true, Decides-eqb}
-use Rattle.rdf_values.specs.{same, same_variation, Under, Variation}
-use Rattle.rdf_model.specs.{Demand, same_demand, same_site, same_under, Site}
+use Rattle.rdf_values.specs.{same, same_variation, Under, Variation, Column, Function, maker, named_maker, Path, Statement, target_of, Value, Booked, bookings, Fault, history, is_watched, passes_of, results_named, Script}
+use Rattle.rdf_model.specs.{Demand, same_demand, same_site, same_under, Site, ◌>>=◌, column_in, cutflow, Dataset, Entry, Faults, Feed, Gives, is_true, named_in, named_value, Needs, Outcome, passes_filters, report_in, through, Access, access_passes, access_printed, accesses, Course, first_fault, in_front_of, partial_lines, pass_lines, Printed, printed, result_lines, transcript}
 use Rattle.rdf_model.proofs.Accepted.{names_equal}
+use Rattle.std.proofs.lemmas.List.Sums.{sum_by-le-sum_by}
+use Rattle.rdf_values.specs.declared.scripts.statement.Statement.TheVariants.{Define, Redefine, Filter}
 
 site_is : (s t : Site) → same_site s t ≡ true → s ≡ t
 site_is s t h =
@@ -31,3 +33,85 @@ demand_is p q h =
     let b = both_true (same_site p.site q.site) (same_under p.under q.under) h in
     let a = site_is p.site q.site b.0 in let c = under_is p.under q.under b.1 in
     λ i. record { site = a i; under = c i }
+
+-- ---- Filters and reports.
+
+-- what passes after something passed it before
+passed_before : (o : Outcome ⊥ Bool) (f : Outcome ⊥ Bool) → is_true (o >>= λ passed. if passed then f else Gives false) ≡ true → is_true o ≡ true
+passed_before o f h = grind arith
+
+module _ (d : Dataset) where
+  passed_above : (s : Statement) (up : Path) (row : List Value) → passes_filters d (s ∷ up) row ≡ true → passes_filters d up row ≡ true
+  passed_above (Filter node parent expr label) up row h = passed_before (through d.fns d.columns row up None) _ h
+  passed_above s up row h = h
+
+count_le : {A : Type 0} (p q : A → Bool) → ((a : A) → p a ≡ true → q a ≡ true) → (xs : List A) → count_by p xs ≤ count_by q xs
+count_le p q h xs = sum_by-le-sum_by (λ x. cond (p x) 1 0) (λ x. cond (q x) 1 0) xs (λ x. one (p x) (q x) (h x))
+  where
+    one : (b c : Bool) → (b ≡ true → c ≡ true) → cond b 1 0 ≤ cond c 1 0
+    one b c h = grind arith
+
+pub passed_are_among_reached : (d : Dataset) (filter : Path) → (cutflow d filter).pass ≤ (cutflow d filter).all
+passed_are_among_reached d [] = omega arith
+passed_are_among_reached d (s ∷ up) = count_le (passes_filters d (s ∷ up)) (passes_filters d up) (λ row h. passed_above d s up row h) d.rows
+
+-- ---- reports
+
+not_fed : (values : List Value) (o : Outcome ⊥ Bool) (rest : Outcome ⊥ Entry) → (rest ≡ Gives (Feed values) → ⊥) → (o >>= λ passed. rest) ≡ Gives (Feed values) → ⊥
+not_fed values o rest h q = grind arith
+
+pub reports_are_fed_nothing : (d : Dataset) (row : List Value) (filters : List Path) (values : List Value) → report_in d row filters ≡ Gives (Feed values) → ⊥
+reports_are_fed_nothing d row [] values q = cc q
+reports_are_fed_nothing d row (f ∷ fs) values q = grind (arith, not_fed, reports_are_fed_nothing d row fs values)
+
+-- ---- makers
+
+at_maker : {A : Type 0} (b : Bool) (x y : A) (f : Path → A) (p q : Path) → (b ≡ true → x ≡ f p) → y ≡ f q → (if b then x else y) ≡ f (if b then p else q)
+at_maker true x y f p q h k = h refl
+at_maker false x y f p q h k = k
+
+module _ (fns : List Function) (columns : List Column) (row : List Value) where
+  -- a column that is no alias, under nominal
+  named_from_maker : (at : Path) (name : List ℕ) → named_value fns columns row {M = ⊥} at None name ≡ named_value fns columns row (named_maker at name) None name
+  named_from_maker [] name = refl
+  named_from_maker (Define node parent column expr ∷ up) name = grind (arith, at_maker, named_from_maker up name)
+  named_from_maker (Redefine node parent column expr ∷ up) name = grind (arith, at_maker, named_from_maker up name)
+  named_from_maker (s ∷ up) name = named_from_maker up name
+
+pub columns_come_from_their_maker : (d : Dataset) (row : List Value) (at : Path) (name : List ℕ) → column_in d row at None name ≡ named_in d row (maker at name) None (target_of at name)
+columns_come_from_their_maker d row at name = named_from_maker d.fns d.columns row at (target_of at name)
+
+-- ---- What the output of a run depends on.
+
+left_out : {A : Type 0} (b : Bool) (x y z : A) → b ≡ false → (if b then x else z) ≡ (if b then y else z)
+left_out b x y z h = rw h refl
+
+module _ (script : List Statement) (d : Dataset) (one other : Course) (unwatched : (name : List ℕ) → is_watched script name ≡ false) where
+  result_lines_alike : (b : Booked) → result_lines script d one b ≡ result_lines script d other b
+  result_lines_alike b =
+      ap (λ l. l ++ flat_map (pass_lines d) (passes_of script b)) (left_out (is_watched script b.name) (partial_lines script d one b.name b.booking) (partial_lines script d other b.name b.booking) [] (unwatched b.name))
+
+  access_alike : (a : Access) (f : Option Fault) (rest : Printed) → access_printed script d one a f rest ≡ access_printed script d other a f rest
+  access_alike a (Some f) rest = refl
+  access_alike a None rest = λ i. in_front_of (flat_map (λ b. result_lines_alike b i) (results_named a.result (bookings script))) rest
+
+  printed_alike : (as' : List Access) → printed script d one as' ≡ printed script d other as'
+  printed_alike [] = refl
+  printed_alike (a ∷ rest) =
+      λ i. access_alike a (first_fault d (access_passes script d one a)) (printed_alike rest i) i
+
+pub unwatched_output_is_one_function : (script : Script) (d : Dataset) (one other : Course) → ((name : List ℕ) → is_watched (history script) name ≡ false) → transcript script d one ≡ transcript script d other
+unwatched_output_is_one_function script d one other h = printed_alike (history script) d one other h (accesses (history script))
+
+module _ (script : List Statement) (d : Dataset) (course : Course) where
+  access_status : (a : Access) (f : Option Fault) (rest : Printed) → (rest.status ≡ 0) ⊎ (rest.status ≡ 8)
+      → ((access_printed script d course a f rest).status ≡ 0) ⊎ ((access_printed script d course a f rest).status ≡ 8)
+  access_status a (Some f) rest h = inr refl
+  access_status a None rest h = h
+
+  printed_status : (as' : List Access) → ((printed script d course as').status ≡ 0) ⊎ ((printed script d course as').status ≡ 8)
+  printed_status [] = inl refl
+  printed_status (a ∷ rest) = access_status a (first_fault d (access_passes script d course a)) (printed script d course rest) (printed_status rest)
+
+pub status_tells_of_faults : (script : Script) (d : Dataset) (course : Course) → ((transcript script d course).status ≡ 0) ⊎ ((transcript script d course).status ≡ 8)
+status_tells_of_faults script d course = printed_status (history script) d course (accesses (history script))

@@ -2,7 +2,7 @@
 use Rattle.std.proofs.Common.{◌≡◌, ℕ, ℤ, Bool, true, false, List, [], ◌∷◌, Option, Some, None, refl, if◌then◌else◌, length, nat_eq, map, slice_get, ◌+ℤ◌, ◌-ℤ◌, ◌*ℤ◌, neg_ℤ, int_div, nat_abs, pos, negsuc}
 use Rattle.std.specs.Int.{int_min, int_max}
 use Rattle.rdf_values.specs.{Bin, BinOp, Call, Callee, callee, Col, Column, Cond, EachArgument, EachColumn, End, fn_names, Function, Lit, More, NamedTree, Neg, Not, Path, Pick, place, same, target_of, Tree, Trees, Under, Value, VaryValues}
-use Rattle.rdf_values.proofs.Columns.{all_columns}
+use Rattle.rdf_values.proofs.KeptLemmas.{all_columns}
 use Rattle.rdf_values.specs.expressions.Expressions.{Truth}
 use Rattle.rdf_values.specs.declared.scripts.vary_values.VaryValues.TheVariants.{Lists, Vector}
 use Rattle.rdf_values.specs.declared.scripts.statement.Statement.TheVariants.{Define, Redefine, Vary}

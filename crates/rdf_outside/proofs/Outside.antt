@@ -1,7 +1,29 @@
--- Steps of whole reads and writes.
-use Rattle.std.proofs.Common.{◌≡◌, ◌≤◌, ◌+◌, ℕ, List, [], ◌++◌, Option, None, Some, length, take, drop, refl, ap, sym, ◌∙◌, append_assoc, length-append, arith}
+-- Steps of the walks that make a struct without fields.
+use Rattle.std.proofs.Common.{List, [], ◌∷◌, refl, ◌≡◌, ◌≤◌, ◌+◌, ℕ, ◌++◌, Option, None, Some, length, take, drop, ap, sym, ◌∙◌, append_assoc, length-append, arith}
+use seplogic.Ra.Ura.{Ura}
+use mir.Val.{Val, vstruct, vnil}
+use types.Logic.{Logic}
+use types.Kit.{Goal, Step, step, Item, ‵, ◌$◌, fjoin, fpack, feq_i}
+use denote.RattleType.{RattleType, Valss}
+use denote.Steps.{nothing}
+use denote.Struct.Struct.{Struct, within}
 use Rattle.std.proofs.lemmas.List.{take-append-drop, nil_from_length}
 use Rattle.rdf_outside.specs.{Appends, Joins, Reads}
+
+-- a struct without fields: what it owns does not read its name
+abbrev pub plain_none : RattleType
+plain_none = Struct (record { name = []; args = []; types = []; fields = [] })
+
+abbrev pub none : Val
+none = vstruct vnil
+
+module _ {M : Type 1} {𝓤 : Ura M} {𝓛 : Logic 𝓤} {K : Type 0} {Γ : List (Item 𝓤)} {G : Goal 𝓤 𝓛.H} where
+  pub none_made : K → Step K 𝓛 (‵ (plain_none.own_val tt (none ∷ [])) ∷ Γ) G Γ G
+  none_made t = step (λ s.
+      nothing t $ feq_i t (List Val) (none ∷ []) (none ∷ []) refl $ fjoin t $
+      fpack t (Valss []) (within (record { name = []; args = []; types = []; fields = [] }) tt (none ∷ [])) tt $ s)
+
+-- ---- Steps of whole reads and writes.
 
 -- nothing stands behind the whole
 nil_behind : (all bytes rest : List ℕ) → all ≡ bytes ++ rest → bytes ≡ all → rest ≡ []

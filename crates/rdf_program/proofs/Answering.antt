@@ -1,17 +1,177 @@
--- Answers to the words, and what is written of them.
-use Rattle.std.proofs.Common.{◌≡◌, ◌≤◌, ◌⊎◌, ℕ, List, [], ◌++◌, Option, None, Some, IfSome, MatchOption, inr, inl, sym, subst, ◌∙◌, ap}
+-- What is due to an accepted run has the status that the run ends in.
+use Rattle.std.proofs.Common.{◌≡◌, ◌≤◌, ◌+◌, ℕ, Bool, false, ◌||◌, List, [], ◌∷◌, length, map, Option, Some, None, Ok, nat_lt, option_map, inl, inr, ap, refl, sym, subst, ◌∙◌, if◌then◌else◌, is_some, unwrap_or, Result, Err, ◌++◌, IfSome, arith, append_assoc, OnOk, ◌⊎◌, MatchOption}
+use Rattle.lemmas.proofs.{le-ltb, list_any}
+use Rattle.rdf_values.specs.{Booked, Fault, fn_names, Function, history, IsScript, MarkedTable, Script, Statement, table_of, Value, verdict, Column, FunctionNames, graph_cause_line, GraphCause}
+use Rattle.rdf_values.proofs.OneScript.{one_script, script_or_refusal}
+use Rattle.rdf_model.specs.{Access, access_passes, access_printed, accesses, Course, Dataset, first_fault, first_fault_from, loop_passes, Printed, printed}
+use Rattle.expr_read.proofs.Decided.{read_once}
+use Rattle.table_csv.specs.{csv_records}
+use Rattle.command_words.specs.{Friend, Input, asked_of, Command}
+use Rattle.rdf_program.specs.{AcceptedRunsEnd, AreTexts, dataset_of, friend_of, has_fault, IsDueOver, IsDueToInput, IsDueToScript, IsPrinted, IsWithFriend, printed_status, status_of_run, statuses, WithFriend, AreTurnsTo, CallsForFriend, CallsForTable, due_in, HoldsScript, HoldsTable, IsAnswer, IsDueToFiles, MayReadOf, AnswersInput, AnswersWords, AreSettings, AreTurnsIn, IsDue, IsFinal, IsOfRun, IsUnread, MayRead, MayReadIn, NameFiles, NamesFiles, OfFiles, TurnsBesides, WritesPart, WritesReadFailed}
+use Rattle.input_files.specs.{Files, max_script, max_table, ReadsScript, WithScript, WithTable, HoldsTheScript, HoldsTheTable, Tells, due_of, WritesDue, WritesDuePart}
+use Rattle.input_files.specs.Due.{Due}
+use Rattle.rdf_program.specs.declared.status.Status.{Status}
+use Rattle.rdf_program.specs.declared.status.Status.TheVariants.{Done, LoopFault, Memory, Words, ReadFault, WriteFault, NoFile, ScriptRefused, TableRefused, FriendRefused}
+use Rattle.input_files.proofs.Staging.{script_read_due, table_read_due}
+use Rattle.rdf_program.specs.declared.answer.Answer.{Answer}
 use Rattle.rdf_outside.specs.{Appends, AppendsPart}
-use Rattle.rdf_values.specs.{Function}
 use Rattle.result_text.specs.{usage_line}
 use Rattle.command_words.proofs.Bounds.{asked_fits}
-use Rattle.command_words.specs.{asked_of, Command, Friend, Input}
-use Rattle.input_files.specs.{due_of, Files, WritesDue, WritesDuePart}
-use Rattle.input_files.specs.Due.{Due}
-use Rattle.rdf_program.specs.{AnswersInput, AnswersWords, AreSettings, AreTurnsIn, AreTurnsTo, due_in, IsDue, IsDueToInput, IsFinal, IsOfRun, IsUnread, MayRead, MayReadIn, NameFiles, NamesFiles, OfFiles, TurnsBesides, WritesPart, WritesReadFailed}
-use Rattle.rdf_program.specs.declared.answer.Answer.{Answer}
-use Rattle.rdf_program.specs.declared.status.Status.{Status}
-use Rattle.rdf_program.specs.declared.status.Status.TheVariants.{Done, Memory, Words, ReadFault, WriteFault, NoFile, ScriptRefused, TableRefused, LoopFault, FriendRefused}
-use Rattle.rdf_program.proofs.Inputs.{Told}
+use Rattle.rdf_values.specs.Answered.{Refuses}
+use Rattle.graph_numbers.specs.{booked}
+use Rattle.graph.specs.{GraphRefusal, refused_at}
+use Rattle.graph.proofs.Finished.{refusal_of, refused_verdict}
+use Rattle.rdf_program.specs.Answers.{Answers}
+
+-- ---- the status of a transcript
+
+no_passes : (d : Dataset) (e : ℕ) (rows : List (List Value)) → first_fault_from d e rows [] ≡ None
+no_passes d e [] = refl
+no_passes d e (row ∷ rows) = no_passes d (e + 1) rows
+
+module _ (script : List Statement) (d : Dataset) (course : Course) where
+  -- the loop of a Print has a fault where the passes of the loop that it runs have one
+  fault_of_loop : (a : Access) → is_some (first_fault d (access_passes script d course a)) ≡ has_fault d (option_map (loop_passes script) a.fills)
+  fault_of_loop a = go a.fills
+    where
+      go : (fills : Option (List Booked)) → is_some (first_fault d (loop_passes script (unwrap_or fills []))) ≡ has_fault d (option_map (loop_passes script) fills)
+      go None = ap is_some (no_passes d 0 d.rows)
+      go (Some results) = refl
+
+  abbrev status_where : Bool → Status
+  status_where faulty = if faulty then LoopFault else Done
+
+  abbrev has_loop_fault : Access → Bool
+  has_loop_fault a = has_fault d (option_map (loop_passes script) a.fills)
+
+  at_access : (a : Access) (fault : Option Fault) (rest : Printed) (faulty : Bool) → printed_status rest.status ≡ status_where faulty
+      → printed_status (access_printed script d course a fault rest).status ≡ status_where (is_some fault || faulty)
+  at_access a None rest faulty h = h
+  at_access a (Some f) rest faulty h = refl
+
+  status_is : (accs : List Access) → printed_status (printed script d course accs).status ≡ status_where (list_any has_loop_fault accs)
+  status_is [] = refl
+  status_is (a ∷ accs) =
+      at_access a (first_fault d (access_passes script d course a)) (printed script d course accs) (list_any has_loop_fault accs) (status_is accs)
+      ∙ ap (λ b. status_where (b || list_any has_loop_fault accs)) (fault_of_loop a)
+
+  any_mapped : (accs : List Access) → list_any has_loop_fault accs ≡ list_any (has_fault d) (map (λ (a : Access). option_map (loop_passes script) a.fills) accs)
+  any_mapped [] = refl
+  any_mapped (a ∷ accs) = ap (λ b. has_loop_fault a || b) (any_mapped accs)
+
+  pub status_by_loops : (accs : List Access) → printed_status (printed script d course accs).status ≡ status_where (list_any (has_fault d) (map (λ (a : Access). option_map (loop_passes script) a.fills) accs))
+  status_by_loops accs = status_is accs ∙ ap status_where (any_mapped accs)
+
+-- ---- what is due
+
+module _ (fns : List Function) (size watch : ℕ) (script : Script) (table : MarkedTable) (accepted : verdict (fn_names fns) table.table.columns script ≡ None) (d : Due Status) where
+  over_table : IsPrinted fns size watch script table d → d.status ≡ status_of_run fns script table
+  over_table h = h.status ∙ status_by_loops (history script) (dataset_of fns size watch table.table) h.course (accesses (history script))
+
+  over_accepted : IsDueOver fns size watch script table d → d.status ≡ status_of_run fns script table
+  over_accepted h = over_table (rw accepted at h)
+
+  to_friend : (friend : Option Friend) (files : Files) (own : MarkedTable) → IsWithFriend friend files own table
+      → WithFriend friend files own (λ t e. IsDueOver fns size watch script t e) d → d.status ≡ status_of_run fns script table
+  to_friend None files own w h = over_accepted (subst (λ (t : MarkedTable). IsDueOver fns size watch script t d) (sym w) h)
+  to_friend (Some friend) files own w h =
+      let fits : nat_lt max_table (length w.bytes) ≡ false = le-ltb max_table (length w.bytes) w.short in
+      let read = rw w.there at h in
+      let same : record { table = table.table; marks = own.marks } ≡ table = ap (λ (ms : List ℕ). let t : MarkedTable = record { table = table.table; marks = ms } in t) (sym w.marks) in
+      over_accepted (subst (λ (t : MarkedTable). IsDueOver fns size watch script t d) same (rw (fits, w.is_other, w.joins) at read))
+
+  tabled : (bytes : List ℕ) (own : MarkedTable) (Next : MarkedTable → Due Status → Type 0) → length bytes ≤ max_table → table_of (csv_records bytes) ≡ Ok own → WithTable statuses bytes Next d → Next own d
+  tabled bytes own Next short is h =
+      let fits : nat_lt max_table (length bytes) ≡ false = le-ltb max_table (length bytes) short in
+      rw (fits, is) at h
+
+  reading : (bytes : List ℕ) (Next : Script → Due Status → Type 0) → length bytes ≤ max_script → IsScript bytes script → WithScript statuses bytes Next d → Next script d
+  reading bytes Next short is h =
+      let fits : nat_lt max_script (length bytes) ≡ false = le-ltb max_script (length bytes) short in
+      one (rw fits at h)
+    where
+      one : ReadsScript statuses bytes Next d → Next script d
+      one (inl r) = absurd (script_or_refusal read_once bytes script r.0 is r.1)
+      one (inr r) = subst (λ (s : Script). Next s d) (one_script read_once bytes r.0 script r.1 is) r.2
+
+  to_input : (files : Files) (named : Input) (script_bytes table_bytes : List ℕ) (own : MarkedTable) → AreTexts files named script_bytes table_bytes
+      → length script_bytes ≤ max_script → length table_bytes ≤ max_table → IsScript script_bytes script → table_of (csv_records table_bytes) ≡ Ok own → IsWithFriend (friend_of named) files own table
+      → IsDueToInput fns size watch files named d → d.status ≡ status_of_run fns script table
+  to_input files (Input.Files s t friend) sb tb own texts short_script short_table is_script is_table w h =
+      let bytes = rw texts.0 at h in
+      let next : IsDueToScript fns size watch script t friend files d = reading sb (λ x e. IsDueToScript fns size watch x t friend files e) short_script is_script bytes in
+      to_friend friend files own w (tabled tb own (λ o e. WithFriend friend files o (λ x u. IsDueOver fns size watch script x u) e) short_table is_table (rw texts.1 at next))
+  to_input files (Input.Generated entries seed) sb tb own texts short_script short_table is_script is_table w h =
+      let due : WithScript statuses sb (λ x e. WithTable statuses tb (λ t u. IsDueOver fns size watch x t u) e) d = rw (texts.0, texts.1) h in
+      to_friend None files own w (tabled tb own (λ t u. IsDueOver fns size watch script t u) short_table is_table (reading sb (λ x e. WithTable statuses tb (λ t u. IsDueOver fns size watch x t u) e) short_script is_script due))
+
+pub accepted_runs_end : AcceptedRunsEnd
+accepted_runs_end fns words files script table d is h =
+    let c = is.command in
+    let asked : IsDueToInput fns c.cluster c.watch files c.input d = rw is.taken at h in
+    to_input fns c.cluster c.watch script table is.accepted d files c.input is.script_bytes is.table_bytes is.own is.texts is.short_script is.short_table is.is_script is.is_table is.with_friend asked
+
+-- ---- Answers to files that were read, and the files that were turned to.
+
+pub always_ok : {A E : Type 0} (r : Result A E) (P : Type 0) → P → OnOk r P
+always_ok (Ok a) P p = p
+always_ok (Err e) P p = tt
+
+-- the files by their names, where the shelf tells them
+abbrev pub Told : Type 0
+Told = Option Files
+
+two_told : (told : Told) (name other : List ℕ) (P R : Option (List ℕ) → Type 0) (Q : Files → Type 0) → Tells told name P → Tells told other R → ((f : Files) → P (f name) → R (f other) → Q f) → IfSome told Q
+two_told None name other P R Q t u step = tt
+two_told (Some f) name other P R Q t u step = step f t u
+
+step_told : (told : Told) (P Q : Files → Type 0) → IfSome told P → IfSome told (λ f. P f → Q f) → IfSome told Q
+step_told None P Q p step = tt
+step_told (Some f) P Q p step = step p
+
+module _ (script table : List ℕ) (friend : Option Friend) (told : Told) (s : Script) (is : Tells told script (HoldsTheScript s)) where
+  calls_for_table : CallsForTable script table friend told
+  calls_for_table = two_told told script script (HoldsTheScript s) (HoldsTheScript s) (λ f. HoldsScript (f script)) is is (λ f k _. (s, k))
+
+  -- the shelf was turned to the table
+  pub turned_to_table : (before mid after : List (List ℕ)) → mid ≡ before ++ script ∷ [] → after ≡ mid ++ table ∷ [] → (turns : List (List ℕ)) × (after ≡ before ++ turns) × AreTurnsTo script table friend told turns
+  turned_to_table before mid after m e = (script ∷ table ∷ [], e ∙ ap (λ l. l ++ table ∷ []) m ∙ append_assoc before (script ∷ []) (table ∷ []), inr (inl (refl, calls_for_table)))
+
+  module _ (own : MarkedTable) (holds : Tells told table (HoldsTheTable own)) (named : Friend) (some : friend ≡ Some named) where
+    calls_for_friend : CallsForFriend script table friend told
+    calls_for_friend = two_told told script table (HoldsTheScript s) (HoldsTheTable own) (λ f. HoldsScript (f script) × HoldsTable (f table)) is holds (λ f x t. ((s, x), (own, t)))
+
+    -- and then to the friend
+    pub turned_to_friend : (before mid late after : List (List ℕ)) → mid ≡ before ++ script ∷ [] → late ≡ mid ++ table ∷ [] → after ≡ late ++ named.file ∷ [] → (turns : List (List ℕ)) × (after ≡ before ++ turns) × AreTurnsTo script table friend told turns
+    turned_to_friend before mid late after m l e = (
+      script ∷ table ∷ named.file ∷ [],
+      e ∙ ap (λ x. x ++ named.file ∷ []) (l ∙ ap (λ x. x ++ table ∷ []) m) ∙ append_assoc (before ++ script ∷ []) (table ∷ []) (named.file ∷ []) ∙ append_assoc before (script ∷ []) (table ∷ named.file ∷ []),
+      inr (inr (named.file, rw some refl, refl, calls_for_friend)),
+    )
+
+    -- the answer to a table with its friend is that to their files
+    pub friend_answer : (fns : List Function) (size watch f0 f1 f2 f3 : ℕ) (before turns : List (List ℕ)) (a : Answer) → f0 ≤ f1 → f1 ≤ f2 → turns ≡ before ++ named.file ∷ []
+        → IsAnswer (λ f d. WithFriend (Some named) f own (λ joined e. IsDueOver fns size watch s joined e) d) (λ unread. unread ≡ named.file) told f2 f3 a
+        → IsAnswer (IsDueToFiles fns size watch script table friend) (MayReadOf script table friend told turns) told f0 f3 a
+    friend_answer fns size watch f0 f1 f2 f3 before turns a le later at (inr u) = inr (let r = u.rose in record {
+      status = u.status;
+      rose = omega arith;
+      name = u.name;
+      may_read = (record { earlier = before; last = at ∙ ap (λ n. before ++ n ∷ []) (sym u.may_read) }, inr (inr (rw some u.may_read, calls_for_friend)));
+      text = u.text;
+    })
+    friend_answer fns size watch f0 f1 f2 f3 before turns a le later at (inl h) = inl (
+      h.0,
+      step_told told (λ f. WithFriend (Some named) f own (λ joined e. IsDueOver fns size watch s joined e) (due_in a)) (λ f. IsDueToFiles fns size watch script table friend f (due_in a)) h.1
+          (two_told told script table (HoldsTheScript s) (HoldsTheTable own)
+          (λ f. WithFriend (Some named) f own (λ joined e. IsDueOver fns size watch s joined e) (due_in a) → IsDueToFiles fns size watch script table friend f (due_in a)) is holds
+          (λ f x t due.
+          script_read_due statuses script (f script) s (λ y d. IsDueToScript fns size watch y table friend f d) (due_in a) x
+          (table_read_due statuses table (f table) own (λ o d. WithFriend friend f o (λ joined e. IsDueOver fns size watch s joined e) d) (due_in a) t
+          (subst (λ (n : Option Friend). WithFriend n f own (λ joined e. IsDueOver fns size watch s joined e) (due_in a)) (sym some) due)))),
+    )
+
+-- ---- Answers to the words, and what is written of them.
 
 -- what holds of all files holds of those that are told
 whatever : (told : Told) (P : Files → Type 0) → ((f : Files) → P f) → IfSome told P
@@ -111,3 +271,14 @@ module _ (fns : List Function) (words : List (List ℕ)) (told : Told) (turns : 
         go : Sorts (λ f. IsDue fns words f (due_in a)) (NameFiles words) (MayRead words told turns) → WritesPart fns words told turns f0 f1 before after
         go (inl s) = inl (each (λ f. IsDue fns words f (due_in a)) (WritesDuePart (IsDue fns words) before after) (λ f d. (due_in a, d, part)) s.1)
         go (inr u) = inr (u.rose, (u.name, u.may_read, subst (AppendsPart before after) u.text part))
+
+-- ---- A script that can't be booked over a table is refused.
+
+pub over_refused : (fns : List Function) (size watch : ℕ) (script : Script) (header : List Column) (names : FunctionNames) (table : MarkedTable) (refusal : GraphRefusal) (line line' : ℕ) (cause cause' : GraphCause) (a : Answer)
+    → header ≡ table.table.columns → names ≡ fn_names fns → refusal ≡ GraphRefusal.At line cause → Refuses refused_at GraphRefusal.Memory (booked script header names) refusal
+    → line' ≡ line → cause' ≡ cause → (a.status ≡ ScriptRefused) × (a.text ≡ graph_cause_line line' cause') → Answers (IsDueOver fns size watch script table) a
+over_refused fns size watch script header names table refusal line line' cause cause' a h n is refused l k e =
+    let v = refused_verdict _ (verdict names header script) (line, cause) (refusal_of _ line cause (rw is at refused)) in
+    let w : verdict (fn_names fns) table.table.columns script ≡ Some (line, cause) = rw (h, n) at v in
+    let text : a.text ≡ graph_cause_line line cause = rw (l, k) at e.1 in
+    (rw e.0 tt, rw (w, e.0, text) refl)

@@ -4,7 +4,7 @@ use Rattle.std.specs.Bool.{MatchBool}
 use Rattle.rdf_values.specs.{Fault, fn_names, Function, generated_script, generated_table, graph_cause_line, GraphCause, history, long_script_line, long_table_line, MarkedTable, Script, script_cause_line, Statement, table_cause_line, table_of, verdict}
 use Rattle.rdf_values.proofs.OneScript.{one_cause, one_script, script_or_refusal}
 use Rattle.rdf_model.specs.{Access, access_passes, access_printed, accesses, Course, Dataset, first_fault, Printed, printed}
-use Rattle.expr_read.proofs.ReadOnce.{read_once}
+use Rattle.expr_read.proofs.Decided.{read_once}
 use Rattle.table_csv.specs.{csv_records}
 use Rattle.command_words.specs.{asked_of, Command, Friend, Input}
 use Rattle.friend_join.specs.{join_of}

@@ -5,7 +5,7 @@ use Rattle.rdf_values.specs.{cut, fn_names, Function, generated_script, generate
 use Rattle.rdf_model.specs.{Course, transcript}
 use Rattle.script_read.proofs.Answered.{answered}
 use Rattle.table_csv.specs.{csv_records}
-use Rattle.event_loop.proofs.SomeChain.{first_sets, first_sets_are_a_chain}
+use Rattle.event_loop.proofs.SlotLemmas.{first_sets, first_sets_are_a_chain}
 use Rattle.command_words.specs.{asked_of, Command, Friend, Input}
 use Rattle.friend_join.specs.{join_of}
 use Rattle.result_text.specs.{friend_cause_line, join_cause_line, long_friend_line, usage_line}

@@ -13,7 +13,7 @@ use Rattle.rdf_values.specs.contracts.expressions.num_expr.NumExpr.TheInside.{th
 use Rattle.rdf_values.specs.contracts.expressions.num_expr.NumExpr.TheInside as I
 use Rattle.rdf_values.specs.contracts.expressions.num_expr.NumNode as node
 use Rattle.rdf_values.specs.contracts.expressions.num_expr.NumArgs.TheKnot as knot
-use Rattle.rdf_values.proofs.SharedExpr.{i64_sync, bool_sync, boxed_sync, op_field}
+use Rattle.rdf_values.proofs.Shared.{i64_sync, bool_sync, boxed_sync, op_field}
 use Rattle.rdf_values.specs.declared.expressions.num_expr.NumArgs.TheBlock.{the_members, member-NumArgs, member-NumNode}
 
 args_layer : (a b : RattleType) → IsSync a → IsSync b → IsSync (knot.layer-NumArgs a b)

@@ -1,11 +1,37 @@
--- The script that a text of at most 65,536 bytes is can be booked.
-use Rattle.std.proofs.Common.{◌≡◌, ℕ, zero, suc, ◌+◌, ◌<◌, ◌≤◌, Bool, true, false, List, [], ◌∷◌, ◌++◌, length, Some, None, Ok, Err, Result, refl, ap, arith, length-append, if◌then◌else◌, ℤ, ◌&&◌, ◌==◌}
-use Rattle.lemmas.proofs.{All-from_recursion, AllByRecursion, length-map}
-use Rattle.rdf_values.specs.{ActionKind, all_strings, AreLines, AreNames, AreRising, AreShortValues, arguments, Bad, bare, bare_tokens, begins_with, Blank, blank_line, Close, Comma, Comment, edges_tokens, expression_count, Form, form_tokens, Found, IsAction, IsBookable, IsLine, IsScript, IsShort, last_item, last_list, Lexeme, lexeme, Line, lines_of, Mark, maybe_string, Method, more_edges, more_items, more_lists, more_names, more_strings, NamedTree, no_lines, no_names, one_list, Placed, PlacedToken, Punct, Quoted, QuotedText, ReadsList, ReadsLists, ReadsValues, ReadsValuesText, Says, Script, several_lists, Statement, statement_line, strings_tokens, Token, tokens_from, VaryValues, vector, with_byte, with_lexeme, with_token}
-use Rattle.rdf_values.proofs.Literals.{few_tokens}
+-- One more name at the end of names of functions, and one more mark at the end of marks.
+use Rattle.std.proofs.Common.{◌≢◌, ◌≤◌, ◌<◌, List, [], ◌∷◌, ◌++◌, length, All, arith, sym, ◌+◌, ℕ, ◌≡◌, zero, suc, Bool, true, false, Some, None, Ok, Err, Result, refl, ap, length-append, if◌then◌else◌, ℤ, ◌&&◌, ◌==◌}
+use Rattle.lemmas.proofs.{All-append, All-cons, All-head, All-tail, all_pairs_push, AllPairs-from_increasing, common_steps, All-from_recursion, AllByRecursion, length-map}
+use Rattle.rdf_values.specs.{AreFnNames, AreMarks, FnName, HaveDistinctNames, IsBuiltIn, LacksName, ActionKind, all_strings, AreLines, AreNames, AreRising, AreShortValues, arguments, Bad, bare, bare_tokens, begins_with, Blank, blank_line, Close, Comma, Comment, edges_tokens, expression_count, Form, form_tokens, Found, IsAction, IsBookable, IsLine, IsScript, IsShort, last_item, last_list, Lexeme, lexeme, Line, lines_of, Mark, maybe_string, Method, more_edges, more_items, more_lists, more_names, more_strings, NamedTree, no_lines, no_names, one_list, Placed, PlacedToken, Punct, Quoted, QuotedText, ReadsList, ReadsLists, ReadsValues, ReadsValuesText, Says, Script, several_lists, Statement, statement_line, strings_tokens, Token, tokens_from, VaryValues, vector, with_byte, with_lexeme, with_token}
+use Rattle.rdf_values.proofs.OneText.{few_tokens}
+use Rattle.rdf_values.specs.declared.scripts.statement.Statement.TheVariants.{Action}
 use Rattle.rdf_values.specs.scripts.LineForms as form
 use Rattle.rdf_values.specs.scripts.Statements as says
-use Rattle.rdf_values.specs.declared.scripts.statement.Statement.TheVariants.{Action}
+
+All-one : (P : FnName → Type 0) (f : FnName) → P f → All P (f ∷ [])
+All-one P f p = All-cons P f [] p (λ k d h. absurd (omega arith))
+
+HaveDistinctNames-push : (fs : List FnName) (f : FnName) → HaveDistinctNames fs → LacksName f.name fs → HaveDistinctNames (fs ++ f ∷ [])
+HaveDistinctNames-push [] f d l = (λ k d h. absurd (omega arith), tt)
+HaveDistinctNames-push (g ∷ gs) f d l =
+    (All-append (λ h. h.name ≢ g.name) gs (f ∷ []) d.0 (All-one (λ h. h.name ≢ g.name) f (λ e. All-head (λ h. h.name ≢ f.name) g gs l (sym e))), HaveDistinctNames-push gs f d.1 (All-tail (λ h. h.name ≢ f.name) g gs l))
+
+pub AreFnNames-push : (fs : List FnName) (f : FnName) → AreFnNames fs → length fs < 64 → f.arity ≤ 8 → LacksName f.name fs → (IsBuiltIn f.name → ⊥) → AreFnNames (fs ++ f ∷ [])
+AreFnNames-push fs f a room arity lacks free = record {
+  few = grind (arith, common_steps);
+  arities = All-append (λ h. h.arity ≤ 8) fs (f ∷ []) a.arities (All-one (λ h. h.arity ≤ 8) f arity);
+  distinct = HaveDistinctNames-push fs f a.distinct lacks;
+  not_built_in = All-append (λ h. IsBuiltIn h.name → ⊥) fs (f ∷ []) a.not_built_in (All-one (λ h. IsBuiltIn h.name → ⊥) f free);
+}
+
+-- ---- marks
+
+pub AreMarks-push : (marks : List ℕ) (e : ℕ) → AreMarks marks → All (λ m. m < e) marks → e < 1000000 → AreMarks (marks ++ e ∷ [])
+AreMarks-push marks e a above few = record {
+  rising = (let pairs = all_pairs_push (λ x y. x < y) marks e (AllPairs-from_increasing marks a.rising) (λ k d h. above k d h) in λ k h. pairs k (k + 1) 0 (omega arith) h);
+  few = All-append (λ m. m < 1000000) marks (e ∷ []) a.few (All-cons (λ m. m < 1000000) e [] few (λ k d h. absurd (omega arith)));
+}
+
+-- ---- The script that a text of at most 65,536 bytes is can be booked.
 
 -- ---- an expression has at most 256 tokens, so the lists of a Vary are short
 

@@ -1,11 +1,32 @@
--- The names of an axis's cells, by their places, and the lines of cells.
-use Rattle.std.proofs.Common.{◌≡◌, ℕ, zero, suc, ◌+◌, ◌<◌, ◌≤◌, ℤ, pos, List, [], ◌∷◌, ◌++◌, length, map, drop, get_or, Option, None, Some, refl, sym, ap, ◌∙◌, arith, append_assoc, codes, slice_get}
-use Rattle.lemmas.proofs.{none_left as drop_whole, signed_decimal}
+-- Lists from a place on.
+use Rattle.std.proofs.Common.{◌≡◌, ℕ, zero, suc, ◌+◌, List, [], ◌∷◌, ◌++◌, drop, None, Some, refl, sym, ap, ◌∙◌, append_assoc, append-nil, slice_get, ◌<◌, ◌≤◌, ℤ, pos, length, map, get_or, Option, arith, codes, decimal, flat_map}
+use Rattle.lemmas.proofs.{drop_more, get_or_from_slice_get, slice_get_within, none_left as drop_whole, signed_decimal, join_with_byte, map-map, same_some}
 use Rattle.rdf_values.specs.results.Fold.{Cell}
-use Rattle.rdf_model.specs.{cell_line, cell_lines, cell_names, cell_names_from, plane_lines}
-use Rattle.result_text.specs.{behind, bin_name, line_at, lines_on, name_at, plane_at, planes_on}
-use Rattle.result_text.proofs.Lists.{none_left, one_left, put_last, put_next}
+use Rattle.rdf_model.specs.{cell_line, cell_lines, cell_names, cell_names_from, plane_lines, run_text, scalar_text, taken_text}
+use Rattle.result_text.specs.{behind, bin_name, line_at, lines_on, name_at, plane_at, planes_on, more_runs, more_taken, run_of, runs_text}
 use Rattle.friend_join.proofs.JoinedRows.{map_self as map_same}
+use Rattle.rdf_values.specs.{Scalar, Span}
+
+-- no element is at the place
+pub none_left : {A : Type 0} (xs : List A) (i : ℕ) → slice_get xs i ≡ None → drop i xs ≡ []
+none_left [] zero h = refl
+none_left [] (suc i) h = refl
+none_left (x ∷ xs) zero h = absurd (cc)
+none_left (x ∷ xs) (suc i) h = none_left xs i h
+
+-- the element at the place, and those behind it
+pub one_left : {A : Type 0} (xs : List A) (i : ℕ) (x : A) → slice_get xs i ≡ Some x → drop i xs ≡ x ∷ drop (i + 1) xs
+one_left xs i x h = drop_more xs i x (slice_get_within xs i x h) ∙ ap (λ y. y ∷ drop (i + 1) xs) (get_or_from_slice_get xs i x x h)
+
+-- one piece of a text is put, and the rest is left
+pub put_next : (all text now piece rest left : List ℕ) → text ++ left ≡ all → left ≡ piece ++ rest → now ≡ text ++ piece → now ++ rest ≡ all
+put_next all text now piece rest left h e is = ap (λ l. l ++ rest) is ∙ append_assoc text piece rest ∙ sym (ap (λ l. text ++ l) e) ∙ h
+
+-- nothing is left
+pub put_last : (all text left : List ℕ) → text ++ left ≡ all → left ≡ [] → text ≡ all
+put_last all text left h e = sym (append-nil text) ∙ sym (ap (λ l. text ++ l) e) ∙ h
+
+-- ---- The names of an axis's cells, by their places, and the lines of cells.
 
 from_over : (lo : ℤ) (es : List ℤ) → slice_get (cell_names_from lo es) (length es) ≡ Some (codes "over")
 from_over lo [] = refl
@@ -110,3 +131,32 @@ plane_next text now all xs ys i rows h lt is =
 
 pub plane_last : (text all : List ℕ) (xs ys : List ℤ) (i : ℕ) (rows : List (List Cell)) → text ++ planes_on xs ys i (drop i rows) ≡ all → length rows ≤ i → text ≡ all
 plane_last text all xs ys i rows h le = put_last all text (planes_on xs ys i (drop i rows)) h (ap (planes_on xs ys i) (drop_whole rows i le))
+
+-- ---- Texts with something between each two.
+
+-- the first, and then each of the others behind a byte
+pub joined_front : {A : Type 0} (c : ℕ) (f : A → List ℕ) (x : A) (xs : List A) → join_with_byte c (map f (x ∷ xs)) ≡ f x ++ flat_map (λ y. c ∷ f y) xs
+joined_front c f x [] = sym (append-nil (f x))
+joined_front c f x (y ∷ ys) = ap (λ l. f x ++ (c ∷ l)) (joined_front c f y ys)
+
+pub runs_front : (r : Span) (rs : List Span) → runs_text (r ∷ rs) ≡ run_text (run_of r) ++ more_runs rs
+runs_front r rs = ap (join_with_byte 44) (map-map run_text run_of (r ∷ rs)) ∙ joined_front 44 (λ (s : Span). run_text (run_of s)) r rs
+
+pub taken_next : (text t1 now all : List ℕ) (xs : List Scalar) (i : ℕ) (x : Scalar) → text ++ more_taken (drop i xs) ≡ all → slice_get xs i ≡ Some x → t1 ≡ text ++ 32 ∷ [] → now ≡ t1 ++ scalar_text x → now ++ more_taken (drop (i + 1) xs) ≡ all
+taken_next text t1 now all xs i x h at e is =
+    put_next all text now (32 ∷ scalar_text x) (more_taken (drop (i + 1) xs)) (more_taken (drop i xs)) h (ap more_taken (one_left xs i x at)) (is ∙ ap (λ l. l ++ scalar_text x) e ∙ append_assoc text (32 ∷ []) (scalar_text x))
+
+pub taken_front : (xs : List Scalar) (x : Scalar) → slice_get xs 0 ≡ Some x → taken_text xs ≡ scalar_text x ++ more_taken (drop 1 xs)
+taken_front [] x at = absurd (cc)
+taken_front (y ∷ ys) x at = joined_front 32 scalar_text y ys ∙ ap (λ z. scalar_text z ++ more_taken ys) (same_some at)
+
+-- the line of a fault, put piece by piece
+pub fault_put : (text l shown kind bytes : List ℕ) (entry : ℕ) (t1 t2 t3 t4 t5 t6 t7 : List ℕ) → t1 ≡ text ++ codes "fault at entry " → t2 ≡ t1 ++ decimal entry → t3 ≡ t2 ++ codes " in " → t4 ≡ t3 ++ l → l ≡ shown
+    → t5 ≡ t4 ++ codes ": " → t6 ≡ t5 ++ bytes → bytes ≡ kind → t7 ≡ t6 ++ 10 ∷ []
+    → t7 ≡ text ++ (codes "fault at entry " ++ decimal entry ++ codes " in " ++ shown ++ codes ": " ++ kind ++ 10 ∷ [])
+fault_put text l shown kind bytes entry t1 t2 t3 t4 t5 t6 t7 e1 e2 e3 e4 e e5 e6 k e7 =
+    e7 ∙ ap (λ t. t ++ 10 ∷ []) (e6 ∙ ap (λ b. t5 ++ b) k ∙ ap (λ t. t ++ kind) (e5 ∙ ap (λ t. t ++ codes ": ") (e4 ∙ ap (λ b. t3 ++ b) e ∙ ap (λ t. t ++ shown) (e3 ∙ ap (λ t. t ++ codes " in ") (e2 ∙ ap (λ t. t ++ decimal entry) e1)))))
+    ∙ front text (codes "fault at entry ") (decimal entry) (codes " in ") shown (codes ": ") kind
+  where
+    front : (a b d f g h i : List ℕ) → a ++ b ++ d ++ f ++ g ++ h ++ i ++ 10 ∷ [] ≡ a ++ (b ++ d ++ f ++ g ++ h ++ i ++ 10 ∷ [])
+    front a b d f g h i = simp append_assoc

@@ -5,7 +5,7 @@ use Rattle.lemmas.proofs.{All-append, All-cons, All-map, All-nil, cond_both, get
 use Rattle.rdf_values.specs.{among, Booked, bookings, filled, has_variations, result_depends, Statement, variations}
 use Rattle.rdf_values.specs.declared.scripts.statement.Statement.TheVariants.{Print}
 use Rattle.graph_numbers.specs.{booked_statements, graph_loops, graph_variations, GraphView, loops, numbered_pass, own_loop, Pass as NumberedPass, passes_from, places_from, result_passes}
-use Rattle.graph_numbers.proofs.Listed.{joined, only_at}
+use Rattle.graph_numbers.proofs.Walks.{joined, only_at}
 
 -- ---- variations of passes
 

@@ -8,7 +8,7 @@ use Rattle.expr_read.proofs.Decided.{answered}
 use Rattle.expr_read.proofs.Whole.{whole, whole_values}
 use Rattle.expr_read.proofs.WholeReads.{reads_expr, reads_values}
 use Rattle.script_read.specs.{named}
-use Rattle.script_read.proofs.Named.{named_is}
+use Rattle.script_read.proofs.Items.{named_is}
 use Rattle.script_read.proofs.FirstBads.{IsGood, AreGood, bad_before, bad_after, good_name, good_operation, good_expression, good_values, good_names}
 
 -- ---- one string

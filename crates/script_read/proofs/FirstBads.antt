@@ -4,7 +4,7 @@ use Rattle.lemmas.proofs.{err_from_is_err_and, IsErrAnd}
 use Rattle.rdf_values.specs.{AName, AnExpression, AnOperation, AreNames, FirstBad, here, is_name, IsBad, IsName, later, LineRefusal, more_names, NamedTree, no_names, operation_text, QuotedText, ReadsText, ReadsValuesText, ReduceOp, SomeValues, VaryValues, wanted_names}
 use Rattle.rdf_values.specs.scripts.Statements.{Wanted}
 use Rattle.rdf_values.specs.scripts.Statements as st
-use Rattle.expr_read.proofs.ReadOnce.{read_once}
+use Rattle.expr_read.proofs.Decided.{read_once}
 use Rattle.script_read.specs.declared.stop.LineStop.{LineStop}
 use Rattle.script_read.specs.{RefusedFor}
 

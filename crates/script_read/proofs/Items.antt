@@ -1,16 +1,110 @@
--- What stands where something is wanted.
-use Rattle.std.proofs.Common.{◌≡◌, ◌∙◌, ℕ, ℤ, pos, Bool, true, false, List, [], ◌∷◌, ◌++◌, Option, Some, None, refl, sym, ap, append_assoc, codes, option_map, if◌then◌else◌}
-use Rattle.std.proofs.lemmas.List.{append-nil}
-use Rattle.rdf_values.specs.{arguments, Form, form_tokens, has_free_names, is_free, LineToken, maybe_string, Method, method_word, more_edges, more_strings, QuotedText}
-use Rattle.rdf_values.specs.scripts.LineTokens as t
-use Rattle.rdf_values.specs.scripts.LineForms.{call}
-use Rattle.rdf_values.specs.scripts.LineForms as form
-use Rattle.script_read.specs.{ALine, AMark, AMethod, ANumber, arguments_wants, asked_form, asking_wants, AString, AWord, booking_wants, is_mark, mark_token, MaybeString, method_wants, MoreEdges, MoreStrings, name_of, name_word, next, VaryArguments, Want}
+-- A refusal of an expression's text stands in the text, or at its end.
+use Rattle.std.proofs.Common.{◌≡◌, ◌≤◌, ℕ, List, [], ◌∷◌, length, Option, Some, None, arith, subst, ◌∙◌, Bool, true, false, refl, sym, ap, if◌then◌else◌, ◌<◌, ◌+◌, ◌++◌, map, get_or, drop, append_assoc, ℤ, pos, codes, option_map}
+use Rattle.rdf_values.specs.{AfterName, at_end, at_scan, at_token, continued, ending, Nothing, OpenMark, Operator, Placed, Refusal, Refused, scan, scan_step, ScanState, Token, all_strings, AreNames, IsName, QuotedText, ReadsValuesText, Says, Statement, Strings, VaryValues, LineToken, PlacedToken, same, FirstBad, more_names, no_names, wanted_names, arguments, Form, form_tokens, has_free_names, is_free, maybe_string, Method, method_word, more_edges, more_strings}
+use Rattle.rdf_values.specs.expressions.Scans.{Wanted, Refuses}
+use Rattle.expr_read.specs.{ExprRefusal, RefusesTextAs}
+use Rattle.expr_read.proofs.ValidTokens.{StandBelow, no_tokens, more_tokens, all_fine}
+use Rattle.script_read.specs.{StandsWithin, IsNamed, all_names, AMethod, Begins, name_of, name_word, named, next, quoted_of, RefusedFor, ALine, AMark, ANumber, arguments_wants, asked_form, asking_wants, AString, AWord, booking_wants, is_mark, mark_token, MaybeString, method_wants, MoreEdges, MoreStrings, VaryArguments, Want}
+use Rattle.std.proofs.lemmas.Slice.Eq.{bytes_eq-Decides}
 use Rattle.script_read.specs.declared.method.MethodName.{MethodName}
+use Rattle.std.proofs.lemmas.List.{drop_more, drop_all, append-nil}
+use Rattle.script_read.specs.declared.stop.LineStop.{LineStop}
+use Rattle.script_read.specs.declared.token.Quoted.{Quoted}
+use Rattle.script_read.proofs.FirstBads.{good_name, refused_later}
+use Rattle.rdf_values.specs.scripts.LineForms.{call}
 use Rattle.script_read.specs.declared.method.ActionName.{ActionName}
 use Rattle.script_read.specs.declared.token.Mark.{Mark}
-use Rattle.script_read.proofs.Named.{name_is}
 use Rattle.script_read.proofs.Joined.{asked_tokens, asked_free}
+use Rattle.rdf_values.specs.scripts.LineForms as form
+use Rattle.rdf_values.specs.scripts.Statements as st
+use Rattle.rdf_values.specs.scripts.LineTokens as t
+
+not_refused_at_end : (w : Wanted) (stack : List OpenMark) (p : ℕ) → ending (w, stack) ≡ Refused p → ⊥
+not_refused_at_end Operator [] p e = cc e
+not_refused_at_end AfterName [] p e = cc e
+not_refused_at_end Nothing [] p e = cc e
+not_refused_at_end w stack p e = cc e
+
+goes_below : (o : Option ScanState) (t : Placed) (ts : List Placed) (p end : ℕ) → t.place ≤ end → ((s : ScanState) → scan s ts ≡ Refused p → p ≤ end)
+    → continued o t.place (λ s. scan s ts) ≡ Refused p → p ≤ end
+goes_below None t ts p end h k e = let same : t.place ≡ p = cc e in rw (← same) h
+goes_below (Some s) t ts p end h k e = k s e
+
+scan_below : (ts : List Placed) (s : ScanState) (p end : ℕ) → StandBelow end ts → scan s ts ≡ Refused p → p ≤ end
+scan_below [] s p end no_tokens e = absurd (not_refused_at_end s.0 s.1 p e)
+scan_below (t ∷ ts) s p end (more_tokens h k) e = goes_below (scan_step s t.token) t ts p end h (λ z f. scan_below ts z p end k f) e
+
+refused_below : {T : Type 0} (reads : List Token → T → Type 0) (begin : ScanState) (text : List ℕ) (r : Refusal) → Refuses reads begin text r → r.place ≤ length text
+refused_below reads begin text r (at_token e) = rw e at (all_fine text)
+refused_below reads begin text r (at_scan {ts = ts} {p = p} e f) = let fine = rw e at (all_fine text) in scan_below ts begin p (length text) fine.2 f
+refused_below reads begin text r (at_end e f g) = omega arith
+
+pub stands_within : {T : Type 0} (reads : List Token → T → Type 0) (begin : ScanState) (text : List ℕ) (e : ExprRefusal) → RefusesTextAs reads begin text e → StandsWithin (length text) e
+stands_within reads begin text (ExprRefusal.At cause place) h = refused_below reads begin text (record { cause = cause; place = place }) h
+stands_within reads begin text ExprRefusal.Memory h = tt
+
+-- ---- What a Vary of one column says.
+
+pub says_vary : (n p : List ℕ) (c v : QuotedText) (ts : Strings) (m : Option QuotedText) (x : List ℕ) (vs : VaryValues) (tags : List (List ℕ)) (y : List ℕ)
+    → IsName c x → ReadsValuesText v.content vs → AreNames (all_strings ts) tags → IsNamed x m y → Says (form.Books n p (form.VaryOne c v ts m)) (Statement.Vary n p (x ∷ []) vs tags y)
+says_vary n p c v ts None x vs tags y a b d e = rw e (st.vary a b d)
+says_vary n p c v ts (Some m) x vs tags y a b d e = st.vary_named a b d e
+
+-- ---- Which method a word names.
+
+named_first : {A : Type 0} (word_of : A → List ℕ) (word : List ℕ) (y : A) (ys : List A) (x : A) (b : Bool) → same word (word_of y) ≡ b → (named word_of word ys ≡ Some x → word ≡ word_of x) → named word_of word (y ∷ ys) ≡ Some x → word ≡ word_of x
+named_first word_of word y ys x true s later e =
+    let found : Some y ≡ Some x = sym (ap (λ (b : Bool). if b then Some y else named word_of word ys) s) ∙ e in
+    let name : y ≡ x = cc found in
+    (bytes_eq-Decides word (word_of y)).0 s ∙ ap word_of name
+named_first word_of word y ys x false s later e = later (sym (ap (λ (b : Bool). if b then Some y else named word_of word ys) s) ∙ e)
+
+-- what is named has the word
+pub named_is : {A : Type 0} (word_of : A → List ℕ) (word : List ℕ) (xs : List A) (x : A) → named word_of word xs ≡ Some x → word ≡ word_of x
+named_is word_of word [] x e = cc e
+named_is word_of word (y ∷ ys) x e = named_first word_of word y ys x (same word (word_of y)) refl (named_is word_of word ys x) e
+
+pub name_is : (word : List ℕ) (n : MethodName) → name_of word ≡ Some n → word ≡ name_word n
+unfolding name_of
+name_is word n e = named_is name_word word all_names n e
+
+pub no_method_named : (u : LineToken) (word : List ℕ) → u ≡ t.Word word → ((n : MethodName) → word ≡ name_word n → ⊥) → next AMethod u ≡ None
+no_method_named u word e isnt = rw (e, at (name_of word) refl) refl
+  where
+    at : (o : Option MethodName) → name_of word ≡ o → name_of word ≡ None
+    at None h = h
+    at (Some n) h = absurd (isnt n (name_is word n h))
+
+pub method_seen : {u : LineToken} {old seen : List PlacedToken} → (word : List ℕ) (n : MethodName) → u ≡ t.Word word → word ≡ name_word n → Begins u old seen → Begins (t.Word (name_word n)) old seen
+method_seen {u} {old} {seen} word n e h b = subst (λ (v : LineToken). Begins v old seen) (e ∙ ap t.Word h) b
+
+-- ---- Names read one after another.
+
+-- these names were read: what the strings left are completes them, and what refuses the strings left refuses all
+pub record Naming (strings left : List QuotedText) (names : List (List ℕ)) : Type 0 where
+  pub completes : (xs : List (List ℕ)) → AreNames left xs → AreNames strings (names ++ xs)
+  pub refuses : (e : LineStop) → RefusedFor (FirstBad (wanted_names left)) e → RefusedFor (FirstBad (wanted_names strings)) e
+
+pub begun : (strings : List QuotedText) → Naming strings strings []
+begun strings = record { completes = λ xs h. h; refuses = λ e h. h }
+
+pub one_more : {strings left : List QuotedText} {names : List (List ℕ)} (t : QuotedText) (x : List ℕ) → Naming strings (t ∷ left) names → IsName t x → Naming strings left (names ++ x ∷ [])
+one_more {strings} {left} t x n is = record {
+  completes = λ xs h. rw append_assoc (n.completes (x ∷ xs) (more_names is h));
+  refuses = λ e h. n.refuses e (refused_later _ (wanted_names left) e (good_name t x is) h);
+}
+
+-- the strings left begin with the one at the place
+pub at_place : {strings : List QuotedText} {names : List (List ℕ)} (qs : List Quoted) (i : ℕ) (q : Quoted) → i < length qs → q ≡ get_or qs i q
+    → Naming strings (map quoted_of (drop i qs)) names → Naming strings (quoted_of q ∷ map quoted_of (drop (i + 1) qs)) names
+at_place {strings} {names} qs i q h e n =
+    subst (λ (ts : List QuotedText). Naming strings ts names) (ap (map quoted_of) (drop_more qs i q h ∙ ap (λ (x : Quoted). x ∷ drop (i + 1) qs) (sym e))) n
+
+pub all_read : {strings : List QuotedText} {names : List (List ℕ)} (qs : List Quoted) (i : ℕ) → length qs ≤ i → Naming strings (map quoted_of (drop i qs)) names → AreNames strings names
+all_read {strings} {names} qs i h n =
+    subst (AreNames strings) (append-nil names) (n.completes [] (rw (drop_all i qs h) no_names))
+
+-- ---- What stands where something is wanted.
 
 -- what can stand where that is wanted
 abbrev pub Item : Want → Type 0

@@ -4,15 +4,8 @@ pub mod FirstBads
 pub mod FirstLines
 pub mod Items
 pub mod Joined
-pub mod Lexemes
-pub mod ManyNames
-pub mod Named
-pub mod Parts
+pub mod TokenSteps
 pub mod Passed
-pub mod Places
-pub mod Said
-pub mod ScriptReading
 pub mod StringStops
 pub mod Stuck
-pub mod TokenSteps
 pub mod Walked

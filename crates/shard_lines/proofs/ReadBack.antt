@@ -8,7 +8,7 @@ use Rattle.histograms.specs.{CellSum}
 use Rattle.shard_lines.specs.{are_alike, AreLimits, both_of, cell_of, counts_of_words, each_of, EachFits, extreme_of_word, extreme_word, FitsCell, FitsCount, FitsExtreme, FitsLine, FitsScalar, FitsTake, is_short, IsShort, IsSmall, kind_of_word, line_behind, line_of_kind, line_words, LineLimits, LinesReadBack, list_of, lone, numbered, one_sort, onto, pairs_of, ReadLinesFit, scalar_of, scalar_word, ShardLine, sum_of_word}
 use Rattle.shard_lines.specs.declared.line_kind.LineKind.{LineKind}
 use Rattle.shard_lines.proofs.Numerals.{Digits, decimal_digits, magnitude_reads, magnitude_says}
-use Rattle.rdf_values.proofs.CellWords.{integer_word as integer_fits}
+use Rattle.rdf_values.proofs.KeptLemmas.{integer_word as integer_fits}
 
 -- ---- tests of words
 

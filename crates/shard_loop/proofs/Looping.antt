@@ -4,7 +4,7 @@ use Rattle.lemmas.proofs.{length-map, none_left, slice_get-map, something_at}
 use Rattle.rdf_values.specs.{Booked, Fault, history, Pass, Script, Span}
 use Rattle.rdf_model.specs.{Dataset, loop_passes, loop_results}
 use Rattle.graph_numbers.specs.{graph_loops, GraphView, pass_at}
-use Rattle.graph_numbers.proofs.Extending.{itself}
+use Rattle.graph_numbers.proofs.Placing.{itself}
 use Rattle.graph_numbers.proofs.Looping.{loops_are}
 use Rattle.loop_keys.specs.{job_spans, JobView, passes_in}
 use Rattle.loop_pieces.specs.{LoopPiece}

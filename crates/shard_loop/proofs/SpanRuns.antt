@@ -2,8 +2,8 @@
 use Rattle.std.proofs.Common.{◌≡◌, ℕ, ◌+◌, ◌<◌, ◌≤◌, ◌∷◌, [], ◌++◌, length, map, Option, None, Some, sym, ap, ap₂, ◌∙◌, subst, arith, All, option_map, slice_get}
 use Rattle.lemmas.proofs.{length-map, same_Some, slice_get-map}
 use Rattle.rdf_values.specs.{below, Fault, first_in, Lead}
-use Rattle.rdf_values.proofs.Below.{length-below, slice_get-below}
-use Rattle.rdf_values.proofs.Leading.{cuts_lead}
+use Rattle.rdf_values.proofs.UnionLemmas.{length-below, slice_get-below}
+use Rattle.rdf_values.proofs.Evenly.{cuts_lead}
 use Rattle.rdf_model.specs.{first_of}
 use Rattle.loop_keys.specs.{IsJob, job_spans, JobView, passes_in}
 use Rattle.loop_pieces.specs.{cluster_fault}

@@ -2,12 +2,12 @@
 use Rattle.std.proofs.Common.{◌≡◌, ◌≤◌, ℕ, List, length, None, Result, Ok, IfOk, sym, ap, ◌∙◌, subst, MatchOption}
 use Rattle.rdf_values.specs.Answered.{Refuses}
 use Rattle.rdf_values.specs.{AnswerIn64Bits, Column, fn_names, Function, FunctionNames, graph_cause_line, GraphCause, history, IsTable, Lead, MarkedTable, Script, Span, StatementsHaveWords, verdict}
-use Rattle.rdf_values.proofs.Leading.{cuts_lead}
+use Rattle.rdf_values.proofs.Evenly.{cuts_lead}
 use Rattle.columns.specs.ColumnsView.{ColumnsView}
 use Rattle.graph_numbers.specs.{booked, GraphView, IsGraph}
 use Rattle.input_files.specs.{due_of}
 use Rattle.graph.specs.{GraphRefusal, refused_at}
-use Rattle.graph.proofs.Verdicts.{accepted_verdict, refusal_of, refused_verdict}
+use Rattle.graph.proofs.Finished.{accepted_verdict, refusal_of, refused_verdict}
 use Rattle.shard_files.specs.{IsShard, ShardView}
 use Rattle.shard_loop.specs.{cuts_of, table_of}
 use Rattle.shard_runs.proofs.Runs.{runs_are_shards}

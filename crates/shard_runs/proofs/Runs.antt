@@ -3,7 +3,7 @@ use Rattle.std.proofs.Common.{◌≡◌, ℕ, ◌*◌, ◌<◌, ◌≤◌, List,
 use Rattle.lemmas.proofs.{AllByRecursion, count_by-le-length, length-map, recursion_from_All}
 use Rattle.rdf_values.specs.{ActionAt, ActionKind, AreAccepted, Booked, Booking, ColType, Fault, FitRows, fn_names, history, Item, Lead, Pass, Path, ReportOn, scope_of, Script, Span, Under, Value}
 use Rattle.rdf_model.specs.{cutflow, Dataset, FitsAction, items_of, loop_passes, loop_results, passes_filters, rows_in}
-use Rattle.rdf_model.proofs.Verdicts.{verdict_is_the_first_refusal}
+use Rattle.rdf_model.proofs.Accepted.{verdict_is_the_first_refusal}
 use Rattle.loop_pieces.specs.{begin_of, counts_of}
 use Rattle.shard_lines.specs.{EachFits, FitLines, FitsCount, FitsLine}
 use Rattle.shard_files.specs.{fault_or_lines, FitLoops, shard_limits, up_to_fault}

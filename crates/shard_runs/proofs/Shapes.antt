@@ -3,7 +3,7 @@ use Rattle.std.proofs.Common.{◌≡◌, ℕ, suc, ◌+◌, ◌*◌, ◌<◌, tr
 use Rattle.lemmas.proofs.{AllByRecursion, length-map, lt_true, nat_tests}
 use Rattle.rdf_values.specs.{ActionAt, ActionKind, Booking, cells_on, Fault, FitRows, flat_cell, Item, Pass, Path, ReportOn, Span, square_cell, Value}
 use Rattle.rdf_values.specs.results.Fold.{Cell}
-use Rattle.rdf_values.proofs.Below.{length-below}
+use Rattle.rdf_values.proofs.UnionLemmas.{length-below}
 use Rattle.rdf_model.specs.{cutflow, Dataset, items_of, rows_in}
 use Rattle.histograms.specs.{CellSum}
 use Rattle.loop_pieces.specs.{begin_of, counts_of}

@@ -6,10 +6,8 @@ use Rattle.rdf_values.specs.results.Fold.{Cell, cell_of}
 use Rattle.rdf_model.specs.{cutflow, Dataset, items_of, passes_filters}
 use Rattle.actions.specs.{better_of_two, by_cluster, Fed, from_cluster, in_file_order, put}
 use Rattle.actions.specs.Extremes as extremes
-use Rattle.actions.proofs.Folds.{extreme_fold}
-use Rattle.actions.proofs.Operations.{extreme_from, max_comm, max_swap, min_comm, min_swap}
-use Rattle.actions.proofs.Reductions.{reduce_both}
-use Rattle.actions.proofs.Unordered.{sum_both, map-flat_map}
+use Rattle.actions.proofs.Folds.{extreme_fold, sum_both, map-flat_map}
+use Rattle.actions.proofs.Reductions.{extreme_from, max_comm, max_swap, min_comm, min_swap, reduce_both}
 use Rattle.loop_pieces.specs.{Counts, counts_of}
 use Rattle.histograms.specs.{CellSum}
 use Rattle.shard_lines.specs.{action_shape, added_cells, added_counts, better_of, booking_shape, joined_line, ShardLine}

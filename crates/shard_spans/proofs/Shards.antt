@@ -2,7 +2,7 @@
 use Rattle.std.proofs.Common.{◌≡◌, ℕ, zero, suc, ◌+◌, ◌<◌, ◌≤◌, Bool, true, false, cond, List, [], ◌∷◌, length, map, None, Some, refl, sym, ap, ap₂, ◌∙◌, arith, if◌then◌else◌, All, nat_eq, not, slice_get}
 use Rattle.lemmas.proofs.{nat_tests, position_from, position_from-zero}
 use Rattle.rdf_values.specs.{below, ColType, Lead, Pass, Script, Span}
-use Rattle.rdf_values.proofs.Below.{slice_get-below}
+use Rattle.rdf_values.proofs.UnionLemmas.{slice_get-below}
 use Rattle.rdf_model.specs.{Dataset}
 use Rattle.shard_files.specs.{first_uncovered, in_order, joined_loops, placed, ShardLoop, shards_joined, ShardView, spans_with}
 use Rattle.shard_spans.specs.{loops_of, pass_shapes, ShardsJoinToOneRun, span_loops, span_shard}

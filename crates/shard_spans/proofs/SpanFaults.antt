@@ -4,7 +4,7 @@ use Rattle.lemmas.proofs.{All-nil, All-push, flat_map-append, map-append, range_
 use Rattle.rdf_values.specs.{Fault, first_in, Lead, Pass, Span, Value}
 use Rattle.rdf_model.specs.{Dataset, first_fault_from, first_fault_in, first_of, rows_in, span_rows}
 use Rattle.loop_pieces.specs.{begin_of, cluster_fault}
-use Rattle.loop_pieces.proofs.Places.{lead_up}
+use Rattle.loop_pieces.proofs.ByCluster.{lead_up}
 use Rattle.shard_spans.specs.{clusters_from, clusters_in, FirstFaultyClusterHasTheFault, span_fault}
 use Rattle.loop_pieces.proofs.ClusterFaults.{first_of-assoc}
 

@@ -2,7 +2,7 @@
 use Rattle.std.proofs.Common.{if◌then◌else◌, ◌≡◌, ◌⊎◌, inl, inr, ℕ, zero, suc, ◌+◌, ◌-◌, ◌<◌, ◌≤◌, Bool, false, List, [], ◌∷◌, ◌++◌, length, map, Option, None, Some, refl, sym, ap, ap₂, ◌∙◌, subst, arith, append-nil, append_assoc, ⊎_elim, flat_map, fold, nat_lt, slice_get}
 use Rattle.lemmas.proofs.{flat_map-append, map-append, nat_tests, slice_get-map}
 use Rattle.rdf_values.specs.{below, ColType, Fault, first_in, Lead, Pass, Span, Value}
-use Rattle.rdf_values.proofs.Below.{slice_get-below}
+use Rattle.rdf_values.proofs.UnionLemmas.{slice_get-below}
 use Rattle.rdf_model.specs.{Dataset, first_of, rows_in, span_rows}
 use Rattle.loop_pieces.specs.{cluster_fault, cluster_faults}
 use Rattle.loop_pieces.proofs.ClusterFaults.{lower_clusters_fault_first}

@@ -4,7 +4,7 @@ use Rattle.lemmas.proofs.{flat_map-append, same_some}
 use Rattle.rdf_values.specs.{ActionAt, among, Booked, Booking, bookings, filled, is_watched, names_of, Pass, passes_of, ReportOn, results_named, same, Statement, waiting}
 use Rattle.rdf_model.specs.{Course, Dataset, loop_of, loop_passes, named_lines, partial_line, partial_lines, partial_result, pass_lines, result_lines}
 use Rattle.rdf_model.proofs.Accepted.{names_equal}
-use Rattle.graph_numbers.proofs.Extending.{Extends, itself}
+use Rattle.graph_numbers.proofs.Placing.{Extends, itself}
 use Rattle.graph.specs.{AreNamedInTurn}
 use Rattle.event_loop.proofs.LoopResults.{one_number}
 use Rattle.event_loop.proofs.Found.{AreOf, passes_are_of}

@@ -5,7 +5,7 @@ use Rattle.rdf_values.specs.{below, Booked, bookings, Fault, first_in, fn_names,
 use Rattle.rdf_model.specs.{Access, access_passes, access_printed, accesses, ComesInTurn, Course, Dataset, fault_line, first_fault, first_fault_from, in_front_of, loop_of, loop_passes, loop_results, loops_before, named_lines, over_clusters, Printed, printed, transcript}
 use Rattle.rdf_model.proofs.Turns.{loops_come_in_turn}
 use Rattle.graph_numbers.specs.{graph_of, GraphView, IsGraph, loops}
-use Rattle.graph_numbers.proofs.Extending.{itself}
+use Rattle.graph_numbers.proofs.Placing.{itself}
 use Rattle.loop_pieces.specs.{cluster_fault}
 use Rattle.loop_pieces.proofs.ClusterFaults.{first_cluster_has_first_fault}
 use Rattle.loop_pieces.proofs.WholeLoops.{all_clusters_are_the_table}

@@ -1,16 +1,150 @@
--- The clusters that were noted first.
-use Rattle.std.proofs.Common.{◌≡◌, ℕ, suc, ◌+◌, ◌<◌, ◌≤◌, List, [], ◌∷◌, length, map, get_or, Bool, cond, refl, sym, ap, ap₂, ◌∙◌, arith, nat_lt, IsPermutation, Contains}
-use Rattle.std.specs.List.{concat, All as Every}
-use Rattle.lemmas.proofs.{All-filter, common_steps, concat_is, IsStrictlyIncreasing, IsStrictlyIncreasing-filter, length-map, length_permutation, nil_from_length, slice_get-get_or}
-use Rattle.rdf_values.specs.{below, IsUnion, once_below, times}
-use Rattle.rdf_values.proofs.DrawCounts.{one_if, times_below, times_contains, times_permuted, permuted_by_counts, inside_once}
-use Rattle.rdf_values.proofs.UnionLemmas.{below_rises, all_below, times_filter, rises_from, same_rising, by_counts, both_rise, two}
+-- Pieces of single clusters.
+use Rattle.std.proofs.Common.{◌≡◌, ℕ, ◌≤◌, List, [], ◌∷◌, map, eqb, false, refl, sym, ap, ◌∙◌, subst, arith, IsPermutation, zero, suc, ◌+◌, ◌++◌, length, min, Bool, not, cond, ap₂, flat_map, ◌<◌, get_or, nat_lt, Contains, ◌-◌, ◌*◌, ◌/◌, Some, mul-le-mul_right, slice_get, option_map}
+use Rattle.std.specs.List.{AllByRecursion, IsDistinct, concat, All as Every}
+use Rattle.lemmas.proofs.{All-head, All-map, All-tail, common_steps, IsNonDecreasing, IsStrictlyIncreasing, IsStrictlyIncreasing-from_distinct, All, All-append, All-cons, All-filter, All-nil, count_by, filter, filter-append, firsts-zip, length-filter, length-map, map-append, seconds-zip, sum_by, sum_by-cons, sum_by-filter_both, sum_by-IsPermutation, sum_by_push, zip, concat_is, IsStrictlyIncreasing-filter, length_permutation, nil_from_length, slice_get-get_or, same_some, slice_get-map, slice_get_within}
+use Rattle.merge_core.specs.{Noted, Stand}
+use Rattle.rdf_values.specs.{IsUnion, times, below, once_below}
+use Rattle.rdf_values.proofs.UnionLemmas.{times_cons, times_self, times_permuted, one_if, sum_by-map, times_below, times_contains, permuted_by_counts, inside_once, below_rises, all_below, times_filter, rises_from, same_rising, by_counts, both_rise, two, length-below, slice_get-below}
+use Rattle.slot_words.specs.{AreAlone, AreOf, cluster_in, piece_in, added, AsManyAsTheBound, chosen, HaveNumbers, HigherBoundKeeps, is_between, kept, numbered, AreNoted, AreTrails, noted_before, set_before, WatchedPlace, chain_of}
 use Rattle.rdf_model.specs.declared.loop_facts.LoopFacts.{LoopFacts}
-use Rattle.merge_core.specs.{Noted}
-use Rattle.loop_pieces.specs.{watch_facts, WatchPiece, WatchStandsFor}
-use Rattle.slot_words.specs.{added, AreAlone, AreNoted, AreTrails, cluster_in, HaveNumbers, noted_before, numbered, set_before, WatchedPlace}
-use Rattle.slot_words.proofs.Chosen.{added_mapped, all_added, as_many_as_the_bound, kept_among, length_added, lengths_mapped, sum_kept}
-use Rattle.slot_words.proofs.Places.{stands_there}
+use Rattle.loop_pieces.specs.{watch_facts, WatchPiece, WatchStandsFor, ArePartialLines, IsPartialLine, PartialLine}
+use Rattle.slot_words.proofs.Joining.{stands_there}
+use Rattle.rdf_model.specs.{IsChain}
+
+absent : (x : ℕ) (xs : List ℕ) → times x xs ≡ 0 → AllByRecursion (λ y. eqb x y ≡ false) xs
+absent x [] none = tt
+absent x (y ∷ ys) none = (grind (arith, common_steps, times_cons x y ys), absent x ys (omega (arith, times_cons x y ys)))
+
+distinct : (xs : List ℕ) → ((x : ℕ) → times x xs ≤ 1) → IsDistinct eqb xs
+unfolding IsDistinct
+distinct [] once = tt
+distinct (y ∷ ys) once = (absent y ys (omega (arith, once y, times_self y ys)), distinct ys (λ x. omega (arith, once x, times_cons x y ys)))
+
+module _ {P : Type 0} where
+  abbrev pub single : Noted P → List ℕ
+  single n = n.cluster ∷ []
+
+  alone : (stands : List ℕ → P → Type 0) (ns : List (Noted P)) → AreAlone stands ns → Stand stands (map single ns) (map piece_in ns)
+  alone stands [] h = tt
+  alone stands (n ∷ ns) h = let P = λ (m : Noted P). stands (single m) m.piece in (All-head P n ns h, alone stands ns (All-tail P n ns h))
+
+  joined : (ns : List (Noted P)) → concat (map single ns) ≡ map cluster_in ns
+  joined [] = refl
+  joined (n ∷ ns) = ap (λ l. n.cluster ∷ l) (joined ns)
+
+  module _ (clusters : List ℕ) (pieces : List P) (ns : List (Noted P)) (of : AreOf clusters pieces ns) where
+    pub stand_alone : (stands : List ℕ → P → Type 0) (own : List P) → own ≡ pieces → AreAlone stands ns → Stand stands (map single ns) own
+    stand_alone stands own same h = subst (Stand stands (map single ns)) (sym (same ∙ of.pieces_are)) (alone stands ns h)
+
+    -- the clusters in order
+    pub unite : (sorted : List ℕ) → IsNonDecreasing sorted → IsPermutation clusters sorted → ((x : ℕ) → times x (map cluster_in ns) ≤ 1) → IsUnion (map single ns) sorted
+    unite sorted up p once = record {
+      sets_rise = All-map IsStrictlyIncreasing single ns (λ k d lt j within. absurd (omega arith));
+      rising = IsStrictlyIncreasing-from_distinct sorted up (distinct sorted (λ x. omega (arith, once x, times_permuted x clusters sorted p, ap (times x) of.clusters_are)));
+      each_once = subst (λ l. IsPermutation l sorted) (of.clusters_are ∙ sym (joined ns)) p;
+    }
+
+-- ---- The entries with a number between two bounds, and how many there are.
+
+-- how many numbers are less than the bound
+abbrev less_in : ℕ → List ℕ → ℕ
+less_in b ns = count_by (is_between 0 b) ns
+
+less_below : (b m : ℕ) → less_in b (below m) ≡ min b m
+less_below b zero = omega arith
+less_below b (suc m) = grind (arith, common_steps, sum_by_push (λ n. cond (is_between 0 b n) 1 0) (below m) m, less_below b m)
+
+pub same_lengths : {A : Type 0} (o : List ℕ) (t : List A) (os : List (List ℕ)) (ts : List (List A)) → HaveNumbers (o ∷ os) (t ∷ ts) → (length o ≡ length t) × HaveNumbers os ts
+same_lengths o t os ts e = (cc, cc)
+
+module _ {A : Type 0} where
+  pub kept_both : (low high : ℕ) (xs ys : List (ℕ × A)) → kept low high (xs ++ ys) ≡ kept low high xs ++ kept low high ys
+  kept_both low high xs ys = ap (map (λ (e : ℕ × A). e.1)) (filter-append _ xs ys) ∙ map-append _ (filter _ xs) (filter _ ys)
+
+  -- the numbers and the entries, one trail after another
+  parts_are : (os : List (List ℕ)) (ts : List (List A)) → HaveNumbers os ts → (map (λ (e : ℕ × A). e.0) (numbered os ts) ≡ concat os) × (map (λ (e : ℕ × A). e.1) (numbered os ts) ≡ flat_map (λ t. t) ts)
+  parts_are [] [] have = (refl, refl)
+  parts_are [] (t ∷ ts) have = absurd (cc)
+  parts_are (o ∷ os) [] have = absurd (cc)
+  parts_are (o ∷ os) (t ∷ ts) have =
+      let s = same_lengths o t os ts have in
+      let rest = parts_are os ts s.1 in
+      (map-append _ (zip o t) (numbered os ts) ∙ ap₂ (λ x y. x ++ y) (firsts-zip o t (sym s.0)) rest.0, map-append _ (zip o t) (numbered os ts) ∙ ap₂ (λ x y. x ++ y) (seconds-zip o t (sym s.0)) rest.1)
+
+  -- what is kept is among the entries
+  pub kept_among : (f : A → ℕ) (os : List (List ℕ)) (ts : List (List A)) (low high : ℕ) → HaveNumbers os ts → sum_by f (added os low high ts) ≤ sum_by f (flat_map (λ t. t) ts)
+  kept_among f os ts low high have =
+      let es = numbered os ts in
+      let among = λ (e : ℕ × A). is_between low high e.0 in
+      omega (arith, sum_by-filter_both among (λ e. not (among e)) (λ e. refl) (λ e. f e.1) es, sum_by-map f (λ (e : ℕ × A). e.1) (filter among es), sum_by-map f (λ (e : ℕ × A). e.1) es, ap (sum_by f) (parts_are os ts have).1)
+
+  all_beside : (P : A → Type 0) (o : List ℕ) (t : List A) → All P t → All (λ e. P e.1) (zip o t)
+  all_beside P [] t h = All-nil (λ e. P e.1)
+  all_beside P (n ∷ ns) [] h = All-nil (λ e. P e.1)
+  all_beside P (n ∷ ns) (x ∷ xs) h = All-cons (λ e. P e.1) (n, x) (zip ns xs) (All-head P x xs h) (all_beside P ns xs (All-tail P x xs h))
+
+  all_numbered : (P : A → Type 0) (os : List (List ℕ)) (ts : List (List A)) → All (All P) ts → All (λ e. P e.1) (numbered os ts)
+  all_numbered P [] ts h = All-nil (λ e. P e.1)
+  all_numbered P (o ∷ os) [] h = All-nil (λ e. P e.1)
+  all_numbered P (o ∷ os) (t ∷ ts) h = All-append (λ e. P e.1) (zip o t) (numbered os ts) (all_beside P o t (All-head (All P) t ts h)) (all_numbered P os ts (All-tail (All P) t ts h))
+
+  -- what holds of all entries
+  pub all_added : (P : A → Type 0) (os : List (List ℕ)) (ts : List (List A)) (low high : ℕ) → All (All P) ts → All P (added os low high ts)
+  all_added P os ts low high h =
+      let among = λ (e : ℕ × A). is_between low high e.0 in
+      All-map P (λ (e : ℕ × A). e.1) (filter among (numbered os ts)) (All-filter among (λ e. P e.1) (numbered os ts) (all_numbered P os ts h))
+
+  module _ (f : A → ℕ) (low high : ℕ) (le : low ≤ high) where
+    one_kept : (b : Bool) (e : ℕ × A) (es : List (ℕ × A)) → sum_by f (map (λ e. e.1) (cond b (e ∷ es) es)) ≡ cond b (f e.1) 0 + sum_by f (map (λ e. e.1) es)
+    one_kept b e es = grind (arith, sum_by-cons f e.1 (map (λ e. e.1) es))
+
+    parts : (n x : ℕ) → cond (is_between 0 high n) x 0 ≡ cond (is_between 0 low n) x 0 + cond (is_between low high n) x 0
+    parts n x = grind (arith, common_steps)
+
+    -- what is kept by a bound is what a lower one keeps, and what is between them
+    pub sum_kept : (es : List (ℕ × A)) → sum_by f (kept 0 high es) ≡ sum_by f (kept 0 low es) + sum_by f (kept low high es)
+    sum_kept [] = omega arith
+    sum_kept (e ∷ es) = omega (arith, sum_kept es, parts e.0 (f e.1), here 0 high, here 0 low, here low high)
+      where
+        here : (a b : ℕ) → sum_by f (kept a b (e ∷ es)) ≡ cond (is_between a b e.0) (f e.1) 0 + sum_by f (kept a b es)
+        here a b = one_kept (is_between a b e.0) e (filter (λ e. is_between a b e.0) es)
+
+  ones : (xs : List A) → sum_by (λ _. 1) xs ≡ length xs
+  ones [] = refl
+  ones (x ∷ xs) = omega (arith, sum_by-cons (λ (_ : A). 1) x xs, ones xs)
+
+  pub length_added : (low high : ℕ) → low ≤ high → (os : List (List ℕ)) (ts : List (List A)) → length (chosen os high ts) ≡ length (chosen os low ts) + length (added os low high ts)
+  length_added low high le os ts = omega (arith, sum_kept (λ _. 1) low high le (numbered os ts), ones (chosen os high ts), ones (chosen os low ts), ones (added os low high ts))
+
+pub as_many_as_the_bound : (A : Type 0) → AsManyAsTheBound A
+as_many_as_the_bound A orders trails m bound drawn have le =
+    let entries = numbered orders trails in
+    length-map (filter (λ (e : ℕ × A). is_between 0 bound e.0) entries) _ ∙ length-filter (λ (e : ℕ × A). is_between 0 bound e.0) entries
+    ∙ sym (sum_by-map (λ n. cond (is_between 0 bound n) 1 0) (λ (e : ℕ × A). e.0) entries) ∙ ap (less_in bound) (parts_are orders trails have).0
+    ∙ sym (sum_by-IsPermutation (λ n. cond (is_between 0 bound n) 1 0) (concat orders) (below m) drawn.each_once) ∙ less_below bound m ∙ omega arith
+
+pub higher_bound_keeps : (P : Type 0) → HigherBoundKeeps P
+higher_bound_keeps P orders trails low high c le =
+    omega (arith, sum_kept (λ n. one_if c n.cluster) low high le (numbered orders trails), sum_by-map (one_if c) cluster_in (chosen orders low trails), sum_by-map (one_if c) cluster_in (chosen orders high trails))
+
+-- ---- entries in place of others
+
+module _ {A B : Type 0} (f : A → B) (low high : ℕ) where
+  kept_mapped : (ns : List ℕ) (ts : List A) → map f (kept low high (zip ns ts)) ≡ kept low high (zip ns (map f ts))
+  kept_mapped [] ts = refl
+  kept_mapped (n ∷ ns) [] = refl
+  kept_mapped (n ∷ ns) (t ∷ ts) = grind (arith, kept_mapped ns ts)
+
+  pub added_mapped : (os : List (List ℕ)) (ts : List (List A)) → map f (added os low high ts) ≡ added os low high (map (map f) ts)
+  added_mapped [] ts = refl
+  added_mapped (o ∷ os) [] = refl
+  added_mapped (o ∷ os) (t ∷ ts) = grind (arith, kept_both, map-append, kept_mapped, added_mapped os ts)
+
+pub lengths_mapped : {A B : Type 0} (f : A → B) (ts : List (List A)) → map length (map (map f) ts) ≡ map length ts
+lengths_mapped f [] = refl
+lengths_mapped f (t ∷ ts) = ap₂ (λ n ns. n ∷ ns) (length-map t f) (lengths_mapped f ts)
+
+-- ---- The clusters that were noted first.
 
 contained : (xs ys : List ℕ) → ((x : ℕ) → times x xs ≤ times x ys) → Every (Contains ys) xs
 contained xs ys h = λ k d lt. times_contains (get_or xs k d) ys (omega (arith, h (get_or xs k d), stands_there xs k d lt))
@@ -127,3 +261,56 @@ module _ (os : List (List ℕ)) (clusters : ℕ) (ts : List (List (Noted WatchPi
           let x = get_or cs k d in
           let inside = inside_once x clusters (omega (arith, stands_there cs k d lt, times_permuted x news cs named.1, grows x, set_times os w.dones clusters w.noted high x, within os w.dones clusters w.noted x high)) in
           omega arith
+
+-- ---- The sets after every so many clusters are a chain.
+
+-- a multiple that is counted is no greater than the number
+pub multiple_below : (c g j : ℕ) → j < c / g → (j + 1) * g ≤ c
+multiple_below c g j lt = grind arith
+
+-- an item of a list by numbers
+pub at_below : {A : Type 0} (f : ℕ → A) (n j : ℕ) (x : A) → slice_get (map f (below n)) j ≡ Some x → (j < n) × (f j ≡ x)
+at_below f n j x h = grind (arith, slice_get_within, length-map, length-below, same_some, slice_get-map, slice_get-below)
+
+module _ (os ds : List (List ℕ)) (clusters step : ℕ) (noted : AreNoted os ds clusters) where
+  abbrev set_at : ℕ → List ℕ
+  set_at j = set_before os ds clusters ((j + 1) * step)
+
+  pub is_chain : IsChain clusters step (chain_of os ds clusters step)
+  is_chain = record {
+    count = length-map (below (clusters / step)) set_at ∙ length-below (clusters / step);
+    sizes = λ j set at. (let b = at_below set_at (clusters / step) j set at in ap length (sym b.1) ∙ set_many os ds clusters noted ((j + 1) * step) (multiple_below clusters step j b.0));
+    rising = λ j set at. (let b = at_below set_at (clusters / step) j set at in subst IsStrictlyIncreasing b.1 (set_rises os ds clusters noted ((j + 1) * step)));
+    clusters = λ j set at. (let b = at_below set_at (clusters / step) j set at in subst (All (λ x. x < clusters)) b.1 (set_within os ds clusters noted ((j + 1) * step)));
+    nested = λ j set next at after.
+        (let b = at_below set_at (clusters / step) j set at in
+        let a = at_below set_at (clusters / step) (j + 1) next after in
+        let more : (j + 1) * step ≤ (j + 1 + 1) * step = mul-le-mul_right step (omega arith) in
+        subst (λ (l : List ℕ). All (Contains l) set) a.1 (subst (All (Contains (set_at (j + 1)))) b.1 (set_grows os ds clusters noted ((j + 1) * step) ((j + 1 + 1) * step) more)));
+  }
+
+-- ---- lines
+
+module _ (facts : LoopFacts) (place : ℕ) where
+  lines_push : (sets : List (List ℕ)) (ls : List PartialLine) (set : List ℕ) (l : PartialLine) → ArePartialLines facts place sets ls → IsPartialLine facts place set l → ArePartialLines facts place (sets ++ set ∷ []) (ls ++ l ∷ [])
+  lines_push [] [] set l h k = (k, tt)
+  lines_push [] (m ∷ ms) set l h k = elim h [ ]
+  lines_push (s ∷ ss) [] set l h k = elim h [ ]
+  lines_push (s ∷ ss) (m ∷ ms) set l h k = (h.0, lines_push ss ms set l h.1 k)
+
+  pub lines_next : (f : ℕ → List ℕ) (j : ℕ) (ls now : List PartialLine) (l : PartialLine)
+      → ArePartialLines facts place (map f (below j)) ls → IsPartialLine facts place (f j) l → now ≡ ls ++ l ∷ [] → ArePartialLines facts place (map f (below (j + 1))) now
+  lines_next f j ls now l h one is = grind (arith, map-append, lines_push)
+
+  line_in : (sets : List (List ℕ)) (ls : List PartialLine) (j : ℕ) (set : List ℕ) (l : PartialLine) → ArePartialLines facts place sets ls → slice_get sets j ≡ Some set → slice_get ls j ≡ Some l → IsPartialLine facts place set l
+  line_in [] ls j set l h at there = absurd (cc)
+  line_in (s ∷ ss) [] j set l h at there = elim h [ ]
+  line_in (s ∷ ss) (m ∷ ms) zero set l h at there = grind arith
+  line_in (s ∷ ss) (m ∷ ms) (suc j) set l h at there = line_in ss ms j set l h.1 at there
+
+  -- the last of the lines so far
+  pub last_line : (g : ℕ → List ℕ) (step n : ℕ) (ls : List PartialLine) (l : PartialLine) → ArePartialLines facts place (map (λ j. g ((j + 1) * step)) (below n)) ls → 0 < n → slice_get ls (n - 1) ≡ Some l → IsPartialLine facts place (g (n * step)) l
+  last_line g step n ls l h some there =
+      let f = λ (j : ℕ). g ((j + 1) * step) in
+      let same : n - 1 + 1 ≡ n = omega arith in
+      subst (λ (k : ℕ). IsPartialLine facts place (g (k * step)) l) same (line_in (map f (below n)) ls (n - 1) (f (n - 1)) l h (slice_get-map f (below n) (n - 1) ∙ ap (option_map f) (slice_get-below n (n - 1) (omega arith))) there)

@@ -3,7 +3,7 @@ use Rattle.std.proofs.Common.{◌≡◌, ℕ, zero, suc, ◌+◌, ◌-◌, ◌<�
 use Rattle.lemmas.proofs.{AllPairs-from_increasing, cases_eq, cases_lt, common_steps, cond-false, cond-true, get_or_from_slice_get, IsNonDecreasingBy, IsPartitionPoint, IsStrictlyIncreasing, length-map, ltb-false, ltb-true, map-append, none_left, same_some, slice_get-map, slice_get_within, take-suc, zip}
 use Rattle.merge_core.specs.{Noted}
 use Rattle.slot_words.specs.{added, added_in, AreOf, cluster_in, HaveNumbers, is_between, kept, piece_in}
-use Rattle.slot_words.proofs.Chosen.{kept_both}
+use Rattle.slot_words.proofs.Noting.{kept_both}
 
 -- ---- one trail
 

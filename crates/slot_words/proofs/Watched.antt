@@ -7,8 +7,8 @@ use Rattle.rdf_model.specs.declared.loop_facts.LoopFacts.{LoopFacts}
 use Rattle.merge_core.specs.{Noted}
 use Rattle.loop_pieces.specs.{ArePartialLines, LoopPiece, PartialLine, WatchPiece}
 use Rattle.slot_words.specs.{AreLeft, AreNoted, AreTaken, AreTrails, chain_of, HaveAllTrails, HavePartialsOver, HaveSameBodies, noted_sets}
-use Rattle.slot_words.proofs.Chaining.{is_chain}
-use Rattle.slot_words.proofs.Places.{set_other}
+use Rattle.slot_words.proofs.Noting.{is_chain}
+use Rattle.slot_words.proofs.Joining.{set_other}
 
 -- the trails of the results from place w on are as they were
 pub record AreAhead (w : ℕ) (old new : List LoopPiece) : Type 0 where

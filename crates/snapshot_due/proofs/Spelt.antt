@@ -6,10 +6,10 @@ use Rattle.csv.specs.declared.parser.State.{State}
 use Rattle.csv.specs.declared.parser.State.TheVariants as st
 use Rattle.csv.specs.Reading.{default_config, records_from, records_next, strip_bom}
 use Rattle.rdf_values.specs.{Column, FitRows, FitsRow, Header, header_from, IsHeader, IsTable, MarkedRow, MarkedTable, marks_from, on_ok, result_cons, row_of, rows_from, table_of, table_with, TableCause, Value}
-use Rattle.rdf_values.proofs.CellWords.{row_fits_columns}
+use Rattle.rdf_values.proofs.KeptLemmas.{row_fits_columns}
 use Rattle.table_csv.specs.{csv_records}
 use Rattle.table_csv.proofs.HeaderSteps.{header_is}
-use Rattle.table_csv.proofs.Steps.{Shrinks, shrinks}
+use Rattle.table_csv.proofs.PushSteps.{Shrinks, shrinks}
 
 -- ---- the first record
 

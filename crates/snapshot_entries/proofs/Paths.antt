@@ -7,7 +7,7 @@ use Rattle.rdf_model.proofs.Accepted.{column_fits}
 use Rattle.graph_numbers.specs.{filter_sites, IsBelow, sites, Source, source_in, sources, through_sites, version_at, version_count}
 use Rattle.graph_numbers.proofs.ColumnSources.{IsGiven, column_source}
 use Rattle.graph_numbers.proofs.Equations.{source_is}
-use Rattle.graph_numbers.proofs.Extending.{itself, source_count}
+use Rattle.graph_numbers.proofs.Placing.{itself, source_count}
 use Rattle.graph_numbers.proofs.Passing.{AreVisible, through_is, values_are}
 use Rattle.snapshot_entries.specs.{IsStoredOutcome}
 use Rattle.snapshot_entries.proofs.Sites.{Accepted, number, version}

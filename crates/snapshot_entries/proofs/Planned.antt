@@ -4,9 +4,9 @@ use Rattle.std.specs.List.{AllByRecursion}
 use Rattle.rdf_values.specs.{among, ColType, column_kind, fn_names, GraphCause, is_node, IsStored, Scope, scope_at, scope_of, Value}
 use Rattle.rdf_model.specs.{◌>>=◌, Dataset, for_all, Gives}
 use Rattle.graph_numbers.specs.{booked_statements, GraphView, through_sites, version_at}
-use Rattle.graph_numbers.proofs.Extending.{versions_count}
+use Rattle.graph_numbers.proofs.Placing.{versions_count}
 use Rattle.graph_numbers.proofs.Passing.{AreVisible}
-use Rattle.graph_numbers.proofs.Ranges.{filter_sites_below}
+use Rattle.graph_numbers.proofs.Walks.{filter_sites_below}
 use Rattle.snapshot_plan.specs.{first_bad, is_bad, is_stored, PlanView, scope_in}
 use Rattle.snapshot_rows.specs.{kept_cells}
 use Rattle.snapshot_entries.specs.{IsColumn, IsWanted, IsWork, outcome_at, row_in, site_in, site_total, version_in}

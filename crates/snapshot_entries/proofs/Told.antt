@@ -3,7 +3,7 @@ use Rattle.std.proofs.Common.{◌≡◌, ℕ, ◌<◌, List, length, get_or, Opt
 use Rattle.std.proofs.lemmas.Option.{slice_get-get_or}
 use Rattle.rdf_values.specs.{AreAccepted, EntryFault, fn_names, scope_of, Value}
 use Rattle.rdf_model.specs.{◌>>=◌, Dataset, Outcome, tag_element, with_needs}
-use Rattle.rdf_model.proofs.Verdicts.{verdict_is_the_first_refusal}
+use Rattle.rdf_model.proofs.Accepted.{verdict_is_the_first_refusal}
 use Rattle.graph_numbers.specs.{booked_statements, cell_value, Source, source_value}
 use Rattle.snapshot_plan.specs.{PlanView}
 use Rattle.snapshot_entries.specs.{AreKnown, element_of, IsHeld, IsSourceHeld, IsWork, outcome_of, row_in, site_in, source_of, version_in}

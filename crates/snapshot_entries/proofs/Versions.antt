@@ -3,7 +3,7 @@ use Rattle.std.proofs.Common.{◌≡◌, ℕ, ◌≤◌, List, length, sym, ap, 
 use Rattle.rdf_values.specs.{Column, fn_names, Statement}
 use Rattle.rdf_model.specs.{Dataset}
 use Rattle.graph_numbers.specs.{booked_statements, filter_sites, graph_sites, graph_versions, named_version, version_count}
-use Rattle.graph_numbers.proofs.Extending.{versions_count}
+use Rattle.graph_numbers.proofs.Placing.{versions_count}
 use Rattle.graph.specs.{filter_numbers, site_total}
 use Rattle.graph.proofs.SiteTotals.{numbers_are, total_is}
 use Rattle.graph.proofs.Walking.{named_few}

@@ -3,7 +3,7 @@ use Rattle.std.proofs.Common.{if◌then◌else◌, ◌≡◌, inl, inr, ◌<◌,
 use Rattle.rdf_values.specs.Answered.{Refuses}
 use Rattle.rdf_values.specs.{Column, fn_names, Function, FunctionNames, graph_cause_line, is_node, Scope, scope_at, scope_of, Script, Statement, TableView, Under, variations, verdict}
 use Rattle.graph_numbers.specs.{booked, booked_statements, GraphView}
-use Rattle.graph.proofs.Verdicts.{accepted_verdict}
+use Rattle.graph.proofs.Finished.{accepted_verdict}
 use Rattle.input_files.specs.{due_of}
 use Rattle.snapshot_plan.specs.{cause_in, first_bad, is_bad, is_under, most_statements, planned, PlanView, SnapCause, SnapRefusal, statements_planned, under_of, unless_bad, unless_cause}
 use Rattle.snapshot_words.specs.{SnapCommand}

@@ -8,8 +8,7 @@ use denote.Struct.Tuple.{TupleAt, type_at}
 use Rattle.std.proofs.Crossing.{crosses}
 use Rattle.rdf_values.specs.contracts.list.ListOf.{the_row as list_row}
 use Rattle.rdf_values.specs.contracts.scripts.name.Name.{the_row as name_row}
-use Rattle.rdf_values.proofs.SharedExpr.{name_sync}
-use Rattle.rdf_values.proofs.SharedScript.{columns_sync, list_sync}
+use Rattle.rdf_values.proofs.Shared.{name_sync, columns_sync, list_sync}
 use Rattle.graph.proofs.Shared.{graph_sync}
 use Rattle.columns.specs.contracts.cuts.Cuts.{the_row as cuts_row}
 use Rattle.columns.specs.contracts.columns.Columns.{the_row as columns_row}

@@ -7,7 +7,7 @@ use Rattle.rdf_values.specs.{AreColumns, cells_from, ColType, Column, column_of,
 use Rattle.rdf_values.specs.tables.TableText.{cell_of}
 use Rattle.snapshot_text.specs.{AreNamed, cell_field, column_field, kind_word}
 use Rattle.snapshot_text.proofs.Plain.{AllNumerals, Numeral, Wordy, name_bytes, number_numeral, number_some}
-use Rattle.rdf_values.proofs.Rows.{fits_length as row_length}
+use Rattle.rdf_values.proofs.KeptLemmas.{fits_length as row_length}
 
 -- ---- vectors
 

@@ -9,7 +9,7 @@ use Rattle.snapshot_text.specs.{AreNamed, cell_field, column_field, entries_text
 use Rattle.snapshot_text.proofs.Plain.{Above, AllAbove, Starts, above_joined, name_bytes, number_numeral, number_some, numeral_above, numerals_above, starts_joined, wordy_above}
 use Rattle.snapshot_text.proofs.RecordsBack.{HaveFields, many_written, none_written, one_written, records_back}
 use Rattle.snapshot_text.proofs.TableBack.{AllStored, all_stored, joined_some, numbers_numerals, table_back}
-use Rattle.rdf_values.proofs.Rows.{fits_length as row_length}
+use Rattle.rdf_values.proofs.KeptLemmas.{fits_length as row_length}
 
 -- ---- the header
 

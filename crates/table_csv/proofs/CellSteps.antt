@@ -1,12 +1,26 @@
--- One more cell of an entry, and its mark; what is read, with the answer for what is left behind it.
-use Rattle.std.proofs.Common.{◌≡◌, ◌≢◌, ◌<◌, ◌≤◌, ◌+◌, ℕ, Bool, true, false, List, [], ◌∷◌, ◌++◌, length, get_or, drop, Result, Ok, Err, arith, refl, ap, sym, append_assoc, MatchResult, ◌∙◌, if◌then◌else◌}
+-- The field at a place that is there.
+use Rattle.std.proofs.Common.{◌≡◌, ◌<◌, ℕ, zero, suc, List, [], ◌∷◌, length, get_or, None, Some, Option, arith, refl, rules, option_map, IsSome, ◌≢◌, ◌≤◌, ◌+◌, Bool, true, false, ◌++◌, drop, Result, Ok, Err, ap, sym, append_assoc, MatchResult, ◌∙◌, if◌then◌else◌, take, All, length-take, slice_get}
+use Rattle.std.specs.Borrow.{Bor}
+use Rattle.csv.specs.Records.{field_at}
 use mir.Val.{bool_byte}
-use Rattle.lemmas.proofs.{append-nil, drop_all, drop_more, nat_tests}
-use Rattle.rdf_values.specs.{Answers, Cells, cells_from, Column, field_count, Header, mark_of, MarkedRow, on_ok, result_cons, row_of, row_pushed, TableCause, Value}
+use Rattle.lemmas.proofs.{append-nil, drop_all, drop_more, nat_tests, All-append, All-map, AllPairs-from_increasing, get_or-take, get_or_from_slice_get, map-append, slice_get_within, take_next}
+use Rattle.rdf_values.specs.{Answers, Cells, cells_from, Column, field_count, Header, mark_of, MarkedRow, on_ok, result_cons, row_of, row_pushed, TableCause, Value, AreMarks}
 use Rattle.rdf_values.specs.tables.TableText.{cell_of, mark_in}
 use Rattle.rdf_values.specs.Answered.{Refuses}
-use Rattle.table_csv.specs.{IsRowPushed}
+use Rattle.table_csv.specs.{IsRowPushed, marks_behind}
 use Rattle.table_csv.specs.declared.refusal.TableRefusal.{TableRefusal}
+
+pub field_at-get_or : (fs : List (List ℕ)) (i : ℕ) → i < length fs → field_at fs i ≡ Some (get_or fs i [])
+unfolding field_at
+field_at-get_or [] i h = absurd (omega arith)
+field_at-get_or (f ∷ fs) zero h = refl
+field_at-get_or (f ∷ fs) (suc i) h = field_at-get_or fs i (omega arith)
+
+pub some_field : (o : Option (Bor (List ℕ))) (x : List ℕ) → option_map (λ s. s.now) o ≡ Some x → IsSome o
+some_field None x e = cc e
+some_field (Some y) x e = search rules
+
+-- ---- One more cell of an entry, and its mark; what is read, with the answer for what is left behind it.
 
 abbrev pub result_onto : {A E : Type 0} → List A → Result (List A) E → Result (List A) E
 result_onto read (Err e) = Err e
@@ -88,3 +102,26 @@ pub after_mark : (row : List Value) (mark : Result Bool TableCause) (wanted : Re
     → wanted ≡ on_ok mark (λ begins. Ok (record { row = row; marked = begins })) → new ≡ row_pushed old row → Answers TableRefusal.At TableRefusal.Memory mark answer
     → MatchResult answer (λ begins. IsRowPushed wanted begins old new) (Refuses TableRefusal.At TableRefusal.Memory wanted)
 after_mark row mark wanted answer old new w q a = grind arith
+
+-- ---- Marks behind others.
+
+pub marks_more : (old now more : List ℕ) (n i mark : ℕ) → now ≡ old ++ marks_behind n (take i more) → slice_get more i ≡ Some mark → now ++ (n + mark) ∷ [] ≡ old ++ marks_behind n (take (i + 1) more)
+marks_more old now more n i mark e s =
+    rw (e, take_next more i mark s, map-append (λ m. n + m) (take i more) (mark ∷ [])) (append_assoc old (marks_behind n (take i more)) ((n + mark) ∷ []))
+
+pub marks_above : (old now more : List ℕ) (n i mark : ℕ) → now ≡ old ++ marks_behind n (take i more) → All (λ m. m < n) old → AreMarks more → slice_get more i ≡ Some mark → All (λ m. m < n + mark) now
+marks_above old now more n i mark e before a s =
+    let lt = slice_get_within more i mark s in
+    let pairs = AllPairs-from_increasing more a.rising in
+    let size = length-take i more in
+    let each : All (λ m. n + m < n + mark) (take i more) =
+    (λ j d h.
+    let short : j < i = omega (arith, h, size) in
+    let pair = pairs j i d short lt in
+    let same = get_or-take i more j d short in
+    let own = get_or_from_slice_get more i mark d s in
+    omega (arith, pair, same, own)) in
+    rw e (All-append (λ m. m < n + mark) old (marks_behind n (take i more)) (λ j d h. let b = before j d h in omega (arith, b)) (All-map (λ m. m < n + mark) (λ m. n + m) (take i more) each))
+
+pub mark_few : (more : List ℕ) (n i mark : ℕ) → All (λ m. n + m < 1000000) more → slice_get more i ≡ Some mark → n + mark < 1000000
+mark_few more n i mark few s = grind (arith, slice_get_within, get_or_from_slice_get)

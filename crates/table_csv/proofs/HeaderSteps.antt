@@ -1,7 +1,14 @@
 -- One more field of a header, and that columns of a header are those of a table.
-use Rattle.std.proofs.Common.{if◌then◌else◌, ◌≡◌, ◌<◌, ◌≤◌, ◌+◌, ℕ, suc, List, [], ◌∷◌, ◌++◌, length, get_or, drop, Bool, true, false, None, Some, Option, Result, Ok, Err, arith, refl, ap, sym, ◌∙◌, append_assoc, length-append, not, ◌&&◌, nat_eq, option_and_then, option_map, ok_or}
+use Rattle.std.proofs.Common.{if◌then◌else◌, ◌≡◌, ◌<◌, ◌≤◌, ◌+◌, ℕ, suc, List, [], ◌∷◌, ◌++◌, length, get_or, drop, Bool, true, false, None, Some, Option, Result, Ok, Err, arith, refl, ap, sym, ◌∙◌, append_assoc, length-append, not, ◌&&◌, nat_eq, option_and_then, option_map, ok_or, inl, inr, MatchResult}
 use Rattle.lemmas.proofs.{and_left, append-nil, at_drop_more, drop_all, length-drop, nat_tests, not_true}
-use Rattle.rdf_values.specs.{AreColumns, ColType, Column, column_of, ends_in_cut, has_name, Header, header_from, if_new, is_cut, IsHeader, IsStored, next_column, on_ok, TableCause, with_column}
+use Rattle.rdf_values.specs.{AreColumns, ColType, Column, column_of, ends_in_cut, has_name, Header, header_from, if_new, is_cut, IsHeader, IsStored, next_column, on_ok, TableCause, with_column, table_of}
+use Rattle.std.specs.Borrow.{Bor}
+use Rattle.csv.specs.declared.reader.Reader.{Reader}
+use Rattle.rdf_values.specs.Answered.{Refuses}
+use Rattle.table_csv.specs.{entries_of, IsHeaded, Leaves}
+use Rattle.table_csv.specs.declared.header.Heading.{Heading}
+use Rattle.table_csv.specs.declared.refusal.TableRefusal.{TableRefusal}
+use Rattle.table_csv.proofs.TableSteps.{table_bad, table_good}
 
 -- what is read, with the header of what is left behind it
 abbrev pub header_onto : List Column → Result Header TableCause → Result Header TableCause
@@ -107,3 +114,16 @@ are_next (field ∷ fields) i before l few =
 
 pub header_is : (fields : List (List ℕ)) (h : Header) → 0 < length fields → header_from 0 [] fields ≡ Ok h → IsHeader h.columns
 header_is fields h l e = grind (arith, are_next)
+
+-- ---- Answers behind a header.
+
+pub headed : (answer : Result Heading TableRefusal) (records : List (List (List ℕ))) (fields : List (List ℕ)) (left : List (List (List ℕ))) (after : Reader (Bor (List ℕ))) → records ≡ fields ∷ left → Leaves after left → 0 < length fields
+    → MatchResult answer (λ h. header_from 0 [] fields ≡ Ok (record { columns = h.columns; marked = h.marked })) (Refuses TableRefusal.At TableRefusal.Memory (header_from 0 [] fields))
+    → MatchResult answer (λ h. IsHeaded records (record { columns = h.columns; marked = h.marked }) after) (Refuses TableRefusal.At TableRefusal.Memory (table_of records))
+headed (Ok h) records fields left after first leaves some a = record { fields = fields; left = left; first = first; spells = a; leaves = leaves; header = header_is fields (record { columns = h.columns; marked = h.marked }) some a }
+headed (Err e) records fields left after first leaves some (inl memory) = inl memory
+headed (Err e) records fields left after first leaves some (inr bad) = inr (bad.0, bad.1, table_bad records fields left bad.0 first bad.2)
+
+-- the entries behind a header come to its table
+pub headed_table : (records : List (List (List ℕ))) (h : Header) (after : Reader (Bor (List ℕ))) (i : IsHeaded records h after) → table_of records ≡ entries_of h i.left
+headed_table records h after i = table_good records i.fields i.left h i.first i.spells

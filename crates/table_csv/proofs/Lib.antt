@@ -1,16 +1,7 @@
-pub mod ByteSearch
-pub mod CellSteps
-pub mod Cut
 pub mod CutLines
+pub mod CellSteps
 pub mod Examples
-pub mod Fields
-pub mod Headed
 pub mod HeaderSteps
-pub mod MarksBehind
-pub mod LineCuts
 pub mod PushSteps
 pub mod PieceSteps
-pub mod ShiftedRows
-pub mod Steps
 pub mod TableSteps
-pub mod TextSteps

@@ -1,10 +1,19 @@
 -- One more value for a column, in an entry that is read.
-use Rattle.std.proofs.Common.{◌≡◌, ◌<◌, ◌≤◌, ◌+◌, ◌∙◌, ℕ, zero, suc, List, [], ◌∷◌, ◌++◌, length, get_or, set, drop, Result, Err, ap, arith, refl, sym, length-append}
+use Rattle.std.proofs.Common.{◌≡◌, ◌<◌, ◌≤◌, ◌+◌, ◌∙◌, ℕ, zero, suc, List, [], ◌∷◌, ◌++◌, length, get_or, set, drop, Result, Err, ap, arith, refl, sym, length-append, Bool, true, false, None, Some, Option, inl, if◌then◌else◌}
 use Rattle.rdf_values.specs.{AreKept, Cells, cells_from, ColType, Column, IsKept, pushed, row_pushed, TableCause, Value}
 use Rattle.rdf_values.specs.tables.TableText.{cell_of}
-use Rattle.rdf_values.proofs.RowPushed.{kept_length}
-use Rattle.table_csv.specs.{AreCellsPushed, IsCellPushed, kind_of}
+use Rattle.rdf_values.proofs.KeptLemmas.{kept_length}
+use Rattle.table_csv.specs.{AreCellsPushed, IsCellPushed, kind_of, Leaves, Took}
 use Rattle.table_csv.proofs.CellSteps.{cells_end, cells_more, cells_stop, result_onto, result_onto-none}
+use Rattle.std.specs.Borrow.{Bor}
+use Rattle.csv.specs.Machine.{Read, ends_at_end, is_end, step, next_record, fields_after, field_after}
+use Rattle.csv.specs.Reading.{NextIs, ReadsNext, ReadRecord, default_config, is_flexible, pending_of, records_from, reader_config, reader_state, reader_trim, records_next, Ready, source_of, took_first}
+use Rattle.csv.specs.declared.parser.State.{State}
+use Rattle.csv.specs.declared.parser.Action.{Action}
+use Rattle.csv.specs.declared.reader.Reader.{Reader}
+use Rattle.csv.specs.declared.parser.State.TheVariants as st
+use Rattle.csv.specs.declared.parser.Action.TheVariants as act
+use Rattle.csv.specs.declared.reader.Trim.TheVariants as trim
 
 -- ---- values behind those of the first columns
 
@@ -81,3 +90,101 @@ pushing_more whole e columns fields i old now d new p h lc lf q b =
 
 pub pushing_end : (whole : Result (List Value) TableCause) (e : ℕ) (columns : List Column) (fields : List (List ℕ)) (i : ℕ) (old now : List Cells) → Pushing whole e columns fields i old now → length columns ≤ i → AreCellsPushed whole old now
 pushing_end whole e columns fields i old now p l = record { row = p.row; spelt = p.so_far ∙ cells_end e p.row columns fields i l; added = p.added }
+
+-- ---- What a read of a record takes from the records that are left.
+
+-- a step that ends a record leaves a state between records
+abbrev Closes : State × Action → Type 0
+Closes q = is_end q.1 ≡ true → ends_at_end q.0 ≡ false
+
+step_closes : (s : State) (c : ℕ) → Closes (step default_config s c)
+step_closes s c e = grind arith
+
+-- a record has a field
+ended : (a : Action) (fields : List (List ℕ)) (field : List ℕ) → is_end a ≡ true → 0 < length (fields_after a fields field)
+ended act.EndRecord fields field e = omega (arith, length-append fields (field ∷ []))
+ended act.Skip fields field e = cc e
+ended act.Copy fields field e = cc e
+ended act.EndField fields field e = cc e
+
+-- what a read leaves: no more bytes than there were, and a state between records
+abbrev Leads : ℕ → Option Read → Type 0
+Leads size None = Unit {0}
+Leads size (Some p) = (length p.2 ≤ size) × (ends_at_end p.1 ≡ false) × (0 < length p.0)
+
+leads_more : (m n : ℕ) (o : Option Read) → m ≤ n → Leads m o → Leads n o
+leads_more m n None h l = tt
+leads_more m n (Some p) h l = (omega arith, l.1, l.2)
+
+leads_end : (b : Bool) (f : List (List ℕ)) → 0 < length f → Leads 0 (if b then Some (f, st.StartRecord, []) else None)
+leads_end true f h = (omega arith, refl, h)
+leads_end false f h = tt
+
+if_holds : (P : Option Read → Type 0) (b : Bool) (x y : Option Read) → (b ≡ true → P x) → (b ≡ false → P y) → P (if b then x else y)
+if_holds P true x y h k = h refl
+if_holds P false x y h k = k refl
+
+leads : (xs : List ℕ) (s : State) (fields : List (List ℕ)) (field : List ℕ) → Leads (length xs) (next_record default_config s fields field xs)
+unfolding next_record
+leads [] s fields field = leads_end (ends_at_end s) (fields ++ (field ∷ [])) (omega (arith, length-append fields (field ∷ [])))
+leads (c ∷ rest) s fields field =
+    let q = step default_config s c in
+    if_holds (Leads (length (c ∷ rest))) (is_end q.1) _ _
+    (λ e. (omega arith, step_closes s c e, ended q.1 fields field e))
+    (λ e. leads_more (length rest) (length (c ∷ rest)) _ (omega arith) (leads rest q.0 (fields_after q.1 fields field) (field_after q.1 c field)))
+
+-- from a state between records a read takes a byte or more
+abbrev pub Shrinks : ℕ → Option Read → Type 0
+Shrinks size None = Unit {0}
+Shrinks size (Some p) = (length p.2 < size) × (ends_at_end p.1 ≡ false) × (0 < length p.0)
+
+shrinks_leads : (m : ℕ) (o : Option Read) → Leads m o → Shrinks (suc m) o
+shrinks_leads m None l = tt
+shrinks_leads m (Some p) l = (omega arith, l.1, l.2)
+
+pub shrinks : (s : State) (xs : List ℕ) → ends_at_end s ≡ false → Shrinks (length xs) (next_record default_config s [] [] xs)
+unfolding next_record
+shrinks s [] h = rw h tt
+shrinks s (c ∷ rest) h = grind (arith, if_holds, step_closes, ended, shrinks_leads, leads)
+
+-- what a read that found a record, or none, says of the records that were left
+Outcome : Bool → ℕ → State → List ℕ → Option (List ℕ) → List (List ℕ) → State → Type 0
+Outcome true m s y k fields s2 = (z : List ℕ) × (k ≡ Some z) × (records_from default_config (suc m) s y ≡ fields ∷ records_from default_config m s2 z) × (length z < m) × (ends_at_end s2 ≡ false) × (0 < length fields)
+Outcome false m s y k fields s2 = records_from default_config (suc m) s y ≡ []
+
+took_some : (o : Option Read) (m size : ℕ) (fields : List (List ℕ)) (s2 : State) (z : List ℕ) → NextIs o true fields s2 z → Shrinks size o → size < suc m
+    → (records_next (records_from default_config m) o ≡ fields ∷ records_from default_config m s2 z) × (length z < m) × (ends_at_end s2 ≡ false) × (0 < length fields)
+took_some None m size fields s2 z n h l = cc n
+took_some (Some p) m size fields s2 z n h l = (rw (n.1, n.2, n.3) refl, rw n.3 (omega arith), rw n.2 h.1, rw n.1 h.2)
+
+took_none : (o : Option Read) (m : ℕ) (fields : List (List ℕ)) (s2 : State) (z : List ℕ) → NextIs o false fields s2 z → records_next (records_from default_config m) o ≡ []
+took_none None m fields s2 z n = refl
+took_none (Some p) m fields s2 z n = cc n.0
+
+outcome : (found : Bool) (m : ℕ) (s : State) (y : List ℕ) (k : Option (List ℕ)) (fields : List (List ℕ)) (s2 : State)
+    → ends_at_end s ≡ false → length y < suc m → ReadsNext default_config s (Some y) k found fields s2 → Outcome found m s y k fields s2
+unfolding Outcome records_from
+outcome true m s y None fields s2 e l r = absurd r
+outcome true m s y (Some z) fields s2 e l r = grind (arith, took_some, shrinks)
+outcome false m s y None fields s2 e l r = absurd r
+outcome false m s y (Some z) fields s2 e l r = took_none (next_record default_config s [] [] y) m fields s2 z r
+
+some_fuel : (n k : ℕ) → k < n → (m : ℕ) × (n ≡ suc m)
+some_fuel zero k l = absurd (omega arith)
+some_fuel (suc m) k l = (m, refl)
+
+finish : (found : Bool) (old new : Reader (Bor (List ℕ))) (m : ℕ) (y : List ℕ) (fields : List (List ℕ)) (left : List (List (List ℕ)))
+    → left ≡ records_from default_config (suc m) (reader_state old) y
+    → Outcome found m (reader_state old) y (source_of (λ s. Some s.now) new) fields (reader_state new)
+    → reader_trim new ≡ trim.None → Ready new → reader_config new ≡ default_config → is_flexible new ≡ true
+    → Took found left fields new
+unfolding Outcome
+finish found old new m y fields left e o t r c fl = grind arith
+
+pub takes : (found : Bool) (old new : Reader (Bor (List ℕ))) (fields : List (List ℕ)) (left : List (List (List ℕ)))
+    → Leaves old left → took_first new ≡ true → is_flexible new ≡ is_flexible old → ReadRecord (λ s. Some s.now) old new found fields → Took found left fields new
+takes found old new fields left h first flexible r =
+    let f = some_fuel h.fuel (length h.bytes) h.enough in
+    let read = rw (h.config, h.source) at r.0 in
+    let o = outcome found f.0 (reader_state old) h.bytes (pending_of (Some new.rdr.now) new) fields (reader_state new) h.between (rw (← f.1) h.enough) read in
+    finish found old new f.0 h.bytes fields left (rw f.1 at h.rest) (rw r.1 o) (r.3 ∙ h.trims) (inl first) (r.2 ∙ h.config) (flexible ∙ h.flexible)

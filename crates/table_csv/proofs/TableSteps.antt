@@ -2,7 +2,7 @@
 use Rattle.std.proofs.Common.{if◌then◌else◌, ◌≡◌, ◌≤◌, ◌<◌, ◌+◌, ℕ, Bool, true, false, List, [], ◌∷◌, ◌++◌, length, map, All, Result, Ok, Err, arith, refl, ap, sym, subst, ◌∙◌, length-append}
 use Rattle.lemmas.proofs.{All-cons, append-nil, map-append}
 use Rattle.rdf_values.specs.{Cells, Column, Header, header_from, MarkedRow, MarkedTable, marks_from, on_ok, row_of, rows_from, rows_kept, table_of, table_with, TableCause, TableView, Value}
-use Rattle.rdf_values.proofs.RowPushed.{length-rows_kept}
+use Rattle.rdf_values.proofs.KeptLemmas.{length-rows_kept}
 use Rattle.table_csv.specs.{entries_of}
 use Rattle.table_csv.proofs.CellSteps.{result_onto, result_onto-cons, result_onto-none}
 

@@ -1,5 +1,5 @@
 use Rattle.std.proofs.Common.{refl}
-use Rattle.entry_fns.proofs.Made.{boxed_answers}
+use Rattle.entry_fns.proofs.Meanings.{boxed_answers}
 use Rattle.rdf_shard.proofs.main.OwnLists.{own-1, at-1-1, at-1-2, at-1-3}
 use Rattle.rdf_shard.proofs.main.Goals as goal
 

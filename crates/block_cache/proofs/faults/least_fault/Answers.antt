@@ -2,7 +2,7 @@ use Rattle.std.proofs.Common.{arith, subst, sym, take, List, Option, ◌+◌}
 use Rattle.std.proofs.lemmas.List.{take_all}
 use Rattle.expr_lanes.specs.{Stopped}
 use Rattle.block_cache.specs.{IsLeastFault, PlaceFault}
-use Rattle.block_cache.proofs.LeastFaults.{least_next}
+use Rattle.block_cache.proofs.StopLists.{least_next}
 use Rattle.block_cache.proofs.faults.least_fault.Goals as goal
 
 pub loop-i-preserved : goal.loop-i-preserved

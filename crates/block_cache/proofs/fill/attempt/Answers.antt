@@ -2,7 +2,7 @@ use Rattle.std.proofs.Common.{arith, ap, ◌∙◌, subst, List, get_or, Contain
 use Rattle.std.proofs.lemmas.List.Elements.{Contains-get_or}
 use Rattle.expr_lanes.specs.{Stopped}
 use Rattle.block_cache.specs.{need_at}
-use Rattle.block_cache.proofs.Answering.{on_err}
+use Rattle.block_cache.proofs.StopLists.{on_err}
 use Rattle.block_cache.proofs.Attempts.{attempted, first_stops, place_inside, whole}
 use Rattle.block_cache.proofs.BegunLanes.{broken_off}
 use Rattle.block_cache.proofs.fill.attempt.Goals as goal

@@ -1,7 +1,7 @@
 use Rattle.std.proofs.Common.{◌≡◌, ◌==◌, ◌∷◌, [], List, arith, length, refl, sym, true}
 use Rattle.std.proofs.lemmas.Bool.Decides.{Decides-eqb}
 use Rattle.expr_lanes.specs.{Stopped}
-use Rattle.block_cache.proofs.Answering.{on_err}
+use Rattle.block_cache.proofs.StopLists.{on_err}
 use Rattle.block_cache.proofs.Knowns.{kept_lacking}
 use Rattle.block_cache.proofs.UnderwayLaws.{began, began_broken, began_lacks, began_rest, began_selected, began_whole}
 use Rattle.block_cache.proofs.fill.begin.Goals as goal

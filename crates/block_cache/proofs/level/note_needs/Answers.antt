@@ -1,7 +1,7 @@
 use Rattle.std.proofs.Common.{arith, subst, List}
 use Rattle.std.proofs.lemmas.List.{take_all}
 use Rattle.expr_lanes.specs.{Stopped}
-use Rattle.block_cache.proofs.NotedNeeds.{IsNotedTo, noted_at_fault, noted_at_need}
+use Rattle.block_cache.proofs.StopLists.{IsNotedTo, noted_at_fault, noted_at_need}
 use Rattle.block_cache.proofs.level.note_needs.Goals as goal
 use Rattle.block_cache.proofs.level.note_needs.Goals.{in-Need, in_default}
 

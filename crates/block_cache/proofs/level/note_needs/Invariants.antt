@@ -1,5 +1,5 @@
 use Rattle.std.proofs.Common.{take}
-use Rattle.block_cache.proofs.NotedNeeds.{IsNotedTo}
+use Rattle.block_cache.proofs.StopLists.{IsNotedTo}
 use Rattle.block_cache.proofs.level.note_needs.Given as goal
 
 abbrev pub invariant-loop-i : goal.invariant-loop-i

@@ -1,5 +1,5 @@
 use Rattle.std.proofs.Common.{sym}
-use Rattle.expr_lanes.proofs.Dense.{dense_long}
+use Rattle.expr_lanes.proofs.Selected.{dense_long}
 use Rattle.block_cache.proofs.marks.mark.Goals as goal
 
 pub mark_first-requires : goal.mark_first-requires

@@ -1,7 +1,7 @@
 use Rattle.std.proofs.Common.{◌≡◌, ◌<◌, ◌+◌, ◌∙◌, arith, refl, sym, length}
 use Rattle.lemmas.proofs.{get_or-range_with_len, length-range_with_len, range_with_len}
 use Rattle.std.proofs.lemmas.List.{take_all}
-use Rattle.expr_lanes.proofs.Rising.{rising_range}
+use Rattle.expr_lanes.proofs.Selected.{rising_range}
 use Rattle.block_cache.proofs.Marking.{mark_one, marked_all, marked_to_none, newly_all}
 use Rattle.block_cache.proofs.marks.mark_first.Goals as goal
 

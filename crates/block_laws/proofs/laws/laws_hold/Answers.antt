@@ -2,8 +2,8 @@ use Rattle.block_laws.proofs.Batches as batches
 use Rattle.block_laws.proofs.BlockCuts as cuts
 use Rattle.block_laws.proofs.BlockFaults as faults
 use Rattle.block_laws.proofs.Costs as costs
-use Rattle.block_laws.proofs.Demands as demands
-use Rattle.block_laws.proofs.PartFaults as parts
+use Rattle.block_laws.proofs.Costs as demands
+use Rattle.block_laws.proofs.BlockFaults as parts
 use Rattle.block_laws.proofs.laws.laws_hold.Goals as goal
 
 pub returns : goal.returns

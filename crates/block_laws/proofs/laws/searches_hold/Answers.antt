@@ -1,7 +1,5 @@
-use Rattle.block_laws.proofs.BlockFaults.{goes_on}
-use Rattle.block_laws.proofs.Lanes.{marked_within}
-use Rattle.block_laws.proofs.PartFaults.{parts_are}
-use Rattle.block_laws.proofs.Searches.{falls, never_rises}
+use Rattle.block_laws.proofs.BlockFaults.{goes_on, parts_are, falls, never_rises}
+use Rattle.block_laws.proofs.Batches.{marked_within}
 use Rattle.block_laws.proofs.laws.searches_hold.Goals as goal
 
 pub returns : goal.returns

@@ -5,11 +5,10 @@ use Rattle.block_cache.specs.{kinds_of, LaneView}
 use Rattle.loop_keys.specs.{job_of}
 use Rattle.block_passes.specs.{CanServe, IsMadeAt, IsPassTried, IsServedTo, unfed}
 use Rattle.block_passes.proofs.SearchedPasses.{made_set, remade_set, remade_then}
-use Rattle.block_passes.proofs.Serving.{served_inside}
+use Rattle.block_passes.proofs.Serving.{served_inside, plain_reads}
 use Rattle.block_passes.proofs.Spending.{leaves_kept, leaves_then}
 use Rattle.block_passes.proofs.Selecting.{kept_inside}
 use Rattle.block_passes.proofs.Trying.{action_tried, gathers, has_step, last_there, read_plain, to_demanded, to_inside, to_limit}
-use Rattle.block_passes.proofs.PlainReads.{plain_reads}
 use Rattle.block_passes.proofs.action.try_action.Goals as goal
 use Rattle.loop_keys.proofs.PassNumbers.{some_same}
 

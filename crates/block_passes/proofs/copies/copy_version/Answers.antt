@@ -4,9 +4,8 @@ use Rattle.graph_numbers.specs.{Source}
 use Rattle.block_cache.specs.{kinds_of}
 use Rattle.loop_keys.specs.{job_of}
 use Rattle.block_passes.specs.{IsPlainSource, IsServable, IsWhole}
-use Rattle.block_passes.proofs.Serving.{lane_of_kind}
+use Rattle.block_passes.proofs.Serving.{lane_of_kind, no_vector}
 use Rattle.block_passes.proofs.SiteKinds.{element_kind}
-use Rattle.block_passes.proofs.PlainReads.{no_vector}
 use Rattle.block_passes.proofs.copies.copy_version.Goals as goal
 
 pub copy_vectors-requires-clause-vectors : goal.copy_vectors-requires-clause-vectors

@@ -1,7 +1,7 @@
 use Rattle.std.proofs.Common.{◌∙◌, subst, sym}
 use Rattle.graph_numbers.specs.{GraphView, IsSiteExpr}
 use Rattle.loop_keys.specs.{job_of}
-use Rattle.block_passes.proofs.PlainReads.{site_no_vector}
+use Rattle.block_passes.proofs.Serving.{site_no_vector}
 use Rattle.block_passes.proofs.copies.site_kind.Goals as goal
 
 pub returns-clause-plain : goal.returns-clause-plain

@@ -4,7 +4,7 @@ use Rattle.loop_keys.proofs.EntryLaws.{action_next, actions_few, report_next}
 use Rattle.block_cache.specs.{kinds_of}
 use Rattle.block_passes.proofs.Fed.{can_be_fed, one_further, read_action, takes_none}
 use Rattle.block_passes.proofs.Trying.{gathers}
-use Rattle.block_passes.proofs.PlainReads.{plain_reads}
+use Rattle.block_passes.proofs.Serving.{plain_reads}
 use Rattle.block_passes.proofs.feed.feed_pass.Goals as goal
 
 pub returns-in_default-clause-place : goal.returns-in_default-clause-place

@@ -1,7 +1,7 @@
 use Rattle.std.proofs.Common.{◌≡◌, ◌<◌, ◌+◌, ◌++◌, ◌∙◌, ap, arith, length, length-append, replicate}
 use Rattle.std.proofs.lemmas.List.{length-replicate}
 use Rattle.graph_numbers.specs.{graph_sites}
-use Rattle.loop_keys.proofs.KeptKeys.{no_keys}
+use Rattle.loop_keys.proofs.KeyLaws.{no_keys}
 use Rattle.block_passes.proofs.SiteKinds.{more_kinds, more_many, no_kinds}
 use Rattle.block_passes.proofs.kinds.key_kinds.Goals as goal
 

@@ -1,6 +1,6 @@
 use Rattle.std.proofs.Common.{None, false, refl, true, ◌∙◌, get_or}
 use Rattle.loop_keys.specs.{job_of}
-use Rattle.loop_keys.proofs.PlanLaws.{cover_found, cover_next, cover_none, covering_is, result_below}
+use Rattle.loop_keys.proofs.PlainLaws.{cover_found, cover_next, cover_none, covering_is, result_below}
 use Rattle.block_passes.proofs.PlanSteps.{covered_is}
 use Rattle.block_passes.proofs.plan.is_covered.Goals as goal
 

@@ -1,8 +1,7 @@
 use Rattle.std.proofs.Common.{◌≡◌, ◌≤◌, ℕ, List, [], length, Some, sym, ◌∙◌, ap, slice_get, unwrap_or, arith}
 use Rattle.graph_numbers.specs.{graph_loops, graph_variations, GraphView, Pass as NumberedPass}
 use Rattle.loop_keys.specs.{IsJob, job_graph, job_of, JobView, numbered_passes}
-use Rattle.loop_keys.proofs.PassNumbers.{passes_count}
-use Rattle.loop_keys.proofs.PassCounts.{few_passes}
+use Rattle.loop_keys.proofs.PassNumbers.{passes_count, few_passes}
 use Rattle.block_passes.proofs.plan.loop_passes.Goals as goal
 
 read : (j : JobView) (g : GraphView) (ps : List NumberedPass) → g ≡ job_graph j → slice_get (graph_loops g) j.number ≡ Some ps → ps ≡ numbered_passes j

@@ -1,4 +1,4 @@
-use Rattle.cluster_tally.proofs.Stagings.{fresh_holds}
+use Rattle.cluster_tally.proofs.Pieces.{fresh_holds}
 use Rattle.cluster_tally.proofs.laws.fresh_holds.Goals as goal
 
 pub returns : goal.returns

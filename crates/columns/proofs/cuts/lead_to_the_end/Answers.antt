@@ -1,5 +1,5 @@
-use Rattle.rdf_values.proofs.Leading.{cuts_lead}
-use Rattle.columns.proofs.Leading.{in_one}
+use Rattle.rdf_values.proofs.Evenly.{cuts_lead}
+use Rattle.columns.proofs.Clusters.{in_one}
 use Rattle.columns.proofs.cuts.lead_to_the_end.Goals as goal
 
 pub returns-clause-leads : goal.returns-clause-leads

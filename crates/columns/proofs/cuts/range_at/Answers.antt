@@ -1,4 +1,4 @@
-use Rattle.columns.proofs.Ends.{first_range, next_range}
+use Rattle.columns.proofs.Clusters.{first_range, next_range}
 use Rattle.columns.proofs.cuts.range_at.Goals as goal
 use Rattle.columns.proofs.cuts.range_at.Goals.{then-place-eq0, else-place-eq0}
 

@@ -1,7 +1,7 @@
 use Rattle.std.proofs.Common.{map, rules}
 use Rattle.rdf_values.specs.{Keep}
 use Rattle.columns.specs.{whole}
-use Rattle.columns.proofs.Keeping.{halves_by_cluster, halves_joined, keep_back, keep_front}
+use Rattle.columns.proofs.InPieces.{halves_by_cluster, halves_joined, keep_back, keep_front}
 use Rattle.columns.proofs.kept.+fn-keep_in_slots-join+arg2+fn-keep_in_slots-join+arg3+keep_in_slots.Goals as goal
 
 pub join-first-requires-after_bounds : goal.join-first-requires-after_bounds

@@ -1,7 +1,7 @@
 use Rattle.std.proofs.Common.{ap}
 use Rattle.rdf_values.specs.{Cells}
 use Rattle.columns.specs.{joined}
-use Rattle.columns.proofs.Joining.{packed_is_by}
+use Rattle.columns.proofs.BlockSteps.{packed_is_by}
 use Rattle.columns.proofs.kept.keep.Goals as goal
 
 pub returns-in_ok-pack-in-Ints-clause-same : goal.returns-in_ok-pack-in-Ints-clause-same

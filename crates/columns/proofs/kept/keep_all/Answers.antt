@@ -1,5 +1,5 @@
 use Rattle.std.proofs.Common.{◌∙◌, ◌++◌, ap}
-use Rattle.columns.proofs.Keeping.{keep_next}
+use Rattle.columns.proofs.InPieces.{keep_next}
 use Rattle.columns.proofs.kept.keep_all.Goals as goal
 
 pub keep-requires-clause-size : goal.keep-requires-clause-size

@@ -1,5 +1,5 @@
 use Rattle.std.proofs.Common.{◌≡◌, arith, inl, inr, sym, ◌∙◌}
-use Rattle.columns.proofs.Walking.{walk_begin, walk_end, walk_on, walk_start}
+use Rattle.columns.proofs.Clusters.{walk_begin, walk_end, walk_on, walk_start}
 use Rattle.columns.proofs.marked.ends.Goals as goal
 use Rattle.columns.proofs.marked.ends.Goals.{then-is_marked+in_ok-push, then-is_marked-via-then-is_marked, then-is_marked-via-else-is_marked+then-entry-lo, else-is_marked+else-entry-lo}
 

@@ -1,4 +1,4 @@
-use Rattle.columns.proofs.Walking.{Walked}
+use Rattle.columns.proofs.Clusters.{Walked}
 use Rattle.columns.proofs.marked.ends.Given as goal
 
 abbrev pub invariant-loop-entry : goal.invariant-loop-entry

@@ -1,4 +1,4 @@
-use Rattle.columns.proofs.Walking.{marked_is, none_left}
+use Rattle.columns.proofs.Clusters.{marked_is, none_left}
 use Rattle.columns.proofs.marked.is_marked.Goals as goal
 
 pub returns-then-next-marks : goal.returns-then-next-marks

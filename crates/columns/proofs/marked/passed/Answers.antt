@@ -1,5 +1,5 @@
 use Rattle.std.proofs.Common.{arith}
-use Rattle.columns.proofs.Walking.{ahead_one, ahead_still}
+use Rattle.columns.proofs.Clusters.{ahead_one, ahead_still}
 use Rattle.columns.proofs.marked.passed.Goals as goal
 use Rattle.columns.proofs.marked.passed.Goals.{else-next-marks-via-then-next-marks+else-marks-next, else-next-marks-via-else-next-marks}
 

@@ -2,10 +2,9 @@ use Rattle.std.proofs.Common.{◌≤◌, ◌∙◌, arith, length, take, drop, �
 use Rattle.std.proofs.lemmas.List.{length-map, take_all}
 use Rattle.lemmas.proofs.{take_next}
 use Rattle.rdf_values.specs.{cut}
-use Rattle.rdf_values.proofs.Leading.{cuts_lead}
+use Rattle.rdf_values.proofs.Evenly.{cuts_lead}
 use Rattle.columns.specs.{cluster_values, joined}
-use Rattle.columns.proofs.BlockSteps.{block_more, blocks_back, blocks_hold}
-use Rattle.columns.proofs.Joining.{span_within, values_of_cluster}
+use Rattle.columns.proofs.BlockSteps.{block_more, blocks_back, blocks_hold, span_within, values_of_cluster}
 use Rattle.columns.proofs.packed_ints.pack.Goals as goal
 
 pub pack_range-requires-clause-some : goal.pack_range-requires-clause-some

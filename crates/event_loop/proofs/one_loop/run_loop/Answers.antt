@@ -3,7 +3,7 @@ use Rattle.loop_keys.specs.{job_of}
 use Rattle.event_loop.specs.{AreBlank, job_facts}
 use Rattle.event_loop.proofs.Whole.{facts_of, has_room, can_fill, first_is, is_filled}
 use Rattle.event_loop.proofs.one_loop.run_loop.Goals as goal
-use Rattle.slot_words.proofs.SeatEnds.{seats_many, seats_ready}
+use Rattle.slot_words.proofs.Steps.{seats_many, seats_ready}
 
 pub run_slots-requires-clause-fresh : goal.run_slots-requires-clause-fresh
 run_slots-requires-clause-fresh g c = λ κs h.

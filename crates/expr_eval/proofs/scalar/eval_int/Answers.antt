@@ -1,6 +1,5 @@
 use Rattle.std.proofs.Common.{◌∙◌}
-use Rattle.expr_eval.proofs.KnownColumns.{known_columns, plain_columns}
-use Rattle.expr_eval.proofs.OfItsKind.{scalar_fits}
+use Rattle.expr_eval.proofs.OfItsKind.{known_columns, plain_columns, scalar_fits}
 use Rattle.expr_eval.proofs.scalar.eval_int.Goals as goal
 
 pub eval_node-requires-clause-can : goal.eval_node-requires-clause-can

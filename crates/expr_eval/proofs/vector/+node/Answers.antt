@@ -1,5 +1,5 @@
 use Rattle.std.proofs.Common.{sym}
-use Rattle.expr_eval.proofs.Deciding.{both_sides}
+use Rattle.expr_eval.proofs.InOrder.{both_sides}
 use Rattle.expr_eval.specs.{operand_value}
 use Rattle.expr_eval.proofs.vector.+node.Goals as goal
 

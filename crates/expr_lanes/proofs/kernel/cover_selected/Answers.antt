@@ -1,6 +1,6 @@
 use Rattle.std.proofs.Common.{◌≡◌}
 use Rattle.std.specs.List.{range_with_len}
-use Rattle.expr_lanes.proofs.Dense.{dense_each, dense_long, dense_others, dense_values}
+use Rattle.expr_lanes.proofs.Selected.{dense_each, dense_long, dense_others, dense_values}
 use Rattle.expr_lanes.proofs.kernel.cover_selected.Goals as goal
 
 pub cover-requires-clause-can : goal.cover-requires-clause-can

@@ -1,6 +1,5 @@
 use Rattle.std.proofs.Common.{◌≡◌, take, arith}
-use Rattle.expr_lanes.proofs.Dense.{covered, sifted_anew}
-use Rattle.expr_lanes.proofs.Rising.{rising_left}
+use Rattle.expr_lanes.proofs.Selected.{covered, sifted_anew, rising_left}
 use Rattle.expr_lanes.proofs.kernel.run.Goals as goal
 
 pub returns-then-cover_selected : goal.returns-then-cover_selected

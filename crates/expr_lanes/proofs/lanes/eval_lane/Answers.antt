@@ -2,7 +2,7 @@ use Rattle.rdf_model.specs.{call_outcome, evaluate}
 use Rattle.entry_fns.specs.{functions_in}
 use Rattle.expr_lanes.specs.{lane_evaluate}
 use Rattle.expr_lanes.proofs.Agreement.{lane_is, value_is}
-use Rattle.expr_lanes.proofs.ByValue.{by_value}
+use Rattle.expr_lanes.proofs.Composed.{by_value}
 use Rattle.expr_lanes.proofs.lanes.eval_lane.Goals as goal
 
 pub eval_node-requires-clause-able : goal.eval_node-requires-clause-able

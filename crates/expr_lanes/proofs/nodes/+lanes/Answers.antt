@@ -2,12 +2,9 @@ use Rattle.std.proofs.Common.{rules, arith, ◌≡◌, ◌<◌, ◌∙◌, [], a
 use Rattle.rdf_values.specs.{Bin, num_tree, num_trees}
 use Rattle.expr_lanes.specs.declared.TheConstants.{MAX_PLACES}
 use Rattle.expr_lanes.specs.{depth, fold_read, IsAble, IsReady, IsSelected, lane_call, with_zero}
-use Rattle.expr_lanes.proofs.Gathered.{gathered_more}
-use Rattle.expr_lanes.proofs.Choices.{choice, idle}
-use Rattle.expr_lanes.proofs.Composed.{able_sides, at_hand, called, has_at_hand, operated, same_depth, with_sides}
-use Rattle.expr_lanes.proofs.Ready.{selected_next, selected_part, selected_other}
-use Rattle.expr_lanes.proofs.Sequence.{come_from, come_told, go_on}
-use Rattle.expr_lanes.proofs.Whole.{rest_left, whole}
+use Rattle.expr_lanes.proofs.Sequence.{gathered_more, come_from, come_told, go_on}
+use Rattle.expr_lanes.proofs.Composed.{choice, idle, able_sides, at_hand, called, has_at_hand, operated, same_depth, with_sides, rest_left, whole}
+use Rattle.expr_lanes.proofs.Selected.{selected_next, selected_part, selected_other}
 use Rattle.expr_lanes.proofs.nodes.+lanes.Goals as goal
 use Rattle.expr_lanes.proofs.nodes.+lanes.Goals.{eval_unary-in-Neg, eval_unary-in-Not}
 

@@ -1,6 +1,6 @@
 use Rattle.std.proofs.Common.{◌∙◌, arith}
-use Rattle.expr_lanes.proofs.PartSteps.{rejoined, rejoined_as}
-use Rattle.expr_lanes.proofs.Rising.{rising_left}
+use Rattle.expr_lanes.proofs.SiftSteps.{rejoined, rejoined_as}
+use Rattle.expr_lanes.proofs.Selected.{rising_left}
 use Rattle.expr_lanes.proofs.parting.rejoin.Goals as goal
 
 pub returns : goal.returns

@@ -1,6 +1,6 @@
 use Rattle.std.proofs.Common.{◌≡◌, arith, take, subst, ℕ}
 use Rattle.std.specs.List.{range_with_len}
-use Rattle.expr_lanes.proofs.Dense.{number_more}
+use Rattle.expr_lanes.proofs.Selected.{number_more}
 use Rattle.expr_lanes.proofs.selection.number_places.Goals as goal
 
 pub loop-i-preserved : goal.loop-i-preserved

@@ -1,4 +1,4 @@
-use Rattle.expr_read.proofs.ReadOnce.{read_once}
+use Rattle.expr_read.proofs.Decided.{read_once}
 use Rattle.expr_read.proofs.laws.one_tree.Goals as goal
 
 pub returns : goal.returns

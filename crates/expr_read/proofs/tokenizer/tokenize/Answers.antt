@@ -2,8 +2,7 @@ use Rattle.std.proofs.Common.{◌≡◌, ◌<◌, ◌∙◌, List, [], ◌∷◌
 use Rattle.rdf_values.specs.{Placed, Refusal}
 use Rattle.lemmas.proofs.{common_steps, map-append}
 use Rattle.expr_read.specs.{placed_of}
-use Rattle.expr_read.proofs.TokenSteps.{step_blank, step_bad, step_many, step_token, at_end}
-use Rattle.expr_read.proofs.FirstTokens.{token_sized, refusal_sized, from_place}
+use Rattle.expr_read.proofs.TokenSteps.{step_blank, step_bad, step_many, step_token, at_end, token_sized, refusal_sized, from_place}
 use Rattle.expr_read.proofs.tokenizer.tokenize.Goals as goal
 
 pub loop-place-preserved-then-is_blank : goal.loop-place-preserved-then-is_blank

@@ -2,13 +2,13 @@ use Rattle.std.proofs.Common.{arith, sym}
 use Rattle.rdf_values.specs.{AreAccepted, fn_names, history, scope_of, Script}
 use Rattle.rdf_model.specs.{Dataset}
 use Rattle.rdf_model.proofs.KnownColumns.{each_weaker}
-use Rattle.rdf_model.proofs.Verdicts.{verdict_is_the_first_refusal}
+use Rattle.rdf_model.proofs.Accepted.{verdict_is_the_first_refusal}
 use Rattle.graph_numbers.specs.{graph_of, IsGraph}
 use Rattle.graph_numbers.proofs.Apart.{site_number, variation_number}
 use Rattle.graph_numbers.proofs.ColumnSources.{column_source}
 use Rattle.graph_numbers.proofs.Covering.{action_conditions, filter_conditions, filters_are_the_scripts, reports_cover_filters}
 use Rattle.graph_numbers.proofs.Equations.{columns_below, site_is, source_is}
-use Rattle.graph_numbers.proofs.Extending.{itself, versions_count}
+use Rattle.graph_numbers.proofs.Placing.{itself, versions_count}
 use Rattle.graph_numbers.proofs.Looping.{loops_are, runs_are}
 use Rattle.graph_numbers.proofs.Resulting.{booked_are, result_is}
 use Rattle.graph_numbers.proofs.VersionSources.{version_source}

@@ -2,7 +2,7 @@ use Rattle.std.proofs.Common.{None, arith, slice_index_or}
 use Rattle.lemmas.proofs.{something_at}
 use Rattle.graph_numbers.specs.{Pass}
 use Rattle.result_text.specs.{passes_at}
-use Rattle.result_text.proofs.Passes.{pass_there}
+use Rattle.result_text.proofs.PassLines.{pass_there}
 use Rattle.merged_text.specs.{IsPassIn}
 use Rattle.merged_text.proofs.LoopPasses.{same_length}
 use Rattle.graph_shapes.specs.{pass_kind}

@@ -1,6 +1,6 @@
 use Rattle.std.proofs.Common.{◌≡◌, rules, int_lt}
 use Rattle.std.proofs.lemmas.Fn.{always_returns_same}
-use Rattle.histograms.proofs.Rising.{rises-adjacent}
+use Rattle.histograms.proofs.Starts.{rises-adjacent}
 use Rattle.histograms.proofs.edges.rises.Goals as goal
 
 pub returns : goal.returns

@@ -1,6 +1,6 @@
 use Rattle.std.proofs.Common.{◌<◌, ℕ, List, get_or, subst, sym}
 use Rattle.loop_keys.specs.{job_graph, job_of, key_count}
-use Rattle.loop_keys.proofs.RowLaws.{key_read}
+use Rattle.loop_keys.proofs.KeyLaws.{key_read}
 use Rattle.loop_keys.proofs.reading.key.Goals as goal
 
 pub returns-clause-small : goal.returns-clause-small

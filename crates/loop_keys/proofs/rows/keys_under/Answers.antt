@@ -2,7 +2,7 @@ use Rattle.std.proofs.Common.{◌≡◌, ◌<◌, ◌+◌, length, sym, subst, �
 use Rattle.graph_numbers.specs.{graph_sites}
 use Rattle.loop_keys.specs.{AreEach, key}
 use Rattle.loop_keys.proofs.Elements.{more_each, none_each}
-use Rattle.loop_keys.proofs.KeptKeys.{here_key, next_first, no_keys}
+use Rattle.loop_keys.proofs.KeyLaws.{here_key, next_first, no_keys}
 use Rattle.loop_keys.proofs.rows.keys_under.Goals as goal
 
 pub overflow_add-first : goal.overflow_add-first

@@ -1,4 +1,4 @@
-use Rattle.loop_keys.proofs.RowLaws.{more_places}
+use Rattle.loop_keys.proofs.KeyLaws.{more_places}
 use Rattle.loop_keys.proofs.rows.places_under.Goals as goal
 
 pub loop-version-preserved : goal.loop-version-preserved

@@ -1,5 +1,5 @@
 use Rattle.std.proofs.Common.{arith}
-use Rattle.loop_keys.proofs.RowLaws.{row_of_nominal, row_of_none, row_of_some}
+use Rattle.loop_keys.proofs.KeyLaws.{row_of_nominal, row_of_none, row_of_some}
 use Rattle.loop_keys.proofs.rows.row_at.Goals as goal
 
 pub returns-in_default : goal.returns-in_default

@@ -1,4 +1,4 @@
-use Rattle.loop_keys.proofs.RowLaws.{more_rows}
+use Rattle.loop_keys.proofs.KeyLaws.{more_rows}
 use Rattle.loop_keys.proofs.rows.rows_of.Goals as goal
 
 pub loop-v-preserved : goal.loop-v-preserved

@@ -1,6 +1,6 @@
 use Rattle.std.proofs.Common.{◌∙◌, arith}
 use Rattle.std.proofs.lemmas.List.{length-set}
-use Rattle.loop_pieces.proofs.Turns.{IsBefore, left_next, done_next}
+use Rattle.loop_pieces.proofs.Joined.{IsBefore, left_next, done_next}
 use Rattle.loop_pieces.proofs.accs.merge_accs.Goals as goal
 
 pub loop-i-preserved : goal.loop-i-preserved

@@ -1,4 +1,4 @@
-use Rattle.loop_pieces.proofs.Joins.{joins_from_either_side}
+use Rattle.loop_pieces.proofs.Joined.{joins_from_either_side}
 use Rattle.loop_pieces.proofs.laws.joins_from_either_side.Goals as goal
 
 pub returns : goal.returns

@@ -1,4 +1,4 @@
-use Rattle.loop_pieces.proofs.Joins.{joins_in_either_order}
+use Rattle.loop_pieces.proofs.Joined.{joins_in_either_order}
 use Rattle.loop_pieces.proofs.laws.joins_in_either_order.Goals as goal
 
 pub returns : goal.returns

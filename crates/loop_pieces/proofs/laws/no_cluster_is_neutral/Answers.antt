@@ -1,4 +1,4 @@
-use Rattle.loop_pieces.proofs.Joins.{no_cluster_is_neutral}
+use Rattle.loop_pieces.proofs.Joined.{no_cluster_is_neutral}
 use Rattle.loop_pieces.proofs.laws.no_cluster_is_neutral.Goals as goal
 
 pub returns : goal.returns

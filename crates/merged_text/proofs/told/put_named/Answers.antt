@@ -1,7 +1,7 @@
 use Rattle.std.proofs.Common.{◌++◌, sym, ap, ◌∙◌, append-nil}
 use Rattle.lemmas.proofs.{on_ok}
 use Rattle.rdf_values.specs.{same}
-use Rattle.result_text.proofs.Passes.{is_pass_at, result_within}
+use Rattle.result_text.proofs.PassLines.{is_pass_at, result_within}
 use Rattle.merged_text.proofs.LoopPasses.{name_of}
 use Rattle.merged_text.proofs.Printing.{named_no, named_yes}
 use Rattle.merged_text.proofs.told.put_named.Goals as goal

@@ -3,9 +3,8 @@ use Rattle.lemmas.proofs.{on_ok, something_at}
 use Rattle.graph_numbers.specs.{graph_filters, graph_results}
 use Rattle.rdf_model.specs.{flow_lines, label}
 use Rattle.result_text.specs.{under_in, value_lines}
-use Rattle.result_text.proofs.ActionLines.{its_covers}
+use Rattle.result_text.proofs.PassLines.{its_covers, is_pass_at, result_within}
 use Rattle.result_text.proofs.Covers.{covers_within}
-use Rattle.result_text.proofs.Passes.{is_pass_at, result_within}
 use Rattle.result_text.proofs.Within.{IsIn, is_in_for, variation_within}
 use Rattle.merged_text.specs.{filter_counts, line_filled}
 use Rattle.merged_text.proofs.LoopPasses.{action_text, report_on, report_text}

@@ -2,7 +2,7 @@ use Rattle.std.proofs.Common.{None, arith, inl, inr, length, refl, slice_index_o
 use Rattle.lemmas.proofs.{slice_get_read, something_at}
 use Rattle.graph_numbers.specs.{Pass}
 use Rattle.result_text.specs.{passes_at}
-use Rattle.result_text.proofs.Passes.{pass_there}
+use Rattle.result_text.proofs.PassLines.{pass_there}
 use Rattle.merged_text.specs.{IsPassIn}
 use Rattle.merged_text.proofs.LoopPasses.{same_length}
 use Rattle.merged_text.proofs.Printing.{line_end, line_next}

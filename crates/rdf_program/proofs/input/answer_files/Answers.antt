@@ -1,7 +1,7 @@
 use Rattle.std.proofs.lemmas.Result.{IfOk-weaker}
 use Rattle.entry_fns.specs.{functions_in}
 use Rattle.input_files.specs.{marked_table}
-use Rattle.rdf_program.proofs.Inputs.{always_ok, friend_answer, turned_to_friend, turned_to_table}
+use Rattle.rdf_program.proofs.Answering.{always_ok, friend_answer, turned_to_friend, turned_to_table}
 use Rattle.rdf_program.proofs.input.answer_files.Goals as goal
 
 pub returns-in-Refused-2-clause-turns : goal.returns-in-Refused-2-clause-turns

@@ -1,6 +1,6 @@
 use Rattle.std.proofs.lemmas.Result.{IfOk-weaker}
 use Rattle.table_csv.specs.{marked_in}
-use Rattle.rdf_program.proofs.Booking.{over_refused}
+use Rattle.rdf_program.proofs.Answering.{over_refused}
 use Rattle.rdf_program.proofs.over_table.answer_script.Goals as goal
 
 pub returns : goal.returns

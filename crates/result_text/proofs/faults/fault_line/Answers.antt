@@ -1,8 +1,8 @@
 use Rattle.std.proofs.Common.{[], None, subst, sym, ap, ◌∙◌, ◌++◌, codes, decimal, length, slice_get, slice_index_or}
 use Rattle.graph_numbers.specs.{Pass}
-use Rattle.result_text.proofs.Passes.{is_pass_at, label_is, pass_there, result_within}
+use Rattle.result_text.proofs.PassLines.{is_pass_at, label_is, pass_there, result_within}
 use Rattle.rdf_model.specs.{fault_name, label, pass_label}
-use Rattle.result_text.proofs.Runs.{fault_put}
+use Rattle.result_text.proofs.CellNames.{fault_put}
 use Rattle.result_text.specs.{passes_at, under_in}
 use Rattle.result_text.proofs.Within.{IsIn, is_in_for, variation_within}
 use Rattle.result_text.proofs.faults.fault_line.Goals as goal

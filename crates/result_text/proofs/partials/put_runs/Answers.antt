@@ -1,7 +1,7 @@
 use Rattle.std.proofs.Common.{◌++◌, sym, ap, ◌∙◌, append_assoc}
 use Rattle.lemmas.proofs.{on_ok}
 use Rattle.result_text.specs.{more_runs, runs_text}
-use Rattle.result_text.proofs.Runs.{runs_front}
+use Rattle.result_text.proofs.CellNames.{runs_front}
 use Rattle.result_text.proofs.partials.put_runs.Goals as goal
 
 pub returns : goal.returns

@@ -2,7 +2,7 @@ use Rattle.std.proofs.Common.{◌++◌, ap, ◌∙◌, arith, flat_map}
 use Rattle.lemmas.proofs.{none_left}
 use Rattle.rdf_model.specs.{flow_line}
 use Rattle.result_text.specs.{flow_at}
-use Rattle.result_text.proofs.Lists.{put_last}
+use Rattle.result_text.proofs.CellNames.{put_last}
 use Rattle.result_text.proofs.PassLines.{report_lines}
 use Rattle.result_text.proofs.reports.put_report.Goals as goal
 

@@ -4,7 +4,7 @@ use Rattle.rdf_model.specs.{filled_lines, label}
 use Rattle.graph.specs.{has}
 use Rattle.graph_numbers.specs.{graph_results}
 use Rattle.result_text.specs.{members_from, under_lines}
-use Rattle.result_text.proofs.ActionLines.{accs_within, its_name, members_many, nominal_text, numbers_few, passes_many, varied_text}
+use Rattle.result_text.proofs.PassLines.{accs_within, its_name, members_many, nominal_text, numbers_few, passes_many, varied_text}
 use Rattle.result_text.proofs.results.put_action.Goals as goal
 
 pub acc-nominal-requires : goal.acc-nominal-requires

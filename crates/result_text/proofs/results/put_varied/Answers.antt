@@ -2,7 +2,7 @@ use Rattle.std.proofs.Common.{◌+◌, length, drop, sym, ap, ◌∙◌, arith}
 use Rattle.lemmas.proofs.{something_at}
 use Rattle.graph.specs.{has}
 use Rattle.result_text.specs.{members_from}
-use Rattle.result_text.proofs.ActionLines.{members_few, members_no, members_yes, stays, varied_next}
+use Rattle.result_text.proofs.PassLines.{members_few, members_no, members_yes, stays, varied_next}
 use Rattle.result_text.proofs.results.put_varied.Goals as goal
 use Rattle.result_text.proofs.results.put_varied.Goals.{then-contains+in_ok-put_pass, else-contains}
 

@@ -1,7 +1,7 @@
 use Rattle.std.proofs.Common.{◌<◌, length, All, subst, sym}
 use Rattle.lemmas.proofs.{something_at}
 use Rattle.graph_numbers.specs.{graph_filters, graph_results}
-use Rattle.result_text.proofs.ActionLines.{its_covers}
+use Rattle.result_text.proofs.PassLines.{its_covers}
 use Rattle.result_text.proofs.Covers.{covers_within}
 use Rattle.result_text.proofs.results.result_lines.Goals as goal
 

@@ -1,5 +1,5 @@
 use Rattle.rdf_values.proofs.OneScript.{one_cause, one_script, script_or_refusal}
-use Rattle.expr_read.proofs.ReadOnce.{read_once}
+use Rattle.expr_read.proofs.Decided.{read_once}
 use Rattle.script_read.proofs.Answered.{answered}
 use Rattle.script_read.proofs.laws.one_answer.Goals as goal
 

@@ -1,6 +1,6 @@
 use Rattle.std.proofs.Common.{◌∙◌, sym}
 use Rattle.std.proofs.lemmas.List.{take_rest}
-use Rattle.script_read.proofs.Lexemes.{word_taken, lexeme_word, lexeme_integer}
+use Rattle.script_read.proofs.TokenSteps.{word_taken, lexeme_word, lexeme_integer}
 use Rattle.script_read.proofs.lexeme.lexeme_at.Goals as goal
 
 pub word-requires : goal.word-requires

@@ -1,7 +1,7 @@
 use Rattle.std.proofs.Common.{◌+◌, sym}
 use Rattle.script_read.proofs.FirstLines.{first_end, none_behind}
 use Rattle.script_read.proofs.lines.first_line.Goals as goal
-use Rattle.rdf_values.proofs.Parts.{rest_of as all_behind}
+use Rattle.rdf_values.proofs.Fronts.{rest_of as all_behind}
 
 pub returns-in-Some-clause-lines : goal.returns-in-Some-clause-lines
 returns-in-Some-clause-lines c =

@@ -1,8 +1,8 @@
 use Rattle.std.proofs.Common.{add-one}
 use Rattle.std.proofs.lemmas.Result.{err_from_is_err_and}
 use Rattle.rdf_values.proofs.OneScript.{one_script, script_or_refusal}
-use Rattle.expr_read.proofs.ReadOnce.{read_once}
-use Rattle.script_read.proofs.ScriptReading.{reads_line, reads_bad, reads_all, nothing_left, memory_alone, cause_or_memory}
+use Rattle.expr_read.proofs.Decided.{read_once}
+use Rattle.script_read.proofs.FirstLines.{reads_line, reads_bad, reads_all, nothing_left, memory_alone, cause_or_memory}
 use Rattle.script_read.proofs.read.read_script.Goals as goal
 
 pub returns-in_err-add_line-clause-complete : goal.returns-in_err-add_line-clause-complete

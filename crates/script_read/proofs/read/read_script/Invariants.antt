@@ -1,5 +1,5 @@
 use Rattle.std.proofs.Common.{length}
-use Rattle.script_read.proofs.ScriptReading.{Reads}
+use Rattle.script_read.proofs.FirstLines.{Reads}
 use Rattle.script_read.proofs.read.read_script.Given as goal
 
 abbrev pub invariant-loop-left : goal.invariant-loop-left

@@ -1,6 +1,6 @@
 use Rattle.std.proofs.Common.{◌<◌, ◌≤◌, length}
 use Rattle.script_read.proofs.FirstBads.{handed_on, refused_here}
-use Rattle.script_read.proofs.ManyNames.{begun, one_more, at_place, all_read}
+use Rattle.script_read.proofs.Items.{begun, one_more, at_place, all_read}
 use Rattle.script_read.proofs.strings.names.Goals as goal
 
 pub returns-in_err-name-clause-err : goal.returns-in_err-name-clause-err

@@ -1,4 +1,4 @@
-use Rattle.script_read.proofs.Places.{stands_within}
+use Rattle.script_read.proofs.Items.{stands_within}
 use Rattle.script_read.proofs.StringStops.{no_values}
 use Rattle.script_read.proofs.strings.values.Goals as goal
 

@@ -2,7 +2,7 @@ use Rattle.std.proofs.Common.{map, length, [], ap, sym, ◌∙◌, refl, subst, 
 use Rattle.lemmas.proofs.{get_or_from_slice_get, IsNonDecreasingBy-from_sort, IsStrictlyIncreasing, length-map}
 use Rattle.rdf_values.specs.{IsUnion}
 use Rattle.slot_words.specs.{added, AreOf, cluster_in, piece_in}
-use Rattle.slot_words.proofs.Alone.{single, stand_alone, unite}
+use Rattle.slot_words.proofs.Noting.{single, stand_alone, unite}
 use Rattle.slot_words.proofs.Stretches.{all_added, as_long, as_many, trail_added}
 use Rattle.slot_words.proofs.between.partial_between.Goals as goal
 use Rattle.slot_words.proofs.between.partial_between.Goals.{After-sort_unstable}

@@ -1,4 +1,4 @@
-use Rattle.slot_words.proofs.Chosen.{as_many_as_the_bound}
+use Rattle.slot_words.proofs.Noting.{as_many_as_the_bound}
 use Rattle.slot_words.proofs.laws.as_many_as_the_bound.Goals as goal
 
 pub returns : goal.returns

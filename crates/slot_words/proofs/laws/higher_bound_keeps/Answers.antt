@@ -1,4 +1,4 @@
-use Rattle.slot_words.proofs.Chosen.{higher_bound_keeps}
+use Rattle.slot_words.proofs.Noting.{higher_bound_keeps}
 use Rattle.slot_words.proofs.laws.higher_bound_keeps.Goals as goal
 
 pub returns : goal.returns

@@ -1,8 +1,7 @@
 use Rattle.std.proofs.Common.{◌≡◌, ℕ, [], ◌∷◌, ◌++◌, ◌+◌, ◌*◌, ◌/◌, length, map, sym, ap, ◌∙◌, subst, arith, length-append}
 use Rattle.rdf_values.specs.{below}
 use Rattle.loop_pieces.specs.{ArePartialLines, IsPartialLine}
-use Rattle.slot_words.proofs.Chaining.{last_line, lines_next, multiple_below}
-use Rattle.slot_words.proofs.Noting.{set_at}
+use Rattle.slot_words.proofs.Noting.{last_line, lines_next, multiple_below, set_at}
 use Rattle.slot_words.proofs.lines.lines_of.Goals as goal
 
 pub first_line-requires : goal.first_line-requires

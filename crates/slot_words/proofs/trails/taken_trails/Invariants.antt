@@ -1,4 +1,4 @@
-use Rattle.slot_words.proofs.Taking.{IsTaking}
+use Rattle.slot_words.proofs.Joining.{IsTaking}
 use Rattle.slot_words.proofs.trails.taken_trails.Given as goal
 
 abbrev pub invariant-loop-i : goal.invariant-loop-i

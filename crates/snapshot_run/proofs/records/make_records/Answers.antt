@@ -7,7 +7,7 @@ use Rattle.snapshot_run.specs.{facts_of, spans_of}
 use Rattle.snapshot_run.proofs.Whole.{are_facts, are_records, has_all, is_fault}
 use Rattle.snapshot_run.proofs.records.make_records.Goals as goal
 use Rattle.slot_words.specs.{IsReady}
-use Rattle.slot_words.proofs.SeatEnds.{seats_many, seats_ready}
+use Rattle.slot_words.proofs.Steps.{seats_many, seats_ready}
 
 pub run_slots-requires-clause-ready : goal.run_slots-requires-clause-ready
 run_slots-requires-clause-ready g c = λ κs h.

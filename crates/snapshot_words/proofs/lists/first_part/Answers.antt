@@ -1,6 +1,6 @@
 use Rattle.std.proofs.Common.{◌+◌, arith, sym}
 use Rattle.std.proofs.lemmas.List.{length-drop}
-use Rattle.rdf_values.proofs.Parts.{cut_at, rest_of}
+use Rattle.rdf_values.proofs.Fronts.{cut_at, rest_of}
 use Rattle.snapshot_words.specs.{is_comma}
 use Rattle.snapshot_words.proofs.lists.first_part.Goals as goal
 

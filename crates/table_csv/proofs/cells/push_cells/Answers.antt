@@ -1,6 +1,6 @@
 use Rattle.std.proofs.Common.{arith, inl, inr}
 use Rattle.std.proofs.lemmas.Result.{err_from_is_err_and}
-use Rattle.rdf_values.proofs.RowPushed.{kept_length}
+use Rattle.rdf_values.proofs.KeptLemmas.{kept_length}
 use Rattle.csv.specs.Records.{fields_of}
 use Rattle.table_csv.proofs.PushSteps.{pushing_end, pushing_more, pushing_start, pushing_stop}
 use Rattle.table_csv.proofs.cells.push_cells.Goals as goal

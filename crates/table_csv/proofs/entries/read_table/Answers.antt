@@ -1,6 +1,6 @@
 use Rattle.std.proofs.lemmas.Result.{err_from_is_err_and}
 use Rattle.table_csv.specs.{csv_records}
-use Rattle.table_csv.proofs.Headed.{headed_table}
+use Rattle.table_csv.proofs.HeaderSteps.{headed_table}
 use Rattle.table_csv.proofs.entries.read_table.Goals as goal
 
 pub returns-in_err-heading-clause-value : goal.returns-in_err-heading-clause-value

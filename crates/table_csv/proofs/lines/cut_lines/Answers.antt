@@ -1,6 +1,6 @@
 use Rattle.std.proofs.Common.{◌∙◌, inl, sym}
-use Rattle.table_csv.proofs.LineCuts.{lines_to}
-use Rattle.rdf_values.proofs.Parts.{rest_of}
+use Rattle.table_csv.proofs.CutLines.{lines_to}
+use Rattle.rdf_values.proofs.Fronts.{rest_of}
 use Rattle.table_csv.proofs.lines.cut_lines.Goals as goal
 
 pub returns-in-Some-clause-cut : goal.returns-in-Some-clause-cut

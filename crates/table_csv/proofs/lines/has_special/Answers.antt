@@ -1,6 +1,6 @@
 use Rattle.std.proofs.Common.{◌∙◌}
 use Rattle.table_csv.specs.{is_special}
-use Rattle.table_csv.proofs.ByteSearch.{found_any}
+use Rattle.table_csv.proofs.CutLines.{found_any}
 use Rattle.table_csv.proofs.lines.has_special.Goals as goal
 
 pub returns : goal.returns

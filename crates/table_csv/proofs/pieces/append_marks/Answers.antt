@@ -1,5 +1,5 @@
 use Rattle.std.proofs.Common.{◌∙◌}
-use Rattle.table_csv.proofs.MarksBehind.{mark_few, marks_above, marks_more}
+use Rattle.table_csv.proofs.CellSteps.{mark_few, marks_above, marks_more}
 use Rattle.table_csv.proofs.pieces.append_marks.Goals as goal
 
 pub push-requires-clause-above : goal.push-requires-clause-above

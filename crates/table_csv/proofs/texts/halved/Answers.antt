@@ -1,7 +1,7 @@
 use Rattle.std.proofs.Common.{◌<◌, ◌+◌, ◌/◌, arith, length}
 use Rattle.std.proofs.lemmas.List.Elements.{All-take}
 use Rattle.table_csv.specs.{EndsLine}
-use Rattle.table_csv.proofs.TextSteps.{behind_ends, halves_cut, halves_whole}
+use Rattle.table_csv.proofs.CutLines.{behind_ends, halves_cut, halves_whole}
 use Rattle.table_csv.proofs.texts.halved.Goals as goal
 
 pub returns-clause-whole : goal.returns-clause-whole

@@ -1,7 +1,7 @@
 use Rattle.std.proofs.Common.{arith}
 use Rattle.rdf_values.specs.{spread}
 use Rattle.actions.specs.{kind_of, values_of}
-use Rattle.actions.proofs.Order.{all_below, all_below-feed}
+use Rattle.actions.proofs.Folds.{all_below, all_below-feed}
 use Rattle.actions.proofs.acc.Acc.feed.Goals as goal
 
 pub invariant_of-self : goal.invariant_of-self

@@ -1,5 +1,5 @@
 use Rattle.std.proofs.Common.{◌∙◌}
-use Rattle.actions.proofs.Faults.{fault_pair, fault_weighted}
+use Rattle.actions.proofs.Points.{fault_pair, fault_weighted}
 use Rattle.actions.proofs.items.Items.fault.Goals as goal
 
 pub returns-in-Weighted : goal.returns-in-Weighted

@@ -2,7 +2,7 @@ use Rattle.std.proofs.Common.{rules, arith, ℕ, ◌≡◌, ◌≤◌, ◌<◌, 
 use Rattle.rdf_values.specs.{Item, spread}
 use Rattle.actions.specs.{from_cluster, Holds, kind_of, places_of, values_at, values_of}
 use Rattle.actions.proofs.Batching.{one_more_fed, one_place_more, within_more}
-use Rattle.actions.proofs.Order.{all_below-feed}
+use Rattle.actions.proofs.Folds.{all_below-feed}
 use Rattle.actions.proofs.state.State.feed_each.Goals as goal
 
 pub feed-requires-clause-room : goal.feed-requires-clause-room

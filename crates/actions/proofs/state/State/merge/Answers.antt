@@ -1,7 +1,7 @@
 use Rattle.std.proofs.Common.{rules, arith, ◌≡◌, ◌+ℤ◌, ◌∙◌, w64, FitsSigned}
 use Rattle.lemmas.proofs.{abs_add, to_z-of_z, w128}
 use Rattle.actions.proofs.Merges.{merge_count, merge_flat, merge_max, merge_min, merge_reduce, merge_square, merge_sum, merge_take}
-use Rattle.actions.proofs.Sums.{fits_sum}
+use Rattle.actions.proofs.Points.{fits_sum}
 use Rattle.actions.proofs.state.State.merge.Goals as goal
 use Rattle.actions.proofs.state.State.merge.Goals.{in-Count-Count, in-Sum-Sum, in-Min-Min, in-Max-Max, in-Take-Take+in_ok-values-in-Take-Take, in-Reduce-Reduce, in-Histo1D-Histo1D, in-Histo2D-Histo2D}
 

@@ -1,5 +1,5 @@
 use Rattle.std.proofs.Common.{sym}
-use Rattle.block_cache.proofs.WholeMarks.{all_seen}
+use Rattle.block_cache.proofs.Marking.{all_seen}
 use Rattle.block_cache.proofs.block_marks.BlockMarks.has.Goals as goal
 
 pub returns-in-All : goal.returns-in-All

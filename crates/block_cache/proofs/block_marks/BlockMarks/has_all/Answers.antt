@@ -1,4 +1,4 @@
-use Rattle.block_cache.proofs.WholeMarks.{all_seen}
+use Rattle.block_cache.proofs.Marking.{all_seen}
 use Rattle.block_cache.proofs.block_marks.BlockMarks.has_all.Goals as goal
 
 pub returns-in-All-clause-marked : goal.returns-in-All-clause-marked

@@ -1,7 +1,7 @@
 use Rattle.std.proofs.Common.{◌∙◌, ap, not, sym}
 use Rattle.expr_lanes.specs.{is_marked}
 use Rattle.block_cache.proofs.LaneSteps.{filter_all, filter_none}
-use Rattle.block_cache.proofs.WholeMarks.{all_seen, nothing_seen}
+use Rattle.block_cache.proofs.Marking.{all_seen, nothing_seen}
 use Rattle.block_cache.proofs.block_marks.BlockMarks.keep_unmarked.Goals as goal
 
 pub returns-in-Nothing : goal.returns-in-Nothing

@@ -1,7 +1,7 @@
 use Rattle.std.proofs.Common.{◌||◌, ◌∙◌, ap, not, refl, sym, ◌+◌, count_by}
 use Rattle.expr_lanes.specs.{is_in, is_marked}
 use Rattle.block_cache.specs.{MarksView}
-use Rattle.block_cache.proofs.WholeMarks.{all_seen, long_seen, marked_long, none_newly, nothing_is, still_marked, whole_marked, whole_newly}
+use Rattle.block_cache.proofs.Marking.{all_seen, long_seen, marked_long, none_newly, nothing_is, still_marked, whole_marked, whole_newly}
 use Rattle.block_cache.proofs.block_marks.BlockMarks.mark.Goals as goal
 
 pub returns-in-All-clause-marked : goal.returns-in-All-clause-marked

@@ -2,7 +2,7 @@ use Rattle.std.proofs.Common.{◌≡◌, ◌<◌, ◌∙◌, not, ℕ, List, ap,
 use Rattle.expr_lanes.specs.{is_in, is_marked}
 use Rattle.expr_lanes.proofs.Sequence.{filtered_in}
 use Rattle.block_cache.specs.{LaneView}
-use Rattle.block_cache.proofs.Answering.{on_err}
+use Rattle.block_cache.proofs.StopLists.{on_err}
 use Rattle.block_cache.proofs.EachPlaces.{left_given}
 use Rattle.block_cache.proofs.LaneSteps.{begun_after, each_joined, each_value, evaluated_after, lane_after, lane_begun}
 use Rattle.block_cache.proofs.lane.Lane.evaluate_each.Goals as goal

@@ -1,7 +1,7 @@
 use Rattle.std.proofs.Common.{◌<◌, ◌∙◌, ap, get_or, List, ℕ, not, subst, sym}
 use Rattle.std.specs.List.{filter}
 use Rattle.expr_lanes.proofs.Selected.{is_in_at}
-use Rattle.expr_lanes.proofs.PartSteps.{filter_alike}
+use Rattle.expr_lanes.proofs.SiftSteps.{filter_alike}
 use Rattle.block_cache.proofs.Members.{twice_not}
 use Rattle.block_cache.proofs.level.Level.next_group.Goals as goal
 

@@ -1,6 +1,6 @@
 use Rattle.std.proofs.Common.{◌≡◌, ◌∙◌, ap, arith, length, map, refl, sym}
 use Rattle.rdf_values.specs.{TableView}
-use Rattle.rdf_values.proofs.RowPushed.{keep, length-rows_kept}
+use Rattle.rdf_values.proofs.KeptLemmas.{keep, length-rows_kept}
 use Rattle.columns.specs.{whole}
 use Rattle.columns.proofs.columns.Columns.build.Goals as goal
 

@@ -1,4 +1,4 @@
-use Rattle.rdf_values.proofs.RowPushed.{holds_table}
+use Rattle.rdf_values.proofs.KeptLemmas.{holds_table}
 use Rattle.columns.proofs.columns.Columns.columns.Goals as goal
 
 pub returns-clause-valid : goal.returns-clause-valid

@@ -2,11 +2,10 @@ use Rattle.std.proofs.Common.{◌≡◌, ◌∙◌, arith, ap, length, map, rule
 use Rattle.lemmas.proofs.{FitsSigned, slice_get_within, to_z-of_z}
 use mir.Syntax.{w64}
 use Rattle.rdf_values.specs.{Value}
-use Rattle.rdf_values.proofs.KeptLemmas.{cell_of_column, column_length}
-use Rattle.rdf_values.proofs.RowPushed.{length-rows_kept}
+use Rattle.rdf_values.proofs.KeptLemmas.{cell_of_column, column_length, length-rows_kept}
 use Rattle.columns.specs.ColumnsView.{ColumnsView}
 use Rattle.columns.specs.{cells_of, joined}
-use Rattle.columns.proofs.Keeping.{entry_here}
+use Rattle.columns.proofs.InPieces.{entry_here}
 use Rattle.columns.proofs.columns.Columns.int_at.Goals as goal
 
 pub cluster_of-cluster-requires : goal.cluster_of-cluster-requires

@@ -1,5 +1,5 @@
 use Rattle.std.proofs.Common.{◌≡◌, length, rules}
-use Rattle.columns.proofs.Keeping.{by_cluster, col_within, ints_found, not_vects}
+use Rattle.columns.proofs.InPieces.{by_cluster, col_within, ints_found, not_vects}
 use Rattle.columns.proofs.columns.Columns.ints.Goals as goal
 
 pub index-requires : goal.index-requires

@@ -1,6 +1,6 @@
 use Rattle.std.proofs.Common.{◌∙◌, ap}
 use Rattle.columns.specs.{packing_of}
-use Rattle.columns.proofs.Keeping.{cluster_numbers}
+use Rattle.columns.proofs.InPieces.{cluster_numbers}
 use Rattle.columns.proofs.columns.Columns.packing.Goals as goal
 
 pub returns : goal.returns

@@ -1,5 +1,5 @@
 use Rattle.std.proofs.Common.{◌≡◌, length, rules}
-use Rattle.columns.proofs.Keeping.{col_within, not_ints, vects_found}
+use Rattle.columns.proofs.InPieces.{col_within, not_ints, vects_found}
 use Rattle.columns.proofs.columns.Columns.vects.Goals as goal
 
 pub index-requires : goal.index-requires

@@ -1,7 +1,6 @@
 use Rattle.std.proofs.Common.{◌/◌, arith, leb, rules}
 use Rattle.std.proofs.lemmas.List.Sorted.{IsPartitionPoint-from_clause, IsPartitionedBy-leb}
-use Rattle.columns.proofs.Clusters.{div_high, div_low, even_holds, is_even}
-use Rattle.columns.proofs.Leading.{few_ends, holds_first, they_rise}
+use Rattle.columns.proofs.Clusters.{div_high, div_low, even_holds, is_even, few_ends, holds_first, they_rise}
 use Rattle.columns.proofs.cuts.Cuts.cluster_of.Goals as goal
 
 pub overflow_cast-result : goal.overflow_cast-result

@@ -1,6 +1,5 @@
 use Rattle.std.proofs.Common.{◌∙◌, arith, ap, length, sym}
-use Rattle.columns.proofs.Clusters.{is_even, length-even}
-use Rattle.columns.proofs.Leading.{as_many, few_ends}
+use Rattle.columns.proofs.Clusters.{is_even, length-even, as_many, few_ends}
 use Rattle.columns.proofs.cuts.Cuts.count.Goals as goal
 
 pub overflow_cast-result : goal.overflow_cast-result

@@ -1,6 +1,5 @@
 use Rattle.std.proofs.Common.{arith}
-use Rattle.columns.proofs.Clusters.{is_even}
-use Rattle.columns.proofs.Leading.{as_many}
+use Rattle.columns.proofs.Clusters.{is_even, as_many}
 use Rattle.columns.proofs.cuts.Cuts.range.Goals as goal
 
 pub even_range-requires-clause-there : goal.even_range-requires-clause-there

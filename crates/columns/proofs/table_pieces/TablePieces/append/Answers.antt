@@ -1,6 +1,6 @@
 use Rattle.std.proofs.Common.{◌≡◌, ◌≤◌, ◌+◌, ◌∙◌, ap, map, refl, sym}
 use Rattle.rdf_values.specs.{rows_kept}
-use Rattle.rdf_values.proofs.RowPushed.{length-rows_kept}
+use Rattle.rdf_values.proofs.KeptLemmas.{length-rows_kept}
 use Rattle.columns.specs.{whole}
 use Rattle.columns.proofs.JoiningPieces.{holds_joined, rows_joined, same_count, same_pieces}
 use Rattle.columns.proofs.table_pieces.TablePieces.append.Goals as goal

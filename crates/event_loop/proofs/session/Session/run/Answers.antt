@@ -1,5 +1,5 @@
 use Rattle.std.proofs.Common.{arith}
-use Rattle.graph_numbers.proofs.Extending.{itself}
+use Rattle.graph_numbers.proofs.Placing.{itself}
 use Rattle.event_loop.proofs.LoopResults.{many}
 use Rattle.event_loop.proofs.session.Session.run.Goals as goal
 

@@ -1,7 +1,6 @@
 use Rattle.std.proofs.Common.{◌≡◌, ◌∙◌, length, arith, rules, sym, w64, FitsSigned, vec_len}
 use Rattle.std.proofs.lemmas.Int.{to_z-of_z}
-use Rattle.histograms.proofs.Rising.{rises_of_axis, two_of_axis}
-use Rattle.histograms.proofs.Starts.{bin-above, bin-found, bin-reached, bucket-within, exceeds_it, is_at_most, is_below, not_below, reached-cell, reached-start}
+use Rattle.histograms.proofs.Starts.{rises_of_axis, two_of_axis, bin-above, bin-found, bin-reached, bucket-within, exceeds_it, is_at_most, is_below, not_below, reached-cell, reached-start}
 use Rattle.histograms.proofs.edges.Edges.bin.Goals as goal
 
 pub returns-then-value-self-clause-value : goal.returns-then-value-self-clause-value

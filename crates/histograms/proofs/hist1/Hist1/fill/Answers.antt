@@ -2,8 +2,7 @@ use Rattle.std.proofs.Common.{◌≡◌, ◌<◌, ◌≤◌, ◌+◌, ◌∙◌,
 use Rattle.std.proofs.lemmas.Int.{to_z-of_z}
 use Rattle.rdf_values.specs.{bin}
 use Rattle.histograms.specs.{cell_seen, IsBounded, with_weight}
-use Rattle.histograms.proofs.Bounds.{all_bounded_with, bounded_with}
-use Rattle.histograms.proofs.Filling.{flat_cells-point}
+use Rattle.histograms.proofs.Filling.{all_bounded_with, bounded_with, flat_cells-point}
 use Rattle.histograms.proofs.hist1.Hist1.fill.Goals as goal
 
 pub invariant_of-self : goal.invariant_of-self

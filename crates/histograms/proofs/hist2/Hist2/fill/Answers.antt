@@ -2,7 +2,7 @@ use Rattle.std.proofs.Common.{rules, ℕ, ◌≡◌, ◌<◌, ◌≤◌, ◌+◌
 use Rattle.std.proofs.lemmas.Int.{to_z-of_z}
 use Rattle.rdf_values.specs.{bin}
 use Rattle.histograms.specs.{cell_seen, CellSum, IsBounded, IsWeight, rows_on, with_weight}
-use Rattle.histograms.proofs.Bounds.{all_bounded_with, bounded_with, fits_bounded}
+use Rattle.histograms.proofs.Filling.{all_bounded_with, bounded_with, fits_bounded}
 use Rattle.histograms.proofs.FillingPairs.{place_within, square_cells-point}
 use Rattle.histograms.proofs.hist2.Hist2.fill.Goals as goal
 

@@ -25,7 +25,7 @@ use denote.Triple.Entry.{alive}
 use denote.Triple.Spec.{Meets, triple_of}
 use denote.Triple.Table.{entered}
 use denote.Triple.Walked.{says, Stays, stay_dropped, walk_of, ends_at, walk_Meets, Goes-dropped}
-use Rattle.rdf_outside.proofs.Walks.{none, none_made}
+use Rattle.rdf_outside.proofs.Outside.{none, none_made}
 use Rattle.rdf_outside.specs.contracts.turns.Turns as Turns
 use Rattle.rdf_outside.specs.contracts.turns.Turns.and as F
 use Rattle.rdf_outside.specs.contracts.turns.Turns.and.Key.{name as #self}

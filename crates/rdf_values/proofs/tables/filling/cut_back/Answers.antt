@@ -1,5 +1,5 @@
 use Rattle.std.proofs.Common.{arith, refl}
-use Rattle.rdf_values.proofs.RowPushed.{all_cut, cut_more}
+use Rattle.rdf_values.proofs.KeptLemmas.{all_cut, cut_more}
 use Rattle.rdf_values.proofs.tables.filling.cut_back.Goals as goal
 
 pub loop-column-init : goal.loop-column-init

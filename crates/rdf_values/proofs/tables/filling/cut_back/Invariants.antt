@@ -1,5 +1,5 @@
 use Rattle.std.proofs.Common.{◌≡◌}
-use Rattle.rdf_values.proofs.RowPushed.{partly_cut}
+use Rattle.rdf_values.proofs.KeptLemmas.{partly_cut}
 use Rattle.rdf_values.proofs.tables.filling.cut_back.Given as goal
 
 abbrev pub invariant-loop-column : goal.invariant-loop-column

@@ -1,6 +1,6 @@
 use Rattle.std.proofs.Common.{ap, arith, map, refl, ◌∙◌}
 use Rattle.rdf_values.specs.{cut_to}
-use Rattle.rdf_values.proofs.RowPushed.{cut_partly, partly_all, partly_more, set_stays}
+use Rattle.rdf_values.proofs.KeptLemmas.{cut_partly, partly_all, partly_more, set_stays}
 use Rattle.rdf_values.proofs.tables.filling.push_row.Goals as goal
 
 pub loop-col-init : goal.loop-col-init

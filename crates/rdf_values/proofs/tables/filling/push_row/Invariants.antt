@@ -1,5 +1,5 @@
 use Rattle.std.proofs.Common.{◌≡◌}
-use Rattle.rdf_values.proofs.RowPushed.{partly}
+use Rattle.rdf_values.proofs.KeptLemmas.{partly}
 use Rattle.rdf_values.proofs.tables.filling.push_row.Given as goal
 
 abbrev pub invariant-loop-col : goal.invariant-loop-col

@@ -1,7 +1,7 @@
 use Rattle.std.proofs.Common.{◌≡◌, ◌+◌, arith, drop, get_or, of_z, refl, rules, to_z, true, w64}
 use Rattle.rdf_values.specs.{is_semicolon}
-use Rattle.rdf_values.proofs.VectorSteps.{element_before, element_last}
-use Rattle.rdf_values.proofs.Parts.{rest_of}
+use Rattle.rdf_values.proofs.PieceLemmas.{element_before, element_last}
+use Rattle.rdf_values.proofs.Fronts.{rest_of}
 use Rattle.rdf_values.proofs.tables.vector_text.first_element.Goals as goal
 
 pub returns-then-end-text : goal.returns-then-end-text

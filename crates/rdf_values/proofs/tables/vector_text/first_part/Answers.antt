@@ -1,7 +1,7 @@
 use Rattle.std.proofs.Common.{◌+◌, arith, sym}
 use Rattle.std.proofs.lemmas.List.{length-drop}
 use Rattle.rdf_values.specs.{is_semicolon}
-use Rattle.rdf_values.proofs.Parts.{cut_at, rest_of}
+use Rattle.rdf_values.proofs.Fronts.{cut_at, rest_of}
 use Rattle.rdf_values.proofs.tables.vector_text.first_part.Goals as goal
 
 pub returns-in-None : goal.returns-in-None

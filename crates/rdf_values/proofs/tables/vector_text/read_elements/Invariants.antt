@@ -1,5 +1,5 @@
 use Rattle.rdf_values.specs.{vector_of}
-use Rattle.rdf_values.proofs.VectorSteps.{Reading, parts_of, size_of}
+use Rattle.rdf_values.proofs.PieceLemmas.{Reading, parts_of, size_of}
 use Rattle.rdf_values.proofs.tables.vector_text.read_elements.Given as goal
 
 abbrev pub invariant-loop-rest : goal.invariant-loop-rest

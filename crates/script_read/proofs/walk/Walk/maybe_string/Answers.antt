@@ -1,6 +1,6 @@
 use Rattle.std.proofs.Common.{arith}
 use Rattle.std.proofs.lemmas.Grind.{common_steps}
-use Rattle.script_read.proofs.Parts.{took_some, took_none, some_wanted, none_wanted}
+use Rattle.script_read.proofs.Joined.{took_some, took_none, some_wanted, none_wanted}
 use Rattle.script_read.proofs.walk.Walk.maybe_string.Goals as goal
 
 pub returns-in_err-text-clause-stuck : goal.returns-in_err-text-clause-stuck

@@ -4,8 +4,7 @@ use Rattle.rdf_values.specs.{DrawnBy}
 use Rattle.slot_words.specs.{AreNotings, many_in, ShareSeen}
 use Rattle.slot_words.specs.Shares.{IsOf, hand_seen}
 use Rattle.slot_words.proofs.Notes.{again, closed, noted_by}
-use Rattle.slot_words.proofs.Hands.{taken_next}
-use Rattle.slot_words.proofs.Tokens.{IsGathering, all_gathered, enters, gathers, next_gathered, next_of, none_gathered}
+use Rattle.slot_words.proofs.Hands.{taken_next, IsGathering, all_gathered, enters, gathers, next_gathered, next_of, none_gathered}
 use Rattle.slot_words.proofs.book.Book.close.Goals as goal
 
 abbrev numbers_in : ShareSeen → List ℕ

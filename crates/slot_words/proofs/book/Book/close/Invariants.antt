@@ -1,6 +1,6 @@
 use Rattle.std.proofs.Common.{◌≡◌, ◌++◌, map, length, reverse}
 use Rattle.slot_words.specs.Shares.{hand_seen}
-use Rattle.slot_words.proofs.Tokens.{IsGathering}
+use Rattle.slot_words.proofs.Hands.{IsGathering}
 use Rattle.slot_words.proofs.book.Book.close.Given as goal
 
 abbrev pub invariant-loop-next : goal.invariant-loop-next

@@ -1,7 +1,7 @@
 use Rattle.std.proofs.Common.{◌+◌, ◌-◌, [], refl, ap, ◌∙◌, arith}
 use Rattle.slot_words.specs.{AreNotings, BookSeen, fresh_shares}
 use Rattle.slot_words.proofs.Notes.{again, opens}
-use Rattle.slot_words.proofs.Tokens.{deals, many_left, next_dealt, one_dealt}
+use Rattle.slot_words.proofs.Hands.{deals, many_left, next_dealt, one_dealt}
 use Rattle.slot_words.proofs.book.Book.new.Goals as goal
 
 pub of_words-requires : goal.of_words-requires

@@ -1,6 +1,6 @@
 use Rattle.std.proofs.Common.{length}
 use Rattle.slot_words.specs.Seats.{hand_seen}
-use Rattle.slot_words.proofs.Tokens.{IsGathering}
+use Rattle.slot_words.proofs.Hands.{IsGathering}
 use Rattle.slot_words.proofs.claims.Claims.finish.Given as goal
 
 abbrev pub invariant-loop-next : goal.invariant-loop-next

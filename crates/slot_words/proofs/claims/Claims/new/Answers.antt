@@ -4,7 +4,7 @@ use Rattle.atomic_table.specs.Table.{Me}
 use Rattle.slot_words.specs.declared.hand.ClaimHand.{ClaimHand}
 use Rattle.slot_words.specs.{AreClaimed, ClaimsSeen, empty_hand, fresh_seat, fresh_seats, hand_of, seat_seen}
 use Rattle.slot_words.proofs.Steps.{again, opens}
-use Rattle.slot_words.proofs.Tokens.{deals, many_left, next_dealt, one_dealt}
+use Rattle.slot_words.proofs.Hands.{deals, many_left, next_dealt, one_dealt}
 use Rattle.slot_words.proofs.claims.Claims.new.Goals as goal
 
 pub of_words-requires : goal.of_words-requires

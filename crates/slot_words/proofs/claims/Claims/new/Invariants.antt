@@ -1,6 +1,6 @@
 use Rattle.std.proofs.Common.{◌-◌}
 use Rattle.slot_words.specs.{empty_hand, fresh_seat}
-use Rattle.slot_words.proofs.Tokens.{IsDealing}
+use Rattle.slot_words.proofs.Hands.{IsDealing}
 use Rattle.slot_words.proofs.claims.Claims.new.Given as goal
 
 abbrev pub invariant-loop-slot : goal.invariant-loop-slot

@@ -1,4 +1,4 @@
-use Rattle.rdf_values.proofs.Pushing.{AreFnNames-push}
+use Rattle.rdf_values.proofs.ShortLists.{AreFnNames-push}
 use Rattle.rdf_values.proofs.expressions.fn_names.FnNames.push.Goals as goal
 use Rattle.rdf_values.proofs.expressions.fn_names.FnNames.push.Goals.{in-Ok, in-Err}
 

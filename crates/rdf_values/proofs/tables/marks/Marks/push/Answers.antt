@@ -1,4 +1,4 @@
-use Rattle.rdf_values.proofs.Pushing.{AreMarks-push}
+use Rattle.rdf_values.proofs.ShortLists.{AreMarks-push}
 use Rattle.rdf_values.proofs.tables.marks.Marks.push.Goals as goal
 use Rattle.rdf_values.proofs.tables.marks.Marks.push.Goals.{in-Ok, in-Err}
 

@@ -1,5 +1,5 @@
 use Rattle.std.proofs.Common.{ap, length, ◌∙◌, sym}
-use Rattle.rdf_values.proofs.RowPushed.{length-rows_kept, holds_table}
+use Rattle.rdf_values.proofs.KeptLemmas.{length-rows_kept, holds_table}
 use Rattle.rdf_values.proofs.tables.table.Table.entries.Goals as goal
 
 pub returns-clause-value : goal.returns-clause-value

@@ -1,5 +1,5 @@
 use Rattle.std.proofs.Common.{ap}
-use Rattle.rdf_values.proofs.RowPushed.{holds_new, no_rows_kept}
+use Rattle.rdf_values.proofs.KeptLemmas.{holds_new, no_rows_kept}
 use Rattle.rdf_values.proofs.tables.table.Table.new.Goals as goal
 
 pub invariant_of-result : goal.invariant_of-result

@@ -1,6 +1,5 @@
 use Rattle.std.proofs.Common.{◌≡◌, ◌∙◌, ap, length, refl, rules, sym}
-use Rattle.rdf_values.proofs.Rows.{fits_length}
-use Rattle.rdf_values.proofs.RowPushed.{holds_push, keep, kept_length, pushed_back, rows_after_push}
+use Rattle.rdf_values.proofs.KeptLemmas.{fits_length, holds_push, keep, kept_length, pushed_back, rows_after_push}
 use Rattle.rdf_values.proofs.tables.table.Table.push.Goals as goal
 
 pub push_row-requires-clause-keep : goal.push_row-requires-clause-keep

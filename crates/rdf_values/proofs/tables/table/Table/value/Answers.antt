@@ -1,4 +1,4 @@
-use Rattle.rdf_values.proofs.RowPushed.{no_truths}
+use Rattle.rdf_values.proofs.KeptLemmas.{no_truths}
 use Rattle.rdf_values.proofs.tables.table.Table.value.Goals as goal
 
 pub unreachable-requires : goal.unreachable-requires

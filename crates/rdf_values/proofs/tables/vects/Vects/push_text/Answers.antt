@@ -1,6 +1,5 @@
 use Rattle.std.proofs.Common.{◌≡◌, rules, Ok, true}
-use Rattle.rdf_values.proofs.PieceLemmas.{ascend_after, pieces_after}
-use Rattle.rdf_values.proofs.VectorSteps.{read_good}
+use Rattle.rdf_values.proofs.PieceLemmas.{ascend_after, pieces_after, read_good}
 use Rattle.rdf_values.proofs.tables.vects.Vects.push_text.Goals as goal
 
 pub invariant_of-self : goal.invariant_of-self

@@ -6,19 +6,30 @@ use denote.Hole.FixSend.{fix_sync, Syncs}
 use denote.Hole.FixLaws.{layer_row}
 use denote.Hole.{as_row}
 use denote.Struct.Field.{row_field, i64-field, bool-field}
-use Rattle.std.specs.contracts.boxed.Box as B
-use Rattle.std.specs.contracts.alloc.Global as H
 use Rattle.std.below.std_heap.specs.contracts.GlobalAllocator.TheImpl.{ghosts}
 use Rattle.std.proofs.Crossing.{crosses}
 use Rattle.rdf_values.specs.contracts.scripts.name.Name.{the_row as name_row}
-use Rattle.rdf_values.specs.contracts.scripts.name.Name as N
-use Rattle.rdf_values.specs.contracts.expressions.expr.BinOp as O
 use Rattle.rdf_values.specs.contracts.expressions.expr.Expr.{the_row as expr_row}
 use Rattle.rdf_values.specs.contracts.expressions.expr.Expr.TheInside.{the_row as inside_row}
+use Rattle.rdf_values.specs.declared.expressions.expr.Args.TheBlock.{the_members, member-Args, member-ExprNode}
+use Rattle.rdf_values.specs.contracts.scripts.label.Label.{the_row as label_row}
+use Rattle.rdf_values.specs.contracts.tables.int_list.IntList.{the_row as ints_row}
+use Rattle.rdf_values.specs.contracts.scripts.action.ActionKind.{the_row as kind_row}
+use Rattle.rdf_values.specs.contracts.list.ListOf.{the_row as list_row}
+use Rattle.rdf_values.specs.contracts.scripts.vary_values.VaryValues.{the_row as values_row}
+use Rattle.rdf_values.specs.contracts.scripts.statement.Statement.{the_row as statement_row}
+use Rattle.rdf_values.specs.contracts.scripts.script.Line.{the_row as line_row}
+use Rattle.rdf_values.specs.contracts.tables.column.Column.{the_row as column_row}
+use Rattle.std.specs.contracts.boxed.Box as B
+use Rattle.std.specs.contracts.alloc.Global as H
+use Rattle.rdf_values.specs.contracts.scripts.name.Name as N
+use Rattle.rdf_values.specs.contracts.expressions.expr.BinOp as O
 use Rattle.rdf_values.specs.contracts.expressions.expr.Expr.TheInside as I
 use Rattle.rdf_values.specs.contracts.expressions.expr.ExprNode as node
 use Rattle.rdf_values.specs.contracts.expressions.expr.Args.TheKnot as knot
-use Rattle.rdf_values.specs.declared.expressions.expr.Args.TheBlock.{the_members, member-Args, member-ExprNode}
+use Rattle.rdf_values.specs.contracts.scripts.vary_values.VaryValues as V
+use Rattle.rdf_values.specs.contracts.scripts.statement.Statement as S
+use Rattle.rdf_values.specs.contracts.scripts.script.Line as L
 
 args_layer : (a b : RattleType) → IsSync a → IsSync b → IsSync (knot.layer-Args a b)
 args_layer a b sa sb = variants_sync (knot.type-Args a b) (search (sendable, crosses, sa, sb) depth 40 fits 4000)
@@ -71,3 +82,37 @@ inside_sync = declared_sync I.the_type (search (sendable, crosses, node_sync) de
 
 pub expr_sync : IsSync expr_row
 expr_sync = record { shared = λ d b o κ x. (inside_sync.shared x.0 b o κ, tt) }
+
+-- ---- Several threads may read the lines of one script at once, and the header that it is read against.
+
+pub label_sync : IsSync label_row
+label_sync = search (sendable, crosses) depth 40 fits 4000
+
+pub ints_sync : IsSync ints_row
+ints_sync = search (sendable, crosses) depth 40 fits 4000
+
+pub list_sync : (T : RattleType) → IsSync T → IsSync (list_row T)
+list_sync T s = search (sendable, crosses) depth 40 fits 4000
+
+pub kind_sync : IsSync kind_row
+kind_sync = search (sendable, crosses, name_sync, ints_sync) depth 40 fits 4000
+
+values_sync : IsSync values_row
+values_sync = variants_sync V.enum (search (sendable, crosses, list_sync, expr_sync) depth 40 fits 4000)
+
+pub names_sync : IsSync (list_row name_row)
+names_sync = list_sync name_row name_sync
+
+pub statement_sync : IsSync statement_row
+statement_sync = variants_sync S.enum (search (sendable, crosses, name_sync, names_sync, expr_sync, values_sync, kind_sync, label_sync) depth 40 fits 4000)
+
+pub line_sync : IsSync line_row
+line_sync = declared_sync L.the_type (search (sendable, crosses, statement_sync) depth 40 fits 4000)
+
+-- ---- the header
+
+pub column_sync : IsSync column_row
+column_sync = search (sendable, crosses) depth 40 fits 4000
+
+pub columns_sync : IsSync (list_row column_row)
+columns_sync = list_sync column_row column_sync
