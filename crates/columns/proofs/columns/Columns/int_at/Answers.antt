@@ -1,5 +1,6 @@
 use Rattle.std.proofs.Common.{◌≡◌, ◌∙◌, arith, ap, length, map, rules, sym}
-use Rattle.lemmas.proofs.{FitsSigned, slice_get_within, to_z-of_z}
+use Rattle.lemmas.proofs.{FitsSigned, slice_get_within}
+use Rattle.std.proofs.Math.Facts.{to_z-of_z}
 use mir.Syntax.{w64}
 use Rattle.rdf_values.specs.{Value}
 use Rattle.rdf_values.proofs.KeptLemmas.{cell_of_column, column_length, length-rows_kept}

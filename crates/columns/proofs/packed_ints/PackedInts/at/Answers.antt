@@ -1,5 +1,6 @@
 use Rattle.std.proofs.Common.{arith, rules}
-use Rattle.lemmas.proofs.{FitsSigned, to_z-of_z}
+use Rattle.std.specs.Int.RustNames.{FitsSigned}
+use Rattle.std.proofs.Math.Facts.{to_z-of_z}
 use mir.Syntax.{w64}
 use Rattle.columns.proofs.Reading.{number_there}
 use Rattle.columns.proofs.packed_ints.PackedInts.at.Goals as goal

@@ -1,5 +1,6 @@
 use Rattle.std.proofs.Common.{rules}
-use Rattle.lemmas.proofs.{FitsSigned, to_z-of_z}
+use Rattle.std.specs.Int.RustNames.{FitsSigned}
+use Rattle.std.proofs.Math.Facts.{to_z-of_z}
 use mir.Syntax.{w64}
 use Rattle.rdf_values.specs.{Value}
 use Rattle.rdf_values.proofs.KeptLemmas.{cell_of_column, column_length}
