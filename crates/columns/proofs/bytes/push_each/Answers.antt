@@ -1,5 +1,5 @@
 use Rattle.std.proofs.Common.{◌≡◌, ◌∙◌, ◌++◌, ◌+◌, ◌*◌, ap, arith, get_or, pos, rules, take}
-use Rattle.lemmas.proofs.{FitsSigned, take_all, take_at_most}
+use Rattle.lemmas.proofs.{FitsSigned, take_at_most}
 use Rattle.std.proofs.Math.Facts.{to_z-of_z}
 use mir.Syntax.{w64}
 use native.Mathlib.Nat.{add-mul}

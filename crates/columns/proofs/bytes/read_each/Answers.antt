@@ -1,5 +1,5 @@
 use Rattle.std.proofs.Common.{◌∙◌, arith, length, rules, sym}
-use Rattle.lemmas.proofs.{FitsSigned, take_all}
+use Rattle.std.specs.Int.RustNames.{FitsSigned}
 use Rattle.std.proofs.Math.Facts.{to_z-of_z}
 use mir.Syntax.{w64}
 use Rattle.std.proofs.lemmas.List.{take_all}
