@@ -18,7 +18,7 @@ use Rattle.graph_numbers.proofs.ColumnSources.{column_source}
 use Rattle.graph_numbers.proofs.Equations.{version_value, source_is, source_later}
 use Rattle.graph_numbers.proofs.Placing.{Extends, kept, each_version, placed}
 use Rattle.rdf_model.proofs.Missing.{named_alike, alike_is}
-use Rattle.rdf_model.proofs.Evaluations as close
+use Rattle.rdf_model.proofs.Evaluations as evaluations
 use Rattle.rdf_model.specs.Alike as alike
 use Rattle.rdf_model.proofs.Missing as missing
 
@@ -116,19 +116,19 @@ module _ {C F M : Type 0} (look : C → Outcome M Value) (call : F → List Valu
   IsNeeded m = (c : C) × In c (columns_in e) × (look c ≡ Needs m)
 
   closed : (c : C) → In c (columns_in e) → (o : Outcome M Value) → look c ≡ o → close.Close IsNeeded o (given o)
-  closed c k (Needs m) q = close.missing (c, k, q)
-  closed c k o q = close.same
+  closed c k (Needs m) q = evaluations.missing (c, k, q)
+  closed c k o q = evaluations.same
 
   -- what an evaluation needs is what one of its columns needs
   pub needed : (m : M) → evaluate look call e ≡ Needs m → IsNeeded m
   needed m h =
       go (evaluate look call e) (evaluate (λ c. given (look c)) call e) h
       (evaluate_known M (λ c. given (look c)) call calls_known e (each_of (λ c. IsKnown (given (look c))) e (λ c k. given_known (look c))))
-      (close.evaluate_close IsNeeded look (λ c. given (look c)) call e (each_of (λ c. close.Close IsNeeded (look c) (given (look c))) e (λ c k. closed c k (look c) refl)))
+      (evaluations.evaluate_close IsNeeded look (λ c. given (look c)) call e (each_of (λ c. close.Close IsNeeded (look c) (given (look c))) e (λ c k. closed c k (look c) refl)))
     where
       go : (o p : Outcome M Value) → o ≡ Needs m → IsKnown p → close.Close IsNeeded o p → IsNeeded m
-      go o p q known close.same = absurd (not_known o m known q)
-      go o p q known (close.missing {d = d} n) = let is : d ≡ m = ap (in_need m) q in subst IsNeeded is n
+      go o p q known evaluations.same = absurd (not_known o m known q)
+      go o p q known (evaluations.missing {d = d} n) = let is : d ≡ m = ap (in_need m) q in subst IsNeeded is n
 
 -- ---- by names
 
@@ -160,10 +160,10 @@ module _ {F : Type 0} (number : List ℕ → ℕ) (look : ℕ → Outcome ℕ Va
   alone n h m = go (same n m) (nat_eq c (number m)) refl refl
     where
       go : (a b : Bool) → same n m ≡ a → nat_eq c (number m) ≡ b → close.Close (λ d. d ≢ n) (if b then Needs m else named m) (if a then Needs n else named m)
-      go true true p q = subst (λ (x : List ℕ). close.Close {M = List ℕ} {A = Value} (λ d. d ≢ n) (Needs x) (Needs n)) (names_equal n m p) close.same
+      go true true p q = subst (λ (x : List ℕ). close.Close {M = List ℕ} {A = Value} (λ d. d ≢ n) (Needs x) (Needs n)) (names_equal n m p) evaluations.same
       go true false p q = cc (sym h ∙ ap (λ x. nat_eq c (number x)) (names_equal n m p) ∙ q)
-      go false true p q = close.missing (λ x. cc (sym p ∙ ap (same n) x ∙ itself n))
-      go false false p q = close.same
+      go false true p q = evaluations.missing (λ x. cc (sym p ∙ ap (same n) x ∙ itself n))
+      go false false p q = evaluations.same
 
   pub met_name : is_need (evaluate (λ n. without nat_eq c look (number n)) call e) ≡ true
       → (n : List ℕ) × (number n ≡ c) × In n (columns_in e) × In n (filter (is_met same named named_call e) (columns_in e))
@@ -175,12 +175,12 @@ module _ {F : Type 0} (number : List ℕ → ℕ) (look : ℕ → Outcome ℕ Va
       let p = its_number n.0 m.0 n.2 in
       let r : is_met same named named_call e n.0 ≡ true =
       go n.0 (evaluate all_missing named_call e) (evaluate (without same n.0 named) named_call e) (m.1 ∙ ap Needs (sym p.0))
-      (close.evaluate_close (λ d. d ≢ n.0) all_missing (without same n.0 named) named_call e (each_of _ e (λ x k. alone n.0 p.1 x))) in
+      (evaluations.evaluate_close (λ d. d ≢ n.0) all_missing (without same n.0 named) named_call e (each_of _ e (λ x k. alone n.0 p.1 x))) in
       (n.0, sym ((Decides-eqb c (number n.0)).0 p.1), n.1, in_filter (is_met same named named_call e) (columns_in e) n.1 r)
     where
       go : (n : List ℕ) (o p : Outcome (List ℕ) Value) → o ≡ Needs n → close.Close (λ d. d ≢ n) o p → is_need p ≡ true
-      go n o p q close.same = ap is_need q
-      go n o p q (close.missing {d = d} k) = absurd (k (ap (in_need n) q))
+      go n o p q evaluations.same = ap is_need q
+      go n o p q (evaluations.missing {d = d} k) = absurd (k (ap (in_need n) q))
 
 -- ---- The version of a visible column has the column's kind, and comes to a value of it.
 

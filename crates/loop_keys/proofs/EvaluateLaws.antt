@@ -3,7 +3,7 @@ use Rattle.std.proofs.Common.{◌≡◌, ◌≢◌, ◌⊎◌, inl, inr, ℕ, �
 use Rattle.lemmas.proofs.{Decides-eqb, slice_get_within}
 use Rattle.rdf_values.specs.{AreAccepted, EachColumn, fn_names, history, scope_of, Value}
 use Rattle.rdf_model.specs.{◌>>=◌, call_outcome, evaluate, is_need, Needs, Outcome, tag_element, with_needs, without}
-use Rattle.rdf_model.proofs.Evaluations as close
+use Rattle.rdf_model.proofs.Evaluations as evaluations
 use Rattle.rdf_model.proofs.Accepted.{verdict_is_the_first_refusal}
 use Rattle.graph_numbers.specs.{graph_sites, graph_under, IsBelow, site_outcome, site_value, SiteAt, Source, source_value, version_count}
 use Rattle.graph_numbers.proofs.Equations as equations
@@ -71,19 +71,19 @@ module _ (j : JobView) (job : IsJob j) (entry : ℕ) (u : Option ℕ) (cells : L
   IsLacking c = (look_at j entry u cells c ≡ Needs c) × IsMissing j u cells s c
 
   close_column : (c : ℕ) → IsToldOf c → close.Close IsLacking (look_at j entry u cells c) (version_in j entry u c)
-  close_column c (inl e) = subst (λ (o : Outcome ℕ Value). close.Close IsLacking (look_at j entry u cells c) o) e close.same
-  close_column c (inr k) = subst (λ (o : Outcome ℕ Value). close.Close IsLacking o (version_in j entry u c)) (sym k.0) (close.missing k)
+  close_column c (inl e) = subst (λ (o : Outcome ℕ Value). close.Close IsLacking (look_at j entry u cells c) o) e evaluations.same
+  close_column c (inr k) = subst (λ (o : Outcome ℕ Value). close.Close IsLacking o (version_in j entry u c)) (sym k.0) (evaluations.missing k)
 
   closes : close.Close IsLacking looked (evaluate (version_in {M = ℕ} j entry u) (call_outcome j.dataset.fns) x.tree)
-  closes = close.evaluate_close IsLacking (look_at j entry u cells) (version_in j entry u) (call_outcome j.dataset.fns) x.tree (each_weaker IsToldOf _ close_column x.tree told)
+  closes = evaluations.evaluate_close IsLacking (look_at j entry u cells) (version_in j entry u) (call_outcome j.dataset.fns) x.tree (each_weaker IsToldOf _ close_column x.tree told)
 
   -- what was found is the site's outcome
   pub found_right : (h : Held) → is_held h ≡ true → held_or_need 0 h ≡ looked → IsRight (site_in j entry u s) h
   found_right h k e = go looked (evaluate (version_in {M = ℕ} j entry u) (call_outcome j.dataset.fns) x.tree) closes e whole
     where
       go : (o p : Outcome ℕ Value) → close.Close IsLacking o p → held_or_need 0 h ≡ o → p ≡ with_needs (site_in j entry u s) → IsRight (site_in j entry u s) h
-      go o p close.same q r = grind arith
-      go o p (close.missing {d = d} n) q r = grind arith
+      go o p evaluations.same q r = grind arith
+      go o p (evaluations.missing {d = d} n) q r = grind arith
 
   abbrev number_in : ℕ → Outcome ℕ Value → ℕ
   number_in d (Needs c) = c
@@ -94,8 +94,8 @@ module _ (j : JobView) (job : IsJob j) (entry : ℕ) (u : Option ℕ) (cells : L
   needed_missing c e = go looked (evaluate (version_in {M = ℕ} j entry u) (call_outcome j.dataset.fns) x.tree) closes e whole
     where
       go : (o p : Outcome ℕ Value) → close.Close IsLacking o p → Needs c ≡ o → p ≡ with_needs (site_in j entry u s) → IsLacking c
-      go o p close.same q r = absurd (known_never (site_in j entry u s) (ap is_need (sym (q ∙ r))))
-      go o p (close.missing {d = d} n) q r = let i : d ≡ c = ap (number_in c) (sym q) in subst IsLacking i n
+      go o p evaluations.same q r = absurd (known_never (site_in j entry u s) (ap is_need (sym (q ∙ r))))
+      go o p (evaluations.missing {d = d} n) q r = let i : d ≡ c = ap (number_in c) (sym q) in subst IsLacking i n
 
   -- and the evaluation meets it
   pub needed_met : (c : ℕ) → Needs c ≡ looked → MeetsAt j entry u s c
@@ -103,7 +103,7 @@ module _ (j : JobView) (job : IsJob j) (entry : ℕ) (u : Option ℕ) (cells : L
     x,
     its,
     go looked (evaluate (without nat_eq c (version_in {M = ℕ} j entry u)) (call_outcome j.dataset.fns) x.tree) e
-        (close.evaluate_close (λ d. d ≢ c) (look_at j entry u cells) (without nat_eq c (version_in {M = ℕ} j entry u)) (call_outcome j.dataset.fns) x.tree (each_weaker IsToldOf _ (λ d k. alone d k (nat_eq c d) refl) x.tree told)),
+        (evaluations.evaluate_close (λ d. d ≢ c) (look_at j entry u cells) (without nat_eq c (version_in {M = ℕ} j entry u)) (call_outcome j.dataset.fns) x.tree (each_weaker IsToldOf _ (λ d k. alone d k (nat_eq c d) refl) x.tree told)),
   )
     where
       lacking : look_at j entry u cells c ≡ Needs c
@@ -112,12 +112,12 @@ module _ (j : JobView) (job : IsJob j) (entry : ℕ) (u : Option ℕ) (cells : L
       alone : (d : ℕ) → IsToldOf d → (b : Bool) → nat_eq c d ≡ b → close.Close {M = ℕ} {A = Value} (λ d. d ≢ c) (look_at j entry u cells d) (if b then Needs c else version_in {M = ℕ} j entry u d)
       alone d k true p =
           let i : c ≡ d = (Decides-eqb c d).0 p in
-          subst (λ (o : Outcome ℕ Value). close.Close {M = ℕ} {A = Value} (λ d. d ≢ c) o (Needs c)) (sym (ap (look_at j entry u cells) (sym i) ∙ lacking)) close.same
-      alone d (inl q) false p = subst (λ (o : Outcome ℕ Value). close.Close {M = ℕ} {A = Value} (λ d. d ≢ c) (look_at j entry u cells d) o) q close.same
+          subst (λ (o : Outcome ℕ Value). close.Close {M = ℕ} {A = Value} (λ d. d ≢ c) o (Needs c)) (sym (ap (look_at j entry u cells) (sym i) ∙ lacking)) evaluations.same
+      alone d (inl q) false p = subst (λ (o : Outcome ℕ Value). close.Close {M = ℕ} {A = Value} (λ d. d ≢ c) (look_at j entry u cells d) o) q evaluations.same
       alone d (inr q) false p =
           subst (λ (o : Outcome ℕ Value). close.Close {M = ℕ} {A = Value} (λ d. d ≢ c) o (version_in {M = ℕ} j entry u d)) (sym q.0)
-          (close.missing (λ i. cc (sym p ∙ (Decides-eqb c d).1 (sym i))))
+          (evaluations.missing (λ i. cc (sym p ∙ (Decides-eqb c d).1 (sym i))))
 
       go : (o p : Outcome ℕ Value) → Needs c ≡ o → close.Close (λ d. d ≢ c) o p → is_need p ≡ true
-      go o p q close.same = ap is_need (sym q)
-      go o p q (close.missing {d = d} n) = absurd (n (ap (number_in c) (sym q)))
+      go o p q evaluations.same = ap is_need (sym q)
+      go o p q (evaluations.missing {d = d} n) = absurd (n (ap (number_in c) (sym q)))

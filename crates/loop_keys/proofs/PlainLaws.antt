@@ -12,7 +12,7 @@ use Rattle.loop_keys.specs.{ArePlain, is_vector_at, IsClosed, IsJob, IsPlainVers
 use Rattle.loop_keys.proofs.Elements.{of_option}
 use Rattle.loop_keys.proofs.EvaluateLaws.{known_never, whole}
 use Rattle.loop_keys.proofs.PassNumbers.{result_inside}
-use Rattle.rdf_model.proofs.Evaluations as close
+use Rattle.rdf_model.proofs.Evaluations as evaluations
 
 -- the kinds of versions, as an expression lists them
 not_vector : (all : List ColType) (ks : List (ℕ × ColType)) (c : ℕ) → AllByRecursion (λ (k : ℕ × ColType). slice_get all k.0 ≡ Some k.1) ks → is_vector_at all c ≡ false → gives_vector (number_kind ks c) ≡ false
@@ -60,19 +60,19 @@ module _ (j : JobView) (job : IsJob j) (entry : ℕ) (u : Option ℕ) (used : �
 
   met_source : (s c : ℕ) (x : SiteAt) → slice_get (graph_sites (job_graph j)) s ≡ Some x → used s ≡ true
       → is_need (evaluate (without nat_eq c (version_in {M = ℕ} j entry u)) (call_outcome j.dataset.fns) x.tree) ≡ true → IsSourceIn used (source_at j u c)
-  met_source s c x its us met = go _ _ (close.evaluate_close N (without nat_eq c (version_in j entry u)) (version_in j entry u) (call_outcome j.dataset.fns) x.tree
+  met_source s c x its us met = go _ _ (evaluations.evaluate_close N (without nat_eq c (version_in j entry u)) (version_in j entry u) (call_outcome j.dataset.fns) x.tree
       (each_weaker (IsPlainVersion (job_graph j) used) _ (λ d v. alone d v (nat_eq c d) refl) x.tree (plain s x us its).columns)) met (whole j job entry u [] none_held s x its)
     where
       N : ℕ → Type 0
       N m = IsSourceIn used (source_at j u c)
 
       alone : (d : ℕ) → IsPlainVersion (job_graph j) used d → (b : Bool) → nat_eq c d ≡ b → close.Close {M = ℕ} {A = Value} N (if b then Needs c else version_in {M = ℕ} j entry u d) (version_in {M = ℕ} j entry u d)
-      alone d v true e = close.missing (subst (λ (n : ℕ). IsSourceIn used (source_at j u n)) (sym ((Decides-eqb c d).0 e)) (v.1 u))
-      alone d v false e = close.same
+      alone d v true e = evaluations.missing (subst (λ (n : ℕ). IsSourceIn used (source_at j u n)) (sym ((Decides-eqb c d).0 e)) (v.1 u))
+      alone d v false e = evaluations.same
 
       go : (o p : Outcome ℕ Value) → close.Close N o p → is_need o ≡ true → p ≡ with_needs (site_in j entry u s) → IsSourceIn used (source_at j u c)
-      go o p close.same m w = absurd (known_never (site_in j entry u s) (ap is_need (sym w) ∙ m))
-      go o p (close.missing {d = d} n) m w = n
+      go o p evaluations.same m w = absurd (known_never (site_in j entry u s) (ap is_need (sym w) ∙ m))
+      go o p (evaluations.missing {d = d} n) m w = n
 
   pub plain_closed : IsClosed j entry u used
   plain_closed = record { each = λ s c us m. met_source s c m.0 m.1 us m.2 }

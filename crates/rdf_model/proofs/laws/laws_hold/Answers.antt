@@ -1,20 +1,15 @@
 use Rattle.rdf_model.proofs.Accepted as accepted
 use Rattle.rdf_model.proofs.Bounded as bounded
-use Rattle.rdf_model.proofs.Turns as chains
+use Rattle.rdf_model.proofs.Turns as turns
 use Rattle.rdf_model.proofs.Evaluations as evaluations
 use Rattle.rdf_model.proofs.Faults as faults
 use Rattle.rdf_model.proofs.Feeds as feeds
 use Rattle.rdf_model.proofs.Limits as limits
-use Rattle.rdf_model.proofs.Demands as outputs
-use Rattle.rdf_model.proofs.Faults as parts
-use Rattle.rdf_model.proofs.Demands as reports
+use Rattle.rdf_model.proofs.Demands as demands
 use Rattle.rdf_model.proofs.SetTexts as texts
-use Rattle.rdf_model.proofs.Turns as turns
 use Rattle.rdf_model.proofs.Typing as typing
 use Rattle.rdf_model.proofs.Variations as variations
-use Rattle.rdf_model.proofs.Accepted as verdicts
 use Rattle.rdf_values.proofs.Evenly as evenly
-use Rattle.rdf_values.proofs.Evenly as leading
 use Rattle.rdf_model.proofs.laws.laws_hold.Goals as goal
 
 pub returns : goal.returns
@@ -27,25 +22,25 @@ returns c =
       unvaried_result_is_nominal = variations.unvaried_result_is_nominal;
       other_variations_are_nominal = variations.other_variations_are_nominal;
       results_are_of_one_variation = variations.results_are_of_one_variation;
-      columns_come_from_their_maker = reports.columns_come_from_their_maker;
+      columns_come_from_their_maker = demands.columns_come_from_their_maker;
       first_fault_is_least = faults.first_fault_is_least;
-      noted_sets_grow = chains.noted_sets_grow;
-      last_set_is_whole = chains.last_set_is_whole;
-      few_sets_are_noted = chains.few_sets_are_noted;
-      passed_are_among_reached = reports.passed_are_among_reached;
-      reports_are_fed_nothing = reports.reports_are_fed_nothing;
-      facts_give_results = parts.facts_give_results;
-      facts_give_counts = parts.facts_give_counts;
-      unwatched_output_is_one_function = outputs.unwatched_output_is_one_function;
-      status_tells_of_faults = outputs.status_tells_of_faults;
+      noted_sets_grow = turns.noted_sets_grow;
+      last_set_is_whole = turns.last_set_is_whole;
+      few_sets_are_noted = turns.few_sets_are_noted;
+      passed_are_among_reached = demands.passed_are_among_reached;
+      reports_are_fed_nothing = demands.reports_are_fed_nothing;
+      facts_give_results = faults.facts_give_results;
+      facts_give_counts = faults.facts_give_counts;
+      unwatched_output_is_one_function = demands.unwatched_output_is_one_function;
+      status_tells_of_faults = demands.status_tells_of_faults;
       checked_expressions_fit = typing.checked_expressions_fit;
-      verdict_is_the_first_refusal = verdicts.verdict_is_the_first_refusal;
+      verdict_is_the_first_refusal = accepted.verdict_is_the_first_refusal;
       accepted_columns_fit = accepted.accepted_columns_fit;
       accepted_feeds_fit = feeds.accepted_feeds_fit;
       expressions_are_bounded = bounded.expressions_are_bounded;
       checked_expressions_fit_columns = bounded.checked_expressions_fit_columns;
       columns_are_bounded = λ d row at u name answers fits words. bounded.columns_are_bounded d.fns d.columns row answers fits at u name words;
-      cuts_lead = leading.cuts_lead;
+      cuts_lead = evenly.cuts_lead;
       cuts_are_in_order = limits.cuts_are_in_order;
       unmarked_cuts_are_even = evenly.unmarked_cuts_are_even;
       loops_meet_limits = limits.loops_meet_limits;
