@@ -29,11 +29,11 @@ met_each j job entry u s c P met each = go _ _ (evaluations.evaluate_close N (wi
     none_held : IsSound j entry []
     none_held = record { each = λ w r lt. tt }
 
-    alone : (d : ℕ) → P d → (b : Bool) → nat_eq c d ≡ b → close.Close {M = ℕ} {A = Value} N (if b then Needs c else version_in {M = ℕ} j entry u d) (version_in {M = ℕ} j entry u d)
+    alone : (d : ℕ) → P d → (b : Bool) → nat_eq c d ≡ b → evaluations.Close {M = ℕ} {A = Value} N (if b then Needs c else version_in {M = ℕ} j entry u d) (version_in {M = ℕ} j entry u d)
     alone d v true e = evaluations.missing (subst P (sym ((Decides-eqb c d).0 e)) v)
     alone d v false e = evaluations.same
 
-    go : (o p : Outcome ℕ Value) → close.Close N o p → is_need o ≡ true → p ≡ with_needs (site_in j entry u s) → P c
+    go : (o p : Outcome ℕ Value) → evaluations.Close N o p → is_need o ≡ true → p ≡ with_needs (site_in j entry u s) → P c
     go o p evaluations.same m w = absurd (known_never (site_in j entry u s) (ap is_need (sym w) ∙ m))
     go o p (evaluations.missing {d = d} n) m w = n
 

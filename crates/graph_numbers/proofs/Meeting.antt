@@ -115,7 +115,7 @@ module _ {C F M : Type 0} (look : C → Outcome M Value) (call : F → List Valu
   abbrev IsNeeded : M → Type 0
   IsNeeded m = (c : C) × In c (columns_in e) × (look c ≡ Needs m)
 
-  closed : (c : C) → In c (columns_in e) → (o : Outcome M Value) → look c ≡ o → close.Close IsNeeded o (given o)
+  closed : (c : C) → In c (columns_in e) → (o : Outcome M Value) → look c ≡ o → evaluations.Close IsNeeded o (given o)
   closed c k (Needs m) q = evaluations.missing (c, k, q)
   closed c k o q = evaluations.same
 
@@ -124,9 +124,9 @@ module _ {C F M : Type 0} (look : C → Outcome M Value) (call : F → List Valu
   needed m h =
       go (evaluate look call e) (evaluate (λ c. given (look c)) call e) h
       (evaluate_known M (λ c. given (look c)) call calls_known e (each_of (λ c. IsKnown (given (look c))) e (λ c k. given_known (look c))))
-      (evaluations.evaluate_close IsNeeded look (λ c. given (look c)) call e (each_of (λ c. close.Close IsNeeded (look c) (given (look c))) e (λ c k. closed c k (look c) refl)))
+      (evaluations.evaluate_close IsNeeded look (λ c. given (look c)) call e (each_of (λ c. evaluations.Close IsNeeded (look c) (given (look c))) e (λ c k. closed c k (look c) refl)))
     where
-      go : (o p : Outcome M Value) → o ≡ Needs m → IsKnown p → close.Close IsNeeded o p → IsNeeded m
+      go : (o p : Outcome M Value) → o ≡ Needs m → IsKnown p → evaluations.Close IsNeeded o p → IsNeeded m
       go o p q known evaluations.same = absurd (not_known o m known q)
       go o p q known (evaluations.missing {d = d} n) = let is : d ≡ m = ap (in_need m) q in subst IsNeeded is n
 
@@ -156,11 +156,11 @@ module _ {F : Type 0} (number : List ℕ → ℕ) (look : ℕ → Outcome ℕ Va
   its_number n m h = by_test (nat_eq c (number n)) (λ e. (ap (in_need m) (rw e at h), e)) (λ e. absurd (not_known (named n) m (named_known n) (rw e at h)))
 
   -- of the missing names the one that is needed, alone
-  alone : (n : List ℕ) → nat_eq c (number n) ≡ true → (m : List ℕ) → close.Close (λ d. d ≢ n) (all_missing m) (without same n named m)
+  alone : (n : List ℕ) → nat_eq c (number n) ≡ true → (m : List ℕ) → evaluations.Close (λ d. d ≢ n) (all_missing m) (without same n named m)
   alone n h m = go (same n m) (nat_eq c (number m)) refl refl
     where
-      go : (a b : Bool) → same n m ≡ a → nat_eq c (number m) ≡ b → close.Close (λ d. d ≢ n) (if b then Needs m else named m) (if a then Needs n else named m)
-      go true true p q = subst (λ (x : List ℕ). close.Close {M = List ℕ} {A = Value} (λ d. d ≢ n) (Needs x) (Needs n)) (names_equal n m p) evaluations.same
+      go : (a b : Bool) → same n m ≡ a → nat_eq c (number m) ≡ b → evaluations.Close (λ d. d ≢ n) (if b then Needs m else named m) (if a then Needs n else named m)
+      go true true p q = subst (λ (x : List ℕ). evaluations.Close {M = List ℕ} {A = Value} (λ d. d ≢ n) (Needs x) (Needs n)) (names_equal n m p) evaluations.same
       go true false p q = cc (sym h ∙ ap (λ x. nat_eq c (number x)) (names_equal n m p) ∙ q)
       go false true p q = evaluations.missing (λ x. cc (sym p ∙ ap (same n) x ∙ itself n))
       go false false p q = evaluations.same
@@ -178,7 +178,7 @@ module _ {F : Type 0} (number : List ℕ → ℕ) (look : ℕ → Outcome ℕ Va
       (evaluations.evaluate_close (λ d. d ≢ n.0) all_missing (without same n.0 named) named_call e (each_of _ e (λ x k. alone n.0 p.1 x))) in
       (n.0, sym ((Decides-eqb c (number n.0)).0 p.1), n.1, in_filter (is_met same named named_call e) (columns_in e) n.1 r)
     where
-      go : (n : List ℕ) (o p : Outcome (List ℕ) Value) → o ≡ Needs n → close.Close (λ d. d ≢ n) o p → is_need p ≡ true
+      go : (n : List ℕ) (o p : Outcome (List ℕ) Value) → o ≡ Needs n → evaluations.Close (λ d. d ≢ n) o p → is_need p ≡ true
       go n o p q evaluations.same = ap is_need q
       go n o p q (evaluations.missing {d = d} k) = absurd (k (ap (in_need n) q))
 

@@ -70,18 +70,18 @@ module _ (j : JobView) (job : IsJob j) (entry : ℕ) (u : Option ℕ) (cells : L
   abbrev IsLacking : ℕ → Type 0
   IsLacking c = (look_at j entry u cells c ≡ Needs c) × IsMissing j u cells s c
 
-  close_column : (c : ℕ) → IsToldOf c → close.Close IsLacking (look_at j entry u cells c) (version_in j entry u c)
-  close_column c (inl e) = subst (λ (o : Outcome ℕ Value). close.Close IsLacking (look_at j entry u cells c) o) e evaluations.same
-  close_column c (inr k) = subst (λ (o : Outcome ℕ Value). close.Close IsLacking o (version_in j entry u c)) (sym k.0) (evaluations.missing k)
+  close_column : (c : ℕ) → IsToldOf c → evaluations.Close IsLacking (look_at j entry u cells c) (version_in j entry u c)
+  close_column c (inl e) = subst (λ (o : Outcome ℕ Value). evaluations.Close IsLacking (look_at j entry u cells c) o) e evaluations.same
+  close_column c (inr k) = subst (λ (o : Outcome ℕ Value). evaluations.Close IsLacking o (version_in j entry u c)) (sym k.0) (evaluations.missing k)
 
-  closes : close.Close IsLacking looked (evaluate (version_in {M = ℕ} j entry u) (call_outcome j.dataset.fns) x.tree)
+  closes : evaluations.Close IsLacking looked (evaluate (version_in {M = ℕ} j entry u) (call_outcome j.dataset.fns) x.tree)
   closes = evaluations.evaluate_close IsLacking (look_at j entry u cells) (version_in j entry u) (call_outcome j.dataset.fns) x.tree (each_weaker IsToldOf _ close_column x.tree told)
 
   -- what was found is the site's outcome
   pub found_right : (h : Held) → is_held h ≡ true → held_or_need 0 h ≡ looked → IsRight (site_in j entry u s) h
   found_right h k e = go looked (evaluate (version_in {M = ℕ} j entry u) (call_outcome j.dataset.fns) x.tree) closes e whole
     where
-      go : (o p : Outcome ℕ Value) → close.Close IsLacking o p → held_or_need 0 h ≡ o → p ≡ with_needs (site_in j entry u s) → IsRight (site_in j entry u s) h
+      go : (o p : Outcome ℕ Value) → evaluations.Close IsLacking o p → held_or_need 0 h ≡ o → p ≡ with_needs (site_in j entry u s) → IsRight (site_in j entry u s) h
       go o p evaluations.same q r = grind arith
       go o p (evaluations.missing {d = d} n) q r = grind arith
 
@@ -93,7 +93,7 @@ module _ (j : JobView) (job : IsJob j) (entry : ℕ) (u : Option ℕ) (cells : L
   pub needed_missing : (c : ℕ) → Needs c ≡ looked → IsLacking c
   needed_missing c e = go looked (evaluate (version_in {M = ℕ} j entry u) (call_outcome j.dataset.fns) x.tree) closes e whole
     where
-      go : (o p : Outcome ℕ Value) → close.Close IsLacking o p → Needs c ≡ o → p ≡ with_needs (site_in j entry u s) → IsLacking c
+      go : (o p : Outcome ℕ Value) → evaluations.Close IsLacking o p → Needs c ≡ o → p ≡ with_needs (site_in j entry u s) → IsLacking c
       go o p evaluations.same q r = absurd (known_never (site_in j entry u s) (ap is_need (sym (q ∙ r))))
       go o p (evaluations.missing {d = d} n) q r = let i : d ≡ c = ap (number_in c) (sym q) in subst IsLacking i n
 
@@ -109,15 +109,15 @@ module _ (j : JobView) (job : IsJob j) (entry : ℕ) (u : Option ℕ) (cells : L
       lacking : look_at j entry u cells c ≡ Needs c
       lacking = (needed_missing c e).0
 
-      alone : (d : ℕ) → IsToldOf d → (b : Bool) → nat_eq c d ≡ b → close.Close {M = ℕ} {A = Value} (λ d. d ≢ c) (look_at j entry u cells d) (if b then Needs c else version_in {M = ℕ} j entry u d)
+      alone : (d : ℕ) → IsToldOf d → (b : Bool) → nat_eq c d ≡ b → evaluations.Close {M = ℕ} {A = Value} (λ d. d ≢ c) (look_at j entry u cells d) (if b then Needs c else version_in {M = ℕ} j entry u d)
       alone d k true p =
           let i : c ≡ d = (Decides-eqb c d).0 p in
-          subst (λ (o : Outcome ℕ Value). close.Close {M = ℕ} {A = Value} (λ d. d ≢ c) o (Needs c)) (sym (ap (look_at j entry u cells) (sym i) ∙ lacking)) evaluations.same
-      alone d (inl q) false p = subst (λ (o : Outcome ℕ Value). close.Close {M = ℕ} {A = Value} (λ d. d ≢ c) (look_at j entry u cells d) o) q evaluations.same
+          subst (λ (o : Outcome ℕ Value). evaluations.Close {M = ℕ} {A = Value} (λ d. d ≢ c) o (Needs c)) (sym (ap (look_at j entry u cells) (sym i) ∙ lacking)) evaluations.same
+      alone d (inl q) false p = subst (λ (o : Outcome ℕ Value). evaluations.Close {M = ℕ} {A = Value} (λ d. d ≢ c) (look_at j entry u cells d) o) q evaluations.same
       alone d (inr q) false p =
-          subst (λ (o : Outcome ℕ Value). close.Close {M = ℕ} {A = Value} (λ d. d ≢ c) o (version_in {M = ℕ} j entry u d)) (sym q.0)
+          subst (λ (o : Outcome ℕ Value). evaluations.Close {M = ℕ} {A = Value} (λ d. d ≢ c) o (version_in {M = ℕ} j entry u d)) (sym q.0)
           (evaluations.missing (λ i. cc (sym p ∙ (Decides-eqb c d).1 (sym i))))
 
-      go : (o p : Outcome ℕ Value) → Needs c ≡ o → close.Close (λ d. d ≢ c) o p → is_need p ≡ true
+      go : (o p : Outcome ℕ Value) → Needs c ≡ o → evaluations.Close (λ d. d ≢ c) o p → is_need p ≡ true
       go o p q evaluations.same = ap is_need (sym q)
       go o p q (evaluations.missing {d = d} n) = absurd (n (ap (number_in c) (sym q)))

@@ -66,11 +66,11 @@ module _ (j : JobView) (job : IsJob j) (entry : ℕ) (u : Option ℕ) (used : �
       N : ℕ → Type 0
       N m = IsSourceIn used (source_at j u c)
 
-      alone : (d : ℕ) → IsPlainVersion (job_graph j) used d → (b : Bool) → nat_eq c d ≡ b → close.Close {M = ℕ} {A = Value} N (if b then Needs c else version_in {M = ℕ} j entry u d) (version_in {M = ℕ} j entry u d)
+      alone : (d : ℕ) → IsPlainVersion (job_graph j) used d → (b : Bool) → nat_eq c d ≡ b → evaluations.Close {M = ℕ} {A = Value} N (if b then Needs c else version_in {M = ℕ} j entry u d) (version_in {M = ℕ} j entry u d)
       alone d v true e = evaluations.missing (subst (λ (n : ℕ). IsSourceIn used (source_at j u n)) (sym ((Decides-eqb c d).0 e)) (v.1 u))
       alone d v false e = evaluations.same
 
-      go : (o p : Outcome ℕ Value) → close.Close N o p → is_need o ≡ true → p ≡ with_needs (site_in j entry u s) → IsSourceIn used (source_at j u c)
+      go : (o p : Outcome ℕ Value) → evaluations.Close N o p → is_need o ≡ true → p ≡ with_needs (site_in j entry u s) → IsSourceIn used (source_at j u c)
       go o p evaluations.same m w = absurd (known_never (site_in j entry u s) (ap is_need (sym w) ∙ m))
       go o p (evaluations.missing {d = d} n) m w = n
 
