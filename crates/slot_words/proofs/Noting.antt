@@ -273,20 +273,20 @@ pub at_below : {A : Type 0} (f : ℕ → A) (n j : ℕ) (x : A) → slice_get (m
 at_below f n j x h = grind (arith, slice_get_within, length-map, length-below, same_some, slice_get-map, slice_get-below)
 
 module _ (os ds : List (List ℕ)) (clusters step : ℕ) (noted : AreNoted os ds clusters) where
-  abbrev set_at : ℕ → List ℕ
-  set_at j = set_before os ds clusters ((j + 1) * step)
+  abbrev kept_at : ℕ → List ℕ
+  kept_at j = set_before os ds clusters ((j + 1) * step)
 
   pub is_chain : IsChain clusters step (chain_of os ds clusters step)
   is_chain = record {
-    count = length-map (below (clusters / step)) set_at ∙ length-below (clusters / step);
-    sizes = λ j set at. (let b = at_below set_at (clusters / step) j set at in ap length (sym b.1) ∙ set_many os ds clusters noted ((j + 1) * step) (multiple_below clusters step j b.0));
-    rising = λ j set at. (let b = at_below set_at (clusters / step) j set at in subst IsStrictlyIncreasing b.1 (set_rises os ds clusters noted ((j + 1) * step)));
-    clusters = λ j set at. (let b = at_below set_at (clusters / step) j set at in subst (All (λ x. x < clusters)) b.1 (set_within os ds clusters noted ((j + 1) * step)));
+    count = length-map (below (clusters / step)) kept_at ∙ length-below (clusters / step);
+    sizes = λ j set at. (let b = at_below kept_at (clusters / step) j set at in ap length (sym b.1) ∙ set_many os ds clusters noted ((j + 1) * step) (multiple_below clusters step j b.0));
+    rising = λ j set at. (let b = at_below kept_at (clusters / step) j set at in subst IsStrictlyIncreasing b.1 (set_rises os ds clusters noted ((j + 1) * step)));
+    clusters = λ j set at. (let b = at_below kept_at (clusters / step) j set at in subst (All (λ x. x < clusters)) b.1 (set_within os ds clusters noted ((j + 1) * step)));
     nested = λ j set next at after.
-        (let b = at_below set_at (clusters / step) j set at in
-        let a = at_below set_at (clusters / step) (j + 1) next after in
+        (let b = at_below kept_at (clusters / step) j set at in
+        let a = at_below kept_at (clusters / step) (j + 1) next after in
         let more : (j + 1) * step ≤ (j + 1 + 1) * step = mul-le-mul_right step (omega arith) in
-        subst (λ (l : List ℕ). All (Contains l) set) a.1 (subst (All (Contains (set_at (j + 1)))) b.1 (set_grows os ds clusters noted ((j + 1) * step) ((j + 1 + 1) * step) more)));
+        subst (λ (l : List ℕ). All (Contains l) set) a.1 (subst (All (Contains (kept_at (j + 1)))) b.1 (set_grows os ds clusters noted ((j + 1) * step) ((j + 1 + 1) * step) more)));
   }
 
 -- ---- lines
