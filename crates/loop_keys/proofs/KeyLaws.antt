@@ -149,24 +149,24 @@ module _ (g : GraphView) (s : ℕ) (inside : s < length (graph_sites g)) (depend
   abbrev x : SiteAt
   x = (something_at (graph_sites g) s inside).0
 
-  at : slice_get (graph_sites g) s ≡ Some x
-  at = (something_at (graph_sites g) s inside).1
+  there : slice_get (graph_sites g) s ≡ Some x
+  there = (something_at (graph_sites g) s inside).1
 
   depends_is : (v : ℕ) → has depends v ≡ holds_at (depends_on x) (slice_get (graph_variations g) v)
-  depends_is v = its v ∙ ap (holds_at (λ y. holds_at (depends_on y) (slice_get (graph_variations g) v))) at
+  depends_is v = its v ∙ ap (holds_at (λ y. holds_at (depends_on y) (slice_get (graph_variations g) v))) there
 
   slot_is : (u : Option ℕ) → slot_in depends u ≡ slot (graph_variations g) x u
   slot_is None = refl
   slot_is (Some v) = λ i. if depends_is v i then suc (members_counted (depends_on x) (graph_variations g) depends depends_is v i) else 0
 
   pub here_key : (u : Option ℕ) → first + slot_in depends u ≡ key g s u
-  here_key u = let a = slot_is u in let b = key_is g s x u at in omega (arith, next, a, b)
+  here_key u = let a = slot_is u in let b = key_is g s x u there in omega (arith, next, a, b)
 
   -- where the keys of the next site begin
   pub next_first : (count : ℕ) → count ≡ members_below depends 128 → ((v : ℕ) → 128 ≤ v → has depends v ≡ false) → first + (1 + count) ≡ keys_before (graph_variations g) (graph_sites g) (s + 1)
   next_first count e none =
       let a = members_all (depends_on x) (graph_variations g) depends depends_is none in
-      let b = keys_next (graph_variations g) (graph_sites g) s x at in
+      let b = keys_next (graph_variations g) (graph_sites g) s x there in
       rw add-one (omega (arith, next, a, b, e))
 
 -- no sites
@@ -220,11 +220,11 @@ more_rows g v rs each r h qs q =
 -- ---- a variation that isn't there
 
 module _ (g : GraphView) (v : ℕ) (past : length (graph_variations g) ≤ v) where
-  as_nominal : (s : ℕ) → key g s None ≡ key g s (Some v)
-  as_nominal s = grind (arith, slice_get_past)
+  nominal_key : (s : ℕ) → key g s None ≡ key g s (Some v)
+  nominal_key s = grind (arith, slice_get_past)
 
   pub as_nominal_row : (r : Row) → IsRow g None r → IsRow g (Some v) r
-  as_nominal_row r h = grind (arith, as_nominal, slice_get_past)
+  as_nominal_row r h = grind (arith, nominal_key, slice_get_past)
 
 -- ---- the row of nominal or a variation
 
