@@ -69,8 +69,7 @@ all_ended (s ∷ ss) over none =
     All-cons (λ (t : Slot). t.phase ≡ Ended) s ss first.0 (all_ended ss (All-tail (λ (t : Slot). IsTrue (is_over t.phase)) s ss over) first.1)
   where
     is_ended : (p : Phase) (rest : List LoopFault) → IsTrue (is_over p) → fault_of p ++ rest ≡ [] → (p ≡ Ended) × (rest ≡ [])
-    is_ended Ended rest over none = (refl, none)
-    is_ended p rest over none = absurd (cc)
+    is_ended p rest over none = grind arith
 
 -- the clusters of slots that all ended are done
 ended_done : (x : ℕ) (slots : List Slot) → All (λ (s : Slot). s.phase ≡ Ended) slots → All (λ (s : Slot). EndsIn s.drawn s.held s.phase) slots → sum_by (λ (s : Slot). times x (done_of s)) slots ≡ sum_by (λ (s : Slot). times x s.drawn) slots

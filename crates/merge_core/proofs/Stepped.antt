@@ -31,38 +31,28 @@ pub record IsStepped (clusters : ℕ) (m : Machine) (e : Event) (after : Machine
   pub how : How clusters m.next m.bar slot e leaves
 
 claimed : (clusters next bar c : ℕ) (s : Slot) (held : Option ℕ) (l : Left) → claim_next clusters next bar c s held ≡ Ok l → (held ≡ None) × (next < clusters) × (l ≡ left (next + 1) bar (slot_with (s.drawn ++ next ∷ []) (Some next) Running))
-claimed clusters next bar c s None l h = grind (arith, nat_tests)
-claimed clusters next bar c s (Some k) l h = absurd (cc)
+claimed clusters next bar c s held l h = grind (arith, nat_tests)
 
 given_up : (next bar c : ℕ) (s : Slot) (held : Option ℕ) (phase : Phase) (l : Left) → give_up next bar c s held phase ≡ Ok l → (held ≡ Some c) × (l ≡ left next bar (slot_with s.drawn None phase))
-given_up next bar c s None phase l h = absurd (cc)
-given_up next bar c s (Some k) phase l h = grind (arith, nat_tests)
+given_up next bar c s held phase l h = grind (arith, nat_tests)
 
 passed_over : (next bar c : ℕ) (s : Slot) (held : Option ℕ) (l : Left) → pass_over next bar c s held ≡ Ok l → (held ≡ Some c) × (bar ≤ c) × (l ≡ left next bar (slot_with s.drawn None Ended))
-passed_over next bar c s None l h = absurd (cc)
-passed_over next bar c s (Some k) l h = grind (arith, nat_tests)
+passed_over next bar c s held l h = grind (arith, nat_tests)
 
 ended : (clusters next bar : ℕ) (s : Slot) (held : Option ℕ) (l : Left) → end_slot clusters next bar s held ≡ Ok l → (held ≡ None) × (clusters ≤ next) × (l ≡ left next bar (slot_with s.drawn None Ended))
-ended clusters next bar s None l h = grind (arith, nat_tests)
-ended clusters next bar s (Some k) l h = absurd (cc)
+ended clusters next bar s held l h = grind (arith, nat_tests)
 
 how : (clusters next bar : ℕ) (s : Slot) (e : Event) (l : Left) → running_step clusters next bar s e ≡ Ok l → How clusters next bar s e l
 how clusters next bar s e l h = grind (arith, claimed, given_up, passed_over, ended)
 
 running : (i : ℕ) (p : Phase) (r : Result Left StepCause) (l : Left) → if_running i p r ≡ Ok l → (p ≡ Running) × (r ≡ Ok l)
-running i Running r l h = (refl, h)
-running i p r l h = absurd (cc)
+running i p r l h = grind arith
 
 slotted : (m : Machine) (i : ℕ) (r : Result Left StepCause) (after : Machine) → with_slot m i r ≡ Ok after → (l : Left) × (r ≡ Ok l) × (after ≡ changed m i l)
-slotted m i (Err c) after h = absurd (cc)
-slotted m i (Ok l) after h = (l, refl, cc)
+slotted m i r after h = grind arith
 
 stepped_at : (clusters : ℕ) (m : Machine) (e : Event) (after : Machine) (o : Option Slot) → slice_get m.slots (slot_of e) ≡ o → step_of clusters m e o ≡ Ok after → IsStepped clusters m e after
-stepped_at clusters m e after None at h = absurd (cc)
-stepped_at clusters m e after (Some s) at h =
-    let t = slotted m (slot_of e) (if_running (slot_of e) s.phase (running_step clusters m.next m.bar s e)) after h in
-    let r = running (slot_of e) s.phase (running_step clusters m.next m.bar s e) t.0 t.1 in
-    record { slot = s; at = at; runs = r.0; leaves = t.0; is = t.2; how = how clusters m.next m.bar s e t.0 r.1 }
+stepped_at clusters m e after o h k = grind (arith, slotted, running, how)
 
 pub stepped : (clusters : ℕ) (m : Machine) (e : Event) (after : Machine) → claim_step clusters m e ≡ Ok after → IsStepped clusters m e after
 stepped clusters m e after h = stepped_at clusters m e after (slice_get m.slots (slot_of e)) refl h

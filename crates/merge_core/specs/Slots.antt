@@ -1,10 +1,12 @@
--- The slots of the machine as the definitions see them, and what a step answers.
-use Rattle.std.specs.Prelude.{◌≡◌, List, [], None, Result, Ok, Err, map, MatchResult}
+-- The machine and its slots as contracts see them, and what a step and a replay answer.
+use Rattle.std.specs.Prelude.{◌≡◌, ℕ, List, [], None, Result, Ok, Err, map, MatchResult}
 use Rattle.rdf_values.specs.{Ended, Faulted, Left, Machine, Phase, Running, Slot, StepCause}
-use Rattle.merge_core.specs.declared.front.Front.{Front}
-use Rattle.merge_core.specs.declared.phase.Phase.{Phase as CorePhase}
-use Rattle.merge_core.specs.declared.phase.Phase.TheVariants as core
+use Rattle.merge_core.specs.declared.slot.Front.{Front}
+use Rattle.merge_core.specs.declared.slot.Phase.{Phase as CorePhase}
+use Rattle.merge_core.specs.declared.slot.Phase.TheVariants as core
 use Rattle.merge_core.specs.declared.slot.Slot.{Slot as CoreSlot}
+use Rattle.merge_core.specs.declared.refusal.ReplayRefusal.{ReplayRefusal}
+use Rattle.merge_core.specs.declared.refusal.ReplayRefusal.TheVariants as replay
 use Rattle.merge_core.specs.declared.refusal.StepRefusal.{StepRefusal}
 use Rattle.merge_core.specs.declared.refusal.StepRefusal.TheVariants.{Cause, Memory}
 
@@ -39,6 +41,21 @@ Refused wanted Memory = Unit {0}
 abbrev pub Steps : Result Left StepCause → CoreSlot → CoreSlot → Result Front StepRefusal → Type 0
 Steps wanted old new answer = MatchResult answer (λ front. wanted ≡ Ok (left_with front new)) (λ refusal. (new ≡ old) × Refused wanted refusal)
 
+-- the machine over so many clusters
+pub record CoreView : Type 0 where
+  pub clusters : ℕ
+  pub machine : Machine
+
 -- the step of the machine likewise
-abbrev pub StepsAmong : Result Machine StepCause → List CoreSlot → List CoreSlot → Result Front StepRefusal → Type 0
-StepsAmong wanted old new answer = MatchResult answer (λ front. wanted ≡ Ok (seen_machine front new)) (λ refusal. (new ≡ old) × Refused wanted refusal)
+abbrev pub IsStep : Result Machine StepCause → CoreView → CoreView → Result (Unit {0}) StepRefusal → Type 0
+IsStep wanted old new answer =
+    MatchResult answer (λ done. (wanted ≡ Ok new.machine) × (new.clusters ≡ old.clusters)) (λ refusal. (new ≡ old) × Refused wanted refusal)
+
+-- the error is the wanted place and cause, or want of memory
+abbrev pub RefusedAt : Result Machine (ℕ × StepCause) → ReplayRefusal → Type 0
+RefusedAt wanted (replay.At place cause) = wanted ≡ Err (place, cause)
+RefusedAt wanted replay.Memory = Unit {0}
+
+-- over these clusters the machine is the wanted one
+abbrev pub Replays : ℕ → Result Machine (ℕ × StepCause) → Result CoreView ReplayRefusal → Type 0
+Replays clusters wanted answer = MatchResult answer (λ core. (core.clusters ≡ clusters) × (wanted ≡ Ok core.machine)) (λ refusal. RefusedAt wanted refusal)

@@ -2,12 +2,10 @@
 #![tactic(auto)]
 
 pub mod events;
-mod front;
 pub mod laws;
 pub mod machine;
 pub mod merge;
 pub mod noted;
-mod phase;
 pub mod piece;
 pub mod refusal;
 mod slot;

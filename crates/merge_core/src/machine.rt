@@ -1,12 +1,11 @@
 // The machine of events.
 ghost use Rattle.std.specs.Prelude.{◌≡◌, ◌<◌, ◌≤◌, IfOk, length};
 ghost use Rattle.rdf_values.specs.{claim_step, opening};
-ghost use Rattle.merge_core.specs.Cores.{IsStep};
+ghost use Rattle.merge_core.specs.Slots.{IsStep};
 
-use crate::front::Front;
 use crate::refusal::StepRefusal;
-use crate::slot::{Slot, step_among};
-use rdf_values::{Event, Memory};
+use crate::slot::{Front, Slot, slot_of};
+use rdf_values::{Event, Memory, StepCause};
 use std::alloc::Global;
 use std::marker::Model;
 
@@ -20,8 +19,7 @@ pub struct Core {
 
 impl Model for Core {
     ghost use Rattle.std.specs.Prelude.{◌≤◌, ◌<◌, ◌^◌, length};
-    ghost use Rattle.merge_core.specs.Cores.{CoreView};
-    ghost use Rattle.merge_core.specs.Slots.{seen_machine};
+    ghost use Rattle.merge_core.specs.Slots.{CoreView, seen_machine};
 
     ghost Value = { CoreView };
 
@@ -51,12 +49,16 @@ impl Core {
     }
 
     /// One event. After a refusal nothing has changed.
+    #[tactic(auto, using(crate::proofs::Stepping::among))]
     pub fn step(&mut self, event: Event) -> Result<(), StepRefusal>
         ensures { IsStep (claim_step self.old.clusters self.old.machine event) self.old self.new result }
     {
-        let clusters = self.clusters;
-        let front = self.front;
-        self.front = step_among(self.slots.as_mut_slice(), clusters, front, event)?;
+        let number = slot_of(event);
+        if number as usize >= self.slots.len() {
+            let slots = self.slots.len() as u32;
+            return Err(StepRefusal::Cause(StepCause::NoSlot { slots }));
+        }
+        self.front = self.slots[number as usize].step(number, self.clusters, self.front, event)?;
         Ok(())
     }
 }

@@ -7,6 +7,7 @@ use crate::piece::Piece;
 use rdf_values::{ListOf, Memory};
 
 /// The piece of all clusters of the pieces, whatever their order.
+#[tactic(auto, using(crate::proofs::Merging::merged_first))]
 pub fn merge_all<P: Piece>(pieces: ListOf<P>) -> Result<P, Memory>
     requires some { 0 < length pieces }
     requires apart { (job : P.Job) × (sets : List (List ℕ)) × (all : List ℕ) × Stand (P.stands job) sets pieces × IsUnion sets all }

@@ -1,13 +1,26 @@
 // One slot of the machine.
-ghost use Rattle.std.specs.Prelude.{◌≡◌, ◌≤◌, ◌<◌, ◌^◌, length, min};
-ghost use Rattle.rdf_values.specs.{claim_next, claim_step, end_slot, give_up, if_running, pass_over, running_step, slot_of};
-ghost use Rattle.merge_core.specs.{fresh_slot, seen_machine, seen_phase, seen_slot, Steps, StepsAmong};
+ghost use Rattle.std.specs.Prelude.{◌≡◌, ◌≤◌, min};
+ghost use Rattle.rdf_values.specs.{claim_next, end_slot, give_up, if_running, running_step, slot_of};
+ghost use Rattle.merge_core.specs.{fresh_slot, seen_phase, seen_slot, Steps};
 
-use crate::front::Front;
-use crate::phase::Phase;
 use crate::refusal::StepRefusal;
-use rdf_values::{Event, ListOf, StepCause};
+use rdf_values::{Event, Fault, ListOf, StepCause};
 use std::alloc::Global;
+
+/// The next cluster to be drawn, and the bar, at and above which a slot passes its cluster over.
+#[derive(Clone, Copy)]
+pub struct Front {
+    pub next: u32,
+    pub bar: u32,
+}
+
+/// A slot runs until it ends or faults.
+#[derive(Clone, Copy)]
+pub enum Phase {
+    Running,
+    Ended,
+    Faulted(Fault),
+}
 
 /// The clusters that a slot drew, the one that it holds, and whether it goes on.
 #[derive(Drop)]
@@ -65,24 +78,6 @@ impl Slot {
         Ok(after)
     }
 
-    // Passes over the cluster that it holds, where it isn't below the bar, and ends.
-    fn pass_over(&mut self, front: Front, cluster: u32) -> Result<Front, StepRefusal>
-        ensures { Steps (pass_over front.next front.bar cluster (seen_slot self.old) self.old.held) self.old self.new result }
-    {
-        let Some(held) = self.held else {
-            return Err(StepRefusal::Cause(StepCause::NotHeld { held: None }));
-        };
-        if held != cluster {
-            return Err(StepRefusal::Cause(StepCause::NotHeld { held: Some(held) }));
-        }
-        if held < front.bar {
-            return Err(StepRefusal::Cause(StepCause::NotBarred { bar: front.bar }));
-        }
-        self.held = None;
-        self.phase = Phase::Ended;
-        Ok(front)
-    }
-
     // Ends, once every cluster is claimed.
     fn end(&mut self, clusters: u32, front: Front) -> Result<Front, StepRefusal>
         ensures { Steps (end_slot clusters front.next front.bar (seen_slot self.old) self.old.held) self.old self.new result }
@@ -108,21 +103,22 @@ impl Slot {
         ensures { Steps (running_step clusters front.next front.bar (seen_slot self.old) event) self.old self.new result }
     {
         match event {
-            Event::Claim { slot: _, cluster } => self.claim(clusters, front, cluster),
-            Event::Finish { slot: _, cluster } => self.give_up(front, cluster, Phase::Running),
-            Event::Fault {
-                slot: _,
-                cluster,
-                fault,
-            } => {
+            Event::Claim { cluster, .. } => self.claim(clusters, front, cluster),
+            Event::Finish { cluster, .. } => self.give_up(front, cluster, Phase::Running),
+            Event::Fault { cluster, fault, .. } => {
                 let lowered = Front {
                     next: front.next,
                     bar: front.bar.min(cluster),
                 };
                 self.give_up(lowered, cluster, Phase::Faulted(fault))
             }
-            Event::Skip { slot: _, cluster } => self.pass_over(front, cluster),
-            Event::End { slot: _ } => self.end(clusters, front),
+            Event::Skip { cluster, .. } => match self.held {
+                Some(held) if held == cluster && held < front.bar => {
+                    Err(StepRefusal::Cause(StepCause::NotBarred { bar: front.bar }))
+                }
+                _ => self.give_up(front, cluster, Phase::Ended),
+            },
+            Event::End { .. } => self.end(clusters, front),
         }
     }
 
@@ -139,46 +135,20 @@ impl Slot {
     {
         match self.phase {
             Phase::Running => self.running_step(clusters, front, event),
-            Phase::Ended => Err(StepRefusal::Cause(StepCause::Stopped { slot: number })),
-            Phase::Faulted(_) => Err(StepRefusal::Cause(StepCause::Stopped { slot: number })),
+            _ => Err(StepRefusal::Cause(StepCause::Stopped { slot: number })),
         }
     }
 }
 
-// The slot of an event.
-fn slot_of(event: Event) -> u32
+/// The slot of an event.
+pub fn slot_of(event: Event) -> u32
     ensures { result ≡ slot_of event }
 {
     match event {
-        Event::Claim { slot, cluster: _ } => slot,
-        Event::Finish { slot, cluster: _ } => slot,
-        Event::Fault {
-            slot,
-            cluster: _,
-            fault: _,
-        } => slot,
-        Event::Skip { slot, cluster: _ } => slot,
-        Event::End { slot } => slot,
+        Event::Claim { slot, .. }
+        | Event::Finish { slot, .. }
+        | Event::Fault { slot, .. }
+        | Event::Skip { slot, .. }
+        | Event::End { slot } => slot,
     }
-}
-
-/// An event of the slots: how far they have come then.
-#[tactic(auto, using(crate::proofs::Stepping::among))]
-pub fn step_among(
-    slots: &mut [Slot],
-    clusters: u32,
-    front: Front,
-    event: Event,
-) -> Result<Front, StepRefusal>
-    requires few { length slots.old < 2 ^ 32 }
-    requires next { front.next ≤ clusters }
-    ensures { StepsAmong (claim_step clusters (seen_machine front slots.old) event) slots.old slots.new result }
-{
-    let number = slot_of(event);
-    if number as usize >= slots.len() {
-        return Err(StepRefusal::Cause(StepCause::NoSlot {
-            slots: slots.len() as u32,
-        }));
-    }
-    slots[number as usize].step(number, clusters, front, event)
 }
