@@ -1,13 +1,9 @@
 -- Counts of filters.
-use Rattle.std.specs.Prelude.{ℕ, ◌<◌, ◌≤◌, ◌+◌, ◌^◌, Bool, List, [], ◌∷◌, length, slice_index_or, if◌then◌else◌}
+use Rattle.std.specs.Prelude.{ℕ, ◌<◌, ◌≤◌, ◌+◌, ◌^◌, List, [], ◌∷◌, length, slice_index_or}
 use Rattle.loop_pieces.specs.declared.flow.Counts.{Counts}
 
 abbrev pub nothing : Counts
 nothing = record { all = 0; pass = 0 }
-
--- one more entry reached it, and passed it or not
-abbrev pub noted : Bool → Counts → Counts
-noted passed c = record { all = c.all + 1; pass = if passed then c.pass + 1 else c.pass }
 
 -- the counts of both
 abbrev pub both : Counts → Counts → Counts
@@ -23,10 +19,6 @@ added (a ∷ xs) (b ∷ ys) = both a b ∷ added xs ys
 pub record AreCounts (c : Counts) : Type 0 where
   pub few : c.all ≤ 2 ^ 32
   pub pass : c.pass ≤ c.all
-
--- fewer than 2^32 entries are noted of the filter
-abbrev pub HasRoom : List Counts → ℕ → Type 0
-HasRoom flow filter = (slice_index_or flow filter nothing).all < 2 ^ 32
 
 -- both together have noted at most 2^32 entries of each filter
 abbrev pub HaveRoom : List Counts → List Counts → Type 0

@@ -1,7 +1,7 @@
 // Counts of named filters.
-ghost use Rattle.std.specs.Prelude.{◌≡◌, ◌<◌, ◌≤◌, ◌+◌, ◌^◌, ℕ, All, IfOk, Some, length, replicate, slice_get, slice_set, slice_index_or};
+ghost use Rattle.std.specs.Prelude.{◌≡◌, ◌<◌, ◌≤◌, ◌+◌, ◌^◌, All, IfOk, Some, length, replicate, slice_get, slice_set, slice_index_or};
 ghost use Rattle.loop_pieces.specs.declared.flow.Counts.{Counts};
-ghost use Rattle.loop_pieces.specs.Flows.{AreCounts, HasRoom, HaveRoom, added, both, noted, nothing};
+ghost use Rattle.loop_pieces.specs.Flows.{AreCounts, HaveRoom, added, both, nothing};
 
 use rdf_values::Memory;
 use std::alloc::Global;
@@ -61,26 +61,6 @@ impl Flow {
             counts.push(Counts { all: 0, pass: 0 })?;
         }
         Ok(Flow { counts })
-    }
-
-    /// How many filters there are.
-    pub fn filters(&self) -> usize
-        ensures { result ≡ length self.now }
-    {
-        self.counts.len()
-    }
-
-    /// An entry reached the filter, and passed it or not.
-    pub fn note(&mut self, filter: u32, passed: bool)
-        requires filter { filter < length self.old }
-        requires room { HasRoom self.old filter }
-        ensures { self.new ≡ slice_set self.old filter (noted passed (slice_index_or self.old filter nothing)) }
-    {
-        let counts = &mut self.counts[filter as usize];
-        counts.all += 1;
-        if passed {
-            counts.pass += 1;
-        }
     }
 
     /// So many entries more reached the filter, and so many of them passed it.

@@ -2,13 +2,10 @@
 //! The counts of a cutflow too. It stands on `actions` and `merge_core`.
 #![tactic(auto)]
 
-pub mod accs;
 pub mod filled_result;
 pub mod flow;
-pub mod joining;
 pub mod laws;
 pub mod loop_piece;
-pub mod watch_joining;
 pub mod watch_piece;
 
 pub use crate::filled_result::{FilledResult, PartialLine, PartialLines};

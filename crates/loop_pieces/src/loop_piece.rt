@@ -1,11 +1,15 @@
-// Pieces of a loop.
-ghost use Rattle.std.specs.Prelude.{◌≡◌, ◌<◌, Some, [], slice_get, slice_set, vec_len};
+// Pieces of a loop, and their joining.
+ghost use Rattle.std.specs.Prelude.{◌≡◌, ◌<◌, ℕ, List, [], ◌∷◌, OnOk, Some, slice_get, slice_set, vec_len};
+ghost use Rattle.rdf_values.specs.{IsUnion};
+ghost use Rattle.rdf_model.specs.declared.loop_facts.LoopFacts.{LoopFacts};
+ghost use Rattle.loop_pieces.specs.LoopPieces.{AreMerged, CanMerge, StandsFor};
 
 use crate::flow::Flow;
 use crate::watch_piece::WatchPiece;
 use actions::Acc;
-use merge_core::Trail;
-use rdf_values::ListOf;
+use merge_core::{Piece, Trail};
+use rdf_model::LoopFacts;
+use rdf_values::{ListOf, Memory};
 use std::alloc::Global;
 use std::mem;
 
@@ -42,5 +46,38 @@ impl LoopPiece {
         ensures flow { self.new.flow ≡ self.old.flow }
     {
         mem::replace(&mut self.trails[watched as usize], ListOf::new(alloc))
+    }
+}
+
+// Takes into each accumulator what the other one of its place was fed.
+fn merge_accs(mine: &mut [Acc], theirs: &[Acc]) -> Result<(), Memory>
+    requires { CanMerge mine.old theirs.now }
+    ensures { OnOk result (AreMerged mine.old theirs.now mine.new) }
+{
+    for i in 0..mine.len() {
+        mine[i].merge(&theirs[i])?;
+    }
+    Ok(())
+}
+
+impl Piece for LoopPiece {
+    type Job = LoopFacts;
+
+    ghost stands = { StandsFor };
+
+    /// The trails are dropped.
+    fn join(&mut self, other: LoopPiece) -> Result<(), Memory>
+        requires { (job : LoopFacts) × (mine theirs all : List ℕ) × StandsFor job mine self.old × StandsFor job theirs other × IsUnion (mine ∷ theirs ∷ []) all }
+        ensures stands { (job : LoopFacts) (mine theirs all : List ℕ) → StandsFor job mine self.old → StandsFor job theirs other → IsUnion (mine ∷ theirs ∷ []) all → OnOk result (StandsFor job all self.new) }
+        ensures trails { self.new.trails.items ≡ [] }
+    {
+        let LoopPiece {
+            accs,
+            flow,
+            trails: _,
+        } = other;
+        self.trails.clear();
+        self.flow.merge(&flow);
+        merge_accs(self.accs.as_mut_slice(), accs.as_slice())
     }
 }

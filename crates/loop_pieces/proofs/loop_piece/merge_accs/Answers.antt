@@ -1,7 +1,7 @@
 use Rattle.std.proofs.Common.{◌∙◌, arith}
 use Rattle.std.proofs.lemmas.List.{length-set}
 use Rattle.loop_pieces.proofs.Joined.{IsBefore, left_next, done_next}
-use Rattle.loop_pieces.proofs.accs.merge_accs.Goals as goal
+use Rattle.loop_pieces.proofs.loop_piece.merge_accs.Goals as goal
 
 pub loop-i-preserved : goal.loop-i-preserved
 loop-i-preserved c =

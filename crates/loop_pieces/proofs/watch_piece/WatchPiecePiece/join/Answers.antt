@@ -1,5 +1,5 @@
 use Rattle.loop_pieces.proofs.WatchLemmas.{can_add, watch_joined}
-use Rattle.loop_pieces.proofs.watch_joining.WatchPiecePiece.join.Goals as goal
+use Rattle.loop_pieces.proofs.watch_piece.WatchPiecePiece.join.Goals as goal
 
 pub add-requires : goal.add-requires
 add-requires c =
