@@ -24,6 +24,11 @@ CanWatch (ActionKind.Min c) = ⊤
 CanWatch (ActionKind.Max c) = ⊤
 CanWatch k = ⊥
 
+-- a watcher's accumulator is of its kind, which can be watched
+pub record IsWatcher (k : ActionKind) (acc : Accumulator) : Type 0 where
+  pub its_kind : acc.kind ≡ k
+  pub watch : CanWatch k
+
 -- an accumulator of an action pass, which was fed what clusters and the first n entries of another feed to the pass
 pub record IsFedBy (f : LoopFacts) (done : List ℕ) (cluster n i : ℕ) (acc : Accumulator) : Type 0 where
   pub fed : HasFed acc (fed_by f done cluster n i)

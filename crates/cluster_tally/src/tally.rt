@@ -5,8 +5,7 @@ ghost use Rattle.rdf_model.specs.declared.loop_facts.LoopFacts.{LoopFacts};
 ghost use Rattle.actions.specs.{Accumulator, EachPlace, Fed, HasEdges, HasFed, HasValues, IsTake};
 ghost use Rattle.loop_pieces.specs.{HaveTrails, nothing, StandsFor};
 ghost use Rattle.cluster_tally.specs.Blocks.{BlockStage, CanFeedBatch, CanNoteCounts, CanTakeIn, HoldsIn, TookIn, TookInIfThere, filter_done, pass_done};
-ghost use Rattle.cluster_tally.specs.Closings.{noted_all, noted_at, renewed, times_there};
-ghost use Rattle.cluster_tally.specs.Feedings.{IsAtEnd, IsFresh, acc_if, place_if, with_trail};
+ghost use Rattle.cluster_tally.specs.Feedings.{IsAtEnd, IsFresh, acc_if, noted_all, noted_at, place_if, renewed, times_there, with_trail};
 ghost use Rattle.cluster_tally.specs.Stages.{Stage, at_begin};
 ghost use Rattle.cluster_tally.specs.Tallies.{CanWatch, Holds, places_there};
 

@@ -23,7 +23,7 @@ pub struct Watcher {
 impl Model for Watcher {
     ghost use Rattle.std.specs.Prelude.{◌≡◌};
     ghost use Rattle.actions.specs.{Accumulator};
-    ghost use Rattle.cluster_tally.specs.Watchers.{IsWatcher};
+    ghost use Rattle.cluster_tally.specs.Tallies.{IsWatcher};
 
     ghost Value = { Accumulator };
 
