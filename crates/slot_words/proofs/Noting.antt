@@ -5,7 +5,7 @@ use Rattle.lemmas.proofs.{All-head, All-map, All-tail, common_steps, IsNonDecrea
 use Rattle.merge_core.specs.{Noted, Stand}
 use Rattle.rdf_values.specs.{IsUnion, times, below, once_below}
 use Rattle.rdf_values.proofs.UnionLemmas.{times_cons, times_self, times_permuted, one_if, sum_by-map, times_below, times_contains, permuted_by_counts, inside_once, below_rises, all_below, times_filter, rises_from, same_rising, by_counts, both_rise, two, length-below, slice_get-below}
-use Rattle.slot_words.specs.{AreAlone, AreOf, cluster_in, piece_in, added, AsManyAsTheBound, chosen, HaveNumbers, HigherBoundKeeps, is_between, kept, numbered, AreNoted, AreTrails, noted_before, set_before, WatchedPlace, chain_of}
+use Rattle.slot_words.specs.{AreAlone, AreLinesSoFar, AreOf, cluster_in, piece_in, added, AsManyAsTheBound, chosen, HaveNumbers, HigherBoundKeeps, is_between, kept, numbered, AreNoted, AreTrails, noted_before, set_before, WatchedPlace, chain_of}
 use Rattle.rdf_model.specs.declared.loop_facts.LoopFacts.{LoopFacts}
 use Rattle.loop_pieces.specs.{watch_facts, WatchPiece, WatchStandsFor, ArePartialLines, IsPartialLine, PartialLine}
 use Rattle.slot_words.proofs.Joining.{stands_there}
@@ -273,20 +273,20 @@ pub at_below : {A : Type 0} (f : ℕ → A) (n j : ℕ) (x : A) → slice_get (m
 at_below f n j x h = grind (arith, slice_get_within, length-map, length-below, same_some, slice_get-map, slice_get-below)
 
 module _ (os ds : List (List ℕ)) (clusters step : ℕ) (noted : AreNoted os ds clusters) where
-  abbrev kept_at : ℕ → List ℕ
-  kept_at j = set_before os ds clusters ((j + 1) * step)
+  abbrev set_after : ℕ → List ℕ
+  set_after j = set_before os ds clusters ((j + 1) * step)
 
   pub is_chain : IsChain clusters step (chain_of os ds clusters step)
   is_chain = record {
-    count = length-map (below (clusters / step)) kept_at ∙ length-below (clusters / step);
-    sizes = λ j set at. (let b = at_below kept_at (clusters / step) j set at in ap length (sym b.1) ∙ set_many os ds clusters noted ((j + 1) * step) (multiple_below clusters step j b.0));
-    rising = λ j set at. (let b = at_below kept_at (clusters / step) j set at in subst IsStrictlyIncreasing b.1 (set_rises os ds clusters noted ((j + 1) * step)));
-    clusters = λ j set at. (let b = at_below kept_at (clusters / step) j set at in subst (All (λ x. x < clusters)) b.1 (set_within os ds clusters noted ((j + 1) * step)));
+    count = length-map (below (clusters / step)) set_after ∙ length-below (clusters / step);
+    sizes = λ j set at. (let b = at_below set_after (clusters / step) j set at in ap length (sym b.1) ∙ set_many os ds clusters noted ((j + 1) * step) (multiple_below clusters step j b.0));
+    rising = λ j set at. (let b = at_below set_after (clusters / step) j set at in subst IsStrictlyIncreasing b.1 (set_rises os ds clusters noted ((j + 1) * step)));
+    clusters = λ j set at. (let b = at_below set_after (clusters / step) j set at in subst (All (λ x. x < clusters)) b.1 (set_within os ds clusters noted ((j + 1) * step)));
     nested = λ j set next at after.
-        (let b = at_below kept_at (clusters / step) j set at in
-        let a = at_below kept_at (clusters / step) (j + 1) next after in
+        (let b = at_below set_after (clusters / step) j set at in
+        let a = at_below set_after (clusters / step) (j + 1) next after in
         let more : (j + 1) * step ≤ (j + 1 + 1) * step = mul-le-mul_right step (omega arith) in
-        subst (λ (l : List ℕ). All (Contains l) set) a.1 (subst (All (Contains (kept_at (j + 1)))) b.1 (set_grows os ds clusters noted ((j + 1) * step) ((j + 1 + 1) * step) more)));
+        subst (λ (l : List ℕ). All (Contains l) set) a.1 (subst (All (Contains (set_after (j + 1)))) b.1 (set_grows os ds clusters noted ((j + 1) * step) ((j + 1 + 1) * step) more)));
   }
 
 -- ---- lines
@@ -308,9 +308,12 @@ module _ (facts : LoopFacts) (place : ℕ) where
   line_in (s ∷ ss) (m ∷ ms) zero set l h at there = grind arith
   line_in (s ∷ ss) (m ∷ ms) (suc j) set l h at there = line_in ss ms j set l h.1 at there
 
-  -- the last of the lines so far
-  pub last_line : (g : ℕ → List ℕ) (step n : ℕ) (ls : List PartialLine) (l : PartialLine) → ArePartialLines facts place (map (λ j. g ((j + 1) * step)) (below n)) ls → 0 < n → slice_get ls (n - 1) ≡ Some l → IsPartialLine facts place (g (n * step)) l
-  last_line g step n ls l h some there =
-      let f = λ (j : ℕ). g ((j + 1) * step) in
-      let same : n - 1 + 1 ≡ n = omega arith in
-      subst (λ (k : ℕ). IsPartialLine facts place (g (k * step)) l) same (line_in (map f (below n)) ls (n - 1) (f (n - 1)) l h (slice_get-map f (below n) (n - 1) ∙ ap (option_map f) (slice_get-below n (n - 1) (omega arith))) there)
+-- the last of the lines so far
+pub line_before : (os : List (List ℕ)) (clusters : ℕ) (ts : List (List (Noted WatchPiece))) (w : WatchedPlace os clusters ts) (step : ℕ) (ls : List PartialLine) (l : PartialLine) → AreLinesSoFar os clusters w.facts w.place w.dones step ls
+    → (length ls ≡ 0 → ⊥) → l ≡ get_or ls (length ls - 1) l → IsPartialLine w.facts w.place (set_at os clusters ts w (length ls * step)) l
+line_before os clusters ts w step ls l so_far some is =
+    let n = length ls in
+    let f = λ (j : ℕ). set_before os w.dones clusters ((j + 1) * step) in
+    let same : n - 1 + 1 ≡ n = omega arith in
+    subst (λ (k : ℕ). IsPartialLine w.facts w.place (set_at os clusters ts w (k * step)) l) same (line_in w.facts w.place (map f (below n)) ls (n - 1) (f (n - 1)) l so_far.are
+    (slice_get-map f (below n) (n - 1) ∙ ap (option_map f) (slice_get-below n (n - 1) (omega arith))) (slice_get-get_or ls (n - 1) l (omega arith) ∙ ap Some (sym is)))

@@ -33,20 +33,20 @@ module _ (clusters b : ℕ) (h : ClaimHand) (rest : List ClaimHand) (c : IsBarre
   theirs = All-tail (IsOver b) h rest c.each
 
   pub draw_barred : (n : ℕ) → h.passed ≡ None → IsBarred clusters b (draw h n ∷ rest)
-  draw_barred n unset =
-      let over : (kept : Option ℕ) (drawn : List ℕ) → IsOver b record h { drawn = drawn; kept = kept; looked = None } = λ kept drawn. record { looked = tt; passed = rw unset tt; lowered = mine.lowered } in
+  draw_barred n unpassed =
+      let over : (kept : Option ℕ) (drawn : List ℕ) → IsOver b record h { drawn = drawn; kept = kept; looked = None } = λ kept drawn. record { looked = tt; passed = rw unpassed tt; lowered = mine.lowered } in
       drawn_hand (λ g. IsBarred clusters b (g ∷ rest)) h n
       (λ _. record { most = c.most; least = c.least; each = All-cons (IsOver b) _ rest (over _ _) theirs })
       (λ _. record { most = c.most; least = c.least; each = All-cons (IsOver b) _ rest (over _ _) theirs })
 
   pub look_barred : h.passed ≡ None → 0 < length h.drawn → IsBarred clusters b (look h b ∷ rest)
-  look_barred unset some_drawn = record { most = c.most; least = c.least; each = All-cons (IsOver b) (look h b) rest record { looked = omega arith; passed = passed; lowered = mine.lowered } theirs }
+  look_barred unpassed some_drawn = record { most = c.most; least = c.least; each = All-cons (IsOver b) (look h b) rest record { looked = omega arith; passed = passed; lowered = mine.lowered } theirs }
     where
       passed : Passes b h.drawn (look h b).passed
-      passed = cond_both (ltb (last_of h.drawn) b) h.passed (Some (last_of h.drawn)) (Passes b h.drawn) (λ _. rw unset tt) (λ f. (ltb-false (last_of h.drawn) b f, some_drawn, refl))
+      passed = cond_both (ltb (last_of h.drawn) b) h.passed (Some (last_of h.drawn)) (Passes b h.drawn) (λ _. rw unpassed tt) (λ f. (ltb-false (last_of h.drawn) b f, some_drawn, refl))
 
   pub lower_barred : (n : ℕ) → h.lowered ≡ None → IsBarred clusters (min b n) (lower h n ∷ rest)
-  lower_barred n unset = record {
+  lower_barred n unlowered = record {
     most = (let m = c.most in omega arith);
     least = λ less. ⊎_elim
         (λ (lt : n < b). let is : n ≡ min b n = omega arith in (0, omega arith, ap Some is))

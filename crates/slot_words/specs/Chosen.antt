@@ -1,6 +1,7 @@
--- The entries of trails by their numbers.
-use Rattle.std.specs.Prelude.{◌≡◌, ℕ, List, [], ◌∷◌, ◌++◌, ◌&&◌, length, map, Bool, nat_le, nat_lt}
+-- The entries of trails by their numbers, and laws of those with a number less than a bound.
+use Rattle.std.specs.Prelude.{◌≡◌, ◌≤◌, ℕ, List, [], ◌∷◌, ◌++◌, ◌&&◌, length, map, Bool, nat_le, nat_lt}
 use Rattle.std.specs.List.{All, filter, zip}
+use Rattle.rdf_values.specs.{DrawnBy, times}
 use Rattle.merge_core.specs.{Noted}
 
 -- the cluster of an entry
@@ -49,3 +50,15 @@ AreAlone stands entries = All (λ n. stands (n.cluster ∷ []) n.piece) entries
 pub record AreOf {P : Type 0} (clusters : List ℕ) (pieces : List P) (entries : List (Noted P)) : Type 0 where
   pub clusters_are : clusters ≡ map cluster_in entries
   pub pieces_are : pieces ≡ map piece_in entries
+
+-- ---- laws
+
+-- where the numbers below m were drawn, as many entries have a number less than a bound as the bound says
+abbrev pub AsManyAsTheBound : Type 0 → Type 0
+AsManyAsTheBound A = (orders : List (List ℕ)) (trails : List (List A)) (m bound : ℕ)
+    → DrawnBy orders m → HaveNumbers orders trails → bound ≤ m → length (chosen orders bound trails) ≡ bound
+
+-- a higher bound leaves no entry out
+abbrev pub HigherBoundKeeps : Type 0 → Type 0
+HigherBoundKeeps P = (orders : List (List ℕ)) (trails : List (List (Noted P))) (low high c : ℕ)
+    → low ≤ high → times c (map cluster_in (chosen orders low trails)) ≤ times c (map cluster_in (chosen orders high trails))

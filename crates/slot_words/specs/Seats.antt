@@ -1,4 +1,4 @@
--- What contracts see of the claims and of a seat.
+-- What contracts see of the claims and of a seat; how a slot's seat begins, and how it ends where no fault was met.
 use Rattle.std.specs.Prelude.{◌≡◌, ℕ, List, [], ◌∷◌, ◌++◌, Option, None, Some, map, min, ◌+◌, ◌-◌, length, slice_index, ◌<◌, ◌≤◌, nat_lt, if◌then◌else◌, IfSome, IsSomeAnd}
 use Rattle.std.specs.List.{All, Contains, range_with_len, sum_by}
 use Rattle.atomic_table.specs.Seated.{TableId}
@@ -97,3 +97,25 @@ IsPassed b s = IfSome s.passed (λ p. (b ≤ p) × (0 < length s.drawn) × (p �
 -- the claim word ended at w: it counts the clusters that were drawn, and one number past them for each seat that kept one
 abbrev pub IsCounted : ℕ → List SeatSeen → ℕ → Type 0
 IsCounted clusters seats w = w ≡ min w clusters + sum_by (λ s. kept_count s.kept) seats
+
+-- ---- its begin and end
+
+-- a seat of these claims that did nothing
+pub record IsReady (c : ClaimsSeen) (s : SeatSeen) : Type 0 where
+  pub of : IsOf c s
+  pub undrawn : s.drawn ≡ []
+  pub unkept : s.kept ≡ None
+  pub unpassed : s.passed ≡ None
+  pub unlowered : s.lowered ≡ None
+
+-- no number is left that is a cluster, and the slot finished all that it drew
+pub record RanOut (c : ClaimsSeen) (seat : SeatSeen) (done : List ℕ) : Type 0 where
+  pub all : seat.drawn ≡ done
+  pub past : IsSomeAnd seat.kept (λ k. c.clusters ≤ k)
+
+-- the slot passed the last cluster over that it drew, and finished all others
+pub record MetBar (c : ClaimsSeen) (seat : SeatSeen) (done : List ℕ) : Type 0 where
+  pub last : ℕ
+  pub cluster : last < c.clusters
+  pub others : seat.drawn ≡ done ++ last ∷ []
+  pub passed : seat.passed ≡ Some last

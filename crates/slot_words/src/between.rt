@@ -5,7 +5,7 @@ ghost use Rattle.std.specs.List.Sorted.{IsStrictlyIncreasing};
 ghost use Rattle.rdf_values.specs.{times};
 ghost use Rattle.slot_words.specs.{added, added_in, AreAlone, cluster_in, HaveNumbers, piece_in};
 
-use crate::orders::Orders;
+use crate::book::Orders;
 use merge_core::{Noted, Piece, TrailList, merge_all};
 use rdf_values::{ListOf, Memory};
 use std::alloc::Global;

@@ -6,7 +6,6 @@ ghost use Rattle.rdf_values.specs.{DrawnBy};
 ghost use Rattle.slot_words.specs.Shares.{IsOf, fresh_shares, hand_with, with_number, many_in};
 
 use crate::hand::NoteHands;
-use crate::orders::Orders;
 use crate::rule::{Deal, Enter, Gather, Note, NoteRule};
 use crate::share::{Share, ShareList};
 use atomic_table::{Seat, Table};
@@ -31,6 +30,12 @@ impl Model for Book {
     ghost view = { λ b. record { table = b.table.shared.table_id; clusters = b.clusters; slots = b.slots } };
 
     ghost invariant = { λ b. (b.table.shared.key ≡ (b.clusters, b.slots)) × (b.table.shared.table_id.words ≡ 1) × (b.table.shared.table_id.slots ≡ 0) };
+}
+
+/// The numbers that each slot's share drew, in the order of the slots.
+#[derive(Drop)]
+pub struct Orders {
+    pub slots: ListOf<ListOf<u64>>,
 }
 
 // A share with room for all numbers.
@@ -93,21 +98,12 @@ impl Book {
         ensures orders { IfOk result (λ orders. orders.slots ≡ map (λ s. s.numbers) shares) }
         ensures drawn { OnOk result (DrawnBy (map (λ s. s.numbers) shares) (many_in (map (λ s. s.numbers) shares))) }
     {
-        let Book {
-            table,
-            clusters: _,
-            slots: _,
-        } = self;
+        let Book { table, .. } = self;
         let (_, mut all) = table.shared.load_new_seat::<Enter>(0);
         let mut lists = Vec::new(alloc);
         let mut left = shares.into_vec();
         while let Some(next) = left.pop() {
-            let Share {
-                slot: _,
-                clusters: _,
-                numbers,
-                seat,
-            } = next;
+            let Share { numbers, seat, .. } = next;
             lists.push(ListOf::from_vec(numbers))?;
             table.shared.join_seat::<Gather>(&mut all, seat);
         }

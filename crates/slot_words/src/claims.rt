@@ -6,7 +6,6 @@ ghost use Rattle.std.specs.List.Sorted.{IsStrictlyIncreasing};
 ghost use Rattle.rdf_values.specs.{DrawnBy};
 ghost use Rattle.slot_words.specs.Seats.{IsOf, fresh_seats, last_of, with_lowered, IsPast, IsPassedOver, IsCounted, IsLeast, IsPassed};
 
-use crate::drawn::Drawn;
 use crate::hand::ClaimHands;
 use crate::rule::{ClaimRule, Deal, Draw, Enter, Gather, Look, Lower};
 use crate::seat::{ClaimSeat, SeatList};
@@ -32,6 +31,14 @@ impl Model for Claims {
     ghost view = { λ c. record { table = c.table.shared.table_id; clusters = c.clusters; slots = c.slots } };
 
     ghost invariant = { λ c. (c.table.shared.key ≡ (c.clusters, c.slots)) × (c.table.shared.table_id.words ≡ 2) × (c.table.shared.table_id.slots ≡ 0) };
+}
+
+/// The last values of the claim word and of the bar.
+#[derive(Clone, Copy, Debug, PartialEq, Eq)]
+pub struct Drawn {
+    /// How many numbers were drawn, those past the clusters included.
+    pub word: u64,
+    pub bar: u32,
 }
 
 impl Claims {
@@ -98,15 +105,11 @@ impl Claims {
         ensures passed { All (IsPassed result.bar) seats }
         ensures kept { All (λ s. IfSome s.kept (λ k. (self.clusters ≤ k) × (k < result.word))) seats }
     {
-        let Claims {
-            table,
-            clusters: _,
-            slots: _,
-        } = self;
+        let Claims { table, .. } = self;
         let (_, mut all) = table.shared.load_new_seat::<Enter>(0);
         let mut left = seats.into_vec();
         while let Some(next) = left.pop() {
-            let ClaimSeat { slot: _, seat } = next;
+            let ClaimSeat { seat, .. } = next;
             table.shared.join_seat::<Gather>(&mut all, seat);
         }
         let closed = table.close_with(all);

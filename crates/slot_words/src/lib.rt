@@ -6,24 +6,17 @@
 pub mod between;
 pub mod book;
 pub mod claims;
-pub mod drawn;
 pub mod hand;
-pub mod interval;
 pub mod laws;
 pub mod lines;
-pub mod orders;
 mod rule;
 mod runs;
 pub mod seat;
 pub mod share;
-mod trails;
 
 pub use crate::between::{PartialPiece, partial_between};
-pub use crate::book::Book;
-pub use crate::claims::Claims;
-pub use crate::drawn::Drawn;
-pub use crate::interval::stride;
+pub use crate::book::{Book, Orders};
+pub use crate::claims::{Claims, Drawn};
 pub use crate::lines::partial_lines;
-pub use crate::orders::Orders;
 pub use crate::seat::{ClaimSeat, SeatList};
 pub use crate::share::{Share, ShareList};

@@ -1,51 +1,47 @@
 // The partial results of watched results.
-ghost use Rattle.std.specs.Prelude.{◌≡◌, ◌<◌, ◌≤◌, ℕ, List, IfOk, OnOk, length};
+ghost use Rattle.std.specs.Prelude.{◌≡◌, ◌+◌, ◌*◌, ◌<◌, ◌≤◌, ℕ, All, List, IfOk, OnOk, length};
+ghost use Rattle.rdf_values.specs.{stride};
 ghost use Rattle.rdf_model.specs.declared.loop_facts.LoopFacts.{LoopFacts};
 ghost use Rattle.loop_pieces.specs.{ArePartialLines, IsPartialLine};
-ghost use Rattle.slot_words.specs.{AreNoted, chain_of, HaveAllTrails, HavePartialsOver, HaveSameBodies, IsBound, noted_sets, set_before, WatchedPlace};
+ghost use Rattle.slot_words.specs.{AreLeft, AreLinesSoFar, AreNoted, AreTaken, chain_of, HaveAllTrails, HavePartialsOver, HaveSameBodies, noted_sets, set_before, WatchedPlace};
 
 use crate::between::partial_between;
-use crate::interval::stride;
-use crate::orders::Orders;
+use crate::book::Orders;
 use crate::runs::runs_with;
-use crate::trails::taken_trails;
 use loop_pieces::{LoopPiece, PartialLine, WatchPiece};
 use merge_core::{Piece, TrailList};
 use rdf_values::{ListOf, Memory};
 use std::alloc::Global;
 
-// What a watched result comes to over the clusters with a number less than a bound.
-fn first_line(
-    alloc: Global,
-    orders: &Orders,
-    trails: &TrailList<WatchPiece>,
-    below: u32,
-) -> Result<PartialLine, Memory>
-    requires noted { (clusters : ℕ) × WatchedPlace orders.now.slots clusters trails.now × IsBound below clusters }
-    ensures { (clusters : ℕ) (w : WatchedPlace orders.now.slots clusters trails.now) → IsBound below clusters → IfOk result (IsPartialLine w.facts w.place (set_before orders.now.slots w.dones clusters below)) }
+// After how many clusters the next partial result comes: after k, and after more where there would be over 1000 of them.
+fn stride(clusters: u32, k: u32) -> u32
+    ensures { result ≡ stride clusters k }
 {
-    let chosen = partial_between(alloc, orders, 0, below as u64, trails)?;
-    Ok(PartialLine {
-        runs: runs_with(alloc, &[], chosen.clusters.as_slice())?,
-        value: chosen.piece,
-    })
+    k.max(clusters.div_ceil(1000))
 }
 
-// The line after one with a lower bound: only the clusters whose number is between both are gone through.
+// The line after those so far: it has the clusters of the last one, where there is one, and those with the next `step` numbers, which alone are gone through.
 fn next_line(
     alloc: Global,
     orders: &Orders,
     trails: &TrailList<WatchPiece>,
-    before: &PartialLine,
-    low: u32,
-    below: u32,
+    lines: &[PartialLine],
+    step: u32,
 ) -> Result<PartialLine, Memory>
-    requires bounds { low < below }
-    requires noted { (clusters : ℕ) × (w : WatchedPlace orders.now.slots clusters trails.now) × IsBound below clusters × IsPartialLine w.facts w.place (set_before orders.now.slots w.dones clusters low) before.now }
-    ensures { (clusters : ℕ) (w : WatchedPlace orders.now.slots clusters trails.now) → IsBound below clusters
-        → IsPartialLine w.facts w.place (set_before orders.now.slots w.dones clusters low) before.now → IfOk result (IsPartialLine w.facts w.place (set_before orders.now.slots w.dones clusters below)) }
+    requires step { 0 < step }
+    requires noted { (clusters : ℕ) × (w : WatchedPlace orders.now.slots clusters trails.now) × AreLinesSoFar orders.now.slots clusters w.facts w.place w.dones step lines.now }
+    ensures { (clusters : ℕ) (w : WatchedPlace orders.now.slots clusters trails.now) → AreLinesSoFar orders.now.slots clusters w.facts w.place w.dones step lines.now
+        → IfOk result (IsPartialLine w.facts w.place (set_before orders.now.slots w.dones clusters ((length lines.now + 1) * step))) }
 {
-    let more = partial_between(alloc, orders, low as u64, below as u64, trails)?;
+    let count = lines.len();
+    let low = count as u32 * step;
+    let more = partial_between(alloc, orders, low as u64, (low + step) as u64, trails)?;
+    if count == 0 {
+        let runs = runs_with(alloc, &[], more.clusters.as_slice())?;
+        let value = more.piece;
+        return Ok(PartialLine { runs, value });
+    }
+    let before = &lines[count - 1];
     let mut value = before.value;
     value.join(more.piece)?;
     let runs = runs_with(alloc, before.runs.as_slice(), more.clusters.as_slice())?;
@@ -66,17 +62,28 @@ fn lines_of(
     ensures { (w : WatchedPlace orders.now.slots clusters trails.now) → IfOk result (ArePartialLines w.facts w.place (chain_of orders.now.slots w.dones clusters step)) }
 {
     let mut lines = ListOf::new(alloc);
-    let count = clusters / step;
-    if count == 0 {
-        return Ok(lines);
-    }
-    lines.push(first_line(alloc, orders, trails, step)?)?;
-    for j in 1..count {
-        let before = lines.at(j as usize - 1);
-        let line = next_line(alloc, orders, trails, before, j * step, (j + 1) * step)?;
+    for _ in 0..clusters / step {
+        let line = next_line(alloc, orders, trails, lines.as_slice(), step)?;
         lines.push(line)?;
     }
     Ok(lines)
+}
+
+// Takes the trail of a watched result out of each piece.
+fn taken_trails(
+    alloc: Global,
+    pieces: &mut [LoopPiece],
+    watched: u32,
+) -> Result<TrailList<WatchPiece>, Memory>
+    requires { All (λ p. watched < length p.trails.items) pieces.old }
+    ensures taken { IfOk result (λ trails. AreTaken watched pieces.old trails) }
+    ensures left { OnOk result (AreLeft watched pieces.old pieces.new) }
+{
+    let mut trails = ListOf::new(alloc);
+    for i in 0..pieces.len() {
+        trails.push(pieces[i].take_trail(alloc, watched))?;
+    }
+    Ok(trails)
 }
 
 /// The partial results of each watched result, whose trails are taken out of the pieces of the slots.

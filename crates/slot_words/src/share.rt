@@ -1,6 +1,4 @@
 // The right of one slot to note.
-ghost use Rattle.std.specs.Prelude.{◌≡◌};
-
 use crate::hand::NoteHands;
 use atomic_table::Seat;
 use rdf_values::ListOf;
@@ -28,13 +26,4 @@ impl Model for Share {
     ghost view = { λ s. record { table = s.seat.table_id; slot = s.slot; clusters = s.clusters; numbers = s.numbers.items } };
 
     ghost invariant = { λ s. (s.seat.me ≡ (hand_with s.numbers.items ∷ [], [])) × (s.clusters ≤ vec_capacity s.numbers) × IsStrictlyIncreasing s.numbers.items };
-}
-
-impl Share {
-    /// The number of its slot.
-    pub fn slot(&self) -> u32
-        ensures { result ≡ self.now.slot }
-    {
-        self.slot
-    }
 }

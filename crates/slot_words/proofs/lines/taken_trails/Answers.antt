@@ -1,7 +1,7 @@
 use Rattle.std.proofs.Common.{arith, rules, get_or}
 use Rattle.std.proofs.lemmas.Option.{slice_get-get_or}
 use Rattle.slot_words.proofs.Joining.{next_taken, all_taken}
-use Rattle.slot_words.proofs.trails.taken_trails.Goals as goal
+use Rattle.slot_words.proofs.lines.taken_trails.Goals as goal
 
 pub loop-i-preserved : goal.loop-i-preserved
 loop-i-preserved c =
