@@ -1,5 +1,5 @@
 -- The number at the front of a text.
-use Rattle.std.proofs.Common.{◌≡◌, ◌≢◌, ◌≤◌, ◌<◌, ◌+◌, ◌*◌, ◌^◌, ◌-◌, ◌-ℤ◌, ℕ, ℤ, negsuc, of_z, to_z, w64, zero, suc, List, [], ◌∷◌, ◌++◌, length, take, get_or, Bool, true, false, None, Some, Option, ◌&&◌, add-one, ap, arith, refl, sym, IfSome, leb, ◌==◌, if◌then◌else◌}
+use Rattle.std.proofs.Common.{◌≡◌, ◌≢◌, ◌≤◌, ◌<◌, ◌+◌, ◌*◌, ◌^◌, ◌-◌, ◌-ℤ◌, ℕ, ℤ, negsuc, of_z, to_z, w64, zero, suc, List, [], ◌∷◌, ◌++◌, length, take, get_or, Bool, true, false, None, Some, Option, ◌&&◌, add-one, arith, refl, IfSome, ◌==◌, if◌then◌else◌}
 use Rattle.lemmas.proofs.{all_ascii_digits, digit_value, digit_value_digit, digits_value_after, ints, is_ascii_digit, nat_tests, pow-le-pow_right, signed_decimal, take_more}
 use Rattle.rdf_values.specs.{AreLeading, begins_badly, digits_up_to, integer_of, IsDigit, IsLeading, magnitude_of, negative, positive, written_after}
 use Rattle.rdf_values.proofs.Fronts.{one_more_digit}
@@ -14,8 +14,7 @@ written_push (x ∷ xs) n m b w d = go (is_ascii_digit x) w (λ v. written_push 
     go : (t : Bool) → (if t && all_ascii_digits xs then Some (digits_value_after 10 (n * 10 + digit_value x) xs) else None) ≡ Some m
         → (written_after (n * 10 + digit_value x) xs ≡ Some m → written_after (n * 10 + digit_value x) (xs ++ b ∷ []) ≡ Some (m * 10 + digit_value b))
         → (if t && all_ascii_digits (xs ++ b ∷ []) then Some (digits_value_after 10 (n * 10 + digit_value x) (xs ++ b ∷ [])) else None) ≡ Some (m * 10 + digit_value b)
-    go true w next = next w
-    go false w next = cc w
+    go t w next = grind arith
 
 pub front_more : (text rest : List ℕ) (b i n digit : ℕ) → text ≡ b ∷ rest → i < length rest → i < 17 → written_after 0 (take (i + 1) text) ≡ Some n → n < 10 ^ (i + 1) → IsDigit (get_or rest i 0) (Some digit)
     → (written_after 0 (take (i + 1 + 1) text) ≡ Some (n * 10 + digit)) × (n * 10 + digit < 10 ^ (i + 1 + 1))
@@ -30,8 +29,7 @@ not_zero : (b n : ℕ) → IsDigit b (Some n) → n ≢ 0 → (b == 48) ≡ fals
 not_zero b n d h = grind (arith, nat_tests, digit_value_digit)
 
 canonical : (text rest : List ℕ) (b i : ℕ) → text ≡ b ∷ rest → 0 < i → (b == 48) ≡ false → begins_badly (take i text) ≡ false
-canonical text rest b zero e h n = absurd (omega arith)
-canonical text rest b (suc i) e h n = rw (e, n) refl
+canonical text rest b i e h n = grind arith
 
 pub front_found : (text rest : List ℕ) (b first i n : ℕ) → text ≡ b ∷ rest → IsDigit b (Some first) → first ≢ 0 → 0 < i → i ≤ suc (length rest) → i ≤ 18 → written_after 0 (take i text) ≡ Some n → n < 10 ^ i → AreLeading text n i
 front_found text rest b first i n e d z h l few w f =
@@ -42,11 +40,7 @@ front_found text rest b first i n e d z h l few w f =
 -- ---- what the digits write
 
 up_to : (ds : List ℕ) (n most : ℕ) → written_after 0 ds ≡ Some n → n ≤ most → digits_up_to most 0 ds ≡ Some n
-up_to ds n most w h = go (all_ascii_digits ds) w
-  where
-    go : (t : Bool) → (if t then Some (digits_value_after 10 0 ds) else None) ≡ Some n
-        → (if t && leb (digits_value_after 10 0 ds) most then Some (digits_value_after 10 0 ds) else None) ≡ Some n
-    go t w = grind (arith, nat_tests)
+up_to ds n most w h = grind (arith, all_ascii_digits, digits_value_after, nat_tests)
 
 leading_magnitude : (text : List ℕ) (n count most : ℕ) → AreLeading text n count → 1000000000000000000 ≤ most → magnitude_of most (take count text) ≡ Some n
 unfolding magnitude_of
@@ -55,11 +49,7 @@ leading_magnitude text n count most h m =
     rw h.canonical (up_to (take count text) n most h.written (omega (arith, few)))
 
 not_minus : (b n : ℕ) (ds : List ℕ) → written_after 0 (b ∷ ds) ≡ Some n → (b == 45) ≡ false
-not_minus b n ds w = go (is_ascii_digit b) refl w
-  where
-    go : (t : Bool) → is_ascii_digit b ≡ t → (if t && all_ascii_digits ds then Some (digits_value_after 10 (0 * 10 + digit_value b) ds) else None) ≡ Some n → (b == 45) ≡ false
-    go true q w = grind (arith, nat_tests)
-    go false q w = cc w
+not_minus b n ds w = grind (arith, is_ascii_digit, all_ascii_digits, digits_value_after, digit_value, nat_tests)
 
 pub leading_positive : (text : List ℕ) (count n : ℕ) (z : ℤ) → AreLeading text n count → positive (Some n) ≡ Some z → IsLeading text z count
 unfolding integer_of
@@ -79,10 +69,8 @@ leading_negative text rest b count n z e minus h p =
 
 -- the number below zero, as it is computed
 pub number_below : (n : ℕ) → 0 < n → n < 1000000000000000000 → negative (Some n) ≡ Some (to_z w64 (of_z w64 (negsuc 0 -ℤ to_z w64 (n - 1))))
-number_below zero h l = absurd (omega arith)
-number_below (suc n) h l = ap Some (omega (arith, ints))
+number_below n h l = grind (arith, ints)
 
 -- an answer has the number's text
 pub text_of_answer : (answer : Option ℤ) (text : List ℕ) → answer ≡ integer_of text → IfSome answer (λ n. text ≡ signed_decimal n)
-text_of_answer None text e = tt
-text_of_answer (Some n) text e = sym (text_of_integer text n (sym e))
+text_of_answer answer text e = grind (arith, text_of_integer)

@@ -1,6 +1,6 @@
 -- The first items of a list.
-use Rattle.std.proofs.Common.{◌≡◌, ◌+◌, ◌∙◌, ◌++◌, ◌∷◌, [], ℕ, List, Some, ap, append_assoc, length, sym, take, slice_get, ◌<◌, ◌≤◌, ◌-◌, drop, Bool, true, false, None, Option, arith, refl, suc, not, nat_lt, position, cond, ◌*◌, ◌^◌, ◌&&◌, add-one, leb}
-use Rattle.lemmas.proofs.{take-append_seam, take_next, nat_tests, onto_first, position_or_len, slice_split, slice_split_first, all_ascii_digits, and_false, digit_value, digits_value_after, is_ascii_digit, pow-le-pow_right, pow-succ'}
+use Rattle.std.proofs.Common.{◌≡◌, ◌+◌, ◌∙◌, ◌++◌, ◌∷◌, [], ℕ, List, Some, ap, append_assoc, length, sym, take, slice_get, ◌<◌, ◌≤◌, ◌-◌, drop, Bool, false, None, Option, arith, refl, suc, not, nat_lt, position, cond, ◌*◌, ◌^◌, add-one, leb}
+use Rattle.lemmas.proofs.{take-append_seam, take_next, nat_tests, onto_first, position_or_len, slice_split, slice_split_first, and_false, digit_value, digits_value_after, pow-le-pow_right, pow-succ'}
 use Rattle.std.proofs.lemmas.List.{take_all, length-drop}
 use Rattle.rdf_values.specs.{digits_up_to}
 
@@ -15,8 +15,7 @@ front_more old now next more i x p s e = p ∙ ap (λ t. t ++ x ∷ []) s ∙ ap
 
 no_cut_if : (b : Bool) (p : ℕ → Bool) (x : ℕ) (xs : List ℕ) → (length xs ≤ position_or_len p xs → slice_split p xs ≡ xs ∷ [])
     → suc (length xs) ≤ cond (not b) (1 + position_or_len p xs) 0 → cond b ([] ∷ slice_split p xs) (onto_first x (slice_split p xs)) ≡ (x ∷ xs) ∷ []
-no_cut_if true p x xs ih h = absurd (omega arith)
-no_cut_if false p x xs ih h = rw (ih (omega arith)) refl
+no_cut_if b p x xs ih h = grind arith
 
 no_cut : (p : ℕ → Bool) (xs : List ℕ) → length xs ≤ position_or_len p xs → slice_split p xs ≡ xs ∷ []
 no_cut p [] h = refl

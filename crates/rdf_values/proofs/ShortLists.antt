@@ -1,7 +1,7 @@
 -- One more name at the end of names of functions, and one more mark at the end of marks.
-use Rattle.std.proofs.Common.{◌≢◌, ◌≤◌, ◌<◌, List, [], ◌∷◌, ◌++◌, length, All, arith, sym, ◌+◌, ℕ, ◌≡◌, zero, suc, Bool, true, false, Some, None, Ok, Err, Result, refl, ap, length-append, if◌then◌else◌, ℤ, ◌&&◌, ◌==◌}
+use Rattle.std.proofs.Common.{◌≢◌, ◌≤◌, ◌<◌, List, [], ◌∷◌, ◌++◌, length, All, arith, sym, ◌+◌, ℕ, ◌≡◌, zero, suc, Bool, Some, None, Ok, Result, refl, ap, length-append, if◌then◌else◌, ℤ, ◌&&◌, ◌==◌}
 use Rattle.lemmas.proofs.{All-append, All-cons, All-head, All-tail, all_pairs_push, AllPairs-from_increasing, common_steps, All-from_recursion, AllByRecursion, length-map}
-use Rattle.rdf_values.specs.{AreFnNames, AreMarks, FnName, HaveDistinctNames, IsBuiltIn, LacksName, ActionKind, all_strings, AreLines, AreNames, AreRising, AreShortValues, arguments, Bad, bare, bare_tokens, begins_with, Blank, blank_line, Close, Comma, Comment, edges_tokens, expression_count, Form, form_tokens, Found, IsAction, IsBookable, IsLine, IsScript, IsShort, last_item, last_list, Lexeme, lexeme, Line, lines_of, Mark, maybe_string, Method, more_edges, more_items, more_lists, more_names, more_strings, NamedTree, no_lines, no_names, one_list, Placed, PlacedToken, Punct, Quoted, QuotedText, ReadsList, ReadsLists, ReadsValues, ReadsValuesText, Says, Script, several_lists, Statement, statement_line, strings_tokens, Token, tokens_from, VaryValues, vector, with_byte, with_lexeme, with_token}
+use Rattle.rdf_values.specs.{AreFnNames, AreMarks, FnName, HaveDistinctNames, IsBuiltIn, LacksName, ActionKind, all_strings, AreLines, AreNames, AreRising, AreShortValues, arguments, begins_with, blank_line, Close, Comma, edges_tokens, expression_count, Form, form_tokens, IsAction, IsBookable, IsLine, IsScript, IsShort, last_item, last_list, Lexeme, lexeme, Line, lines_of, Mark, maybe_string, Method, more_edges, more_items, more_lists, more_names, more_strings, NamedTree, no_lines, no_names, one_list, PlacedToken, Punct, Quoted, QuotedText, ReadsList, ReadsLists, ReadsValues, ReadsValuesText, Says, Script, several_lists, Statement, statement_line, strings_tokens, Token, tokens_from, VaryValues, vector, with_byte, with_lexeme}
 use Rattle.rdf_values.proofs.OneText.{few_tokens}
 use Rattle.rdf_values.specs.declared.scripts.statement.Statement.TheVariants.{Action}
 use Rattle.rdf_values.specs.scripts.LineForms as form
@@ -61,13 +61,7 @@ values_short text vs h = grind (arith, few_tokens, length-map, short_values)
 -- ---- a line has no more tokens than bytes
 
 with_few : (most place : ℕ) (x : Lexeme) (rest : ℕ → Result (List PlacedToken) ℕ) (ts : List PlacedToken) → ((more : ℕ) (us : List PlacedToken) → rest more ≡ Ok us → length us ≤ most) → with_lexeme place x rest ≡ Ok ts → length ts ≤ suc most
-with_few most place Blank rest ts h k = let n = h 0 ts k in omega (arith, n)
-with_few most place Comment rest ts h k = let none : [] ≡ ts = cc k in let n = ap length none in omega (arith, n)
-with_few most place Bad rest ts h k = cc k
-with_few most place (Found token more) rest ts h k = go (rest more) refl k
-  where
-    go : (r : Result (List PlacedToken) ℕ) → rest more ≡ r → with_token token place r ≡ Ok ts → length ts ≤ suc most
-    go r q k = grind arith
+with_few most place x rest ts h k = grind arith
 
 line_few : (line : List ℕ) (passed place : ℕ) (ts : List PlacedToken) → tokens_from line passed place ≡ Ok ts → length ts ≤ length line
 unfolding tokens_from
@@ -129,8 +123,7 @@ longer m [] h = tt
 longer m (l ∷ ls) h = (let q = h.0 in omega (arith, q), longer m ls h.1)
 
 one_more : (m c : ℕ) (ls : List (List ℕ)) → AreWithin m ls → AreWithin (suc m) (with_byte c ls)
-one_more m c [] h = (omega arith, tt)
-one_more m c (l ∷ ls) h = (let q = h.0 in omega (arith, q), longer m ls h.1)
+one_more m c ls h = grind (arith, longer)
 
 lines_within : (text : List ℕ) → AreWithin (length text) (lines_of text)
 unfolding lines_of

@@ -206,8 +206,7 @@ abbrev in_either : List ℕ → List ℕ → ℕ → Bool
 in_either a b x = ltb 0 (times x a + times x b)
 
 nothing : (x : ℕ) (b : Bool) → times x [] ≡ cond b (times x []) 0
-nothing x true = refl
-nothing x false = refl
+nothing x b = grind arith
 
 pub times_filter : (p : ℕ → Bool) (x : ℕ) (xs : List ℕ) → times x (filter p xs) ≡ cond (p x) (times x xs) 0
 times_filter p x [] = nothing x (p x)

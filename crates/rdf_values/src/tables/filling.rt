@@ -21,6 +21,7 @@ pub(crate) fn no_rows(alloc: Global, columns: &[Column]) -> Result<Vec<Cells>, M
 }
 
 // Drops the values of later entries.
+#[tactic(auto, using(crate::proofs::KeptLemmas::cut_more, crate::proofs::KeptLemmas::all_cut))]
 fn cut_back(cells: &mut [Cells], entries: usize)
     ensures { cells.new ≡ map (cut_to entries) cells.old }
 {
@@ -30,6 +31,7 @@ fn cut_back(cells: &mut [Cells], entries: usize)
 }
 
 /// Appends a row to the values of so many entries; after want of memory they are as before.
+#[tactic(auto, using(crate::proofs::KeptLemmas::set_stays, crate::proofs::KeptLemmas::cut_partly, crate::proofs::KeptLemmas::partly_more, crate::proofs::KeptLemmas::partly_all))]
 pub(crate) fn push_row(cells: &mut [Cells], entries: usize, row: &[Value]) -> Result<(), Memory>
     requires keep { Keep entries cells.old }
     requires width { length row.now ≡ length cells.old }

@@ -128,6 +128,7 @@ pub(crate) fn read_any_integer(text: &[u8]) -> Option<i64>
 
 /// The number that the bytes are the canonical text of.
 #[inline(always)]
+#[tactic(auto, using(std::proofs::lemmas::List::take_all, crate::proofs::OneText::text_of_integer, crate::proofs::FrontNumbers::text_of_answer))]
 pub fn read_integer(text: &[u8]) -> Option<i64>
     ensures value { result ≡ integer_of text.now }
     ensures text { IfSome result (λ n. text.now ≡ signed_decimal n) }
@@ -139,6 +140,7 @@ pub fn read_integer(text: &[u8]) -> Option<i64>
 }
 
 /// A law: the decimal text of each number of 64 bits reads as that number.
+#[tactic(auto, using(crate::proofs::OneText::integer_of_text))]
 pub fn reads_own_text(n: i64)
     ensures { integer_of (signed_decimal n) ≡ Some n }
 {}

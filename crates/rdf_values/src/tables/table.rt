@@ -41,6 +41,7 @@ impl Table {
     ghost use Rattle.rdf_values.specs.tables.Values.{value_of};
 
     /// A table of no rows.
+    #[tactic(auto, using(crate::proofs::KeptLemmas::holds_new, crate::proofs::KeptLemmas::no_rows_kept))]
     pub fn new(alloc: Global, columns: ListOf<Column>) -> Result<Table, Memory>
         requires { IsHeader columns }
         ensures { IfOk result (λ table. table ≡ record { columns = columns; rows = [] }) }
@@ -78,6 +79,7 @@ impl Table {
     }
 
     /// Appends a row; the row is left empty, with its room, for the next one.
+    #[tactic(auto, using(crate::proofs::KeptLemmas::keep, crate::proofs::KeptLemmas::fits_length, crate::proofs::KeptLemmas::kept_length, crate::proofs::KeptLemmas::pushed_back, crate::proofs::KeptLemmas::rows_after_push))]
     pub fn push(&mut self, row: &mut ListOf<Value>) -> Result<(), Memory>
         requires fits { FitsRow self.old.columns row.old }
         requires room { length self.old.rows < 1000000 }
@@ -91,6 +93,7 @@ impl Table {
     }
 
     /// The columns in order.
+    #[tactic(auto, using(crate::proofs::KeptLemmas::holds_table))]
     pub fn columns(&self) -> &[Column]
         ensures value { result.now ≡ self.now.columns }
         ensures valid { IsTable self.now }
@@ -107,6 +110,7 @@ impl Table {
     }
 
     // The numbers of an int column, one per entry.
+    #[tactic(auto, using(crate::proofs::KeptLemmas::kept_within))]
     fn ints(&self, col: u32) -> &Numbers
         requires { kind_at self.now.columns col ≡ Some ColType.Int }
         ensures { IsIntColumn self.now col result.now }
@@ -118,6 +122,7 @@ impl Table {
     }
 
     // The vectors of a vec column, one per entry.
+    #[tactic(auto, using(crate::proofs::KeptLemmas::kept_within))]
     fn vects(&self, col: u32) -> &Vects
         requires { kind_at self.now.columns col ≡ Some ColType.Vect }
         ensures { IsVectColumn self.now col result.now }
@@ -129,6 +134,7 @@ impl Table {
     }
 
     /// The number of an entry in an int column, both counted from 0.
+    #[tactic(auto, using(crate::proofs::KeptLemmas::column_length))]
     pub fn int_at(&self, entry: u32, col: u32) -> i64
         requires row { entry < length self.now.rows }
         requires column { kind_at self.now.columns col ≡ Some ColType.Int }
@@ -147,6 +153,7 @@ impl Table {
     }
 
     /// The value of an entry's column, both counted from 0.
+    #[tactic(auto, using(crate::proofs::KeptLemmas::no_truths))]
     pub fn value(&self, entry: u32, col: u32) -> Cell<'_>
         requires row { entry < length self.now.rows }
         requires column { col < length self.now.columns }

@@ -15,6 +15,7 @@ fn find_semicolon(text: &[u8]) -> Option<usize>
 }
 
 // The part before the first `;`, and what stands after it.
+#[tactic(auto, using(crate::proofs::Fronts::cut_at, crate::proofs::Fronts::rest_of))]
 fn first_part(text: &[u8]) -> (&[u8], Option<&[u8]>)
     ensures { MatchOption result.1 (slice_split is_semicolon text.now ≡ result.0.now ∷ [])
         (λ rest. (slice_split is_semicolon text.now ≡ result.0.now ∷ slice_split is_semicolon rest.now) × (length rest.now < length text.now)) }

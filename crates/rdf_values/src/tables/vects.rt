@@ -91,6 +91,7 @@ impl Vects {
     }
 
     /// Appends a vector.
+    #[tactic(auto, using(crate::proofs::PieceLemmas::ascend_after, crate::proofs::PieceLemmas::pieces_after))]
     pub fn push(&mut self, vector: &[i64]) -> Result<(), Memory>
         ensures ok { OnOk result (self.new ≡ self.old ++ vector.now ∷ []) }
         ensures err { OnErr result (self.new ≡ self.old) }
@@ -108,6 +109,7 @@ impl Vects {
     }
 
     /// Appends the vector that a text spells; `false` where it spells none.
+    #[tactic(auto, using(crate::proofs::PieceLemmas::read_good, crate::proofs::PieceLemmas::ascend_after, crate::proofs::PieceLemmas::pieces_after))]
     pub fn push_text(&mut self, text: &[u8]) -> Result<bool, Memory>
         ensures ok { IfOk result (λ is_vector. IsVectorPushed (vector_of text.now) is_vector self.old self.new) }
         ensures err { OnErr result (self.new ≡ self.old) }
@@ -143,6 +145,7 @@ impl Vects {
     }
 
     /// Drops all but the first `n` vectors.
+    #[tactic(auto, using(crate::proofs::PieceLemmas::ascend_cut, crate::proofs::PieceLemmas::pieces_after_cut, crate::proofs::PieceLemmas::no_more))]
     pub fn truncate(&mut self, n: usize)
         ensures { self.new ≡ take n self.old }
     {

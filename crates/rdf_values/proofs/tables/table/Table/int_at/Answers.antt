@@ -3,13 +3,8 @@ use Rattle.std.specs.Int.RustNames.{FitsSigned}
 use Rattle.std.proofs.Math.Facts.{to_z-of_z}
 use mir.Syntax.{w64}
 use Rattle.rdf_values.specs.{Value}
-use Rattle.rdf_values.proofs.KeptLemmas.{cell_of_column, column_length}
+use Rattle.rdf_values.proofs.KeptLemmas.{cell_of_column}
 use Rattle.rdf_values.proofs.tables.table.Table.int_at.Goals as goal
-
-pub at-requires : goal.at-requires
-at-requires c =
-    let size = column_length c.args.self.now.rows c.args.col (λ z. Value.Int z) c.ints.result.now c.ints.ensures in
-    rw size c.requires.row
 
 pub returns : goal.returns
 returns c =

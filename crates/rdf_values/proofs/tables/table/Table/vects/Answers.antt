@@ -1,11 +1,5 @@
-use Rattle.std.proofs.Common.{◌≡◌, length, rules}
-use Rattle.rdf_values.proofs.KeptLemmas.{vects_column, found_cells, kept_within, no_ints}
+use Rattle.rdf_values.proofs.KeptLemmas.{vects_column, found_cells, no_ints}
 use Rattle.rdf_values.proofs.tables.table.Table.vects.Goals as goal
-
-pub index-requires : goal.index-requires
-index-requires c =
-    let size : c.self.inside.cells.len ≡ length c.self.inside.cells.items = search rules in
-    rw size (kept_within c.self.inside.columns c.self.inside.cells.items c.self.inside.entries c.args.col _ c.self.invariant.kept (rw (← c.self.view_is) at c.requires))
 
 pub unreachable-requires : goal.unreachable-requires
 unreachable-requires c =
