@@ -84,6 +84,7 @@ pub(crate) fn read_packed(bytes: &[u8], packing: Packing, numbers: &mut [i64])
 
 // Appends the bytes of numbers, for which there is room: each one's difference to the least in so many, lowest first.
 // The bytes come by value, so that how many they are can stay in a register.
+#[tactic(auto, using(std::proofs::lemmas::List::take_all))]
 fn push_each<const WIDTH: usize>(values: &[i64], least: i64, mut bytes: Vec<u8>) -> Vec<u8>
     requires width { IsWidth WIDTH }
     requires room { vec_len bytes + length values.now * WIDTH ≤ vec_capacity bytes }

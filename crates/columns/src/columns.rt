@@ -82,6 +82,7 @@ impl Columns {
     }
 
     /// The columns' names and types, in order.
+    #[tactic(auto, using(rdf_values::proofs::KeptLemmas::holds_table))]
     pub fn columns(&self) -> &[Column]
         ensures value { result.now ≡ self.now.table.columns }
         ensures valid { IsTable self.now.table }
@@ -98,6 +99,7 @@ impl Columns {
     }
 
     // The numbers of an int column, by cluster.
+    #[tactic(auto, using(crate::proofs::InPieces::col_within, crate::proofs::InPieces::not_vects, crate::proofs::InPieces::ints_found))]
     pub(crate) fn ints(&self, col: u32) -> &PackedInts
         requires { kind_at self.now.table.columns col ≡ Some k.Int }
         ensures column { IsIntColumn self.now.table col (joined result.now) }
@@ -110,6 +112,7 @@ impl Columns {
     }
 
     /// The vectors of a vec column, one per entry.
+    #[tactic(auto, using(crate::proofs::InPieces::col_within, crate::proofs::InPieces::not_ints, crate::proofs::InPieces::vects_found))]
     pub fn vects(&self, col: u32) -> &Vects
         requires { kind_at self.now.table.columns col ≡ Some k.Vect }
         ensures { IsVectColumn self.now.table col result.now }
@@ -142,6 +145,7 @@ impl Columns {
     }
 
     /// How the numbers of a cluster are packed in an int column.
+    #[tactic(auto, using(crate::proofs::InPieces::cluster_numbers))]
     pub fn packing(&self, cluster: u32, col: u32) -> Packing
         requires cluster { cluster < length (cut self.now.cuts.entries self.now.cuts.size self.now.cuts.marks) }
         requires column { kind_at self.now.table.columns col ≡ Some k.Int }
@@ -152,6 +156,7 @@ impl Columns {
     }
 
     /// The bytes of the numbers of a cluster in an int column: for each entry its difference to the least, lowest byte first.
+    #[tactic(auto, using(crate::proofs::InPieces::cluster_numbers))]
     pub fn packed(&self, cluster: u32, col: u32) -> &[u8]
         requires cluster { cluster < length (cut self.now.cuts.entries self.now.cuts.size self.now.cuts.marks) }
         requires column { kind_at self.now.table.columns col ≡ Some k.Int }

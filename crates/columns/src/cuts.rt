@@ -80,6 +80,7 @@ fn even_range(entries: u32, size: u32, cluster: u32) -> Span
 }
 
 // The entries of a cluster, where the clusters end there.
+#[tactic(auto, using(crate::proofs::Clusters::first_range, crate::proofs::Clusters::next_range))]
 fn range_at(ends: &[u32], place: usize) -> Span
     requires { place < length ends.now }
     ensures { slice_get (ranges_to 0 ends.now) place ≡ Some result }
@@ -101,6 +102,7 @@ impl Cuts {
     }
 
     /// How many clusters there are.
+    #[tactic(auto, using(crate::proofs::Clusters::few_ends, crate::proofs::Clusters::as_many))]
     pub fn count(&self) -> u32
         ensures value { result ≡ length (cut self.now.entries self.now.size self.now.marks) }
         ensures valid { AreCuts self.now }
@@ -112,6 +114,7 @@ impl Cuts {
     }
 
     /// The entries of a cluster.
+    #[tactic(auto, using(crate::proofs::Clusters::is_even, crate::proofs::Clusters::as_many))]
     pub fn range(&self, cluster: u32) -> Span
         requires { cluster < length (cut self.now.entries self.now.size self.now.marks) }
         ensures { slice_get (cut self.now.entries self.now.size self.now.marks) cluster ≡ Some result }
@@ -123,6 +126,7 @@ impl Cuts {
     }
 
     /// The cluster that holds an entry.
+    #[tactic(auto, using(crate::proofs::Clusters::few_ends, crate::proofs::Clusters::is_even, crate::proofs::Clusters::even_holds, crate::proofs::Clusters::div_low, crate::proofs::Clusters::div_high))]
     pub fn cluster_of(&self, entry: u32) -> u32
         requires { entry < self.now.entries }
         ensures { Holds (cut self.now.entries self.now.size self.now.marks) entry result }

@@ -9,6 +9,7 @@ use rdf_values::{ListOf, Memory};
 use std::alloc::Global;
 
 // The place of the first mark that isn't below the entry, where only the one at `next` can be.
+#[tactic(auto, using(crate::proofs::Clusters::ahead_one, crate::proofs::Clusters::ahead_still))]
 fn passed(marks: &[u32], next: usize, entry: u32) -> usize
     requires rising { IsStrictlyIncreasing marks.now }
     requires passed { IsPassed marks.now next entry }
@@ -24,6 +25,7 @@ fn passed(marks: &[u32], next: usize, entry: u32) -> usize
 }
 
 // Whether the mark at `next`, the first that isn't below the entry, is the entry.
+#[tactic(auto, using(crate::proofs::Clusters::marked_is, crate::proofs::Clusters::none_left))]
 fn is_marked(marks: &[u32], next: usize, entry: u32) -> bool
     requires rising { IsStrictlyIncreasing marks.now }
     requires passed { IsPassed marks.now next entry }
@@ -34,6 +36,7 @@ fn is_marked(marks: &[u32], next: usize, entry: u32) -> bool
 }
 
 /// Where each cluster ends, as numbers of entries.
+#[tactic(auto, using(crate::proofs::Clusters::walk_start, crate::proofs::Clusters::walk_end))]
 pub(crate) fn ends(
     alloc: Global,
     entries: u32,

@@ -47,6 +47,7 @@ impl Model for PackedInts {
 }
 
 // Appends the bytes of a cluster's numbers, and tells where they stand.
+#[tactic(auto, using(crate::proofs::Unpacking::packing_width, crate::proofs::BlockSteps::block_made))]
 fn pack_cluster(values: &[i64], bytes: Vec<u8>) -> Result<Grown, Memory>
     requires some { 0 < length values.now }
     requires few { length values.now ≤ 1000000 }
@@ -120,6 +121,7 @@ impl PackedInts {
     }
 
     // How a cluster's numbers are packed, and their bytes from a place on, with all that stand behind these.
+    #[tactic(auto, using(crate::proofs::Reading::there, crate::proofs::Reading::bytes_from))]
     fn packed_from(&self, cluster: usize, place: usize) -> (Packing, &[u8])
         requires cluster { cluster < length self.now }
         requires place { place ≤ length (slice_index_or self.now cluster []) }

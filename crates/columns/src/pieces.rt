@@ -5,6 +5,7 @@ ghost use Rattle.columns.specs.{joined};
 use rdf_values::{Memory, Numbers};
 
 // Reads the numbers from a place on, as many as there is room for.
+#[tactic(auto, using(crate::proofs::InPieces::end_within, crate::proofs::InPieces::none_read, crate::proofs::InPieces::read_whole, crate::proofs::InPieces::read_to_the_end))]
 fn read_from(pieces: &[Numbers], lo: usize, numbers: &mut [i64])
     requires within { lo + length numbers.old ≤ length (joined pieces.now) }
     requires few { length (joined pieces.now) ≤ 1000000 }

@@ -77,6 +77,7 @@ impl TablePieces {
     }
 
     /// The rows of another table behind those of this one.
+    #[tactic(auto, using(crate::proofs::JoiningPieces::same_pieces, crate::proofs::JoiningPieces::same_count, crate::proofs::JoiningPieces::rows_joined))]
     pub fn append(self, more: TablePieces) -> Result<TablePieces, Memory>
         requires same { more.columns ≡ self.columns }
         requires few { length self.rows + length more.rows ≤ 1000000 }

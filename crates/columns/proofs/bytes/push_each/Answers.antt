@@ -4,7 +4,7 @@ use Rattle.std.proofs.Math.Facts.{to_z-of_z}
 use mir.Syntax.{w64}
 use native.Mathlib.Nat.{add-mul}
 use Rattle.std.proofs.lemmas.List.{take_all}
-use Rattle.columns.specs.{low_bytes, packed_by}
+use Rattle.columns.specs.{low_bytes}
 use Rattle.columns.proofs.BlockSteps.{pack_step, words_step}
 use Rattle.columns.proofs.Unpacking.{first_bytes}
 use Rattle.columns.proofs.bytes.push_each.Goals as goal
@@ -27,9 +27,3 @@ loop-value-preserved g c =
       words = words_step c.args.values.now i c.loop-value-test.true c.loop-value.invariant.words value;
       room = omega (arith, c.loop-value.invariant.room, c.loop-byte.invariant.len, c.loop-byte.invariant.capacity, c.loop-byte.auto.byte-index-end, size, next);
     }
-
-pub returns-clause-grown : goal.returns-clause-grown
-returns-clause-grown = grind (arith, take_all, to_z-of_z)
-
-pub returns-clause-words : goal.returns-clause-words
-returns-clause-words = grind (arith, take_all)

@@ -1,10 +1,7 @@
-use Rattle.std.proofs.Common.{◌≡◌, arith, inl, inr, sym, ◌∙◌}
-use Rattle.columns.proofs.Clusters.{walk_begin, walk_end, walk_on, walk_start}
+use Rattle.std.proofs.Common.{inl, inr, sym, ◌∙◌}
+use Rattle.columns.proofs.Clusters.{walk_begin, walk_on}
 use Rattle.columns.proofs.marked.ends.Goals as goal
 use Rattle.columns.proofs.marked.ends.Goals.{then-is_marked+in_ok-push, then-is_marked-via-then-is_marked, then-is_marked-via-else-is_marked+then-entry-lo, else-is_marked+else-entry-lo}
-
-pub loop-entry-init : goal.loop-entry-init
-loop-entry-init c = rw c.new-ends.ensures (walk_start c.args.entries c.args.size c.args.marks.now c.requires.some)
 
 pub loop-entry-preserved : goal.loop-entry-preserved
 loop-entry-preserved c =
@@ -18,6 +15,3 @@ loop-entry-preserved c =
       | else-is_marked+else-entry-lo w ↦ rw (w.ends-is, w.lo-is) (walk_on c.args.entries c.args.size c.args.marks.now c.loop-entry.ends c.loop-entry.lo c.loop-entry.entry c.loop-entry.next c.passed-next.result
           c.loop-entry.invariant c.loop-entry-test.true c.passed-next.ensures.passed c.passed-next.ensures.ahead (sym c.is_marked.ensures ∙ w.if-is_marked.false) w.if-entry-lo.false)
     ]
-
-pub returns : goal.returns
-returns = grind (arith, walk_end)

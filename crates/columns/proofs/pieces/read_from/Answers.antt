@@ -1,13 +1,7 @@
 use Rattle.std.proofs.Common.{arith, length}
-use Rattle.columns.proofs.InPieces.{end_within, none_read, read_more, read_on, read_to_the_end, read_whole}
+use Rattle.columns.proofs.InPieces.{read_more, read_on}
 use Rattle.columns.proofs.pieces.read_from.Goals as goal
 use Rattle.columns.proofs.pieces.read_from.Goals.{then-lo-end, else-lo-end}
-
-pub overflow_add-end : goal.overflow_add-end
-overflow_add-end = grind (arith, end_within)
-
-pub loop-piece-init : goal.loop-piece-init
-loop-piece-init c = none_read c.args.pieces.now c.args.lo (length c.args.numbers.now) c.args.numbers.now
 
 pub loop-piece-preserved : goal.loop-piece-preserved
 loop-piece-preserved c =
@@ -18,9 +12,3 @@ loop-piece-preserved c =
       | else-lo-end w ↦ read_on c.args.pieces.now c.args.lo (length c.args.numbers.now) c.loop-piece.piece-index c.loop-piece.before c.if-lo-end.before c.piece-item.result c.loop-piece.numbers c.if-lo-end.numbers
           c.loop-piece.invariant c.piece-item.is c.loop-piece-test.true (omega (arith, w.before-is, size)) (omega (arith, w.if-lo-end.false, w.before-is)) w.numbers-is
     ]
-
-pub returns-then-hi-before : goal.returns-then-hi-before
-returns-then-hi-before c = read_whole c.args.pieces.now c.args.lo (length c.args.numbers.now) c.loop-piece.piece-index c.loop-piece.before c.loop-piece.numbers c.loop-piece.invariant c.loop-piece.auto.numbers c.if-hi-before.true
-
-pub returns : goal.returns
-returns c = read_to_the_end c.args.pieces.now c.args.lo (length c.args.numbers.now) c.loop-piece.piece-index c.loop-piece.before c.loop-piece.numbers c.loop-piece.invariant c.loop-piece.auto.numbers (omega (arith, c.loop-piece-test.false)) c.requires.within

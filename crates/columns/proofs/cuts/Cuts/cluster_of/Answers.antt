@@ -1,13 +1,7 @@
-use Rattle.std.proofs.Common.{◌/◌, arith, leb, rules}
+use Rattle.std.proofs.Common.{leb, rules}
 use Rattle.std.proofs.lemmas.List.Sorted.{IsPartitionPoint-from_clause, IsPartitionedBy-leb}
-use Rattle.columns.proofs.Clusters.{div_high, div_low, even_holds, is_even, few_ends, holds_first, they_rise}
+use Rattle.columns.proofs.Clusters.{holds_first, they_rise}
 use Rattle.columns.proofs.cuts.Cuts.cluster_of.Goals as goal
-
-pub overflow_cast-result : goal.overflow_cast-result
-overflow_cast-result = grind (arith, few_ends)
-
-pub returns-in-Even : goal.returns-in-Even
-returns-in-Even = grind (arith, is_even, even_holds, div_low, div_high)
 
 pub returns-in-Marked : goal.returns-in-Marked
 returns-in-Marked c =
