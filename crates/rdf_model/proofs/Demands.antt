@@ -1,11 +1,11 @@
 -- Demands that are alike are one.
-use Rattle.std.proofs.Common.{◌≡◌, true, ◌&&◌, Some, None, refl, ap, nat_eq, ℕ, ◌≤◌, Bool, false, cond, List, [], ◌∷◌, arith, if◌then◌else◌, count_by, ◌⊎◌, inl, inr, ◌++◌, Option, flat_map}
+use Rattle.std.proofs.Common.{◌≡◌, true, ◌&&◌, Some, None, refl, ap, nat_eq, ℕ, ◌≤◌, Bool, false, List, [], ◌∷◌, arith, if◌then◌else◌, count_by, ◌⊎◌, inl, Option, flat_map}
 use Rattle.lemmas.proofs.{both_true, Decides-eqb}
-use Rattle.rdf_values.specs.{same, same_variation, Under, Variation, Column, Function, maker, named_maker, Path, Statement, target_of, Value, Booked, bookings, Fault, history, is_watched, passes_of, results_named, Script}
-use Rattle.rdf_model.specs.{Demand, same_demand, same_site, same_under, Site, ◌>>=◌, column_in, cutflow, Dataset, Entry, Faults, Feed, Gives, is_true, named_in, named_value, Needs, Outcome, passes_filters, report_in, through, Access, access_passes, access_printed, accesses, Course, first_fault, in_front_of, partial_lines, pass_lines, Printed, printed, result_lines, transcript}
+use Rattle.rdf_values.specs.{same, same_variation, Under, Variation, Column, Function, maker, named_maker, Path, Statement, target_of, Value, Booked, bookings, Fault, history, is_watched, results_named, Script}
+use Rattle.rdf_model.specs.{Demand, same_demand, same_site, same_under, Site, ◌>>=◌, column_in, cutflow, Dataset, Entry, Feed, Gives, is_true, named_in, named_value, Outcome, passes_filters, report_in, Access, access_passes, access_printed, accesses, Course, first_fault, in_front_of, Printed, printed, result_lines, transcript}
 use Rattle.rdf_model.proofs.Accepted.{names_equal}
 use Rattle.std.proofs.lemmas.List.Sums.{sum_by-le-sum_by}
-use Rattle.rdf_values.specs.declared.scripts.statement.Statement.TheVariants.{Define, Redefine, Filter}
+use Rattle.rdf_values.specs.declared.scripts.statement.Statement.TheVariants.{Define, Redefine}
 
 site_is : (s t : Site) → same_site s t ≡ true → s ≡ t
 site_is s t h =
@@ -42,18 +42,13 @@ passed_before o f h = grind arith
 
 module _ (d : Dataset) where
   passed_above : (s : Statement) (up : Path) (row : List Value) → passes_filters d (s ∷ up) row ≡ true → passes_filters d up row ≡ true
-  passed_above (Filter node parent expr label) up row h = passed_before (through d.fns d.columns row up None) _ h
-  passed_above s up row h = h
+  passed_above s up row h = grind (arith, passed_before)
 
 count_le : {A : Type 0} (p q : A → Bool) → ((a : A) → p a ≡ true → q a ≡ true) → (xs : List A) → count_by p xs ≤ count_by q xs
-count_le p q h xs = sum_by-le-sum_by (λ x. cond (p x) 1 0) (λ x. cond (q x) 1 0) xs (λ x. one (p x) (q x) (h x))
-  where
-    one : (b c : Bool) → (b ≡ true → c ≡ true) → cond b 1 0 ≤ cond c 1 0
-    one b c h = grind arith
+count_le p q h xs = grind (arith, sum_by-le-sum_by)
 
 pub passed_are_among_reached : (d : Dataset) (filter : Path) → (cutflow d filter).pass ≤ (cutflow d filter).all
-passed_are_among_reached d [] = omega arith
-passed_are_among_reached d (s ∷ up) = count_le (passes_filters d (s ∷ up)) (passes_filters d up) (λ row h. passed_above d s up row h) d.rows
+passed_are_among_reached d filter = grind (arith, count_le, passed_above)
 
 -- ---- reports
 
@@ -67,8 +62,7 @@ reports_are_fed_nothing d row (f ∷ fs) values q = grind (arith, not_fed, repor
 -- ---- makers
 
 at_maker : {A : Type 0} (b : Bool) (x y : A) (f : Path → A) (p q : Path) → (b ≡ true → x ≡ f p) → y ≡ f q → (if b then x else y) ≡ f (if b then p else q)
-at_maker true x y f p q h k = h refl
-at_maker false x y f p q h k = k
+at_maker b x y f p q h k = grind arith
 
 module _ (fns : List Function) (columns : List Column) (row : List Value) where
   -- a column that is no alias, under nominal
@@ -88,8 +82,7 @@ left_out b x y z h = rw h refl
 
 module _ (script : List Statement) (d : Dataset) (one other : Course) (unwatched : (name : List ℕ) → is_watched script name ≡ false) where
   result_lines_alike : (b : Booked) → result_lines script d one b ≡ result_lines script d other b
-  result_lines_alike b =
-      ap (λ l. l ++ flat_map (pass_lines d) (passes_of script b)) (left_out (is_watched script b.name) (partial_lines script d one b.name b.booking) (partial_lines script d other b.name b.booking) [] (unwatched b.name))
+  result_lines_alike b = grind (arith, left_out, one)
 
   access_alike : (a : Access) (f : Option Fault) (rest : Printed) → access_printed script d one a f rest ≡ access_printed script d other a f rest
   access_alike a (Some f) rest = refl
@@ -106,8 +99,7 @@ unwatched_output_is_one_function script d one other h = printed_alike (history s
 module _ (script : List Statement) (d : Dataset) (course : Course) where
   access_status : (a : Access) (f : Option Fault) (rest : Printed) → (rest.status ≡ 0) ⊎ (rest.status ≡ 8)
       → ((access_printed script d course a f rest).status ≡ 0) ⊎ ((access_printed script d course a f rest).status ≡ 8)
-  access_status a (Some f) rest h = inr refl
-  access_status a None rest h = h
+  access_status a f rest h = grind arith
 
   printed_status : (as' : List Access) → ((printed script d course as').status ≡ 0) ⊎ ((printed script d course as').status ≡ 8)
   printed_status [] = inl refl
