@@ -38,11 +38,7 @@ operator_scalar BinOp.Lt s t k h p q = arithmetic_scalar ColType.Bool s t k refl
 operator_scalar BinOp.Le s t k h p q = arithmetic_scalar ColType.Bool s t k refl h p q
 operator_scalar BinOp.Gt s t k h p q = arithmetic_scalar ColType.Bool s t k refl h p q
 operator_scalar BinOp.Ge s t k h p q = arithmetic_scalar ColType.Bool s t k refl h p q
-operator_scalar BinOp.Mul s t k h p q = arithmetic_scalar ColType.Int s t k refl h p q
-operator_scalar BinOp.Div s t k h p q = arithmetic_scalar ColType.Int s t k refl h p q
-operator_scalar BinOp.Rem s t k h p q = arithmetic_scalar ColType.Int s t k refl h p q
-operator_scalar BinOp.Add s t k h p q = arithmetic_scalar ColType.Int s t k refl h p q
-operator_scalar BinOp.Sub s t k h p q = arithmetic_scalar ColType.Int s t k refl h p q
+operator_scalar o s t k h p q = arithmetic_scalar ColType.Int s t k refl h p q
 
 if_scalar : (b : Bool) (s k : ColType) → (if b then Ok s else Err WrongType) ≡ Ok k → is_vector s ≡ false → is_vector k ≡ false
 if_scalar true s k h p = ap gives_vector (sym h) ∙ p
@@ -74,97 +70,134 @@ given_scalar (Some f) s h = let same_shape : shape (replicate f.arity ColType.In
 
 -- a function that is called on no vector takes none and gives none
 called_scalar : (names : FunctionNames) (f : Callee) (s : Shape) (ts : List ColType) → callee_shape names f ≡ Ok s → AllByRecursion (λ t. is_vector t ≡ false) ts → same_kinds ts s.takes ≡ true → (takes_no_vector f ≡ true) × (is_vector s.gives ≡ false)
-called_scalar names Callee.Sum s ts h each fit = absurd (vector_taken s ts [] ColType.Int h each fit)
-called_scalar names Callee.Min s ts h each fit = absurd (vector_taken s ts [] ColType.Int h each fit)
-called_scalar names Callee.Max s ts h each fit = absurd (vector_taken s ts [] ColType.Int h each fit)
-called_scalar names Callee.Size s ts h each fit = absurd (vector_taken s ts [] ColType.Int h each fit)
-called_scalar names Callee.Any s ts h each fit = absurd (vector_taken s ts [] ColType.Bool h each fit)
-called_scalar names Callee.All s ts h each fit = absurd (vector_taken s ts [] ColType.Bool h each fit)
-called_scalar names Callee.At s ts h each fit = absurd (vector_taken s ts (ColType.Int ∷ []) ColType.Int h each fit)
 called_scalar names Callee.Abs s ts h each fit = (refl, let same_shape : shape (ColType.Int ∷ []) ColType.Int ≡ s = cc h in ap (λ (t : Shape). is_vector t.gives) (sym same_shape))
 called_scalar names (Callee.Given i) s ts h each fit = (refl, given_scalar (slice_get names i) s h)
+called_scalar names f s ts h each fit = absurd (vector_taken s ts _ _ h each fit)
 
 call_gives : (counted : Bool) (kinds : Result (List ColType) GraphCause) (takes : List ColType) (gives k : ColType)
     → (if counted then (kinds >>= λ ts. if same_kinds ts takes then Ok gives else Err WrongType) else Err WrongCount) ≡ Ok k → is_vector gives ≡ false → is_vector k ≡ false
 call_gives true (Ok ts) takes gives k h p = if_scalar (same_kinds ts takes) gives k h p
 call_gives counted kinds takes gives k h p = cc h
 
+-- no column of that number is a vector
+abbrev NoVector : List (ℕ × ColType) → ℕ → Type 0
+NoVector kinds i = gives_vector (number_kind kinds i) ≡ false
+
+-- each column of a plain expression is no vector
+module _ (kinds : List (ℕ × ColType)) where
+  mutual
+    pub columns_scalar : (e : NumTree) → is_plain kinds e ≡ true → AllByRecursion (NoVector kinds) (columns_in e)
+    columns_scalar (Col c) h = (not_true (gives_vector (number_kind kinds c)) h, tt)
+    columns_scalar (Neg a) h = columns_scalar a h
+    columns_scalar (Not a) h = columns_scalar a h
+    columns_scalar (Bin o a b) h =
+        each_append (NoVector kinds) (columns_in a) (columns_in b) (columns_scalar a (and_left (is_plain kinds a) (is_plain kinds b) h)) (columns_scalar b (and_right (is_plain kinds a) (is_plain kinds b) h))
+    columns_scalar (Cond c a b) h =
+        let first = and_left (is_plain kinds c && is_plain kinds a) (is_plain kinds b) h in
+        each_append (NoVector kinds) (columns_in c ++ columns_in a) (columns_in b)
+        (each_append (NoVector kinds) (columns_in c) (columns_in a) (columns_scalar c (and_left (is_plain kinds c) (is_plain kinds a) first)) (columns_scalar a (and_right (is_plain kinds c) (is_plain kinds a) first)))
+        (columns_scalar b (and_right (is_plain kinds c && is_plain kinds a) (is_plain kinds b) h))
+    columns_scalar (Pick v i) h = cc h
+    columns_scalar (Call f args) h = all_columns_scalar args (and_right (takes_no_vector f) (all_are_plain kinds args) h)
+    columns_scalar e h = tt
+
+    all_columns_scalar : (args : Trees ℕ Callee) → all_are_plain kinds args ≡ true → AllByRecursion (NoVector kinds) (columns_in_all args)
+    all_columns_scalar End h = tt
+    all_columns_scalar (More a rest) h =
+        each_append (NoVector kinds) (columns_in a) (columns_in_all rest) (columns_scalar a (and_left (is_plain kinds a) (all_are_plain kinds rest) h)) (all_columns_scalar rest (and_right (is_plain kinds a) (all_are_plain kinds rest) h))
+
 -- no column is a vector, so no part is one
 module _ (kinds : List (ℕ × ColType)) (names : FunctionNames) where
+  abbrev IsNoVector : NumTree → Type 0
+  IsNoVector p = gives_vector (num_kind kinds names p) ≡ false
+
+  here : (e : NumTree) (k : ColType) → num_kind kinds names e ≡ Ok k → is_vector k ≡ false → IsNoVector e
+  here e k h p = ap gives_vector h ∙ p
+
   mutual
-    pub plain_typed : (e : NumTree) (k : ColType) → num_kind kinds names e ≡ Ok k → AllByRecursion (λ i. gives_vector (number_kind kinds i) ≡ false) (columns_in e) → (is_plain kinds e ≡ true) × (is_vector k ≡ false)
-    plain_typed (Lit z) k h each = (refl, ap gives_vector (sym h))
-    plain_typed (Truth b) k h each = (refl, ap gives_vector (sym h))
-    plain_typed (Col c) k h each = (ap not each.0, ap gives_vector (sym h) ∙ each.0)
+    pub plain_typed : (e : NumTree) (k : ColType) → num_kind kinds names e ≡ Ok k → AllByRecursion (NoVector kinds) (columns_in e) → (is_plain kinds e ≡ true) × (is_vector k ≡ false) × AllByRecursion IsNoVector (parts e)
+    plain_typed (Lit z) k h each = (refl, ap gives_vector (sym h), (refl, tt))
+    plain_typed (Truth b) k h each = (refl, ap gives_vector (sym h), (refl, tt))
+    plain_typed (Col c) k h each = (ap not each.0, ap gives_vector (sym h) ∙ each.0, (each.0, tt))
     plain_typed (Neg a) k h each =
         let w = bind_ok (num_kind kinds names a) _ k h in
         let p = plain_typed a w.0 w.1 each in
-        (p.0, negated_scalar w.0 k w.2 p.1)
+        let scalar = negated_scalar w.0 k w.2 p.1 in
+        (p.0, scalar, (here (Neg a) k h scalar, p.2))
     plain_typed (Not a) k h each =
         let w = bind_ok (num_kind kinds names a) _ k h in
         let p = plain_typed a w.0 w.1 each in
-        (p.0, inverted_scalar w.0 k w.2 p.1)
+        let scalar = inverted_scalar w.0 k w.2 p.1 in
+        (p.0, scalar, (here (Not a) k h scalar, p.2))
     plain_typed (Bin o a b) k h each =
         let w = bind_ok (num_kind kinds names a) _ k h in
         let v = bind_ok (num_kind kinds names b) _ k w.2 in
-        let p = plain_typed a w.0 w.1 (each_left (λ i. gives_vector (number_kind kinds i) ≡ false) (columns_in a) (columns_in b) each) in
-        let q = plain_typed b v.0 v.1 (each_right (λ i. gives_vector (number_kind kinds i) ≡ false) (columns_in a) (columns_in b) each) in
-        (and_holds (is_plain kinds a) (is_plain kinds b) p.0 q.0, operator_scalar o w.0 v.0 k v.2 p.1 q.1)
+        let p = plain_typed a w.0 w.1 (each_left (NoVector kinds) (columns_in a) (columns_in b) each) in
+        let q = plain_typed b v.0 v.1 (each_right (NoVector kinds) (columns_in a) (columns_in b) each) in
+        let scalar = operator_scalar o w.0 v.0 k v.2 p.1 q.1 in
+        (and_holds (is_plain kinds a) (is_plain kinds b) p.0 q.0, scalar, (here (Bin o a b) k h scalar, each_append IsNoVector (parts a) (parts b) p.2 q.2))
     plain_typed (Cond c a b) k h each =
         let u = bind_ok (num_kind kinds names c) _ k h in
         let w = bind_ok (num_kind kinds names a) _ k u.2 in
         let v = bind_ok (num_kind kinds names b) _ k w.2 in
-        let first = each_left (λ i. gives_vector (number_kind kinds i) ≡ false) (columns_in c ++ columns_in a) (columns_in b) each in
-        let r = plain_typed c u.0 u.1 (each_left (λ i. gives_vector (number_kind kinds i) ≡ false) (columns_in c) (columns_in a) first) in
-        let p = plain_typed a w.0 w.1 (each_right (λ i. gives_vector (number_kind kinds i) ≡ false) (columns_in c) (columns_in a) first) in
-        let q = plain_typed b v.0 v.1 (each_right (λ i. gives_vector (number_kind kinds i) ≡ false) (columns_in c ++ columns_in a) (columns_in b) each) in
-        (rw (r.0, p.0, q.0) refl, chosen_scalar u.0 w.0 v.0 k v.2 p.1)
+        let first = each_left (NoVector kinds) (columns_in c ++ columns_in a) (columns_in b) each in
+        let r = plain_typed c u.0 u.1 (each_left (NoVector kinds) (columns_in c) (columns_in a) first) in
+        let p = plain_typed a w.0 w.1 (each_right (NoVector kinds) (columns_in c) (columns_in a) first) in
+        let q = plain_typed b v.0 v.1 (each_right (NoVector kinds) (columns_in c ++ columns_in a) (columns_in b) each) in
+        let scalar = chosen_scalar u.0 w.0 v.0 k v.2 p.1 in
+        let below = each_append IsNoVector (parts c ++ parts a) (parts b) (each_append IsNoVector (parts c) (parts a) r.2 p.2) q.2 in
+        (rw (r.0, p.0, q.0) refl, scalar, (here (Cond c a b) k h scalar, below))
     plain_typed (Pick a b) k h each =
         let w = bind_ok (num_kind kinds names a) _ k h in
         let v = bind_ok (num_kind kinds names b) _ k w.2 in
-        let p = plain_typed a w.0 w.1 (each_left (λ i. gives_vector (number_kind kinds i) ≡ false) (columns_in a) (columns_in b) each) in
+        let p = plain_typed a w.0 w.1 (each_left (NoVector kinds) (columns_in a) (columns_in b) each) in
         absurd (picked_from_vector w.0 v.0 k v.2 p.1)
     plain_typed (Call f args) k h each =
         let s = bind_ok (callee_shape names f) _ k h in
         let ts = call_ok (nat_eq (args_count args) (length s.0.takes)) (kinds_by (number_kind kinds) (callee_shape names) args) s.0.takes s.0.gives k s.2 in
         let p = all_plain_typed args ts.0 ts.1 each in
         let q = called_scalar names f s.0 ts.0 s.1 p.1 ts.3 in
-        (and_holds (takes_no_vector f) (all_are_plain kinds args) q.0 p.0, call_gives (nat_eq (args_count args) (length s.0.takes)) (kinds_by (number_kind kinds) (callee_shape names) args) s.0.takes s.0.gives k s.2 q.1)
+        let scalar = call_gives (nat_eq (args_count args) (length s.0.takes)) (kinds_by (number_kind kinds) (callee_shape names) args) s.0.takes s.0.gives k s.2 q.1 in
+        (and_holds (takes_no_vector f) (all_are_plain kinds args) q.0 p.0, scalar, (here (Call f args) k h scalar, p.2))
 
-    all_plain_typed : (args : Trees ℕ Callee) (ks : List ColType) → kinds_by (number_kind kinds) (callee_shape names) args ≡ Ok ks → AllByRecursion (λ i. gives_vector (number_kind kinds i) ≡ false) (columns_in_all args)
-        → (all_are_plain kinds args ≡ true) × AllByRecursion (λ t. is_vector t ≡ false) ks
-    all_plain_typed End ks h each = let none : [] ≡ ks = cc h in (refl, subst (AllByRecursion (λ t. is_vector t ≡ false)) none tt)
+    all_plain_typed : (args : Trees ℕ Callee) (ks : List ColType) → kinds_by (number_kind kinds) (callee_shape names) args ≡ Ok ks → AllByRecursion (NoVector kinds) (columns_in_all args)
+        → (all_are_plain kinds args ≡ true) × AllByRecursion (λ t. is_vector t ≡ false) ks × AllByRecursion IsNoVector (parts_of_all args)
+    all_plain_typed End ks h each = let none : [] ≡ ks = cc h in (refl, subst (AllByRecursion (λ t. is_vector t ≡ false)) none tt, tt)
     all_plain_typed (More a rest) ks h each =
         let w = bind_ok (num_kind kinds names a) _ ks h in
         let v = bind_ok (kinds_by (number_kind kinds) (callee_shape names) rest) _ ks w.2 in
-        let p = plain_typed a w.0 w.1 (each_left (λ i. gives_vector (number_kind kinds i) ≡ false) (columns_in a) (columns_in_all rest) each) in
-        let q = all_plain_typed rest v.0 v.1 (each_right (λ i. gives_vector (number_kind kinds i) ≡ false) (columns_in a) (columns_in_all rest) each) in
+        let p = plain_typed a w.0 w.1 (each_left (NoVector kinds) (columns_in a) (columns_in_all rest) each) in
+        let q = all_plain_typed rest v.0 v.1 (each_right (NoVector kinds) (columns_in a) (columns_in_all rest) each) in
         let more : w.0 ∷ v.0 ≡ ks = cc v.2 in
-        (and_holds (is_plain kinds a) (all_are_plain kinds rest) p.0 q.0, subst (AllByRecursion (λ t. is_vector t ≡ false)) more (p.1, q.1))
+        (and_holds (is_plain kinds a) (all_are_plain kinds rest) p.0 q.0, subst (AllByRecursion (λ t. is_vector t ≡ false)) more (p.1, q.1), each_append IsNoVector (parts a) (parts_of_all rest) p.2 q.2)
 
--- each column of a plain expression is no vector
-module _ (kinds : List (ℕ × ColType)) where
+  -- by one list from another, in two parts
+  from_two : (ps qs : List NumTree) (is js : List ℕ) → (AllByRecursion IsNoVector ps → AllByRecursion (NoVector kinds) is) → (AllByRecursion IsNoVector qs → AllByRecursion (NoVector kinds) js) → AllByRecursion IsNoVector (ps ++ qs) → AllByRecursion (NoVector kinds) (is ++ js)
+  from_two ps qs is js f g h = each_append (NoVector kinds) is js (f (each_left IsNoVector ps qs h)) (g (each_right IsNoVector ps qs h))
+
   mutual
-    pub columns_scalar : (e : NumTree) → is_plain kinds e ≡ true → AllByRecursion (λ i. gives_vector (number_kind kinds i) ≡ false) (columns_in e)
-    columns_scalar (Lit z) h = tt
-    columns_scalar (Truth b) h = tt
-    columns_scalar (Col c) h = (not_true (gives_vector (number_kind kinds c)) h, tt)
-    columns_scalar (Neg a) h = columns_scalar a h
-    columns_scalar (Not a) h = columns_scalar a h
-    columns_scalar (Bin o a b) h =
-        each_append (λ i. gives_vector (number_kind kinds i) ≡ false) (columns_in a) (columns_in b) (columns_scalar a (and_left (is_plain kinds a) (is_plain kinds b) h)) (columns_scalar b (and_right (is_plain kinds a) (is_plain kinds b) h))
-    columns_scalar (Cond c a b) h =
-        let first = and_left (is_plain kinds c && is_plain kinds a) (is_plain kinds b) h in
-        each_append (λ i. gives_vector (number_kind kinds i) ≡ false) (columns_in c ++ columns_in a) (columns_in b)
-        (each_append (λ i. gives_vector (number_kind kinds i) ≡ false) (columns_in c) (columns_in a) (columns_scalar c (and_left (is_plain kinds c) (is_plain kinds a) first)) (columns_scalar a (and_right (is_plain kinds c) (is_plain kinds a) first)))
-        (columns_scalar b (and_right (is_plain kinds c && is_plain kinds a) (is_plain kinds b) h))
-    columns_scalar (Pick v i) h = cc h
-    columns_scalar (Call f args) h = all_columns_scalar args (and_right (takes_no_vector f) (all_are_plain kinds args) h)
+    columns_of_parts : (e : NumTree) → AllByRecursion IsNoVector (parts e) → AllByRecursion (NoVector kinds) (columns_in e)
+    columns_of_parts (Col c) each = (each.0, tt)
+    columns_of_parts (Neg a) each = columns_of_parts a each.1
+    columns_of_parts (Not a) each = columns_of_parts a each.1
+    columns_of_parts (Bin o a b) each = from_two (parts a) (parts b) (columns_in a) (columns_in b) (λ h. columns_of_parts a h) (λ h. columns_of_parts b h) each.1
+    columns_of_parts (Cond c a b) each =
+        from_two (parts c ++ parts a) (parts b) (columns_in c ++ columns_in a) (columns_in b)
+        (λ h. from_two (parts c) (parts a) (columns_in c) (columns_in a) (λ x. columns_of_parts c x) (λ x. columns_of_parts a x) h) (λ h. columns_of_parts b h) each.1
+    columns_of_parts (Pick a b) each = from_two (parts a) (parts b) (columns_in a) (columns_in b) (λ h. columns_of_parts a h) (λ h. columns_of_parts b h) each.1
+    columns_of_parts (Call f args) each = columns_of_all_parts args each.1
+    columns_of_parts e each = tt
 
-    all_columns_scalar : (args : Trees ℕ Callee) → all_are_plain kinds args ≡ true → AllByRecursion (λ i. gives_vector (number_kind kinds i) ≡ false) (columns_in_all args)
-    all_columns_scalar End h = tt
-    all_columns_scalar (More a rest) h =
-        each_append (λ i. gives_vector (number_kind kinds i) ≡ false) (columns_in a) (columns_in_all rest) (columns_scalar a (and_left (is_plain kinds a) (all_are_plain kinds rest) h)) (all_columns_scalar rest (and_right (is_plain kinds a) (all_are_plain kinds rest) h))
+    columns_of_all_parts : (args : Trees ℕ Callee) → AllByRecursion IsNoVector (parts_of_all args) → AllByRecursion (NoVector kinds) (columns_in_all args)
+    columns_of_all_parts End each = tt
+    columns_of_all_parts (More a rest) each = from_two (parts a) (parts_of_all rest) (columns_in a) (columns_in_all rest) (λ h. columns_of_parts a h) (λ h. columns_of_all_parts rest h) each
+
+  -- an expression that has a kind is plain exactly where no part of it is a vector
+  pub test_of_parts : (r : Bool) (e : NumTree) (k : ColType) → r ≡ is_plain kinds e → num_kind kinds names e ≡ Ok k → (r ≡ true) ↔ HasNoVector kinds names e
+  test_of_parts r e k is h = (
+    λ plain. All-from_recursion IsNoVector (parts e) (plain_typed e k h (columns_scalar kinds e (sym is ∙ plain))).2,
+    λ each. is ∙ (plain_typed e k h (columns_of_parts e (recursion_from_All IsNoVector (parts e) each))).0,
+  )
 
 scalar_by : (b : Bool) (k : ColType) (r : Result ColType GraphCause) → is_vector k ≡ false → gives_vector r ≡ false → gives_vector (cond b (Ok k) r) ≡ false
 scalar_by true k r p q = p
@@ -186,13 +219,13 @@ each_of_two P Q R f [] p q = tt
 each_of_two P Q R f (x ∷ xs) p q = (f x p.0 q.0, each_of_two P Q R f xs p.1 q.1)
 
 -- where no number has a vector's kind, none of the kinds beside them is one
-none_vector : (numbers : List ℕ) (kinds : List ColType) → NoTwice numbers → length kinds ≡ length numbers → AllByRecursion (λ i. gives_vector (number_kind (zip numbers kinds) i) ≡ false) numbers → list_any is_vector kinds ≡ false
+none_vector : (numbers : List ℕ) (kinds : List ColType) → NoTwice numbers → length kinds ≡ length numbers → AllByRecursion (NoVector (zip numbers kinds)) numbers → list_any is_vector kinds ≡ false
 none_vector [] [] once beside each = refl
 none_vector (n ∷ ns) (k ∷ ks) once beside each =
     let itself : nat_eq n n ≡ true = (Decides-eqb n n).1 refl in
     let here : is_vector k ≡ false = sym (ap (λ b. gives_vector (cond b (Ok k) (number_kind (zip ns ks) n))) itself) ∙ each.0 in
-    let below : AllByRecursion (λ i. gives_vector (number_kind (zip ns ks) i) ≡ false) ns =
-    each_of_two (λ i. nat_eq n i ≡ false) (λ i. gives_vector (number_kind (zip (n ∷ ns) (k ∷ ks)) i) ≡ false) (λ i. gives_vector (number_kind (zip ns ks) i) ≡ false)
+    let below : AllByRecursion (NoVector (zip ns ks)) ns =
+    each_of_two (λ i. nat_eq n i ≡ false) (NoVector (zip (n ∷ ns) (k ∷ ks))) (NoVector (zip ns ks))
     (λ i differ scalar. sym (ap (λ b. gives_vector (cond b (Ok k) (number_kind (zip ns ks) i))) differ) ∙ scalar) ns once.0 each.1 in
     rw (here, none_vector ns ks once.1 (omega arith) below) refl
 none_vector numbers kinds once beside each = absurd (omega arith)
@@ -207,99 +240,11 @@ plain_by_kinds names tree numbers kinds k beside typed = by_test (list_any is_ve
 
     vectors : is_plain (zip numbers kinds) tree ≡ true → list_any is_vector kinds ≡ false
     vectors plain =
-        let P : List ℕ → Type 0 = AllByRecursion (λ i. gives_vector (number_kind (zip numbers kinds) i) ≡ false) in
+        let P : List ℕ → Type 0 = AllByRecursion (NoVector (zip numbers kinds)) in
         none_vector numbers kinds (subst NoTwice (sym are) (NoTwice-distinct (columns_in tree))) beside
-        (subst P (sym are) (each_distinct (λ i. gives_vector (number_kind (zip numbers kinds) i) ≡ false) (columns_in tree) (columns_scalar (zip numbers kinds) tree plain)))
+        (subst P (sym are) (each_distinct (NoVector (zip numbers kinds)) (columns_in tree) (columns_scalar (zip numbers kinds) tree plain)))
 
     by_test : (b : Bool) → list_any is_vector kinds ≡ b → not b ≡ is_plain (zip numbers kinds) tree
     by_test true is = sym (false_from_ne_true (is_plain (zip numbers kinds) tree) (λ plain. let none = vectors plain in cc (is, none)))
     by_test false is =
-        sym (plain_typed (zip numbers kinds) names tree k typed.typed (each_of_all (λ i. gives_vector (number_kind (zip numbers kinds) i) ≡ false) (λ i. all_scalar numbers kinds i is) (columns_in tree))).0
-
--- ---- No part of a plain expression is a vector.
-
-module _ (kinds : List (ℕ × ColType)) (names : FunctionNames) where
-  abbrev IsNoVector : NumTree → Type 0
-  IsNoVector p = gives_vector (num_kind kinds names p) ≡ false
-
-  here : (e : NumTree) (k : ColType) → num_kind kinds names e ≡ Ok k → is_plain kinds e ≡ true → IsNoVector e
-  here e k h plain = ap gives_vector h ∙ (plain_typed kinds names e k h (columns_scalar kinds e plain)).1
-
-  mutual
-    parts_scalar : (e : NumTree) (k : ColType) → num_kind kinds names e ≡ Ok k → is_plain kinds e ≡ true → AllByRecursion IsNoVector (parts e)
-    parts_scalar (Lit z) k h plain = (refl, tt)
-    parts_scalar (Truth b) k h plain = (refl, tt)
-    parts_scalar (Col c) k h plain = (here (Col c) k h plain, tt)
-    parts_scalar (Neg a) k h plain =
-        let w = bind_ok (num_kind kinds names a) _ k h in
-        (here (Neg a) k h plain, parts_scalar a w.0 w.1 plain)
-    parts_scalar (Not a) k h plain =
-        let w = bind_ok (num_kind kinds names a) _ k h in
-        (here (Not a) k h plain, parts_scalar a w.0 w.1 plain)
-    parts_scalar (Bin o a b) k h plain =
-        let w = bind_ok (num_kind kinds names a) _ k h in
-        let v = bind_ok (num_kind kinds names b) _ k w.2 in (
-          here (Bin o a b) k h plain,
-          each_append IsNoVector (parts a) (parts b) (parts_scalar a w.0 w.1 (and_left (is_plain kinds a) (is_plain kinds b) plain)) (parts_scalar b v.0 v.1 (and_right (is_plain kinds a) (is_plain kinds b) plain)),
-        )
-    parts_scalar (Cond c a b) k h plain =
-        let u = bind_ok (num_kind kinds names c) _ k h in
-        let w = bind_ok (num_kind kinds names a) _ k u.2 in
-        let v = bind_ok (num_kind kinds names b) _ k w.2 in
-        let first = and_left (is_plain kinds c && is_plain kinds a) (is_plain kinds b) plain in (
-          here (Cond c a b) k h plain,
-          each_append IsNoVector (parts c ++ parts a) (parts b)
-              (each_append IsNoVector (parts c) (parts a) (parts_scalar c u.0 u.1 (and_left (is_plain kinds c) (is_plain kinds a) first)) (parts_scalar a w.0 w.1 (and_right (is_plain kinds c) (is_plain kinds a) first)))
-              (parts_scalar b v.0 v.1 (and_right (is_plain kinds c && is_plain kinds a) (is_plain kinds b) plain)),
-        )
-    parts_scalar (Pick v i) k h plain = cc plain
-    parts_scalar (Call f args) k h plain =
-        let s = bind_ok (callee_shape names f) _ k h in
-        let ts = call_ok (nat_eq (args_count args) (length s.0.takes)) (kinds_by (number_kind kinds) (callee_shape names) args) s.0.takes s.0.gives k s.2 in
-        (here (Call f args) k h plain, all_parts_scalar args ts.0 ts.1 (and_right (takes_no_vector f) (all_are_plain kinds args) plain))
-
-    all_parts_scalar : (args : Trees ℕ Callee) (ks : List ColType) → kinds_by (number_kind kinds) (callee_shape names) args ≡ Ok ks → all_are_plain kinds args ≡ true → AllByRecursion IsNoVector (parts_of_all args)
-    all_parts_scalar End ks h plain = tt
-    all_parts_scalar (More a rest) ks h plain =
-        let w = bind_ok (num_kind kinds names a) _ ks h in
-        let v = bind_ok (kinds_by (number_kind kinds) (callee_shape names) rest) _ ks w.2 in
-        each_append IsNoVector (parts a) (parts_of_all rest) (parts_scalar a w.0 w.1 (and_left (is_plain kinds a) (all_are_plain kinds rest) plain)) (all_parts_scalar rest v.0 v.1 (and_right (is_plain kinds a) (all_are_plain kinds rest) plain))
-
-  mutual
-    columns_of_parts : (e : NumTree) → AllByRecursion IsNoVector (parts e) → AllByRecursion (λ i. gives_vector (number_kind kinds i) ≡ false) (columns_in e)
-    columns_of_parts (Lit z) each = tt
-    columns_of_parts (Truth b) each = tt
-    columns_of_parts (Col c) each = (each.0, tt)
-    columns_of_parts (Neg a) each = columns_of_parts a each.1
-    columns_of_parts (Not a) each = columns_of_parts a each.1
-    columns_of_parts (Bin o a b) each =
-        each_append (λ i. gives_vector (number_kind kinds i) ≡ false) (columns_in a) (columns_in b)
-        (columns_of_parts a (each_left IsNoVector (parts a) (parts b) each.1)) (columns_of_parts b (each_right IsNoVector (parts a) (parts b) each.1))
-    columns_of_parts (Cond c a b) each =
-        let first = each_left IsNoVector (parts c ++ parts a) (parts b) each.1 in
-        each_append (λ i. gives_vector (number_kind kinds i) ≡ false) (columns_in c ++ columns_in a) (columns_in b)
-        (each_append (λ i. gives_vector (number_kind kinds i) ≡ false) (columns_in c) (columns_in a)
-        (columns_of_parts c (each_left IsNoVector (parts c) (parts a) first)) (columns_of_parts a (each_right IsNoVector (parts c) (parts a) first)))
-        (columns_of_parts b (each_right IsNoVector (parts c ++ parts a) (parts b) each.1))
-    columns_of_parts (Pick a b) each =
-        each_append (λ i. gives_vector (number_kind kinds i) ≡ false) (columns_in a) (columns_in b)
-        (columns_of_parts a (each_left IsNoVector (parts a) (parts b) each.1)) (columns_of_parts b (each_right IsNoVector (parts a) (parts b) each.1))
-    columns_of_parts (Call f args) each = columns_of_all_parts args each.1
-
-    columns_of_all_parts : (args : Trees ℕ Callee) → AllByRecursion IsNoVector (parts_of_all args) → AllByRecursion (λ i. gives_vector (number_kind kinds i) ≡ false) (columns_in_all args)
-    columns_of_all_parts End each = tt
-    columns_of_all_parts (More a rest) each =
-        each_append (λ i. gives_vector (number_kind kinds i) ≡ false) (columns_in a) (columns_in_all rest)
-        (columns_of_parts a (each_left IsNoVector (parts a) (parts_of_all rest) each)) (columns_of_all_parts rest (each_right IsNoVector (parts a) (parts_of_all rest) each))
-
-  -- an expression that has a kind is plain exactly where no part of it is a vector
-  pub plain_parts : (e : NumTree) (k : ColType) → num_kind kinds names e ≡ Ok k → (is_plain kinds e ≡ true) ↔ All IsNoVector (parts e)
-  plain_parts e k h = (
-    λ plain. All-from_recursion IsNoVector (parts e) (parts_scalar e k h plain),
-    λ each. (plain_typed kinds names e k h (columns_of_parts e (recursion_from_All IsNoVector (parts e) each))).0,
-  )
-
-  pub test_of_parts : (r : Bool) (e : NumTree) (k : ColType) → r ≡ is_plain kinds e → num_kind kinds names e ≡ Ok k → (r ≡ true) ↔ HasNoVector kinds names e
-  test_of_parts r e k is h =
-      let both = plain_parts e k h in
-      (λ yes'. both.0 (sym is ∙ yes'), λ each. is ∙ both.1 each)
+        sym (plain_typed (zip numbers kinds) names tree k typed.typed (each_of_all (NoVector (zip numbers kinds)) (λ i. all_scalar numbers kinds i is) (columns_in tree))).0

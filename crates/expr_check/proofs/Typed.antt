@@ -2,7 +2,6 @@
 use Rattle.std.proofs.Common.{◌≡◌, ◌+◌, Bool, true, false, List, ◌++◌, length, Result, Ok, Err, IsOk, refl, ap, nat_eq, if◌then◌else◌}
 use Rattle.std.specs.List.{AllByRecursion}
 use Rattle.rdf_values.specs.{◌>>=◌, all_renamed, args_count, Bin, Call, Col, ColType, columns_in, columns_in_all, Cond, End, GraphCause, kind_by, kinds_by, Lit, More, Neg, Not, Pick, renamed, same_kinds, Shape, Tree, Trees}
-use Rattle.rdf_values.specs.expressions.Expressions.{Truth}
 use Rattle.rdf_values.specs.declared.scripts.graph_cause.GraphCause.TheVariants.{WrongType, WrongCount}
 use Rattle.expr_check.proofs.Distinct.{each_left, each_right, each_append}
 
@@ -14,15 +13,13 @@ args_count-all_renamed column function (More a rest) = ap (λ n. n + 1) (args_co
 module _ {C D F G : Type 0} (column : C → D) (function : F → G) (col : D → Result ColType GraphCause) (fun : G → Result Shape GraphCause) where
   mutual
     pub kind_by-renamed : (e : Tree C F) → kind_by col fun (renamed column function e) ≡ kind_by (λ c. col (column c)) (λ f. fun (function f)) e
-    kind_by-renamed (Lit z) = refl
-    kind_by-renamed (Truth b) = refl
-    kind_by-renamed (Col c) = refl
     kind_by-renamed (Neg a) = rw (kind_by-renamed a) refl
     kind_by-renamed (Not a) = rw (kind_by-renamed a) refl
     kind_by-renamed (Bin o a b) = simp (kind_by-renamed a, kind_by-renamed b) refl
     kind_by-renamed (Cond c a b) = simp (kind_by-renamed c, kind_by-renamed a, kind_by-renamed b) refl
     kind_by-renamed (Pick v i) = simp (kind_by-renamed v, kind_by-renamed i) refl
     kind_by-renamed (Call f args) = simp (kinds_by-renamed args, args_count-all_renamed column function args) refl
+    kind_by-renamed e = refl
 
     pub kinds_by-renamed : (args : Trees C F) → kinds_by col fun (all_renamed column function args) ≡ kinds_by (λ c. col (column c)) (λ f. fun (function f)) args
     kinds_by-renamed End = refl
@@ -32,8 +29,6 @@ module _ {C D F G : Type 0} (column : C → D) (function : F → G) (col : D →
 module _ {C F : Type 0} (col col' : C → Result ColType GraphCause) (fun fun' : F → Result Shape GraphCause) (same_functions : (f : F) → fun f ≡ fun' f) where
   mutual
     pub kind_by-same : (e : Tree C F) → AllByRecursion (λ c. col c ≡ col' c) (columns_in e) → kind_by col fun e ≡ kind_by col' fun' e
-    kind_by-same (Lit z) h = refl
-    kind_by-same (Truth b) h = refl
     kind_by-same (Col c) h = h.0
     kind_by-same (Neg a) h = rw (kind_by-same a h) refl
     kind_by-same (Not a) h = rw (kind_by-same a h) refl
@@ -54,6 +49,7 @@ module _ {C F : Type 0} (col col' : C → Result ColType GraphCause) (fun fun' :
     kind_by-same (Call f args) h =
         let es = kinds_by-same args h in
         simp (same_functions f, es) refl
+    kind_by-same e h = refl
 
     pub kinds_by-same : (args : Trees C F) → AllByRecursion (λ c. col c ≡ col' c) (columns_in_all args) → kinds_by col fun args ≡ kinds_by col' fun' args
     kinds_by-same End h = refl
@@ -81,8 +77,6 @@ call_ok counted kinds takes gives k h = cc h
 module _ {C F : Type 0} (col : C → Result ColType GraphCause) (fun : F → Result Shape GraphCause) where
   mutual
     pub columns_known : (e : Tree C F) (k : ColType) → kind_by col fun e ≡ Ok k → AllByRecursion (λ c. IsOk (col c)) (columns_in e)
-    columns_known (Lit z) k h = tt
-    columns_known (Truth b) k h = tt
     columns_known (Col c) k h = (rw h refl, tt)
     columns_known (Neg a) k h = let w = bind_ok (kind_by col fun a) _ k h in columns_known a w.0 w.1
     columns_known (Not a) k h = let w = bind_ok (kind_by col fun a) _ k h in columns_known a w.0 w.1
@@ -104,6 +98,7 @@ module _ {C F : Type 0} (col : C → Result ColType GraphCause) (fun : F → Res
         let s = bind_ok (fun f) _ k h in
         let ts = call_ok (nat_eq (args_count args) (length s.0.takes)) (kinds_by col fun args) s.0.takes s.0.gives k s.2 in
         all_columns_known args ts.0 ts.1
+    columns_known e k h = tt
 
     all_columns_known : (args : Trees C F) (ks : List ColType) → kinds_by col fun args ≡ Ok ks → AllByRecursion (λ c. IsOk (col c)) (columns_in_all args)
     all_columns_known End ks h = tt

@@ -2,34 +2,11 @@
 use Rattle.std.proofs.Common.{◌≡◌, ℕ, true, List, [], ◌∷◌, length, map, Option, Some, None, Result, Ok, IsOk, refl, ap, sym, ◌∙◌, subst, nat_eq, All, slice_get, replicate, MatchOption}
 use Rattle.lemmas.proofs.{All-from_recursion, AllByRecursion, Decides-eqb, firsts-zip, length-map, length-replicate, zip}
 use Rattle.rdf_values.specs.{args_count, Bin, Call, Callee, callee, Col, ColType, column_kind, columns_in, Cond, End, FnName, FunctionNames, GraphCause, kind_by, kind_of, kinds_by, kinds_in, Lit, More, NamedTree, Neg, Not, number_in, numbered, NumTree, Pick, ScopeColumn, Shape, shape, shape_of, Trees}
-use Rattle.rdf_values.specs.expressions.Expressions.{Truth}
 use Rattle.expr_check.specs.{AllCallsFit, callee_shape, CallsFit, checked_expr, CheckedExpr, distinct, given_shape, IsCallOf, IsWellTyped, num_kind, number_kind, numbers_in, NumbersHaveKinds}
 use Rattle.expr_check.proofs.Calls.{callee_shape-callee}
 use Rattle.expr_check.proofs.Distinct.{each_distinct, each_from_distinct}
 use Rattle.expr_check.proofs.ScopeKinds.{number_kind-number_in, each_weaker, each_by_zip}
 use Rattle.expr_check.proofs.Typed.{kind_by-renamed, kind_by-same, columns_known, bind_ok, call_ok}
-
-module _ (scope : List ScopeColumn) (names : FunctionNames) (e : NamedTree) (k : ColType) (one : NumbersHaveKinds scope) (typed : kind_of (kinds_in scope) names e ≡ Ok k) where
-  -- by the kinds that the scope gives to its numbers, the numbered expression has the same kind
-  typed_by_scope : kind_by (number_kind (numbers_in scope)) (callee_shape names) (numbered scope names e) ≡ Ok k
-  typed_by_scope =
-      kind_by-renamed (number_in scope) (callee names) (number_kind (numbers_in scope)) (callee_shape names) e
-      ∙ sym (kind_by-same (column_kind (kinds_in scope)) (λ c. number_kind (numbers_in scope) (number_in scope c)) (shape_of names) (λ f. callee_shape names (callee names f)) (λ f. sym (callee_shape-callee names f)) e
-      (each_weaker (λ c. IsOk (column_kind (kinds_in scope) c)) (λ c. column_kind (kinds_in scope) c ≡ number_kind (numbers_in scope) (number_in scope c))
-      (λ c known. number_kind-number_in scope c one known) (columns_in e) (columns_known (column_kind (kinds_in scope)) (shape_of names) e k typed)))
-      ∙ typed
-
-  pub numbers_known : All (λ i. IsOk (number_kind (numbers_in scope) i)) (distinct (columns_in (numbered scope names e)))
-  numbers_known =
-      All-from_recursion (λ i. IsOk (number_kind (numbers_in scope) i)) (distinct (columns_in (numbered scope names e)))
-      (each_distinct (λ i. IsOk (number_kind (numbers_in scope) i)) (columns_in (numbered scope names e)) (columns_known (number_kind (numbers_in scope)) (callee_shape names) (numbered scope names e) k typed_by_scope))
-
-  pub well_typed : (reads : List ℕ) (kinds : List ColType) → reads ≡ distinct (columns_in (numbered scope names e)) → map (λ (c : ColType). Ok c) kinds ≡ map (number_kind (numbers_in scope)) reads → num_kind (zip reads kinds) names (numbered scope names e) ≡ Ok k
-  well_typed reads kinds are have =
-      let P : List ℕ → Type 0 = AllByRecursion (λ i. number_kind (numbers_in scope) i ≡ number_kind (zip reads kinds) i) in
-      sym (kind_by-same (number_kind (numbers_in scope)) (number_kind (zip reads kinds)) (callee_shape names) (callee_shape names) (λ f. refl) (numbered scope names e)
-      (each_from_distinct (λ i. number_kind (numbers_in scope) i ≡ number_kind (zip reads kinds) i) (columns_in (numbered scope names e)) (subst P are (each_by_zip reads kinds (number_kind (numbers_in scope)) have))))
-      ∙ typed_by_scope
 
 -- each column beside its kind
 zip_known : (reads : List ℕ) (kinds : List ColType) (kind_at : ℕ → Result ColType GraphCause) → map (λ (c : ColType). Ok c) kinds ≡ map kind_at reads → AllByRecursion (λ (c : ℕ × ColType). kind_at c.0 ≡ Ok c.1) (zip reads kinds)
@@ -52,22 +29,12 @@ given_fits (Some f) s count is counts =
 
 call_fits : (names : FunctionNames) (f : Callee) (s : Shape) (count : ℕ) → callee_shape names f ≡ Ok s → nat_eq count (length s.takes) ≡ true → IsCallOf names f count
 call_fits names (Callee.Given i) s count is counts = given_fits (slice_get names i) s count is ((Decides-eqb count (length s.takes)).0 counts)
-call_fits names Callee.Sum s count is counts = tt
-call_fits names Callee.Min s count is counts = tt
-call_fits names Callee.Max s count is counts = tt
-call_fits names Callee.Size s count is counts = tt
-call_fits names Callee.Any s count is counts = tt
-call_fits names Callee.All s count is counts = tt
-call_fits names Callee.At s count is counts = tt
-call_fits names Callee.Abs s count is counts = tt
+call_fits names f s count is counts = tt
 
 -- each call of an expression that has a kind is a call of its function
 module _ (col : ℕ → Result ColType GraphCause) (names : FunctionNames) where
   mutual
     pub calls_fit : (e : NumTree) (k : ColType) → kind_by col (callee_shape names) e ≡ Ok k → CallsFit names e
-    calls_fit (Lit z) k h = tt
-    calls_fit (Truth b) k h = tt
-    calls_fit (Col c) k h = tt
     calls_fit (Neg a) k h = let w = bind_ok (kind_by col (callee_shape names) a) _ k h in calls_fit a w.0 w.1
     calls_fit (Not a) k h = let w = bind_ok (kind_by col (callee_shape names) a) _ k h in calls_fit a w.0 w.1
     calls_fit (Bin o a b) k h =
@@ -87,6 +54,7 @@ module _ (col : ℕ → Result ColType GraphCause) (names : FunctionNames) where
         let s = bind_ok (callee_shape names f) _ k h in
         let ts = call_ok (nat_eq (args_count args) (length s.0.takes)) (kinds_by col (callee_shape names) args) s.0.takes s.0.gives k s.2 in
         (call_fits names f s.0 (args_count args) s.1 ts.2, all_calls_fit args ts.0 ts.1)
+    calls_fit e k h = tt
 
     all_calls_fit : (args : Trees ℕ Callee) (ks : List ColType) → kinds_by col (callee_shape names) args ≡ Ok ks → AllCallsFit names args
     all_calls_fit End ks h = tt
@@ -96,19 +64,31 @@ module _ (col : ℕ → Result ColType GraphCause) (names : FunctionNames) where
         (calls_fit a w.0 w.1, all_calls_fit rest v.0 v.1)
 
 -- what a check knows, at the tree that it built
-module _ (scope : List ScopeColumn) (names : FunctionNames) (e : NamedTree) (t : NumTree) (k : ColType) (typed : kind_of (kinds_in scope) names e ≡ Ok k) (is : t ≡ numbered scope names e) (reads : List ℕ) (are : reads ≡ distinct (columns_in t)) where
-  are_numbered : reads ≡ distinct (columns_in (numbered scope names e))
-  are_numbered = are ∙ ap (λ (u : NumTree). distinct (columns_in u)) is
+module _ (scope : List ScopeColumn) (names : FunctionNames) (e : NamedTree) (t : NumTree) (k : ColType) (typed : kind_of (kinds_in scope) names e ≡ Ok k) (is : t ≡ numbered scope names e) (reads : List ℕ) (are : reads ≡ distinct (columns_in t)) (one : NumbersHaveKinds scope) where
+  -- by the kinds that the scope gives to its numbers, the numbered expression has the same kind
+  typed_by_scope : kind_by (number_kind (numbers_in scope)) (callee_shape names) t ≡ Ok k
+  typed_by_scope =
+      ap (λ (u : NumTree). kind_by (number_kind (numbers_in scope)) (callee_shape names) u) is ∙ kind_by-renamed (number_in scope) (callee names) (number_kind (numbers_in scope)) (callee_shape names) e
+      ∙ sym (kind_by-same (column_kind (kinds_in scope)) (λ c. number_kind (numbers_in scope) (number_in scope c)) (shape_of names) (λ f. callee_shape names (callee names f)) (λ f. sym (callee_shape-callee names f)) e
+      (each_weaker (λ c. IsOk (column_kind (kinds_in scope) c)) (λ c. column_kind (kinds_in scope) c ≡ number_kind (numbers_in scope) (number_in scope c))
+      (λ c known. number_kind-number_in scope c one known) (columns_in e) (columns_known (column_kind (kinds_in scope)) (shape_of names) e k typed)))
+      ∙ typed
 
-  pub reads_known : NumbersHaveKinds scope → All (λ i. IsOk (number_kind (numbers_in scope) i)) reads
-  reads_known one = rw are_numbered (numbers_known scope names e k one typed)
+  pub reads_known : All (λ i. IsOk (number_kind (numbers_in scope) i)) reads
+  reads_known =
+      rw are (All-from_recursion (λ i. IsOk (number_kind (numbers_in scope) i)) (distinct (columns_in t))
+      (each_distinct (λ i. IsOk (number_kind (numbers_in scope) i)) (columns_in t) (columns_known (number_kind (numbers_in scope)) (callee_shape names) t k typed_by_scope)))
 
-  module _ (one : NumbersHaveKinds scope) (kinds : List ColType) (have : map (λ (c : ColType). Ok c) kinds ≡ map (number_kind (numbers_in scope)) reads) where
+  module _ (kinds : List ColType) (have : map (λ (c : ColType). Ok c) kinds ≡ map (number_kind (numbers_in scope)) reads) where
     pub kinds_beside : length kinds ≡ length reads
     kinds_beside = sym (length-map kinds (λ (c : ColType). Ok c)) ∙ ap length have ∙ length-map reads (number_kind (numbers_in scope))
 
-    pub tree_typed : num_kind (zip reads kinds) names t ≡ Ok k
-    tree_typed = rw is (well_typed scope names e k one typed reads kinds are_numbered have)
+    tree_typed : num_kind (zip reads kinds) names t ≡ Ok k
+    tree_typed =
+        let P : List ℕ → Type 0 = AllByRecursion (λ i. number_kind (numbers_in scope) i ≡ number_kind (zip reads kinds) i) in
+        sym (kind_by-same (number_kind (numbers_in scope)) (number_kind (zip reads kinds)) (callee_shape names) (callee_shape names) (λ f. refl) t
+        (each_from_distinct (λ i. number_kind (numbers_in scope) i ≡ number_kind (zip reads kinds) i) (columns_in t) (subst P are (each_by_zip reads kinds (number_kind (numbers_in scope)) have))))
+        ∙ typed_by_scope
 
     pub is_well_typed : IsWellTyped names (checked_expr t (zip reads kinds) k)
     is_well_typed = record { typed = tree_typed; columns = firsts-zip reads kinds kinds_beside ∙ are }

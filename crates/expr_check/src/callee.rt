@@ -7,13 +7,6 @@ ghost use Rattle.rdf_values.specs.declared.tables.value.ColType.TheVariants as k
 
 use rdf_values::{Callee, ColType, FnNames, Name};
 
-/// What a function takes, a kind for each argument, and what it gives.
-#[derive(Clone, Copy)]
-pub(crate) struct Signature {
-    pub takes: &'static [ColType],
-    pub gives: ColType,
-}
-
 const VECTOR: &[ColType] = &[ColType::Vect];
 
 const PLACE: &[ColType] = &[ColType::Vect, ColType::Int];
@@ -66,30 +59,16 @@ fn arity(names: &FnNames, i: u32) -> usize
     names.as_slice()[i].arity as usize
 }
 
-pub(crate) fn signature_of(callee: Callee, names: &FnNames) -> Signature
+/// What a function takes, a kind for each argument, and what it gives.
+pub(crate) fn signature_of(callee: Callee, names: &FnNames) -> (&'static [ColType], ColType)
     requires { IsCallable names.now callee }
-    ensures { callee_shape names.now callee ≡ Ok (shape result.takes.now result.gives) }
+    ensures { callee_shape names.now callee ≡ Ok (shape result.0.now result.1) }
 {
     match callee {
-        Callee::Sum | Callee::Min | Callee::Max | Callee::Size => Signature {
-            takes: VECTOR,
-            gives: ColType::Int,
-        },
-        Callee::Any | Callee::All => Signature {
-            takes: VECTOR,
-            gives: ColType::Bool,
-        },
-        Callee::At => Signature {
-            takes: PLACE,
-            gives: ColType::Int,
-        },
-        Callee::Abs => Signature {
-            takes: &NUMBERS[..1],
-            gives: ColType::Int,
-        },
-        Callee::Given(i) => Signature {
-            takes: &NUMBERS[..arity(names, i)],
-            gives: ColType::Int,
-        },
+        Callee::Sum | Callee::Min | Callee::Max | Callee::Size => (VECTOR, ColType::Int),
+        Callee::Any | Callee::All => (VECTOR, ColType::Bool),
+        Callee::At => (PLACE, ColType::Int),
+        Callee::Abs => (&NUMBERS[..1], ColType::Int),
+        Callee::Given(i) => (&NUMBERS[..arity(names, i)], ColType::Int),
     }
 }

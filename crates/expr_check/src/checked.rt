@@ -72,16 +72,10 @@ impl Checked {
     }
 }
 
-fn is_vector(kind: ColType) -> bool
-    ensures { result ≡ is_vector kind }
-{
-    matches!(kind, ColType::Vect)
-}
-
 fn has_vector(kinds: &[ColType]) -> bool
     ensures { result ≡ list_any is_vector kinds.now }
 {
-    kinds.iter().any(|kind| is_vector(*kind))
+    kinds.iter().any(|kind| *kind == ColType::Vect)
 }
 
 /// The expression with its columns and functions numbered, or the first refusal: the parts of a node come from

@@ -2,7 +2,6 @@
 //! expression with its columns and functions numbered. It stands on `rdf_values`.
 #![tactic(auto)]
 
-mod build;
 mod callee;
 pub mod checked;
 mod kind;

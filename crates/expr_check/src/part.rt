@@ -1,9 +1,8 @@
 // The kinds of the parts of an expression, and the parts with their columns and functions numbered.
 ghost use Rattle.std.specs.Prelude.{◌≡◌, ◌≤◌, nat_eq, length, Ok, IfOk, IfErr};
-ghost use Rattle.rdf_values.specs.{all_renamed, args_count, Call as CallTree, callee, column_kind, kind_of, kinds_by, kinds_in, num_tree, num_trees, number_in, numbered, same_kind, shape_of, tree_of, trees_of};
+ghost use Rattle.rdf_values.specs.{all_renamed, args_count, Call as CallTree, callee, column_kind, kind_of, kinds_by, kinds_in, num_tree, num_trees, number_in, numbered, shape_of, tree_of, trees_of};
 ghost use Rattle.expr_check.specs.{arguments_fit, RefusedAs};
 
-use crate::build;
 use crate::callee::{find_callee, signature_of};
 use crate::kind::{chosen_kind, inverted_kind, negated_kind, operator_kind, picked_kind};
 use crate::refusal::CheckRefusal;
@@ -23,12 +22,6 @@ pub(crate) struct Part {
 struct Arguments {
     nodes: NumArgs,
     fit: bool,
-}
-
-fn same_kind(a: ColType, b: ColType) -> bool
-    ensures { result ≡ same_kind a b }
-{
-    a == b
 }
 
 fn has_count(args: &Args, count: usize) -> bool
@@ -71,20 +64,21 @@ pub(crate) fn check_part(
         ExprNode::Neg(a) => {
             let a = check_part(alloc, a, scope, names)?;
             let kind = negated_kind(a.kind)?;
-            let node = build::negated(alloc, a.node)?;
+            let node = NumNode::Neg(Box::new(alloc, a.node)?);
             Ok(Part { node, kind })
         }
         ExprNode::Not(a) => {
             let a = check_part(alloc, a, scope, names)?;
             let kind = inverted_kind(a.kind)?;
-            let node = build::inverted(alloc, a.node)?;
+            let node = NumNode::Not(Box::new(alloc, a.node)?);
             Ok(Part { node, kind })
         }
         ExprNode::Bin(op, left, right) => {
             let left = check_part(alloc, left, scope, names)?;
             let right = check_part(alloc, right, scope, names)?;
             let kind = operator_kind(*op, left.kind, right.kind)?;
-            let node = build::combined(alloc, *op, left.node, right.node)?;
+            let left = Box::new(alloc, left.node)?;
+            let node = NumNode::Bin(*op, left, Box::new(alloc, right.node)?);
             Ok(Part { node, kind })
         }
         ExprNode::Cond(condition, first, second) => {
@@ -92,14 +86,17 @@ pub(crate) fn check_part(
             let first = check_part(alloc, first, scope, names)?;
             let second = check_part(alloc, second, scope, names)?;
             let kind = chosen_kind(condition.kind, first.kind, second.kind)?;
-            let node = build::chosen(alloc, condition.node, first.node, second.node)?;
+            let condition = Box::new(alloc, condition.node)?;
+            let first = Box::new(alloc, first.node)?;
+            let node = NumNode::Cond(condition, first, Box::new(alloc, second.node)?);
             Ok(Part { node, kind })
         }
         ExprNode::Pick(vector, index) => {
             let vector = check_part(alloc, vector, scope, names)?;
             let index = check_part(alloc, index, scope, names)?;
             let kind = picked_kind(vector.kind, index.kind)?;
-            let node = build::picked(alloc, vector.node, index.node)?;
+            let vector = Box::new(alloc, vector.node)?;
+            let node = NumNode::Pick(vector, Box::new(alloc, index.node)?);
             Ok(Part { node, kind })
         }
         ExprNode::Call(name, args) => check_call(alloc, name, args, scope, names),
@@ -122,15 +119,15 @@ fn check_call(
     let Some(callee) = find_callee(name, names) else {
         return Err(CheckRefusal::UnknownFunction);
     };
-    let signature = signature_of(callee, names);
-    if !has_count(args, signature.takes.len()) {
+    let (takes, gives) = signature_of(callee, names);
+    if !has_count(args, takes.len()) {
         return Err(CheckRefusal::WrongCount);
     }
-    let arguments = check_arguments(alloc, args, signature.takes, scope, names)?;
+    let arguments = check_arguments(alloc, args, takes, scope, names)?;
     if arguments.fit {
         Ok(Part {
             node: NumNode::Call(callee, arguments.nodes),
-            kind: signature.gives,
+            kind: gives,
         })
     } else {
         Err(CheckRefusal::WrongType)
@@ -159,8 +156,9 @@ fn check_arguments(
         Args::More(first, rest) => {
             let first = check_part(alloc, first, scope, names)?;
             let rest = check_arguments(alloc, rest, &takes[1..], scope, names)?;
-            let fit = same_kind(first.kind, takes[0]) && rest.fit;
-            let nodes = build::argument(alloc, first.node, rest.nodes)?;
+            let fit = first.kind == takes[0] && rest.fit;
+            let first = Box::new(alloc, first.node)?;
+            let nodes = NumArgs::More(first, Box::new(alloc, rest.nodes)?);
             Ok(Arguments { nodes, fit })
         }
     }

@@ -1,5 +1,5 @@
 // The columns that a numbered expression names.
-ghost use Rattle.std.specs.Prelude.{◌≡◌, ◌++◌, ◌∷◌, [], nat_eq, OnOk, IfOk};
+ghost use Rattle.std.specs.Prelude.{◌≡◌, ◌++◌, nat_eq, OnOk, IfOk};
 ghost use Rattle.std.specs.List.{list_any};
 ghost use Rattle.rdf_values.specs.{columns_in, columns_in_all, num_tree, num_trees};
 ghost use Rattle.expr_check.specs.{distinct, with_new};
@@ -7,22 +7,13 @@ ghost use Rattle.expr_check.specs.{distinct, with_new};
 use rdf_values::{Memory, NumArgs, NumNode};
 use std::alloc::Global;
 
-fn push(columns: &mut Vec<u32>, number: u32) -> Result<(), Memory>
-    ensures { OnOk result (columns.new.items ≡ columns.old.items ++ number ∷ []) }
-{
-    match columns.push(number) {
-        Ok(()) => Ok(()),
-        Err(_) => Err(Memory),
-    }
-}
-
 #[cycle(columns)]
 fn push_columns(columns: &mut Vec<u32>, node: &NumNode) -> Result<(), Memory>
     ensures { OnOk result (columns.new.items ≡ columns.old.items ++ columns_in (num_tree node.now)) }
 {
     match node {
         NumNode::Lit(_) | NumNode::Truth(_) => Ok(()),
-        NumNode::Col(number) => push(columns, *number),
+        NumNode::Col(number) => Ok(columns.push(*number)?),
         NumNode::Neg(a) | NumNode::Not(a) => push_columns(columns, a),
         NumNode::Bin(_, a, b) | NumNode::Pick(a, b) => {
             push_columns(columns, a)?;
@@ -62,7 +53,7 @@ fn push_new(seen: &mut Vec<u32>, number: u32) -> Result<(), Memory>
     if contains(seen.as_slice(), number) {
         return Ok(());
     }
-    push(seen, number)
+    Ok(seen.push(number)?)
 }
 
 #[tactic(auto, using(crate::proofs::Distinct::distinct_more))]

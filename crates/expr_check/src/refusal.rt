@@ -1,5 +1,9 @@
 // Why an expression has no kind.
+ghost use Rattle.std.specs.Prelude.{◌≡◌};
+ghost use Rattle.expr_check.specs.declared.refusal.CheckRefusal.TheVariants as refusal;
+
 use rdf_values::Memory as NoMemory;
+use std::alloc::AllocFailed;
 
 /// Why an expression has no kind, printed as S4, S5, S7 and S8, or want of memory.
 #[derive(Clone, Copy, Debug, PartialEq, Eq)]
@@ -12,12 +16,17 @@ pub enum CheckRefusal {
 }
 
 impl From<NoMemory> for CheckRefusal {
-    ghost use Rattle.std.specs.Prelude.{◌≡◌};
-    ghost use Rattle.expr_check.specs.declared.refusal.CheckRefusal.TheVariants as refusal;
-
-    ghost from_gives = { λ memory outcome. outcome ≡ refusal.Memory };
+    ghost from_gives = { λ _ outcome. outcome ≡ refusal.Memory };
 
     fn from(_: NoMemory) -> CheckRefusal {
+        CheckRefusal::Memory
+    }
+}
+
+impl<T: Drop> From<AllocFailed<T>> for CheckRefusal {
+    ghost from_gives = { λ _ outcome. outcome ≡ refusal.Memory };
+
+    fn from(_: AllocFailed<T>) -> CheckRefusal {
         CheckRefusal::Memory
     }
 }

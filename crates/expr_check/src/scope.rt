@@ -63,10 +63,7 @@ impl Scope {
         ensures err { OnErr result (self.new ≡ self.old) }
     {
         let name = name.copy(self.alloc)?;
-        match self.columns.push(Known { name, kind, number }) {
-            Ok(()) => Ok(()),
-            Err(_) => Err(Memory),
-        }
+        Ok(self.columns.push(Known { name, kind, number })?)
     }
 
     fn named(&self, name: &Name) -> Option<&Known>
@@ -107,16 +104,6 @@ impl Scope {
         }
     }
 
-    fn known_kind(&self, number: u32) -> ColType
-        requires { IsOk (number_kind (numbers_in self.now) number) }
-        ensures { number_kind (numbers_in self.now) number ≡ Ok result }
-    {
-        match self.number_kind(number) {
-            Some(kind) => kind,
-            None => unreachable!(),
-        }
-    }
-
     /// The kinds of columns by their numbers, each of which a column has.
     pub(crate) fn kinds_of(&self, numbers: &[u32]) -> Result<Vec<ColType>, Memory>
         requires known { NumbersHaveKinds self.now → All (λ i. IsOk (number_kind (numbers_in self.now) i)) numbers.now }
@@ -125,10 +112,10 @@ impl Scope {
     {
         let mut kinds = Vec::new(self.alloc);
         for number in numbers {
-            match kinds.push(self.known_kind(*number)) {
-                Ok(()) => {}
-                Err(_) => return Err(Memory),
-            }
+            let Some(kind) = self.number_kind(*number) else {
+                unreachable!();
+            };
+            kinds.push(kind)?;
         }
         Ok(kinds)
     }
