@@ -85,6 +85,7 @@ impl<'a> Sources<'a> {
 }
 
 // Whether one of the weights at some places is out of range.
+#[tactic(auto, using(lemmas::proofs::Booleans::neither, crate::proofs::Batching::one_more_light, std::proofs::lemmas::List::take_all))]
 fn any_heavy(weights: &[i64], places: &Places<'_>) -> bool
     requires few { length (places_of places.now) ≤ 1000000 }
     requires there { EachPlace places.now (λ p. p < length weights.now) }
@@ -125,6 +126,7 @@ impl Batch<'_> {
 
     /// The first of the places whose values an action can't be fed with, and why: vectors of different lengths, and then a weight
     /// out of range.
+    #[tactic(auto, using(crate::proofs::Batching::none_found))]
     pub fn first_fault(&self) -> Option<PlaceFault>
         requires few { length (places_of self.now.places) ≤ 1000000 }
         requires there { EachPlace self.now.places (HasValues self.now.sources) }

@@ -24,6 +24,7 @@ pub fn weight_at(weight: &Option<Part<'_>>, i: usize) -> i64
 }
 
 /// Fills the points of one entry, each with its weight.
+#[tactic(auto, using(crate::proofs::Points::points_filled))]
 pub fn fill_points(hist: &mut Hist1, xs: &[i64], weight: &Option<Part<'_>>)
     requires lengths { length (weights (length xs.now) (part_values weight.now)) ≡ length xs.now }
     requires weights { All IsWeight (weights (length xs.now) (part_values weight.now)) }
@@ -38,6 +39,7 @@ pub fn fill_points(hist: &mut Hist1, xs: &[i64], weight: &Option<Part<'_>>)
 }
 
 /// Fills the pairs of one entry, each with its weight.
+#[tactic(auto, using(crate::proofs::Points::points2_filled))]
 pub fn fill_pairs(hist: &mut Hist2, xs: &[i64], ys: &[i64], weight: &Option<Part<'_>>)
     requires pairs { length ys.now ≡ length xs.now }
     requires lengths { length (weights (length xs.now) (part_values weight.now)) ≡ length xs.now }
@@ -54,6 +56,7 @@ pub fn fill_pairs(hist: &mut Hist2, xs: &[i64], ys: &[i64], weight: &Option<Part
 }
 
 /// Fills the numbers of some places, each with its weight.
+#[tactic(auto, using(crate::proofs::Batching::one_point_more))]
 pub fn fill_weighted(hist: &mut Hist1, numbers: &[i64], weights: &[i64], places: &Places<'_>)
     requires few { length (places_of places.now) ≤ 1000000 }
     requires there { EachPlace places.now (λ p. p < length numbers.now) }
@@ -71,6 +74,7 @@ pub fn fill_weighted(hist: &mut Hist1, numbers: &[i64], weights: &[i64], places:
 }
 
 /// Fills the pairs of numbers of some places.
+#[tactic(auto, using(crate::proofs::Batching::one_point_more))]
 pub fn fill_number_pairs(hist: &mut Hist2, xs: &[i64], ys: &[i64], places: &Places<'_>)
     requires few { length (places_of places.now) ≤ 1000000 }
     requires there { EachPlace places.now (λ p. p < length xs.now) }
@@ -88,6 +92,7 @@ pub fn fill_number_pairs(hist: &mut Hist2, xs: &[i64], ys: &[i64], places: &Plac
 }
 
 /// Fills the pairs of numbers of some places, each with its weight.
+#[tactic(auto, using(crate::proofs::Batching::one_point_more))]
 pub fn fill_weighted_pairs(
     hist: &mut Hist2,
     xs: &[i64],

@@ -22,6 +22,7 @@ impl Places<'_> {
     }
 
     /// The one of a number, counted from 0.
+    #[tactic(auto, using(crate::proofs::Batching::first_at))]
     pub fn at(&self, i: u32) -> u32
         requires { i < length (places_of self.now) }
         ensures { slice_index_or (places_of self.now) i 0 ≡ result }
