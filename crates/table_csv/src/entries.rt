@@ -30,6 +30,7 @@ pub(crate) fn read_heading(
 }
 
 /// The table of a header and of all records that are left, with its marks.
+#[tactic(auto, using(crate::proofs::TableSteps::same_columns, crate::proofs::TableSteps::reading_opened, crate::proofs::CellSteps::row_early))]
 pub(crate) fn read_entries(
     alloc: Global,
     heading: Heading,

@@ -6,6 +6,7 @@ ghost use Rattle.table_csv.specs.{is_line_end, is_quote, is_special, IsCut};
 use memchr::{memchr, memchr2};
 
 /// Whether a double quote stands in the bytes.
+#[tactic(auto, using(crate::proofs::CutLines::found_any))]
 pub(crate) fn has_quote(bytes: &[u8]) -> bool
     ensures { result ≡ list_any is_quote bytes.now }
 {
@@ -13,6 +14,7 @@ pub(crate) fn has_quote(bytes: &[u8]) -> bool
 }
 
 /// Whether a double quote stands in the bytes, or the byte with which a byte order mark begins.
+#[tactic(auto, using(crate::proofs::CutLines::found_any))]
 pub(crate) fn has_special(bytes: &[u8]) -> bool
     ensures { result ≡ list_any is_special bytes.now }
 {
@@ -26,6 +28,7 @@ fn find_line_end(bytes: &[u8]) -> Option<usize>
 }
 
 /// The bytes up to the first line's end from a place on, and those behind it.
+#[tactic(auto, using(crate::proofs::CutLines::lines_to, rdf_values::proofs::Fronts::rest_of))]
 pub(crate) fn cut_lines(bytes: &[u8], from: usize) -> (&[u8], &[u8])
     requires { from ≤ length bytes.now }
     ensures whole { result.0.now ++ result.1.now ≡ bytes.now }

@@ -8,6 +8,7 @@ use rdf_values::Memory;
 use std::alloc::Global;
 
 /// A reader of every record of the bytes.
+#[tactic(auto, unfolding(crate::specs::Csv::csv_records))]
 pub(crate) fn open(alloc: Global, bytes: &[u8]) -> Reader<&[u8]>
     ensures { Leaves result (csv_records bytes.now) }
 {

@@ -80,6 +80,7 @@ fn share(bytes: usize, some: u32, all: u32) -> usize
 }
 
 /// The first half of the texts and the other half. A single text is cut behind a line, by the slots of either half.
+#[tactic(auto, using(crate::proofs::CutLines::halves_whole, crate::proofs::CutLines::behind_ends))]
 pub(crate) fn halved(texts: Texts<'_>, some: u32, all: u32) -> (Texts<'_>, Texts<'_>)
     requires some { some ≤ all }
     requires lines { All EndsLine texts.lines.now }

@@ -1,15 +1,7 @@
 use Rattle.std.proofs.Common.{arith, inl, inr}
 use Rattle.std.proofs.lemmas.Result.{err_from_is_err_and}
-use Rattle.rdf_values.proofs.KeptLemmas.{kept_length}
-use Rattle.csv.specs.Records.{fields_of}
-use Rattle.table_csv.proofs.PushSteps.{pushing_end, pushing_more, pushing_start, pushing_stop}
+use Rattle.table_csv.proofs.PushSteps.{pushing_end, pushing_stop}
 use Rattle.table_csv.proofs.cells.push_cells.Goals as goal
-
-pub loop-i-init : goal.loop-i-init
-loop-i-init c = pushing_start c.args.entry c.args.columns.now (fields_of c.args.fields.now) c.args.cells.now
-
-pub bounds-cells-i : goal.bounds-cells-i
-bounds-cells-i = grind (arith, kept_length)
 
 pub returns-in_err-push_cell : goal.returns-in_err-push_cell
 returns-in_err-push_cell c =
@@ -22,10 +14,6 @@ returns-in_err-push_cell c =
         pushing_stop _ _ _ _ _ _ _ c.index-cells-i.result bad.0 c.loop-i.invariant c.requires.kept (omega arith) (omega arith) c.index-cells-i.is (rw (← c.field.ensures) (rw (← c.index-cells-i.is) at bad.2)),
       )
     ])
-
-pub loop-i-preserved : goal.loop-i-preserved
-loop-i-preserved c =
-    pushing_more _ _ _ _ _ _ _ c.index-cells-i.result c.push_cell.new.column c.loop-i.invariant c.requires.kept (omega arith) (omega arith) c.index-cells-i.is (rw (c.field.ensures, ← c.index-cells-i.is) at c.in_ok-push_cell.ensures)
 
 pub returns : goal.returns
 returns c = pushing_end _ _ _ _ _ _ _ c.loop-i.invariant (omega arith)

@@ -4,15 +4,9 @@ use Rattle.csv.specs.Records.{fields_of}
 use Rattle.rdf_values.specs.{rows_kept}
 use Rattle.rdf_values.proofs.KeptLemmas.{row_fits_columns, holds_push, length-rows_kept, pushed_back, rows_after_push}
 use Rattle.table_csv.proofs.CellSteps.{row_early}
-use Rattle.table_csv.proofs.TableSteps.{mark_if, reading_end, reading_marks, reading_more, reading_opened, reading_stop, same_columns}
+use Rattle.table_csv.proofs.TableSteps.{mark_if, reading_end, reading_marks, reading_more, reading_stop, same_columns}
 use Rattle.table_csv.proofs.entries.read_entries.Goals as goal
 use Rattle.table_csv.proofs.entries.read_entries.Goals.{then-begins+in_ok-push, else-begins}
-
-pub loop-fields-init : goal.loop-fields-init
-loop-fields-init c =
-    let e = sym c.in_ok-new.ensures ∙ c.into_parts-parts.ensures.same in
-    let cols = same_columns _ _ _ _ e in
-    (λ whole h. (whole, h, rw c.new-marks.ensures (reading_opened _ _ _ _ c.args.heading.marked whole e)), rw cols at c.into_parts-parts.ensures.holds)
 
 pub next-requires : goal.next-requires
 next-requires c =
@@ -34,9 +28,6 @@ pub push-requires-clause-above : goal.push-requires-clause-above
 push-requires-clause-above c =
     let inv = c.loop-fields.invariant.0 c.requires.left.0 c.requires.left.1 in
     reading_marks _ _ _ _ _ _ inv.2
-
-pub push-requires-clause-few : goal.push-requires-clause-few
-push-requires-clause-few c = row_early c.loop-fields.entry _ (fields_of c.next.new.fields) _ c.in_ok-begins.ensures.spelt
 
 pub loop-fields-preserved : goal.loop-fields-preserved
 loop-fields-preserved c =

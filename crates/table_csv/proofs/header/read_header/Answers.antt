@@ -1,17 +1,8 @@
-use Rattle.std.proofs.Common.{◌<◌, ◌∙◌, [], ◌∷◌, arith, refl, sym, length, length-append}
+use Rattle.std.proofs.Common.{◌<◌, ◌∙◌, [], ◌∷◌, arith, sym, length, length-append}
 use Rattle.csv.specs.Records.{fields_of}
-use Rattle.table_csv.proofs.HeaderSteps.{NoCut, header_cut, header_end, header_more, header_onto-none, header_stop}
+use Rattle.table_csv.proofs.HeaderSteps.{NoCut, header_more}
 use Rattle.table_csv.proofs.header.read_header.Goals as goal
 use Rattle.table_csv.proofs.header.read_header.Goals.{else-i-len-via-then-i-len+in_ok-is_cut+else-branch, else-i-len-via-else-i-len}
-
-pub loop-i-init : goal.loop-i-init
-loop-i-init c = rw c.new-columns.ensures (sym (header_onto-none _), refl, omega arith)
-
-pub returns-then-branch-clause-value : goal.returns-then-branch-clause-value
-returns-then-branch-clause-value = grind (arith, header_cut)
-
-pub returns-in_default-clause-value : goal.returns-in_default-clause-value
-returns-in_default-clause-value = grind (arith, NoCut, else-i-len-via-then-i-len+in_ok-is_cut+else-branch, else-i-len-via-else-i-len, header_stop)
 
 pub loop-i-preserved : goal.loop-i-preserved
 loop-i-preserved c =
@@ -27,6 +18,3 @@ loop-i-preserved c =
       omega (arith, c.loop-i.invariant.1, length-append c.loop-i.columns (c.in-Some.column ∷ [])),
       omega (arith, c.loop-i.invariant.1, room),
     )
-
-pub returns-clause-value : goal.returns-clause-value
-returns-clause-value c = c.loop-i.invariant.0 ∙ header_end c.loop-i.columns (fields_of c.args.header.now) c.loop-i.i (omega (arith, c.loop-i-test.false, c.len-i-end.ensures))

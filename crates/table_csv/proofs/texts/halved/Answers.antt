@@ -1,11 +1,8 @@
-use Rattle.std.proofs.Common.{◌<◌, ◌+◌, ◌/◌, arith, length}
+use Rattle.std.proofs.Common.{◌<◌, ◌/◌, arith, length}
 use Rattle.std.proofs.lemmas.List.Elements.{All-take}
 use Rattle.table_csv.specs.{EndsLine}
-use Rattle.table_csv.proofs.CutLines.{behind_ends, halves_cut, halves_whole}
+use Rattle.table_csv.proofs.CutLines.{halves_cut}
 use Rattle.table_csv.proofs.texts.halved.Goals as goal
-
-pub returns-clause-whole : goal.returns-clause-whole
-returns-clause-whole = grind (arith, halves_whole)
 
 pub returns-clause-cut : goal.returns-clause-cut
 returns-clause-cut c =
@@ -15,6 +12,3 @@ returns-clause-cut c =
 
 pub returns-clause-front : goal.returns-clause-front
 returns-clause-front c = All-take EndsLine (c.in-Some.others / 2) c.args.texts.lines.now c.requires.lines
-
-pub returns-clause-back : goal.returns-clause-back
-returns-clause-back c = behind_ends c.args.texts.lines.now (c.in-Some.others / 2 + 1) c.requires.lines
