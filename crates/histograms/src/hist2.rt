@@ -53,6 +53,7 @@ impl Hist2 {
 
     /// Adds a weight to the cell of a pair of values.
     #[inline(always)]
+    #[tactic(auto, using(crate::proofs::FillingPairs::place_within, crate::proofs::Filling::fits_bounded, crate::proofs::Filling::bounded_with))]
     pub fn fill(&mut self, x: i64, y: i64, weight: i64)
         requires weight { IsWeight weight }
         requires room { self.old.fills < MOST_FILLS }

@@ -1,4 +1,4 @@
-use Rattle.std.proofs.Common.{rules, ℕ, ◌≡◌, ◌<◌, ◌≤◌, ◌+◌, ◌*◌, ◌∙◌, length, map, get_or, set, arith, ap, sym, subst, List, ℤ, w64, length-set, vec_len, refl}
+use Rattle.std.proofs.Common.{ℕ, ◌≡◌, ◌<◌, ◌≤◌, ◌+◌, ◌*◌, ◌∙◌, length, map, get_or, set, arith, ap, sym, subst, List, ℤ, w64, length-set, refl}
 use Rattle.std.proofs.lemmas.Int.{to_z-of_z}
 use Rattle.rdf_values.specs.{bin}
 use Rattle.histograms.specs.{cell_seen, CellSum, IsBounded, IsWeight, rows_on, with_weight}
@@ -10,18 +10,6 @@ use Rattle.histograms.proofs.hist2.Hist2.fill.Goals as goal
 bounded_next : (n : ℕ) (cells : List CellSum) (i : ℕ) (cell new : CellSum) (w : ℤ) → IsWeight w → ((k : ℕ) (d : CellSum) → k < length cells → IsBounded n (get_or cells k d)) → i < length cells → cell ≡ get_or cells i cell → new ≡ with_weight cell w → IsBounded (n + 1) new
 bounded_next n cells i cell new w h all l read e = subst (IsBounded (n + 1)) (sym e) (bounded_with n cell w h (subst (IsBounded n) (sym read) (all i cell l)))
 
-pub index-requires : goal.index-requires
-index-requires = grind (arith, place_within)
-
-pub with-requires-clause-sum : goal.with-requires-clause-sum
-with-requires-clause-sum c =
-    let room = rw (← c.self.view_is) at c.requires.room in
-    let below = place_within c.self.inside.x c.self.inside.y c.bin.result c.bin-2.result c.place-at.result (length c.self.inside.cells.items) c.self.invariant.size c.bin.ensures.within c.bin-2.ensures.within
-    (c.place-at.ensures ∙ ap (λ w. c.bin.result * w + c.bin-2.result) c.cells.ensures) in
-    rw (to_z-of_z w64 c.args.weight c.ranges.weight)
-    (fits_bounded (c.self.inside.fills + 1) (with_weight c.index.result.now c.args.weight) (omega arith)
-    (bounded_next c.self.inside.fills c.self.inside.cells.items c.place-at.result c.index.result.now _ c.args.weight c.requires.weight c.self.invariant.bounded below c.index.ensures refl)).0
-
 pub with-requires-clause-squares : goal.with-requires-clause-squares
 with-requires-clause-squares c =
     let room = rw (← c.self.view_is) at c.requires.room in
@@ -30,9 +18,6 @@ with-requires-clause-squares c =
     rw (to_z-of_z w64 c.args.weight c.ranges.weight)
     (fits_bounded (c.self.inside.fills + 1) (with_weight c.index.result.now c.args.weight) (omega arith)
     (bounded_next c.self.inside.fills c.self.inside.cells.items c.place-at.result c.index.result.now _ c.args.weight c.requires.weight c.self.invariant.bounded below c.index.ensures refl)).1
-
-pub index_mut-requires : goal.index_mut-requires
-index_mut-requires = grind (arith, place_within)
 
 pub invariant_of-self : goal.invariant_of-self
 invariant_of-self c =
