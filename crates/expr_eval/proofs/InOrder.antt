@@ -1,10 +1,9 @@
 -- Operations whose left side may decide.
-use Rattle.std.proofs.Common.{◌≡◌, ℕ, Bool, true, false, None, Result, refl, ◌<◌, ◌+◌, zero, suc, ℤ, pos, negsuc, List, [], ◌∷◌, ◌++◌, length, drop, get_or, ◌∙◌, append_assoc, ap, sym, ◌+ℤ◌, fold, if◌then◌else◌}
+use Rattle.std.proofs.Common.{◌≡◌, ℕ, Bool, true, false, None, Result, refl, ◌<◌, ◌+◌, zero, suc, ℤ, pos, negsuc, List, [], ◌∷◌, ◌++◌, length, drop, get_or, ◌∙◌, append_assoc, ap, sym, ◌+ℤ◌, fold, if◌then◌else◌, arith}
 use Rattle.rdf_values.specs.{BinOp, Value, EntryFault}
 use Rattle.rdf_model.specs.{◌>>=◌, Gives, operation, Outcome, value_operation, checked, Faults, for_all, gives_int, is_set, marked, Needs, pairs, sum_from}
-use Rattle.expr_eval.specs.{AnswersAs, decision, EvalStop, following, StopsAs}
+use Rattle.expr_eval.specs.{AnswersAs, decision, EvalStop, following}
 use Rattle.std.proofs.lemmas.List.{at_drop_more}
-use Rattle.expr_eval.specs.declared.stop.EvalStop.TheVariants.{Fault, Need, Memory}
 
 leaves_open : (o : BinOp) (v : Value) (p : Outcome ℕ Value) → decision o v ≡ None → operation o (Gives v) p ≡ (p >>= value_operation o v)
 leaves_open BinOp.And (Value.Bool false) p e = absurd (cc)
@@ -88,18 +87,7 @@ module _ (xs ms : List ℤ) (i : ℕ) (d e : ℤ) (inside : i < length xs) (same
       ∙ sym (append_assoc out (get_or xs i d ∷ []) (marked (drop (i + 1) xs) (drop (i + 1) ms)))
 
   pub marked_left_out : is_set (get_or ms i e) ≡ false → marked xs ms ≡ out ++ marked (drop (i + 1) xs) (drop (i + 1) ms)
-  marked_left_out h =
-      marked_from_here ∙ ap (λ (b : Bool). out ++ (if b then get_or xs i d ∷ marked (drop (i + 1) xs) (drop (i + 1) ms) else marked (drop (i + 1) xs) (drop (i + 1) ms))) h
-
--- a stop of the first part is one of the whole
-pub stops_through : {A B : Type 0} (o : Outcome ℕ A) (f : A → Outcome ℕ B) (stop : EvalStop) → StopsAs o stop → StopsAs (o >>= f) stop
-stops_through o f (Fault kind) h = rw h
-stops_through o f (Need c) h = rw h
-stops_through o f Memory h = tt
-
--- goes on with what was given
-pub gives_through : {A B : Type 0} (o : Outcome ℕ A) (f : A → Outcome ℕ B) (a : A) → o ≡ Gives a → (o >>= f) ≡ f a
-gives_through o f a h = rw h
+  marked_left_out h = grind (arith, marked_from_here)
 
 -- a mark that isn't 0 is set
 pub set_mark : (m : ℤ) → (m ≡ pos 0 → ⊥) → is_set m ≡ true

@@ -1,5 +1,5 @@
 -- The calls of a checked expression can be made.
-use Rattle.std.proofs.Common.{◌≡◌, ◌≤◌, ◌<◌, ℕ, suc, zero, true, List, [], ◌∷◌, length, Result, Ok, arith, sym, subst, nat_eq, HoldsAt, slice_get, MatchOption, Bool, false, ◌++◌, map, Err, IsOk, refl, cond, All, ℤ, pos, Option, Some, None, nat_abs, replicate, IfOk}
+use Rattle.std.proofs.Common.{◌≡◌, ◌≤◌, ◌<◌, ℕ, suc, zero, true, List, [], ◌∷◌, length, Result, Ok, arith, sym, subst, nat_eq, HoldsAt, slice_get, MatchOption, Bool, false, ◌++◌, map, IsOk, refl, cond, All, ℤ, pos, Option, Some, None, nat_abs, replicate, IfOk}
 use Rattle.lemmas.proofs.{AllByRecursion, Decides-eqb, recursion_from_All}
 use Rattle.rdf_values.specs.{AreFnNames, args_count, Bin, Call, Callee, Col, ColType, Cond, End, fn_names, FnName, Function, FunctionNames, GraphCause, kind_by, kinds_by, Lit, More, Neg, Not, NumTree, Pick, Shape, shape, Trees, columns_in, columns_in_all, EachArgument, EachColumn, Tree, Value, FitsKind, Scalar}
 use Rattle.rdf_values.specs.expressions.Expressions.{Truth}
@@ -141,8 +141,7 @@ module _ (look : ℕ → Outcome ℕ Value) where
   scalar_of_kind t (Needs m) p f = tt
 
   scalar_of_known : (r : Result ColType GraphCause) (o : Outcome ℕ Value) → IsOk r → gives_vector r ≡ false → ((s : ColType) → r ≡ Ok s → FitsOutcome s o) → GivesScalar o
-  scalar_of_known (Ok t) o known p f = scalar_of_kind t o p (f t refl)
-  scalar_of_known (Err e) o known p f = cc known
+  scalar_of_known r o known p f = grind (arith, scalar_of_kind)
 
   -- no column of a plain expression comes to a vector
   pub plain_columns : (e : CheckedExpr) → IsTyped e → All (λ (c : ℕ × ColType). FitsOutcome c.1 (look c.0)) e.kinds → is_plain e.kinds e.tree ≡ true → EachColumn (λ c. GivesScalar (look c)) e.tree
@@ -160,16 +159,13 @@ int_fits : (o : Outcome ℕ ℤ) → FitsOutcome ColType.Int (o >>= gives_int)
 int_fits o = meets_bind ℕ (λ z. Unit {0}) (FitsKind ColType.Int) o gives_int (always ℕ o) (λ z _. tt)
 
 extreme_fits : (better : ℤ → ℤ → ℤ) (xs : List ℤ) → FitsOutcome ColType.Int (extreme_element {M = ℕ} better xs)
-extreme_fits better [] = tt
-extreme_fits better (x ∷ xs) = tt
+extreme_fits better xs = grind arith
 
 answer_fits : (a : Option ℤ) → FitsOutcome ColType.Int (answer_outcome {M = ℕ} a)
-answer_fits (Some z) = tt
-answer_fits None = tt
+answer_fits a = grind arith
 
 given_fits : (f : Option Function) (zs : List ℤ) → FitsOutcome ColType.Int (given_call {M = ℕ} f zs)
-given_fits None zs = tt
-given_fits (Some f) zs = answer_fits (f.answer zs)
+given_fits f zs = grind (arith, answer_fits)
 
 -- one argument that is a vector
 of_vector : (t : ColType) (o : List Value → Outcome ℕ Value) → ((xs : List ℤ) → FitsOutcome t (o (Value.Vect xs ∷ []))) → (vs : List Value) → FitKinds (ColType.Vect ∷ []) vs → FitsOutcome t (o vs)
@@ -227,9 +223,7 @@ module _ (functions : List Function) (look : ℕ → Outcome ℕ Value) (e : Che
       evaluate_fits ℕ look (call_outcome functions) (number_kind e.kinds) (callee_shape typed.0) (fits_at look e.kinds fit) (λ f s vs is. call_fits functions typed.0 f s is vs) e.tree e.kind typed.1.typed
 
   pub scalar_fits : (r : Result Scalar ScalarStop) → scalar_outcome r ≡ evaluate look (call_outcome functions) e.tree → IfOk r (λ s. FitsKind e.kind (scalar_value s))
-  scalar_fits (Ok s) h = subst (λ (o : Outcome ℕ Value). FitsOutcome e.kind o) (sym h) evaluated_fits
-  scalar_fits (Err stop) h = tt
+  scalar_fits r h = grind (arith, evaluated_fits)
 
   pub value_fits : (r : Result Value EvalStop) → AnswersAs (λ v. v) (evaluate look (call_outcome functions) e.tree) r → IfOk r (λ v. FitsKind e.kind v)
-  value_fits (Ok v) h = subst (λ (o : Outcome ℕ Value). FitsOutcome e.kind o) h evaluated_fits
-  value_fits (Err stop) h = tt
+  value_fits r h = grind (arith, evaluated_fits)
