@@ -1,7 +1,8 @@
 -- Evaluations without vectors.
 use Rattle.std.specs.Prelude.{◌≡◌, Bool, true, false, ℕ, ℤ, pos, nat_abs, List, [], ◌∷◌, ◌++◌, map, slice_get, Result, Ok, Err}
-use Rattle.rdf_values.specs.{Bin, Callee, Col, Function, Lit, NumTree, Value}
+use Rattle.rdf_values.specs.{Bin, Callee, Col, EachColumn, Function, Lit, NumTree, Value}
 use Rattle.rdf_model.specs.{◌>>=◌, argument, checked, Faults, given_call, Gives, gives_int, Needs, Outcome, untyped}
+use Rattle.expr_eval.specs.CanCall.{CanCall}
 use Rattle.expr_eval.specs.declared.scalar_answer.ScalarAnswer.{ScalarAnswer}
 use Rattle.expr_eval.specs.declared.stop.ScalarStop.{ScalarStop}
 use Rattle.expr_eval.specs.declared.stop.ScalarStop.TheVariants.{Fault, Need}
@@ -15,6 +16,10 @@ IsScalar v = Unit {0}
 abbrev pub GivesScalar : {M : Type 0} → Outcome M Value → Type 0
 GivesScalar (Gives v) = IsScalar v
 GivesScalar o = Unit {0}
+
+-- a part of a plain expression: each column can be asked for and gives no vector, and each call can be made
+abbrev pub IsScalarPart : (ℕ → Type 0) → (ℕ → Outcome ℕ Value) → List Function → NumTree → Type 0
+IsScalarPart can look functions e = EachColumn can e × EachColumn (λ c. GivesScalar (look c)) e × CanCall functions e
 
 -- the values are no vectors
 abbrev pub AreScalars : List Value → Type 0

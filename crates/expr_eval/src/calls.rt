@@ -34,10 +34,7 @@ pub(crate) fn answer<C: Calls>(calls: &C, number: u32, args: &[i64]) -> Result<i
     requires { CallFits (C.functions calls.now) (Callee.Given number) (length args.now) }
     ensures { number_value result ≡ given_call (slice_get (C.functions calls.now) number) args.now }
 {
-    match calls.call_at(number, args) {
-        Some(z) => Ok(z),
-        None => Err(EntryFault::Function),
-    }
+    calls.call_at(number, args).ok_or(EntryFault::Function)
 }
 
 /// The expression's node, of which each call can be made.

@@ -3,8 +3,7 @@ ghost use Rattle.std.specs.Prelude.{◌≡◌, ℕ, ℤ, List, length, map, pos,
 ghost use Rattle.std.specs.Int.{int_min, int_max};
 ghost use Rattle.rdf_model.specs.{checked, element as element_of, extreme_element, for_all, is_set, is_zero, mark as mark_of, marked as marked_elements, number_operation, Outcome, pairs, sum_from};
 ghost use Rattle.std.specs.List.{list_any, list_all};
-ghost use Rattle.expr_eval.specs.Answers.{number_outcome, number_value, sum_of};
-ghost use Rattle.expr_eval.specs.EvalAnswers.{AnswersAs};
+ghost use Rattle.expr_eval.specs.Answers.{AnswersAs, number_outcome, number_value, sum_of};
 
 use crate::number::{mark, negate, operate};
 use crate::stop::EvalStop;
@@ -132,7 +131,8 @@ pub(crate) fn element(xs: &[i64], place: i64) -> Result<i64, EntryFault>
 }
 
 /// The sum, of which each part from the left has 64 bits.
-pub(crate) fn sum(xs: &[i64]) -> Result<i64, EntryFault>
+#[inline]
+pub fn sum(xs: &[i64]) -> Result<i64, EntryFault>
     ensures { number_value result ≡ sum_of xs.now }
 {
     let mut total = 0_i64;
@@ -146,7 +146,8 @@ pub(crate) fn sum(xs: &[i64]) -> Result<i64, EntryFault>
 }
 
 /// The least element.
-pub(crate) fn least(xs: &[i64]) -> Result<i64, EntryFault>
+#[inline]
+pub fn least(xs: &[i64]) -> Result<i64, EntryFault>
     ensures { number_value result ≡ extreme_element int_min xs.now }
 {
     let Some((first, rest)) = xs.split_first() else {
@@ -160,7 +161,8 @@ pub(crate) fn least(xs: &[i64]) -> Result<i64, EntryFault>
 }
 
 /// The greatest element.
-pub(crate) fn greatest(xs: &[i64]) -> Result<i64, EntryFault>
+#[inline]
+pub fn greatest(xs: &[i64]) -> Result<i64, EntryFault>
     ensures { number_value result ≡ extreme_element int_max xs.now }
 {
     let Some((first, rest)) = xs.split_first() else {

@@ -2,7 +2,7 @@
 ghost use Rattle.std.specs.Prelude.{◌≡◌, ℕ};
 ghost use Rattle.rdf_model.specs.{Outcome};
 ghost use Rattle.rdf_values.specs.{Value};
-ghost use Rattle.expr_eval.specs.Inputs.{input_outcome};
+ghost use Rattle.expr_eval.specs.Answers.{input_outcome};
 
 use rdf_values::EntryFault;
 

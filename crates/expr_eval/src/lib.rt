@@ -4,7 +4,7 @@
 #![tactic(auto)]
 
 pub mod calls;
-mod elements;
+pub mod elements;
 pub mod inputs;
 pub mod number;
 mod operand;

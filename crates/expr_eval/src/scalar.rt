@@ -1,12 +1,11 @@
 // Evaluation without vectors.
 ghost use Rattle.std.specs.Prelude.{◌≡◌, ◌+◌, ◌<◌, ◌≤◌, ℕ, ℤ, true, length, All, OnOk, IfOk};
-ghost use Rattle.rdf_values.specs.{args_count, Call as CallTree, EachArgument, EachColumn, FitsKind, fn_names, Neg as NegTree, Not as NotTree, num_tree, num_trees};
+ghost use Rattle.rdf_values.specs.{args_count, Call as CallTree, EachArgument, FitsKind, fn_names, Neg as NegTree, Not as NotTree, num_tree, num_trees};
 ghost use Rattle.rdf_values.specs.declared.tables.value.Value.TheVariants.{Int as ValueInt, Bool as ValueBool};
 ghost use Rattle.rdf_model.specs.{argument, call_outcome, evaluate, evaluate_all, FitsOutcome, Gives, of_numbers, operation, value_operation};
 ghost use Rattle.entry_fns.specs.{functions_in};
 ghost use Rattle.expr_check.specs.{CallsFit, is_plain};
-ghost use Rattle.expr_eval.specs.{answered, ArgumentsCanCall, CallFits, Gathers, GivesScalar, input_outcome, is_other, number_call, number_value, scalar_outcome, scalar_value};
-ghost use Rattle.expr_eval.specs.CanCall.{CanCall};
+ghost use Rattle.expr_eval.specs.{answered, ArgumentsCanCall, CallFits, Gathers, GivesScalar, input_outcome, is_other, IsScalarPart, number_call, number_value, scalar_outcome, scalar_value};
 
 use crate::calls::{Calls, answer, callable};
 use crate::inputs::{Input, Inputs};
@@ -48,9 +47,7 @@ pub fn eval_int<I: Inputs, L: Ledger>(
 // of a call is taken from a local.
 #[cycle(scalar)]
 fn eval_node<I: Inputs, C: Calls>(node: &NumNode, inputs: &I, calls: &C) -> ScalarAnswer
-    requires can { EachColumn (I.can inputs.now) (num_tree node.now) }
-    requires scalars { EachColumn (λ c. GivesScalar (I.look inputs.now c)) (num_tree node.now) }
-    requires calls { CanCall (C.functions calls.now) (num_tree node.now) }
+    requires { IsScalarPart (I.can inputs.now) (I.look inputs.now) (C.functions calls.now) (num_tree node.now) }
     ensures { answered result ≡ evaluate (I.look inputs.now) (call_outcome (C.functions calls.now)) (num_tree node.now) }
 {
     match node {
@@ -75,9 +72,7 @@ fn eval_node<I: Inputs, C: Calls>(node: &NumNode, inputs: &I, calls: &C) -> Scal
 #[inline(always)]
 #[cycle(scalar)]
 fn eval_side<I: Inputs, C: Calls>(node: &NumNode, inputs: &I, calls: &C) -> ScalarAnswer
-    requires can { EachColumn (I.can inputs.now) (num_tree node.now) }
-    requires scalars { EachColumn (λ c. GivesScalar (I.look inputs.now c)) (num_tree node.now) }
-    requires calls { CanCall (C.functions calls.now) (num_tree node.now) }
+    requires { IsScalarPart (I.can inputs.now) (I.look inputs.now) (C.functions calls.now) (num_tree node.now) }
     ensures { answered result ≡ evaluate (I.look inputs.now) (call_outcome (C.functions calls.now)) (num_tree node.now) }
 {
     match node {
@@ -97,9 +92,7 @@ fn eval_number_right<I: Inputs, C: Calls>(
     inputs: &I,
     calls: &C,
 ) -> ScalarAnswer
-    requires can { EachColumn (I.can inputs.now) (num_tree right.now) }
-    requires scalars { EachColumn (λ c. GivesScalar (I.look inputs.now c)) (num_tree right.now) }
-    requires calls { CanCall (C.functions calls.now) (num_tree right.now) }
+    requires { IsScalarPart (I.can inputs.now) (I.look inputs.now) (C.functions calls.now) (num_tree right.now) }
     ensures { answered result ≡ operation op (Gives (ValueInt left)) (evaluate (I.look inputs.now) (call_outcome (C.functions calls.now)) (num_tree right.now)) }
 {
     match eval_side(right, inputs, calls) {
@@ -119,9 +112,7 @@ fn eval_truth_right<I: Inputs, C: Calls>(
     inputs: &I,
     calls: &C,
 ) -> ScalarAnswer
-    requires can { EachColumn (I.can inputs.now) (num_tree right.now) }
-    requires scalars { EachColumn (λ c. GivesScalar (I.look inputs.now c)) (num_tree right.now) }
-    requires calls { CanCall (C.functions calls.now) (num_tree right.now) }
+    requires { IsScalarPart (I.can inputs.now) (I.look inputs.now) (C.functions calls.now) (num_tree right.now) }
     ensures { answered result ≡ operation op (Gives (ValueBool left)) (evaluate (I.look inputs.now) (call_outcome (C.functions calls.now)) (num_tree right.now)) }
 {
     match (op, left) {
@@ -140,9 +131,7 @@ fn eval_truth_right<I: Inputs, C: Calls>(
 #[cycle(scalar)]
 fn eval_other<I: Inputs, C: Calls>(node: &NumNode, inputs: &I, calls: &C) -> ScalarAnswer
     requires other { is_other (num_tree node.now) ≡ true }
-    requires can { EachColumn (I.can inputs.now) (num_tree node.now) }
-    requires scalars { EachColumn (λ c. GivesScalar (I.look inputs.now c)) (num_tree node.now) }
-    requires calls { CanCall (C.functions calls.now) (num_tree node.now) }
+    requires part { IsScalarPart (I.can inputs.now) (I.look inputs.now) (C.functions calls.now) (num_tree node.now) }
     ensures { answered result ≡ evaluate (I.look inputs.now) (call_outcome (C.functions calls.now)) (num_tree node.now) }
 {
     match node {
@@ -170,9 +159,7 @@ fn eval_other<I: Inputs, C: Calls>(node: &NumNode, inputs: &I, calls: &C) -> Sca
 #[inline(never)]
 #[cycle(scalar)]
 fn eval_negative<I: Inputs, C: Calls>(a: &NumNode, inputs: &I, calls: &C) -> ScalarAnswer
-    requires can { EachColumn (I.can inputs.now) (num_tree a.now) }
-    requires scalars { EachColumn (λ c. GivesScalar (I.look inputs.now c)) (num_tree a.now) }
-    requires calls { CanCall (C.functions calls.now) (num_tree a.now) }
+    requires { IsScalarPart (I.can inputs.now) (I.look inputs.now) (C.functions calls.now) (num_tree a.now) }
     ensures { answered result ≡ evaluate (I.look inputs.now) (call_outcome (C.functions calls.now)) (NegTree (num_tree a.now)) }
 {
     match eval_node(a, inputs, calls) {
@@ -185,9 +172,7 @@ fn eval_negative<I: Inputs, C: Calls>(a: &NumNode, inputs: &I, calls: &C) -> Sca
 #[inline(never)]
 #[cycle(scalar)]
 fn eval_inverse<I: Inputs, C: Calls>(a: &NumNode, inputs: &I, calls: &C) -> ScalarAnswer
-    requires can { EachColumn (I.can inputs.now) (num_tree a.now) }
-    requires scalars { EachColumn (λ c. GivesScalar (I.look inputs.now c)) (num_tree a.now) }
-    requires calls { CanCall (C.functions calls.now) (num_tree a.now) }
+    requires { IsScalarPart (I.can inputs.now) (I.look inputs.now) (C.functions calls.now) (num_tree a.now) }
     ensures { answered result ≡ evaluate (I.look inputs.now) (call_outcome (C.functions calls.now)) (NotTree (num_tree a.now)) }
 {
     match eval_node(a, inputs, calls) {
@@ -206,9 +191,7 @@ fn eval_call<I: Inputs, C: Calls>(
     inputs: &I,
     calls: &C,
 ) -> ScalarAnswer
-    requires can { EachArgument (I.can inputs.now) (num_trees args.now) }
-    requires scalars { EachArgument (λ c. GivesScalar (I.look inputs.now c)) (num_trees args.now) }
-    requires calls { CallFits (C.functions calls.now) callee (args_count (num_trees args.now)) × (args_count (num_trees args.now) ≤ 8) × ArgumentsCanCall (C.functions calls.now) (num_trees args.now) }
+    requires { IsScalarPart (I.can inputs.now) (I.look inputs.now) (C.functions calls.now) (CallTree callee (num_trees args.now)) }
     ensures { answered result ≡ evaluate (I.look inputs.now) (call_outcome (C.functions calls.now)) (CallTree callee (num_trees args.now)) }
 {
     let mut numbers = ArrayVec::new();

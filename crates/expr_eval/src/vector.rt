@@ -189,14 +189,8 @@ fn combine<'a>(
             Ok(z) => Ok(operation_value(op, z)),
             Err(kind) => Err(EvalStop::Fault(kind)),
         },
-        (View::Int(x), View::Vect(ys)) => {
-            let operation = LeftNumber { op, left: x };
-            each_of(alloc, &operation, ys)
-        }
-        (View::Vect(xs), View::Int(y)) => {
-            let operation = RightNumber { op, right: y };
-            each_of(alloc, &operation, xs)
-        }
+        (View::Int(x), View::Vect(ys)) => each_of(alloc, &LeftNumber { op, left: x }, ys),
+        (View::Vect(xs), View::Int(y)) => each_of(alloc, &RightNumber { op, right: y }, xs),
         (View::Vect(xs), View::Vect(ys)) => combine_vectors(alloc, op, xs, ys),
         (View::Bool(a), View::Bool(b)) => match operate(op, mark(a), mark(b)) {
             Ok(z) => Ok(Operand::Bool(z != 0)),
@@ -213,10 +207,7 @@ fn each_of<'a, E: Elementwise>(
 ) -> Result<Operand<'a>, EvalStop>
     ensures { AnswersAs operand_value (vector_outcome (for_all (E.outcome operation.now) xs.now)) result }
 {
-    match each(alloc, operation, xs) {
-        Ok(results) => Ok(Operand::Owned(results)),
-        Err(stop) => Err(stop),
-    }
+    Ok(Operand::Owned(each(alloc, operation, xs)?))
 }
 
 fn operation_value<'a>(op: BinOp, z: i64) -> Operand<'a>

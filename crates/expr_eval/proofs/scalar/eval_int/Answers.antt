@@ -2,13 +2,11 @@ use Rattle.std.proofs.Common.{◌∙◌}
 use Rattle.expr_eval.proofs.OfItsKind.{known_columns, plain_columns, scalar_fits}
 use Rattle.expr_eval.proofs.scalar.eval_int.Goals as goal
 
-pub eval_node-requires-clause-can : goal.eval_node-requires-clause-can
-eval_node-requires-clause-can g c =
-    rw c.callable.ensures.node (known_columns c.args.expr.now c.callable.ensures.typed (g.I.Inputs.can c.args.inputs.now) c.requires.can)
-
-pub eval_node-requires-clause-scalars : goal.eval_node-requires-clause-scalars
-eval_node-requires-clause-scalars g c =
-    rw c.callable.ensures.node (plain_columns (g.I.Inputs.look c.args.inputs.now) c.args.expr.now c.callable.ensures.typed c.requires.fit c.requires.plain)
+pub eval_node-requires : goal.eval_node-requires
+eval_node-requires g c =
+    let known = known_columns c.args.expr.now c.callable.ensures.typed (g.I.Inputs.can c.args.inputs.now) c.requires.can in
+    let plain = plain_columns (g.I.Inputs.look c.args.inputs.now) c.args.expr.now c.callable.ensures.typed c.requires.fit c.requires.plain in
+    rw c.callable.ensures.node (known, plain, c.callable.ensures.calls)
 
 pub returns-clause-kind : goal.returns-clause-kind
 returns-clause-kind g c =
