@@ -3,10 +3,10 @@ use Rattle.std.proofs.Common.{◌≡◌, ◌<◌, ℕ, ℤ, pos, negsuc, neg_ℤ
 use Rattle.std.proofs.lemmas.Int.{ints}
 use Rattle.rdf_values.specs.{BinOp, Call, Callee, Function, Neg, Not, num_tree, NumTree, Trees, Value, ColType}
 use Rattle.rdf_model.specs.{◌>>=◌, checked, Gives, is_zero, mark, number_operation, Outcome}
-use Rattle.expr_lanes.specs.declared.numbers.Side.{Side}
+use Rattle.expr_lanes.specs.declared.kernels.Side.{Side}
 use Rattle.expr_lanes.specs.{called_at, depth, EachPlace, Evaluated, fold_or, fold_read, HasCome, HasNumber, is_decider, IsAble, IsAtHand, lane_at, lane_operation, side_number, Stopped, with_zero, at_place, HasValues, is_given, lane_outcome, lane_value, times, with_stop, given_in, is_in, stops_in}
-use Rattle.expr_lanes.specs.declared.parts.Branch.{Branch}
-use Rattle.expr_lanes.specs.declared.parts.Branch.TheVariants.{Node, Same}
+use Rattle.expr_lanes.specs.declared.nodes.Branch.{Branch}
+use Rattle.expr_lanes.specs.declared.nodes.Branch.TheVariants.{Node, Same}
 use Rattle.expr_lanes.proofs.Sequence.{alike, come_alike, come_told, go_on, told, come_from, same_given, same_stops, filtered_out, times_with, first_in, rest_in}
 use Rattle.lemmas.proofs.{and_false, and_left, and_right, and_true, eqb_tells, filter, or_false}
 use Rattle.expr_lanes.proofs.SiftSteps.{filter_alike}
