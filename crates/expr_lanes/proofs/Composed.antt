@@ -8,6 +8,7 @@ use Rattle.expr_lanes.specs.{called_at, depth, EachPlace, Evaluated, fold_or, fo
 use Rattle.expr_lanes.specs.declared.nodes.Branch.{Branch}
 use Rattle.expr_lanes.specs.declared.nodes.Branch.TheVariants.{Node, Same}
 use Rattle.expr_lanes.proofs.Sequence.{alike, come_alike, come_told, go_on, told, come_from, same_given, same_stops, filtered_out, times_with, first_in, rest_in}
+pub use Rattle.expr_lanes.proofs.Sequence.{in_filter}
 use Rattle.lemmas.proofs.{and_false, and_left, and_right, and_true, eqb_tells, filter, or_false}
 use Rattle.expr_lanes.proofs.SiftSteps.{filter_alike}
 use Rattle.expr_lanes.proofs.Selected.{parts_of, filter_whole, short}
@@ -105,23 +106,6 @@ by_value f g k sel left before after stops more same read e =
     }
 
 -- ---- Evaluations of which each place takes one of two.
-
--- ---- filters
-
-or_and : (a b t : Bool) → ((a || b) && t) ≡ ((a && t) || (b && t))
-or_and a b t = grind arith
-
-in_if_kept : (t : Bool) (p q : ℕ) (rest : List ℕ) → is_in p (cond t (q ∷ rest) rest) ≡ ((nat_eq p q && t) || is_in p rest)
-in_if_kept true p q rest = ap (λ b. b || is_in p rest) (sym (and_true (nat_eq p q)))
-in_if_kept false p q rest = ap (λ b. b || is_in p rest) (sym (and_false (nat_eq p q)))
-
-same_test : (test : ℕ → Bool) (p q : ℕ) → (nat_eq p q && test q) ≡ (nat_eq p q && test p)
-same_test test p q = grind (arith, eqb_tells)
-
--- a place is among what a filter keeps where it was there and passes the test
-pub in_filter : (test : ℕ → Bool) (p : ℕ) (xs : List ℕ) → is_in p (filter test xs) ≡ (is_in p xs && test p)
-in_filter test p [] = refl
-in_filter test p (q ∷ xs) = grind (arith, in_if_kept, same_test, or_and, in_filter test p xs)
 
 -- ---- nothing is done
 
