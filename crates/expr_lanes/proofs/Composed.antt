@@ -1,5 +1,5 @@
 -- What a node's parts come to, put together.
-use Rattle.std.proofs.Common.{◌≡◌, ◌<◌, ℕ, ℤ, pos, negsuc, neg_ℤ, ◌-ℤ◌, zero, suc, false, None, ◌&&◌, ◌∙◌, List, refl, ap, sym, subst, arith, int_le, ◌+◌, Bool, true, not, ◌||◌, [], ◌∷◌, inl, inr, cond, if◌then◌else◌, nat_eq, ◌≤◌, length}
+use Rattle.std.proofs.Common.{◌≡◌, ◌<◌, ℕ, ℤ, pos, negsuc, neg_ℤ, ◌-ℤ◌, zero, suc, false, None, ◌&&◌, ◌∙◌, List, refl, ap, sym, subst, arith, int_le, ◌+◌, Bool, true, not, ◌||◌, [], ◌∷◌, inl, inr, cond, if◌then◌else◌, ◌≤◌, length}
 use Rattle.std.proofs.lemmas.Int.{ints}
 use Rattle.rdf_values.specs.{BinOp, Call, Callee, Function, Neg, Not, num_tree, NumTree, Trees, Value, ColType}
 use Rattle.rdf_model.specs.{◌>>=◌, checked, Gives, is_zero, mark, number_operation, Outcome}
@@ -9,7 +9,7 @@ use Rattle.expr_lanes.specs.declared.nodes.Branch.{Branch}
 use Rattle.expr_lanes.specs.declared.nodes.Branch.TheVariants.{Node, Same}
 use Rattle.expr_lanes.proofs.Sequence.{alike, come_alike, come_told, go_on, told, come_from, same_given, same_stops, filtered_out, times_with, first_in, rest_in}
 pub use Rattle.expr_lanes.proofs.Sequence.{in_filter}
-use Rattle.lemmas.proofs.{and_false, and_left, and_right, and_true, eqb_tells, filter, or_false}
+use Rattle.lemmas.proofs.{and_false, and_left, and_right, filter, or_false}
 use Rattle.expr_lanes.proofs.SiftSteps.{filter_alike}
 use Rattle.expr_lanes.proofs.Selected.{parts_of, filter_whole, short}
 use Prim.Native.Nat.compare

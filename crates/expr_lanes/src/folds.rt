@@ -1,6 +1,6 @@
 // Built-in functions of a vector that give a number.
 ghost use Rattle.std.specs.Prelude.{◌≡◌, ◌+◌, ◌<◌, ◌≤◌, ℕ, true, List, [], ◌∷◌, length};
-ghost use Rattle.rdf_values.specs.{End, num_tree, num_trees};
+ghost use Rattle.rdf_values.specs.{End, num_trees};
 ghost use Rattle.rdf_values.specs.declared.tables.value.Value.TheVariants as val;
 ghost use Rattle.expr_eval.specs.{input_outcome};
 ghost use Rattle.expr_lanes.specs.Folds.{fold_named, fold_outcome, fold_read, fold_told, only_column};
