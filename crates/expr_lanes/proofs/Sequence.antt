@@ -16,8 +16,7 @@ or_and : (a b t : Bool) → ((a || b) && t) ≡ ((a && t) || (b && t))
 or_and a b t = grind arith
 
 in_if_kept : (t : Bool) (p q : ℕ) (rest : List ℕ) → is_in p (cond t (q ∷ rest) rest) ≡ ((nat_eq p q && t) || is_in p rest)
-in_if_kept true p q rest = ap (λ b. b || is_in p rest) (sym (and_true (nat_eq p q)))
-in_if_kept false p q rest = ap (λ b. b || is_in p rest) (sym (and_false (nat_eq p q)))
+in_if_kept t p q rest = grind (arith, and_true, and_false)
 
 same_test : (test : ℕ → Bool) (p q : ℕ) → (nat_eq p q && test q) ≡ (nat_eq p q && test p)
 same_test test p q = grind (arith, eqb_tells)
@@ -56,8 +55,7 @@ Through (Faults k) o = o ≡ Faults k
 Through (Needs c) o = o ≡ Needs c
 
 pub times_with : {A : Type 0} (t : Stopped → Bool) (p : ℕ) (o : Outcome ℕ A) (xs : List Stopped) → times t (with_stop p o xs) ≡ times t (with_stop p o []) + times t xs
-times_with t p (Gives z) xs = omega arith
-times_with t p o xs = omega arith
+times_with t p o xs = grind arith
 
 module _ {A B : Type 0} (g : ℕ → Outcome ℕ A) (f : ℕ → Outcome ℕ B) (through : (p : ℕ) → Through (g p) (f p)) where
   given_step : (p : ℕ) (ps : List ℕ) (o : Outcome ℕ A) → Through o (f p) → given_in f (given_in g ps) ≡ given_in f ps

@@ -113,7 +113,6 @@ impl Selection {
     }
 
     /// How many places are selected where they are known to be the first ones of the block.
-    #[inline]
     pub fn first_count(&self) -> Option<usize>
         ensures { IfSome result (λ count. self.now ≡ range_with_len 0 count) }
     {
