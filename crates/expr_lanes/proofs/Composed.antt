@@ -1,14 +1,15 @@
 -- What a node's parts come to, put together.
-use Rattle.std.proofs.Common.{◌≡◌, ◌<◌, ℕ, ℤ, pos, negsuc, neg_ℤ, ◌-ℤ◌, zero, suc, false, None, ◌&&◌, ◌∙◌, List, refl, ap, sym, subst, arith, int_le, ◌+◌, Bool, true, not, ◌||◌, [], ◌∷◌, inl, inr, cond, if◌then◌else◌, nat_eq, ◌≤◌, length}
+use Rattle.std.proofs.Common.{◌≡◌, ◌<◌, ℕ, ℤ, pos, negsuc, neg_ℤ, ◌-ℤ◌, zero, suc, false, None, ◌&&◌, ◌∙◌, List, refl, ap, sym, subst, arith, int_le, ◌+◌, Bool, true, not, ◌||◌, [], ◌∷◌, inl, inr, cond, if◌then◌else◌, ◌≤◌, length}
 use Rattle.std.proofs.lemmas.Int.{ints}
 use Rattle.rdf_values.specs.{BinOp, Call, Callee, Function, Neg, Not, num_tree, NumTree, Trees, Value, ColType}
 use Rattle.rdf_model.specs.{◌>>=◌, checked, Gives, is_zero, mark, number_operation, Outcome}
-use Rattle.expr_lanes.specs.declared.numbers.Side.{Side}
-use Rattle.expr_lanes.specs.{called_at, depth, EachPlace, Evaluated, fold_or, fold_read, HasCome, HasNumber, is_decider, IsAble, IsAtHand, lane_at, lane_operation, side_number, Stopped, with_zero, at_place, HasValues, is_given, lane_outcome, lane_value, times, with_stop, given_in, is_in, stops_in}
-use Rattle.expr_lanes.specs.declared.parts.Branch.{Branch}
-use Rattle.expr_lanes.specs.declared.parts.Branch.TheVariants.{Node, Same}
+use Rattle.expr_lanes.specs.declared.kernels.Side.{Side}
+use Rattle.expr_lanes.specs.{called_at, depth, EachPlace, Evaluated, fold_read, HasCome, HasNumber, is_decider, IsAble, IsAtHand, lane_at, lane_operation, side_number, Stopped, with_zero, at_place, HasValues, is_given, lane_outcome, lane_value, times, with_stop, given_in, is_in, stops_in}
+use Rattle.expr_lanes.specs.declared.nodes.Branch.{Branch}
+use Rattle.expr_lanes.specs.declared.nodes.Branch.TheVariants.{Node, Same}
 use Rattle.expr_lanes.proofs.Sequence.{alike, come_alike, come_told, go_on, told, come_from, same_given, same_stops, filtered_out, times_with, first_in, rest_in}
-use Rattle.lemmas.proofs.{and_false, and_left, and_right, and_true, eqb_tells, filter, or_false}
+pub use Rattle.expr_lanes.proofs.Sequence.{in_filter}
+use Rattle.lemmas.proofs.{and_false, and_left, and_right, filter, or_false}
 use Rattle.expr_lanes.proofs.SiftSteps.{filter_alike}
 use Rattle.expr_lanes.proofs.Selected.{parts_of, filter_whole, short}
 use Prim.Native.Nat.compare
@@ -38,16 +39,14 @@ negative : (z : ℤ) → (pos 0 -ℤ z) ≡ neg_ℤ z
 negative z = omega (arith, ints)
 
 as_difference : (o : Outcome ℕ ℤ) → (o >>= λ y. checked (pos 0 -ℤ y)) ≡ (o >>= λ x. checked (neg_ℤ x))
-as_difference (Gives z) = ap checked (negative z)
-as_difference o = refl
+as_difference o = grind (arith, negative)
 
 -- the other truth value is an equality with 0
 equal_to_zero : (z : ℤ) → (int_le z (pos 0) && int_le (pos 0) z) ≡ is_zero z
 equal_to_zero z = grind arith
 
 as_equality : (o : Outcome ℕ ℤ) → (o >>= λ x. Gives (mark (int_le x (pos 0) && int_le (pos 0) x))) ≡ (o >>= λ x. Gives (mark (is_zero x)))
-as_equality (Gives z) = ap (λ b. Gives (mark b)) (equal_to_zero z)
-as_equality o = refl
+as_equality o = grind (arith, equal_to_zero)
 
 -- an operator with two sides in place of one
 pub same_depth : (e : NumTree) → depth (with_zero e) ≡ depth e
@@ -78,18 +77,15 @@ module _ {S : Type 0} (look : S → ℕ → ℕ → Outcome ℕ Value) (function
 
   -- a call that is no fold
   pub called : (f : Callee) (args : Trees ℕ Callee) → fold_read f args ≡ None → Evaluated (called_at look functions s f args) sel left before after stops more → Evaluated (lane_at look functions s (Call f args)) sel left before after stops more
-  called f args none e =
-      alike (lane_at look functions s (Call f args)) (called_at look functions s f args) sel left before after stops more (λ p h. ap (λ o. fold_or (look s p) o (called_at look functions s f args p)) (sym none)) e
+  called f args none e = grind (arith, alike)
 
 -- ---- What is known of a lane's numbers, said of values.
 
 given_alike : (o : Outcome ℕ Value) → is_given (lane_outcome o) ≡ is_given o
-given_alike (Gives v) = refl
-given_alike o = refl
+given_alike o = grind arith
 
 stop_alike : (p : ℕ) (o : Outcome ℕ Value) (rest : List Stopped) → with_stop p (lane_outcome o) rest ≡ with_stop p o rest
-stop_alike p (Gives v) rest = refl
-stop_alike p o rest = refl
+stop_alike p o rest = grind arith
 
 -- what a lane holds of numbers it holds of values
 pub by_value : (f : ℕ → Outcome ℕ Value) (g : ℕ → Outcome ℕ ℤ) (k : ColType) (sel left : List ℕ) (before after : List ℤ) (stops more : List Stopped) → EachPlace sel (λ p. g p ≡ lane_outcome (f p))
@@ -105,23 +101,6 @@ by_value f g k sel left before after stops more same read e =
     }
 
 -- ---- Evaluations of which each place takes one of two.
-
--- ---- filters
-
-or_and : (a b t : Bool) → ((a || b) && t) ≡ ((a && t) || (b && t))
-or_and a b t = grind arith
-
-in_if_kept : (t : Bool) (p q : ℕ) (rest : List ℕ) → is_in p (cond t (q ∷ rest) rest) ≡ ((nat_eq p q && t) || is_in p rest)
-in_if_kept true p q rest = ap (λ b. b || is_in p rest) (sym (and_true (nat_eq p q)))
-in_if_kept false p q rest = ap (λ b. b || is_in p rest) (sym (and_false (nat_eq p q)))
-
-same_test : (test : ℕ → Bool) (p q : ℕ) → (nat_eq p q && test q) ≡ (nat_eq p q && test p)
-same_test test p q = grind (arith, eqb_tells)
-
--- a place is among what a filter keeps where it was there and passes the test
-pub in_filter : (test : ℕ → Bool) (p : ℕ) (xs : List ℕ) → is_in p (filter test xs) ≡ (is_in p xs && test p)
-in_filter test p [] = refl
-in_filter test p (q ∷ xs) = grind (arith, in_if_kept, same_test, or_and, in_filter test p xs)
 
 -- ---- nothing is done
 
@@ -141,8 +120,7 @@ module _ (test : ℕ → Bool) (one two : ℕ → Outcome ℕ ℤ) where
 
   part_step : (t : Stopped → Bool) (p : ℕ) (b : Bool) (xs ys : List ℕ) (rest : List Stopped) → times t (stops_in one xs) + times t (stops_in two ys) ≡ times t rest
       → times t (stops_in one (cond (not b) (p ∷ xs) xs)) + times t (stops_in two (cond b (p ∷ ys) ys)) ≡ times t (with_stop p (if b then two p else one p) rest)
-  part_step t p true xs ys rest h = omega (arith, times_with t p (two p) (stops_in two ys), times_with t p (two p) rest)
-  part_step t p false xs ys rest h = omega (arith, times_with t p (one p) (stops_in one xs), times_with t p (one p) rest)
+  part_step t p b xs ys rest h = grind (arith, times_with)
 
   parted_times : (t : Stopped → Bool) (sel : List ℕ) → times t (stops_in one (filter (λ p. not (test p)) sel)) + times t (stops_in two (filter test sel)) ≡ times t (stops_in chosen sel)
   parted_times t [] = refl
@@ -150,8 +128,7 @@ module _ (test : ℕ → Bool) (one two : ℕ → Outcome ℕ ℤ) where
 
   -- of the place itself
   has_side : (b : Bool) (g h : Outcome ℕ ℤ) → (((true && not b) && is_given h) || ((true && b) && is_given g)) ≡ is_given (if b then g else h)
-  has_side true g h = refl
-  has_side false g h = or_false (is_given h)
+  has_side b g h = grind (arith, or_false)
 
   module _
       (sel ones twos last : List ℕ) (o1 o2 o3 : List ℤ) (s1 s2 s3 : List Stopped) (first : Evaluated one (filter (λ p. not (test p)) sel) ones o1 o2 s1 s2) (second : Evaluated two (filter test sel) twos o2 o3 s2 s3)
@@ -231,8 +208,7 @@ rest_left f sel left number stops more e = record {
 }
 
 either_side : (b : Bool) → ((true && not b) || (true && b)) ≡ true
-either_side true = refl
-either_side false = refl
+either_side b = grind arith
 
 -- where both parts of a selection kept all their places, it is the places that either has
 pub whole : (test : ℕ → Bool) (sel zeros others zeros1 others1 : List ℕ) → zeros ≡ filter test sel → others ≡ filter (λ p. not (test p)) sel → IsRest zeros zeros1 → IsRest others others1 → length zeros1 + length others1 ≡ length sel

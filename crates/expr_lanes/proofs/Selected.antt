@@ -6,8 +6,7 @@ use Rattle.expr_lanes.proofs.Sequence.{filtered_in, come_told, come_alike, told,
 use Rattle.rdf_model.specs.{Gives, Outcome}
 
 rising_kept : (b : Bool) (p : ℕ) (kept : List ℕ) → EachPlace kept (λ q. p < q) → AreRising kept → AreRising (cond b (p ∷ kept) kept)
-rising_kept true p kept above rest = (above, rest)
-rising_kept false p kept above rest = rest
+rising_kept b p kept above rest = grind arith
 
 -- what a filter keeps rises
 pub rising_filter : (f : ℕ → Bool) (sel : List ℕ) → AreRising sel → AreRising (filter f sel)
@@ -39,8 +38,7 @@ pub short : (f : ℕ → Bool) (sel : List ℕ) → length (filter f sel) ≤ le
 short f sel = omega (arith, length-filter f sel, count_by-le-length f sel)
 
 kept_whole : (f : ℕ → Bool) (b : Bool) (p : ℕ) (sel : List ℕ) → (length (filter f sel) ≡ length sel → filter f sel ≡ sel) → length (cond b (p ∷ filter f sel) (filter f sel)) ≡ length (p ∷ sel) → cond b (p ∷ filter f sel) (filter f sel) ≡ p ∷ sel
-kept_whole f true p sel rest h = ap (λ l. p ∷ l) (rest (omega (arith, h)))
-kept_whole f false p sel rest h = absurd (omega (arith, h, short f sel))
+kept_whole f b p sel rest h = grind (arith, short)
 
 pub filter_whole : (f : ℕ → Bool) (sel : List ℕ) → length (filter f sel) ≡ length sel → filter f sel ≡ sel
 filter_whole f [] h = refl
@@ -172,8 +170,7 @@ all_times [] = refl
 all_times (s ∷ stops) = omega (arith, all_times stops)
 
 one_each : {A : Type 0} (o : Outcome ℕ A) (p n : ℕ) (ps qs : List ℕ) (stops : List Stopped) → length stops + length qs ≡ n → length (with_stop p o stops) + length (cond (is_given o) (p ∷ qs) qs) ≡ n + 1
-one_each (Gives z) p n ps qs stops h = omega arith
-one_each o p n ps qs stops h = omega arith
+one_each o p n ps qs stops h = grind arith
 
 -- each selected place is a stop or is left
 each_once : {A : Type 0} (f : ℕ → Outcome ℕ A) (sel : List ℕ) → length (stops_in f sel) + length (given_in f sel) ≡ length sel

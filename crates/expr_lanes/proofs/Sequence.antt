@@ -1,6 +1,6 @@
 -- Evaluations one after the other.
-use Rattle.std.proofs.Common.{◌≡◌, ◌+◌, ℕ, ℤ, Bool, true, false, ◌||◌, List, [], ◌∷◌, ◌∙◌, refl, ap, sym, subst, cond, arith, nat_eq}
-use Rattle.lemmas.proofs.{eq-eqb, filter, or_right}
+use Rattle.std.proofs.Common.{◌≡◌, ◌+◌, ℕ, ℤ, Bool, true, false, ◌&&◌, ◌||◌, List, [], ◌∷◌, ◌∙◌, refl, ap, sym, subst, cond, arith, nat_eq}
+use Rattle.lemmas.proofs.{and_false, and_left, and_true, eq-eqb, eqb_tells, filter, or_right}
 use Rattle.rdf_model.specs.{◌>>=◌, Faults, Gives, Needs, Outcome}
 use Rattle.expr_lanes.specs.{at_place, EachPlace, Evaluated, given_in, HasCome, is_given, is_in, Stopped, stops_in, times, with_stop}
 
@@ -12,26 +12,27 @@ first_in p ps = ap (λ b. b || is_in p ps) (eq-eqb p p refl)
 pub rest_in : (q p : ℕ) (ps : List ℕ) → is_in q ps ≡ true → is_in q (p ∷ ps) ≡ true
 rest_in q p ps h = or_right (nat_eq q p) (is_in q ps) h
 
-or_kept : (a b c : Bool) → ((b ≡ true) → c ≡ true) → (a || b) ≡ true → (a || c) ≡ true
-or_kept true b c f h = refl
-or_kept false b c f h = f h
+or_and : (a b t : Bool) → ((a || b) && t) ≡ ((a && t) || (b && t))
+or_and a b t = grind arith
 
-kept_in : (t : Bool) (q p : ℕ) (ps qs : List ℕ) → (is_in q qs ≡ true → is_in q ps ≡ true) → is_in q (cond t (p ∷ qs) qs) ≡ true → is_in q (p ∷ ps) ≡ true
-kept_in true q p ps qs f h = or_kept (nat_eq q p) (is_in q qs) (is_in q ps) f h
-kept_in false q p ps qs f h = rest_in q p ps (f h)
+in_if_kept : (t : Bool) (p q : ℕ) (rest : List ℕ) → is_in p (cond t (q ∷ rest) rest) ≡ ((nat_eq p q && t) || is_in p rest)
+in_if_kept t p q rest = grind (arith, and_true, and_false)
+
+same_test : (test : ℕ → Bool) (p q : ℕ) → (nat_eq p q && test q) ≡ (nat_eq p q && test p)
+same_test test p q = grind (arith, eqb_tells)
+
+-- a place is among what a filter keeps where it was there and passes the test
+pub in_filter : (test : ℕ → Bool) (p : ℕ) (xs : List ℕ) → is_in p (filter test xs) ≡ (is_in p xs && test p)
+in_filter test p [] = refl
+in_filter test p (q ∷ xs) = grind (arith, in_if_kept, same_test, or_and, in_filter test p xs)
 
 -- what a filter keeps was there
 pub filtered_in : (test : ℕ → Bool) (q : ℕ) (ps : List ℕ) → is_in q (filter test ps) ≡ true → is_in q ps ≡ true
-filtered_in test q [] h = h
-filtered_in test q (p ∷ ps) h = kept_in (test p) q p ps (filter test ps) (filtered_in test q ps) h
-
-none_of : (a b : Bool) → (b ≡ true → a ≡ true) → a ≡ false → b ≡ false
-none_of a true f h = sym (f refl) ∙ h
-none_of a false f h = refl
+filtered_in test q ps h = and_left (is_in q ps) (test q) (sym (in_filter test q ps) ∙ h)
 
 -- what wasn't there isn't among what a filter keeps
 pub filtered_out : (test : ℕ → Bool) (q : ℕ) (ps : List ℕ) → is_in q ps ≡ false → is_in q (filter test ps) ≡ false
-filtered_out test q ps h = none_of (is_in q ps) (is_in q (filter test ps)) (filtered_in test q ps) h
+filtered_out test q ps h = in_filter test q ps ∙ ap (λ b. b && test q) h
 
 -- ---- outcomes that stop alike at each selected place
 
@@ -54,8 +55,7 @@ Through (Faults k) o = o ≡ Faults k
 Through (Needs c) o = o ≡ Needs c
 
 pub times_with : {A : Type 0} (t : Stopped → Bool) (p : ℕ) (o : Outcome ℕ A) (xs : List Stopped) → times t (with_stop p o xs) ≡ times t (with_stop p o []) + times t xs
-times_with t p (Gives z) xs = omega arith
-times_with t p o xs = omega arith
+times_with t p o xs = grind arith
 
 module _ {A B : Type 0} (g : ℕ → Outcome ℕ A) (f : ℕ → Outcome ℕ B) (through : (p : ℕ) → Through (g p) (f p)) where
   given_step : (p : ℕ) (ps : List ℕ) (o : Outcome ℕ A) → Through o (f p) → given_in f (given_in g ps) ≡ given_in f ps

@@ -118,8 +118,7 @@ sifted f count places0 places out0 out stops0 stops kept i so_far all = record {
 -- ---- marking
 
 marked_by : (b same mark before : Bool) → (if b || same then mark else before) ≡ (if same then mark else (if b then mark else before))
-marked_by true true mark before = refl
-marked_by b same mark before = refl
+marked_by b same mark before = grind arith
 
 pub mark_more : (xs : List ℕ) (i q : ℕ) (mark : Bool) (before marks : List Bool) → ((p : ℕ) → is_marked marks p ≡ (if is_in p (take i xs) then mark else is_marked before p)) → i < length xs → q ≡ get_or xs i 0 → q < length marks
     → (p : ℕ) → is_marked (set marks q mark) p ≡ (if is_in p (take (i + 1) xs) then mark else is_marked before p)
@@ -142,8 +141,7 @@ filter_alike one two (x ∷ xs) h =
     ap (λ b. cond b (x ∷ filter one xs) (filter one xs)) (h x (first_in x xs)) ∙ ap (λ l. cond (two x) (x ∷ l) l) (filter_alike one two xs (λ q i. h q (rest_in q x xs i)))
 
 either_mark : (o z : Bool) → (if o then true else (if z then true else false)) ≡ (o || z)
-either_mark false true = refl
-either_mark o z = refl
+either_mark o z = grind arith
 
 -- the marks after the selection was unmarked and then its two sides were marked
 pub rejoined : (sel zeros others : List ℕ) (m0 m1 m2 m3 : List Bool) → ((p : ℕ) → is_marked m1 p ≡ (if is_in p sel then false else is_marked m0 p)) → ((p : ℕ) → is_marked m2 p ≡ (if is_in p zeros then true else is_marked m1 p))
@@ -156,5 +154,4 @@ rejoined sel zeros others m0 m1 m2 m3 unmarked first second =
 
 -- the same of selections as they are seen
 pub rejoined_as : (kept sel zeros others sel1 zeros1 others1 : List ℕ) → sel ≡ sel1 → zeros ≡ zeros1 → others ≡ others1 → kept ≡ filter (λ p. is_in p others || is_in p zeros) sel → kept ≡ filter (λ p. is_in p others1 || is_in p zeros1) sel1
-rejoined_as kept sel zeros others sel1 zeros1 others1 same_sel same_zeros same_others is =
-    is ∙ ap (λ l. filter (λ p. is_in p others || is_in p zeros) l) same_sel ∙ ap (λ l. filter (λ p. is_in p others || is_in p l) sel1) same_zeros ∙ ap (λ l. filter (λ p. is_in p l || is_in p zeros1) sel1) same_others
+rejoined_as kept sel zeros others sel1 zeros1 others1 same_sel same_zeros same_others is = rw (← same_sel, ← same_zeros, ← same_others) is

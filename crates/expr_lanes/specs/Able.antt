@@ -1,12 +1,29 @@
--- What an evaluation over a block asks of an expression.
-use Rattle.std.specs.Prelude.{ℕ, ◌+◌, ◌≤◌, List}
-use Rattle.rdf_values.specs.{args_count, Callee, Function, num_tree, NumTree, Trees}
+-- What an evaluation over a block asks of an expression, and how many levels of scratch it takes.
+use Rattle.std.specs.Prelude.{ℕ, ◌+◌, ◌≤◌, max, List}
+use Rattle.rdf_values.specs.{args_count, Bin, Call, Callee, Col, Cond, End, Function, Lit, More, Neg, Not, num_tree, NumTree, Pick, Trees}
+use Rattle.rdf_values.specs.expressions.Expressions.{Truth}
 use Rattle.expr_eval.specs.{ArgumentsCanCall}
 use Rattle.expr_eval.specs.CanCall.{CanCall}
-use Rattle.expr_lanes.specs.declared.parts.Branch.{Branch}
-use Rattle.expr_lanes.specs.declared.parts.Branch.TheVariants.{Node, Same}
-use Rattle.expr_lanes.specs.Depths.{depth, depth_of_all}
+use Rattle.expr_lanes.specs.declared.nodes.Branch.{Branch}
 use Rattle.expr_lanes.specs.Folds.{CanLane, CanLaneAll}
+
+abbrev mutual
+  -- one for each part that stands in another, at the deepest
+  pub depth : NumTree → ℕ
+  depth (Lit z) = 0
+  depth (Truth b) = 0
+  depth (Col c) = 0
+  depth (Neg a) = depth a + 1
+  depth (Not a) = depth a + 1
+  depth (Bin op a b) = max (depth a) (depth b) + 1
+  depth (Cond c a b) = max (depth c) (max (depth a) (depth b)) + 1
+  depth (Pick v i) = 0
+  depth (Call f args) = args_count args + depth_of_all args
+
+  -- the most that an argument takes
+  pub depth_of_all : Trees ℕ Callee → ℕ
+  depth_of_all End = 0
+  depth_of_all (More a rest) = max (depth a) (depth_of_all rest)
 
 -- with what can be read and called in a scope
 module _ {S : Type 0} (IsNumbers IsTold : S → ℕ → Type 0) (functions : S → List Function) (s : S) (levels : ℕ) where
@@ -24,5 +41,5 @@ module _ {S : Type 0} (IsNumbers IsTold : S → ℕ → Type 0) (functions : S �
 
   -- and of a side of a choice
   abbrev pub IsAbleBranch : Branch → Type 0
-  IsAbleBranch (Node e) = IsAble (num_tree e.now)
-  IsAbleBranch Same = Unit {0}
+  IsAbleBranch (Branch.Node e) = IsAble (num_tree e.now)
+  IsAbleBranch Branch.Same = Unit {0}

@@ -1,12 +1,13 @@
--- Expressions over numbers, where a truth value is its mark: what a lane holds of them.
-use Rattle.std.specs.Prelude.{ℕ, ℤ, pos, neg_ℤ, nat_abs, List, [], ◌∷◌, map, if◌then◌else◌, slice_get, Option, Some, None}
+-- Expressions over numbers, where a truth value is its mark: what a lane holds of them, and what their evaluation over a block comes to.
+use Rattle.std.specs.Prelude.{◌≡◌, ℕ, ℤ, pos, false, neg_ℤ, nat_abs, List, [], ◌∷◌, map, if◌then◌else◌, slice_get, Option, Some, None}
 use Rattle.rdf_values.specs.{Bin, BinOp, Call, Callee, Col, ColType, Cond, End, Function, Lit, More, Neg, Not, NumTree, Pick, Trees, Value}
 use Rattle.rdf_values.specs.expressions.Expressions.{Truth}
 use Rattle.rdf_model.specs.{◌>>=◌, answer_outcome, checked, Faults, Gives, is_set, is_zero, mark, Needs, number_operation, Outcome}
 use Rattle.expr_lanes.specs.declared.folds.FoldCall.{FoldCall}
 use Rattle.expr_lanes.specs.declared.scratch.Scratch.{Scratch}
+use Rattle.expr_lanes.specs.declared.stopped.Stopped.{Stopped}
 use Rattle.expr_lanes.specs.Folds.{fold_read, fold_told}
-use Rattle.expr_lanes.specs.Places.{at_place}
+use Rattle.expr_lanes.specs.Places.{at_place, given_in, is_in, stops_in, EachPlace, IsJoined}
 
 -- the number that a lane holds for a value: 1 or 0 for a truth value
 abbrev pub lane_number : Value → ℤ
@@ -93,3 +94,12 @@ module _ {S : Type 0} (look : S → ℕ → ℕ → Outcome ℕ Value) (function
 -- what the left lanes of some levels hold at a place
 abbrev pub numbers_at : List Scratch → ℕ → List ℤ
 numbers_at lanes p = map (λ (s : Scratch). at_place s.left p) lanes
+
+-- the selected places came to their outcomes: left are those that came to a value, in order, for which the lane holds its number; it is
+-- as it was at each place that wasn't selected; and each other place is a stop, once, with its fault or the column that it lacks
+pub record HasValues (kind : ColType) (f : ℕ → Outcome ℕ Value) (sel left : List ℕ) (before after : List ℤ) (stops more : List Stopped) : Type 0 where
+  pub left_in : left ≡ given_in f sel
+  pub values : EachPlace left (λ p. f p ≡ Gives (lane_value kind (at_place after p)))
+  pub exact : EachPlace left (λ p. lane_outcome (f p) ≡ Gives (at_place after p))
+  pub others : (p : ℕ) → is_in p sel ≡ false → at_place after p ≡ at_place before p
+  pub joined : IsJoined stops (stops_in f sel) more

@@ -1,7 +1,7 @@
 // Expressions that can be evaluated over a block.
 ghost use Rattle.std.specs.Prelude.{◌≡◌, true, false, All};
-ghost use Rattle.rdf_values.specs.{Call as CallTree, EachArgument, EachColumn, num_tree, num_trees};
-ghost use Rattle.expr_check.specs.{is_vector, takes_no_vector};
+ghost use Rattle.rdf_values.specs.{EachArgument, EachColumn, num_tree, num_trees};
+ghost use Rattle.expr_check.specs.{is_vector};
 ghost use Rattle.expr_lanes.specs.{CanLane, CanLaneAll};
 
 use crate::folds::fold_call;
@@ -23,18 +23,12 @@ fn is_node_able<I: LaneInputs>(node: &NumNode, inputs: &I) -> bool
             is_node_able(c, inputs) && is_node_able(a, inputs) && is_node_able(b, inputs)
         }
         NumNode::Pick(_, _) => false,
-        NumNode::Call(callee, args) => is_call_able(*callee, args, inputs),
-    }
-}
-
-#[cycle(able)]
-fn is_call_able<I: LaneInputs>(callee: Callee, args: &NumArgs, inputs: &I) -> bool
-    requires { EachArgument (I.can_tell inputs.now) (num_trees args.now) }
-    ensures { result ≡ true → CanLane (I.can inputs.now) (I.can_tell inputs.now) (CallTree callee (num_trees args.now)) }
-{
-    match fold_call(callee, args) {
-        Some(_) => true,
-        None => takes_numbers(callee) && are_args_able(args, inputs),
+        NumNode::Call(callee, args) => match fold_call(*callee, args) {
+            Some(_) => true,
+            None => {
+                matches!(callee, Callee::Abs | Callee::Given(_)) && are_args_able(args, inputs)
+            }
+        },
     }
 }
 
@@ -49,12 +43,6 @@ fn are_args_able<I: LaneInputs>(args: &NumArgs, inputs: &I) -> bool
     }
 }
 
-fn takes_numbers(callee: Callee) -> bool
-    ensures { result ≡ takes_no_vector callee }
-{
-    matches!(callee, Callee::Abs | Callee::Given(_))
-}
-
 /// Whether an expression can be evaluated over a block: it has to do with no vectors but columns of which a function makes a
 /// number, and each other column that it reads is one of numbers.
 pub fn can_eval_lane<I: LaneInputs>(expr: &Checked, inputs: &I) -> bool
@@ -62,6 +50,5 @@ pub fn can_eval_lane<I: LaneInputs>(expr: &Checked, inputs: &I) -> bool
     ensures scalar { result ≡ true → is_vector expr.now.kind ≡ false }
     ensures can { result ≡ true → CanLane (I.can inputs.now) (I.can_tell inputs.now) expr.now.tree }
 {
-    let node = &expr.tree().node;
-    !matches!(expr.kind(), ColType::Vect) && is_node_able(node, inputs)
+    !matches!(expr.kind(), ColType::Vect) && is_node_able(&expr.tree().node, inputs)
 }

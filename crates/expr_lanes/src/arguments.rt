@@ -3,12 +3,11 @@ ghost use Rattle.std.specs.Prelude.{◌≡◌, ◌+◌, ◌<◌, ◌≤◌, ◌+
 ghost use Rattle.rdf_values.specs.declared.expressions.num_expr.Callee.TheVariants as fn;
 ghost use Rattle.expr_eval.specs.{CallFits};
 ghost use Rattle.expr_lanes.specs.Marks.{numbers_at, lane_call, given_number};
-ghost use Rattle.expr_lanes.specs.Places.{answered_at, EachPlace, Evaluated};
+ghost use Rattle.expr_lanes.specs.Places.{EachPlace, Evaluated};
 
 use crate::MAX_PLACES;
 use crate::kernel::{Kernel, run};
-use crate::kernels::{Copied, Magnitude};
-use crate::numbers::{Lane, Same};
+use crate::kernels::{Copied, Lane, Magnitude, Same};
 use crate::scratch::Scratch;
 use crate::selection::Selection;
 use crate::stopped::Stopped;
@@ -17,17 +16,6 @@ use expr_eval::{Calls, ScalarStop};
 use rdf_values::{Callee, EntryFault};
 
 const MAX_ARGUMENTS: usize = 8;
-
-/// What the function of that number answers, or the fault where it has no answer.
-fn answer<C: Calls>(calls: &C, number: u32, args: &[i64]) -> Result<i64, ScalarStop>
-    requires { CallFits (C.functions calls.now) (Callee.Given number) (length args.now) }
-    ensures { answered_at result ≡ given_number (slice_get (C.functions calls.now) number) args.now }
-{
-    match calls.call_at(number, args) {
-        Some(z) => Ok(z),
-        None => Err(ScalarStop::Fault(EntryFault::Function)),
-    }
-}
 
 /// Appends what each lane holds at the place.
 fn numbers_of(lanes: &[Scratch], place: u32, numbers: &mut ArrayVec<i64, MAX_ARGUMENTS>)
@@ -58,7 +46,8 @@ impl<'a, C: Calls> Kernel for Called<'a, C> {
     fn at(&self, place: u32) -> Result<i64, ScalarStop> {
         let mut numbers = ArrayVec::new();
         numbers_of(self.lanes, place, &mut numbers);
-        answer(self.calls, self.number, numbers.as_slice())
+        let answer = self.calls.call_at(self.number, numbers.as_slice());
+        answer.ok_or(ScalarStop::Fault(EntryFault::Function))
     }
 }
 

@@ -6,9 +6,8 @@ ghost use Rattle.expr_lanes.specs.Places.{at_place, is_given, is_marked, IsReady
 
 use crate::MAX_PLACES;
 use crate::kernel::{Kernel, run};
-use crate::kernels::Copied;
+use crate::kernels::{Copied, Lane};
 use crate::lane_inputs::{Known, LaneInputs};
-use crate::numbers::Lane;
 use crate::selection::Selection;
 use crate::stopped::Stopped;
 use arrayvec::ArrayVec;

@@ -1,11 +1,9 @@
 // Built-in functions of a vector that give a number.
 ghost use Rattle.std.specs.Prelude.{◌≡◌, ◌+◌, ◌<◌, ◌≤◌, ℕ, true, List, [], ◌∷◌, length};
-ghost use Rattle.std.specs.Int.{int_max, int_min};
-ghost use Rattle.rdf_values.specs.{End, num_tree, num_trees};
+ghost use Rattle.rdf_values.specs.{End, num_trees};
 ghost use Rattle.rdf_values.specs.declared.tables.value.Value.TheVariants as val;
-ghost use Rattle.rdf_model.specs.{extreme_element};
-ghost use Rattle.expr_eval.specs.{input_outcome, number_value, sum_of};
-ghost use Rattle.expr_lanes.specs.Folds.{column_of, fold_named, fold_outcome, fold_read, fold_told, only_column};
+ghost use Rattle.expr_eval.specs.{input_outcome};
+ghost use Rattle.expr_lanes.specs.Folds.{fold_named, fold_outcome, fold_read, fold_told, only_column};
 ghost use Rattle.expr_lanes.specs.LaneInputs.{IsVectorAt};
 ghost use Rattle.expr_lanes.specs.Marks.{lane_outcome};
 ghost use Rattle.expr_lanes.specs.Places.{answered_at, EachPlace, Evaluated, IsReady};
@@ -17,9 +15,9 @@ use crate::lane_inputs::{LaneInputs, LaneVectors};
 use crate::selection::Selection;
 use crate::stopped::Stopped;
 use arrayvec::ArrayVec;
-use expr_eval::number::operate;
+use expr_eval::elements::{greatest, least, sum};
 use expr_eval::{Input, ScalarStop};
-use rdf_values::{BinOp, Callee, EntryFault, NumArgs, NumNode};
+use rdf_values::{Callee, NumArgs, NumNode};
 
 /// A function of the elements of a vector.
 #[derive(Clone, Copy, Debug)]
@@ -41,10 +39,9 @@ pub struct FoldCall {
 pub fn fold_call(callee: Callee, args: &NumArgs) -> Option<FoldCall>
     ensures { result ≡ fold_read callee (num_trees args.now) }
 {
-    match (fold_of(callee), only_argument(args)) {
-        (Some(fold), Some(column)) => Some(FoldCall { fold, column }),
-        _ => None,
-    }
+    let fold = fold_of(callee)?;
+    let column = only_argument(args)?;
+    Some(FoldCall { fold, column })
 }
 
 fn fold_of(callee: Callee) -> Option<Fold>
@@ -65,26 +62,10 @@ fn only_argument(args: &NumArgs) -> Option<u32>
 {
     match args {
         NumArgs::End => None,
-        NumArgs::More(first, rest) => match &**rest {
-            NumArgs::End => column_in(first),
-            NumArgs::More(_, _) => None,
+        NumArgs::More(first, rest) => match (&**first, &**rest) {
+            (NumNode::Col(column), NumArgs::End) => Some(*column),
+            _ => None,
         },
-    }
-}
-
-fn column_in(node: &NumNode) -> Option<u32>
-    ensures { result ≡ column_of (num_tree node.now) }
-{
-    match node {
-        NumNode::Col(column) => Some(*column),
-        NumNode::Lit(_)
-        | NumNode::Truth(_)
-        | NumNode::Neg(_)
-        | NumNode::Not(_)
-        | NumNode::Bin(_, _, _)
-        | NumNode::Cond(_, _, _)
-        | NumNode::Pick(_, _)
-        | NumNode::Call(_, _) => None,
     }
 }
 
@@ -195,56 +176,10 @@ fn fold_input(fold: Fold, input: Input<'_>, column: u32) -> Result<i64, ScalarSt
 fn fold_elements(fold: Fold, xs: &[i64]) -> Result<i64, ScalarStop>
     ensures { answered_at result ≡ lane_outcome (fold_outcome fold (val.Vect xs.now)) }
 {
-    stop_at_fault(fold_vector(fold, xs))
-}
-
-#[inline(always)]
-fn fold_vector(fold: Fold, xs: &[i64]) -> Result<i64, EntryFault>
-    ensures { number_value result ≡ fold_outcome fold (val.Vect xs.now) }
-{
     match fold {
-        Fold::Sum => sum(xs),
+        Fold::Sum => stop_at_fault(sum(xs)),
         Fold::Size => Ok(xs.len() as i64),
-        Fold::Least => least(xs),
-        Fold::Greatest => greatest(xs),
+        Fold::Least => stop_at_fault(least(xs)),
+        Fold::Greatest => stop_at_fault(greatest(xs)),
     }
-}
-
-fn sum(xs: &[i64]) -> Result<i64, EntryFault>
-    ensures { number_value result ≡ sum_of xs.now }
-{
-    let mut total = 0_i64;
-    for x in xs {
-        match operate(BinOp::Add, total, *x) {
-            Ok(next) => total = next,
-            Err(kind) => return Err(kind),
-        }
-    }
-    Ok(total)
-}
-
-fn least(xs: &[i64]) -> Result<i64, EntryFault>
-    ensures { number_value result ≡ extreme_element int_min xs.now }
-{
-    let Some((first, rest)) = xs.split_first() else {
-        return Err(EntryFault::EmptyVector);
-    };
-    let mut best = *first;
-    for x in rest {
-        best = best.min(*x);
-    }
-    Ok(best)
-}
-
-fn greatest(xs: &[i64]) -> Result<i64, EntryFault>
-    ensures { number_value result ≡ extreme_element int_max xs.now }
-{
-    let Some((first, rest)) = xs.split_first() else {
-        return Err(EntryFault::EmptyVector);
-    };
-    let mut best = *first;
-    for x in rest {
-        best = best.max(*x);
-    }
-    Ok(best)
 }

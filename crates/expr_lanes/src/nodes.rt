@@ -9,23 +9,64 @@ use crate::arguments::call_lanes;
 use crate::columns::read_column;
 use crate::folds::{fold_call, fold_column};
 use crate::kernel::run;
-use crate::kernels::Copied;
+use crate::kernels::{Copied, Same, Side};
 use crate::lane_inputs::{Known, LaneInputs};
-use crate::numbers::{Same, Side};
 use crate::operators::combine_sides;
 use crate::parting::{part, rejoin};
-use crate::parts::{Arguments, Branch, Called, Choice, Sides};
 use crate::scratch::Scratch;
 use crate::selection::Selection;
 use crate::stopped::Stopped;
 use arrayvec::ArrayVec;
 use expr_eval::Calls;
 use expr_eval::number::mark;
-use rdf_values::{BinOp, NumArgs, NumNode};
+use rdf_values::{BinOp, Callee, NumArgs, NumNode};
 
 type Stops = ArrayVec<Stopped, MAX_PLACES>;
 
 const ZERO: NumNode = NumNode::Lit(0);
+
+// The parts of a node, with what they are evaluated with.
+
+/// An operator with its two sides.
+#[derive_where(Clone, Copy)]
+pub(crate) struct Sides<'a, S> {
+    pub(crate) op: BinOp,
+    pub(crate) left: &'a NumNode,
+    pub(crate) right: &'a NumNode,
+    pub(crate) scope: &'a S,
+}
+
+/// A side of a choice: a node, or the number that the condition came to.
+#[derive(Clone, Copy)]
+pub(crate) enum Branch<'a> {
+    Node(&'a NumNode),
+    Same,
+}
+
+/// A condition, and what is chosen where it is 0 and elsewhere.
+#[derive_where(Clone, Copy)]
+pub(crate) struct Choice<'a, S> {
+    pub(crate) condition: &'a NumNode,
+    pub(crate) zero: Branch<'a>,
+    pub(crate) other: Branch<'a>,
+    pub(crate) scope: &'a S,
+}
+
+/// A callee with its arguments.
+#[derive_where(Clone, Copy)]
+pub(crate) struct Called<'a, S> {
+    pub(crate) callee: Callee,
+    pub(crate) args: &'a NumArgs,
+    pub(crate) scope: &'a S,
+}
+
+/// An argument with those behind it.
+#[derive_where(Clone, Copy)]
+pub(crate) struct Arguments<'a, S> {
+    pub(crate) first: &'a NumNode,
+    pub(crate) others: &'a NumArgs,
+    pub(crate) scope: &'a S,
+}
 
 // A function's parameters that are lent have a lifetime each: so what takes its level of scratch beside the deeper ones is a
 // function of its own. What few nodes need isn't inlined, so that an operator's node has a small frame.

@@ -5,8 +5,7 @@ ghost use Rattle.expr_lanes.specs.{EachPlace, Evaluated, HasNumber, side_number}
 
 use crate::MAX_PLACES;
 use crate::kernel::run;
-use crate::kernels::Combined;
-use crate::numbers::{Lane, Numbers, Same, Side};
+use crate::kernels::{Combined, Lane, Numbers, Same, Side};
 use crate::selection::Selection;
 use crate::stopped::Stopped;
 use arrayvec::ArrayVec;

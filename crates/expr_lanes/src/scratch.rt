@@ -84,6 +84,5 @@ fn are_args_within(args: &NumArgs, levels: usize) -> bool
 pub fn is_deep_enough(expr: &Checked, levels: usize) -> bool
     ensures { IsTrue result ↔ (depth_of expr.now.tree ≤ levels) }
 {
-    let node = &expr.tree().node;
-    is_node_within(node, levels)
+    is_node_within(&expr.tree().node, levels)
 }

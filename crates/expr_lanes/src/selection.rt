@@ -56,7 +56,7 @@ impl Selection {
     pub fn copy_from(&mut self, other: &Selection)
         ensures { self.new ≡ other.now }
     {
-        copy_places(&other.places, other.count, &mut self.places);
+        self.places[..other.count].copy_from_slice(other.as_slice());
         self.count = other.count;
         self.is_dense = other.is_dense;
     }
@@ -116,21 +116,8 @@ impl Selection {
     pub fn first_count(&self) -> Option<usize>
         ensures { IfSome result (λ count. self.now ≡ range_with_len 0 count) }
     {
-        if self.is_dense {
-            Some(self.count)
-        } else {
-            None
-        }
+        self.is_dense.then_some(self.count)
     }
-}
-
-/// Copies the first places of a list.
-fn copy_places(from: &[u32], count: usize, to: &mut [u32])
-    requires from { count ≤ length from.now }
-    requires to { count ≤ length to.old }
-    ensures { take count to.new ≡ take count from.now }
-{
-    to[..count].copy_from_slice(&from[..count]);
 }
 
 /// Numbers the first places from 0 on.

@@ -3,7 +3,7 @@ use Rattle.entry_fns.specs.{functions_in}
 use Rattle.expr_lanes.specs.{lane_evaluate}
 use Rattle.expr_lanes.proofs.Agreement.{lane_is, value_is}
 use Rattle.expr_lanes.proofs.Composed.{by_value}
-use Rattle.expr_lanes.proofs.lanes.eval_lane.Goals as goal
+use Rattle.expr_lanes.proofs.evaluation.eval_lane.Goals as goal
 
 pub eval_node-requires-clause-able : goal.eval_node-requires-clause-able
 eval_node-requires-clause-able g c =

@@ -1,6 +1,0 @@
-use Rattle.std.proofs.Common.{◌≡◌, drop, pos, ℕ}
-use Rattle.rdf_model.specs.{sum_from}
-use Rattle.expr_lanes.proofs.folds.sum.Given as goal
-
-abbrev pub invariant-loop-x : goal.invariant-loop-x
-invariant-loop-x l = sum_from {M = ℕ} (pos 0) l.xs ≡ sum_from l.total (drop l.x-index l.xs)
