@@ -52,9 +52,3 @@ module _ (j : JobView) (first : ℕ) (u : Option ℕ) (count s : ℕ) (inside : 
 
   pub held_no_fault : holds_at lanes (key (job_graph j) s u) p ≡ true → site_fault j first u s p ≡ None
   held_no_fault holds = ap fault_in (held_gives holds).1
-
--- the places that are left where a lane holds nothing
-pub kept_lacking : (lanes : List LaneView) (k own : ℕ) (d : LaneView) (sel copied left : List ℕ) → k ≡ own → k < length lanes → copied ≡ sel → left ≡ filter (λ p. not (is_held (get_or lanes k d) p)) copied → left ≡ filter (λ p. not (holds_at lanes own p)) sel
-kept_lacking lanes k own d sel copied left same inside copy kept =
-    let at : slice_get lanes own ≡ Some (get_or lanes k d) = ap (slice_get lanes) (sym same) ∙ slice_get-get_or lanes k d inside in
-    kept ∙ ap (filter (λ p. not (is_held (get_or lanes k d) p))) copy ∙ ap (λ o. filter (λ p. not (lane_holds o p)) sel) (sym at)
