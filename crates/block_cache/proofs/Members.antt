@@ -1,31 +1,19 @@
 -- Places of selections that a test keeps, and the first fault among them.
-use Rattle.std.proofs.Common.{◌≡◌, ◌≤◌, ◌||◌, not, ℕ, Bool, true, false, List, [], ◌∷◌, length, Option, Some, None, refl, sym, ◌∙◌, ap, arith, cond, nat_eq, nat_lt}
-use Rattle.lemmas.proofs.{count_by-le-length, Decides-eqb, filter, length-filter, lt-ltb, not_true}
+use Rattle.std.proofs.Common.{◌≡◌, ◌≤◌, ◌||◌, ◌&&◌, not, ℕ, Bool, true, false, List, [], ◌∷◌, length, Option, Some, None, refl, sym, ◌∙◌, ap, arith, cond, nat_eq, nat_lt}
+use Rattle.lemmas.proofs.{and_right, count_by-le-length, Decides-eqb, filter, length-filter, lt-ltb, not_true}
 use Rattle.rdf_values.specs.{EntryFault}
 use Rattle.expr_lanes.specs.{AreRising, EachPlace, is_in, IsSelected}
+use Rattle.expr_lanes.proofs.Composed.{in_filter}
 use Rattle.expr_lanes.proofs.Sequence.{filtered_in, first_in, rest_in}
 use Rattle.block_cache.specs.{below_fault, fault_before, fault_over, is_below, IsFaultOf, PlaceFault}
 
 -- ---- filters
 
-kept_here : (f : ℕ → Bool) (p q : ℕ) (xs : List ℕ) → f p ≡ true → (b : Bool) → nat_eq p q ≡ b → (c : Bool) → f q ≡ c → (b || is_in p xs) ≡ true → (is_in p xs ≡ true → is_in p (filter f xs) ≡ true) → is_in p (cond c (q ∷ filter f xs) (filter f xs)) ≡ true
-kept_here f p q xs passes b e c k h rest = grind (arith, Decides-eqb, rest_in)
-
 pub filter_in : (xs : List ℕ) (f : ℕ → Bool) (p : ℕ) → is_in p xs ≡ true → f p ≡ true → is_in p (filter f xs) ≡ true
-filter_in [] f p among passes = cc among
-filter_in (q ∷ xs) f p among passes = kept_here f p q xs passes (nat_eq p q) refl (f q) refl among (λ h. filter_in xs f p h passes)
-
-passes_here : (f : ℕ → Bool) (p q : ℕ) (xs : List ℕ) → f q ≡ true → (b : Bool) → nat_eq p q ≡ b → (b || is_in p xs) ≡ true → (is_in p xs ≡ true → f p ≡ true) → f p ≡ true
-passes_here f p q xs k true e h rest = ap f ((Decides-eqb p q).0 e) ∙ k
-passes_here f p q xs k false e h rest = rest h
-
-passes_kept : (f : ℕ → Bool) (p q : ℕ) (xs : List ℕ) (c : Bool) → f q ≡ c → is_in p (cond c (q ∷ xs) xs) ≡ true → (is_in p xs ≡ true → f p ≡ true) → f p ≡ true
-passes_kept f p q xs true k h rest = passes_here f p q xs k (nat_eq p q) refl h rest
-passes_kept f p q xs false k h rest = rest h
+filter_in xs f p among passes = in_filter f p xs ∙ ap (λ b. b && f p) among ∙ passes
 
 pub filter_passes : (xs : List ℕ) (f : ℕ → Bool) (p : ℕ) → is_in p (filter f xs) ≡ true → f p ≡ true
-filter_passes [] f p among = cc among
-filter_passes (q ∷ xs) f p among = passes_kept f p q (filter f xs) (f q) refl among (λ h. filter_passes xs f p h)
+filter_passes xs f p among = and_right (is_in p xs) (f p) (sym (in_filter f p xs) ∙ among)
 
 pub filter_short : (f : ℕ → Bool) (xs : List ℕ) → length (filter f xs) ≤ length xs
 filter_short f xs = omega (arith, length-filter f xs, count_by-le-length f xs)

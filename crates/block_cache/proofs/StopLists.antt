@@ -60,19 +60,8 @@ fault_number EntryFault.VaryCount = 5
 fault_number EntryFault.Weight = 6
 fault_number EntryFault.Function = 7
 
-abbrev fault_back : ℕ → EntryFault
-fault_back zero = EntryFault.Overflow
-fault_back (suc zero) = EntryFault.ZeroDivisor
-fault_back (suc (suc zero)) = EntryFault.Index
-fault_back (suc (suc (suc zero))) = EntryFault.EmptyVector
-fault_back (suc (suc (suc (suc zero)))) = EntryFault.Lengths
-fault_back (suc (suc (suc (suc (suc zero))))) = EntryFault.VaryCount
-fault_back (suc (suc (suc (suc (suc (suc zero)))))) = EntryFault.Weight
-fault_back (suc (suc (suc (suc (suc (suc (suc n))))))) = EntryFault.Function
-
-fault_again : (k : EntryFault) → fault_back (fault_number k) ≡ k
-fault_again EntryFault.Overflow = refl
-fault_again k = refl
+fault_is : (a b : EntryFault) → fault_number a ≡ fault_number b → a ≡ b
+fault_is a b e = grind arith
 
 abbrev same_scalar : ScalarStop → ScalarStop → Bool
 same_scalar (Fault a) (Fault b) = nat_eq (fault_number a) (fault_number b)
@@ -80,7 +69,7 @@ same_scalar (Need c) (Need d) = nat_eq c d
 same_scalar a b = false
 
 scalar_is : (a b : ScalarStop) → same_scalar a b ≡ true → a ≡ b
-scalar_is a b e = grind (arith, Decides-eqb, fault_again)
+scalar_is a b e = grind (arith, Decides-eqb, fault_is)
 
 scalar_same : (a : ScalarStop) → same_scalar a a ≡ true
 scalar_same (Fault a) = (Decides-eqb (fault_number a) (fault_number a)).1 refl
