@@ -71,8 +71,7 @@ falls_by_number j job u s x at =
     lower x below = below
 
 pub in_all : (x : Source) → IsSourceIn (λ t. true) x
-in_all (Source.Cell col) = tt
-in_all x = refl
+in_all x = grind arith
 
 -- each site can be filled, with vectors or without, where the levels of scratch are enough for each expression, the columns are there, and
 -- there is a level for each site

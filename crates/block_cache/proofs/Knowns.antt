@@ -1,6 +1,6 @@
 -- What is known of a key at a place, by its lane.
-use Rattle.std.proofs.Common.{if◌then◌else◌, ◌≡◌, ◌<◌, ◌+◌, not, ℕ, Bool, true, false, List, length, Option, Some, None, refl, sym, ◌∙◌, ap, subst, slice_get, get_or}
-use Rattle.lemmas.proofs.{filter, never_true, slice_get-get_or}
+use Rattle.std.proofs.Common.{if◌then◌else◌, ◌≡◌, ◌<◌, ◌+◌, ℕ, Bool, true, false, List, length, Option, Some, None, refl, sym, ◌∙◌, ap, subst, slice_get, arith}
+use Rattle.lemmas.proofs.{never_true}
 use Rattle.rdf_values.specs.{Value}
 use Rattle.rdf_model.specs.{fault_in, Gives}
 use Rattle.graph_numbers.specs.{graph_sites}
@@ -12,12 +12,7 @@ use Rattle.block_cache.proofs.OverLaws.{held_true}
 -- ---- what is held
 
 lane_says : (o : Option LaneView) (p : ℕ) → has_held (lane_held o p) ≡ lane_holds o p
-lane_says None p = refl
-lane_says (Some l) p = go (is_held l p) (value_of l p)
-  where
-    go : (b : Bool) (v : Value) → has_held (if b then held_value v else Held.Nothing) ≡ b
-    go true v = value_held v
-    go false v = refl
+lane_says o p = grind (arith, value_held)
 
 pub holds_is : (n : ℕ) (lanes : List LaneView) (k p : ℕ) → has_held (held_in (cells_at n lanes p) k) ≡ holds_at lanes k p
 holds_is n lanes k p = ap has_held (held_of_lane n lanes p k) ∙ lane_says (slice_get lanes k) p

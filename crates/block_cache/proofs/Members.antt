@@ -1,5 +1,5 @@
 -- Places of selections that a test keeps, and the first fault among them.
-use Rattle.std.proofs.Common.{◌≡◌, ◌≤◌, ◌||◌, ◌&&◌, not, ℕ, Bool, true, false, List, [], ◌∷◌, length, Option, Some, None, refl, sym, ◌∙◌, ap, arith, cond, nat_eq, nat_lt}
+use Rattle.std.proofs.Common.{◌≡◌, ◌≤◌, ◌||◌, ◌&&◌, not, ℕ, Bool, true, false, List, [], ◌∷◌, length, Option, Some, None, refl, sym, ◌∙◌, ap, arith, nat_eq, nat_lt}
 use Rattle.lemmas.proofs.{and_right, count_by-le-length, Decides-eqb, filter, length-filter, lt-ltb, not_true}
 use Rattle.rdf_values.specs.{EntryFault}
 use Rattle.expr_lanes.specs.{AreRising, EachPlace, is_in, IsSelected}
@@ -19,26 +19,21 @@ pub filter_short : (f : ℕ → Bool) (xs : List ℕ) → length (filter f xs) �
 filter_short f xs = omega (arith, length-filter f xs, count_by-le-length f xs)
 
 pub twice_not : (b : Bool) → not (not b) ≡ b
-twice_not true = refl
-twice_not false = refl
+twice_not b = grind arith
 
 -- ---- places below a fault
 
 pub below_in : (fault : Option PlaceFault) (sel : List ℕ) (p : ℕ) → is_in p sel ≡ true → is_below fault p ≡ true → is_in p (below_fault fault sel) ≡ true
-below_in None sel p among low = among
-below_in (Some f) sel p among low = filter_in sel (λ q. nat_lt q f.place) p among low
+below_in fault sel p among low = grind (arith, filter_in)
 
 pub below_among : (fault : Option PlaceFault) (sel : List ℕ) (p : ℕ) → is_in p (below_fault fault sel) ≡ true → is_in p sel ≡ true
-below_among None sel p h = h
-below_among (Some f) sel p h = filtered_in (λ q. nat_lt q f.place) p sel h
+below_among fault sel p h = grind (arith, filtered_in)
 
 pub below_low : (fault : Option PlaceFault) (sel : List ℕ) (p : ℕ) → is_in p (below_fault fault sel) ≡ true → is_below fault p ≡ true
-below_low None sel p h = refl
-below_low (Some f) sel p h = filter_passes sel (λ q. nat_lt q f.place) p h
+below_low fault sel p h = grind (arith, filter_passes)
 
 pub below_short : (fault : Option PlaceFault) (sel : List ℕ) → length (below_fault fault sel) ≤ length sel
-below_short None sel = omega arith
-below_short (Some f) sel = filter_short (λ q. nat_lt q f.place) sel
+below_short fault sel = grind (arith, filter_short)
 
 -- what a test or a fault leaves of a selection
 pub filter_selected : {count : ℕ} (f : ℕ → Bool) {sel left : List ℕ} → IsSelected count sel [] → left ≡ filter f sel → IsSelected count left []
@@ -85,8 +80,7 @@ first_over (p ∷ sel) f x rising among at below =
 
 -- a fault of one of the places below which none has one is the first
 pub fault_first : (fault : Option PlaceFault) (sel : List ℕ) (f : ℕ → Option EntryFault) → AreRising sel → IsFaultOf f sel fault → EachPlace sel (λ p. is_below fault p ≡ true → f p ≡ None) → fault ≡ fault_over f sel
-fault_first None sel f rising is none = sym (no_fault_over sel f (λ p i. none p i refl))
-fault_first (Some x) sel f rising is none = first_over sel f x rising is.0 is.1 none
+fault_first fault sel f rising is none = grind (arith, no_fault_over, first_over)
 
 -- what is known of the first fault of a list
 pub over_first : (sel : List ℕ) (f : ℕ → Option EntryFault) → IsFaultOf f sel (fault_over f sel)

@@ -1,5 +1,5 @@
 -- A version that an evaluation meets and that faults gives its fault to the site.
-use Rattle.std.proofs.Common.{◌≡◌, ℕ, Bool, true, false, List, [], refl, sym, ◌∙◌, ap, subst, nat_eq, slice_get, Option, Some, None, if◌then◌else◌}
+use Rattle.std.proofs.Common.{◌≡◌, ℕ, Bool, true, false, List, [], refl, sym, ◌∙◌, ap, subst, nat_eq, slice_get, Option, Some, None, if◌then◌else◌, arith}
 use Rattle.lemmas.proofs.{Decides-eqb, never_true}
 use Rattle.rdf_values.specs.{Bin, BinOp, Call, Col, Cond, End, EntryFault, Lit, More, Neg, Not, Pick, Tree, Trees, Value}
 use Rattle.rdf_values.specs.expressions.Expressions.{Truth}
@@ -27,12 +27,10 @@ module _ {M : Type 0} (k : EntryFault) where
   in_order_stands f c e = bind_stands _ _ c (λ v. bind_stands _ _ e (λ w. same))
 
   operation_needs : (o : BinOp) (d : M) (p : Outcome M Value) → operation o (Needs d) p ≡ Needs d
-  operation_needs BinOp.And d p = refl
-  operation_needs o d p = refl
+  operation_needs o d p = grind arith
 
   operation_faults : (o : BinOp) (e : EntryFault) (p : Outcome M Value) → operation o (Faults e) p ≡ Faults e
-  operation_faults BinOp.And e p = refl
-  operation_faults o e p = refl
+  operation_faults o e p = grind arith
 
   operation_same : (o : BinOp) (l p p' : Outcome M Value) → Stands p p' → Stands (operation o l p) (operation o l p')
   operation_same BinOp.And (Gives (Value.Bool false)) p p' e = same
@@ -73,9 +71,7 @@ needs_fault k o p same n m = absurd (cc (n, m))
 needs_fault k o p stood n m = refl
 
 fault_of_known : (k : EntryFault) (o : Outcome ⊥ Value) → with_needs {M = ℕ} o ≡ Faults k → o ≡ Faults k
-fault_of_known k (Gives a) e = cc e
-fault_of_known k (Faults f) e = let same : f ≡ k = (let i : ◌≡◌ {A = Outcome ℕ Value} (Faults f) (Faults k) = e in cc i) in ap Faults same
-fault_of_known k (Needs m) e = elim m [ ]
+fault_of_known k o e = grind arith
 
 -- nothing is missing of a site
 site_known : (j : JobView) (entry : ℕ) (u : Option ℕ) (t : ℕ) → site_in {M = ℕ} j entry u t ≡ with_needs (site_in j entry u t)

@@ -43,8 +43,7 @@ least_next stops i d least inside h =
 -- ---- What is said of one answer alone.
 
 pub on_err : {A E P : Type 0} (r : Result A E) → P → OnErr r P
-on_err (Ok a) p = tt
-on_err (Err e) p = p
+on_err r p = grind arith
 
 -- ---- The stops of a group: one for each place that came to no value.
 
@@ -72,8 +71,7 @@ scalar_is : (a b : ScalarStop) → same_scalar a b ≡ true → a ≡ b
 scalar_is a b e = grind (arith, Decides-eqb, fault_is)
 
 scalar_same : (a : ScalarStop) → same_scalar a a ≡ true
-scalar_same (Fault a) = (Decides-eqb (fault_number a) (fault_number a)).1 refl
-scalar_same (Need c) = (Decides-eqb c c).1 refl
+scalar_same a = grind arith
 
 abbrev same_stop : Stopped → Stopped → Bool
 same_stop x y = nat_eq x.place y.place && same_scalar x.stop y.stop
@@ -84,8 +82,7 @@ stop_is x y e = grind (arith, both_true, Decides-eqb, scalar_is)
 -- ---- how often a test passes
 
 zero_head : (b : Bool) (n : ℕ) → cond b 1 0 + n ≡ 0 → b ≡ false
-zero_head true n e = absurd (omega (arith, e))
-zero_head false n e = refl
+zero_head b n e = grind arith
 
 none_at : (xs : List Stopped) (k : ℕ) (test : Stopped → Bool) (d : Stopped) → times test xs ≡ 0 → k < length xs → test (get_or xs k d) ≡ false
 none_at [] k test d z l = absurd (omega (arith, l))
@@ -102,8 +99,7 @@ further : (test : Stopped → Bool) (y : Stopped) (xs : List Stopped) → Passin
 further test y xs h = (h.0, (suc h.1.0, (let l = h.1.1 in omega (arith, l)), h.1.2), h.2)
 
 passes_here : (test : Stopped → Bool) (y : Stopped) (xs : List Stopped) (b : Bool) → test y ≡ b → 0 < cond b 1 0 + times test xs → (0 < times test xs → Passing test xs) → Passing test (y ∷ xs)
-passes_here test y xs true e l rest = (y, (0, omega arith, refl), e)
-passes_here test y xs false e l rest = further test y xs (rest (omega (arith, l)))
+passes_here test y xs b e l rest = grind (arith, further)
 
 some_passes : (xs : List Stopped) (test : Stopped → Bool) → 0 < times test xs → Passing test xs
 some_passes [] test some = absurd (omega (arith, some))
@@ -122,8 +118,7 @@ is_stop None a = false
 is_stop (Some b) a = same_scalar b a
 
 stop_of : (o : Option ScalarStop) (a : ScalarStop) → is_stop o a ≡ true → o ≡ Some a
-stop_of None a e = cc e
-stop_of (Some b) a e = ap Some (scalar_is b a e)
+stop_of o a e = grind (arith, scalar_is)
 
 is_told : (ℕ → Outcome ℕ Value) → List ℕ → Stopped → Bool
 is_told f sel x = is_in x.place sel && is_stop (told_stop (f x.place)) x.stop

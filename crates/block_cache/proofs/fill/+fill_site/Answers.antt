@@ -45,7 +45,7 @@ returns-in_err-below-in-Some-clause-spent g t c =
 pub returns-in_err-below-in-Some-clause-plain : goal.returns-in_err-below-in-Some-clause-plain
 returns-in_err-below-in-Some-clause-plain g t c =
     let waits = turn_waits c.args.wanted.now c.loop-level.invariant c.next_group.result c.next_group.ensures.group _ c.next_group.ensures.first in
-    on_err c.from_residual.result (λ used p q. c.in_err-below-in-Some.ensures.plain used p (met_used (job_of c.args.wanted.now.block.now.at.now.job.now) c.args.wanted.now.block.now.fits.job _ _ _ _ c.needed_site-site.result used p q waits.met c.needed_site-site.ensures))
+    on_err c.from_residual-in_err-below-in-Some.result (λ used p q. c.in_err-below-in-Some.ensures.plain used p (met_used (job_of c.args.wanted.now.block.now.at.now.job.now) c.args.wanted.now.block.now.fits.job _ _ _ _ c.needed_site-site.result used p q waits.met c.needed_site-site.ensures))
 
 pub resume-requires-clause-can : goal.resume-requires-clause-can
 resume-requires-clause-can g t c =
