@@ -1,5 +1,5 @@
 -- What one evaluation of a site at the places of a group comes to.
-use Rattle.std.proofs.Common.{◌≡◌, ◌<◌, ◌≤◌, ◌+◌, ◌⊎◌, inl, inr, ℕ, zero, suc, true, false, List, [], ◌∷◌, length, take, Option, Some, None, refl, sym, ◌∙◌, ap, subst, arith, slice_get, Contains}
+use Rattle.std.proofs.Common.{◌≡◌, ◌<◌, ◌≤◌, ◌+◌, ◌⊎◌, inl, ℕ, zero, suc, true, false, List, [], ◌∷◌, length, take, Option, Some, None, refl, sym, ◌∙◌, ap, subst, arith, slice_get, Contains}
 use Rattle.lemmas.proofs.{All-contains, ltb-true, never_true, or_left, same_some, something_at}
 use Rattle.rdf_values.specs.{EntryFault, Value}
 use Rattle.rdf_model.specs.{fault_in, Faults, Gives, Needs, Outcome}

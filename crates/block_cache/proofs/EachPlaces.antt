@@ -2,7 +2,7 @@
 use Rattle.std.proofs.Common.{◌≡◌, ◌<◌, ◌≤◌, ◌+◌, ◌++◌, ◌⊎◌, inl, inr, not, ℕ, ℤ, Bool, true, false, List, [], ◌∷◌, length, get_or, take, ◌∙◌, refl, ap, sym, subst, arith, append_assoc, cond}
 use Rattle.lemmas.proofs.{filter, length-append, take_more}
 use Rattle.rdf_values.specs.{ColType, FitsKind, Value}
-use Rattle.rdf_model.specs.{Gives, is_set, mark, Outcome}
+use Rattle.rdf_model.specs.{is_set, mark, Outcome}
 use Rattle.expr_check.specs.{is_vector}
 use Rattle.expr_lanes.specs.{at_place, EachPlace, given_in, is_given, is_in, is_marked, lane_number, Stopped, stops_in, times, with_stop}
 use Rattle.expr_lanes.proofs.Selected.{in_more, is_in_at}

@@ -1,10 +1,10 @@
 -- What is known of a key at a place, by its lane.
-use Rattle.std.proofs.Common.{if◌then◌else◌, ◌≡◌, ◌<◌, ◌+◌, ℕ, Bool, true, false, List, length, Option, Some, None, refl, sym, ◌∙◌, ap, subst, slice_get, arith}
+use Rattle.std.proofs.Common.{◌≡◌, ◌<◌, ◌+◌, ℕ, true, false, List, length, Option, Some, None, sym, ◌∙◌, ap, subst, slice_get, arith}
 use Rattle.lemmas.proofs.{never_true}
 use Rattle.rdf_values.specs.{Value}
 use Rattle.rdf_model.specs.{fault_in, Gives}
 use Rattle.graph_numbers.specs.{graph_sites}
-use Rattle.block_cache.specs.{AreReady, cells_at, held_value, holds_at, is_held, IsSameAt, lane_holds, LaneView, site_fault, value_of}
+use Rattle.block_cache.specs.{AreReady, cells_at, holds_at, IsSameAt, lane_holds, LaneView, site_fault, value_of}
 use Rattle.loop_keys.specs.{Grows, Held, held_in, is_held as has_held, IsRight, job_graph, JobView, key, key_count, site_in}
 use Rattle.block_cache.proofs.BlockLaws.{held_of_lane, lane_held, right_value, value_held}
 use Rattle.block_cache.proofs.OverLaws.{held_true}

@@ -1,5 +1,5 @@
 -- The places of a selection that pass a filter.
-use Rattle.std.proofs.Common.{◌≡◌, ◌<◌, ◌+◌, ℕ, true, false, List, [], length, get_or, Option, Some, sym, ◌∙◌, ap, subst, slice_get, arith}
+use Rattle.std.proofs.Common.{◌≡◌, ◌<◌, ◌+◌, ℕ, true, false, List, [], length, get_or, Option, Some, sym, ◌∙◌, ap, subst, slice_get}
 use Rattle.lemmas.proofs.{filter, same_some, slice_get-get_or}
 use Rattle.rdf_values.specs.{ColType}
 use Rattle.rdf_model.specs.{◌>>=◌, Gives, is_set, is_true, truth_of}

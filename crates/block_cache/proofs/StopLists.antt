@@ -1,5 +1,5 @@
 -- The least fault so far, one stop after another.
-use Rattle.std.proofs.Common.{◌≡◌, ◌<◌, ◌≤◌, ◌+◌, ◌++◌, ℕ, Bool, true, false, List, [], ◌∷◌, length, take, get_or, Option, Some, None, refl, sym, subst, arith, if◌then◌else◌, nat_le, Result, Ok, Err, OnErr, ◌&&◌, ◌||◌, not, zero, suc, ◌∙◌, ap, cond, nat_eq, Contains, ◌⊎◌, inl, inr, All, length-set, set, get_or-set_same, get_or-set_other}
+use Rattle.std.proofs.Common.{◌≡◌, ◌<◌, ◌≤◌, ◌+◌, ◌++◌, ℕ, Bool, true, false, List, [], ◌∷◌, length, take, get_or, Option, Some, None, refl, sym, subst, arith, if◌then◌else◌, nat_le, Result, OnErr, ◌&&◌, ◌||◌, not, zero, suc, ◌∙◌, ap, cond, nat_eq, Contains, ◌⊎◌, inl, inr, All, length-set, set, get_or-set_same, get_or-set_other}
 use Rattle.lemmas.proofs.{All-push, Contains-append_left, Contains-push, leb-false, leb-true, take_more, both_true, Decides-eqb, not_false, cases_eq, Contains-push_cases}
 use Rattle.expr_eval.specs.{ScalarStop}
 use Rattle.expr_eval.specs.declared.stop.ScalarStop.TheVariants.{Fault, Need}

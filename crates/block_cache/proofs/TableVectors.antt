@@ -1,5 +1,5 @@
 -- The vectors of the table's columns.
-use Rattle.std.proofs.Common.{◌≡◌, ◌<◌, ℕ, ℤ, List, [], Option, Some, None, map, length, ap, arith, slice_get, unwrap_or}
+use Rattle.std.proofs.Common.{◌≡◌, ◌<◌, ℕ, ℤ, List, [], Option, Some, map, length, ap, arith, slice_get, unwrap_or}
 use Rattle.std.specs.Option.{option_and_then}
 use Rattle.rdf_values.proofs.KeptLemmas.{cell_of_column, column_length}
 use Rattle.rdf_values.specs.{Value}
