@@ -1,9 +1,9 @@
 // Evaluation at one place after another.
-ghost use Rattle.std.specs.Prelude.{◌≡◌, ◌<◌, ◌≤◌, ◌+◌, ◌++◌, [], ◌∷◌, ℕ, true, length, slice_set, IfOk, OnOk, OnErr};
+ghost use Rattle.std.specs.Prelude.{◌≡◌, ◌<◌, ◌≤◌, ◌+◌, ℕ, length, IfOk, OnOk, OnErr};
 ghost use Rattle.rdf_values.specs.{ColType as KindOf, FitsKind, Value as ValueOf};
 ghost use Rattle.rdf_model.specs.{Outcome};
 ghost use Rattle.expr_eval.specs.{AnswersAs};
-ghost use Rattle.expr_lanes.specs.{EachPlace, stopped as stopped_at};
+ghost use Rattle.expr_lanes.specs.{EachPlace};
 ghost use Rattle.block_cache.specs.{AreWritten, HaveCome, IsScalarAnswer, IsTurned, IsWritten};
 
 use crate::place_values::PlaceValues;
