@@ -1,5 +1,5 @@
 -- What one evaluation of a site at the places of a group comes to.
-use Rattle.std.proofs.Common.{◌≡◌, ◌<◌, ◌≤◌, ◌+◌, ◌⊎◌, inl, inr, ℕ, zero, suc, true, false, List, [], ◌∷◌, length, take, Option, Some, None, refl, sym, ◌∙◌, ap, subst, arith, slice_get, Contains}
+use Rattle.std.proofs.Common.{◌≡◌, ◌<◌, ◌≤◌, ◌+◌, ◌⊎◌, inl, ℕ, zero, suc, true, false, List, [], ◌∷◌, length, take, Option, Some, None, refl, sym, ◌∙◌, ap, subst, arith, slice_get, Contains}
 use Rattle.lemmas.proofs.{All-contains, ltb-true, never_true, or_left, same_some, something_at}
 use Rattle.rdf_values.specs.{EntryFault, Value}
 use Rattle.rdf_model.specs.{fault_in, Faults, Gives, Needs, Outcome}
@@ -40,8 +40,7 @@ missing_site : (j : JobView) (u : Option ℕ) (s : ℕ) (lanes : List LaneView) 
 missing_site j u s lanes p x h = grind (arith, holds_nothing)
 
 of_fault : (o : Outcome ℕ Value) (k : EntryFault) → told_stop o ≡ Some (Fault k) → o ≡ Faults k
-of_fault (Faults f) k e = let same : f ≡ k = (let i = same_some e in cc i) in ap Faults same
-of_fault o k e = cc e
+of_fault o k e = grind (arith, same_some)
 
 module _
     {V : Type 0} {D : V → Type 0} {g : _} (w : Wanted V D g) {group left : List ℕ} {before new : List LaneView} {more : List Stopped} (t : IsTriedFor w group left before new [] more)
@@ -56,8 +55,7 @@ module _
     outside_as_was p out = same_held t.told group left t.at.own t.at.lane [] more t.evaluated unknown p (ap (is_in p) t.evaluated.left_in ∙ filtered_out (λ p. is_given (t.told p)) p group out)
 
     as_was : (p : ℕ) → (is_held t.at.own p ≡ true) ⊎ (is_in p group ≡ false) → held_at t.at.own p ≡ held_at t.at.lane p
-    as_was p (inl was) = outside_as_was p (never_true (is_in p group) (λ i. cc (was, unknown p i)))
-    as_was p (inr out) = outside_as_was p out
+    as_was p h = grind (arith, outside_as_was, never_true, unknown)
 
     same : (k p : ℕ) → (k ≡ own_key w → ⊥) ⊎ (is_in p group ≡ false) → IsSameAt keys before new k p
     same = all_same w t.at t.evaluated.begun as_was

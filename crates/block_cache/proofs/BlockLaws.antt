@@ -58,16 +58,13 @@ sound_alike j entry a b same sound = record { each = λ u s inside. subst (λ (h
 -- ---- what an evaluation tells
 
 pub value_held : (v : Value) → has_held (held_value v) ≡ true
-value_held (Value.Int z) = refl
-value_held v = refl
+value_held v = grind arith
 
 pub value_told : (c : ℕ) (v : Value) → held_or_need c (held_value v) ≡ Gives v
-value_told c (Value.Int z) = refl
-value_told c v = refl
+value_told c v = grind arith
 
 pub right_value : (o : Outcome ⊥ Value) (v : Value) → IsRight o (held_value v) → o ≡ Gives v
-right_value o (Value.Int z) h = sym h
-right_value o v h = sym h
+right_value o v h = grind arith
 
 module _ (j : JobView) (job : IsJob j) (entry : ℕ) (u : Option ℕ) (cells : List Held) (sound : IsSound j entry cells) (s : ℕ) (e : CheckedExpr) (its : IsSiteExpr (job_graph j) s e) where
   abbrev looked : Outcome ℕ Value
@@ -88,5 +85,4 @@ module _ (j : JobView) (job : IsJob j) (entry : ℕ) (u : Option ℕ) (cells : L
       go (Needs c) is = ((needed_missing j job entry u cells sound s x.0 x.1 c (of_tree (Needs c) is)).1, needed_met j job entry u cells sound s x.0 x.1 c (of_tree (Needs c) is))
 
 pub given_right : (o : Outcome ⊥ Value) (v : Value) → o ≡ Gives v → IsRight o (held_value v)
-given_right o (Value.Int z) h = sym h
-given_right o v h = sym h
+given_right o v h = grind arith

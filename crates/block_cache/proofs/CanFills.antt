@@ -8,15 +8,11 @@ use Rattle.rdf_model.proofs.KnownColumns.{each_weaker}
 use Rattle.graph_numbers.proofs.Equations.{columns_below}
 use Rattle.graph_numbers.specs.{graph_sites, graph_under, IsBelow, SiteAt, Source, version_count}
 use Rattle.loop_keys.specs.{ArePlain, IsJob, IsSiteOf, IsSound, IsSourceIn, job_graph, JobView, MeetsAt, site_in, source_at, version_in}
-use Rattle.loop_keys.proofs.EvaluateLaws.{accepted_of, whole}
+use Rattle.loop_keys.proofs.EvaluateLaws.{accepted_of, known_never, whole}
 use Rattle.loop_keys.proofs.FillLaws.{in_source}
 use Rattle.loop_keys.proofs.PlainLaws.{plain_closed}
 use Rattle.expr_lanes.specs.{depth}
 use Rattle.block_cache.specs.{AreSiteKinds, CanFill, IsLoaded, IsRankedBelow}
-
-known_never : (o : Outcome ⊥ Value) → is_need (with_needs {M = ℕ} o) ≡ true → ⊥
-known_never (Needs m) e = elim m [ ]
-known_never o e = cc e
 
 -- what holds of each column of an expression holds of each that its evaluation meets
 pub met_each : (j : JobView) (job : IsJob j) (entry : ℕ) (u : Option ℕ) (s c : ℕ) (P : ℕ → Type 0) (met : MeetsAt j entry u s c) → EachColumn P met.0.tree → P c
@@ -75,8 +71,7 @@ falls_by_number j job u s x at =
     lower x below = below
 
 pub in_all : (x : Source) → IsSourceIn (λ t. true) x
-in_all (Source.Cell col) = tt
-in_all x = refl
+in_all x = grind arith
 
 -- each site can be filled, with vectors or without, where the levels of scratch are enough for each expression, the columns are there, and
 -- there is a level for each site

@@ -2,7 +2,7 @@
 use Rattle.std.proofs.Common.{◌≡◌, ◌<◌, ◌≤◌, ◌+◌, ◌++◌, ◌⊎◌, inl, inr, not, ℕ, ℤ, Bool, true, false, List, [], ◌∷◌, length, get_or, take, ◌∙◌, refl, ap, sym, subst, arith, append_assoc, cond}
 use Rattle.lemmas.proofs.{filter, length-append, take_more}
 use Rattle.rdf_values.specs.{ColType, FitsKind, Value}
-use Rattle.rdf_model.specs.{Gives, is_set, mark, Outcome}
+use Rattle.rdf_model.specs.{is_set, mark, Outcome}
 use Rattle.expr_check.specs.{is_vector}
 use Rattle.expr_lanes.specs.{at_place, EachPlace, given_in, is_given, is_in, is_marked, lane_number, Stopped, stops_in, times, with_stop}
 use Rattle.expr_lanes.proofs.Selected.{in_more, is_in_at}
@@ -13,8 +13,7 @@ use Rattle.block_cache.proofs.VectorLists.{kept_on}
 -- ---- the number of a value
 
 set_mark : (b : Bool) → is_set (mark b) ≡ b
-set_mark true = refl
-set_mark false = refl
+set_mark b = grind arith
 
 -- is read back as the value
 pub read_back : (k : ColType) (vectors : List (List ℤ)) (v : Value) (z : ℤ) → FitsKind k v → IsNumberOf vectors v z → value_for k vectors z ≡ v
@@ -28,16 +27,13 @@ number_read k vectors v z scalar h is = grind arith
 
 -- among more vectors it is the same
 number_more : (vectors more : List (List ℤ)) (v : Value) (z : ℤ) → AreKept vectors more → IsNumberOf vectors v z → IsNumberOf more v z
-number_more vectors more (Value.Vect xs) z kept is = let k = kept _ is.0 in (k.0, k.1 ∙ is.1)
-number_more vectors more v z kept is = is
+number_more vectors more v z kept is = grind arith
 
 pub value_more : (k : ColType) (vectors more : List (List ℤ)) (z : ℤ) → AreKept vectors more → HasNumbered k vectors z → value_for k more z ≡ value_for k vectors z
-value_more ColType.Vect vectors more z kept there = ap Value.Vect (kept _ there).1
-value_more k vectors more z kept there = refl
+value_more k vectors more z kept there = grind arith
 
 pub there_more : (k : ColType) (vectors more : List (List ℤ)) (z : ℤ) → AreKept vectors more → HasNumbered k vectors z → HasNumbered k more z
-there_more ColType.Vect vectors more z kept there = (kept _ there).0
-there_more k vectors more z kept there = tt
+there_more k vectors more z kept there = grind arith
 
 number_moved : (k : ColType) (o : Outcome ℕ Value) (vectors more : List (List ℤ)) (a b : ℤ) → AreKept vectors more → b ≡ a → HasNumber k o vectors a → HasNumber k o more b
 number_moved k o vectors more a b kept same h = record { value = h.value; gives = h.gives; fits = h.fits; numbered = number_more vectors more h.value b kept (subst (λ (z : ℤ). IsNumberOf vectors h.value z) (sym same) h.numbered) }
@@ -53,8 +49,7 @@ module _ (f : ℕ → Outcome ℕ Value) where
   stops_push (x ∷ xs) p = with_push (f x) x (stops_in f (xs ++ p ∷ [])) (stops_in f xs) (with_stop p (f p) []) (stops_push xs p)
 
 one_stop : (o : Outcome ℕ Value) (q : ℕ) → length (with_stop q o []) ≤ 1
-one_stop (Gives v) q = omega arith
-one_stop o q = omega arith
+one_stop o q = grind arith
 
 pub times_append : (t : Stopped → Bool) (xs ys : List Stopped) → times t (xs ++ ys) ≡ times t xs + times t ys
 times_append t [] ys = omega arith
@@ -115,8 +110,7 @@ turned_more k f places numbers0 numbers after vectors0 vectors more marks0 marks
 -- ---- what is left of a selection
 
 not_not : (a b : Bool) → a ≡ not b → not a ≡ b
-not_not a true h = ap not h
-not_not a false h = ap not h
+not_not a b h = grind arith
 
 pub left_given : (f : ℕ → Outcome ℕ Value) (marks : List Bool) (sel : List ℕ) → EachPlace sel (λ p. is_marked marks p ≡ not (is_given (f p))) → filter (λ p. not (is_marked marks p)) sel ≡ given_in f sel
 left_given f marks [] each = refl

@@ -1,10 +1,10 @@
 -- What is known of a key at a place, by its lane.
-use Rattle.std.proofs.Common.{if◌then◌else◌, ◌≡◌, ◌<◌, ◌+◌, not, ℕ, Bool, true, false, List, length, Option, Some, None, refl, sym, ◌∙◌, ap, subst, slice_get, get_or}
-use Rattle.lemmas.proofs.{filter, never_true, slice_get-get_or}
+use Rattle.std.proofs.Common.{◌≡◌, ◌<◌, ◌+◌, ℕ, true, false, List, length, Option, Some, None, sym, ◌∙◌, ap, subst, slice_get, arith}
+use Rattle.lemmas.proofs.{never_true}
 use Rattle.rdf_values.specs.{Value}
 use Rattle.rdf_model.specs.{fault_in, Gives}
 use Rattle.graph_numbers.specs.{graph_sites}
-use Rattle.block_cache.specs.{AreReady, cells_at, held_value, holds_at, is_held, IsSameAt, lane_holds, LaneView, site_fault, value_of}
+use Rattle.block_cache.specs.{AreReady, cells_at, holds_at, IsSameAt, lane_holds, LaneView, site_fault, value_of}
 use Rattle.loop_keys.specs.{Grows, Held, held_in, is_held as has_held, IsRight, job_graph, JobView, key, key_count, site_in}
 use Rattle.block_cache.proofs.BlockLaws.{held_of_lane, lane_held, right_value, value_held}
 use Rattle.block_cache.proofs.OverLaws.{held_true}
@@ -12,12 +12,7 @@ use Rattle.block_cache.proofs.OverLaws.{held_true}
 -- ---- what is held
 
 lane_says : (o : Option LaneView) (p : ℕ) → has_held (lane_held o p) ≡ lane_holds o p
-lane_says None p = refl
-lane_says (Some l) p = go (is_held l p) (value_of l p)
-  where
-    go : (b : Bool) (v : Value) → has_held (if b then held_value v else Held.Nothing) ≡ b
-    go true v = value_held v
-    go false v = refl
+lane_says o p = grind (arith, value_held)
 
 pub holds_is : (n : ℕ) (lanes : List LaneView) (k p : ℕ) → has_held (held_in (cells_at n lanes p) k) ≡ holds_at lanes k p
 holds_is n lanes k p = ap has_held (held_of_lane n lanes p k) ∙ lane_says (slice_get lanes k) p
@@ -52,9 +47,3 @@ module _ (j : JobView) (first : ℕ) (u : Option ℕ) (count s : ℕ) (inside : 
 
   pub held_no_fault : holds_at lanes (key (job_graph j) s u) p ≡ true → site_fault j first u s p ≡ None
   held_no_fault holds = ap fault_in (held_gives holds).1
-
--- the places that are left where a lane holds nothing
-pub kept_lacking : (lanes : List LaneView) (k own : ℕ) (d : LaneView) (sel copied left : List ℕ) → k ≡ own → k < length lanes → copied ≡ sel → left ≡ filter (λ p. not (is_held (get_or lanes k d) p)) copied → left ≡ filter (λ p. not (holds_at lanes own p)) sel
-kept_lacking lanes k own d sel copied left same inside copy kept =
-    let at : slice_get lanes own ≡ Some (get_or lanes k d) = ap (slice_get lanes) (sym same) ∙ slice_get-get_or lanes k d inside in
-    kept ∙ ap (filter (λ p. not (is_held (get_or lanes k d) p))) copy ∙ ap (λ o. filter (λ p. not (lane_holds o p)) sel) (sym at)

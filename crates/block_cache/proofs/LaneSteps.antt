@@ -91,12 +91,10 @@ module _
         was_held p out is = ap (λ b. b || is_marked held0 p) (sym out) ∙ sym (held_at p) ∙ is
 
         exact_at : is_vector k ≡ false → (p : ℕ) → is_marked held p ≡ true → (b : Bool) → is_in p left ≡ b → lane_number (value_for k vectors (at_place numbers p)) ≡ at_place numbers p
-        exact_at scalar p is true h = let n = number p h in ap lane_number (read_back k vectors n.value (at_place numbers p) n.fits n.numbered) ∙ number_read k vectors n.value (at_place numbers p) scalar n.fits n.numbered
-        exact_at scalar p is false h = kept_exact scalar p (was_held p h is)
+        exact_at scalar p is b h = grind (arith, number, read_back, number_read, kept_exact, was_held)
 
         there_at : (p : ℕ) → is_marked held p ≡ true → (b : Bool) → is_in p left ≡ b → HasNumbered k vectors (at_place numbers p)
-        there_at p is true h = let n = number p h in is_there k vectors n.value (at_place numbers p) n.fits n.numbered
-        there_at p is false h = kept_there p (was_held p h is)
+        there_at p is b h = grind (arith, number, is_there, kept_there, was_held)
 
         pub lane_after : IsLane (lane_of k count numbers vectors tried held)
         lane_after = grind (arith, behind, or_fails, filtered_out, left_false, was_not, exact_at, there_at)

@@ -36,8 +36,7 @@ element_site f x k i n e = cc e
 -- ---- what is read first is met
 
 bind_needs : {M A B : Type 0} (o : Outcome M A) (f : A → Outcome M B) → is_need o ≡ true → is_need (o >>= f) ≡ true
-bind_needs (Needs m) f h = refl
-bind_needs o f h = cc h
+bind_needs o f h = grind arith
 
 operation_needs : {M : Type 0} (o : BinOp) (l r : Outcome M Value) → is_need l ≡ true → is_need (operation o l r) ≡ true
 operation_needs o l r h = grind arith

@@ -16,8 +16,7 @@ abbrev one : Bool → ℕ
 one b = cond b 1 0
 
 one_or_none : (b : Bool) → one b + one (not b) ≡ 1
-one_or_none true = refl
-one_or_none false = refl
+one_or_none b = grind arith
 
 -- how many marks there are after one was set
 count_set : (marks : List Bool) (q : ℕ) → q < length marks → count_by (λ b. b) (set marks q true) ≡ count_by (λ b. b) marks + one (not (is_marked marks q))
@@ -68,8 +67,7 @@ mark_one places before marks i q so_far rising inside read room =
     }
 
 either : (b c : Bool) → (if b then true else c) ≡ (b || c)
-either true c = refl
-either false c = refl
+either b c = grind arith
 
 pub marked_all : (places : List ℕ) (before marks : List Bool) (i p : ℕ) → IsMarkedTo places before marks i → take i places ≡ places → is_marked marks p ≡ (is_in p places || is_marked before p)
 marked_all places before marks i p so_far all = so_far.marked p ∙ either (is_in p (take i places)) (is_marked before p) ∙ ap (λ l. is_in p l || is_marked before p) all

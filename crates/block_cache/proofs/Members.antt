@@ -1,56 +1,39 @@
 -- Places of selections that a test keeps, and the first fault among them.
-use Rattle.std.proofs.Common.{◌≡◌, ◌≤◌, ◌||◌, not, ℕ, Bool, true, false, List, [], ◌∷◌, length, Option, Some, None, refl, sym, ◌∙◌, ap, arith, cond, nat_eq, nat_lt}
-use Rattle.lemmas.proofs.{count_by-le-length, Decides-eqb, filter, length-filter, lt-ltb, not_true}
+use Rattle.std.proofs.Common.{◌≡◌, ◌≤◌, ◌||◌, ◌&&◌, not, ℕ, Bool, true, false, List, [], ◌∷◌, length, Option, Some, None, refl, sym, ◌∙◌, ap, arith, nat_eq, nat_lt}
+use Rattle.lemmas.proofs.{and_right, count_by-le-length, Decides-eqb, filter, length-filter, lt-ltb, not_true}
 use Rattle.rdf_values.specs.{EntryFault}
 use Rattle.expr_lanes.specs.{AreRising, EachPlace, is_in, IsSelected}
+use Rattle.expr_lanes.proofs.Composed.{in_filter}
 use Rattle.expr_lanes.proofs.Sequence.{filtered_in, first_in, rest_in}
 use Rattle.block_cache.specs.{below_fault, fault_before, fault_over, is_below, IsFaultOf, PlaceFault}
 
 -- ---- filters
 
-kept_here : (f : ℕ → Bool) (p q : ℕ) (xs : List ℕ) → f p ≡ true → (b : Bool) → nat_eq p q ≡ b → (c : Bool) → f q ≡ c → (b || is_in p xs) ≡ true → (is_in p xs ≡ true → is_in p (filter f xs) ≡ true) → is_in p (cond c (q ∷ filter f xs) (filter f xs)) ≡ true
-kept_here f p q xs passes b e c k h rest = grind (arith, Decides-eqb, rest_in)
-
 pub filter_in : (xs : List ℕ) (f : ℕ → Bool) (p : ℕ) → is_in p xs ≡ true → f p ≡ true → is_in p (filter f xs) ≡ true
-filter_in [] f p among passes = cc among
-filter_in (q ∷ xs) f p among passes = kept_here f p q xs passes (nat_eq p q) refl (f q) refl among (λ h. filter_in xs f p h passes)
-
-passes_here : (f : ℕ → Bool) (p q : ℕ) (xs : List ℕ) → f q ≡ true → (b : Bool) → nat_eq p q ≡ b → (b || is_in p xs) ≡ true → (is_in p xs ≡ true → f p ≡ true) → f p ≡ true
-passes_here f p q xs k true e h rest = ap f ((Decides-eqb p q).0 e) ∙ k
-passes_here f p q xs k false e h rest = rest h
-
-passes_kept : (f : ℕ → Bool) (p q : ℕ) (xs : List ℕ) (c : Bool) → f q ≡ c → is_in p (cond c (q ∷ xs) xs) ≡ true → (is_in p xs ≡ true → f p ≡ true) → f p ≡ true
-passes_kept f p q xs true k h rest = passes_here f p q xs k (nat_eq p q) refl h rest
-passes_kept f p q xs false k h rest = rest h
+filter_in xs f p among passes = in_filter f p xs ∙ ap (λ b. b && f p) among ∙ passes
 
 pub filter_passes : (xs : List ℕ) (f : ℕ → Bool) (p : ℕ) → is_in p (filter f xs) ≡ true → f p ≡ true
-filter_passes [] f p among = cc among
-filter_passes (q ∷ xs) f p among = passes_kept f p q (filter f xs) (f q) refl among (λ h. filter_passes xs f p h)
+filter_passes xs f p among = and_right (is_in p xs) (f p) (sym (in_filter f p xs) ∙ among)
 
 pub filter_short : (f : ℕ → Bool) (xs : List ℕ) → length (filter f xs) ≤ length xs
 filter_short f xs = omega (arith, length-filter f xs, count_by-le-length f xs)
 
 pub twice_not : (b : Bool) → not (not b) ≡ b
-twice_not true = refl
-twice_not false = refl
+twice_not b = grind arith
 
 -- ---- places below a fault
 
 pub below_in : (fault : Option PlaceFault) (sel : List ℕ) (p : ℕ) → is_in p sel ≡ true → is_below fault p ≡ true → is_in p (below_fault fault sel) ≡ true
-below_in None sel p among low = among
-below_in (Some f) sel p among low = filter_in sel (λ q. nat_lt q f.place) p among low
+below_in fault sel p among low = grind (arith, filter_in)
 
 pub below_among : (fault : Option PlaceFault) (sel : List ℕ) (p : ℕ) → is_in p (below_fault fault sel) ≡ true → is_in p sel ≡ true
-below_among None sel p h = h
-below_among (Some f) sel p h = filtered_in (λ q. nat_lt q f.place) p sel h
+below_among fault sel p h = grind (arith, filtered_in)
 
 pub below_low : (fault : Option PlaceFault) (sel : List ℕ) (p : ℕ) → is_in p (below_fault fault sel) ≡ true → is_below fault p ≡ true
-below_low None sel p h = refl
-below_low (Some f) sel p h = filter_passes sel (λ q. nat_lt q f.place) p h
+below_low fault sel p h = grind (arith, filter_passes)
 
 pub below_short : (fault : Option PlaceFault) (sel : List ℕ) → length (below_fault fault sel) ≤ length sel
-below_short None sel = omega arith
-below_short (Some f) sel = filter_short (λ q. nat_lt q f.place) sel
+below_short fault sel = grind (arith, filter_short)
 
 -- what a test or a fault leaves of a selection
 pub filter_selected : {count : ℕ} (f : ℕ → Bool) {sel left : List ℕ} → IsSelected count sel [] → left ≡ filter f sel → IsSelected count left []
@@ -97,8 +80,7 @@ first_over (p ∷ sel) f x rising among at below =
 
 -- a fault of one of the places below which none has one is the first
 pub fault_first : (fault : Option PlaceFault) (sel : List ℕ) (f : ℕ → Option EntryFault) → AreRising sel → IsFaultOf f sel fault → EachPlace sel (λ p. is_below fault p ≡ true → f p ≡ None) → fault ≡ fault_over f sel
-fault_first None sel f rising is none = sym (no_fault_over sel f (λ p i. none p i refl))
-fault_first (Some x) sel f rising is none = first_over sel f x rising is.0 is.1 none
+fault_first fault sel f rising is none = grind (arith, no_fault_over, first_over)
 
 -- what is known of the first fault of a list
 pub over_first : (sel : List ℕ) (f : ℕ → Option EntryFault) → IsFaultOf f sel (fault_over f sel)

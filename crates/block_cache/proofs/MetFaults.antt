@@ -1,13 +1,13 @@
 -- A version that an evaluation meets and that faults gives its fault to the site.
-use Rattle.std.proofs.Common.{◌≡◌, ℕ, Bool, true, false, List, [], refl, sym, ◌∙◌, ap, subst, nat_eq, slice_get, Option, Some, None, if◌then◌else◌}
-use Rattle.std.proofs.lemmas.Bool.Decides.{Decides-eqb}
+use Rattle.std.proofs.Common.{◌≡◌, ℕ, Bool, true, false, List, [], refl, sym, ◌∙◌, ap, subst, nat_eq, slice_get, Option, Some, None, if◌then◌else◌, arith}
+use Rattle.lemmas.proofs.{Decides-eqb, never_true}
 use Rattle.rdf_values.specs.{Bin, BinOp, Call, Col, Cond, End, EntryFault, Lit, More, Neg, Not, Pick, Tree, Trees, Value}
 use Rattle.rdf_values.specs.expressions.Expressions.{Truth}
 use Rattle.rdf_model.specs.{◌>>=◌, call_outcome, chosen_side, evaluate, evaluate_all, Faults, Gives, in_order, is_need, Needs, operation, Outcome, picked, tag_element, value_operation, with_needs, without}
 use Rattle.graph_numbers.specs.{graph_sites, graph_under, site_outcome, site_value, SiteAt, Source, source_value}
 use Rattle.loop_keys.specs.{IsJob, IsSiteOf, IsSound, job_graph, JobView, MeetsAt, row_of, site_in, source_at, version_in}
 use Rattle.rdf_model.proofs.Missing.{site_alike, alike_is}
-use Rattle.loop_keys.proofs.EvaluateLaws.{whole}
+use Rattle.loop_keys.proofs.EvaluateLaws.{known_never, whole}
 
 module _ {M : Type 0} (k : EntryFault) where
   -- the outcomes are the same, or the former needs something and the latter faults
@@ -27,12 +27,10 @@ module _ {M : Type 0} (k : EntryFault) where
   in_order_stands f c e = bind_stands _ _ c (λ v. bind_stands _ _ e (λ w. same))
 
   operation_needs : (o : BinOp) (d : M) (p : Outcome M Value) → operation o (Needs d) p ≡ Needs d
-  operation_needs BinOp.And d p = refl
-  operation_needs o d p = refl
+  operation_needs o d p = grind arith
 
   operation_faults : (o : BinOp) (e : EntryFault) (p : Outcome M Value) → operation o (Faults e) p ≡ Faults e
-  operation_faults BinOp.And e p = refl
-  operation_faults o e p = refl
+  operation_faults o e p = grind arith
 
   operation_same : (o : BinOp) (l p p' : Outcome M Value) → Stands p p' → Stands (operation o l p) (operation o l p')
   operation_same BinOp.And (Gives (Value.Bool false)) p p' e = same
@@ -72,14 +70,8 @@ needs_fault : {M A : Type 0} (k : EntryFault) (o p : Outcome M A) → Stands k o
 needs_fault k o p same n m = absurd (cc (n, m))
 needs_fault k o p stood n m = refl
 
-never_need : (o : Outcome ⊥ Value) → is_need (with_needs {M = ℕ} o) ≡ false
-never_need (Needs m) = elim m [ ]
-never_need o = refl
-
 fault_of_known : (k : EntryFault) (o : Outcome ⊥ Value) → with_needs {M = ℕ} o ≡ Faults k → o ≡ Faults k
-fault_of_known k (Gives a) e = cc e
-fault_of_known k (Faults f) e = let same : f ≡ k = (let i : ◌≡◌ {A = Outcome ℕ Value} (Faults f) (Faults k) = e in cc i) in ap Faults same
-fault_of_known k (Needs m) e = elim m [ ]
+fault_of_known k o e = grind arith
 
 -- nothing is missing of a site
 site_known : (j : JobView) (entry : ℕ) (u : Option ℕ) (t : ℕ) → site_in {M = ℕ} j entry u t ≡ with_needs (site_in j entry u t)
@@ -102,7 +94,7 @@ module _ (j : JobView) (job : IsJob j) (entry : ℕ) (u : Option ℕ) (s c t : �
 
   -- the site has the fault of the one that gives a version which its evaluation meets
   pub met_fault : (k : EntryFault) → MeetsAt j entry u s c → IsSiteOf t (source_at j u c) → site_in {M = ⊥} j entry u t ≡ Faults k → site_in {M = ⊥} j entry u s ≡ Faults k
-  met_fault k met at faults = fault_of_known k (site_in j entry u s) (sym all ∙ needs_fault k _ _ stands met.2 (ap is_need all ∙ never_need (site_in j entry u s)))
+  met_fault k met at faults = fault_of_known k (site_in j entry u s) (sym all ∙ needs_fault k _ _ stands met.2 (ap is_need all ∙ never_true (is_need (with_needs {M = ℕ} (site_in j entry u s))) (known_never (site_in j entry u s))))
     where
       x : SiteAt
       x = met.0

@@ -1,5 +1,5 @@
 -- The least fault so far, one stop after another.
-use Rattle.std.proofs.Common.{◌≡◌, ◌<◌, ◌≤◌, ◌+◌, ◌++◌, ℕ, Bool, true, false, List, [], ◌∷◌, length, take, get_or, Option, Some, None, refl, sym, subst, arith, if◌then◌else◌, nat_le, Result, Ok, Err, OnErr, ◌&&◌, ◌||◌, not, zero, suc, ◌∙◌, ap, cond, nat_eq, Contains, ◌⊎◌, inl, inr, All, length-set, set, get_or-set_same, get_or-set_other}
+use Rattle.std.proofs.Common.{◌≡◌, ◌<◌, ◌≤◌, ◌+◌, ◌++◌, ℕ, Bool, true, false, List, [], ◌∷◌, length, take, get_or, Option, Some, None, refl, sym, subst, arith, if◌then◌else◌, nat_le, Result, OnErr, ◌&&◌, ◌||◌, not, zero, suc, ◌∙◌, ap, cond, nat_eq, Contains, ◌⊎◌, inl, inr, All, length-set, set, get_or-set_same, get_or-set_other}
 use Rattle.lemmas.proofs.{All-push, Contains-append_left, Contains-push, leb-false, leb-true, take_more, both_true, Decides-eqb, not_false, cases_eq, Contains-push_cases}
 use Rattle.expr_eval.specs.{ScalarStop}
 use Rattle.expr_eval.specs.declared.stop.ScalarStop.TheVariants.{Fault, Need}
@@ -43,8 +43,7 @@ least_next stops i d least inside h =
 -- ---- What is said of one answer alone.
 
 pub on_err : {A E P : Type 0} (r : Result A E) → P → OnErr r P
-on_err (Ok a) p = tt
-on_err (Err e) p = p
+on_err r p = grind arith
 
 -- ---- The stops of a group: one for each place that came to no value.
 
@@ -60,19 +59,8 @@ fault_number EntryFault.VaryCount = 5
 fault_number EntryFault.Weight = 6
 fault_number EntryFault.Function = 7
 
-abbrev fault_back : ℕ → EntryFault
-fault_back zero = EntryFault.Overflow
-fault_back (suc zero) = EntryFault.ZeroDivisor
-fault_back (suc (suc zero)) = EntryFault.Index
-fault_back (suc (suc (suc zero))) = EntryFault.EmptyVector
-fault_back (suc (suc (suc (suc zero)))) = EntryFault.Lengths
-fault_back (suc (suc (suc (suc (suc zero))))) = EntryFault.VaryCount
-fault_back (suc (suc (suc (suc (suc (suc zero)))))) = EntryFault.Weight
-fault_back (suc (suc (suc (suc (suc (suc (suc n))))))) = EntryFault.Function
-
-fault_again : (k : EntryFault) → fault_back (fault_number k) ≡ k
-fault_again EntryFault.Overflow = refl
-fault_again k = refl
+fault_is : (a b : EntryFault) → fault_number a ≡ fault_number b → a ≡ b
+fault_is a b e = grind arith
 
 abbrev same_scalar : ScalarStop → ScalarStop → Bool
 same_scalar (Fault a) (Fault b) = nat_eq (fault_number a) (fault_number b)
@@ -80,11 +68,10 @@ same_scalar (Need c) (Need d) = nat_eq c d
 same_scalar a b = false
 
 scalar_is : (a b : ScalarStop) → same_scalar a b ≡ true → a ≡ b
-scalar_is a b e = grind (arith, Decides-eqb, fault_again)
+scalar_is a b e = grind (arith, Decides-eqb, fault_is)
 
 scalar_same : (a : ScalarStop) → same_scalar a a ≡ true
-scalar_same (Fault a) = (Decides-eqb (fault_number a) (fault_number a)).1 refl
-scalar_same (Need c) = (Decides-eqb c c).1 refl
+scalar_same a = grind arith
 
 abbrev same_stop : Stopped → Stopped → Bool
 same_stop x y = nat_eq x.place y.place && same_scalar x.stop y.stop
@@ -95,8 +82,7 @@ stop_is x y e = grind (arith, both_true, Decides-eqb, scalar_is)
 -- ---- how often a test passes
 
 zero_head : (b : Bool) (n : ℕ) → cond b 1 0 + n ≡ 0 → b ≡ false
-zero_head true n e = absurd (omega (arith, e))
-zero_head false n e = refl
+zero_head b n e = grind arith
 
 none_at : (xs : List Stopped) (k : ℕ) (test : Stopped → Bool) (d : Stopped) → times test xs ≡ 0 → k < length xs → test (get_or xs k d) ≡ false
 none_at [] k test d z l = absurd (omega (arith, l))
@@ -113,8 +99,7 @@ further : (test : Stopped → Bool) (y : Stopped) (xs : List Stopped) → Passin
 further test y xs h = (h.0, (suc h.1.0, (let l = h.1.1 in omega (arith, l)), h.1.2), h.2)
 
 passes_here : (test : Stopped → Bool) (y : Stopped) (xs : List Stopped) (b : Bool) → test y ≡ b → 0 < cond b 1 0 + times test xs → (0 < times test xs → Passing test xs) → Passing test (y ∷ xs)
-passes_here test y xs true e l rest = (y, (0, omega arith, refl), e)
-passes_here test y xs false e l rest = further test y xs (rest (omega (arith, l)))
+passes_here test y xs b e l rest = grind (arith, further)
 
 some_passes : (xs : List Stopped) (test : Stopped → Bool) → 0 < times test xs → Passing test xs
 some_passes [] test some = absurd (omega (arith, some))
@@ -133,8 +118,7 @@ is_stop None a = false
 is_stop (Some b) a = same_scalar b a
 
 stop_of : (o : Option ScalarStop) (a : ScalarStop) → is_stop o a ≡ true → o ≡ Some a
-stop_of None a e = cc e
-stop_of (Some b) a e = ap Some (scalar_is b a e)
+stop_of o a e = grind (arith, scalar_is)
 
 is_told : (ℕ → Outcome ℕ Value) → List ℕ → Stopped → Bool
 is_told f sel x = is_in x.place sel && is_stop (told_stop (f x.place)) x.stop

@@ -1,5 +1,5 @@
 -- The vectors of the table's columns.
-use Rattle.std.proofs.Common.{◌≡◌, ◌<◌, ℕ, ℤ, List, [], Option, Some, None, map, length, ap, arith, slice_get, unwrap_or}
+use Rattle.std.proofs.Common.{◌≡◌, ◌<◌, ℕ, ℤ, List, [], Option, Some, map, length, ap, arith, slice_get, unwrap_or}
 use Rattle.std.specs.Option.{option_and_then}
 use Rattle.rdf_values.proofs.KeptLemmas.{cell_of_column, column_length}
 use Rattle.rdf_values.specs.{Value}
@@ -8,8 +8,7 @@ use Rattle.expr_lanes.specs.{IsVectorAt}
 use Rattle.loop_keys.specs.{Held, job_graph, JobView, key_under, look_at, Place, place_of, row_in, row_of, source_at}
 
 row_cell : (o : Option (List Value)) (col : ℕ) (x : Value) → option_and_then (λ row. slice_get row col) o ≡ Some x → slice_get (unwrap_or o []) col ≡ Some x
-row_cell None col x h = cc h
-row_cell (Some row) col x h = h
+row_cell o col x h = grind arith
 
 -- each vector of a column is the value of its entry
 pub vector_of_entry : (rows : List (List Value)) (col e : ℕ) (vectors : List (List ℤ)) → map (λ row. slice_get row col) rows ≡ map (λ zs. Some (Value.Vect zs)) vectors → e < length rows → IsVectorAt vectors e (cell_value (slice_get (row_in rows e) col))

@@ -28,20 +28,16 @@ count_all (p ∷ ps) f each =
 
 -- the site of a source is one
 pub same_site : (t r : ℕ) (x : Source) → IsSiteOf t x → IsSiteOf r x → t ≡ r
-same_site t r (Source.Cell col) h i = elim h [ ]
-same_site t r x h i = sym h ∙ i
+same_site t r x h i = grind arith
 
 pub fault_lift : (f : ℕ → Option EntryFault) (group sel : List ℕ) (found : Option PlaceFault) → EachPlace group (λ p. is_in p sel ≡ true) → IsFaultOf f group found → IsFaultOf f sel found
-fault_lift f group sel None sub h = tt
-fault_lift f group sel (Some x) sub h = (sub x.place h.0, h.1)
+fault_lift f group sel found sub h = grind arith
 
 pub fault_or : (f : ℕ → Option EntryFault) (sel : List ℕ) (found fault : Option PlaceFault) → IsFaultOf f sel found → IsFaultOf f sel fault → IsFaultOf f sel (found_or found fault)
-fault_or f sel None fault h i = i
-fault_or f sel (Some x) fault h i = h
+fault_or f sel found fault h i = grind arith
 
 pub below_found : (found fault : Option PlaceFault) (p : ℕ) → is_below (found_or found fault) p ≡ true → is_below found p ≡ true
-below_found None fault p h = refl
-below_found (Some x) fault p h = h
+below_found found fault p h = grind arith
 
 -- a fault at a place below another is the lower one
 pub below_both : (f : ℕ → Option EntryFault) (group : List ℕ) (found fault : Option PlaceFault) (p : ℕ) → EachPlace group (λ q. is_below fault q ≡ true) → IsFaultOf f group found → is_below (found_or found fault) p ≡ true → is_below fault p ≡ true
@@ -53,12 +49,10 @@ pub faults_of : (o : Outcome ⊥ Value) (k : EntryFault) → fault_in o ≡ Some
 faults_of o k h = grind (arith, same_some)
 
 or_none : (found : Option PlaceFault) → found_or found None ≡ found
-or_none None = refl
-or_none (Some x) = refl
+or_none found = grind arith
 
 none_below : (fault : Option PlaceFault) → below_fault fault [] ≡ []
-none_below None = refl
-none_below (Some x) = refl
+none_below fault = grind arith
 
 none_open : (ps : List ℕ) (p : ℕ) → length ps ≡ 0 → is_in p ps ≡ true → ⊥
 none_open [] p none h = cc h

@@ -1,5 +1,5 @@
 -- Vectors that are appended, with their cells behind those that there were.
-use Rattle.std.proofs.Common.{◌≡◌, ◌-◌, ◌++◌, ℤ, suc, List, [], ◌∷◌, length, take, drop, map, All, ◌∙◌, refl, ap, arith}
+use Rattle.std.proofs.Common.{◌≡◌, ◌-◌, ◌++◌, ℤ, suc, List, [], ◌∷◌, length, drop, map, All, ◌∙◌, refl, ap, arith}
 use Rattle.std.proofs.lemmas.List.{take-append-le, drop-append-le, length-append, length-drop, map-append, take_all, get_or_append_left}
 use Rattle.block_cache.specs.{AreKept, AreThere, cells_in}
 use Rattle.block_cache.specs.declared.vectors.Cells.{Cells}
@@ -18,13 +18,11 @@ drop_seam [] more = refl
 drop_seam (z ∷ all) more = drop_seam all more
 
 own_cells : (all more : List ℤ) (c : Cells) → c.from ≡ length all → c.to ≡ length (all ++ more) → cells_in (all ++ more) c ≡ more
-own_cells all more c from to =
-    ap (λ n. take (c.to - c.from) (drop n (all ++ more))) from ∙ ap (take (c.to - c.from)) (drop_seam all more) ∙ take_all (c.to - c.from) more (omega (arith, from, to, length-append all more))
+own_cells all more c from to = grind (arith, drop_seam, take_all, length-append)
 
 -- and one more
 pub pushed : (ranges : List Cells) (all more : List ℤ) (c : Cells) → All (AreThere all) ranges → c.from ≡ length all → c.to ≡ length (all ++ more) → map (cells_in (all ++ more)) (ranges ++ c ∷ []) ≡ map (cells_in all) ranges ++ more ∷ []
-pushed ranges all more c each from to =
-    map-append (cells_in (all ++ more)) ranges (c ∷ []) ∙ ap (λ xs. xs ++ cells_in (all ++ more) c ∷ []) (grown ranges all more each) ∙ ap (λ x. map (cells_in all) ranges ++ x ∷ []) (own_cells all more c from to)
+pushed ranges all more c each from to = grind (arith, map-append, grown, own_cells)
 
 -- a vector more loses none
 pub kept_more : (vectors after : List (List ℤ)) (x : List ℤ) → after ≡ vectors ++ x ∷ [] → AreKept vectors after

@@ -1,10 +1,11 @@
 -- What is known of keys over a block.
-use Rattle.std.specs.Prelude.{◌≡◌, ◌≤◌, ◌+◌, ℕ, ℤ, Bool, true, false, ◌||◌, not, List, length, map, All, count_by}
+use Rattle.std.specs.Prelude.{◌≡◌, ◌≤◌, ◌+◌, ◌/◌, ℕ, zero, suc, max, min, ℤ, Bool, true, false, ◌||◌, not, List, length, map, All, count_by}
 use Rattle.rdf_values.specs.{ColType, Value}
 use Rattle.rdf_model.specs.{Gives, Outcome}
 use Rattle.expr_check.specs.{is_vector}
 use Rattle.expr_lanes.specs.{at_place, EachPlace, given_in, is_in, is_marked, IsJoined, lane_number, Stopped, stops_in}
 use Rattle.expr_lanes.specs.declared.TheConstants.{MAX_PLACES}
+use Rattle.block_cache.specs.declared.sizes.TheConstants.{MAX_LANE_PLACES}
 use Rattle.block_cache.specs.Values.{HasNumbered, value_for}
 
 -- the kind of the key's values and how many places the block has; for each place that a block can have a number, whether the
@@ -105,3 +106,8 @@ HaveRoom room ls = All (λ l. room_of l ≡ room) ls
 -- nothing is known of any, in a block of so many places
 abbrev pub AreUnknown : ℕ → List LaneView → Type 0
 AreUnknown count ls = All (IsUnknown count) ls
+
+-- how many places a block has: as many as fit for so many keys, but from 1 to 1,024
+abbrev pub size_for : ℕ → ℕ
+size_for zero = MAX_PLACES
+size_for (suc n) = max 1 (min MAX_PLACES (MAX_LANE_PLACES / suc n))

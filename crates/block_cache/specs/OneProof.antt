@@ -32,20 +32,14 @@ bounded-prop (Value.Vect zs) = hlevel (known, number-prop)
 
 kind-prop : (k : ColType) (x : Value) → IsProp (FitsKind k x)
 kind-prop ColType.Int (Value.Int n) = hlevel known
-kind-prop ColType.Int (Value.Bool b) = hlevel known
-kind-prop ColType.Int (Value.Vect ns) = hlevel known
-kind-prop ColType.Bool (Value.Int n) = hlevel known
 kind-prop ColType.Bool (Value.Bool b) = hlevel known
-kind-prop ColType.Bool (Value.Vect ns) = hlevel known
-kind-prop ColType.Vect (Value.Int n) = hlevel known
-kind-prop ColType.Vect (Value.Bool b) = hlevel known
 kind-prop ColType.Vect (Value.Vect ns) = hlevel known
+kind-prop k x = hlevel known
 
 row_fits-prop : (cs : List Column) (xs : List Value) → IsProp (FitsRow cs xs)
 row_fits-prop [] [] = hlevel known
-row_fits-prop [] (x ∷ xs) = hlevel known
-row_fits-prop (c ∷ cs) [] = hlevel known
 row_fits-prop (c ∷ cs) (x ∷ xs) = hlevel (known, kind-prop, bounded-prop, row_fits-prop cs xs)
+row_fits-prop cs xs = hlevel known
 
 rows_fit-prop : (cs : List Column) (rows : List (List Value)) → IsProp (FitRows cs rows)
 rows_fit-prop cs [] = hlevel known
@@ -53,8 +47,7 @@ rows_fit-prop cs (row ∷ rows) = hlevel (known, row_fits-prop, rows_fit-prop cs
 
 stored-prop : (k : ColType) → IsProp (IsStored k)
 stored-prop ColType.Int = hlevel known
-stored-prop ColType.Bool = hlevel known
-stored-prop ColType.Vect = hlevel known
+stored-prop k = hlevel known
 
 columns-prop : (seen cs : List Column) → IsProp (AreColumns seen cs)
 columns-prop seen [] = hlevel known

@@ -1,9 +1,9 @@
 // Evaluation at one place after another.
-ghost use Rattle.std.specs.Prelude.{◌≡◌, ◌<◌, ◌≤◌, ◌+◌, ◌++◌, [], ◌∷◌, ℕ, true, length, slice_set, IfOk, OnOk, OnErr};
+ghost use Rattle.std.specs.Prelude.{◌≡◌, ◌<◌, ◌≤◌, ◌+◌, ℕ, length, IfOk, OnOk, OnErr};
 ghost use Rattle.rdf_values.specs.{ColType as KindOf, FitsKind, Value as ValueOf};
 ghost use Rattle.rdf_model.specs.{Outcome};
 ghost use Rattle.expr_eval.specs.{AnswersAs};
-ghost use Rattle.expr_lanes.specs.{EachPlace, stopped as stopped_at};
+ghost use Rattle.expr_lanes.specs.{EachPlace};
 ghost use Rattle.block_cache.specs.{AreWritten, HaveCome, IsScalarAnswer, IsTurned, IsWritten};
 
 use crate::place_values::PlaceValues;
@@ -13,22 +13,6 @@ use expr_eval::{EvalStop, ScalarStop, Steps};
 use expr_lanes::{MAX_PLACES, Stopped};
 use rdf_values::{Memory, Value};
 use std::sync::ledger::Ledger;
-
-/// Marks a place as stopped.
-fn stop_at(
-    place: u32,
-    stop: ScalarStop,
-    stopped: &mut [bool],
-    stops: &mut ArrayVec<Stopped, MAX_PLACES>,
-)
-    requires inside { place < length stopped.old }
-    requires room { length stops.old.items < MAX_PLACES }
-    ensures stopped { stopped.new ≡ slice_set stopped.old place true }
-    ensures stops { stops.new.items ≡ stops.old.items ++ stopped_at place stop ∷ [] }
-{
-    stopped[place as usize] = true;
-    stops.push(Stopped { place, stop });
-}
 
 /// Writes the value of a place, or marks it as stopped.
 fn turn(
@@ -46,21 +30,18 @@ fn turn(
         → OnOk result (IsTurned kind o place values.new.numbers.items values.new.vectors stopped.old stopped.new stops.old.items stops.new.items) }
     ensures scalar { IsScalarAnswer answer.now → OnErr result ⊥ }
 {
-    match answer {
+    let stop = match answer {
         Ok(value) => {
             stopped[place as usize] = false;
-            values.write(place, value)
+            return values.write(place, value);
         }
-        Err(EvalStop::Fault(kind)) => {
-            stop_at(place, ScalarStop::Fault(*kind), stopped, stops);
-            Ok(())
-        }
-        Err(EvalStop::Need(column)) => {
-            stop_at(place, ScalarStop::Need(*column), stopped, stops);
-            Ok(())
-        }
-        Err(EvalStop::Memory) => Err(Memory),
-    }
+        Err(EvalStop::Fault(kind)) => ScalarStop::Fault(*kind),
+        Err(EvalStop::Need(column)) => ScalarStop::Need(*column),
+        Err(EvalStop::Memory) => return Err(Memory),
+    };
+    stopped[place as usize] = true;
+    stops.push(Stopped { place, stop });
+    Ok(())
 }
 
 /// Evaluates at the places of a list, in a step each: writes the value of each that comes to one, and marks the others.

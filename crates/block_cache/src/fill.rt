@@ -51,6 +51,15 @@ fn keep_below(selection: &mut Selection, fault: Option<PlaceFault>)
     }
 }
 
+/// Leaves the places selected at which the site isn't held.
+fn keep_lacking(wanted: &Wanted<'_>, lanes: &[Lane], selection: &mut Selection)
+    requires ready { AreReadyOver wanted.now.block.now lanes.now }
+    requires inside { EachPlace selection.old (λ p. p < wanted.now.block.now.count) }
+    ensures { selection.new ≡ filter (λ p. not (holds_at lanes.now (own_key wanted.now) p)) selection.old }
+{
+    lanes[key(wanted.block.at, wanted.site)].keep_unknown(selection);
+}
+
 /// Evaluates a site once at the places of the level's group, and notes for each that stops at a version which one it waits for. Answers
 /// the fault of the least place that has one.
 #[inline(always)]
@@ -70,7 +79,7 @@ fn attempt<L: Ledger>(
     ensures whole { level.new.stops.items ≡ [] → OnOk result (EachPlace level.old.group (λ p. holds_at lanes.new (own_key wanted.now) p ≡ true)) }
     ensures lacking { level.new.lacking ≡ level.old.lacking }
     ensures steps { OnOk result (steps.new ≡ steps.old + length level.old.group) }
-    ensures plain { IfPlain wanted.now (OnErr result ⊥) }
+    ensures plain { OnErr result (IfPlain wanted.now ⊥) }
 {
     level.stops.clear();
     try_lane(wanted, lanes, level, scratch, steps)?;
@@ -85,7 +94,7 @@ fn narrow(wanted: &Wanted<'_>, lanes: &[Lane], fault: Option<PlaceFault>, level:
     ensures narrowed { level.new.lacking ≡ below_fault fault (filter (λ p. not (holds_at lanes.now (own_key wanted.now) p)) level.old.lacking) }
     ensures needs { level.new.needs ≡ level.old.needs }
 {
-    lanes[key(wanted.block.at, wanted.site)].keep_unknown(&mut level.lacking);
+    keep_lacking(wanted, lanes, &mut level.lacking);
     keep_below(&mut level.lacking, fault);
 }
 
@@ -107,7 +116,7 @@ fn resume<L: Ledger>(
     ensures resumed { IfOk result (λ least. IsResumedFor wanted.now fault level.old.group level.old.lacking lanes.old lanes.new level.old.needs level.new.needs level.new.lacking least) }
     ensures broken { OnErr result (IsBrokenOffFor wanted.now level.old.group lanes.old lanes.new steps.old steps.new) }
     ensures steps { OnOk result (steps.new ≡ steps.old + length level.old.group) }
-    ensures plain { IfPlain wanted.now (OnErr result ⊥) }
+    ensures plain { OnErr result (IfPlain wanted.now ⊥) }
 {
     let found = attempt(wanted, lanes, level, scratch, steps)?;
     let least = lowered(fault, found);
@@ -131,12 +140,12 @@ fn begin<L: Ledger>(
     requires settled { IsSettledFor wanted.now lanes.old selection.now }
     ensures underway { IfOk result (λ fault. IsUnderwayFor wanted.now selection.now lanes.old steps.old lanes.new fault level.new.lacking level.new.needs steps.new) }
     ensures spent { OnErr result (IsSpentFor wanted.now selection.now lanes.old lanes.new steps.old steps.new) }
-    ensures plain { IfPlain wanted.now (OnErr result ⊥) }
+    ensures plain { OnErr result (IfPlain wanted.now ⊥) }
     ensures rising { AreRising selection.now }
 {
     let _places = selection.as_slice();
     level.group.copy_from(selection);
-    lanes[key(wanted.block.at, wanted.site)].keep_unknown(&mut level.group);
+    keep_lacking(wanted, lanes, &mut level.group);
     let found = attempt(wanted, lanes, level, scratch, steps)?;
     // Nearly always no place stops.
     if level.stops.is_empty() {
@@ -166,7 +175,7 @@ fn fill_site<L: Ledger>(
     ensures filled { IfOk result (λ fault. IsPaidFor wanted.now selection.old selection.new lanes.old lanes.new fault steps.old steps.new) }
     ensures settled { OnOk result (IsSettledFor wanted.now lanes.new selection.new) }
     ensures begun { OnOk result (EachPlace selection.old (λ p. holds_at lanes.old (own_key wanted.now) p ≡ false → begun_at lanes.new (own_key wanted.now) p ≡ true)) }
-    ensures plain { IfPlain wanted.now (OnErr result ⊥) }
+    ensures plain { OnErr result (IfPlain wanted.now ⊥) }
 {
     let (level, deeper) = levels;
     let mut fault = begin(wanted, lanes, selection, level, scratch, steps)?;

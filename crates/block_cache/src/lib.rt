@@ -17,7 +17,6 @@ pub mod lane;
 pub mod lanes;
 pub mod leads;
 pub mod level;
-mod marks;
 pub mod passing;
 pub mod place_values;
 mod place_view;
@@ -27,7 +26,6 @@ mod values;
 mod vectors;
 mod view;
 pub mod wanted;
-mod whole;
 
 pub use crate::lane::Lane;
 pub use crate::lanes::{begin_block, new_lanes};

@@ -6,7 +6,6 @@ ghost use Rattle.block_cache.specs.OverBlocks.{IsReadOver, IsWholeOver, look_ove
 use crate::Lane;
 use crate::block::Block;
 use crate::place_view::look;
-use crate::whole::is_read_whole;
 use expr_eval::{Input, ScalarStop};
 use expr_lanes::{Known, LaneColumn, LaneInputs, LaneVectors};
 use loop_keys::reading::place;
@@ -53,7 +52,14 @@ impl<'a> LaneInputs for BlockView<'a> {
     }
 
     fn has_numbers(&self, col: u32) -> bool {
-        is_read_whole(self.block, self.lanes, col)
+        match place(self.block.at, col) {
+            Place::Cell { col } => matches!(
+                self.block.at.job.columns.columns()[col as usize].kind,
+                ColType::Int
+            ),
+            Place::Key { key } => !matches!(self.lanes[key].kind(), ColType::Vect),
+            Place::Element { .. } => false,
+        }
     }
 }
 

@@ -2,6 +2,7 @@ use Rattle.std.proofs.Common.{◌≡◌, ◌+◌, ◌∙◌, arith, length, rule
 use Rattle.loop_keys.specs.{job_of}
 use Rattle.block_cache.proofs.CanFills.{can_below, can_moved, met_used}
 use Rattle.block_cache.proofs.CanTries.{can_try}
+use Rattle.block_cache.proofs.StopLists.{on_err}
 use Rattle.block_cache.proofs.UnderwayLaws.{ended_filled, ended_settled, left_lacks, left_selected, resumed_as, turn_broken, turn_lower, turn_selected, turn_settled, turn_spent, turn_waits, turned, turned_less}
 use Rattle.block_cache.proofs.fill.+fill_site.Goals as goal
 
@@ -44,7 +45,7 @@ returns-in_err-below-in-Some-clause-spent g t c =
 pub returns-in_err-below-in-Some-clause-plain : goal.returns-in_err-below-in-Some-clause-plain
 returns-in_err-below-in-Some-clause-plain g t c =
     let waits = turn_waits c.args.wanted.now c.loop-level.invariant c.next_group.result c.next_group.ensures.group _ c.next_group.ensures.first in
-    λ used p q. absurd (c.in_err-below-in-Some.ensures.plain used p (met_used (job_of c.args.wanted.now.block.now.at.now.job.now) c.args.wanted.now.block.now.fits.job _ _ _ _ c.needed_site-site.result used p q waits.met c.needed_site-site.ensures))
+    on_err c.from_residual-in_err-below-in-Some.result (λ used p q. c.in_err-below-in-Some.ensures.plain used p (met_used (job_of c.args.wanted.now.block.now.at.now.job.now) c.args.wanted.now.block.now.fits.job _ _ _ _ c.needed_site-site.result used p q waits.met c.needed_site-site.ensures))
 
 pub resume-requires-clause-can : goal.resume-requires-clause-can
 resume-requires-clause-can g t c =
@@ -79,13 +80,7 @@ returns-clause-filled g t c = ended_filled c.args.wanted.now c.loop-level.invari
 pub returns-clause-settled : goal.returns-clause-settled
 returns-clause-settled g t c = ended_settled c.args.wanted.now c.loop-level.invariant (omega (arith, c.len.ensures.count, c.loop-level-test.false)) c.keep_below.ensures
 
-pub returns-in_err-fault-clause-plain : goal.returns-in_err-fault-clause-plain
-returns-in_err-fault-clause-plain g t c = λ used p q. absurd (c.in_err-fault.ensures.plain used p q)
-
 pub returns-in_err-fault-2-clause-spent : goal.returns-in_err-fault-2-clause-spent
 returns-in_err-fault-2-clause-spent g t c =
     turn_broken c.args.wanted.now c.loop-level.invariant c.next_group.result c.next_group.ensures.group _ c.next_group.ensures.first c.needed_site-site.result c.needed_site-site.ensures
     c.in_ok-below-in-Some.ensures.spent c.in_ok-below-in-Some.ensures.filled c.in_ok-below-in-Some.ensures.settled c.in_ok-below-in-Some.ensures.begun c.in_err-fault-2.ensures.broken
-
-pub returns-in_err-fault-2-clause-plain : goal.returns-in_err-fault-2-clause-plain
-returns-in_err-fault-2-clause-plain g t c = λ used p q. absurd (c.in_err-fault-2.ensures.plain used p q)

@@ -22,8 +22,5 @@ returns-clause-attempted g c =
 pub returns-in_err-try_lane-clause-broken : goal.returns-in_err-try_lane-clause-broken
 returns-in_err-try_lane-clause-broken g c = on_err c.from_residual.result (broken_off c.args.wanted.now c.in_err-try_lane.ensures.begun c.try_lane.ensures.few)
 
-pub returns-in_err-try_lane-clause-plain : goal.returns-in_err-try_lane-clause-plain
-returns-in_err-try_lane-clause-plain g c = λ used p q. absurd (c.in_err-try_lane.ensures.plain used p q)
-
 pub returns-clause-whole : goal.returns-clause-whole
 returns-clause-whole g c = whole c.args.wanted.now (first_stops c.args.wanted.now c.clear.ensures c.in_ok-try_lane.ensures.tried) c.requires.selected.inside c.requires.lacks

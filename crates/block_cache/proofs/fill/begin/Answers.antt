@@ -2,7 +2,6 @@ use Rattle.std.proofs.Common.{◌≡◌, ◌==◌, ◌∷◌, [], List, arith, l
 use Rattle.std.proofs.lemmas.Bool.Decides.{Decides-eqb}
 use Rattle.expr_lanes.specs.{Stopped}
 use Rattle.block_cache.proofs.StopLists.{on_err}
-use Rattle.block_cache.proofs.Knowns.{kept_lacking}
 use Rattle.block_cache.proofs.UnderwayLaws.{began, began_broken, began_lacks, began_rest, began_selected, began_whole}
 use Rattle.block_cache.proofs.fill.begin.Goals as goal
 
@@ -12,31 +11,23 @@ none_stopped (x ∷ stops) h = let e : length (x ∷ stops) ≡ 0 = (Decides-eqb
 
 pub attempt-requires-clause-selected : goal.attempt-requires-clause-selected
 attempt-requires-clause-selected g c =
-    let group = kept_lacking c.args.lanes.now _ _ c.index-lanes-key.result c.args.selection.now _ _ c.key.ensures.key (omega (arith, c.key.ensures.small, c.requires.ready.many)) c.copy_from.ensures c.keep_unknown.ensures in
-    began_selected c.args.wanted.now c.requires.ready c.requires.selected c.requires.settled group
+    began_selected c.args.wanted.now c.requires.ready c.requires.selected c.requires.settled (rw c.copy_from.ensures at c.keep_lacking.ensures)
 
 pub attempt-requires-clause-lacks : goal.attempt-requires-clause-lacks
 attempt-requires-clause-lacks g c =
-    let group = kept_lacking c.args.lanes.now _ _ c.index-lanes-key.result c.args.selection.now _ _ c.key.ensures.key (omega (arith, c.key.ensures.small, c.requires.ready.many)) c.copy_from.ensures c.keep_unknown.ensures in
-    began_lacks c.args.wanted.now c.requires.ready c.requires.selected c.requires.settled group
+    began_lacks c.args.wanted.now c.requires.ready c.requires.selected c.requires.settled (rw c.copy_from.ensures at c.keep_lacking.ensures)
 
 pub returns-in_err-found-clause-spent : goal.returns-in_err-found-clause-spent
 returns-in_err-found-clause-spent g c =
-    let group = kept_lacking c.args.lanes.now _ _ c.index-lanes-key.result c.args.selection.now _ _ c.key.ensures.key (omega (arith, c.key.ensures.small, c.requires.ready.many)) c.copy_from.ensures c.keep_unknown.ensures in
-    on_err c.from_residual.result (began_broken c.args.wanted.now c.requires.ready c.requires.selected c.requires.settled group c.in_err-found.ensures.broken)
-
-pub returns-in_err-found-clause-plain : goal.returns-in_err-found-clause-plain
-returns-in_err-found-clause-plain g c = λ used p q. absurd (c.in_err-found.ensures.plain used p q)
+    on_err c.from_residual.result (began_broken c.args.wanted.now c.requires.ready c.requires.selected c.requires.settled (rw c.copy_from.ensures at c.keep_lacking.ensures) c.in_err-found.ensures.broken)
 
 pub returns-then-is_empty-clause-underway : goal.returns-then-is_empty-clause-underway
 returns-then-is_empty-clause-underway g c =
-    let group = kept_lacking c.args.lanes.now _ _ c.index-lanes-key.result c.args.selection.now _ _ c.key.ensures.key (omega (arith, c.key.ensures.small, c.requires.ready.many)) c.copy_from.ensures c.keep_unknown.ensures in
     let whole = c.in_ok-found.ensures.whole (none_stopped _ (sym c.if-is_empty.ensures)) in
-    began c.args.wanted.now c.requires.ready c.requires.selected c.requires.settled group
-    (began_whole c.args.wanted.now c.requires.ready c.requires.selected c.requires.settled group c.in_ok-found.ensures.attempted whole c.select_first.ensures) c.in_ok-found.ensures.steps
+    began c.args.wanted.now c.requires.ready c.requires.selected c.requires.settled (rw c.copy_from.ensures at c.keep_lacking.ensures)
+    (began_whole c.args.wanted.now c.requires.ready c.requires.selected c.requires.settled (rw c.copy_from.ensures at c.keep_lacking.ensures) c.in_ok-found.ensures.attempted whole c.select_first.ensures) c.in_ok-found.ensures.steps
 
 pub returns-clause-underway : goal.returns-clause-underway
 returns-clause-underway g c =
-    let group = kept_lacking c.args.lanes.now _ _ c.index-lanes-key.result c.args.selection.now _ _ c.key.ensures.key (omega (arith, c.key.ensures.small, c.requires.ready.many)) c.copy_from.ensures c.keep_unknown.ensures in
-    began c.args.wanted.now c.requires.ready c.requires.selected c.requires.settled group
-    (began_rest c.args.wanted.now c.requires.ready c.requires.selected c.requires.settled group c.in_ok-found.ensures.attempted c.narrow.ensures.needs (rw c.copy_from-2.ensures at c.narrow.ensures.narrowed)) c.in_ok-found.ensures.steps
+    began c.args.wanted.now c.requires.ready c.requires.selected c.requires.settled (rw c.copy_from.ensures at c.keep_lacking.ensures)
+    (began_rest c.args.wanted.now c.requires.ready c.requires.selected c.requires.settled (rw c.copy_from.ensures at c.keep_lacking.ensures) c.in_ok-found.ensures.attempted c.narrow.ensures.needs (rw c.copy_from-2.ensures at c.narrow.ensures.narrowed)) c.in_ok-found.ensures.steps

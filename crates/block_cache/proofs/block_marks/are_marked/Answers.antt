@@ -2,7 +2,7 @@ use Rattle.std.proofs.Common.{◌≡◌, ◌<◌, ◌+◌, ℕ, List, true, get_
 use Rattle.std.proofs.lemmas.List.{take_all, take_more}
 use Rattle.expr_lanes.specs.{EachPlace, is_in, is_marked}
 use Rattle.expr_lanes.proofs.Selected.{in_more, is_in_at}
-use Rattle.block_cache.proofs.marks.are_marked.Goals as goal
+use Rattle.block_cache.proofs.block_marks.are_marked.Goals as goal
 
 -- one more place passes
 each_more : (P : ℕ → Type 0) (xs : List ℕ) (i : ℕ) → i < length xs → EachPlace (take i xs) P → P (get_or xs i 0) → EachPlace (take (i + 1) xs) P

@@ -1,6 +1,6 @@
 use Rattle.std.proofs.Common.{◌≡◌, true, take}
 use Rattle.expr_lanes.specs.{EachPlace, is_marked}
-use Rattle.block_cache.proofs.marks.are_marked.Given as goal
+use Rattle.block_cache.proofs.block_marks.are_marked.Given as goal
 
 abbrev pub invariant-loop-place : goal.invariant-loop-place
 invariant-loop-place l = EachPlace (take l.place-index l.places) (λ p. is_marked l.marks p ≡ true)

@@ -3,7 +3,7 @@ use Rattle.lemmas.proofs.{get_or-range_with_len, length-range_with_len, range_wi
 use Rattle.std.proofs.lemmas.List.{take_all}
 use Rattle.expr_lanes.proofs.Selected.{rising_range}
 use Rattle.block_cache.proofs.Marking.{mark_one, marked_all, marked_to_none, newly_all}
-use Rattle.block_cache.proofs.marks.mark_first.Goals as goal
+use Rattle.block_cache.proofs.block_marks.mark_first.Goals as goal
 
 pub loop-i-init : goal.loop-i-init
 loop-i-init c = marked_to_none _ _

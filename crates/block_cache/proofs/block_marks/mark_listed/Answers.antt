@@ -2,7 +2,7 @@ use Rattle.std.proofs.Common.{◌<◌, arith, refl, get_or, length}
 use Rattle.std.proofs.lemmas.List.{take_all}
 use Rattle.block_cache.proofs.Marking.{mark_one, marked_all, marked_to_none, newly_all}
 use Rattle.expr_lanes.proofs.Selected.{is_in_at}
-use Rattle.block_cache.proofs.marks.mark_listed.Goals as goal
+use Rattle.block_cache.proofs.block_marks.mark_listed.Goals as goal
 
 pub bounds-marks-places : goal.bounds-marks-places
 bounds-marks-places c =

@@ -1,5 +1,5 @@
 use Rattle.block_cache.proofs.Marking.{IsMarkedTo}
-use Rattle.block_cache.proofs.marks.mark_listed.Given as goal
+use Rattle.block_cache.proofs.block_marks.mark_listed.Given as goal
 
 abbrev pub invariant-loop-i : goal.invariant-loop-i
 invariant-loop-i l = IsMarkedTo l.places l.initial.marks l.marks l.i
