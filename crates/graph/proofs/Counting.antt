@@ -5,21 +5,14 @@ use Rattle.rdf_values.specs.{ActionAt, ActionKind, AreAccepted, Booked, Booking,
 use Rattle.rdf_values.specs.declared.scripts.statement.Statement.TheVariants.{Action, Report, Print, Vary}
 use Rattle.rdf_values.specs.declared.scripts.graph_cause.GraphCause.TheVariants.{TooMany}
 use Rattle.graph_numbers.specs.{filter_sites, holds_at, version_at}
-use Rattle.graph.specs.{action_set, any_has, AreRows, AreTables, depends_at, front, has, IsAmount, IsBookedRow, IsRow, IsSet, members_below, Numbers, printed_rows, result_sets, row_passes, rows_named, VarSet}
+use Rattle.graph.specs.{action_set, any_has, AreRows, AreTables, BeginsWith, depends_at, has, IsAmount, IsBookedRow, IsRow, IsSet, members_below, Numbers, printed_rows, result_sets, row_passes, rows_named, VarSet}
 use Rattle.graph.specs.declared.amounts.Amounts.{Amounts}
 use Rattle.graph.specs.declared.tables.ResultRow.{ResultRow}
-use Rattle.graph.proofs.Listing.{zip_both, zip_by, sets_any, row_set}
+use Rattle.graph.proofs.Listing.{zip_both, zip_by, zip_first, sets_any, row_set}
+use Rattle.graph.proofs.Looped.{begins_further}
 use Rattle.rdf_model.proofs.Accepted.{both_none, if_fails}
 use Rattle.graph.specs.declared.tables.Tables.{Tables}
 use Rattle.graph.proofs.Depending.{action_is, known_at, result_is, tags_count}
-
-pub front_is : (rows xs : List ResultRow) (x : ResultRow) → rows ≡ xs ++ x ∷ [] → front rows ≡ xs
-front_is rows xs x e = ap front e ∙ go xs
-  where
-    go : (ys : List ResultRow) → front (ys ++ x ∷ []) ≡ ys
-    go [] = refl
-    go (y ∷ []) = refl
-    go (y ∷ z ∷ ys) = ap (λ zs. y ∷ zs) (go (z ∷ ys))
 
 -- ---- how many members
 
@@ -89,33 +82,21 @@ module _ (script : List Statement) where
           → AllPassed (if x then b ∷ results_named name bs else results_named name bs) (if y then r ∷ rows_named name rs else rows_named name rs)
       go x y e k = grind arith
 
-  front_passed : (bs : List Booked) (b : Booked) (rs : List ResultRow) → AllPassed (bs ++ b ∷ []) rs → AllPassed bs (front rs)
-  front_passed [] b [] h = elim h [ ]
-  front_passed [] b (r ∷ []) h = tt
-  front_passed [] b (r ∷ q ∷ rs) h = elim h.1 [ ]
-  front_passed (x ∷ bs) b [] h = elim h [ ]
-  front_passed (x ∷ bs) b (r ∷ []) h = go bs h.1
-    where
-      go : (ys : List Booked) → AllPassed (ys ++ b ∷ []) [] → AllPassed (x ∷ bs) []
-      go [] k = elim k [ ]
-      go (y ∷ ys) k = elim k [ ]
-  front_passed (x ∷ bs) b (r ∷ q ∷ rs) h = (h.0, front_passed bs b (q ∷ rs) h.1)
-
-  same_rows : (before : List Statement) (rs : List ResultRow) → AllPassed (bookings before ++ []) rs → AllPassed (bookings before) rs
-  same_rows before rs h = subst (λ bs. AllPassed bs rs) (append-nil (bookings before)) h
-
   -- the rows of the printed results are theirs
-  pub printed_passed : (before : List Statement) (rs : List ResultRow) → AllPassed (bookings before) rs → AllPassed (printed_results before) (printed_rows before rs)
-  printed_passed [] [] h = tt
-  printed_passed [] (r ∷ rs) h = elim h [ ]
-  printed_passed (Print p ∷ before) rs h = grind (arith, passed_both, named_passed, same_rows, printed_passed before rs (same_rows before rs h))
-  printed_passed (Action name parent k ∷ before) rs h = printed_passed before (front rs) (front_passed (bookings before) _ rs h)
-  printed_passed (Report name parent ∷ before) rs h = printed_passed before (front rs) (front_passed (bookings before) _ rs h)
-  printed_passed (s ∷ before) rs h = printed_passed before rs (same_rows before rs h)
+  pub printed_passed : (all : List Statement) (rs : List ResultRow) → AllPassed (bookings all) rs → (before : List Statement) → BeginsWith all before → AllPassed (printed_results before) (printed_rows before rs)
+  printed_passed all rs h [] e = tt
+  printed_passed all rs h (Print p ∷ before) e =
+      let f = begins_further all before (Print p) e in
+      let first = zip_first IsPassed (length (bookings before)) (bookings all) rs h in
+      passed_both (results_named p (bookings before)) (printed_results before) (rows_named p (take (length (bookings before)) rs)) (printed_rows before rs)
+      (named_passed p (bookings before) (take (length (bookings before)) rs) (subst (λ bs. AllPassed bs (take (length (bookings before)) rs)) f first)) (printed_passed all rs h before f)
+  printed_passed all rs h (s ∷ before) e = printed_passed all rs h before (begins_further all before s e)
 
   -- and with those of one Print more
-  pub printed_with : (before : List Statement) (name : List ℕ) (rs : List ResultRow) → AllPassed (bookings before) rs → AllPassed (printed_results (Print name ∷ before)) (printed_rows (Print name ∷ before) rs)
-  printed_with before name rs h = passed_both (results_named name (bookings before)) (printed_results before) (rows_named name rs) (printed_rows before rs) (named_passed name (bookings before) rs h) (printed_passed before rs h)
+  pub printed_with : (before : List Statement) (name : List ℕ) (rs : List ResultRow) → AllPassed (bookings before) rs → AllPassed (printed_results (Print name ∷ before)) (rows_named name rs ++ printed_rows before rs)
+  printed_with before name rs h =
+      passed_both (results_named name (bookings before)) (printed_results before) (rows_named name rs) (printed_rows before rs) (named_passed name (bookings before) rs h)
+      (printed_passed before rs h before (take_all (bookings before) (length (bookings before)) (omega arith)))
 
 module _ (header : List Column) (names : FunctionNames) where
   -- a Vary that was checked makes at most 128 variations with those before it

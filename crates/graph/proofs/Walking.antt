@@ -4,7 +4,7 @@ use Rattle.rdf_values.specs.{aliases, among, Booked, booked_by, Booking, booking
 use Rattle.rdf_values.specs.declared.scripts.statement.Statement.TheVariants.{Watch, Filter}
 use Rattle.rdf_model.proofs.Accepted.{itself, names_equal, place_within}
 use Rattle.lemmas.proofs.{length-append, list_any, list_any-append, map-append, or_false}
-use Rattle.graph.specs.{books, result_in, count_from, is_named, own_number}
+use Rattle.graph.specs.{books, result_in, count_from, is_named, own_number, own_visible}
 use Rattle.graph_numbers.specs.{all_or, column_place, covered_at, filters_on, named_version, numbers_from, own_columns, own_filter, own_version, version_count}
 
 -- a name among the names of two lists
@@ -36,9 +36,14 @@ visible_in f columns name (a ∷ names) = grind (arith, same_back a name, visibl
 pub visible_is : (names : FunctionNames) (header : Scope) (at : Path) (name : List ℕ) → is_visible (visible_columns names header at) name ≡ (is_alias at name || is_visible (made_columns names header at) name)
 visible_is names header at name = visible_in (λ a. kind_or_int (column_kind (made_columns names header at) (target_of at a))) (made_columns names header at) name (aliases at)
 
-pub visible_else : (names : FunctionNames) (header : Scope) (at : Path) (name : List ℕ) (a m : Bool) → a ≡ is_alias at name → a ≡ false → m ≡ is_visible (made_columns names header at) name
-    → m ≡ is_visible (visible_columns names header at) name
-visible_else names header at name a m p q h = h ∙ ap (λ b. b || is_visible (made_columns names header at) name) (sym q ∙ p) ∙ sym (visible_is names header at name)
+-- by a statement of the path, or above it
+pub visible_step : (names : FunctionNames) (header : Scope) (s : Statement) (up : Path) (name : List ℕ)
+    → is_visible (visible_columns names header (s ∷ up)) name ≡ (own_visible s name || is_visible (visible_columns names header up) name)
+visible_step names header s up name =
+    visible_is names header (s ∷ up) name ∙ go s ∙ ap (λ b. own_visible s name || b) (sym (visible_is names header up name))
+  where
+    go : (s : Statement) → (is_alias (s ∷ up) name || is_visible (made_columns names header (s ∷ up)) name) ≡ (own_visible s name || (is_alias up name || is_visible (made_columns names header up) name))
+    go s = grind arith
 
 pub count_step : (before : List Statement) (s : Statement) → length (bookings (s ∷ before)) ≡ length (bookings before) + length (booked_by before s)
 count_step before s = length-append (bookings before) (booked_by before s)

@@ -26,11 +26,12 @@ abbrev pub own_alias : Statement → List ℕ → Bool
 own_alias (Alias node parent column target) name = same name column
 own_alias s name = false
 
--- the statement makes the column
-abbrev pub own_made : Statement → List ℕ → Bool
-own_made (Define node parent column expr) name = same column name
-own_made (Redefine node parent column expr) name = same column name
-own_made s name = false
+-- the statement makes the name visible
+abbrev pub own_visible : Statement → List ℕ → Bool
+own_visible (Define node parent column expr) name = same column name
+own_visible (Redefine node parent column expr) name = same column name
+own_visible (Alias node parent column target) name = same name column
+own_visible s name = false
 
 -- the kinds of the versions so far, of statements that were accepted
 pub record AreKinds (header : List Column) (names : FunctionNames) (before : List Statement) (kinds : List ColType) : Type 0 where

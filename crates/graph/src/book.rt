@@ -14,7 +14,7 @@ use crate::refusals::{GraphRefusal, Stop, first_of, refuse_unless, stop_if};
 use crate::result_checks::{
     check_action, check_print, check_report, check_variations_for, check_watch,
 };
-use crate::sets::{kinds_at, push_changed, sets_of};
+use crate::sets::{changed_sets, kinds_at, sets_of};
 use crate::tables::{Change, ResultRow, Tables};
 use crate::variations::full_names;
 use crate::vary_checks::check_vary;
@@ -56,10 +56,7 @@ pub(crate) fn book_lines(
     let Some((last, before)) = lines.split_first() else {
         return Ok(Tables::start(alloc, header)?);
     };
-    let mut tables = match book_lines(alloc, before, header, names) {
-        Ok(tables) => tables,
-        Err(refusal) => return Err(refusal),
-    };
+    let mut tables = book_lines(alloc, before, header, names)?;
     let at = Before {
         alloc,
         header,
@@ -179,14 +176,12 @@ fn named_filter(
 ) -> Result<Vec<ListOf<u32>>, Memory>
     ensures { IfOk result (λ rows. rows.items ≡ named_rows before.now.header.now before.now.names.now (history before.now) parent.now label.now) }
 {
-    match label {
-        None => Ok(Vec::new(before.alloc)),
-        Some(_) => {
-            let mut sites = before.filters_above(parent)?;
-            sites.push(before.sites())?;
-            alone(before.alloc, sites)
-        }
-    }
+    let Some(_) = label else {
+        return Ok(Vec::new(before.alloc));
+    };
+    let mut sites = before.filters_above(parent)?;
+    sites.push(before.sites())?;
+    alone(before.alloc, sites)
 }
 
 /// What a Filter adds.
@@ -204,8 +199,7 @@ pub(crate) fn filter_gain(
     let site = before.expected(parent, ColType::Bool, expr)?;
     let filters = named_filter(before, parent, label)?;
     let sites = alone(before.alloc, site)?;
-    let sets = before.tables.version_sets.as_slice();
-    let site_sets = sets_of(before.alloc, sets, sites.as_slice())?;
+    let site_sets = sets_of(before, sites.as_slice())?;
     Ok(Tables {
         sites,
         site_sets,
@@ -231,9 +225,8 @@ fn made_gain(
     let versions = alone(before.alloc, Version::Computed { site: site_number })?;
     let kinds = alone(before.alloc, site.kind())?;
     let sites = alone(before.alloc, site)?;
-    let sets = before.tables.version_sets.as_slice();
-    let site_sets = sets_of(before.alloc, sets, sites.as_slice())?;
-    let version_sets = sets_of(before.alloc, sets, sites.as_slice())?;
+    let site_sets = sets_of(before, sites.as_slice())?;
+    let version_sets = sets_of(before, sites.as_slice())?;
     Ok(Tables {
         versions,
         kinds,
@@ -256,35 +249,6 @@ fn row_gain(alloc: Global, row: Result<ResultRow, Stop>) -> Result<Tables, Stop>
     })
 }
 
-/// The columns, sites and variations of a Vary that was checked.
-fn varied_gain(
-    before: &Before<'_>,
-    change: &Change<'_>,
-    sites: Vec<Checked>,
-) -> Result<Tables, Memory>
-    requires few { variation_count before.now + length change.now.tags.now ≤ 128 }
-    ensures { IfOk result (IsVaryGain before.now.header.now before.now.names.now (history before.now) before.now.tables.now change.now sites.items) }
-{
-    let columns = change.columns;
-    let tags = change.tags.len() as u32;
-    let mut versions = Vec::new(before.alloc);
-    push_varied(&mut versions, before, change, 0, columns)?;
-    let kinds = kinds_at(before, change.parent, columns)?;
-    let mut version_sets = Vec::new(before.alloc);
-    push_changed(before, change.parent, tags, columns, &mut version_sets)?;
-    let sets = before.tables.version_sets.as_slice();
-    let site_sets = sets_of(before.alloc, sets, sites.as_slice())?;
-    Ok(Tables {
-        versions,
-        kinds,
-        version_sets,
-        sites,
-        site_sets,
-        variations: full_names(before.alloc, change.name, change.tags)?,
-        ..Tables::empty(before.alloc)
-    })
-}
-
 /// What a Vary adds.
 pub(crate) fn vary_gain(
     before: &Before<'_>,
@@ -295,8 +259,21 @@ pub(crate) fn vary_gain(
     ensures decided { Decides (verdict_after before.now (Vary node.now change.now.parent.now change.now.columns.now change.now.values.now change.now.tags.now change.now.name.now)) result }
 {
     let sites = check_vary(before, node, change)?;
-    let gain = varied_gain(before, change, sites)?;
-    Ok(gain)
+    let mut versions = Vec::new(before.alloc);
+    push_varied(&mut versions, before, change, 0, change.columns)?;
+    let kinds = kinds_at(before, change)?;
+    let version_sets = changed_sets(before, change)?;
+    let site_sets = sets_of(before, sites.as_slice())?;
+    let variations = full_names(before.alloc, change.name, change.tags)?;
+    Ok(Tables {
+        versions,
+        kinds,
+        version_sets,
+        sites,
+        site_sets,
+        variations,
+        ..Tables::empty(before.alloc)
+    })
 }
 
 /// An Alias.

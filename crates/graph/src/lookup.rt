@@ -1,8 +1,8 @@
 // Look-ups in the statements so far, the latest first: each walks them as its definition does.
 ghost use Rattle.std.specs.Prelude.{◌≡◌, ◌<◌, ◌≤◌, ◌+◌, true, false, codes, length, MatchOption, IfSome, Some, option_map, slice_get, IfOk, List, []};
 ghost use Rattle.std.specs.List.{list_any};
-ghost use Rattle.rdf_values.specs.{FunctionNames, is_alias, is_in_use, is_node, is_result, is_visible, made_columns, makes, parent_of, path, place, same, scope_at, scope_of, target_of, expression_count, named_before, ActionAt, among, booked_by, bookings, can_watch, filled, is_report, is_watched, names_of, Path, result_is, Statement, watched_results};
-ghost use Rattle.graph.specs.{books, own_alias, own_made, own_target, statements, count_from, filter_numbers, is_named, labels, own_label, site_total, expression_total, is_filter, own_site_total, result_in};
+ghost use Rattle.rdf_values.specs.{FunctionNames, is_alias, is_in_use, is_node, is_result, is_visible, makes, parent_of, path, place, same, scope_at, scope_of, target_of, expression_count, named_before, ActionAt, among, booked_by, bookings, can_watch, filled, is_report, is_watched, names_of, Path, result_is, Statement, watched_results};
+ghost use Rattle.graph.specs.{books, own_alias, own_target, own_visible, statements, count_from, filter_numbers, is_named, labels, own_label, site_total, expression_total, is_filter, own_site_total, result_in};
 ghost use Rattle.graph_numbers.specs.{column_place, covered_at, filters_on, named_version, own_columns, own_version, version_count, list_start};
 ghost use Rattle.rdf_values.specs.declared.scripts.statement.Statement.TheVariants.{Watch};
 
@@ -123,45 +123,38 @@ pub fn is_alias(before: &[Line], node: &Name, name: &Name) -> bool
     }
 }
 
-/// Whether the table has the column.
+#[tactic(auto, using(crate::proofs::Listing::any_map))]
 fn is_cell(header: &[Column], name: &Name) -> bool
     ensures { result ≡ is_visible (scope_of header.now) name.now }
 {
-    let Some((first, rest)) = header.split_first() else {
-        return false;
-    };
-    first.name.is(name) || is_cell(rest, name)
+    header.iter().any(|column| column.name.is(name))
 }
 
-/// Whether the statement makes the column.
-fn own_made(statement: &Statement, name: &Name) -> bool
-    ensures { result ≡ own_made statement.now name.now }
+/// Whether the statement makes the name visible.
+fn own_visible(statement: &Statement, name: &Name) -> bool
+    ensures { result ≡ own_visible statement.now name.now }
 {
     match statement {
         Statement::Define { column, .. } | Statement::Redefine { column, .. } => column.is(name),
+        Statement::Alias { column, .. } => name.is(column),
         _ => false,
     }
 }
 
-/// Whether the table has the column, or a statement of the node's path makes it.
-fn is_made(before: &[Line], header: &[Column], node: &Name, name: &Name) -> bool
-    ensures { (names : FunctionNames) → result ≡ is_visible (made_columns names (scope_of header.now) (path (statements before.now) node.now)) name.now }
+/// Whether the column is visible at a node.
+#[tactic(auto, using(crate::proofs::Walking::visible_step))]
+pub fn is_visible(before: &[Line], header: &[Column], node: &Name, name: &Name) -> bool
+    ensures { (names : FunctionNames) → result ≡ is_visible (scope_at names (scope_of header.now) (statements before.now) node.now) name.now }
 {
     let Some((last, rest)) = before.split_first() else {
         return is_cell(header, name);
     };
     match made_from(&last.statement, node) {
-        None => is_made(rest, header, node, name),
-        Some(parent) => own_made(&last.statement, name) || is_made(rest, header, parent, name),
+        None => is_visible(rest, header, node, name),
+        Some(parent) => {
+            own_visible(&last.statement, name) || is_visible(rest, header, parent, name)
+        }
     }
-}
-
-/// Whether the column is visible at a node.
-#[tactic(auto, using(crate::proofs::Walking::visible_is))]
-pub fn is_visible(before: &[Line], header: &[Column], node: &Name, name: &Name) -> bool
-    ensures { (names : FunctionNames) → result ≡ is_visible (scope_at names (scope_of header.now) (statements before.now) node.now) name.now }
-{
-    is_alias(before, node, name) || is_made(before, header, node, name)
 }
 
 /// The place of a name among columns.

@@ -1,10 +1,10 @@
 // The checks of what books a result, and of what asks for one.
 #![tactic(auto, using(crate::proofs::Checking::no_memory, crate::proofs::Walking::watched_among))]
 
-ghost use Rattle.std.specs.Prelude.{◌≡◌, ◌∷◌, ◌++◌, [], ℕ, List, None, IfOk, length, nat_lt, OnOk};
-ghost use Rattle.rdf_values.specs.{ActionKind, bookings, check_columns, check_passes, check_results, columns_of, permitted_kinds, is_result, printed_results, refuse_if, refuse_unless, watched_results, are_edges, begins, check_edges, may_begin, rises, weight_column};
+ghost use Rattle.std.specs.Prelude.{◌≡◌, ◌∷◌, ◌++◌, [], ℕ, List, IfOk, length, nat_lt, OnOk};
+ghost use Rattle.rdf_values.specs.{ActionKind, check_columns, check_results, columns_of, permitted_kinds, is_result, printed_results, refuse_if, refuse_unless, watched_results, are_edges, begins, check_edges, may_begin, rises, weight_column};
 ghost use Rattle.rdf_values.specs.declared.scripts.statement.Statement.TheVariants.{Action, Report, VariationsFor, Watch, Print};
-ghost use Rattle.graph.specs.{Decides, history, IsRowAfter, scope_before, statements, verdict_after};
+ghost use Rattle.graph.specs.{Decides, IsRowAfter, scope_before, statements, verdict_after};
 ghost use Rattle.rdf_values.specs.declared.scripts.graph_cause.GraphCause.TheVariants as cause_of;
 
 use crate::amounts::{
@@ -41,13 +41,6 @@ pub(crate) fn check_report(
 {
     let many = one_result_more(before.lines);
     stop_if(first_of(&[before.check_node(name, parent), many]))?;
-    Ok(report_row(before, name, parent)?)
-}
-
-/// The row of a report.
-fn report_row(before: &Before<'_>, name: &Name, parent: &Name) -> Result<ResultRow, Memory>
-    ensures { IfOk result (IsRowAfter before.now (Report name.now parent.now)) }
-{
     let named = before.tables.filters.as_slice().len() as u32;
     let path = ResultPath {
         kind: ResultKind::Report,
@@ -92,23 +85,6 @@ fn action_row(
     })
 }
 
-/// The row of an action, where there aren't too many passes with its own.
-fn counted_action(
-    before: &Before<'_>,
-    name: &Name,
-    parent: &Name,
-    action: &ActionKind,
-) -> Result<ResultRow, Stop>
-    requires known { check_columns (scope_before before.now parent.now) (permitted_kinds action.now) [] (columns_of action.now) ≡ None }
-    ensures row { IfOk result (IsRowAfter before.now (Action name.now parent.now action.now)) }
-    ensures decided { Decides (check_passes (history before.now) (bookings (Action name.now parent.now action.now ∷ history before.now))) result }
-{
-    let row = action_row(before, name, parent, action)?;
-    let amounts = amounts_with(before.lines, before.tables.results.as_slice(), &row)?;
-    stop_if(too_many(amounts))?;
-    Ok(row)
-}
-
 /// An Action.
 pub(crate) fn check_action(
     before: &Before<'_>,
@@ -126,7 +102,10 @@ pub(crate) fn check_action(
         check_edges(action),
         one_result_more(before.lines),
     ]))?;
-    counted_action(before, name, parent, action)
+    let row = action_row(before, name, parent, action)?;
+    let amounts = amounts_with(before.lines, before.tables.results.as_slice(), &row)?;
+    stop_if(too_many(amounts))?;
+    Ok(row)
 }
 
 /// Whether one more watched result is too many.

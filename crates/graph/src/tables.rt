@@ -1,8 +1,7 @@
 // The tables that are kept while statements are booked.
-ghost use Rattle.std.specs.Prelude.{◌≤◌, length, ◌≡◌, ◌+◌, [], false, true, map, IfOk, OnOk};
+ghost use Rattle.std.specs.Prelude.{◌≤◌, length, ◌≡◌, ◌+◌, [], true, IfOk, OnOk};
 ghost use Rattle.rdf_values.specs.{AreShortValues, FunctionNames};
 ghost use Rattle.graph.specs.ShortProof.{short-prop};
-ghost use Rattle.graph.specs.Dependence.{AppendsSets};
 
 use crate::sets::VarSet;
 use crate::variations::Variations;
@@ -61,25 +60,6 @@ pub struct Tables {
     pub variations: Variations,
 }
 
-/// The kinds of the table's columns.
-fn kinds_of(alloc: Global, header: &[Column]) -> Result<Vec<ColType>, Memory>
-    ensures { IfOk result (λ kinds. kinds.items ≡ map (λ c. c.kind) header.now) }
-{
-    Ok(header.iter().map(|column| column.kind).collect(alloc)?)
-}
-
-/// An empty set for each of the table's columns.
-#[tactic(auto, using(crate::proofs::Listing::one_more))]
-fn push_empty_sets(sets: &mut Vec<VarSet>, header: &[Column]) -> Result<(), Memory>
-    ensures { OnOk result (AppendsSets (map (λ _ v. false) header.now) sets.old.items sets.new.items) }
-{
-    let Some((_, rest)) = header.split_first() else {
-        return Ok(());
-    };
-    sets.push(VarSet::empty())?;
-    push_empty_sets(sets, rest)
-}
-
 /// Whether there is room for more versions.
 fn has_room(kinds: &[ColType], more: &[ColType]) -> bool
     ensures { result ≡ true → length kinds.now + length more.now ≤ 4294967295 }
@@ -91,24 +71,20 @@ impl Tables {
     ghost use Rattle.graph.specs.{AreTables, GrowBy, IsEmptyGain};
 
     /// The tables before the first statement.
+    #[tactic(auto, using(crate::proofs::Listing::no_sets))]
     pub fn start(alloc: Global, header: &[Column]) -> Result<Tables, Memory>
         requires few { length header.now ≤ 64 }
         ensures { IfOk result (λ t. (names : FunctionNames) → AreTables header.now names [] t) }
     {
         let mut versions = Vec::new(alloc);
         push_cells(&mut versions, 0, header)?;
-        let kinds = kinds_of(alloc, header)?;
-        let mut version_sets = Vec::new(alloc);
-        push_empty_sets(&mut version_sets, header)?;
+        let kinds = header.iter().map(|column| column.kind).collect(alloc)?;
+        let version_sets = vec![in alloc; VarSet::empty(); header.len()]?;
         Ok(Tables {
             versions,
             kinds,
             version_sets,
-            sites: Vec::new(alloc),
-            site_sets: Vec::new(alloc),
-            filters: Vec::new(alloc),
-            results: Vec::new(alloc),
-            variations: Variations::new(alloc),
+            ..Tables::empty(alloc)
         })
     }
 
