@@ -21,7 +21,7 @@ pub use Dependence.{action_set, any_depends, any_has, AreSets, changed_set, depe
 pub use Gains.{AreRows, AreSites, AreTables, Gives, GrowBy, IsBookedRow, IsColumnGain, IsEmptyGain, IsFilterGain, IsGain, IsMadeGain, IsRow, IsRowGain, IsSite, IsVaryGain, paths}
 pub use GraphFields.{IsBooked, view_of}
 pub use Laws.{ResultSetsAreDependence, SiteSetsAreDependence, VersionsDependAsColumns}
-pub use Lookups.{AreKinds, AreNoted, books, IsAlike, IsCheckedAt, IsFound, IsScopeAt, IsScopeOf, own_alias, own_target, own_visible, result_in, statements}
+pub use Lookups.{AreKinds, AreNoted, books, IsAlike, IsCheckedAt, IsFound, IsScopeAt, IsScopeOf, own_target, own_visible, result_in, statements}
 pub use LoopRows.{AreLoops, AreNamedInTurn, AreRowsOf, BeginsWith, filled_count, filler_of, IsNamedInTurn, IsNoted, IsRowOf, members_from, passes_of_row, passes_of_rows}
 pub use Rows.{cell_rows, count_from, expression_total, filter_numbers, is_filter, is_named, labels, named, named_rows, own_label, own_number, own_site_total, result_path, site_total}
 unfoldable pub use Dependence.{members_below}

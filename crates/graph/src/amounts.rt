@@ -33,7 +33,6 @@ fn product(m: usize, n: usize) -> Result<usize, Memory>
     m.checked_mul(n).ok_or(Memory)
 }
 
-/// The cells of an action's histogram.
 pub(crate) fn cells_of(action: &ActionKind) -> Result<usize, Memory>
     ensures { IfOk result (λ n. (at : Path) → n ≡ cells_of (ActionAt action.now at)) }
 {

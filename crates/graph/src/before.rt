@@ -13,7 +13,7 @@ ghost use Rattle.graph.specs.ShortProof.{short_all-prop};
 
 use crate::copies::push_name;
 use crate::lookup::{
-    filter_sites, is_alias, is_in_use, is_node, is_visible, named_version, target_of,
+    at, filter_sites, is_alias, is_in_use, is_node, is_visible, named_version, target_of,
 };
 use crate::refusals::{Stop, first_of, refuse_if, refuse_unless};
 use crate::tables::Tables;
@@ -66,7 +66,6 @@ fn names_in(alloc: Global, expr: &Expr) -> Result<Vec<Name>, Memory>
     Ok(columns)
 }
 
-/// Why an expression has no kind, as a stop.
 #[tactic(auto, using(crate::proofs::Checking::cause_refused))]
 fn stop_of(refusal: CheckRefusal) -> Stop
     ensures { (wanted : Result ColType GraphCause) → RefusedAs refusal wanted → IsStop (refusal_in wanted) result }
@@ -80,7 +79,6 @@ fn stop_of(refusal: CheckRefusal) -> Stop
     }
 }
 
-/// Whether two kinds are the same.
 pub(crate) fn same_kind(a: ColType, b: ColType) -> bool
     ensures { result ≡ same_kind a b }
 {
@@ -120,7 +118,6 @@ impl Before<'_> {
         filter_sites(self.alloc, self.lines, self.sites(), node)
     }
 
-    /// The version of a column at a node.
     fn version_at(&self, node: &Name, name: &Name) -> u32
         ensures { result ≡ version_at self.now.header.now (history self.now) node.now name.now }
     {
@@ -143,14 +140,6 @@ impl Before<'_> {
         named_version(self.lines, self.header, count, node, name) as u32
     }
 
-    /// The kind of a version, and its number.
-    fn numbered_kind(&self, version: u32) -> (ColType, u32)
-        requires { version < length self.now.tables.now.kinds.items }
-        ensures { (slice_get self.now.tables.now.kinds.items version ≡ Some result.0) × (result.1 ≡ version) }
-    {
-        (self.tables.kinds[version as usize], version)
-    }
-
     /// The kind and the version of a column at a node, where it is visible.
     pub(crate) fn find_column(&self, node: &Name, name: &Name) -> Option<(ColType, u32)>
         ensures { MatchOption result (column_kind (scope_before self.now node.now) name.now ≡ Err UnknownColumn)
@@ -160,7 +149,8 @@ impl Before<'_> {
             return None;
         }
         let target = target_of(self.lines, node, name);
-        Some(self.numbered_kind(self.named_version(node, target)))
+        let version = self.named_version(node, target);
+        Some((*at(self.tables.kinds.as_slice(), version), version))
     }
 
     /// The kind of a column, and that of a number where there is none.
@@ -187,7 +177,6 @@ impl Before<'_> {
         }
     }
 
-    /// Brings columns into a scope.
     fn note_all(&self, node: &Name, scope: &mut Scope, columns: &[Name]) -> Result<(), Memory>
         requires scope { IsScopeAt self.now.header.now self.now.names.now (history self.now) node.now self.now.tables.now.kinds.items scope.old }
         ensures { OnOk result (AreNoted self.now.header.now self.now.names.now (history self.now) node.now self.now.tables.now.kinds.items scope.old scope.new columns.now) }

@@ -9,15 +9,14 @@ ghost use Rattle.rdf_values.specs.declared.scripts.statement.Statement.TheVarian
 ghost use Rattle.graph.specs.declared.tables.ResultRow.{ResultRow};
 
 use crate::before::Before;
+use crate::checks::{
+    check_action, check_print, check_report, check_variations_for, check_vary, check_watch,
+};
 use crate::copies::alone;
 use crate::refusals::{GraphRefusal, Stop, first_of, refuse_unless, stop_if};
-use crate::result_checks::{
-    check_action, check_print, check_report, check_variations_for, check_watch,
-};
 use crate::sets::{changed_sets, kinds_at, sets_of};
 use crate::tables::{Change, ResultRow, Tables};
 use crate::variations::full_names;
-use crate::vary_checks::check_vary;
 use crate::versions::push_varied;
 use expr_check::Checked;
 use graph_numbers::Version;
@@ -27,7 +26,6 @@ use rdf_values::{
 };
 use std::alloc::Global;
 
-/// A line's refusal.
 fn refusal_of(line: &Line, stop: Stop) -> GraphRefusal
     ensures { (wanted : Option GraphCause) → IsStop wanted stop → IsRefusal (refused_then line.now.number None wanted) result }
 {
@@ -184,7 +182,6 @@ fn named_filter(
     alone(before.alloc, sites)
 }
 
-/// What a Filter adds.
 pub(crate) fn filter_gain(
     before: &Before<'_>,
     node: &Name,
@@ -249,7 +246,6 @@ fn row_gain(alloc: Global, row: Result<ResultRow, Stop>) -> Result<Tables, Stop>
     })
 }
 
-/// What a Vary adds.
 pub(crate) fn vary_gain(
     before: &Before<'_>,
     node: &Name,
@@ -276,7 +272,6 @@ pub(crate) fn vary_gain(
     })
 }
 
-/// An Alias.
 fn check_alias(
     before: &Before<'_>,
     node: &Name,

@@ -2,7 +2,7 @@
 ghost use Rattle.std.specs.Prelude.{◌≡◌, ◌<◌, ◌≤◌, ◌+◌, true, false, codes, length, MatchOption, IfSome, Some, option_map, slice_get, IfOk, List, []};
 ghost use Rattle.std.specs.List.{list_any};
 ghost use Rattle.rdf_values.specs.{FunctionNames, is_alias, is_in_use, is_node, is_result, is_visible, makes, parent_of, path, place, same, scope_at, scope_of, target_of, expression_count, named_before, ActionAt, among, booked_by, bookings, can_watch, filled, is_report, is_watched, names_of, Path, result_is, Statement, watched_results};
-ghost use Rattle.graph.specs.{books, own_alias, own_target, own_visible, statements, count_from, filter_numbers, is_named, labels, own_label, site_total, expression_total, is_filter, own_site_total, result_in};
+ghost use Rattle.graph.specs.{books, own_target, own_visible, statements, count_from, filter_numbers, is_named, labels, own_label, site_total, expression_total, is_filter, own_site_total, result_in};
 ghost use Rattle.graph_numbers.specs.{column_place, covered_at, filters_on, named_version, own_columns, own_version, version_count, list_start};
 ghost use Rattle.rdf_values.specs.declared.scripts.statement.Statement.TheVariants.{Watch};
 
@@ -35,7 +35,6 @@ pub fn made_from<'a>(statement: &'a Statement, sought: &Name) -> Option<&'a Name
     }
 }
 
-/// Whether one of the statements makes the node.
 fn is_made_node(before: &[Line], node: &Name) -> bool
     ensures { result ≡ list_any (λ s. makes s node.now) (statements before.now) }
 {
@@ -45,7 +44,6 @@ fn is_made_node(before: &[Line], node: &Name) -> bool
     made_from(&last.statement, node).is_some() || is_made_node(rest, node)
 }
 
-/// What a statement's alias makes of a name.
 fn own_target<'a>(statement: &'a Statement, name: &'a Name) -> &'a Name
     ensures { result.now ≡ own_target statement.now name.now }
 {
@@ -75,7 +73,6 @@ pub fn is_node(before: &[Line], node: &Name) -> bool
     node.bytes() == b"df".as_slice() || is_made_node(before, node)
 }
 
-/// Whether the statement books the result.
 fn books(statement: &Statement, name: &Name) -> bool
     ensures { result ≡ books statement.now name.now }
 {
@@ -103,13 +100,6 @@ pub fn is_in_use(before: &[Line], name: &Name) -> bool
     is_node(before, name) || is_result(before, name)
 }
 
-/// Whether the statement makes the name an alias.
-fn own_alias(statement: &Statement, name: &Name) -> bool
-    ensures { result ≡ own_alias statement.now name.now }
-{
-    matches!(statement, Statement::Alias { column, .. } if name.is(column))
-}
-
 /// Whether the name is an alias at a node.
 pub fn is_alias(before: &[Line], node: &Name, name: &Name) -> bool
     ensures { result ≡ is_alias (path (statements before.now) node.now) name.now }
@@ -119,18 +109,22 @@ pub fn is_alias(before: &[Line], node: &Name, name: &Name) -> bool
     };
     match made_from(&last.statement, node) {
         None => is_alias(rest, node, name),
-        Some(parent) => own_alias(&last.statement, name) || is_alias(rest, parent, name),
+        Some(parent) => {
+            let own = matches!(&last.statement, Statement::Alias { column, .. } if name.is(column));
+            own || is_alias(rest, parent, name)
+        }
     }
 }
 
-#[tactic(auto, using(crate::proofs::Listing::any_map))]
 fn is_cell(header: &[Column], name: &Name) -> bool
     ensures { result ≡ is_visible (scope_of header.now) name.now }
 {
-    header.iter().any(|column| column.name.is(name))
+    let Some((first, rest)) = header.split_first() else {
+        return false;
+    };
+    first.name.is(name) || is_cell(rest, name)
 }
 
-/// Whether the statement makes the name visible.
 fn own_visible(statement: &Statement, name: &Name) -> bool
     ensures { result ≡ own_visible statement.now name.now }
 {
@@ -157,7 +151,6 @@ pub fn is_visible(before: &[Line], header: &[Column], node: &Name, name: &Name) 
     }
 }
 
-/// The place of a name among columns.
 fn place_of(columns: &[Name], name: &Name) -> Option<usize>
     ensures value { result ≡ place (same name.now) columns.now }
     ensures within { IfSome result (λ i. i < length columns.now) }
@@ -186,7 +179,6 @@ fn column_place(header: &[Column], name: &Name) -> usize
     }
 }
 
-/// How many versions a statement makes.
 fn own_count(statement: &Statement) -> usize
     ensures { result ≡ length (own_columns statement.now) }
 {
@@ -302,7 +294,6 @@ pub fn own_site_total(statement: &Statement, most: usize) -> usize
     }
 }
 
-/// Whether the statement is a Filter.
 pub(crate) fn is_filter(statement: &Statement) -> bool
     ensures { result ≡ is_filter statement.now }
 {
@@ -335,14 +326,12 @@ pub(crate) fn filter_sites(
     }
 }
 
-/// Whether the statement is a named Filter.
 fn is_named(statement: &Statement) -> bool
     ensures { result ≡ is_named statement.now }
 {
     matches!(statement, Statement::Filter { label: Some(_), .. })
 }
 
-/// The label of a named Filter.
 fn own_label(statement: &Statement) -> Option<&Label>
     ensures { option_map (λ l. l.now) result ≡ own_label statement.now }
 {
@@ -417,7 +406,6 @@ pub(crate) fn covered(
     }
 }
 
-/// Whether the name is one of the names.
 pub(crate) fn is_among(names: &[Name], name: &Name) -> bool
     ensures { result ≡ among name.now names.now }
 {
@@ -472,7 +460,6 @@ pub(crate) fn watched_count(before: &[Line]) -> usize
     }
 }
 
-/// Whether an action may be watched.
 fn can_watch(kind: &ActionKind) -> bool
     ensures { (at : Path) → result ≡ can_watch (ActionAt kind.now at) }
 {
@@ -482,14 +469,12 @@ fn can_watch(kind: &ActionKind) -> bool
     )
 }
 
-/// Whether the statement books a result of that name which may be watched.
 fn own_watchable(statement: &Statement, name: &Name) -> bool
     ensures { (before : List Statement) → result ≡ result_in can_watch name.now (booked_by before statement.now) }
 {
     matches!(statement, Statement::Action { result, kind, .. } if result.is(name) && can_watch(kind))
 }
 
-/// Whether the statement books a report of that name.
 fn own_report(statement: &Statement, name: &Name) -> bool
     ensures { (before : List Statement) → result ≡ result_in is_report name.now (booked_by before statement.now) }
 {

@@ -40,7 +40,6 @@ impl LoopTables {
     ghost use Rattle.graph.specs.LoopRows.{IsNoted};
     ghost use Rattle.rdf_values.specs.{Statement};
 
-    /// No loops.
     #[tactic(auto, using(crate::proofs::Looped::none_yet))]
     fn new(alloc: Global) -> LoopTables
         ensures { (script : List Statement) → AreLoops script [] result }
@@ -120,7 +119,6 @@ pub(crate) fn loop_tables(
     }
 }
 
-/// The number of the result of that name.
 fn number_of(results: &[ResultRow], name: &Name) -> Option<usize>
     ensures value { result ≡ place (λ r. same r.name name.now) results.now }
     ensures within { IfSome result (λ n. n < length results.now) }

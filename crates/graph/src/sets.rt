@@ -1,7 +1,7 @@
 // Sets of variations of versions, sites and filters.
 ghost use Rattle.std.specs.Prelude.{◌≡◌, ◌<◌, ◌≤◌, ◌||◌, ℕ, false, nat_eq, MatchOption, ◌+◌, map, length, IfOk};
 ghost use Rattle.graph.specs.{has, IsNext, members_below, any_has, has_at, is_among_own, AreSets, changed_set, read_sets, scope_before, set_changed, variation_count};
-ghost use Rattle.rdf_values.specs.{column_kind, columns_in, kind_or_int};
+ghost use Rattle.rdf_values.specs.{column_kind, kind_or_int};
 
 use crate::before::Before;
 use crate::tables::Change;
@@ -118,23 +118,15 @@ pub(crate) fn own_set(first: u32, count: u32) -> VarSet
     set
 }
 
-/// The variations on which an expression depends, where versions have those sets.
-#[tactic(auto, using(crate::proofs::Listing::any_distinct))]
-fn read_set(versions: &[VarSet], site: &Checked) -> VarSet
-    ensures { (v : ℕ) → has result v ≡ any_has versions.now (columns_in site.now.tree) v }
-{
-    set_of(versions, site.reads())
-}
-
 /// The variations on which expressions depend, by the sets of the versions so far.
-#[tactic(auto, using(crate::proofs::Listing::set_more))]
+#[tactic(auto, using(crate::proofs::Listing::set_more, crate::proofs::Listing::any_distinct))]
 pub(crate) fn sets_of(before: &Before<'_>, sites: &[Checked]) -> Result<Vec<VarSet>, Memory>
     ensures { IfOk result (λ sets. AreSets (read_sets before.now.tables.now.version_sets.items sites.now) sets.items) }
 {
     let versions = before.tables.version_sets.as_slice();
     let mut sets = Vec::new(before.alloc);
     for site in sites {
-        sets.push(read_set(versions, site))?;
+        sets.push(set_of(versions, site.reads()))?;
     }
     Ok(sets)
 }

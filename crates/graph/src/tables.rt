@@ -1,6 +1,7 @@
 // The tables that are kept while statements are booked.
-ghost use Rattle.std.specs.Prelude.{◌≤◌, length, ◌≡◌, ◌+◌, [], true, IfOk, OnOk};
+ghost use Rattle.std.specs.Prelude.{◌≤◌, length, ◌≡◌, ◌+◌, [], false, true, map, IfOk, OnOk};
 ghost use Rattle.rdf_values.specs.{AreShortValues, FunctionNames};
+ghost use Rattle.graph.specs.Dependence.{AreSets};
 ghost use Rattle.graph.specs.ShortProof.{short-prop};
 
 use crate::sets::VarSet;
@@ -60,30 +61,39 @@ pub struct Tables {
     pub variations: Variations,
 }
 
-/// Whether there is room for more versions.
 fn has_room(kinds: &[ColType], more: &[ColType]) -> bool
     ensures { result ≡ true → length kinds.now + length more.now ≤ 4294967295 }
 {
     kinds.len() <= MOST_VERSIONS && more.len() <= MOST_VERSIONS - kinds.len()
 }
 
+fn kinds_of(alloc: Global, header: &[Column]) -> Result<Vec<ColType>, Memory>
+    ensures { IfOk result (λ kinds. kinds.items ≡ map (λ c. c.kind) header.now) }
+{
+    Ok(header.iter().map(|column| column.kind).collect(alloc)?)
+}
+
+fn empty_sets(alloc: Global, header: &[Column]) -> Result<Vec<VarSet>, Memory>
+    ensures { IfOk result (λ sets. AreSets (map (λ _ v. false) header.now) sets.items) }
+{
+    let sets = vec![in alloc; VarSet::empty(); header.len()]?;
+    Ok(sets)
+}
+
 impl Tables {
     ghost use Rattle.graph.specs.{AreTables, GrowBy, IsEmptyGain};
 
     /// The tables before the first statement.
-    #[tactic(auto, using(crate::proofs::Listing::no_sets))]
     pub fn start(alloc: Global, header: &[Column]) -> Result<Tables, Memory>
         requires few { length header.now ≤ 64 }
         ensures { IfOk result (λ t. (names : FunctionNames) → AreTables header.now names [] t) }
     {
         let mut versions = Vec::new(alloc);
         push_cells(&mut versions, 0, header)?;
-        let kinds = header.iter().map(|column| column.kind).collect(alloc)?;
-        let version_sets = vec![in alloc; VarSet::empty(); header.len()]?;
         Ok(Tables {
             versions,
-            kinds,
-            version_sets,
+            kinds: kinds_of(alloc, header)?,
+            version_sets: empty_sets(alloc, header)?,
             ..Tables::empty(alloc)
         })
     }
