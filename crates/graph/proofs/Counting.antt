@@ -1,11 +1,11 @@
 -- Counts over the passes of results, by their rows.
 use Rattle.std.proofs.Common.{◌≡◌, ℕ, zero, suc, ◌+◌, ◌*◌, ◌≤◌, Bool, false, List, [], ◌∷◌, ◌++◌, length, Option, Some, None, Result, slice_get, nat_lt, if◌then◌else◌, refl, sym, ◌∙◌, ap, subst, arith, ◌<◌, ◌||◌, map, take, Decides}
-use Rattle.lemmas.proofs.{AllZip, append-nil, Decides-ltb, filter, length-append, length-map, sum_by, sum_by-cons, take_all}
+use Rattle.lemmas.proofs.{AllZip, Decides-ltb, filter, length-append, length-map, sum_by, sum_by-cons, take_all}
 use Rattle.rdf_values.specs.{ActionAt, ActionKind, AreAccepted, Booked, Booking, bookings, cells_of, check, check_columns, check_edges, check_node, check_passes, check_results, check_tags, check_target, check_values, Column, columns_of, first_refusal, FunctionNames, GraphCause, is_variation_name, over_passes, own_variations, passes_of, path, permitted_kinds, printed_results, refuse_if, repeats, result_depends, results_named, same, scope_at, scope_of, Statement, takes_of, Variation, variations, varied_passes, VaryValues}
-use Rattle.rdf_values.specs.declared.scripts.statement.Statement.TheVariants.{Action, Report, Print, Vary}
+use Rattle.rdf_values.specs.declared.scripts.statement.Statement.TheVariants.{Action, Print, Vary}
 use Rattle.rdf_values.specs.declared.scripts.graph_cause.GraphCause.TheVariants.{TooMany}
 use Rattle.graph_numbers.specs.{filter_sites, holds_at, version_at}
-use Rattle.graph.specs.{action_set, any_has, AreRows, AreTables, BeginsWith, Decides, depends_at, has, IsAmount, IsBookedRow, IsRow, IsSet, members_below, Numbers, printed_rows, result_sets, row_passes, rows_named, VarSet}
+use Rattle.graph.specs.{action_set, any_has, AreRows, AreTables, BeginsWith, Decides as Settles, depends_at, has, IsAmount, IsBookedRow, IsRow, IsSet, members_below, Numbers, printed_rows, result_sets, row_passes, rows_named, VarSet}
 use Rattle.graph.specs.declared.amounts.Amounts.{Amounts}
 use Rattle.graph.specs.declared.refusals.Stop.{Stop}
 use Rattle.graph.specs.declared.tables.ResultRow.{ResultRow}
@@ -173,14 +173,14 @@ module _ (header : List Column) (names : FunctionNames) where
   pub action_decided : (before : List Statement) → AreAccepted names (scope_of header) before → (rs : List ResultRow) → AreRows (bookings before) (result_sets header names before) rs → (name parent : List ℕ) (k : ActionKind) (x : Option GraphCause)
       → x ≡ first_refusal (check_node before name parent ∷ check_columns (scope_at names (scope_of header) before parent) (permitted_kinds k) [] (columns_of k) ∷ check_edges k ∷ check_results (Action name parent k ∷ before) ∷ []) → x ≡ None
       → (r : ResultRow) → IsBookedRow header names before (Action name parent k) r → (qs : List ResultRow) → qs ≡ rs → (a : Amounts) → IsAmount before (qs ++ r ∷ []) a → (y : Option GraphCause)
-      → y ≡ first_refusal (refuse_if (nat_lt 1048576 a.cells) TooMany ∷ refuse_if (nat_lt 16 a.takes) TooMany ∷ []) → (out : Result ResultRow Stop) → Decides y out → Decides (check names (scope_of header) before (Action name parent k)) out
+      → y ≡ first_refusal (refuse_if (nat_lt 1048576 a.cells) TooMany ∷ refuse_if (nat_lt 16 a.takes) TooMany ∷ []) → (out : Result ResultRow Stop) → Settles y out → Settles (check names (scope_of header) before (Action name parent k)) out
   action_decided before good rs h name parent k x is free r own qs same_rows a m y count out d =
       let rest : List (Option GraphCause) = check_edges k ∷ check_results (Action name parent k ∷ before) ∷ [] in
       let columns : Option GraphCause = check_columns (scope_at names (scope_of header) before parent) (permitted_kinds k) [] (columns_of k) in
       let known = (both_none columns rest (both_none (check_node before name parent) (columns ∷ rest) (sym is ∙ free)).1).0 in
       let passed = action_passed before good rs h name parent k known r own in
       let passes = passes_checked before (bookings (Action name parent k ∷ before)) (qs ++ r ∷ []) (subst (λ ss. AllPassed before (bookings (Action name parent k ∷ before)) (ss ++ r ∷ [])) (sym same_rows) passed) a m y count in
-      decided_last (check_node before name parent ∷ columns ∷ rest) (check_passes before (bookings (Action name parent k ∷ before))) x is free out (subst (λ o. Decides o out) passes d)
+      decided_last (check_node before name parent ∷ columns ∷ rest) (check_passes before (bookings (Action name parent k ∷ before))) x is free out (subst (λ o. Settles o out) passes d)
 
   -- ---- tables
 

@@ -1,5 +1,5 @@
 -- Tests over lists, places in lists, lists paired with lists, and lists of sets of variations.
-use Rattle.std.proofs.Common.{◌≡◌, ◌+◌, add-one, get_or, replicate, ℕ, zero, suc, Bool, true, false, ◌||◌, List, [], ◌∷◌, ◌++◌, map, length, Some, None, refl, sym, ◌∙◌, ap, subst, arith, slice_get, take, drop, if◌then◌else◌, not, Result, OnOk, nat_eq, append_assoc, ◌<◌}
+use Rattle.std.proofs.Common.{◌≡◌, ◌+◌, add-one, get_or, replicate, ℕ, zero, suc, Bool, true, false, ◌||◌, List, [], ◌∷◌, ◌++◌, map, length, Some, None, refl, sym, ◌∙◌, ap, subst, arith, slice_get, take, drop, if◌then◌else◌, not, nat_eq, ◌<◌}
 use Rattle.lemmas.proofs.{AllZip, any_at, eq_says, filter, kept_at, list_any, mapped_at, something_at}
 use Rattle.rdf_values.specs.{among, place, same, Booked, ColType, Column, columns_in, FunctionNames, Statement}
 use Rattle.rdf_model.proofs.Accepted.{names_equal}

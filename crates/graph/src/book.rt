@@ -1,10 +1,10 @@
 // The booking of a script's lines: each is checked after those before it, and then added.
 #![tactic(auto, using(crate::proofs::Checking::no_memory, crate::proofs::Checking::handed_on))]
 
-ghost use Rattle.std.specs.Prelude.{◌≡◌, ◌≤◌, ◌∷◌, [], length, reverse, None, Ok, Option, Result, IfOk, IfErr, ◌+◌};
+ghost use Rattle.std.specs.Prelude.{◌≡◌, ◌≤◌, ◌∷◌, [], length, reverse, None, Ok, Option, Result, IfOk, IfErr};
 ghost use Rattle.std.specs.List.{AllByRecursion};
 ghost use Rattle.rdf_values.specs.{check_node, first_refusal, GraphCause, IsShort, kind_of, refusal_in, scope_of};
-ghost use Rattle.graph.specs.{AreTables, IsRefusal, IsStop, refused, refused_then, statements, Decides, IsGainAfter, verdict_after, history, IsColumnGain, IsEmptyGain, IsMadeGain, IsRowGain, IsVaryGain, named_rows, scope_before, sites_so_far, variation_count};
+ghost use Rattle.graph.specs.{AreTables, IsRefusal, IsStop, refused, refused_then, statements, Decides, IsGainAfter, verdict_after, history, IsColumnGain, IsEmptyGain, IsMadeGain, IsRowGain, named_rows, scope_before, sites_so_far};
 ghost use Rattle.rdf_values.specs.declared.scripts.statement.Statement.TheVariants.{Alias, Filter, Vary};
 ghost use Rattle.graph.specs.declared.tables.ResultRow.{ResultRow};
 
@@ -142,28 +142,25 @@ pub(crate) fn check_statement(before: &Before<'_>, statement: &Statement) -> Res
             column,
             target,
         } => nothing(
-            before.alloc,
+            before,
             Ok(check_alias(before, node, parent, column, target)),
         ),
         Statement::VariationsFor { result } => nothing(
-            before.alloc,
+            before,
             check_variations_for(before, result),
         ),
-        Statement::Watch { result } => nothing(before.alloc, Ok(check_watch(before, result))),
-        Statement::Print { result } => nothing(before.alloc, check_print(before, result)),
+        Statement::Watch { result } => nothing(before, Ok(check_watch(before, result))),
+        Statement::Print { result } => nothing(before, check_print(before, result)),
     }
 }
 
 /// Nothing, where a refusal is none.
-pub(crate) fn nothing(
-    alloc: Global,
-    refusal: Result<Option<GraphCause>, Memory>,
-) -> Result<Tables, Stop>
+fn nothing(before: &Before<'_>, refusal: Result<Option<GraphCause>, Memory>) -> Result<Tables, Stop>
     ensures empty { IfOk result IsEmptyGain }
     ensures decided { (wanted : Option GraphCause) → IfOk refusal (λ o. o ≡ wanted) → Decides wanted result }
 {
     stop_if(refusal?)?;
-    Ok(Tables::empty(alloc))
+    Ok(Tables::empty(before.alloc))
 }
 
 /// The sites of a named Filter: of those above it, and its own.

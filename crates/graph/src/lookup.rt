@@ -1,8 +1,8 @@
 // Look-ups in the statements so far, the latest first: each walks them as its definition does.
 ghost use Rattle.std.specs.Prelude.{◌≡◌, ◌<◌, ◌≤◌, ◌+◌, true, false, codes, length, MatchOption, IfSome, Some, option_map, slice_get, IfOk, List, []};
 ghost use Rattle.std.specs.List.{list_any};
-ghost use Rattle.rdf_values.specs.{FunctionNames, is_alias, is_in_use, is_node, is_result, is_visible, makes, parent_of, path, place, same, scope_at, scope_of, target_of, expression_count, named_before, ActionAt, among, booked_by, bookings, can_watch, filled, is_report, is_watched, names_of, Path, result_is, Statement, watched_results};
-ghost use Rattle.graph.specs.{books, own_target, own_visible, statements, count_from, filter_numbers, is_named, labels, own_label, site_total, expression_total, is_filter, own_site_total, result_in};
+ghost use Rattle.rdf_values.specs.{FunctionNames, is_alias, is_in_use, is_node, is_result, is_visible, makes, parent_of, path, place, same, scope_at, scope_of, target_of, expression_count, named_before, ActionAt, among, bookings, can_watch, filled, is_report, is_watched, names_of, Path, result_is, Statement, watched_results};
+ghost use Rattle.graph.specs.{books, own_target, own_visible, statements, count_from, filter_numbers, is_named, labels, own_label, site_total, expression_total, is_filter, own_site_total};
 ghost use Rattle.graph_numbers.specs.{column_place, covered_at, filters_on, named_version, own_columns, own_version, version_count, list_start};
 ghost use Rattle.rdf_values.specs.declared.scripts.statement.Statement.TheVariants.{Watch};
 
@@ -469,18 +469,6 @@ fn can_watch(kind: &ActionKind) -> bool
     )
 }
 
-fn own_watchable(statement: &Statement, name: &Name) -> bool
-    ensures { (before : List Statement) → result ≡ result_in can_watch name.now (booked_by before statement.now) }
-{
-    matches!(statement, Statement::Action { result, kind, .. } if result.is(name) && can_watch(kind))
-}
-
-fn own_report(statement: &Statement, name: &Name) -> bool
-    ensures { (before : List Statement) → result ≡ result_in is_report name.now (booked_by before statement.now) }
-{
-    matches!(statement, Statement::Report { result, .. } if result.is(name))
-}
-
 /// Whether the result of that name may be watched.
 #[tactic(auto, using(crate::proofs::Walking::result_is_step))]
 pub(crate) fn is_watchable(before: &[Line], name: &Name) -> bool
@@ -489,7 +477,11 @@ pub(crate) fn is_watchable(before: &[Line], name: &Name) -> bool
     let Some((last, rest)) = before.split_first() else {
         return false;
     };
-    is_watchable(rest, name) || own_watchable(&last.statement, name)
+    let own = matches!(
+        &last.statement,
+        Statement::Action { result, kind, .. } if result.is(name) && can_watch(kind)
+    );
+    own || is_watchable(rest, name)
 }
 
 /// Whether the result of that name is a report.
@@ -500,7 +492,8 @@ pub(crate) fn is_report(before: &[Line], name: &Name) -> bool
     let Some((last, rest)) = before.split_first() else {
         return false;
     };
-    is_report(rest, name) || own_report(&last.statement, name)
+    let own = matches!(&last.statement, Statement::Report { result, .. } if result.is(name));
+    own || is_report(rest, name)
 }
 
 /// How many results there are.

@@ -63,6 +63,7 @@ impl LoopTables {
     }
 
     /// Adds a Print after the lines before it: where its result isn't filled yet, it runs a loop over all results that wait.
+    #[tactic(auto, using(crate::proofs::Looped::in_bounds))]
     fn add_print(
         &mut self,
         alloc: Global,
@@ -96,6 +97,7 @@ impl LoopTables {
 }
 
 /// The loops of lines of a script, the latest first.
+#[tactic(auto, using(crate::proofs::Looped::begins_further))]
 pub(crate) fn loop_tables(
     alloc: Global,
     script: &ScriptRows<'_>,

@@ -1,4 +1,4 @@
-use Rattle.std.proofs.Common.{Bool, false, map, subst, sym, ℕ}
+use Rattle.std.proofs.Common.{false, map, subst, sym, ℕ}
 use Rattle.rdf_values.specs.{Column}
 use Rattle.graph.specs.{AreSets}
 use Rattle.graph.proofs.Listing.{no_sets}

@@ -8,14 +8,8 @@ pub unreachable-requires : goal.unreachable-requires
 unreachable-requires c =
     print_no_row (statements c.args.script.now.lines.now) (statements c.args.before.now) c.args.name.now c.args.script.now.results.now c.requires.named.0 c.requires.begins c.args.script.now.are.rows c.in-None.ensures.value
 
-pub waiting_passes-requires : goal.waiting_passes-requires
-waiting_passes-requires = grind (arith, in_bounds)
-
 pub overflow_cast-place : goal.overflow_cast-place
 overflow_cast-place = grind (arith, in_bounds, length-map)
-
-pub overflow_sub-booked : goal.overflow_sub-booked
-overflow_sub-booked = grind (arith, in_bounds)
 
 pub returns-then-n-filled : goal.returns-then-n-filled
 returns-then-n-filled c =
