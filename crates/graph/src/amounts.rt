@@ -54,7 +54,6 @@ pub(crate) fn takes_of(action: &ActionKind) -> usize
     usize::from(matches!(action, ActionKind::Take(_)))
 }
 
-/// Whether the variations of the result are asked for.
 pub(crate) fn has_variations(before: &[Line], name: &Name) -> bool
     ensures { result ≡ has_variations (statements before.now) name.now }
 {
@@ -178,7 +177,6 @@ pub(crate) fn amounts_with(
     both(others, own)
 }
 
-/// Whether cells or Takes are too many.
 pub(crate) fn too_many(a: Amounts) -> Option<GraphCause>
     ensures { result ≡ first_refusal (refuse_if (nat_lt 1048576 a.cells) cause_of.TooMany ∷ refuse_if (nat_lt 16 a.takes) cause_of.TooMany ∷ []) }
 {

@@ -102,7 +102,6 @@ pub(crate) struct Before<'a> {
 impl Before<'_> {
     ghost use Rattle.graph.specs.{AreNoted, Decides, history, IsCheckedBefore, IsFound, IsScopeAt, IsScopeOf, named_version_before, scope_before, sites_so_far};
 
-    /// How many sites there are.
     pub(crate) fn sites(&self) -> u32
         ensures value { result ≡ sites_so_far self.now }
         ensures few { result ≤ 16777216 }
@@ -208,7 +207,6 @@ impl Before<'_> {
         ])
     }
 
-    /// Whether a column is visible at a node.
     pub(crate) fn sees(&self, node: &Name, column: &Name) -> bool
         ensures { result ≡ is_visible (scope_before self.now node.now) column.now }
     {

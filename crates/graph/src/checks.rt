@@ -220,7 +220,6 @@ fn one_result_more(before: &[Line]) -> Option<GraphCause>
     refuse_if(result_count(before) >= 64, GraphCause::TooMany)
 }
 
-/// A Report, and its row.
 pub(crate) fn check_report(
     before: &Before<'_>,
     name: &Name,

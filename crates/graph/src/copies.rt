@@ -44,7 +44,6 @@ pub(crate) fn copy_kind(alloc: Global, kind: &ActionKind) -> Result<ActionKind, 
     })
 }
 
-/// A copy of a table's columns.
 pub(crate) fn copy_header(alloc: Global, header: &[Column]) -> Result<ListOf<Column>, Memory>
     ensures { IfOk result (λ c. c ≡ header.now) }
 {
@@ -59,7 +58,6 @@ pub(crate) fn copy_header(alloc: Global, header: &[Column]) -> Result<ListOf<Col
     Ok(columns)
 }
 
-/// A copy of functions' names.
 pub(crate) fn copy_names(alloc: Global, names: &[FnName]) -> Result<ListOf<FnName>, Memory>
     ensures { IfOk result (λ c. c ≡ names.now) }
 {
@@ -92,7 +90,6 @@ pub(crate) fn push_many(items: &mut Vec<u32>, item: u32, count: usize) -> Result
     push_many(items, item, count - 1)
 }
 
-/// Appends a copy of a name.
 pub(crate) fn push_name(alloc: Global, names: &mut Vec<Name>, name: &Name) -> Result<(), Memory>
     ensures { OnOk result (names.new.items ≡ names.old.items ++ name.now ∷ []) }
 {

@@ -426,7 +426,6 @@ fn filled_lines(before: &[Line]) -> &[Line]
     }
 }
 
-/// Whether the result is filled.
 pub(crate) fn is_filled(before: &[Line], name: &Name) -> bool
     ensures { result ≡ among name.now (filled (statements before.now)) }
 {
@@ -444,7 +443,6 @@ pub(crate) fn is_watched(lines: &[Line], name: &Name) -> bool
     own || is_watched(rest, name)
 }
 
-/// How many results are watched.
 #[tactic(auto, using(crate::proofs::Walking::watched_among))]
 pub(crate) fn watched_count(before: &[Line]) -> usize
     ensures value { result ≡ length (watched_results (statements before.now)) }
@@ -484,7 +482,6 @@ pub(crate) fn is_watchable(before: &[Line], name: &Name) -> bool
     own || is_watchable(rest, name)
 }
 
-/// Whether the result of that name is a report.
 #[tactic(auto, using(crate::proofs::Walking::result_is_step))]
 pub(crate) fn is_report(before: &[Line], name: &Name) -> bool
     ensures { result ≡ result_is is_report (statements before.now) name.now }
@@ -496,7 +493,6 @@ pub(crate) fn is_report(before: &[Line], name: &Name) -> bool
     own || is_report(rest, name)
 }
 
-/// How many results there are.
 #[tactic(auto, using(crate::proofs::Walking::count_step))]
 pub(crate) fn result_count(before: &[Line]) -> usize
     ensures value { result ≡ length (bookings (statements before.now)) }
