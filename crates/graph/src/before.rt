@@ -57,15 +57,6 @@ fn push_names_of_all(alloc: Global, columns: &mut Vec<Name>, args: &Args) -> Res
     }
 }
 
-/// The columns that stand in an expression, from left to right.
-fn names_in(alloc: Global, expr: &Expr) -> Result<Vec<Name>, Memory>
-    ensures { IfOk result (λ v. v.items ≡ columns_in expr.now) }
-{
-    let mut columns = Vec::new(alloc);
-    push_names(alloc, &mut columns, &expr.node)?;
-    Ok(columns)
-}
-
 #[tactic(auto, using(crate::proofs::Checking::cause_refused))]
 fn stop_of(refusal: CheckRefusal) -> Stop
     ensures { (wanted : Result ColType GraphCause) → RefusedAs refusal wanted → IsStop (refusal_in wanted) result }
@@ -156,10 +147,8 @@ impl Before<'_> {
     pub(crate) fn kind_at(&self, node: &Name, column: &Name) -> ColType
         ensures { result ≡ kind_or_int (column_kind (scope_before self.now node.now) column.now) }
     {
-        match self.find_column(node, column) {
-            Some((kind, _)) => kind,
-            None => ColType::Int,
-        }
+        let found = self.find_column(node, column);
+        found.map_or(ColType::Int, |(kind, _)| kind)
     }
 
     /// Brings a column into a scope, unless it is there or isn't visible.
@@ -191,7 +180,8 @@ impl Before<'_> {
     fn scope_for(&self, node: &Name, expr: &Expr) -> Result<Scope, Memory>
         ensures { IfOk result (λ scope. IsScopeOf self.now.header.now self.now.names.now (history self.now) node.now self.now.tables.now.kinds.items expr.now scope) }
     {
-        let columns = names_in(self.alloc, expr)?;
+        let mut columns = Vec::new(self.alloc);
+        push_names(self.alloc, &mut columns, &expr.node)?;
         let mut scope = Scope::new(self.alloc);
         self.note_all(node, &mut scope, columns.as_slice())?;
         Ok(scope)

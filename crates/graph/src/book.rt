@@ -243,6 +243,7 @@ fn row_gain(alloc: Global, row: Result<ResultRow, Stop>) -> Result<Tables, Stop>
     })
 }
 
+#[tactic(auto, using(crate::proofs::Checking::no_memory, crate::proofs::Checking::handed_on, crate::proofs::Counting::few_with))]
 pub(crate) fn vary_gain(
     before: &Before<'_>,
     node: &Name,

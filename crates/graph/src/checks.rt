@@ -45,17 +45,12 @@ fn repeats(names: &[Name]) -> bool
 fn check_tags(known: &Variations, tags: &[Name], name: &Name) -> Option<GraphCause>
     ensures { (before : List Statement) → known.now ≡ variations before → result ≡ check_tags before tags.now name.now }
 {
+    let many = tags.len() > MOST_TAGS || known.len() as usize + tags.len() > MOST_VARIATIONS;
     first_of(&[
         refuse_if(repeats(tags), GraphCause::NameTaken),
         refuse_if(known.has(name), GraphCause::NameTaken),
-        refuse_if(are_too_many(known, tags), GraphCause::TooMany),
+        refuse_if(many, GraphCause::TooMany),
     ])
-}
-
-fn are_too_many(known: &Variations, tags: &[Name]) -> bool
-    ensures { (before : List Statement) → known.now ≡ variations before → result ≡ (nat_lt 16 (length tags.now) || nat_lt 128 (length (variations before) + length tags.now)) }
-{
-    tags.len() > MOST_TAGS || known.len() as usize + tags.len() > MOST_VARIATIONS
 }
 
 fn check_targets(before: &Before<'_>, parent: &Name, columns: &[Name]) -> Option<GraphCause>
@@ -282,7 +277,9 @@ pub(crate) fn check_action(
     ensures row { IfOk result (IsRowAfter before.now (Action name.now parent.now action.now)) }
     ensures decided { Decides (verdict_after before.now (Action name.now parent.now action.now)) result }
 {
-    let wrong = action_columns(before, parent, action)?;
+    let columns = columns_of(before.alloc, action)?;
+    let mut kinds = Vec::new(before.alloc);
+    let wrong = check_columns(before, parent, action, &mut kinds, columns.as_slice())?;
     stop_if(first_of(&[
         before.check_node(name, parent),
         wrong,
@@ -476,16 +473,4 @@ pub(crate) fn check_edges(action: &ActionKind) -> Option<GraphCause>
         _ => true,
     };
     refuse_unless(fit, GraphCause::BadEdges)
-}
-
-pub(crate) fn action_columns(
-    before: &Before<'_>,
-    node: &Name,
-    action: &ActionKind,
-) -> Result<Option<GraphCause>, Memory>
-    ensures { IfOk result (λ o. o ≡ check_columns (scope_before before.now node.now) (permitted_kinds action.now) [] (columns_of action.now)) }
-{
-    let columns = columns_of(before.alloc, action)?;
-    let mut seen = Vec::new(before.alloc);
-    check_columns(before, node, action, &mut seen, columns.as_slice())
 }

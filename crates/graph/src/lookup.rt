@@ -73,15 +73,6 @@ pub fn is_node(before: &[Line], node: &Name) -> bool
     node.bytes() == b"df".as_slice() || is_made_node(before, node)
 }
 
-fn books(statement: &Statement, name: &Name) -> bool
-    ensures { result ≡ books statement.now name.now }
-{
-    match statement {
-        Statement::Action { result, .. } | Statement::Report { result, .. } => name.is(result),
-        _ => false,
-    }
-}
-
 /// Whether the name is a result's.
 #[tactic(auto, using(crate::proofs::Walking::result_step))]
 pub fn is_result(before: &[Line], name: &Name) -> bool
@@ -90,7 +81,11 @@ pub fn is_result(before: &[Line], name: &Name) -> bool
     let Some((last, rest)) = before.split_first() else {
         return false;
     };
-    is_result(rest, name) || books(&last.statement, name)
+    let own = matches!(
+        &last.statement,
+        Statement::Action { result, .. } | Statement::Report { result, .. } if name.is(result)
+    );
+    own || is_result(rest, name)
 }
 
 /// Whether the name is a node's or a result's.
@@ -294,12 +289,6 @@ pub fn own_site_total(statement: &Statement, most: usize) -> usize
     }
 }
 
-pub(crate) fn is_filter(statement: &Statement) -> bool
-    ensures { result ≡ is_filter statement.now }
-{
-    matches!(statement, Statement::Filter { .. })
-}
-
 /// The sites of the filters above a node, head first, where there are so many sites.
 pub(crate) fn filter_sites(
     alloc: Global,
@@ -318,18 +307,12 @@ pub(crate) fn filter_sites(
         None => filter_sites(alloc, rest, first, node),
         Some(parent) => {
             let mut above = filter_sites(alloc, rest, first, parent)?;
-            if is_filter(&last.statement) {
+            if matches!(&last.statement, Statement::Filter { .. }) {
                 above.push(first)?;
             }
             Ok(above)
         }
     }
-}
-
-fn is_named(statement: &Statement) -> bool
-    ensures { result ≡ is_named statement.now }
-{
-    matches!(statement, Statement::Filter { label: Some(_), .. })
 }
 
 fn own_label(statement: &Statement) -> Option<&Label>
@@ -374,7 +357,7 @@ fn named_on(alloc: Global, before: &[Line], count: u32, node: &Name) -> Result<L
     let Some((last, rest)) = before.split_first() else {
         return Ok(ListOf::new(alloc));
     };
-    let own = is_named(&last.statement);
+    let own = matches!(&last.statement, Statement::Filter { label: Some(_), .. });
     let first = if own { count - 1 } else { count };
     match made_from(&last.statement, node) {
         None => named_on(alloc, rest, first, node),
