@@ -2,7 +2,7 @@
 ghost use Rattle.std.specs.Prelude.{◌≡◌, ◌<◌, ◌≤◌, ◌+◌, true, false, codes, length, MatchOption, IfSome, Some, option_map, slice_get, IfOk, List, []};
 ghost use Rattle.std.specs.List.{list_any};
 ghost use Rattle.rdf_values.specs.{FunctionNames, is_alias, is_in_use, is_node, is_result, is_visible, makes, parent_of, path, place, same, scope_at, scope_of, target_of, expression_count, named_before, ActionAt, among, bookings, can_watch, filled, is_report, is_watched, names_of, Path, result_is, Statement, watched_results};
-ghost use Rattle.graph.specs.{books, own_target, own_visible, statements, count_from, filter_numbers, is_named, labels, own_label, site_total, expression_total, is_filter, own_site_total};
+ghost use Rattle.graph.specs.{own_target, own_visible, statements, count_from, filter_numbers, labels, own_label, site_total, expression_total, own_site_total};
 ghost use Rattle.graph_numbers.specs.{column_place, covered_at, filters_on, named_version, own_columns, own_version, version_count, list_start};
 ghost use Rattle.rdf_values.specs.declared.scripts.statement.Statement.TheVariants.{Watch};
 

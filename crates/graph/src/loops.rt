@@ -87,7 +87,9 @@ impl LoopTables {
             self.note(n as u32, None, filler)
         } else {
             let booked = result_count(before);
-            let passes = waiting_passes(alloc, script, filled, booked)?;
+            let open = &script.results[filled..booked];
+            let mut passes = ListOf::new(alloc);
+            push_passes(&mut passes, script, filled as u32, open)?;
             let place = self.loops.len() as u32;
             push(&mut self.loops, passes)?;
             push_many(&mut self.fillers, place, booked - filled)?;
@@ -178,23 +180,6 @@ fn push_passes(
         push_varied(passes, n, first.set, 0, script.variations)?;
     }
     push_passes(passes, script, n + 1, rest)
-}
-
-/// The passes of the results from the first that isn't filled to the last that is booked.
-fn waiting_passes(
-    alloc: Global,
-    script: &ScriptRows<'_>,
-    filled: usize,
-    booked: usize,
-) -> Result<ListOf<Pass>, Memory>
-    requires order { filled ≤ booked }
-    requires within { booked ≤ length script.now.results.now }
-    ensures { IfOk result (λ p. p ≡ passes_of_rows (statements script.now.lines.now) script.now.variations filled (take (booked - filled) (drop filled script.now.results.now))) }
-{
-    let mut passes = ListOf::new(alloc);
-    let open = &script.results[filled..booked];
-    push_passes(&mut passes, script, filled as u32, open)?;
-    Ok(passes)
 }
 
 /// For each result whether partial results of it are asked for.
