@@ -1,5 +1,5 @@
 // The event loops of a script and the loop that each Print runs.
-ghost use Rattle.std.specs.Prelude.{◌≡◌, ◌≤◌, ◌<◌, ◌+◌, ◌++◌, ◌∷◌, [], Some, length, map, take, drop, ◌-◌, List, IfOk, IfSome, OnOk, slice_get};
+ghost use Rattle.std.specs.Prelude.{◌≡◌, ◌≤◌, ◌<◌, ◌+◌, ◌++◌, ◌∷◌, [], Some, length, map, List, IfOk, IfSome, OnOk, slice_get};
 ghost use Rattle.rdf_values.specs.{is_watched, place, same};
 ghost use Rattle.graph_numbers.specs.{numbered_pass};
 ghost use Rattle.graph.specs.LoopRows.{AreNamedInTurn, members_from, IsScriptRows, passes_of_rows, AreLoops, BeginsWith};
