@@ -1,25 +1,20 @@
 -- Counts over the passes of results, by their rows.
-use Rattle.std.proofs.Common.{◌≡◌, ℕ, zero, suc, ◌+◌, ◌*◌, ◌≤◌, Bool, false, List, [], ◌∷◌, ◌++◌, length, Option, Some, None, slice_get, nat_lt, if◌then◌else◌, refl, sym, ◌∙◌, ap, subst, arith, ◌<◌, ◌||◌, map, take, Decides}
-use Rattle.lemmas.proofs.{AllZip, append-nil, Decides-ltb, filter, length-append, length-map, sum_by, sum_by-cons, take_all}
-use Rattle.rdf_values.specs.{ActionAt, ActionKind, AreAccepted, Booked, Booking, bookings, cells_of, check, check_columns, check_node, check_passes, check_tags, check_target, check_values, Column, columns_of, first_refusal, FunctionNames, GraphCause, is_variation_name, over_passes, own_variations, passes_of, path, permitted_kinds, printed_results, refuse_if, repeats, result_depends, results_named, same, scope_at, scope_of, Statement, takes_of, Variation, variations, varied_passes, VaryValues}
-use Rattle.rdf_values.specs.declared.scripts.statement.Statement.TheVariants.{Action, Report, Print, Vary}
+use Rattle.std.proofs.Common.{◌≡◌, ℕ, zero, suc, ◌+◌, ◌*◌, ◌≤◌, Bool, false, List, [], ◌∷◌, ◌++◌, length, Option, Some, None, Result, slice_get, nat_lt, if◌then◌else◌, refl, sym, ◌∙◌, ap, subst, arith, ◌<◌, ◌||◌, map, take, Decides}
+use Rattle.lemmas.proofs.{AllZip, Decides-ltb, filter, length-append, length-map, sum_by, sum_by-cons, take_all}
+use Rattle.rdf_values.specs.{ActionAt, ActionKind, AreAccepted, Booked, Booking, bookings, cells_of, check, check_columns, check_edges, check_node, check_passes, check_results, check_tags, check_target, check_values, Column, columns_of, first_refusal, FunctionNames, GraphCause, is_variation_name, over_passes, own_variations, passes_of, path, permitted_kinds, printed_results, refuse_if, repeats, result_depends, results_named, same, scope_at, scope_of, Statement, takes_of, Variation, variations, varied_passes, VaryValues}
+use Rattle.rdf_values.specs.declared.scripts.statement.Statement.TheVariants.{Action, Print, Vary}
 use Rattle.rdf_values.specs.declared.scripts.graph_cause.GraphCause.TheVariants.{TooMany}
 use Rattle.graph_numbers.specs.{filter_sites, holds_at, version_at}
-use Rattle.graph.specs.{action_set, any_has, AreRows, AreTables, depends_at, front, has, IsAmount, IsBookedRow, IsRow, IsSet, members_below, Numbers, printed_rows, result_sets, row_passes, rows_named, VarSet}
+use Rattle.graph.specs.{action_set, any_has, AreRows, AreTables, BeginsWith, Decides as Settles, depends_at, has, IsAmount, IsBookedRow, IsRow, IsSet, members_below, Numbers, printed_rows, result_sets, row_passes, rows_named, VarSet}
 use Rattle.graph.specs.declared.amounts.Amounts.{Amounts}
+use Rattle.graph.specs.declared.refusals.Stop.{Stop}
 use Rattle.graph.specs.declared.tables.ResultRow.{ResultRow}
-use Rattle.graph.proofs.Listing.{zip_both, zip_by, sets_any, row_set}
+use Rattle.graph.proofs.Checking.{decided_last}
+use Rattle.graph.proofs.Listing.{zip_both, zip_by, zip_first, sets_any, row_set}
+use Rattle.graph.proofs.Looped.{begins_further}
 use Rattle.rdf_model.proofs.Accepted.{both_none, if_fails}
 use Rattle.graph.specs.declared.tables.Tables.{Tables}
 use Rattle.graph.proofs.Depending.{action_is, known_at, result_is, tags_count}
-
-pub front_is : (rows xs : List ResultRow) (x : ResultRow) → rows ≡ xs ++ x ∷ [] → front rows ≡ xs
-front_is rows xs x e = ap front e ∙ go xs
-  where
-    go : (ys : List ResultRow) → front (ys ++ x ∷ []) ≡ ys
-    go [] = refl
-    go (y ∷ []) = refl
-    go (y ∷ z ∷ ys) = ap (λ zs. y ∷ zs) (go (z ∷ ys))
 
 -- ---- how many members
 
@@ -89,33 +84,21 @@ module _ (script : List Statement) where
           → AllPassed (if x then b ∷ results_named name bs else results_named name bs) (if y then r ∷ rows_named name rs else rows_named name rs)
       go x y e k = grind arith
 
-  front_passed : (bs : List Booked) (b : Booked) (rs : List ResultRow) → AllPassed (bs ++ b ∷ []) rs → AllPassed bs (front rs)
-  front_passed [] b [] h = elim h [ ]
-  front_passed [] b (r ∷ []) h = tt
-  front_passed [] b (r ∷ q ∷ rs) h = elim h.1 [ ]
-  front_passed (x ∷ bs) b [] h = elim h [ ]
-  front_passed (x ∷ bs) b (r ∷ []) h = go bs h.1
-    where
-      go : (ys : List Booked) → AllPassed (ys ++ b ∷ []) [] → AllPassed (x ∷ bs) []
-      go [] k = elim k [ ]
-      go (y ∷ ys) k = elim k [ ]
-  front_passed (x ∷ bs) b (r ∷ q ∷ rs) h = (h.0, front_passed bs b (q ∷ rs) h.1)
-
-  same_rows : (before : List Statement) (rs : List ResultRow) → AllPassed (bookings before ++ []) rs → AllPassed (bookings before) rs
-  same_rows before rs h = subst (λ bs. AllPassed bs rs) (append-nil (bookings before)) h
-
   -- the rows of the printed results are theirs
-  pub printed_passed : (before : List Statement) (rs : List ResultRow) → AllPassed (bookings before) rs → AllPassed (printed_results before) (printed_rows before rs)
-  printed_passed [] [] h = tt
-  printed_passed [] (r ∷ rs) h = elim h [ ]
-  printed_passed (Print p ∷ before) rs h = grind (arith, passed_both, named_passed, same_rows, printed_passed before rs (same_rows before rs h))
-  printed_passed (Action name parent k ∷ before) rs h = printed_passed before (front rs) (front_passed (bookings before) _ rs h)
-  printed_passed (Report name parent ∷ before) rs h = printed_passed before (front rs) (front_passed (bookings before) _ rs h)
-  printed_passed (s ∷ before) rs h = printed_passed before rs (same_rows before rs h)
+  pub printed_passed : (all : List Statement) (rs : List ResultRow) → AllPassed (bookings all) rs → (before : List Statement) → BeginsWith all before → AllPassed (printed_results before) (printed_rows before rs)
+  printed_passed all rs h [] e = tt
+  printed_passed all rs h (Print p ∷ before) e =
+      let f = begins_further all before (Print p) e in
+      let first = zip_first IsPassed (length (bookings before)) (bookings all) rs h in
+      passed_both (results_named p (bookings before)) (printed_results before) (rows_named p (take (length (bookings before)) rs)) (printed_rows before rs)
+      (named_passed p (bookings before) (take (length (bookings before)) rs) (subst (λ bs. AllPassed bs (take (length (bookings before)) rs)) f first)) (printed_passed all rs h before f)
+  printed_passed all rs h (s ∷ before) e = printed_passed all rs h before (begins_further all before s e)
 
   -- and with those of one Print more
-  pub printed_with : (before : List Statement) (name : List ℕ) (rs : List ResultRow) → AllPassed (bookings before) rs → AllPassed (printed_results (Print name ∷ before)) (printed_rows (Print name ∷ before) rs)
-  printed_with before name rs h = passed_both (results_named name (bookings before)) (printed_results before) (rows_named name rs) (printed_rows before rs) (named_passed name (bookings before) rs h) (printed_passed before rs h)
+  pub printed_with : (before : List Statement) (name : List ℕ) (rs : List ResultRow) → AllPassed (bookings before) rs → AllPassed (printed_results (Print name ∷ before)) (rows_named name rs ++ printed_rows before rs)
+  printed_with before name rs h =
+      passed_both (results_named name (bookings before)) (printed_results before) (rows_named name rs) (printed_rows before rs) (named_passed name (bookings before) rs h)
+      (printed_passed before rs h before (take_all (bookings before) (length (bookings before)) (omega arith)))
 
 module _ (header : List Column) (names : FunctionNames) where
   -- a Vary that was checked makes at most 128 variations with those before it
@@ -171,7 +154,7 @@ module _ (header : List Column) (names : FunctionNames) where
   rows_passed script before h good rs k = grind (arith, passed_from, few_variations, depends_is)
 
   -- the rows of the tables and of one action more
-  pub action_passed : (before : List Statement) → AreAccepted names (scope_of header) before → (rs : List ResultRow) → AreRows (bookings before) (result_sets header names before) rs
+  action_passed : (before : List Statement) → AreAccepted names (scope_of header) before → (rs : List ResultRow) → AreRows (bookings before) (result_sets header names before) rs
       → (name parent : List ℕ) (k : ActionKind) → check_columns (scope_at names (scope_of header) before parent) (permitted_kinds k) [] (columns_of k) ≡ None
       → (r : ResultRow) → IsBookedRow header names before (Action name parent k) r
       → AllPassed before (bookings (Action name parent k ∷ before)) (rs ++ r ∷ [])
@@ -185,6 +168,19 @@ module _ (header : List Column) (names : FunctionNames) where
         },
         tt,
       )
+
+  -- an action's checks, and then that of its passes
+  pub action_decided : (before : List Statement) → AreAccepted names (scope_of header) before → (rs : List ResultRow) → AreRows (bookings before) (result_sets header names before) rs → (name parent : List ℕ) (k : ActionKind) (x : Option GraphCause)
+      → x ≡ first_refusal (check_node before name parent ∷ check_columns (scope_at names (scope_of header) before parent) (permitted_kinds k) [] (columns_of k) ∷ check_edges k ∷ check_results (Action name parent k ∷ before) ∷ []) → x ≡ None
+      → (r : ResultRow) → IsBookedRow header names before (Action name parent k) r → (qs : List ResultRow) → qs ≡ rs → (a : Amounts) → IsAmount before (qs ++ r ∷ []) a → (y : Option GraphCause)
+      → y ≡ first_refusal (refuse_if (nat_lt 1048576 a.cells) TooMany ∷ refuse_if (nat_lt 16 a.takes) TooMany ∷ []) → (out : Result ResultRow Stop) → Settles y out → Settles (check names (scope_of header) before (Action name parent k)) out
+  action_decided before good rs h name parent k x is free r own qs same_rows a m y count out d =
+      let rest : List (Option GraphCause) = check_edges k ∷ check_results (Action name parent k ∷ before) ∷ [] in
+      let columns : Option GraphCause = check_columns (scope_at names (scope_of header) before parent) (permitted_kinds k) [] (columns_of k) in
+      let known = (both_none columns rest (both_none (check_node before name parent) (columns ∷ rest) (sym is ∙ free)).1).0 in
+      let passed = action_passed before good rs h name parent k known r own in
+      let passes = passes_checked before (bookings (Action name parent k ∷ before)) (qs ++ r ∷ []) (subst (λ ss. AllPassed before (bookings (Action name parent k ∷ before)) (ss ++ r ∷ [])) (sym same_rows) passed) a m y count in
+      decided_last (check_node before name parent ∷ columns ∷ rest) (check_passes before (bookings (Action name parent k ∷ before))) x is free out (subst (λ o. Settles o out) passes d)
 
   -- ---- tables
 

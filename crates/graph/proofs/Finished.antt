@@ -266,9 +266,6 @@ module _ {g : GraphView} {t : Tables} {l : LoopTables} {w : List Bool} (h : IsBo
 
   -- ---- named filters
 
-  pub filter_count : length t.filters.items ≡ length (graph_filters g)
-  filter_count = ap length h.tables.filters ∙ length-map (graph_filters g) (λ (f : FilterAt). f.sites)
-
   pub label_count : length t.filters.items ≡ length (named_before (booked_statements g))
   label_count = filters_are g.header g.names (booked_statements g) t h.tables
 

@@ -1,11 +1,11 @@
 -- Tests over lists, places in lists, lists paired with lists, and lists of sets of variations.
-use Rattle.std.proofs.Common.{◌≡◌, ℕ, zero, suc, Bool, true, false, ◌||◌, List, [], ◌∷◌, ◌++◌, map, length, Some, None, refl, sym, ◌∙◌, ap, subst, arith, slice_get, take, drop, if◌then◌else◌, not, Result, OnOk, nat_eq, append_assoc, ◌<◌}
+use Rattle.std.proofs.Common.{◌≡◌, ◌+◌, add-one, get_or, replicate, ℕ, zero, suc, Bool, true, false, ◌||◌, List, [], ◌∷◌, ◌++◌, map, length, Some, None, refl, sym, ◌∙◌, ap, subst, arith, slice_get, take, drop, if◌then◌else◌, not, nat_eq, ◌<◌}
 use Rattle.lemmas.proofs.{AllZip, any_at, eq_says, filter, kept_at, list_any, mapped_at, something_at}
 use Rattle.rdf_values.specs.{among, place, same, Booked, ColType, Column, columns_in, FunctionNames, Statement}
 use Rattle.rdf_model.proofs.Accepted.{names_equal}
 use Rattle.expr_check.specs.{CheckedExpr, distinct}
 use Rattle.graph_numbers.specs.{holds_at, SiteAt}
-use Rattle.graph.specs.{any_depends, any_has, AppendsSets, AreRows, AreSets, AreSites, depends_at, has, has_at, IsSet, Numbers, read_sets, site_set, VarSet, version_sets}
+use Rattle.graph.specs.{any_depends, any_has, AreRows, AreSets, AreSites, depends_at, has, has_at, IsSet, Numbers, read_sets, site_set, VarSet, version_sets}
 use Rattle.graph.specs.declared.tables.ResultRow.{ResultRow}
 
 pub any_map : {A B : Type 0} (f : A → B) (p : B → Bool) (xs : List A) → list_any p (map f xs) ≡ list_any (λ x. p (f x)) xs
@@ -116,9 +116,21 @@ any_distinct_by p (x ∷ xs) = grind (arith, any_filtered p x (distinct xs), any
 pub any_distinct : (sets : List VarSet) (xs : List ℕ) (v : ℕ) → any_has sets (distinct xs) v ≡ any_has sets xs v
 any_distinct sets xs v = any_distinct_by (λ c. has_at sets c v) xs
 
-pub one_more : {A E : Type 0} (r : Result Unit E) (f : A → Numbers) (all : List A) (x : A) (xs : List A) (old mid new : List VarSet) (s : VarSet) → all ≡ x ∷ xs → IsSet (f x) s → mid ≡ old ++ s ∷ []
-    → OnOk r (AppendsSets (map f xs) mid new) → OnOk r (AppendsSets (map f all) old new)
-one_more r f all x xs old mid new s is h m a = grind (arith, append_assoc)
+-- one set more
+set_next : {A : Type 0} (f : A → Numbers) (xs : List A) (k : ℕ) (x : A) (ss : List VarSet) (s : VarSet) → k < length xs → x ≡ get_or xs k x → IsSet (f x) s → AreSets (map f (take k xs)) ss → AreSets (map f (take (suc k) xs)) (ss ++ s ∷ [])
+set_next f [] k x ss s lt is h a = absurd (omega (arith, lt))
+set_next f (y ∷ xs) zero x [] s lt is h a = (subst (λ z. IsSet (f z) s) is h, tt)
+set_next f (y ∷ xs) zero x (r ∷ ss) s lt is h a = absurd a
+set_next f (y ∷ xs) (suc k) x [] s lt is h a = absurd a
+set_next f (y ∷ xs) (suc k) x (r ∷ ss) s lt is h a = (a.0, set_next f xs k x ss s (omega (arith, lt)) is h a.1)
+
+pub set_more : {A : Type 0} (f : A → Numbers) (xs : List A) (k : ℕ) (x : A) (ss : List VarSet) (s : VarSet) → k < length xs → x ≡ get_or xs k x → IsSet (f x) s → AreSets (map f (take k xs)) ss → AreSets (map f (take (k + 1) xs)) (ss ++ s ∷ [])
+set_more f xs k x ss s lt is h a = rw add-one (set_next f xs k x ss s lt is h a)
+
+-- no variations at each place
+pub no_sets : {A : Type 0} (xs : List A) (s : VarSet) → IsSet (λ v. false) s → AreSets (map (λ _ v. false) xs) (replicate (length xs) s)
+no_sets [] s h = tt
+no_sets (x ∷ xs) s h = (h, no_sets xs s h)
 
 pub sets_at : (ds : List Numbers) (ss : List VarSet) → AreSets ds ss → (c v : ℕ) → has_at ss c v ≡ depends_at ds c v
 sets_at ds ss h c v = zip_holds IsSet (λ (d : Numbers). d v) (λ s. has s v) (λ d s e. e v) ds ss h c

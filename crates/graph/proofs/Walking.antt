@@ -1,10 +1,10 @@
 -- Steps of the look-ups that walk the statements so far.
 use Rattle.std.proofs.Common.{◌≡◌, ℕ, Bool, true, false, ◌||◌, List, [], ◌∷◌, ◌++◌, map, refl, sym, ◌∙◌, ap, arith, ◌+◌, if◌then◌else◌, length, zero, suc, ◌≤◌, Some, add-one}
-use Rattle.rdf_values.specs.{aliases, among, Booked, booked_by, Booking, bookings, ColType, column_kind, FunctionNames, is_alias, is_result, is_visible, is_watched, kind_or_int, made_columns, names_of, Path, result_is, same, Scope, Statement, target_of, visible_columns, watched_results, Column, makes, named_before, parent_of, path}
+use Rattle.rdf_values.specs.{aliases, among, Booked, booked_by, Booking, bookings, ColType, column_kind, FunctionNames, is_alias, is_result, is_visible, is_watched, kind_or_int, Line, made_columns, names_of, Path, result_is, same, Scope, scope_at, Statement, target_of, visible_columns, watched_results, Column, makes, named_before, parent_of, path}
 use Rattle.rdf_values.specs.declared.scripts.statement.Statement.TheVariants.{Watch, Filter}
 use Rattle.rdf_model.proofs.Accepted.{itself, names_equal, place_within}
 use Rattle.lemmas.proofs.{length-append, list_any, list_any-append, map-append, or_false}
-use Rattle.graph.specs.{books, result_in, count_from, is_named, own_number}
+use Rattle.graph.specs.{books, result_in, count_from, is_named, own_number, own_visible, statements}
 use Rattle.graph_numbers.specs.{all_or, column_place, covered_at, filters_on, named_version, numbers_from, own_columns, own_filter, own_version, version_count}
 
 -- a name among the names of two lists
@@ -36,9 +36,28 @@ visible_in f columns name (a ∷ names) = grind (arith, same_back a name, visibl
 pub visible_is : (names : FunctionNames) (header : Scope) (at : Path) (name : List ℕ) → is_visible (visible_columns names header at) name ≡ (is_alias at name || is_visible (made_columns names header at) name)
 visible_is names header at name = visible_in (λ a. kind_or_int (column_kind (made_columns names header at) (target_of at a))) (made_columns names header at) name (aliases at)
 
-pub visible_else : (names : FunctionNames) (header : Scope) (at : Path) (name : List ℕ) (a m : Bool) → a ≡ is_alias at name → a ≡ false → m ≡ is_visible (made_columns names header at) name
-    → m ≡ is_visible (visible_columns names header at) name
-visible_else names header at name a m p q h = h ∙ ap (λ b. b || is_visible (made_columns names header at) name) (sym q ∙ p) ∙ sym (visible_is names header at name)
+-- by a statement of the path, or above it
+pub visible_step : (names : FunctionNames) (header : Scope) (s : Statement) (up : Path) (name : List ℕ)
+    → is_visible (visible_columns names header (s ∷ up)) name ≡ (own_visible s name || is_visible (visible_columns names header up) name)
+visible_step names header s up name =
+    visible_is names header (s ∷ up) name ∙ go s ∙ ap (λ b. own_visible s name || b) (sym (visible_is names header up name))
+  where
+    go : (s : Statement) → (is_alias (s ∷ up) name || is_visible (made_columns names header (s ∷ up)) name) ≡ (own_visible s name || (is_alias up name || is_visible (made_columns names header up) name))
+    go s = grind arith
+
+pub visible_past : (names : FunctionNames) (header : Scope) (lines : List Line) (l : Line) (rest : List Line) (node name : List ℕ) (b : Bool) → lines ≡ l ∷ rest → makes l.statement node ≡ false
+    → b ≡ is_visible (scope_at names header (statements rest) node) name → b ≡ is_visible (scope_at names header (statements lines) node) name
+visible_past names header lines l rest node name b e m h =
+    h ∙ (λ i. is_visible (visible_columns names header (if sym m i then l.statement ∷ path (statements rest) (parent_of l.statement) else path (statements rest) node)) name)
+    ∙ ap (λ (ls : List Line). is_visible (scope_at names header (statements ls) node) name) (sym e)
+
+pub visible_above : (names : FunctionNames) (header : Scope) (lines : List Line) (l : Line) (rest : List Line) (node parent name : List ℕ) (own b : Bool) → lines ≡ l ∷ rest → makes l.statement node ≡ true → parent_of l.statement ≡ parent
+    → own ≡ own_visible l.statement name → own ≡ false → b ≡ is_visible (scope_at names header (statements rest) parent) name → b ≡ is_visible (scope_at names header (statements lines) node) name
+visible_above names header lines l rest node parent name own b e m p o q h =
+    h ∙ ap (λ n. is_visible (scope_at names header (statements rest) n) name) (sym p)
+    ∙ ap (λ c. c || is_visible (scope_at names header (statements rest) (parent_of l.statement)) name) (sym q ∙ o) ∙ sym (visible_step names header l.statement (path (statements rest) (parent_of l.statement)) name)
+    ∙ (λ i. is_visible (visible_columns names header (if sym m i then l.statement ∷ path (statements rest) (parent_of l.statement) else path (statements rest) node)) name)
+    ∙ ap (λ (ls : List Line). is_visible (scope_at names header (statements ls) node) name) (sym e)
 
 pub count_step : (before : List Statement) (s : Statement) → length (bookings (s ∷ before)) ≡ length (bookings before) + length (booked_by before s)
 count_step before s = length-append (bookings before) (booked_by before s)

@@ -1,7 +1,7 @@
 -- How many histogram cells and Takes the passes of results have, by the rows of the results.
-use Rattle.std.specs.Prelude.{◌≡◌, ℕ, suc, ◌*◌, List, [], ◌∷◌, ◌++◌, Option, Some, None, sum_by, filter, if◌then◌else◌}
-use Rattle.rdf_values.specs.{has_variations, same, Statement}
-use Rattle.rdf_values.specs.declared.scripts.statement.Statement.TheVariants.{Action, Report, Print, VariationsFor}
+use Rattle.std.specs.Prelude.{◌≡◌, ℕ, suc, ◌*◌, List, [], ◌∷◌, ◌++◌, Option, Some, None, length, take, sum_by, filter, if◌then◌else◌}
+use Rattle.rdf_values.specs.{bookings, has_variations, same, Statement}
+use Rattle.rdf_values.specs.declared.scripts.statement.Statement.TheVariants.{Print, VariationsFor}
 use Rattle.graph.specs.Dependence.{members_below}
 use Rattle.graph.specs.declared.tables.ResultRow.{ResultRow}
 use Rattle.graph.specs.declared.amounts.Amounts.{Amounts}
@@ -25,23 +25,11 @@ takes_in script rows = sum_by (λ (r : ResultRow). row_passes script r * r.takes
 abbrev pub rows_named : List ℕ → List ResultRow → List ResultRow
 rows_named name rows = filter (λ (r : ResultRow). same r.name name) rows
 
--- all rows but the last
-abbrev pub front : List ResultRow → List ResultRow
-front [] = []
-front (r ∷ []) = []
-front (r ∷ q ∷ rows) = r ∷ front (q ∷ rows)
-
--- the rows before a statement, by those after it
-abbrev pub rows_below : Statement → List ResultRow → List ResultRow
-rows_below (Action result parent k) rows = front rows
-rows_below (Report result parent) rows = front rows
-rows_below s rows = rows
-
--- the rows of the results that are printed, once for each Print
+-- the rows of the results that are printed, once for each Print, of those that are booked before it
 abbrev pub printed_rows : List Statement → List ResultRow → List ResultRow
 printed_rows [] rows = []
-printed_rows (Print p ∷ before) rows = rows_named p rows ++ printed_rows before rows
-printed_rows (s ∷ before) rows = printed_rows before (rows_below s rows)
+printed_rows (Print p ∷ before) rows = rows_named p (take (length (bookings before)) rows) ++ printed_rows before rows
+printed_rows (s ∷ before) rows = printed_rows before rows
 
 -- the cells and Takes of all passes of those results
 pub record IsAmount (script : List Statement) (rows : List ResultRow) (a : Amounts) : Type 0 where

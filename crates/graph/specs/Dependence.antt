@@ -118,9 +118,3 @@ read_sets sets cs = map (read_set sets) cs
 -- what a column that a Vary at a node changes depends on
 abbrev pub changed_set : List Column → List Statement → List VarSet → List ℕ → ℕ → ℕ → List ℕ → Numbers
 changed_set header before sets parent first tags column v = is_among_own first tags v || has_at sets (named_version header before parent column) v
-
--- a list to which those sets were appended
-pub record AppendsSets (ds : List Numbers) (old new : List VarSet) : Type 0 where
-  pub more : List VarSet
-  pub appended : new ≡ old ++ more
-  pub each : AreSets ds more

@@ -21,16 +21,12 @@ abbrev pub own_target : Statement → List ℕ → List ℕ
 own_target (Alias node parent column target) name = if same column name then target else name
 own_target s name = name
 
--- the statement makes the name an alias
-abbrev pub own_alias : Statement → List ℕ → Bool
-own_alias (Alias node parent column target) name = same name column
-own_alias s name = false
-
--- the statement makes the column
-abbrev pub own_made : Statement → List ℕ → Bool
-own_made (Define node parent column expr) name = same column name
-own_made (Redefine node parent column expr) name = same column name
-own_made s name = false
+-- the statement makes the name visible
+abbrev pub own_visible : Statement → List ℕ → Bool
+own_visible (Define node parent column expr) name = same column name
+own_visible (Redefine node parent column expr) name = same column name
+own_visible (Alias node parent column target) name = same name column
+own_visible s name = false
 
 -- the kinds of the versions so far, of statements that were accepted
 pub record AreKinds (header : List Column) (names : FunctionNames) (before : List Statement) (kinds : List ColType) : Type 0 where

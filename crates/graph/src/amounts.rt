@@ -1,11 +1,11 @@
 // How many histogram cells and Takes the passes of results have.
-ghost use Rattle.std.specs.Prelude.{◌≡◌, ◌∷◌, ◌++◌, ◌+◌, ◌*◌, ◌||◌, List, [], nat_lt, IfOk};
+ghost use Rattle.std.specs.Prelude.{◌≡◌, ◌∷◌, ◌++◌, ◌+◌, ◌*◌, ◌≤◌, [], length, nat_lt, IfOk};
 ghost use Rattle.std.specs.Option.{option_copied};
-ghost use Rattle.rdf_values.specs.{ActionAt, cells_of, first_refusal, has_variations, Path, refuse_if, takes_of};
+ghost use Rattle.rdf_values.specs.{ActionAt, bookings, cells_of, first_refusal, has_variations, Path, refuse_if, takes_of};
 ghost use Rattle.rdf_values.specs.declared.scripts.graph_cause.GraphCause.TheVariants as cause_of;
-ghost use Rattle.rdf_values.specs.declared.scripts.statement.Statement.TheVariants.{Print};
-ghost use Rattle.graph.specs.{asked_after, front, IsAmount, printed_rows, rows_below, rows_named, statements};
+ghost use Rattle.graph.specs.{asked_after, IsAmount, printed_rows, rows_named, statements};
 
+use crate::lookup::result_count;
 use crate::refusals::{first_of, refuse_if};
 use crate::tables::ResultRow;
 use rdf_values::{ActionKind, GraphCause, Line, Memory, Name, Statement};
@@ -33,7 +33,6 @@ fn product(m: usize, n: usize) -> Result<usize, Memory>
     m.checked_mul(n).ok_or(Memory)
 }
 
-/// The cells of an action's histogram.
 pub(crate) fn cells_of(action: &ActionKind) -> Result<usize, Memory>
     ensures { IfOk result (λ n. (at : Path) → n ≡ cells_of (ActionAt action.now at)) }
 {
@@ -52,28 +51,17 @@ pub(crate) fn cells_of(action: &ActionKind) -> Result<usize, Memory>
 pub(crate) fn takes_of(action: &ActionKind) -> usize
     ensures { (at : Path) → result ≡ takes_of (ActionAt action.now at) }
 {
-    if matches!(action, ActionKind::Take(_)) {
-        1
-    } else {
-        0
-    }
+    usize::from(matches!(action, ActionKind::Take(_)))
 }
 
-/// Whether a statement asks for the variations of the result.
-fn asks(statement: &Statement, name: &Name) -> bool
-    ensures { (before : List Statement) → has_variations (statement.now ∷ before) name.now ≡ (result || has_variations before name.now) }
-{
-    matches!(statement, Statement::VariationsFor { result } if result.is(name))
-}
-
-/// Whether the variations of the result are asked for.
 pub(crate) fn has_variations(before: &[Line], name: &Name) -> bool
     ensures { result ≡ has_variations (statements before.now) name.now }
 {
     let Some((last, rest)) = before.split_first() else {
         return false;
     };
-    asks(&last.statement, name) || has_variations(rest, name)
+    let own = matches!(&last.statement, Statement::VariationsFor { result } if result.is(name));
+    own || has_variations(rest, name)
 }
 
 /// Whether they are, where those of one result more are asked for.
@@ -143,37 +131,19 @@ fn amounts_named(before: &[Line], rows: &[ResultRow], name: &Name) -> Result<Amo
     }
 }
 
-/// The rows before a statement.
-fn rows_below<'a>(statement: &Statement, rows: &'a [ResultRow]) -> &'a [ResultRow]
-    ensures { result.now ≡ rows_below statement.now rows.now }
-{
-    match statement {
-        Statement::Action { .. } | Statement::Report { .. } => front(rows),
-        _ => rows,
-    }
-}
-
-#[tactic(auto, using(crate::proofs::Counting::front_is))]
-fn front(rows: &[ResultRow]) -> &[ResultRow]
-    ensures { result.now ≡ front rows.now }
-{
-    match rows.split_last() {
-        None => rows,
-        Some((_, front)) => front,
-    }
-}
-
-/// Those of the results that statements print.
+/// Those of the results that lines print, each of which was booked before.
+#[tactic(auto, using(crate::proofs::Walking::count_step))]
 fn amounts_printed(before: &[Line], lines: &[Line], rows: &[ResultRow]) -> Result<Amounts, Memory>
+    requires { length (bookings (statements lines.now)) ≤ length rows.now }
     ensures { IfOk result (IsAmount (statements before.now) (printed_rows (statements lines.now) rows.now)) }
 {
     let Some((last, rest)) = lines.split_first() else {
         return Ok(Amounts { cells: 0, takes: 0 });
     };
-    let others = amounts_printed(before, rest, rows_below(&last.statement, rows))?;
+    let others = amounts_printed(before, rest, rows)?;
     match &last.statement {
         Statement::Print { result } => {
-            let own = amounts_named(before, rows, result)?;
+            let own = amounts_named(before, &rows[..result_count(rest)], result)?;
             both(own, others)
         }
         _ => Ok(others),
@@ -186,7 +156,8 @@ pub(crate) fn amounts_printed_with(
     rows: &[ResultRow],
     name: &Name,
 ) -> Result<Amounts, Memory>
-    ensures { IfOk result (IsAmount (statements before.now) (printed_rows (Print name.now ∷ statements before.now) rows.now)) }
+    requires { length (bookings (statements before.now)) ≤ length rows.now }
+    ensures { IfOk result (IsAmount (statements before.now) (rows_named name.now rows.now ++ printed_rows (statements before.now) rows.now)) }
 {
     let own = amounts_named(before, rows, name)?;
     let others = amounts_printed(before, before, rows)?;
@@ -206,7 +177,6 @@ pub(crate) fn amounts_with(
     both(others, own)
 }
 
-/// Whether cells or Takes are too many.
 pub(crate) fn too_many(a: Amounts) -> Option<GraphCause>
     ensures { result ≡ first_refusal (refuse_if (nat_lt 1048576 a.cells) cause_of.TooMany ∷ refuse_if (nat_lt 16 a.takes) cause_of.TooMany ∷ []) }
 {

@@ -1,5 +1,5 @@
 // What stands before a statement, the columns and expressions at its nodes, and the checks that several statements share.
-ghost use Rattle.std.specs.Prelude.{◌≡◌, ◌≤◌, ◌<◌, ◌++◌, ◌∷◌, [], length, map, slice_get, Some, Err, Result, MatchOption, IfOk, OnOk};
+ghost use Rattle.std.specs.Prelude.{◌≡◌, ◌≤◌, ◌<◌, ◌++◌, ◌∷◌, [], length, map, Some, Err, Result, MatchOption, IfOk, OnOk};
 ghost use Rattle.std.specs.List.{AllByRecursion};
 ghost use Rattle.rdf_values.specs.{check_node, check_target, ColType, column_kind, columns_in, columns_in_all, expect_kind, GraphCause, is_visible, IsShort, kind_of, kind_or_int, path, refusal_in, refuse_if, same_kind, tree_of, trees_of};
 ghost use Rattle.rdf_values.specs.declared.scripts.graph_cause.GraphCause.TheVariants.{NameTaken, UnknownColumn};
@@ -13,7 +13,7 @@ ghost use Rattle.graph.specs.ShortProof.{short_all-prop};
 
 use crate::copies::push_name;
 use crate::lookup::{
-    filter_sites, is_alias, is_in_use, is_node, is_visible, named_version, target_of,
+    at, filter_sites, is_alias, is_in_use, is_node, is_visible, named_version, target_of,
 };
 use crate::refusals::{Stop, first_of, refuse_if, refuse_unless};
 use crate::tables::Tables;
@@ -57,16 +57,6 @@ fn push_names_of_all(alloc: Global, columns: &mut Vec<Name>, args: &Args) -> Res
     }
 }
 
-/// The columns that stand in an expression, from left to right.
-fn names_in(alloc: Global, expr: &Expr) -> Result<Vec<Name>, Memory>
-    ensures { IfOk result (λ v. v.items ≡ columns_in expr.now) }
-{
-    let mut columns = Vec::new(alloc);
-    push_names(alloc, &mut columns, &expr.node)?;
-    Ok(columns)
-}
-
-/// Why an expression has no kind, as a stop.
 #[tactic(auto, using(crate::proofs::Checking::cause_refused))]
 fn stop_of(refusal: CheckRefusal) -> Stop
     ensures { (wanted : Result ColType GraphCause) → RefusedAs refusal wanted → IsStop (refusal_in wanted) result }
@@ -80,7 +70,6 @@ fn stop_of(refusal: CheckRefusal) -> Stop
     }
 }
 
-/// Whether two kinds are the same.
 pub(crate) fn same_kind(a: ColType, b: ColType) -> bool
     ensures { result ≡ same_kind a b }
 {
@@ -104,7 +93,6 @@ pub(crate) struct Before<'a> {
 impl Before<'_> {
     ghost use Rattle.graph.specs.{AreNoted, Decides, history, IsCheckedBefore, IsFound, IsScopeAt, IsScopeOf, named_version_before, scope_before, sites_so_far};
 
-    /// How many sites there are.
     pub(crate) fn sites(&self) -> u32
         ensures value { result ≡ sites_so_far self.now }
         ensures few { result ≤ 16777216 }
@@ -120,7 +108,6 @@ impl Before<'_> {
         filter_sites(self.alloc, self.lines, self.sites(), node)
     }
 
-    /// The version of a column at a node.
     fn version_at(&self, node: &Name, name: &Name) -> u32
         ensures { result ≡ version_at self.now.header.now (history self.now) node.now name.now }
     {
@@ -143,14 +130,6 @@ impl Before<'_> {
         named_version(self.lines, self.header, count, node, name) as u32
     }
 
-    /// The kind of a version, and its number.
-    fn numbered_kind(&self, version: u32) -> (ColType, u32)
-        requires { version < length self.now.tables.now.kinds.items }
-        ensures { (slice_get self.now.tables.now.kinds.items version ≡ Some result.0) × (result.1 ≡ version) }
-    {
-        (self.tables.kinds[version as usize], version)
-    }
-
     /// The kind and the version of a column at a node, where it is visible.
     pub(crate) fn find_column(&self, node: &Name, name: &Name) -> Option<(ColType, u32)>
         ensures { MatchOption result (column_kind (scope_before self.now node.now) name.now ≡ Err UnknownColumn)
@@ -160,17 +139,16 @@ impl Before<'_> {
             return None;
         }
         let target = target_of(self.lines, node, name);
-        Some(self.numbered_kind(self.named_version(node, target)))
+        let version = self.named_version(node, target);
+        Some((*at(self.tables.kinds.as_slice(), version), version))
     }
 
     /// The kind of a column, and that of a number where there is none.
     pub(crate) fn kind_at(&self, node: &Name, column: &Name) -> ColType
         ensures { result ≡ kind_or_int (column_kind (scope_before self.now node.now) column.now) }
     {
-        match self.find_column(node, column) {
-            Some((kind, _)) => kind,
-            None => ColType::Int,
-        }
+        let found = self.find_column(node, column);
+        found.map_or(ColType::Int, |(kind, _)| kind)
     }
 
     /// Brings a column into a scope, unless it is there or isn't visible.
@@ -187,7 +165,6 @@ impl Before<'_> {
         }
     }
 
-    /// Brings columns into a scope.
     fn note_all(&self, node: &Name, scope: &mut Scope, columns: &[Name]) -> Result<(), Memory>
         requires scope { IsScopeAt self.now.header.now self.now.names.now (history self.now) node.now self.now.tables.now.kinds.items scope.old }
         ensures { OnOk result (AreNoted self.now.header.now self.now.names.now (history self.now) node.now self.now.tables.now.kinds.items scope.old scope.new columns.now) }
@@ -203,7 +180,8 @@ impl Before<'_> {
     fn scope_for(&self, node: &Name, expr: &Expr) -> Result<Scope, Memory>
         ensures { IfOk result (λ scope. IsScopeOf self.now.header.now self.now.names.now (history self.now) node.now self.now.tables.now.kinds.items expr.now scope) }
     {
-        let columns = names_in(self.alloc, expr)?;
+        let mut columns = Vec::new(self.alloc);
+        push_names(self.alloc, &mut columns, &expr.node)?;
         let mut scope = Scope::new(self.alloc);
         self.note_all(node, &mut scope, columns.as_slice())?;
         Ok(scope)
@@ -219,7 +197,6 @@ impl Before<'_> {
         ])
     }
 
-    /// Whether a column is visible at a node.
     pub(crate) fn sees(&self, node: &Name, column: &Name) -> bool
         ensures { result ≡ is_visible (scope_before self.now node.now) column.now }
     {

@@ -1,23 +1,22 @@
 // The booking of a script's lines: each is checked after those before it, and then added.
 #![tactic(auto, using(crate::proofs::Checking::no_memory, crate::proofs::Checking::handed_on))]
 
-ghost use Rattle.std.specs.Prelude.{◌≡◌, ◌≤◌, ◌∷◌, [], length, reverse, None, Ok, Option, Result, IfOk, IfErr, ◌+◌};
+ghost use Rattle.std.specs.Prelude.{◌≡◌, ◌≤◌, ◌∷◌, [], length, reverse, None, Ok, Option, Result, IfOk, IfErr};
 ghost use Rattle.std.specs.List.{AllByRecursion};
 ghost use Rattle.rdf_values.specs.{check_node, first_refusal, GraphCause, IsShort, kind_of, refusal_in, scope_of};
-ghost use Rattle.graph.specs.{AreTables, IsRefusal, IsStop, refused, refused_then, statements, Decides, IsGainAfter, verdict_after, history, IsColumnGain, IsEmptyGain, IsMadeGain, IsRowGain, IsVaryGain, named_rows, scope_before, sites_so_far, variation_count};
+ghost use Rattle.graph.specs.{AreTables, IsRefusal, IsStop, refused, refused_then, statements, Decides, IsGainAfter, verdict_after, history, IsColumnGain, IsEmptyGain, IsMadeGain, IsRowGain, named_rows, scope_before, sites_so_far};
 ghost use Rattle.rdf_values.specs.declared.scripts.statement.Statement.TheVariants.{Alias, Filter, Vary};
 ghost use Rattle.graph.specs.declared.tables.ResultRow.{ResultRow};
 
 use crate::before::Before;
+use crate::checks::{
+    check_action, check_print, check_report, check_variations_for, check_vary, check_watch,
+};
 use crate::copies::alone;
 use crate::refusals::{GraphRefusal, Stop, first_of, refuse_unless, stop_if};
-use crate::result_checks::{
-    check_action, check_print, check_report, check_variations_for, check_watch,
-};
-use crate::sets::{kinds_at, push_changed, sets_of};
+use crate::sets::{changed_sets, kinds_at, sets_of};
 use crate::tables::{Change, ResultRow, Tables};
 use crate::variations::full_names;
-use crate::vary_checks::check_vary;
 use crate::versions::push_varied;
 use expr_check::Checked;
 use graph_numbers::Version;
@@ -27,7 +26,6 @@ use rdf_values::{
 };
 use std::alloc::Global;
 
-/// A line's refusal.
 fn refusal_of(line: &Line, stop: Stop) -> GraphRefusal
     ensures { (wanted : Option GraphCause) → IsStop wanted stop → IsRefusal (refused_then line.now.number None wanted) result }
 {
@@ -56,10 +54,7 @@ pub(crate) fn book_lines(
     let Some((last, before)) = lines.split_first() else {
         return Ok(Tables::start(alloc, header)?);
     };
-    let mut tables = match book_lines(alloc, before, header, names) {
-        Ok(tables) => tables,
-        Err(refusal) => return Err(refusal),
-    };
+    let mut tables = book_lines(alloc, before, header, names)?;
     let at = Before {
         alloc,
         header,
@@ -147,28 +142,25 @@ pub(crate) fn check_statement(before: &Before<'_>, statement: &Statement) -> Res
             column,
             target,
         } => nothing(
-            before.alloc,
+            before,
             Ok(check_alias(before, node, parent, column, target)),
         ),
         Statement::VariationsFor { result } => nothing(
-            before.alloc,
+            before,
             check_variations_for(before, result),
         ),
-        Statement::Watch { result } => nothing(before.alloc, Ok(check_watch(before, result))),
-        Statement::Print { result } => nothing(before.alloc, check_print(before, result)),
+        Statement::Watch { result } => nothing(before, Ok(check_watch(before, result))),
+        Statement::Print { result } => nothing(before, check_print(before, result)),
     }
 }
 
 /// Nothing, where a refusal is none.
-pub(crate) fn nothing(
-    alloc: Global,
-    refusal: Result<Option<GraphCause>, Memory>,
-) -> Result<Tables, Stop>
+fn nothing(before: &Before<'_>, refusal: Result<Option<GraphCause>, Memory>) -> Result<Tables, Stop>
     ensures empty { IfOk result IsEmptyGain }
     ensures decided { (wanted : Option GraphCause) → IfOk refusal (λ o. o ≡ wanted) → Decides wanted result }
 {
     stop_if(refusal?)?;
-    Ok(Tables::empty(alloc))
+    Ok(Tables::empty(before.alloc))
 }
 
 /// The sites of a named Filter: of those above it, and its own.
@@ -179,17 +171,14 @@ fn named_filter(
 ) -> Result<Vec<ListOf<u32>>, Memory>
     ensures { IfOk result (λ rows. rows.items ≡ named_rows before.now.header.now before.now.names.now (history before.now) parent.now label.now) }
 {
-    match label {
-        None => Ok(Vec::new(before.alloc)),
-        Some(_) => {
-            let mut sites = before.filters_above(parent)?;
-            sites.push(before.sites())?;
-            alone(before.alloc, sites)
-        }
-    }
+    let Some(_) = label else {
+        return Ok(Vec::new(before.alloc));
+    };
+    let mut sites = before.filters_above(parent)?;
+    sites.push(before.sites())?;
+    alone(before.alloc, sites)
 }
 
-/// What a Filter adds.
 pub(crate) fn filter_gain(
     before: &Before<'_>,
     node: &Name,
@@ -204,8 +193,7 @@ pub(crate) fn filter_gain(
     let site = before.expected(parent, ColType::Bool, expr)?;
     let filters = named_filter(before, parent, label)?;
     let sites = alone(before.alloc, site)?;
-    let sets = before.tables.version_sets.as_slice();
-    let site_sets = sets_of(before.alloc, sets, sites.as_slice())?;
+    let site_sets = sets_of(before, sites.as_slice())?;
     Ok(Tables {
         sites,
         site_sets,
@@ -231,9 +219,8 @@ fn made_gain(
     let versions = alone(before.alloc, Version::Computed { site: site_number })?;
     let kinds = alone(before.alloc, site.kind())?;
     let sites = alone(before.alloc, site)?;
-    let sets = before.tables.version_sets.as_slice();
-    let site_sets = sets_of(before.alloc, sets, sites.as_slice())?;
-    let version_sets = sets_of(before.alloc, sets, sites.as_slice())?;
+    let site_sets = sets_of(before, sites.as_slice())?;
+    let version_sets = sets_of(before, sites.as_slice())?;
     Ok(Tables {
         versions,
         kinds,
@@ -256,36 +243,7 @@ fn row_gain(alloc: Global, row: Result<ResultRow, Stop>) -> Result<Tables, Stop>
     })
 }
 
-/// The columns, sites and variations of a Vary that was checked.
-fn varied_gain(
-    before: &Before<'_>,
-    change: &Change<'_>,
-    sites: Vec<Checked>,
-) -> Result<Tables, Memory>
-    requires few { variation_count before.now + length change.now.tags.now ≤ 128 }
-    ensures { IfOk result (IsVaryGain before.now.header.now before.now.names.now (history before.now) before.now.tables.now change.now sites.items) }
-{
-    let columns = change.columns;
-    let tags = change.tags.len() as u32;
-    let mut versions = Vec::new(before.alloc);
-    push_varied(&mut versions, before, change, 0, columns)?;
-    let kinds = kinds_at(before, change.parent, columns)?;
-    let mut version_sets = Vec::new(before.alloc);
-    push_changed(before, change.parent, tags, columns, &mut version_sets)?;
-    let sets = before.tables.version_sets.as_slice();
-    let site_sets = sets_of(before.alloc, sets, sites.as_slice())?;
-    Ok(Tables {
-        versions,
-        kinds,
-        version_sets,
-        sites,
-        site_sets,
-        variations: full_names(before.alloc, change.name, change.tags)?,
-        ..Tables::empty(before.alloc)
-    })
-}
-
-/// What a Vary adds.
+#[tactic(auto, using(crate::proofs::Checking::no_memory, crate::proofs::Checking::handed_on, crate::proofs::Counting::few_with))]
 pub(crate) fn vary_gain(
     before: &Before<'_>,
     node: &Name,
@@ -295,11 +253,23 @@ pub(crate) fn vary_gain(
     ensures decided { Decides (verdict_after before.now (Vary node.now change.now.parent.now change.now.columns.now change.now.values.now change.now.tags.now change.now.name.now)) result }
 {
     let sites = check_vary(before, node, change)?;
-    let gain = varied_gain(before, change, sites)?;
-    Ok(gain)
+    let mut versions = Vec::new(before.alloc);
+    push_varied(&mut versions, before, change, 0, change.columns)?;
+    let kinds = kinds_at(before, change)?;
+    let version_sets = changed_sets(before, change)?;
+    let site_sets = sets_of(before, sites.as_slice())?;
+    let variations = full_names(before.alloc, change.name, change.tags)?;
+    Ok(Tables {
+        versions,
+        kinds,
+        version_sets,
+        sites,
+        site_sets,
+        variations,
+        ..Tables::empty(before.alloc)
+    })
 }
 
-/// An Alias.
 fn check_alias(
     before: &Before<'_>,
     node: &Name,

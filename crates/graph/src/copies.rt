@@ -4,7 +4,6 @@ ghost use Rattle.std.specs.Prelude.{◌≡◌, IfOk, ◌∷◌, ◌++◌, [], re
 use rdf_values::{ActionKind, Column, FnName, IntList, ListOf, Memory, Name};
 use std::alloc::Global;
 
-/// A copy of a weight's column, where there is one.
 fn copy_weight(alloc: Global, weight: &Option<Name>) -> Result<Option<Name>, Memory>
     ensures { IfOk result (λ w. w ≡ weight.now) }
 {
@@ -14,13 +13,6 @@ fn copy_weight(alloc: Global, weight: &Option<Name>) -> Result<Option<Name>, Mem
     }
 }
 
-fn copy_edges(alloc: Global, edges: &IntList) -> Result<IntList, Memory>
-    ensures { IfOk result (λ e. e ≡ edges.now) }
-{
-    IntList::from_slice(alloc, edges.as_slice())
-}
-
-/// A copy of an action.
 pub(crate) fn copy_kind(alloc: Global, kind: &ActionKind) -> Result<ActionKind, Memory>
     ensures { IfOk result (λ k. k ≡ kind.now) }
 {
@@ -32,7 +24,7 @@ pub(crate) fn copy_kind(alloc: Global, kind: &ActionKind) -> Result<ActionKind, 
         ActionKind::Take(column) => ActionKind::Take(column.copy(alloc)?),
         ActionKind::Reduce(op, column) => ActionKind::Reduce(*op, column.copy(alloc)?),
         ActionKind::Histo1D { x_edges, x, weight } => ActionKind::Histo1D {
-            x_edges: copy_edges(alloc, x_edges)?,
+            x_edges: IntList::from_slice(alloc, x_edges.as_slice())?,
             x: x.copy(alloc)?,
             weight: copy_weight(alloc, weight)?,
         },
@@ -43,8 +35,8 @@ pub(crate) fn copy_kind(alloc: Global, kind: &ActionKind) -> Result<ActionKind, 
             y,
             weight,
         } => ActionKind::Histo2D {
-            x_edges: copy_edges(alloc, x_edges)?,
-            y_edges: copy_edges(alloc, y_edges)?,
+            x_edges: IntList::from_slice(alloc, x_edges.as_slice())?,
+            y_edges: IntList::from_slice(alloc, y_edges.as_slice())?,
             x: x.copy(alloc)?,
             y: y.copy(alloc)?,
             weight: copy_weight(alloc, weight)?,
@@ -52,7 +44,6 @@ pub(crate) fn copy_kind(alloc: Global, kind: &ActionKind) -> Result<ActionKind, 
     })
 }
 
-/// A copy of a table's columns.
 pub(crate) fn copy_header(alloc: Global, header: &[Column]) -> Result<ListOf<Column>, Memory>
     ensures { IfOk result (λ c. c ≡ header.now) }
 {
@@ -67,7 +58,6 @@ pub(crate) fn copy_header(alloc: Global, header: &[Column]) -> Result<ListOf<Col
     Ok(columns)
 }
 
-/// A copy of functions' names.
 pub(crate) fn copy_names(alloc: Global, names: &[FnName]) -> Result<ListOf<FnName>, Memory>
     ensures { IfOk result (λ c. c ≡ names.now) }
 {
@@ -82,7 +72,6 @@ pub(crate) fn copy_names(alloc: Global, names: &[FnName]) -> Result<ListOf<FnNam
     Ok(copied)
 }
 
-/// Appends an item.
 pub(crate) fn push<T: Drop>(items: &mut Vec<T>, item: T) -> Result<(), Memory>
     ensures { OnOk result (items.new.items ≡ items.old.items ++ item ∷ []) }
 {
@@ -101,7 +90,6 @@ pub(crate) fn push_many(items: &mut Vec<u32>, item: u32, count: usize) -> Result
     push_many(items, item, count - 1)
 }
 
-/// Appends a copy of a name.
 pub(crate) fn push_name(alloc: Global, names: &mut Vec<Name>, name: &Name) -> Result<(), Memory>
     ensures { OnOk result (names.new.items ≡ names.old.items ++ name.now ∷ []) }
 {

@@ -6,17 +6,16 @@
 mod amounts;
 mod before;
 mod book;
+mod checks;
 mod copies;
 pub mod graph;
 pub mod laws;
 pub mod lookup;
 mod loops;
 mod refusals;
-mod result_checks;
 mod sets;
 mod tables;
 mod variations;
-mod vary_checks;
 mod versions;
 
 pub use crate::graph::Graph;

@@ -1,8 +1,8 @@
 // Look-ups in the statements so far, the latest first: each walks them as its definition does.
 ghost use Rattle.std.specs.Prelude.{◌≡◌, ◌<◌, ◌≤◌, ◌+◌, true, false, codes, length, MatchOption, IfSome, Some, option_map, slice_get, IfOk, List, []};
 ghost use Rattle.std.specs.List.{list_any};
-ghost use Rattle.rdf_values.specs.{FunctionNames, is_alias, is_in_use, is_node, is_result, is_visible, made_columns, makes, parent_of, path, place, same, scope_at, scope_of, target_of, expression_count, named_before, ActionAt, among, booked_by, bookings, can_watch, filled, is_report, is_watched, names_of, Path, result_is, Statement, watched_results};
-ghost use Rattle.graph.specs.{books, own_alias, own_made, own_target, statements, count_from, filter_numbers, is_named, labels, own_label, site_total, expression_total, is_filter, own_site_total, result_in};
+ghost use Rattle.rdf_values.specs.{FunctionNames, is_alias, is_in_use, is_node, is_result, is_visible, makes, parent_of, path, place, same, scope_at, scope_of, target_of, expression_count, named_before, ActionAt, among, bookings, can_watch, filled, is_report, is_watched, names_of, Path, result_is, Statement, watched_results};
+ghost use Rattle.graph.specs.{own_target, own_visible, statements, count_from, filter_numbers, labels, own_label, site_total, expression_total, own_site_total};
 ghost use Rattle.graph_numbers.specs.{column_place, covered_at, filters_on, named_version, own_columns, own_version, version_count, list_start};
 ghost use Rattle.rdf_values.specs.declared.scripts.statement.Statement.TheVariants.{Watch};
 
@@ -35,7 +35,6 @@ pub fn made_from<'a>(statement: &'a Statement, sought: &Name) -> Option<&'a Name
     }
 }
 
-/// Whether one of the statements makes the node.
 fn is_made_node(before: &[Line], node: &Name) -> bool
     ensures { result ≡ list_any (λ s. makes s node.now) (statements before.now) }
 {
@@ -45,7 +44,6 @@ fn is_made_node(before: &[Line], node: &Name) -> bool
     made_from(&last.statement, node).is_some() || is_made_node(rest, node)
 }
 
-/// What a statement's alias makes of a name.
 fn own_target<'a>(statement: &'a Statement, name: &'a Name) -> &'a Name
     ensures { result.now ≡ own_target statement.now name.now }
 {
@@ -75,16 +73,6 @@ pub fn is_node(before: &[Line], node: &Name) -> bool
     node.bytes() == b"df".as_slice() || is_made_node(before, node)
 }
 
-/// Whether the statement books the result.
-fn books(statement: &Statement, name: &Name) -> bool
-    ensures { result ≡ books statement.now name.now }
-{
-    match statement {
-        Statement::Action { result, .. } | Statement::Report { result, .. } => name.is(result),
-        _ => false,
-    }
-}
-
 /// Whether the name is a result's.
 #[tactic(auto, using(crate::proofs::Walking::result_step))]
 pub fn is_result(before: &[Line], name: &Name) -> bool
@@ -93,7 +81,11 @@ pub fn is_result(before: &[Line], name: &Name) -> bool
     let Some((last, rest)) = before.split_first() else {
         return false;
     };
-    is_result(rest, name) || books(&last.statement, name)
+    let own = matches!(
+        &last.statement,
+        Statement::Action { result, .. } | Statement::Report { result, .. } if name.is(result)
+    );
+    own || is_result(rest, name)
 }
 
 /// Whether the name is a node's or a result's.
@@ -101,13 +93,6 @@ pub fn is_in_use(before: &[Line], name: &Name) -> bool
     ensures { result ≡ is_in_use (statements before.now) name.now }
 {
     is_node(before, name) || is_result(before, name)
-}
-
-/// Whether the statement makes the name an alias.
-fn own_alias(statement: &Statement, name: &Name) -> bool
-    ensures { result ≡ own_alias statement.now name.now }
-{
-    matches!(statement, Statement::Alias { column, .. } if name.is(column))
 }
 
 /// Whether the name is an alias at a node.
@@ -119,11 +104,13 @@ pub fn is_alias(before: &[Line], node: &Name, name: &Name) -> bool
     };
     match made_from(&last.statement, node) {
         None => is_alias(rest, node, name),
-        Some(parent) => own_alias(&last.statement, name) || is_alias(rest, parent, name),
+        Some(parent) => {
+            let own = matches!(&last.statement, Statement::Alias { column, .. } if name.is(column));
+            own || is_alias(rest, parent, name)
+        }
     }
 }
 
-/// Whether the table has the column.
 fn is_cell(header: &[Column], name: &Name) -> bool
     ensures { result ≡ is_visible (scope_of header.now) name.now }
 {
@@ -133,38 +120,32 @@ fn is_cell(header: &[Column], name: &Name) -> bool
     first.name.is(name) || is_cell(rest, name)
 }
 
-/// Whether the statement makes the column.
-fn own_made(statement: &Statement, name: &Name) -> bool
-    ensures { result ≡ own_made statement.now name.now }
+fn own_visible(statement: &Statement, name: &Name) -> bool
+    ensures { result ≡ own_visible statement.now name.now }
 {
     match statement {
         Statement::Define { column, .. } | Statement::Redefine { column, .. } => column.is(name),
+        Statement::Alias { column, .. } => name.is(column),
         _ => false,
     }
 }
 
-/// Whether the table has the column, or a statement of the node's path makes it.
-fn is_made(before: &[Line], header: &[Column], node: &Name, name: &Name) -> bool
-    ensures { (names : FunctionNames) → result ≡ is_visible (made_columns names (scope_of header.now) (path (statements before.now) node.now)) name.now }
+/// Whether the column is visible at a node.
+#[tactic(auto, using(crate::proofs::Walking::visible_step))]
+pub fn is_visible(before: &[Line], header: &[Column], node: &Name, name: &Name) -> bool
+    ensures { (names : FunctionNames) → result ≡ is_visible (scope_at names (scope_of header.now) (statements before.now) node.now) name.now }
 {
     let Some((last, rest)) = before.split_first() else {
         return is_cell(header, name);
     };
     match made_from(&last.statement, node) {
-        None => is_made(rest, header, node, name),
-        Some(parent) => own_made(&last.statement, name) || is_made(rest, header, parent, name),
+        None => is_visible(rest, header, node, name),
+        Some(parent) => {
+            own_visible(&last.statement, name) || is_visible(rest, header, parent, name)
+        }
     }
 }
 
-/// Whether the column is visible at a node.
-#[tactic(auto, using(crate::proofs::Walking::visible_is))]
-pub fn is_visible(before: &[Line], header: &[Column], node: &Name, name: &Name) -> bool
-    ensures { (names : FunctionNames) → result ≡ is_visible (scope_at names (scope_of header.now) (statements before.now) node.now) name.now }
-{
-    is_alias(before, node, name) || is_made(before, header, node, name)
-}
-
-/// The place of a name among columns.
 fn place_of(columns: &[Name], name: &Name) -> Option<usize>
     ensures value { result ≡ place (same name.now) columns.now }
     ensures within { IfSome result (λ i. i < length columns.now) }
@@ -193,7 +174,6 @@ fn column_place(header: &[Column], name: &Name) -> usize
     }
 }
 
-/// How many versions a statement makes.
 fn own_count(statement: &Statement) -> usize
     ensures { result ≡ length (own_columns statement.now) }
 {
@@ -309,13 +289,6 @@ pub fn own_site_total(statement: &Statement, most: usize) -> usize
     }
 }
 
-/// Whether the statement is a Filter.
-pub(crate) fn is_filter(statement: &Statement) -> bool
-    ensures { result ≡ is_filter statement.now }
-{
-    matches!(statement, Statement::Filter { .. })
-}
-
 /// The sites of the filters above a node, head first, where there are so many sites.
 pub(crate) fn filter_sites(
     alloc: Global,
@@ -334,7 +307,7 @@ pub(crate) fn filter_sites(
         None => filter_sites(alloc, rest, first, node),
         Some(parent) => {
             let mut above = filter_sites(alloc, rest, first, parent)?;
-            if is_filter(&last.statement) {
+            if matches!(&last.statement, Statement::Filter { .. }) {
                 above.push(first)?;
             }
             Ok(above)
@@ -342,14 +315,6 @@ pub(crate) fn filter_sites(
     }
 }
 
-/// Whether the statement is a named Filter.
-fn is_named(statement: &Statement) -> bool
-    ensures { result ≡ is_named statement.now }
-{
-    matches!(statement, Statement::Filter { label: Some(_), .. })
-}
-
-/// The label of a named Filter.
 fn own_label(statement: &Statement) -> Option<&Label>
     ensures { option_map (λ l. l.now) result ≡ own_label statement.now }
 {
@@ -392,7 +357,7 @@ fn named_on(alloc: Global, before: &[Line], count: u32, node: &Name) -> Result<L
     let Some((last, rest)) = before.split_first() else {
         return Ok(ListOf::new(alloc));
     };
-    let own = is_named(&last.statement);
+    let own = matches!(&last.statement, Statement::Filter { label: Some(_), .. });
     let first = if own { count - 1 } else { count };
     match made_from(&last.statement, node) {
         None => named_on(alloc, rest, first, node),
@@ -424,7 +389,6 @@ pub(crate) fn covered(
     }
 }
 
-/// Whether the name is one of the names.
 pub(crate) fn is_among(names: &[Name], name: &Name) -> bool
     ensures { result ≡ among name.now names.now }
 {
@@ -445,7 +409,6 @@ fn filled_lines(before: &[Line]) -> &[Line]
     }
 }
 
-/// Whether the result is filled.
 pub(crate) fn is_filled(before: &[Line], name: &Name) -> bool
     ensures { result ≡ among name.now (filled (statements before.now)) }
 {
@@ -463,7 +426,6 @@ pub(crate) fn is_watched(lines: &[Line], name: &Name) -> bool
     own || is_watched(rest, name)
 }
 
-/// How many results are watched.
 #[tactic(auto, using(crate::proofs::Walking::watched_among))]
 pub(crate) fn watched_count(before: &[Line]) -> usize
     ensures value { result ≡ length (watched_results (statements before.now)) }
@@ -479,7 +441,6 @@ pub(crate) fn watched_count(before: &[Line]) -> usize
     }
 }
 
-/// Whether an action may be watched.
 fn can_watch(kind: &ActionKind) -> bool
     ensures { (at : Path) → result ≡ can_watch (ActionAt kind.now at) }
 {
@@ -487,20 +448,6 @@ fn can_watch(kind: &ActionKind) -> bool
         kind,
         ActionKind::Count | ActionKind::Sum(_) | ActionKind::Min(_) | ActionKind::Max(_)
     )
-}
-
-/// Whether the statement books a result of that name which may be watched.
-fn own_watchable(statement: &Statement, name: &Name) -> bool
-    ensures { (before : List Statement) → result ≡ result_in can_watch name.now (booked_by before statement.now) }
-{
-    matches!(statement, Statement::Action { result, kind, .. } if result.is(name) && can_watch(kind))
-}
-
-/// Whether the statement books a report of that name.
-fn own_report(statement: &Statement, name: &Name) -> bool
-    ensures { (before : List Statement) → result ≡ result_in is_report name.now (booked_by before statement.now) }
-{
-    matches!(statement, Statement::Report { result, .. } if result.is(name))
 }
 
 /// Whether the result of that name may be watched.
@@ -511,10 +458,13 @@ pub(crate) fn is_watchable(before: &[Line], name: &Name) -> bool
     let Some((last, rest)) = before.split_first() else {
         return false;
     };
-    is_watchable(rest, name) || own_watchable(&last.statement, name)
+    let own = matches!(
+        &last.statement,
+        Statement::Action { result, kind, .. } if result.is(name) && can_watch(kind)
+    );
+    own || is_watchable(rest, name)
 }
 
-/// Whether the result of that name is a report.
 #[tactic(auto, using(crate::proofs::Walking::result_is_step))]
 pub(crate) fn is_report(before: &[Line], name: &Name) -> bool
     ensures { result ≡ result_is is_report (statements before.now) name.now }
@@ -522,10 +472,10 @@ pub(crate) fn is_report(before: &[Line], name: &Name) -> bool
     let Some((last, rest)) = before.split_first() else {
         return false;
     };
-    is_report(rest, name) || own_report(&last.statement, name)
+    let own = matches!(&last.statement, Statement::Report { result, .. } if result.is(name));
+    own || is_report(rest, name)
 }
 
-/// How many results there are.
 #[tactic(auto, using(crate::proofs::Walking::count_step))]
 pub(crate) fn result_count(before: &[Line]) -> usize
     ensures value { result ≡ length (bookings (statements before.now)) }

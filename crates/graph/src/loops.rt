@@ -1,5 +1,5 @@
 // The event loops of a script and the loop that each Print runs.
-ghost use Rattle.std.specs.Prelude.{◌≡◌, ◌≤◌, ◌<◌, ◌+◌, ◌++◌, ◌∷◌, [], Some, length, map, take, drop, ◌-◌, List, IfOk, IfSome, OnOk, slice_get};
+ghost use Rattle.std.specs.Prelude.{◌≡◌, ◌≤◌, ◌<◌, ◌+◌, ◌++◌, ◌∷◌, [], Some, length, map, List, IfOk, IfSome, OnOk, slice_get};
 ghost use Rattle.rdf_values.specs.{is_watched, place, same};
 ghost use Rattle.graph_numbers.specs.{numbered_pass};
 ghost use Rattle.graph.specs.LoopRows.{AreNamedInTurn, members_from, IsScriptRows, passes_of_rows, AreLoops, BeginsWith};
@@ -40,7 +40,6 @@ impl LoopTables {
     ghost use Rattle.graph.specs.LoopRows.{IsNoted};
     ghost use Rattle.rdf_values.specs.{Statement};
 
-    /// No loops.
     #[tactic(auto, using(crate::proofs::Looped::none_yet))]
     fn new(alloc: Global) -> LoopTables
         ensures { (script : List Statement) → AreLoops script [] result }
@@ -64,6 +63,7 @@ impl LoopTables {
     }
 
     /// Adds a Print after the lines before it: where its result isn't filled yet, it runs a loop over all results that wait.
+    #[tactic(auto, using(crate::proofs::Looped::in_bounds))]
     fn add_print(
         &mut self,
         alloc: Global,
@@ -87,7 +87,9 @@ impl LoopTables {
             self.note(n as u32, None, filler)
         } else {
             let booked = result_count(before);
-            let passes = waiting_passes(alloc, script, filled, booked)?;
+            let open = &script.results[filled..booked];
+            let mut passes = ListOf::new(alloc);
+            push_passes(&mut passes, script, filled as u32, open)?;
             let place = self.loops.len() as u32;
             push(&mut self.loops, passes)?;
             push_many(&mut self.fillers, place, booked - filled)?;
@@ -97,6 +99,7 @@ impl LoopTables {
 }
 
 /// The loops of lines of a script, the latest first.
+#[tactic(auto, using(crate::proofs::Looped::begins_further))]
 pub(crate) fn loop_tables(
     alloc: Global,
     script: &ScriptRows<'_>,
@@ -120,7 +123,6 @@ pub(crate) fn loop_tables(
     }
 }
 
-/// The number of the result of that name.
 fn number_of(results: &[ResultRow], name: &Name) -> Option<usize>
     ensures value { result ≡ place (λ r. same r.name name.now) results.now }
     ensures within { IfSome result (λ n. n < length results.now) }
@@ -178,23 +180,6 @@ fn push_passes(
         push_varied(passes, n, first.set, 0, script.variations)?;
     }
     push_passes(passes, script, n + 1, rest)
-}
-
-/// The passes of the results from the first that isn't filled to the last that is booked.
-fn waiting_passes(
-    alloc: Global,
-    script: &ScriptRows<'_>,
-    filled: usize,
-    booked: usize,
-) -> Result<ListOf<Pass>, Memory>
-    requires order { filled ≤ booked }
-    requires within { booked ≤ length script.now.results.now }
-    ensures { IfOk result (λ p. p ≡ passes_of_rows (statements script.now.lines.now) script.now.variations filled (take (booked - filled) (drop filled script.now.results.now))) }
-{
-    let mut passes = ListOf::new(alloc);
-    let open = &script.results[filled..booked];
-    push_passes(&mut passes, script, filled as u32, open)?;
-    Ok(passes)
 }
 
 /// For each result whether partial results of it are asked for.

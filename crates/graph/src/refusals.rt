@@ -19,7 +19,6 @@ pub(crate) fn refuse_unless(holds: bool, cause: GraphCause) -> Option<GraphCause
     if holds { None } else { Some(cause) }
 }
 
-/// The first refusal of several.
 pub(crate) fn first_of(refusals: &[Option<GraphCause>]) -> Option<GraphCause>
     ensures { result ≡ first_refusal refusals.now }
 {
@@ -32,7 +31,6 @@ pub(crate) fn first_of(refusals: &[Option<GraphCause>]) -> Option<GraphCause>
     }
 }
 
-/// Stops for a refusal.
 pub(crate) fn stop_if(refusal: Option<GraphCause>) -> Result<(), Stop>
     ensures { Decides refusal result }
 {

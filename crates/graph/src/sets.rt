@@ -1,12 +1,12 @@
 // Sets of variations of versions, sites and filters.
-ghost use Rattle.std.specs.Prelude.{◌≡◌, ◌<◌, ◌≤◌, ◌||◌, ℕ, false, nat_eq, MatchOption, ◌+◌, map, IfOk, OnOk};
-ghost use Rattle.graph.specs.{has, IsNext, members_below, any_has, has_at, is_among_own, AppendsSets, AreSets, changed_set, read_sets, scope_before, set_changed, variation_count};
-ghost use Rattle.rdf_values.specs.{column_kind, columns_in, kind_or_int};
+ghost use Rattle.std.specs.Prelude.{◌≡◌, ◌<◌, ◌≤◌, ◌||◌, ℕ, false, nat_eq, MatchOption, ◌+◌, map, length, IfOk};
+ghost use Rattle.graph.specs.{has, IsNext, members_below, any_has, has_at, is_among_own, AreSets, changed_set, read_sets, scope_before, set_changed, variation_count};
+ghost use Rattle.rdf_values.specs.{column_kind, kind_or_int};
 
 use crate::before::Before;
+use crate::tables::Change;
 use expr_check::Checked;
 use rdf_values::{ColType, Memory, Name};
-use std::alloc::Global;
 
 /// A set of numbers below 128.
 #[derive(Clone, Copy, Debug, PartialEq, Eq)]
@@ -93,10 +93,7 @@ impl VarSet {
 pub(crate) fn set_at(sets: &[VarSet], place: usize) -> VarSet
     ensures { (v : ℕ) → has result v ≡ has_at sets.now place v }
 {
-    match sets.get(place) {
-        Some(set) => *set,
-        None => VarSet::empty(),
-    }
+    sets.get(place).copied().unwrap_or(VarSet::empty())
 }
 
 /// The numbers of the sets at the places.
@@ -121,36 +118,16 @@ pub(crate) fn own_set(first: u32, count: u32) -> VarSet
     set
 }
 
-/// The variations on which an expression depends, where versions have those sets.
-#[tactic(auto, using(crate::proofs::Listing::any_distinct))]
-fn read_set(versions: &[VarSet], site: &Checked) -> VarSet
-    ensures { (v : ℕ) → has result v ≡ any_has versions.now (columns_in site.now.tree) v }
+/// The variations on which expressions depend, by the sets of the versions so far.
+#[tactic(auto, using(crate::proofs::Listing::set_more, crate::proofs::Listing::any_distinct))]
+pub(crate) fn sets_of(before: &Before<'_>, sites: &[Checked]) -> Result<Vec<VarSet>, Memory>
+    ensures { IfOk result (λ sets. AreSets (read_sets before.now.tables.now.version_sets.items sites.now) sets.items) }
 {
-    set_of(versions, site.reads())
-}
-
-/// Those of expressions, appended.
-#[tactic(auto, using(crate::proofs::Listing::one_more))]
-fn push_sets(versions: &[VarSet], sites: &[Checked], sets: &mut Vec<VarSet>) -> Result<(), Memory>
-    ensures { OnOk result (AppendsSets (read_sets versions.now sites.now) sets.old.items sets.new.items) }
-{
-    let Some((first, rest)) = sites.split_first() else {
-        return Ok(());
-    };
-    sets.push(read_set(versions, first))?;
-    push_sets(versions, rest, sets)
-}
-
-/// The variations on which expressions depend, where versions have those sets.
-pub(crate) fn sets_of(
-    alloc: Global,
-    versions: &[VarSet],
-    sites: &[Checked],
-) -> Result<Vec<VarSet>, Memory>
-    ensures { IfOk result (λ sets. AreSets (read_sets versions.now sites.now) sets.items) }
-{
-    let mut sets = Vec::new(alloc);
-    push_sets(versions, sites, &mut sets)?;
+    let versions = before.tables.version_sets.as_slice();
+    let mut sets = Vec::new(before.alloc);
+    for site in sites {
+        sets.push(set_of(versions, site.reads()))?;
+    }
     Ok(sets)
 }
 
@@ -165,33 +142,25 @@ fn changed_set(before: &Before<'_>, parent: &Name, tags: u32, column: &Name) -> 
     own_set(first, tags).union(set_at(versions, below as usize))
 }
 
-/// Those of columns that a Vary changes, appended.
-#[tactic(auto, using(crate::proofs::Listing::one_more))]
-pub(crate) fn push_changed(
-    before: &Before<'_>,
-    parent: &Name,
-    tags: u32,
-    columns: &[Name],
-    sets: &mut Vec<VarSet>,
-) -> Result<(), Memory>
-    requires { variation_count before.now + tags ≤ 128 }
-    ensures { OnOk result (AppendsSets (map (set_changed before.now parent.now tags) columns.now) sets.old.items sets.new.items) }
+/// Those of the columns that a Vary changes.
+#[tactic(auto, using(crate::proofs::Listing::set_more))]
+pub(crate) fn changed_sets(before: &Before<'_>, change: &Change<'_>) -> Result<Vec<VarSet>, Memory>
+    requires { variation_count before.now + length change.now.tags.now ≤ 128 }
+    ensures { IfOk result (λ sets. AreSets (map (set_changed before.now change.now.parent.now (length change.now.tags.now)) change.now.columns.now) sets.items) }
 {
-    let Some((column, rest)) = columns.split_first() else {
-        return Ok(());
-    };
-    sets.push(changed_set(before, parent, tags, column))?;
-    push_changed(before, parent, tags, rest, sets)
+    let tags = change.tags.len() as u32;
+    let mut sets = Vec::new(before.alloc);
+    for column in change.columns {
+        sets.push(changed_set(before, change.parent, tags, column))?;
+    }
+    Ok(sets)
 }
 
-/// The kinds of columns at a node, and that of a number where there is none.
-pub(crate) fn kinds_at(
-    before: &Before<'_>,
-    parent: &Name,
-    columns: &[Name],
-) -> Result<Vec<ColType>, Memory>
-    ensures { IfOk result (λ found. found.items ≡ map (λ c. kind_or_int (column_kind (scope_before before.now parent.now) c)) columns.now) }
+/// The kinds of the columns that a Vary changes, and that of a number where there is none.
+pub(crate) fn kinds_at(before: &Before<'_>, change: &Change<'_>) -> Result<Vec<ColType>, Memory>
+    ensures { IfOk result (λ found. found.items ≡ map (λ c. kind_or_int (column_kind (scope_before before.now change.now.parent.now) c)) change.now.columns.now) }
 {
-    let kinds = columns.iter().map(|column| before.kind_at(parent, column));
+    let columns = change.columns.iter();
+    let kinds = columns.map(|column| before.kind_at(change.parent, column));
     Ok(kinds.collect(before.alloc)?)
 }

@@ -1,8 +1,8 @@
 // The tables that are kept while statements are booked.
 ghost use Rattle.std.specs.Prelude.{◌≤◌, length, ◌≡◌, ◌+◌, [], false, true, map, IfOk, OnOk};
 ghost use Rattle.rdf_values.specs.{AreShortValues, FunctionNames};
+ghost use Rattle.graph.specs.Dependence.{AreSets};
 ghost use Rattle.graph.specs.ShortProof.{short-prop};
-ghost use Rattle.graph.specs.Dependence.{AppendsSets};
 
 use crate::sets::VarSet;
 use crate::variations::Variations;
@@ -61,30 +61,23 @@ pub struct Tables {
     pub variations: Variations,
 }
 
-/// The kinds of the table's columns.
+fn has_room(kinds: &[ColType], more: &[ColType]) -> bool
+    ensures { result ≡ true → length kinds.now + length more.now ≤ 4294967295 }
+{
+    kinds.len() <= MOST_VERSIONS && more.len() <= MOST_VERSIONS - kinds.len()
+}
+
 fn kinds_of(alloc: Global, header: &[Column]) -> Result<Vec<ColType>, Memory>
     ensures { IfOk result (λ kinds. kinds.items ≡ map (λ c. c.kind) header.now) }
 {
     Ok(header.iter().map(|column| column.kind).collect(alloc)?)
 }
 
-/// An empty set for each of the table's columns.
-#[tactic(auto, using(crate::proofs::Listing::one_more))]
-fn push_empty_sets(sets: &mut Vec<VarSet>, header: &[Column]) -> Result<(), Memory>
-    ensures { OnOk result (AppendsSets (map (λ _ v. false) header.now) sets.old.items sets.new.items) }
+fn empty_sets(alloc: Global, header: &[Column]) -> Result<Vec<VarSet>, Memory>
+    ensures { IfOk result (λ sets. AreSets (map (λ _ v. false) header.now) sets.items) }
 {
-    let Some((_, rest)) = header.split_first() else {
-        return Ok(());
-    };
-    sets.push(VarSet::empty())?;
-    push_empty_sets(sets, rest)
-}
-
-/// Whether there is room for more versions.
-fn has_room(kinds: &[ColType], more: &[ColType]) -> bool
-    ensures { result ≡ true → length kinds.now + length more.now ≤ 4294967295 }
-{
-    kinds.len() <= MOST_VERSIONS && more.len() <= MOST_VERSIONS - kinds.len()
+    let sets = vec![in alloc; VarSet::empty(); header.len()]?;
+    Ok(sets)
 }
 
 impl Tables {
@@ -97,18 +90,11 @@ impl Tables {
     {
         let mut versions = Vec::new(alloc);
         push_cells(&mut versions, 0, header)?;
-        let kinds = kinds_of(alloc, header)?;
-        let mut version_sets = Vec::new(alloc);
-        push_empty_sets(&mut version_sets, header)?;
         Ok(Tables {
             versions,
-            kinds,
-            version_sets,
-            sites: Vec::new(alloc),
-            site_sets: Vec::new(alloc),
-            filters: Vec::new(alloc),
-            results: Vec::new(alloc),
-            variations: Variations::new(alloc),
+            kinds: kinds_of(alloc, header)?,
+            version_sets: empty_sets(alloc, header)?,
+            ..Tables::empty(alloc)
         })
     }
 

@@ -39,7 +39,6 @@ impl Model for Variations {
 }
 
 impl Variations {
-    /// None.
     pub(crate) fn new(alloc: Global) -> Variations
         ensures { length result ≡ 0 }
     {
@@ -80,7 +79,6 @@ impl Variations {
         &self.items[v as usize].tag
     }
 
-    /// Appends variations.
     pub(crate) fn append(&mut self, mut more: Variations) -> Result<(), Memory>
         requires { length self.old + length more ≤ 128 }
         ensures added { OnOk result (self.new ≡ self.old ++ more) }

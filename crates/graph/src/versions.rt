@@ -40,26 +40,20 @@ fn varied_version(
     let first = before.tables.variations.len();
     let site = before.sites();
     let tags = change.tags.len() as u32;
-    match change.values {
+    let (vector, sites) = match change.values {
         VaryValues::Lists(lists) => {
             let start = site + list_start(lists.as_slice(), i) as u32;
-            let sites = numbers(before.alloc, start, tags)?;
-            Ok(Version::Varied {
-                below,
-                first,
-                tags,
-                sites,
-                vector: false,
-            })
+            (false, numbers(before.alloc, start, tags)?)
         }
-        VaryValues::Vector(_) => Ok(Version::Varied {
-            below,
-            first,
-            tags,
-            sites: numbers(before.alloc, site, 1)?,
-            vector: true,
-        }),
-    }
+        VaryValues::Vector(_) => (true, numbers(before.alloc, site, 1)?),
+    };
+    Ok(Version::Varied {
+        below,
+        first,
+        tags,
+        sites,
+        vector,
+    })
 }
 
 /// Appends the columns that a Vary changes, from a place on.

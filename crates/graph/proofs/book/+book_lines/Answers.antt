@@ -9,10 +9,10 @@ pub returns-in_default-clause-booked : goal.returns-in_default-clause-booked
 returns-in_default-clause-booked t c =
     subst (λ ls. AreTables c.args.header.now c.args.names.now (statements ls) c.in_ok-start.field-0) (empty c.args.lines.now c.in_default.ensures.cases) (c.in_ok-start.ensures c.args.names.now)
 
-pub returns-in-Err-check_statement-clause-refused : goal.returns-in-Err-check_statement-clause-refused
-returns-in-Err-check_statement-clause-refused t c =
-    refused_last c.args.names.now (scope_of c.args.header.now) c.args.lines.now c.in-Some.last.now c.in-Some.before.now c.in-Some.ensures.cases.0 c.in-Ok.ensures.booked.versions.accepted c.refusal_of.result
-    (c.refusal_of.ensures (check c.args.names.now (scope_of c.args.header.now) (statements c.in-Some.before.now) c.in-Some.last.now.statement) c.in-Err-check_statement.ensures.decided)
+pub returns-in-Err-clause-refused : goal.returns-in-Err-clause-refused
+returns-in-Err-clause-refused t c =
+    refused_last c.args.names.now (scope_of c.args.header.now) c.args.lines.now c.in-Some.last.now c.in-Some.before.now c.in-Some.ensures.cases.0 c.in_ok-tables.ensures.booked.versions.accepted c.refusal_of.result
+    (c.refusal_of.ensures (check c.args.names.now (scope_of c.args.header.now) (statements c.in-Some.before.now) c.in-Some.last.now.statement) c.in-Err.ensures.decided)
 
 pub add-requires : goal.add-requires
-add-requires t c = gain_fits c.args.header.now c.args.names.now (statements c.in-Some.before.now) c.in-Some.last.now.statement c.in-Ok.tables c.in-Ok-check_statement.gain c.in-Ok.ensures.booked c.in-Ok-check_statement.ensures.gained
+add-requires t c = gain_fits c.args.header.now c.args.names.now (statements c.in-Some.before.now) c.in-Some.last.now.statement c.in_ok-tables.tables c.in-Ok.gain c.in_ok-tables.ensures.booked c.in-Ok.ensures.gained

@@ -1,4 +1,4 @@
-use Rattle.std.proofs.Common.{◌≡◌, ◌-◌, length, take, drop, ap, ◌∙◌, arith, slice_get, refl, sym}
+use Rattle.std.proofs.Common.{◌≡◌, ◌-◌, ◌++◌, length, take, drop, ap, ◌∙◌, arith, slice_get, refl, sym}
 use Rattle.lemmas.proofs.{length-map, on_ok}
 use Rattle.graph.specs.{passes_of_rows, statements}
 use Rattle.graph.proofs.Looped.{in_bounds, print_no_row, print_again, print_fills, open_passes, place_of_row}
@@ -8,14 +8,8 @@ pub unreachable-requires : goal.unreachable-requires
 unreachable-requires c =
     print_no_row (statements c.args.script.now.lines.now) (statements c.args.before.now) c.args.name.now c.args.script.now.results.now c.requires.named.0 c.requires.begins c.args.script.now.are.rows c.in-None.ensures.value
 
-pub waiting_passes-requires : goal.waiting_passes-requires
-waiting_passes-requires = grind (arith, in_bounds)
-
 pub overflow_cast-place : goal.overflow_cast-place
 overflow_cast-place = grind (arith, in_bounds, length-map)
-
-pub overflow_sub-booked : goal.overflow_sub-booked
-overflow_sub-booked = grind (arith, in_bounds)
 
 pub returns-then-n-filled : goal.returns-then-n-filled
 returns-then-n-filled c =
@@ -34,7 +28,8 @@ returns-in_ok-push_many c =
     (print_fills (statements c.args.script.now.lines.now) (statements c.args.before.now) c.args.name.now c.requires.named.0 c.requires.begins c.in-Some.n
     (sym (place_of_row (statements c.args.script.now.lines.now) _ c.args.script.now.results.now c.args.name.now c.args.script.now.are.rows) ∙ sym c.in-Some.ensures.value) old
     (record { loops = c.push.new.items; runs = old.runs; prints = old.prints; filling = old.filling; fillers = c.push_many.new.items }) c.note-else-n-filled.new.self
-    c.in_ok-passes.passes c.len-place.result (c.result_count-booked.result - length c.as_slice-filled.result.now) c.requires.named.1 c.requires.old (let ge = c.if-n-filled.false in omega (arith, l, ge))
-    (c.in_ok-passes.ensures ∙ (λ i. passes_of_rows (statements c.args.script.now.lines.now) (c.args.script.now.are.count i) (length c.as_slice-filled.result.now) (take (c.result_count-booked.result - length c.as_slice-filled.result.now) (drop (length c.as_slice-filled.result.now) c.args.script.now.results.now)))
+    c.push_passes.new.passes c.len-place.result (c.result_count-booked.result - length c.as_slice-filled.result.now) c.requires.named.1 c.requires.old (let ge = c.if-n-filled.false in omega (arith, l, ge))
+    (c.in_ok-push_passes.ensures ∙ (λ i. c.new-passes.ensures i ++ passes_of_rows (statements c.args.script.now.lines.now) c.args.script.now.variations (length c.as_slice-filled.result.now) (take (c.result_count-booked.result - length c.as_slice-filled.result.now) (drop (length c.as_slice-filled.result.now) c.args.script.now.results.now)))
+    ∙ (λ i. passes_of_rows (statements c.args.script.now.lines.now) (c.args.script.now.are.count i) (length c.as_slice-filled.result.now) (take (c.result_count-booked.result - length c.as_slice-filled.result.now) (drop (length c.as_slice-filled.result.now) c.args.script.now.results.now)))
     ∙ open_passes (statements c.args.script.now.lines.now) (statements c.args.before.now) c.requires.named.1 c.requires.begins c.args.script.now.results.now c.args.script.now.are.rows _ _ (l ∙ c.requires.old.count) k)
     (let v = c.args.self.now.loops.ok.0 in let p = c.len-place.ensures in omega (arith, v, p)) (λ i. k i - l i) c.in_ok-push.ensures c.in_ok-push_many.ensures refl refl refl) c.note-else-n-filled.ensures

@@ -1,0 +1,5 @@
+use Rattle.std.proofs.Common.{length}
+use Rattle.graph.proofs.checks.+check_columns.Given as goal
+
+abbrev pub decreases-check_columns : goal.decreases-check_columns
+decreases-check_columns l = length l.columns.now

@@ -1,5 +1,0 @@
-use Rattle.std.proofs.Common.{length}
-use Rattle.graph.proofs.result_checks.+check_columns.Given as goal
-
-abbrev pub decreases-check_columns : goal.decreases-check_columns
-decreases-check_columns l = length l.columns.now

@@ -1,5 +1,0 @@
-use Rattle.std.proofs.Common.{length}
-use Rattle.graph.proofs.vary_checks.+check_lists.Given as goal
-
-abbrev pub decreases-check_lists : goal.decreases-check_lists
-decreases-check_lists l = length l.lists.now

@@ -1,5 +1,0 @@
-use Rattle.std.proofs.Common.{length}
-use Rattle.graph.proofs.vary_checks.+check_targets.Given as goal
-
-abbrev pub decreases-check_targets : goal.decreases-check_targets
-decreases-check_targets l = length l.columns.now

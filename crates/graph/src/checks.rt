@@ -1,0 +1,476 @@
+// The checks of a Vary, of what books a result, and of what asks for one.
+#![tactic(auto, using(crate::proofs::Checking::targets_more, crate::proofs::Checking::each_stop, crate::proofs::Checking::each_next, crate::proofs::Checking::handed_on, crate::proofs::Checking::no_memory, crate::proofs::Checking::decides_stop, crate::proofs::Checking::counted))]
+
+ghost use Rattle.std.specs.Prelude.{◌≡◌, ◌∷◌, ◌+◌, ◌++◌, ◌||◌, [], ℕ, List, length, map, nat_eq, nat_lt, IfOk, OnOk};
+ghost use Rattle.rdf_values.specs.{ActionKind, are_edges, begins, check_columns, check_edges, check_list, check_lists, check_results, check_tags, check_values, check_vector_column, columns_of, expect_kind, first_refusal, is_result, kind_of, may_begin, permitted_kinds, printed_results, refuse_if, refuse_unless, repeats, rises, scope_of, Statement, variations, watched_results, weight_column};
+ghost use Rattle.rdf_values.specs.declared.scripts.graph_cause.GraphCause.TheVariants as cause_of;
+ghost use Rattle.rdf_values.specs.declared.scripts.statement.Statement.TheVariants.{Action, Print, Report, VariationsFor, Vary, Watch};
+ghost use Rattle.rdf_values.specs.declared.tables.value.ColType.TheVariants as a_kind;
+ghost use Rattle.rdf_values.specs.declared.scripts.vary_values.VaryValues.TheVariants.{Vector};
+ghost use Rattle.graph.specs.{all_expressions, AppendsChecked, AreCheckedBefore, Decides, history, IsRowAfter, scope_before, statements, targets_at, value_expressions, verdict_after};
+
+use crate::amounts::{
+    amounts_of, amounts_printed_with, amounts_with, cells_of, takes_of, too_many,
+};
+use crate::before::{Before, same_kind};
+use crate::copies::{alone, copy_kind, push, push_name};
+use crate::lookup::{
+    covered, is_among, is_filled, is_report, is_result, is_watchable, is_watched, result_count,
+    watched_count,
+};
+use crate::refusals::{Stop, first_of, refuse_if, refuse_unless, stop_if};
+use crate::sets::{VarSet, set_of};
+use crate::tables::{Change, ResultPath, ResultRow};
+use crate::variations::Variations;
+use expr_check::Checked;
+use graph_numbers::ResultKind;
+use rdf_values::{
+    ActionKind, ColType, Expr, GraphCause, IntList, Line, ListOf, Memory, Name, VaryValues,
+};
+use std::alloc::Global;
+
+const MOST_TAGS: usize = 16;
+
+const MOST_VARIATIONS: usize = 128;
+
+fn repeats(names: &[Name]) -> bool
+    ensures { result ≡ repeats names.now }
+{
+    let Some((first, rest)) = names.split_first() else {
+        return false;
+    };
+    is_among(rest, first) || repeats(rest)
+}
+
+fn check_tags(known: &Variations, tags: &[Name], name: &Name) -> Option<GraphCause>
+    ensures { (before : List Statement) → known.now ≡ variations before → result ≡ check_tags before tags.now name.now }
+{
+    let many = tags.len() > MOST_TAGS || known.len() as usize + tags.len() > MOST_VARIATIONS;
+    first_of(&[
+        refuse_if(repeats(tags), GraphCause::NameTaken),
+        refuse_if(known.has(name), GraphCause::NameTaken),
+        refuse_if(many, GraphCause::TooMany),
+    ])
+}
+
+fn check_targets(before: &Before<'_>, parent: &Name, columns: &[Name]) -> Option<GraphCause>
+    ensures { result ≡ targets_at before.now.names.now (scope_of before.now.header.now) (history before.now) parent.now columns.now }
+{
+    let Some((first, rest)) = columns.split_first() else {
+        return None;
+    };
+    first_of(&[
+        before.check_target(parent, first),
+        check_targets(before, parent, rest),
+    ])
+}
+
+/// Expressions of a given kind, appended.
+fn check_exprs(
+    before: &Before<'_>,
+    node: &Name,
+    kind: ColType,
+    exprs: &[Expr],
+    found: &mut Vec<Checked>,
+) -> Result<(), Stop>
+    ensures checked { OnOk result (AppendsChecked before.now node.now exprs.now found.old.items found.new.items) }
+    ensures decided { Decides (first_refusal (map (λ e. expect_kind kind (kind_of (scope_before before.now node.now) before.now.names.now e)) exprs.now)) result }
+{
+    let Some((first, rest)) = exprs.split_first() else {
+        return Ok(());
+    };
+    push(found, before.expected(node, kind, first)?)?;
+    check_exprs(before, node, kind, rest, found)
+}
+
+fn has_count<T>(items: &[T], count: usize) -> bool
+    ensures { result ≡ nat_eq (length items.now) count }
+{
+    items.len() == count
+}
+
+/// The list of a column: an expression of the column's kind for each tag.
+fn check_list(
+    before: &Before<'_>,
+    node: &Name,
+    tags: usize,
+    column: &Name,
+    exprs: &[Expr],
+) -> Result<Vec<Checked>, Stop>
+    ensures checked { IfOk result (λ found. AreCheckedBefore before.now node.now exprs.now found.items) }
+    ensures decided { Decides (check_list before.now.names.now (scope_before before.now node.now) tags column.now exprs.now) result }
+{
+    if !has_count(exprs, tags) {
+        return Err(Stop::Cause(GraphCause::WrongCount));
+    }
+    let kind = before.kind_at(node, column);
+    let mut found = Vec::new(before.alloc);
+    check_exprs(before, node, kind, exprs, &mut found)?;
+    Ok(found)
+}
+
+/// A list for each column, as many lists as columns.
+fn check_lists(
+    before: &Before<'_>,
+    node: &Name,
+    tags: usize,
+    columns: &[Name],
+    lists: &[ListOf<Expr>],
+) -> Result<Vec<Checked>, Stop>
+    requires paired { length lists.now ≡ length columns.now }
+    ensures checked { IfOk result (λ found. AreCheckedBefore before.now node.now (all_expressions lists.now) found.items) }
+    ensures decided { Decides (first_refusal (check_lists before.now.names.now (scope_before before.now node.now) tags columns.now lists.now)) result }
+{
+    let Some((exprs, lists)) = lists.split_first() else {
+        return Ok(Vec::new(before.alloc));
+    };
+    let Some((column, columns)) = columns.split_first() else {
+        return Ok(Vec::new(before.alloc));
+    };
+    let mut found = check_list(before, node, tags, column, exprs.as_slice())?;
+    let mut more = check_lists(before, node, tags, columns, lists)?;
+    match found.append(&mut more) {
+        Ok(()) => Ok(found),
+        Err(_) => Err(Stop::Memory),
+    }
+}
+
+/// The one column of a vector: it holds numbers.
+fn check_vector_column(before: &Before<'_>, node: &Name, columns: &[Name]) -> Option<GraphCause>
+    ensures { result ≡ check_vector_column (scope_before before.now node.now) columns.now }
+{
+    let [column] = columns else {
+        return Some(GraphCause::WrongCount);
+    };
+    match before.find_column(node, column) {
+        None => Some(GraphCause::UnknownColumn),
+        Some((kind, _)) => refuse_unless(same_kind(kind, ColType::Int), GraphCause::WrongType),
+    }
+}
+
+/// A vector for the only column.
+fn vector_value(
+    before: &Before<'_>,
+    node: &Name,
+    columns: &[Name],
+    expr: &Expr,
+) -> Result<Vec<Checked>, Stop>
+    ensures checked { IfOk result (λ found. AreCheckedBefore before.now node.now (expr.now ∷ []) found.items) }
+    ensures decided { (tags : ℕ) → Decides (check_values before.now.names.now (scope_before before.now node.now) tags columns.now (Vector expr.now)) result }
+{
+    if !has_count(columns, 1) {
+        return Err(Stop::Cause(GraphCause::WrongCount));
+    }
+    let checked = before.expected(node, ColType::Vect, expr)?;
+    stop_if(check_vector_column(before, node, columns))?;
+    let found = alone(before.alloc, checked)?;
+    Ok(found)
+}
+
+fn check_values(
+    before: &Before<'_>,
+    node: &Name,
+    tags: usize,
+    columns: &[Name],
+    values: &VaryValues,
+) -> Result<Vec<Checked>, Stop>
+    ensures checked { IfOk result (λ found. AreCheckedBefore before.now node.now (value_expressions values.now) found.items) }
+    ensures decided { Decides (check_values before.now.names.now (scope_before before.now node.now) tags columns.now values.now) result }
+{
+    match values {
+        VaryValues::Lists(lists) => {
+            if !has_count(lists.as_slice(), columns.len()) {
+                return Err(Stop::Cause(GraphCause::WrongCount));
+            }
+            check_lists(before, node, tags, columns, lists.as_slice())
+        }
+        VaryValues::Vector(expr) => vector_value(before, node, columns, expr),
+    }
+}
+
+pub(crate) fn check_vary(
+    before: &Before<'_>,
+    node: &Name,
+    change: &Change<'_>,
+) -> Result<Vec<Checked>, Stop>
+    ensures checked { IfOk result (λ found. AreCheckedBefore before.now change.now.parent.now (value_expressions change.now.values.now) found.items) }
+    ensures decided { Decides (verdict_after before.now (Vary node.now change.now.parent.now change.now.columns.now change.now.values.now change.now.tags.now change.now.name.now)) result }
+{
+    let parent = change.parent;
+    let columns = change.columns;
+    stop_if(first_of(&[
+        before.check_node(node, parent),
+        refuse_if(repeats(columns), GraphCause::NameTaken),
+        check_targets(before, parent, columns),
+        check_tags(&before.tables.variations, change.tags, change.name),
+    ]))?;
+    let tags = change.tags.len();
+    check_values(before, parent, tags, columns, change.values)
+}
+
+fn one_result_more(before: &[Line]) -> Option<GraphCause>
+    ensures report { (name parent : List ℕ) → result ≡ check_results (Report name parent ∷ statements before.now) }
+    ensures action { (name parent : List ℕ) (k : ActionKind) → result ≡ check_results (Action name parent k ∷ statements before.now) }
+{
+    refuse_if(result_count(before) >= 64, GraphCause::TooMany)
+}
+
+pub(crate) fn check_report(
+    before: &Before<'_>,
+    name: &Name,
+    parent: &Name,
+) -> Result<ResultRow, Stop>
+    ensures row { IfOk result (IsRowAfter before.now (Report name.now parent.now)) }
+    ensures decided { Decides (verdict_after before.now (Report name.now parent.now)) result }
+{
+    let many = one_result_more(before.lines);
+    stop_if(first_of(&[before.check_node(name, parent), many]))?;
+    let named = before.tables.filters.as_slice().len() as u32;
+    let path = ResultPath {
+        kind: ResultKind::Report,
+        filters: before.filters_above(parent)?,
+        inputs: ListOf::new(before.alloc),
+        covers: covered(before.alloc, before.lines, named, parent)?,
+    };
+    Ok(ResultRow {
+        name: name.copy(before.alloc)?,
+        cells: 0,
+        takes: 0,
+        set: VarSet::empty(),
+        path,
+    })
+}
+
+fn action_row(
+    before: &Before<'_>,
+    name: &Name,
+    parent: &Name,
+    action: &ActionKind,
+) -> Result<ResultRow, Memory>
+    ensures { IfOk result (IsRowAfter before.now (Action name.now parent.now action.now)) }
+{
+    let columns = columns_of(before.alloc, action)?;
+    let path = ResultPath {
+        kind: ResultKind::Action(copy_kind(before.alloc, action)?),
+        filters: before.filters_above(parent)?,
+        inputs: before.versions_of(parent, columns.as_slice())?,
+        covers: ListOf::new(before.alloc),
+    };
+    let tables = before.tables;
+    let filters = set_of(tables.site_sets.as_slice(), path.filters.as_slice());
+    let inputs = set_of(tables.version_sets.as_slice(), path.inputs.as_slice());
+    Ok(ResultRow {
+        name: name.copy(before.alloc)?,
+        cells: cells_of(action)?,
+        takes: takes_of(action),
+        set: filters.union(inputs),
+        path,
+    })
+}
+
+pub(crate) fn check_action(
+    before: &Before<'_>,
+    name: &Name,
+    parent: &Name,
+    action: &ActionKind,
+) -> Result<ResultRow, Stop>
+    ensures row { IfOk result (IsRowAfter before.now (Action name.now parent.now action.now)) }
+    ensures decided { Decides (verdict_after before.now (Action name.now parent.now action.now)) result }
+{
+    let columns = columns_of(before.alloc, action)?;
+    let mut kinds = Vec::new(before.alloc);
+    let wrong = check_columns(before, parent, action, &mut kinds, columns.as_slice())?;
+    stop_if(first_of(&[
+        before.check_node(name, parent),
+        wrong,
+        check_edges(action),
+        one_result_more(before.lines),
+    ]))?;
+    let row = action_row(before, name, parent, action)?;
+    let amounts = amounts_with(before.lines, before.tables.results.as_slice(), &row)?;
+    stop_if(too_many(amounts))?;
+    Ok(row)
+}
+
+#[tactic(auto, using(crate::proofs::Walking::watched_among))]
+fn one_watch_more(before: &[Line], name: &Name) -> Option<GraphCause>
+    ensures { result ≡ refuse_if (nat_lt 8 (length (watched_results (Watch name.now ∷ statements before.now)))) cause_of.TooMany }
+{
+    let count = watched_count(before);
+    let limit = if is_watched(before, name) { 9 } else { 8 };
+    refuse_if(count >= limit, GraphCause::TooMany)
+}
+
+fn known_result(before: &[Line], name: &Name) -> Option<GraphCause>
+    ensures { result ≡ refuse_unless (is_result (statements before.now) name.now) cause_of.UnknownName }
+{
+    refuse_unless(is_result(before, name), GraphCause::UnknownName)
+}
+
+pub(crate) fn check_watch(before: &Before<'_>, name: &Name) -> Option<GraphCause>
+    ensures { result ≡ verdict_after before.now (Watch name.now) }
+{
+    first_of(&[
+        known_result(before.lines, name),
+        refuse_unless(is_watchable(before.lines, name), GraphCause::WrongKind),
+        refuse_if(is_filled(before.lines, name), GraphCause::Late),
+        one_watch_more(before.lines, name),
+    ])
+}
+
+/// What asks for the variations of a result.
+pub(crate) fn check_variations_for(
+    before: &Before<'_>,
+    name: &Name,
+) -> Result<Option<GraphCause>, Memory>
+    ensures { IfOk result (λ o. o ≡ verdict_after before.now (VariationsFor name.now)) }
+{
+    let rows = before.tables.results.as_slice();
+    let amounts = amounts_of(before.lines, Some(name), rows)?;
+    Ok(first_of(&[
+        known_result(before.lines, name),
+        refuse_if(is_report(before.lines, name), GraphCause::WrongKind),
+        refuse_if(is_filled(before.lines, name), GraphCause::Late),
+        too_many(amounts),
+    ]))
+}
+
+pub(crate) fn check_print(before: &Before<'_>, name: &Name) -> Result<Option<GraphCause>, Memory>
+    ensures { IfOk result (λ o. o ≡ verdict_after before.now (Print name.now)) }
+{
+    let rows = before.tables.results.as_slice();
+    let amounts = amounts_printed_with(before.lines, rows, name)?;
+    Ok(first_of(&[known_result(before.lines, name), too_many(amounts)]))
+}
+
+fn begins(kinds: &[ColType], permitted: &[ColType]) -> bool
+    ensures { result ≡ begins kinds.now permitted.now }
+{
+    let Some((kind, kinds)) = kinds.split_first() else {
+        return true;
+    };
+    let Some((first, rest)) = permitted.split_first() else {
+        return false;
+    };
+    same_kind(*kind, *first) && begins(kinds, rest)
+}
+
+/// Whether kinds begin those of one of an action's forms.
+fn may_begin(action: &ActionKind, kinds: &[ColType]) -> bool
+    ensures { result ≡ may_begin (permitted_kinds action.now) kinds.now }
+{
+    match action {
+        ActionKind::Count => begins(kinds, &[]),
+        ActionKind::Sum(_) | ActionKind::Min(_) | ActionKind::Max(_) => {
+            begins(kinds, &[ColType::Int]) || begins(kinds, &[ColType::Vect])
+        }
+        ActionKind::Take(_) => begins(kinds, &[ColType::Int]) || begins(kinds, &[ColType::Bool]),
+        ActionKind::Reduce(_, _) => begins(kinds, &[ColType::Int]),
+        ActionKind::Histo1D { weight: None, .. } => begins(kinds, &[ColType::Int])
+            || begins(kinds, &[ColType::Vect]),
+        ActionKind::Histo1D {
+            weight: Some(_),
+            ..
+        } => begins(kinds, &[ColType::Int, ColType::Int])
+            || begins(kinds, &[ColType::Vect, ColType::Int])
+            || begins(kinds, &[ColType::Vect, ColType::Vect]),
+        ActionKind::Histo2D { weight: None, .. } => begins(kinds, &[ColType::Int, ColType::Int])
+            || begins(kinds, &[ColType::Vect, ColType::Vect]),
+        ActionKind::Histo2D {
+            weight: Some(_),
+            ..
+        } => begins(kinds, &[ColType::Int, ColType::Int, ColType::Int])
+            || begins(kinds, &[ColType::Vect, ColType::Vect, ColType::Int])
+            || begins(kinds, &[ColType::Vect, ColType::Vect, ColType::Vect]),
+    }
+}
+
+/// The columns of an action, whose kinds so far are these.
+fn check_columns(
+    before: &Before<'_>,
+    node: &Name,
+    action: &ActionKind,
+    kinds: &mut Vec<ColType>,
+    columns: &[Name],
+) -> Result<Option<GraphCause>, Memory>
+    ensures { IfOk result (λ o. o ≡ check_columns (scope_before before.now node.now) (permitted_kinds action.now) kinds.old.items columns.now) }
+{
+    let Some((first, rest)) = columns.split_first() else {
+        return Ok(None);
+    };
+    let Some((kind, _)) = before.find_column(node, first) else {
+        return Ok(Some(GraphCause::UnknownColumn));
+    };
+    kinds.push(kind)?;
+    if !may_begin(action, kinds.as_slice()) {
+        return Ok(Some(GraphCause::WrongType));
+    }
+    check_columns(before, node, action, kinds, rest)
+}
+
+fn push_weight(alloc: Global, names: &mut Vec<Name>, weight: &Option<Name>) -> Result<(), Memory>
+    ensures { OnOk result (names.new.items ≡ names.old.items ++ weight_column weight.now) }
+{
+    match weight {
+        None => Ok(()),
+        Some(name) => push_name(alloc, names, name),
+    }
+}
+
+/// The columns that an action reads, in written order.
+pub(crate) fn columns_of(alloc: Global, action: &ActionKind) -> Result<Vec<Name>, Memory>
+    ensures { IfOk result (λ v. v.items ≡ columns_of action.now) }
+{
+    let mut names = Vec::new(alloc);
+    match action {
+        ActionKind::Count => {}
+        ActionKind::Sum(x)
+        | ActionKind::Min(x)
+        | ActionKind::Max(x)
+        | ActionKind::Take(x)
+        | ActionKind::Reduce(_, x) => push_name(alloc, &mut names, x)?,
+        ActionKind::Histo1D { x, weight, .. } => {
+            push_name(alloc, &mut names, x)?;
+            push_weight(alloc, &mut names, weight)?;
+        }
+        ActionKind::Histo2D { x, y, weight, .. } => {
+            push_name(alloc, &mut names, x)?;
+            push_name(alloc, &mut names, y)?;
+            push_weight(alloc, &mut names, weight)?;
+        }
+    }
+    Ok(names)
+}
+
+fn rises(edges: &[i64]) -> bool
+    ensures { result ≡ rises edges.now }
+{
+    let Some((first, rest)) = edges.split_first() else {
+        return true;
+    };
+    match rest.first() {
+        None => true,
+        Some(next) => *first < *next && rises(rest),
+    }
+}
+
+fn are_edges(edges: &IntList) -> bool
+    ensures { result ≡ are_edges edges.now }
+{
+    edges.len() >= 2 && rises(edges.as_slice())
+}
+
+pub(crate) fn check_edges(action: &ActionKind) -> Option<GraphCause>
+    ensures { result ≡ check_edges action.now }
+{
+    let fit = match action {
+        ActionKind::Histo1D { x_edges, .. } => are_edges(x_edges),
+        ActionKind::Histo2D {
+            x_edges,
+            y_edges,
+            ..
+        } => are_edges(x_edges) && are_edges(y_edges),
+        _ => true,
+    };
+    refuse_unless(fit, GraphCause::BadEdges)
+}
