@@ -3,8 +3,7 @@ use Rattle.std.proofs.Common.{◌≡◌, ◌≤◌, ◌||◌, ◌&&◌, not, ℕ
 use Rattle.lemmas.proofs.{and_right, count_by-le-length, Decides-eqb, filter, length-filter, lt-ltb, not_true}
 use Rattle.rdf_values.specs.{EntryFault}
 use Rattle.expr_lanes.specs.{AreRising, EachPlace, is_in, IsSelected}
-use Rattle.expr_lanes.proofs.Composed.{in_filter}
-use Rattle.expr_lanes.proofs.Sequence.{filtered_in, first_in, rest_in}
+use Rattle.expr_lanes.proofs.Sequence.{filtered_in, first_in, rest_in, in_filter}
 use Rattle.block_cache.specs.{below_fault, fault_before, fault_over, is_below, IsFaultOf, PlaceFault}
 
 -- ---- filters

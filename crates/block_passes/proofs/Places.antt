@@ -10,9 +10,8 @@ use Rattle.block_passes.specs.{GivesNumber, GivesVector, HasVector, Lowers, note
 use Rattle.block_passes.specs.declared.found.Found.{Found}
 use Rattle.block_passes.proofs.Searching.{fault_lowers, none_lowers}
 use Rattle.block_cache.proofs.LaneSteps.{filter_all}
-use Rattle.expr_lanes.proofs.Sequence.{first_in, rest_in}
+use Rattle.expr_lanes.proofs.Sequence.{first_in, rest_in, in_filter}
 use Rattle.rdf_model.specs.{Gives, Outcome}
-use Rattle.expr_lanes.proofs.Composed.{in_filter}
 
 -- ---- filters
 

@@ -36,8 +36,7 @@ use Rattle.block_cache.proofs.BlockLaws.{held_of_lane, lane_held, right_value, v
 use Rattle.block_cache.proofs.CanTries.{got_kind}
 use Rattle.block_cache.proofs.OverLaws.{held_true}
 use Rattle.block_cache.proofs.Knowns.{holds_is, holds_on}
-use Rattle.expr_lanes.proofs.Composed.{in_filter}
-use Rattle.expr_lanes.proofs.Sequence.{filtered_in}
+use Rattle.expr_lanes.proofs.Sequence.{filtered_in, in_filter}
 use Rattle.block_cache.proofs.Members.{filter_passes}
 
 -- ---- a site without vectors

@@ -8,7 +8,7 @@ use Rattle.expr_lanes.specs.{called_at, depth, EachPlace, Evaluated, fold_read, 
 use Rattle.expr_lanes.specs.declared.nodes.Branch.{Branch}
 use Rattle.expr_lanes.specs.declared.nodes.Branch.TheVariants.{Node, Same}
 use Rattle.expr_lanes.proofs.Sequence.{alike, come_alike, come_told, go_on, told, come_from, same_given, same_stops, filtered_out, times_with, first_in, rest_in}
-pub use Rattle.expr_lanes.proofs.Sequence.{in_filter}
+use Rattle.expr_lanes.proofs.Sequence.{in_filter}
 use Rattle.lemmas.proofs.{and_false, and_left, and_right, filter, or_false}
 use Rattle.expr_lanes.proofs.SiftSteps.{filter_alike}
 use Rattle.expr_lanes.proofs.Selected.{parts_of, filter_whole, short}
