@@ -7,8 +7,7 @@ use Rattle.expr_lanes.specs.declared.kernels.Side.{Side}
 use Rattle.expr_lanes.specs.{called_at, depth, EachPlace, Evaluated, fold_read, HasCome, HasNumber, is_decider, IsAble, IsAtHand, lane_at, lane_operation, side_number, Stopped, with_zero, at_place, HasValues, is_given, lane_outcome, lane_value, times, with_stop, given_in, is_in, stops_in}
 use Rattle.expr_lanes.specs.declared.nodes.Branch.{Branch}
 use Rattle.expr_lanes.specs.declared.nodes.Branch.TheVariants.{Node, Same}
-use Rattle.expr_lanes.proofs.Sequence.{alike, come_alike, come_told, go_on, told, come_from, same_given, same_stops, filtered_out, times_with, first_in, rest_in}
-use Rattle.expr_lanes.proofs.Sequence.{in_filter}
+use Rattle.expr_lanes.proofs.Sequence.{alike, come_alike, come_told, go_on, told, come_from, same_given, same_stops, filtered_out, times_with, first_in, rest_in, in_filter}
 use Rattle.lemmas.proofs.{and_false, and_left, and_right, filter, or_false}
 use Rattle.expr_lanes.proofs.SiftSteps.{filter_alike}
 use Rattle.expr_lanes.proofs.Selected.{parts_of, filter_whole, short}
