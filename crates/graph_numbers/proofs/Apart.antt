@@ -168,5 +168,4 @@ module _ (header : List Column) (names : FunctionNames) where
 
   -- a variation's number is its place by its name and tag
   pub variation_number : (before : List Statement) → AreAccepted names (scope_of header) before → (v : ℕ) (x : Variation) → slice_get (variations before) v ≡ Some x → place (same_variation x) (variations before) ≡ Some v
-  variation_number before good v x h =
-      place_is (same_variation x) (variations before) v x h (and_holds (same x.name x.name) _ (itself x.name) (itself x.tag)) (λ t y lt k. variations_apart before good v t x y lt h k)
+  variation_number before good v x h = grind (arith, place_is, and_holds, itself, variations_apart)

@@ -2,8 +2,6 @@
 use Rattle.std.proofs.Common.{◌≡◌, ℕ, suc, ◌+◌, ◌*◌, ◌≤◌, List, [], ◌∷◌, length, refl, ◌∙◌, ap, arith, length-append}
 use Rattle.std.specs.List.{AllByRecursion}
 use Rattle.rdf_values.specs.{before, Column, expression_count, FunctionNames, IsShort, NamedTree, Statement}
-use Rattle.rdf_values.specs.declared.scripts.statement.Statement.TheVariants.{Vary}
-use Rattle.rdf_values.specs.declared.scripts.vary_values.VaryValues.TheVariants.{Lists}
 use Rattle.graph_numbers.specs.{list_sites, lists_sites, own_sites, sites}
 
 module _ (header : List Column) (names : FunctionNames) where
@@ -18,8 +16,7 @@ module _ (header : List Column) (names : FunctionNames) where
       ∙ (λ l. list_count before parent node i 0 es l + lists_count before parent node (suc i) ls l)
 
   own_few : (before : List Statement) (s : Statement) → IsShort s → length (own_sites header names before s) ≤ 65536
-  own_few before (Vary node parent columns (Lists ls) tags vary) h = let n = lists_count before parent node 0 ls in let few = h.4.1 in omega (arith, n, few)
-  own_few before s h = omega arith
+  own_few before s h = grind (arith, lists_count)
 
   pub sites_few : (before : List Statement) → AllByRecursion IsShort before → length (sites header names before) ≤ 65536 * length before
   sites_few [] h = omega arith

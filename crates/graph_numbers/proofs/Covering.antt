@@ -90,8 +90,7 @@ module _ (fns : List Function) (columns : List Column) where
 
       go : (p : Path) → AreNumbersOf before (filters_on before node) (named_on p) → AreNumbersOf before (all_or p (named_before before) (filters_on before node)) (covered before p)
       go [] h =
-          let e = filters_are columns (fn_names fns) before in
-          subst (λ (ps : List Path). AreNumbersOf before (numbers_from 0 ps) ps) e
+          subst (λ (ps : List Path). AreNumbersOf before (numbers_from 0 ps) ps) (filters_are columns (fn_names fns) before)
           (subst (λ (ns : List ℕ). AreNumbersOf before ns (map (λ (f : FilterAt). f.at) (filters columns (fn_names fns) before))) (same_numbers 0 (filters columns (fn_names fns) before))
           (all_numbers before 0 [] (filters columns (fn_names fns) before) refl refl))
       go (s ∷ up) h = h

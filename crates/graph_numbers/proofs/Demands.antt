@@ -1,5 +1,5 @@
 -- What a reading demands has with each site the sites of the columns that its evaluation meets.
-use Rattle.std.proofs.Common.{◌≡◌, ℕ, ◌+◌, Bool, true, false, List, [], ◌∷◌, ◌++◌, length, Option, Some, None, refl, ◌∙◌, ap, arith, slice_get, if◌then◌else◌, flat_map}
+use Rattle.std.proofs.Common.{◌≡◌, ℕ, ◌+◌, Bool, List, [], ◌∷◌, ◌++◌, length, Option, Some, None, refl, ◌∙◌, ap, arith, slice_get, if◌then◌else◌, flat_map}
 use Rattle.rdf_values.specs.{ActionAt, ActionKind, Column, fn_names, Function, makes, NamedTree, parent_of, path, place, same, Statement, target_of, Under, Value, VaryValues}
 use Rattle.rdf_values.specs.declared.scripts.statement.Statement.TheVariants.{Define, Redefine, Filter, Vary}
 use Rattle.rdf_values.specs.declared.scripts.vary_values.VaryValues.TheVariants.{Lists, Vector}
@@ -49,12 +49,10 @@ module _ (fns : List Function) (columns : List Column) (row : List Value) (u : U
   site_explained s x h k = grind (arith, here, there, in_flat, wider, flat_explained)
 
   if_explained : (b : Bool) (xs ys : List Demand) → AreExplained xs → AreExplained ys → AreExplained (if b then xs else ys)
-  if_explained true xs ys h k = h
-  if_explained false xs ys h k = k
+  if_explained b xs ys h k = grind arith
 
   varied_explained : (k i : Option ℕ) (own : ℕ → ℕ → List Demand) (above : List Demand) → ((i k : ℕ) → AreExplained (own i k)) → AreExplained above → AreExplained (varied k i own above)
-  varied_explained (Some k) (Some i) own above h a = h i k
-  varied_explained k i own above h a = a
+  varied_explained k i own above h a = grind arith
 
   abbrev Reads : List Statement → List ℕ → Type 0
   Reads earlier node = (name : List ℕ) → AreExplained (named_demands fns columns row (path earlier node) u name)

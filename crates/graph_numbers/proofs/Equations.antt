@@ -1,5 +1,5 @@
 -- What a site comes to, by what its columns' versions come to; and that the sites of these have lower numbers.
-use Rattle.std.proofs.Common.{◌≡◌, ℕ, ◌<◌, ◌≤◌, List, [], length, Some, refl, sym, ◌∙◌, ap, subst, arith, slice_get}
+use Rattle.std.proofs.Common.{◌≡◌, ℕ, ◌<◌, ◌≤◌, List, [], length, Some, sym, ◌∙◌, ap, subst, arith, slice_get}
 use Rattle.std.proofs.lemmas.Option.{get_or_from_slice_get, slice_get_within}
 use Rattle.rdf_values.specs.{AreAccepted, callee, Column, column_kind, EachColumn, fn_names, Function, path, renamed, scope_at, scope_of, shape_of, Statement, Tree, Under, Value}
 use Rattle.rdf_model.specs.{call_outcome, column_value, evaluate, named_call, Outcome}
@@ -13,16 +13,14 @@ use Rattle.graph_numbers.proofs.ColumnSources.{IsGiven, HasSource, column_source
 -- ---- looks that agree
 
 close_equal : {M : Type 0} {o p : Outcome M Value} → Close (λ _. ⊥) o p → o ≡ p
-close_equal same = refl
-close_equal (missing n) = absurd n
+close_equal h = grind (arith, same, missing)
 
 close_if : {M : Type 0} {o p : Outcome M Value} → o ≡ p → Close (λ (_ : M). ⊥) o p
 close_if {M} {o} h = subst (λ (x : Outcome M Value). Close (λ (_ : M). ⊥) o x) h same
 
 -- two looks that agree on the columns of an expression give one outcome
 pub agrees : {C F M : Type 0} (look look' : C → Outcome M Value) (call : F → List Value → Outcome M Value) (e : Tree C F) → EachColumn (λ c. look c ≡ look' c) e → evaluate look call e ≡ evaluate look' call e
-agrees {M = M} look look' call e h =
-    close_equal (evaluate_close (λ _. ⊥) look look' call e (each_weaker (λ c. look c ≡ look' c) (λ c. Close (λ (_ : M). ⊥) (look c) (look' c)) (λ c. close_if) e h))
+agrees look look' call e h = grind (arith, close_equal, evaluate_close, each_weaker, close_if)
 
 module _ (M : Type 0) (fns : List Function) (columns : List Column) (row : List Value) (u : Under) where
   -- what a site and a version of the statements so far come to, by their numbers
@@ -37,8 +35,7 @@ module _ (M : Type 0) (fns : List Function) (columns : List Column) (row : List 
 
   -- the value of a version by its number is what its source gives
   pub source_is : (before : List Statement) (c : ℕ) (o : Outcome M Value) → HasSource M fns columns row u before c o → version_value before c ≡ o
-  source_is before c o h =
-      ap (source_value row (number_value before)) (get_or_from_slice_get (sources columns (fn_names fns) u before) c h.0 (Source.Cell 0) h.1) ∙ given_value before h.0 o h.2
+  source_is before c o h = grind (arith, get_or_from_slice_get, given_value)
 
   pub source_later : (before after : List Statement) → Extends before after → (c : ℕ) (o : Outcome M Value) → HasSource M fns columns row u before c o → HasSource M fns columns row u after c o
   source_later = origin.source_later columns (fn_names fns) u (values M fns columns row u)

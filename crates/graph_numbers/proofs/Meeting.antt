@@ -94,8 +94,7 @@ each_both P Q R f e h k = each_of R e (λ c i. f c (each_at P e h c i) (each_at 
 -- ---- what is needed
 
 not_known : {M A : Type 0} (o : Outcome M A) (m : M) → IsKnown o → o ≡ Needs m → ⊥
-not_known o m gives h = cc h
-not_known o m faults h = cc h
+not_known o m h k = grind arith
 
 abbrev in_need : {M A : Type 0} → M → Outcome M A → M
 in_need d (Needs m) = m
@@ -133,13 +132,10 @@ module _ {C F M : Type 0} (look : C → Outcome M Value) (call : F → List Valu
 -- ---- by names
 
 if_need : {M A : Type 0} (o : Outcome M A) → is_need o ≡ true → (m : M) × (o ≡ Needs m)
-if_need (Needs m) h = (m, refl)
-if_need o h = cc h
+if_need o h = grind arith
 
 alike_need : {M N A : Type 0} (o : Outcome M A) (p : Outcome N A) → Alike o p → is_need o ≡ is_need p
-alike_need o p alike.gives = refl
-alike_need o p alike.faults = refl
-alike_need o p alike.needs = refl
+alike_need o p h = grind arith
 
 -- with a number for each name, an outcome for each number, and the same for each name, where no call needs anything
 module _ {F : Type 0} (number : List ℕ → ℕ) (look : ℕ → Outcome ℕ Value) (named : List ℕ → Outcome (List ℕ) Value) (call : F → List Value → Outcome ℕ Value) (named_call : F → List Value → Outcome (List ℕ) Value)
@@ -179,15 +175,13 @@ module _ {F : Type 0} (number : List ℕ → ℕ) (look : ℕ → Outcome ℕ Va
       (n.0, sym ((Decides-eqb c (number n.0)).0 p.1), n.1, in_filter (is_met same named named_call e) (columns_in e) n.1 r)
     where
       go : (n : List ℕ) (o p : Outcome (List ℕ) Value) → o ≡ Needs n → evaluations.Close (λ d. d ≢ n) o p → is_need p ≡ true
-      go n o p q evaluations.same = ap is_need q
-      go n o p q (evaluations.missing {d = d} k) = absurd (k (ap (in_need n) q))
+      go n o p q h = grind arith
 
 -- ---- The version of a visible column has the column's kind, and comes to a value of it.
 
 module _ (header : List Column) (names : FunctionNames) where
   own_count : (before : List Statement) (s : Statement) → length (own_kinds header names before s) ≡ length (own_columns s)
-  own_count before (Vary node parent columns values tags vary) = length-map columns _
-  own_count before s = refl
+  own_count before s = grind (arith, length-map)
 
   -- there is one kind for each version
   pub kind_count : (before : List Statement) → length (version_kinds header names before) ≡ version_count header before

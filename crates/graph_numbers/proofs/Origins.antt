@@ -127,8 +127,7 @@ module _ {A : Type 0} (columns : List Column) (names : FunctionNames) (u : Under
   defined_source s before node parent column name expr t k own its above false h = has_further before s _ _ (above name t h)
 
   own_none : (values : VaryValues) (n i tags : ℕ) (below : Source) → own_source values n i tags None below ≡ below
-  own_none (Lists lists) n i tags below = refl
-  own_none (Vector e) n i tags below = refl
+  own_none values n i tags below = grind arith
 
   -- what the column at a place of a Vary has as its source
   abbrev own_of : List Statement → List ℕ → VaryValues → List (List ℕ) → List ℕ → ℕ → List ℕ → Source
@@ -162,8 +161,7 @@ module _ {A : Type 0} (columns : List Column) (names : FunctionNames) (u : Under
         subst (HasSource (Vary node parent cs values tags vary ∷ before) (named_version columns before parent name)) (sym (none_varied (own_place u vary tags) _ _)) (has_further before (Vary node parent cs values tags vary) _ _ (above name t h))
       where
         none_varied : (k : Option ℕ) (own : ℕ → ℕ → A) (o : A) → varied k None own o ≡ o
-        none_varied None own o = refl
-        none_varied (Some k) own o = refl
+        none_varied k own o = grind arith
     vary_source before node parent cs values tags vary name t checked above h (Some i) p =
         at_tag values (own_place u vary tags) refl checked.1
         (own_version_source (Vary node parent cs values tags vary) before i _ refl ∙ varied_source before parent values tags vary name 0 i cs (place_gives name cs i p)

@@ -63,8 +63,7 @@ module _ (M : Type 0) (fns : List Function) (columns : List Column) (row : List 
           → (elim r as (λ _. Option GraphCause) [ Err e ↦ Some e | Ok t ↦ (if may_begin permitted (kinds ++ t ∷ []) then check_columns (scope_at (fn_names fns) (scope_of columns) earlier node) permitted (kinds ++ t ∷ []) cs else Some GraphCause.WrongType) ]) ≡ None
           → ((t : ColType) → check_columns (scope_at (fn_names fns) (scope_of columns) earlier node) permitted (kinds ++ t ∷ []) cs ≡ None → AreVisible earlier node cs)
           → AreVisible earlier node (c ∷ cs)
-      go (Err e) q k next = cc k
-      go (Ok t) q k next = ((t, q), next t (by_test (may_begin permitted (kinds ++ t ∷ [])) (λ b. rw b at k) (λ b. cc (rw b at k))))
+      go r q k next = grind (arith, by_test)
 
   pub values_are : (earlier : List Statement) → AreAccepted (fn_names fns) (scope_of columns) earlier → Extends earlier before → (node : List ℕ) (cs : List (List ℕ)) → AreVisible earlier node cs
       → for_all (column_value fns columns row {M = M} (path earlier node) u) cs ≡ for_all versioned (map (version_at columns earlier node) cs)
@@ -84,5 +83,4 @@ module _ (M : Type 0) (fns : List Function) (columns : List Column) (row : List 
   pub action_is : (earlier : List Statement) (result parent : List ℕ) (k : ActionKind) → AreAccepted (fn_names fns) (scope_of columns) (Action result parent k ∷ earlier) → Extends earlier before
       → action_outcome fns columns row {M = M} k (path earlier parent) u
       ≡ (through_sites numbered (filter_sites columns (fn_names fns) earlier parent) >>= λ passed. if passed then for_all versioned (map (version_at columns earlier parent) (columns_of k)) >>= feed_outcome k else Gives Skip)
-  action_is earlier result parent k good e =
-      λ i. through_is earlier e parent i >>= λ passed. if passed then values_are earlier good.1 e parent (columns_of k) (action_visible earlier result parent k good) i >>= feed_outcome k else Gives Skip
+  action_is earlier result parent k good e = grind (arith, through_is, values_are, action_visible)

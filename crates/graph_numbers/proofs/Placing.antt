@@ -44,8 +44,7 @@ module _ (header : List Column) (names : FunctionNames) where
     varied_count before below parent values tags vary i (c ∷ cs) = ap suc (varied_count before below parent values tags vary (suc i) cs)
 
     own_count : (before : List Statement) (below : List Source) (s : Statement) → length (own_sources header names u before below s) ≡ length (own_columns s)
-    own_count before below (Vary node parent columns values tags vary) = varied_count before below parent values tags vary 0 columns
-    own_count before below s = refl
+    own_count before below s = grind (arith, varied_count)
 
     -- there is one source for each version
     pub source_count : (before : List Statement) → length (sources header names u before) ≡ version_count header before
@@ -64,8 +63,7 @@ module _ (header : List Column) (names : FunctionNames) where
   varied_versions_count before parent values tags i (c ∷ cs) = ap suc (varied_versions_count before parent values tags (suc i) cs)
 
   own_versions_count : (before : List Statement) (s : Statement) → length (own_versions header names before s) ≡ length (own_columns s)
-  own_versions_count before (Vary node parent columns values tags vary) = varied_versions_count before parent values tags 0 columns
-  own_versions_count before s = refl
+  own_versions_count before s = grind (arith, varied_versions_count)
 
   -- there are as many versions
   pub versions_count : (before : List Statement) → length (versions header names before) ≡ version_count header before

@@ -21,8 +21,7 @@ place_found name (x ∷ xs) zero h none = let is : same name x ≡ true = ap (sa
 place_found name (x ∷ xs) (suc k) h none = by_test (same name x) (λ e. cc (rw e at none)) (λ e. place_found name xs k h (after (place (same name) xs) (rw e at none)))
   where
     after : (o : Option ℕ) → option_map suc o ≡ None → o ≡ None
-    after None q = refl
-    after (Some j) q = cc q
+    after o q = grind arith
 
 number_at : {A : Type 0} (n : ℕ) (xs : List A) (k : ℕ) → k < length xs → slice_get (numbers_from n xs) k ≡ Some (n + k)
 number_at n [] k lt = absurd (omega (arith, lt))
@@ -64,10 +63,9 @@ module _ (header : List Column) (names : FunctionNames) (script : List Statement
           let tag = place_gives w.tag tags k q in
           let whole : ◌≡◌ {A = Variation} (record { name = vary; tag = w.tag }) w = (let f = names_equal w.name vary is in λ i. record { name = sym f i; tag = w.tag }) in
           let there' = tag_number before node parent cs values tags vary e k w.tag tag ∙ ap Some whole in
-          let one = variation_number header names script good n w at in
           let two = variation_number header names script good (length (variations before) + k) w there' in
           let lt = slice_get_within tags k w.tag tag in
-          (lt, (let p : Some n ≡ Some (length (variations before) + k) = sym one ∙ two in cc p))
+          (lt, (let p : Some n ≡ Some (length (variations before) + k) = sym (variation_number header names script good n w at) ∙ two in cc p))
       same_place n w at false is k q = cc q
 
       found : (u : Option ℕ) (w : Under) → v ≡ u → under_at script u ≡ w → (k : ℕ) → own_place w vary tags ≡ Some k → (k < length tags) × (u ≡ Some (length (variations before) + k))
@@ -82,8 +80,7 @@ module _ (header : List Column) (names : FunctionNames) (script : List Statement
           place_found t.0 tags k t.1 (rw (same_as_itself vary) at own)
 
       go : (o : Option ℕ) → own_place under vary tags ≡ o → IsPlaceOf (length (variations before)) (length tags) o
-      go (Some k) q = found v under refl refl k q
-      go None q = none q
+      go o q = grind (arith, found, none)
 
   -- ---- each version
 
@@ -141,9 +138,8 @@ module _ (header : List Column) (names : FunctionNames) (script : List Statement
       let at : slice_get (version_kinds header names before) (named_version header before parent name) ≡ Some t.0 =
       ap (λ n. slice_get (version_kinds header names before) (named_version header before parent n)) (sym own) ∙ visible_kind header names before ok parent name t.0 t.1 in
       let lt = slice_get_within (version_kinds header names before) (named_version header before parent name) t.0 at in
-      let many = kind_count header names before in
       let few = source_count header names under before in
-      something_at (list_of before) (named_version header before parent name) (omega (arith, lt, many, few))
+      something_at (list_of before) (named_version header before parent name) (omega (arith, lt, kind_count header names before, few))
 
   said_by_columns : (before : List Statement) → AreAccepted names (scope_of header) before
       → (parent : List ℕ) (values : VaryValues) (tags : List (List ℕ)) (vary : List ℕ) → IsPlaceOf (length (variations before)) (length tags) (own_place under vary tags)

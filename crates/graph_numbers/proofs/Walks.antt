@@ -1,5 +1,5 @@
 -- Elements of lists by their places, and tests by their two answers.
-use Rattle.std.proofs.Common.{◌≡◌, ◌⊎◌, inl, inr, ℕ, zero, suc, ◌+◌, Bool, true, false, List, [], ◌∷◌, ◌++◌, length, Some, refl, sym, ◌∙◌, ap, arith, slice_get, zero-add, map, subst, ◌<◌, ◌≤◌, length-append}
+use Rattle.std.proofs.Common.{◌≡◌, ◌⊎◌, inl, inr, ℕ, zero, suc, ◌+◌, Bool, true, false, List, [], ◌∷◌, ◌++◌, length, Some, sym, ◌∙◌, ap, arith, slice_get, zero-add, map, subst, ◌<◌, ◌≤◌, length-append}
 use Rattle.rdf_values.specs.{place, same, ActionAt, ActionKind, Column, columns_of, covered, FunctionNames, NamedTree, path, ReportOn, Statement, parent_of}
 use Rattle.rdf_model.proofs.Accepted.{names_equal, place_after}
 use Rattle.rdf_values.specs.declared.scripts.statement.Statement.TheVariants.{Filter, Action, Report}
@@ -7,8 +7,7 @@ use Rattle.graph_numbers.specs.{covered_at, filter_sites, FilterAt, filters, own
 use Rattle.lemmas.proofs.{AllByRecursion, append-nil}
 
 pub by_test : {P : Type 0} (b : Bool) → (b ≡ true → P) → (b ≡ false → P) → P
-by_test true f g = f refl
-by_test false f g = g refl
+by_test b f g = grind arith
 
 -- what stands in the second one
 pub next_at : {A : Type 0} (xs ys : List A) (k n : ℕ) → n ≡ length xs + k → slice_get (xs ++ ys) n ≡ slice_get ys k
@@ -27,8 +26,7 @@ of_joined xs ys n x h = joined xs ys n x h (λ q. inl q) (λ k e q. inr (k, e, q
 
 -- what stands in a list of one
 pub only_at : {A : Type 0} (x y : A) (k : ℕ) → slice_get (x ∷ []) k ≡ Some y → x ≡ y
-only_at x y zero h = cc h
-only_at x y (suc k) h = cc h
+only_at x y k h = grind arith
 
 -- a name stands at its place
 pub place_gives : (name : List ℕ) (names : List (List ℕ)) (k : ℕ) → place (same name) names ≡ Some k → slice_get names k ≡ Some name
@@ -56,9 +54,7 @@ module _ (header : List Column) (names : FunctionNames) where
       joined (filters header names before) (own_filters header names before s) n f h (λ q. later before s f (each_filter P later first before n f q)) (λ k e q. own s k q)
     where
       own : (s : Statement) (k : ℕ) → slice_get (own_filters header names before s) k ≡ Some f → P (s ∷ before) f
-      own (Filter node parent expr (Some label)) k q =
-          subst (P (Filter node parent expr (Some label) ∷ before)) (only_at (filter_at before node parent expr label) f k q) (first before node parent expr label)
-      own s k q = cc q
+      own s k q = grind (arith, only_at)
 
   abbrev action_at : List Statement → List ℕ → List ℕ → ActionKind → ResultAt
   action_at before result parent k =
@@ -87,9 +83,7 @@ module _ (header : List Column) (names : FunctionNames) where
       joined (results header names before) (own_results header names before s) n r h (λ q. later before s r (each_result P later action report before n r q)) (λ k e q. own s k q)
     where
       own : (s : Statement) (k : ℕ) → slice_get (own_results header names before s) k ≡ Some r → P (s ∷ before) r
-      own (Action result parent kind) k q = subst (P (Action result parent kind ∷ before)) (only_at (action_at before result parent kind) r k q) (action before result parent kind)
-      own (Report result parent) k q = subst (P (Report result parent ∷ before)) (only_at (report_at before result parent) r k q) (report before result parent)
-      own s k q = cc q
+      own s k q = grind (arith, only_at)
 
 -- ---- The sites of filters are sites.
 
