@@ -65,8 +65,7 @@ module _ (j : JobView) (job : IsJob j) (entry : ℕ) (u : Option ℕ) (cells : L
           }
         where
           further_below : (src : Source) → IsBelow (length j.dataset.columns) s src → IsBelow (length j.dataset.columns) (length (graph_sites (job_graph j))) src
-          further_below (Source.Cell col) h = h
-          further_below src h = let lt = slice_get_within (graph_sites (job_graph j)) s x q in omega (arith, h, lt)
+          further_below src h = grind (arith, slice_get_within)
 
           readable : (c : ℕ) → (c < version_count j.dataset.columns (history j.script)) × IsBelow (length j.dataset.columns) s (source_at j u c) → IsReadable j u c
           readable c h = grind (arith, versions_count, further_below)

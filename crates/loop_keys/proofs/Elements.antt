@@ -1,5 +1,5 @@
 -- What stands in a list, and tests and facts of its elements; and from what an answer comes.
-use Rattle.std.proofs.Common.{◌≡◌, ℕ, zero, suc, Bool, true, ◌||◌, List, [], ◌∷◌, map, Option, Some, None, option_map, refl, sym, ◌∙◌, subst, ap, slice_get, unwrap_or, ◌+◌, ◌<◌, ◌++◌, length, arith, get_or, flat_map}
+use Rattle.std.proofs.Common.{◌≡◌, ℕ, zero, suc, Bool, true, ◌||◌, List, [], ◌∷◌, map, Option, Some, option_map, refl, sym, ◌∙◌, subst, ap, slice_get, unwrap_or, ◌+◌, ◌<◌, ◌++◌, length, arith, get_or, flat_map}
 use Rattle.lemmas.proofs.{AllByRecursion, length_push, list_any, or_right, slice_get-get_or, slice_get-map}
 use Rattle.graph_numbers.proofs.Walks.{by_test, joined, only_at}
 use Rattle.loop_keys.specs.{AreEach}
@@ -27,12 +27,10 @@ in_flat f (z ∷ xs) zero x y h k = let e : z ≡ x = cc h in in_left (f z) (fla
 in_flat f (z ∷ xs) (suc n) x y h k = in_right (f z) (flat_map f xs) (in_flat f xs n x y h k)
 
 pub of_chosen : {A : Type 0} (o : Option (List A)) (n : ℕ) (x : A) → slice_get (unwrap_or o []) n ≡ Some x → (xs : List A) × (o ≡ Some xs) × (slice_get xs n ≡ Some x)
-of_chosen None n x h = cc h
-of_chosen (Some xs) n x h = (xs, refl, h)
+of_chosen o n x h = grind arith
 
 pub of_option : {A B : Type 0} (f : A → B) (o : Option A) (y : B) → option_map f o ≡ Some y → (x : A) × (o ≡ Some x) × (f x ≡ y)
-of_option f None y h = cc h
-of_option f (Some x) y h = (x, refl, cc h)
+of_option f o y h = grind arith
 
 pub of_mapped : {A B : Type 0} (f : A → B) (xs : List A) (n : ℕ) (y : B) → slice_get (map f xs) n ≡ Some y → (x : A) × (slice_get xs n ≡ Some x) × (f x ≡ y)
 of_mapped f xs n y h = of_option f (slice_get xs n) y (sym (slice_get-map f xs n) ∙ h)
@@ -52,8 +50,7 @@ module _ {A : Type 0} (P : ℕ → A → Type 0) where
     }
       where
         last : {i : ℕ} {y : A} (k : ℕ) → i ≡ length xs + k → slice_get (x ∷ []) k ≡ Some y → n ≡ i
-        last zero e r = let m = all.many in omega (arith, m, e)
-        last (suc k) e r = cc r
+        last k e r = grind arith
 
     -- the element at a place
     pub read_each : (i : ℕ) (d : A) → i < n → P i (get_or xs i d)

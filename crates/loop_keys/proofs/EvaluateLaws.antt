@@ -16,8 +16,7 @@ pub accepted_of : (j : JobView) → IsJob j → AreAccepted (fn_names j.dataset.
 accepted_of j job = (verdict_is_the_first_refusal (fn_names j.dataset.fns) j.dataset.columns j.script).0 job.graph.accepted
 
 pub known_never : (o : Outcome ⊥ Value) → is_need (with_needs {M = ℕ} o) ≡ true → ⊥
-known_never (Needs m) e = elim m [ ]
-known_never o e = cc e
+known_never o e = grind arith
 
 -- nothing is missing of a site
 site_known : (j : JobView) (entry : ℕ) (u : Option ℕ) (t : ℕ) → site_in {M = ℕ} j entry u t ≡ with_needs (site_in j entry u t)
@@ -35,8 +34,7 @@ module _ (j : JobView) (job : IsJob j) (entry : ℕ) (u : Option ℕ) (cells : L
 
   -- nothing is held, or what the site comes to
   held_is : {P : Type 0} (t : ℕ) (h : Held) → IsRight (site_in j entry u t) h → (h ≡ Held.Nothing → P) → (((c : ℕ) → held_or_need c h ≡ site_in {M = ℕ} j entry u t) → P) → P
-  held_is t Held.Nothing r empty known = empty refl
-  held_is t h r empty known = known (λ c. ap with_needs r ∙ sym (site_known j entry u t))
+  held_is t h r empty known = grind (arith, site_known)
 
   within : s < length (graph_sites (job_graph j))
   within = slice_get_within (graph_sites (job_graph j)) s x its

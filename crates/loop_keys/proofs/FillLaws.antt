@@ -89,5 +89,4 @@ pub grows_on : (a b c : List Held) → Grows a b → Grows b c → Grows a c
 grows_on a b c p q k h = q k (ap is_held (p k h) ∙ h) ∙ p k h
 
 pub in_source : (D : ℕ → Bool) (t : ℕ) (x : Source) → IsSiteOf t x → IsSourceIn D x → D t ≡ true
-in_source D t (Source.Cell col) i h = elim i [ ]
-in_source D t x i h = ap D (sym i) ∙ h
+in_source D t x i h = grind arith

@@ -34,8 +34,7 @@ taken_apart p (suc v) (suc w) (x ∷ xs) lt h =
 
 module _ (vs : List Variation) (x : SiteAt) where
   pub slot_small : (u : Option ℕ) → slot vs x u < own_keys vs x
-  slot_small None = omega arith
-  slot_small (Some v) = by_test (holds_at (depends_on x) (slice_get vs v)) (λ h. let c = taken_fewer (depends_on x) v vs h in rw h (omega (arith, c))) (λ h. rw h (omega arith))
+  slot_small u = grind (arith, by_test, taken_fewer)
 
 module _ (script : List Statement) where
   abbrev vs : List Variation
@@ -46,8 +45,7 @@ module _ (script : List Statement) where
     at u = site_outcome fns columns row x u
 
     as_nominal : (o : Option Variation) → holds_at (depends_on x) o ≡ false → at o ≡ at None
-    as_nominal None h = refl
-    as_nominal (Some v) h = unvaried_site fns columns row v x.at x.expr h
+    as_nominal o h = grind (arith, unvaried_site)
 
     same_varied : (v w : ℕ) (a b : Bool) → holds_at (depends_on x) (slice_get vs v) ≡ a → holds_at (depends_on x) (slice_get vs w) ≡ b
         → (if a then suc (count_by (depends_on x) (take v vs)) else 0) ≡ (if b then suc (count_by (depends_on x) (take w vs)) else 0)
@@ -62,8 +60,7 @@ module _ (script : List Statement) where
     same_varied v w a b h k e = cc e
 
     nominal_varied : (w : ℕ) (b : Bool) → holds_at (depends_on x) (slice_get vs w) ≡ b → 0 ≡ (if b then suc (count_by (depends_on x) (take w vs)) else 0) → at None ≡ at (slice_get vs w)
-    nominal_varied w true k e = cc e
-    nominal_varied w false k e = sym (as_nominal (slice_get vs w) k)
+    nominal_varied w b k e = grind (arith, as_nominal)
 
     -- one slot, one outcome
     pub same_slot : (u w : Option ℕ) → slot vs x u ≡ slot vs x w → at (under_at script u) ≡ at (under_at script w)
@@ -156,8 +153,7 @@ module _ (g : GraphView) (s : ℕ) (inside : s < length (graph_sites g)) (depend
   depends_is v = its v ∙ ap (holds_at (λ y. holds_at (depends_on y) (slice_get (graph_variations g) v))) there
 
   slot_is : (u : Option ℕ) → slot_in depends u ≡ slot (graph_variations g) x u
-  slot_is None = refl
-  slot_is (Some v) = λ i. if depends_is v i then suc (members_counted (depends_on x) (graph_variations g) depends depends_is v i) else 0
+  slot_is u = grind (arith, depends_is, members_counted)
 
   pub here_key : (u : Option ℕ) → first + slot_in depends u ≡ key g s u
   here_key u = let a = slot_is u in let b = key_is g s x u there in omega (arith, next, a, b)

@@ -1,13 +1,13 @@
 -- How many passes a loop has.
 use Rattle.std.proofs.Common.{◌≡◌, ℕ, suc, ◌*◌, ◌<◌, ◌≤◌, ◌^◌, Bool, not, List, [], ◌∷◌, length, map, Option, Some, None, refl, arith, slice_get, unwrap_or, if◌then◌else◌, length-append, sym, ◌∙◌, ap, zero, ◌+◌, true, false, ◌++◌, take}
 use Rattle.lemmas.proofs.{length-map, length-reverse, mul-le-mul, mul-le-mul_right, mapped_at, slice_get_within, append-nil, flat_map-append, take_next}
-use Rattle.rdf_values.specs.{among, Booked, bookings, filled, history, Line, Script, Statement, variations, fn_names, Pass, Value, ActionAt, ActionKind, Booking, named_before, Path, ReportOn}
+use Rattle.rdf_values.specs.{among, Booked, bookings, filled, history, Script, Statement, variations, fn_names, Pass, Value, ActionAt, ActionKind, Booking, named_before, Path}
 use Rattle.rdf_values.specs.declared.scripts.statement.Statement.TheVariants.{Print}
 use Rattle.graph_numbers.specs.{booked_statements, graph_loops, graph_variations, GraphView, IsGraph, loops, own_loop, Pass as NumberedPass, passes_from, places_from, result_passes, booking_numbers, graph_filters, graph_results, graph_under, pass_at, ResultAt, FilterAt}
 use Rattle.graph_numbers.proofs.Walks.{by_test, joined}
 use Rattle.loop_keys.specs.{IsJob, job_graph, JobView, numbered_passes, numbered_in, outcome_of, pass_outcome, passes_in, row_of, site_in, version_in, actions_before}
 use Rattle.graph.proofs.Looped.{bookings_few}
-use Rattle.rdf_model.specs.{booking_outcome, loop_passes, loop_results, Dataset, filter_reach, is_covered, items_of, kind_in, kinds_in, Reach, reaches_of, spread_in, spreads_of}
+use Rattle.rdf_model.specs.{booking_outcome, Dataset, filter_reach, is_covered, items_of, kind_in, kinds_in, Reach, reaches_of, spreads_of}
 use Rattle.graph_numbers.proofs.Placing.{itself}
 use Rattle.graph_numbers.proofs.Looping.{loops_are}
 use Rattle.graph_numbers.proofs.Resulting.{booked_are, result_is}
@@ -43,8 +43,7 @@ module _ (script : List Statement) where
       own s i q = cc q
 
 pub lines_few : (script : Script) → length script.lines ≤ 256 → length (history script) ≤ 256
-lines_few script h =
-    let a = length-reverse (map (λ (l : Line). l.statement) script.lines) in let b = length-map script.lines (λ (l : Line). l.statement) in omega (arith, a, b, h)
+lines_few script h = grind (arith, length-reverse, length-map)
 
 -- few passes in a loop
 pub loop_few : (g : GraphView) → IsGraph g → length (graph_variations g) ≤ 128 → (l : ℕ) (ps : List NumberedPass) → slice_get (graph_loops g) l ≡ Some ps → length ps ≤ 33024
@@ -74,9 +73,7 @@ at_both F G e xs ys n h = cc h
 module _ (j : JobView) where
   -- they are the passes of the loop
   pub passes_are : map (pass_at (history j.script)) (numbered_passes j) ≡ map (λ p. Some p) (passes_in j)
-  passes_are =
-      at_both (map (pass_at (history j.script))) (λ results. map (λ (p : Pass). Some p) (loop_passes (history j.script) results)) refl (graph_loops (job_graph j)) (loop_results (history j.script)) j.number
-      (loops_are (history j.script) (history j.script) itself)
+  passes_are = grind (arith, at_both, loops_are, itself)
 
   pub passes_count : length (numbered_passes j) ≡ length (passes_in j)
   passes_count = sym (length-map (numbered_passes j) (pass_at (history j.script))) ∙ ap length passes_are ∙ length-map (passes_in j) (λ (p : Pass). Some p)
@@ -146,16 +143,8 @@ module _ (d : Dataset) (row : List Value) where
   pub at_place : (n : ℕ) (ps : List Pass) (p : Pass) (k : ActionKind) (at : Path) → slice_get ps n ≡ Some p → p.result.booking ≡ ActionAt k at
       → (slice_get (kinds_in ps) (length (kinds_in (take n ps))) ≡ Some k) × (slice_get (spreads_of d ps row) (length (kinds_in (take n ps))) ≡ Some (items_of d k at p.under row))
   at_place n [] p k at q b = cc q
-  at_place zero (x ∷ ps) p k at q b =
-      let i : x ≡ p = cc q in let c : x.result.booking ≡ ActionAt k at = ap (λ (y : Pass). y.result.booking) i ∙ b in rw c (refl, ap (λ (y : Pass). Some (items_of d k at y.under row)) i)
-  at_place (suc n) (x ∷ ps) p k at q b = go x.result.booking (at_place n ps p k at q b)
-    where
-      go : (c : Booking)
-          → (slice_get (kinds_in ps) (length (kinds_in (take n ps))) ≡ Some k) × (slice_get (spreads_of d ps row) (length (kinds_in (take n ps))) ≡ Some (items_of d k at p.under row))
-          → (slice_get (kind_in c ++ kinds_in ps) (length (kind_in c ++ kinds_in (take n ps))) ≡ Some k)
-          × (slice_get (spread_in d row x c ++ spreads_of d ps row) (length (kind_in c ++ kinds_in (take n ps))) ≡ Some (items_of d k at p.under row))
-      go (ActionAt l up) h = h
-      go (ReportOn fs) h = h
+  at_place zero (x ∷ ps) p k at q b = grind arith
+  at_place (suc n) (x ∷ ps) p k at q b = grind (arith, at_place n ps p k at q b)
 
 -- ---- what named filters do
 

@@ -1,10 +1,10 @@
 -- Sites without vectors: no evaluation of them wants memory, and what they need is among them.
-use Rattle.std.proofs.Common.{◌≡◌, ℕ, Bool, true, false, ◌&&◌, not, List, [], ◌∷◌, Option, Some, refl, sym, ◌∙◌, ap, subst, nat_eq, slice_get, unwrap_or, if◌then◌else◌, ◌+◌, ◌<◌, ◌≤◌, ◌||◌, length, take, None, option_map, arith, get_or}
+use Rattle.std.proofs.Common.{◌≡◌, ℕ, Bool, true, false, ◌&&◌, not, List, [], ◌∷◌, Option, Some, refl, sym, ◌∙◌, ap, subst, nat_eq, slice_get, if◌then◌else◌, ◌+◌, ◌<◌, ◌≤◌, ◌||◌, length, take, option_map, arith, get_or}
 use Rattle.lemmas.proofs.{AllByRecursion, both_true, Decides-eqb, recursion_from_All, list_any, list_any_at, list_any_more, slice_get-get_or, take_all}
 use Rattle.rdf_values.specs.{Bin, Call, Callee, Col, ColType, Cond, EachArgument, EachColumn, End, Lit, More, Neg, Not, NumTree, Pick, Trees, Value}
 use Rattle.rdf_values.specs.expressions.Expressions.{Truth}
 use Rattle.rdf_model.specs.{call_outcome, evaluate, is_need, Needs, Outcome, with_needs, without}
-use Rattle.expr_check.specs.{all_are_plain, CheckedExpr, gives_vector, is_plain, is_vector, number_kind, takes_no_vector}
+use Rattle.expr_check.specs.{all_are_plain, CheckedExpr, gives_vector, is_plain, number_kind, takes_no_vector}
 use Rattle.graph_numbers.specs.{graph_kinds, graph_sites, IsSiteExpr, SiteAt, graph_results, GraphView, Pass as NumberedPass, ResultAt}
 use Rattle.graph_numbers.proofs.Walks.{by_test}
 use Rattle.rdf_model.proofs.KnownColumns.{each_weaker}
@@ -17,8 +17,7 @@ use Rattle.rdf_model.proofs.Evaluations as evaluations
 -- the kinds of versions, as an expression lists them
 not_vector : (all : List ColType) (ks : List (ℕ × ColType)) (c : ℕ) → AllByRecursion (λ (k : ℕ × ColType). slice_get all k.0 ≡ Some k.1) ks → is_vector_at all c ≡ false → gives_vector (number_kind ks c) ≡ false
 not_vector all [] c h e = refl
-not_vector all (k ∷ ks) c h e =
-    by_test (nat_eq k.0 c) (λ q. rw q (ap (λ (o : Option ColType). is_vector (unwrap_or o ColType.Int)) (sym h.0 ∙ ap (slice_get all) ((Decides-eqb k.0 c).0 q)) ∙ e)) (λ q. rw q (not_vector all ks c h.1 e))
+not_vector all (k ∷ ks) c h e = grind (arith, by_test, not_vector all ks c h.1 e)
 
 module _ (ks : List (ℕ × ColType)) where
   abbrev NoVector : ℕ → Type 0
@@ -71,8 +70,7 @@ module _ (j : JobView) (job : IsJob j) (entry : ℕ) (u : Option ℕ) (used : �
       alone d v false e = evaluations.same
 
       go : (o p : Outcome ℕ Value) → evaluations.Close N o p → is_need o ≡ true → p ≡ with_needs (site_in j entry u s) → IsSourceIn used (source_at j u c)
-      go o p evaluations.same m w = absurd (known_never (site_in j entry u s) (ap is_need (sym w) ∙ m))
-      go o p (evaluations.missing {d = d} n) m w = n
+      go o p h m w = grind (arith, known_never)
 
   pub plain_closed : IsClosed j entry u used
   plain_closed = record { each = λ s c us m. met_source s c m.0 m.1 us m.2 }
@@ -82,13 +80,11 @@ module _ (j : JobView) (job : IsJob j) (entry : ℕ) (u : Option ℕ) (used : �
 -- ---- a report of the loop
 
 covers_are : (o : Option ResultAt) (ns : List ℕ) → option_map (λ (x : ResultAt). x.covers) o ≡ Some ns → covers_of o ≡ ns
-covers_are None ns h = cc h
-covers_are (Some r) ns h = cc h
+covers_are o ns h = grind arith
 
 module _ (j : JobView) (g : GraphView) (e : g ≡ job_graph j) (f : ℕ) (m : NumberedPass) (ns : List ℕ) (q : option_map (λ (x : ResultAt). x.covers) (slice_get (graph_results g) m.result) ≡ Some ns) where
   pub covering_is : (b : Bool) → b ≡ list_any (nat_eq f) ns → is_covering (graph_results (job_graph j)) f m ≡ b
-  covering_is b h =
-      ap (list_any (nat_eq f)) (ap (λ (v : GraphView). covers_of (slice_get (graph_results v) m.result)) (sym e) ∙ covers_are (slice_get (graph_results g) m.result) ns q) ∙ sym h
+  covering_is b h = grind (arith, list_any, covers_are)
 
 module _ (j : JobView) (ps : List NumberedPass) (e : ps ≡ numbered_passes j) (f : ℕ) where
   abbrev test : NumberedPass → Bool

@@ -32,12 +32,10 @@ module _ (header : List Column) (names : FunctionNames) where
       (λ upto node parent expr label. or_left (makes (Filter node parent expr (Some label)) node) (MadeBy header names upto node) (same_itself node))
 
   own_filter_new : (before : List Statement) (s : Statement) (k : ℕ) (f : FilterAt) → check names (scope_of header) before s ≡ None → slice_get (own_filters header names before s) k ≡ Some f → MadeBy header names before (filter_node f.at) ≡ false
-  own_filter_new before (Filter node parent expr (Some label)) k f ok h = ap (λ (y : FilterAt). MadeBy header names before (filter_node y.at)) (sym (only_at _ f k h)) ∙ is_new header names before node parent _ ok
-  own_filter_new before s k f ok h = cc h
+  own_filter_new before s k f ok h = grind (arith, only_at, is_new)
 
   own_filters_apart : (before : List Statement) (s : Statement) → AreApart alike (own_filters header names before s)
-  own_filters_apart before (Filter node parent expr (Some label)) m n f g lt h k = one_apart alike _ m n f g lt h k
-  own_filters_apart before s m n f g lt h k = cc h
+  own_filters_apart before s = grind (arith, one_apart)
 
   filters_apart : (before : List Statement) → AreAccepted names (scope_of header) before → AreApart alike (filters header names before)
   filters_apart [] good m n f g lt h k = cc h
@@ -160,8 +158,7 @@ module _ (j : JobView) (f : ℕ) (x : FilterAt) (its : slice_get (graph_filters 
 
   pub tried_answer : (v : Bool) → through_sites {M = ⊥} (site_in j entry None) above ≡ Gives true → through_sites {M = ⊥} (site_in j entry None) (above ++ own ∷ []) ≡ Gives v
       → filter_reach j.dataset (row_of j entry) x.at ≡ (if v then Passed else Failed)
-  tried_answer true e h = reached ∙ (λ i. reach_of (e i) (h i))
-  tried_answer false e h = reached ∙ (λ i. reach_of (e i) (h i))
+  tried_answer v e h = grind (arith, reached)
 
 -- ---- Reports: what their filters come to and demand, by their numbers.
 
@@ -176,8 +173,7 @@ module _ (j : JobView) (job : IsJob j) where
   number_there : (ns : List ℕ) (ps : List Path) → AreNumbersOf j.dataset.fns j.dataset.columns (history j.script) ns ps → (k f : ℕ) → slice_get ns k ≡ Some f
       → (x : FilterAt) × (slice_get (graph_filters (job_graph j)) f ≡ Some x) × (slice_get ps k ≡ Some x.at)
   number_there [] [] h k f q = cc q
-  number_there (n ∷ ns) (p ∷ ps) h zero f q =
-      let e : n ≡ f = cc q in (h.0.0, ap (slice_get (graph_filters (job_graph j))) (sym e) ∙ h.0.1, ap Some (sym h.0.2))
+  number_there (n ∷ ns) (p ∷ ps) h zero f q = grind arith
   number_there (n ∷ ns) (p ∷ ps) h (suc k) f q = number_there ns ps h.1 k f q
   number_there ns ps h k f q = elim h [ ]
 
@@ -195,8 +191,7 @@ module _ (j : JobView) (job : IsJob j) where
   of_report f c = go c.result.booked.booking refl (covers_are j.dataset.fns j.dataset.columns (history j.script) (history j.script) itself c.numbered.result c.result c.its_result)
     where
       go : (b : Booking) → c.result.booked.booking ≡ b → AreCovers j.dataset.fns j.dataset.columns (history j.script) b c.result.covers → IsOfReport f c
-      go (ActionAt k at) e h =
-          let w = contained_at c.result.covers f c.covers in cc (sym (ap (λ (ns : List ℕ). slice_get ns w.0) h) ∙ w.1)
+      go (ActionAt k at) e h = grind (arith, contained_at)
       go (ReportOn ps) e h =
           let w = contained_at c.result.covers f c.covers in let x = number_there c.result.covers ps h w.0 f w.1 in
           record { filters = ps; booking = e; filter = x.0; there_is = x.1; place = w.0; number = w.1; path = x.2 }

@@ -9,8 +9,7 @@ pub overflow_add-first : goal.overflow_add-first
 overflow_add-first c = let a = c.loop-site.invariant.small in let b = c.slot.ensures.bound in let d = c.loop-site-test.true in let e = c.sites-site-end.type_inv in omega (arith, a, b, d, e)
 
 pub overflow_add-first-in-loop-site : goal.overflow_add-first-in-loop-site
-overflow_add-first-in-loop-site c =
-    let a = c.loop-site.invariant.small in let b = c.count.ensures.bound in let d = c.loop-site-test.true in let e = c.sites-site-end.type_inv in omega (arith, a, b, d, e)
+overflow_add-first-in-loop-site = grind arith
 
 pub loop-site-init : goal.loop-site-init
 loop-site-init = grind (arith, none_each, no_keys)
