@@ -1,46 +1,23 @@
--- Blocks lead through their entries, and each is as long as it may be.
+-- The first block and those behind it, each as long as it may be.
 use Rattle.std.proofs.Common.{◌≡◌, ◌⊎◌, inl, inr, ℕ, zero, suc, ◌+◌, ◌<◌, ◌≤◌, Bool, true, false, List, [], ◌∷◌, length, map, take, drop, refl, sym, subst, ◌∙◌, ap, arith, if◌then◌else◌, min, sum}
 use Rattle.lemmas.proofs.{map_length, sum_by-cons}
-use Rattle.rdf_values.specs.{Lead, Span, Value}
+use Rattle.rdf_values.specs.{Span, Value}
 use Rattle.block_laws.specs.{blocks_from, blocks_of, first_length, IsFirst, more_fit, one_more_fits, row_elements}
-use Rattle.rdf_model.proofs.Typing.{by_test}
 
 sum_more : (c : ℕ) (cs : List ℕ) → sum (c ∷ cs) ≡ c + sum cs
 sum_more c cs = sum_by-cons (λ n. n) c cs
 
 module _ (size most : ℕ) where
-  lead_from : (cs : List ℕ) (lo n s : ℕ) → 1 ≤ n → Lead lo (lo + n + length cs) (blocks_from size most lo n s cs)
-  lead_from [] lo n s h = (refl, omega (arith, h), let e : lo + n ≡ lo + n + 0 = omega arith in e)
-  lead_from (c ∷ cs) lo n s h =
-      by_test (one_more_fits size most n s c) (λ e. rw e (subst (λ (m : ℕ). Lead lo m (blocks_from size most lo (suc n) (s + c) cs)) (omega arith) (lead_from cs lo (suc n) (s + c) (omega arith))))
-      (λ e. rw e (refl, omega (arith, h), subst (λ (m : ℕ). Lead (lo + n) m (blocks_from size most (lo + n) 1 c cs)) (omega arith) (lead_from cs (lo + n) 1 c (omega arith))))
-
-  pub blocks_lead : (lo : ℕ) (costs : List ℕ) → Lead lo (lo + length costs) (blocks_of size most lo costs)
-  blocks_lead lo [] = let e : lo ≡ lo + 0 = omega arith in e
-  blocks_lead lo (c ∷ cs) = subst (λ (m : ℕ). Lead lo m (blocks_from size most lo 1 c cs)) (omega arith) (lead_from cs lo 1 c (omega arith))
-
-  -- ---- the first block, and those behind it
-
   abbrev FirstThenRest : ℕ → ℕ → List ℕ → List Span
   FirstThenRest lo m cs = record { lo = lo; hi = lo + m } ∷ blocks_of size most (lo + m) cs
 
   first_from : (cs : List ℕ) (lo n s : ℕ) → blocks_from size most lo n s cs ≡ FirstThenRest lo (n + more_fit size most n s cs) (drop (more_fit size most n s cs) cs)
   first_from [] lo n s = let e : n ≡ n + 0 = omega arith in ap (λ m. FirstThenRest lo m []) e
-  first_from (c ∷ cs) lo n s = go (one_more_fits size most n s c) (first_from cs lo (suc n) (s + c))
-    where
-      go : (b : Bool) → blocks_from size most lo (suc n) (s + c) cs ≡ FirstThenRest lo (suc n + more_fit size most (suc n) (s + c) cs) (drop (more_fit size most (suc n) (s + c) cs) cs)
-          → (if b then blocks_from size most lo (suc n) (s + c) cs else record { lo = lo; hi = lo + n } ∷ blocks_from size most (lo + n) 1 c cs)
-          ≡ FirstThenRest lo (n + (if b then suc (more_fit size most (suc n) (s + c) cs) else 0)) (drop (if b then suc (more_fit size most (suc n) (s + c) cs) else 0) (c ∷ cs))
-      go true k = let e : suc n + more_fit size most (suc n) (s + c) cs ≡ n + suc (more_fit size most (suc n) (s + c) cs) = omega arith in
-          k ∙ ap (λ m. FirstThenRest lo m (drop (more_fit size most (suc n) (s + c) cs) cs)) e
-      go false k = let e : n ≡ n + 0 = omega arith in ap (λ m. FirstThenRest lo m (c ∷ cs)) e
+  first_from (c ∷ cs) lo n s = grind (arith, first_from cs lo (suc n) (s + c))
 
   pub blocks_go_on : (lo : ℕ) (costs : List ℕ) → 1 ≤ length costs
       → blocks_of size most lo costs ≡ record { lo = lo; hi = lo + first_length size most costs } ∷ blocks_of size most (lo + first_length size most costs) (drop (first_length size most costs) costs)
-  blocks_go_on lo [] h = absurd (omega (arith, h))
-  blocks_go_on lo (c ∷ cs) h =
-      let e : 1 + more_fit size most 1 c cs ≡ suc (more_fit size most 1 c cs) = omega arith in
-      first_from cs lo 1 c ∙ ap (λ m. FirstThenRest lo m (drop (more_fit size most 1 c cs) cs)) e
+  blocks_go_on lo costs h = grind (arith, first_from)
 
   -- ---- it is as long as it may be
 
@@ -57,16 +34,13 @@ module _ (size most : ℕ) where
   too_much n s c h = grind (arith, h)
 
   none_more : (n s c : ℕ) (cs : List ℕ) → n ≤ size → (size ≤ n) ⊎ (most < s + c) → (n + 0 ≡ size) ⊎ (most < s + sum (c ∷ []))
-  none_more n s c cs h (inl k) = inl (omega (arith, h, k))
-  none_more n s c cs h (inr k) = let t = sum_more c [] in inr (omega (arith, k, t))
+  none_more n s c cs h k = grind (arith, sum_more)
 
   few_more : (s c m : ℕ) (cs : List ℕ) → s + c ≤ most → (m ≡ 0) ⊎ (s + c + sum (take m cs) ≤ most) → s + sum (take (suc m) (c ∷ cs)) ≤ most
-  few_more s c m cs h (inl e) = subst (λ (i : ℕ). s + sum (take (suc i) (c ∷ cs)) ≤ most) (sym e) (let t = sum_more c [] in omega (arith, h, t))
-  few_more s c m cs h (inr k) = let t = sum_more c (take m cs) in omega (arith, k, t)
+  few_more s c m cs h k = grind (arith, sum_more)
 
   full_more : (n s c m : ℕ) (cs : List ℕ) → (suc n + m ≡ size) ⊎ (most < s + c + sum (take (suc m) cs)) → (n + suc m ≡ size) ⊎ (most < s + sum (take (suc (suc m)) (c ∷ cs)))
-  full_more n s c m cs (inl e) = inl (omega (arith, e))
-  full_more n s c m cs (inr k) = let t = sum_more c (take (suc m) cs) in inr (omega (arith, k, t))
+  full_more n s c m cs h = grind (arith, sum_more)
 
   ends : (cs : List ℕ) (n s : ℕ) → n ≤ size → Ends n s (more_fit size most n s cs) cs
   ends [] n s h = record { within = omega arith; small = omega (arith, h); few = inl refl; full = λ k. absurd (omega (arith, k)) }
@@ -106,8 +80,7 @@ module _ (size most : ℕ) where
     where
       small_sum : (more_fit size most 1 c cs ≡ 0) ⊎ (c + sum (take (more_fit size most 1 c cs) cs) ≤ most)
           → (suc (more_fit size most 1 c cs) ≡ 1) ⊎ (sum (take (suc (more_fit size most 1 c cs)) (c ∷ cs)) ≤ most)
-      small_sum (inl e) = inl (ap (λ n. suc n) e)
-      small_sum (inr k) = let t = sum_more c (take (more_fit size most 1 c cs) cs) in inr (omega (arith, k, t))
+      small_sum h = grind (arith, sum_more)
 
       last_sum : (1 + more_fit size most 1 c cs ≡ size) ⊎ (most < c + sum (take (suc (more_fit size most 1 c cs)) cs))
           → (suc (more_fit size most 1 c cs) ≡ size) ⊎ (most < sum (take (suc (more_fit size most 1 c cs) + 1) (c ∷ cs)))
@@ -125,28 +98,4 @@ none_of_them [] (suc n) = refl
 none_of_them (row ∷ rows) (suc n) = let h = none_of_them rows n in let t = sum_more (row_elements 0 row) (take n (map (row_elements 0) rows)) in let z : row_elements 0 row ≡ 0 = omega arith in omega (arith, h, t, z)
 
 pub plain_first : (size most : ℕ) (rows : List (List Value)) → 1 ≤ size → first_length size most (map (row_elements 0) rows) ≡ min size (length rows)
-plain_first size most [] one = grind arith
-plain_first size most (row ∷ rows) one = go (first_is size most (map (row_elements 0) (row ∷ rows)) one (omega arith))
-  where
-    go : IsFirst size most (map (row_elements 0) (row ∷ rows)) (first_length size most (map (row_elements 0) (row ∷ rows))) → first_length size most (map (row_elements 0) (row ∷ rows)) ≡ min size (length (row ∷ rows))
-    go r =
-        let k = first_length size most (map (row_elements 0) (row ∷ rows)) in
-        let len = map_length (row_elements 0) (row ∷ rows) in
-        let within = r.within in
-        let small = r.small in
-        let all_or : (k < length (map (row_elements 0) (row ∷ rows)) → k ≡ size) = λ q. whole k (r.full q) in
-        least k (omega (arith, within, len)) small (λ q. all_or (omega (arith, q, len)))
-      where
-        whole : (k : ℕ) → (k ≡ size) ⊎ (most < sum (take (k + 1) (map (row_elements 0) (row ∷ rows)))) → k ≡ size
-        whole k (inl e) = e
-        whole k (inr q) = let z = none_of_them (row ∷ rows) (k + 1) in absurd (omega (arith, q, z))
-
-        least : (k : ℕ) → k ≤ length (row ∷ rows) → k ≤ size → (k < length (row ∷ rows) → k ≡ size) → k ≡ min size (length (row ∷ rows))
-        least k a b c = either (below_or k a)
-          where
-            below_or : (i : ℕ) → i ≤ length (row ∷ rows) → (i < length (row ∷ rows)) ⊎ (i ≡ length (row ∷ rows))
-            below_or i q = grind (arith, q)
-
-            either : (k < length (row ∷ rows)) ⊎ (k ≡ length (row ∷ rows)) → k ≡ min size (length (row ∷ rows))
-            either (inl q) = let e = c q in grind (arith, e, q)
-            either (inr q) = grind (arith, b, q)
+plain_first size most rows one = grind (arith, first_is, map_length, none_of_them)

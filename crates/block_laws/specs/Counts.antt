@@ -1,8 +1,8 @@
 -- How much the entries of a cluster demand, block by block up to a fault: pairs of a site and a variation.
-use Rattle.std.specs.Prelude.{Bool, false, ◌≡◌, ◌+◌, ◌<◌, ◌≤◌, ℕ, List, [], ◌∷◌, length, map, Some, None, is_some, if◌then◌else◌, slice_get, slice_range, All, Contains, count_by, slice_index_or}
+use Rattle.std.specs.Prelude.{Bool, false, ◌≡◌, ◌+◌, ◌<◌, ◌≤◌, ℕ, List, [], ◌∷◌, length, map, Some, None, is_some, if◌then◌else◌, slice_get, slice_range, All, count_by, slice_index_or}
 use Rattle.std.specs.List.{sum_by}
 use Rattle.rdf_values.specs.{Fault, Pass, Span, Value}
-use Rattle.rdf_model.specs.{Dataset, demanded, first_fault_from, pass_demands}
+use Rattle.rdf_model.specs.{Dataset, demanded, first_fault_from}
 use Rattle.block_laws.specs.Blocks.{cluster_blocks, first_length, row_elements}
 
 -- ---- what is demanded
@@ -23,12 +23,6 @@ module _ (d : Dataset) (ps : List Pass) where
   -- how many pairs the passes demand of the entries of these
   abbrev pub blocks_demand : List (List (List Value)) → ℕ
   blocks_demand blocks = sum_by rows_demand (up_to_fault blocks)
-
--- what a pass demands of a row is among what all passes demand of it
-abbrev pub PassDemandsAreDemanded : Type 0
-PassDemandsAreDemanded =
-    (d : Dataset) (row : List Value) (ps : List Pass) (n : ℕ) (p : Pass)
-    → slice_get ps n ≡ Some p → All (Contains (demanded d.fns d.columns row ps)) (pass_demands d.fns d.columns row p)
 
 -- how many pairs the entries from lo to below hi may cost: those of their blocks up to and with the first in which a pass faults
 abbrev pub cluster_demands : Dataset → List Pass → ℕ → ℕ → ℕ → ℕ → ℕ
@@ -56,9 +50,9 @@ abbrev pub marked_at : List (List Bool) → ℕ → ℕ
 marked_at lanes i = count_by (λ (l : List Bool). slice_index_or l i false) lanes
 
 -- where the place of each row is marked in no more lanes than the row demands pairs, no more places are marked than all rows demand
-abbrev pub MarkedAreWithin : Type 0 → Type 0
-MarkedAreWithin R =
-    (lanes : List (List Bool)) (rows : List R) (f : R → ℕ)
+abbrev pub MarkedAreWithin : Type 0
+MarkedAreWithin =
+    (lanes : List (List Bool)) (rows : List (List Value)) (f : List Value → ℕ)
     → All (λ (l : List Bool). length l ≤ length rows) lanes
-    → ((i : ℕ) (row : R) → slice_get rows i ≡ Some row → marked_at lanes i ≤ f row)
+    → ((i : ℕ) (row : List Value) → slice_get rows i ≡ Some row → marked_at lanes i ≤ f row)
     → marked_in lanes ≤ sum_by f rows
