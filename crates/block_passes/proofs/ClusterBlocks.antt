@@ -20,7 +20,7 @@ use Rattle.columns.proofs.BlockSteps.{span_within}
 use Rattle.loop_pieces.specs.{begin_of, cluster_fault}
 use Rattle.block_laws.specs.{cluster_demands, first_length, IsFirst, row_elements}
 use Rattle.block_laws.proofs.BlockCuts.{first_is}
-use Rattle.block_laws.proofs.BlockFaults.{block_then_rest, is_first_fault}
+use Rattle.block_laws.proofs.BlockFaults.{block_then_rest}
 use Rattle.block_laws.proofs.Costs.{count_goes_on}
 
 -- ---- the search
@@ -159,9 +159,7 @@ module _ (j : JobView) (job : IsJob j) (cluster size keys : ℕ) (some : 1 ≤ s
 
     rest_fault : first_fault_from j.dataset lo (slice_range j.dataset.rows lo span.hi) (passes_in j)
         ≡ first_of (first_fault_from j.dataset lo (block_rows j b) (passes_in j)) (first_fault_from j.dataset hi (slice_range j.dataset.rows hi span.hi) (passes_in j))
-    rest_fault =
-        block_then_rest j.dataset j.dataset.rows (passes_in j) lo hi span.hi (let m = has_entry in omega (arith, m)) within ends_within
-        ∙ ap (λ o. first_of o (first_fault_from j.dataset hi (slice_range j.dataset.rows hi span.hi) (passes_in j))) (is_first_fault j.dataset lo (block_rows j b) (passes_in j))
+    rest_fault = block_then_rest j.dataset j.dataset.rows (passes_in j) lo hi span.hi (let m = has_entry in omega (arith, m)) within ends_within
 
     counts : ((e : ℕ) (f : Fault) → first_fault_from j.dataset e (block_rows j b) (passes_in j) ≡ Some f → all_demands lo ≡ block_demands j b)
         × ((e : ℕ) → first_fault_from j.dataset e (block_rows j b) (passes_in j) ≡ None → all_demands lo ≡ block_demands j b + all_demands hi)
