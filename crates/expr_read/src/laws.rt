@@ -3,12 +3,14 @@ ghost use Rattle.std.specs.Prelude.{◌≡◌, ◌⊎◌, ℕ, List};
 ghost use Rattle.rdf_values.specs.{bare, begin_expr, begin_values, NamedTree, Placed, Reads, ReadsText, ReadsValues, ReadsValuesText, Refusal, RefusesText, RefusesValuesText, scan, VaryValues, Whole};
 
 /// A text reads as one expression at most, and as one value at most.
+#[tactic(auto, using(crate::proofs::Decided::read_once))]
 pub fn one_tree()
     ensures expr { (text : List ℕ) (a b : NamedTree) → ReadsText text a → ReadsText text b → a ≡ b }
     ensures values { (text : List ℕ) (v w : VaryValues) → ReadsValuesText text v → ReadsValuesText text w → v ≡ w }
 {}
 
 /// Tokens read exactly where the scan refuses none of them and ends with nothing wanted but an operator and nothing open.
+#[tactic(auto, using(crate::proofs::Whole::whole, crate::proofs::WholeReads::reads_expr, crate::proofs::Whole::whole_values, crate::proofs::WholeReads::reads_values))]
 pub fn scan_decides()
     ensures taken { (ts : List Placed) (a : NamedTree) → Reads 0 (bare ts) a → scan begin_expr ts ≡ Whole }
     ensures reads { (ts : List Placed) → scan begin_expr ts ≡ Whole → (a : NamedTree) × Reads 0 (bare ts) a }

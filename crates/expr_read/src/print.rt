@@ -134,6 +134,7 @@ fn write_more(out: &mut Text, alloc: Global, args: &Args) -> Result<(), Memory>
 
 /// The canonical text of an expression, with the fewest parentheses. For an expression that was read from a text it reads
 /// as this expression again.
+#[tactic(auto, using(std::proofs::lemmas::Grind::common_steps, crate::proofs::Decided::reads_back))]
 pub fn print_expr(alloc: Global, expr: &Expr) -> Result<Text, Memory>
     ensures text { IfOk result (λ out. out ≡ text_of expr.now) }
     ensures back { IfOk result (λ out. (text : List ℕ) → ReadsText text expr.now → ReadsText out expr.now) }
