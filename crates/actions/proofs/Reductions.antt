@@ -35,8 +35,7 @@ module _ (better : ℤ → ℤ → ℤ) (swap : (a x y : ℤ) → better (better
   fold_both xs ys s h = ap (λ a. fold better a ys) (sym (keeps_start xs s s h)) ∙ fold_from ys (fold better s xs) s
 
   pub option_swap : (a : Option ℤ) (x y : ℤ) → better_of better (better_of better a x) y ≡ better_of better (better_of better a y) x
-  option_swap None x y = ap Some (comm x y)
-  option_swap (Some a) x y = ap Some (swap a x y)
+  option_swap a x y = grind arith
 
   -- a fold from a number that may be missing
   pub extreme_from : (o : Option ℤ) (zs : List ℤ) → fold (better_of better) o zs ≡ better_of_two better o (extreme better zs)
@@ -93,8 +92,7 @@ start_stays o = grind arith
 -- ---- the bits of a number of 64 bits
 
 pub bits_small : (z : ℤ) → FitsSigned w64 z → cast_unsigned w64 z % 2 ^ 64 ≡ cast_unsigned w64 z
-bits_small (pos n) h = let s = h.sfits in mod-eq_of_lt (let l : n < 2 ^ 64 = omega arith in l)
-bits_small (negsuc n) h = mod-eq_of_lt (let l : 2 ^ 64 - suc n < 2 ^ 64 = omega arith in l)
+bits_small z h = grind (arith, mod-eq_of_lt)
 
 -- a Reduce of the items of two lists
 pub reduce_both : (o : ReduceOp) (a b : List Fed)
