@@ -81,8 +81,7 @@ pub block_of : (bytes : List ℕ) (bs : List Block) (c : ℕ) (b : Block) → Ar
 block_of bytes bs c b h l e = subst (λ (x : Block). IsBlock bytes x (get_or (map (block_values bytes) bs) c [])) (sym e) (block_at bytes bs (map (block_values bytes) bs) c b h l)
 
 pub block_size : (bytes : List ℕ) (b : Block) (values : List ℤ) → IsBlock bytes b values → b.entries * b.packing.width ≡ length (packed_of values)
-block_size bytes b values h =
-    ap₂ (λ (m n : ℕ). m * n) h.entries (ap (λ (p : Packing). p.width) h.packing) ∙ sym (length-packed (packing_of values) values (packing_width values))
+block_size bytes b values h = grind (arith, length-packed, packing_width)
 
 pub block_bytes : (bytes : List ℕ) (b : Block) (values : List ℤ) → IsBlock bytes b values → take (b.begin + b.entries * b.packing.width - b.begin) (drop b.begin bytes) ≡ packed_of values
 block_bytes bytes b values h = grind (arith, block_size)

@@ -81,15 +81,7 @@ ends_rise (x ∷ xs) lo to h (suc i) (suc j) d le l = ends_rise xs x to h.2 i j 
 
 first_by : (ends : List ℕ) (i number place : ℕ) → ((k : ℕ) → k < i → get_or ends k 0 ≤ number) → ((k : ℕ) → i ≤ k → k < length ends → number < get_or ends k 0) → place < length ends
     → get_or (0 ∷ ends) place 0 ≤ number → number < get_or ends place 0 → i ≡ place
-first_by ends i number zero low high l from below = go (le_or_lt i 0)
-  where
-    go : (i ≤ 0) ⊎ (0 < i) → i ≡ 0
-    go (inl h) = omega (arith, h)
-    go (inr h) = let bad = low 0 h in absurd (omega (arith, bad, below))
-first_by ends i number (suc p) low high l from below = go (le_or_lt i (suc p)) (le_or_lt i p)
-  where
-    go : (i ≤ suc p) ⊎ (suc p < i) → (i ≤ p) ⊎ (p < i) → i ≡ suc p
-    go h q = grind arith
+first_by ends i number place low high l from h = grind (arith, le_or_lt)
 
 pub first_above : (ends : List ℕ) (i number place : ℕ) → AllWithin (λ x. leb x number ≡ true) ends 0 i → AllWithin (λ x. leb x number ≡ false) ends i (length ends) → Holds (ranges_to 0 ends) number place → i ≡ place
 first_above ends i number place low high held = grind (arith, ranges_within, ranges_at, first_by, nat_tests)
@@ -98,14 +90,12 @@ pub first_range : (ends : List ℕ) (place : ℕ) → place ≡ 0 → place < le
 first_range ends place e l = ranges_at ends 0 place l ∙ rw e refl
 
 pub next_range : (ends : List ℕ) (place : ℕ) → place ≢ 0 → place < length ends → slice_get (ranges_to 0 ends) place ≡ Some (record { lo = get_or ends (place - 1) 0; hi = get_or ends place 0 })
-next_range ends zero n l = absurd (n refl)
-next_range ends (suc p) n l = let one : p ≡ suc p - 1 = omega arith in ranges_at ends 0 (suc p) l ∙ ap (λ (m : ℕ). Some (record { lo = get_or ends m 0; hi = get_or ends (suc p) 0 })) one
+next_range ends place n l = grind (arith, ranges_at)
 
 -- ---- Ranges that follow one another hold each number once, and cuts whose ranges are kept by their ends.
 
 first_holds : (x : Span) (xs : List Span) (number from to other : ℕ) → Lead from to (x ∷ xs) → number < x.hi → Holds (x ∷ xs) number other → other ≡ 0
-first_holds x xs number from to zero h l held = refl
-first_holds x xs number from to (suc other) h l held = let later = (span_within xs x.hi to other held.range h.2 held.stands).0 in absurd (omega (arith, held.from))
+first_holds x xs number from to other h l held = grind (arith, span_within)
 
 later_holds : (x : Span) (xs : List Span) (number place other : ℕ) → x.hi ≤ number → ((o : ℕ) → Holds xs number o → o ≡ place) → Holds (x ∷ xs) number other → other ≡ suc place
 later_holds x xs number place zero l one held = let same : x ≡ held.range = cc held.stands in absurd (omega (arith, held.below, ap (λ s. s.hi) same))
@@ -166,8 +156,7 @@ any_none [] e h = refl
 any_none (x ∷ xs) e h = both (nat_eq e x) refl (any_none xs e (λ k l. h (suc k) (omega (arith, l))))
   where
     both : (b : Bool) → nat_eq e x ≡ b → list_any (nat_eq e) xs ≡ false → (b || list_any (nat_eq e) xs) ≡ false
-    both true q r = absurd (h 0 (omega arith) (sym ((Decides-eqb e x).0 q)))
-    both false q r = r
+    both b q r = grind arith
 
 at_or : (next k : ℕ) → (k < next) ⊎ (next ≤ k)
 at_or next k = grind arith
@@ -183,20 +172,13 @@ not_marked marks next entry rising passed ahead other = any_none marks entry (λ
     after k l h = grind (arith, AllPairs-from_increasing)
 
     go : (k : ℕ) → k < length marks → (k < next) ⊎ (next ≤ k) → get_or marks k 0 ≢ entry
-    go k l (inl h) = λ q. (let low = passed.below k h in absurd (omega (arith, low, q)))
-    go k l (inr h) = after k l (at_or_after next k h)
+    go k l h = grind (arith, after, at_or_after)
 
 pub marked_is : (marks : List ℕ) (next entry : ℕ) → IsStrictlyIncreasing marks → IsPassed marks next entry → IsAhead marks next entry → next < length marks → nat_eq (get_or marks next 0) entry ≡ list_any (nat_eq entry) marks
-marked_is marks next entry rising passed ahead l = go (nat_eq (get_or marks next 0) entry) refl
-  where
-    go : (b : Bool) → nat_eq (get_or marks next 0) entry ≡ b → b ≡ list_any (nat_eq entry) marks
-    go true q = sym (any_at marks entry next l ((Decides-eqb (get_or marks next 0) entry).0 q))
-    go false q = sym (not_marked marks next entry rising passed ahead (λ m e. cc (sym q ∙ (Decides-eqb (get_or marks next 0) entry).1 e)))
+marked_is marks next entry rising passed ahead l = grind (arith, list_any, any_at, not_marked)
 
 pub none_left : (marks : List ℕ) (next entry : ℕ) → IsStrictlyIncreasing marks → IsPassed marks next entry → IsAhead marks next entry → length marks ≤ next → nat_lt next (length marks) ≡ list_any (nat_eq entry) marks
-none_left marks next entry rising passed ahead l =
-    let past : nat_lt next (length marks) ≡ false = grind (arith, nat_tests) in
-    past ∙ sym (not_marked marks next entry rising passed ahead (λ m. absurd (omega (arith, l, m))))
+none_left marks next entry rising passed ahead l = grind (arith, nat_tests, not_marked)
 
 pub ahead_one : (marks : List ℕ) (next entry : ℕ) → IsStrictlyIncreasing marks → IsAhead marks next (entry - 1) → next < length marks → IsAhead marks (next + 1) entry
 ahead_one marks next entry rising ahead l = record {
@@ -224,8 +206,7 @@ pub record Walked (n size : ℕ) (marks ends : List ℕ) (lo entry next : ℕ) :
   pub ahead : IsAhead marks next (entry - 1)
 
 pub walk_start : (n size : ℕ) (marks : List ℕ) → 0 < n → Walked n size marks [] 0 1 0
-walk_start zero size marks h = absurd (omega (arith, h))
-walk_start (suc n) size marks h = record { so_far = (let one : n ≡ suc n - 1 = omega arith in ap (cut_from size marks 0 1) one); last = refl; begun = omega arith; passed = record { below = λ k l. absurd (omega (arith, l)) }; ahead = record { above = λ k l q. omega arith } }
+walk_start n size marks h = grind (arith, above)
 
 passed_on : (marks : List ℕ) (next entry : ℕ) → IsPassed marks next entry → IsPassed marks next (entry + 1)
 passed_on marks next entry p = record { below = λ k h. (let low = p.below k h in omega (arith, low)) }
@@ -244,8 +225,7 @@ at_size : (lo entry size : ℕ) → lo < entry → entry - lo ≡ size → nat_e
 at_size lo entry size l h = (Decides-eqb entry (lo + size)).1 (omega (arith, l, h))
 
 not_false : (b : Bool) → b ≢ true → b ≡ false
-not_false true h = absurd (h refl)
-not_false false h = refl
+not_false b h = grind arith
 
 off_size : (lo entry size : ℕ) → lo < entry → entry - lo ≢ size → nat_eq entry (lo + size) ≡ false
 off_size lo entry size l h = not_false (nat_eq entry (lo + size)) (λ q. h (let e = (Decides-eqb entry (lo + size)).0 q in omega (arith, e)))
@@ -256,44 +236,16 @@ Begins size lo marks entry = (list_any (nat_eq entry) marks ≡ true) ⊎ (entry
 
 pub walk_begin : (n size : ℕ) (marks ends : List ℕ) (lo entry old next : ℕ) → Walked n size marks ends lo entry old → entry < n → IsPassed marks next entry → IsAhead marks next entry → Begins size lo marks entry
     → Walked n size marks (ends ++ entry ∷ []) entry (entry + 1) next
-walk_begin n size marks ends lo entry old next w h p a b = record {
-  so_far =
-      w.so_far ∙ ap (λ r. ranges_to 0 ends ++ cut_from size marks lo entry r) (fewer n entry h)
-      ∙ ap (λ l. ranges_to 0 ends ++ l) (cut_step size marks lo entry (n - (entry + 1)) true (begins b))
-      ∙ ap (λ x. ranges_to 0 ends ++ record { lo = x; hi = entry } ∷ cut_from size marks entry (entry + 1) (n - (entry + 1))) w.last
-      ∙ sym (ranges_push ends 0 entry (cut_from size marks entry (entry + 1) (n - (entry + 1))));
-  last = sym (last_push ends 0 entry);
-  begun = omega arith;
-  passed = passed_on marks next entry p;
-  ahead = ahead_on marks next entry a;
-}
-  where
-    begins : Begins size lo marks entry → begins_at size marks lo entry ≡ true
-    begins (inl m) = or_right (nat_eq entry (lo + size)) (list_any (nat_eq entry) marks) m
-    begins (inr s) = or_left (nat_eq entry (lo + size)) (list_any (nat_eq entry) marks) (at_size lo entry size w.begun s)
+walk_begin n size marks ends lo entry old next w h p a b =
+    grind (arith, fewer, cut_step, ranges_push, last_push, passed_on, ahead_on, or_right, list_any, or_left, at_size)
 
 pub walk_on : (n size : ℕ) (marks ends : List ℕ) (lo entry old next : ℕ) → Walked n size marks ends lo entry old → entry < n → IsPassed marks next entry → IsAhead marks next entry → list_any (nat_eq entry) marks ≡ false → entry - lo ≢ size
     → Walked n size marks ends lo (entry + 1) next
-walk_on n size marks ends lo entry old next w h p a m s = record {
-  so_far =
-      w.so_far ∙ ap (λ r. ranges_to 0 ends ++ cut_from size marks lo entry r) (fewer n entry h)
-      ∙ ap (λ l. ranges_to 0 ends ++ l) (cut_step size marks lo entry (n - (entry + 1)) false (or_fails (nat_eq entry (lo + size)) (list_any (nat_eq entry) marks) (off_size lo entry size w.begun s) m));
-  last = w.last;
-  begun = (let b = w.begun in omega (arith, b));
-  passed = passed_on marks next entry p;
-  ahead = ahead_on marks next entry a;
-}
+walk_on n size marks ends lo entry old next w h p a m s = grind (arith, fewer, cut_step, or_fails, list_any, off_size, passed_on, ahead_on)
 
 nil_end : (xs : List Span) → xs ++ [] ≡ xs
 nil_end [] = refl
 nil_end (x ∷ xs) = ap (λ l. x ∷ l) (nil_end xs)
 
 pub walk_end : (n size : ℕ) (marks ends : List ℕ) (lo entry next : ℕ) → Walked n size marks ends lo entry next → entry ≡ n → ranges_to 0 (ends ++ n ∷ []) ≡ cut n size marks
-walk_end n size marks ends lo entry next w h =
-    sym (nil_end (ranges_to 0 (ends ++ n ∷ []))) ∙ ranges_push ends 0 n [] ∙ sym (w.so_far ∙ ap (λ r. ranges_to 0 ends ++ cut_from size marks lo entry r) none ∙ ap₂_span)
-  where
-    none : n - entry ≡ 0
-    none = omega (arith, h)
-
-    ap₂_span : ranges_to 0 ends ++ cut_from size marks lo entry 0 ≡ ranges_to 0 ends ++ record { lo = last_or 0 ends; hi = n } ∷ []
-    ap₂_span = rw (← h, w.last) refl
+walk_end n size marks ends lo entry next w h = grind (arith, nil_end, ranges_push)

@@ -69,9 +69,7 @@ none_read pieces lo n numbers = let none : min (lo + n) 0 - lo ≡ 0 = omega ari
 -- no number of the range stands in the piece
 pub read_on : (pieces : List (List ℤ)) (lo n i before after : ℕ) (piece numbers now : List ℤ) → AreReadUpTo pieces lo n i before numbers → piece ≡ get_or pieces i piece → i < length pieces → after ≡ before + length piece → after ≤ lo → now ≡ numbers
     → AreReadUpTo pieces lo n (i + 1) after now
-read_on pieces lo n i before after piece numbers now r e l a b same =
-    let none : min (lo + n) after - lo ≡ 0 = omega (arith, b) in
-    record { here = a ∙ size_more pieces i before piece e l r.here; same = rw none refl }
+read_on pieces lo n i before after piece numbers now r e l a b same = grind (arith, size_more)
 
 -- the numbers of the range that stand in the piece are read
 pub read_more : (pieces : List (List ℤ)) (lo n i before after from to : ℕ) (piece numbers part now : List ℤ) → AreReadUpTo pieces lo n i before numbers → piece ≡ get_or pieces i piece → i < length pieces → after ≡ before + length piece → length numbers ≡ n

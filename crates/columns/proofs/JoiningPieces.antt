@@ -88,12 +88,7 @@ fit_append columns [] ys h l = l
 fit_append columns (x ∷ xs) ys h l = (h.0, fit_append columns xs ys h.1 l)
 
 pub holds_joined : (columns : List Column) (xs ys at : List Cells) (n m t : ℕ) → HoldsTable columns xs n → HoldsTable columns ys m → n + m ≤ 1000000 → at ≡ columns_joined xs ys → t ≡ n + m → HoldsTable columns at t
-holds_joined columns xs ys at n m t h l few a s = rw (a, s) (record {
-  header = h.header;
-  kept = (columns_join columns xs ys n m h.kept l.kept).kept;
-  fit = subst (λ rows. FitRows columns rows) (sym (rows_joined columns xs ys n m h.kept l.kept)) (fit_append columns (rows_kept n xs) (rows_kept m ys) h.fit l.fit);
-  few = few;
-})
+holds_joined columns xs ys at n m t h l few a s = grind (arith, columns_join, rows_joined, fit_append)
 
 -- ---- two tables of one header
 

@@ -55,11 +55,7 @@ later_values least w (suc i) n bs =
 
 -- some of a block's numbers, and their bytes
 some_inside : (bytes : List ℕ) (b : Block) (values : List ℤ) (i n : ℕ) → IsBlock bytes b values → i + n ≤ length values → b.begin + i * b.packing.width + n * b.packing.width ≤ length bytes
-some_inside bytes b values i n h l =
-    let inside = h.inside in
-    let size = block_size bytes b values h in
-    let few : (i + n) * b.packing.width ≤ b.entries * b.packing.width = (let m : i + n ≤ b.entries = omega (arith, l, h.entries) in mul-le-mul_right b.packing.width m) in
-    omega (arith, inside, size, few, add-mul i n b.packing.width)
+some_inside bytes b values i n h l = grind (arith, block_size)
 
 some_values : (bytes : List ℕ) (b : Block) (values : List ℤ) (i n : ℕ) → IsBlock bytes b values → i + n ≤ length values → values_in b.packing.least b.packing.width n (drop (b.begin + i * b.packing.width) bytes) ≡ take n (drop i values)
 some_values bytes b values i n h l =

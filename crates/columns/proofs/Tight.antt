@@ -6,12 +6,10 @@ use Rattle.columns.specs.{greatest_from, IsTight, IsWidth, least_from, packing_o
 use Rattle.columns.proofs.Unpacking.{packing_fits, packing_width}
 
 cond_is : (b : Bool) (x y : ℤ) → (cond b x y ≡ x) ⊎ (cond b x y ≡ y)
-cond_is true x y = inl refl
-cond_is false x y = inr refl
+cond_is b x y = grind arith
 
 either : (A B : Type 0) → A ⊎ B → B ⊎ A
-either A B (inl a) = inr a
-either A B (inr b) = inl b
+either A B h = grind arith
 
 further : (z m x l : ℤ) (xs : List ℤ) → ((m ≡ x) ⊎ (m ≡ z)) → Contains (m ∷ xs) l → Contains (z ∷ x ∷ xs) l
 further z m x l xs (inl e) (zero, h, q) = (1, omega arith, sym e ∙ q)

@@ -12,10 +12,7 @@ abbrev OneOf : ℕ → Type 0
 OneOf w = (w ≡ 0) ⊎ (w ≡ 1) ⊎ (w ≡ 2) ⊎ (w ≡ 4) ⊎ (w ≡ 8)
 
 pub width_is : (n : ℕ) → IsWidth (width_of n)
-width_is n = record { one_of = go (nat_eq n 0) (nat_lt n 256) (nat_lt n 65536) (nat_lt n 4294967296) }
-  where
-    go : (a b c d : Bool) → OneOf (if a then 0 else if b then 1 else if c then 2 else if d then 4 else 8)
-    go a b c d = grind arith
+width_is n = grind arith
 
 -- a number below 2 ^ 64 fits its width
 pub fits_width : (n : ℕ) → n < 2 ^ 64 → n < 256 ^ width_of n
@@ -23,10 +20,7 @@ fits_width n h = grind (arith, nat_tests)
 
 -- what holds of each width
 by_width : (P : ℕ → Type 0) → P 0 → P 1 → P 2 → P 4 → P 8 → (w : ℕ) → IsWidth w → P w
-by_width P a b c d e w h = go h.one_of
-  where
-    go : OneOf w → P w
-    go h = grind arith
+by_width P a b c d e w h = grind arith
 
 -- ---- one number
 
@@ -121,8 +115,7 @@ packing_fits (z ∷ zs) h =
     All-from_recursion (FitsAbove (packing_of (z ∷ zs))) (z ∷ zs) (each_fits a b (z ∷ zs) f g ((least_below z zs, greatest_above z zs), all_between zs z z))
 
 pub packing_width : (zs : List ℤ) → IsWidth (packing_of zs).width
-packing_width [] = record { one_of = inl refl }
-packing_width (z ∷ zs) = width_is (unsigned_abs (greatest_from z zs -ℤ least_from z zs))
+packing_width zs = grind (arith, width_is)
 
 -- ---- how many bytes, and which stand where
 
