@@ -55,6 +55,7 @@ fn try_own<L: Ledger>(
 
 /// Evaluates a site by the lanes of the keys below its own, and the others, of which its own is the first.
 #[inline(always)]
+#[tactic(auto, using(crate::proofs::OverLaws::own_there, crate::proofs::OverLaws::own_count))]
 fn try_first<L: Ledger>(
     wanted: &Wanted<'_>,
     below: &[Lane],

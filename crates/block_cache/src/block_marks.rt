@@ -52,6 +52,7 @@ impl BlockMarks {
     }
 
     /// Begins a block of so many places, none of which is marked.
+    #[tactic(auto, using(crate::proofs::LaneSteps::written, crate::proofs::Marking::long_seen))]
     pub(crate) fn begin(&mut self, count: usize)
         requires { count ≤ length self.old.marks }
         ensures count { self.new.count ≡ count }
@@ -64,6 +65,7 @@ impl BlockMarks {
     }
 
     /// Marks the selected places.
+    #[tactic(auto, using(crate::proofs::Marking::still_marked, crate::proofs::Marking::all_seen, crate::proofs::Marking::nothing_is, crate::proofs::Marking::marked_long, crate::proofs::Marking::long_seen, crate::proofs::Marking::whole_marked, crate::proofs::Marking::whole_newly))]
     pub(crate) fn mark(&mut self, selection: &Selection)
         requires { EachPlace selection.now (λ p. p < self.old.count) }
         ensures count { self.new.count ≡ self.old.count }
@@ -88,6 +90,7 @@ impl BlockMarks {
     }
 
     /// Leaves the places selected that aren't marked.
+    #[tactic(auto, using(crate::proofs::LaneSteps::filter_all, crate::proofs::Marking::nothing_seen, crate::proofs::LaneSteps::filter_none, crate::proofs::Marking::all_seen))]
     pub(crate) fn keep_unmarked(&self, selection: &mut Selection)
         requires { EachPlace selection.old (λ p. p < self.now.count) }
         ensures { selection.new ≡ filter (λ p. not (is_marked self.now.marks p)) selection.old }
@@ -100,6 +103,7 @@ impl BlockMarks {
     }
 
     /// Whether each selected place is marked.
+    #[tactic(auto, using(crate::proofs::Marking::all_seen))]
     pub(crate) fn has_all(&self, selection: &Selection) -> bool
         requires { EachPlace selection.now (λ p. p < self.now.count) }
         ensures marked { result ≡ true → EachPlace selection.now (λ p. is_marked self.now.marks p ≡ true) }
@@ -112,6 +116,7 @@ impl BlockMarks {
     }
 
     /// Whether a place is marked.
+    #[tactic(auto, using(crate::proofs::Marking::all_seen))]
     pub(crate) fn has(&self, place: u32) -> bool
         requires { place < self.now.count }
         ensures { result ≡ is_marked self.now.marks place }
@@ -123,6 +128,7 @@ impl BlockMarks {
     }
 
     /// The places, as those at which a column is known.
+    #[tactic(auto, using(crate::proofs::Marking::all_seen))]
     pub(crate) fn known(&self) -> Known<'_>
         ensures marks { HasMarks self.now.count result }
         ensures known { (p : ℕ) → p < self.now.count → is_known result p ≡ is_marked self.now.marks p }
@@ -157,6 +163,7 @@ fn is_whole(selection: &Selection, count: usize) -> bool
 }
 
 /// Marks the places of a list.
+#[tactic(auto, using(crate::proofs::Marking::marked_to_none, crate::proofs::Marking::marked_all, std::proofs::lemmas::List::take_all, crate::proofs::Marking::newly_all))]
 fn mark_listed(places: &[u32], marks: &mut [bool])
     requires inside { EachPlace places.now (λ p. p < length marks.old) }
     requires rising { AreRising places.now }
@@ -192,6 +199,7 @@ pub(crate) fn mark(selection: &Selection, marks: &mut [bool])
 }
 
 /// Whether each selected place is marked.
+#[tactic(auto, using(std::proofs::lemmas::List::take_all, expr_lanes::proofs::Selected::is_in_at, expr_lanes::proofs::Selected::in_more, std::proofs::lemmas::List::take_more))]
 pub(crate) fn are_marked(selection: &Selection, marks: &[bool]) -> bool
     requires { EachPlace selection.now (λ p. p < length marks.now) }
     ensures marked { result ≡ true → EachPlace selection.now (λ p. is_marked marks.now p ≡ true) }

@@ -49,6 +49,7 @@ impl Model for Lane {
 impl Lane {
     /// The lane of a key, with all the memory that it takes for blocks of so many places, but for vectors. Of no block is anything
     /// known yet.
+    #[tactic(auto, using(crate::proofs::Marking::count_none))]
     pub fn new(alloc: Global, kind: ColType, room: usize) -> Result<Lane, Memory>
         requires { room ≤ MAX_PLACES }
         ensures kind { IfOk result (λ l. l.kind ≡ kind) }
@@ -71,6 +72,7 @@ impl Lane {
     }
 
     /// Begins a block of so many places, of which nothing is known yet.
+    #[tactic(auto, using(crate::proofs::Marking::count_none, crate::proofs::LaneSteps::unknown_lane))]
     pub fn begin(&mut self, count: usize)
         requires { count ≤ room_of self.old }
         ensures same { IsSameLane self.old self.new }
@@ -139,6 +141,7 @@ impl Lane {
 
     /// Evaluates the key's expression at the selected places, of which nothing is held, in a step each. Where it comes to a value the place stays selected, and
     /// the lane holds the value; each other place becomes a stop.
+    #[tactic(auto, using(crate::proofs::LaneSteps::given_among, crate::proofs::LaneSteps::written, crate::proofs::LaneSteps::lane_after, crate::proofs::LaneSteps::scalar_written, crate::proofs::LaneSteps::scalar_values, crate::proofs::LaneSteps::evaluated_after))]
     pub fn evaluate<I: LaneInputs, L: Ledger>(
         &mut self,
         evaluation: &Evaluation<'_, I>,
@@ -174,6 +177,7 @@ impl Lane {
     /// Evaluates the key at one selected place after another, of which nothing is held, in a step each. Where it comes to a value the place stays
     /// selected, and the lane holds the value; each other place becomes a stop. Where memory is wanted, what is held stays.
     #[inline(never)]
+    #[tactic(auto, using(expr_lanes::proofs::Sequence::filtered_in))]
     pub fn evaluate_each<E: PlaceValues, L: Ledger>(
         &mut self,
         evaluation: &E,

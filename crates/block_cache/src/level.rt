@@ -32,6 +32,7 @@ impl Level {
     }
 
     /// Groups the lacking places that wait for the same version as the first of them, and answers that version.
+    #[tactic(auto, using(expr_lanes::proofs::SiftSteps::filter_alike, crate::proofs::Members::twice_not))]
     pub(crate) fn next_group(&mut self) -> u32
         requires some { 0 < length self.old.lacking }
         requires inside { EachPlace self.old.lacking (λ p. p < MAX_PLACES) }

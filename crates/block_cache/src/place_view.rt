@@ -60,6 +60,7 @@ pub(crate) fn look<'a: 's, 's>(
 }
 
 /// The value of a column at a place: a number as it was loaded, or the elements where the table has them.
+#[tactic(auto, using(loop_keys::proofs::TableLaws::not_stored))]
 fn cell<'a>(block: &Block<'a>, place: u32, col: u32) -> Input<'a>
     requires place { place < block.now.count }
     requires column { col < length (columns_over block.now) }

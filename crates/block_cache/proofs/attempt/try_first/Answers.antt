@@ -1,21 +1,12 @@
-use Rattle.std.proofs.Common.{refl, sym}
+use Rattle.std.proofs.Common.{refl}
 use Rattle.std.proofs.lemmas.Result.{on_err_weaker, on_ok_weaker}
 use Rattle.loop_keys.specs.{job_of}
 use Rattle.loop_keys.proofs.PlainLaws.{plain_expr}
-use Rattle.block_cache.proofs.OverLaws.{begun_over, fits_over, own_at, own_count, own_there, reads_over, tried_over}
+use Rattle.block_cache.proofs.OverLaws.{begun_over, fits_over, own_at, reads_over, tried_over}
 use Rattle.block_cache.proofs.attempt.try_first.Goals as goal
-
-pub bounds-others-0 : goal.bounds-others-0
-bounds-others-0 g c = own_there c.args.wanted.now c.args.below.now c.args.others.now c.requires.own c.requires.ready
-
-pub bounds-others-0-2 : goal.bounds-others-0-2
-bounds-others-0-2 g c = own_there c.args.wanted.now c.args.below.now c.args.others.now c.requires.own c.requires.ready
 
 pub try_own-requires-clause-kind : goal.try_own-requires-clause-kind
 try_own-requires-clause-kind g c = (c.requires.can _ c.expression.ensures).kind _ (own_at c.args.wanted.now c.args.below.now c.args.others.now c.requires.own c.requires.ready _)
-
-pub try_own-requires-clause-block : goal.try_own-requires-clause-block
-try_own-requires-clause-block g c = sym (own_count c.args.wanted.now c.args.below.now c.args.others.now c.requires.own c.requires.ready _)
 
 pub try_own-requires-clause-can : goal.try_own-requires-clause-can
 try_own-requires-clause-can g c =

@@ -1,11 +1,7 @@
 use Rattle.std.proofs.Common.{◌≡◌, ◌<◌, arith, get_or, length}
 use Rattle.std.proofs.lemmas.List.{get_or_default}
-use Rattle.expr_lanes.proofs.Selected.{is_in_at}
-use Rattle.block_cache.proofs.EachPlaces.{turned_more, written_of, written_on}
+use Rattle.block_cache.proofs.EachPlaces.{turned_more}
 use Rattle.block_cache.proofs.each_place.each_place.Goals as goal
-
-pub returns-in_err-turn-clause-written : goal.returns-in_err-turn-clause-written
-returns-in_err-turn-clause-written g c = written_on c.args.places.now _ _ _ _ _ _ _ (is_in_at c.args.places.now c.loop-i.i 0 (omega arith)) (written_of _ _ _ _ _ _ _ _ _ _ _ _ c.loop-i.invariant.0) c.turn.ensures.written
 
 pub loop-i-preserved : goal.loop-i-preserved
 loop-i-preserved g c =

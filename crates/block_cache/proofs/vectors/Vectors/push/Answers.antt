@@ -1,13 +1,7 @@
 use Rattle.std.proofs.Common.{◌++◌, ◌∷◌, [], ◌∙◌, ap, arith, length, map}
 use Rattle.block_cache.specs.{cells_in}
-use Rattle.block_cache.proofs.VectorLists.{grown, kept_all, kept_more, pushed}
+use Rattle.block_cache.proofs.VectorLists.{kept_more, pushed}
 use Rattle.block_cache.proofs.vectors.Vectors.push.Goals as goal
-
-pub returns-in_err-extend_from_slice-clause-kept : goal.returns-in_err-extend_from_slice-clause-kept
-returns-in_err-extend_from_slice-clause-kept c = kept_all _ _ ((λ i. map (cells_in (c.in_err-extend_from_slice.ensures.items i)) c.self.inside.ranges.items) ∙ c.self.view_is)
-
-pub returns-in_err-push-clause-kept : goal.returns-in_err-push-clause-kept
-returns-in_err-push-clause-kept = grind (arith, kept_all, grown)
 
 pub returns-clause-kept : goal.returns-clause-kept
 returns-clause-kept c =
@@ -15,6 +9,3 @@ returns-clause-kept c =
     kept_more _ _ c.args.vector.now
     ((λ i. map (cells_in (e i)) (c.in_ok-push.ensures.items i))
     ∙ pushed c.self.inside.ranges.items c.self.inside.cells.items c.args.vector.now _ c.self.invariant (omega (arith, c.len-from.ensures)) (omega (arith, c.len-to.ensures, ap length e)) ∙ ap (λ l. l ++ c.args.vector.now ∷ []) c.self.view_is)
-
-pub returns-clause-pushed : goal.returns-clause-pushed
-returns-clause-pushed = grind (arith, pushed)
