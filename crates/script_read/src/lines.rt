@@ -19,6 +19,7 @@ fn without_cr(line: &[u8]) -> &[u8]
 }
 
 /// The first line of a text, without its LF and a CR directly before it, and the bytes behind it.
+#[tactic(auto, using(rdf_values::proofs::Fronts::rest_of, crate::proofs::FirstLines::first_end, crate::proofs::FirstLines::none_behind))]
 pub(crate) fn first_line(text: &[u8]) -> (&[u8], &[u8])
     requires { 0 < length text.now }
     ensures lines { lines_of text.now ≡ result.0.now ∷ lines_of result.1.now }

@@ -24,6 +24,7 @@ pub(crate) fn name(alloc: Global, quoted: &Quoted<'_>) -> Result<Name, LineStop>
 }
 
 /// A name, if there is a string.
+#[tactic(auto, using(crate::proofs::FirstBads::handed_on, crate::proofs::FirstBads::refused_here))]
 pub(crate) fn maybe_name(
     alloc: Global,
     quoted: &Option<Quoted<'_>>,
@@ -38,6 +39,7 @@ pub(crate) fn maybe_name(
 }
 
 /// Names, of which there is one at least.
+#[tactic(auto, using(crate::proofs::FirstBads::handed_on, crate::proofs::FirstBads::refused_here, crate::proofs::Items::all_read))]
 pub(crate) fn names(
     alloc: Global,
     strings: &OneOrMore<Quoted<'_>>,
@@ -67,6 +69,7 @@ fn label(alloc: Global, quoted: &Quoted<'_>) -> Result<Label, LineStop>
 }
 
 /// A label, if there is a string.
+#[tactic(auto, using(crate::proofs::FirstBads::handed_on, crate::proofs::FirstBads::refused_here))]
 pub(crate) fn maybe_label(
     alloc: Global,
     quoted: &Option<Quoted<'_>>,
@@ -123,6 +126,7 @@ fn in_line(quoted: &Quoted<'_>, refusal: ExprRefusal) -> LineStop
 }
 
 /// An expression.
+#[tactic(auto, using(crate::proofs::Items::stands_within, crate::proofs::StringStops::no_expression))]
 pub(crate) fn expression(alloc: Global, quoted: &Quoted<'_>) -> Result<Expr, LineStop>
     ensures ok { IfOk result (λ a. ReadsText quoted.now.content.now a) }
     ensures err { IfErr result (λ e. RefusedFor (IsBad (quoted_of quoted.now, AnExpression)) e) }
@@ -134,6 +138,7 @@ pub(crate) fn expression(alloc: Global, quoted: &Quoted<'_>) -> Result<Expr, Lin
 }
 
 /// The values of a Vary.
+#[tactic(auto, using(crate::proofs::Items::stands_within, crate::proofs::StringStops::no_values))]
 pub(crate) fn values(alloc: Global, quoted: &Quoted<'_>) -> Result<VaryValues, LineStop>
     ensures ok { IfOk result (λ v. ReadsValuesText quoted.now.content.now v) }
     ensures err { IfErr result (λ e. RefusedFor (IsBad (quoted_of quoted.now, SomeValues)) e) }

@@ -9,6 +9,7 @@ use crate::token::Placed;
 use std::alloc::Global;
 
 /// The tokens of a line.
+#[tactic(auto, using(crate::proofs::TokenSteps::at_end, crate::proofs::TokenSteps::step_comment))]
 pub(crate) fn tokenize(alloc: Global, line: &[u8]) -> Result<Vec<Placed<'_>>, LineStop>
     requires { length line.now ≤ 65536 }
     ensures ok { IfOk result (λ v. line_tokens line.now ≡ Ok (map placed_of v.items)) }

@@ -60,6 +60,7 @@ impl<'t, 'a> Walk<'t, 'a> {
     ghost use Rattle.script_read.specs.{left_of};
 
     // The next token.
+    #[tactic(auto, using(std::proofs::lemmas::Grind::common_steps, crate::proofs::Walked::stuck_empty))]
     pub(crate) fn peek(&self) -> Result<Token<'a>, Fail>
         ensures sees { IfOk result (λ t. Begins (token_of t) (left_of self.now) (drop 1 (left_of self.now))) }
         ensures ends { IfErr result (λ e. left_of self.now ≡ []) }
@@ -92,6 +93,7 @@ impl<'t, 'a> Walk<'t, 'a> {
         }
     }
 
+    #[tactic(auto, using(crate::proofs::Walked::took_mark, crate::proofs::Walked::stuck_mark))]
     pub(crate) fn expect(&mut self, mark: Mark) -> Result<(), Fail>
         ensures took { OnOk result (Took (AMark mark ∷ []) (mark_token mark ∷ []) (left_of self.old) (left_of self.new)) }
         ensures stuck { result ≡ Err Fail.Unexpected → IsStuck (AMark mark ∷ []) (left_of self.old) (left_of self.new) }
@@ -130,6 +132,7 @@ impl<'t, 'a> Walk<'t, 'a> {
     }
 
     // The name of a node or a result.
+    #[tactic(auto, using(crate::proofs::Walked::stuck_token, crate::proofs::Walked::not_free, crate::proofs::Walked::no_word))]
     fn name(&mut self) -> Result<Word<'a>, Fail>
         ensures took { IfOk result (λ w. Took (AWord ∷ []) (AsWord w.bytes.now ∷ []) (left_of self.old) (left_of self.new)) }
         ensures free { IfOk result (λ w. is_free_word w.bytes.now ≡ true) }
@@ -166,6 +169,7 @@ impl<'t, 'a> Walk<'t, 'a> {
     }
 
     // A further string or none, and the `)` of the call.
+    #[tactic(auto, using(crate::proofs::Joined::none_wanted, std::proofs::lemmas::Grind::common_steps, crate::proofs::Joined::took_none))]
     pub(crate) fn maybe_string(&mut self) -> Result<Option<Quoted<'a>>, Fail>
         ensures took { IfOk result (λ o. Took (MaybeString ∷ []) (maybe_string (option_map quoted_of o) ++ AsClose ∷ []) (left_of self.old) (left_of self.new)) }
         ensures stuck { result ≡ Err Fail.Unexpected → IsStuck (MaybeString ∷ []) (left_of self.old) (left_of self.new) }
@@ -211,6 +215,7 @@ impl<'t, 'a> Walk<'t, 'a> {
     }
 
     // What books the name, behind it.
+    #[tactic(auto, using(crate::proofs::Joined::took_booking))]
     fn booking(&mut self, name: Word<'a>) -> Result<Form<'a>, Fail>
         requires { is_free_word name.bytes.now ≡ true }
         ensures took { IfOk result (λ f. TookBooking name.entry.bytes.now (form_of f) (left_of self.old) (left_of self.new)) }
@@ -238,6 +243,7 @@ impl<'t, 'a> Walk<'t, 'a> {
         Ok(name)
     }
 
+    #[tactic(auto, using(crate::proofs::Walked::stuck_token, crate::proofs::Walked::no_word, crate::proofs::Joined::took_line))]
     fn line(&mut self) -> Result<Form<'a>, Fail>
         ensures took { IfOk result (λ f. TookForm (form_of f) (left_of self.old) (left_of self.new)) }
         ensures stuck { result ≡ Err Fail.Unexpected → IsStuck (ALine ∷ []) (left_of self.old) (left_of self.new) }

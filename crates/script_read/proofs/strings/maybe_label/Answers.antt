@@ -1,9 +1,5 @@
 use Rattle.rdf_values.specs.{a_label, no_label}
-use Rattle.script_read.proofs.FirstBads.{handed_on, refused_here}
 use Rattle.script_read.proofs.strings.maybe_label.Goals as goal
-
-pub returns-in_err-label-in-Some-clause-err : goal.returns-in_err-label-in-Some-clause-err
-returns-in_err-label-in-Some-clause-err c = rw c.in-Some.is (handed_on _ _ _ c.from_residual.ensures.1 (refused_here _ _ _ c.in_err-label-in-Some.ensures.err))
 
 pub returns-in_ok-label-in-Some-clause-ok : goal.returns-in_ok-label-in-Some-clause-ok
 returns-in_ok-label-in-Some-clause-ok c = rw c.in-Some.is (a_label c.in_ok-label-in-Some.ensures.ok.0 c.in_ok-label-in-Some.ensures.ok.1)

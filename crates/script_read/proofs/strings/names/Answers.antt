@@ -1,10 +1,7 @@
-use Rattle.std.proofs.Common.{◌<◌, ◌≤◌, length}
+use Rattle.std.proofs.Common.{◌<◌, length}
 use Rattle.script_read.proofs.FirstBads.{handed_on, refused_here}
-use Rattle.script_read.proofs.Items.{begun, one_more, at_place, all_read}
+use Rattle.script_read.proofs.Items.{begun, one_more, at_place}
 use Rattle.script_read.proofs.strings.names.Goals as goal
-
-pub returns-in_err-name-clause-err : goal.returns-in_err-name-clause-err
-returns-in_err-name-clause-err c = handed_on _ _ _ c.from_residual.ensures.1 (refused_here _ _ _ c.in_err-name.ensures.err)
 
 pub loop-quoted-init : goal.loop-quoted-init
 loop-quoted-init c = rw (c.in_ok-push.ensures.ok, c.new-names.ensures) (one_more _ _ (begun _) c.in_ok-name.ensures.ok)
@@ -20,8 +17,3 @@ loop-quoted-preserved c =
     let there : c.loop-quoted.quoted-index < length c.args.strings.now.rest.items = rw c.deref-quoted-items.ensures.value at c.loop-quoted-test.true in
     let is = rw c.deref-quoted-items.ensures.value at c.quoted-item.is in
     rw c.in_ok-push-2.ensures.ok (one_more _ _ (at_place _ _ _ there is c.loop-quoted.invariant) c.in_ok-name-2.ensures.ok)
-
-pub returns-clause-ok : goal.returns-clause-ok
-returns-clause-ok c =
-    let whole : length c.args.strings.now.rest.items ≤ c.loop-quoted.quoted-index = rw c.deref-quoted-items.ensures.value at c.loop-quoted-test.false in
-    all_read _ _ whole c.loop-quoted.invariant

@@ -2,9 +2,8 @@ use Rattle.std.proofs.Common.{◌≡◌, ◌∙◌, ◌∷◌, ◌++◌, [], map
 use Rattle.lemmas.proofs.{common_steps, map-append}
 use Rattle.rdf_values.specs.{at_byte, Bad, Blank}
 use Rattle.script_read.specs.{placed_of}
-use Rattle.script_read.proofs.TokenSteps.{at_place, step_comment, step_token, token_within, at_end}
+use Rattle.script_read.proofs.TokenSteps.{at_place, step_token, token_within}
 use Rattle.script_read.proofs.tokenizer.tokenize.Goals as goal
-use Rattle.script_read.proofs.tokenizer.tokenize.Goals.{else-loop-place-test, then-loop-place-test+in-Comment}
 
 pub loop-place-preserved-in-Blank : goal.loop-place-preserved-in-Blank
 loop-place-preserved-in-Blank c = record {
@@ -30,9 +29,3 @@ loop-place-preserved c =
       same = c.loop-place.invariant.same ∙ one ∙ rw (pushed, map-append) refl;
       within = omega arith;
     }
-
-pub returns-clause-ok : goal.returns-clause-ok
-returns-clause-ok c = elim c.loop-place-test.branch [
-  | else-loop-place-test w ↦ c.loop-place.invariant.same ∙ at_end _ c.args.line.now c.loop-place.place (omega arith)
-  | then-loop-place-test+in-Comment w ↦ c.loop-place.invariant.same ∙ step_comment _ c.args.line.now c.loop-place.place (omega arith) w.in-Comment.ensures
-]

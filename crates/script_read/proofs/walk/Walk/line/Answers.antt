@@ -1,21 +1,12 @@
 use Rattle.std.proofs.Common.{◌∙◌, ap, sym, true, false, arith}
-use Rattle.lemmas.proofs.{common_steps, IfOk-weaker}
-use Rattle.script_read.specs.{ALine, form_of, token_of}
-use Rattle.script_read.proofs.Walked.{stuck_token, no_word}
-use Rattle.script_read.proofs.Joined.{line_wanted, took_line, took_asking}
+use Rattle.lemmas.proofs.{common_steps}
+use Rattle.script_read.specs.{token_of}
+use Rattle.script_read.proofs.Joined.{line_wanted, took_asking}
 use Rattle.script_read.proofs.walk.Walk.line.Goals as goal
-
-pub returns-in_default-clause-stuck : goal.returns-in_default-clause-stuck
-returns-in_default-clause-stuck c _ = stuck_token ALine _ c.in_ok-first.ensures.sees (no_word _ c.in_default.not-Word).2
 
 pub returns-in_err-name-clause-stuck : goal.returns-in_err-name-clause-stuck
 returns-in_err-name-clause-stuck c h k =
     let so_far = line_wanted _ c.in-Word.first.bytes.now false k (ap token_of c.in-Word.is) c.in_ok-first.ensures.sees c.advance.ensures (sym c.is_free.ensures ∙ c.if-is_free.false) in grind (arith, common_steps)
-
-pub returns-then-is_free-clause-took : goal.returns-then-is_free-clause-took
-returns-then-is_free-clause-took c =
-    IfOk-weaker c.booking.result _ _ (λ f x. took_line c.in-Word.first.bytes.now (form_of f) (ap token_of c.in-Word.is) c.in_ok-first.ensures.sees c.advance.ensures (sym c.is_free.ensures ∙ c.if-is_free.true) x)
-    c.booking.ensures.took
 
 pub returns-then-is_free-clause-stuck : goal.returns-then-is_free-clause-stuck
 returns-then-is_free-clause-stuck c h k =

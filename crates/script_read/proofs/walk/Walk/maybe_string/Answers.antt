@@ -1,6 +1,6 @@
 use Rattle.std.proofs.Common.{arith}
 use Rattle.std.proofs.lemmas.Grind.{common_steps}
-use Rattle.script_read.proofs.Joined.{took_some, took_none, some_wanted, none_wanted}
+use Rattle.script_read.proofs.Joined.{took_some, some_wanted}
 use Rattle.script_read.proofs.walk.Walk.maybe_string.Goals as goal
 
 pub returns-in_err-text-clause-stuck : goal.returns-in_err-text-clause-stuck
@@ -8,9 +8,3 @@ returns-in_err-text-clause-stuck c h k = let begins = some_wanted _ _ k c.if-eat
 
 pub returns-then-eat-clause-took : goal.returns-then-eat-clause-took
 returns-then-eat-clause-took c = took_some c.if-eat.ensures c.in_ok-text.ensures.took
-
-pub returns-in_err-expect-clause-stuck : goal.returns-in_err-expect-clause-stuck
-returns-in_err-expect-clause-stuck c h k = let begins = none_wanted _ _ k c.if-eat.ensures.0 c.if-eat.ensures.1 in grind (arith, common_steps)
-
-pub returns-clause-took : goal.returns-clause-took
-returns-clause-took c = took_none c.if-eat.ensures.0 c.if-eat.ensures.1 c.in_ok-expect.ensures.took
