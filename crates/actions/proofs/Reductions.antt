@@ -1,4 +1,4 @@
--- The operations of a Reduce, and extremes, over two lists.
+-- The operations of a Reduce, and extremes, over two lists of items and of numbers.
 use Rattle.std.proofs.Common.{◌≡◌, List, [], ◌∷◌, ℤ, arith, refl, ap, sym, ◌∙◌, Option, Some, None, fold, ℕ, suc, ◌+◌, ◌-◌, ◌<◌, ◌^◌, ◌%◌, ◌++◌, pos, negsuc, w64, FitsSigned, bit_and, bit_or, bit_xor}
 use Rattle.lemmas.proofs.{clamps, int_max, int_min, ints, and_comm, and_le_l, bit_at_and, bit_at_or, bit_at_xor, cast_signed, cast_unsigned, int_wrapping_add, mod-add-mod, mod-eq_of_lt, of_z-to_z, or_comm, or_lt, same_from_bits, xor_comm, xor_lt}
 use Rattle.rdf_values.specs.{extreme, number_of, numbers_of, on_bits, reduce_start, reduce_step, ReduceOp}

@@ -1,4 +1,4 @@
--- Marks that are set at one place after another.
+-- Marks of places, one after another, and of a whole block without being written.
 use Rattle.std.proofs.Common.{◌≡◌, ◌<◌, ◌+◌, ◌||◌, not, ℕ, suc, zero, Bool, true, false, List, [], ◌∷◌, length, get_or, take, set, ◌∙◌, refl, ap, cond, if◌then◌else◌, arith, length-set, nat_eq, count_by, ◌≤◌, sym, subst}
 use Rattle.lemmas.proofs.{eqb_tells, sum_by-cons, sum_by-set, sum_by_more, get_or-range_with_len, length-range_with_len, range_with_len}
 use Rattle.expr_lanes.specs.{AreRising, is_in, is_marked, EachPlace}

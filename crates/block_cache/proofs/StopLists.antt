@@ -1,4 +1,4 @@
--- The least fault so far, one stop after another.
+-- Stops of a group, one after another: the least fault, the places, and what is noted.
 use Rattle.std.proofs.Common.{◌≡◌, ◌<◌, ◌≤◌, ◌+◌, ◌++◌, ℕ, Bool, true, false, List, [], ◌∷◌, length, take, get_or, Option, Some, None, refl, sym, subst, arith, if◌then◌else◌, nat_le, Result, OnErr, ◌&&◌, ◌||◌, not, zero, suc, ◌∙◌, ap, cond, nat_eq, Contains, ◌⊎◌, inl, inr, All, length-set, set, get_or-set_same, get_or-set_other}
 use Rattle.lemmas.proofs.{All-push, Contains-append_left, Contains-push, leb-false, leb-true, take_more, both_true, Decides-eqb, not_false, cases_eq, Contains-push_cases}
 use Rattle.expr_eval.specs.{ScalarStop}

@@ -1,4 +1,4 @@
--- What the actions of a loop without vectors read.
+-- What the actions of a loop read, and how filling it lowers the limit.
 use Rattle.std.proofs.Common.{◌≡◌, ◌⊎◌, inl, inr, ℕ, Bool, ◌<◌, true, false, List, [], ◌∷◌, length, map, option_map, Option, Some, refl, sym, ◌∙◌, ap, subst, slice_get, get_or, unwrap_or, ◌+◌, ◌≤◌, ◌&&◌, None, arith, nat_lt, if◌then◌else◌, ℤ, Result, pos, filter, suc, drop, drop-cons, length-drop}
 use Rattle.lemmas.proofs.{AllByRecursion, get_or_from_slice_get, recursion_from_All, and_false, and_true, Decides-ltb, lt_says, nil_from_length, same_some, slice_get-get_or, slice_get_read, something_at}
 use Rattle.rdf_values.specs.{ActionKind, AreAccepted, ColType, Column, columns_of, FitsKind, FitsRow, fn_names, history, kind_at, scope_of, Statement, Under, Value, EntryFault}

@@ -1,4 +1,4 @@
--- Lists by their places.
+-- A tally's first and last moments, and the lists that it begins clusters with.
 use Rattle.std.proofs.Common.{◌≡◌, ℕ, zero, suc, ◌+◌, List, [], ◌∷◌, ◌++◌, length, map, drop, set, Option, None, Some, ◌⊎◌, inl, inr, refl, sym, ap, ◌∙◌, arith, ◌-◌, slice_get, slice_range, ◌<◌, replicate, ap₂, subst, add-zero, append-nil, Bool, true, false}
 use Rattle.std.proofs.lemmas.List.{length-drop, length-take}
 use Rattle.rdf_values.specs.{ActionKind, Span, below}

@@ -1,4 +1,4 @@
--- Blocks give their numbers back, and one more block.
+-- Blocks give their numbers back, one more block, and all blocks give the column.
 use Rattle.std.proofs.Common.{◌≡◌, ◌≤◌, ◌<◌, ◌+◌, ◌-◌, ◌*◌, ℕ, zero, suc, ℤ, pos, ◌-ℤ◌, List, [], ◌∷◌, ◌++◌, length, get_or, drop, take, map, refl, sym, ap, ap₂, ◌∙◌, subst, arith, append_assoc, append-nil, length-append, unsigned_abs, All, Some, slice_get}
 use Rattle.std.proofs.lemmas.List.{drop-append-le, length-drop, take-append-drop, take-append-le, take_all, take_more}
 use Rattle.lemmas.proofs.{All-append, All-cons, drop-append_seam, FitsSigned, drop_plus, take_plus}

@@ -1,4 +1,4 @@
--- The ranges of clusters of one size.
+-- The ranges of clusters: of one size, by their ends, one behind the other, and along marks.
 use Rattle.std.proofs.Common.{◌≡◌, ◌≤◌, ◌<◌, ◌+◌, ◌*◌, ◌/◌, ℕ, List, [], length, min, Some, arith, refl, ◌∙◌, ap, slice_get, ◌≢◌, ◌-◌, zero, suc, true, false, leb, ◌∷◌, ◌++◌, get_or, sym, ◌⊎◌, inl, inr, if◌then◌else◌, Bool, ◌||◌, subst, nat_eq, nat_lt}
 use Rattle.lemmas.proofs.{div_ceil, div_ceil_times, length-map, mul-le, mul_comm, slice_get-map, AllWithin, le_or_lt, nat_tests, IsNonDecreasingBy, lt_or_le, AllPairs-from_increasing, Decides-eqb, IsStrictlyIncreasing, list_any, or_fails, or_left, or_right, or_true}
 use native.Mathlib.Nat.{add-mul}

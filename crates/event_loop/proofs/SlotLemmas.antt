@@ -1,4 +1,4 @@
--- Each loop can note some chain of sets.
+-- What a slot begins with, and one before and after a cluster.
 use Rattle.std.proofs.Common.{ℕ, List, [], ◌∷◌, ◌∙◌, sym, refl, arith, ◌≡◌, ◌<◌, ◌≤◌, ◌++◌, Option, None, Some, ap, subst, slice_get, length, length-append, ◌+◌, map, All, replicate, unwrap_or}
 use Rattle.rdf_values.specs.{below, Fault, times, AnswerIn64Bits, Booked, history, named_before, Pass, StatementsHaveWords}
 use Rattle.rdf_values.proofs.UnionLemmas.{below_rises, both_rise, by_counts, none_rises, two, rises_push, times_push, length-below, slice_get-below}

@@ -1,4 +1,4 @@
--- The numbers of a list, each once.
+-- The numbers of a list, each once, and the first column with a name or a number.
 use Rattle.std.proofs.Common.{◌≡◌, ℕ, Bool, true, false, List, [], ◌∷◌, ◌++◌, refl, ap, subst, sym, ◌∙◌, cond, arith, take, length, get_or, ◌<◌, ◌+◌, nat_eq, not, ◌≢◌, Option, Some, None, Ok, Err, find, Result}
 use Rattle.lemmas.proofs.{AllByRecursion, common_steps, Decides-eqb, filter, list_any, take_more, All-from_recursion, bytes_eq-Decides, recursion_from_All}
 use Rattle.expr_check.specs.{distinct, with_new, LacksColumn, number_kind, NumberHasKind, numbers_in, NumbersHaveKinds}

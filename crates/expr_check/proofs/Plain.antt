@@ -1,4 +1,4 @@
--- A well typed expression is plain where none of its columns is a vector.
+-- A well typed expression is plain where none of its columns is a vector, and then no part of it is one.
 use Rattle.std.proofs.Common.{◌≡◌, ℕ, Bool, true, false, List, [], ◌∷◌, ◌++◌, length, Option, Some, None, Result, Ok, Err, refl, ap, sym, ◌∙◌, subst, cond, arith, nat_eq, not, ◌&&◌, ◌||◌, slice_get, replicate, if◌then◌else◌, ◌↔◌, All}
 use Rattle.lemmas.proofs.{AllByRecursion, and_holds, and_left, and_right, Decides-eqb, false_from_ne_true, firsts-zip, left_false, list_any, not_true, right_false, zip, All-from_recursion, recursion_from_All}
 use Rattle.rdf_values.specs.{◌>>=◌, args_count, arithmetic_kind, Bin, BinOp, Call, Callee, chosen_kind, Col, ColType, columns_in, columns_in_all, Cond, End, equality_kind, FnName, FunctionNames, GraphCause, inverted_kind, kinds_by, Lit, logical_kind, More, Neg, negated_kind, Not, NumTree, operator_kind, Pick, picked_kind, same_kind, same_kinds, Shape, shape, Trees}

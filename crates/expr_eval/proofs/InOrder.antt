@@ -1,4 +1,4 @@
--- Operations whose left side may decide.
+-- Operations whose left side may decide, and elements one after the other.
 use Rattle.std.proofs.Common.{◌≡◌, ℕ, Bool, true, false, None, Result, refl, ◌<◌, ◌+◌, zero, suc, ℤ, pos, negsuc, List, [], ◌∷◌, ◌++◌, length, drop, get_or, ◌∙◌, append_assoc, ap, sym, ◌+ℤ◌, fold, if◌then◌else◌, arith}
 use Rattle.rdf_values.specs.{BinOp, Value, EntryFault}
 use Rattle.rdf_model.specs.{◌>>=◌, Gives, operation, Outcome, value_operation, checked, Faults, for_all, gives_int, is_set, marked, Needs, pairs, sum_from}

@@ -1,4 +1,4 @@
--- The calls of a checked expression can be made.
+-- A checked expression comes to a value of its kind, and its calls can be made.
 use Rattle.std.proofs.Common.{◌≡◌, ◌≤◌, ◌<◌, ℕ, suc, zero, true, List, [], ◌∷◌, length, Result, Ok, arith, sym, subst, nat_eq, HoldsAt, slice_get, MatchOption, Bool, false, ◌++◌, map, IsOk, refl, cond, All, ℤ, pos, Option, Some, None, nat_abs, replicate, IfOk}
 use Rattle.lemmas.proofs.{AllByRecursion, Decides-eqb, recursion_from_All}
 use Rattle.rdf_values.specs.{AreFnNames, args_count, Bin, Call, Callee, Col, ColType, Cond, End, fn_names, FnName, Function, FunctionNames, GraphCause, kind_by, kinds_by, Lit, More, Neg, Not, NumTree, Pick, Shape, shape, Trees, columns_in, columns_in_all, EachArgument, EachColumn, Tree, Value, FitsKind, Scalar}

@@ -1,4 +1,4 @@
--- Evaluations one after the other.
+-- Evaluations one after the other, and the arguments of a call in lanes of their own.
 use Rattle.std.proofs.Common.{◌≡◌, ◌+◌, ℕ, ℤ, Bool, true, false, ◌&&◌, ◌||◌, List, [], ◌∷◌, ◌∙◌, refl, ap, sym, subst, cond, arith, nat_eq}
 use Rattle.lemmas.proofs.{and_false, and_left, and_true, eq-eqb, eqb_tells, filter, or_right}
 use Rattle.rdf_model.specs.{◌>>=◌, Faults, Gives, Needs, Outcome}

@@ -1,4 +1,4 @@
--- One more place, as a loop over a selection meets it.
+-- One more place, as a loop over a selection meets it, and loops that part one.
 use Rattle.std.proofs.Common.{◌≡◌, ◌≢◌, ◌<◌, ◌≤◌, ◌+◌, ℕ, ℤ, Bool, true, false, List, [], ◌∷◌, ◌++◌, length, get_or, take, drop, set, ◌∙◌, refl, ap, sym, subst, append_assoc, add-zero, arith, Result, Err, ◌||◌, cond, if◌then◌else◌, inl, inr, get_or-set_same, get_or-set_other, nat_eq}
 use Rattle.lemmas.proofs.{append-nil, FiltersInPlace, FiltersInPlace-more_no, FiltersInPlace-more_set, get_or-drop, get_or-take, length-append, length-take-le, take_more, take_more_set, eqb_tells, filter, list_any_more}
 use Rattle.rdf_model.specs.{Faults, Gives, Needs, Outcome}

@@ -1,4 +1,4 @@
--- The first token of a text: how many bytes it takes, and what holds of it.
+-- The tokens of a text, one by one: how many bytes each takes, and what holds of it.
 use Rattle.std.proofs.Common.{◌≡◌, ◌≤◌, ◌<◌, ◌+◌, ℕ, Bool, true, false, List, [], ◌∷◌, length, Option, Some, None, Ok, Err, arith, refl, sym, ap, subst, ◌∙◌, length-take, length-drop, ◌-◌, get_or, drop, take, take_while, nat_le, codes, ◌||◌, MatchResult, IfSome, if◌then◌else◌, suc, ◌++◌, add-zero, append_assoc, length-append, Result}
 use Rattle.lemmas.proofs.{both_true, common_steps, drop_more, list_all, nat_tests, prefix_len, take_while-cons, append-nil, drop-drop, drop_all}
 use Rattle.rdf_values.specs.{First, first_token, is_digit, is_name, is_word, is_word_byte, is_word_start, long_first, long_mark, long_marks, magnitude_of, mark_first, number_first, number_found, Refusal, same, short_first, short_mark, short_marks, Token, word_first, word_token, and_then, before, from, is_blank, Placed, tokens_at, tokens_within}

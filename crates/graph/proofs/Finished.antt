@@ -1,4 +1,4 @@
--- What a booked graph, or a refusal, says of the verdict.
+-- What a booked graph, or a refusal, says of the verdict, and the fields of a finished graph.
 use Rattle.std.proofs.Common.{◌≡◌, ◌∙◌, Err, None, Ok, Option, Result, Some, inl, inr, refl, ℕ, List, [], ◌∷◌, ◌++◌, map, option_map, sym, ap, subst, reverse, length, arith, ◌≤◌, Bool, slice_get, length-append, option_and_then}
 use Rattle.rdf_values.specs.Answered.{Refuses}
 use Rattle.rdf_values.specs.{GraphCause, AreAccepted, check, Column, FunctionNames, history, Line, Scope, scope_of, Script, Statement, verdict, verdict_after, Booked, bookings, is_watched, IsBookable, IsHeader, IsShort, result_depends, variations, named_before}

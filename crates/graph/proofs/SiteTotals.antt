@@ -1,4 +1,4 @@
--- How many sites, versions, variations and named filters there are, and the numbers of filters, whatever table they stand over.
+-- How many sites, versions, variations and named filters there are, and that walks down the Varys of a column end.
 use Rattle.std.proofs.Common.{◌≡◌, ℕ, suc, ◌+◌, List, [], ◌∷◌, ◌++◌, length, if◌then◌else◌, refl, sym, ◌∙◌, ap, ◌≤◌, arith, ◌-◌, ◌<◌, map, Some, slice_get, option_to_list, zero, None, subst}
 use Rattle.lemmas.proofs.{AllByRecursion, AllZip-long, kept_at, length-append, length-map, map-append, same_some, slice_get_within}
 use Rattle.rdf_values.specs.{ColType, Column, FunctionNames, makes, NamedTree, parent_of, Statement, IsShort, Line, named_before, AreAccepted, check_target, first_refusal, GraphCause, is_alias, is_visible, path, refuse_if, refuse_unless, scope_at, scope_of, variations, VaryValues}

@@ -1,4 +1,4 @@
--- A script that goes on keeps the numbers of what it booked before.
+-- Where each site stands, and that a script that goes on keeps the numbers of what it booked before.
 use Rattle.std.proofs.Common.{◌≡◌, ℕ, suc, ◌+◌, List, [], ◌∷◌, ◌++◌, length, Some, refl, ◌∙◌, ap, slice_get, length-append, sym, zero, ◌≤◌, map, None, Ok, arith, nat_eq}
 use Rattle.lemmas.proofs.{kept_at}
 use Rattle.rdf_values.specs.{Column, FunctionNames, Statement, Under, VaryValues, AreAccepted, check, check_list, check_lists, check_vector_column, ColType, column_kind, EachColumn, expect_kind, first_refusal, GraphCause, kind_of, kind_or_int, NamedTree, refuse_unless, scope_at, scope_of}

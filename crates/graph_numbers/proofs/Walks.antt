@@ -1,4 +1,4 @@
--- Elements of lists by their places, and tests by their two answers.
+-- What holds of each named filter and of each result, place by place; the sites of filters are sites.
 use Rattle.std.proofs.Common.{◌≡◌, ◌⊎◌, inl, inr, ℕ, zero, suc, ◌+◌, Bool, true, false, List, [], ◌∷◌, ◌++◌, length, Some, sym, ◌∙◌, ap, arith, slice_get, zero-add, map, subst, ◌<◌, ◌≤◌, length-append}
 use Rattle.rdf_values.specs.{place, same, ActionAt, ActionKind, Column, columns_of, covered, FunctionNames, NamedTree, path, ReportOn, Statement, parent_of}
 use Rattle.rdf_model.proofs.Accepted.{names_equal, place_after}

@@ -1,4 +1,4 @@
--- What an action tries and reads: sites, and versions that can be read, one for each of its columns, which come to values that it takes.
+-- What an action tries and reads, of which kinds, and that these suit it.
 use Rattle.std.proofs.Common.{◌≡◌, ℕ, ◌<◌, ◌≤◌, List, [], ◌∷◌, length, map, Option, Some, sym, ◌∙◌, ap, subst, arith, slice_get, length-append, true}
 use Rattle.std.specs.Prelude.{⊤}
 use Rattle.lemmas.proofs.{AllByRecursion, length-map}

@@ -1,4 +1,4 @@
--- The keys of two sites differ, and one site has one outcome under the variations of one key.
+-- The keys of sites: they differ, one after another, and where what is read of an entry stands under each.
 use Rattle.std.proofs.Common.{◌≡◌, ◌⊎◌, inl, inr, ℕ, zero, suc, ◌+◌, ◌<◌, ◌≤◌, Bool, true, false, cond, List, [], ◌∷◌, length, take, Option, Some, None, refl, sym, ◌∙◌, ap, arith, slice_get, if◌then◌else◌, count_by, add-one, ◌++◌, subst, get_or}
 use Rattle.lemmas.proofs.{cases_order, something_at, sum_by-cons, take_all, cases_lt, get_or_from_slice_get, get_or_past, slice_get_past}
 use Rattle.rdf_values.specs.{Column, Function, Statement, Under, Value, Variation, variations}

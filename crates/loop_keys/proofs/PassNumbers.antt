@@ -1,4 +1,4 @@
--- How many passes a loop has.
+-- The passes of a loop by their numbers: how many there are, what they come to and give to a tally.
 use Rattle.std.proofs.Common.{◌≡◌, ℕ, suc, ◌*◌, ◌<◌, ◌≤◌, ◌^◌, Bool, not, List, [], ◌∷◌, length, map, Option, Some, None, refl, arith, slice_get, unwrap_or, if◌then◌else◌, length-append, sym, ◌∙◌, ap, zero, ◌+◌, true, false, ◌++◌, take}
 use Rattle.lemmas.proofs.{length-map, length-reverse, mul-le-mul, mul-le-mul_right, mapped_at, slice_get_within, append-nil, flat_map-append, take_next}
 use Rattle.rdf_values.specs.{among, Booked, bookings, filled, history, Script, Statement, variations, fn_names, Pass, Value, ActionAt, ActionKind, Booking, named_before, Path}

@@ -1,4 +1,4 @@
--- Sites without vectors: no evaluation of them wants memory, and what they need is among them.
+-- Sites without vectors, and the plan of a loop over them.
 use Rattle.std.proofs.Common.{◌≡◌, ℕ, Bool, true, false, ◌&&◌, not, List, [], ◌∷◌, Option, Some, refl, sym, ◌∙◌, ap, subst, nat_eq, slice_get, if◌then◌else◌, ◌+◌, ◌<◌, ◌≤◌, ◌||◌, length, take, option_map, arith, get_or}
 use Rattle.lemmas.proofs.{AllByRecursion, both_true, Decides-eqb, recursion_from_All, list_any, list_any_at, list_any_more, slice_get-get_or, take_all}
 use Rattle.rdf_values.specs.{Bin, Call, Callee, Col, ColType, Cond, EachArgument, EachColumn, End, Lit, More, Neg, Not, NumTree, Pick, Trees, Value}

@@ -1,4 +1,4 @@
--- Which named filters reports cover: by the nodes of the filters, and by their numbers.
+-- Reports: which named filters they cover, what these come to and demand, by their numbers.
 use Rattle.std.proofs.Common.{◌≡◌, ◌⊎◌, inl, inr, ℕ, suc, ◌<◌, Bool, true, false, ◌||◌, List, [], ◌∷◌, length, map, Option, Some, None, refl, sym, ◌∙◌, ap, arith, nat_eq, slice_get, Contains, ◌++◌, if◌then◌else◌, zero, subst, All, flat_map}
 use Rattle.lemmas.proofs.{cases_order, Contains-from_any, Decides-eqb, length-map, list_any, mapped_at, or_left, or_right, slice_get_within, something_at, All-from_recursion, recursion_from_All, slice_get-get_or}
 use Rattle.rdf_values.specs.{ActionAt, AreAccepted, Booking, check, Column, fn_names, Function, FunctionNames, history, makes, named_before, Pass, ReportOn, same, scope_of, Statement, path, Value, Path}

@@ -1,4 +1,4 @@
--- Items by the clusters that fed them.
+-- Items and counts by clusters: those of a set, and of each.
 use Rattle.std.proofs.Common.{◌≡◌, ℕ, ◌<◌, ◌≤◌, List, [], ◌∷◌, ◌++◌, map, false, refl, sym, ap, ap₂, ◌∙◌, subst, arith, ◌==◌, nat_le, IsPermutation, zero, suc, ◌+◌, inl, inr, append_assoc, flat_map, slice_get, ◌-◌, length, take, drop, Option, Some, slice_range, cond, Bool, None, append-nil, length-drop, count_by}
 use Rattle.std.specs.Prelude.{⊤}
 use Rattle.lemmas.proofs.{All, All-permutation, common_steps, cond-false, cond-true, cond_both, eq-eqb, filter, filter-append, IsPermutation-append_comm, IsPermutation-append_left, IsPermutation-cons, IsPermutation-refl, IsPermutation-sym, IsPermutation-trans, leb-false, leb-true, nat_tests, ne_eqb, cases_eq, flat_map-append, IsStrictlyIncreasing, map-append, drop_plus, flat_map-map, map-map, take_plus, length-flat_map, length-take, sum_by, sum_by-append, sum_by-cons, sum_by-IsPermutation, sum_by-le}

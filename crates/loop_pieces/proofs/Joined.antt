@@ -1,4 +1,4 @@
--- Joining, by the sets.
+-- Two pieces of a loop are joined: by their sets, filter by filter, accumulator by accumulator.
 use Rattle.std.proofs.Common.{ℕ, List, [], ◌≡◌, zero, suc, ◌<◌, ◌∷◌, ◌++◌, length, map, get_or, refl, sym, ap, ap₂, ◌∙◌, subst, arith, ◌+◌, ◌≤◌, set, ⊎_elim, get_or-set_same, get_or-set_other}
 use Rattle.rdf_values.proofs.UnionLemmas.{none_is_neutral, order_does_not_matter, unite_from_either_side}
 use Rattle.std.proofs.lemmas.List.{length-map, get_or-map}

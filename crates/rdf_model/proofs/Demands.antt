@@ -1,4 +1,4 @@
--- Demands that are alike are one.
+-- What rows demand, what reports come to, and what a run's output depends on.
 use Rattle.std.proofs.Common.{◌≡◌, true, ◌&&◌, Some, None, refl, ap, nat_eq, ℕ, ◌≤◌, Bool, false, List, [], ◌∷◌, arith, if◌then◌else◌, count_by, ◌⊎◌, inl, Option, flat_map}
 use Rattle.lemmas.proofs.{both_true, Decides-eqb}
 use Rattle.rdf_values.specs.{same, same_variation, Under, Variation, Column, Function, maker, named_maker, Path, Statement, target_of, Value, Booked, bookings, Fault, history, is_watched, results_named, Script}

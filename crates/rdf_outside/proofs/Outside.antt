@@ -1,4 +1,4 @@
--- Steps of the walks that make a struct without fields.
+-- Steps of whole reads and writes, and of walks that make a struct without fields.
 use Rattle.std.proofs.Common.{List, [], ◌∷◌, refl, ◌≡◌, ◌≤◌, ◌+◌, ℕ, ◌++◌, Option, None, Some, length, take, drop, ap, sym, ◌∙◌, append_assoc, length-append, arith}
 use seplogic.Ra.Ura.{Ura}
 use mir.Val.{Val, vstruct, vnil}

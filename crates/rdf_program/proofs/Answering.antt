@@ -1,4 +1,4 @@
--- What is due to an accepted run has the status that the run ends in.
+-- Answers to the words and to files, what is written of them, and that each is due.
 use Rattle.std.proofs.Common.{◌≡◌, ◌≤◌, ◌+◌, ℕ, Bool, false, ◌||◌, List, [], ◌∷◌, length, map, Option, Some, None, Ok, nat_lt, option_map, inl, inr, ap, refl, sym, subst, ◌∙◌, if◌then◌else◌, is_some, unwrap_or, Result, Err, ◌++◌, IfSome, arith, append_assoc, OnOk, ◌⊎◌, MatchOption}
 use Rattle.lemmas.proofs.{le-ltb, list_any}
 use Rattle.rdf_values.specs.{Booked, Fault, fn_names, Function, history, IsScript, MarkedTable, Script, Statement, table_of, Value, verdict, Column, FunctionNames, graph_cause_line, GraphCause}

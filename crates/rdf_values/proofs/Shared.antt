@@ -1,4 +1,4 @@
--- Several threads may read one expression at once. Its tree is two types that hold each other.
+-- Several threads may read one expression, and the lines of one script, at once.
 use denote.RattleType.{RattleType}
 use denote.Param.Send.{IsSync, sendable}
 use denote.Param.SendFields.{variants_sync, as_row_sync, declared_sync}

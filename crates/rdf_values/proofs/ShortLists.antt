@@ -1,4 +1,4 @@
--- One more name at the end of names of functions, and one more mark at the end of marks.
+-- The script that a text of at most 65,536 bytes is can be booked.
 use Rattle.std.proofs.Common.{◌≢◌, ◌≤◌, ◌<◌, List, [], ◌∷◌, ◌++◌, length, All, arith, sym, ◌+◌, ℕ, ◌≡◌, zero, suc, Bool, Some, None, Ok, Result, refl, ap, length-append, if◌then◌else◌, ℤ, ◌&&◌, ◌==◌}
 use Rattle.lemmas.proofs.{All-append, All-cons, All-head, All-tail, all_pairs_push, AllPairs-from_increasing, common_steps, All-from_recursion, AllByRecursion, length-map}
 use Rattle.rdf_values.specs.{AreFnNames, AreMarks, FnName, HaveDistinctNames, IsBuiltIn, LacksName, ActionKind, all_strings, AreLines, AreNames, AreRising, AreShortValues, arguments, begins_with, blank_line, Close, Comma, edges_tokens, expression_count, Form, form_tokens, IsAction, IsBookable, IsLine, IsScript, IsShort, last_item, last_list, Lexeme, lexeme, Line, lines_of, Mark, maybe_string, Method, more_edges, more_items, more_lists, more_names, more_strings, NamedTree, no_lines, no_names, one_list, PlacedToken, Punct, Quoted, QuotedText, ReadsList, ReadsLists, ReadsValues, ReadsValuesText, Says, Script, several_lists, Statement, statement_line, strings_tokens, Token, tokens_from, VaryValues, vector, with_byte, with_lexeme}

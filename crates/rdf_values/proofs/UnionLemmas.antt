@@ -1,4 +1,4 @@
--- The numbers below another.
+-- Rising lists, unions of sets, and how often numbers stand in lists.
 use Rattle.std.proofs.Common.{◌≡◌, ◌<◌, ℕ, zero, suc, [], ◌∷◌, ◌++◌, length, map, Some, arith, refl, ap₂, ◌∙◌, length-append, inl, inr, sym, slice_get, ◌+◌, List, cond, true, false, ap, ⊎_elim, get_or, ◌==◌, IsPermutation, ◌≤◌, Bool, add-one}
 use Rattle.lemmas.proofs.{kept_at, last_at, lt_or_last, map-append, All, cases_Bool, common_steps, concat, cond-false, cond-true, Contains, Contains-append_right, eqb-true, IsPermutation-cons, IsPermutation-refl, IsPermutation-remove, IsPermutation-trans, IsStrictlyIncreasing, le-ltb, lt-ltb, remove, sum_by, sum_by-append, sum_by-cons, sum_by-IsPermutation, sum_by_push, All-cons, All-head, All-nil, All-push, All-tail, All-weaker, filter, IsStrictlyIncreasing-filter}
 use Rattle.rdf_values.specs.{below, DrawnBy, once_below, SharedOut, times, DrawnListsUnite, IsUnion, NoneIsNeutral, OrderDoesNotMatter, UnionIsOne, UniteFromEitherSide}

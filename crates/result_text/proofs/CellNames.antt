@@ -1,4 +1,4 @@
--- Lists from a place on.
+-- The names of an axis's cells, by their places, their lines, and texts with something between.
 use Rattle.std.proofs.Common.{◌≡◌, ℕ, zero, suc, ◌+◌, List, [], ◌∷◌, ◌++◌, drop, None, Some, refl, sym, ap, ◌∙◌, append_assoc, append-nil, slice_get, ◌<◌, ◌≤◌, ℤ, pos, length, map, get_or, Option, arith, codes, decimal, flat_map}
 use Rattle.lemmas.proofs.{drop_more, get_or_from_slice_get, slice_get_within, none_left as drop_whole, signed_decimal, join_with_byte, map-map, same_some}
 use Rattle.rdf_values.specs.results.Fold.{Cell}

@@ -1,4 +1,4 @@
--- The lines of passes.
+-- The passes of a graph's loops are those of the script, and their lines.
 use Rattle.std.proofs.Common.{if◌then◌else◌, ◌≡◌, ℕ, suc, ◌+◌, ◌<◌, Bool, List, [], ◌∷◌, ◌++◌, length, map, Option, None, Some, refl, sym, ap, ◌∙◌, arith, append_assoc, append-nil, codes, flat_map, filter, slice_get, unwrap_or, get_or, option_map, ◌≤◌, ◌^◌, true, false, drop, subst}
 use Rattle.lemmas.proofs.{flat_map-map, length-map, mapped_at, same_some, slice_get-get_or, slice_get-map, slice_get_within}
 use Rattle.rdf_values.specs.{ActionAt, ActionKind, Booked, Booking, Filled, has_variations, Pass, passes_of, Path, result_depends, Statement, Variation, variations, varied_passes, bookings}

@@ -1,4 +1,4 @@
--- What was taken, from what its parts took.
+-- What was taken, from what its parts took: arguments, methods and lines.
 use Rattle.std.proofs.Common.{◌≡◌, ◌∙◌, ℤ, List, [], ◌∷◌, ◌++◌, Some, refl, sym, ap, append_assoc, ℕ, Bool, true, false, Option, subst, codes, not, ◌||◌, if◌then◌else◌}
 use Rattle.std.proofs.lemmas.List.{append-nil}
 use Rattle.rdf_values.specs.{bare_tokens, LineToken, maybe_string, more_edges, more_strings, PlacedToken, QuotedText, arguments, edges_tokens, Form, form_tokens, has_free_names, is_free, Method, method_word, same, Strings, strings_tokens}

@@ -1,4 +1,4 @@
--- The hands of views of which one has changed, that were dealt out, and that were taken in; and the numbers that hands share out.
+-- The hands of views, seats and shares as they are made and as they are handed back.
 use Rattle.std.proofs.Common.{◌≡◌, ◌≢◌, ℕ, zero, suc, ◌+◌, List, [], ◌∷◌, ◌++◌, length, set, map, get_or, replicate, sym, ap, ◌∙◌, subst, arith, append_assoc, append-nil, length-append, IsPermutation, ◌-◌, ◌%◌, ◌^◌, ◌<◌, refl, Some, slice_index, slice_set}
 use Rattle.lemmas.proofs.{All-cons, All-head, All-nil, All-permutation, All-tail, concat, concat_is, flat_map-append, IsPermutation-append_comm, IsPermutation-append_left, IsPermutation-append_right, IsPermutation-cons, IsPermutation-map, IsPermutation-refl, IsPermutation-sym, IsPermutation-to_front, IsPermutation-trans, IsStrictlyIncreasing, length-flat_map, length_permutation, map-append, map-range_with_len_more, nil_from_length, range_with_len, set_comm, sum_by-cons, sum_by-IsPermutation, All, All-pop, get_or-map, length-map, length-replicate}
 use mathlib.Core.Option.{some, some-injective, some-ne-none}

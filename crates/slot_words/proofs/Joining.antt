@@ -1,4 +1,4 @@
--- What stands at the places of lists.
+-- Runs and further numbers, and trails, taken out of pieces and put together.
 use Rattle.std.proofs.Common.{◌≡◌, ℕ, zero, suc, ◌<◌, List, [], ◌∷◌, length, get_or, refl, ap, arith, slice_get, slice_set, ◌+◌, ◌≤◌, ◌++◌, Some, sym, ◌∙◌, subst, ⊎_elim, length-append, ◌-◌, map, take, append_assoc, append-nil, reverse, nat_eq, option_map}
 use Rattle.rdf_values.specs.{times, IsUnion, Span}
 use Rattle.rdf_values.proofs.UnionLemmas.{times_cons, times_self, times_append, rises_from, once_rising, same_rising, counted, two, first_rises, rest_rise}

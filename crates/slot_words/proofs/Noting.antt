@@ -1,4 +1,4 @@
--- Pieces of single clusters.
+-- The clusters that were noted first, by their numbers, and the chain of their sets.
 use Rattle.std.proofs.Common.{◌≡◌, ℕ, ◌≤◌, List, [], ◌∷◌, map, eqb, false, refl, sym, ap, ◌∙◌, subst, arith, IsPermutation, zero, suc, ◌+◌, ◌++◌, length, min, Bool, not, cond, ap₂, flat_map, ◌<◌, get_or, nat_lt, Contains, ◌-◌, ◌*◌, ◌/◌, Some, mul-le-mul_right, slice_get, option_map}
 use Rattle.std.specs.List.{AllByRecursion, IsDistinct, concat, All as Every}
 use Rattle.lemmas.proofs.{All-head, All-map, All-tail, common_steps, IsNonDecreasing, IsStrictlyIncreasing, IsStrictlyIncreasing-from_distinct, All, All-append, All-cons, All-filter, All-nil, count_by, filter, filter-append, firsts-zip, length-filter, length-map, map-append, seconds-zip, sum_by, sum_by-cons, sum_by-filter_both, sum_by-IsPermutation, sum_by_push, zip, concat_is, IsStrictlyIncreasing-filter, length_permutation, nil_from_length, slice_get-get_or, same_some, slice_get-map, slice_get_within}

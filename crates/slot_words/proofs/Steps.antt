@@ -1,4 +1,4 @@
--- Each step keeps what the rule says of the bar.
+-- Each step at the table keeps what the rules say of the claims, the bar and the book.
 use Rattle.std.proofs.Common.{◌≡◌, ℕ, zero, suc, ◌<◌, ◌≤◌, min, List, ◌∷◌, length, map, get_or, ltb, Option, None, Some, IfSome, refl, ap, subst, ⊎_elim, arith, IsPermutation, ◌+◌, ◌%◌, ◌^◌, [], ◌++◌, sym, ◌∙◌, length-append, append-nil, add-one, slice_index}
 use Rattle.lemmas.proofs.{All, All-cons, All-head, All-permutation, All-tail, All-weaker, cases_lt, cond_both, Contains, Contains-permutation, IfSome_then, IsPermutation-map, ltb-false, All-replicate, common_steps, cond-true, IsStrictlyIncreasing, length-replicate, lt-ltb, sum_by-le, All-map, length-map, length-range_with_len, range_with_len}
 use Rattle.slot_words.specs.declared.hand.ClaimHand.{ClaimHand}

@@ -1,4 +1,4 @@
--- The field at a place that is there.
+-- One more cell of an entry, and its mark.
 use Rattle.std.proofs.Common.{◌≡◌, ◌<◌, ℕ, zero, suc, List, [], ◌∷◌, length, get_or, None, Some, Option, arith, refl, rules, option_map, IsSome, ◌≢◌, ◌≤◌, ◌+◌, Bool, true, false, ◌++◌, drop, Result, Ok, Err, ap, sym, append_assoc, MatchResult, ◌∙◌, if◌then◌else◌, take, All, length-take, slice_get}
 use Rattle.std.specs.Borrow.{Bor}
 use Rattle.csv.specs.Records.{field_at}

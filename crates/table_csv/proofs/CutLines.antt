@@ -1,4 +1,4 @@
--- Where a line ends.
+-- Where lines end, and records of bytes that are cut there.
 use Rattle.std.proofs.Common.{◌≡◌, ◌<◌, ◌+◌, ◌∙◌, ℕ, List, [], ◌∷◌, ◌++◌, length, take, drop, get_or, Bool, None, Some, arith, refl, sym, ap, length-drop, get_or-drop, cond, nat_lt, position, Option, is_some, zero, suc, true, false, length-append, if◌then◌else◌, ◌==◌, append_assoc, append-nil, inl, inr, ◌&&◌, nat_eq, ◌-◌, All, add-one}
 use Rattle.lemmas.proofs.{nat_tests, passes_at_first, position_or_len, take_more, get_or_default, list_any, list_any-from_Any, list_any_none, never_true, and_false, neither, All-append, All-cons, All-drop, All-take, drop-append_seam, flat_map-append}
 use Rattle.table_csv.specs.{EndsLine, is_line_end, csv_records, is_quote, is_special, IsCut}

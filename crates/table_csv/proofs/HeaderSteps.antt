@@ -1,4 +1,4 @@
--- One more field of a header, and that columns of a header are those of a table.
+-- One more field of a header, and answers behind it.
 use Rattle.std.proofs.Common.{if◌then◌else◌, ◌≡◌, ◌<◌, ◌≤◌, ◌+◌, ℕ, suc, List, [], ◌∷◌, ◌++◌, length, get_or, drop, Bool, true, false, None, Some, Option, Result, Ok, Err, arith, refl, ap, sym, ◌∙◌, append_assoc, length-append, not, ◌&&◌, nat_eq, option_and_then, option_map, ok_or, inl, inr, MatchResult}
 use Rattle.lemmas.proofs.{and_left, append-nil, at_drop_more, drop_all, length-drop, nat_tests, not_true}
 use Rattle.rdf_values.specs.{AreColumns, ColType, Column, column_of, ends_in_cut, has_name, Header, header_from, if_new, is_cut, IsHeader, IsStored, next_column, on_ok, TableCause, with_column, table_of}

@@ -1,4 +1,4 @@
--- The table of two parts, from that of each.
+-- The table of two parts, and answers about pieces of one.
 use Rattle.std.proofs.Common.{if◌then◌else◌, ◌≡◌, ◌≤◌, ◌<◌, ◌+◌, ℕ, suc, List, [], ◌∷◌, ◌++◌, length, map, Bool, true, false, None, Some, Option, Result, Ok, Err, arith, refl, ap, sym, ◌∙◌, ok_or, not, All, length-append, IfOk, IfSome, MatchResult}
 use Rattle.lemmas.proofs.{length-map, map-append, nat_tests, All-append, All-map, Bor, list_any, list_any-append, result_ok}
 use Rattle.rdf_values.specs.{cells_from, ColType, Column, Header, header_from, mark_of, MarkedRow, MarkedTable, marks_from, on_ok, result_cons, row_of, rows_from, table_of, table_with, TableCause, Memory, Value}

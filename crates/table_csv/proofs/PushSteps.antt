@@ -1,4 +1,4 @@
--- One more value for a column, in an entry that is read.
+-- What a read of a record takes, and one more value for a column.
 use Rattle.std.proofs.Common.{◌≡◌, ◌<◌, ◌≤◌, ◌+◌, ◌∙◌, ℕ, zero, suc, List, [], ◌∷◌, ◌++◌, length, get_or, set, drop, Result, Err, ap, arith, refl, sym, length-append, Bool, true, false, None, Some, Option, inl, if◌then◌else◌}
 use Rattle.rdf_values.specs.{AreKept, Cells, cells_from, ColType, Column, IsKept, pushed, row_pushed, TableCause, Value}
 use Rattle.rdf_values.specs.tables.TableText.{cell_of}
