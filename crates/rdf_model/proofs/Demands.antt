@@ -24,9 +24,8 @@ variation_is v w h =
     λ i. record { name = a i; tag = b i }
 
 under_is : (u v : Under) → same_under u v ≡ true → u ≡ v
-under_is None None h = refl
 under_is (Some v) (Some w) h = ap Some (variation_is v w h)
-under_is u v h = cc h
+under_is u v h = grind arith
 
 pub demand_is : (p q : Demand) → same_demand p q ≡ true → p ≡ q
 demand_is p q h =
