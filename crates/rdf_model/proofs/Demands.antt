@@ -35,13 +35,9 @@ demand_is p q h =
 
 -- ---- Filters and reports.
 
--- what passes after something passed it before
-passed_before : (o : Outcome ⊥ Bool) (f : Outcome ⊥ Bool) → is_true (o >>= λ passed. if passed then f else Gives false) ≡ true → is_true o ≡ true
-passed_before o f h = grind arith
-
 module _ (d : Dataset) where
   passed_above : (s : Statement) (up : Path) (row : List Value) → passes_filters d (s ∷ up) row ≡ true → passes_filters d up row ≡ true
-  passed_above s up row h = grind (arith, passed_before)
+  passed_above s up row h = grind arith
 
 count_le : {A : Type 0} (p q : A → Bool) → ((a : A) → p a ≡ true → q a ≡ true) → (xs : List A) → count_by p xs ≤ count_by q xs
 count_le p q h xs = grind (arith, sum_by-le-sum_by)
