@@ -56,15 +56,12 @@ reports_are_fed_nothing d row (f ∷ fs) values q = grind (arith, not_fed, repor
 
 -- ---- makers
 
-at_maker : {A : Type 0} (b : Bool) (x y : A) (f : Path → A) (p q : Path) → (b ≡ true → x ≡ f p) → y ≡ f q → (if b then x else y) ≡ f (if b then p else q)
-at_maker b x y f p q h k = grind arith
-
 module _ (fns : List Function) (columns : List Column) (row : List Value) where
   -- a column that is no alias, under nominal
   named_from_maker : (at : Path) (name : List ℕ) → named_value fns columns row {M = ⊥} at None name ≡ named_value fns columns row (named_maker at name) None name
   named_from_maker [] name = refl
-  named_from_maker (Define node parent column expr ∷ up) name = grind (arith, at_maker, named_from_maker up name)
-  named_from_maker (Redefine node parent column expr ∷ up) name = grind (arith, at_maker, named_from_maker up name)
+  named_from_maker (Define node parent column expr ∷ up) name = grind (arith, named_from_maker up name)
+  named_from_maker (Redefine node parent column expr ∷ up) name = grind (arith, named_from_maker up name)
   named_from_maker (s ∷ up) name = named_from_maker up name
 
 pub columns_come_from_their_maker : (d : Dataset) (row : List Value) (at : Path) (name : List ℕ) → column_in d row at None name ≡ named_in d row (maker at name) None (target_of at name)
@@ -72,12 +69,9 @@ columns_come_from_their_maker d row at name = named_from_maker d.fns d.columns r
 
 -- ---- What the output of a run depends on.
 
-left_out : {A : Type 0} (b : Bool) (x y z : A) → b ≡ false → (if b then x else z) ≡ (if b then y else z)
-left_out b x y z h = rw h refl
-
 module _ (script : List Statement) (d : Dataset) (one other : Course) (unwatched : (name : List ℕ) → is_watched script name ≡ false) where
   result_lines_alike : (b : Booked) → result_lines script d one b ≡ result_lines script d other b
-  result_lines_alike b = grind (arith, left_out, one)
+  result_lines_alike b = grind arith
 
   access_alike : (a : Access) (f : Option Fault) (rest : Printed) → access_printed script d one a f rest ≡ access_printed script d other a f rest
   access_alike a (Some f) rest = refl
@@ -92,13 +86,9 @@ pub unwatched_output_is_one_function : (script : Script) (d : Dataset) (one othe
 unwatched_output_is_one_function script d one other h = printed_alike (history script) d one other h (accesses (history script))
 
 module _ (script : List Statement) (d : Dataset) (course : Course) where
-  access_status : (a : Access) (f : Option Fault) (rest : Printed) → (rest.status ≡ 0) ⊎ (rest.status ≡ 8)
-      → ((access_printed script d course a f rest).status ≡ 0) ⊎ ((access_printed script d course a f rest).status ≡ 8)
-  access_status a f rest h = grind arith
-
   printed_status : (as' : List Access) → ((printed script d course as').status ≡ 0) ⊎ ((printed script d course as').status ≡ 8)
   printed_status [] = inl refl
-  printed_status (a ∷ rest) = access_status a (first_fault d (access_passes script d course a)) (printed script d course rest) (printed_status rest)
+  printed_status (a ∷ rest) = grind (arith, printed_status rest)
 
 pub status_tells_of_faults : (script : Script) (d : Dataset) (course : Course) → ((transcript script d course).status ≡ 0) ⊎ ((transcript script d course).status ≡ 8)
 status_tells_of_faults script d course = printed_status (history script) d course (accesses (history script))
