@@ -1,5 +1,5 @@
 -- What rows demand, what reports come to, and what a run's output depends on.
-use Rattle.std.proofs.Common.{◌≡◌, true, ◌&&◌, Some, None, refl, ap, nat_eq, ℕ, ◌≤◌, Bool, false, List, [], ◌∷◌, arith, if◌then◌else◌, count_by, ◌⊎◌, inl, Option, flat_map}
+use Rattle.std.proofs.Common.{◌≡◌, true, ◌&&◌, Some, None, refl, ap, nat_eq, ℕ, ◌≤◌, Bool, false, List, [], ◌∷◌, arith, count_by, ◌⊎◌, inl, Option, flat_map}
 use Rattle.lemmas.proofs.{both_true, Decides-eqb}
 use Rattle.rdf_values.specs.{same, same_variation, Under, Variation, Column, Function, maker, named_maker, Path, Statement, target_of, Value, Booked, bookings, Fault, history, is_watched, results_named, Script}
 use Rattle.rdf_model.specs.{Demand, same_demand, same_site, same_under, Site, ◌>>=◌, column_in, cutflow, Dataset, Entry, Feed, Gives, named_in, named_value, Outcome, passes_filters, report_in, Access, access_passes, access_printed, accesses, Course, first_fault, in_front_of, Printed, printed, result_lines, transcript}
