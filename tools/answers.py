@@ -5,8 +5,8 @@ back, until the crate is proved again. A function where that saves fewer than th
 
     cd crates/NAME && ../../tools/answers.py [--jobs N] [WORD..]     (functions whose path has one of the words; all)
 
-What goes is printed. Read the diff: an answer whose steps a comment tells is better put back. It passes over cycles of functions, over functions that have an
-attribute of the kind already, and over answers that another file cites.
+What goes is printed. Read the diff: an answer whose steps a comment tells is better put back. What an attribute of the function or of its module names already
+stays named. It passes over cycles of functions, and over answers that another file cites.
 """
 import argparse
 import glob
@@ -120,8 +120,9 @@ class Answers:
                         lemmas.append(self.path_of(word))
         return list(dict.fromkeys(lemmas))[:MOST_LEMMAS], list(dict.fromkeys(opened))
 
-    def attribute(self):
+    def attribute(self, named):
         lemmas, opened = self.cited()
+        lemmas, opened = ([*named.get(word, []), *(it for it in new if it not in named.get(word, []))] for word, new in (("using", lemmas), ("unfolding", opened)))
         parts = [f"{word}({', '.join(names)})" for word, names in (("using", lemmas), ("unfolding", opened)) if names]
         return f"{ATTRIBUTE}(auto, {', '.join(parts)})]" if parts else None
 
@@ -165,6 +166,16 @@ class Function:
         self.file = next((file for file in files if os.path.isfile(file)), None)
         if "+" in path or self.file and len(self.places()) != 1:
             self.file = None
+        self.line, self.named = self.stood() if self.file else (None, {})
+
+    def stood(self):
+        """The line of its attribute before any trial, or None, and what it names, or else what the module's attribute names."""
+        lines = read(self.file).split("\n")
+        at = self.attribute(lines)
+        line = lines[at] if at is not None else None
+        of_module = re.search(r"(?m)^#!\[tactic\(auto, .*$", read(self.file))
+        said = line or (of_module[0] if of_module else "")
+        return line, {word: split(names) for word, names in re.findall(r"(using|unfolding)\(([^)]*)\)", said)}
 
     def places(self):
         found, room = [], None
@@ -187,19 +198,15 @@ class Function:
             at -= 1
         return None
 
-    def has_attribute(self):
-        text = read(self.file)
-        return self.attribute(text.split("\n")) is not None or re.search(r"^#!\[tactic\(auto, ", text, re.M)
-
     def set(self, attribute):
         lines = read(self.file).split("\n")
         old = self.attribute(lines)
         if old is not None:
             del lines[old]
             write(self.file, "\n".join(lines))
-        if attribute:
-            at = self.places()[0]
-            lines.insert(at, re.match(r"\s*", lines[at])[0] + attribute)
+        at = self.places()[0]
+        if attribute or self.line:
+            lines.insert(at, re.match(r"\s*", lines[at])[0] + attribute if attribute else self.line)
             write(self.file, "\n".join(lines))
 
 
@@ -212,11 +219,11 @@ class Trial:
 
     def drop(self, names):
         self.answers.drop(names)
-        self.attribute = self.answers.attribute() if self.answers.dropped else None
+        self.attribute = self.answers.attribute(self.function.named) if self.answers.dropped else None
         self.function.set(self.attribute)
 
     def saves(self):
-        return self.answers.before - self.answers.left - bool(self.attribute)
+        return self.answers.before - self.answers.left - (bool(self.attribute) and not self.function.line)
 
     def bring_back(self, goals):
         """Brings back the answers of these goals, or all where it isn't told which are open."""
@@ -233,7 +240,7 @@ def trials(crate, given):
     cited = "".join(map(read, glob.glob("proofs/**/*.antt", recursive=True)))
     for path in sorted(glob.glob("proofs/**/Answers.antt", recursive=True)):
         function, module = Function(path), f"Rattle.{crate}." + path.removesuffix(".antt").replace("/", ".")
-        if (not given or any(word in path for word in given)) and function.file and module not in cited and not function.has_attribute():
+        if (not given or any(word in path for word in given)) and function.file and module not in cited:
             answers = Answers(path, crate)
             if answers.answers:
                 yield Trial(answers, function)

@@ -1,5 +1,5 @@
 -- What the command's words ask for.
-use Rattle.std.specs.Prelude.{ℕ, ℤ, pos, Bool, true, false, ◌&&◌, leb, List, Option, Some, None, option_map, if◌then◌else◌, codes, bytes_eq}
+use Rattle.std.specs.Prelude.{ℕ, ℤ, pos, Bool, true, false, ◌&&◌, leb, List, Option, Some, None, option_map, if◌then◌else◌, codes, bytes_eq, ◌≡◌, ◌≤◌, ⊤}
 use Rattle.clap.specs.Words.{Row, Text, first_of, matches_of}
 use Rattle.rdf_values.specs.{integer_of, is_name}
 use Rattle.command_words.specs.Arguments.{is_taken, rdf_command}
@@ -82,3 +82,19 @@ asked_in rows =
 -- a friend is broken
 unfoldable pub asked_of : List Text → Option Command
 asked_of words = if is_taken words then asked_in (matches_of rdf_command words) else None
+
+-- ---- Within which limits the numbers of a command are.
+
+-- the generator makes 1 to 1,000,000 entries, from a seed of 32 bits
+abbrev pub IsWithin : Input → Type 0
+IsWithin (Files script table friend) = ⊤
+IsWithin (Generated entries seed) = (1 ≤ entries) × (entries ≤ 1000000) × (seed ≤ 4294967295)
+
+pub record AreWithinLimits (c : Command) : Type 0 where
+  pub slots : (1 ≤ c.slots) × (c.slots ≤ 16)
+  pub cluster : (1 ≤ c.cluster) × (c.cluster ≤ 1000000)
+  pub watch : (1 ≤ c.watch) × (c.watch ≤ 1000000)
+  pub input : IsWithin c.input
+
+abbrev pub NumbersAreWithinLimits : Type 0
+NumbersAreWithinLimits = (words : List (List ℕ)) (c : Command) → asked_of words ≡ Some c → AreWithinLimits c

@@ -4,7 +4,7 @@ use Rattle.std.specs.Prelude.{⊤}
 use Rattle.rdf_values.specs.{ActionAt, ActionKind, AreAccepted, callee, ColType, Column, column_kind, columns_in, columns_of, fn_names, Function, makes, parent_of, path, place, scope_at, scope_of, shape_of, Statement, target_of, Under, Value}
 use Rattle.rdf_values.specs.declared.scripts.statement.Statement.TheVariants.{Filter, Action}
 use Rattle.rdf_model.specs.{◌>>=◌, booking_demands, call_outcome, column_demands, column_value, Demand, demands_after, Faults, filter_demands, Gives, input_demands, is_need, IsKnown, met_columns, named_call, Needs, Outcome, same_site, site_at, site_demands, through, truth_of, with_needs, without}
-use Rattle.rdf_model.specs.Laws.{gives, faults}
+use Rattle.rdf_model.specs.Laws.{gives, faults, Alike}
 use Rattle.rdf_model.proofs.Evaluations.{evaluate_renamed, call_known}
 use Rattle.graph_numbers.specs.{filter_sites, HasFilters, HasInputs, HasSourceIn, IfGiven, IfPassed, meets, own_filter_site, site_count, site_in, SiteAt, sites, Source, source_in, sources, through_sites, version_at}
 use Rattle.lemmas.proofs.{append-nil, get_or_from_slice_get}
@@ -16,8 +16,7 @@ use Rattle.graph_numbers.proofs.Equations.{number_value, version_value, source_i
 use Rattle.rdf_model.proofs.KnownColumns.{IsKnownColumn, known_columns, each_weaker}
 use Rattle.graph_numbers.proofs.Walks.{by_test}
 use Rattle.graph_numbers.proofs.Meeting.{each_at, In, here, in_left, in_right, met_name}
-use Rattle.rdf_model.specs.Alike as alike
-use Rattle.rdf_model.specs.Alike.{Alike}
+use Rattle.rdf_model.specs.Laws as alike
 use Rattle.rdf_model.proofs.Missing.{named_alike, alike_is, call_alike}
 use Rattle.graph_numbers.proofs.Passing.{through_is, AreVisible, action_visible}
 use Rattle.graph_numbers.proofs.Origins as origin

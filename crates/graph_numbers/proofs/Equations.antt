@@ -30,12 +30,9 @@ module _ (M : Type 0) (fns : List Function) (columns : List Column) (row : List 
   abbrev pub version_value : List Statement → ℕ → Outcome M Value
   version_value before c = source_value row (number_value before) (source_in (sources columns (fn_names fns) u before) c)
 
-  given_value : (before : List Statement) (src : Source) (o : Outcome M Value) → IsGiven M fns columns row u before src o → source_value row (number_value before) src ≡ o
-  given_value before src o h = grind arith
-
   -- the value of a version by its number is what its source gives
   pub source_is : (before : List Statement) (c : ℕ) (o : Outcome M Value) → HasSource M fns columns row u before c o → version_value before c ≡ o
-  source_is before c o h = grind (arith, get_or_from_slice_get, given_value)
+  source_is before c o h = grind (arith, get_or_from_slice_get)
 
   pub source_later : (before after : List Statement) → Extends before after → (c : ℕ) (o : Outcome M Value) → HasSource M fns columns row u before c o → HasSource M fns columns row u after c o
   source_later = origin.source_later columns (fn_names fns) u (values M fns columns row u)

@@ -4,10 +4,9 @@ use Rattle.std.proofs.lemmas.Bool.Decides.{Decides-eqb}
 use Rattle.rdf_values.specs.{Bin, Call, Col, columns_in, columns_in_all, Cond, EachArgument, EachColumn, End, Lit, More, Neg, Not, Pick, same, Tree, Trees, Value, aliases, AreAccepted, check_target, ColType, Column, column_kind, first_refusal, FitsRow, fn_names, FunctionNames, kind_or_int, made_columns, makes, parent_of, path, place, scope_at, scope_of, Statement, target_of, Under, visible_columns}
 use Rattle.rdf_model.specs.{evaluate, Faults, Gives, is_met, is_need, IsKnown, Needs, Outcome, untyped, without, column_value, Dataset, FitsOutcome, with_needs}
 use Rattle.rdf_values.specs.expressions.Expressions.{Truth}
-use Rattle.rdf_model.specs.Laws.{gives, faults}
+use Rattle.rdf_model.specs.Laws.{gives, faults, Alike}
 use Rattle.rdf_model.proofs.Accepted.{names_equal, itself, passed_over, checked_of, target_is_none, visible_resolved, sound_path, column_fits}
 use Rattle.rdf_model.proofs.Evaluations.{evaluate_known}
-use Rattle.rdf_model.specs.Alike.{Alike}
 use Rattle.rdf_values.proofs.KeptLemmas.{all_columns}
 use Rattle.graph_numbers.proofs.Walks.{by_test, next_at, place_gives}
 use Rattle.lemmas.proofs.{kept_at, length-append, length-map, mapped_at}
@@ -19,7 +18,7 @@ use Rattle.graph_numbers.proofs.Equations.{version_value, source_is, source_late
 use Rattle.graph_numbers.proofs.Placing.{Extends, kept, each_version, placed}
 use Rattle.rdf_model.proofs.Missing.{named_alike, alike_is}
 use Rattle.rdf_model.proofs.Evaluations as evaluations
-use Rattle.rdf_model.specs.Alike as alike
+use Rattle.rdf_model.specs.Laws as alike
 use Rattle.rdf_model.proofs.Missing as missing
 
 -- ---- elements of lists

@@ -5,7 +5,7 @@ use Rattle.rdf_model.specs.{Access, accesses}
 use Rattle.expr_check.specs.{CallsFit, CheckedExpr, IsWellTyped}
 use Rattle.graph_numbers.specs.Sites.{SiteAt, sites, depends_on}
 use Rattle.graph_numbers.specs.Sources.{sources, versions}
-use Rattle.graph_numbers.specs.Kinds.{version_kinds}
+use Rattle.graph_numbers.specs.Versions.{version_kinds}
 use Rattle.graph_numbers.specs.Results.{FilterAt, ResultAt, filters, results, loops, runs, result_number, under_at}
 use Rattle.graph_numbers.specs.declared.pass.Pass.{Pass as NumberedPass}
 use Rattle.graph_numbers.specs.declared.source.Source.{Source}

@@ -1,10 +1,11 @@
 -- The sites of a script in the order of booking: its expressions that are evaluated as a whole.
-use Rattle.std.specs.Prelude.{ℕ, zero, suc, ◌+◌, Bool, List, [], ◌∷◌, ◌++◌, length, if◌then◌else◌, Option, option_map, slice_get}
+use Rattle.std.specs.Prelude.{ℕ, zero, suc, ◌+◌, Bool, List, [], ◌∷◌, ◌++◌, length, if◌then◌else◌, Option, option_map, slice_get, ⊤, true, false, nat_eq}
 use Rattle.rdf_values.specs.{callee, Column, Function, FunctionNames, makes, NamedTree, NumTree, parent_of, Path, path, renamed, site_depends, Statement, Under, Value, Variation}
 use Rattle.rdf_values.specs.declared.scripts.statement.Statement.TheVariants.{Define, Redefine, Filter, Vary}
 use Rattle.rdf_values.specs.declared.scripts.vary_values.VaryValues.TheVariants.{Lists, Vector}
-use Rattle.rdf_model.specs.{column_value, expression_value, Outcome, Site, site_at}
+use Rattle.rdf_model.specs.{column_value, expression_value, Outcome, Site, site_at, ◌>>=◌, call_outcome, evaluate, Faults, Gives, is_need, Needs, truth_of, without}
 use Rattle.graph_numbers.specs.Versions.{version_at}
+use Rattle.graph_numbers.specs.declared.source.Source.{Source}
 
 -- a site by its node and places, the path at whose end its columns are read, and its expression: as it is written, and with each
 -- column by its version and each function by its place
@@ -98,3 +99,40 @@ condition_of x = record { site = x.site; at = x.at; expr = x.expr }
 -- what the site of that number evaluates, where there is one
 abbrev pub condition_in : List SiteAt → ℕ → Option Condition
 condition_in sites s = option_map condition_of (slice_get sites s)
+
+-- ---- Which versions the evaluation of a site meets, and sets of sites that have what is read.
+
+-- the evaluation of the site meets the version: where that is missing, it comes to a need
+abbrev pub meets : List Function → (ℕ → Outcome ℕ Value) → SiteAt → ℕ → Bool
+meets fns version x c = is_need (evaluate (without nat_eq c version) (call_outcome fns) x.tree)
+
+-- what follows an answer
+abbrev pub IfGiven : {A : Type 0} → Outcome ⊥ A → Type 0 → Type 0
+IfGiven (Gives a) P = P
+IfGiven (Faults k) P = ⊤
+IfGiven (Needs m) P = ⊤
+
+-- what follows where filters are passed
+abbrev pub IfPassed : Outcome ⊥ Bool → Type 0 → Type 0
+IfPassed (Gives true) P = P
+IfPassed (Gives false) P = ⊤
+IfPassed (Faults k) P = ⊤
+IfPassed (Needs m) P = ⊤
+
+-- a set of sites
+module _ (D : ℕ → Type 0) where
+  -- it has the site of the source, if that is one
+  abbrev pub HasSourceIn : Source → Type 0
+  HasSourceIn (Source.Cell col) = ⊤
+  HasSourceIn (Source.Site s) = D s
+  HasSourceIn (Source.Element s k tags) = D s
+
+  -- it has the sites of the filters that are tried
+  abbrev pub HasFilters : (ℕ → Outcome ⊥ Value) → List ℕ → Type 0
+  HasFilters site [] = ⊤
+  HasFilters site (s ∷ ss) = D s × IfPassed (site s >>= truth_of) (HasFilters site ss)
+
+  -- it has the sites of the versions that are read
+  abbrev pub HasInputs : (ℕ → Source) → (ℕ → Outcome ⊥ Value) → List ℕ → Type 0
+  HasInputs source version [] = ⊤
+  HasInputs source version (c ∷ cs) = HasSourceIn (source c) × IfGiven (version c) (HasInputs source version cs)

@@ -1,13 +1,13 @@
 -- What trying a pass of an entry does.
+-- ---- the cache
 use Rattle.std.specs.Prelude.{◌≡◌, ℕ, Bool, List, [], Option, None, Some, length, map, slice_get, take, unwrap_or, nat_eq}
-use Rattle.std.specs.List.{list_any}
-use Rattle.rdf_values.specs.{EntryFault, history, named_before, Path, ReportOn}
-use Rattle.rdf_model.specs.{fault_in, is_covered, kinds_in}
+use Rattle.std.specs.List.{list_any, AllByRecursion}
+use Rattle.rdf_values.specs.{EntryFault, history, named_before, Path, ReportOn, ActionAt, ActionKind, columns_of, Value}
+use Rattle.rdf_model.specs.{fault_in, is_covered, kinds_in, FitsFeed, for_all, Gives}
 use Rattle.graph_numbers.specs.{graph_loops, graph_results, Pass as NumberedPass, ResultAt}
 use Rattle.loop_keys.specs.Caches.{HasDemands, numbered_in}
 use Rattle.loop_keys.specs.Jobs.{JobView, job_graph, pass_outcome, passes_in}
-
--- ---- the cache
+use Rattle.loop_keys.specs.Store.{IsReadable, version_in}
 
 -- the set of keys has each that a pass of the loop demands of the entry
 abbrev pub HasAllDemands : JobView → ℕ → (ℕ → Bool) → Type 0
@@ -53,3 +53,27 @@ pub record IsReportPass (j : JobView) (pass own : ℕ) : Type 0 where
   pub there_is : slice_get (graph_results (job_graph j)) own ≡ Some result
   pub filters : List Path
   pub report : result.booked.booking ≡ ReportOn filters
+
+-- ---- What trying a pass does over what is held.
+-- ---- inputs
+
+-- each version can be read
+abbrev pub AreReadable : JobView → Option ℕ → List ℕ → Type 0
+AreReadable j u cs = AllByRecursion (IsReadable j u) cs
+
+-- ---- actions
+
+-- the action of the result of that number
+pub record IsActionAt (j : JobView) (n : ℕ) (k : ActionKind) (sites versions : List ℕ) : Type 0 where
+  pub result : ResultAt
+  pub there_is : slice_get (graph_results (job_graph j)) n ≡ Some result
+  pub at : Path
+  pub kind : result.booked.booking ≡ ActionAt k at
+  pub filters : result.filters ≡ sites
+  pub inputs : result.inputs ≡ versions
+
+-- what is read for an action can be read, one version for each of its columns, and comes to values that it takes
+pub record CanAct (j : JobView) (entry : ℕ) (u : Option ℕ) (k : ActionKind) (versions : List ℕ) : Type 0 where
+  pub inputs : AreReadable j u versions
+  pub count : length versions ≡ length (columns_of k)
+  pub fits : (vs : List Value) → for_all (version_in {M = ⊥} j entry u) versions ≡ Gives vs → FitsFeed k vs

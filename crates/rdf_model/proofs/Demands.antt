@@ -1,8 +1,8 @@
 -- What rows demand, what reports come to, and what a run's output depends on.
-use Rattle.std.proofs.Common.{◌≡◌, true, ◌&&◌, Some, None, refl, ap, nat_eq, ℕ, ◌≤◌, Bool, false, List, [], ◌∷◌, arith, if◌then◌else◌, count_by, ◌⊎◌, inl, Option, flat_map}
+use Rattle.std.proofs.Common.{◌≡◌, true, ◌&&◌, Some, None, refl, ap, nat_eq, ℕ, ◌≤◌, Bool, false, List, [], ◌∷◌, arith, count_by, ◌⊎◌, inl, Option, flat_map}
 use Rattle.lemmas.proofs.{both_true, Decides-eqb}
 use Rattle.rdf_values.specs.{same, same_variation, Under, Variation, Column, Function, maker, named_maker, Path, Statement, target_of, Value, Booked, bookings, Fault, history, is_watched, results_named, Script}
-use Rattle.rdf_model.specs.{Demand, same_demand, same_site, same_under, Site, ◌>>=◌, column_in, cutflow, Dataset, Entry, Feed, Gives, is_true, named_in, named_value, Outcome, passes_filters, report_in, Access, access_passes, access_printed, accesses, Course, first_fault, in_front_of, Printed, printed, result_lines, transcript}
+use Rattle.rdf_model.specs.{Demand, same_demand, same_site, same_under, Site, ◌>>=◌, column_in, cutflow, Dataset, Entry, Feed, Gives, named_in, named_value, Outcome, passes_filters, report_in, Access, access_passes, access_printed, accesses, Course, first_fault, in_front_of, Printed, printed, result_lines, transcript}
 use Rattle.rdf_model.proofs.Accepted.{names_equal}
 use Rattle.std.proofs.lemmas.List.Sums.{sum_by-le-sum_by}
 use Rattle.rdf_values.specs.declared.scripts.statement.Statement.TheVariants.{Define, Redefine}
@@ -24,9 +24,8 @@ variation_is v w h =
     λ i. record { name = a i; tag = b i }
 
 under_is : (u v : Under) → same_under u v ≡ true → u ≡ v
-under_is None None h = refl
 under_is (Some v) (Some w) h = ap Some (variation_is v w h)
-under_is u v h = cc h
+under_is u v h = grind arith
 
 pub demand_is : (p q : Demand) → same_demand p q ≡ true → p ≡ q
 demand_is p q h =
@@ -36,13 +35,9 @@ demand_is p q h =
 
 -- ---- Filters and reports.
 
--- what passes after something passed it before
-passed_before : (o : Outcome ⊥ Bool) (f : Outcome ⊥ Bool) → is_true (o >>= λ passed. if passed then f else Gives false) ≡ true → is_true o ≡ true
-passed_before o f h = grind arith
-
 module _ (d : Dataset) where
   passed_above : (s : Statement) (up : Path) (row : List Value) → passes_filters d (s ∷ up) row ≡ true → passes_filters d up row ≡ true
-  passed_above s up row h = grind (arith, passed_before)
+  passed_above s up row h = grind arith
 
 count_le : {A : Type 0} (p q : A → Bool) → ((a : A) → p a ≡ true → q a ≡ true) → (xs : List A) → count_by p xs ≤ count_by q xs
 count_le p q h xs = grind (arith, sum_by-le-sum_by)
@@ -61,15 +56,12 @@ reports_are_fed_nothing d row (f ∷ fs) values q = grind (arith, not_fed, repor
 
 -- ---- makers
 
-at_maker : {A : Type 0} (b : Bool) (x y : A) (f : Path → A) (p q : Path) → (b ≡ true → x ≡ f p) → y ≡ f q → (if b then x else y) ≡ f (if b then p else q)
-at_maker b x y f p q h k = grind arith
-
 module _ (fns : List Function) (columns : List Column) (row : List Value) where
   -- a column that is no alias, under nominal
   named_from_maker : (at : Path) (name : List ℕ) → named_value fns columns row {M = ⊥} at None name ≡ named_value fns columns row (named_maker at name) None name
   named_from_maker [] name = refl
-  named_from_maker (Define node parent column expr ∷ up) name = grind (arith, at_maker, named_from_maker up name)
-  named_from_maker (Redefine node parent column expr ∷ up) name = grind (arith, at_maker, named_from_maker up name)
+  named_from_maker (Define node parent column expr ∷ up) name = grind (arith, named_from_maker up name)
+  named_from_maker (Redefine node parent column expr ∷ up) name = grind (arith, named_from_maker up name)
   named_from_maker (s ∷ up) name = named_from_maker up name
 
 pub columns_come_from_their_maker : (d : Dataset) (row : List Value) (at : Path) (name : List ℕ) → column_in d row at None name ≡ named_in d row (maker at name) None (target_of at name)
@@ -77,12 +69,9 @@ columns_come_from_their_maker d row at name = named_from_maker d.fns d.columns r
 
 -- ---- What the output of a run depends on.
 
-left_out : {A : Type 0} (b : Bool) (x y z : A) → b ≡ false → (if b then x else z) ≡ (if b then y else z)
-left_out b x y z h = rw h refl
-
 module _ (script : List Statement) (d : Dataset) (one other : Course) (unwatched : (name : List ℕ) → is_watched script name ≡ false) where
   result_lines_alike : (b : Booked) → result_lines script d one b ≡ result_lines script d other b
-  result_lines_alike b = grind (arith, left_out, one)
+  result_lines_alike b = grind arith
 
   access_alike : (a : Access) (f : Option Fault) (rest : Printed) → access_printed script d one a f rest ≡ access_printed script d other a f rest
   access_alike a (Some f) rest = refl
@@ -97,13 +86,9 @@ pub unwatched_output_is_one_function : (script : Script) (d : Dataset) (one othe
 unwatched_output_is_one_function script d one other h = printed_alike (history script) d one other h (accesses (history script))
 
 module _ (script : List Statement) (d : Dataset) (course : Course) where
-  access_status : (a : Access) (f : Option Fault) (rest : Printed) → (rest.status ≡ 0) ⊎ (rest.status ≡ 8)
-      → ((access_printed script d course a f rest).status ≡ 0) ⊎ ((access_printed script d course a f rest).status ≡ 8)
-  access_status a f rest h = grind arith
-
   printed_status : (as' : List Access) → ((printed script d course as').status ≡ 0) ⊎ ((printed script d course as').status ≡ 8)
   printed_status [] = inl refl
-  printed_status (a ∷ rest) = access_status a (first_fault d (access_passes script d course a)) (printed script d course rest) (printed_status rest)
+  printed_status (a ∷ rest) = grind (arith, printed_status rest)
 
 pub status_tells_of_faults : (script : Script) (d : Dataset) (course : Course) → ((transcript script d course).status ≡ 0) ⊎ ((transcript script d course).status ≡ 8)
 status_tells_of_faults script d course = printed_status (history script) d course (accesses (history script))

@@ -7,7 +7,7 @@ use Rattle.rdf_values.specs.expressions.Expressions.{Truth}
 use Rattle.rdf_values.specs.declared.scripts.vary_values.VaryValues.TheVariants.{Lists, Vector}
 use Rattle.rdf_values.specs.declared.scripts.statement.Statement.TheVariants.{Define, Redefine, Vary}
 use Rattle.rdf_model.specs.{◌>>=◌, answer_outcome, argument, call_outcome, cell, checked, chosen_side, column_value, divided, element, element_outcome, evaluate, evaluate_all, expression_at, expression_value, extreme_element, fits, for_all, given_call, Gives, in_order, inversion, is_zero, mark, named_call, named_value, needs, negation, number_operation, operation, Outcome, own_place, pairs, picked, sum_from, tag_element, tag_value, value_if, value_operation, varied, vector_operation, with_needs}
-use Rattle.rdf_model.specs.Alike.{Alike, gives, faults}
+use Rattle.rdf_model.specs.Laws.{Alike, gives, faults}
 
 module _ (M N : Type 0) where
   pub bind_alike : {A B : Type 0} {o : Outcome M A} {p : Outcome N A} (f : A → Outcome M B) (g : A → Outcome N B) → Alike o p → ((a : A) → Alike (f a) (g a)) → Alike (o >>= f) (p >>= g)

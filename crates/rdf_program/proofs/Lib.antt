@@ -1,5 +1,4 @@
 mod Answering
-mod Decimal
 mod MadeEntries
 mod OneDue
 mod SomeDue

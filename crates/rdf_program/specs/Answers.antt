@@ -1,15 +1,20 @@
 -- What the program answers before anything is written.
-use Rattle.std.specs.Prelude.{◌≡◌, ◌⊎◌, ℕ, List, [], ◌∷◌, Option, Some, None, IfSome, IsSome, MatchOption}
+use Rattle.std.specs.Prelude.{◌≡◌, ◌⊎◌, ℕ, List, [], ◌∷◌, Option, Some, None, IfSome, IsSome, MatchOption, Ok}
 use Rattle.rdf_outside.specs.{Rose}
-use Rattle.rdf_values.specs.{Function, MarkedTable, read_failed_line, Script}
+use Rattle.rdf_values.specs.{Function, MarkedTable, read_failed_line, Script, generated_table, table_of}
 use Rattle.command_words.specs.{asked_of, Friend, Input}
-use Rattle.input_files.specs.{due_of, Files, HoldsTheScript, HoldsTheTable, IsLast}
+use Rattle.input_files.specs.{due_of, Files, HoldsTheScript, HoldsTheTable, IsLast, marked_table, ReadFile, RefusesTableFile, Tells}
 use Rattle.input_files.specs.Due.{Due}
 use Rattle.result_text.specs.{usage_line}
-use Rattle.rdf_program.specs.Due.{IsDueToFiles, IsDueToMade}
+use Rattle.rdf_program.specs.Due.{IsDueToFiles, IsDueToMade, ReadsFriend, WithFriendFile}
 use Rattle.rdf_program.specs.declared.answer.Answer.{Answer}
 use Rattle.rdf_program.specs.declared.status.Status.{Status}
 use Rattle.rdf_program.specs.declared.status.Status.TheVariants.{Memory, Words, ReadFault, WriteFault}
+use Rattle.columns.specs.ColumnsView.{ColumnsView}
+use Rattle.table_csv.specs.{columns_over, csv_records, marked_in, MarkedPieces}
+use Rattle.input_files.specs.declared.file_cause.FileCause.TheVariants.{TableRefused}
+use Rattle.rdf_program.specs.declared.answer.Read.{Read}
+use Rattle.rdf_program.specs.declared.answer.Read.TheVariants.{Whole, Refused}
 
 -- the words ask for a run
 abbrev pub AreTaken : List (List ℕ) → Type 0
@@ -103,3 +108,20 @@ abbrev pub AnswersWords : List Function → List (List ℕ) → Option Files →
 AnswersWords fns words told turns before now answer =
     MatchOption (asked_of words) (due_in answer ≡ due_of Words usage_line)
     (λ command. AnswersInput fns command.cluster command.watch command.input told turns before now answer)
+
+-- ---- What reading a friend, or the generator's table, comes to.
+
+-- the table that the friend's bytes spell, or why they spell none
+abbrev pub ReadsFriendText : List ℕ → Read MarkedPieces → Type 0
+ReadsFriendText bytes (Whole m) = table_of (csv_records bytes) ≡ Ok (marked_table m)
+ReadsFriendText bytes (Refused a) = Answers (λ d. ReadsFriend bytes (λ other e. ⊥) d) a
+
+-- the table that the friend's file holds, or why it holds none
+abbrev pub ReadsFriendFile : Option Files → List ℕ → ℕ → ℕ → Read MarkedPieces → Type 0
+ReadsFriendFile told name before now (Whole m) = Tells told name (HoldsTheTable (marked_table m))
+ReadsFriendFile told name before now (Refused a) = IsAnswer (λ files d. WithFriendFile name (files name) (λ other e. ⊥) d) (λ unread. unread ≡ name) told before now a
+
+-- the columns of the generator's table, as a file would hold it, over clusters of at most that size
+abbrev pub ReadsMade : ℕ → ℕ → ℕ → ReadFile ColumnsView → Type 0
+ReadsMade entries seed size (ReadFile.Whole columns) = HoldsTheTable (marked_in columns) (Some (generated_table entries seed)) × (columns ≡ columns_over (marked_in columns) size)
+ReadsMade entries seed size (ReadFile.Refused r) = (r.cause ≡ TableRefused) × RefusesTableFile [] (Some (generated_table entries seed)) (due_of r.cause r.line)

@@ -1,5 +1,6 @@
 -- What is due to the words, the files and the caller's functions: a status and the bytes that are written with it.
-use Rattle.std.specs.Prelude.{◌≡◌, ℕ, List, Option, Some, None, length, nat_lt, MatchOption, MatchResult}
+-- ---- the friend, whose stages go on to the next with what they found
+use Rattle.std.specs.Prelude.{◌≡◌, ℕ, List, Option, Some, None, length, nat_lt, MatchOption, MatchResult, zero, suc}
 use Rattle.std.specs.Bool.{MatchBool}
 use Rattle.rdf_values.specs.{fn_names, Function, generated_script, generated_table, graph_cause_line, history, MarkedTable, Script, table_of, TableView, verdict}
 use Rattle.rdf_model.specs.{Course, Dataset, IsCourse, transcript}
@@ -7,13 +8,41 @@ use Rattle.table_csv.specs.{csv_records}
 use Rattle.command_words.specs.{asked_of, Friend, Input}
 use Rattle.friend_join.specs.{join_of}
 use Rattle.result_text.specs.{friend_cause_line, join_cause_line, long_friend_line, usage_line}
-use Rattle.input_files.specs.{due_of, Files, max_table, WithFile, WithScript, WithScriptFile, WithTable, WithTableFile}
+use Rattle.input_files.specs.{due_of, Files, max_table, WithFile, WithScript, WithScriptFile, WithTable, WithTableFile, FileStatuses}
 use Rattle.input_files.specs.Due.{Due}
-use Rattle.rdf_program.specs.Statuses.{printed_status, statuses}
 use Rattle.rdf_program.specs.declared.status.Status.{Status}
-use Rattle.rdf_program.specs.declared.status.Status.TheVariants.{Words, ScriptRefused, FriendRefused}
+use Rattle.rdf_program.specs.declared.status.Status.TheVariants.{Words, ScriptRefused, FriendRefused, Done, Memory, ReadFault, WriteFault, NoFile, TableRefused, LoopFault}
 
--- ---- the friend, whose stages go on to the next with what they found
+-- ---- Statuses as numbers.
+
+-- the exit status of the program
+abbrev pub exit_status : Status → ℕ
+exit_status Done = 0
+exit_status Memory = 1
+exit_status Words = 2
+exit_status ReadFault = 3
+exit_status WriteFault = 4
+exit_status NoFile = 5
+exit_status ScriptRefused = 6
+exit_status TableRefused = 7
+exit_status LoopFault = 8
+exit_status FriendRefused = 9
+
+-- the statuses where a file gives nothing
+abbrev pub statuses : FileStatuses Status
+statuses = record { read_failed = ReadFault; no_file = NoFile; script_refused = ScriptRefused; table_refused = TableRefused }
+
+-- a transcript ends with 0, or with 8 after a fault
+abbrev pub printed_status : ℕ → Status
+printed_status zero = Done
+printed_status (suc n) = LoopFault
+
+-- a status that is due: no fault of a file or of the output, and no want of memory
+abbrev pub IsFinal : Status → Type 0
+IsFinal Memory = ⊥
+IsFinal ReadFault = ⊥
+IsFinal WriteFault = ⊥
+IsFinal status = Unit {0}
 
 -- a friend has at most 67,108,864 bytes, which spell a table; its marks aren't used
 abbrev pub ReadsFriend : List ℕ → (MarkedTable → Due Status → Type 0) → Due Status → Type 0

@@ -1,11 +1,12 @@
 -- What the top call leaves written where a read or a write failed, and the files that it turned to.
-use Rattle.std.specs.Prelude.{◌≡◌, ◌⊎◌, ℕ, List, ◌++◌, Option, IfSome, MatchOption}
+use Rattle.std.specs.Prelude.{◌≡◌, ◌⊎◌, ℕ, List, ◌++◌, Option, IfSome, MatchOption, ◌<◌, ◌≤◌}
 use Rattle.rdf_outside.specs.{Appends, AppendsPart, Rose}
 use Rattle.rdf_values.specs.{Function, read_failed_line}
 use Rattle.command_words.specs.{asked_of, Input}
 use Rattle.input_files.specs.{Files, WritesDuePart}
 use Rattle.rdf_program.specs.Due.{IsDue}
 use Rattle.rdf_program.specs.Answers.{AreTurns, MayRead}
+use Rattle.rdf_program.specs.declared.settings.Settings.{Settings}
 
 -- the words ask for a run over two files
 abbrev pub NamesFiles : Input → Type 0
@@ -36,3 +37,12 @@ WritesPart fns words told turns faults faults' before after =
 -- the shelf was turned to these files besides
 abbrev pub TurnsBesides : List (List ℕ) → Option Files → List (List ℕ) → List (List ℕ) → Type 0
 TurnsBesides words told before after = (turns : List (List ℕ)) × (after ≡ before ++ turns) × AreTurns words told turns
+
+-- ---- How a script is run over a table.
+
+-- the settings are within their limits
+pub record AreSettings (s : Settings) : Type 0 where
+  pub some_slots : 0 < s.slots
+  pub few_slots : s.slots ≤ 16
+  pub cluster : 1 ≤ s.cluster
+  pub watch : 0 < s.watch
