@@ -80,13 +80,31 @@ node_sync = variants_sync node.enum (search (sendable, crosses, node_hole, args_
 inside_sync : IsSync inside_row
 inside_sync = declared_sync I.the_type (search (sendable, crosses, node_sync) depth 40 fits 4000)
 
+pub expr_sync : IsSync expr_row
+expr_sync = record { shared = λ d b o κ x. (inside_sync.shared x.0 b o κ, tt) }
+
 -- ---- Several threads may read the lines of one script at once, and the header that it is read against.
+
+pub label_sync : IsSync label_row
+label_sync = search (sendable, crosses) depth 40 fits 4000
+
+pub ints_sync : IsSync ints_row
+ints_sync = search (sendable, crosses) depth 40 fits 4000
 
 pub list_sync : (T : RattleType) → IsSync T → IsSync (list_row T)
 list_sync T s = search (sendable, crosses) depth 40 fits 4000
 
+pub kind_sync : IsSync kind_row
+kind_sync = search (sendable, crosses, name_sync, ints_sync) depth 40 fits 4000
+
+values_sync : IsSync values_row
+values_sync = variants_sync V.enum (search (sendable, crosses, list_sync, expr_sync) depth 40 fits 4000)
+
+pub names_sync : IsSync (list_row name_row)
+names_sync = list_sync name_row name_sync
+
 pub statement_sync : IsSync statement_row
-statement_sync = variants_sync S.enum (search (sendable, crosses, name_sync) depth 40 fits 4000)
+statement_sync = variants_sync S.enum (search (sendable, crosses, name_sync, names_sync, expr_sync, values_sync, kind_sync, label_sync) depth 40 fits 4000)
 
 pub line_sync : IsSync line_row
 line_sync = declared_sync L.the_type (search (sendable, crosses, statement_sync) depth 40 fits 4000)
