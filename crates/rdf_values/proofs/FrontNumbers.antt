@@ -70,7 +70,3 @@ leading_negative text rest b count n z e minus h p =
 -- the number below zero, as it is computed
 pub number_below : (n : ℕ) → 0 < n → n < 1000000000000000000 → negative (Some n) ≡ Some (to_z w64 (of_z w64 (negsuc 0 -ℤ to_z w64 (n - 1))))
 number_below n h l = grind (arith, ints)
-
--- an answer has the number's text
-pub text_of_answer : (answer : Option ℤ) (text : List ℕ) → answer ≡ integer_of text → IfSome answer (λ n. text ≡ signed_decimal n)
-text_of_answer answer text e = grind (arith, text_of_integer)

@@ -88,14 +88,11 @@ expr_sync = record { shared = λ d b o κ x. (inside_sync.shared x.0 b o κ, tt)
 pub label_sync : IsSync label_row
 label_sync = search (sendable, crosses) depth 40 fits 4000
 
-pub ints_sync : IsSync ints_row
-ints_sync = search (sendable, crosses) depth 40 fits 4000
-
 pub list_sync : (T : RattleType) → IsSync T → IsSync (list_row T)
 list_sync T s = search (sendable, crosses) depth 40 fits 4000
 
 pub kind_sync : IsSync kind_row
-kind_sync = search (sendable, crosses, name_sync, ints_sync) depth 40 fits 4000
+kind_sync = search (sendable, crosses, name_sync) depth 40 fits 4000
 
 values_sync : IsSync values_row
 values_sync = variants_sync V.enum (search (sendable, crosses, list_sync, expr_sync) depth 40 fits 4000)

@@ -122,16 +122,13 @@ longer : (m : ℕ) (ls : List (List ℕ)) → AreWithin m ls → AreWithin (suc 
 longer m [] h = tt
 longer m (l ∷ ls) h = (let q = h.0 in omega (arith, q), longer m ls h.1)
 
-one_more : (m c : ℕ) (ls : List (List ℕ)) → AreWithin m ls → AreWithin (suc m) (with_byte c ls)
-one_more m c ls h = grind (arith, longer)
-
 lines_within : (text : List ℕ) → AreWithin (length text) (lines_of text)
 unfolding lines_of
 lines_within [] = tt
 lines_within (c ∷ cs) = go (c == 10) (c == 13 && begins_with 10 cs) (lines_within cs)
   where
     go : (a b : Bool) → AreWithin (length cs) (lines_of cs) → AreWithin (suc (length cs)) (if a then [] ∷ lines_of cs else (if b then lines_of cs else with_byte c (lines_of cs)))
-    go a b h = grind (arith, longer, one_more)
+    go a b h = grind (arith, longer)
 
 -- ---- a script
 

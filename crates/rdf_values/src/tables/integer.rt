@@ -128,7 +128,7 @@ pub(crate) fn read_any_integer(text: &[u8]) -> Option<i64>
 
 /// The number that the bytes are the canonical text of.
 #[inline(always)]
-#[tactic(auto, using(std::proofs::lemmas::List::take_all, crate::proofs::OneText::text_of_integer, crate::proofs::FrontNumbers::text_of_answer))]
+#[tactic(auto, using(std::proofs::lemmas::List::take_all, crate::proofs::OneText::text_of_integer))]
 pub fn read_integer(text: &[u8]) -> Option<i64>
     ensures value { result ≡ integer_of text.now }
     ensures text { IfSome result (λ n. text.now ≡ signed_decimal n) }

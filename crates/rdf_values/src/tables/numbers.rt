@@ -175,7 +175,7 @@ impl Numbers {
     }
 
     // Appends the numbers of another column one by one.
-    #[tactic(auto, using(crate::proofs::Fronts::front_more, crate::proofs::Fronts::front_of))]
+    #[tactic(auto, using(crate::proofs::Fronts::front_more))]
     fn push_each(&mut self, more: &Numbers) -> Result<(), Memory>
         ensures ok { OnOk result (self.new ≡ self.old ++ more.now) }
         ensures err { OnErr result (self.new ≡ self.old) }
