@@ -1,9 +1,8 @@
 -- The number at the front of a text.
-use Rattle.std.proofs.Common.{◌≡◌, ◌≢◌, ◌≤◌, ◌<◌, ◌+◌, ◌*◌, ◌^◌, ◌-◌, ◌-ℤ◌, ℕ, ℤ, negsuc, of_z, to_z, w64, zero, suc, List, [], ◌∷◌, ◌++◌, length, take, get_or, Bool, true, false, None, Some, Option, ◌&&◌, add-one, arith, refl, IfSome, ◌==◌, if◌then◌else◌}
-use Rattle.lemmas.proofs.{all_ascii_digits, digit_value, digit_value_digit, digits_value_after, ints, is_ascii_digit, nat_tests, pow-le-pow_right, signed_decimal, take_more}
+use Rattle.std.proofs.Common.{◌≡◌, ◌≢◌, ◌≤◌, ◌<◌, ◌+◌, ◌*◌, ◌^◌, ◌-◌, ◌-ℤ◌, ℕ, ℤ, negsuc, of_z, to_z, w64, zero, suc, List, [], ◌∷◌, ◌++◌, length, take, get_or, Bool, true, false, None, Some, ◌&&◌, add-one, arith, refl, ◌==◌, if◌then◌else◌}
+use Rattle.lemmas.proofs.{all_ascii_digits, digit_value, digit_value_digit, digits_value_after, ints, is_ascii_digit, nat_tests, pow-le-pow_right, take_more}
 use Rattle.rdf_values.specs.{AreLeading, begins_badly, digits_up_to, integer_of, IsDigit, IsLeading, magnitude_of, negative, positive, written_after}
 use Rattle.rdf_values.proofs.Fronts.{one_more_digit}
-use Rattle.rdf_values.proofs.OneText.{text_of_integer}
 
 -- ---- one digit more
 

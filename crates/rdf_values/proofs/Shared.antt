@@ -13,7 +13,6 @@ use Rattle.rdf_values.specs.contracts.expressions.expr.Expr.{the_row as expr_row
 use Rattle.rdf_values.specs.contracts.expressions.expr.Expr.TheInside.{the_row as inside_row}
 use Rattle.rdf_values.specs.declared.expressions.expr.Args.TheBlock.{the_members, member-Args, member-ExprNode}
 use Rattle.rdf_values.specs.contracts.scripts.label.Label.{the_row as label_row}
-use Rattle.rdf_values.specs.contracts.tables.int_list.IntList.{the_row as ints_row}
 use Rattle.rdf_values.specs.contracts.scripts.action.ActionKind.{the_row as kind_row}
 use Rattle.rdf_values.specs.contracts.list.ListOf.{the_row as list_row}
 use Rattle.rdf_values.specs.contracts.scripts.vary_values.VaryValues.{the_row as values_row}
