@@ -1,5 +1,5 @@
 -- Each text reads as one thing, or has one refusal, and a canonical text reads back.
-use Rattle.std.proofs.Common.{◌≡◌, ◌∙◌, ℕ, List, Ok, inl, inr, sym, subst, length, refl, Err, ap, Result, ◌⊎◌, true, [], ◌∷◌, ◌++◌, ◌≤◌, ◌+◌, ◌-◌, arith}
+use Rattle.std.proofs.Common.{◌≡◌, ◌∙◌, ℕ, List, Ok, inl, inr, sym, subst, length, refl, Err, ap, Result, ◌⊎◌, true, [], ◌++◌, ◌≤◌, ◌+◌, ◌-◌, arith}
 use Rattle.rdf_values.specs.{at_end, at_scan, at_token, bare, is_name, begin_expr, begin_values, ExprCause, IsText, NamedTree, Partial, Placed, Reads, ReadsText, ReadsValues, ReadsValuesText, Refusal, Refused, scan, ScanEnd, ScanState, Token, tokens, VaryValues, Whole, before, binary, conditional, last_argument, minus_sign, more_arguments, name, NamedTrees, no_arguments, not_sign, number, parenthesized, pick, ReadsArgs, text_of, tighter, tokens_of, tokens_within, truth}
 use Rattle.rdf_values.specs.expressions.Scans.{Refuses}
 use Rattle.expr_read.specs.{ExprRefusal, IsRefusalOf, RefusesTextAs, RefusesTokensAs, are_valid, is_number}

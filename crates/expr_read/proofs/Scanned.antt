@@ -1,7 +1,7 @@
 -- How the scan goes over what is read, and where it stops.
-use Rattle.std.proofs.Common.{◌≡◌, ◌<◌, ◌≤◌, ◌+◌, ℕ, Bool, true, false, List, [], ◌∷◌, Some, None, arith, refl, ap, nat_eq, nat_le}
+use Rattle.std.proofs.Common.{◌≡◌, ◌≤◌, ◌+◌, ℕ, Bool, true, false, List, [], ◌∷◌, Some, None, arith, refl, ap, nat_eq, nat_le}
 use Rattle.lemmas.proofs.{le_false, le_not, nat_tests}
-use Rattle.rdf_values.specs.{after_name, AfterName, BinOp, first_argument, FirstArgument, InCall, InChoice, InIndex, InList, InParens, level_of, Mark, Op, OpenMark, Operand, operand, Operator, operator, Placed, Punct, Refused, scan, scan_step, ScanState, Token}
+use Rattle.rdf_values.specs.{AfterName, BinOp, FirstArgument, InCall, InChoice, InIndex, InList, InParens, level_of, Mark, Op, OpenMark, Operand, Operator, operator, Placed, Punct, Refused, scan, scan_step, ScanState, Token}
 use Rattle.expr_read.specs.{Begins, BeginsNot, continues, Stops, stuck_at}
 
 pub scan_after : {t : Token} {old new : List Placed} → (s s' : ScanState) → Begins t old new → scan_step s t ≡ Some s' → scan s old ≡ scan s' new

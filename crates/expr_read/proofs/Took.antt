@@ -1,6 +1,6 @@
 -- What was read, from what its parts read.
 use Rattle.std.proofs.Common.{◌≡◌, ◌<◌, ◌+◌, ◌∙◌, ℕ, suc, ℤ, Bool, List, [], ◌∷◌, ◌++◌, length, arith, refl, sym, ap, subst, append_assoc, add-one, Some, None}
-use Rattle.rdf_values.specs.{after_brace, after_list, AfterBrace, AfterList, bare, begin_values, beginning, between_lists, binary, BinOp, conditional, End, InCall, InChoice, InIndex, InList, InLists, InParens, last_argument, last_item, last_list, level_of, Mark, minus_sign, More, more_arguments, more_items, more_lists, name, NamedTree, NamedTrees, next_list, NextList, no_arguments, not_sign, Nothing, number, one_list, Op, OpenMark, Operand, operand, Operator, parenthesized, pick, Placed, Punct, Reads, ReadsArgs, scan, scan_step, ScanState, several_lists, tighter, Token, truth, vector}
+use Rattle.rdf_values.specs.{after_list, AfterBrace, AfterList, bare, begin_values, between_lists, binary, BinOp, conditional, End, InCall, InChoice, InIndex, InList, InLists, InParens, last_argument, last_item, last_list, level_of, Mark, minus_sign, More, more_arguments, more_items, more_lists, name, NamedTree, NamedTrees, next_list, NextList, no_arguments, not_sign, Nothing, number, one_list, Op, OpenMark, Operand, Operator, parenthesized, pick, Placed, Punct, Reads, ReadsArgs, scan, scan_step, ScanState, several_lists, tighter, Token, truth, vector}
 use Rattle.rdf_values.specs.expressions.Expressions as e
 use Rattle.rdf_values.specs.expressions.Tokens.{Word, Truth, Number}
 use Rattle.rdf_values.specs.expressions.Grammar.{call}
