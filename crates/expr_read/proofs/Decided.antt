@@ -1,12 +1,13 @@
 -- Each text reads as one thing, or has one refusal, and a canonical text reads back.
-use Rattle.std.proofs.Common.{◌≡◌, ◌∙◌, ℕ, List, Ok, inl, inr, sym, subst, length, refl, Err, ap, Result, ◌⊎◌, true, [], ◌∷◌, ◌++◌, ◌≤◌, ◌+◌, ◌-◌, arith}
-use Rattle.rdf_values.specs.{at_end, at_scan, at_token, bare, begin_expr, begin_values, ExprCause, IsText, NamedTree, Partial, Placed, Reads, ReadsText, ReadsValues, ReadsValuesText, Refusal, Refused, scan, ScanEnd, ScanState, Token, tokens, VaryValues, Whole, before, binary, conditional, last_argument, minus_sign, more_arguments, name, NamedTrees, no_arguments, not_sign, number, parenthesized, pick, ReadsArgs, text_of, tighter, tokens_of, tokens_within, truth}
+use Rattle.std.proofs.Common.{◌≡◌, ◌∙◌, ℕ, List, Ok, inl, inr, sym, subst, length, refl, Err, ap, Result, ◌⊎◌, true, [], ◌++◌, ◌≤◌, ◌+◌, ◌-◌, arith}
+use Rattle.rdf_values.specs.{at_end, at_scan, at_token, bare, is_name, begin_expr, begin_values, ExprCause, IsText, NamedTree, Partial, Placed, Reads, ReadsText, ReadsValues, ReadsValuesText, Refusal, Refused, scan, ScanEnd, ScanState, Token, tokens, VaryValues, Whole, before, binary, conditional, last_argument, minus_sign, more_arguments, name, NamedTrees, no_arguments, not_sign, number, parenthesized, pick, ReadsArgs, text_of, tighter, tokens_of, tokens_within, truth}
 use Rattle.rdf_values.specs.expressions.Scans.{Refuses}
-use Rattle.expr_read.specs.{ExprRefusal, IsRefusalOf, RefusesTextAs, RefusesTokensAs, are_valid, is_valid}
+use Rattle.expr_read.specs.{ExprRefusal, IsRefusalOf, RefusesTextAs, RefusesTokensAs, are_valid, is_number}
 use Rattle.expr_read.proofs.Whole.{whole, whole_values}
 use Rattle.expr_read.proofs.Unique.{unique, unique_values}
 use Rattle.rdf_values.proofs.OneScript.{AreReadOnce}
 use Rattle.lemmas.proofs.{append-nil, both_true, length-map}
+use Rattle.std.proofs.lemmas.List.Folds.{list_all-append}
 use Rattle.rdf_values.specs.expressions.Grammar.{call}
 use Rattle.expr_read.proofs.SpelledTree.{IsReadable, AreReadable, spells_tree}
 use Rattle.expr_read.proofs.Shown.{reads_shown, no_fewer, shown_whole}
@@ -99,42 +100,27 @@ read_once = record {
 
 -- ---- The canonical text of an expression that was read from a text reads as this expression.
 
-abbrev AreValid : List Token → Type 0
-AreValid [] = Unit {0}
-AreValid (t ∷ ts) = (is_valid t ≡ true) × AreValid ts
-
-each_valid : (ts : List Token) → are_valid ts ≡ true → AreValid ts
-each_valid [] h = tt
-each_valid (t ∷ ts) h = let p = both_true (is_valid t) (are_valid ts) h in (p.0, each_valid ts p.1)
-
-split : (ts us : List Token) → AreValid (ts ++ us) → AreValid ts × AreValid us
-split [] us g = (tt, g)
-split (t ∷ ts) us g = let q = split ts us g.1 in ((g.0, q.0), q.1)
+parts : (ts us : List Token) → are_valid (ts ++ us) ≡ true → (are_valid ts ≡ true) × (are_valid us ≡ true)
+parts ts us g = both_true (are_valid ts) (are_valid us) (rw list_all-append at g)
 
 mutual
-  readable_from : {n : ℕ} {ts : List Token} {a : NamedTree} → Reads n ts a → AreValid ts → IsReadable a
-  readable_from number g = g.0
-  readable_from truth g = tt
-  readable_from name g = g.0
-  readable_from (parenthesized {ts} r e) g = let h = subst AreValid e g in readable_from r (split ts _ h.1).0
-  readable_from (call {f} {ts} r e) g = let h = subst AreValid e g in (h.0, readable_args r (split ts _ h.1.1).0)
-  readable_from (pick {ts} {us} r q e) g = let h = split ts _ (subst AreValid e g) in (readable_from r h.0, readable_from q (split us _ h.1.1).0)
-  readable_from (minus_sign r) g = readable_from r g.1
-  readable_from (not_sign r) g = readable_from r g.1
-  readable_from (binary {ts = ts} r q l e) g = let h = split ts _ (subst AreValid e g) in (readable_from r h.0, readable_from q h.1.1)
-  readable_from (conditional {ts} {us} r q w e) g =
-      let h = split ts _ (subst AreValid e g) in
-      let k = split us _ h.1.1 in
-      (readable_from r h.0, readable_from q k.0, readable_from w k.1.1)
-  readable_from (tighter r) g = readable_from r g
+  pub readable : {n : ℕ} {ts : List Token} {a : NamedTree} → Reads n ts a → are_valid ts ≡ true → IsReadable a
+  readable (number {z}) g = (both_true (is_number z) true g).0
+  readable truth g = tt
+  readable (name {x}) g = (both_true (is_name x) true g).0
+  readable (parenthesized {ts} r e) g = readable r (parts ts _ (rw e at g)).0
+  readable (call {f} {ts} r e) g = let h = both_true (is_name f) _ (rw e at g) in (h.0, readable_args r (parts ts _ h.1).0)
+  readable (pick {ts} {us} r q e) g = let h = parts ts _ (rw e at g) in (readable r h.0, readable q (parts us _ h.1).0)
+  readable (minus_sign r) g = readable r g
+  readable (not_sign r) g = readable r g
+  readable (binary {ts = ts} r q l e) g = let h = parts ts _ (rw e at g) in (readable r h.0, readable q h.1)
+  readable (conditional {ts} {us} r q w e) g = let h = parts ts _ (rw e at g) in let k = parts us _ h.1 in (readable r h.0, readable q k.0, readable w k.1)
+  readable (tighter r) g = readable r g
 
-  readable_args : {ts : List Token} {args : NamedTrees} → ReadsArgs ts args → AreValid ts → AreReadable args
+  readable_args : {ts : List Token} {args : NamedTrees} → ReadsArgs ts args → are_valid ts ≡ true → AreReadable args
   readable_args no_arguments g = tt
-  readable_args (last_argument r) g = (readable_from r g, tt)
-  readable_args (more_arguments {ts} r q e) g = let h = split ts _ (subst AreValid e g) in (readable_from r h.0, readable_args q h.1.1)
-
-pub readable : {ts : List Token} {a : NamedTree} → Reads 0 ts a → are_valid ts ≡ true → IsReadable a
-readable {ts} r h = readable_from r (each_valid ts h)
+  readable_args (last_argument r) g = (readable r g, tt)
+  readable_args (more_arguments {ts} r q e) g = let h = parts ts _ (rw e at g) in (readable r h.0, readable_args q h.1)
 
 spelled_back : (a : NamedTree) → IsReadable a → length (tokens_of a) ≤ 256 → ReadsText (text_of a) a
 spelled_back a r few =

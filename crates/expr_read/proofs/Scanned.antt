@@ -1,7 +1,7 @@
 -- How the scan goes over what is read, and where it stops.
-use Rattle.std.proofs.Common.{◌≡◌, ◌<◌, ◌≤◌, ◌+◌, ℕ, Bool, true, false, List, [], ◌∷◌, Some, None, arith, refl, ap, nat_eq, nat_le}
+use Rattle.std.proofs.Common.{◌≡◌, ◌≤◌, ◌+◌, ℕ, Bool, true, false, List, [], ◌∷◌, Some, None, arith, refl, ap, nat_eq, nat_le}
 use Rattle.lemmas.proofs.{le_false, le_not, nat_tests}
-use Rattle.rdf_values.specs.{after_name, AfterName, BinOp, first_argument, FirstArgument, InCall, InChoice, InIndex, InList, InParens, level_of, Mark, Op, OpenMark, Operand, operand, Operator, operator, Placed, Punct, Refused, scan, scan_step, ScanState, Token}
+use Rattle.rdf_values.specs.{AfterName, BinOp, FirstArgument, InCall, InChoice, InIndex, InList, InParens, level_of, Mark, Op, OpenMark, Operand, Operator, operator, Placed, Punct, Refused, scan, scan_step, ScanState, Token}
 use Rattle.expr_read.specs.{Begins, BeginsNot, continues, Stops, stuck_at}
 
 pub scan_after : {t : Token} {old new : List Placed} → (s s' : ScanState) → Begins t old new → scan_step s t ≡ Some s' → scan s old ≡ scan s' new
@@ -14,25 +14,17 @@ first_is_not t p ts isnt e = isnt ts (record { place = p.place; is = ap (λ (k :
 pub refused_at : (s : ScanState) (p : Placed) (ts : List Placed) → scan_step s p.token ≡ None → scan s (p ∷ ts) ≡ Refused p.place
 refused_at s p ts e = rw e refl
 
-pub same_step : (s s' : ScanState) (p : Placed) (ts : List Placed) → scan_step s p.token ≡ scan_step s' p.token → scan s (p ∷ ts) ≡ scan s' (p ∷ ts)
-same_step s s' p ts e = rw e refl
-
-name_step : (s : List OpenMark) (t : Token) → (t ≡ Punct Mark.Open → ⊥) → after_name t s ≡ operator t s
-name_step s (Punct Mark.Open) isnt = absurd (isnt refl)
-name_step s t isnt = refl
+-- where another token comes first, the scan goes on from one state as from the other
+pub unless : (u : Token) (s s' : ScanState) (ts : List Placed) → scan s [] ≡ scan s' [] → ((t : Token) → (t ≡ u → ⊥) → scan_step s t ≡ scan_step s' t) → BeginsNot u ts → scan s ts ≡ scan s' ts
+unless u s s' [] e step isnt = e
+unless u s s' (p ∷ ts) e step isnt = rw (step p.token (first_is_not u p ts isnt)) refl
 
 pub name_ends : (s : List OpenMark) (ts : List Placed) → BeginsNot (Punct Mark.Open) ts → scan (AfterName, s) ts ≡ scan (Operator, s) ts
-name_ends [] [] isnt = refl
-name_ends (o ∷ s) [] isnt = refl
-name_ends s (p ∷ ts) isnt = same_step (AfterName, s) (Operator, s) p ts (name_step s p.token (first_is_not (Punct Mark.Open) p ts isnt))
-
-argument_step : (s : List OpenMark) (t : Token) → (t ≡ Punct Mark.Close → ⊥) → first_argument t (InCall ∷ s) ≡ operand t (InCall ∷ s)
-argument_step s (Punct Mark.Close) isnt = absurd (isnt refl)
-argument_step s t isnt = refl
+name_ends [] ts isnt = unless (Punct Mark.Open) (AfterName, []) (Operator, []) ts refl (λ t no. grind arith) isnt
+name_ends (o ∷ s) ts isnt = unless (Punct Mark.Open) (AfterName, o ∷ s) (Operator, o ∷ s) ts refl (λ t no. grind arith) isnt
 
 pub argument_first : (s : List OpenMark) (ts : List Placed) → BeginsNot (Punct Mark.Close) ts → scan (FirstArgument, InCall ∷ s) ts ≡ scan (Operand, InCall ∷ s) ts
-argument_first s [] isnt = refl
-argument_first s (p ∷ ts) isnt = same_step (FirstArgument, InCall ∷ s) (Operand, InCall ∷ s) p ts (argument_step s p.token (first_is_not (Punct Mark.Close) p ts isnt))
+argument_first s ts isnt = unless (Punct Mark.Close) (FirstArgument, InCall ∷ s) (Operand, InCall ∷ s) ts refl (λ t no. grind arith) isnt
 
 -- ---- where the scan stops
 

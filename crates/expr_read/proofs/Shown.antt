@@ -1,5 +1,5 @@
 -- The canonical tokens read as the tree, and no tokens that do are fewer.
-use Rattle.std.proofs.Common.{◌≡◌, ◌≤◌, ◌<◌, ◌+◌, ◌-◌, ℕ, zero, suc, zero-add, add-zero, Bool, true, false, List, [], ◌∷◌, length, arith, refl, sym, ap, subst, length-append, nat_le}
+use Rattle.std.proofs.Common.{◌≡◌, ◌≤◌, ◌+◌, ◌-◌, ℕ, zero, suc, zero-add, add-zero, Bool, true, false, List, [], ◌∷◌, length, arith, refl, sym, ap, subst, length-append, nat_le}
 use Rattle.lemmas.proofs.{append-nil, le_not, le_says, le_true}
 use Rattle.rdf_values.specs.{args_tokens, Bin, binary, Call, Col, Cond, conditional, enclosed, End, last_argument, level_of, Lit, Mark, minus_sign, More, more_arguments, name, NamedTree, NamedTrees, Neg, no_arguments, Not, not_sign, number, parenthesized, Pick, pick, Punct, Reads, ReadsArgs, tighter, Token, tokens_at_level, tokens_of, tree_level, truth}
 use Rattle.rdf_values.specs.expressions.Expressions as e

@@ -113,20 +113,23 @@ fine_by c cs false false e h = subst (IsFine (length cs + 1)) (sym (first_mark c
 pub fine : (c : ℕ) (cs : List ℕ) → IsFine (length cs + 1) (first_token c cs)
 fine c cs = fine_by c cs (is_word_start c) (is_digit c) refl refl
 
-fine_at : (text : List ℕ) (i : ℕ) (f : First) → i < length text → f ≡ first_token (get_or text i 0) (drop (i + 1) text) → IsFine (length text - i) f
+-- what a slice of the text from the place on begins with
+abbrev pub IsAt : List ℕ → ℕ → First → Type 0
+IsAt text i f = (c : ℕ) (cs : List ℕ) → take (length text - i) (drop i text) ≡ c ∷ cs → f ≡ first_token c cs
+
+here : (text : List ℕ) (i : ℕ) (f : First) → i < length text → IsAt text i f → first_token (get_or text i 0) (drop (i + 1) text) ≡ f
+here text i f h e = sym (e (get_or text i 0) (drop (i + 1) text) (rw (← drop_more text i 0 h) (grind (arith, common_steps))))
+
+fine_at : (text : List ℕ) (i : ℕ) (f : First) → i < length text → IsAt text i f → IsFine (length text - i) f
 fine_at text i f h e =
     let n : length text - i ≡ length (drop (i + 1) text) + 1 = omega (arith, length-drop (i + 1) text) in
-    rw (e, n) (fine (get_or text i 0) (drop (i + 1) text))
+    rw (← here text i f h e, n) (fine (get_or text i 0) (drop (i + 1) text))
 
-pub token_sized : (text : List ℕ) (i : ℕ) (t : Token × ℕ) → i < length text → Ok t ≡ first_token (get_or text i 0) (drop (i + 1) text) → (0 < t.1) × (t.1 ≤ length text - i)
-token_sized text i t h e = let k = fine_at text i (Ok t) h e in (k.0, k.1)
+pub token_sized : (text : List ℕ) (i : ℕ) (t : Token × ℕ) → i < length text → IsAt text i (Ok t) → (0 < t.1) × (i + t.1 ≤ length text)
+token_sized text i t h e = let k = fine_at text i (Ok t) h e in (k.0, omega (arith, k.1))
 
-pub refusal_sized : (text : List ℕ) (i : ℕ) (e : Refusal) → i < length text → Err e ≡ first_token (get_or text i 0) (drop (i + 1) text) → e.place ≤ length text - i
-refusal_sized text i r h e = fine_at text i (Err r) h e
-
--- the text from a place on, as a slice of it is seen
-pub from_place : (text : List ℕ) (i : ℕ) → i < length text → take (length text - i) (drop i text) ≡ get_or text i 0 ∷ drop (i + 1) text
-from_place text i h = rw (← drop_more text i 0 h) (grind (arith, common_steps))
+pub refusal_sized : (text : List ℕ) (i : ℕ) (e : Refusal) → i < length text → IsAt text i (Err e) → i + e.place ≤ length text
+refusal_sized text i r h e = let k = fine_at text i (Err r) h e in omega (arith, k)
 
 -- ---- One more token of a text.
 
@@ -178,25 +181,25 @@ pub step_blank : (found : List Placed) (text : List ℕ) (i : ℕ) → i < lengt
 step_blank found text i h b = rw (drop_more text i 0 h) (ap (before found) (first_blank (256 - length found) i (get_or text i 0) (drop (i + 1) text) b))
 
 pub step_bad : (found : List Placed) (text : List ℕ) (i : ℕ) (e : Refusal) → i < length text → is_blank (get_or text i 0) ≡ false
-    → first_token (get_or text i 0) (drop (i + 1) text) ≡ Err e → length found < 256
+    → IsAt text i (Err e) → length found < 256
     → goes_on found text i ≡ Err (record { cause = e.cause; place = i + e.place })
 step_bad found text i e h b f few =
     let room : 256 - length found ≡ suc (255 - length found) = omega arith in
-    rw (drop_more text i 0 h, room) (ap (before found) (first_bad (255 - length found) i (get_or text i 0) (drop (i + 1) text) e b f))
+    rw (drop_more text i 0 h, room) (ap (before found) (first_bad (255 - length found) i (get_or text i 0) (drop (i + 1) text) e b (here text i (Err e) h f)))
 
 pub step_many : (found : List Placed) (text : List ℕ) (i : ℕ) (f : First) → i < length text → is_blank (get_or text i 0) ≡ false
-    → first_token (get_or text i 0) (drop (i + 1) text) ≡ f → length found ≡ 256
+    → IsAt text i f → length found ≡ 256
     → goes_on found text i ≡ Err (too_many i f)
-step_many found text i f h b e full = grind (arith, drop_more, first_many)
+step_many found text i f h b e full = let first = here text i f h e in grind (arith, drop_more, first_many)
 
 pub step_token : (found : List Placed) (text : List ℕ) (i : ℕ) (t : Token × ℕ) → i < length text → is_blank (get_or text i 0) ≡ false
-    → first_token (get_or text i 0) (drop (i + 1) text) ≡ Ok t → length found < 256
+    → IsAt text i (Ok t) → length found < 256
     → goes_on found text i ≡ goes_on (found ++ record { token = t.0; place = i } ∷ []) text (i + t.1)
 step_token found text i t h b f few =
     let this : List Placed = record { token = t.0; place = i } ∷ [] in
     let room : 256 - length found ≡ suc (256 - length (found ++ this)) = omega (arith, length-append found this) in
     let left = 256 - length (found ++ this) in
-    let first = first_found left i (get_or text i 0) (drop (i + 1) text) t b f in
+    let first = first_found left i (get_or text i 0) (drop (i + 1) text) t b (here text i (Ok t) h f) in
     let there : drop t.1 (drop i text) ≡ drop (i + t.1) text = drop-drop t.1 i text in
     rw (drop_more text i 0 h, room) (ap (before found) first)
     ∙ before_more found this _

@@ -1,11 +1,11 @@
 -- What was read, from what its parts read.
 use Rattle.std.proofs.Common.{◌≡◌, ◌<◌, ◌+◌, ◌∙◌, ℕ, suc, ℤ, Bool, List, [], ◌∷◌, ◌++◌, length, arith, refl, sym, ap, subst, append_assoc, add-one, Some, None}
-use Rattle.rdf_values.specs.{after_brace, after_list, AfterBrace, AfterList, bare, begin_values, beginning, between_lists, binary, BinOp, conditional, End, InCall, InChoice, InIndex, InList, InLists, InParens, last_argument, last_item, last_list, level_of, Mark, minus_sign, More, more_arguments, more_items, more_lists, name, NamedTree, NamedTrees, next_list, NextList, no_arguments, not_sign, Nothing, number, one_list, Op, OpenMark, Operand, operand, Operator, parenthesized, pick, Placed, Punct, Reads, ReadsArgs, scan, scan_step, ScanState, several_lists, tighter, Token, truth, vector}
+use Rattle.rdf_values.specs.{after_list, AfterBrace, AfterList, bare, begin_values, between_lists, binary, BinOp, conditional, End, InCall, InChoice, InIndex, InList, InLists, InParens, last_argument, last_item, last_list, level_of, Mark, minus_sign, More, more_arguments, more_items, more_lists, name, NamedTree, NamedTrees, next_list, NextList, no_arguments, not_sign, Nothing, number, one_list, Op, OpenMark, Operand, Operator, parenthesized, pick, Placed, Punct, Reads, ReadsArgs, scan, scan_step, ScanState, several_lists, tighter, Token, truth, vector}
 use Rattle.rdf_values.specs.expressions.Expressions as e
 use Rattle.rdf_values.specs.expressions.Tokens.{Word, Truth, Number}
 use Rattle.rdf_values.specs.expressions.Grammar.{call}
 use Rattle.expr_read.specs.{Begins, BeginsNot, ends_at, in_list, Listing, Listings, Stops, stuck_at, Took, TookArgs, TookList, TookLists, TookValues}
-use Rattle.expr_read.proofs.Scanned.{scan_after, name_ends, argument_first, first_is_not, refused_at, same_step, refused_end}
+use Rattle.expr_read.proofs.Scanned.{scan_after, name_ends, argument_first, first_is_not, refused_at, refused_end, unless}
 use Rattle.rdf_values.specs.declared.scripts.vary_values.VaryValues.TheVariants.{Lists as ListsOf, Vector as VectorOf}
 
 pub bare_after : {t : Token} {old new : List Placed} → Begins t old new → bare old ≡ t ∷ bare new
@@ -114,13 +114,6 @@ took_more {r = r} k b x = record {
   fewer = omega (arith, k.fewer, fewer_after b, x.fewer);
 }
 
--- what was read, of another tree that is the same
-pub took_as : {n : ℕ} {a b : NamedTree} {old new : List Placed} → b ≡ a → Took n a old new → Took n b old new
-took_as {n} {a} {b} {old} {new} e k = subst (λ (x : NamedTree). Took n x old new) (sym e) k
-
-pub args_as : {a b : NamedTrees} {old new : List Placed} → b ≡ a → TookArgs a old new → TookArgs b old new
-args_as {a} {b} {old} {new} e k = subst (λ (x : NamedTrees). TookArgs x old new) (sym e) k
-
 -- the token that was seen comes first
 pub begins_seen : {k t : Token} {old next new : List Placed} → k ≡ t → Begins k old next → new ≡ next → Begins t old new
 begins_seen {k} {t} {old} {next} {new} e b same = record { place = b.place; is = b.is ∙ (λ i. record { token = e i; place = b.place } ∷ sym same i) }
@@ -182,21 +175,11 @@ stuck_next (p ∷ ts) isnt = refused_at (NextList, InLists ∷ []) p ts (next_st
 
 -- ---- the values
 
-beginning_step : (s : List OpenMark) (t : Token) → (t ≡ Punct Mark.OpenBrace → ⊥) → beginning t s ≡ operand t s
-beginning_step s (Punct Mark.OpenBrace) isnt = absurd (isnt refl)
-beginning_step s t isnt = refl
-
 pub vector_first : (ts : List Placed) → BeginsNot (Punct Mark.OpenBrace) ts → scan begin_values ts ≡ scan (Operand, []) ts
-vector_first [] isnt = refl
-vector_first (p ∷ ts) isnt = same_step begin_values (Operand, []) p ts (beginning_step [] p.token (first_is_not (Punct Mark.OpenBrace) p ts isnt))
-
-brace_step : (s : List OpenMark) (t : Token) → (t ≡ Punct Mark.OpenBrace → ⊥) → after_brace t s ≡ operand t s
-brace_step s (Punct Mark.OpenBrace) isnt = absurd (isnt refl)
-brace_step s t isnt = refl
+vector_first ts isnt = unless (Punct Mark.OpenBrace) begin_values (Operand, []) ts refl (λ t no. grind arith) isnt
 
 pub item_first : (ts : List Placed) → BeginsNot (Punct Mark.OpenBrace) ts → scan (AfterBrace, InList ∷ []) ts ≡ scan (Operand, InList ∷ []) ts
-item_first [] isnt = refl
-item_first (p ∷ ts) isnt = same_step (AfterBrace, InList ∷ []) (Operand, InList ∷ []) p ts (brace_step (InList ∷ []) p.token (first_is_not (Punct Mark.OpenBrace) p ts isnt))
+item_first ts isnt = unless (Punct Mark.OpenBrace) (AfterBrace, InList ∷ []) (Operand, InList ∷ []) ts refl (λ t no. grind arith) isnt
 
 pub ends_operator : (ts : List Placed) → Stops 0 ts → scan (Operator, []) ts ≡ ends_at ts
 ends_operator [] h = refl

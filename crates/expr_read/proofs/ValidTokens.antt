@@ -1,7 +1,7 @@
 -- The tokens of a text are at most 256 and stand in it; their words are names, and their numbers have 64 bits. A refusal stands in the text, or at its end.
 use Rattle.std.proofs.Common.{◌≡◌, ◌≤◌, ◌+◌, ℕ, zero, suc, Bool, true, false, List, [], ◌∷◌, length, drop, Ok, Err, arith, refl, subst, length-drop, Result, MatchResult, nat_le}
 use Rattle.lemmas.proofs.{and_holds, prefix_len-le-length}
-use Rattle.rdf_values.specs.{and_then, bare, before, behind, blanks, earlier, ExprCause, First, first_token, from, is_blank, Placed, Refusal, tokens, tokens_at}
+use Rattle.rdf_values.specs.{and_then, bare, before, behind, blanks, earlier, First, first_token, is_blank, Placed, Refusal, tokens, tokens_at}
 use Rattle.rdf_values.specs.expressions.Tokens.{too_many}
 use Rattle.expr_read.specs.{are_valid, is_valid}
 use Rattle.expr_read.proofs.TokenSteps.{IsFine, fine}

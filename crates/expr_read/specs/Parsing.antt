@@ -1,8 +1,13 @@
 -- What the parser takes of the tokens that are left.
-use Rattle.std.specs.Prelude.{◌≡◌, ◌<◌, ◌≤◌, ℕ, Bool, true, false, nat_le, nat_eq, List, [], ◌∷◌, ◌++◌, length, drop, Option, Some, None}
+use Rattle.std.specs.Prelude.{◌≡◌, ◌<◌, ◌≤◌, ℕ, Bool, true, false, nat_le, nat_eq, List, [], ◌∷◌, ◌++◌, length, drop, map, Option, Some, None}
 use Rattle.rdf_values.specs.{after_list, AfterName, bare, begin_values, BinOp, End, InCall, InList, InLists, level_of, Mark, NamedTree, NamedTrees, Nothing, Op, OpenMark, Operand, Operator, Partial, Placed, Punct, Reads, ReadsArgs, ReadsList, ReadsLists, ReadsValues, Refused, scan, ScanEnd, ScanState, Token, VaryValues, Whole}
-use Rattle.expr_read.specs.declared.token.Token.{Token as Seen}
-use Rattle.expr_read.specs.Views.{token_of}
+use Rattle.expr_read.specs.declared.lexeme.Token.{Token as Seen}
+use Rattle.expr_read.specs.declared.parser.Parser.{Parser}
+use Rattle.expr_read.specs.Views.{placed_of, token_of}
+
+-- the tokens that a parser has left
+abbrev pub left_of : Parser → List Placed
+left_of p = map placed_of p.left.now
 
 -- the token comes first, and then the new tokens
 pub record Begins (t : Token) (old new : List Placed) : Type 0 where

@@ -1,39 +1,41 @@
-// The token that a text begins with.
+// The tokens of an expression, and the one that a text begins with.
 ghost use Rattle.std.specs.Prelude.{◌≡◌, ◌<◌, ◌∷◌, List, ℕ, length, option_map};
 ghost use Rattle.rdf_values.specs.{first_token, long_mark, mark_first, number_first, short_mark, word_first};
 ghost use Rattle.expr_read.specs.{first_of, token_of};
 
-use crate::token::Token;
 use rdf_values::scripts::name::is_word_start;
 use rdf_values::tables::word::{digits_size, is_digit, word_size};
 use rdf_values::{BinOp, ExprCause, Mark, read_magnitude};
 
 const LONGEST_WORD: usize = 64;
 
-/// A token and how many bytes it has.
-#[derive(Clone, Copy)]
-pub(crate) struct Lexeme<'a> {
-    pub(crate) token: Token<'a>,
-    pub(crate) size: usize,
+/// A token; a word is a part of the text.
+#[derive(Clone, Copy, Debug)]
+pub(crate) enum Token<'a> {
+    Word(&'a [u8]),
+    Truth(bool),
+    Number(i64),
+    Op(BinOp),
+    Punct(Mark),
 }
 
-/// Why there is no token, and how many bytes on.
-#[derive(Clone, Copy)]
-pub(crate) struct Misread {
-    pub(crate) cause: ExprCause,
-    pub(crate) offset: usize,
+/// A token and its place in the text.
+#[derive(Clone, Copy, Debug)]
+pub(crate) struct Placed<'a> {
+    pub(crate) token: Token<'a>,
+    pub(crate) place: u32,
 }
+
+/// A token and how many bytes it has, or why there is none and how many bytes on.
+pub(crate) type First<'a> = Result<(Token<'a>, usize), (ExprCause, usize)>;
 
 // The token that a word is.
 #[tactic(auto, unfolding(rdf_values::specs::expressions::Tokens::word_first))]
-fn word(word: &[u8]) -> Result<Lexeme<'_>, Misread>
+fn word(word: &[u8]) -> First<'_>
     ensures { first_of result ≡ word_first word.now }
 {
     if word.len() > LONGEST_WORD {
-        return Err(Misread {
-            cause: ExprCause::BadByte,
-            offset: LONGEST_WORD,
-        });
+        return Err((ExprCause::BadByte, LONGEST_WORD));
     }
     let token = if word == b"true".as_slice() {
         Token::Truth(true)
@@ -42,26 +44,17 @@ fn word(word: &[u8]) -> Result<Lexeme<'_>, Misread>
     } else {
         Token::Word(word)
     };
-    Ok(Lexeme {
-        token,
-        size: word.len(),
-    })
+    Ok((token, word.len()))
 }
 
 // The token that some digits are.
 #[tactic(auto, unfolding(rdf_values::specs::expressions::Tokens::number_first))]
-fn number(digits: &[u8]) -> Result<Lexeme<'_>, Misread>
+fn number(digits: &[u8]) -> First<'_>
     ensures { first_of result ≡ number_first digits.now }
 {
     match read_magnitude(digits, i64::MAX as u64) {
-        Some(n) => Ok(Lexeme {
-            token: Token::Number(n as i64),
-            size: digits.len(),
-        }),
-        None => Err(Misread {
-            cause: ExprCause::BadNumber,
-            offset: 0,
-        }),
+        Some(n) => Ok((Token::Number(n as i64), digits.len())),
+        None => Err((ExprCause::BadNumber, 0)),
     }
 }
 
@@ -109,26 +102,23 @@ fn short_mark(byte: u8) -> Option<Token<'static>>
 }
 
 // The mark that the text begins with, the longest.
-fn mark(first: u8, rest: &[u8]) -> Result<Lexeme<'static>, Misread>
+fn mark(first: u8, rest: &[u8]) -> First<'static>
     ensures { first_of result ≡ mark_first first rest.now }
 {
     if let Some(second) = rest.first()
         && let Some(token) = long_mark(first, *second)
     {
-        return Ok(Lexeme { token, size: 2 });
+        return Ok((token, 2));
     }
     match short_mark(first) {
-        Some(token) => Ok(Lexeme { token, size: 1 }),
-        None => Err(Misread {
-            cause: ExprCause::BadByte,
-            offset: 0,
-        }),
+        Some(token) => Ok((token, 1)),
+        None => Err((ExprCause::BadByte, 0)),
     }
 }
 
 /// The token that a text begins with; its first byte isn't blank.
 #[tactic(auto, unfolding(rdf_values::specs::expressions::Tokens::first_token))]
-pub(crate) fn first_token<'a>(text: &'a [u8]) -> Result<Lexeme<'a>, Misread>
+pub(crate) fn first_token<'a>(text: &'a [u8]) -> First<'a>
     requires { 0 < length text.now }
     ensures { (c : ℕ) (cs : List ℕ) → text.now ≡ c ∷ cs → first_of result ≡ first_token c cs }
 {

@@ -2,20 +2,14 @@
 //! and the canonical text. It stands on the types and the grammar of `rdf_values`.
 #![tactic(auto)]
 
-mod build;
-mod fail;
 mod laws;
-mod level;
 mod lexeme;
 mod parser;
 mod print;
 mod read;
-mod refusal;
-mod token;
 mod tokenizer;
-mod values;
 
 pub use laws::{one_answer, one_tree, scan_decides};
 pub use print::print_expr;
 pub use read::{read_expr, read_values};
-pub use refusal::ExprRefusal;
+pub use tokenizer::ExprRefusal;

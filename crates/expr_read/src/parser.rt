@@ -1,19 +1,69 @@
 // Reads tokens as an expression, from the left with one token in hand.
-ghost use Rattle.std.specs.Prelude.{◌≡◌, ◌≤◌, ◌<◌, [], ◌∷◌, List, ℕ, length, drop, OnOk, IfOk, IfErr, IfSome, map, true};
-ghost use Rattle.rdf_values.specs.{bare, is_name, Op, Placed as At, Punct, tree_of, trees_of};
+ghost use Rattle.std.specs.Prelude.{◌≡◌, ◌≤◌, ◌<◌, [], ◌∷◌, ◌++◌, Err, List, ℕ, length, drop, OnOk, IfOk, IfErr, IfSome, map, true};
+ghost use Rattle.rdf_values.specs.{bare, begin_values, is_name, level_of, Op, Placed as At, Punct, scan, tree_of, trees_of};
 ghost use Rattle.rdf_values.specs.expressions.Tokens.{Word};
-ghost use Rattle.expr_read.specs.Valid.{are_valid};
-ghost use Rattle.expr_read.specs.Views.{placed_of};
+ghost use Rattle.expr_read.specs.Views.{are_valid, placed_of};
 
-use crate::build::{boxed, name};
-use crate::fail::Fail;
-use crate::level::level_of;
-use crate::token::{Placed, Token};
-use rdf_values::{Args, BinOp, ExprNode, Mark};
+use crate::lexeme::{Placed, Token};
+use rdf_values::{Args, BinOp, Expr, ExprNode, ListOf, Mark, Name, VaryValues};
 use std::alloc::Global;
 
 // The level of `-` and `!`, tighter than all operators of two sides.
 const UNARY: u8 = 7;
+
+/// The next token can't stand there, or no memory could be had.
+#[derive(Clone, Copy, Debug, PartialEq, Eq)]
+pub(crate) enum Fail {
+    Unexpected,
+    Memory,
+}
+
+/// The level of an operator, from 1 for `||` to 6 for `*`.
+pub(crate) fn level_of(op: BinOp) -> u8
+    ensures { result ≡ level_of op }
+{
+    match op {
+        BinOp::Or => 1,
+        BinOp::And => 2,
+        BinOp::Eq | BinOp::Ne => 3,
+        BinOp::Lt | BinOp::Le | BinOp::Gt | BinOp::Ge => 4,
+        BinOp::Add | BinOp::Sub => 5,
+        BinOp::Mul | BinOp::Div | BinOp::Rem => 6,
+    }
+}
+
+fn boxed<T: Drop>(alloc: Global, value: T) -> Result<Box<T>, Fail>
+    ensures ok { IfOk result (λ held. held.value ≡ value) }
+    ensures err { IfErr result (λ e. e ≡ Fail.Memory) }
+{
+    match Box::new(alloc, value) {
+        Ok(held) => Ok(held),
+        Err(_) => Err(Fail::Memory),
+    }
+}
+
+// The name that a word is.
+fn name(alloc: Global, word: &[u8]) -> Result<Name, Fail>
+    requires { is_name word.now ≡ true }
+    ensures ok { IfOk result (λ name. name ≡ word.now) }
+    ensures err { IfErr result (λ e. e ≡ Fail.Memory) }
+{
+    match Name::read(alloc, word) {
+        Ok(Some(name)) => Ok(name),
+        Ok(None) => unreachable!(),
+        Err(_) => Err(Fail::Memory),
+    }
+}
+
+fn push<T: Drop>(items: &mut ListOf<T>, item: T) -> Result<(), Fail>
+    ensures ok { OnOk result (items.new ≡ items.old ++ item ∷ []) }
+    ensures err { IfErr result (λ e. e ≡ Fail.Memory) }
+{
+    match items.push(item) {
+        Ok(()) => Ok(()),
+        Err(_) => Err(Fail::Memory),
+    }
+}
 
 /// The tokens that are left.
 #[derive(Drop)]
@@ -25,7 +75,7 @@ pub(crate) struct Parser<'a> {
 }
 
 impl<'a> Parser<'a> {
-    ghost use Rattle.expr_read.specs.{after_name, at_expr, at_more, Ate, Begins, BeginsNot, HasNoSign, is_valid, IsOpOf, IsStuckFrom, left_of, Sees, Stops, token_of, Took, TookArgs};
+    ghost use Rattle.expr_read.specs.{after_name, at_expr, at_item, at_more, Ate, Begins, BeginsNot, HasNoSign, in_list, is_valid, IsOpOf, IsStuckFrom, left_of, Sees, Stops, stuck_at, token_of, Took, TookArgs, TookList, TookLists, TookValues};
 
     // The next token.
     fn peek(&self) -> Option<Token<'a>>
@@ -47,7 +97,7 @@ impl<'a> Parser<'a> {
     }
 
     // Passes over the mark if it comes next.
-    pub(crate) fn eat(&mut self, mark: Mark) -> bool
+    fn eat(&mut self, mark: Mark) -> bool
         ensures { Ate (Punct mark) result (left_of self.old) (left_of self.new) }
     {
         match self.peek() {
@@ -86,7 +136,7 @@ impl<'a> Parser<'a> {
     }
 
     // Passes over the mark, which must come next.
-    pub(crate) fn expect(&mut self, mark: Mark) -> Result<(), Fail>
+    fn expect(&mut self, mark: Mark) -> Result<(), Fail>
         ensures ok { OnOk result (Begins (Punct mark) (left_of self.old) (left_of self.new)) }
         ensures err { IfErr result (λ e. (e ≡ Fail.Unexpected) × (left_of self.new ≡ left_of self.old) × BeginsNot (Punct mark) (left_of self.old)) }
     {
@@ -228,5 +278,57 @@ impl<'a> Parser<'a> {
         }
         self.expect(Mark::Close)?;
         Ok(Args::More(boxed(self.alloc, first)?, boxed(self.alloc, Args::End)?))
+    }
+
+    // The items of a list and its `}`, after its `{`.
+    fn list(&mut self) -> Result<ListOf<Expr>, Fail>
+        ensures took { IfOk result (λ items. TookList items (left_of self.old) (left_of self.new)) }
+        ensures stuck { result ≡ Err Fail.Unexpected → IsStuckFrom at_item (left_of self.old) (left_of self.new) }
+    {
+        let mut items = ListOf::new(self.alloc);
+        loop {
+            let node = self.expr()?;
+            push(&mut items, Expr { node })?;
+            if !self.eat(Mark::Comma) {
+                self.expect(Mark::CloseBrace)?;
+                return Ok(items);
+            }
+        }
+    }
+
+    // Lists and the outer `}`, after the `{` of the first list.
+    fn lists(&mut self) -> Result<ListOf<ListOf<Expr>>, Fail>
+        ensures took { IfOk result (λ lists. TookLists lists (left_of self.old) (left_of self.new)) }
+        ensures stuck { result ≡ Err Fail.Unexpected → scan in_list (left_of self.old) ≡ stuck_at (left_of self.new) }
+    {
+        let mut lists = ListOf::new(self.alloc);
+        loop {
+            let list = self.list()?;
+            push(&mut lists, list)?;
+            if !self.eat(Mark::Comma) {
+                self.expect(Mark::CloseBrace)?;
+                return Ok(lists);
+            }
+            self.expect(Mark::OpenBrace)?;
+        }
+    }
+
+    /// The values of a variation.
+    pub(crate) fn values(&mut self) -> Result<VaryValues, Fail>
+        ensures took { IfOk result (λ values. TookValues values (left_of self.old) (left_of self.new)) }
+        ensures stuck { result ≡ Err Fail.Unexpected → scan begin_values (left_of self.old) ≡ stuck_at (left_of self.new) }
+    {
+        if !self.eat(Mark::OpenBrace) {
+            let node = self.expr()?;
+            return Ok(VaryValues::Vector(Expr { node }));
+        }
+        if self.eat(Mark::OpenBrace) {
+            let lists = self.lists()?;
+            return Ok(VaryValues::Lists(lists));
+        }
+        let list = self.list()?;
+        let mut lists = ListOf::new(self.alloc);
+        push(&mut lists, list)?;
+        Ok(VaryValues::Lists(lists))
     }
 }

@@ -3,7 +3,7 @@ ghost use Rattle.std.specs.Prelude.{◌≡◌, ◌++◌, ◌≤◌, nat_le, code
 ghost use Rattle.std.specs.Fmt.{signed_decimal};
 ghost use Rattle.rdf_values.specs.{args_text, in_parens, more_text, op_text, ReadsText, text_of, tree_level, tree_of, trees_of};
 
-use crate::level::level_of;
+use crate::parser::level_of;
 use rdf_values::{Args, BinOp, Expr, ExprNode, Memory, Text};
 use std::alloc::Global;
 

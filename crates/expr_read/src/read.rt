@@ -3,11 +3,9 @@ ghost use Rattle.std.specs.Prelude.{◌≡◌, ◌≤◌, ℕ, length, map, true
 ghost use Rattle.rdf_values.specs.{bare, begin_expr, begin_values, NamedTree, Reads, ReadsText, ReadsValues, ReadsValuesText, tree_of, VaryValues as Values};
 ghost use Rattle.expr_read.specs.{are_valid, place_from, placed_of, RefusesTextAs, RefusesTokensAs};
 
-use crate::fail::Fail;
-use crate::parser::Parser;
-use crate::refusal::ExprRefusal;
-use crate::token::Placed;
-use crate::tokenizer::tokenize;
+use crate::lexeme::Placed;
+use crate::parser::{Fail, Parser};
+use crate::tokenizer::{ExprRefusal, tokenize};
 use rdf_values::{Expr, ExprCause, ExprNode, VaryValues};
 use std::alloc::Global;
 

@@ -4,13 +4,19 @@ ghost use Rattle.rdf_values.specs.{is_blank, tokens};
 ghost use Rattle.rdf_values.specs.expressions.Tokens.{too_many};
 ghost use Rattle.expr_read.specs.{first_of, IsRefusalOf, placed_of};
 
-use crate::lexeme::{Lexeme, Misread, first_token};
-use crate::refusal::ExprRefusal;
-use crate::token::Placed;
+use crate::lexeme::{First, Placed, first_token};
 use rdf_values::ExprCause;
 use std::alloc::Global;
 
 const MOST_TOKENS: usize = 256;
+
+/// A text is refused for a cause at a place, or no memory could be had.
+#[derive(Clone, Copy, Debug, PartialEq, Eq)]
+pub enum ExprRefusal {
+    /// The place counts bytes from the beginning of the text, from 0.
+    At { cause: ExprCause, place: u32 },
+    Memory,
+}
 
 fn is_blank(byte: u8) -> bool
     ensures { result ≡ is_blank byte }
@@ -19,11 +25,11 @@ fn is_blank(byte: u8) -> bool
 }
 
 // Why no token may begin where this one does, which is one too many.
-fn cause_at_limit(first: &Result<Lexeme<'_>, Misread>) -> ExprCause
+fn cause_at_limit(first: &First<'_>) -> ExprCause
     ensures { (place : ℕ) → too_many place (first_of first.now) ≡ record { cause = result; place = place } }
 {
     match first {
-        Err(misread) if misread.offset == 0 => misread.cause,
+        Err(misread) if misread.1 == 0 => misread.0,
         _ => ExprCause::TooLong,
     }
 }
@@ -47,23 +53,23 @@ pub(crate) fn tokenize(alloc: Global, text: &[u8]) -> Result<Vec<Placed<'_>>, Ex
                 place: place as u32,
             });
         }
-        let lexeme = match first {
+        let (token, size) = match first {
             Ok(lexeme) => lexeme,
             Err(misread) => {
                 return Err(ExprRefusal::At {
-                    cause: misread.cause,
-                    place: (place + misread.offset) as u32,
+                    cause: misread.0,
+                    place: (place + misread.1) as u32,
                 });
             }
         };
         let placed = Placed {
-            token: lexeme.token,
+            token,
             place: place as u32,
         };
         if found.push(placed).is_err() {
             return Err(ExprRefusal::Memory);
         }
-        place += lexeme.size;
+        place += size;
     }
     Ok(found)
 }

@@ -1,6 +1,6 @@
 -- The names of an axis's cells, by their places, their lines, and texts with something between.
 use Rattle.std.proofs.Common.{◌≡◌, ℕ, zero, suc, ◌+◌, List, [], ◌∷◌, ◌++◌, drop, None, Some, refl, sym, ap, ◌∙◌, append_assoc, append-nil, slice_get, ◌<◌, ◌≤◌, ℤ, pos, length, map, get_or, Option, arith, codes, decimal, flat_map}
-use Rattle.lemmas.proofs.{drop_more, get_or_from_slice_get, slice_get_within, none_left as drop_whole, signed_decimal, join_with_byte, map-map, same_some}
+use Rattle.lemmas.proofs.{drop-drop, drop_more, get_or_from_slice_get, slice_get-get_or, slice_get_within, none_left as drop_whole, signed_decimal, join_with_byte, map-map, same_some}
 use Rattle.rdf_values.specs.results.Fold.{Cell}
 use Rattle.rdf_model.specs.{cell_line, cell_lines, cell_names, cell_names_from, plane_lines, run_text, scalar_text, taken_text}
 use Rattle.result_text.specs.{behind, bin_name, line_at, lines_on, name_at, plane_at, planes_on, more_runs, more_taken, run_of, runs_text}
@@ -44,15 +44,9 @@ from_bin lo (hi ∷ es) (suc k) lt = from_bin hi es k (omega arith)
 pub bin_at : (edges : List ℤ) (k i : ℕ) → i ≡ k + 1 → i < length edges → name_at edges i ≡ Some (bin_name (get_or edges k (pos 0)) (get_or edges i (pos 0)))
 bin_at edges k i e lt = grind (arith, from_bin)
 
-nothing_left : (m : ℕ) → ◌≡◌ {A = List (List ℕ)} (drop m []) []
-nothing_left zero = refl
-nothing_left (suc m) = refl
-
 -- none is behind a place that has none
 none_behind : (ns : List (List ℕ)) (k : ℕ) → slice_get ns k ≡ None → drop (k + 1) ns ≡ []
-none_behind [] k h = nothing_left (k + 1)
-none_behind (n ∷ ns) zero h = absurd (cc)
-none_behind (n ∷ ns) (suc k) h = (let e : suc k + 1 ≡ suc (k + 1) = omega arith in ap (λ m. drop m (n ∷ ns)) e) ∙ none_behind ns k h
+none_behind ns k h = sym (drop-drop 1 k ns) ∙ ap (drop 1) (none_left ns k h)
 
 no_lines : (names : List (List ℕ)) → cell_lines names [] ≡ []
 no_lines [] = refl
@@ -91,9 +85,6 @@ no_line before edges i c lt = ap (λ (o : Option (List ℕ)). elim o [ None ↦ 
 pub no_plane : (xs ys : List ℤ) (i : ℕ) (row : List Cell) → length xs < i → plane_at xs ys i row ≡ []
 no_plane xs ys i row lt = ap (λ (o : Option (List ℕ)). elim o [ None ↦ [] | Some name ↦ lines_on (name ++ codes " ") ys 0 row ]) (no_name xs i lt)
 
-same_text : {a b : List ℕ} → ◌≡◌ {A = Option (List ℕ)} (Some a) (Some b) → a ≡ b
-same_text q = cc
-
 pub cell_put : (text before : List ℕ) (edges : List ℤ) (i : ℕ) (c : Cell) (t1 t2 t3 t4 t5 t6 t7 t8 : List ℕ) → t1 ≡ text ++ codes "  " → t2 ≡ t1 ++ before → Some t3 ≡ behind t2 (name_at edges i)
     → t4 ≡ t3 ++ codes " " → t5 ≡ t4 ++ signed_decimal c.sum → t6 ≡ t5 ++ codes " " → t7 ≡ t6 ++ signed_decimal c.squares → t8 ≡ t7 ++ 10 ∷ [] → t8 ≡ text ++ line_at before edges i c
 cell_put text before edges i c t1 t2 t3 t4 t5 t6 t7 t8 e1 e2 e3 e4 e5 e6 e7 e8 = go (name_at edges i) e3
@@ -102,12 +93,12 @@ cell_put text before edges i c t1 t2 t3 t4 t5 t6 t7 t8 e1 e2 e3 e4 e5 e6 e7 e8 =
     go None h = absurd (cc)
     go (Some n) h =
         e8 ∙ ap (λ l. l ++ 10 ∷ [])
-        (e7 ∙ ap (λ l. l ++ signed_decimal c.squares) (e6 ∙ ap (λ l. l ++ codes " ") (e5 ∙ ap (λ l. l ++ signed_decimal c.sum) (e4 ∙ ap (λ l. l ++ codes " ") (same_text h ∙ ap (λ l. l ++ n) (e2 ∙ ap (λ l. l ++ before) e1))))))
+        (e7 ∙ ap (λ l. l ++ signed_decimal c.squares) (e6 ∙ ap (λ l. l ++ codes " ") (e5 ∙ ap (λ l. l ++ signed_decimal c.sum) (e4 ∙ ap (λ l. l ++ codes " ") (same_some h ∙ ap (λ l. l ++ n) (e2 ∙ ap (λ l. l ++ before) e1))))))
         ∙ simp append_assoc
 
 pub plane_put : (xs ys : List ℤ) (i : ℕ) (row : List Cell) (text b0 b1 b2 b3 now : List ℕ) → b0 ≡ [] → Some b1 ≡ behind b0 (name_at xs i) → b2 ≡ b1 ++ codes " " → b3 ≡ b2
     → now ≡ text ++ lines_on b3 ys 0 row → now ≡ text ++ plane_at xs ys i row
-plane_put xs ys i row text b0 b1 b2 b3 now e0 e1 e2 e3 e = grind (arith, same_text)
+plane_put xs ys i row text b0 b1 b2 b3 now e0 e1 e2 e3 e = grind (arith, same_some)
 
 -- ---- turns
 
@@ -119,15 +110,10 @@ line_next before text now all edges i cells c h at is =
 pub line_last : (before text all : List ℕ) (edges : List ℤ) (i : ℕ) (cells : List Cell) → text ++ lines_on before edges i (drop i cells) ≡ all → length cells ≤ i → text ≡ all
 line_last before text all edges i cells h le = put_last all text (lines_on before edges i (drop i cells)) h (ap (lines_on before edges i) (drop_whole cells i le))
 
-row_there : (rows : List (List Cell)) (i : ℕ) → i < length rows → slice_get rows i ≡ Some (get_or rows i [])
-row_there [] i lt = absurd (omega arith)
-row_there (r ∷ rs) zero lt = refl
-row_there (r ∷ rs) (suc i) lt = row_there rs i (omega arith)
-
 pub plane_next : (text now all : List ℕ) (xs ys : List ℤ) (i : ℕ) (rows : List (List Cell)) → text ++ planes_on xs ys i (drop i rows) ≡ all → i < length rows → now ≡ text ++ plane_at xs ys i (get_or rows i [])
     → now ++ planes_on xs ys (i + 1) (drop (i + 1) rows) ≡ all
 plane_next text now all xs ys i rows h lt is =
-    put_next all text now (plane_at xs ys i (get_or rows i [])) (planes_on xs ys (i + 1) (drop (i + 1) rows)) (planes_on xs ys i (drop i rows)) h (ap (planes_on xs ys i) (one_left rows i (get_or rows i []) (row_there rows i lt))) is
+    put_next all text now (plane_at xs ys i (get_or rows i [])) (planes_on xs ys (i + 1) (drop (i + 1) rows)) (planes_on xs ys i (drop i rows)) h (ap (planes_on xs ys i) (one_left rows i (get_or rows i []) (slice_get-get_or rows i [] lt))) is
 
 pub plane_last : (text all : List ℕ) (xs ys : List ℤ) (i : ℕ) (rows : List (List Cell)) → text ++ planes_on xs ys i (drop i rows) ≡ all → length rows ≤ i → text ≡ all
 plane_last text all xs ys i rows h le = put_last all text (planes_on xs ys i (drop i rows)) h (ap (planes_on xs ys i) (drop_whole rows i le))

@@ -50,9 +50,6 @@ depends_are g r x at its h = grind (arith, members_are)
 pub action_booking : (b : Booking) (k : ActionKind) → kind_of_booking b ≡ ResultKind.Action k → (at : Path) × (b ≡ ActionAt k at)
 action_booking b k e = grind arith
 
-abbrev the_pass : Booked → Variation → Pass
-the_pass b v = record { result = b; under = Some v }
-
 -- the passes of a result behind the nominal one
 pub passes_are : (script : List Statement) (b : Booked) (k : ActionKind) (accs : List Accumulator) (n : ℕ) (vs : List Variation)
     → vs ≡ filter (λ v. result_depends v b.booking) (variations script) → 1 < length (passes_of script b)

@@ -2,8 +2,8 @@
 use Rattle.std.specs.Prelude.{ℕ, List, codes}
 use Rattle.rdf_values.specs.{graph_cause_line, line, long_script_line, long_table_line, no_file_line, read_failed_line, script_cause_line, table_cause_line}
 use Rattle.result_text.specs.FriendLines.{friend_cause_line, join_cause_line, long_friend_line}
-use Rattle.result_text.specs.declared.refusal.Refusal.{Refusal}
-use Rattle.result_text.specs.declared.refusal.Refusal.TheVariants.{Words, Read, NoFile, ScriptLong, Script, Graph, TableLong, Table, FriendLong, Friend, Join}
+use Rattle.result_text.specs.declared.refusals.Refusal.{Refusal}
+use Rattle.result_text.specs.declared.refusals.Refusal.TheVariants.{Words, Read, NoFile, ScriptLong, Script, Graph, TableLong, Table, FriendLong, Friend, Join}
 
 -- how the command is called
 abbrev pub usage_line : List ℕ

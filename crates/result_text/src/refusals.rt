@@ -4,13 +4,29 @@ ghost use Rattle.std.specs.String.{string_bytes};
 ghost use Rattle.rdf_values.specs.{expr_cause_text, graph_cause_line, graph_cause_text, line, script_cause_line};
 ghost use Rattle.result_text.specs.{join_cause_line, refusal_text, refused_for};
 
-use crate::refusal::Refusal;
 use friend_join::JoinCause;
 use rdf_values::{ExprCause, GraphCause, Memory, ScriptCause, TableCause, Text};
 use std::alloc::Global;
 
-// A whole line.
-fn whole(alloc: Global, bytes: &[u8]) -> Result<Text, Memory>
+/// The words are none of the command, a file can't be read or isn't there, or a script, a table or a friend is
+/// refused.
+#[derive(Drop)]
+pub enum Refusal {
+    Words,
+    Read { name: Text },
+    NoFile { name: Text },
+    ScriptLong,
+    Script(ScriptCause),
+    Graph { line: u32, cause: GraphCause },
+    TableLong,
+    Table(TableCause),
+    FriendLong,
+    Friend(TableCause),
+    Join(JoinCause),
+}
+
+/// A text of these bytes.
+pub fn text_of(alloc: Global, bytes: &[u8]) -> Result<Text, Memory>
     ensures { IfOk result (λ text. text ≡ bytes.now) }
 {
     let mut text = Text::new(alloc);
@@ -139,21 +155,21 @@ pub fn refusal_line(alloc: Global, refusal: &Refusal) -> Result<Text, Memory>
     ensures { IfOk result (λ text. text ≡ refusal_text refusal.now) }
 {
     match refusal {
-        Refusal::Words => whole(
+        Refusal::Words => text_of(
             alloc,
             b"usage: rdf SCRIPT TABLE [--slots N] [--cluster N] [--watch K] [--make] [--friend FILE] [--key NAME] [--missing N]\n",
         ),
         Refusal::Read { name } => named(alloc, b"read failed: ", name),
         Refusal::NoFile { name } => named(alloc, b"no file ", name),
-        Refusal::ScriptLong => whole(alloc, b"script refused: longer than 65536 bytes\n"),
-        Refusal::Script(cause) => whole(alloc, script_cause_line(alloc, *cause)?.as_bytes()),
+        Refusal::ScriptLong => text_of(alloc, b"script refused: longer than 65536 bytes\n"),
+        Refusal::Script(cause) => text_of(alloc, script_cause_line(alloc, *cause)?.as_bytes()),
         Refusal::Graph { line, cause } => {
-            whole(alloc, graph_cause_line(alloc, *line, *cause)?.as_bytes())
+            text_of(alloc, graph_cause_line(alloc, *line, *cause)?.as_bytes())
         }
-        Refusal::TableLong => whole(alloc, b"table refused: longer than 67108864 bytes\n"),
+        Refusal::TableLong => text_of(alloc, b"table refused: longer than 67108864 bytes\n"),
         Refusal::Table(cause) => refused(alloc, b"table", *cause),
-        Refusal::FriendLong => whole(alloc, b"friend refused: longer than 67108864 bytes\n"),
+        Refusal::FriendLong => text_of(alloc, b"friend refused: longer than 67108864 bytes\n"),
         Refusal::Friend(cause) => refused(alloc, b"friend", *cause),
-        Refusal::Join(cause) => whole(alloc, join_cause_line(alloc, *cause)?.as_bytes()),
+        Refusal::Join(cause) => text_of(alloc, join_cause_line(alloc, *cause)?.as_bytes()),
     }
 }

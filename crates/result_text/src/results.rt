@@ -1,17 +1,49 @@
 // The lines of results.
-ghost use Rattle.std.specs.Prelude.{◌≡◌, ◌<◌, ◌≤◌, ◌+◌, ◌^◌, ◌++◌, ℕ, IfOk, OnOk, None, Some, length, slice_get, vec_len};
-ghost use Rattle.graph_numbers.specs.{booked_statements, graph_results, graph_variations, kind_of_booking, ResultAt};
+ghost use Rattle.std.specs.Prelude.{◌≡◌, ◌<◌, ◌≤◌, ◌+◌, ◌^◌, ◌++◌, ℕ, All, IfOk, OnOk, None, Some, length, map, slice_get, vec_len};
+ghost use Rattle.graph_numbers.specs.{booked_statements, graph_filters, graph_results, graph_variations, kind_of_booking, ResultAt};
 ghost use Rattle.graph.specs.{has};
-ghost use Rattle.result_text.specs.{filled_text, FitsResult, members_from, under_lines};
+ghost use Rattle.rdf_model.specs.{flow_lines};
+ghost use Rattle.result_text.specs.{filled_text, FitsResult, flow_at, members_from, under_lines};
 
-use crate::printed::{PrintedAction, PrintedReport};
-use crate::reports::put_report;
-use crate::values::put_pass;
+use crate::shares::put_flow_line;
+use crate::values::{PrintedAction, put_pass};
 use graph::{Graph, VarSet};
 use graph_numbers::ResultKind;
-use loop_pieces::FilledResult;
+use loop_pieces::{FilledResult, Flow};
 use rdf_values::{ActionKind, Memory, Text};
 use std::alloc::Global;
+
+/// A report that is printed: its name, and how many entries reached and passed the named filters of the graph.
+#[derive(Clone, Copy)]
+pub struct PrintedReport<'a> {
+    pub name: &'a [u8],
+    pub graph: &'a Graph,
+    pub flow: &'a Flow,
+}
+
+// Appends the lines of a report on named filters, by their numbers.
+fn put_report(
+    alloc: Global,
+    text: &mut Text,
+    report: &PrintedReport<'_>,
+    covered: &[u32],
+) -> Result<(), Memory>
+    requires covered { All (λ f. f < length (graph_filters report.now.graph.now)) covered.now }
+    requires flow { length report.now.flow.now ≡ length (graph_filters report.now.graph.now) }
+    ensures { OnOk result (text.new ≡ text.old ++ flow_lines report.now.name.now (map (flow_at report.now.graph.now report.now.flow.now) covered.now)) }
+{
+    let Some((first, _)) = covered.split_first() else {
+        text.extend(report.name)?;
+        return text.extend(b": no named filters\n");
+    };
+    let reached = report.flow.counts(*first).all;
+    for f in covered {
+        let label = report.graph.label(*f);
+        let counts = report.flow.counts(*f);
+        put_flow_line(alloc, text, report.name, reached, label, counts)?;
+    }
+    Ok(())
+}
 
 // Appends the lines of the passes of an action under the variations on which it depends.
 fn put_varied(

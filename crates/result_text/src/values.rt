@@ -2,17 +2,49 @@
 ghost use Rattle.std.specs.Prelude.{◌≡◌, ◌<◌, ◌++◌, OnOk, length};
 ghost use Rattle.std.specs.Option.{ForSome};
 ghost use Rattle.actions.specs.{filled_seen};
-ghost use Rattle.rdf_model.specs.{filled_lines, label, x_edges_of, y_edges_of};
+ghost use Rattle.rdf_model.specs.{filled_lines, label, scalar_text, taken_text, x_edges_of, y_edges_of};
 ghost use Rattle.result_text.specs.{under_in, value_lines};
 
 use crate::cells::{put_flat, put_square};
 use crate::labels::put_label;
 use crate::numbers::{put_count, put_number, put_option, put_sum, put_wide};
-use crate::printed::PrintedAction;
-use crate::taken::put_taken;
-use actions::{Acc, Filled};
-use rdf_values::{ActionKind, Memory, Text};
+use actions::{Acc, Filled, Taken};
+use graph::Variations;
+use rdf_values::{ActionKind, Memory, Name, Scalar, Text};
 use std::alloc::Global;
+
+/// An action whose passes are printed: its result's name, what it is, and the variations in the order of their numbers.
+#[derive(Clone, Copy)]
+pub struct PrintedAction<'a> {
+    pub name: &'a Name,
+    pub kind: &'a ActionKind,
+    pub variations: &'a Variations,
+}
+
+fn put_scalar(alloc: Global, text: &mut Text, value: Scalar) -> Result<(), Memory>
+    ensures { OnOk result (text.new ≡ text.old ++ scalar_text value) }
+{
+    match value {
+        Scalar::Int(z) => put_number(alloc, text, z),
+        Scalar::Bool(true) => text.extend(b"true"),
+        Scalar::Bool(false) => text.extend(b"false"),
+    }
+}
+
+// Appends the values with one space between, or `none`.
+fn put_taken(alloc: Global, text: &mut Text, taken: &Taken<'_>) -> Result<(), Memory>
+    ensures { OnOk result (text.new ≡ text.old ++ taken_text taken.now) }
+{
+    if taken.len() == 0 {
+        return text.extend(b"none");
+    }
+    put_scalar(alloc, text, taken.at(0))?;
+    for i in 1..taken.len() {
+        text.push(b' ')?;
+        put_scalar(alloc, text, taken.at(i))?;
+    }
+    Ok(())
+}
 
 fn x_edges(kind: &ActionKind) -> &[i64]
     ensures { result.now ≡ x_edges_of kind.now }

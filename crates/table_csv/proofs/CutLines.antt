@@ -1,6 +1,6 @@
 -- Where lines end, and records of bytes that are cut there.
 use Rattle.std.proofs.Common.{◌≡◌, ◌<◌, ◌+◌, ◌∙◌, ℕ, List, [], ◌∷◌, ◌++◌, length, take, drop, get_or, Bool, None, Some, arith, refl, sym, ap, length-drop, get_or-drop, cond, nat_lt, position, Option, is_some, zero, suc, true, false, length-append, if◌then◌else◌, ◌==◌, append_assoc, append-nil, inl, inr, ◌&&◌, nat_eq, ◌-◌, All, add-one}
-use Rattle.lemmas.proofs.{nat_tests, passes_at_first, position_or_len, take_more, get_or_default, list_any, list_any-from_Any, list_any_none, never_true, and_false, neither, All-append, All-cons, All-drop, All-take, drop-append_seam, flat_map-append}
+use Rattle.lemmas.proofs.{list_any-append, nat_tests, passes_at_first, position_or_len, take_more, get_or_default, list_any, list_any-from_Any, list_any_none, never_true, and_false, neither, All-append, All-cons, All-drop, All-take, drop-append_seam, flat_map-append}
 use Rattle.table_csv.specs.{EndsLine, is_line_end, csv_records, is_quote, is_special, IsCut}
 use Rattle.memchr.specs.Find.{IsFirstByte}
 use Rattle.csv.specs.Machine.{Read, ends_at_end, ends_with, is_end, step, in_field, next_record, fields_after, field_after, start_field, start_record}
@@ -44,11 +44,7 @@ abbrev begun : State → Bool
 begun st.StartRecord = false
 begun st.AfterCr = false
 begun st.InComment = false
-begun st.StartField = true
-begun st.InField = true
-begun st.InQuoted = true
-begun st.AfterQuote = true
-begun st.InEscape = true
+begun s = true
 
 -- a step that ends no record, and behind which no field is begun, skips its byte, and none was begun before it
 abbrev Idle : Bool → State × Action → Type 0
@@ -137,10 +133,7 @@ unquoted st.StartRecord = true
 unquoted st.StartField = true
 unquoted st.InField = true
 unquoted st.AfterCr = true
-unquoted st.InQuoted = false
-unquoted st.AfterQuote = false
-unquoted st.InEscape = false
-unquoted st.InComment = false
+unquoted s = false
 
 step_stays : (s : State) (c : ℕ) → unquoted s ≡ true → (c == 34) ≡ false → unquoted (step default_config s c).0 ≡ true
 step_stays s c h n = grind arith
@@ -167,14 +160,6 @@ no_mark : (bytes : List ℕ) → list_any is_special bytes ≡ false → strip_b
 unfolding strip_bom
 no_mark bytes n = grind (arith, neither)
 
-no_second : (b c : Bool) → ((b && false) && c) ≡ false
-no_second true c = refl
-no_second false c = refl
-
-no_mark_if : (t : Bool) (x y : List ℕ) → t ≡ false → (if t then x else y) ≡ y
-no_mark_if true x y e = cc e
-no_mark_if false x y e = refl
-
 line_kept : (rest : List ℕ) → strip_bom (10 ∷ rest) ≡ 10 ∷ rest
 unfolding strip_bom
 line_kept rest = grind arith
@@ -187,15 +172,14 @@ record Stripped (front : List ℕ) : Type 0 where
 
 second_kept : (a : ℕ) (rest : List ℕ) → strip_bom (a ∷ 10 ∷ rest) ≡ a ∷ 10 ∷ rest
 unfolding strip_bom
-second_kept a [] = refl
-second_kept a (c ∷ rest) = no_mark_if (is_bom a 10 c) rest (a ∷ 10 ∷ c ∷ rest) (no_second (a == 239) (c == 191))
+second_kept a rest = grind arith
 
 stripped : (front : List ℕ) → list_any is_quote front ≡ false → Stripped front
 unfolding strip_bom
 stripped [] n = record { kept = []; plain = refl; same = line_kept }
 stripped (a ∷ []) n = record { kept = a ∷ []; plain = n; same = second_kept a }
 stripped (a ∷ b ∷ []) n =
-    record { kept = a ∷ b ∷ []; plain = n; same = λ rest. no_mark_if (is_bom a b 10) rest (a ∷ b ∷ 10 ∷ rest) (and_false ((a == 239) && (b == 187))) }
+    record { kept = a ∷ b ∷ []; plain = n; same = λ rest. rw (and_false ((a == 239) && (b == 187))) refl }
 stripped (a ∷ b ∷ c ∷ front) n = go (is_bom a b c) refl
   where
     go : (t : Bool) → is_bom a b c ≡ t → Stripped (a ∷ b ∷ c ∷ front)
@@ -214,10 +198,7 @@ line_cut front rest n m =
     (records_cut (length a + 1) (length (a ++ rest) + 1) (length rest + 1) st.StartRecord a rest refl (lines_end s.kept st.StartRecord refl s.plain) (omega arith) (omega arith) (omega arith))
 
 front_plain : (front rest : List ℕ) → list_any is_quote (front ++ rest) ≡ false → list_any is_quote front ≡ false
-front_plain [] rest n = refl
-front_plain (c ∷ front) rest n =
-    let p = neither (is_quote c) (list_any is_quote (front ++ rest)) n in
-    rw p.0 (front_plain front rest p.1)
+front_plain front rest n = (neither (list_any is_quote front) (list_any is_quote rest) (rw list_any-append at n)).0
 
 no_records : csv_records [] ≡ []
 unfolding csv_records strip_bom records_from next_record
@@ -230,9 +211,7 @@ csv_cut lines rest (inl l) n m =
     rw (l.1, append_assoc l.0 (10 ∷ []) rest) (line_cut l.0 rest (front_plain l.0 (10 ∷ []) plain) m)
 csv_cut lines rest (inr none) n m = rw (none, append-nil lines, no_records, append-nil (csv_records lines)) refl
 
--- ---- Texts that end where lines do.
-
--- ---- parts that are put so that they end where lines do
+-- ---- Texts and parts that end where lines do.
 
 pub ends_behind : (front lines : List ℕ) → EndsLine lines → EndsLine (front ++ lines)
 ends_behind front lines l = (front ++ l.0, rw l.1 (sym (append_assoc front l.0 (10 ∷ []))))

@@ -15,10 +15,6 @@ abbrev pub header_onto : List Column → Result Header TableCause → Result Hea
 header_onto read (Err e) = Err e
 header_onto read (Ok h) = Ok (record { columns = read ++ h.columns; marked = h.marked })
 
-pub header_onto-none : (left : Result Header TableCause) → header_onto [] left ≡ left
-header_onto-none (Err e) = refl
-header_onto-none (Ok h) = refl
-
 header_onto-with : (read : List Column) (c : Column) (left : Result Header TableCause) → header_onto read (with_column c left) ≡ header_onto (read ++ c ∷ []) left
 header_onto-with read c (Err e) = refl
 header_onto-with read c (Ok h) = ap (λ l. Ok (record { columns = l; marked = h.marked })) (sym (append_assoc read (c ∷ []) h.columns))

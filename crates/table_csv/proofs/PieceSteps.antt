@@ -9,7 +9,7 @@ use Rattle.table_csv.proofs.TableSteps.{marks_append, table_good}
 use Rattle.csv.specs.declared.reader.Reader.{Reader}
 use Rattle.rdf_values.specs.Answered.{Refuses}
 use Rattle.columns.specs.{table_joined}
-use Rattle.table_csv.specs.declared.marked_pieces.Marked.{Marked}
+use Rattle.table_csv.specs.declared.entries.Marked.{Marked}
 use Rattle.table_csv.specs.declared.refusal.TableRefusal.{TableRefusal}
 use Rattle.table_csv.proofs.CutLines.{csv_cut, no_quote}
 

@@ -1,5 +1,6 @@
 -- What a read of a record takes, and one more value for a column.
 use Rattle.std.proofs.Common.{◌≡◌, ◌<◌, ◌≤◌, ◌+◌, ◌∙◌, ℕ, zero, suc, List, [], ◌∷◌, ◌++◌, length, get_or, set, drop, Result, Err, ap, arith, refl, sym, length-append, Bool, true, false, None, Some, Option, inl, if◌then◌else◌}
+use Rattle.lemmas.proofs.{cond_both}
 use Rattle.rdf_values.specs.{AreKept, Cells, cells_from, ColType, Column, IsKept, pushed, row_pushed, TableCause, Value}
 use Rattle.rdf_values.specs.tables.TableText.{cell_of}
 use Rattle.rdf_values.proofs.KeptLemmas.{kept_length}
@@ -103,49 +104,37 @@ step_closes s c e = grind arith
 -- a record has a field
 ended : (a : Action) (fields : List (List ℕ)) (field : List ℕ) → is_end a ≡ true → 0 < length (fields_after a fields field)
 ended act.EndRecord fields field e = omega (arith, length-append fields (field ∷ []))
-ended act.Skip fields field e = cc e
-ended act.Copy fields field e = cc e
-ended act.EndField fields field e = cc e
+ended a fields field e = cc e
 
--- what a read leaves: no more bytes than there were, and a state between records
-abbrev Leads : ℕ → Option Read → Type 0
-Leads size None = Unit {0}
-Leads size (Some p) = (length p.2 ≤ size) × (ends_at_end p.1 ≡ false) × (0 < length p.0)
-
-leads_more : (m n : ℕ) (o : Option Read) → m ≤ n → Leads m o → Leads n o
-leads_more m n None h l = tt
-leads_more m n (Some p) h l = (omega arith, l.1, l.2)
-
-leads_end : (b : Bool) (f : List (List ℕ)) → 0 < length f → Leads 0 (if b then Some (f, st.StartRecord, []) else None)
-leads_end true f h = (omega arith, refl, h)
-leads_end false f h = tt
-
-if_holds : (P : Option Read → Type 0) (b : Bool) (x y : Option Read) → (b ≡ true → P x) → (b ≡ false → P y) → P (if b then x else y)
-if_holds P true x y h k = h refl
-if_holds P false x y h k = k refl
-
-leads : (xs : List ℕ) (s : State) (fields : List (List ℕ)) (field : List ℕ) → Leads (length xs) (next_record default_config s fields field xs)
-unfolding next_record
-leads [] s fields field = leads_end (ends_at_end s) (fields ++ (field ∷ [])) (omega (arith, length-append fields (field ∷ [])))
-leads (c ∷ rest) s fields field =
-    let q = step default_config s c in
-    if_holds (Leads (length (c ∷ rest))) (is_end q.1) _ _
-    (λ e. (omega arith, step_closes s c e, ended q.1 fields field e))
-    (λ e. leads_more (length rest) (length (c ∷ rest)) _ (omega arith) (leads rest q.0 (fields_after q.1 fields field) (field_after q.1 c field)))
-
--- from a state between records a read takes a byte or more
+-- a read leaves fewer bytes than that, and a state between records
 abbrev pub Shrinks : ℕ → Option Read → Type 0
 Shrinks size None = Unit {0}
 Shrinks size (Some p) = (length p.2 < size) × (ends_at_end p.1 ≡ false) × (0 < length p.0)
 
-shrinks_leads : (m : ℕ) (o : Option Read) → Leads m o → Shrinks (suc m) o
-shrinks_leads m None l = tt
-shrinks_leads m (Some p) l = (omega arith, l.1, l.2)
+shrinks_more : (m n : ℕ) (o : Option Read) → m ≤ n → Shrinks m o → Shrinks n o
+shrinks_more m n None h l = tt
+shrinks_more m n (Some p) h l = (omega arith, l.1, l.2)
 
+shrinks_end : (b : Bool) (f : List (List ℕ)) → 0 < length f → Shrinks (suc zero) (if b then Some (f, st.StartRecord, []) else None)
+shrinks_end true f h = (omega arith, refl, h)
+shrinks_end false f h = tt
+
+leads : (xs : List ℕ) (s : State) (fields : List (List ℕ)) (field : List ℕ) → Shrinks (suc (length xs)) (next_record default_config s fields field xs)
+unfolding next_record
+leads [] s fields field = shrinks_end (ends_at_end s) (fields ++ (field ∷ [])) (omega (arith, length-append fields (field ∷ [])))
+leads (c ∷ rest) s fields field =
+    let q = step default_config s c in
+    cond_both (is_end q.1) _ _ (Shrinks (suc (length (c ∷ rest))))
+    (λ e. (omega arith, step_closes s c e, ended q.1 fields field e))
+    (λ e. shrinks_more (suc (length rest)) (suc (length (c ∷ rest))) _ (omega arith) (leads rest q.0 (fields_after q.1 fields field) (field_after q.1 c field)))
+
+-- from a state between records a read takes a byte or more
 pub shrinks : (s : State) (xs : List ℕ) → ends_at_end s ≡ false → Shrinks (length xs) (next_record default_config s [] [] xs)
 unfolding next_record
 shrinks s [] h = rw h tt
-shrinks s (c ∷ rest) h = grind (arith, if_holds, step_closes, ended, shrinks_leads, leads)
+shrinks s (c ∷ rest) h =
+    let q = step default_config s c in
+    cond_both (is_end q.1) _ _ (Shrinks (length (c ∷ rest))) (λ e. (omega arith, step_closes s c e, ended q.1 [] [] e)) (λ e. leads rest q.0 (fields_after q.1 [] []) (field_after q.1 c []))
 
 -- what a read that found a record, or none, says of the records that were left
 Outcome : Bool → ℕ → State → List ℕ → Option (List ℕ) → List (List ℕ) → State → Type 0

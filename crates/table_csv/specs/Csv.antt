@@ -1,10 +1,11 @@
--- The records of CSV bytes, and those that a reader has left.
-use Rattle.std.specs.Prelude.{◌≡◌, ◌<◌, ℕ, Bool, true, false, length, List, [], ◌∷◌, Some}
+-- The records of CSV bytes, those that a reader has left, and the entries behind a header.
+use Rattle.std.specs.Prelude.{◌≡◌, ◌<◌, ℕ, Bool, true, false, length, List, [], ◌∷◌, Some, Ok, Result}
 use Rattle.std.specs.Borrow.{Bor}
 use Rattle.csv.specs.Machine.{ends_at_end}
 use Rattle.csv.specs.Reading.{Ready, default_config, is_flexible, reader_config, reader_state, reader_trim, records, records_from, source_of, strip_bom}
 use Rattle.csv.specs.declared.reader.Reader.{Reader}
 use Rattle.csv.specs.declared.reader.Trim.TheVariants as trim
+use Rattle.rdf_values.specs.{Header, header_from, IsHeader, MarkedTable, on_ok, rows_from, table_with, TableCause}
 
 -- the records that `csv` gives for the bytes, by its default comma and double quote; a byte order mark at their start is skipped
 unfoldable pub csv_records : List ℕ → List (List (List ℕ))
@@ -27,3 +28,16 @@ pub record Leaves (r : Reader (Bor (List ℕ))) (left : List (List (List ℕ))) 
 abbrev pub Took : Bool → List (List (List ℕ)) → List (List ℕ) → Reader (Bor (List ℕ)) → Type 0
 Took true left fields after = (rest : List (List (List ℕ))) × (left ≡ fields ∷ rest) × Leaves after rest × (0 < length fields)
 Took false left fields after = left ≡ []
+
+-- the table of a header's columns that the entries spell, or the first refusal
+abbrev pub entries_of : Header → List (List (List ℕ)) → Result MarkedTable TableCause
+entries_of h entries = on_ok (rows_from 0 h entries) (table_with h.columns)
+
+-- the first of the records is this header, and the reader still gives the others
+pub record IsHeaded (records : List (List (List ℕ))) (h : Header) (after : Reader (Bor (List ℕ))) : Type 0 where
+  pub fields : List (List ℕ)
+  pub left : List (List (List ℕ))
+  pub first : records ≡ fields ∷ left
+  pub spells : header_from 0 [] fields ≡ Ok h
+  pub leaves : Leaves after left
+  pub header : IsHeader h.columns

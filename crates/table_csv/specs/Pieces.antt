@@ -4,7 +4,7 @@ use Rattle.std.specs.List.{list_any}
 use Rattle.rdf_values.specs.{table_of}
 use Rattle.table_csv.specs.Csv.{csv_records}
 use Rattle.table_csv.specs.Lines.{is_special}
-use Rattle.table_csv.specs.declared.marked_pieces.MarkedPieces.{MarkedPieces}
+use Rattle.table_csv.specs.declared.pieces.MarkedPieces.{MarkedPieces}
 
 -- the bytes hold one record
 abbrev pub IsHead : List ℕ → Type 0

@@ -3,30 +3,15 @@ ghost use Rattle.std.specs.Prelude.{◌≡◌, ◌≤◌, ◌<◌, [], List, ℕ
 ghost use Rattle.rdf_values.specs.{Answers, AreKept, cells_from, mark_of, row_of};
 ghost use Rattle.rdf_values.specs.Answered.{Refuses};
 ghost use Rattle.rdf_values.specs.tables.TableText.{cell_of};
-ghost use Rattle.rdf_values.specs.declared.tables.cells.Cells.TheVariants as kept;
-ghost use Rattle.rdf_values.specs.declared.tables.value.ColType.TheVariants as k;
 ghost use Rattle.csv.specs.Records.{fields_of};
 ghost use Rattle.table_csv.specs.{AreCellsPushed, IsCellPushed, IsRowPushed, kind_of};
 
 use crate::records::field;
 use crate::refusal::TableRefusal;
 use csv::ByteRecord;
-use rdf_values::{Cells, Column, TableCause, Vects, read_integer};
+use rdf_values::{Cells, Column, TableCause, read_integer};
 
 const MAX_ENTRIES: u32 = 1_000_000;
-
-// Puts the vector of a cell behind the others of its column.
-#[tactic(auto, unfolding(rdf_values::specs::tables::TableText::cell_of))]
-fn push_vector(entry: u32, field: u32, cell: &[u8], vectors: &mut Vects) -> Result<(), TableRefusal>
-    ensures { MatchResult result (λ _. IsCellPushed (cell_of entry field k.Vect cell.now) (kept.Vects vectors.old) (kept.Vects vectors.new))
-        (Refuses TableRefusal.At TableRefusal.Memory (cell_of entry field k.Vect cell.now)) }
-{
-    if vectors.push_text(cell)? {
-        Ok(())
-    } else {
-        Err(TableRefusal::At(TableCause::BadVec { entry, field }))
-    }
-}
 
 // Puts the value of a cell behind the others of its column.
 #[tactic(auto, unfolding(rdf_values::specs::tables::TableText::cell_of))]
@@ -39,7 +24,13 @@ fn push_cell(entry: u32, field: u32, cell: &[u8], column: &mut Cells) -> Result<
             Some(n) => Ok(numbers.push(n)?),
             None => Err(TableRefusal::At(TableCause::BadInt { entry, field })),
         },
-        Cells::Vects(vectors) => push_vector(entry, field, cell, vectors),
+        Cells::Vects(vectors) => {
+            if vectors.push_text(cell)? {
+                Ok(())
+            } else {
+                Err(TableRefusal::At(TableCause::BadVec { entry, field }))
+            }
+        }
     }
 }
 

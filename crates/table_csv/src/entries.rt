@@ -6,12 +6,18 @@ ghost use Rattle.table_csv.specs.{csv_records, entries_of, IsHeaded, Leaves};
 
 use crate::cells::push_row;
 use crate::header::{Heading, read_header};
-use crate::marked_pieces::Marked;
 use crate::records::{next, open};
 use crate::refusal::TableRefusal;
 use csv::{ByteRecord, Reader};
 use rdf_values::{Marks, Table, TableCause, TableParts};
 use std::alloc::Global;
+
+/// A table, and the entries at which its column of marks says that a cluster begins.
+#[derive(Drop)]
+pub struct Marked {
+    pub table: Table,
+    pub marks: Marks,
+}
 
 /// The header that the next record spells.
 pub(crate) fn read_heading(

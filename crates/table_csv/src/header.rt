@@ -1,7 +1,7 @@
 // Columns from a header.
 ghost use Rattle.std.specs.Prelude.{◌≡◌, ◌≤◌, ◌<◌, [], List, ℕ, Ok, IfOk, OnSome, MatchResult, length, position};
 ghost use Rattle.rdf_values.specs.Answered.{Refuses};
-ghost use Rattle.rdf_values.specs.{column_of, has_name, header_from, is_colon, is_cut, next_column, type_of};
+ghost use Rattle.rdf_values.specs.{has_name, header_from, is_colon, is_cut, next_column, type_of};
 ghost use Rattle.csv.specs.Records.{fields_of};
 
 use crate::records::field;
@@ -41,25 +41,8 @@ fn find_colon(field: &[u8]) -> Option<usize>
     field.iter().position(|b| *b == b':')
 }
 
-// The column of a header's field, if it is one.
-#[tactic(auto, unfolding(rdf_values::specs::tables::TableText::column_of))]
-fn read_column(alloc: Global, field: &[u8]) -> Result<Option<Column>, Memory>
-    ensures { IfOk result (λ column. column ≡ column_of field.now) }
-{
-    let Some(colon) = find_colon(field) else {
-        return Ok(None);
-    };
-    let Some(kind) = type_of(&field[colon + 1..]) else {
-        return Ok(None);
-    };
-    match Name::read(alloc, &field[..colon])? {
-        Some(name) => Ok(Some(Column { name, kind })),
-        None => Ok(None),
-    }
-}
-
-// The same, where it may stand behind these columns.
-#[tactic(auto, unfolding(rdf_values::specs::tables::TableText::next_column))]
+// The column of a header's field, if it is one that may stand behind these.
+#[tactic(auto, unfolding(rdf_values::specs::tables::TableText::next_column, rdf_values::specs::tables::TableText::column_of))]
 fn next_column(alloc: Global, before: &[Column], field: &[u8]) -> Result<Option<Column>, Memory>
     ensures value { IfOk result (λ column. column ≡ next_column before.now field.now) }
     ensures room { IfOk result (λ column. OnSome column (length before.now < 64)) }
@@ -67,13 +50,17 @@ fn next_column(alloc: Global, before: &[Column], field: &[u8]) -> Result<Option<
     if before.len() >= MAX_COLUMNS {
         return Ok(None);
     }
-    let Some(column) = read_column(alloc, field)? else {
+    let Some(colon) = find_colon(field) else {
         return Ok(None);
     };
-    if has_name(before, column.name.bytes()) {
+    let Some(kind) = type_of(&field[colon + 1..]) else {
         return Ok(None);
+    };
+    match Name::read(alloc, &field[..colon])? {
+        Some(name) if has_name(before, name.bytes()) => Ok(None),
+        Some(name) => Ok(Some(Column { name, kind })),
+        None => Ok(None),
     }
-    Ok(Some(column))
 }
 
 // Whether the field, the last of a header, says that its cells are marks.

@@ -4,18 +4,13 @@
 mod cells;
 mod entries;
 mod header;
-mod lines;
-mod marked_pieces;
-mod packed;
-mod parts;
 mod pieces;
 mod records;
 mod refusal;
 mod slots;
 mod texts;
 
-pub use crate::entries::read_table;
-pub use crate::marked_pieces::{Marked, MarkedPieces};
-pub use crate::packed::read_columns;
+pub use crate::entries::{Marked, read_table};
+pub use crate::pieces::MarkedPieces;
 pub use crate::refusal::TableRefusal;
-pub use crate::slots::read_table_in_slots;
+pub use crate::slots::{read_columns, read_table_in_slots};

@@ -1,18 +1,44 @@
 // Pieces of a table: a header line, and some of the lines behind it.
 ghost use Rattle.std.specs.Prelude.{◌≡◌, ◌≤◌, ◌+◌, ◌<◌, ◌++◌, true, All, IfOk, IfSome, OnOk, length};
-ghost use Rattle.table_csv.specs.{IsHead, IsPiece, marks_behind};
+ghost use Rattle.table_csv.specs.{columns_over, IsHead, IsPiece, marks_behind};
 ghost use Rattle.columns.specs.{table_joined};
 
-use crate::entries::{read_entries, read_heading};
-use crate::lines::has_special;
-use crate::marked_pieces::{Marked, MarkedPieces};
+use crate::entries::{Marked, read_entries, read_heading};
 use crate::records::{next, open};
-use columns::TablePieces;
+use crate::texts::has_special;
+use columns::{Columns, TablePieces, cut};
 use csv::ByteRecord;
 use rdf_values::{Marks, Memory};
 use std::alloc::Global;
+use std::thread::Threads;
 
 const MAX_ENTRIES: u32 = 1_000_000;
+
+/// A table in pieces, and the entries at which its column of marks says that a cluster begins.
+#[derive(Drop)]
+pub struct MarkedPieces {
+    pub table: TablePieces,
+    pub marks: Marks,
+}
+
+impl MarkedPieces {
+    /// The table's columns over clusters of at most that size, packed by so many slots side by side. The pieces of a column go
+    /// as soon as it is packed.
+    pub fn into_columns<R: Threads + Sync>(
+        self,
+        rt: &R,
+        alloc: Global,
+        size: u32,
+        slots: u32,
+    ) -> Result<Columns, Memory>
+        requires within { All (λ e. e < length self.table.rows) self.marks }
+        requires size { 1 ≤ size }
+        ensures { IfOk result (λ columns. columns ≡ columns_over (record { table = self.table; marks = self.marks }) size) }
+    {
+        let cuts = cut(alloc, self.table.entries(), size, &self.marks)?;
+        Columns::build_in_slots(rt, alloc, self.table, cuts, slots)
+    }
+}
 
 /// Whether the bytes hold one record.
 pub(crate) fn is_head(alloc: Global, bytes: &[u8]) -> Result<bool, Memory>

@@ -1,19 +1,17 @@
-// Tables that several threads read.
-ghost use Rattle.std.specs.Prelude.{◌≡◌, ◌<◌, ◌++◌, All, IfOk, IfSome, MatchResult, Ok, length};
+// Tables that several threads read and pack.
+ghost use Rattle.std.specs.Prelude.{◌≡◌, ◌≤◌, ◌<◌, ◌++◌, All, IfOk, IfSome, MatchResult, Ok, length};
 ghost use Rattle.std.specs.Thread.{IsSync};
 ghost use Rattle.rdf_values.specs.Answered.{Refuses};
 ghost use Rattle.rdf_values.specs.{table_of};
 ghost use Rattle.columns.specs.{joined};
-ghost use Rattle.table_csv.specs.{csv_records, EndsLine, IsCut, IsHead, IsPiece};
+ghost use Rattle.table_csv.specs.{columns_over, csv_records, EndsLine, IsCut, IsHead, IsPiece, marked_in};
 
 use crate::entries::read_table;
-use crate::lines::{cut_lines, has_quote};
-use crate::marked_pieces::MarkedPieces;
-use crate::parts::Parts;
-use crate::pieces::{append_pieces, in_one_piece, is_head, read_piece};
+use crate::pieces::{MarkedPieces, append_pieces, in_one_piece, is_head, read_piece};
 use crate::refusal::TableRefusal;
-use crate::texts::{Text, Texts, halved, together};
-use columns::halves;
+use crate::texts::{Parts, Text, Texts, cut_lines, halved, has_quote, together, whole_lines};
+use columns::{Columns, halves};
+use rdf_values::Bytes;
 use std::alloc::Global;
 use std::thread::{Threads, join};
 
@@ -90,20 +88,6 @@ fn read_behind<R: Threads + Sync>(
     read_pieces(rt, alloc, head, texts.lines, texts.last, slots)
 }
 
-/// The table of the bytes, where it can be read in pieces.
-pub(crate) fn read_side_by_side<R: Threads + Sync>(
-    rt: &R,
-    alloc: Global,
-    bytes: &[u8],
-    slots: u32,
-) -> Option<MarkedPieces>
-    ensures value { IfSome result (λ m. table_of (csv_records bytes.now) ≡ Ok (record { table = m.table; marks = m.marks })) }
-    ensures within { IfSome result (λ m. All (λ e. e < length m.table.rows) m.marks) }
-{
-    let (head, last) = cut_lines(bytes, 0);
-    read_behind(rt, alloc, head, Texts { lines: &[], last }, slots)
-}
-
 /// The table that CSV bytes spell, with its marks, as `read_table` gives it, but kept in the pieces in which it is read:
 /// as many as there are slots, side by side where threads can be made. Bytes that can't be cut, and those that spell no
 /// table, are read whole.
@@ -119,29 +103,12 @@ pub fn read_table_in_slots<R: Threads + Sync>(
 {
     let pieces = (bytes.len() / LEAST_PIECE).min(slots as usize) as u32;
     if pieces > 1 {
-        if let Some(marked) = read_side_by_side(rt, alloc, bytes, pieces) {
+        let (head, last) = cut_lines(bytes, 0);
+        if let Some(marked) = read_behind(rt, alloc, head, Texts { lines: &[], last }, pieces) {
             return Ok(marked);
         }
     }
     Ok(in_one_piece(alloc, read_table(alloc, bytes)?)?)
-}
-
-/// The table of the texts, where the first is the first line alone and the others can be read in pieces.
-pub(crate) fn read_texts_side_by_side<R: Threads + Sync>(
-    rt: &R,
-    alloc: Global,
-    texts: Texts<'_>,
-    slots: u32,
-) -> Option<MarkedPieces>
-    requires { All EndsLine texts.lines.now }
-    ensures value { IfSome result (λ m. table_of (csv_records (joined texts.entry.lines.now ++ texts.entry.last.now)) ≡ Ok (record { table = m.table; marks = m.marks })) }
-    ensures within { IfSome result (λ m. All (λ e. e < length m.table.rows) m.marks) }
-{
-    let Some((head, lines)) = texts.lines.split_first() else {
-        return None;
-    };
-    let last = texts.last;
-    read_behind(rt, alloc, head.as_slice(), Texts { lines, last }, slots)
 }
 
 /// The table that the parts spell, kept in the pieces in which it is read. Where it can't be read in pieces, the parts are
@@ -157,10 +124,67 @@ pub(crate) fn read_parts<R: Threads + Sync>(
         (Refuses TableRefusal.At TableRefusal.Memory (table_of (csv_records (joined parts.now.lines.items ++ parts.now.last)))) }
     ensures within { IfOk result (λ m. All (λ e. e < length m.table.rows) m.marks) }
 {
-    let texts = parts.texts();
-    if let Some(marked) = read_texts_side_by_side(rt, alloc, texts, slots) {
-        return Ok(marked);
+    let texts = Texts {
+        lines: parts.lines.as_slice(),
+        last: parts.last.as_slice(),
+    };
+    if let Some((head, lines)) = texts.lines.split_first() {
+        let last = texts.last;
+        let behind = Texts { lines, last };
+        if let Some(marked) = read_behind(rt, alloc, head.as_slice(), behind, slots) {
+            return Ok(marked);
+        }
     }
     let whole = together(alloc, texts)?;
     Ok(in_one_piece(alloc, read_table(alloc, whole.as_slice())?)?)
+}
+
+// Gives texts' bytes back, by at most so many threads.
+fn give_back<R: Threads + Sync>(rt: &R, mut texts: Vec<Text>, slots: u32) {
+    if slots < 2 {
+        return;
+    }
+    let Some(last) = texts.pop() else {
+        return;
+    };
+    let others = slots - 1;
+    join(
+        rt,
+        move ||
+            requires { IsSync R.row }
+        { give_back(rt, texts, others) },
+        move || drop(last),
+    );
+}
+
+/// The columns of the table that CSV bytes spell, given in parts that are cut anywhere. The table is cut at its marks into
+/// clusters of at most that size: one part is read as `read_table_in_slots` reads it, several are read side by side,
+/// and the columns are packed by so many slots.
+pub fn read_columns<R: Threads + Sync>(
+    rt: &R,
+    alloc: Global,
+    mut parts: Vec<Bytes>,
+    size: u32,
+    slots: u32,
+) -> Result<Columns, TableRefusal>
+    requires size { 1 ≤ size }
+    ensures value { MatchResult result (λ columns. table_of (csv_records (joined parts.items)) ≡ Ok (marked_in columns))
+        (Refuses TableRefusal.At TableRefusal.Memory (table_of (csv_records (joined parts.items)))) }
+    ensures over { IfOk result (λ columns. columns ≡ columns_over (marked_in columns) size) }
+    ensures within { IfOk result (λ columns. All (λ e. e < length columns.table.rows) columns.cuts.marks) }
+{
+    if parts.len() > 1 {
+        let parts = whole_lines(alloc, parts)?;
+        let marked = read_parts(rt, alloc, &parts, slots)?;
+        give_back(rt, parts.lines, slots);
+        drop(parts.last);
+        return Ok(marked.into_columns(rt, alloc, size, slots)?);
+    }
+    let bytes = match parts.pop() {
+        Some(bytes) => bytes,
+        None => Bytes::new(alloc),
+    };
+    let marked = read_table_in_slots(rt, alloc, bytes.as_slice(), slots)?;
+    drop(bytes);
+    Ok(marked.into_columns(rt, alloc, size, slots)?)
 }

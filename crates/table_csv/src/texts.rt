@@ -1,12 +1,48 @@
-// A table's bytes in several texts, of which each but the last ends where a line does.
-ghost use Rattle.std.specs.Prelude.{◌≡◌, ◌≤◌, ◌++◌, All, IfOk, OnOk, drop, length};
+// A table's bytes in several texts, of which each but the last ends where a line does, and in parts, cut anywhere.
+ghost use Rattle.std.specs.List.{list_any};
+ghost use Rattle.std.specs.Prelude.{◌≡◌, ◌≤◌, ◌++◌, All, IfOk, OnOk, drop, length, position};
 ghost use Rattle.columns.specs.{joined};
-ghost use Rattle.table_csv.specs.Lines.{EndsLine, IsCut};
+ghost use Rattle.table_csv.specs.Lines.{EndsLine, is_line_end, is_quote, is_special, IsCut};
 
-use crate::lines::cut_lines;
+use memchr::{memchr, memchr2};
 use rdf_values::{Bytes, Memory};
 use std::alloc::Global;
 use std::marker::Model;
+
+/// Whether a double quote stands in the bytes.
+#[tactic(auto, using(crate::proofs::CutLines::found_any))]
+pub(crate) fn has_quote(bytes: &[u8]) -> bool
+    ensures { result ≡ list_any is_quote bytes.now }
+{
+    memchr(b'"', bytes).is_some()
+}
+
+/// Whether a double quote stands in the bytes, or the byte with which a byte order mark begins.
+#[tactic(auto, using(crate::proofs::CutLines::found_any))]
+pub(crate) fn has_special(bytes: &[u8]) -> bool
+    ensures { result ≡ list_any is_special bytes.now }
+{
+    memchr2(b'"', 0xEF, bytes).is_some()
+}
+
+fn find_line_end(bytes: &[u8]) -> Option<usize>
+    ensures { result ≡ position is_line_end bytes.now }
+{
+    bytes.iter().position(|b| *b == b'\n')
+}
+
+/// The bytes up to the first line's end from a place on, and those behind it.
+#[tactic(auto, using(crate::proofs::CutLines::lines_to, rdf_values::proofs::Fronts::rest_of))]
+pub(crate) fn cut_lines(bytes: &[u8], from: usize) -> (&[u8], &[u8])
+    requires { from ≤ length bytes.now }
+    ensures whole { result.0.now ++ result.1.now ≡ bytes.now }
+    ensures cut { IsCut result.0.now result.1.now }
+{
+    match find_line_end(&bytes[from..]) {
+        Some(i) => bytes.split_at(from + i + 1),
+        None => bytes.split_at(bytes.len()),
+    }
+}
 
 /// The bytes from a place on.
 #[derive(Drop)]
@@ -104,4 +140,31 @@ pub(crate) fn halved(texts: Texts<'_>, some: u32, all: u32) -> (Texts<'_>, Texts
         last: texts.last,
     };
     (front, back)
+}
+
+/// Parts that end where a line does, and the part behind them.
+#[derive(Drop)]
+pub(crate) struct Parts {
+    pub(crate) lines: Vec<Text>,
+    pub(crate) last: Text,
+}
+
+/// The parts, each with what was missing of its last line: that stands at the beginning of the next part. The first of
+/// them is the first line alone.
+pub(crate) fn whole_lines(alloc: Global, parts: Vec<Bytes>) -> Result<Parts, Memory>
+    ensures whole { IfOk result (λ p. joined p.lines.items ++ p.last ≡ joined parts.items) }
+    ensures lines { IfOk result (λ p. All EndsLine p.lines.items) }
+{
+    let mut lines = Vec::new(alloc);
+    let mut last = Text::new(Bytes::new(alloc), 0);
+    for part in parts {
+        let (beginning, rest) = cut_lines(part.as_slice(), 0);
+        last.extend(beginning)?;
+        if !rest.is_empty() {
+            let from = beginning.len();
+            lines.push(last)?;
+            last = Text::new(part, from);
+        }
+    }
+    Ok(Parts { lines, last })
 }

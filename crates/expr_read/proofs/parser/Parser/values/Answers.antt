@@ -1,7 +1,5 @@
-use Rattle.std.proofs.Common.{◌∙◌, List, [], ◌∷◌, ◌++◌, sym, subst, ap, arith}
+use Rattle.std.proofs.Common.{arith}
 use Rattle.std.proofs.lemmas.Grind.{common_steps}
-use Rattle.rdf_values.specs.{Mark, NamedTree, Placed, Punct}
-use Rattle.expr_read.specs.{BeginsNot}
 use Rattle.expr_read.proofs.Took.{vector_first, item_first, took_vector, took_lists, took_list}
 use Rattle.expr_read.proofs.parser.Parser.values.Goals as goal
 

@@ -1,7 +1,7 @@
 use Rattle.std.proofs.Common.{None, ap, slice_index_or}
 use Rattle.graph_numbers.specs.{Pass}
 use Rattle.result_text.proofs.PassLines.{is_pass_at, pass_there, result_within}
-use Rattle.result_text.proofs.faults.fault_line.Goals as goal
+use Rattle.result_text.proofs.labels.fault_line.Goals as goal
 
 pub result_name-name-requires : goal.result_name-name-requires
 result_name-name-requires c =

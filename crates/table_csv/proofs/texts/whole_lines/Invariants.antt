@@ -1,7 +1,7 @@
 use Rattle.std.proofs.Common.{◌≡◌, ◌++◌, All}
 use Rattle.columns.specs.{joined}
 use Rattle.table_csv.specs.{EndsLine}
-use Rattle.table_csv.proofs.parts.whole_lines.Given as goal
+use Rattle.table_csv.proofs.texts.whole_lines.Given as goal
 
 abbrev pub invariant-loop-part : goal.invariant-loop-part
 invariant-loop-part l = record {

@@ -4,7 +4,7 @@ use Rattle.rdf_model.specs.{flow_line}
 use Rattle.result_text.specs.{flow_at}
 use Rattle.result_text.proofs.CellNames.{put_last}
 use Rattle.result_text.proofs.PassLines.{report_lines}
-use Rattle.result_text.proofs.reports.put_report.Goals as goal
+use Rattle.result_text.proofs.results.put_report.Goals as goal
 
 pub returns : goal.returns
 returns c =

@@ -1,7 +1,7 @@
 use Rattle.std.proofs.Common.{◌≡◌, ◌++◌, drop, flat_map}
 use Rattle.rdf_model.specs.{flow_line}
 use Rattle.result_text.specs.{flow_at}
-use Rattle.result_text.proofs.reports.put_report.Given as goal
+use Rattle.result_text.proofs.results.put_report.Given as goal
 
 abbrev pub invariant-loop-f : goal.invariant-loop-f
 invariant-loop-f l =

@@ -1,4 +1,4 @@
-use Rattle.table_csv.proofs.packed.+fn-give_back-join+arg2+give_back.Given as goal
+use Rattle.table_csv.proofs.slots.+fn-give_back-join+arg2+give_back.Given as goal
 
 abbrev pub decreases-join+arg2 : goal.decreases-join+arg2
 decreases-join+arg2 g l = l.others

@@ -2,7 +2,7 @@ use Rattle.std.proofs.Common.{◌++◌, drop, sym, ap, ◌∙◌, append_assoc, 
 use Rattle.lemmas.proofs.{none_left}
 use Rattle.result_text.specs.{more_taken}
 use Rattle.result_text.proofs.CellNames.{put_last, taken_front, taken_next}
-use Rattle.result_text.proofs.taken.put_taken.Goals as goal
+use Rattle.result_text.proofs.values.put_taken.Goals as goal
 
 pub loop-i-preserved : goal.loop-i-preserved
 loop-i-preserved c = record {

@@ -1,6 +1,6 @@
 use Rattle.std.proofs.Common.{◌≡◌, ◌≤◌, ◌++◌, drop}
 use Rattle.result_text.specs.{more_taken}
-use Rattle.result_text.proofs.taken.put_taken.Given as goal
+use Rattle.result_text.proofs.values.put_taken.Given as goal
 
 abbrev pub invariant-loop-i : goal.invariant-loop-i
 invariant-loop-i l = record {
