@@ -11,7 +11,7 @@ pub at-answer-requires-clause-fit : goal.at-answer-requires-clause-fit
 at-answer-requires-clause-fit g c = (c.requires.fit _ (is_in_at c.args.places.now c.loop-i.i 0 (omega arith))).1
 
 pub turn-requires-clause-inside : goal.turn-requires-clause-inside
-turn-requires-clause-inside g c = let h = c.requires.inside _ (is_in_at c.args.places.now c.loop-i.i 0 (omega arith)) in omega (arith, h, c.loop-i.invariant.0.long)
+turn-requires-clause-inside g c = let h = c.requires.inside _ (is_in_at c.args.places.now c.loop-i.i 0 (omega arith)) in omega (arith, h, c.loop-i.invariant.0.written.long)
 
 pub turn-requires-clause-marks : goal.turn-requires-clause-marks
 turn-requires-clause-marks g c = let h = c.requires.marks _ (is_in_at c.args.places.now c.loop-i.i 0 (omega arith)) in omega (arith, h, c.loop-i.invariant.0.many)
