@@ -6,6 +6,9 @@ use Rattle.rdf_values.specs.results.Fold.{Count, Sum}
 use Rattle.histograms.specs.{HasFilled, HasFilled2}
 use Rattle.histograms.specs.OneAxis as one
 use Rattle.histograms.specs.TwoAxes as two
+use Rattle.actions.specs.declared.folding.Summed.{Summed}
+use Rattle.actions.specs.declared.folding.Least.{Least}
+use Rattle.actions.specs.declared.folding.Greatest.{Greatest}
 use Rattle.actions.specs.declared.taken.TakenValue.{TakenValue}
 use Rattle.actions.specs.declared.state.State.{State}
 use Rattle.actions.specs.{better_of, better_of_two, by_cluster, Fed, fed_value, Holds, in_file_order}
@@ -23,10 +26,10 @@ module _ (a b : List Fed) where
     kept = refl;
   }
 
-  pub merge_sum : (c d : List ℕ) (x y z : ℤ) → z ≡ x +ℤ y → Holds (State.Sum c x) a → Holds (State.Sum d y) b → Holds (State.Sum c z) (a ++ b)
+  pub merge_sum : (c d : List ℕ) (x y : Summed) (z : ℤ) → z ≡ x.sum +ℤ y.sum → Holds (State.Sum c x) a → Holds (State.Sum d y) b → Holds (State.Sum c (record { sum = z })) (a ++ b)
   merge_sum c d x y z e h k = record {
-    made = ap Sum (e ∙ ap (λ s. s +ℤ y) (let was : x ≡ integer_sum (numbers_of (in_file_order a)) = cc h.made in was)
-        ∙ ap (λ s. integer_sum (numbers_of (in_file_order a)) +ℤ s) (let was : y ≡ integer_sum (numbers_of (in_file_order b)) = cc k.made in was) ∙ sym (sum_both number_of a b));
+    made = ap Sum (e ∙ ap (λ s. s +ℤ y.sum) (let was : x.sum ≡ integer_sum (numbers_of (in_file_order a)) = cc h.made in was)
+        ∙ ap (λ s. integer_sum (numbers_of (in_file_order a)) +ℤ s) (let was : y.sum ≡ integer_sum (numbers_of (in_file_order b)) = cc k.made in was) ∙ sym (sum_both number_of a b));
     kept = refl;
   }
 
@@ -38,19 +41,15 @@ module _ (a b : List Fed) where
       extreme_fold better (numbers_of (in_file_order (a ++ b))) ∙ both_same (better_of better) (option_swap better swap comm) number_of a b None ∙ extreme_from better swap comm (fold (better_of better) None xs) ys
       ∙ ap (λ o. better_of_two better o (extreme better ys)) (sym (extreme_fold better xs))
 
-  pub merge_min : (c d : List ℕ) (x y z : Option ℤ) → z ≡ better_of_two int_min x y → Holds (State.Min c x) a → Holds (State.Min d y) b → Holds (State.Min c z) (a ++ b)
-  merge_min c d x y z e h k = record {
-    made = ap Extreme (e ∙ ap (λ o. better_of_two int_min o y) (let was : x ≡ extreme int_min (numbers_of (in_file_order a)) = cc h.made in was)
-        ∙ ap (better_of_two int_min (extreme int_min (numbers_of (in_file_order a)))) (let was : y ≡ extreme int_min (numbers_of (in_file_order b)) = cc k.made in was) ∙ sym (extreme_both int_min min_swap min_comm));
-    kept = refl;
-  }
+  extremes : (better : ℤ → ℤ → ℤ) → ((s x y : ℤ) → better (better s x) y ≡ better (better s y) x) → ((x y : ℤ) → better x y ≡ better y x) → (x y z : Option ℤ) → z ≡ better_of_two better x y
+      → x ≡ extreme better (numbers_of (in_file_order a)) → y ≡ extreme better (numbers_of (in_file_order b)) → z ≡ extreme better (numbers_of (in_file_order (a ++ b)))
+  extremes better swap comm x y z e p q = e ∙ ap (λ o. better_of_two better o y) p ∙ ap (better_of_two better (extreme better (numbers_of (in_file_order a)))) q ∙ sym (extreme_both better swap comm)
 
-  pub merge_max : (c d : List ℕ) (x y z : Option ℤ) → z ≡ better_of_two int_max x y → Holds (State.Max c x) a → Holds (State.Max d y) b → Holds (State.Max c z) (a ++ b)
-  merge_max c d x y z e h k = record {
-    made = ap Extreme (e ∙ ap (λ o. better_of_two int_max o y) (let was : x ≡ extreme int_max (numbers_of (in_file_order a)) = cc h.made in was)
-        ∙ ap (better_of_two int_max (extreme int_max (numbers_of (in_file_order a)))) (let was : y ≡ extreme int_max (numbers_of (in_file_order b)) = cc k.made in was) ∙ sym (extreme_both int_max max_swap max_comm));
-    kept = refl;
-  }
+  pub merge_min : (c d : List ℕ) (x y : Least) (z : Option ℤ) → z ≡ better_of_two int_min x.best y.best → Holds (State.Min c x) a → Holds (State.Min d y) b → Holds (State.Min c (record { best = z })) (a ++ b)
+  merge_min c d x y z e h k = record { made = ap Extreme (extremes int_min min_swap min_comm x.best y.best z e (cc h.made) (cc k.made)); kept = refl }
+
+  pub merge_max : (c d : List ℕ) (x y : Greatest) (z : Option ℤ) → z ≡ better_of_two int_max x.best y.best → Holds (State.Max c x) a → Holds (State.Max d y) b → Holds (State.Max c (record { best = z })) (a ++ b)
+  merge_max c d x y z e h k = record { made = ap Extreme (extremes int_max max_swap max_comm x.best y.best z e (cc h.made) (cc k.made)); kept = refl }
 
   pub merge_reduce : (c d : List ℕ) (o p : ReduceOp) (x y z : ℤ) → p ≡ o → z ≡ reduce_step o x y → Holds (State.Reduce c (record { op = o; value = x })) a → Holds (State.Reduce d (record { op = p; value = y })) b
       → Holds (State.Reduce c (record { op = o; value = z })) (a ++ b)

@@ -1,7 +1,7 @@
 -- The operations of a Reduce, and extremes, over two lists of items and of numbers.
-use Rattle.std.proofs.Common.{◌≡◌, List, [], ◌∷◌, ℤ, arith, refl, ap, sym, ◌∙◌, Option, Some, None, fold, ℕ, suc, ◌+◌, ◌-◌, ◌<◌, ◌^◌, ◌%◌, ◌++◌, pos, negsuc, w64, FitsSigned, bit_and, bit_or, bit_xor}
+use Rattle.std.proofs.Common.{◌≡◌, List, [], ◌∷◌, ℤ, arith, refl, ap, sym, ◌∙◌, Option, Some, None, fold, ℕ, ◌+◌, ◌-◌, ◌<◌, ◌^◌, ◌%◌, ◌++◌, w64, bit_and, bit_or, bit_xor}
 use Rattle.lemmas.proofs.{clamps, int_max, int_min, ints, and_comm, and_le_l, bit_at_and, bit_at_or, bit_at_xor, cast_signed, cast_unsigned, int_wrapping_add, mod-add-mod, mod-eq_of_lt, of_z-to_z, or_comm, or_lt, same_from_bits, xor_comm, xor_lt}
-use Rattle.rdf_values.specs.{extreme, number_of, numbers_of, on_bits, reduce_start, reduce_step, ReduceOp}
+use Rattle.rdf_values.specs.{extreme, numbers_of, on_bits, reduce_start, reduce_step, ReduceOp}
 use Rattle.actions.specs.{better_of, better_of_two, Fed, in_file_order}
 use Rattle.actions.proofs.Folds.{some_fold, both_same}
 
@@ -88,11 +88,6 @@ step_comm o x y = grind (arith, min_comm, max_comm, and_comm, or_comm, xor_comm)
 
 start_stays : (o : ReduceOp) → reduce_step o (reduce_start o) (reduce_start o) ≡ reduce_start o
 start_stays o = grind arith
-
--- ---- the bits of a number of 64 bits
-
-pub bits_small : (z : ℤ) → FitsSigned w64 z → cast_unsigned w64 z % 2 ^ 64 ≡ cast_unsigned w64 z
-bits_small z h = grind (arith, mod-eq_of_lt)
 
 -- a Reduce of the items of two lists
 pub reduce_both : (o : ReduceOp) (a b : List Fed)

@@ -1,19 +1,23 @@
 -- What an accumulator holds after one more entry.
-use Rattle.std.proofs.Common.{ℕ, ◌≡◌, ◌≤◌, ◌+◌, map, length, All, List, [], ◌∷◌, ◌++◌, ℤ, pos, ◌+ℤ◌, refl, ap, sym, ◌∙◌, length-append, lit≤, flat_map, Option, Result, Ok, Err, OnErr, OnOk, fold}
+use Rattle.std.proofs.Common.{ℕ, ◌≡◌, ◌≤◌, ◌+◌, map, length, All, List, [], ◌∷◌, ◌++◌, ℤ, pos, ◌+ℤ◌, refl, ap, sym, ◌∙◌, length-append, lit≤, flat_map, Option, None, Result, Ok, Err, OnErr, OnOk, fold}
 use Rattle.lemmas.proofs.{int_max, int_min, map-append}
-use Rattle.rdf_values.specs.{ActionKind, Extreme, extreme, Flat, integer_sum, Item, numbers_of, points, points2, reduce_start, reduce_step, Reduced, ReduceOp, Scalar, scalar_of, spread, Square, Taken, Value, weights}
+use Rattle.rdf_values.specs.{ActionKind, Extreme, extreme, Flat, Item, numbers_of, points, points2, reduce_start, reduce_step, Reduced, ReduceOp, Scalar, scalar_of, spread, Square, Taken, Value, weights}
 use Rattle.rdf_values.specs.declared.results.item.Item.TheVariants.{Number, Single}
 use Rattle.rdf_values.specs.results.Fold.{Count, Sum}
 use Rattle.histograms.specs.{flat_cells, HasFilled, HasFilled2, square_cells}
 use Rattle.histograms.specs.OneAxis as one
 use Rattle.histograms.specs.TwoAxes as two
+use Rattle.actions.specs.declared.folding.Summed.{Summed}
+use Rattle.actions.specs.declared.folding.Least.{Least}
+use Rattle.actions.specs.declared.folding.Greatest.{Greatest}
+use Rattle.actions.specs.declared.folding.Reduction.{Reduction}
 use Rattle.actions.specs.declared.taken.TakenValue.{TakenValue}
 use Rattle.actions.specs.declared.state.State.{State}
 use Rattle.actions.specs.declared.items.Part.{Part}
 use Rattle.actions.specs.declared.items.Items.{Items}
 use Rattle.actions.specs.declared.items.Items.TheVariants.{One, Weighted, Pair, WeightedPair}
 use Rattle.actions.specs.{better_of, by_cluster, Fed, fed_value, first_numbers, first_scalar, from_cluster, Holds, in_file_order, part_values, second_part, Suits, values_from, values_of, weight_part}
-use Rattle.actions.proofs.Folds.{extreme_numbers, fold_numbers, taken_singles, by_cluster-feed, in_file_order-feed}
+use Rattle.actions.proofs.Folds.{extreme_fold, fold_numbers, taken_singles, by_cluster-feed, in_file_order-feed}
 
 -- the items of one column
 pub spread_sum : (c : List ℕ) (vs : List Value) → spread (ActionKind.Sum c) vs ≡ map Number (first_numbers vs)
@@ -54,32 +58,28 @@ module _ (fed : List Fed) (cluster : ℕ) (below : All (λ f. f.cluster ≤ clus
     kept = refl;
   }
 
-  pub holds_summed : (c : List ℕ) (z z' : ℤ) (zs : List ℤ) (items : List Item) → z' ≡ fold ◌+ℤ◌ z zs → items ≡ map Number zs → Holds (State.Sum c z) fed → Holds (State.Sum c z') (fed ++ from_cluster cluster items)
-  holds_summed c z z' zs items e is h = record {
-    made = ap Sum (e ∙ ap (λ a. fold ◌+ℤ◌ a zs) (let was : z ≡ integer_sum (numbers_of (in_file_order fed)) = cc h.made in was)
-        ∙ sym (ap (λ l. fold ◌+ℤ◌ (pos 0) (numbers_of l)) (after items (map Number zs) is) ∙ fold_numbers ◌+ℤ◌ (pos 0) (in_file_order fed) zs));
-    kept = refl;
-  }
+  -- a fold of more numbers
+  folded_on : {B : Type 0} (step : B → ℤ → B) (start z z' : B) (zs : List ℤ) (items : List Item) → z' ≡ fold step z zs → items ≡ map Number zs → z ≡ fold step start (numbers_of (in_file_order fed))
+      → z' ≡ fold step start (numbers_of (in_file_order (fed ++ from_cluster cluster items)))
+  folded_on step start z z' zs items e is was =
+      e ∙ ap (λ a. fold step a zs) was ∙ sym (ap (λ l. fold step start (numbers_of l)) (after items (map Number zs) is) ∙ fold_numbers step start (in_file_order fed) zs)
 
-  pub holds_least : (c : List ℕ) (o o' : Option ℤ) (zs : List ℤ) (items : List Item) → o' ≡ fold (better_of int_min) o zs → items ≡ map Number zs → Holds (State.Min c o) fed → Holds (State.Min c o') (fed ++ from_cluster cluster items)
-  holds_least c o o' zs items e is h = record {
-    made = ap Extreme (e ∙ ap (λ a. fold (better_of int_min) a zs) (let was : o ≡ extreme int_min (numbers_of (in_file_order fed)) = cc h.made in was)
-        ∙ sym (ap (λ l. extreme int_min (numbers_of l)) (after items (map Number zs) is) ∙ extreme_numbers int_min (in_file_order fed) zs));
-    kept = refl;
-  }
+  extreme_on : (better : ℤ → ℤ → ℤ) (o o' : Option ℤ) (zs : List ℤ) (items : List Item) → o' ≡ fold (better_of better) o zs → items ≡ map Number zs → o ≡ extreme better (numbers_of (in_file_order fed))
+      → o' ≡ extreme better (numbers_of (in_file_order (fed ++ from_cluster cluster items)))
+  extreme_on better o o' zs items e is was = folded_on (better_of better) None o o' zs items e is (was ∙ extreme_fold better _) ∙ sym (extreme_fold better _)
 
-  pub holds_greatest : (c : List ℕ) (o o' : Option ℤ) (zs : List ℤ) (items : List Item) → o' ≡ fold (better_of int_max) o zs → items ≡ map Number zs → Holds (State.Max c o) fed → Holds (State.Max c o') (fed ++ from_cluster cluster items)
-  holds_greatest c o o' zs items e is h = record {
-    made = ap Extreme (e ∙ ap (λ a. fold (better_of int_max) a zs) (let was : o ≡ extreme int_max (numbers_of (in_file_order fed)) = cc h.made in was)
-        ∙ sym (ap (λ l. extreme int_max (numbers_of l)) (after items (map Number zs) is) ∙ extreme_numbers int_max (in_file_order fed) zs));
-    kept = refl;
-  }
+  pub holds_summed : (c : List ℕ) (z z' : Summed) (zs : List ℤ) (items : List Item) → z'.sum ≡ fold ◌+ℤ◌ z.sum zs → items ≡ map Number zs → Holds (State.Sum c z) fed → Holds (State.Sum c z') (fed ++ from_cluster cluster items)
+  holds_summed c z z' zs items e is h = record { made = ap Sum (folded_on ◌+ℤ◌ (pos 0) z.sum z'.sum zs items e is (cc h.made)); kept = refl }
 
-  pub holds_reduced : (c : List ℕ) (o : ReduceOp) (z z' : ℤ) (zs : List ℤ) (items : List Item) → z' ≡ fold (reduce_step o) z zs → items ≡ map Number zs → Holds (State.Reduce c (record { op = o; value = z })) fed
-      → Holds (State.Reduce c (record { op = o; value = z' })) (fed ++ from_cluster cluster items)
-  holds_reduced c o z z' zs items e is h = record {
-    made = ap Reduced (e ∙ ap (λ a. fold (reduce_step o) a zs) (let was : z ≡ fold (reduce_step o) (reduce_start o) (numbers_of (in_file_order fed)) = cc h.made in was)
-        ∙ sym (ap (λ l. fold (reduce_step o) (reduce_start o) (numbers_of l)) (after items (map Number zs) is) ∙ fold_numbers (reduce_step o) (reduce_start o) (in_file_order fed) zs));
+  pub holds_least : (c : List ℕ) (o o' : Least) (zs : List ℤ) (items : List Item) → o'.best ≡ fold (better_of int_min) o.best zs → items ≡ map Number zs → Holds (State.Min c o) fed → Holds (State.Min c o') (fed ++ from_cluster cluster items)
+  holds_least c o o' zs items e is h = record { made = ap Extreme (extreme_on int_min o.best o'.best zs items e is (cc h.made)); kept = refl }
+
+  pub holds_greatest : (c : List ℕ) (o o' : Greatest) (zs : List ℤ) (items : List Item) → o'.best ≡ fold (better_of int_max) o.best zs → items ≡ map Number zs → Holds (State.Max c o) fed → Holds (State.Max c o') (fed ++ from_cluster cluster items)
+  holds_greatest c o o' zs items e is h = record { made = ap Extreme (extreme_on int_max o.best o'.best zs items e is (cc h.made)); kept = refl }
+
+  pub holds_reduced : (c : List ℕ) (r r' : Reduction) (zs : List ℤ) (items : List Item) → (r'.op ≡ r.op) × (r'.value ≡ fold (reduce_step r.op) r.value zs) → items ≡ map Number zs → Holds (State.Reduce c r) fed → Holds (State.Reduce c r') (fed ++ from_cluster cluster items)
+  holds_reduced c r r' zs items e is h = record {
+    made = ap Reduced (folded_on (reduce_step r.op) (reduce_start r.op) r.value r'.value zs items e.1 is (cc h.made) ∙ ap (λ o. fold (reduce_step o) (reduce_start o) (numbers_of (in_file_order (fed ++ from_cluster cluster items)))) (sym e.0));
     kept = refl;
   }
 

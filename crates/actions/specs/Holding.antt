@@ -21,9 +21,9 @@ kind_of (State.Histo2D h x y w) = ActionKind.Histo2D h.x_edges h.y_edges x y w
 -- what was made of the items
 abbrev pub made : State → Filled
 made (State.Count n) = Count n
-made (State.Sum c z) = Sum z
-made (State.Min c o) = Extreme o
-made (State.Max c o) = Extreme o
+made (State.Sum c s) = Sum s.sum
+made (State.Min c l) = Extreme l.best
+made (State.Max c g) = Extreme g.best
 made (State.Take c vs) = Taken (map (λ v. v.value) vs)
 made (State.Reduce c r) = Reduced r.value
 made (State.Histo1D h x w) = Flat h.cells
@@ -51,7 +51,7 @@ IsTake k = ⊥
 -- so many entries can have fed it, each with at most 4,096 elements
 abbrev pub IsWithin : ℕ → State → Type 0
 IsWithin n (State.Count m) = m ≤ n
-IsWithin n (State.Sum c z) = nat_abs z ≤ n * 37778931862957161709568
+IsWithin n (State.Sum c s) = nat_abs s.sum ≤ n * 37778931862957161709568
 IsWithin n (State.Take c vs) = length vs ≤ n
 IsWithin n (State.Histo1D h x w) = h.fills ≤ n * 4096
 IsWithin n (State.Histo2D h x y w) = h.fills ≤ n * 4096

@@ -87,8 +87,7 @@ impl Acc {
         }
     }
 
-    /// Takes in the items of the places of a block, of one cluster; clusters don't fall. Values that can't be fed are
-    /// `Batch::first_fault`'s to find before. After `Memory` nothing has changed.
+    /// Takes in the items of the places of a block, of one cluster. Values that can't be fed are `Batch::first_fault`'s to find before.
     pub fn feed_batch(&mut self, cluster: u32, batch: &Batch<'_>) -> Result<(), Memory>
         requires there { EachPlace batch.now.places (HasValues batch.now.sources) }
         requires suits { EachPlace batch.now.places (SuitsAt self.old.kind batch.now.sources) }

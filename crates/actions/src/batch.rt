@@ -124,8 +124,7 @@ impl Batch<'_> {
         }
     }
 
-    /// The first of the places whose values an action can't be fed with, and why: vectors of different lengths, and then a weight
-    /// out of range.
+    /// The first of the places whose values an action can't be fed with, and why.
     #[tactic(auto, using(crate::proofs::Batching::none_found))]
     pub fn first_fault(&self) -> Option<PlaceFault>
         requires few { length (places_of self.now.places) ≤ 1000000 }

@@ -8,7 +8,7 @@ ghost use Rattle.actions.specs.Extremes.{better_of};
 
 use crate::batch::Batch;
 use crate::lane::Lane;
-use crate::numbers::{Reduction, greatest_with, least_with, reduce_with, sum_with};
+use crate::numbers::{greatest, least, reduce};
 use crate::places::Places;
 use histograms::Hist1;
 use rdf_values::ReduceOp;
@@ -31,20 +31,27 @@ pub(crate) trait Folds {
 
 /// A sum.
 #[derive(Clone, Copy, Debug)]
-pub(crate) struct Summed {
-    pub(crate) sum: i128,
+pub struct Summed {
+    pub sum: i128,
 }
 
 /// The least of some numbers, if there are any.
 #[derive(Clone, Copy, Debug)]
-pub(crate) struct Least {
-    pub(crate) best: Option<i64>,
+pub struct Least {
+    pub best: Option<i64>,
 }
 
 /// The greatest of some numbers, if there are any.
 #[derive(Clone, Copy, Debug)]
-pub(crate) struct Greatest {
-    pub(crate) best: Option<i64>,
+pub struct Greatest {
+    pub best: Option<i64>,
+}
+
+/// An operation, and what it made of the numbers so far.
+#[derive(Clone, Copy, Debug)]
+pub struct Reduction {
+    pub op: ReduceOp,
+    pub value: i64,
 }
 
 impl Folds for Summed {
@@ -53,7 +60,11 @@ impl Folds for Summed {
     ghost size = { λ a. nat_abs a.sum };
 
     fn take_in(&mut self, numbers: &[i64]) {
-        self.sum = sum_with(self.sum, numbers);
+        let mut sum = self.sum;
+        for number in numbers {
+            sum += *number as i128;
+        }
+        self.sum = sum;
     }
 }
 
@@ -63,7 +74,11 @@ impl Folds for Least {
     ghost size = { λ a. 0 };
 
     fn take_in(&mut self, numbers: &[i64]) {
-        self.best = least_with(self.best, numbers);
+        let mut best = self.best;
+        for number in numbers {
+            best = Some(least(best, *number));
+        }
+        self.best = best;
     }
 }
 
@@ -73,7 +88,11 @@ impl Folds for Greatest {
     ghost size = { λ a. 0 };
 
     fn take_in(&mut self, numbers: &[i64]) {
-        self.best = greatest_with(self.best, numbers);
+        let mut best = self.best;
+        for number in numbers {
+            best = Some(greatest(best, *number));
+        }
+        self.best = best;
     }
 }
 
@@ -85,7 +104,11 @@ impl Folds for Reduction {
     ghost size = { λ a. 0 };
 
     fn take_in(&mut self, numbers: &[i64]) {
-        self.value = reduce_with(self.op, self.value, numbers);
+        let Reduction { op, mut value } = *self;
+        for number in numbers {
+            value = reduce(op, value, *number);
+        }
+        self.value = value;
     }
 }
 
@@ -151,54 +174,4 @@ pub(crate) fn fold_batch<F: Folds>(folder: &mut F, batch: &Batch<'_>)
     if let Some(lane) = batch.sources.first() {
         fold_lane(folder, &lane, &batch.places);
     }
-}
-
-/// The sum with the numbers of a batch.
-pub(crate) fn sum_batch(sum: i128, batch: &Batch<'_>) -> i128
-    requires few { length (places_of batch.now.places) ≤ 1000000 }
-    requires there { EachPlace batch.now.places (HasValues batch.now.sources) }
-    requires short { EachPlace batch.now.places (λ p. length (first_numbers (values_at batch.now.sources p)) ≤ 4096) }
-    requires room { nat_abs sum ≤ (1000000 - length (places_of batch.now.places)) * 2 ^ 75 }
-    ensures value { result ≡ fold ◌+ℤ◌ sum (first_numbers_in batch.now) }
-    ensures bounded { nat_abs result ≤ nat_abs sum + length (places_of batch.now.places) * 2 ^ 75 }
-{
-    let mut summed = Summed { sum };
-    fold_batch(&mut summed, batch);
-    summed.sum
-}
-
-/// The least of a number, if there is one, and the numbers of a batch.
-pub(crate) fn least_batch(best: Option<i64>, batch: &Batch<'_>) -> Option<i64>
-    requires few { length (places_of batch.now.places) ≤ 1000000 }
-    requires there { EachPlace batch.now.places (HasValues batch.now.sources) }
-    requires short { EachPlace batch.now.places (λ p. length (first_numbers (values_at batch.now.sources p)) ≤ 4096) }
-    ensures { result ≡ fold (better_of int_min) best (first_numbers_in batch.now) }
-{
-    let mut least = Least { best };
-    fold_batch(&mut least, batch);
-    least.best
-}
-
-/// The greatest of a number, if there is one, and the numbers of a batch.
-pub(crate) fn greatest_batch(best: Option<i64>, batch: &Batch<'_>) -> Option<i64>
-    requires few { length (places_of batch.now.places) ≤ 1000000 }
-    requires there { EachPlace batch.now.places (HasValues batch.now.sources) }
-    requires short { EachPlace batch.now.places (λ p. length (first_numbers (values_at batch.now.sources p)) ≤ 4096) }
-    ensures { result ≡ fold (better_of int_max) best (first_numbers_in batch.now) }
-{
-    let mut greatest = Greatest { best };
-    fold_batch(&mut greatest, batch);
-    greatest.best
-}
-
-/// The operation over the numbers of a batch, from left to right.
-pub(crate) fn reduce_batch(op: ReduceOp, value: i64, batch: &Batch<'_>) -> i64
-    requires few { length (places_of batch.now.places) ≤ 1000000 }
-    requires there { EachPlace batch.now.places (HasValues batch.now.sources) }
-    requires short { EachPlace batch.now.places (λ p. length (first_numbers (values_at batch.now.sources p)) ≤ 4096) }
-    ensures { result ≡ fold (reduce_step op) value (first_numbers_in batch.now) }
-{
-    let mut reduction = Reduction { op, value };
-    fold_batch(&mut reduction, batch);
-    reduction.value
 }

@@ -1,30 +1,10 @@
 // Folds of numbers.
-ghost use Rattle.std.specs.Prelude.{◌≡◌, ◌+◌, ◌*◌, ◌≤◌, ◌<◌, ◌^◌, ◌+ℤ◌, nat_abs, All, FitsSigned, length, fold};
-ghost use Rattle.std.specs.Int.{int_max, int_min, w64};
+ghost use Rattle.std.specs.Prelude.{◌≡◌, Some};
+ghost use Rattle.std.specs.Int.{int_max, int_min};
 ghost use Rattle.rdf_values.specs.{reduce_start, reduce_step};
 ghost use Rattle.actions.specs.{better_of, better_of_two};
 
 use rdf_values::ReduceOp;
-
-/// An operation, and what it made of the numbers so far.
-#[derive(Clone, Copy, Debug)]
-pub struct Reduction {
-    pub op: ReduceOp,
-    pub value: i64,
-}
-
-/// The sum with more numbers.
-pub fn sum_with(sum: i128, numbers: &[i64]) -> i128
-    requires { nat_abs sum + length numbers.now * 2 ^ 63 < 2 ^ 127 }
-    ensures value { result ≡ fold ◌+ℤ◌ sum numbers.now }
-    ensures bounded { nat_abs result ≤ nat_abs sum + length numbers.now * 2 ^ 63 }
-{
-    let mut sum = sum;
-    for number in numbers {
-        sum += *number as i128;
-    }
-    sum
-}
 
 /// The lesser one, if there are any.
 pub fn least(a: Option<i64>, b: i64) -> i64
@@ -44,28 +24,6 @@ pub fn greatest(a: Option<i64>, b: i64) -> i64
         Some(a) => a.max(b),
         None => b,
     }
-}
-
-/// The least of a number, if there is one, and more numbers.
-pub fn least_with(best: Option<i64>, numbers: &[i64]) -> Option<i64>
-    ensures { result ≡ fold (better_of int_min) best numbers.now }
-{
-    let mut best = best;
-    for number in numbers {
-        best = Some(least(best, *number));
-    }
-    best
-}
-
-/// The greatest of a number, if there is one, and more numbers.
-pub fn greatest_with(best: Option<i64>, numbers: &[i64]) -> Option<i64>
-    ensures { result ≡ fold (better_of int_max) best numbers.now }
-{
-    let mut best = best;
-    for number in numbers {
-        best = Some(greatest(best, *number));
-    }
-    best
 }
 
 /// The lesser of two numbers that may both be missing.
@@ -112,15 +70,4 @@ pub fn reduce(op: ReduceOp, a: i64, b: i64) -> i64
         ReduceOp::Xor => a ^ b,
         ReduceOp::WrapAdd => a.wrapping_add(b),
     }
-}
-
-/// The operation over more numbers, from left to right.
-pub fn reduce_with(op: ReduceOp, value: i64, numbers: &[i64]) -> i64
-    ensures { result ≡ fold (reduce_step op) value numbers.now }
-{
-    let mut value = value;
-    for number in numbers {
-        value = reduce(op, value, *number);
-    }
-    value
 }

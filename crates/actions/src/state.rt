@@ -7,13 +7,10 @@ use crate::filled::Filled;
 use crate::fills::{
     fill_number_pairs, fill_pairs, fill_points, fill_weighted, fill_weighted_pairs,
 };
-use crate::folding::{fold_lane, greatest_batch, least_batch, reduce_batch, sum_batch};
+use crate::folding::{Folds, Greatest, Least, Reduction, Summed, fold_batch, fold_lane};
 use crate::items::Items;
 use crate::lane::Lane;
-use crate::numbers::{
-    Reduction, greatest_of, greatest_with, least_of, least_with, reduce, reduce_with, start,
-    sum_with,
-};
+use crate::numbers::{greatest_of, least_of, reduce, start};
 use crate::taken::{Taken, TakenValue, gathered, merged};
 use histograms::{EdgeRefusal, Edges, Hist1, Hist2};
 use rdf_values::{ActionKind, IntList, ListOf, Memory, Name};
@@ -25,15 +22,15 @@ pub enum State {
     Count(u64),
     Sum {
         column: Name,
-        sum: i128,
+        sum: Summed,
     },
     Min {
         column: Name,
-        least: Option<i64>,
+        least: Least,
     },
     Max {
         column: Name,
-        greatest: Option<i64>,
+        greatest: Greatest,
     },
     /// The values by cluster, those of one cluster in the order of feeding.
     Take {
@@ -93,15 +90,15 @@ impl State {
             ActionKind::Count => Ok(State::Count(0)),
             ActionKind::Sum(column) => Ok(State::Sum {
                 column: column.copy(alloc)?,
-                sum: 0,
+                sum: Summed { sum: 0 },
             }),
             ActionKind::Min(column) => Ok(State::Min {
                 column: column.copy(alloc)?,
-                least: None,
+                least: Least { best: None },
             }),
             ActionKind::Max(column) => Ok(State::Max {
                 column: column.copy(alloc)?,
-                greatest: None,
+                greatest: Greatest { best: None },
             }),
             ActionKind::Take(column) => Ok(State::Take {
                 column: column.copy(alloc)?,
@@ -151,15 +148,15 @@ impl State {
                 Ok(())
             }
             State::Sum { sum, .. } => {
-                *sum = sum_with(*sum, items.first());
+                sum.take_in(items.first());
                 Ok(())
             }
             State::Min { least, .. } => {
-                *least = least_with(*least, items.first());
+                least.take_in(items.first());
                 Ok(())
             }
             State::Max { greatest, .. } => {
-                *greatest = greatest_with(*greatest, items.first());
+                greatest.take_in(items.first());
                 Ok(())
             }
             State::Take { values, .. } => match items.scalar() {
@@ -167,7 +164,7 @@ impl State {
                 None => Ok(()),
             },
             State::Reduce { reduction, .. } => {
-                reduction.value = reduce_with(reduction.op, reduction.value, items.first());
+                reduction.take_in(items.first());
                 Ok(())
             }
             State::Histo1D { hist, .. } => {
@@ -277,15 +274,15 @@ impl State {
                 Ok(())
             }
             State::Sum { sum, .. } => {
-                *sum = sum_batch(*sum, batch);
+                fold_batch(sum, batch);
                 Ok(())
             }
             State::Min { least, .. } => {
-                *least = least_batch(*least, batch);
+                fold_batch(least, batch);
                 Ok(())
             }
             State::Max { greatest, .. } => {
-                *greatest = greatest_batch(*greatest, batch);
+                fold_batch(greatest, batch);
                 Ok(())
             }
             State::Take { values, .. } => {
@@ -293,7 +290,7 @@ impl State {
                 values.append(&mut more)
             }
             State::Reduce { reduction, .. } => {
-                reduction.value = reduce_batch(reduction.op, reduction.value, batch);
+                fold_batch(reduction, batch);
                 Ok(())
             }
             State::Histo1D { .. } | State::Histo2D { .. } => {
@@ -318,12 +315,12 @@ impl State {
     {
         match (self, other) {
             (State::Count(entries), State::Count(more)) => *entries += *more,
-            (State::Sum { sum, .. }, State::Sum { sum: more, .. }) => *sum += *more,
+            (State::Sum { sum, .. }, State::Sum { sum: more, .. }) => sum.sum += more.sum,
             (State::Min { least, .. }, State::Min { least: more, .. }) => {
-                *least = least_of(*least, *more);
+                least.best = least_of(least.best, more.best);
             }
             (State::Max { greatest, .. }, State::Max { greatest: more, .. }) => {
-                *greatest = greatest_of(*greatest, *more);
+                greatest.best = greatest_of(greatest.best, more.best);
             }
             (State::Take { values, .. }, State::Take { values: more, .. }) => {
                 *values = merged(alloc, values.as_slice(), more.as_slice())?;
@@ -351,9 +348,9 @@ impl State {
     {
         match self {
             State::Count(entries) => Filled::Count(*entries),
-            State::Sum { sum, .. } => Filled::Sum(*sum),
-            State::Min { least, .. } => Filled::Extreme(*least),
-            State::Max { greatest, .. } => Filled::Extreme(*greatest),
+            State::Sum { sum, .. } => Filled::Sum(sum.sum),
+            State::Min { least, .. } => Filled::Extreme(least.best),
+            State::Max { greatest, .. } => Filled::Extreme(greatest.best),
             State::Take { values, .. } => Filled::Taken(Taken::new(values.as_slice())),
             State::Reduce { reduction, .. } => Filled::Number(reduction.value),
             State::Histo1D { hist, .. } => Filled::Flat(hist),

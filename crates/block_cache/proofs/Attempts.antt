@@ -145,8 +145,3 @@ module _
         others = λ p out. spares p (λ x inside at. cc (sym (ap (λ n. is_in n group) at) ∙ (told_at x inside).0, out));
         newly = all_newly w t.at t.evaluated.begun as_was;
       }
-
--- where there were no stops before
-pub first_stops : {V : Type 0} {D : V → Type 0} {g : _} (w : Wanted V D g) {group left : List ℕ} {before new : List LaneView} {old more : List Stopped} → old ≡ [] → IsTriedFor w group left before new old more
-    → IsTriedFor w group left before new [] more
-first_stops w {group = group} {left = left} {before = before} {new = new} {more = more} none t = subst (λ (l : List Stopped). IsTriedFor w group left before new l more) none t

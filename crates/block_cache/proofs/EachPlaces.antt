@@ -59,9 +59,7 @@ times_append t (x ∷ xs) ys = omega (arith, times_append t xs ys)
 
 -- the first so many places were seen to
 pub record AreTurnedTo (k : ColType) (f : ℕ → Outcome ℕ Value) (places : List ℕ) (numbers0 numbers : List ℤ) (vectors0 vectors : List (List ℤ)) (marks0 marks : List Bool) (stops0 stops : List Stopped) (i : ℕ) : Type 0 where
-  pub long : length numbers ≡ length numbers0
-  pub others : (p : ℕ) → is_in p places ≡ false → at_place numbers p ≡ at_place numbers0 p
-  pub kept : AreKept vectors0 vectors
+  pub written : AreWritten places numbers0 numbers vectors0 vectors
   pub many : length marks ≡ length marks0
   pub come : HaveCome k f (take i places) numbers vectors marks stops0 stops
 
@@ -69,18 +67,12 @@ pub record AreTurnedTo (k : ColType) (f : ℕ → Outcome ℕ Value) (places : L
 pub written_on : (places : List ℕ) (numbers0 numbers after : List ℤ) (vectors0 vectors more : List (List ℤ)) (q : ℕ) → is_in q places ≡ true → AreWritten places numbers0 numbers vectors0 vectors → IsWritten q numbers after vectors more → AreWritten places numbers0 after vectors0 more
 written_on places numbers0 numbers after vectors0 vectors more q among so_far w = grind (arith, kept_on)
 
-pub written_of : (k : ColType) (f : ℕ → Outcome ℕ Value) (places : List ℕ) (numbers0 numbers : List ℤ) (vectors0 vectors : List (List ℤ)) (marks0 marks : List Bool) (stops0 stops : List Stopped) (i : ℕ) → AreTurnedTo k f places numbers0 numbers vectors0 vectors marks0 marks stops0 stops i
-    → AreWritten places numbers0 numbers vectors0 vectors
-written_of k f places numbers0 numbers vectors0 vectors marks0 marks stops0 stops i so_far = record { long = so_far.long; others = so_far.others; kept = so_far.kept }
-
 -- one more
 pub turned_more : (k : ColType) (f : ℕ → Outcome ℕ Value) (places : List ℕ) (numbers0 numbers after : List ℤ) (vectors0 vectors more : List (List ℤ)) (marks0 marks marked : List Bool) (stops0 stops stops1 : List Stopped) (i q : ℕ)
     → AreTurnedTo k f places numbers0 numbers vectors0 vectors marks0 marks stops0 stops i → i < length places → q ≡ get_or places i q → IsWritten q numbers after vectors more → IsTurned k (f q) q after more marks marked stops stops1
     → AreTurnedTo k f places numbers0 after vectors0 more marks0 marked stops0 stops1 (i + 1)
 turned_more k f places numbers0 numbers after vectors0 vectors more marks0 marks marked stops0 stops stops1 i q so_far inside read w t = record {
-  long = w.long ∙ so_far.long;
-  others = written.others;
-  kept = written.kept;
+  written = written_on places numbers0 numbers after vectors0 vectors more q (subst (λ (n : ℕ). is_in n places ≡ true) (sym read) (is_in_at places i q inside)) so_far.written w;
   many = t.long ∙ so_far.many;
   come = record {
     values = λ p h. values p (in_more p q (take i places) (seen p h));
@@ -90,9 +82,6 @@ turned_more k f places numbers0 numbers after vectors0 vectors more marks0 marks
   };
 }
   where
-    written : AreWritten places numbers0 after vectors0 more
-    written = written_on places numbers0 numbers after vectors0 vectors more q (subst (λ (n : ℕ). is_in n places ≡ true) (sym read) (is_in_at places i q inside)) (written_of k f places numbers0 numbers vectors0 vectors marks0 marks stops0 stops i so_far) w
-
     one : take (i + 1) places ≡ take i places ++ q ∷ []
     one = take_more places i q inside ∙ ap (λ n. take i places ++ n ∷ []) (sym read)
 

@@ -3,14 +3,14 @@ use Rattle.std.proofs.Common.{if◌then◌else◌, ◌≡◌, ◌<◌, ◌≤◌
 use Rattle.lemmas.proofs.{Decides-eqb, filter, lt-ltb, ltb-true}
 use Rattle.rdf_values.specs.{Bin, BinOp, Call, Col, ColType, Cond, End, fn_names, history, Lit, More, Neg, Not, Pick, Tree, Trees, Value}
 use Rattle.rdf_values.specs.expressions.Expressions.{Truth}
-use Rattle.rdf_model.specs.{◌>>=◌, call_outcome, evaluate, evaluate_all, fault_in, Gives, is_need, Needs, operation, Outcome, without}
+use Rattle.rdf_model.specs.{◌>>=◌, call_outcome, evaluate, evaluate_all, Gives, is_need, Needs, operation, Outcome, without}
 use Rattle.expr_check.specs.{CheckedExpr}
 use Rattle.expr_lanes.specs.{AreRising, EachPlace, is_in, IsSelected}
 use Rattle.graph_numbers.proofs.Equations.{columns_below}
 use Rattle.graph_numbers.proofs.Placing.{versions_count}
 use Rattle.graph_numbers.specs.{graph_sites, graph_under, graph_versions, IsBelow, IsSiteExpr, SiteAt, Source, version_count}
 use Rattle.block_cache.specs.{AreReadyOver, below_fault, block_graph, block_job, CanFill, CanFillFor, first_read, first_read_in, found_or, holds_at, is_below, IsFaultOf, IsFilledFor, IsFilledTo, IsGrownOver, IsLeadFor, IsOnlyCalled, IsRankedBelow, IsSpentFor, IsSpentOver, key_over, LaneView, own_key, PlaceFault, site_fault}
-use Rattle.loop_keys.specs.{ArePlain, IsSiteOf, job_graph, JobView, key_count, MeetsAt, Place, place_of, site_in, source_at, version_in}
+use Rattle.loop_keys.specs.{ArePlain, IsSiteOf, job_graph, JobView, key_count, MeetsAt, Place, place_of, source_at, version_in}
 use Rattle.loop_keys.proofs.EvaluateLaws.{accepted_of}
 use Rattle.loop_keys.proofs.KeyLaws.{key_small}
 use Rattle.block_cache.specs.declared.wanted.Wanted.{Wanted}
@@ -20,8 +20,7 @@ use Rattle.block_cache.proofs.CanTries.{site_tree}
 use Rattle.block_cache.proofs.GrownLaws.{grown_below, grown_on}
 use Rattle.block_cache.proofs.Knowns.{held_no_fault}
 use Rattle.block_cache.proofs.Members.{below_among, below_in, below_low, below_selected, fault_first, no_fault_over, over_first}
-use Rattle.block_cache.proofs.MetFaults.{met_fault}
-use Rattle.block_cache.proofs.UnderwayLaws.{below_both, below_found, fault_lift, fault_or, faults_of}
+use Rattle.block_cache.proofs.UnderwayLaws.{below_both, below_found, fault_lift, fault_met, fault_or}
 
 -- ---- where what is read stands
 
@@ -150,12 +149,6 @@ module _ {V : Type 0} {D : V → Type 0} {g : _} (w : Wanted V D g) (t : ℕ) (l
       pub led_selected : IsSelected count sel [] → IsSelected count left []
       led_selected selected = below_selected under selected filled.left_is
 
-      -- a fault of the lead is the site's
-      under_own : (o : Option PlaceFault) → IsFaultOf (site_fault j first u t) sel o → IsFaultOf (site_fault j first u s) sel o
-      under_own None h = tt
-      under_own (Some x) h =
-          (h.0, ap fault_in (met_fault j job (first + x.place) u s lead.version t x.kind (lead.met (first + x.place)) lead.source (faults_of (site_in j (first + x.place) u t) x.kind h.1)))
-
       module _ {after : List LaneView} {end : ℕ} (spent' : IsSpentFor w left mid after between end) where
         pub led_spent : IsSpentFor w sel before after start end
         led_spent = record {
@@ -168,7 +161,7 @@ module _ {V : Type 0} {D : V → Type 0} {g : _} (w : Wanted V D g) (t : ℕ) (l
           found_left = rw filled'.fault (over_first left (site_fault j first u s))
 
           under_is : IsFaultOf (site_fault j first u s) sel under
-          under_is = under_own under (rw filled.fault (over_first sel (site_fault j first u t)))
+          under_is = fault_met j job first u s t sel (λ p i. (lead.version, lead.met (first + p), lead.source)) under (rw filled.fault (over_first sel (site_fault j first u t)))
 
           left_low : EachPlace left (λ q. is_below under q ≡ true)
           left_low p i = below_low under sel p (rw filled.left_is at i)

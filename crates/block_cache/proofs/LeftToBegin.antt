@@ -1,6 +1,7 @@
 -- What is left to begin over a block becomes less.
 use Rattle.std.proofs.Common.{◌≡◌, ◌<◌, ◌≤◌, ◌||◌, not, ℕ, zero, suc, Bool, true, false, List, [], ◌∷◌, length, refl, sym, ◌∙◌, ap, arith, cond, nat_eq}
 use Rattle.lemmas.proofs.{Decides-eqb, range_with_len, sum_by, sum_by-cons}
+use Rattle.std.proofs.lemmas.List.Sums.{sum_by-le-sum_by}
 use Rattle.expr_lanes.specs.{is_in}
 use Rattle.expr_lanes.proofs.Selected.{first_in_range}
 use Rattle.block_cache.specs.{begun_at, is_tried, lane_left, LaneView, left_to_begin}
@@ -14,8 +15,7 @@ one_less : (b c : Bool) → (b ≡ true → c ≡ true) → cond (not c) 1 0 ≤
 one_less b c h = grind arith
 
 fewer : (ps : List ℕ) (f g : ℕ → Bool) → ((p : ℕ) → f p ≡ true → g p ≡ true) → sum_by (lacking g) ps ≤ sum_by (lacking f) ps
-fewer [] f g h = omega arith
-fewer (p ∷ ps) f g h = omega (arith, sum_by-cons (lacking f) p ps, sum_by-cons (lacking g) p ps, one_less (f p) (g p) (h p), fewer ps f g h)
+fewer ps f g h = sum_by-le-sum_by (lacking g) (lacking f) ps (λ q. one_less (f q) (g q) (h q))
 
 strictly_here : (ps : List ℕ) (f g : ℕ → Bool) (p q : ℕ) → ((q : ℕ) → f q ≡ true → g q ≡ true) → f p ≡ false → g p ≡ true → (b : Bool) → nat_eq p q ≡ b → (b || is_in p ps) ≡ true → (is_in p ps ≡ true → sum_by (lacking g) ps < sum_by (lacking f) ps)
     → sum_by (lacking g) (q ∷ ps) < sum_by (lacking f) (q ∷ ps)

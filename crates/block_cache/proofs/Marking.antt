@@ -1,11 +1,11 @@
 -- Marks of places, one after another, and of a whole block without being written.
 use Rattle.std.proofs.Common.{◌≡◌, ◌<◌, ◌+◌, ◌||◌, not, ℕ, suc, zero, Bool, true, false, List, [], ◌∷◌, length, get_or, take, set, ◌∙◌, refl, ap, cond, if◌then◌else◌, arith, length-set, nat_eq, count_by, ◌≤◌, sym, subst}
-use Rattle.lemmas.proofs.{eqb_tells, sum_by-cons, sum_by-set, sum_by_more, get_or-range_with_len, length-range_with_len, range_with_len}
+use Rattle.lemmas.proofs.{eqb_tells, length-filter, sum_by-cons, sum_by-set, sum_by_more, get_or-range_with_len, length-range_with_len, range_with_len}
 use Rattle.expr_lanes.specs.{AreRising, is_in, is_marked, EachPlace}
 use Rattle.expr_lanes.proofs.SiftSteps.{mark_more}
 use Rattle.expr_lanes.proofs.Selected.{is_in_at, rising_range}
 use Rattle.std.proofs.lemmas.List.{take_all}
-use Rattle.expr_lanes.proofs.Sequence.{first_in, rest_in}
+use Rattle.block_cache.proofs.LaneSteps.{filter_none}
 use Rattle.block_cache.specs.{AreWrittenMarks, IsBare, marked_to, marks_of, MarksView}
 use Rattle.block_cache.specs.declared.block_marks.Extent.{Extent}
 
@@ -120,10 +120,7 @@ module _ (count : ℕ) (marks : List Bool) (sel : List ℕ) (within : count ≤ 
 -- ---- all of it was
 
 none_counted : (sel : List ℕ) (f : ℕ → Bool) → EachPlace sel (λ p. f p ≡ false) → count_by f sel ≡ 0
-none_counted [] f each = refl
-none_counted (p ∷ sel) f each =
-    let none : ◌≡◌ {A = ℕ} (cond (f p) 1 0) 0 = ap (λ b. cond b 1 0) (each p (first_in p sel)) in
-    omega (arith, sum_by-cons (λ q. cond (f q) 1 0) p sel, none, none_counted sel f (λ q i. each q (rest_in q p sel i)))
+none_counted sel f each = sym (length-filter f sel) ∙ ap (λ (l : List ℕ). length l) (filter_none f sel each)
 
 pub still_marked : (marks : List Bool) (sel : List ℕ) → EachPlace sel (λ p. is_marked marks p ≡ true) → (p : ℕ) → is_marked marks p ≡ (is_in p sel || is_marked marks p)
 still_marked marks sel each p = grind arith

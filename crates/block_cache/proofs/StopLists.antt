@@ -45,8 +45,6 @@ least_next stops i d least inside h =
 pub on_err : {A E P : Type 0} (r : Result A E) → P → OnErr r P
 on_err r p = grind arith
 
--- ---- The stops of a group: one for each place that came to no value.
-
 -- ---- stops that are the same
 
 abbrev fault_number : EntryFault → ℕ
@@ -174,9 +172,6 @@ pub record IsNotedTo (stops : List Stopped) (before needs : List ℕ) : Type 0 w
   pub noted : (p c : ℕ) → Contains stops (stopped p (Need c)) → ((x : Stopped) → Contains stops x → x.place ≡ p → x.stop ≡ Need c) → need_at needs p ≡ c
   pub others : (p : ℕ) → ((x : Stopped) → Contains stops x → x.place ≡ p → ⊥) → need_at needs p ≡ need_at before p
 
-need_is : (a b : ℕ) → Need a ≡ Need b → a ≡ b
-need_is a b e = cc e
-
 -- one more stop, which is no fault
 pub noted_need : (xs : List Stopped) (before needs : List ℕ) (y : Stopped) (v : ℕ) → IsNotedTo xs before needs → y.stop ≡ Need v → y.place < length before → IsNotedTo (xs ++ y ∷ []) before (set needs y.place v)
 noted_need xs before needs y v so_far is inside = record { long = length-set needs y.place v ∙ so_far.long; noted = noted; others = others }
@@ -189,7 +184,8 @@ noted_need xs before needs y v so_far is inside = record { long = length-set nee
       where
         go : (p ≡ y.place) ⊎ (p ≡ y.place → ⊥) → need_at (set needs y.place v) p ≡ c
         go (inl e) =
-            let same : v ≡ c = need_is v c (sym is ∙ each y (Contains-push xs y) (sym e)) in
+            let needs_one = sym is ∙ each y (Contains-push xs y) (sym e) in
+            let same : v ≡ c = cc needs_one in
             ap (need_at (set needs y.place v)) e ∙ get_or-set_same needs y.place v 0 room ∙ same
         go (inr n) = get_or-set_other needs y.place p v 0 n ∙ so_far.noted p c (was (Contains-push_cases xs y (stopped p (Need c)) h)) (λ x k at. each x (Contains-append_left xs (y ∷ []) x k) at)
           where

@@ -1,14 +1,14 @@
 -- The filling of a site, from its first evaluation to the last.
-use Rattle.std.proofs.Common.{◌≡◌, ◌<◌, ◌≤◌, ◌+◌, ◌⊎◌, inl, inr, not, ℕ, Bool, true, false, List, [], ◌∷◌, length, Option, Some, None, Result, Ok, Err, IfOk, OnOk, refl, sym, ◌∙◌, ap, subst, arith, cond, count_by, nat_eq}
-use Rattle.lemmas.proofs.{cases_lt, Decides-eqb, filter, length-filter, lt-ltb, ltb-true, never_true, not_true, same_some, sum_by-cons, true_from_ne_false}
+use Rattle.std.proofs.Common.{◌≡◌, ◌<◌, ◌≤◌, ◌+◌, ◌⊎◌, inl, inr, not, ℕ, Bool, true, false, List, [], ◌∷◌, length, Option, Some, None, Result, Ok, Err, IfOk, OnOk, refl, sym, ◌∙◌, ap, subst, arith, count_by, nat_eq}
+use Rattle.lemmas.proofs.{cases_lt, Decides-eqb, filter, length-filter, lt-ltb, ltb-true, never_true, not_true, same_some, true_from_ne_false}
 use Rattle.rdf_values.specs.{EntryFault, Memory, Value}
 use Rattle.rdf_model.specs.{fault_in, Faults, Outcome}
 use Rattle.expr_lanes.specs.{AreRising, EachPlace, is_in, IsSelected}
-use Rattle.expr_lanes.proofs.Sequence.{filtered_in, first_in, rest_in}
+use Rattle.expr_lanes.proofs.Sequence.{filtered_in}
 use Rattle.graph_numbers.specs.{Source}
 use Rattle.block_cache.specs.{AreReadyOver, begun_at, below_fault, found_or, holds_at, is_below, IsAttemptedFor, IsBrokenOffFor, IsFaultOf, IsGrownOver, IsPaidFor, IsPaidOver, IsResumedFor, IsSameAt, IsSettled, IsSettledFor, IsSettledTo, IsSpentFor, IsSpentOver, IsUnderwayFor, IsWaiting, LaneView, left_to_begin, need_at, own_key, PlaceFault, site_fault}
-use Rattle.block_cache.proofs.LaneSteps.{filter_none}
-use Rattle.loop_keys.specs.{IsSiteOf, job_graph, key, MeetsAt, site_in, source_at}
+use Rattle.block_cache.proofs.LaneSteps.{filter_all, filter_none}
+use Rattle.loop_keys.specs.{IsJob, IsSiteOf, job_graph, JobView, key, MeetsAt, site_in, source_at}
 use Rattle.block_cache.specs.declared.wanted.Wanted.{Wanted}
 use Rattle.block_cache.proofs.Wants.{parts_of}
 use Rattle.block_cache.proofs.Attempts.{key_lower}
@@ -21,10 +21,7 @@ use Rattle.block_cache.proofs.MetFaults.{met_fault}
 -- ---- small things
 
 pub count_all : (ps : List ℕ) (f : ℕ → Bool) → EachPlace ps (λ p. f p ≡ true) → count_by f ps ≡ length ps
-count_all [] f each = refl
-count_all (p ∷ ps) f each =
-    let one : ◌≡◌ {A = ℕ} (cond (f p) 1 0) 1 = ap (λ b. cond b 1 0) (each p (first_in p ps)) in
-    omega (arith, sum_by-cons (λ q. cond (f q) 1 0) p ps, one, count_all ps f (λ q i. each q (rest_in q p ps i)))
+count_all ps f each = sym (length-filter f ps) ∙ ap (λ (l : List ℕ). length l) (filter_all f ps each)
 
 -- the site of a source is one
 pub same_site : (t r : ℕ) (x : Source) → IsSiteOf t x → IsSiteOf r x → t ≡ r
@@ -45,8 +42,16 @@ below_both f group None fault p low h below = below
 below_both f group (Some x) None p low h below = refl
 below_both f group (Some x) (Some y) p low h below = grind (arith, ltb-true, lt-ltb)
 
-pub faults_of : (o : Outcome ⊥ Value) (k : EntryFault) → fault_in o ≡ Some k → o ≡ Faults k
+faults_of : (o : Outcome ⊥ Value) (k : EntryFault) → fault_in o ≡ Some k → o ≡ Faults k
 faults_of o k h = grind (arith, same_some)
+
+-- the fault of a site that is met at each place of a group is that of the site that meets it
+pub fault_met : (j : JobView) (job : IsJob j) (first : ℕ) (u : Option ℕ) (s t : ℕ) (group : List ℕ) → EachPlace group (λ p. (c : ℕ) × MeetsAt j (first + p) u s c × IsSiteOf t (source_at j u c)) → (o : Option PlaceFault) → IsFaultOf (site_fault j first u t) group o
+    → IsFaultOf (site_fault j first u s) group o
+fault_met j job first u s t group meets None h = tt
+fault_met j job first u s t group meets (Some x) h =
+    let m = meets x.place h.0 in
+    (h.0, ap fault_in (met_fault j job (first + x.place) u s m.0 t x.kind m.1 m.2 (faults_of (site_in j (first + x.place) u t) x.kind h.1)))
 
 or_none : (found : Option PlaceFault) → found_or found None ≡ found
 or_none found = grind arith
@@ -232,14 +237,6 @@ module _ {V : Type 0} {D : V → Type 0} {g : _} (w : Wanted V D g) where
             under_t : IsFaultOf (site_fault j first u t) group under
             under_t = rw filled.filled.fault (over_first group (site_fault j first u t))
 
-            -- the fault below is the site's own
-            under_s : (o : Option PlaceFault) → IsFaultOf (site_fault j first u t) group o → IsFaultOf (site_fault j first u s) sel o
-            under_s None i = tt
-            under_s (Some x) i =
-                let a = waiting x.place i.0 in
-                let faults : site_in {M = ⊥} j (first + x.place) u s ≡ Faults x.kind = met_fault j job (first + x.place) u s c t x.kind a.met site (faults_of (site_in j (first + x.place) u t) x.kind i.1) in
-                (turn_in x.place i.0, ap fault_in faults)
-
             module _
                 {new : List LaneView} {noted lacking : List ℕ} {least : Option PlaceFault} {last : ℕ} (r : IsResumedFor w (found_or under fault) left open_places mid new needs noted lacking least)
                 (cost : last ≡ then' + length left)
@@ -319,7 +316,7 @@ module _ {V : Type 0} {D : V → Type 0} {g : _} (w : Wanted V D g) where
                   settled = settled_turn;
                   fault_is =
                       rw r.least_is
-                      (fault_or (site_fault j first u s) sel r.found (found_or under fault) (fault_lift (site_fault j first u s) left sel r.found left_in r.attempted.found_is) (fault_or (site_fault j first u s) sel under fault (under_s under under_t) h.fault_is));
+                      (fault_or (site_fault j first u s) sel r.found (found_or under fault) (fault_lift (site_fault j first u s) left sel r.found left_in r.attempted.found_is) (fault_or (site_fault j first u s) sel under fault (fault_lift (site_fault j first u s) group sel under turn_in (fault_met j job first u s t group meets_t under under_t)) h.fault_is));
                   begun = λ p i lacks. grown_turn.stays own p (h.begun p i lacks);
                   among = λ p i. h.among p (was_open p i);
                   low = lacking_low;

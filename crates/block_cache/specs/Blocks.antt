@@ -3,10 +3,10 @@ use Rattle.std.specs.Prelude.{◌≡◌, ◌<◌, ◌≤◌, ◌+◌, ◌-◌, �
 use Rattle.rdf_values.specs.{ColType, kind_at, NumTree, Value}
 use Rattle.rdf_model.specs.{◌>>=◌, call_outcome, evaluate, Faults, Gives, Needs, Outcome, tag_element}
 use Rattle.expr_check.specs.{CheckedExpr, is_vector}
-use Rattle.expr_lanes.specs.{at_place, depth, Stopped}
+use Rattle.expr_lanes.specs.{at_place, depth}
 use Rattle.graph_numbers.specs.{IsSiteExpr, Source}
-use Rattle.block_cache.specs.Lanes.{IsBegun, IsEvaluated, LaneView, is_held, value_of}
-use Rattle.loop_keys.specs.{Held, IsMissing, IsReadable, IsSound, job_graph, JobView, key, key_count, look_at, MeetsAt, row_in, site_in, source_at}
+use Rattle.block_cache.specs.Lanes.{LaneView, is_held, value_of}
+use Rattle.loop_keys.specs.{Held, IsMissing, IsSound, job_graph, JobView, key, key_count, look_at, MeetsAt, row_in, site_in, source_at}
 
 -- a value that is held
 abbrev pub held_value : Value → Held
@@ -55,16 +55,6 @@ HasNumbers j first u count lanes cells (Source.Cell col) = HasColumn j first cou
 HasNumbers j first u count lanes cells (Source.Site s) = HasNumberLane count lanes (key (job_graph j) s u)
 HasNumbers j first u count lanes cells (Source.Element s k tags) = ⊥
 
--- the version can be read over the block
-pub record CanRead (j : JobView) (first : ℕ) (u : Option ℕ) (count : ℕ) (lanes : List LaneView) (cells : List (List ℤ)) (c : ℕ) : Type 0 where
-  pub readable : IsReadable j u c
-  pub source : HasSource j first u count lanes cells (source_at j u c)
-
--- and at all places at once
-pub record CanReadWhole (j : JobView) (first : ℕ) (u : Option ℕ) (count : ℕ) (lanes : List LaneView) (cells : List (List ℤ)) (c : ℕ) : Type 0 where
-  pub readable : IsReadable j u c
-  pub source : HasNumbers j first u count lanes cells (source_at j u c)
-
 -- the element of what a version with a vector comes to, at the place of a tag among so many
 abbrev pub element_of : Outcome ℕ Value → ℕ → ℕ → Outcome ℕ Value
 element_of o k tags = o >>= tag_element tags k
@@ -106,16 +96,3 @@ pub record IsLaneSet (k : ℕ) (before after : List LaneView) : Type 0 where
   pub is_own : slice_get before k ≡ Some own
   pub lane : LaneView
   pub written : after ≡ slice_set before k lane
-
--- the site was evaluated at the places of a selection, with what was told at each, and what is held is right
-pub record IsTriedOver (j : JobView) (first : ℕ) (u : Option ℕ) (count s : ℕ) (sel left : List ℕ) (before after : List LaneView) (stops more : List Stopped) : Type 0 where
-  pub at : IsLaneSet (key (job_graph j) s u) before after
-  pub told : ℕ → Outcome ℕ Value
-  pub telling : (p : ℕ) → p < count → IsTelling j (first + p) u (cells_at (key_count (job_graph j)) (take (key (job_graph j) s u) before) p) s (told p)
-  pub evaluated : IsEvaluated told sel left at.own at.lane stops more
-  pub ready : AreReady j first count after
-
--- memory was wanted in the midst of that
-pub record IsBegunOver (j : JobView) (u : Option ℕ) (s : ℕ) (sel : List ℕ) (before after : List LaneView) : Type 0 where
-  pub at : IsLaneSet (key (job_graph j) s u) before after
-  pub begun : IsBegun sel at.own at.lane

@@ -1,8 +1,7 @@
 -- What the evaluation of a site reads first.
-use Rattle.std.specs.Prelude.{ℕ, Option, None, Some}
+use Rattle.std.specs.Prelude.{Option, None, Some}
 use Rattle.rdf_values.specs.{Bin, Call, Col, Cond, End, Lit, More, Neg, Not, Pick, Tree, Trees}
 use Rattle.rdf_values.specs.expressions.Expressions.{Truth}
-use Rattle.loop_keys.specs.{IsSiteOf, JobView, MeetsAt, source_at}
 
 -- a number reads nothing, and what stands behind it is read next
 abbrev pub or_behind : {C F : Type 0} → Tree C F → Option C → Option C → Option C
@@ -25,9 +24,3 @@ abbrev mutual
   pub first_read_in : {C F : Type 0} → Trees C F → Option C
   first_read_in End = None
   first_read_in (More a rest) = or_behind a (first_read a) (first_read_in rest)
-
--- site t gives what the evaluation of site s meets first, in every entry
-pub record IsLead (j : JobView) (u : Option ℕ) (s t : ℕ) : Type 0 where
-  pub version : ℕ
-  pub source : IsSiteOf t (source_at j u version)
-  pub met : (entry : ℕ) → MeetsAt j entry u s version

@@ -4,8 +4,8 @@ use Rattle.rdf_values.specs.{ColType, Column, fn_names, NumTree, Value}
 use Rattle.rdf_model.specs.{FitsOutcome, Outcome}
 use Rattle.expr_check.specs.{CallsFit, CheckedExpr}
 use Rattle.graph_numbers.specs.{cell_value, GraphView, Source}
-use Rattle.loop_keys.specs.{job_graph, job_of, JobView, key, key_count, look_at, row_of, source_at}
-use Rattle.block_cache.specs.Blocks.{AreReady, CanRead, CanReadWhole, HasColumn, cells_at, outcome_at}
+use Rattle.loop_keys.specs.{IsReadable, job_graph, job_of, JobView, key, key_count, look_at, row_of, source_at}
+use Rattle.block_cache.specs.Blocks.{AreReady, HasColumn, HasNumbers, HasSource, cells_at, outcome_at}
 use Rattle.block_cache.specs.Lanes.{LaneView}
 use Rattle.block_cache.specs.declared.block.Block.{Block}
 
@@ -47,12 +47,14 @@ module _ {V : Type 0} {D : V → Type 0} {g : _} (b : Block V D g) where
   HasNumbersOver col = HasColumn block_job b.at.now.entry b.count b.cells.now col
 
   -- the version is a column of the table, its numbers loaded, or of a site that has a lane
-  abbrev pub IsReadOver : List LaneView → ℕ → Type 0
-  IsReadOver lanes version = CanRead block_job b.at.now.entry b.at.now.under b.count lanes b.cells.now version
+  pub record IsReadOver (lanes : List LaneView) (version : ℕ) : Type 0 where
+    pub readable : IsReadable block_job b.at.now.under version
+    pub source : HasSource block_job b.at.now.entry b.at.now.under b.count lanes b.cells.now (source_over version)
 
   -- and it can be read at all places at once: as numbers of the table, or in a lane without vectors
-  abbrev pub IsWholeOver : List LaneView → ℕ → Type 0
-  IsWholeOver lanes version = CanReadWhole block_job b.at.now.entry b.at.now.under b.count lanes b.cells.now version
+  pub record IsWholeOver (lanes : List LaneView) (version : ℕ) : Type 0 where
+    pub readable : IsReadable block_job b.at.now.under version
+    pub source : HasNumbers block_job b.at.now.entry b.at.now.under b.count lanes b.cells.now (source_over version)
 
   -- what a version comes to at a place by what the lanes hold: a version of which nothing is held is needed
   abbrev pub look_over : List LaneView → ℕ → ℕ → Outcome ℕ Value

@@ -95,9 +95,7 @@ fn try_first<L: Ledger>(
     )
 }
 
-/// Evaluates a site at the places of the level's group, at none of which it is held, over what is held of the sites below. The places
-/// that come to a value stay in the group; each other one becomes a stop, with its fault or a version that has to be filled before.
-/// Only with vectors memory may be wanted: then what is held stays.
+/// Evaluates a site at the places of the level's group, over what is held of the sites below.
 #[inline(always)]
 pub(crate) fn try_lane<L: Ledger>(
     wanted: &Wanted<'_>,

@@ -1,12 +1,13 @@
 // Evaluation at one place after another.
-ghost use Rattle.std.specs.Prelude.{◌≡◌, ◌<◌, ◌≤◌, ◌+◌, ℕ, length, IfOk, OnOk, OnErr};
+ghost use Rattle.std.specs.Prelude.{◌≡◌, ◌<◌, ◌≤◌, ◌+◌, ℕ, true, length, IfOk, OnOk, OnErr};
 ghost use Rattle.rdf_values.specs.{ColType as KindOf, FitsKind, Value as ValueOf};
 ghost use Rattle.rdf_model.specs.{Outcome};
 ghost use Rattle.expr_eval.specs.{AnswersAs};
 ghost use Rattle.expr_lanes.specs.{EachPlace};
-ghost use Rattle.block_cache.specs.{AreWritten, HaveCome, IsScalarAnswer, IsTurned, IsWritten};
+ghost use Rattle.expr_check.specs.{is_plain};
+ghost use Rattle.block_cache.specs.{AreReadOver, AreWritten, CallsFitOver, FitAt, HaveCome, IsScalarAnswer, IsTurned, IsWritten, outcome_over};
 
-use crate::place_values::PlaceValues;
+use crate::site_values::SiteValues;
 use crate::values::Values;
 use arrayvec::ArrayVec;
 use expr_eval::{EvalStop, ScalarStop, Steps};
@@ -45,24 +46,26 @@ fn turn(
 }
 
 /// Evaluates at the places of a list, in a step each: writes the value of each that comes to one, and marks the others.
-#[tactic(auto, using(crate::proofs::EachPlaces::written_on, expr_lanes::proofs::Selected::is_in_at, crate::proofs::EachPlaces::written_of))]
-pub(crate) fn each_place<E: PlaceValues, L: Ledger>(
-    evaluation: &E,
+#[tactic(auto, using(crate::proofs::EachPlaces::written_on, expr_lanes::proofs::Selected::is_in_at))]
+pub(crate) fn each_place<L: Ledger>(
+    evaluation: &SiteValues<'_>,
     places: &[u32],
     values: &mut Values,
     stopped: &mut [bool],
     stops: &mut ArrayVec<Stopped, MAX_PLACES>,
     steps: &mut Steps<L>,
 ) -> Result<(), Memory>
-    requires can { EachPlace places.now (λ p. E.can evaluation.now p) }
+    requires can { AreReadOver evaluation.now.view.block.now evaluation.now.view.lanes.now evaluation.now.expr.now }
+    requires fit { EachPlace places.now (λ p. (p < evaluation.now.view.block.now.count) × FitAt evaluation.now.view.block.now evaluation.now.view.lanes.now evaluation.now.expr.now p) }
+    requires calls { CallsFitOver evaluation.now.view.block.now evaluation.now.expr.now.tree }
     requires inside { EachPlace places.now (λ p. p < length values.old.numbers.items) }
     requires marks { EachPlace places.now (λ p. p < length stopped.old) }
     requires room { length stops.old.items + length places.now ≤ MAX_PLACES }
     ensures written { AreWritten places.now values.old.numbers.items values.new.numbers.items values.old.vectors values.new.vectors }
-    ensures come { OnOk result (HaveCome (E.kind evaluation.now) (E.gives evaluation.now) places.now values.new.numbers.items values.new.vectors stopped.new stops.old.items stops.new.items) }
+    ensures come { OnOk result (HaveCome evaluation.now.expr.now.kind (outcome_over evaluation.now.view.block.now evaluation.now.view.lanes.now evaluation.now.expr.now.tree) places.now values.new.numbers.items values.new.vectors stopped.new stops.old.items stops.new.items) }
     ensures steps { OnOk result (steps.new ≡ steps.old + length places.now) }
     ensures few { steps.new ≤ steps.old + length places.now }
-    ensures plain { E.plain evaluation.now → OnErr result ⊥ }
+    ensures plain { is_plain evaluation.now.expr.now.kinds evaluation.now.expr.now.tree ≡ true → OnErr result ⊥ }
 {
     for i in 0..places.len() {
         let place = places[i];

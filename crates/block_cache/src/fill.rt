@@ -60,8 +60,7 @@ fn keep_lacking(wanted: &Wanted<'_>, lanes: &[Lane], selection: &mut Selection)
     lanes[key(wanted.block.at, wanted.site)].keep_unknown(selection);
 }
 
-/// Evaluates a site once at the places of the level's group, and notes for each that stops at a version which one it waits for. Answers
-/// the fault of the least place that has one.
+/// Evaluates a site once at the places of the level's group, and notes for each that stops at a version which one it waits for.
 #[inline(always)]
 fn attempt<L: Ledger>(
     wanted: &Wanted<'_>,
@@ -157,8 +156,7 @@ fn begin<L: Ledger>(
     Ok(found)
 }
 
-/// Fills a site where the sites up to it are settled, with a level of its own and those for the sites below: it is evaluated anew at all places that wait for the same version as the first
-/// one, as soon as the site of that version is filled there.
+/// Fills a site: it is evaluated anew at all places that wait for the same version as the first one, as soon as the site of that version is filled there.
 fn fill_site<L: Ledger>(
     wanted: &Wanted<'_>,
     lanes: &mut [Lane],
@@ -195,8 +193,7 @@ fn fill_site<L: Ledger>(
     Ok(fault)
 }
 
-/// Fills a site at the selected places of a block, up to the first at which it faults, with the sites that its evaluation meets where they
-/// are met: left are the places below the fault, at each of which the lane of the site's key then holds its value.
+/// Fills a site at the selected places of a block, up to the first at which it faults, with the sites that its evaluation meets.
 pub fn fill<L: Ledger>(
     wanted: &Wanted<'_>,
     lanes: &mut [Lane],

@@ -4,14 +4,15 @@ ghost use Rattle.std.specs.List.{filter};
 ghost use Rattle.rdf_values.specs.{fn_names};
 ghost use Rattle.rdf_model.specs.{call_outcome, evaluate as evaluate_at, FitsOutcome, Gives, Needs};
 ghost use Rattle.entry_fns.specs.{functions_in};
-ghost use Rattle.expr_check.specs.{CallsFit, is_vector};
+ghost use Rattle.expr_check.specs.{CallsFit, is_plain, is_vector};
 ghost use Rattle.expr_eval.specs.{input_outcome};
 ghost use Rattle.expr_lanes.specs.{CanLane, depth, EachPlace, HasMarks, is_known, IsSelected};
+ghost use Rattle.block_cache.specs.OverBlocks.{AreReadOver, CallsFitOver, FitAt, outcome_over};
 ghost use Rattle.block_cache.specs.Lanes.{is_held, room_of, value_of, AreNumbers, IsBegun, IsEvaluated, IsSameLane, IsUnknown, LaneView};
 
 use crate::block_marks::BlockMarks;
 use crate::each_place::each_place;
-use crate::place_values::PlaceValues;
+use crate::site_values::SiteValues;
 use crate::values::Values;
 use crate::vectors::Vectors;
 use arrayvec::ArrayVec;
@@ -24,8 +25,7 @@ use std::alloc::Global;
 use std::marker::Model;
 use std::sync::ledger::Ledger;
 
-/// A key over a block: at each place its value, whether its evaluation was begun, and whether it came to that value. Places that are
-/// marked keep their values until the next block begins.
+/// A key over a block: at each place its value, whether its evaluation was begun, and whether it came to that value.
 #[derive(Drop)]
 pub struct Lane {
     alloc: Global,
@@ -47,8 +47,7 @@ impl Model for Lane {
 }
 
 impl Lane {
-    /// The lane of a key, with all the memory that it takes for blocks of so many places, but for vectors. Of no block is anything
-    /// known yet.
+    /// The lane of a key, with all the memory that it takes for blocks of so many places, but for vectors.
     #[tactic(auto, using(crate::proofs::Marking::count_none))]
     pub fn new(alloc: Global, kind: ColType, room: usize) -> Result<Lane, Memory>
         requires { room ≤ MAX_PLACES }
@@ -139,8 +138,7 @@ impl Lane {
         }
     }
 
-    /// Evaluates the key's expression at the selected places, of which nothing is held, in a step each. Where it comes to a value the place stays selected, and
-    /// the lane holds the value; each other place becomes a stop.
+    /// Evaluates the key's expression at the selected places at once, in a step each.
     #[tactic(auto, using(crate::proofs::LaneSteps::given_among, crate::proofs::LaneSteps::written, crate::proofs::LaneSteps::lane_after, crate::proofs::LaneSteps::scalar_written, crate::proofs::LaneSteps::scalar_values, crate::proofs::LaneSteps::evaluated_after))]
     pub fn evaluate<I: LaneInputs, L: Ledger>(
         &mut self,
@@ -174,26 +172,28 @@ impl Lane {
         self.held.mark(selection);
     }
 
-    /// Evaluates the key at one selected place after another, of which nothing is held, in a step each. Where it comes to a value the place stays
-    /// selected, and the lane holds the value; each other place becomes a stop. Where memory is wanted, what is held stays.
+    /// Evaluates the key at one selected place after another, in a step each. Where memory is wanted, what is held stays.
     #[inline(never)]
     #[tactic(auto, using(expr_lanes::proofs::Sequence::filtered_in))]
-    pub fn evaluate_each<E: PlaceValues, L: Ledger>(
+    pub(crate) fn evaluate_each<L: Ledger>(
         &mut self,
-        evaluation: &E,
+        evaluation: &SiteValues<'_>,
         selection: &mut Selection,
         stops: &mut ArrayVec<Stopped, MAX_PLACES>,
         steps: &mut Steps<L>,
     ) -> Result<(), Memory>
-        requires can { EachPlace selection.old (λ p. E.can evaluation.now p) }
-        requires kind { E.kind evaluation.now ≡ self.old.kind }
+        requires can { AreReadOver evaluation.now.view.block.now evaluation.now.view.lanes.now evaluation.now.expr.now }
+        requires fit { (p : ℕ) → p < evaluation.now.view.block.now.count → FitAt evaluation.now.view.block.now evaluation.now.view.lanes.now evaluation.now.expr.now p }
+        requires calls { CallsFitOver evaluation.now.view.block.now evaluation.now.expr.now.tree }
+        requires block { evaluation.now.view.block.now.count ≡ self.old.count }
+        requires kind { evaluation.now.expr.now.kind ≡ self.old.kind }
         requires selected { IsSelected self.old.count selection.old stops.old.items }
         requires unknown { EachPlace selection.old (λ p. is_held self.old p ≡ false) }
-        ensures evaluated { OnOk result (IsEvaluated (E.gives evaluation.now) selection.old selection.new self.old self.new stops.old.items stops.new.items) }
+        ensures evaluated { OnOk result (IsEvaluated (outcome_over evaluation.now.view.block.now evaluation.now.view.lanes.now evaluation.now.expr.now.tree) selection.old selection.new self.old self.new stops.old.items stops.new.items) }
         ensures begun { OnErr result (IsBegun selection.old self.old self.new) }
         ensures steps { OnOk result (steps.new ≡ steps.old + length selection.old) }
         ensures few { steps.new ≤ steps.old + length selection.old }
-        ensures plain { E.plain evaluation.now → OnErr result ⊥ }
+        ensures plain { is_plain evaluation.now.expr.now.kinds evaluation.now.expr.now.tree ≡ true → OnErr result ⊥ }
     {
         let mut stopped = [false; MAX_PLACES];
         self.tried.mark(selection);

@@ -102,8 +102,7 @@ fn lead_of(wanted: &Wanted<'_>, lanes: &[Lane], selection: &Selection) -> Option
     site_of(wanted.block, version)
 }
 
-/// Fills a site at the selected places of a block as `fill` does, and before it the site of what its evaluation reads first, so that this
-/// isn't begun anew for that. Left are the places below the first fault. A site that is held there already is filled at once.
+/// Fills a site as `fill` does, and before it the site of what its evaluation reads first, so that this isn't begun anew for that.
 pub fn fill_led<L: Ledger>(
     wanted: &Wanted<'_>,
     lanes: &mut [Lane],

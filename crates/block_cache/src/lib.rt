@@ -18,7 +18,6 @@ pub mod lanes;
 pub mod leads;
 pub mod level;
 pub mod passing;
-pub mod place_values;
 mod place_view;
 mod site_values;
 pub mod sizes;
@@ -29,5 +28,4 @@ pub mod wanted;
 
 pub use crate::lane::Lane;
 pub use crate::lanes::{begin_block, new_lanes};
-pub use crate::place_values::PlaceValues;
 pub use crate::sizes::{MAX_LANE_PLACES, block_size};

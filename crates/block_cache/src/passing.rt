@@ -15,8 +15,7 @@ use loop_keys::reading::key;
 use rdf_values::Memory;
 use std::sync::ledger::Ledger;
 
-/// Fills a filter's site at the selected places of a block, up to the first at which it faults, and leaves the places below that at which
-/// the filter is true.
+/// Fills a filter's site at the selected places of a block, up to the first fault, and leaves those at which the filter is true.
 pub fn pass_filter<L: Ledger>(
     wanted: &Wanted<'_>,
     lanes: &mut [Lane],

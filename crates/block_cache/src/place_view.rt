@@ -1,13 +1,10 @@
 // The columns of an evaluation at one place of a block, by what is held.
-ghost use Rattle.std.specs.Prelude.{◌≡◌, ◌<◌, ◌+◌, ℕ, ℤ, List, Some, length, slice_get};
-ghost use Rattle.rdf_values.specs.{kind_at, Value};
+ghost use Rattle.std.specs.Prelude.{◌≡◌, ◌<◌, ◌+◌, ℕ, Some, length, slice_get};
+ghost use Rattle.rdf_values.specs.{kind_at};
 ghost use Rattle.rdf_values.specs.declared.tables.value.ColType.TheVariants as kind;
-ghost use Rattle.expr_lanes.specs.{at_place};
-ghost use Rattle.rdf_model.specs.{tag_element};
 ghost use Rattle.expr_eval.specs.{input_outcome};
-ghost use Rattle.graph_numbers.specs.{cell_value};
 ghost use Rattle.block_cache.specs.Lanes.{LaneView};
-ghost use Rattle.loop_keys.specs.{held_in, held_or_need, row_in};
+ghost use Rattle.loop_keys.specs.{held_in, held_or_need};
 ghost use Rattle.block_cache.specs.Blocks.{cells_at, element_of};
 ghost use Rattle.block_cache.specs.OverBlocks.{HasNumbersOver, IsReadOver, cell_over, columns_over, look_over};
 

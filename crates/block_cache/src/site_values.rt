@@ -1,12 +1,11 @@
 // A site's evaluation at one place of a block after another.
-ghost use Rattle.std.specs.Prelude.{◌≡◌, ◌<◌, ◌+◌, ℕ, true, IfOk};
+ghost use Rattle.std.specs.Prelude.{◌≡◌, ◌<◌, ◌+◌, true, IfOk};
 ghost use Rattle.rdf_values.specs.{ColType as KindOf, FitsKind};
 ghost use Rattle.expr_check.specs.{is_plain};
 ghost use Rattle.expr_eval.specs.{AnswersAs, scalar_outcome, scalar_value};
 ghost use Rattle.block_cache.specs.Values.{IsScalarAnswer};
 ghost use Rattle.block_cache.specs.OverBlocks.{AreReadOver, CallsFitOver, FitAt, outcome_over};
 
-use crate::PlaceValues;
 use crate::place_view::PlaceView;
 use crate::view::BlockView;
 use expr_check::Checked;
@@ -23,19 +22,18 @@ pub(crate) struct SiteValues<'a> {
     pub(crate) expr: &'a Checked,
 }
 
-impl<'a> PlaceValues for SiteValues<'a> {
-    ghost can = { λ v p. (p < v.view.block.now.count)
-        × AreReadOver v.view.block.now v.view.lanes.now v.expr.now
-        × FitAt v.view.block.now v.view.lanes.now v.expr.now p
-        × CallsFitOver v.view.block.now v.expr.now.tree };
-
-    ghost gives = { λ v p. outcome_over v.view.block.now v.view.lanes.now v.expr.now.tree p };
-
-    ghost kind = { λ v. v.expr.now.kind };
-
-    ghost plain = { λ v. is_plain v.expr.now.kinds v.expr.now.tree ≡ true };
-
-    fn at<L: Ledger>(&self, place: u32, steps: &mut Steps<L>) -> Result<Value, EvalStop> {
+impl SiteValues<'_> {
+    /// What a place comes to, in one step.
+    pub(crate) fn at<L: Ledger>(&self, place: u32, steps: &mut Steps<L>) -> Result<Value, EvalStop>
+        requires inside { place < self.now.view.block.now.count }
+        requires can { AreReadOver self.now.view.block.now self.now.view.lanes.now self.now.expr.now }
+        requires fit { FitAt self.now.view.block.now self.now.view.lanes.now self.now.expr.now place }
+        requires calls { CallsFitOver self.now.view.block.now self.now.expr.now.tree }
+        ensures value { AnswersAs (λ v. v) (outcome_over self.now.view.block.now self.now.view.lanes.now self.now.expr.now.tree place) result }
+        ensures kind { IfOk result (FitsKind self.now.expr.now.kind) }
+        ensures plain { is_plain self.now.expr.now.kinds self.now.expr.now.tree ≡ true → IsScalarAnswer result }
+        ensures step { steps.new ≡ steps.old + 1 }
+    {
         let inputs = PlaceView {
             block: self.view.block,
             lanes: self.view.lanes,

@@ -1,6 +1,5 @@
 // The columns of an evaluation over a block, by what is held.
-ghost use Rattle.std.specs.Prelude.{◌<◌, ◌+◌, ℕ, IfSome};
-ghost use Rattle.expr_lanes.specs.{IsVectorAt};
+ghost use Rattle.std.specs.Prelude.{◌<◌};
 ghost use Rattle.block_cache.specs.OverBlocks.{IsReadOver, IsWholeOver, look_over};
 
 use crate::Lane;
@@ -48,7 +47,17 @@ impl<'a> LaneInputs for BlockView<'a> {
     }
 
     fn vectors(&self, col: u32) -> Option<LaneVectors<'_>> {
-        table_vectors(self.block, self.lanes, col)
+        let Place::Cell { col } = place(self.block.at, col) else {
+            return None;
+        };
+        let columns = self.block.at.job.columns;
+        match columns.columns()[col as usize].kind {
+            ColType::Vect => Some(LaneVectors {
+                vectors: columns.vects(col),
+                first: self.block.at.entry,
+            }),
+            ColType::Int | ColType::Bool => None,
+        }
     }
 
     fn has_numbers(&self, col: u32) -> bool {
@@ -60,23 +69,5 @@ impl<'a> LaneInputs for BlockView<'a> {
             Place::Key { key } => !matches!(self.lanes[key].kind(), ColType::Vect),
             Place::Element { .. } => false,
         }
-    }
-}
-
-/// The vectors of a version that is one of the table's columns.
-fn table_vectors<'a>(block: &Block<'a>, _lanes: &[Lane], version: u32) -> Option<LaneVectors<'a>>
-    requires version { IsReadOver block.now _lanes.now version }
-    ensures { IfSome result (λ l. (p : ℕ) → p < block.now.count → IsVectorAt l.vectors.now (l.first + p) (look_over block.now _lanes.now p version)) }
-{
-    let Place::Cell { col } = place(block.at, version) else {
-        return None;
-    };
-    let columns = block.at.job.columns;
-    match columns.columns()[col as usize].kind {
-        ColType::Vect => Some(LaneVectors {
-            vectors: columns.vects(col),
-            first: block.at.entry,
-        }),
-        ColType::Int | ColType::Bool => None,
     }
 }

@@ -119,18 +119,19 @@ span_within (x ∷ xs) lo hi (suc c) s h e =
     let low = more.0 in
     (omega (arith, some, low), more.1, more.2)
 
+-- a range and the one behind it
+pub ranges_joined : (xs : List ℤ) (lo from to : ℕ) → lo ≤ from → from ≤ to → take (from - lo) (drop lo xs) ++ take (to - from) (drop from xs) ≡ take (to - lo) (drop lo xs)
+ranges_joined xs lo from to h l =
+    let on : lo + (from - lo) ≡ from = omega (arith, h) in
+    let size : from - lo + (to - from) ≡ to - lo = omega (arith, h, l) in
+    sym (ap (λ (k : ℕ). take k (drop lo xs)) (sym size) ∙ take_plus (from - lo) (to - from) (drop lo xs) ∙ ap (λ ys. take (from - lo) (drop lo xs) ++ take (to - from) ys) (drop_plus lo (from - lo) xs ∙ ap (λ (k : ℕ). drop k xs) on))
+
 joined_from : (spans : List Span) (numbers : List ℤ) (lo hi : ℕ) → Lead lo hi spans → joined (cluster_values spans numbers) ≡ take (hi - lo) (drop lo numbers)
 joined_from [] numbers lo hi h = let none : 0 ≡ hi - lo = omega (arith, h) in ap (λ (k : ℕ). take k (drop lo numbers)) none
 joined_from (s ∷ ss) numbers lo hi h =
-    let more = joined_from ss numbers s.hi hi h.2 in
-    let after = ends_after ss s.hi hi h.2 in
     let some = h.1 in
-    let at = h.0 in
-    let wide : s.hi - lo + (hi - s.hi) ≡ hi - lo = omega (arith, after, some) in
-    let on : lo + (s.hi - lo) ≡ s.hi = omega (arith, some) in
-    ap (λ (a : ℕ). take (s.hi - a) (drop a numbers) ++ joined (cluster_values ss numbers)) at
-    ∙ ap (λ l. take (s.hi - lo) (drop lo numbers) ++ l) (more ∙ ap (take (hi - s.hi)) (ap (λ (k : ℕ). drop k numbers) (sym on) ∙ sym (drop_plus lo (s.hi - lo) numbers)))
-    ∙ sym (take_plus (s.hi - lo) (hi - s.hi) (drop lo numbers)) ∙ ap (λ (k : ℕ). take k (drop lo numbers)) wide
+    ap (λ (a : ℕ). take (s.hi - a) (drop a numbers) ++ joined (cluster_values ss numbers)) h.0 ∙ ap (λ l. take (s.hi - lo) (drop lo numbers) ++ l) (joined_from ss numbers s.hi hi h.2)
+    ∙ ranges_joined numbers lo s.hi hi (omega (arith, some)) (ends_after ss s.hi hi h.2)
 
 pub joined_back : (n size : ℕ) (marks : List ℕ) (numbers : List ℤ) → length numbers ≡ n → joined (cluster_values (cut n size marks) numbers) ≡ numbers
 joined_back n size marks numbers l = joined_from (cut n size marks) numbers 0 n (cuts_lead n size marks) ∙ take_all (n - 0) numbers (omega (arith, l))

@@ -1,6 +1,6 @@
 -- The ranges of clusters: of one size, by their ends, one behind the other, and along marks.
-use Rattle.std.proofs.Common.{◌≡◌, ◌≤◌, ◌<◌, ◌+◌, ◌*◌, ◌/◌, ℕ, List, [], length, min, Some, arith, refl, ◌∙◌, ap, slice_get, ◌≢◌, ◌-◌, zero, suc, true, false, leb, ◌∷◌, ◌++◌, get_or, sym, ◌⊎◌, inl, inr, if◌then◌else◌, Bool, ◌||◌, subst, nat_eq, nat_lt}
-use Rattle.lemmas.proofs.{div_ceil, div_ceil_times, length-map, mul-le, mul_comm, slice_get-map, AllWithin, le_or_lt, nat_tests, IsNonDecreasingBy, lt_or_le, AllPairs-from_increasing, Decides-eqb, IsStrictlyIncreasing, list_any, or_fails, or_left, or_right, or_true}
+use Rattle.std.proofs.Common.{◌≡◌, ◌≤◌, ◌<◌, ◌+◌, ◌*◌, ◌/◌, ℕ, List, [], length, min, Some, arith, refl, ◌∙◌, ap, slice_get, ◌≢◌, ◌-◌, zero, suc, true, false, leb, ◌∷◌, ◌++◌, get_or, sym, ◌⊎◌, inl, inr, if◌then◌else◌, Bool, subst, nat_eq, nat_lt}
+use Rattle.lemmas.proofs.{div_ceil, div_ceil_times, length-map, mul-le, mul_comm, slice_get-map, AllWithin, le_or_lt, nat_tests, IsNonDecreasingBy, lt_or_le, AllPairs-from_increasing, Decides-eqb, IsStrictlyIncreasing, append-nil, false_from_ne_true, get_or_default, list_any, list_any_at, list_any_none, or_fails, or_left, or_right}
 use native.Mathlib.Nat.{add-mul}
 use Rattle.rdf_values.proofs.UnionLemmas.{length-below, slice_get-below}
 use Rattle.rdf_values.proofs.Evenly.{unmarked_cuts_are_even, cuts_lead}
@@ -143,30 +143,18 @@ holds_first ends n size marks number i h l low high =
 
 -- ---- marks
 
-any_cons : (e x : ℕ) (xs : List ℕ) → e ≡ x → list_any (nat_eq e) (x ∷ xs) ≡ true
-any_cons e x xs h = rw ((Decides-eqb e x).1 h) refl
-
 pub any_at : (xs : List ℕ) (e k : ℕ) → k < length xs → get_or xs k 0 ≡ e → list_any (nat_eq e) xs ≡ true
-any_at [] e k l h = absurd (omega (arith, l))
-any_at (x ∷ xs) e zero l h = any_cons e x xs (sym h)
-any_at (x ∷ xs) e (suc k) l h = rw (any_at xs e k (omega (arith, l)) h) (or_true (nat_eq e x))
+any_at xs e k l h = list_any_at (nat_eq e) xs k 0 l ((Decides-eqb e (get_or xs k 0)).1 (sym h))
 
 pub any_none : (xs : List ℕ) (e : ℕ) → ((k : ℕ) → k < length xs → get_or xs k 0 ≢ e) → list_any (nat_eq e) xs ≡ false
-any_none [] e h = refl
-any_none (x ∷ xs) e h = both (nat_eq e x) refl (any_none xs e (λ k l. h (suc k) (omega (arith, l))))
-  where
-    both : (b : Bool) → nat_eq e x ≡ b → list_any (nat_eq e) xs ≡ false → (b || list_any (nat_eq e) xs) ≡ false
-    both b q r = grind arith
-
-at_or : (next k : ℕ) → (k < next) ⊎ (next ≤ k)
-at_or next k = grind arith
+any_none xs e h = list_any_none (nat_eq e) xs (λ k d l. false_from_ne_true (nat_eq e (get_or xs k d)) (λ q. h k l (get_or_default xs k 0 d l ∙ sym ((Decides-eqb e (get_or xs k d)).0 q))))
 
 at_or_after : (next k : ℕ) → next ≤ k → (k ≡ next) ⊎ (next < k)
 at_or_after next k h = grind arith
 
 -- no mark is the entry, where the first that isn't below is not
 pub not_marked : (marks : List ℕ) (next entry : ℕ) → IsStrictlyIncreasing marks → IsPassed marks next entry → IsAhead marks next entry → (next < length marks → get_or marks next 0 ≢ entry) → list_any (nat_eq entry) marks ≡ false
-not_marked marks next entry rising passed ahead other = any_none marks entry (λ k l. go k l (at_or next k))
+not_marked marks next entry rising passed ahead other = any_none marks entry (λ k l. go k l (lt_or_le k next))
   where
     after : (k : ℕ) → k < length marks → (k ≡ next) ⊎ (next < k) → get_or marks k 0 ≢ entry
     after k l h = grind (arith, AllPairs-from_increasing)
@@ -224,11 +212,8 @@ cut_step size marks lo entry r b h = let next : suc entry ≡ entry + 1 = omega 
 at_size : (lo entry size : ℕ) → lo < entry → entry - lo ≡ size → nat_eq entry (lo + size) ≡ true
 at_size lo entry size l h = (Decides-eqb entry (lo + size)).1 (omega (arith, l, h))
 
-not_false : (b : Bool) → b ≢ true → b ≡ false
-not_false b h = grind arith
-
 off_size : (lo entry size : ℕ) → lo < entry → entry - lo ≢ size → nat_eq entry (lo + size) ≡ false
-off_size lo entry size l h = not_false (nat_eq entry (lo + size)) (λ q. h (let e = (Decides-eqb entry (lo + size)).0 q in omega (arith, e)))
+off_size lo entry size l h = false_from_ne_true (nat_eq entry (lo + size)) (λ q. h (let e = (Decides-eqb entry (lo + size)).0 q in omega (arith, e)))
 
 -- a cluster begins at the entry
 abbrev pub Begins : ℕ → ℕ → List ℕ → ℕ → Type 0
@@ -243,9 +228,5 @@ pub walk_on : (n size : ℕ) (marks ends : List ℕ) (lo entry old next : ℕ) �
     → Walked n size marks ends lo (entry + 1) next
 walk_on n size marks ends lo entry old next w h p a m s = grind (arith, fewer, cut_step, or_fails, list_any, off_size, passed_on, ahead_on)
 
-nil_end : (xs : List Span) → xs ++ [] ≡ xs
-nil_end [] = refl
-nil_end (x ∷ xs) = ap (λ l. x ∷ l) (nil_end xs)
-
 pub walk_end : (n size : ℕ) (marks ends : List ℕ) (lo entry next : ℕ) → Walked n size marks ends lo entry next → entry ≡ n → ranges_to 0 (ends ++ n ∷ []) ≡ cut n size marks
-walk_end n size marks ends lo entry next w h = grind (arith, nil_end, ranges_push)
+walk_end n size marks ends lo entry next w h = grind (arith, append-nil, ranges_push)

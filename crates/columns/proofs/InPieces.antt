@@ -1,14 +1,14 @@
 -- Numbers in pieces, and the columns that are kept of a table.
 use Rattle.std.proofs.Common.{◌≡◌, ◌≤◌, ◌<◌, ◌+◌, ◌-◌, ℕ, ℤ, List, [], ◌∷◌, ◌++◌, length, get_or, drop, take, max, min, refl, sym, ap, ap₂, ◌∙◌, arith, append-nil, length-append, zero, suc, map, Some, slice_get}
 use borrow.Rule.Slice.PartMut.{mid_len, mid_of, put_mid}
-use Rattle.std.proofs.lemmas.List.{drop-append-le, drop-drop, length-drop, length-take-le, take-append-drop, take-append-le, take_all, take_more}
-use Rattle.lemmas.proofs.{drop-append-add, flat_map-append, take-add, take-put_mid, AllByRecursion, get_or_from_slice_get, length-map, length-take, map-append, slice_get-get_or, slice_get-map, slice_get_within}
+use Rattle.std.proofs.lemmas.List.{drop-append-le, length-drop, length-take-le, take-append-drop, take-append-le, take_all, take_more}
+use Rattle.lemmas.proofs.{drop-append-add, flat_map-append, take-put_mid, All-from_recursion, AllByRecursion, get_or_from_slice_get, length-map, length-take, map-append, slice_get-get_or, slice_get-map, slice_get_within}
 use Rattle.columns.specs.{joined, cells_of, cluster_values, ColumnPieces, Holds, IsByCluster, whole}
 use Rattle.rdf_values.specs.{AreKept, ColType, Column, count, cut, IsIntColumn, Keep, kind_at, rows_kept, Span, TableView, Value}
 use Rattle.rdf_values.proofs.Evenly.{cuts_lead}
 use Rattle.rdf_values.proofs.KeptLemmas.{ints_column, kept_within, no_ints, no_vects, vects_column}
 use Rattle.columns.specs.declared.kept.Kept.{Kept}
-use Rattle.columns.proofs.BlockSteps.{span_within, values_of_cluster}
+use Rattle.columns.proofs.BlockSteps.{ranges_joined, span_within, values_of_cluster}
 
 -- ---- the first pieces
 
@@ -55,13 +55,6 @@ in_piece pieces i n piece lo hi e l s f h b =
 pub record AreReadUpTo (pieces : List (List ℤ)) (lo n i before : ℕ) (numbers : List ℤ) : Type 0 where
   pub here : before ≡ length (joined (take i pieces))
   pub same : take (min (lo + n) before - lo) numbers ≡ take (min (lo + n) before - lo) (drop lo (joined pieces))
-
--- a range and the one behind it
-ranges_joined : (xs : List ℤ) (lo from to : ℕ) → lo ≤ from → from ≤ to → take (from - lo) (drop lo xs) ++ take (to - from) (drop from xs) ≡ take (to - lo) (drop lo xs)
-ranges_joined xs lo from to h l =
-    let on : lo + (from - lo) ≡ from = omega (arith, h) in
-    let size : from - lo + (to - from) ≡ to - lo = omega (arith, h, l) in
-    sym (ap (λ (k : ℕ). take k (drop lo xs)) (sym size) ∙ take-add (from - lo) (to - from) (drop lo xs) ∙ ap (λ ys. take (from - lo) (drop lo xs) ++ take (to - from) ys) (drop-drop (from - lo) lo xs ∙ ap (λ (k : ℕ). drop k xs) on))
 
 pub none_read : (pieces : List (List ℤ)) (lo n : ℕ) (numbers : List ℤ) → AreReadUpTo pieces lo n 0 0 numbers
 none_read pieces lo n numbers = let none : min (lo + n) 0 - lo ≡ 0 = omega arith in record { here = refl; same = rw none refl }
@@ -124,9 +117,7 @@ pub not_ints : (columns : List Column) (all : List Kept) (n col : ℕ) (x : Kept
 not_ints columns all n col x values h e q i = no_ints columns (map cells_of all) n col (cells_of x) (joined values) h e (found columns all n col ColType.Vect x h e q) (ap cells_of i)
 
 at_by : (P : Kept → Type 0) (all : List Kept) (col : ℕ) (d : Kept) → AllByRecursion P all → col < length all → P (get_or all col d)
-at_by P [] col d h l = absurd (omega (arith, l))
-at_by P (x ∷ xs) zero d h l = h.0
-at_by P (x ∷ xs) (suc col) d h l = at_by P xs col d h.1 (omega (arith, l))
+at_by P all col d h l = All-from_recursion P all h col d l
 
 pub by_cluster : (columns : List Column) (all : List Kept) (n col : ℕ) (x : Kept) (values : List (List ℤ)) (spans : List Span) → AreKept n columns (map cells_of all) → kind_at columns col ≡ Some ColType.Int → x ≡ get_or all col x → x ≡ Kept.Ints values
     → AllByRecursion (IsByCluster spans) all → values ≡ cluster_values spans (joined values)

@@ -1,5 +1,5 @@
 -- Columns of a table with those of another behind them.
-use Rattle.std.proofs.Common.{◌≡◌, ◌≤◌, ◌<◌, ◌+◌, ℕ, zero, suc, pos, List, [], ◌∷◌, ◌++◌, length, get_or, set, drop, take, map, arith, refl, ap, ap₂, ◌∙◌, sym, subst, length-append, add-one, append-nil, append_assoc}
+use Rattle.std.proofs.Common.{◌≡◌, ◌≤◌, ◌<◌, ◌+◌, ℕ, zero, suc, pos, List, [], ◌∷◌, ◌++◌, length, get_or, set, drop, take, map, arith, refl, ap, ap₂, ◌∙◌, sym, length-append, append-nil, append_assoc}
 use Rattle.std.proofs.lemmas.List.{get_or-append-add, get_or_append_left, get_or-map, length-drop, length-map, length-set, map-append, map-set, take_all}
 use Rattle.rdf_values.specs.{AreKept, below, cell_at, Cells, ColType, Column, FitRows, HoldsTable, IsKept, rows_kept, Value}
 use Rattle.rdf_values.proofs.UnionLemmas.{map-below}
@@ -38,15 +38,13 @@ cells_join ColType.Int (Cells.Ints ns) (Cells.Ints ms) n m h l = record {
   second = λ e. rw (← h) (ap Value.Int (get_or-append-add ns ms e (pos 0)));
 }
 cells_join ColType.Int (Cells.Ints ns) (Cells.Vects ws) n m h l = absurd l
-cells_join ColType.Int (Cells.Vects vs) y n m h l = absurd h
-cells_join ColType.Bool x y n m h l = absurd h
-cells_join ColType.Vect (Cells.Ints ns) y n m h l = absurd h
 cells_join ColType.Vect (Cells.Vects vs) (Cells.Ints ms) n m h l = absurd l
 cells_join ColType.Vect (Cells.Vects vs) (Cells.Vects ws) n m h l = record {
   kept = omega (arith, h, l, length-append vs ws);
   first = λ e t. ap Value.Vect (get_or_append_left vs ws [] e (omega (arith, h)));
   second = λ e. rw (← h) (ap Value.Vect (get_or-append-add vs ws e []));
 }
+cells_join k x y n m h l = absurd h
 
 -- columns with others behind them
 record ColumnsJoin (columns : List Column) (xs ys : List Cells) (n m : ℕ) : Type 0 where

@@ -64,8 +64,7 @@ fn read_each<const WIDTH: u32>(bytes: &[u8], least: i64, numbers: &mut [i64])
     }
 }
 
-/// Reads numbers from their bytes, as they are packed. Each width has a loop of its own, without a call or a test for each
-/// number.
+/// Reads numbers from their bytes. Each width has a loop of its own, without a call or a test for each number.
 pub(crate) fn read_packed(bytes: &[u8], packing: Packing, numbers: &mut [i64])
     requires width { IsWidth packing.width }
     requires long { length numbers.old * packing.width ≤ length bytes.now }
@@ -100,8 +99,7 @@ fn push_each<const WIDTH: usize>(values: &[i64], least: i64, mut bytes: Vec<u8>)
     bytes
 }
 
-/// Appends the bytes of numbers, as they are packed. Each width has a loop of its own, without a call or a test for each
-/// number.
+/// Appends the bytes of numbers. Each width has a loop of its own, without a call or a test for each number.
 pub(crate) fn push_packed(
     values: &[i64],
     packing: Packing,

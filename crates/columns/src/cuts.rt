@@ -36,8 +36,7 @@ impl Model for Cuts {
     ghost invariant = { λ c. HoldCuts (record { entries = c.entries; size = c.size; marks = c.marks }) c.ranges };
 }
 
-/// The entries, cut at the marks and into clusters of at most that size between them; no entries give no clusters.
-/// Without marks no memory is taken.
+/// The entries, cut at the marks and into clusters of at most that size between them. Without marks no memory is taken.
 pub fn cut(alloc: Global, entries: u32, size: u32, marks: &Marks) -> Result<Cuts, Memory>
     requires few { entries ≤ 1000000 }
     requires some { 1 ≤ size }

@@ -99,8 +99,7 @@ pub fn halves(slots: u32) -> (u32, u32)
     (first, slots - first)
 }
 
-/// What `keep_all` keeps, packed side by side: about half of the columns by half of the slots, the others by the
-/// other slots.
+/// What `keep_all` keeps, packed side by side: about half of the columns by half of the slots.
 pub(crate) fn keep_in_slots<R: Threads + Sync>(
     rt: &R,
     alloc: Global,

@@ -1,12 +1,11 @@
 -- A well typed expression is plain where none of its columns is a vector, and then no part of it is one.
-use Rattle.std.proofs.Common.{◌≡◌, ℕ, Bool, true, false, List, [], ◌∷◌, ◌++◌, length, Option, Some, None, Result, Ok, Err, refl, ap, sym, ◌∙◌, subst, cond, arith, nat_eq, not, ◌&&◌, ◌||◌, slice_get, replicate, if◌then◌else◌, ◌↔◌, All}
+use Rattle.std.proofs.Common.{◌≡◌, ℕ, Bool, true, false, List, [], ◌∷◌, ◌++◌, length, Option, Some, None, Result, Ok, refl, ap, sym, ◌∙◌, subst, cond, arith, nat_eq, not, ◌&&◌, slice_get, replicate, ◌↔◌}
 use Rattle.lemmas.proofs.{AllByRecursion, and_holds, and_left, and_right, Decides-eqb, false_from_ne_true, firsts-zip, left_false, list_any, not_true, right_false, zip, All-from_recursion, recursion_from_All}
-use Rattle.rdf_values.specs.{◌>>=◌, args_count, arithmetic_kind, Bin, BinOp, Call, Callee, chosen_kind, Col, ColType, columns_in, columns_in_all, Cond, End, equality_kind, FnName, FunctionNames, GraphCause, inverted_kind, kinds_by, Lit, logical_kind, More, Neg, negated_kind, Not, NumTree, operator_kind, Pick, picked_kind, same_kind, same_kinds, Shape, shape, Trees}
+use Rattle.rdf_values.specs.{args_count, arithmetic_kind, Bin, BinOp, Call, Callee, chosen_kind, Col, ColType, columns_in, columns_in_all, Cond, End, equality_kind, FnName, FunctionNames, GraphCause, inverted_kind, kinds_by, Lit, logical_kind, More, Neg, negated_kind, Not, NumTree, operator_kind, Pick, picked_kind, same_kind, same_kinds, Shape, shape, Trees}
 use Rattle.rdf_values.specs.expressions.Expressions.{Truth}
-use Rattle.rdf_values.specs.declared.scripts.graph_cause.GraphCause.TheVariants.{WrongType, WrongCount}
 use Rattle.expr_check.specs.{all_are_plain, callee_shape, checked_expr, distinct, given_shape, gives_vector, is_plain, is_vector, IsWellTyped, num_kind, number_kind, takes_no_vector, HasNoVector, parts, parts_of_all}
 use Rattle.expr_check.proofs.Distinct.{each_left, each_right, each_append, each_distinct, NoTwice, NoTwice-distinct}
-use Rattle.expr_check.proofs.Typed.{bind_ok, call_ok}
+use Rattle.expr_check.proofs.Typed.{bind_ok, call_ok, typed_ok}
 
 negated_scalar : (s k : ColType) → negated_kind s ≡ Ok k → is_vector s ≡ false → is_vector k ≡ false
 negated_scalar ColType.Int k h p = ap gives_vector (sym h)
@@ -40,12 +39,8 @@ operator_scalar BinOp.Gt s t k h p q = arithmetic_scalar ColType.Bool s t k refl
 operator_scalar BinOp.Ge s t k h p q = arithmetic_scalar ColType.Bool s t k refl h p q
 operator_scalar o s t k h p q = arithmetic_scalar ColType.Int s t k refl h p q
 
-if_scalar : (b : Bool) (s k : ColType) → (if b then Ok s else Err WrongType) ≡ Ok k → is_vector s ≡ false → is_vector k ≡ false
-if_scalar true s k h p = ap gives_vector (sym h) ∙ p
-if_scalar false s k h p = cc h
-
 chosen_scalar : (c s t k : ColType) → chosen_kind c s t ≡ Ok k → is_vector s ≡ false → is_vector k ≡ false
-chosen_scalar ColType.Bool s t k h p = if_scalar (same_kind s t) s k h p
+chosen_scalar ColType.Bool s t k h p = ap is_vector (sym (typed_ok (same_kind s t) s k h).1) ∙ p
 chosen_scalar c s t k h p = cc h
 
 -- nothing is picked from what is no vector
@@ -73,11 +68,6 @@ called_scalar : (names : FunctionNames) (f : Callee) (s : Shape) (ts : List ColT
 called_scalar names Callee.Abs s ts h each fit = (refl, let same_shape : shape (ColType.Int ∷ []) ColType.Int ≡ s = cc h in ap (λ (t : Shape). is_vector t.gives) (sym same_shape))
 called_scalar names (Callee.Given i) s ts h each fit = (refl, given_scalar (slice_get names i) s h)
 called_scalar names f s ts h each fit = absurd (vector_taken s ts _ _ h each fit)
-
-call_gives : (counted : Bool) (kinds : Result (List ColType) GraphCause) (takes : List ColType) (gives k : ColType)
-    → (if counted then (kinds >>= λ ts. if same_kinds ts takes then Ok gives else Err WrongType) else Err WrongCount) ≡ Ok k → is_vector gives ≡ false → is_vector k ≡ false
-call_gives true (Ok ts) takes gives k h p = if_scalar (same_kinds ts takes) gives k h p
-call_gives counted kinds takes gives k h p = cc h
 
 -- no column of that number is a vector
 abbrev NoVector : List (ℕ × ColType) → ℕ → Type 0
@@ -157,7 +147,7 @@ module _ (kinds : List (ℕ × ColType)) (names : FunctionNames) where
         let ts = call_ok (nat_eq (args_count args) (length s.0.takes)) (kinds_by (number_kind kinds) (callee_shape names) args) s.0.takes s.0.gives k s.2 in
         let p = all_plain_typed args ts.0 ts.1 each in
         let q = called_scalar names f s.0 ts.0 s.1 p.1 ts.3 in
-        let scalar = call_gives (nat_eq (args_count args) (length s.0.takes)) (kinds_by (number_kind kinds) (callee_shape names) args) s.0.takes s.0.gives k s.2 q.1 in
+        let scalar = ap is_vector (sym ts.4) ∙ q.1 in
         (and_holds (takes_no_vector f) (all_are_plain kinds args) q.0 p.0, scalar, (here (Call f args) k h scalar, p.2))
 
     all_plain_typed : (args : Trees ℕ Callee) (ks : List ColType) → kinds_by (number_kind kinds) (callee_shape names) args ≡ Ok ks → AllByRecursion (NoVector kinds) (columns_in_all args)

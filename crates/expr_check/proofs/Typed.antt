@@ -62,15 +62,15 @@ pub bind_ok : {A B : Type 0} (r : Result A GraphCause) (f : A → Result B Graph
 bind_ok (Ok a) f b h = (a, refl, h)
 bind_ok (Err e) f b h = cc h
 
-typed_ok : (b : Bool) (gives k : ColType) → (if b then Ok gives else Err WrongType) ≡ Ok k → b ≡ true
-typed_ok true gives k h = refl
+pub typed_ok : (b : Bool) (gives k : ColType) → (if b then Ok gives else Err WrongType) ≡ Ok k → (b ≡ true) × (gives ≡ k)
+typed_ok true gives k h = (refl, cc h)
 typed_ok false gives k h = cc h
 
 -- a call that has a kind has as many arguments as its function takes, of these kinds
 pub call_ok : (counted : Bool) (kinds : Result (List ColType) GraphCause) (takes : List ColType) (gives k : ColType)
     → (if counted then (kinds >>= λ ts. if same_kinds ts takes then Ok gives else Err WrongType) else Err WrongCount) ≡ Ok k
-    → (ts : List ColType) × (kinds ≡ Ok ts) × (counted ≡ true) × (same_kinds ts takes ≡ true)
-call_ok true (Ok ts) takes gives k h = (ts, refl, refl, typed_ok (same_kinds ts takes) gives k h)
+    → (ts : List ColType) × (kinds ≡ Ok ts) × (counted ≡ true) × (same_kinds ts takes ≡ true) × (gives ≡ k)
+call_ok true (Ok ts) takes gives k h = let typed = typed_ok (same_kinds ts takes) gives k h in (ts, refl, refl, typed.0, typed.1)
 call_ok counted kinds takes gives k h = cc h
 
 -- each column of an expression that has a kind is known

@@ -1,19 +1,13 @@
 -- Operations whose left side may decide, and elements one after the other.
-use Rattle.std.proofs.Common.{◌≡◌, ℕ, Bool, true, false, None, Result, refl, ◌<◌, ◌+◌, zero, suc, ℤ, pos, negsuc, List, [], ◌∷◌, ◌++◌, length, drop, get_or, ◌∙◌, append_assoc, ap, sym, ◌+ℤ◌, fold, if◌then◌else◌, arith}
+use Rattle.std.proofs.Common.{◌≡◌, ℕ, Bool, true, false, None, Result, refl, ◌<◌, ◌+◌, zero, ℤ, pos, List, [], ◌∷◌, ◌++◌, length, drop, get_or, ◌∙◌, append_assoc, ap, sym, ◌+ℤ◌, fold, if◌then◌else◌, arith}
 use Rattle.rdf_values.specs.{BinOp, Value, EntryFault}
-use Rattle.rdf_model.specs.{◌>>=◌, Gives, operation, Outcome, value_operation, checked, Faults, for_all, gives_int, is_set, marked, Needs, pairs, sum_from}
+use Rattle.rdf_model.specs.{◌>>=◌, Gives, operation, Outcome, value_operation, checked, Faults, for_all, gives_int, is_set, marked, pairs, sum_from}
 use Rattle.expr_eval.specs.{AnswersAs, decision, EvalStop, following}
 use Rattle.std.proofs.lemmas.List.{at_drop_more}
 
 leaves_open : (o : BinOp) (v : Value) (p : Outcome ℕ Value) → decision o v ≡ None → operation o (Gives v) p ≡ (p >>= value_operation o v)
 leaves_open BinOp.And (Value.Bool false) p e = absurd (cc)
-leaves_open BinOp.And (Value.Bool true) p e = refl
-leaves_open BinOp.And (Value.Int z) p e = refl
-leaves_open BinOp.And (Value.Vect zs) p e = refl
 leaves_open BinOp.Or (Value.Bool true) p e = absurd (cc)
-leaves_open BinOp.Or (Value.Bool false) p e = refl
-leaves_open BinOp.Or (Value.Int z) p e = refl
-leaves_open BinOp.Or (Value.Vect zs) p e = refl
 leaves_open o v p e = refl
 
 module _ (o : BinOp) (v : Value) (left right : Outcome ℕ Value) (given : left ≡ Gives v) where
@@ -24,8 +18,7 @@ module _ (o : BinOp) (v : Value) (left right : Outcome ℕ Value) (given : left 
 
 following_one : {A : Type 0} (out : List A) (y : A) (o : Outcome ℕ (List A)) → following out (o >>= λ ys. Gives (y ∷ ys)) ≡ following (out ++ y ∷ []) o
 following_one out y (Gives ys) = ap Gives (sym (append_assoc out (y ∷ []) ys))
-following_one out y (Faults k) = refl
-following_one out y (Needs c) = refl
+following_one out y o = refl
 
 module _ {A : Type 0} (f : A → Outcome ℕ ℤ) where
   one_more : (out : List ℤ) (x : A) (rest : List A) (y : ℤ) → Gives y ≡ f x → following out (for_all f (x ∷ rest)) ≡ following (out ++ y ∷ []) (for_all f rest)
@@ -92,5 +85,4 @@ module _ (xs ms : List ℤ) (i : ℕ) (d e : ℤ) (inside : i < length xs) (same
 -- a mark that isn't 0 is set
 pub set_mark : (m : ℤ) → (m ≡ pos 0 → ⊥) → is_set m ≡ true
 set_mark (pos zero) h = absurd (h refl)
-set_mark (pos (suc n)) h = refl
-set_mark (negsuc n) h = refl
+set_mark m h = refl

@@ -1,8 +1,7 @@
 -- A checked expression comes to a value of its kind, and its calls can be made.
 use Rattle.std.proofs.Common.{◌≡◌, ◌≤◌, ◌<◌, ℕ, suc, zero, true, List, [], ◌∷◌, length, Result, Ok, arith, sym, subst, nat_eq, HoldsAt, slice_get, MatchOption, Bool, false, ◌++◌, map, IsOk, refl, cond, All, ℤ, pos, Option, Some, None, nat_abs, replicate, IfOk}
 use Rattle.lemmas.proofs.{AllByRecursion, Decides-eqb, recursion_from_All}
-use Rattle.rdf_values.specs.{AreFnNames, args_count, Bin, Call, Callee, Col, ColType, Cond, End, fn_names, FnName, Function, FunctionNames, GraphCause, kind_by, kinds_by, Lit, More, Neg, Not, NumTree, Pick, Shape, shape, Trees, columns_in, columns_in_all, EachArgument, EachColumn, Tree, Value, FitsKind, Scalar}
-use Rattle.rdf_values.specs.expressions.Expressions.{Truth}
+use Rattle.rdf_values.specs.{AreFnNames, args_count, Bin, Call, Callee, Col, ColType, Cond, End, fn_names, FnName, Function, FunctionNames, GraphCause, kind_by, kinds_by, More, Neg, Not, NumTree, Pick, Shape, shape, Trees, columns_in, columns_in_all, EachArgument, EachColumn, Tree, Value, FitsKind, Scalar}
 use Rattle.expr_check.specs.{AllCallsFit, callee_shape, CallsFit, CheckedExpr, IsCallOf, IsTyped, number_kind, gives_vector, is_plain, given_shape}
 use Rattle.expr_check.proofs.Typed.{bind_ok, call_ok, columns_known}
 use Rattle.expr_eval.specs.{ArgumentsCanCall, CallFits, GivesScalar, AnswersAs, EvalStop, scalar_outcome, scalar_value, ScalarStop}
@@ -31,21 +30,11 @@ few_taken takes gives s count few is counts =
 module _ (functions : List Function) (few : AllByRecursion (λ (f : FnName). f.arity ≤ 8) (fn_names functions)) where
   call_can : (names : FunctionNames) (f : Callee) (s : Shape) (count : ℕ) → callee_shape names f ≡ Ok s → nat_eq count (length s.takes) ≡ true → IsCallOf (fn_names functions) f count → CallFits functions f count × (count ≤ 8)
   call_can names (Callee.Given i) s count is counts h = let r = given_can functions i count few h in ((r.0, r.1), r.2)
-  call_can names Callee.Sum s count is counts h = (tt, few_taken (ColType.Vect ∷ []) ColType.Int s count (omega arith) is counts)
-  call_can names Callee.Min s count is counts h = (tt, few_taken (ColType.Vect ∷ []) ColType.Int s count (omega arith) is counts)
-  call_can names Callee.Max s count is counts h = (tt, few_taken (ColType.Vect ∷ []) ColType.Int s count (omega arith) is counts)
-  call_can names Callee.Size s count is counts h = (tt, few_taken (ColType.Vect ∷ []) ColType.Int s count (omega arith) is counts)
-  call_can names Callee.Any s count is counts h = (tt, few_taken (ColType.Vect ∷ []) ColType.Bool s count (omega arith) is counts)
-  call_can names Callee.All s count is counts h = (tt, few_taken (ColType.Vect ∷ []) ColType.Bool s count (omega arith) is counts)
-  call_can names Callee.At s count is counts h = (tt, few_taken (ColType.Vect ∷ ColType.Int ∷ []) ColType.Int s count (omega arith) is counts)
-  call_can names Callee.Abs s count is counts h = (tt, few_taken (ColType.Int ∷ []) ColType.Int s count (omega arith) is counts)
+  call_can names f s count is counts h = (tt, few_taken _ _ s count (omega arith) is counts)
 
   module _ (col : ℕ → Result ColType GraphCause) (names : FunctionNames) where
     mutual
       calls_can : (e : NumTree) (k : ColType) → kind_by col (callee_shape names) e ≡ Ok k → CallsFit (fn_names functions) e → CanCall functions e
-      calls_can (Lit z) k h fit = tt
-      calls_can (Truth b) k h fit = tt
-      calls_can (Col c) k h fit = tt
       calls_can (Neg a) k h fit = let w = bind_ok (kind_by col (callee_shape names) a) _ k h in calls_can a w.0 w.1 fit
       calls_can (Not a) k h fit = let w = bind_ok (kind_by col (callee_shape names) a) _ k h in calls_can a w.0 w.1 fit
       calls_can (Bin o a b) k h fit =
@@ -66,6 +55,7 @@ module _ (functions : List Function) (few : AllByRecursion (λ (f : FnName). f.a
           let ts = call_ok (nat_eq (args_count args) (length s.0.takes)) (kinds_by col (callee_shape names) args) s.0.takes s.0.gives k s.2 in
           let one = call_can names f s.0 (args_count args) s.1 ts.2 fit.0 in
           (one.0, one.1, all_calls_can args ts.0 ts.1 fit.1)
+      calls_can e k h fit = tt
 
       all_calls_can : (args : Trees ℕ Callee) (ks : List ColType) → kinds_by col (callee_shape names) args ≡ Ok ks → AllCallsFit (fn_names functions) args → ArgumentsCanCall functions args
       all_calls_can End ks h fit = tt
@@ -83,8 +73,6 @@ can_call functions e are typed fit =
 module _ {C F : Type 0} (P : C → Type 0) where
   mutual
     each_column : (e : Tree C F) → AllByRecursion P (columns_in e) → EachColumn P e
-    each_column (Lit z) h = tt
-    each_column (Truth b) h = tt
     each_column (Col c) h = h.0
     each_column (Neg a) h = each_column a h
     each_column (Not a) h = each_column a h
@@ -97,6 +85,7 @@ module _ {C F : Type 0} (P : C → Type 0) where
         )
     each_column (Pick v i) h = (each_column v (each_left P (columns_in v) (columns_in i) h), each_column i (each_right P (columns_in v) (columns_in i) h))
     each_column (Call f args) h = each_argument args h
+    each_column e h = tt
 
     each_argument : (args : Trees C F) → AllByRecursion P (columns_in_all args) → EachArgument P args
     each_argument End h = tt
@@ -171,23 +160,20 @@ given_fits f zs = grind (arith, answer_fits)
 of_vector : (t : ColType) (o : List Value → Outcome ℕ Value) → ((xs : List ℤ) → FitsOutcome t (o (Value.Vect xs ∷ []))) → (vs : List Value) → FitKinds (ColType.Vect ∷ []) vs → FitsOutcome t (o vs)
 of_vector t o h (Value.Vect xs ∷ []) f = h xs
 of_vector t o h (Value.Vect xs ∷ w ∷ vs) f = absurd f.1
-of_vector t o h (Value.Int z ∷ vs) f = absurd f.0
-of_vector t o h (Value.Bool b ∷ vs) f = absurd f.0
+of_vector t o h (v ∷ vs) f = absurd f.0
 of_vector t o h [] f = absurd f
 
 -- one argument that is a number
 of_number : (t : ColType) (o : List Value → Outcome ℕ Value) → ((z : ℤ) → FitsOutcome t (o (Value.Int z ∷ []))) → (vs : List Value) → FitKinds (ColType.Int ∷ []) vs → FitsOutcome t (o vs)
 of_number t o h (Value.Int z ∷ []) f = h z
 of_number t o h (Value.Int z ∷ w ∷ vs) f = absurd f.1
-of_number t o h (Value.Vect xs ∷ vs) f = absurd f.0
-of_number t o h (Value.Bool b ∷ vs) f = absurd f.0
+of_number t o h (v ∷ vs) f = absurd f.0
 of_number t o h [] f = absurd f
 
 -- a vector and a number
 of_vector_and_number : (t : ColType) (o : List Value → Outcome ℕ Value) → ((xs : List ℤ) (z : ℤ) → FitsOutcome t (o (Value.Vect xs ∷ Value.Int z ∷ []))) → (vs : List Value) → FitKinds (ColType.Vect ∷ ColType.Int ∷ []) vs → FitsOutcome t (o vs)
 of_vector_and_number t o h (Value.Vect xs ∷ vs) f = of_number t (λ ws. o (Value.Vect xs ∷ ws)) (h xs) vs f.1
-of_vector_and_number t o h (Value.Int z ∷ vs) f = absurd f.0
-of_vector_and_number t o h (Value.Bool b ∷ vs) f = absurd f.0
+of_vector_and_number t o h (v ∷ vs) f = absurd f.0
 of_vector_and_number t o h [] f = absurd f
 
 -- what a function of that shape gives

@@ -1,5 +1,5 @@
 -- One more place, as a loop over a selection meets it, and loops that part one.
-use Rattle.std.proofs.Common.{◌≡◌, ◌≢◌, ◌<◌, ◌≤◌, ◌+◌, ℕ, ℤ, Bool, true, false, List, [], ◌∷◌, ◌++◌, length, get_or, take, drop, set, ◌∙◌, refl, ap, sym, subst, append_assoc, add-zero, arith, Result, Err, ◌||◌, cond, if◌then◌else◌, inl, inr, get_or-set_same, get_or-set_other, nat_eq}
+use Rattle.std.proofs.Common.{◌≡◌, ◌≢◌, ◌<◌, ◌≤◌, ◌+◌, ℕ, ℤ, Bool, true, false, not, List, [], ◌∷◌, ◌++◌, length, get_or, take, drop, set, ◌∙◌, refl, ap, sym, subst, append_assoc, add-zero, arith, Result, Err, ◌||◌, cond, if◌then◌else◌, inl, inr, get_or-set_same, get_or-set_other, nat_eq}
 use Rattle.lemmas.proofs.{append-nil, FiltersInPlace, FiltersInPlace-more_no, FiltersInPlace-more_set, get_or-drop, get_or-take, length-append, length-take-le, take_more, take_more_set, eqb_tells, filter, list_any_more}
 use Rattle.rdf_model.specs.{Faults, Gives, Needs, Outcome}
 use Rattle.expr_eval.specs.{ScalarStop}
@@ -140,17 +140,17 @@ filter_alike one two [] h = refl
 filter_alike one two (x ∷ xs) h =
     ap (λ b. cond b (x ∷ filter one xs) (filter one xs)) (h x (first_in x xs)) ∙ ap (λ l. cond (two x) (x ∷ l) l) (filter_alike one two xs (λ q i. h q (rest_in q x xs i)))
 
-either_mark : (o z : Bool) → (if o then true else (if z then true else false)) ≡ (o || z)
-either_mark o z = grind arith
+either_unmarked : (o z : Bool) → not (if o then false else (if z then false else true)) ≡ (o || z)
+either_unmarked o z = grind arith
 
--- the marks after the selection was unmarked and then its two sides were marked
-pub rejoined : (sel zeros others : List ℕ) (m0 m1 m2 m3 : List Bool) → ((p : ℕ) → is_marked m1 p ≡ (if is_in p sel then false else is_marked m0 p)) → ((p : ℕ) → is_marked m2 p ≡ (if is_in p zeros then true else is_marked m1 p))
-    → ((p : ℕ) → is_marked m3 p ≡ (if is_in p others then true else is_marked m2 p)) → filter (λ p. is_marked m3 p) sel ≡ filter (λ p. is_in p others || is_in p zeros) sel
-rejoined sel zeros others m0 m1 m2 m3 unmarked first second =
-    filter_alike (λ p. is_marked m3 p) (λ p. is_in p others || is_in p zeros) sel
+-- the marks after the selection was marked and then its two sides were unmarked
+pub rejoined : (sel zeros others : List ℕ) (m0 m1 m2 m3 : List Bool) → ((p : ℕ) → is_marked m1 p ≡ (if is_in p sel then true else is_marked m0 p)) → ((p : ℕ) → is_marked m2 p ≡ (if is_in p zeros then false else is_marked m1 p))
+    → ((p : ℕ) → is_marked m3 p ≡ (if is_in p others then false else is_marked m2 p)) → filter (λ p. not (is_marked m3 p)) sel ≡ filter (λ p. is_in p others || is_in p zeros) sel
+rejoined sel zeros others m0 m1 m2 m3 marked first second =
+    filter_alike (λ p. not (is_marked m3 p)) (λ p. is_in p others || is_in p zeros) sel
     (λ p h.
-    let none : is_marked m1 p ≡ false = unmarked p ∙ ap (λ b. if b then false else is_marked m0 p) h in
-    second p ∙ ap (λ b. if is_in p others then true else b) (first p ∙ ap (λ b. if is_in p zeros then true else b) none) ∙ either_mark (is_in p others) (is_in p zeros))
+    let all : is_marked m1 p ≡ true = marked p ∙ ap (λ b. if b then true else is_marked m0 p) h in
+    ap not (second p ∙ ap (λ b. if is_in p others then false else b) (first p ∙ ap (λ b. if is_in p zeros then false else b) all)) ∙ either_unmarked (is_in p others) (is_in p zeros))
 
 -- the same of selections as they are seen
 pub rejoined_as : (kept sel zeros others sel1 zeros1 others1 : List ℕ) → sel ≡ sel1 → zeros ≡ zeros1 → others ≡ others1 → kept ≡ filter (λ p. is_in p others || is_in p zeros) sel → kept ≡ filter (λ p. is_in p others1 || is_in p zeros1) sel1

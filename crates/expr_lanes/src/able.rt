@@ -43,8 +43,7 @@ fn are_args_able<I: LaneInputs>(args: &NumArgs, inputs: &I) -> bool
     }
 }
 
-/// Whether an expression can be evaluated over a block: it has to do with no vectors but columns of which a function makes a
-/// number, and each other column that it reads is one of numbers.
+/// Whether an expression can be evaluated over a block: with vectors only as columns of which a function makes a number.
 pub fn can_eval_lane<I: LaneInputs>(expr: &Checked, inputs: &I) -> bool
     requires { All (λ c. I.can_tell inputs.now c.0) expr.now.kinds }
     ensures scalar { result ≡ true → is_vector expr.now.kind ≡ false }

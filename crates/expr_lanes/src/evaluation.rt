@@ -64,8 +64,7 @@ impl<'a, I: LaneInputs> Calls for Evaluation<'a, I> {
     }
 }
 
-/// Evaluates an expression at the selected places of a block, in a step each. The places that
-/// come to a value stay selected, and the lane then holds their values; each other place becomes a stop. It takes no memory.
+/// Evaluates an expression at the selected places of a block, in a step each. It takes no memory.
 pub fn eval_lane<I: LaneInputs, L: Ledger>(
     evaluation: &Evaluation<'_, I>,
     selection: &mut Selection,

@@ -112,8 +112,7 @@ impl<'a, S: LaneInputs> Kernel for FoldedList<'a, S> {
     }
 }
 
-/// Writes what the function comes to at each selected place into the lane. As an operator, each function is a constant of a loop of
-/// its own.
+/// Writes what the function comes to at each selected place into the lane: each is a constant of a loop of its own.
 fn fold_list<S: LaneInputs>(
     fold: Fold,
     column: ListedColumn<'_, S>,

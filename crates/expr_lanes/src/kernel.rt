@@ -71,8 +71,7 @@ fn cover_selected<K: Kernel>(kernel: &K, selection: &Selection, lane: &mut [i64]
     }
 }
 
-/// Writes what each selected place comes to into the lane, moves the places that came to a value to the front, and answers
-/// how many they are. The others become stops.
+/// Writes what each place comes to into the lane, moves those that came to a value to the front, and answers how many they are.
 fn sift<K: Kernel>(
     kernel: &K,
     places: &mut [u32],
@@ -102,8 +101,7 @@ fn sift<K: Kernel>(
     kept
 }
 
-/// Writes what each selected place comes to into the lane. The places that come to a value stay selected, and the others become
-/// stops.
+/// Writes what each selected place comes to into the lane; those that come to no value become stops.
 #[inline(always)]
 pub(crate) fn run<K: Kernel>(
     kernel: &K,

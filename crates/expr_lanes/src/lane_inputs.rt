@@ -31,8 +31,7 @@ pub struct LaneVectors<'a> {
     pub first: u32,
 }
 
-/// The columns of a block by their numbers: how many places it has, which columns can be read as numbers, which can be told at a
-/// place, as those with vectors, and what each comes to at each place.
+/// The columns of a block: which can be read as numbers, which can be told at a place, and what each comes to there.
 pub trait LaneInputs {
     ghost size: { Self → ℕ };
 

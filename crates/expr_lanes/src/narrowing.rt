@@ -15,21 +15,6 @@ pub(crate) trait PlaceTest {
         ensures { result ≡ passes self.now place };
 }
 
-/// The places that are marked.
-#[derive(Drop)]
-pub(crate) struct Marked<'a>(pub(crate) &'a [bool]);
-
-impl<'a> PlaceTest for Marked<'a> {
-    ghost can = { λ t p. p < length t.0.now };
-
-    ghost passes = { λ t p. is_marked t.0.now p };
-
-    #[inline(always)]
-    fn passes_at(&self, place: u32) -> bool {
-        self.0[place as usize]
-    }
-}
-
 /// The places that are not marked.
 #[derive(Drop)]
 pub(crate) struct Unmarked<'a>(pub(crate) &'a [bool]);

@@ -4,7 +4,7 @@ ghost use Rattle.std.specs.List.{filter};
 ghost use Rattle.rdf_model.specs.{is_zero};
 ghost use Rattle.expr_lanes.specs.{at_place, EachPlace, is_in, is_marked};
 
-use crate::narrowing::{Marked, keep_places};
+use crate::narrowing::{Unmarked, keep_places};
 use crate::selection::Selection;
 
 /// Parts the first places of a list into those at which the lane holds a 0 and the others, and answers how many these are.
@@ -93,9 +93,9 @@ pub(crate) fn rejoin(
         return;
     }
     let count = selection.count;
-    mark_places(&selection.places, count, false, marks);
-    mark_places(&zeros.places, zeros.count, true, marks);
-    mark_places(&others.places, others.count, true, marks);
-    selection.count = keep_places(&mut selection.places, count, &Marked(marks));
+    mark_places(&selection.places, count, true, marks);
+    mark_places(&zeros.places, zeros.count, false, marks);
+    mark_places(&others.places, others.count, false, marks);
+    selection.count = keep_places(&mut selection.places, count, &Unmarked(marks));
     selection.is_dense = false;
 }

@@ -14,8 +14,7 @@ square_bound : (w : ℤ) → IsWeight w → nat_abs (w *ℤ w) ≤ 4611686014132
 square_bound w h = rw (unsigned_abs-mul w w) (squares_below (nat_abs w) 2147483647 h)
 
 pub abs_of_fit : (w : ℤ) → FitsSigned w64 w → nat_abs w ≤ 2 ^ 63
-abs_of_fit (pos n) h = let s = h.sfits in omega arith
-abs_of_fit (negsuc n) h = let s = h.sfits in omega arith
+abs_of_fit w h = grind arith
 
 -- a number of 64 bits fits 128, and so does its square
 pub widened : (w : ℤ) → FitsSigned w64 w → FitsSigned w128 w × FitsSigned w128 (w *ℤ w)

@@ -66,9 +66,7 @@ module _ (xs ys : List ℤ) where
 
   cell_yes : (points : List Item) (x y w : ℤ) (i j : ℕ) → i ≡ bin xs x → j ≡ bin ys y
       → square_cell xs ys (points ++ Point2 x y w ∷ []) i j ≡ joined (square_cell xs ys points i j) (record { sum = w; squares = w *ℤ w })
-  cell_yes points x y w i j e f =
-      let ws = flat_map (weight_in2 xs ys i j) points in
-      ap cell_of (flat_map-append (weight_in2 xs ys i j) points (Point2 x y w ∷ []) ∙ ap (λ vs. ws ++ vs) (weights_yes x y w i j e f)) ∙ cell_of-append ws (w ∷ []) ∙ rw (+ℤ_idl w, +ℤ_idl (w *ℤ w)) refl
+  cell_yes points x y w i j e f = grind (arith, flat_map-append, weights_yes, cell_of-append, +ℤ_idl)
 
   cell_no : (points : List Item) (x y w : ℤ) (i j : ℕ) → flat_map (weight_in2 xs ys i j) (Point2 x y w ∷ []) ≡ [] → square_cell xs ys (points ++ Point2 x y w ∷ []) i j ≡ square_cell xs ys points i j
   cell_no points x y w i j none = grind (arith, flat_map-append, append-nil)

@@ -35,8 +35,7 @@ rises_head x (y ∷ zs) h (suc k) d l =
     grind (arith, ints)
 
 rises_tail : (x : ℤ) (xs : List ℤ) → rises (x ∷ xs) ≡ true → rises xs ≡ true
-rises_tail x [] h = refl
-rises_tail x (y ∷ zs) h = (both_true (int_lt x y) (rises (y ∷ zs)) h).1
+rises_tail x xs h = grind (arith, both_true)
 
 -- an axis has two edges
 pub two_of_axis : (xs : List ℤ) → are_edges xs ≡ true → 2 ≤ length xs
@@ -75,20 +74,7 @@ bucket_of-mono first shift a b l m = grind (arith, ints, shr_mono)
 pub starts-more : (bucket : ℕ → ℕ) (edges : ℕ) (starts more : List ℕ) (i : ℕ) → i < edges → AreStarts bucket edges starts i
     → ((b : ℕ) → b < length starts → get_or more b 0 ≡ get_or starts b 0) → ((b : ℕ) → length starts ≤ b → b < length more → get_or more b 0 ≡ i)
     → length starts ≤ length more → bucket i < length more → AreStarts bucket edges more (i + 1)
-starts-more bucket edges starts more i within so_far kept begun longer reached = record {
-  cells = λ b l. elim (cases_lt b (length starts)) [
-    | inl old ↦ subst (λ c. c < edges) (sym (kept b old)) (so_far.cells b old)
-    | inr new ↦ subst (λ c. c < edges) (sym (begun b new l)) within
-  ];
-  below = λ b k l m. elim (cases_lt b (length starts)) [
-    | inl old ↦ so_far.below b k old (subst (λ c. k < c) (kept b old) m)
-    | inr new ↦ let at : k < i = subst (λ c. k < c) (begun b new l) m in let low = so_far.reached k at in omega arith
-  ];
-  reached = λ k l. elim (cases_lt k i) [
-    | inl old ↦ let low = so_far.reached k old in omega arith
-    | inr new ↦ let same : k ≡ i = omega arith in rw same reached
-  ];
-}
+starts-more bucket edges starts more i within so_far kept begun longer reached = grind (arith, cases_lt)
 
 passes : (a b : ℤ) → a ≤ℤ b → int_le a b ≡ true
 passes a b l = grind (arith, ints)
@@ -131,13 +117,7 @@ bucket-within edges kept v keeps low high = grind (arith, two_of_axis, bucket_of
 -- the edges in the buckets below a number's are below it
 start-below : (edges : List ℤ) (kept : Buckets) (v : ℤ) → KeepsEdges edges kept → kept.first ≤ℤ v → v <ℤ kept.last
     → (k : ℕ) → k < get_or kept.starts.items (bucket_of kept.first kept.shift v) 0 → get_or edges k (pos 0) ≤ℤ v
-start-below edges kept v keeps low high k l = elim (cases_Bool (int_le (get_or edges k (pos 0)) v)) [
-  | inl p ↦ passed (get_or edges k (pos 0)) v p
-  | inr p ↦
-      let above = bucket_of-mono kept.first kept.shift v (get_or edges k (pos 0)) low (failed (get_or edges k (pos 0)) v p) in
-      let under = keeps.buckets.starts.below (bucket_of kept.first kept.shift v) k (bucket-within edges kept v keeps low high) l in
-      absurd (omega arith)
-]
+start-below edges kept v keeps low high k l = grind (arith, cases_Bool, passed, bucket_of-mono, failed, bucket-within)
 
 -- a cell at whose place an edge stands, and none of the edges before it is above a number
 pub record IsReached (edges : List ℤ) (v : ℤ) (cell : ℕ) : Type 0 where
@@ -147,22 +127,14 @@ pub record IsReached (edges : List ℤ) (v : ℤ) (cell : ℕ) : Type 0 where
 -- the cell with which a number's bucket begins
 pub reached-start : (edges : List ℤ) (kept : Buckets) (v : ℤ) (start : ℕ) → KeepsEdges edges kept → kept.first ≤ℤ v → v <ℤ kept.last → FitsSigned w64 v
     → start ≡ get_or kept.starts.items (bucket_of kept.first kept.shift (to_z w64 (of_z w64 v))) 0 → IsReached edges v start
-reached-start edges kept v start keeps low high fits is =
-    let begins : start ≡ get_or kept.starts.items (bucket_of kept.first kept.shift v) 0 = is ∙ ap (λ z. get_or kept.starts.items (bucket_of kept.first kept.shift z) 0) (to_z-of_z w64 v fits) in
-    record {
-      within = rw begins (keeps.buckets.starts.cells (bucket_of kept.first kept.shift v) (bucket-within edges kept v keeps low high));
-      below = λ k l. start-below edges kept v keeps low high k (subst (λ c. k < c) begins l);
-    }
+reached-start edges kept v start keeps low high h is = grind (arith, to_z-of_z, bucket-within, start-below)
 
 below-by : (edges : List ℤ) (v : ℤ) (start : ℕ) (p : Bool) → int_le (get_or edges start (pos 0)) v ≡ p → IsReached edges v start → (k : ℕ) → k < start + bool_byte p → get_or edges k (pos 0) ≤ℤ v
 below-by edges v start p h so_far k l = grind (arith, cases_lt, passed)
 
 -- where each edge below a cell is at most a number below the last edge, the cell has an edge
 within-by : (edges : List ℤ) (v : ℤ) (cell : ℕ) → 0 < length edges → ((k : ℕ) → k < cell → get_or edges k (pos 0) ≤ℤ v) → v <ℤ get_or edges (length edges - 1) (pos 0) → cell < length edges
-within-by edges v cell some below high = elim (cases_lt cell (length edges)) [
-  | inl within ↦ within
-  | inr over ↦ absurd (below-itself (get_or edges (length edges - 1) (pos 0)) v (below (length edges - 1) (omega arith)) high)
-]
+within-by edges v cell some below high = grind (arith, cases_lt, below-itself)
 
 -- the next cell, where the edge at this one is at most the number
 reached-next : (edges : List ℤ) (kept : Buckets) (v : ℤ) (start one : ℕ) (e : ℤ) → KeepsEdges edges kept → v <ℤ kept.last → FitsSigned w64 v → FitsSigned w64 e → IsReached edges v start

@@ -1,7 +1,5 @@
-use Rattle.std.proofs.Common.{◌∙◌, arith, length, rules, sym}
-use Rattle.std.specs.Int.RustNames.{FitsSigned}
+use Rattle.std.proofs.Common.{arith}
 use Rattle.std.proofs.Math.Facts.{to_z-of_z}
-use mir.Syntax.{w64}
 use Rattle.std.proofs.lemmas.List.{take_all}
 use Rattle.columns.proofs.Reading.{length-values_in, read_step}
 use Rattle.columns.proofs.bytes.read_each.Goals as goal

@@ -1,6 +1,4 @@
 use Rattle.std.proofs.Common.{arith}
-use Rattle.rdf_values.specs.{spread}
-use Rattle.actions.specs.{kind_of, values_of}
 use Rattle.actions.proofs.Folds.{all_below, all_below-feed}
 use Rattle.actions.proofs.acc.Acc.feed.Goals as goal
 

@@ -1,7 +1,6 @@
-use Rattle.std.proofs.Common.{rules, arith, ◌∷◌, [], ◌∙◌, ap, map, sym, w64, FitsSigned, ◌+ℤ◌, refl, fold}
-use Rattle.lemmas.proofs.{int_max, int_min, to_z-of_z, w128}
-use Rattle.rdf_values.specs.{Item, reduce_step}
-use Rattle.actions.specs.{better_of, values_of}
+use Rattle.std.proofs.Common.{arith, ◌∷◌, [], ◌∙◌, ap, map, sym, refl}
+use Rattle.rdf_values.specs.{ActionKind, Item}
+use Rattle.actions.specs.{values_of}
 use Rattle.actions.proofs.States.{first_short, holds_counted, holds_flat, holds_greatest, holds_least, holds_reduced, holds_square, holds_summed, holds_taken, on_ok, spread_flat, spread_max, spread_min, spread_reduce, spread_square, spread_sum, spread_take}
 use Rattle.actions.proofs.state.State.feed.Goals as goal
 
@@ -9,34 +8,31 @@ pub returns-in-Count-clause-fed : goal.returns-in-Count-clause-fed
 returns-in-Count-clause-fed c = λ fed below held. rw c.in-Count.is (holds_counted fed c.args.cluster below c.in-Count.entries _ (Item.Unit ∷ []) refl (rw c.in-Count.is at held))
 
 pub returns-in-Sum-clause-within : goal.returns-in-Sum-clause-within
-returns-in-Sum-clause-within = grind (arith, first_short, to_z-of_z)
+returns-in-Sum-clause-within = grind (arith, first_short)
 
 pub returns-in-Sum-clause-fed : goal.returns-in-Sum-clause-fed
 returns-in-Sum-clause-fed c = λ fed below held.
-    let fits : FitsSigned w128 c.sum_with.result = search rules in
-    let fits_sum : FitsSigned w128 c.in-Sum.sum = search rules in
-    rw c.in-Sum.is (holds_summed fed c.args.cluster below c.in-Sum.column c.in-Sum.sum _ _ _
-    (to_z-of_z w128 c.sum_with.result fits ∙ c.sum_with.ensures.value ∙ ap (λ z. fold ◌+ℤ◌ z c.first.result.now) (to_z-of_z w128 c.in-Sum.sum fits_sum) ∙ ap (fold ◌+ℤ◌ c.in-Sum.sum) c.first.ensures) (spread_sum c.in-Sum.column (values_of c.args.items.now)) (rw c.in-Sum.is at held))
+    rw c.in-Sum.is (holds_summed fed c.args.cluster below c.in-Sum.column c.in-Sum.sum _ c.first.result.now _ (c.take_in.ensures.folded _ [] refl) (spread_sum c.in-Sum.column (values_of c.args.items.now) ∙ ap (map Item.Number) (sym c.first.ensures)) (rw c.in-Sum.is at held))
 
 pub returns-in-Min-clause-fed : goal.returns-in-Min-clause-fed
 returns-in-Min-clause-fed c = λ fed below held.
-    rw c.in-Min.is (holds_least fed c.args.cluster below c.in-Min.column c.in-Min.least _ _ _ (c.least_with.ensures ∙ ap (fold (better_of int_min) c.in-Min.least) c.first-in-Min.ensures) (spread_min c.in-Min.column (values_of c.args.items.now)) (rw c.in-Min.is at held))
+    rw c.in-Min.is (holds_least fed c.args.cluster below c.in-Min.column c.in-Min.least _ c.first-in-Min.result.now _ (c.take_in-in-Min.ensures.folded _ [] refl) (spread_min c.in-Min.column (values_of c.args.items.now) ∙ ap (map Item.Number) (sym c.first-in-Min.ensures)) (rw c.in-Min.is at held))
 
 pub returns-in-Max-clause-fed : goal.returns-in-Max-clause-fed
 returns-in-Max-clause-fed c = λ fed below held.
-    rw c.in-Max.is (holds_greatest fed c.args.cluster below c.in-Max.column c.in-Max.greatest _ _ _ (c.greatest_with.ensures ∙ ap (fold (better_of int_max) c.in-Max.greatest) c.first-in-Max.ensures) (spread_max c.in-Max.column (values_of c.args.items.now)) (rw c.in-Max.is at held))
+    rw c.in-Max.is (holds_greatest fed c.args.cluster below c.in-Max.column c.in-Max.greatest _ c.first-in-Max.result.now _ (c.take_in-in-Max.ensures.folded _ [] refl) (spread_max c.in-Max.column (values_of c.args.items.now) ∙ ap (map Item.Number) (sym c.first-in-Max.ensures)) (rw c.in-Max.is at held))
 
 pub returns-in-Some-clause-fed : goal.returns-in-Some-clause-fed
 returns-in-Some-clause-fed c = λ fed below held.
     on_ok c.push.result _ _ c.push.ensures.ok (λ pushed. rw c.in-Take.is (holds_taken fed c.args.cluster below c.in-Take.column c.in-Take.values _ (c.in-Some.value ∷ []) _ pushed (spread_take c.in-Take.column (values_of c.args.items.now) ∙ ap (map Item.Single) (sym c.in-Some.ensures)) (rw c.in-Take.is at held)))
 
+pub returns-in-Reduce-clause-kind : goal.returns-in-Reduce-clause-kind
+returns-in-Reduce-clause-kind c = rw c.in-Reduce.is (ap (λ o. ActionKind.Reduce o c.in-Reduce.column) (c.take_in-in-Reduce.ensures.folded _ [] (refl, refl)).0)
+
 pub returns-in-Reduce-clause-fed : goal.returns-in-Reduce-clause-fed
 returns-in-Reduce-clause-fed c = λ fed below held.
-    let fits : FitsSigned w64 c.reduce_with-reduction.result = search rules in
-    let fits_value : FitsSigned w64 c.in-Reduce.reduction.value = search rules in
-    rw c.in-Reduce.is (holds_reduced fed c.args.cluster below c.in-Reduce.column c.in-Reduce.reduction.op c.in-Reduce.reduction.value _ _ _
-    (to_z-of_z w64 c.reduce_with-reduction.result fits ∙ c.reduce_with-reduction.ensures ∙ ap (λ z. fold (reduce_step c.in-Reduce.reduction.op) z c.first-in-Reduce.result.now) (to_z-of_z w64 c.in-Reduce.reduction.value fits_value)
-    ∙ ap (fold (reduce_step c.in-Reduce.reduction.op) c.in-Reduce.reduction.value) c.first-in-Reduce.ensures) (spread_reduce c.in-Reduce.reduction.op c.in-Reduce.column (values_of c.args.items.now)) (rw c.in-Reduce.is at held))
+    rw c.in-Reduce.is (holds_reduced fed c.args.cluster below c.in-Reduce.column c.in-Reduce.reduction _ c.first-in-Reduce.result.now _ (c.take_in-in-Reduce.ensures.folded _ [] (refl, refl))
+    (spread_reduce c.in-Reduce.reduction.op c.in-Reduce.column (values_of c.args.items.now) ∙ ap (map Item.Number) (sym c.first-in-Reduce.ensures)) (rw c.in-Reduce.is at held))
 
 pub returns-in-Histo1D-clause-fed : goal.returns-in-Histo1D-clause-fed
 returns-in-Histo1D-clause-fed c = λ fed below held.

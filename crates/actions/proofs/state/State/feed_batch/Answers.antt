@@ -1,6 +1,5 @@
-use Rattle.std.proofs.Common.{rules, arith, ◌≡◌, true, false, subst, sym, ◌++◌, ◌+ℤ◌, length, length-append, ap, ◌∙◌, w64, FitsSigned, flat_map, fold}
-use Rattle.lemmas.proofs.{to_z-of_z, w128}
-use Rattle.rdf_values.specs.{ActionKind, Item, reduce_step}
+use Rattle.std.proofs.Common.{rules, arith, [], refl, ◌≡◌, true, false, subst, sym, ◌++◌, length, length-append, ap, ◌∙◌, flat_map}
+use Rattle.rdf_values.specs.{ActionKind, Item}
 use Rattle.actions.specs.{first_numbers_in, first_scalar, IsWithin, places_of, values_at}
 use Rattle.actions.proofs.Batching.{few_values, number_items, singles_counted, taken_items}
 use Rattle.actions.proofs.States.{either_way, holds_counted, holds_greatest, holds_least, holds_reduced, holds_summed, holds_taken, on_ok, spread_max, spread_min, spread_reduce, spread_sum}
@@ -15,21 +14,17 @@ returns-in-Count-clause-fed c = λ fed below held.
 
 pub returns-in-Sum-clause-fed : goal.returns-in-Sum-clause-fed
 returns-in-Sum-clause-fed c = λ fed below held.
-    let fits : FitsSigned w128 c.sum_batch.result = search rules in
-    let fits_sum : FitsSigned w128 c.in-Sum.sum = search rules in
-    let zs = first_numbers_in c.args.batch.now in
-    rw c.in-Sum.is (holds_summed fed c.args.cluster below c.in-Sum.column c.in-Sum.sum _ zs _
-    (to_z-of_z w128 c.sum_batch.result fits ∙ c.sum_batch.ensures.value ∙ ap (λ z. fold ◌+ℤ◌ z zs) (to_z-of_z w128 c.in-Sum.sum fits_sum))
+    rw c.in-Sum.is (holds_summed fed c.args.cluster below c.in-Sum.column c.in-Sum.sum _ (first_numbers_in c.args.batch.now) _ (c.fold_batch.ensures.folded _ [] refl)
     (number_items (ActionKind.Sum c.in-Sum.column) c.args.batch.now.sources (places_of c.args.batch.now.places) (spread_sum c.in-Sum.column)) (rw c.in-Sum.is at held))
 
 pub returns-in-Min-clause-fed : goal.returns-in-Min-clause-fed
 returns-in-Min-clause-fed c = λ fed below held.
-    rw c.in-Min.is (holds_least fed c.args.cluster below c.in-Min.column c.in-Min.least _ (first_numbers_in c.args.batch.now) _ c.least_batch.ensures
+    rw c.in-Min.is (holds_least fed c.args.cluster below c.in-Min.column c.in-Min.least _ (first_numbers_in c.args.batch.now) _ (c.fold_batch-in-Min.ensures.folded _ [] refl)
     (number_items (ActionKind.Min c.in-Min.column) c.args.batch.now.sources (places_of c.args.batch.now.places) (spread_min c.in-Min.column)) (rw c.in-Min.is at held))
 
 pub returns-in-Max-clause-fed : goal.returns-in-Max-clause-fed
 returns-in-Max-clause-fed c = λ fed below held.
-    rw c.in-Max.is (holds_greatest fed c.args.cluster below c.in-Max.column c.in-Max.greatest _ (first_numbers_in c.args.batch.now) _ c.greatest_batch.ensures
+    rw c.in-Max.is (holds_greatest fed c.args.cluster below c.in-Max.column c.in-Max.greatest _ (first_numbers_in c.args.batch.now) _ (c.fold_batch-in-Max.ensures.folded _ [] refl)
     (number_items (ActionKind.Max c.in-Max.column) c.args.batch.now.sources (places_of c.args.batch.now.places) (spread_max c.in-Max.column)) (rw c.in-Max.is at held))
 
 pub returns-in_ok-more-in-Take-clause-within : goal.returns-in_ok-more-in-Take-clause-within
@@ -49,15 +44,13 @@ returns-in_ok-more-in-Take-clause-fed c = λ fed below held.
     on_ok c.append.result _ _ c.append.ensures.ok (λ ok. rw c.in-Take.is (holds_taken fed c.args.cluster below c.in-Take.column c.in-Take.values _ (flat_map (λ p. first_scalar (values_at s p)) ps) _
     (ok.0 ∙ ap (λ l. c.in-Take.values ++ l) c.in_ok-more-in-Take.ensures) (taken_items c.in-Take.column s ps) (rw c.in-Take.is at held)))
 
+pub returns-in-Reduce-clause-kind : goal.returns-in-Reduce-clause-kind
+returns-in-Reduce-clause-kind c = rw c.in-Reduce.is (ap (λ o. ActionKind.Reduce o c.in-Reduce.column) (c.fold_batch-in-Reduce.ensures.folded _ [] (refl, refl)).0)
+
 pub returns-in-Reduce-clause-fed : goal.returns-in-Reduce-clause-fed
 returns-in-Reduce-clause-fed c = λ fed below held.
-    let fits : FitsSigned w64 c.reduce_batch-reduction.result = search rules in
-    let fits_value : FitsSigned w64 c.in-Reduce.reduction.value = search rules in
-    let op = c.in-Reduce.reduction.op in
-    let zs = first_numbers_in c.args.batch.now in
-    rw c.in-Reduce.is (holds_reduced fed c.args.cluster below c.in-Reduce.column op c.in-Reduce.reduction.value _ zs _
-    (to_z-of_z w64 c.reduce_batch-reduction.result fits ∙ c.reduce_batch-reduction.ensures ∙ ap (λ z. fold (reduce_step op) z zs) (to_z-of_z w64 c.in-Reduce.reduction.value fits_value))
-    (number_items (ActionKind.Reduce op c.in-Reduce.column) c.args.batch.now.sources (places_of c.args.batch.now.places) (spread_reduce op c.in-Reduce.column)) (rw c.in-Reduce.is at held))
+    rw c.in-Reduce.is (holds_reduced fed c.args.cluster below c.in-Reduce.column c.in-Reduce.reduction _ (first_numbers_in c.args.batch.now) _ (c.fold_batch-in-Reduce.ensures.folded _ [] (refl, refl))
+    (number_items (ActionKind.Reduce c.in-Reduce.reduction.op c.in-Reduce.column) c.args.batch.now.sources (places_of c.args.batch.now.places) (spread_reduce c.in-Reduce.reduction.op c.in-Reduce.column)) (rw c.in-Reduce.is at held))
 
 pub returns-then-not-fill_at_once-clause-within : goal.returns-then-not-fill_at_once-clause-within
 returns-then-not-fill_at_once-clause-within c = λ n w.

@@ -10,14 +10,14 @@ returns-clause-fed c = λ a b held more. elim c.match-self.branch [
   | in-Count-Count w ↦ let x = w.in-Count-Count in rw w.self-is (merge_count a b x.entries x.more (rw x.is-0 at held) (rw x.is-1 at more))
   | in-Sum-Sum w ↦
       let x = w.in-Sum-Sum in
-      let fits_x : FitsSigned w128 x.sum = search rules in
-      let fits_y : FitsSigned w128 x.more = search rules in
+      let fits_x : FitsSigned w128 x.sum.sum = search rules in
+      let fits_y : FitsSigned w128 x.more.sum = search rules in
       let room = rw x.is-0 at c.requires.room in
       let other_room = rw x.is-1 at c.requires.other_room in
-      let fits : FitsSigned w128 (x.sum +ℤ x.more) = fits_sum (x.sum +ℤ x.more) (let sum = abs_add x.sum x.more in omega arith) in
+      let fits : FitsSigned w128 (x.sum.sum +ℤ x.more.sum) = fits_sum (x.sum.sum +ℤ x.more.sum) (let sum = abs_add x.sum.sum x.more.sum in omega arith) in
       rw w.self-is (merge_sum a b x.column-0 x.column-1 x.sum x.more _ (simp (to_z-of_z w128 _ fits_x, to_z-of_z w128 _ fits_y, to_z-of_z w128 _ fits)) (rw x.is-0 at held) (rw x.is-1 at more))
-  | in-Min-Min w ↦ let x = w.in-Min-Min in rw w.self-is (merge_min a b x.column-0 x.column-1 x.least x.more _ w.least_of.ensures (rw x.is-0 at held) (rw x.is-1 at more))
-  | in-Max-Max w ↦ let x = w.in-Max-Max in rw w.self-is (merge_max a b x.column-0 x.column-1 x.greatest x.more _ w.greatest_of.ensures (rw x.is-0 at held) (rw x.is-1 at more))
+  | in-Min-Min w ↦ let x = w.in-Min-Min in rw w.self-is (merge_min a b x.column-0 x.column-1 x.least x.more _ w.least_of-least.ensures (rw x.is-0 at held) (rw x.is-1 at more))
+  | in-Max-Max w ↦ let x = w.in-Max-Max in rw w.self-is (merge_max a b x.column-0 x.column-1 x.greatest x.more _ w.greatest_of-greatest.ensures (rw x.is-0 at held) (rw x.is-1 at more))
   | in-Take-Take+in_ok-values-in-Take-Take w ↦
       let x = w.in-Take-Take in
       let y = w.in_ok-values-in-Take-Take in

@@ -1,4 +1,5 @@
 use Rattle.std.proofs.Common.{◌∙◌}
+use Rattle.block_cache.specs.{outcome_over}
 use Rattle.block_cache.proofs.StopLists.{on_err}
 use Rattle.block_cache.proofs.EachPlaces.{left_given}
 use Rattle.block_cache.proofs.LaneSteps.{begun_after, each_joined, each_value, evaluated_after, lane_after, lane_begun}
@@ -14,7 +15,7 @@ returns-in_err-each_place-clause-begun g c =
 pub invariant_of-self-2 : goal.invariant_of-self-2
 invariant_of-self-2 g c =
     let come = rw c.as_slice.ensures.value at c.in_ok-each_place.ensures.come in
-    let left = c.keep_unmarked.ensures ∙ left_given (g.E.PlaceValues.gives c.args.evaluation.now) _ c.args.selection.now come.marked in
+    let left = c.keep_unmarked.ensures ∙ left_given (outcome_over c.args.evaluation.now.view.block.now c.args.evaluation.now.view.lanes.now c.args.evaluation.now.expr.now.tree) _ c.args.selection.now come.marked in
     rw c.mark-2.ensures.count (
       c.mark.ensures.count ∙ c.self.invariant.0,
       lane_after c.self.view_is c.self.invariant.1 c.requires.selected.inside c.requires.unknown _ c.mark.ensures.marked c.mark.ensures.long (rw c.as_slice.ensures.value at c.each_place.ensures.written)
@@ -24,7 +25,7 @@ invariant_of-self-2 g c =
 pub returns-clause-evaluated : goal.returns-clause-evaluated
 returns-clause-evaluated g c =
     let come = rw c.as_slice.ensures.value at c.in_ok-each_place.ensures.come in
-    let left = c.keep_unmarked.ensures ∙ left_given (g.E.PlaceValues.gives c.args.evaluation.now) _ c.args.selection.now come.marked in
+    let left = c.keep_unmarked.ensures ∙ left_given (outcome_over c.args.evaluation.now.view.block.now c.args.evaluation.now.view.lanes.now c.args.evaluation.now.expr.now.tree) _ c.args.selection.now come.marked in
     rw c.mark-2.ensures.count
     (evaluated_after c.self.view_is c.self.invariant.1 c.requires.selected.inside c.requires.unknown _ c.mark.ensures.marked c.mark.ensures.long (rw c.as_slice.ensures.value at c.each_place.ensures.written)
     left _ c.mark-2.ensures.marked c.mark-2.ensures.long (each_value come c.requires.kind left) (each_joined come) c.mark.ensures.newly)

@@ -1,7 +1,5 @@
-use Rattle.std.proofs.Common.{◌≡◌, ◌∙◌, ap, arith, length, map, refl, rules}
-use Rattle.rdf_values.specs.{TableView}
+use Rattle.std.proofs.Common.{arith}
 use Rattle.rdf_values.proofs.KeptLemmas.{keep, length-rows_kept}
-use Rattle.columns.specs.{whole}
 use Rattle.columns.proofs.columns.Columns.build_in_slots.Goals as goal
 
 pub keep_in_slots-requires : goal.keep_in_slots-requires

@@ -1,5 +1,4 @@
 use Rattle.std.proofs.Common.{◌≡◌, ◌≤◌, ◌+◌, ◌∙◌, ap, map, refl, sym}
-use Rattle.rdf_values.specs.{rows_kept}
 use Rattle.rdf_values.proofs.KeptLemmas.{length-rows_kept}
 use Rattle.columns.specs.{whole}
 use Rattle.columns.proofs.JoiningPieces.{holds_joined}

@@ -1,6 +1,6 @@
 use Rattle.std.proofs.Common.{◌≡◌, take, fold}
 use Rattle.rdf_values.specs.{reduce_step}
-use Rattle.actions.proofs.numbers.reduce_with.Given as goal
+use Rattle.actions.proofs.folding.ReductionFolds.take_in.Given as goal
 
 abbrev pub invariant-loop-number : goal.invariant-loop-number
 invariant-loop-number l = record {

@@ -1,5 +1,5 @@
 use Rattle.std.proofs.Common.{◌≡◌, ◌≤◌, ◌+◌, ◌*◌, ◌^◌, ◌+ℤ◌, take, fold, nat_abs}
-use Rattle.actions.proofs.numbers.sum_with.Given as goal
+use Rattle.actions.proofs.folding.SummedFolds.take_in.Given as goal
 
 abbrev pub invariant-loop-number : goal.invariant-loop-number
 invariant-loop-number l = record {

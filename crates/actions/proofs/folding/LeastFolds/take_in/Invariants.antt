@@ -1,7 +1,7 @@
 use Rattle.std.proofs.Common.{◌≡◌, take, fold}
 use Rattle.std.specs.Int.{int_min}
 use Rattle.actions.specs.{better_of}
-use Rattle.actions.proofs.numbers.least_with.Given as goal
+use Rattle.actions.proofs.folding.LeastFolds.take_in.Given as goal
 
 abbrev pub invariant-loop-number : goal.invariant-loop-number
 invariant-loop-number l = l.best ≡ fold (better_of int_min) l.initial.best (take l.number-index l.numbers)

@@ -1,5 +1,0 @@
-use Rattle.std.proofs.Common.{[], refl}
-use Rattle.actions.proofs.folding.greatest_batch.Goals as goal
-
-pub returns : goal.returns
-returns c = (c.fold_batch.ensures.folded _ [] refl)
