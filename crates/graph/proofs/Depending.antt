@@ -6,10 +6,10 @@ use Rattle.rdf_values.specs.expressions.Expressions.{Truth}
 use Rattle.rdf_values.specs.declared.scripts.statement.Statement.TheVariants.{Define, Redefine, Vary, Filter, Action, Report}
 use Rattle.rdf_model.proofs.Accepted.{kind_known, checked_of, sound_path, visible_resolved, itself, both_none, kind_expected, verdict_is_the_first_refusal}
 use Rattle.rdf_model.proofs.KnownColumns.{IsKnownColumn, known_columns, each_weaker}
-use Rattle.graph_numbers.specs.{column_place, holds_at, named_version, own_columns, own_version, version_at, version_count, version_or, depends_on, filter_sites, GraphView, IsGraph, own_filter_site, own_sites, ResultAt, results, site_count, SiteAt, sites}
+use Rattle.graph_numbers.specs.{column_place, holds_at, named_version, own_columns, own_version, version_at, version_count, version_or, depends_on, booked_statements, filter_sites, GraphView, IsGraph, own_filter_site, own_sites, result_depends_at, ResultAt, results, site_count, site_depends_at, SiteAt, sites}
 use Rattle.graph_numbers.proofs.Walks.{next_at, of_joined, AreBelow, filter_sites_below}
 use Rattle.graph_numbers.proofs.Meeting.{In, here, there, each_at}
-use Rattle.graph.specs.{depends_at, expression_set, is_among_own, Numbers, own_version_sets, varied_set, version_sets, action_set, any_depends, own_result_sets, own_site_sets, result_sets, ResultSetsAreDependence, site_set, site_sets, SiteSetsAreDependence, VersionsDependAsColumns}
+use Rattle.graph.specs.{depends_at, expression_set, is_among_own, Numbers, own_version_sets, varied_set, version_sets, action_set, any_depends, own_result_sets, own_site_sets, result_sets, site_set, site_sets, VersionsDependAsColumns}
 use Rattle.graph.proofs.Listing.{any_map, named_at, no_place, any_none, got_first, holds_mapped, zip_both, zip_holds, zip_mapped}
 use Rattle.std.specs.Prelude.{⊤}
 use Rattle.graph_numbers.proofs.Apart.{any_false, other_way, of_tags, tags_checked}
@@ -425,10 +425,11 @@ pub versions_depend : VersionsDependAsColumns
 versions_depend g h node name t k v w e =
     sym (set_is g.header g.names v w (history g.script) _ _ (visible_set g.header g.names v w (history g.script) (accepted g h) (tells g.header g.names (history g.script) (accepted g h) v w e) node name t k))
 
-pub sites_depend : SiteSetsAreDependence
+-- the sets of the sites are their dependence, and those of the results
+pub sites_depend : (g : GraphView) → IsGraph g → (s v : ℕ) → depends_at (site_sets g.header g.names (booked_statements g)) s v ≡ site_depends_at g s v
 sites_depend g h s v = site_is g.header g.names v (history g.script) (accepted g h) s
 
-pub results_depend : ResultSetsAreDependence
+pub results_depend : (g : GraphView) → IsGraph g → (r v : ℕ) → depends_at (result_sets g.header g.names (booked_statements g)) r v ≡ result_depends_at g r v
 results_depend g h r v =
     let test : Booked → Bool = λ b. holds_at (λ w. result_depends w b.booking) (slice_get (variations (history g.script)) v) in
     result_is g.header g.names v (history g.script) (accepted g h) r ∙ ap (λ bs. holds_at test (slice_get bs r)) (sym (booked_are g.header g.names (history g.script)))

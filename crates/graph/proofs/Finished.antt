@@ -2,20 +2,19 @@
 use Rattle.std.proofs.Common.{◌≡◌, ◌∙◌, Err, None, Ok, Option, Result, Some, inl, inr, refl, ℕ, List, [], ◌∷◌, ◌++◌, map, option_map, sym, ap, subst, reverse, length, arith, ◌≤◌, Bool, slice_get, length-append, option_and_then}
 use Rattle.rdf_values.specs.Answered.{Refuses}
 use Rattle.rdf_values.specs.{GraphCause, AreAccepted, check, Column, FunctionNames, history, Line, Scope, scope_of, Script, Statement, verdict, verdict_after, Booked, bookings, is_watched, IsBookable, IsHeader, IsShort, result_depends, variations, named_before}
-use Rattle.graph_numbers.specs.{booked_unless, GraphView, booked, booked_statements, graph_prints, graph_results, graph_runs, graph_sources, graph_variations, holds_at, IsGraph, ResultAt, Version, FilterAt, graph_filters, graph_sites, IsSiteExpr, result_depends_at, site_depends_at}
-use Rattle.graph.specs.{GraphRefusal, refused_at, IsRefusal, refused, refused_then, statements, AreAbove, AreLoops, AreNamedInTurn, AreRows as AreCheckRows, AreRowsOf, AreSourcesOf, AreTables, IsBooked, IsRow, IsRowOf, result_sets, ResultSetsAreDependence, SiteSetsAreDependence, view_of, filler_of, has, IsSet, labels, paths, result_path, VarSet}
+use Rattle.graph_numbers.specs.{booked_unless, GraphView, booked, booked_statements, graph_prints, graph_results, graph_sources, graph_variations, holds_at, IsGraph, ResultAt, Version, FilterAt, graph_filters, graph_sites, IsSiteExpr, result_depends_at, site_depends_at}
+use Rattle.graph.specs.{GraphRefusal, refused_at, IsRefusal, refused, refused_then, statements, AreAbove, AreLoops, AreNamedInTurn, AreRows as AreCheckRows, AreRowsOf, AreSourcesOf, AreTables, IsBooked, IsRow, IsRowOf, result_sets, view_of, filler_of, has, IsSet, labels, paths, result_path, VarSet}
 use Rattle.lemmas.proofs.{All, All-map, All-permutation, AllByRecursion, AllZip-long, IsPermutation-reverse, length-map, map_next, recursion_from_All, reverse-append, reverse-reverse, slice_get-map}
 use Rattle.rdf_model.proofs.Accepted.{onto}
 use Rattle.rdf_values.specs.declared.scripts.statement.Statement.TheVariants.{Print}
 use Rattle.rdf_model.specs.{Access, accesses, filled_by, loop_of, loop_results}
 use Rattle.graph_numbers.proofs.Resulting.{booked_are}
 use Rattle.graph_numbers.proofs.Placing.{itself, versions_count}
-use Rattle.graph_numbers.proofs.Looping.{runs_are}
 use Rattle.graph.specs.declared.tables.ResultRow.{ResultRow}
 use Rattle.graph.specs.declared.tables.Tables.{Tables}
 use Rattle.graph.specs.declared.loops.LoopTables.{LoopTables}
 use Rattle.graph.proofs.SiteTotals.{filters_few, versions_are, sites_fit, filters_are, labels_are, sites_counted, versions_above}
-use Rattle.graph.proofs.Depending.{site_set_count as sets_counted}
+use Rattle.graph.proofs.Depending.{results_depend, site_set_count as sets_counted, sites_depend}
 use Rattle.graph.proofs.Filled.{all_in_turn}
 use Rattle.graph.proofs.Looped.{bookings_few, loops_few, unwrapped}
 use Rattle.graph.proofs.Listing.{zip_by, zip_map, zip_at, row_set, set_at}
@@ -109,12 +108,12 @@ all_short script ls e h =
 
 -- ---- rows of results
 
-rows_of_graph : (g : GraphView) → IsGraph g → ResultSetsAreDependence → (rs : List ResultRow) → AreCheckRows (bookings (booked_statements g)) (result_sets g.header g.names (booked_statements g)) rs → AreRowsOf (booked_statements g) (bookings (booked_statements g)) rs
-rows_of_graph g graph law rs h =
+rows_of_graph : (g : GraphView) → IsGraph g → (rs : List ResultRow) → AreCheckRows (bookings (booked_statements g)) (result_sets g.header g.names (booked_statements g)) rs → AreRowsOf (booked_statements g) (bookings (booked_statements g)) rs
+rows_of_graph g graph rs h =
     zip_by IsRow (IsRowOf (booked_statements g)) (bookings (booked_statements g)) rs
     (λ j b r q p row. record {
       name = row.name;
-      set = λ v. row_set _ _ rs h j r p v ∙ law g graph j v
+      set = λ v. row_set _ _ rs h j r p v ∙ results_depend g graph j v
           ∙ at v b (slice_get (graph_results g) j) (sym (slice_get-map (λ (x : ResultAt). x.booked) (graph_results g) j) ∙ ap (λ bs. slice_get bs j) (booked_are g.header g.names (booked_statements g)) ∙ q);
     }) h.0
   where
@@ -143,11 +142,11 @@ module _ (ls all : List Line) (header : List Column) (names : FunctionNames) (t 
   tables_of : AreTables header names (booked_statements g) t
   tables_of = subst (λ (x : List Statement). AreTables header names x t) (history_of ls header names) h
 
-  pub finish_rows : ResultSetsAreDependence → AreRowsOf (statements all) (bookings (statements all)) rs
-  finish_rows law =
+  pub finish_rows : AreRowsOf (statements all) (bookings (statements all)) rs
+  finish_rows =
       subst (λ (xs : List ResultRow). AreRowsOf (statements all) (bookings (statements all)) xs) (sym same_rows)
       (subst (λ (xs : List Line). AreRowsOf (statements xs) (bookings (statements xs)) t.results.items) (sym same_lines)
-      (subst (λ (x : List Statement). AreRowsOf x (bookings x) t.results.items) (sym (history_of ls header names)) (rows_of_graph g graph law t.results.items tables_of.results)))
+      (subst (λ (x : List Statement). AreRowsOf x (bookings x) t.results.items) (sym (history_of ls header names)) (rows_of_graph g graph t.results.items tables_of.results)))
 
   pub finish_count : length rs ≡ length (bookings (statements all))
   finish_count = ap length same_rows ∙ AllZip-long IsRow _ t.results.items h.results.0 ∙ (λ i. length (bookings (statements (sym same_lines i))))
@@ -162,7 +161,7 @@ module _ (ls all : List Line) (header : List Column) (names : FunctionNames) (t 
   length_here : length (booked_statements g) ≡ length ls
   length_here = sym (ap length (history_of ls header names)) ∙ length-map ls (λ (l : Line). l.statement)
 
-  module _ (site_law : SiteSetsAreDependence) (result_law : ResultSetsAreDependence) (short : AllByRecursion IsShort (statements ls)) (few : length ls ≤ 256) (loops : LoopTables) (watched : List Bool)
+  module _ (short : AllByRecursion IsShort (statements ls)) (few : length ls ≤ 256) (loops : LoopTables) (watched : List Bool)
       (are_loops : AreLoops (statements all) (statements all) loops) (are_watched : watched ≡ map (λ (r : ResultRow). is_watched (statements all) r.name) rs) where
     loops_here : AreLoops (booked_statements g) (booked_statements g) loops
     loops_here = subst (λ (x : List Statement). AreLoops x x loops) (history_of ls header names) (subst (λ (xs : List Line). AreLoops (statements xs) (statements xs) loops) same_lines are_loops)
@@ -193,8 +192,8 @@ module _ (ls all : List Line) (header : List Column) (names : FunctionNames) (t 
       watches = are_watched ∙ (λ i. map (λ (r : ResultRow). is_watched (statements (same_lines i)) r.name) (same_rows i))
           ∙ zip_map IsRow (λ (b : Booked). is_watched (statements ls) b.name) (λ (r : ResultRow). is_watched (statements ls) r.name) (bookings (statements ls)) t.results.items (λ b r row. ap (is_watched (statements ls)) row.name) h.results.0
           ∙ (λ i. map (λ (c : Booked). is_watched (history_of ls header names i) c.name) (bookings (history_of ls header names i)));
-      site_sets = λ s v. site_law g graph s v;
-      result_sets = λ n v. result_law g graph n v;
+      site_sets = λ s v. sites_depend g graph s v;
+      result_sets = λ n v. results_depend g graph n v;
       sources = λ u. subst (λ (vs : List Version). AreSourcesOf vs u (graph_sources g u)) (sym tables_of.version_rows) (version_source header names (booked_statements g) accepted_here u);
       above = subst AreAbove (sym tables_of.version_rows) (versions_above header names (booked_statements g) accepted_here);
       few_results = result_total;
@@ -253,11 +252,6 @@ module _ {g : GraphView} {t : Tables} {l : LoopTables} {w : List Bool} (h : IsBo
   path_is f n row q = of_mapped result_path f (graph_results g) (paths t.results.items) n row.path h.tables.paths (slice_get-map (λ (r : ResultRow). r.path) t.results.items n ∙ ap (option_map (λ (r : ResultRow). r.path)) q)
 
   -- ---- Prints and loops
-
-  pub run_count : length l.runs.items ≡ length (graph_prints g)
-  run_count =
-      ap length h.loops.runs ∙ sym (length-map (graph_runs g) (λ (o : Option ℕ). option_and_then (slice_get (loop_results (booked_statements g))) o))
-      ∙ sym (ap length (runs_are (booked_statements g) (booked_statements g) itself)) ∙ length-map (accesses (booked_statements g)) (λ (a : Access). a.fills) ∙ sym (length-map (accesses (booked_statements g)) _)
 
   pub filling_is : (p n : ℕ) → slice_get l.filling.items p ≡ Some n → option_map (λ (a : Access). loop_of (booked_statements g) a.result) (slice_get (accesses (booked_statements g)) p) ≡ Some n
   filling_is p n q =

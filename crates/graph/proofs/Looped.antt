@@ -6,7 +6,7 @@ use Rattle.rdf_values.specs.declared.scripts.statement.Statement.TheVariants.{Pr
 use Rattle.rdf_model.proofs.Accepted.{names_equal, itself}
 use Rattle.rdf_model.specs.{Access, accesses, filled_by, loop_results}
 use Rattle.graph_numbers.proofs.Walks.{of_joined}
-use Rattle.graph_numbers.specs.{loops, own_loop, own_run, Pass, passes_from, result_number, runs}
+use Rattle.graph_numbers.specs.{loops, own_loop, Pass, passes_from, result_number}
 use Rattle.graph.specs.{AreLoops, AreNamedInTurn, AreRowsOf, BeginsWith, filled_count, filler_of, IsNamedInTurn, IsNoted, IsRowOf, passes_of_rows, statements}
 use Rattle.graph.specs.declared.tables.ResultRow.{ResultRow}
 use Rattle.graph.specs.declared.loops.LoopTables.{LoopTables}
@@ -118,13 +118,13 @@ no_filler (s ∷ before) x h = no_filler before x h
 -- ---- one line more
 
 module _ (script before : List Statement) where
-  unchanged : (s : Statement) (t : LoopTables) → AreLoops script before t → own_loop script before s ≡ [] → own_run before s ≡ [] → accesses (s ∷ before) ≡ accesses before → filled_count (s ∷ before) ≡ filled_count before → AreLoops script (s ∷ before) t
-  unchanged s t h l r a f = grind (arith, append-nil)
+  unchanged : (s : Statement) (t : LoopTables) → AreLoops script before t → own_loop script before s ≡ [] → accesses (s ∷ before) ≡ accesses before → filled_count (s ∷ before) ≡ filled_count before → AreLoops script (s ∷ before) t
+  unchanged s t h l a f = grind (arith, append-nil)
 
   -- a line that is no Print
   loops_kept : (s : Statement) (t : LoopTables) → ((r : List ℕ) → s ≡ Print r → ⊥) → AreLoops script before t → AreLoops script (s ∷ before) t
   loops_kept (Print r) t is h = absurd (is r refl)
-  loops_kept s t is h = unchanged s t h refl refl refl refl
+  loops_kept s t is h = unchanged s t h refl refl refl
 
   module _ (r : List ℕ) (turn : IsNamedInTurn before (Print r)) (begins : BeginsWith script before) (n : ℕ) (number : place (λ (b : Booked). same b.name r) (bookings script) ≡ Some n) where
     own_place : place (λ (b : Booked). same b.name r) (bookings before) ≡ Some n
@@ -135,10 +135,9 @@ module _ (script before : List Statement) where
     named_so b q = grind (arith, place_at, names_equal)
 
     -- a Print of a result that was filled before
-    pub print_again : (old new : LoopTables) (l : ℕ) → AreLoops script before old → n < length old.fillers.items → slice_get old.fillers.items n ≡ Some l → IsNoted old n None l new → AreLoops script (Print r ∷ before) new
+    pub print_again : (old new : LoopTables) (l : ℕ) → AreLoops script before old → n < length old.fillers.items → slice_get old.fillers.items n ≡ Some l → IsNoted old n l new → AreLoops script (Print r ∷ before) new
     print_again old new l h lt at e = record {
       loops = e.loops ∙ h.loops ∙ sym (ap (λ b. loops script before ++ (if b then [] else passes_from script (λ (c : Booked). not (among c.name (filled before))) 0 (bookings before) ∷ [])) filled_now ∙ append-nil (loops script before));
-      runs = e.runs ∙ ap (λ xs. xs ++ None ∷ []) h.runs ∙ sym (ap (λ b. runs before ++ (if b then None else Some (length (loop_results before))) ∷ []) filled_now);
       prints = ap (map (λ m. Some m)) e.prints ∙ map-append (λ m. Some m) old.prints.items (n ∷ []) ∙ (λ i. h.prints i ++ sym number i ∷ [])
           ∙ sym (map-append (λ (a : Access). result_number script a.result) (accesses before) (access ∷ []));
       filling = ap (map (λ m. Some m)) e.filling ∙ map-append (λ m. Some m) old.filling.items (l ∷ []) ∙ (λ i. h.filling i ++ sym mine i ∷ [])
@@ -163,10 +162,9 @@ module _ (script before : List Statement) where
     pub print_fills : (old mid new : LoopTables) (passes : List Pass) (spot count : ℕ) → AreNamedInTurn before → AreLoops script before old → length old.fillers.items ≤ n
         → passes ≡ passes_from script (λ (c : Booked). not (among c.name (filled before))) 0 (bookings before) → spot ≡ length old.loops.items → count ≡ length (bookings before) - length old.fillers.items
         → mid.loops.items ≡ old.loops.items ++ passes ∷ [] → mid.fillers.items ≡ old.fillers.items ++ replicate count spot
-        → mid.runs.items ≡ old.runs.items → mid.prints.items ≡ old.prints.items → mid.filling.items ≡ old.filling.items → IsNoted mid n (Some spot) spot new → AreLoops script (Print r ∷ before) new
-    print_fills old mid new passes spot count named h le ps at many more_loops more_fillers runs_so prints_so filling_so e = record {
+        → mid.prints.items ≡ old.prints.items → mid.filling.items ≡ old.filling.items → IsNoted mid n spot new → AreLoops script (Print r ∷ before) new
+    print_fills old mid new passes spot count named h le ps at many more_loops more_fillers prints_so filling_so e = record {
       loops = e.loops ∙ more_loops ∙ (λ i. h.loops i ++ ps i ∷ []) ∙ sym (ap (λ b. loops script before ++ (if b then [] else passes_from script (λ (c : Booked). not (among c.name (filled before))) 0 (bookings before) ∷ [])) waits_now);
-      runs = e.runs ∙ (λ i. (runs_so ∙ h.runs) i ++ Some (place_now i) ∷ []) ∙ sym (ap (λ b. runs before ++ (if b then None else Some (length (loop_results before))) ∷ []) waits_now);
       prints = ap (map (λ m. Some m)) e.prints ∙ map-append (λ m. Some m) mid.prints.items (n ∷ []) ∙ (λ i. (ap (map (λ m. Some m)) prints_so ∙ h.prints) i ++ sym number i ∷ [])
           ∙ sym (map-append (λ (a : Access). result_number script a.result) (accesses before) (access ∷ []));
       filling = ap (map (λ m. Some m)) e.filling ∙ map-append (λ m. Some m) mid.filling.items (spot ∷ [])
@@ -245,10 +243,9 @@ begins_further script before s h =
     take_short (suc k) (suc m) (x ∷ xs) l = ap (λ ys. x ∷ ys) (take_short k m xs (omega (arith, l)))
 
 -- the lists before the first line
-pub none_yet : (script : List Statement) (t : LoopTables) → t.loops.items ≡ [] → t.runs.items ≡ [] → t.prints.items ≡ [] → t.filling.items ≡ [] → t.fillers.items ≡ [] → AreLoops script [] t
-none_yet script t l r p f k = record {
+pub none_yet : (script : List Statement) (t : LoopTables) → t.loops.items ≡ [] → t.prints.items ≡ [] → t.filling.items ≡ [] → t.fillers.items ≡ [] → AreLoops script [] t
+none_yet script t l p f k = record {
   loops = l;
-  runs = r;
   prints = ap (map (λ n. Some n)) p;
   filling = ap (map (λ n. Some n)) f;
   count = ap length k;

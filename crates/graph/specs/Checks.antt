@@ -1,12 +1,14 @@
 -- What the check of a statement answers, and that of the expressions of a Vary.
-use Rattle.std.specs.Prelude.{ℕ, List, map, ◌≡◌, Option, Some, None, Result, Ok, Err, [], ◌∷◌, ◌++◌}
-use Rattle.rdf_values.specs.{check_target, first_refusal, FunctionNames, GraphCause, path, Scope, scope_at, Statement, Column, NamedTree, VaryValues}
+use Rattle.std.specs.Prelude.{ℕ, List, map, ◌≡◌, Option, option_map, Some, None, Result, Ok, Err, [], ◌∷◌, ◌++◌}
+use Rattle.rdf_values.specs.{check, check_target, first_refusal, FunctionNames, GraphCause, Line, path, Scope, scope_at, Statement, Column, NamedTree, VaryValues}
 use Rattle.graph.specs.declared.refusals.Stop.{Stop}
 use Rattle.graph.specs.declared.refusals.Stop.TheVariants.{Cause, Memory}
 use Rattle.std.specs.List.{AllZip}
 use Rattle.rdf_values.specs.declared.scripts.vary_values.VaryValues.TheVariants.{Lists, Vector}
 use Rattle.expr_check.specs.{CheckedExpr}
-use Rattle.graph.specs.Lookups.{IsCheckedAt}
+use Rattle.graph.specs.Lookups.{IsCheckedAt, statements}
+use Rattle.graph.specs.declared.refusals.GraphRefusal.{GraphRefusal}
+use Rattle.graph.specs.declared.refusals.GraphRefusal.TheVariants.{At}
 
 -- the check refuses for that cause; nothing is said of want of memory
 abbrev pub IsStop : Option GraphCause → Stop → Type 0
@@ -42,3 +44,24 @@ module _ (header : List Column) (names : FunctionNames) (before : List Statement
     pub more : List CheckedExpr
     pub appended : new ≡ old ++ more
     pub each : AllCheckedAt es more
+
+-- ---- the first line of a script that is refused, and how it is answered
+
+-- a line's refusal after lines that may be refused before it
+abbrev pub refused_then : ℕ → Option (ℕ × GraphCause) → Option GraphCause → Option (ℕ × GraphCause)
+refused_then number (Some r) cause = Some r
+refused_then number None cause = option_map (λ c. (number, c)) cause
+
+-- the first of the lines, the latest first, that is refused after those before it
+abbrev pub refused : FunctionNames → Scope → List Line → Option (ℕ × GraphCause)
+refused names header [] = None
+refused names header (l ∷ before) = refused_then l.number (refused names header before) (check names header (statements before) l.statement)
+
+-- a refusal names the refused line; nothing is said of want of memory
+abbrev pub IsRefusal : Option (ℕ × GraphCause) → GraphRefusal → Type 0
+IsRefusal wanted (GraphRefusal.At line cause) = wanted ≡ Some (line, cause)
+IsRefusal wanted GraphRefusal.Memory = Unit {0}
+
+-- a line that is refused, as it is answered
+abbrev pub refused_at : ℕ × GraphCause → GraphRefusal
+refused_at c = At c.0 c.1

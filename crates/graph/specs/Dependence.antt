@@ -1,11 +1,11 @@
 -- Sets of variations, and which variations versions, sites and results depend on, by numbers.
-use Rattle.std.specs.Prelude.{◌≡◌, ◌<◌, ◌≤◌, ℕ, zero, suc, ◌+◌, Bool, true, false, if◌then◌else◌, nat_eq, ◌||◌, ◌&&◌, List, [], ◌∷◌, ◌++◌, map, length, slice_get, nat_le, nat_lt}
+use Rattle.std.specs.Prelude.{Some, Ok, ◌≡◌, ◌<◌, ◌≤◌, ℕ, zero, suc, ◌+◌, Bool, true, false, if◌then◌else◌, nat_eq, ◌||◌, ◌&&◌, List, [], ◌∷◌, ◌++◌, map, length, slice_get, nat_le, nat_lt}
 use Rattle.std.specs.Int.{bit_at}
 use Rattle.graph.specs.declared.sets.VarSet.{VarSet}
 use Rattle.std.specs.List.{list_any, AllZip}
-use Rattle.rdf_values.specs.{callee, Column, columns_in, columns_of, FunctionNames, NamedTree, renamed, Statement, variations}
+use Rattle.rdf_values.specs.{callee, ColType, Column, column_depends, column_kind, columns_in, columns_of, FunctionNames, NamedTree, path, renamed, scope_at, scope_of, Statement, Variation, variations}
 use Rattle.rdf_values.specs.declared.scripts.statement.Statement.TheVariants.{Define, Redefine, Vary, Action, Report}
-use Rattle.graph_numbers.specs.{filter_sites, holds_at, named_version, own_sites, SiteAt, version_at}
+use Rattle.graph_numbers.specs.{booked_statements, filter_sites, graph_variations, GraphView, holds_at, IsGraph, named_version, own_sites, SiteAt, version_at}
 use Rattle.expr_check.specs.{CheckedExpr}
 
 -- the number is in the set
@@ -16,13 +16,6 @@ has s v = nat_eq (bit_at s.bits v) 1
 unfoldable pub members_below : VarSet → ℕ → ℕ
 members_below s zero = 0
 members_below s (suc v) = members_below s v + (if has s v then 1 else 0)
-
--- the least member at or above a number
-pub record IsNext (s : VarSet) (v w : ℕ) : Type 0 where
-  pub above : v ≤ w
-  pub small : w < 128
-  pub member : has s w ≡ true
-  pub least : (u : ℕ) → v ≤ u → u < w → has s u ≡ false
 
 -- a set of variations by their numbers
 abbrev pub Numbers : Type 0
@@ -118,3 +111,12 @@ read_sets sets cs = map (read_set sets) cs
 -- what a column that a Vary at a node changes depends on
 abbrev pub changed_set : List Column → List Statement → List VarSet → List ℕ → ℕ → ℕ → List ℕ → Numbers
 changed_set header before sets parent first tags column v = is_among_own first tags v || has_at sets (named_version header before parent column) v
+
+-- a visible column depends on what its version does
+abbrev pub VersionsDependAsColumns : Type 0
+VersionsDependAsColumns =
+    (g : GraphView) → IsGraph g → (node name : List ℕ) (t : ColType)
+    → column_kind (scope_at g.names (scope_of g.header) (booked_statements g) node) name ≡ Ok t
+    → (v : ℕ) (w : Variation) → slice_get (graph_variations g) v ≡ Some w
+    → depends_at (version_sets g.header g.names (booked_statements g)) (version_at g.header (booked_statements g) node name) v
+    ≡ column_depends w (path (booked_statements g) node) name

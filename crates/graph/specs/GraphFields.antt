@@ -6,7 +6,7 @@ use Rattle.graph.specs.Dependence.{depends_at, site_sets, result_sets}
 use Rattle.graph.specs.Gains.{AreTables}
 use Rattle.graph.specs.declared.tables.Tables.{Tables}
 use Rattle.graph.specs.LoopRows.{AreLoops}
-use Rattle.graph.specs.VersionSources.{AreSourcesOf, AreAbove}
+use Rattle.graph.specs.Rows.{AreSourcesOf, AreAbove}
 use Rattle.graph.specs.declared.loops.LoopTables.{LoopTables}
 
 -- lines, the latest first, over a table's columns, with the functions' names

@@ -4,7 +4,7 @@ use Rattle.std.specs.List.{AllZip}
 use Rattle.rdf_values.specs.{among, Booked, bookings, filled, has_variations, is_result, names_of, place, result_depends, Statement, variations}
 use Rattle.rdf_values.specs.declared.scripts.statement.Statement.TheVariants.{Action, Report, Print}
 use Rattle.rdf_model.specs.{Access, accesses, loop_results}
-use Rattle.graph_numbers.specs.{holds_at, loops, numbered_pass, Pass, result_number, runs}
+use Rattle.graph_numbers.specs.{holds_at, loops, numbered_pass, Pass, result_number}
 use Rattle.graph.specs.declared.tables.ResultRow.{ResultRow}
 use Rattle.graph.specs.Dependence.{has}
 use Rattle.graph.specs.declared.loops.LoopTables.{LoopTables}
@@ -62,17 +62,15 @@ filler_of before name = place (λ bs. among name (names_of bs)) (loop_results be
 -- the lists are those of the statements before, which belong to the script
 pub record AreLoops (script before : List Statement) (t : LoopTables) : Type 0 where
   pub loops : t.loops.items ≡ loops script before
-  pub runs : t.runs.items ≡ runs before
   pub prints : map (λ n. Some n) t.prints.items ≡ map (λ (a : Access). result_number script a.result) (accesses before)
   pub filling : map (λ n. Some n) t.filling.items ≡ map (λ (a : Access). filler_of before a.result) (accesses before)
   pub count : length t.fillers.items ≡ filled_count before
   pub fillers : (n l : ℕ) (b : Booked) → slice_get t.fillers.items n ≡ Some l → slice_get (bookings script) n ≡ Some b → filler_of before b.name ≡ Some l
 
--- one Print more: its result, the loop that it runs, and the one that fills it
-pub record IsNoted (old : LoopTables) (n : ℕ) (run : Option ℕ) (filler : ℕ) (new : LoopTables) : Type 0 where
+-- one Print more: its result, and the loop that fills it
+pub record IsNoted (old : LoopTables) (n filler : ℕ) (new : LoopTables) : Type 0 where
   pub loops : new.loops.items ≡ old.loops.items
   pub fillers : new.fillers.items ≡ old.fillers.items
-  pub runs : new.runs.items ≡ old.runs.items ++ run ∷ []
   pub prints : new.prints.items ≡ old.prints.items ++ n ∷ []
   pub filling : new.filling.items ≡ old.filling.items ++ filler ∷ []
 

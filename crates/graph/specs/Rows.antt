@@ -1,10 +1,10 @@
 -- How many sites statements have, the numbers of their filters, and what is kept of columns, named filters, results and variations.
-use Rattle.std.specs.Prelude.{ℕ, ◌+◌, Bool, true, false, List, [], ◌∷◌, ◌++◌, length, if◌then◌else◌, zero, suc, map, Option, Some, None, option_to_list}
+use Rattle.std.specs.Prelude.{◌≡◌, ⊤, ◌<◌, slice_get, ℕ, ◌+◌, Bool, true, false, List, [], ◌∷◌, ◌++◌, length, if◌then◌else◌, zero, suc, map, Option, Some, None, option_to_list}
 use Rattle.rdf_values.specs.{Column, FunctionNames, makes, NamedTree, parent_of, same, Statement, Variation}
 use Rattle.rdf_values.specs.declared.scripts.vary_values.VaryValues.TheVariants.{Lists, Vector}
 use Rattle.rdf_values.specs.declared.scripts.statement.Statement.TheVariants.{Define, Redefine, Filter, Vary}
 use Rattle.std.specs.List.{list_any}
-use Rattle.graph_numbers.specs.{filter_sites, kind_of_booking, ResultAt, site_count, Version}
+use Rattle.graph_numbers.specs.{filter_sites, kind_of_booking, ResultAt, IsSourceOf, site_count, Source, Version}
 use Rattle.graph.specs.declared.tables.ResultPath.{ResultPath}
 
 -- how many expressions lists have
@@ -50,6 +50,23 @@ count_from n (suc k) = n ∷ count_from (suc n) k
 abbrev pub cell_rows : ℕ → List Column → List Version
 cell_rows n [] = []
 cell_rows n (c ∷ cs) = Version.Cell n ∷ cell_rows (suc n) cs
+
+-- each version says its source, or that it is the one of the version below it: the sources are those of the versions
+abbrev pub AreSourcesOf : List Version → Option ℕ → List Source → Type 0
+AreSourcesOf versions u sources = (c : ℕ) (x : Version) → slice_get versions c ≡ Some x → IsSourceOf (slice_get sources) u x (slice_get sources c)
+
+-- a Vary has a site for each tag, or one
+abbrev pub HasSites : Bool → ℕ → ℕ → Type 0
+HasSites false count tags = count ≡ tags
+HasSites true count tags = count ≡ 1
+
+-- a version stands above the one below it
+abbrev pub IsAbove : ℕ → Version → Type 0
+IsAbove c (Version.Varied below first tags sites vector) = (below < c) × HasSites vector (length sites) tags
+IsAbove c x = ⊤
+
+abbrev pub AreAbove : List Version → Type 0
+AreAbove versions = (c : ℕ) (x : Version) → slice_get versions c ≡ Some x → IsAbove c x
 
 -- ---- named filters
 

@@ -1,12 +1,12 @@
 // How many histogram cells and Takes the passes of results have.
-ghost use Rattle.std.specs.Prelude.{◌≡◌, ◌∷◌, ◌++◌, ◌+◌, ◌*◌, ◌≤◌, [], length, nat_lt, IfOk};
+ghost use Rattle.std.specs.Prelude.{◌≡◌, ◌∷◌, ◌++◌, ◌+◌, ◌≤◌, [], length, nat_lt, IfOk};
 ghost use Rattle.std.specs.Option.{option_copied};
 ghost use Rattle.rdf_values.specs.{ActionAt, bookings, cells_of, first_refusal, has_variations, Path, refuse_if, takes_of};
 ghost use Rattle.rdf_values.specs.declared.scripts.graph_cause.GraphCause.TheVariants as cause_of;
 ghost use Rattle.graph.specs.{asked_after, IsAmount, printed_rows, rows_named, statements};
 
 use crate::lookup::result_count;
-use crate::refusals::{first_of, refuse_if};
+use crate::refusals::refuse_if;
 use crate::tables::ResultRow;
 use rdf_values::{ActionKind, GraphCause, Line, Memory, Name, Statement};
 
@@ -21,33 +21,24 @@ pub struct Amounts {
     pub takes: usize,
 }
 
-fn total(m: usize, n: usize) -> Result<usize, Memory>
-    ensures { IfOk result (λ p. p ≡ m + n) }
-{
-    m.checked_add(n).ok_or(Memory)
-}
-
-fn product(m: usize, n: usize) -> Result<usize, Memory>
-    ensures { IfOk result (λ p. p ≡ m * n) }
-{
-    m.checked_mul(n).ok_or(Memory)
-}
-
 pub(crate) fn cells_of(action: &ActionKind) -> Result<usize, Memory>
     ensures { IfOk result (λ n. (at : Path) → n ≡ cells_of (ActionAt action.now at)) }
 {
     match action {
-        ActionKind::Histo1D { x_edges, .. } => total(x_edges.len(), 1),
+        ActionKind::Histo1D { x_edges, .. } => x_edges.len().checked_add(1).ok_or(Memory),
         ActionKind::Histo2D {
             x_edges,
             y_edges,
             ..
-        } => product(total(x_edges.len(), 1)?, total(y_edges.len(), 1)?),
+        } => {
+            let across = x_edges.len().checked_add(1).ok_or(Memory)?;
+            let up = y_edges.len().checked_add(1).ok_or(Memory)?;
+            across.checked_mul(up).ok_or(Memory)
+        }
         _ => Ok(0),
     }
 }
 
-/// 1 for a Take.
 pub(crate) fn takes_of(action: &ActionKind) -> usize
     ensures { (at : Path) → result ≡ takes_of (ActionAt action.now at) }
 {
@@ -64,29 +55,16 @@ pub(crate) fn has_variations(before: &[Line], name: &Name) -> bool
     own || has_variations(rest, name)
 }
 
-/// Whether they are, where those of one result more are asked for.
-fn is_asked(before: &[Line], more: Option<&Name>, name: &Name) -> bool
-    ensures { result ≡ has_variations (asked_after (option_copied more.entry) (statements before.now)) name.now }
-{
-    match more {
-        None => has_variations(before, name),
-        Some(result) => result.is(name) || has_variations(before, name),
-    }
-}
-
-/// The cells and Takes of all passes of a result.
 fn row_amounts(before: &[Line], more: Option<&Name>, row: &ResultRow) -> Result<Amounts, Memory>
     ensures { IfOk result (IsAmount (asked_after (option_copied more.entry) (statements before.now)) (row.now ∷ [])) }
 {
-    let varied = if is_asked(before, more, &row.name) {
-        row.set.count() as usize
-    } else {
-        0
-    };
-    let passes = varied + 1;
+    let own = more.is_some_and(|name| name.is(&row.name));
+    let asked = own || has_variations(before, &row.name);
+    let count = row.set.count() as usize;
+    let passes = if asked { count + 1 } else { 1 };
     Ok(Amounts {
-        cells: product(passes, row.cells)?,
-        takes: product(passes, row.takes)?,
+        cells: passes.checked_mul(row.cells).ok_or(Memory)?,
+        takes: passes.checked_mul(row.takes).ok_or(Memory)?,
     })
 }
 
@@ -94,12 +72,11 @@ fn both(first: Amounts, second: Amounts) -> Result<Amounts, Memory>
     ensures { IfOk result (λ a. (a.cells ≡ first.cells + second.cells) × (a.takes ≡ first.takes + second.takes)) }
 {
     Ok(Amounts {
-        cells: total(first.cells, second.cells)?,
-        takes: total(first.takes, second.takes)?,
+        cells: first.cells.checked_add(second.cells).ok_or(Memory)?,
+        takes: first.takes.checked_add(second.takes).ok_or(Memory)?,
     })
 }
 
-/// Those of results.
 pub(crate) fn amounts_of(
     before: &[Line],
     more: Option<&Name>,
@@ -115,7 +92,6 @@ pub(crate) fn amounts_of(
     both(own, others)
 }
 
-/// Those of the results of that name.
 fn amounts_named(before: &[Line], rows: &[ResultRow], name: &Name) -> Result<Amounts, Memory>
     ensures { IfOk result (IsAmount (statements before.now) (rows_named name.now rows.now)) }
 {
@@ -150,7 +126,6 @@ fn amounts_printed(before: &[Line], lines: &[Line], rows: &[ResultRow]) -> Resul
     }
 }
 
-/// Those of the results that the statements so far print, and of one Print more.
 pub(crate) fn amounts_printed_with(
     before: &[Line],
     rows: &[ResultRow],
@@ -164,7 +139,6 @@ pub(crate) fn amounts_printed_with(
     both(own, others)
 }
 
-/// Those of results and of one more.
 pub(crate) fn amounts_with(
     before: &[Line],
     rows: &[ResultRow],
@@ -180,8 +154,6 @@ pub(crate) fn amounts_with(
 pub(crate) fn too_many(a: Amounts) -> Option<GraphCause>
     ensures { result ≡ first_refusal (refuse_if (nat_lt 1048576 a.cells) cause_of.TooMany ∷ refuse_if (nat_lt 16 a.takes) cause_of.TooMany ∷ []) }
 {
-    first_of(&[
-        refuse_if(a.cells > MOST_CELLS, GraphCause::TooMany),
-        refuse_if(a.takes > MOST_TAKES, GraphCause::TooMany),
-    ])
+    let many = a.cells > MOST_CELLS || a.takes > MOST_TAKES;
+    refuse_if(many, GraphCause::TooMany)
 }

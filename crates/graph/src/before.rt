@@ -100,7 +100,6 @@ impl Before<'_> {
         self.tables.sites.as_slice().len() as u32
     }
 
-    /// The sites of the filters above a node, head first.
     #[tactic(auto, using(crate::proofs::SiteTotals::numbers_are, crate::proofs::SiteTotals::total_is))]
     pub(crate) fn filters_above(&self, node: &Name) -> Result<ListOf<u32>, Memory>
         ensures { IfOk result (λ l. l ≡ filter_sites self.now.header.now self.now.names.now (history self.now) node.now) }
@@ -114,7 +113,6 @@ impl Before<'_> {
         self.named_version(node, target_of(self.lines, node, name))
     }
 
-    /// The versions of columns at a node.
     pub(crate) fn versions_of(&self, node: &Name, columns: &[Name]) -> Result<ListOf<u32>, Memory>
         ensures { IfOk result (λ l. l ≡ map (version_at self.now.header.now (history self.now) node.now) columns.now) }
     {
@@ -122,7 +120,6 @@ impl Before<'_> {
         Ok(ListOf::from_vec(versions.collect(self.alloc)?))
     }
 
-    /// The version of a column that is no alias at a node.
     pub(crate) fn named_version(&self, node: &Name, name: &Name) -> u32
         ensures { result ≡ named_version_before self.now node.now name.now }
     {
@@ -130,7 +127,6 @@ impl Before<'_> {
         named_version(self.lines, self.header, count, node, name) as u32
     }
 
-    /// The kind and the version of a column at a node, where it is visible.
     pub(crate) fn find_column(&self, node: &Name, name: &Name) -> Option<(ColType, u32)>
         ensures { MatchOption result (column_kind (scope_before self.now node.now) name.now ≡ Err UnknownColumn)
             (λ c. IsFound self.now.header.now self.now.names.now (history self.now) node.now self.now.tables.now.kinds.items name.now c.0 c.1) }
@@ -176,7 +172,6 @@ impl Before<'_> {
         self.note_all(node, scope, rest)
     }
 
-    /// The columns of an expression at a node.
     fn scope_for(&self, node: &Name, expr: &Expr) -> Result<Scope, Memory>
         ensures { IfOk result (λ scope. IsScopeOf self.now.header.now self.now.names.now (history self.now) node.now self.now.tables.now.kinds.items expr.now scope) }
     {
@@ -187,7 +182,6 @@ impl Before<'_> {
         Ok(scope)
     }
 
-    /// A new node or result.
     pub(crate) fn check_node(&self, node: &Name, parent: &Name) -> Option<GraphCause>
         ensures { result ≡ check_node (history self.now) node.now parent.now }
     {
@@ -203,14 +197,12 @@ impl Before<'_> {
         is_visible(self.lines, self.header, node, column)
     }
 
-    /// A column or an alias that a statement makes new.
     pub(crate) fn check_new(&self, parent: &Name, column: &Name) -> Option<GraphCause>
         ensures { result ≡ refuse_if (is_visible (scope_before self.now parent.now) column.now) NameTaken }
     {
         refuse_if(self.sees(parent, column), GraphCause::NameTaken)
     }
 
-    /// A column that a statement changes.
     pub(crate) fn check_target(&self, parent: &Name, column: &Name) -> Option<GraphCause>
         ensures { result ≡ check_target (scope_before self.now parent.now) (path (history self.now) parent.now) column.now }
     {
@@ -236,7 +228,6 @@ impl Before<'_> {
         }
     }
 
-    /// An expression of a given kind.
     #[tactic(auto, using(crate::proofs::Checking::kind_is, crate::proofs::Checking::kind_isnt, crate::proofs::Checking::kind_stopped, crate::proofs::Checking::handed_on))]
     pub(crate) fn expected(&self, node: &Name, kind: ColType, expr: &Expr) -> Result<Checked, Stop>
         ensures checked { IfOk result (IsCheckedBefore self.now node.now expr.now) }

@@ -4,7 +4,7 @@
 ghost use Rattle.std.specs.Prelude.{◌≡◌, ◌≤◌, ◌∷◌, [], length, reverse, None, Ok, Option, Result, IfOk, IfErr};
 ghost use Rattle.std.specs.List.{AllByRecursion};
 ghost use Rattle.rdf_values.specs.{check_node, first_refusal, GraphCause, IsShort, kind_of, refusal_in, scope_of};
-ghost use Rattle.graph.specs.{AreTables, IsRefusal, IsStop, refused, refused_then, statements, Decides, IsGainAfter, verdict_after, history, IsColumnGain, IsEmptyGain, IsMadeGain, IsRowGain, named_rows, scope_before, sites_so_far};
+ghost use Rattle.graph.specs.{AreTables, IsRefusal, IsStop, refused, refused_then, statements, Decides, IsGainAfter, verdict_after, history, IsEmptyGain, IsMadeGain, IsRowGain, named_rows, scope_before};
 ghost use Rattle.rdf_values.specs.declared.scripts.statement.Statement.TheVariants.{Alias, Filter, Vary};
 ghost use Rattle.graph.specs.declared.tables.ResultRow.{ResultRow};
 
@@ -38,7 +38,6 @@ fn refusal_of(line: &Line, stop: Stop) -> GraphRefusal
     }
 }
 
-/// The tables of lines, the latest first, or the first that is refused.
 pub(crate) fn book_lines(
     alloc: Global,
     lines: &[Line],
@@ -71,7 +70,6 @@ pub(crate) fn book_lines(
     }
 }
 
-/// A script's lines, the latest first.
 pub(crate) fn reversed(lines: ListOf<Line>) -> Vec<Line>
     ensures { result.items ≡ reverse lines }
 {
@@ -81,7 +79,7 @@ pub(crate) fn reversed(lines: ListOf<Line>) -> Vec<Line>
 }
 
 /// Checks a statement after what stands before it: what it adds, or why it is refused.
-pub(crate) fn check_statement(before: &Before<'_>, statement: &Statement) -> Result<Tables, Stop>
+fn check_statement(before: &Before<'_>, statement: &Statement) -> Result<Tables, Stop>
     requires { IsShort statement.now }
     ensures gained { IfOk result (IsGainAfter before.now statement.now) }
     ensures decided { Decides (verdict_after before.now statement.now) result }
@@ -154,7 +152,6 @@ pub(crate) fn check_statement(before: &Before<'_>, statement: &Statement) -> Res
     }
 }
 
-/// Nothing, where a refusal is none.
 fn nothing(before: &Before<'_>, refusal: Result<Option<GraphCause>, Memory>) -> Result<Tables, Stop>
     ensures empty { IfOk result IsEmptyGain }
     ensures decided { (wanted : Option GraphCause) → IfOk refusal (λ o. o ≡ wanted) → Decides wanted result }
@@ -179,7 +176,7 @@ fn named_filter(
     alone(before.alloc, sites)
 }
 
-pub(crate) fn filter_gain(
+fn filter_gain(
     before: &Before<'_>,
     node: &Name,
     parent: &Name,
@@ -231,7 +228,6 @@ fn made_gain(
     })
 }
 
-/// The row of a result alone, where it isn't refused.
 fn row_gain(alloc: Global, row: Result<ResultRow, Stop>) -> Result<Tables, Stop>
     ensures gained { (r : ResultRow) → row ≡ Ok r → IfOk result (IsRowGain r) }
     ensures decided { (wanted : Option GraphCause) → Decides wanted row → Decides wanted result }
@@ -244,11 +240,7 @@ fn row_gain(alloc: Global, row: Result<ResultRow, Stop>) -> Result<Tables, Stop>
 }
 
 #[tactic(auto, using(crate::proofs::Checking::no_memory, crate::proofs::Checking::handed_on, crate::proofs::Counting::few_with))]
-pub(crate) fn vary_gain(
-    before: &Before<'_>,
-    node: &Name,
-    change: &Change<'_>,
-) -> Result<Tables, Stop>
+fn vary_gain(before: &Before<'_>, node: &Name, change: &Change<'_>) -> Result<Tables, Stop>
     ensures gained { IfOk result (IsGainAfter before.now (Vary node.now change.now.parent.now change.now.columns.now change.now.values.now change.now.tags.now change.now.name.now)) }
     ensures decided { Decides (verdict_after before.now (Vary node.now change.now.parent.now change.now.columns.now change.now.values.now change.now.tags.now change.now.name.now)) result }
 {

@@ -2,7 +2,7 @@
 #![tactic(auto, using(crate::proofs::Checking::targets_more, crate::proofs::Checking::each_stop, crate::proofs::Checking::each_next, crate::proofs::Checking::handed_on, crate::proofs::Checking::no_memory, crate::proofs::Checking::decides_stop, crate::proofs::Checking::counted))]
 
 ghost use Rattle.std.specs.Prelude.{◌≡◌, ◌∷◌, ◌+◌, ◌++◌, ◌||◌, [], ℕ, List, length, map, nat_eq, nat_lt, IfOk, OnOk};
-ghost use Rattle.rdf_values.specs.{ActionKind, are_edges, begins, check_columns, check_edges, check_list, check_lists, check_results, check_tags, check_values, check_vector_column, columns_of, expect_kind, first_refusal, is_result, kind_of, may_begin, permitted_kinds, printed_results, refuse_if, refuse_unless, repeats, rises, scope_of, Statement, variations, watched_results, weight_column};
+ghost use Rattle.rdf_values.specs.{ActionKind, are_edges, begins, check_columns, check_edges, check_list, check_lists, check_results, check_tags, check_values, check_vector_column, columns_of, expect_kind, first_refusal, is_result, kind_of, may_begin, permitted_kinds, refuse_if, refuse_unless, repeats, rises, scope_of, Statement, variations, watched_results, weight_column};
 ghost use Rattle.rdf_values.specs.declared.scripts.graph_cause.GraphCause.TheVariants as cause_of;
 ghost use Rattle.rdf_values.specs.declared.scripts.statement.Statement.TheVariants.{Action, Print, Report, VariationsFor, Vary, Watch};
 ghost use Rattle.rdf_values.specs.declared.tables.value.ColType.TheVariants as a_kind;
@@ -65,7 +65,6 @@ fn check_targets(before: &Before<'_>, parent: &Name, columns: &[Name]) -> Option
     ])
 }
 
-/// Expressions of a given kind, appended.
 fn check_exprs(
     before: &Before<'_>,
     node: &Name,
@@ -109,7 +108,6 @@ fn check_list(
     Ok(found)
 }
 
-/// A list for each column, as many lists as columns.
 fn check_lists(
     before: &Before<'_>,
     node: &Name,
@@ -135,7 +133,6 @@ fn check_lists(
     }
 }
 
-/// The one column of a vector: it holds numbers.
 fn check_vector_column(before: &Before<'_>, node: &Name, columns: &[Name]) -> Option<GraphCause>
     ensures { result ≡ check_vector_column (scope_before before.now node.now) columns.now }
 {
@@ -148,7 +145,6 @@ fn check_vector_column(before: &Before<'_>, node: &Name, columns: &[Name]) -> Op
     }
 }
 
-/// A vector for the only column.
 fn vector_value(
     before: &Before<'_>,
     node: &Name,
@@ -318,7 +314,6 @@ pub(crate) fn check_watch(before: &Before<'_>, name: &Name) -> Option<GraphCause
     ])
 }
 
-/// What asks for the variations of a result.
 pub(crate) fn check_variations_for(
     before: &Before<'_>,
     name: &Name,
@@ -355,7 +350,6 @@ fn begins(kinds: &[ColType], permitted: &[ColType]) -> bool
     same_kind(*kind, *first) && begins(kinds, rest)
 }
 
-/// Whether kinds begin those of one of an action's forms.
 fn may_begin(action: &ActionKind, kinds: &[ColType]) -> bool
     ensures { result ≡ may_begin (permitted_kinds action.now) kinds.now }
 {
@@ -417,7 +411,6 @@ fn push_weight(alloc: Global, names: &mut Vec<Name>, weight: &Option<Name>) -> R
     }
 }
 
-/// The columns that an action reads, in written order.
 pub(crate) fn columns_of(alloc: Global, action: &ActionKind) -> Result<Vec<Name>, Memory>
     ensures { IfOk result (λ v. v.items ≡ columns_of action.now) }
 {

@@ -79,7 +79,6 @@ pub(crate) fn push<T: Drop>(items: &mut Vec<T>, item: T) -> Result<(), Memory>
     Ok(())
 }
 
-/// Appends a number so many times.
 pub(crate) fn push_many(items: &mut Vec<u32>, item: u32, count: usize) -> Result<(), Memory>
     ensures { OnOk result (items.new.items ≡ items.old.items ++ replicate count item) }
 {
@@ -97,7 +96,6 @@ pub(crate) fn push_name(alloc: Global, names: &mut Vec<Name>, name: &Name) -> Re
     Ok(())
 }
 
-/// A list of one item.
 pub(crate) fn alone<T: Drop>(alloc: Global, item: T) -> Result<Vec<T>, Memory>
     ensures { IfOk result (λ items. items.items ≡ item ∷ []) }
 {

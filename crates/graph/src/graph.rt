@@ -1,16 +1,13 @@
 // The booked graph.
-#![tactic(auto, using(crate::proofs::Finished::row_count, crate::proofs::Finished::name_is, crate::proofs::Finished::set_is, crate::proofs::Finished::watch_count, crate::proofs::Finished::run_count, crate::proofs::Finished::site_count, crate::proofs::Finished::site_set_count, crate::proofs::Finished::site_set_is))]
+#![tactic(auto, using(crate::proofs::Finished::row_count, crate::proofs::Finished::name_is, crate::proofs::Finished::set_is, crate::proofs::Finished::watch_count, crate::proofs::Finished::site_count, crate::proofs::Finished::site_set_count, crate::proofs::Finished::site_set_is))]
 
 ghost use Rattle.std.specs.Prelude.{◌≡◌, ◌<◌, ◌≤◌, ℕ, length, Some, option_map, slice_get, IfOk};
 ghost use Rattle.rdf_values.specs.{Answers, is_watched, IsBookable, IsHeader};
 ghost use Rattle.rdf_model.specs.{accesses, loop_of};
-ghost use Rattle.graph.specs.Dependence.{has};
-ghost use Rattle.graph_numbers.specs.{booked, booked_statements, graph_filters, graph_loops, graph_prints, graph_results, graph_runs, graph_sites, graph_sources, graph_variations, graph_versions, IsGraph, IsSiteExpr, kind_of_booking, result_depends_at, site_depends_at};
-ghost use Rattle.graph.specs.Bookings.{refused_at};
+ghost use Rattle.graph_numbers.specs.{booked, booked_statements, graph_filters, graph_loops, graph_prints, graph_results, graph_sites, graph_sources, graph_variations, graph_versions, IsGraph, IsSiteExpr, kind_of_booking, result_depends_at, site_depends_at};
 
 use crate::book::{book_lines, reversed};
 use crate::copies::{copy_header, copy_names};
-use crate::laws::{result_sets_are_dependence, site_sets_are_dependence};
 use crate::lookup::{at, label_of};
 use crate::loops::{LoopTables, ScriptRows, loop_tables, watched_results};
 use crate::refusals::GraphRefusal;
@@ -19,7 +16,7 @@ use crate::tables::{ResultPath, Tables};
 use crate::variations::Variations;
 use crate::versions::source_of;
 use expr_check::Checked;
-use graph_numbers::{Pass, ResultKind, Source, Version};
+use graph_numbers::{Pass, ResultKind, Source};
 use rdf_values::{ColType, Column, FnName, FnNames, Label, Line, ListOf, Memory, Name, Script};
 use std::alloc::Global;
 use std::marker::Model;
@@ -51,11 +48,9 @@ impl Model for Graph {
 }
 
 impl Graph {
-    ghost use Rattle.graph.specs.GraphFields.{view_of};
+    ghost use Rattle.graph.specs.{AreKinds, AreTables, has, refused_at, statements, view_of};
     ghost use Rattle.std.specs.List.{AllByRecursion};
     ghost use Rattle.rdf_values.specs.{IsShort};
-    ghost use Rattle.graph.specs.Lookups.{AreKinds, statements};
-    ghost use Rattle.graph.specs.Gains.{AreTables};
 
     /// Books a script over a table's columns: each line is checked after those before it, and the first that is refused is
     /// named with its cause.
@@ -91,8 +86,6 @@ impl Graph {
         requires few { length lines.items ≤ 256 }
         ensures { IfOk result (λ g. g ≡ view_of lines.items header.now names.now) }
     {
-        site_sets_are_dependence();
-        result_sets_are_dependence();
         let columns = copy_header(alloc, header)?;
         let functions = copy_names(alloc, names.as_slice())?;
         let all = lines.as_slice();
@@ -122,8 +115,6 @@ impl Graph {
         let _lines = self.lines.is_empty();
     }
 
-    // ---- the statements
-
     /// The lines that were booked, the latest first, as look-ups in them walk.
     pub fn lines(&self) -> &[Line]
         ensures value { statements result.now ≡ booked_statements self.now }
@@ -144,15 +135,6 @@ impl Graph {
         ensures { AreKinds self.now.header self.now.names (booked_statements self.now) result.now }
     {
         self.tables.kinds.as_slice()
-    }
-
-    // ---- results
-
-    /// How many results there are.
-    pub fn results(&self) -> u32
-        ensures { result ≡ length (graph_results self.now) }
-    {
-        self.tables.results.as_slice().len() as u32
     }
 
     /// The name of a result.
@@ -222,8 +204,6 @@ impl Graph {
         self.result_path(r).covers.as_slice()
     }
 
-    // ---- Prints and loops
-
     /// How many Prints there are.
     pub fn prints(&self) -> u32
         ensures { result ≡ length (graph_prints self.now) }
@@ -246,14 +226,6 @@ impl Graph {
         self.loops.loops.as_slice().len() as u32
     }
 
-    /// The loop that a Print runs; none where its result was filled before.
-    pub fn loop_of(&self, p: u32) -> Option<u32>
-        requires { p < length (graph_prints self.now) }
-        ensures { slice_get (graph_runs self.now) p ≡ Some result }
-    {
-        *at(self.loops.runs.as_slice(), p)
-    }
-
     /// The loop that fills the result of a Print.
     pub fn filling(&self, p: u32) -> u32
         requires { p < length (graph_prints self.now) }
@@ -269,8 +241,6 @@ impl Graph {
     {
         at(self.loops.loops.as_slice(), l).as_slice()
     }
-
-    // ---- named filters
 
     /// How many named filters there are.
     pub fn filters(&self) -> u32
@@ -295,8 +265,6 @@ impl Graph {
     {
         at(self.tables.filters.as_slice(), f).as_slice()
     }
-
-    // ---- sites and versions
 
     /// How many sites there are.
     pub fn sites(&self) -> u32
@@ -326,14 +294,6 @@ impl Graph {
         ensures { result ≡ length (graph_versions self.now) }
     {
         self.tables.versions.as_slice().len() as u32
-    }
-
-    /// A version of a column.
-    pub fn version(&self, c: u32) -> &Version
-        requires { c < length (graph_versions self.now) }
-        ensures { slice_get (graph_versions self.now) c ≡ Some result.now }
-    {
-        at(self.tables.versions.as_slice(), c)
     }
 
     /// What gives a version its value under nominal or a variation; it takes at most one step for each Vary of the column.

@@ -11,7 +11,6 @@ use rdf_values::{
 };
 use std::alloc::Global;
 
-/// The item of that number.
 pub(crate) fn at<T>(items: &[T], n: u32) -> &T
     requires { n < length items.now }
     ensures { slice_get items.now n ≡ Some result.now }
@@ -159,7 +158,6 @@ fn place_of(columns: &[Name], name: &Name) -> Option<usize>
     Some(place_of(rest, name)? + 1)
 }
 
-/// The place of the table's column of that name, and their number where there is none.
 fn column_place(header: &[Column], name: &Name) -> usize
     ensures value { result ≡ column_place header.now name.now }
     ensures within { result ≤ length header.now }
@@ -185,25 +183,19 @@ fn own_count(statement: &Statement) -> usize
 }
 
 /// The version of a column at the node of a statement, after which there are so many.
-fn own_version(
-    statement: &Statement,
-    first: usize,
-    count: usize,
-    name: &Name,
-    above: usize,
-) -> usize
+fn own_version(statement: &Statement, first: usize, count: usize, name: &Name, over: usize) -> usize
     requires { first + length (own_columns statement.now) ≡ count }
-    ensures { result ≡ own_version statement.now first name.now above }
+    ensures { result ≡ own_version statement.now first name.now over }
 {
     match statement {
         Statement::Define { column, .. } | Statement::Redefine { column, .. } => {
-            if column.is(name) { first } else { above }
+            if column.is(name) { first } else { over }
         }
         Statement::Vary { columns, .. } => match place_of(columns.as_slice(), name) {
-            None => above,
+            None => over,
             Some(i) => first + i,
         },
-        _ => above,
+        _ => over,
     }
 }
 
@@ -234,7 +226,6 @@ pub fn named_version(
     }
 }
 
-/// So many numbers from the first on.
 #[tactic(auto, using(crate::proofs::Walking::count_more))]
 pub(crate) fn numbers(alloc: Global, first: u32, count: u32) -> Result<ListOf<u32>, Memory>
     requires { first + count < 4294967296 }
@@ -262,7 +253,6 @@ pub(crate) fn list_start(lists: &[ListOf<Expr>], i: usize) -> usize
     first.len() + list_start(rest, i - 1)
 }
 
-/// How many expressions lists have, at most so many.
 fn expression_total(lists: &[ListOf<Expr>], most: usize) -> usize
     requires { expression_total lists.now ≤ most }
     ensures { result ≡ expression_total lists.now }
@@ -327,7 +317,6 @@ fn own_label(statement: &Statement) -> Option<&Label>
     }
 }
 
-/// The label of the named filter of that number, of so many.
 pub(crate) fn label_of(lines: &[Line], f: usize, count: usize) -> &Label
     requires all { count ≡ length (named_before (statements lines.now)) }
     requires within { f < count }
@@ -415,7 +404,6 @@ pub(crate) fn is_filled(before: &[Line], name: &Name) -> bool
     is_result(filled_lines(before), name)
 }
 
-/// Whether a line asks for partial results of the result.
 pub(crate) fn is_watched(lines: &[Line], name: &Name) -> bool
     ensures { result ≡ is_watched (statements lines.now) name.now }
 {
@@ -450,7 +438,6 @@ fn can_watch(kind: &ActionKind) -> bool
     )
 }
 
-/// Whether the result of that name may be watched.
 #[tactic(auto, using(crate::proofs::Walking::result_is_step))]
 pub(crate) fn is_watchable(before: &[Line], name: &Name) -> bool
     ensures { result ≡ result_is can_watch (statements before.now) name.now }

@@ -1,8 +1,8 @@
 // The event loops of a script and the loop that each Print runs.
-ghost use Rattle.std.specs.Prelude.{◌≡◌, ◌≤◌, ◌<◌, ◌+◌, ◌++◌, ◌∷◌, [], Some, length, map, List, IfOk, IfSome, OnOk, slice_get};
-ghost use Rattle.rdf_values.specs.{is_watched, place, same};
+ghost use Rattle.std.specs.Prelude.{◌≡◌, ◌≤◌, ◌<◌, ◌+◌, ◌++◌, ◌∷◌, [], Some, length, map, List, IfOk, IfSome, OnOk};
+ghost use Rattle.rdf_values.specs.{is_watched, place, same, Statement};
 ghost use Rattle.graph_numbers.specs.{numbered_pass};
-ghost use Rattle.graph.specs.LoopRows.{AreNamedInTurn, members_from, IsScriptRows, passes_of_rows, AreLoops, BeginsWith};
+ghost use Rattle.graph.specs.LoopRows.{AreNamedInTurn, members_from, IsNoted, IsScriptRows, passes_of_rows, AreLoops, BeginsWith};
 ghost use Rattle.graph.specs.OneProof.{script_rows-prop};
 ghost use Rattle.graph.specs.Lookups.{statements};
 ghost use Rattle.graph.specs.Dependence.{has};
@@ -25,39 +25,31 @@ pub(crate) struct ScriptRows<'a> {
     ghost are: { IsScriptRows (statements lines.now) results.now variations } by { script_rows-prop (statements lines.now) results.now variations },
 }
 
-/// The passes of each loop; for each Print the loop that it runs, its result, and the loop that fills it; and for each
-/// result that is filled its loop.
+/// The passes of each loop; for each Print its result and the loop that fills it; and for each result that is filled its loop.
 #[derive(Drop)]
 pub struct LoopTables {
     pub loops: Vec<ListOf<Pass>>,
-    pub runs: Vec<Option<u32>>,
     pub prints: Vec<u32>,
     pub filling: Vec<u32>,
     pub fillers: Vec<u32>,
 }
 
 impl LoopTables {
-    ghost use Rattle.graph.specs.LoopRows.{IsNoted};
-    ghost use Rattle.rdf_values.specs.{Statement};
-
     #[tactic(auto, using(crate::proofs::Looped::none_yet))]
     fn new(alloc: Global) -> LoopTables
         ensures { (script : List Statement) → AreLoops script [] result }
     {
         LoopTables {
             loops: Vec::new(alloc),
-            runs: Vec::new(alloc),
             prints: Vec::new(alloc),
             filling: Vec::new(alloc),
             fillers: Vec::new(alloc),
         }
     }
 
-    /// Notes a Print: its result, the loop that it runs, and the one that fills its result.
-    fn note(&mut self, n: u32, run: Option<u32>, filler: u32) -> Result<(), Memory>
-        ensures { OnOk result (IsNoted self.old n run filler self.new) }
+    fn note(&mut self, n: u32, filler: u32) -> Result<(), Memory>
+        ensures { OnOk result (IsNoted self.old n filler self.new) }
     {
-        push(&mut self.runs, run)?;
         push(&mut self.prints, n)?;
         push(&mut self.filling, filler)
     }
@@ -84,7 +76,7 @@ impl LoopTables {
         let filled = self.fillers.as_slice().len();
         if n < filled {
             let filler = *at(self.fillers.as_slice(), n as u32);
-            self.note(n as u32, None, filler)
+            self.note(n as u32, filler)
         } else {
             let booked = result_count(before);
             let open = &script.results[filled..booked];
@@ -93,12 +85,11 @@ impl LoopTables {
             let place = self.loops.len() as u32;
             push(&mut self.loops, passes)?;
             push_many(&mut self.fillers, place, booked - filled)?;
-            self.note(n as u32, Some(place), place)
+            self.note(n as u32, place)
         }
     }
 }
 
-/// The loops of lines of a script, the latest first.
 #[tactic(auto, using(crate::proofs::Looped::begins_further))]
 pub(crate) fn loop_tables(
     alloc: Global,
@@ -137,29 +128,22 @@ fn number_of(results: &[ResultRow], name: &Name) -> Option<usize>
 }
 
 /// Appends the passes of a result under those of so many variations from v on that are in the set.
-fn push_varied(
-    passes: &mut ListOf<Pass>,
-    n: u32,
-    set: VarSet,
-    v: u32,
-    left: u32,
-) -> Result<(), Memory>
+fn push_varied(out: &mut ListOf<Pass>, n: u32, set: VarSet, v: u32, left: u32) -> Result<(), Memory>
     requires { v + left ≤ 128 }
-    ensures { OnOk result (passes.new ≡ passes.old ++ map (λ w. numbered_pass n (Some w)) (members_from (has set) v left)) }
+    ensures { OnOk result (out.new ≡ out.old ++ map (λ w. numbered_pass n (Some w)) (members_from (has set) v left)) }
 {
     if left == 0 {
         return Ok(());
     }
     if set.contains(v) {
-        passes.push(Pass {
+        out.push(Pass {
             result: n,
             variation: Some(v),
         })?;
     }
-    push_varied(passes, n, set, v + 1, left - 1)
+    push_varied(out, n, set, v + 1, left - 1)
 }
 
-/// Appends the passes of results that are numbered from n on.
 fn push_passes(
     passes: &mut ListOf<Pass>,
     script: &ScriptRows<'_>,
@@ -182,7 +166,6 @@ fn push_passes(
     push_passes(passes, script, n + 1, rest)
 }
 
-/// For each result whether partial results of it are asked for.
 pub(crate) fn watched_results(
     alloc: Global,
     all: &[Line],

@@ -1,6 +1,6 @@
 // Sets of variations of versions, sites and filters.
-ghost use Rattle.std.specs.Prelude.{◌≡◌, ◌<◌, ◌≤◌, ◌||◌, ℕ, false, nat_eq, MatchOption, ◌+◌, map, length, IfOk};
-ghost use Rattle.graph.specs.{has, IsNext, members_below, any_has, has_at, is_among_own, AreSets, changed_set, read_sets, scope_before, set_changed, variation_count};
+ghost use Rattle.std.specs.Prelude.{◌≡◌, ◌<◌, ◌≤◌, ◌||◌, ℕ, false, nat_eq, ◌+◌, map, length, IfOk};
+ghost use Rattle.graph.specs.{has, members_below, any_has, has_at, is_among_own, AreSets, changed_set, read_sets, scope_before, set_changed, variation_count};
 ghost use Rattle.rdf_values.specs.{column_kind, kind_or_int};
 
 use crate::before::Before;
@@ -23,9 +23,8 @@ impl VarSet {
         VarSet { bits: 0 }
     }
 
-    /// The set with one number more.
     #[tactic(auto, using(crate::proofs::Bits::more_in))]
-    pub fn with(self, v: u32) -> VarSet
+    fn with(self, v: u32) -> VarSet
         requires { v < 128 }
         ensures { (u : ℕ) → has result u ≡ (nat_eq u v || has self u) }
     {
@@ -71,32 +70,14 @@ impl VarSet {
     {
         (self.bits & ((1 << v) - 1)).count_ones()
     }
-
-    /// The least number of the set that is at or above a number.
-    #[tactic(auto, using(crate::proofs::Bits::none_above, crate::proofs::Bits::none_left))]
-    pub fn next_from(self, v: u32) -> Option<u32>
-        ensures { MatchOption result ((u : ℕ) → v ≤ u → has self u ≡ false) (IsNext self v) }
-    {
-        if v >= 128 {
-            return None;
-        }
-        let rest = self.bits >> v;
-        if rest == 0 {
-            None
-        } else {
-            Some(v + rest.trailing_zeros())
-        }
-    }
 }
 
-/// The set at a place; the empty set where there is none.
 pub(crate) fn set_at(sets: &[VarSet], place: usize) -> VarSet
     ensures { (v : ℕ) → has result v ≡ has_at sets.now place v }
 {
     sets.get(place).copied().unwrap_or(VarSet::empty())
 }
 
-/// The numbers of the sets at the places.
 pub(crate) fn set_of(sets: &[VarSet], places: &[u32]) -> VarSet
     ensures { (v : ℕ) → has result v ≡ any_has sets.now places.now v }
 {
@@ -106,8 +87,7 @@ pub(crate) fn set_of(sets: &[VarSet], places: &[u32]) -> VarSet
     set_at(sets, *first as usize).union(set_of(sets, rest))
 }
 
-/// So many numbers from the first on.
-pub(crate) fn own_set(first: u32, count: u32) -> VarSet
+fn own_set(first: u32, count: u32) -> VarSet
     requires { first + count ≤ 128 }
     ensures { (v : ℕ) → has result v ≡ is_among_own first count v }
 {
@@ -142,7 +122,6 @@ fn changed_set(before: &Before<'_>, parent: &Name, tags: u32, column: &Name) -> 
     own_set(first, tags).union(set_at(versions, below as usize))
 }
 
-/// Those of the columns that a Vary changes.
 #[tactic(auto, using(crate::proofs::Listing::set_more))]
 pub(crate) fn changed_sets(before: &Before<'_>, change: &Change<'_>) -> Result<Vec<VarSet>, Memory>
     requires { variation_count before.now + length change.now.tags.now ≤ 128 }
@@ -156,7 +135,6 @@ pub(crate) fn changed_sets(before: &Before<'_>, change: &Change<'_>) -> Result<V
     Ok(sets)
 }
 
-/// The kinds of the columns that a Vary changes, and that of a number where there is none.
 pub(crate) fn kinds_at(before: &Before<'_>, change: &Change<'_>) -> Result<Vec<ColType>, Memory>
     ensures { IfOk result (λ found. found.items ≡ map (λ c. kind_or_int (column_kind (scope_before before.now change.now.parent.now) c)) change.now.columns.now) }
 {

@@ -1,12 +1,13 @@
 // The tables that are kept while statements are booked.
-ghost use Rattle.std.specs.Prelude.{◌≤◌, length, ◌≡◌, ◌+◌, [], false, true, map, IfOk, OnOk};
+ghost use Rattle.std.specs.Prelude.{◌≤◌, length, ◌≡◌, ◌+◌, ◌++◌, [], false, map, IfOk, OnOk};
 ghost use Rattle.rdf_values.specs.{AreShortValues, FunctionNames};
 ghost use Rattle.graph.specs.Dependence.{AreSets};
+ghost use Rattle.graph.specs.Rows.{cell_rows};
 ghost use Rattle.graph.specs.ShortProof.{short-prop};
 
+use crate::copies::push;
 use crate::sets::VarSet;
 use crate::variations::Variations;
-use crate::versions::push_cells;
 use expr_check::Checked;
 use graph_numbers::{ResultKind, Version};
 use rdf_values::{ColType, Column, ListOf, Memory, Name, VaryValues};
@@ -61,10 +62,16 @@ pub struct Tables {
     pub variations: Variations,
 }
 
-fn has_room(kinds: &[ColType], more: &[ColType]) -> bool
-    ensures { result ≡ true → length kinds.now + length more.now ≤ 4294967295 }
+/// Appends the table's columns, numbered from n on.
+fn push_cells(versions: &mut Vec<Version>, n: u32, header: &[Column]) -> Result<(), Memory>
+    requires { n + length header.now ≤ 64 }
+    ensures { OnOk result (versions.new.items ≡ versions.old.items ++ cell_rows n header.now) }
 {
-    kinds.len() <= MOST_VERSIONS && more.len() <= MOST_VERSIONS - kinds.len()
+    let Some((_, rest)) = header.split_first() else {
+        return Ok(());
+    };
+    push(versions, Version::Cell { col: n })?;
+    push_cells(versions, n + 1, rest)
 }
 
 fn kinds_of(alloc: Global, header: &[Column]) -> Result<Vec<ColType>, Memory>
@@ -98,7 +105,6 @@ impl Tables {
         })
     }
 
-    /// Nothing.
     pub(crate) fn empty(alloc: Global) -> Tables
         ensures { IsEmptyGain result }
     {
@@ -119,7 +125,7 @@ impl Tables {
         requires { length self.old.variations + length gain.variations ≤ 128 }
         ensures { OnOk result (GrowBy self.old gain self.new) }
     {
-        if !has_room(self.kinds.as_slice(), gain.kinds.as_slice()) {
+        if self.kinds.len().saturating_add(gain.kinds.len()) > MOST_VERSIONS {
             return Err(Memory);
         }
         self.versions.append(&mut gain.versions)?;

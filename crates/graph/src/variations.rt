@@ -55,7 +55,6 @@ impl Variations {
         self.items.len() as u32
     }
 
-    /// Whether a Vary of that name was added.
     pub(crate) fn has(&self, name: &Name) -> bool
         ensures { result ≡ is_taken self.now name.now }
     {
@@ -89,7 +88,6 @@ impl Variations {
     }
 }
 
-/// The variations of a Vary, one for each tag.
 pub(crate) fn full_names(alloc: Global, name: &Name, tags: &[Name]) -> Result<Variations, Memory>
     requires { length tags.now ≤ 128 }
     ensures { IfOk result (λ v. v ≡ named name.now tags.now) }

@@ -1,6 +1,6 @@
 // The versions that the table and a Vary make.
 ghost use Rattle.std.specs.Prelude.{◌≡◌, ◌≤◌, ◌+◌, ◌++◌, length, IfOk, OnOk, ◌<◌, List, Some, slice_get, MatchOption, ℕ};
-ghost use Rattle.graph.specs.{cell_rows, named_version_before, sites_so_far, variation_count, versions_changed, AreAbove, AreSourcesOf, HasSites};
+ghost use Rattle.graph.specs.{named_version_before, sites_so_far, variation_count, versions_changed, AreAbove, AreSourcesOf, HasSites};
 ghost use Rattle.graph_numbers.specs.{Source, tag_source, varied_version};
 
 use crate::before::Before;
@@ -8,23 +8,7 @@ use crate::copies::push;
 use crate::lookup::{at, list_start, numbers};
 use crate::tables::Change;
 use graph_numbers::{Source, Version};
-use rdf_values::{Column, ListOf, Memory, Name, VaryValues};
-
-/// Appends the table's columns, numbered from n on.
-pub(crate) fn push_cells(
-    versions: &mut Vec<Version>,
-    n: u32,
-    header: &[Column],
-) -> Result<(), Memory>
-    requires { n + length header.now ≤ 64 }
-    ensures { OnOk result (versions.new.items ≡ versions.old.items ++ cell_rows n header.now) }
-{
-    let Some((_, rest)) = header.split_first() else {
-        return Ok(());
-    };
-    push(versions, Version::Cell { col: n })?;
-    push_cells(versions, n + 1, rest)
-}
+use rdf_values::{Memory, Name, VaryValues};
 
 /// The column at a place of a Vary, over the version below it.
 #[tactic(auto, using(crate::proofs::Walking::counted_are))]
@@ -56,7 +40,6 @@ fn varied_version(
     })
 }
 
-/// Appends the columns that a Vary changes, from a place on.
 pub(crate) fn push_varied(
     versions: &mut Vec<Version>,
     before: &Before<'_>,
@@ -74,7 +57,6 @@ pub(crate) fn push_varied(
     push_varied(versions, before, change, i + 1, rest)
 }
 
-/// The place of a variation among so many from the first on.
 fn tag_at(under: Option<u32>, first: u32, tags: u32) -> Option<u32>
     ensures { MatchOption result ((k : ℕ) → k < tags → under ≡ Some (first + k) → ⊥) (λ k. (k < tags) × (under ≡ Some (first + k))) }
 {
@@ -84,7 +66,6 @@ fn tag_at(under: Option<u32>, first: u32, tags: u32) -> Option<u32>
     }
 }
 
-/// A tag's site, or its element of the vector of the one site.
 fn tag_source(sites: &[u32], vector: bool, tags: u32, k: u32) -> Source
     requires sites { HasSites vector (length sites.now) tags }
     requires tag { k < tags }

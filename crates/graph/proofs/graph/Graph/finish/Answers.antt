@@ -10,7 +10,7 @@ loop_tables-requires-clause-named c = finish_named c.args.lines.items c.as_slice
 pub invariant_of-script : goal.invariant_of-script
 invariant_of-script c = record {
   are = record {
-    rows = finish_rows c.args.lines.items c.as_slice-all.result.now c.args.header.now c.args.names.now c.args.tables c.as_slice-results.result.now c.as_slice-all.ensures.value c.as_slice-results.ensures.value c.requires.graph c.requires.tables c.result_sets_are_dependence.ensures;
+    rows = finish_rows c.args.lines.items c.as_slice-all.result.now c.args.header.now c.args.names.now c.args.tables c.as_slice-results.result.now c.as_slice-all.ensures.value c.as_slice-results.ensures.value c.requires.graph c.requires.tables;
     few_results = finish_few c.args.lines.items c.as_slice-all.result.now c.args.header.now c.args.names.now c.args.tables c.as_slice-results.result.now c.as_slice-all.ensures.value c.as_slice-results.ensures.value c.requires.graph c.requires.tables c.requires.few;
     count = c.len-variations.ensures.count ∙ ap length c.requires.tables.variations ∙ ap (λ ls. length (variations (statements ls))) (sym c.as_slice-all.ensures.value);
     few = c.len-variations.ensures.few;
@@ -19,5 +19,5 @@ invariant_of-script c = record {
 
 pub invariant_of-result : goal.invariant_of-result
 invariant_of-result c =
-    finished c.args.lines.items c.as_slice-all.result.now c.args.header.now c.args.names.now c.args.tables c.as_slice-results.result.now c.as_slice-all.ensures.value c.as_slice-results.ensures.value c.requires.graph c.requires.tables c.site_sets_are_dependence.ensures c.result_sets_are_dependence.ensures c.requires.short c.requires.few c.in_ok-loops.loops c.in_ok-watched.watched.items c.in_ok-loops.ensures c.in_ok-watched.ensures
+    finished c.args.lines.items c.as_slice-all.result.now c.args.header.now c.args.names.now c.args.tables c.as_slice-results.result.now c.as_slice-all.ensures.value c.as_slice-results.ensures.value c.requires.graph c.requires.tables c.requires.short c.requires.few c.in_ok-loops.loops c.in_ok-watched.watched.items c.in_ok-loops.ensures c.in_ok-watched.ensures
     c.in_ok-columns.columns c.in_ok-functions.functions c.in_ok-columns.ensures (c.in_ok-functions.ensures ∙ c.as_slice.ensures.value)

@@ -27,9 +27,9 @@ returns-in_ok-push_many c =
     on_ok c.note-else-n-filled.result _ _
     (print_fills (statements c.args.script.now.lines.now) (statements c.args.before.now) c.args.name.now c.requires.named.0 c.requires.begins c.in-Some.n
     (sym (place_of_row (statements c.args.script.now.lines.now) _ c.args.script.now.results.now c.args.name.now c.args.script.now.are.rows) ∙ sym c.in-Some.ensures.value) old
-    (record { loops = c.push.new.items; runs = old.runs; prints = old.prints; filling = old.filling; fillers = c.push_many.new.items }) c.note-else-n-filled.new.self
+    (record { loops = c.push.new.items; prints = old.prints; filling = old.filling; fillers = c.push_many.new.items }) c.note-else-n-filled.new.self
     c.push_passes.new.passes c.len-place.result (c.result_count-booked.result - length c.as_slice-filled.result.now) c.requires.named.1 c.requires.old (let ge = c.if-n-filled.false in omega (arith, l, ge))
     (c.in_ok-push_passes.ensures ∙ (λ i. c.new-passes.ensures i ++ passes_of_rows (statements c.args.script.now.lines.now) c.args.script.now.variations (length c.as_slice-filled.result.now) (take (c.result_count-booked.result - length c.as_slice-filled.result.now) (drop (length c.as_slice-filled.result.now) c.args.script.now.results.now)))
     ∙ (λ i. passes_of_rows (statements c.args.script.now.lines.now) (c.args.script.now.are.count i) (length c.as_slice-filled.result.now) (take (c.result_count-booked.result - length c.as_slice-filled.result.now) (drop (length c.as_slice-filled.result.now) c.args.script.now.results.now)))
     ∙ open_passes (statements c.args.script.now.lines.now) (statements c.args.before.now) c.requires.named.1 c.requires.begins c.args.script.now.results.now c.args.script.now.are.rows _ _ (l ∙ c.requires.old.count) k)
-    (let v = c.args.self.now.loops.ok.0 in let p = c.len-place.ensures in omega (arith, v, p)) (λ i. k i - l i) c.in_ok-push.ensures c.in_ok-push_many.ensures refl refl refl) c.note-else-n-filled.ensures
+    (let v = c.args.self.now.loops.ok.0 in let p = c.len-place.ensures in omega (arith, v, p)) (λ i. k i - l i) c.in_ok-push.ensures c.in_ok-push_many.ensures refl refl) c.note-else-n-filled.ensures

@@ -1,18 +1,14 @@
-use Rattle.std.proofs.Common.{List, ap, arith, length}
-use Rattle.rdf_values.specs.{ColType}
+use Rattle.std.proofs.Common.{arith}
 use Rattle.graph.proofs.Gaining.{added}
 use Rattle.graph.proofs.tables.Tables.add.Goals as goal
 
 pub returns : goal.returns
 returns c =
-    let few = c.has_room.ensures c.if-not-has_room.false in
-    let a = ap (λ (xs : List ColType). length xs) c.as_slice.ensures.value in
-    let b = ap (λ (xs : List ColType). length xs) c.as_slice-2.ensures.value in
     added c.append-8.result c.args.self.now _ c.args.gain
     (record {
       versions = c.in_ok-append.ensures.items;
       kinds = c.in_ok-append-2.ensures.items;
-      few = omega (arith, few, a, b);
+      few = grind arith;
       version_sets = c.in_ok-append-3.ensures.items;
       sites = c.in_ok-append-4.ensures.items;
       site_sets = c.in_ok-append-5.ensures.items;
