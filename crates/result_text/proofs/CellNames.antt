@@ -33,8 +33,7 @@ from_over lo [] = refl
 from_over lo (hi ∷ es) = from_over hi es
 
 pub last_name : (edges : List ℤ) (i : ℕ) → i ≡ length edges → 0 < i → name_at edges i ≡ Some (codes "over")
-last_name [] i e h = absurd (omega arith)
-last_name (lo ∷ es) i e h = ap (name_at (lo ∷ es)) e ∙ from_over lo es
+last_name edges i e h = grind (arith, from_over)
 
 from_bin : (lo : ℤ) (es : List ℤ) (k : ℕ) → k < length es → slice_get (cell_names_from lo es) k ≡ Some (bin_name (get_or (lo ∷ es) k (pos 0)) (get_or es k (pos 0)))
 from_bin lo [] k lt = absurd (omega arith)

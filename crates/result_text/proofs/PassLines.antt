@@ -80,8 +80,7 @@ report_lines g flow name f fs covered counts is there =
 -- ---- The passes of a graph's loops are those of the script.
 
 of_option : {A B : Type 0} (f : A → B) (o : Option A) (y : B) → option_map f o ≡ Some y → (x : A) × (o ≡ Some x) × (f x ≡ y)
-of_option f None y h = cc h
-of_option f (Some x) y h = (x, refl, cc h)
+of_option f o y h = grind arith
 
 module _ (g : GraphView) where
   -- the result and the variation of a numbered pass, which is the pass of that place in the script's loop
@@ -119,8 +118,7 @@ module _ (g : GraphView) where
       same_some (sym named ∙ ap (option_map (λ (x : ResultAt). x.booked.name)) row.1) ∙ ap (λ (y : Booked). y.name) row.2
 
   under_is : (v : Option ℕ) → under_in (graph_variations g) v ≡ under_at (booked_statements g) v
-  under_is None = refl
-  under_is (Some v) = refl
+  under_is v = grind arith
 
   -- the label of a pass by the numbers of its loop and place
   pub label_is : (l n : ℕ) (p : NumberedPass) (name : List ℕ) → IsPassAt l n p → option_map (λ (x : ResultAt). x.booked.name) (slice_get (graph_results g) p.result) ≡ Some name
@@ -135,12 +133,10 @@ pass_there ps n d lt = slice_get-get_or ps n d lt
 -- ---- members
 
 pub members_yes : (at : ℕ → Bool) (vs : List Variation) (v : ℕ) (x : Variation) → slice_get vs v ≡ Some x → at v ≡ true → members_from at v (drop v vs) ≡ x ∷ members_from at (v + 1) (drop (v + 1) vs)
-members_yes at vs v x there member =
-    ap (members_from at v) (one_left vs v x there) ∙ ap (λ (b : Bool). if b then x ∷ members_from at (v + 1) (drop (v + 1) vs) else members_from at (v + 1) (drop (v + 1) vs)) member
+members_yes at vs v x there member = grind (arith, one_left)
 
 pub members_no : (at : ℕ → Bool) (vs : List Variation) (v : ℕ) (x : Variation) → slice_get vs v ≡ Some x → at v ≡ false → members_from at v (drop v vs) ≡ members_from at (v + 1) (drop (v + 1) vs)
-members_no at vs v x there other =
-    ap (members_from at v) (one_left vs v x there) ∙ ap (λ (b : Bool). if b then x ∷ members_from at (v + 1) (drop (v + 1) vs) else members_from at (v + 1) (drop (v + 1) vs)) other
+members_no at vs v x there other = grind (arith, one_left)
 
 pub members_few : (at : ℕ → Bool) (vs : List Variation) (n : ℕ) → length (members_from at n vs) ≤ length vs
 members_few at [] n = omega arith
@@ -196,5 +192,4 @@ its_covers results r x covers at named = same_some (sym named ∙ ap (option_map
 
 -- nothing is put of a variation that isn't a member
 pub stays : (now text all name : List ℕ) (k : ActionKind) (accs : List Accumulator) (first q p : ℕ) (ms rest : List Variation) → now ≡ text → q ≡ p → ms ≡ rest → text ++ under_lines name k accs (first + p) ms ≡ all → now ++ under_lines name k accs (first + q) rest ≡ all
-stays now text all name k accs first q p ms rest same_text same_place same_members h =
-    ap (λ t. t ++ under_lines name k accs (first + q) rest) same_text ∙ ap (λ n. text ++ under_lines name k accs (first + n) rest) same_place ∙ ap (λ l. text ++ under_lines name k accs (first + p) l) (sym same_members) ∙ h
+stays now text all name k accs first q p ms rest same_text same_place same_members h = grind arith
