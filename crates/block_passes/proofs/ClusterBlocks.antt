@@ -1,27 +1,270 @@
--- A block that was searched without a fault is clear, and is taken in.
-use Rattle.std.proofs.Common.{◌≡◌, ℕ, ◌+◌, ◌-◌, ◌*◌, ◌≤◌, List, length, None, Some, Ok, Err, refl, ◌∙◌, ap, subst, arith, slice_get, ◌<◌, map, Option, Result, slice_range}
-use Rattle.lemmas.proofs.{length-map, map_length, range_length, slice_get_within, something_at}
+-- What a slot reserves stays what it was while a block is tried, and a block that was searched without a fault is taken in.
+use Rattle.std.proofs.Common.{◌≡◌, ℕ, List, [], ◌∷◌, length, sym, ◌∙◌, ap, subst, ℤ, if◌then◌else◌, ◌+◌, ◌<◌, ◌≤◌, true, false, All, Option, Some, None, refl, arith, slice_get, inl, inr, zero, suc, ◌-◌, ◌*◌, Bool, map, take, unwrap_or, slice_index_or, count_by, get_or, slice_range, Err}
+use Rattle.lemmas.proofs.{All-from_recursion, All-weaker, AllByRecursion, cases_lt, get_or-map, get_or-take, get_or_from_slice_get, get_or_past, length-map, never_true, range_length, slice_get_within, sum_by-cons, take_at_most, map_length, something_at}
+use Rattle.rdf_values.specs.{ColType, EachColumn, history, Value, Fault, Span}
+use Rattle.block_cache.specs.{AreReady, AreUnknown, begun_at, begun_count, CanFill, HaveRoom, held_value, is_tried, IsLoaded, IsUnknown, kinds_of, lane_begun, LaneView, room_of, rooms_of, size_for, tried_count, value_of}
+use Rattle.loop_keys.specs.{AreKeys, AreReadable, entry_demands, Held, IsJob, IsRight, job_graph, JobView, key, key_count, keys_in, passes_in, row_of, site_in, source_at, facts_in, job_spans}
+use Rattle.graph_numbers.specs.{graph_sites, graph_under, GraphView, IsBelow, SiteAt, Source, version_count, graph_filters}
+use Rattle.block_passes.specs.{after_block, AreDeepEnough, AreLoaded, at_end, at_entry, at_filter, at_pass, block_demands, block_rows, BlockStop, CanSelect, CanServe, CanServeAll, demands_in, entries_from, Found, HaveCells, HaveKinds, IsAmid, IsBefore, IsBegunBlock, IsBlockAnswer, IsBlockOf, IsClear, IsClusterAnswer, IsFilterStep, IsMadeAt, IsOverAll, IsPlan, IsPlanMade, IsReadyBelow, IsSearchedTo, IsServable, IsStateOf, Kept, longer, PlanView, span_demands, Spends, StateView, Step}
+use Rattle.rdf_model.proofs.KnownColumns.{each_weaker}
+use Rattle.expr_lanes.specs.declared.TheConstants.{MAX_PLACES}
+use Rattle.graph_numbers.proofs.Equations.{columns_below}
+use Rattle.loop_keys.proofs.EvaluateLaws.{accepted_of}
+use Rattle.block_cache.proofs.BlockLaws.{held_of_lane, lane_held}
+use Rattle.block_cache.proofs.CanFills.{can_fill_site}
+use Rattle.block_passes.proofs.SiteKinds.{filter_kind, site_kinds}
+use Rattle.block_passes.proofs.Demanding.{action_at, site_there}
+use Rattle.loop_keys.proofs.ActionLaws.{can_act}
+use Rattle.block_cache.proofs.Marking.{count_none}
+use Rattle.expr_lanes.specs.{is_marked}
+use Rattle.block_laws.specs.{marked_at, marked_in, row_demands, cluster_demands, first_length, IsFirst, row_elements}
+use Rattle.block_laws.proofs.Batches.{marked_within}
+use Rattle.loop_keys.proofs.DemandSets.{few_keys, has_all, keys_of_all}
+use Rattle.block_passes.proofs.Searching.{row_in_block}
 use Rattle.rdf_model.specs.{first_fault_from, first_of, kinds_in, span_rows, spreads_of}
-use Rattle.graph_numbers.specs.{graph_filters}
-use Rattle.block_cache.specs.{LaneView}
 use Rattle.cluster_tally.specs.{at_begin, block_begin, BlockStage, Holds, HoldsIn, Stage, TallyView}
 use Rattle.cluster_tally.proofs.BlockFeeds.{begins_block, ends_block}
-use Rattle.loop_keys.specs.{facts_in, IsJob, job_graph, job_spans, JobView, passes_in}
 use Rattle.loop_keys.proofs.PassNumbers.{pass_of}
-use Rattle.block_passes.specs.{after_block, at_end, at_entry, at_filter, at_pass, block_demands, block_rows, demands_in, entries_from, IsBefore, IsBlockAnswer, IsBlockOf, IsBlockTried, IsClear, IsClusterAnswer, IsMadeAt, IsOverAll, IsPlan, IsPlanMade, IsReadyBelow, IsSearchedTo, PlanView, span_demands}
-use Rattle.block_passes.specs.Fed.{IsAmid}
-use Rattle.block_passes.specs.declared.found.Found.{Found}
-use Rattle.block_passes.specs.declared.kept.Kept.{Kept}
-use Rattle.block_passes.specs.declared.stop.BlockStop.{BlockStop}
 use Rattle.block_passes.proofs.Feeding.{filters_many}
 use Rattle.rdf_values.proofs.Evenly.{cuts_lead}
-use Rattle.rdf_values.specs.{Fault, Span, Value}
 use Rattle.columns.proofs.BlockSteps.{span_within}
 use Rattle.loop_pieces.specs.{begin_of, cluster_fault}
-use Rattle.block_laws.specs.{cluster_demands, first_length, IsFirst, row_elements}
 use Rattle.block_laws.proofs.BlockCuts.{first_is}
 use Rattle.block_laws.proofs.BlockFaults.{block_then_rest}
 use Rattle.block_laws.proofs.Costs.{count_goes_on}
+
+have_room : (n : ℕ) (before after : List LaneView) → rooms_of after ≡ rooms_of before → HaveRoom n before → HaveRoom n after
+have_room n before after e h i d low =
+    let there : i < length before = omega (arith, low, length-map after room_of, length-map before room_of, ap length e) in
+    sym (get_or-map room_of after i d 0 low) ∙ ap (λ ns. get_or ns i 0) e ∙ get_or-map room_of before i d 0 there ∙ h i d there
+
+same_many : (before after : List LaneView) → kinds_of after ≡ kinds_of before → length after ≡ length before
+same_many before after e = sym (length-map after (λ (l : LaneView). l.kind)) ∙ ap length e ∙ length-map before (λ (l : LaneView). l.kind)
+
+-- lanes of the same kinds with as much room, and as many numbers, levels and selections
+pub state_stays : (j : JobView) (old : StateView) (cells : List (List ℤ)) (lanes : List LaneView) (scratch levels : ℕ) (found : Found) (kept : List Kept) → IsStateOf j old → length cells ≡ length old.cells → HaveCells old.size cells
+    → kinds_of lanes ≡ kinds_of old.lanes → rooms_of lanes ≡ rooms_of old.lanes → scratch ≡ old.scratch → levels ≡ old.levels → length kept ≡ length old.kept
+    → IsStateOf j (record { size = old.size; plan = old.plan; rows = old.rows; cells = cells; lanes = lanes; scratch = scratch; levels = levels; found = found; kept = kept })
+state_stays j old cells lanes scratch levels found kept h columns room kinds rooms deep high many = record {
+  size = h.size;
+  least = h.least;
+  most = h.most;
+  plan = h.plan;
+  rows = h.rows;
+  cells = columns ∙ h.cells;
+  cell_room = room;
+  lanes = same_many old.lanes lanes kinds ∙ h.lanes;
+  kinds = subst (λ (ks : List ColType). HaveKinds (job_graph j) (length (graph_sites (job_graph j))) ks) (sym kinds) h.kinds;
+  lane_room = have_room old.size old.lanes lanes rooms h.lane_room;
+  scratch = subst (λ (n : ℕ). AreDeepEnough (job_graph j) n) (sym deep) h.scratch;
+  levels = high ∙ h.levels;
+  kept = many ∙ h.kept;
+}
+
+-- ---- A block that begins with what a slot reserves.
+
+-- ---- lists of lanes
+
+pub all_get : {A : Type 0} (P : A → Type 0) (xs : List A) → All P xs → (k : ℕ) (x : A) → slice_get xs k ≡ Some x → P x
+all_get P xs all k x at = subst P (get_or_from_slice_get xs k x x at) (all k x (slice_get_within xs k x at))
+
+-- ---- nothing is known
+
+module _ (count : ℕ) (lanes : List LaneView) (unknown : AreUnknown count lanes) where
+  never_begun : (k p : ℕ) → begun_at lanes k p ≡ true → ⊥
+  never_begun k p begun = go (slice_get lanes k) refl begun
+    where
+      go : (o : Option LaneView) → slice_get lanes k ≡ o → lane_begun o p ≡ true → ⊥
+      go None q b = cc b
+      go (Some l) q b = let u = all_get (IsUnknown count) lanes unknown k l q in let n : is_tried l p ≡ false = u.tried p in cc (sym n ∙ b)
+
+  nothing_held : (k p : ℕ) → lane_held (slice_get lanes k) p ≡ Held.Nothing
+  nothing_held k p = go (slice_get lanes k) refl
+    where
+      go : (o : Option LaneView) → slice_get lanes k ≡ o → lane_held o p ≡ Held.Nothing
+      go None q = refl
+      go (Some l) q = let u = all_get (IsUnknown count) lanes unknown k l q in ap (λ b. if b then held_value (value_of l p) else Held.Nothing) (u.held p)
+
+  pub unknown_ready : (j : JobView) (first : ℕ) → length lanes ≡ key_count (job_graph j) → 0 < count → first + count ≤ length j.dataset.rows → AreReady j first count lanes
+  unknown_ready j first many some within = record {
+    many = many;
+    counts = All-weaker (IsUnknown count) (λ (l : LaneView). l.count ≡ count) (λ l u. u.count) lanes unknown;
+    some = some;
+    within = within;
+    sound = λ p low. record {
+      each = λ u s inside.
+          subst (λ (h : Held). IsRight (site_in j (first + p) u s) h) (sym (held_of_lane (key_count (job_graph j)) lanes p (key (job_graph j) s u) ∙ nothing_held (key (job_graph j) s u) p)) tt;
+    };
+  }
+
+-- all that is made for the graph of a job
+pub state_new : (j : JobView) (g : GraphView) → g ≡ job_graph j → (s : StateView) (keys : ℕ) → AreKeys g s.rows × (keys ≡ key_count g) → s.size ≡ size_for keys → 1 ≤ s.size → s.size ≤ MAX_PLACES → IsPlan j s.plan
+    → length s.cells ≡ length j.dataset.columns → HaveCells s.size s.cells → (kinds : List ColType) → length kinds ≡ key_count g → HaveKinds g (length (graph_sites g)) kinds → kinds_of s.lanes ≡ kinds → HaveRoom s.size s.lanes
+    → AreDeepEnough g s.scratch → s.levels ≡ length (graph_sites g) → length s.kept ≡ length s.plan.steps → IsStateOf j s
+state_new j g is s keys rows size least most plan cells cell_room kinds many have lanes room scratch levels kept = record {
+  size = size ∙ ap size_for (rows.1 ∙ ap key_count is);
+  least = least;
+  most = most;
+  plan = plan;
+  rows = subst (λ (v : GraphView). AreKeys v s.rows) is rows.0;
+  cells = cells;
+  cell_room = cell_room;
+  lanes = sym (length-map s.lanes (λ (l : LaneView). l.kind)) ∙ ap length lanes ∙ many ∙ ap key_count is;
+  kinds = subst (λ (v : GraphView). HaveKinds v (length (graph_sites v)) (kinds_of s.lanes)) is (subst (λ (ks : List ColType). HaveKinds g (length (graph_sites g)) ks) (sym lanes) have);
+  lane_room = room;
+  scratch = subst (λ (v : GraphView). AreDeepEnough v s.scratch) is scratch;
+  levels = levels ∙ ap (λ (v : GraphView). length (graph_sites v)) is;
+  kept = kept;
+}
+
+module _ (j : JobView) (job : IsJob j) (first count : ℕ) (s : StateView) (state : IsStateOf j s) (some : 0 < count) (within : first + count ≤ length j.dataset.rows) (unknown : AreUnknown count s.lanes)
+    (unmade : All (λ (k : Kept). k.limit ≡ None) s.kept) (loaded : AreLoaded j first count s.cells) where
+  begun_ready : (p : IsPlan j s.plan) → IsReadyBelow j first count p.chains count s.lanes s.kept
+  begun_ready p = record {
+    ready = unknown_ready count s.lanes unknown j first state.lanes some within;
+    settled = λ q low k begun. absurd (never_begun count s.lanes unknown k q begun);
+    kept_are = record {
+      many = state.kept ∙ sym p.steps.many;
+      each = λ k made c m its at limit. absurd (never made (sym (all_get (λ (x : Kept). x.limit ≡ None) s.kept unmade k m at) ∙ limit));
+    };
+    within = omega arith;
+  }
+    where
+      never : (made : ℕ) → ◌≡◌ {A = Option ℕ} None (Some made) → ⊥
+      never made e = cc e
+
+  source_loaded : (x : Source) → IsLoaded j first count s.cells x
+  source_loaded x = grind arith
+
+  -- each site can be filled
+  pub can_fill : (u : Option ℕ) (t : ℕ) → t < length (graph_sites (job_graph j)) → CanFill j first u count (kinds_of s.lanes) s.cells s.scratch s.levels t
+  can_fill u t inside =
+      can_fill_site j job first u count t (kinds_of s.lanes) s.cells s.scratch s.levels (site_kinds (job_graph j) (kinds_of s.lanes) state.kinds)
+      (λ n x at. (state.scratch n x at, columns n x at)) (let l = state.levels in omega (arith, inside, l))
+    where
+      columns : (n : ℕ) (x : SiteAt) → slice_get (graph_sites (job_graph j)) n ≡ Some x → EachColumn (λ c. IsLoaded j first count s.cells (source_at j u c)) x.tree
+      columns n x at =
+          each_weaker (λ c. (c < version_count j.dataset.columns (history j.script)) × IsBelow (length j.dataset.columns) n (source_at j u c)) _ (λ c below. source_loaded (source_at j u c)) x.tree
+          (columns_below j.dataset.fns j.dataset.columns (graph_under (job_graph j) u) (history j.script) (accepted_of j job) n x at)
+
+  select : CanSelect j first count s.plan (kinds_of s.lanes) s.cells s.scratch s.levels
+  select = record {
+    each = λ k parent site u at. can_fill u site (inside k parent site u at);
+    truths = λ k parent site u at. (
+        let f = its_step k parent site u at in
+        let h = state.kinds site u (inside k parent site u at) in
+        h.2 ∙ ap Some (filter_kind j job (longer f.up site u) f.up.sites site refl (state.plan.tried k (longer f.up site u) f.own) h.0 h.1));
+  }
+    where
+      its_step : (k parent site : ℕ) (u : Option ℕ) → slice_get s.plan.steps k ≡ Some (Step.Filter parent site u) → IsFilterStep state.plan.chains k parent site u
+      its_step k parent site u at = state.plan.steps.each k (Step.Filter parent site u) at
+
+      inside : (k parent site : ℕ) (u : Option ℕ) → slice_get s.plan.steps k ≡ Some (Step.Filter parent site u) → site < length (graph_sites (job_graph j))
+      inside k parent site u at = let f = its_step k parent site u at in site_there j job (longer f.up site u) f.up.sites site refl (state.plan.tried k (longer f.up site u) f.own)
+
+  serve : CanServeAll j first count (kinds_of s.lanes) s.cells s.scratch s.levels
+  serve n k inputs u read = each inputs (can_act j job first (omega (arith, some, within)) _ k _ inputs (action_at read) u).inputs
+    where
+      servable : (x : Source) → IsBelow (length j.dataset.columns) (length (graph_sites (job_graph j))) x → IsServable j first u count (kinds_of s.lanes) s.cells s.scratch s.levels x
+      servable x below = grind (arith, can_fill)
+
+      each : (cs : List ℕ) → AreReadable j u cs → AllByRecursion (CanServe j first u count (kinds_of s.lanes) s.cells s.scratch s.levels) cs
+      each [] h = tt
+      each (c ∷ cs) h = ((h.0.0, servable (source_at j u c) h.0.1), each cs h.1)
+
+  pub is_begun : s.found ≡ record { limit = count; best = None } → IsBegunBlock j first count s
+  is_begun found = record { found = found; unknown = unknown; unmade = unmade; ready = begun_ready; loaded = loaded; select = select; serve = serve }
+
+-- ---- Over a block of which nothing was known no more evaluations are begun than its entries demand.
+
+-- ---- the marks of a lane
+
+abbrev mark : Bool → ℕ
+mark b = if b then 1 else 0
+
+abbrev own : List Bool → ℕ
+own l = count_by (λ b. b) l
+
+own_more : (b : Bool) (bs : List Bool) → own (b ∷ bs) ≡ mark b + own bs
+own_more b bs = sum_by-cons mark b bs
+
+-- all that are marked are among the first
+front_counts : (bs : List Bool) (n : ℕ) → ((p : ℕ) → is_marked bs p ≡ true → p < n) → own bs ≤ own (take n bs)
+front_counts [] n h = let e : own [] ≡ 0 = refl in omega (arith, e)
+front_counts (b ∷ bs) zero h = let e = count_none (b ∷ bs) (λ p. never_true (is_marked (b ∷ bs) p) (λ q. let l = h p q in omega (arith, l))) in omega (arith, e)
+front_counts (b ∷ bs) (suc n) h =
+    let a = own_more b bs in let c = own_more b (take n bs) in let r = front_counts bs n (λ p q. (let l = h (suc p) q in omega (arith, l))) in omega (arith, a, c, r)
+
+taken_mark : (bs : List Bool) (n p : ℕ) → is_marked (take n bs) p ≡ true → is_marked bs p ≡ true
+taken_mark bs n p e = grind (arith, cases_lt, get_or-take, get_or_past, take_at_most)
+
+-- ---- of all lanes the places of a block
+
+module _ (count : ℕ) where
+  abbrev front : LaneView → List Bool
+  front l = take count l.tried
+
+  fronts : (lanes : List LaneView) → ((k p : ℕ) → begun_at lanes k p ≡ true → p < count) → begun_count lanes ≤ marked_in (map front lanes)
+  fronts [] h = let e : begun_count [] ≡ 0 = refl in omega (arith, e)
+  fronts (l ∷ ls) h =
+      let a : begun_count (l ∷ ls) ≡ own l.tried + begun_count ls = sum_by-cons tried_count l ls in
+      let b : marked_in (front l ∷ map front ls) ≡ own (front l) + marked_in (map front ls) = sum_by-cons own (front l) (map front ls) in
+      let c = front_counts l.tried count (h 0) in
+      let r = fronts ls (λ k p e. h (suc k) p e) in omega (arith, a, b, c, r)
+
+  short_fronts : (n : ℕ) → count ≤ n → (lanes : List LaneView) → AllByRecursion (λ (l : List Bool). length l ≤ n) (map front lanes)
+  short_fronts n le [] = tt
+  short_fronts n le (l ∷ ls) = (omega (arith, take_at_most count l.tried, le), short_fronts n le ls)
+
+  one : (b d : Bool) → (b ≡ true → d ≡ true) → mark b ≤ mark d
+  one b d f = grind arith
+
+  -- the keys that were begun at a place are within a set
+  few_at : (T : ℕ → Bool) (i base : ℕ) (lanes : List LaneView) → ((k : ℕ) → begun_at lanes k i ≡ true → T (base + k) ≡ true) → marked_at (map front lanes) i ≤ keys_in T base (length lanes)
+  few_at T i base [] h = let e : marked_at [] i ≡ 0 = refl in omega (arith, e)
+  few_at T i base (l ∷ ls) h =
+      let a : marked_at (front l ∷ map front ls) i ≡ mark (is_marked (front l) i) + marked_at (map front ls) i = sum_by-cons (λ (x : List Bool). mark (slice_index_or x i false)) (front l) (map front ls) in
+      let b = few_at T i (suc base) ls (λ k q. (let e : suc base + k ≡ base + suc k = omega arith in ap T e ∙ h (suc k) q)) in
+      let c : mark (is_marked (front l) i) ≤ (if T base then 1 else 0) = one (is_marked (front l) i) (T base) (λ q. (let e : base ≡ base + 0 = omega arith in ap T e ∙ h 0 (taken_mark l.tried count i q))) in
+      omega (arith, a, b, c)
+
+-- ---- what the entries demand
+
+module _ (j : JobView) (first count : ℕ) (before after : List LaneView) (start end : ℕ) (within : first + count ≤ length j.dataset.rows) (unknown : AreUnknown count before) (spends : Spends j first count before after start end) where
+  newly : (k p : ℕ) → begun_at after k p ≡ true → (p < count) × (keys_of_all j (first + p) k ≡ true)
+  newly k p e = elim (spends.only (λ q. keys_of_all j (first + q)) (λ q lt. has_all j (first + q)) k p e) [
+    | inl h ↦ absurd (never_begun count before unknown k p h)
+    | inr h ↦ h
+  ]
+
+  abbrev rows : List (List Value)
+  rows = slice_range j.dataset.rows first (first + count)
+
+  long : length rows ≡ count
+  long = range_length j.dataset.rows first (first + count) (omega arith) within ∙ (let e : first + count - first ≡ count = omega arith in e)
+
+  row_few : (i : ℕ) (row : List Value) → slice_get rows i ≡ Some row → marked_at (map (front count) after) i ≤ row_demands j.dataset (passes_in j) row
+  row_few i row here =
+      let low = slice_get_within rows i row here in
+      let l = long in
+      let same : row_of j (first + i) ≡ row = ap (λ o. unwrap_or o []) (sym (row_in_block j.dataset.rows first (first + count) i (omega (arith, low, l))) ∙ here) in
+      let a = few_at count (keys_of_all j (first + i)) i 0 after (λ k q. (let e : 0 + k ≡ k = omega arith in ap (keys_of_all j (first + i)) e ∙ (newly k i q).1)) in
+      let b = few_keys j (first + i) (length after) in
+      let c : entry_demands j (first + i) ≡ row_demands j.dataset (passes_in j) row = ap (row_demands j.dataset (passes_in j)) same in
+      omega (arith, a, b, c)
+
+  few_begun : begun_count after ≤ block_demands j (entries_from first count)
+  few_begun =
+      let a = fronts count after (λ k p e. (newly k p e).0) in
+      let l = long in
+      let b : marked_in (map (front count) after) ≤ block_demands j (entries_from first count) =
+      marked_within (map (front count) after) rows (row_demands j.dataset (passes_in j))
+      (All-from_recursion (λ (x : List Bool). length x ≤ length rows) (map (front count) after) (short_fronts count (length rows) (omega (arith, l)) after)) row_few in
+      omega (arith, a, b)
+
+  -- at most two evaluations were made for each pair that is demanded
+  pub spent_few : end ≤ start + 2 * block_demands j (entries_from first count)
+  spent_few = let c = spends.cost in let f = few_begun in omega (arith, c, f)
 
 -- ---- the search
 
@@ -87,17 +330,6 @@ module _ (j : JobView) (first count cluster : ℕ) (watched : List ℕ) (s : Sta
       let e : count ≡ first + count - first = omega arith in
       subst (λ (n : ℕ). Holds (facts_in j) watched (at_entry s.done s.cluster (s.entries + n)) now) e
       (ends_block (facts_in j) watched (at_filter all_fed (length (graph_filters (job_graph j)))) now refl (filters_many j first count) h)
-
--- ---- the answer
-
-module _ (j : JobView) (first count cluster : ℕ) (before after : TallyView) (start end : ℕ) (bound : end ≤ start + 2 * block_demands j (entries_from first count)) where
-  pub tried_stopped : (why : BlockStop) → IsBlockAnswer j (entries_from first count) (Err why) → IsBlockTried j cluster (entries_from first count) before after start end (Err why)
-  tried_stopped why answer = record { answer = answer; holds = λ watched s h. tt; bound = bound }
-
-  pub tried_clear : first_fault_from j.dataset first (block_rows j (entries_from first count)) (passes_in j) ≡ None
-      → ((watched : List ℕ) (s : Stage) → IsBefore j watched s cluster (entries_from first count) before → Holds (facts_in j) watched (after_block s (entries_from first count)) after)
-      → IsBlockTried j cluster (entries_from first count) before after start end (Ok tt)
-  tried_clear none holds = record { answer = none; holds = holds; bound = bound }
 
 -- ---- The blocks of a cluster, one after the other.
 
@@ -208,9 +440,6 @@ module _ (j : JobView) (job : IsJob j) (cluster size keys : ℕ) (some : 1 ≤ s
 -- the block begins at an entry, and has so many
 pub as_entries : (b : Span) → b.lo < b.hi → entries_from b.lo (b.hi - b.lo) ≡ b
 as_entries b lt = let e : b.lo + (b.hi - b.lo) ≡ b.hi = omega (arith, lt) in λ i. record { lo = b.lo; hi = e i }
-
-pub tried_as : (j : JobView) (cluster : ℕ) (a b : Span) (before after : TallyView) (first last : ℕ) (result : Result (Unit {0}) BlockStop) → a ≡ b → IsBlockTried j cluster a before after first last result → IsBlockTried j cluster b before after first last result
-tried_as j cluster a b before after first last result e h = subst (λ (x : Span). IsBlockTried j cluster x before after first last result) e h
 
 -- the end of a block, by the size that the slot has
 pub end_as : (rows : List (List Value)) (lo hi keys now size end : ℕ) → now ≡ size → end ≡ lo + first_length now 4194304 (map (row_elements keys) (slice_range rows lo hi)) → end ≡ lo + first_length size 4194304 (map (row_elements keys) (slice_range rows lo hi))

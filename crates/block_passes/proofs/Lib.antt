@@ -1,16 +1,10 @@
-pub mod BegunBlocks
 pub mod ClusterBlocks
 pub mod Demanding
-pub mod Fed
 pub mod Feeding
 pub mod FirstLengths
-pub mod Lanes
-pub mod Places
 pub mod Serving
 pub mod PlanSteps
-pub mod SearchedPasses
 pub mod Searching
 pub mod Selecting
 pub mod SiteKinds
-pub mod Spending
 pub mod Trying

@@ -1,8 +1,7 @@
 -- How the plan of a loop is made: its steps, its passes and its named filters.
 use Rattle.std.proofs.Common.{◌≡◌, ◌⊎◌, inl, inr, ℕ, zero, suc, ◌+◌, ◌<◌, List, [], ◌∷◌, ◌++◌, length, length-append, Option, None, Some, refl, sym, ◌∙◌, ap, subst, arith, append_assoc, Bool, true, false, option_map, slice_get}
 use Rattle.lemmas.proofs.{append-nil, before_or_last, kept_at, last_at, list_any, slice_get_within, something_at}
-use Rattle.block_passes.specs.{ArePlanned, AreSteps, AreStepsOf, Chain, IsActionOf, IsBegin, IsFilterPlanned, IsFilterStep, IsLast, IsLed, IsNamed, IsPassLast, IsPlan, IsPlanned, IsPlannedFilter, IsStep, IsStepped, IsTried, longer}
-use Rattle.block_passes.specs.declared.steps.Step.{Step}
+use Rattle.block_passes.specs.{ArePlanned, AreSteps, AreStepsOf, Chain, IsActionOf, IsBegin, IsFilterPlanned, IsFilterStep, IsLast, IsLed, IsNamed, IsPassLast, IsPlan, IsPlanned, IsPlannedFilter, IsStep, IsStepped, IsTried, longer, NamedSteps, Step}
 use Rattle.loop_keys.proofs.PassNumbers.{some_same, result_inside, result_there}
 use Rattle.rdf_values.specs.{ActionAt, ActionKind, Booking, ReportOn}
 use Rattle.graph_numbers.specs.{FilterAt, graph_filters, graph_results, GraphView, kind_of_booking, Pass as NumberedPass, ResultAt, ResultKind}
@@ -10,7 +9,6 @@ use Rattle.loop_keys.specs.{covered_in, is_covering, IsJob, job_graph, JobView, 
 use Rattle.loop_keys.proofs.ReportTies.{cover_at, cover_is, plan_covered}
 use Rattle.loop_keys.proofs.Elements.{of_option}
 use Rattle.graph_numbers.proofs.Walks.{joined, only_at}
-use Rattle.block_passes.specs.declared.plan.NamedSteps.{NamedSteps}
 
 -- ---- steps
 

@@ -1,33 +1,31 @@
--- What the actions of a loop read, and how filling it lowers the limit.
-use Rattle.std.proofs.Common.{◌≡◌, ◌⊎◌, inl, inr, ℕ, Bool, ◌<◌, true, false, List, [], ◌∷◌, length, map, option_map, Option, Some, refl, sym, ◌∙◌, ap, subst, slice_get, get_or, unwrap_or, ◌+◌, ◌≤◌, ◌&&◌, None, arith, nat_lt, if◌then◌else◌, ℤ, Result, pos, filter, suc, drop, drop-cons, length-drop}
-use Rattle.lemmas.proofs.{AllByRecursion, get_or_from_slice_get, recursion_from_All, and_false, and_true, Decides-ltb, lt_says, nil_from_length, same_some, slice_get-get_or, slice_get_read, something_at}
+-- What filling sites spends, what the actions of a loop read, how filling it lowers the limit, and the lanes of what is read.
+use Rattle.std.proofs.Common.{◌≡◌, ◌⊎◌, inl, inr, ℕ, ◌+◌, ◌<◌, Bool, true, false, List, Option, refl, sym, ◌∙◌, ap, arith, [], ◌∷◌, length, map, option_map, Some, subst, slice_get, get_or, unwrap_or, ◌≤◌, ◌&&◌, None, nat_lt, if◌then◌else◌, ℤ, Result, pos, filter, suc, drop, drop-cons, length-drop, IfSome, option_and_then}
+use Rattle.block_cache.specs.{begun_at, cells_at, IsSpentOver, LaneView, AreReady, AreSiteKinds, below_fault, fault_over, held_value, holds_at, is_held, IsFilledTo, IsSettled, kinds_of, lane_holds, PlaceFault, site_fault, value_for, value_of}
+use Rattle.loop_keys.specs.{HasAllDemands, IsClosed, job_graph, job_of, JobView, key, key_count, ArePlain, IsJob, IsPlainLoop, IsPlainVersion, IsSourceIn, row_of, site_in, source_at, Held, held_element, held_in, is_held as is_known, IsRight, version_in, key_under, Place, place_of, row_in}
+use Rattle.expr_lanes.specs.{EachPlace, is_in, AreRising, at_place}
+use Rattle.block_passes.specs.{AreAtHand, AreLanesOf, ArePlainSources, CanServe, Demands, DemandsInputs, DemandsSource, element_fault, Found, HasHeld, inputs_fault, inputs_fault_in_turn, IsAtHand, IsKnown, IsLaneOf, IsNumberOf, IsPlainSource, IsReadOf, IsSelected, IsServable, IsServedInTurn, IsServedTo, IsSettledAt, IsWhole, KeepsRoom, Kept, Leaves, Lowers, noted, source_fault, source_fault_in_turn, source_in_turn, Spends, turn_job, where_in}
+use Rattle.block_passes.specs.declared.turn.Turn.{Turn}
+use Rattle.block_passes.specs.declared.turn.Work.{Work}
+use Rattle.block_cache.proofs.GrownLaws.{other_places}
+use Rattle.block_cache.proofs.Knowns.{same_holds, holds_is, holds_on, held_no_fault}
+use Rattle.loop_keys.proofs.FillLaws.{grows_on}
+use Rattle.lemmas.proofs.{AllByRecursion, get_or_from_slice_get, recursion_from_All, and_false, and_true, Decides-ltb, lt_says, nil_from_length, same_some, slice_get-get_or, slice_get_read, something_at, All-from_recursion, slice_get_within}
 use Rattle.rdf_values.specs.{ActionKind, AreAccepted, ColType, Column, columns_of, FitsKind, FitsRow, fn_names, history, kind_at, scope_of, Statement, Under, Value, EntryFault}
 use Rattle.rdf_values.specs.declared.scripts.statement.Statement.TheVariants.{Action}
 use Rattle.expr_check.specs.{CheckedExpr, is_vector}
 use Rattle.expr_check.proofs.Plain.{columns_scalar, plain_typed}
-use Rattle.rdf_model.specs.{Dataset, FitsOutcome, ◌>>=◌, fault_in, Faults, Gives, Needs, Outcome, tag_element, with_needs}
+use Rattle.rdf_model.specs.{Dataset, FitsOutcome, ◌>>=◌, fault_in, Faults, Gives, Needs, Outcome, tag_element, with_needs, FitsFeed, for_all, is_set}
 use Rattle.graph_numbers.specs.{cell_value, graph_under, IsSiteExpr, ResultAt, results, Source, source_value, version_at, graph_sites, HasInputs, HasSourceIn, IfGiven}
 use Rattle.graph_numbers.proofs.Placing.{Extends, itself, shorter}
 use Rattle.graph_numbers.proofs.Passing.{AreVisible, action_visible}
 use Rattle.graph_numbers.proofs.Meeting.{FitsVersion, visible_fits}
 use Rattle.graph_numbers.proofs.Walks.{each_result, by_test}
-use Rattle.loop_keys.specs.{ArePlain, IsJob, IsPlainLoop, IsPlainVersion, IsSourceIn, job_graph, JobView, row_of, site_in, source_at, ArePlainVersions, HasAllDemands, Held, held_element, held_in, is_held as is_known, IsRight, key, key_count, version_in}
 use Rattle.loop_keys.proofs.ColumnLaws.{fits_at}
 use Rattle.loop_keys.proofs.EvaluateLaws.{accepted_of}
 use Rattle.loop_keys.proofs.PlainLaws.{plain_expr}
 use Rattle.loop_keys.proofs.TableLaws.{not_stored}
-use Rattle.block_passes.specs.{ArePlainSources, CanServe, IsPlainSource, IsReadOf, IsServable, AreAtHand, DemandsInputs, DemandsSource, element_fault, inputs_fault, inputs_fault_in_turn, IsAtHand, IsKnown, IsNumberOf, IsSelected, IsServedInTurn, IsServedTo, IsSettledAt, Leaves, Lowers, noted, source_fault, source_fault_in_turn, source_in_turn, turn_job, where_in}
 use Rattle.block_passes.proofs.FirstLengths.{fits_at as cell_fits}
-use Rattle.expr_lanes.specs.{AreRising, at_place, EachPlace, is_in}
-use Rattle.block_cache.specs.{AreReady, AreSiteKinds, below_fault, cells_at, fault_over, held_value, holds_at, is_held, IsFilledTo, IsSettled, IsSpentOver, kinds_of, lane_holds, LaneView, PlaceFault, site_fault, value_for, value_of}
-use Rattle.block_passes.specs.Spends.{Spends}
-use Rattle.block_passes.specs.declared.found.Found.{Found}
-use Rattle.block_passes.specs.declared.kept.Kept.{Kept}
-use Rattle.block_passes.specs.declared.turn.Turn.{Turn}
-use Rattle.block_passes.specs.declared.turn.Work.{Work}
-use Rattle.block_passes.proofs.Places.{left_below, over_lowers, selected_or_none, filter_twice}
-use Rattle.block_passes.proofs.Searching.{none_lowers, both_lower, lowers_as, or_else, inputs_fault as all_fault}
-use Rattle.block_passes.proofs.Spending.{leaves_then, settled_outside, spends_filled, spends_none, spends_then}
+use Rattle.block_passes.proofs.Searching.{left_below, over_lowers, selected_or_none, filter_twice, none_lowers, both_lower, lowers_as, or_else, inputs_fault as all_fault}
 use Rattle.block_cache.proofs.LaneSteps.{filter_all}
 use Rattle.rdf_model.proofs.Missing.{alike_is, tag_alike}
 use Rattle.expr_eval.specs.{Input, input_outcome}
@@ -35,9 +33,86 @@ use Rattle.loop_keys.proofs.KeyLaws.{key_small}
 use Rattle.block_cache.proofs.BlockLaws.{held_of_lane, lane_held, right_value, value_told}
 use Rattle.block_cache.proofs.CanTries.{got_kind}
 use Rattle.block_cache.proofs.OverLaws.{held_true}
-use Rattle.block_cache.proofs.Knowns.{holds_is, holds_on}
 use Rattle.expr_lanes.proofs.Sequence.{filtered_in, in_filter}
 use Rattle.block_cache.proofs.Members.{filter_passes}
+use Rattle.rdf_values.proofs.KeptLemmas.{cell_of_column, column_length}
+use Rattle.actions.specs.{Lane, lane_value, SuitsAt, truth_of}
+use Rattle.actions.specs.declared.batch.Sources.TheVariants.{One, Weighted, Pair, WeightedPair}
+use Rattle.loop_keys.proofs.ActionLaws.{integer_fits, numeric_fits, pair_fits, single_fits, triple_fits, weighted_fits}
+
+-- ---- one after another
+
+pub spends_none : (j : JobView) (first count : ℕ) (lanes : List LaneView) (n : ℕ) → Spends j first count lanes lanes n n
+spends_none j first count lanes n = grind arith
+
+pub spends_then : (j : JobView) (first count : ℕ) (a b c : List LaneView) (l m n : ℕ) → Spends j first count a b l m → Spends j first count b c m n → Spends j first count a c l n
+spends_then j first count a b c l m n h k = record {
+  kinds = k.kinds ∙ h.kinds;
+  rooms = k.rooms ∙ h.rooms;
+  stays = λ x p e. k.stays x p (h.stays x p e);
+  grows = λ p. grows_on (cells_at (key_count (job_graph j)) a p) (cells_at (key_count (job_graph j)) b p) (cells_at (key_count (job_graph j)) c p) (h.grows p) (k.grows p);
+  only = λ T all x p e. elim (k.only T all x p e) [ inl y ↦ h.only T all x p y | inr y ↦ inr y ];
+  cost = (let x = h.cost in let y = k.cost in omega (arith, x, y));
+}
+
+-- ---- one site
+
+module _ (j : JobView) (first count : ℕ) (u : Option ℕ) (s : ℕ) (sel : List ℕ) (before after : List LaneView) (start end : ℕ) (spent : IsSpentOver j first u s sel before after start end) where
+  -- what was settled stays so at a place that wasn't selected
+  pub settled_outside : (p : ℕ) → is_in p sel ≡ false → IsSettledAt before p → IsSettledAt after p
+  settled_outside p out h k begun =
+      let same = other_places j first u s sel before after spent.grown k p out in
+      same_holds (key_count (job_graph j)) before after k p same ∙ h k (sym same.0 ∙ begun)
+
+  module _ (inside : EachPlace sel (λ p. p < count)) (demanded : (p : ℕ) (T : ℕ → Bool) → is_in p sel ≡ true → HasAllDemands j (first + p) T → Demands j (first + p) u T s) where
+    module _ (T : ℕ → ℕ → Bool) (all : (p : ℕ) → p < count → HasAllDemands j (first + p) (T p)) where
+      there : (p : ℕ) → is_in p sel ≡ true → Demands j (first + p) u (T p) s
+      there p i = demanded p (T p) i (all p (inside p i))
+
+      -- the sites that the loop demands at a place
+      pick : (p : ℕ) (b : Bool) → is_in p sel ≡ b → ℕ → Bool
+      unfolding there
+      pick p true e = (there p e).0
+      pick p false e = λ t. false
+
+      picked : (p : ℕ) (b : Bool) (e : is_in p sel ≡ b) → b ≡ true → IsClosed j (first + p) u (pick p b e) × (pick p b e s ≡ true)
+      unfolding pick
+      picked p true e q = ((there p e).1.closed, (there p e).2)
+      picked p false e q = cc q
+
+      picked_key : (p : ℕ) (b : Bool) (e : is_in p sel ≡ b) (t : ℕ) → pick p b e t ≡ true → T p (key (job_graph j) t u) ≡ true
+      unfolding pick
+      picked_key p true e t q = (there p e).1.keys t q
+      picked_key p false e t q = cc q
+
+      newly : (k p : ℕ) → begun_at after k p ≡ true → (begun_at before k p ≡ true) ⊎ ((p < count) × (T p k ≡ true))
+      newly k p begun = elim (spent.grown.only (λ q. pick q (is_in q sel) refl) (λ q i. picked q (is_in q sel) refl i) k p) [
+        | inl h ↦ inl (sym h.0 ∙ begun)
+        | inr h ↦ inr (inside p h.0, ap (T p) h.1.3 ∙ picked_key p (is_in p sel) refl h.1.0 h.1.2)
+      ]
+
+    pub spends_filled : Spends j first count before after start end
+    spends_filled = record {
+      kinds = spent.grown.kinds;
+      rooms = spent.grown.rooms;
+      stays = spent.grown.stays;
+      grows = spent.grown.grows;
+      only = λ T all k p h. newly T all k p h;
+      cost = spent.cost;
+    }
+
+-- ---- What parts of a pass leave of a block, one after another.
+
+pub leaves_then : {V : Type 0} {D : V → Type 0} {g : _} (t : Turn V D g) (a b c : Work) (l m n : ℕ) → Leaves t a b l m → Leaves t b c m n → Leaves t a c l n
+leaves_then t a b c l m n h k = record {
+  spends = spends_then (job_of t.job.now) t.first t.count a.lanes.items b.lanes.items c.lanes.items l m n h.spends k.spends;
+  scratch = k.scratch ∙ h.scratch;
+  levels = k.levels ∙ h.levels;
+}
+
+-- what evaluates nothing leaves it so
+pub leaves_kept : {V : Type 0} {D : V → Type 0} {g : _} (t : Turn V D g) (a b c : Work) (m n : ℕ) → Leaves t a b m n → c.lanes.items ≡ b.lanes.items → KeepsRoom b c → Leaves t a c m n
+leaves_kept t a b c m n h same room = grind arith
 
 -- ---- a site without vectors
 
@@ -258,8 +333,8 @@ module _ (j : JobView) (first count : ℕ) (u : Option ℕ) (s : ℕ) (inside : 
     cell_is : cell ≡ held_value (value_of l p)
     cell_is = held_of_lane (key_count (job_graph j)) lanes p k ∙ ap (λ o. lane_held o p) at ∙ held_true l p lane_is_held
 
-    pub lane_gives : site_in {M = ⊥} j (first + p) u s ≡ Gives (value_of l p)
-    lane_gives = right_value (site_in j (first + p) u s) (value_of l p) (subst (λ (x : Held). IsRight (site_in j (first + p) u s) x) cell_is ((ready.sound p low).each u s inside))
+    pub site_gives : site_in {M = ⊥} j (first + p) u s ≡ Gives (value_of l p)
+    site_gives = right_value (site_in j (first + p) u s) (value_of l p) (subst (λ (x : Held). IsRight (site_in j (first + p) u s) x) cell_is ((ready.sound p low).each u s inside))
 
     -- what is told of it
     module _ (i : Input) (input : (c : ℕ) → input_outcome c i ≡ (if is_held l p then Gives (value_of l p) else Needs c)) where
@@ -267,12 +342,12 @@ module _ (j : JobView) (first count : ℕ) (u : Option ℕ) (s : ℕ) (inside : 
       input_given = input 0 ∙ ap (λ b. if b then Gives (value_of l p) else Needs 0) lane_is_held
 
       pub input_vect : (zs : _) → i ≡ Input.Vect zs → site_in {M = ⊥} j (first + p) u s ≡ Gives (Value.Vect zs.now)
-      input_vect zs is = lane_gives ∙ ap Gives (vect_told i (value_of l p) input_given zs is)
+      input_vect zs is = site_gives ∙ ap Gives (vect_told i (value_of l p) input_given zs is)
 
       pub input_other : (tags n : ℕ) (v : Value) → input_outcome 0 i ≡ Gives v → tag_element {M = ⊥} tags n v ≡ Gives (Value.Int (pos 0)) → (site_in {M = ⊥} j (first + p) u s >>= tag_element tags n) ≡ Gives (Value.Int (pos 0))
       input_other tags n v is none =
           let same : value_of l p ≡ v = (let f : ◌≡◌ {A = Outcome ℕ Value} (Gives (value_of l p)) (Gives v) = sym input_given ∙ is in cc f) in
-          ap (λ (o : Outcome ⊥ Value). o >>= tag_element tags n) (lane_gives ∙ ap Gives same) ∙ none
+          ap (λ (o : Outcome ⊥ Value). o >>= tag_element tags n) (site_gives ∙ ap Gives same) ∙ none
 
       pub never_stops : ((x : EntryFault) × (i ≡ Input.Faulted x)) ⊎ (i ≡ Input.Missing) → ⊥
       never_stops (inl x) = let f : ◌≡◌ {A = Outcome ℕ Value} (Faults x.0) (Gives (value_of l p)) = sym (ap (input_outcome 0) x.1) ∙ input_given in cc f
@@ -291,7 +366,7 @@ module _ (j : JobView) (first count : ℕ) (u : Option ℕ) (s : ℕ) (inside : 
       scalar_input tags n (inr x) = input_other tags n (Value.Bool x.0) (ap (input_outcome 0) x.1) refl
 
   held_site : holds_at lanes k p ≡ true → (w : Value) × (cell ≡ held_value w) × (site_in {M = ⊥} j (first + p) u s ≡ Gives w)
-  held_site holds = let l = lane_there j first count u s inside lanes ready in (value_of l.0 p, cell_is l.0 l.1 holds, lane_gives l.0 l.1 holds)
+  held_site holds = let l = lane_there j first count u s inside lanes ready in (value_of l.0 p, cell_is l.0 l.1 holds, site_gives l.0 l.1 holds)
 
   -- ---- its elements
 
@@ -379,15 +454,8 @@ none_clear j first u inputs e sel p i = ap (λ l. inputs_fault j first u l p) e
 pub none_held : (j : JobView) (lanes : List LaneView) (u : Option ℕ) (inputs : List ℕ) → inputs ≡ [] → (sel : List ℕ) → EachPlace sel (AreAtHand j lanes u inputs)
 none_held j lanes u inputs e sel p i = subst (λ (l : List ℕ). AreAtHand j lanes u l p) (sym e) tt
 
--- the first of versions without vectors
-pub first_plain : (used : ℕ → Bool) (j : JobView) (u : Option ℕ) (inputs cs : List ℕ) (c : ℕ) → inputs ≡ c ∷ cs → ArePlainVersions j used u inputs → IsSourceIn used (source_at j u c)
-first_plain used j u inputs cs c e all = (subst (λ (l : List ℕ). ArePlainVersions j used u l) e all).0
-
 module _ (j : JobView) (first : ℕ) (u : Option ℕ) (inputs cs : List ℕ) (c : ℕ) (e : inputs ≡ c ∷ cs) where
   -- ---- what is asked
-
-  pub first_can : (P : ℕ → Type 0) → AllByRecursion P inputs → P c
-  first_can P h = (subst (λ (l : List ℕ). AllByRecursion P l) e h).0
 
   pub first_demanded : (entry : ℕ) (T : ℕ → Bool) → DemandsInputs j entry u T inputs → DemandsSource j entry u T (source_at j u c)
   first_demanded entry T d = grind (arith, of_set)
@@ -481,3 +549,162 @@ module _ {V : Type 0} {D : V → Type 0} {g : _} (t : Turn V D g) (u : Option �
         let none =
         none_served j t.first t.count (inputs_fault_in_turn t u (drop n inputs)) t.pass to w.lanes.items w.found h.known.ready h.selected.made h.selected.inside h.known.settled (none_clear j t.first u (drop n inputs) e to.places) in
         (h.served to w.lanes.items w.found none, h.held to w.lanes.items w.found none steps (spends_none j t.first t.count w.lanes.items steps) (none_held j w.lanes.items u (drop n inputs) e to.places))
+
+cell_given : (o : Option (List Value)) (col : ℕ) (v : Value) → option_and_then (λ row. slice_get row col) o ≡ Some v → cell_value {M = ⊥} (slice_get (unwrap_or o []) col) ≡ Gives v
+cell_given None col v h = cc h
+cell_given (Some row) col v h = ap (cell_value {M = ⊥}) h
+
+module _ (rows : List (List Value)) (col : ℕ) (vectors : List (List ℤ)) (are : map (λ row. slice_get row col) rows ≡ map (λ zs. Some (Value.Vect zs)) vectors) (e : ℕ) (inside : e < length rows) where
+  pub vector_there : e < length vectors
+  vector_there = let l = column_length rows col (λ zs. Value.Vect zs) vectors are in omega (arith, l, inside)
+
+  pub vector_given : cell_value {M = ⊥} (slice_get (row_in rows e) col) ≡ Gives (Value.Vect (get_or vectors e []))
+  vector_given = cell_given (slice_get rows e) col _ (cell_of_column rows col e (λ zs. Value.Vect zs) vectors (get_or vectors e []) are (slice_get-get_or vectors e [] vector_there))
+
+-- ---- The lanes that are gathered for an action suit it.
+
+one_given : (f : ℕ → Outcome ⊥ Value) (cs : List ℕ) → length cs ≡ 1 → (v : Value) → f (get_or cs 0 0) ≡ Gives v → for_all f cs ≡ Gives (v ∷ [])
+one_given f (a ∷ []) e v p = ap (λ o. o >>= λ y. Gives (y ∷ [])) p
+one_given f cs e v p = absurd (omega (arith, e))
+
+two_given : (f : ℕ → Outcome ⊥ Value) (cs : List ℕ) → length cs ≡ 2 → (v w : Value) → f (get_or cs 0 0) ≡ Gives v → f (get_or cs 1 0) ≡ Gives w → for_all f cs ≡ Gives (v ∷ w ∷ [])
+two_given f (a ∷ b ∷ []) e v w p q = λ i. p i >>= λ y. (q i >>= λ z. Gives (z ∷ [])) >>= λ ys. Gives (y ∷ ys)
+two_given f cs e v w p q = absurd (omega (arith, e))
+
+three_given : (f : ℕ → Outcome ⊥ Value) (cs : List ℕ) → length cs ≡ 3 → (v w x : Value) → f (get_or cs 0 0) ≡ Gives v → f (get_or cs 1 0) ≡ Gives w → f (get_or cs 2 0) ≡ Gives x
+    → for_all f cs ≡ Gives (v ∷ w ∷ x ∷ [])
+three_given f (a ∷ b ∷ c ∷ []) e v w x p q r = λ i. p i >>= λ y. (q i >>= λ z. (r i >>= λ s. Gives (s ∷ [])) >>= λ ys. Gives (z ∷ ys)) >>= λ ys. Gives (y ∷ ys)
+three_given f cs e v w x p q r = absurd (omega (arith, e))
+
+suits_one : (k : ActionKind) (x : Lane) (place : ℕ) → length (columns_of k) ≡ 1 → FitsFeed k (lane_value x place ∷ []) → SuitsAt k (One x) place
+suits_one k x place n f = grind (arith, numeric_fits, single_fits, integer_fits)
+
+module _ (f : ℕ → Outcome ⊥ Value) (cs : List ℕ) where
+  module _ (P : ℕ → Type 0) (hand : AllByRecursion P cs) (place : ℕ) (k : ActionKind) (count : length cs ≡ length (columns_of k)) (fits : (vs : List Value) → for_all f cs ≡ Gives vs → FitsFeed k vs) where
+    pub lanes_one : length cs ≡ 1 → (x : Lane) → (P (get_or cs 0 0) → IsLaneOf (f (get_or cs 0 0)) x place) → AreLanesOf (for_all f cs) k (One x) place
+    lanes_one e x lx = grind (arith, All-from_recursion, one_given, suits_one)
+
+    pub lanes_weighted : (edges : List ℤ) (c n : List ℕ) → k ≡ ActionKind.Histo1D edges c (Some n) → (x w : Lane) → (P (get_or cs 0 0) → IsLaneOf (f (get_or cs 0 0)) x place) → (P (get_or cs 1 0) → IsLaneOf (f (get_or cs 1 0)) w place)
+        → AreLanesOf (for_all f cs) k (Weighted x w) place
+    lanes_weighted edges c n e x w lx lw =
+        let l : length cs ≡ 2 = count ∙ ap (λ (z : ActionKind). length (columns_of z)) e in
+        let a = lx (All-from_recursion P cs hand 0 0 (omega (arith, l))) in
+        let b = lw (All-from_recursion P cs hand 1 0 (omega (arith, l))) in
+        let given = two_given f cs l (lane_value x place) (lane_value w place) a.value b.value in
+        let g : FitsFeed (ActionKind.Histo1D edges c (Some n)) (lane_value x place ∷ lane_value w place ∷ []) = subst (λ (z : ActionKind). FitsFeed z (lane_value x place ∷ lane_value w place ∷ [])) e (fits _ given) in
+        record {
+          there = (a.there, b.there);
+          values = given;
+          suits = subst (λ (z : ActionKind). SuitsAt z (Weighted x w) place) (sym e) (weighted_fits g.kinds (lane_value x place) (lane_value w place) g.permitted g.fit);
+        }
+
+    pub lanes_pair : (xs ys : List ℤ) (c d : List ℕ) → k ≡ ActionKind.Histo2D xs ys c d None → (x y : Lane) → (P (get_or cs 0 0) → IsLaneOf (f (get_or cs 0 0)) x place) → (P (get_or cs 1 0) → IsLaneOf (f (get_or cs 1 0)) y place)
+        → AreLanesOf (for_all f cs) k (Pair x y) place
+    lanes_pair xs ys c d e x y lx ly =
+        let l : length cs ≡ 2 = count ∙ ap (λ (z : ActionKind). length (columns_of z)) e in
+        let a = lx (All-from_recursion P cs hand 0 0 (omega (arith, l))) in
+        let b = ly (All-from_recursion P cs hand 1 0 (omega (arith, l))) in
+        let given = two_given f cs l (lane_value x place) (lane_value y place) a.value b.value in
+        let g : FitsFeed (ActionKind.Histo2D xs ys c d None) (lane_value x place ∷ lane_value y place ∷ []) = subst (λ (z : ActionKind). FitsFeed z (lane_value x place ∷ lane_value y place ∷ [])) e (fits _ given) in
+        record {
+          there = (a.there, b.there);
+          values = given;
+          suits = subst (λ (z : ActionKind). SuitsAt z (Pair x y) place) (sym e) (pair_fits g.kinds (lane_value x place) (lane_value y place) g.permitted g.fit);
+        }
+
+    pub lanes_triple : (xs ys : List ℤ) (c d n : List ℕ) → k ≡ ActionKind.Histo2D xs ys c d (Some n) → (x y w : Lane)
+        → (P (get_or cs 0 0) → IsLaneOf (f (get_or cs 0 0)) x place) → (P (get_or cs 1 0) → IsLaneOf (f (get_or cs 1 0)) y place) → (P (get_or cs 2 0) → IsLaneOf (f (get_or cs 2 0)) w place)
+        → AreLanesOf (for_all f cs) k (WeightedPair x y w) place
+    lanes_triple xs ys c d n e x y w lx ly lw =
+        let l : length cs ≡ 3 = count ∙ ap (λ (z : ActionKind). length (columns_of z)) e in
+        let a = lx (All-from_recursion P cs hand 0 0 (omega (arith, l))) in
+        let b = ly (All-from_recursion P cs hand 1 0 (omega (arith, l))) in
+        let o = lw (All-from_recursion P cs hand 2 0 (omega (arith, l))) in
+        let given = three_given f cs l (lane_value x place) (lane_value y place) (lane_value w place) a.value b.value o.value in
+        let g : FitsFeed (ActionKind.Histo2D xs ys c d (Some n)) (lane_value x place ∷ lane_value y place ∷ lane_value w place ∷ []) =
+        subst (λ (z : ActionKind). FitsFeed z (lane_value x place ∷ lane_value y place ∷ lane_value w place ∷ [])) e (fits _ given) in
+        record {
+          there = (a.there, b.there, o.there);
+          values = given;
+          suits = subst (λ (z : ActionKind). SuitsAt z (WeightedPair x y w) place) (sym e) (triple_fits g.kinds (lane_value x place) (lane_value y place) (lane_value w place) g.permitted g.fit);
+        }
+
+-- ---- What the lane of a site has at a place.
+
+-- a mark counts as true alike
+same_truth : (z : ℤ) → is_set z ≡ truth_of z
+same_truth z = grind arith
+
+-- a lane of numbers or truths has what is held of its key
+module _ (lanes : List LaneView) (k : ℕ) (r : LaneView) (its : slice_get lanes k ≡ Some r) (numbers : List ℤ) (are : numbers ≡ r.numbers) (long : r.count ≤ length numbers) where
+  same_lane : (l : LaneView) → slice_get lanes k ≡ Some l → r ≡ l
+  same_lane l at = let e : ◌≡◌ {A = Option LaneView} (Some r) (Some l) = sym its ∙ at in cc e
+
+  inside : (l : LaneView) → slice_get lanes k ≡ Some l → (p : ℕ) → p < l.count → p < length numbers
+  inside l at p low = let e = ap (λ (x : LaneView). x.count) (same_lane l at) in omega (arith, e, long, low)
+
+  pub int_held : r.kind ≡ ColType.Int → (l : LaneView) → slice_get lanes k ≡ Some l → (p : ℕ) → p < l.count → (p < length numbers) × (Value.Int (at_place numbers p) ≡ value_of l p)
+  int_held is l h p low = grind (arith, inside, same_lane)
+
+  pub bool_held : r.kind ≡ ColType.Bool → (l : LaneView) → slice_get lanes k ≡ Some l → (p : ℕ) → p < l.count → (p < length numbers) × (Value.Bool (truth_of (at_place numbers p)) ≡ value_of l p)
+  bool_held is l h p low = grind (arith, inside, same_truth, same_lane)
+
+pub vector_kind : (lanes : List LaneView) (k : ℕ) (r : LaneView) → slice_get lanes k ≡ Some r → r.kind ≡ ColType.Vect → slice_get (kinds_of lanes) k ≡ Some ColType.Vect
+vector_kind lanes k r there is = got_kind lanes k r there ∙ ap Some is
+
+-- ---- where a version stands
+
+pub cell_source : (f : ℕ → ℕ) (x : Source) (col : ℕ) → place_of f x ≡ Place.Cell col → x ≡ Source.Cell col
+cell_source f (Source.Cell c) col e = let same : c ≡ col = cc e in ap Source.Cell same
+cell_source f x col e = cc e
+
+pub key_source : (f : ℕ → ℕ) (x : Source) (k : ℕ) → place_of f x ≡ Place.Key k → (s : ℕ) × (x ≡ Source.Site s) × (f s ≡ k)
+key_source f (Source.Site s) k e = (s, refl, cc e)
+key_source f x k e = cc e
+
+pub element_source : (f : ℕ → ℕ) (x : Source) (k i n : ℕ) → place_of f x ≡ Place.Element k i n → (s : ℕ) × (x ≡ Source.Element s i n)
+element_source f (Source.Element s a b) k i n e = let first : a ≡ i = cc e in let second : b ≡ n = cc e in (s, λ t. Source.Element s (first t) (second t))
+element_source f x k i n e = cc e
+
+-- a site that is read
+module _ (j : JobView) (first count : ℕ) (u : Option ℕ) (kinds : List ColType) (cells : List (List ℤ)) (scratch levels : ℕ) (x : Source) (can : IsServable j first u count kinds cells scratch levels x) (k : ℕ) (stood : place_of (key_under (job_graph j) u) x ≡ Place.Key k) where
+  pub site_is : (s : ℕ) × (x ≡ Source.Site s) × (key (job_graph j) s u ≡ k)
+  site_is = key_source (key_under (job_graph j) u) x k stood
+
+  pub site_inside : site_is.0 < length (graph_sites (job_graph j))
+  site_inside = (subst (IsServable j first u count kinds cells scratch levels) site_is.1 can).0
+
+  pub key_inside : (lanes : List LaneView) → AreReady j first count lanes → k < length lanes
+  key_inside lanes ready = let many = ready.many in let small = key_small (job_graph j) site_is.0 u site_inside in let same = site_is.2 in omega (arith, many, small, same)
+
+  pub lane_gives : (lanes : List LaneView) → AreReady j first count lanes → (fed : Lane) → ((l : LaneView) → slice_get lanes k ≡ Some l → HasHeld l fed) → (p : ℕ) → p < count → IsAtHand j lanes u p x
+      → IsLaneOf (source_value {M = ⊥} (row_of j (first + p)) (site_in j (first + p) u) x) fed p
+  lane_gives lanes ready fed has p low hand =
+      let got = something_at lanes k (key_inside lanes ready) in
+      let l = got.0 in
+      let has_p = has l got.1 p (let c = ready.counts k l (slice_get_within lanes k l got.1) in let e = ap (λ (y : LaneView). y.count) (get_or_from_slice_get lanes k l l got.1) in omega (arith, c, e, low)) in
+      let at : slice_get lanes (key (job_graph j) site_is.0 u) ≡ Some l = ap (slice_get lanes) site_is.2 ∙ got.1 in
+      let holds : holds_at lanes (key (job_graph j) site_is.0 u) p ≡ true = subst (IsAtHand j lanes u p) site_is.1 hand in
+      record {
+        there = has_p.0;
+        value = ap (source_value {M = ⊥} (row_of j (first + p)) (site_in j (first + p) u)) site_is.1 ∙ site_gives j first count u site_is.0 site_inside lanes ready p low l at holds ∙ ap Gives (sym has_p.1);
+      }
+
+  pub lanes_give : (lanes : List LaneView) → AreReady j first count lanes → (o : Option Lane) → ((l : LaneView) → slice_get lanes k ≡ Some l → IfSome o (HasHeld l))
+      → IfSome o (λ fed. (p : ℕ) → p < count → IsAtHand j lanes u p x → IsLaneOf (source_value {M = ⊥} (row_of j (first + p)) (site_in j (first + p) u) x) fed p)
+  lanes_give lanes ready None has = tt
+  lanes_give lanes ready (Some fed) has = lane_gives lanes ready fed has
+
+  pub no_vectors : IsWhole j u kinds x → slice_get kinds k ≡ Some ColType.Vect → ⊥
+  no_vectors whole vector = subst (IsWhole j u kinds) site_is.1 whole (ap (slice_get kinds) site_is.2 ∙ vector)
+
+  -- where its value is held it is at hand, and faults not
+  module _ (lanes : List LaneView) (sel : List ℕ) (held : EachPlace sel (λ p. holds_at lanes k p ≡ true)) where
+    holds : EachPlace sel (λ p. holds_at lanes (key (job_graph j) site_is.0 u) p ≡ true)
+    holds p i = ap (λ n. holds_at lanes n p) site_is.2 ∙ held p i
+
+    pub hand_held : EachPlace sel (λ p. IsAtHand j lanes u p x)
+    hand_held p i = subst (IsAtHand j lanes u p) (sym site_is.1) (holds p i)
+
+    pub hand_clear : AreReady j first count lanes → EachPlace sel (λ p. p < count) → EachPlace sel (λ p. source_fault j first u x p ≡ None)
+    hand_clear ready low p i = ap (λ (y : Source). source_fault j first u y p) site_is.1 ∙ held_no_fault j first u count site_is.0 site_inside lanes ready p (low p i) (holds p i)

@@ -9,16 +9,12 @@ use Rattle.block_cache.specs.{LaneView}
 use Rattle.loop_keys.specs.{ArePlainVersions, covered_in, covers_of, HasAllDemands, is_covering, IsCovered, IsJob, IsPlainLoop, IsPlainVersion, IsReportPass, job_graph, JobView, numbered_passes, pass_fault, passes_in, site_in, version_in}
 use Rattle.loop_keys.proofs.ActionLaws.{can_act}
 use Rattle.loop_keys.proofs.TableLaws.{row_there}
-use Rattle.block_passes.specs.{AreAtHand, AreKept, CanGather, CanServe, Chain, chosen, DemandsInputs, filter_fault, filters_fault, inputs_fault, IsActionOf, IsLast, IsMade, IsNamed, IsPassTried, IsPlan, IsReadBelow, IsReadOf, IsReadyBelow, IsSelectedTo, IsServedTo, IsTriedTo, Lowers, PlanView, through_chain, unfed, where_in, where_passed}
-use Rattle.block_passes.specs.declared.found.Found.{Found}
-use Rattle.block_passes.specs.declared.kept.Kept.{Kept}
+use Rattle.block_passes.specs.{AreAtHand, AreKept, CanGather, CanServe, Chain, chosen, DemandsInputs, filter_fault, filters_fault, Found, inputs_fault, IsActionOf, IsLast, IsMade, IsNamed, IsPassTried, IsPlan, IsReadBelow, IsReadOf, IsReadyBelow, IsSelectedTo, IsServedTo, IsTriedTo, Kept, Lowers, NamedSteps, PlanView, through_chain, unfed, where_in, where_passed}
 use Rattle.block_passes.proofs.Demanding.{action_at, pass_set}
-use Rattle.block_passes.proofs.Places.{chosen_below, in_chosen, narrowed}
-use Rattle.block_passes.proofs.Searching.{action_fault, where_split, last_through, report_fault, step_fault, both_lower, lowers_as, or_else}
+use Rattle.block_passes.proofs.Searching.{chosen_below, in_chosen, narrowed, action_fault, where_split, last_through, report_fault, step_fault, both_lower, lowers_as, or_else}
 use Rattle.block_passes.proofs.Selecting.{written_selected, kept_lower}
 use Rattle.loop_keys.proofs.PassNumbers.{pass_answer, pass_of, some_same}
 use Rattle.loop_keys.proofs.ReportTies.{contained_at, filter_there, report_fault as its_fault}
-use Rattle.block_passes.specs.declared.plan.NamedSteps.{NamedSteps}
 use Rattle.block_passes.proofs.PlanSteps.{covered_is, one_result}
 
 if_passed : (o : Outcome ⊥ Bool) (X : Type 0) → is_true o ≡ true → IfPassed o X → X

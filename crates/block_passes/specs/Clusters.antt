@@ -7,7 +7,7 @@ use Rattle.cluster_tally.specs.{Holds, Stage, TallyView}
 use Rattle.block_laws.specs.{cluster_demands, rows_demand}
 use Rattle.loop_keys.specs.{facts_in, job_spans, JobView, passes_in}
 use Rattle.loop_pieces.specs.{cluster_fault}
-use Rattle.block_passes.specs.declared.stop.BlockStop.{BlockStop}
+use Rattle.block_passes.specs.declared.turn.BlockStop.{BlockStop}
 
 -- how many pairs of a site and a variation the passes demand of the entries of a cluster's blocks, up to and with the first block in which
 -- one faults

@@ -1,16 +1,21 @@
--- What is copied of the versions that an action reads, where it can't read them in place.
-use Rattle.std.specs.Prelude.{◌≡◌, ◌<◌, ◌≤◌, ◌+◌, ℕ, ℤ, List, Option, Result, Ok, Err, length, slice_index_or, None, Some}
+-- What the passes of a block feed and count.
+use Rattle.std.specs.Prelude.{◌≡◌, ◌<◌, ◌≤◌, ◌+◌, ℕ, ℤ, List, Option, Result, Ok, Err, length, None, Some, slice_get, true}
 use Rattle.std.specs.List.{slice_range, AllByRecursion}
 use Rattle.rdf_values.specs.{ActionKind, ColType, columns_of, EntryFault, Span, Value}
 use Rattle.rdf_model.specs.{Faults, FitsFeed, for_all, Gives, Outcome}
-use Rattle.actions.specs.{HasPlace, HasValues, Lane, lane_value, PlaceFault as BatchFault, Sources, span_at, SuitsAt, values_at}
-use Rattle.expr_lanes.specs.{at_place, EachPlace}
-use Rattle.loop_keys.specs.{JobView, source_at, version_in}
-use Rattle.block_passes.specs.Inputs.{IsWhole, AreAtHand, CanServe}
-use Rattle.block_passes.specs.declared.copies.Copied.{Copied}
-use Rattle.block_passes.specs.declared.copies.Copies.{Copies}
-use Rattle.block_cache.specs.{LaneView, PlaceFault, value_of}
+use Rattle.actions.specs.{HasPlace, HasValues, Lane, lane_value, PlaceFault as BatchFault, Sources, span_at, SuitsAt, values_at, Batch, places_of}
+use Rattle.expr_lanes.specs.{at_place, EachPlace, is_in}
+use Rattle.loop_keys.specs.{JobView, version_in, job_graph, pass_fault, passes_in, job_spans}
+use Rattle.block_passes.specs.Inputs.{AreAtHand, CanServe}
+use Rattle.block_cache.specs.{LaneView, PlaceFault, value_of, AreReady}
 use Rattle.block_passes.specs.Searches.{feeding_fault}
+use Rattle.graph_numbers.specs.{FilterAt, graph_filters}
+use Rattle.cluster_tally.specs.{BlockStage, CanFeedBatch, TallyView}
+use Rattle.block_passes.specs.Plans.{PlanView, Chain}
+use Rattle.block_passes.specs.Tries.{AreKept, IsReadBelow, IsReadOf}
+use Rattle.block_passes.specs.declared.turn.Kept.{Kept}
+use Rattle.block_passes.specs.declared.plan.NamedSteps.{NamedSteps}
+use Rattle.rdf_model.specs.declared.loop_facts.LoopFacts.{LoopFacts}
 
 -- a number, or why there is none
 abbrev pub IsNumberOf : Outcome ⊥ Value → Result ℤ EntryFault → Type 0
@@ -31,18 +36,6 @@ GivesNumber numbers p o = (p < length numbers) × (o ≡ Gives (Value.Int (at_pl
 abbrev pub GivesVector : List ℤ → List Span → ℕ → Outcome ⊥ Value → Type 0
 GivesVector elements spans p o = (vector : List ℤ) × HasVector elements spans p vector × (o ≡ Gives (Value.Vect vector))
 
--- nothing is copied of a version that is read in place; else there is what it gives at each place of the selection
-abbrev pub IsCopyOf : JobView → ℕ → Option ℕ → List ColType → List ℕ → ℕ → Copied → Type 0
-IsCopyOf j first u kinds sel c Copied.Whole = IsWhole j u kinds (source_at j u c)
-IsCopyOf j first u kinds sel c (Copied.Numbers numbers) = EachPlace sel (λ p. GivesNumber numbers.items p (version_in j (first + p) u c))
-IsCopyOf j first u kinds sel c (Copied.Vectors vectors) = EachPlace sel (λ p. GivesVector vectors.elements.items vectors.spans.items p (version_in j (first + p) u c))
-
--- what was copied of each version that is read
-pub record AreCopied (j : JobView) (first : ℕ) (u : Option ℕ) (kinds : List ColType) (sel inputs : List ℕ) (copies : Copies) : Type 0 where
-  pub first_is : 0 < length inputs → IsCopyOf j first u kinds sel (slice_index_or inputs 0 0) copies.first
-  pub second_is : 1 < length inputs → IsCopyOf j first u kinds sel (slice_index_or inputs 1 0) copies.second
-  pub third_is : 2 < length inputs → IsCopyOf j first u kinds sel (slice_index_or inputs 2 0) copies.third
-
 -- ---- What the passes of a block feed.
 
 -- the lane has what the outcome gives at the place
@@ -60,11 +53,6 @@ pub record AreLanesOf (o : Outcome ⊥ (List Value)) (k : ActionKind) (s : Sourc
   pub values : o ≡ Gives (values_at s p)
   pub suits : SuitsAt k s p
 
--- the lanes are of all that an action reads, at each place of a block at which that is at hand
-abbrev pub AreInPlace : JobView → ℕ → ℕ → List LaneView → ActionKind → List ℕ → Option ℕ → Sources → Type 0
-AreInPlace j first count lanes k inputs u sources =
-    (p : ℕ) → p < count → AreAtHand j lanes u inputs p → AreLanesOf (for_all (version_in {M = ⊥} j (first + p) u) inputs) k sources p
-
 -- the fault of feeding an action what it reads, at a place of a block that begins at this entry
 abbrev pub unfed : JobView → ℕ → ActionKind → List ℕ → Option ℕ → ℕ → Option EntryFault
 unfed j first k inputs u p = feeding_fault k (for_all (version_in {M = ⊥} j (first + p) u) inputs)
@@ -81,3 +69,73 @@ pub record CanGather (j : JobView) (first count : ℕ) (kinds : List ColType) (c
   pub can : AllByRecursion (CanServe j first u count kinds cells scratch levels) inputs
   pub many : length inputs ≡ length (columns_of k)
   pub fits : (p : ℕ) (vs : List Value) → p < count → for_all (version_in {M = ⊥} j (first + p) u) inputs ≡ Gives vs → FitsFeed k vs
+
+-- ---- What a block comes to at the named filters.
+
+-- a block of so many entries stands at that place of a cluster
+pub record IsInCluster (j : JobView) (cluster place count : ℕ) : Type 0 where
+  pub span : Span
+  pub its_span : slice_get (job_spans j) cluster ≡ Some span
+  pub within : span.lo + place + count ≤ span.hi
+  pub inside : span.hi ≤ length j.dataset.rows
+
+-- at that place of a cluster, where a block has so many entries, begins the block at this entry, which has as many
+pub record IsAmidOf (j : JobView) (first count cluster place many : ℕ) : Type 0 where
+  pub in_cluster : IsInCluster j cluster place many
+  pub begins : first ≡ in_cluster.span.lo + place
+  pub block : many ≡ count
+
+-- the stage is amid that block
+abbrev pub IsAmid : JobView → ℕ → ℕ → BlockStage → Type 0
+IsAmid j first count s = IsAmidOf j first count s.cluster s.entries s.block
+
+-- so many named filters have taken the block in
+abbrev pub at_filter : BlockStage → ℕ → BlockStage
+at_filter s n = record { done = s.done; cluster = s.cluster; entries = s.entries; block = s.block; passes = s.passes; filters = n }
+
+-- the selection of a step was made over all of a block
+abbrev pub IsOverAll : ℕ → List Kept → ℕ → Type 0
+IsOverAll count kept k = (m : Kept) → slice_get kept k ≡ Some m → m.limit ≡ Some count
+
+-- so were those of each named filter that is covered, and none of the filters faults in the block
+pub record AreCountable (j : JobView) (first count : ℕ) (chains : List Chain) (p : PlanView) (kept : List Kept) : Type 0 where
+  pub kept_are : AreKept j first chains count kept
+  pub above : (f : ℕ) (x : FilterAt) (s : NamedSteps) → slice_get (graph_filters (job_graph j)) f ≡ Some x → slice_get p.filters f ≡ Some (Some s) → IsOverAll count kept s.above
+  pub own : (f : ℕ) (x : FilterAt) (s : NamedSteps) → slice_get (graph_filters (job_graph j)) f ≡ Some x → slice_get p.filters f ≡ Some (Some s) → IsOverAll count kept s.own
+
+-- so many action passes have taken it in
+abbrev pub at_pass : BlockStage → ℕ → BlockStage
+at_pass s n = record { done = s.done; cluster = s.cluster; entries = s.entries; block = s.block; passes = n; filters = s.filters }
+
+-- ---- What stands after a search over a block in which no pass faults.
+
+-- no pass faults at any place; the selections of all steps that are fed or counted were made over all of the block; and what the
+-- actions read is at hand where their filters are passed
+pub record IsClear (j : JobView) (first count : ℕ) (chains : List Chain) (p : PlanView) (lanes : List LaneView) (kept : List Kept) : Type 0 where
+  pub ready : AreReady j first count lanes
+  pub countable : AreCountable j first count chains p kept
+  pub clear : (n q : ℕ) → n < length (passes_in j) → q < count → pass_fault j (first + q) n ≡ None
+  pub read : (n : ℕ) → IsReadBelow j first lanes count n
+  pub over : (n : ℕ) (k : ActionKind) (inputs : List ℕ) (u : Option ℕ) → IsReadOf j n k inputs u → (last : ℕ) → slice_get p.passes n ≡ Some last → IsOverAll count kept last
+
+-- ---- What stands before the action passes of a block are fed.
+
+-- all that an action reads is at hand at a place, and it can be fed with that
+pub record IsFeedableAt (j : JobView) (first : ℕ) (lanes : List LaneView) (k : ActionKind) (inputs : List ℕ) (u : Option ℕ) (p : ℕ) : Type 0 where
+  pub hand : AreAtHand j lanes u inputs p
+  pub clear : unfed j first k inputs u p ≡ None
+
+-- the selection of the action's last step was made over all of the block, and at each of its places the action can be fed
+pub record IsFeedable (j : JobView) (first count : ℕ) (lanes : List LaneView) (kept : List Kept) (last : ℕ) (k : ActionKind) (inputs : List ℕ) (u : Option ℕ) : Type 0 where
+  pub over_all : IsOverAll count kept last
+  pub each : (s : Kept) → slice_get kept last ≡ Some s → EachPlace s.places (IsFeedableAt j first lanes k inputs u)
+
+-- the batch has the selected places, and at each of them the lanes are of all that an action reads, where that is at hand
+pub record IsBatchOf (j : JobView) (first count : ℕ) (lanes : List LaneView) (k : ActionKind) (inputs : List ℕ) (u : Option ℕ) (sel : List ℕ) (b : Batch) : Type 0 where
+  pub places : places_of b.places ≡ sel
+  pub gathered : (p : ℕ) → p < count → is_in p sel ≡ true → AreAtHand j lanes u inputs p → AreLanesOf (for_all (version_in {M = ⊥} j (first + p) u) inputs) k b.sources p
+
+-- the tally can be fed any such batch
+abbrev pub CanFeedAny : JobView → ℕ → ℕ → List LaneView → ActionKind → List ℕ → Option ℕ → List ℕ → LoopFacts → List ℕ → BlockStage → TallyView → ℕ → ℕ → Type 0
+CanFeedAny j first count lanes k inputs u sel f watched s t place cluster =
+    (b : Batch) → IsBatchOf j first count lanes k inputs u sel b → (can : CanFeedBatch f watched s t place cluster b) × (can.kind ≡ k)

@@ -1,30 +1,26 @@
 -- What stands while the passes of a loop are tried over a block.
-use Rattle.std.specs.Prelude.{◌≡◌, ◌<◌, ◌≤◌, ◌+◌, ℕ, List, Some, length, Bool, Option}
+use Rattle.std.specs.Prelude.{◌≡◌, ◌<◌, ◌≤◌, ◌+◌, ℕ, List, Some, length, Bool, Option, slice_index_or}
 use Rattle.expr_lanes.specs.{EachPlace}
 use Rattle.expr_lanes.specs.declared.TheConstants.{MAX_PLACES}
 use Rattle.block_cache.specs.{AreReady, IsSpentOver, kinds_of, LaneView}
-use Rattle.loop_keys.specs.{AreKeys, Fits, IsPlainLoop, Job, job_graph, job_of, JobView, Row, source_at}
+use Rattle.loop_keys.specs.{AreKeys, Fits, IsPlainLoop, Job, job_graph, job_of, JobView, Row, source_at, version_in}
+use Rattle.rdf_model.specs.{for_all}
 use Rattle.block_passes.specs.Plans.{IsPlan, PlanView, Chain}
-use Rattle.block_passes.specs.Spends.{IsSettledAt, Spends}
-use Rattle.block_passes.specs.declared.kept.Kept.{Kept}
+use Rattle.block_passes.specs.Inputs.{IsSettledAt, Spends, AreAtHand, ArePlainSources, IsWhole, CanServe, IsServedTo, element_fault, inputs_fault, source_fault}
+use Rattle.block_passes.specs.declared.turn.Kept.{Kept}
 use Rattle.block_passes.specs.declared.turn.Turn.{Turn}
 use Rattle.block_passes.specs.declared.turn.Work.{Work}
 use Rattle.rdf_values.specs.{EntryFault}
-use Rattle.rdf_model.specs.declared.loop_facts.LoopFacts.{LoopFacts}
 use Rattle.actions.specs.{Sources}
-use Rattle.cluster_tally.specs.{BlockStage, TallyView}
+use Rattle.cluster_tally.specs.{BlockStage}
 use Rattle.graph_numbers.specs.{Source}
-use Rattle.block_passes.specs.Fed.{IsClear, IsAmid, CanFeedAny, IsFeedable}
-use Rattle.block_passes.specs.Feeds.{AreCopied, IsCopyOf, AreInPlace, CanGather, unfed}
-use Rattle.block_passes.specs.Inputs.{AreAtHand, ArePlainSources, AreWhole, CanServe, IsServedTo, element_fault, inputs_fault, source_fault}
-use Rattle.block_passes.specs.Tries.{CanSelect, IsFilteredTo, IsNextSelected, IsReadyBelow, IsSelectedTo, CanServeAll, IsPassTried, IsReadOf, IsTriedTo}
+use Rattle.block_passes.specs.Feeds.{AreLanesOf, CanGather, GivesNumber, GivesVector, IsAmid, IsClear, unfed}
+use Rattle.block_passes.specs.Tries.{CanSelect, CanServeAll, IsReadyBelow, IsSelectedTo}
 use Rattle.block_passes.specs.declared.copies.Copied.{Copied}
 use Rattle.block_passes.specs.declared.copies.Copies.{Copies}
-use Rattle.block_passes.specs.declared.elements.SiteElement.{SiteElement}
-use Rattle.block_passes.specs.declared.found.Found.{Found}
+use Rattle.block_passes.specs.declared.inputs.SiteElement.{SiteElement}
+use Rattle.block_passes.specs.declared.turn.Found.{Found}
 use Rattle.block_passes.specs.declared.turn.ActionRead.{ActionRead}
-use Rattle.block_passes.specs.declared.turn.NextStep.{NextStep}
-use Rattle.block_passes.specs.declared.turn.SiteFilter.{SiteFilter}
 
 -- the job's parts fit, the keys under each row and the plan are of its loop, and the block has few places, all of them in the table
 pub record IsTurnOf {V : Type 0} {D : V → Type 0} {g : _} (j : Job V D g) (p : PlanView) (keys : List Row) (first count : ℕ) : Type 0 where
@@ -126,29 +122,15 @@ module _ {V : Type 0} {D : V → Type 0} {g : _} (t : Turn V D g) where
   abbrev pub IsServedInTurn : (ℕ → Option EntryFault) → List ℕ → Kept → List LaneView → Found → Found → Type 0
   IsServedInTurn fault = IsServedTo turn_job t.first t.count fault t.pass
 
-  -- a part of the pass is tried
-  abbrev pub IsTriedInTurn : List Chain → (ℕ → Option EntryFault) → List LaneView → List Kept → Found → Found → Type 0
-  IsTriedInTurn chains fault = IsTriedTo turn_job t.first t.count chains fault t.pass
-
-  -- the pass is tried
-  abbrev pub IsPassTriedInTurn : List Chain → List LaneView → List Kept → Found → Found → Type 0
-  IsPassTriedInTurn chains = IsPassTried turn_job t.first t.count chains t.pass
-
-  -- a selection is filtered
-  abbrev pub IsFilteredInTurn : SiteFilter → List ℕ → Kept → List LaneView → Found → Found → Type 0
-  IsFilteredInTurn filter = IsFilteredTo turn_job t.first t.count filter.under filter.site t.pass
-
-  -- a step is selected from that of its parent
-  abbrev pub IsNextSelectedInTurn : List Chain → NextStep → List LaneView → List Kept → Found → Found → Type 0
-  IsNextSelectedInTurn chains next = IsNextSelected turn_job t.first t.count chains t.pass next.step next.parent next.filter.site next.filter.under
-
   -- a step is selected
   abbrev pub IsSelectedInTurn : List Chain → ℕ → List LaneView → List Kept → Found → Found → Type 0
   IsSelectedInTurn chains = IsSelectedTo turn_job t.first t.count chains t.pass
 
-  -- the copy of a version at the selected places
+  -- nothing is copied of a version that is read in place; else there is what it gives at each place of the selection
   abbrev pub IsCopyInTurn : Option ℕ → List LaneView → List ℕ → ℕ → Copied → Type 0
-  IsCopyInTurn under lanes = IsCopyOf turn_job t.first under (kinds_of lanes)
+  IsCopyInTurn u lanes sel c Copied.Whole = IsWhole turn_job u (kinds_of lanes) (source_in_turn u c)
+  IsCopyInTurn u lanes sel c (Copied.Numbers numbers) = EachPlace sel (λ p. GivesNumber numbers.items p (version_in turn_job (t.first + p) u c))
+  IsCopyInTurn u lanes sel c (Copied.Vectors vectors) = EachPlace sel (λ p. GivesVector vectors.elements.items vectors.spans.items p (version_in turn_job (t.first + p) u c))
 
   -- the fault of a version at a place
   abbrev pub source_fault_in_turn : Option ℕ → ℕ → ℕ → Option EntryFault
@@ -165,10 +147,6 @@ module _ {V : Type 0} {D : V → Type 0} {g : _} (t : Turn V D g) where
 -- ---- of what an action reads
 
 module _ {V : Type 0} {D : V → Type 0} {g : _} (t : Turn V D g) (own : ActionRead) where
-  -- it is what the pass reads
-  abbrev pub IsReadInTurn : Type 0
-  IsReadInTurn = IsReadOf (turn_job t) t.pass own.kind.now own.inputs.now own.under
-
   -- all that it reads is at hand at a place
   abbrev pub AreHeldInTurn : List LaneView → ℕ → Type 0
   AreHeldInTurn lanes = AreAtHand (turn_job t) lanes own.under own.inputs.now
@@ -177,29 +155,19 @@ module _ {V : Type 0} {D : V → Type 0} {g : _} (t : Turn V D g) (own : ActionR
   abbrev pub ArePlainInTurn : (ℕ → Bool) → Type 0
   ArePlainInTurn used = ArePlainSources (turn_job t) used own.under own.inputs.now
 
-  -- all of it can be read where it lies
-  abbrev pub AreWholeInTurn : List LaneView → Type 0
-  AreWholeInTurn lanes = AreWhole (turn_job t) own.under (kinds_of lanes) own.inputs.now
-
   -- all of it can be gathered
   abbrev pub CanGatherInTurn : List LaneView → Type 0
   CanGatherInTurn lanes = CanGather (turn_job t) t.first t.count (kinds_of lanes) t.cells.now own.kind.now own.inputs.now own.under
 
-  -- these are where it lies
+  -- the lanes are of all that it reads, at each place at which that is at hand
   abbrev pub AreInPlaceInTurn : List LaneView → Sources → Type 0
-  AreInPlaceInTurn lanes = AreInPlace (turn_job t) t.first t.count lanes own.kind.now own.inputs.now own.under
+  AreInPlaceInTurn lanes sources = (p : ℕ) → p < t.count → AreHeldInTurn lanes p → AreLanesOf (for_all (version_in {M = ⊥} (turn_job t) (t.first + p) own.under) own.inputs.now) own.kind.now sources p
 
-  -- these are its copies at the selected places
-  abbrev pub AreCopiedInTurn : List LaneView → List ℕ → Copies → Type 0
-  AreCopiedInTurn lanes sel = AreCopied (turn_job t) t.first own.under (kinds_of lanes) sel own.inputs.now
-
-  -- the tally can be fed any batch of it
-  abbrev pub CanFeedInTurn : List LaneView → List ℕ → LoopFacts → List ℕ → BlockStage → TallyView → ℕ → ℕ → Type 0
-  CanFeedInTurn lanes = CanFeedAny (turn_job t) t.first t.count lanes own.kind.now own.inputs.now own.under
-
-  -- the action can be fed where its last step is selected
-  abbrev pub IsFeedableInTurn : List LaneView → List Kept → ℕ → Type 0
-  IsFeedableInTurn lanes kept last = IsFeedable (turn_job t) t.first t.count lanes kept last own.kind.now own.inputs.now own.under
+  -- what was copied of each version that it reads
+  pub record AreCopiedInTurn (lanes : List LaneView) (sel : List ℕ) (copies : Copies) : Type 0 where
+    pub first_is : 0 < length own.inputs.now → IsCopyInTurn t own.under lanes sel (slice_index_or own.inputs.now 0 0) copies.first
+    pub second_is : 1 < length own.inputs.now → IsCopyInTurn t own.under lanes sel (slice_index_or own.inputs.now 1 0) copies.second
+    pub third_is : 2 < length own.inputs.now → IsCopyInTurn t own.under lanes sel (slice_index_or own.inputs.now 2 0) copies.third
 
   -- the fault of the action at a place
   abbrev pub unfed_in_turn : ℕ → Option EntryFault

@@ -1,15 +1,40 @@
--- What the passes of a block read.
-use Rattle.std.specs.Prelude.{◌≡◌, ◌<◌, ◌+◌, ⊤, ℕ, ℤ, Bool, true, List, Option, Some, nat_lt, length, slice_get}
+-- What the passes of a block read, and what evaluations do to what is known of it.
+use Rattle.std.specs.Prelude.{◌≡◌, ◌<◌, ◌+◌, ⊤, ℕ, ℤ, Bool, true, List, Option, Some, nat_lt, length, slice_get, ◌⊎◌, ◌≤◌, ◌*◌}
 use Rattle.std.specs.List.{filter, AllByRecursion}
 use Rattle.rdf_values.specs.{ColType, EntryFault, kind_at, Value}
 use Rattle.rdf_model.specs.{fault_in, for_all, Gives}
 use Rattle.graph_numbers.specs.{graph_sites, graph_versions, HasInputs, Source, source_value}
-use Rattle.block_cache.specs.{AreReady, CanFill, cells_at, HasColumn, holds_at, LaneView}
-use Rattle.loop_keys.specs.{held_element, held_in, IsSourceIn, job_graph, JobView, key, key_count, row_of, site_in, source_at, version_in}
-use Rattle.block_passes.specs.Spends.{IsDemandedAt, IsSettledAt}
+use Rattle.block_cache.specs.{AreReady, CanFill, cells_at, HasColumn, holds_at, LaneView, begun_at, begun_count, kinds_of, rooms_of}
+use Rattle.loop_keys.specs.{held_element, held_in, IsSourceIn, job_graph, JobView, key, key_count, row_of, site_in, source_at, version_in, Grows, HasAllDemands, HasAllKeys, IsClosed}
 use Rattle.block_passes.specs.Searches.{Lowers, where_in}
-use Rattle.block_passes.specs.declared.found.Found.{Found}
-use Rattle.block_passes.specs.declared.kept.Kept.{Kept}
+use Rattle.block_passes.specs.declared.turn.Found.{Found}
+use Rattle.block_passes.specs.declared.turn.Kept.{Kept}
+
+-- what was begun stays so, what was held is held as it was, only what the loop demands is newly begun, and each evaluation that is newly
+-- begun was made twice at most
+pub record Spends (j : JobView) (first count : ℕ) (before after : List LaneView) (start end : ℕ) : Type 0 where
+  pub kinds : kinds_of after ≡ kinds_of before
+  pub rooms : rooms_of after ≡ rooms_of before
+  pub stays : (k p : ℕ) → begun_at before k p ≡ true → begun_at after k p ≡ true
+  pub grows : (p : ℕ) → Grows (cells_at (key_count (job_graph j)) before p) (cells_at (key_count (job_graph j)) after p)
+  pub only : (T : ℕ → ℕ → Bool) → ((p : ℕ) → p < count → HasAllDemands j (first + p) (T p)) → (k p : ℕ) → begun_at after k p ≡ true → (begun_at before k p ≡ true) ⊎ ((p < count) × (T p k ≡ true))
+  pub cost : end + 2 * begun_count before ≤ start + 2 * begun_count after
+
+-- all that was begun at the place holds its value
+abbrev pub IsSettledAt : List LaneView → ℕ → Type 0
+IsSettledAt lanes p = (k : ℕ) → begun_at lanes k p ≡ true → holds_at lanes k p ≡ true
+
+-- ---- What the passes of a loop demand at the places of a block.
+
+-- a set of sites that has with each those that its evaluation meets in the entry, as the loop demands them: their keys are in a set that
+-- has all that its passes demand
+pub record IsDemandedAt (j : JobView) (entry : ℕ) (u : Option ℕ) (T D : ℕ → Bool) : Type 0 where
+  pub closed : IsClosed j entry u D
+  pub keys : HasAllKeys j u D T
+
+-- the loop demands the site in the entry
+abbrev pub Demands : JobView → ℕ → Option ℕ → (ℕ → Bool) → ℕ → Type 0
+Demands j entry u T s = (D : ℕ → Bool) × IsDemandedAt j entry u T D × (D s ≡ true)
 
 -- ---- what is read
 
@@ -24,19 +49,11 @@ IsAtHand j lanes u p (Source.Element s k tags) = (v : Value) × (held_element 0 
 abbrev pub AreAtHand : JobView → List LaneView → Option ℕ → List ℕ → ℕ → Type 0
 AreAtHand j lanes u inputs p = AllByRecursion (λ c. IsAtHand j lanes u p (source_at j u c)) inputs
 
--- the key's lane holds no vectors
-abbrev pub IsScalarLane : List ColType → ℕ → Type 0
-IsScalarLane kinds k = slice_get kinds k ≡ Some ColType.Vect → ⊥
-
 -- the source is read in place: a column of the table, or the lane of a site that holds numbers or truths
 abbrev pub IsWhole : JobView → Option ℕ → List ColType → Source → Type 0
 IsWhole j u kinds (Source.Cell col) = ⊤
-IsWhole j u kinds (Source.Site s) = IsScalarLane kinds (key (job_graph j) s u)
+IsWhole j u kinds (Source.Site s) = slice_get kinds (key (job_graph j) s u) ≡ Some ColType.Vect → ⊥
 IsWhole j u kinds (Source.Element s k tags) = ⊥
-
--- so are the sources of all versions that are read
-abbrev pub AreWhole : JobView → Option ℕ → List ColType → List ℕ → Type 0
-AreWhole j u kinds inputs = AllByRecursion (λ c. IsWhole j u kinds (source_at j u c)) inputs
 
 -- a column of numbers, or a source of a site of the set
 abbrev pub IsPlainSource : JobView → (ℕ → Bool) → Source → Type 0

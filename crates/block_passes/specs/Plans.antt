@@ -1,6 +1,6 @@
 -- The selections that the passes of a loop share, each made from the one above it.
 use Rattle.std.specs.Prelude.{◌≡◌, ◌⊎◌, ◌<◌, ℕ, List, [], ◌∷◌, ◌++◌, Option, None, Some, length, slice_get, Bool, true, false}
-use Rattle.block_passes.specs.declared.steps.Step.{Step}
+use Rattle.block_passes.specs.declared.plan.Step.{Step}
 use Rattle.rdf_values.specs.{ActionAt, ActionKind, Path}
 use Rattle.rdf_model.specs.{Outcome}
 use Rattle.graph_numbers.specs.{FilterAt, graph_filters, graph_results, Pass as NumberedPass, ResultAt, through_sites}

@@ -4,7 +4,7 @@ use Rattle.rdf_values.specs.{ActionKind, EntryFault, Fault, feed_fault, Pass, Va
 use Rattle.rdf_model.specs.{Dataset, fault_at as fault_in_pass, Faults, Gives, is_true, Needs, Outcome}
 use Rattle.expr_lanes.specs.{is_in}
 use Rattle.block_cache.specs.{PlaceFault}
-use Rattle.block_passes.specs.declared.found.Found.{Found}
+use Rattle.block_passes.specs.declared.turn.Found.{Found}
 
 -- the search with a fault of a pass at a place of a block that begins at this entry
 abbrev pub fault_at : ℕ → ℕ → ℕ → EntryFault → Found

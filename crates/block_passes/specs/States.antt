@@ -9,8 +9,8 @@ use Rattle.graph_numbers.specs.{graph_sites, GraphView, IsSiteExpr, SiteAt}
 use Rattle.loop_keys.specs.{AreKeys, job_graph, JobView, key, key_count, Row}
 use Rattle.block_passes.specs.Plans.{IsPlan, PlanView}
 use Rattle.block_passes.specs.Tries.{CanSelect, IsReadyBelow, CanServeAll}
-use Rattle.block_passes.specs.declared.found.Found.{Found}
-use Rattle.block_passes.specs.declared.kept.Kept.{Kept}
+use Rattle.block_passes.specs.declared.turn.Found.{Found}
+use Rattle.block_passes.specs.declared.turn.Kept.{Kept}
 
 -- how many places a block has at most; the plan; where what is read stands; the numbers of the table's columns; what is known of each key;
 -- how many levels there are for evaluations and for sites within one another; the search; and the selection of each step

@@ -7,12 +7,11 @@ use Rattle.block_cache.specs.{AreReady, CanFill, LaneView}
 use Rattle.loop_keys.specs.{IsReportPass, job_graph, JobView, key, pass_fault, site_in, truth_in}
 use Rattle.block_passes.specs.Searches.{where_passed, Lowers, where_in, IsSearched}
 use Rattle.block_passes.specs.Plans.{PlanView, through_chain, Chain, IsActionOf}
-use Rattle.block_passes.specs.Spends.{IsSettledAt}
-use Rattle.block_passes.specs.declared.found.Found.{Found}
-use Rattle.block_passes.specs.declared.kept.Kept.{Kept}
-use Rattle.block_passes.specs.declared.steps.Step.{Step}
+use Rattle.block_passes.specs.declared.turn.Found.{Found}
+use Rattle.block_passes.specs.declared.turn.Kept.{Kept}
+use Rattle.block_passes.specs.declared.plan.Step.{Step}
 use Rattle.graph_numbers.specs.{FilterAt, graph_filters, Pass as NumberedPass, report_numbers, ResultAt, through_filter, through_sites}
-use Rattle.block_passes.specs.Inputs.{AreAtHand, AreWhole, CanServe}
+use Rattle.block_passes.specs.Inputs.{AreAtHand, CanServe, IsSettledAt}
 use Rattle.block_passes.specs.declared.plan.NamedSteps.{NamedSteps}
 
 -- the places below a limit that pass the filters of a chain, in a block that begins at this entry
@@ -135,10 +134,6 @@ pub record IsPassMade (j : JobView) (count : ℕ) (plan : PlanView) (kept : List
 abbrev pub CanServeAll : JobView → ℕ → ℕ → List ColType → List (List ℤ) → ℕ → ℕ → Type 0
 CanServeAll j first count kinds cells scratch levels =
     (n : ℕ) (k : ActionKind) (inputs : List ℕ) (u : Option ℕ) → IsReadOf j n k inputs u → AllByRecursion (CanServe j first u count kinds cells scratch levels) inputs
-
--- the actions of the loop read all in place
-abbrev pub AreAllWhole : JobView → List ColType → Type 0
-AreAllWhole j kinds = (n : ℕ) (k : ActionKind) (inputs : List ℕ) (u : Option ℕ) → IsReadOf j n k inputs u → AreWhole j u kinds inputs
 
 -- so many passes were tried over a block: what is known of it, the search so far, and what the actions among them read is at hand
 pub record IsSearchedTo (j : JobView) (first count : ℕ) (chains : List Chain) (passes : ℕ) (lanes : List LaneView) (kept : List Kept) (s : Found) : Type 0 where

@@ -10,10 +10,9 @@ ghost use Rattle.expr_lanes.specs.{EachPlace};
 ghost use Rattle.block_cache.specs.{holds_at, kinds_of};
 ghost use Rattle.loop_keys.specs.{ArePlain, job_graph, key as key_of, row_of, site_in};
 ghost use Rattle.graph_numbers.specs.declared.source.Source.TheVariants as source;
-ghost use Rattle.block_passes.specs.{AreCopiedInTurn, AreHeldInTurn, ArePlainInTurn, AreWholeInTurn, CanServeWith, GivesNumber, GivesVector, HasVector, IsAtHand, IsCopyInTurn, IsOver, IsPlainSource, IsTurn, IsWhole, source_in_turn, turn_job};
+ghost use Rattle.block_passes.specs.{AreCopiedInTurn, AreHeldInTurn, ArePlainInTurn, CanServeWith, GivesNumber, GivesVector, HasVector, IsAtHand, IsCopyInTurn, IsOver, IsPlainSource, IsTurn, IsWhole, source_in_turn, turn_job};
 
-use crate::elements::{SiteElement, element_at, place_at};
-use crate::inputs::source_under;
+use crate::inputs::{SiteElement, element_at, place_at, source_under};
 use crate::turn::{ActionRead, Turn};
 use block_cache::Lane;
 use expr_eval::Input;
@@ -196,7 +195,6 @@ fn copy_version(
     requires inside { EachPlace selection.now (λ p. p < at.now.count) }
     requires hand { EachPlace selection.now (λ p. IsAtHand (turn_job at.now) lanes.now under p (source_in_turn at.now under version)) }
     ensures copied { IfOk result (IsCopyInTurn at.now under lanes.now selection.now version) }
-    ensures whole { IsWhole (turn_job at.now) under (kinds_of lanes.now) (source_in_turn at.now under version) → OnErr result ⊥ }
     ensures plain { (used : ℕ → Bool) → ArePlain (turn_job at.now) used → IsPlainSource (turn_job at.now) used (source_in_turn at.now under version) → OnErr result ⊥ }
 {
     match source_under(at, version, under) {
@@ -231,7 +229,6 @@ fn copy_input(
     requires inside { EachPlace selection.now (λ p. p < at.now.count) }
     requires hand { EachPlace selection.now (AreHeldInTurn at.now own.now lanes.now) }
     ensures copied { nth < length own.now.inputs.now → IfOk result (IsCopyInTurn at.now own.now.under lanes.now selection.now (slice_index_or own.now.inputs.now nth 0)) }
-    ensures whole { AreWholeInTurn at.now own.now lanes.now → OnErr result ⊥ }
     ensures plain { (used : ℕ → Bool) → ArePlain (turn_job at.now) used → ArePlainInTurn at.now own.now used → OnErr result ⊥ }
 {
     match own.inputs.get(nth) {
@@ -252,7 +249,6 @@ pub(crate) fn copy_inputs(
     requires inside { EachPlace selection.now (λ p. p < at.now.count) }
     requires hand { EachPlace selection.now (AreHeldInTurn at.now own.now lanes.now) }
     ensures copied { IfOk result (AreCopiedInTurn at.now own.now lanes.now selection.now) }
-    ensures whole { AreWholeInTurn at.now own.now lanes.now → OnErr result ⊥ }
     ensures plain { (used : ℕ → Bool) → ArePlain (turn_job at.now) used → ArePlainInTurn at.now own.now used → OnErr result ⊥ }
 {
     let first = copy_input(at, lanes, selection, own, 0)?;

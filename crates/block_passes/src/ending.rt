@@ -1,22 +1,51 @@
 // The end of a block: what its search comes to, and what the tally takes in of it.
-ghost use Rattle.std.specs.Prelude.{◌≡◌, ◌≢◌, ◌<◌, ℕ, All, Err, List, OnErr, OnOk, None, length};
+ghost use Rattle.std.specs.Prelude.{◌≡◌, ◌<◌, List, ℕ, length, Some, ◌≢◌, All, Err, OnErr, OnOk, None};
+ghost use Rattle.graph_numbers.specs.{graph_filters};
+ghost use Rattle.cluster_tally.specs.{block_reaches, BlockStage, counted, HoldsIn, Holds, Stage};
+ghost use Rattle.loop_keys.specs.{facts_in, job_graph, IsNoTake, passes_in};
+ghost use Rattle.block_passes.specs.{AreCountable, at_filter, IsAmidTurn, IsPlanOfTurn, IsTurn, turn_job, after_block, CanSelectInTurn, CanServeAllInTurn, CanServeAllWith, entries_from, IsBefore, IsBlockTried, IsClearInTurn, IsPlainTurn, IsReadyInTurn, KeepsRoom};
 ghost use Rattle.rdf_model.specs.{kinds_in};
 ghost use Rattle.block_cache.specs.{AreUnknown, kinds_of, rooms_of};
-ghost use Rattle.cluster_tally.specs.{Holds, Stage};
-ghost use Rattle.loop_keys.specs.{facts_in, IsNoTake, passes_in};
-ghost use Rattle.block_passes.specs.{after_block, CanSelectInTurn, CanServeAllInTurn, CanServeAllWith, entries_from, IsBefore, IsBlockTried, IsClearInTurn, IsPlainTurn, IsPlanOfTurn, IsReadyInTurn, IsTurn, KeepsRoom, turn_job};
 
 use crate::feed::feed_passes;
-use crate::kept::Kept;
-use crate::noting::note_filters;
 use crate::passes::try_passes;
-use crate::stop::BlockStop;
-use crate::turn::{Turn, Work};
+use crate::turn::{BlockStop, Kept, Turn, Work};
 use block_cache::Lane;
 use cluster_tally::Tally;
 use expr_eval::Steps;
+use loop_pieces::Counts;
 use rdf_values::Memory;
 use std::sync::ledger::Ledger;
+
+/// How many entries of the block reach a named filter, and how many pass it: the sizes of two selections.
+fn counts_of(at: &Turn<'_>, kept: &[Kept], filter: u32) -> Counts
+    requires turn { IsTurn at.now }
+    requires filter { filter < length (graph_filters (job_graph (turn_job at.now))) }
+    requires countable { (p : IsPlanOfTurn at.now) → AreCountable (turn_job at.now) at.now.first at.now.count p.chains at.now.plan.now kept.now }
+    ensures { (s : BlockStage) → IsAmidTurn at.now s → result ≡ counted (block_reaches (facts_in (turn_job at.now)) s filter) }
+{
+    match at.plan.named(filter) {
+        None => Counts { all: 0, pass: 0 },
+        Some(named) => Counts {
+            all: kept[named.above as usize].places.len() as u64,
+            pass: kept[named.own as usize].places.len() as u64,
+        },
+    }
+}
+
+/// Takes in what a block without a fault does at the named filters.
+pub(crate) fn note_filters(at: &Turn<'_>, kept: &[Kept], tally: &mut Tally)
+    requires turn { IsTurn at.now }
+    requires countable { (p : IsPlanOfTurn at.now) → AreCountable (turn_job at.now) at.now.first at.now.count p.chains at.now.plan.now kept.now }
+    requires begin { (watched : List ℕ) × (s : BlockStage) × IsAmidTurn at.now s × (s.filters ≡ 0) × HoldsIn (facts_in (turn_job at.now)) watched s tally.old }
+    ensures { (watched : List ℕ) (s : BlockStage) → IsAmidTurn at.now s → s.filters ≡ 0 → HoldsIn (facts_in (turn_job at.now)) watched s tally.old
+        → HoldsIn (facts_in (turn_job at.now)) watched (at_filter s (length (graph_filters (job_graph (turn_job at.now))))) tally.new }
+{
+    for filter in 0..at.job.graph.filters() {
+        let counts = counts_of(at, kept, filter);
+        tally.note_counts(filter, counts);
+    }
+}
 
 /// Takes a block in, in which no pass faults: all action passes are fed, and all named filters noted.
 fn take_in(

@@ -1,28 +1,141 @@
-// Feeding what the passes of a block give.
-ghost use Rattle.std.specs.Prelude.{◌≡◌, ◌<◌, ◌+◌, ℕ, All, Bool, List, IfOk, OnErr, OnOk, length, slice_get, Some};
+// Whether what an action reads can be fed, and feeding what the passes of a block give.
+ghost use Rattle.std.specs.Prelude.{◌≡◌, ◌<◌, ℕ, Bool, IfOk, OnErr, OnOk, Some, ◌+◌, All, List, length, slice_get};
+ghost use Rattle.expr_lanes.specs.{EachPlace};
+ghost use Rattle.actions.specs.{places_of, IsTake};
+ghost use Rattle.loop_keys.specs.{ArePlain, actions_before, facts_in, IsNoTake, numbered_in, passes_in};
+ghost use Rattle.block_cache.specs.{fault_over};
+ghost use Rattle.block_passes.specs.{AreHeldInTurn, ArePlainInTurn, CanGatherInTurn, IsKnown, IsOver, IsSelected, IsServedInTurn, KeepsRoom, of_batch, turn_job, unfed_in_turn, AreKept, at_pass, CanFeedAny, CanServeAllWith, IsAmidTurn, IsClearInTurn, IsFeedable, IsPlainTurn, IsPlanOfTurn, IsReadOf, IsTurn};
 ghost use Rattle.rdf_model.specs.{kinds_in};
 ghost use Rattle.rdf_model.specs.declared.loop_facts.LoopFacts.{LoopFacts};
-ghost use Rattle.expr_lanes.specs.{EachPlace};
-ghost use Rattle.block_cache.specs.{kinds_of};
 ghost use Rattle.cluster_tally.specs.{BlockStage, HoldsIn, pass_done};
-ghost use Rattle.actions.specs.{IsTake};
-ghost use Rattle.loop_keys.specs.{actions_before, ArePlain, facts_in, IsNoTake, numbered_in, passes_in};
-ghost use Rattle.block_passes.specs.{AreAllWhole, AreHeldInTurn, AreKept, ArePlainInTurn, AreWholeInTurn, at_pass, CanFeedInTurn, CanGatherInTurn, CanServeAllWith, IsAmidTurn, IsClearInTurn, IsFeedableInTurn, IsOver, IsPlainTurn, IsPlanOfTurn, IsReadInTurn, IsTurn, turn_job};
 
 use crate::copies::copy_inputs;
-use crate::in_place::lanes_in_place;
-use crate::kept::Kept;
 use crate::passes::action_read;
 use crate::plan::loop_passes;
-use crate::sources::gather;
-use crate::testing::batch_places;
-use crate::turn::{ActionRead, Turn};
-use actions::{Batch, Sources};
+use crate::sources::{gather, lanes_in_place};
+use crate::turn::{ActionRead, Kept, Turn, Work};
+use actions::{Batch, PlaceFault as BatchFault, Places, Sources};
 use block_cache::Lane;
+use block_cache::faults::PlaceFault;
 use cluster_tally::Tally;
 use expr_lanes::Selection;
 use graph_numbers::Pass;
 use rdf_values::Memory;
+
+/// The places of a selection, as an action takes them.
+pub(crate) fn batch_places(selection: &Selection) -> Places<'_>
+    ensures { places_of result ≡ selection.now }
+{
+    let count = selection.len();
+    match selection.first_count() {
+        Some(_) => Places::First(count as u32),
+        None => Places::Listed(selection.as_slice()),
+    }
+}
+
+/// A fault of a batch as one of a block.
+fn placed(fault: Option<BatchFault>) -> Option<PlaceFault>
+    ensures { result ≡ of_batch fault }
+{
+    let BatchFault { place, kind } = fault?;
+    Some(PlaceFault { place, kind })
+}
+
+/// The first of the selected places at which an action can't be fed copies of what it reads, where all of that is at hand.
+#[inline(never)]
+fn first_unfed_copy(
+    at: &Turn<'_>,
+    lanes: &[Lane],
+    selection: &Selection,
+    own: &ActionRead<'_>,
+) -> Result<Option<PlaceFault>, Memory>
+    requires over { IsOver at.now lanes.now }
+    requires can { CanGatherInTurn at.now own.now lanes.now }
+    requires inside { EachPlace selection.now (λ p. p < at.now.count) }
+    requires hand { EachPlace selection.now (AreHeldInTurn at.now own.now lanes.now) }
+    ensures fault { IfOk result (λ f. f ≡ fault_over (unfed_in_turn at.now own.now) selection.now) }
+    ensures plain { (used : ℕ → Bool) → ArePlain (turn_job at.now) used → ArePlainInTurn at.now own.now used → OnErr result ⊥ }
+{
+    let _few = selection.len();
+    let copies = copy_inputs(at, lanes, selection, own)?;
+    let places = batch_places(selection);
+    let sources = gather(at, lanes, selection, &copies, own);
+    Ok(placed(Batch { places, sources }.first_fault()))
+}
+
+/// The first of the selected places at which an action can't be fed what it reads, likewise.
+#[inline(never)]
+fn first_unfed(
+    at: &Turn<'_>,
+    lanes: &[Lane],
+    selection: &Selection,
+    own: &ActionRead<'_>,
+) -> Result<Option<PlaceFault>, Memory>
+    requires over { IsOver at.now lanes.now }
+    requires can { CanGatherInTurn at.now own.now lanes.now }
+    requires inside { EachPlace selection.now (λ p. p < at.now.count) }
+    requires hand { EachPlace selection.now (AreHeldInTurn at.now own.now lanes.now) }
+    ensures fault { IfOk result (λ f. f ≡ fault_over (unfed_in_turn at.now own.now) selection.now) }
+    ensures plain { (used : ℕ → Bool) → ArePlain (turn_job at.now) used → ArePlainInTurn at.now own.now used → OnErr result ⊥ }
+{
+    let _few = selection.len();
+    let mut batch = Batch {
+        places: batch_places(selection),
+        sources: Sources::Entry,
+    };
+    if !lanes_in_place(at, lanes, own, &mut batch.sources) {
+        return first_unfed_copy(at, lanes, selection, own);
+    }
+    Ok(placed(batch.first_fault()))
+}
+
+/// Tests likewise what an action of several columns reads.
+#[inline(never)]
+fn test_several(
+    at: &Turn<'_>,
+    work: &mut Work,
+    to: &mut Kept,
+    own: &ActionRead<'_>,
+) -> Result<(), Memory>
+    requires known { IsKnown at.now work.old }
+    requires can { CanGatherInTurn at.now own.now work.old.lanes.items }
+    requires selected { IsSelected work.old.found.limit to.old }
+    requires hand { EachPlace to.old.places (AreHeldInTurn at.now own.now work.old.lanes.items) }
+    ensures tested { OnOk result (IsServedInTurn at.now (unfed_in_turn at.now own.now) to.old.places to.new work.old.lanes.items work.old.found work.new.found) }
+    ensures lanes { work.new.lanes.items ≡ work.old.lanes.items }
+    ensures room { KeepsRoom work.old work.new }
+    ensures plain { (used : ℕ → Bool) → ArePlain (turn_job at.now) used → ArePlainInTurn at.now own.now used → OnErr result ⊥ }
+{
+    let _rising = to.places.as_slice();
+    let fault = first_unfed(at, &work.lanes, &to.places, own)?;
+    work.found.note(at.first, at.pass, fault);
+    let _made = to.narrow(work.found.limit);
+    Ok(())
+}
+
+/// Tests whether an action can be fed what it reads at the selected places, where all of that is at hand: the first at which it can't
+/// lowers the limit, below which the places are left.
+pub(crate) fn test_feeding(
+    at: &Turn<'_>,
+    work: &mut Work,
+    to: &mut Kept,
+    own: &ActionRead<'_>,
+) -> Result<(), Memory>
+    requires known { IsKnown at.now work.old }
+    requires can { CanGatherInTurn at.now own.now work.old.lanes.items }
+    requires selected { IsSelected work.old.found.limit to.old }
+    requires hand { EachPlace to.old.places (AreHeldInTurn at.now own.now work.old.lanes.items) }
+    ensures tested { OnOk result (IsServedInTurn at.now (unfed_in_turn at.now own.now) to.old.places to.new work.old.lanes.items work.old.found work.new.found) }
+    ensures lanes { work.new.lanes.items ≡ work.old.lanes.items }
+    ensures room { KeepsRoom work.old work.new }
+    ensures plain { (used : ℕ → Bool) → ArePlain (turn_job at.now) used → ArePlainInTurn at.now own.now used → OnErr result ⊥ }
+{
+    // A single value that is there can be fed.
+    if own.inputs.len() < 2 {
+        return Ok(());
+    }
+    test_several(at, work, to, own)
+}
 
 /// Where a pass is fed: its place among the loop's actions, and the cluster.
 #[derive(Clone, Copy, Debug)]
@@ -45,10 +158,9 @@ fn feed_copies(
     requires can { CanGatherInTurn at.now own.now lanes.now }
     requires inside { EachPlace selection.now (λ p. p < at.now.count) }
     requires hand { EachPlace selection.now (AreHeldInTurn at.now own.now lanes.now) }
-    requires feed { (f : LoopFacts) × (watched : List ℕ) × (s : BlockStage) × CanFeedInTurn at.now own.now lanes.now selection.now f watched s tally.old to.place to.cluster }
-    ensures holds { (f : LoopFacts) (watched : List ℕ) (s : BlockStage) → CanFeedInTurn at.now own.now lanes.now selection.now f watched s tally.old to.place to.cluster
+    requires feed { (f : LoopFacts) × (watched : List ℕ) × (s : BlockStage) × CanFeedAny (turn_job at.now) at.now.first at.now.count lanes.now own.now.kind.now own.now.inputs.now own.now.under selection.now f watched s tally.old to.place to.cluster }
+    ensures holds { (f : LoopFacts) (watched : List ℕ) (s : BlockStage) → CanFeedAny (turn_job at.now) at.now.first at.now.count lanes.now own.now.kind.now own.now.inputs.now own.now.under selection.now f watched s tally.old to.place to.cluster
         → OnOk result (HoldsIn f watched (pass_done s) tally.new) }
-    ensures memory { AreWholeInTurn at.now own.now lanes.now → OnErr result (IsTake own.now.kind.now) }
     ensures plain { (used : ℕ → Bool) → ArePlain (turn_job at.now) used → ArePlainInTurn at.now own.now used → OnErr result (IsTake own.now.kind.now) }
 {
     let copies = copy_inputs(at, lanes, selection, own)?;
@@ -67,16 +179,15 @@ pub(crate) fn feed_action(
     to: FedPass,
 ) -> Result<(), Memory>
     requires over { IsOver at.now lanes.now }
-    requires own { IsReadInTurn at.now own.now }
+    requires own { IsReadOf (turn_job at.now) at.now.pass own.now.kind.now own.now.inputs.now own.now.under }
     requires place { to.place ≡ actions_before (turn_job at.now) at.now.pass }
     requires can { CanGatherInTurn at.now own.now lanes.now }
     requires kept { (p : IsPlanOfTurn at.now) → AreKept (turn_job at.now) at.now.first p.chains at.now.count kept.now }
     requires feedable { (last : ℕ) → slice_get at.now.plan.now.passes at.now.pass ≡ Some last
-        → IsFeedableInTurn at.now own.now lanes.now kept.now last }
+        → IsFeedable (turn_job at.now) at.now.first at.now.count lanes.now kept.now last own.now.kind.now own.now.inputs.now own.now.under }
     requires begin { (watched : List ℕ) × (s : BlockStage) × IsAmidTurn at.now s × (s.cluster ≡ to.cluster) × (s.passes ≡ to.place) × HoldsIn (facts_in (turn_job at.now)) watched s tally.old }
     ensures holds { (watched : List ℕ) (s : BlockStage) → IsAmidTurn at.now s → s.cluster ≡ to.cluster → s.passes ≡ to.place → HoldsIn (facts_in (turn_job at.now)) watched s tally.old
         → OnOk result (HoldsIn (facts_in (turn_job at.now)) watched (pass_done s) tally.new) }
-    ensures memory { AreWholeInTurn at.now own.now lanes.now → OnErr result (IsTake own.now.kind.now) }
     ensures plain { (used : ℕ → Bool) → ArePlain (turn_job at.now) used → ArePlainInTurn at.now own.now used → OnErr result (IsTake own.now.kind.now) }
 {
     let last = at.plan.last_step(at.pass);
@@ -110,7 +221,6 @@ fn feed_pass(
     ensures place { IfOk result (λ next. next ≡ actions_before (turn_job at.now) (at.now.pass + 1)) }
     ensures holds { IfOk result (λ next. (watched : List ℕ) (s : BlockStage) → IsAmidTurn at.now s → s.cluster ≡ to.cluster → s.passes ≡ to.place → HoldsIn (facts_in (turn_job at.now)) watched s tally.old
         → HoldsIn (facts_in (turn_job at.now)) watched (at_pass s next) tally.new) }
-    ensures memory { AreAllWhole (turn_job at.now) (kinds_of lanes.now) → All IsNoTake (kinds_in (passes_in (turn_job at.now))) → OnErr result ⊥ }
     ensures plain { IsPlainTurn at.now → All IsNoTake (kinds_in (passes_in (turn_job at.now))) → OnErr result ⊥ }
 {
     let Some(read) = action_read(at.job, own, at.pass) else {
@@ -134,7 +244,6 @@ pub(crate) fn feed_passes(
     requires begin { (watched : List ℕ) × (s : BlockStage) × IsAmidTurn at.now s × (s.cluster ≡ cluster) × (s.passes ≡ 0) × HoldsIn (facts_in (turn_job at.now)) watched s tally.old }
     ensures holds { (watched : List ℕ) (s : BlockStage) → IsAmidTurn at.now s → s.cluster ≡ cluster → s.passes ≡ 0 → HoldsIn (facts_in (turn_job at.now)) watched s tally.old
         → OnOk result (HoldsIn (facts_in (turn_job at.now)) watched (at_pass s (length (kinds_in (passes_in (turn_job at.now))))) tally.new) }
-    ensures memory { AreAllWhole (turn_job at.now) (kinds_of lanes.now) → All IsNoTake (kinds_in (passes_in (turn_job at.now))) → OnErr result ⊥ }
     ensures plain { IsPlainTurn at.now → All IsNoTake (kinds_in (passes_in (turn_job at.now))) → OnErr result ⊥ }
 {
     let mut place = 0;

@@ -1,27 +1,126 @@
 // Filling what an action reads.
-ghost use Rattle.std.specs.Prelude.{◌≡◌, ◌<◌, ◌+◌, ℕ, Bool, None, OnOk, Some, length, true, OnErr};
-ghost use Rattle.std.specs.List.{AllByRecursion};
-ghost use Rattle.graph_numbers.specs.{graph_sites, graph_versions};
-ghost use Rattle.graph_numbers.specs.declared.source.Source.TheVariants as source;
+ghost use Rattle.std.specs.Prelude.{◌≡◌, ◌<◌, ◌+◌, length, slice_index_or, true, Some, ℕ, Bool, None, OnOk, OnErr};
+ghost use Rattle.rdf_model.specs.{tag_element};
+ghost use Rattle.graph_numbers.specs.{graph_sites, source_value, graph_versions};
 ghost use Rattle.expr_lanes.specs.{EachPlace, is_in};
-ghost use Rattle.block_cache.specs.{AreReady, CanFill, holds_at, kinds_of, site_fault};
-ghost use Rattle.loop_keys.specs.{ArePlain, ArePlainVersions, HasAllDemands, IsSourceIn, job_graph, key};
-ghost use Rattle.block_passes.specs.{AreAtHand, CanServeInTurn, CanServeWith, DemandsInputs, DemandsSource, element_fault_in_turn, inputs_fault_in_turn, IsAtHand, IsKnown, IsOver, IsSelected, IsServedInTurn, IsSpentInTurn, IsTurn, KeepsRoom, Leaves, source_fault_in_turn, source_in_turn, turn_job};
+ghost use Rattle.loop_keys.specs.{job_graph, key as key_of, row_of, site_in, ArePlain, ArePlainVersions, HasAllDemands, IsSourceIn};
+ghost use Rattle.block_cache.specs.{fault_over, holds_at, AreReady, CanFill, kinds_of, site_fault};
+ghost use Rattle.block_passes.specs.{element_fault_in_turn, IsKnown, IsNumberOf, IsOver, IsSelected, IsServedInTurn, KeepsRoom, turn_job, AreAtHand, CanServeInTurn, CanServeWith, DemandsInputs, DemandsSource, inputs_fault_in_turn, IsAtHand, IsSpentInTurn, IsTurn, Leaves, source_fault_in_turn, source_in_turn};
+ghost use Rattle.std.specs.List.{AllByRecursion};
+ghost use Rattle.rdf_values.specs.declared.tables.value.Value.TheVariants as val;
+ghost use Rattle.graph_numbers.specs.declared.source.Source.TheVariants as source;
 
-use crate::elements::{SiteElement, test_elements};
-use crate::kept::Kept;
-use crate::turn::{Turn, Work};
+use crate::turn::{Kept, Turn, Work};
 use block_cache::Lane;
 use block_cache::block::Block;
+use block_cache::faults::PlaceFault;
 use block_cache::leads::fill_led;
 use block_cache::wanted::Wanted;
-use expr_eval::Steps;
+use expr_eval::{Input, Steps};
 use expr_lanes::Selection;
 use graph_numbers::Source;
-use loop_keys::reading::{Reading, place};
+use loop_keys::reading::{Reading, key, place};
 use loop_keys::rows::{Place, row_at};
-use rdf_values::Memory;
+use rdf_values::{EntryFault, Memory};
 use std::sync::ledger::Ledger;
+
+/// The element of a site's vector at the place of a tag among so many, under nominal or a variation.
+#[derive(Clone, Copy, Debug)]
+pub(crate) struct SiteElement {
+    pub(crate) site: u32,
+    pub(crate) under: Option<u32>,
+    pub(crate) nth: u32,
+    pub(crate) tags: u32,
+}
+
+/// The element of a vector at the place of a tag among so many.
+fn tagged(zs: &[i64], nth: u32, tags: u32) -> Result<i64, EntryFault>
+    ensures { IsNumberOf (tag_element {M = ⊥} tags nth (val.Vect zs.now)) result }
+{
+    if zs.len() != tags as usize {
+        return Err(EntryFault::VaryCount);
+    }
+    match zs.get(nth as usize) {
+        Some(z) => Ok(*z),
+        None => Err(EntryFault::Index),
+    }
+}
+
+/// The element at a place of the block where the site's value is held.
+pub(crate) fn element_at(
+    at: &Turn<'_>,
+    lanes: &[Lane],
+    of: &SiteElement,
+    place: u32,
+) -> Result<i64, EntryFault>
+    requires over { IsOver at.now lanes.now }
+    requires site { of.now.site < length (graph_sites (job_graph (turn_job at.now))) }
+    requires inside { place < at.now.count }
+    requires held { holds_at lanes.now (key_of (job_graph (turn_job at.now)) of.now.site of.now.under) place ≡ true }
+    ensures { IsNumberOf (source_value {M = ⊥} (row_of (turn_job at.now) (at.now.first + place)) (site_in (turn_job at.now) (at.now.first + place) of.now.under) (source.Element of.now.site of.now.nth of.now.tags)) result }
+{
+    let reading = Reading {
+        job: at.job,
+        row: row_at(at.rows, at.job.graph, of.under),
+        entry: at.first,
+        under: of.under,
+    };
+    match lanes[key(&reading, of.site)].input(place) {
+        Input::Vect(zs) => tagged(zs, of.nth, of.tags),
+        Input::Int(_) | Input::Bool(_) => Ok(0),
+        Input::Faulted(_) | Input::Missing => unreachable!(),
+    }
+}
+
+/// The place of that number among those that are selected.
+#[tactic(auto, using(expr_lanes::proofs::Selected::is_in_at))]
+pub(crate) fn place_at(selection: &Selection, nth: usize) -> u32
+    requires { nth < length selection.now }
+    ensures among { is_in result selection.now ≡ true }
+    ensures value { result ≡ slice_index_or selection.now nth 0 }
+{
+    selection.as_slice()[nth]
+}
+
+/// The first of the selected places at which there isn't an element for each tag.
+fn first_without(
+    at: &Turn<'_>,
+    lanes: &[Lane],
+    selection: &Selection,
+    of: &SiteElement,
+) -> Option<PlaceFault>
+    requires over { IsOver at.now lanes.now }
+    requires site { of.now.site < length (graph_sites (job_graph (turn_job at.now))) }
+    requires inside { EachPlace selection.now (λ p. p < at.now.count) }
+    requires held { EachPlace selection.now (λ p. holds_at lanes.now (key_of (job_graph (turn_job at.now)) of.now.site of.now.under) p ≡ true) }
+    ensures { result ≡ fault_over (element_fault_in_turn at.now of.now) selection.now }
+{
+    for i in 0..selection.len() {
+        let place = place_at(selection, i);
+        match element_at(at, lanes, of, place) {
+            Ok(_) => {}
+            Err(kind) => return Some(PlaceFault { place, kind }),
+        }
+    }
+    None
+}
+
+/// Tests whether there is an element for each tag at the selected places, where the site's value is held: the first at which there isn't
+/// lowers the limit, below which the places are left.
+pub(crate) fn test_elements(at: &Turn<'_>, work: &mut Work, to: &mut Kept, of: &SiteElement)
+    requires site { of.now.site < length (graph_sites (job_graph (turn_job at.now))) }
+    requires known { IsKnown at.now work.old }
+    requires selected { IsSelected work.old.found.limit to.old }
+    requires held { EachPlace to.old.places (λ p. holds_at work.old.lanes.items (key_of (job_graph (turn_job at.now)) of.now.site of.now.under) p ≡ true) }
+    ensures tested { IsServedInTurn at.now (element_fault_in_turn at.now of.now) to.old.places to.new work.old.lanes.items work.old.found work.new.found }
+    ensures lanes { work.new.lanes.items ≡ work.old.lanes.items }
+    ensures room { KeepsRoom work.old work.new }
+{
+    let _rising = to.places.as_slice();
+    let fault = first_without(at, &work.lanes, &to.places, of);
+    work.found.note(at.first, at.pass, fault);
+    let _made = to.narrow(work.found.limit);
+}
 
 /// Whether a key's value is held at each selected place.
 fn is_held(at: &Turn<'_>, lanes: &[Lane], key: usize, selection: &Selection) -> bool
@@ -76,7 +175,7 @@ fn serve_site<L: Ledger>(
     requires inside { EachPlace to.old.places (λ p. p < work.old.found.limit) }
     ensures spent { IsSpentInTurn at.now under site to.old.places work.old work.new steps.old steps.new }
     ensures served { OnOk result (IsServedInTurn at.now (site_fault (turn_job at.now) at.now.first under site) to.old.places to.new work.new.lanes.items work.old.found work.new.found) }
-    ensures held { OnOk result (EachPlace to.new.places (λ p. holds_at work.new.lanes.items (key (job_graph (turn_job at.now)) site under) p ≡ true)) }
+    ensures held { OnOk result (EachPlace to.new.places (λ p. holds_at work.new.lanes.items (key_of (job_graph (turn_job at.now)) site under) p ≡ true)) }
     ensures room { KeepsRoom work.old work.new }
     ensures plain { (used : ℕ → Bool) → ArePlain (turn_job at.now) used → used site ≡ true → OnErr result ⊥ }
 {

@@ -1,17 +1,88 @@
-// The memory that a slot reserves for its blocks.
-ghost use Rattle.std.specs.Prelude.{◌≡◌, ◌≤◌, ◌-◌, All, IfOk, None, length};
-ghost use Rattle.loop_keys.specs.{Fits, job_of};
-ghost use Rattle.block_passes.specs.{AreLoaded, HaveCells};
-ghost use Rattle.block_passes.specs.declared.kept.Kept.{Kept as KeptPlaces};
+// The memory that a slot reserves for its blocks: how many levels its evaluations take, and of which kinds its keys' values are.
+ghost use Rattle.std.specs.Prelude.{◌≤◌, IfOk, IfSome, ◌≡◌, ◌<◌, ◌++◌, OnOk, length, replicate, ◌-◌, All, None};
+ghost use Rattle.expr_lanes.specs.{depth};
+ghost use Rattle.block_passes.specs.{AreDeepEnough, AreLoaded, CountsVectors, HaveCells, HaveKinds, Kept as KeptPlaces};
+ghost use Rattle.graph_numbers.specs.{graph_sites};
+ghost use Rattle.loop_keys.specs.{key_count, Fits, job_of};
 
-use crate::kept::Kept;
+use crate::turn::Kept;
 use block_cache::cells::CellLane;
 use block_cache::level::Level;
 use columns::Over;
-use expr_lanes::{Scratch, Selection};
+use expr_check::Checked;
+use expr_lanes::{Scratch, Selection, is_deep_enough};
+use graph::Graph;
 use loop_keys::Job;
-use rdf_values::{ColType, Memory, Span};
+use rdf_values::{ColType, ListOf, Memory, Span};
 use std::alloc::Global;
+
+// How many levels are enough for an expression, from so many on.
+fn levels_from(expr: &Checked, least: usize) -> Option<usize>
+    ensures enough { IfSome result (λ levels. depth expr.now.tree ≤ levels) }
+    ensures least { IfSome result (λ levels. least ≤ levels) }
+{
+    for levels in least..usize::MAX {
+        if is_deep_enough(expr, levels) {
+            return Some(levels);
+        }
+    }
+    None
+}
+
+/// How many levels are enough for each site's expression.
+pub(crate) fn deepest(graph: &Graph) -> Result<usize, Memory>
+    ensures { IfOk result (AreDeepEnough graph.now) }
+{
+    let mut deepest = 0;
+    for site in 0..graph.sites() {
+        match levels_from(graph.site(site), deepest) {
+            Some(levels) => deepest = levels,
+            None => return Err(Memory),
+        }
+    }
+    Ok(deepest)
+}
+
+// Appends a kind so many times.
+fn push_kind(kinds: &mut ListOf<ColType>, kind: ColType, count: usize) -> Result<(), Memory>
+    ensures { OnOk result (kinds.new ≡ kinds.old ++ replicate count kind) }
+{
+    for _ in 0..count {
+        kinds.push(kind)?;
+    }
+    Ok(())
+}
+
+/// The kind of each key: that of its site.
+pub(crate) fn key_kinds(alloc: Global, graph: &Graph) -> Result<ListOf<ColType>, Memory>
+    ensures many { IfOk result (λ kinds. length kinds ≡ key_count graph.now) }
+    ensures kinds { IfOk result (HaveKinds graph.now (length (graph_sites graph.now))) }
+    ensures few { IfOk result (λ kinds. length kinds < 1099511627776) }
+{
+    let mut kinds = ListOf::new(alloc);
+    for site in 0..graph.sites() {
+        let depends = graph.site_depends(site);
+        let kind = graph.site(site).kind();
+        push_kind(&mut kinds, kind, 1 + depends.count() as usize)?;
+    }
+    Ok(kinds)
+}
+
+/// How many of a graph's keys have vectors for values.
+pub fn vector_keys(alloc: Global, graph: &Graph) -> Result<u64, Memory>
+    ensures count { IfOk result (CountsVectors graph.now) }
+    ensures few { IfOk result (λ keys. keys < 1099511627776) }
+{
+    let kinds = key_kinds(alloc, graph)?;
+    let each = kinds.as_slice();
+    let mut vectors = 0;
+    for kind in each {
+        if let ColType::Vect = *kind {
+            vectors += 1;
+        }
+    }
+    Ok(vectors)
+}
 
 /// A list of numbers for each of so many columns, with room for so many entries.
 pub(crate) fn new_cells(alloc: Global, columns: usize, size: usize) -> Result<Vec<CellLane>, Memory>

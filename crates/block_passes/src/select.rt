@@ -5,12 +5,10 @@ ghost use Rattle.graph_numbers.specs.{graph_sites};
 ghost use Rattle.expr_lanes.specs.{EachPlace};
 ghost use Rattle.block_cache.specs.{CanFill, kinds_of};
 ghost use Rattle.loop_keys.specs.{ArePlain, job_graph, key};
-ghost use Rattle.block_passes.specs.{AreRemade, CanSelectInTurn, IsFilteredInTurn, IsKnown, IsNextSelectedInTurn, IsPlainTurn, IsPlanOfTurn, IsReadyInTurn, IsSelectedInTurn, IsSpentInTurn, IsTurn, KeepsRoom, Leaves, turn_job};
-ghost use Rattle.block_passes.specs.declared.kept.Kept.{Kept as KeptView};
+ghost use Rattle.block_passes.specs.{AreRemade, CanSelectInTurn, IsFilteredTo, IsKnown, IsNextSelected, IsPlainTurn, IsPlanOfTurn, IsReadyInTurn, IsSelectedInTurn, IsSpentInTurn, IsTurn, KeepsRoom, Kept as KeptView, Leaves, turn_job};
 
-use crate::kept::Kept;
-use crate::steps::Step;
-use crate::turn::{NextStep, SiteFilter, Turn, Work};
+use crate::plan::Step;
+use crate::turn::{Kept, NextStep, SiteFilter, Turn, Work};
 use block_cache::block::Block;
 use block_cache::passing::pass_filter;
 use block_cache::wanted::Wanted;
@@ -35,7 +33,7 @@ pub(crate) fn filter_places<L: Ledger>(
     requires truth { slice_get (kinds_of work.old.lanes.items) (key (job_graph (turn_job at.now)) filter.site filter.under) ≡ Some kind.Bool }
     requires inside { EachPlace from.now.places (λ p. p < work.old.found.limit) }
     ensures spent { IsSpentInTurn at.now filter.under filter.site from.now.places work.old work.new steps.old steps.new }
-    ensures filtered { OnOk result (IsFilteredInTurn at.now filter from.now.places to.new work.new.lanes.items work.old.found work.new.found) }
+    ensures filtered { OnOk result (IsFilteredTo (turn_job at.now) at.now.first at.now.count filter.under filter.site at.now.pass from.now.places to.new work.new.lanes.items work.old.found work.new.found) }
     ensures room { KeepsRoom work.old work.new }
     ensures plain { (used : ℕ → Bool) → ArePlain (turn_job at.now) used → used filter.site ≡ true → OnErr result ⊥ }
 {
@@ -88,7 +86,7 @@ pub(crate) fn next_places<L: Ledger>(
     requires made { (s : KeptView) → slice_get (above.now ++ own.old) next.parent ≡ Some s → s.limit ≡ Some work.old.found.limit }
     ensures leaves { Leaves at.now work.old work.new steps.old steps.new }
     ensures selected { (p : IsPlanOfTurn at.now)
-        → OnOk result (IsNextSelectedInTurn at.now p.chains next work.new.lanes.items (above.now ++ own.new) work.old.found work.new.found) }
+        → OnOk result (IsNextSelected (turn_job at.now) at.now.first at.now.count p.chains at.now.pass next.step next.parent next.filter.site next.filter.under work.new.lanes.items (above.now ++ own.new) work.old.found work.new.found) }
     ensures remade { OnOk result (AreRemade at.now.count (above.now ++ own.old) (above.now ++ own.new)) }
     ensures plain { IsPlainTurn at.now → OnErr result ⊥ }
 {

@@ -1,15 +1,107 @@
-// The block whose turn it is.
-ghost use Rattle.std.specs.Prelude.{◌≡◌};
+// The block whose turn it is, and the search for its first fault.
+ghost use Rattle.std.specs.Prelude.{◌≡◌, ◌<◌, ◌+◌, ◌^◌, None, Some, ◌≤◌, ℕ, false, true};
+ghost use Rattle.block_cache.specs.{PlaceFault as FaultAt};
+ghost use Rattle.block_passes.specs.{noted, IsNarrowed};
+ghost use Rattle.std.specs.List.{range_with_len};
+ghost use Rattle.expr_lanes.specs.declared.TheConstants.{MAX_PLACES};
 
-use crate::found::Found;
 use crate::plan::LoopPlan;
 use block_cache::Lane;
 use block_cache::cells::CellLane;
+use block_cache::faults::PlaceFault;
 use block_cache::level::Level;
-use expr_lanes::Scratch;
+use expr_lanes::{Scratch, Selection};
 use loop_keys::Job;
 use loop_keys::rows::Row;
-use rdf_values::ActionKind;
+use rdf_values::{ActionKind, Fault};
+
+/// The first fault so far of the passes of a loop over a block, if one faults, and the places that are still tried: those below the limit.
+#[derive(Clone, Copy, Debug)]
+pub struct Found {
+    pub limit: u32,
+    pub best: Option<Fault>,
+}
+
+impl Found {
+    /// Where nothing was tried of so many entries.
+    pub fn begin(count: u32) -> Found
+        ensures { result ≡ record { limit = count; best = None } }
+    {
+        Found {
+            limit: count,
+            best: None,
+        }
+    }
+
+    /// A fault that was found at a place, if one was, lowers the limit. The block begins at entry `first`.
+    pub fn note(&mut self, first: u32, pass: u32, fault: Option<PlaceFault>)
+        requires { (f : FaultAt) → fault ≡ Some f → first + f.place < 2 ^ 32 }
+        ensures { self.new ≡ noted first pass self.old fault }
+    {
+        let Some(found) = fault else {
+            return;
+        };
+        let place = found.place;
+        self.limit = place;
+        self.best = Some(Fault {
+            entry: first + place,
+            pass,
+            kind: found.kind,
+        });
+    }
+}
+
+/// The places of a step, as they were selected below a limit; none are yet where there is no limit.
+#[derive(Drop)]
+pub struct Kept {
+    pub(crate) limit: Option<u32>,
+    pub(crate) places: Selection,
+}
+
+impl Kept {
+    /// Whether a selection was made; only the places below the limit are left of it.
+    pub(crate) fn narrow(&mut self, limit: u32) -> bool
+        ensures none { self.old.limit ≡ None → (result ≡ false) × (self.new ≡ self.old) }
+        ensures some { (made : ℕ) → self.old.limit ≡ Some made → (result ≡ true) × IsNarrowed limit made self.old self.new }
+    {
+        let Some(made) = self.limit else {
+            return false;
+        };
+        if limit < made {
+            self.places.keep_below(limit);
+            self.limit = Some(limit);
+            return true;
+        }
+        true
+    }
+
+    /// Whether a selection was made, of which only places below the limit are left.
+    pub(crate) fn is_made(&self, limit: u32) -> bool
+        ensures { result ≡ true → (made : ℕ) × (self.now.limit ≡ Some made) × (made ≤ limit) }
+    {
+        match self.limit {
+            Some(made) => made <= limit,
+            None => false,
+        }
+    }
+
+    /// Selects the first places of a block.
+    pub(crate) fn select_first(&mut self, limit: u32)
+        requires { limit ≤ MAX_PLACES }
+        ensures limit { self.new.limit ≡ Some limit }
+        ensures places { self.new.places ≡ range_with_len 0 limit }
+    {
+        self.places.select_first(limit as usize);
+        self.limit = Some(limit);
+    }
+}
+
+/// The first fault of a block, or want of memory.
+#[derive(Clone, Copy, Debug, PartialEq, Eq)]
+pub enum BlockStop {
+    Fault(Fault),
+    Memory,
+}
 
 /// A pass of a loop, and the entries of a block over which it is tried.
 #[derive(Clone, Copy)]

@@ -1,9 +1,9 @@
 use Rattle.std.proofs.Common.{FitsSigned, length-set, of_z, rules, set, to_z, w64, ℤ, ◌≡◌, ◌∙◌, ◌+◌, ℕ, List, ap, arith, length}
 use Rattle.std.proofs.lemmas.Int.{to_z-of_z}
 use Rattle.graph_numbers.specs.{Source, source_value}
-use Rattle.loop_keys.specs.{job_of, row_of, site_in}
-use Rattle.block_passes.specs.{GivesNumber}
-use Rattle.block_passes.proofs.Places.{each_at, numbers_more}
+use Rattle.loop_keys.specs.{row_of, site_in}
+use Rattle.block_passes.specs.{GivesNumber, turn_job}
+use Rattle.block_passes.proofs.Searching.{each_at, numbers_more}
 use Rattle.block_passes.proofs.copies.copy_elements.Goals as goal
 
 pub write_number-requires : goal.write_number-requires
@@ -23,12 +23,12 @@ loop-i-preserved g c =
     record {
       room = ap (λ (l : List ℤ). length l) wrote ∙ length-set c.loop-i.numbers.items q z ∙ room;
       come =
-          numbers_more (λ (p : ℕ). source_value {M = ⊥} (row_of (job_of c.args.at.now.job.now) (c.args.at.now.first + p)) (site_in {M = ⊥} (job_of c.args.at.now.job.now) (c.args.at.now.first + p) c.args.of.now.under) (Source.Element c.args.of.now.site c.args.of.now.nth c.args.of.now.tags))
+          numbers_more (λ (p : ℕ). source_value {M = ⊥} (row_of (turn_job c.args.at.now) (c.args.at.now.first + p)) (site_in {M = ⊥} (turn_job c.args.at.now) (c.args.at.now.first + p) c.args.of.now.under) (Source.Element c.args.of.now.site c.args.of.now.nth c.args.of.now.tags))
           c.args.selection.now c.loop-i.i q c.place_at-place.ensures.value c.loop-i.numbers.items c.write_number.new.numbers.items z wrote (omega (arith, low, room)) c.given_at.ensures c.loop-i.invariant.come;
     }
 
 pub returns : goal.returns
 returns g c =
     let n = c.len-i-end.ensures.count in
-    each_at c.args.selection.now (λ p. GivesNumber c.loop-i.numbers.items p (source_value {M = ⊥} (row_of (job_of c.args.at.now.job.now) (c.args.at.now.first + p)) (site_in {M = ⊥} (job_of c.args.at.now.job.now) (c.args.at.now.first + p) c.args.of.now.under) (Source.Element c.args.of.now.site c.args.of.now.nth c.args.of.now.tags)))
+    each_at c.args.selection.now (λ p. GivesNumber c.loop-i.numbers.items p (source_value {M = ⊥} (row_of (turn_job c.args.at.now) (c.args.at.now.first + p)) (site_in {M = ⊥} (turn_job c.args.at.now) (c.args.at.now.first + p) c.args.of.now.under) (Source.Element c.args.of.now.site c.args.of.now.nth c.args.of.now.tags)))
     (λ m lt. c.loop-i.invariant.come m (omega (arith, lt, n)))

@@ -1,41 +1,38 @@
 use Rattle.std.proofs.Common.{arith, refl}
-use Rattle.loop_keys.specs.{job_of, passes_in}
+use Rattle.loop_keys.specs.{passes_in}
 use Rattle.loop_keys.proofs.EntryLaws.{action_next, actions_few, report_next}
 use Rattle.block_cache.specs.{kinds_of}
-use Rattle.block_passes.proofs.Fed.{can_be_fed, one_further, read_action, takes_none}
+use Rattle.block_passes.specs.{turn_job}
+use Rattle.block_passes.proofs.Feeding.{can_be_fed, one_further, read_action, takes_none}
 use Rattle.block_passes.proofs.Trying.{gathers}
 use Rattle.block_passes.proofs.Serving.{plain_reads}
 use Rattle.block_passes.proofs.feed.feed_pass.Goals as goal
 
 pub returns-in_default-clause-place : goal.returns-in_default-clause-place
-returns-in_default-clause-place g c = report_next (job_of c.args.at.now.job.now) c.args.at.now.pass c.args.own.result c.args.to.place (c.in_default.ensures.report refl) c.requires.place
+returns-in_default-clause-place g c = report_next (turn_job c.args.at.now) c.args.at.now.pass c.args.own.result c.args.to.place (c.in_default.ensures.report refl) c.requires.place
 
 pub feed_action-requires-clause-can : goal.feed_action-requires-clause-can
 feed_action-requires-clause-can g c =
     let s = c.requires.serve in
     let h = c.requires.clear c.requires.turn.plan in
-    gathers (job_of c.args.at.now.job.now) c.requires.turn.fits.job c.args.at.now.first c.args.at.now.count c.args.at.now.pass c.args.at.now.plan.now c.requires.turn.plan h.ready.within c.in-Some.read.kind.now c.in-Some.read.inputs.now c.in-Some.read.under c.in-Some.ensures.action h.ready.some (kinds_of c.args.lanes.now) c.args.at.now.cells.now s.0 s.1 (s.2 c.args.at.now.pass c.in-Some.read.kind.now c.in-Some.read.inputs.now c.in-Some.read.under c.in-Some.ensures.action)
+    gathers (turn_job c.args.at.now) c.requires.turn.fits.job c.args.at.now.first c.args.at.now.count c.args.at.now.pass c.args.at.now.plan.now c.requires.turn.plan h.ready.within c.in-Some.read.kind.now c.in-Some.read.inputs.now c.in-Some.read.under c.in-Some.ensures.action h.ready.some (kinds_of c.args.lanes.now) c.args.at.now.cells.now s.0 s.1 (s.2 c.args.at.now.pass c.in-Some.read.kind.now c.in-Some.read.inputs.now c.in-Some.read.under c.in-Some.ensures.action)
 
 pub feed_action-requires-clause-feedable : goal.feed_action-requires-clause-feedable
 feed_action-requires-clause-feedable g c = λ last its.
-    can_be_fed (job_of c.args.at.now.job.now) c.requires.turn.fits.job c.args.at.now.first c.args.at.now.count c.args.at.now.plan.now c.requires.turn.plan c.args.lanes.now c.args.kept.now (c.requires.clear c.requires.turn.plan) c.args.at.now.pass c.in-Some.read.kind.now c.in-Some.read.inputs.now c.in-Some.read.under c.in-Some.ensures.action last its
-
-pub returns-in_err-feed_action-clause-memory : goal.returns-in_err-feed_action-clause-memory
-returns-in_err-feed_action-clause-memory g c = λ whole none.
-    absurd (takes_none (job_of c.args.at.now.job.now) c.args.at.now.pass c.in-Some.read.kind.now c.in-Some.read.inputs.now c.in-Some.read.under c.in-Some.ensures.action none (c.in_err-feed_action.ensures.memory (whole c.args.at.now.pass c.in-Some.read.kind.now c.in-Some.read.inputs.now c.in-Some.read.under c.in-Some.ensures.action)))
+    can_be_fed (turn_job c.args.at.now) c.requires.turn.fits.job c.args.at.now.first c.args.at.now.count c.args.at.now.plan.now c.requires.turn.plan c.args.lanes.now c.args.kept.now (c.requires.clear c.requires.turn.plan) c.args.at.now.pass c.in-Some.read.kind.now c.in-Some.read.inputs.now c.in-Some.read.under c.in-Some.ensures.action last its
 
 pub overflow_add-result : goal.overflow_add-result
-overflow_add-result g c = let f = actions_few c.args.at.now.pass (passes_in (job_of c.args.at.now.job.now)) in let p = c.requires.place in let s = c.requires.few in omega (arith, f, p, s)
+overflow_add-result g c = let f = actions_few c.args.at.now.pass (passes_in (turn_job c.args.at.now)) in let p = c.requires.place in let s = c.requires.few in omega (arith, f, p, s)
 
 pub returns-clause-place : goal.returns-clause-place
-returns-clause-place g c = action_next (job_of c.args.at.now.job.now) c.args.at.now.pass c.args.to.place (read_action (job_of c.args.at.now.job.now) c.args.at.now.pass c.in-Some.read.kind.now c.in-Some.read.inputs.now c.in-Some.read.under c.in-Some.ensures.action) c.requires.place
+returns-clause-place g c = action_next (turn_job c.args.at.now) c.args.at.now.pass c.args.to.place (read_action (turn_job c.args.at.now) c.args.at.now.pass c.in-Some.read.kind.now c.in-Some.read.inputs.now c.in-Some.read.under c.in-Some.ensures.action) c.requires.place
 
 pub returns-clause-holds : goal.returns-clause-holds
-returns-clause-holds g c = λ watched s amid its at holds. one_further (job_of c.args.at.now.job.now) c.args.at.now.first c.args.at.now.count c.args.to.cluster watched s c.feed_action.new.tally c.args.to.place at (c.in_ok-feed_action.ensures.holds watched s amid its at holds)
+returns-clause-holds g c = λ watched s amid its at holds. one_further (turn_job c.args.at.now) c.args.at.now.first c.args.at.now.count c.args.to.cluster watched s c.feed_action.new.tally c.args.to.place at (c.in_ok-feed_action.ensures.holds watched s amid its at holds)
 
 pub returns-in_err-feed_action-clause-plain : goal.returns-in_err-feed_action-clause-plain
 returns-in_err-feed_action-clause-plain g c = λ loop none.
-    let j = job_of c.args.at.now.job.now in
+    let j = turn_job c.args.at.now in
     let s = c.requires.serve in
     let h = (c.requires.clear c.requires.turn.plan).ready in
     let within = h.within in

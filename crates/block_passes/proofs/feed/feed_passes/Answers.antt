@@ -1,35 +1,22 @@
 use Rattle.std.proofs.Common.{◌≡◌, None, arith, length, refl}
-use Rattle.loop_keys.specs.{job_of, passes_in}
+use Rattle.loop_keys.specs.{passes_in}
 use Rattle.loop_keys.proofs.EntryLaws.{read_pass}
-use Rattle.block_passes.specs.{at_pass}
-use Rattle.block_passes.proofs.Fed.{fed_all}
+use Rattle.block_passes.specs.{at_pass, turn_job}
+use Rattle.block_passes.proofs.Feeding.{fed_all}
 use Rattle.block_passes.proofs.feed.feed_passes.Goals as goal
 
-pub feed_pass-requires-clause-turn : goal.feed_pass-requires-clause-turn
-feed_pass-requires-clause-turn g c = rw c.go_to.ensures c.requires.turn
-
-pub feed_pass-requires-clause-serve : goal.feed_pass-requires-clause-serve
-feed_pass-requires-clause-serve g c = rw c.go_to.ensures c.requires.serve
-
-pub feed_pass-requires-clause-clear : goal.feed_pass-requires-clause-clear
-feed_pass-requires-clause-clear g c = rw c.go_to.ensures c.requires.clear
-
-pub feed_pass-requires-clause-own : goal.feed_pass-requires-clause-own
-feed_pass-requires-clause-own g c =
-    rw c.go_to.ensures
-    (read_pass (job_of c.args.at.now.job.now) c.loop_passes-passes.result.now c.loop_passes-passes.ensures.passes c.loop-pass.pass c.loop-pass-test.true (record { result = 0; variation = None }))
-
-pub feed_pass-requires-clause-few : goal.feed_pass-requires-clause-few
-feed_pass-requires-clause-few g c = rw c.go_to.ensures (omega arith)
-
-pub feed_pass-requires-clause-place : goal.feed_pass-requires-clause-place
-feed_pass-requires-clause-place g c = rw c.go_to.ensures c.loop-pass.invariant.place
-
-pub feed_pass-requires-clause-begin : goal.feed_pass-requires-clause-begin
-feed_pass-requires-clause-begin g c =
+pub feed_pass-requires : goal.feed_pass-requires
+feed_pass-requires g c =
     let b = c.requires.begin in
-    rw c.go_to.ensures
-    (b.0, at_pass b.1 c.loop-pass.place, b.2, b.3, refl, c.loop-pass.invariant.taken b.0 b.1 b.2 b.3 b.4 b.5)
+    record {
+      turn = rw c.go_to.ensures c.requires.turn;
+      serve = rw c.go_to.ensures c.requires.serve;
+      clear = rw c.go_to.ensures c.requires.clear;
+      own = rw c.go_to.ensures (read_pass (turn_job c.args.at.now) c.loop_passes-passes.result.now c.loop_passes-passes.ensures.passes c.loop-pass.pass c.loop-pass-test.true (record { result = 0; variation = None }));
+      few = rw c.go_to.ensures (omega arith);
+      place = rw c.go_to.ensures c.loop-pass.invariant.place;
+      begin = rw c.go_to.ensures (b.0, at_pass b.1 c.loop-pass.place, b.2, b.3, refl, c.loop-pass.invariant.taken b.0 b.1 b.2 b.3 b.4 b.5);
+    }
 
 pub loop-pass-preserved : goal.loop-pass-preserved
 loop-pass-preserved g c =
@@ -41,9 +28,6 @@ loop-pass-preserved g c =
           holds watched (at_pass s c.loop-pass.place) amid its refl (c.loop-pass.invariant.taken watched s amid its none before);
     }
 
-pub returns-in_err-place-clause-memory : goal.returns-in_err-place-clause-memory
-returns-in_err-place-clause-memory g c = λ loop none. absurd ((rw c.go_to.ensures at c.in_err-place.ensures.memory) loop none)
-
 pub returns-in_err-place-clause-plain : goal.returns-in_err-place-clause-plain
 returns-in_err-place-clause-plain g c = λ loop none. absurd ((rw c.go_to.ensures at c.in_err-place.ensures.plain) loop none)
 
@@ -52,5 +36,5 @@ returns-clause-holds g c =
     let f = c.loop-pass-test.false in
     let l = c.loop-pass.auto.pass-end in
     let n = c.loop_passes-passes.ensures.count in
-    let e : c.loop-pass.pass ≡ length (passes_in (job_of c.args.at.now.job.now)) = omega (arith, f, l, n) in
-    fed_all (job_of c.args.at.now.job.now) c.args.at.now.first c.args.at.now.count c.args.cluster c.args.tally.now c.loop-pass.tally c.loop-pass.place c.loop-pass.pass e c.loop-pass.invariant.place c.loop-pass.invariant.taken
+    let e : c.loop-pass.pass ≡ length (passes_in (turn_job c.args.at.now)) = omega (arith, f, l, n) in
+    fed_all (turn_job c.args.at.now) c.args.at.now.first c.args.at.now.count c.args.cluster c.args.tally.now c.loop-pass.tally c.loop-pass.place c.loop-pass.pass e c.loop-pass.invariant.place c.loop-pass.invariant.taken

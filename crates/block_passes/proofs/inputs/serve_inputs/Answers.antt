@@ -1,9 +1,8 @@
 use Rattle.std.proofs.Common.{arith, length}
 use Rattle.std.proofs.lemmas.List.Elements.{All-from_recursion}
-use Rattle.loop_keys.specs.{IsSourceIn, job_of, source_at}
-use Rattle.block_passes.specs.{CanServeInTurn}
-use Rattle.block_passes.proofs.Serving.{all_served, begin_served, hand_served, next_demanded, next_served}
-use Rattle.block_passes.proofs.Spending.{leaves_then}
+use Rattle.loop_keys.specs.{IsSourceIn, source_at}
+use Rattle.block_passes.specs.{CanServeInTurn, turn_job}
+use Rattle.block_passes.proofs.Serving.{all_served, begin_served, hand_served, next_demanded, next_served, leaves_then}
 use Rattle.block_passes.proofs.inputs.serve_inputs.Goals as goal
 
 pub loop-version-init : goal.loop-version-init
@@ -40,7 +39,7 @@ returns-in_err-serve_version-clause-leaves g c = leaves_then _ _ _ _ _ _ _ c.loo
 
 pub returns-in_err-serve_version-clause-plain : goal.returns-in_err-serve_version-clause-plain
 returns-in_err-serve_version-clause-plain g c = λ used p all.
-    absurd (c.in_err-serve_version.ensures.plain used p (All-from_recursion (λ v. IsSourceIn used (source_at (job_of c.args.at.now.job.now) c.args.under v)) c.args.inputs.now all c.loop-version.version-index 0 c.loop-version-test.true))
+    absurd (c.in_err-serve_version.ensures.plain used p (All-from_recursion (λ v. IsSourceIn used (source_at (turn_job c.args.at.now) c.args.under v)) c.args.inputs.now all c.loop-version.version-index 0 c.loop-version-test.true))
 
 pub returns-clause-served : goal.returns-clause-served
 returns-clause-served g c = (all_served c.args.at.now c.args.under c.args.inputs.now c.args.to.now.places c.args.work.now c.args.steps.now c.loop-version.version-index c.loop-version.work c.loop-version.to c.loop-version.steps c.loop-version.invariant c.loop-version-test.false).0

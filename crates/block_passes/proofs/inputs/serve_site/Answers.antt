@@ -1,20 +1,19 @@
 use Rattle.std.proofs.Common.{List, Some, arith, refl, subst, sym}
 use Rattle.std.proofs.lemmas.List.{with_items_is}
 use Rattle.block_cache.specs.{LaneView, site_fault}
-use Rattle.loop_keys.specs.{job_of}
-use Rattle.block_passes.specs.{IsServedTo, IsSettledAt}
-use Rattle.block_passes.proofs.Places.{fault_few}
+use Rattle.block_passes.specs.{IsServedTo, IsSettledAt, turn_job}
+use Rattle.block_passes.proofs.Searching.{fault_few}
 use Rattle.block_passes.proofs.Serving.{site_served}
 use Rattle.block_passes.proofs.inputs.serve_site.Goals as goal
 
 pub note-requires : goal.note-requires
 note-requires g c =
-    fault_few (site_fault (job_of c.args.at.now.job.now) c.args.at.now.first c.args.under c.args.site) c.args.to.now.places c.args.work.now.found.limit c.args.at.now.count c.args.at.now.first c.as_slice-rising.ensures.rising c.requires.inside c.requires.known.limit c.requires.known.turn.few
+    fault_few (site_fault (turn_job c.args.at.now) c.args.at.now.first c.args.under c.args.site) c.args.to.now.places c.args.work.now.found.limit c.args.at.now.count c.args.at.now.first c.as_slice-rising.ensures.rising c.requires.inside c.requires.known.limit c.requires.known.turn.few
     c.in_ok-fault.fault c.in_ok-fault.ensures.filled.fault
 
 pub returns-clause-served : goal.returns-clause-served
 returns-clause-served g c =
-    let j = job_of c.args.at.now.job.now in
+    let j = turn_job c.args.at.now in
     let auto = c.fill_led.auto.lanes in
     let len = c.deref_mut.ensures.len in
     let lanes = with_items_is c.args.work.now.lanes c.fill_led.new.lanes (omega (arith, auto, len)) in

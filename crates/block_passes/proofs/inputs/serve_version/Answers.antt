@@ -1,19 +1,19 @@
 use Rattle.std.proofs.Common.{◌∙◌, subst}
-use Rattle.loop_keys.specs.{IsSourceIn, job_of, source_at}
-use Rattle.block_passes.specs.{source_fault}
+use Rattle.loop_keys.specs.{IsSourceIn, source_at}
+use Rattle.block_passes.specs.{source_fault, turn_job}
 use Rattle.block_passes.proofs.Serving.{column_clear, none_served, source_spends}
 use Rattle.block_passes.proofs.inputs.serve_version.Goals as goal
 
 pub returns-in-Cell-clause-served : goal.returns-in-Cell-clause-served
 returns-in-Cell-clause-served g c =
-    let j = job_of c.args.at.now.job.now in
+    let j = turn_job c.args.at.now in
     let e = c.source_under.ensures ∙ c.in-Cell.is in
     none_served j c.args.at.now.first c.args.at.now.count (source_fault j c.args.at.now.first c.args.under (source_at j c.args.under c.args.version)) c.args.at.now.pass c.args.to.now c.args.work.now.lanes.items c.args.work.now.found
     c.requires.known.ready c.requires.selected.made c.requires.selected.inside c.requires.known.settled (column_clear j c.args.at.now.first c.args.under c.in-Cell.col (source_at j c.args.under c.args.version) e c.args.to.now.places)
 
 pub returns-in-Site-clause-leaves : goal.returns-in-Site-clause-leaves
 returns-in-Site-clause-leaves g c =
-    let j = job_of c.args.at.now.job.now in
+    let j = turn_job c.args.at.now in
     record {
       spends = source_spends j c.args.at.now.first c.args.at.now.count c.args.under c.in-Site.site c.args.work.now.found.limit (source_at j c.args.under c.args.version) (λ D. subst (IsSourceIn D) (c.source_under.ensures ∙ c.in-Site.is)) c.args.to.now.places c.requires.known.limit c.requires.selected.inside c.requires.demanded
           c.args.work.now.lanes.items c.serve_site.new.work.lanes.items c.args.steps.now c.serve_site.new.steps c.serve_site.ensures.spent;
@@ -26,7 +26,7 @@ returns-in-Site-clause-plain g c = λ used p source. c.serve_site.ensures.plain 
 
 pub returns-in-Element-clause-leaves : goal.returns-in-Element-clause-leaves
 returns-in-Element-clause-leaves g c =
-    let j = job_of c.args.at.now.job.now in
+    let j = turn_job c.args.at.now in
     record {
       spends = source_spends j c.args.at.now.first c.args.at.now.count c.args.under c.in-Element.site c.args.work.now.found.limit (source_at j c.args.under c.args.version) (λ D. subst (IsSourceIn D) (c.source_under.ensures ∙ c.in-Element.is)) c.args.to.now.places c.requires.known.limit c.requires.selected.inside c.requires.demanded
           c.args.work.now.lanes.items c.serve_element.new.work.lanes.items c.args.steps.now c.serve_element.new.steps c.serve_element.ensures.spent;

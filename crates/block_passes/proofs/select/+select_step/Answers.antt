@@ -1,12 +1,8 @@
 use Rattle.std.proofs.Common.{◌≡◌, ◌∙◌, ◌++◌, List, Some, ap, arith, rules, subst, sym, slice_set}
 use Rattle.std.proofs.lemmas.Result.{on_ok_weaker}
-use Rattle.loop_keys.specs.{job_of}
-use Rattle.block_passes.specs.{AreRemade, IsReadyInTurn}
-use Rattle.block_passes.specs.declared.kept.Kept.{Kept as KeptView}
-use Rattle.block_passes.specs.declared.steps.Step.{Step}
-use Rattle.block_passes.proofs.SearchedPasses.{block_selected, none_there, remade_then, there_selected}
-use Rattle.block_passes.proofs.Spending.{leaves_then}
-use Rattle.block_passes.proofs.Selecting.{filter_selected}
+use Rattle.block_passes.specs.{AreRemade, IsReadyInTurn, Kept as KeptView, Step, turn_job}
+use Rattle.block_passes.proofs.Selecting.{block_selected, none_there, remade_then, there_selected, filter_selected}
+use Rattle.block_passes.proofs.Serving.{leaves_then}
 use Rattle.block_passes.proofs.select.+select_step.Goals as goal
 
 pub returns-then-narrow-clause-selected : goal.returns-then-narrow-clause-selected
@@ -42,7 +38,7 @@ returns-in_ok-select_step-in-Filter-clause-leaves g t c = leaves_then _ _ _ _ _ 
 
 pub returns-in_ok-select_step-in-Filter-clause-selected : goal.returns-in_ok-select_step-in-Filter-clause-selected
 returns-in_ok-select_step-in-Filter-clause-selected g t c = λ p.
-    let j = job_of c.args.at.now.job.now in
+    let j = turn_job c.args.at.now in
     let filter = p.steps.each c.args.step (Step.Filter c.in-Filter.parent c.in-Filter.site c.in-Filter.under) (c.step.ensures ∙ ap Some c.in-Filter.is) in
     on_ok_weaker c.next_places.result
     (filter_selected j c.args.at.now.first c.args.at.now.count p.chains c.args.at.now.pass c.args.step c.in-Filter.parent c.in-Filter.site c.in-Filter.under filter c.select_step.new.work.lanes.items c.next_places.new.work.lanes.items

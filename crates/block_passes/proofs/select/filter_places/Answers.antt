@@ -2,15 +2,14 @@ use Rattle.std.proofs.Common.{◌∙◌, List, ℕ, ap, arith, refl, subst, sym,
 use Rattle.std.proofs.lemmas.List.{with_items_is}
 use Rattle.expr_lanes.specs.{is_in}
 use Rattle.block_cache.specs.{LaneView, site_fault}
-use Rattle.loop_keys.specs.{job_of}
-use Rattle.block_passes.specs.{IsFilteredTo, IsSettledAt}
-use Rattle.block_passes.proofs.Places.{fault_few}
+use Rattle.block_passes.specs.{IsFilteredTo, IsSettledAt, turn_job}
+use Rattle.block_passes.proofs.Searching.{fault_few}
 use Rattle.block_passes.proofs.Selecting.{filtered_to, selected}
 use Rattle.block_passes.proofs.select.filter_places.Goals as goal
 
 pub note-requires : goal.note-requires
 note-requires g c =
-    fault_few (site_fault (job_of c.args.at.now.job.now) c.args.at.now.first c.args.filter.under c.args.filter.site) c.copy_from.new.self c.args.work.now.found.limit c.args.at.now.count c.args.at.now.first c.as_slice-rising.ensures.rising (λ p i. c.requires.inside p (sym (ap (is_in p) c.copy_from.ensures) ∙ i)) c.requires.known.limit c.requires.known.turn.few
+    fault_few (site_fault (turn_job c.args.at.now) c.args.at.now.first c.args.filter.under c.args.filter.site) c.copy_from.new.self c.args.work.now.found.limit c.args.at.now.count c.args.at.now.first c.as_slice-rising.ensures.rising (λ p i. c.requires.inside p (sym (ap (is_in p) c.copy_from.ensures) ∙ i)) c.requires.known.limit c.requires.known.turn.few
     c.in_ok-fault.fault c.in_ok-fault.ensures.passed.fault
 
 pub pass_filter-requires-clause-selected : goal.pass_filter-requires-clause-selected
@@ -19,7 +18,7 @@ pass_filter-requires-clause-selected g c =
 
 pub returns-clause-filtered : goal.returns-clause-filtered
 returns-clause-filtered g c =
-    let j = job_of c.args.at.now.job.now in
+    let j = turn_job c.args.at.now in
     let auto = c.pass_filter.auto.lanes in
     let len = c.deref_mut.ensures.len in
     let lanes = with_items_is c.args.work.now.lanes c.pass_filter.new.lanes (omega (arith, auto, len)) in

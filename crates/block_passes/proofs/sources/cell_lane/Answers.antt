@@ -1,8 +1,7 @@
 use Rattle.std.proofs.Common.{◌+◌, ◌<◌, arith, length}
 use Rattle.rdf_values.specs.{ColType}
 use Rattle.loop_keys.proofs.TableLaws.{not_stored}
-use Rattle.block_passes.proofs.Lanes.{vector_given, vector_there}
-use Rattle.block_passes.proofs.Serving.{kind_got}
+use Rattle.block_passes.proofs.Serving.{vector_given, vector_there, kind_got}
 use Rattle.block_passes.proofs.sources.cell_lane.Goals as goal
 
 pub unreachable-requires : goal.unreachable-requires

@@ -1,6 +1,6 @@
 use Rattle.std.proofs.Common.{◌∙◌, length, refl, sym}
 use Rattle.std.proofs.lemmas.Option.{slice_get_read}
-use Rattle.block_passes.proofs.Lanes.{bool_held, int_held, vector_kind}
+use Rattle.block_passes.proofs.Serving.{bool_held, int_held, vector_kind}
 use Rattle.block_passes.proofs.sources.key_lane.Goals as goal
 
 pub returns-in-Int-clause-given : goal.returns-in-Int-clause-given

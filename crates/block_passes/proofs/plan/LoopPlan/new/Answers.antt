@@ -1,6 +1,6 @@
 use Rattle.std.proofs.Common.{◌++◌, ◌∙◌, ap, [], ◌∷◌}
 use Rattle.loop_keys.specs.{job_of}
-use Rattle.block_passes.specs.declared.steps.Step.{Step}
+use Rattle.block_passes.specs.{Step}
 use Rattle.block_passes.proofs.PlanSteps.{planned, root, root_steps}
 use Rattle.block_passes.proofs.plan.LoopPlan.new.Goals as goal
 

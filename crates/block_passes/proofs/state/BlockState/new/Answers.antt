@@ -1,7 +1,7 @@
 use Rattle.std.proofs.Common.{◌∙◌, ap, length, subst, sym}
 use Rattle.loop_keys.specs.{job_of}
 use Rattle.block_passes.specs.{AreDeepEnough}
-use Rattle.block_passes.proofs.BegunBlocks.{state_new}
+use Rattle.block_passes.proofs.ClusterBlocks.{state_new}
 use Rattle.block_passes.proofs.state.BlockState.new.Goals as goal
 
 pub returns : goal.returns

@@ -1,12 +1,11 @@
 use Rattle.std.proofs.Common.{arith, List, ◌-◌, ◌∙◌, ap, length, subst, sym, ℤ, refl}
 use Rattle.lemmas.proofs.{with_items, with_items_is}
 use Rattle.block_cache.specs.{kinds_of}
+use Rattle.rdf_values.specs.{Span}
 use Rattle.loop_keys.specs.{job_of}
-use Rattle.block_passes.specs.{CanServeAll, entries_from, IsPlan, IsReadyBelow, IsStateOf, StateView}
+use Rattle.block_passes.specs.{CanServeAll, IsBlockTried, IsPlan, IsReadyBelow, IsStateOf, Kept, StateView}
 use Rattle.block_passes.specs.contracts.state.BlockState.{the_view}
-use Rattle.block_passes.specs.declared.kept.Kept.{Kept}
-use Rattle.block_passes.proofs.ClusterBlocks.{as_entries, tried_as}
-use Rattle.block_passes.proofs.BegunBlocks.{state_stays}
+use Rattle.block_passes.proofs.ClusterBlocks.{as_entries, state_stays}
 use Rattle.block_passes.proofs.state.BlockState.try_block.Goals as goal
 
 pub try_begun-requires-clause-serve : goal.try_begun-requires-clause-serve
@@ -31,5 +30,4 @@ returns-clause-state g c =
 
 pub returns-clause-tried : goal.returns-clause-tried
 returns-clause-tried g c =
-    tried_as (job_of c.args.job.now) c.args.cluster (entries_from c.args.entries.lo (c.args.entries.hi - c.args.entries.lo)) c.args.entries c.args.tally.now c.try_begun.new.tally c.args.steps.now c.try_begun.new.steps c.try_begun.result
-    (as_entries c.args.entries c.requires.before.2.next.some) c.try_begun.ensures.tried
+    subst (λ (b : Span). IsBlockTried (job_of c.args.job.now) c.args.cluster b c.args.tally.now c.try_begun.new.tally c.args.steps.now c.try_begun.new.steps c.try_begun.result) (as_entries c.args.entries c.requires.before.2.next.some) c.try_begun.ensures.tried

@@ -1,7 +1,0 @@
-use Rattle.std.proofs.Common.{◌≡◌, ◌<◌, ℕ, None, get_or}
-use Rattle.loop_keys.specs.{job_of}
-use Rattle.block_passes.specs.{element_fault}
-use Rattle.block_passes.proofs.elements.first_without.Given as goal
-
-abbrev pub invariant-loop-i : goal.invariant-loop-i
-invariant-loop-i g l = (m : ℕ) → m < l.i → element_fault (job_of l.at.job.now) l.at.first l.of.under l.of.site l.of.nth l.of.tags (get_or l.selection m 0) ≡ None

@@ -1,5 +1,0 @@
-use Rattle.std.proofs.Common.{◌≡◌, ◌++◌, replicate}
-use Rattle.block_passes.proofs.kinds.push_kind.Given as goal
-
-abbrev pub invariant-loop : goal.invariant-loop
-invariant-loop l = l.kinds ≡ l.initial.kinds ++ replicate l.counter l.kind
