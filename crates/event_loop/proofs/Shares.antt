@@ -2,7 +2,7 @@
 use Rattle.std.proofs.Common.{◌≡◌, ◌<◌, List, [], ◌∷◌, ◌++◌, length, get_or, sym, ap, ◌∙◌, subst, arith, append_assoc, append-nil, flat_map, ℕ, zero, suc, map, Option, None, Some, refl, ap₂, slice_get}
 use Rattle.lemmas.proofs.{All, All-cons, All-head, All-nil, All-tail, concat, concat_is, flat_map-append, length-flat_map, length_permutation, remove, sum_by}
 use Rattle.loop_pieces.specs.{LoopPiece, HaveTrails, PartialLine, StandsFor}
-use Rattle.slot_words.specs.{ShareSeen, AreNoted, BookSeen, HasSameBody, HaveAllTrails, HavePartialsOver, HaveSameBodies, many_in, noted_sets}
+use Rattle.slot_words.specs.{ShareSeen, AreNoted, BookSeen, HaveAllTrails, HavePartialsOver, many_in, noted_sets}
 use Rattle.event_loop.specs.declared.gather.Done.{Done}
 use Rattle.event_loop.specs.{AllAreGoing, ArePieces, IsGoing, IsPieceOf, share_or_none, shares_in, AreNotedPartials, CanFill, dones_of, finished_by, HasNoted, IsBookOf, IsDone, JobFacts, orders_of}
 use Rattle.rdf_values.proofs.UnionLemmas.{sum_by-map, length-below}
@@ -95,21 +95,11 @@ module _ (b : Option BookSeen) (job : JobFacts) where
       at_either zero done q at there first rest = grind arith
       at_either (suc k) done q at there first rest = rest.each k done q at there
 
-  -- a piece stands for its clusters also without its trails
-  stands_so : (f : LoopFacts) (set : List ℕ) (p q : LoopPiece) → HasSameBody p q → StandsFor f set p → StandsFor f set q
-  stands_so f set p q same s = grind arith
-
-  rest_bodies : (p q : LoopPiece) (ps qs : List LoopPiece) → HaveSameBodies (p ∷ ps) (q ∷ qs) → HaveSameBodies ps qs
-  rest_bodies p q ps qs h = record { many = (let m = h.many in omega arith); each = λ k x y a c. h.each (suc k) x y a c }
-
-  pub stand : (ds : List Done) (ps qs : List LoopPiece) → All (IsDone b job) ds → ArePieces ds ps → HaveSameBodies ps qs → Stand (StandsFor job.facts) (map finished_by ds) qs
-  stand [] [] [] h pieces same = tt
-  stand [] [] (q ∷ qs) h pieces same = (let m = same.many in absurd (omega arith))
-  stand [] (p ∷ ps) qs h pieces same = elim pieces [ ]
-  stand (d ∷ ds) [] qs h pieces same = elim pieces [ ]
-  stand (d ∷ ds) (p ∷ ps) [] h pieces same = (let m = same.many in absurd (omega arith))
-  stand (d ∷ ds) (p ∷ ps) (q ∷ qs) h pieces same =
-      (stands_so job.facts d.state.done p q (same.each 0 p q refl refl) (first_piece d ds p h pieces.0).0, stand ds ps qs (All-tail (IsDone b job) d ds h) pieces.1 (rest_bodies p q ps qs same))
+  pub stand : (ds : List Done) (ps : List LoopPiece) → All (IsDone b job) ds → ArePieces ds ps → Stand (StandsFor job.facts) (map finished_by ds) ps
+  stand [] [] h pieces = tt
+  stand [] (p ∷ ps) h pieces = elim pieces [ ]
+  stand (d ∷ ds) [] h pieces = elim pieces [ ]
+  stand (d ∷ ds) (p ∷ ps) h pieces = ((first_piece d ds p h pieces.0).0, stand ds ps (All-tail (IsDone b job) d ds h) pieces.1)
 
   pub as_many_pieces : (ds : List Done) (ps : List LoopPiece) → ArePieces ds ps → length ps ≡ length ds
   as_many_pieces [] [] pieces = refl

@@ -1,6 +1,5 @@
 // What a loop without a fault is filled with.
 ghost use Rattle.std.specs.Prelude.{◌≡◌, ◌<◌, ◌≤◌, ◌++◌, List, Option, IfOk, OnOk, flat_map};
-ghost use Rattle.slot_words.specs.{HaveSameBodies};
 ghost use Rattle.event_loop.specs.Jobs.{JobFacts};
 ghost use Rattle.event_loop.specs.Ends.{AreNotedPartials};
 ghost use Rattle.event_loop.specs.Filling.{AllAreGoing, AreFilled, ArePieces, CanFill, dones_of, orders_of, share_or_none, shares_in};
@@ -51,18 +50,17 @@ fn pieces_of(alloc: Global, slots: Vec<Done>) -> Result<(Vec<LoopPiece>, ShareLi
     Ok((pieces, shares))
 }
 
-// The partial results of the watched results, whose trails are taken out of the pieces.
+// The partial results of the watched results, whose trails stand in the pieces.
 fn lines_in(
     alloc: Global,
     book: Option<Book>,
     shares: ShareList,
-    pieces: &mut [LoopPiece],
+    pieces: &[LoopPiece],
     noting: Noting,
 ) -> Result<ListOf<ListOf<PartialLine>>, Memory>
-    requires done { (job : JobFacts) × (slots : List Done) × CanFill book noting.watched noting.clusters job slots × ArePieces slots pieces.old × (shares ≡ flat_map shares_in slots) }
-    ensures partials { (job : JobFacts) (slots : List Done) → CanFill book noting.watched noting.clusters job slots → ArePieces slots pieces.old → shares ≡ flat_map shares_in slots
+    requires done { (job : JobFacts) × (slots : List Done) × CanFill book noting.watched noting.clusters job slots × ArePieces slots pieces.now × (shares ≡ flat_map shares_in slots) }
+    ensures { (job : JobFacts) (slots : List Done) → CanFill book noting.watched noting.clusters job slots → ArePieces slots pieces.now → shares ≡ flat_map shares_in slots
         → IfOk result (AreNotedPartials job noting.watch (orders_of slots) (dones_of slots)) }
-    ensures bodies { OnOk result (HaveSameBodies pieces.old pieces.new) }
 {
     let Some(book) = book else {
         return Ok(ListOf::new(alloc));
@@ -86,8 +84,8 @@ pub fn filled(
     requires done { (job : JobFacts) × CanFill book noting.watched noting.clusters job slots.items }
     ensures { (job : JobFacts) → CanFill book noting.watched noting.clusters job slots.items → IfOk result (AreFilled job noting.watch slots.items) }
 {
-    let (mut pieces, shares) = pieces_of(alloc, slots)?;
-    let partials = lines_in(alloc, book, shares, pieces.as_mut_slice(), noting)?;
+    let (pieces, shares) = pieces_of(alloc, slots)?;
+    let partials = lines_in(alloc, book, shares, pieces.as_slice(), noting)?;
     let piece = merge_all(ListOf::from_vec(pieces))?;
     Ok(FilledLoop { piece, partials })
 }

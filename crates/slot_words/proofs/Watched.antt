@@ -1,63 +1,41 @@
--- The watched results whose trails are taken out of the pieces, one result after another.
-use Rattle.std.proofs.Common.{◌≡◌, ℕ, ◌+◌, ◌<◌, ◌≤◌, List, [], ◌∷◌, ◌++◌, length, get_or, Some, sym, ap, ◌∙◌, subst, ⊎_elim, arith, length-append, slice_get}
-use Rattle.lemmas.proofs.{All, before_or_last, same_some, set_length, slice_get-get_or, slice_get_within, something_at}
+-- The watched results, one after another: their trails in the pieces, and their lines.
+use Rattle.std.proofs.Common.{◌≡◌, ℕ, ◌+◌, ◌<◌, List, [], ◌∷◌, ◌++◌, length, get_or, Some, sym, ap, ◌∙◌, subst, ⊎_elim, arith, length-append, option_map, slice_get}
+use Rattle.lemmas.proofs.{All, before_or_last, get_or_default, length-map, same_some, slice_get-get_or, slice_get-map, slice_get_within, something_at}
 use Rattle.rdf_values.specs.{stride}
 use Rattle.rdf_model.specs.{IsChain}
 use Rattle.rdf_model.specs.declared.loop_facts.LoopFacts.{LoopFacts}
 use Rattle.merge_core.specs.{Noted}
 use Rattle.loop_pieces.specs.{ArePartialLines, LoopPiece, PartialLine, WatchPiece}
-use Rattle.slot_words.specs.{AreLeft, AreNoted, AreTaken, AreTrails, chain_of, HaveAllTrails, HavePartialsOver, HaveSameBodies, noted_sets}
+use Rattle.slot_words.specs.{AreNoted, AreTrails, chain_of, HaveAllTrails, HaveNumbers, HavePartialsOver, noted_sets, trails_at}
 use Rattle.slot_words.proofs.Noting.{is_chain}
-use Rattle.slot_words.proofs.Joining.{set_other}
+use Rattle.slot_words.proofs.Stretches.{as_many}
 
--- the trails of the results from place w on are as they were
-pub record AreAhead (w : ℕ) (old new : List LoopPiece) : Type 0 where
-  pub bodies : HaveSameBodies old new
-  pub trails : (k : ℕ) (p q : LoopPiece) → slice_get old k ≡ Some p → slice_get new k ≡ Some q
-      → (length q.trails.items ≡ length p.trails.items) × ((i : ℕ) → w ≤ i → slice_get q.trails.items i ≡ slice_get p.trails.items i)
-
-pub next_ahead : (w : ℕ) (old mid new : List LoopPiece) → AreAhead w old mid → AreLeft w mid new → AreAhead (w + 1) old new
-next_ahead w old mid new h left = record {
-  bodies = record {
-    many = left.bodies.many ∙ h.bodies.many;
-    each = λ k p r a b.
-        (let q = something_at mid k (omega (arith, slice_get_within old k p a, h.bodies.many)) in
-        let x = h.bodies.each k p q.0 a q.1 in
-        let y = left.bodies.each k q.0 r q.1 b in
-        record { accs = y.accs ∙ x.accs; flow = y.flow ∙ x.flow });
-  };
-  trails = λ k p r a b.
-      (let q = something_at mid k (omega (arith, slice_get_within old k p a, h.bodies.many)) in
-      let x = h.trails k p q.0 a q.1 in
-      let y = left.trails k q.0 r q.1 b in
-      (ap length y ∙ set_length q.0.trails.items w [] ∙ x.0, λ i le. ap (λ l. slice_get l i) y ∙ set_other q.0.trails.items w i [] (λ e. omega arith) ∙ x.1 i (omega arith)));
-}
-
-module _ (facts : LoopFacts) (places : List ℕ) (dones : List (List ℕ)) where
+module _ (facts : LoopFacts) (places : List ℕ) (dones : List (List ℕ)) (pieces : List LoopPiece) (have : HaveAllTrails facts places dones pieces) where
   -- each piece has a trail at each watched place
-  pub trails_there : (w : ℕ) (old mid : List LoopPiece) → HaveAllTrails facts places dones old → AreAhead w old mid → w < length places → All (λ (q : LoopPiece). w < length q.trails.items) mid
-  trails_there w old mid have h lt = λ k d inside.
-      let l : k < length old = omega (arith, h.bodies.many) in
-      let m : k < length dones = omega (arith, have.many) in
-      let at = slice_get-get_or mid k d inside in
-      let was = slice_get-get_or old k d l in
-      let many = (have.each k (get_or dones k []) (get_or old k d) (slice_get-get_or dones k [] m) was).many in
-      let same = (h.trails k (get_or old k d) (get_or mid k d) was at).0 in
-      omega (arith, many, same)
+  pub trails_there : (w : ℕ) → w < length places → All (λ (p : LoopPiece). w < length p.trails.items) pieces
+  trails_there w lt = λ k d inside.
+      let many = (have.each k (get_or dones k []) (get_or pieces k d) (slice_get-get_or dones k [] (omega (arith, have.many))) (slice_get-get_or pieces k d inside)).many in
+      omega (arith, many)
 
   -- the trails at a watched place
-  pub taken_are : (w place : ℕ) (old mid : List LoopPiece) (trails : List (List (Noted WatchPiece)))
-      → HaveAllTrails facts places dones old → AreAhead w old mid → AreTaken w mid trails → slice_get places w ≡ Some place → AreTrails facts place dones trails
-  taken_are w place old mid trails have h taken at = record {
-    many = taken.many ∙ h.bodies.many ∙ have.many;
+  pub trails_are : (w place : ℕ) → slice_get places w ≡ Some place → AreTrails facts place dones (trails_at w pieces)
+  trails_are w place at = record {
+    many = length-map pieces (λ (p : LoopPiece). get_or p.trails.items w []) ∙ have.many;
     each = λ k done t a b.
-        (let inside : k < length dones = slice_get_within dones k done a in
-        let first = something_at old k (omega (arith, have.many)) in
-        let q = something_at mid k (omega (arith, have.many, h.bodies.many)) in
-        let there = taken.each k q.0 t q.1 b in
-        let same = (h.trails k first.0 q.0 first.1 q.1).1 w (omega arith) in
-        (have.each k done first.0 a first.1).each w place t at (sym same ∙ there));
+        (let p = something_at pieces k (omega (arith, slice_get_within dones k done a, have.many)) in
+        let its = have.each k done p.0 a p.1 in
+        let there = slice_get-get_or p.0.trails.items w [] (omega (arith, its.many, slice_get_within places w place at)) in
+        let same = sym (slice_get-map (λ (q : LoopPiece). get_or q.trails.items w []) pieces k ∙ ap (option_map (λ (q : LoopPiece). get_or q.trails.items w [])) p.1) ∙ b in
+        its.each w place t at (there ∙ same));
   }
+
+-- the trail of that number of a piece
+pub trail_there : (w i : ℕ) (os : List (List ℕ)) (pieces : List LoopPiece) (p : LoopPiece) (t trail : List (Noted WatchPiece)) → HaveNumbers os (trails_at w pieces) → All (λ (q : LoopPiece). w < length q.trails.items) pieces → i < length os
+    → t ≡ get_or (get_or pieces i p).trails.items w t → trail ≡ t → slice_get (trails_at w pieces) i ≡ Some trail
+trail_there w i os pieces p t trail have there lt is same =
+    let its_trail : LoopPiece → List (Noted WatchPiece) = λ (q : LoopPiece). get_or q.trails.items w [] in
+    let within : i < length pieces = omega (arith, as_many os (trails_at w pieces) have, length-map pieces its_trail, lt) in
+    slice_get-map its_trail pieces i ∙ ap (option_map its_trail) (slice_get-get_or pieces i p within) ∙ ap Some (get_or_default (get_or pieces i p).trails.items w [] t (there i p within) ∙ sym is ∙ sym same)
 
 -- the lines of the results before place w
 pub record AreLinesUpTo (facts : LoopFacts) (places : List ℕ) (sets : List (List ℕ)) (w : ℕ) (all : List (List PartialLine)) : Type 0 where

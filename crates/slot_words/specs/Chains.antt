@@ -1,5 +1,5 @@
 -- The sets of clusters over which partial results come, and runs of rising numbers.
-use Rattle.std.specs.Prelude.{◌≡◌, ◌+◌, ◌*◌, ◌/◌, ◌<◌, ◌≤◌, ℕ, List, [], ◌∷◌, if◌then◌else◌, length, map, nat_eq, nat_lt}
+use Rattle.std.specs.Prelude.{◌≡◌, ◌+◌, ◌*◌, ◌/◌, ◌≤◌, ℕ, List, [], ◌∷◌, if◌then◌else◌, length, map, nat_eq, nat_lt}
 use Rattle.std.specs.List.{filter}
 use Rattle.rdf_values.specs.{below, DrawnBy, IsUnion, stride, times}
 use Rattle.rdf_model.specs.{Run}

@@ -14,4 +14,4 @@ pub use Hands.{first_alone, hands_in, others}
 pub use Noting.{AreNotings, IsNoted, Noted}
 pub use Seats.{ClaimsSeen, empty_hand, fresh_seat, fresh_seats, hand_of, IsLeast, IsPassed, IsReady, kept_count, last_of, look, lower, MetBar, RanOut, seat_seen, SeatSeen}
 pub use Shares.{BookSeen, fresh_share, fresh_shares, hand_with, many_in, ShareSeen}
-pub use Trails.{AreLeft, AreTaken, AreTrails, HasSameBody, HaveAllTrails, HaveSameBodies, WatchedPlace}
+pub use Trails.{AreTrails, HaveAllTrails, trails_at, WatchedPlace}

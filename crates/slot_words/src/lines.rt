@@ -1,15 +1,15 @@
 // The partial results of watched results.
-ghost use Rattle.std.specs.Prelude.{◌≡◌, ◌+◌, ◌*◌, ◌<◌, ◌≤◌, ℕ, All, List, IfOk, OnOk, length};
+ghost use Rattle.std.specs.Prelude.{◌≡◌, ◌+◌, ◌*◌, ◌<◌, ◌≤◌, ℕ, All, List, IfOk, length};
 ghost use Rattle.rdf_values.specs.{stride};
 ghost use Rattle.rdf_model.specs.declared.loop_facts.LoopFacts.{LoopFacts};
 ghost use Rattle.loop_pieces.specs.{ArePartialLines, IsPartialLine};
-ghost use Rattle.slot_words.specs.{AreLeft, AreLinesSoFar, AreNoted, AreTaken, chain_of, HaveAllTrails, HavePartialsOver, HaveSameBodies, noted_sets, set_before, WatchedPlace};
+ghost use Rattle.slot_words.specs.{AreLinesSoFar, AreNoted, chain_of, HaveAllTrails, HavePartialsOver, noted_sets, set_before, trails_at, WatchedPlace};
 
 use crate::between::partial_between;
 use crate::book::Orders;
 use crate::runs::runs_with;
-use loop_pieces::{LoopPiece, PartialLine, WatchPiece};
-use merge_core::{Piece, TrailList};
+use loop_pieces::{LoopPiece, PartialLine};
+use merge_core::Piece;
 use rdf_values::{ListOf, Memory};
 use std::alloc::Global;
 
@@ -24,18 +24,21 @@ fn stride(clusters: u32, k: u32) -> u32
 fn next_line(
     alloc: Global,
     orders: &Orders,
-    trails: &TrailList<WatchPiece>,
+    pieces: &[LoopPiece],
+    watched: u32,
     lines: &[PartialLine],
     step: u32,
 ) -> Result<PartialLine, Memory>
     requires step { 0 < step }
-    requires noted { (clusters : ℕ) × (w : WatchedPlace orders.now.slots clusters trails.now) × AreLinesSoFar orders.now.slots clusters w.facts w.place w.dones step lines.now }
-    ensures { (clusters : ℕ) (w : WatchedPlace orders.now.slots clusters trails.now) → AreLinesSoFar orders.now.slots clusters w.facts w.place w.dones step lines.now
+    requires there { All (λ p. watched < length p.trails.items) pieces.now }
+    requires noted { (clusters : ℕ) × (w : WatchedPlace orders.now.slots clusters (trails_at watched pieces.now)) × AreLinesSoFar orders.now.slots clusters w.facts w.place w.dones step lines.now }
+    ensures { (clusters : ℕ) (w : WatchedPlace orders.now.slots clusters (trails_at watched pieces.now)) → AreLinesSoFar orders.now.slots clusters w.facts w.place w.dones step lines.now
         → IfOk result (IsPartialLine w.facts w.place (set_before orders.now.slots w.dones clusters ((length lines.now + 1) * step))) }
 {
     let count = lines.len();
     let low = count as u32 * step;
-    let more = partial_between(alloc, orders, low as u64, (low + step) as u64, trails)?;
+    let below = low + step;
+    let more = partial_between(alloc, orders, low as u64, below as u64, pieces, watched)?;
     if count == 0 {
         let runs = runs_with(alloc, &[], more.clusters.as_slice())?;
         let value = more.piece;
@@ -52,62 +55,45 @@ fn next_line(
 fn lines_of(
     alloc: Global,
     orders: &Orders,
-    trails: &TrailList<WatchPiece>,
+    pieces: &[LoopPiece],
+    watched: u32,
     clusters: u32,
     step: u32,
 ) -> Result<ListOf<PartialLine>, Memory>
     requires few { clusters ≤ 1000000 }
     requires step { 0 < step }
-    requires noted { WatchedPlace orders.now.slots clusters trails.now }
-    ensures { (w : WatchedPlace orders.now.slots clusters trails.now) → IfOk result (ArePartialLines w.facts w.place (chain_of orders.now.slots w.dones clusters step)) }
+    requires there { All (λ p. watched < length p.trails.items) pieces.now }
+    requires noted { WatchedPlace orders.now.slots clusters (trails_at watched pieces.now) }
+    ensures { (w : WatchedPlace orders.now.slots clusters (trails_at watched pieces.now)) → IfOk result (ArePartialLines w.facts w.place (chain_of orders.now.slots w.dones clusters step)) }
 {
     let mut lines = ListOf::new(alloc);
     for _ in 0..clusters / step {
-        let line = next_line(alloc, orders, trails, lines.as_slice(), step)?;
+        let line = next_line(alloc, orders, pieces, watched, lines.as_slice(), step)?;
         lines.push(line)?;
     }
     Ok(lines)
 }
 
-// Takes the trail of a watched result out of each piece.
-fn taken_trails(
-    alloc: Global,
-    pieces: &mut [LoopPiece],
-    watched: u32,
-) -> Result<TrailList<WatchPiece>, Memory>
-    requires { All (λ p. watched < length p.trails.items) pieces.old }
-    ensures taken { IfOk result (λ trails. AreTaken watched pieces.old trails) }
-    ensures left { OnOk result (AreLeft watched pieces.old pieces.new) }
-{
-    let mut trails = ListOf::new(alloc);
-    for i in 0..pieces.len() {
-        trails.push(pieces[i].take_trail(alloc, watched))?;
-    }
-    Ok(trails)
-}
-
-/// The partial results of each watched result, whose trails are taken out of the pieces of the slots.
+/// The partial results of each watched result, whose trails stand in the pieces of the slots.
 /// They are over the chain of sets that the slots' orders tell.
 pub fn partial_lines(
     alloc: Global,
     orders: &Orders,
-    pieces: &mut [LoopPiece],
+    pieces: &[LoopPiece],
     watched: u32,
     clusters: u32,
     watch: u32,
 ) -> Result<ListOf<ListOf<PartialLine>>, Memory>
     requires few { clusters ≤ 1000000 }
     requires watch { 0 < watch }
-    requires noted { (facts : LoopFacts) × (places : List ℕ) × (dones : List (List ℕ)) × AreNoted orders.now.slots dones clusters × HaveAllTrails facts places dones pieces.old × (length places ≡ watched) }
-    ensures partials { (facts : LoopFacts) (places : List ℕ) (dones : List (List ℕ)) → AreNoted orders.now.slots dones clusters → HaveAllTrails facts places dones pieces.old → length places ≡ watched → length facts.ranges ≡ clusters
+    requires noted { (facts : LoopFacts) × (places : List ℕ) × (dones : List (List ℕ)) × AreNoted orders.now.slots dones clusters × HaveAllTrails facts places dones pieces.now × (length places ≡ watched) }
+    ensures { (facts : LoopFacts) (places : List ℕ) (dones : List (List ℕ)) → AreNoted orders.now.slots dones clusters → HaveAllTrails facts places dones pieces.now → length places ≡ watched → length facts.ranges ≡ clusters
         → IfOk result (HavePartialsOver facts places watch (noted_sets orders.now.slots dones clusters watch)) }
-    ensures bodies { OnOk result (HaveSameBodies pieces.old pieces.new) }
 {
     let step = stride(clusters, watch);
     let mut all = ListOf::new(alloc);
     for w in 0..watched {
-        let trails = taken_trails(alloc, pieces, w)?;
-        all.push(lines_of(alloc, orders, &trails, clusters, step)?)?;
+        all.push(lines_of(alloc, orders, pieces, w, clusters, step)?)?;
     }
     Ok(all)
 }

@@ -29,17 +29,17 @@ partial_lines-requires-clause-noted c =
       d.2.watches,
     )
 
-pub returns-clause-partials : goal.returns-clause-partials
-returns-clause-partials c = λ job slots can pieces shares.
+pub returns : goal.returns
+returns c = λ job slots can pieces shares.
     let w = with_book c.args.book c.in-Some.book c.args.noting.watched c.args.noting.clusters job slots c.args.shares c.in-Some.is can shares in
     let os = c.in_ok-orders.orders.slots in
     let dones = map finished_by slots in
     let noted = w.noted os c.in_ok-orders.ensures.orders c.in_ok-orders.ensures.drawn in
-    let lines = c.partial_lines.ensures.partials job.facts job.watched dones noted (have_all c.args.book job slots c.args.pieces.now can.done.each pieces) can.watches can.facts.ranges in
+    let lines = c.partial_lines.ensures job.facts job.watched dones noted (have_all c.args.book job slots c.args.pieces.now can.done.each pieces) can.watches can.facts.ranges in
     IfOk-weaker c.partial_lines.result (HavePartialsOver job.facts job.watched c.args.noting.watch (noted_sets os dones c.args.noting.clusters c.args.noting.watch)) (AreNotedPartials job c.args.noting.watch (orders_of slots) (dones_of slots))
     (λ partials h. noted_partials job c.args.noting.watch c.args.noting.clusters os slots c.args.shares partials can.facts.ranges shares c.in_ok-orders.ensures.orders noted h) lines
 
-pub returns-in_default-clause-partials : goal.returns-in_default-clause-partials
-returns-in_default-clause-partials c = λ job slots can pieces shares.
+pub returns-in_default : goal.returns-in_default
+returns-in_default c = λ job slots can pieces shares.
     subst (AreNotedPartials job c.args.noting.watch (orders_of slots) (dones_of slots)) (sym c.new.ensures)
     (none_watched job c.args.noting.watch (orders_of slots) (dones_of slots) (unbooked c.args.book c.args.noting.watched c.args.noting.clusters job slots c.in_default.is can))

@@ -4,6 +4,7 @@ use Rattle.rdf_values.specs.{IsUnion}
 use Rattle.rdf_values.proofs.UnionLemmas.{both_rise, by_counts, none_rises, two}
 use Rattle.rdf_model.specs.{maximal_runs}
 use Rattle.loop_pieces.specs.{IsPartialLine, span_of, watch_facts}
+use Rattle.slot_words.specs.{trails_at}
 use Rattle.slot_words.proofs.Noting.{alone_added, added_once, added_some, few_added, first_set, have_numbers, line_before, set_at, set_grown, StandsAt}
 use Rattle.slot_words.proofs.lines.next_line.Goals as goal
 
@@ -11,12 +12,13 @@ pub partial_between-requires : goal.partial_between-requires
 partial_between-requires c =
     let n = c.requires.noted in
     let os = c.args.orders.now.slots in
-    let ts = c.args.trails.now in
+    let ts = trails_at c.args.watched c.args.pieces.now in
     let w = n.1 in
     let low = length c.args.lines.now * c.args.step in
     let below = low + c.args.step in
     let within : below ≤ n.0 = omega (arith, n.2.within) in
     record {
+      there = c.requires.there;
       numbers = have_numbers os n.0 ts w;
       rise = w.noted.drawn.rising;
       bounds = omega arith;
@@ -29,12 +31,12 @@ runs_with-requires c =
     let n = c.requires.noted in
     let low = length c.args.lines.now * c.args.step in
     subst (All (λ (x : ℕ). x < 4294967295)) (sym c.as_slice.ensures)
-    (few_added c.args.orders.now.slots n.0 c.args.trails.now n.1 low (low + c.args.step) (omega arith) (omega (arith, n.2.within)) c.in_ok-more.more.clusters c.in_ok-more.ensures.named n.2.few)
+    (few_added c.args.orders.now.slots n.0 (trails_at c.args.watched c.args.pieces.now) n.1 low (low + c.args.step) (omega arith) (omega (arith, n.2.within)) c.in_ok-more.more.clusters c.in_ok-more.ensures.named n.2.few)
 
 pub returns-then-count-eq0 : goal.returns-then-count-eq0
 returns-then-count-eq0 c = λ clusters w so_far.
     let os = c.args.orders.now.slots in
-    let ts = c.args.trails.now in
+    let ts = trails_at c.args.watched c.args.pieces.now in
     let low = length c.args.lines.now * c.args.step in
     let below = low + c.args.step in
     let cs = c.as_slice.result.now in
@@ -52,7 +54,7 @@ pub join-requires : goal.join-requires
 join-requires c =
     let n = c.requires.noted in
     let os = c.args.orders.now.slots in
-    let ts = c.args.trails.now in
+    let ts = trails_at c.args.watched c.args.pieces.now in
     let w = n.1 in
     let low = length c.args.lines.now * c.args.step in
     let below = low + c.args.step in
@@ -73,12 +75,12 @@ runs_with-requires-2 c =
     let n = c.requires.noted in
     let low = length c.args.lines.now * c.args.step in
     subst (All (λ (x : ℕ). x < 4294967295)) (sym c.as_slice-3.ensures)
-    (few_added c.args.orders.now.slots n.0 c.args.trails.now n.1 low (low + c.args.step) (omega arith) (omega (arith, n.2.within)) c.in_ok-more.more.clusters c.in_ok-more.ensures.named n.2.few)
+    (few_added c.args.orders.now.slots n.0 (trails_at c.args.watched c.args.pieces.now) n.1 low (low + c.args.step) (omega arith) (omega (arith, n.2.within)) c.in_ok-more.more.clusters c.in_ok-more.ensures.named n.2.few)
 
 pub returns : goal.returns
 returns c = λ clusters w so_far.
     let os = c.args.orders.now.slots in
-    let ts = c.args.trails.now in
+    let ts = trails_at c.args.watched c.args.pieces.now in
     let low = length c.args.lines.now * c.args.step in
     let below = low + c.args.step in
     let before = line_before os clusters ts w c.args.step c.args.lines.now c.index-lines-count.result so_far c.if-count-eq0.false c.index-lines-count.is in

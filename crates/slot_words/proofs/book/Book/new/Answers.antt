@@ -1,5 +1,5 @@
-use Rattle.std.proofs.Common.{◌+◌, ◌-◌, [], refl, ap, ◌∙◌, arith}
-use Rattle.slot_words.specs.{AreNotings, BookSeen, fresh_shares}
+use Rattle.std.proofs.Common.{◌+◌, ◌-◌, [], ap, ◌∙◌, arith}
+use Rattle.slot_words.specs.{AreNotings}
 use Rattle.slot_words.proofs.Notes.{again, opens}
 use Rattle.slot_words.proofs.Hands.{deals, many_left, next_dealt, one_dealt}
 use Rattle.slot_words.proofs.book.Book.new.Goals as goal
