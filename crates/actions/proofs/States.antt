@@ -1,5 +1,5 @@
 -- What an accumulator holds after one more entry.
-use Rattle.std.proofs.Common.{ℕ, ◌≡◌, ◌≤◌, ◌+◌, map, length, All, List, [], ◌∷◌, ◌++◌, ℤ, pos, ◌+ℤ◌, refl, ap, sym, ◌∙◌, length-append, lit≤, flat_map, Option, None, Result, Ok, Err, OnErr, OnOk, fold}
+use Rattle.std.proofs.Common.{arith, ℕ, ◌≡◌, ◌≤◌, ◌+◌, map, length, All, List, [], ◌∷◌, ◌++◌, ℤ, pos, ◌+ℤ◌, refl, ap, sym, ◌∙◌, length-append, lit≤, flat_map, Option, None, Result, Ok, Err, OnErr, OnOk, fold}
 use Rattle.lemmas.proofs.{int_max, int_min, map-append}
 use Rattle.rdf_values.specs.{ActionKind, Extreme, extreme, Flat, Item, numbers_of, points, points2, reduce_start, reduce_step, Reduced, ReduceOp, Scalar, scalar_of, spread, Square, Taken, Value, weights}
 use Rattle.rdf_values.specs.declared.results.item.Item.TheVariants.{Number, Single}
@@ -21,24 +21,19 @@ use Rattle.actions.proofs.Folds.{extreme_fold, fold_numbers, taken_singles, by_c
 
 -- the items of one column
 pub spread_sum : (c : List ℕ) (vs : List Value) → spread (ActionKind.Sum c) vs ≡ map Number (first_numbers vs)
-spread_sum c [] = refl
-spread_sum c (v ∷ vs) = refl
+spread_sum c vs = grind arith
 
 pub spread_min : (c : List ℕ) (vs : List Value) → spread (ActionKind.Min c) vs ≡ map Number (first_numbers vs)
-spread_min c [] = refl
-spread_min c (v ∷ vs) = refl
+spread_min c vs = grind arith
 
 pub spread_max : (c : List ℕ) (vs : List Value) → spread (ActionKind.Max c) vs ≡ map Number (first_numbers vs)
-spread_max c [] = refl
-spread_max c (v ∷ vs) = refl
+spread_max c vs = grind arith
 
 pub spread_reduce : (o : ReduceOp) (c : List ℕ) (vs : List Value) → spread (ActionKind.Reduce o c) vs ≡ map Number (first_numbers vs)
-spread_reduce o c [] = refl
-spread_reduce o c (v ∷ vs) = refl
+spread_reduce o c vs = grind arith
 
 pub spread_take : (c : List ℕ) (vs : List Value) → spread (ActionKind.Take c) vs ≡ map Single (first_scalar vs)
-spread_take c [] = refl
-spread_take c (v ∷ vs) = refl
+spread_take c vs = grind arith
 
 values_fed : (xs : List Scalar) (cluster : ℕ) → map fed_value (values_from cluster xs) ≡ from_cluster cluster (map Single xs)
 values_fed [] cluster = refl
@@ -114,15 +109,11 @@ first_short c items h = absurd h
 -- the points of an entry
 pub spread_flat : (edges : List ℤ) (x : List ℕ) (o : Option (List ℕ)) (items : Items) → Suits (ActionKind.Histo1D edges x o) items
     → spread (ActionKind.Histo1D edges x o) (values_of items) ≡ points (first_numbers (values_of items)) (weights (length (first_numbers (values_of items))) (part_values (weight_part items)))
-spread_flat edges x o (One p) h = refl
-spread_flat edges x o (Weighted p w) h = refl
-spread_flat edges x o items h = absurd h
+spread_flat edges x o items h = grind arith
 
 pub spread_square : (xs ys : List ℤ) (x y : List ℕ) (o : Option (List ℕ)) (items : Items) → Suits (ActionKind.Histo2D xs ys x y o) items
     → spread (ActionKind.Histo2D xs ys x y o) (values_of items) ≡ points2 (first_numbers (values_of items)) (second_part items) (weights (length (first_numbers (values_of items))) (part_values (weight_part items)))
-spread_square xs ys x y o (Pair p q) h = refl
-spread_square xs ys x y o (WeightedPair p q w) h = refl
-spread_square xs ys x y o items h = absurd h
+spread_square xs ys x y o items h = grind arith
 
 -- what follows however a call ends
 pub either_way : {T E : Type 0} (r : Result T E) (P Q R : Type 0) → OnOk r P → OnErr r Q → (P → R) → (Q → R) → R

@@ -34,8 +34,7 @@ AreShaped names fs ss = ⊥
 
 -- two choices by one test
 chosen : (b : Bool) (names : FunctionNames) (f g : Callee) (s t : Result Shape GraphCause) → callee_shape names f ≡ s → callee_shape names g ≡ t → callee_shape names (cond b f g) ≡ cond b s t
-chosen true names f g s t p q = p
-chosen false names f g s t p q = q
+chosen b names f g s t p q = grind arith
 
 callee_shape-callee_in : (fs : List (List ℕ × Callee)) (ss : List (List ℕ × Shape)) (names : FunctionNames) (name : List ℕ) (other : Callee) (s : Result Shape GraphCause) → AreShaped names fs ss → callee_shape names other ≡ s → callee_shape names (callee_in fs name other) ≡ shape_in ss name s
 callee_shape-callee_in [] [] names name other s are is = is

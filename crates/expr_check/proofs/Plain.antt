@@ -1,43 +1,20 @@
 -- A well typed expression is plain where none of its columns is a vector, and then no part of it is one.
 use Rattle.std.proofs.Common.{◌≡◌, ℕ, Bool, true, false, List, [], ◌∷◌, ◌++◌, length, Option, Some, None, Result, Ok, refl, ap, sym, ◌∙◌, subst, cond, arith, nat_eq, not, ◌&&◌, slice_get, replicate, ◌↔◌}
 use Rattle.lemmas.proofs.{AllByRecursion, and_holds, and_left, and_right, Decides-eqb, false_from_ne_true, firsts-zip, left_false, list_any, not_true, right_false, zip, All-from_recursion, recursion_from_All}
-use Rattle.rdf_values.specs.{args_count, arithmetic_kind, Bin, BinOp, Call, Callee, chosen_kind, Col, ColType, columns_in, columns_in_all, Cond, End, equality_kind, FnName, FunctionNames, GraphCause, inverted_kind, kinds_by, Lit, logical_kind, More, Neg, negated_kind, Not, NumTree, operator_kind, Pick, picked_kind, same_kind, same_kinds, Shape, shape, Trees}
+use Rattle.rdf_values.specs.{args_count, Bin, BinOp, Call, Callee, chosen_kind, Col, ColType, columns_in, columns_in_all, Cond, End, FnName, FunctionNames, GraphCause, inverted_kind, kinds_by, Lit, More, Neg, negated_kind, Not, NumTree, operator_kind, Pick, picked_kind, same_kind, same_kinds, Shape, shape, Trees}
 use Rattle.rdf_values.specs.expressions.Expressions.{Truth}
 use Rattle.expr_check.specs.{all_are_plain, callee_shape, checked_expr, distinct, given_shape, gives_vector, is_plain, is_vector, IsWellTyped, num_kind, number_kind, takes_no_vector, HasNoVector, parts, parts_of_all}
 use Rattle.expr_check.proofs.Distinct.{each_left, each_right, each_append, each_distinct, NoTwice, NoTwice-distinct}
 use Rattle.expr_check.proofs.Typed.{bind_ok, call_ok, typed_ok}
 
 negated_scalar : (s k : ColType) → negated_kind s ≡ Ok k → is_vector s ≡ false → is_vector k ≡ false
-negated_scalar ColType.Int k h p = ap gives_vector (sym h)
-negated_scalar s k h p = cc (h, p)
+negated_scalar s k h p = grind arith
 
 inverted_scalar : (s k : ColType) → inverted_kind s ≡ Ok k → is_vector s ≡ false → is_vector k ≡ false
-inverted_scalar ColType.Bool k h p = ap gives_vector (sym h)
-inverted_scalar s k h p = cc (h, p)
-
-arithmetic_scalar : (and_holds s t k : ColType) → is_vector and_holds ≡ false → arithmetic_kind and_holds s t ≡ Ok k → is_vector s ≡ false → is_vector t ≡ false → is_vector k ≡ false
-arithmetic_scalar and_holds ColType.Int ColType.Int k b h p q = ap gives_vector (sym h) ∙ b
-arithmetic_scalar and_holds s t k b h p q = cc (h, p, q)
-
-logical_scalar : (s t k : ColType) → logical_kind s t ≡ Ok k → is_vector s ≡ false → is_vector t ≡ false → is_vector k ≡ false
-logical_scalar ColType.Bool ColType.Bool k h p q = ap gives_vector (sym h)
-logical_scalar s t k h p q = cc (h, p, q)
-
-equality_scalar : (s t k : ColType) → equality_kind s t ≡ Ok k → is_vector s ≡ false → is_vector t ≡ false → is_vector k ≡ false
-equality_scalar ColType.Bool ColType.Bool k h p q = ap gives_vector (sym h)
-equality_scalar ColType.Int ColType.Int k h p q = ap gives_vector (sym h)
-equality_scalar s t k h p q = cc (h, p, q)
+inverted_scalar s k h p = grind arith
 
 operator_scalar : (o : BinOp) (s t k : ColType) → operator_kind o s t ≡ Ok k → is_vector s ≡ false → is_vector t ≡ false → is_vector k ≡ false
-operator_scalar BinOp.And s t k h p q = logical_scalar s t k h p q
-operator_scalar BinOp.Or s t k h p q = logical_scalar s t k h p q
-operator_scalar BinOp.Eq s t k h p q = equality_scalar s t k h p q
-operator_scalar BinOp.Ne s t k h p q = equality_scalar s t k h p q
-operator_scalar BinOp.Lt s t k h p q = arithmetic_scalar ColType.Bool s t k refl h p q
-operator_scalar BinOp.Le s t k h p q = arithmetic_scalar ColType.Bool s t k refl h p q
-operator_scalar BinOp.Gt s t k h p q = arithmetic_scalar ColType.Bool s t k refl h p q
-operator_scalar BinOp.Ge s t k h p q = arithmetic_scalar ColType.Bool s t k refl h p q
-operator_scalar o s t k h p q = arithmetic_scalar ColType.Int s t k refl h p q
+operator_scalar o s t k h p q = grind arith
 
 chosen_scalar : (c s t k : ColType) → chosen_kind c s t ≡ Ok k → is_vector s ≡ false → is_vector k ≡ false
 chosen_scalar ColType.Bool s t k h p = ap is_vector (sym (typed_ok (same_kind s t) s k h).1) ∙ p
@@ -45,8 +22,7 @@ chosen_scalar c s t k h p = cc h
 
 -- nothing is picked from what is no vector
 picked_from_vector : (s t k : ColType) → picked_kind s t ≡ Ok k → is_vector s ≡ false → ⊥
-picked_from_vector ColType.Vect t k h p = cc p
-picked_from_vector s t k h p = cc h
+picked_from_vector s t k h p = grind arith
 
 -- nothing that is no vector is taken as one
 taken_as_vector : (ts rest : List ColType) → AllByRecursion (λ t. is_vector t ≡ false) ts → same_kinds ts (ColType.Vect ∷ rest) ≡ true → ⊥
@@ -190,8 +166,7 @@ module _ (kinds : List (ℕ × ColType)) (names : FunctionNames) where
   )
 
 scalar_by : (b : Bool) (k : ColType) (r : Result ColType GraphCause) → is_vector k ≡ false → gives_vector r ≡ false → gives_vector (cond b (Ok k) r) ≡ false
-scalar_by true k r p q = p
-scalar_by false k r p q = q
+scalar_by b k r p q = grind arith
 
 -- where no kind is a vector, no number has a vector's
 all_scalar : (numbers : List ℕ) (kinds : List ColType) (i : ℕ) → list_any is_vector kinds ≡ false → gives_vector (number_kind (zip numbers kinds) i) ≡ false

@@ -1,5 +1,5 @@
 -- The kinds of a scope's columns by their names and by their numbers.
-use Rattle.std.proofs.Common.{◌≡◌, ℕ, Bool, true, false, List, [], ◌∷◌, map, Result, Ok, Err, IsOk, refl, ap, sym, ◌∙◌, cond, nat_eq}
+use Rattle.std.proofs.Common.{arith, ◌≡◌, ℕ, Bool, true, false, List, [], ◌∷◌, map, Result, Ok, Err, IsOk, refl, ap, sym, ◌∙◌, cond, nat_eq}
 use Rattle.lemmas.proofs.{AllByRecursion, Decides-eqb, eq_itself, recursion_from_All, zip}
 use Rattle.rdf_values.specs.{ColType, column_kind, GraphCause, kinds_in, number_in, same, ScopeColumn}
 use Rattle.expr_check.specs.{number_kind, NumberHasKind, numbers_in, NumbersHaveKinds}
@@ -33,11 +33,7 @@ number_known (c ∷ cs) name k is = known_at (same c.name name) c.number c.kind 
 -- a number has the kind that each column of that number has
 number_kind-of_all : (cs : List ScopeColumn) (number : ℕ) (k l : ColType) → AllByRecursion (λ (c : ScopeColumn). c.number ≡ number → c.kind ≡ k) cs → number_kind (numbers_in cs) number ≡ Ok l → l ≡ k
 number_kind-of_all [] number k l each is = cc is
-number_kind-of_all (c ∷ cs) number k l each is = kind_by_test (nat_eq c.number number) c.kind (number_kind (numbers_in cs) number) (λ e. each.0 ((Decides-eqb c.number number).0 e)) (number_kind-of_all cs number k l each.1) is
-  where
-    kind_by_test : (b : Bool) (kind : ColType) (r : Result ColType GraphCause) → (b ≡ true → kind ≡ k) → (r ≡ Ok l → l ≡ k) → cond b (Ok kind) r ≡ Ok l → l ≡ k
-    kind_by_test true kind r here below is = let same_kind : kind ≡ l = cc is in sym same_kind ∙ here refl
-    kind_by_test false kind r here below is = below is
+number_kind-of_all (c ∷ cs) number k l each is = grind (arith, Decides-eqb, each.0, number_kind-of_all cs number k l each.1)
 
 -- the number of a column has the column's kind
 pub number_kind-number_in : (cs : List ScopeColumn) (name : List ℕ) → NumbersHaveKinds cs → IsOk (column_kind (kinds_in cs) name) → column_kind (kinds_in cs) name ≡ number_kind (numbers_in cs) (number_in cs name)
@@ -60,8 +56,7 @@ each_weaker P Q f [] h = tt
 each_weaker P Q f (x ∷ xs) h = (f x h.0, each_weaker P Q f xs h.1)
 
 in_front : (b : Bool) (kind : ColType) (r s : Result ColType GraphCause) → (b ≡ true → s ≡ Ok kind) → s ≡ r → s ≡ cond b (Ok kind) r
-in_front true kind r s here below = here refl
-in_front false kind r s here below = below
+in_front b kind r s here below = grind arith
 
 -- a list of numbers beside their kinds gives each of them its kind
 pub each_by_zip : (numbers : List ℕ) (kinds : List ColType) (kind_at : ℕ → Result ColType GraphCause) → map (λ (k : ColType). Ok k) kinds ≡ map kind_at numbers → AllByRecursion (λ i. kind_at i ≡ number_kind (zip numbers kinds) i) numbers
