@@ -61,18 +61,23 @@ module _ (header : List Column) (names : FunctionNames) (before : List Statement
     variations = e.variations;
   }
 
+  -- what holds of a statement by its parts holds of it as it is given
+  pub told : (s u : Statement) (r : Result Tables Stop) → s ≡ u → IfOk r (IsGain header names before u) → Decides (check names (scope_of header) before u) r → IfOk r (IsGain header names before s) × Decides (check names (scope_of header) before s) r
+  told s u r is g d = subst (λ x. IfOk r (IsGain header names before x) × Decides (check names (scope_of header) before x) r) (sym is) (g, d)
+
   -- what asks for something of a result adds nothing
   pub nothing_gained : (s u : Statement) (r : Result Tables Stop) → s ≡ u → Decides (check names (scope_of header) before u) r → IfOk r IsEmptyGain
-      → ((g : Tables) → check names (scope_of header) before u ≡ None → IsEmptyGain g → IsGain header names before u g) → IfOk r (IsGain header names before s)
-  nothing_gained s u (Ok g) is d e f = subst (λ x. IsGain header names before x g) (sym is) (f g d e)
-  nothing_gained s u (Err e) is d h f = tt
+      → ((g : Tables) → check names (scope_of header) before u ≡ None → IsEmptyGain g → IsGain header names before u g) → IfOk r (IsGain header names before s) × Decides (check names (scope_of header) before s) r
+  nothing_gained s u (Ok g) is d e f = told s u (Ok g) is (f g d e) d
+  nothing_gained s u (Err e) is d h f = told s u (Err e) is tt d
 
   -- the row of a result alone is what an accepted statement adds that books it
   pub row_gained : (s u : Statement) (row : Result ResultRow Stop) (r : Result Tables Stop) → s ≡ u → ((x : ResultRow) → row ≡ Ok x → IfOk r (IsRowGain x)) → ((wanted : Option GraphCause) → Decides wanted row → Decides wanted r)
       → IfOk row (IsBookedRow header names before u) → Decides (check names (scope_of header) before u) row
-      → ((g : Tables) (x : ResultRow) → check names (scope_of header) before u ≡ None → IsRowGain x g → IsBookedRow header names before u x → IsGain header names before u g) → IfOk r (IsGain header names before s)
-  row_gained s u row (Err e) is m d b k f = tt
-  row_gained s u (Ok x) (Ok g) is m d b k f = subst (λ v. IsGain header names before v g) (sym is) (f g x k (m x refl) b)
+      → ((g : Tables) (x : ResultRow) → check names (scope_of header) before u ≡ None → IsRowGain x g → IsBookedRow header names before u x → IsGain header names before u g)
+      → IfOk r (IsGain header names before s) × Decides (check names (scope_of header) before s) r
+  row_gained s u row (Err e) is m d b k f = told s u (Err e) is tt (d (check names (scope_of header) before u) k)
+  row_gained s u (Ok x) (Ok g) is m d b k f = told s u (Ok g) is (f g x k (m x refl) b) k
   row_gained s u (Err (Stop.Cause c)) (Ok g) is m d b k f = cc (d (Some c) refl)
   row_gained s u (Err Stop.Memory) (Ok g) is m d b k f = cc (d (Some GraphCause.NameTaken) tt)
 

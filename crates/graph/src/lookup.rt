@@ -35,12 +35,11 @@ pub fn made_from<'a>(statement: &'a Statement, sought: &Name) -> Option<&'a Name
 }
 
 fn is_made_node(before: &[Line], node: &Name) -> bool
-    ensures { result ≡ list_any (λ s. makes s node.now) (statements before.now) }
+    ensures { result ≡ list_any (λ l. makes l.statement node.now) before.now }
 {
-    let Some((last, rest)) = before.split_first() else {
-        return false;
-    };
-    made_from(&last.statement, node).is_some() || is_made_node(rest, node)
+    before
+        .iter()
+        .any(|line| made_from(&line.statement, node).is_some())
 }
 
 fn own_target<'a>(statement: &'a Statement, name: &'a Name) -> &'a Name
@@ -66,6 +65,7 @@ pub fn target_of<'a>(before: &'a [Line], node: &Name, name: &'a Name) -> &'a Nam
 }
 
 /// Whether the name is a node's.
+#[tactic(auto, using(crate::proofs::Listing::any_map))]
 pub fn is_node(before: &[Line], node: &Name) -> bool
     ensures { result ≡ is_node (statements before.now) node.now }
 {
@@ -361,7 +361,7 @@ fn named_on(alloc: Global, before: &[Line], count: u32, node: &Name) -> Result<L
 }
 
 /// The named filters that a Report on a node covers, where there are so many named filters.
-#[tactic(auto, using(crate::proofs::Walking::covers_are))]
+#[tactic(auto, using(crate::proofs::Walking::covers_are, crate::proofs::Listing::any_map))]
 pub(crate) fn covered(
     alloc: Global,
     before: &[Line],
