@@ -1,5 +1,5 @@
 // Pieces of a loop, and their joining.
-ghost use Rattle.std.specs.Prelude.{◌≡◌, ◌<◌, ℕ, List, [], ◌∷◌, OnOk, Some, slice_get, slice_set, vec_len};
+ghost use Rattle.std.specs.Prelude.{◌≡◌, ◌<◌, ℕ, List, [], ◌∷◌, OnOk, Some, slice_get, vec_len};
 ghost use Rattle.rdf_values.specs.{IsUnion};
 ghost use Rattle.rdf_model.specs.declared.loop_facts.LoopFacts.{LoopFacts};
 ghost use Rattle.loop_pieces.specs.LoopPieces.{AreMerged, CanMerge, StandsFor};
@@ -9,9 +9,7 @@ use crate::watch_piece::WatchPiece;
 use actions::Acc;
 use merge_core::{Piece, Trail};
 use rdf_model::LoopFacts;
-use rdf_values::{ListOf, Memory};
-use std::alloc::Global;
-use std::mem;
+use rdf_values::Memory;
 
 /// The accumulators of the action passes, the counts of the named filters, and a trail for each watched result.
 #[derive(Drop)]
@@ -35,17 +33,6 @@ impl LoopPiece {
         ensures { result.now ≡ self.now.flow }
     {
         &self.flow
-    }
-
-    /// Hands out the trail of a watched result, by its number in the order of booking, and leaves an empty one.
-    pub fn take_trail(&mut self, alloc: Global, watched: u32) -> Trail<WatchPiece>
-        requires { watched < vec_len self.old.trails }
-        ensures trail { slice_get self.old.trails.items watched ≡ Some result }
-        ensures left { self.new.trails.items ≡ slice_set self.old.trails.items watched [] }
-        ensures accs { self.new.accs.items ≡ self.old.accs.items }
-        ensures flow { self.new.flow ≡ self.old.flow }
-    {
-        mem::replace(&mut self.trails[watched as usize], ListOf::new(alloc))
     }
 }
 

@@ -187,6 +187,29 @@ module _ (clusters slots : ℕ) (past : List Event) (m : Machine) (h : Holds clu
       (λ (g : (g : LoopFault) × Among g (slot_faults m) × (slice_get faults m.bar ≡ Some (Some g))). inr (g.0, among_kept g.0 m.slots (slot_of e) s now at runs g.1, g.2))
       r
 
+  -- a slot that gives up the cluster that it holds, or ends, draws nothing
+  given_up : (e : Event) (s : Slot) (p : Phase) (b : ℕ) → slice_get m.slots (slot_of e) ≡ Some s → b ≤ m.bar → (p ≡ Ended → b ≤ m.next)
+      → ((x : ℕ) → times x (finished (e ∷ [])) + times x (done_of s) ≤ times x (done_in s.drawn None p))
+      → ((x : ℕ) → x < b → times x (finished (e ∷ [])) + times x (done_of s) ≡ times x (done_in s.drawn None p))
+      → ((faults : List (Option LoopFault)) → IsHonestEvent faults e → IsSound faults m.bar s → IsSound faults b (slot_with s.drawn None p))
+      → ((faults : List (Option LoopFault)) → IsHonestEvent faults e → IsReached clusters faults m.bar (slot_faults m) → IsReached clusters faults b (flat_map fault_in (set m.slots (slot_of e) (slot_with s.drawn None p))))
+      → (after : Machine) → after ≡ changed m (slot_of e) (left m.next b (slot_with s.drawn None p)) → Holds clusters slots (past ++ e ∷ []) after
+  given_up e s p b at lower closing most done sound reach after is = subst (Holds clusters slots (past ++ e ∷ [])) (sym is)
+      (after_step clusters slots past m e h s (slot_with s.drawn None p) m.next b at record {
+        rises = its m.slots (slot_of e) s s at (λ (x : Slot). IsStrictlyIncreasing x.drawn) h.rise;
+        under = its m.slots (slot_of e) s s at (λ (x : Slot). All (λ y. y < m.next) x.drawn) h.under;
+        more = omega arith;
+        lower = lower;
+        once = λ x. omega arith;
+        few = h.few;
+        closing = closing;
+        shape = tt;
+        most = most;
+        done = done;
+        sound = sound;
+        reach = reach;
+      })
+
   pub keeps_event : (e : Event) (after : Machine) → IsStepped clusters m e after → Holds clusters slots (past ++ e ∷ []) after
   keeps_event (Claim i c) after t =
       let s = t.slot in
@@ -212,98 +235,43 @@ module _ (clusters slots : ℕ) (past : List Event) (m : Machine) (h : Holds clu
       })
   keeps_event (Finish i c) after t =
       let s = t.slot in
-      let shape = its m.slots i s t.leaves.slot t.at (λ (x : Slot). EndsIn x.drawn x.held x.phase) h.shape in
-      let last = held_last s c t.how.0 t.runs shape in
-      let now = slot_with s.drawn None Running in
-      let all_done : (x : ℕ) → times x (finished (Finish i c ∷ [])) + times x (done_of s) ≡ times x (done_of now) = λ x. omega (arith, ap (times x) (held_done s c t.how.0), ap (times x) last, times_push x (but_last s.drawn) c, times_push x [] c) in
-      subst (Holds clusters slots (past ++ Finish i c ∷ [])) (ap (changed m i) (sym t.how.1) ∙ sym t.is)
-      (after_step clusters slots past m (Finish i c) h s now m.next m.bar t.at record {
-        rises = its m.slots i s t.leaves.slot t.at (λ (x : Slot). IsStrictlyIncreasing x.drawn) h.rise;
-        under = its m.slots i s t.leaves.slot t.at (λ (x : Slot). All (λ y. y < m.next) x.drawn) h.under;
-        more = omega arith;
-        lower = omega arith;
-        once = λ x. omega arith;
-        few = h.few;
-        closing = λ is. absurd (cc);
-        shape = tt;
-        most = λ x. omega (arith, all_done x);
-        done = λ x lt. all_done x;
-        sound = λ faults honest known. record {
-          done = λ k some lt. ⊎_elim
-              (λ (here : 0 < times k (but_last s.drawn)). known.done k (subst (λ l. 0 < times k l) (sym (held_done s c t.how.0)) here) lt)
-              (λ (rest : times k (but_last s.drawn) ≤ 0). subst (λ j. slice_get faults j ≡ Some None) (only k c (omega (arith, some, ap (times k) last, times_push k (but_last s.drawn) c))) honest)
-              (cases_lt 0 (times k (but_last s.drawn)));
-          fault = tt;
-        };
-        reach = λ faults honest r. reach_kept (Finish i c) s now t.at t.runs faults r;
+      let last = held_last s c t.how.0 t.runs (its m.slots i s s t.at (λ (x : Slot). EndsIn x.drawn x.held x.phase) h.shape) in
+      let all_done : (x : ℕ) → times x (finished (Finish i c ∷ [])) + times x (done_of s) ≡ times x s.drawn = λ x. omega (arith, ap (times x) (held_done s c t.how.0), ap (times x) last, times_push x (but_last s.drawn) c, times_push x [] c) in
+      given_up (Finish i c) s Running m.bar t.at (omega arith) (λ is. absurd (cc)) (λ x. omega (arith, all_done x)) (λ x lt. all_done x)
+      (λ faults honest known. record {
+        done = λ k some lt. ⊎_elim
+            (λ (here : 0 < times k (but_last s.drawn)). known.done k (subst (λ l. 0 < times k l) (sym (held_done s c t.how.0)) here) lt)
+            (λ (rest : times k (but_last s.drawn) ≤ 0). subst (λ j. slice_get faults j ≡ Some None) (only k c (omega (arith, some, ap (times k) last, times_push k (but_last s.drawn) c))) honest)
+            (cases_lt 0 (times k (but_last s.drawn)));
+        fault = tt;
       })
+      (λ faults honest r. reach_kept (Finish i c) s (slot_with s.drawn None Running) t.at t.runs faults r) after (t.is ∙ ap (changed m i) t.how.1)
   keeps_event (Fault i c f) after t =
       let s = t.slot in
-      let shape = its m.slots i s t.leaves.slot t.at (λ (x : Slot). EndsIn x.drawn x.held x.phase) h.shape in
-      let last = held_last s c t.how.0 t.runs shape in
+      let last = held_last s c t.how.0 t.runs (its m.slots i s s t.at (λ (x : Slot). EndsIn x.drawn x.held x.phase) h.shape) in
       let now = slot_with s.drawn None (Faulted f) in
       let all_done : (x : ℕ) → times x (finished (Fault i c f ∷ [])) + times x (done_of s) ≡ times x (done_of now) = λ x. omega (arith, ap (times x) (held_done s c t.how.0)) in
-      subst (Holds clusters slots (past ++ Fault i c f ∷ [])) (ap (changed m i) (sym t.how.1) ∙ sym t.is)
-      (after_step clusters slots past m (Fault i c f) h s now m.next (min m.bar c) t.at record {
-        rises = its m.slots i s t.leaves.slot t.at (λ (x : Slot). IsStrictlyIncreasing x.drawn) h.rise;
-        under = its m.slots i s t.leaves.slot t.at (λ (x : Slot). All (λ y. y < m.next) x.drawn) h.under;
-        more = omega arith;
-        lower = omega arith;
-        once = λ x. omega arith;
-        few = h.few;
-        closing = λ is. absurd (cc);
-        shape = tt;
-        most = λ x. omega (arith, all_done x);
-        done = λ x lt. all_done x;
-        sound = λ faults honest known. record {
-          done = λ k some lt. known.done k (subst (λ l. 0 < times k l) (sym (held_done s c t.how.0)) some) (omega arith);
-          fault = (c, last, honest);
-        };
-        reach = λ faults honest r. ⊎_elim
-            (λ (lt : c < m.bar). let is : c ≡ min m.bar c = omega arith in inr (f, among_new f m.slots i s now t.at (inl refl), subst (λ j. slice_get faults j ≡ Some (Some f)) is honest))
-            (λ (le : m.bar ≤ c). let is : m.bar ≡ min m.bar c = omega arith in subst (λ j. IsReached clusters faults j (flat_map fault_in (set m.slots i now))) is (reach_kept (Fault i c f) s now t.at t.runs faults r))
-            (cases_lt c m.bar);
+      given_up (Fault i c f) s (Faulted f) (min m.bar c) t.at (omega arith) (λ is. absurd (cc)) (λ x. omega (arith, all_done x)) (λ x lt. all_done x)
+      (λ faults honest known. record {
+        done = λ k some lt. known.done k (subst (λ l. 0 < times k l) (sym (held_done s c t.how.0)) some) (omega arith);
+        fault = (c, last, honest);
       })
+      (λ faults honest r. ⊎_elim
+      (λ (lt : c < m.bar). let is : c ≡ min m.bar c = omega arith in inr (f, among_new f m.slots i s now t.at (inl refl), subst (λ j. slice_get faults j ≡ Some (Some f)) is honest))
+      (λ (le : m.bar ≤ c). let is : m.bar ≡ min m.bar c = omega arith in subst (λ j. IsReached clusters faults j (flat_map fault_in (set m.slots i now))) is (reach_kept (Fault i c f) s now t.at t.runs faults r))
+      (cases_lt c m.bar)) after (t.is ∙ ap (changed m i) t.how.1)
   keeps_event (Skip i c) after t =
       let s = t.slot in
-      let shape = its m.slots i s t.leaves.slot t.at (λ (x : Slot). EndsIn x.drawn x.held x.phase) h.shape in
-      let last = held_last s c t.how.0 t.runs shape in
-      let now = slot_with s.drawn None Ended in
+      let last = held_last s c t.how.0 t.runs (its m.slots i s s t.at (λ (x : Slot). EndsIn x.drawn x.held x.phase) h.shape) in
       let one_more : (x : ℕ) → times x s.drawn ≡ times x (done_of s) + one_if x c = λ x. omega (arith, ap (times x) (held_done s c t.how.0), ap (times x) last, times_push x (but_last s.drawn) c) in
-      subst (Holds clusters slots (past ++ Skip i c ∷ [])) (ap (changed m i) (sym t.how.2) ∙ sym t.is)
-      (after_step clusters slots past m (Skip i c) h s now m.next m.bar t.at record {
-        rises = its m.slots i s t.leaves.slot t.at (λ (x : Slot). IsStrictlyIncreasing x.drawn) h.rise;
-        under = its m.slots i s t.leaves.slot t.at (λ (x : Slot). All (λ y. y < m.next) x.drawn) h.under;
-        more = omega arith;
-        lower = omega arith;
-        once = λ x. omega arith;
-        few = h.few;
-        closing = λ is. (let high = t.how.1 in let lower = last_under s.drawn (but_last s.drawn) c m.next last (its m.slots i s t.leaves.slot t.at (λ (x : Slot). All (λ y. y < m.next) x.drawn) h.under) in omega arith);
-        shape = tt;
-        most = λ x. omega (arith, one_more x);
-        done = λ x lt. omega (arith, one_more x, apart c m.bar x t.how.1 lt);
-        sound = λ faults honest known. record {
-          done = λ k some lt. known.done k (omega (arith, some, one_more k, apart c m.bar k t.how.1 lt)) lt;
-          fault = tt;
-        };
-        reach = λ faults honest r. reach_kept (Skip i c) s now t.at t.runs faults r;
-      })
+      given_up (Skip i c) s Ended m.bar t.at (omega arith)
+      (λ is. (let high = t.how.1 in let lower = last_under s.drawn (but_last s.drawn) c m.next last (its m.slots i s s t.at (λ (x : Slot). All (λ y. y < m.next) x.drawn) h.under) in omega arith))
+      (λ x. omega (arith, one_more x)) (λ x lt. omega (arith, one_more x, apart c m.bar x t.how.1 lt))
+      (λ faults honest known. record { done = λ k some lt. known.done k (omega (arith, some, one_more k, apart c m.bar k t.how.1 lt)) lt; fault = tt })
+      (λ faults honest r. reach_kept (Skip i c) s (slot_with s.drawn None Ended) t.at t.runs faults r) after (t.is ∙ ap (changed m i) t.how.2)
   keeps_event (End i) after t =
       let s = t.slot in
-      let now = slot_with s.drawn None Ended in
-      let all_done : (x : ℕ) → times x (finished (End i ∷ [])) + times x (done_of s) ≡ times x (done_of now) = λ x. omega (arith, ap (times x) (same_done s t.how.0 t.runs)) in
-      subst (Holds clusters slots (past ++ End i ∷ [])) (ap (changed m i) (sym t.how.2) ∙ sym t.is)
-      (after_step clusters slots past m (End i) h s now m.next m.bar t.at record {
-        rises = its m.slots i s t.leaves.slot t.at (λ (x : Slot). IsStrictlyIncreasing x.drawn) h.rise;
-        under = its m.slots i s t.leaves.slot t.at (λ (x : Slot). All (λ y. y < m.next) x.drawn) h.under;
-        more = omega arith;
-        lower = omega arith;
-        once = λ x. omega arith;
-        few = h.few;
-        closing = λ is. (let over = t.how.1 in let low = h.low in omega arith);
-        shape = tt;
-        most = λ x. omega (arith, all_done x);
-        done = λ x lt. all_done x;
-        sound = λ faults honest known. record { done = λ k some. known.done k (subst (λ l. 0 < times k l) (sym (same_done s t.how.0 t.runs)) some); fault = tt };
-        reach = λ faults honest r. reach_kept (End i) s now t.at t.runs faults r;
-      })
+      let all_done : (x : ℕ) → times x (finished (End i ∷ [])) + times x (done_of s) ≡ times x s.drawn = λ x. omega (arith, ap (times x) (same_done s t.how.0 t.runs)) in
+      given_up (End i) s Ended m.bar t.at (omega arith) (λ is. (let over = t.how.1 in let low = h.low in omega arith)) (λ x. omega (arith, all_done x)) (λ x lt. all_done x)
+      (λ faults honest known. record { done = λ k some. known.done k (subst (λ l. 0 < times k l) (sym (same_done s t.how.0 t.runs)) some); fault = tt })
+      (λ faults honest r. reach_kept (End i) s (slot_with s.drawn None Ended) t.at t.runs faults r) after (t.is ∙ ap (changed m i) t.how.2)
