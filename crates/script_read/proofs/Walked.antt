@@ -30,7 +30,8 @@ stuck_token w old b e k = rw (b.is, e) refl
 -- ---- marks
 
 pub is_its_mark : (m : Mark) → is_mark m (mark_token m) ≡ true
-is_its_mark m = grind arith
+is_its_mark Mark.Equals = refl
+is_its_mark m = refl
 
 pub is_no_mark : (m : Mark) (t : LineToken) → (t ≡ mark_token m → ⊥) → is_mark m t ≡ false
 is_no_mark Mark.Equals t.Equals isnt = absurd (isnt refl)

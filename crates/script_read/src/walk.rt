@@ -474,8 +474,14 @@ pub(crate) fn read_form<'a>(
         left: tokens,
     };
     match walk.line() {
-        Ok(form) if walk.left.is_empty() => Ok(form),
+        Ok(form) => {
+            if walk.left.is_empty() {
+                Ok(form)
+            } else {
+                Err(stuck(walk.left, end))
+            }
+        }
+        Err(Fail::Unexpected) => Err(stuck(walk.left, end)),
         Err(Fail::Memory) => Err(LineStop::Memory),
-        _ => Err(stuck(walk.left, end)),
     }
 }
