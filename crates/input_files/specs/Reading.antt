@@ -8,8 +8,8 @@ use Rattle.input_files.specs.Due.{Due, FileStatuses, WithScriptFile, WithTableFi
 use Rattle.input_files.specs.Fetching.{Tells}
 use Rattle.input_files.specs.declared.file_cause.FileCause.{FileCause}
 use Rattle.input_files.specs.declared.file_cause.FileCause.TheVariants.{ReadFailed, NoFile, ScriptRefused, TableRefused}
-use Rattle.input_files.specs.declared.read_file.ReadFile.{ReadFile}
-use Rattle.input_files.specs.declared.read_file.ReadFile.TheVariants.{Whole, Refused}
+use Rattle.input_files.specs.declared.file_cause.ReadFile.{ReadFile}
+use Rattle.input_files.specs.declared.file_cause.ReadFile.TheVariants.{Whole, Refused}
 
 -- the causes as statuses of their own
 abbrev pub causes : FileStatuses FileCause

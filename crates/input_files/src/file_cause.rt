@@ -1,4 +1,5 @@
-// Why a file gives no script and no table.
+// What reading a file comes to, and why it gives no script and no table.
+use rdf_values::Text;
 
 /// A read failed, there is no such file, or its bytes are refused.
 #[derive(Clone, Copy, Debug, PartialEq, Eq)]
@@ -7,4 +8,18 @@ pub enum FileCause {
     NoFile,
     ScriptRefused,
     TableRefused,
+}
+
+/// A cause with the line that says it.
+#[derive(Drop)]
+pub struct FileRefusal {
+    pub cause: FileCause,
+    pub line: Text,
+}
+
+/// What the whole file spells, or why it gives nothing.
+#[derive(Drop)]
+pub enum ReadFile<T> {
+    Whole(T),
+    Refused(FileRefusal),
 }

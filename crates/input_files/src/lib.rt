@@ -5,14 +5,12 @@
 #![tactic(auto)]
 
 mod file_cause;
-mod read_file;
 mod refuse;
 mod scripts;
 mod tables;
 mod whole_file;
 
-pub use crate::file_cause::FileCause;
-pub use crate::read_file::{FileRefusal, ReadFile};
+pub use crate::file_cause::{FileCause, FileRefusal, ReadFile};
 pub use crate::refuse::{absent, unread};
 pub use crate::scripts::{MAX_SCRIPT, read_script_file, script_of};
 pub use crate::tables::{MAX_TABLE, columns_of, read_columns_file, read_table_file};

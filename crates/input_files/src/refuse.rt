@@ -3,9 +3,9 @@ ghost use Rattle.std.specs.Prelude.{◌≡◌, IfOk};
 ghost use Rattle.rdf_values.specs.{no_file_line, read_failed_line};
 ghost use Rattle.result_text.specs.{refusal_text};
 
-use crate::file_cause::FileCause;
-use crate::read_file::FileRefusal;
-use rdf_values::{Memory, Text};
+use crate::file_cause::{FileCause, FileRefusal};
+use rdf_values::Memory;
+use result_text::refusals::text_of;
 use result_text::{Refusal, refusal_line};
 use std::alloc::Global;
 
@@ -21,19 +21,11 @@ pub(crate) fn refused(
     Ok(FileRefusal { cause, line })
 }
 
-fn text_of(alloc: Global, name: &str) -> Result<Text, Memory>
-    ensures { IfOk result (λ text. text ≡ name.now) }
-{
-    let mut text = Text::new(alloc);
-    text.extend(name.as_bytes())?;
-    Ok(text)
-}
-
 /// There is no file of that name.
 pub fn absent(alloc: Global, name: &str) -> Result<FileRefusal, Memory>
     ensures { IfOk result (λ r. (r.cause ≡ FileCause.NoFile) × (r.line ≡ no_file_line name.now)) }
 {
-    let name = text_of(alloc, name)?;
+    let name = text_of(alloc, name.as_bytes())?;
     refused(alloc, FileCause::NoFile, &Refusal::NoFile { name })
 }
 
@@ -41,6 +33,6 @@ pub fn absent(alloc: Global, name: &str) -> Result<FileRefusal, Memory>
 pub fn unread(alloc: Global, name: &str) -> Result<FileRefusal, Memory>
     ensures { IfOk result (λ r. (r.cause ≡ FileCause.ReadFailed) × (r.line ≡ read_failed_line name.now)) }
 {
-    let name = text_of(alloc, name)?;
+    let name = text_of(alloc, name.as_bytes())?;
     refused(alloc, FileCause::ReadFailed, &Refusal::Read { name })
 }

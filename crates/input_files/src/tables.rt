@@ -5,8 +5,7 @@ ghost use Rattle.rdf_values.specs.{table_cause_line};
 ghost use Rattle.input_files.specs.{IsFetchedIn, ReadsColumnsFile, ReadsColumnsText, ReadsTableFile, ReadsTableIn, ReadsTableText};
 ghost use Rattle.input_files.specs.declared.file_cause.FileCause.TheVariants.{TableRefused};
 
-use crate::file_cause::FileCause;
-use crate::read_file::{FileRefusal, ReadFile};
+use crate::file_cause::{FileCause, FileRefusal, ReadFile};
 use crate::refuse::{absent, refused, unread};
 use crate::whole_file::{Fetched, fetch, fetch_parts};
 use columns::Columns;

@@ -1,12 +1,12 @@
 -- Refusals of the first bad string of several.
 use Rattle.std.proofs.Common.{◌≡◌, ◌∙◌, ℕ, List, [], ◌∷◌, ◌++◌, ap, Result, IfErr}
 use Rattle.lemmas.proofs.{err_from_is_err_and, IsErrAnd}
-use Rattle.rdf_values.specs.{AName, AnExpression, AnOperation, AreNames, FirstBad, here, is_name, IsBad, IsName, later, LineRefusal, more_names, NamedTree, no_names, operation_text, QuotedText, ReadsText, ReadsValuesText, ReduceOp, SomeValues, VaryValues, wanted_names}
+use Rattle.rdf_values.specs.{AName, AnExpression, AnOperation, AreNames, begin_expr, begin_values, FirstBad, here, is_name, IsBad, IsName, later, LineRefusal, more_names, NamedTree, no_names, operation_text, QuotedText, Reads, ReadsText, ReadsValues, ReadsValuesText, ReduceOp, SomeValues, VaryValues, wanted_names}
 use Rattle.rdf_values.specs.scripts.Statements.{Wanted}
 use Rattle.rdf_values.specs.scripts.Statements as st
+use Rattle.expr_read.specs.{ExprRefusal, RefusesTextAs}
 use Rattle.expr_read.proofs.Decided.{read_once}
-use Rattle.script_read.specs.declared.stop.LineStop.{LineStop}
-use Rattle.script_read.specs.{RefusedFor}
+use Rattle.script_read.specs.{LineStop, RefusedFor, stop_in}
 
 -- what a `?` hands on
 pub handed_on : {T : Type 0} (P : LineStop → Type 0) (r : Result T LineStop) (e : LineStop) → IsErrAnd r (λ d. d ≡ e) → P e → IfErr r P
@@ -65,5 +65,18 @@ bad_before vs ws r (later {ss = us} g b) = later g (bad_before us ws r b)
 pub refused_before : (vs ws : List (QuotedText × Wanted)) (e : LineStop) → RefusedFor (FirstBad vs) e → RefusedFor (FirstBad (vs ++ ws)) e
 refused_before vs ws e h = refused_as (FirstBad vs) (FirstBad (vs ++ ws)) (bad_before vs ws) e h
 
+-- ---- the refusal of what a string holds refuses the string
+
+pub no_expression : (q : QuotedText) (e : ExprRefusal) → RefusesTextAs (Reads 0) begin_expr q.content e → RefusedFor (IsBad (q, AnExpression)) (stop_in q e)
+no_expression q (ExprRefusal.At cause place) h = st.no_expression h
+no_expression q ExprRefusal.Memory h = tt
+
+pub no_values : (q : QuotedText) (e : ExprRefusal) → RefusesTextAs ReadsValues begin_values q.content e → RefusedFor (IsBad (q, SomeValues)) (stop_in q e)
+no_values q (ExprRefusal.At cause place) h = st.no_values h
+no_values q ExprRefusal.Memory h = tt
+
 -- what finds the refusal of a form's strings
 pub ruleset refusals = (refused_here, refused_later, refused_before, refused_after, good_name, good_operation, good_expression, good_values, good_names)
+
+-- what finds what a form says
+pub ruleset sayings = (st.count, st.sum, st.min, st.max, st.take, st.reduce, st.histo1d, st.histo2d, st.define, st.redefine, st.alias, st.filter, st.vary_all, st.action, st.report, st.print, st.variations_for, st.watch)

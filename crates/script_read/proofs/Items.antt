@@ -4,16 +4,11 @@ use Rattle.rdf_values.specs.{AfterName, at_end, at_scan, at_token, continued, en
 use Rattle.rdf_values.specs.expressions.Scans.{Wanted, Refuses}
 use Rattle.expr_read.specs.{ExprRefusal, RefusesTextAs}
 use Rattle.expr_read.proofs.ValidTokens.{StandBelow, no_tokens, more_tokens, all_fine}
-use Rattle.script_read.specs.{StandsWithin, IsNamed, all_names, AMethod, Begins, name_of, name_word, named, next, quoted_of, RefusedFor, ALine, AMark, ANumber, arguments_wants, asked_form, asking_wants, AString, AWord, booking_wants, is_mark, mark_token, MaybeString, method_wants, MoreEdges, MoreStrings, VaryArguments, Want}
+use Rattle.script_read.specs.{ActionName, ALine, all_names, AMark, AMethod, ANumber, arguments_wants, asked_form, asking_wants, AString, AWord, Begins, booking_wants, is_mark, IsNamed, LineStop, Mark, mark_token, MaybeString, method_wants, MethodName, MoreEdges, MoreStrings, name_of, name_word, named, next, Quoted, quoted_of, RefusedFor, StandsWithin, VaryArguments, Want}
 use Rattle.std.proofs.lemmas.Slice.Eq.{bytes_eq-Decides}
-use Rattle.script_read.specs.declared.method.MethodName.{MethodName}
 use Rattle.std.proofs.lemmas.List.{drop_more, drop_all, append-nil}
-use Rattle.script_read.specs.declared.stop.LineStop.{LineStop}
-use Rattle.script_read.specs.declared.token.Quoted.{Quoted}
 use Rattle.script_read.proofs.FirstBads.{good_name, refused_later}
 use Rattle.rdf_values.specs.scripts.LineForms.{call}
-use Rattle.script_read.specs.declared.method.ActionName.{ActionName}
-use Rattle.script_read.specs.declared.token.Mark.{Mark}
 use Rattle.script_read.proofs.Joined.{asked_tokens, asked_free}
 use Rattle.rdf_values.specs.scripts.LineForms as form
 use Rattle.rdf_values.specs.scripts.Statements as st

@@ -2,15 +2,10 @@
 use Rattle.std.proofs.Common.{◌≡◌, ◌∙◌, ℤ, List, [], ◌∷◌, ◌++◌, Some, refl, sym, ap, append_assoc, ℕ, Bool, true, false, Option, subst, codes, not, ◌||◌, if◌then◌else◌}
 use Rattle.std.proofs.lemmas.List.{append-nil}
 use Rattle.rdf_values.specs.{bare_tokens, LineToken, maybe_string, more_edges, more_strings, PlacedToken, QuotedText, arguments, edges_tokens, Form, form_tokens, has_free_names, is_free, Method, method_word, same, Strings, strings_tokens}
-use Rattle.script_read.specs.{AMark, ANumber, AString, Begins, BeginsNot, MaybeString, MoreEdges, MoreStrings, one_string_wants, Took, walk_placed, Want, ALine, AMethod, arguments_wants, asked_form, asking_wants, AWord, booking_wants, edges_wants, method_wants, name_of, name_word, next, strings_wants, token_of, TookArguments, TookBooking, TookForm, variation_wants, VaryArguments}
-use Rattle.script_read.specs.declared.token.Mark.{Mark}
+use Rattle.script_read.specs.{ActionName, ALine, AMark, AMethod, ANumber, arguments_wants, asked_form, asking_wants, AString, AWord, Begins, BeginsNot, booking_wants, edges_wants, Mark, MaybeString, method_wants, MethodName, MoreEdges, MoreStrings, name_of, name_word, next, one_string_wants, Quoted, strings_wants, Token, token_of, Took, TookArguments, TookBooking, TookForm, variation_wants, VaryArguments, walk_placed, Want}
 use Rattle.script_read.proofs.Walked.{walk_over, close_wanted, IsList, a_string, an_edge, next_item, list_end, columns_wanted}
 use Rattle.std.proofs.lemmas.Slice.Eq.{bytes_eq-Decides}
 use Rattle.rdf_values.specs.scripts.LineForms.{Edges, call}
-use Rattle.script_read.specs.declared.method.MethodName.{MethodName}
-use Rattle.script_read.specs.declared.method.ActionName.{ActionName}
-use Rattle.script_read.specs.declared.token.Token.{Token}
-use Rattle.script_read.specs.declared.token.Quoted.{Quoted}
 use Rattle.rdf_values.specs.scripts.LineTokens as t
 use Rattle.rdf_values.specs.scripts.LineForms as form
 

@@ -6,6 +6,5 @@ pub mod Items
 pub mod Joined
 pub mod TokenSteps
 pub mod Passed
-pub mod StringStops
 pub mod Stuck
 pub mod Walked

@@ -5,10 +5,7 @@ use Rattle.rdf_values.specs.{arguments, edges_tokens, Form, form_tokens, has_fre
 use Rattle.rdf_values.specs.scripts.LineTokens as t
 use Rattle.rdf_values.specs.scripts.LineForms.{call}
 use Rattle.rdf_values.specs.scripts.LineForms as form
-use Rattle.script_read.specs.{ALine, AMark, AMethod, arguments_wants, asking_wants, AString, AWord, booking_wants, Done, edges_wants, MaybeString, method_wants, MoreEdges, MoreStrings, name_word, next, one_string_wants, variation_wants, walk, WalkEnd, Want}
-use Rattle.script_read.specs.declared.method.MethodName.{MethodName}
-use Rattle.script_read.specs.declared.method.ActionName.{ActionName}
-use Rattle.script_read.specs.declared.token.Mark.{Mark}
+use Rattle.script_read.specs.{ActionName, ALine, AMark, AMethod, arguments_wants, asking_wants, AString, AWord, booking_wants, Done, edges_wants, Mark, MaybeString, method_wants, MethodName, MoreEdges, MoreStrings, name_word, next, one_string_wants, variation_wants, walk, WalkEnd, Want}
 use Rattle.script_read.proofs.Walked.{is_name_next}
 use Rattle.script_read.proofs.Joined.{line_next, method_next}
 

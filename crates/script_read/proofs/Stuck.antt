@@ -4,9 +4,8 @@ use Rattle.std.proofs.lemmas.List.{append-nil, length-map, map-append}
 use Rattle.rdf_values.specs.{bare_tokens, BeginsLine, Form, IsForm, line_tokens, LineToken, PlacedToken, RefusesLine, StopsAt}
 use Rattle.rdf_values.specs.scripts.Scripts as script
 use Rattle.rdf_values.specs.scripts.Statements as refused
-use Rattle.script_read.specs.{ALine, Done, next, place_from, placed_of, RefusedFor, StuckAt, walk, walk_on, walk_placed, WalkEnd, Want}
-use Rattle.script_read.specs.declared.token.Placed.{Placed}
-use Rattle.script_read.specs.declared.stop.LineStop.{LineStop}
+use Rattle.script_read.specs.{ALine, Done, LineStop, next, place_from, placed_of, RefusedFor, StuckAt, walk, walk_on, walk_placed, WalkEnd, Want}
+use Rattle.script_read.specs.declared.form.Placed.{Placed}
 use Rattle.script_read.proofs.Items.{Items, items_tokens, some_items, first_items, last_items, both_items, BeginsItem, Follows, follows}
 use Rattle.script_read.proofs.Passed.{line_passes}
 

@@ -2,11 +2,8 @@
 use Rattle.std.proofs.Common.{◌≡◌, ◌∙◌, ℕ, ℤ, List, [], ◌∷◌, ◌++◌, Option, Some, None, Bool, true, false, refl, sym, ap, subst, if◌then◌else◌}
 use Rattle.rdf_values.specs.{bare_tokens, is_free, LineToken, PlacedToken}
 use Rattle.rdf_values.specs.scripts.LineTokens as t
-use Rattle.script_read.specs.{ALine, AMark, AMethod, ANumber, AString, AWord, Begins, BeginsNot, is_mark, IsStuck, mark_token, MaybeString, MoreEdges, MoreStrings, next, one_string_wants, strings_wants, token_of, Took, variation_wants, VaryArguments, walk, walk_on, walk_placed, Want}
-use Rattle.script_read.specs.declared.token.Token.{Token}
-use Rattle.script_read.specs.declared.token.Word.{Word}
-use Rattle.script_read.specs.declared.token.Quoted.{Quoted}
-use Rattle.script_read.specs.declared.token.Mark.{Mark}
+use Rattle.script_read.specs.{ALine, AMark, AMethod, ANumber, AString, AWord, Begins, BeginsNot, is_mark, IsStuck, Mark, mark_token, MaybeString, MoreEdges, MoreStrings, next, one_string_wants, Quoted, strings_wants, Token, token_of, Took, variation_wants, VaryArguments, walk, walk_on, walk_placed, Want}
+use Rattle.script_read.specs.declared.form.Word.{Word}
 
 -- a token that can stand there is passed over
 pub walk_over : {t : LineToken} {old new : List PlacedToken} → (w : Want) (ws k : List Want) → Begins t old new → next w t ≡ Some ws → walk_placed old (w ∷ k) ≡ walk_placed new (ws ++ k)

@@ -1,18 +1,19 @@
 -- What tokens and forms are to the definitions.
-use Rattle.std.specs.Prelude.{ℤ, map, option_map}
+use Rattle.std.specs.Prelude.{ℤ, List, map, option_map}
 use Rattle.rdf_values.specs.{LineToken, PlacedToken, QuotedText, Strings}
 use Rattle.rdf_values.specs.scripts.LineTokens as t
 use Rattle.rdf_values.specs.scripts.LineForms.{Edges}
 use Rattle.rdf_values.specs.scripts.LineForms as f
-use Rattle.script_read.specs.declared.token.Mark.{Mark}
-use Rattle.script_read.specs.declared.token.Token.{Token}
-use Rattle.script_read.specs.declared.token.Quoted.{Quoted}
-use Rattle.script_read.specs.declared.token.Placed.{Placed}
+use Rattle.script_read.specs.declared.form.Mark.{Mark}
+use Rattle.script_read.specs.declared.form.Token.{Token}
+use Rattle.script_read.specs.declared.form.Quoted.{Quoted}
+use Rattle.script_read.specs.declared.form.Placed.{Placed}
 use Rattle.script_read.specs.declared.lexeme.Lexeme.{Lexeme}
 use Rattle.script_read.specs.declared.form.OneOrMore.{OneOrMore}
 use Rattle.script_read.specs.declared.form.Action.{Action}
 use Rattle.script_read.specs.declared.form.Method.{Method}
 use Rattle.script_read.specs.declared.form.Form.{Form}
+use Rattle.script_read.specs.declared.walk.Walk.{Walk}
 
 -- ---- tokens
 
@@ -40,6 +41,10 @@ token_of (Token.Mark m) = mark_token m
 -- a token at its place
 abbrev pub placed_of : Placed → PlacedToken
 placed_of p = record { token = token_of p.token; place = p.place }
+
+-- the tokens that a walk has left
+abbrev pub left_of : Walk → List PlacedToken
+left_of w = map placed_of w.left.now
 
 -- a lexeme
 abbrev pub lexeme_of : Lexeme → t.Lexeme

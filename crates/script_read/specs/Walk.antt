@@ -4,9 +4,9 @@ use Rattle.rdf_values.specs.{arguments, bare_tokens, Form, form_tokens, has_free
 use Rattle.rdf_values.specs.scripts.LineTokens as t
 use Rattle.rdf_values.specs.scripts.LineForms as form
 use Rattle.script_read.specs.Views.{mark_token}
-use Rattle.script_read.specs.declared.method.MethodName.{MethodName}
-use Rattle.script_read.specs.declared.method.ActionName.{ActionName}
-use Rattle.script_read.specs.declared.token.Mark.{Mark}
+use Rattle.script_read.specs.declared.walk.MethodName.{MethodName}
+use Rattle.script_read.specs.declared.walk.ActionName.{ActionName}
+use Rattle.script_read.specs.declared.form.Mark.{Mark}
 
 -- ---- marks
 
@@ -94,20 +94,15 @@ variation_wants = AMark Mark.Comma ∷ AString ∷ AMark Mark.Comma ∷ strings_
 
 -- what stands in a method's parentheses, with the closing one
 abbrev pub arguments_wants : MethodName → List Want
-arguments_wants MethodName.Define = two_string_wants
-arguments_wants MethodName.Redefine = two_string_wants
-arguments_wants MethodName.Alias = two_string_wants
 arguments_wants MethodName.Filter = AString ∷ MaybeString ∷ []
 arguments_wants MethodName.Vary = VaryArguments ∷ []
-arguments_wants (MethodName.Action ActionName.Count) = AMark Mark.Close ∷ []
 arguments_wants MethodName.Report = AMark Mark.Close ∷ []
-arguments_wants (MethodName.Action ActionName.Sum) = one_string_wants
-arguments_wants (MethodName.Action ActionName.Min) = one_string_wants
-arguments_wants (MethodName.Action ActionName.Max) = one_string_wants
-arguments_wants (MethodName.Action ActionName.Take) = one_string_wants
-arguments_wants (MethodName.Action ActionName.Reduce) = two_string_wants
+arguments_wants (MethodName.Action ActionName.Count) = AMark Mark.Close ∷ []
 arguments_wants (MethodName.Action ActionName.Histo1D) = edges_wants ++ AMark Mark.Comma ∷ AString ∷ MaybeString ∷ []
 arguments_wants (MethodName.Action ActionName.Histo2D) = edges_wants ++ AMark Mark.Comma ∷ (edges_wants ++ AMark Mark.Comma ∷ AString ∷ AMark Mark.Comma ∷ AString ∷ MaybeString ∷ [])
+arguments_wants (MethodName.Action ActionName.Reduce) = two_string_wants
+arguments_wants (MethodName.Action a) = one_string_wants
+arguments_wants n = two_string_wants
 
 -- what follows the name of a method
 abbrev pub method_wants : MethodName → List Want

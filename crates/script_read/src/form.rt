@@ -1,5 +1,49 @@
-// The forms of a line: what it books or asks for, with its strings as they stand.
-use crate::token::{Quoted, Word};
+// The tokens of a line, and the forms that they make: what a line books or asks for, with its strings as they stand.
+ghost use Rattle.std.specs.Prelude.{◌≡◌, ◌+◌, ◌<◌, true, length};
+ghost use Rattle.rdf_values.specs.{is_name};
+
+/// A word, which is a name.
+#[derive(Clone, Copy)]
+pub(crate) struct Word<'a> {
+    pub(crate) bytes: &'a [u8],
+    pub ghost named: { is_name bytes.now ≡ true },
+}
+
+/// A string: the place of its first quote in the line, and what stands between its quotes.
+#[derive(Clone, Copy)]
+pub(crate) struct Quoted<'a> {
+    pub(crate) place: u32,
+    pub(crate) content: &'a [u8],
+    pub ghost within: { place + length content.now < 65536 },
+}
+
+/// A token that is the same wherever it stands.
+#[derive(Clone, Copy, Debug, PartialEq, Eq)]
+pub(crate) enum Mark {
+    Equals,
+    Dot,
+    Open,
+    Close,
+    OpenBracket,
+    CloseBracket,
+    Comma,
+}
+
+/// A word, a canonical integer, a string, or a mark.
+#[derive(Clone, Copy)]
+pub(crate) enum Token<'a> {
+    Word(Word<'a>),
+    Number(i64),
+    Quoted(Quoted<'a>),
+    Mark(Mark),
+}
+
+/// A token and its place in the line.
+#[derive(Clone, Copy)]
+pub(crate) struct Placed<'a> {
+    pub(crate) token: Token<'a>,
+    pub(crate) place: u32,
+}
 
 /// Items of which there is one at least.
 #[derive(Drop)]
@@ -8,7 +52,8 @@ pub(crate) struct OneOrMore<T> {
     pub(crate) rest: Vec<T>,
 }
 
-/// What is computed over the entries of a node; a Reduce names its operation before its column.
+/// What is computed over the entries of a node. A Reduce names its operation before its column; a histogram its edges, its
+/// columns and its weight.
 #[derive(Drop)]
 pub(crate) enum Action<'a> {
     Count,
@@ -17,51 +62,20 @@ pub(crate) enum Action<'a> {
     Max(Quoted<'a>),
     Take(Quoted<'a>),
     Reduce(Quoted<'a>, Quoted<'a>),
-    Histo1D {
-        x_edges: OneOrMore<i64>,
-        x: Quoted<'a>,
-        weight: Option<Quoted<'a>>,
-    },
-    Histo2D {
-        x_edges: OneOrMore<i64>,
-        y_edges: OneOrMore<i64>,
-        x: Quoted<'a>,
-        y: Quoted<'a>,
-        weight: Option<Quoted<'a>>,
-    },
+    Histo1D(OneOrMore<i64>, Quoted<'a>, Option<Quoted<'a>>),
+    Histo2D(OneOrMore<i64>, OneOrMore<i64>, Quoted<'a>, Quoted<'a>, Option<Quoted<'a>>),
 }
 
-/// What is called on a node.
+/// What is called on a node, with its strings in the order of the line: a column before its expression or its target, and the
+/// columns, the values, the tags and the name of a Vary.
 #[derive(Drop)]
 pub(crate) enum Method<'a> {
-    Define {
-        column: Quoted<'a>,
-        expr: Quoted<'a>,
-    },
-    Redefine {
-        column: Quoted<'a>,
-        expr: Quoted<'a>,
-    },
-    Alias {
-        column: Quoted<'a>,
-        target: Quoted<'a>,
-    },
-    Filter {
-        expr: Quoted<'a>,
-        label: Option<Quoted<'a>>,
-    },
-    VaryOne {
-        column: Quoted<'a>,
-        values: Quoted<'a>,
-        tags: OneOrMore<Quoted<'a>>,
-        name: Option<Quoted<'a>>,
-    },
-    VaryAll {
-        columns: OneOrMore<Quoted<'a>>,
-        values: Quoted<'a>,
-        tags: OneOrMore<Quoted<'a>>,
-        name: Quoted<'a>,
-    },
+    Define(Quoted<'a>, Quoted<'a>),
+    Redefine(Quoted<'a>, Quoted<'a>),
+    Alias(Quoted<'a>, Quoted<'a>),
+    Filter(Quoted<'a>, Option<Quoted<'a>>),
+    VaryOne(Quoted<'a>, Quoted<'a>, OneOrMore<Quoted<'a>>, Option<Quoted<'a>>),
+    VaryAll(OneOrMore<Quoted<'a>>, Quoted<'a>, OneOrMore<Quoted<'a>>, Quoted<'a>),
     Report,
     Action(Action<'a>),
 }

@@ -1,23 +1,25 @@
-// What a line begins with at a place.
-ghost use Rattle.std.specs.Prelude.{◌≡◌, ◌==◌, ◌+◌, ◌-◌, ◌<◌, ◌≤◌, ◌∷◌, ◌||◌, ℕ, List, true, length, drop, position};
+// The tokens of a line, and what it begins with at a place.
+ghost use Rattle.std.specs.Prelude.{◌≡◌, ◌==◌, ◌+◌, ◌-◌, ◌<◌, ◌≤◌, ◌∷◌, ◌||◌, ℕ, List, true, length, drop, map, position, Ok, IfOk, IfErr};
 ghost use Rattle.std.specs.List.{list_all};
-ghost use Rattle.rdf_values.specs.{between, integer_lexeme, integer_of, is_digit, is_name, is_word, lexeme, mark_lexeme, string_lexeme, word_lexeme};
-ghost use Rattle.script_read.specs.{lexeme_of};
+ghost use Rattle.rdf_values.specs.{between, integer_lexeme, integer_of, is_digit, is_name, is_word, lexeme, line_tokens, mark_lexeme, RefusesLine, string_lexeme, word_lexeme};
+ghost use Rattle.script_read.specs.{lexeme_of, placed_of, RefusedFor};
 
-use crate::token::{Mark, Quoted, Token, Word};
+use crate::form::{Mark, Placed, Quoted, Token, Word};
+use crate::refusal::LineStop;
 use rdf_values::read_integer;
 use rdf_values::scripts::name::is_word_start;
 use rdf_values::tables::word::{digits_size, is_digit, word_size};
+use std::alloc::Global;
 
 const LONGEST_NAME: usize = 64;
 
-/// A blank, a comment to the end of the line, a byte that begins no token, or a token with so many bytes behind its first.
+// A blank, a comment to the end of the line, a byte that begins no token, or a token with so many bytes behind its first.
 #[derive(Clone, Copy)]
-pub(crate) enum Lexeme<'a> {
+enum Lexeme<'a> {
     Blank,
     Comment,
     Bad,
-    Found { token: Token<'a>, more: usize },
+    Found(Token<'a>, usize),
 }
 
 fn begins_integer(byte: u8) -> bool
@@ -56,10 +58,7 @@ fn word(bytes: &[u8]) -> Lexeme<'_>
     if !is_name(bytes) {
         return Lexeme::Bad;
     }
-    Lexeme::Found {
-        token: Token::Word(Word { bytes }),
-        more: bytes.len() - 1,
-    }
+    Lexeme::Found(Token::Word(Word { bytes }), bytes.len() - 1)
 }
 
 // The lexeme of some digits, maybe behind a `-`.
@@ -68,10 +67,7 @@ fn integer(text: &[u8]) -> Lexeme<'static>
     ensures { lexeme_of result ≡ integer_lexeme (length text.now - 1) (integer_of text.now) }
 {
     match read_integer(text) {
-        Some(number) => Lexeme::Found {
-            token: Token::Number(number),
-            more: text.len() - 1,
-        },
+        Some(number) => Lexeme::Found(Token::Number(number), text.len() - 1),
         None => Lexeme::Bad,
     }
 }
@@ -89,10 +85,7 @@ fn string(place: u32, text: &[u8]) -> Lexeme<'_>
     if !are_printable(content) {
         return Lexeme::Bad;
     }
-    Lexeme::Found {
-        token: Token::Quoted(Quoted { place, content }),
-        more: end + 1,
-    }
+    Lexeme::Found(Token::Quoted(Quoted { place, content }), end + 1)
 }
 
 fn mark(byte: u8) -> Lexeme<'static>
@@ -108,15 +101,12 @@ fn mark(byte: u8) -> Lexeme<'static>
         b',' => Mark::Comma,
         _ => return Lexeme::Bad,
     };
-    Lexeme::Found {
-        token: Token::Mark(mark),
-        more: 0,
-    }
+    Lexeme::Found(Token::Mark(mark), 0)
 }
 
-/// What the line has at the place.
+// What the line has at the place.
 #[tactic(auto, unfolding(rdf_values::specs::scripts::LineTokens::lexeme))]
-pub(crate) fn lexeme_at(line: &[u8], place: usize) -> Lexeme<'_>
+fn lexeme_at(line: &[u8], place: usize) -> Lexeme<'_>
     requires inside { place < length line.now }
     requires short { length line.now ≤ 65536 }
     ensures { (c : ℕ) (cs : List ℕ) → drop place line.now ≡ c ∷ cs → lexeme_of result ≡ lexeme place c cs }
@@ -130,4 +120,30 @@ pub(crate) fn lexeme_at(line: &[u8], place: usize) -> Lexeme<'_>
         first if begins_integer(first) => integer(&text[..1 + digits_size(&text[1..])]),
         first => mark(first),
     }
+}
+
+/// The tokens of a line.
+#[tactic(auto, using(crate::proofs::TokenSteps::at_end, crate::proofs::TokenSteps::step_comment))]
+pub(crate) fn tokenize(alloc: Global, line: &[u8]) -> Result<Vec<Placed<'_>>, LineStop>
+    requires { length line.now ≤ 65536 }
+    ensures ok { IfOk result (λ v. line_tokens line.now ≡ Ok (map placed_of v.items)) }
+    ensures err { IfErr result (λ e. RefusedFor (RefusesLine line.now) e) }
+{
+    let mut found = Vec::new(alloc);
+    let mut place = 0;
+    while place < line.len() {
+        match lexeme_at(line, place) {
+            Lexeme::Blank => place += 1,
+            Lexeme::Comment => break,
+            Lexeme::Bad => return Err(LineStop::Syntax(place as u32)),
+            Lexeme::Found(token, more) => {
+                found.push(Placed {
+                    token,
+                    place: place as u32,
+                })?;
+                place += 1 + more;
+            }
+        }
+    }
+    Ok(found)
 }

@@ -3,19 +3,12 @@
 #![tactic(auto)]
 
 mod form;
-mod laws;
 mod lexeme;
-mod lines;
-mod method;
 mod read;
 mod refusal;
 mod statement;
-mod stop;
 mod strings;
-mod token;
-mod tokenizer;
 mod walk;
 
-pub use crate::laws::one_answer;
-pub use crate::read::read_script;
+pub use crate::read::{one_answer, read_script};
 pub use crate::refusal::ScriptRefusal;

@@ -1,18 +1,46 @@
 // Reads scripts.
-ghost use Rattle.std.specs.Prelude.{◌≡◌, ◌≤◌, ◌↔◌, ◌⊎◌, ℕ, List, length, IfOk, IfErr, MatchOption, MatchResult};
-ghost use Rattle.rdf_values.specs.{IsBlankLine, IsLine, IsScript, RefusesLine, RefusesScript, Script, ScriptCause};
+ghost use Rattle.std.specs.Io.BufRead.{strip_last};
+ghost use Rattle.std.specs.Prelude.{◌≡◌, ◌<◌, ◌≤◌, ◌∷◌, ◌==◌, ◌↔◌, ◌⊎◌, ℕ, List, length, position, IfOk, IfErr, MatchOption, MatchResult};
+ghost use Rattle.rdf_values.specs.{IsBlankLine, IsLine, IsScript, lines_of, RefusesLine, RefusesScript, Script, ScriptCause};
 ghost use Rattle.script_read.specs.{AddsLine, RefusedFor, RefusesFirstAs, RefusesTextAs};
 
-use crate::lines::first_line;
-use crate::refusal::ScriptRefusal;
+use crate::lexeme::tokenize;
+use crate::refusal::{LineStop, ScriptRefusal};
 use crate::statement::read_statement;
-use crate::stop::LineStop;
-use crate::tokenizer::tokenize;
 use crate::walk::read_form;
 use rdf_values::{Line, ListOf, Script, ScriptCause, Statement};
 use std::alloc::Global;
 
 const MOST_STATEMENTS: usize = 256;
+
+fn find_line_end(text: &[u8]) -> Option<usize>
+    ensures { result ≡ position (λ byte. byte == 10) text.now }
+{
+    text.iter().position(|byte| *byte == b'\n')
+}
+
+fn without_cr(line: &[u8]) -> &[u8]
+    ensures { result.now ≡ strip_last 13 line.now }
+{
+    match line.split_last() {
+        Some((b'\r', front)) => front,
+        _ => line,
+    }
+}
+
+// The first line of a text, without its LF and a CR directly before it, and the bytes behind it.
+#[tactic(auto, using(rdf_values::proofs::Fronts::rest_of, crate::proofs::FirstLines::first_end, crate::proofs::FirstLines::none_behind))]
+fn first_line(text: &[u8]) -> (&[u8], &[u8])
+    requires { 0 < length text.now }
+    ensures lines { lines_of text.now ≡ result.0.now ∷ lines_of result.1.now }
+    ensures line { length result.0.now ≤ length text.now }
+    ensures rest { length result.1.now < length text.now }
+{
+    match find_line_end(text) {
+        Some(end) => (without_cr(&text[..end]), &text[end + 1..]),
+        None => (text, &[]),
+    }
+}
 
 // The statement of a line, if it has tokens.
 fn read_line(alloc: Global, line: &[u8]) -> Result<Option<Statement>, LineStop>
@@ -34,11 +62,11 @@ fn refusal_at(number: u32, stop: LineStop) -> ScriptRefusal
     ensures refused { (line : List ℕ) (before : ℕ) → RefusedFor (RefusesLine line) stop → RefusesFirstAs number before line result }
 {
     match stop {
-        LineStop::Syntax { place } => ScriptRefusal::At(ScriptCause::Syntax {
+        LineStop::Syntax(place) => ScriptRefusal::At(ScriptCause::Syntax {
             line: number,
             place,
         }),
-        LineStop::Expression { place, cause } => ScriptRefusal::At(ScriptCause::Expression {
+        LineStop::Expression(place, cause) => ScriptRefusal::At(ScriptCause::Expression {
             line: number,
             place,
             cause,
@@ -91,3 +119,11 @@ pub fn read_script(alloc: Global, text: &[u8]) -> Result<Script, ScriptRefusal>
     }
     Ok(Script { lines })
 }
+
+/// Each text is one script or is refused for one cause, and not both; the function does nothing, and its contract is the law.
+pub fn one_answer()
+    ensures answered { (text : List ℕ) → ((s : Script) × IsScript text s) ⊎ ((c : ScriptCause) × RefusesScript text c) }
+    ensures one_script { (text : List ℕ) (s t : Script) → IsScript text s → IsScript text t → s ≡ t }
+    ensures one_cause { (text : List ℕ) (c d : ScriptCause) → RefusesScript text c → RefusesScript text d → c ≡ d }
+    ensures not_both { (text : List ℕ) (s : Script) (c : ScriptCause) → IsScript text s → RefusesScript text c → ⊥ }
+{}

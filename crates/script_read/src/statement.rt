@@ -1,16 +1,15 @@
 // What a form says.
-#![tactic(auto, using(crate::proofs::FirstBads::refusals))]
+#![tactic(auto, using(crate::proofs::FirstBads::refusals, crate::proofs::FirstBads::sayings))]
 
-ghost use Rattle.std.specs.Prelude.{◌≡◌, [], ◌∷◌, option_map, IfOk, IfErr};
+ghost use Rattle.std.specs.Prelude.{◌≡◌, option_map, IfOk, IfErr};
 ghost use Rattle.rdf_values.specs.scripts.LineForms as line;
-ghost use Rattle.rdf_values.specs.{all_edges, AName, AnExpression, FirstBad, form_strings, IsAction, IsName, maybe_wanted, method_strings, ReadsText, Says};
+ghost use Rattle.rdf_values.specs.{all_edges, AName, FirstBad, form_strings, IsAction, maybe_wanted, method_strings, Says};
 ghost use Rattle.script_read.specs.{action_of, edges_of, form_of, IsNamed, method_of, quoted_of, RefusedFor, strings_of};
 
-use crate::form::{Action, Form, Method, OneOrMore};
-use crate::stop::LineStop;
+use crate::form::{Action, Form, Method, OneOrMore, Quoted, Word};
+use crate::refusal::LineStop;
 use crate::strings;
-use crate::token::{Quoted, Word};
-use rdf_values::{ActionKind, Expr, IntList, ListOf, Name, Statement};
+use rdf_values::{ActionKind, IntList, ListOf, Name, Statement};
 use std::alloc::Global;
 
 // The name that a word is.
@@ -24,20 +23,6 @@ fn name_of(alloc: Global, word: &Word<'_>) -> Result<Name, LineStop>
     }
 }
 
-// The column and the expression of a Define or a Redefine.
-fn definition(
-    alloc: Global,
-    column: &Quoted<'_>,
-    expr: &Quoted<'_>,
-) -> Result<(Name, Expr), LineStop>
-    ensures ok { IfOk result (λ r. IsName (quoted_of column.now) r.0 × ReadsText expr.now.content.now r.1) }
-    ensures err { IfErr result (λ e. RefusedFor (FirstBad ((quoted_of column.now, AName) ∷ (quoted_of expr.now, AnExpression) ∷ [])) e) }
-{
-    let column = strings::name(alloc, column)?;
-    let expr = strings::expression(alloc, expr)?;
-    Ok((column, expr))
-}
-
 // The name of a Vary of one column: its own, or the column's.
 fn variation(alloc: Global, column: &Name, name: &Option<Quoted<'_>>) -> Result<Name, LineStop>
     ensures ok { IfOk result (λ n. IsNamed column.now (option_map quoted_of name.now) n) }
@@ -47,16 +32,6 @@ fn variation(alloc: Global, column: &Name, name: &Option<Quoted<'_>>) -> Result<
         Some(name) => strings::name(alloc, name),
         None => Ok(column.copy(alloc)?),
     }
-}
-
-// A list of one name.
-fn only(alloc: Global, name: Name) -> Result<ListOf<Name>, LineStop>
-    ensures ok { IfOk result (λ names. names ≡ name ∷ []) }
-    ensures err { IfErr result (λ e. e ≡ LineStop.Memory) }
-{
-    let mut names = ListOf::new(alloc);
-    names.push(name)?;
-    Ok(names)
 }
 
 fn vary_one(
@@ -75,7 +50,8 @@ fn vary_one(
     let values = strings::values(alloc, values)?;
     let tags = strings::names(alloc, tags)?;
     let name = variation(alloc, &column, name)?;
-    let columns = only(alloc, column)?;
+    let mut columns = ListOf::new(alloc);
+    columns.push(column)?;
     Ok(Statement::Vary {
         node,
         parent,
@@ -123,46 +99,6 @@ fn edges(alloc: Global, numbers: &OneOrMore<i64>) -> Result<IntList, LineStop>
     Ok(edges)
 }
 
-fn histo1d(
-    alloc: Global,
-    x_edges: &OneOrMore<i64>,
-    x: &Quoted<'_>,
-    weight: &Option<Quoted<'_>>,
-) -> Result<ActionKind, LineStop>
-    ensures ok { IfOk result (λ k. IsAction (line.Histo1D (edges_of x_edges.now) (quoted_of x.now) (option_map quoted_of weight.now)) k) }
-    ensures err { IfErr result (λ e. RefusedFor (FirstBad (method_strings (line.Histo1D (edges_of x_edges.now) (quoted_of x.now) (option_map quoted_of weight.now)))) e) }
-{
-    let x_edges = edges(alloc, x_edges)?;
-    let x = strings::name(alloc, x)?;
-    let weight = strings::maybe_name(alloc, weight)?;
-    Ok(ActionKind::Histo1D { x_edges, x, weight })
-}
-
-fn histo2d(
-    alloc: Global,
-    x_edges: &OneOrMore<i64>,
-    y_edges: &OneOrMore<i64>,
-    x: &Quoted<'_>,
-    y: &Quoted<'_>,
-    weight: &Option<Quoted<'_>>,
-) -> Result<ActionKind, LineStop>
-    ensures ok { IfOk result (λ k. IsAction (line.Histo2D (edges_of x_edges.now) (edges_of y_edges.now) (quoted_of x.now) (quoted_of y.now) (option_map quoted_of weight.now)) k) }
-    ensures err { IfErr result (λ e. RefusedFor (FirstBad (method_strings (line.Histo2D (edges_of x_edges.now) (edges_of y_edges.now) (quoted_of x.now) (quoted_of y.now) (option_map quoted_of weight.now)))) e) }
-{
-    let x_edges = edges(alloc, x_edges)?;
-    let y_edges = edges(alloc, y_edges)?;
-    let x = strings::name(alloc, x)?;
-    let y = strings::name(alloc, y)?;
-    let weight = strings::maybe_name(alloc, weight)?;
-    Ok(ActionKind::Histo2D {
-        x_edges,
-        y_edges,
-        x,
-        y,
-        weight,
-    })
-}
-
 // What an action computes.
 fn action_kind(alloc: Global, action: &Action<'_>) -> Result<ActionKind, LineStop>
     ensures ok { IfOk result (λ k. IsAction (action_of action.now) k) }
@@ -179,14 +115,19 @@ fn action_kind(alloc: Global, action: &Action<'_>) -> Result<ActionKind, LineSto
             let column = strings::name(alloc, column)?;
             Ok(ActionKind::Reduce(operation, column))
         }
-        Action::Histo1D { x_edges, x, weight } => histo1d(alloc, x_edges, x, weight),
-        Action::Histo2D {
-            x_edges,
-            y_edges,
-            x,
-            y,
-            weight,
-        } => histo2d(alloc, x_edges, y_edges, x, y, weight),
+        Action::Histo1D(x_edges, x, weight) => {
+            let x_edges = edges(alloc, x_edges)?;
+            let x = strings::name(alloc, x)?;
+            let weight = strings::maybe_name(alloc, weight)?;
+            Ok(ActionKind::Histo1D { x_edges, x, weight })
+        }
+        Action::Histo2D(x_edges, y_edges, x, y, weight) => Ok(ActionKind::Histo2D {
+            x_edges: edges(alloc, x_edges)?,
+            y_edges: edges(alloc, y_edges)?,
+            x: strings::name(alloc, x)?,
+            y: strings::name(alloc, y)?,
+            weight: strings::maybe_name(alloc, weight)?,
+        }),
     }
 }
 
@@ -201,8 +142,9 @@ fn booking(
     ensures err { IfErr result (λ e. RefusedFor (FirstBad (method_strings (method_of method.now))) e) }
 {
     match method {
-        Method::Define { column, expr } => {
-            let (column, expr) = definition(alloc, column, expr)?;
+        Method::Define(column, expr) => {
+            let column = strings::name(alloc, column)?;
+            let expr = strings::expression(alloc, expr)?;
             Ok(Statement::Define {
                 node,
                 parent,
@@ -210,8 +152,9 @@ fn booking(
                 expr,
             })
         }
-        Method::Redefine { column, expr } => {
-            let (column, expr) = definition(alloc, column, expr)?;
+        Method::Redefine(column, expr) => {
+            let column = strings::name(alloc, column)?;
+            let expr = strings::expression(alloc, expr)?;
             Ok(Statement::Redefine {
                 node,
                 parent,
@@ -219,7 +162,7 @@ fn booking(
                 expr,
             })
         }
-        Method::Alias { column, target } => {
+        Method::Alias(column, target) => {
             let column = strings::name(alloc, column)?;
             let target = strings::name(alloc, target)?;
             Ok(Statement::Alias {
@@ -229,7 +172,7 @@ fn booking(
                 target,
             })
         }
-        Method::Filter { expr, label } => {
+        Method::Filter(expr, label) => {
             let expr = strings::expression(alloc, expr)?;
             let label = strings::maybe_label(alloc, label)?;
             Ok(Statement::Filter {
@@ -239,18 +182,12 @@ fn booking(
                 label,
             })
         }
-        Method::VaryOne {
-            column,
-            values,
-            tags,
-            name,
-        } => vary_one(alloc, node, parent, column, values, tags, name),
-        Method::VaryAll {
-            columns,
-            values,
-            tags,
-            name,
-        } => vary_all(alloc, node, parent, columns, values, tags, name),
+        Method::VaryOne(column, values, tags, name) => {
+            vary_one(alloc, node, parent, column, values, tags, name)
+        }
+        Method::VaryAll(columns, values, tags, name) => {
+            vary_all(alloc, node, parent, columns, values, tags, name)
+        }
         Method::Report => Ok(Statement::Report {
             result: node,
             parent,

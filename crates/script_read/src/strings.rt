@@ -3,9 +3,8 @@ ghost use Rattle.std.specs.Prelude.{◌≡◌, true, length, option_map, IfOk, I
 ghost use Rattle.rdf_values.specs.{ALabel, all_strings, AName, AnExpression, AnOperation, AreNames, FirstBad, is_label, IsBad, IsMaybeLabel, IsMaybeName, IsName, maybe_wanted, operation_text, ReadsText, ReadsValuesText, ReduceOp as Operation, SomeValues, wanted_names};
 ghost use Rattle.script_read.specs.{quoted_of, RefusedFor, StandsWithin, stop_in, strings_of};
 
-use crate::form::OneOrMore;
-use crate::stop::LineStop;
-use crate::token::Quoted;
+use crate::form::{OneOrMore, Quoted};
+use crate::refusal::LineStop;
 use expr_read::{ExprRefusal, read_expr, read_values};
 use rdf_values::{Expr, Label, ListOf, Name, ReduceOp, VaryValues};
 use std::alloc::Global;
@@ -17,14 +16,12 @@ pub(crate) fn name(alloc: Global, quoted: &Quoted<'_>) -> Result<Name, LineStop>
 {
     match Name::read(alloc, quoted.content)? {
         Some(name) => Ok(name),
-        None => Err(LineStop::Syntax {
-            place: quoted.place,
-        }),
+        None => Err(LineStop::Syntax(quoted.place)),
     }
 }
 
 /// A name, if there is a string.
-#[tactic(auto, using(crate::proofs::FirstBads::handed_on, crate::proofs::FirstBads::refused_here))]
+#[tactic(auto, using(crate::proofs::FirstBads::handed_on, crate::proofs::FirstBads::refused_here, rdf_values::specs::scripts::Statements::a_name))]
 pub(crate) fn maybe_name(
     alloc: Global,
     quoted: &Option<Quoted<'_>>,
@@ -62,14 +59,12 @@ fn label(alloc: Global, quoted: &Quoted<'_>) -> Result<Label, LineStop>
 {
     match Label::read(alloc, quoted.content)? {
         Some(label) => Ok(label),
-        None => Err(LineStop::Syntax {
-            place: quoted.place,
-        }),
+        None => Err(LineStop::Syntax(quoted.place)),
     }
 }
 
 /// A label, if there is a string.
-#[tactic(auto, using(crate::proofs::FirstBads::handed_on, crate::proofs::FirstBads::refused_here))]
+#[tactic(auto, using(crate::proofs::FirstBads::handed_on, crate::proofs::FirstBads::refused_here, rdf_values::specs::scripts::Statements::a_label))]
 pub(crate) fn maybe_label(
     alloc: Global,
     quoted: &Option<Quoted<'_>>,
@@ -105,9 +100,7 @@ pub(crate) fn operation(quoted: &Quoted<'_>) -> Result<ReduceOp, LineStop>
 {
     match operation_named(quoted.content) {
         Some(operation) => Ok(operation),
-        None => Err(LineStop::Syntax {
-            place: quoted.place,
-        }),
+        None => Err(LineStop::Syntax(quoted.place)),
     }
 }
 
@@ -117,16 +110,15 @@ fn in_line(quoted: &Quoted<'_>, refusal: ExprRefusal) -> LineStop
     ensures { result ≡ stop_in (quoted_of quoted.now) refusal }
 {
     match refusal {
-        ExprRefusal::At { cause, place } => LineStop::Expression {
-            place: quoted.place + 1 + place,
-            cause,
-        },
+        ExprRefusal::At { cause, place } => {
+            LineStop::Expression(quoted.place + 1 + place, cause)
+        }
         ExprRefusal::Memory => LineStop::Memory,
     }
 }
 
 /// An expression.
-#[tactic(auto, using(crate::proofs::Items::stands_within, crate::proofs::StringStops::no_expression))]
+#[tactic(auto, using(crate::proofs::Items::stands_within, crate::proofs::FirstBads::no_expression))]
 pub(crate) fn expression(alloc: Global, quoted: &Quoted<'_>) -> Result<Expr, LineStop>
     ensures ok { IfOk result (λ a. ReadsText quoted.now.content.now a) }
     ensures err { IfErr result (λ e. RefusedFor (IsBad (quoted_of quoted.now, AnExpression)) e) }
@@ -138,7 +130,7 @@ pub(crate) fn expression(alloc: Global, quoted: &Quoted<'_>) -> Result<Expr, Lin
 }
 
 /// The values of a Vary.
-#[tactic(auto, using(crate::proofs::Items::stands_within, crate::proofs::StringStops::no_values))]
+#[tactic(auto, using(crate::proofs::Items::stands_within, crate::proofs::FirstBads::no_values))]
 pub(crate) fn values(alloc: Global, quoted: &Quoted<'_>) -> Result<VaryValues, LineStop>
     ensures ok { IfOk result (λ v. ReadsValuesText quoted.now.content.now v) }
     ensures err { IfErr result (λ e. RefusedFor (IsBad (quoted_of quoted.now, SomeValues)) e) }

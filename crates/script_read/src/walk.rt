@@ -1,19 +1,68 @@
 // Reads the tokens of a line as a form, from the left with one token in hand.
-ghost use Rattle.std.specs.Prelude.{◌≡◌, ◌<◌, ℕ, List, [], ◌∷◌, ◌++◌, Ok, Err, map, drop, true, false, length, OnOk, IfOk, IfErr, option_map};
-ghost use Rattle.rdf_values.specs.{bare_tokens, Close as AsClose, Comma as AsComma, edges_tokens, is_free as is_free_word, IsForm, line_tokens, maybe_string, Open as AsOpen, Quoted as AsQuoted, RefusesLine, strings_tokens};
+ghost use Rattle.std.specs.Prelude.{◌≡◌, ◌<◌, ℕ, List, [], ◌∷◌, ◌++◌, Ok, Err, map, drop, true, false, length, OnOk, IfOk, IfErr, MatchOption, option_map};
+ghost use Rattle.rdf_values.specs.{arguments, bare_tokens, Close as AsClose, Comma as AsComma, edges_tokens, is_free as is_free_word, IsForm, line_tokens, maybe_string, method_word, Open as AsOpen, Quoted as AsQuoted, RefusesLine, strings_tokens};
+ghost use Rattle.rdf_values.specs.scripts.LineForms.{call};
 ghost use Rattle.rdf_values.specs.scripts.LineTokens.{Word as AsWord, Number as AsNumber};
-ghost use Rattle.script_read.specs.{ALine, AMark, ANumber, asked_form, asking_wants, AString, Ate, AWord, Begins, booking_wants, edges_of, edges_wants, form_of, IsStuck, mark_token, MaybeString, one_string_wants, place_from, placed_of, quoted_of, RefusedFor, strings_of, strings_wants, token_of, Took, TookBooking, TookForm, two_string_wants, Want as AnyWant};
+ghost use Rattle.script_read.specs.declared.walk.MethodName.{MethodName as AnyMethod};
+ghost use Rattle.script_read.specs.{action_of, ALine, AMark, AMethod, ANumber, arguments_wants, asked_form, asking_wants, AString, Ate, AWord, Begins, booking_wants, edges_of, edges_wants, form_of, IsStuck, mark_token, MaybeString, method_of, name_word, one_string_wants, place_from, placed_of, quoted_of, RefusedFor, SeesMethod, strings_of, strings_wants, token_of, Took, TookArguments, TookBooking, TookForm, two_string_wants, variation_wants, Want as AnyWant};
 
-use crate::form::{Form, OneOrMore};
-use crate::stop::LineStop;
-use crate::token::{Mark, Placed, Quoted, Token, Word};
+use crate::form::{Action, Form, Mark, Method, OneOrMore, Placed, Quoted, Token, Word};
+use crate::refusal::LineStop;
 use std::alloc::Global;
 
 /// The next token can't stand there, or no memory could be had.
 #[derive(Clone, Copy, Debug, PartialEq, Eq)]
-pub(crate) enum Fail {
+enum Fail {
     Unexpected,
     Memory,
+}
+
+/// What an action is called.
+#[derive(Clone, Copy, Debug, PartialEq, Eq)]
+enum ActionName {
+    Count,
+    Sum,
+    Min,
+    Max,
+    Take,
+    Reduce,
+    Histo1D,
+    Histo2D,
+}
+
+/// What a method is called.
+#[derive(Clone, Copy, Debug, PartialEq, Eq)]
+enum MethodName {
+    Define,
+    Redefine,
+    Alias,
+    Filter,
+    Vary,
+    Report,
+    Action(ActionName),
+}
+
+// The method that the word names.
+fn method_name(word: &[u8]) -> Option<MethodName>
+    ensures { MatchOption result ((n : AnyMethod) → word.now ≡ name_word n → ⊥) (λ n. word.now ≡ name_word n) }
+{
+    match word {
+        b"Define" => Some(MethodName::Define),
+        b"Redefine" => Some(MethodName::Redefine),
+        b"Alias" => Some(MethodName::Alias),
+        b"Filter" => Some(MethodName::Filter),
+        b"Vary" => Some(MethodName::Vary),
+        b"Report" => Some(MethodName::Report),
+        b"Count" => Some(MethodName::Action(ActionName::Count)),
+        b"Sum" => Some(MethodName::Action(ActionName::Sum)),
+        b"Min" => Some(MethodName::Action(ActionName::Min)),
+        b"Max" => Some(MethodName::Action(ActionName::Max)),
+        b"Take" => Some(MethodName::Action(ActionName::Take)),
+        b"Reduce" => Some(MethodName::Action(ActionName::Reduce)),
+        b"Histo1D" => Some(MethodName::Action(ActionName::Histo1D)),
+        b"Histo2D" => Some(MethodName::Action(ActionName::Histo2D)),
+        _ => None,
+    }
 }
 
 // Whether a name in a line may be this word.
@@ -51,9 +100,9 @@ fn push<T: Drop>(items: &mut Vec<T>, item: T) -> Result<(), Fail>
 
 /// The tokens that are left.
 #[derive(Drop)]
-pub(crate) struct Walk<'t, 'a> {
-    pub(crate) alloc: Global,
-    pub(crate) left: &'t [Placed<'a>],
+struct Walk<'t, 'a> {
+    alloc: Global,
+    left: &'t [Placed<'a>],
 }
 
 impl<'t, 'a> Walk<'t, 'a> {
@@ -61,7 +110,7 @@ impl<'t, 'a> Walk<'t, 'a> {
 
     // The next token.
     #[tactic(auto, using(std::proofs::lemmas::Grind::common_steps, crate::proofs::Walked::stuck_empty))]
-    pub(crate) fn peek(&self) -> Result<Token<'a>, Fail>
+    fn peek(&self) -> Result<Token<'a>, Fail>
         ensures sees { IfOk result (λ t. Begins (token_of t) (left_of self.now) (drop 1 (left_of self.now))) }
         ensures ends { IfErr result (λ e. left_of self.now ≡ []) }
         ensures stuck { IfErr result (λ e. (w : AnyWant) → IsStuck (w ∷ []) (left_of self.now) (left_of self.now)) }
@@ -73,7 +122,7 @@ impl<'t, 'a> Walk<'t, 'a> {
     }
 
     // Passes over the next token.
-    pub(crate) fn advance(&mut self)
+    fn advance(&mut self)
         requires { 0 < length self.old.left.now }
         ensures { left_of self.new ≡ drop 1 (left_of self.old) }
     {
@@ -81,7 +130,7 @@ impl<'t, 'a> Walk<'t, 'a> {
     }
 
     // Passes over the mark if it comes next.
-    pub(crate) fn eat(&mut self, mark: Mark) -> bool
+    fn eat(&mut self, mark: Mark) -> bool
         ensures { Ate mark result (left_of self.old) (left_of self.new) }
     {
         match self.peek() {
@@ -94,7 +143,7 @@ impl<'t, 'a> Walk<'t, 'a> {
     }
 
     #[tactic(auto, using(crate::proofs::Walked::took_mark, crate::proofs::Walked::stuck_mark))]
-    pub(crate) fn expect(&mut self, mark: Mark) -> Result<(), Fail>
+    fn expect(&mut self, mark: Mark) -> Result<(), Fail>
         ensures took { OnOk result (Took (AMark mark ∷ []) (mark_token mark ∷ []) (left_of self.old) (left_of self.new)) }
         ensures stuck { result ≡ Err Fail.Unexpected → IsStuck (AMark mark ∷ []) (left_of self.old) (left_of self.new) }
     {
@@ -105,7 +154,7 @@ impl<'t, 'a> Walk<'t, 'a> {
         }
     }
 
-    pub(crate) fn string(&mut self) -> Result<Quoted<'a>, Fail>
+    fn string(&mut self) -> Result<Quoted<'a>, Fail>
         ensures took { IfOk result (λ q. Took (AString ∷ []) (AsQuoted (quoted_of q) ∷ []) (left_of self.old) (left_of self.new)) }
         ensures stuck { result ≡ Err Fail.Unexpected → IsStuck (AString ∷ []) (left_of self.old) (left_of self.new) }
     {
@@ -148,7 +197,7 @@ impl<'t, 'a> Walk<'t, 'a> {
     }
 
     // A string and the `)` of the call.
-    pub(crate) fn last_string(&mut self) -> Result<Quoted<'a>, Fail>
+    fn last_string(&mut self) -> Result<Quoted<'a>, Fail>
         ensures took { IfOk result (λ q. Took one_string_wants (AsQuoted (quoted_of q) ∷ AsClose ∷ []) (left_of self.old) (left_of self.new)) }
         ensures stuck { result ≡ Err Fail.Unexpected → IsStuck one_string_wants (left_of self.old) (left_of self.new) }
     {
@@ -158,7 +207,7 @@ impl<'t, 'a> Walk<'t, 'a> {
     }
 
     // Two strings and the `)` of the call.
-    pub(crate) fn two_strings(&mut self) -> Result<(Quoted<'a>, Quoted<'a>), Fail>
+    fn two_strings(&mut self) -> Result<(Quoted<'a>, Quoted<'a>), Fail>
         ensures took { IfOk result (λ p. Took two_string_wants (AsQuoted (quoted_of p.0) ∷ AsComma ∷ AsQuoted (quoted_of p.1) ∷ AsClose ∷ []) (left_of self.old) (left_of self.new)) }
         ensures stuck { result ≡ Err Fail.Unexpected → IsStuck two_string_wants (left_of self.old) (left_of self.new) }
     {
@@ -170,7 +219,7 @@ impl<'t, 'a> Walk<'t, 'a> {
 
     // A further string or none, and the `)` of the call.
     #[tactic(auto, using(crate::proofs::Joined::none_wanted, std::proofs::lemmas::Grind::common_steps, crate::proofs::Joined::took_none))]
-    pub(crate) fn maybe_string(&mut self) -> Result<Option<Quoted<'a>>, Fail>
+    fn maybe_string(&mut self) -> Result<Option<Quoted<'a>>, Fail>
         ensures took { IfOk result (λ o. Took (MaybeString ∷ []) (maybe_string (option_map quoted_of o) ++ AsClose ∷ []) (left_of self.old) (left_of self.new)) }
         ensures stuck { result ≡ Err Fail.Unexpected → IsStuck (MaybeString ∷ []) (left_of self.old) (left_of self.new) }
     {
@@ -183,7 +232,7 @@ impl<'t, 'a> Walk<'t, 'a> {
     }
 
     // A list of strings.
-    pub(crate) fn strings(&mut self) -> Result<OneOrMore<Quoted<'a>>, Fail>
+    fn strings(&mut self) -> Result<OneOrMore<Quoted<'a>>, Fail>
         ensures took { IfOk result (λ s. Took strings_wants (strings_tokens (strings_of s)) (left_of self.old) (left_of self.new)) }
         ensures stuck { result ≡ Err Fail.Unexpected → IsStuck strings_wants (left_of self.old) (left_of self.new) }
     {
@@ -199,7 +248,7 @@ impl<'t, 'a> Walk<'t, 'a> {
     }
 
     // A list of edges.
-    pub(crate) fn edges(&mut self) -> Result<OneOrMore<i64>, Fail>
+    fn edges(&mut self) -> Result<OneOrMore<i64>, Fail>
         ensures took { IfOk result (λ s. Took edges_wants (edges_tokens (edges_of s)) (left_of self.old) (left_of self.new)) }
         ensures stuck { result ≡ Err Fail.Unexpected → IsStuck edges_wants (left_of self.old) (left_of self.new) }
     {
@@ -212,6 +261,144 @@ impl<'t, 'a> Walk<'t, 'a> {
         }
         self.expect(Mark::CloseBracket)?;
         Ok(OneOrMore { first, rest })
+    }
+
+    // The name of the method that comes next.
+    fn peek_method(&self) -> Result<MethodName, Fail>
+        ensures sees { IfOk result (λ n. SeesMethod n (left_of self.now)) }
+        ensures stuck { result ≡ Err Fail.Unexpected → IsStuck (AMethod ∷ []) (left_of self.now) (left_of self.now) }
+    {
+        let Token::Word(word) = self.peek()? else {
+            return Err(Fail::Unexpected);
+        };
+        match method_name(word.bytes) {
+            Some(name) => Ok(name),
+            None => Err(Fail::Unexpected),
+        }
+    }
+
+    // The values and the tags of a variation, behind its columns.
+    fn variation(&mut self) -> Result<(Quoted<'a>, OneOrMore<Quoted<'a>>), Fail>
+        ensures took { IfOk result (λ p. Took variation_wants (AsComma ∷ AsQuoted (quoted_of p.0) ∷ AsComma ∷ strings_tokens (strings_of p.1)) (left_of self.old) (left_of self.new)) }
+        ensures stuck { result ≡ Err Fail.Unexpected → IsStuck variation_wants (left_of self.old) (left_of self.new) }
+    {
+        self.expect(Mark::Comma)?;
+        let values = self.string()?;
+        self.expect(Mark::Comma)?;
+        let tags = self.strings()?;
+        Ok((values, tags))
+    }
+
+    fn vary(&mut self) -> Result<Method<'a>, Fail>
+        ensures took { IfOk result (λ m. TookArguments MethodName.Vary (method_of m) (left_of self.old) (left_of self.new)) }
+        ensures stuck { result ≡ Err Fail.Unexpected → IsStuck (arguments_wants MethodName.Vary) (left_of self.old) (left_of self.new) }
+    {
+        match self.peek()? {
+            Token::Quoted(column) => {
+                self.advance();
+                let (values, tags) = self.variation()?;
+                let name = self.maybe_string()?;
+                Ok(Method::VaryOne(column, values, tags, name))
+            }
+            _ => {
+                let columns = self.strings()?;
+                let (values, tags) = self.variation()?;
+                self.expect(Mark::Comma)?;
+                let name = self.last_string()?;
+                Ok(Method::VaryAll(columns, values, tags, name))
+            }
+        }
+    }
+
+    fn histo1d(&mut self) -> Result<Action<'a>, Fail>
+        ensures took { IfOk result (λ a. TookArguments (MethodName.Action ActionName.Histo1D) (action_of a) (left_of self.old) (left_of self.new)) }
+        ensures stuck { result ≡ Err Fail.Unexpected → IsStuck (arguments_wants (MethodName.Action ActionName.Histo1D)) (left_of self.old) (left_of self.new) }
+    {
+        let x_edges = self.edges()?;
+        self.expect(Mark::Comma)?;
+        let x = self.string()?;
+        let weight = self.maybe_string()?;
+        Ok(Action::Histo1D(x_edges, x, weight))
+    }
+
+    fn histo2d(&mut self) -> Result<Action<'a>, Fail>
+        ensures took { IfOk result (λ a. TookArguments (MethodName.Action ActionName.Histo2D) (action_of a) (left_of self.old) (left_of self.new)) }
+        ensures stuck { result ≡ Err Fail.Unexpected → IsStuck (arguments_wants (MethodName.Action ActionName.Histo2D)) (left_of self.old) (left_of self.new) }
+    {
+        let x_edges = self.edges()?;
+        self.expect(Mark::Comma)?;
+        let y_edges = self.edges()?;
+        self.expect(Mark::Comma)?;
+        let x = self.string()?;
+        self.expect(Mark::Comma)?;
+        let y = self.string()?;
+        let weight = self.maybe_string()?;
+        Ok(Action::Histo2D(x_edges, y_edges, x, y, weight))
+    }
+
+    fn action_arguments(&mut self, name: ActionName) -> Result<Action<'a>, Fail>
+        ensures took { IfOk result (λ a. TookArguments (MethodName.Action name) (action_of a) (left_of self.old) (left_of self.new)) }
+        ensures stuck { result ≡ Err Fail.Unexpected → IsStuck (arguments_wants (MethodName.Action name)) (left_of self.old) (left_of self.new) }
+    {
+        match name {
+            ActionName::Count => {
+                self.expect(Mark::Close)?;
+                Ok(Action::Count)
+            }
+            ActionName::Sum => Ok(Action::Sum(self.last_string()?)),
+            ActionName::Min => Ok(Action::Min(self.last_string()?)),
+            ActionName::Max => Ok(Action::Max(self.last_string()?)),
+            ActionName::Take => Ok(Action::Take(self.last_string()?)),
+            ActionName::Reduce => {
+                let (operation, column) = self.two_strings()?;
+                Ok(Action::Reduce(operation, column))
+            }
+            ActionName::Histo1D => self.histo1d(),
+            ActionName::Histo2D => self.histo2d(),
+        }
+    }
+
+    // What stands in the parentheses of a method, and the `)`.
+    fn arguments(&mut self, name: MethodName) -> Result<Method<'a>, Fail>
+        ensures took { IfOk result (λ m. TookArguments name (method_of m) (left_of self.old) (left_of self.new)) }
+        ensures stuck { result ≡ Err Fail.Unexpected → IsStuck (arguments_wants name) (left_of self.old) (left_of self.new) }
+    {
+        match name {
+            MethodName::Define => {
+                let (column, expr) = self.two_strings()?;
+                Ok(Method::Define(column, expr))
+            }
+            MethodName::Redefine => {
+                let (column, expr) = self.two_strings()?;
+                Ok(Method::Redefine(column, expr))
+            }
+            MethodName::Alias => {
+                let (column, target) = self.two_strings()?;
+                Ok(Method::Alias(column, target))
+            }
+            MethodName::Filter => {
+                let expr = self.string()?;
+                let label = self.maybe_string()?;
+                Ok(Method::Filter(expr, label))
+            }
+            MethodName::Vary => self.vary(),
+            MethodName::Report => {
+                self.expect(Mark::Close)?;
+                Ok(Method::Report)
+            }
+            MethodName::Action(action) => Ok(Method::Action(self.action_arguments(action)?)),
+        }
+    }
+
+    // A method, from its name to its `)`.
+    fn method(&mut self) -> Result<Method<'a>, Fail>
+        ensures took { IfOk result (λ m. Took (AMethod ∷ []) (call (method_word (method_of m)) (arguments (method_of m))) (left_of self.old) (left_of self.new)) }
+        ensures stuck { result ≡ Err Fail.Unexpected → IsStuck (AMethod ∷ []) (left_of self.old) (left_of self.new) }
+    {
+        let name = self.peek_method()?;
+        self.advance();
+        self.expect(Mark::Open)?;
+        self.arguments(name)
     }
 
     // What books the name, behind it.
@@ -269,7 +456,7 @@ fn stuck(left: &[Placed], end: u32) -> LineStop
         Some(placed) => placed.place,
         None => end,
     };
-    LineStop::Syntax { place }
+    LineStop::Syntax(place)
 }
 
 /// The form that the tokens of a line are; the line has so many bytes.

@@ -11,7 +11,5 @@ returns-in-Whole-clause-read g c =
 
 pub returns-in-Refused-clause-read : goal.returns-in-Refused-clause-read
 returns-in-Refused-clause-read g c =
-    let refused =
     rw c.in-Refused.is at
-    (c.in_ok-bytes.ensures (λ bytes. bytes) (g.S.Shelf.files c.args.shelf.now) (g.S.Shelf.faults c.args.shelf.now) (g.S.Shelf.faults c.fetch.new.shelf) c.in_ok-fetched.ensures.fetched) in
-    refused
+    (c.in_ok-bytes.ensures (λ bytes. bytes) (g.S.Shelf.files c.args.shelf.now) (g.S.Shelf.faults c.args.shelf.now) (g.S.Shelf.faults c.fetch.new.shelf) c.in_ok-fetched.ensures.fetched)

@@ -1,20 +1,9 @@
 use Rattle.rdf_values.specs.scripts.Statements as st
 use Rattle.script_read.proofs.statement.action_kind.Goals as goal
 
-pub returns-in-Count-clause-ok : goal.returns-in-Count-clause-ok
-returns-in-Count-clause-ok c = rw c.in-Count.is st.count
+pub returns-in_ok-weight-in-Histo1D-clause-ok : goal.returns-in_ok-weight-in-Histo1D-clause-ok
+returns-in_ok-weight-in-Histo1D-clause-ok c = rw (c.in-Histo1D.is, c.in_ok-x_edges-in-Histo1D.ensures.ok) (st.histo1d c.in_ok-x-in-Histo1D.ensures.ok c.in_ok-weight-in-Histo1D.ensures.ok)
 
-pub returns-in_ok-name-in-Sum-clause-ok : goal.returns-in_ok-name-in-Sum-clause-ok
-returns-in_ok-name-in-Sum-clause-ok c = rw c.in-Sum.is (st.sum c.in_ok-name-in-Sum.ensures.ok)
-
-pub returns-in_ok-name-in-Min-clause-ok : goal.returns-in_ok-name-in-Min-clause-ok
-returns-in_ok-name-in-Min-clause-ok c = rw c.in-Min.is (st.min c.in_ok-name-in-Min.ensures.ok)
-
-pub returns-in_ok-name-in-Max-clause-ok : goal.returns-in_ok-name-in-Max-clause-ok
-returns-in_ok-name-in-Max-clause-ok c = rw c.in-Max.is (st.max c.in_ok-name-in-Max.ensures.ok)
-
-pub returns-in_ok-name-in-Take-clause-ok : goal.returns-in_ok-name-in-Take-clause-ok
-returns-in_ok-name-in-Take-clause-ok c = rw c.in-Take.is (st.take c.in_ok-name-in-Take.ensures.ok)
-
-pub returns-in_ok-column-in-Reduce-clause-ok : goal.returns-in_ok-column-in-Reduce-clause-ok
-returns-in_ok-column-in-Reduce-clause-ok c = rw c.in-Reduce.is (st.reduce c.in_ok-operation-in-Reduce.ensures.ok c.in_ok-column-in-Reduce.ensures.ok)
+pub returns-in_ok-maybe_name-in-Histo2D-clause-ok : goal.returns-in_ok-maybe_name-in-Histo2D-clause-ok
+returns-in_ok-maybe_name-in-Histo2D-clause-ok c =
+    rw (c.in-Histo2D.is, c.in_ok-edges-in-Histo2D.ensures.ok, c.in_ok-edges-in-Histo2D-2.ensures.ok) (st.histo2d c.in_ok-name-in-Histo2D.ensures.ok c.in_ok-name-in-Histo2D-2.ensures.ok c.in_ok-maybe_name-in-Histo2D.ensures.ok)

@@ -1,9 +1,5 @@
-use Rattle.rdf_values.specs.scripts.Statements as st
 use Rattle.script_read.proofs.FirstBads.{handed_on, refused_here, refused_later, refused_before, refused_after, good_values, good_names}
 use Rattle.script_read.proofs.statement.vary_all.Goals as goal
-
-pub returns-clause-ok : goal.returns-clause-ok
-returns-clause-ok c = st.vary_all c.in_ok-columns.ensures.ok c.in_ok-values.ensures.ok c.in_ok-tags.ensures.ok c.in_ok-name.ensures.ok
 
 pub returns-in_err-tags-clause-err : goal.returns-in_err-tags-clause-err
 returns-in_err-tags-clause-err c =

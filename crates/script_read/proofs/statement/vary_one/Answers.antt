@@ -4,7 +4,7 @@ use Rattle.script_read.proofs.statement.vary_one.Goals as goal
 
 pub returns-clause-ok : goal.returns-clause-ok
 returns-clause-ok c =
-    rw c.in_ok-columns.ensures.ok (says_vary _ _ _ _ _ _ _ _ _ _ c.in_ok-column.ensures.ok c.in_ok-values.ensures.ok c.in_ok-tags.ensures.ok c.in_ok-name.ensures.ok)
+    rw (c.in_ok-push.ensures.ok, c.new-columns.ensures) (says_vary _ _ _ _ _ _ _ _ _ _ c.in_ok-column.ensures.ok c.in_ok-values.ensures.ok c.in_ok-tags.ensures.ok c.in_ok-name.ensures.ok)
 
 pub returns-in_err-tags-clause-err : goal.returns-in_err-tags-clause-err
 returns-in_err-tags-clause-err c =

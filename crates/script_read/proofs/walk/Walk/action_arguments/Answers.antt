@@ -1,7 +1,5 @@
 use Rattle.std.proofs.Common.{sym, subst}
-use Rattle.script_read.specs.{arguments_wants, IsStuck, left_of}
-use Rattle.script_read.specs.declared.method.ActionName.{ActionName}
-use Rattle.script_read.specs.declared.method.MethodName.{MethodName}
+use Rattle.script_read.specs.{ActionName, arguments_wants, IsStuck, left_of, MethodName}
 use Rattle.script_read.proofs.walk.Walk.action_arguments.Goals as goal
 
 pub returns-in-Histo2D-clause-stuck : goal.returns-in-Histo2D-clause-stuck

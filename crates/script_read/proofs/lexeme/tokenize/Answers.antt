@@ -3,7 +3,7 @@ use Rattle.lemmas.proofs.{common_steps, map-append}
 use Rattle.rdf_values.specs.{at_byte, Bad, Blank}
 use Rattle.script_read.specs.{placed_of}
 use Rattle.script_read.proofs.TokenSteps.{at_place, step_token, token_within}
-use Rattle.script_read.proofs.tokenizer.tokenize.Goals as goal
+use Rattle.script_read.proofs.lexeme.tokenize.Goals as goal
 
 pub loop-place-preserved-in-Blank : goal.loop-place-preserved-in-Blank
 loop-place-preserved-in-Blank c = record {

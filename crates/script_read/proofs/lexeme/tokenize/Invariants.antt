@@ -2,7 +2,7 @@ use Rattle.std.proofs.Common.{length, ◌-◌, ◌≡◌, ◌≤◌, map}
 use Rattle.rdf_values.specs.{line_tokens}
 use Rattle.script_read.specs.{placed_of}
 use Rattle.script_read.proofs.TokenSteps.{goes_on}
-use Rattle.script_read.proofs.tokenizer.tokenize.Given as goal
+use Rattle.script_read.proofs.lexeme.tokenize.Given as goal
 
 abbrev pub invariant-loop-place : goal.invariant-loop-place
 invariant-loop-place l = record {
