@@ -10,57 +10,23 @@ use Rattle.loop_keys.specs.{passes_in}
 use Rattle.loop_keys.proofs.PassNumbers.{lines_few}
 use Rattle.loop_pieces.specs.{place_if_watched, watched_from, watched_places}
 use Rattle.graph.proofs.Looped.{loops_few}
-use Rattle.event_loop.specs.{ArePartials, FilledLoop, fills, IsFilledAt, IsFilledPlace, IsFoundAt, IsPlaced, IsSession, IsUnfilled, session_job, SessionView, IsAccessed, IsFaulted, IsFilled, IsFilledIn, IsKept, job_facts, loop_filling, passes_run}
+use Rattle.event_loop.specs.{FilledLoop, fills, IsPlaced, IsSession, IsUnfilled, session_job, SessionView, IsAccessed, IsFaulted, IsFilled, IsFilledIn, IsKept, job_facts, loop_filling, passes_run}
 use Rattle.event_loop.specs.declared.place.Place.{Place}
 use Rattle.event_loop.proofs.Found.{watched-append, in_turn}
 use Rattle.event_loop.proofs.LoopResults.{many}
-use Rattle.event_loop.proofs.Printed.{place_first, printed_has_loop}
+use Rattle.event_loop.proofs.Printed.{printed_has_loop}
 use Rattle.graph.proofs.Listing.{place_at}
 use Rattle.rdf_values.specs.declared.scripts.statement.Statement.TheVariants.{Print}
 use Rattle.rdf_values.proofs.Evenly.{cuts_lead}
 use Rattle.rdf_model.proofs.Turns.{loops_come_in_turn}
 use Rattle.loop_pieces.proofs.ClusterFaults.{first_cluster_has_first_fault}
-use Rattle.event_loop.specs.declared.kept.Kept.{Kept}
+use Rattle.event_loop.specs.declared.session.Kept.{Kept}
 
 -- ---- loops by their numbers
 
 module _ (s : SessionView) (is : IsSession s) where
   pub loop_there : (l : ℕ) → l < length s.loops → l < length (graph_loops s.graph)
   loop_there l lt = let few = is.few in let same_length = many (history s.graph.script) (history s.graph.script) itself in omega (arith, lt, few, same_length)
-
-  pub loop_few : (l : ℕ) → l < length s.loops → l < 256
-  loop_few l lt =
-      let there = loop_there l lt in
-      let few = loops_few (history s.graph.script) (history s.graph.script) in
-      let statements = lines_few s.graph.script is.booked.bookable.few in
-      omega (arith, there, few, statements)
-
-  results_of : (l : ℕ) → l < length s.loops → (results : List Booked) × (slice_get (loop_results (history s.graph.script)) l ≡ Some results)
-  results_of l lt = let few = is.few in something_at (loop_results (history s.graph.script)) l (omega (arith, lt, few))
-
-  -- no loop before fills the result
-  abbrev pub NoneBefore : List ℕ → ℕ → Type 0
-  NoneBefore name l = (k : ℕ) (results : List Booked) → k < l → slice_get (loop_results (history s.graph.script)) k ≡ Some results → fills name results ≡ false
-
-  pub one_more : (name : List ℕ) (l : ℕ) → NoneBefore name l → ((results : List Booked) → slice_get (loop_results (history s.graph.script)) l ≡ Some results → fills name results ≡ false) → NoneBefore name (l + 1)
-  one_more name l before own = grind (arith, cases_lt)
-
-  pub none_left : (name : List ℕ) (n : ℕ) → length s.loops ≤ n → NoneBefore name n → IsUnfilled s name
-  none_left name n le before = grind (arith, cases_lt, place_at)
-
-  pub found : (b : Booked) (l : ℕ) (place : Place) → l < length s.loops → NoneBefore b.name l
-      → ((results : List Booked) → slice_get (loop_results (history s.graph.script)) l ≡ Some results → IsFilledPlace (history s.graph.script) b results place) → IsFoundAt s b l place
-  found b l place lt before own =
-      let results = results_of l lt in
-      let f = own results.0 results.1 in
-      record {
-        its_number = place_first (fills b.name) (loop_results (history s.graph.script)) l results.0 results.1 f.filled (λ k y less there. before k y less there);
-        completed = lt;
-        placed = subst (λ (ps : List Pass). IsPlaced (history s.graph.script) ps b place) (sym (ap (λ (o : Option (List Booked)). loop_passes (history s.graph.script) (unwrap_or o [])) results.1)) f.placed;
-      }
-
-  pub result_is : (b : Booked) (l : ℕ) (place : Place) (f : FilledLoop) → IsFoundAt s b l place → slice_get s.loops l ≡ Some f → IsFilledAt s b f place
-  result_is b l place f h at = record { number = l; its_number = h.its_number; its_loop = at; placed = h.placed }
 
   -- ---- watched results
 
@@ -88,30 +54,27 @@ module _ (s : SessionView) (is : IsSession s) where
 
 -- ---- by the result's number
 
-module _ (s : SessionView) (is : IsSession s) (r : ℕ) (lt : r < length (graph_results s.graph)) (l : ℕ) (place : Place)
-    (h : (x : ResultAt) → slice_get (graph_results s.graph) r ≡ Some x → IsFoundAt s x.booked l place) where
+module _ (s : SessionView) (is : IsSession s) (r : ℕ) (lt : r < length (graph_results s.graph)) (l : ℕ) (filled : (x : ResultAt) → slice_get (graph_results s.graph) r ≡ Some x → IsFilledIn s x.booked.name l) where
   row : (x : ResultAt) × (slice_get (graph_results s.graph) r ≡ Some x)
   row = something_at (graph_results s.graph) r lt
 
   pub completed_at : l < length s.loops
-  completed_at = (h row.0 row.1).completed
+  completed_at = (filled row.0 row.1).1
 
-  module _ (t : Bool) (set : t ≡ true)
-      (noted : (x : ResultAt) (n : ℕ) → slice_get (graph_results s.graph) r ≡ Some x → place_if_watched (history s.graph.script) n (record { result = x.booked; under = None }) ≡ (if t then n ∷ [] else [])) where
-    is_noted : (x : ResultAt) → slice_get (graph_results s.graph) r ≡ Some x → (n : ℕ) → place_if_watched (history s.graph.script) n (record { result = x.booked; under = None }) ≡ n ∷ []
-    is_noted x at n = noted x n at ∙ ap (λ (b : Bool). if b then n ∷ [] else []) set
+  -- the loop fills it
+  pub fills_it : (x : ResultAt) × (results : List Booked) × (slice_get (graph_results s.graph) r ≡ Some x) × (slice_get (loop_results (history s.graph.script)) l ≡ Some results) × (fills x.booked.name results ≡ true)
+  fills_it = let p = place_at (fills row.0.booked.name) (loop_results (history s.graph.script)) l (filled row.0 row.1).0 in (row.0, p.0, row.1, p.1, p.2)
 
-    pub lines_there_at : (f : FilledLoop) → slice_get s.loops l ≡ Some f → place.watched < length f.partials
-    lines_there_at f at =
+  module _ (place : Place) (told : (x : ResultAt) (results : List Booked) → slice_get (graph_results s.graph) r ≡ Some x → slice_get (loop_results (history s.graph.script)) l ≡ Some results → IsPlaced (history s.graph.script) (loop_passes (history s.graph.script) results) x.booked place) where
+    pub placed_at : (x : ResultAt) → slice_get (graph_results s.graph) r ≡ Some x → IsPlaced (history s.graph.script) (passes_in (session_job s l)) x.booked place
+    placed_at x at = let there = fills_it.3 in subst (λ (ps : List Pass). IsPlaced (history s.graph.script) ps x.booked place) (sym (ap (λ (o : Option (List Booked)). loop_passes (history s.graph.script) (unwrap_or o [])) there)) (told x fills_it.1 at there)
+
+    pub lines_there : ((x : ResultAt) (n : ℕ) → slice_get (graph_results s.graph) r ≡ Some x → place_if_watched (history s.graph.script) n (record { result = x.booked; under = None }) ≡ n ∷ []) → (f : FilledLoop) → slice_get s.loops l ≡ Some f → place.watched < length f.partials
+    lines_there noted f at =
         let passes = passes_in (session_job s l) in
         let many_lines = (is.filled l f at).partials.over.are.many in
-        let within = slice_get_within (watched_places (history s.graph.script) passes) place.watched place.first (noted_at s is row.0.booked passes place (h row.0 row.1).placed (is_noted row.0 row.1)) in
+        let within = slice_get_within (watched_places (history s.graph.script) passes) place.watched place.first (noted_at s is row.0.booked passes place (placed_at row.0 row.1) (λ n. noted row.0 n row.1)) in
         omega (arith, many_lines, within)
-
-    pub partials_at : (lines : List _) → ((f : FilledLoop) → slice_get s.loops l ≡ Some f → slice_get f.partials place.watched ≡ Some lines) → (x : ResultAt) → slice_get (graph_results s.graph) r ≡ Some x → ArePartials s x.booked lines
-    partials_at lines own x at =
-        let f = something_at s.loops l (h x at).completed in
-        record { filled = f.0; place = place; filled_at = result_is s is x.booked l place f.0 (h x at) f.1; watched = is_noted x at; its_lines = own f.0 f.1 }
 
 -- ---- faults
 
@@ -232,8 +195,8 @@ module _ (s : SessionView) (is : IsSession s) (print : ℕ) (next : print ≡ s.
   pub after_old : l < length s.loops → IsSession (record s { next = print + 1 })
   after_old lt = advanced s (print + 1) is (λ sound. loops_are sound ∙ sym (none_more (history s.graph.script) print a at (no_loop lt sound)))
 
-  pub accessed_old : (q r : ℕ) → q ≡ r → slice_get (graph_prints s.graph) print ≡ Some (Some q) → l < length s.loops → IsAccessed s (record s { next = print + 1 }) print r
-  accessed_old q r same_result result lt = grind (arith, same_access, found_is, no_loop, no_pass_no_fault)
+  pub accessed_old : (m : ℕ) → l ≡ m → l < length s.loops → IsAccessed s (record s { next = print + 1 }) print m
+  accessed_old m same_loop lt = grind (arith, same_access, found_is, no_loop, no_pass_no_fault)
 
   -- the loop is run
   record IsNext : Type 0 where
@@ -271,17 +234,16 @@ module _ (s : SessionView) (is : IsSession s) (print : ℕ) (next : print ≡ s.
           pushed s (print + 1) f loops is sound joined (subst (λ (m : ℕ). IsFilled (job_facts (session_job s m)) s.watch f) number filled) (omega (arith, number, within))
           (ap (λ (m : ℕ). m + 1) (loops_are sound) ∙ sym (one_loop_more (history s.graph.script) print a next_loop.results at next_loop.fills))
 
-      pub accessed_filled : (q r : ℕ) → q ≡ r → slice_get (graph_prints s.graph) print ≡ Some (Some q) → IsAccessed s (record s { next = print + 1; loops = loops }) print r
-      accessed_filled q r same_result result =
+      pub accessed_filled : (m : ℕ) → l ≡ m → IsAccessed s (record s { next = print + 1; loops = loops }) print m
+      accessed_filled m same_loop =
           let number = next_loop.number in
           let many = ap (λ (x : List FilledLoop). length x) joined ∙ length-append s.loops (f ∷ []) in
           record {
-            its_result = result ∙ ap (λ (n : ℕ). Some (Some n)) same_result;
             next = ap (λ (m : ℕ). m + 1) next;
             fault = refl;
             stays = λ k g there. ap (λ (x : List FilledLoop). slice_get x k) joined ∙ kept_at s.loops (f ∷ []) k g there;
-            filled = λ b there. subst (λ (x : Access). IsFilledIn (record s { next = print + 1; loops = loops }) x.result) (same_access b there) (record { number = l; its_number = found_is; completed = omega (arith, number, many) });
-            again = λ b there h. (let le = unfilled ge b there h.number h.its_number in let lt = h.completed in absurd (omega arith));
+            filled = λ b there. subst (λ (x : Access). IsFilledIn (record s { next = print + 1; loops = loops }) x.result m) (same_access b there) (found_is ∙ ap (λ (n : ℕ). Some n) same_loop, omega (arith, number, many));
+            again = λ b k there h. (let le = unfilled ge b there k h.0 in let lt = h.1 in absurd (omega arith));
             sound = λ b there h. subst (λ (x : Access). first_fault s.dataset (passes_run (history s.graph.script) x) ≡ None) (same_access b there)
                 (ap (first_fault s.dataset) (sym passes_are) ∙ sym (job_fault s is l) ∙ filled.sound);
           }
@@ -290,12 +252,12 @@ module _ (s : SessionView) (is : IsSession s) (print : ℕ) (next : print ≡ s.
       pub after_faulted : IsSession (record s { next = print + 1; fault = Some (record { loop_index = l; fault = f }) })
       after_faulted = faulted s (print + 1) (record { loop_index = l; fault = f }) is next_loop.number loop_within (sym (job_fault s is l) ∙ first)
 
-      pub faulted_new : (m : ℕ) (h : Fault) → l ≡ m → f ≡ h → IsFaulted s (record s { next = print + 1; fault = Some (record { loop_index = l; fault = f }) }) print m h
-      faulted_new m h same_loop same_fault = record {
+      pub faulted_new : (k : Kept) → record { loop_index = l; fault = f } ≡ k → IsFaulted s (record s { next = print + 1; fault = Some (record { loop_index = l; fault = f }) }) print k
+      faulted_new k same_fault = record {
         next = ap (λ (m : ℕ). m + 1) next;
         loops = refl;
-        fault = λ i. Some (record { loop_index = same_loop i; fault = same_fault i });
-        kept = λ k e. absurd (cc);
+        fault = ap (λ (j : Kept). Some j) same_fault;
+        kept = λ j e. absurd (cc);
         unfilled = unfilled ge;
-        ran = λ b there h. ap (slice_get (loop_results (history s.graph.script))) (sym same_loop) ∙ next_loop.its_results ∙ sym next_loop.fills ∙ ap (λ (x : Access). x.fills) (same_access b there);
+        ran = λ b there h. ap (λ (j : Kept). slice_get (loop_results (history s.graph.script)) j.loop_index) (sym same_fault) ∙ next_loop.its_results ∙ sym next_loop.fills ∙ ap (λ (x : Access). x.fills) (same_access b there);
       }

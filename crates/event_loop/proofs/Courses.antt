@@ -10,7 +10,7 @@ use Rattle.graph_numbers.proofs.Placing.{itself as all_of_it}
 use Rattle.graph_numbers.proofs.Resulting.{booked_are}
 use Rattle.loop_keys.specs.{passes_in}
 use Rattle.event_loop.specs.{FilledLoop, FitsCourse, GoesOn, HasSameParts, IsAccessed, IsFilledIn, IsKept, IsSession, session_job, SessionView, EndsAt, IsTranscript, job_facts, print_gives}
-use Rattle.event_loop.specs.declared.kept.Kept.{Kept}
+use Rattle.event_loop.specs.declared.session.Kept.{Kept}
 use Rattle.event_loop.proofs.Found.{booked_row, decoded, in_turn}
 use Rattle.event_loop.proofs.LoopResults.{many, one_number}
 use Rattle.graph.proofs.Listing.{place_at}
@@ -80,15 +80,18 @@ in_front_of_both : (before lines after : List ℕ) (rest : Printed) → after �
 in_front_of_both before lines after rest e =
     ap (λ (b : List ℕ). record { bytes = b; status = rest.status }) (sym (append_assoc before lines rest.bytes) ∙ ap (λ (l : List ℕ). l ++ rest.bytes) (sym e))
 
-pub goes_on : (old new : SessionView) (print r : ℕ) (before after : List ℕ) → IsSession old → HasSameParts old new → IsAccessed old new print r → old.fault ≡ None
+its_print : (old new : SessionView) (print r : ℕ) → HasSameParts old new → slice_get (graph_prints new.graph) print ≡ Some (Some r) → slice_get (graph_prints old.graph) print ≡ Some (Some r)
+its_print old new print r parts its = ap (λ (g : GraphView). slice_get (graph_prints g) print) (sym parts.graph) ∙ its
+
+pub goes_on : (old new : SessionView) (print l r : ℕ) (before after : List ℕ) → IsSession old → HasSameParts old new → IsAccessed old new print l → slice_get (graph_prints new.graph) print ≡ Some (Some r) → old.fault ≡ None
     → ((x : ResultAt) (course : Course) → slice_get (graph_results new.graph) r ≡ Some x → FitsCourse new course → after ≡ before ++ result_lines (history new.graph.script) new.dataset course x.booked)
     → GoesOn old new before after print
-goes_on old new print r before after is parts acc sound lines = record {
+goes_on old new print l r before after is parts acc its sound lines = record {
   next = acc.next;
   sound = acc.fault ∙ sound;
   stays = acc.stays;
   lines = λ course a rest fits at. (
-      let p = is_printed old is print r a at acc.its_result in
+      let p = is_printed old is print r a at (its_print old new print r parts its) in
       let added : after ≡ before ++ result_lines (history old.graph.script) old.dataset course p.row.booked =
       lines p.row course (ap (λ (g : GraphView). slice_get (graph_results g) r) parts.graph ∙ p.its_row) fits
       ∙ ap₂ (λ (g : GraphView) (d : Dataset). before ++ result_lines (history g.script) d course p.row.booked) parts.graph parts.dataset in
@@ -101,31 +104,33 @@ goes_on old new print r before after is parts acc sound lines = record {
 }
 
 -- what a result's lines want
-pub row_within : (old new : SessionView) (print r : ℕ) → IsSession old → HasSameParts old new → IsAccessed old new print r → print < length (accesses (history old.graph.script)) → r < length (graph_results new.graph)
-row_within old new print r is parts acc lt =
+pub row_within : (old new : SessionView) (print r : ℕ) → IsSession old → HasSameParts old new → slice_get (graph_prints new.graph) print ≡ Some (Some r) → print < length (accesses (history old.graph.script)) → r < length (graph_results new.graph)
+row_within old new print r is parts its lt =
     let a = something_at (accesses (history old.graph.script)) print lt in
-    let p = is_printed old is print r a.0 a.1 acc.its_result in
+    let p = is_printed old is print r a.0 a.1 (its_print old new print r parts its) in
     slice_get_within (graph_results new.graph) r p.row (ap (λ (g : GraphView). slice_get (graph_results g) r) parts.graph ∙ p.its_row)
 
-pub row_filled : (old new : SessionView) (print r : ℕ) → IsSession old → HasSameParts old new → IsAccessed old new print r → print < length (accesses (history old.graph.script))
-    → (x : ResultAt) → slice_get (graph_results new.graph) r ≡ Some x → IsFilledIn new x.booked.name
-row_filled old new print r is parts acc lt x at =
+pub row_filled : (old new : SessionView) (print l r : ℕ) → IsSession old → HasSameParts old new → IsAccessed old new print l → slice_get (graph_prints new.graph) print ≡ Some (Some r) → print < length (accesses (history old.graph.script))
+    → (x : ResultAt) → slice_get (graph_results new.graph) r ≡ Some x → IsFilledIn new x.booked.name l
+row_filled old new print l r is parts acc its lt x at =
     let a = something_at (accesses (history old.graph.script)) print lt in
-    let p = is_printed old is print r a.0 a.1 acc.its_result in
+    let p = is_printed old is print r a.0 a.1 (its_print old new print r parts its) in
     let same_row : p.row ≡ x = same_some (sym p.its_row ∙ ap (λ (g : GraphView). slice_get (graph_results g) r) (sym parts.graph) ∙ at) in
-    subst (IsFilledIn new) (p.its_name ∙ ap (λ (y : ResultAt). y.booked.name) same_row) (acc.filled a.0 a.1)
+    subst (λ (n : List ℕ). IsFilledIn new n l) (p.its_name ∙ ap (λ (y : ResultAt). y.booked.name) same_row) (acc.filled a.0 a.1)
 
 -- ---- the line of a fault
 
-kept_is : (new : SessionView) (l : ℕ) (f : Fault) → IsSession new → new.fault ≡ Some (record { loop_index = l; fault = f }) → IsKept new (record { loop_index = l; fault = f })
-kept_is new l f is e = subst (λ (o : Option Kept). IfSome o (IsKept new)) e is.kept
+kept_is : (new : SessionView) (k : Kept) → IsSession new → new.fault ≡ Some k → IsKept new k
+kept_is new k is e = subst (λ (o : Option Kept). IfSome o (IsKept new)) e is.kept
 
-pub fault_loop : (new : SessionView) (l : ℕ) (f : Fault) → IsSession new → new.fault ≡ Some (record { loop_index = l; fault = f }) → l < length (graph_loops new.graph)
-fault_loop new l f is e = grind (arith, kept_is, many, all_of_it)
+pub fault_loop : (new : SessionView) (k : Kept) → IsSession new → new.fault ≡ Some k → k.loop_index < length (graph_loops new.graph)
+fault_loop new k is e = grind (arith, kept_is, many, all_of_it)
 
-pub fault_pass : (new : SessionView) (l : ℕ) (f : Fault) → IsSession new → new.fault ≡ Some (record { loop_index = l; fault = f }) → (ps : List NumberedPass) → slice_get (graph_loops new.graph) l ≡ Some ps → f.pass < length ps
-fault_pass new l f is e ps at =
-    let kept = kept_is new l f is e in
+pub fault_pass : (new : SessionView) (k : Kept) → IsSession new → new.fault ≡ Some k → (ps : List NumberedPass) → slice_get (graph_loops new.graph) k.loop_index ≡ Some ps → k.fault.pass < length ps
+fault_pass new k is e ps at =
+    let l = k.loop_index in
+    let f = k.fault in
+    let kept = kept_is new k is e in
     let first = (first_fault_is_least new.dataset (passes_in (session_job new l))).0 f kept.first in
     let within = slice_get_within (passes_in (session_job new l)) f.pass first.pass first.its_pass in
     let results = something_at (loop_results (history new.graph.script)) l kept.there in

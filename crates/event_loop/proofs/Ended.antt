@@ -34,6 +34,10 @@ drawn_in fs = map (λ (s : SeatSeen). s.drawn) (map seat_in fs)
 abbrev pub IsKept : ℕ → ℕ → SeatSeen → Type 0
 IsKept clusters word s = IfSome s.kept (λ k. (clusters ≤ k) × (k < word))
 
+left_none : (fs : List Fault) → None ≡ least_fault fs → fs ≡ []
+left_none [] is = refl
+left_none (f ∷ fs) is = absurd (cc)
+
 module _ (c : ClaimsSeen) (b : Option BookSeen) (job : JobFacts) (bar : ℕ) where
   abbrev pub Ran : Finished → Type 0
   Ran f = HasStopped (record { claims = c; book = b }) job f
@@ -98,7 +102,7 @@ module _ (c : ClaimsSeen) (b : Option BookSeen) (job : JobFacts) (bar : ℕ) whe
       (r.0, among_right r.0 (fault_of f.end) (end_faults fs) r.1, r.2)
 
   -- the bar isn't below the number of clusters, or a slot met a fault there
-  pub reaches : (fs : List Finished) → c.clusters ≡ length job.faults → All Ran fs → All HasMemory fs → IsLeast c.clusters (map seat_in fs) bar → (length job.faults ≤ bar) ⊎ IsReached (end_faults fs)
+  reaches : (fs : List Finished) → c.clusters ≡ length job.faults → All Ran fs → All HasMemory fs → IsLeast c.clusters (map seat_in fs) bar → (length job.faults ≤ bar) ⊎ IsReached (end_faults fs)
   reaches fs few ran memory least = grind (arith, reached_at, slice_get-get_or, cases_lt)
 
   -- ---- where no slot faulted
@@ -110,7 +114,7 @@ module _ (c : ClaimsSeen) (b : Option BookSeen) (job : JobFacts) (bar : ℕ) whe
   is_over : (end : End) (rest : List Fault) → IsServed end → fault_of end ++ rest ≡ [] → ((state : SlotView) × (end ≡ Over state)) × (rest ≡ [])
   is_over end rest served none = grind arith
 
-  pub all_over : (fs : List Finished) → All HasMemory fs → end_faults fs ≡ [] → All IsOver fs
+  all_over : (fs : List Finished) → All HasMemory fs → end_faults fs ≡ [] → All IsOver fs
   all_over [] memory none = All-nil IsOver
   all_over (f ∷ fs) memory none =
       let first = is_over f.end (end_faults fs) (All-head HasMemory f fs memory) none in
@@ -123,7 +127,7 @@ module _ (c : ClaimsSeen) (b : Option BookSeen) (job : JobFacts) (bar : ℕ) whe
   over_first : (f : Finished) (fs : List Finished) (over : IsOver f) → flat_map done_in (f ∷ fs) ≡ record { state = over.0; share = f.slot.share } ∷ flat_map done_in fs
   over_first f fs over = ap (λ (e : End). done_or_none e f.slot.share ++ flat_map done_in fs) over.1
 
-  pub as_many : (fs : List Finished) → All IsOver fs → length (flat_map done_in fs) ≡ length fs
+  as_many : (fs : List Finished) → All IsOver fs → length (flat_map done_in fs) ≡ length fs
   as_many [] over = refl
   as_many (f ∷ fs) over = (let rest = as_many fs (All-tail IsOver f fs over) in omega (arith, rest, ap length (over_first f fs (All-head IsOver f fs over))))
 
@@ -134,7 +138,7 @@ module _ (c : ClaimsSeen) (b : Option BookSeen) (job : JobFacts) (bar : ℕ) whe
   kept_more None word s k = elim s [ ]
   kept_more (Some n) word s k = let x = k.0 in let y = k.1 in omega arith
 
-  pub all_drawn : (fs : List Finished) (word : ℕ) → 0 < length fs → c.clusters ≤ bar → All Ran fs → All IsOver fs → All (IsPassed bar) (map seat_in fs) → All (IsKept c.clusters word) (map seat_in fs) → c.clusters ≤ word
+  all_drawn : (fs : List Finished) (word : ℕ) → 0 < length fs → c.clusters ≤ bar → All Ran fs → All IsOver fs → All (IsPassed bar) (map seat_in fs) → All (IsKept c.clusters word) (map seat_in fs) → c.clusters ≤ word
   all_drawn [] word some high ran over passed kept = absurd (omega arith)
   all_drawn (f ∷ fs) word some high ran over passed kept =
       let first = All-head IsOver f fs over in
@@ -159,35 +163,58 @@ module _ (c : ClaimsSeen) (b : Option BookSeen) (job : JobFacts) (bar : ℕ) whe
       subst (All (IsDone b job)) (sym (over_first f fs first))
       (All-cons (IsDone b job) (record { state = first.0; share = f.slot.share }) (flat_map done_in fs) record { slot = worked.slot; going = worked.going; noted = worked.noted } (each_done fs (All-tail Ran f fs ran) (All-tail IsOver f fs over)))
 
-  module _ (fs : List Finished) (word : ℕ) (facts : AreFacts c.clusters job) (some : 0 < length fs) (ran : All Ran fs) (memory : All HasMemory fs)
-      (drawn : DrawnBy (drawn_in fs) (min word c.clusters)) (least : IsLeast c.clusters (map seat_in fs) bar) (passed : All (IsPassed bar) (map seat_in fs)) (kept : All (IsKept c.clusters word) (map seat_in fs)) where
+  -- what the slots told, and the seats; the least of the faults is known
+  pub record HaveEnded (fs : List Finished) (word : ℕ) (told : Option Fault) : Type 0 where
+    pub some : 0 < length fs
+    pub memory : All HasMemory fs
+    pub least : told ≡ least_fault (end_faults fs)
+    pub drawn : DrawnBy (drawn_in fs) (min word c.clusters)
+    pub lowest : IsLeast c.clusters (map seat_in fs) bar
+    pub passed : All (IsPassed bar) (map seat_in fs)
+    pub kept : All (IsKept c.clusters word) (map seat_in fs)
+
+  pub have_ended : (fs slots : List Finished) (word : ℕ) (told : Option Fault) (seats : List SeatSeen) → 0 < length fs → slots ≡ fs → All HasMemory slots → told ≡ least_fault (end_faults slots) → seats ≡ map seat_in fs
+      → DrawnBy (map (λ (s : SeatSeen). s.drawn) seats) (min word c.clusters) → IsLeast c.clusters seats bar → All (IsPassed bar) seats → All (IsKept c.clusters word) seats → HaveEnded fs word told
+  have_ended fs slots word told seats some same memory least are drawn lowest passed kept = record {
+    some = some;
+    memory = subst (All HasMemory) same memory;
+    least = least ∙ ap (λ (l : List Finished). least_fault (end_faults l)) same;
+    drawn = subst (λ (l : List SeatSeen). DrawnBy (map (λ (s : SeatSeen). s.drawn) l) (min word c.clusters)) are drawn;
+    lowest = subst (λ (l : List SeatSeen). IsLeast c.clusters l bar) are lowest;
+    passed = subst (All (IsPassed bar)) are passed;
+    kept = subst (All (IsKept c.clusters word)) are kept;
+  }
+
+  module _ (fs : List Finished) (word : ℕ) (told : Option Fault) (facts : AreFacts c.clusters job) (ran : All Ran fs) (h : HaveEnded fs word told) where
     high_bar : end_faults fs ≡ [] → c.clusters ≤ bar
-    high_bar none = grind (arith, reaches)
+    high_bar none = elim (subst (λ (l : List Fault). (length job.faults ≤ bar) ⊎ IsReached l) none (reaches fs (sym facts.faults) ran h.memory h.lowest)) [
+      | inl le ↦ omega (arith, le, facts.faults)
+      | inr r ↦ elim r.1 [ ]
+    ]
 
     full : end_faults fs ≡ [] → c.clusters ≤ word
-    full none = all_drawn fs word some (high_bar none) ran (all_over fs memory none) passed kept
+    full none = all_drawn fs word h.some (high_bar none) ran (all_over fs h.memory none) h.passed h.kept
 
     -- the least of the slots' faults is that of the first cluster that has one
-    pub least_is_first : least_fault (end_faults fs) ≡ first_in job.faults
-    least_is_first =
+    pub first_is : first_in job.faults ≡ told
+    first_is =
         let m = min word c.clusters in
-        let count : (k : ℕ) → times k (concat (drawn_in fs)) ≡ once_below k m = λ k. times_concat k (drawn_in fs) ∙ (counts_by_drawn (drawn_in fs) m drawn).1 k in
-        first_told job.faults bar m (concat (drawn_in fs)) (end_faults fs) facts.order (slots_told fs ran memory passed) (reaches fs (sym facts.faults) ran memory least)
+        let count : (k : ℕ) → times k (concat (drawn_in fs)) ≡ once_below k m = λ k. times_concat k (drawn_in fs) ∙ (counts_by_drawn (drawn_in fs) m h.drawn).1 k in
+        sym (first_told job.faults bar m (concat (drawn_in fs)) (end_faults fs) facts.order (slots_told fs ran h.memory h.passed) (reaches fs (sym facts.faults) ran h.memory h.lowest)
         (λ k lt. omega (arith, count k, once_inside k m lt))
         (λ k there. inside_once k m (omega (arith, count k)))
-        (λ none. let w = full none in let f = facts.faults in omega arith)
+        (λ none. let w = full none in let f = facts.faults in omega arith)) ∙ sym h.least
 
     -- where no slot faulted, they finished all clusters
-    pub are_done : end_faults fs ≡ [] → AreDone b job (flat_map done_in fs)
-    are_done none =
-        let over = all_over fs memory none in
-        let whole : min word c.clusters ≡ length job.faults = (let w = full none in let f = facts.faults in omega arith) in
-        record {
-          each = each_done fs ran over;
-          unite = drawn_lists_unite (map finished_by (flat_map done_in fs)) (length job.faults)
-              (subst (DrawnBy (map finished_by (flat_map done_in fs))) whole (subst (λ (l : List (List ℕ)). DrawnBy l (min word c.clusters)) (done_lists fs (high_bar none) ran over passed) drawn));
-        }
-
-pub left_none : (fs : List Fault) → None ≡ least_fault fs → fs ≡ []
-left_none [] is = refl
-left_none (f ∷ fs) is = absurd (cc)
+    pub are_done : told ≡ None → AreDone b job (flat_map done_in fs) × (length (flat_map done_in fs) ≡ length fs)
+    are_done sound =
+        let none = left_none (end_faults fs) (sym sound ∙ h.least) in
+        let over = all_over fs h.memory none in
+        let whole : min word c.clusters ≡ length job.faults = (let w = full none in let f = facts.faults in omega arith) in (
+          record {
+            each = each_done fs ran over;
+            unite = drawn_lists_unite (map finished_by (flat_map done_in fs)) (length job.faults)
+                (subst (DrawnBy (map finished_by (flat_map done_in fs))) whole (subst (λ (l : List (List ℕ)). DrawnBy l (min word c.clusters)) (done_lists fs (high_bar none) ran over h.passed) h.drawn));
+          },
+          as_many fs over,
+        )

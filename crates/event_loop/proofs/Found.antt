@@ -9,11 +9,11 @@ use Rattle.graph_numbers.proofs.Walks.{by_test}
 use Rattle.graph_numbers.proofs.Looping.{loops_are, result_are}
 use Rattle.graph_numbers.proofs.Resulting.{booked_are}
 use Rattle.loop_pieces.specs.{place_if_watched, watched_from, watched_places}
-use Rattle.event_loop.specs.{IsPassOf, fills, IsFilledPlace}
+use Rattle.event_loop.specs.{IsPassOf, IsPlaced, fills}
 use Rattle.loop_keys.proofs.Elements.{of_mapped}
 use Rattle.loop_keys.proofs.EntryLaws.{actions_few, all_taken}
 use Rattle.loop_keys.proofs.PassNumbers.{loop_few as passes_few}
-use Rattle.event_loop.proofs.LoopResults.{IsFound, IsMissed, found_or_missed, NoneOf, count_own, is_of, own_all, position_first, position_none}
+use Rattle.event_loop.proofs.LoopResults.{IsFound, NoneOf, count_own, is_found, is_of, own_all, position_first}
 use Rattle.std.specs.Prelude.{⊤}
 use Rattle.rdf_model.proofs.Accepted.{verdict_is_the_first_refusal}
 use Rattle.graph.specs.{AreNamedInTurn}
@@ -147,9 +147,6 @@ taken_at n xs i x at = ap (λ l. slice_get l i) (sym (take-append-drop n xs)) �
 
 -- ---- positions
 
-pub missed_at : (r : ℕ) (ps : List NumberedPass) → NoneOf r ps → position (is_of r) ps ≡ None
-missed_at r ps h = grind (arith, nat_tests, position_none r ps h)
-
 pub found_at : (r : ℕ) (xs : List NumberedPass) (p : NumberedPass) (ps : List NumberedPass) → NoneOf r xs → is_of r p ≡ true → position (is_of r) (xs ++ p ∷ ps) ≡ Some (length xs)
 found_at r xs p ps h met = grind (arith, nat_tests, position_first r xs p ps h met, length-append xs (p ∷ ps))
 
@@ -190,70 +187,56 @@ module _ (g : GraphView) (is : IsGraph g) (l : ℕ) (ps : List NumberedPass) (lo
   pub pass_of : (i : ℕ) (p : NumberedPass) → slice_get ps i ≡ Some p → IsPassOf g p
   pass_of i p at = record { its_result = result_within g l i p (is_pass_at g l i ps p loop at); its_variation = is_in_for (length (graph_variations g)) p.variation (variation_within g l i ps p loop at) }
 
-  module _ (results : List Booked) (there : slice_get (loop_results (booked_statements g)) l ≡ Some results) (r : ℕ) (x : ResultAt) (its : slice_get (graph_results g) r ≡ Some x) where
-    found_or : IsMissed (booked_statements g) r x.booked ps results ⊎ IsFound (booked_statements g) r x.booked ps results
-    found_or = found_or_missed (booked_statements g) (in_turn g is) r x.booked (booked_row g r x its) l ps results loop there
+  module _ (results : List Booked) (there : slice_get (loop_results (booked_statements g)) l ≡ Some results) (r : ℕ) (x : ResultAt) (its : slice_get (graph_results g) r ≡ Some x) (filled : fills x.booked.name results ≡ true) where
+    pub its_place : IsFound (booked_statements g) r x.booked ps
+    its_place = is_found (booked_statements g) (in_turn g is) r x.booked (booked_row g r x its) l ps results loop there filled
 
     -- the first of them is the nominal one
-    at_start : (f : IsFound (booked_statements g) r x.booked ps results) → position (is_of r) ps ≡ Some (length f.start)
-    at_start f = ap (position (is_of r)) f.numbered ∙ found_at r f.start _ _ f.none_before (own_all (booked_statements g) r x.booked).0
+    pub at_start : position (is_of r) ps ≡ Some (length its_place.start)
+    at_start = ap (position (is_of r)) its_place.numbered ∙ found_at r its_place.start _ _ its_place.none_before (own_all (booked_statements g) r x.booked).0
 
-    pub none_found : position (is_of r) ps ≡ None → fills x.booked.name results ≡ false
-    none_found e = elim found_or [ inl m ↦ m.0 | inr f ↦ absurd (cc (at_start f, e)) ]
+    own_many : count_by (is_of r) ps ≡ length (passes_of (booked_statements g) x.booked)
+    own_many =
+        let script = booked_statements g in
+        let own = result_passes script r x.booked in
+        ap (count_by (is_of r)) its_place.numbered ∙ count_own r its_place.start own its_place.rest its_place.none_before (own_all script r x.booked) its_place.none_after
+        ∙ sym (length-map own (pass_at script)) ∙ ap length (result_are script r x.booked (booked_row g r x its)) ∙ length-map (passes_of script x.booked) (λ (q : Pass). Some q)
 
-    module _ (n : ℕ) (at : position (is_of r) ps ≡ Some n) where
-      pub its_place : IsFound (booked_statements g) r x.booked ps results
-      its_place = elim found_or [ inl m ↦ absurd (cc (missed_at r ps m.1, at)) | inr f ↦ f ]
-
-      start_is : n ≡ length its_place.start
-      start_is = same_some (sym at ∙ at_start its_place)
-
-      front_is : take n ps ≡ its_place.start
-      front_is = ap₂ (λ (k : ℕ) (l : List NumberedPass). take k l) start_is its_place.numbered ∙ take_front its_place.start (result_passes (booked_statements g) r x.booked ++ its_place.rest)
-
-      pub own_many : count_by (is_of r) ps ≡ length (passes_of (booked_statements g) x.booked)
-      own_many =
-          let script = booked_statements g in
-          let own = result_passes script r x.booked in
-          ap (count_by (is_of r)) its_place.numbered ∙ count_own r its_place.start own its_place.rest its_place.none_before (own_all script r x.booked) its_place.none_after
-          ∙ sym (length-map own (pass_at script)) ∙ ap length (result_are script r x.booked (booked_row g r x its)) ∙ length-map (passes_of script x.booked) (λ (q : Pass). Some q)
-
-      pub place_is : length ps ≤ 33024 → (first watched own accumulators : ℕ)
-          → ((qs : List Pass) → AreDecoded (booked_statements g) (take n ps) qs → (first ≡ length (kinds_in qs)) × (watched ≡ length (watched_places (booked_statements g) qs)))
-          → own ≡ count_by (is_of r) ps → option_map (λ (y : ResultAt). length (kind_in y.booked.booking)) (slice_get (graph_results g) r) ≡ Some accumulators
-          → IsFilledPlace (booked_statements g) x.booked results (record { first = first; passes = own * accumulators; watched = watched })
-      place_is few first watched own accumulators counts own_is accumulators_is =
-          let script = booked_statements g in
-          let passes = loop_passes script results in
-          let its_own = passes_of script x.booked in
-          let all_decoded = decoded g l ps results loop there in
-          let parts = parted script its_place.start (result_passes script r x.booked ++ its_place.rest) passes (ap (map (pass_at script)) (sym its_place.numbered) ∙ all_decoded) in
-          let behind = parted script (result_passes script r x.booked) its_place.rest parts.1 parts.4 in
-          let own_same = same_passes behind.0 its_own (sym behind.3 ∙ result_are script r x.booked (booked_row g r x its)) in
-          let named : passes ≡ parts.0 ++ (its_own ++ behind.1) = parts.2 ∙ ap (λ (q : List Pass). parts.0 ++ q) (behind.2 ∙ ap (λ (q : List Pass). q ++ behind.1) own_same) in
-          let both = counts parts.0 (ap (map (pass_at script)) front_is ∙ parts.3) in
-          let many : accumulators ≡ length (kind_in x.booked.booking) = of_row (λ (b : Booked). length (kind_in b.booking)) (slice_get (graph_results g) r) x.booked accumulators (ap (option_map (λ (y : ResultAt). y.booked)) its) accumulators_is in
-          let first_is = both.0 in
-          let passes_is = ap₂ (λ (m k : ℕ). m * k) (own_is ∙ own_many) many ∙ sym (own_kinds x.booked its_own (passes_are_of script x.booked)) in
-          let all = ap (λ (q : List Pass). length (kinds_in q)) named in
-          let front = ap (λ (q : List _). length q) (kinds-append parts.0 (its_own ++ behind.1)) in
-          let back = ap (λ (q : List _). length q) (kinds-append its_own behind.1) in
-          let front_count = length-append (kinds_in parts.0) (kinds_in (its_own ++ behind.1)) in
-          let back_count = length-append (kinds_in its_own) (kinds_in behind.1) in
-          let few_kinds = kinds_few passes in
-          let same_length : length ps ≡ length passes = sym (length-map ps (pass_at script)) ∙ ap (λ (q : List _). length q) all_decoded ∙ length-map passes (λ (q : Pass). Some q) in
-          record {
-            filled = its_place.filled;
-            placed = record {
-              before = parts.0;
-              after = behind.1;
-              passes_are = named;
-              first = both.0;
-              passes = passes_is;
-              watched = both.1;
-              few = omega (arith, few, first_is, passes_is, all, front, back, front_count, back_count, few_kinds, same_length);
-            };
-          }
+    pub place_is : (n : ℕ) → position (is_of r) ps ≡ Some n → length ps ≤ 33024 → (first watched own accumulators : ℕ)
+        → ((qs : List Pass) → AreDecoded (booked_statements g) (take n ps) qs → (first ≡ length (kinds_in qs)) × (watched ≡ length (watched_places (booked_statements g) qs)))
+        → own ≡ count_by (is_of r) ps → option_map (λ (y : ResultAt). length (kind_in y.booked.booking)) (slice_get (graph_results g) r) ≡ Some accumulators
+        → IsPlaced (booked_statements g) (loop_passes (booked_statements g) results) x.booked (record { first = first; passes = own * accumulators; watched = watched })
+    place_is n at few first watched own accumulators counts own_is accumulators_is =
+        let script = booked_statements g in
+        let passes = loop_passes script results in
+        let its_own = passes_of script x.booked in
+        let front_is : take n ps ≡ its_place.start =
+        ap₂ (λ (k : ℕ) (l : List NumberedPass). take k l) (same_some (sym at ∙ at_start)) its_place.numbered ∙ take_front its_place.start (result_passes script r x.booked ++ its_place.rest) in
+        let all_decoded = decoded g l ps results loop there in
+        let parts = parted script its_place.start (result_passes script r x.booked ++ its_place.rest) passes (ap (map (pass_at script)) (sym its_place.numbered) ∙ all_decoded) in
+        let behind = parted script (result_passes script r x.booked) its_place.rest parts.1 parts.4 in
+        let own_same = same_passes behind.0 its_own (sym behind.3 ∙ result_are script r x.booked (booked_row g r x its)) in
+        let named : passes ≡ parts.0 ++ (its_own ++ behind.1) = parts.2 ∙ ap (λ (q : List Pass). parts.0 ++ q) (behind.2 ∙ ap (λ (q : List Pass). q ++ behind.1) own_same) in
+        let both = counts parts.0 (ap (map (pass_at script)) front_is ∙ parts.3) in
+        let many : accumulators ≡ length (kind_in x.booked.booking) = of_row (λ (b : Booked). length (kind_in b.booking)) (slice_get (graph_results g) r) x.booked accumulators (ap (option_map (λ (y : ResultAt). y.booked)) its) accumulators_is in
+        let first_is = both.0 in
+        let passes_is = ap₂ (λ (m k : ℕ). m * k) (own_is ∙ own_many) many ∙ sym (own_kinds x.booked its_own (passes_are_of script x.booked)) in
+        let all = ap (λ (q : List Pass). length (kinds_in q)) named in
+        let front = ap (λ (q : List _). length q) (kinds-append parts.0 (its_own ++ behind.1)) in
+        let back = ap (λ (q : List _). length q) (kinds-append its_own behind.1) in
+        let front_count = length-append (kinds_in parts.0) (kinds_in (its_own ++ behind.1)) in
+        let back_count = length-append (kinds_in its_own) (kinds_in behind.1) in
+        let few_kinds = kinds_few passes in
+        let same_length : length ps ≡ length passes = sym (length-map ps (pass_at script)) ∙ ap (λ (q : List _). length q) all_decoded ∙ length-map passes (λ (q : Pass). Some q) in
+        record {
+          before = parts.0;
+          after = behind.1;
+          passes_are = named;
+          first = both.0;
+          passes = passes_is;
+          watched = both.1;
+          few = omega (arith, few, first_is, passes_is, all, front, back, front_count, back_count, few_kinds, same_length);
+        }
 
 -- few passes, by the numbers of variations
 pub loop_few : (g : GraphView) → IsGraph g → (l : ℕ) (ps : List NumberedPass) → slice_get (graph_loops g) l ≡ Some ps → (vs : List Variation) (n : ℕ) → vs ≡ graph_variations g → n ≡ length vs → n ≤ 128 → length ps ≤ 33024

@@ -41,13 +41,7 @@ varied_none : (r n : ℕ) → n ≢ r → (vs : List ℕ) → NoneOf r (map (λ 
 varied_none r n ne [] = tt
 varied_none r n ne (v ∷ vs) = (ne_eqb n r ne, varied_none r n ne vs)
 
--- what passes the test and stands in a list is among the names of those that pass
-kept_among : (test : Booked → Bool) (bs : List Booked) (k : ℕ) (b : Booked) → slice_get bs k ≡ Some b → test b ≡ true → among b.name (names_of (filter test bs)) ≡ true
-kept_among test [] k b at met = absurd (cc)
-kept_among test (c ∷ bs) zero b at met = grind (arith, itself)
-kept_among test (c ∷ bs) (suc k) b at met = grind (arith, kept_among test bs k b at met)
-
--- and what is met among those that pass stands in the list
+-- what is met among those that pass a test stands in the list
 pub kept_any : (p test : Booked → Bool) (bs : List Booked) → list_any p (filter test bs) ≡ true → (k : ℕ) × (c : Booked) × (slice_get bs k ≡ Some c) × (test c ≡ true) × (p c ≡ true)
 kept_any p test [] h = absurd (cc)
 kept_any p test (c ∷ bs) h =
@@ -67,24 +61,15 @@ module _ (script : List Statement) where
   later_none test r n lt [] = tt
   later_none test r n lt (b ∷ bs) = grind (arith, none_both, cond_both, other_none, later_none test r (suc n) (omega arith) bs)
 
-  -- nor where the result doesn't pass the test
-  pub refused_none : (test : Booked → Bool) (r n : ℕ) (bs : List Booked) → ((k : ℕ) (b : Booked) → n + k ≡ r → slice_get bs k ≡ Some b → test b ≡ false) → NoneOf r (passes_from script test n bs)
-  refused_none test r n [] h = tt
-  refused_none test r n (b ∷ bs) h =
-      none_both r (if test b then result_passes script n b else []) (passes_from script test (suc n) bs)
-      (cond_both (test b) _ _ (NoneOf r) (λ is. other_none r n b (λ e. (let same : n + 0 ≡ r = omega arith in cc (is, h 0 b same refl)))) (λ _. tt))
-      (refused_none test r (suc n) bs (λ k c e at. h (suc k) c (omega arith) at))
-
   -- the passes of the result stand together in the loop
-  pub record IsFound (r : ℕ) (b : Booked) (ps : List NumberedPass) (results : List Booked) : Type 0 where
+  pub record IsFound (r : ℕ) (b : Booked) (ps : List NumberedPass) : Type 0 where
     pub start : List NumberedPass
     pub rest : List NumberedPass
     pub numbered : ps ≡ start ++ (result_passes script r b ++ rest)
     pub none_before : NoneOf r start
     pub none_after : NoneOf r rest
-    pub filled : fills b.name results ≡ true
 
-  pub split_at : (test : Booked → Bool) (r n k : ℕ) (bs : List Booked) (b : Booked) → n + k ≡ r → slice_get bs k ≡ Some b → test b ≡ true → IsFound r b (passes_from script test n bs) (filter test bs)
+  pub split_at : (test : Booked → Bool) (r n k : ℕ) (bs : List Booked) (b : Booked) → n + k ≡ r → slice_get bs k ≡ Some b → test b ≡ true → IsFound r b (passes_from script test n bs)
   split_at test r n k [] b e at met = absurd (cc)
   split_at test r n zero (c ∷ bs) b e at met =
       let same_result : c ≡ b = cc in
@@ -96,7 +81,6 @@ module _ (script : List Statement) where
         numbered = ap (λ (t : Bool). (if t then result_passes script n c else []) ++ passes_from script test (suc n) bs) first ∙ ap (λ (m : ℕ). result_passes script m c ++ passes_from script test (suc n) bs) same_number ∙ ap (λ (x : Booked). result_passes script r x ++ passes_from script test (suc n) bs) same_result;
         none_before = tt;
         none_after = later_none test r (suc n) (omega arith) bs;
-        filled = kept_among test (c ∷ bs) 0 b at met;
       }
   split_at test r n (suc k) (c ∷ bs) b e at met =
       let s = split_at test r (suc n) k bs b (omega arith) at met in
@@ -107,14 +91,9 @@ module _ (script : List Statement) where
         numbered = ap (λ l. own ++ l) s.numbered ∙ sym (append_assoc own s.start (result_passes script r b ++ s.rest));
         none_before = none_both r own s.start (cond_both (test c) _ _ (NoneOf r) (λ _. other_none r n c (λ q. omega arith)) (λ _. tt)) s.none_before;
         none_after = s.none_after;
-        filled = kept_among test (c ∷ bs) (suc k) b at met;
       }
 
 -- ---- what is found
-
-pub position_none : (r : ℕ) (ps : List NumberedPass) → NoneOf r ps → position_or_len (is_of r) ps ≡ length ps
-position_none r [] h = refl
-position_none r (p ∷ ps) h = let first = h.0 in let rest = position_none r ps h.1 in rw first (omega (arith, rest))
 
 pub position_first : (r : ℕ) (xs : List NumberedPass) (p : NumberedPass) (ps : List NumberedPass) → NoneOf r xs → is_of r p ≡ true → position_or_len (is_of r) (xs ++ p ∷ ps) ≡ length xs
 position_first r [] p ps h met = rw met refl
@@ -197,45 +176,16 @@ module _ (script : List Statement) where
       go false next p q = both next (before_or_last (loops script before) (passes_from script (waits before) 0 (bookings before)) l ps p) (before_or_last (loop_results before) (waiting before) l results q)
   loop_at (s ∷ before) e l ps results at there = loop_at before (shorter s before script e) l ps results (ap (λ x. slice_get x l) (sym (append-nil (loops script before))) ∙ at) there
 
-  abbrev pub IsMissed : ℕ → Booked → List NumberedPass → List Booked → Type 0
-  IsMissed r b ps results = (fills b.name results ≡ false) × NoneOf r ps
-
-  module _ (turn : AreNamedInTurn script) (r : ℕ) (b : Booked) (its : slice_get (bookings script) r ≡ Some b) where
-    in_loop : (before : List Statement) → Extends before script → IsMissed r b (passes_from script (waits before) 0 (bookings before)) (waiting before) ⊎ IsFound script r b (passes_from script (waits before) 0 (bookings before)) (waiting before)
-    in_loop before e = by_place (slice_get (bookings before) r) refl
-      where
-        is_it : (k : ℕ) (c : Booked) → slice_get (bookings before) k ≡ Some c → same b.name c.name ≡ true → (r ≡ k) × (b ≡ c)
-        is_it k c at q =
-            let number : r ≡ k = one_number script turn r k b c its (booked_kept before script e k c at) q in
-            (number, same_some (sym its ∙ ap (slice_get (bookings script)) number ∙ booked_kept before script e k c at))
-
-        missed : ((c : Booked) → slice_get (bookings before) r ≡ Some c → waits before c ≡ false) → IsMissed r b (passes_from script (waits before) 0 (bookings before)) (waiting before)
-        missed h = (
-          never_true (fills b.name (waiting before)) (λ q.
-              (let k = kept_any (λ (c : Booked). same b.name c.name) (waits before) (bookings before) (sym (any_map (λ (c : Booked). c.name) (same b.name) (waiting before)) ∙ q) in
-              let i = is_it k.0 k.1 k.2 k.4 in
-              let no = h k.1 (ap (slice_get (bookings before)) i.0 ∙ k.2) in let met = k.3 in absurd (cc))),
-          refused_none script (waits before) r 0 (bookings before) (λ k c q at. (let number : k ≡ r = omega arith in h c (ap (slice_get (bookings before)) (sym number) ∙ at))),
-        )
-
-        found : (c : Booked) → slice_get (bookings before) r ≡ Some c → waits before c ≡ true → IsFound script r b (passes_from script (waits before) 0 (bookings before)) (waiting before)
-        found c at met =
-            let is : c ≡ b = same_some (sym (booked_kept before script e r c at) ∙ its) in
-            let there : slice_get (bookings before) r ≡ Some b = at ∙ ap (λ (x : Booked). Some x) is in
-            let waits_too : waits before b ≡ true = ap (waits before) (sym is) ∙ met in
-            split_at script (waits before) r 0 r (bookings before) b (omega arith) there waits_too
-
-        by_kept : (c : Booked) → slice_get (bookings before) r ≡ Some c → (t : Bool) → waits before c ≡ t → IsMissed r b (passes_from script (waits before) 0 (bookings before)) (waiting before) ⊎ IsFound script r b (passes_from script (waits before) 0 (bookings before)) (waiting before)
-        by_kept c at true q = inr (found c at q)
-        by_kept c at false q = inl (missed (λ x there. ap (waits before) (same_some (sym there ∙ at)) ∙ q))
-
-        by_place : (o : Option Booked) → slice_get (bookings before) r ≡ o → IsMissed r b (passes_from script (waits before) 0 (bookings before)) (waiting before) ⊎ IsFound script r b (passes_from script (waits before) 0 (bookings before)) (waiting before)
-        by_place None at = inl (missed (λ c there. absurd (cc (at, there))))
-        by_place (Some c) at = by_kept c at (waits before c) refl
-
-    -- in each loop either all passes of the result stand together, or it has none
-    pub found_or_missed : (l : ℕ) (ps : List NumberedPass) (results : List Booked) → slice_get (loops script script) l ≡ Some ps → slice_get (loop_results script) l ≡ Some results → IsMissed r b ps results ⊎ IsFound script r b ps results
-    found_or_missed l ps results at there =
-        let loop = loop_at script all_of_it l ps results at there in
-        subst (λ (x : List NumberedPass). IsMissed r b x results ⊎ IsFound script r b x results) (sym loop.numbered)
-        (subst (λ (x : List Booked). IsMissed r b (passes_from script (waits loop.before) 0 (bookings loop.before)) x ⊎ IsFound script r b (passes_from script (waits loop.before) 0 (bookings loop.before)) x) (sym loop.named) (in_loop loop.before loop.begins))
+  -- in a loop that fills the result all its passes stand together
+  pub is_found : AreNamedInTurn script → (r : ℕ) (b : Booked) → slice_get (bookings script) r ≡ Some b → (l : ℕ) (ps : List NumberedPass) (results : List Booked)
+      → slice_get (loops script script) l ≡ Some ps → slice_get (loop_results script) l ≡ Some results → fills b.name results ≡ true → IsFound script r b ps
+  is_found turn r b its l ps results at there filled =
+      let loop = loop_at script all_of_it l ps results at there in
+      let before = loop.before in
+      let test = waits before in
+      let k = kept_any (λ (c : Booked). same b.name c.name) test (bookings before) (sym (any_map (λ (c : Booked). c.name) (same b.name) (waiting before)) ∙ ap (fills b.name) (sym loop.named) ∙ filled) in
+      let kept = booked_kept before script loop.begins k.0 k.1 k.2 in
+      let number : r ≡ k.0 = one_number script turn r k.0 b k.1 its kept k.4 in
+      let is : k.1 ≡ b = same_some (sym (ap (slice_get (bookings script)) number ∙ kept) ∙ its) in
+      subst (IsFound script r b) (sym loop.numbered)
+      (split_at script test r 0 r (bookings before) b (omega arith) (ap (slice_get (bookings before)) number ∙ k.2 ∙ ap (λ (x : Booked). Some x) is) (ap test (sym is) ∙ k.3))

@@ -13,12 +13,6 @@ use Rattle.event_loop.specs.{fills, loop_filling}
 
 -- ---- places
 
--- the first that passes the test has the first place
-pub place_first : {A : Type 0} (t : A → Bool) (xs : List A) (n : ℕ) (x : A) → slice_get xs n ≡ Some x → t x ≡ true → ((k : ℕ) (y : A) → k < n → slice_get xs k ≡ Some y → t y ≡ false) → place t xs ≡ Some n
-place_first t [] n x at met h = absurd (cc)
-place_first t (y ∷ ys) zero x at met h = let is : y ≡ x = cc in rw (ap t is ∙ met) refl
-place_first t (y ∷ ys) (suc n) x at met h = rw (h 0 y (omega arith) refl) (ap (option_map suc) (place_first t ys n x at met (λ k z lt there. h (suc k) z (omega arith) there)))
-
 -- some place is the first one
 abbrev HasPlace : {A : Type 0} → (A → Bool) → List A → Type 0
 HasPlace t xs = (n : ℕ) × (place t xs ≡ Some n)

@@ -2,10 +2,10 @@
 use Rattle.std.proofs.Common.{◌≡◌, ℕ, zero, suc, ◌+◌, ◌*◌, ◌<◌, List, [], ◌∷◌, ◌++◌, length, Some, refl, sym, ◌∙◌, ap, ap₂, subst, arith, append_assoc, length-append, flat_map, slice_get, ◌-◌, ◌≤◌, Bool, true, false, map, None, if◌then◌else◌, All, codes, ◌⊎◌, inl, inr, Option, filter, option_map, unwrap_or, ◌^◌, append-nil, Result, Ok, Err, OnOk}
 use Rattle.lemmas.proofs.{All-from_recursion, AllByRecursion, cond_both, eqb-true, join_with_byte, length-map, same_some, slice_get-map, something_at}
 use Rattle.rdf_values.specs.{ActionAt, ActionKind, Booked, Booking, Pass, Path, Span, Filled, line, below, Column, fn_names, Function, FunctionNames, has_variations, named_before, passes_of, ReportOn, result_depends, Statement, Variation, variations, varied_passes, cut, history, is_watched, Lead}
-use Rattle.rdf_model.specs.{action_pass, booking_lines, Dataset, filled_lines, kind_in, kinds_in, label, loop_facts, over_clusters, pass_lines, pass_result, in_front, maximal_runs, partial_line, partial_result, Run, run_text, value_text, cutflow, filter_label, first_fault, Course, flow_lines, loop_of, partial_lines}
+use Rattle.rdf_model.specs.{action_pass, booking_lines, Dataset, filled_lines, kind_in, kinds_in, label, loop_facts, over_clusters, pass_lines, pass_result, in_front, maximal_runs, partial_line, partial_result, Run, run_text, value_text, cutflow, filter_label, first_fault, Course, flow_lines, partial_lines, result_lines}
 use Rattle.actions.specs.{Accumulator}
 use Rattle.graph_numbers.proofs.Walks.{by_test, joined, next_at, each_filter}
-use Rattle.loop_pieces.specs.{LoopPiece, StandsFor, ArePartialLines, IsPartialLine, PartialLine, span_of, Counts, counts_at, counts_of, cluster_fault, FilledResult, place_if_watched}
+use Rattle.loop_pieces.specs.{LoopPiece, StandsFor, ArePartialLines, IsPartialLine, PartialLine, span_of, Counts, counts_at, counts_of, cluster_fault, FilledResult, place_if_watched, watched_places}
 use Rattle.loop_pieces.proofs.WholeLoops.{piece_holds_results, watch_piece_is_partial_result, piece_holds_counts, all_clusters_are_the_table}
 use Rattle.result_text.specs.{acc_lines, lines_from, AreRuns, run_of, runs_text, watch_line, watch_lines, counts_seen, flow_at, booking_text, filled_text, FitsBooking, FitsResult}
 use Rattle.event_loop.proofs.Found.{AreOf, kinds-append, own_kinds, passes_are_of}
@@ -16,7 +16,7 @@ use Rattle.graph_numbers.proofs.Placing.{itself}
 use Rattle.loop_keys.proofs.ReportTies.{AreCovers, covers_are as booked_covers}
 use Rattle.rdf_values.proofs.Evenly.{cuts_lead}
 use Rattle.loop_keys.specs.{passes_in}
-use Rattle.event_loop.specs.{ArePartials, FitsCourse, HasNoPartials, IsFilledIn, IsPlaced, IsResult, IsSession, IsUnfilled, job_facts, loop_filling, session_job, SessionView}
+use Rattle.event_loop.specs.{FitsCourse, IsFilled, IsPlaced, IsResult, IsSession, job_facts, loop_filling, session_job, SessionView}
 use Rattle.event_loop.proofs.Accesses.{job_fault, noted_at}
 
 module _ (b : Booked) (k : ActionKind) (at : Path) (action : b.booking ≡ ActionAt k at) where
@@ -223,69 +223,72 @@ module _ (s : SessionView) (is : IsSession s) where
 
   -- ---- partial results
 
-  its_lines : (b : Booked) (lines : List PartialLine) → (p : ArePartials s b lines) → (sets : List (List ℕ))
-      → ((w place : ℕ) (ls : List PartialLine) → slice_get (job_facts (session_job s p.filled_at.number)).watched w ≡ Some place → slice_get p.filled.partials w ≡ Some ls → ArePartialLines (job_facts (session_job s p.filled_at.number)).facts place sets ls)
-      → ArePartialLines (job_facts (session_job s p.filled_at.number)).facts p.place.first sets lines
-  its_lines b lines p sets each = each p.place.watched p.place.first lines (noted_at s is b (passes_in (session_job s p.filled_at.number)) p.place p.filled_at.placed p.watched) p.its_lines
-
-  pub partials_have_runs : (b : Booked) (lines : List PartialLine) → ArePartials s b lines ⊎ ((lines ≡ []) × HasNoPartials s b) → All (λ (l : PartialLine). AreRuns l.runs) lines
-  partials_have_runs b lines (inl p) =
-      let filled = is.filled p.filled_at.number p.filled p.filled_at.its_loop in
-      each_has_runs (job_facts (session_job s p.filled_at.number)).facts p.place.first filled.partials.over.are.sets lines (its_lines b lines p filled.partials.over.are.sets filled.partials.over.are.each)
-  partials_have_runs b lines (inr q) = subst (All (λ (l : PartialLine). AreRuns l.runs)) (sym q.0) (λ k d lt. absurd (omega arith))
-
-  -- the loop that the course has for the result
-  loop_is : (name : List ℕ) (l : ℕ) → loop_filling script_of name ≡ Some l → loop_of script_of name ≡ l
-  loop_is name l e = ap (λ (o : Option ℕ). unwrap_or o 0) e
-
-  -- a result that is noted is an action
+  -- a result that is noted is a watched action
   noted_action : (b : Booked) (n : ℕ) → place_if_watched script_of n (record { result = b; under = None }) ≡ n ∷ [] → (k : ActionKind) × (at : Path) × (b.booking ≡ ActionAt k at)
   noted_action b n e = grind (arith, by_test)
 
-  action_lines : (b : Booked) (lines : List PartialLine) (p : ArePartials s b lines) (course : Course) → FitsCourse s course → (k : ActionKind) (at : Path) → b.booking ≡ ActionAt k at
-      → watch_lines b.name lines ≡ partial_lines script_of s.dataset course b.name (ActionAt k at)
-  action_lines b lines p course fits k at action =
-      let l = p.filled_at.number in
-      let placed = p.filled_at.placed in
-      let are : ArePartialLines (loop_facts s.dataset (named_before script_of) spans_of (passes_in (session_job s l))) p.place.first (course.chains l) lines =
-      its_lines b lines p (course.chains l) (λ w place ls watched at_w. fits.lines l w place p.filled ls p.filled_at.its_loop watched at_w) in
-      let pass_is : ◌≡◌ {A = Pass} (record { result = b; under = None }) (action_pass b.name k at None) = ap (λ (bk : Booking). record { result = record { name = b.name; booking = bk }; under = None }) action in
-      let varied : List Pass = if has_variations script_of b.name then varied_passes script_of b else [] in
-      let passes_are : passes_in (session_job s l) ≡ placed.before ++ (action_pass b.name k at None ∷ (varied ++ placed.after)) = placed.passes_are ∙ ap (λ (q : Pass). placed.before ++ (q ∷ (varied ++ placed.after))) pass_is in
-      watched_are s.dataset (named_before script_of) spans_of placed.before (varied ++ placed.after) b.name k at (course.chains l) lines
-      (subst (λ (n : ℕ). ArePartialLines (loop_facts s.dataset (named_before script_of) spans_of (placed.before ++ (action_pass b.name k at None ∷ (varied ++ placed.after)))) n (course.chains l) lines) placed.first
-      (subst (λ (ps : List Pass). ArePartialLines (loop_facts s.dataset (named_before script_of) spans_of ps) p.place.first (course.chains l) lines) passes_are are))
-      ∙ ap₂ (λ (n : ℕ) (spans : List Span). flat_map (λ set. partial_line b.name set (partial_result spans s.dataset set k at)) (course.chains n)) (sym (loop_is b.name l p.filled_at.its_number)) (sym fits.spans)
+  noted_watch : (b : Booked) (n : ℕ) → place_if_watched script_of n (record { result = b; under = None }) ≡ n ∷ [] → is_watched script_of b.name ≡ true
+  noted_watch b n e = by_test (is_watched script_of b.name) (λ w. w) (λ w. absurd (cc (rw w at e)))
 
-  -- a watched result without partial lines is a report
-  no_lines : (b : Booked) (course : Course) → is_watched script_of b.name ≡ true → place_if_watched script_of 0 (record { result = b; under = None }) ≡ [] → partial_lines script_of s.dataset course b.name b.booking ≡ []
-  no_lines b course watched none = go b.booking refl
+  -- what is printed before the lines of the passes
+  abbrev front_of : Course → Booked → List ℕ
+  front_of course b = if is_watched script_of b.name then partial_lines script_of s.dataset course b.name b.booking else []
+
+  -- a result that isn't noted isn't watched, or is a report
+  no_front : (b : Booked) (course : Course) → place_if_watched script_of 0 (record { result = b; under = None }) ≡ [] → front_of course b ≡ []
+  no_front b course none = by_test (is_watched script_of b.name) (λ w. rw w (go w b.booking refl)) (λ w. rw w refl)
     where
-      go : (bk : Booking) → b.booking ≡ bk → partial_lines script_of s.dataset course b.name bk ≡ []
-      go bk q = grind (arith, none)
+      go : is_watched script_of b.name ≡ true → (bk : Booking) → b.booking ≡ bk → partial_lines script_of s.dataset course b.name b.booking ≡ []
+      go w bk q = grind (arith, none)
 
-  pub watched_lines : (b : Booked) (lines : List PartialLine) (course : Course) → FitsCourse s course → is_watched script_of b.name ≡ true → IsFilledIn s b.name → ArePartials s b lines ⊎ ((lines ≡ []) × HasNoPartials s b)
-      → watch_lines b.name lines ≡ partial_lines script_of s.dataset course b.name b.booking
-  watched_lines b lines course fits watched filled (inl p) =
-      let a = noted_action b 0 (p.watched 0) in
-      action_lines b lines p course fits a.0 a.1 a.2 ∙ ap (partial_lines script_of s.dataset course b.name) (sym a.2)
-  watched_lines b lines course fits watched filled (inr q) = ap (watch_lines b.name) q.0 ∙ sym (go q.1)
-    where
-      go : HasNoPartials s b → partial_lines script_of s.dataset course b.name b.booking ≡ []
-      go (inl none) = no_lines b course watched none
-      go (inr unfilled) = let le = unfilled filled.number filled.its_number in let lt = filled.completed in absurd (omega arith)
-
-  -- ---- filled results
-
-  module _ (r : ℕ) (x : ResultAt) (its : slice_get (graph_results s.graph) r ≡ Some x) (f : FilledResult) (h : IsResult s x.booked f) where
-    abbrev number_of : ℕ
-    number_of = h.filled_at.number
-
+  module _ (r : ℕ) (x : ResultAt) (its : slice_get (graph_results s.graph) r ≡ Some x) (l : ℕ) (f : FilledResult) (lines : List PartialLine) (h : IsResult s x.booked l f lines) where
     abbrev passes : List Pass
-    passes = passes_in (session_job s number_of)
+    passes = passes_in (session_job s l)
+
+    placed : IsPlaced script_of passes x.booked h.place
+    placed = h.placed
+
+    its_filling : IsFilled (job_facts (session_job s l)) s.watch h.filled
+    its_filling = is.filled l h.filled h.its_loop
+
+    -- ---- partial results
+
+    its_lines : ((n : ℕ) → place_if_watched script_of n (record { result = x.booked; under = None }) ≡ n ∷ []) × (slice_get h.filled.partials h.place.watched ≡ Some lines) → (sets : List (List ℕ))
+        → ((w place : ℕ) (ls : List PartialLine) → slice_get (watched_places script_of passes) w ≡ Some place → slice_get h.filled.partials w ≡ Some ls → ArePartialLines (loop_facts s.dataset (named_before script_of) spans_of passes) place sets ls)
+        → ArePartialLines (loop_facts s.dataset (named_before script_of) spans_of passes) h.place.first sets lines
+    its_lines p sets each = each h.place.watched h.place.first lines (noted_at s is x.booked passes h.place placed p.0) p.1
+
+    pub have_runs : All (λ (l : PartialLine). AreRuns l.runs) lines
+    have_runs = elim h.partials [
+      | inl p ↦ each_has_runs _ h.place.first its_filling.partials.over.are.sets lines (its_lines p its_filling.partials.over.are.sets its_filling.partials.over.are.each)
+      | inr q ↦ subst (All (λ (l : PartialLine). AreRuns l.runs)) (sym q.1) (λ k d lt. absurd (omega arith))
+    ]
+
+    action_lines : ((n : ℕ) → place_if_watched script_of n (record { result = x.booked; under = None }) ≡ n ∷ []) × (slice_get h.filled.partials h.place.watched ≡ Some lines) → (course : Course) → FitsCourse s course → loop_filling script_of x.booked.name ≡ Some l → (k : ActionKind) (at : Path) → x.booked.booking ≡ ActionAt k at
+        → watch_lines x.booked.name lines ≡ partial_lines script_of s.dataset course x.booked.name (ActionAt k at)
+    action_lines p course fits_course number k at action =
+        let name = x.booked.name in
+        let are : ArePartialLines (loop_facts s.dataset (named_before script_of) spans_of passes) h.place.first (course.chains l) lines =
+        its_lines p (course.chains l) (λ w place ls watched at_w. fits_course.lines l w place h.filled ls h.its_loop watched at_w) in
+        let pass_is : ◌≡◌ {A = Pass} (record { result = x.booked; under = None }) (action_pass name k at None) = ap (λ (bk : Booking). record { result = record { name = name; booking = bk }; under = None }) action in
+        let varied : List Pass = if has_variations script_of name then varied_passes script_of x.booked else [] in
+        let passes_are : passes ≡ placed.before ++ (action_pass name k at None ∷ (varied ++ placed.after)) = placed.passes_are ∙ ap (λ (q : Pass). placed.before ++ (q ∷ (varied ++ placed.after))) pass_is in
+        watched_are s.dataset (named_before script_of) spans_of placed.before (varied ++ placed.after) name k at (course.chains l) lines
+        (subst (λ (n : ℕ). ArePartialLines (loop_facts s.dataset (named_before script_of) spans_of (placed.before ++ (action_pass name k at None ∷ (varied ++ placed.after)))) n (course.chains l) lines) placed.first
+        (subst (λ (ps : List Pass). ArePartialLines (loop_facts s.dataset (named_before script_of) spans_of ps) h.place.first (course.chains l) lines) passes_are are))
+        ∙ ap₂ (λ (n : ℕ) (spans : List Span). flat_map (λ set. partial_line name set (partial_result spans s.dataset set k at)) (course.chains n)) (sym (ap (λ (o : Option ℕ). unwrap_or o 0) number)) (sym fits_course.spans)
+
+    front_is : (course : Course) → FitsCourse s course → loop_filling script_of x.booked.name ≡ Some l → watch_lines x.booked.name lines ≡ front_of course x.booked
+    front_is course fits_course number = elim h.partials [
+      | inl p ↦ (let a = noted_action x.booked 0 (p.0 0) in action_lines p course fits_course number a.0 a.1 a.2 ∙ ap (partial_lines script_of s.dataset course x.booked.name) (sym a.2)
+          ∙ sym (ap (λ (t : Bool). if t then partial_lines script_of s.dataset course x.booked.name x.booked.booking else []) (noted_watch x.booked 0 (p.0 0))))
+      | inr q ↦ ap (watch_lines x.booked.name) q.1 ∙ sym (no_front x.booked course q.0)
+    ]
+
+    -- ---- filled results
 
     abbrev set_of : List ℕ
-    set_of = below (length (job_facts (session_job s number_of)).faults)
+    set_of = below (length (job_facts (session_job s l)).faults)
 
     whole_set : set_of ≡ below (length spans_of)
     whole_set = ap below (length-map (below (length spans_of)) (cluster_fault s.dataset spans_of passes) ∙ length-below (length spans_of))
@@ -294,13 +297,10 @@ module _ (s : SessionView) (is : IsSession s) where
     whole = ap (over_clusters spans_of s.dataset) whole_set ∙ all_clusters_are_the_table s.dataset spans_of leads
 
     stands : StandsFor (loop_facts s.dataset (named_before script_of) spans_of passes) set_of f.piece.now
-    stands = subst (StandsFor (loop_facts s.dataset (named_before script_of) spans_of passes) set_of) (sym h.piece) (is.filled number_of h.filled h.filled_at.its_loop).stands
+    stands = subst (StandsFor (loop_facts s.dataset (named_before script_of) spans_of passes) set_of) (sym h.piece) its_filling.stands
 
     sound : first_fault s.dataset passes ≡ None
-    sound = sym (job_fault s is number_of) ∙ (is.filled number_of h.filled h.filled_at.its_loop).sound
-
-    placed : IsPlaced script_of passes x.booked h.place
-    placed = h.filled_at.placed
+    sound = sym (job_fault s is l) ∙ its_filling.sound
 
     parted : StandsFor (loop_facts s.dataset (named_before script_of) spans_of (placed.before ++ (passes_of script_of x.booked ++ placed.after))) set_of f.piece.now
     parted = subst (λ (ps : List Pass). StandsFor (loop_facts s.dataset (named_before script_of) spans_of ps) set_of f.piece.now) placed.passes_are stands
@@ -350,42 +350,9 @@ module _ (s : SessionView) (is : IsSession s) where
         go (ActionAt k at) q = subst (FitsBooking s.graph x f) (sym q) (action_fits k at q)
         go (ReportOn fs) q = subst (FitsBooking s.graph x f) (sym q) (report_fits fs q)
 
-    pub text_is : filled_text s.graph x f ≡ flat_map (pass_lines s.dataset) (passes_of script_of x.booked)
+    text_is : filled_text s.graph x f ≡ flat_map (pass_lines s.dataset) (passes_of script_of x.booked)
     text_is = grind (arith, action_text, report_text)
 
--- ---- by the result's number
-
-module _ (s : SessionView) (is : IsSession s) (r : ℕ) where
-  pub runs_at : r < length (graph_results s.graph) → (lines : List PartialLine) → ((x : ResultAt) → slice_get (graph_results s.graph) r ≡ Some x → ArePartials s x.booked lines ⊎ ((lines ≡ []) × HasNoPartials s x.booked))
-      → All (λ (l : PartialLine). AreRuns l.runs) lines
-  runs_at lt lines h = let x = something_at (graph_results s.graph) r lt in partials_have_runs s is x.0.booked lines (h x.0 x.1)
-
-  pub never_unfilled : r < length (graph_results s.graph) → ((x : ResultAt) → slice_get (graph_results s.graph) r ≡ Some x → IsFilledIn s x.booked.name) → ((x : ResultAt) → slice_get (graph_results s.graph) r ≡ Some x → IsUnfilled s x.booked.name) → ⊥
-  never_unfilled lt filled unfilled =
-      let x = something_at (graph_results s.graph) r lt in
-      let f = filled x.0 x.1 in
-      let completed = f.completed in
-      let le = unfilled x.0 x.1 f.number f.its_number in
-      omega arith
-
-  its_watch : (x : ResultAt) (t : Bool) → slice_get (graph_results s.graph) r ≡ Some x → option_map (λ (y : ResultAt). is_watched (history s.graph.script) y.booked.name) (slice_get (graph_results s.graph) r) ≡ Some t → is_watched (history s.graph.script) x.booked.name ≡ t
-  its_watch x t at watched = same_some (sym (ap (option_map (λ (y : ResultAt). is_watched (history s.graph.script) y.booked.name)) at) ∙ watched)
-
-  -- the lines that are put before those of the passes
-  abbrev front_of : Course → ResultAt → List ℕ
-  front_of course x = if is_watched (history s.graph.script) x.booked.name then partial_lines (history s.graph.script) s.dataset course x.booked.name x.booked.booking else []
-
-  pub unwatched_put : (x : ResultAt) (course : Course) (t : Bool) (text : List ℕ) → slice_get (graph_results s.graph) r ≡ Some x → option_map (λ (y : ResultAt). is_watched (history s.graph.script) y.booked.name) (slice_get (graph_results s.graph) r) ≡ Some t → t ≡ false
-      → text ≡ text ++ front_of course x
-  unwatched_put x course t text at watched e =
-      sym (append-nil text) ∙ ap (λ (b : Bool). text ++ (if b then partial_lines (history s.graph.script) s.dataset course x.booked.name x.booked.booking else [])) (sym (its_watch x t at watched ∙ e))
-
-  pub watched_put : (x : ResultAt) (course : Course) (lines : List PartialLine) (t : Bool) (text now bytes put : List ℕ) → slice_get (graph_results s.graph) r ≡ Some x → FitsCourse s course → IsFilledIn s x.booked.name
-      → ArePartials s x.booked lines ⊎ ((lines ≡ []) × HasNoPartials s x.booked) → option_map (λ (y : ResultAt). is_watched (history s.graph.script) y.booked.name) (slice_get (graph_results s.graph) r) ≡ Some t → t ≡ true
-      → put ≡ watch_lines x.booked.name lines → bytes ≡ put → now ≡ text ++ bytes → now ≡ text ++ front_of course x
-  watched_put x course lines t text now bytes put h fits_course filled are watched e put_is same_bytes added = grind (arith, its_watch, watched_lines)
-
--- both parts of a result's lines, put one after the other
-pub both_put : {E : Type 0} (r : Result (Unit {0}) E) (text middle now front back : List ℕ) → middle ≡ text ++ front → OnOk r (now ≡ middle ++ back) → OnOk r (now ≡ text ++ (front ++ back))
-both_put (Ok u) text middle now front back e h = h ∙ ap (λ (l : List ℕ). l ++ back) e ∙ append_assoc text front back
-both_put (Err x) text middle now front back e h = tt
+    -- all lines of the result
+    pub all_lines : (course : Course) → FitsCourse s course → loop_filling script_of x.booked.name ≡ Some l → watch_lines x.booked.name lines ++ filled_text s.graph x f ≡ result_lines script_of s.dataset course x.booked
+    all_lines course fits_course number = ap₂ (λ (a b : List ℕ). a ++ b) (front_is course fits_course number) text_is

@@ -19,7 +19,7 @@ use Rattle.graph_numbers.proofs.Placing.{itself}
 use Rattle.graph_numbers.proofs.Looping.{loops_are}
 use Rattle.loop_keys.proofs.EntryLaws.{all_taken}
 use Rattle.cluster_tally.proofs.Pieces.{fresh_holds}
-use Rattle.event_loop.specs.declared.progress.Phase.TheVariants.{Going}
+use Rattle.event_loop.specs.declared.state.Phase.TheVariants.{Going}
 
 -- one of two slots finishes all clusters in order
 abbrev by_one : ℕ → List (List ℕ)

@@ -4,9 +4,9 @@ use Rattle.rdf_values.specs.{below, first_in}
 use Rattle.loop_pieces.specs.{PartialLine, StandsFor}
 use Rattle.slot_words.specs.{AreNoted, HavePartialsOver, noted_sets}
 use Rattle.event_loop.specs.Jobs.{JobFacts}
-use Rattle.event_loop.specs.declared.end.FilledLoop.{FilledLoop}
-use Rattle.event_loop.specs.declared.end.LoopEnd.{LoopEnd}
-use Rattle.event_loop.specs.declared.end.LoopEnd.TheVariants.{Filled, Faulted}
+use Rattle.event_loop.specs.declared.one_loop.FilledLoop.{FilledLoop}
+use Rattle.event_loop.specs.declared.one_loop.LoopEnd.{LoopEnd}
+use Rattle.event_loop.specs.declared.one_loop.LoopEnd.TheVariants.{Filled, Faulted}
 
 -- the partial results are over the sets of clusters that were noted first, after every k-th one: where a result is watched, the slots
 -- finished the clusters in dones, all clusters, each once, and drew the numbers in orders for them

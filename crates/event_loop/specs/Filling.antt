@@ -5,10 +5,10 @@ use Rattle.loop_pieces.specs.{HaveTrails, LoopPiece, StandsFor}
 use Rattle.slot_words.specs.{BookSeen, ShareSeen}
 use Rattle.event_loop.specs.Jobs.{JobFacts}
 use Rattle.event_loop.specs.Slots.{IsSlotOf, SlotView}
-use Rattle.event_loop.specs.declared.progress.Phase.{Phase}
+use Rattle.event_loop.specs.declared.state.Phase.{Phase}
 use Rattle.event_loop.specs.Ends.{AreNotedPartials}
 use Rattle.event_loop.specs.Gathered.{AreDone, AreFacts, finished_by}
-use Rattle.event_loop.specs.declared.end.FilledLoop.{FilledLoop}
+use Rattle.event_loop.specs.declared.one_loop.FilledLoop.{FilledLoop}
 use Rattle.event_loop.specs.declared.gather.Done.{Done}
 
 -- the slot goes on

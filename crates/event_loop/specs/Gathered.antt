@@ -4,7 +4,7 @@ use Rattle.rdf_values.specs.{AreInEntryOrder, below, Fault, first_in, IsUnion}
 use Rattle.slot_words.specs.{BookSeen, SeatSeen, ShareSeen}
 use Rattle.event_loop.specs.Jobs.{JobFacts}
 use Rattle.event_loop.specs.Slots.{IsSlotOf}
-use Rattle.event_loop.specs.declared.progress.Phase.{Phase}
+use Rattle.event_loop.specs.declared.state.Phase.{Phase}
 use Rattle.event_loop.specs.Workers.{HasNoted, HasRun}
 use Rattle.event_loop.specs.declared.gather.Done.{Done}
 use Rattle.event_loop.specs.declared.gather.Outcome.{Outcome}

@@ -18,13 +18,13 @@ pub use Gathered.{AreDone, AreFacts, done_in, done_or_none, end_faults, fault_of
 pub use Jobs.{job_facts, JobFacts}
 pub use Parts.{job_with}
 pub use Passes.{is_watched_pass, IsOfPasses, places_before}
-pub use Places.{fills, IsFilledPlace, IsPassOf, IsPlaced, loop_filling}
+pub use Places.{fills, IsPassOf, IsPlaced, loop_filling}
 pub use Seated.{AreBlank, IsBlank, IsOpened}
-pub use Sessions.{ArePartials, dataset_of, fresh_session, HasNoPartials, HasSameParts, IsAccessed, IsFaulted, IsFilledAt, IsFilledIn, IsFoundAt, IsKept, IsRefused, IsResult, IsSession, IsUnfilled, passes_run, session_job, session_of, SessionView}
+pub use Sessions.{ArePartials, dataset_of, fresh_session, HasSameParts, IsAccessed, IsFaulted, IsFilledIn, IsKept, IsRefused, IsResult, IsSession, IsUnfilled, passes_run, session_job, session_of, SessionView}
 pub use Slots.{IsFreshSlot, IsSlotOf, SlotView}
 pub use Transcripts.{IsTranscript}
 pub use Turns.{EndsAt, FitsCourse, GoesOn, print_gives}
 pub use Workers.{AreSound, CanRun, HasNoted, HasRoom, HasRun, HasWorked, IsFresh, Stopped}
-pub use declared.end.FilledLoop.{FilledLoop}
-pub use declared.end.LoopEnd.{LoopEnd}
-pub use declared.progress.Phase.{Phase}
+pub use declared.one_loop.FilledLoop.{FilledLoop}
+pub use declared.one_loop.LoopEnd.{LoopEnd}
+pub use declared.state.Phase.{Phase}

@@ -1,8 +1,8 @@
 -- Which loop fills a result, and where the result's passes stand in it.
-use Rattle.std.specs.Prelude.{◌≡◌, ℕ, ◌<◌, Bool, true, List, ◌++◌, Option, length, ◌+◌, ◌≤◌, ◌^◌}
+use Rattle.std.specs.Prelude.{◌≡◌, ℕ, ◌<◌, Bool, List, ◌++◌, Option, length, ◌+◌, ◌≤◌, ◌^◌}
 use Rattle.std.specs.Option.{ForSome}
 use Rattle.rdf_values.specs.{among, Booked, names_of, Pass, passes_of, place, Statement}
-use Rattle.rdf_model.specs.{kinds_in, loop_passes, loop_results}
+use Rattle.rdf_model.specs.{kinds_in, loop_results}
 use Rattle.graph_numbers.specs.{graph_results, graph_variations, GraphView, Pass as NumberedPass}
 use Rattle.loop_pieces.specs.{watched_places}
 use Rattle.event_loop.specs.declared.place.Place.{Place}
@@ -29,8 +29,3 @@ pub record IsPlaced (script : List Statement) (ps : List Pass) (b : Booked) (p :
   pub passes : p.passes ≡ length (kinds_in (passes_of script b))
   pub watched : p.watched ≡ length (watched_places script before)
   pub few : p.first + p.passes ≤ 2 ^ 32
-
--- it is among the results that the loop fills, in that place
-pub record IsFilledPlace (script : List Statement) (b : Booked) (results : List Booked) (p : Place) : Type 0 where
-  pub filled : fills b.name results ≡ true
-  pub placed : IsPlaced script (loop_passes script results) b p

@@ -5,14 +5,14 @@ use Rattle.rdf_model.specs.{Access, accesses, Dataset, first_fault, loop_passes,
 use Rattle.columns.specs.CutsView.{CutsView}
 use Rattle.columns.specs.ColumnsView.{ColumnsView}
 use Rattle.entry_fns.specs.{functions_in}
-use Rattle.graph_numbers.specs.{graph_of, graph_prints, GraphView, IsGraph}
+use Rattle.graph_numbers.specs.{graph_of, GraphView, IsGraph}
 use Rattle.loop_keys.specs.{JobView, passes_in}
 use Rattle.loop_pieces.specs.{FilledResult, PartialLine, place_if_watched}
 use Rattle.event_loop.specs.Jobs.{job_facts}
 use Rattle.event_loop.specs.Ends.{IsFilled}
-use Rattle.event_loop.specs.declared.end.FilledLoop.{FilledLoop}
+use Rattle.event_loop.specs.declared.one_loop.FilledLoop.{FilledLoop}
 use Rattle.event_loop.specs.Places.{IsPlaced, loop_filling}
-use Rattle.event_loop.specs.declared.kept.Kept.{Kept}
+use Rattle.event_loop.specs.declared.session.Kept.{Kept}
 use Rattle.event_loop.specs.declared.place.Place.{Place}
 use Rattle.event_loop.specs.declared.session.Session.{Session}
 
@@ -89,49 +89,30 @@ pub record IsSession (s : SessionView) : Type 0 where
 
 -- ---- results
 
--- a completed loop fills the result of that name
-pub record IsFilledIn (s : SessionView) (name : List ℕ) : Type 0 where
-  pub number : ℕ
-  pub its_number : loop_filling (history s.graph.script) name ≡ Some number
-  pub completed : number < length s.loops
+-- the completed loop of that number fills the result of that name
+abbrev pub IsFilledIn : SessionView → List ℕ → ℕ → Type 0
+IsFilledIn s name l = (loop_filling (history s.graph.script) name ≡ Some l) × (l < length s.loops)
 
 -- none does
 abbrev pub IsUnfilled : SessionView → List ℕ → Type 0
 IsUnfilled s name = (l : ℕ) → loop_filling (history s.graph.script) name ≡ Some l → length s.loops ≤ l
 
--- the loop of that number is completed and fills the result, whose passes stand in that place of it
-pub record IsFoundAt (s : SessionView) (b : Booked) (number : ℕ) (place : Place) : Type 0 where
-  pub its_number : loop_filling (history s.graph.script) b.name ≡ Some number
-  pub completed : number < length s.loops
-  pub placed : IsPlaced (history s.graph.script) (passes_in (session_job s number)) b place
+-- the partial results of a result that is noted, in that place of its loop; of another there are none
+abbrev pub ArePartials : SessionView → Booked → FilledLoop → Place → List PartialLine → Type 0
+ArePartials s b f place lines =
+    (((n : ℕ) → place_if_watched (history s.graph.script) n (record { result = b; under = None }) ≡ n ∷ []) × (slice_get f.partials place.watched ≡ Some lines))
+    ⊎ ((place_if_watched (history s.graph.script) 0 (record { result = b; under = None }) ≡ []) × (lines ≡ []))
 
--- the result's passes stand in that place of the completed loop that fills it
-pub record IsFilledAt (s : SessionView) (b : Booked) (l : FilledLoop) (place : Place) : Type 0 where
-  pub number : ℕ
-  pub its_number : loop_filling (history s.graph.script) b.name ≡ Some number
-  pub its_loop : slice_get s.loops number ≡ Some l
-  pub placed : IsPlaced (history s.graph.script) (passes_in (session_job s number)) b place
-
--- the loop's piece, with the numbers of the result's accumulators
-pub record IsResult (s : SessionView) (b : Booked) (f : FilledResult) : Type 0 where
+-- the result's passes stand in a place of that loop: the loop's piece, with the numbers of the result's accumulators, and its partial results
+pub record IsResult (s : SessionView) (b : Booked) (l : ℕ) (f : FilledResult) (lines : List PartialLine) : Type 0 where
   pub filled : FilledLoop
   pub place : Place
-  pub filled_at : IsFilledAt s b filled place
+  pub its_loop : slice_get s.loops l ≡ Some filled
+  pub placed : IsPlaced (history s.graph.script) (passes_in (session_job s l)) b place
   pub piece : f.piece.now ≡ filled.piece
   pub first : f.first ≡ place.first
   pub passes : f.passes ≡ place.passes
-
--- the partial results of a watched result
-pub record ArePartials (s : SessionView) (b : Booked) (lines : List PartialLine) : Type 0 where
-  pub filled : FilledLoop
-  pub place : Place
-  pub filled_at : IsFilledAt s b filled place
-  pub watched : (n : ℕ) → place_if_watched (history s.graph.script) n (record { result = b; under = None }) ≡ n ∷ []
-  pub its_lines : slice_get filled.partials place.watched ≡ Some lines
-
--- the result isn't watched, or isn't filled
-abbrev pub HasNoPartials : SessionView → Booked → Type 0
-HasNoPartials s b = (place_if_watched (history s.graph.script) 0 (record { result = b; under = None }) ≡ []) ⊎ IsUnfilled s b.name
+  pub partials : ArePartials s b filled place lines
 
 -- ---- accesses
 
@@ -143,24 +124,23 @@ pub record HasSameParts (old new : SessionView) : Type 0 where
   pub slots : new.slots ≡ old.slots
   pub watch : new.watch ≡ old.watch
 
--- the Print's result is filled, by a new loop only where it wasn't before
-pub record IsAccessed (old new : SessionView) (print r : ℕ) : Type 0 where
-  pub its_result : slice_get (graph_prints old.graph) print ≡ Some (Some r)
+-- that loop fills the Print's result, a new one only where none did before
+pub record IsAccessed (old new : SessionView) (print l : ℕ) : Type 0 where
   pub next : new.next ≡ old.next + 1
   pub fault : new.fault ≡ old.fault
-  pub stays : (l : ℕ) (f : FilledLoop) → slice_get old.loops l ≡ Some f → slice_get new.loops l ≡ Some f
-  pub filled : (a : Access) → slice_get (accesses (history old.graph.script)) print ≡ Some a → IsFilledIn new a.result
-  pub again : (a : Access) → slice_get (accesses (history old.graph.script)) print ≡ Some a → IsFilledIn old a.result → new.loops ≡ old.loops
+  pub stays : (k : ℕ) (f : FilledLoop) → slice_get old.loops k ≡ Some f → slice_get new.loops k ≡ Some f
+  pub filled : (a : Access) → slice_get (accesses (history old.graph.script)) print ≡ Some a → IsFilledIn new a.result l
+  pub again : (a : Access) (k : ℕ) → slice_get (accesses (history old.graph.script)) print ≡ Some a → IsFilledIn old a.result k → new.loops ≡ old.loops
   pub sound : (a : Access) → slice_get (accesses (history old.graph.script)) print ≡ Some a → old.fault ≡ None → first_fault old.dataset (passes_run (history old.graph.script) a) ≡ None
 
 -- the Print's result isn't filled, and the fault is the kept one, or that of the loop which was to fill it
-pub record IsFaulted (old new : SessionView) (print l : ℕ) (f : Fault) : Type 0 where
+pub record IsFaulted (old new : SessionView) (print : ℕ) (k : Kept) : Type 0 where
   pub next : new.next ≡ old.next + 1
   pub loops : new.loops ≡ old.loops
-  pub fault : new.fault ≡ Some (record { loop_index = l; fault = f })
-  pub kept : (k : Kept) → old.fault ≡ Some k → old.fault ≡ new.fault
+  pub fault : new.fault ≡ Some k
+  pub kept : (j : Kept) → old.fault ≡ Some j → old.fault ≡ new.fault
   pub unfilled : (a : Access) → slice_get (accesses (history old.graph.script)) print ≡ Some a → IsUnfilled old a.result
-  pub ran : (a : Access) → slice_get (accesses (history old.graph.script)) print ≡ Some a → old.fault ≡ None → slice_get (loop_results (history old.graph.script)) l ≡ a.fills
+  pub ran : (a : Access) → slice_get (accesses (history old.graph.script)) print ≡ Some a → old.fault ≡ None → slice_get (loop_results (history old.graph.script)) k.loop_index ≡ a.fills
 
 -- memory is wanted only for a new loop, and nothing changes
 pub record IsRefused (old new : SessionView) (print : ℕ) : Type 0 where

@@ -5,8 +5,8 @@ use Rattle.loop_keys.specs.{IsNoTake, IsPlainLoop, job_graph, JobView, passes_in
 use Rattle.block_passes.specs.{CountsVectors, IsStateOf, StateView}
 use Rattle.cluster_tally.specs.{at_begin, Holds, TallyView}
 use Rattle.event_loop.specs.Jobs.{JobFacts, job_facts}
-use Rattle.event_loop.specs.declared.progress.Phase.{Phase}
-use Rattle.event_loop.specs.declared.progress.Phase.TheVariants.{Going}
+use Rattle.event_loop.specs.declared.state.Phase.{Phase}
+use Rattle.event_loop.specs.declared.state.Phase.TheVariants.{Going}
 
 -- what it reserves for blocks, how many keys of the graph have vectors for values, what the clusters gave, room for so many clusters, those that the slot finished, and whether it goes on
 pub record SlotView : Type 0 where

@@ -3,7 +3,7 @@ use Rattle.std.specs.Prelude.{◌≡◌, ℕ, length, if◌then◌else◌}
 use Rattle.rdf_values.specs.{history, Script}
 use Rattle.rdf_model.specs.{Course, Dataset, IsCourse, transcript}
 use Rattle.columns.specs.CutsView.{CutsView}
-use Rattle.event_loop.specs.declared.transcript.Transcript.{Transcript}
+use Rattle.event_loop.specs.declared.prints.Transcript.{Transcript}
 
 -- it is the transcript of separate passes in some course of the loops: the sets of clusters over which watched results were noted
 -- are such chains, and they are those that its lines show

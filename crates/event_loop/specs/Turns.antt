@@ -4,7 +4,7 @@ use Rattle.rdf_values.specs.{cut, history}
 use Rattle.rdf_model.specs.{Access, access_passes, access_printed, accesses, Course, first_fault, in_front_of, Printed}
 use Rattle.loop_pieces.specs.{ArePartialLines, PartialLine}
 use Rattle.event_loop.specs.Jobs.{job_facts}
-use Rattle.event_loop.specs.declared.end.FilledLoop.{FilledLoop}
+use Rattle.event_loop.specs.declared.one_loop.FilledLoop.{FilledLoop}
 use Rattle.event_loop.specs.Sessions.{SessionView, session_job}
 
 -- the clusters are the session's, and the partial results of its loops are over the sets of the course

@@ -7,7 +7,7 @@ use Rattle.slot_words.specs.Seats as claims
 use Rattle.slot_words.specs.Shares as book
 use Rattle.event_loop.specs.Jobs.{JobFacts, job_facts}
 use Rattle.event_loop.specs.Slots.{IsSlotOf, SlotView}
-use Rattle.event_loop.specs.declared.progress.Phase.{Phase}
+use Rattle.event_loop.specs.declared.state.Phase.{Phase}
 use Rattle.event_loop.specs.declared.workers.Shared.{Shared}
 use Rattle.event_loop.specs.declared.workers.Slot.{Slot}
 use Rattle.event_loop.specs.declared.workers.End.{End}

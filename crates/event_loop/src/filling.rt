@@ -5,8 +5,8 @@ ghost use Rattle.event_loop.specs.Ends.{AreNotedPartials};
 ghost use Rattle.event_loop.specs.Filling.{AllAreGoing, AreFilled, ArePieces, CanFill, dones_of, orders_of, share_or_none, shares_in};
 ghost use Rattle.event_loop.specs.declared.gather.Done.{Done};
 
-use crate::end::FilledLoop;
 use crate::gather::Done;
+use crate::one_loop::FilledLoop;
 use loop_pieces::{LoopPiece, PartialLine};
 use merge_core::merge_all;
 use rdf_values::{ListOf, Memory};

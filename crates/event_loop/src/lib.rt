@@ -7,32 +7,18 @@
 //! `two_slots_at_once` and `held_cluster_comes_late` show it.
 #![tactic(auto)]
 
-mod booked;
-pub mod end;
 mod filling;
 mod gather;
-mod kept;
 pub mod one_loop;
 pub mod passes;
 mod place;
 mod prints;
-pub mod progress;
-mod refusal;
-mod results;
-mod seating;
 mod session;
 pub mod state;
-mod tallies;
-mod transcript;
 mod workers;
 
-pub use crate::booked::BookedGraph;
-pub use crate::end::{FilledLoop, LoopEnd};
-pub use crate::one_loop::run_loop;
+pub use crate::one_loop::{FilledLoop, LoopEnd, run_loop};
 pub use crate::passes::watched_in;
-pub use crate::prints::run_prints;
-pub use crate::progress::{Phase, Progress, SlotStop};
-pub use crate::refusal::LoopRefusal;
-pub use crate::session::Session;
-pub use crate::state::SlotState;
-pub use crate::transcript::Transcript;
+pub use crate::prints::{Transcript, run_prints};
+pub use crate::session::{BookedGraph, LoopRefusal, Session};
+pub use crate::state::{Phase, Progress, SlotState, SlotStop};

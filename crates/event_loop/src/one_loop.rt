@@ -1,21 +1,69 @@
 // One event loop over all clusters.
-ghost use Rattle.std.specs.Prelude.{◌≡◌, ◌<◌, ◌≤◌, IfOk, length};
+ghost use Rattle.std.specs.Prelude.{◌≡◌, ◌<◌, ◌≤◌, All, IfOk, length, vec_len};
 ghost use Rattle.rdf_values.specs.{history, StatementsHaveWords};
 ghost use Rattle.loop_keys.specs.{Fits, job_of, job_spans};
-ghost use Rattle.event_loop.specs.{HasEnded, job_facts};
+ghost use Rattle.event_loop.specs.{AreBlank, HasEnded, IsFresh, IsOpened, job_facts};
+ghost use Rattle.event_loop.specs.declared.workers.Shared.{Shared};
+ghost use Rattle.slot_words.specs.{IsReady};
 
-use crate::end::LoopEnd;
 use crate::filling::{Noting, filled};
 use crate::gather::{Outcome, gathered};
-use crate::seating::{opened, seated};
 use crate::watched_in;
-use crate::workers::{Shared, run_slots};
+use crate::workers::{Shared, Slot, run_slots};
 use loop_keys::Job;
+use loop_pieces::{LoopPiece, PartialLine};
 use rdf_outside::Gate;
-use rdf_values::Memory;
-use slot_words::Claims;
+use rdf_values::{Fault, ListOf, Memory};
+use slot_words::{Book, Claims, SeatList, ShareList};
 use std::alloc::Global;
 use std::thread::Threads;
+
+/// What a loop without a fault came to: the piece of all its clusters, and the partial results of each watched result, in the order of booking.
+#[derive(Drop)]
+pub struct FilledLoop {
+    pub piece: LoopPiece,
+    pub partials: ListOf<ListOf<PartialLine>>,
+}
+
+/// A loop is filled, or has a first fault.
+#[derive(Drop)]
+pub enum LoopEnd {
+    Filled(FilledLoop),
+    Faulted(Fault),
+}
+
+// A book with a share for each slot, where a result is watched; it takes the memory for all numbers.
+fn opened(
+    alloc: Global,
+    watched: u32,
+    slots: u32,
+    clusters: u32,
+) -> Result<(Option<Book>, ShareList), Memory>
+    requires slots { (0 < slots) × (slots ≤ 16) }
+    requires clusters { clusters ≤ 1000000 }
+    ensures { IfOk result (λ r. IsOpened watched slots clusters r.0 × AreBlank r.0 slots r.1) }
+{
+    if watched == 0 {
+        return Ok((None, ShareList::new(alloc)));
+    }
+    let (book, shares) = Book::new(alloc, slots, clusters)?;
+    Ok((Some(book), shares))
+}
+
+// The slots, each with a seat and, where there is a book, a share.
+fn seated(alloc: Global, seats: SeatList, shares: ShareList) -> Result<Vec<Slot>, Memory>
+    ensures many { IfOk result (λ v. vec_len v ≡ length seats) }
+    ensures fresh { (shared : Shared) → All (IsReady shared.claims) seats → AreBlank shared.book (length seats) shares → IfOk result (λ v. All (IsFresh shared) v.items) }
+{
+    let mut seats = seats.into_vec();
+    let mut shares = shares.into_vec();
+    let mut slots = Vec::new(alloc);
+    while let Some(seat) = seats.pop() {
+        let share = shares.pop();
+        slots.push(Slot { seat, share })?;
+    }
+    Ok(slots)
+}
 
 // How many clusters the loop goes over.
 fn cluster_count(job: &Job<'_>) -> u32

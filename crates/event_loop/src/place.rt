@@ -1,11 +1,11 @@
 // Where the passes of a result stand in a loop.
-ghost use Rattle.std.specs.Prelude.{◌≡◌, ◌<◌, ◌≤◌, ◌^◌, ◌∷◌, [], ℕ, List, MatchOption, None, Some, if◌then◌else◌, count_by, false, length, map, nat_eq, option_map, slice_get};
+ghost use Rattle.std.specs.Prelude.{◌≡◌, ◌<◌, ◌≤◌, ◌^◌, ◌∷◌, [], ℕ, List, None, Some, if◌then◌else◌, count_by, length, map, nat_eq, option_map, slice_get, true};
 ghost use Rattle.std.specs.List.{position};
 ghost use Rattle.rdf_values.specs.{Booked, Pass as NamedPass};
-ghost use Rattle.rdf_model.specs.{kind_in, kinds_in, loop_results};
+ghost use Rattle.rdf_model.specs.{kind_in, kinds_in, loop_passes, loop_results};
 ghost use Rattle.graph_numbers.specs.{booked_statements, graph_loops, graph_results, Pass as NumberedPass, pass_at, ResultAt};
 ghost use Rattle.loop_pieces.specs.{place_if_watched, watched_places};
-ghost use Rattle.event_loop.specs.{fills, IsFilledPlace, IsPassOf};
+ghost use Rattle.event_loop.specs.{fills, IsPassOf, IsPlaced};
 
 use graph::Graph;
 use graph_numbers::{Pass, ResultKind};
@@ -87,26 +87,27 @@ fn pass_count(passes: &[Pass], r: u32) -> usize
     passes.iter().filter(|p| p.result == r).count()
 }
 
-/// The place of a result's passes in a loop; none where the loop doesn't fill it.
-pub fn place_in(graph: &Graph, loop_index: u32, r: u32) -> Option<Place>
+/// The place of a result's passes in a loop that fills it.
+pub fn place_in(graph: &Graph, loop_index: u32, r: u32) -> Place
     requires its_loop { loop_index < length (graph_loops graph.now) }
     requires result { r < length (graph_results graph.now) }
+    requires filled { (x : ResultAt) × (results : List Booked) × (slice_get (graph_results graph.now) r ≡ Some x) × (slice_get (loop_results (booked_statements graph.now)) loop_index ≡ Some results) × (fills x.booked.name results ≡ true) }
     ensures { (x : ResultAt) (results : List Booked) → slice_get (graph_results graph.now) r ≡ Some x → slice_get (loop_results (booked_statements graph.now)) loop_index ≡ Some results
-        → MatchOption result (fills x.booked.name results ≡ false) (IsFilledPlace (booked_statements graph.now) x.booked results) }
+        → IsPlaced (booked_statements graph.now) (loop_passes (booked_statements graph.now) results) x.booked result }
 {
     graph.is_booked();
     let _variations = graph.variations().len();
     let passes = graph.passes(loop_index);
     let Some(start) = first_pass(passes, r) else {
-        return None;
+        unreachable!()
     };
     let before = counts_of(graph, &passes[..start]);
     let own = pass_count(passes, r) as u32;
-    Some(Place {
+    Place {
         first: before.actions,
         passes: own * accumulators(graph, r),
         watched: before.watched,
-    })
+    }
 }
 
 /// Whether a result's partial results are noted: it is a watched action.

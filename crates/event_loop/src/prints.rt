@@ -2,19 +2,44 @@
 ghost use Rattle.std.specs.Prelude.{◌≡◌, ◌<◌, ◌≤◌, ◌++◌, ℕ, IfOk, None, Ok, OnOk, Some, false, length, slice_get, true};
 ghost use Rattle.entry_fns.specs.{functions_in};
 ghost use Rattle.rdf_values.specs.{fn_names, history, StatementsHaveWords};
-ghost use Rattle.rdf_model.specs.{accesses};
-ghost use Rattle.event_loop.specs.{dataset_of, EndsAt, GoesOn, HasSameParts, IsSession, IsTranscript, session_of};
+ghost use Rattle.rdf_model.specs.{accesses, Course, result_lines};
+ghost use Rattle.graph_numbers.specs.{graph_results, ResultAt};
+ghost use Rattle.event_loop.specs.{dataset_of, EndsAt, FitsCourse, GoesOn, HasSameParts, IsFilledIn, IsSession, IsTranscript, session_of};
 
-use crate::booked::BookedGraph;
-use crate::refusal::LoopRefusal;
-use crate::results::put_result;
-use crate::session::Session;
-use crate::transcript::Transcript;
+use crate::session::{BookedGraph, LoopRefusal, Session};
 use rdf_outside::Gate;
 use rdf_values::{Memory, Text};
-use result_text::fault_line;
+use result_text::{fault_line, partial_lines, result_lines};
 use std::alloc::Global;
 use std::thread::Threads;
+
+/// The lines of the Prints up to the first loop that faults, with its fault line; and whether one did.
+#[derive(Drop)]
+pub struct Transcript {
+    pub text: Text,
+    pub faulted: bool,
+}
+
+// Appends the lines of a result that a completed loop fills: its partial lines where it is watched, and then those of its passes.
+fn put_result(
+    alloc: Global,
+    text: &mut Text,
+    session: &Session<'_>,
+    r: u32,
+    loop_index: u32,
+) -> Result<(), Memory>
+    requires session { IsSession (session_of session.now) }
+    requires result { r < length (graph_results (session_of session.now).graph) }
+    requires filled { (x : ResultAt) → slice_get (graph_results (session_of session.now).graph) r ≡ Some x → IsFilledIn (session_of session.now) x.booked.name loop_index }
+    ensures { (x : ResultAt) (course : Course) → slice_get (graph_results (session_of session.now).graph) r ≡ Some x → FitsCourse (session_of session.now) course
+        → OnOk result (text.new ≡ text.old ++ result_lines (history (session_of session.now).graph.script) (session_of session.now).dataset course x.booked) }
+{
+    let (filled, partials) = session.filled(r, loop_index);
+    let front = partial_lines(alloc, session.graph(), r, &partials)?;
+    text.extend(front.as_bytes())?;
+    let lines = result_lines(alloc, session.graph(), r, &filled)?;
+    text.extend(lines.as_bytes())
+}
 
 // Appends what a Print gives: the lines of its result, or the line of the fault of its loop. Answers whether the run goes on.
 fn put_print<R: Threads + Sync, G: Gate>(
@@ -34,12 +59,14 @@ fn put_print<R: Threads + Sync, G: Gate>(
     ensures end { result ≡ Ok false → EndsAt (session_of session.old) text.old text.new print }
 {
     match session.access(rt, alloc, print, gate) {
-        Ok(r) => {
-            put_result(alloc, text, session, r)?;
+        Ok(loop_index) => {
+            let graph = session.graph();
+            let r = graph.print_result(print);
+            put_result(alloc, text, session, r, loop_index)?;
             Ok(true)
         }
-        Err(LoopRefusal::Fault { loop_index, fault }) => {
-            let line = fault_line(alloc, session.graph(), loop_index, &fault)?;
+        Err(LoopRefusal::Fault(kept)) => {
+            let line = fault_line(alloc, session.graph(), kept.loop_index, &kept.fault)?;
             text.extend(line.as_bytes())?;
             Ok(false)
         }

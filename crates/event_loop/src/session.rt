@@ -1,26 +1,44 @@
 // The loops of a graph, each run at the first access that needs it.
-ghost use Rattle.std.specs.Prelude.{◌≡◌, ◌<◌, ◌≤◌, ◌⊎◌, [], ℕ, IfOk, None, Some, Ok, Err, MatchOption, length, slice_get};
+ghost use Rattle.std.specs.Prelude.{◌≡◌, ◌<◌, ◌≤◌, ℕ, IfOk, Some, Ok, Err, length, slice_get};
 ghost use Rattle.entry_fns.specs.{functions_in};
-ghost use Rattle.rdf_values.specs.{Fault, fn_names, history, StatementsHaveWords};
+ghost use Rattle.rdf_values.specs.{fn_names, history, StatementsHaveWords};
 ghost use Rattle.rdf_model.specs.{accesses, loop_results};
 ghost use Rattle.graph_numbers.specs.{graph_results, ResultAt};
-ghost use Rattle.event_loop.specs.{ArePartials, FilledLoop, fresh_session, HasEnded, HasNoPartials, HasSameParts, IsAccessed, IsFaulted, IsFoundAt, IsRefused, IsResult, IsSession, IsUnfilled, job_facts, session_job, session_of};
+ghost use Rattle.event_loop.specs.{fresh_session, HasEnded, HasSameParts, IsAccessed, IsFaulted, IsFilledIn, IsRefused, IsResult, IsSession, job_facts, session_job, session_of};
 
-use crate::booked::BookedGraph;
-use crate::end::{FilledLoop, LoopEnd};
-use crate::kept::Kept;
-use crate::one_loop::run_loop;
-use crate::place::{Place, is_noted, place_in};
-use crate::refusal::LoopRefusal;
+use crate::one_loop::{FilledLoop, LoopEnd, run_loop};
+use crate::place::{is_noted, place_in};
 use columns::Columns;
 use entry_fns::FnList;
 use graph::Graph;
 use loop_keys::Job;
 use loop_pieces::{FilledResult, PartialLines};
 use rdf_outside::Gate;
-use rdf_values::Memory;
+use rdf_values::{Fault, Memory};
 use std::alloc::Global;
 use std::thread::Threads;
+
+/// A graph that was booked over a table's columns, with the caller's functions.
+#[derive(Drop)]
+pub struct BookedGraph<'a> {
+    pub graph: Graph,
+    pub columns: Columns,
+    pub functions: &'a FnList,
+}
+
+/// The loop that faulted, and its first fault.
+#[derive(Clone, Copy, Debug)]
+pub struct Kept {
+    pub loop_index: u32,
+    pub fault: Fault,
+}
+
+/// The first fault of a loop, which stands for every result that isn't filled; or want of memory.
+#[derive(Clone, Copy, Debug)]
+pub enum LoopRefusal {
+    Fault(Kept),
+    Memory,
+}
 
 /// A graph over columns with the loops that were completed, and the fault of the one that faulted.
 #[derive(Drop)]
@@ -33,6 +51,17 @@ pub struct Session<'a> {
     next: u32,
     loops: Vec<FilledLoop>,
     fault: Option<Kept>,
+}
+
+// The partial results of that watched result of a loop.
+fn lines_at(filled: &FilledLoop, watched: u32) -> PartialLines<'_>
+    requires { watched < length filled.now.partials }
+    ensures { slice_get filled.now.partials watched ≡ Some result.lines.now }
+{
+    let partials = filled.partials.as_slice();
+    PartialLines {
+        lines: partials[watched as usize].as_slice(),
+    }
 }
 
 impl<'a> Session<'a> {
@@ -66,7 +95,7 @@ impl<'a> Session<'a> {
         }
     }
 
-    /// Fills the result of the next Print, by the loop that fills it where that wasn't run, and answers the result's number.
+    /// Fills the result of the next Print, by the loop that fills it where that wasn't run, and answers the loop's number.
     /// Its slots call the gate at each turn; no clause says so.
     /// A loop that faults leaves its first fault, which every later access to a result that isn't filled answers too.
     pub fn access<R: Threads + Sync, G: Gate>(
@@ -80,23 +109,19 @@ impl<'a> Session<'a> {
         requires session { IsSession (session_of self.old) }
         ensures session { IsSession (session_of self.new) }
         ensures parts { HasSameParts (session_of self.old) (session_of self.new) }
-        ensures ok { (r : ℕ) → result ≡ Ok r → IsAccessed (session_of self.old) (session_of self.new) print r }
-        ensures fault { (l : ℕ) (f : Fault) → result ≡ Err (LoopRefusal.Fault l f) → IsFaulted (session_of self.old) (session_of self.new) print l f }
+        ensures ok { (l : ℕ) → result ≡ Ok l → IsAccessed (session_of self.old) (session_of self.new) print l }
+        ensures fault { (k : Kept) → result ≡ Err (LoopRefusal.Fault k) → IsFaulted (session_of self.old) (session_of self.new) print k }
         ensures memory { result ≡ Err LoopRefusal.Memory → IsRefused (session_of self.old) (session_of self.new) print }
     {
-        let r = self.graph.print_result(print);
         let l = self.graph.filling(print);
         let next = print + 1;
         if (l as usize) < self.loops.len() {
             self.next = next;
-            return Ok(r);
+            return Ok(l);
         }
         if let Some(kept) = self.fault {
             self.next = next;
-            return Err(LoopRefusal::Fault {
-                loop_index: kept.loop_index,
-                fault: kept.fault,
-            });
+            return Err(LoopRefusal::Fault(kept));
         }
         match self.run(rt, alloc, l, gate) {
             Ok(LoopEnd::Filled(filled)) => {
@@ -104,18 +129,16 @@ impl<'a> Session<'a> {
                     return Err(LoopRefusal::Memory);
                 }
                 self.next = next;
-                Ok(r)
+                Ok(l)
             }
             Ok(LoopEnd::Faulted(fault)) => {
-                self.fault = Some(Kept {
+                let kept = Kept {
                     loop_index: l,
                     fault,
-                });
+                };
+                self.fault = Some(kept);
                 self.next = next;
-                Err(LoopRefusal::Fault {
-                    loop_index: l,
-                    fault,
-                })
+                Err(LoopRefusal::Fault(kept))
             }
             Err(Memory) => Err(LoopRefusal::Memory),
         }
@@ -156,77 +179,23 @@ impl<'a> Session<'a> {
         &self.graph
     }
 
-    /// The number of the next Print.
-    pub fn next(&self) -> u32
-        ensures { result ≡ (session_of self.now).next }
-    {
-        self.next
-    }
-
-    /// How many loops were completed.
-    pub fn loops(&self) -> usize
-        ensures { result ≡ length (session_of self.now).loops }
-    {
-        self.loops.len()
-    }
-
-    // The completed loop that fills a result, and the place of the result's passes in it.
-    fn find(&self, r: u32) -> Option<(usize, Place)>
+    /// What a completed loop gave a result that it fills, and the result's partial results; none of these where it isn't noted.
+    pub fn filled(&self, r: u32, loop_index: u32) -> (FilledResult<'_>, PartialLines<'_>)
         requires session { IsSession (session_of self.now) }
         requires result { r < length (graph_results (session_of self.now).graph) }
-        ensures { (x : ResultAt) → slice_get (graph_results (session_of self.now).graph) r ≡ Some x
-            → MatchOption result (IsUnfilled (session_of self.now) x.booked.name) (λ f. IsFoundAt (session_of self.now) x.booked f.0 f.1) }
+        requires filled { (x : ResultAt) → slice_get (graph_results (session_of self.now).graph) r ≡ Some x → IsFilledIn (session_of self.now) x.booked.name loop_index }
+        ensures { (x : ResultAt) → slice_get (graph_results (session_of self.now).graph) r ≡ Some x → IsResult (session_of self.now) x.booked loop_index result.0 result.1.lines.now }
     {
-        for l in 0..self.loops.len() {
-            if let Some(place) = place_in(&self.graph, l as u32, r) {
-                return Some((l, place));
-            }
-        }
-        None
-    }
-
-    /// What is filled of a result; none where it isn't filled.
-    pub fn filled(&self, r: u32) -> Option<FilledResult<'_>>
-        requires session { IsSession (session_of self.now) }
-        requires result { r < length (graph_results (session_of self.now).graph) }
-        ensures { (x : ResultAt) → slice_get (graph_results (session_of self.now).graph) r ≡ Some x
-            → MatchOption result (IsUnfilled (session_of self.now) x.booked.name) (λ f. IsResult (session_of self.now) x.booked f) }
-    {
-        match self.find(r) {
-            Some((l, place)) => Some(FilledResult {
-                piece: &self.loops[l].piece,
-                first: place.first,
-                passes: place.passes,
-            }),
-            None => None,
-        }
-    }
-
-    // The partial results of a watched one of a completed loop.
-    fn lines_at(&self, l: usize, watched: u32) -> PartialLines<'_>
-        requires its_loop { l < length (session_of self.now).loops }
-        requires its_lines { (f : FilledLoop) → slice_get (session_of self.now).loops l ≡ Some f → watched < length f.partials }
-        ensures { (f : FilledLoop) → slice_get (session_of self.now).loops l ≡ Some f → slice_get f.partials watched ≡ Some result.lines.now }
-    {
-        let partials = self.loops[l].partials.as_slice();
-        PartialLines {
-            lines: partials[watched as usize].as_slice(),
-        }
-    }
-
-    /// The partial results of a result; none where it isn't watched or isn't filled.
-    pub fn partials(&self, r: u32) -> PartialLines<'_>
-        requires session { IsSession (session_of self.now) }
-        requires result { r < length (graph_results (session_of self.now).graph) }
-        ensures { (x : ResultAt) → slice_get (graph_results (session_of self.now).graph) r ≡ Some x
-            → ArePartials (session_of self.now) x.booked result.lines.now ⊎ ((result.lines.now ≡ []) × HasNoPartials (session_of self.now) x.booked) }
-    {
+        let place = place_in(&self.graph, loop_index, r);
+        let its_loop = &self.loops[loop_index as usize];
+        let filled = FilledResult {
+            piece: &its_loop.piece,
+            first: place.first,
+            passes: place.passes,
+        };
         if !is_noted(&self.graph, r) {
-            return PartialLines { lines: &[] };
+            return (filled, PartialLines { lines: &[] });
         }
-        match self.find(r) {
-            Some((l, place)) => self.lines_at(l, place.watched),
-            None => PartialLines { lines: &[] },
-        }
+        (filled, lines_at(its_loop, place.watched))
     }
 }

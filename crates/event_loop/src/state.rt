@@ -8,8 +8,7 @@ ghost use Rattle.loop_pieces.specs.{HaveTrails, StandsFor};
 ghost use Rattle.event_loop.specs.Jobs.{JobFacts, job_facts};
 ghost use Rattle.event_loop.specs.Slots.{IsFreshSlot, IsPlainSlot, IsSlotOf};
 
-use crate::progress::{Phase, Progress, SlotStop};
-use crate::tallies::tally_of;
+use crate::passes::tally_of;
 use block_passes::{BlockState, BlockStop, vector_keys};
 use cluster_tally::Tally;
 use expr_eval::Steps;
@@ -20,6 +19,27 @@ use std::alloc::Global;
 use std::marker::Model;
 use std::snapshot::Snapshot;
 use std::sync::ledger::Ledger;
+
+/// A cluster was processed to its end, or up to its first fault.
+#[derive(Clone, Copy, Debug, PartialEq, Eq)]
+pub enum Progress {
+    Done,
+    Faulted(Fault),
+}
+
+/// Why a cluster was not processed.
+#[derive(Clone, Copy, Debug, PartialEq, Eq)]
+pub enum SlotStop {
+    Memory,
+}
+
+/// Whether a slot goes on: not after a fault, nor after want of memory.
+#[derive(Clone, Copy, Debug, PartialEq, Eq)]
+pub enum Phase {
+    Going,
+    Faulted,
+    NoMemory,
+}
 
 /// One slot of a loop.
 #[derive(Drop)]

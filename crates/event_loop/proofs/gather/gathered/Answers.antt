@@ -1,10 +1,8 @@
-use Rattle.std.proofs.Common.{◌≡◌, ◌<◌, length, map, min, sym, ap, ◌∙◌, subst, arith}
+use Rattle.std.proofs.Common.{length, sym, ap, ◌∙◌, subst, arith}
 use Rattle.lemmas.proofs.{All, All-map}
-use Rattle.rdf_values.specs.{DrawnBy, least_fault}
-use Rattle.slot_words.specs.{IsLeast, IsPassed, SeatSeen}
 use Rattle.slot_words.specs.Seats.{IsOf}
-use Rattle.event_loop.specs.{AreDone, end_faults, HasMemory, seat_in}
-use Rattle.event_loop.proofs.Ended.{drawn_in, IsKept, least_is_first, all_over, are_done, as_many, left_none}
+use Rattle.event_loop.specs.{AreDone, seat_in}
+use Rattle.event_loop.proofs.Ended.{have_ended, first_is, are_done}
 use Rattle.event_loop.proofs.gather.gathered.Goals as goal
 
 pub finish-requires-clause-of : goal.finish-requires-clause-of
@@ -12,37 +10,20 @@ finish-requires-clause-of c = subst (All (IsOf c.args.claims)) (sym c.in_ok-seat
 
 pub returns-in-Some : goal.returns-in-Some
 returns-in-Some c = λ b job facts ran.
-    let fs = c.args.finished.items in
-    let claims = c.args.claims in
-    let word = c.finish.result.word in
-    let bar = c.finish.result.bar in
-    let seats = c.in_ok-seats.ensures.seats in
-    let some : 0 < length fs = (let ok = c.args.finished.ok.0 in omega (arith, c.requires.some)) in
-    let memory : All HasMemory fs = subst (All HasMemory) c.as_slice.ensures.value c.in_ok-least.ensures.memory in
-    let least : c.in_ok-least.least ≡ least_fault (end_faults fs) = c.in_ok-least.ensures.least ∙ ap (λ l. least_fault (end_faults l)) c.as_slice.ensures.value in
-    let drawn : DrawnBy (drawn_in fs) (min word claims.clusters) = subst (λ l. DrawnBy (map (λ (s : SeatSeen). s.drawn) l) (min word claims.clusters)) seats c.finish.ensures.drawn in
-    let lowest : IsLeast claims.clusters (map seat_in fs) bar = subst (λ l. IsLeast claims.clusters l bar) seats c.finish.ensures.bar in
-    let passed : All (IsPassed bar) (map seat_in fs) = subst (All (IsPassed bar)) seats c.finish.ensures.passed in
-    let kept : All (IsKept claims.clusters word) (map seat_in fs) = subst (All (IsKept claims.clusters word)) seats c.finish.ensures.kept in
-    sym (least_is_first claims b job bar fs word facts some ran memory drawn lowest passed kept) ∙ sym least ∙ c.in-Some.is
+    let ok = c.args.finished.ok.0 in
+    let f = c.finish.ensures in
+    let told = have_ended c.args.claims b job c.finish.result.bar c.args.finished.items _ c.finish.result.word c.in_ok-least.least _ (omega (arith, c.requires.some)) c.as_slice.ensures.value c.in_ok-least.ensures.memory c.in_ok-least.ensures.least
+    c.in_ok-seats.ensures.seats f.drawn f.bar f.passed f.kept in
+    first_is c.args.claims b job c.finish.result.bar c.args.finished.items c.finish.result.word c.in_ok-least.least facts ran told ∙ c.in-Some.is
 
 pub returns-in-None : goal.returns-in-None
 returns-in-None c = λ b job facts ran.
-    let fs = c.args.finished.items in
-    let claims = c.args.claims in
-    let word = c.finish.result.word in
-    let bar = c.finish.result.bar in
-    let seats = c.in_ok-seats.ensures.seats in
     let ok = c.args.finished.ok.0 in
-    let some : 0 < length fs = omega (arith, c.requires.some) in
-    let memory : All HasMemory fs = subst (All HasMemory) c.as_slice.ensures.value c.in_ok-least.ensures.memory in
-    let least : c.in_ok-least.least ≡ least_fault (end_faults fs) = c.in_ok-least.ensures.least ∙ ap (λ l. least_fault (end_faults l)) c.as_slice.ensures.value in
-    let drawn : DrawnBy (drawn_in fs) (min word claims.clusters) = subst (λ l. DrawnBy (map (λ (s : SeatSeen). s.drawn) l) (min word claims.clusters)) seats c.finish.ensures.drawn in
-    let lowest : IsLeast claims.clusters (map seat_in fs) bar = subst (λ l. IsLeast claims.clusters l bar) seats c.finish.ensures.bar in
-    let passed : All (IsPassed bar) (map seat_in fs) = subst (All (IsPassed bar)) seats c.finish.ensures.passed in
-    let kept : All (IsKept claims.clusters word) (map seat_in fs) = subst (All (IsKept claims.clusters word)) seats c.finish.ensures.kept in
-    let none = left_none (end_faults fs) (sym c.in-None.is ∙ least) in (
-      sym (least_is_first claims b job bar fs word facts some ran memory drawn lowest passed kept) ∙ sym least ∙ c.in-None.is,
-      subst (AreDone b job) (sym c.in_ok-seats.ensures.done) (are_done claims b job bar fs word facts some ran memory drawn lowest passed kept none),
-      ap length c.in_ok-seats.ensures.done ∙ as_many claims b job bar fs (all_over claims b job bar fs memory none) ∙ omega arith,
+    let f = c.finish.ensures in
+    let told = have_ended c.args.claims b job c.finish.result.bar c.args.finished.items _ c.finish.result.word c.in_ok-least.least _ (omega (arith, c.requires.some)) c.as_slice.ensures.value c.in_ok-least.ensures.memory c.in_ok-least.ensures.least
+    c.in_ok-seats.ensures.seats f.drawn f.bar f.passed f.kept in
+    let done = are_done c.args.claims b job c.finish.result.bar c.args.finished.items c.finish.result.word c.in_ok-least.least facts ran told c.in-None.is in (
+      first_is c.args.claims b job c.finish.result.bar c.args.finished.items c.finish.result.word c.in_ok-least.least facts ran told ∙ c.in-None.is,
+      subst (AreDone b job) (sym c.in_ok-seats.ensures.done) done.0,
+      ap length c.in_ok-seats.ensures.done ∙ done.1 ∙ omega arith,
     )

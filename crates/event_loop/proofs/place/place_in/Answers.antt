@@ -1,12 +1,16 @@
-use Rattle.std.proofs.Common.{◌≤◌, ◌*◌, arith, sym}
-use Rattle.lemmas.proofs.{take_no_longer}
+use Rattle.std.proofs.Common.{◌≡◌, ◌≤◌, ◌*◌, ◌∙◌, List, ap₂, arith, sym}
+use Rattle.lemmas.proofs.{same_some, take_no_longer}
+use Rattle.rdf_values.specs.{Booked}
+use Rattle.graph_numbers.specs.{ResultAt}
+use Rattle.event_loop.specs.{fills}
 use native.Mathlib.Nat.{mul-le-mul_left}
-use Rattle.event_loop.proofs.Found.{loop_few, none_found, pass_of, place_is, taken_at}
+use Rattle.event_loop.proofs.Found.{at_start, loop_few, pass_of, place_is, taken_at}
 use Rattle.event_loop.proofs.place.place_in.Goals as goal
 
-pub returns-in_default : goal.returns-in_default
-returns-in_default c = λ x results its there.
-    none_found c.args.graph.now c.is_booked.ensures c.args.loop_index c.passes-passes.result.now c.passes-passes.ensures results there c.args.r x its (sym c.in_default.ensures)
+pub unreachable-requires : goal.unreachable-requires
+unreachable-requires c =
+    let f = c.requires.filled in
+    absurd (cc (at_start c.args.graph.now c.is_booked.ensures c.args.loop_index c.passes-passes.result.now c.passes-passes.ensures f.1 f.3 c.args.r f.0 f.2 f.4, c.in_default.ensures))
 
 pub counts_of-before-requires-clause-passes : goal.counts_of-before-requires-clause-passes
 counts_of-before-requires-clause-passes c = λ i p at.
@@ -34,5 +38,9 @@ overflow_mul-result c =
 pub returns : goal.returns
 returns c = λ x results its there.
     let few = loop_few c.args.graph.now c.is_booked.ensures c.args.loop_index c.passes-passes.result.now c.passes-passes.ensures _ _ c.variations.ensures c.len-variations.ensures.count c.len-variations.ensures.few in
-    place_is c.args.graph.now c.is_booked.ensures c.args.loop_index c.passes-passes.result.now c.passes-passes.ensures results there c.args.r x its c.in-Some.start (sym c.in-Some.ensures) few
+    let f = c.requires.filled in
+    let row : f.0 ≡ x = same_some (sym f.2 ∙ its) in
+    let all : f.1 ≡ results = same_some (sym f.3 ∙ there) in
+    place_is c.args.graph.now c.is_booked.ensures c.args.loop_index c.passes-passes.result.now c.passes-passes.ensures results there c.args.r x its (ap₂ (λ (y : ResultAt) (rs : List Booked). fills y.booked.name rs) (sym row) (sym all) ∙ f.4)
+    c.in-Some.start (sym c.in-Some.ensures) few
     c.counts_of-before.result.actions c.counts_of-before.result.watched c.pass_count-own.result c.accumulators.result c.counts_of-before.ensures c.pass_count-own.ensures.count c.accumulators.ensures.value

@@ -12,10 +12,10 @@ returns-then-l-len-clause-session g c =
     after_old (session_of c.args.self.now) c.requires.session c.args.print c.requires.print.0 c.filling-l.result c.filling-l.ensures lt
 
 pub returns-then-l-len-clause-ok : goal.returns-then-l-len-clause-ok
-returns-then-l-len-clause-ok g c = λ r e.
+returns-then-l-len-clause-ok g c = λ m e.
     let lt : c.filling-l.result < length c.args.self.now.loops.items = omega arith in
-    let same_result : c.print_result-r.result ≡ r = cc in
-    accessed_old (session_of c.args.self.now) c.requires.session c.args.print c.requires.print.0 c.filling-l.result c.filling-l.ensures c.print_result-r.result r same_result c.print_result-r.ensures lt
+    let same_loop : c.filling-l.result ≡ m = cc in
+    accessed_old (session_of c.args.self.now) c.requires.session c.args.print c.requires.print.0 c.filling-l.result c.filling-l.ensures m same_loop lt
 
 pub run-requires-clause-its_loop : goal.run-requires-clause-its_loop
 run-requires-clause-its_loop g c κs within =
@@ -29,11 +29,11 @@ returns-else-is_err-clause-session g c =
     (pushed_items _ _ _ _ c.push.ensures.items c.if-is_err.ensures.negation) (rw c.in-Ok-Filled.field-0-is at c.in-Ok-Filled.ensures)
 
 pub returns-else-is_err-clause-ok : goal.returns-else-is_err-clause-ok
-returns-else-is_err-clause-ok g c = λ r e.
+returns-else-is_err-clause-ok g c = λ m e.
     let ge : length c.args.self.now.loops.items ≤ c.filling-l.result = omega arith in
-    let same_result : c.print_result-r.result ≡ r = cc in
+    let same_loop : c.filling-l.result ≡ m = cc in
     accessed_filled (session_of c.args.self.now) c.requires.session c.args.print c.requires.print.0 c.filling-l.result c.filling-l.ensures ge c.in_default.is c.in-Ok-Filled.filled c.push.new.self.items
-    (pushed_items _ _ _ _ c.push.ensures.items c.if-is_err.ensures.negation) (rw c.in-Ok-Filled.field-0-is at c.in-Ok-Filled.ensures) c.print_result-r.result r same_result c.print_result-r.ensures
+    (pushed_items _ _ _ _ c.push.ensures.items c.if-is_err.ensures.negation) (rw c.in-Ok-Filled.field-0-is at c.in-Ok-Filled.ensures) m same_loop
 
 pub returns-in-Ok-Faulted-clause-session : goal.returns-in-Ok-Faulted-clause-session
 returns-in-Ok-Faulted-clause-session g c =
@@ -41,8 +41,6 @@ returns-in-Ok-Faulted-clause-session g c =
     after_faulted (session_of c.args.self.now) c.requires.session c.args.print c.requires.print.0 c.filling-l.result c.filling-l.ensures ge c.in_default.is c.in-Ok-Faulted.fault (rw c.in-Ok-Faulted.field-0-is at c.in-Ok-Faulted.ensures)
 
 pub returns-in-Ok-Faulted-clause-fault : goal.returns-in-Ok-Faulted-clause-fault
-returns-in-Ok-Faulted-clause-fault g c = λ l f e.
+returns-in-Ok-Faulted-clause-fault g c = λ k e.
     let ge : length c.args.self.now.loops.items ≤ c.filling-l.result = omega arith in
-    let same_loop : c.filling-l.result ≡ l = cc in
-    let same_fault : c.in-Ok-Faulted.fault ≡ f = cc in
-    faulted_new (session_of c.args.self.now) c.requires.session c.args.print c.requires.print.0 c.filling-l.result c.filling-l.ensures ge c.in_default.is c.in-Ok-Faulted.fault (rw c.in-Ok-Faulted.field-0-is at c.in-Ok-Faulted.ensures) l f same_loop same_fault
+    faulted_new (session_of c.args.self.now) c.requires.session c.args.print c.requires.print.0 c.filling-l.result c.filling-l.ensures ge c.in_default.is c.in-Ok-Faulted.fault (rw c.in-Ok-Faulted.field-0-is at c.in-Ok-Faulted.ensures) k (cc)

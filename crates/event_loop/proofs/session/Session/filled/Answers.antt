@@ -1,24 +1,53 @@
-use Rattle.std.proofs.Common.{refl, arith, length}
+use Rattle.std.proofs.Common.{◌<◌, ◌∙◌, Bool, ℕ, [], ◌∷◌, ap, arith, if◌then◌else◌, inl, inr, length, refl}
 use Rattle.std.proofs.lemmas.Option.{slice_get_read}
 use Rattle.event_loop.specs.{session_of}
-use Rattle.event_loop.proofs.Accesses.{completed_at, result_is}
+use Rattle.event_loop.proofs.Accesses.{completed_at, fills_it, lines_there, loop_there, placed_at}
 use Rattle.event_loop.proofs.session.Session.filled.Goals as goal
 
-pub index-requires : goal.index-requires
-index-requires g c =
-    let lt = completed_at (session_of c.args.self.now) c.requires.session c.args.r c.requires.result c.in-Some.l c.in-Some.place (λ x its. c.in-Some.ensures x its) in
+pub place_in-place-requires-clause-its_loop : goal.place_in-place-requires-clause-its_loop
+place_in-place-requires-clause-its_loop g c =
+    loop_there (session_of c.args.self.now) c.requires.session c.args.loop_index (completed_at (session_of c.args.self.now) c.requires.session c.args.r c.requires.result c.args.loop_index c.requires.filled)
+
+pub place_in-place-requires-clause-filled : goal.place_in-place-requires-clause-filled
+place_in-place-requires-clause-filled g c = fills_it (session_of c.args.self.now) c.requires.session c.args.r c.requires.result c.args.loop_index c.requires.filled
+
+pub index-its_loop-requires : goal.index-its_loop-requires
+index-its_loop-requires g c =
+    let lt = completed_at (session_of c.args.self.now) c.requires.session c.args.r c.requires.result c.args.loop_index c.requires.filled in
     let same_length = c.args.self.now.loops.ok in
     omega (arith, lt, same_length)
 
-pub returns-in-Some : goal.returns-in-Some
-returns-in-Some g c = λ x its.
-    let lt = completed_at (session_of c.args.self.now) c.requires.session c.args.r c.requires.result c.in-Some.l c.in-Some.place (λ y at. c.in-Some.ensures y at) in
+pub lines_at-requires : goal.lines_at-requires
+lines_at-requires g c =
+    let lt = completed_at (session_of c.args.self.now) c.requires.session c.args.r c.requires.result c.args.loop_index c.requires.filled in
+    let at = slice_get_read c.args.self.now.loops.items (length c.args.self.now.loops.items) c.args.loop_index c.index-its_loop.result.now refl lt c.index-its_loop.ensures in
+    lines_there (session_of c.args.self.now) c.requires.session c.args.r c.requires.result c.args.loop_index c.requires.filled c.place_in-place.result c.place_in-place.ensures
+    (λ x n its. c.is_noted.ensures x n its ∙ ap (λ (b : Bool). if b then n ∷ [] else []) c.if-not-is_noted.false) c.index-its_loop.result.now at
+
+pub returns-then-not-is_noted : goal.returns-then-not-is_noted
+returns-then-not-is_noted g c = λ x its.
+    let lt = completed_at (session_of c.args.self.now) c.requires.session c.args.r c.requires.result c.args.loop_index c.requires.filled in
     record {
-      filled = c.index.result.now;
-      place = c.in-Some.place;
-      filled_at = result_is (session_of c.args.self.now) c.requires.session x.booked c.in-Some.l c.in-Some.place c.index.result.now (c.in-Some.ensures x its)
-          (slice_get_read c.args.self.now.loops.items (length c.args.self.now.loops.items) c.in-Some.l c.index.result.now refl lt c.index.ensures);
+      filled = c.index-its_loop.result.now;
+      place = c.place_in-place.result;
+      its_loop = slice_get_read c.args.self.now.loops.items (length c.args.self.now.loops.items) c.args.loop_index c.index-its_loop.result.now refl lt c.index-its_loop.ensures;
+      placed = placed_at (session_of c.args.self.now) c.requires.session c.args.r c.requires.result c.args.loop_index c.requires.filled c.place_in-place.result c.place_in-place.ensures x its;
       piece = refl;
       first = refl;
       passes = refl;
+      partials = inr (c.is_noted.ensures x 0 its ∙ ap (λ (b : Bool). if b then 0 ∷ [] else []) c.if-not-is_noted.true, refl);
+    }
+
+pub returns : goal.returns
+returns g c = λ x its.
+    let lt = completed_at (session_of c.args.self.now) c.requires.session c.args.r c.requires.result c.args.loop_index c.requires.filled in
+    record {
+      filled = c.index-its_loop.result.now;
+      place = c.place_in-place.result;
+      its_loop = slice_get_read c.args.self.now.loops.items (length c.args.self.now.loops.items) c.args.loop_index c.index-its_loop.result.now refl lt c.index-its_loop.ensures;
+      placed = placed_at (session_of c.args.self.now) c.requires.session c.args.r c.requires.result c.args.loop_index c.requires.filled c.place_in-place.result c.place_in-place.ensures x its;
+      piece = refl;
+      first = refl;
+      passes = refl;
+      partials = inl ((λ n. c.is_noted.ensures x n its ∙ ap (λ (b : Bool). if b then n ∷ [] else []) c.if-not-is_noted.false), c.lines_at.ensures);
     }

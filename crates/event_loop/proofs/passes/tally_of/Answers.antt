@@ -2,7 +2,7 @@ use Rattle.std.proofs.Common.{◌∙◌, ap, replicate}
 use Rattle.loop_pieces.specs.{nothing}
 use Rattle.loop_keys.specs.{job_of}
 use Rattle.event_loop.proofs.Adding.{filters_same}
-use Rattle.event_loop.proofs.tallies.tally_of.Goals as goal
+use Rattle.event_loop.proofs.passes.tally_of.Goals as goal
 
 pub loop-number-init : goal.loop-number-init
 loop-number-init g c = (

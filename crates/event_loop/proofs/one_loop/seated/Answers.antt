@@ -1,6 +1,6 @@
 use Rattle.std.proofs.Common.{[], ◌∷◌, length, length-append, ap, refl, arith}
 use Rattle.event_loop.proofs.Whole.{none_popped, next_seated, none_seated}
-use Rattle.event_loop.proofs.seating.seated.Goals as goal
+use Rattle.event_loop.proofs.one_loop.seated.Goals as goal
 
 pub loop-seat-init : goal.loop-seat-init
 loop-seat-init = grind (arith, none_seated)

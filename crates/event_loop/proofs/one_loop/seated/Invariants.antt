@@ -3,7 +3,7 @@ use Rattle.std.specs.List.{All}
 use Rattle.event_loop.specs.{AreBlank}
 use Rattle.event_loop.specs.declared.workers.Shared.{Shared}
 use Rattle.event_loop.proofs.Whole.{AreSeated}
-use Rattle.event_loop.proofs.seating.seated.Given as goal
+use Rattle.event_loop.proofs.one_loop.seated.Given as goal
 use Rattle.slot_words.specs.{IsReady}
 
 abbrev pub invariant-loop-seat : goal.invariant-loop-seat

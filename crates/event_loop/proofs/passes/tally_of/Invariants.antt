@@ -3,7 +3,7 @@ use Rattle.rdf_values.specs.{history, named_before}
 use Rattle.loop_pieces.specs.{nothing}
 use Rattle.loop_keys.specs.{job_of, passes_in}
 use Rattle.event_loop.specs.{IsOfPasses}
-use Rattle.event_loop.proofs.tallies.tally_of.Given as goal
+use Rattle.event_loop.proofs.passes.tally_of.Given as goal
 
 abbrev pub invariant-loop-number : goal.invariant-loop-number
 invariant-loop-number g l =

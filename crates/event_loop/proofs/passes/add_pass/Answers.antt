@@ -4,7 +4,7 @@ use Rattle.loop_keys.specs.{job_of, passes_in}
 use Rattle.cluster_tally.specs.{IsFresh, place_if}
 use Rattle.event_loop.specs.{places_before}
 use Rattle.event_loop.proofs.Adding.{added, may_watch, edges, its_pass, kept, of_action, of_report, result_within}
-use Rattle.event_loop.proofs.tallies.add_pass.Goals as goal
+use Rattle.event_loop.proofs.passes.add_pass.Goals as goal
 
 pub kind-requires : goal.kind-requires
 kind-requires g c =
