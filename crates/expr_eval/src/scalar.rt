@@ -1,6 +1,6 @@
 // Evaluation without vectors.
 ghost use Rattle.std.specs.Prelude.{◌≡◌, ◌+◌, ◌<◌, ◌≤◌, ℕ, ℤ, true, length, All, OnOk, IfOk};
-ghost use Rattle.rdf_values.specs.{args_count, Call as CallTree, EachArgument, FitsKind, fn_names, num_tree, num_trees};
+ghost use Rattle.rdf_values.specs.{args_count, Call as CallTree, EachArgument, FitsKind, fn_names, Neg as NegTree, Not as NotTree, num_tree, num_trees};
 ghost use Rattle.rdf_values.specs.declared.tables.value.Value.TheVariants.{Int as ValueInt, Bool as ValueBool};
 ghost use Rattle.rdf_model.specs.{argument, call_outcome, evaluate, evaluate_all, FitsOutcome, Gives, of_numbers, operation, value_operation};
 ghost use Rattle.entry_fns.specs.{functions_in};
@@ -136,16 +136,8 @@ fn eval_other<I: Inputs, C: Calls>(node: &NumNode, inputs: &I, calls: &C) -> Sca
 {
     match node {
         NumNode::Truth(b) => ScalarAnswer::Bool(*b),
-        NumNode::Neg(a) => match eval_node(a, inputs, calls) {
-            ScalarAnswer::Int(x) => number_answer(negate(x)),
-            ScalarAnswer::Bool(_) => ScalarAnswer::Int(0),
-            stop => stop,
-        },
-        NumNode::Not(a) => match eval_node(a, inputs, calls) {
-            ScalarAnswer::Int(_) => ScalarAnswer::Int(0),
-            ScalarAnswer::Bool(b) => ScalarAnswer::Bool(!b),
-            stop => stop,
-        },
+        NumNode::Neg(a) => eval_negative(a, inputs, calls),
+        NumNode::Not(a) => eval_inverse(a, inputs, calls),
         NumNode::Cond(c, a, b) => match eval_node(c, inputs, calls) {
             ScalarAnswer::Bool(true) => eval_node(a, inputs, calls),
             ScalarAnswer::Bool(false) => eval_node(b, inputs, calls),
@@ -161,6 +153,32 @@ fn eval_other<I: Inputs, C: Calls>(node: &NumNode, inputs: &I, calls: &C) -> Sca
         },
         NumNode::Call(callee, args) => eval_call(*callee, args, inputs, calls),
         _ => unreachable!(),
+    }
+}
+
+#[inline(never)]
+#[cycle(scalar)]
+fn eval_negative<I: Inputs, C: Calls>(a: &NumNode, inputs: &I, calls: &C) -> ScalarAnswer
+    requires { IsScalarPart (I.can inputs.now) (I.look inputs.now) (C.functions calls.now) (num_tree a.now) }
+    ensures { answered result ≡ evaluate (I.look inputs.now) (call_outcome (C.functions calls.now)) (NegTree (num_tree a.now)) }
+{
+    match eval_node(a, inputs, calls) {
+        ScalarAnswer::Int(x) => number_answer(negate(x)),
+        ScalarAnswer::Bool(_) => ScalarAnswer::Int(0),
+        stop => stop,
+    }
+}
+
+#[inline(never)]
+#[cycle(scalar)]
+fn eval_inverse<I: Inputs, C: Calls>(a: &NumNode, inputs: &I, calls: &C) -> ScalarAnswer
+    requires { IsScalarPart (I.can inputs.now) (I.look inputs.now) (C.functions calls.now) (num_tree a.now) }
+    ensures { answered result ≡ evaluate (I.look inputs.now) (call_outcome (C.functions calls.now)) (NotTree (num_tree a.now)) }
+{
+    match eval_node(a, inputs, calls) {
+        ScalarAnswer::Int(_) => ScalarAnswer::Int(0),
+        ScalarAnswer::Bool(b) => ScalarAnswer::Bool(!b),
+        stop => stop,
     }
 }
 

@@ -264,14 +264,24 @@ fn call<'a, C: Calls>(
     ensures { AnswersAs operand_value (call_outcome (C.functions calls.now) callee (map operand_value args.now)) result }
 {
     match (callee, args) {
-        (Callee::Given(number), _) => {
-            let numbers = numbers_of(args);
-            number_answer(answer(calls, number, numbers.as_slice()))
-        }
+        (Callee::Given(number), _) => call_given(number, args, calls),
         (_, [value]) => call_one(callee, value),
         (Callee::At, [vector, place]) => call_at(vector, place),
         _ => Ok(Operand::Int(0)),
     }
+}
+
+fn call_given<'a, C: Calls>(
+    number: u32,
+    args: &[Operand<'_>],
+    calls: &C,
+) -> Result<Operand<'a>, EvalStop>
+    requires fits { CallFits (C.functions calls.now) (Callee.Given number) (length args.now) }
+    requires few { length args.now ≤ 8 }
+    ensures { AnswersAs operand_value (call_outcome (C.functions calls.now) (Callee.Given number) (map operand_value args.now)) result }
+{
+    let numbers = numbers_of(args);
+    number_answer(answer(calls, number, numbers.as_slice()))
 }
 
 fn numbers_of(args: &[Operand<'_>]) -> ArrayVec<i64, MAX_ARGUMENTS>
