@@ -342,7 +342,7 @@ pass_stays j count plan a b n h made = record {
 
 -- ---- After all passes the selections that they take were made.
 
-all_at : (P : ℕ → Type 0) (xs : List ℕ) (k x : ℕ) → AllByRecursion P xs → slice_get xs k ≡ Some x → P x
+pub all_at : (P : ℕ → Type 0) (xs : List ℕ) (k x : ℕ) → AllByRecursion P xs → slice_get xs k ≡ Some x → P x
 all_at P [] k x h e = cc e
 all_at P (y ∷ xs) zero x h e = let same : y ≡ x = cc e in subst P same h.0
 all_at P (y ∷ xs) (suc k) x h e = all_at P xs k x h.1 e

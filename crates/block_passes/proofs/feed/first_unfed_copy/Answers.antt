@@ -13,3 +13,6 @@ pub returns-clause-fault : goal.returns-clause-fault
 returns-clause-fault g c =
     let suits = lanes_suit c.args.own.now.kind.now c.gather-sources.result (λ (p : ℕ). for_all (version_in {M = ⊥} (turn_job c.args.at.now) (c.args.at.now.first + p) c.args.own.now.under) c.args.own.now.inputs.now) c.args.selection.now (places_of c.batch_places-places.result) c.batch_places-places.ensures (λ p i. c.gather-sources.ensures p (c.requires.inside p i) i (c.requires.hand p i)) in
     c.placed.ensures ∙ first_is c.args.own.now.kind.now c.gather-sources.result (λ (p : ℕ). for_all (version_in {M = ⊥} (turn_job c.args.at.now) (c.args.at.now.first + p) c.args.own.now.under) c.args.own.now.inputs.now) c.args.selection.now (places_of c.batch_places-places.result) c.batch_places-places.ensures (λ p i. c.gather-sources.ensures p (c.requires.inside p i) i (c.requires.hand p i)) c.first_fault.result (c.first_fault.ensures c.args.own.now.kind.now suits)
+
+pub returns-in_err-copies-clause-plain : goal.returns-in_err-copies-clause-plain
+returns-in_err-copies-clause-plain g c = λ used plain its. absurd (c.in_err-copies.ensures.plain used plain its)
