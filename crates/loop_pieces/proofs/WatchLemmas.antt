@@ -117,7 +117,7 @@ module _ (f : LoopFacts) (i : ℕ) (mine theirs all : List ℕ) (facts : IsLoopF
         omega (arith, ap nat_abs y_is, ap nat_abs z_is, low, high),
         tt,
         of_union (ActionKind.Sum c) (filled.Sum (y +ℤ z))
-            (merge_sum (fed_over f mine i) (fed_over f theirs i) c c y z (y +ℤ z) refl (record { made = in_fed (ActionKind.Sum c) (filled.Sum y) mine up a; kept = refl }) (record { made = in_fed (ActionKind.Sum c) (filled.Sum z) theirs down b; kept = refl })).made,
+            (merge_sum (fed_over f mine i) (fed_over f theirs i) c c (record { sum = y }) (record { sum = z }) (y +ℤ z) refl (record { made = in_fed (ActionKind.Sum c) (filled.Sum y) mine up a; kept = refl }) (record { made = in_fed (ActionKind.Sum c) (filled.Sum z) theirs down b; kept = refl })).made,
       )
 
   join_leasts : (c : List ℕ) (y z : Option ℤ) → Joins (ActionKind.Min c) (Least y) (Least z)
@@ -125,7 +125,7 @@ module _ (f : LoopFacts) (i : ℕ) (mine theirs all : List ℕ) (facts : IsLoopF
     tt,
     tt,
     of_union (ActionKind.Min c) (filled.Extreme (better_of_two int_min y z))
-        (merge_min (fed_over f mine i) (fed_over f theirs i) c c y z (better_of_two int_min y z) refl (record { made = in_fed (ActionKind.Min c) (filled.Extreme y) mine up a; kept = refl }) (record { made = in_fed (ActionKind.Min c) (filled.Extreme z) theirs down b; kept = refl })).made,
+        (merge_min (fed_over f mine i) (fed_over f theirs i) c c (record { best = y }) (record { best = z }) (better_of_two int_min y z) refl (record { made = in_fed (ActionKind.Min c) (filled.Extreme y) mine up a; kept = refl }) (record { made = in_fed (ActionKind.Min c) (filled.Extreme z) theirs down b; kept = refl })).made,
   )
 
   join_greatests : (c : List ℕ) (y z : Option ℤ) → Joins (ActionKind.Max c) (Greatest y) (Greatest z)
@@ -133,7 +133,7 @@ module _ (f : LoopFacts) (i : ℕ) (mine theirs all : List ℕ) (facts : IsLoopF
     tt,
     tt,
     of_union (ActionKind.Max c) (filled.Extreme (better_of_two int_max y z))
-        (merge_max (fed_over f mine i) (fed_over f theirs i) c c y z (better_of_two int_max y z) refl (record { made = in_fed (ActionKind.Max c) (filled.Extreme y) mine up a; kept = refl }) (record { made = in_fed (ActionKind.Max c) (filled.Extreme z) theirs down b; kept = refl })).made,
+        (merge_max (fed_over f mine i) (fed_over f theirs i) c c (record { best = y }) (record { best = z }) (better_of_two int_max y z) refl (record { made = in_fed (ActionKind.Max c) (filled.Extreme y) mine up a; kept = refl }) (record { made = in_fed (ActionKind.Max c) (filled.Extreme z) theirs down b; kept = refl })).made,
   )
 
   joins : (k : ActionKind) (p q : WatchPiece) → IsOfKind k p → IsOfKind k q → Joins k p q
