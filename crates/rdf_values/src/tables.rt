@@ -4,7 +4,6 @@ pub mod cell;
 pub mod cells;
 pub mod column;
 pub(crate) mod filling;
-pub mod int_list;
 pub mod integer;
 pub mod marks;
 pub(crate) mod narrow;

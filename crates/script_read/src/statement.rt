@@ -95,7 +95,7 @@ fn edges(alloc: Global, numbers: &OneOrMore<i64>) -> Result<IntList, LineStop>
 {
     let mut edges = IntList::new(alloc);
     edges.push(numbers.first)?;
-    edges.extend_from_slice(numbers.rest.as_slice())?;
+    edges.extend(numbers.rest.as_slice())?;
     Ok(edges)
 }
 

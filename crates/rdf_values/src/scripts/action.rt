@@ -1,6 +1,6 @@
 // Actions.
+use crate::list::IntList;
 use crate::scripts::name::Name;
-use crate::tables::int_list::IntList;
 
 /// The operation of a Reduce. `WrapAdd` adds modulo 2^64.
 #[derive(Clone, Copy, Debug, PartialEq, Eq)]

@@ -64,9 +64,7 @@ impl Marks {
         ensures ok { OnOk result (self.new ≡ self.old ++ entry ∷ []) }
         ensures err { OnErr result (self.new ≡ self.old) }
     {
-        match self.entries.push(entry) {
-            Ok(()) => Ok(()),
-            Err(_) => Err(Memory),
-        }
+        self.entries.push(entry)?;
+        Ok(())
     }
 }

@@ -1,5 +1,5 @@
 // Values and their types.
-use crate::tables::int_list::IntList;
+use crate::list::IntList;
 
 /// The type of a column or an expression.
 #[derive(Clone, Copy, Debug, PartialEq, Eq)]
