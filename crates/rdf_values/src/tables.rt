@@ -3,7 +3,6 @@
 pub mod cell;
 pub mod cells;
 pub mod column;
-pub(crate) mod filling;
 pub mod integer;
 pub mod marks;
 pub(crate) mod narrow;
