@@ -3,9 +3,7 @@ ghost use Rattle.std.specs.Prelude.{◌≡◌, ⊤, IfOk, MatchOption, Some, len
 ghost use Rattle.rdf_values.specs.{kind_at};
 
 use columns::{ColumnPieces, Columns, Packing, cut};
-use rdf_values::{
-    Cells, ColType, Column, ListOf, Marks, Memory, Name, Numbers, Table, TableParts,
-};
+use rdf_values::{ColType, Column, ListOf, Marks, Memory, Name, Table, Value};
 use std::alloc::Global;
 use std::test::Fail;
 use table_csv::read_table_in_slots;
@@ -22,16 +20,13 @@ fn table(alloc: Global) -> Result<Option<Table>, Memory>
         name,
         kind: ColType::Int,
     })?;
-    let mut numbers = Numbers::new(alloc);
-    numbers.push(10)?;
-    numbers.push(-3)?;
-    let mut cells = Vec::new(alloc);
-    cells.push(Cells::Ints(numbers))?;
-    Ok(Some(Table::from_parts(TableParts {
-        columns,
-        cells,
-        entries: 2,
-    })))
+    let mut table = Table::new(alloc, columns)?;
+    let mut row = ListOf::new(alloc);
+    row.push(Value::Int(10))?;
+    table.push(&mut row)?;
+    row.push(Value::Int(-3))?;
+    table.push(&mut row)?;
+    Ok(Some(table))
 }
 
 #[test]

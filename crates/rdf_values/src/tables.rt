@@ -3,6 +3,7 @@
 pub mod cell;
 pub mod cells;
 pub mod column;
+pub(crate) mod filling;
 pub mod integer;
 pub mod marks;
 pub(crate) mod narrow;

@@ -1,5 +1,5 @@
 -- How the values of a table are kept: column by column.
-use Rattle.std.specs.Prelude.{◌≡◌, ◌≤◌, ℕ, ℤ, pos, ⊤, Bool, true, false, Option, Some, None, List, [], ◌∷◌, ◌++◌, length, map, slice_index_or}
+use Rattle.std.specs.Prelude.{◌≡◌, ◌≤◌, ℕ, ℤ, pos, ⊤, Bool, true, false, Option, Some, None, List, [], ◌∷◌, ◌++◌, length, map, take, slice_index_or}
 use Rattle.rdf_values.specs.clusters.Cuts.{below}
 use Rattle.rdf_values.specs.tables.Tables.{FitRows, IsHeader}
 use Rattle.rdf_values.specs.declared.tables.cells.Cells.{Cells}
@@ -56,6 +56,11 @@ abbrev pub row_pushed : List Cells → List Value → List Cells
 row_pushed [] row = []
 row_pushed (x ∷ xs) [] = x ∷ xs
 row_pushed (x ∷ xs) (value ∷ row) = pushed x value ∷ row_pushed xs row
+
+-- the first values
+abbrev pub cut_to : ℕ → Cells → Cells
+cut_to n (Cells.Ints ns) = Cells.Ints (take n ns)
+cut_to n (Cells.Vects vs) = Cells.Vects (take n vs)
 
 -- the rows of so many entries
 unfoldable pub rows_kept : ℕ → List Cells → List (List Value)

@@ -1,12 +1,14 @@
 // Tables of events.
-ghost use Rattle.std.specs.Prelude.{◌≡◌, [], IfOk};
-ghost use Rattle.rdf_values.specs.{AreKept, HoldsTable, IsHeader, rows_kept};
+ghost use Rattle.std.specs.Prelude.{◌≡◌, ◌<◌, ◌++◌, ◌∷◌, [], length, Some, IfOk, OnOk, OnErr};
 
 use crate::list::ListOf;
 use crate::memory::Memory;
+use crate::tables::cell::Cell;
 use crate::tables::cells::Cells;
 use crate::tables::column::Column;
+use crate::tables::filling::{no_rows, push_row};
 use crate::tables::table_parts::TableParts;
+use crate::tables::value::Value;
 use std::alloc::Global;
 use std::marker::Model;
 
@@ -30,19 +32,11 @@ impl Model for Table {
     ghost invariant = { λ t. HoldsTable t.columns t.cells.items t.entries };
 }
 
-// No values for each column.
-fn no_rows(alloc: Global, columns: &[Column]) -> Result<Vec<Cells>, Memory>
-    requires { IsHeader columns.now }
-    ensures { IfOk result (λ cells. AreKept 0 columns.now cells.items) }
-{
-    let mut cells = Vec::new(alloc);
-    for column in columns {
-        cells.push(Cells::new(alloc, column.kind))?;
-    }
-    Ok(cells)
-}
-
 impl Table {
+    ghost use Rattle.rdf_values.specs.tables.Kept.{HoldsTable, rows_kept};
+    ghost use Rattle.rdf_values.specs.tables.Tables.{FitsRow, IsHeader, IsTable, cell};
+    ghost use Rattle.rdf_values.specs.tables.Values.{value_of};
+
     /// A table of no rows.
     #[tactic(auto, using(crate::proofs::KeptLemmas::holds_new, crate::proofs::KeptLemmas::no_rows_kept))]
     pub fn new(alloc: Global, columns: ListOf<Column>) -> Result<Table, Memory>
@@ -78,6 +72,50 @@ impl Table {
             columns: self.columns,
             cells: self.cells,
             entries: self.entries,
+        }
+    }
+
+    /// Appends a row; the row is left empty, with its room, for the next one.
+    #[tactic(auto, using(crate::proofs::KeptLemmas::keep, crate::proofs::KeptLemmas::fits_length, crate::proofs::KeptLemmas::kept_length, crate::proofs::KeptLemmas::pushed_back, crate::proofs::KeptLemmas::rows_after_push))]
+    pub fn push(&mut self, row: &mut ListOf<Value>) -> Result<(), Memory>
+        requires fits { FitsRow self.old.columns row.old }
+        requires room { length self.old.rows < 1000000 }
+        ensures ok { OnOk result ((self.new ≡ record self.old { rows = self.old.rows ++ row.old ∷ [] }) × (row.new ≡ [])) }
+        ensures err { OnErr result ((self.new ≡ self.old) × (row.new ≡ row.old)) }
+    {
+        push_row(&mut self.cells, self.entries as usize, row.as_slice())?;
+        row.clear();
+        self.entries += 1;
+        Ok(())
+    }
+
+    /// The columns in order.
+    #[tactic(auto, using(crate::proofs::KeptLemmas::holds_table))]
+    pub fn columns(&self) -> &[Column]
+        ensures value { result.now ≡ self.now.columns }
+        ensures valid { IsTable self.now }
+    {
+        self.columns.as_slice()
+    }
+
+    /// How many rows there are.
+    pub fn entries(&self) -> u32
+        ensures value { result ≡ length self.now.rows }
+        ensures valid { IsTable self.now }
+    {
+        self.entries
+    }
+
+    /// The value of an entry's column, both counted from 0.
+    #[tactic(auto, using(crate::proofs::KeptLemmas::kept_length))]
+    pub fn value(&self, entry: u32, col: u32) -> Cell<'_>
+        requires row { entry < length self.now.rows }
+        requires column { col < length self.now.columns }
+        ensures { cell self.now entry col ≡ Some (value_of result) }
+    {
+        match &self.cells[col as usize] {
+            Cells::Ints(numbers) => Cell::Int(numbers.at(entry as usize)),
+            Cells::Vects(vectors) => Cell::Vect(vectors.at(entry as usize)),
         }
     }
 }

@@ -144,6 +144,18 @@ impl Vects {
         Ok(())
     }
 
+    /// Drops all but the first `n` vectors.
+    #[tactic(auto, using(crate::proofs::PieceLemmas::ascend_cut, crate::proofs::PieceLemmas::pieces_after_cut, crate::proofs::PieceLemmas::no_more))]
+    pub fn truncate(&mut self, n: usize)
+        ensures { self.new ≡ take n self.old }
+    {
+        if n < self.ends.len() {
+            let end = begin_of(self.ends.as_slice(), n);
+            self.ends.truncate(n);
+            self.elements.truncate(end);
+        }
+    }
+
     /// The vector at a place.
     pub fn at(&self, i: usize) -> &[i64]
         requires { i < length self.now }

@@ -1,6 +1,6 @@
 use Rattle.std.proofs.Common.{arith}
 use Rattle.rdf_values.proofs.KeptLemmas.{kept_more, stored_at, take_next}
-use Rattle.rdf_values.proofs.tables.table.no_rows.Goals as goal
+use Rattle.rdf_values.proofs.tables.filling.no_rows.Goals as goal
 
 pub new-requires : goal.new-requires
 new-requires = grind (arith, stored_at)
