@@ -10,7 +10,7 @@ use Rattle.rdf_model.specs.{Faults, FitsOutcome, Gives, Needs, Outcome, ◌>>=�
 use Rattle.expr_check.proofs.Distinct.{each_left, each_right, each_from_distinct}
 use Rattle.expr_check.proofs.Plain.{columns_scalar, each_of_two}
 use Rattle.std.specs.Int.{int_min, int_max}
-use Rattle.rdf_model.proofs.Typing.{abs_call, at_call, at_shape, evaluate_fits, extreme_fits, GivesFit, of_vector, sum_fits}
+use Rattle.rdf_model.proofs.Typing.{meets_bind, always, element_fits, evaluate_fits}
 
 -- a call at a place of the list has as many arguments as the function there takes
 given_can : (functions : List Function) (i count : ℕ) → AllByRecursion (λ (f : FnName). f.arity ≤ 8) (fn_names functions) → MatchOption (slice_get (fn_names functions) i) ⊥ (λ f. f.arity ≡ count)
@@ -144,31 +144,69 @@ module _ (look : ℕ → Outcome ℕ Value) where
 
 -- ---- calls
 
+int_fits : (o : Outcome ℕ ℤ) → FitsOutcome ColType.Int (o >>= gives_int)
+int_fits o = meets_bind ℕ (λ z. Unit {0}) (FitsKind ColType.Int) o gives_int (always ℕ o) (λ z _. tt)
+
+extreme_fits : (better : ℤ → ℤ → ℤ) (xs : List ℤ) → FitsOutcome ColType.Int (extreme_element {M = ℕ} better xs)
+extreme_fits better xs = grind arith
+
 answer_fits : (a : Option ℤ) → FitsOutcome ColType.Int (answer_outcome {M = ℕ} a)
 answer_fits a = grind arith
 
 given_fits : (f : Option Function) (zs : List ℤ) → FitsOutcome ColType.Int (given_call {M = ℕ} f zs)
 given_fits f zs = grind (arith, answer_fits)
 
-module _ (functions : List Function) where
-  given_of_shape : (i : ℕ) (o : Option FnName) → GivesFit ℕ functions (given_shape o) (Callee.Given i)
-  given_of_shape i o s vs is fit = grind (arith, at_shape, given_fits)
+-- one argument that is a vector
+of_vector : (t : ColType) (o : List Value → Outcome ℕ Value) → ((xs : List ℤ) → FitsOutcome t (o (Value.Vect xs ∷ []))) → (vs : List Value) → FitKinds (ColType.Vect ∷ []) vs → FitsOutcome t (o vs)
+of_vector t o h (Value.Vect xs ∷ []) f = h xs
+of_vector t o h (Value.Vect xs ∷ w ∷ vs) f = absurd f.1
+of_vector t o h (v ∷ vs) f = absurd f.0
+of_vector t o h [] f = absurd f
 
-  call_fits : (names : FunctionNames) (f : Callee) → GivesFit ℕ functions (callee_shape names f) f
-  call_fits names (Callee.Given i) = given_of_shape i (slice_get names i)
-  call_fits names Callee.Sum = at_shape ℕ functions _ ColType.Int Callee.Sum (of_vector ℕ functions ColType.Int Callee.Sum (sum_fits ℕ))
-  call_fits names Callee.Min = at_shape ℕ functions _ ColType.Int Callee.Min (of_vector ℕ functions ColType.Int Callee.Min (extreme_fits ℕ int_min))
-  call_fits names Callee.Max = at_shape ℕ functions _ ColType.Int Callee.Max (of_vector ℕ functions ColType.Int Callee.Max (extreme_fits ℕ int_max))
-  call_fits names Callee.At = at_shape ℕ functions _ ColType.Int Callee.At (at_call ℕ functions)
-  call_fits names Callee.Abs = at_shape ℕ functions _ ColType.Int Callee.Abs (abs_call ℕ functions)
-  call_fits names f s vs is fit = grind (arith, at_shape, of_vector)
+-- one argument that is a number
+of_number : (t : ColType) (o : List Value → Outcome ℕ Value) → ((z : ℤ) → FitsOutcome t (o (Value.Int z ∷ []))) → (vs : List Value) → FitKinds (ColType.Int ∷ []) vs → FitsOutcome t (o vs)
+of_number t o h (Value.Int z ∷ []) f = h z
+of_number t o h (Value.Int z ∷ w ∷ vs) f = absurd f.1
+of_number t o h (v ∷ vs) f = absurd f.0
+of_number t o h [] f = absurd f
+
+-- a vector and a number
+of_vector_and_number : (t : ColType) (o : List Value → Outcome ℕ Value) → ((xs : List ℤ) (z : ℤ) → FitsOutcome t (o (Value.Vect xs ∷ Value.Int z ∷ []))) → (vs : List Value) → FitKinds (ColType.Vect ∷ ColType.Int ∷ []) vs → FitsOutcome t (o vs)
+of_vector_and_number t o h (Value.Vect xs ∷ vs) f = of_number t (λ ws. o (Value.Vect xs ∷ ws)) (h xs) vs f.1
+of_vector_and_number t o h (v ∷ vs) f = absurd f.0
+of_vector_and_number t o h [] f = absurd f
+
+-- what a function of that shape gives
+of_shape : (o : List Value → Outcome ℕ Value) (takes : List ColType) (gives : ColType) (s : Shape) → (let r : Result Shape GraphCause = Ok s in Ok (shape takes gives) ≡ r)
+    → ((vs : List Value) → FitKinds takes vs → FitsOutcome gives (o vs)) → (vs : List Value) → FitKinds s.takes vs → FitsOutcome s.gives (o vs)
+of_shape o takes gives s is h =
+    let same_shape : shape takes gives ≡ s = cc is in
+    subst (λ (t : Shape). (vs : List Value) → FitKinds t.takes vs → FitsOutcome t.gives (o vs)) same_shape h
+
+module _ (functions : List Function) where
+  given_of_shape : (i : ℕ) (o : Option FnName) (s : Shape) → given_shape o ≡ Ok s → (vs : List Value) → FitKinds s.takes vs → FitsOutcome s.gives (call_outcome {M = ℕ} functions (Callee.Given i) vs)
+  given_of_shape i None s is = cc is
+  given_of_shape i (Some f) s is =
+      of_shape (call_outcome functions (Callee.Given i)) (replicate f.arity ColType.Int) ColType.Int s is (λ vs _. given_fits (slice_get functions i) (map argument vs))
+
+  call_fits : (names : FunctionNames) (f : Callee) (s : Shape) → callee_shape names f ≡ Ok s → (vs : List Value) → FitKinds s.takes vs → FitsOutcome s.gives (call_outcome {M = ℕ} functions f vs)
+  call_fits names (Callee.Given i) s is = given_of_shape i (slice_get names i) s is
+  call_fits names Callee.Sum s is = of_shape (call_outcome functions Callee.Sum) (ColType.Vect ∷ []) ColType.Int s is (of_vector ColType.Int (call_outcome functions Callee.Sum) (λ xs. int_fits (sum_from (pos 0) xs)))
+  call_fits names Callee.Min s is = of_shape (call_outcome functions Callee.Min) (ColType.Vect ∷ []) ColType.Int s is (of_vector ColType.Int (call_outcome functions Callee.Min) (extreme_fits int_min))
+  call_fits names Callee.Max s is = of_shape (call_outcome functions Callee.Max) (ColType.Vect ∷ []) ColType.Int s is (of_vector ColType.Int (call_outcome functions Callee.Max) (extreme_fits int_max))
+  call_fits names Callee.Size s is = of_shape (call_outcome functions Callee.Size) (ColType.Vect ∷ []) ColType.Int s is (of_vector ColType.Int (call_outcome functions Callee.Size) (λ xs. tt))
+  call_fits names Callee.Any s is = of_shape (call_outcome functions Callee.Any) (ColType.Vect ∷ []) ColType.Bool s is (of_vector ColType.Bool (call_outcome functions Callee.Any) (λ xs. tt))
+  call_fits names Callee.All s is = of_shape (call_outcome functions Callee.All) (ColType.Vect ∷ []) ColType.Bool s is (of_vector ColType.Bool (call_outcome functions Callee.All) (λ xs. tt))
+  call_fits names Callee.At s is =
+      of_shape (call_outcome functions Callee.At) (ColType.Vect ∷ ColType.Int ∷ []) ColType.Int s is (of_vector_and_number ColType.Int (call_outcome functions Callee.At) (λ xs i. element_fits ℕ xs i))
+  call_fits names Callee.Abs s is = of_shape (call_outcome functions Callee.Abs) (ColType.Int ∷ []) ColType.Int s is (of_number ColType.Int (call_outcome functions Callee.Abs) (λ z. int_fits (checked (pos (nat_abs z)))))
 
 -- ---- expressions
 
 module _ (functions : List Function) (look : ℕ → Outcome ℕ Value) (e : CheckedExpr) (typed : IsTyped e) (fit : All (λ (c : ℕ × ColType). FitsOutcome c.1 (look c.0)) e.kinds) where
   evaluated_fits : FitsOutcome e.kind (evaluate look (call_outcome functions) e.tree)
   evaluated_fits =
-      evaluate_fits ℕ look (call_outcome functions) (number_kind e.kinds) (callee_shape typed.0) (fits_at look e.kinds fit) (call_fits functions typed.0) e.tree e.kind typed.1.typed
+      evaluate_fits ℕ look (call_outcome functions) (number_kind e.kinds) (callee_shape typed.0) (fits_at look e.kinds fit) (λ f s vs is. call_fits functions typed.0 f s is vs) e.tree e.kind typed.1.typed
 
   pub scalar_fits : (r : Result Scalar ScalarStop) → scalar_outcome r ≡ evaluate look (call_outcome functions) e.tree → IfOk r (λ s. FitsKind e.kind (scalar_value s))
   scalar_fits r h = grind (arith, evaluated_fits)
