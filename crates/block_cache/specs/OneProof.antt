@@ -3,9 +3,9 @@ use Rattle.std.specs.Prelude.{◌++◌, ℕ, ℤ, pos, negsuc, List, [], ◌∷�
 use Rattle.std.specs.Coded.{Coded-set, codes, coded_option}
 use Rattle.std.proofs.Props.{props}
 use Rattle.rdf_values.specs.{ActionKind, AreColumns, AreRising, AreShortValues, ColType, Column, FitRows, FitsKind, FitsRow, GraphCause, Has64Bits, IsBounded, IsShort, IsStored, Line, named_code, Statement, Value, VaryValues}
-use Rattle.rdf_values.specs.contracts.scripts.graph_cause.GraphCause.{the_row as cause_row}
+use Rattle.rdf_values.specs.contracts.scripts.script_cause.GraphCause.{the_row as cause_row}
 use Rattle.rdf_values.specs.declared.scripts.statement.Statement.TheVariants.{Vary, Action}
-use Rattle.rdf_values.specs.declared.scripts.vary_values.VaryValues.TheVariants.{Lists, Vector}
+use Rattle.rdf_values.specs.declared.scripts.statement.VaryValues.TheVariants.{Lists, Vector}
 use Rattle.graph_numbers.specs.{GraphView}
 use Rattle.loop_keys.specs.{Fits, IsRow, Job, Place, Row}
 use Rattle.loop_keys.specs.contracts.rows.Place.{the_row as place_row}

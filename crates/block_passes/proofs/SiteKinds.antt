@@ -18,7 +18,7 @@ use Rattle.loop_keys.proofs.EvaluateLaws.{accepted_of}
 use Rattle.block_passes.specs.{Chain, HaveKinds, IsTried}
 use Rattle.block_passes.proofs.Demanding.{in_list, not_empty}
 use Rattle.loop_keys.proofs.PassNumbers.{some_same}
-use Rattle.rdf_values.specs.declared.scripts.vary_values.VaryValues.TheVariants.{Lists, Vector}
+use Rattle.rdf_values.specs.declared.scripts.statement.VaryValues.TheVariants.{Lists, Vector}
 use Rattle.graph.specs.{has, members_below, VarSet}
 use Rattle.loop_keys.proofs.KeyLaws.{members_all, keys_next, slot_small}
 use Rattle.block_cache.specs.{AreSiteKinds}

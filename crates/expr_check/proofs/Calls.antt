@@ -2,7 +2,7 @@
 use Rattle.std.proofs.Common.{◌≡◌, ◌≢◌, ℕ, zero, suc, ◌+◌, ◌<◌, ◌≤◌, take, Bool, true, false, List, [], ◌∷◌, length, Some, None, Result, Ok, Err, refl, sym, ap, ◌∙◌, cond, arith, slice_get, HoldsAt, replicate, subst, nat_eq, if◌then◌else◌}
 use Rattle.lemmas.proofs.{All-head, All-tail, bytes_eq-Decides, false_from_ne_true, take-replicate}
 use Rattle.rdf_values.specs.{AreFnNames, built_in, built_in_shapes, Callee, callee, callee_in, ColType, FnName, FunctionNames, given_from, GraphCause, HaveDistinctNames, LacksName, same, Shape, shape, shape_in, shape_of, shapes, ◌>>=◌, args_count, Call, kind_by, kinds_by, same_kinds, Trees}
-use Rattle.rdf_values.specs.declared.scripts.graph_cause.GraphCause.TheVariants.{UnknownFunction}
+use Rattle.rdf_values.specs.declared.scripts.script_cause.GraphCause.TheVariants.{UnknownFunction}
 use Rattle.expr_check.specs.{callee_shape, given_shape, arguments_fit, CheckRefusal, RefusedAs}
 use Rattle.expr_check.specs.declared.refusal.CheckRefusal.TheVariants.{WrongType, WrongCount}
 use Rattle.expr_check.proofs.Refused.{refused_then}

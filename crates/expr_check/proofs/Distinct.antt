@@ -3,7 +3,7 @@ use Rattle.std.proofs.Common.{◌≡◌, ℕ, Bool, true, false, List, [], ◌�
 use Rattle.lemmas.proofs.{AllByRecursion, common_steps, Decides-eqb, filter, list_any, take_more, All-from_recursion, bytes_eq-Decides, recursion_from_All}
 use Rattle.expr_check.specs.{distinct, with_new, LacksColumn, number_kind, NumberHasKind, numbers_in, NumbersHaveKinds}
 use Rattle.rdf_values.specs.{ColType, column_kind, GraphCause, kinds_in, number_in, same, ScopeColumn}
-use Rattle.rdf_values.specs.declared.scripts.graph_cause.GraphCause.TheVariants.{UnknownColumn}
+use Rattle.rdf_values.specs.declared.scripts.script_cause.GraphCause.TheVariants.{UnknownColumn}
 
 -- what a filter by another number keeps
 any-filter_other : (xs : List ℕ) (x y : ℕ) → nat_eq y x ≡ false → list_any (nat_eq x) (filter (λ z. not (nat_eq y z)) xs) ≡ list_any (nat_eq x) xs

@@ -3,7 +3,7 @@ use Rattle.std.specs.Prelude.{◌≡◌, ℕ, ◌<◌, Bool, true, false, not, �
 use Rattle.std.specs.List.{list_any}
 use Rattle.rdf_values.specs.{args_count, Bin, Call, Callee, Col, ColType, columns_in, Cond, End, FnName, FunctionNames, GraphCause, kind_by, Lit, More, Neg, Not, NumTree, Pick, Shape, shape, Tree, Trees}
 use Rattle.rdf_values.specs.expressions.Expressions.{Truth}
-use Rattle.rdf_values.specs.declared.scripts.graph_cause.GraphCause.TheVariants.{UnknownColumn, UnknownFunction}
+use Rattle.rdf_values.specs.declared.scripts.script_cause.GraphCause.TheVariants.{UnknownColumn, UnknownFunction}
 
 -- the kind of the column of that number
 abbrev pub number_kind : List (ℕ × ColType) → ℕ → Result ColType GraphCause

@@ -2,7 +2,7 @@
 ghost use Rattle.std.specs.Prelude.{◌≡◌, ◌≢◌, ℕ, List, [], ◌∷◌, ◌++◌, All, Ok, Err, IsOk, IfOk, IfNone, IfSome, map, OnOk, OnErr, MatchOption, find, nat_eq};
 ghost use Rattle.std.specs.Option.{option_copied};
 ghost use Rattle.rdf_values.specs.{column_kind, kinds_in, number_in, same, ScopeColumn};
-ghost use Rattle.rdf_values.specs.declared.scripts.graph_cause.GraphCause.TheVariants.{UnknownColumn};
+ghost use Rattle.rdf_values.specs.declared.scripts.script_cause.GraphCause.TheVariants.{UnknownColumn};
 ghost use Rattle.expr_check.specs.NumKinds.{number_kind};
 ghost use Rattle.expr_check.specs.Scopes.{LacksColumn, NumberHasKind, NumbersHaveKinds, numbers_in};
 

@@ -6,7 +6,7 @@ use Rattle.rdf_values.specs.expressions.Tokens.{Word, Truth, Number}
 use Rattle.rdf_values.specs.expressions.Grammar.{call}
 use Rattle.expr_read.specs.{Begins, BeginsNot, ends_at, in_list, Listing, Listings, Stops, stuck_at, Took, TookArgs, TookList, TookLists, TookValues}
 use Rattle.expr_read.proofs.Scanned.{scan_after, name_ends, argument_first, first_is_not, refused_at, refused_end, unless}
-use Rattle.rdf_values.specs.declared.scripts.vary_values.VaryValues.TheVariants.{Lists as ListsOf, Vector as VectorOf}
+use Rattle.rdf_values.specs.declared.scripts.statement.VaryValues.TheVariants.{Lists as ListsOf, Vector as VectorOf}
 
 pub bare_after : {t : Token} {old new : List Placed} → Begins t old new → bare old ≡ t ∷ bare new
 bare_after b = ap bare b.is

@@ -5,7 +5,7 @@ use Rattle.rdf_values.specs.{Bin, binary, BinOp, Call, Col, Cond, conditional, E
 use Rattle.rdf_values.specs.expressions.Expressions as e
 use Rattle.rdf_values.specs.expressions.Tokens.{Word, Truth, Number}
 use Rattle.rdf_values.specs.expressions.Grammar.{call}
-use Rattle.rdf_values.specs.declared.scripts.vary_values.VaryValues.TheVariants.{Lists, Vector}
+use Rattle.rdf_values.specs.declared.scripts.statement.VaryValues.TheVariants.{Lists, Vector}
 use Rattle.expr_read.proofs.Scanned.{positive, level_low, level_high}
 
 -- what waits for the tree that is being read

@@ -4,7 +4,7 @@ use Rattle.std.proofs.lemmas.Bool.{cases_eq, cases_Bool}
 use Rattle.rdf_values.specs.{AfterBrace, AfterList, AfterName, bare, begin_expr, begin_values, BinOp, End, FirstArgument, InCall, InChoice, InIndex, InList, InLists, InParens, level_of, Mark, More, NamedTree, NamedTrees, NextList, Op, OpenMark, Operand, Operator, Placed, Punct, Reads, ReadsValues, scan, Token, VaryValues, Whole}
 use Rattle.rdf_values.specs.expressions.Expressions as e
 use Rattle.rdf_values.specs.expressions.Tokens.{Word, Truth, Number}
-use Rattle.rdf_values.specs.declared.scripts.vary_values.VaryValues.TheVariants.{Lists, Vector}
+use Rattle.rdf_values.specs.declared.scripts.statement.VaryValues.TheVariants.{Lists, Vector}
 use Rattle.expr_read.specs.{at_expr, at_item, at_more, Begins, BeginsNot, ends_at, in_list, IsStuckFrom, Listing, Listings, Stops, stuck_at, Took, TookArgs, TookList, TookLists, TookValues}
 use Rattle.expr_read.proofs.Scanned.{scan_after, argument_first, closing, takes_comma, stuck_inside, stops_postfix, stops_binary, stops_expr}
 use Rattle.expr_read.proofs.Took.{fewer_after, took_tighter, took_number, took_truth, took_name, took_minus_sign, took_not_sign, took_binary, took_conditional, took_pick, took_parens, took_call_none, took_call, took_last, took_more, list_more, list_done, lists_more, lists_done, stuck_between, stuck_next, vector_first, item_first, ends_operator, took_vector, took_lists, took_list}

@@ -3,7 +3,7 @@ use Rattle.std.proofs.Common.{◌≡◌, ℕ, zero, suc, ◌+◌, ◌*◌, ◌�
 use Rattle.lemmas.proofs.{AllZip, Decides-ltb, filter, length-append, length-map, sum_by, sum_by-cons, take_all}
 use Rattle.rdf_values.specs.{ActionAt, ActionKind, AreAccepted, Booked, Booking, bookings, cells_of, check, check_columns, check_edges, check_node, check_passes, check_results, check_tags, check_target, check_values, Column, columns_of, first_refusal, FunctionNames, GraphCause, is_variation_name, over_passes, own_variations, passes_of, path, permitted_kinds, printed_results, refuse_if, repeats, result_depends, results_named, same, scope_at, scope_of, Statement, takes_of, Variation, variations, varied_passes, VaryValues}
 use Rattle.rdf_values.specs.declared.scripts.statement.Statement.TheVariants.{Action, Print, Vary}
-use Rattle.rdf_values.specs.declared.scripts.graph_cause.GraphCause.TheVariants.{TooMany}
+use Rattle.rdf_values.specs.declared.scripts.script_cause.GraphCause.TheVariants.{TooMany}
 use Rattle.graph_numbers.specs.{filter_sites, holds_at, version_at}
 use Rattle.graph.specs.{action_set, any_has, AreRows, AreTables, BeginsWith, Decides as Settles, depends_at, has, IsAmount, IsBookedRow, IsRow, IsSet, members_below, Numbers, printed_rows, result_sets, row_passes, rows_named, VarSet}
 use Rattle.graph.specs.declared.amounts.Amounts.{Amounts}

@@ -13,7 +13,7 @@ use Rattle.graph.specs.{depends_at, expression_set, is_among_own, Numbers, own_v
 use Rattle.graph.proofs.Listing.{any_map, named_at, no_place, any_none, got_first, holds_mapped, zip_both, zip_holds, zip_mapped}
 use Rattle.std.specs.Prelude.{⊤}
 use Rattle.graph_numbers.proofs.Apart.{any_false, other_way, of_tags, tags_checked}
-use Rattle.rdf_values.specs.declared.scripts.graph_cause.GraphCause.TheVariants.{WrongType}
+use Rattle.rdf_values.specs.declared.scripts.script_cause.GraphCause.TheVariants.{WrongType}
 use Rattle.graph_numbers.proofs.Placing.{own_placed}
 use Rattle.graph_numbers.proofs.Resulting.{booked_are}
 

@@ -3,7 +3,7 @@ use Rattle.std.proofs.Common.{if◌then◌else◌, ◌≡◌, ℕ, ◌<◌, Bool
 use Rattle.lemmas.proofs.{All-push, All-weaker, AllByRecursion, eq_says, recursion_from_All, within}
 use Rattle.rdf_values.specs.{◌>>=◌, all_renamed, args_count, Bin, Call, callee, chosen_kind, Col, ColType, Column, column_kind, columns_in, Cond, EachArgument, EachColumn, End, FunctionNames, GraphCause, inverted_kind, is_visible, kind_by, kind_of, kinds_by, kinds_in, Lit, More, NamedTree, Neg, negated_kind, Not, number_in, numbered, operator_kind, path, Pick, picked_kind, renamed, result_kind, same, Scope, scope_at, scope_of, ScopeColumn, Shape, shape_of, Statement, target_of, Tree, Trees}
 use Rattle.rdf_values.specs.expressions.Expressions.{Truth}
-use Rattle.rdf_values.specs.declared.scripts.graph_cause.GraphCause.TheVariants.{UnknownColumn, WrongCount}
+use Rattle.rdf_values.specs.declared.scripts.script_cause.GraphCause.TheVariants.{UnknownColumn, WrongCount}
 use Rattle.rdf_model.proofs.Accepted.{names_equal, itself, visible_known}
 use Rattle.expr_check.specs.{CallsFit, CheckedExpr, IsWellTyped, number_kind, numbers_in}
 use Rattle.graph.specs.{AreKinds, AreNoted, IsAlike, IsCheckedAt, IsFound, IsScopeAt, IsScopeOf}

@@ -5,7 +5,7 @@ use Rattle.std.proofs.Crossing.{crosses, Vec-sync}
 use Rattle.std.specs.contracts.vec.Vec as B
 use Rattle.std.specs.contracts.alloc.Global as H
 use Rattle.std.below.std_heap.specs.contracts.GlobalAllocator.TheImpl.{ghosts}
-use Rattle.rdf_values.specs.contracts.scripts.script.Line.{the_row as line_row}
+use Rattle.rdf_values.specs.contracts.scripts.statement.Line.{the_row as line_row}
 use Rattle.rdf_values.specs.contracts.list.ListOf.{the_row as list_row}
 use Rattle.rdf_values.specs.contracts.expressions.fn_names.FnName.{the_row as fn_name_row}
 use Rattle.rdf_values.proofs.Shared.{name_sync, line_sync, list_sync, columns_sync}

@@ -11,7 +11,7 @@ use Rattle.graph_numbers.proofs.Meeting.{kind_count, visible_kind}
 use Rattle.graph.specs.declared.tables.Tables.{Tables}
 use Rattle.graph.proofs.Walking.{named_more}
 use Rattle.graph_numbers.proofs.Walks.{next_at, joined, only_at}
-use Rattle.rdf_values.specs.declared.scripts.vary_values.VaryValues.TheVariants.{Lists, Vector}
+use Rattle.rdf_values.specs.declared.scripts.statement.VaryValues.TheVariants.{Lists, Vector}
 use Rattle.rdf_model.proofs.Accepted.{both_none, checked_of, if_fails, no_target, unless_holds, visible_known}
 use Rattle.graph_numbers.proofs.Placing.{versions_count}
 

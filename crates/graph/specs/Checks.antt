@@ -4,7 +4,7 @@ use Rattle.rdf_values.specs.{check, check_target, first_refusal, FunctionNames, 
 use Rattle.graph.specs.declared.refusals.Stop.{Stop}
 use Rattle.graph.specs.declared.refusals.Stop.TheVariants.{Cause, Memory}
 use Rattle.std.specs.List.{AllZip}
-use Rattle.rdf_values.specs.declared.scripts.vary_values.VaryValues.TheVariants.{Lists, Vector}
+use Rattle.rdf_values.specs.declared.scripts.statement.VaryValues.TheVariants.{Lists, Vector}
 use Rattle.expr_check.specs.{CheckedExpr}
 use Rattle.graph.specs.Lookups.{IsCheckedAt, statements}
 use Rattle.graph.specs.declared.refusals.GraphRefusal.{GraphRefusal}

@@ -5,7 +5,7 @@ use Rattle.std.specs.List.{AllZip}
 use Rattle.std.proofs.Props.{props}
 use Rattle.rdf_values.specs.{AreAccepted, args_count, Bin, Booked, Call, Callee, Col, ColType, Column, Cond, End, FunctionNames, GraphCause, Lit, More, Neg, Not, num_code, NumTree, Pick, scope_of, Statement, Trees}
 use Rattle.rdf_values.specs.expressions.Expressions.{Truth}
-use Rattle.rdf_values.specs.contracts.scripts.graph_cause.GraphCause.{the_row as cause_row}
+use Rattle.rdf_values.specs.contracts.scripts.script_cause.GraphCause.{the_row as cause_row}
 use Rattle.rdf_values.specs.contracts.tables.value.ColType.{the_row as kind_row}
 use Rattle.expr_check.specs.{AllCallsFit, CallsFit, CheckedExpr, IsCallOf}
 use Rattle.graph_numbers.specs.{SiteAt}

@@ -1,7 +1,7 @@
 -- How many sites statements have, the numbers of their filters, and what is kept of columns, named filters, results and variations.
 use Rattle.std.specs.Prelude.{◌≡◌, ⊤, ◌<◌, slice_get, ℕ, ◌+◌, Bool, true, false, List, [], ◌∷◌, ◌++◌, length, if◌then◌else◌, zero, suc, map, Option, Some, None, option_to_list}
 use Rattle.rdf_values.specs.{Column, FunctionNames, makes, NamedTree, parent_of, same, Statement, Variation}
-use Rattle.rdf_values.specs.declared.scripts.vary_values.VaryValues.TheVariants.{Lists, Vector}
+use Rattle.rdf_values.specs.declared.scripts.statement.VaryValues.TheVariants.{Lists, Vector}
 use Rattle.rdf_values.specs.declared.scripts.statement.Statement.TheVariants.{Define, Redefine, Filter, Vary}
 use Rattle.std.specs.List.{list_any}
 use Rattle.graph_numbers.specs.{filter_sites, kind_of_booking, ResultAt, IsSourceOf, site_count, Source, Version}

@@ -2,7 +2,7 @@
 ghost use Rattle.std.specs.Prelude.{◌≡◌, ◌∷◌, ◌++◌, ◌+◌, ◌≤◌, [], length, nat_lt, IfOk};
 ghost use Rattle.std.specs.Option.{option_copied};
 ghost use Rattle.rdf_values.specs.{ActionAt, bookings, cells_of, first_refusal, has_variations, Path, refuse_if, takes_of};
-ghost use Rattle.rdf_values.specs.declared.scripts.graph_cause.GraphCause.TheVariants as cause_of;
+ghost use Rattle.rdf_values.specs.declared.scripts.script_cause.GraphCause.TheVariants as cause_of;
 ghost use Rattle.graph.specs.{asked_after, IsAmount, printed_rows, rows_named, statements};
 
 use crate::lookup::result_count;

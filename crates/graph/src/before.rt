@@ -2,7 +2,7 @@
 ghost use Rattle.std.specs.Prelude.{◌≡◌, ◌≤◌, ◌<◌, ◌++◌, ◌∷◌, [], length, map, Some, Err, Result, MatchOption, IfOk, OnOk};
 ghost use Rattle.std.specs.List.{AllByRecursion};
 ghost use Rattle.rdf_values.specs.{check_node, check_target, ColType, column_kind, columns_in, columns_in_all, expect_kind, GraphCause, is_visible, IsShort, kind_of, kind_or_int, path, refusal_in, refuse_if, same_kind, tree_of, trees_of};
-ghost use Rattle.rdf_values.specs.declared.scripts.graph_cause.GraphCause.TheVariants.{NameTaken, UnknownColumn};
+ghost use Rattle.rdf_values.specs.declared.scripts.script_cause.GraphCause.TheVariants.{NameTaken, UnknownColumn};
 ghost use Rattle.expr_check.specs.{RefusedAs};
 ghost use Rattle.graph_numbers.specs.{filter_sites, version_at};
 ghost use Rattle.graph.specs.Checks.{IsStop};

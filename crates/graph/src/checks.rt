@@ -3,10 +3,10 @@
 
 ghost use Rattle.std.specs.Prelude.{◌≡◌, ◌∷◌, ◌+◌, ◌++◌, ◌||◌, [], ℕ, List, length, map, nat_eq, nat_lt, IfOk, OnOk};
 ghost use Rattle.rdf_values.specs.{ActionKind, are_edges, begins, check_columns, check_edges, check_list, check_lists, check_results, check_tags, check_values, check_vector_column, columns_of, expect_kind, first_refusal, is_result, kind_of, may_begin, permitted_kinds, refuse_if, refuse_unless, repeats, rises, scope_of, Statement, variations, watched_results, weight_column};
-ghost use Rattle.rdf_values.specs.declared.scripts.graph_cause.GraphCause.TheVariants as cause_of;
+ghost use Rattle.rdf_values.specs.declared.scripts.script_cause.GraphCause.TheVariants as cause_of;
 ghost use Rattle.rdf_values.specs.declared.scripts.statement.Statement.TheVariants.{Action, Print, Report, VariationsFor, Vary, Watch};
 ghost use Rattle.rdf_values.specs.declared.tables.value.ColType.TheVariants as a_kind;
-ghost use Rattle.rdf_values.specs.declared.scripts.vary_values.VaryValues.TheVariants.{Vector};
+ghost use Rattle.rdf_values.specs.declared.scripts.statement.VaryValues.TheVariants.{Vector};
 ghost use Rattle.graph.specs.{all_expressions, AppendsChecked, AreCheckedBefore, Decides, history, IsRowAfter, scope_before, statements, targets_at, value_expressions, verdict_after};
 
 use crate::amounts::{

@@ -2,7 +2,7 @@
 use Rattle.std.proofs.Common.{◌≡◌, ℕ, ◌+◌, Bool, List, [], ◌∷◌, ◌++◌, length, Option, Some, None, refl, ◌∙◌, ap, arith, slice_get, if◌then◌else◌, flat_map}
 use Rattle.rdf_values.specs.{ActionAt, ActionKind, Column, fn_names, Function, makes, NamedTree, parent_of, path, place, same, Statement, target_of, Under, Value, VaryValues}
 use Rattle.rdf_values.specs.declared.scripts.statement.Statement.TheVariants.{Define, Redefine, Filter, Vary}
-use Rattle.rdf_values.specs.declared.scripts.vary_values.VaryValues.TheVariants.{Lists, Vector}
+use Rattle.rdf_values.specs.declared.scripts.statement.VaryValues.TheVariants.{Lists, Vector}
 use Rattle.rdf_model.specs.{booking_demands, column_demands, column_value, Demand, demands_after, expression_at, filter_demands, input_demands, met_columns, named_demands, Outcome, own_place, projected, site_at, site_demands, tag_demands, through, varied}
 use Rattle.graph_numbers.specs.{lists_sites, own_sites, site_count, site_in, SiteAt, sites}
 use Rattle.graph_numbers.proofs.Walks.{by_test, next_at}

@@ -3,7 +3,7 @@ use Rattle.std.proofs.Common.{◌≡◌, ℕ, zero, suc, ◌+◌, ◌<◌, Bool,
 use Rattle.lemmas.proofs.{Decides-eqb, get_or_from_slice_get, kept_at}
 use Rattle.rdf_values.specs.{aliases, AreAccepted, check_lists, check_target, check_values, ColType, Column, column_kind, first_refusal, FunctionNames, GraphCause, kind_or_int, made_columns, makes, NamedTree, parent_of, Path, path, place, refuse_unless, same, scope_at, scope_of, Statement, target_of, Under, Value, VaryValues, visible_columns}
 use Rattle.rdf_values.specs.declared.scripts.statement.Statement.TheVariants.{Define, Redefine, Vary}
-use Rattle.rdf_values.specs.declared.scripts.vary_values.VaryValues.TheVariants.{Lists, Vector}
+use Rattle.rdf_values.specs.declared.scripts.statement.VaryValues.TheVariants.{Lists, Vector}
 use Rattle.rdf_model.specs.{cell, expression_at, own_place, site_at, varied}
 use Rattle.rdf_model.proofs.Accepted.{both_none, unless_holds, passed_over, sound_path, checked_of, target_is_none, own_within, lists_kind, visible_resolved}
 use Rattle.graph_numbers.specs.{cell_sources, cell_value, column_place, list_sites, list_start, lists_sites, named_version, own_sites, own_source, own_sources, own_version, site_count, site_in, SiteAt, sites, Source, source_in, sources, varied_sources, version_at, version_count, version_or}

@@ -5,7 +5,7 @@ use Rattle.rdf_values.specs.{Column, FunctionNames, Statement, Under, VaryValues
 use Rattle.rdf_values.specs.declared.scripts.statement.Statement.TheVariants.{Vary, Define, Redefine, Filter}
 use Rattle.graph_numbers.specs.{cell_sources, cell_versions, own_columns, own_sites, own_sources, own_versions, SiteAt, sites, Source, sources, varied_sources, varied_versions, version_count, versions, list_sites, lists_sites, site_count, site_in, version_at}
 use Rattle.std.proofs.lemmas.Bool.Decides.{Decides-eqb}
-use Rattle.rdf_values.specs.declared.scripts.vary_values.VaryValues.TheVariants.{Lists, Vector}
+use Rattle.rdf_values.specs.declared.scripts.statement.VaryValues.TheVariants.{Lists, Vector}
 use Rattle.rdf_model.specs.{Site, site_at}
 use Rattle.rdf_model.proofs.Accepted.{all_none, both_none, kind_known, kind_expected, unless_holds, checked_of}
 use Rattle.rdf_model.proofs.KnownColumns.{IsKnownColumn, each_renamed, each_weaker, known_columns}

@@ -3,7 +3,7 @@ use Rattle.std.proofs.Common.{◌≡◌, ℕ, zero, suc, ◌+◌, ◌<◌, Bool,
 use Rattle.lemmas.proofs.{get_or_from_slice_get, mapped_at, slice_get_within, something_at}
 use Rattle.rdf_values.specs.{AreAccepted, check_target, Column, first_refusal, FunctionNames, GraphCause, is_alias, is_visible, own_variations, path, place, refuse_if, refuse_unless, same, scope_at, scope_of, Statement, target_of, Under, Variation, variations, VaryValues}
 use Rattle.rdf_values.specs.declared.scripts.statement.Statement.TheVariants.{Vary}
-use Rattle.rdf_values.specs.declared.scripts.vary_values.VaryValues.TheVariants.{Lists, Vector}
+use Rattle.rdf_values.specs.declared.scripts.statement.VaryValues.TheVariants.{Lists, Vector}
 use Rattle.rdf_model.specs.{own_place}
 use Rattle.rdf_model.proofs.Accepted.{all_none, both_none, checked_of, if_fails, itself as same_as_itself, names_equal, no_target, unless_holds, visible_known}
 use Rattle.graph_numbers.specs.{cell_sources, cell_versions, IsSourceOf, list_start, named_version, numbers_from, own_source, own_sources, own_versions, site_count, Source, source_in, sources, tag_source, under_at, varied_sources, varied_version, varied_versions, Version, version_kinds, versions}

@@ -2,7 +2,7 @@
 use Rattle.std.specs.Prelude.{ℕ, zero, suc, ◌+◌, Bool, List, [], ◌∷◌, ◌++◌, length, if◌then◌else◌, Option, option_map, slice_get, ⊤, true, false, nat_eq}
 use Rattle.rdf_values.specs.{callee, Column, Function, FunctionNames, makes, NamedTree, NumTree, parent_of, Path, path, renamed, site_depends, Statement, Under, Value, Variation}
 use Rattle.rdf_values.specs.declared.scripts.statement.Statement.TheVariants.{Define, Redefine, Filter, Vary}
-use Rattle.rdf_values.specs.declared.scripts.vary_values.VaryValues.TheVariants.{Lists, Vector}
+use Rattle.rdf_values.specs.declared.scripts.statement.VaryValues.TheVariants.{Lists, Vector}
 use Rattle.rdf_model.specs.{column_value, expression_value, Outcome, Site, site_at, ◌>>=◌, call_outcome, evaluate, Faults, Gives, is_need, Needs, truth_of, without}
 use Rattle.graph_numbers.specs.Versions.{version_at}
 use Rattle.graph_numbers.specs.declared.source.Source.{Source}

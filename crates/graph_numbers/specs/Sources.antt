@@ -2,7 +2,7 @@
 use Rattle.std.specs.Prelude.{◌≡◌, ℕ, suc, ◌+◌, ◌<◌, Bool, true, false, List, [], ◌∷◌, ◌++◌, length, Option, Some, None, slice_get, slice_index_or, option_map}
 use Rattle.rdf_values.specs.{Column, FunctionNames, Statement, Under, Value, variations, VaryValues}
 use Rattle.rdf_values.specs.declared.scripts.statement.Statement.TheVariants.{Define, Redefine, Vary}
-use Rattle.rdf_values.specs.declared.scripts.vary_values.VaryValues.TheVariants.{Lists, Vector}
+use Rattle.rdf_values.specs.declared.scripts.statement.VaryValues.TheVariants.{Lists, Vector}
 use Rattle.rdf_model.specs.{◌>>=◌, Gives, Outcome, own_place, tag_element, untyped}
 use Rattle.graph_numbers.specs.Versions.{named_version}
 use Rattle.graph_numbers.specs.Sites.{SiteAt, list_start, site_count}

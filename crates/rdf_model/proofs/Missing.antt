@@ -4,7 +4,7 @@ use Rattle.std.specs.Int.{int_min, int_max}
 use Rattle.rdf_values.specs.{Bin, BinOp, Call, Callee, callee, Col, Column, Cond, EachArgument, EachColumn, End, fn_names, Function, Lit, More, NamedTree, Neg, Not, Path, Pick, place, same, target_of, Tree, Trees, Under, Value, VaryValues}
 use Rattle.rdf_values.proofs.KeptLemmas.{all_columns}
 use Rattle.rdf_values.specs.expressions.Expressions.{Truth}
-use Rattle.rdf_values.specs.declared.scripts.vary_values.VaryValues.TheVariants.{Lists, Vector}
+use Rattle.rdf_values.specs.declared.scripts.statement.VaryValues.TheVariants.{Lists, Vector}
 use Rattle.rdf_values.specs.declared.scripts.statement.Statement.TheVariants.{Define, Redefine, Vary}
 use Rattle.rdf_model.specs.{◌>>=◌, answer_outcome, argument, call_outcome, cell, checked, chosen_side, column_value, divided, element, element_outcome, evaluate, evaluate_all, expression_at, expression_value, extreme_element, fits, for_all, given_call, Gives, in_order, inversion, is_zero, mark, named_call, named_value, needs, negation, number_operation, operation, Outcome, own_place, pairs, picked, sum_from, tag_element, tag_value, value_if, value_operation, varied, vector_operation, with_needs}
 use Rattle.rdf_model.specs.Laws.{Alike, gives, faults}

@@ -13,12 +13,12 @@ use Rattle.rdf_values.specs.contracts.expressions.expr.Expr.{the_row as expr_row
 use Rattle.rdf_values.specs.contracts.expressions.expr.Expr.TheInside.{the_row as inside_row}
 use Rattle.rdf_values.specs.declared.expressions.expr.Args.TheBlock.{the_members, member-Args, member-ExprNode}
 use Rattle.rdf_values.specs.contracts.scripts.label.Label.{the_row as label_row}
-use Rattle.rdf_values.specs.contracts.scripts.action.ActionKind.{the_row as kind_row}
+use Rattle.rdf_values.specs.contracts.scripts.statement.ActionKind.{the_row as kind_row}
 use Rattle.rdf_values.specs.contracts.list.ListOf.{the_row as list_row}
-use Rattle.rdf_values.specs.contracts.scripts.vary_values.VaryValues.{the_row as values_row}
+use Rattle.rdf_values.specs.contracts.scripts.statement.VaryValues.{the_row as values_row}
 use Rattle.rdf_values.specs.contracts.scripts.statement.Statement.{the_row as statement_row}
-use Rattle.rdf_values.specs.contracts.scripts.script.Line.{the_row as line_row}
-use Rattle.rdf_values.specs.contracts.tables.column.Column.{the_row as column_row}
+use Rattle.rdf_values.specs.contracts.scripts.statement.Line.{the_row as line_row}
+use Rattle.rdf_values.specs.contracts.tables.table.Column.{the_row as column_row}
 use Rattle.std.specs.contracts.boxed.Box as B
 use Rattle.std.specs.contracts.alloc.Global as H
 use Rattle.rdf_values.specs.contracts.scripts.name.Name as N
@@ -26,9 +26,9 @@ use Rattle.rdf_values.specs.contracts.expressions.expr.BinOp as O
 use Rattle.rdf_values.specs.contracts.expressions.expr.Expr.TheInside as I
 use Rattle.rdf_values.specs.contracts.expressions.expr.ExprNode as node
 use Rattle.rdf_values.specs.contracts.expressions.expr.Args.TheKnot as knot
-use Rattle.rdf_values.specs.contracts.scripts.vary_values.VaryValues as V
+use Rattle.rdf_values.specs.contracts.scripts.statement.VaryValues as V
 use Rattle.rdf_values.specs.contracts.scripts.statement.Statement as S
-use Rattle.rdf_values.specs.contracts.scripts.script.Line as L
+use Rattle.rdf_values.specs.contracts.scripts.statement.Line as L
 
 args_layer : (a b : RattleType) → IsSync a → IsSync b → IsSync (knot.layer-Args a b)
 args_layer a b sa sb = variants_sync (knot.type-Args a b) (search (sendable, crosses, sa, sb) depth 40 fits 4000)

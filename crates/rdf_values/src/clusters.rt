@@ -2,5 +2,4 @@
 
 pub mod event;
 pub mod span;
-pub mod step_cause;
 pub mod unions;

@@ -1,8 +1,6 @@
 // Tables: their text, their values and how these are kept.
 
-pub mod cell;
 pub mod cells;
-pub mod column;
 pub(crate) mod filling;
 pub mod integer;
 pub mod marks;
@@ -10,7 +8,6 @@ pub(crate) mod narrow;
 pub mod numbers;
 pub mod table;
 pub mod table_cause;
-pub mod table_parts;
 pub mod value;
 pub(crate) mod vector_text;
 pub mod vects;

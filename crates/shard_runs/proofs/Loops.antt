@@ -2,7 +2,7 @@
 use Rattle.std.proofs.Common.{◌≡◌, ℕ, suc, ◌+◌, ◌*◌, ◌<◌, ◌≤◌, Bool, true, false, not, ◌||◌, List, [], ◌∷◌, ◌++◌, length, map, filter, filter_map, Option, Some, None, refl, sym, ◌∙◌, ap, subst, arith, if◌then◌else◌, length-append, nat_lt}
 use Rattle.lemmas.proofs.{AllByRecursion, cons_option, length-map, nat_tests}
 use Rattle.rdf_values.specs.{among, AreAccepted, Booked, booked_by, bookings, check_columns, check_edges, check_node, check_passes, check_results, check_tags, check_target, check_values, filled, first_refusal, FunctionNames, GraphCause, has_variations, is_result, is_variation_name, names_of, own_variations, Pass, passes_of, path, permitted_kinds, printed_results, refuse_if, refuse_unless, repeats, result_depends, same, Scope, scope_at, Statement, StatementsHaveWords, Variation, variations, varied_passes, waiting}
-use Rattle.rdf_values.specs.declared.scripts.graph_cause.GraphCause.TheVariants.{NameTaken, TooMany, UnknownName}
+use Rattle.rdf_values.specs.declared.scripts.script_cause.GraphCause.TheVariants.{NameTaken, TooMany, UnknownName}
 use Rattle.rdf_values.specs.declared.scripts.statement.Statement.TheVariants.{Action, Alias, Define, Filter, Print, Redefine, Report, VariationsFor, Vary, Watch}
 use Rattle.rdf_model.specs.{Access, accesses, filled_by, loop_passes, loop_results}
 use Rattle.rdf_model.proofs.Accepted.{both_none, if_fails, names_equal, third, unless_holds}

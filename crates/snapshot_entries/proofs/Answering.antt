@@ -4,7 +4,7 @@ use Rattle.lemmas.proofs.{AllByRecursion, append-nil, map-append}
 use Rattle.rdf_values.specs.{EntryFault, Value, value_of}
 use Rattle.rdf_model.specs.{◌>>=◌, Dataset, Faults, for_all, Gives, Needs, Outcome, with_needs}
 use Rattle.snapshot_plan.specs.{PlanView}
-use Rattle.rdf_values.specs.declared.tables.cell.Cell.{Cell}
+use Rattle.rdf_values.specs.declared.tables.value.Cell.{Cell}
 use Rattle.expr_eval.specs.{Input, input_outcome}
 use Rattle.snapshot_rows.specs.{kept_cells}
 use Rattle.snapshot_entries.specs.{AreServed, Grows, IsAnswer, IsColumn, IsEntryAnswer, IsRowAnswer, IsServed, IsStoredOutcome, IsStoredValue, outcome_at, source_of, version_in}

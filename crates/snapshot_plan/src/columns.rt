@@ -1,7 +1,7 @@
 // The columns that are asked for.
 ghost use Rattle.std.specs.Prelude.{◌≡◌, ◌<◌, ◌≤◌, [], length, Err, Ok, Some, MatchOption, slice_get};
 ghost use Rattle.rdf_values.specs.{among, column_kind, kind_or_int};
-ghost use Rattle.rdf_values.specs.declared.scripts.graph_cause.GraphCause.TheVariants.{UnknownColumn};
+ghost use Rattle.rdf_values.specs.declared.scripts.script_cause.GraphCause.TheVariants.{UnknownColumn};
 ghost use Rattle.snapshot_plan.specs.{first_bad, is_bad, scope_in};
 
 use graph::Graph;

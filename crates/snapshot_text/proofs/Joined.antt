@@ -2,7 +2,7 @@
 use Rattle.std.proofs.Common.{◌≡◌, ℕ, ℤ, List, [], ◌∷◌, ◌++◌, length, map, flat_map, refl, ap, sym, ◌∙◌, append_assoc}
 use Rattle.lemmas.proofs.{append-nil, join_with_byte, signed_decimal}
 use Rattle.rdf_values.specs.{Column, value_of}
-use Rattle.rdf_values.specs.declared.tables.cell.Cell.{Cell}
+use Rattle.rdf_values.specs.declared.tables.value.Cell.{Cell}
 use Rattle.snapshot_text.specs.{cell_field, column_field, record_text}
 
 pub joined_behind : {A : Type 0} (c : ℕ) (f : A → List ℕ) (x : A) (xs : List A) → join_with_byte c (map f (x ∷ xs)) ≡ f x ++ flat_map (λ y. c ∷ f y) xs

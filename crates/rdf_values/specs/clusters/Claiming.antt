@@ -2,8 +2,8 @@
 use Rattle.std.specs.Prelude.{◌≡◌, ⊤, ℕ, ◌+◌, ◌<◌, Bool, true, false, ◌&&◌, min, List, [], ◌∷◌, ◌++◌, length, map, flat_map, replicate, All, IsTrue, Option, Some, None, if◌then◌else◌, nat_eq, nat_lt, nat_le, slice_get, slice_set, Result, Ok, Err}
 use Rattle.rdf_values.specs.declared.clusters.event.Event.{Event}
 use Rattle.rdf_values.specs.declared.clusters.event.Event.TheVariants.{Claim, Finish, Fault, Skip, End}
-use Rattle.rdf_values.specs.declared.clusters.step_cause.StepCause.{StepCause}
-use Rattle.rdf_values.specs.declared.clusters.step_cause.StepCause.TheVariants.{NoSlot, Stopped, Busy, NotHeld, NotBarred, NotNext, NotOver}
+use Rattle.rdf_values.specs.declared.clusters.event.StepCause.{StepCause}
+use Rattle.rdf_values.specs.declared.clusters.event.StepCause.TheVariants.{NoSlot, Stopped, Busy, NotHeld, NotBarred, NotNext, NotOver}
 use Rattle.rdf_values.specs.declared.results.fault.Fault.{Fault as LoopFault}
 
 -- whether a slot goes on

@@ -5,8 +5,8 @@ use Rattle.rdf_values.specs.expressions.Expressions as e
 use Rattle.rdf_values.specs.expressions.Tokens.{Token, Word, Truth, Number, Op, Punct, Placed}
 use Rattle.rdf_values.specs.declared.expressions.expr.BinOp.{BinOp}
 use Rattle.rdf_values.specs.declared.expressions.expr.Mark.{Mark}
-use Rattle.rdf_values.specs.declared.scripts.vary_values.VaryValues.{VaryValues}
-use Rattle.rdf_values.specs.declared.scripts.vary_values.VaryValues.TheVariants.{Lists, Vector}
+use Rattle.rdf_values.specs.declared.scripts.statement.VaryValues.{VaryValues}
+use Rattle.rdf_values.specs.declared.scripts.statement.VaryValues.TheVariants.{Lists, Vector}
 
 -- how tight an operator binds, between `?` at level 0 and the signs at 7, indexing at 8 and operands at 9
 abbrev pub level_of : BinOp → ℕ

@@ -2,11 +2,11 @@
 use Rattle.std.specs.Prelude.{ℕ, ◌+◌, Bool, true, false, ◌&&◌, List, [], ◌∷◌, length, map, replicate, if◌then◌else◌, nat_eq, codes, Result, Ok, Err}
 use Rattle.rdf_values.specs.scripts.Names.{same}
 use Rattle.rdf_values.specs.expressions.Expressions.{Tree, Trees, NamedTree, Lit, Truth, Col, Neg, Not, Bin, Cond, Pick, Call, End, More}
-use Rattle.rdf_values.specs.declared.tables.column.Column.{Column}
+use Rattle.rdf_values.specs.declared.tables.table.Column.{Column}
 use Rattle.rdf_values.specs.declared.expressions.expr.BinOp.{BinOp}
 use Rattle.rdf_values.specs.declared.tables.value.ColType.{ColType}
-use Rattle.rdf_values.specs.declared.scripts.graph_cause.GraphCause.{GraphCause}
-use Rattle.rdf_values.specs.declared.scripts.graph_cause.GraphCause.TheVariants.{UnknownColumn, UnknownFunction, WrongType, WrongCount}
+use Rattle.rdf_values.specs.declared.scripts.script_cause.GraphCause.{GraphCause}
+use Rattle.rdf_values.specs.declared.scripts.script_cause.GraphCause.TheVariants.{UnknownColumn, UnknownFunction, WrongType, WrongCount}
 use Rattle.rdf_values.specs.declared.expressions.fn_names.FnName.{FnName}
 
 -- goes on with the answer, and stops at a refusal

@@ -2,8 +2,8 @@
 use Rattle.std.specs.Prelude.{ℕ, suc, ◌-◌, ◌^◌, ◌%◌, ◌&&◌, List, [], ◌∷◌, map, length, ℤ, pos, negsuc, ◌+ℤ◌, ◌*ℤ◌, int_le, bit_and, bit_or, bit_xor, Option, Some, None, if◌then◌else◌, fold, count_by, nat_eq, flat_map}
 use Rattle.std.specs.Int.{w64, cast_signed, cast_unsigned, int_min, int_max, int_wrapping_add}
 use Rattle.rdf_values.specs.clusters.Cuts.{below}
-use Rattle.rdf_values.specs.declared.scripts.action.ReduceOp.{ReduceOp}
-use Rattle.rdf_values.specs.declared.scripts.action.ActionKind.{ActionKind}
+use Rattle.rdf_values.specs.declared.scripts.statement.ReduceOp.{ReduceOp}
+use Rattle.rdf_values.specs.declared.scripts.statement.ActionKind.{ActionKind}
 use Rattle.rdf_values.specs.declared.tables.value.Scalar.{Scalar}
 use Rattle.rdf_values.specs.declared.results.item.Item.{Item}
 use Rattle.rdf_values.specs.declared.results.item.Item.TheVariants.{Number, Single, Point, Point2}

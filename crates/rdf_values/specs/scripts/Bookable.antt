@@ -1,13 +1,13 @@
 -- What a script meets that can be booked as a graph: few lines, whose lists are short.
 use Rattle.std.specs.Prelude.{◌≤◌, ◌<◌, ℕ, ◌+◌, List, [], ◌∷◌, length, All}
 use Rattle.rdf_values.specs.expressions.Expressions.{NamedTree}
-use Rattle.rdf_values.specs.declared.scripts.script.Line.{Line}
-use Rattle.rdf_values.specs.declared.scripts.script.Script.{Script}
+use Rattle.rdf_values.specs.declared.scripts.statement.Line.{Line}
+use Rattle.rdf_values.specs.declared.scripts.statement.Script.{Script}
 use Rattle.rdf_values.specs.declared.scripts.statement.Statement.{Statement}
 use Rattle.rdf_values.specs.declared.scripts.statement.Statement.TheVariants.{Vary, Action}
-use Rattle.rdf_values.specs.declared.scripts.action.ActionKind.{ActionKind}
-use Rattle.rdf_values.specs.declared.scripts.vary_values.VaryValues.{VaryValues}
-use Rattle.rdf_values.specs.declared.scripts.vary_values.VaryValues.TheVariants.{Lists, Vector}
+use Rattle.rdf_values.specs.declared.scripts.statement.ActionKind.{ActionKind}
+use Rattle.rdf_values.specs.declared.scripts.statement.VaryValues.{VaryValues}
+use Rattle.rdf_values.specs.declared.scripts.statement.VaryValues.TheVariants.{Lists, Vector}
 
 -- how many expressions lists have together
 abbrev pub expression_count : List (List NamedTree) → ℕ

@@ -6,7 +6,7 @@ use Rattle.rdf_values.specs.scripts.Nodes.{Path, Variation, Under, path, variati
 use Rattle.rdf_values.specs.scripts.Depends.{column_depends, filters_depend}
 use Rattle.rdf_values.specs.declared.scripts.statement.Statement.{Statement}
 use Rattle.rdf_values.specs.declared.scripts.statement.Statement.TheVariants.{Filter, Action, Report, VariationsFor, Watch, Print}
-use Rattle.rdf_values.specs.declared.scripts.action.ActionKind.{ActionKind}
+use Rattle.rdf_values.specs.declared.scripts.statement.ActionKind.{ActionKind}
 
 -- the weight's column, where there is one
 abbrev pub weight_column : Option (List ℕ) → List (List ℕ)

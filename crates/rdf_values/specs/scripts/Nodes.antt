@@ -3,8 +3,8 @@ use Rattle.std.specs.Prelude.{ℕ, Bool, false, ◌&&◌, List, [], ◌∷◌, �
 use Rattle.rdf_values.specs.scripts.Names.{same, among}
 use Rattle.rdf_values.specs.declared.scripts.statement.Statement.{Statement}
 use Rattle.rdf_values.specs.declared.scripts.statement.Statement.TheVariants.{Define, Redefine, Alias, Filter, Vary, Action, Report}
-use Rattle.rdf_values.specs.declared.scripts.script.Script.{Script}
-use Rattle.rdf_values.specs.declared.scripts.script.Line.{Line}
+use Rattle.rdf_values.specs.declared.scripts.statement.Script.{Script}
+use Rattle.rdf_values.specs.declared.scripts.statement.Line.{Line}
 
 -- the statements from a node's own up to the head
 abbrev pub Path : Type 0

@@ -4,8 +4,8 @@ use Rattle.rdf_values.specs.scripts.LineTokens.{PlacedToken, line_tokens, bare_t
 use Rattle.rdf_values.specs.scripts.LineForms.{Form, IsForm, BeginsLine, StopsAt}
 use Rattle.rdf_values.specs.scripts.Statements.{Says, LineRefusal, FirstBad, form_strings}
 use Rattle.rdf_values.specs.scripts.Statements as refused
-use Rattle.rdf_values.specs.declared.scripts.script.Line.{Line}
-use Rattle.rdf_values.specs.declared.scripts.script.Script.{Script}
+use Rattle.rdf_values.specs.declared.scripts.statement.Line.{Line}
+use Rattle.rdf_values.specs.declared.scripts.statement.Script.{Script}
 use Rattle.rdf_values.specs.declared.scripts.script_cause.ScriptCause.{ScriptCause}
 use Rattle.rdf_values.specs.declared.scripts.statement.Statement.{Statement}
 

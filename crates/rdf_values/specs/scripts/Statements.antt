@@ -7,11 +7,11 @@ use Rattle.rdf_values.specs.expressions.Scans.{ReadsText, RefusesText, ReadsValu
 use Rattle.rdf_values.specs.scripts.LineTokens.{QuotedText}
 use Rattle.rdf_values.specs.scripts.LineForms.{Form, Books, Print, VariationsFor, Watch, Method, Strings, Edges}
 use Rattle.rdf_values.specs.scripts.LineForms as form
-use Rattle.rdf_values.specs.declared.scripts.action.ActionKind.{ActionKind}
-use Rattle.rdf_values.specs.declared.scripts.action.ReduceOp.{ReduceOp}
+use Rattle.rdf_values.specs.declared.scripts.statement.ActionKind.{ActionKind}
+use Rattle.rdf_values.specs.declared.scripts.statement.ReduceOp.{ReduceOp}
 use Rattle.rdf_values.specs.declared.expressions.expr_cause.ExprCause.{ExprCause}
 use Rattle.rdf_values.specs.declared.scripts.statement.Statement.{Statement}
-use Rattle.rdf_values.specs.declared.scripts.vary_values.VaryValues.{VaryValues}
+use Rattle.rdf_values.specs.declared.scripts.statement.VaryValues.{VaryValues}
 
 -- ---- what a string says
 

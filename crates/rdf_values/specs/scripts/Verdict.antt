@@ -6,16 +6,16 @@ use Rattle.rdf_values.specs.scripts.Nodes.{Path, Variation, makes, path, target_
 use Rattle.rdf_values.specs.expressions.Expressions.{NamedTree}
 use Rattle.rdf_values.specs.expressions.Kinds.{Scope, FunctionNames, scope_of, kind_of, column_kind, same_kind}
 use Rattle.rdf_values.specs.scripts.Bookings.{Booked, Booking, ActionAt, ReportOn, bookings, results_named, passes_of, columns_of, filled, names_of}
-use Rattle.rdf_values.specs.declared.tables.column.Column.{Column}
-use Rattle.rdf_values.specs.declared.scripts.graph_cause.GraphCause.{GraphCause}
-use Rattle.rdf_values.specs.declared.scripts.graph_cause.GraphCause.TheVariants.{NameTaken, UnknownName, UnknownColumn, WrongType, WrongCount, AliasTarget, Late, BadEdges, TooMany, WrongKind}
-use Rattle.rdf_values.specs.declared.scripts.vary_values.VaryValues.{VaryValues}
-use Rattle.rdf_values.specs.declared.scripts.vary_values.VaryValues.TheVariants.{Lists, Vector}
+use Rattle.rdf_values.specs.declared.tables.table.Column.{Column}
+use Rattle.rdf_values.specs.declared.scripts.script_cause.GraphCause.{GraphCause}
+use Rattle.rdf_values.specs.declared.scripts.script_cause.GraphCause.TheVariants.{NameTaken, UnknownName, UnknownColumn, WrongType, WrongCount, AliasTarget, Late, BadEdges, TooMany, WrongKind}
+use Rattle.rdf_values.specs.declared.scripts.statement.VaryValues.{VaryValues}
+use Rattle.rdf_values.specs.declared.scripts.statement.VaryValues.TheVariants.{Lists, Vector}
 use Rattle.rdf_values.specs.declared.scripts.statement.Statement.{Statement}
 use Rattle.rdf_values.specs.declared.scripts.statement.Statement.TheVariants.{Define, Redefine, Alias, Filter, Vary, Action, Report, VariationsFor, Watch, Print}
-use Rattle.rdf_values.specs.declared.scripts.action.ActionKind.{ActionKind}
-use Rattle.rdf_values.specs.declared.scripts.script.Line.{Line}
-use Rattle.rdf_values.specs.declared.scripts.script.Script.{Script}
+use Rattle.rdf_values.specs.declared.scripts.statement.ActionKind.{ActionKind}
+use Rattle.rdf_values.specs.declared.scripts.statement.Line.{Line}
+use Rattle.rdf_values.specs.declared.scripts.statement.Script.{Script}
 use Rattle.rdf_values.specs.declared.tables.value.ColType.{ColType}
 
 -- ---- the edges of an axis

@@ -3,7 +3,7 @@ use Rattle.std.specs.Prelude.{◌≡◌, ◌≤◌, ℕ, ℤ, pos, ⊤, Bool, tr
 use Rattle.rdf_values.specs.clusters.Cuts.{below}
 use Rattle.rdf_values.specs.tables.Tables.{FitRows, IsHeader}
 use Rattle.rdf_values.specs.declared.tables.cells.Cells.{Cells}
-use Rattle.rdf_values.specs.declared.tables.column.Column.{Column}
+use Rattle.rdf_values.specs.declared.tables.table.Column.{Column}
 use Rattle.rdf_values.specs.declared.tables.value.ColType.{ColType}
 use Rattle.rdf_values.specs.declared.tables.value.Value.{Value}
 

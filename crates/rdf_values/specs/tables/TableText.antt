@@ -4,7 +4,7 @@ use Rattle.std.specs.List.{after_first, before_first, slice_split}
 use Rattle.rdf_values.specs.tables.Integers.{integer_of}
 use Rattle.rdf_values.specs.scripts.Names.{is_name, same}
 use Rattle.rdf_values.specs.tables.Tables.{TableView, has_name}
-use Rattle.rdf_values.specs.declared.tables.column.Column.{Column}
+use Rattle.rdf_values.specs.declared.tables.table.Column.{Column}
 use Rattle.rdf_values.specs.declared.tables.table_cause.TableCause.{TableCause}
 use Rattle.rdf_values.specs.declared.tables.value.ColType.{ColType}
 use Rattle.rdf_values.specs.declared.tables.value.Value.{Value}

@@ -1,7 +1,7 @@
 -- Tables: a list of columns, and a list of rows that fit them.
 use Rattle.std.specs.Prelude.{ℕ, ℤ, ◌≡◌, ◌≤◌, ◌<◌, ⊤, Bool, false, ◌||◌, length, map, List, [], ◌∷◌, ◌++◌, Option, Some, option_and_then, option_map, slice_get, bytes_eq}
 use Rattle.rdf_values.specs.scripts.Words.{IsBounded}
-use Rattle.rdf_values.specs.declared.tables.column.Column.{Column}
+use Rattle.rdf_values.specs.declared.tables.table.Column.{Column}
 use Rattle.rdf_values.specs.declared.tables.value.ColType.{ColType}
 use Rattle.rdf_values.specs.declared.tables.value.Value.{Value}
 

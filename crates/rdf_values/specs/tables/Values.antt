@@ -1,5 +1,5 @@
 -- Values as a table gives them.
-use Rattle.rdf_values.specs.declared.tables.cell.Cell.{Cell}
+use Rattle.rdf_values.specs.declared.tables.value.Cell.{Cell}
 use Rattle.rdf_values.specs.declared.tables.value.Value.{Value}
 
 -- the value that is given

@@ -19,3 +19,19 @@ pub enum ScriptCause {
         line: u32,
     },
 }
+
+/// Why a line can't be booked, printed as S2 to S5, S7, S8 and S10 to S14.
+#[derive(Clone, Copy, Debug, PartialEq, Eq)]
+pub enum GraphCause {
+    NameTaken,
+    UnknownName,
+    UnknownColumn,
+    UnknownFunction,
+    WrongType,
+    WrongCount,
+    AliasTarget,
+    Late,
+    BadEdges,
+    TooMany,
+    WrongKind,
+}

@@ -1,10 +1,8 @@
 // The statements of a script.
 use crate::expressions::expr::Expr;
-use crate::list::ListOf;
-use crate::scripts::action::ActionKind;
+use crate::list::{IntList, ListOf};
 use crate::scripts::label::Label;
 use crate::scripts::name::Name;
-use crate::scripts::vary_values::VaryValues;
 
 /// What one line of a script books or asks for.
 #[derive(Drop)]
@@ -59,4 +57,58 @@ pub enum Statement {
     Print {
         result: Name,
     },
+}
+
+/// The operation of a Reduce. `WrapAdd` adds modulo 2^64.
+#[derive(Clone, Copy, Debug, PartialEq, Eq)]
+pub enum ReduceOp {
+    Min,
+    Max,
+    And,
+    Or,
+    Xor,
+    WrapAdd,
+}
+
+/// What an action computes, and the columns that it reads, in written order.
+#[derive(Drop)]
+pub enum ActionKind {
+    Count,
+    Sum(Name),
+    Min(Name),
+    Max(Name),
+    Take(Name),
+    Reduce(ReduceOp, Name),
+    Histo1D {
+        x_edges: IntList,
+        x: Name,
+        weight: Option<Name>,
+    },
+    Histo2D {
+        x_edges: IntList,
+        y_edges: IntList,
+        x: Name,
+        y: Name,
+        weight: Option<Name>,
+    },
+}
+
+/// A statement and the number of its line, counted from 1.
+#[derive(Drop)]
+pub struct Line {
+    pub number: u32,
+    pub statement: Statement,
+}
+
+/// The statements of a script in order.
+#[derive(Drop)]
+pub struct Script {
+    pub lines: ListOf<Line>,
+}
+
+/// One list for each column with one expression for each tag, or one vector with an element for each tag.
+#[derive(Drop)]
+pub enum VaryValues {
+    Lists(ListOf<ListOf<Expr>>),
+    Vector(Expr),
 }

@@ -4,7 +4,7 @@ ghost use Rattle.rdf_values.specs.{AreKept, cut_to, IsHeader, Keep, row_pushed};
 
 use crate::memory::Memory;
 use crate::tables::cells::Cells;
-use crate::tables::column::Column;
+use crate::tables::table::Column;
 use crate::tables::value::Value;
 use std::alloc::Global;
 

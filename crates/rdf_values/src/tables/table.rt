@@ -3,12 +3,10 @@ ghost use Rattle.std.specs.Prelude.{◌≡◌, ◌<◌, ◌++◌, ◌∷◌, [],
 
 use crate::list::ListOf;
 use crate::memory::Memory;
-use crate::tables::cell::Cell;
+use crate::scripts::name::Name;
 use crate::tables::cells::Cells;
-use crate::tables::column::Column;
 use crate::tables::filling::{no_rows, push_row};
-use crate::tables::table_parts::TableParts;
-use crate::tables::value::Value;
+use crate::tables::value::{Cell, ColType, Value};
 use std::alloc::Global;
 use std::marker::Model;
 
@@ -118,4 +116,19 @@ impl Table {
             Cells::Vects(vectors) => Cell::Vect(vectors.at(entry as usize)),
         }
     }
+}
+
+/// A column's name and type.
+#[derive(Debug, Drop)]
+pub struct Column {
+    pub name: Name,
+    pub kind: ColType,
+}
+
+/// The columns of a table, the values of each, and how many entries there are.
+#[derive(Drop)]
+pub struct TableParts {
+    pub columns: ListOf<Column>,
+    pub cells: Vec<Cells>,
+    pub entries: u32,
 }

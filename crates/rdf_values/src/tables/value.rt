@@ -23,3 +23,10 @@ pub enum Scalar {
     Int(i64),
     Bool(bool),
 }
+
+/// The number or the elements of the vector that a table holds at a place.
+#[derive(Clone, Copy, Debug)]
+pub enum Cell<'a> {
+    Int(i64),
+    Vect(&'a [i64]),
+}
