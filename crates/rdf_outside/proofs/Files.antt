@@ -2,7 +2,7 @@
 use Rattle.std.proofs.Common.{◌≡◌, ◌≤◌, ◌<◌, ◌+◌, ◌-◌, ◌^◌, ⊎_elim, min, ℕ, zero, suc, List, [], ◌∷◌, ◌++◌, Option, None, Some, Bool, Ok, if◌then◌else◌, position, cond, not, length, take, drop, refl, ap, sym, ◌∙◌, arith, length-drop, length-append, true, false, get_or}
 use Rattle.lemmas.proofs.{cases_lt, cond-false, cond-true, drop_of_length-le, le-ltb, lt-ltb, position_or_len, take-append_seam}
 use Rattle.std.proofs.lemmas.List.{drop-drop, length-take, nil_from_length, take_all}
-use Rattle.rdf_outside.specs.declared.failed.Failed.{Failed}
+use Rattle.rdf_outside.specs.declared.shelf.Failed.{Failed}
 use Rattle.rdf_outside.specs.declared.memory_shelf.MemoryFile.{MemoryFile}
 use Rattle.rdf_outside.specs.declared.memory_shelf.Place.{Place}
 use Rattle.rdf_outside.specs.{bytes_at, file_of, Finds, has_name, left_at, moved, ReadsFrom, Takes}

@@ -5,7 +5,7 @@ use Rattle.std.specs.IoError.{error_kind}
 use Rattle.std.specs.declared.io.Error.{Error}
 use Rattle.std.specs.declared.io.ErrorKind.{ErrorKind}
 use Rattle.std.specs.declared.io.ErrorKind.TheVariants.{NotFound, OutOfMemory}
-use Rattle.rdf_outside.specs.declared.failed.Failed as F
+use Rattle.rdf_outside.specs.declared.shelf.Failed as F
 use Rattle.rdf_outside.specs.declared.shelf.TurnStop.{TurnStop}
 
 -- the answer is this one, and no fault was counted

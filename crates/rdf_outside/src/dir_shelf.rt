@@ -1,9 +1,8 @@
 // The files of a folder.
 ghost use Rattle.std.specs.Prelude.{None, [], ◌≡◌, ◌∷◌, ◌++◌};
 
-use crate::failed::Failed;
 use crate::file_parts::FileParts;
-use crate::shelf::{Shelf, TurnStop};
+use crate::shelf::{Failed, Shelf, TurnStop};
 use crate::std_answers::{open_answer, read_from};
 use crate::turns::Turns;
 use rdf_values::Bytes;

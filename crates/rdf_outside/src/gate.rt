@@ -13,3 +13,10 @@ pub struct OpenGate;
 impl Gate for OpenGate {
     fn turn(&self, _slot: u32, _cluster: u32) {}
 }
+
+/// The threads on which slots run, and the gate that a slot calls before each cluster.
+#[derive(Drop)]
+pub struct Host<'a, R, G> {
+    pub rt: &'a R,
+    pub gate: &'a G,
+}

@@ -4,13 +4,10 @@
 
 mod call_list;
 mod dir_shelf;
-mod failed;
 mod file_parts;
 mod gate;
-mod host;
 mod memory_shelf;
 mod memory_sink;
-mod ranges;
 mod shelf;
 mod sink;
 mod std_answers;
@@ -20,13 +17,11 @@ mod whole;
 mod word_list;
 
 pub use crate::dir_shelf::DirShelf;
-pub use crate::failed::Failed;
 pub use crate::file_parts::FileParts;
-pub use crate::gate::{Gate, OpenGate};
-pub use crate::host::Host;
+pub use crate::gate::{Gate, Host, OpenGate};
 pub use crate::memory_shelf::MemoryShelf;
 pub use crate::memory_sink::MemorySink;
-pub use crate::shelf::{Shelf, TurnStop};
+pub use crate::shelf::{Failed, Shelf, TurnStop};
 pub use crate::sink::Sink;
 pub use crate::std_sink::StdSink;
 pub use crate::turns::Turns;

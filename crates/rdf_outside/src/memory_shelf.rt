@@ -3,8 +3,7 @@ ghost use Rattle.std.specs.Prelude.{◌≡◌, ◌≤◌, ◌∷◌, ◌++◌, [
 ghost use Rattle.rdf_outside.specs.Memory.{has_name, left_at, moved, same_bytes};
 
 use crate::call_list::CallList;
-use crate::failed::Failed;
-use crate::shelf::{Shelf, TurnStop};
+use crate::shelf::{Failed, Shelf, TurnStop};
 use crate::turns::Turns;
 use rdf_values::{Bytes, Memory};
 use std::alloc::Global;

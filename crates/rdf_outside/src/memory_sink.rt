@@ -4,7 +4,7 @@ ghost use Rattle.std.specs.Vec.{vec_capacity};
 ghost use Rattle.rdf_outside.specs.Outside.{HasCause, WritesTo};
 
 use crate::call_list::CallList;
-use crate::failed::Failed;
+use crate::shelf::Failed;
 use crate::sink::Sink;
 use rdf_values::Memory;
 use std::alloc::Global;

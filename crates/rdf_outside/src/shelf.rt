@@ -4,7 +4,6 @@ ghost use Rattle.std.specs.Thread.{IsSync};
 ghost use Rattle.rdf_outside.specs.Outside.{HasCause, TurnHasCause, TurnsTo, ReadsFrom};
 ghost use Rattle.rdf_outside.specs.Whole.{ReadsParts};
 
-use crate::failed::Failed;
 use rdf_values::Bytes;
 use std::alloc::Global;
 use std::thread::Threads;
@@ -61,3 +60,7 @@ pub trait Shelf {
         ensures read { IfSome result (λ parts. ReadsParts max (left self.old) (left self.new) parts.items) }
         ensures kept { IfNone result (left self.new ≡ left self.old) };
 }
+
+/// The read or the write failed; its object has counted the fault.
+#[derive(Clone, Copy, Debug, PartialEq, Eq)]
+pub struct Failed;

@@ -2,7 +2,7 @@
 ghost use Rattle.std.specs.Prelude.{◌≡◌, ℕ, List, Option};
 ghost use Rattle.rdf_outside.specs.Outside.{HasCause, WritesTo};
 
-use crate::failed::Failed;
+use crate::shelf::Failed;
 
 /// Takes output.
 pub trait Sink {

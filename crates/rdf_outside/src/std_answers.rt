@@ -4,8 +4,7 @@ ghost use Rattle.std.specs.Io.{ReadsAtMost};
 ghost use Rattle.std.specs.Io.KnownBytes.{ReadConsumes};
 ghost use Rattle.rdf_outside.specs.{AnswersMiss, AnswersOpen, AnswersRead, AnswersWrite, HasCause, TurnHasCause};
 
-use crate::failed::Failed;
-use crate::shelf::TurnStop;
+use crate::shelf::{Failed, TurnStop};
 use std::io;
 use std::io::{ErrorKind, Read};
 

@@ -1,7 +1,7 @@
 // Standard output.
 ghost use Rattle.std.specs.Prelude.{None, ◌≡◌};
 
-use crate::failed::Failed;
+use crate::shelf::Failed;
 use crate::sink::Sink;
 use crate::std_answers::write_answer;
 

@@ -2,8 +2,7 @@
 ghost use Rattle.std.specs.Prelude.{◌≡◌, ◌<◌, ◌≤◌, ◌+◌, ◌^◌, ℕ, List, length, IfOk, OnOk, IsErrOf};
 ghost use Rattle.rdf_outside.specs.{Appends, AppendsPart, HasCause, in_a_row, IsTooLarge, Joins, Reads, ReadsParts, Rose, TakesOneMore};
 
-use crate::failed::Failed;
-use crate::shelf::Shelf;
+use crate::shelf::{Failed, Shelf};
 use crate::sink::Sink;
 use rdf_values::{Bytes, Memory};
 use std::alloc::Global;

@@ -1,5 +1,5 @@
 use Rattle.std.proofs.Common.{◌≤◌, ◌-◌, length}
-use Rattle.rdf_outside.proofs.ranges.read_range.Given as goal
+use Rattle.rdf_outside.proofs.file_parts.read_range.Given as goal
 
 abbrev pub invariant-loop-buffer : goal.invariant-loop-buffer
 invariant-loop-buffer g l = length l.bytes ≤ l.len

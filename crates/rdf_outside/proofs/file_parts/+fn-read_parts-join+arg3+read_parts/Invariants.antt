@@ -1,4 +1,4 @@
-use Rattle.rdf_outside.proofs.ranges.+fn-read_parts-join+arg3+read_parts.Given as goal
+use Rattle.rdf_outside.proofs.file_parts.+fn-read_parts-join+arg3+read_parts.Given as goal
 
 abbrev pub decreases-join+arg3 : goal.decreases-join+arg3
 decreases-join+arg3 g l = l.others
