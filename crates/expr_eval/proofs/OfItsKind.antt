@@ -1,9 +1,9 @@
 -- A checked expression comes to a value of its kind, and its calls can be made.
-use Rattle.std.proofs.Common.{◌≡◌, ◌≤◌, ◌<◌, ℕ, suc, zero, true, List, [], ◌∷◌, length, Result, Ok, arith, sym, subst, nat_eq, HoldsAt, slice_get, MatchOption, false, ◌&&◌, All, ℤ, Option, IfOk}
+use Rattle.std.proofs.Common.{◌≡◌, ◌≤◌, ◌<◌, ℕ, suc, zero, true, List, [], ◌∷◌, length, Result, Ok, arith, sym, subst, HoldsAt, slice_get, MatchOption, false, ◌&&◌, All, ℤ, Option, IfOk}
 use Rattle.lemmas.proofs.{AllByRecursion, both_true, Decides-eqb, not_true, recursion_from_All}
-use Rattle.rdf_values.specs.{AreFnNames, args_count, Bin, Call, Callee, Col, ColType, Cond, End, fn_names, FnName, Function, FunctionNames, GraphCause, kind_by, kinds_by, More, Neg, Not, NumTree, Pick, Shape, Trees, EachArgument, EachColumn, Value, FitsKind, Scalar}
-use Rattle.expr_check.specs.{all_are_plain, AllCallsFit, callee_shape, CallsFit, CheckedExpr, IsCallOf, IsTyped, number_kind, gives_vector, is_plain, takes_no_vector}
-use Rattle.expr_eval.specs.{ArgumentsCanCall, CallFits, GivesScalar, AnswersAs, EvalStop, scalar_outcome, scalar_value, ScalarStop}
+use Rattle.rdf_values.specs.{AreFnNames, Bin, Call, Callee, Col, ColType, Cond, End, fn_names, FnName, Function, FunctionNames, GraphCause, kind_by, kinds_by, More, Neg, Not, NumTree, Pick, Shape, Trees, EachArgument, EachColumn, Value, FitsKind, Scalar}
+use Rattle.expr_check.specs.{all_are_plain, AllCallsFit, callee_shape, CallsFit, CheckedExpr, IsTyped, number_kind, gives_vector, is_plain, takes_no_vector}
+use Rattle.expr_eval.specs.{ArgumentsCanCall, GivesScalar, AnswersAs, EvalStop, scalar_outcome, scalar_value, ScalarStop}
 use Rattle.expr_eval.specs.CanCall.{CanCall}
 use Rattle.rdf_model.specs.{FitsOutcome, Outcome, ◌>>=◌, answer_outcome, call_outcome, evaluate, FitKinds, given_call, gives_int}
 use Rattle.rdf_model.proofs.KnownColumns.{each_weaker, IsKnownColumn, known_columns as all_known}
