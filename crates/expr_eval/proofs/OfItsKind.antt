@@ -98,7 +98,8 @@ answer_fits a = grind arith
 given_fits : (f : Option Function) (zs : List ℤ) → FitsOutcome ColType.Int (given_call {M = ℕ} f zs)
 given_fits f zs = grind (arith, answer_fits)
 
-pub call_fits : (functions : List Function) (names : FunctionNames) (f : Callee) (s : Shape) (vs : List Value) → callee_shape names f ≡ Ok s → FitKinds s.takes vs → FitsOutcome s.gives (call_outcome {M = ℕ} functions f vs)
+pub call_fits : (functions : List Function) (names : FunctionNames) (f : Callee) (s : Shape) (vs : List Value)
+    → callee_shape names f ≡ Ok s → FitKinds s.takes vs → FitsOutcome s.gives (call_outcome {M = ℕ} functions f vs)
 call_fits functions names f s vs is fit = grind (arith, same_ok, int_fits, element_fits, given_fits)
 
 -- ---- expressions

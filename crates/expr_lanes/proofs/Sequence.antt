@@ -1,7 +1,7 @@
 -- Evaluations one after the other, and the arguments of a call in lanes of their own.
 use Rattle.std.proofs.Common.{◌≡◌, ◌+◌, ℕ, ℤ, Bool, true, false, ◌&&◌, ◌||◌, List, [], ◌∷◌, ◌∙◌, refl, ap, sym, subst, cond, arith, nat_eq}
-use Rattle.lemmas.proofs.{and_false, and_left, and_true, eq-eqb, eqb_tells, filter, or_right}
-use Rattle.rdf_model.specs.{◌>>=◌, Faults, Gives, Needs, Outcome}
+use Rattle.lemmas.proofs.{and_left, eq-eqb, eqb_tells, filter, or_right}
+use Rattle.rdf_model.specs.{◌>>=◌, Gives, Outcome}
 use Rattle.expr_lanes.specs.{at_place, EachPlace, Evaluated, given_in, HasCome, is_given, is_in, Stopped, stops_in, times, with_stop}
 
 -- ---- places of lists

@@ -1,9 +1,8 @@
 -- One more place, as a loop over a selection meets it, and loops that part one.
-use Rattle.std.proofs.Common.{◌≡◌, ◌≢◌, ◌<◌, ◌≤◌, ◌+◌, ℕ, ℤ, Bool, true, false, not, List, [], ◌∷◌, ◌++◌, length, get_or, take, drop, set, ◌∙◌, refl, ap, sym, subst, append_assoc, add-zero, arith, Result, Err, ◌||◌, cond, if◌then◌else◌, inl, inr, get_or-set_same, get_or-set_other, nat_eq}
+use Rattle.std.proofs.Common.{◌≡◌, ◌≢◌, ◌<◌, ◌≤◌, ◌+◌, ℕ, ℤ, Bool, true, false, not, List, [], ◌∷◌, ◌++◌, length, get_or, take, drop, set, ◌∙◌, refl, ap, sym, subst, append_assoc, add-zero, arith, Result, Err, ◌||◌, cond, if◌then◌else◌, get_or-set_same, get_or-set_other, nat_eq}
 use Rattle.lemmas.proofs.{append-nil, FiltersInPlace, FiltersInPlace-more_no, FiltersInPlace-more_set, get_or-drop, get_or-take, length-append, length-take-le, take_more, take_more_set, eqb_tells, filter, list_any_more}
-use Rattle.rdf_model.specs.{Faults, Gives, Needs, Outcome}
+use Rattle.rdf_model.specs.{Gives, Outcome}
 use Rattle.expr_eval.specs.{ScalarStop}
-use Rattle.expr_eval.specs.declared.stop.ScalarStop.TheVariants.{Fault, Need}
 use Rattle.expr_lanes.specs.{answered_at, at_place, EachPlace, Evaluated, given_in, is_given, is_in, Stopped, stopped, stops_in, times, with_stop, is_marked}
 use Rattle.expr_lanes.proofs.Selected.{is_in_at, values_more, kept_at}
 use Rattle.expr_lanes.proofs.Sequence.{first_in, rest_in}
@@ -29,7 +28,8 @@ module _ (f : ℕ → Outcome ℕ ℤ) where
   pub stops_more : (xs : List ℕ) (i q : ℕ) (s : ScalarStop) → i < length xs → q ≡ get_or xs i q → (let r : Result ℤ ScalarStop = Err s in answered_at r ≡ f q)
       → stops_in f (take (i + 1) xs) ≡ stops_in f (take i xs) ++ stopped q s ∷ []
   stops_more xs i q s inside read here =
-      ap (stops_in f) (take_more xs i q inside ∙ ap (λ n. take i xs ++ n ∷ []) (sym read)) ∙ stops_push f (take i xs) q ∙ ap (λ l. stops_in f (take i xs) ++ l) (stop_told s here)
+      ap (stops_in f) (take_more xs i q inside ∙ ap (λ n. take i xs ++ n ∷ []) (sym read))
+      ∙ stops_push f (take i xs) q ∙ ap (λ l. stops_in f (take i xs) ++ l) (stop_told s here)
     where
       stop_told : (s : ScalarStop) → (let r : Result ℤ ScalarStop = Err s in answered_at r ≡ f q) → with_stop q (f q) [] ≡ stopped q s ∷ []
       stop_told s e = grind arith

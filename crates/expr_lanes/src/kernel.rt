@@ -64,9 +64,10 @@ fn cover_selected<K: Kernel>(kernel: &K, selection: &Selection, lane: &mut [i64]
     ensures values { result ≡ true → EachPlace selection.now (λ p. K.gives kernel.now p ≡ Gives (at_place lane.new p)) }
     ensures others { (p : ℕ) → is_in p selection.now ≡ false → at_place lane.new p ≡ at_place lane.old p }
 {
-    match selection.first_count() {
-        Some(count) => cover(kernel, count, lane),
-        None => cover_listed(kernel, selection.as_slice(), lane),
+    if selection.is_dense {
+        cover(kernel, selection.count, lane)
+    } else {
+        cover_listed(kernel, selection.as_slice(), lane)
     }
 }
 

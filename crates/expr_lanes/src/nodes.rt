@@ -206,7 +206,7 @@ fn eval_side<'a, S: LaneInputs + Calls>(
     }
 }
 
-/// An operator, of which `&&` and `||` are choices by the left side: the right side where that doesn't decide.
+/// An operator, of which `&&` and `||` are choices by the left side.
 #[cycle(lanes)]
 fn eval_operator<S: LaneInputs + Calls>(
     sides: &Sides<'_, S>,
@@ -219,14 +219,34 @@ fn eval_operator<S: LaneInputs + Calls>(
     requires ready { IsReady (S.size sides.now.scope.now) selection.old lane.old stops.old.items }
     ensures { Evaluated (lane_at S.look S.functions sides.now.scope.now (sides_tree sides.now)) selection.old selection.new lane.old lane.new stops.old.items stops.new.items }
 {
-    let Some((level, deeper)) = scratch.split_first_mut() else {
-        unreachable!();
-    };
+    match scratch.split_first_mut() {
+        Some((level, deeper)) => match sides.op {
+            BinOp::And | BinOp::Or => eval_decider(sides, selection, lane, stops, level, deeper),
+            _ => eval_sides(sides, selection, lane, stops, level, deeper),
+        },
+        None => unreachable!(),
+    }
+}
+
+/// `&&` and `||`: the right side where the left one doesn't decide.
+#[cycle(lanes)]
+fn eval_decider<S: LaneInputs + Calls>(
+    sides: &Sides<'_, S>,
+    selection: &mut Selection,
+    lane: &mut [i64],
+    stops: &mut Stops,
+    level: &mut Scratch,
+    deeper: &mut [Scratch],
+)
+    requires op { is_decider sides.now.op ≡ true }
+    requires able { IsAble S.can S.can_tell S.functions sides.now.scope.now (length deeper.old + 1) (sides_tree sides.now) }
+    requires ready { IsReady (S.size sides.now.scope.now) selection.old lane.old stops.old.items }
+    ensures { Evaluated (lane_at S.look S.functions sides.now.scope.now (sides_tree sides.now)) selection.old selection.new lane.old lane.new stops.old.items stops.new.items }
+{
     let right = Branch::Node(sides.right);
     let (zero, other) = match sides.op {
-        BinOp::And => (Branch::Same, right),
         BinOp::Or => (right, Branch::Same),
-        _ => return eval_sides(sides, selection, lane, stops, level, deeper),
+        _ => (Branch::Same, right),
     };
     let choice = Choice {
         condition: sides.left,

@@ -38,8 +38,9 @@ module _ (j : JobView) (job : IsJob j) (entry : ℕ) (u : Option ℕ) (cells : L
       let x = of_option (λ (x : SiteAt). x.tree) (slice_get (graph_sites (job_graph j)) s) e.tree its.tree in
       let row = fits_at j.dataset.columns j.dataset.rows entry job.table.fit can.within in
       let under = graph_under (job_graph j) u in
-      let fits = each_both (IsToldOf j job entry u cells sound s x.0 x.1) (FitsVersion j.dataset (row_of j entry) under row (history j.script)) FitsKinds (λ c a b k w. told_fits x.0 x.1 c k w a b) x.0.tree
-      (told j job entry u cells sound s x.0 x.1) (site_fits j.dataset (row_of j entry) under row (history j.script) (accepted_of j job) s x.0 x.1) in
+      let fits = each_both (IsToldOf j job entry u cells sound s x.0 x.1) (FitsVersion j.dataset (row_of j entry) under row (history j.script)) FitsKinds
+      (λ c a b k w. told_fits x.0 x.1 c k w a b) x.0.tree (told j job entry u cells sound s x.0 x.1)
+      (site_fits j.dataset (row_of j entry) under row (history j.script) (accepted_of j job) s x.0 x.1) in
       let reads = each_weaker _ (IsReadable j u) readable x.0.tree (columns_below j.dataset.fns j.dataset.columns under (history j.script) (accepted_of j job) s x.0 x.1) in
       record {
         can = each_kind (IsReadable j u) e its.typed.columns (subst (EachColumn (IsReadable j u)) x.2 reads);

@@ -127,8 +127,9 @@ none_held j entry = record { each = λ w s lt. tt }
 
 -- what holds of each column of an expression holds of each that its evaluation meets
 pub met_each : (j : JobView) (job : IsJob j) (entry : ℕ) (u : Option ℕ) (s c : ℕ) (P : ℕ → Type 0) (met : MeetsAt j entry u s c) → EachColumn P met.0.tree → P c
-met_each j job entry u s c P met each = go _ _ (evaluations.evaluate_close N (without nat_eq c (version_in j entry u)) (version_in j entry u) (call_outcome j.dataset.fns) met.0.tree (each_weaker P _ (λ d v. alone d v (nat_eq c d) refl) met.0.tree each)) met.2
-    (whole j job entry u [] (none_held j entry) s met.0 met.1)
+met_each j job entry u s c P met each =
+    go _ _ (evaluations.evaluate_close N (without nat_eq c (version_in j entry u)) (version_in j entry u) (call_outcome j.dataset.fns) met.0.tree
+    (each_weaker P _ (λ d v. alone d v (nat_eq c d) refl) met.0.tree each)) met.2 (whole j job entry u [] (none_held j entry) s met.0 met.1)
   where
     N : ℕ → Type 0
     N m = P c

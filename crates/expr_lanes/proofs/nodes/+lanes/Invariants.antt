@@ -19,6 +19,9 @@ decreases-eval_operator g l = 6 * max (depth (num_tree l.sides.now.left.now)) (d
 abbrev pub decreases-eval_sides : goal.decreases-eval_sides
 decreases-eval_sides g l = 6 * max (depth (num_tree l.sides.now.left.now)) (depth (num_tree l.sides.now.right.now)) + 6
 
+abbrev pub decreases-eval_decider : goal.decreases-eval_decider
+decreases-eval_decider g l = 6 * max (depth (num_tree l.sides.now.left.now)) (depth (num_tree l.sides.now.right.now)) + 7
+
 abbrev pub decreases-eval_choice : goal.decreases-eval_choice
 decreases-eval_choice g l = 6 * max (depth (num_tree l.choice.now.condition.now)) (max (branch_depth l.choice.now.zero) (branch_depth l.choice.now.other)) + 6
 
