@@ -27,10 +27,7 @@ pub struct Row {
 fn key_of(keys: &[usize], count: usize, site: u32) -> usize
     ensures { result ≡ key_or_count keys.now count site }
 {
-    match keys.get(site as usize) {
-        Some(key) => *key,
-        None => count,
-    }
+    keys.get(site as usize).copied().unwrap_or(count)
 }
 
 /// Where a version stands that this source gives its value.
