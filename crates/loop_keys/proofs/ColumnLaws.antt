@@ -1,5 +1,5 @@
 -- The columns of a site can be asked for, and come to values of their kinds.
-use Rattle.std.proofs.Common.{◌≡◌, ℕ, zero, suc, ◌<◌, List, [], ◌∷◌, length, Some, subst, arith, slice_get, unwrap_or, get_or}
+use Rattle.std.proofs.Common.{◌≡◌, ℕ, zero, suc, ◌<◌, List, [], ◌∷◌, length, Option, Some, subst, arith, slice_get, unwrap_or, get_or}
 use Rattle.lemmas.proofs.{slice_get_within}
 use Rattle.rdf_values.specs.{ColType, Column, EachColumn, FitRows, FitsRow, history, Value}
 use Rattle.rdf_model.specs.{FitsOutcome}

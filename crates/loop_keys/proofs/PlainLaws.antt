@@ -1,13 +1,13 @@
 -- Sites without vectors, and the plan of a loop over them.
-use Rattle.std.proofs.Common.{◌≡◌, ℕ, Bool, true, false, ◌&&◌, not, List, [], ◌∷◌, Option, Some, refl, sym, ◌∙◌, ap, subst, nat_eq, slice_get, if◌then◌else◌, ◌+◌, ◌<◌, ◌≤◌, ◌||◌, length, take, option_map, arith, get_or}
-use Rattle.lemmas.proofs.{AllByRecursion, both_true, Decides-eqb, recursion_from_All, list_any, list_any_at, list_any_more, slice_get-get_or, take_all}
-use Rattle.rdf_values.specs.{Bin, Call, Callee, Col, ColType, Cond, EachArgument, EachColumn, End, Lit, More, Neg, Not, NumTree, Pick, Trees, Value}
+use Rattle.std.proofs.Common.{◌≡◌, ℕ, Bool, true, false, ◌&&◌, not, List, [], ◌∷◌, Option, Some, refl, sym, ◌∙◌, ap, subst, nat_eq, slice_get, ◌+◌, ◌<◌, ◌≤◌, ◌||◌, length, take, option_map, arith, get_or}
+use Rattle.lemmas.proofs.{AllByRecursion, both_true, recursion_from_All, list_any, list_any_at, list_any_more, slice_get-get_or, take_all}
+use Rattle.rdf_values.specs.{Bin, Call, Callee, Col, ColType, Cond, EachArgument, EachColumn, End, Lit, More, Neg, Not, NumTree, Pick, Trees}
 use Rattle.rdf_values.specs.expressions.Expressions.{Truth}
 use Rattle.expr_check.specs.{all_are_plain, CheckedExpr, gives_vector, is_plain, number_kind, takes_no_vector}
 use Rattle.graph_numbers.specs.{graph_kinds, graph_sites, IsSiteExpr, SiteAt, graph_results, GraphView, Pass as NumberedPass, ResultAt}
 use Rattle.graph_numbers.proofs.Walks.{by_test}
 use Rattle.rdf_model.proofs.KnownColumns.{each_weaker}
-use Rattle.loop_keys.specs.{ArePlain, is_vector_at, IsClosed, IsJob, IsPlainVersion, IsSound, IsSourceIn, job_graph, JobView, site_in, source_at, version_in, covers_of, is_covering, numbered_passes}
+use Rattle.loop_keys.specs.{ArePlain, is_vector_at, IsClosed, IsJob, IsPlainVersion, IsSourceIn, job_graph, JobView, source_at, covers_of, is_covering, numbered_passes}
 use Rattle.loop_keys.proofs.Elements.{of_option}
 use Rattle.loop_keys.proofs.EvaluateLaws.{met_each}
 use Rattle.loop_keys.proofs.PassNumbers.{result_inside}
