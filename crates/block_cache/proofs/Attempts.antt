@@ -28,8 +28,10 @@ key_lower g t s w u low inside =
     omega (arith, l, p)
 
 pub get_take : {A : Type 0} (xs : List A) (k i : ℕ) → i < k → slice_get (take k xs) i ≡ slice_get xs i
+get_take xs zero i low = absurd (omega (arith, low))
+get_take [] (suc k) i low = refl
+get_take (x ∷ xs) (suc k) zero low = refl
 get_take (x ∷ xs) (suc k) (suc i) low = get_take xs k i (omega (arith, low))
-get_take xs k i low = grind arith
 
 abbrev MissingSite : JobView → Option ℕ → ℕ → (ℕ → Type 0) → Source → Type 0
 MissingSite j u s Lacks x = (t : ℕ) × IsSiteOf t x × (t < s) × Lacks t

@@ -3,7 +3,7 @@ use Rattle.std.proofs.Common.{◌≡◌, ◌⊎◌, inl, inr, ℕ, Bool, true, f
 use Rattle.lemmas.proofs.{Decides-eqb, never_true}
 use Rattle.rdf_values.specs.{Bin, BinOp, Call, Col, Cond, End, EntryFault, Lit, More, Neg, Not, Pick, Tree, Trees, Value}
 use Rattle.rdf_values.specs.expressions.Expressions.{Truth}
-use Rattle.rdf_model.specs.{◌>>=◌, call_outcome, chosen_side, evaluate, evaluate_all, Faults, Gives, in_order, is_need, Needs, operation, Outcome, picked, tag_element, value_operation, with_needs, without}
+use Rattle.rdf_model.specs.{◌>>=◌, call_outcome, chosen_side, evaluate, evaluate_all, Faults, Gives, in_order, is_need, Needs, operation, Outcome, picked, tag_element, with_needs, without}
 use Rattle.graph_numbers.specs.{SiteAt, Source, source_value}
 use Rattle.loop_keys.specs.{IsJob, IsSiteOf, JobView, MeetsAt, row_of, site_in, source_at, version_in}
 use Rattle.loop_keys.proofs.EvaluateLaws.{known_never, none_held, site_known, whole}
