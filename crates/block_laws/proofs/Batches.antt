@@ -26,16 +26,28 @@ own_first (b ∷ bs) = sum_by-cons mark b bs
 
 first_place : (lanes : List (List Bool)) → marked_in lanes ≡ marked_at lanes 0 + marked_in (behind lanes)
 first_place [] = refl
-first_place (l ∷ ls) = grind (arith, lane_more, at_more, own_first, first_place ls)
+first_place (l ∷ ls) =
+    let a = lane_more l ls in
+    let b = at_more l ls 0 in
+    let c = lane_more (drop 1 l) (behind ls) in
+    let d = own_first l in
+    let e = first_place ls in omega (arith, a, b, c, d, e)
 
 later_place : (lanes : List (List Bool)) (i : ℕ) → marked_at (behind lanes) i ≡ marked_at lanes (suc i)
 later_place [] i = refl
-later_place ([] ∷ ls) i = grind (arith, at_more, later_place ls i)
-later_place ((b ∷ bs) ∷ ls) i = grind (arith, at_more, later_place ls i)
+later_place (l ∷ ls) i =
+    let a = at_more (drop 1 l) (behind ls) i in
+    let b = at_more l ls (suc i) in
+    let c = later_place ls i in
+    let d : mark (slice_index_or (drop 1 l) i false) ≡ mark (slice_index_or l (suc i) false) = one l in omega (arith, a, b, c, d)
+  where
+    one : (x : List Bool) → mark (slice_index_or (drop 1 x) i false) ≡ mark (slice_index_or x (suc i) false)
+    one x = grind arith
 
 none_marked : (lanes : List (List Bool)) → AllByRecursion (λ (l : List Bool). length l ≤ 0) lanes → marked_in lanes ≡ 0
 none_marked [] h = refl
-none_marked (l ∷ ls) h = grind (arith, lane_more, none_marked ls)
+none_marked ([] ∷ ls) h = let a = lane_more [] ls in let b = none_marked ls h.1 in omega (arith, a, b)
+none_marked ((b ∷ bs) ∷ ls) h = let l = h.0 in absurd (omega (arith, l))
 
 shorter : (n : ℕ) (lanes : List (List Bool)) → AllByRecursion (λ (l : List Bool). length l ≤ suc n) lanes → AllByRecursion (λ (l : List Bool). length l ≤ n) (behind lanes)
 shorter n [] h = tt

@@ -1,5 +1,5 @@
 -- The first block and those behind it, each as long as it may be.
-use Rattle.std.proofs.Common.{◌≡◌, ◌⊎◌, inl, inr, ℕ, zero, suc, ◌+◌, ◌<◌, ◌≤◌, Bool, true, false, List, [], ◌∷◌, length, map, take, drop, refl, sym, subst, ◌∙◌, ap, arith, if◌then◌else◌, min, sum}
+use Rattle.std.proofs.Common.{◌≡◌, ◌⊎◌, inl, inr, ℕ, zero, suc, ◌+◌, ◌<◌, ◌≤◌, Bool, true, false, List, [], ◌∷◌, length, map, take, drop, refl, subst, ap, arith, if◌then◌else◌, min, sum}
 use Rattle.lemmas.proofs.{map_length, sum_by-cons}
 use Rattle.rdf_values.specs.{Span, Value}
 use Rattle.block_laws.specs.{blocks_from, blocks_of, first_length, IsFirst, more_fit, one_more_fits, row_elements}
