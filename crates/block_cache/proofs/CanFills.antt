@@ -1,37 +1,15 @@
 -- The sites that a site meets can be filled where it can.
-use Rattle.std.proofs.Common.{◌≡◌, ◌<◌, ◌≤◌, ◌+◌, ℕ, ℤ, Bool, true, false, List, [], length, Option, Some, refl, sym, ◌∙◌, ap, subst, arith, nat_eq, slice_get, if◌then◌else◌}
-use Rattle.std.proofs.lemmas.Bool.Decides.{Decides-eqb}
-use Rattle.rdf_values.specs.{ColType, EachColumn, history, Value}
-use Rattle.rdf_model.specs.{call_outcome, is_need, Needs, Outcome, with_needs, without}
-use Rattle.rdf_model.proofs.Evaluations as evaluations
+use Rattle.std.proofs.Common.{◌≡◌, ◌<◌, ◌≤◌, ◌+◌, ℕ, ℤ, Bool, true, List, length, Option, Some, refl, arith, slice_get}
+use Rattle.rdf_values.specs.{ColType, EachColumn, history}
 use Rattle.rdf_model.proofs.KnownColumns.{each_weaker}
 use Rattle.graph_numbers.proofs.Equations.{columns_below}
 use Rattle.graph_numbers.specs.{graph_sites, graph_under, IsBelow, SiteAt, Source, version_count}
-use Rattle.loop_keys.specs.{ArePlain, IsJob, IsSiteOf, IsSound, IsSourceIn, job_graph, JobView, MeetsAt, site_in, source_at, version_in}
-use Rattle.loop_keys.proofs.EvaluateLaws.{accepted_of, known_never, whole}
+use Rattle.loop_keys.specs.{ArePlain, IsJob, IsSiteOf, IsSourceIn, job_graph, JobView, MeetsAt, source_at}
+use Rattle.loop_keys.proofs.EvaluateLaws.{accepted_of, met_each}
 use Rattle.loop_keys.proofs.FillLaws.{in_source}
 use Rattle.loop_keys.proofs.PlainLaws.{plain_closed}
 use Rattle.expr_lanes.specs.{depth}
 use Rattle.block_cache.specs.{AreSiteKinds, CanFill, IsLoaded, IsRankedBelow}
-
--- what holds of each column of an expression holds of each that its evaluation meets
-pub met_each : (j : JobView) (job : IsJob j) (entry : ℕ) (u : Option ℕ) (s c : ℕ) (P : ℕ → Type 0) (met : MeetsAt j entry u s c) → EachColumn P met.0.tree → P c
-met_each j job entry u s c P met each = go _ _ (evaluations.evaluate_close N (without nat_eq c (version_in j entry u)) (version_in j entry u) (call_outcome j.dataset.fns) met.0.tree (each_weaker P _ (λ d v. alone d v (nat_eq c d) refl) met.0.tree each)) met.2
-    (whole j job entry u [] none_held s met.0 met.1)
-  where
-    N : ℕ → Type 0
-    N m = P c
-
-    none_held : IsSound j entry []
-    none_held = record { each = λ w r lt. tt }
-
-    alone : (d : ℕ) → P d → (b : Bool) → nat_eq c d ≡ b → evaluations.Close {M = ℕ} {A = Value} N (if b then Needs c else version_in {M = ℕ} j entry u d) (version_in {M = ℕ} j entry u d)
-    alone d v true e = evaluations.missing (subst P (sym ((Decides-eqb c d).0 e)) v)
-    alone d v false e = evaluations.same
-
-    go : (o p : Outcome ℕ Value) → evaluations.Close N o p → is_need o ≡ true → p ≡ with_needs (site_in j entry u s) → P c
-    go o p evaluations.same m w = absurd (known_never (site_in j entry u s) (ap is_need (sym w) ∙ m))
-    go o p (evaluations.missing {d = d} n) m w = n
 
 pub met_used : (j : JobView) (job : IsJob j) (entry : ℕ) (u : Option ℕ) (s c t : ℕ) (used : ℕ → Bool) → ArePlain j used → used s ≡ true → MeetsAt j entry u s c → IsSiteOf t (source_at j u c) → used t ≡ true
 met_used j job entry u s c t used plain has met site = in_source used t (source_at j u c) site ((plain_closed j job entry u used plain).each s c has met)

@@ -1,15 +1,14 @@
 -- A site that can be filled can be tried.
 use Rattle.std.proofs.Common.{◌≡◌, ◌<◌, ℕ, List, length, take, All, Some, sym, ◌∙◌, ap, subst, arith, slice_get}
-use Rattle.lemmas.proofs.{All-from_recursion, AllByRecursion, get_or-map, get_or_from_slice_get, length-map, mapped_at, something_at}
-use Rattle.rdf_values.specs.{ColType, columns_in, history, NumTree}
+use Rattle.lemmas.proofs.{get_or_from_slice_get, mapped_at, something_at}
+use Rattle.rdf_values.specs.{ColType, EachColumn, history}
 use Rattle.expr_check.specs.{CheckedExpr}
-use Rattle.graph_numbers.specs.{graph_sites, graph_under, GraphView, IsBelow, IsSiteExpr, SiteAt, Source, version_count}
+use Rattle.graph_numbers.specs.{graph_sites, graph_under, GraphView, IsBelow, IsSiteExpr, SiteAt, Source}
 use Rattle.graph_numbers.proofs.Equations.{columns_below}
-use Rattle.graph_numbers.proofs.Meeting.{each_at}
+use Rattle.graph_numbers.proofs.Meeting.{each_both}
 use Rattle.block_cache.specs.{AreReadyOver, block_job, CanFillFor, HasLane, HasSource, IsLoaded, IsTriable, kinds_of, LaneView}
-use Rattle.expr_check.proofs.Distinct.{each_distinct}
 use Rattle.loop_keys.specs.{job_graph, key, source_at}
-use Rattle.loop_keys.proofs.Elements.{each_in}
+use Rattle.loop_keys.proofs.Elements.{each_kind}
 use Rattle.loop_keys.proofs.EvaluateLaws.{accepted_of}
 use Rattle.loop_keys.proofs.KeyLaws.{key_small}
 use Rattle.block_cache.specs.declared.wanted.Wanted.{Wanted}
@@ -45,16 +44,12 @@ module _
     source_of src loaded below = grind (arith, lane_below)
 
     sources : All (λ (c : ℕ × ColType). HasSource j first u count (take (key (job_graph j) s u) lanes) cells (source_at j u c.0)) e.kinds
-    sources k d low =
+    sources =
         let tree = site_tree its in
         let each = can.each s tree.0 can.has tree.1 in
         let below = columns_below j.dataset.fns j.dataset.columns (graph_under (job_graph j) u) (history j.script) (accepted_of j w.block.now.fits.job) s tree.0 tree.1 in
         let P : ℕ → Type 0 = λ c. HasSource j first u count (take (key (job_graph j) s u) lanes) cells (source_at j u c) in
-        let all : AllByRecursion P (columns_in tree.0.tree) = each_in P (columns_in tree.0.tree)
-        (λ c standing. source_of (source_at j u c) (each_at (λ d. IsLoaded j first count cells (source_at j u d)) tree.0.tree each.loaded c standing)
-        (each_at (λ d. (d < version_count j.dataset.columns (history j.script)) × IsBelow (length j.dataset.columns) s (source_at j u d)) tree.0.tree below c standing).1) in
-        let kinds = All-from_recursion P _ (subst (AllByRecursion P) (sym its.typed.columns) (each_distinct P (columns_in e.tree) (subst (λ (v : NumTree). AllByRecursion P (columns_in v)) tree.2 all))) in
-        subst P (get_or-map (λ (c : ℕ × ColType). c.0) e.kinds k d d.0 low) (kinds k d.0 (rw length-map low))
+        each_kind P e its.typed.columns (subst (EachColumn P) tree.2 (each_both _ _ P (λ c loaded low. source_of (source_at j u c) loaded low.1) tree.0.tree each.loaded below))
 
     pub can_try : IsTriable j first u count lanes cells scratch s e
     can_try = grind (arith, got_kind, site_tree, sources)

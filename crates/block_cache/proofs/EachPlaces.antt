@@ -4,9 +4,10 @@ use Rattle.lemmas.proofs.{filter, length-append, take_more}
 use Rattle.rdf_values.specs.{ColType, FitsKind, Value}
 use Rattle.rdf_model.specs.{is_set, mark, Outcome}
 use Rattle.expr_check.specs.{is_vector}
-use Rattle.expr_lanes.specs.{at_place, EachPlace, given_in, is_given, is_in, is_marked, lane_number, Stopped, stops_in, times, with_stop}
+use Rattle.expr_lanes.specs.{at_place, EachPlace, given_in, is_given, is_in, is_marked, lane_number, Stopped, stops_in, with_stop}
 use Rattle.expr_lanes.proofs.Selected.{in_more, is_in_at}
 use Rattle.expr_lanes.proofs.Sequence.{first_in, rest_in}
+use Rattle.expr_lanes.proofs.SiftSteps.{stops_push}
 use Rattle.block_cache.specs.{AreKept, AreWritten, HasNumber, HasNumbered, HaveCome, IsNumberOf, IsTurned, IsWritten, value_for}
 use Rattle.block_cache.proofs.VectorLists.{kept_on}
 
@@ -40,20 +41,8 @@ number_moved k o vectors more a b kept same h = record { value = h.value; gives 
 
 -- ---- stops
 
-module _ (f : ℕ → Outcome ℕ Value) where
-  with_push : (o : Outcome ℕ Value) (x : ℕ) (whole one two : List Stopped) → whole ≡ one ++ two → with_stop x o whole ≡ with_stop x o one ++ two
-  with_push o x whole one two e = grind arith
-
-  stops_push : (xs : List ℕ) (p : ℕ) → stops_in f (xs ++ p ∷ []) ≡ stops_in f xs ++ with_stop p (f p) []
-  stops_push [] p = refl
-  stops_push (x ∷ xs) p = with_push (f x) x (stops_in f (xs ++ p ∷ [])) (stops_in f xs) (with_stop p (f p) []) (stops_push xs p)
-
 one_stop : (o : Outcome ℕ Value) (q : ℕ) → length (with_stop q o []) ≤ 1
 one_stop o q = grind arith
-
-pub times_append : (t : Stopped → Bool) (xs ys : List Stopped) → times t (xs ++ ys) ≡ times t xs + times t ys
-times_append t [] ys = omega arith
-times_append t (x ∷ xs) ys = omega (arith, times_append t xs ys)
 
 -- ---- the loop
 

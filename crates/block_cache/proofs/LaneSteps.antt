@@ -7,8 +7,9 @@ use Rattle.expr_check.specs.{is_vector}
 use Rattle.expr_lanes.specs.{at_place, EachPlace, given_in, HasValues, is_given, is_in, is_marked, IsJoined, lane_number, lane_outcome, lane_value, Stopped, stops_in, times}
 use Rattle.expr_lanes.specs.declared.TheConstants.{MAX_PLACES}
 use Rattle.expr_lanes.proofs.Sequence.{filtered_in, filtered_out, first_in, rest_in}
+use Rattle.expr_lanes.proofs.SiftSteps.{times_append}
 use Rattle.block_cache.specs.{AreWritten, HasNumber, HasNumbered, HaveCome, is_held, IsBegun, IsBegunAt, IsEvaluated, IsLane, IsUnknown, LaneView, room_of, value_for}
-use Rattle.block_cache.proofs.EachPlaces.{is_there, number_read, read_back, there_more, times_append, value_more}
+use Rattle.block_cache.proofs.EachPlaces.{is_there, number_read, read_back, there_more, value_more}
 use Rattle.block_cache.proofs.Members.{filter_passes}
 use Rattle.block_cache.proofs.VectorLists.{kept_all}
 

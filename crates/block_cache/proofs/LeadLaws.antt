@@ -11,11 +11,11 @@ use Rattle.graph_numbers.proofs.Placing.{versions_count}
 use Rattle.graph_numbers.specs.{graph_sites, graph_under, graph_versions, IsBelow, IsSiteExpr, SiteAt, Source, version_count}
 use Rattle.block_cache.specs.{AreReadyOver, below_fault, block_graph, block_job, CanFill, CanFillFor, first_read, first_read_in, found_or, holds_at, is_below, IsFaultOf, IsFilledFor, IsFilledTo, IsGrownOver, IsLeadFor, IsOnlyCalled, IsRankedBelow, IsSpentFor, IsSpentOver, key_over, LaneView, own_key, PlaceFault, site_fault}
 use Rattle.loop_keys.specs.{ArePlain, IsSiteOf, job_graph, JobView, key_count, MeetsAt, Place, place_of, source_at, version_in}
-use Rattle.loop_keys.proofs.EvaluateLaws.{accepted_of}
+use Rattle.loop_keys.proofs.EvaluateLaws.{accepted_of, met_each}
 use Rattle.loop_keys.proofs.KeyLaws.{key_small}
 use Rattle.block_cache.specs.declared.wanted.Wanted.{Wanted}
 use Rattle.block_cache.proofs.Wants.{parts_of}
-use Rattle.block_cache.proofs.CanFills.{can_below, falls_by_number, met_each, met_used, ranked}
+use Rattle.block_cache.proofs.CanFills.{can_below, falls_by_number, met_used, ranked}
 use Rattle.block_cache.proofs.CanTries.{site_tree}
 use Rattle.block_cache.proofs.GrownLaws.{grown_below, grown_on}
 use Rattle.block_cache.proofs.Knowns.{held_no_fault}

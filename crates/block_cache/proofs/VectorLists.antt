@@ -1,5 +1,5 @@
 -- Vectors that are appended, with their cells behind those that there were.
-use Rattle.std.proofs.Common.{◌≡◌, ◌-◌, ◌++◌, ℤ, suc, List, [], ◌∷◌, length, drop, map, All, ◌∙◌, refl, ap, arith}
+use Rattle.std.proofs.Common.{◌≡◌, ◌++◌, ℤ, suc, List, [], ◌∷◌, length, drop, map, All, ◌∙◌, refl, ap, arith}
 use Rattle.std.proofs.lemmas.List.{take-append-le, drop-append-le, length-append, length-drop, map-append, take_all, get_or_append_left}
 use Rattle.block_cache.specs.{AreKept, AreThere, cells_in}
 use Rattle.block_cache.specs.declared.vectors.Cells.{Cells}

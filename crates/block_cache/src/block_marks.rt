@@ -156,10 +156,7 @@ fn clear(extent: Extent, count: usize, written: &mut [bool])
 fn is_whole(selection: &Selection, count: usize) -> bool
     ensures { result ≡ true → selection.now ≡ range_with_len 0 count }
 {
-    match selection.first_count() {
-        Some(first) => first == count,
-        None => false,
-    }
+    selection.first_count() == Some(count)
 }
 
 /// Marks the places of a list.

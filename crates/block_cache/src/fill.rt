@@ -35,10 +35,7 @@ fn needed_site(block: &Block<'_>, version: u32) -> u32
 pub(crate) fn lowered(fault: Option<PlaceFault>, found: Option<PlaceFault>) -> Option<PlaceFault>
     ensures { result ≡ found_or found fault }
 {
-    match found {
-        Some(lower) => Some(lower),
-        None => fault,
-    }
+    found.or(fault)
 }
 
 /// Leaves the places below a fault selected.

@@ -18,12 +18,5 @@ pub fn block_size(keys: usize) -> usize
     if keys == 0 {
         return MAX_PLACES;
     }
-    let places = MAX_LANE_PLACES / keys;
-    if places == 0 {
-        1
-    } else if places < MAX_PLACES {
-        places
-    } else {
-        MAX_PLACES
-    }
+    (MAX_LANE_PLACES / keys).clamp(1, MAX_PLACES)
 }

@@ -1,5 +1,5 @@
 -- The first block and those behind it, each as long as it may be.
-use Rattle.std.proofs.Common.{◌≡◌, ◌⊎◌, inl, inr, ℕ, zero, suc, ◌+◌, ◌<◌, ◌≤◌, Bool, true, false, List, [], ◌∷◌, length, map, take, drop, refl, sym, subst, ◌∙◌, ap, arith, if◌then◌else◌, min, sum}
+use Rattle.std.proofs.Common.{◌≡◌, ◌⊎◌, inl, inr, ℕ, zero, suc, ◌+◌, ◌<◌, ◌≤◌, Bool, true, false, List, [], ◌∷◌, length, map, take, drop, refl, subst, ap, arith, if◌then◌else◌, min, sum}
 use Rattle.lemmas.proofs.{map_length, sum_by-cons}
 use Rattle.rdf_values.specs.{Span, Value}
 use Rattle.block_laws.specs.{blocks_from, blocks_of, first_length, IsFirst, more_fit, one_more_fits, row_elements}
@@ -51,13 +51,10 @@ module _ (size most : ℕ) where
       go true e next =
           let m = more_fit size most (suc n) (s + c) cs in
           let f = fits n s c e in
-          let below = f.0 in
-          let r = next (omega (arith, below)) in
-          let within = r.within in
-          let small = r.small in
+          let r = next (omega (arith, f.0)) in
           record {
-            within = omega (arith, within);
-            small = omega (arith, small);
+            within = omega (arith, r.within);
+            small = omega (arith, r.small);
             few = inr (few_more s c m cs f.1 r.few);
             full = λ k. full_more n s c m cs (r.full (omega (arith, k)));
           }
@@ -67,13 +64,10 @@ module _ (size most : ℕ) where
   first_is [] one h = absurd (omega (arith, h))
   first_is (c ∷ cs) one h =
       let r = ends cs 1 c one in
-      let m = more_fit size most 1 c cs in
-      let within = r.within in
-      let small = r.small in
       record {
         some = omega arith;
-        within = omega (arith, within);
-        small = omega (arith, small);
+        within = omega (arith, r.within);
+        small = omega (arith, r.small);
         few = small_sum r.few;
         full = λ k. last_sum (r.full (omega (arith, k)));
       }
@@ -95,7 +89,7 @@ module _ (size most : ℕ) where
 none_of_them : (rows : List (List Value)) (n : ℕ) → sum (take n (map (row_elements 0) rows)) ≡ 0
 none_of_them rows zero = refl
 none_of_them [] (suc n) = refl
-none_of_them (row ∷ rows) (suc n) = let h = none_of_them rows n in let t = sum_more (row_elements 0 row) (take n (map (row_elements 0) rows)) in let z : row_elements 0 row ≡ 0 = omega arith in omega (arith, h, t, z)
+none_of_them (row ∷ rows) (suc n) = grind (arith, sum_more, none_of_them rows n)
 
 pub plain_first : (size most : ℕ) (rows : List (List Value)) → 1 ≤ size → first_length size most (map (row_elements 0) rows) ≡ min size (length rows)
 plain_first size most rows one = grind (arith, first_is, map_length, none_of_them)

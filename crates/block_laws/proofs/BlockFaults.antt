@@ -1,8 +1,8 @@
 -- The first fault of rows in two parts.
-use Rattle.std.proofs.Common.{◌≡◌, ℕ, ◌+◌, ◌≤◌, List, [], ◌∷◌, ◌++◌, length, take, Option, Some, None, refl, sym, ◌∙◌, ap, arith, ◌-◌, drop, slice_range}
+use Rattle.std.proofs.Common.{◌≡◌, ℕ, ◌+◌, ◌≤◌, List, [], ◌∷◌, ◌++◌, length, take, Option, ◌∙◌, ap, arith, ◌-◌, drop, slice_range}
 use Rattle.lemmas.proofs.{drop_plus, range_length, take_plus}
 use Rattle.rdf_values.specs.{Fault, Pass, Value}
-use Rattle.rdf_model.specs.{Dataset, first_fault_from, first_fault_in, first_of}
+use Rattle.rdf_model.specs.{Dataset, first_fault_from, first_of}
 
 first_of-assoc : (a b c : Option Fault) → first_of (first_of a b) c ≡ first_of a (first_of b c)
 first_of-assoc a b c = grind arith

@@ -1,8 +1,8 @@
 -- What blocks demand, one after another.
-use Rattle.std.proofs.Common.{◌≡◌, ℕ, Bool, true, List, [], ◌∷◌, ◌++◌, Some, refl, sym, arith, false, ◌∙◌, if◌then◌else◌, ◌+◌, ◌-◌, ◌<◌, ◌≤◌, length, map, take, drop, Option, None, ap, is_some, slice_range}
+use Rattle.std.proofs.Common.{◌≡◌, ℕ, Bool, true, List, [], ◌∷◌, ◌++◌, Some, refl, sym, arith, false, ◌∙◌, if◌then◌else◌, ◌+◌, ◌-◌, ◌<◌, ◌≤◌, length, map, drop, None, ap, is_some, slice_range}
 use Rattle.lemmas.proofs.{drop-append_seam, drop-map, map_length, range_length, sum_by, sum_by-cons}
-use Rattle.rdf_values.specs.{Pass, Value, EntryFault, Fault, Span}
-use Rattle.rdf_model.specs.{Dataset, fault_at, fault_or, first_fault_from, first_fault_in, first_of}
+use Rattle.rdf_values.specs.{Pass, Value, Fault, Span}
+use Rattle.rdf_model.specs.{Dataset, first_fault_from, first_fault_in}
 use Rattle.block_laws.specs.{blocks_demand, blocks_of, cluster_blocks, cluster_demands, first_length, row_elements, rows_demand, up_to_fault}
 use Rattle.block_laws.proofs.BlockCuts.{blocks_go_on}
 use Rattle.block_laws.proofs.BlockFaults.{range_split}

@@ -1,14 +1,12 @@
 -- Operations whose left side may decide, and elements one after the other.
-use Rattle.std.proofs.Common.{◌≡◌, ℕ, Bool, true, false, None, Result, refl, ◌<◌, ◌+◌, zero, ℤ, pos, List, [], ◌∷◌, ◌++◌, length, drop, get_or, ◌∙◌, append_assoc, ap, sym, ◌+ℤ◌, fold, if◌then◌else◌, arith}
+use Rattle.std.proofs.Common.{◌≡◌, ℕ, Bool, true, false, None, Result, refl, ◌<◌, ◌+◌, ℤ, pos, List, [], ◌∷◌, ◌++◌, length, drop, get_or, ◌∙◌, append_assoc, ap, sym, ◌+ℤ◌, fold, if◌then◌else◌, arith}
 use Rattle.rdf_values.specs.{BinOp, Value, EntryFault}
 use Rattle.rdf_model.specs.{◌>>=◌, Gives, operation, Outcome, value_operation, checked, Faults, for_all, gives_int, is_set, marked, pairs, sum_from}
 use Rattle.expr_eval.specs.{AnswersAs, decision, EvalStop, following}
 use Rattle.std.proofs.lemmas.List.{at_drop_more}
 
 leaves_open : (o : BinOp) (v : Value) (p : Outcome ℕ Value) → decision o v ≡ None → operation o (Gives v) p ≡ (p >>= value_operation o v)
-leaves_open BinOp.And (Value.Bool false) p e = absurd (cc)
-leaves_open BinOp.Or (Value.Bool true) p e = absurd (cc)
-leaves_open o v p e = refl
+leaves_open o v p e = grind arith
 
 module _ (o : BinOp) (v : Value) (left right : Outcome ℕ Value) (given : left ≡ Gives v) where
   pub both_sides : {B : Type 0} (view : B → Value) (w : Value) (r : Result B EvalStop) → decision o v ≡ None → right ≡ Gives w → AnswersAs view (value_operation o v w) r → AnswersAs view (operation o left right) r
@@ -84,5 +82,4 @@ module _ (xs ms : List ℤ) (i : ℕ) (d e : ℤ) (inside : i < length xs) (same
 
 -- a mark that isn't 0 is set
 pub set_mark : (m : ℤ) → (m ≡ pos 0 → ⊥) → is_set m ≡ true
-set_mark (pos zero) h = absurd (h refl)
-set_mark m h = refl
+set_mark m h = grind arith

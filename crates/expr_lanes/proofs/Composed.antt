@@ -1,5 +1,5 @@
 -- What a node's parts come to, put together.
-use Rattle.std.proofs.Common.{◌≡◌, ◌<◌, ℕ, ℤ, pos, negsuc, neg_ℤ, ◌-ℤ◌, zero, suc, false, None, ◌&&◌, ◌∙◌, List, refl, ap, sym, subst, arith, int_le, ◌+◌, Bool, true, not, ◌||◌, [], ◌∷◌, inl, inr, cond, if◌then◌else◌, ◌≤◌, length}
+use Rattle.std.proofs.Common.{◌≡◌, ◌<◌, ℕ, ℤ, pos, neg_ℤ, ◌-ℤ◌, false, None, ◌&&◌, ◌∙◌, List, refl, ap, sym, subst, arith, int_le, ◌+◌, Bool, true, not, ◌||◌, [], ◌∷◌, cond, if◌then◌else◌, ◌≤◌, length}
 use Rattle.std.proofs.lemmas.Int.{ints}
 use Rattle.rdf_values.specs.{BinOp, Call, Callee, Function, Neg, Not, num_tree, NumTree, Trees, Value, ColType}
 use Rattle.rdf_model.specs.{◌>>=◌, checked, Gives, is_zero, mark, number_operation, Outcome}
@@ -11,7 +11,6 @@ use Rattle.expr_lanes.proofs.Sequence.{alike, come_alike, come_told, go_on, told
 use Rattle.lemmas.proofs.{and_false, and_left, and_right, filter, or_false}
 use Rattle.expr_lanes.proofs.SiftSteps.{filter_alike}
 use Rattle.expr_lanes.proofs.Selected.{parts_of, filter_whole, short}
-use Prim.Native.Nat.compare
 
 -- ---- sides at hand
 

@@ -1,32 +1,23 @@
 -- Selections: rising places, the first of a block, and room for stops.
-use Rattle.std.proofs.Common.{◌≡◌, ◌<◌, ◌≤◌, ◌+◌, ◌||◌, ℕ, suc, zero, Bool, true, false, inl, inr, List, [], ◌∷◌, length, take, ◌∙◌, refl, ap, sym, subst, cond, arith, nat_eq, ◌≢◌, ℤ, pos, ◌++◌, get_or, set, ◌⊎◌, get_or-set_same, get_or-set_other, not}
+use Rattle.std.proofs.Common.{◌≡◌, ◌<◌, ◌≤◌, ◌+◌, ℕ, suc, zero, Bool, true, false, inl, inr, List, [], ◌∷◌, length, take, ◌∙◌, refl, ap, sym, subst, cond, arith, nat_eq, ◌≢◌, ℤ, pos, ◌++◌, get_or, set, ◌⊎◌, get_or-set_same, get_or-set_other, not}
 use Rattle.lemmas.proofs.{count_by-le-length, eqb_tells, filter, length-filter, length-take-le, range_with_len, eq-eqb, list_any-append, list_any_at, or_false, cases_lt, get_or-range_with_len, length-range_with_len, take_more_set, length-filter_both}
 use Rattle.expr_lanes.specs.{AreRising, EachPlace, is_in, at_place, Evaluated, Stopped, given_in, HasCome, is_given, IsSelected, stops_in, times, with_stop}
 use Rattle.expr_lanes.proofs.Sequence.{filtered_in, come_told, come_alike, told, come_from}
 use Rattle.rdf_model.specs.{Gives, Outcome}
 
-rising_kept : (b : Bool) (p : ℕ) (kept : List ℕ) → EachPlace kept (λ q. p < q) → AreRising kept → AreRising (cond b (p ∷ kept) kept)
-rising_kept b p kept above rest = grind arith
-
 -- what a filter keeps rises
 pub rising_filter : (f : ℕ → Bool) (sel : List ℕ) → AreRising sel → AreRising (filter f sel)
 rising_filter f [] h = h
-rising_filter f (p ∷ sel) h = rising_kept (f p) p (filter f sel) (λ q i. h.0 q (filtered_in f q sel i)) (rising_filter f sel h.1)
+rising_filter f (p ∷ sel) h = grind (arith, filtered_in, rising_filter f sel)
 
-above_start : (n a p : ℕ) → is_in p (range_with_len a n) ≡ true → a ≤ p
-above_start zero a p h = absurd (cc h)
-above_start (suc n) a p h =
-    elim (eqb_tells p a) [
-      | inl e ↦ let same : p ≡ a = e.1 in omega arith
-      | inr o ↦
-          let rest : is_in p (range_with_len (a + 1) n) ≡ true = sym (ap (λ b. b || is_in p (range_with_len (a + 1) n)) o.0) ∙ h in
-          let above : a + 1 ≤ p = above_start n (a + 1) p rest in
-          omega arith
-    ]
+-- a place of a range is within it
+within_range : (n a p : ℕ) → is_in p (range_with_len a n) ≡ true → (a ≤ p) × (p < a + n)
+within_range zero a p h = cc h
+within_range (suc n) a p h = grind (arith, eqb_tells, within_range n (a + 1) p)
 
 rising_from : (n a : ℕ) → AreRising (range_with_len a n)
 rising_from zero a = tt
-rising_from (suc n) a = (λ q i. let above : a + 1 ≤ q = above_start n (a + 1) q i in omega arith, rising_from n (a + 1))
+rising_from (suc n) a = (λ q i. omega (arith, (within_range n (a + 1) q i).0), rising_from n (a + 1))
 
 -- the first places of a block rise
 pub rising_range : (n : ℕ) (sel : List ℕ) → sel ≡ range_with_len 0 n → AreRising sel
@@ -37,12 +28,9 @@ rising_range n sel first = subst (λ (l : List ℕ). AreRising l) (sym first) (r
 pub short : (f : ℕ → Bool) (sel : List ℕ) → length (filter f sel) ≤ length sel
 short f sel = omega (arith, length-filter f sel, count_by-le-length f sel)
 
-kept_whole : (f : ℕ → Bool) (b : Bool) (p : ℕ) (sel : List ℕ) → (length (filter f sel) ≡ length sel → filter f sel ≡ sel) → length (cond b (p ∷ filter f sel) (filter f sel)) ≡ length (p ∷ sel) → cond b (p ∷ filter f sel) (filter f sel) ≡ p ∷ sel
-kept_whole f b p sel rest h = grind (arith, short)
-
 pub filter_whole : (f : ℕ → Bool) (sel : List ℕ) → length (filter f sel) ≡ length sel → filter f sel ≡ sel
 filter_whole f [] h = refl
-filter_whole f (p ∷ sel) h = kept_whole f (f p) p sel (filter_whole f sel) h
+filter_whole f (p ∷ sel) h = grind (arith, short, filter_whole f sel)
 
 -- where the test of the numbers passes, as many are left as there were
 pub dense_left : (f : ℕ → Bool) (n m : ℕ) (old new : List ℕ) → take n old ≡ range_with_len 0 n → n ≤ length old → m ≤ length new → take m new ≡ filter f (take n old) → nat_eq m n ≡ true → take m new ≡ range_with_len 0 m
@@ -60,13 +48,7 @@ is_in_at xs i d h = list_any_at (nat_eq (get_or xs i d)) xs i d h (eq-eqb (get_o
 
 -- a place that is in the list with one more is that one, or was in it
 pub in_more : (p q : ℕ) (xs : List ℕ) → is_in p (xs ++ q ∷ []) ≡ true → (p ≡ q) ⊎ ((p ≢ q) × (is_in p xs ≡ true))
-in_more p q xs h =
-    elim (eqb_tells p q) [
-      | inl e ↦ inl e.1
-      | inr n ↦
-          let here : is_in p (q ∷ []) ≡ false = ap (λ b. b || false) n.0 in
-          inr (n.1, sym (or_false (is_in p xs)) ∙ ap (λ b. is_in p xs || b) (sym here) ∙ sym (list_any-append (nat_eq p) xs (q ∷ [])) ∙ h)
-    ]
+in_more p q xs h = grind (arith, eqb_tells, list_any-append, or_false)
 
 -- a write at another place
 pub kept_at : (lane : List ℤ) (p q : ℕ) (z : ℤ) → p ≢ q → at_place (set lane q z) p ≡ at_place lane p
@@ -78,19 +60,11 @@ written_at lane q z inside = get_or-set_same lane q z (pos 0) inside
 module _ (f : ℕ → Outcome ℕ ℤ) (lane : List ℤ) (q : ℕ) (z : ℤ) (inside : q < length lane) (here : f q ≡ Gives z) where
   -- what the lane holds of a place stays, whatever else is written of what places come to
   pub value_kept : (p : ℕ) → f p ≡ Gives (at_place lane p) → f p ≡ Gives (at_place (set lane q z) p)
-  value_kept p h =
-      elim (eqb_tells p q) [
-        | inl e ↦ ap f e.1 ∙ here ∙ ap Gives (sym (written_at lane q z inside)) ∙ ap (λ n. Gives (at_place (set lane q z) n)) (sym e.1)
-        | inr n ↦ h ∙ ap Gives (sym (kept_at lane p q z n.1))
-      ]
+  value_kept p h = grind (arith, eqb_tells, written_at, kept_at)
 
   -- one more value
   pub values_more : (xs : List ℕ) → EachPlace xs (λ p. f p ≡ Gives (at_place lane p)) → EachPlace (xs ++ q ∷ []) (λ p. f p ≡ Gives (at_place (set lane q z) p))
-  values_more xs each p h =
-      elim (in_more p q xs h) [
-        | inl e ↦ subst (λ (n : ℕ). f n ≡ Gives (at_place (set lane q z) n)) (sym e) (here ∙ ap Gives (sym (written_at lane q z inside)))
-        | inr n ↦ value_kept p (each p n.1)
-      ]
+  values_more xs each p h = grind (arith, in_more, value_kept, written_at)
 
 -- ---- Selections of the first places of a block.
 
@@ -113,31 +87,13 @@ first_in_range n p h =
     let long : p < length (range_with_len 0 n) = omega (arith, length-range_with_len 0 n) in
     subst (λ (q : ℕ). is_in q (range_with_len 0 n) ≡ true) there (is_in_at (range_with_len 0 n) p 0 long)
 
-below_end : (n a p : ℕ) → is_in p (range_with_len a n) ≡ true → p < a + n
-below_end zero a p h = absurd (cc h)
-below_end (suc n) a p h =
-    elim (eqb_tells p a) [
-      | inl e ↦ let same : p ≡ a = e.1 in omega arith
-      | inr o ↦
-          let rest : is_in p (range_with_len (a + 1) n) ≡ true = sym (ap (λ b. b || is_in p (range_with_len (a + 1) n)) o.0) ∙ h in
-          let below : p < a + 1 + n = below_end n (a + 1) p rest in
-          omega arith
-    ]
-
 pub below_range : (n p : ℕ) → is_in p (range_with_len 0 n) ≡ true → p < n
-below_range n p h = let below : p < 0 + n = below_end n 0 p h in omega arith
+below_range n p h = omega (arith, (within_range n 0 p h).1)
 
 pub outside_range : (n p : ℕ) → is_in p (range_with_len 0 n) ≡ false → n ≤ p
 outside_range n p h = grind (arith, cases_lt, first_in_range)
 
 -- ---- places that are covered
-
--- what is written of the first places is written of those that are selected
-pub dense_values : (f : ℕ → Outcome ℕ ℤ) (n : ℕ) (sel : List ℕ) (after : List ℤ) → sel ≡ range_with_len 0 n → ((p : ℕ) → p < n → f p ≡ Gives (at_place after p)) → EachPlace sel (λ p. f p ≡ Gives (at_place after p))
-dense_values f n sel after dense values p h = values p (below_range n p (subst (λ (l : List ℕ). is_in p l ≡ true) dense h))
-
-pub dense_others : (n : ℕ) (sel : List ℕ) (before after : List ℤ) → sel ≡ range_with_len 0 n → ((p : ℕ) → n ≤ p → at_place after p ≡ at_place before p) → (p : ℕ) → is_in p sel ≡ false → at_place after p ≡ at_place before p
-dense_others n sel before after dense others p h = others p (outside_range n p (subst (λ (l : List ℕ). is_in p l ≡ false) dense h))
 
 -- no place stops
 pub covered : (f : ℕ → Outcome ℕ ℤ) (sel : List ℕ) (before after : List ℤ) (stops : List Stopped) → EachPlace sel (λ p. f p ≡ Gives (at_place after p)) → ((p : ℕ) → is_in p sel ≡ false → at_place after p ≡ at_place before p) → Evaluated f sel sel before after stops stops

@@ -1,7 +1,7 @@
 -- Evaluations one after the other, and the arguments of a call in lanes of their own.
 use Rattle.std.proofs.Common.{◌≡◌, ◌+◌, ℕ, ℤ, Bool, true, false, ◌&&◌, ◌||◌, List, [], ◌∷◌, ◌∙◌, refl, ap, sym, subst, cond, arith, nat_eq}
-use Rattle.lemmas.proofs.{and_false, and_left, and_true, eq-eqb, eqb_tells, filter, or_right}
-use Rattle.rdf_model.specs.{◌>>=◌, Faults, Gives, Needs, Outcome}
+use Rattle.lemmas.proofs.{and_left, eq-eqb, eqb_tells, filter, or_right}
+use Rattle.rdf_model.specs.{◌>>=◌, Gives, Outcome}
 use Rattle.expr_lanes.specs.{at_place, EachPlace, Evaluated, given_in, HasCome, is_given, is_in, Stopped, stops_in, times, with_stop}
 
 -- ---- places of lists
@@ -12,19 +12,10 @@ first_in p ps = ap (λ b. b || is_in p ps) (eq-eqb p p refl)
 pub rest_in : (q p : ℕ) (ps : List ℕ) → is_in q ps ≡ true → is_in q (p ∷ ps) ≡ true
 rest_in q p ps h = or_right (nat_eq q p) (is_in q ps) h
 
-or_and : (a b t : Bool) → ((a || b) && t) ≡ ((a && t) || (b && t))
-or_and a b t = grind arith
-
-in_if_kept : (t : Bool) (p q : ℕ) (rest : List ℕ) → is_in p (cond t (q ∷ rest) rest) ≡ ((nat_eq p q && t) || is_in p rest)
-in_if_kept t p q rest = grind (arith, and_true, and_false)
-
-same_test : (test : ℕ → Bool) (p q : ℕ) → (nat_eq p q && test q) ≡ (nat_eq p q && test p)
-same_test test p q = grind (arith, eqb_tells)
-
 -- a place is among what a filter keeps where it was there and passes the test
 pub in_filter : (test : ℕ → Bool) (p : ℕ) (xs : List ℕ) → is_in p (filter test xs) ≡ (is_in p xs && test p)
 in_filter test p [] = refl
-in_filter test p (q ∷ xs) = grind (arith, in_if_kept, same_test, or_and, in_filter test p xs)
+in_filter test p (q ∷ xs) = grind (arith, eqb_tells, in_filter test p xs)
 
 -- what a filter keeps was there
 pub filtered_in : (test : ℕ → Bool) (q : ℕ) (ps : List ℕ) → is_in q (filter test ps) ≡ true → is_in q ps ≡ true
@@ -46,34 +37,22 @@ module _ {A B : Type 0} (f : ℕ → Outcome ℕ A) (h : ℕ → Outcome ℕ B) 
   same_stops [] e = refl
   same_stops (p ∷ ps) e = e p (first_in p ps) (stops_in h ps) ∙ ap (λ l. with_stop p (f p) l) (same_stops ps (λ q i. e q (rest_in q p ps i)))
 
--- ---- an outcome that begins with another
-
--- where the first stops, the whole does
-abbrev pub Through : {A B : Type 0} → Outcome ℕ A → Outcome ℕ B → Type 0
-Through (Gives a) o = Unit {0}
-Through (Faults k) o = o ≡ Faults k
-Through (Needs c) o = o ≡ Needs c
+-- ---- an outcome that begins with another: where the first stops, the whole does
 
 pub times_with : {A : Type 0} (t : Stopped → Bool) (p : ℕ) (o : Outcome ℕ A) (xs : List Stopped) → times t (with_stop p o xs) ≡ times t (with_stop p o []) + times t xs
 times_with t p o xs = grind arith
 
-module _ {A B : Type 0} (g : ℕ → Outcome ℕ A) (f : ℕ → Outcome ℕ B) (through : (p : ℕ) → Through (g p) (f p)) where
-  given_step : (p : ℕ) (ps : List ℕ) (o : Outcome ℕ A) → Through o (f p) → given_in f (given_in g ps) ≡ given_in f ps
-      → given_in f (cond (is_given o) (p ∷ given_in g ps) (given_in g ps)) ≡ cond (is_given (f p)) (p ∷ given_in f ps) (given_in f ps)
-  given_step p ps o h e = grind arith
+module _ {A B : Type 0} (g : ℕ → Outcome ℕ A) (k : ℕ → A → Outcome ℕ B) where
+  abbrev whole : ℕ → Outcome ℕ B
+  whole p = g p >>= k p
 
-  pub given_through : (ps : List ℕ) → given_in f (given_in g ps) ≡ given_in f ps
+  given_through : (ps : List ℕ) → given_in whole (given_in g ps) ≡ given_in whole ps
   given_through [] = refl
-  given_through (p ∷ ps) = given_step p ps (g p) (through p) (given_through ps)
+  given_through (p ∷ ps) = grind (arith, given_through ps)
 
-  times_step : (t : Stopped → Bool) (p : ℕ) (ps : List ℕ) (o : Outcome ℕ A) → Through o (f p)
-      → times t (stops_in g ps) + times t (stops_in f (given_in g ps)) ≡ times t (stops_in f ps)
-      → times t (with_stop p o (stops_in g ps)) + times t (stops_in f (cond (is_given o) (p ∷ given_in g ps) (given_in g ps))) ≡ times t (with_stop p (f p) (stops_in f ps))
-  times_step t p ps o h e = grind (arith, times_with)
-
-  pub times_through : (t : Stopped → Bool) (ps : List ℕ) → times t (stops_in g ps) + times t (stops_in f (given_in g ps)) ≡ times t (stops_in f ps)
+  times_through : (t : Stopped → Bool) (ps : List ℕ) → times t (stops_in g ps) + times t (stops_in whole (given_in g ps)) ≡ times t (stops_in whole ps)
   times_through t [] = refl
-  times_through t (p ∷ ps) = times_step t p ps (g p) (through p) (times_through t ps)
+  times_through t (p ∷ ps) = grind (arith, times_with, times_through t ps)
 
 -- ---- evaluations
 
@@ -114,23 +93,15 @@ module _ {A : Type 0} (number : ℕ → A) where
 
 -- ---- one after the other
 
-through_bind : {A B : Type 0} (o : Outcome ℕ A) (k : A → Outcome ℕ B) → Through o (o >>= k)
-through_bind o k = grind arith
-
 module _ {A : Type 0} (g : ℕ → Outcome ℕ A) (sel left last : List ℕ) (x : ℕ → A) (s0 s1 s2 : List Stopped) (first : HasCome g sel left x s0 s1) where
   -- with the places that the first left, and what it came to there, the second goes on
   pub come_on : {B : Type 0} (k : ℕ → A → Outcome ℕ B) (number : ℕ → B) → HasCome (λ p. k p (x p)) left last number s1 s2 → HasCome (λ p. g p >>= k p) sel last number s0 s2
   come_on k number second =
-      let whole = λ (p : ℕ). g p >>= k p in
-      let through = λ (p : ℕ). through_bind (g p) (k p) in
-      let on : HasCome whole left last number s1 s2 = come_alike whole (λ p. k p (x p)) left last number s1 s2 (λ p h. ap (λ o. o >>= k p) (sym (first.values p h))) second in
+      let on : HasCome (whole g k) left last number s1 s2 = come_alike (whole g k) (λ p. k p (x p)) left last number s1 s2 (λ p h. ap (λ o. o >>= k p) (sym (first.values p h))) second in
       record {
-        left_in = on.left_in ∙ ap (given_in whole) first.left_in ∙ given_through g whole through sel;
+        left_in = on.left_in ∙ ap (given_in (whole g k)) first.left_in ∙ given_through g k sel;
         values = on.values;
-        joined = λ t. let one : times t s1 ≡ times t s0 + times t (stops_in g sel) = first.joined t in
-            let two : times t s2 ≡ times t s1 + times t (stops_in whole left) = on.joined t in
-            let there : times t (stops_in whole left) ≡ times t (stops_in whole (given_in g sel)) = ap (λ l. times t (stops_in whole l)) first.left_in in
-            omega (arith, times_through g whole through t sel);
+        joined = λ t. let there = ap (λ l. times t (stops_in (whole g k) l)) first.left_in in omega (arith, first.joined t, on.joined t, there, times_through g k t sel);
       }
 
   -- the same where the first may have written to the lane too

@@ -1,9 +1,8 @@
 -- One more place, as a loop over a selection meets it, and loops that part one.
-use Rattle.std.proofs.Common.{◌≡◌, ◌≢◌, ◌<◌, ◌≤◌, ◌+◌, ℕ, ℤ, Bool, true, false, not, List, [], ◌∷◌, ◌++◌, length, get_or, take, drop, set, ◌∙◌, refl, ap, sym, subst, append_assoc, add-zero, arith, Result, Err, ◌||◌, cond, if◌then◌else◌, inl, inr, get_or-set_same, get_or-set_other, nat_eq}
+use Rattle.std.proofs.Common.{◌≡◌, ◌≢◌, ◌<◌, ◌≤◌, ◌+◌, ℕ, ℤ, Bool, true, false, not, List, [], ◌∷◌, ◌++◌, length, get_or, take, drop, set, ◌∙◌, refl, ap, sym, subst, append_assoc, add-zero, arith, Result, Err, ◌||◌, cond, if◌then◌else◌, get_or-set_same, get_or-set_other, nat_eq}
 use Rattle.lemmas.proofs.{append-nil, FiltersInPlace, FiltersInPlace-more_no, FiltersInPlace-more_set, get_or-drop, get_or-take, length-append, length-take-le, take_more, take_more_set, eqb_tells, filter, list_any_more}
-use Rattle.rdf_model.specs.{Faults, Gives, Needs, Outcome}
+use Rattle.rdf_model.specs.{Gives, Outcome}
 use Rattle.expr_eval.specs.{ScalarStop}
-use Rattle.expr_eval.specs.declared.stop.ScalarStop.TheVariants.{Fault, Need}
 use Rattle.expr_lanes.specs.{answered_at, at_place, EachPlace, Evaluated, given_in, is_given, is_in, Stopped, stopped, stops_in, times, with_stop, is_marked}
 use Rattle.expr_lanes.proofs.Selected.{is_in_at, values_more, kept_at}
 use Rattle.expr_lanes.proofs.Sequence.{first_in, rest_in}
@@ -15,26 +14,25 @@ at_rest ys xs i d e =
     let b : get_or (drop i xs) 0 d ≡ get_or xs i d = rw add-zero at (get_or-drop i xs 0 d) in
     sym a ∙ ap (λ l. get_or l 0 d) e ∙ b
 
+pub stops_push : {A : Type 0} (f : ℕ → Outcome ℕ A) (xs : List ℕ) (p : ℕ) → stops_in f (xs ++ p ∷ []) ≡ stops_in f xs ++ with_stop p (f p) []
+stops_push f [] p = refl
+stops_push f (x ∷ xs) p = grind (arith, stops_push f xs p)
+
 module _ (f : ℕ → Outcome ℕ ℤ) where
-  with_push : (o : Outcome ℕ ℤ) (x : ℕ) (whole one two : List Stopped) → whole ≡ one ++ two → with_stop x o whole ≡ with_stop x o one ++ two
-  with_push o x whole one two e = grind arith
-
-  stops_push : (xs : List ℕ) (p : ℕ) → stops_in f (xs ++ p ∷ []) ≡ stops_in f xs ++ with_stop p (f p) []
-  stops_push [] p = refl
-  stops_push (x ∷ xs) p = with_push (f x) x (stops_in f (xs ++ p ∷ [])) (stops_in f xs) (with_stop p (f p) []) (stops_push xs p)
-
   -- a place that comes to a value is no stop
   pub stops_given : (xs : List ℕ) (i q : ℕ) (z : ℤ) → i < length xs → q ≡ get_or xs i q → f q ≡ Gives z → stops_in f (take (i + 1) xs) ≡ stops_in f (take i xs)
   stops_given xs i q z inside read here =
-      ap (stops_in f) (take_more xs i q inside ∙ ap (λ n. take i xs ++ n ∷ []) (sym read)) ∙ stops_push (take i xs) q ∙ ap (λ o. stops_in f (take i xs) ++ with_stop q o []) here ∙ append-nil (stops_in f (take i xs))
+      ap (stops_in f) (take_more xs i q inside ∙ ap (λ n. take i xs ++ n ∷ []) (sym read)) ∙ stops_push f (take i xs) q ∙ ap (λ o. stops_in f (take i xs) ++ with_stop q o []) here ∙ append-nil (stops_in f (take i xs))
 
   -- any other is
   pub stops_more : (xs : List ℕ) (i q : ℕ) (s : ScalarStop) → i < length xs → q ≡ get_or xs i q → (let r : Result ℤ ScalarStop = Err s in answered_at r ≡ f q)
       → stops_in f (take (i + 1) xs) ≡ stops_in f (take i xs) ++ stopped q s ∷ []
-  stops_more xs i q (Fault k) inside read here =
-      ap (stops_in f) (take_more xs i q inside ∙ ap (λ n. take i xs ++ n ∷ []) (sym read)) ∙ stops_push (take i xs) q ∙ ap (λ o. stops_in f (take i xs) ++ with_stop q o []) (sym here)
-  stops_more xs i q (Need c) inside read here =
-      ap (stops_in f) (take_more xs i q inside ∙ ap (λ n. take i xs ++ n ∷ []) (sym read)) ∙ stops_push (take i xs) q ∙ ap (λ o. stops_in f (take i xs) ++ with_stop q o []) (sym here)
+  stops_more xs i q s inside read here =
+      ap (stops_in f) (take_more xs i q inside ∙ ap (λ n. take i xs ++ n ∷ []) (sym read))
+      ∙ stops_push f (take i xs) q ∙ ap (λ l. stops_in f (take i xs) ++ l) (stop_told s here)
+    where
+      stop_told : (s : ScalarStop) → (let r : Result ℤ ScalarStop = Err s in answered_at r ≡ f q) → with_stop q (f q) [] ≡ stopped q s ∷ []
+      stop_told s e = grind arith
 
 -- a place that is reached among the first of the selection is one of them
 pub read_in : (xs ys : List ℕ) (count i d : ℕ) → drop i ys ≡ drop i xs → i < count → count ≤ length xs → is_in (get_or ys i d) (take count xs) ≡ true
@@ -94,10 +92,9 @@ module _
     }
       where
         is_stop : (s : ScalarStop) → (let r : Result ℤ ScalarStop = Err s in answered_at r ≡ f q) → is_given (f q) ≡ false
-        is_stop (Fault k) e = ap is_given (sym e)
-        is_stop (Need c) e = ap is_given (sym e)
+        is_stop s e = grind arith
 
-times_append : (t : Stopped → Bool) (xs ys : List Stopped) → times t (xs ++ ys) ≡ times t xs + times t ys
+pub times_append : (t : Stopped → Bool) (xs ys : List Stopped) → times t (xs ++ ys) ≡ times t xs + times t ys
 times_append t [] ys = omega arith
 times_append t (x ∷ xs) ys = omega (arith, times_append t xs ys)
 
@@ -126,11 +123,7 @@ mark_more xs i q mark before marks so_far inside read room p =
     written p ∙ sym (marked_by (is_in p (take i xs)) (nat_eq p q) mark (is_marked before p)) ∙ ap (λ b. if b then mark else is_marked before p) (sym (list_any_more (nat_eq p) xs i 0 inside ∙ ap (λ n. is_in p (take i xs) || nat_eq p n) (sym read)))
   where
     written : (p : ℕ) → is_marked (set marks q mark) p ≡ (if nat_eq p q then mark else (if is_in p (take i xs) then mark else is_marked before p))
-    written p =
-        elim (eqb_tells p q) [
-          | inl e ↦ ap (λ n. is_marked (set marks q mark) n) e.1 ∙ get_or-set_same marks q mark false room ∙ ap (λ b. if b then mark else (if is_in p (take i xs) then mark else is_marked before p)) (sym e.0)
-          | inr n ↦ get_or-set_other marks q p mark false n.1 ∙ so_far p ∙ ap (λ b. if b then mark else (if is_in p (take i xs) then mark else is_marked before p)) (sym n.0)
-        ]
+    written p = grind (arith, eqb_tells, get_or-set_same, get_or-set_other, so_far p)
 
 -- ---- coming together
 

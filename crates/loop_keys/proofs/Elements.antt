@@ -1,9 +1,12 @@
 -- What stands in a list, and tests and facts of its elements; and from what an answer comes.
-use Rattle.std.proofs.Common.{◌≡◌, ℕ, zero, suc, Bool, true, ◌||◌, List, [], ◌∷◌, map, Option, Some, option_map, refl, sym, ◌∙◌, subst, ap, slice_get, unwrap_or, ◌+◌, ◌<◌, ◌++◌, length, arith, get_or, flat_map}
-use Rattle.lemmas.proofs.{AllByRecursion, length_push, list_any, or_right, slice_get-get_or, slice_get-map}
+use Rattle.std.proofs.Common.{◌≡◌, ℕ, zero, suc, Bool, true, ◌||◌, List, [], ◌∷◌, map, Option, Some, option_map, refl, sym, ◌∙◌, subst, ap, slice_get, unwrap_or, ◌+◌, ◌<◌, ◌++◌, length, arith, get_or, flat_map, All}
+use Rattle.lemmas.proofs.{All-from_recursion, AllByRecursion, length_push, list_any, or_right, slice_get-get_or, slice_get-map}
+use Rattle.rdf_values.specs.{ColType, columns_in, EachColumn}
+use Rattle.expr_check.specs.{CheckedExpr, distinct}
+use Rattle.expr_check.proofs.Distinct.{each_distinct}
 use Rattle.graph_numbers.proofs.Walks.{by_test, joined, only_at}
 use Rattle.loop_keys.specs.{AreEach}
-use Rattle.graph_numbers.proofs.Meeting.{In, here, there, in_left, in_right}
+use Rattle.graph_numbers.proofs.Meeting.{In, here, there, in_left, in_right, each_at}
 
 pub any_in : {A : Type 0} (test : A → Bool) (xs : List A) → list_any test xs ≡ true → (x : A) × In x xs × (test x ≡ true)
 any_in test [] h = cc h
@@ -20,6 +23,16 @@ each_in P (x ∷ xs) h = (h x here, each_in P xs (λ y k. h y (there k)))
 pub at_in : {A : Type 0} (P : A → Type 0) (x : A) (xs : List A) → AllByRecursion P xs → In x xs → P x
 at_in P x xs h (here {xs = ys}) = h.0
 at_in P x xs h (there {xs = ys} k) = at_in P x ys h.1 k
+
+each_first : (P : ℕ → Type 0) (ks : List (ℕ × ColType)) → AllByRecursion P (map (λ (c : ℕ × ColType). c.0) ks) → AllByRecursion (λ (c : ℕ × ColType). P c.0) ks
+each_first P [] h = tt
+each_first P (c ∷ ks) h = (h.0, each_first P ks h.1)
+
+-- what holds of each column of an expression holds of each whose kind it lists
+pub each_kind : (P : ℕ → Type 0) (e : CheckedExpr) → map (λ (c : ℕ × ColType). c.0) e.kinds ≡ distinct (columns_in e.tree) → EachColumn P e.tree → All (λ (c : ℕ × ColType). P c.0) e.kinds
+each_kind P e are h =
+    All-from_recursion (λ (c : ℕ × ColType). P c.0) e.kinds
+    (each_first P e.kinds (subst (AllByRecursion P) (sym are) (each_distinct P (columns_in e.tree) (each_in P (columns_in e.tree) (each_at P e.tree h)))))
 
 pub in_flat : {A B : Type 0} (f : A → List B) (xs : List A) (n : ℕ) (x : A) (y : B) → slice_get xs n ≡ Some x → In y (f x) → In y (flat_map f xs)
 in_flat f [] n x y h k = cc h

@@ -1,5 +1,5 @@
 -- One evaluation of a site over what is held: its outcome, or a version that it meets and of whose site nothing is held.
-use Rattle.std.proofs.Common.{◌≡◌, ◌≢◌, ◌⊎◌, inl, inr, ℕ, ◌<◌, Bool, true, false, List, length, Option, Some, None, refl, sym, ◌∙◌, ap, subst, arith, nat_eq, slice_get, if◌then◌else◌}
+use Rattle.std.proofs.Common.{◌≡◌, ◌≢◌, ◌⊎◌, inl, inr, ℕ, ◌<◌, Bool, true, false, List, [], length, Option, Some, None, refl, sym, ◌∙◌, ap, subst, arith, nat_eq, slice_get, if◌then◌else◌}
 use Rattle.lemmas.proofs.{Decides-eqb, slice_get_within}
 use Rattle.rdf_values.specs.{AreAccepted, EachColumn, fn_names, history, scope_of, Value}
 use Rattle.rdf_model.specs.{◌>>=◌, call_outcome, evaluate, is_need, Needs, Outcome, tag_element, with_needs, without}
@@ -19,7 +19,7 @@ pub known_never : (o : Outcome ⊥ Value) → is_need (with_needs {M = ℕ} o) �
 known_never o e = grind arith
 
 -- nothing is missing of a site
-site_known : (j : JobView) (entry : ℕ) (u : Option ℕ) (t : ℕ) → site_in {M = ℕ} j entry u t ≡ with_needs (site_in j entry u t)
+pub site_known : (j : JobView) (entry : ℕ) (u : Option ℕ) (t : ℕ) → site_in {M = ℕ} j entry u t ≡ with_needs (site_in j entry u t)
 site_known j entry u t = go (slice_get (graph_sites (job_graph j)) t)
   where
     go : (o : Option SiteAt) → site_value {M = ℕ} (λ x. site_outcome j.dataset.fns j.dataset.columns (row_of j entry) x (graph_under (job_graph j) u)) o
@@ -119,3 +119,25 @@ module _ (j : JobView) (job : IsJob j) (entry : ℕ) (u : Option ℕ) (cells : L
       go : (o p : Outcome ℕ Value) → Needs c ≡ o → evaluations.Close (λ d. d ≢ c) o p → is_need p ≡ true
       go o p q evaluations.same = ap is_need (sym q)
       go o p q (evaluations.missing {d = d} n) = absurd (n (ap (number_in c) (sym q)))
+
+-- ---- where nothing is held
+
+pub none_held : (j : JobView) (entry : ℕ) → IsSound j entry []
+none_held j entry = record { each = λ w s lt. tt }
+
+-- what holds of each column of an expression holds of each that its evaluation meets
+pub met_each : (j : JobView) (job : IsJob j) (entry : ℕ) (u : Option ℕ) (s c : ℕ) (P : ℕ → Type 0) (met : MeetsAt j entry u s c) → EachColumn P met.0.tree → P c
+met_each j job entry u s c P met each =
+    go _ _ (evaluations.evaluate_close N (without nat_eq c (version_in j entry u)) (version_in j entry u) (call_outcome j.dataset.fns) met.0.tree
+    (each_weaker P _ (λ d v. alone d v (nat_eq c d) refl) met.0.tree each)) met.2 (whole j job entry u [] (none_held j entry) s met.0 met.1)
+  where
+    N : ℕ → Type 0
+    N m = P c
+
+    alone : (d : ℕ) → P d → (b : Bool) → nat_eq c d ≡ b → evaluations.Close {M = ℕ} {A = Value} N (if b then Needs c else version_in {M = ℕ} j entry u d) (version_in {M = ℕ} j entry u d)
+    alone d v true e = evaluations.missing (subst P (sym ((Decides-eqb c d).0 e)) v)
+    alone d v false e = evaluations.same
+
+    go : (o p : Outcome ℕ Value) → evaluations.Close N o p → is_need o ≡ true → p ≡ with_needs (site_in j entry u s) → P c
+    go o p evaluations.same m w = absurd (known_never (site_in j entry u s) (ap is_need (sym w) ∙ m))
+    go o p (evaluations.missing {d = d} n) m w = n

@@ -1,18 +1,16 @@
 -- Sites without vectors, and the plan of a loop over them.
-use Rattle.std.proofs.Common.{◌≡◌, ℕ, Bool, true, false, ◌&&◌, not, List, [], ◌∷◌, Option, Some, refl, sym, ◌∙◌, ap, subst, nat_eq, slice_get, if◌then◌else◌, ◌+◌, ◌<◌, ◌≤◌, ◌||◌, length, take, option_map, arith, get_or}
-use Rattle.lemmas.proofs.{AllByRecursion, both_true, Decides-eqb, recursion_from_All, list_any, list_any_at, list_any_more, slice_get-get_or, take_all}
-use Rattle.rdf_values.specs.{Bin, Call, Callee, Col, ColType, Cond, EachArgument, EachColumn, End, Lit, More, Neg, Not, NumTree, Pick, Trees, Value}
+use Rattle.std.proofs.Common.{◌≡◌, ℕ, Bool, true, false, ◌&&◌, not, List, [], ◌∷◌, Option, Some, refl, sym, ◌∙◌, ap, subst, nat_eq, slice_get, ◌+◌, ◌<◌, ◌≤◌, ◌||◌, length, take, option_map, arith, get_or}
+use Rattle.lemmas.proofs.{AllByRecursion, both_true, recursion_from_All, list_any, list_any_at, list_any_more, slice_get-get_or, take_all}
+use Rattle.rdf_values.specs.{Bin, Call, Callee, Col, ColType, Cond, EachArgument, EachColumn, End, Lit, More, Neg, Not, NumTree, Pick, Trees}
 use Rattle.rdf_values.specs.expressions.Expressions.{Truth}
-use Rattle.rdf_model.specs.{call_outcome, evaluate, is_need, Needs, Outcome, with_needs, without}
 use Rattle.expr_check.specs.{all_are_plain, CheckedExpr, gives_vector, is_plain, number_kind, takes_no_vector}
 use Rattle.graph_numbers.specs.{graph_kinds, graph_sites, IsSiteExpr, SiteAt, graph_results, GraphView, Pass as NumberedPass, ResultAt}
 use Rattle.graph_numbers.proofs.Walks.{by_test}
 use Rattle.rdf_model.proofs.KnownColumns.{each_weaker}
-use Rattle.loop_keys.specs.{ArePlain, is_vector_at, IsClosed, IsJob, IsPlainVersion, IsSound, IsSourceIn, job_graph, JobView, site_in, source_at, version_in, covers_of, is_covering, numbered_passes}
+use Rattle.loop_keys.specs.{ArePlain, is_vector_at, IsClosed, IsJob, IsPlainVersion, IsSourceIn, job_graph, JobView, source_at, covers_of, is_covering, numbered_passes}
 use Rattle.loop_keys.proofs.Elements.{of_option}
-use Rattle.loop_keys.proofs.EvaluateLaws.{known_never, whole}
+use Rattle.loop_keys.proofs.EvaluateLaws.{met_each}
 use Rattle.loop_keys.proofs.PassNumbers.{result_inside}
-use Rattle.rdf_model.proofs.Evaluations as evaluations
 
 -- the kinds of versions, as an expression lists them
 not_vector : (all : List ColType) (ks : List (ℕ × ColType)) (c : ℕ) → AllByRecursion (λ (k : ℕ × ColType). slice_get all k.0 ≡ Some k.1) ks → is_vector_at all c ≡ false → gives_vector (number_kind ks c) ≡ false
@@ -54,26 +52,8 @@ plain_expr j used s e plain u its =
 -- ---- what a plain site meets
 
 module _ (j : JobView) (job : IsJob j) (entry : ℕ) (u : Option ℕ) (used : ℕ → Bool) (plain : ArePlain j used) where
-  none_held : IsSound j entry []
-  none_held = record { each = λ w s lt. tt }
-
-  met_source : (s c : ℕ) (x : SiteAt) → slice_get (graph_sites (job_graph j)) s ≡ Some x → used s ≡ true
-      → is_need (evaluate (without nat_eq c (version_in {M = ℕ} j entry u)) (call_outcome j.dataset.fns) x.tree) ≡ true → IsSourceIn used (source_at j u c)
-  met_source s c x its us met = go _ _ (evaluations.evaluate_close N (without nat_eq c (version_in j entry u)) (version_in j entry u) (call_outcome j.dataset.fns) x.tree
-      (each_weaker (IsPlainVersion (job_graph j) used) _ (λ d v. alone d v (nat_eq c d) refl) x.tree (plain s x us its).columns)) met (whole j job entry u [] none_held s x its)
-    where
-      N : ℕ → Type 0
-      N m = IsSourceIn used (source_at j u c)
-
-      alone : (d : ℕ) → IsPlainVersion (job_graph j) used d → (b : Bool) → nat_eq c d ≡ b → evaluations.Close {M = ℕ} {A = Value} N (if b then Needs c else version_in {M = ℕ} j entry u d) (version_in {M = ℕ} j entry u d)
-      alone d v true e = evaluations.missing (subst (λ (n : ℕ). IsSourceIn used (source_at j u n)) (sym ((Decides-eqb c d).0 e)) (v.1 u))
-      alone d v false e = evaluations.same
-
-      go : (o p : Outcome ℕ Value) → evaluations.Close N o p → is_need o ≡ true → p ≡ with_needs (site_in j entry u s) → IsSourceIn used (source_at j u c)
-      go o p h m w = grind (arith, known_never)
-
   pub plain_closed : IsClosed j entry u used
-  plain_closed = record { each = λ s c us m. met_source s c m.0 m.1 us m.2 }
+  plain_closed = record { each = λ s c us m. met_each j job entry u s c (λ d. IsSourceIn used (source_at j u d)) m (each_weaker _ _ (λ d v. v.1 u) m.0.tree (plain s m.0 us m.1).columns) }
 
 -- ---- The plan of a loop, as it is made and read.
 

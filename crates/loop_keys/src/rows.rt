@@ -27,10 +27,7 @@ pub struct Row {
 fn key_of(keys: &[usize], count: usize, site: u32) -> usize
     ensures { result ≡ key_or_count keys.now count site }
 {
-    match keys.get(site as usize) {
-        Some(key) => *key,
-        None => count,
-    }
+    keys.get(site as usize).copied().unwrap_or(count)
 }
 
 /// Where a version stands that this source gives its value.
@@ -51,17 +48,14 @@ fn place_of(keys: &[usize], count: usize, source: Source) -> Place
 }
 
 /// The place of nominal or a variation among the keys of a site: that of nominal where the site doesn't depend on the variation.
+#[tactic(auto, using(graph::proofs::Bits::none_above))]
 fn slot(depends: VarSet, under: Option<u32>) -> usize
     ensures value { result ≡ slot_in depends under }
     ensures bound { result ≤ 128 }
 {
-    let Some(v) = under else {
-        return 0;
-    };
-    if v < 128 && depends.contains(v) {
-        1 + depends.count_below(v) as usize
-    } else {
-        0
+    match under {
+        Some(v) if v < 128 && depends.contains(v) => 1 + depends.count_below(v) as usize,
+        _ => 0,
     }
 }
 

@@ -12,10 +12,4 @@ returns-in-Err c =
     pairs_stop c.args.xs.now c.args.ys.now c.loop-i.i (pos 0) (pos 0) (omega arith) c.requires (λ p. number_operation c.args.op p.0 p.1) c.loop-i.results.items c.loop-i.invariant _ e
 
 pub loop-i-preserved : goal.loop-i-preserved
-loop-i-preserved c =
-    let fits : FitsSigned w64 (get_or c.args.xs.now c.loop-i.i (pos 0)) = search rules in
-    let fits_too : FitsSigned w64 (get_or c.args.ys.now c.loop-i.i (pos 0)) = search rules in
-    let fits_three : FitsSigned w64 c.in-Ok.z = search rules in
-    let e = simp to_z-of_z at c.in-Ok.ensures in
-    let p = simp to_z-of_z at c.in_ok-push-in-Ok.ensures.items in
-    rw p (pairs_go_on c.args.xs.now c.args.ys.now c.loop-i.i (pos 0) (pos 0) (omega arith) c.requires (λ p. number_operation c.args.op p.0 p.1) c.loop-i.results.items c.loop-i.invariant _ e)
+loop-i-preserved = grind (arith, to_z-of_z, pairs_go_on)

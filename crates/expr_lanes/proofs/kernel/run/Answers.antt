@@ -1,4 +1,4 @@
-use Rattle.std.proofs.Common.{◌≡◌, take, arith}
+use Rattle.std.proofs.Common.{arith}
 use Rattle.expr_lanes.proofs.Selected.{covered, sifted_anew, rising_left}
 use Rattle.expr_lanes.proofs.kernel.run.Goals as goal
 

@@ -1,7 +1,7 @@
-use Rattle.std.proofs.Common.{rules, arith, ◌≡◌, ◌<◌, ◌∙◌, [], ap, refl, sym, length, None}
+use Rattle.std.proofs.Common.{rules, arith, ◌≡◌, ◌<◌, ◌∙◌, [], refl, sym, None}
 use Rattle.rdf_values.specs.{Bin, num_tree, num_trees}
 use Rattle.expr_lanes.specs.declared.TheConstants.{MAX_PLACES}
-use Rattle.expr_lanes.specs.{depth, fold_read, IsAble, IsReady, IsSelected, lane_call, with_zero}
+use Rattle.expr_lanes.specs.{fold_read, IsReady, IsSelected, lane_call, with_zero}
 use Rattle.expr_lanes.proofs.Sequence.{gathered_more, come_from, come_told, go_on}
 use Rattle.expr_lanes.proofs.Composed.{choice, idle, able_sides, at_hand, called, has_at_hand, operated, same_depth, with_sides, rest_left, whole}
 use Rattle.expr_lanes.proofs.Selected.{selected_next, selected_part, selected_other}

@@ -1,5 +1,4 @@
-use Rattle.std.proofs.Common.{◌≡◌, arith, take, subst, ℕ}
-use Rattle.std.specs.List.{range_with_len}
+use Rattle.std.proofs.Common.{arith}
 use Rattle.expr_lanes.proofs.Selected.{number_more}
 use Rattle.expr_lanes.proofs.selection.number_places.Goals as goal
 
