@@ -15,10 +15,7 @@ use Rattle.rdf_values.specs.scripts.Statements as st
 use Rattle.rdf_values.specs.scripts.LineTokens as t
 
 not_refused_at_end : (w : Wanted) (stack : List OpenMark) (p : ℕ) → ending (w, stack) ≡ Refused p → ⊥
-not_refused_at_end Operator [] p e = cc e
-not_refused_at_end AfterName [] p e = cc e
-not_refused_at_end Nothing [] p e = cc e
-not_refused_at_end w stack p e = cc e
+not_refused_at_end w stack p e = grind arith
 
 goes_below : (o : Option ScanState) (t : Placed) (ts : List Placed) (p end : ℕ) → t.place ≤ end → ((s : ScanState) → scan s ts ≡ Refused p → p ≤ end)
     → continued o t.place (λ s. scan s ts) ≡ Refused p → p ≤ end

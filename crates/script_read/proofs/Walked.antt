@@ -91,8 +91,7 @@ not_free t x e f = rw (e, sym f) refl
 
 instead_on : (b : Bool) (p : PlacedToken) (ps : List PlacedToken) (ws k : List Want)
     → walk_on (p ∷ ps) (if b then Some ws else None) (λ vs. walk (λ (q : PlacedToken). q.token) ps (vs ++ k)) ≡ walk_on (p ∷ ps) (if b then Some [] else None) (λ vs. walk (λ (q : PlacedToken). q.token) ps (vs ++ (ws ++ k)))
-instead_on true p ps ws k = refl
-instead_on false p ps ws k = refl
+instead_on b p ps ws k = grind arith
 
 instead : (w : Want) (m : Mark) (ws : List Want) (old : List PlacedToken) (k : List Want) → ((t : LineToken) (new : List PlacedToken) → Begins t old new → next w t ≡ (if is_mark m t then Some ws else None))
     → walk_placed old (w ∷ k) ≡ walk_placed old (AMark m ∷ (ws ++ k))
