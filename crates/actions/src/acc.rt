@@ -52,12 +52,11 @@ impl Acc {
         ensures made { IfOk result (λ acc. acc ≡ record { kind = kind.now; entries = 0; last = 0; filled = fold_items kind.now []; kept = kept_of kind.now [] }) }
         ensures fed { IfOk result (λ acc. HasFed acc []) }
     {
-        let state = State::new(alloc, kind)?;
         Ok(Acc {
             alloc,
             entries: 0,
             last: 0,
-            state,
+            state: State::new(alloc, kind)?,
         })
     }
 
@@ -101,14 +100,10 @@ impl Acc {
         ensures last { OnOk result (self.new.last ≡ cluster) }
         ensures fed { (fed : List Fed) → HasFed self.old fed → OnOk result (HasFed self.new (fed ++ from_cluster cluster (batch_items self.old.kind batch.now))) }
     {
-        match self.state.feed_batch(self.alloc, cluster, batch) {
-            Ok(()) => {
-                self.entries += batch.places.len();
-                self.last = cluster;
-                Ok(())
-            }
-            Err(Memory) => Err(Memory),
-        }
+        self.state.feed_batch(self.alloc, cluster, batch)?;
+        self.entries += batch.places.len();
+        self.last = cluster;
+        Ok(())
     }
 
     /// Takes in all that was fed to another accumulator of the same action; after `Memory` nothing has changed.
@@ -122,14 +117,10 @@ impl Acc {
         ensures last { OnOk result (self.new.last ≡ max self.old.last other.now.last) }
         ensures fed { (fed more : List Fed) → HasFed self.old fed → HasFed other.now more → OnOk result (HasFed self.new (fed ++ more)) }
     {
-        match self.state.merge(self.alloc, &other.state) {
-            Ok(()) => {
-                self.entries += other.entries;
-                self.last = self.last.max(other.last);
-                Ok(())
-            }
-            Err(Memory) => Err(Memory),
-        }
+        self.state.merge(self.alloc, &other.state)?;
+        self.entries += other.entries;
+        self.last = self.last.max(other.last);
+        Ok(())
     }
 
     /// What was made of the items so far.

@@ -134,13 +134,7 @@ impl<'a> Items<'a> {
         match self {
             Items::Entry | Items::One { .. } => None,
             Items::Weighted { x, w } => fault_of(x.is_as_long_as(w), w),
-            Items::Pair { x, y } => {
-                if x.is_as_long_as(y) {
-                    None
-                } else {
-                    Some(EntryFault::Lengths)
-                }
-            }
+            Items::Pair { x, y } => (!x.is_as_long_as(y)).then_some(EntryFault::Lengths),
             Items::WeightedPair { x, y, w } => {
                 fault_of(x.is_as_long_as(y) && x.is_as_long_as(w), w)
             }
@@ -155,9 +149,5 @@ fn fault_of(one_length: bool, weight: &Part<'_>) -> Option<EntryFault>
     if !one_length {
         return Some(EntryFault::Lengths);
     }
-    if weight.is_weight() {
-        None
-    } else {
-        Some(EntryFault::Weight)
-    }
+    (!weight.is_weight()).then_some(EntryFault::Weight)
 }

@@ -143,39 +143,21 @@ impl State {
         ensures fed { (fed : List Fed) → All (λ f. f.cluster ≤ cluster) fed → Holds self.old fed → OnOk result (Holds self.new (fed ++ from_cluster cluster (spread (kind_of self.old) (values_of items.now)))) }
     {
         match self {
-            State::Count(entries) => {
-                *entries += 1;
-                Ok(())
-            }
-            State::Sum { sum, .. } => {
-                sum.take_in(items.first());
-                Ok(())
-            }
-            State::Min { least, .. } => {
-                least.take_in(items.first());
-                Ok(())
-            }
-            State::Max { greatest, .. } => {
-                greatest.take_in(items.first());
-                Ok(())
-            }
+            State::Count(entries) => *entries += 1,
+            State::Sum { sum, .. } => sum.take_in(items.first()),
+            State::Min { least, .. } => least.take_in(items.first()),
+            State::Max { greatest, .. } => greatest.take_in(items.first()),
             State::Take { values, .. } => match items.scalar() {
-                Some(value) => values.push(TakenValue { cluster, value }),
-                None => Ok(()),
+                Some(value) => return values.push(TakenValue { cluster, value }),
+                None => unreachable!(),
             },
-            State::Reduce { reduction, .. } => {
-                reduction.take_in(items.first());
-                Ok(())
-            }
-            State::Histo1D { hist, .. } => {
-                fill_points(hist, items.first(), &items.weight());
-                Ok(())
-            }
+            State::Reduce { reduction, .. } => reduction.take_in(items.first()),
+            State::Histo1D { hist, .. } => fill_points(hist, items.first(), &items.weight()),
             State::Histo2D { hist, .. } => {
                 fill_pairs(hist, items.first(), items.second(), &items.weight());
-                Ok(())
             }
         }
+        Ok(())
     }
 
     /// Takes in what each of the places of a block feeds, one after another; not for a Take.
@@ -269,37 +251,22 @@ impl State {
         ensures fed { (fed : List Fed) → All (λ f. f.cluster ≤ cluster) fed → Holds self.old fed → OnOk result (Holds self.new (fed ++ from_cluster cluster (batch_items (kind_of self.old) batch.now))) }
     {
         match self {
-            State::Count(entries) => {
-                *entries += batch.places.len() as u64;
-                Ok(())
-            }
-            State::Sum { sum, .. } => {
-                fold_batch(sum, batch);
-                Ok(())
-            }
-            State::Min { least, .. } => {
-                fold_batch(least, batch);
-                Ok(())
-            }
-            State::Max { greatest, .. } => {
-                fold_batch(greatest, batch);
-                Ok(())
-            }
+            State::Count(entries) => *entries += batch.places.len() as u64,
+            State::Sum { sum, .. } => fold_batch(sum, batch),
+            State::Min { least, .. } => fold_batch(least, batch),
+            State::Max { greatest, .. } => fold_batch(greatest, batch),
             State::Take { values, .. } => {
                 let mut more = gathered(alloc, cluster, batch)?;
-                values.append(&mut more)
+                return values.append(&mut more);
             }
-            State::Reduce { reduction, .. } => {
-                fold_batch(reduction, batch);
-                Ok(())
-            }
+            State::Reduce { reduction, .. } => fold_batch(reduction, batch),
             State::Histo1D { .. } | State::Histo2D { .. } => {
                 if !self.fill_at_once(batch) {
                     self.feed_each(cluster, batch);
                 }
-                Ok(())
             }
         }
+        Ok(())
     }
 
     /// Takes in all that another state of the same action holds.

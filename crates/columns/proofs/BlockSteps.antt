@@ -119,6 +119,10 @@ span_within (x ∷ xs) lo hi (suc c) s h e =
     let low = more.0 in
     (omega (arith, some, low), more.1, more.2)
 
+-- a cluster has entries, and lies within all
+pub cluster_within : (n size : ℕ) (marks : List ℕ) (c : ℕ) (s : Span) → slice_get (cut n size marks) c ≡ Some s → (s.lo < s.hi) × (s.hi ≤ n)
+cluster_within n size marks c s e = let h = span_within (cut n size marks) 0 n c s (cuts_lead n size marks) e in (h.1, h.2)
+
 -- a range and the one behind it
 pub ranges_joined : (xs : List ℤ) (lo from to : ℕ) → lo ≤ from → from ≤ to → take (from - lo) (drop lo xs) ++ take (to - from) (drop from xs) ≡ take (to - lo) (drop lo xs)
 ranges_joined xs lo from to h l =

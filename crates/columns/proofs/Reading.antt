@@ -4,7 +4,7 @@ use Rattle.std.specs.Int.{cast_signed, cast_unsigned, int_wrap}
 use Rattle.lemmas.proofs.{All-drop, All-take, drop_plus, Fits-lt-pow, Fits-of_z, FitsSigned, int_wrap-add_right, int_wrap_fits, slice_get-get_or, to_z-of_z, wrapping_add-bits}
 use mir.Syntax.{w64}
 use Rattle.std.proofs.lemmas.List.{get_or_append_left, length-drop, length-take, take_all, take_more, take_more_set}
-use native.Mathlib.Nat.{add-mul, mul-le-mul_right}
+use native.Mathlib.Nat.{add-mul}
 use Rattle.rdf_values.specs.{cut, Span}
 use Rattle.rdf_values.proofs.Evenly.{cuts_lead}
 use Rattle.columns.specs.{AreBlocks, AreNumbers, block_values, cluster_values, IsBlock, number_in, values_in}

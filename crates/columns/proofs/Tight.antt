@@ -1,5 +1,5 @@
 -- A packing is tight.
-use Rattle.std.proofs.Common.{◌≡◌, ◌≤◌, ◌<◌, ◌^◌, ℕ, zero, suc, ℤ, ◌-ℤ◌, Bool, true, false, List, [], ◌∷◌, length, refl, sym, ◌∙◌, subst, arith, ◌⊎◌, inl, inr, All, Contains, cond, unsigned_abs, if◌then◌else◌, nat_eq, nat_lt}
+use Rattle.std.proofs.Common.{◌≡◌, ◌≤◌, ◌<◌, ◌^◌, ℕ, zero, suc, ℤ, ◌-ℤ◌, Bool, List, [], ◌∷◌, length, refl, sym, ◌∙◌, subst, arith, ◌⊎◌, inl, inr, All, Contains, cond, unsigned_abs, if◌then◌else◌, nat_eq, nat_lt}
 use Rattle.lemmas.proofs.{FitsSigned, int_max, int_min, nat_tests}
 use mir.Syntax.{w64}
 use Rattle.columns.specs.{greatest_from, IsTight, IsWidth, least_from, packing_of, width_of}

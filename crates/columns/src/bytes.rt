@@ -6,36 +6,6 @@ ghost use Rattle.columns.specs.{IsWidth, number_in, packed_by, values_in};
 use crate::packing::Packing;
 use rdf_values::Memory;
 
-fn two_at(bytes: &[u8], at: usize) -> u64
-    requires { at + 2 ≤ length bytes.now }
-    ensures { result ≡ from_le_bytes w16 (drop at bytes.now) }
-{
-    u64::from(u16::from_le_bytes([bytes[at], bytes[at + 1]]))
-}
-
-fn four_at(bytes: &[u8], at: usize) -> u64
-    requires { at + 4 ≤ length bytes.now }
-    ensures { result ≡ from_le_bytes w32 (drop at bytes.now) }
-{
-    u64::from(u32::from_le_bytes([bytes[at], bytes[at + 1], bytes[at + 2], bytes[at + 3]]))
-}
-
-fn eight_at(bytes: &[u8], at: usize) -> u64
-    requires { at + 8 ≤ length bytes.now }
-    ensures { result ≡ from_le_bytes w64 (drop at bytes.now) }
-{
-    u64::from_le_bytes([
-        bytes[at],
-        bytes[at + 1],
-        bytes[at + 2],
-        bytes[at + 3],
-        bytes[at + 4],
-        bytes[at + 5],
-        bytes[at + 6],
-        bytes[at + 7],
-    ])
-}
-
 /// The number of so many bytes at a place, lowest first.
 pub(crate) fn number_at(bytes: &[u8], at: usize, width: u32) -> u64
     requires width { IsWidth width }
@@ -45,9 +15,23 @@ pub(crate) fn number_at(bytes: &[u8], at: usize, width: u32) -> u64
     match width {
         0 => 0,
         1 => u64::from(bytes[at]),
-        2 => two_at(bytes, at),
-        4 => four_at(bytes, at),
-        _ => eight_at(bytes, at),
+        2 => u64::from(u16::from_le_bytes([bytes[at], bytes[at + 1]])),
+        4 => u64::from(u32::from_le_bytes([
+            bytes[at],
+            bytes[at + 1],
+            bytes[at + 2],
+            bytes[at + 3],
+        ])),
+        _ => u64::from_le_bytes([
+            bytes[at],
+            bytes[at + 1],
+            bytes[at + 2],
+            bytes[at + 3],
+            bytes[at + 4],
+            bytes[at + 5],
+            bytes[at + 6],
+            bytes[at + 7],
+        ]),
     }
 }
 

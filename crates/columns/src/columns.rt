@@ -8,11 +8,11 @@ ghost use Rattle.columns.specs.Packings.{packed_of, packing_of};
 ghost use Rattle.columns.specs.Wholes.{joined};
 
 use crate::cuts::Cuts;
-use crate::kept::{Kept, keep_all, keep_in_slots};
+use crate::kept::{Kept, keep_in_slots};
 use crate::packed_ints::PackedInts;
 use crate::packing::Packing;
 use crate::table_pieces::TablePieces;
-use rdf_values::{Column, ListOf, Memory, Table, Vects};
+use rdf_values::{Column, ListOf, Memory, Vects};
 use std::alloc::Global;
 use std::marker::Model;
 use std::thread::Threads;
@@ -39,21 +39,8 @@ impl Model for Columns {
 }
 
 impl Columns {
-    /// The columns of a table over the clusters of its entries. Each column of the table goes as soon as it is packed.
-    pub fn build(alloc: Global, table: Table, cuts: Cuts) -> Result<Columns, Memory>
-        requires { cuts.entries ≡ length table.rows }
-        ensures { IfOk result (λ columns. columns ≡ record { table = table; cuts = cuts }) }
-    {
-        let parts = TablePieces::of(alloc, table)?.into_parts();
-        let kept = keep_all(alloc, parts.pieces, &cuts)?;
-        Ok(Columns {
-            columns: parts.columns,
-            kept,
-            cuts,
-        })
-    }
-
-    /// What `build` makes, of a table in pieces, its columns packed by so many slots side by side.
+    /// The columns of a table over the clusters of its entries, packed by so many slots side by side. Each column of the table
+    /// goes as soon as it is packed.
     pub fn build_in_slots<R: Threads + Sync>(
         rt: &R,
         alloc: Global,

@@ -45,12 +45,8 @@ fn keep(alloc: Global, pieces: ColumnPieces, cuts: &Cuts) -> Result<Kept, Memory
     }
 }
 
-/// The columns as they are kept; each one's pieces go as soon as it is packed.
-pub(crate) fn keep_all(
-    alloc: Global,
-    pieces: Vec<ColumnPieces>,
-    cuts: &Cuts,
-) -> Result<Vec<Kept>, Memory>
+// The columns as they are kept; each one's pieces go as soon as it is packed.
+fn keep_all(alloc: Global, pieces: Vec<ColumnPieces>, cuts: &Cuts) -> Result<Vec<Kept>, Memory>
     requires keep { Keep cuts.now.entries (map whole pieces.items) }
     requires few { cuts.now.entries ≤ 1000000 }
     ensures same { IfOk result (λ kept. map cells_of kept.items ≡ map whole pieces.items) }

@@ -9,7 +9,7 @@ use crate::bytes::{number_at, push_packed, read_packed};
 use crate::cuts::Cuts;
 use crate::packing::Packing;
 use crate::pieces::gather;
-use rdf_values::{Memory, Numbers, Span};
+use rdf_values::{Memory, Numbers};
 use std::alloc::Global;
 use std::marker::Model;
 
@@ -19,13 +19,6 @@ pub(crate) struct Block {
     packing: Packing,
     begin: usize,
     entries: u32,
-}
-
-// Where the numbers of one more cluster stand, and all bytes up to theirs.
-#[derive(Drop)]
-struct Grown {
-    block: Block,
-    bytes: Vec<u8>,
 }
 
 /// The numbers of a column by cluster. Each cluster's bytes stand behind those of the one before.
@@ -48,11 +41,11 @@ impl Model for PackedInts {
 
 // Appends the bytes of a cluster's numbers, and tells where they stand.
 #[tactic(auto, using(crate::proofs::Unpacking::packing_width, crate::proofs::BlockSteps::block_made))]
-fn pack_cluster(values: &[i64], bytes: Vec<u8>) -> Result<Grown, Memory>
+fn pack_cluster(values: &[i64], bytes: Vec<u8>) -> Result<(Block, Vec<u8>), Memory>
     requires some { 0 < length values.now }
     requires few { length values.now ≤ 1000000 }
-    ensures block { IfOk result (λ g. IsBlock g.bytes.items g.block values.now) }
-    ensures grown { IfOk result (λ g. g.bytes.items ≡ bytes.items ++ packed_of values.now) }
+    ensures block { IfOk result (λ g. IsBlock g.1.items g.0 values.now) }
+    ensures grown { IfOk result (λ g. g.1.items ≡ bytes.items ++ packed_of values.now) }
 {
     let packing = Packing::of(values);
     let block = Block {
@@ -61,29 +54,11 @@ fn pack_cluster(values: &[i64], bytes: Vec<u8>) -> Result<Grown, Memory>
         entries: values.len() as u32,
     };
     let bytes = push_packed(values, packing, bytes)?;
-    Ok(Grown { block, bytes })
-}
-
-// Appends the bytes of a range's numbers, and tells where they stand. The numbers are put into `gathered` first.
-fn pack_range(
-    pieces: &[Numbers],
-    range: Span,
-    gathered: &mut Vec<i64>,
-    bytes: Vec<u8>,
-) -> Result<Grown, Memory>
-    requires some { range.lo < range.hi }
-    requires within { range.hi ≤ length (joined pieces.now) }
-    requires few { length (joined pieces.now) ≤ 1000000 }
-    ensures block { IfOk result (λ g. IsBlock g.bytes.items g.block (slice_range (joined pieces.now) range.lo range.hi)) }
-    ensures grown { IfOk result (λ g. g.bytes.items ≡ bytes.items ++ packed_of (slice_range (joined pieces.now) range.lo range.hi)) }
-{
-    let lo = range.lo as usize;
-    let hi = range.hi as usize;
-    gather(pieces, lo, hi, gathered)?;
-    pack_cluster(gathered.as_slice(), bytes)
+    Ok((block, bytes))
 }
 
 /// The numbers of a column in pieces, packed by cluster.
+#[tactic(auto, using(crate::proofs::BlockSteps::cluster_within))]
 pub(crate) fn pack(alloc: Global, pieces: &[Numbers], cuts: &Cuts) -> Result<PackedInts, Memory>
     requires size { length (joined pieces.now) ≡ cuts.now.entries }
     requires few { length (joined pieces.now) ≤ 1000000 }
@@ -94,9 +69,10 @@ pub(crate) fn pack(alloc: Global, pieces: &[Numbers], cuts: &Cuts) -> Result<Pac
     let mut gathered = Vec::new(alloc);
     for cluster in 0..cuts.count() {
         let range = cuts.range(cluster);
-        let grown = pack_range(pieces, range, &mut gathered, bytes)?;
-        bytes = grown.bytes;
-        blocks.push(grown.block)?;
+        gather(pieces, range.lo as usize, range.hi as usize, &mut gathered)?;
+        let (block, grown) = pack_cluster(gathered.as_slice(), bytes)?;
+        bytes = grown;
+        blocks.push(block)?;
     }
     Ok(PackedInts { blocks, bytes })
 }

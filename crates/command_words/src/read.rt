@@ -1,7 +1,7 @@
 // Reading the command's words.
 ghost use Rattle.std.specs.Prelude.{◌≡◌, IfOk, option_map, map};
 ghost use Rattle.clap.specs.Words.{first_of, found_of, rows_of};
-ghost use Rattle.command_words.specs.{asked_in, asked_of, friend_from, input_from, is_set, missing_of, number_of, setting_of};
+ghost use Rattle.command_words.specs.{asked_in, asked_of, friend_from, input_from, number_of, setting_of};
 
 use crate::arguments::arguments;
 use crate::command::{Command, Friend, Input};
@@ -49,24 +49,11 @@ fn setting(text: Option<&str>, usual: u32, most: u32) -> Option<u32>
     text.map_or(Some(usual), |text| number(text, 1, most))
 }
 
-fn is_set(text: Option<&str>) -> bool
-    ensures { result ≡ is_set (option_map (λ s. s.now) text.entry) }
-{
-    text.is_some_and(|text| text == "true")
-}
-
 // The first value of an argument.
 fn value<'a>(matches: &ArgMatches<'a>, id: &str) -> Option<&'a str>
     ensures { option_map (λ s. s.now) result ≡ first_of id.now (rows_of (found_of matches.now)) }
 {
     matches.get_str(id)
-}
-
-// The number for what is missing, which may be left out.
-fn missing(text: Option<&str>) -> Option<i64>
-    ensures { result ≡ missing_of (option_map (λ s. s.now) text.entry) }
-{
-    text.map_or(Some(0), |text| read_integer(text.as_bytes()))
 }
 
 // The friend that is asked for, if one is. There is no answer where the file and the key don't come together, the number
@@ -83,7 +70,8 @@ fn friend_asked(
         let none_asked = key.is_none() && number.is_none();
         return Ok(none_asked.then_some(None));
     };
-    let (Some(key), Some(missing)) = (key, missing(number)) else {
+    let missing = number.map_or(Some(0), |text| read_integer(text.as_bytes()));
+    let (Some(key), Some(missing)) = (key, missing) else {
         return Ok(None);
     };
     let Some(key) = Name::read(alloc, key.as_bytes())? else {
@@ -127,16 +115,13 @@ fn input(
 fn asked(alloc: Global, matches: &ArgMatches<'_>) -> Result<Option<Command>, Memory>
     ensures { IfOk result (λ command. command ≡ asked_in (rows_of (found_of matches.now))) }
 {
-    let Some(slots) = setting(value(matches, "slots"), 1, MAX_SLOTS) else {
+    let slots = setting(value(matches, "slots"), 1, MAX_SLOTS);
+    let cluster = setting(value(matches, "cluster"), 10_000, MAX_SIZE);
+    let watch = setting(value(matches, "watch"), 1, MAX_SIZE);
+    let (Some(slots), Some(cluster), Some(watch)) = (slots, cluster, watch) else {
         return Ok(None);
     };
-    let Some(cluster) = setting(value(matches, "cluster"), 10_000, MAX_SIZE) else {
-        return Ok(None);
-    };
-    let Some(watch) = setting(value(matches, "watch"), 1, MAX_SIZE) else {
-        return Ok(None);
-    };
-    let is_made = is_set(value(matches, "make"));
+    let is_made = value(matches, "make").is_some_and(|text| text == "true");
     let Some(friend) = friend_asked(
         alloc,
         value(matches, "friend"),

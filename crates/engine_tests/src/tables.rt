@@ -2,7 +2,7 @@
 ghost use Rattle.std.specs.Prelude.{◌≡◌, ⊤, IfOk, MatchOption, Some, length};
 ghost use Rattle.rdf_values.specs.{kind_at};
 
-use columns::{ColumnPieces, Columns, Packing, cut};
+use columns::{ColumnPieces, Columns, Packing, TablePieces, cut};
 use rdf_values::{ColType, Column, ListOf, Marks, Memory, Name, Table, Value};
 use std::alloc::Global;
 use std::test::Fail;
@@ -35,7 +35,8 @@ fn numbers_are_packed_as_differences_to_the_least(rt: HostRuntime) -> Result<(),
         panic!(rt; "no name");
     };
     let cuts = cut(rt.alloc(), 2, 2, &Marks::new(rt.alloc()))?;
-    let columns = Columns::build(rt.alloc(), table, cuts)?;
+    let pieces = TablePieces::of(rt.alloc(), table)?;
+    let columns = Columns::build_in_slots(&rt, rt.alloc(), pieces, cuts, 1)?;
     let packing = Packing {
         least: -3,
         width: 1,

@@ -63,12 +63,10 @@ refused_end p ts h = refused_at (Operator, []) p ts (end_step p.token h)
 -- ---- where an expression stops
 
 pub level_low : (o : BinOp) → level_of o ≤ 6
-level_low BinOp.Or = omega arith
-level_low o = omega arith
+level_low o = grind arith
 
 pub level_high : (o : BinOp) → 1 ≤ level_of o
-level_high BinOp.Or = omega arith
-level_high o = omega arith
+level_high o = grind arith
 
 pub positive : (n : ℕ) → 1 ≤ n → nat_eq n 0 ≡ false
 positive n h = grind (arith, nat_tests)

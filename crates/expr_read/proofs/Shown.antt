@@ -54,8 +54,7 @@ enclosed_size true ts = sym (add-zero (length ts))
 enclosed_size false ts = omega (arith, length-append ts (Punct Mark.Close ∷ []))
 
 extra_low : (b : Bool) → extra b ≤ 2
-extra_low true = omega arith
-extra_low false = omega arith
+extra_low b = grind arith
 
 extra_looser : (n l : ℕ) (b d : Bool) → nat_le n l ≡ b → nat_le (suc n) l ≡ d → extra b ≤ extra d
 extra_looser n l b d h k = grind (arith, le_not, le_says)

@@ -269,8 +269,7 @@ head_tree (Pick v i) r rest = simp append_assoc (head_enclosed (nat_le 8 (tree_l
 head_tree (Call f args) r rest = simp append_assoc (name_head f _ r.0)
 
 apart_op : (o : BinOp) (rest : List ℕ) → is_apart (op_text o ++ rest) ≡ true
-apart_op BinOp.Mul rest = refl
-apart_op o rest = refl
+apart_op o rest = grind arith
 
 apart_more : (args : NamedTrees) (rest : List ℕ) → is_apart rest ≡ true → is_apart (more_text args ++ rest) ≡ true
 apart_more End rest h = h

@@ -13,8 +13,7 @@ IsFine n first = MatchResult first (λ t. (0 < t.1) × (t.1 ≤ n) × (is_valid 
 -- ---- runs
 
 passes_by : (p : ℕ → Bool) (x : ℕ) (xs : List ℕ) (b : Bool) → p x ≡ b → list_all p xs ≡ true → list_all p (if b then x ∷ xs else []) ≡ true
-passes_by p x xs true e h = rw e h
-passes_by p x xs false e h = refl
+passes_by p x xs b e h = grind arith
 
 pub run_passes : (p : ℕ → Bool) (xs : List ℕ) → list_all p (take_while p xs) ≡ true
 run_passes p [] = refl
@@ -58,8 +57,7 @@ abbrev IsValidMark : Option Token → Type 0
 IsValidMark o = IfSome o (λ t. is_valid t ≡ true)
 
 mark_by : (b : Bool) (t : Token) (o : Option Token) → is_valid t ≡ true → IsValidMark o → IsValidMark (if b then Some t else o)
-mark_by true t o h k = h
-mark_by false t o h k = k
+mark_by b t o h k = grind arith
 
 abbrev are_marks : List (List ℕ × Token) → Bool
 are_marks ms = list_all (λ m. is_valid m.1) ms

@@ -166,8 +166,7 @@ stuck_between [] isnt nor = refl
 stuck_between (p ∷ ts) isnt nor = refused_at (AfterList, InLists ∷ []) p ts (between_step (InLists ∷ []) p.token (first_is_not (Punct Mark.Comma) p ts isnt) (first_is_not (Punct Mark.CloseBrace) p ts nor))
 
 next_step : (s : List OpenMark) (t : Token) → (t ≡ Punct Mark.OpenBrace → ⊥) → next_list t s ≡ None
-next_step s (Punct Mark.OpenBrace) isnt = absurd (isnt refl)
-next_step s t isnt = refl
+next_step s t isnt = grind arith
 
 pub stuck_next : (ts : List Placed) → BeginsNot (Punct Mark.OpenBrace) ts → scan (NextList, InLists ∷ []) ts ≡ stuck_at ts
 stuck_next [] isnt = refl
@@ -186,8 +185,7 @@ ends_operator [] h = refl
 ends_operator (p ∷ ts) h = refused_end p ts h
 
 ends_nothing : (ts : List Placed) → scan (Nothing, []) ts ≡ ends_at ts
-ends_nothing [] = refl
-ends_nothing (p ∷ ts) = refl
+ends_nothing ts = grind arith
 
 pub took_vector : {a : NamedTree} {old new : List Placed} → BeginsNot (Punct Mark.OpenBrace) old → Took 0 a old new → Stops 0 new → TookValues (VectorOf a) old new
 took_vector {old = old} {new = new} isnt k h = record { tokens = k.tokens; split = k.split; reads = vector k.reads; ends = vector_first old isnt ∙ k.scans [] ∙ ends_operator new h }

@@ -16,8 +16,7 @@ abbrev pub AreFine : ℕ → ℕ → Result (List Placed) Refusal → Type 0
 AreFine most end tokens = MatchResult tokens (λ ts. (are_valid (bare ts) ≡ true) × (length ts ≤ most) × StandBelow end ts) (λ e. e.place ≤ end)
 
 earlier_below : (a b : Refusal) (end : ℕ) (c : Bool) → nat_le a.place b.place ≡ c → a.place ≤ end → b.place ≤ end → (earlier a b).place ≤ end
-earlier_below a b end true e h k = rw e h
-earlier_below a b end false e h k = rw e k
+earlier_below a b end c e h k = grind arith
 
 many_below : (place size : ℕ) (f : First) → IsFine size f → (too_many place f).place ≤ place + size
 many_below place size f h = grind (arith, earlier_below)

@@ -1,12 +1,10 @@
 // The edges of an axis.
 ghost use Rattle.std.specs.Prelude.{◌≡◌, ◌↔◌, ◌<◌, ◌-◌, ◌^◌, ◌+◌, ◌*◌, ◌≤◌, ℤ, List, length, true, false, IfOk};
 ghost use Rattle.rdf_values.specs.{are_edges, bin, rises};
-ghost use Rattle.histograms.specs.Axis.{IsAxis};
 ghost use Rattle.histograms.specs.Buckets.{KeepsEdges};
 
 use crate::buckets::Buckets;
-use rdf_values::Memory;
-use std::alloc::{AllocError, Global};
+use std::alloc::Global;
 use std::marker::Model;
 
 /// Why there is no axis of some edges: `BadEdges` for fewer than two, or where they don't strictly rise.
@@ -47,21 +45,10 @@ impl Edges {
         if edges.len() < 2 || !rises(edges) {
             return Err(EdgeRefusal::BadEdges);
         }
-        match Edges::from_axis(alloc, edges) {
-            Ok(axis) => Ok(axis),
-            Err(_) => Err(EdgeRefusal::Memory),
+        match (Vec::from_slice(alloc, edges), Buckets::new(alloc, edges)) {
+            (Ok(edges), Ok(buckets)) => Ok(Edges { edges, buckets }),
+            _ => Err(EdgeRefusal::Memory),
         }
-    }
-
-    fn from_axis(alloc: Global, edges: &[i64]) -> Result<Edges, AllocError>
-        requires { IsAxis edges.now }
-        ensures { IfOk result (λ axis. axis ≡ edges.now) }
-    {
-        let buckets = Buckets::new(alloc, edges)?;
-        Ok(Edges {
-            edges: Vec::from_slice(alloc, edges)?,
-            buckets,
-        })
     }
 
     /// The edges in their order.

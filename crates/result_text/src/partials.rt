@@ -3,7 +3,7 @@ ghost use Rattle.std.specs.Prelude.{◌≡◌, ◌++◌, ◌<◌, ◌-◌, OnOk,
 ghost use Rattle.graph_numbers.specs.{graph_results, ResultAt};
 ghost use Rattle.rdf_model.specs.{run_text, value_text};
 ghost use Rattle.loop_pieces.specs.{PartialLine, watch_filled};
-ghost use Rattle.result_text.specs.{AreRuns, more_runs, run_of, runs_text, watch_line, watch_lines};
+ghost use Rattle.result_text.specs.{AreRuns, run_of, runs_text, watch_line, watch_lines};
 
 use crate::numbers::{put_count, put_option, put_sum};
 use graph::Graph;
@@ -26,18 +26,6 @@ fn put_run(alloc: Global, text: &mut Text, run: &Span) -> Result<(), Memory>
     put_count(alloc, text, u64::from(last))
 }
 
-// Appends runs, each behind a comma.
-fn put_more_runs(alloc: Global, text: &mut Text, runs: &[Span]) -> Result<(), Memory>
-    requires { AreRuns runs.now }
-    ensures { OnOk result (text.new ≡ text.old ++ more_runs runs.now) }
-{
-    for run in runs {
-        text.push(b',')?;
-        put_run(alloc, text, run)?;
-    }
-    Ok(())
-}
-
 // Appends the runs, with commas between.
 fn put_runs(alloc: Global, text: &mut Text, runs: &[Span]) -> Result<(), Memory>
     requires { AreRuns runs.now }
@@ -47,7 +35,11 @@ fn put_runs(alloc: Global, text: &mut Text, runs: &[Span]) -> Result<(), Memory>
         return Ok(());
     };
     put_run(alloc, text, first)?;
-    put_more_runs(alloc, text, rest)
+    for run in rest {
+        text.push(b',')?;
+        put_run(alloc, text, run)?;
+    }
+    Ok(())
 }
 
 fn put_value(alloc: Global, text: &mut Text, value: WatchPiece) -> Result<(), Memory>

@@ -1,5 +1,5 @@
 -- A form says something, or one of its strings is the first that is bad.
-use Rattle.std.proofs.Common.{◌≡◌, ℕ, Bool, true, false, List, [], ◌∷◌, ◌++◌, Option, Some, None, refl, sym, ap, ◌∙◌, inl, inr, ◌⊎◌}
+use Rattle.std.proofs.Common.{◌≡◌, ℕ, Bool, true, false, List, [], ◌∷◌, ◌++◌, Option, Some, None, refl, sym, ap, ◌∙◌, inl, inr, ◌⊎◌, arith}
 use Rattle.rdf_values.specs.{a_label, a_name, ActionKind, ALabel, all_edges, all_strings, AName, AnExpression, AnOperation, AreNames, begin_expr, begin_values, FirstBad, Form, form_strings, here, is_label, is_name, IsAction, IsBad, IsMaybeLabel, IsMaybeName, IsName, later, LineRefusal, maybe_wanted, Method, method_strings, more_names, NamedTree, no_label, no_name, no_names, operation_text, QuotedText, Reads, ReadsText, ReadsValues, ReadsValuesText, ReduceOp, Says, SomeValues, Statement, VaryValues, wanted_names}
 use Rattle.rdf_values.specs.scripts.LineForms as form
 use Rattle.rdf_values.specs.scripts.Statements.{Wanted}
@@ -45,8 +45,7 @@ abbrev operations : List ReduceOp
 operations = ReduceOp.Min ∷ ReduceOp.Max ∷ ReduceOp.And ∷ ReduceOp.Or ∷ ReduceOp.Xor ∷ ReduceOp.WrapAdd ∷ []
 
 operation_found : (o : ReduceOp) → named operation_text (operation_text o) operations ≡ Some o
-operation_found ReduceOp.Min = refl
-operation_found o = refl
+operation_found o = grind arith
 
 operation_or_bad : (q : QuotedText) → OrBad ((o : ReduceOp) × (q.content ≡ operation_text o)) (q, AnOperation)
 operation_or_bad q = go (named operation_text q.content operations) refl

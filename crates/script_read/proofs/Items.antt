@@ -15,10 +15,7 @@ use Rattle.rdf_values.specs.scripts.Statements as st
 use Rattle.rdf_values.specs.scripts.LineTokens as t
 
 not_refused_at_end : (w : Wanted) (stack : List OpenMark) (p : ℕ) → ending (w, stack) ≡ Refused p → ⊥
-not_refused_at_end Operator [] p e = cc e
-not_refused_at_end AfterName [] p e = cc e
-not_refused_at_end Nothing [] p e = cc e
-not_refused_at_end w stack p e = cc e
+not_refused_at_end w stack p e = grind arith
 
 goes_below : (o : Option ScanState) (t : Placed) (ts : List Placed) (p end : ℕ) → t.place ≤ end → ((s : ScanState) → scan s ts ≡ Refused p → p ≤ end)
     → continued o t.place (λ s. scan s ts) ≡ Refused p → p ≤ end
@@ -230,14 +227,7 @@ word_follows x true e = λ xs. record { item = (x, e); tokens = refl }
 word_follows x false e = tt
 
 marked : (m : Mark) (u : LineToken) → is_mark m u ≡ true → mark_token m ≡ u
-marked Mark.Equals t.Equals e = refl
-marked Mark.Dot t.Dot e = refl
-marked Mark.Open t.Open e = refl
-marked Mark.Close t.Close e = refl
-marked Mark.OpenBracket t.OpenBracket e = refl
-marked Mark.CloseBracket t.CloseBracket e = refl
-marked Mark.Comma t.Comma e = refl
-marked m u e = cc e
+marked m u e = grind arith
 
 mark_follows : (m : Mark) (u : LineToken) (b : Bool) → is_mark m u ≡ b → Follows (AMark m) u (if b then Some [] else None)
 mark_follows m u true e = λ xs. record { item = tt; tokens = ap (λ (v : LineToken). v ∷ []) (marked m u e) }

@@ -1,5 +1,5 @@
 -- What was taken, from what its parts took: arguments, methods and lines.
-use Rattle.std.proofs.Common.{◌≡◌, ◌∙◌, ℤ, List, [], ◌∷◌, ◌++◌, Some, refl, sym, ap, append_assoc, ℕ, Bool, true, false, Option, subst, codes, not, ◌||◌, if◌then◌else◌}
+use Rattle.std.proofs.Common.{◌≡◌, ◌∙◌, ℤ, List, [], ◌∷◌, ◌++◌, Some, refl, sym, ap, append_assoc, ℕ, Bool, true, false, Option, subst, codes, not, ◌||◌, if◌then◌else◌, arith}
 use Rattle.std.proofs.lemmas.List.{append-nil}
 use Rattle.rdf_values.specs.{bare_tokens, LineToken, maybe_string, more_edges, more_strings, PlacedToken, QuotedText, arguments, edges_tokens, Form, form_tokens, has_free_names, is_free, Method, method_word, same, Strings, strings_tokens}
 use Rattle.script_read.specs.{ActionName, ALine, AMark, AMethod, ANumber, arguments_wants, asked_form, asking_wants, AString, AWord, Begins, BeginsNot, booking_wants, edges_wants, Mark, MaybeString, method_wants, MethodName, MoreEdges, MoreStrings, name_of, name_word, next, one_string_wants, Quoted, strings_wants, Token, token_of, Took, TookArguments, TookBooking, TookForm, variation_wants, VaryArguments, walk_placed, Want}
@@ -171,9 +171,7 @@ asked_tokens x r h =
     asked_case x r (same x (codes "Print")) (same x (codes "VariationsFor")) (same x (codes "Watch")) (bytes_eq-Decides x (codes "Print")).0 (bytes_eq-Decides x (codes "VariationsFor")).0 (bytes_eq-Decides x (codes "Watch")).0 h
 
 pub asked_free : (a b : Bool) (r : List ℕ) → has_free_names (if a then form.Print r else (if b then form.VariationsFor r else form.Watch r)) ≡ is_free r
-asked_free true b r = refl
-asked_free false true r = refl
-asked_free false false r = refl
+asked_free a b r = grind arith
 
 pub took_asking : {s : LineToken} {old seen mid new : List PlacedToken} (x r : List ℕ) (f : Form) → s ≡ t.Word x → Begins s old seen → mid ≡ seen → is_free x ≡ false → is_free r ≡ true
     → Took asking_wants (t.Open ∷ t.Word r ∷ t.Close ∷ []) mid new → f ≡ asked_form x r → TookForm f old new

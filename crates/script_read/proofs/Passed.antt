@@ -1,5 +1,5 @@
 -- The walk passes over every line.
-use Rattle.std.proofs.Common.{◌≡◌, ◌∙◌, ℕ, ℤ, List, [], ◌∷◌, ◌++◌, Option, Some, None, true, refl, ap, append_assoc, codes}
+use Rattle.std.proofs.Common.{◌≡◌, ◌∙◌, ℕ, ℤ, List, [], ◌∷◌, ◌++◌, Option, Some, None, true, refl, ap, append_assoc, codes, arith}
 use Rattle.lemmas.proofs.{append-nil, both_true}
 use Rattle.rdf_values.specs.{arguments, edges_tokens, Form, form_tokens, has_free_names, is_free, LineToken, maybe_string, Method, method_word, more_edges, more_strings, QuotedText, strings_tokens}
 use Rattle.rdf_values.specs.scripts.LineTokens as t
@@ -24,8 +24,7 @@ passes_edges [] ts k = refl
 passes_edges (z ∷ zs) ts k = passes_edges zs ts k
 
 passes_last : (o : Option QuotedText) → walked (maybe_string o ++ t.Close ∷ []) (MaybeString ∷ []) ≡ Done
-passes_last None = refl
-passes_last (Some q) = refl
+passes_last o = grind arith
 
 -- what stands behind the strings or the edges of a list, with the end of the call
 behind_strings : (qs : List QuotedText) (ts : List LineToken) (k : List Want) → walked ((more_strings qs ++ ts) ++ t.Close ∷ []) (MoreStrings ∷ k) ≡ walked (ts ++ t.Close ∷ []) k

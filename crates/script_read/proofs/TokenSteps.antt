@@ -78,8 +78,7 @@ unfolding word_lexeme
 word_fits c cs = let short = run_short is_word_byte cs in fits_or (length cs) (is_name (c ∷ take_while is_word_byte cs)) _ _ (omega arith) tt
 
 integer_fits : (most more : ℕ) (z : Option ℤ) → more ≤ most → IsWithin most (integer_lexeme more z)
-integer_fits most more None h = tt
-integer_fits most more (Some z) h = h
+integer_fits most more z h = grind arith
 
 string_by : (most size : ℕ) (token : LineToken) (b : Bool) → IsWithin most (if nat_lt size most && b then Found token (size + 1) else Bad)
 string_by most size token b = by_size (nat_lt size most) refl

@@ -1,5 +1,5 @@
 -- Steps of the walk over tokens.
-use Rattle.std.proofs.Common.{◌≡◌, ◌∙◌, ℕ, ℤ, List, [], ◌∷◌, ◌++◌, Option, Some, None, Bool, true, false, refl, sym, ap, subst, if◌then◌else◌}
+use Rattle.std.proofs.Common.{arith, ◌≡◌, ◌∙◌, ℕ, ℤ, List, [], ◌∷◌, ◌++◌, Option, Some, None, Bool, true, false, refl, sym, ap, subst, if◌then◌else◌}
 use Rattle.rdf_values.specs.{bare_tokens, is_free, LineToken, PlacedToken}
 use Rattle.rdf_values.specs.scripts.LineTokens as t
 use Rattle.script_read.specs.{ALine, AMark, AMethod, ANumber, AString, AWord, Begins, BeginsNot, is_mark, IsStuck, Mark, mark_token, MaybeString, MoreEdges, MoreStrings, next, one_string_wants, Quoted, strings_wants, Token, token_of, Took, variation_wants, VaryArguments, walk, walk_on, walk_placed, Want}
@@ -30,18 +30,10 @@ stuck_token w old b e k = rw (b.is, e) refl
 -- ---- marks
 
 pub is_its_mark : (m : Mark) → is_mark m (mark_token m) ≡ true
-is_its_mark Mark.Equals = refl
-is_its_mark m = refl
+is_its_mark m = grind arith
 
 pub is_no_mark : (m : Mark) (t : LineToken) → (t ≡ mark_token m → ⊥) → is_mark m t ≡ false
-is_no_mark Mark.Equals t.Equals isnt = absurd (isnt refl)
-is_no_mark Mark.Dot t.Dot isnt = absurd (isnt refl)
-is_no_mark Mark.Open t.Open isnt = absurd (isnt refl)
-is_no_mark Mark.Close t.Close isnt = absurd (isnt refl)
-is_no_mark Mark.OpenBracket t.OpenBracket isnt = absurd (isnt refl)
-is_no_mark Mark.CloseBracket t.CloseBracket isnt = absurd (isnt refl)
-is_no_mark Mark.Comma t.Comma isnt = absurd (isnt refl)
-is_no_mark m t isnt = refl
+is_no_mark m t isnt = grind arith
 
 mark_next : (m : Mark) → next (AMark m) (mark_token m) ≡ Some []
 mark_next m = rw (is_its_mark m) refl
@@ -77,14 +69,10 @@ same_first b c = let e = ap first_token (sym b.is ∙ c.is) in cc e
 -- ---- tokens that can't stand there
 
 pub no_string : (t : Token) → ((q : Quoted) → t ≡ Token.Quoted q → ⊥) → next AString (token_of t) ≡ None
-no_string (Token.Quoted q) isnt = absurd (isnt q refl)
-no_string (Token.Mark Mark.Equals) isnt = refl
-no_string t isnt = refl
+no_string t isnt = grind arith
 
 pub no_number : (t : Token) → ((z : ℤ) → t ≡ Token.Number z → ⊥) → next ANumber (token_of t) ≡ None
-no_number (Token.Number z) isnt = absurd (isnt z refl)
-no_number (Token.Mark Mark.Equals) isnt = refl
-no_number t isnt = refl
+no_number t isnt = grind arith
 
 -- no word stands there
 pub no_word : (t : Token) → ((x : Word) → t ≡ Token.Word x → ⊥) → (next AWord (token_of t) ≡ None) × (next AMethod (token_of t) ≡ None) × (next ALine (token_of t) ≡ None)
@@ -103,8 +91,7 @@ not_free t x e f = rw (e, sym f) refl
 
 instead_on : (b : Bool) (p : PlacedToken) (ps : List PlacedToken) (ws k : List Want)
     → walk_on (p ∷ ps) (if b then Some ws else None) (λ vs. walk (λ (q : PlacedToken). q.token) ps (vs ++ k)) ≡ walk_on (p ∷ ps) (if b then Some [] else None) (λ vs. walk (λ (q : PlacedToken). q.token) ps (vs ++ (ws ++ k)))
-instead_on true p ps ws k = refl
-instead_on false p ps ws k = refl
+instead_on b p ps ws k = grind arith
 
 instead : (w : Want) (m : Mark) (ws : List Want) (old : List PlacedToken) (k : List Want) → ((t : LineToken) (new : List PlacedToken) → Begins t old new → next w t ≡ (if is_mark m t then Some ws else None))
     → walk_placed old (w ∷ k) ≡ walk_placed old (AMark m ∷ (ws ++ k))
@@ -115,9 +102,7 @@ instead w m ws (p ∷ ps) k h =
     rw e (instead_on (is_mark m p.token) p ps ws k)
 
 close_next : (u : LineToken) → (u ≡ t.Comma → ⊥) → next MaybeString u ≡ (if is_mark Mark.Close u then Some [] else None)
-close_next t.Comma isnt = absurd (isnt refl)
-close_next t.Close isnt = refl
-close_next t isnt = refl
+close_next u isnt = grind arith
 
 -- what is wanted for an item of a list, and behind it
 pub data IsList : Want → Want → Type 0 where
@@ -129,17 +114,12 @@ next_item a_string = refl
 next_item an_edge = refl
 
 list_next : {item more : Want} (u : LineToken) → IsList item more → (u ≡ t.Comma → ⊥) → next more u ≡ (if is_mark Mark.CloseBracket u then Some [] else None)
-list_next t.Comma l isnt = absurd (isnt refl)
-list_next t.CloseBracket a_string isnt = refl
-list_next t.CloseBracket an_edge isnt = refl
-list_next u a_string isnt = refl
-list_next u an_edge isnt = refl
+list_next u a_string isnt = grind arith
+list_next u an_edge isnt = grind arith
 
 vary_next : (t : Token) → ((q : Quoted) → t ≡ Token.Quoted q → ⊥)
     → next VaryArguments (token_of t) ≡ (if is_mark Mark.OpenBracket (token_of t) then Some (AString ∷ MoreStrings ∷ (variation_wants ++ AMark Mark.Comma ∷ one_string_wants)) else None)
-vary_next (Token.Quoted q) isnt = absurd (isnt q refl)
-vary_next (Token.Mark Mark.Equals) isnt = refl
-vary_next t isnt = refl
+vary_next t isnt = grind arith
 
 -- without a comma the call ends
 pub close_wanted : (old : List PlacedToken) (k : List Want) → BeginsNot t.Comma old → walk_placed old (MaybeString ∷ k) ≡ walk_placed old (AMark Mark.Close ∷ k)

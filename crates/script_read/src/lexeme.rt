@@ -34,28 +34,20 @@ fn are_printable(bytes: &[u8]) -> bool
     bytes.iter().all(|byte| *byte >= 0x20 && *byte <= 0x7E)
 }
 
-// Whether the word is a name.
-#[tactic(auto, unfolding(rdf_values::specs::scripts::Names::is_name))]
-fn is_name(word: &[u8]) -> bool
-    requires { is_word word.now ≡ true }
-    ensures { result ≡ is_name word.now }
-{
-    word.len() <= LONGEST_NAME && word != b"true".as_slice() && word != b"false".as_slice()
-}
-
 fn quote_place(text: &[u8]) -> Option<usize>
     ensures { result ≡ position (λ c. c == 34) text.now }
 {
     text.iter().position(|byte| *byte == b'"')
 }
 
-// The lexeme of a word.
-#[tactic(auto, unfolding(rdf_values::specs::scripts::LineTokens::word_lexeme))]
+// The lexeme of a word, which must be a name.
+#[tactic(auto, unfolding(rdf_values::specs::scripts::LineTokens::word_lexeme, rdf_values::specs::scripts::Names::is_name))]
 fn word(bytes: &[u8]) -> Lexeme<'_>
     requires { is_word bytes.now ≡ true }
     ensures { lexeme_of result ≡ word_lexeme bytes.now }
 {
-    if !is_name(bytes) {
+    let is_truth = bytes == b"true".as_slice() || bytes == b"false".as_slice();
+    if bytes.len() > LONGEST_NAME || is_truth {
         return Lexeme::Bad;
     }
     Lexeme::Found(Token::Word(Word { bytes }), bytes.len() - 1)

@@ -74,17 +74,13 @@ fn vary_all(
     ensures ok { IfOk result (λ s. Says (line.Books node parent (line.VaryAll (strings_of columns.now) (quoted_of values.now) (strings_of tags.now) (quoted_of name.now))) s) }
     ensures err { IfErr result (λ e. RefusedFor (FirstBad (method_strings (line.VaryAll (strings_of columns.now) (quoted_of values.now) (strings_of tags.now) (quoted_of name.now)))) e) }
 {
-    let columns = strings::names(alloc, columns)?;
-    let values = strings::values(alloc, values)?;
-    let tags = strings::names(alloc, tags)?;
-    let name = strings::name(alloc, name)?;
     Ok(Statement::Vary {
         node,
         parent,
-        columns,
-        values,
-        tags,
-        name,
+        columns: strings::names(alloc, columns)?,
+        values: strings::values(alloc, values)?,
+        tags: strings::names(alloc, tags)?,
+        name: strings::name(alloc, name)?,
     })
 }
 
@@ -112,8 +108,7 @@ fn action_kind(alloc: Global, action: &Action<'_>) -> Result<ActionKind, LineSto
         Action::Take(column) => Ok(ActionKind::Take(strings::name(alloc, column)?)),
         Action::Reduce(operation, column) => {
             let operation = strings::operation(operation)?;
-            let column = strings::name(alloc, column)?;
-            Ok(ActionKind::Reduce(operation, column))
+            Ok(ActionKind::Reduce(operation, strings::name(alloc, column)?))
         }
         Action::Histo1D(x_edges, x, weight) => {
             let x_edges = edges(alloc, x_edges)?;
@@ -142,46 +137,30 @@ fn booking(
     ensures err { IfErr result (λ e. RefusedFor (FirstBad (method_strings (method_of method.now))) e) }
 {
     match method {
-        Method::Define(column, expr) => {
-            let column = strings::name(alloc, column)?;
-            let expr = strings::expression(alloc, expr)?;
-            Ok(Statement::Define {
-                node,
-                parent,
-                column,
-                expr,
-            })
-        }
-        Method::Redefine(column, expr) => {
-            let column = strings::name(alloc, column)?;
-            let expr = strings::expression(alloc, expr)?;
-            Ok(Statement::Redefine {
-                node,
-                parent,
-                column,
-                expr,
-            })
-        }
-        Method::Alias(column, target) => {
-            let column = strings::name(alloc, column)?;
-            let target = strings::name(alloc, target)?;
-            Ok(Statement::Alias {
-                node,
-                parent,
-                column,
-                target,
-            })
-        }
-        Method::Filter(expr, label) => {
-            let expr = strings::expression(alloc, expr)?;
-            let label = strings::maybe_label(alloc, label)?;
-            Ok(Statement::Filter {
-                node,
-                parent,
-                expr,
-                label,
-            })
-        }
+        Method::Define(column, expr) => Ok(Statement::Define {
+            node,
+            parent,
+            column: strings::name(alloc, column)?,
+            expr: strings::expression(alloc, expr)?,
+        }),
+        Method::Redefine(column, expr) => Ok(Statement::Redefine {
+            node,
+            parent,
+            column: strings::name(alloc, column)?,
+            expr: strings::expression(alloc, expr)?,
+        }),
+        Method::Alias(column, target) => Ok(Statement::Alias {
+            node,
+            parent,
+            column: strings::name(alloc, column)?,
+            target: strings::name(alloc, target)?,
+        }),
+        Method::Filter(expr, label) => Ok(Statement::Filter {
+            node,
+            parent,
+            expr: strings::expression(alloc, expr)?,
+            label: strings::maybe_label(alloc, label)?,
+        }),
         Method::VaryOne(column, values, tags, name) => {
             vary_one(alloc, node, parent, column, values, tags, name)
         }
@@ -192,14 +171,11 @@ fn booking(
             result: node,
             parent,
         }),
-        Method::Action(action) => {
-            let kind = action_kind(alloc, action)?;
-            Ok(Statement::Action {
-                result: node,
-                parent,
-                kind,
-            })
-        }
+        Method::Action(action) => Ok(Statement::Action {
+            result: node,
+            parent,
+            kind: action_kind(alloc, action)?,
+        }),
     }
 }
 

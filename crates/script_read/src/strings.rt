@@ -1,6 +1,6 @@
 // What the strings of a form must be: names, labels, operations, expressions and the values of a Vary.
-ghost use Rattle.std.specs.Prelude.{◌≡◌, true, length, option_map, IfOk, IfErr, MatchOption};
-ghost use Rattle.rdf_values.specs.{ALabel, all_strings, AName, AnExpression, AnOperation, AreNames, FirstBad, is_label, IsBad, IsMaybeLabel, IsMaybeName, IsName, maybe_wanted, operation_text, ReadsText, ReadsValuesText, ReduceOp as Operation, SomeValues, wanted_names};
+ghost use Rattle.std.specs.Prelude.{◌≡◌, length, option_map, IfOk, IfErr};
+ghost use Rattle.rdf_values.specs.{ALabel, all_strings, AName, AnExpression, AnOperation, AreNames, FirstBad, IsBad, IsMaybeLabel, IsMaybeName, IsName, maybe_wanted, operation_text, ReadsText, ReadsValuesText, SomeValues, wanted_names};
 ghost use Rattle.script_read.specs.{quoted_of, RefusedFor, StandsWithin, stop_in, strings_of};
 
 use crate::form::{OneOrMore, Quoted};
@@ -52,17 +52,6 @@ pub(crate) fn names(
     Ok(names)
 }
 
-// A label.
-fn label(alloc: Global, quoted: &Quoted<'_>) -> Result<Label, LineStop>
-    ensures ok { IfOk result (λ n. (quoted.now.content.now ≡ n) × (is_label n ≡ true)) }
-    ensures err { IfErr result (λ e. RefusedFor (IsBad (quoted_of quoted.now, ALabel)) e) }
-{
-    match Label::read(alloc, quoted.content)? {
-        Some(label) => Ok(label),
-        None => Err(LineStop::Syntax(quoted.place)),
-    }
-}
-
 /// A label, if there is a string.
 #[tactic(auto, using(crate::proofs::FirstBads::handed_on, crate::proofs::FirstBads::refused_here, rdf_values::specs::scripts::Statements::a_label))]
 pub(crate) fn maybe_label(
@@ -72,24 +61,12 @@ pub(crate) fn maybe_label(
     ensures ok { IfOk result (λ n. IsMaybeLabel (option_map quoted_of quoted.now) n) }
     ensures err { IfErr result (λ e. RefusedFor (FirstBad (maybe_wanted (option_map quoted_of quoted.now) ALabel)) e) }
 {
-    match quoted {
-        Some(quoted) => Ok(Some(label(alloc, quoted)?)),
-        None => Ok(None),
-    }
-}
-
-// The operation of that text.
-fn operation_named(text: &[u8]) -> Option<ReduceOp>
-    ensures { MatchOption result ((o : Operation) → text.now ≡ operation_text o → ⊥) (λ o. text.now ≡ operation_text o) }
-{
-    match text {
-        b"min" => Some(ReduceOp::Min),
-        b"max" => Some(ReduceOp::Max),
-        b"and" => Some(ReduceOp::And),
-        b"or" => Some(ReduceOp::Or),
-        b"xor" => Some(ReduceOp::Xor),
-        b"wrapadd" => Some(ReduceOp::WrapAdd),
-        _ => None,
+    let Some(quoted) = quoted else {
+        return Ok(None);
+    };
+    match Label::read(alloc, quoted.content)? {
+        Some(label) => Ok(Some(label)),
+        None => Err(LineStop::Syntax(quoted.place)),
     }
 }
 
@@ -98,9 +75,14 @@ pub(crate) fn operation(quoted: &Quoted<'_>) -> Result<ReduceOp, LineStop>
     ensures ok { IfOk result (λ o. quoted.now.content.now ≡ operation_text o) }
     ensures err { IfErr result (λ e. RefusedFor (IsBad (quoted_of quoted.now, AnOperation)) e) }
 {
-    match operation_named(quoted.content) {
-        Some(operation) => Ok(operation),
-        None => Err(LineStop::Syntax(quoted.place)),
+    match quoted.content {
+        b"min" => Ok(ReduceOp::Min),
+        b"max" => Ok(ReduceOp::Max),
+        b"and" => Ok(ReduceOp::And),
+        b"or" => Ok(ReduceOp::Or),
+        b"xor" => Ok(ReduceOp::Xor),
+        b"wrapadd" => Ok(ReduceOp::WrapAdd),
+        _ => Err(LineStop::Syntax(quoted.place)),
     }
 }
 

@@ -158,26 +158,22 @@ impl<'t, 'a> Walk<'t, 'a> {
         ensures took { IfOk result (λ q. Took (AString ∷ []) (AsQuoted (quoted_of q) ∷ []) (left_of self.old) (left_of self.new)) }
         ensures stuck { result ≡ Err Fail.Unexpected → IsStuck (AString ∷ []) (left_of self.old) (left_of self.new) }
     {
-        match self.peek()? {
-            Token::Quoted(text) => {
-                self.advance();
-                Ok(text)
-            }
-            _ => Err(Fail::Unexpected),
-        }
+        let Token::Quoted(text) = self.peek()? else {
+            return Err(Fail::Unexpected);
+        };
+        self.advance();
+        Ok(text)
     }
 
     fn number(&mut self) -> Result<i64, Fail>
         ensures took { IfOk result (λ z. Took (ANumber ∷ []) (AsNumber z ∷ []) (left_of self.old) (left_of self.new)) }
         ensures stuck { result ≡ Err Fail.Unexpected → IsStuck (ANumber ∷ []) (left_of self.old) (left_of self.new) }
     {
-        match self.peek()? {
-            Token::Number(n) => {
-                self.advance();
-                Ok(n)
-            }
-            _ => Err(Fail::Unexpected),
-        }
+        let Token::Number(n) = self.peek()? else {
+            return Err(Fail::Unexpected);
+        };
+        self.advance();
+        Ok(n)
     }
 
     // The name of a node or a result.
@@ -474,13 +470,8 @@ pub(crate) fn read_form<'a>(
         left: tokens,
     };
     match walk.line() {
-        Ok(form) => {
-            if walk.left.is_empty() {
-                Ok(form)
-            } else {
-                Err(stuck(walk.left, end))
-            }
-        }
+        Ok(form) if walk.left.is_empty() => Ok(form),
+        Ok(_) => Err(stuck(walk.left, end)),
         Err(Fail::Unexpected) => Err(stuck(walk.left, end)),
         Err(Fail::Memory) => Err(LineStop::Memory),
     }

@@ -1,7 +1,7 @@
 -- The table of two parts, and answers about pieces of one.
 use Rattle.std.proofs.Common.{if◌then◌else◌, ◌≡◌, ◌≤◌, ◌<◌, ◌+◌, ℕ, suc, List, [], ◌∷◌, ◌++◌, length, map, Bool, true, false, None, Some, Option, Result, Ok, Err, arith, refl, ap, sym, ◌∙◌, ok_or, not, All, length-append, IfOk, IfSome, MatchResult}
 use Rattle.lemmas.proofs.{length-map, map-append, nat_tests, All-append, All-map, Bor, list_any, list_any-append, result_ok}
-use Rattle.rdf_values.specs.{cells_from, ColType, Column, Header, header_from, mark_of, MarkedRow, MarkedTable, marks_from, on_ok, result_cons, row_of, rows_from, table_of, table_with, TableCause, Memory, Value}
+use Rattle.rdf_values.specs.{cells_from, ColType, Column, Header, header_from, mark_of, MarkedRow, MarkedTable, marks_from, on_ok, result_cons, row_of, rows_from, table_of, table_with, TableCause, Value}
 use Rattle.rdf_values.specs.tables.TableText.{cell_of, mark_in}
 use Rattle.table_csv.specs.{entries_of, marked_joined, marks_behind, csv_records, is_quote, is_special, IsCut, IsHead, IsHeaded, IsPiece, MarkedPieces, Took}
 use Rattle.table_csv.proofs.CellSteps.{result_onto, result_onto-none}
@@ -9,7 +9,6 @@ use Rattle.table_csv.proofs.TableSteps.{marks_append, table_good}
 use Rattle.csv.specs.declared.reader.Reader.{Reader}
 use Rattle.rdf_values.specs.Answered.{Refuses}
 use Rattle.columns.specs.{table_joined}
-use Rattle.table_csv.specs.declared.entries.Marked.{Marked}
 use Rattle.table_csv.specs.declared.refusal.TableRefusal.{TableRefusal}
 use Rattle.table_csv.proofs.CutLines.{csv_cut, no_quote}
 
@@ -153,10 +152,10 @@ good_answer (Ok x) value P Q some h = let same : x ≡ value = cc some in rw sam
 good_answer (Err e) value P Q some h = cc some
 
 -- the answer for a piece
-pub piece_of : (head lines : List ℕ) (answer : Result Marked TableRefusal) (read : Marked) (out : Result MarkedPieces Memory) (wanted : Result MarkedTable TableCause) → list_any is_special lines ≡ false → table_of (csv_records head ++ csv_records lines) ≡ wanted
-    → MatchResult answer (λ m. wanted ≡ Ok (record { table = m.table; marks = m.marks })) (Refuses TableRefusal.At TableRefusal.Memory wanted) → IfOk answer (λ m. All (λ e. e < length m.table.rows) m.marks) → result_ok answer ≡ Some read
-    → IfOk out (λ m. m.table ≡ read.table) → IfOk out (λ m. m.marks ≡ read.marks) → IfSome (result_ok out) (λ m. IsPiece head lines m)
-piece_of head lines answer read out wanted plain w a within some t k = grind arith
+pub piece_of : (head lines : List ℕ) (answer : Result MarkedPieces TableRefusal) (wanted : Result MarkedTable TableCause) → list_any is_special lines ≡ false → table_of (csv_records head ++ csv_records lines) ≡ wanted
+    → MatchResult answer (λ m. wanted ≡ Ok (record { table = m.table; marks = m.marks })) (Refuses TableRefusal.At TableRefusal.Memory wanted) → IfOk answer (λ m. All (λ e. e < length m.table.rows) m.marks)
+    → IfSome (result_ok answer) (λ m. IsPiece head lines m)
+piece_of head lines answer wanted plain w a within = grind arith
 
 -- ---- two pieces
 

@@ -6,18 +6,13 @@ ghost use Rattle.table_csv.specs.{csv_records, entries_of, IsHeaded, Leaves};
 
 use crate::cells::push_row;
 use crate::header::{Heading, read_header};
+use crate::pieces::MarkedPieces;
 use crate::records::{next, open};
 use crate::refusal::TableRefusal;
+use columns::TablePieces;
 use csv::{ByteRecord, Reader};
 use rdf_values::{Marks, Table, TableCause, TableParts};
 use std::alloc::Global;
-
-/// A table, and the entries at which its column of marks says that a cluster begins.
-#[derive(Drop)]
-pub struct Marked {
-    pub table: Table,
-    pub marks: Marks,
-}
 
 /// The header that the next record spells.
 pub(crate) fn read_heading(
@@ -35,13 +30,13 @@ pub(crate) fn read_heading(
     read_header(alloc, &fields)
 }
 
-/// The table of a header and of all records that are left, with its marks.
+/// The table of a header and of all records that are left, in one piece, with its marks.
 #[tactic(auto, using(crate::proofs::TableSteps::same_columns, crate::proofs::TableSteps::reading_opened, crate::proofs::CellSteps::row_early))]
 pub(crate) fn read_entries(
     alloc: Global,
     heading: Heading,
     reader: &mut Reader<&[u8]>,
-) -> Result<Marked, TableRefusal>
+) -> Result<MarkedPieces, TableRefusal>
     requires header { IsHeader heading.columns }
     requires left { (left : List (List (List ℕ))) × Leaves reader.old left }
     ensures value { (left : List (List (List ℕ))) → Leaves reader.old left → MatchResult result
@@ -68,11 +63,12 @@ pub(crate) fn read_entries(
         cells,
         entries: entry,
     });
-    Ok(Marked { table, marks })
+    let table = TablePieces::of(alloc, table)?;
+    Ok(MarkedPieces { table, marks })
 }
 
-/// The table that CSV bytes spell, with its marks. The first record is the header, each other record an entry.
-pub fn read_table(alloc: Global, bytes: &[u8]) -> Result<Marked, TableRefusal>
+/// The table that CSV bytes spell, in one piece, with its marks. The first record is the header, each other record an entry.
+pub(crate) fn read_table(alloc: Global, bytes: &[u8]) -> Result<MarkedPieces, TableRefusal>
     ensures value { MatchResult result (λ m. table_of (csv_records bytes.now) ≡ Ok (record { table = m.table; marks = m.marks }))
         (Refuses TableRefusal.At TableRefusal.Memory (table_of (csv_records bytes.now))) }
     ensures within { IfOk result (λ m. All (λ e. e < length m.table.rows) m.marks) }

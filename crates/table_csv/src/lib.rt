@@ -10,7 +10,6 @@ mod refusal;
 mod slots;
 mod texts;
 
-pub use crate::entries::{Marked, read_table};
 pub use crate::pieces::MarkedPieces;
 pub use crate::refusal::TableRefusal;
 pub use crate::slots::{read_columns, read_table_in_slots};

@@ -3,7 +3,7 @@ ghost use Rattle.std.specs.Prelude.{◌≡◌, ◌≤◌, ◌+◌, ◌<◌, ◌+
 ghost use Rattle.table_csv.specs.{columns_over, IsHead, IsPiece, marks_behind};
 ghost use Rattle.columns.specs.{table_joined};
 
-use crate::entries::{Marked, read_entries, read_heading};
+use crate::entries::{read_entries, read_heading};
 use crate::records::{next, open};
 use crate::texts::has_special;
 use columns::{Columns, TablePieces, cut};
@@ -52,17 +52,6 @@ pub(crate) fn is_head(alloc: Global, bytes: &[u8]) -> Result<bool, Memory>
     Ok(!next(&mut reader, &mut fields)?)
 }
 
-/// A table in one piece.
-pub(crate) fn in_one_piece(alloc: Global, marked: Marked) -> Result<MarkedPieces, Memory>
-    ensures table { IfOk result (λ m. m.table ≡ marked.table) }
-    ensures marks { IfOk result (λ m. m.marks ≡ marked.marks) }
-{
-    Ok(MarkedPieces {
-        table: TablePieces::of(alloc, marked.table)?,
-        marks: marked.marks,
-    })
-}
-
 /// The table of a header line and of lines behind it, where these can be read without the others.
 pub(crate) fn read_piece(alloc: Global, head: &[u8], lines: &[u8]) -> Option<MarkedPieces>
     requires { IsHead head.now }
@@ -72,8 +61,7 @@ pub(crate) fn read_piece(alloc: Global, head: &[u8], lines: &[u8]) -> Option<Mar
         return None;
     }
     let heading = read_heading(alloc, &mut open(alloc, head)).ok()?;
-    let marked = read_entries(alloc, heading, &mut open(alloc, lines)).ok()?;
-    in_one_piece(alloc, marked).ok()
+    read_entries(alloc, heading, &mut open(alloc, lines)).ok()
 }
 
 // Puts the marks of entries behind those of so many entries before them.

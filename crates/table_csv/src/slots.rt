@@ -7,7 +7,7 @@ ghost use Rattle.columns.specs.{joined};
 ghost use Rattle.table_csv.specs.{columns_over, csv_records, EndsLine, IsCut, IsHead, IsPiece, marked_in};
 
 use crate::entries::read_table;
-use crate::pieces::{MarkedPieces, append_pieces, in_one_piece, is_head, read_piece};
+use crate::pieces::{MarkedPieces, append_pieces, is_head, read_piece};
 use crate::refusal::TableRefusal;
 use crate::texts::{Parts, Text, Texts, cut_lines, halved, has_quote, together, whole_lines};
 use columns::{Columns, halves};
@@ -108,7 +108,7 @@ pub fn read_table_in_slots<R: Threads + Sync>(
             return Ok(marked);
         }
     }
-    Ok(in_one_piece(alloc, read_table(alloc, bytes)?)?)
+    read_table(alloc, bytes)
 }
 
 /// The table that the parts spell, kept in the pieces in which it is read. Where it can't be read in pieces, the parts are
@@ -136,7 +136,7 @@ pub(crate) fn read_parts<R: Threads + Sync>(
         }
     }
     let whole = together(alloc, texts)?;
-    Ok(in_one_piece(alloc, read_table(alloc, whole.as_slice())?)?)
+    read_table(alloc, whole.as_slice())
 }
 
 // Gives texts' bytes back, by at most so many threads.

@@ -1,7 +1,5 @@
-use Rattle.std.proofs.Common.{rules, arith, ℕ, ℤ, ◌≡◌, ◌<◌, ◌++◌, List, length, get_or, pos, ap, sym, subst, ◌∙◌}
+use Rattle.std.proofs.Common.{arith, ℤ, ◌++◌, List, length, get_or, pos, ap, sym, subst}
 use Rattle.lemmas.proofs.{take_full}
-use Rattle.rdf_values.specs.{numbers}
-use Rattle.actions.specs.{lane_value, places_of}
 use Rattle.actions.proofs.Batching.{first_are_there, numbers_of_first, singles_counted, singles_mapped, taken_within}
 use Rattle.actions.proofs.folding.fold_lane.Goals as goal
 

@@ -60,9 +60,9 @@ returns-clause-value c whole h =
     let inv = c.loop-fields.invariant.0 whole h in
     let none = rw c.if-branch.false at (c.in_ok-next.ensures _ inv.1) in
     let cols = same_columns _ _ _ _ (sym c.in_ok-new.ensures ∙ c.into_parts-parts.ensures.same) in
-    rw (c.from_parts-table.ensures, cols) (reading_end _ _ _ _ _ _ inv.2 none)
+    rw (c.in_ok-table.ensures, c.from_parts-table.ensures, cols) (reading_end _ _ _ _ _ _ inv.2 none)
 
 pub returns-clause-within : goal.returns-clause-within
 returns-clause-within c =
     let inv = c.loop-fields.invariant.0 c.requires.left.0 c.requires.left.1 in
-    rw (c.from_parts-table.ensures, length-rows_kept) (reading_marks _ _ _ _ _ _ inv.2)
+    rw (c.in_ok-table.ensures, c.from_parts-table.ensures, length-rows_kept) (reading_marks _ _ _ _ _ _ inv.2)

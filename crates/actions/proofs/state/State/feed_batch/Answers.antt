@@ -27,8 +27,8 @@ returns-in-Max-clause-fed c = λ fed below held.
     rw c.in-Max.is (holds_greatest fed c.args.cluster below c.in-Max.column c.in-Max.greatest _ (first_numbers_in c.args.batch.now) _ (c.fold_batch-in-Max.ensures.folded _ [] refl)
     (number_items (ActionKind.Max c.in-Max.column) c.args.batch.now.sources (places_of c.args.batch.now.places) (spread_max c.in-Max.column)) (rw c.in-Max.is at held))
 
-pub returns-in_ok-more-in-Take-clause-within : goal.returns-in_ok-more-in-Take-clause-within
-returns-in_ok-more-in-Take-clause-within c = λ n w.
+pub returns-in-Take-clause-within : goal.returns-in-Take-clause-within
+returns-in-Take-clause-within c = λ n w.
     let before = rw c.in-Take.is at w in
     let ps = places_of c.args.batch.now.places in
     let few = few_values c.args.cluster c.args.batch.now.sources ps in
@@ -37,8 +37,8 @@ returns-in_ok-more-in-Take-clause-within c = λ n w.
     (λ ok. let long = ap length ok.0 ∙ length-append c.in-Take.values _ in omega (arith, before, few, all, long))
     (λ err. let long = ap length err.0 in omega (arith, before, long))
 
-pub returns-in_ok-more-in-Take-clause-fed : goal.returns-in_ok-more-in-Take-clause-fed
-returns-in_ok-more-in-Take-clause-fed c = λ fed below held.
+pub returns-in-Take-clause-fed : goal.returns-in-Take-clause-fed
+returns-in-Take-clause-fed c = λ fed below held.
     let s = c.args.batch.now.sources in
     let ps = places_of c.args.batch.now.places in
     on_ok c.append.result _ _ c.append.ensures.ok (λ ok. rw c.in-Take.is (holds_taken fed c.args.cluster below c.in-Take.column c.in-Take.values _ (flat_map (λ p. first_scalar (values_at s p)) ps) _

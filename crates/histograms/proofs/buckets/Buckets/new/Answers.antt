@@ -1,6 +1,5 @@
-use Rattle.std.proofs.Common.{◌<◌, ◌-◌, ◌∙◌, length, get_or, pos, arith, ap, subst, sym, rules, w64, FitsSigned}
+use Rattle.std.proofs.Common.{◌-◌, length, get_or, pos, arith, sym, rules, w64, FitsSigned}
 use Rattle.std.proofs.lemmas.Int.{to_z-of_z}
-use Rattle.histograms.specs.{bucket_of}
 use Rattle.histograms.proofs.Starts.{starts-more}
 use Rattle.histograms.proofs.buckets.Buckets.new.Goals as goal
 

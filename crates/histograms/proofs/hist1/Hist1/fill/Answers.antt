@@ -1,7 +1,6 @@
-use Rattle.std.proofs.Common.{◌≡◌, ◌<◌, ◌≤◌, ◌+◌, ◌∙◌, length, map, get_or, set, arith, ap, sym, subst, w64, length-set}
+use Rattle.std.proofs.Common.{◌≡◌, ◌<◌, ◌+◌, ◌∙◌, length, arith, ap, sym, subst, w64, length-set}
 use Rattle.std.proofs.lemmas.Int.{to_z-of_z}
-use Rattle.rdf_values.specs.{bin}
-use Rattle.histograms.specs.{cell_seen, IsBounded, with_weight}
+use Rattle.histograms.specs.{IsBounded, with_weight}
 use Rattle.histograms.proofs.Filling.{all_bounded_with, bounded_with, flat_cells-point}
 use Rattle.histograms.proofs.hist1.Hist1.fill.Goals as goal
 

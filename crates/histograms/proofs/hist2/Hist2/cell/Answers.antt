@@ -1,4 +1,4 @@
-use Rattle.std.proofs.Common.{rules, ◌≡◌, ◌≤◌, ◌+◌, ◌*◌, ◌∙◌, length, map, get_or, arith, ap, sym, vec_len, []}
+use Rattle.std.proofs.Common.{◌≡◌, ◌≤◌, ◌+◌, ◌*◌, ◌∙◌, length, map, get_or, arith, ap, sym, []}
 use Rattle.lemmas.proofs.{get_or-map, slice_get_read}
 use Rattle.histograms.specs.{cell_seen, rows_on}
 use Rattle.histograms.proofs.FillingPairs.{cell_of_row, length-row, length-rows, place_within}

@@ -5,8 +5,8 @@ use Rattle.script_read.specs.{ANumber, token_of}
 use Rattle.script_read.proofs.Walked.{took_seen, no_number, stuck_token}
 use Rattle.script_read.proofs.walk.Walk.number.Goals as goal
 
-pub returns-in-Number-clause-took : goal.returns-in-Number-clause-took
-returns-in-Number-clause-took c =
+pub returns-clause-took : goal.returns-clause-took
+returns-clause-took c =
     let fits : SFits w64 c.in-Number.n = first_of (search rules, grind (arith, common_steps)) in
     let same : to_z w64 (of_z w64 c.in-Number.n) ≡ c.in-Number.n = to_z-of_z w64 c.in-Number.n fits in
     let seen = ap token_of c.in-Number.is ∙ ap Number (sym same) in
