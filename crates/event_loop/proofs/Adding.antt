@@ -157,7 +157,8 @@ module _ (j : JobView) (n : ℕ) (m : NumberedPass) (its : numbered_in j n ≡ S
       let ps = of_chosen (slice_get (graph_loops (job_graph j)) j.number) n m its in
       record {
         its_result = result_within g same;
-        its_variation = subst (λ (h : GraphView). (v : ℕ) → m.variation ≡ Some v → v < length (graph_variations h)) (sym same) (is_in_for (length (graph_variations (job_graph j))) m.variation (variation_within (job_graph j) j.number n ps.0 m ps.1 ps.2));
+        its_variation = subst (λ (h : GraphView). (v : ℕ) → m.variation ≡ Some v → v < length (graph_variations h)) (sym same)
+            (is_in_for (length (graph_variations (job_graph j))) m.variation (variation_within (job_graph j) j.number n ps.0 m ps.1 ps.2));
       }
 
   -- ---- what it is
@@ -178,10 +179,12 @@ module _ (j : JobView) (n : ℕ) (m : NumberedPass) (its : numbered_in j n ≡ S
         let b = of_action k e in
         has_edges (fn_names j.dataset.fns) (scope_of j.dataset.columns) (history j.script) (accepted_of j job) (all_short j.script job.graph.bookable) m.result its_result.booked k b.0 booked_is b.1
 
-    pub may_watch : (job : IsJob j) (k : ActionKind) → kind ≡ ResultKind.Action k → (i : ℕ) → place_if_watched (history j.script) i (record { result = its_result.booked; under = graph_under (job_graph j) m.variation }) ≡ i ∷ [] → CanWatch k
+    pub may_watch : (job : IsJob j) (k : ActionKind) → kind ≡ ResultKind.Action k → (i : ℕ)
+        → place_if_watched (history j.script) i (record { result = its_result.booked; under = graph_under (job_graph j) m.variation }) ≡ i ∷ [] → CanWatch k
     may_watch job k e i on =
         let b = of_action k e in
-        can_be_watched (fn_names j.dataset.fns) (scope_of j.dataset.columns) (history j.script) (accepted_of j job) m.result its_result.booked k b.0 booked_is b.1 (watched_at (history j.script) i _ on)
+        can_be_watched (fn_names j.dataset.fns) (scope_of j.dataset.columns) (history j.script) (accepted_of j job) m.result its_result.booked k b.0 booked_is b.1
+        (watched_at (history j.script) i _ on)
 
 -- ---- one more
 
@@ -209,7 +212,8 @@ module _ (j : JobView) (n : ℕ) (p : Pass) (here : slice_get (passes_in j) n �
     kept t h = subst (λ ks. IsFresh ks (places_before j (n + 1)) t) (sym same_kinds) (subst (λ ws. IsFresh (kinds_in (take n (passes_in j))) ws t) (sym same_places) h)
 
   -- an action's pass adds its kind, and its place where it is watched
-  pub added : (k : ActionKind) (at : Path) → p.result.booking ≡ ActionAt k at → (w : Bool) → place_if_watched (history j.script) (length (kinds_in (take n (passes_in j)))) p ≡ place_if w (kinds_in (take n (passes_in j)))
+  pub added : (k : ActionKind) (at : Path) → p.result.booking ≡ ActionAt k at → (w : Bool)
+      → place_if_watched (history j.script) (length (kinds_in (take n (passes_in j)))) p ≡ place_if w (kinds_in (take n (passes_in j)))
       → (t : TallyView) → IsFresh (kinds_in (take n (passes_in j)) ++ k ∷ []) (places_before j n ++ place_if w (kinds_in (take n (passes_in j)))) t → IsOfPasses j (n + 1) t
   added k at of w told t h =
       subst (λ ks. IsFresh ks (places_before j (n + 1)) t) (sym (kinds_next (passes_in j) n p here ∙ ap (λ b. kinds_in (take n (passes_in j)) ++ kind_in b) of))

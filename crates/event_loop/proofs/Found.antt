@@ -94,7 +94,8 @@ watched_more script qs q =
     omega (arith, all, both, own, same_count)
 
 -- one place where the next pass is watched
-own_places : (script : List Statement) (q : Pass) (b : Bool) (w : ℕ) → w ≡ bool_byte b → place_if_watched script 0 q ≡ (if b then 0 ∷ [] else []) → w ≡ length (place_if_watched script 0 q)
+own_places : (script : List Statement) (q : Pass) (b : Bool) (w : ℕ) → w ≡ bool_byte b
+    → place_if_watched script 0 q ≡ (if b then 0 ∷ [] else []) → w ≡ length (place_if_watched script 0 q)
 own_places script q true w is e = is ∙ sym (ap (λ (l : List ℕ). length l) e)
 own_places script q false w is e = is ∙ sym (ap (λ (l : List ℕ). length l) e)
 

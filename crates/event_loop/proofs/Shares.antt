@@ -66,7 +66,8 @@ none_watched job k dones none = ([], record { noted = λ some. absurd (omega ari
 
 -- the partial results over the sets that the orders of the shares tell
 pub noted_partials : (job : JobFacts) (k clusters : ℕ) (orders dones : List (List ℕ)) (partials : List (List PartialLine))
-    → length job.facts.ranges ≡ clusters → AreNoted orders dones clusters → HavePartialsOver job.facts job.watched k (noted_sets orders dones clusters k) partials → HaveNoted job k dones partials
+    → length job.facts.ranges ≡ clusters → AreNoted orders dones clusters
+    → HavePartialsOver job.facts job.watched k (noted_sets orders dones clusters k) partials → HaveNoted job k dones partials
 noted_partials job k clusters orders dones partials ranges noted over = (
   orders,
   record {
@@ -76,7 +77,9 @@ noted_partials job k clusters orders dones partials ranges noted over = (
 )
 
 -- where there is a book
-pub noted_in : (b : BookSeen) (o : Option BookSeen) (watched clusters : ℕ) (job : JobFacts) (made : Made) (can : CanFill o watched clusters job made) → o ≡ Some b → (orders : List (List ℕ)) → orders ≡ map numbers_in made.shares
+pub noted_in : (b : BookSeen) (o : Option BookSeen) (watched clusters : ℕ) (job : JobFacts) (made : Made) (can : CanFill o watched clusters job made)
+    → o ≡ Some b → (orders : List (List ℕ)) → orders ≡ map numbers_in made.shares
     → DrawnBy (map numbers_in made.shares) (many_in (map numbers_in made.shares)) → AreNoted orders can.finished.dones clusters
 noted_in b o watched clusters job made can is orders orders_are drawn = subst (λ (os : List (List ℕ)). AreNoted os can.finished.dones clusters) (sym orders_are)
-    (are_noted can.finished.dones (map numbers_in made.shares) clusters (subst (λ (n : ℕ). IsUnion can.finished.dones (below n)) can.facts.faults can.finished.unite) (can.finished.are.noted b is).noted drawn)
+    (are_noted can.finished.dones (map numbers_in made.shares) clusters
+    (subst (λ (n : ℕ). IsUnion can.finished.dones (below n)) can.facts.faults can.finished.unite) (can.finished.are.noted b is).noted drawn)

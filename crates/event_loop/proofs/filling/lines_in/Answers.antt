@@ -33,4 +33,6 @@ returns c = λ job can.
     (c.partial_lines.ensures job.facts job.watched dones noted (subst (HaveAllTrails job.facts job.watched dones) (sym c.as_slice.ensures) can.finished.are.trails) can.watches can.facts.ranges)
 
 pub returns-in_default : goal.returns-in_default
-returns-in_default c = λ job can. subst (HaveNoted job c.args.noting.watch can.finished.dones) (sym c.new.ensures) (none_watched job c.args.noting.watch can.finished.dones (can.watches ∙ can.unbooked c.in_default.is))
+returns-in_default c = λ job can.
+    subst (HaveNoted job c.args.noting.watch can.finished.dones) (sym c.new.ensures)
+    (none_watched job c.args.noting.watch can.finished.dones (can.watches ∙ can.unbooked c.in_default.is))

@@ -22,5 +22,6 @@ returns-in-None c = λ b job facts ran.
     let f = c.finish.ensures in
     let told = have_ended c.args.claims b job c.finish.result.bar c.args.finished.items _ c.finish.result.word c.in_ok-least.least _ (omega (arith, c.requires.some)) c.as_slice.ensures.value c.in_ok-least.ensures.memory c.in_ok-least.ensures.least
     c.in_ok-seats.ensures.seats f.drawn f.bar f.passed f.kept in
-    have_finished c.args.claims b job c.finish.result.bar c.args.finished.items c.finish.result.word c.in_ok-least.least facts ran told c.in-None.is c.args.claims.slots (omega (arith, c.requires.many)) c.in_ok-seats.made c.in_ok-seats.ensures.pieces
+    have_finished c.args.claims b job c.finish.result.bar c.args.finished.items c.finish.result.word c.in_ok-least.least facts ran told c.in-None.is
+    c.args.claims.slots (omega (arith, c.requires.many)) c.in_ok-seats.made c.in_ok-seats.ensures.pieces
     c.in_ok-seats.ensures.shares

@@ -5,7 +5,10 @@ use Rattle.event_loop.proofs.Adding.{counted, filters_same, of_all, read}
 use Rattle.event_loop.proofs.passes.tally_of.Goals as goal
 
 pub loop-pass-init : goal.loop-pass-init
-loop-pass-init g c = (c.in_ok-tally.ensures.fresh, c.in_ok-tally.ensures.flow ∙ ap (λ n. replicate n nothing) (c.filters.ensures ∙ filters_same (job_of c.args.job.now) c.args.job.now.graph.now c.requires.graph))
+loop-pass-init g c = (
+  c.in_ok-tally.ensures.fresh,
+  c.in_ok-tally.ensures.flow ∙ ap (λ n. replicate n nothing) (c.filters.ensures ∙ filters_same (job_of c.args.job.now) c.args.job.now.graph.now c.requires.graph),
+)
 
 pub returns-clause-fresh : goal.returns-clause-fresh
 returns-clause-fresh g c =

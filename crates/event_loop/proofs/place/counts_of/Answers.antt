@@ -12,5 +12,6 @@ loop-pass-preserved c =
     record {
       few_actions = omega arith;
       few_watched = omega (arith, one_watched);
-      each = next_counts c.args.graph.now c.args.passes.now c.loop-pass.pass-index _ c.loop-pass.actions c.loop-pass.watched _ _ _ (slice_get-get_or c.args.passes.now c.loop-pass.pass-index _ c.loop-pass-test.true) c.loop-pass.invariant.each c.accumulators-actions.ensures.value c.from-watched.ensures c.is_watched.ensures;
+      each = next_counts c.args.graph.now c.args.passes.now c.loop-pass.pass-index _ c.loop-pass.actions c.loop-pass.watched _ _ _
+          (slice_get-get_or c.args.passes.now c.loop-pass.pass-index _ c.loop-pass-test.true) c.loop-pass.invariant.each c.accumulators-actions.ensures.value c.from-watched.ensures c.is_watched.ensures;
     }
