@@ -56,6 +56,7 @@ fn watcher_if(
 }
 
 // Feeds a batch to the accumulator of a pass.
+#[tactic(auto, using(std::proofs::lemmas::Option::slice_get_read, crate::proofs::BlockFeeds::took, std::proofs::lemmas::Option::same_Some))]
 fn feed_acc_batch(
     accs: &mut [Acc],
     pass: u32,
@@ -73,6 +74,7 @@ fn feed_acc_batch(
 }
 
 // Feeds a batch to the accumulator of a pass that is watched, if it is.
+#[tactic(auto, using(std::proofs::lemmas::Option::slice_get_read, std::proofs::lemmas::Option::same_Some))]
 fn feed_watched_batch(watched: &mut [Option<Watcher>], pass: u32, cluster: u32, batch: &Batch<'_>)
     requires within { pass < length watched.old }
     requires there { EachPlace batch.now.places (HasValues batch.now.sources) }
@@ -170,6 +172,7 @@ impl Tally {
     }
 
     /// Takes in how many entries of a block reach the next named filter, and how many pass it.
+    #[tactic(auto, using(crate::proofs::BlockNotes::within, crate::proofs::BlockNotes::are_counts, crate::proofs::BlockNotes::has_room))]
     pub fn note_counts(&mut self, filter: u32, counts: Counts)
         requires { (f : LoopFacts) × (watched : List ℕ) × (s : BlockStage) × CanNoteCounts f watched s self.old filter counts }
         ensures { (f : LoopFacts) (watched : List ℕ) (s : BlockStage) → CanNoteCounts f watched s self.old filter counts → HoldsIn f watched (filter_done s) self.new }
@@ -178,6 +181,7 @@ impl Tally {
     }
 
     /// Notes what the cluster that ends gives to each watched result, and begins those anew.
+    #[tactic(auto, using(std::proofs::lemmas::List::with_items_is, crate::proofs::Closing::on_both_ok, crate::proofs::Closing::holds_closed))]
     pub fn close(&mut self, cluster: u32) -> Result<(), Memory>
         requires { (f : LoopFacts) × (watched : List ℕ) × (s : Stage) × Holds f watched s self.old × IsAtEnd f s cluster }
         ensures holds { (f : LoopFacts) (watched : List ℕ) (s : Stage) (next : ℕ) → Holds f watched s self.old → IsAtEnd f s cluster → cluster < next

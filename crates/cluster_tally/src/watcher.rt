@@ -76,6 +76,7 @@ impl Watcher {
     }
 
     /// Takes in what the places of a block feed, of one cluster; clusters don't fall.
+    #[tactic(auto, using(crate::proofs::BlockFeeds::none_kept))]
     pub fn feed_batch(&mut self, cluster: u32, batch: &Batch<'_>)
         requires there { EachPlace batch.now.places (HasValues batch.now.sources) }
         requires suits { EachPlace batch.now.places (SuitsAt self.old.kind batch.now.sources) }

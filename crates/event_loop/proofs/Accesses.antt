@@ -1,15 +1,14 @@
 -- The completed loop that fills a result, and what a session is after an access.
-use Rattle.std.proofs.Common.{if◌then◌else◌, ◌≡◌, ◌⊎◌, inl, inr, ℕ, ◌+◌, ◌<◌, ◌≤◌, Bool, true, false, List, [], ◌∷◌, ◌++◌, length, Option, Some, None, sym, ◌∙◌, ap, subst, arith, slice_get, unwrap_or, take, refl, length-append, IfSome, filter_map, option_map}
-use Rattle.lemmas.proofs.{before_or_last, cases_lt, cons_option, filter_map-append, IfSome_then, kept_at, same_some, slice_get_within, something_at, take_next}
+use Rattle.std.proofs.Common.{if◌then◌else◌, ◌≡◌, ◌⊎◌, inl, inr, ℕ, ◌+◌, ◌<◌, ◌≤◌, Bool, true, List, [], ◌∷◌, ◌++◌, length, Option, Some, None, sym, ◌∙◌, ap, subst, arith, slice_get, unwrap_or, take, refl, length-append, IfSome, filter_map, option_map}
+use Rattle.lemmas.proofs.{before_or_last, cons_option, filter_map-append, IfSome_then, kept_at, same_some, slice_get_within, something_at, take_next}
 use Rattle.rdf_values.specs.{Booked, history, Pass, passes_of, Fault, first_in, Statement}
 use Rattle.rdf_model.specs.{kind_in, kinds_in, loop_passes, loop_results, Access, accesses, ComesInTurn, Dataset, filled_by, first_fault, first_fault_from, loop_of, loops_before}
-use Rattle.graph_numbers.specs.{graph_loops, graph_results, ResultAt, graph_prints}
+use Rattle.graph_numbers.specs.{graph_loops, graph_results, ResultAt}
 use Rattle.graph_numbers.proofs.Placing.{itself}
 use Rattle.graph_numbers.proofs.Walks.{next_at}
 use Rattle.loop_keys.specs.{passes_in}
 use Rattle.loop_keys.proofs.PassNumbers.{lines_few}
 use Rattle.loop_pieces.specs.{place_if_watched, watched_from, watched_places}
-use Rattle.graph.proofs.Looped.{loops_few}
 use Rattle.event_loop.specs.{FilledLoop, fills, IsPlaced, IsSession, IsUnfilled, session_job, SessionView, IsAccessed, IsFaulted, IsFilled, IsFilledIn, IsKept, job_facts, loop_filling, passes_run}
 use Rattle.event_loop.specs.declared.place.Place.{Place}
 use Rattle.event_loop.proofs.Found.{watched-append, in_turn}

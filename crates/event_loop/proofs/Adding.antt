@@ -1,8 +1,8 @@
 -- One more pass, and what an accepted script says of its actions: their edges are those of an axis, and only numbers are watched.
-use Rattle.std.proofs.Common.{◌≡◌, inl, inr, ℕ, ◌≤◌, Bool, true, false, List, [], ◌∷◌, ◌++◌, length, map, None, Some, refl, sym, ◌∙◌, ap, subst, arith, slice_get, append-nil, if◌then◌else◌, ◌+◌, ◌<◌, ◌^◌, take, get_or, Option, unwrap_or, option_map, is_none}
-use Rattle.lemmas.proofs.{All-map, All-permutation, AllByRecursion, and_right, IsPermutation-reverse, length-map, mapped_at, recursion_from_All, same_Some, same_some, something_at, take_front, take_next}
+use Rattle.std.proofs.Common.{◌≡◌, ◌&&◌, inl, inr, ℕ, ◌≤◌, Bool, true, false, List, [], ◌∷◌, ◌++◌, length, map, None, Some, refl, sym, ◌∙◌, ap, subst, arith, slice_get, append-nil, ◌+◌, ◌<◌, ◌^◌, take, get_or, unwrap_or, option_map, is_none}
+use Rattle.lemmas.proofs.{All-map, All-permutation, AllByRecursion, IsPermutation-reverse, length-map, mapped_at, recursion_from_All, same_Some, same_some, take_all, take_front, take_next}
 use Rattle.std.proofs.lemmas.Bool.{and_parts, both_ways, or_cases, or_left, or_right}
-use Rattle.rdf_values.specs.{ActionAt, ActionKind, among, are_edges, AreAccepted, Booked, booked_by, bookings, can_watch, check, check_edges, FunctionNames, GraphCause, history, is_result, is_watched, IsBookable, IsShort, Line, names_of, Path, refuse_unless, result_is, same, Scope, Script, Statement, fn_names, named_before, Pass, scope_of, variations}
+use Rattle.rdf_values.specs.{ActionAt, ActionKind, among, are_edges, AreAccepted, Booked, booked_by, bookings, can_watch, check, check_edges, FunctionNames, GraphCause, history, is_result, is_watched, IsBookable, IsShort, Line, names_of, Path, refuse_unless, result_is, same, Scope, Script, Statement, fn_names, named_before, Pass, scope_of}
 use Rattle.rdf_values.specs.declared.scripts.statement.Statement.TheVariants.{Action, Watch}
 use Rattle.rdf_model.proofs.Accepted.{both_none, names_equal, third, unless_holds}
 use Rattle.histograms.specs.{IsAxis}
@@ -12,18 +12,18 @@ use Rattle.graph.proofs.Filled.{all_in_turn, later_named}
 use Rattle.cluster_tally.specs.{CanWatch, IsFresh, place_if, TallyView}
 use Rattle.event_loop.proofs.LoopResults.{kept_any, one_number}
 use Rattle.rdf_model.specs.{is_covered, kind_in, kinds_in}
-use Rattle.graph_numbers.specs.{graph_filters, graph_loops, graph_results, graph_under, graph_variations, GraphView, kind_of_booking, Pass as NumberedPass, ResultAt, ResultKind, under_at}
+use Rattle.graph_numbers.specs.{graph_filters, graph_loops, graph_results, graph_under, graph_variations, GraphView, kind_of_booking, Pass as NumberedPass, pass_at, ResultAt, ResultKind}
 use Rattle.graph_numbers.proofs.Resulting.{booked_are}
 use Rattle.loop_keys.specs.{IsJob, job_graph, JobView, numbered_in, numbered_passes, passes_in}
 use Rattle.loop_keys.proofs.EvaluateLaws.{accepted_of}
 use Rattle.loop_keys.proofs.PassNumbers.{pass_of, passes_count, result_inside, result_there, few_passes, kinds_next}
 use Rattle.loop_keys.proofs.Elements.{of_chosen}
 use Rattle.loop_keys.proofs.ReportTies.{covered_count}
-use Rattle.loop_keys.proofs.EntryLaws.{read_pass}
+use Rattle.loop_keys.proofs.EntryLaws.{all_taken, read_pass}
 use Rattle.loop_pieces.specs.{place_if_watched, watched_from, watched_places}
 use Rattle.result_text.proofs.PassLines.{action_booking}
-use Rattle.result_text.proofs.Within.{IsIn, variation_within}
-use Rattle.event_loop.specs.{is_watched_pass, IsOfPasses, places_before}
+use Rattle.result_text.proofs.Within.{is_in_for, variation_within}
+use Rattle.event_loop.specs.{IsOfPasses, IsPassOf, places_before}
 use Rattle.event_loop.proofs.Found.{watched-append}
 
 -- ---- edges
@@ -111,11 +111,9 @@ pub all_short : (script : Script) → IsBookable script → AllByRecursion IsSho
 all_short script h = recursion_from_All IsShort (history script)
     (All-permutation IsShort _ (history script) (IsPermutation-reverse (map (λ (l : Line). l.statement) script.lines)) (All-map IsShort (λ (l : Line). l.statement) script.lines h.short))
 
--- ---- the variation of a pass is one of the script
-
-under_there : (script : List Statement) (u : Option ℕ) → IsIn (length (variations script)) u → is_none (under_at script u) ≡ is_none u
-under_there script None h = refl
-under_there script (Some v) h = ap is_none (something_at (variations script) v h).1
+-- what has a place is watched
+pub watched_at : (script : List Statement) (n : ℕ) (p : Pass) → place_if_watched script n p ≡ n ∷ [] → is_watched script p.result.name ≡ true
+watched_at script n p e = grind (arith, by_test)
 
 -- ---- the passes of a job by numbers
 
@@ -134,11 +132,6 @@ numbered_at j g ps e q n lt d = let is = read j g ps e q in read_pass j ps is n 
 -- ---- a pass by its number
 
 module _ (j : JobView) (n : ℕ) (m : NumberedPass) (its : numbered_in j n ≡ Some m) where
-  pub under_same : is_none (graph_under (job_graph j) m.variation) ≡ is_none m.variation
-  under_same =
-      let ps = of_chosen (slice_get (graph_loops (job_graph j)) j.number) n m its in
-      under_there (history j.script) m.variation (variation_within (job_graph j) j.number n ps.0 m ps.1 ps.2)
-
   abbrev pub its_result : ResultAt
   its_result = (result_there j n m its).0
 
@@ -156,13 +149,17 @@ module _ (j : JobView) (n : ℕ) (m : NumberedPass) (its : numbered_in j n ≡ S
       ap (λ bs. slice_get bs m.result) (sym (booked_are j.dataset.columns (fn_names j.dataset.fns) (history j.script)))
       ∙ mapped_at (λ (x : ResultAt). x.booked) (graph_results (job_graph j)) m.result its_result its_result_is
 
-  -- the pass is the nominal one of a watched result
-  pub flag_is : (p : Pass) → slice_get (passes_in j) n ≡ Some p → m.variation ≡ None → (w : Bool) (g : GraphView) → g ≡ job_graph j
-      → option_map (λ (x : ResultAt). is_watched (history g.script) x.booked.name) (slice_get (graph_results g) m.result) ≡ Some w → w ≡ is_watched_pass (history j.script) p
-  flag_is p here nominal w g of h = grind (arith, same_Some, its_pass, its_result_is, under_same)
+  pub named : pass_at (history j.script) m ≡ Some (record { result = its_result.booked; under = graph_under (job_graph j) m.variation })
+  named = grind (arith, booked_is)
 
-  pub not_nominal : (p : Pass) (v : ℕ) → slice_get (passes_in j) n ≡ Some p → m.variation ≡ Some v → is_watched_pass (history j.script) p ≡ false
-  not_nominal p v here under = grind (arith, same_Some, its_pass, under_same)
+  pub is_its_pass : (g : GraphView) → g ≡ job_graph j → IsPassOf g m
+  is_its_pass g same =
+      let ps = of_chosen (slice_get (graph_loops (job_graph j)) j.number) n m its in
+      record {
+        its_result = result_within g same;
+        its_variation = subst (λ (h : GraphView). (v : ℕ) → m.variation ≡ Some v → v < length (graph_variations h)) (sym same)
+            (is_in_for (length (graph_variations (job_graph j))) m.variation (variation_within (job_graph j) j.number n ps.0 m ps.1 ps.2));
+      }
 
   -- ---- what it is
 
@@ -182,11 +179,12 @@ module _ (j : JobView) (n : ℕ) (m : NumberedPass) (its : numbered_in j n ≡ S
         let b = of_action k e in
         has_edges (fn_names j.dataset.fns) (scope_of j.dataset.columns) (history j.script) (accepted_of j job) (all_short j.script job.graph.bookable) m.result its_result.booked k b.0 booked_is b.1
 
-    pub may_watch : (job : IsJob j) (k : ActionKind) → kind ≡ ResultKind.Action k → is_watched_pass (history j.script) (record { result = its_result.booked; under = graph_under (job_graph j) m.variation }) ≡ true → CanWatch k
-    may_watch job k e on =
+    pub may_watch : (job : IsJob j) (k : ActionKind) → kind ≡ ResultKind.Action k → (i : ℕ)
+        → place_if_watched (history j.script) i (record { result = its_result.booked; under = graph_under (job_graph j) m.variation }) ≡ i ∷ [] → CanWatch k
+    may_watch job k e i on =
         let b = of_action k e in
         can_be_watched (fn_names j.dataset.fns) (scope_of j.dataset.columns) (history j.script) (accepted_of j job) m.result its_result.booked k b.0 booked_is b.1
-        (and_right (is_none (graph_under (job_graph j) m.variation)) (is_watched (history j.script) its_result.booked.name) on)
+        (watched_at (history j.script) i _ on)
 
 -- ---- one more
 
@@ -202,7 +200,7 @@ module _ (j : JobView) (n : ℕ) (p : Pass) (here : slice_get (passes_in j) n �
   -- a report's pass adds nothing
   module _ (none : kind_in p.result.booking ≡ []) where
     no_place : place_if_watched (history j.script) (length (kinds_in (take n (passes_in j)))) p ≡ []
-    no_place = by_test (is_watched_pass (history j.script) p) (λ e. rw e (ap (map (λ k. length (kinds_in (take n (passes_in j))))) none)) (λ e. rw e refl)
+    no_place = by_test (is_none p.under && is_watched (history j.script) p.result.name) (λ e. rw e (ap (map (λ k. length (kinds_in (take n (passes_in j))))) none)) (λ e. rw e refl)
 
     same_kinds : kinds_in (take (n + 1) (passes_in j)) ≡ kinds_in (take n (passes_in j))
     same_kinds = kinds_next (passes_in j) n p here ∙ ap (λ l. kinds_in (take n (passes_in j)) ++ l) none ∙ append-nil (kinds_in (take n (passes_in j)))
@@ -214,18 +212,16 @@ module _ (j : JobView) (n : ℕ) (p : Pass) (here : slice_get (passes_in j) n �
     kept t h = subst (λ ks. IsFresh ks (places_before j (n + 1)) t) (sym same_kinds) (subst (λ ws. IsFresh (kinds_in (take n (passes_in j))) ws t) (sym same_places) h)
 
   -- an action's pass adds its kind, and its place where it is watched
-  module _ (k : ActionKind) (at : Path) (of : p.result.booking ≡ ActionAt k at) where
-    more_kinds : kinds_in (take (n + 1) (passes_in j)) ≡ kinds_in (take n (passes_in j)) ++ k ∷ []
-    more_kinds = kinds_next (passes_in j) n p here ∙ ap (λ b. kinds_in (take n (passes_in j)) ++ kind_in b) of
+  pub added : (k : ActionKind) (at : Path) → p.result.booking ≡ ActionAt k at → (w : Bool)
+      → place_if_watched (history j.script) (length (kinds_in (take n (passes_in j)))) p ≡ place_if w (kinds_in (take n (passes_in j)))
+      → (t : TallyView) → IsFresh (kinds_in (take n (passes_in j)) ++ k ∷ []) (places_before j n ++ place_if w (kinds_in (take n (passes_in j)))) t → IsOfPasses j (n + 1) t
+  added k at of w told t h =
+      subst (λ ks. IsFresh ks (places_before j (n + 1)) t) (sym (kinds_next (passes_in j) n p here ∙ ap (λ b. kinds_in (take n (passes_in j)) ++ kind_in b) of))
+      (subst (λ ws. IsFresh (kinds_in (take n (passes_in j)) ++ k ∷ []) ws t) (sym (places_next ∙ ap (λ l. places_before j n ++ l) told)) h)
 
-    one_place : place_if_watched (history j.script) (length (kinds_in (take n (passes_in j)))) p ≡ place_if (is_watched_pass (history j.script) p) (kinds_in (take n (passes_in j)))
-    one_place = ap (λ b. if is_watched_pass (history j.script) p then map (λ k. length (kinds_in (take n (passes_in j)))) (kind_in b) else []) of
-
-    more_places : places_before j (n + 1) ≡ places_before j n ++ place_if (is_watched_pass (history j.script) p) (kinds_in (take n (passes_in j)))
-    more_places = places_next ∙ ap (λ l. places_before j n ++ l) one_place
-
-    pub added : (t : TallyView) → IsFresh (kinds_in (take n (passes_in j)) ++ k ∷ []) (places_before j n ++ place_if (is_watched_pass (history j.script) p) (kinds_in (take n (passes_in j)))) t → IsOfPasses j (n + 1) t
-    added t h = grind (arith, more_kinds, more_places)
+-- those of all passes
+pub of_all : (j : JobView) (n : ℕ) (t : TallyView) → length (passes_in j) ≤ n → IsOfPasses j n t → IsOfPasses j (length (passes_in j)) t
+of_all j n t le h = subst (λ (ps : List Pass). IsFresh (kinds_in ps) (watched_places (history j.script) ps) t) (take_all (passes_in j) n le ∙ sym (all_taken (passes_in j))) h
 
 -- ---- named filters
 

@@ -1,8 +1,8 @@
 -- What the slots of a loop tell once all have stopped.
-use Rattle.std.proofs.Common.{◌≡◌, ℕ, suc, ◌-◌, ◌<◌, ◌≤◌, List, ◌∷◌, ◌++◌, length, get_or, drop, Option, Some, sym, ap, ◌∙◌, subst, arith, drop-cons, ◌⊎◌, zero, min, [], map, None, refl, inl, inr, ⊎_elim, flat_map, slice_get, IfSome, IsSomeAnd}
-use Rattle.lemmas.proofs.{All, All-cons, All-head, All-nil, All-tail, cases_lt, concat, same_some, slice_get-get_or}
+use Rattle.std.proofs.Common.{◌≡◌, ℕ, suc, ◌-◌, ◌<◌, ◌≤◌, List, ◌∷◌, ◌++◌, length, get_or, drop, Option, Some, sym, ap, ◌∙◌, subst, arith, drop-cons, ◌⊎◌, zero, min, [], map, None, refl, inl, inr, ⊎_elim, slice_get, IfSome, IsSomeAnd}
+use Rattle.lemmas.proofs.{All, All-cons, All-head, All-nil, All-tail, cases_lt, concat, length-map, same_some, slice_get-get_or}
 use Rattle.rdf_values.specs.{Fault, least_fault, DrawnBy, first_in, once_below, times}
-use Rattle.event_loop.specs.{end_faults, fault_of, HasMemory, IsServed, SlotView, AreDone, AreFacts, done_in, done_or_none, finished_by, HasStopped, HasWorked, IsDone, JobFacts, seat_in, Stopped}
+use Rattle.event_loop.specs.{AreFacts, AreMade, end_faults, fault_of, HasMemory, HasNoted, HasStopped, HaveFinished, IsOver, IsServed, JobFacts, piece_of, pieces_in, seat_in, shares_in, Stopped}
 use Rattle.event_loop.specs.declared.workers.Finished.{Finished}
 use Rattle.event_loop.specs.declared.workers.End.{End}
 use Rattle.event_loop.specs.declared.workers.End.TheVariants.{Over, Faulted, NoMemory}
@@ -11,6 +11,9 @@ use Rattle.merge_core.proofs.Faults.{Among, Told, told_nothing, told_both, first
 use Rattle.merge_core.proofs.Holding.{only}
 use Rattle.slot_words.specs.{BookSeen, ClaimsSeen, IsLeast, IsPassed, last_of, MetBar, RanOut, SeatSeen}
 use Rattle.event_loop.specs.declared.workers.Slot.{Slot}
+use Rattle.event_loop.specs.declared.gather.Made.{Made}
+use Rattle.event_loop.proofs.Shares.{none_made, one_made}
+use Rattle.loop_pieces.specs.{HaveTrails, LoopPiece, StandsFor}
 
 -- what is known of the slots from place i on
 pub record IsLeastFrom (fs : List Finished) (i : ℕ) (least : Option Fault) : Type 0 where
@@ -49,26 +52,26 @@ module _ (c : ClaimsSeen) (b : Option BookSeen) (job : JobFacts) (bar : ℕ) whe
   passed_above : (seat : SeatSeen) (last : ℕ) → seat.passed ≡ Some last → IsPassed bar seat → bar ≤ last
   passed_above seat last is h = (subst (λ (o : Option ℕ). IfSome o (λ p. (bar ≤ p) × (0 < length seat.drawn) × (p ≡ last_of seat.drawn))) is h).0
 
-  over_sound : (s : Slot) (state : SlotView) (k : ℕ) → HasWorked b job s.share state → RanOut c s.seat state.done ⊎ MetBar c s.seat state.done → IsPassed bar s.seat → 0 < times k s.seat.drawn → k < bar → slice_get job.faults k ≡ Some None
-  over_sound s state k worked how passed some lt = elim how [
-    | inl r ↦ worked.sound k (subst (λ (l : List ℕ). 0 < times k l) r.all some)
-    | inr m ↦ elim (cases_lt 0 (times k state.done)) [
-      | inl here ↦ worked.sound k here
-      | inr none ↦ (let same = last_is k m.last state.done s.seat.drawn m.others some none in let above = passed_above s.seat m.last m.passed passed in absurd (omega arith))
+  over_sound : (s : Slot) (piece : LoopPiece) (k : ℕ) → IsOver c b job s piece → IsPassed bar s.seat → 0 < times k s.seat.drawn → k < bar → slice_get job.faults k ≡ Some None
+  over_sound s piece k over passed some lt = elim over.left [
+    | inl r ↦ over.sound k (subst (λ (l : List ℕ). 0 < times k l) r.all some)
+    | inr m ↦ elim (cases_lt 0 (times k over.done)) [
+      | inl here ↦ over.sound k here
+      | inr none ↦ (let same = last_is k m.last over.done s.seat.drawn m.others some none in let above = passed_above s.seat m.last m.passed passed in absurd (omega arith))
     ]
   ]
 
   slot_told : (end : End) (s : Slot) → Stopped c b job end s → IsServed end → IsPassed bar s.seat → Told job.faults bar s.seat.drawn (fault_of end)
-  slot_told (Over state) s stopped served passed = record { sound = λ k some lt. inl (over_sound s state k stopped.0 stopped.1 passed some lt); own = λ f a. elim a [ ] }
-  slot_told (Faulted state g) s met served passed =
+  slot_told (Over piece) s over served passed = record { sound = λ k some lt. inl (over_sound s piece k over passed some lt); own = λ f a. elim a [ ] }
+  slot_told (Faulted g) s met served passed =
       record {
         sound = λ k some lt. ⊎_elim
-            (λ (here : 0 < times k state.done). inl (met.sound k here))
-            (λ (none : times k state.done ≤ 0).
-            inr (g, inl refl, subst (λ (j : ℕ). slice_get job.faults j ≡ Some (Some g)) (last_is k met.last state.done s.seat.drawn met.others some none) met.its_fault))
-            (cases_lt 0 (times k state.done));
+            (λ (here : 0 < times k met.done). inl (met.sound k here))
+            (λ (none : times k met.done ≤ 0).
+            inr (g, inl refl, subst (λ (j : ℕ). slice_get job.faults j ≡ Some (Some g)) (last_is k met.last met.done s.seat.drawn met.others some none) met.its_fault))
+            (cases_lt 0 (times k met.done));
         own = λ f a. ⊎_elim
-            (λ (e : f ≡ g). (met.last, omega (arith, ap (times met.last) met.others, times_push met.last state.done met.last, times_push met.last [] met.last, times_self met.last []), met.its_fault ∙ ap (λ (k : Fault). Some (Some k)) (sym e)))
+            (λ (e : f ≡ g). (met.last, omega (arith, ap (times met.last) met.others, times_push met.last met.done met.last, times_push met.last [] met.last, times_self met.last []), met.its_fault ∙ ap (λ (k : Fault). Some (Some k)) (sym e)))
             (λ (n : ⊥). absurd n)
             a;
       }
@@ -86,8 +89,8 @@ module _ (c : ClaimsSeen) (b : Option BookSeen) (job : JobFacts) (bar : ℕ) whe
   IsReached mine = (g : Fault) × Among g mine × (slice_get job.faults bar ≡ Some (Some g))
 
   one_lowered : (end : End) (s : Slot) → Stopped c b job end s → IsServed end → s.seat.lowered ≡ Some bar → IsReached (fault_of end)
-  one_lowered (Over state) s stopped served is = (let none = stopped.2 in absurd (cc))
-  one_lowered (Faulted state g) s met served is =
+  one_lowered (Over piece) s over served is = (let none = over.unlowered in absurd (cc))
+  one_lowered (Faulted g) s met served is =
       let same : met.last ≡ bar = same_some (sym met.lowered ∙ is) in
       (g, inl refl, subst (λ (j : ℕ). slice_get job.faults j ≡ Some (Some g)) same met.its_fault)
   one_lowered NoMemory s stopped served is = elim served [ ]
@@ -107,61 +110,57 @@ module _ (c : ClaimsSeen) (b : Option BookSeen) (job : JobFacts) (bar : ℕ) whe
 
   -- ---- where no slot faulted
 
-  -- the state with which a slot is over
-  abbrev pub IsOver : Finished → Type 0
-  IsOver f = (state : SlotView) × (f.end ≡ Over state)
+  -- the slot finished all clusters that it drew, of which the piece is made, and no number is left that is a cluster
+  record IsDone (f : Finished) : Type 0 where
+    pub piece : LoopPiece
+    pub is : f.end ≡ Over piece
+    pub stands : StandsFor job.facts f.slot.seat.drawn piece
+    pub trails : HaveTrails job.facts job.watched f.slot.seat.drawn piece.trails.items
+    pub noted : HasNoted b (length f.slot.seat.drawn) f.slot.share
+    pub past : IsSomeAnd f.slot.seat.kept (λ k. c.clusters ≤ k)
 
-  is_over : (end : End) (rest : List Fault) → IsServed end → fault_of end ++ rest ≡ [] → ((state : SlotView) × (end ≡ Over state)) × (rest ≡ [])
-  is_over end rest served none = grind arith
+  is_done : (f : Finished) (rest : List Fault) → c.clusters ≤ bar → Ran f → HasMemory f → fault_of f.end ++ rest ≡ [] → IsPassed bar f.slot.seat → IsDone f × (rest ≡ [])
+  is_done f rest high ran memory none passed = go f.end refl ran.stopped memory none
+    where
+      ran_out : (done : List ℕ) → RanOut c f.slot.seat done ⊎ MetBar c f.slot.seat done → RanOut c f.slot.seat done
+      ran_out done how = grind (arith, passed_above, high, passed)
 
-  all_over : (fs : List Finished) → All HasMemory fs → end_faults fs ≡ [] → All IsOver fs
-  all_over [] memory none = All-nil IsOver
-  all_over (f ∷ fs) memory none =
-      let first = is_over f.end (end_faults fs) (All-head HasMemory f fs memory) none in
-      All-cons IsOver f fs first.0 (all_over fs (All-tail HasMemory f fs memory) first.1)
+      go : (end : End) → f.end ≡ end → Stopped c b job end f.slot → IsServed end → fault_of end ++ rest ≡ [] → IsDone f × (rest ≡ [])
+      go (Over piece) is over served none =
+          let out = ran_out over.done over.left in (
+            record {
+              piece = piece;
+              is = is;
+              stands = subst (λ (l : List ℕ). StandsFor job.facts l piece) (sym out.all) over.stands;
+              trails = subst (λ (l : List ℕ). HaveTrails job.facts job.watched l piece.trails.items) (sym out.all) over.trails;
+              noted = subst (λ (l : List ℕ). HasNoted b (length l) f.slot.share) (sym out.all) over.noted;
+              past = out.past;
+            },
+            none,
+          )
+      go (Faulted g) is met served none = absurd (cc)
+      go NoMemory is stopped served none = elim served [ ]
 
-  was_over : (f : Finished) → Ran f → (over : IsOver f) → Stopped c b job (Over over.0) f.slot
-  was_over f ran over = subst (λ (e : End). Stopped c b job e f.slot) over.1 ran.stopped
-
-  -- the slots that are over, where the first one is
-  over_first : (f : Finished) (fs : List Finished) (over : IsOver f) → flat_map done_in (f ∷ fs) ≡ record { state = over.0; share = f.slot.share } ∷ flat_map done_in fs
-  over_first f fs over = ap (λ (e : End). done_or_none e f.slot.share ++ flat_map done_in fs) over.1
-
-  as_many : (fs : List Finished) → All IsOver fs → length (flat_map done_in fs) ≡ length fs
-  as_many [] over = refl
-  as_many (f ∷ fs) over = (let rest = as_many fs (All-tail IsOver f fs over) in omega (arith, rest, ap length (over_first f fs (All-head IsOver f fs over))))
-
-  ran_out : (s : Slot) (state : SlotView) → c.clusters ≤ bar → RanOut c s.seat state.done ⊎ MetBar c s.seat state.done → IsPassed bar s.seat → RanOut c s.seat state.done
-  ran_out s state high how passed = grind (arith, passed_above)
+  all_done : (fs : List Finished) → c.clusters ≤ bar → All Ran fs → All HasMemory fs → end_faults fs ≡ [] → All (IsPassed bar) (map seat_in fs) → All IsDone fs
+  all_done [] high ran memory none passed = All-nil IsDone
+  all_done (f ∷ fs) high ran memory none passed =
+      let first = is_done f (end_faults fs) high (All-head Ran f fs ran) (All-head HasMemory f fs memory) none (All-head (IsPassed bar) (seat_in f) (map seat_in fs) passed) in
+      All-cons IsDone f fs first.0 (all_done fs high (All-tail Ran f fs ran) (All-tail HasMemory f fs memory) first.1 (All-tail (IsPassed bar) (seat_in f) (map seat_in fs) passed))
 
   kept_more : (o : Option ℕ) (word : ℕ) → IsSomeAnd o (λ k. c.clusters ≤ k) → IfSome o (λ k. (c.clusters ≤ k) × (k < word)) → c.clusters ≤ word
   kept_more None word s k = elim s [ ]
   kept_more (Some n) word s k = let x = k.0 in let y = k.1 in omega arith
 
-  all_drawn : (fs : List Finished) (word : ℕ) → 0 < length fs → c.clusters ≤ bar → All Ran fs → All IsOver fs → All (IsPassed bar) (map seat_in fs) → All (IsKept c.clusters word) (map seat_in fs) → c.clusters ≤ word
-  all_drawn [] word some high ran over passed kept = absurd (omega arith)
-  all_drawn (f ∷ fs) word some high ran over passed kept =
-      let first = All-head IsOver f fs over in
-      let was = was_over f (All-head Ran f fs ran) first in
-      let out = ran_out f.slot first.0 high was.1 (All-head (IsPassed bar) (seat_in f) (map seat_in fs) passed) in
-      kept_more f.slot.seat.kept word out.past (All-head (IsKept c.clusters word) (seat_in f) (map seat_in fs) kept)
+  all_drawn : (fs : List Finished) (word : ℕ) → 0 < length fs → All IsDone fs → All (IsKept c.clusters word) (map seat_in fs) → c.clusters ≤ word
+  all_drawn [] word some done kept = absurd (omega arith)
+  all_drawn (f ∷ fs) word some done kept = kept_more f.slot.seat.kept word (All-head IsDone f fs done).past (All-head (IsKept c.clusters word) (seat_in f) (map seat_in fs) kept)
 
-  done_lists : (fs : List Finished) → c.clusters ≤ bar → All Ran fs → All IsOver fs → All (IsPassed bar) (map seat_in fs) → drawn_in fs ≡ map finished_by (flat_map done_in fs)
-  done_lists [] high ran over passed = refl
-  done_lists (f ∷ fs) high ran over passed =
-      let first = All-head IsOver f fs over in
-      let was = was_over f (All-head Ran f fs ran) first in
-      let out = ran_out f.slot first.0 high was.1 (All-head (IsPassed bar) (seat_in f) (map seat_in fs) passed) in
-      let rest = done_lists fs high (All-tail Ran f fs ran) (All-tail IsOver f fs over) (All-tail (IsPassed bar) (seat_in f) (map seat_in fs) passed) in
-      ap (λ (l : List ℕ). l ∷ drawn_in fs) out.all ∙ ap (λ (l : List (List ℕ)). first.0.done ∷ l) rest ∙ sym (ap (map finished_by) (over_first f fs first))
-
-  each_done : (fs : List Finished) → All Ran fs → All IsOver fs → All (IsDone b job) (flat_map done_in fs)
-  each_done [] ran over = All-nil (IsDone b job)
-  each_done (f ∷ fs) ran over =
-      let first = All-head IsOver f fs over in
-      let worked = (was_over f (All-head Ran f fs ran) first).0 in
-      subst (All (IsDone b job)) (sym (over_first f fs first))
-      (All-cons (IsDone b job) (record { state = first.0; share = f.slot.share }) (flat_map done_in fs) record { slot = worked.slot; going = worked.going; noted = worked.noted } (each_done fs (All-tail Ran f fs ran) (All-tail IsOver f fs over)))
+  are_made : (fs : List Finished) → All IsDone fs → AreMade b job (drawn_in fs) (pieces_in fs) (shares_in fs)
+  are_made [] done = none_made b job
+  are_made (f ∷ fs) done =
+      let d = All-head IsDone f fs done in
+      subst (λ (e : End). AreMade b job (f.slot.seat.drawn ∷ drawn_in fs) (piece_of e ++ pieces_in fs) (shares_in (f ∷ fs))) (sym d.is)
+      (one_made b job f.slot.seat.drawn d.piece f.slot.share (drawn_in fs) (pieces_in fs) (shares_in fs) d.stands d.trails d.noted (are_made fs (All-tail IsDone f fs done)))
 
   -- what the slots told, and the seats; the least of the faults is known
   pub record HaveEnded (fs : List Finished) (word : ℕ) (told : Option Fault) : Type 0 where
@@ -192,8 +191,11 @@ module _ (c : ClaimsSeen) (b : Option BookSeen) (job : JobFacts) (bar : ℕ) whe
       | inr r ↦ elim r.1 [ ]
     ]
 
+    done : end_faults fs ≡ [] → All IsDone fs
+    done none = all_done fs (high_bar none) ran h.memory none h.passed
+
     full : end_faults fs ≡ [] → c.clusters ≤ word
-    full none = all_drawn fs word h.some (high_bar none) ran (all_over fs h.memory none) h.passed h.kept
+    full none = all_drawn fs word h.some (done none) h.kept
 
     -- the least of the slots' faults is that of the first cluster that has one
     pub first_is : first_in job.faults ≡ told
@@ -206,15 +208,14 @@ module _ (c : ClaimsSeen) (b : Option BookSeen) (job : JobFacts) (bar : ℕ) whe
         (λ none. let w = full none in let f = facts.faults in omega arith)) ∙ sym h.least
 
     -- where no slot faulted, they finished all clusters
-    pub are_done : told ≡ None → AreDone b job (flat_map done_in fs) × (length (flat_map done_in fs) ≡ length fs)
-    are_done sound =
+    pub have_finished : told ≡ None → (n : ℕ) → length fs ≡ n → (made : Made) → made.pieces ≡ pieces_in fs → made.shares ≡ shares_in fs → HaveFinished b job n made
+    have_finished sound n size made pieces shares =
         let none = left_none (end_faults fs) (sym sound ∙ h.least) in
-        let over = all_over fs h.memory none in
-        let whole : min word c.clusters ≡ length job.faults = (let w = full none in let f = facts.faults in omega arith) in (
-          record {
-            each = each_done fs ran over;
-            unite = drawn_lists_unite (map finished_by (flat_map done_in fs)) (length job.faults)
-                (subst (DrawnBy (map finished_by (flat_map done_in fs))) whole (subst (λ (l : List (List ℕ)). DrawnBy l (min word c.clusters)) (done_lists fs (high_bar none) ran over h.passed) h.drawn));
-          },
-          as_many fs over,
-        )
+        let whole : min word c.clusters ≡ length job.faults = (let w = full none in let f = facts.faults in omega arith) in
+        record {
+          sound = first_is ∙ sound;
+          dones = drawn_in fs;
+          unite = drawn_lists_unite (drawn_in fs) (length job.faults) (subst (DrawnBy (drawn_in fs)) whole h.drawn);
+          many = length-map (map seat_in fs) (λ (s : SeatSeen). s.drawn) ∙ length-map fs seat_in ∙ size;
+          are = rw (pieces, shares) (are_made fs (done none));
+        }

@@ -1,6 +1,6 @@
 -- The passes of a loop by numbers and by names, and the place of a result among them.
-use Rattle.std.proofs.Common.{if◌then◌else◌, ◌≡◌, ℕ, ◌+◌, ◌<◌, Bool, true, false, ◌&&◌, List, [], ◌∷◌, ◌++◌, map, take, drop, length, Option, None, Some, refl, sym, ap, ◌∙◌, subst, arith, length-append, append_assoc, is_none, option_map, slice_get, ◌*◌, ◌≤◌, filter, ◌⊎◌, inl, inr, ap₂, count_by}
-use Rattle.lemmas.proofs.{and_false, cond_both, flat_map-append, kept_at, length-map, mapped_at, nat_tests, position, same_some, slice_get-map, something_at, take-append-drop, take_front, take_next}
+use Rattle.std.proofs.Common.{if◌then◌else◌, ◌≡◌, ℕ, ◌+◌, Bool, true, false, ◌&&◌, List, [], ◌∷◌, ◌++◌, map, take, drop, length, Option, None, Some, refl, sym, ap, ◌∙◌, subst, arith, length-append, append_assoc, is_none, option_map, slice_get, ◌*◌, ◌≤◌, filter, ap₂, count_by}
+use Rattle.lemmas.proofs.{cond_both, flat_map-append, kept_at, length-map, mapped_at, nat_tests, position, same_some, slice_get-map, something_at, take-append-drop, take_front, take_next}
 use Rattle.rdf_values.specs.{Booked, bookings, is_watched, Pass, Statement, Under, has_variations, passes_of, result_depends, Variation, variations, scope_of}
 use Rattle.rdf_model.specs.{kind_in, kinds_in, loop_passes, loop_results}
 use Rattle.graph_numbers.specs.{booked_statements, graph_loops, graph_results, graph_variations, GraphView, Pass as NumberedPass, pass_at, ResultAt, under_at, result_passes, IsGraph}
@@ -15,6 +15,7 @@ use Rattle.loop_keys.proofs.EntryLaws.{actions_few, all_taken}
 use Rattle.loop_keys.proofs.PassNumbers.{loop_few as passes_few}
 use Rattle.event_loop.proofs.LoopResults.{IsFound, NoneOf, count_own, is_found, is_of, own_all, position_first}
 use Rattle.std.specs.Prelude.{⊤}
+use mir.Val.{bool_byte}
 use Rattle.rdf_model.proofs.Accepted.{verdict_is_the_first_refusal}
 use Rattle.graph.specs.{AreNamedInTurn}
 use Rattle.graph.proofs.Filled.{all_in_turn}
@@ -45,32 +46,18 @@ of_row f (Some x) b a h k = sym (same_some k) ∙ ap f (same_some h)
 -- ---- counts of a pass
 
 module _ (g : GraphView) (p : NumberedPass) (q : Pass) (is : pass_at (booked_statements g) p ≡ Some q) where
-  its_row : option_map (λ (x : ResultAt). x.booked) (slice_get (graph_results g) p.result) ≡ Some q.result
-  its_row = row_is g p.result q.result (pass_is (booked_statements g) p q is).0
-
   pub actions_are : (n : ℕ) → option_map (λ (x : ResultAt). length (kind_in x.booked.booking)) (slice_get (graph_results g) p.result) ≡ Some n → n ≡ length (kind_in q.result.booking)
-  actions_are n h = of_row (λ (b : Booked). length (kind_in b.booking)) (slice_get (graph_results g) p.result) q.result n its_row h
+  actions_are n h = of_row (λ (b : Booked). length (kind_in b.booking)) (slice_get (graph_results g) p.result) q.result n (row_is g p.result q.result (pass_is (booked_statements g) p q is).0) h
 
-  places_by : (t : Bool) → (is_none q.under && is_watched (booked_statements g) q.result.name) ≡ t → length (place_if_watched (booked_statements g) 0 q) ≡ (if t then length (kind_in q.result.booking) else 0)
-  places_by true e = ap (λ (b : Bool). length {A = ℕ} (if b then map (λ k. 0) (kind_in q.result.booking) else [])) e ∙ length-map (kind_in q.result.booking) (λ k. 0)
-  places_by false e = ap (λ (b : Bool). length {A = ℕ} (if b then map (λ k. 0) (kind_in q.result.booking) else [])) e
-
-  pub varied_unwatched : (v : ℕ) → p.variation ≡ Some v → IsPassOf g p → length (place_if_watched (booked_statements g) 0 q) ≡ 0
-  varied_unwatched v e of =
-      let lt : v < length (graph_variations g) = of.its_variation v e in
-      let at = something_at (graph_variations g) v lt in
+  pub varied_unwatched : (n v : ℕ) → p.variation ≡ Some v → IsPassOf g p → place_if_watched (booked_statements g) n q ≡ []
+  varied_unwatched n v e of =
+      let at = something_at (graph_variations g) v (of.its_variation v e) in
       let under : q.under ≡ Some at.0 = (pass_is (booked_statements g) p q is).1 ∙ ap (under_at (booked_statements g)) e ∙ at.1 in
-      places_by false (ap (λ (u : Under). is_none u && is_watched (booked_statements g) q.result.name) under)
+      ap (λ (u : Under). if is_none u && is_watched (booked_statements g) q.result.name then map (λ k. n) (kind_in q.result.booking) else []) under
 
-  its_watch : (t : Bool) → option_map (λ (x : ResultAt). is_watched (booked_statements g) x.booked.name) (slice_get (graph_results g) p.result) ≡ Some t → is_watched (booked_statements g) q.result.name ≡ t
-  its_watch t h = sym (of_row (λ (b : Booked). is_watched (booked_statements g) b.name) (slice_get (graph_results g) p.result) q.result t its_row h)
-
-  pub unwatched : option_map (λ (x : ResultAt). is_watched (booked_statements g) x.booked.name) (slice_get (graph_results g) p.result) ≡ Some false → length (place_if_watched (booked_statements g) 0 q) ≡ 0
-  unwatched h = places_by false (ap (λ (t : Bool). is_none q.under && t) (its_watch false h) ∙ and_false (is_none q.under))
-
-  pub watched : p.variation ≡ None → option_map (λ (x : ResultAt). is_watched (booked_statements g) x.booked.name) (slice_get (graph_results g) p.result) ≡ Some true
-      → (n : ℕ) → option_map (λ (x : ResultAt). length (kind_in x.booked.booking)) (slice_get (graph_results g) p.result) ≡ Some n → n ≡ length (place_if_watched (booked_statements g) 0 q)
-  watched e h n k = grind (arith, pass_is, actions_are, places_by, its_watch)
+  -- the nominal pass of the row
+  pub nominal_is : p.variation ≡ None → (x : ResultAt) → slice_get (graph_results g) p.result ≡ Some x → ◌≡◌ {A = Pass} (record { result = x.booked; under = None }) q
+  nominal_is e x at = grind (arith, pass_is, booked_row, same_some)
 
 -- ---- watched places
 
@@ -106,13 +93,29 @@ watched_more script qs q =
     let same_count = place_count script (0 + length (kinds_in qs)) 0 q in
     omega (arith, all, both, own, same_count)
 
+-- one place where the next pass is watched
+own_places : (script : List Statement) (q : Pass) (b : Bool) (w : ℕ) → w ≡ bool_byte b
+    → place_if_watched script 0 q ≡ (if b then 0 ∷ [] else []) → w ≡ length (place_if_watched script 0 q)
+own_places script q true w is e = is ∙ sym (ap (λ (l : List ℕ). length l) e)
+own_places script q false w is e = is ∙ sym (ap (λ (l : List ℕ). length l) e)
+
+pub one_or_none : (b : Bool) (w : ℕ) → w ≡ bool_byte b → w ≤ 1
+one_or_none true w is = omega arith
+one_or_none false w is = omega arith
+
 -- what the passes up to the next one count for
-pub next_counts : (g : GraphView) (ps : List NumberedPass) (i : ℕ) (p : NumberedPass) (actions watched_ones a w : ℕ) → slice_get ps i ≡ Some p
+pub next_counts : (g : GraphView) (ps : List NumberedPass) (i : ℕ) (p : NumberedPass) (actions watched_ones a w : ℕ) (b : Bool) → slice_get ps i ≡ Some p
     → ((qs : List Pass) → AreDecoded (booked_statements g) ps qs → (actions ≡ length (kinds_in (take i qs))) × (watched_ones ≡ length (watched_places (booked_statements g) (take i qs))))
-    → option_map (λ (x : ResultAt). length (kind_in x.booked.booking)) (slice_get (graph_results g) p.result) ≡ Some a
-    → ((q : Pass) → pass_at (booked_statements g) p ≡ Some q → w ≡ length (place_if_watched (booked_statements g) 0 q))
+    → option_map (λ (x : ResultAt). length (kind_in x.booked.booking)) (slice_get (graph_results g) p.result) ≡ Some a → w ≡ bool_byte b
+    → ((n : ℕ) (q : Pass) → pass_at (booked_statements g) p ≡ Some q → place_if_watched (booked_statements g) n q ≡ (if b then n ∷ [] else []))
     → (qs : List Pass) → AreDecoded (booked_statements g) ps qs → (actions + a ≡ length (kinds_in (take (i + 1) qs))) × (watched_ones + w ≡ length (watched_places (booked_statements g) (take (i + 1) qs)))
-next_counts g ps i p actions watched_ones a w h each own own_watched qs e = grind (arith, one_more, actions_are, kinds_more, watched_more)
+next_counts g ps i p actions watched_ones a w b h each own is told qs e =
+    let m = one_more (booked_statements g) ps qs i p e h in
+    let so_far = each qs e in
+    let mine = own_places (booked_statements g) m.0 b w is (told 0 m.0 m.1) in (
+      omega (arith, so_far.0, ap (λ (l : List Pass). length (kinds_in l)) m.2, kinds_more (take i qs) m.0, actions_are g p m.0 m.1 a own),
+      omega (arith, so_far.1, ap (λ (l : List Pass). length (watched_places (booked_statements g) l)) m.2, watched_more (booked_statements g) (take i qs) m.0, mine),
+    )
 
 -- ---- a loop
 

@@ -1,7 +1,7 @@
 -- Which results a loop fills, and the passes of a result in a loop, by the numbers of results and by names.
-use Rattle.std.proofs.Common.{◌≡◌, ◌≢◌, ℕ, zero, suc, ◌+◌, ◌<◌, Bool, true, false, cond, List, [], ◌∷◌, ◌++◌, map, length, Some, refl, sym, ◌∙◌, ap, arith, slice_get, if◌then◌else◌, append_assoc, count_by, filter, nat_eq, ◌⊎◌, inl, inr, not, ◌||◌, take, Option, None, subst}
+use Rattle.std.proofs.Common.{◌≡◌, ◌≢◌, ℕ, zero, suc, ◌+◌, ◌<◌, Bool, true, false, cond, List, [], ◌∷◌, ◌++◌, map, length, Some, refl, sym, ◌∙◌, ap, arith, slice_get, if◌then◌else◌, append_assoc, count_by, filter, nat_eq, ◌⊎◌, not, ◌||◌, take, None, subst}
 use Rattle.std.specs.Prelude.{⊤}
-use Rattle.lemmas.proofs.{append-nil, before_or_last, cond_both, cons_option, eq-eqb, filter_map-append, length-map, list_any, ne_eqb, never_true, or_right, position_or_len, same_some, slice_get_within, sum_by-append, sum_by-cons}
+use Rattle.lemmas.proofs.{append-nil, before_or_last, cond_both, cons_option, eq-eqb, filter_map-append, length-map, list_any, ne_eqb, or_right, position_or_len, same_some, slice_get_within, sum_by-append, sum_by-cons}
 use Rattle.rdf_values.specs.{Booked, has_variations, Statement, among, bookings, filled, names_of, same, waiting}
 use Rattle.rdf_model.specs.{Access, accesses, filled_by, loop_results}
 use Rattle.graph_numbers.specs.{numbered_pass, Pass as NumberedPass, passes_from, result_passes, loops}

@@ -1,5 +1,5 @@
 -- Each result that is printed is filled by a loop.
-use Rattle.std.proofs.Common.{◌≡◌, inl, inr, ℕ, zero, suc, ◌<◌, Bool, true, false, not, List, [], ◌∷◌, ◌++◌, take, Some, option_map, refl, sym, ◌∙◌, ap, subst, arith, slice_get, filter}
+use Rattle.std.proofs.Common.{◌≡◌, inl, inr, ℕ, zero, suc, Bool, true, false, not, List, [], ◌∷◌, ◌++◌, take, Some, option_map, refl, sym, ◌∙◌, ap, subst, arith, slice_get, filter}
 use Rattle.lemmas.proofs.{append-nil, before_or_last, filter_map-append}
 use Rattle.rdf_values.specs.{among, Booked, bookings, filled, names_of, place, same, Statement, waiting}
 use Rattle.rdf_values.specs.declared.scripts.statement.Statement.TheVariants.{Print}

@@ -1,5 +1,5 @@
 -- The lines of what a session filled: of actions, of watched results and of reports.
-use Rattle.std.proofs.Common.{◌≡◌, ℕ, zero, suc, ◌+◌, ◌*◌, ◌<◌, List, [], ◌∷◌, ◌++◌, length, Some, refl, sym, ◌∙◌, ap, ap₂, subst, arith, append_assoc, length-append, flat_map, slice_get, ◌-◌, ◌≤◌, Bool, true, false, map, None, if◌then◌else◌, All, codes, ◌⊎◌, inl, inr, Option, filter, option_map, unwrap_or, ◌^◌, append-nil, Result, Ok, Err, OnOk}
+use Rattle.std.proofs.Common.{◌≡◌, ℕ, zero, suc, ◌+◌, ◌*◌, ◌<◌, List, [], ◌∷◌, ◌++◌, length, Some, refl, sym, ◌∙◌, ap, ap₂, subst, arith, append_assoc, length-append, flat_map, slice_get, ◌-◌, ◌≤◌, Bool, true, map, None, if◌then◌else◌, All, codes, inl, inr, Option, filter, option_map, unwrap_or, ◌^◌, append-nil}
 use Rattle.lemmas.proofs.{All-from_recursion, AllByRecursion, cond_both, eqb-true, join_with_byte, length-map, same_some, slice_get-map, something_at}
 use Rattle.rdf_values.specs.{ActionAt, ActionKind, Booked, Booking, Pass, Path, Span, Filled, line, below, Column, fn_names, Function, FunctionNames, has_variations, named_before, passes_of, ReportOn, result_depends, Statement, Variation, variations, varied_passes, cut, history, is_watched, Lead}
 use Rattle.rdf_model.specs.{action_pass, booking_lines, Dataset, filled_lines, kind_in, kinds_in, label, loop_facts, over_clusters, pass_lines, pass_result, in_front, maximal_runs, partial_line, partial_result, Run, run_text, value_text, cutflow, filter_label, first_fault, Course, flow_lines, partial_lines, result_lines}

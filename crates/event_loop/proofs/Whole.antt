@@ -4,14 +4,14 @@ use Rattle.lemmas.proofs.{All, All-map, All-nil, All-pop, All-push, length-map, 
 use Rattle.slot_words.specs.{BookSeen, fresh_share, fresh_shares, IsReady, SeatSeen, ShareSeen, ClaimsSeen}
 use Rattle.event_loop.specs.declared.workers.Shared.{Shared}
 use Rattle.event_loop.specs.declared.workers.Slot.{Slot}
-use Rattle.event_loop.specs.{AreBlank, HasNoted, IsBlank, IsFresh, AreFacts, AreFilled, CanFill, dones_of, FilledLoop, HasRoom, IsBookOf, IsFilled, IsOpened, IsOutcome, job_facts, JobFacts, orders_of}
+use Rattle.event_loop.specs.{AreBlank, HasNoted, IsBlank, IsFresh, AreFacts, CanFill, HasRoom, IsOpened, IsOutcome, job_facts, JobFacts}
 use Rattle.rdf_values.specs.{Fault, first_in}
 use Rattle.rdf_values.proofs.UnionLemmas.{length-below}
 use Rattle.rdf_values.proofs.Evenly.{cuts_lead}
 use Rattle.columns.proofs.Clusters.{few_ranges}
 use Rattle.loop_keys.specs.{IsJob, job_spans, JobView}
 use Rattle.loop_pieces.proofs.ClusterFaults.{lower_clusters_fault_first}
-use Rattle.event_loop.specs.declared.gather.Done.{Done}
+use Rattle.event_loop.specs.declared.gather.Made.{Made}
 use Rattle.event_loop.specs.declared.gather.Outcome.{Outcome}
 
 many_shares : (b : BookSeen) (n : ℕ) → length (fresh_shares b n) ≡ n
@@ -73,23 +73,24 @@ few_clusters j n is few = omega (arith, few_ranges (job_spans j) 0 j.cuts.entrie
 pub facts_of : (j : JobView) (n : ℕ) → IsJob j → n ≡ length (job_spans j) → AreFacts n (job_facts j)
 facts_of j n job is = grind (arith, length-map, length-below, lower_clusters_fault_first, cuts_lead)
 
-booked_for : (o : Option BookSeen) (watched slots clusters n : ℕ) → IsOpened watched slots clusters o → n ≡ slots → IsBookOf watched n o
-booked_for None watched slots clusters n h is = h
-booked_for (Some b) watched slots clusters n h is = h.0 ∙ sym is
-
 -- a book that was opened for so many clusters has room for them
 pub has_room : (o : Option BookSeen) (watched slots clusters n : ℕ) → IsOpened watched slots clusters o → n ≡ clusters → HasRoom n o
 has_room None watched slots clusters n h is = tt
 has_room (Some b) watched slots clusters n h is = let same = h.1 in omega arith
 
 -- the outcome where all clusters are processed
-pub can_fill : (o : Option BookSeen) (c : ClaimsSeen) (watched slots clusters : ℕ) (job : JobFacts) (end : Outcome) (ds : _)
-    → AreFacts c.clusters job → c.clusters ≡ clusters → c.slots ≡ slots → IsOutcome o job c.slots end → end ≡ Outcome.Processed ds → 0 < slots → length job.watched ≡ watched → IsOpened watched slots clusters o
-    → CanFill o watched clusters job ds.items
-can_fill o c watched slots clusters job end ds facts same many ended is some watches opened = grind (arith, booked_for)
+pub can_fill : (o : Option BookSeen) (c : ClaimsSeen) (watched slots clusters : ℕ) (job : JobFacts) (end : Outcome) (made : Made)
+    → AreFacts c.clusters job → c.clusters ≡ clusters → c.slots ≡ slots → IsOutcome o job c.slots end → end ≡ Outcome.Processed made → 0 < slots → length job.watched ≡ watched → IsOpened watched slots clusters o
+    → CanFill o watched clusters job made
+can_fill o c watched slots clusters job end made facts same many ended is some watches opened = record {
+  facts = subst (λ (n : ℕ). AreFacts n job) same facts;
+  slots = c.slots;
+  some = omega (arith, many);
+  finished = subst (IsOutcome o job c.slots) is ended;
+  watches = watches;
+  booked = λ k e. (subst (IsOpened watched slots clusters) e opened).0 ∙ sym many;
+  unbooked = λ e. subst (IsOpened watched slots clusters) e opened;
+}
 
 pub first_is : (o : Option BookSeen) (n : ℕ) (job : JobFacts) (end : Outcome) (fault : Fault) → IsOutcome o job n end → end ≡ Outcome.Faulted fault → first_in job.faults ≡ Some fault
 first_is o n job end fault ended is = subst (IsOutcome o job n) is ended
-
-pub is_filled : (o : Option BookSeen) (n k : ℕ) (job : JobFacts) (end : Outcome) (ds : _) (filled : FilledLoop) → IsOutcome o job n end → end ≡ Outcome.Processed ds → (slots : List Done) → AreFilled job k slots filled → IsFilled job k filled
-is_filled o n k job end ds filled ended is slots h = record { sound = (subst (IsOutcome o job n) is ended).0; stands = h.stands; orders = orders_of slots; dones = dones_of slots; partials = h.partials }

@@ -1,12 +1,13 @@
 -- What the slots of a loop give back.
-use Rattle.std.specs.Prelude.{◌≡◌, ⊤, ℕ, List, [], ◌∷◌, Option, Some, None, All, flat_map, length, map}
+use Rattle.std.specs.Prelude.{◌≡◌, ⊤, ℕ, List, [], ◌∷◌, Option, Some, None, All, flat_map, length, map, option_to_list}
 use Rattle.rdf_values.specs.{AreInEntryOrder, below, Fault, first_in, IsUnion}
-use Rattle.slot_words.specs.{BookSeen, SeatSeen, ShareSeen}
+use Rattle.loop_pieces.specs.{LoopPiece, StandsFor}
+use Rattle.merge_core.specs.{Stand}
+use Rattle.slot_words.specs.{BookSeen, HaveAllTrails, SeatSeen, ShareSeen}
+use Rattle.slot_words.specs.Shares as book
 use Rattle.event_loop.specs.Jobs.{JobFacts}
-use Rattle.event_loop.specs.Slots.{IsSlotOf}
-use Rattle.event_loop.specs.declared.state.Phase.{Phase}
-use Rattle.event_loop.specs.Workers.{HasNoted, HasRun}
-use Rattle.event_loop.specs.declared.gather.Done.{Done}
+use Rattle.event_loop.specs.Workers.{HasRun}
+use Rattle.event_loop.specs.declared.gather.Made.{Made}
 use Rattle.event_loop.specs.declared.gather.Outcome.{Outcome}
 use Rattle.event_loop.specs.declared.workers.Finished.{Finished}
 use Rattle.event_loop.specs.declared.workers.End.{End}
@@ -15,8 +16,8 @@ use Rattle.event_loop.specs.declared.workers.Shared.{Shared}
 
 -- the fault with which a slot stopped
 abbrev pub fault_of : End → List Fault
-fault_of (Over state) = []
-fault_of (Faulted state fault) = fault ∷ []
+fault_of (Over piece) = []
+fault_of (Faulted fault) = fault ∷ []
 fault_of NoMemory = []
 
 -- the faults with which slots stopped
@@ -36,15 +37,18 @@ HasMemory f = IsServed f.end
 abbrev pub seat_in : Finished → SeatSeen
 seat_in f = f.slot.seat
 
--- the slot that stopped so, where it is over
-abbrev pub done_or_none : End → Option ShareSeen → List Done
-done_or_none (Over state) share = record { state = state; share = share } ∷ []
-done_or_none (Faulted state fault) share = []
-done_or_none NoMemory share = []
+-- its piece, where it is over
+abbrev pub piece_of : End → List LoopPiece
+piece_of (Over piece) = piece ∷ []
+piece_of (Faulted fault) = []
+piece_of NoMemory = []
 
--- of a slot that stopped
-abbrev pub done_in : Finished → List Done
-done_in f = done_or_none f.end f.slot.share
+abbrev pub pieces_in : List Finished → List LoopPiece
+pieces_in fs = flat_map (λ (f : Finished). piece_of f.end) fs
+
+-- the shares of slots, where they have some
+abbrev pub shares_in : List Finished → List ShareSeen
+shares_in fs = flat_map (λ (f : Finished). option_to_list f.slot.share) fs
 
 -- the slot ran and stopped
 abbrev pub HasStopped : Shared → JobFacts → Finished → Type 0
@@ -56,22 +60,27 @@ pub record AreFacts (clusters : ℕ) (job : JobFacts) : Type 0 where
   pub faults : length job.faults ≡ clusters
   pub order : AreInEntryOrder job.faults
 
--- the slot goes on, and noted the clusters that it finished
-pub record IsDone (b : Option BookSeen) (job : JobFacts) (d : Done) : Type 0 where
-  pub slot : IsSlotOf job d.state
-  pub going : d.state.phase ≡ Phase.Going
-  pub noted : HasNoted b (length d.state.done) d.share
+-- the shares are of this book, one for each of some lists of clusters, and noted as many
+pub record AreShares (b : BookSeen) (dones : List (List ℕ)) (shares : List ShareSeen) : Type 0 where
+  pub many : length shares ≡ length dones
+  pub of : All (book.IsOf b) shares
+  pub noted : map length (map (λ (s : ShareSeen). s.numbers) shares) ≡ map length dones
 
--- the clusters that a slot finished
-abbrev pub finished_by : Done → List ℕ
-finished_by d = d.state.done
+-- the slots' pieces, with a trail for each watched result, and where there is a book their shares, are those of these lists of clusters
+pub record AreMade (b : Option BookSeen) (job : JobFacts) (dones : List (List ℕ)) (pieces : List LoopPiece) (shares : List ShareSeen) : Type 0 where
+  pub stand : Stand (StandsFor job.facts) dones pieces
+  pub trails : HaveAllTrails job.facts job.watched dones pieces
+  pub noted : (k : BookSeen) → b ≡ Some k → AreShares k dones shares
 
--- the slots finished all clusters of the job, each once
-pub record AreDone (b : Option BookSeen) (job : JobFacts) (ds : List Done) : Type 0 where
-  pub each : All (IsDone b job) ds
-  pub unite : IsUnion (map finished_by ds) (below (length job.faults))
+-- so many slots finished all clusters of the job, each once, and none has a fault
+pub record HaveFinished (b : Option BookSeen) (job : JobFacts) (n : ℕ) (made : Made) : Type 0 where
+  pub sound : first_in job.faults ≡ None
+  pub dones : List (List ℕ)
+  pub unite : IsUnion dones (below (length job.faults))
+  pub many : length dones ≡ n
+  pub are : AreMade b job dones made.pieces made.shares
 
--- so many slots finished all clusters, of which none has a fault, or the fault is that of the first cluster that has one
+-- the slots finished all clusters, or the fault is that of the first cluster that has one
 abbrev pub IsOutcome : Option BookSeen → JobFacts → ℕ → Outcome → Type 0
-IsOutcome b job n (Outcome.Processed slots) = (first_in job.faults ≡ None) × AreDone b job slots.items × (length slots.items ≡ n)
+IsOutcome b job n (Outcome.Processed made) = HaveFinished b job n made
 IsOutcome b job n (Outcome.Faulted fault) = first_in job.faults ≡ Some fault

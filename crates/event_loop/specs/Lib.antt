@@ -13,18 +13,18 @@ pub mod Turns
 pub mod Workers
 -- what other crates name of these
 pub use Ends.{AreNotedPartials, HasEnded, IsFilled}
-pub use Filling.{AllAreGoing, AreFilled, ArePieces, CanFill, dones_of, IsBookOf, IsGoing, IsPieceOf, orders_of, share_or_none, shares_in}
-pub use Gathered.{AreDone, AreFacts, done_in, done_or_none, end_faults, fault_of, finished_by, HasMemory, HasStopped, IsDone, IsOutcome, IsServed, seat_in}
+pub use Filling.{CanFill, HaveNoted}
+pub use Gathered.{AreFacts, AreMade, AreShares, end_faults, fault_of, HasMemory, HasStopped, HaveFinished, IsOutcome, IsServed, piece_of, pieces_in, seat_in, shares_in}
 pub use Jobs.{job_facts, JobFacts}
 pub use Parts.{job_with}
-pub use Passes.{is_watched_pass, IsOfPasses, places_before}
+pub use Passes.{IsOfPasses, places_before}
 pub use Places.{fills, IsPassOf, IsPlaced, loop_filling}
 pub use Seated.{AreBlank, IsBlank, IsOpened}
 pub use Sessions.{ArePartials, dataset_of, fresh_session, HasSameParts, IsAccessed, IsFaulted, IsFilledIn, IsKept, IsRefused, IsResult, IsSession, IsUnfilled, passes_run, session_job, session_of, SessionView}
 pub use Slots.{IsFreshSlot, IsSlotOf, SlotView}
 pub use Transcripts.{IsTranscript}
 pub use Turns.{EndsAt, FitsCourse, GoesOn, print_gives}
-pub use Workers.{AreSound, CanRun, HasNoted, HasRoom, HasRun, HasWorked, IsFresh, Stopped}
+pub use Workers.{AreSound, CanRun, HasNoted, HasRoom, HasRun, IsFresh, IsOver, MetFault, Stopped}
 pub use declared.one_loop.FilledLoop.{FilledLoop}
 pub use declared.one_loop.LoopEnd.{LoopEnd}
 pub use declared.state.Phase.{Phase}

@@ -1,6 +1,6 @@
 -- What a contract sees of a session.
 use Rattle.std.specs.Prelude.{◌≡◌, ℕ, ◌+◌, ◌<◌, ◌≤◌, ◌⊎◌, List, [], ◌∷◌, Option, None, Some, IfSome, length, slice_get, unwrap_or}
-use Rattle.rdf_values.specs.{Booked, Fault, Function, history, IsTable, Pass, Statement, StatementsHaveWords}
+use Rattle.rdf_values.specs.{Booked, Function, history, IsTable, Pass, Statement, StatementsHaveWords}
 use Rattle.rdf_model.specs.{Access, accesses, Dataset, first_fault, loop_passes, loop_results, loops_before}
 use Rattle.columns.specs.CutsView.{CutsView}
 use Rattle.columns.specs.ColumnsView.{ColumnsView}

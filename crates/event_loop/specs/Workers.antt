@@ -2,12 +2,11 @@
 use Rattle.std.specs.Prelude.{◌≡◌, ◌<◌, ◌≤◌, ◌⊎◌, ⊤, ℕ, List, [], ◌∷◌, ◌++◌, Option, Some, None, length, slice_get}
 use Rattle.rdf_values.specs.{Fault, history, StatementsHaveWords, times}
 use Rattle.loop_keys.specs.{JobView}
+use Rattle.loop_pieces.specs.{HaveTrails, LoopPiece, StandsFor}
 use Rattle.slot_words.specs.{BookSeen, ClaimsSeen, IsReady, MetBar, RanOut, ShareSeen}
 use Rattle.slot_words.specs.Seats as claims
 use Rattle.slot_words.specs.Shares as book
 use Rattle.event_loop.specs.Jobs.{JobFacts, job_facts}
-use Rattle.event_loop.specs.Slots.{IsSlotOf, SlotView}
-use Rattle.event_loop.specs.declared.state.Phase.{Phase}
 use Rattle.event_loop.specs.declared.workers.Shared.{Shared}
 use Rattle.event_loop.specs.declared.workers.Slot.{Slot}
 use Rattle.event_loop.specs.declared.workers.End.{End}
@@ -39,29 +38,32 @@ pub record IsFresh (shared : Shared) (s : Slot) : Type 0 where
   pub seat : IsReady shared.claims s.seat
   pub share : HasNoted shared.book 0 s.share
 
--- the slot's state goes on, and the clusters that it finished are sound and noted
-pub record HasWorked (b : Option BookSeen) (job : JobFacts) (share : Option ShareSeen) (state : SlotView) : Type 0 where
-  pub slot : IsSlotOf job state
-  pub going : state.phase ≡ Phase.Going
-  pub sound : AreSound job.faults state.done
-  pub noted : HasNoted b (length state.done) share
+-- no cluster is left for the slot; those that it finished are sound and noted, and the piece is what they come to, with a trail for each
+-- watched result
+pub record IsOver (c : ClaimsSeen) (b : Option BookSeen) (job : JobFacts) (s : Slot) (piece : LoopPiece) : Type 0 where
+  pub done : List ℕ
+  pub stands : StandsFor job.facts done piece
+  pub trails : HaveTrails job.facts job.watched done piece.trails.items
+  pub sound : AreSound job.faults done
+  pub noted : HasNoted b (length done) s.share
+  pub left : RanOut c s.seat done ⊎ MetBar c s.seat done
+  pub unlowered : s.seat.lowered ≡ None
 
--- the slot's state stopped at the last cluster that it drew, which has that fault; it finished all others, which are sound and noted;
--- and the bar was lowered to the last
-pub record MetFault (b : Option BookSeen) (job : JobFacts) (s : Slot) (state : SlotView) (fault : Fault) : Type 0 where
+-- the slot stopped at the last cluster that it drew, which has that fault; it finished all others, which are sound and noted; and the bar
+-- was lowered to the last
+pub record MetFault (b : Option BookSeen) (job : JobFacts) (s : Slot) (fault : Fault) : Type 0 where
+  pub done : List ℕ
   pub last : ℕ
-  pub slot : IsSlotOf job state
-  pub phase : state.phase ≡ Phase.Faulted
-  pub others : s.seat.drawn ≡ state.done ++ last ∷ []
-  pub sound : AreSound job.faults state.done
-  pub noted : HasNoted b (length state.done) s.share
+  pub others : s.seat.drawn ≡ done ++ last ∷ []
+  pub sound : AreSound job.faults done
+  pub noted : HasNoted b (length done) s.share
   pub its_fault : slice_get job.faults last ≡ Some (Some fault)
   pub lowered : s.seat.lowered ≡ Some last
 
 -- how the slot stopped
 abbrev pub Stopped : ClaimsSeen → Option BookSeen → JobFacts → End → Slot → Type 0
-Stopped c b job (Over state) s = HasWorked b job s.share state × (RanOut c s.seat state.done ⊎ MetBar c s.seat state.done) × (s.seat.lowered ≡ None)
-Stopped c b job (Faulted state f) s = MetFault b job s state f
+Stopped c b job (Over piece) s = IsOver c b job s piece
+Stopped c b job (Faulted fault) s = MetFault b job s fault
 Stopped c b job NoMemory s = ⊤
 
 -- the slot stopped in that way

@@ -1,21 +1,21 @@
 // What the slots of a loop give back.
-ghost use Rattle.std.specs.Prelude.{◌≡◌, ◌<◌, ◌++◌, All, flat_map, map, IfOk, OnOk, vec_len, Option};
+ghost use Rattle.std.specs.Prelude.{◌≡◌, ◌<◌, ◌++◌, All, map, IfOk, OnOk, vec_len, Option, option_to_list};
 ghost use Rattle.rdf_values.specs.{least_fault, lesser_fault};
 ghost use Rattle.slot_words.specs.Seats.{IsOf};
 ghost use Rattle.slot_words.specs.{BookSeen};
-ghost use Rattle.event_loop.specs.{AreFacts, done_in, done_or_none, end_faults, HasMemory, HasStopped, IsOutcome, JobFacts, seat_in};
+ghost use Rattle.event_loop.specs.{AreFacts, end_faults, HasMemory, HasStopped, IsOutcome, JobFacts, piece_of, pieces_in, seat_in, shares_in};
 
-use crate::SlotState;
 use crate::workers::{End, Finished, Slot};
-use rdf_values::{Fault, Memory};
-use slot_words::{Claims, SeatList, Share};
+use loop_pieces::LoopPiece;
+use rdf_values::{Fault, ListOf, Memory};
+use slot_words::{Claims, SeatList, Share, ShareList};
 use std::alloc::Global;
 
-/// A slot whose clusters are all processed: its state, and its right to note, where a result is watched.
+/// What slots made of their clusters, and their rights to note, where a result is watched; in the order of the slots.
 #[derive(Drop)]
-pub struct Done {
-    pub state: SlotState,
-    pub share: Option<Share>,
+pub struct Made {
+    pub pieces: ListOf<LoopPiece>,
+    pub shares: ShareList,
 }
 
 // The fault at the lower entry.
@@ -39,44 +39,57 @@ pub fn least_of(finished: &[Finished]) -> Result<Option<Fault>, Memory>
         i -= 1;
         match finished[i].end {
             End::Over(_) => {}
-            End::Faulted(_, fault) => least = Some(lesser(fault, least)),
+            End::Faulted(fault) => least = Some(lesser(fault, least)),
             End::NoMemory => return Err(Memory),
         }
     }
     Ok(least)
 }
 
-// Appends the slot that stopped so, where it is over.
-fn keep_done(slots: &mut Vec<Done>, end: End, share: Option<Share>) -> Result<(), Memory>
-    ensures { OnOk result (slots.new.items ≡ slots.old.items ++ done_or_none end share) }
+// Appends the piece of a slot that is over.
+fn keep_piece(pieces: &mut ListOf<LoopPiece>, end: End) -> Result<(), Memory>
+    ensures { OnOk result (pieces.new ≡ pieces.old ++ piece_of end) }
 {
-    if let End::Over(state) = end {
-        slots.push(Done { state, share })?;
+    if let End::Over(piece) = end {
+        pieces.push(piece)?;
     }
     Ok(())
 }
 
-/// The seats of all slots, and the slots that are over, in their order.
-pub fn taken_apart(alloc: Global, finished: Vec<Finished>) -> Result<(SeatList, Vec<Done>), Memory>
+// Appends a share, where there is one.
+fn keep_share(shares: &mut ShareList, share: Option<Share>) -> Result<(), Memory>
+    ensures { OnOk result (shares.new ≡ shares.old ++ option_to_list share) }
+{
+    if let Some(share) = share {
+        shares.push(share)?;
+    }
+    Ok(())
+}
+
+/// The seats of all slots, the pieces of those that are over, and the shares, in their order.
+pub fn taken_apart(alloc: Global, finished: Vec<Finished>) -> Result<(SeatList, Made), Memory>
     ensures seats { IfOk result (λ r. r.0 ≡ map seat_in finished.items) }
-    ensures done { IfOk result (λ r. r.1.items ≡ flat_map done_in finished.items) }
+    ensures pieces { IfOk result (λ r. r.1.pieces ≡ pieces_in finished.items) }
+    ensures shares { IfOk result (λ r. r.1.shares ≡ shares_in finished.items) }
 {
     let mut left = finished;
     let mut seats = SeatList::new(alloc);
-    let mut slots = Vec::new(alloc);
+    let mut pieces = ListOf::new(alloc);
+    let mut shares = ShareList::new(alloc);
     while !left.is_empty() {
         let Finished { end, slot } = left.remove(0);
         let Slot { seat, share } = slot;
         seats.push(seat)?;
-        keep_done(&mut slots, end, share)?;
+        keep_piece(&mut pieces, end)?;
+        keep_share(&mut shares, share)?;
     }
-    Ok((seats, slots))
+    Ok((seats, Made { pieces, shares }))
 }
 
 /// What the slots of a loop came to: all clusters are processed, or there is a first fault.
 #[derive(Drop)]
 pub enum Outcome {
-    Processed(Vec<Done>),
+    Processed(Made),
     Faulted(Fault),
 }
 
@@ -88,10 +101,10 @@ pub fn gathered(alloc: Global, claims: Claims, finished: Vec<Finished>) -> Resul
     ensures { (b : Option BookSeen) (job : JobFacts) → AreFacts claims.clusters job → All (HasStopped (record { claims = claims; book = b }) job) finished.items → IfOk result (IsOutcome b job claims.slots) }
 {
     let least = least_of(finished.as_slice())?;
-    let (seats, slots) = taken_apart(alloc, finished)?;
+    let (seats, made) = taken_apart(alloc, finished)?;
     claims.finish(seats);
     match least {
         Some(fault) => Ok(Outcome::Faulted(fault)),
-        None => Ok(Outcome::Processed(slots)),
+        None => Ok(Outcome::Processed(made)),
     }
 }

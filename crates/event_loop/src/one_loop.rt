@@ -104,8 +104,8 @@ pub fn run_loop<R: Threads + Sync, G: Gate>(
     let Shared { claims, book } = shared;
     match gathered(alloc, claims, finished)? {
         Outcome::Faulted(fault) => Ok(LoopEnd::Faulted(fault)),
-        Outcome::Processed(slots) => {
-            let filled = filled(alloc, book, slots, noting)?;
+        Outcome::Processed(made) => {
+            let filled = filled(alloc, book, made, noting)?;
             Ok(LoopEnd::Filled(filled))
         }
     }

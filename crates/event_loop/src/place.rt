@@ -38,21 +38,26 @@ fn accumulators(graph: &Graph, r: u32) -> u32
     }
 }
 
-// How many of them are watched in a pass: those of the nominal pass of a watched result.
-fn watched_accumulators(graph: &Graph, pass: Pass) -> u32
+/// Whether a result's partial results are noted: it is a watched action.
+pub fn is_noted(graph: &Graph, r: u32) -> bool
+    requires { r < length (graph_results graph.now) }
+    ensures { (x : ResultAt) (n : ℕ) → slice_get (graph_results graph.now) r ≡ Some x
+        → place_if_watched (booked_statements graph.now) n (record { result = x.booked; under = None }) ≡ (if result then n ∷ [] else []) }
+{
+    match graph.kind(r) {
+        ResultKind::Action(_) => graph.watched(r),
+        ResultKind::Report => false,
+    }
+}
+
+/// Whether a pass is watched: it is the nominal one of such a result.
+pub fn is_watched(graph: &Graph, pass: Pass) -> bool
     requires { IsPassOf graph.now pass }
-    ensures value { (q : NamedPass) → pass_at (booked_statements graph.now) pass ≡ Some q → result ≡ length (place_if_watched (booked_statements graph.now) 0 q) }
-    ensures few { result ≤ 1 }
+    ensures { (n : ℕ) (q : NamedPass) → pass_at (booked_statements graph.now) pass ≡ Some q → place_if_watched (booked_statements graph.now) n q ≡ (if result then n ∷ [] else []) }
 {
     match pass.variation {
-        Some(_) => 0,
-        None => {
-            if graph.watched(pass.result) {
-                accumulators(graph, pass.result)
-            } else {
-                0
-            }
-        }
+        None => is_noted(graph, pass.result),
+        Some(_) => false,
     }
 }
 
@@ -67,7 +72,7 @@ pub fn counts_of(graph: &Graph, passes: &[Pass]) -> PassCounts
     let mut watched = 0;
     for pass in passes {
         actions += accumulators(graph, pass.result);
-        watched += watched_accumulators(graph, *pass);
+        watched += u32::from(is_watched(graph, *pass));
     }
     PassCounts { actions, watched }
 }
@@ -107,17 +112,5 @@ pub fn place_in(graph: &Graph, loop_index: u32, r: u32) -> Place
         first: before.actions,
         passes: own * accumulators(graph, r),
         watched: before.watched,
-    }
-}
-
-/// Whether a result's partial results are noted: it is a watched action.
-pub fn is_noted(graph: &Graph, r: u32) -> bool
-    requires { r < length (graph_results graph.now) }
-    ensures { (x : ResultAt) (n : ℕ) → slice_get (graph_results graph.now) r ≡ Some x
-        → place_if_watched (booked_statements graph.now) n (record { result = x.booked; under = None }) ≡ (if result then n ∷ [] else []) }
-{
-    match graph.kind(r) {
-        ResultKind::Action(_) => graph.watched(r),
-        ResultKind::Report => false,
     }
 }

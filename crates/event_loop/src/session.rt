@@ -193,9 +193,11 @@ impl<'a> Session<'a> {
             first: place.first,
             passes: place.passes,
         };
-        if !is_noted(&self.graph, r) {
-            return (filled, PartialLines { lines: &[] });
-        }
-        (filled, lines_at(its_loop, place.watched))
+        let lines = if is_noted(&self.graph, r) {
+            lines_at(its_loop, place.watched)
+        } else {
+            PartialLines { lines: &[] }
+        };
+        (filled, lines)
     }
 }

@@ -9,6 +9,7 @@ ghost use Rattle.event_loop.specs.declared.workers.Finished.{Finished};
 use crate::{Progress, SlotState, SlotStop};
 use expr_eval::Steps;
 use loop_keys::Job;
+use loop_pieces::LoopPiece;
 use rdf_outside::Gate;
 use rdf_values::{Fault, Memory};
 use slot_words::{Book, ClaimSeat, Claims, Share};
@@ -31,11 +32,11 @@ pub struct Slot {
     pub share: Option<Share>,
 }
 
-/// Why a slot stopped, and its state then: no cluster is left for it; it met its first fault; or it had no memory.
+/// Why a slot stopped: no cluster is left for it, and its own come to this piece; it met its first fault; or it had no memory.
 #[derive(Drop)]
 pub enum End {
-    Over(SlotState),
-    Faulted(SlotState, Fault),
+    Over(LoopPiece),
+    Faulted(Fault),
     NoMemory,
 }
 
@@ -84,12 +85,12 @@ fn work<L: Ledger, G: Gate>(
             Ok(Progress::Done) => note(&shared.book, &mut slot.share),
             Ok(Progress::Faulted(fault)) => {
                 shared.claims.lower(&mut slot.seat, cluster);
-                return End::Faulted(state, fault);
+                return End::Faulted(fault);
             }
             Err(SlotStop::Memory) => return End::NoMemory,
         }
     }
-    End::Over(state)
+    End::Over(state.into_piece())
 }
 
 // Runs one slot. Its evaluations are counted in a ledger of its own.

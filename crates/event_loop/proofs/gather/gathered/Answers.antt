@@ -1,8 +1,8 @@
-use Rattle.std.proofs.Common.{length, sym, ap, ◌∙◌, subst, arith}
+use Rattle.std.proofs.Common.{sym, ◌∙◌, subst, arith}
 use Rattle.lemmas.proofs.{All, All-map}
 use Rattle.slot_words.specs.Seats.{IsOf}
-use Rattle.event_loop.specs.{AreDone, seat_in}
-use Rattle.event_loop.proofs.Ended.{have_ended, first_is, are_done}
+use Rattle.event_loop.specs.{seat_in}
+use Rattle.event_loop.proofs.Ended.{have_ended, first_is, have_finished}
 use Rattle.event_loop.proofs.gather.gathered.Goals as goal
 
 pub finish-requires-clause-of : goal.finish-requires-clause-of
@@ -22,8 +22,6 @@ returns-in-None c = λ b job facts ran.
     let f = c.finish.ensures in
     let told = have_ended c.args.claims b job c.finish.result.bar c.args.finished.items _ c.finish.result.word c.in_ok-least.least _ (omega (arith, c.requires.some)) c.as_slice.ensures.value c.in_ok-least.ensures.memory c.in_ok-least.ensures.least
     c.in_ok-seats.ensures.seats f.drawn f.bar f.passed f.kept in
-    let done = are_done c.args.claims b job c.finish.result.bar c.args.finished.items c.finish.result.word c.in_ok-least.least facts ran told c.in-None.is in (
-      first_is c.args.claims b job c.finish.result.bar c.args.finished.items c.finish.result.word c.in_ok-least.least facts ran told ∙ c.in-None.is,
-      subst (AreDone b job) (sym c.in_ok-seats.ensures.done) done.0,
-      ap length c.in_ok-seats.ensures.done ∙ done.1 ∙ omega arith,
-    )
+    have_finished c.args.claims b job c.finish.result.bar c.args.finished.items c.finish.result.word c.in_ok-least.least facts ran told c.in-None.is
+    c.args.claims.slots (omega (arith, c.requires.many)) c.in_ok-seats.made c.in_ok-seats.ensures.pieces
+    c.in_ok-seats.ensures.shares

@@ -1,7 +1,7 @@
 use Rattle.std.proofs.Common.{ℕ, sym, ◌∙◌, subst, arith}
 use Rattle.loop_keys.specs.{job_of}
 use Rattle.event_loop.specs.{AreBlank, job_facts}
-use Rattle.event_loop.proofs.Whole.{facts_of, has_room, can_fill, first_is, is_filled}
+use Rattle.event_loop.proofs.Whole.{facts_of, has_room, can_fill, first_is}
 use Rattle.event_loop.proofs.one_loop.run_loop.Goals as goal
 use Rattle.slot_words.proofs.Steps.{seats_many, seats_ready}
 
@@ -33,8 +33,11 @@ filled-requires g c =
     let claims = c.in_ok-claims.claims in
     let facts = facts_of j claims.clusters c.requires.job.job (c.in_ok-claims.ensures.0 ∙ c.cluster_count-clusters.ensures.value) in
     let ok = c.in_ok-finished.finished.ok.0 in
-    let ended = c.in_ok-fault.ensures c.in_ok-book.book (job_facts j) facts (λ k f lt. c.in_ok-finished.ensures.each k f (omega (arith, c.in_ok-finished.ensures.len))) in
-    record { done = (job_facts j, can_fill c.in_ok-book.book claims c.watched_in-watched.result c.args.slots c.cluster_count-clusters.result (job_facts j) _ c.in-Processed.slots facts c.in_ok-claims.ensures.0 c.in_ok-claims.ensures.1 ended c.in-Processed.is c.requires.slots.0 (sym c.watched_in-watched.ensures) c.in_ok-book.ensures.0) }
+    let ended = c.in_ok-fault.ensures c.in_ok-book.book (job_facts j) facts (λ k f lt. c.in_ok-finished.ensures.each k f (omega (arith, c.in_ok-finished.ensures.len))) in (
+      job_facts j,
+      can_fill c.in_ok-book.book claims c.watched_in-watched.result c.args.slots c.cluster_count-clusters.result (job_facts j) _ c.in-Processed.made
+          facts c.in_ok-claims.ensures.0 c.in_ok-claims.ensures.1 ended c.in-Processed.is c.requires.slots.0 (sym c.watched_in-watched.ensures) c.in_ok-book.ensures.0,
+    )
 
 pub returns-in-Faulted : goal.returns-in-Faulted
 returns-in-Faulted g c =
@@ -52,5 +55,5 @@ returns-in_ok-filled-in-Processed g c =
     let facts = facts_of j claims.clusters c.requires.job.job (c.in_ok-claims.ensures.0 ∙ c.cluster_count-clusters.ensures.value) in
     let ok = c.in_ok-finished.finished.ok.0 in
     let ended = c.in_ok-fault.ensures c.in_ok-book.book (job_facts j) facts (λ k f lt. c.in_ok-finished.ensures.each k f (omega (arith, c.in_ok-finished.ensures.len))) in
-    let can = can_fill c.in_ok-book.book claims c.watched_in-watched.result c.args.slots c.cluster_count-clusters.result (job_facts j) _ c.in-Processed.slots facts c.in_ok-claims.ensures.0 c.in_ok-claims.ensures.1 ended c.in-Processed.is c.requires.slots.0 (sym c.watched_in-watched.ensures) c.in_ok-book.ensures.0 in
-    is_filled c.in_ok-book.book claims.slots c.args.watch (job_facts j) _ c.in-Processed.slots c.in_ok-filled-in-Processed.filled ended c.in-Processed.is c.in-Processed.slots.items (c.in_ok-filled-in-Processed.ensures (job_facts j) can)
+    c.in_ok-filled-in-Processed.ensures (job_facts j) (can_fill c.in_ok-book.book claims c.watched_in-watched.result c.args.slots c.cluster_count-clusters.result (job_facts j) _ c.in-Processed.made
+    facts c.in_ok-claims.ensures.0 c.in_ok-claims.ensures.1 ended c.in-Processed.is c.requires.slots.0 (sym c.watched_in-watched.ensures) c.in_ok-book.ensures.0)

@@ -1,8 +1,8 @@
-use Rattle.std.proofs.Common.{◌≡◌, ◌+◌, ◌∷◌, ◌++◌, List, [], ℕ, Ok, length, sym, ap, ◌∙◌, subst, length-append}
+use Rattle.std.proofs.Common.{◌≡◌, ◌+◌, ◌∷◌, ◌++◌, List, [], ℕ, Ok, length, inl, inr, sym, ap, ◌∙◌, subst, length-append}
 use Rattle.slot_words.specs.{SeatSeen}
 use Rattle.slot_words.specs.Seats.{IsOf}
 use Rattle.loop_keys.specs.{job_of}
-use Rattle.event_loop.specs.{AreSound, HasNoted, job_facts}
+use Rattle.event_loop.specs.{HasNoted, job_facts}
 use Rattle.event_loop.proofs.SlotLemmas.{sound_more, below_drawn}
 use Rattle.event_loop.proofs.workers.work.Goals as goal
 
@@ -33,18 +33,36 @@ pub returns-in-Ok-Faulted : goal.returns-in-Ok-Faulted
 returns-in-Ok-Faulted g c =
     let inv = c.loop-cluster.invariant in
     let cluster = c.in-Some.cluster in
-    let faults = (job_facts (job_of c.args.job.now)).faults in
     let f = c.process.ensures.faulted c.in-Ok-Faulted.fault (c.in-Ok-Faulted.is ∙ ap Ok c.in-Ok-Faulted.field-0-is) in
     record {
       seat_of = subst (IsOf c.args.shared.now.claims) (sym c.lower.ensures) c.in-Some.ensures.of.0;
       stopped = record {
+        done = c.loop-cluster.state.done;
         last = cluster;
-        slot = c.process.ensures.slot;
-        phase = f.3;
-        others = ap (λ (s : SeatSeen). s.drawn) c.lower.ensures ∙ c.in-Some.ensures.some.1 ∙ ap (λ (l : List ℕ). l ++ cluster ∷ []) (sym inv.done ∙ sym f.2);
-        sound = subst (AreSound faults) (sym f.2) inv.sound;
-        noted = subst (λ (l : List ℕ). HasNoted c.args.shared.now.book (length l) c.loop-cluster.slot.share) (sym f.2) inv.noted;
+        others = ap (λ (s : SeatSeen). s.drawn) c.lower.ensures ∙ c.in-Some.ensures.some.1 ∙ ap (λ (l : List ℕ). l ++ cluster ∷ []) (sym inv.done);
+        sound = inv.sound;
+        noted = inv.noted;
         its_fault = f.1;
         lowered = ap (λ (s : SeatSeen). s.lowered) c.lower.ensures;
+      };
+    }
+
+pub returns : goal.returns
+returns g c =
+    let inv = c.loop-cluster.invariant in
+    let job = job_facts (job_of c.args.job.now) in
+    record {
+      seat_of = c.in_default-claim.ensures.of.0;
+      stopped = record {
+        done = c.loop-cluster.state.done;
+        stands = c.into_piece.ensures.stands job inv.slot;
+        trails = c.into_piece.ensures.trails job inv.slot;
+        sound = inv.sound;
+        noted = inv.noted;
+        left = elim c.in_default-claim.ensures.none [
+          | inl past ↦ inl record { all = past.1 ∙ sym inv.done; past = past.0 }
+          | inr over ↦ inr record { last = over.0; cluster = over.1; others = over.2 ∙ ap (λ (l : List ℕ). l ++ over.0 ∷ []) (sym inv.done); passed = over.3 }
+        ];
+        unlowered = c.in_default-claim.ensures.of.2;
       };
     }

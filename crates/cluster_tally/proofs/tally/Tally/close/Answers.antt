@@ -1,8 +1,5 @@
-use Rattle.std.proofs.Common.{◌≡◌, ◌∙◌, ◌++◌, ◌∷◌, [], length, map, ap, arith, subst, sym, slice_get}
-use Rattle.lemmas.proofs.{with_items, with_items_is}
-use Rattle.cluster_tally.specs.{at_begin, Holds, noted_all, renewed, TallyView}
-use Rattle.cluster_tally.specs.contracts.tally.Tally.{the_view}
-use Rattle.cluster_tally.proofs.Closing.{holds_closed, on_both_ok}
+use Rattle.std.proofs.Common.{◌∙◌, ap, subst, sym, slice_get}
+use Rattle.cluster_tally.specs.{Holds, TallyView}
 use Rattle.cluster_tally.proofs.tally.Tally.close.Goals as goal
 
 pub close_all-requires-clause-fed : goal.close_all-requires-clause-fed
@@ -10,6 +7,3 @@ close_all-requires-clause-fed c i acc at =
     let r = c.requires in
     let h = subst (λ (t : TallyView). Holds r.0 r.1 r.2 t) (sym c.self.view_is) r.3 in
     (_, (h.alone i acc (ap (λ l. slice_get l i) (sym c.as_mut_slice.ensures.value) ∙ at)).held.fed)
-
-pub returns-clause-holds : goal.returns-clause-holds
-returns-clause-holds = grind (arith, with_items_is, on_both_ok, holds_closed)
