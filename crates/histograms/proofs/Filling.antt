@@ -1,5 +1,5 @@
 -- What a cell holds after one more point, and the bounds on its sums.
-use Rattle.std.proofs.Common.{ℕ, ◌≡◌, ◌+◌, ◌*◌, ◌^◌, ◌<◌, ◌≤◌, get_or, List, ℤ, pos, negsuc, ◌+ℤ◌, ◌*ℤ◌, arith, lit<, set, w64, FitsSigned, nat_abs, All, zero, suc, length, map, [], ◌∷◌, ◌++◌, refl, ap, sym, ◌∙◌, ⊎_elim, add-one, flat_map, fold}
+use Rattle.std.proofs.Common.{ℕ, ◌≡◌, ◌+◌, ◌*◌, ◌^◌, ◌<◌, ◌≤◌, get_or, List, ℤ, pos, ◌+ℤ◌, ◌*ℤ◌, arith, set, w64, FitsSigned, nat_abs, All, zero, suc, length, map, [], ◌∷◌, ◌++◌, refl, ap, sym, ◌∙◌, ⊎_elim, add-one, flat_map, fold}
 use Rattle.lemmas.proofs.{abs_add, All-set, fits_signed_from_abs, fits_signed_mul, unsigned_abs-mul, w128, +ℤ_assoc, +ℤ_idl, +ℤ_idr, append-nil, cases_eq, eq-eqb, flat_map-append, fold-append, get_or-map, get_or-set_other, get_or-set_same, get_or_append_left, get_or_at, length-map, length-set, map-append, ne_eqb, same_lists}
 use Rattle.histograms.specs.{CellSum, IsBounded, IsWeight, with_weight, cell_seen, flat_cells, together}
 use Rattle.rdf_values.proofs.UnionLemmas.{length-below}

@@ -1,5 +1,5 @@
 -- Edges that rise, where the buckets of an axis begin, and the cell that is found by them.
-use Rattle.std.proofs.Common.{ℕ, zero, suc, ◌≡◌, ◌<◌, ◌≤◌, Bool, true, false, cond, ◌&&◌, length, get_or, List, [], ◌∷◌, ℤ, ◌<ℤ◌, arith, refl, sym, ◌∙◌, add-one, int_lt, int_le, count_by, nat_le, ◌+◌, ◌-◌, inl, inr, pos, ◌-ℤ◌, ◌≤ℤ◌, FitsSigned, w64, to_z, of_z, subst, ap, unsigned_abs}
+use Rattle.std.proofs.Common.{ℕ, zero, suc, ◌≡◌, ◌<◌, ◌≤◌, Bool, true, false, cond, ◌&&◌, length, get_or, List, [], ◌∷◌, ℤ, ◌<ℤ◌, arith, refl, sym, ◌∙◌, add-one, int_lt, int_le, count_by, nat_le, ◌+◌, ◌-◌, pos, ◌≤ℤ◌, FitsSigned, w64, to_z, of_z, subst, ap}
 use Rattle.lemmas.proofs.{both_true, ints, IsAllAdjacentAnswer, IsPartitionedBy, IsPartitionPoint, leb-true, sum_by-cons, cases_Bool, cases_lt, false_from_ne_true, get_or_default, shr_mono, to_z-of_z}
 use Rattle.rdf_values.specs.{are_edges, rises, bin}
 use mir.Val.{bool_byte}

@@ -51,13 +51,6 @@ impl Edges {
         }
     }
 
-    /// The edges in their order.
-    pub fn as_slice(&self) -> &[i64]
-        ensures { result.now ≡ self.now }
-    {
-        self.edges.as_slice()
-    }
-
     /// The number of cells: one below the first edge, one from each edge on.
     pub fn cells(&self) -> u32
         ensures { result ≡ length self.now + 1 }

@@ -70,20 +70,6 @@ impl Hist1 {
         self.fills += other.fills;
     }
 
-    /// The edges.
-    pub fn edges(&self) -> &[i64]
-        ensures { result.now ≡ self.now.edges }
-    {
-        self.x.as_slice()
-    }
-
-    /// How many fills were made.
-    pub fn fills(&self) -> u64
-        ensures { result ≡ self.now.fills }
-    {
-        self.fills
-    }
-
     /// The number of cells: that of the edges plus one.
     pub fn cells(&self) -> u32
         ensures edges { result ≡ length self.now.edges + 1 }

@@ -81,27 +81,6 @@ impl Hist2 {
         self.fills += other.fills;
     }
 
-    /// The edges of the first axis.
-    pub fn x_edges(&self) -> &[i64]
-        ensures { result.now ≡ self.now.x_edges }
-    {
-        self.x.as_slice()
-    }
-
-    /// The edges of the second axis.
-    pub fn y_edges(&self) -> &[i64]
-        ensures { result.now ≡ self.now.y_edges }
-    {
-        self.y.as_slice()
-    }
-
-    /// How many fills were made.
-    pub fn fills(&self) -> u64
-        ensures { result ≡ self.now.fills }
-    {
-        self.fills
-    }
-
     /// The numbers of cells of the first and of the second axis.
     pub fn cells(&self) -> (u32, u32)
         ensures x_edges { result.0 ≡ length self.now.x_edges + 1 }
