@@ -68,7 +68,7 @@ pub(crate) fn read_entries(
 }
 
 /// The table that CSV bytes spell, in one piece, with its marks. The first record is the header, each other record an entry.
-pub(crate) fn read_table(alloc: Global, bytes: &[u8]) -> Result<MarkedPieces, TableRefusal>
+pub fn read_table(alloc: Global, bytes: &[u8]) -> Result<MarkedPieces, TableRefusal>
     ensures value { MatchResult result (λ m. table_of (csv_records bytes.now) ≡ Ok (record { table = m.table; marks = m.marks }))
         (Refuses TableRefusal.At TableRefusal.Memory (table_of (csv_records bytes.now))) }
     ensures within { IfOk result (λ m. All (λ e. e < length m.table.rows) m.marks) }

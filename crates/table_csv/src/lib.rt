@@ -10,6 +10,7 @@ mod refusal;
 mod slots;
 mod texts;
 
+pub use crate::entries::read_table;
 pub use crate::pieces::MarkedPieces;
 pub use crate::refusal::TableRefusal;
 pub use crate::slots::{read_columns, read_table_in_slots};
