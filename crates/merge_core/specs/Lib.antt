@@ -5,4 +5,4 @@ pub mod Slots
 pub use MachineLaws.{EachIsDrawnOnce, FirstFaultIsTold}
 pub use Pieces.{Stand}
 pub use Slots.{fresh_slot, Refused, seen_machine, seen_phase, seen_slot, seen_slots, Steps}
-pub use declared.noted.Noted.{Noted}
+pub use declared.piece.Noted.{Noted}

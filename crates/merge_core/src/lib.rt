@@ -4,15 +4,11 @@
 pub mod events;
 pub mod laws;
 pub mod machine;
-pub mod merge;
-pub mod noted;
 pub mod piece;
 pub mod refusal;
 mod slot;
 
 pub use crate::events::replay;
 pub use crate::machine::Core;
-pub use crate::merge::merge_all;
-pub use crate::noted::{Noted, Trail, TrailList};
-pub use crate::piece::Piece;
+pub use crate::piece::{Noted, Piece, Trail, TrailList, merge_all};
 pub use crate::refusal::{ReplayRefusal, StepRefusal};

@@ -6,7 +6,7 @@ use Rattle.command_words.specs.{asked_of, Input}
 use Rattle.input_files.specs.{Files, WritesDuePart}
 use Rattle.rdf_program.specs.Due.{IsDue}
 use Rattle.rdf_program.specs.Answers.{AreTurns, MayRead}
-use Rattle.rdf_program.specs.declared.settings.Settings.{Settings}
+use Rattle.rdf_program.specs.declared.means.Settings.{Settings}
 
 -- the words ask for a run over two files
 abbrev pub NamesFiles : Input → Type 0

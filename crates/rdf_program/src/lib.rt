@@ -10,7 +10,6 @@ mod make;
 mod means;
 mod one_due;
 mod over_table;
-mod settings;
 mod status;
 mod top;
 mod words;

@@ -1,5 +1,4 @@
 // What a run stands on besides its files.
-use crate::settings::Settings;
 use entry_fns::FnList;
 use std::alloc::Global;
 
@@ -11,4 +10,12 @@ pub(crate) struct Means<'a, R, G> {
     pub(crate) functions: &'a FnList,
     pub(crate) settings: Settings,
     pub(crate) gate: &'a G,
+}
+
+/// So many slots over clusters of at most `cluster` entries; watched results are noted after every `watch`-th cluster.
+#[derive(Clone, Copy)]
+pub(crate) struct Settings {
+    pub(crate) slots: u32,
+    pub(crate) cluster: u32,
+    pub(crate) watch: u32,
 }

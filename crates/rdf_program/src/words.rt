@@ -5,8 +5,7 @@ ghost use Rattle.rdf_program.specs.{AnswersWords, TurnsBesides};
 
 use crate::answer::Answer;
 use crate::input::{answer_files, answer_made};
-use crate::means::Means;
-use crate::settings::Settings;
+use crate::means::{Means, Settings};
 use crate::status::Status;
 use command_words::{Input, read_command};
 use entry_fns::FnList;

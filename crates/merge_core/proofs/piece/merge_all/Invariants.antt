@@ -2,7 +2,7 @@ use Rattle.std.proofs.Common.{ℕ, List, vec_len}
 use Rattle.rdf_values.specs.{IsUnion}
 use Rattle.merge_core.specs.{Stand}
 use Rattle.merge_core.proofs.Merging.{IsMerged}
-use Rattle.merge_core.proofs.merge.merge_all.Given as goal
+use Rattle.merge_core.proofs.piece.merge_all.Given as goal
 
 abbrev pub invariant-loop-piece : goal.invariant-loop-piece
 invariant-loop-piece g l =
