@@ -13,7 +13,7 @@ use crate::checks::{
     check_action, check_print, check_report, check_variations_for, check_vary, check_watch,
 };
 use crate::copies::alone;
-use crate::refusals::{GraphRefusal, Stop, first_of, refuse_unless, stop_if};
+use crate::refusals::{GraphRefusal, Stop, first_of, refuse_if, refuse_unless, stop_if};
 use crate::sets::{changed_sets, kinds_at, sets_of};
 use crate::tables::{Change, ResultRow, Tables};
 use crate::variations::full_names;
@@ -91,7 +91,7 @@ fn check_statement(before: &Before<'_>, statement: &Statement) -> Result<Tables,
             column,
             expr,
         } => {
-            let taken = before.check_new(parent, column);
+            let taken = refuse_if(before.sees(parent, column), GraphCause::NameTaken);
             made_gain(before, node, parent, taken, expr)
         }
         Statement::Redefine {
@@ -273,7 +273,7 @@ fn check_alias(
 {
     first_of(&[
         before.check_node(node, parent),
-        before.check_new(parent, column),
+        refuse_if(before.sees(parent, column), GraphCause::NameTaken),
         refuse_unless(before.sees(parent, target), GraphCause::UnknownColumn),
     ])
 }

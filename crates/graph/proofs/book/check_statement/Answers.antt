@@ -1,4 +1,5 @@
-use Rattle.std.proofs.Common.{refl, sym, ◌∙◌}
+use Rattle.std.proofs.Common.{ap, refl, sym, ◌∙◌}
+use Rattle.rdf_values.specs.{GraphCause, refuse_if}
 use Rattle.rdf_values.specs.declared.scripts.statement.Statement.TheVariants.{Action, Alias, Report, Vary, VariationsFor, Watch, Print}
 use Rattle.graph.specs.{statements}
 use Rattle.graph.proofs.Gaining.{decided_at, define_made, gained, nothing_gained, redefine_made, row_gained, told}
@@ -7,7 +8,7 @@ use Rattle.graph.proofs.book.check_statement.Goals as goal
 pub returns-in-Define : goal.returns-in-Define
 returns-in-Define c =
     let t = told c.args.before.now.header.now c.args.before.now.names.now (statements c.args.before.now.lines.now) c.args.statement.now _ c.made_gain.result c.in-Define.is
-    (define_made c.args.before.now.header.now c.args.before.now.names.now (statements c.args.before.now.lines.now) c.args.before.now.tables.now c.args.before.now.are _ _ _ _ _ c.made_gain.result c.check_new-taken.ensures c.made_gain.ensures.made c.made_gain.ensures.decided) (rw c.check_new-taken.ensures at c.made_gain.ensures.decided) in
+    (define_made c.args.before.now.header.now c.args.before.now.names.now (statements c.args.before.now.lines.now) c.args.before.now.tables.now c.args.before.now.are _ _ _ _ _ c.made_gain.result (c.refuse_if-taken.ensures ∙ ap (λ b. refuse_if b GraphCause.NameTaken) c.sees.ensures) c.made_gain.ensures.made c.made_gain.ensures.decided) (rw (c.refuse_if-taken.ensures ∙ ap (λ b. refuse_if b GraphCause.NameTaken) c.sees.ensures) at c.made_gain.ensures.decided) in
     record { gained = t.0; decided = t.1 }
 
 pub returns-in-Redefine : goal.returns-in-Redefine
