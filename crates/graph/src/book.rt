@@ -139,24 +139,20 @@ fn check_statement(before: &Before<'_>, statement: &Statement) -> Result<Tables,
             parent,
             column,
             target,
-        } => nothing(
-            before,
-            Ok(check_alias(before, node, parent, column, target)),
-        ),
-        Statement::VariationsFor { result } => nothing(
-            before,
-            check_variations_for(before, result),
-        ),
-        Statement::Watch { result } => nothing(before, Ok(check_watch(before, result))),
-        Statement::Print { result } => nothing(before, check_print(before, result)),
+        } => nothing(before, check_alias(before, node, parent, column, target)),
+        Statement::VariationsFor { result } => {
+            nothing(before, check_variations_for(before, result)?)
+        }
+        Statement::Watch { result } => nothing(before, check_watch(before, result)),
+        Statement::Print { result } => nothing(before, check_print(before, result)?),
     }
 }
 
-fn nothing(before: &Before<'_>, refusal: Result<Option<GraphCause>, Memory>) -> Result<Tables, Stop>
+fn nothing(before: &Before<'_>, refusal: Option<GraphCause>) -> Result<Tables, Stop>
     ensures empty { IfOk result IsEmptyGain }
-    ensures decided { (wanted : Option GraphCause) → IfOk refusal (λ o. o ≡ wanted) → Decides wanted result }
+    ensures decided { Decides refusal result }
 {
-    stop_if(refusal?)?;
+    stop_if(refusal)?;
     Ok(Tables::empty(before.alloc))
 }
 
