@@ -26,19 +26,23 @@ returns-in-Err c = refusal_answered c.args.script c.as_slice.result.now c.args.h
 pub loop_tables-requires-clause-named : goal.loop_tables-requires-clause-named
 loop_tables-requires-clause-named c =
     let ls = c.reversed-lines.result.items in
-    let t : AreTables c.args.header.now c.args.names.now (statements ls) c.in-Ok.tables = subst (λ xs. AreTables c.args.header.now c.args.names.now (statements xs) c.in-Ok.tables) c.as_slice.ensures.value c.in-Ok.ensures.booked in
+    let t : AreTables c.args.header.now c.args.names.now (statements ls) c.in-Ok.tables =
+    subst (λ xs. AreTables c.args.header.now c.args.names.now (statements xs) c.in-Ok.tables) c.as_slice.ensures.value c.in-Ok.ensures.booked in
     let g = graph_is c.args.script ls c.args.header.now c.args.names.now c.reversed-lines.ensures c.requires.script c.requires.header t.versions.accepted in
     finish_named ls c.as_slice-all.result.now c.args.header.now c.args.names.now c.in-Ok.tables c.as_slice-results.result.now c.as_slice-all.ensures.value c.as_slice-results.ensures.value g t
 
 pub invariant_of-script : goal.invariant_of-script
 invariant_of-script c =
     let ls = c.reversed-lines.result.items in
-    let t : AreTables c.args.header.now c.args.names.now (statements ls) c.in-Ok.tables = subst (λ xs. AreTables c.args.header.now c.args.names.now (statements xs) c.in-Ok.tables) c.as_slice.ensures.value c.in-Ok.ensures.booked in
+    let t : AreTables c.args.header.now c.args.names.now (statements ls) c.in-Ok.tables =
+    subst (λ xs. AreTables c.args.header.now c.args.names.now (statements xs) c.in-Ok.tables) c.as_slice.ensures.value c.in-Ok.ensures.booked in
     let g = graph_is c.args.script ls c.args.header.now c.args.names.now c.reversed-lines.ensures c.requires.script c.requires.header t.versions.accepted in
     record {
       are = record {
-        rows = finish_rows ls c.as_slice-all.result.now c.args.header.now c.args.names.now c.in-Ok.tables c.as_slice-results.result.now c.as_slice-all.ensures.value c.as_slice-results.ensures.value g t;
-        few_results = finish_few ls c.as_slice-all.result.now c.args.header.now c.args.names.now c.in-Ok.tables c.as_slice-results.result.now c.as_slice-all.ensures.value c.as_slice-results.ensures.value g t (lines_few c.args.script ls c.reversed-lines.ensures c.requires.script);
+        rows = finish_rows ls c.as_slice-all.result.now c.args.header.now c.args.names.now c.in-Ok.tables c.as_slice-results.result.now
+            c.as_slice-all.ensures.value c.as_slice-results.ensures.value g t;
+        few_results = finish_few ls c.as_slice-all.result.now c.args.header.now c.args.names.now c.in-Ok.tables c.as_slice-results.result.now
+            c.as_slice-all.ensures.value c.as_slice-results.ensures.value g t (lines_few c.args.script ls c.reversed-lines.ensures c.requires.script);
         count = c.len-variations.ensures.count ∙ ap length t.variations ∙ ap (λ xs. length (variations (statements xs))) (sym c.as_slice-all.ensures.value);
         few = c.len-variations.ensures.few;
       };
@@ -47,10 +51,12 @@ invariant_of-script c =
 pub invariant_of-result : goal.invariant_of-result
 invariant_of-result c =
     let ls = c.reversed-lines.result.items in
-    let t : AreTables c.args.header.now c.args.names.now (statements ls) c.in-Ok.tables = subst (λ xs. AreTables c.args.header.now c.args.names.now (statements xs) c.in-Ok.tables) c.as_slice.ensures.value c.in-Ok.ensures.booked in
+    let t : AreTables c.args.header.now c.args.names.now (statements ls) c.in-Ok.tables =
+    subst (λ xs. AreTables c.args.header.now c.args.names.now (statements xs) c.in-Ok.tables) c.as_slice.ensures.value c.in-Ok.ensures.booked in
     let g = graph_is c.args.script ls c.args.header.now c.args.names.now c.reversed-lines.ensures c.requires.script c.requires.header t.versions.accepted in
     finished ls c.as_slice-all.result.now c.args.header.now c.args.names.now c.in-Ok.tables c.as_slice-results.result.now c.as_slice-all.ensures.value c.as_slice-results.ensures.value g t
-    (all_short c.args.script ls c.reversed-lines.ensures c.requires.script) (lines_few c.args.script ls c.reversed-lines.ensures c.requires.script) c.in_ok-loops.loops c.in_ok-watched.watched.items c.in_ok-loops.ensures c.in_ok-watched.ensures
+    (all_short c.args.script ls c.reversed-lines.ensures c.requires.script) (lines_few c.args.script ls c.reversed-lines.ensures c.requires.script)
+    c.in_ok-loops.loops c.in_ok-watched.watched.items c.in_ok-loops.ensures c.in_ok-watched.ensures
     c.in_ok-columns.columns c.in_ok-functions.functions c.in_ok-columns.ensures (c.in_ok-functions.ensures ∙ c.as_slice-2.ensures.value)
 
 pub returns : goal.returns
