@@ -1,3 +1,4 @@
+pub mod Beginning
 pub mod Bits
 pub mod Checking
 pub mod Counting

@@ -107,16 +107,13 @@ impl Before<'_> {
         filter_sites(self.alloc, self.lines, self.sites(), node)
     }
 
-    fn version_at(&self, node: &Name, name: &Name) -> u32
-        ensures { result ≡ version_at self.now.header.now (history self.now) node.now name.now }
-    {
-        self.named_version(node, target_of(self.lines, node, name))
-    }
-
     pub(crate) fn versions_of(&self, node: &Name, columns: &[Name]) -> Result<ListOf<u32>, Memory>
         ensures { IfOk result (λ l. l ≡ map (version_at self.now.header.now (history self.now) node.now) columns.now) }
     {
-        let versions = columns.iter().map(|column| self.version_at(node, column));
+        let versions = columns.iter().map(|column| self.named_version(
+            node,
+            target_of(self.lines, node, column),
+        ));
         Ok(ListOf::from_vec(versions.collect(self.alloc)?))
     }
 
@@ -195,12 +192,6 @@ impl Before<'_> {
         ensures { result ≡ is_visible (scope_before self.now node.now) column.now }
     {
         is_visible(self.lines, self.header, node, column)
-    }
-
-    pub(crate) fn check_new(&self, parent: &Name, column: &Name) -> Option<GraphCause>
-        ensures { result ≡ refuse_if (is_visible (scope_before self.now parent.now) column.now) NameTaken }
-    {
-        refuse_if(self.sees(parent, column), GraphCause::NameTaken)
     }
 
     pub(crate) fn check_target(&self, parent: &Name, column: &Name) -> Option<GraphCause>

@@ -13,7 +13,7 @@ use crate::checks::{
     check_action, check_print, check_report, check_variations_for, check_vary, check_watch,
 };
 use crate::copies::alone;
-use crate::refusals::{GraphRefusal, Stop, first_of, refuse_unless, stop_if};
+use crate::refusals::{GraphRefusal, Stop, first_of, refuse_if, refuse_unless, stop_if};
 use crate::sets::{changed_sets, kinds_at, sets_of};
 use crate::tables::{Change, ResultRow, Tables};
 use crate::variations::full_names;
@@ -91,7 +91,7 @@ fn check_statement(before: &Before<'_>, statement: &Statement) -> Result<Tables,
             column,
             expr,
         } => {
-            let taken = before.check_new(parent, column);
+            let taken = refuse_if(before.sees(parent, column), GraphCause::NameTaken);
             made_gain(before, node, parent, taken, expr)
         }
         Statement::Redefine {
@@ -139,24 +139,20 @@ fn check_statement(before: &Before<'_>, statement: &Statement) -> Result<Tables,
             parent,
             column,
             target,
-        } => nothing(
-            before,
-            Ok(check_alias(before, node, parent, column, target)),
-        ),
-        Statement::VariationsFor { result } => nothing(
-            before,
-            check_variations_for(before, result),
-        ),
-        Statement::Watch { result } => nothing(before, Ok(check_watch(before, result))),
-        Statement::Print { result } => nothing(before, check_print(before, result)),
+        } => nothing(before, check_alias(before, node, parent, column, target)),
+        Statement::VariationsFor { result } => {
+            nothing(before, check_variations_for(before, result)?)
+        }
+        Statement::Watch { result } => nothing(before, check_watch(before, result)),
+        Statement::Print { result } => nothing(before, check_print(before, result)?),
     }
 }
 
-fn nothing(before: &Before<'_>, refusal: Result<Option<GraphCause>, Memory>) -> Result<Tables, Stop>
+fn nothing(before: &Before<'_>, refusal: Option<GraphCause>) -> Result<Tables, Stop>
     ensures empty { IfOk result IsEmptyGain }
-    ensures decided { (wanted : Option GraphCause) → IfOk refusal (λ o. o ≡ wanted) → Decides wanted result }
+    ensures decided { Decides refusal result }
 {
-    stop_if(refusal?)?;
+    stop_if(refusal)?;
     Ok(Tables::empty(before.alloc))
 }
 
@@ -273,7 +269,7 @@ fn check_alias(
 {
     first_of(&[
         before.check_node(node, parent),
-        before.check_new(parent, column),
+        refuse_if(before.sees(parent, column), GraphCause::NameTaken),
         refuse_unless(before.sees(parent, target), GraphCause::UnknownColumn),
     ])
 }

@@ -297,17 +297,11 @@ fn one_watch_more(before: &[Line], name: &Name) -> Option<GraphCause>
     refuse_if(count >= limit, GraphCause::TooMany)
 }
 
-fn known_result(before: &[Line], name: &Name) -> Option<GraphCause>
-    ensures { result ≡ refuse_unless (is_result (statements before.now) name.now) cause_of.UnknownName }
-{
-    refuse_unless(is_result(before, name), GraphCause::UnknownName)
-}
-
 pub(crate) fn check_watch(before: &Before<'_>, name: &Name) -> Option<GraphCause>
     ensures { result ≡ verdict_after before.now (Watch name.now) }
 {
     first_of(&[
-        known_result(before.lines, name),
+        refuse_unless(is_result(before.lines, name), GraphCause::UnknownName),
         refuse_unless(is_watchable(before.lines, name), GraphCause::WrongKind),
         refuse_if(is_filled(before.lines, name), GraphCause::Late),
         one_watch_more(before.lines, name),
@@ -323,7 +317,7 @@ pub(crate) fn check_variations_for(
     let rows = before.tables.results.as_slice();
     let amounts = amounts_of(before.lines, Some(name), rows)?;
     Ok(first_of(&[
-        known_result(before.lines, name),
+        refuse_unless(is_result(before.lines, name), GraphCause::UnknownName),
         refuse_if(is_report(before.lines, name), GraphCause::WrongKind),
         refuse_if(is_filled(before.lines, name), GraphCause::Late),
         too_many(amounts),
@@ -335,19 +329,17 @@ pub(crate) fn check_print(before: &Before<'_>, name: &Name) -> Result<Option<Gra
 {
     let rows = before.tables.results.as_slice();
     let amounts = amounts_printed_with(before.lines, rows, name)?;
-    Ok(first_of(&[known_result(before.lines, name), too_many(amounts)]))
+    Ok(first_of(&[
+        refuse_unless(is_result(before.lines, name), GraphCause::UnknownName),
+        too_many(amounts),
+    ]))
 }
 
+#[tactic(auto, using(crate::proofs::Beginning::begins_is))]
 fn begins(kinds: &[ColType], permitted: &[ColType]) -> bool
     ensures { result ≡ begins kinds.now permitted.now }
 {
-    let Some((kind, kinds)) = kinds.split_first() else {
-        return true;
-    };
-    let Some((first, rest)) = permitted.split_first() else {
-        return false;
-    };
-    same_kind(*kind, *first) && begins(kinds, rest)
+    permitted.starts_with(kinds)
 }
 
 fn may_begin(action: &ActionKind, kinds: &[ColType]) -> bool
@@ -355,25 +347,20 @@ fn may_begin(action: &ActionKind, kinds: &[ColType]) -> bool
 {
     match action {
         ActionKind::Count => begins(kinds, &[]),
-        ActionKind::Sum(_) | ActionKind::Min(_) | ActionKind::Max(_) => {
+        ActionKind::Reduce(_, _) => begins(kinds, &[ColType::Int]),
+        ActionKind::Take(_) => begins(kinds, &[ColType::Int]) || begins(kinds, &[ColType::Bool]),
+        ActionKind::Sum(_)
+        | ActionKind::Min(_)
+        | ActionKind::Max(_)
+        | ActionKind::Histo1D { weight: None, .. } => {
             begins(kinds, &[ColType::Int]) || begins(kinds, &[ColType::Vect])
         }
-        ActionKind::Take(_) => begins(kinds, &[ColType::Int]) || begins(kinds, &[ColType::Bool]),
-        ActionKind::Reduce(_, _) => begins(kinds, &[ColType::Int]),
-        ActionKind::Histo1D { weight: None, .. } => begins(kinds, &[ColType::Int])
-            || begins(kinds, &[ColType::Vect]),
-        ActionKind::Histo1D {
-            weight: Some(_),
-            ..
-        } => begins(kinds, &[ColType::Int, ColType::Int])
+        ActionKind::Histo1D { .. } => begins(kinds, &[ColType::Int, ColType::Int])
             || begins(kinds, &[ColType::Vect, ColType::Int])
             || begins(kinds, &[ColType::Vect, ColType::Vect]),
         ActionKind::Histo2D { weight: None, .. } => begins(kinds, &[ColType::Int, ColType::Int])
             || begins(kinds, &[ColType::Vect, ColType::Vect]),
-        ActionKind::Histo2D {
-            weight: Some(_),
-            ..
-        } => begins(kinds, &[ColType::Int, ColType::Int, ColType::Int])
+        ActionKind::Histo2D { .. } => begins(kinds, &[ColType::Int, ColType::Int, ColType::Int])
             || begins(kinds, &[ColType::Vect, ColType::Vect, ColType::Int])
             || begins(kinds, &[ColType::Vect, ColType::Vect, ColType::Vect]),
     }

@@ -48,9 +48,7 @@ impl Model for Graph {
 }
 
 impl Graph {
-    ghost use Rattle.graph.specs.{AreKinds, AreTables, has, refused_at, statements, view_of};
-    ghost use Rattle.std.specs.List.{AllByRecursion};
-    ghost use Rattle.rdf_values.specs.{IsShort};
+    ghost use Rattle.graph.specs.{AreKinds, has, refused_at, statements};
 
     /// Books a script over a table's columns: each line is checked after those before it, and the first that is refused is
     /// named with its cause.
@@ -69,23 +67,6 @@ impl Graph {
             Ok(tables) => tables,
             Err(refusal) => return Err(refusal),
         };
-        Ok(Graph::finish(alloc, lines, header, names, tables)?)
-    }
-
-    /// The graph of lines that were booked, the latest first.
-    fn finish(
-        alloc: Global,
-        lines: Vec<Line>,
-        header: &[Column],
-        names: &FnNames,
-        tables: Tables,
-    ) -> Result<Graph, Memory>
-        requires graph { IsGraph (view_of lines.items header.now names.now) }
-        requires tables { AreTables header.now names.now (statements lines.items) tables }
-        requires short { AllByRecursion IsShort (statements lines.items) }
-        requires few { length lines.items ≤ 256 }
-        ensures { IfOk result (λ g. g ≡ view_of lines.items header.now names.now) }
-    {
         let columns = copy_header(alloc, header)?;
         let functions = copy_names(alloc, names.as_slice())?;
         let all = lines.as_slice();

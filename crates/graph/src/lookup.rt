@@ -1,8 +1,8 @@
 // Look-ups in the statements so far, the latest first: each walks them as its definition does.
-ghost use Rattle.std.specs.Prelude.{◌≡◌, ◌<◌, ◌≤◌, ◌+◌, true, false, codes, length, MatchOption, IfSome, Some, option_map, slice_get, IfOk, List, []};
+ghost use Rattle.std.specs.Prelude.{◌^◌, ◌≡◌, ◌<◌, ◌≤◌, ◌+◌, true, false, codes, length, MatchOption, IfSome, Some, option_map, slice_get, IfOk, List, []};
 ghost use Rattle.std.specs.List.{list_any};
 ghost use Rattle.rdf_values.specs.{FunctionNames, is_alias, is_in_use, is_node, is_result, is_visible, makes, parent_of, path, place, same, scope_at, scope_of, target_of, expression_count, named_before, ActionAt, among, bookings, can_watch, filled, is_report, is_watched, names_of, Path, result_is, Statement, watched_results};
-ghost use Rattle.graph.specs.{own_target, own_visible, statements, count_from, filter_numbers, labels, own_label, site_total, expression_total, own_site_total};
+ghost use Rattle.graph.specs.{own_target, own_visible, statements, count_from, filter_numbers, labels, own_label, site_total, own_site_total};
 ghost use Rattle.graph_numbers.specs.{column_place, covered_at, filters_on, named_version, own_columns, own_version, version_count, list_start};
 ghost use Rattle.rdf_values.specs.declared.scripts.statement.Statement.TheVariants.{Watch};
 
@@ -238,9 +238,9 @@ pub(crate) fn numbers(alloc: Global, first: u32, count: u32) -> Result<ListOf<u3
     Ok(list)
 }
 
-/// Where a list's first expression is among those of all lists; they have few expressions together.
+/// Where a list's first expression is among those of all lists.
 pub(crate) fn list_start(lists: &[ListOf<Expr>], i: usize) -> usize
-    requires { expression_count lists.now ≤ 65536 }
+    requires { expression_count lists.now < 2 ^ 64 }
     ensures value { result ≡ list_start lists.now i }
     ensures few { result ≤ expression_count lists.now }
 {
@@ -253,18 +253,8 @@ pub(crate) fn list_start(lists: &[ListOf<Expr>], i: usize) -> usize
     first.len() + list_start(rest, i - 1)
 }
 
-fn expression_total(lists: &[ListOf<Expr>], most: usize) -> usize
-    requires { expression_total lists.now ≤ most }
-    ensures { result ≡ expression_total lists.now }
-{
-    let Some((first, rest)) = lists.split_first() else {
-        return 0;
-    };
-    let own = first.len();
-    own + expression_total(rest, most - own)
-}
-
 /// How many sites a statement has, at most so many.
+#[tactic(auto, using(crate::proofs::Beginning::all_lists))]
 pub fn own_site_total(statement: &Statement, most: usize) -> usize
     requires { own_site_total statement.now ≤ most }
     ensures { result ≡ own_site_total statement.now }
@@ -272,7 +262,7 @@ pub fn own_site_total(statement: &Statement, most: usize) -> usize
     match statement {
         Statement::Define { .. } | Statement::Redefine { .. } | Statement::Filter { .. } => 1,
         Statement::Vary { values, .. } => match values {
-            VaryValues::Lists(lists) => expression_total(lists.as_slice(), most),
+            VaryValues::Lists(lists) => list_start(lists.as_slice(), lists.len()),
             VaryValues::Vector(_) => 1,
         },
         _ => 0,

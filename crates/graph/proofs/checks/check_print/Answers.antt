@@ -1,6 +1,6 @@
-use Rattle.std.proofs.Common.{[], ◌∷◌, ◌++◌, ◌∙◌, arith, refl, subst, sym}
+use Rattle.std.proofs.Common.{[], ◌∷◌, ◌++◌, ◌∙◌, ap, arith, refl, subst, sym}
 use Rattle.lemmas.proofs.{AllZip-long}
-use Rattle.rdf_values.specs.{bookings, first_refusal, printed_results}
+use Rattle.rdf_values.specs.{bookings, first_refusal, GraphCause, printed_results, refuse_unless}
 use Rattle.rdf_values.specs.declared.scripts.statement.Statement.TheVariants.{Print}
 use Rattle.graph.specs.{printed_rows, rows_named, statements}
 use Rattle.graph.proofs.Counting.{AllPassed, passes_checked, printed_with, rows_passed}
@@ -10,7 +10,7 @@ pub amounts_printed_with-requires : goal.amounts_printed_with-requires
 amounts_printed_with-requires = grind (arith, AllZip-long)
 
 pub returns : goal.returns
-returns c = c.first_of.ensures ∙ λ i. first_refusal (c.known_result.ensures i ∷
+returns c = c.first_of.ensures ∙ λ i. first_refusal ((c.refuse_unless.ensures ∙ ap (λ b. refuse_unless b GraphCause.UnknownName) c.is_result.ensures) i ∷
     passes_checked (statements c.args.before.now.lines.now) (printed_results (Print c.args.name.now ∷ statements c.args.before.now.lines.now)) (rows_named c.args.name.now c.as_slice-rows.result.now ++ printed_rows (statements c.args.before.now.lines.now) c.as_slice-rows.result.now)
     (printed_with (statements c.args.before.now.lines.now) (statements c.args.before.now.lines.now) c.args.name.now c.as_slice-rows.result.now
     (subst (AllPassed (statements c.args.before.now.lines.now) (bookings (statements c.args.before.now.lines.now))) (sym c.as_slice-rows.ensures.value)
