@@ -1,7 +1,7 @@
 -- What an accumulator answers.
 use Rattle.rdf_values.specs.results.Fold as fold
-use Rattle.actions.specs.declared.filled.Filled.{Filled}
-use Rattle.actions.specs.declared.filled.Filled.TheVariants.{Count, Sum, Extreme, Taken, Number, Flat, Square}
+use Rattle.actions.specs.declared.acc.Filled.{Filled}
+use Rattle.actions.specs.declared.acc.Filled.TheVariants.{Count, Sum, Extreme, Taken, Number, Flat, Square}
 
 -- the answer as the definitions see it
 abbrev pub filled_seen : Filled → fold.Filled

@@ -1,10 +1,11 @@
-// Accumulators.
+// Accumulators, and what they made of their items.
 ghost use Rattle.std.specs.Prelude.{◌≡◌};
 
 use crate::batch::Batch;
-use crate::filled::Filled;
 use crate::items::Items;
 use crate::state::State;
+use crate::taken::Taken;
+use histograms::{Hist1, Hist2};
 use rdf_values::{ActionKind, EntryFault, Memory};
 use std::alloc::Global;
 use std::marker::Model;
@@ -130,4 +131,16 @@ impl Acc {
     {
         self.state.filled()
     }
+}
+
+/// What was made of the items: `Extreme` is that of a Min or a Max, and `Number` that of a Reduce.
+#[derive(Drop)]
+pub enum Filled<'a> {
+    Count(u64),
+    Sum(i128),
+    Extreme(Option<i64>),
+    Taken(Taken<'a>),
+    Number(i64),
+    Flat(&'a Hist1),
+    Square(&'a Hist2),
 }

@@ -4,7 +4,6 @@
 
 pub mod acc;
 pub mod batch;
-pub mod filled;
 pub mod fills;
 pub mod folding;
 pub mod items;
@@ -14,9 +13,8 @@ pub mod places;
 pub mod state;
 pub mod taken;
 
-pub use crate::acc::{Acc, FeedStop};
+pub use crate::acc::{Acc, FeedStop, Filled};
 pub use crate::batch::{Batch, PlaceFault, Sources};
-pub use crate::filled::Filled;
 pub use crate::items::{Items, Part};
 pub use crate::lane::Lane;
 pub use crate::places::Places;

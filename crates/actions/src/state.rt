@@ -2,8 +2,8 @@
 ghost use Rattle.std.specs.Prelude.{◌≡◌, IfOk};
 ghost use Rattle.histograms.specs.{IsAxis};
 
+use crate::acc::Filled;
 use crate::batch::{Batch, Sources};
-use crate::filled::Filled;
 use crate::fills::{
     fill_number_pairs, fill_pairs, fill_points, fill_weighted, fill_weighted_pairs,
 };

@@ -11,7 +11,7 @@ use Rattle.graph_numbers.specs.{graph_sites, graph_variations, GraphView, Source
 use Rattle.block_cache.specs.{begun_at, cells_at, fault_of, held_at, holds_at, is_below, is_held, IsAttemptedFor, IsFaultOf, IsLeastFault, IsSameAt, IsTelling, IsTriedFor, IsWaiting, lane_holds, LaneView, need_at, own_key, PlaceFault, site_fault}
 use Rattle.loop_keys.specs.{IsMissingSource, IsSiteOf, job_graph, JobView, key, key_count, keys_before, slot_at, source_at}
 use Rattle.loop_keys.proofs.KeyLaws.{key_below}
-use Rattle.block_cache.specs.declared.wanted.Wanted.{Wanted}
+use Rattle.block_cache.specs.declared.block.Wanted.{Wanted}
 use Rattle.block_cache.proofs.Wants.{parts_of}
 use Rattle.block_cache.proofs.BegunLanes.{all_grown, all_newly, all_same, own_begun}
 use Rattle.block_cache.proofs.Knowns.{holds_nothing, same_holds}

@@ -4,7 +4,7 @@ use Rattle.lemmas.proofs.{get_or_from_slice_get, map-set_same, or_right, slice_g
 use Rattle.expr_lanes.specs.{EachPlace, is_in}
 use Rattle.block_cache.specs.{begun_at, begun_count, cells_at, held_at, is_held, IsBegunAt, IsBegunFor, IsBrokenOffFor, IsGrownOver, IsLaneSet, IsOnlyCalled, IsSameAt, kinds_of, lane_begun, lane_holds, LaneView, own_key, room_of, rooms_of, tried_count}
 use Rattle.loop_keys.specs.{held_in, is_held as has_held, job_graph, key}
-use Rattle.block_cache.specs.declared.wanted.Wanted.{Wanted}
+use Rattle.block_cache.specs.declared.block.Wanted.{Wanted}
 use Rattle.block_cache.proofs.Wants.{parts_of}
 use Rattle.block_cache.proofs.BlockLaws.{held_of_lane, lane_held}
 use Rattle.block_cache.proofs.Knowns.{holds_is}

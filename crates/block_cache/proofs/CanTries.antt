@@ -11,7 +11,7 @@ use Rattle.loop_keys.specs.{job_graph, key, source_at}
 use Rattle.loop_keys.proofs.Elements.{each_kind}
 use Rattle.loop_keys.proofs.EvaluateLaws.{accepted_of}
 use Rattle.loop_keys.proofs.KeyLaws.{key_small}
-use Rattle.block_cache.specs.declared.wanted.Wanted.{Wanted}
+use Rattle.block_cache.specs.declared.block.Wanted.{Wanted}
 use Rattle.block_cache.proofs.Wants.{parts_of}
 use Rattle.block_cache.proofs.Attempts.{get_take, key_lower}
 

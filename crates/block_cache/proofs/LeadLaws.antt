@@ -13,7 +13,7 @@ use Rattle.block_cache.specs.{AreReadyOver, below_fault, block_graph, block_job,
 use Rattle.loop_keys.specs.{ArePlain, IsSiteOf, job_graph, JobView, key_count, MeetsAt, Place, place_of, source_at, version_in}
 use Rattle.loop_keys.proofs.EvaluateLaws.{accepted_of, met_each}
 use Rattle.loop_keys.proofs.KeyLaws.{key_small}
-use Rattle.block_cache.specs.declared.wanted.Wanted.{Wanted}
+use Rattle.block_cache.specs.declared.block.Wanted.{Wanted}
 use Rattle.block_cache.proofs.Wants.{parts_of}
 use Rattle.block_cache.proofs.CanFills.{can_below, falls_by_number, met_used, ranked}
 use Rattle.block_cache.proofs.CanTries.{site_tree}

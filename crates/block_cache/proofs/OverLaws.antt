@@ -12,7 +12,7 @@ use Rattle.block_cache.proofs.LaneSteps.{given_among}
 use Rattle.loop_keys.proofs.ColumnLaws.{can_evaluate}
 use Rattle.loop_keys.proofs.FillLaws.{written}
 use Rattle.loop_keys.proofs.KeyLaws.{key_small}
-use Rattle.block_cache.specs.declared.wanted.Wanted.{Wanted}
+use Rattle.block_cache.specs.declared.block.Wanted.{Wanted}
 use Rattle.block_cache.proofs.Wants.{parts_of}
 use Rattle.block_cache.proofs.BlockLaws.{cells_long, given_right, held_of_lane, lane_held, sound_alike, sound_below, tells, value_held}
 

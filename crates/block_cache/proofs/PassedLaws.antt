@@ -8,7 +8,7 @@ use Rattle.expr_lanes.specs.{at_place, IsSelected}
 use Rattle.expr_lanes.proofs.SiftSteps.{filter_alike}
 use Rattle.block_cache.specs.{cells_at, holds_at, is_held, IsFilledFor, IsPassedFor, IsSettled, kinds_of, lane_holds, LaneView, own_key, PlaceFault, value_for, value_of}
 use Rattle.loop_keys.specs.{Held, held_in, IsRight, job_graph, key_count, site_in, truth_in}
-use Rattle.block_cache.specs.declared.wanted.Wanted.{Wanted}
+use Rattle.block_cache.specs.declared.block.Wanted.{Wanted}
 use Rattle.block_cache.proofs.Wants.{parts_of}
 use Rattle.block_cache.proofs.BlockLaws.{held_of_lane, lane_held, right_value}
 use Rattle.block_cache.proofs.CanTries.{got_kind}

@@ -9,7 +9,7 @@ use Rattle.graph_numbers.specs.{Source}
 use Rattle.block_cache.specs.{AreReadyOver, begun_at, below_fault, found_or, holds_at, is_below, IsAttemptedFor, IsBrokenOffFor, IsFaultOf, IsGrownOver, IsPaidFor, IsPaidOver, IsResumedFor, IsSameAt, IsSettled, IsSettledFor, IsSettledTo, IsSpentFor, IsSpentOver, IsUnderwayFor, IsWaiting, LaneView, left_to_begin, need_at, own_key, PlaceFault, site_fault}
 use Rattle.block_cache.proofs.LaneSteps.{filter_all, filter_none}
 use Rattle.loop_keys.specs.{IsJob, IsSiteOf, job_graph, JobView, key, MeetsAt, site_in, source_at}
-use Rattle.block_cache.specs.declared.wanted.Wanted.{Wanted}
+use Rattle.block_cache.specs.declared.block.Wanted.{Wanted}
 use Rattle.block_cache.proofs.Wants.{parts_of}
 use Rattle.block_cache.proofs.Attempts.{key_lower}
 use Rattle.block_cache.proofs.GrownLaws.{grown_below, grown_on, later_keys, other_places, settled_all}

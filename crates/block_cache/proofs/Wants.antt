@@ -1,7 +1,7 @@
 -- The parts of a site that is wanted over a block.
 use Rattle.std.proofs.Common.{ℕ, Option}
 use Rattle.block_cache.specs.{block_job, own_key}
-use Rattle.block_cache.specs.declared.wanted.Wanted.{Wanted}
+use Rattle.block_cache.specs.declared.block.Wanted.{Wanted}
 use Rattle.loop_keys.specs.{IsJob, job_graph, JobView, key, key_count}
 
 abbrev pub parts_of : {V : Type 0} {D : V → Type 0} {g : _} (w : Wanted V D g) → record { j : JobView; job : IsJob j; first : ℕ; u : Option ℕ; count : ℕ; s : ℕ; keys : ℕ; own : ℕ; at : ℕ → ℕ }

@@ -12,7 +12,7 @@ use Rattle.block_cache.specs.Lanes.{IsBegun, IsEvaluated, LaneView}
 use Rattle.block_cache.specs.OverBlocks.{block_job, key_over}
 use Rattle.block_cache.specs.Turns.{found_or, IsFaultOf, IsSettledTo, IsWaiting, need_at}
 use Rattle.block_cache.specs.declared.faults.PlaceFault.{PlaceFault}
-use Rattle.block_cache.specs.declared.wanted.Wanted.{Wanted}
+use Rattle.block_cache.specs.declared.block.Wanted.{Wanted}
 
 module _ {V : Type 0} {D : V → Type 0} {g : _} (w : Wanted V D g) where
   abbrev job : JobView

@@ -6,10 +6,10 @@ ghost use Rattle.block_cache.specs.{AreReadOver, AreReadyOver, CallsFitOver, Can
 
 use crate::Lane;
 use crate::able::can_evaluate;
+use crate::block::Wanted;
 use crate::level::Level;
 use crate::site_values::SiteValues;
 use crate::view::BlockView;
-use crate::wanted::Wanted;
 use arrayvec::ArrayVec;
 use expr_eval::Steps;
 use expr_lanes::{Evaluation, MAX_PLACES, Scratch, Selection, Stopped};

@@ -8,10 +8,9 @@ ghost use Rattle.loop_keys.specs.{IsSiteOf};
 
 use crate::Lane;
 use crate::attempt::try_lane;
-use crate::block::Block;
+use crate::block::{Block, Wanted};
 use crate::faults::{PlaceFault, least_fault};
 use crate::level::{Level, note_needs};
-use crate::wanted::Wanted;
 use expr_eval::Steps;
 use expr_lanes::{Scratch, Selection};
 use graph_numbers::Source;

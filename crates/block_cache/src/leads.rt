@@ -7,11 +7,10 @@ ghost use Rattle.block_cache.specs.{AreReadyOver, block_graph, CanFillFor, first
 ghost use Rattle.loop_keys.specs.{IsSiteOf};
 
 use crate::Lane;
-use crate::block::Block;
+use crate::block::{Block, Wanted};
 use crate::faults::PlaceFault;
 use crate::fill::{fill, lowered};
 use crate::level::Level;
-use crate::wanted::Wanted;
 use expr_eval::Steps;
 use expr_lanes::{Scratch, Selection};
 use graph_numbers::Source;

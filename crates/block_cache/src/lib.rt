@@ -24,7 +24,6 @@ pub mod sizes;
 mod values;
 mod vectors;
 mod view;
-pub mod wanted;
 
 pub use crate::lane::Lane;
 pub use crate::lanes::{begin_block, new_lanes};

@@ -5,10 +5,10 @@ ghost use Rattle.expr_lanes.specs.{IsSelected};
 ghost use Rattle.block_cache.specs.{AreReadyOver, CanFillFor, IfPlain, IsPassedFor, IsSettled, IsSpentFor, kinds_of, own_key};
 
 use crate::Lane;
+use crate::block::Wanted;
 use crate::faults::PlaceFault;
 use crate::leads::fill_led;
 use crate::level::Level;
-use crate::wanted::Wanted;
 use expr_eval::Steps;
 use expr_lanes::{Scratch, Selection};
 use loop_keys::reading::key;

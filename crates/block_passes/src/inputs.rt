@@ -8,7 +8,7 @@ ghost use Rattle.block_cache.specs.{fault_over, holds_at, AreReady, CanFill, kin
 ghost use Rattle.block_passes.specs.{element_fault_in_turn, IsKnown, IsNumberOf, IsOver, IsSelected, IsServedInTurn, KeepsRoom, turn_job, AreAtHand, CanServeInTurn, CanServeWith, DemandsInputs, DemandsSource, inputs_fault_in_turn, IsAtHand, IsSpentInTurn, IsTurn, Leaves, source_fault_in_turn, source_in_turn};
 ghost use Rattle.std.specs.List.{AllByRecursion};
 ghost use Rattle.rdf_values.specs.declared.tables.value.Value.TheVariants as val;
-ghost use Rattle.graph_numbers.specs.declared.source.Source.TheVariants as source;
+ghost use Rattle.graph_numbers.specs.declared.version.Source.TheVariants as source;
 
 use crate::turn::{Kept, Turn, Work};
 use block_cache::Lane;

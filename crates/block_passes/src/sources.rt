@@ -8,7 +8,7 @@ ghost use Rattle.expr_lanes.specs.{is_in};
 ghost use Rattle.loop_keys.specs.{row_of, site_in, version_in};
 ghost use Rattle.block_passes.specs.{AreCopiedInTurn, AreHeldInTurn, AreLanesOf, CanGatherInTurn, CanServeWith, HasHeld, IsAtHand, IsCopyInTurn, IsLaneOf, IsOver, IsTurn, IsWhole, source_in_turn, turn_job, AreInPlaceInTurn};
 ghost use Rattle.rdf_values.specs.declared.tables.value.ColType.TheVariants as kind;
-ghost use Rattle.graph_numbers.specs.declared.source.Source.TheVariants as source;
+ghost use Rattle.graph_numbers.specs.declared.version.Source.TheVariants as source;
 
 use crate::copies::{Copied, Copies};
 use crate::turn::{ActionRead, Turn};

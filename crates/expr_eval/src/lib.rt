@@ -9,7 +9,6 @@ pub mod inputs;
 pub mod number;
 mod operand;
 mod scalar;
-mod scalar_answer;
 pub mod steps;
 pub mod stop;
 mod vector;

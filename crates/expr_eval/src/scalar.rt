@@ -10,9 +10,8 @@ ghost use Rattle.expr_eval.specs.{answered, ArgumentsCanCall, CallFits, Gathers,
 use crate::calls::{Calls, answer, callable};
 use crate::inputs::{Input, Inputs};
 use crate::number::{absolute, is_arithmetic, mark, negate, operate};
-use crate::scalar_answer::ScalarAnswer;
 use crate::steps::Steps;
-use crate::stop::ScalarStop;
+use crate::stop::{ScalarAnswer, ScalarStop};
 use arrayvec::ArrayVec;
 use entry_fns::FnList;
 use expr_check::Checked;

@@ -8,7 +8,7 @@ use Rattle.graph_numbers.specs.Sources.{sources, versions}
 use Rattle.graph_numbers.specs.Versions.{version_kinds}
 use Rattle.graph_numbers.specs.Results.{FilterAt, ResultAt, filters, results, loops, runs, result_number, under_at}
 use Rattle.graph_numbers.specs.declared.pass.Pass.{Pass as NumberedPass}
-use Rattle.graph_numbers.specs.declared.source.Source.{Source}
+use Rattle.graph_numbers.specs.declared.version.Source.{Source}
 use Rattle.graph_numbers.specs.declared.version.Version.{Version}
 
 -- a script, the table's columns, and the names of the caller's functions

@@ -8,7 +8,7 @@ use Rattle.graph_numbers.specs.Results.{FilterAt, ResultAt, pass_at}
 use Rattle.graph_numbers.specs.Sites.{SiteAt, condition_in, conditions_on, site_outcome}
 use Rattle.graph_numbers.specs.Sources.{IsBelow, IsSourceOf, site_value, source_in, source_value, sources}
 use Rattle.graph_numbers.specs.Versions.{version_at}
-use Rattle.graph_numbers.specs.declared.source.Source.{Source}
+use Rattle.graph_numbers.specs.declared.version.Source.{Source}
 use Rattle.graph_numbers.specs.declared.version.Version.{Version}
 
 -- the graph of a script over a table, with the functions' names

@@ -6,7 +6,7 @@ use Rattle.rdf_model.specs.{loop_results}
 use Rattle.graph_numbers.specs.Versions.{version_at}
 use Rattle.graph_numbers.specs.Sites.{filter_sites, site_count}
 use Rattle.graph_numbers.specs.Sources.{numbers_from}
-use Rattle.graph_numbers.specs.declared.result_kind.ResultKind.{ResultKind}
+use Rattle.graph_numbers.specs.declared.pass.ResultKind.{ResultKind}
 use Rattle.graph_numbers.specs.declared.pass.Pass.{Pass as NumberedPass}
 
 -- ---- variations

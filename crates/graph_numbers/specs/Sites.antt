@@ -5,7 +5,7 @@ use Rattle.rdf_values.specs.declared.scripts.statement.Statement.TheVariants.{De
 use Rattle.rdf_values.specs.declared.scripts.statement.VaryValues.TheVariants.{Lists, Vector}
 use Rattle.rdf_model.specs.{column_value, expression_value, Outcome, Site, site_at, ◌>>=◌, call_outcome, evaluate, Faults, Gives, is_need, Needs, truth_of, without}
 use Rattle.graph_numbers.specs.Versions.{version_at}
-use Rattle.graph_numbers.specs.declared.source.Source.{Source}
+use Rattle.graph_numbers.specs.declared.version.Source.{Source}
 
 -- a site by its node and places, the path at whose end its columns are read, and its expression: as it is written, and with each
 -- column by its version and each function by its place

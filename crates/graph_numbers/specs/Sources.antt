@@ -6,7 +6,7 @@ use Rattle.rdf_values.specs.declared.scripts.statement.VaryValues.TheVariants.{L
 use Rattle.rdf_model.specs.{◌>>=◌, Gives, Outcome, own_place, tag_element, untyped}
 use Rattle.graph_numbers.specs.Versions.{named_version}
 use Rattle.graph_numbers.specs.Sites.{SiteAt, list_start, site_count}
-use Rattle.graph_numbers.specs.declared.source.Source.{Source}
+use Rattle.graph_numbers.specs.declared.version.Source.{Source}
 use Rattle.graph_numbers.specs.declared.version.Version.{Version}
 
 -- the numbers from n on, one for each element

@@ -4,11 +4,7 @@
 
 pub mod laws;
 pub mod pass;
-pub mod result_kind;
-pub mod source;
 pub mod version;
 
-pub use crate::pass::Pass;
-pub use crate::result_kind::ResultKind;
-pub use crate::source::Source;
-pub use crate::version::Version;
+pub use crate::pass::{Pass, ResultKind};
+pub use crate::version::{Source, Version};

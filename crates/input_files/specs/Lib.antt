@@ -7,4 +7,4 @@ pub use Answers.{AreTurnedTo, Files, IsLast, WritesDue, WritesDuePart, WritesPar
 pub use Due.{due_of, FileStatuses, max_script, max_table, ReadsScript, WithFile, WithScript, WithScriptFile, WithTable, WithTableFile}
 pub use Fetching.{fetched_by, IsFetched, IsFetchedIn, missed_by, Tells}
 pub use Reading.{HoldsTheScript, HoldsTheTable, marked_table, ReadsColumnsFile, ReadsColumnsText, ReadsScriptFile, ReadsScriptText, ReadsTableFile, ReadsTableIn, ReadsTableText, RefusesTableFile, status_for}
-pub use declared.file_cause.ReadFile.{ReadFile}
+pub use declared.refuse.ReadFile.{ReadFile}

@@ -6,10 +6,10 @@ use Rattle.rdf_values.specs.{history, IsBookable, IsScript, MarkedTable, read_fa
 use Rattle.table_csv.specs.{columns_over, csv_records, marked_in, MarkedPieces}
 use Rattle.input_files.specs.Due.{Due, FileStatuses, WithScriptFile, WithTableFile, due_of, max_script, max_table}
 use Rattle.input_files.specs.Fetching.{Tells}
-use Rattle.input_files.specs.declared.file_cause.FileCause.{FileCause}
-use Rattle.input_files.specs.declared.file_cause.FileCause.TheVariants.{ReadFailed, NoFile, ScriptRefused, TableRefused}
-use Rattle.input_files.specs.declared.file_cause.ReadFile.{ReadFile}
-use Rattle.input_files.specs.declared.file_cause.ReadFile.TheVariants.{Whole, Refused}
+use Rattle.input_files.specs.declared.refuse.FileCause.{FileCause}
+use Rattle.input_files.specs.declared.refuse.FileCause.TheVariants.{ReadFailed, NoFile, ScriptRefused, TableRefused}
+use Rattle.input_files.specs.declared.refuse.ReadFile.{ReadFile}
+use Rattle.input_files.specs.declared.refuse.ReadFile.TheVariants.{Whole, Refused}
 
 -- the causes as statuses of their own
 abbrev pub causes : FileStatuses FileCause

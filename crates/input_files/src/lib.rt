@@ -4,14 +4,12 @@
 //! `specs/Answers` what a program leaves written.
 #![tactic(auto)]
 
-mod file_cause;
 mod refuse;
 mod scripts;
 mod tables;
 mod whole_file;
 
-pub use crate::file_cause::{FileCause, FileRefusal, ReadFile};
-pub use crate::refuse::{absent, unread};
+pub use crate::refuse::{FileCause, FileRefusal, ReadFile, absent, unread};
 pub use crate::scripts::{MAX_SCRIPT, read_script_file, script_of};
 pub use crate::tables::{MAX_TABLE, columns_of, read_columns_file, read_table_file};
 pub use crate::whole_file::{Fetched, fetch, fetch_parts};

@@ -2,8 +2,7 @@
 ghost use Rattle.std.specs.Prelude.{◌≡◌, ◌≤◌, ◌++◌, ◌∷◌, [], IfOk, length};
 ghost use Rattle.input_files.specs.{ReadsScriptFile, ReadsScriptText};
 
-use crate::file_cause::{FileCause, ReadFile};
-use crate::refuse::{absent, refused, unread};
+use crate::refuse::{FileCause, ReadFile, absent, refused, unread};
 use crate::whole_file::{Fetched, fetch};
 use rdf_model::laws::{scripts_are_bookable, scripts_have_words};
 use rdf_outside::Shelf;

@@ -3,10 +3,9 @@ ghost use Rattle.std.specs.Prelude.{◌≡◌, ◌≤◌, ◌++◌, ◌∷◌, [
 ghost use Rattle.columns.specs.{joined};
 ghost use Rattle.rdf_values.specs.{table_cause_line};
 ghost use Rattle.input_files.specs.{IsFetchedIn, ReadsColumnsFile, ReadsColumnsText, ReadsTableFile, ReadsTableIn, ReadsTableText};
-ghost use Rattle.input_files.specs.declared.file_cause.FileCause.TheVariants.{TableRefused};
+ghost use Rattle.input_files.specs.declared.refuse.FileCause.TheVariants.{TableRefused};
 
-use crate::file_cause::{FileCause, FileRefusal, ReadFile};
-use crate::refuse::{absent, refused, unread};
+use crate::refuse::{FileCause, FileRefusal, ReadFile, absent, refused, unread};
 use crate::whole_file::{Fetched, fetch, fetch_parts};
 use columns::Columns;
 use rdf_outside::Shelf;

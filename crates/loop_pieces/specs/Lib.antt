@@ -11,8 +11,8 @@ pub use PieceLaws.{JoinsFromEitherSide, JoinsInEitherOrder, NoClusterIsNeutral, 
 pub use Trails.{ArePartialLines, HavePartials, HaveTrails, IsPartialLine, IsTrail, place_if_watched, span_of, watch_facts, watched_from, watched_places}
 pub use Watching.{CanAdd, IsOfKind, watch_filled, WatchStandsFor}
 pub use Whole.{AllClustersAreTheTable, begin_of, cluster_fault, cluster_faults, counts_of, FirstClusterHasFirstFault, LowerClustersFaultFirst, PieceHoldsCounts, PieceHoldsResults, WatchPieceIsPartialResult}
-pub use declared.filled_result.FilledResult.{FilledResult}
-pub use declared.filled_result.PartialLine.{PartialLine}
+pub use declared.loop_piece.FilledResult.{FilledResult}
+pub use declared.loop_piece.PartialLine.{PartialLine}
 pub use declared.flow.Counts.{Counts}
 pub use declared.loop_piece.LoopPiece.{LoopPiece}
 pub use declared.watch_piece.WatchPiece.{WatchPiece}

@@ -5,7 +5,7 @@ use Rattle.rdf_model.specs.{IsChain, kind_in, maximal_runs, Run}
 use Rattle.rdf_model.specs.declared.loop_facts.LoopFacts.{LoopFacts}
 use Rattle.merge_core.specs.{Noted}
 use Rattle.loop_pieces.specs.Watching.{WatchStandsFor}
-use Rattle.loop_pieces.specs.declared.filled_result.PartialLine.{PartialLine}
+use Rattle.loop_pieces.specs.declared.loop_piece.PartialLine.{PartialLine}
 use Rattle.loop_pieces.specs.declared.watch_piece.WatchFacts.{WatchFacts}
 use Rattle.loop_pieces.specs.declared.watch_piece.WatchPiece.{WatchPiece}
 

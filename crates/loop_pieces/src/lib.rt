@@ -2,13 +2,11 @@
 //! The counts of a cutflow too. It stands on `actions` and `merge_core`.
 #![tactic(auto)]
 
-pub mod filled_result;
 pub mod flow;
 pub mod laws;
 pub mod loop_piece;
 pub mod watch_piece;
 
-pub use crate::filled_result::{FilledResult, PartialLine, PartialLines};
 pub use crate::flow::{Counts, Flow};
-pub use crate::loop_piece::LoopPiece;
+pub use crate::loop_piece::{FilledResult, LoopPiece, PartialLine, PartialLines};
 pub use crate::watch_piece::{WatchFacts, WatchPiece};

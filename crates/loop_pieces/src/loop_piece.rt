@@ -1,4 +1,4 @@
-// Pieces of a loop, and their joining.
+// Pieces of a loop, their joining, and what is printed of them.
 ghost use Rattle.std.specs.Prelude.{◌≡◌, ◌<◌, ℕ, List, [], ◌∷◌, OnOk, Some, slice_get, vec_len};
 ghost use Rattle.rdf_values.specs.{IsUnion};
 ghost use Rattle.rdf_model.specs.declared.loop_facts.LoopFacts.{LoopFacts};
@@ -9,7 +9,7 @@ use crate::watch_piece::WatchPiece;
 use actions::Acc;
 use merge_core::{Piece, Trail};
 use rdf_model::LoopFacts;
-use rdf_values::Memory;
+use rdf_values::{ListOf, Memory, Span};
 
 /// The accumulators of the action passes, the counts of the named filters, and a trail for each watched result.
 #[derive(Drop)]
@@ -67,4 +67,25 @@ impl Piece for LoopPiece {
         self.flow.merge(&flow);
         merge_accs(self.accs.as_mut_slice(), accs.as_slice())
     }
+}
+
+/// A filled result: its pass i is the piece's accumulator `first + i`. A report has the piece's counts, and no passes.
+#[derive(Clone, Copy)]
+pub struct FilledResult<'a> {
+    pub piece: &'a LoopPiece,
+    pub first: u32,
+    pub passes: u32,
+}
+
+/// The partial results of a watched result, in order.
+#[derive(Clone, Copy)]
+pub struct PartialLines<'a> {
+    pub lines: &'a [PartialLine],
+}
+
+/// What a watched result comes to over the clusters of maximal runs, which rise.
+#[derive(Drop)]
+pub struct PartialLine {
+    pub runs: ListOf<Span>,
+    pub value: WatchPiece,
 }

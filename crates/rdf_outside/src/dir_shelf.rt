@@ -2,9 +2,8 @@
 ghost use Rattle.std.specs.Prelude.{None, [], ◌≡◌, ◌∷◌, ◌++◌};
 
 use crate::file_parts::FileParts;
-use crate::shelf::{Failed, Shelf, TurnStop};
+use crate::shelf::{Failed, Shelf, TurnStop, Turns};
 use crate::std_answers::{open_answer, read_from};
-use crate::turns::Turns;
 use rdf_values::Bytes;
 use std::alloc::Global;
 use std::fs;

@@ -11,8 +11,6 @@ mod memory_sink;
 mod shelf;
 mod sink;
 mod std_answers;
-mod std_sink;
-mod turns;
 mod whole;
 mod word_list;
 
@@ -21,10 +19,8 @@ pub use crate::file_parts::FileParts;
 pub use crate::gate::{Gate, Host, OpenGate};
 pub use crate::memory_shelf::MemoryShelf;
 pub use crate::memory_sink::MemorySink;
-pub use crate::shelf::{Failed, Shelf, TurnStop};
-pub use crate::sink::Sink;
-pub use crate::std_sink::StdSink;
-pub use crate::turns::Turns;
+pub use crate::shelf::{Failed, Shelf, TurnStop, Turns};
+pub use crate::sink::{Sink, StdSink};
 pub use crate::whole::{ReadRefusal, one_part, read_parts, read_whole, write_whole};
 pub use crate::word_list::WordList;
 

@@ -3,8 +3,7 @@ ghost use Rattle.std.specs.Prelude.{◌≡◌, ◌≤◌, ◌∷◌, ◌++◌, [
 ghost use Rattle.rdf_outside.specs.Memory.{has_name, left_at, moved, same_bytes};
 
 use crate::call_list::CallList;
-use crate::shelf::{Failed, Shelf, TurnStop};
-use crate::turns::Turns;
+use crate::shelf::{Failed, Shelf, TurnStop, Turns};
 use rdf_values::{Bytes, Memory};
 use std::alloc::Global;
 use std::thread::Threads;

@@ -1,11 +1,13 @@
-// What gives files.
+// What gives files, and the names that it was turned to.
 ghost use Rattle.std.specs.Prelude.{◌≡◌, ◌∷◌, ◌++◌, [], ℕ, List, Option, IfSome, IfNone};
 ghost use Rattle.std.specs.Thread.{IsSync};
 ghost use Rattle.rdf_outside.specs.Outside.{HasCause, TurnHasCause, TurnsTo, ReadsFrom};
 ghost use Rattle.rdf_outside.specs.Whole.{ReadsParts};
+ghost use Rattle.std.specs.Borrow.{ftrue};
 
 use rdf_values::Bytes;
 use std::alloc::Global;
+use std::marker::Model;
 use std::thread::Threads;
 
 /// Why a shelf didn't turn to a file. `Memory` is want of memory alone.
@@ -64,3 +66,29 @@ pub trait Shelf {
 /// The read or the write failed; its object has counted the fault.
 #[derive(Clone, Copy, Debug, PartialEq, Eq)]
 pub struct Failed;
+
+/// The names that a shelf was turned to, in their order, for proofs alone. It takes no memory.
+#[derive(Drop)]
+pub struct Turns {
+    pub ghost names: { List (List ℕ) },
+}
+
+impl Model for Turns {
+    ghost also_owns = { λ _. ftrue };
+}
+
+impl Turns {
+    /// No names.
+    pub fn new() -> Turns
+        ensures { result.names ≡ [] }
+    {
+        Turns {}
+    }
+
+    /// These names and one more.
+    pub fn and(&self, name: &[u8]) -> Turns
+        ensures { result.names ≡ self.now.names ++ name.now ∷ [] }
+    {
+        Turns {}
+    }
+}

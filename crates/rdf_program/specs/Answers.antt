@@ -12,7 +12,7 @@ use Rattle.rdf_program.specs.declared.status.Status.{Status}
 use Rattle.rdf_program.specs.declared.status.Status.TheVariants.{Memory, Words, ReadFault, WriteFault}
 use Rattle.columns.specs.ColumnsView.{ColumnsView}
 use Rattle.table_csv.specs.{columns_over, csv_records, marked_in, MarkedPieces}
-use Rattle.input_files.specs.declared.file_cause.FileCause.TheVariants.{TableRefused}
+use Rattle.input_files.specs.declared.refuse.FileCause.TheVariants.{TableRefused}
 use Rattle.rdf_program.specs.declared.answer.Read.{Read}
 use Rattle.rdf_program.specs.declared.answer.Read.TheVariants.{Whole, Refused}
 

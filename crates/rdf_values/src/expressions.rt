@@ -1,6 +1,5 @@
 // Expressions: their text, their kinds and their numbers.
 
 pub mod expr;
-pub mod expr_cause;
 pub mod fn_names;
 pub mod num_expr;

@@ -7,7 +7,6 @@ pub mod marks;
 pub(crate) mod narrow;
 pub mod numbers;
 pub mod table;
-pub mod table_cause;
 pub mod value;
 pub(crate) mod vector_text;
 pub mod vects;

@@ -5,7 +5,7 @@ use Rattle.rdf_values.specs.expressions.Tokens.{Token, Word, Truth, Number, Op, 
 use Rattle.rdf_values.specs.expressions.Grammar.{Reads, ReadsValues, bare}
 use Rattle.rdf_values.specs.declared.expressions.expr.BinOp.{BinOp}
 use Rattle.rdf_values.specs.declared.expressions.expr.Mark.{Mark}
-use Rattle.rdf_values.specs.declared.expressions.expr_cause.ExprCause.{ExprCause}
+use Rattle.rdf_values.specs.declared.expressions.expr.ExprCause.{ExprCause}
 use Rattle.rdf_values.specs.declared.scripts.statement.VaryValues.{VaryValues}
 
 -- what is open: a parenthesis, the bracket of an index, a `?`, the arguments of a call, a list in braces, the outer brace of lists

@@ -5,7 +5,7 @@ use Rattle.rdf_values.specs.tables.Integers.{magnitude_of}
 use Rattle.rdf_values.specs.scripts.Names.{same, is_digit, is_word_start, is_word_byte}
 use Rattle.rdf_values.specs.declared.expressions.expr.BinOp.{BinOp}
 use Rattle.rdf_values.specs.declared.expressions.expr.Mark.{Mark}
-use Rattle.rdf_values.specs.declared.expressions.expr_cause.ExprCause.{ExprCause}
+use Rattle.rdf_values.specs.declared.expressions.expr.ExprCause.{ExprCause}
 
 -- a name, a truth value, a number, an operator of two sides, or another mark
 pub data Token : Type 0 where

@@ -1,10 +1,10 @@
 -- The lines that a refusal prints.
 use Rattle.std.specs.Prelude.{ℕ, List, [], ◌∷◌, ◌++◌, codes, decimal}
-use Rattle.rdf_values.specs.declared.expressions.expr_cause.ExprCause.{ExprCause}
-use Rattle.rdf_values.specs.declared.expressions.expr_cause.ExprCause.TheVariants.{BadByte, BadNumber, Unexpected, TooLong}
+use Rattle.rdf_values.specs.declared.expressions.expr.ExprCause.{ExprCause}
+use Rattle.rdf_values.specs.declared.expressions.expr.ExprCause.TheVariants.{BadByte, BadNumber, Unexpected, TooLong}
 use Rattle.rdf_values.specs.declared.scripts.script_cause.ScriptCause.{ScriptCause}
 use Rattle.rdf_values.specs.declared.scripts.script_cause.GraphCause.{GraphCause}
-use Rattle.rdf_values.specs.declared.tables.table_cause.TableCause.{TableCause}
+use Rattle.rdf_values.specs.declared.tables.table.TableCause.{TableCause}
 
 -- a text as a line
 abbrev pub line : List ℕ → List ℕ

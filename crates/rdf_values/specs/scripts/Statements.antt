@@ -9,7 +9,7 @@ use Rattle.rdf_values.specs.scripts.LineForms.{Form, Books, Print, VariationsFor
 use Rattle.rdf_values.specs.scripts.LineForms as form
 use Rattle.rdf_values.specs.declared.scripts.statement.ActionKind.{ActionKind}
 use Rattle.rdf_values.specs.declared.scripts.statement.ReduceOp.{ReduceOp}
-use Rattle.rdf_values.specs.declared.expressions.expr_cause.ExprCause.{ExprCause}
+use Rattle.rdf_values.specs.declared.expressions.expr.ExprCause.{ExprCause}
 use Rattle.rdf_values.specs.declared.scripts.statement.Statement.{Statement}
 use Rattle.rdf_values.specs.declared.scripts.statement.VaryValues.{VaryValues}
 

@@ -5,7 +5,7 @@ use Rattle.rdf_values.specs.tables.Integers.{integer_of}
 use Rattle.rdf_values.specs.scripts.Names.{is_name, same}
 use Rattle.rdf_values.specs.tables.Tables.{TableView, has_name}
 use Rattle.rdf_values.specs.declared.tables.table.Column.{Column}
-use Rattle.rdf_values.specs.declared.tables.table_cause.TableCause.{TableCause}
+use Rattle.rdf_values.specs.declared.tables.table.TableCause.{TableCause}
 use Rattle.rdf_values.specs.declared.tables.value.ColType.{ColType}
 use Rattle.rdf_values.specs.declared.tables.value.Value.{Value}
 use Rattle.std.specs.Borrow.{Bor}

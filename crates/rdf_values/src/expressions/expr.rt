@@ -1,4 +1,4 @@
-// Expressions as they are written.
+// Expressions as they are written, and refusals of them.
 use crate::scripts::name::Name;
 use std::marker::Model;
 
@@ -77,4 +77,17 @@ impl Model for Expr {
     ghost use Rattle.rdf_values.specs.expressions.ExprTree.{tree_of};
 
     ghost view = { λ a. tree_of a.node };
+}
+
+/// Why a text is no expression, printed as E1 to E4.
+#[derive(Clone, Copy, Debug, PartialEq, Eq)]
+pub enum ExprCause {
+    /// A byte that begins no token, or the 65th byte of a word.
+    BadByte,
+    /// A number with a leading zero, or above 9223372036854775807.
+    BadNumber,
+    /// A token that can't stand where it does, or the end of the text.
+    Unexpected,
+    /// The 257th token.
+    TooLong,
 }

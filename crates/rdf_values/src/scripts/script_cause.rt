@@ -1,5 +1,5 @@
 // Refusals of a script's text.
-use crate::expressions::expr_cause::ExprCause;
+use crate::expressions::expr::ExprCause;
 
 /// Why a line is none of the grammar. Lines count from 1, places in a line from 0.
 #[derive(Clone, Copy, Debug, PartialEq, Eq)]

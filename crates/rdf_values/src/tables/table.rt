@@ -1,4 +1,4 @@
-// Tables of events.
+// Tables of events, and refusals of them.
 ghost use Rattle.std.specs.Prelude.{◌≡◌, ◌<◌, ◌++◌, ◌∷◌, [], length, Some, IfOk, OnOk, OnErr};
 
 use crate::list::ListOf;
@@ -131,4 +131,15 @@ pub struct TableParts {
     pub columns: ListOf<Column>,
     pub cells: Vec<Cells>,
     pub entries: u32,
+}
+
+/// Why records are no table, printed as B1 to B6. Fields and entries count from 0.
+#[derive(Clone, Copy, Debug, PartialEq, Eq)]
+pub enum TableCause {
+    Header { field: u32 },
+    FieldCount { entry: u32 },
+    BadInt { entry: u32, field: u32 },
+    BadVec { entry: u32, field: u32 },
+    TooMany { entry: u32 },
+    BadCut { entry: u32, field: u32 },
 }

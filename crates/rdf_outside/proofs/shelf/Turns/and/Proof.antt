@@ -26,11 +26,11 @@ use denote.Triple.Spec.{Meets, triple_of}
 use denote.Triple.Table.{entered}
 use denote.Triple.Walked.{says, Stays, stay_dropped, walk_of, ends_at, walk_Meets, Goes-dropped}
 use Rattle.rdf_outside.proofs.Outside.{none, none_made}
-use Rattle.rdf_outside.specs.contracts.turns.Turns as Turns
-use Rattle.rdf_outside.specs.contracts.turns.Turns.and as F
-use Rattle.rdf_outside.specs.contracts.turns.Turns.and.Key.{name as #self}
-use Rattle.rdf_outside.proofs.turns.Turns.and.Statement as stated
-use Rattle.rdf_outside.proofs.turns.Turns.and.Code as code
+use Rattle.rdf_outside.specs.contracts.shelf.Turns as Turns
+use Rattle.rdf_outside.specs.contracts.shelf.Turns.and as F
+use Rattle.rdf_outside.specs.contracts.shelf.Turns.and.Key.{name as #self}
+use Rattle.rdf_outside.proofs.shelf.Turns.and.Statement as stated
+use Rattle.rdf_outside.proofs.shelf.Turns.and.Code as code
 
 abbrev stayed : Stays F.ended.signature.params F.ended.kept
 stayed = (

@@ -23,11 +23,11 @@ use denote.Triple.Spec.{Meets, triple_of}
 use denote.Triple.Table.{entered}
 use denote.Triple.Walked.{says, Stays, walk_of, ends_at, walk_Meets}
 use Rattle.rdf_outside.proofs.Outside.{none, none_made}
-use Rattle.rdf_outside.specs.contracts.turns.Turns as Turns
-use Rattle.rdf_outside.specs.contracts.turns.Turns.new as F
-use Rattle.rdf_outside.specs.contracts.turns.Turns.new.Key.{name as #self}
-use Rattle.rdf_outside.proofs.turns.Turns.new.Statement as stated
-use Rattle.rdf_outside.proofs.turns.Turns.new.Code as code
+use Rattle.rdf_outside.specs.contracts.shelf.Turns as Turns
+use Rattle.rdf_outside.specs.contracts.shelf.Turns.new as F
+use Rattle.rdf_outside.specs.contracts.shelf.Turns.new.Key.{name as #self}
+use Rattle.rdf_outside.proofs.shelf.Turns.new.Statement as stated
+use Rattle.rdf_outside.proofs.shelf.Turns.new.Code as code
 
 abbrev stayed : Stays F.ended.signature.params F.ended.kept
 stayed = tt
