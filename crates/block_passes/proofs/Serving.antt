@@ -554,6 +554,18 @@ three_given f cs e v w x p q r = absurd (omega (arith, e))
 suits_one : (k : ActionKind) (x : Lane) (place : ℕ) → length (columns_of k) ≡ 1 → FitsFeed k (lane_value x place ∷ []) → SuitsAt k (One x) place
 suits_one k x place n f = grind (arith, numeric_fits, single_fits, integer_fits)
 
+suits_weighted : (k : ActionKind) (edges : List ℤ) (c n : List ℕ) (x w : Lane) (place : ℕ) → k ≡ ActionKind.Histo1D edges c (Some n) → FitsFeed k (lane_value x place ∷ lane_value w place ∷ [])
+    → SuitsAt k (Weighted x w) place
+suits_weighted k edges c n x w place e f = rw e (let g = rw e at f in weighted_fits g.kinds (lane_value x place) (lane_value w place) g.permitted g.fit)
+
+suits_pair : (k : ActionKind) (xs ys : List ℤ) (c d : List ℕ) (x y : Lane) (place : ℕ) → k ≡ ActionKind.Histo2D xs ys c d None → FitsFeed k (lane_value x place ∷ lane_value y place ∷ [])
+    → SuitsAt k (Pair x y) place
+suits_pair k xs ys c d x y place e f = rw e (let g = rw e at f in pair_fits g.kinds (lane_value x place) (lane_value y place) g.permitted g.fit)
+
+suits_triple : (k : ActionKind) (xs ys : List ℤ) (c d n : List ℕ) (x y w : Lane) (place : ℕ) → k ≡ ActionKind.Histo2D xs ys c d (Some n)
+    → FitsFeed k (lane_value x place ∷ lane_value y place ∷ lane_value w place ∷ []) → SuitsAt k (WeightedPair x y w) place
+suits_triple k xs ys c d n x y w place e f = rw e (let g = rw e at f in triple_fits g.kinds (lane_value x place) (lane_value y place) (lane_value w place) g.permitted g.fit)
+
 module _ (f : ℕ → Outcome ⊥ Value) (cs : List ℕ) where
   module _ (P : ℕ → Type 0) (hand : AllByRecursion P cs) (place : ℕ) (k : ActionKind) (count : length cs ≡ length (columns_of k)) (fits : (vs : List Value) → for_all f cs ≡ Gives vs → FitsFeed k vs) where
     pub lanes_one : length cs ≡ 1 → (x : Lane) → (P (get_or cs 0 0) → IsLaneOf (f (get_or cs 0 0)) x place) → AreLanesOf (for_all f cs) k (One x) place
@@ -561,48 +573,16 @@ module _ (f : ℕ → Outcome ⊥ Value) (cs : List ℕ) where
 
     pub lanes_weighted : (edges : List ℤ) (c n : List ℕ) → k ≡ ActionKind.Histo1D edges c (Some n) → (x w : Lane) → (P (get_or cs 0 0) → IsLaneOf (f (get_or cs 0 0)) x place) → (P (get_or cs 1 0) → IsLaneOf (f (get_or cs 1 0)) w place)
         → AreLanesOf (for_all f cs) k (Weighted x w) place
-    lanes_weighted edges c n e x w lx lw =
-        let l : length cs ≡ 2 = count ∙ ap (λ (z : ActionKind). length (columns_of z)) e in
-        let a = lx (All-from_recursion P cs hand 0 0 (omega (arith, l))) in
-        let b = lw (All-from_recursion P cs hand 1 0 (omega (arith, l))) in
-        let given = two_given f cs l (lane_value x place) (lane_value w place) a.value b.value in
-        let g : FitsFeed (ActionKind.Histo1D edges c (Some n)) (lane_value x place ∷ lane_value w place ∷ []) = subst (λ (z : ActionKind). FitsFeed z (lane_value x place ∷ lane_value w place ∷ [])) e (fits _ given) in
-        record {
-          there = (a.there, b.there);
-          values = given;
-          suits = subst (λ (z : ActionKind). SuitsAt z (Weighted x w) place) (sym e) (weighted_fits g.kinds (lane_value x place) (lane_value w place) g.permitted g.fit);
-        }
+    lanes_weighted edges c n e x w lx lw = grind (arith, All-from_recursion, two_given, suits_weighted)
 
     pub lanes_pair : (xs ys : List ℤ) (c d : List ℕ) → k ≡ ActionKind.Histo2D xs ys c d None → (x y : Lane) → (P (get_or cs 0 0) → IsLaneOf (f (get_or cs 0 0)) x place) → (P (get_or cs 1 0) → IsLaneOf (f (get_or cs 1 0)) y place)
         → AreLanesOf (for_all f cs) k (Pair x y) place
-    lanes_pair xs ys c d e x y lx ly =
-        let l : length cs ≡ 2 = count ∙ ap (λ (z : ActionKind). length (columns_of z)) e in
-        let a = lx (All-from_recursion P cs hand 0 0 (omega (arith, l))) in
-        let b = ly (All-from_recursion P cs hand 1 0 (omega (arith, l))) in
-        let given = two_given f cs l (lane_value x place) (lane_value y place) a.value b.value in
-        let g : FitsFeed (ActionKind.Histo2D xs ys c d None) (lane_value x place ∷ lane_value y place ∷ []) = subst (λ (z : ActionKind). FitsFeed z (lane_value x place ∷ lane_value y place ∷ [])) e (fits _ given) in
-        record {
-          there = (a.there, b.there);
-          values = given;
-          suits = subst (λ (z : ActionKind). SuitsAt z (Pair x y) place) (sym e) (pair_fits g.kinds (lane_value x place) (lane_value y place) g.permitted g.fit);
-        }
+    lanes_pair xs ys c d e x y lx ly = grind (arith, All-from_recursion, two_given, suits_pair)
 
     pub lanes_triple : (xs ys : List ℤ) (c d n : List ℕ) → k ≡ ActionKind.Histo2D xs ys c d (Some n) → (x y w : Lane)
         → (P (get_or cs 0 0) → IsLaneOf (f (get_or cs 0 0)) x place) → (P (get_or cs 1 0) → IsLaneOf (f (get_or cs 1 0)) y place) → (P (get_or cs 2 0) → IsLaneOf (f (get_or cs 2 0)) w place)
         → AreLanesOf (for_all f cs) k (WeightedPair x y w) place
-    lanes_triple xs ys c d n e x y w lx ly lw =
-        let l : length cs ≡ 3 = count ∙ ap (λ (z : ActionKind). length (columns_of z)) e in
-        let a = lx (All-from_recursion P cs hand 0 0 (omega (arith, l))) in
-        let b = ly (All-from_recursion P cs hand 1 0 (omega (arith, l))) in
-        let o = lw (All-from_recursion P cs hand 2 0 (omega (arith, l))) in
-        let given = three_given f cs l (lane_value x place) (lane_value y place) (lane_value w place) a.value b.value o.value in
-        let g : FitsFeed (ActionKind.Histo2D xs ys c d (Some n)) (lane_value x place ∷ lane_value y place ∷ lane_value w place ∷ []) =
-        subst (λ (z : ActionKind). FitsFeed z (lane_value x place ∷ lane_value y place ∷ lane_value w place ∷ [])) e (fits _ given) in
-        record {
-          there = (a.there, b.there, o.there);
-          values = given;
-          suits = subst (λ (z : ActionKind). SuitsAt z (WeightedPair x y w) place) (sym e) (triple_fits g.kinds (lane_value x place) (lane_value y place) (lane_value w place) g.permitted g.fit);
-        }
+    lanes_triple xs ys c d n e x y w lx ly lw = grind (arith, All-from_recursion, three_given, suits_triple)
 
 -- ---- What the lane of a site has at a place.
 
