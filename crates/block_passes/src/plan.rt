@@ -74,10 +74,7 @@ pub(crate) fn path_steps(
 {
     let mut last = 0;
     for site in path {
-        match next_step(steps, last, *site, under) {
-            Ok(step) => last = step,
-            Err(Memory) => return Err(Memory),
-        }
+        last = next_step(steps, last, *site, under)?;
     }
     Ok(last)
 }
