@@ -164,28 +164,7 @@ module _ (j : JobView) (first count : ℕ) (s : BlockStage) (amid : IsAmid j fir
 
       -- what the filter does at a place without a fault
       reached : (q : ℕ) → q < s.block → fault_in (all q) ≡ None → (is_reached (its_reach q) ≡ is_true (above q)) × (is_passed (its_reach q) ≡ is_true (all q))
-      reached q lt clear = go (above q) refl (site_in j (entry_at q) None own >>= truth_of) refl
-        where
-          more : all q ≡ (above q >>= λ passed. if passed then site_in j (entry_at q) None own >>= truth_of else Gives false)
-          more = through_more (site_in j (entry_at q) None) up own
-
-          go : (o : Outcome ⊥ Bool) → above q ≡ o → (y : Outcome ⊥ Bool) → (site_in j (entry_at q) None own >>= truth_of) ≡ y → (is_reached (its_reach q) ≡ is_true (above q)) × (is_passed (its_reach q) ≡ is_true (all q))
-          go (Gives false) e y i =
-              let a : all q ≡ Gives false = more ∙ ap (λ (w : Outcome ⊥ Bool). w >>= λ passed. if passed then site_in j (entry_at q) None own >>= truth_of else Gives false) e in
-              let r = stopped_answer j f x here up own split (entry_at q) e in
-              (ap is_reached r ∙ sym (ap is_true e), ap is_passed r ∙ sym (ap is_true a))
-          go (Gives true) e (Gives v) i =
-              let a : all q ≡ Gives v = more ∙ ap (λ (w : Outcome ⊥ Bool). w >>= λ passed. if passed then site_in j (entry_at q) None own >>= truth_of else Gives false) e ∙ i in
-              let r = tried_answer j f x here up own split (entry_at q) v e a in
-              (ap is_reached r ∙ reached_if v ∙ sym (ap is_true e), ap is_passed r ∙ passed_if v ∙ sym (ap is_true a))
-          go (Gives true) e (Faults g) i =
-              let a : all q ≡ Faults g = more ∙ ap (λ (w : Outcome ⊥ Bool). w >>= λ passed. if passed then site_in j (entry_at q) None own >>= truth_of else Gives false) e ∙ i in
-              absurd (let w : ◌≡◌ {A = Option EntryFault} None (Some g) = sym clear ∙ ap fault_in a in cc w)
-          go (Gives true) e (Needs g) i = elim g [ ]
-          go (Faults g) e y i =
-              let a : all q ≡ Faults g = more ∙ ap (λ (w : Outcome ⊥ Bool). w >>= λ passed. if passed then site_in j (entry_at q) None own >>= truth_of else Gives false) e in
-              absurd (let w : ◌≡◌ {A = Option EntryFault} None (Some g) = sym clear ∙ ap fault_in a in cc w)
-          go (Needs g) e y i = elim g [ ]
+      reached q lt clear = grind (arith, through_more, stopped_answer, tried_answer, reached_if, passed_if)
 
       -- the counts are the sizes of two selections
       pub covered_counts : ((q : ℕ) → q < s.block → fault_in (all q) ≡ None)
