@@ -2,7 +2,7 @@
 use Rattle.std.proofs.Common.{◌≡◌, ℕ, zero, suc, ◌+◌, ◌<◌, ◌≤◌, Bool, true, false, cond, List, [], ◌∷◌, ◌++◌, length, length-drop, map, take, drop, Option, None, Some, refl, sym, ◌∙◌, ap, subst, arith, slice_get, unwrap_or, if◌then◌else◌, get_or, count_by, flat_map, slice_range, filter, inl, inr, ◌||◌, nat_eq, nat_lt, All, OnErr, Result, MatchOption}
 use Rattle.lemmas.proofs.{length-map, mapped_at, range_length, range_with_len, slice_get-get_or, slice_get_within, something_at, sum_by-cons, All-cons, All-nil, Decides-eqb, Decides-ltb, length-range_with_len, or_true}
 use Rattle.rdf_values.specs.{ActionKind, Booking, EntryFault, feed_fault, history, Item, named_before, Pass, Span, spread, Value, Memory}
-use Rattle.rdf_model.specs.{◌>>=◌, action_outcome, Entry, fault_in, Faults, feed_outcome, filter_reach, for_all, Gives, if_there, is_covered, is_passed, is_reached, is_true, items_fed, items_of, list_at, Needs, Outcome, Reach, reaches_of, Skip, span_rows, spreads_of, truth_of, kinds_in}
+use Rattle.rdf_model.specs.{◌>>=◌, action_outcome, Entry, fault_in, Faults, feed_outcome, filter_reach, for_all, Gives, if_there, is_covered, is_passed, is_reached, is_true, items_fed, items_of, list_at, Needs, Outcome, Reach, reaches_of, Skip, span_rows, spreads_of, kinds_in}
 use Rattle.rdf_model.specs.declared.loop_facts.Reach.TheVariants.{Failed, Passed, Stopped}
 use Rattle.graph_numbers.specs.{action_numbers, booking_numbers, FilterAt, graph_filters, graph_under, Pass as NumberedPass, ResultAt, through_sites}
 use Rattle.cluster_tally.specs.{block_items, block_reaches, BlockStage, CanNoteCounts, counted, HoldsIn, IsWithin, TallyView, CanFeedBatch, pass_done}
