@@ -1,6 +1,6 @@
 -- What a slot reserves stays what it was while a block is tried, and a block that was searched without a fault is taken in.
 use Rattle.std.proofs.Common.{◌≡◌, ℕ, List, [], ◌∷◌, length, sym, ◌∙◌, ap, subst, ℤ, if◌then◌else◌, ◌+◌, ◌<◌, ◌≤◌, true, false, All, Option, Some, None, refl, arith, slice_get, inl, inr, zero, suc, ◌-◌, ◌*◌, Bool, map, take, unwrap_or, slice_index_or, count_by, get_or, slice_range, Err}
-use Rattle.lemmas.proofs.{All-from_recursion, All-weaker, AllByRecursion, cases_lt, get_or-map, get_or-take, get_or_from_slice_get, get_or_past, length-map, never_true, range_length, slice_get_within, sum_by-cons, take_at_most, map_length, something_at}
+use Rattle.lemmas.proofs.{All-from_recursion, All-weaker, AllByRecursion, cases_lt, get_or-map, get_or-take, get_or_past, length-map, never_true, range_length, slice_get_within, sum_by-cons, take_at_most, map_length, something_at}
 use Rattle.rdf_values.specs.{ColType, EachColumn, history, Value, Fault, Span}
 use Rattle.block_cache.specs.{AreReady, AreUnknown, begun_at, begun_count, CanFill, HaveRoom, held_value, is_tried, IsLoaded, IsUnknown, kinds_of, lane_begun, LaneView, room_of, rooms_of, size_for, tried_count, value_of}
 use Rattle.loop_keys.specs.{AreKeys, AreReadable, entry_demands, Held, IsJob, IsRight, job_graph, JobView, key, key_count, keys_in, passes_in, row_of, site_in, source_at, facts_in, job_spans}
@@ -13,7 +13,7 @@ use Rattle.loop_keys.proofs.EvaluateLaws.{accepted_of}
 use Rattle.block_cache.proofs.BlockLaws.{held_of_lane, lane_held}
 use Rattle.block_cache.proofs.CanFills.{can_fill_site}
 use Rattle.block_passes.proofs.SiteKinds.{filter_kind, site_kinds}
-use Rattle.block_passes.proofs.Demanding.{action_at, site_there}
+use Rattle.block_passes.proofs.Demanding.{action_at, all_get, site_there}
 use Rattle.loop_keys.proofs.ActionLaws.{can_act}
 use Rattle.block_cache.proofs.Marking.{count_none}
 use Rattle.expr_lanes.specs.{is_marked}
@@ -62,11 +62,6 @@ state_stays j old cells lanes scratch levels found kept h columns room kinds roo
 }
 
 -- ---- A block that begins with what a slot reserves.
-
--- ---- lists of lanes
-
-pub all_get : {A : Type 0} (P : A → Type 0) (xs : List A) → All P xs → (k : ℕ) (x : A) → slice_get xs k ≡ Some x → P x
-all_get P xs all k x at = subst P (get_or_from_slice_get xs k x x at) (all k x (slice_get_within xs k x at))
 
 -- ---- nothing is known
 
@@ -307,16 +302,7 @@ module _ (j : JobView) (first count cluster : ℕ) (watched : List ℕ) (s : Sta
   begun = block_begin s count
 
   pub begun_amid : IsAmid j first count begun
-  begun_amid = (let n = before.next in record {
-    in_cluster = record {
-      span = n.span;
-      its_span = ap (slice_get (job_spans j)) before.its_cluster ∙ n.its_span;
-      within = (let w = n.within in let b = n.is in omega (arith, w, b));
-      inside = n.inside;
-    };
-    begins = n.is;
-    block = refl;
-  })
+  begun_amid = (subst (λ (c : ℕ). IsBlockOf j c s.entries (entries_from first count)) (sym before.its_cluster) before.next, refl)
 
   pub begun_holds : HoldsIn (facts_in j) watched begun old
   begun_holds = begins_block (facts_in j) watched s old count before.no_pass before.no_filter before.holds

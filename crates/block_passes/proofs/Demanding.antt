@@ -1,6 +1,6 @@
 -- The sites that a loop tries are there.
 use Rattle.std.proofs.Common.{◌≡◌, inl, inr, ℕ, ◌<◌, true, List, [], ◌∷◌, ◌++◌, length, refl, sym, ◌∙◌, ap, subst, append_assoc, Option, Bool, false, None, Some, slice_get, unwrap_or, if◌then◌else◌, All}
-use Rattle.lemmas.proofs.{AllByRecursion, recursion_from_All}
+use Rattle.lemmas.proofs.{AllByRecursion, get_or_from_slice_get, recursion_from_All, slice_get_within}
 use Rattle.rdf_values.specs.{ActionAt, ActionKind, Booking, fn_names, history, Value}
 use Rattle.graph_numbers.specs.{FilterAt, graph_filters, graph_sites, graph_under, HasFilters, IfPassed, Pass as NumberedPass, ResultAt, through_sites}
 use Rattle.graph_numbers.proofs.Placing.{itself}
@@ -19,6 +19,9 @@ use Rattle.loop_keys.proofs.ReportTies.{has_filter}
 pub all_at : (P : ℕ → Type 0) (up rest : List ℕ) (s : ℕ) → AllByRecursion P (up ++ s ∷ rest) → P s
 all_at P [] rest s h = h.0
 all_at P (t ∷ up) rest s h = all_at P up rest s h.1
+
+pub all_get : {A : Type 0} (P : A → Type 0) (xs : List A) → All P xs → (k : ℕ) (x : A) → slice_get xs k ≡ Some x → P x
+all_get P xs all k x at = subst P (get_or_from_slice_get xs k x x at) (all k x (slice_get_within xs k x at))
 
 pub not_empty : (up : List ℕ) (s : ℕ) → up ++ s ∷ [] ≡ [] → ⊥
 not_empty [] s q = cc q

@@ -1,8 +1,8 @@
 -- What a block feeds to a pass, what it does at a named filter, and that its batches are that.
 use Rattle.std.proofs.Common.{◌≡◌, ℕ, zero, suc, ◌+◌, ◌<◌, ◌≤◌, Bool, true, false, cond, List, [], ◌∷◌, ◌++◌, length, length-drop, map, take, drop, Option, None, Some, refl, sym, ◌∙◌, ap, subst, arith, slice_get, unwrap_or, if◌then◌else◌, get_or, count_by, flat_map, slice_range, filter, inl, inr, ◌||◌, nat_eq, nat_lt, All, OnErr, Result, MatchOption}
-use Rattle.lemmas.proofs.{length-map, mapped_at, range_length, range_with_len, slice_get-get_or, slice_get_within, something_at, sum_by-cons, All-cons, All-get_or, All-nil, Decides-eqb, Decides-ltb, length-range_with_len, or_true}
+use Rattle.lemmas.proofs.{length-map, mapped_at, range_length, range_with_len, slice_get-get_or, slice_get_within, something_at, sum_by-cons, All-cons, All-nil, Decides-eqb, Decides-ltb, length-range_with_len, or_true}
 use Rattle.rdf_values.specs.{ActionKind, Booking, EntryFault, feed_fault, history, Item, named_before, Pass, Span, spread, Value, Memory}
-use Rattle.rdf_model.specs.{◌>>=◌, action_outcome, Entry, fault_in, Faults, feed_outcome, filter_reach, for_all, Gives, if_there, is_covered, is_passed, is_reached, is_true, items_fed, items_of, list_at, Needs, Outcome, Reach, reaches_of, Skip, span_rows, spreads_of, truth_of, kinds_in}
+use Rattle.rdf_model.specs.{◌>>=◌, action_outcome, Entry, fault_in, Faults, feed_outcome, filter_reach, for_all, Gives, if_there, is_covered, is_passed, is_reached, is_true, items_fed, items_of, list_at, Needs, Outcome, Reach, reaches_of, Skip, span_rows, spreads_of, kinds_in}
 use Rattle.rdf_model.specs.declared.loop_facts.Reach.TheVariants.{Failed, Passed, Stopped}
 use Rattle.graph_numbers.specs.{action_numbers, booking_numbers, FilterAt, graph_filters, graph_under, Pass as NumberedPass, ResultAt, through_sites}
 use Rattle.cluster_tally.specs.{block_items, block_reaches, BlockStage, CanNoteCounts, counted, HoldsIn, IsWithin, TallyView, CanFeedBatch, pass_done}
@@ -19,6 +19,7 @@ use Rattle.block_cache.specs.{AreReady, fault_before, fault_over, LaneView, Plac
 use Rattle.block_cache.proofs.LaneSteps.{filter_all}
 use Rattle.block_cache.proofs.Members.{filter_short}
 use Rattle.loop_keys.proofs.EntryLaws.{all_actions}
+use Rattle.block_passes.proofs.Demanding.{all_get}
 use Rattle.block_passes.proofs.Trying.{read_inside, placed, unfed_none}
 
 -- ---- outcomes
@@ -51,30 +52,37 @@ count_singles t h (x ∷ xs) = sum_by-cons (λ y. cond (t y) 1 0) (h x) (flat_ma
 
 -- ---- a block
 
-module _ (j : JobView) (s : BlockStage) (span : Span) (its : slice_get (job_spans j) s.cluster ≡ Some span) (within : span.lo + s.entries + s.block ≤ span.hi) (inside : span.hi ≤ length j.dataset.rows) where
+module _ (j : JobView) (first count : ℕ) (s : BlockStage) (amid : IsAmid j first count s) where
+  abbrev span : Span
+  span = amid.0.span
+
+  its_within : span.lo + s.entries + s.block ≤ span.hi
+  its_within = omega (arith, amid.0.is, amid.0.within, amid.1)
+
   -- the entry at a place
   abbrev pub entry_at : ℕ → ℕ
-  entry_at q = span.lo + s.entries + q
+  entry_at q = first + q
 
   pub row_here : (q : ℕ) → q < s.block → slice_get j.dataset.rows (entry_at q) ≡ Some (row_of j (entry_at q))
-  row_here q lt = let r = row_there j.dataset.rows (entry_at q) (omega (arith, lt, within, inside)) in r.1 ∙ ap Some (ap (λ o. unwrap_or o []) (sym r.1))
+  row_here q lt =
+      let r = row_there j.dataset.rows (entry_at q) (omega (arith, lt, amid.0.within, amid.1, amid.0.inside)) in r.1 ∙ ap Some (ap (λ o. unwrap_or o []) (sym r.1))
 
   abbrev rows_left : {A : Type 0} → (List Value → A) → List A
   rows_left f = drop s.entries (span_rows (map f j.dataset.rows) (slice_get (job_spans j) s.cluster))
 
   left_is : {A : Type 0} (f : List Value → A) → rows_left f ≡ drop s.entries (slice_range (map f j.dataset.rows) span.lo span.hi)
-  left_is f = ap (λ o. drop s.entries (span_rows (map f j.dataset.rows) o)) its
+  left_is f = ap (λ o. drop s.entries (span_rows (map f j.dataset.rows) o)) amid.0.its_span
 
   left_at : {A : Type 0} (f : List Value → A) (q : ℕ) (x : A) → q < s.block → slice_get (rows_left f) q ≡ Some x → x ≡ f (row_of j (entry_at q))
-  left_at f q x lt h = grind (arith, some_same, left_is, get_dropped, row_in_block, mapped_at, row_here)
+  left_at f q x lt h = grind (arith, some_same, left_is, get_dropped, row_in_block, mapped_at, row_here, its_within, amid.0.is, amid.0.inside)
 
   left_long : {A : Type 0} (f : List Value → A) → s.block ≤ length (rows_left f)
   left_long f =
       let m = length-map j.dataset.rows f in
       let l = length-drop s.entries (slice_range (map f j.dataset.rows) span.lo span.hi) in
-      let r = range_length (map f j.dataset.rows) span.lo span.hi (omega (arith, within)) (omega (arith, inside, m)) in
+      let r = range_length (map f j.dataset.rows) span.lo span.hi (omega (arith, its_within)) (omega (arith, amid.0.inside, m)) in
       let e = ap length (left_is f) in
-      omega (arith, within, l, r, e)
+      omega (arith, its_within, l, r, e)
 
   block_flat : {A B : Type 0} (f : List Value → A) (h : A → List B) → flat_map h (take s.block (rows_left f)) ≡ flat_map (λ q. h (f (row_of j (entry_at q)))) (range_with_len 0 s.block)
   block_flat f h = flat_first h (λ q. h (f (row_of j (entry_at q)))) s.block (rows_left f) (left_long f) (λ i x lt q. ap h (left_at f i x lt q))
@@ -87,10 +95,6 @@ module _ (j : JobView) (s : BlockStage) (span : Span) (its : slice_get (job_span
 
     there_is : slice_get (passes_in j) n ≡ Some its_pass
     there_is = pass_of j n m of.its_pass r of.its_result
-
-    -- the pass is the next one of the loop's actions
-    pub block_kind : slice_get (facts_in j).kinds (actions_before j n) ≡ Some k
-    block_kind = (at_place j.dataset (row_of j (entry_at 0)) n (passes_in j) its_pass k of.at there_is of.booking).0
 
     -- whether the place passes the filters
     abbrev pub passes : ℕ → Bool
@@ -160,28 +164,7 @@ module _ (j : JobView) (s : BlockStage) (span : Span) (its : slice_get (job_span
 
       -- what the filter does at a place without a fault
       reached : (q : ℕ) → q < s.block → fault_in (all q) ≡ None → (is_reached (its_reach q) ≡ is_true (above q)) × (is_passed (its_reach q) ≡ is_true (all q))
-      reached q lt clear = go (above q) refl (site_in j (entry_at q) None own >>= truth_of) refl
-        where
-          more : all q ≡ (above q >>= λ passed. if passed then site_in j (entry_at q) None own >>= truth_of else Gives false)
-          more = through_more (site_in j (entry_at q) None) up own
-
-          go : (o : Outcome ⊥ Bool) → above q ≡ o → (y : Outcome ⊥ Bool) → (site_in j (entry_at q) None own >>= truth_of) ≡ y → (is_reached (its_reach q) ≡ is_true (above q)) × (is_passed (its_reach q) ≡ is_true (all q))
-          go (Gives false) e y i =
-              let a : all q ≡ Gives false = more ∙ ap (λ (w : Outcome ⊥ Bool). w >>= λ passed. if passed then site_in j (entry_at q) None own >>= truth_of else Gives false) e in
-              let r = stopped_answer j f x here up own split (entry_at q) e in
-              (ap is_reached r ∙ sym (ap is_true e), ap is_passed r ∙ sym (ap is_true a))
-          go (Gives true) e (Gives v) i =
-              let a : all q ≡ Gives v = more ∙ ap (λ (w : Outcome ⊥ Bool). w >>= λ passed. if passed then site_in j (entry_at q) None own >>= truth_of else Gives false) e ∙ i in
-              let r = tried_answer j f x here up own split (entry_at q) v e a in
-              (ap is_reached r ∙ reached_if v ∙ sym (ap is_true e), ap is_passed r ∙ passed_if v ∙ sym (ap is_true a))
-          go (Gives true) e (Faults g) i =
-              let a : all q ≡ Faults g = more ∙ ap (λ (w : Outcome ⊥ Bool). w >>= λ passed. if passed then site_in j (entry_at q) None own >>= truth_of else Gives false) e ∙ i in
-              absurd (let w : ◌≡◌ {A = Option EntryFault} None (Some g) = sym clear ∙ ap fault_in a in cc w)
-          go (Gives true) e (Needs g) i = elim g [ ]
-          go (Faults g) e y i =
-              let a : all q ≡ Faults g = more ∙ ap (λ (w : Outcome ⊥ Bool). w >>= λ passed. if passed then site_in j (entry_at q) None own >>= truth_of else Gives false) e in
-              absurd (let w : ◌≡◌ {A = Option EntryFault} None (Some g) = sym clear ∙ ap fault_in a in cc w)
-          go (Needs g) e y i = elim g [ ]
+      reached q lt clear = grind (arith, through_more, stopped_answer, tried_answer, reached_if, passed_if)
 
       -- the counts are the sizes of two selections
       pub covered_counts : ((q : ℕ) → q < s.block → fault_in (all q) ≡ None)
@@ -210,19 +193,13 @@ module _ (j : JobView) (first count : ℕ) (s : BlockStage) (amid : IsAmid j fir
     alike : (e : ℕ) → through_chain j e last.chain ≡ through_sites (site_in j e u) sites
     alike = last_through j chains sites u k last
 
-    pub its_places : m.places ≡ filter (λ q. is_true (through_sites (site_in j (amid.in_cluster.span.lo + s.entries + q) u) sites)) (range_with_len 0 s.block)
-    its_places =
-        made.is ∙ (λ i. filter (λ p. is_true (alike (first + p) i)) (range_with_len 0 count))
-        ∙ (λ i. filter (λ p. is_true (through_sites (site_in j (amid.begins i + p) u) sites)) (range_with_len 0 (sym amid.block i)))
+    pub its_places : m.places ≡ filter (λ q. is_true (through_sites (site_in j (first + q) u) sites)) (range_with_len 0 s.block)
+    its_places = made.is ∙ (λ i. filter (λ p. is_true (alike (first + p) i)) (range_with_len 0 (sym amid.1 i)))
 
-    pub its_clear : (q : ℕ) → q < s.block → fault_in (through_sites (site_in j (amid.in_cluster.span.lo + s.entries + q) u) sites) ≡ None
-    its_clear q low =
-        ap (λ (n : ℕ). fault_in (through_sites (site_in j (n + q) u) sites)) (sym amid.begins) ∙ sym (ap fault_in (alike (first + q))) ∙ made.clear q (subst (λ (n : ℕ). q < n) amid.block low)
+    pub its_clear : (q : ℕ) → q < s.block → fault_in (through_sites (site_in j (first + q) u) sites) ≡ None
+    its_clear q low = sym (ap fault_in (alike (first + q))) ∙ made.clear q (subst (λ (n : ℕ). q < n) amid.1 low)
 
   module _ (job : IsJob j) (f : ℕ) (x : FilterAt) (here : slice_get (graph_filters (job_graph j)) f ≡ Some x) where
-    pub counts_none : slice_get (covered_in j) f ≡ Some false → record { all = 0; pass = 0 } ≡ counted (block_reaches (facts_in j) s f)
-    counts_none h = let c = amid.in_cluster in sym (uncovered_counts j s c.span c.its_span c.within c.inside job f x here h)
-
     pub counts_named : (chains : List Chain) (kept : List Kept) → AreKept j first chains count kept → (named : NamedSteps) → IsNamed chains x named → slice_get (covered_in j) f ≡ Some true
         → (above own : Kept) → slice_get kept named.above ≡ Some above → above.limit ≡ Some count → slice_get kept named.own ≡ Some own → own.limit ≡ Some count
         → record { all = length above.places; pass = length own.places } ≡ counted (block_reaches (facts_in j) s f)
@@ -232,7 +209,7 @@ module _ (j : JobView) (first count : ℕ) (s : BlockStage) (amid : IsAmid j fir
           all = length (its_places None chains kept are h.up named.above h.above above at_above whole_above i);
           pass = length (its_places None chains kept are (h.up ++ h.site ∷ []) named.own own_last own at_own whole_own i);
         })
-        ∙ (let c = amid.in_cluster in sym (covered_counts j s c.span c.its_span c.within c.inside job f x here covered h.up h.site h.sites (its_clear None chains kept are (h.up ++ h.site ∷ []) named.own own_last own at_own whole_own)))
+        ∙ sym (covered_counts j first count s amid job f x here covered h.up h.site h.sites (its_clear None chains kept are (h.up ++ h.site ∷ []) named.own own_last own at_own whole_own))
 
 -- ---- by the plan
 
@@ -245,7 +222,7 @@ module _ (j : JobView) (plan : PlanView) (p : IsPlan j plan) (f : ℕ) (inside :
 
   module _ (first count : ℕ) (kept : List Kept) (can : AreCountable j first count p.chains plan kept) (o : Option NamedSteps) (at : slice_get plan.filters f ≡ Some o) where
     pub no_counts : o ≡ None → (job : IsJob j) (s : BlockStage) → IsAmid j first count s → record { all = 0; pass = 0 } ≡ counted (block_reaches (facts_in j) s f)
-    no_counts none job s amid = counts_none j first count s amid job f named_at.0 named_at.1 (p.filters f None (at ∙ ap Some none) named_at.0 named_at.1)
+    no_counts none job s amid = sym (uncovered_counts j first count s amid job f named_at.0 named_at.1 (p.filters f None (at ∙ ap Some none) named_at.0 named_at.1))
 
     module _ (named : NamedSteps) (is : o ≡ Some named) where
       its_at : slice_get plan.filters f ≡ Some (Some named)
@@ -275,7 +252,7 @@ module _ (j : JobView) (first count : ℕ) where
   IsNotedTo old n now = (watched : List ℕ) (s : BlockStage) → IsAmid j first count s → s.filters ≡ 0 → HoldsIn (facts_in j) watched s old → HoldsIn (facts_in j) watched (at_filter s n) now
 
   pub block_within : (s : BlockStage) → IsAmid j first count s → IsWithin (facts_in j) s
-  block_within s amid = grind (arith, length-map, range_length)
+  block_within s amid = let within = its_within j first count s amid in grind (arith, length-map, range_length)
 
   pub filters_many : length (graph_filters (job_graph j)) ≡ length (named_before (history j.script))
   filters_many = sym (covered_count j) ∙ length-map (named_before (history j.script)) (is_covered (passes_in j))
@@ -372,6 +349,10 @@ few_fed k f (c ∷ d ∷ cs) h = absurd (omega (arith, h))
 
 -- ---- A block's batch is what its places feed to an action's pass.
 
+-- the pass's kind is that of the next one of the loop's actions
+kind_at : (j : JobView) (n : ℕ) (k : ActionKind) (inputs : List ℕ) (u : Option ℕ) → IsReadOf j n k inputs u → slice_get (kinds_in (passes_in j)) (actions_before j n) ≡ Some k
+kind_at j n k inputs u own = (at_place j.dataset [] n (passes_in j) _ k own.action.at (pass_of j n own.numbered own.action.its_pass own.result own.action.its_result) own.action.booking).0
+
 module _ (j : JobView) (job : IsJob j) (first count : ℕ) (pass : ℕ) (k : ActionKind) (inputs : List ℕ) (u : Option ℕ) (own : IsReadOf j pass k inputs u) where
   -- ---- by the plan
 
@@ -392,35 +373,27 @@ module _ (j : JobView) (job : IsJob j) (first count : ℕ) (pass : ℕ) (k : Act
         sel_at : slice_get kept last ≡ Some sel
         sel_at = slice_get-get_or kept last d last_there
 
-        pub fed_hand : EachPlace sel.places (AreAtHand j lanes u inputs)
+        pub fed_hand : EachPlace sel.places (AreAtHand j first lanes u inputs)
         fed_hand q i = (feedable.each sel sel_at q i).hand
 
         module _ (s : BlockStage) (amid : IsAmid j first count s) where
-          abbrev entry : ℕ → ℕ
-          entry q = amid.in_cluster.span.lo + s.entries + q
-
           abbrev passed_at : ℕ → Bool
-          passed_at q = is_true (through_sites (site_in j (entry q) u) own.result.filters)
+          passed_at q = is_true (through_sites (site_in j (first + q) u) own.result.filters)
 
           sel_is : sel.places ≡ filter passed_at (range_with_len 0 s.block)
           sel_is = its_places j first count s amid u p.chains kept are own.result.filters last last_led sel sel_at (feedable.over_all sel sel_at)
 
           pub fed_low : EachPlace sel.places (λ q. q < count)
-          fed_low q i = subst (λ (n : ℕ). q < n) amid.block (chosen_below passed_at q s.block (subst (λ (l : List ℕ). is_in q l ≡ true) sel_is i))
+          fed_low q i = subst (λ (n : ℕ). q < n) amid.1 (chosen_below passed_at q s.block (subst (λ (l : List ℕ). is_in q l ≡ true) sel_is i))
 
           in_sel : (q : ℕ) → q < s.block → passed_at q ≡ true → is_in q sel.places ≡ true
           in_sel q low through = subst (λ (l : List ℕ). is_in q l ≡ true) (sym sel_is) (in_chosen passed_at q s.block low ∙ through)
 
-          same_place : (q : ℕ) → first + q ≡ entry q
-          same_place q = ap (λ (n : ℕ). n + q) amid.begins
-
-          kind_here : slice_get (facts_in j).kinds (actions_before j pass) ≡ Some k
-          kind_here = let c = amid.in_cluster in block_kind j s c.span c.its_span c.within c.inside job pass own.numbered own.result k own.action
-
           -- ---- a batch
 
           module _ (batch : Batch) (places : places_of batch.places ≡ sel.places)
-              (gathered : (q : ℕ) → q < count → is_in q sel.places ≡ true → AreAtHand j lanes u inputs q → AreLanesOf (for_all (version_in {M = ⊥} j (first + q) u) inputs) k batch.sources q) where
+              (gathered : (q : ℕ) → q < count → is_in q sel.places ≡ true → AreAtHand j first lanes u inputs q →
+              AreLanesOf (for_all (version_in {M = ⊥} j (first + q) u) inputs) k batch.sources q) where
             lanes_at : (q : ℕ) → is_in q sel.places ≡ true → AreLanesOf (for_all (version_in {M = ⊥} j (first + q) u) inputs) k batch.sources q
             lanes_at q i = gathered q (fed_low q i) i (fed_hand q i)
 
@@ -433,13 +406,13 @@ module _ (j : JobView) (job : IsJob j) (first count : ℕ) (pass : ℕ) (k : Act
             batch_is : batch_items k batch ≡ block_items (facts_in j) s (actions_before j pass)
             batch_is =
                 ap (flat_map (λ q. spread k (values_at batch.sources q))) (places ∙ sel_is)
-                ∙ (λ i. flat_map (λ q. spread k (values_at batch.sources q)) (filter (λ q. is_true (through_sites (site_in j (entry q) (sym own.its_under i)) own.result.filters)) (range_with_len 0 s.block)))
-                ∙ (let at = amid.in_cluster in block_fed j s at.span at.its_span at.within at.inside job pass own.numbered own.result k own.action (λ q. values_at batch.sources q)
-                (λ q low through. fed_at q (in_sel q low (ap (λ (v : Option ℕ). is_true (through_sites (site_in j (entry q) v) own.result.filters)) (sym own.its_under) ∙ through))))
+                ∙ (λ i. flat_map (λ q. spread k (values_at batch.sources q)) (filter (λ q. is_true (through_sites (site_in j (first + q) (sym own.its_under i)) own.result.filters)) (range_with_len 0 s.block)))
+                ∙ (block_fed j first count s amid job pass own.numbered own.result k own.action (λ q. values_at batch.sources q)
+                (λ q low through. fed_at q (in_sel q low (ap (λ (v : Option ℕ). is_true (through_sites (site_in j (first + q) v) own.result.filters)) (sym own.its_under) ∙ through))))
               where
                 fed_at : (q : ℕ) → is_in q sel.places ≡ true
-                    → (for_all (version_in {M = ⊥} j (entry q) own.numbered.variation) own.result.inputs ≡ Gives (values_at batch.sources q)) × (feed_fault k (values_at batch.sources q) ≡ None)
-                fed_at q i = ((λ t. for_all (version_in {M = ⊥} j (sym (same_place q) t) (own.its_under t)) (own.inputs_are t)) ∙ (lanes_at q i).values, clear_at q i)
+                    → (for_all (version_in {M = ⊥} j (first + q) own.numbered.variation) own.result.inputs ≡ Gives (values_at batch.sources q)) × (feed_fault k (values_at batch.sources q) ≡ None)
+                fed_at q i = ((λ t. for_all (version_in {M = ⊥} j (first + q) (own.its_under t)) (own.inputs_are t)) ∙ (lanes_at q i).values, clear_at q i)
 
             can_feed : (watched : List ℕ) (place cluster : ℕ) (t : TallyView) → place ≡ actions_before j pass → s.cluster ≡ cluster → s.passes ≡ place → HoldsIn (facts_in j) watched s t → CanFeedBatch (facts_in j) watched s t place cluster batch
             can_feed watched place cluster t is its at_pass holds = record {
@@ -448,7 +421,7 @@ module _ (j : JobView) (job : IsJob j) (first count : ℕ) (pass : ℕ) (k : Act
               at_cluster = its;
               within = block_within j first count s amid;
               kind = k;
-              its_kind = ap (slice_get (facts_in j).kinds) is ∙ kind_here;
+              its_kind = ap (slice_get (facts_in j).kinds) is ∙ kind_at j pass k inputs u own;
               there = over_places (HasValues batch.sources) (λ q i. (lanes_at q i).there);
               suits = over_places (SuitsAt k batch.sources) (λ q i. (lanes_at q i).suits);
               no_fault = over_places (λ p. feed_fault k (values_at batch.sources p) ≡ None) clear_at;
@@ -479,22 +452,7 @@ no_take k h take = take
 
 -- no pass of a loop without Takes takes
 pub takes_none : (j : JobView) (n : ℕ) (k : ActionKind) (inputs : List ℕ) (u : Option ℕ) → IsReadOf j n k inputs u → All IsNoTake (kinds_in (passes_in j)) → IsTake k → ⊥
-takes_none j n k inputs u own none take = no_take k (subst IsNoTake same (All-get_or IsNoTake ks i k low none)) take
-  where
-    ks : List ActionKind
-    ks = kinds_in (passes_in j)
-
-    i : ℕ
-    i = actions_before j n
-
-    here : slice_get ks i ≡ Some k
-    here = (at_place j.dataset [] n (passes_in j) _ k own.action.at (pass_of j n own.numbered own.action.its_pass own.result own.action.its_result) own.action.booking).0
-
-    low : i < length ks
-    low = slice_get_within ks i k here
-
-    same : get_or ks i k ≡ k
-    same = some_same (get_or ks i k) k (sym (slice_get-get_or ks i k low) ∙ here)
+takes_none j n k inputs u own none take = no_take k (all_get IsNoTake (kinds_in (passes_in j)) none (actions_before j n) k (kind_at j n k inputs u own)) take
 
 module _ (j : JobView) (job : IsJob j) (first count : ℕ) (plan : PlanView) (p : IsPlan j plan) (lanes : List LaneView) (kept : List Kept) (h : IsClear j first count p.chains plan lanes kept) where
   pub can_be_fed : (n : ℕ) (k : ActionKind) (inputs : List ℕ) (u : Option ℕ) (own : IsReadOf j n k inputs u) (last : ℕ) → slice_get plan.passes n ≡ Some last → IsFeedable j first count lanes kept last k inputs u
@@ -503,7 +461,7 @@ module _ (j : JobView) (job : IsJob j) (first count : ℕ) (plan : PlanView) (p 
     each = λ s at q i.
         let low = placed j job first count n plan p h.ready.within k inputs u own last its kept h.countable.kept_are s at (h.over n k inputs u own last its s at) q i in
         record {
-          hand = subst (λ (v : Option ℕ). AreAtHand j lanes v inputs q) own.its_under (subst (λ (cs : List ℕ). AreAtHand j lanes own.numbered.variation cs q) own.inputs_are (h.read n own.numbered own.result k own.action q low.0 low.1));
+          hand = subst (λ (v : Option ℕ). AreAtHand j first lanes v inputs q) own.its_under (subst (λ (cs : List ℕ). AreAtHand j first lanes own.numbered.variation cs q) own.inputs_are (h.read n own.numbered own.result k own.action q low.0 low.1));
           clear = unfed_none j job first count n plan p h.ready.within k inputs u own last its q low.0 low.1 (h.clear n q (read_inside j n k inputs u own) low.0);
         };
   }

@@ -1,11 +1,10 @@
 -- How the search goes on, part after part and pass after pass, and places of a block in their order.
 use Rattle.std.proofs.Common.{◌≡◌, ◌⊎◌, inl, inr, ℕ, ◌+◌, ◌<◌, Option, None, Some, refl, sym, ◌∙◌, ap, subst, arith, if◌then◌else◌, Bool, true, false, ◌&&◌, List, [], ◌∷◌, ◌++◌, slice_get, zero, suc, ◌-◌, length, drop, slice_range, ◌^◌, ◌≤◌, cond, take, ap₂, nat_lt, nat_eq, ℤ, length-set, set, get_or, get_or-set_same, get_or-set_other, pos, flat_map, filter}
 use Rattle.rdf_values.specs.{ActionKind, EntryFault, Fault, Pass, Value, Span}
-use Rattle.block_passes.specs.{Chain, fault_at, fault_of, feeding_fault, Found, GivesNumber, GivesVector, HasVector, IsLast, IsSearched, Lowers, noted, through_chain, where_in, where_passed}
-use Rattle.block_passes.specs.Searches.{IsAmid}
-use Rattle.rdf_model.specs.{◌>>=◌, Dataset, Entry, fault_in, fault_or, feed_outcome, first_fault_from, first_fault_in, first_of, for_all, Gives, is_true, Needs, Outcome, Skip, truth_of, unless_fault}
+use Rattle.block_passes.specs.{Chain, fault_at, feeding_fault, Found, GivesNumber, GivesVector, HasVector, IsLast, IsSearched, Lowers, noted, through_chain, where_in, where_passed}
+use Rattle.rdf_model.specs.{◌>>=◌, Entry, fault_in, fault_or, feed_outcome, first_fault_from, first_fault_in, first_of, for_all, Gives, is_true, Needs, Outcome, Skip, truth_of, unless_fault}
 use Rattle.graph_numbers.specs.{action_numbers, FilterAt, report_numbers, ResultAt, through_filter, through_sites}
-use Rattle.loop_keys.specs.{JobView, site_in}
+use Rattle.loop_keys.specs.{JobView, outcome_of, site_in}
 use Rattle.lemmas.proofs.{lt_or_last, and_false, and_left, and_true, cases_eq, cond_both, Decides-ltb, eq_says, lt_false, lt_true, or_cases, range_with_len}
 use Rattle.block_cache.proofs.Attempts.{get_take}
 use Rattle.graph_numbers.proofs.Walks.{by_test}
@@ -52,55 +51,34 @@ lowers_as a b first pass old new e h = grind arith
 
 -- ---- the passes
 
-module _ (fault : ℕ → ℕ → Option EntryFault) (first count : ℕ) where
-  pub pass_begins : (pass : ℕ) (s : Found) → IsSearched fault first count pass s → IsAmid fault (λ p. fault p pass) first count pass s
-  pass_begins pass s h = record {
-    clear = h.clear;
-    rest = λ p lt. refl;
-    whole = h.whole;
-    within = h.within;
-    at_limit = λ f e. (let w = h.at_limit f e in let l = w.2 in (w.0, w.1, omega (arith, l), w.3, w.4));
+-- the next pass was tried below the limit
+module _ (fault : ℕ → ℕ → Option EntryFault) (first count pass : ℕ) (s t : Found) (h : IsSearched fault first count pass s) (low : Lowers (λ p. fault p pass) first pass s t) where
+  abbrev IsAtLimit : Fault → Type 0
+  IsAtLimit f = (f.entry ≡ first + t.limit) × (t.limit < count) × (f.pass < pass + 1) × (fault t.limit f.pass ≡ Some f.kind) × ((n : ℕ) → n < f.pass → fault t.limit n ≡ None)
+
+  at_same : t.limit ≡ s.limit → (f : Fault) → t.best ≡ Some f → IsAtLimit f
+  at_same e f q =
+      let w = h.at_limit f (ap (λ (x : Found). x.best) (sym (low.same e)) ∙ q) in
+      let l = w.2 in
+      (w.0 ∙ ap (λ n. first + n) (sym e), subst (λ (n : ℕ). n < count) (sym e) w.1, omega (arith, l), ap (λ n. fault n f.pass) e ∙ w.3, λ n k. ap (λ m. fault m n) e ∙ w.4 n k)
+
+  at_found : t.limit < s.limit → (f : Fault) → t.best ≡ Some f → IsAtLimit f
+  at_found lt f q = grind arith
+
+  pub pass_searched : IsSearched fault first count (pass + 1) t
+  pass_searched = record {
+    clear = λ p n lt k. elim (lt_or_last n pass k) [ inl x ↦ (let f = low.falls in h.clear p n (omega (arith, lt, f)) x) | inr x ↦ ap (fault p) x ∙ low.clear p lt ];
+    whole = λ e. whole e stays;
+    within = (let f = low.falls in let g = h.within in omega (arith, f, g));
+    at_limit = λ f e. elim stays [ inl q ↦ at_found q f e | inr q ↦ at_same q f e ];
   }
+    where
+      stays : (t.limit < s.limit) ⊎ (t.limit ≡ s.limit)
+      stays = let f = low.falls in lt_or_last t.limit s.limit (omega (arith, f))
 
-  pub pass_ends : (left : ℕ → Option EntryFault) (pass : ℕ) (s : Found) → IsAmid fault left first count pass s → ((p : ℕ) → p < s.limit → left p ≡ None) → IsSearched fault first count (pass + 1) s
-  pass_ends left pass s h none = record {
-    clear = λ p n lt k. elim (lt_or_last n pass k) [ inl x ↦ h.clear p n lt x | inr x ↦ ap (fault p) x ∙ h.rest p lt ∙ none p lt ];
-    whole = h.whole;
-    within = h.within;
-    at_limit = h.at_limit;
-  }
-
-  -- a part is tried, behind which others are left
-  module _ (left part rest : ℕ → Option EntryFault) (pass : ℕ) (s t : Found) (h : IsAmid fault left first count pass s) (split : (p : ℕ) → p < s.limit → left p ≡ or_else (part p) (rest p)) (low : Lowers part first pass s t) where
-    part_fault : (q : ℕ) (kind : EntryFault) → q < s.limit → part q ≡ Some kind → fault q pass ≡ Some kind
-    part_fault q kind lt e = h.rest q lt ∙ split q lt ∙ ap (λ o. or_else o (rest q)) e
-
-    at_same : t ≡ s → (f : Fault) → t.best ≡ Some f
-        → (f.entry ≡ first + t.limit) × (t.limit < count) × (f.pass < pass + 1) × (fault t.limit f.pass ≡ Some f.kind) × ((n : ℕ) → n < f.pass → fault t.limit n ≡ None)
-    at_same e f q =
-        let w = h.at_limit f (ap (λ (x : Found). x.best) (sym e) ∙ q) in
-        let l : t.limit ≡ s.limit = ap (λ (x : Found). x.limit) e in
-        (w.0 ∙ ap (λ n. first + n) (sym l), subst (λ (n : ℕ). n < count) (sym l) w.1, w.2, ap (λ n. fault n f.pass) l ∙ w.3, λ n k. ap (λ m. fault m n) l ∙ w.4 n k)
-
-    at_found : t.limit < s.limit → (f : Fault) → t.best ≡ Some f
-        → (f.entry ≡ first + t.limit) × (t.limit < count) × (f.pass < pass + 1) × (fault t.limit f.pass ≡ Some f.kind) × ((n : ℕ) → n < f.pass → fault t.limit n ≡ None)
-    at_found lt f q = grind (arith, part_fault)
-
-    pub part_tried : IsAmid fault rest first count pass t
-    part_tried = record {
-      clear = λ p n lt k. (let f = low.falls in h.clear p n (omega (arith, lt, f)) k);
-      rest = λ p lt. (let f = low.falls in let q : p < s.limit = omega (arith, lt, f) in h.rest p q ∙ split p q ∙ ap (λ o. or_else o (rest p)) (low.clear p lt));
-      whole = λ e. whole e stays;
-      within = (let f = low.falls in let g = h.within in omega (arith, f, g));
-      at_limit = λ f e. elim stays [ inl q ↦ at_found q f e | inr q ↦ at_same (low.same q) f e ];
-    }
-      where
-        stays : (t.limit < s.limit) ⊎ (t.limit ≡ s.limit)
-        stays = let f = low.falls in lt_or_last t.limit s.limit (omega (arith, f))
-
-        whole : t.best ≡ None → (t.limit < s.limit) ⊎ (t.limit ≡ s.limit) → t.limit ≡ count
-        whole e (inl q) = let w = low.found q in absurd (let x : ◌≡◌ {A = Option Fault} None (Some (record { entry = first + t.limit; pass = pass; kind = w.0 })) = sym e ∙ ap (λ (x : Found). x.best) w.2 in cc x)
-        whole e (inr q) = q ∙ h.whole (ap (λ (x : Found). x.best) (sym (low.same q)) ∙ e)
+      whole : t.best ≡ None → (t.limit < s.limit) ⊎ (t.limit ≡ s.limit) → t.limit ≡ count
+      whole e (inl q) = let w = low.found q in absurd (let x : ◌≡◌ {A = Option Fault} None (Some (record { entry = first + t.limit; pass = pass; kind = w.0 })) = sym e ∙ ap (λ (x : Found). x.best) w.2 in cc x)
+      whole e (inr q) = q ∙ h.whole (ap (λ (x : Found). x.best) (sym (low.same q)) ∙ e)
 
 -- ---- A pass in parts, by numbers: its filters one after another, the versions that it reads, and whether their values can be fed.
 
@@ -190,22 +168,22 @@ last_through j chains path u k last e = chain_through j last.chain u last.alike 
 
 -- ---- The first fault of a block's rows, by the fault of each place in each pass.
 
-module _ (d : Dataset) where
+module _ (j : JobView) where
   -- ---- one row
 
-  none_in : (ps : List Pass) (e n : ℕ) (row : List Value) → ((m : ℕ) → m < length ps → fault_of d (Some row) (slice_get ps m) ≡ None) → first_fault_in d e n row ps ≡ None
+  none_in : (ps : List Pass) (e n : ℕ) (row : List Value) → ((m : ℕ) → m < length ps → fault_in (outcome_of j (Some row) (slice_get ps m)) ≡ None) → first_fault_in j.dataset e n row ps ≡ None
   none_in [] e n row h = refl
-  none_in (p ∷ ps) e n row h = ap (λ o. fault_or e n o (first_fault_in d e (n + 1) row ps)) (h 0 (omega arith)) ∙ none_in ps e (n + 1) row (λ m lt. h (suc m) (omega (arith, lt)))
+  none_in (p ∷ ps) e n row h = ap (λ o. fault_or e n o (first_fault_in j.dataset e (n + 1) row ps)) (h 0 (omega arith)) ∙ none_in ps e (n + 1) row (λ m lt. h (suc m) (omega (arith, lt)))
 
-  first_pass_in : (ps : List Pass) (e n m : ℕ) (row : List Value) (kind : EntryFault) → m < length ps → fault_of d (Some row) (slice_get ps m) ≡ Some kind
-      → ((i : ℕ) → i < m → fault_of d (Some row) (slice_get ps i) ≡ None) → first_fault_in d e n row ps ≡ Some (record { entry = e; pass = n + m; kind = kind })
+  first_pass_in : (ps : List Pass) (e n m : ℕ) (row : List Value) (kind : EntryFault) → m < length ps → fault_in (outcome_of j (Some row) (slice_get ps m)) ≡ Some kind
+      → ((i : ℕ) → i < m → fault_in (outcome_of j (Some row) (slice_get ps i)) ≡ None) → first_fault_in j.dataset e n row ps ≡ Some (record { entry = e; pass = n + m; kind = kind })
   first_pass_in [] e n m row kind lt h before = absurd (omega (arith, lt))
   first_pass_in (p ∷ ps) e n zero row kind lt h before =
       let z : n ≡ n + 0 = omega arith in
-      ap (λ o. fault_or e n o (first_fault_in d e (n + 1) row ps)) h ∙ ap (λ x. Some (record { entry = e; pass = x; kind = kind })) z
+      ap (λ o. fault_or e n o (first_fault_in j.dataset e (n + 1) row ps)) h ∙ ap (λ x. Some (record { entry = e; pass = x; kind = kind })) z
   first_pass_in (p ∷ ps) e n (suc m) row kind lt h before =
       let z : n + 1 + m ≡ n + suc m = omega arith in
-      ap (λ o. fault_or e n o (first_fault_in d e (n + 1) row ps)) (before 0 (omega arith))
+      ap (λ o. fault_or e n o (first_fault_in j.dataset e (n + 1) row ps)) (before 0 (omega arith))
       ∙ first_pass_in ps e (n + 1) m row kind (omega (arith, lt)) h (λ i l. before (suc i) (omega (arith, l)))
       ∙ ap (λ x. Some (record { entry = e; pass = x; kind = kind })) z
 
@@ -214,40 +192,46 @@ module _ (d : Dataset) where
   module _ (ps : List Pass) where
     -- none of the passes faults in the row
     abbrev IsClear : Option (List Value) → Type 0
-    IsClear row = (n : ℕ) → n < length ps → fault_of d row (slice_get ps n) ≡ None
+    IsClear row = (n : ℕ) → n < length ps → fault_in (outcome_of j row (slice_get ps n)) ≡ None
 
-    none_from : (rows : List (List Value)) (e : ℕ) → ((p : ℕ) → p < length rows → IsClear (slice_get rows p)) → first_fault_from d e rows ps ≡ None
+    none_from : (rows : List (List Value)) (e : ℕ) → ((p : ℕ) → p < length rows → IsClear (slice_get rows p)) → first_fault_from j.dataset e rows ps ≡ None
     none_from [] e h = refl
     none_from (row ∷ rows) e h =
-        ap (λ o. first_of o (first_fault_from d (e + 1) rows ps)) (none_in ps e 0 row (h 0 (omega arith)))
+        ap (λ o. first_of o (first_fault_from j.dataset (e + 1) rows ps)) (none_in ps e 0 row (h 0 (omega arith)))
         ∙ none_from rows (e + 1) (λ p lt. h (suc p) (omega (arith, lt)))
 
     first_from : (rows : List (List Value)) (e q m : ℕ) (kind : EntryFault) → q < length rows → m < length ps → ((p : ℕ) → p < q → IsClear (slice_get rows p))
-        → fault_of d (slice_get rows q) (slice_get ps m) ≡ Some kind → ((i : ℕ) → i < m → fault_of d (slice_get rows q) (slice_get ps i) ≡ None)
-        → first_fault_from d e rows ps ≡ Some (record { entry = e + q; pass = m; kind = kind })
+        → fault_in (outcome_of j (slice_get rows q) (slice_get ps m)) ≡ Some kind → ((i : ℕ) → i < m → fault_in (outcome_of j (slice_get rows q) (slice_get ps i)) ≡ None)
+        → first_fault_from j.dataset e rows ps ≡ Some (record { entry = e + q; pass = m; kind = kind })
     first_from [] e q m kind lt inside clear h before = absurd (omega (arith, lt))
     first_from (row ∷ rows) e zero m kind lt inside clear h before =
         let z : e ≡ e + 0 = omega arith in
         let y : 0 + m ≡ m = omega arith in
-        ap (λ o. first_of o (first_fault_from d (e + 1) rows ps)) (first_pass_in ps e 0 m row kind inside h before)
+        ap (λ o. first_of o (first_fault_from j.dataset (e + 1) rows ps)) (first_pass_in ps e 0 m row kind inside h before)
         ∙ (λ i. Some (record { entry = z i; pass = y i; kind = kind }))
     first_from (row ∷ rows) e (suc q) m kind lt inside clear h before =
         let z : e + 1 + q ≡ e + suc q = omega arith in
-        ap (λ o. first_of o (first_fault_from d (e + 1) rows ps)) (none_in ps e 0 row (clear 0 (omega arith)))
+        ap (λ o. first_of o (first_fault_from j.dataset (e + 1) rows ps)) (none_in ps e 0 row (clear 0 (omega arith)))
         ∙ first_from rows (e + 1) q m kind (omega (arith, lt)) inside (λ p l. clear (suc p) (omega (arith, l))) h before
         ∙ ap (λ x. Some (record { entry = x; pass = m; kind = kind })) z
 
     -- where all passes were tried, the best fault is the first one
-    pub searched : (rows : List (List Value)) (e : ℕ) (s : Found) → IsSearched (λ p n. fault_of d (slice_get rows p) (slice_get ps n)) e (length rows) (length ps) s → first_fault_from d e rows ps ≡ s.best
-    searched rows e s h = go s.best refl
-      where
-        go : (o : Option Fault) → s.best ≡ o → first_fault_from d e rows ps ≡ o
-        go None q = let w = h.whole q in none_from rows e (λ p lt n k. h.clear p n (omega (arith, w, lt)) k)
-        go (Some f) q =
-            let w = h.at_limit f q in
-            let its : f.entry ≡ e + s.limit = w.0 in
-            first_from rows e s.limit f.pass f.kind w.1 w.2 (λ p lt n k. h.clear p n lt k) w.3 w.4
-            ∙ ap (λ x. Some (record { entry = x; pass = f.pass; kind = f.kind })) (sym its)
+    module _ (rows : List (List Value)) (e : ℕ) (s : Found) (fault : ℕ → ℕ → Option EntryFault) (h : IsSearched fault e (length rows) (length ps) s)
+        (same : (p n : ℕ) → p < length rows → fault p n ≡ fault_in (outcome_of j (slice_get rows p) (slice_get ps n))) where
+      clear : (p n : ℕ) → p < length rows → p < s.limit → n < length ps → fault_in (outcome_of j (slice_get rows p) (slice_get ps n)) ≡ None
+      clear p n low lt k = sym (same p n low) ∙ h.clear p n lt k
+
+      pub searched : first_fault_from j.dataset e rows ps ≡ s.best
+      searched = go s.best refl
+        where
+          go : (o : Option Fault) → s.best ≡ o → first_fault_from j.dataset e rows ps ≡ o
+          go None q = let w = h.whole q in none_from rows e (λ p low n k. clear p n low (omega (arith, w, low)) k)
+          go (Some f) q =
+              let w = h.at_limit f q in
+              let its : f.entry ≡ e + s.limit = w.0 in
+              let l = w.1 in
+              first_from rows e s.limit f.pass f.kind w.1 w.2 (λ p lt n k. clear p n (omega (arith, lt, l)) lt k) (sym (same s.limit f.pass w.1) ∙ w.3) (λ n k. sym (same s.limit n w.1) ∙ w.4 n k)
+              ∙ ap (λ x. Some (record { entry = x; pass = f.pass; kind = f.kind })) (sym its)
 
 -- ---- the rows of a block
 
@@ -259,15 +243,6 @@ get_dropped (suc lo) (x ∷ xs) p = let e : suc (lo + p) ≡ suc lo + p = omega 
 -- the row at a place of a block is that of its entry
 pub row_in_block : {A : Type 0} (xs : List A) (lo hi p : ℕ) → p < hi - lo → slice_get (slice_range xs lo hi) p ≡ slice_get xs (lo + p)
 row_in_block xs lo hi p lt = get_take (drop lo xs) (hi - lo) p lt ∙ get_dropped lo xs p
-
--- the same by other faults, which are alike at each place
-pub searched_as : (a b : ℕ → ℕ → Option EntryFault) (first count passes : ℕ) (s : Found) → ((p n : ℕ) → p < count → a p n ≡ b p n) → IsSearched a first count passes s → IsSearched b first count passes s
-searched_as a b first count passes s e h = record {
-  clear = λ p n lt k. (let w = h.within in sym (e p n (omega (arith, lt, w))) ∙ h.clear p n lt k);
-  whole = h.whole;
-  within = h.within;
-  at_limit = λ f q. (let w = h.at_limit f q in (w.0, w.1, w.2, sym (e s.limit f.pass w.1) ∙ w.3, λ n k. sym (e s.limit n w.1) ∙ w.4 n k));
-}
 
 -- ---- filters
 
@@ -388,15 +363,11 @@ module _ (f : ℕ → Option EntryFault) where
   left_below sel first pass s None inside = sym (filter_all (λ p. nat_lt p s.limit) sel (λ p i. (Decides-ltb p s.limit).1 (inside p i)))
   left_below sel first pass s (Some x) inside = refl
 
--- it is at one of the places
-pub fault_selected : (f : ℕ → Option EntryFault) (sel : List ℕ) → AreRising sel → (o : Option PlaceFault) → o ≡ fault_over f sel → (x : PlaceFault) → o ≡ Some x → is_in x.place sel ≡ true
-fault_selected f sel rising o e x q =
-    let h : IsOver f sel (Some x) = subst (IsOver f sel) (sym e ∙ q) (over f sel rising) in h.0
-
--- whose entry has a small number
+-- its entry has a small number
 pub fault_few : (f : ℕ → Option EntryFault) (sel : List ℕ) (limit count first : ℕ) → AreRising sel → EachPlace sel (λ p. p < limit) → limit ≤ count → first + count ≤ 1000000
     → (o : Option PlaceFault) → o ≡ fault_over f sel → (x : PlaceFault) → o ≡ Some x → first + x.place < 2 ^ 32
-fault_few f sel limit count first rising inside le few o e x q = let l = inside x.place (fault_selected f sel rising o e x q) in omega (arith, l, le, few)
+fault_few f sel limit count first rising inside le few o e x q =
+    let h : IsOver f sel (Some x) = subst (IsOver f sel) (sym e ∙ q) (over f sel rising) in let l = inside x.place h.0 in omega (arith, l, le, few)
 
 -- ---- Places one after another.
 
@@ -417,12 +388,20 @@ each_at (x ∷ xs) P h p i = elim (first_or_rest x p xs i) [
   | inr k ↦ each_at xs P (λ m l. h (suc m) (omega (arith, l))) p k
 ]
 
--- ---- numbers
+-- ---- a fact of each so far, and of one more
 
 module _ (o : ℕ → Outcome ⊥ Value) (sel : List ℕ) (i q : ℕ) (here : q ≡ get_or sel i 0) where
+  one_more : (P Q : ℕ → Type 0) → Q q → ((p : ℕ) → (p ≡ q → ⊥) → P p → Q p) → ((m : ℕ) → m < i → P (get_or sel m 0)) → (m : ℕ) → m < i + 1 → Q (get_or sel m 0)
+  one_more P Q own others before m lt = elim (cases_eq (get_or sel m 0) q) [
+    | inl e ↦ subst Q (sym e) own
+    | inr n ↦ elim (lt_or_last m i lt) [ inl l ↦ others (get_or sel m 0) n (before m l) | inr e ↦ absurd (n (ap (λ x. get_or sel x 0) e ∙ sym here)) ]
+  ]
+
   pub numbers_more : (numbers after : List ℤ) (z : ℤ) → after ≡ set numbers q z → q < length numbers → o q ≡ Gives (Value.Int z) → ((m : ℕ) → m < i → GivesNumber numbers (get_or sel m 0) (o (get_or sel m 0)))
       → (m : ℕ) → m < i + 1 → GivesNumber after (get_or sel m 0) (o (get_or sel m 0))
-  numbers_more numbers after z is inside given before m lt = go (cases_eq (get_or sel m 0) q)
+  numbers_more numbers after z is inside given =
+      one_more (λ p. GivesNumber numbers p (o p)) (λ p. GivesNumber after p (o p)) (omega (arith, long, inside), given ∙ ap (λ y. Gives (Value.Int y)) (sym written))
+      (λ p n b. (let low = b.0 in (omega (arith, long, low), b.1 ∙ ap (λ y. Gives (Value.Int y)) (sym (other p n)))))
     where
       long : length after ≡ length numbers
       long = ap length is ∙ length-set numbers q z
@@ -433,31 +412,8 @@ module _ (o : ℕ → Outcome ⊥ Value) (sel : List ℕ) (i q : ℕ) (here : q 
       other : (p : ℕ) → (p ≡ q → ⊥) → at_place after p ≡ at_place numbers p
       other p n = ap (λ (l : List ℤ). at_place l p) is ∙ get_or-set_other numbers q p z (pos 0) n
 
-      kept : (get_or sel m 0 ≡ q → ⊥) → (m < i) ⊎ (m ≡ i) → GivesNumber after (get_or sel m 0) (o (get_or sel m 0))
-      kept n (inl l) = let b = before m l in let low = b.0 in (omega (arith, long, low), b.1 ∙ ap (λ y. Gives (Value.Int y)) (sym (other (get_or sel m 0) n)))
-      kept n (inr e) = absurd (n (ap (λ x. get_or sel x 0) e ∙ sym here))
-
-      go : (get_or sel m 0 ≡ q) ⊎ (get_or sel m 0 ≡ q → ⊥) → GivesNumber after (get_or sel m 0) (o (get_or sel m 0))
-      go (inl e) = subst (λ (n : ℕ). GivesNumber after n (o n)) (sym e) (omega (arith, long, inside), given ∙ ap (λ y. Gives (Value.Int y)) (sym written))
-      go (inr n) = kept n (lt_or_last m i lt)
-
-  -- ---- vectors
-
   pub vectors_more : (elements more : List ℤ) (spans after : List Span) (vector : List ℤ) → o q ≡ Gives (Value.Vect vector) → HasVector more after q vector
       → ((p : ℕ) (zs : List ℤ) → (p ≡ q → ⊥) → HasVector elements spans p zs → HasVector more after p zs) → ((m : ℕ) → m < i → GivesVector elements spans (get_or sel m 0) (o (get_or sel m 0)))
       → (m : ℕ) → m < i + 1 → GivesVector more after (get_or sel m 0) (o (get_or sel m 0))
-  vectors_more elements more spans after vector given own others before m lt = go (cases_eq (get_or sel m 0) q)
-    where
-      kept : (get_or sel m 0 ≡ q → ⊥) → (m < i) ⊎ (m ≡ i) → GivesVector more after (get_or sel m 0) (o (get_or sel m 0))
-      kept n (inl l) = let b = before m l in (b.0, others (get_or sel m 0) b.0 n b.1, b.2)
-      kept n (inr e) = absurd (n (ap (λ x. get_or sel x 0) e ∙ sym here))
-
-      go : (get_or sel m 0 ≡ q) ⊎ (get_or sel m 0 ≡ q → ⊥) → GivesVector more after (get_or sel m 0) (o (get_or sel m 0))
-      go (inl e) = subst (λ (n : ℕ). GivesVector more after n (o n)) (sym e) (vector, own, given)
-      go (inr n) = kept n (lt_or_last m i lt)
-
--- ---- one more vector
-
-module _ (xs ys : List ℤ) (spans after : List Span) (p : ℕ) (span : Span) (is : after ≡ set spans p span) (lo : span.lo ≡ length xs) (hi : span.hi ≡ length xs + length ys) where
-  long : length after ≡ length spans
-  long = ap length is ∙ length-set spans p span
+  vectors_more elements more spans after vector given own others =
+      one_more (λ p. GivesVector elements spans p (o p)) (λ p. GivesVector more after p (o p)) (vector, own, given) (λ p n b. (b.0, others p b.0 n b.1, b.2))

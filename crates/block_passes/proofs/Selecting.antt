@@ -1,15 +1,15 @@
 -- A step's selection from that of the step above it, and what stands after all passes.
-use Rattle.std.proofs.Common.{◌≡◌, ◌⊎◌, inl, inr, ℕ, ◌+◌, ◌≤◌, Bool, true, ◌&&◌, List, [], length, Option, None, Some, refl, sym, ◌∙◌, ap, subst, arith, if◌then◌else◌, zero, suc, ◌<◌, false, ◌∷◌, slice_get, get_or, ◌++◌, filter, slice_set, ◌-◌, slice_range}
-use Rattle.lemmas.proofs.{get_or_from_slice_get, kept_at, range_with_len, set-get_or, set_at, set_length, slice_get-get_or, slice_get_read, slice_get_within, AllByRecursion, list_any, lt_or_last, range_length}
+use Rattle.std.proofs.Common.{◌≡◌, ◌⊎◌, inl, inr, ℕ, ◌+◌, ◌≤◌, Bool, true, ◌&&◌, List, [], length, Option, None, Some, refl, sym, ◌∙◌, ap, subst, arith, if◌then◌else◌, zero, suc, ◌<◌, ◌∷◌, slice_get, get_or, ◌++◌, filter, slice_set, nat_lt, ◌-◌, slice_range}
+use Rattle.lemmas.proofs.{All-from_recursion, get_or_from_slice_get, kept_at, range_with_len, set-get_or, set_at, set_length, slice_get-get_or, slice_get_read, slice_get_within, something_at, AllByRecursion, list_any, lt_or_last, range_length}
 use Rattle.rdf_model.specs.{fault_in, is_true, Outcome, first_fault_from}
 use Rattle.graph_numbers.specs.{through_sites, FilterAt, graph_filters, graph_results}
 use Rattle.expr_lanes.specs.{AreRising, EachPlace, is_in, IsSelected}
 use Rattle.block_cache.specs.{fault_over, IsPassedOver, IsSpentOver, LaneView, PlaceFault}
 use Rattle.loop_keys.specs.{HasAllDemands, IsJob, JobView, site_in, truth_in, is_covering, IsCovered, IsReportPass, job_graph, numbered_passes, outcome_of, pass_fault, passes_in, source_at}
 use Rattle.loop_keys.proofs.TableLaws.{row_there}
-use Rattle.block_passes.specs.{AreAtHand, AreKept, AreRemade, AreSteps, Chain, chosen, Demands, fault_of, Found, IsFilteredTo, IsFilterStep, IsMade, IsMadeAt, IsMadeBelow, IsNamedMade, IsNarrowed, IsNextSelected, IsPassMade, IsPassTried, IsPlan, IsPlanMade, IsPlanOfTurn, IsReadBelow, IsReadyBelow, IsReadyInTurn, IsSearched, IsSearchedTo, IsSelectedInTurn, IsSelectedTo, IsSettledAt, IsTried, Kept, longer, Lowers, NamedSteps, noted, PlanView, Spends, Step, through_chain, turn_job, where_in, where_passed}
-use Rattle.block_passes.proofs.Demanding.{step_demanded}
-use Rattle.block_passes.proofs.Searching.{chosen_below, in_chosen, all_pass, filter_twice, narrowed, step_fault, step_true, truth_fault, chain_through, both_lower, lowers_as, or_else, none_lowers, row_in_block, searched, searched_as, part_tried, pass_begins, pass_ends}
+use Rattle.block_passes.specs.{AreAtHand, AreKept, AreRemade, AreSteps, Chain, chosen, Demands, Found, IsFilteredTo, IsFilterStep, IsMade, IsMadeAt, IsMadeBelow, IsNamedMade, IsNarrowed, IsNextSelected, IsPassMade, IsPassTried, IsPlan, IsPlanMade, IsPlanOfTurn, IsReadBelow, IsReadyBelow, IsReadyInTurn, IsSearched, IsSearchedTo, IsSelectedInTurn, IsSelectedTo, IsSettledAt, IsTried, Kept, longer, Lowers, NamedSteps, noted, PlanView, Spends, Step, through_chain, turn_job, where_in, where_passed}
+use Rattle.block_passes.proofs.Demanding.{all_get, step_demanded}
+use Rattle.block_passes.proofs.Searching.{chosen_below, in_chosen, all_pass, filter_twice, narrowed, step_fault, step_true, truth_fault, chain_through, both_lower, lowers_as, or_else, none_lowers, row_in_block, searched, pass_searched}
 use Rattle.block_passes.proofs.Serving.{spends_filled, filled_over, still_at_hand}
 use Rattle.loop_keys.proofs.PassNumbers.{some_same, passes_count}
 use Rattle.expr_lanes.specs.declared.TheConstants.{MAX_PLACES}
@@ -17,7 +17,7 @@ use Rattle.block_passes.specs.declared.turn.Turn.{Turn}
 use Rattle.block_passes.specs.declared.turn.Work.{Work}
 use Rattle.loop_keys.proofs.ReportTies.{covered_there, contained_at, of_report}
 use Rattle.block_passes.proofs.PlanSteps.{covered_is}
-use Rattle.rdf_values.specs.{EntryFault, Pass, Value}
+use Rattle.rdf_values.specs.{EntryFault}
 
 module _ (j : JobView) (first : ℕ) (up : Chain) (site : ℕ) (u : Option ℕ) (alike : (up.sites ≡ []) ⊎ (up.under ≡ u)) where
   -- the filters above come to the same under the step's own variation
@@ -30,45 +30,19 @@ module _ (j : JobView) (first : ℕ) (up : Chain) (site : ℕ) (u : Option ℕ) 
   own_true : (p : ℕ) → (is_true (through_chain j (first + p) up) && is_true (truth_in j (first + p) u site)) ≡ is_true (through_chain j (first + p) (longer up site u))
   own_true p = ap (λ (o : Outcome ⊥ Bool). is_true o && is_true (truth_in j (first + p) u site)) (up_alike p) ∙ sym (step_true (site_in j (first + p) u) up.sites site)
 
-  module _ (count pass : ℕ) (to : Kept) (lanes : List LaneView) (f0 f1 f2 : Found) (above : Lowers (λ p. fault_in (through_chain j (first + p) up)) first pass f0 f1)
-      (h : IsFilteredTo j first count u site pass (chosen j first up f1.limit) to lanes f1 f2) where
-    own_part : Lowers (λ p. where_passed (through_chain j (first + p) up) (fault_in (truth_in j (first + p) u site))) first pass f1 f2
-    own_part = grind (arith, lowers_as, in_chosen)
-
-    -- the step's filters lower the limit
-    pub step_lowers : Lowers (λ p. fault_in (through_chain j (first + p) (longer up site u))) first pass f0 f2
-    step_lowers =
-        lowers_as (λ p. or_else (fault_in (through_chain j (first + p) up)) (where_passed (through_chain j (first + p) up) (fault_in (truth_in j (first + p) u site)))) (λ p. fault_in (through_chain j (first + p) (longer up site u))) first pass f0 f2
-        (λ p lt. own_fault p)
-        (both_lower (λ p. fault_in (through_chain j (first + p) up)) (λ p. where_passed (through_chain j (first + p) up) (fault_in (truth_in j (first + p) u site))) first pass f0 f1 f2 above own_part)
-
-    -- and its selection is right below it
-    pub step_made : IsMade j first (longer up site u) f2.limit f2.limit to.places
-    step_made = record {
-      under = omega arith;
-      is = (
-          let f = h.lowers.falls in
-          h.left
-          ∙ ap (filter (λ p. is_true (truth_in j (first + p) u site))) (narrowed (λ p. is_true (through_chain j (first + p) up)) f2.limit f1.limit f)
-          ∙ filter_twice (λ p. is_true (through_chain j (first + p) up)) (λ p. is_true (truth_in j (first + p) u site)) (range_with_len 0 f2.limit)
-          ∙ (λ i. filter (λ p. own_true p i) (range_with_len 0 f2.limit)));
-      clear = step_lowers.clear;
-    }
-
-  -- what is filled for it, the loop demands
-  pub step_spends : (job : IsJob j) (count limit : ℕ) → first + count ≤ length j.dataset.rows → limit ≤ count → IsTried j (longer up site u) → (before after : List LaneView) (start end : ℕ)
-      → IsSpentOver j first u site (chosen j first up limit) before after start end → Spends j first count before after start end
-  step_spends job count limit within le tried before after start end spent =
-      spends_filled j first count u site (chosen j first up limit) before after start end spent
-      (λ p i. (let l = chosen_below (λ q. is_true (through_chain j (first + q) up)) p limit i in omega (arith, l, le)))
-      (λ p T i all. demanded p T i all)
-    where
-      demanded : (p : ℕ) (T : ℕ → Bool) → is_in p (chosen j first up limit) ≡ true → HasAllDemands j (first + p) T → Demands j (first + p) u T site
-      demanded p T i all =
-          let l = chosen_below (λ q. is_true (through_chain j (first + q) up)) p limit i in
-          let passed : is_true (through_chain j (first + p) up) ≡ true = sym (in_chosen (λ q. is_true (through_chain j (first + q) up)) p limit l) ∙ i in
-          let row = row_there j.dataset.rows (first + p) (omega (arith, l, le, within)) in
-          step_demanded j job (first + p) row.0 row.1 T all (longer up site u) tried up.sites site refl (ap is_true (sym (up_alike p)) ∙ passed)
+  -- its selection is right below the limit to which its filter lowered that of the selection above
+  pub step_made : (limit lower : ℕ) → lower ≤ limit → (places : List ℕ) → places ≡ filter (λ p. is_true (truth_in j (first + p) u site)) (filter (λ p. nat_lt p lower) (chosen j first up limit))
+      → ((p : ℕ) → p < lower → fault_in (through_chain j (first + p) up) ≡ None)
+      → ((p : ℕ) → p < lower → where_passed (through_chain j (first + p) up) (fault_in (truth_in j (first + p) u site)) ≡ None) → IsMade j first (longer up site u) lower lower places
+  step_made limit lower le places left above own = record {
+    under = omega arith;
+    is =
+        left
+        ∙ ap (filter (λ p. is_true (truth_in j (first + p) u site))) (narrowed (λ p. is_true (through_chain j (first + p) up)) lower limit le)
+        ∙ filter_twice (λ p. is_true (through_chain j (first + p) up)) (λ p. is_true (truth_in j (first + p) u site)) (range_with_len 0 lower)
+        ∙ (λ i. filter (λ p. own_true p i) (range_with_len 0 lower));
+    clear = λ p lt. sym (own_fault p) ∙ (λ i. or_else (above p lt i) (own p lt i));
+  }
 
 -- ---- the selections
 
@@ -93,6 +67,10 @@ kept_lower j first chains limit lower kept le h = record {
 
 -- ---- A step's selection: one that is there, all places, or one more filter.
 
+-- one after another
+pub remade_then : (count : ℕ) (a b c : List Kept) → AreRemade count a b → AreRemade count b c → AreRemade count a c
+remade_then count a b c h k i m e = elim (k i m e) [ inl q ↦ h i m q | inr q ↦ inr q ]
+
 -- ---- a selection that is written
 
 pub set_other : {A : Type 0} (xs : List A) (k : ℕ) (y : A) (i : ℕ) (x : A) → slice_get (slice_set xs k y) i ≡ Some x → (slice_get xs i ≡ Some x) ⊎ ((i ≡ k) × (x ≡ y))
@@ -106,7 +84,7 @@ module _ (j : JobView) (first count : ℕ) (chains : List Chain) (pass k : ℕ) 
   inside = let l = slice_get_within chains k c its in let m = ready.kept_are.many in omega (arith, l, m)
 
   -- right where it was written, and nothing is lowered
-  pub written_selected : IsSelectedTo j first count chains pass k lanes now s s
+  pub written_selected : IsSelectedTo j first count chains pass k lanes kept now s s
   written_selected = record {
     ready = record {
       ready = ready.ready;
@@ -119,6 +97,7 @@ module _ (j : JobView) (first count : ℕ) (chains : List Chain) (pass k : ℕ) 
     };
     lowers = λ d q. none_lowers (λ p. fault_in (through_chain j (first + p) d)) first pass s (λ p lt. ap (λ (y : Chain). fault_in (through_chain j (first + p) y)) (some_same d c (sym q ∙ its)) ∙ made.clear p lt);
     made = λ y q. (let e : x ≡ y = some_same x y (sym (set_at kept k x inside) ∙ ap (λ ks. slice_get ks k) (sym written) ∙ q) in ap (λ (z : Kept). z.limit) (sym e) ∙ limit);
+    remade = λ i m e. elim (set_other kept k x i m (ap (λ ks. slice_get ks i) (sym written) ∙ e)) [ inl q ↦ inl q | inr q ↦ inr (s.limit, ap (λ (z : Kept). z.limit) q.1 ∙ limit, ready.within) ];
   }
     where
       one : (i m : ℕ) (d : Chain) (y : Kept) → slice_get chains i ≡ Some d → y.limit ≡ Some m → (slice_get kept i ≡ Some y) ⊎ ((i ≡ k) × (y ≡ x)) → IsMade j first d s.limit m y.places
@@ -129,16 +108,11 @@ module _ (j : JobView) (first count : ℕ) (chains : List Chain) (pass k : ℕ) 
           subst (λ (a : Chain). IsMade j first a s.limit m y.places) chain
           (subst (λ (n : ℕ). IsMade j first c s.limit n y.places) same (subst (λ (z : Kept). IsMade j first c s.limit s.limit z.places) (sym r.1) made))
 
--- all places
-pub whole_selected : (j : JobView) (first count : ℕ) (chains : List Chain) (pass k : ℕ) → slice_get chains k ≡ Some (record { sites = []; under = None }) → (lanes : List LaneView) (kept now : List Kept) (s : Found) → IsReadyBelow j first count chains s.limit lanes kept
-    → (new : Kept) → new.limit ≡ Some s.limit → new.places ≡ range_with_len 0 s.limit → now ≡ slice_set kept k new → IsSelectedTo j first count chains pass k lanes now s s
-whole_selected j first count chains pass k its lanes kept now s ready new limit places written =
-    written_selected j first count chains pass k _ its lanes kept now s ready new limit (whole_made j first s.limit _ new.places refl places) written
-
 -- one more filter
-pub filter_selected : (j : JobView) (first count : ℕ) (chains : List Chain) (pass k parent site : ℕ) (u : Option ℕ) → (step : IsFilterStep chains k parent site u) → (mid after : List LaneView) (between now : List Kept) (a b c : Found)
-    → IsSelectedTo j first count chains pass parent mid between a b → IsNextSelected j first count chains pass k parent site u after now b c → IsSelectedTo j first count chains pass k after now a c
-filter_selected j first count chains pass k parent site u step mid after between now a b c h n = record {
+pub filter_selected : (j : JobView) (first count : ℕ) (chains : List Chain) (pass k parent site : ℕ) (u : Option ℕ) → (step : IsFilterStep chains k parent site u) → (mid after : List LaneView) (was between split now : List Kept) (a b c : Found) → split ≡ between
+    → IsSelectedTo j first count chains pass parent mid was between a b → IsNextSelected j first count chains pass k parent site u after split now b c
+    → IsSelectedTo j first count chains pass k after was now a c
+filter_selected j first count chains pass k parent site u step mid after was between split now a b c same h n = record {
   ready = n.ready;
   lowers = λ d q.
       subst (λ (x : Chain). Lowers (λ p. fault_in (through_chain j (first + p) x)) first pass a c) (some_same (longer step.up site u) d (sym step.own ∙ q))
@@ -146,35 +120,16 @@ filter_selected j first count chains pass k parent site u step mid after between
       (λ p lt. own_fault j first step.up site u step.alike p)
       (both_lower (λ p. fault_in (through_chain j (first + p) step.up)) (λ p. where_passed (through_chain j (first + p) step.up) (fault_in (truth_in j (first + p) u site))) first pass a b c (h.lowers step.up step.its_up) (n.lowers step.up step.its_up)));
   made = n.made;
+  remade = remade_then count was between now h.remade (subst (λ (ks : List Kept). AreRemade count ks now) same n.remade);
 }
 
 -- ---- whether it was there
-
-pub chain_at : (chains : List Chain) (steps : List Step) (k : ℕ) → AreSteps chains steps → k < length steps → (c : Chain) × (slice_get chains k ≡ Some c)
-chain_at chains steps k are lt =
-    let none : Chain = record { sites = []; under = None } in
-    (get_or chains k none, slice_get-get_or chains k none (let m = are.many in omega (arith, m, lt)))
 
 pub kept_inside : (j : JobView) (first limit : ℕ) (chains : List Chain) (steps : List Step) (kept : List Kept) (k : ℕ) → AreSteps chains steps → AreKept j first chains limit kept → k < length steps → k < length kept
 kept_inside j first limit chains steps kept k are h lt = let a = are.many in let b = h.many in omega (arith, a, b, lt)
 
 pub set_same : {A : Type 0} (xs : List A) (k : ℕ) (x : A) → slice_get xs k ≡ Some x → slice_set xs k x ≡ xs
 set_same xs k x h = ap (slice_set xs k) (sym (get_or_from_slice_get xs k x x h)) ∙ set-get_or xs k x
-
-module _ (old new : Kept) (limit : ℕ) (b : Bool) (none : old.limit ≡ None → (b ≡ false) × (new ≡ old)) (some : (made : ℕ) → old.limit ≡ Some made → (b ≡ true) × IsNarrowed limit made old new) where
-  pub was_made : b ≡ true → (made : ℕ) × (old.limit ≡ Some made) × IsNarrowed limit made old new
-  was_made e = go old.limit refl
-    where
-      go : (o : Option ℕ) → old.limit ≡ o → (made : ℕ) × (old.limit ≡ Some made) × IsNarrowed limit made old new
-      go None q = let w = none q in absurd (let f : true ≡ false = sym e ∙ w.0 in cc f)
-      go (Some made) q = (made, q, (some made q).1)
-
-  pub was_not : b ≡ false → new ≡ old
-  was_not e = go old.limit refl
-    where
-      go : (o : Option ℕ) → old.limit ≡ o → new ≡ old
-      go None q = (none q).1
-      go (Some made) q = absurd (let w = some made q in let f : true ≡ false = sym w.0 ∙ e in cc f)
 
 -- ---- One more filter of a step, over the selections of all steps.
 
@@ -206,9 +161,18 @@ module _ (j : JobView) (job : IsJob j) (first count pass : ℕ) (plan : PlanView
   pub from_inside : EachPlace from.places (λ q. q < f1.limit)
   from_inside q i = chosen_below (λ n. is_true (through_chain j (first + n) s.up)) q f1.limit (sym (ap (is_in q) from_is) ∙ i)
 
+  demanded : (p : ℕ) (T : ℕ → Bool) → is_in p from.places ≡ true → HasAllDemands j (first + p) T → Demands j (first + p) u T site
+  demanded p T i all =
+      let l = from_inside p i in
+      let le = ready.within in
+      let passed : is_true (through_chain j (first + p) s.up) ≡ true = sym (in_chosen (λ n. is_true (through_chain j (first + n) s.up)) p f1.limit l) ∙ sym (ap (is_in p) from_is) ∙ i in
+      let row = row_there j.dataset.rows (first + p) (omega (arith, l, le, within)) in
+      step_demanded j job (first + p) row.0 row.1 T all (longer s.up site u) tried s.up.sites site refl (ap is_true (sym (up_alike j first s.up site u s.alike p)) ∙ passed)
+
+  -- what is filled for it, the loop demands
   pub next_spends : (after : List LaneView) (start end : ℕ) → IsSpentOver j first u site from.places before after start end → Spends j first count before after start end
   next_spends after start end spent =
-      step_spends j first s.up site u s.alike job count f1.limit within ready.within tried before after start end (subst (λ (l : List ℕ). IsSpentOver j first u site l before after start end) from_is spent)
+      spends_filled j first count u site from.places before after start end spent (λ p i. (let l = from_inside p i in let le = ready.within in omega (arith, l, le))) demanded
 
   module _ (to : Kept) (now : List Kept) (after : List LaneView) (f2 : Found) (h : IsFilteredTo j first count u site pass from.places to after f1 f2) (written : now ≡ slice_set own 0 to) where
     done : IsFilteredTo j first count u site pass (chosen j first s.up f1.limit) to after f1 f2
@@ -219,26 +183,26 @@ module _ (j : JobView) (job : IsJob j) (first count pass : ℕ) (plan : PlanView
         lowers_as (where_in (λ q. fault_in (truth_in j (first + q) u site)) (chosen j first s.up f1.limit)) (λ q. where_passed (through_chain j (first + q) s.up) (fault_in (truth_in j (first + q) u site))) first pass f1 f2
         (λ q lt. ap (λ b. if b then fault_in (truth_in j (first + q) u site) else None) (in_chosen (λ n. is_true (through_chain j (first + n) s.up)) q f1.limit lt)) done.lowers
 
-    own_made : IsMade j first (longer s.up site u) f2.limit f2.limit to.places
-    own_made =
-        step_made j first s.up site u s.alike count pass to after f1 f1 f2
-        (none_lowers (λ q. fault_in (through_chain j (first + q) s.up)) first pass f1 (ready.kept_are.each parent f1.limit s.up from s.its_up here (limits from here)).clear)
-        done
-
     falls : f2.limit ≤ f1.limit
     falls = part.falls
 
-    own_selected : IsSelectedTo j first count p.chains pass k after (above ++ now) f2 f2
+    own_made : IsMade j first (longer s.up site u) f2.limit f2.limit to.places
+    own_made =
+        step_made j first s.up site u s.alike f1.limit f2.limit falls to.places done.left
+        (λ p lt. (ready.kept_are.each parent f1.limit s.up from s.its_up here (limits from here)).clear p (omega (arith, lt, falls))) part.clear
+
+    own_selected : IsSelectedTo j first count p.chains pass k after (above ++ own) (above ++ now) f2 f2
     own_selected =
         written_selected j first count p.chains pass k (longer s.up site u) s.own after (above ++ own) (above ++ now) f2
         (record { ready = h.ready; settled = h.settled; kept_are = kept_lower j first p.chains f1.limit f2.limit (above ++ own) falls ready.kept_are; within = omega (arith, falls, ready.within) })
         to h.its_limit own_made (ap (λ ks. above ++ ks) written ∙ set_behind above own to ∙ ap (λ n. slice_set (above ++ own) n to) many)
 
-    pub next_selected : IsNextSelected j first count p.chains pass k parent site u after (above ++ now) f1 f2
+    pub next_selected : IsNextSelected j first count p.chains pass k parent site u after (above ++ own) (above ++ now) f1 f2
     next_selected = record {
       ready = own_selected.ready;
       lowers = λ c q. subst (λ (y : Chain). Lowers (λ n. where_passed (through_chain j (first + n) y) (fault_in (truth_in j (first + n) u site))) first pass f1 f2) (some_same s.up c (sym s.its_up ∙ q)) part;
       made = own_selected.made;
+      remade = own_selected.remade;
     }
 
 -- ---- How selections are made.
@@ -266,17 +230,6 @@ module _ (j : JobView) (first count : ℕ) (u : Option ℕ) (s pass : ℕ) (sel 
       }
 
 module _ (count : ℕ) where
-  pub remade_then : (a b c : List Kept) → AreRemade count a b → AreRemade count b c → AreRemade count a c
-  remade_then a b c h k i m e = elim (k i m e) [ inl q ↦ h i m q | inr q ↦ inr q ]
-
-  -- one was made
-  pub remade_set : (kept : List Kept) (k : ℕ) (x : Kept) (now : List Kept) → now ≡ slice_set kept k x → IsMadeBelow count x → AreRemade count kept now
-  remade_set kept k x now written made = grind (arith, set_other)
-
-  -- the first behind others was made
-  pub remade_behind : (above own : List Kept) (x : Kept) (now : List Kept) → now ≡ slice_set own 0 x → IsMadeBelow count x → AreRemade count (above ++ own) (above ++ now)
-  remade_behind above own x now written made = remade_set (above ++ own) (length above) x (above ++ now) (ap (λ ks. above ++ ks) written ∙ set_behind above own x) made
-
   -- what was made stays so
   pub made_stays : (a b : List Kept) (k : ℕ) → AreRemade count a b → IsMadeAt count a k → IsMadeAt count b k
   made_stays a b k h made m e = elim (h k m e) [ inl q ↦ made m q | inr q ↦ q ]
@@ -285,8 +238,8 @@ module _ (count : ℕ) where
   made_set kept k x lt made m e = subst (λ (y : Kept). IsMadeBelow count y) (some_same x m (sym (set_at kept k x lt) ∙ e)) made
 
   -- a step that was selected
-  pub made_selected : (j : JobView) (first : ℕ) (chains : List Chain) (pass k : ℕ) (lanes : List LaneView) (kept : List Kept) (old new : Found) → IsSelectedTo j first count chains pass k lanes kept old new → IsMadeAt count kept k
-  made_selected j first chains pass k lanes kept old new h m e = (new.limit, h.made m e, h.ready.within)
+  pub made_selected : (j : JobView) (first : ℕ) (chains : List Chain) (pass k : ℕ) (lanes : List LaneView) (was kept : List Kept) (old new : Found) → IsSelectedTo j first count chains pass k lanes was kept old new → IsMadeAt count kept k
+  made_selected j first chains pass k lanes was kept old new h m e = (new.limit, h.made m e, h.ready.within)
 
   pub named_stays : (plan : PlanView) (a b : List Kept) (f : ℕ) → AreRemade count a b → IsNamedMade count plan a f → IsNamedMade count plan b f
   named_stays plan a b f h made s its = let w = made s its in (made_stays a b s.above h w.0, made_stays a b s.own h w.1)
@@ -297,37 +250,30 @@ module _ {V : Type 0} {D : V → Type 0} {g : _} (t : Turn V D g) (p : IsPlanOfT
   there : slice_get kept k ≡ Some (get_or kept k d)
   there = slice_get-get_or kept k d (kept_inside (turn_job t) t.first w.found.limit p.chains t.plan.now.steps kept k p.steps ready.kept_are inside)
 
-  narrowed_selected : (new : Kept) (made : ℕ) → (get_or kept k d).limit ≡ Some made → IsNarrowed w.found.limit made (get_or kept k d) new
-      → IsSelectedInTurn t p.chains k w.lanes.items (slice_set kept k new) w.found w.found × AreRemade t.count kept (slice_set kept k new)
+  -- one that was there
+  pub narrowed_selected : (new : Kept) (made : ℕ) → (get_or kept k d).limit ≡ Some made → IsNarrowed w.found.limit made (get_or kept k d) new
+      → IsSelectedInTurn t p.chains k w.lanes.items kept (slice_set kept k new) w.found w.found
   narrowed_selected new made limit narrowed =
-      let chain = chain_at p.chains t.plan.now.steps k p.steps inside in
-      let m = narrowed_made (turn_job t) t.first chain.0 w.found.limit made (get_or kept k d) new limit (ready.kept_are.each k made chain.0 (get_or kept k d) chain.1 there limit) narrowed in (
-        written_selected (turn_job t) t.first t.count p.chains t.pass k chain.0 chain.1 w.lanes.items kept (slice_set kept k new) w.found ready new m.0 m.1 refl,
-        remade_set t.count kept k new (slice_set kept k new) refl (w.found.limit, m.0, ready.within),
-      )
+      let chain = something_at p.chains k (let m = p.steps.many in omega (arith, m, inside)) in
+      let m = narrowed_made (turn_job t) t.first chain.0 w.found.limit made (get_or kept k d) new limit (ready.kept_are.each k made chain.0 (get_or kept k d) chain.1 there limit) narrowed in
+      written_selected (turn_job t) t.first t.count p.chains t.pass k chain.0 chain.1 w.lanes.items kept (slice_set kept k new) w.found ready new m.0 m.1 refl
 
   -- one that was made below the limit
-  pub made_again : (made : ℕ) → (get_or kept k d).limit ≡ Some made → made ≤ w.found.limit → IsSelectedInTurn t p.chains k w.lanes.items kept w.found w.found
+  pub made_again : (made : ℕ) → (get_or kept k d).limit ≡ Some made → made ≤ w.found.limit → IsSelectedInTurn t p.chains k w.lanes.items kept kept w.found w.found
   made_again made limit le =
-      subst (λ (ks : List Kept). IsSelectedInTurn t p.chains k w.lanes.items ks w.found w.found) (set_same kept k (get_or kept k d) there) (narrowed_selected (get_or kept k d) made limit (inl (le, refl))).0
+      subst (λ (ks : List Kept). IsSelectedInTurn t p.chains k w.lanes.items kept ks w.found w.found) (set_same kept k (get_or kept k d) there) (narrowed_selected (get_or kept k d) made limit (inl (le, refl)))
 
-  module _ (new : Kept) (b : Bool) (none : (get_or kept k d).limit ≡ None → (b ≡ false) × (new ≡ get_or kept k d)) (some : (made : ℕ) → (get_or kept k d).limit ≡ Some made → (b ≡ true) × IsNarrowed w.found.limit made (get_or kept k d) new) where
-    -- one that was there
-    pub there_selected : b ≡ true → IsSelectedInTurn t p.chains k w.lanes.items (slice_set kept k new) w.found w.found × AreRemade t.count kept (slice_set kept k new)
-    there_selected e = let was = was_made (get_or kept k d) new w.found.limit b none some e in narrowed_selected new was.0 was.1 was.2
-
+  module _ (new : Kept) (same : new ≡ get_or kept k d) where
     -- where none was, all is as before
-    pub none_there : b ≡ false → slice_set kept k new ≡ kept
-    none_there e = ap (slice_set kept k) (was_not (get_or kept k d) new w.found.limit b none some e) ∙ set_same kept k (get_or kept k d) there
+    pub none_there : slice_set kept k new ≡ kept
+    none_there = ap (slice_set kept k) same ∙ set_same kept k (get_or kept k d) there
 
     -- and all places are selected
-    pub block_selected : b ≡ false → slice_get t.plan.now.steps k ≡ Some Step.Block → (all : Kept) → all.limit ≡ Some w.found.limit → all.places ≡ range_with_len 0 w.found.limit
-        → IsSelectedInTurn t p.chains k w.lanes.items (slice_set (slice_set kept k new) k all) w.found w.found × AreRemade t.count kept (slice_set (slice_set kept k new) k all)
-    block_selected e block all limit places =
-        let same = ap (λ (ks : List Kept). slice_set ks k all) (none_there e) in (
-          whole_selected (turn_job t) t.first t.count p.chains t.pass k (p.steps.each k Step.Block block) w.lanes.items kept (slice_set (slice_set kept k new) k all) w.found ready all limit places same,
-          remade_set t.count kept k all (slice_set (slice_set kept k new) k all) same (w.found.limit, limit, ready.within),
-        )
+    pub block_selected : slice_get t.plan.now.steps k ≡ Some Step.Block → (all : Kept) → all.limit ≡ Some w.found.limit → all.places ≡ range_with_len 0 w.found.limit
+        → IsSelectedInTurn t p.chains k w.lanes.items kept (slice_set (slice_set kept k new) k all) w.found w.found
+    block_selected block all limit places =
+        written_selected (turn_job t) t.first t.count p.chains t.pass k _ (p.steps.each k Step.Block block) w.lanes.items kept (slice_set (slice_set kept k new) k all) w.found ready
+        all limit (whole_made (turn_job t) t.first w.found.limit _ all.places refl places) (ap (λ (ks : List Kept). slice_set ks k all) none_there)
 
 -- what a pass takes stays so
 pub pass_stays : (j : JobView) (count : ℕ) (plan : PlanView) (a b : List Kept) (n : ℕ) → AreRemade count a b → IsPassMade j count plan a n → IsPassMade j count plan b n
@@ -342,11 +288,6 @@ pass_stays j count plan a b n h made = record {
 
 -- ---- After all passes the selections that they take were made.
 
-pub all_at : (P : ℕ → Type 0) (xs : List ℕ) (k x : ℕ) → AllByRecursion P xs → slice_get xs k ≡ Some x → P x
-all_at P [] k x h e = cc e
-all_at P (y ∷ xs) zero x h e = let same : y ≡ x = cc e in subst P same h.0
-all_at P (y ∷ xs) (suc k) x h e = all_at P xs k x h.1 e
-
 module _ (j : JobView) (job : IsJob j) (count : ℕ) (plan : PlanView) (p : IsPlan j plan) (kept : List Kept) (made : (n : ℕ) → n < length (passes_in j) → IsPassMade j count plan kept n) where
   named_made : (f : ℕ) → IsCovered j f → IsNamedMade count plan kept f
   named_made f c =
@@ -355,7 +296,8 @@ module _ (j : JobView) (job : IsJob j) (count : ℕ) (plan : PlanView) (p : IsPl
       let lt = slice_get_within (numbered_passes j) c.pass c.numbered c.its_pass in
       let many = passes_count j in
       let at = contained_at c.result.covers f c.covers in
-      all_at (IsNamedMade count plan kept) c.result.covers at.0 f ((made c.pass (omega (arith, lt, many))).report c.numbered.result rep) at.1
+      all_get (IsNamedMade count plan kept) c.result.covers
+      (All-from_recursion (IsNamedMade count plan kept) c.result.covers ((made c.pass (omega (arith, lt, many))).report c.numbered.result rep)) at.0 f at.1
 
   covered_of : (f : ℕ) (x : FilterAt) → slice_get (graph_filters (job_graph j)) f ≡ Some x → (s : NamedSteps) → slice_get plan.filters f ≡ Some (Some s) → IsCovered j f
   covered_of f x its s named =
@@ -374,12 +316,8 @@ module _ (j : JobView) (job : IsJob j) (count : ℕ) (plan : PlanView) (p : IsPl
 
 -- ---- One pass after another over a block.
 
-or_none : (o : Option EntryFault) → o ≡ or_else o None
-or_none None = refl
-or_none (Some k) = refl
-
 module _ (j : JobView) (first count : ℕ) (before after : List LaneView) (start end : ℕ) (spends : Spends j first count before after start end) where
-  all_still : (u : Option ℕ) (p : ℕ) (cs : List ℕ) → AreAtHand j before u cs p → AreAtHand j after u cs p
+  all_still : (u : Option ℕ) (p : ℕ) (cs : List ℕ) → AreAtHand j first before u cs p → AreAtHand j first after u cs p
   all_still u p [] h = tt
   all_still u p (c ∷ cs) h = (still_at_hand j first count before after start end spends u p (source_at j u c) h.0, all_still u p cs h.1)
 
@@ -391,10 +329,10 @@ module _ (j : JobView) (first count : ℕ) (before after : List LaneView) (start
   still_read limit lower n le h m r k of p lt passed = all_still m.variation p r.inputs (h m r k of p (omega (arith, lt, le)) passed)
 
   -- the next pass was tried
-  pub next_searched : (chains : List Chain) (n : ℕ) (kept now : List Kept) (s t : Found) → IsSearchedTo j first count chains n before kept s → IsPassTried j first count chains n after now s t → IsSearchedTo j first count chains (n + 1) after now t
+  pub next_searched : (chains : List Chain) (n : ℕ) (kept now : List Kept) (s t : Found) → IsSearchedTo j first count chains n before kept s → IsPassTried j first count chains n after kept now s t → IsSearchedTo j first count chains (n + 1) after now t
   next_searched chains n kept now s t h k = record {
     ready = k.ready;
-    searched = pass_ends fault first count (λ p. None) n t (part_tried fault first count (λ p. fault p n) (λ p. fault p n) (λ p. None) n s t (pass_begins fault first count n s h.searched) (λ p lt. or_none (fault p n)) k.lowers) (λ p lt. refl);
+    searched = pass_searched fault first count n s t h.searched k.lowers;
     read = λ m lt. at m (lt_or_last m n lt);
   }
     where
@@ -404,17 +342,11 @@ module _ (j : JobView) (first count : ℕ) (before after : List LaneView) (start
 
 -- ---- the block's first fault
 
-same_fault : (j : JobView) (row : Option (List Value)) (p : Option Pass) → fault_in (outcome_of j row p) ≡ fault_of j.dataset row p
-same_fault j (Some row) None = refl
-same_fault j row p = refl
-
 -- where all passes were tried, the best fault is the first one of the block's rows
 pub first_searched : (j : JobView) (first count : ℕ) (s : Found) → first + count ≤ length j.dataset.rows → IsSearched (λ q n. pass_fault j (first + q) n) first count (length (passes_in j)) s
     → first_fault_from j.dataset first (slice_range j.dataset.rows first (first + count)) (passes_in j) ≡ s.best
 first_searched j first count s within h =
     let long : length (slice_range j.dataset.rows first (first + count)) ≡ count = range_length j.dataset.rows first (first + count) (omega arith) within ∙ (let e : first + count - first ≡ count = omega arith in e) in
-    searched j.dataset (passes_in j) (slice_range j.dataset.rows first (first + count)) first s
-    (subst (λ (n : ℕ). IsSearched (λ p i. fault_of j.dataset (slice_get (slice_range j.dataset.rows first (first + count)) p) (slice_get (passes_in j) i)) first n (length (passes_in j)) s) (sym long)
-    (searched_as (λ q n. pass_fault j (first + q) n) (λ p i. fault_of j.dataset (slice_get (slice_range j.dataset.rows first (first + count)) p) (slice_get (passes_in j) i)) first count (length (passes_in j)) s
-    (λ q n lt. same_fault j (slice_get j.dataset.rows (first + q)) (slice_get (passes_in j) n) ∙ ap (λ o. fault_of j.dataset o (slice_get (passes_in j) n)) (sym (row_in_block j.dataset.rows first (first + count) q (omega (arith, lt)))))
-    h))
+    searched j (passes_in j) (slice_range j.dataset.rows first (first + count)) first s (λ q n. pass_fault j (first + q) n)
+    (subst (λ (n : ℕ). IsSearched (λ q i. pass_fault j (first + q) i) first n (length (passes_in j)) s) (sym long) h)
+    (λ q n lt. ap (λ o. fault_in (outcome_of j o (slice_get (passes_in j) n))) (sym (row_in_block j.dataset.rows first (first + count) q (omega (arith, lt, long)))))

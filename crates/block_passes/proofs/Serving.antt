@@ -1,20 +1,20 @@
 -- What filling sites spends, what the actions of a loop read, how filling it lowers the limit, and the lanes of what is read.
 use Rattle.std.proofs.Common.{◌≡◌, ◌⊎◌, inl, inr, ℕ, ◌+◌, ◌<◌, Bool, true, false, List, Option, refl, sym, ◌∙◌, ap, arith, [], ◌∷◌, length, map, option_map, Some, subst, slice_get, get_or, unwrap_or, ◌≤◌, ◌&&◌, None, nat_lt, if◌then◌else◌, ℤ, Result, pos, filter, suc, drop, drop-cons, length-drop, IfSome, option_and_then}
 use Rattle.block_cache.specs.{begun_at, cells_at, IsSpentOver, LaneView, AreReady, AreSiteKinds, below_fault, fault_over, held_value, holds_at, is_held, IsFilledTo, IsSettled, kinds_of, lane_holds, PlaceFault, site_fault, value_for, value_of}
-use Rattle.loop_keys.specs.{HasAllDemands, IsClosed, job_graph, job_of, JobView, key, key_count, ArePlain, IsJob, IsPlainLoop, IsPlainVersion, IsSourceIn, row_of, site_in, source_at, Held, held_element, held_in, is_held as is_known, IsRight, version_in, key_under, Place, place_of, row_in}
+use Rattle.loop_keys.specs.{HasAllDemands, IsClosed, job_graph, job_of, JobView, key, key_count, ArePlain, IsJob, IsPlainLoop, IsPlainVersion, IsSourceIn, row_of, site_in, source_at, Held, held_in, IsRight, version_in, key_under, Place, place_of, row_in}
 use Rattle.expr_lanes.specs.{EachPlace, is_in, AreRising, at_place}
-use Rattle.block_passes.specs.{AreAtHand, AreLanesOf, ArePlainSources, CanServe, Demands, DemandsInputs, DemandsSource, element_fault, Found, HasHeld, inputs_fault, inputs_fault_in_turn, IsAtHand, IsKnown, IsLaneOf, IsNumberOf, IsPlainSource, IsReadOf, IsSelected, IsServable, IsServedInTurn, IsServedTo, IsSettledAt, IsWhole, KeepsRoom, Kept, Leaves, Lowers, noted, source_fault, source_fault_in_turn, source_in_turn, Spends, turn_job, where_in}
+use Rattle.block_passes.specs.{AreAtHand, AreLanesOf, ArePlainSources, CanServe, Demands, DemandsInputs, DemandsSource, element_fault, Found, HasHeld, inputs_fault, inputs_fault_in_turn, IsAtHand, IsKnown, IsLaneOf, IsNumberOf, IsPlainSource, IsReadOf, IsSelected, IsServable, IsServedInTurn, IsServedTo, IsSettledAt, IsSpentInTurn, IsWhole, KeepsRoom, Kept, Leaves, Lowers, noted, source_fault, source_fault_in_turn, source_in_turn, Spends, turn_job, where_in}
 use Rattle.block_passes.specs.declared.turn.Turn.{Turn}
 use Rattle.block_passes.specs.declared.turn.Work.{Work}
 use Rattle.block_cache.proofs.GrownLaws.{other_places}
-use Rattle.block_cache.proofs.Knowns.{same_holds, holds_is, holds_on, held_no_fault}
+use Rattle.block_cache.proofs.Knowns.{same_holds, holds_on, held_no_fault}
 use Rattle.loop_keys.proofs.FillLaws.{grows_on}
 use Rattle.lemmas.proofs.{AllByRecursion, get_or_from_slice_get, recursion_from_All, and_false, and_true, Decides-ltb, lt_says, nil_from_length, same_some, slice_get-get_or, slice_get_read, something_at, All-from_recursion, slice_get_within}
 use Rattle.rdf_values.specs.{ActionKind, AreAccepted, ColType, Column, columns_of, FitsKind, FitsRow, fn_names, history, kind_at, scope_of, Statement, Under, Value, EntryFault}
 use Rattle.rdf_values.specs.declared.scripts.statement.Statement.TheVariants.{Action}
 use Rattle.expr_check.specs.{CheckedExpr, is_vector}
 use Rattle.expr_check.proofs.Plain.{columns_scalar, plain_typed}
-use Rattle.rdf_model.specs.{Dataset, FitsOutcome, ◌>>=◌, fault_in, Faults, Gives, Needs, Outcome, tag_element, with_needs, FitsFeed, for_all, is_set}
+use Rattle.rdf_model.specs.{Dataset, FitsOutcome, ◌>>=◌, fault_in, Faults, Gives, Needs, Outcome, tag_element, FitsFeed, for_all, is_set}
 use Rattle.graph_numbers.specs.{cell_value, graph_under, IsSiteExpr, ResultAt, results, Source, source_value, version_at, graph_sites, HasInputs, HasSourceIn, IfGiven}
 use Rattle.graph_numbers.proofs.Placing.{Extends, itself, shorter}
 use Rattle.graph_numbers.proofs.Passing.{AreVisible, action_visible}
@@ -27,10 +27,9 @@ use Rattle.loop_keys.proofs.TableLaws.{not_stored}
 use Rattle.block_passes.proofs.FirstLengths.{fits_at as cell_fits}
 use Rattle.block_passes.proofs.Searching.{left_below, over_lowers, selected_or_none, filter_twice, none_lowers, both_lower, lowers_as, or_else, inputs_fault as all_fault}
 use Rattle.block_cache.proofs.LaneSteps.{filter_all}
-use Rattle.rdf_model.proofs.Missing.{alike_is, tag_alike}
 use Rattle.expr_eval.specs.{Input, input_outcome}
 use Rattle.loop_keys.proofs.KeyLaws.{key_small}
-use Rattle.block_cache.proofs.BlockLaws.{held_of_lane, lane_held, right_value, value_told}
+use Rattle.block_cache.proofs.BlockLaws.{held_of_lane, lane_held, right_value}
 use Rattle.block_cache.proofs.CanTries.{got_kind}
 use Rattle.block_cache.proofs.OverLaws.{held_true}
 use Rattle.expr_lanes.proofs.Sequence.{filtered_in, in_filter}
@@ -227,13 +226,18 @@ module _ (j : JobView) (first count : ℕ) (u : Option ℕ) (s pass : ℕ) (sel 
 -- ---- what gives a version its value
 
 -- what was filled for it, the loop demands
-pub source_spends : (j : JobView) (first count : ℕ) (u : Option ℕ) (s limit : ℕ) (x : Source) → ((D : ℕ → Bool) → IsSourceIn D x → D s ≡ true) → (sel : List ℕ) → limit ≤ count → EachPlace sel (λ p. p < limit)
-    → ((p : ℕ) (T : ℕ → Bool) → is_in p sel ≡ true → HasAllDemands j (first + p) T → DemandsSource j (first + p) u T x)
-    → (before after : List LaneView) (start end : ℕ) → IsSpentOver j first u s sel before after start end → Spends j first count before after start end
-source_spends j first count u s limit x has sel le inside demanded before after start end spent =
-    spends_filled j first count u s sel before after start end spent
-    (λ p i. (let l = inside p i in omega (arith, l, le)))
-    (λ p T i all. (let d = demanded p T i all in (d.0, d.1, has d.0 d.2)))
+pub source_leaves : {V : Type 0} {D : V → Type 0} {g : _} (t : Turn V D g) (u : Option ℕ) (s limit : ℕ) (x : Source) → ((E : ℕ → Bool) → IsSourceIn E x → E s ≡ true)
+    → (sel : List ℕ) → limit ≤ t.count → EachPlace sel (λ p. p < limit)
+    → ((p : ℕ) (T : ℕ → Bool) → is_in p sel ≡ true → HasAllDemands (turn_job t) (t.first + p) T → DemandsSource (turn_job t) (t.first + p) u T x)
+    → (old new : Work) (start end : ℕ) → IsSpentInTurn t u s sel old new start end → KeepsRoom old new → Leaves t old new start end
+source_leaves t u s limit x has sel le inside demanded old new start end spent room = record {
+  spends =
+      spends_filled (turn_job t) t.first t.count u s sel old.lanes.items new.lanes.items start end spent
+      (λ p i. (let l = inside p i in omega (arith, l, le)))
+      (λ p T i all. (let d = demanded p T i all in (d.0, d.1, has d.0 d.2)));
+  scratch = room.scratch;
+  levels = room.levels;
+}
 
 -- what faults at no selected place lowers nothing
 pub none_served : (j : JobView) (first count : ℕ) (part : ℕ → Option EntryFault) (pass : ℕ) (to : Kept) (lanes : List LaneView) (s : Found) → AreReady j first count lanes → to.limit ≡ Some s.limit → EachPlace to.places (λ p. p < s.limit) → ((p : ℕ) → p < s.limit → IsSettledAt lanes p)
@@ -255,8 +259,8 @@ module _ (j : JobView) (first : ℕ) (u : Option ℕ) (col : ℕ) (x : Source) (
       none None = refl
       none (Some v) = refl
 
-  pub column_held : (lanes : List LaneView) (sel : List ℕ) → EachPlace sel (λ p. IsAtHand j lanes u p x)
-  column_held lanes sel p i = subst (λ (y : Source). IsAtHand j lanes u p y) (sym e) tt
+  pub column_held : (lanes : List LaneView) (sel : List ℕ) → EachPlace sel (λ p. IsAtHand j first lanes u p x)
+  column_held lanes sel p i = subst (λ (y : Source). IsAtHand j first lanes u p y) (sym e) tt
 
 -- the places that are left were selected, and are below the limit
 module _ (j : JobView) (first count : ℕ) (part : ℕ → Option EntryFault) (pass : ℕ) (sel : List ℕ) (to : Kept) (lanes : List LaneView) (old new : Found) (h : IsServedTo j first count part pass sel to lanes old new) where
@@ -296,18 +300,8 @@ module _ (j : JobView) (first count : ℕ) (a b : ℕ → Option EntryFault) (pa
 
 -- ---- Elements of a site's vector, where the site's value is held.
 
-tag_told : (tags n : ℕ) (v : Value) → tag_element {M = ℕ} tags n v ≡ with_needs (tag_element {M = ⊥} tags n v)
-tag_told tags n v = alike_is _ _ (tag_alike ⊥ ℕ [] [] [] tags n v)
-
-given_back : (o : Outcome ⊥ Value) (v : Value) → with_needs {M = ℕ} o ≡ Gives v → o ≡ Gives v
-given_back o v e = grind arith
-
 pub given_none : (o : Outcome ⊥ Value) → fault_in o ≡ None → (v : Value) × (o ≡ Gives v)
 given_none o h = grind arith
-
-pub known_held : (h : Held) (n tags : ℕ) (v : Value) → held_element 0 h n tags ≡ Gives v → is_known h ≡ true
-known_held Held.Nothing n tags v e = cc e
-known_held h n tags v e = refl
 
 -- a site has a lane
 pub lane_there : (j : JobView) (first count : ℕ) (u : Option ℕ) (s : ℕ) → s < length (graph_sites (job_graph j)) → (lanes : List LaneView) → AreReady j first count lanes → (l : LaneView) × (slice_get lanes (key (job_graph j) s u) ≡ Some l)
@@ -365,26 +359,6 @@ module _ (j : JobView) (first count : ℕ) (u : Option ℕ) (s : ℕ) (inside : 
       scalar_input tags n (inl x) = input_other tags n (Value.Int x.0) (ap (input_outcome 0) x.1) refl
       scalar_input tags n (inr x) = input_other tags n (Value.Bool x.0) (ap (input_outcome 0) x.1) refl
 
-  held_site : holds_at lanes k p ≡ true → (w : Value) × (cell ≡ held_value w) × (site_in {M = ⊥} j (first + p) u s ≡ Gives w)
-  held_site holds = let l = lane_there j first count u s inside lanes ready in (value_of l.0 p, cell_is l.0 l.1 holds, site_gives l.0 l.1 holds)
-
-  -- ---- its elements
-
-  module _ (n tags : ℕ) where
-    pub hand_given : holds_at lanes k p ≡ true → (v : Value) → (site_in {M = ⊥} j (first + p) u s >>= tag_element tags n) ≡ Gives v → IsAtHand j lanes u p (Source.Element s n tags)
-    hand_given holds v e =
-        let w = held_site holds in (
-          v,
-          ap (λ (x : Held). held_element 0 x n tags) w.1 ∙ ap (λ (o : Outcome ℕ Value). o >>= tag_element tags n) (value_told 0 w.0) ∙ tag_told tags n w.0
-              ∙ ap (with_needs {M = ℕ}) (sym (ap (λ (o : Outcome ⊥ Value). o >>= tag_element tags n) w.2) ∙ e),
-        )
-
-    pub hand_holds : IsAtHand j lanes u p (Source.Element s n tags) → holds_at lanes k p ≡ true
-    hand_holds h = sym (holds_is (key_count (job_graph j)) lanes k p) ∙ known_held cell n tags h.0 h.1
-
-    pub hand_value : IsAtHand j lanes u p (Source.Element s n tags) → (v : Value) × ((site_in {M = ⊥} j (first + p) u s >>= tag_element tags n) ≡ Gives v)
-    hand_value h = grind (arith, held_site, hand_holds, given_back, tag_told, value_told)
-
 -- the number of an element
 pub number_of : (o : Outcome ⊥ Value) (tags n : ℕ) (zs : List ℤ) (r : Result ℤ EntryFault) → o ≡ Gives (Value.Vect zs) → IsNumberOf (tag_element {M = ⊥} tags n (Value.Vect zs)) r → IsNumberOf (o >>= tag_element tags n) r
 number_of o tags n zs r e h = subst (λ (x : Outcome ⊥ Value). IsNumberOf (x >>= tag_element tags n) r) (sym e) h
@@ -424,21 +398,21 @@ module _ (j : JobView) (first count : ℕ) (u : Option ℕ) (s n tags pass : ℕ
       (λ p. element_or (site_in {M = ⊥} j (first + p) u s) tags n)
 
   -- the elements that are left are at hand
-  pub element_held : s < length (graph_sites (job_graph j)) → f2.limit ≤ count → EachPlace mid.places (λ p. holds_at lanes (key (job_graph j) s u) p ≡ true) → EachPlace to.places (λ p. IsAtHand j lanes u p (Source.Element s n tags))
+  pub element_held : s < length (graph_sites (job_graph j)) → f2.limit ≤ count → EachPlace mid.places (λ p. holds_at lanes (key (job_graph j) s u) p ≡ true) → EachPlace to.places (λ p. IsAtHand j first lanes u p (Source.Element s n tags))
   element_held inside le holds p i =
       let was = served_among j first count (element_fault j first u s n tags) pass mid.places to lanes f1 f2 k p i in
       let lt = served_inside j first count (element_fault j first u s n tags) pass mid.places to lanes f1 f2 k p i in
       let clear : element_fault j first u s n tags p ≡ None = sym (ap (λ b. if b then element_fault j first u s n tags p else None) was) ∙ k.lowers.clear p lt in
       let v = given_none (site_in {M = ⊥} j (first + p) u s >>= tag_element tags n) clear in
-      hand_given j first count u s inside lanes k.ready p (omega (arith, lt, le)) n tags (holds p was) v.0 v.1
+      (holds p was, v.0, v.1)
 
 -- ---- Filling what an action reads, one version after another.
 
 -- what is at hand stays so
-pub still_at_hand : (j : JobView) (first count : ℕ) (before after : List LaneView) (start end : ℕ) → Spends j first count before after start end → (u : Option ℕ) (p : ℕ) (x : Source) → IsAtHand j before u p x → IsAtHand j after u p x
+pub still_at_hand : (j : JobView) (first count : ℕ) (before after : List LaneView) (start end : ℕ) → Spends j first count before after start end → (u : Option ℕ) (p : ℕ) (x : Source) → IsAtHand j first before u p x → IsAtHand j first after u p x
 still_at_hand j first count before after start end spends u p (Source.Cell col) h = tt
 still_at_hand j first count before after start end spends u p (Source.Site s) h = holds_on (key_count (job_graph j)) before after (key (job_graph j) s u) p (spends.grows p) h
-still_at_hand j first count before after start end spends u p (Source.Element s k tags) h = grind (arith, known_held)
+still_at_hand j first count before after start end spends u p (Source.Element s k tags) h = (holds_on (key_count (job_graph j)) before after (key (job_graph j) s u) p (spends.grows p) h.0, h.1, h.2)
 
 of_set : (D : ℕ → Bool) (x : Source) → HasSourceIn (λ s. D s ≡ true) x → IsSourceIn D x
 of_set D (Source.Cell col) h = tt
@@ -451,8 +425,8 @@ none_given o X h x = grind arith
 pub none_clear : (j : JobView) (first : ℕ) (u : Option ℕ) (inputs : List ℕ) → inputs ≡ [] → (sel : List ℕ) → EachPlace sel (λ p. inputs_fault j first u inputs p ≡ None)
 none_clear j first u inputs e sel p i = ap (λ l. inputs_fault j first u l p) e
 
-pub none_held : (j : JobView) (lanes : List LaneView) (u : Option ℕ) (inputs : List ℕ) → inputs ≡ [] → (sel : List ℕ) → EachPlace sel (AreAtHand j lanes u inputs)
-none_held j lanes u inputs e sel p i = subst (λ (l : List ℕ). AreAtHand j lanes u l p) (sym e) tt
+pub none_held : (j : JobView) (first : ℕ) (lanes : List LaneView) (u : Option ℕ) (inputs : List ℕ) → inputs ≡ [] → (sel : List ℕ) → EachPlace sel (AreAtHand j first lanes u inputs)
+none_held j first lanes u inputs e sel p i = subst (λ (l : List ℕ). AreAtHand j first lanes u l p) (sym e) tt
 
 module _ (j : JobView) (first : ℕ) (u : Option ℕ) (inputs cs : List ℕ) (c : ℕ) (e : inputs ≡ c ∷ cs) where
   -- ---- what is asked
@@ -479,10 +453,10 @@ module _ (j : JobView) (first : ℕ) (u : Option ℕ) (inputs cs : List ℕ) (c 
           served_then j first count (source_fault j first u (source_at j u c)) (inputs_fault j first u cs) pass sel mid to between lanes f0 f1 f2 h k (inputs_fault j first u inputs)
           (λ p. sym (all_fault (version_in j (first + p) u) c cs) ∙ ap (λ l. inputs_fault j first u l p) (sym e))
 
-      pub inputs_held : (start end : ℕ) → Spends j first count between lanes start end → EachPlace mid.places (λ p. IsAtHand j between u p (source_at j u c)) → EachPlace to.places (AreAtHand j lanes u cs) → EachPlace to.places (AreAtHand j lanes u inputs)
+      pub inputs_held : (start end : ℕ) → Spends j first count between lanes start end → EachPlace mid.places (λ p. IsAtHand j first between u p (source_at j u c)) → EachPlace to.places (AreAtHand j first lanes u cs) → EachPlace to.places (AreAtHand j first lanes u inputs)
       inputs_held start end spends one rest p i =
           let was = served_among j first count (inputs_fault j first u cs) pass mid.places to lanes f1 f2 k p i in
-          subst (λ (l : List ℕ). AreAtHand j lanes u l p) (sym e)
+          subst (λ (l : List ℕ). AreAtHand j first lanes u l p) (sym e)
           (still_at_hand j first count between lanes start end spends u p (source_at j u c) (one p was), rest p i)
 
 -- so many of the versions were served at the places of a selection: what is left of it, and what follows where the others are served there
@@ -493,7 +467,7 @@ pub record AreServedTo {V : Type 0} {D : V → Type 0} {g : _} (t : Turn V D g) 
   pub demanded : (p : ℕ) (T : ℕ → Bool) → is_in p to.places ≡ true → HasAllDemands (turn_job t) (t.first + p) T → DemandsInputs (turn_job t) (t.first + p) u T (drop n inputs)
   pub served : (last : Kept) (lanes : List LaneView) (f : Found) → IsServedInTurn t (inputs_fault_in_turn t u (drop n inputs)) to.places last lanes w.found f → IsServedInTurn t (inputs_fault_in_turn t u inputs) sel last lanes old.found f
   pub held : (last : Kept) (lanes : List LaneView) (f : Found) → IsServedInTurn t (inputs_fault_in_turn t u (drop n inputs)) to.places last lanes w.found f → (end : ℕ) → Spends (turn_job t) t.first t.count w.lanes.items lanes steps end
-      → EachPlace last.places (AreAtHand (turn_job t) lanes u (drop n inputs)) → EachPlace last.places (AreAtHand (turn_job t) lanes u inputs)
+      → EachPlace last.places (AreAtHand (turn_job t) t.first lanes u (drop n inputs)) → EachPlace last.places (AreAtHand (turn_job t) t.first lanes u inputs)
 
 module _ {V : Type 0} {D : V → Type 0} {g : _} (t : Turn V D g) (u : Option ℕ) (inputs : List ℕ) where
   pub begin_served : (w : Work) (to : Kept) (steps : ℕ) → IsKnown t w → IsSelected w.found.limit to
@@ -510,7 +484,7 @@ module _ {V : Type 0} {D : V → Type 0} {g : _} (t : Turn V D g) (u : Option �
   module _ (sel : List ℕ) (old : Work) (start n : ℕ) (w : Work) (to : Kept) (steps : ℕ) (h : AreServedTo t u inputs sel old start n w to steps) where
     -- the next one is served
     pub next_served : n < length inputs → (now : Work) (left : Kept) (after : ℕ) → Leaves t w now steps after → IsServedInTurn t (source_fault_in_turn t u (get_or inputs n 0)) to.places left now.lanes.items w.found now.found
-        → EachPlace left.places (λ p. IsAtHand (turn_job t) now.lanes.items u p (source_in_turn t u (get_or inputs n 0))) → AreServedTo t u inputs sel old start (n + 1) now left after
+        → EachPlace left.places (λ p. IsAtHand (turn_job t) t.first now.lanes.items u p (source_in_turn t u (get_or inputs n 0))) → AreServedTo t u inputs sel old start (n + 1) now left after
     next_served low now left after l s one =
         let j = turn_job t in
         let c = get_or inputs n 0 in
@@ -532,7 +506,7 @@ module _ {V : Type 0} {D : V → Type 0} {g : _} (t : Turn V D g) (u : Option �
         }
 
     -- which is at hand
-    pub hand_served : n < length inputs → EachPlace to.places (λ p. source_fault_in_turn t u (get_or inputs n 0) p ≡ None) → EachPlace to.places (λ p. IsAtHand (turn_job t) w.lanes.items u p (source_in_turn t u (get_or inputs n 0)))
+    pub hand_served : n < length inputs → EachPlace to.places (λ p. source_fault_in_turn t u (get_or inputs n 0) p ≡ None) → EachPlace to.places (λ p. IsAtHand (turn_job t) t.first w.lanes.items u p (source_in_turn t u (get_or inputs n 0)))
         → AreServedTo t u inputs sel old start (n + 1) w to steps
     hand_served low clear hand =
         next_served low w to steps (record { spends = spends_none (turn_job t) t.first t.count w.lanes.items steps; scratch = refl; levels = refl })
@@ -542,13 +516,14 @@ module _ {V : Type 0} {D : V → Type 0} {g : _} (t : Turn V D g) (u : Option �
     next_demanded low p T i all = first_demanded (turn_job t) t.first u (drop n inputs) (drop (suc n) inputs) (get_or inputs n 0) (drop-cons inputs n 0 low) (t.first + p) T (h.demanded p T i all)
 
     -- none is left
-    pub all_served : length inputs ≤ n → IsServedInTurn t (inputs_fault_in_turn t u inputs) sel to w.lanes.items old.found w.found × EachPlace to.places (AreAtHand (turn_job t) w.lanes.items u inputs)
+    pub all_served : length inputs ≤ n
+        → IsServedInTurn t (inputs_fault_in_turn t u inputs) sel to w.lanes.items old.found w.found × EachPlace to.places (AreAtHand (turn_job t) t.first w.lanes.items u inputs)
     all_served le =
         let j = turn_job t in
         let e : drop n inputs ≡ [] = nil_from_length (drop n inputs) (let l = length-drop n inputs in omega (arith, l, le)) in
         let none =
         none_served j t.first t.count (inputs_fault_in_turn t u (drop n inputs)) t.pass to w.lanes.items w.found h.known.ready h.selected.made h.selected.inside h.known.settled (none_clear j t.first u (drop n inputs) e to.places) in
-        (h.served to w.lanes.items w.found none, h.held to w.lanes.items w.found none steps (spends_none j t.first t.count w.lanes.items steps) (none_held j w.lanes.items u (drop n inputs) e to.places))
+        (h.served to w.lanes.items w.found none, h.held to w.lanes.items w.found none steps (spends_none j t.first t.count w.lanes.items steps) (none_held j t.first w.lanes.items u (drop n inputs) e to.places))
 
 cell_given : (o : Option (List Value)) (col : ℕ) (v : Value) → option_and_then (λ row. slice_get row col) o ≡ Some v → cell_value {M = ⊥} (slice_get (unwrap_or o []) col) ≡ Gives v
 cell_given None col v h = cc h
@@ -579,6 +554,18 @@ three_given f cs e v w x p q r = absurd (omega (arith, e))
 suits_one : (k : ActionKind) (x : Lane) (place : ℕ) → length (columns_of k) ≡ 1 → FitsFeed k (lane_value x place ∷ []) → SuitsAt k (One x) place
 suits_one k x place n f = grind (arith, numeric_fits, single_fits, integer_fits)
 
+suits_weighted : (k : ActionKind) (edges : List ℤ) (c n : List ℕ) (x w : Lane) (place : ℕ) → k ≡ ActionKind.Histo1D edges c (Some n) → FitsFeed k (lane_value x place ∷ lane_value w place ∷ [])
+    → SuitsAt k (Weighted x w) place
+suits_weighted k edges c n x w place e f = rw e (let g = rw e at f in weighted_fits g.kinds (lane_value x place) (lane_value w place) g.permitted g.fit)
+
+suits_pair : (k : ActionKind) (xs ys : List ℤ) (c d : List ℕ) (x y : Lane) (place : ℕ) → k ≡ ActionKind.Histo2D xs ys c d None → FitsFeed k (lane_value x place ∷ lane_value y place ∷ [])
+    → SuitsAt k (Pair x y) place
+suits_pair k xs ys c d x y place e f = rw e (let g = rw e at f in pair_fits g.kinds (lane_value x place) (lane_value y place) g.permitted g.fit)
+
+suits_triple : (k : ActionKind) (xs ys : List ℤ) (c d n : List ℕ) (x y w : Lane) (place : ℕ) → k ≡ ActionKind.Histo2D xs ys c d (Some n)
+    → FitsFeed k (lane_value x place ∷ lane_value y place ∷ lane_value w place ∷ []) → SuitsAt k (WeightedPair x y w) place
+suits_triple k xs ys c d n x y w place e f = rw e (let g = rw e at f in triple_fits g.kinds (lane_value x place) (lane_value y place) (lane_value w place) g.permitted g.fit)
+
 module _ (f : ℕ → Outcome ⊥ Value) (cs : List ℕ) where
   module _ (P : ℕ → Type 0) (hand : AllByRecursion P cs) (place : ℕ) (k : ActionKind) (count : length cs ≡ length (columns_of k)) (fits : (vs : List Value) → for_all f cs ≡ Gives vs → FitsFeed k vs) where
     pub lanes_one : length cs ≡ 1 → (x : Lane) → (P (get_or cs 0 0) → IsLaneOf (f (get_or cs 0 0)) x place) → AreLanesOf (for_all f cs) k (One x) place
@@ -586,48 +573,16 @@ module _ (f : ℕ → Outcome ⊥ Value) (cs : List ℕ) where
 
     pub lanes_weighted : (edges : List ℤ) (c n : List ℕ) → k ≡ ActionKind.Histo1D edges c (Some n) → (x w : Lane) → (P (get_or cs 0 0) → IsLaneOf (f (get_or cs 0 0)) x place) → (P (get_or cs 1 0) → IsLaneOf (f (get_or cs 1 0)) w place)
         → AreLanesOf (for_all f cs) k (Weighted x w) place
-    lanes_weighted edges c n e x w lx lw =
-        let l : length cs ≡ 2 = count ∙ ap (λ (z : ActionKind). length (columns_of z)) e in
-        let a = lx (All-from_recursion P cs hand 0 0 (omega (arith, l))) in
-        let b = lw (All-from_recursion P cs hand 1 0 (omega (arith, l))) in
-        let given = two_given f cs l (lane_value x place) (lane_value w place) a.value b.value in
-        let g : FitsFeed (ActionKind.Histo1D edges c (Some n)) (lane_value x place ∷ lane_value w place ∷ []) = subst (λ (z : ActionKind). FitsFeed z (lane_value x place ∷ lane_value w place ∷ [])) e (fits _ given) in
-        record {
-          there = (a.there, b.there);
-          values = given;
-          suits = subst (λ (z : ActionKind). SuitsAt z (Weighted x w) place) (sym e) (weighted_fits g.kinds (lane_value x place) (lane_value w place) g.permitted g.fit);
-        }
+    lanes_weighted edges c n e x w lx lw = grind (arith, All-from_recursion, two_given, suits_weighted)
 
     pub lanes_pair : (xs ys : List ℤ) (c d : List ℕ) → k ≡ ActionKind.Histo2D xs ys c d None → (x y : Lane) → (P (get_or cs 0 0) → IsLaneOf (f (get_or cs 0 0)) x place) → (P (get_or cs 1 0) → IsLaneOf (f (get_or cs 1 0)) y place)
         → AreLanesOf (for_all f cs) k (Pair x y) place
-    lanes_pair xs ys c d e x y lx ly =
-        let l : length cs ≡ 2 = count ∙ ap (λ (z : ActionKind). length (columns_of z)) e in
-        let a = lx (All-from_recursion P cs hand 0 0 (omega (arith, l))) in
-        let b = ly (All-from_recursion P cs hand 1 0 (omega (arith, l))) in
-        let given = two_given f cs l (lane_value x place) (lane_value y place) a.value b.value in
-        let g : FitsFeed (ActionKind.Histo2D xs ys c d None) (lane_value x place ∷ lane_value y place ∷ []) = subst (λ (z : ActionKind). FitsFeed z (lane_value x place ∷ lane_value y place ∷ [])) e (fits _ given) in
-        record {
-          there = (a.there, b.there);
-          values = given;
-          suits = subst (λ (z : ActionKind). SuitsAt z (Pair x y) place) (sym e) (pair_fits g.kinds (lane_value x place) (lane_value y place) g.permitted g.fit);
-        }
+    lanes_pair xs ys c d e x y lx ly = grind (arith, All-from_recursion, two_given, suits_pair)
 
     pub lanes_triple : (xs ys : List ℤ) (c d n : List ℕ) → k ≡ ActionKind.Histo2D xs ys c d (Some n) → (x y w : Lane)
         → (P (get_or cs 0 0) → IsLaneOf (f (get_or cs 0 0)) x place) → (P (get_or cs 1 0) → IsLaneOf (f (get_or cs 1 0)) y place) → (P (get_or cs 2 0) → IsLaneOf (f (get_or cs 2 0)) w place)
         → AreLanesOf (for_all f cs) k (WeightedPair x y w) place
-    lanes_triple xs ys c d n e x y w lx ly lw =
-        let l : length cs ≡ 3 = count ∙ ap (λ (z : ActionKind). length (columns_of z)) e in
-        let a = lx (All-from_recursion P cs hand 0 0 (omega (arith, l))) in
-        let b = ly (All-from_recursion P cs hand 1 0 (omega (arith, l))) in
-        let o = lw (All-from_recursion P cs hand 2 0 (omega (arith, l))) in
-        let given = three_given f cs l (lane_value x place) (lane_value y place) (lane_value w place) a.value b.value o.value in
-        let g : FitsFeed (ActionKind.Histo2D xs ys c d (Some n)) (lane_value x place ∷ lane_value y place ∷ lane_value w place ∷ []) =
-        subst (λ (z : ActionKind). FitsFeed z (lane_value x place ∷ lane_value y place ∷ lane_value w place ∷ [])) e (fits _ given) in
-        record {
-          there = (a.there, b.there, o.there);
-          values = given;
-          suits = subst (λ (z : ActionKind). SuitsAt z (WeightedPair x y w) place) (sym e) (triple_fits g.kinds (lane_value x place) (lane_value y place) (lane_value w place) g.permitted g.fit);
-        }
+    lanes_triple xs ys c d n e x y w lx ly lw = grind (arith, All-from_recursion, three_given, suits_triple)
 
 -- ---- What the lane of a site has at a place.
 
@@ -677,21 +632,21 @@ module _ (j : JobView) (first count : ℕ) (u : Option ℕ) (kinds : List ColTyp
   pub key_inside : (lanes : List LaneView) → AreReady j first count lanes → k < length lanes
   key_inside lanes ready = let many = ready.many in let small = key_small (job_graph j) site_is.0 u site_inside in let same = site_is.2 in omega (arith, many, small, same)
 
-  pub lane_gives : (lanes : List LaneView) → AreReady j first count lanes → (fed : Lane) → ((l : LaneView) → slice_get lanes k ≡ Some l → HasHeld l fed) → (p : ℕ) → p < count → IsAtHand j lanes u p x
-      → IsLaneOf (source_value {M = ⊥} (row_of j (first + p)) (site_in j (first + p) u) x) fed p
+  pub lane_gives : (lanes : List LaneView) → AreReady j first count lanes → (fed : Lane) → ((l : LaneView) → slice_get lanes k ≡ Some l → HasHeld l fed)
+      → (p : ℕ) → p < count → IsAtHand j first lanes u p x → IsLaneOf (source_value {M = ⊥} (row_of j (first + p)) (site_in j (first + p) u) x) fed p
   lane_gives lanes ready fed has p low hand =
       let got = something_at lanes k (key_inside lanes ready) in
       let l = got.0 in
       let has_p = has l got.1 p (let c = ready.counts k l (slice_get_within lanes k l got.1) in let e = ap (λ (y : LaneView). y.count) (get_or_from_slice_get lanes k l l got.1) in omega (arith, c, e, low)) in
       let at : slice_get lanes (key (job_graph j) site_is.0 u) ≡ Some l = ap (slice_get lanes) site_is.2 ∙ got.1 in
-      let holds : holds_at lanes (key (job_graph j) site_is.0 u) p ≡ true = subst (IsAtHand j lanes u p) site_is.1 hand in
+      let holds : holds_at lanes (key (job_graph j) site_is.0 u) p ≡ true = subst (IsAtHand j first lanes u p) site_is.1 hand in
       record {
         there = has_p.0;
         value = ap (source_value {M = ⊥} (row_of j (first + p)) (site_in j (first + p) u)) site_is.1 ∙ site_gives j first count u site_is.0 site_inside lanes ready p low l at holds ∙ ap Gives (sym has_p.1);
       }
 
   pub lanes_give : (lanes : List LaneView) → AreReady j first count lanes → (o : Option Lane) → ((l : LaneView) → slice_get lanes k ≡ Some l → IfSome o (HasHeld l))
-      → IfSome o (λ fed. (p : ℕ) → p < count → IsAtHand j lanes u p x → IsLaneOf (source_value {M = ⊥} (row_of j (first + p)) (site_in j (first + p) u) x) fed p)
+      → IfSome o (λ fed. (p : ℕ) → p < count → IsAtHand j first lanes u p x → IsLaneOf (source_value {M = ⊥} (row_of j (first + p)) (site_in j (first + p) u) x) fed p)
   lanes_give lanes ready None has = tt
   lanes_give lanes ready (Some fed) has = lane_gives lanes ready fed has
 
@@ -703,8 +658,8 @@ module _ (j : JobView) (first count : ℕ) (u : Option ℕ) (kinds : List ColTyp
     holds : EachPlace sel (λ p. holds_at lanes (key (job_graph j) site_is.0 u) p ≡ true)
     holds p i = ap (λ n. holds_at lanes n p) site_is.2 ∙ held p i
 
-    pub hand_held : EachPlace sel (λ p. IsAtHand j lanes u p x)
-    hand_held p i = subst (IsAtHand j lanes u p) (sym site_is.1) (holds p i)
+    pub hand_held : EachPlace sel (λ p. IsAtHand j first lanes u p x)
+    hand_held p i = subst (IsAtHand j first lanes u p) (sym site_is.1) (holds p i)
 
     pub hand_clear : AreReady j first count lanes → EachPlace sel (λ p. p < count) → EachPlace sel (λ p. source_fault j first u x p ≡ None)
     hand_clear ready low p i = ap (λ (y : Source). source_fault j first u y p) site_is.1 ∙ held_no_fault j first u count site_is.0 site_inside lanes ready p (low p i) (holds p i)

@@ -1,11 +1,11 @@
 -- The sites of filters come to truth values.
 use Rattle.std.proofs.Common.{◌≡◌, ◌⊎◌, inl, inr, ℕ, zero, suc, ◌+◌, Bool, false, List, [], ◌∷◌, ◌++◌, map, length, All, Option, Some, None, Result, Ok, Err, refl, sym, ◌∙◌, ap, subst, arith, nat_eq, option_map, slice_get, if◌then◌else◌, ◌<◌, ◌≤◌, length-append, replicate, IsOk, count_by}
 use Rattle.lemmas.proofs.{AllByRecursion, append-nil, cases_eq, Decides-eqb, get_or-replicate, kept_at, length-replicate, recursion_from_All, slice_get-get_or, slice_get_within, something_at}
-use Rattle.rdf_values.specs.{AreAccepted, callee, check_node, check_vector_column, ColType, Column, column_kind, columns_in, expect_kind, fn_names, FunctionNames, GraphCause, history, kind_by, kind_of, makes, NamedTree, NumTree, parent_of, refuse_unless, renamed, scope_at, scope_of, shape_of, Statement, Under, VaryValues}
+use Rattle.rdf_values.specs.{AreAccepted, callee, check_node, check_vector_column, ColType, Column, column_kind, columns_in, expect_kind, fn_names, FunctionNames, GraphCause, history, kind_by, kind_of, makes, NamedTree, parent_of, refuse_unless, renamed, scope_at, scope_of, shape_of, Statement, Under, VaryValues}
 use Rattle.rdf_values.specs.declared.scripts.statement.Statement.TheVariants.{Action, Filter, Report, Vary}
 use Rattle.rdf_model.specs.{own_place, Site, site_at}
 use Rattle.rdf_model.proofs.Accepted.{both_none, kind_expected, checked_of}
-use Rattle.expr_check.specs.{callee_shape, CheckedExpr, distinct, IsWellTyped, num_kind, number_kind}
+use Rattle.expr_check.specs.{callee_shape, CheckedExpr, IsWellTyped, number_kind}
 use Rattle.expr_check.proofs.Calls.{callee_shape-callee}
 use Rattle.expr_check.proofs.Distinct.{each_from_distinct}
 use Rattle.expr_check.proofs.Typed.{columns_known, kind_by-renamed, kind_by-same}
@@ -48,26 +48,29 @@ module _ (all : List ColType) where
       here : number_kind (k ∷ ks) k.0 ≡ known (slice_get all k.0)
       here = ap (λ b. if b then Ok k.1 else number_kind ks k.0) ((Decides-eqb k.0 k.0).1 refl) ∙ ap known (sym h.0)
 
+  -- an expression is of the kind that it has by these
+  typed_by : (names : FunctionNames) (e : CheckedExpr) → All (λ (c : ℕ × ColType). slice_get all c.0 ≡ Some c.1) e.kinds → IsWellTyped names e
+      → kind_by (λ (v : ℕ). known (slice_get all v)) (callee_shape names) e.tree ≡ Ok e.kind
+  typed_by names e kinds typed =
+      sym (kind_by-same (number_kind e.kinds) (λ (v : ℕ). known (slice_get all v)) (callee_shape names) (callee_shape names) (λ f. refl) e.tree
+      (each_from_distinct (IsListed e.kinds) (columns_in e.tree)
+      (subst (λ (vs : List ℕ). AllByRecursion (IsListed e.kinds) vs) typed.columns (listed e.kinds (recursion_from_All (λ (c : ℕ × ColType). slice_get all c.0 ≡ Some c.1) e.kinds kinds)))))
+      ∙ typed.typed
+
+same_kind : (a b : ColType) → ◌≡◌ {A = Result ColType GraphCause} (Ok a) (Ok b) → a ≡ b
+same_kind a b q = cc q
+
 module _ (header : List Column) (names : FunctionNames) where
   -- ---- the kind of a site's expression
 
   -- is the one that its statement was accepted with
   pub placed_kind : (before : List Statement) (s : ℕ) (x : SiteAt) (p : IsPlaced header names before s x) (e : CheckedExpr) → x.tree ≡ e.tree → All (λ (c : ℕ × ColType). slice_get (version_kinds header names before) c.0 ≡ Some c.1) e.kinds
       → IsWellTyped names e → e.kind ≡ p.kind
-  placed_kind before s x p e tree kinds typed = same (sym typed.typed ∙ by_versions ∙ (λ i. kind_by version (callee_shape names) (tree_is i)) ∙ by_names)
+  placed_kind before s x p e tree kinds typed =
+      same_kind e.kind p.kind (sym (typed_by (version_kinds header names before) names e kinds typed) ∙ (λ i. kind_by version (callee_shape names) (tree_is i)) ∙ by_names)
     where
-      same : ◌≡◌ {A = Result ColType GraphCause} (Ok e.kind) (Ok p.kind) → e.kind ≡ p.kind
-      same q = cc q
-
       version : ℕ → Result ColType GraphCause
       version v = known (slice_get (version_kinds header names before) v)
-
-      by_versions : kind_by (number_kind e.kinds) (callee_shape names) e.tree ≡ kind_by version (callee_shape names) e.tree
-      by_versions =
-          kind_by-same (number_kind e.kinds) version (callee_shape names) (callee_shape names) (λ f. refl) e.tree
-          (each_from_distinct (IsListed (version_kinds header names before) e.kinds) (columns_in e.tree)
-          (subst (λ (vs : List ℕ). AllByRecursion (IsListed (version_kinds header names before) e.kinds) vs) typed.columns
-          (listed (version_kinds header names before) e.kinds (recursion_from_All (λ (c : ℕ × ColType). slice_get (version_kinds header names before) c.0 ≡ Some c.1) e.kinds kinds))))
 
       tree_is : e.tree ≡ renamed (version_at header p.earlier p.parent) (callee names) p.expr
       tree_is = sym tree ∙ ap (λ (y : SiteAt). y.tree) p.is
@@ -261,33 +264,12 @@ element_kind j job u c t k tags is e its = grind (arith, of_elements, accepted_o
 
 -- ---- a site has one kind
 
-module _ (all : List ColType) where
-  abbrev HasKind : ℕ × ColType → Type 0
-  HasKind c = slice_get all c.0 ≡ Some c.1
-
-  same_pairs : (ks ls : List (ℕ × ColType)) → map (λ (c : ℕ × ColType). c.0) ks ≡ map (λ (c : ℕ × ColType). c.0) ls → AllByRecursion HasKind ks → AllByRecursion HasKind ls → ks ≡ ls
-  same_pairs [] [] e h k = refl
-  same_pairs (k ∷ ks) (l ∷ ls) e h i =
-      let number : k.0 ≡ l.0 = cc e in
-      let rest : map (λ (c : ℕ × ColType). c.0) ks ≡ map (λ (c : ℕ × ColType). c.0) ls = cc e in
-      let kind : k.1 ≡ l.1 = some_same k.1 l.1 (sym h.0 ∙ ap (slice_get all) number ∙ i.0) in
-      let tails = same_pairs ks ls rest h.1 i.1 in
-      λ x. (number x, kind x) ∷ tails x
-  same_pairs ks ls e h i = cc e
-
 pub one_kind : (g : GraphView) (s : ℕ) (e d : CheckedExpr) → IsSiteExpr g s e → IsSiteExpr g s d → e.kind ≡ d.kind
-one_kind g s e d its other = same (sym its.typed.typed ∙ (λ i. num_kind (pairs i) g.names (trees i)) ∙ other.typed.typed)
-  where
-    same : ◌≡◌ {A = Result ColType GraphCause} (Ok e.kind) (Ok d.kind) → e.kind ≡ d.kind
-    same q = cc q
-
-    trees : e.tree ≡ d.tree
-    trees = some_same e.tree d.tree (sym its.tree ∙ other.tree)
-
-    pairs : e.kinds ≡ d.kinds
-    pairs =
-        same_pairs (graph_kinds g) e.kinds d.kinds (its.typed.columns ∙ ap (λ (t : NumTree). distinct (columns_in t)) trees ∙ sym other.typed.columns)
-        (recursion_from_All (HasKind (graph_kinds g)) e.kinds its.kinds) (recursion_from_All (HasKind (graph_kinds g)) d.kinds other.kinds)
+one_kind g s e d its other =
+    let trees : e.tree ≡ d.tree = some_same e.tree d.tree (sym its.tree ∙ other.tree) in
+    same_kind e.kind d.kind
+    (sym (typed_by (graph_kinds g) g.names e its.kinds its.typed) ∙ ap (kind_by (λ (v : ℕ). known (slice_get (graph_kinds g) v)) (callee_shape g.names)) trees
+    ∙ typed_by (graph_kinds g) g.names d other.kinds other.typed)
 
 -- ---- keys of one more site
 

@@ -12,7 +12,7 @@ use Rattle.loop_keys.proofs.TableLaws.{row_there}
 use Rattle.block_passes.specs.{AreAtHand, AreKept, CanGather, CanServe, Chain, chosen, DemandsInputs, filter_fault, filters_fault, Found, inputs_fault, IsActionOf, IsLast, IsMade, IsNamed, IsPassTried, IsPlan, IsReadBelow, IsReadOf, IsReadyBelow, IsSelectedTo, IsServedTo, IsTriedTo, Kept, Lowers, NamedSteps, PlanView, through_chain, unfed, where_in, where_passed}
 use Rattle.block_passes.proofs.Demanding.{action_at, pass_set}
 use Rattle.block_passes.proofs.Searching.{chosen_below, in_chosen, narrowed, action_fault, where_split, last_through, report_fault, step_fault, both_lower, lowers_as, or_else}
-use Rattle.block_passes.proofs.Selecting.{written_selected, kept_lower}
+use Rattle.block_passes.proofs.Selecting.{written_selected, kept_lower, remade_then}
 use Rattle.loop_keys.proofs.PassNumbers.{pass_answer, pass_of, some_same}
 use Rattle.loop_keys.proofs.ReportTies.{contained_at, filter_there, report_fault as its_fault}
 use Rattle.block_passes.proofs.PlanSteps.{covered_is, one_result}
@@ -100,7 +100,8 @@ module _ (j : JobView) (job : IsJob j) (first count pass : ℕ) (plan : PlanView
 
     -- ---- its selection
 
-    module _ (kept : List Kept) (lanes1 : List LaneView) (f0 f1 : Found) (h : IsSelectedTo j first count p.chains pass last lanes1 kept f0 f1) (to : Kept) (there : slice_get kept last ≡ Some to) where
+    module _ (was kept : List Kept) (lanes1 : List LaneView) (f0 f1 : Found) (h : IsSelectedTo j first count p.chains pass last lanes1 was kept f0 f1)
+        (to : Kept) (there : slice_get kept last ≡ Some to) where
       pub to_limit : to.limit ≡ Some f1.limit
       to_limit = h.made to there
 
@@ -124,7 +125,7 @@ module _ (j : JobView) (job : IsJob j) (first count pass : ℕ) (plan : PlanView
       -- ---- what it reads, and whether it can be fed that
 
       module _ (low : f0.limit ≤ count) (to2 to3 : Kept) (lanes2 : List LaneView) (f2 f3 : Found) (s : IsServedTo j first count (inputs_fault j first u inputs) pass to.places to2 lanes2 f1 f2)
-          (held : EachPlace to2.places (AreAtHand j lanes2 u inputs)) (t : IsServedTo j first count (unfed j first k inputs u) pass to2.places to3 lanes2 f2 f3) where
+          (held : EachPlace to2.places (AreAtHand j first lanes2 u inputs)) (t : IsServedTo j first count (unfed j first k inputs u) pass to2.places to3 lanes2 f2 f3) where
         is_second : to2.places ≡ chosen j first is_last.chain f2.limit
         is_second = s.left ∙ ap (filter (λ q. nat_lt q f2.limit)) made.is ∙ narrowed passes_at f2.limit f1.limit s.lowers.falls
 
@@ -160,12 +161,10 @@ module _ (j : JobView) (job : IsJob j) (first count pass : ℕ) (plan : PlanView
         all_read : IsReadBelow j first lanes2 f3.limit pass
         all_read = grind (arith, one_result, is_second, in_chosen, through_is)
 
-        pub action_tried : (now : List Kept) → now ≡ slice_set kept last to3 → IsPassTried j first count p.chains pass lanes2 now f0 f3
-        action_tried now e = record {
-          ready = (written_selected j first count p.chains pass last is_last.chain is_last.its lanes2 kept now f3 base to3 t.its_limit third_made e).ready;
-          lowers = all_lower;
-          read = all_read;
-        }
+        pub action_tried : (now : List Kept) → now ≡ slice_set kept last to3 → IsPassTried j first count p.chains pass lanes2 was now f0 f3
+        action_tried now e =
+            let written = written_selected j first count p.chains pass last is_last.chain is_last.its lanes2 kept now f3 base to3 t.its_limit third_made e in
+            record { ready = written.ready; lowers = all_lower; read = all_read; remade = remade_then count was kept now h.remade written.remade }
 
 -- ---- Named filters, tried one after another.
 
@@ -218,22 +217,24 @@ module _ (j : JobView) (job : IsJob j) (f : ℕ) (covered : IsCovered j f) where
           ∙ ap (λ (l : List ℕ). fault_in (through_sites (site_in {M = ⊥} j e None) l)) (sym named.sites)
           ∙ ap (λ o. fault_in (through_filter (site_in {M = ⊥} j e None) o)) (sym there.1)
 
-      pub filter_tried : (first count pass : ℕ) (mid lanes : List LaneView) (between kept : List Kept) (a b c : Found)
-          → IsSelectedTo j first count p.chains pass s.above mid between a b → IsSelectedTo j first count p.chains pass s.own lanes kept b c → IsTriedTo j first count p.chains (filter_fault j first f) pass lanes kept a c
-      filter_tried first count pass mid lanes between kept a b c h k = record {
+      pub filter_tried : (first count pass : ℕ) (mid lanes : List LaneView) (was between kept : List Kept) (a b c : Found)
+          → IsSelectedTo j first count p.chains pass s.above mid was between a b → IsSelectedTo j first count p.chains pass s.own lanes between kept b c → IsTriedTo j first count p.chains (filter_fault j first f) pass lanes was kept a c
+      filter_tried first count pass mid lanes was between kept a b c h k = record {
         ready = k.ready;
+        remade = remade_then count was between kept h.remade k.remade;
         lowers = lowers_as (λ q. or_else (fault_in (through_chain j (first + q) named.above.chain)) (fault_in (through_chain j (first + q) named.own.chain))) (filter_fault j first f) first pass a c (λ q lt. both_faults (first + q))
             (both_lower (λ q. fault_in (through_chain j (first + q) named.above.chain)) (λ q. fault_in (through_chain j (first + q) named.own.chain)) first pass a b c (h.lowers named.above.chain named.above.its) (k.lowers named.own.chain named.own.its));
       }
 
 -- ---- one after another
 
-pub filters_tried : (j : JobView) (first count : ℕ) (chains : List Chain) (pass : ℕ) (filters fs : List ℕ) (f : ℕ) → filters ≡ f ∷ fs → (lanes after : List LaneView) (kept now : List Kept) (a b c : Found)
-    → IsTriedTo j first count chains (filter_fault j first f) pass lanes kept a b → IsTriedTo j first count chains (filters_fault j first fs) pass after now b c → IsTriedTo j first count chains (filters_fault j first filters) pass after now a c
-filters_tried j first count chains pass filters fs f e lanes after kept now a b c h k =
-    subst (λ (l : List ℕ). IsTriedTo j first count chains (filters_fault j first l) pass after now a c) (sym e)
+pub filters_tried : (j : JobView) (first count : ℕ) (chains : List Chain) (pass : ℕ) (filters fs : List ℕ) (f : ℕ) → filters ≡ f ∷ fs → (lanes after : List LaneView) (was kept now : List Kept) (a b c : Found)
+    → IsTriedTo j first count chains (filter_fault j first f) pass lanes was kept a b → IsTriedTo j first count chains (filters_fault j first fs) pass after kept now b c → IsTriedTo j first count chains (filters_fault j first filters) pass after was now a c
+filters_tried j first count chains pass filters fs f e lanes after was kept now a b c h k =
+    subst (λ (l : List ℕ). IsTriedTo j first count chains (filters_fault j first l) pass after was now a c) (sym e)
     (record {
       ready = k.ready;
+      remade = remade_then count was kept now h.remade k.remade;
       lowers = lowers_as (λ p. or_else (filter_fault j first f p) (filters_fault j first fs p)) (filters_fault j first (f ∷ fs)) first pass a c
           (λ p lt. sym (report_fault (site_in {M = ⊥} j (first + p) None) (graph_filters (job_graph j)) f fs))
           (both_lower (filter_fault j first f) (filters_fault j first fs) first pass a b c h.lowers k.lowers);
@@ -251,9 +252,10 @@ same_report j pass own other rep rep2 = grind (arith, one_result)
 
 -- its pass was tried
 pub report_tried : (j : JobView) (job : IsJob j) (first count : ℕ) (chains : List Chain) (pass own : ℕ) (rep : IsReportPass j pass own) (ns : List ℕ) → rep.result.covers ≡ ns → first + count ≤ length j.dataset.rows
-    → (lanes : List LaneView) (kept : List Kept) (a b : Found) → a.limit ≤ count → IsTriedTo j first count chains (filters_fault j first ns) pass lanes kept a b → IsPassTried j first count chains pass lanes kept a b
-report_tried j job first count chains pass own rep ns e within lanes kept a b low t = record {
+    → (lanes : List LaneView) (was kept : List Kept) (a b : Found) → a.limit ≤ count → IsTriedTo j first count chains (filters_fault j first ns) pass lanes was kept a b → IsPassTried j first count chains pass lanes was kept a b
+report_tried j job first count chains pass own rep ns e within lanes was kept a b low t = record {
   ready = t.ready;
+  remade = t.remade;
   lowers = lowers_as (filters_fault j first ns) (λ q. pass_fault j (first + q) pass) first pass a b
       (λ q lt. (let row = row_there j.dataset.rows (first + q) (omega (arith, lt, low, within)) in sym (its_fault j job (first + q) row.0 row.1 pass own rep ns e))) t.lowers;
   read = λ m r k of q lt passed. absurd (no_action j pass own rep m r k of);

@@ -5,7 +5,8 @@ use Rattle.rdf_values.specs.{ActionKind, ColType, columns_of, EntryFault, Span, 
 use Rattle.rdf_model.specs.{Faults, FitsFeed, for_all, Gives, Outcome}
 use Rattle.actions.specs.{HasPlace, HasValues, Lane, lane_value, PlaceFault as BatchFault, Sources, span_at, SuitsAt, values_at, Batch, places_of}
 use Rattle.expr_lanes.specs.{at_place, EachPlace, is_in}
-use Rattle.loop_keys.specs.{JobView, version_in, job_graph, pass_fault, passes_in, job_spans}
+use Rattle.loop_keys.specs.{JobView, version_in, job_graph, pass_fault, passes_in}
+use Rattle.block_passes.specs.Clusters.{entries_from, IsBlockOf}
 use Rattle.block_passes.specs.Inputs.{AreAtHand, CanServe}
 use Rattle.block_cache.specs.{LaneView, PlaceFault, value_of, AreReady}
 use Rattle.block_passes.specs.Searches.{feeding_fault}
@@ -72,22 +73,9 @@ pub record CanGather (j : JobView) (first count : ℕ) (kinds : List ColType) (c
 
 -- ---- What a block comes to at the named filters.
 
--- a block of so many entries stands at that place of a cluster
-pub record IsInCluster (j : JobView) (cluster place count : ℕ) : Type 0 where
-  pub span : Span
-  pub its_span : slice_get (job_spans j) cluster ≡ Some span
-  pub within : span.lo + place + count ≤ span.hi
-  pub inside : span.hi ≤ length j.dataset.rows
-
--- at that place of a cluster, where a block has so many entries, begins the block at this entry, which has as many
-pub record IsAmidOf (j : JobView) (first count cluster place many : ℕ) : Type 0 where
-  pub in_cluster : IsInCluster j cluster place many
-  pub begins : first ≡ in_cluster.span.lo + place
-  pub block : many ≡ count
-
--- the stage is amid that block
+-- the stage is amid the block of so many entries from one on
 abbrev pub IsAmid : JobView → ℕ → ℕ → BlockStage → Type 0
-IsAmid j first count s = IsAmidOf j first count s.cluster s.entries s.block
+IsAmid j first count s = IsBlockOf j s.cluster s.entries (entries_from first count) × (s.block ≡ count)
 
 -- so many named filters have taken the block in
 abbrev pub at_filter : BlockStage → ℕ → BlockStage
@@ -122,7 +110,7 @@ pub record IsClear (j : JobView) (first count : ℕ) (chains : List Chain) (p : 
 
 -- all that an action reads is at hand at a place, and it can be fed with that
 pub record IsFeedableAt (j : JobView) (first : ℕ) (lanes : List LaneView) (k : ActionKind) (inputs : List ℕ) (u : Option ℕ) (p : ℕ) : Type 0 where
-  pub hand : AreAtHand j lanes u inputs p
+  pub hand : AreAtHand j first lanes u inputs p
   pub clear : unfed j first k inputs u p ≡ None
 
 -- the selection of the action's last step was made over all of the block, and at each of its places the action can be fed
@@ -133,7 +121,7 @@ pub record IsFeedable (j : JobView) (first count : ℕ) (lanes : List LaneView) 
 -- the batch has the selected places, and at each of them the lanes are of all that an action reads, where that is at hand
 pub record IsBatchOf (j : JobView) (first count : ℕ) (lanes : List LaneView) (k : ActionKind) (inputs : List ℕ) (u : Option ℕ) (sel : List ℕ) (b : Batch) : Type 0 where
   pub places : places_of b.places ≡ sel
-  pub gathered : (p : ℕ) → p < count → is_in p sel ≡ true → AreAtHand j lanes u inputs p → AreLanesOf (for_all (version_in {M = ⊥} j (first + p) u) inputs) k b.sources p
+  pub gathered : (p : ℕ) → p < count → is_in p sel ≡ true → AreAtHand j first lanes u inputs p → AreLanesOf (for_all (version_in {M = ⊥} j (first + p) u) inputs) k b.sources p
 
 -- the tally can be fed any such batch
 abbrev pub CanFeedAny : JobView → ℕ → ℕ → List LaneView → ActionKind → List ℕ → Option ℕ → List ℕ → LoopFacts → List ℕ → BlockStage → TallyView → ℕ → ℕ → Type 0

@@ -123,7 +123,7 @@ module _ {V : Type 0} {D : V → Type 0} {g : _} (t : Turn V D g) where
   IsServedInTurn fault = IsServedTo turn_job t.first t.count fault t.pass
 
   -- a step is selected
-  abbrev pub IsSelectedInTurn : List Chain → ℕ → List LaneView → List Kept → Found → Found → Type 0
+  abbrev pub IsSelectedInTurn : List Chain → ℕ → List LaneView → List Kept → List Kept → Found → Found → Type 0
   IsSelectedInTurn chains = IsSelectedTo turn_job t.first t.count chains t.pass
 
   -- nothing is copied of a version that is read in place; else there is what it gives at each place of the selection
@@ -149,7 +149,7 @@ module _ {V : Type 0} {D : V → Type 0} {g : _} (t : Turn V D g) where
 module _ {V : Type 0} {D : V → Type 0} {g : _} (t : Turn V D g) (own : ActionRead) where
   -- all that it reads is at hand at a place
   abbrev pub AreHeldInTurn : List LaneView → ℕ → Type 0
-  AreHeldInTurn lanes = AreAtHand (turn_job t) lanes own.under own.inputs.now
+  AreHeldInTurn lanes = AreAtHand (turn_job t) t.first lanes own.under own.inputs.now
 
   -- none of it wants memory
   abbrev pub ArePlainInTurn : (ℕ → Bool) → Type 0

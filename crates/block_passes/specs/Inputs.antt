@@ -5,7 +5,7 @@ use Rattle.rdf_values.specs.{ColType, EntryFault, kind_at, Value}
 use Rattle.rdf_model.specs.{fault_in, for_all, Gives}
 use Rattle.graph_numbers.specs.{graph_sites, graph_versions, HasInputs, Source, source_value}
 use Rattle.block_cache.specs.{AreReady, CanFill, cells_at, HasColumn, holds_at, LaneView, begun_at, begun_count, kinds_of, rooms_of}
-use Rattle.loop_keys.specs.{held_element, held_in, IsSourceIn, job_graph, JobView, key, key_count, row_of, site_in, source_at, version_in, Grows, HasAllDemands, HasAllKeys, IsClosed}
+use Rattle.loop_keys.specs.{IsSourceIn, job_graph, JobView, key, key_count, row_of, site_in, source_at, version_in, Grows, HasAllDemands, HasAllKeys, IsClosed}
 use Rattle.block_passes.specs.Searches.{Lowers, where_in}
 use Rattle.block_passes.specs.declared.turn.Found.{Found}
 use Rattle.block_passes.specs.declared.turn.Kept.{Kept}
@@ -40,14 +40,15 @@ Demands j entry u T s = (D : ℕ → Bool) × IsDemandedAt j entry u T D × (D s
 
 -- what gives a version its value is at hand at a place: a column of the table is, a site where its value is held, and an element of a
 -- site's vector where that is held and has one element for each tag
-abbrev pub IsAtHand : JobView → List LaneView → Option ℕ → ℕ → Source → Type 0
-IsAtHand j lanes u p (Source.Cell col) = ⊤
-IsAtHand j lanes u p (Source.Site s) = holds_at lanes (key (job_graph j) s u) p ≡ true
-IsAtHand j lanes u p (Source.Element s k tags) = (v : Value) × (held_element 0 (held_in (cells_at (key_count (job_graph j)) lanes p) (key (job_graph j) s u)) k tags ≡ Gives v)
+abbrev pub IsAtHand : JobView → ℕ → List LaneView → Option ℕ → ℕ → Source → Type 0
+IsAtHand j first lanes u p (Source.Cell col) = ⊤
+IsAtHand j first lanes u p (Source.Site s) = holds_at lanes (key (job_graph j) s u) p ≡ true
+IsAtHand j first lanes u p (Source.Element s k tags) =
+    (holds_at lanes (key (job_graph j) s u) p ≡ true) × (v : Value) × (source_value {M = ⊥} (row_of j (first + p)) (site_in j (first + p) u) (Source.Element s k tags) ≡ Gives v)
 
 -- so are all versions that are read
-abbrev pub AreAtHand : JobView → List LaneView → Option ℕ → List ℕ → ℕ → Type 0
-AreAtHand j lanes u inputs p = AllByRecursion (λ c. IsAtHand j lanes u p (source_at j u c)) inputs
+abbrev pub AreAtHand : JobView → ℕ → List LaneView → Option ℕ → List ℕ → ℕ → Type 0
+AreAtHand j first lanes u inputs p = AllByRecursion (λ c. IsAtHand j first lanes u p (source_at j u c)) inputs
 
 -- the source is read in place: a column of the table, or the lane of a site that holds numbers or truths
 abbrev pub IsWhole : JobView → Option ℕ → List ColType → Source → Type 0

@@ -1,7 +1,7 @@
 -- The search for the first fault of a block: pass after pass over the places below a limit, which falls to each place that faults.
 use Rattle.std.specs.Prelude.{◌≡◌, ◌<◌, ◌≤◌, ◌+◌, ℕ, List, Option, None, Some, if◌then◌else◌, Bool}
-use Rattle.rdf_values.specs.{ActionKind, EntryFault, Fault, feed_fault, Pass, Value}
-use Rattle.rdf_model.specs.{Dataset, fault_at as fault_in_pass, Faults, Gives, is_true, Needs, Outcome}
+use Rattle.rdf_values.specs.{ActionKind, EntryFault, Fault, feed_fault, Value}
+use Rattle.rdf_model.specs.{Faults, Gives, is_true, Needs, Outcome}
 use Rattle.expr_lanes.specs.{is_in}
 use Rattle.block_cache.specs.{PlaceFault}
 use Rattle.block_passes.specs.declared.turn.Found.{Found}
@@ -26,21 +26,6 @@ pub record IsSearched (fault : ℕ → ℕ → Option EntryFault) (first count p
   pub within : s.limit ≤ count
   pub at_limit : (f : Fault) → s.best ≡ Some f
       → (f.entry ≡ first + s.limit) × (s.limit < count) × (f.pass < passes) × (fault s.limit f.pass ≡ Some f.kind) × ((n : ℕ) → n < f.pass → fault s.limit n ≡ None)
-
--- and of the next pass some parts: below the limit its fault is that of the parts that are left
-pub record IsAmid (fault : ℕ → ℕ → Option EntryFault) (left : ℕ → Option EntryFault) (first count pass : ℕ) (s : Found) : Type 0 where
-  pub clear : (p n : ℕ) → p < s.limit → n < pass → fault p n ≡ None
-  pub rest : (p : ℕ) → p < s.limit → fault p pass ≡ left p
-  pub whole : s.best ≡ None → s.limit ≡ count
-  pub within : s.limit ≤ count
-  pub at_limit : (f : Fault) → s.best ≡ Some f
-      → (f.entry ≡ first + s.limit) × (s.limit < count) × (f.pass < pass + 1) × (fault s.limit f.pass ≡ Some f.kind) × ((n : ℕ) → n < f.pass → fault s.limit n ≡ None)
-
--- the fault of a row in a pass, where both are there
-abbrev pub fault_of : Dataset → Option (List Value) → Option Pass → Option EntryFault
-fault_of d None p = None
-fault_of d (Some row) None = None
-fault_of d (Some row) (Some p) = fault_in_pass d row p
 
 -- the search where a place of a block had this fault, if it is one
 abbrev pub noted : ℕ → ℕ → Found → Option PlaceFault → Found

@@ -72,16 +72,19 @@ pub record CanSelect (j : JobView) (first count : ℕ) (plan : PlanView) (kinds 
   pub truths : (k parent site : ℕ) (u : Option ℕ) → slice_get plan.steps k ≡ Some (Step.Filter parent site u) → slice_get kinds (key (job_graph j) site u) ≡ Some ColType.Bool
 
 -- a step's selection was made below the limit, which its filters lowered; below the new limit all is as before
-pub record IsSelectedTo (j : JobView) (first count : ℕ) (chains : List Chain) (pass step : ℕ) (lanes : List LaneView) (kept : List Kept) (old new : Found) : Type 0 where
+pub record IsSelectedTo (j : JobView) (first count : ℕ) (chains : List Chain) (pass step : ℕ) (lanes : List LaneView) (was kept : List Kept) (old new : Found) : Type 0 where
   pub ready : IsReadyBelow j first count chains new.limit lanes kept
   pub lowers : (c : Chain) → slice_get chains step ≡ Some c → Lowers (λ p. fault_in (through_chain j (first + p) c)) first pass old new
   pub made : (s : Kept) → slice_get kept step ≡ Some s → s.limit ≡ Some new.limit
+  pub remade : AreRemade count was kept
 
 -- likewise of a step with one more filter than the step of the parent, which was selected below the limit
-pub record IsNextSelected (j : JobView) (first count : ℕ) (chains : List Chain) (pass step parent site : ℕ) (u : Option ℕ) (lanes : List LaneView) (kept : List Kept) (old new : Found) : Type 0 where
+pub record IsNextSelected (j : JobView) (first count : ℕ) (chains : List Chain) (pass step parent site : ℕ) (u : Option ℕ) (lanes : List LaneView)
+    (was kept : List Kept) (old new : Found) : Type 0 where
   pub ready : IsReadyBelow j first count chains new.limit lanes kept
   pub lowers : (c : Chain) → slice_get chains parent ≡ Some c → Lowers (λ p. where_passed (through_chain j (first + p) c) (fault_in (truth_in j (first + p) u site))) first pass old new
   pub made : (s : Kept) → slice_get kept step ≡ Some s → s.limit ≡ Some new.limit
+  pub remade : AreRemade count was kept
 
 -- ---- What trying a pass over a block does.
 
@@ -97,13 +100,14 @@ pub record IsReadOf (j : JobView) (pass : ℕ) (k : ActionKind) (inputs : List �
 abbrev pub IsReadBelow : JobView → ℕ → List LaneView → ℕ → ℕ → Type 0
 IsReadBelow j first lanes limit pass =
     (m : NumberedPass) (r : ResultAt) (k : ActionKind) → IsActionOf j pass m r k
-    → (p : ℕ) → p < limit → is_true (through_sites (site_in j (first + p) m.variation) r.filters) ≡ true → AreAtHand j lanes m.variation r.inputs p
+    → (p : ℕ) → p < limit → is_true (through_sites (site_in j (first + p) m.variation) r.filters) ≡ true → AreAtHand j first lanes m.variation r.inputs p
 
 -- a pass was tried at the places below the limit, which its first fault lowered; below the new limit all is as before
-pub record IsPassTried (j : JobView) (first count : ℕ) (chains : List Chain) (pass : ℕ) (lanes : List LaneView) (kept : List Kept) (old new : Found) : Type 0 where
+pub record IsPassTried (j : JobView) (first count : ℕ) (chains : List Chain) (pass : ℕ) (lanes : List LaneView) (was kept : List Kept) (old new : Found) : Type 0 where
   pub ready : IsReadyBelow j first count chains new.limit lanes kept
   pub lowers : Lowers (λ p. pass_fault j (first + p) pass) first pass old new
   pub read : IsReadBelow j first lanes new.limit pass
+  pub remade : AreRemade count was kept
 
 -- ---- reports
 
@@ -115,9 +119,10 @@ abbrev pub filters_fault : JobView → ℕ → List ℕ → ℕ → Option Entry
 filters_fault j first fs p = fault_in (report_numbers (site_in {M = ⊥} j (first + p) None) (graph_filters (job_graph j)) fs)
 
 -- a part of a pass was tried at the places below the limit, which its first fault lowered; below the new limit all is as before
-pub record IsTriedTo (j : JobView) (first count : ℕ) (chains : List Chain) (part : ℕ → Option EntryFault) (pass : ℕ) (lanes : List LaneView) (kept : List Kept) (old new : Found) : Type 0 where
+pub record IsTriedTo (j : JobView) (first count : ℕ) (chains : List Chain) (part : ℕ → Option EntryFault) (pass : ℕ) (lanes : List LaneView) (was kept : List Kept) (old new : Found) : Type 0 where
   pub ready : IsReadyBelow j first count chains new.limit lanes kept
   pub lowers : Lowers part first pass old new
+  pub remade : AreRemade count was kept
 
 -- the selections of a named filter's steps were made
 abbrev pub IsNamedMade : ℕ → PlanView → List Kept → ℕ → Type 0

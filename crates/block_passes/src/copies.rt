@@ -134,7 +134,7 @@ fn given_at(at: &Turn<'_>, lanes: &[Lane], of: &SiteElement, place: u32) -> i64
     requires over { IsOver at.now lanes.now }
     requires site { of.now.site < length (graph_sites (job_graph (turn_job at.now))) }
     requires inside { place < at.now.count }
-    requires hand { IsAtHand (turn_job at.now) lanes.now of.now.under place (source.Element of.now.site of.now.nth of.now.tags) }
+    requires hand { IsAtHand (turn_job at.now) at.now.first lanes.now of.now.under place (source.Element of.now.site of.now.nth of.now.tags) }
     ensures { source_value {M = ⊥} (row_of (turn_job at.now) (at.now.first + place)) (site_in (turn_job at.now) (at.now.first + place) of.now.under) (source.Element of.now.site of.now.nth of.now.tags) ≡ Gives (val.Int result) }
 {
     match element_at(at, lanes, of, place) {
@@ -161,7 +161,7 @@ fn copy_elements(
     requires over { IsOver at.now lanes.now }
     requires site { of.now.site < length (graph_sites (job_graph (turn_job at.now))) }
     requires inside { EachPlace selection.now (λ p. p < at.now.count) }
-    requires hand { EachPlace selection.now (λ p. IsAtHand (turn_job at.now) lanes.now of.now.under p (source.Element of.now.site of.now.nth of.now.tags)) }
+    requires hand { EachPlace selection.now (λ p. IsAtHand (turn_job at.now) at.now.first lanes.now of.now.under p (source.Element of.now.site of.now.nth of.now.tags)) }
     ensures { IfOk result (λ v. EachPlace selection.now (λ p. GivesNumber v.items p (source_value {M = ⊥} (row_of (turn_job at.now) (at.now.first + p)) (site_in (turn_job at.now) (at.now.first + p) of.now.under) (source.Element of.now.site of.now.nth of.now.tags)))) }
 {
     let mut numbers = vec![in at.plan.alloc(); 0; at.count as usize]?;
@@ -193,7 +193,7 @@ fn copy_version(
     requires over { IsOver at.now lanes.now }
     requires can { (scratch levels : ℕ) × CanServeWith at.now under lanes.now scratch levels version }
     requires inside { EachPlace selection.now (λ p. p < at.now.count) }
-    requires hand { EachPlace selection.now (λ p. IsAtHand (turn_job at.now) lanes.now under p (source_in_turn at.now under version)) }
+    requires hand { EachPlace selection.now (λ p. IsAtHand (turn_job at.now) at.now.first lanes.now under p (source_in_turn at.now under version)) }
     ensures copied { IfOk result (IsCopyInTurn at.now under lanes.now selection.now version) }
     ensures plain { (used : ℕ → Bool) → ArePlain (turn_job at.now) used → IsPlainSource (turn_job at.now) used (source_in_turn at.now under version) → OnErr result ⊥ }
 {
@@ -251,12 +251,9 @@ pub(crate) fn copy_inputs(
     ensures copied { IfOk result (AreCopiedInTurn at.now own.now lanes.now selection.now) }
     ensures plain { (used : ℕ → Bool) → ArePlain (turn_job at.now) used → ArePlainInTurn at.now own.now used → OnErr result ⊥ }
 {
-    let first = copy_input(at, lanes, selection, own, 0)?;
-    let second = copy_input(at, lanes, selection, own, 1)?;
-    let third = copy_input(at, lanes, selection, own, 2)?;
     Ok(Copies {
-        first,
-        second,
-        third,
+        first: copy_input(at, lanes, selection, own, 0)?,
+        second: copy_input(at, lanes, selection, own, 1)?,
+        third: copy_input(at, lanes, selection, own, 2)?,
     })
 }

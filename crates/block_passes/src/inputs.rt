@@ -40,10 +40,7 @@ fn tagged(zs: &[i64], nth: u32, tags: u32) -> Result<i64, EntryFault>
     if zs.len() != tags as usize {
         return Err(EntryFault::VaryCount);
     }
-    match zs.get(nth as usize) {
-        Some(z) => Ok(*z),
-        None => Err(EntryFault::Index),
-    }
+    zs.get(nth as usize).copied().ok_or(EntryFault::Index)
 }
 
 /// The element at a place of the block where the site's value is held.
@@ -112,7 +109,7 @@ pub(crate) fn test_elements(at: &Turn<'_>, work: &mut Work, to: &mut Kept, of: &
     requires known { IsKnown at.now work.old }
     requires selected { IsSelected work.old.found.limit to.old }
     requires held { EachPlace to.old.places (λ p. holds_at work.old.lanes.items (key_of (job_graph (turn_job at.now)) of.now.site of.now.under) p ≡ true) }
-    ensures tested { IsServedInTurn at.now (element_fault_in_turn at.now of.now) to.old.places to.new work.old.lanes.items work.old.found work.new.found }
+    ensures tested { IsServedInTurn at.now (element_fault_in_turn at.now of.now) to.old.places to.new work.new.lanes.items work.old.found work.new.found }
     ensures lanes { work.new.lanes.items ≡ work.old.lanes.items }
     ensures room { KeepsRoom work.old work.new }
 {
@@ -143,7 +140,7 @@ fn is_at_hand(
     requires over { IsOver at.now lanes.now }
     requires can { (scratch levels : ℕ) × CanServeWith at.now under lanes.now scratch levels version }
     requires inside { EachPlace selection.now (λ p. p < at.now.count) }
-    ensures held { result ≡ true → EachPlace selection.now (λ p. IsAtHand (turn_job at.now) lanes.now under p (source_in_turn at.now under version)) }
+    ensures held { result ≡ true → EachPlace selection.now (λ p. IsAtHand (turn_job at.now) at.now.first lanes.now under p (source_in_turn at.now under version)) }
     ensures clear { result ≡ true → EachPlace selection.now (λ p. source_fault_in_turn at.now under version p ≡ None) }
 {
     let reading = Reading {
@@ -233,7 +230,7 @@ fn serve_element<L: Ledger>(
     requires inside { EachPlace to.old.places (λ p. p < work.old.found.limit) }
     ensures spent { IsSpentInTurn at.now of.now.under of.now.site to.old.places work.old work.new steps.old steps.new }
     ensures served { OnOk result (IsServedInTurn at.now (element_fault_in_turn at.now of.now) to.old.places to.new work.new.lanes.items work.old.found work.new.found) }
-    ensures held { OnOk result (EachPlace to.new.places (λ p. IsAtHand (turn_job at.now) work.new.lanes.items of.now.under p (source.Element of.now.site of.now.nth of.now.tags))) }
+    ensures held { OnOk result (EachPlace to.new.places (λ p. IsAtHand (turn_job at.now) at.now.first work.new.lanes.items of.now.under p (source.Element of.now.site of.now.nth of.now.tags))) }
     ensures room { KeepsRoom work.old work.new }
     ensures plain { (used : ℕ → Bool) → ArePlain (turn_job at.now) used → used of.now.site ≡ true → OnErr result ⊥ }
 {
@@ -259,7 +256,7 @@ fn serve_version<L: Ledger>(
         → DemandsSource (turn_job at.now) (at.now.first + p) under T (source_in_turn at.now under version) }
     ensures leaves { Leaves at.now work.old work.new steps.old steps.new }
     ensures served { OnOk result (IsServedInTurn at.now (source_fault_in_turn at.now under version) to.old.places to.new work.new.lanes.items work.old.found work.new.found) }
-    ensures held { OnOk result (EachPlace to.new.places (λ p. IsAtHand (turn_job at.now) work.new.lanes.items under p (source_in_turn at.now under version))) }
+    ensures held { OnOk result (EachPlace to.new.places (λ p. IsAtHand (turn_job at.now) at.now.first work.new.lanes.items under p (source_in_turn at.now under version))) }
     ensures plain { (used : ℕ → Bool) → ArePlain (turn_job at.now) used → IsSourceIn used (source_in_turn at.now under version) → OnErr result ⊥ }
 {
     match source_under(at, version, under) {
@@ -294,7 +291,7 @@ pub(crate) fn serve_inputs<L: Ledger>(
         → DemandsInputs (turn_job at.now) (at.now.first + p) under T inputs.now }
     ensures leaves { Leaves at.now work.old work.new steps.old steps.new }
     ensures served { OnOk result (IsServedInTurn at.now (inputs_fault_in_turn at.now under inputs.now) to.old.places to.new work.new.lanes.items work.old.found work.new.found) }
-    ensures held { OnOk result (EachPlace to.new.places (AreAtHand (turn_job at.now) work.new.lanes.items under inputs.now)) }
+    ensures held { OnOk result (EachPlace to.new.places (AreAtHand (turn_job at.now) at.now.first work.new.lanes.items under inputs.now)) }
     ensures plain { (used : ℕ → Bool) → ArePlain (turn_job at.now) used → ArePlainVersions (turn_job at.now) used under inputs.now → OnErr result ⊥ }
 {
     for version in inputs {

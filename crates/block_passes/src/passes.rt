@@ -1,7 +1,7 @@
 // Trying the passes of a loop over a block.
 ghost use Rattle.std.specs.Prelude.{◌≡◌, ◌<◌, ℕ, OnOk, Some, slice_get, OnErr, ◌+◌, IfSome, None, length, slice_range};
 ghost use Rattle.std.specs.List.{AllByRecursion};
-ghost use Rattle.block_passes.specs.{AreRemade, CanSelectInTurn, CanServeInTurn, IsMadeAt, IsPassTried, IsPlainTurn, IsPlanOfTurn, IsReadyInTurn, IsTurn, Leaves, filter_fault, filters_fault, IsNamedMade, IsTriedTo, turn_job, CanServeAllInTurn, IsPassMade, IsPlanMade, IsReadOf, IsSearchedTo};
+ghost use Rattle.block_passes.specs.{CanSelectInTurn, CanServeInTurn, IsMadeAt, IsPassTried, IsPlainTurn, IsPlanOfTurn, IsReadyInTurn, IsTurn, Leaves, filter_fault, filters_fault, IsNamedMade, IsTriedTo, turn_job, CanServeAllInTurn, IsPassMade, IsPlanMade, IsReadOf, IsSearchedTo};
 ghost use Rattle.loop_keys.specs.{IsCovered, Fits, IsReportPass, job_of, numbered_in, passes_in};
 ghost use Rattle.rdf_model.specs.{first_fault_from};
 
@@ -31,8 +31,7 @@ pub(crate) fn try_action<L: Ledger>(
     requires ready { (p : IsPlanOfTurn at.now) → IsReadyInTurn at.now p.chains work.old.found.limit work.old.lanes.items kept.old }
     ensures leaves { Leaves at.now work.old work.new steps.old steps.new }
     ensures tried { (p : IsPlanOfTurn at.now)
-        → OnOk result (IsPassTried (turn_job at.now) at.now.first at.now.count p.chains at.now.pass work.new.lanes.items kept.new work.old.found work.new.found) }
-    ensures remade { OnOk result (AreRemade at.now.count kept.old kept.new) }
+        → OnOk result (IsPassTried (turn_job at.now) at.now.first at.now.count p.chains at.now.pass work.new.lanes.items kept.old kept.new work.old.found work.new.found) }
     ensures made { OnOk result ((last : ℕ) → slice_get at.now.plan.now.passes at.now.pass ≡ Some last → IsMadeAt at.now.count kept.new last) }
     ensures plain { IsPlainTurn at.now → OnErr result ⊥ }
 {
@@ -57,8 +56,7 @@ fn try_filter<L: Ledger>(
     requires ready { (p : IsPlanOfTurn at.now) → IsReadyInTurn at.now p.chains work.old.found.limit work.old.lanes.items kept.old }
     ensures leaves { Leaves at.now work.old work.new steps.old steps.new }
     ensures tried { (p : IsPlanOfTurn at.now)
-        → OnOk result (IsTriedTo (turn_job at.now) at.now.first at.now.count p.chains (filter_fault (turn_job at.now) at.now.first filter) at.now.pass work.new.lanes.items kept.new work.old.found work.new.found) }
-    ensures remade { OnOk result (AreRemade at.now.count kept.old kept.new) }
+        → OnOk result (IsTriedTo (turn_job at.now) at.now.first at.now.count p.chains (filter_fault (turn_job at.now) at.now.first filter) at.now.pass work.new.lanes.items kept.old kept.new work.old.found work.new.found) }
     ensures made { OnOk result (IsNamedMade at.now.count at.now.plan.now kept.new filter) }
     ensures plain { IsPlainTurn at.now → OnErr result ⊥ }
 {
@@ -85,8 +83,7 @@ pub(crate) fn try_filters<L: Ledger>(
     requires ready { (p : IsPlanOfTurn at.now) → IsReadyInTurn at.now p.chains work.old.found.limit work.old.lanes.items kept.old }
     ensures leaves { Leaves at.now work.old work.new steps.old steps.new }
     ensures tried { (p : IsPlanOfTurn at.now)
-        → OnOk result (IsTriedTo (turn_job at.now) at.now.first at.now.count p.chains (filters_fault (turn_job at.now) at.now.first filters.now) at.now.pass work.new.lanes.items kept.new work.old.found work.new.found) }
-    ensures remade { OnOk result (AreRemade at.now.count kept.old kept.new) }
+        → OnOk result (IsTriedTo (turn_job at.now) at.now.first at.now.count p.chains (filters_fault (turn_job at.now) at.now.first filters.now) at.now.pass work.new.lanes.items kept.old kept.new work.old.found work.new.found) }
     ensures made { OnOk result (AllByRecursion (IsNamedMade at.now.count at.now.plan.now kept.new) filters.now) }
     ensures plain { IsPlainTurn at.now → OnErr result ⊥ }
 {
@@ -129,8 +126,7 @@ pub(crate) fn try_pass<L: Ledger>(
     requires ready { (p : IsPlanOfTurn at.now) → IsReadyInTurn at.now p.chains work.old.found.limit work.old.lanes.items kept.old }
     ensures leaves { Leaves at.now work.old work.new steps.old steps.new }
     ensures tried { (p : IsPlanOfTurn at.now)
-        → OnOk result (IsPassTried (turn_job at.now) at.now.first at.now.count p.chains at.now.pass work.new.lanes.items kept.new work.old.found work.new.found) }
-    ensures remade { OnOk result (AreRemade at.now.count kept.old kept.new) }
+        → OnOk result (IsPassTried (turn_job at.now) at.now.first at.now.count p.chains at.now.pass work.new.lanes.items kept.old kept.new work.old.found work.new.found) }
     ensures made { OnOk result (IsPassMade (turn_job at.now) at.now.count at.now.plan.now kept.new at.now.pass) }
     ensures plain { IsPlainTurn at.now → OnErr result ⊥ }
 {

@@ -12,7 +12,7 @@ use std::alloc::Global;
 use std::marker::Model;
 
 /// Places of a block: all of them, or those of a step before that pass the filter of a site, under nominal or a variation.
-#[derive(Clone, Copy, Debug)]
+#[derive(Clone, Copy, Debug, PartialEq, Eq)]
 pub enum Step {
     Block,
     Filter {
@@ -22,39 +22,14 @@ pub enum Step {
     },
 }
 
-// Whether both are the same.
-fn is_same(under: Option<u32>, other: Option<u32>) -> bool
-    ensures { result ≡ true → under ≡ other }
-{
-    match (under, other) {
-        (None, None) => true,
-        (Some(v), Some(w)) => v == w,
-        _ => false,
-    }
-}
-
-// Whether it is that step.
-fn is_filter(step: &Step, parent: u32, site: u32, under: Option<u32>) -> bool
-    ensures { result ≡ true → step.now ≡ Step.Filter parent site under }
-{
-    match step {
-        Step::Block => false,
-        Step::Filter {
-            parent: its_parent,
-            site: its_site,
-            under: its_under,
-        } => *its_parent == parent && *its_site == site && is_same(*its_under, under),
-    }
-}
-
-// The number of a step, if it is there.
-fn find(steps: &[Step], parent: u32, site: u32, under: Option<u32>) -> Option<u32>
+// The number of a step behind that of its parent, if it is there.
+fn find(steps: &[Step], parent: u32, wanted: Step) -> Option<u32>
     requires parent { parent < length steps.now }
     requires few { length steps.now < 2 ^ 32 }
-    ensures { IfSome result (λ k. slice_get steps.now k ≡ Some (Step.Filter parent site under)) }
+    ensures { IfSome result (λ k. slice_get steps.now k ≡ Some wanted) }
 {
     for k in parent + 1..steps.len() as u32 {
-        if is_filter(&steps[k as usize], parent, site, under) {
+        if steps[k as usize] == wanted {
             return Some(k);
         }
     }
@@ -76,14 +51,15 @@ pub(crate) fn next_step(
     if count >= 4294967295 {
         return Err(Memory);
     }
-    if let Some(step) = find(steps.as_slice(), parent, site, under) {
-        return Ok(step);
-    }
-    steps.push(Step::Filter {
+    let wanted = Step::Filter {
         parent,
         site,
         under,
-    })?;
+    };
+    if let Some(step) = find(steps.as_slice(), parent, wanted) {
+        return Ok(step);
+    }
+    steps.push(wanted)?;
     Ok(count as u32)
 }
 
@@ -98,10 +74,7 @@ pub(crate) fn path_steps(
 {
     let mut last = 0;
     for site in path {
-        match next_step(steps, last, *site, under) {
-            Ok(step) => last = step,
-            Err(Memory) => return Err(Memory),
-        }
+        last = next_step(steps, last, *site, under)?;
     }
     Ok(last)
 }
@@ -146,12 +119,7 @@ pub(crate) fn loop_passes<'a>(job: &Job<'a>) -> &'a [Pass]
 fn is_among(number: u32, numbers: &[u32]) -> bool
     ensures { result ≡ list_any (nat_eq number) numbers.now }
 {
-    for other in numbers {
-        if number == *other {
-            return true;
-        }
-    }
-    false
+    numbers.iter().any(|other| number == *other)
 }
 
 // Whether a report of the loop covers the filter of that number.

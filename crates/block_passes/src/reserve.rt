@@ -1,5 +1,6 @@
 // The memory that a slot reserves for its blocks: how many levels its evaluations take, and of which kinds its keys' values are.
-ghost use Rattle.std.specs.Prelude.{◌≤◌, IfOk, IfSome, ◌≡◌, ◌<◌, ◌++◌, OnOk, length, replicate, ◌-◌, All, None};
+ghost use Rattle.std.specs.Prelude.{◌≤◌, IfOk, IfSome, ◌≡◌, ◌<◌, ◌++◌, OnOk, length, replicate, ◌-◌, All, None, count_by};
+ghost use Rattle.expr_check.specs.{is_vector};
 ghost use Rattle.expr_lanes.specs.{depth};
 ghost use Rattle.block_passes.specs.{AreDeepEnough, AreLoaded, CountsVectors, HaveCells, HaveKinds, Kept as KeptPlaces};
 ghost use Rattle.graph_numbers.specs.{graph_sites};
@@ -68,20 +69,21 @@ pub(crate) fn key_kinds(alloc: Global, graph: &Graph) -> Result<ListOf<ColType>,
     Ok(kinds)
 }
 
+// How many of these kinds are of vectors.
+fn vector_count(kinds: &[ColType]) -> usize
+    ensures count { result ≡ count_by is_vector kinds.now }
+    ensures few { result ≤ length kinds.now }
+{
+    kinds.iter().filter(|kind| **kind == ColType::Vect).count()
+}
+
 /// How many of a graph's keys have vectors for values.
 pub fn vector_keys(alloc: Global, graph: &Graph) -> Result<u64, Memory>
     ensures count { IfOk result (CountsVectors graph.now) }
     ensures few { IfOk result (λ keys. keys < 1099511627776) }
 {
     let kinds = key_kinds(alloc, graph)?;
-    let each = kinds.as_slice();
-    let mut vectors = 0;
-    for kind in each {
-        if let ColType::Vect = *kind {
-            vectors += 1;
-        }
-    }
-    Ok(vectors)
+    Ok(vector_count(kinds.as_slice()) as u64)
 }
 
 /// A list of numbers for each of so many columns, with room for so many entries.
@@ -100,36 +102,25 @@ pub(crate) fn new_cells(alloc: Global, columns: usize, size: usize) -> Result<Ve
 pub(crate) fn new_scratch(alloc: Global, count: usize) -> Result<Vec<Scratch>, Memory>
     ensures { IfOk result (λ scratch. length scratch.items ≡ count) }
 {
-    let mut scratch = Vec::with_capacity(alloc, count)?;
-    for _ in 0..count {
-        scratch.push(Scratch::new())?;
-    }
-    Ok(scratch)
+    Ok((0..count).map(|_| Scratch::new()).collect(alloc)?)
 }
 
 /// So many levels for sites within one another.
 pub(crate) fn new_levels(alloc: Global, count: usize) -> Result<Vec<Level>, Memory>
     ensures { IfOk result (λ levels. length levels.items ≡ count) }
 {
-    let mut levels = Vec::with_capacity(alloc, count)?;
-    for _ in 0..count {
-        levels.push(Level::new())?;
-    }
-    Ok(levels)
+    Ok((0..count).map(|_| Level::new()).collect(alloc)?)
 }
 
 /// Room for the selections of so many steps, of which none was made.
 pub(crate) fn new_kept(alloc: Global, count: usize) -> Result<Vec<Kept>, Memory>
     ensures { IfOk result (λ kept. length kept.items ≡ count) }
 {
-    let mut kept = Vec::with_capacity(alloc, count)?;
-    for _ in 0..count {
-        kept.push(Kept {
-            limit: None,
-            places: Selection::new(),
-        })?;
-    }
-    Ok(kept)
+    let none = (0..count).map(|_| Kept {
+        limit: None,
+        places: Selection::new(),
+    });
+    Ok(none.collect(alloc)?)
 }
 
 /// No selection is made any more.

@@ -5,7 +5,7 @@ ghost use Rattle.graph_numbers.specs.{graph_sites};
 ghost use Rattle.expr_lanes.specs.{EachPlace};
 ghost use Rattle.block_cache.specs.{CanFill, kinds_of};
 ghost use Rattle.loop_keys.specs.{ArePlain, job_graph, key};
-ghost use Rattle.block_passes.specs.{AreRemade, CanSelectInTurn, IsFilteredTo, IsKnown, IsNextSelected, IsPlainTurn, IsPlanOfTurn, IsReadyInTurn, IsSelectedInTurn, IsSpentInTurn, IsTurn, KeepsRoom, Kept as KeptView, Leaves, turn_job};
+ghost use Rattle.block_passes.specs.{CanSelectInTurn, IsFilteredTo, IsKnown, IsNextSelected, IsPlainTurn, IsPlanOfTurn, IsReadyInTurn, IsSelectedInTurn, IsSpentInTurn, IsTurn, KeepsRoom, Kept as KeptView, Leaves, turn_job};
 
 use crate::plan::Step;
 use crate::turn::{Kept, NextStep, SiteFilter, Turn, Work};
@@ -86,8 +86,7 @@ pub(crate) fn next_places<L: Ledger>(
     requires made { (s : KeptView) → slice_get (above.now ++ own.old) next.parent ≡ Some s → s.limit ≡ Some work.old.found.limit }
     ensures leaves { Leaves at.now work.old work.new steps.old steps.new }
     ensures selected { (p : IsPlanOfTurn at.now)
-        → OnOk result (IsNextSelected (turn_job at.now) at.now.first at.now.count p.chains at.now.pass next.step next.parent next.filter.site next.filter.under work.new.lanes.items (above.now ++ own.new) work.old.found work.new.found) }
-    ensures remade { OnOk result (AreRemade at.now.count (above.now ++ own.old) (above.now ++ own.new)) }
+        → OnOk result (IsNextSelected (turn_job at.now) at.now.first at.now.count p.chains at.now.pass next.step next.parent next.filter.site next.filter.under work.new.lanes.items (above.now ++ own.old) (above.now ++ own.new) work.old.found work.new.found) }
     ensures plain { IsPlainTurn at.now → OnErr result ⊥ }
 {
     filter_places(
@@ -114,8 +113,7 @@ pub(crate) fn select_step<L: Ledger>(
     requires ready { (p : IsPlanOfTurn at.now) → IsReadyInTurn at.now p.chains work.old.found.limit work.old.lanes.items kept.old }
     ensures leaves { Leaves at.now work.old work.new steps.old steps.new }
     ensures selected { (p : IsPlanOfTurn at.now)
-        → OnOk result (IsSelectedInTurn at.now p.chains step work.new.lanes.items kept.new work.old.found work.new.found) }
-    ensures remade { OnOk result (AreRemade at.now.count kept.old kept.new) }
+        → OnOk result (IsSelectedInTurn at.now p.chains step work.new.lanes.items kept.old kept.new work.old.found work.new.found) }
     ensures plain { IsPlainTurn at.now → OnErr result ⊥ }
 {
     let limit = work.found.limit;
@@ -158,8 +156,7 @@ pub(crate) fn select_again<L: Ledger>(
     requires ready { (p : IsPlanOfTurn at.now) → IsReadyInTurn at.now p.chains work.old.found.limit work.old.lanes.items kept.old }
     ensures leaves { Leaves at.now work.old work.new steps.old steps.new }
     ensures selected { (p : IsPlanOfTurn at.now)
-        → OnOk result (IsSelectedInTurn at.now p.chains step work.new.lanes.items kept.new work.old.found work.new.found) }
-    ensures remade { OnOk result (AreRemade at.now.count kept.old kept.new) }
+        → OnOk result (IsSelectedInTurn at.now p.chains step work.new.lanes.items kept.old kept.new work.old.found work.new.found) }
     ensures plain { IsPlainTurn at.now → OnErr result ⊥ }
 {
     if kept[step as usize].is_made(work.found.limit) {

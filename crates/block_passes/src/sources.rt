@@ -45,7 +45,7 @@ fn version_lane<'a: 's, 's>(
     requires over { IsOver at.now lanes.now }
     requires can { (scratch levels : ℕ) × CanServeWith at.now under lanes.now scratch levels version }
     requires copied { IsCopyInTurn at.now under lanes.now _selection.now version copied.now }
-    ensures { (p : ℕ) → p < at.now.count → is_in p _selection.now ≡ true → IsAtHand (turn_job at.now) lanes.now under p (source_in_turn at.now under version)
+    ensures { (p : ℕ) → p < at.now.count → is_in p _selection.now ≡ true → IsAtHand (turn_job at.now) at.now.first lanes.now under p (source_in_turn at.now under version)
         → IsLaneOf (version_in {M = ⊥} (turn_job at.now) (at.now.first + p) under version) result p }
 {
     match copied {
@@ -89,7 +89,7 @@ pub(crate) fn lane_in_place<'a: 's, 's>(
 ) -> Option<FedLane<'s>>
     requires over { IsOver at.now lanes.now }
     requires can { (scratch levels : ℕ) × CanServeWith at.now under lanes.now scratch levels version }
-    ensures given { IfSome result (λ lane. (p : ℕ) → p < at.now.count → IsAtHand (turn_job at.now) lanes.now under p (source_in_turn at.now under version)
+    ensures given { IfSome result (λ lane. (p : ℕ) → p < at.now.count → IsAtHand (turn_job at.now) at.now.first lanes.now under p (source_in_turn at.now under version)
         → IsLaneOf (version_in {M = ⊥} (turn_job at.now) (at.now.first + p) under version) lane p) }
     ensures whole { IsWhole (turn_job at.now) under (kinds_of lanes.now) (source_in_turn at.now under version) → result ≡ None → ⊥ }
 {

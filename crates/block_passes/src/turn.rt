@@ -61,8 +61,9 @@ pub struct Kept {
 impl Kept {
     /// Whether a selection was made; only the places below the limit are left of it.
     pub(crate) fn narrow(&mut self, limit: u32) -> bool
-        ensures none { self.old.limit ≡ None → (result ≡ false) × (self.new ≡ self.old) }
-        ensures some { (made : ℕ) → self.old.limit ≡ Some made → (result ≡ true) × IsNarrowed limit made self.old self.new }
+        ensures made { result ≡ true → (made : ℕ) × (self.old.limit ≡ Some made) × IsNarrowed limit made self.old self.new }
+        ensures none { result ≡ false → self.new ≡ self.old }
+        ensures some { (made : ℕ) → self.old.limit ≡ Some made → IsNarrowed limit made self.old self.new }
     {
         let Some(made) = self.limit else {
             return false;

@@ -1,4 +1,4 @@
-use Rattle.std.proofs.Common.{FitsSigned, length-set, of_z, rules, set, to_z, w64, ℤ, ◌≡◌, ◌∙◌, ◌+◌, ℕ, List, ap, arith, length}
+use Rattle.std.proofs.Common.{FitsSigned, length-set, rules, set, w64, ℤ, ◌≡◌, ◌∙◌, ◌+◌, ℕ, List, ap, arith, length}
 use Rattle.std.proofs.lemmas.Int.{to_z-of_z}
 use Rattle.graph_numbers.specs.{Source, source_value}
 use Rattle.loop_keys.specs.{row_of, site_in}

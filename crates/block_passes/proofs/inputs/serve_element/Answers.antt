@@ -1,8 +1,5 @@
-use Rattle.std.proofs.Common.{List, arith, subst, sym}
-use Rattle.graph_numbers.specs.{Source}
-use Rattle.expr_lanes.specs.{EachPlace}
-use Rattle.block_cache.specs.{IsSpentOver, LaneView}
-use Rattle.block_passes.specs.{element_fault, IsAtHand, IsServedTo, turn_job}
+use Rattle.std.proofs.Common.{arith}
+use Rattle.block_passes.specs.{turn_job}
 use Rattle.block_passes.proofs.Serving.{element_held, element_served, served_inside}
 use Rattle.block_passes.proofs.inputs.serve_element.Goals as goal
 
@@ -18,24 +15,23 @@ test_elements-requires-clause-selected g c =
     record { made = c.in_ok-serve_site.ensures.served.its_limit; inside = served_inside (turn_job c.args.at.now) c.args.at.now.first c.args.at.now.count _ c.args.at.now.pass _ c.serve_site.new.to c.serve_site.new.work.lanes.items c.args.work.now.found c.serve_site.new.work.found c.in_ok-serve_site.ensures.served }
 
 pub returns-clause-spent : goal.returns-clause-spent
-returns-clause-spent g c =
-    let j = turn_job c.args.at.now in
-    subst (λ (ls : List LaneView). IsSpentOver j c.args.at.now.first c.args.of.now.under c.args.of.now.site c.args.to.now.places c.args.work.now.lanes.items ls c.args.steps.now c.serve_site.new.steps) (sym c.test_elements.ensures.lanes) c.serve_site.ensures.spent
+returns-clause-spent g c = rw c.test_elements.ensures.lanes c.serve_site.ensures.spent
 
 pub returns-clause-served : goal.returns-clause-served
 returns-clause-served g c =
-    let j = turn_job c.args.at.now in
-    subst (λ (ls : List LaneView). IsServedTo j c.args.at.now.first c.args.at.now.count (element_fault j c.args.at.now.first c.args.of.now.under c.args.of.now.site c.args.of.now.nth c.args.of.now.tags) c.args.at.now.pass c.args.to.now.places c.test_elements.new.to ls c.args.work.now.found c.test_elements.new.work.found) (sym c.test_elements.ensures.lanes)
-    (element_served j c.args.at.now.first c.args.at.now.count c.args.of.now.under c.args.of.now.site c.args.of.now.nth c.args.of.now.tags c.args.at.now.pass c.args.to.now.places c.serve_site.new.to c.test_elements.new.to c.serve_site.new.work.lanes.items c.serve_site.new.work.lanes.items c.args.work.now.found c.serve_site.new.work.found c.test_elements.new.work.found c.in_ok-serve_site.ensures.served c.test_elements.ensures.tested)
+    element_served (turn_job c.args.at.now) c.args.at.now.first c.args.at.now.count c.args.of.now.under c.args.of.now.site c.args.of.now.nth c.args.of.now.tags c.args.at.now.pass
+    c.args.to.now.places c.serve_site.new.to c.test_elements.new.to c.serve_site.new.work.lanes.items c.test_elements.new.work.lanes.items
+    c.args.work.now.found c.serve_site.new.work.found c.test_elements.new.work.found c.in_ok-serve_site.ensures.served c.test_elements.ensures.tested
 
 pub returns-clause-held : goal.returns-clause-held
 returns-clause-held g c =
-    let j = turn_job c.args.at.now in
     let a = c.in_ok-serve_site.ensures.served.lowers.falls in
     let b = c.test_elements.ensures.tested.lowers.falls in
     let l = c.requires.known.limit in
-    subst (λ (ls : List LaneView). EachPlace c.test_elements.new.to.places (λ p. IsAtHand j ls c.args.of.now.under p (Source.Element c.args.of.now.site c.args.of.now.nth c.args.of.now.tags))) (sym c.test_elements.ensures.lanes)
-    (element_held j c.args.at.now.first c.args.at.now.count c.args.of.now.under c.args.of.now.site c.args.of.now.nth c.args.of.now.tags c.args.at.now.pass c.args.to.now.places c.serve_site.new.to c.test_elements.new.to c.serve_site.new.work.lanes.items c.serve_site.new.work.lanes.items c.args.work.now.found c.serve_site.new.work.found c.test_elements.new.work.found c.in_ok-serve_site.ensures.served c.test_elements.ensures.tested c.requires.site (omega (arith, a, b, l)) c.in_ok-serve_site.ensures.held)
+    element_held (turn_job c.args.at.now) c.args.at.now.first c.args.at.now.count c.args.of.now.under c.args.of.now.site c.args.of.now.nth c.args.of.now.tags c.args.at.now.pass
+    c.args.to.now.places c.serve_site.new.to c.test_elements.new.to c.serve_site.new.work.lanes.items c.test_elements.new.work.lanes.items
+    c.args.work.now.found c.serve_site.new.work.found c.test_elements.new.work.found c.in_ok-serve_site.ensures.served c.test_elements.ensures.tested
+    c.requires.site (omega (arith, a, b, l)) (rw c.test_elements.ensures.lanes c.in_ok-serve_site.ensures.held)
 
 pub returns-in_err-serve_site-clause-plain : goal.returns-in_err-serve_site-clause-plain
 returns-in_err-serve_site-clause-plain g c = λ used p u. absurd (c.in_err-serve_site.ensures.plain used p u)

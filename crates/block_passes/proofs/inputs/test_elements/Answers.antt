@@ -12,4 +12,4 @@ pub returns-clause-tested : goal.returns-clause-tested
 returns-clause-tested g c =
     part_served (turn_job c.args.at.now) c.args.at.now.first c.args.at.now.count (element_fault (turn_job c.args.at.now) c.args.at.now.first c.args.of.now.under c.args.of.now.site c.args.of.now.nth c.args.of.now.tags) c.args.at.now.pass c.args.to.now c.narrow-made.new.self c.args.work.now.lanes.items c.args.work.now.found c.note.new.self
     c.first_without-fault.result c.requires.known.ready c.requires.known.settled c.as_slice-rising.ensures.rising c.requires.selected.inside c.first_without-fault.ensures c.note.ensures
-    c.requires.selected.made (c.narrow-made.ensures.some c.args.work.now.found.limit c.requires.selected.made).1
+    c.requires.selected.made (c.narrow-made.ensures.some c.args.work.now.found.limit c.requires.selected.made)

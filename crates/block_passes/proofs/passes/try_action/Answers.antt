@@ -3,7 +3,7 @@ use Rattle.lemmas.proofs.{AllByRecursion, on_ok_weaker, slice_get-get_or}
 use Rattle.rdf_values.specs.{ColType}
 use Rattle.block_cache.specs.{kinds_of, LaneView}
 use Rattle.block_passes.specs.{CanServe, IsMadeAt, IsMadeBelow, IsPassTried, IsServedTo, unfed, turn_job}
-use Rattle.block_passes.proofs.Selecting.{made_set, remade_set, remade_then, kept_inside}
+use Rattle.block_passes.proofs.Selecting.{made_set, kept_inside}
 use Rattle.block_passes.proofs.Serving.{served_inside, plain_reads, leaves_kept, leaves_then}
 use Rattle.block_passes.proofs.Trying.{action_tried, gathers, has_step, last_there, read_plain, to_demanded, to_inside, to_limit}
 use Rattle.block_passes.proofs.passes.try_action.Goals as goal
@@ -25,8 +25,8 @@ serve_inputs-requires-clause-selected g c =
     let to = get_or c.select_again.new.kept c.last_step-last.result c.index-kept-last.result in
     let there = slice_get-get_or c.select_again.new.kept c.last_step-last.result c.index-kept-last.result lt in
     record {
-      made = to_limit (turn_job c.args.at.now) c.requires.turn.fits.job c.args.at.now.first c.args.at.now.count c.args.at.now.pass c.args.at.now.plan.now c.requires.turn.plan c.requires.turn.within c.args.own.now.kind.now c.args.own.now.inputs.now c.args.own.now.under c.requires.action c.last_step-last.result c.last_step-last.ensures c.select_again.new.kept c.select_again.new.work.lanes.items c.args.work.now.found c.select_again.new.work.found (c.in_ok-select_again.ensures.selected c.requires.turn.plan) to there;
-      inside = to_inside (turn_job c.args.at.now) c.requires.turn.fits.job c.args.at.now.first c.args.at.now.count c.args.at.now.pass c.args.at.now.plan.now c.requires.turn.plan c.requires.turn.within c.args.own.now.kind.now c.args.own.now.inputs.now c.args.own.now.under c.requires.action c.last_step-last.result c.last_step-last.ensures c.select_again.new.kept c.select_again.new.work.lanes.items c.args.work.now.found c.select_again.new.work.found (c.in_ok-select_again.ensures.selected c.requires.turn.plan) to there;
+      made = to_limit (turn_job c.args.at.now) c.requires.turn.fits.job c.args.at.now.first c.args.at.now.count c.args.at.now.pass c.args.at.now.plan.now c.requires.turn.plan c.requires.turn.within c.args.own.now.kind.now c.args.own.now.inputs.now c.args.own.now.under c.requires.action c.last_step-last.result c.last_step-last.ensures c.args.kept.now c.select_again.new.kept c.select_again.new.work.lanes.items c.args.work.now.found c.select_again.new.work.found (c.in_ok-select_again.ensures.selected c.requires.turn.plan) to there;
+      inside = to_inside (turn_job c.args.at.now) c.requires.turn.fits.job c.args.at.now.first c.args.at.now.count c.args.at.now.pass c.args.at.now.plan.now c.requires.turn.plan c.requires.turn.within c.args.own.now.kind.now c.args.own.now.inputs.now c.args.own.now.under c.requires.action c.last_step-last.result c.last_step-last.ensures c.args.kept.now c.select_again.new.kept c.select_again.new.work.lanes.items c.args.work.now.found c.select_again.new.work.found (c.in_ok-select_again.ensures.selected c.requires.turn.plan) to there;
     }
 
 pub serve_inputs-requires-clause-demanded : goal.serve_inputs-requires-clause-demanded
@@ -34,7 +34,7 @@ serve_inputs-requires-clause-demanded g c =
     let lt = kept_inside (turn_job c.args.at.now) c.args.at.now.first c.select_again.new.work.found.limit c.requires.turn.plan.chains c.args.at.now.plan.now.steps c.select_again.new.kept c.last_step-last.result c.requires.turn.plan.steps (c.in_ok-select_again.ensures.selected c.requires.turn.plan).ready.kept_are (last_there (turn_job c.args.at.now) c.requires.turn.fits.job c.args.at.now.first c.args.at.now.count c.args.at.now.pass c.args.at.now.plan.now c.requires.turn.plan c.requires.turn.within c.args.own.now.kind.now c.args.own.now.inputs.now c.args.own.now.under c.requires.action c.last_step-last.result c.last_step-last.ensures) in
     let to = get_or c.select_again.new.kept c.last_step-last.result c.index-kept-last.result in
     let there = slice_get-get_or c.select_again.new.kept c.last_step-last.result c.index-kept-last.result lt in
-    to_demanded (turn_job c.args.at.now) c.requires.turn.fits.job c.args.at.now.first c.args.at.now.count c.args.at.now.pass c.args.at.now.plan.now c.requires.turn.plan c.requires.turn.within c.args.own.now.kind.now c.args.own.now.inputs.now c.args.own.now.under c.requires.action c.last_step-last.result c.last_step-last.ensures c.select_again.new.kept c.select_again.new.work.lanes.items c.args.work.now.found c.select_again.new.work.found (c.in_ok-select_again.ensures.selected c.requires.turn.plan) to there
+    to_demanded (turn_job c.args.at.now) c.requires.turn.fits.job c.args.at.now.first c.args.at.now.count c.args.at.now.pass c.args.at.now.plan.now c.requires.turn.plan c.requires.turn.within c.args.own.now.kind.now c.args.own.now.inputs.now c.args.own.now.under c.requires.action c.last_step-last.result c.last_step-last.ensures c.args.kept.now c.select_again.new.kept c.select_again.new.work.lanes.items c.args.work.now.found c.select_again.new.work.found (c.in_ok-select_again.ensures.selected c.requires.turn.plan) to there
 
 pub returns-in_err-serve_inputs-clause-leaves : goal.returns-in_err-serve_inputs-clause-leaves
 returns-in_err-serve_inputs-clause-leaves g c = leaves_then _ _ _ _ _ _ _ c.select_again.ensures.leaves c.serve_inputs.ensures.leaves
@@ -72,14 +72,9 @@ returns g c =
       tried = λ p.
           on_ok_weaker c.test_feeding.result
           (λ (tested : IsServedTo j c.args.at.now.first c.args.at.now.count (unfed j c.args.at.now.first c.args.own.now.kind.now c.args.own.now.inputs.now c.args.own.now.under) c.args.at.now.pass c.serve_inputs.new.to.places c.test_feeding.new.to c.serve_inputs.new.work.lanes.items c.serve_inputs.new.work.found c.test_feeding.new.work.found).
-          subst (λ (ls : List LaneView). IsPassTried j c.args.at.now.first c.args.at.now.count p.chains c.args.at.now.pass ls (slice_set c.select_again.new.kept c.last_step-last.result c.test_feeding.new.to) c.args.work.now.found c.test_feeding.new.work.found) (sym c.test_feeding.ensures.lanes)
-          (action_tried j c.requires.turn.fits.job c.args.at.now.first c.args.at.now.count c.args.at.now.pass c.args.at.now.plan.now p c.requires.turn.within c.args.own.now.kind.now c.args.own.now.inputs.now c.args.own.now.under c.requires.action c.last_step-last.result c.last_step-last.ensures c.select_again.new.kept c.select_again.new.work.lanes.items c.args.work.now.found c.select_again.new.work.found (c.in_ok-select_again.ensures.selected p) _ there (c.requires.ready p).within c.serve_inputs.new.to c.test_feeding.new.to c.serve_inputs.new.work.lanes.items c.serve_inputs.new.work.found c.test_feeding.new.work.found
+          subst (λ (ls : List LaneView). IsPassTried j c.args.at.now.first c.args.at.now.count p.chains c.args.at.now.pass ls c.args.kept.now (slice_set c.select_again.new.kept c.last_step-last.result c.test_feeding.new.to) c.args.work.now.found c.test_feeding.new.work.found) (sym c.test_feeding.ensures.lanes)
+          (action_tried j c.requires.turn.fits.job c.args.at.now.first c.args.at.now.count c.args.at.now.pass c.args.at.now.plan.now p c.requires.turn.within c.args.own.now.kind.now c.args.own.now.inputs.now c.args.own.now.under c.requires.action c.last_step-last.result c.last_step-last.ensures c.args.kept.now c.select_again.new.kept c.select_again.new.work.lanes.items c.args.work.now.found c.select_again.new.work.found (c.in_ok-select_again.ensures.selected p) _ there (c.requires.ready p).within c.serve_inputs.new.to c.test_feeding.new.to c.serve_inputs.new.work.lanes.items c.serve_inputs.new.work.found c.test_feeding.new.work.found
           c.in_ok-serve_inputs.ensures.served c.in_ok-serve_inputs.ensures.held tested (slice_set c.select_again.new.kept c.last_step-last.result c.test_feeding.new.to) refl))
-          c.test_feeding.ensures.tested;
-      remade =
-          on_ok_weaker c.test_feeding.result
-          (λ tested. remade_then c.args.at.now.count c.args.kept.now c.select_again.new.kept (slice_set c.select_again.new.kept c.last_step-last.result c.test_feeding.new.to) c.in_ok-select_again.ensures.remade
-          (remade_set c.args.at.now.count c.select_again.new.kept c.last_step-last.result c.test_feeding.new.to (slice_set c.select_again.new.kept c.last_step-last.result c.test_feeding.new.to) refl (made_below tested)))
           c.test_feeding.ensures.tested;
       made =
           on_ok_weaker c.test_feeding.result

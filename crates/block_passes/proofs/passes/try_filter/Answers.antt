@@ -1,10 +1,9 @@
 use Rattle.std.proofs.Common.{◌≡◌, ◌∙◌, Some, ap, subst, sym}
 use Rattle.std.proofs.lemmas.Result.{on_ok_weaker}
-use Rattle.block_passes.specs.{AreRemade, IsMadeAt, IsSelectedTo, NamedSteps, turn_job}
-use Rattle.block_passes.proofs.Selecting.{made_selected, made_stays, remade_then}
+use Rattle.block_passes.specs.{IsMadeAt, IsSelectedTo, NamedSteps, turn_job}
+use Rattle.block_passes.proofs.Selecting.{made_selected, made_stays}
 use Rattle.block_passes.proofs.Serving.{leaves_then}
 use Rattle.block_passes.proofs.Trying.{above_there, filter_tried, has_named, never_none, own_there}
-use Rattle.cluster_tally.proofs.Closing.{on_both_ok}
 use Rattle.loop_keys.proofs.PassNumbers.{some_same}
 use Rattle.block_passes.proofs.passes.try_filter.Goals as goal
 
@@ -25,27 +24,22 @@ returns-in-Ok g c = record {
   leaves = leaves_then _ _ _ _ _ _ _ c.select_again.ensures.leaves c.select_again-in-Ok.ensures.leaves;
   tried = λ p.
       on_ok_weaker c.select_again-in-Ok.result
-      (λ (k : IsSelectedTo (turn_job c.args.at.now) c.args.at.now.first c.args.at.now.count p.chains c.args.at.now.pass c.in-Some.named.own c.select_again-in-Ok.new.work.lanes.items c.select_again-in-Ok.new.kept c.select_again.new.work.found c.select_again-in-Ok.new.work.found).
-      filter_tried (turn_job c.args.at.now) c.requires.turn.fits.job c.args.filter c.requires.covered c.args.at.now.plan.now p c.in-Some.named (c.named.ensures ∙ ap Some c.in-Some.is) c.args.at.now.first c.args.at.now.count c.args.at.now.pass c.select_again.new.work.lanes.items c.select_again-in-Ok.new.work.lanes.items c.select_again.new.kept c.select_again-in-Ok.new.kept c.args.work.now.found c.select_again.new.work.found c.select_again-in-Ok.new.work.found
+      (λ (k : IsSelectedTo (turn_job c.args.at.now) c.args.at.now.first c.args.at.now.count p.chains c.args.at.now.pass c.in-Some.named.own c.select_again-in-Ok.new.work.lanes.items c.select_again.new.kept c.select_again-in-Ok.new.kept c.select_again.new.work.found c.select_again-in-Ok.new.work.found).
+      filter_tried (turn_job c.args.at.now) c.requires.turn.fits.job c.args.filter c.requires.covered c.args.at.now.plan.now p c.in-Some.named (c.named.ensures ∙ ap Some c.in-Some.is) c.args.at.now.first c.args.at.now.count c.args.at.now.pass c.select_again.new.work.lanes.items c.select_again-in-Ok.new.work.lanes.items c.args.kept.now c.select_again.new.kept c.select_again-in-Ok.new.kept c.args.work.now.found c.select_again.new.work.found c.select_again-in-Ok.new.work.found
       (c.in-Ok.ensures.selected p) k)
       (c.select_again-in-Ok.ensures.selected p);
-  remade =
-      on_ok_weaker c.select_again-in-Ok.result
-      (λ (k : AreRemade c.args.at.now.count c.select_again.new.kept c.select_again-in-Ok.new.kept). remade_then c.args.at.now.count c.args.kept.now c.select_again.new.kept c.select_again-in-Ok.new.kept c.in-Ok.ensures.remade k)
-      c.select_again-in-Ok.ensures.remade;
   made =
       let p = c.requires.turn.plan in
       let j = turn_job c.args.at.now in
-      let above = made_selected c.args.at.now.count j c.args.at.now.first p.chains c.args.at.now.pass c.in-Some.named.above c.select_again.new.work.lanes.items c.select_again.new.kept c.args.work.now.found c.select_again.new.work.found (c.in-Ok.ensures.selected p) in
-      on_both_ok c.select_again-in-Ok.result
-      (λ (selected : IsSelectedTo j c.args.at.now.first c.args.at.now.count p.chains c.args.at.now.pass c.in-Some.named.own c.select_again-in-Ok.new.work.lanes.items c.select_again-in-Ok.new.kept c.select_again.new.work.found c.select_again-in-Ok.new.work.found)
-      (remade : AreRemade c.args.at.now.count c.select_again.new.kept c.select_again-in-Ok.new.kept).
+      let above = made_selected c.args.at.now.count j c.args.at.now.first p.chains c.args.at.now.pass c.in-Some.named.above c.select_again.new.work.lanes.items c.args.kept.now c.select_again.new.kept c.args.work.now.found c.select_again.new.work.found (c.in-Ok.ensures.selected p) in
+      on_ok_weaker c.select_again-in-Ok.result
+      (λ (selected : IsSelectedTo j c.args.at.now.first c.args.at.now.count p.chains c.args.at.now.pass c.in-Some.named.own c.select_again-in-Ok.new.work.lanes.items c.select_again.new.kept c.select_again-in-Ok.new.kept c.select_again.new.work.found c.select_again-in-Ok.new.work.found).
       λ s its.
       let same : c.in-Some.named ≡ s = some_same c.in-Some.named s (some_same (Some c.in-Some.named) (Some s) (sym (c.named.ensures ∙ ap Some c.in-Some.is) ∙ its)) in
       subst (λ (n : NamedSteps). IsMadeAt c.args.at.now.count c.select_again-in-Ok.new.kept n.above × IsMadeAt c.args.at.now.count c.select_again-in-Ok.new.kept n.own) same (
-        made_stays c.args.at.now.count c.select_again.new.kept c.select_again-in-Ok.new.kept c.in-Some.named.above remade above,
-        made_selected c.args.at.now.count j c.args.at.now.first p.chains c.args.at.now.pass c.in-Some.named.own c.select_again-in-Ok.new.work.lanes.items c.select_again-in-Ok.new.kept c.select_again.new.work.found c.select_again-in-Ok.new.work.found selected,
+        made_stays c.args.at.now.count c.select_again.new.kept c.select_again-in-Ok.new.kept c.in-Some.named.above selected.remade above,
+        made_selected c.args.at.now.count j c.args.at.now.first p.chains c.args.at.now.pass c.in-Some.named.own c.select_again-in-Ok.new.work.lanes.items c.select_again.new.kept c.select_again-in-Ok.new.kept c.select_again.new.work.found c.select_again-in-Ok.new.work.found selected,
       ))
-      (c.select_again-in-Ok.ensures.selected p) c.select_again-in-Ok.ensures.remade;
+      (c.select_again-in-Ok.ensures.selected p);
   plain = c.select_again-in-Ok.ensures.plain;
 }

@@ -27,10 +27,9 @@ returns-in-None g c =
       leaves = c.try_filters.ensures.leaves;
       tried = λ p.
           on_ok_weaker c.try_filters.result
-          (λ (t : IsTriedTo j c.args.at.now.first c.args.at.now.count p.chains (filters_fault j c.args.at.now.first c.covered.result.now) c.args.at.now.pass c.try_filters.new.work.lanes.items c.try_filters.new.kept c.args.work.now.found c.try_filters.new.work.found).
-          report_tried j c.requires.turn.fits.job c.args.at.now.first c.args.at.now.count p.chains c.args.at.now.pass c.args.own.result rep c.covered.result.now covers c.requires.turn.within c.try_filters.new.work.lanes.items c.try_filters.new.kept c.args.work.now.found c.try_filters.new.work.found (c.requires.ready p).within t)
+          (λ (t : IsTriedTo j c.args.at.now.first c.args.at.now.count p.chains (filters_fault j c.args.at.now.first c.covered.result.now) c.args.at.now.pass c.try_filters.new.work.lanes.items c.args.kept.now c.try_filters.new.kept c.args.work.now.found c.try_filters.new.work.found).
+          report_tried j c.requires.turn.fits.job c.args.at.now.first c.args.at.now.count p.chains c.args.at.now.pass c.args.own.result rep c.covered.result.now covers c.requires.turn.within c.try_filters.new.work.lanes.items c.args.kept.now c.try_filters.new.kept c.args.work.now.found c.try_filters.new.work.found (c.requires.ready p).within t)
           (c.try_filters.ensures.tried p);
-      remade = c.try_filters.ensures.remade;
       made =
           on_ok_weaker c.try_filters.result
           (λ (h : AllByRecursion (IsNamedMade c.args.at.now.count c.args.at.now.plan.now c.try_filters.new.kept) c.covered.result.now).

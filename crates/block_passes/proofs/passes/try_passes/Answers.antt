@@ -33,14 +33,13 @@ loop-pass-preserved g c =
     let leaves : Leaves c.args.at.now c.loop-pass.work c.try_pass.new.work c.loop-pass.steps c.try_pass.new.steps = record { spends = spends; scratch = left.scratch; levels = left.levels } in
     let tried = rw c.go_to.ensures at c.in_ok-try_pass.ensures.tried in
     let made = rw c.go_to.ensures at c.in_ok-try_pass.ensures.made in
-    let remade = rw c.go_to.ensures at c.in_ok-try_pass.ensures.remade in
     record {
       same = rw c.go_to.ensures refl;
       leaves = leaves_then _ _ _ _ _ _ _ c.loop-pass.invariant.leaves leaves;
       searched = λ p. next_searched (turn_job c.args.at.now) c.args.at.now.first c.args.at.now.count c.loop-pass.work.lanes.items c.try_pass.new.work.lanes.items c.loop-pass.steps c.try_pass.new.steps spends p.chains c.loop-pass.pass c.loop-pass.kept c.try_pass.new.kept c.loop-pass.work.found c.try_pass.new.work.found
           (c.loop-pass.invariant.searched p) (tried p);
       made = below_more (IsPassMade (turn_job c.args.at.now) c.args.at.now.count c.args.at.now.plan.now c.try_pass.new.kept) c.loop-pass.pass
-          (λ n lt. pass_stays (turn_job c.args.at.now) c.args.at.now.count c.args.at.now.plan.now c.loop-pass.kept c.try_pass.new.kept n remade (c.loop-pass.invariant.made n lt)) made;
+          (λ n lt. pass_stays (turn_job c.args.at.now) c.args.at.now.count c.args.at.now.plan.now c.loop-pass.kept c.try_pass.new.kept n (tried c.requires.turn.plan).remade (c.loop-pass.invariant.made n lt)) made;
     }
 
 pub returns-clause-fault : goal.returns-clause-fault

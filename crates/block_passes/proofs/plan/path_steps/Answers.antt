@@ -15,8 +15,8 @@ pub loop-site-preserved : goal.loop-site-preserved
 loop-site-preserved c = λ chains are.
     let at = c.loop-site.invariant chains are in
     let site = get_or c.args.path.now c.loop-site.site-index 0 in
-    subst (λ (l : List ℕ). IsLed chains l c.args.under c.next_step.new.steps c.in-Ok.step) (sym (take_next c.args.path.now c.loop-site.site-index site (slice_get-get_or c.args.path.now c.loop-site.site-index 0 c.loop-site-test.true)))
-    (path_goes_on chains (take c.loop-site.site-index c.args.path.now) c.args.under c.loop-site.steps c.next_step.new.steps c.loop-site.last c.in-Ok.step site at (c.in-Ok.ensures _ at.last at.are at.its at.alike))
+    subst (λ (l : List ℕ). IsLed chains l c.args.under c.next_step.new.steps c.in_ok-last.last) (sym (take_next c.args.path.now c.loop-site.site-index site (slice_get-get_or c.args.path.now c.loop-site.site-index 0 c.loop-site-test.true)))
+    (path_goes_on chains (take c.loop-site.site-index c.args.path.now) c.args.under c.loop-site.steps c.next_step.new.steps c.loop-site.last c.in_ok-last.last site at (c.in_ok-last.ensures _ at.last at.are at.its at.alike))
 
 pub returns : goal.returns
 returns c = λ chains are.

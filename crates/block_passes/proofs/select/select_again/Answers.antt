@@ -1,4 +1,4 @@
-use Rattle.std.proofs.Common.{inl, refl}
+use Rattle.std.proofs.Common.{refl}
 use Rattle.block_passes.specs.{turn_job}
 use Rattle.block_passes.proofs.Selecting.{made_again, kept_inside}
 use Rattle.block_passes.proofs.select.select_again.Goals as goal
@@ -10,6 +10,3 @@ pub returns-then-is_made-clause-selected : goal.returns-then-is_made-clause-sele
 returns-then-is_made-clause-selected g c = λ p.
     let was = c.if-is_made.ensures refl in
     made_again c.args.at.now p c.args.work.now c.args.kept.now c.args.step c.requires.step (c.requires.ready p) c.index-kept-step.result was.0 was.1 was.2
-
-pub returns-then-is_made-clause-remade : goal.returns-then-is_made-clause-remade
-returns-then-is_made-clause-remade g c = λ k m e. inl e
