@@ -59,6 +59,7 @@ fn fresh(
 
 impl Book {
     /// Nothing is noted. The share at place i has the number i. It takes the memory for all numbers at once.
+    #[tactic(auto, using(crate::proofs::Hands::one_dealt))]
     pub fn new(alloc: Global, slots: u32, clusters: u32) -> Result<(Book, ShareList), Memory>
         requires slots { slots ≤ 16 }
         requires clusters { clusters ≤ 1000000 }
@@ -92,6 +93,7 @@ impl Book {
     }
 
     /// The numbers of the shares, which are all that `new` gave, in the order in which they are handed in.
+    #[tactic(auto, using(crate::proofs::Hands::enters, crate::proofs::Notes::again, crate::proofs::Hands::none_gathered))]
     pub fn close(self, alloc: Global, shares: ShareList) -> Result<Orders, Memory>
         requires all { length shares ≡ self.slots }
         requires of { All (IsOf self) shares }

@@ -1,7 +1,7 @@
-use Rattle.std.proofs.Common.{◌≡◌, ◌≤◌, ◌++◌, ◌-◌, map, take, drop, ap, ◌∙◌, arith, rules, nat_lt}
+use Rattle.std.proofs.Common.{◌≡◌, ◌≤◌, ◌++◌, ◌-◌, map, take, drop, ap, ◌∙◌, rules, nat_lt}
 use Rattle.lemmas.proofs.{IsPartitionedBy-ltb, IsPartitionPoint-from_clause, take_all}
 use Rattle.slot_words.specs.{added_in, cluster_in, piece_in}
-use Rattle.slot_words.proofs.Stretches.{IsStretch, entry_appended, is_stretch, no_fall, stretch}
+use Rattle.slot_words.proofs.Stretches.{IsStretch, is_stretch, no_fall, stretch}
 use Rattle.slot_words.proofs.between.choose_between.Goals as goal
 use Rattle.slot_words.proofs.between.choose_between.Goals.{After-partition_point-end}
 use Rattle.slot_words.proofs.between.choose_between.Given.{Over}
@@ -23,14 +23,6 @@ slice_bounds-noted-items-count g c = (found g (goal.at.slice_bounds-noted-items-
 
 pub slice_bounds-noted-items-start : goal.slice_bounds-noted-items-start
 slice_bounds-noted-items-start g c = let order = (found g (goal.at.slice_bounds-noted-items-start g c).After-partition_point-end).1 in search rules
-
-pub loop-noted-preserved : goal.loop-noted-preserved
-loop-noted-preserved g c =
-    let e = c.noted-item.result in
-    record {
-      clusters = entry_appended cluster_in c.args.clusters.now.items c.push.new.self.items c.loop-noted.clusters.items _ c.loop-noted.noted-index e (omega arith) c.noted-item.is c.in_ok-push.ensures.items c.loop-noted.invariant.clusters;
-      pieces = entry_appended piece_in c.args.pieces.now.items c.push-in-loop-noted.new.self.items c.loop-noted.pieces.items _ c.loop-noted.noted-index e (omega arith) c.noted-item.is c.in_ok-push-2.ensures.items c.loop-noted.invariant.pieces;
-    }
 
 -- all entries of the stretch were appended
 ended : (g : Over) (c : After-partition_point-end g)

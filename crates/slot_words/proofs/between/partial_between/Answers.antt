@@ -1,16 +1,13 @@
-use Rattle.std.proofs.Common.{◌<◌, map, length, [], Some, ap, sym, ◌∙◌, refl, subst, arith, IsPermutation}
+use Rattle.std.proofs.Common.{◌<◌, map, length, [], ap, sym, ◌∙◌, subst, arith, IsPermutation}
 use Rattle.lemmas.proofs.{get_or_from_slice_get, IsNonDecreasingBy-from_sort, IsStrictlyIncreasing, length-map}
 use Rattle.rdf_values.specs.{IsUnion}
 use Rattle.loop_pieces.specs.{WatchStandsFor}
 use Rattle.slot_words.specs.{added, AreOf, cluster_in, piece_in, trails_at}
 use Rattle.slot_words.proofs.Noting.{single, stand_alone, unite}
-use Rattle.slot_words.proofs.Stretches.{all_added, as_long, trail_added}
+use Rattle.slot_words.proofs.Stretches.{all_added, as_long}
 use Rattle.slot_words.proofs.Watched.{trail_there}
 use Rattle.slot_words.proofs.between.partial_between.Goals as goal
 use Rattle.slot_words.proofs.between.partial_between.Goals.{After-sort_unstable}
-
-pub loop-i-init : goal.loop-i-init
-loop-i-init c = record { here = []; are = record { clusters_are = c.new-clusters.ensures.items; pieces_are = c.new-parts.ensures.items }; whole = refl }
 
 pub choose_between-requires : goal.choose_between-requires
 choose_between-requires c =
@@ -24,15 +21,6 @@ choose_between-requires c =
       rises = subst IsStrictlyIncreasing (get_or_from_slice_get os i c.at.result.now [] c.at.ensures ∙ sym c.as_slice.ensures) (c.requires.rise i [] (omega arith));
       bounds = c.requires.bounds;
     }
-
-pub loop-i-preserved : goal.loop-i-preserved
-loop-i-preserved c =
-    let os = c.args.orders.now.slots in
-    let i = c.loop-i.i in
-    let lt : i < length os = omega arith in
-    let there = trail_there c.args.watched i os c.args.pieces.now c.index-pieces-i.result c.index.result.now c.as_slice-in-loop-i.result.now c.requires.numbers c.requires.there lt c.index.ensures c.as_slice-in-loop-i.ensures in
-    trail_added os (trails_at c.args.watched c.args.pieces.now) c.args.low c.args.below i c.as_slice.result.now c.as_slice-in-loop-i.result.now _ _ _ _ c.loop-i.invariant (c.at.ensures ∙ ap Some (sym c.as_slice.ensures)) there
-    c.in_ok-choose_between.ensures.clusters c.in_ok-choose_between.ensures.pieces
 
 -- all trails are gone through
 gone : (c : After-sort_unstable) → AreOf c.loop-i.clusters.items c.loop-i.parts.items (added c.args.orders.now.slots c.args.low c.args.below (trails_at c.args.watched c.args.pieces.now))

@@ -1,31 +1,14 @@
-use Rattle.std.proofs.Common.{ℕ, List, ◌≡◌, [], ◌∷◌, ◌++◌, map, length, sym, ap, ◌∙◌, subst, arith, reverse, append-nil}
-use Rattle.lemmas.proofs.{All-weaker, length-map, map-map, nil_from_length, reverse-append}
+use Rattle.std.proofs.Common.{ℕ, List, ◌≡◌, [], ◌∷◌, ◌++◌, map, length, sym, ap, ◌∙◌, subst, arith, reverse}
+use Rattle.lemmas.proofs.{length-map, map-map, nil_from_length, reverse-append}
 use Rattle.rdf_values.specs.{DrawnBy}
 use Rattle.slot_words.specs.{AreNotings, many_in, ShareSeen}
-use Rattle.slot_words.specs.Shares.{IsOf, hand_seen}
+use Rattle.slot_words.specs.Shares.{hand_seen}
 use Rattle.slot_words.proofs.Notes.{again, closed, noted_by}
-use Rattle.slot_words.proofs.Hands.{taken_next, IsGathering, all_gathered, enters, gathers, next_gathered, next_of, none_gathered}
+use Rattle.slot_words.proofs.Hands.{taken_next, all_gathered, gathers, next_gathered, next_of}
 use Rattle.slot_words.proofs.book.Book.close.Goals as goal
 
 abbrev numbers_in : ShareSeen → List ℕ
 numbers_in s = s.numbers
-
-pub load_new_seat-all-requires : goal.load_new_seat-all-requires
-load_new_seat-all-requires c =
-    let key = c.self.inside.table.shared.key in
-    let self = c.self.invariant in
-    (omega arith, enters (AreNotings key) (again key) c.self.inside.table.shared.table_id.slots 0)
-
-pub loop-next-init : goal.loop-next-init
-loop-next-init c =
-    let table = ap (λ v. v.table) c.self.view_is in
-    let new = c.load_new_seat-all.ensures in
-    let rest = All-weaker (IsOf c.args.self) (λ s. s.table ≡ c.self.inside.table.shared.table_id) (λ s o. o.0 ∙ sym table) c.args.shares c.requires.of in
-    record {
-      gathering = subst (λ l. IsGathering hand_seen (λ (s : ShareSeen). s.table) c.self.inside.table.shared.table_id c.args.shares l c.load_new_seat-all.result.1.table_id c.load_new_seat-all.result.1.me) (sym c.into_vec-left.ensures)
-          (none_gathered hand_seen (λ (s : ShareSeen). s.table) _ c.args.shares _ _ new.0 new.2 rest);
-      numbers = ap (λ l. map numbers_in c.into_vec-left.result.items ++ reverse l) c.new-lists.ensures.items ∙ append-nil (map numbers_in c.into_vec-left.result.items) ∙ ap (map numbers_in) c.into_vec-left.ensures;
-    }
 
 pub join_seat-requires : goal.join_seat-requires
 join_seat-requires c =

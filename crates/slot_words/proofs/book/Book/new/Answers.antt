@@ -1,7 +1,7 @@
 use Rattle.std.proofs.Common.{◌+◌, ◌-◌, [], ap, ◌∙◌, arith}
 use Rattle.slot_words.specs.{AreNotings}
 use Rattle.slot_words.proofs.Notes.{again, opens}
-use Rattle.slot_words.proofs.Hands.{deals, many_left, next_dealt, one_dealt}
+use Rattle.slot_words.proofs.Hands.{deals, many_left, next_dealt}
 use Rattle.slot_words.proofs.book.Book.new.Goals as goal
 
 pub of_words-requires : goal.of_words-requires
@@ -13,15 +13,9 @@ split_seat-seat-requires c =
     let left = many_left _ _ _ _ _ _ _ _ c.loop-slot.invariant in
     (c.loop-slot.invariant.of, omega (arith, c.in_ok-table.ensures), deals (AreNotings key) (again key) c.loop-slot.first.id c.loop-slot.first.me.0 (omega arith))
 
-pub fresh-requires : goal.fresh-requires
-fresh-requires = grind (arith, one_dealt)
-
 pub loop-slot-preserved : goal.loop-slot-preserved
 loop-slot-preserved c =
     let i = c.loop-slot.invariant in
     let s = c.split_seat-seat.ensures in
     next_dealt _ _ _ _ _ _ _ _ i (c.args.slots - (c.loop-slot.slot + 1)) _ _ _ _ (omega arith) s.0 s.2 c.in_ok-push.ensures.ok
     (c.in_ok-fresh.ensures ∙ ap (λ t. record { table = t; slot = c.loop-slot.slot; clusters = c.args.clusters; numbers = [] }) (s.3 ∙ i.of))
-
-pub returns : goal.returns
-returns = grind arith

@@ -26,6 +26,3 @@ loop-slot-preserved c =
     let claims : ClaimsSeen = record { table = c.in_ok-table.table.shared.table_id; clusters = c.args.clusters; slots = c.args.slots } in
     let one = ap (λ m. m.0) s.4 ∙ one_dealt _ _ _ _ _ _ _ _ i (omega arith) in
     next_dealt _ _ _ _ _ _ _ _ i (c.args.slots - (c.loop-slot.slot + 1)) _ _ _ _ (omega arith) s.0 s.2 c.in_ok-push.ensures.ok (fresh_value claims c.loop-slot.slot c.split_seat-seat.result.table_id c.split_seat-seat.result.me (s.3 ∙ i.of) one)
-
-pub returns : goal.returns
-returns = grind arith
