@@ -4,9 +4,9 @@ use Rattle.lemmas.proofs.{abs_add, fits_signed_from_abs, w128}
 use Rattle.histograms.proofs.Filling.{abs_of_fit}
 use Rattle.std.proofs.lemmas.List.{map-append, take_more}
 use Rattle.rdf_values.specs.{Item, points, points2, ActionKind, as_long_as, EntryFault, feed_fault, is_weight, weight_fault}
-use Rattle.rdf_values.specs.declared.results.item.Item.TheVariants.{Point, Point2}
+use Rattle.rdf_values.specs.declared.results.Item.TheVariants.{Point, Point2}
 use Rattle.histograms.specs.{Flat, HasFilled}
-use Rattle.rdf_values.specs.declared.results.fault.EntryFault.TheVariants.{Lengths}
+use Rattle.rdf_values.specs.declared.results.EntryFault.TheVariants.{Lengths}
 use Rattle.actions.specs.declared.items.Part.{Part}
 use Rattle.actions.specs.declared.items.Items.TheVariants.{Pair, Weighted}
 use Rattle.actions.specs.{part_value, Suits}

@@ -2,7 +2,7 @@
 use Rattle.std.proofs.Common.{arith, ℕ, ◌≡◌, ◌≤◌, ◌+◌, map, length, All, List, [], ◌∷◌, ◌++◌, ℤ, pos, ◌+ℤ◌, refl, ap, sym, ◌∙◌, length-append, lit≤, flat_map, Option, None, Result, Ok, Err, OnErr, OnOk, fold}
 use Rattle.lemmas.proofs.{int_max, int_min, map-append}
 use Rattle.rdf_values.specs.{ActionKind, Extreme, extreme, Flat, Item, numbers_of, points, points2, reduce_start, reduce_step, Reduced, ReduceOp, Scalar, scalar_of, spread, Square, Taken, Value, weights}
-use Rattle.rdf_values.specs.declared.results.item.Item.TheVariants.{Number, Single}
+use Rattle.rdf_values.specs.declared.results.Item.TheVariants.{Number, Single}
 use Rattle.rdf_values.specs.results.Fold.{Count, Sum}
 use Rattle.histograms.specs.{flat_cells, HasFilled, HasFilled2, square_cells}
 use Rattle.histograms.specs.OneAxis as one

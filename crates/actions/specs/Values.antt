@@ -1,6 +1,6 @@
 -- The values of a Take.
 use Rattle.std.specs.Prelude.{ℕ, List, map}
-use Rattle.rdf_values.specs.declared.results.item.Item.TheVariants.{Single}
+use Rattle.rdf_values.specs.declared.results.Item.TheVariants.{Single}
 use Rattle.rdf_values.specs.{Scalar}
 use Rattle.actions.specs.declared.taken.TakenValue.{TakenValue}
 use Rattle.actions.specs.Feeding.{Fed}

@@ -1,7 +1,7 @@
 // Filling histograms with the points of an entry.
 ghost use Rattle.std.specs.Prelude.{◌≡◌, ◌<◌, ◌≤◌, ◌+◌, ◌^◌, ◌++◌, ℕ, List, length, map, All, pos, slice_index_or};
 ghost use Rattle.rdf_values.specs.{Item, points, points2, weights};
-ghost use Rattle.rdf_values.specs.declared.results.item.Item.TheVariants.{Point, Point2};
+ghost use Rattle.rdf_values.specs.declared.results.Item.TheVariants.{Point, Point2};
 ghost use Rattle.histograms.specs.{HasFilled, HasFilled2, IsWeight};
 ghost use Rattle.actions.specs.{EachPlace, HasWeight, part_values, places_of};
 

@@ -115,7 +115,7 @@ impl Folds for Reduction {
 impl Folds for Hist1 {
     ghost use Rattle.std.specs.Prelude.{◌≡◌, ◌+◌, ◌-◌, ◌*◌, ◌^◌, ◌++◌, List, length, map, pos};
     ghost use Rattle.rdf_values.specs.{Item};
-    ghost use Rattle.rdf_values.specs.declared.results.item.Item.TheVariants.{Point};
+    ghost use Rattle.rdf_values.specs.declared.results.Item.TheVariants.{Point};
     ghost use Rattle.histograms.specs.{HasFilled};
 
     ghost folded = { λ a b zs. (b.edges ≡ a.edges) × (b.fills ≡ a.fills + length zs) × ((before : List Item) → HasFilled a before → HasFilled b (before ++ map (λ z. Point z (pos 1)) zs)) };

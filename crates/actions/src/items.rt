@@ -1,6 +1,6 @@
 // What an entry feeds to an action.
 ghost use Rattle.std.specs.Prelude.{◌≡◌, if◌then◌else◌, Some};
-ghost use Rattle.rdf_values.specs.declared.results.fault.EntryFault.TheVariants.{Lengths};
+ghost use Rattle.rdf_values.specs.declared.results.EntryFault.TheVariants.{Lengths};
 ghost use Rattle.std.specs.Option.{option_to_list};
 ghost use Rattle.rdf_values.specs.{ActionKind, as_long_as, feed_fault, is_weight, numbers, scalar_value, weight_fault};
 ghost use Rattle.actions.specs.{first_numbers, first_scalar, part_value, second_part, Suits, values_of, weight_part};

@@ -5,7 +5,7 @@ use Rattle.rdf_values.specs.expressions.Expressions.{Truth}
 use Rattle.rdf_model.specs.{◌>>=◌, answer_outcome, checked, Faults, Gives, is_set, is_zero, mark, Needs, number_operation, Outcome}
 use Rattle.expr_lanes.specs.declared.folds.FoldCall.{FoldCall}
 use Rattle.expr_lanes.specs.declared.scratch.Scratch.{Scratch}
-use Rattle.expr_lanes.specs.declared.stopped.Stopped.{Stopped}
+use Rattle.expr_lanes.specs.declared.parting.Stopped.{Stopped}
 use Rattle.expr_lanes.specs.Folds.{fold_read, fold_told}
 use Rattle.expr_lanes.specs.Places.{at_place, given_in, is_in, stops_in, EachPlace, IsJoined}
 

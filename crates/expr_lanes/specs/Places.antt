@@ -5,7 +5,7 @@ use Rattle.rdf_model.specs.{Faults, Gives, Needs, Outcome}
 use Rattle.expr_eval.specs.{ScalarStop}
 use Rattle.expr_eval.specs.declared.stop.ScalarStop.TheVariants.{Fault, Need}
 use Rattle.expr_lanes.specs.declared.TheConstants.{MAX_PLACES}
-use Rattle.expr_lanes.specs.declared.stopped.Stopped.{Stopped}
+use Rattle.expr_lanes.specs.declared.parting.Stopped.{Stopped}
 
 -- the place is one of the selection's
 abbrev pub is_in : ℕ → List ℕ → Bool

@@ -8,8 +8,8 @@ use crate::MAX_PLACES;
 use crate::kernel::{Kernel, run};
 use crate::kernels::{Copied, Lane};
 use crate::lane_inputs::{Known, LaneInputs};
+use crate::parting::Stopped;
 use crate::selection::Selection;
-use crate::stopped::Stopped;
 use arrayvec::ArrayVec;
 use expr_eval::ScalarStop;
 

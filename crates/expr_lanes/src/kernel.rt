@@ -4,8 +4,8 @@ ghost use Rattle.rdf_model.specs.{Gives, Outcome};
 ghost use Rattle.expr_lanes.specs.Places.{answered_at, at_place, is_in, EachPlace, Evaluated};
 
 use crate::MAX_PLACES;
+use crate::parting::Stopped;
 use crate::selection::Selection;
-use crate::stopped::Stopped;
 use arrayvec::ArrayVec;
 use expr_eval::ScalarStop;
 

@@ -19,15 +19,14 @@ mod operators;
 mod parting;
 pub mod scratch;
 pub mod selection;
-pub mod stopped;
 
 pub use crate::able::can_eval_lane;
 pub use crate::evaluation::{Evaluation, eval_lane};
 pub use crate::folds::{Fold, FoldCall, fold_call};
 pub use crate::lane_inputs::{Known, LaneColumn, LaneInputs, LaneVectors};
+pub use crate::parting::Stopped;
 pub use crate::scratch::{Scratch, is_deep_enough};
 pub use crate::selection::Selection;
-pub use crate::stopped::Stopped;
 
 /// How many places a block has at most.
 pub const MAX_PLACES: usize = 1024;

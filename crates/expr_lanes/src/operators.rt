@@ -6,8 +6,8 @@ ghost use Rattle.expr_lanes.specs.{EachPlace, Evaluated, HasNumber, side_number}
 use crate::MAX_PLACES;
 use crate::kernel::run;
 use crate::kernels::{Combined, Lane, Numbers, Same, Side};
+use crate::parting::Stopped;
 use crate::selection::Selection;
-use crate::stopped::Stopped;
 use arrayvec::ArrayVec;
 use rdf_values::BinOp;
 

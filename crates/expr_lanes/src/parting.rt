@@ -1,4 +1,4 @@
-// Selections that part and come together again.
+// Selections that part and come together again, and places that came to no value.
 ghost use Rattle.std.specs.Prelude.{◌≡◌, ◌+◌, ◌-◌, ◌<◌, ◌≤◌, ℕ, ◌||◌, not, if◌then◌else◌, length, take};
 ghost use Rattle.std.specs.List.{filter};
 ghost use Rattle.rdf_model.specs.{is_zero};
@@ -6,6 +6,7 @@ ghost use Rattle.expr_lanes.specs.{at_place, EachPlace, is_in, is_marked};
 
 use crate::narrowing::{Unmarked, keep_places};
 use crate::selection::Selection;
+use expr_eval::ScalarStop;
 
 /// Parts the first places of a list into those at which the lane holds a 0 and the others, and answers how many these are.
 fn part_places(
@@ -98,4 +99,20 @@ pub(crate) fn rejoin(
     mark_places(&others.places, others.count, false, marks);
     selection.count = keep_places(&mut selection.places, count, &Unmarked(marks));
     selection.is_dense = false;
+}
+
+/// A place of a block with its fault, or with the number of the column that is missing there.
+#[derive(Clone, Copy, Debug)]
+pub struct Stopped {
+    pub place: u32,
+    pub stop: ScalarStop,
+}
+
+impl Default for Stopped {
+    fn default() -> Stopped {
+        Stopped {
+            place: 0,
+            stop: ScalarStop::Need(0),
+        }
+    }
 }

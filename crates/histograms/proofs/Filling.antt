@@ -4,7 +4,7 @@ use Rattle.lemmas.proofs.{abs_add, All-set, fits_signed_from_abs, fits_signed_mu
 use Rattle.histograms.specs.{CellSum, IsBounded, IsWeight, with_weight, cell_seen, flat_cells, together}
 use Rattle.rdf_values.proofs.UnionLemmas.{length-below}
 use Rattle.rdf_values.specs.{below, bin, cells_on, flat_cell, integer_sum, Item, weight_in}
-use Rattle.rdf_values.specs.declared.results.item.Item.TheVariants.{Point}
+use Rattle.rdf_values.specs.declared.results.Item.TheVariants.{Point}
 use Rattle.rdf_values.specs.results.Fold.{Cell, cell_of}
 
 squares_below : (a b : ℕ) → a ≤ b → a * a ≤ b * b

@@ -3,7 +3,7 @@ use Rattle.std.proofs.Common.{ℕ, suc, ◌≡◌, ◌+◌, ◌*◌, ◌<◌, �
 use Rattle.lemmas.proofs.{+ℤ_idl, append-nil, cases_eq, eq-eqb, flat_map-append, get_or-drop, get_or-map, get_or-set_other, get_or-set_same, get_or-take, length-map, length-set, length-take-le, ne_eqb, rows, same_from_place, same_lists}
 use Rattle.rdf_values.proofs.UnionLemmas.{map-below}
 use Rattle.rdf_values.specs.{bin, cells_on, Item, square_cell, weight_in2}
-use Rattle.rdf_values.specs.declared.results.item.Item.TheVariants.{Point2}
+use Rattle.rdf_values.specs.declared.results.Item.TheVariants.{Point2}
 use Rattle.rdf_values.specs.results.Fold.{Cell, cell_of}
 use Rattle.histograms.specs.{cell_seen, CellSum, rows_on, square_cells, together, with_weight}
 use Rattle.histograms.proofs.Filling.{cell_of-append, get_or-cells_on, joined, length-cells_on}

@@ -33,7 +33,7 @@ impl Model for Hist1 {
 impl Hist1 {
     ghost use Rattle.std.specs.Prelude.{◌≡◌, ◌<◌, ◌≤◌, ◌+◌, ◌∷◌, ◌++◌, [], List, IfOk, length, slice_get, Some};
     ghost use Rattle.rdf_values.specs.{Item};
-    ghost use Rattle.rdf_values.specs.declared.results.item.Item.TheVariants.{Point};
+    ghost use Rattle.rdf_values.specs.declared.results.Item.TheVariants.{Point};
     ghost use Rattle.histograms.specs.Cells.{IsWeight, cell_seen};
     ghost use Rattle.histograms.specs.OneAxis.{HasFilled, flat_cells};
 

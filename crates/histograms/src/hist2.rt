@@ -33,7 +33,7 @@ impl Model for Hist2 {
 impl Hist2 {
     ghost use Rattle.std.specs.Prelude.{◌≡◌, ◌<◌, ◌≤◌, ◌+◌, ◌∷◌, ◌++◌, [], ℕ, List, IfOk, length, slice_get, slice_index_or, Some};
     ghost use Rattle.rdf_values.specs.{Item};
-    ghost use Rattle.rdf_values.specs.declared.results.item.Item.TheVariants.{Point2};
+    ghost use Rattle.rdf_values.specs.declared.results.Item.TheVariants.{Point2};
     ghost use Rattle.histograms.specs.Cells.{IsWeight, cell_seen};
     ghost use Rattle.histograms.specs.TwoAxes.{HasFilled2, square_cells};
 

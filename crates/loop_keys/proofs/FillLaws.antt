@@ -4,7 +4,7 @@ use Rattle.lemmas.proofs.{cases_eq, something_at, sum_by-set}
 use Rattle.expr_check.specs.{CheckedExpr}
 use Rattle.graph_numbers.specs.{graph_sites, graph_variations, IsSiteExpr, SiteAt, Source}
 use Rattle.loop_keys.specs.{CanLook, Grows, Held, held_count, held_in, is_held, IsFilled, IsJob, IsRight, IsSiteOf, IsSound, IsSourceIn, job_graph, JobView, key, key_count, OnlyIn, site_in}
-use Rattle.loop_keys.specs.declared.held.Held.TheVariants.{Nothing}
+use Rattle.loop_keys.specs.declared.reading.Held.TheVariants.{Nothing}
 use Rattle.loop_keys.proofs.Elements.{of_option}
 use Rattle.loop_keys.proofs.KeyLaws.{key_below, key_is, key_site, same_slot}
 

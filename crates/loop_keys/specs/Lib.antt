@@ -13,7 +13,7 @@ pub use Keys.{AreEach, AreKeys, ArePlaces, AreUnder, demand_key, IsRow, key, key
 pub use Turns.{AreReadable, CanAct, IsActionAt, actions_before, covered_in, covers_of, HasAllDemands, is_covering, IsReportPass, numbered_passes, pass_fault}
 pub use Plain.{ArePlain, ArePlainVersions, is_vector_at, IsPlainVersion}
 pub use Store.{CanEvaluate, CanLook, Grows, HasAllKeys, HasPassed, HasTried, held_count, held_element, held_in, held_or_need, is_held, IsClosed, IsFilled, IsMissing, IsMissingSource, IsReadable, IsRight, IsSiteOf, IsSound, IsSourceIn, keys_in, look_at, looked_source, MeetsAt, OnlyIn, row_in, row_of, site_in, source_at, truth_in, version_in}
-pub use declared.held.Held.{Held}
+pub use declared.reading.Held.{Held}
 pub use declared.job.Job.{Job}
 pub use declared.rows.Place.{Place}
 pub use declared.rows.Row.{Row}

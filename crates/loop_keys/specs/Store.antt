@@ -6,7 +6,7 @@ use Rattle.expr_check.specs.{CheckedExpr}
 use Rattle.graph_numbers.specs.{cell_value, graph_sites, graph_sources, graph_under, graph_versions, HasFilters, HasInputs, IfPassed, IsBelow, meets, site_outcome, site_value, SiteAt, Source, source_in, source_value, through_sites}
 use Rattle.loop_keys.specs.Jobs.{JobView, job_graph}
 use Rattle.loop_keys.specs.Keys.{key, key_count}
-use Rattle.loop_keys.specs.declared.held.Held.{Held}
+use Rattle.loop_keys.specs.declared.reading.Held.{Held}
 
 -- something is held
 abbrev pub is_held : Held → Bool

@@ -2,10 +2,9 @@
 //! where what an expression reads stands. It stands on `graph`, whose numbers it reads, and on `columns`.
 #![tactic(auto)]
 
-pub mod held;
 pub mod job;
 pub mod reading;
 pub mod rows;
 
-pub use crate::held::Held;
 pub use crate::job::Job;
+pub use crate::reading::Held;

@@ -1,4 +1,4 @@
-// An entry that is read.
+// An entry that is read, and what is known of its sites.
 ghost use Rattle.std.specs.Prelude.{◌≡◌, ◌<◌, length, Some, slice_get, option_map};
 ghost use Rattle.rdf_values.specs.{history};
 ghost use Rattle.graph_numbers.specs.{graph_filters, graph_results, graph_sites, graph_versions, IsSiteExpr};
@@ -8,6 +8,7 @@ use crate::job::Job;
 use crate::rows::{Place, Row};
 use expr_check::Checked;
 use graph_numbers::Source;
+use rdf_values::{EntryFault, IntList};
 
 /// An entry of a job, under nominal or a variation, and where what is read of it stands.
 #[derive(Clone, Copy)]
@@ -53,4 +54,14 @@ pub fn place(at: &Reading<'_>, version: u32) -> Place
     ensures { place_of (key_under (job_graph (job_of at.now.job.now)) at.now.under) (source_at (job_of at.now.job.now) at.now.under version) ≡ result }
 {
     at.row.places.as_slice()[version as usize]
+}
+
+/// What is known of a site under nominal or a variation: nothing yet, its value, or its fault.
+#[derive(Debug, Drop)]
+pub enum Held {
+    Nothing,
+    Int(i64),
+    Bool(bool),
+    Vect(IntList),
+    Faulted(EntryFault),
 }

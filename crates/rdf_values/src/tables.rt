@@ -10,4 +10,3 @@ pub mod table;
 pub mod value;
 pub(crate) mod vector_text;
 pub mod vects;
-pub mod word;

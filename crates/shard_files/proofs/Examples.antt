@@ -2,7 +2,7 @@
 use Rattle.std.proofs.Common.{◌≡◌, ℕ, true, pos, negsuc, List, [], ◌∷◌, refl, Ok, Err, codes, flat_map}
 use Rattle.std.specs.Fmt.{digits}
 use Rattle.rdf_values.specs.{ColType, Column, line, Scalar}
-use Rattle.rdf_values.specs.declared.results.fault.EntryFault.TheVariants.{ZeroDivisor}
+use Rattle.rdf_values.specs.declared.results.EntryFault.TheVariants.{ZeroDivisor}
 use Rattle.shard_lines.specs.{PassShape, ShardLine}
 use Rattle.shard_files.specs.{line_text, merge_of, MergeCause, shard_text, ShardLoop, shards_joined, ShardView}
 use Rattle.shard_files.specs.declared.shard_loop.ShardLoop.TheVariants.{Whole, Faulted}

@@ -2,7 +2,7 @@
 use Rattle.std.proofs.Common.{◌≡◌, ◌≤◌, ℕ, Bool, true, false, Option, None, Some, List, [], ◌∷◌, refl, ap, ap₂, ◌∙◌, sym, subst, arith, codes, decimal, if◌then◌else◌, nat_eq, option_and_then, option_map}
 use Rattle.std.proofs.lemmas.Bool.{eqb-true}
 use Rattle.rdf_values.specs.{ColType, EntryFault, is_name, IsStored, magnitude_of, same}
-use Rattle.rdf_values.specs.declared.results.fault.EntryFault.TheVariants.{Overflow, ZeroDivisor, Index, EmptyVector, Lengths, VaryCount, Weight, Function}
+use Rattle.rdf_values.specs.declared.results.EntryFault.TheVariants.{Overflow, ZeroDivisor, Index, EmptyVector, Lengths, VaryCount, Weight, Function}
 use Rattle.shard_lines.specs.{AreLimits, both_of, FitsLine, line_of_words, line_words, ShardLine}
 use Rattle.shard_lines.proofs.ReadBack.{both_say, count_reads, count_says, lines_read_back, mapped, read_lines_fit, same_says}
 use Rattle.shard_files.specs.{bare, column_of_words, fault_from, fault_kind_of, fault_number, fault_of_number, fault_of_words, file_line_behind, file_line_by, file_line_of, file_word_of, FitsFault, kind_word, name_of, shard_limits, span_of_words, stored_kind_of, table_of_words, three_of, two_of, version_of, words_of}

@@ -1,7 +1,7 @@
 -- Reading a shard: the line that words are, and what was read so far, line after line.
 use Rattle.std.specs.Prelude.{ℕ, ◌&&◌, ◌||◌, List, [], ◌∷◌, ◌++◌, length, Option, Some, None, option_map, option_and_then, if◌then◌else◌, nat_eq, nat_le, nat_lt, codes}
 use Rattle.rdf_values.specs.{ColType, EntryFault, has_name, is_name, magnitude_of, same}
-use Rattle.rdf_values.specs.declared.results.fault.EntryFault.TheVariants.{Overflow, ZeroDivisor, Index, EmptyVector, Lengths, VaryCount, Weight, Function}
+use Rattle.rdf_values.specs.declared.results.EntryFault.TheVariants.{Overflow, ZeroDivisor, Index, EmptyVector, Lengths, VaryCount, Weight, Function}
 use Rattle.shard_lines.specs.{both_of, line_of_words}
 use Rattle.shard_files.specs.Shards.{ShardView, shard_limits}
 use Rattle.shard_files.specs.declared.file_line.FileLine.{FileLine}

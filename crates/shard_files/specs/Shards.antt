@@ -2,7 +2,7 @@
 use Rattle.std.specs.Prelude.{◌≡◌, ◌≤◌, ◌<◌, ◌+◌, ⊤, ℕ, true, List, [], ◌∷◌, ◌++◌, length, map, flat_map, None, codes, decimal}
 use Rattle.std.specs.List.{list_all}
 use Rattle.rdf_values.specs.{ColType, Column, EntryFault, Fault, is_name, IsHeader, line}
-use Rattle.rdf_values.specs.declared.results.fault.EntryFault.TheVariants.{Overflow, ZeroDivisor, Index, EmptyVector, Lengths, VaryCount, Weight, Function}
+use Rattle.rdf_values.specs.declared.results.EntryFault.TheVariants.{Overflow, ZeroDivisor, Index, EmptyVector, Lengths, VaryCount, Weight, Function}
 use Rattle.shard_lines.specs.{FitLines, joined_words, line_words, LineLimits}
 use Rattle.shard_files.specs.declared.file_line.FileLine.{FileLine}
 use Rattle.shard_files.specs.declared.refusal.ShardRefusal.{ShardRefusal}

@@ -2,7 +2,7 @@
 use Rattle.std.proofs.Common.{◌≡◌, true, false, pos, List, [], ◌∷◌, Ok, Err, refl, arith, codes, flat_map}
 use Rattle.std.specs.Fmt.{digits}
 use Rattle.rdf_values.specs.{ColType, cut, is_name, line, Scalar, Script}
-use Rattle.rdf_values.specs.declared.results.fault.EntryFault.TheVariants.{ZeroDivisor}
+use Rattle.rdf_values.specs.declared.results.EntryFault.TheVariants.{ZeroDivisor}
 use Rattle.rdf_model.proofs.Analyses.{col, count, define, div, gt, num, print, script, sub, sum, table, take}
 use Rattle.shard_lines.specs.{PassShape, ShardLine}
 use Rattle.shard_files.specs.{line_text, merge_of, MergeCause, shard_text, ShardLoop, shards_joined, ShardView}

@@ -2,7 +2,7 @@
 use Rattle.std.proofs.Common.{◌≡◌, ℕ, ◌+◌, ◌^◌, ◌<◌, ◌≤◌, min, List, [], ◌∷◌, ◌++◌, map, get_or, ltb, Option, None, Some, ap, ◌∙◌, subst, arith, IsPermutation}
 use Rattle.lemmas.proofs.{All, All-cons, All-head, All-permutation, All-tail, All-weaker, cond_both, IfSome_then, IsStrictlyIncreasing, length_permutation, ltb-false, ltb-true, sum_by-cons, sum_by-IsPermutation, sum_by-le}
 use Rattle.rdf_values.specs.{DrawnBy}
-use Rattle.slot_words.specs.declared.hand.ClaimHand.{ClaimHand}
+use Rattle.slot_words.specs.declared.seat.ClaimHand.{ClaimHand}
 use Rattle.slot_words.specs.{IsClaimed, IsHand, kept_count}
 use Rattle.slot_words.specs.Seats.{draw}
 use Rattle.slot_words.proofs.Hands.{first_rises, next_rises, next_drawn, shared_again}

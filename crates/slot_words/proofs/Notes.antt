@@ -5,7 +5,7 @@ use mathlib.Core.Option.{none}
 use Rattle.atomic_table.specs.Table.{Me, step, Final, Seen, Allows}
 use Rattle.rdf_values.specs.{DrawnBy}
 use Rattle.rdf_values.proofs.UnionLemmas.{sum_by-map}
-use Rattle.slot_words.specs.declared.hand.NoteHand.{NoteHand}
+use Rattle.slot_words.specs.declared.seat.NoteHand.{NoteHand}
 use Rattle.slot_words.specs.{AreNotings, hand_with, IsNoted, many_in, Noted}
 use Rattle.slot_words.specs.Noting.{Drew, draw, opening_hands}
 use Rattle.slot_words.proofs.Hands.{all_in_one, many_drawn, next_drawn, next_rises, none_shared, shared_again, Keeps, bump, steps}

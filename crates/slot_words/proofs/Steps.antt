@@ -1,7 +1,7 @@
 -- Each step at the table keeps what the rules say of the claims, the bar and the book.
 use Rattle.std.proofs.Common.{◌≡◌, ℕ, zero, suc, ◌<◌, ◌≤◌, min, List, ◌∷◌, length, map, get_or, ltb, Option, None, Some, IfSome, refl, ap, subst, ⊎_elim, arith, IsPermutation, ◌+◌, ◌%◌, ◌^◌, [], ◌++◌, sym, ◌∙◌, length-append, append-nil, add-one, slice_index}
 use Rattle.lemmas.proofs.{All, All-cons, All-head, All-permutation, All-tail, All-weaker, cases_lt, cond_both, Contains, Contains-permutation, IfSome_then, IsPermutation-map, ltb-false, All-replicate, common_steps, cond-true, IsStrictlyIncreasing, length-replicate, lt-ltb, sum_by-le, All-map, length-map, length-range_with_len, range_with_len}
-use Rattle.slot_words.specs.declared.hand.ClaimHand.{ClaimHand}
+use Rattle.slot_words.specs.declared.seat.ClaimHand.{ClaimHand}
 use Rattle.slot_words.specs.{IsBarred, IsOver, last_of, look, lower, AreClaimed, Claimed, empty_hand, hand_of, IsClaimed, IsHand, kept_count, Looked, Lowered, ClaimsSeen, fresh_seat, fresh_seats, IsReady, SeatSeen}
 use Rattle.slot_words.specs.Seats.{draw}
 use Rattle.slot_words.proofs.Draws.{drawn_hand, drawn_by, drawn_rises, same_claimed, drawn_keeps, word_fits, claimed_again}

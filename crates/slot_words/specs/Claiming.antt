@@ -4,7 +4,7 @@ use Rattle.std.specs.List.{All, Contains, sum_by}
 use Rattle.std.specs.List.Sorted.{IsStrictlyIncreasing}
 use Rattle.atomic_table.specs.Table.{State, Me, Step}
 use Rattle.rdf_values.specs.{DrawnBy}
-use Rattle.slot_words.specs.declared.hand.ClaimHand.{ClaimHand}
+use Rattle.slot_words.specs.declared.seat.ClaimHand.{ClaimHand}
 use Rattle.slot_words.specs.Hands.{hands_in}
 use Rattle.slot_words.specs.Seats.{empty_hand, hand_of, draw, look, lower, last_of, kept_count}
 

@@ -4,7 +4,7 @@ use Rattle.std.specs.List.{All}
 use Rattle.std.specs.List.Sorted.{IsStrictlyIncreasing}
 use Rattle.atomic_table.specs.Table.{State, Me, Step}
 use Rattle.rdf_values.specs.{DrawnBy}
-use Rattle.slot_words.specs.declared.hand.NoteHand.{NoteHand}
+use Rattle.slot_words.specs.declared.seat.NoteHand.{NoteHand}
 use Rattle.slot_words.specs.Hands.{hands_in}
 use Rattle.slot_words.specs.Shares.{hand_with}
 

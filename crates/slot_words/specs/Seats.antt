@@ -2,7 +2,7 @@
 use Rattle.std.specs.Prelude.{◌≡◌, ℕ, List, [], ◌∷◌, ◌++◌, Option, None, Some, map, min, ◌+◌, ◌-◌, length, slice_index, ◌<◌, ◌≤◌, nat_lt, if◌then◌else◌, IfSome, IsSomeAnd}
 use Rattle.std.specs.List.{All, Contains, range_with_len, sum_by}
 use Rattle.atomic_table.specs.Seated.{TableId}
-use Rattle.slot_words.specs.declared.hand.ClaimHand.{ClaimHand}
+use Rattle.slot_words.specs.declared.seat.ClaimHand.{ClaimHand}
 
 -- which table it is, and how many clusters and seats it has
 pub record ClaimsSeen : Type 0 where

@@ -2,7 +2,7 @@
 use Rattle.std.specs.Prelude.{◌≡◌, ℕ, List, [], ◌∷◌, ◌++◌, map, length}
 use Rattle.std.specs.List.{range_with_len, sum_by}
 use Rattle.atomic_table.specs.Seated.{TableId}
-use Rattle.slot_words.specs.declared.hand.NoteHand.{NoteHand}
+use Rattle.slot_words.specs.declared.seat.NoteHand.{NoteHand}
 
 -- which table it is, and how many clusters and shares it has
 pub record BookSeen : Type 0 where

@@ -5,9 +5,8 @@ ghost use Rattle.std.specs.List.Sorted.{IsStrictlyIncreasing};
 ghost use Rattle.rdf_values.specs.{DrawnBy};
 ghost use Rattle.slot_words.specs.Shares.{IsOf, fresh_shares, hand_with, with_number, many_in};
 
-use crate::hand::NoteHands;
 use crate::rule::{Deal, Enter, Gather, Note, NoteRule};
-use crate::share::{Share, ShareList};
+use crate::seat::{NoteHands, Share, ShareList};
 use atomic_table::{Seat, Table};
 use rdf_values::{ListOf, Memory};
 use std::alloc::Global;

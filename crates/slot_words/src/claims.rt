@@ -6,9 +6,8 @@ ghost use Rattle.std.specs.List.Sorted.{IsStrictlyIncreasing};
 ghost use Rattle.rdf_values.specs.{DrawnBy};
 ghost use Rattle.slot_words.specs.Seats.{IsOf, fresh_seats, last_of, with_lowered, IsPast, IsPassedOver, IsCounted, IsLeast, IsPassed};
 
-use crate::hand::ClaimHands;
 use crate::rule::{ClaimRule, Deal, Draw, Enter, Gather, Look, Lower};
-use crate::seat::{ClaimSeat, SeatList};
+use crate::seat::{ClaimHands, ClaimSeat, SeatList};
 use atomic_table::Table;
 use rdf_values::{ListOf, Memory};
 use std::alloc::Global;

@@ -6,17 +6,14 @@
 pub mod between;
 pub mod book;
 pub mod claims;
-pub mod hand;
 pub mod laws;
 pub mod lines;
 mod rule;
 mod runs;
 pub mod seat;
-pub mod share;
 
 pub use crate::between::{PartialPiece, partial_between};
 pub use crate::book::{Book, Orders};
 pub use crate::claims::{Claims, Drawn};
 pub use crate::lines::partial_lines;
-pub use crate::seat::{ClaimSeat, SeatList};
-pub use crate::share::{Share, ShareList};
+pub use crate::seat::{ClaimSeat, SeatList, Share, ShareList};

@@ -1,5 +1,5 @@
 // The rules of the words, and the steps on them.
-use crate::hand::{ClaimHands, NoteHands};
+use crate::seat::{ClaimHands, NoteHands};
 use atomic_table::{Join, Play, Split, TableRule};
 use std::collections::LinkedList;
 

@@ -3,7 +3,7 @@ use Prim.Native.String.{String}
 use Rattle.std.specs.Prelude.{◌≡◌, ℕ, List, [], ◌∷◌, map, pos, Some, None, Ok, Err, codes, flat_map, refl}
 use Rattle.std.specs.Fmt.{digits}
 use Rattle.rdf_values.specs.{Column, line, Statement, Under, Value}
-use Rattle.rdf_values.specs.declared.results.fault.EntryFault.TheVariants.{ZeroDivisor}
+use Rattle.rdf_values.specs.declared.results.EntryFault.TheVariants.{ZeroDivisor}
 use Rattle.rdf_model.proofs.Analyses.{col, define, div, filter, gt, int_column, num, script, sub, table, texts, three_columns, vary_pt, vec_column}
 use Rattle.snapshot_plan.specs.{PlanView}
 use Rattle.snapshot_text.specs.{table_text}

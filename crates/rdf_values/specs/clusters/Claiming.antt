@@ -4,7 +4,7 @@ use Rattle.rdf_values.specs.declared.clusters.event.Event.{Event}
 use Rattle.rdf_values.specs.declared.clusters.event.Event.TheVariants.{Claim, Finish, Fault, Skip, End}
 use Rattle.rdf_values.specs.declared.clusters.event.StepCause.{StepCause}
 use Rattle.rdf_values.specs.declared.clusters.event.StepCause.TheVariants.{NoSlot, Stopped, Busy, NotHeld, NotBarred, NotNext, NotOver}
-use Rattle.rdf_values.specs.declared.results.fault.Fault.{Fault as LoopFault}
+use Rattle.rdf_values.specs.declared.results.Fault.{Fault as LoopFault}
 
 -- whether a slot goes on
 pub data Phase : Type 0 where

@@ -5,8 +5,8 @@ use Rattle.rdf_values.specs.clusters.Cuts.{below}
 use Rattle.rdf_values.specs.declared.scripts.statement.ReduceOp.{ReduceOp}
 use Rattle.rdf_values.specs.declared.scripts.statement.ActionKind.{ActionKind}
 use Rattle.rdf_values.specs.declared.tables.value.Scalar.{Scalar}
-use Rattle.rdf_values.specs.declared.results.item.Item.{Item}
-use Rattle.rdf_values.specs.declared.results.item.Item.TheVariants.{Number, Single, Point, Point2}
+use Rattle.rdf_values.specs.declared.results.Item.{Item}
+use Rattle.rdf_values.specs.declared.results.Item.TheVariants.{Number, Single, Point, Point2}
 
 -- a cell of a histogram: the sum of the weights and of their squares
 pub record Cell : Type 0 where

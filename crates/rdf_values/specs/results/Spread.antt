@@ -1,12 +1,12 @@
 -- What the values of one entry feed to an action.
 use Rattle.std.specs.Prelude.{ℕ, ◌^◌, Bool, true, false, List, [], ◌∷◌, length, map, replicate, ℤ, pos, nat_abs, Option, Some, None, if◌then◌else◌, nat_eq, nat_lt}
 use Rattle.std.specs.List.{list_all}
-use Rattle.rdf_values.specs.declared.results.item.Item.{Item}
+use Rattle.rdf_values.specs.declared.results.Item.{Item}
 use Rattle.rdf_values.specs.declared.scripts.statement.ActionKind.{ActionKind}
 use Rattle.rdf_values.specs.declared.tables.value.Value.{Value}
 use Rattle.rdf_values.specs.declared.tables.value.Scalar.{Scalar}
-use Rattle.rdf_values.specs.declared.results.fault.EntryFault.{EntryFault}
-use Rattle.rdf_values.specs.declared.results.fault.EntryFault.TheVariants.{Lengths, Weight}
+use Rattle.rdf_values.specs.declared.results.EntryFault.{EntryFault}
+use Rattle.rdf_values.specs.declared.results.EntryFault.TheVariants.{Lengths, Weight}
 
 -- the numbers of a value
 abbrev pub numbers : Value → List ℤ

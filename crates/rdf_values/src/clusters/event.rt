@@ -1,5 +1,5 @@
 // What happens to a slot.
-use crate::results::fault::Fault;
+use crate::results::Fault;
 
 /// A slot claims a cluster, finishes it, faults in it, passes it over and ends, or ends with no cluster left.
 #[derive(Clone, Copy, Debug, PartialEq, Eq)]

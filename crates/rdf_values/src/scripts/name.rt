@@ -1,7 +1,7 @@
-// Names of columns, nodes, results, variations, tags and functions.
-ghost use Rattle.std.specs.Prelude.{◌≡◌, List, ℕ, true, false, IfOk, MatchOption};
+// Words of a text, and names of columns, nodes, results, variations, tags and functions.
+ghost use Rattle.std.specs.Prelude.{◌≡◌, List, ℕ, true, false, IfOk, MatchOption, length, take_while};
 ghost use Rattle.std.specs.List.{list_all};
-ghost use Rattle.rdf_values.specs.scripts.Names.{is_name, is_word, is_word_byte, is_word_start, same, among};
+ghost use Rattle.rdf_values.specs.scripts.Names.{is_digit, is_name, is_word, is_word_byte, is_word_start, same, among};
 
 use crate::list::ListOf;
 use crate::memory::Memory;
@@ -103,4 +103,25 @@ pub fn contains(names: &ListOf<Name>, name: &Name) -> bool
     ensures { result ≡ among name.now names.now }
 {
     names.as_slice().iter().any(|n| name.is(n))
+}
+
+/// Whether the byte is a digit.
+pub fn is_digit(byte: u8) -> bool
+    ensures { result ≡ is_digit byte }
+{
+    byte.is_ascii_digit()
+}
+
+/// How many bytes of a word the text begins with.
+pub fn word_size(text: &[u8]) -> usize
+    ensures { result ≡ length (take_while is_word_byte text.now) }
+{
+    text.iter().take_while(|byte| is_word_byte(**byte)).count()
+}
+
+/// How many digits the text begins with.
+pub fn digits_size(text: &[u8]) -> usize
+    ensures { result ≡ length (take_while is_digit text.now) }
+{
+    text.iter().take_while(|byte| is_digit(**byte)).count()
 }

@@ -1,6 +1,6 @@
 use Rattle.std.proofs.Common.{◌≡◌, ◌+◌, ◌++◌, List, get_or, map, pos, take}
 use Rattle.rdf_values.specs.{Item}
-use Rattle.rdf_values.specs.declared.results.item.Item.TheVariants.{Point2}
+use Rattle.rdf_values.specs.declared.results.Item.TheVariants.{Point2}
 use Rattle.histograms.specs.{HasFilled2}
 use Rattle.actions.specs.{places_of}
 use Rattle.actions.proofs.fills.fill_weighted_pairs.Given as goal

@@ -1,6 +1,6 @@
 use Rattle.std.proofs.Common.{rules, arith, ◌<◌, ◌++◌, ◌∙◌, subst, get_or, length, map, pos, take, w64, FitsSigned}
 use Rattle.std.proofs.lemmas.Int.{to_z-of_z}
-use Rattle.rdf_values.specs.declared.results.item.Item.TheVariants.{Point}
+use Rattle.rdf_values.specs.declared.results.Item.TheVariants.{Point}
 use Rattle.histograms.specs.{HasFilled}
 use Rattle.actions.proofs.Points.{one_filled}
 use Rattle.actions.proofs.folding.Hist1Folds.take_in.Goals as goal

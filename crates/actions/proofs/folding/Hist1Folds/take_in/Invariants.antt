@@ -1,6 +1,6 @@
 use Rattle.std.proofs.Common.{◌≡◌, ◌+◌, ◌++◌, List, map, pos, take}
 use Rattle.rdf_values.specs.{Item}
-use Rattle.rdf_values.specs.declared.results.item.Item.TheVariants.{Point}
+use Rattle.rdf_values.specs.declared.results.Item.TheVariants.{Point}
 use Rattle.histograms.specs.{HasFilled}
 use Rattle.actions.proofs.folding.Hist1Folds.take_in.Given as goal
 

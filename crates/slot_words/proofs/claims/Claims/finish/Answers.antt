@@ -2,7 +2,7 @@ use Rattle.std.proofs.Common.{◌≡◌, [], ◌∷◌, ◌+◌, map, length, mi
 use Rattle.lemmas.proofs.{All-weaker, Contains, length-map, map-map}
 use Rattle.rdf_values.specs.{DrawnBy}
 use Rattle.rdf_values.proofs.UnionLemmas.{sum_by-map}
-use Rattle.slot_words.specs.declared.hand.ClaimHand.{ClaimHand}
+use Rattle.slot_words.specs.declared.seat.ClaimHand.{ClaimHand}
 use Rattle.slot_words.specs.{AreClaimed, IsBarred, IsClaimed, IsHand, IsOver, kept_count, SeatSeen}
 use Rattle.slot_words.specs.Seats.{IsOf, hand_seen}
 use Rattle.slot_words.proofs.Steps.{again, finished}

@@ -1,7 +1,7 @@
 use Rattle.std.proofs.Common.{◌≡◌, ℕ, ◌+◌, ◌-◌, List, [], ◌∷◌, ap, ◌∙◌, arith}
 use Rattle.atomic_table.specs.Seated.{TableId}
 use Rattle.atomic_table.specs.Table.{Me}
-use Rattle.slot_words.specs.declared.hand.ClaimHand.{ClaimHand}
+use Rattle.slot_words.specs.declared.seat.ClaimHand.{ClaimHand}
 use Rattle.slot_words.specs.{AreClaimed, ClaimsSeen, empty_hand, fresh_seat, hand_of, seat_seen}
 use Rattle.slot_words.proofs.Steps.{again, opens}
 use Rattle.slot_words.proofs.Hands.{deals, many_left, next_dealt, one_dealt}
