@@ -47,6 +47,7 @@ fn lines_in(
 }
 
 /// The piece of all clusters, and the partial results of the watched results, where there are any.
+#[tactic(auto, using(crate::proofs::Shares::as_many_pieces))]
 pub fn filled(
     alloc: Global,
     book: Option<Book>,

@@ -29,6 +29,7 @@ fn lesser(fault: Fault, least: Option<Fault>) -> Fault
 }
 
 /// The fault at the least entry among those with which slots stopped, or want of memory where a slot met it.
+#[tactic(auto, using(crate::proofs::Ended::next_slot))]
 pub fn least_of(finished: &[Finished]) -> Result<Option<Fault>, Memory>
     ensures least { IfOk result (λ least. least ≡ least_fault (end_faults finished.now)) }
     ensures memory { IfOk result (λ _. All HasMemory finished.now) }

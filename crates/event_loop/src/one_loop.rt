@@ -33,6 +33,7 @@ pub enum LoopEnd {
 }
 
 // A book with a share for each slot, where a result is watched; it takes the memory for all numbers.
+#[tactic(auto, using(crate::proofs::Whole::all_blank))]
 fn opened(
     alloc: Global,
     watched: u32,
@@ -51,6 +52,7 @@ fn opened(
 }
 
 // The slots, each with a seat and, where there is a book, a share.
+#[tactic(auto, using(crate::proofs::Whole::none_seated))]
 fn seated(alloc: Global, seats: SeatList, shares: ShareList) -> Result<Vec<Slot>, Memory>
     ensures many { IfOk result (λ v. vec_len v ≡ length seats) }
     ensures fresh { (shared : Shared) → All (IsReady shared.claims) seats → AreBlank shared.book (length seats) shares → IfOk result (λ v. All (IsFresh shared) v.items) }
@@ -75,6 +77,7 @@ fn cluster_count(job: &Job<'_>) -> u32
 
 /// Runs a loop over all clusters, and notes its watched results after every `watch`-th cluster.
 /// So many slots share the clusters out; no clause says how many of them ran, or when.
+#[tactic(auto, using(slot_words::proofs::Steps::seats_many))]
 pub fn run_loop<R: Threads + Sync, G: Gate>(
     rt: &R,
     alloc: Global,

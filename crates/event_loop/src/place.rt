@@ -93,6 +93,7 @@ fn pass_count(passes: &[Pass], r: u32) -> usize
 }
 
 /// The place of a result's passes in a loop that fills it.
+#[tactic(auto, using(crate::proofs::Found::pass_of, crate::proofs::Found::taken_at))]
 pub fn place_in(graph: &Graph, loop_index: u32, r: u32) -> Place
     requires its_loop { loop_index < length (graph_loops graph.now) }
     requires result { r < length (graph_results graph.now) }

@@ -5,12 +5,6 @@ use Rattle.event_loop.specs.{HaveNoted}
 use Rattle.event_loop.proofs.Shares.{none_watched, noted_in, noted_partials}
 use Rattle.event_loop.proofs.filling.lines_in.Goals as goal
 
-pub close-requires : goal.close-requires
-close-requires c =
-    let can = c.requires.1 in
-    let shares = can.finished.are.noted c.in-Some.book c.in-Some.is in
-    record { all = shares.many ∙ can.finished.many ∙ sym (can.booked c.in-Some.book c.in-Some.is); of = shares.of }
-
 pub partial_lines-requires-clause-noted : goal.partial_lines-requires-clause-noted
 partial_lines-requires-clause-noted c =
     let job = c.requires.0 in

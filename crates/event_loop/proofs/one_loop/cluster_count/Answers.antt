@@ -5,9 +5,6 @@ use Rattle.loop_keys.specs.{job_of}
 use Rattle.event_loop.proofs.Whole.{few_clusters}
 use Rattle.event_loop.proofs.one_loop.cluster_count.Goals as goal
 
-pub returns-clause-value : goal.returns-clause-value
-returns-clause-value g c = subst (λ (v : CutsView). c.count.result ≡ length (cut v.entries v.size v.marks)) c.cuts.ensures.value c.count.ensures.value
-
 pub returns-clause-few : goal.returns-clause-few
 returns-clause-few g c =
     few_clusters (job_of c.args.job.now) c.count.result (subst (λ (v : CutsView). c.count.result ≡ length (cut v.entries v.size v.marks)) c.cuts.ensures.value c.count.ensures.value)

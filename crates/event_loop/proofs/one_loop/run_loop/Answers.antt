@@ -20,13 +20,6 @@ run_slots-requires-clause-can g c = λ κs h. record {
   room = has_room c.in_ok-book.book c.watched_in-watched.result c.args.slots c.cluster_count-clusters.result c.in_ok-claims.claims.clusters c.in_ok-book.ensures.0 c.in_ok-claims.ensures.0;
 }
 
-pub gathered-requires-clause-some : goal.gathered-requires-clause-some
-gathered-requires-clause-some = grind (arith, seats_many)
-
-pub gathered-requires-clause-many : goal.gathered-requires-clause-many
-gathered-requires-clause-many g c =
-    c.in_ok-finished.ensures.len ∙ c.in_ok-fresh.ensures.many ∙ seats_many c.in_ok-claims.claims c.args.slots c.in_ok-claims.seats c.in_ok-claims.ensures.2 ∙ sym c.in_ok-claims.ensures.1
-
 pub filled-requires : goal.filled-requires
 filled-requires g c =
     let j = job_of c.args.job.now in

@@ -1,9 +1,6 @@
 use Rattle.std.proofs.Common.{[], ◌∷◌, length, length-append, ap, refl, arith}
-use Rattle.event_loop.proofs.Whole.{none_popped, next_seated, none_seated}
+use Rattle.event_loop.proofs.Whole.{none_popped, next_seated}
 use Rattle.event_loop.proofs.one_loop.seated.Goals as goal
-
-pub loop-seat-init : goal.loop-seat-init
-loop-seat-init = grind (arith, none_seated)
 
 pub loop-seat-preserved : goal.loop-seat-preserved
 loop-seat-preserved c = record {
@@ -21,6 +18,3 @@ loop-seat-preserved c = record {
       (c.loop-seat.invariant.seated shared ready blank) c.in-Some.ensures.items c.pop-share.ensures.items
       (λ none. let gone = none_popped _ _ _ c.pop-share.ensures.cases none in let left = c.loop-seat.shares.ok.0 in omega (arith, gone, left)) c.in_ok-push.ensures.items refl refl;
 }
-
-pub returns-clause-fresh : goal.returns-clause-fresh
-returns-clause-fresh c = λ shared ready blank. (c.loop-seat.invariant.seated shared ready blank).done

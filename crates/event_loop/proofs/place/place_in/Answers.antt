@@ -4,17 +4,13 @@ use Rattle.rdf_values.specs.{Booked}
 use Rattle.graph_numbers.specs.{ResultAt}
 use Rattle.event_loop.specs.{fills}
 use native.Mathlib.Nat.{mul-le-mul_left}
-use Rattle.event_loop.proofs.Found.{at_start, loop_few, pass_of, place_is, taken_at}
+use Rattle.event_loop.proofs.Found.{at_start, loop_few, place_is}
 use Rattle.event_loop.proofs.place.place_in.Goals as goal
 
 pub unreachable-requires : goal.unreachable-requires
 unreachable-requires c =
     let f = c.requires.filled in
     absurd (cc (at_start c.args.graph.now c.is_booked.ensures c.args.loop_index c.passes-passes.result.now c.passes-passes.ensures f.1 f.3 c.args.r f.0 f.2 f.4, c.in_default.ensures))
-
-pub counts_of-before-requires-clause-passes : goal.counts_of-before-requires-clause-passes
-counts_of-before-requires-clause-passes c = λ i p at.
-    pass_of c.args.graph.now c.is_booked.ensures c.args.loop_index c.passes-passes.result.now c.passes-passes.ensures i p (taken_at c.in-Some.start c.passes-passes.result.now i p at)
 
 pub counts_of-before-requires-clause-few : goal.counts_of-before-requires-clause-few
 counts_of-before-requires-clause-few c =
