@@ -40,14 +40,7 @@ pub fn table_loop<R: Threads + Sync, G: Gate>(
         columns: table.columns,
         functions: table.functions,
     };
-    let one = run_table(rt, alloc, &job, table.file, table.slots, gate);
-    let Job {
-        graph: _,
-        loop_index: _,
-        columns: _,
-        functions: _,
-    } = job;
-    one
+    run_table(rt, alloc, &job, table.file, table.slots, gate)
 }
 
 fn is_faulty(one: &PartLoop) -> bool

@@ -162,14 +162,7 @@ impl<'a> Session<'a> {
             columns: &self.columns,
             functions: self.functions,
         };
-        let end = run_loop(rt, alloc, &job, self.slots, self.watch, gate);
-        let Job {
-            graph: _,
-            loop_index: _,
-            columns: _,
-            functions: _,
-        } = job;
-        end
+        run_loop(rt, alloc, &job, self.slots, self.watch, gate)
     }
 
     /// The graph.

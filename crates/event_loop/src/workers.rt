@@ -148,14 +148,7 @@ pub fn run_slots<R: Threads + Sync, G: Gate>(
                 columns,
                 functions,
             };
-            let finished = run_slot(alloc, &job, shared, slot, gate);
-            let Job {
-                graph: _,
-                loop_index: _,
-                columns: _,
-                functions: _,
-            } = job;
-            finished
+            run_slot(alloc, &job, shared, slot, gate)
         },
     )?;
     Ok(finished)

@@ -55,14 +55,7 @@ fn loop_at(
         columns,
         functions,
     };
-    let one = run_loop(alloc, &job, clusters);
-    let Job {
-        graph: _,
-        loop_index: _,
-        columns: _,
-        functions: _,
-    } = job;
-    one
+    run_loop(alloc, &job, clusters)
 }
 
 fn is_faulty(one: &ShardLoop) -> bool

@@ -88,11 +88,5 @@ pub(crate) fn answer_over<R: Threads + Sync, G: Gate>(
         columns: &columns,
         functions,
     };
-    let answer = answer_run(host, alloc, &job, command.slots);
-    let SnapJob {
-        plan: _,
-        columns: _,
-        functions: _,
-    } = job;
-    answer
+    answer_run(host, alloc, &job, command.slots)
 }

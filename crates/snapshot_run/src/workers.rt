@@ -115,13 +115,7 @@ pub(crate) fn run_slots<R: Threads + Sync, G: Gate>(
                 columns,
                 functions,
             };
-            let finished = run_slot(alloc, &job, claims, seat, gate);
-            let SnapJob {
-                plan: _,
-                columns: _,
-                functions: _,
-            } = job;
-            finished
+            run_slot(alloc, &job, claims, seat, gate)
         },
     )?;
     Ok(finished)

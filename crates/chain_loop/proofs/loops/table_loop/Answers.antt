@@ -5,8 +5,8 @@ use Rattle.graph_numbers.specs.{graph_loops, GraphView, IsGraph}
 use Rattle.rdf_values.specs.{fn_names}
 use Rattle.chain_loop.proofs.loops.table_loop.Goals as goal
 
-pub run_table-one-requires-clause-job : goal.run_table-one-requires-clause-job
-run_table-one-requires-clause-job g c κs within =
+pub run_table-requires-clause-job : goal.run_table-requires-clause-job
+run_table-requires-clause-job g c κs within =
     let graph = c.args.table.now.graph.now in
     let same : ◌≡◌ {A = GraphView} graph (record { script = graph.script; header = c.args.table.now.columns.now.table.columns; names = fn_names (functions_in c.args.table.now.functions.now) })
     = λ i. record { script = graph.script; header = c.requires.graph.0 i; names = c.requires.graph.1 i } in

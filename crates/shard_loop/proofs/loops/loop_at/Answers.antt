@@ -5,8 +5,8 @@ use Rattle.graph_numbers.specs.{graph_loops, GraphView, IsGraph}
 use Rattle.rdf_values.specs.{fn_names}
 use Rattle.shard_loop.proofs.loops.loop_at.Goals as goal
 
-pub run_loop-one-requires-clause-job : goal.run_loop-one-requires-clause-job
-run_loop-one-requires-clause-job g c =
+pub run_loop-requires-clause-job : goal.run_loop-requires-clause-job
+run_loop-requires-clause-job g c =
     let graph = c.args.graph.now in
     let same : ◌≡◌ {A = GraphView} graph (record { script = graph.script; header = c.args.columns.now.table.columns; names = fn_names (functions_in c.args.functions.now) })
     = λ i. record { script = graph.script; header = c.requires.graph.0 i; names = c.requires.graph.1 i } in

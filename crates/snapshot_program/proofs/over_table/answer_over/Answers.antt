@@ -11,5 +11,5 @@ returns-in-Refused g c =
 pub returns : goal.returns
 returns g c =
     let planned = rw c.in-Plan.is at c.in_ok-plan.ensures in
-    run_answer (functions_in c.args.functions.now) c.args.command.now c.args.inputs.script c.args.inputs.columns.table c.in-Plan.plan c.answer_run-answer.result planned
-    c.answer_run-answer.ensures
+    run_answer (functions_in c.args.functions.now) c.args.command.now c.args.inputs.script c.args.inputs.columns.table c.in-Plan.plan c.answer_run.result planned
+    c.answer_run.ensures

@@ -3,5 +3,5 @@ use Rattle.graph_numbers.proofs.Placing.{itself}
 use Rattle.event_loop.proofs.LoopResults.{many}
 use Rattle.event_loop.proofs.session.Session.run.Goals as goal
 
-pub run_loop-end-requires-clause-job : goal.run_loop-end-requires-clause-job
-run_loop-end-requires-clause-job = grind (arith, many, itself)
+pub run_loop-requires-clause-job : goal.run_loop-requires-clause-job
+run_loop-requires-clause-job = grind (arith, many, itself)
