@@ -12,10 +12,9 @@ ghost use Rattle.graph_numbers.specs.declared.version.Source.TheVariants as sour
 
 use crate::turn::{Kept, Turn, Work};
 use block_cache::Lane;
-use block_cache::block::Block;
+use block_cache::block::{Block, Wanted};
 use block_cache::faults::PlaceFault;
 use block_cache::leads::fill_led;
-use block_cache::wanted::Wanted;
 use expr_eval::{Input, Steps};
 use expr_lanes::Selection;
 use graph_numbers::Source;

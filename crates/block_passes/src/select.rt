@@ -9,9 +9,8 @@ ghost use Rattle.block_passes.specs.{CanSelectInTurn, IsFilteredTo, IsKnown, IsN
 
 use crate::plan::Step;
 use crate::turn::{Kept, NextStep, SiteFilter, Turn, Work};
-use block_cache::block::Block;
+use block_cache::block::{Block, Wanted};
 use block_cache::passing::pass_filter;
-use block_cache::wanted::Wanted;
 use expr_eval::Steps;
 use loop_keys::reading::Reading;
 use loop_keys::rows::row_at;

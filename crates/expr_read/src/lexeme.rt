@@ -3,8 +3,7 @@ ghost use Rattle.std.specs.Prelude.{◌≡◌, ◌<◌, ◌∷◌, List, ℕ, le
 ghost use Rattle.rdf_values.specs.{first_token, long_mark, mark_first, number_first, short_mark, word_first};
 ghost use Rattle.expr_read.specs.{first_of, token_of};
 
-use rdf_values::scripts::name::is_word_start;
-use rdf_values::tables::word::{digits_size, is_digit, word_size};
+use rdf_values::scripts::name::{digits_size, is_digit, is_word_start, word_size};
 use rdf_values::{BinOp, ExprCause, Mark, read_magnitude};
 
 const LONGEST_WORD: usize = 64;

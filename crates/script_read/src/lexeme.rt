@@ -7,8 +7,7 @@ ghost use Rattle.script_read.specs.{lexeme_of, placed_of, RefusedFor};
 use crate::form::{Mark, Placed, Quoted, Token, Word};
 use crate::refusal::LineStop;
 use rdf_values::read_integer;
-use rdf_values::scripts::name::is_word_start;
-use rdf_values::tables::word::{digits_size, is_digit, word_size};
+use rdf_values::scripts::name::{digits_size, is_digit, is_word_start, word_size};
 use std::alloc::Global;
 
 const LONGEST_NAME: usize = 64;
