@@ -7,7 +7,7 @@ use Rattle.expr_lanes.specs.declared.kernels.Side.{Side}
 use Rattle.expr_lanes.specs.{called_at, depth, EachPlace, Evaluated, fold_read, HasCome, HasNumber, is_decider, IsAble, IsAtHand, lane_at, lane_operation, side_number, Stopped, with_zero, at_place, HasValues, is_given, lane_outcome, lane_value, times, with_stop, given_in, is_in, stops_in}
 use Rattle.expr_lanes.specs.declared.nodes.Branch.{Branch}
 use Rattle.expr_lanes.specs.declared.nodes.Branch.TheVariants.{Node, Same}
-use Rattle.expr_lanes.proofs.Sequence.{alike, come_alike, come_told, go_on, told, come_from, same_given, same_stops, filtered_out, times_with, first_in, rest_in, in_filter}
+use Rattle.expr_lanes.proofs.Sequence.{alike, come_alike, come_told, go_on, told, come_from, same_given, same_stops, filtered_out, times_with, first_in, rest_in, in_filter, filtered_in}
 use Rattle.lemmas.proofs.{and_false, and_left, and_right, filter, or_false}
 use Rattle.expr_lanes.proofs.SiftSteps.{filter_alike}
 use Rattle.expr_lanes.proofs.Selected.{parts_of, filter_whole, short}
@@ -36,16 +36,6 @@ operated o f g sel left right last x y before after s0 s1 s2 s3 plain first seco
 negative : (z : ℤ) → (pos 0 -ℤ z) ≡ neg_ℤ z
 negative z = omega (arith, ints)
 
-as_difference : (o : Outcome ℕ ℤ) → (o >>= λ y. checked (pos 0 -ℤ y)) ≡ (o >>= λ x. checked (neg_ℤ x))
-as_difference o = grind (arith, negative)
-
--- the other truth value is an equality with 0
-equal_to_zero : (z : ℤ) → (int_le z (pos 0) && int_le (pos 0) z) ≡ is_zero z
-equal_to_zero z = grind arith
-
-as_equality : (o : Outcome ℕ ℤ) → (o >>= λ x. Gives (mark (int_le x (pos 0) && int_le (pos 0) x))) ≡ (o >>= λ x. Gives (mark (is_zero x)))
-as_equality o = grind (arith, equal_to_zero)
-
 -- an operator with two sides in place of one
 pub same_depth : (e : NumTree) → depth (with_zero e) ≡ depth e
 same_depth e = grind arith
@@ -66,8 +56,8 @@ branch_depth Same = 0
 
 module _ {S : Type 0} (look : S → ℕ → ℕ → Outcome ℕ Value) (functions : S → List Function) (s : S) (sel left : List ℕ) (before after : List ℤ) (stops more : List Stopped) where
   same_with_zero : (e : NumTree) (p : ℕ) → lane_at look functions s (with_zero e) p ≡ lane_at look functions s e p
-  same_with_zero (Neg a) p = as_difference (lane_at look functions s a p)
-  same_with_zero (Not a) p = as_equality (lane_at look functions s a p)
+  same_with_zero (Neg a) p = grind (arith, negative)
+  same_with_zero (Not a) p = grind arith
   same_with_zero e p = refl
 
   pub with_sides : (e sides : NumTree) → sides ≡ with_zero e → Evaluated (lane_at look functions s sides) sel left before after stops more → Evaluated (lane_at look functions s e) sel left before after stops more
@@ -88,15 +78,7 @@ stop_alike p o rest = grind arith
 -- what a lane holds of numbers it holds of values
 pub by_value : (f : ℕ → Outcome ℕ Value) (g : ℕ → Outcome ℕ ℤ) (k : ColType) (sel left : List ℕ) (before after : List ℤ) (stops more : List Stopped) → EachPlace sel (λ p. g p ≡ lane_outcome (f p))
     → EachPlace sel (λ p. (z : ℤ) → g p ≡ Gives z → f p ≡ Gives (lane_value k z)) → Evaluated g sel left before after stops more → HasValues k f sel left before after stops more
-by_value f g k sel left before after stops more same read e =
-    let selected = come_from g sel left (at_place after) stops more e.come in
-    record {
-      left_in = e.come.left_in ∙ same_given f g sel (λ p i. ap is_given (same p i) ∙ given_alike (f p));
-      values = λ p h. read p (selected p h) (at_place after p) (e.come.values p h);
-      exact = λ p h. sym (same p (selected p h)) ∙ e.come.values p h;
-      others = e.others;
-      joined = λ t. e.come.joined t ∙ ap (λ l. times t stops + times t l) (same_stops f g sel (λ p i rest. ap (λ o. with_stop p o rest) (same p i) ∙ stop_alike p (f p) rest));
-    }
+by_value f g k sel left before after stops more same read e = grind (arith, filtered_in, same_given, given_alike, same_stops)
 
 -- ---- Evaluations of which each place takes one of two.
 
@@ -122,7 +104,7 @@ module _ (test : ℕ → Bool) (one two : ℕ → Outcome ℕ ℤ) where
 
   parted_times : (t : Stopped → Bool) (sel : List ℕ) → times t (stops_in one (filter (λ p. not (test p)) sel)) + times t (stops_in two (filter test sel)) ≡ times t (stops_in chosen sel)
   parted_times t [] = refl
-  parted_times t (p ∷ sel) = part_step t p (test p) (filter (λ q. not (test q)) sel) (filter test sel) (stops_in chosen sel) (parted_times t sel)
+  parted_times t (p ∷ sel) = grind (arith, filter, parted_times t sel)
 
   -- of the place itself
   has_side : (b : Bool) (g h : Outcome ℕ ℤ) → (((true && not b) && is_given h) || ((true && b) && is_given g)) ≡ is_given (if b then g else h)
@@ -211,19 +193,4 @@ either_side b = grind arith
 -- where both parts of a selection kept all their places, it is the places that either has
 pub whole : (test : ℕ → Bool) (sel zeros others zeros1 others1 : List ℕ) → zeros ≡ filter test sel → others ≡ filter (λ p. not (test p)) sel → IsRest zeros zeros1 → IsRest others others1 → length zeros1 + length others1 ≡ length sel
     → sel ≡ filter (λ p. is_in p others1 || is_in p zeros1) sel
-whole test sel zeros others zeros1 others1 are rest zeros_left others_left all =
-    sym (filter_each (λ p. is_in p others1 || is_in p zeros1) sel (λ p h.
-    ap (λ l. is_in p l || is_in p zeros1) the_others ∙ ap (λ l. is_in p (filter (λ q. not (test q)) sel) || is_in p l) the_zeros ∙ ap (λ b. b || is_in p (filter test sel)) (in_filter (λ q. not (test q)) p sel)
-    ∙ ap (λ b. (is_in p sel && not (test p)) || b) (in_filter test p sel) ∙ ap (λ b. (b && not (test p)) || (b && test p)) h ∙ either_side (test p)))
-  where
-    long_zeros : length zeros ≡ length (filter test sel)
-    long_zeros = ap (λ (l : List ℕ). length l) are
-
-    long_others : length others ≡ length (filter (λ p. not (test p)) sel)
-    long_others = ap (λ (l : List ℕ). length l) rest
-
-    the_zeros : zeros1 ≡ filter test sel
-    the_zeros = zeros_left.same (omega (arith, long_zeros, long_others, parts_of test sel, zeros_left.few, others_left.few, all)) ∙ are
-
-    the_others : others1 ≡ filter (λ p. not (test p)) sel
-    the_others = others_left.same (omega (arith, long_zeros, long_others, parts_of test sel, zeros_left.few, others_left.few, all)) ∙ rest
+whole test sel zeros others zeros1 others1 are rest zeros_left others_left all = grind (arith, filter_each, filter, in_filter, parts_of)

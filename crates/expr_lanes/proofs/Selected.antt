@@ -125,13 +125,10 @@ all_times : (stops : List Stopped) → times (λ s. true) stops ≡ length stops
 all_times [] = refl
 all_times (s ∷ stops) = omega (arith, all_times stops)
 
-one_each : {A : Type 0} (o : Outcome ℕ A) (p n : ℕ) (ps qs : List ℕ) (stops : List Stopped) → length stops + length qs ≡ n → length (with_stop p o stops) + length (cond (is_given o) (p ∷ qs) qs) ≡ n + 1
-one_each o p n ps qs stops h = grind arith
-
 -- each selected place is a stop or is left
 each_once : {A : Type 0} (f : ℕ → Outcome ℕ A) (sel : List ℕ) → length (stops_in f sel) + length (given_in f sel) ≡ length sel
 each_once f [] = refl
-each_once f (p ∷ sel) = one_each (f p) p (length sel) sel (given_in f sel) (stops_in f sel) (each_once f sel) ∙ omega arith
+each_once f (p ∷ sel) = grind (arith, each_once f sel)
 
 -- no place is lost
 none_lost : {A : Type 0} (f : ℕ → Outcome ℕ A) (sel left : List ℕ) (number : ℕ → A) (stops more : List Stopped) → HasCome f sel left number stops more → length more + length left ≡ length stops + length sel

@@ -62,11 +62,7 @@ come_from f sel left number s0 s1 e p h = filtered_in (λ q. is_given (f q)) p s
 
 -- what is the same at each selected place comes to the same
 pub come_alike : {A : Type 0} (f h : ℕ → Outcome ℕ A) (sel left : List ℕ) (number : ℕ → A) (stops more : List Stopped) → EachPlace sel (λ p. h p ≡ f p) → HasCome h sel left number stops more → HasCome f sel left number stops more
-come_alike f h sel left number stops more same e = record {
-  left_in = e.left_in ∙ same_given f h sel (λ p i. ap is_given (same p i));
-  values = λ p i. sym (same p (come_from h sel left number stops more e p i)) ∙ e.values p i;
-  joined = λ t. e.joined t ∙ ap (λ l. times t stops + times t l) (same_stops f h sel (λ p i rest. ap (λ o. with_stop p o rest) (same p i)));
-}
+come_alike f h sel left number stops more same e = grind (arith, same_given, filtered_in, same_stops)
 
 -- and is evaluated alike
 pub alike : (f h : ℕ → Outcome ℕ ℤ) (sel left : List ℕ) (before after : List ℤ) (stops more : List Stopped) → EachPlace sel (λ p. h p ≡ f p) → Evaluated h sel left before after stops more

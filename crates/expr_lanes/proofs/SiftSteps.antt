@@ -133,17 +133,10 @@ filter_alike one two [] h = refl
 filter_alike one two (x ∷ xs) h =
     ap (λ b. cond b (x ∷ filter one xs) (filter one xs)) (h x (first_in x xs)) ∙ ap (λ l. cond (two x) (x ∷ l) l) (filter_alike one two xs (λ q i. h q (rest_in q x xs i)))
 
-either_unmarked : (o z : Bool) → not (if o then false else (if z then false else true)) ≡ (o || z)
-either_unmarked o z = grind arith
-
 -- the marks after the selection was marked and then its two sides were unmarked
 pub rejoined : (sel zeros others : List ℕ) (m0 m1 m2 m3 : List Bool) → ((p : ℕ) → is_marked m1 p ≡ (if is_in p sel then true else is_marked m0 p)) → ((p : ℕ) → is_marked m2 p ≡ (if is_in p zeros then false else is_marked m1 p))
     → ((p : ℕ) → is_marked m3 p ≡ (if is_in p others then false else is_marked m2 p)) → filter (λ p. not (is_marked m3 p)) sel ≡ filter (λ p. is_in p others || is_in p zeros) sel
-rejoined sel zeros others m0 m1 m2 m3 marked first second =
-    filter_alike (λ p. not (is_marked m3 p)) (λ p. is_in p others || is_in p zeros) sel
-    (λ p h.
-    let all : is_marked m1 p ≡ true = marked p ∙ ap (λ b. if b then true else is_marked m0 p) h in
-    ap not (second p ∙ ap (λ b. if is_in p others then false else b) (first p ∙ ap (λ b. if is_in p zeros then false else b) all)) ∙ either_unmarked (is_in p others) (is_in p zeros))
+rejoined sel zeros others m0 m1 m2 m3 marked first second = grind (arith, filter_alike)
 
 -- the same of selections as they are seen
 pub rejoined_as : (kept sel zeros others sel1 zeros1 others1 : List ℕ) → sel ≡ sel1 → zeros ≡ zeros1 → others ≡ others1 → kept ≡ filter (λ p. is_in p others || is_in p zeros) sel → kept ≡ filter (λ p. is_in p others1 || is_in p zeros1) sel1
