@@ -1,13 +1,13 @@
 -- What a node's parts come to, put together.
-use Rattle.std.proofs.Common.{◌≡◌, ◌<◌, ℕ, ℤ, pos, neg_ℤ, ◌-ℤ◌, false, None, ◌&&◌, ◌∙◌, List, refl, ap, sym, subst, arith, int_le, ◌+◌, Bool, true, not, ◌||◌, [], ◌∷◌, cond, if◌then◌else◌, ◌≤◌, length}
+use Rattle.std.proofs.Common.{◌≡◌, ◌<◌, ℕ, ℤ, pos, neg_ℤ, ◌-ℤ◌, false, None, ◌&&◌, ◌∙◌, List, refl, ap, sym, subst, arith, ◌+◌, Bool, true, not, ◌||◌, [], ◌∷◌, cond, if◌then◌else◌, ◌≤◌, length}
 use Rattle.std.proofs.lemmas.Int.{ints}
 use Rattle.rdf_values.specs.{BinOp, Call, Callee, Function, Neg, Not, num_tree, NumTree, Trees, Value, ColType}
-use Rattle.rdf_model.specs.{◌>>=◌, checked, Gives, is_zero, mark, number_operation, Outcome}
+use Rattle.rdf_model.specs.{◌>>=◌, Gives, is_zero, number_operation, Outcome}
 use Rattle.expr_lanes.specs.declared.kernels.Side.{Side}
-use Rattle.expr_lanes.specs.{called_at, depth, EachPlace, Evaluated, fold_read, HasCome, HasNumber, is_decider, IsAble, IsAtHand, lane_at, lane_operation, side_number, Stopped, with_zero, at_place, HasValues, is_given, lane_outcome, lane_value, times, with_stop, given_in, is_in, stops_in}
+use Rattle.expr_lanes.specs.{called_at, depth, EachPlace, Evaluated, fold_read, HasCome, HasNumber, is_decider, IsAble, IsAtHand, lane_at, lane_operation, side_number, Stopped, with_zero, at_place, HasValues, is_given, lane_outcome, lane_value, times, given_in, is_in, stops_in}
 use Rattle.expr_lanes.specs.declared.nodes.Branch.{Branch}
 use Rattle.expr_lanes.specs.declared.nodes.Branch.TheVariants.{Node, Same}
-use Rattle.expr_lanes.proofs.Sequence.{alike, come_alike, come_told, go_on, told, come_from, same_given, same_stops, filtered_out, times_with, first_in, rest_in, in_filter, filtered_in}
+use Rattle.expr_lanes.proofs.Sequence.{alike, come_alike, come_told, go_on, told, same_given, same_stops, filtered_out, first_in, rest_in, in_filter, filtered_in}
 use Rattle.lemmas.proofs.{and_false, and_left, and_right, filter, or_false}
 use Rattle.expr_lanes.proofs.SiftSteps.{filter_alike}
 use Rattle.expr_lanes.proofs.Selected.{parts_of, filter_whole, short}
@@ -72,17 +72,12 @@ module _ {S : Type 0} (look : S → ℕ → ℕ → Outcome ℕ Value) (function
 given_alike : (o : Outcome ℕ Value) → is_given (lane_outcome o) ≡ is_given o
 given_alike o = grind arith
 
-stop_alike : (p : ℕ) (o : Outcome ℕ Value) (rest : List Stopped) → with_stop p (lane_outcome o) rest ≡ with_stop p o rest
-stop_alike p o rest = grind arith
-
 -- what a lane holds of numbers it holds of values
 pub by_value : (f : ℕ → Outcome ℕ Value) (g : ℕ → Outcome ℕ ℤ) (k : ColType) (sel left : List ℕ) (before after : List ℤ) (stops more : List Stopped) → EachPlace sel (λ p. g p ≡ lane_outcome (f p))
     → EachPlace sel (λ p. (z : ℤ) → g p ≡ Gives z → f p ≡ Gives (lane_value k z)) → Evaluated g sel left before after stops more → HasValues k f sel left before after stops more
 by_value f g k sel left before after stops more same read e = grind (arith, filtered_in, same_given, given_alike, same_stops)
 
--- ---- Evaluations of which each place takes one of two.
-
--- ---- nothing is done
+-- ---- Evaluations of which each place takes one of two: nothing is done
 
 abbrev pub held : List ℤ → ℕ → Outcome ℕ ℤ
 held lane p = Gives (at_place lane p)
@@ -97,10 +92,6 @@ module _ (test : ℕ → Bool) (one two : ℕ → Outcome ℕ ℤ) where
   -- the first where the test fails, and the second where it holds
   abbrev chosen : ℕ → Outcome ℕ ℤ
   chosen p = if test p then two p else one p
-
-  part_step : (t : Stopped → Bool) (p : ℕ) (b : Bool) (xs ys : List ℕ) (rest : List Stopped) → times t (stops_in one xs) + times t (stops_in two ys) ≡ times t rest
-      → times t (stops_in one (cond (not b) (p ∷ xs) xs)) + times t (stops_in two (cond b (p ∷ ys) ys)) ≡ times t (with_stop p (if b then two p else one p) rest)
-  part_step t p b xs ys rest h = grind (arith, times_with)
 
   parted_times : (t : Stopped → Bool) (sel : List ℕ) → times t (stops_in one (filter (λ p. not (test p)) sel)) + times t (stops_in two (filter test sel)) ≡ times t (stops_in chosen sel)
   parted_times t [] = refl
@@ -186,9 +177,6 @@ rest_left f sel left number stops more e = record {
   few = omega (arith, ap (λ (l : List ℕ). length l) e.left_in, short (λ p. is_given (f p)) sel);
   same = λ h. e.left_in ∙ filter_whole (λ p. is_given (f p)) sel (ap (λ (l : List ℕ). length l) (sym e.left_in) ∙ h);
 }
-
-either_side : (b : Bool) → ((true && not b) || (true && b)) ≡ true
-either_side b = grind arith
 
 -- where both parts of a selection kept all their places, it is the places that either has
 pub whole : (test : ℕ → Bool) (sel zeros others zeros1 others1 : List ℕ) → zeros ≡ filter test sel → others ≡ filter (λ p. not (test p)) sel → IsRest zeros zeros1 → IsRest others others1 → length zeros1 + length others1 ≡ length sel

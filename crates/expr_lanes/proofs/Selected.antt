@@ -1,7 +1,7 @@
 -- Selections: rising places, the first of a block, and room for stops.
-use Rattle.std.proofs.Common.{◌≡◌, ◌<◌, ◌≤◌, ◌+◌, ℕ, suc, zero, Bool, true, false, inl, inr, List, [], ◌∷◌, length, take, ◌∙◌, refl, ap, sym, subst, cond, arith, nat_eq, ◌≢◌, ℤ, pos, ◌++◌, get_or, set, ◌⊎◌, get_or-set_same, get_or-set_other, not}
+use Rattle.std.proofs.Common.{◌≡◌, ◌<◌, ◌≤◌, ◌+◌, ℕ, suc, zero, Bool, true, false, inl, inr, List, [], ◌∷◌, length, take, ◌∙◌, refl, ap, sym, subst, arith, nat_eq, ◌≢◌, ℤ, pos, ◌++◌, get_or, set, ◌⊎◌, get_or-set_same, get_or-set_other, not}
 use Rattle.lemmas.proofs.{count_by-le-length, eqb_tells, filter, length-filter, length-take-le, range_with_len, eq-eqb, list_any-append, list_any_at, or_false, cases_lt, get_or-range_with_len, length-range_with_len, take_more_set, length-filter_both}
-use Rattle.expr_lanes.specs.{AreRising, EachPlace, is_in, at_place, Evaluated, Stopped, given_in, HasCome, is_given, IsSelected, stops_in, times, with_stop}
+use Rattle.expr_lanes.specs.{AreRising, EachPlace, is_in, at_place, Evaluated, Stopped, given_in, HasCome, IsSelected, stops_in, times}
 use Rattle.expr_lanes.proofs.Sequence.{filtered_in, come_told, come_alike, told, come_from}
 use Rattle.rdf_model.specs.{Gives, Outcome}
 
