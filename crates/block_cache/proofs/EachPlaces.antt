@@ -36,9 +36,6 @@ value_more k vectors more z kept there = grind arith
 pub there_more : (k : ColType) (vectors more : List (List ℤ)) (z : ℤ) → AreKept vectors more → HasNumbered k vectors z → HasNumbered k more z
 there_more k vectors more z kept there = grind arith
 
-number_moved : (k : ColType) (o : Outcome ℕ Value) (vectors more : List (List ℤ)) (a b : ℤ) → AreKept vectors more → b ≡ a → HasNumber k o vectors a → HasNumber k o more b
-number_moved k o vectors more a b kept same h = record { value = h.value; gives = h.gives; fits = h.fits; numbered = number_more vectors more h.value b kept (subst (λ (z : ℤ). IsNumberOf vectors h.value z) (sym same) h.numbered) }
-
 -- ---- stops
 
 one_stop : (o : Outcome ℕ Value) (q : ℕ) → length (with_stop q o []) ≤ 1
@@ -78,8 +75,7 @@ turned_more k f places numbers0 numbers after vectors0 vectors more marks0 marks
     seen p h = subst (λ (l : List ℕ). is_in p l ≡ true) one h
 
     values : (p : ℕ) → (p ≡ q) ⊎ ((p ≡ q → ⊥) × (is_in p (take i places) ≡ true)) → is_given (f p) ≡ true → HasNumber k (f p) more (at_place after p)
-    values p (inl e) g = subst (λ (n : ℕ). is_given (f n) ≡ true → HasNumber k (f n) more (at_place after n)) (sym e) t.value g
-    values p (inr n) g = number_moved k (f p) vectors more (at_place numbers p) (at_place after p) w.kept (w.others p n.0) (so_far.come.values p n.1 g)
+    values p h g = grind arith
 
     marks_at : (p : ℕ) → (p ≡ q) ⊎ ((p ≡ q → ⊥) × (is_in p (take i places) ≡ true)) → is_marked marked p ≡ not (is_given (f p))
     marks_at p (inl e) = subst (λ (n : ℕ). is_marked marked n ≡ not (is_given (f n))) (sym e) t.mark

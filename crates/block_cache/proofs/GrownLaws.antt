@@ -1,13 +1,13 @@
 -- What is known over a block grows, one step after another.
-use Rattle.std.proofs.Common.{◌≡◌, ◌<◌, ◌≤◌, ◌+◌, ◌⊎◌, inl, inr, ℕ, Bool, true, false, List, length, Option, refl, sym, ◌∙◌, ap, arith}
+use Rattle.std.proofs.Common.{◌≡◌, ◌<◌, ◌≤◌, ◌+◌, ◌⊎◌, inl, inr, ℕ, Bool, true, false, List, length, Option, refl, ◌∙◌, arith}
 use Rattle.graph_numbers.specs.{graph_sites}
 use Rattle.expr_lanes.specs.{EachPlace, is_in}
-use Rattle.block_cache.specs.{begun_at, cells_at, holds_at, IsGrownOver, IsOnlyCalled, IsSameAt, IsSettled, IsSettledTo, LaneView}
+use Rattle.block_cache.specs.{cells_at, IsGrownOver, IsOnlyCalled, IsSameAt, IsSettled, IsSettledTo, LaneView}
 use Rattle.loop_keys.specs.{IsClosed, IsSiteOf, job_graph, JobView, key, key_count, MeetsAt, source_at}
 use Rattle.loop_keys.proofs.FillLaws.{grows_on, in_source}
 use Rattle.block_cache.proofs.Attempts.{key_lower}
 use Rattle.block_cache.proofs.CanFills.{in_all}
-use Rattle.block_cache.proofs.Knowns.{holds_on, same_on}
+use Rattle.block_cache.proofs.Knowns.{same_on, holds_is}
 
 -- all sites are closed
 pub all_closed : (j : JobView) (entry : ℕ) (u : Option ℕ) → IsClosed j entry u (λ t. true)
@@ -62,7 +62,4 @@ module _ (j : JobView) (first : ℕ) (u : Option ℕ) (s : ℕ) (sel : List ℕ)
 
   -- where the sites up to the one that was filled are settled, all that was settled is
   pub settled_all : (left : List ℕ) → EachPlace left (λ p. is_in p sel ≡ true) → IsSettled a sel → IsSettledTo j u s b left → IsSettled b left
-  settled_all left sub was now p i k begun = elim (changed k p) [
-    | inl x ↦ holds_on (key_count (job_graph j)) a b k p (h.grows p) (was p (sub p i) k (sym x.0 ∙ begun))
-    | inr x ↦ ap (λ m. holds_at b m p) x.1.3 ∙ now p i x.1.0 x.1.1 (ap (λ m. begun_at b m p) (sym x.1.3) ∙ begun)
-  ]
+  settled_all left sub was now = grind (arith, changed, holds_is)

@@ -1,12 +1,12 @@
 -- What is known of a key at a place, by its lane.
-use Rattle.std.proofs.Common.{◌≡◌, ◌<◌, ◌+◌, ℕ, true, false, List, length, Option, Some, None, sym, ◌∙◌, ap, subst, slice_get, arith}
+use Rattle.std.proofs.Common.{◌≡◌, ◌<◌, ◌+◌, ℕ, true, false, List, length, Option, None, sym, ◌∙◌, ap, slice_get, arith}
 use Rattle.lemmas.proofs.{never_true}
 use Rattle.rdf_values.specs.{Value}
 use Rattle.rdf_model.specs.{fault_in, Gives}
 use Rattle.graph_numbers.specs.{graph_sites}
-use Rattle.block_cache.specs.{AreReady, cells_at, holds_at, IsSameAt, lane_holds, LaneView, site_fault, value_of}
-use Rattle.loop_keys.specs.{Grows, Held, held_in, is_held as has_held, IsRight, job_graph, JobView, key, key_count, site_in}
-use Rattle.block_cache.proofs.BlockLaws.{held_of_lane, lane_held, right_value, value_held}
+use Rattle.block_cache.specs.{AreReady, cells_at, holds_at, IsSameAt, lane_holds, LaneView, site_fault}
+use Rattle.loop_keys.specs.{Grows, Held, held_in, is_held as has_held, job_graph, JobView, key, key_count, site_in}
+use Rattle.block_cache.proofs.BlockLaws.{held_of_lane, lane_held, value_held}
 use Rattle.block_cache.proofs.OverLaws.{held_true}
 
 -- ---- what is held
@@ -36,11 +36,7 @@ lacks_before n a b k p grows lacks = never_true (holds_at a k p) (λ h. cc (lack
 -- a held value is the site's
 module _ (j : JobView) (first : ℕ) (u : Option ℕ) (count s : ℕ) (inside : s < length (graph_sites (job_graph j))) (lanes : List LaneView) (ready : AreReady j first count lanes) (p : ℕ) (low : p < count) where
   held_right : (o : Option LaneView) → lane_holds o p ≡ true → lane_held o p ≡ held_in (cells_at (key_count (job_graph j)) lanes p) (key (job_graph j) s u) → (v : Value) × (site_in {M = ⊥} j (first + p) u s ≡ Gives v)
-  held_right None holds at = cc holds
-  held_right (Some l) holds at = (
-    value_of l p,
-    right_value (site_in j (first + p) u s) (value_of l p) (subst (λ (h : Held). IsRight (site_in j (first + p) u s) h) (sym at ∙ held_true l p holds) ((ready.sound p low).each u s inside)),
-  )
+  held_right o holds h = grind (arith, held_true)
 
   pub held_gives : holds_at lanes (key (job_graph j) s u) p ≡ true → (v : Value) × (site_in {M = ⊥} j (first + p) u s ≡ Gives v)
   held_gives holds = held_right (slice_get lanes (key (job_graph j) s u)) holds (sym (held_of_lane (key_count (job_graph j)) lanes p (key (job_graph j) s u)))

@@ -1,9 +1,9 @@
 -- What an evaluation reads first is met in every entry, and a site may be filled behind it.
-use Rattle.std.proofs.Common.{if◌then◌else◌, ◌≡◌, ◌<◌, ◌≤◌, ◌+◌, inl, inr, ℕ, ℤ, Bool, true, List, [], ◌∷◌, length, Option, Some, None, refl, sym, ◌∙◌, ap, subst, arith, cond, nat_eq, nat_lt, slice_get}
+use Rattle.std.proofs.Common.{if◌then◌else◌, ◌≡◌, ◌<◌, ◌≤◌, ◌+◌, inl, inr, ℕ, Bool, true, List, [], ◌∷◌, length, Option, Some, None, refl, sym, ◌∙◌, ap, subst, arith, nat_eq, nat_lt, slice_get}
 use Rattle.lemmas.proofs.{Decides-eqb, filter, lt-ltb, ltb-true}
 use Rattle.rdf_values.specs.{Bin, BinOp, Call, Col, ColType, Cond, End, fn_names, history, Lit, More, Neg, Not, Pick, Tree, Trees, Value}
 use Rattle.rdf_values.specs.expressions.Expressions.{Truth}
-use Rattle.rdf_model.specs.{◌>>=◌, call_outcome, evaluate, evaluate_all, Gives, is_need, Needs, operation, Outcome, without}
+use Rattle.rdf_model.specs.{◌>>=◌, call_outcome, evaluate, evaluate_all, is_need, Needs, operation, Outcome, without}
 use Rattle.expr_check.specs.{CheckedExpr}
 use Rattle.expr_lanes.specs.{AreRising, EachPlace, is_in, IsSelected}
 use Rattle.graph_numbers.proofs.Equations.{columns_below}
@@ -40,9 +40,6 @@ bind_needs o f h = grind arith
 operation_needs : {M : Type 0} (o : BinOp) (l r : Outcome M Value) → is_need l ≡ true → is_need (operation o l r) ≡ true
 operation_needs o l r h = grind arith
 
-behind_needs : {M : Type 0} (o : BinOp) (z : ℤ) (r : Outcome M Value) → is_need r ≡ true → is_need (operation o (Gives (Value.Int z)) r) ≡ true
-behind_needs o z r h = grind arith
-
 module _ {M F : Type 0} (look : ℕ → Outcome M Value) (call : F → List Value → Outcome M Value) (c : ℕ) (missing : is_need (look c) ≡ true) where
   mutual
     first_needs : (e : Tree ℕ F) → first_read e ≡ Some c → is_need (evaluate look call e) ≡ true
@@ -51,7 +48,7 @@ module _ {M F : Type 0} (look : ℕ → Outcome M Value) (call : F → List Valu
     first_needs (Col d) h = let same : d ≡ c = cc h in ap (λ n. is_need (look n)) same ∙ missing
     first_needs (Neg a) h = bind_needs (evaluate look call a) _ (first_needs a h)
     first_needs (Not a) h = bind_needs (evaluate look call a) _ (first_needs a h)
-    first_needs (Bin o (Lit z) b) h = behind_needs o z (evaluate look call b) (first_needs b h)
+    first_needs (Bin o (Lit z) b) h = grind (arith, first_needs b h)
     first_needs (Bin o a b) h = operation_needs o (evaluate look call a) (evaluate look call b) (first_needs a h)
     first_needs (Cond a d e) h = bind_needs (evaluate look call a) _ (first_needs a h)
     first_needs (Pick v i) h = bind_needs (evaluate look call v) _ (first_needs v h)
@@ -104,14 +101,9 @@ wider j first u s group sel a b sub h = record { kinds = h.kinds; rooms = h.room
     only : IsOnlyCalled j first u s sel a b
     only D each k p = elim (h.only D (λ q i. each q (sub q i)) k p) [ inl x ↦ inl x | inr x ↦ inr (sub p x.0, x.1) ]
 
--- of two limits the lower one counts
-lower_here : (x : ℕ) (xs : List ℕ) (m n : ℕ) → m ≤ n → filter (λ q. nat_lt q m) (filter (λ q. nat_lt q n) xs) ≡ filter (λ q. nat_lt q m) xs → (b : Bool) → nat_lt x n ≡ b → (c : Bool) → nat_lt x m ≡ c
-    → filter (λ q. nat_lt q m) (cond b (x ∷ filter (λ q. nat_lt q n) xs) (filter (λ q. nat_lt q n) xs)) ≡ cond c (x ∷ filter (λ q. nat_lt q m) xs) (filter (λ q. nat_lt q m) xs)
-lower_here x xs m n le rest b e c f = grind (arith, ltb-true, lt-ltb)
-
 lower_filter : (xs : List ℕ) (m n : ℕ) → m ≤ n → filter (λ q. nat_lt q m) (filter (λ q. nat_lt q n) xs) ≡ filter (λ q. nat_lt q m) xs
 lower_filter [] m n le = refl
-lower_filter (x ∷ xs) m n le = lower_here x xs m n le (lower_filter xs m n le) (nat_lt x n) refl (nat_lt x m) refl
+lower_filter (x ∷ xs) m n le = grind (arith, ltb-true, lt-ltb, lower_filter xs m n le)
 
 -- ---- the site that is filled before
 

@@ -3,7 +3,7 @@ use Rattle.std.proofs.Common.{◌≡◌, ◌⊎◌, inl, inr, ℕ, Bool, true, f
 use Rattle.lemmas.proofs.{Decides-eqb, never_true}
 use Rattle.rdf_values.specs.{Bin, BinOp, Call, Col, Cond, End, EntryFault, Lit, More, Neg, Not, Pick, Tree, Trees, Value}
 use Rattle.rdf_values.specs.expressions.Expressions.{Truth}
-use Rattle.rdf_model.specs.{◌>>=◌, call_outcome, chosen_side, evaluate, evaluate_all, Faults, Gives, in_order, is_need, Needs, operation, Outcome, picked, tag_element, with_needs, without}
+use Rattle.rdf_model.specs.{◌>>=◌, call_outcome, evaluate, evaluate_all, Faults, Gives, in_order, is_need, Needs, operation, Outcome, picked, tag_element, with_needs, without}
 use Rattle.graph_numbers.specs.{SiteAt, Source, source_value}
 use Rattle.loop_keys.specs.{IsJob, IsSiteOf, JobView, MeetsAt, row_of, site_in, source_at, version_in}
 use Rattle.loop_keys.proofs.EvaluateLaws.{known_never, none_held, site_known, whole}
@@ -23,9 +23,6 @@ module _ {M : Type 0} (k : EntryFault) where
   operation_stands : (o : BinOp) (l l' p p' : Outcome M Value) → Stands l l' → Stands p p' → Stands (operation o l p) (operation o l' p')
   operation_stands o l l' p p' c e = grind (arith, in_order_stands)
 
-  chosen_side_stands : (v : Value) (a a' b b' : Outcome M Value) → Stands a a' → Stands b b' → Stands (chosen_side v a b) (chosen_side v a' b')
-  chosen_side_stands v a a' b b' c e = grind arith
-
   module _ {C F : Type 0} (look look' : C → Outcome M Value) (call : F → List Value → Outcome M Value) (each : (c : C) → Stands (look c) (look' c)) where
     mutual
       evaluate_stands : (e : Tree C F) → Stands (evaluate look call e) (evaluate look' call e)
@@ -35,7 +32,7 @@ module _ {M : Type 0} (k : EntryFault) where
       evaluate_stands (Neg a) = bind_stands _ _ _ _ (evaluate_stands a) (λ v. inl refl)
       evaluate_stands (Not a) = bind_stands _ _ _ _ (evaluate_stands a) (λ v. inl refl)
       evaluate_stands (Bin o a b) = operation_stands o _ _ _ _ (evaluate_stands a) (evaluate_stands b)
-      evaluate_stands (Cond c a b) = bind_stands _ _ _ _ (evaluate_stands c) (λ v. chosen_side_stands v _ _ _ _ (evaluate_stands a) (evaluate_stands b))
+      evaluate_stands (Cond c a b) = grind (arith, bind_stands, evaluate_stands c, evaluate_stands a, evaluate_stands b)
       evaluate_stands (Pick v i) = in_order_stands _ _ _ _ picked (evaluate_stands v) (evaluate_stands i)
       evaluate_stands (Call f args) = bind_stands _ _ _ _ (evaluate_all_stand args) (λ vs. inl refl)
 

@@ -79,12 +79,9 @@ stop_is x y e = grind (arith, both_true, Decides-eqb, scalar_is)
 
 -- ---- how often a test passes
 
-zero_head : (b : Bool) (n : ℕ) → cond b 1 0 + n ≡ 0 → b ≡ false
-zero_head b n e = grind arith
-
 none_at : (xs : List Stopped) (k : ℕ) (test : Stopped → Bool) (d : Stopped) → times test xs ≡ 0 → k < length xs → test (get_or xs k d) ≡ false
 none_at [] k test d z l = absurd (omega (arith, l))
-none_at (x ∷ xs) zero test d z l = zero_head (test x) (times test xs) z
+none_at (x ∷ xs) zero test d z l = grind arith
 none_at (x ∷ xs) (suc k) test d z l = none_at xs k test d (omega (arith, z)) (omega (arith, l))
 
 none_passes : (xs : List Stopped) (test : Stopped → Bool) (x : Stopped) → times test xs ≡ 0 → Contains xs x → test x ≡ false

@@ -1,17 +1,17 @@
 -- The end of a cluster.
 use Rattle.std.proofs.Common.{◌≡◌, ℕ, zero, suc, ◌+◌, ◌<◌, List, [], ◌∷◌, ◌++◌, length, map, take, drop, set, get_or, Option, None, Some, refl, sym, ap, ap₂, ◌∙◌, subst, arith, append_assoc, append-nil, All, Err, Ok, OnOk, Result, flat_map, slice_get}
 use Rattle.lemmas.proofs.{All-push, All-weaker, flat_map-append, IsStrictlyIncreasing, same_Some, slice_get-get_or}
-use Rattle.std.proofs.lemmas.List.{drop-drop, drop-set-lt, drop_more, length-map, length-set, map-append, map_more, take_all, take_more_set}
+use Rattle.std.proofs.lemmas.List.{drop-drop, drop-set-lt, drop_more, length-map, length-set, map-append, map_more, take_all, take_more_set, length-take, length-drop}
 use Rattle.rdf_values.proofs.UnionLemmas.{map-below, rises_push}
 use Rattle.rdf_values.specs.{ActionKind, fold_items, Item, Span}
-use Rattle.rdf_model.specs.{if_there, list_at, Reach, reaches_over, rows_in, span_rows}
+use Rattle.rdf_model.specs.{if_there, list_at, Reach, span_rows}
 use Rattle.rdf_model.specs.declared.loop_facts.LoopFacts.{LoopFacts}
 use Rattle.actions.specs.{Accumulator, from_cluster, HasFed, in_file_order}
-use Rattle.loop_pieces.specs.{both, cluster_items, counts_at, fed_over, IsOfKind, IsTrail, watch_facts, watch_filled, WatchPiece, WatchStandsFor}
+use Rattle.loop_pieces.specs.{cluster_items, fed_over, IsOfKind, IsTrail, watch_facts, watch_filled, WatchPiece, WatchStandsFor}
 use Rattle.merge_core.specs.{Noted}
 use Rattle.loop_pieces.proofs.ByCluster.{items_in_order}
-use Rattle.cluster_tally.specs.{at_begin, CanWatch, counted, counts_by, fed_by, first_items, first_reaches, fresh_acc, Holds, IsAtEnd, IsFedAlone, note_of, noted_all, noted_at, piece_for, places_there, renewed, Stage, taken_in, TallyView, times_there}
-use Rattle.cluster_tally.proofs.Pieces.{of_mapped, ranges_same, counts_at_begin, fed_at_begin, fresh_alone}
+use Rattle.cluster_tally.specs.{at_begin, CanWatch, counts_by, fed_by, first_items, first_reaches, fresh_acc, Holds, IsAtEnd, IsFedAlone, note_of, noted_all, noted_at, piece_for, places_there, renewed, Stage, taken_in, TallyView, times_there}
+use Rattle.cluster_tally.proofs.Pieces.{of_mapped, counts_at_begin, fed_at_begin, fresh_alone}
 use Rattle.cluster_tally.proofs.Steps.{counted_both, entries_with, in_from}
 
 -- ---- the loop over the watchers
@@ -143,8 +143,7 @@ module _ (f : LoopFacts) (watched : List ℕ) (s : Stage) (t : TallyView) (clust
   -- ---- counts
 
   span_same : (o : Option Span) → length (span_rows f.reaches o) ≡ length (span_rows f.spreads o)
-  span_same None = refl
-  span_same (Some r) = ranges_same f.reaches f.spreads r h.facts.rows
+  span_same o = grind (arith, length-take, length-drop)
 
   reaches_all : (i : ℕ) → first_reaches f s.cluster (taken_in s.entries 1 s.filters i) i ≡ flat_map (λ (row : List Reach). if_there (slice_get row i)) (span_rows f.reaches (slice_get f.ranges s.cluster))
   reaches_all i = grind (arith, in_from, take_all, all_taken, span_same)

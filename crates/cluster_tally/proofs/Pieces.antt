@@ -1,13 +1,12 @@
 -- A tally's first and last moments, and the lists that it begins clusters with.
-use Rattle.std.proofs.Common.{◌≡◌, ℕ, zero, suc, ◌+◌, List, [], ◌∷◌, ◌++◌, length, map, drop, set, Option, None, Some, ◌⊎◌, inl, inr, refl, sym, ap, ◌∙◌, arith, ◌-◌, slice_get, slice_range, ◌<◌, replicate, ap₂, subst, add-zero, append-nil, Bool, true, false}
-use Rattle.std.proofs.lemmas.List.{length-drop, length-take}
-use Rattle.rdf_values.specs.{ActionKind, Span, below}
+use Rattle.std.proofs.Common.{◌≡◌, ℕ, zero, suc, ◌+◌, List, [], ◌∷◌, ◌++◌, length, map, set, Option, None, Some, ◌⊎◌, inl, inr, refl, sym, ap, ◌∙◌, arith, slice_get, ◌<◌, replicate, subst, append-nil, Bool, true, false}
+use Rattle.rdf_values.specs.{ActionKind, below}
 use Rattle.actions.specs.{Accumulator, HasFed}
 use Rattle.cluster_tally.specs.{places_there, CanWatch, counts_by, fed_by, fresh_acc, IsFedAlone, IsFedBy, taken_in, acc_if, at_begin, Holds, IsFresh, place_if, TallyView, with_trail}
 use Rattle.lemmas.proofs.{All-nil, length-map, map-id, map-map, before_or_last, kept_at, last_at, length_push, map-append, slice_get-get_or}
 use Rattle.rdf_values.proofs.UnionLemmas.{length-below, map-below, none_rises}
 use Rattle.rdf_model.specs.declared.loop_facts.LoopFacts.{LoopFacts}
-use Rattle.loop_pieces.specs.{counts_at, fed_over, HaveTrails, IsTrail, nothing, watch_facts, WatchPiece, WatchStandsFor, LoopPiece, StandsFor}
+use Rattle.loop_pieces.specs.{counts_at, fed_over, HaveTrails, nothing, WatchPiece, LoopPiece, StandsFor}
 use Rattle.merge_core.specs.{Noted}
 use Rattle.cluster_tally.proofs.Steps.{in_from}
 use Rattle.cluster_tally.specs.Laws as law
@@ -41,10 +40,6 @@ places_kept (Some a ∷ xs) n zero v x at = refl
 places_kept (None ∷ xs) n (suc i) v x at = places_kept xs (n + 1) i v x at
 places_kept (Some a ∷ xs) n (suc i) v x at = ap (λ l. n ∷ l) (places_kept xs (n + 1) i v x at)
 
--- lists of one length have as many in a range
-pub ranges_same : {A B : Type 0} (xs : List A) (ys : List B) (r : Span) → length xs ≡ length ys → length (slice_range xs r.lo r.hi) ≡ length (slice_range ys r.lo r.hi)
-ranges_same xs ys r e = omega (arith, length-take (r.hi - r.lo) (drop r.lo xs), length-take (r.hi - r.lo) (drop r.lo ys), length-drop r.lo xs, length-drop r.lo ys)
-
 pub places_more : (xs : List (Option Accumulator)) (n : ℕ) (o : Option Accumulator) → places_there n (xs ++ o ∷ []) ≡ places_there n xs ++ places_there (n + length xs) (o ∷ [])
 places_more [] n o = let e : n ≡ n + 0 = omega arith in ap (λ k. places_there k (o ∷ [])) e
 places_more (None ∷ xs) n o = places_more xs (n + 1) o ∙ (let e : n + 1 + length xs ≡ n + suc (length xs) = omega arith in ap (λ k. places_there (n + 1) xs ++ places_there k (o ∷ [])) e)
@@ -67,8 +62,7 @@ module _ (f : LoopFacts) (done : List ℕ) (c : ℕ) where
 -- ---- a fresh tally
 
 fresh_by : (f : LoopFacts) (c i : ℕ) (k : ActionKind) → IsFedBy f [] c (taken_in 0 1 0 i) i (fresh_acc k)
-fresh_by f c i k =
-    record { fed = subst (HasFed (fresh_acc k)) (sym (fed_at_begin f [] c i)) record { filled = refl; kept = refl; below = λ j x lt. absurd (omega arith) }; few = omega arith; last = omega arith }
+fresh_by f c i k = grind (arith, in_from)
 
 pub fresh_alone : (f : LoopFacts) (c i : ℕ) (k : ActionKind) → slice_get f.kinds i ≡ Some k → CanWatch k → IsFedAlone f c (taken_in 0 1 0 i) i (fresh_acc k)
 fresh_alone f c i k at watch = record { kind = at; watch = watch; held = fresh_by f c i k }

@@ -139,5 +139,4 @@ met_each j job entry u s c P met each =
     alone d v false e = evaluations.same
 
     go : (o p : Outcome ℕ Value) → evaluations.Close N o p → is_need o ≡ true → p ≡ with_needs (site_in j entry u s) → P c
-    go o p evaluations.same m w = absurd (known_never (site_in j entry u s) (ap is_need (sym w) ∙ m))
-    go o p (evaluations.missing {d = d} n) m w = n
+    go o p h m w = grind arith

@@ -191,10 +191,7 @@ module _ (j : JobView) (job : IsJob j) where
   of_report f c = go c.result.booked.booking refl (covers_are j.dataset.fns j.dataset.columns (history j.script) (history j.script) itself c.numbered.result c.result c.its_result)
     where
       go : (b : Booking) → c.result.booked.booking ≡ b → AreCovers j.dataset.fns j.dataset.columns (history j.script) b c.result.covers → IsOfReport f c
-      go (ActionAt k at) e h = grind (arith, contained_at)
-      go (ReportOn ps) e h =
-          let w = contained_at c.result.covers f c.covers in let x = number_there c.result.covers ps h w.0 f w.1 in
-          record { filters = ps; booking = e; filter = x.0; there_is = x.1; place = w.0; number = w.1; path = x.2 }
+      go b e h = grind (arith, slice_get-get_or, number_there)
 
   pub filter_there : (f : ℕ) → IsCovered j f → (x : FilterAt) × (slice_get (graph_filters (job_graph j)) f ≡ Some x)
   filter_there f c = let r = of_report f c in (r.filter, r.there_is)
