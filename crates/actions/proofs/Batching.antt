@@ -1,10 +1,10 @@
 -- What a batch feeds, place by place.
-use Rattle.std.proofs.Common.{ℕ, zero, suc, ◌≡◌, ◌≤◌, ◌<◌, ◌+◌, All, List, [], ◌∷◌, ◌++◌, length, map, take, drop, get_or, refl, ap, sym, subst, ◌∙◌, append-nil, append_assoc, arith, length-append, lit≤, ◌*◌, ℤ, pos, flat_map, Option, Some, None, nat_abs, ◌^◌}
+use Rattle.std.proofs.Common.{ℕ, zero, suc, ◌≡◌, ◌≤◌, ◌<◌, ◌+◌, All, List, [], ◌∷◌, ◌++◌, length, map, take, drop, get_or, refl, ap, sym, subst, ◌∙◌, append-nil, append_assoc, arith, length-append, ◌*◌, ℤ, pos, flat_map, Option, Some, None, nat_abs, ◌^◌}
 use Rattle.lemmas.proofs.{All-append, All-cons, All-head, All-tail, drop_more, flat_map-append, get_or-range_with_len, length-map, length-range_with_len, map-append, range_with_len, take_more}
 use Rattle.rdf_values.specs.{ActionKind, feed_fault, Item, numbers, Scalar, spread, Value}
 use Rattle.rdf_values.specs.declared.results.Item.TheVariants.{Number, Point, Point2, Single}
 use Rattle.actions.specs.{fault_or_later, Fed, first_fault_in, first_lane, first_numbers, first_scalar, from_cluster, IsNumeric, IsWithin, Lane, lane_value, numbers_in, Sources, SuitsAt, values_at, values_from}
-use Rattle.actions.specs.declared.batch.Sources.TheVariants.{Entry, One, Weighted, Pair, WeightedPair}
+use Rattle.actions.specs.declared.batch.Sources.TheVariants.{One, Weighted, Pair, WeightedPair}
 use Rattle.actions.specs.declared.state.State.{State}
 use Rattle.actions.proofs.Points.{points_of_ones}
 use Rattle.actions.proofs.States.{spread_take}

@@ -1,5 +1,5 @@
 -- What an entry feeds: sums in 128 bits, points one more at a time, and the fault.
-use Rattle.std.proofs.Common.{ℕ, ◌+◌, ◌*◌, ◌^◌, ◌<◌, ◌≤◌, ℤ, ◌+ℤ◌, arith, w64, FitsSigned, nat_abs, zero, map, suc, ◌≡◌, length, get_or, take, List, [], ◌∷◌, ◌++◌, pos, refl, ap, sym, ◌∙◌, add-one, append_assoc, append-nil, subst, replicate, Bool, true, false, if◌then◌else◌, Option, Some, ◌&&◌}
+use Rattle.std.proofs.Common.{ℕ, ◌+◌, ◌*◌, ◌^◌, ◌<◌, ◌≤◌, ℤ, ◌+ℤ◌, arith, w64, FitsSigned, nat_abs, zero, map, suc, ◌≡◌, length, get_or, take, List, [], ◌∷◌, ◌++◌, pos, refl, ap, sym, ◌∙◌, add-one, append_assoc, append-nil, subst, replicate, Bool, true, if◌then◌else◌, Option, Some}
 use Rattle.lemmas.proofs.{abs_add, fits_signed_from_abs, w128}
 use Rattle.histograms.proofs.Filling.{abs_of_fit}
 use Rattle.std.proofs.lemmas.List.{map-append, take_more}

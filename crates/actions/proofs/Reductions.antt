@@ -1,5 +1,5 @@
 -- The operations of a Reduce, and extremes, over two lists of items and of numbers.
-use Rattle.std.proofs.Common.{◌≡◌, List, [], ◌∷◌, ℤ, arith, refl, ap, sym, ◌∙◌, Option, Some, None, fold, ℕ, ◌+◌, ◌-◌, ◌<◌, ◌^◌, ◌%◌, ◌++◌, w64, bit_and, bit_or, bit_xor}
+use Rattle.std.proofs.Common.{◌≡◌, List, [], ◌∷◌, ℤ, arith, refl, ap, sym, ◌∙◌, Option, Some, None, fold, ℕ, ◌<◌, ◌^◌, ◌%◌, ◌++◌, w64, bit_and, bit_or, bit_xor}
 use Rattle.lemmas.proofs.{clamps, int_max, int_min, ints, and_comm, and_le_l, bit_at_and, bit_at_or, bit_at_xor, cast_signed, cast_unsigned, int_wrapping_add, mod-add-mod, mod-eq_of_lt, of_z-to_z, or_comm, or_lt, same_from_bits, xor_comm, xor_lt}
 use Rattle.rdf_values.specs.{extreme, numbers_of, on_bits, reduce_start, reduce_step, ReduceOp}
 use Rattle.actions.specs.{better_of, better_of_two, Fed, in_file_order}

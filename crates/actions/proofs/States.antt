@@ -1,7 +1,7 @@
 -- What an accumulator holds after one more entry.
-use Rattle.std.proofs.Common.{arith, ℕ, ◌≡◌, ◌≤◌, ◌+◌, map, length, All, List, [], ◌∷◌, ◌++◌, ℤ, pos, ◌+ℤ◌, refl, ap, sym, ◌∙◌, length-append, lit≤, flat_map, Option, None, Result, Ok, Err, OnErr, OnOk, fold}
-use Rattle.lemmas.proofs.{int_max, int_min, map-append}
-use Rattle.rdf_values.specs.{ActionKind, Extreme, extreme, Flat, Item, numbers_of, points, points2, reduce_start, reduce_step, Reduced, ReduceOp, Scalar, scalar_of, spread, Square, Taken, Value, weights}
+use Rattle.std.proofs.Common.{arith, ℕ, ◌≡◌, ◌≤◌, ◌+◌, map, length, All, List, [], ◌∷◌, ◌++◌, ℤ, pos, ◌+ℤ◌, refl, ap, sym, ◌∙◌, length-append, lit≤, Option, None, Result, Ok, Err, OnErr, OnOk, fold}
+use Rattle.lemmas.proofs.{int_max, int_min, map-append, flat_map-append, fold-append}
+use Rattle.rdf_values.specs.{ActionKind, Extreme, extreme, Flat, Item, numbers_of, points, points2, reduce_step, ReduceOp, Scalar, spread, Square, Value, weights}
 use Rattle.rdf_values.specs.declared.results.Item.TheVariants.{Number, Single}
 use Rattle.rdf_values.specs.results.Fold.{Count, Sum}
 use Rattle.histograms.specs.{flat_cells, HasFilled, HasFilled2, square_cells}
@@ -15,9 +15,9 @@ use Rattle.actions.specs.declared.taken.TakenValue.{TakenValue}
 use Rattle.actions.specs.declared.state.State.{State}
 use Rattle.actions.specs.declared.items.Part.{Part}
 use Rattle.actions.specs.declared.items.Items.{Items}
-use Rattle.actions.specs.declared.items.Items.TheVariants.{One, Weighted, Pair, WeightedPair}
-use Rattle.actions.specs.{better_of, by_cluster, Fed, fed_value, first_numbers, first_scalar, from_cluster, Holds, in_file_order, part_values, second_part, Suits, values_from, values_of, weight_part}
-use Rattle.actions.proofs.Folds.{extreme_fold, fold_numbers, taken_singles, by_cluster-feed, in_file_order-feed}
+use Rattle.actions.specs.declared.items.Items.TheVariants.{One}
+use Rattle.actions.specs.{better_of, Fed, fed_value, first_numbers, first_scalar, from_cluster, Holds, in_file_order, part_values, second_part, Suits, values_from, values_of, weight_part}
+use Rattle.actions.proofs.Folds.{extreme_fold, by_cluster-feed, in_file_order-feed, numbers_of-map, scalars_of-map}
 
 -- the items of one column
 pub spread_sum : (c : List ℕ) (vs : List Value) → spread (ActionKind.Sum c) vs ≡ map Number (first_numbers vs)
@@ -56,8 +56,7 @@ module _ (fed : List Fed) (cluster : ℕ) (below : All (λ f. f.cluster ≤ clus
   -- a fold of more numbers
   folded_on : {B : Type 0} (step : B → ℤ → B) (start z z' : B) (zs : List ℤ) (items : List Item) → z' ≡ fold step z zs → items ≡ map Number zs → z ≡ fold step start (numbers_of (in_file_order fed))
       → z' ≡ fold step start (numbers_of (in_file_order (fed ++ from_cluster cluster items)))
-  folded_on step start z z' zs items e is was =
-      e ∙ ap (λ a. fold step a zs) was ∙ sym (ap (λ l. fold step start (numbers_of l)) (after items (map Number zs) is) ∙ fold_numbers step start (in_file_order fed) zs)
+  folded_on step start z z' zs items e is was = grind (arith, after, flat_map-append, numbers_of-map, fold-append)
 
   extreme_on : (better : ℤ → ℤ → ℤ) (o o' : Option ℤ) (zs : List ℤ) (items : List Item) → o' ≡ fold (better_of better) o zs → items ≡ map Number zs → o ≡ extreme better (numbers_of (in_file_order fed))
       → o' ≡ extreme better (numbers_of (in_file_order (fed ++ from_cluster cluster items)))
@@ -73,18 +72,10 @@ module _ (fed : List Fed) (cluster : ℕ) (below : All (λ f. f.cluster ≤ clus
   holds_greatest c o o' zs items e is h = record { made = ap Extreme (extreme_on int_max o.best o'.best zs items e is (cc h.made)); kept = refl }
 
   pub holds_reduced : (c : List ℕ) (r r' : Reduction) (zs : List ℤ) (items : List Item) → (r'.op ≡ r.op) × (r'.value ≡ fold (reduce_step r.op) r.value zs) → items ≡ map Number zs → Holds (State.Reduce c r) fed → Holds (State.Reduce c r') (fed ++ from_cluster cluster items)
-  holds_reduced c r r' zs items e is h = record {
-    made = ap Reduced (folded_on (reduce_step r.op) (reduce_start r.op) r.value r'.value zs items e.1 is (cc h.made) ∙ ap (λ o. fold (reduce_step o) (reduce_start o) (numbers_of (in_file_order (fed ++ from_cluster cluster items)))) (sym e.0));
-    kept = refl;
-  }
+  holds_reduced c r r' zs items e is h = grind (arith, after, flat_map-append, numbers_of-map, fold-append)
 
   pub holds_taken : (c : List ℕ) (ts ts' : List TakenValue) (xs : List Scalar) (items : List Item) → ts' ≡ ts ++ values_from cluster xs → items ≡ map Single xs → Holds (State.Take c ts) fed → Holds (State.Take c ts') (fed ++ from_cluster cluster items)
-  holds_taken c ts ts' xs items e is h = record {
-    made = ap Taken (ap (map (λ (v : TakenValue). v.value)) e ∙ map-append (λ (v : TakenValue). v.value) ts (values_from cluster xs) ∙ ap (λ l. map (λ (v : TakenValue). v.value) ts ++ l) (values_plain xs cluster) ∙ ap (λ l. l ++ xs) (let was : map (λ (v : TakenValue). v.value) ts ≡ flat_map scalar_of (in_file_order fed) = cc h.made in was)
-        ∙ sym (ap (flat_map scalar_of) (after items (map Single xs) is) ∙ taken_singles (in_file_order fed) xs));
-    kept = ap (map fed_value) e ∙ map-append fed_value ts (values_from cluster xs) ∙ ap (λ l. map fed_value ts ++ l) (values_fed xs cluster) ∙ ap (λ l. l ++ from_cluster cluster (map Single xs)) h.kept
-        ∙ sym (ap (λ l. by_cluster (fed ++ from_cluster cluster l)) is ∙ by_cluster-feed fed cluster (map Single xs) below);
-  }
+  holds_taken c ts ts' xs items e is h = grind (arith, map-append, values_plain, after, flat_map-append, scalars_of-map, values_fed, by_cluster-feed)
 
   pub holds_flat : (g g' : one.Flat) (x : List ℕ) (o : Option (List ℕ)) (is js : List Item) → is ≡ js → ((before : List Item) → HasFilled g before → HasFilled g' (before ++ js))
       → Holds (State.Histo1D g x o) fed → Holds (State.Histo1D g' x o) (fed ++ from_cluster cluster is)

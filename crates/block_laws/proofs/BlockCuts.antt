@@ -30,17 +30,8 @@ module _ (size most : ℕ) where
   fits : (n s c : ℕ) → one_more_fits size most n s c ≡ true → (n < size) × (s + c ≤ most)
   fits n s c h = grind (arith, h)
 
-  too_much : (n s c : ℕ) → one_more_fits size most n s c ≡ false → (size ≤ n) ⊎ (most < s + c)
-  too_much n s c h = grind (arith, h)
-
   none_more : (n s c : ℕ) (cs : List ℕ) → n ≤ size → (size ≤ n) ⊎ (most < s + c) → (n + 0 ≡ size) ⊎ (most < s + sum (c ∷ []))
   none_more n s c cs h k = grind (arith, sum_more)
-
-  few_more : (s c m : ℕ) (cs : List ℕ) → s + c ≤ most → (m ≡ 0) ⊎ (s + c + sum (take m cs) ≤ most) → s + sum (take (suc m) (c ∷ cs)) ≤ most
-  few_more s c m cs h k = grind (arith, sum_more)
-
-  full_more : (n s c m : ℕ) (cs : List ℕ) → (suc n + m ≡ size) ⊎ (most < s + c + sum (take (suc m) cs)) → (n + suc m ≡ size) ⊎ (most < s + sum (take (suc (suc m)) (c ∷ cs)))
-  full_more n s c m cs h = grind (arith, sum_more)
 
   ends : (cs : List ℕ) (n s : ℕ) → n ≤ size → Ends n s (more_fit size most n s cs) cs
   ends [] n s h = record { within = omega arith; small = omega (arith, h); few = inl refl; full = λ k. absurd (omega (arith, k)) }
@@ -48,17 +39,8 @@ module _ (size most : ℕ) where
     where
       go : (b : Bool) → one_more_fits size most n s c ≡ b → (suc n ≤ size → Ends (suc n) (s + c) (more_fit size most (suc n) (s + c) cs) cs)
           → Ends n s (if b then suc (more_fit size most (suc n) (s + c) cs) else 0) (c ∷ cs)
-      go true e next =
-          let m = more_fit size most (suc n) (s + c) cs in
-          let f = fits n s c e in
-          let r = next (omega (arith, f.0)) in
-          record {
-            within = omega (arith, r.within);
-            small = omega (arith, r.small);
-            few = inr (few_more s c m cs f.1 r.few);
-            full = λ k. full_more n s c m cs (r.full (omega (arith, k)));
-          }
-      go false e next = record { within = omega arith; small = omega (arith, h); few = inl refl; full = λ k. none_more n s c cs h (too_much n s c e) }
+      go true e next = grind (arith, sum_more)
+      go false e next = grind (arith, none_more)
 
   pub first_is : (costs : List ℕ) → 1 ≤ size → 1 ≤ length costs → IsFirst size most costs (first_length size most costs)
   first_is [] one h = absurd (omega (arith, h))

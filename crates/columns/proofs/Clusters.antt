@@ -209,9 +209,6 @@ cut_step : (size : ℕ) (marks : List ℕ) (lo entry r : ℕ) (b : Bool) → beg
     → cut_from size marks lo entry (suc r) ≡ (if b then record { lo = lo; hi = entry } ∷ cut_from size marks entry (entry + 1) r else cut_from size marks lo (entry + 1) r)
 cut_step size marks lo entry r b h = let next : suc entry ≡ entry + 1 = omega arith in rw (h, next) refl
 
-at_size : (lo entry size : ℕ) → lo < entry → entry - lo ≡ size → nat_eq entry (lo + size) ≡ true
-at_size lo entry size l h = (Decides-eqb entry (lo + size)).1 (omega (arith, l, h))
-
 off_size : (lo entry size : ℕ) → lo < entry → entry - lo ≢ size → nat_eq entry (lo + size) ≡ false
 off_size lo entry size l h = false_from_ne_true (nat_eq entry (lo + size)) (λ q. h (let e = (Decides-eqb entry (lo + size)).0 q in omega (arith, e)))
 
@@ -221,8 +218,7 @@ Begins size lo marks entry = (list_any (nat_eq entry) marks ≡ true) ⊎ (entry
 
 pub walk_begin : (n size : ℕ) (marks ends : List ℕ) (lo entry old next : ℕ) → Walked n size marks ends lo entry old → entry < n → IsPassed marks next entry → IsAhead marks next entry → Begins size lo marks entry
     → Walked n size marks (ends ++ entry ∷ []) entry (entry + 1) next
-walk_begin n size marks ends lo entry old next w h p a b =
-    grind (arith, fewer, cut_step, ranges_push, last_push, passed_on, ahead_on, or_right, list_any, or_left, at_size)
+walk_begin n size marks ends lo entry old next w h p a b = grind (arith, fewer, ranges_push, last_push, above, or_right, list_any, or_left)
 
 pub walk_on : (n size : ℕ) (marks ends : List ℕ) (lo entry old next : ℕ) → Walked n size marks ends lo entry old → entry < n → IsPassed marks next entry → IsAhead marks next entry → list_any (nat_eq entry) marks ≡ false → entry - lo ≢ size
     → Walked n size marks ends lo (entry + 1) next

@@ -1,12 +1,10 @@
 use Rattle.std.proofs.Common.{arith, ℤ, ◌++◌, List, length, get_or, pos, ap, sym, subst}
-use Rattle.lemmas.proofs.{take_full}
+use Rattle.lemmas.proofs.{take_full, length-range_with_len, get_or-range_with_len}
 use Rattle.actions.proofs.Batching.{first_are_there, numbers_of_first, singles_counted, singles_mapped, taken_within}
 use Rattle.actions.proofs.folding.fold_lane.Goals as goal
 
 pub slice_bounds-take_in-end : goal.slice_bounds-take_in-end
-slice_bounds-take_in-end g c =
-    let there = rw (c.in-Int-First.is-0, c.in-Int-First.is-1) at c.requires.there in
-    sym (take_full c.in-Int-First.count c.in-Int-First.numbers.now (first_are_there c.in-Int-First.count (length c.in-Int-First.numbers.now) there))
+slice_bounds-take_in-end = grind (arith, take_full, length-range_with_len, get_or-range_with_len)
 
 pub take_in-requires : goal.take_in-requires
 take_in-requires g c =
