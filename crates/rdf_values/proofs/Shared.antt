@@ -1,12 +1,11 @@
 -- Several threads may read one expression, and the lines of one script, at once.
 use denote.RattleType.{RattleType}
 use denote.Param.Send.{IsSync, sendable}
-use denote.Param.SendFields.{variants_sync, as_row_sync, declared_sync}
+use denote.Param.SendFields.{variants_sync, declared_sync}
 use denote.Hole.FixSend.{fix_sync, Syncs}
 use denote.Hole.FixLaws.{layer_row}
 use denote.Hole.{as_row}
 use denote.Struct.Field.{row_field}
-use Rattle.std.below.std_heap.specs.contracts.GlobalAllocator.TheImpl.{ghosts}
 use Rattle.std.proofs.Crossing.{crosses}
 use Rattle.rdf_values.specs.contracts.scripts.name.Name.{the_row as name_row}
 use Rattle.rdf_values.specs.contracts.expressions.expr.Expr.{the_row as expr_row}
@@ -19,8 +18,6 @@ use Rattle.rdf_values.specs.contracts.scripts.statement.VaryValues.{the_row as v
 use Rattle.rdf_values.specs.contracts.scripts.statement.Statement.{the_row as statement_row}
 use Rattle.rdf_values.specs.contracts.scripts.statement.Line.{the_row as line_row}
 use Rattle.rdf_values.specs.contracts.tables.table.Column.{the_row as column_row}
-use Rattle.std.specs.contracts.boxed.Box as B
-use Rattle.std.specs.contracts.alloc.Global as H
 use Rattle.rdf_values.specs.contracts.scripts.name.Name as N
 use Rattle.rdf_values.specs.contracts.expressions.expr.BinOp as O
 use Rattle.rdf_values.specs.contracts.expressions.expr.Expr.TheInside as I
@@ -42,11 +39,8 @@ name_field = search (sendable, crosses) depth 40 fits 4000
 pub op_field : IsSync (as_row (row_field (as_row O.the_field)))
 op_field = search (sendable, crosses) depth 40 fits 4000
 
-pub boxed_sync : (R : RattleType) → IsSync R → IsSync (as_row (row_field (B.the_row R H.the_row ghosts)))
-boxed_sync R s = search (sendable, crosses) depth 40 fits 4000
-
 node_layer : (n a : RattleType) → IsSync n → IsSync a → IsSync (knot.layer-ExprNode n n n n n n n n n a)
-node_layer n a sn sa = variants_sync (knot.type-ExprNode n n n n n n n n n a) (search (sendable, crosses, name_field, op_field, boxed_sync n sn, boxed_sync a sa) depth 40 fits 4000)
+node_layer n a sn sa = variants_sync (knot.type-ExprNode n n n n n n n n n a) (search (sendable, crosses, name_field, op_field, sn, sa) depth 40 fits 4000)
 
 args_step : (h : knot.the_members → RattleType) → ((j : knot.the_members) → IsSync (h j)) → IsSync (layer_row knot.ring knot.member-Args h)
 args_step h each = record { shared = (args_layer (h knot.member-ExprNode) (h knot.member-Args) (each knot.member-ExprNode) (each knot.member-Args)).shared }

@@ -1,7 +1,7 @@
 -- Several threads may read one numbered expression at once. Its tree is two types that hold each other.
 use denote.RattleType.{RattleType}
 use denote.Param.Send.{IsSync, sendable}
-use denote.Param.SendFields.{variants_sync, as_row_sync, declared_sync}
+use denote.Param.SendFields.{variants_sync, declared_sync}
 use denote.Hole.FixSend.{fix_sync, Syncs}
 use denote.Hole.FixLaws.{layer_row}
 use denote.Hole.{as_row}
@@ -13,7 +13,7 @@ use Rattle.rdf_values.specs.contracts.expressions.num_expr.NumExpr.TheInside.{th
 use Rattle.rdf_values.specs.contracts.expressions.num_expr.NumExpr.TheInside as I
 use Rattle.rdf_values.specs.contracts.expressions.num_expr.NumNode as node
 use Rattle.rdf_values.specs.contracts.expressions.num_expr.NumArgs.TheKnot as knot
-use Rattle.rdf_values.proofs.Shared.{boxed_sync, op_field}
+use Rattle.rdf_values.proofs.Shared.{op_field}
 use Rattle.rdf_values.specs.declared.expressions.num_expr.NumArgs.TheBlock.{the_members, member-NumArgs, member-NumNode}
 
 args_layer : (a b : RattleType) → IsSync a → IsSync b → IsSync (knot.layer-NumArgs a b)
@@ -23,7 +23,7 @@ callee_field : IsSync (as_row (row_field (as_row N.the_field)))
 callee_field = search (sendable, crosses) depth 40 fits 4000
 
 node_layer : (n a : RattleType) → IsSync n → IsSync a → IsSync (knot.layer-NumNode n n n n n n n n n a)
-node_layer n a sn sa = variants_sync (knot.type-NumNode n n n n n n n n n a) (search (sendable, crosses, op_field, callee_field, boxed_sync n sn, boxed_sync a sa) depth 40 fits 4000)
+node_layer n a sn sa = variants_sync (knot.type-NumNode n n n n n n n n n a) (search (sendable, crosses, op_field, callee_field, sn, sa) depth 40 fits 4000)
 
 args_step : (h : knot.the_members → RattleType) → ((j : knot.the_members) → IsSync (h j)) → IsSync (layer_row knot.ring knot.member-NumArgs h)
 args_step h each = record { shared = (args_layer (h knot.member-NumNode) (h knot.member-NumArgs) (each knot.member-NumNode) (each knot.member-NumArgs)).shared }
