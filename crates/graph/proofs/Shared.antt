@@ -33,9 +33,7 @@ functions_sync : IsSync (list_row fn_name_row)
 functions_sync = list_sync fn_name_row fn_name_sync
 
 checked_inside : IsSync checked_inside_row
-checked_inside =
-    declared_sync C.the_type
-    (record { shared = num_expr_sync.shared }, (search (sendable, crosses) depth 40 fits 4000, (search (sendable, crosses) depth 40 fits 4000, (search (sendable, crosses) depth 40 fits 4000, tt))))
+checked_inside = declared_sync C.the_type (search (sendable, crosses, num_expr_sync) depth 40 fits 4000)
 
 checked_sync : IsSync checked_row
 checked_sync = record { shared = λ d b o κ x. (checked_inside.shared x.0 b o κ, tt) }
@@ -47,49 +45,19 @@ path_sync : IsSync path_row
 path_sync = search (sendable, crosses) depth 40 fits 4000
 
 result_sync : IsSync result_row
-result_sync =
-    declared_sync R.the_type (
-      search (sendable, crosses) depth 40 fits 4000,
-      (search (sendable, crosses) depth 40 fits 4000, (search (sendable, crosses) depth 40 fits 4000, (search (sendable, crosses) depth 40 fits 4000, (record { shared = path_sync.shared }, tt)))),
-    )
+result_sync = declared_sync R.the_type (search (sendable, crosses, path_sync) depth 40 fits 4000)
 
 results_sync : IsSync (B.the_row result_row H.the_row ghosts)
 results_sync = Vec-sync result_row result_sync
 
 tables_sync : IsSync tables_row
-tables_sync =
-    declared_sync T.the_type (
-      search (sendable, crosses) depth 40 fits 4000,
-      (
-        search (sendable, crosses) depth 40 fits 4000,
-        (
-          search (sendable, crosses) depth 40 fits 4000,
-          (
-            record { shared = sites_sync.shared },
-            (search (sendable, crosses) depth 40 fits 4000, (search (sendable, crosses) depth 40 fits 4000, (record { shared = results_sync.shared }, (search (sendable, crosses) depth 40 fits 4000, tt)))),
-          ),
-        ),
-      ),
-    )
+tables_sync = declared_sync T.the_type (search (sendable, crosses, sites_sync, results_sync) depth 40 fits 4000)
 
 loops_sync : IsSync loops_row
 loops_sync = search (sendable, crosses) depth 40 fits 4000
 
 inside_sync : IsSync inside_row
-inside_sync =
-    declared_sync I.the_type (
-      record { shared = lines_sync.shared },
-      (
-        record { shared = columns_sync.shared },
-        (
-          record { shared = functions_sync.shared },
-          (
-            record { shared = tables_sync.shared },
-            (record { shared = loops_sync.shared }, (search (sendable, crosses) depth 40 fits 4000, tt)),
-          ),
-        ),
-      ),
-    )
+inside_sync = declared_sync I.the_type (search (sendable, crosses, lines_sync, columns_sync, functions_sync, tables_sync, loops_sync) depth 40 fits 4000)
 
 -- the graph
 pub graph_sync : IsSync graph_row

@@ -1,12 +1,11 @@
 -- Several threads may read one expression, and the lines of one script, at once.
 use denote.RattleType.{RattleType}
 use denote.Param.Send.{IsSync, sendable}
-use denote.Param.SendFields.{variants_sync, as_row_sync, declared_sync}
+use denote.Param.SendFields.{variants_sync, declared_sync}
 use denote.Hole.FixSend.{fix_sync, Syncs}
 use denote.Hole.FixLaws.{layer_row}
 use denote.Hole.{as_row}
-use denote.Struct.Field.{row_field, i64-field, bool-field}
-use Rattle.std.below.std_heap.specs.contracts.GlobalAllocator.TheImpl.{ghosts}
+use denote.Struct.Field.{row_field}
 use Rattle.std.proofs.Crossing.{crosses}
 use Rattle.rdf_values.specs.contracts.scripts.name.Name.{the_row as name_row}
 use Rattle.rdf_values.specs.contracts.expressions.expr.Expr.{the_row as expr_row}
@@ -19,8 +18,6 @@ use Rattle.rdf_values.specs.contracts.scripts.statement.VaryValues.{the_row as v
 use Rattle.rdf_values.specs.contracts.scripts.statement.Statement.{the_row as statement_row}
 use Rattle.rdf_values.specs.contracts.scripts.statement.Line.{the_row as line_row}
 use Rattle.rdf_values.specs.contracts.tables.table.Column.{the_row as column_row}
-use Rattle.std.specs.contracts.boxed.Box as B
-use Rattle.std.specs.contracts.alloc.Global as H
 use Rattle.rdf_values.specs.contracts.scripts.name.Name as N
 use Rattle.rdf_values.specs.contracts.expressions.expr.BinOp as O
 use Rattle.rdf_values.specs.contracts.expressions.expr.Expr.TheInside as I
@@ -36,32 +33,20 @@ args_layer a b sa sb = variants_sync (knot.type-Args a b) (search (sendable, cro
 pub name_sync : IsSync name_row
 name_sync = search (sendable, crosses) depth 40 fits 4000
 
-pub i64_sync : IsSync (as_row i64-field)
-i64_sync = search (sendable, crosses) depth 40 fits 4000
-
-pub bool_sync : IsSync (as_row bool-field)
-bool_sync = search (sendable, crosses) depth 40 fits 4000
-
-pub boxed_sync : (R : RattleType) → IsSync R → IsSync (as_row (row_field (B.the_row R H.the_row ghosts)))
-boxed_sync R s = search (sendable, crosses) depth 40 fits 4000
-
 name_field : IsSync (as_row (row_field (as_row N.the_field)))
 name_field = search (sendable, crosses) depth 40 fits 4000
 
 pub op_field : IsSync (as_row (row_field (as_row O.the_field)))
 op_field = search (sendable, crosses) depth 40 fits 4000
 
--- a type for each place that names one of the two: Neg 1, Not 1, Bin 2, Cond 3, Pick 2, Call 1
-node_layer : (a b c d e f g h i j : RattleType) → IsSync a → IsSync b → IsSync c → IsSync d → IsSync e → IsSync f → IsSync g → IsSync h → IsSync i → IsSync j → IsSync (knot.layer-ExprNode a b c d e f g h i j)
-node_layer a b c d e f g h i j sa sb sc sd se sf sg sh si sj = variants_sync (knot.type-ExprNode a b c d e f g h i j)
-    ((i64_sync, tt), ((bool_sync, tt), ((name_field, tt), ((boxed_sync a sa, tt), ((boxed_sync b sb, tt), ((op_field, (boxed_sync c sc, (boxed_sync d sd, tt))), ((boxed_sync e se, (boxed_sync f sf, (boxed_sync g sg, tt))), ((boxed_sync h sh, (boxed_sync i si, tt)), ((name_field, (as_row_sync (row_field j) sj, tt)), tt)))))))))
+node_layer : (n a : RattleType) → IsSync n → IsSync a → IsSync (knot.layer-ExprNode n n n n n n n n n a)
+node_layer n a sn sa = variants_sync (knot.type-ExprNode n n n n n n n n n a) (search (sendable, crosses, name_field, op_field, sn, sa) depth 40 fits 4000)
 
 args_step : (h : knot.the_members → RattleType) → ((j : knot.the_members) → IsSync (h j)) → IsSync (layer_row knot.ring knot.member-Args h)
 args_step h each = record { shared = (args_layer (h knot.member-ExprNode) (h knot.member-Args) (each knot.member-ExprNode) (each knot.member-Args)).shared }
 
 node_step : (h : knot.the_members → RattleType) → ((j : knot.the_members) → IsSync (h j)) → IsSync (layer_row knot.ring knot.member-ExprNode h)
-node_step h each = let n = h knot.member-ExprNode in let a = h knot.member-Args in let s = each knot.member-ExprNode in let t = each knot.member-Args in
-    record { shared = (node_layer n n n n n n n n n a s s s s s s s s s t).shared }
+node_step h each = record { shared = (node_layer (h knot.member-ExprNode) (h knot.member-Args) (each knot.member-ExprNode) (each knot.member-Args)).shared }
 
 steps : (i : the_members) → Syncs knot.ring i
 steps member-Args = record { sync = args_step }

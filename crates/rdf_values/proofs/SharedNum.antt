@@ -1,41 +1,35 @@
 -- Several threads may read one numbered expression at once. Its tree is two types that hold each other.
 use denote.RattleType.{RattleType}
 use denote.Param.Send.{IsSync, sendable}
-use denote.Param.SendFields.{variants_sync, as_row_sync, declared_sync}
+use denote.Param.SendFields.{variants_sync, declared_sync}
 use denote.Hole.FixSend.{fix_sync, Syncs}
 use denote.Hole.FixLaws.{layer_row}
 use denote.Hole.{as_row}
-use denote.Struct.Field.{row_field, u32-field}
-use Rattle.std.proofs.Crossing.{crosses}
+use denote.Struct.Field.{row_field}
 use Rattle.rdf_values.specs.contracts.expressions.num_expr.Callee as N
+use Rattle.std.proofs.Crossing.{crosses}
 use Rattle.rdf_values.specs.contracts.expressions.num_expr.NumExpr.{the_row as num_expr_row}
 use Rattle.rdf_values.specs.contracts.expressions.num_expr.NumExpr.TheInside.{the_row as inside_row}
 use Rattle.rdf_values.specs.contracts.expressions.num_expr.NumExpr.TheInside as I
 use Rattle.rdf_values.specs.contracts.expressions.num_expr.NumNode as node
 use Rattle.rdf_values.specs.contracts.expressions.num_expr.NumArgs.TheKnot as knot
-use Rattle.rdf_values.proofs.Shared.{i64_sync, bool_sync, boxed_sync, op_field}
+use Rattle.rdf_values.proofs.Shared.{op_field}
 use Rattle.rdf_values.specs.declared.expressions.num_expr.NumArgs.TheBlock.{the_members, member-NumArgs, member-NumNode}
 
 args_layer : (a b : RattleType) → IsSync a → IsSync b → IsSync (knot.layer-NumArgs a b)
 args_layer a b sa sb = variants_sync (knot.type-NumArgs a b) (search (sendable, crosses, sa, sb) depth 40 fits 4000)
 
-u32_sync : IsSync (as_row u32-field)
-u32_sync = search (sendable, crosses) depth 40 fits 4000
-
 callee_field : IsSync (as_row (row_field (as_row N.the_field)))
 callee_field = search (sendable, crosses) depth 40 fits 4000
 
--- a type for each place that names one of the two: Neg 1, Not 1, Bin 2, Cond 3, Pick 2, Call 1
-node_layer : (a b c d e f g h i j : RattleType) → IsSync a → IsSync b → IsSync c → IsSync d → IsSync e → IsSync f → IsSync g → IsSync h → IsSync i → IsSync j → IsSync (knot.layer-NumNode a b c d e f g h i j)
-node_layer a b c d e f g h i j sa sb sc sd se sf sg sh si sj = variants_sync (knot.type-NumNode a b c d e f g h i j)
-    ((i64_sync, tt), ((bool_sync, tt), ((u32_sync, tt), ((boxed_sync a sa, tt), ((boxed_sync b sb, tt), ((op_field, (boxed_sync c sc, (boxed_sync d sd, tt))), ((boxed_sync e se, (boxed_sync f sf, (boxed_sync g sg, tt))), ((boxed_sync h sh, (boxed_sync i si, tt)), ((callee_field, (as_row_sync (row_field j) sj, tt)), tt)))))))))
+node_layer : (n a : RattleType) → IsSync n → IsSync a → IsSync (knot.layer-NumNode n n n n n n n n n a)
+node_layer n a sn sa = variants_sync (knot.type-NumNode n n n n n n n n n a) (search (sendable, crosses, op_field, callee_field, sn, sa) depth 40 fits 4000)
 
 args_step : (h : knot.the_members → RattleType) → ((j : knot.the_members) → IsSync (h j)) → IsSync (layer_row knot.ring knot.member-NumArgs h)
 args_step h each = record { shared = (args_layer (h knot.member-NumNode) (h knot.member-NumArgs) (each knot.member-NumNode) (each knot.member-NumArgs)).shared }
 
 node_step : (h : knot.the_members → RattleType) → ((j : knot.the_members) → IsSync (h j)) → IsSync (layer_row knot.ring knot.member-NumNode h)
-node_step h each = let n = h knot.member-NumNode in let a = h knot.member-NumArgs in let s = each knot.member-NumNode in let t = each knot.member-NumArgs in
-    record { shared = (node_layer n n n n n n n n n a s s s s s s s s s t).shared }
+node_step h each = record { shared = (node_layer (h knot.member-NumNode) (h knot.member-NumArgs) (each knot.member-NumNode) (each knot.member-NumArgs)).shared }
 
 steps : (i : the_members) → Syncs knot.ring i
 steps member-NumArgs = record { sync = args_step }
