@@ -66,16 +66,6 @@ fn axis(alloc: Global, edges: &IntList) -> Result<Edges, Memory>
     }
 }
 
-// A copy of a name that may be missing.
-fn copy_of(alloc: Global, name: &Option<Name>) -> Result<Option<Name>, Memory>
-    ensures { IfOk result (λ copy. copy ≡ name.now) }
-{
-    match name {
-        Some(name) => Ok(Some(name.copy(alloc)?)),
-        None => Ok(None),
-    }
-}
-
 impl State {
     ghost use Rattle.std.specs.Prelude.{◌≡◌, ◌≤◌, ◌+◌, ◌-◌, ◌++◌, [], ℕ, List, All, None, IfOk, OnErr, OnOk, false, length, true};
     ghost use Rattle.rdf_values.specs.{feed_fault, spread};
@@ -89,23 +79,23 @@ impl State {
         match kind {
             ActionKind::Count => Ok(State::Count(0)),
             ActionKind::Sum(column) => Ok(State::Sum {
-                column: column.copy(alloc)?,
+                column: column.copy()?,
                 sum: Summed { sum: 0 },
             }),
             ActionKind::Min(column) => Ok(State::Min {
-                column: column.copy(alloc)?,
+                column: column.copy()?,
                 least: Least { best: None },
             }),
             ActionKind::Max(column) => Ok(State::Max {
-                column: column.copy(alloc)?,
+                column: column.copy()?,
                 greatest: Greatest { best: None },
             }),
             ActionKind::Take(column) => Ok(State::Take {
-                column: column.copy(alloc)?,
+                column: column.copy()?,
                 values: ListOf::new(alloc),
             }),
             ActionKind::Reduce(op, column) => Ok(State::Reduce {
-                column: column.copy(alloc)?,
+                column: column.copy()?,
                 reduction: Reduction {
                     op: *op,
                     value: start(*op),
@@ -113,8 +103,8 @@ impl State {
             }),
             ActionKind::Histo1D { x_edges, x, weight } => Ok(State::Histo1D {
                 hist: Hist1::new(alloc, axis(alloc, x_edges)?)?,
-                x: x.copy(alloc)?,
-                weight: copy_of(alloc, weight)?,
+                x: x.copy()?,
+                weight: weight.clone()?,
             }),
             ActionKind::Histo2D {
                 x_edges,
@@ -124,9 +114,9 @@ impl State {
                 weight,
             } => Ok(State::Histo2D {
                 hist: Hist2::new(alloc, axis(alloc, x_edges)?, axis(alloc, y_edges)?)?,
-                x: x.copy(alloc)?,
-                y: y.copy(alloc)?,
-                weight: copy_of(alloc, weight)?,
+                x: x.copy()?,
+                y: y.copy()?,
+                weight: weight.clone()?,
             }),
         }
     }

@@ -32,20 +32,6 @@ impl Model for Watcher {
     ghost invariant = { λ w. IsWatcher w.kind w.acc };
 }
 
-// A copy of the kind of an action that can be watched.
-fn copy_of(alloc: Global, kind: &ActionKind) -> Result<ActionKind, Memory>
-    requires { CanWatch kind.now }
-    ensures { IfOk result (λ copy. copy ≡ kind.now) }
-{
-    match kind {
-        ActionKind::Count => Ok(ActionKind::Count),
-        ActionKind::Sum(column) => Ok(ActionKind::Sum(column.copy(alloc)?)),
-        ActionKind::Min(column) => Ok(ActionKind::Min(column.copy(alloc)?)),
-        ActionKind::Max(column) => Ok(ActionKind::Max(column.copy(alloc)?)),
-        _ => unreachable!(),
-    }
-}
-
 // What an accumulator of the kind holds.
 fn piece_of(kind: &ActionKind, acc: &Acc) -> WatchPiece
     requires watch { CanWatch kind.now }
@@ -70,7 +56,7 @@ impl Watcher {
         ensures { IfOk result (λ watcher. watcher ≡ fresh_acc kind.now) }
     {
         Ok(Watcher {
-            kind: copy_of(alloc, kind)?,
+            kind: kind.copy()?,
             acc: Acc::new(alloc, kind)?,
         })
     }

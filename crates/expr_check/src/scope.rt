@@ -62,7 +62,7 @@ impl Scope {
         ensures ok { OnOk result (self.new ≡ self.old ++ record { name = name.now; kind = kind; number = number } ∷ []) }
         ensures err { OnErr result (self.new ≡ self.old) }
     {
-        let name = name.copy(self.alloc)?;
+        let name = name.copy()?;
         Ok(self.columns.push(Known { name, kind, number })?)
     }
 

@@ -24,35 +24,35 @@ use rdf_values::{
 use std::alloc::Global;
 
 #[cycle(names)]
-fn push_names(alloc: Global, columns: &mut Vec<Name>, node: &ExprNode) -> Result<(), Memory>
+fn push_names(columns: &mut Vec<Name>, node: &ExprNode) -> Result<(), Memory>
     ensures { OnOk result (columns.new.items ≡ columns.old.items ++ columns_in (tree_of node.now)) }
 {
     match node {
         ExprNode::Lit(_) | ExprNode::Truth(_) => Ok(()),
-        ExprNode::Col(name) => push_name(alloc, columns, name),
-        ExprNode::Neg(a) | ExprNode::Not(a) => push_names(alloc, columns, a),
+        ExprNode::Col(name) => push_name(columns, name),
+        ExprNode::Neg(a) | ExprNode::Not(a) => push_names(columns, a),
         ExprNode::Bin(_, a, b) | ExprNode::Pick(a, b) => {
-            push_names(alloc, columns, a)?;
-            push_names(alloc, columns, b)
+            push_names(columns, a)?;
+            push_names(columns, b)
         }
         ExprNode::Cond(condition, first, second) => {
-            push_names(alloc, columns, condition)?;
-            push_names(alloc, columns, first)?;
-            push_names(alloc, columns, second)
+            push_names(columns, condition)?;
+            push_names(columns, first)?;
+            push_names(columns, second)
         }
-        ExprNode::Call(_, args) => push_names_of_all(alloc, columns, args),
+        ExprNode::Call(_, args) => push_names_of_all(columns, args),
     }
 }
 
 #[cycle(names)]
-fn push_names_of_all(alloc: Global, columns: &mut Vec<Name>, args: &Args) -> Result<(), Memory>
+fn push_names_of_all(columns: &mut Vec<Name>, args: &Args) -> Result<(), Memory>
     ensures { OnOk result (columns.new.items ≡ columns.old.items ++ columns_in_all (trees_of args.now)) }
 {
     match args {
         Args::End => Ok(()),
         Args::More(first, rest) => {
-            push_names(alloc, columns, first)?;
-            push_names_of_all(alloc, columns, rest)
+            push_names(columns, first)?;
+            push_names_of_all(columns, rest)
         }
     }
 }
@@ -173,7 +173,7 @@ impl Before<'_> {
         ensures { IfOk result (λ scope. IsScopeOf self.now.header.now self.now.names.now (history self.now) node.now self.now.tables.now.kinds.items expr.now scope) }
     {
         let mut columns = Vec::new(self.alloc);
-        push_names(self.alloc, &mut columns, &expr.node)?;
+        push_names(&mut columns, &expr.node)?;
         let mut scope = Scope::new(self.alloc);
         self.note_all(node, &mut scope, columns.as_slice())?;
         Ok(scope)

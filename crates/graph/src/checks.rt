@@ -13,7 +13,7 @@ use crate::amounts::{
     amounts_of, amounts_printed_with, amounts_with, cells_of, takes_of, too_many,
 };
 use crate::before::{Before, same_kind};
-use crate::copies::{alone, copy_kind, push, push_name};
+use crate::copies::{alone, push, push_name};
 use crate::lookup::{
     covered, is_among, is_filled, is_report, is_result, is_watchable, is_watched, result_count,
     watched_count,
@@ -229,7 +229,7 @@ pub(crate) fn check_report(
         covers: covered(before.alloc, before.lines, named, parent)?,
     };
     Ok(ResultRow {
-        name: name.copy(before.alloc)?,
+        name: name.copy()?,
         cells: 0,
         takes: 0,
         set: VarSet::empty(),
@@ -247,7 +247,7 @@ fn action_row(
 {
     let columns = columns_of(before.alloc, action)?;
     let path = ResultPath {
-        kind: ResultKind::Action(copy_kind(before.alloc, action)?),
+        kind: ResultKind::Action(action.copy()?),
         filters: before.filters_above(parent)?,
         inputs: before.versions_of(parent, columns.as_slice())?,
         covers: ListOf::new(before.alloc),
@@ -256,7 +256,7 @@ fn action_row(
     let filters = set_of(tables.site_sets.as_slice(), path.filters.as_slice());
     let inputs = set_of(tables.version_sets.as_slice(), path.inputs.as_slice());
     Ok(ResultRow {
-        name: name.copy(before.alloc)?,
+        name: name.copy()?,
         cells: cells_of(action)?,
         takes: takes_of(action),
         set: filters.union(inputs),
@@ -389,12 +389,12 @@ fn check_columns(
     check_columns(before, node, action, kinds, rest)
 }
 
-fn push_weight(alloc: Global, names: &mut Vec<Name>, weight: &Option<Name>) -> Result<(), Memory>
+fn push_weight(names: &mut Vec<Name>, weight: &Option<Name>) -> Result<(), Memory>
     ensures { OnOk result (names.new.items ≡ names.old.items ++ weight_column weight.now) }
 {
     match weight {
         None => Ok(()),
-        Some(name) => push_name(alloc, names, name),
+        Some(name) => push_name(names, name),
     }
 }
 
@@ -408,15 +408,15 @@ pub(crate) fn columns_of(alloc: Global, action: &ActionKind) -> Result<Vec<Name>
         | ActionKind::Min(x)
         | ActionKind::Max(x)
         | ActionKind::Take(x)
-        | ActionKind::Reduce(_, x) => push_name(alloc, &mut names, x)?,
+        | ActionKind::Reduce(_, x) => push_name(&mut names, x)?,
         ActionKind::Histo1D { x, weight, .. } => {
-            push_name(alloc, &mut names, x)?;
-            push_weight(alloc, &mut names, weight)?;
+            push_name(&mut names, x)?;
+            push_weight(&mut names, weight)?;
         }
         ActionKind::Histo2D { x, y, weight, .. } => {
-            push_name(alloc, &mut names, x)?;
-            push_name(alloc, &mut names, y)?;
-            push_weight(alloc, &mut names, weight)?;
+            push_name(&mut names, x)?;
+            push_name(&mut names, y)?;
+            push_weight(&mut names, weight)?;
         }
     }
     Ok(names)

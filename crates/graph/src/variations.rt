@@ -95,8 +95,8 @@ pub(crate) fn full_names(alloc: Global, name: &Name, tags: &[Name]) -> Result<Va
     let mut items = Vec::new(alloc);
     for tag in tags {
         items.push(FullName {
-            name: name.copy(alloc)?,
-            tag: tag.copy(alloc)?,
+            name: name.copy()?,
+            tag: tag.copy()?,
         })?;
     }
     Ok(Variations { items })

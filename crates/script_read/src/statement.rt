@@ -30,7 +30,7 @@ fn variation(alloc: Global, column: &Name, name: &Option<Quoted<'_>>) -> Result<
 {
     match name {
         Some(name) => strings::name(alloc, name),
-        None => Ok(column.copy(alloc)?),
+        None => Ok(column.copy()?),
     }
 }
 

@@ -43,11 +43,7 @@ impl Model for SnapPlan {
 fn copy_names(alloc: Global, names: &[Name]) -> Result<ListOf<Name>, Memory>
     ensures { IfOk result (λ copied. copied ≡ names.now) }
 {
-    let mut copied = ListOf::new(alloc);
-    for name in names {
-        copied.push(name.copy(alloc)?)?;
-    }
-    Ok(copied)
+    ListOf::from_clones(alloc, names)
 }
 
 // The number of the variation, and none for nominal; or the first cause for which there is no plan.
@@ -94,7 +90,7 @@ pub fn plan(
         Ok(variation) => variation,
         Err(cause) => return Err(SnapRefusal::At(cause)),
     };
-    let node = node.copy(alloc)?;
+    let node = node.copy()?;
     let columns = copy_names(alloc, columns)?;
     Ok(SnapPlan {
         graph,
@@ -133,7 +129,7 @@ impl SnapPlan {
         let mut header = ListOf::new(alloc);
         for column in self.columns.as_slice() {
             let kind = kind_or_int(&self.graph, &self.node, column);
-            let name = column.copy(alloc)?;
+            let name = column.copy()?;
             header.push(Column { name, kind })?;
         }
         Ok(header)

@@ -7,7 +7,7 @@ use std::alloc::Global;
 use std::marker::Model;
 
 /// A function's name and its number of arguments.
-#[derive(Debug, Drop)]
+#[derive(Clone, Debug, Drop)]
 pub struct FnName {
     pub name: Name,
     pub arity: u32,

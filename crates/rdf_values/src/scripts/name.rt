@@ -5,7 +5,7 @@ ghost use Rattle.rdf_values.specs.scripts.Names.{is_digit, is_name, is_word, is_
 
 use crate::list::ListOf;
 use crate::memory::Memory;
-use std::alloc::Global;
+use std::alloc::{AllocError, Global};
 use std::marker::Model;
 
 const LONGEST_NAME: usize = 64;
@@ -22,6 +22,15 @@ impl Model for Name {
     ghost view = { λ n. n.bytes.items };
 
     ghost invariant = { λ n. is_name n.bytes.items ≡ true };
+}
+
+impl Clone for Name {
+    ghost is_clone = { λ n copy. copy ≡ n };
+
+    fn clone(&self) -> Result<Name, AllocError> {
+        let bytes = Vec::from_slice(*self.bytes.allocator(), self.bytes.as_slice())?;
+        Ok(Name { bytes })
+    }
 }
 
 /// Whether a word may begin with the byte: a letter or `_`.
@@ -82,19 +91,18 @@ impl Name {
         self.bytes.as_slice()
     }
 
+    /// A copy of the name.
+    pub fn copy(&self) -> Result<Name, Memory>
+        ensures { IfOk result (λ n. n ≡ self.now) }
+    {
+        Ok(self.clone()?)
+    }
+
     /// Whether it is the same name.
     pub fn is(&self, other: &Name) -> bool
         ensures { result ≡ same self.now other.now }
     {
         self.bytes.as_slice() == other.bytes.as_slice()
-    }
-
-    /// A copy of the name.
-    pub fn copy(&self, alloc: Global) -> Result<Name, Memory>
-        ensures { IfOk result (λ n. n ≡ self.now) }
-    {
-        let bytes = Vec::from_slice(alloc, self.bytes.as_slice())?;
-        Ok(Name { bytes })
     }
 }
 

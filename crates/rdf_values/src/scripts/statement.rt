@@ -1,6 +1,9 @@
 // The statements of a script.
+ghost use Rattle.std.specs.Prelude.{◌≡◌, IfOk};
+
 use crate::expressions::expr::Expr;
 use crate::list::{IntList, ListOf};
+use crate::memory::Memory;
 use crate::scripts::label::Label;
 use crate::scripts::name::Name;
 
@@ -71,7 +74,7 @@ pub enum ReduceOp {
 }
 
 /// What an action computes, and the columns that it reads, in written order.
-#[derive(Drop)]
+#[derive(Clone, Drop)]
 pub enum ActionKind {
     Count,
     Sum(Name),
@@ -91,6 +94,15 @@ pub enum ActionKind {
         y: Name,
         weight: Option<Name>,
     },
+}
+
+impl ActionKind {
+    /// The same action.
+    pub fn copy(&self) -> Result<ActionKind, Memory>
+        ensures { IfOk result (λ k. k ≡ self.now) }
+    {
+        Ok(self.clone()?)
+    }
 }
 
 /// A statement and the number of its line, counted from 1.

@@ -119,7 +119,7 @@ impl Table {
 }
 
 /// A column's name and type.
-#[derive(Debug, Drop)]
+#[derive(Clone, Debug, Drop)]
 pub struct Column {
     pub name: Name,
     pub kind: ColType,

@@ -1,0 +1,5 @@
+use Rattle.std.proofs.Common.{◌≡◌, rules}
+use Rattle.actions.proofs.state.State.new.Goals as goal
+
+pub returns-in_ok-clone-in-Histo2D : goal.returns-in_ok-clone-in-Histo2D
+returns-in_ok-clone-in-Histo2D c = let weight : c.in_ok-clone-in-Histo2D.field-0 ≡ c.in-Histo2D.weight = search rules in search rules
