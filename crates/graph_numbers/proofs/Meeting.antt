@@ -7,7 +7,7 @@ use Rattle.rdf_values.specs.expressions.Expressions.{Truth}
 use Rattle.rdf_model.specs.Laws.{gives, faults, Alike}
 use Rattle.rdf_model.proofs.Accepted.{names_equal, itself, passed_over, checked_of, target_is_none, visible_resolved, sound_path, column_fits}
 use Rattle.rdf_model.proofs.Evaluations.{evaluate_known}
-use Rattle.rdf_values.proofs.KeptLemmas.{all_columns}
+pub use Rattle.rdf_values.proofs.KeptLemmas.{In, here, there, in_left, in_right, in_joined, each_of, each_at, all_columns}
 use Rattle.graph_numbers.proofs.Walks.{by_test, next_at, place_gives}
 use Rattle.lemmas.proofs.{kept_at, length-append, length-map, mapped_at}
 use Rattle.rdf_values.specs.declared.scripts.statement.Statement.TheVariants.{Define, Redefine, Vary}
@@ -21,70 +21,9 @@ use Rattle.rdf_model.proofs.Evaluations as evaluations
 use Rattle.rdf_model.specs.Laws as alike
 use Rattle.rdf_model.proofs.Missing as missing
 
--- ---- elements of lists
-
-pub data In {A : Type 0} (x : A) : List A → Type 0 where
-  here : {xs : List A} → In x (x ∷ xs)
-  there : {y : A} {xs : List A} → In x xs → In x (y ∷ xs)
-
-pub in_left : {A : Type 0} {x : A} (xs ys : List A) → In x xs → In x (xs ++ ys)
-in_left xs ys (here {xs = zs}) = here
-in_left xs ys (there {xs = zs} h) = there (in_left zs ys h)
-
-pub in_right : {A : Type 0} {x : A} (xs ys : List A) → In x ys → In x (xs ++ ys)
-in_right [] ys h = h
-in_right (y ∷ xs) ys h = there (in_right xs ys h)
-
--- what stands in joined lists stands in one of them
-pub in_joined : {A P : Type 0} {x : A} (xs ys : List A) → In x (xs ++ ys) → (In x xs → P) → (In x ys → P) → P
-in_joined [] ys h f g = g h
-in_joined (y ∷ xs) ys here f g = f here
-in_joined (y ∷ xs) ys (there h) f g = in_joined xs ys h (λ k. f (there k)) g
-
 pub in_filter : {A : Type 0} {x : A} (p : A → Bool) (xs : List A) → In x xs → p x ≡ true → In x (filter p xs)
 in_filter p xs here e = rw e here
 in_filter {x = x} p xs (there {y = y} {xs = zs} h) e = by_test (p y) (λ t. rw t (there (in_filter p zs h e))) (λ t. rw t (in_filter p zs h e))
-
--- what holds of each column that stands in an expression
-module _ {C F : Type 0} (P : C → Type 0) where
-  mutual
-    pub each_of : (e : Tree C F) → ((c : C) → In c (columns_in e) → P c) → EachColumn P e
-    each_of (Lit z) h = tt
-    each_of (Truth b) h = tt
-    each_of (Col c) h = h c here
-    each_of (Neg a) h = each_of a h
-    each_of (Not a) h = each_of a h
-    each_of (Bin o a b) h = (each_of a (λ c k. h c (in_left (columns_in a) (columns_in b) k)), each_of b (λ c k. h c (in_right (columns_in a) (columns_in b) k)))
-    each_of (Cond c a b) h = (
-      each_of c (λ d k. h d (in_left (columns_in c ++ columns_in a) (columns_in b) (in_left (columns_in c) (columns_in a) k))),
-      each_of a (λ d k. h d (in_left (columns_in c ++ columns_in a) (columns_in b) (in_right (columns_in c) (columns_in a) k))),
-      each_of b (λ d k. h d (in_right (columns_in c ++ columns_in a) (columns_in b) k)),
-    )
-    each_of (Pick v i) h = (each_of v (λ c k. h c (in_left (columns_in v) (columns_in i) k)), each_of i (λ c k. h c (in_right (columns_in v) (columns_in i) k)))
-    each_of (Call f args) h = each_of_all args h
-
-    pub each_of_all : (es : Trees C F) → ((c : C) → In c (columns_in_all es) → P c) → EachArgument P es
-    each_of_all End h = tt
-    each_of_all (More a rest) h = (each_of a (λ c k. h c (in_left (columns_in a) (columns_in_all rest) k)), each_of_all rest (λ c k. h c (in_right (columns_in a) (columns_in_all rest) k)))
-
--- what holds of each column of an expression holds of each in its list
-module _ {C F : Type 0} (P : C → Type 0) where
-  mutual
-    pub each_at : (e : Tree C F) → EachColumn P e → (c : C) → In c (columns_in e) → P c
-    each_at (Lit z) h c k = elim k [ ]
-    each_at (Truth b) h c k = elim k [ ]
-    each_at (Col d) h c here = h
-    each_at (Col d) h c (there k) = elim k [ ]
-    each_at (Neg a) h c k = each_at a h c k
-    each_at (Not a) h c k = each_at a h c k
-    each_at (Bin o a b) h c k = in_joined (columns_in a) (columns_in b) k (each_at a h.0 c) (each_at b h.1 c)
-    each_at (Cond d a b) h c k = in_joined (columns_in d ++ columns_in a) (columns_in b) k (λ l. in_joined (columns_in d) (columns_in a) l (each_at d h.0 c) (each_at a h.1 c)) (each_at b h.2 c)
-    each_at (Pick v i) h c k = in_joined (columns_in v) (columns_in i) k (each_at v h.0 c) (each_at i h.1 c)
-    each_at (Call f args) h c k = each_argument_at args h c k
-
-    each_argument_at : (es : Trees C F) → EachArgument P es → (c : C) → In c (columns_in_all es) → P c
-    each_argument_at End h c k = elim k [ ]
-    each_argument_at (More a rest) h c k = in_joined (columns_in a) (columns_in_all rest) k (each_at a h.0 c) (each_argument_at rest h.1 c)
 
 -- two facts of each column
 pub each_both : {C F : Type 0} (P Q R : C → Type 0) → ((c : C) → P c → Q c → R c) → (e : Tree C F) → EachColumn P e → EachColumn Q e → EachColumn R e

@@ -1,9 +1,8 @@
 -- Evaluation is the same whatever stands for what is missing.
 use Rattle.std.proofs.Common.{◌≡◌, ℕ, ℤ, Bool, true, false, List, [], ◌∷◌, Option, Some, None, refl, if◌then◌else◌, length, nat_eq, map, slice_get, ◌+ℤ◌, ◌-ℤ◌, ◌*ℤ◌, neg_ℤ, int_div, nat_abs, pos, negsuc}
 use Rattle.std.specs.Int.{int_min, int_max}
-use Rattle.rdf_values.specs.{Bin, BinOp, Call, Callee, callee, Col, Column, Cond, EachArgument, EachColumn, End, fn_names, Function, Lit, More, NamedTree, Neg, Not, Path, Pick, place, same, target_of, Tree, Trees, Under, Value, VaryValues}
+use Rattle.rdf_values.specs.{Bin, BinOp, Call, Callee, callee, Col, Column, Cond, EachArgument, EachColumn, End, fn_names, Function, More, NamedTree, Neg, Not, Path, Pick, place, same, target_of, Tree, Trees, Under, Value, VaryValues}
 use Rattle.rdf_values.proofs.KeptLemmas.{all_columns}
-use Rattle.rdf_values.specs.expressions.Expressions.{Truth}
 use Rattle.rdf_values.specs.declared.scripts.statement.VaryValues.TheVariants.{Lists, Vector}
 use Rattle.rdf_values.specs.declared.scripts.statement.Statement.TheVariants.{Define, Redefine, Vary}
 use Rattle.rdf_model.specs.{◌>>=◌, answer_outcome, argument, call_outcome, cell, checked, chosen_side, column_value, divided, element, element_outcome, evaluate, evaluate_all, expression_at, expression_value, extreme_element, fits, for_all, given_call, Gives, in_order, inversion, is_zero, mark, named_call, named_value, needs, negation, number_operation, operation, Outcome, own_place, pairs, picked, sum_from, tag_element, tag_value, value_if, value_operation, varied, vector_operation, with_needs}
@@ -125,8 +124,6 @@ module _ (M N : Type 0) where
       (calls : (f : F) (vs : List Value) → Alike (call f vs) (call' f vs)) where
     mutual
       pub evaluate_alike : (e : Tree C F) → EachColumn (λ c. Alike (look c) (look' c)) e → Alike (evaluate look call e) (evaluate look' call' e)
-      evaluate_alike (Lit z) h = gives
-      evaluate_alike (Truth b) h = gives
       evaluate_alike (Col c) h = h
       evaluate_alike (Neg a) h = bind_alike _ _ (evaluate_alike a h) negation_alike
       evaluate_alike (Not a) h = bind_alike _ _ (evaluate_alike a h) inversion_alike
@@ -134,6 +131,7 @@ module _ (M N : Type 0) where
       evaluate_alike (Cond c a b) h = bind_alike _ _ (evaluate_alike c h.0) (λ v. chosen_alike v (evaluate_alike a h.1) (evaluate_alike b h.2))
       evaluate_alike (Pick v i) h = in_order_alike picked picked picked_alike (evaluate_alike v h.0) (evaluate_alike i h.1)
       evaluate_alike (Call f args) h = bind_alike _ _ (evaluate_all_alike args h) (calls f)
+      evaluate_alike e h = gives
 
       pub evaluate_all_alike : (es : Trees C F) → EachArgument (λ c. Alike (look c) (look' c)) es → Alike (evaluate_all look call es) (evaluate_all look' call' es)
       evaluate_all_alike End h = gives
