@@ -1,7 +1,7 @@
 -- What a site comes to, by what its columns' versions come to; and that the sites of these have lower numbers.
 use Rattle.std.proofs.Common.{◌≡◌, ℕ, ◌<◌, ◌≤◌, List, [], length, Some, sym, ◌∙◌, ap, subst, arith, slice_get}
 use Rattle.std.proofs.lemmas.Option.{get_or_from_slice_get, slice_get_within}
-use Rattle.rdf_values.specs.{AreAccepted, callee, Column, column_kind, EachColumn, fn_names, Function, path, renamed, scope_at, scope_of, shape_of, Statement, Tree, Under, Value}
+use Rattle.rdf_values.specs.{AreAccepted, callee, Column, column_kind, EachColumn, fn_names, Function, path, renamed, scope_at, scope_of, shape_of, Statement, Under, Value}
 use Rattle.rdf_model.specs.{call_outcome, column_value, evaluate, named_call, Outcome}
 use Rattle.rdf_model.proofs.Evaluations.{agrees, evaluate_renamed}
 use Rattle.graph_numbers.specs.{IsBelow, site_count, site_in, site_outcome, site_value, SiteAt, sites, Source, source_in, source_value, sources, version_at, version_count}

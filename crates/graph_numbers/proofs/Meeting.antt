@@ -1,9 +1,8 @@
 -- A column that an evaluation over numbers meets is that of its name, and its version has its kind.
-use Rattle.std.proofs.Common.{◌≡◌, ◌≢◌, ℕ, Bool, true, false, List, [], ◌∷◌, ◌++◌, refl, sym, ◌∙◌, ap, subst, nat_eq, if◌then◌else◌, filter, ◌+◌, map, length, Option, Some, None, Ok, arith, slice_get}
+use Rattle.std.proofs.Common.{◌≡◌, ◌≢◌, ℕ, Bool, true, false, List, [], ◌∷◌, refl, sym, ◌∙◌, ap, subst, nat_eq, if◌then◌else◌, filter, ◌+◌, map, length, Option, Some, None, Ok, arith, slice_get}
 use Rattle.std.proofs.lemmas.Bool.Decides.{Decides-eqb}
-use Rattle.rdf_values.specs.{Bin, Call, Col, columns_in, columns_in_all, Cond, EachArgument, EachColumn, End, Lit, More, Neg, Not, Pick, same, Tree, Trees, Value, aliases, AreAccepted, check_target, ColType, Column, column_kind, first_refusal, FitsRow, fn_names, FunctionNames, kind_or_int, made_columns, makes, parent_of, path, place, scope_at, scope_of, Statement, target_of, Under, visible_columns}
+use Rattle.rdf_values.specs.{columns_in, EachColumn, same, Tree, Value, aliases, AreAccepted, check_target, ColType, Column, column_kind, first_refusal, FitsRow, fn_names, FunctionNames, kind_or_int, made_columns, makes, parent_of, path, place, scope_at, scope_of, Statement, target_of, Under, visible_columns}
 use Rattle.rdf_model.specs.{evaluate, Faults, Gives, is_met, is_need, IsKnown, Needs, Outcome, untyped, without, column_value, Dataset, FitsOutcome, with_needs}
-use Rattle.rdf_values.specs.expressions.Expressions.{Truth}
 use Rattle.rdf_model.specs.Laws.{gives, faults, Alike}
 use Rattle.rdf_model.proofs.Accepted.{names_equal, itself, passed_over, checked_of, target_is_none, visible_resolved, sound_path, column_fits}
 use Rattle.rdf_model.proofs.Evaluations.{evaluate_known}
