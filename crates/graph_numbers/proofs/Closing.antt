@@ -15,7 +15,8 @@ use Rattle.graph_numbers.proofs.Demands.{demand_of, AreExplained, own_site}
 use Rattle.graph_numbers.proofs.Equations.{number_value, version_value, source_is, source_later}
 use Rattle.rdf_model.proofs.KnownColumns.{IsKnownColumn, known_columns, each_weaker}
 use Rattle.graph_numbers.proofs.Walks.{by_test}
-use Rattle.graph_numbers.proofs.Meeting.{each_at, In, here, in_left, in_right, met_name}
+use Rattle.rdf_values.proofs.KeptLemmas.{each_at, In, here, in_left, in_right}
+use Rattle.graph_numbers.proofs.Meeting.{met_name}
 use Rattle.rdf_model.specs.Laws as alike
 use Rattle.rdf_model.proofs.Missing.{named_alike, alike_is, call_alike}
 use Rattle.graph_numbers.proofs.Passing.{through_is, AreVisible, action_visible}

@@ -7,7 +7,7 @@ use Rattle.rdf_model.specs.{booking_demands, column_demands, column_value, Deman
 use Rattle.graph_numbers.specs.{lists_sites, own_sites, site_count, site_in, SiteAt, sites}
 use Rattle.graph_numbers.proofs.Walks.{by_test, next_at}
 use Rattle.graph_numbers.proofs.Placing.{Extends, site_kept, shorter}
-use Rattle.graph_numbers.proofs.Meeting.{In, here, there, in_joined, in_left, in_right}
+use Rattle.rdf_values.proofs.KeptLemmas.{In, here, there, in_joined, in_left, in_right}
 use Rattle.graph_numbers.proofs.Origins.{lists_site_at}
 
 module _ (fns : List Function) (columns : List Column) (row : List Value) (u : Under) (before : List Statement) where

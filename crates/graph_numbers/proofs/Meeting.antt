@@ -6,7 +6,7 @@ use Rattle.rdf_model.specs.{evaluate, Faults, Gives, is_met, is_need, IsKnown, N
 use Rattle.rdf_model.specs.Laws.{gives, faults, Alike}
 use Rattle.rdf_model.proofs.Accepted.{names_equal, itself, passed_over, checked_of, target_is_none, visible_resolved, sound_path, column_fits}
 use Rattle.rdf_model.proofs.Evaluations.{evaluate_known}
-pub use Rattle.rdf_values.proofs.KeptLemmas.{In, here, there, in_left, in_right, in_joined, each_of, each_at, all_columns}
+use Rattle.rdf_values.proofs.KeptLemmas.{In, here, there, each_of, each_at, all_columns}
 use Rattle.graph_numbers.proofs.Walks.{by_test, next_at, place_gives}
 use Rattle.lemmas.proofs.{kept_at, length-append, length-map, mapped_at}
 use Rattle.rdf_values.specs.declared.scripts.statement.Statement.TheVariants.{Define, Redefine, Vary}
