@@ -23,7 +23,7 @@ module _ {X Y : Type 0} (of : X → Y) where
   at_append : (xs : List X) (ns ms : List ℕ) (ys zs : List Y) → AreAt xs ns ys → AreAt xs ms zs → AreAt xs (ns ++ ms) (ys ++ zs)
   at_append xs [] ms [] zs h k = k
   at_append xs (n ∷ ns) ms (y ∷ ys) zs h k = (h.0, at_append xs ns ms ys zs h.1 k)
-  at_append xs ns ms ys zs h k = elim h [ ]
+  at_append xs ns ms ys zs h k = grind arith
 
   at_kept : (xs more : List X) → ((k : ℕ) (x : X) → slice_get xs k ≡ Some x → slice_get more k ≡ Some x) → (ns : List ℕ) (ys : List Y) → AreAt xs ns ys → AreAt more ns ys
   at_kept xs more f [] [] h = tt

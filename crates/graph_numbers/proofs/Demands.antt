@@ -3,7 +3,7 @@ use Rattle.std.proofs.Common.{◌≡◌, ℕ, ◌+◌, Bool, List, [], ◌∷◌
 use Rattle.rdf_values.specs.{ActionAt, ActionKind, Column, fn_names, Function, makes, NamedTree, parent_of, path, place, same, Statement, target_of, Under, Value, VaryValues}
 use Rattle.rdf_values.specs.declared.scripts.statement.Statement.TheVariants.{Define, Redefine, Filter, Vary}
 use Rattle.rdf_values.specs.declared.scripts.statement.VaryValues.TheVariants.{Lists, Vector}
-use Rattle.rdf_model.specs.{booking_demands, column_demands, column_value, Demand, demands_after, expression_at, filter_demands, input_demands, met_columns, named_demands, Outcome, own_place, projected, site_at, site_demands, tag_demands, through, varied}
+use Rattle.rdf_model.specs.{booking_demands, column_demands, Demand, demands_after, expression_at, filter_demands, input_demands, met_columns, named_demands, Outcome, own_place, projected, site_at, site_demands, tag_demands, through, varied}
 use Rattle.graph_numbers.specs.{lists_sites, own_sites, site_count, site_in, SiteAt, sites}
 use Rattle.graph_numbers.proofs.Walks.{by_test, next_at}
 use Rattle.graph_numbers.proofs.Placing.{Extends, site_kept, shorter}
@@ -130,9 +130,7 @@ module _ (fns : List Function) (columns : List Column) (row : List Value) (u : U
 
   inputs_explained : (earlier : List Statement) → Extends earlier before → (node : List ℕ) (cs : List (List ℕ)) → AreExplained (input_demands fns columns row (path earlier node) u cs)
   inputs_explained earlier e node [] = none_explained
-  inputs_explained earlier e node (c ∷ cs) =
-      append_explained (column_demands fns columns row (path earlier node) u c) _ (column_explained earlier e node c)
-      (after_explained (column_value fns columns row (path earlier node) u c) _ (λ v. inputs_explained earlier e node cs))
+  inputs_explained earlier e node (c ∷ cs) = grind (arith, append_explained, column_explained, after_explained, inputs_explained earlier e node cs)
 
   -- an action: its filters, and where the entry passes them its columns
   pub action_explained : (earlier : List Statement) → Extends earlier before → (node : List ℕ) (k : ActionKind) → AreExplained (booking_demands fns columns row (ActionAt k (path earlier node)) u)

@@ -45,8 +45,7 @@ module _ {C F M : Type 0} (look : C → Outcome M Value) (call : F → List Valu
   given (Needs m) = untyped
 
   given_known : (o : Outcome M Value) → IsKnown (given o)
-  given_known (Faults k) = faults
-  given_known o = gives
+  given_known o = grind (arith, gives, faults)
 
   abbrev IsNeeded : M → Type 0
   IsNeeded m = (c : C) × In c (columns_in e) × (look c ≡ Needs m)
@@ -123,7 +122,7 @@ module _ (header : List Column) (names : FunctionNames) where
   -- there is one kind for each version
   pub kind_count : (before : List Statement) → length (version_kinds header names before) ≡ version_count header before
   kind_count [] = length-map header (λ (c : Column). c.kind)
-  kind_count (s ∷ before) = length-append (version_kinds header names before) (own_kinds header names before s) ∙ (λ i. kind_count before i + own_count before s i)
+  kind_count (s ∷ before) = grind (arith, length-append, kind_count before, own_count)
 
   pub kind_later : (before after : List Statement) → Extends before after → (c : ℕ) (t : ColType) → slice_get (version_kinds header names before) c ≡ Some t → slice_get (version_kinds header names after) c ≡ Some t
   kind_later = kept (version_kinds header names) (own_kinds header names) (λ before s. refl)
