@@ -97,9 +97,7 @@ module _ (header : List Column) (names : FunctionNames) where
   -- each site's node was made
   site_made : (before : List Statement) → AreAccepted names (scope_of header) before → (s : ℕ) (x : SiteAt) → slice_get (sites header names before) s ≡ Some x → MadeBy before x.site.node ≡ true
   site_made [] good s x h = cc h
-  site_made (t ∷ before) good s x h =
-      joined (sites header names before) (own_sites header names before t) s x h (λ q. or_right (makes t x.site.node) (MadeBy before x.site.node) (site_made before good.1 s x q))
-      (λ k e q. or_left (makes t x.site.node) (MadeBy before x.site.node) (own_node before t k x good.0 q).0)
+  site_made (t ∷ before) good s x h = joined _ _ s x h (λ q. or_right _ _ (site_made before good.1 s x q)) (λ k e q. or_left _ _ (own_node before t k x good.0 q).0)
 
   own_apart : (before : List Statement) (s : Statement) → AreApart alike (own_sites header names before s)
   own_apart before s = grind (arith, one_apart, lists_apart)

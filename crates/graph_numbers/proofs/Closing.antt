@@ -136,7 +136,7 @@ module _ (fns : List Function) (columns : List Column) (row : List Value) (u : U
   -- the filters that are tried
   pub filters_demanded : (earlier : List Statement) → Extends earlier before → (node : List ℕ) → HasFilters (IsDemanded (filter_demands fns columns row (path earlier node) u)) site (filter_sites columns (fn_names fns) earlier node)
   filters_demanded [] e node = tt
-  filters_demanded (s ∷ earlier) e node = grind (arith, filter_statement, filters_demanded earlier, shorter)
+  filters_demanded (s ∷ earlier) e node = grind (arith, filter_statement, filters_demanded earlier (shorter s earlier before e))
 
   abbrev value : ℕ → Outcome ⊥ Value
   value = version_value ⊥ fns columns row u before

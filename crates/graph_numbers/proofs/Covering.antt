@@ -137,10 +137,9 @@ module _ (header : List Column) (names : FunctionNames) where
       → Numbered (Filter node parent expr label ∷ before) (filter_sites header names before parent ++ site_count header names before ∷ []) (Filter node parent expr label ∷ path before parent)
   with_own before node parent expr label h =
       let s : Statement = Filter node parent expr label in
-      let n : site_count header names before ≡ length (sites header names before) + 0 = omega arith in
       at_append _ (sites header names (s ∷ before)) (filter_sites header names before parent) (site_count header names before ∷ []) (conditions_on (path before parent)) (record { site = site_at node; at = path before parent; expr = expr } ∷ [])
       (further_list before s (filter_sites header names before parent) (path before parent) h)
-      ((site_in header names before parent (site_at node) expr, next_at (sites header names before) (own_sites header names before s) 0 _ n, refl), tt)
+      ((site_in header names before parent (site_at node) expr, next_at (sites header names before) (own_sites header names before s) 0 _ (omega arith), refl), tt)
 
   at_statement : (before : List Statement) (s : Statement) → Numbered before (filter_sites header names before (parent_of s)) (path before (parent_of s))
       → Numbered (s ∷ before) (filter_sites header names before (parent_of s) ++ own_filter_site s (site_count header names before)) (s ∷ path before (parent_of s))

@@ -1,5 +1,5 @@
 -- What a reading demands has with each site the sites of the columns that its evaluation meets.
-use Rattle.std.proofs.Common.{◌≡◌, ℕ, ◌+◌, Bool, List, [], ◌∷◌, ◌++◌, length, Option, Some, None, refl, ◌∙◌, ap, arith, slice_get, if◌then◌else◌, flat_map}
+use Rattle.std.proofs.Common.{◌≡◌, ℕ, ◌+◌, Bool, List, [], ◌∷◌, ◌++◌, Option, Some, None, refl, ◌∙◌, ap, arith, slice_get, if◌then◌else◌, flat_map}
 use Rattle.rdf_values.specs.{ActionAt, ActionKind, Column, fn_names, Function, makes, NamedTree, parent_of, path, place, same, Statement, target_of, Under, Value, VaryValues}
 use Rattle.rdf_values.specs.declared.scripts.statement.Statement.TheVariants.{Define, Redefine, Filter, Vary}
 use Rattle.rdf_values.specs.declared.scripts.statement.VaryValues.TheVariants.{Lists, Vector}
@@ -62,9 +62,8 @@ module _ (fns : List Function) (columns : List Column) (row : List Value) (u : U
       → own_sites columns (fn_names fns) earlier s ≡ site_in columns (fn_names fns) earlier parent (site_at node) expr ∷ []
       → slice_get (sites columns (fn_names fns) before) (site_count columns (fn_names fns) earlier) ≡ Some (site_in columns (fn_names fns) earlier parent (site_at node) expr)
   own_site earlier s parent node expr e own =
-      let n : site_count columns (fn_names fns) earlier ≡ length (sites columns (fn_names fns) earlier) + 0 = omega arith in
       site_kept columns (fn_names fns) (s ∷ earlier) before e (site_count columns (fn_names fns) earlier) _
-      (next_at (sites columns (fn_names fns) earlier) (own_sites columns (fn_names fns) earlier s) 0 _ n ∙ ap (λ xs. slice_get xs 0) own)
+      (next_at (sites columns (fn_names fns) earlier) (own_sites columns (fn_names fns) earlier s) 0 _ (omega arith) ∙ ap (λ xs. slice_get xs 0) own)
 
   tag_explained : (earlier : List Statement) (node parent vary : List ℕ) (cs tags : List (List ℕ)) (values : VaryValues) → Extends (Vary node parent cs values tags vary ∷ earlier) before → Reads earlier parent
       → (i k : ℕ) → AreExplained (tag_demands fns columns row (path earlier parent) u node values (column_demands fns columns row (path earlier parent) u) i k)
@@ -101,8 +100,7 @@ module _ (fns : List Function) (columns : List Column) (row : List Value) (u : U
   named_explained : (earlier : List Statement) → Extends earlier before → (node : List ℕ) → Reads earlier node
   named_explained [] e node name = none_explained
   named_explained (s ∷ earlier) e node name =
-      by_test (makes s node) (λ t. rw t (statement_explained earlier s e (named_explained earlier (shorter s earlier before e) (parent_of s)) name))
-      (λ t. rw t (named_explained earlier (shorter s earlier before e) node name))
+      let n = named_explained earlier (shorter s earlier before e) in by_test (makes s node) (λ t. rw t (statement_explained earlier s e (n (parent_of s)) name)) (λ t. rw t (n node name))
 
   -- reading a column
   pub column_explained : (earlier : List Statement) → Extends earlier before → (node name : List ℕ) → AreExplained (column_demands fns columns row (path earlier node) u name)
@@ -124,9 +122,7 @@ module _ (fns : List Function) (columns : List Column) (row : List Value) (u : U
 
   pub filters_explained : (earlier : List Statement) → Extends earlier before → (node : List ℕ) → AreExplained (filter_demands fns columns row (path earlier node) u)
   filters_explained [] e node = none_explained
-  filters_explained (s ∷ earlier) e node =
-      by_test (makes s node) (λ t. rw t (filter_statement earlier s e (filters_explained earlier (shorter s earlier before e) (parent_of s))))
-      (λ t. rw t (filters_explained earlier (shorter s earlier before e) node))
+  filters_explained (s ∷ earlier) e node = let f = filters_explained earlier (shorter s earlier before e) in by_test (makes s node) (λ t. rw t (filter_statement earlier s e (f (parent_of s)))) (λ t. rw t (f node))
 
   inputs_explained : (earlier : List Statement) → Extends earlier before → (node : List ℕ) (cs : List (List ℕ)) → AreExplained (input_demands fns columns row (path earlier node) u cs)
   inputs_explained earlier e node [] = none_explained

@@ -1,5 +1,5 @@
 -- A column that an evaluation over numbers meets is that of its name, and its version has its kind.
-use Rattle.std.proofs.Common.{◌≡◌, ◌≢◌, ℕ, Bool, true, false, List, [], ◌∷◌, refl, sym, ◌∙◌, ap, subst, nat_eq, if◌then◌else◌, filter, ◌+◌, map, length, Option, Some, None, Ok, arith, slice_get}
+use Rattle.std.proofs.Common.{◌≡◌, ◌≢◌, ℕ, Bool, true, false, List, [], ◌∷◌, refl, sym, ◌∙◌, ap, subst, nat_eq, if◌then◌else◌, filter, map, length, Option, Some, None, Ok, arith, slice_get}
 use Rattle.std.proofs.lemmas.Bool.Decides.{Decides-eqb}
 use Rattle.rdf_values.specs.{columns_in, EachColumn, same, Tree, Value, aliases, AreAccepted, check_target, ColType, Column, column_kind, first_refusal, FitsRow, fn_names, FunctionNames, kind_or_int, made_columns, makes, parent_of, path, place, scope_at, scope_of, Statement, target_of, Under, visible_columns}
 use Rattle.rdf_model.specs.{evaluate, Faults, Gives, is_met, is_need, IsKnown, Needs, Outcome, untyped, without, column_value, Dataset, FitsOutcome, with_needs}
@@ -138,8 +138,7 @@ module _ (header : List Column) (names : FunctionNames) where
       → (if b then Ok k else column_kind (made_columns names (scope_of header) (path before parent)) name) ≡ Ok t
       → slice_get (version_kinds header names (s ∷ before)) (if b then version_count header before else named_version header before parent name) ≡ Some t
   defined_kind before s parent name k t own above true h =
-      let n : version_count header before ≡ length (version_kinds header names before) + 0 = (let c = kind_count before in omega (arith, c)) in
-      next_at (version_kinds header names before) (own_kinds header names before s) 0 _ n ∙ ap (λ xs. slice_get xs 0) own ∙ ap Some (same_ok k t h)
+      next_at (version_kinds header names before) (own_kinds header names before s) 0 _ (omega (arith, kind_count before)) ∙ ap (λ xs. slice_get xs 0) own ∙ ap Some (same_ok k t h)
   defined_kind before s parent name k t own above false h = kept_at (version_kinds header names before) (own_kinds header names before s) _ t (above name t h)
 
   vary_kind : (before : List Statement) (s : Statement) (parent name : List ℕ) (cs : List (List ℕ)) (t : ColType)
@@ -150,11 +149,10 @@ module _ (header : List Column) (names : FunctionNames) where
       → slice_get (version_kinds header names (s ∷ before)) (version_or (version_count header before) o (named_version header before parent name)) ≡ Some t
   vary_kind before s parent name cs t own ok above h None p = kept_at (version_kinds header names before) (own_kinds header names before s) _ t (above name t h)
   vary_kind before s parent name cs t own ok above h (Some i) p =
-      let n : version_count header before + i ≡ length (version_kinds header names before) + i = (let c = kind_count before in omega (arith, c)) in
       let known : column_kind (scope_at names (scope_of header) before parent) name ≡ Ok t =
       passed_over (λ a. kind_or_int (column_kind (made_columns names (scope_of header) (path before parent)) (target_of (path before parent) a))) (made_columns names (scope_of header) (path before parent)) name t (aliases (path before parent))
       (target_is_none (visible_columns names (scope_of header) (path before parent)) (path before parent) cs name i p ok) h in
-      next_at (version_kinds header names before) (own_kinds header names before s) i _ n ∙ ap (λ xs. slice_get xs i) own
+      next_at (version_kinds header names before) (own_kinds header names before s) i _ (omega (arith, kind_count before)) ∙ ap (λ xs. slice_get xs i) own
       ∙ mapped_at (λ c. kind_or_int (column_kind (scope_at names (scope_of header) before parent) c)) cs i name (place_gives name cs i p) ∙ ap (λ r. Some (kind_or_int r)) known
 
   at_statement : (before : List Statement) (s : Statement) (name : List ℕ) (t : ColType) → AreAccepted names (scope_of header) (s ∷ before) → Above before (parent_of s)

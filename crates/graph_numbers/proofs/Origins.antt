@@ -92,9 +92,7 @@ module _ {A : Type 0} (columns : List Column) (names : FunctionNames) (u : Under
 
   -- the only site of a statement, as it is booked
   own_site : (s : Statement) (before : List Statement) (x : SiteAt) → own_sites columns names before s ≡ x ∷ [] → slice_get (sites columns names (s ∷ before)) (site_count columns names before) ≡ Some x
-  own_site s before x its =
-      let m : site_count columns names before ≡ length (sites columns names before) + 0 = omega arith in
-      next_at (sites columns names before) (own_sites columns names before s) 0 _ m ∙ ap (λ xs. slice_get xs 0) its
+  own_site s before x its = next_at (sites columns names before) (own_sites columns names before s) 0 _ (omega arith) ∙ ap (λ xs. slice_get xs 0) its
 
   -- the source of a statement's version at a place
   own_version_source : (s : Statement) (before : List Statement) (i n : ℕ) → n ≡ version_count columns before + i → slice_get (sources columns names u (s ∷ before)) n ≡ slice_get (own_list before s) i

@@ -1,5 +1,5 @@
 -- Filters, actions and reports by numbers are those of the paths.
-use Rattle.std.proofs.Common.{◌≡◌, ℕ, ◌+◌, false, List, [], ◌∷◌, ◌++◌, length, map, Option, Some, None, Ok, Err, Result, refl, sym, ap, arith, if◌then◌else◌}
+use Rattle.std.proofs.Common.{◌≡◌, ℕ, false, List, [], ◌∷◌, ◌++◌, map, Option, Some, None, Ok, Err, Result, refl, sym, ap, arith, if◌then◌else◌}
 use Rattle.std.specs.Prelude.{⊤}
 use Rattle.std.proofs.lemmas.List.{append-nil}
 use Rattle.rdf_values.specs.{ActionKind, AreAccepted, bookings, check_columns, check_edges, check_node, check_passes, check_results, ColType, Column, column_kind, columns_of, fn_names, Function, GraphCause, may_begin, NamedTree, parent_of, path, permitted_kinds, scope_at, scope_of, Statement, Under, Value}
@@ -28,10 +28,9 @@ module _ (M : Type 0) (fns : List Function) (columns : List Column) (row : List 
   at_filter : (earlier : List Statement) (node parent : List ℕ) (expr : NamedTree) (label : Option (List ℕ)) → Extends (Filter node parent expr label ∷ earlier) before
       → numbered (site_count columns (fn_names fns) earlier) ≡ expression_value fns (column_value fns columns row (path earlier parent) u) expr
   at_filter earlier node parent expr label e =
-      let n : site_count columns (fn_names fns) earlier ≡ length (sites columns (fn_names fns) earlier) + 0 = omega arith in
       ap (site_value (λ x. site_outcome fns columns row x u))
       (site_kept columns (fn_names fns) (Filter node parent expr label ∷ earlier) before e (site_count columns (fn_names fns) earlier) (site_in columns (fn_names fns) earlier parent (site_at node) expr)
-      (next_at (sites columns (fn_names fns) earlier) (site_in columns (fn_names fns) earlier parent (site_at node) expr ∷ []) 0 _ n))
+      (next_at (sites columns (fn_names fns) earlier) (site_in columns (fn_names fns) earlier parent (site_at node) expr ∷ []) 0 _ (omega arith)))
 
   pub through_statement : (earlier : List Statement) (s : Statement) → Extends (s ∷ earlier) before
       → through fns columns row {M = M} (path earlier (parent_of s)) u ≡ through_sites numbered (filter_sites columns (fn_names fns) earlier (parent_of s))

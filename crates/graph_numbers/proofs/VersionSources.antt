@@ -92,9 +92,7 @@ module _ (header : List Column) (names : FunctionNames) (script : List Statement
       × (((k : ℕ) → k < tags → v ≡ Some (first + k) → ⊥) → src ≡ b)
 
   says_further : (before : List Statement) (s : Statement) (x : Version) (src : Source) → Says before x src → Says (s ∷ before) x src
-  says_further before s (Version.Cell col) src h = h
-  says_further before s (Version.Computed site) src h = h
-  says_further before s (Version.Varied below first tags its vector) src h = (h.0, source_kept header names under before (s ∷ before) (further s itself) below h.0 h.1, h.2, h.3)
+  says_further before s x src h = let kept' = source_kept header names under before (s ∷ before) (further s itself) in grind (arith, kept')
 
   abbrev HasSaid : List Statement → List Source → Version → ℕ → Type 0
   HasSaid before list x c = (src : Source) × (slice_get list c ≡ Some src) × Says before x src

@@ -1,5 +1,5 @@
 -- What holds of each named filter and of each result, place by place; the sites of filters are sites.
-use Rattle.std.proofs.Common.{◌≡◌, ◌⊎◌, inl, inr, ℕ, zero, suc, ◌+◌, Bool, true, false, List, [], ◌∷◌, ◌++◌, length, Some, sym, ap, arith, slice_get, zero-add, map, ◌<◌, ◌≤◌, length-append}
+use Rattle.std.proofs.Common.{◌≡◌, ◌⊎◌, inl, inr, ℕ, ◌+◌, Bool, true, false, List, [], ◌∷◌, ◌++◌, length, Some, sym, ap, arith, slice_get, zero-add, map, ◌<◌, ◌≤◌, length-append}
 use Rattle.rdf_values.specs.{place, same, ActionAt, ActionKind, Column, columns_of, covered, FunctionNames, NamedTree, path, ReportOn, Statement, parent_of}
 use Rattle.rdf_model.proofs.Accepted.{names_equal, place_after}
 use Rattle.rdf_values.specs.declared.scripts.statement.Statement.TheVariants.{Filter, Action, Report}
@@ -17,8 +17,7 @@ next_at (x ∷ xs) ys k n h = grind (arith, next_at xs ys k)
 -- an element stands in the first list, or in the second one
 pub joined : {A P : Type 0} (xs ys : List A) (n : ℕ) (x : A) → slice_get (xs ++ ys) n ≡ Some x → (slice_get xs n ≡ Some x → P) → ((k : ℕ) → n ≡ length xs + k → slice_get ys k ≡ Some x → P) → P
 joined [] ys n x h first second = second n (sym (zero-add n)) h
-joined (y ∷ xs) ys zero x h first second = first h
-joined (y ∷ xs) ys (suc n) x h first second = joined xs ys n x h first (λ k e q. second k (omega (arith, e)) q)
+joined {P = P} (y ∷ xs) ys n x h first second = grind (arith, joined {P = P} xs ys)
 
 pub of_joined : {A : Type 0} (xs ys : List A) (n : ℕ) (x : A) → slice_get (xs ++ ys) n ≡ Some x → (slice_get xs n ≡ Some x) ⊎ ((k : ℕ) × (n ≡ length xs + k) × (slice_get ys k ≡ Some x))
 of_joined xs ys n x h = joined xs ys n x h (λ q. inl q) (λ k e q. inr (k, e, q))
