@@ -60,8 +60,7 @@ module _ (header : List Column) (names : FunctionNames) where
 
     list_places : (i k l : ℕ) (es : List NamedTree) (x : SiteAt) → slice_get (of_list i k es) l ≡ Some x → (x.site.node ≡ node) × (x.site.column ≡ i) × (x.site.tag ≡ k + l)
     list_places i k l [] x h = cc h
-    list_places i k zero (e ∷ es) x h = grind arith
-    list_places i k (suc l) (e ∷ es) x h = let p = list_places i (suc k) l es x h in let z : suc k + l ≡ k + suc l = omega arith in (p.0, p.1, p.2 ∙ z)
+    list_places i k l (e ∷ es) x h = grind (arith, λ (m : ℕ). list_places i (suc k) m es x)
 
     lists_places : (i l : ℕ) (lists : List (List NamedTree)) (x : SiteAt) → slice_get (of_lists i lists) l ≡ Some x → (x.site.node ≡ node) × (i ≤ x.site.column)
     lists_places i l [] x h = cc h

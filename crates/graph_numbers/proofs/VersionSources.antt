@@ -16,8 +16,7 @@ use Rattle.graph_numbers.proofs.Meeting.{kind_count, visible_kind}
 -- a name that stands among others has a place
 place_found : (name : List ℕ) (names : List (List ℕ)) (k : ℕ) → slice_get names k ≡ Some name → place (same name) names ≡ None → ⊥
 place_found name [] k h none = cc h
-place_found name (x ∷ xs) zero h none = grind (arith, same_as_itself)
-place_found name (x ∷ xs) (suc k) h none = grind (arith, place_found name xs k h)
+place_found name (x ∷ xs) k h none = grind (arith, same_as_itself, λ (j : ℕ). place_found name xs j)
 
 number_at : {A : Type 0} (n : ℕ) (xs : List A) (k : ℕ) → k < length xs → slice_get (numbers_from n xs) k ≡ Some (n + k)
 number_at n [] k lt = absurd (omega (arith, lt))
