@@ -1,5 +1,5 @@
 -- Packed bytes give their numbers back.
-use Rattle.std.proofs.Common.{◌≡◌, ◌≤◌, ◌<◌, ◌+◌, ◌*◌, ◌%◌, ◌^◌, ℕ, zero, suc, ℤ, pos, ◌+ℤ◌, ◌-ℤ◌, ◌≤ℤ◌, List, [], ◌∷◌, ◌++◌, length, drop, take, Some, refl, sym, ap, ap₂, ◌∙◌, ◌⊎◌, arith, append_assoc, length-append, unsigned_abs, slice_get, All}
+use Rattle.std.proofs.Common.{◌≡◌, ◌≤◌, ◌<◌, ◌+◌, ◌*◌, ◌%◌, ◌^◌, ℕ, zero, suc, ℤ, pos, ◌+ℤ◌, ◌-ℤ◌, ◌≤ℤ◌, List, [], ◌∷◌, ◌++◌, length, drop, take, Some, refl, sym, ap, ap₂, ◌∙◌, arith, append_assoc, length-append, unsigned_abs, slice_get, All}
 use Rattle.lemmas.proofs.{All-from_recursion, All-head, All-tail, AllByRecursion, clamps, drop-append_seam, drop_plus, FitsSigned, from_le_bytes-to_le_bytes_2, from_le_bytes-to_le_bytes_4, from_le_bytes-to_le_bytes_8, int_max, int_min, ints, nat_tests, recursion_from_All, to_le_bytes}
 use mir.Syntax.{w64}
 use native.Mathlib.Nat.{add-mul}
@@ -7,9 +7,6 @@ use Rattle.columns.specs.{greatest_from, IsWidth, least_from, low_bytes, number_
 use Rattle.columns.specs.declared.packing.Packing.{Packing}
 
 -- ---- widths
-
-abbrev OneOf : ℕ → Type 0
-OneOf w = (w ≡ 0) ⊎ (w ≡ 1) ⊎ (w ≡ 2) ⊎ (w ≡ 4) ⊎ (w ≡ 8)
 
 pub width_is : (n : ℕ) → IsWidth (width_of n)
 width_is n = grind arith

@@ -13,7 +13,8 @@ use Rattle.graph_numbers.proofs.Walks.{by_test, joined, only_at}
 place_is : {A : Type 0} (test : A → Bool) (xs : List A) (s : ℕ) (x : A) → slice_get xs s ≡ Some x → test x ≡ true → ((t : ℕ) (y : A) → t < s → slice_get xs t ≡ Some y → test y ≡ false) → place test xs ≡ Some s
 place_is test [] s x h k before = cc h
 place_is test (y ∷ xs) zero x h k before = grind arith
-place_is test (y ∷ xs) (suc s) x h k before = let e = before 0 y (omega arith) refl in grind (arith, e, place_is test xs s x h k (λ t z l q. before (suc t) z (omega (arith, l)) q))
+place_is test (y ∷ xs) (suc s) x h k before =
+    let e = before 0 y (omega arith) refl in grind (arith, e, place_is test xs s x h k (λ t z l q. before (suc t) z (omega (arith, l)) q))
 
 abbrev pub AreApart : {A : Type 0} → (A → A → Bool) → List A → Type 0
 AreApart {A} alike xs = (s t : ℕ) (x y : A) → t < s → slice_get xs s ≡ Some x → slice_get xs t ≡ Some y → alike x y ≡ false

@@ -125,7 +125,8 @@ module _ (fns : List Function) (columns : List Column) (row : List Value) (u : U
       let n : ℕ = site_count columns (fn_names fns) earlier in
       let whole : List Demand = filter_demands fns columns row (Filter node parent expr label ∷ path earlier parent) u in
       let here_is : IsDemanded own n = (site_in columns (fn_names fns) earlier parent (site_at node) expr, own_site fns columns row u before earlier (Filter node parent expr label) parent node expr e refl, here) in
-      let t : IfPassed (through fns columns row (path earlier parent) u) (IsDemanded whole n) = grind (arith, then_wider, demanded_wider, in_right, after_passed, here_is) in
+      let t : IfPassed (through fns columns row (path earlier parent) u) (IsDemanded whole n) =
+      grind (arith, then_wider, demanded_wider, in_right, after_passed, here_is) in
       more_filters (IsDemanded whole) site (filter_sites columns (fn_names fns) earlier parent) n
       (wider_filters (IsDemanded above) (IsDemanded whole) (demanded_wider above whole (λ d k. in_left above _ k)) site (filter_sites columns (fn_names fns) earlier parent) h)
       (subst (λ (o : Outcome ⊥ Bool). IfPassed o (IsDemanded whole n)) (through_is ⊥ fns columns row u before earlier (shorter (Filter node parent expr label) earlier before e) parent) t)

@@ -100,7 +100,8 @@ module _ (fns : List Function) (columns : List Column) (row : List Value) (u : U
   named_explained : (earlier : List Statement) → Extends earlier before → (node : List ℕ) → Reads earlier node
   named_explained [] e node name = none_explained
   named_explained (s ∷ earlier) e node name =
-      let n = named_explained earlier (shorter s earlier before e) in by_test (makes s node) (λ t. rw t (statement_explained earlier s e (n (parent_of s)) name)) (λ t. rw t (n node name))
+      by_test (makes s node) (λ t. rw t (statement_explained earlier s e (named_explained earlier (shorter s earlier before e) (parent_of s)) name))
+      (λ t. rw t (named_explained earlier (shorter s earlier before e) node name))
 
   -- reading a column
   pub column_explained : (earlier : List Statement) → Extends earlier before → (node name : List ℕ) → AreExplained (column_demands fns columns row (path earlier node) u name)
@@ -122,7 +123,9 @@ module _ (fns : List Function) (columns : List Column) (row : List Value) (u : U
 
   pub filters_explained : (earlier : List Statement) → Extends earlier before → (node : List ℕ) → AreExplained (filter_demands fns columns row (path earlier node) u)
   filters_explained [] e node = none_explained
-  filters_explained (s ∷ earlier) e node = let f = filters_explained earlier (shorter s earlier before e) in by_test (makes s node) (λ t. rw t (filter_statement earlier s e (f (parent_of s)))) (λ t. rw t (f node))
+  filters_explained (s ∷ earlier) e node =
+      by_test (makes s node) (λ t. rw t (filter_statement earlier s e (filters_explained earlier (shorter s earlier before e) (parent_of s))))
+      (λ t. rw t (filters_explained earlier (shorter s earlier before e) node))
 
   inputs_explained : (earlier : List Statement) → Extends earlier before → (node : List ℕ) (cs : List (List ℕ)) → AreExplained (input_demands fns columns row (path earlier node) u cs)
   inputs_explained earlier e node [] = none_explained

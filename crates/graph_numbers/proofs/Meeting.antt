@@ -138,7 +138,8 @@ module _ (header : List Column) (names : FunctionNames) where
       → (if b then Ok k else column_kind (made_columns names (scope_of header) (path before parent)) name) ≡ Ok t
       → slice_get (version_kinds header names (s ∷ before)) (if b then version_count header before else named_version header before parent name) ≡ Some t
   defined_kind before s parent name k t own above true h =
-      next_at (version_kinds header names before) (own_kinds header names before s) 0 _ (omega (arith, kind_count before)) ∙ ap (λ xs. slice_get xs 0) own ∙ ap Some (same_ok k t h)
+      next_at (version_kinds header names before) (own_kinds header names before s) 0 _ (omega (arith, kind_count before))
+      ∙ ap (λ xs. slice_get xs 0) own ∙ ap Some (same_ok k t h)
   defined_kind before s parent name k t own above false h = kept_at (version_kinds header names before) (own_kinds header names before s) _ t (above name t h)
 
   vary_kind : (before : List Statement) (s : Statement) (parent name : List ℕ) (cs : List (List ℕ)) (t : ColType)

@@ -140,7 +140,8 @@ module _ (header : List Column) (names : FunctionNames) (script : List Statement
         subst (λ (y : Version). Says before y (own_source values (site_count header names before) i (length tags) (own_place under vary tags) b.0)) is
             (said_by_vary before values (named_version header before parent name) (length (variations before)) (site_count header names before) i tags (own_place under vary tags) b.0 own b.1),
       )
-  said_by_columns before ok parent values tags vary own i (suc c) (name ∷ cs) x free h = grind (arith, both_none, said_by_columns before ok parent values tags vary own (suc i) c cs x)
+  said_by_columns before ok parent values tags vary own i (suc c) (name ∷ cs) x free h =
+      grind (arith, both_none, said_by_columns before ok parent values tags vary own (suc i) c cs x)
 
   said_by_site : (before : List Statement) (c : ℕ) (x : Version) → slice_get (Version.Computed (site_count header names before) ∷ []) c ≡ Some x → HasSaid before (Source.Site (site_count header names before) ∷ []) x c
   said_by_site before zero x h = let is : Version.Computed (site_count header names before) ≡ x = cc h in (Source.Site (site_count header names before), refl, subst (λ (y : Version). Says before y (Source.Site (site_count header names before))) is refl)
