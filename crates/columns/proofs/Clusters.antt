@@ -73,11 +73,9 @@ above (x ∷ xs) lo to h zero d l = h.1
 above (x ∷ xs) lo to h (suc j) d l = let more = above xs x to h.2 j d (omega (arith, l)) in let some = h.1 in omega (arith, more, some)
 
 pub ends_rise : (ends : List ℕ) (lo to : ℕ) → Lead lo to (ranges_to lo ends) → (i j d : ℕ) → i ≤ j → j < length ends → get_or ends i d ≤ get_or ends j d
-ends_rise [] lo to h i j d le l = absurd (omega (arith, l))
-ends_rise (x ∷ xs) lo to h zero zero d le l = omega arith
 ends_rise (x ∷ xs) lo to h zero (suc j) d le l = let more = above xs x to h.2 j d (omega (arith, l)) in omega (arith, more)
-ends_rise (x ∷ xs) lo to h (suc i) zero d le l = absurd (omega (arith, le))
 ends_rise (x ∷ xs) lo to h (suc i) (suc j) d le l = ends_rise xs x to h.2 i j d (omega (arith, le)) (omega (arith, l))
+ends_rise xs lo to h i j d le l = grind arith
 
 first_by : (ends : List ℕ) (i number place : ℕ) → ((k : ℕ) → k < i → get_or ends k 0 ≤ number) → ((k : ℕ) → i ≤ k → k < length ends → number < get_or ends k 0) → place < length ends
     → get_or (0 ∷ ends) place 0 ≤ number → number < get_or ends place 0 → i ≡ place
