@@ -116,7 +116,8 @@ packing_width zs = grind (arith, width_is)
 pub length-packed : (p : Packing) (zs : List ℤ) → IsWidth p.width → length (packed_by p zs) ≡ length zs * p.width
 length-packed p [] w = omega arith
 length-packed p (z ∷ zs) w =
-    omega (arith, add-mul (length zs) 1 p.width, length-append (low_bytes p.width (unsigned_abs (z -ℤ p.least))) (packed_by p zs), length-low_bytes p.width (unsigned_abs (z -ℤ p.least)) w, length-packed p zs w)
+    let first = low_bytes p.width (unsigned_abs (z -ℤ p.least)) in
+    omega (arith, add-mul (length zs) 1 p.width, length-append first (packed_by p zs), length-low_bytes p.width (unsigned_abs (z -ℤ p.least)) w, length-packed p zs w)
 
 -- the value at a place of those that the bytes spell
 pub value_at : (least : ℤ) (w n : ℕ) (bs : List ℕ) (i : ℕ) → i < n → slice_get (values_in least w n bs) i ≡ Some (least +ℤ pos (number_in w (drop (i * w) bs)))

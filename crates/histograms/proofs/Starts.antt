@@ -23,7 +23,8 @@ rises-adjacent xs false h = sym (rises_not xs h.0 (let l = h.1 in omega arith) (
 rises_head : (x : ℤ) (xs : List ℤ) → rises (x ∷ xs) ≡ true → (k : ℕ) (d : ℤ) → k < length xs → x <ℤ get_or xs k d
 rises_head x [] h k d l = absurd (omega arith)
 rises_head x (y ∷ zs) h zero d l = let first = (both_true (int_lt x y) (rises (y ∷ zs)) h).0 in grind (arith, ints)
-rises_head x (y ∷ zs) h (suc k) d l = let first = (both_true (int_lt x y) (rises (y ∷ zs)) h) in let more = rises_head y zs first.1 k d (omega arith) in grind (arith, ints, first)
+rises_head x (y ∷ zs) h (suc k) d l =
+    let first = both_true (int_lt x y) (rises (y ∷ zs)) h in let more = rises_head y zs first.1 k d (omega arith) in grind (arith, ints, first)
 
 rises_tail : (x : ℤ) (xs : List ℤ) → rises (x ∷ xs) ≡ true → rises xs ≡ true
 rises_tail x xs h = grind (arith, both_true)
