@@ -1,5 +1,5 @@
 -- The ranges of clusters: of one size, by their ends, one behind the other, and along marks.
-use Rattle.std.proofs.Common.{◌≡◌, ◌≤◌, ◌<◌, ◌+◌, ◌*◌, ◌/◌, ℕ, List, [], length, min, Some, arith, refl, ◌∙◌, ap, slice_get, ◌≢◌, ◌-◌, zero, suc, true, false, leb, ◌∷◌, ◌++◌, get_or, sym, ◌⊎◌, inl, inr, if◌then◌else◌, Bool, subst, nat_eq, nat_lt}
+use Rattle.std.proofs.Common.{◌≡◌, ◌≤◌, ◌<◌, ◌+◌, ◌*◌, ◌/◌, ℕ, List, [], length, min, Some, arith, refl, ◌∙◌, ap, slice_get, ◌≢◌, ◌-◌, zero, suc, true, false, leb, ◌∷◌, ◌++◌, get_or, sym, ◌⊎◌, inl, inr, if◌then◌else◌, Bool, nat_eq, nat_lt}
 use Rattle.lemmas.proofs.{div_ceil, div_ceil_times, length-map, mul-le, mul_comm, slice_get-map, AllWithin, le_or_lt, nat_tests, IsNonDecreasingBy, lt_or_le, AllPairs-from_increasing, Decides-eqb, IsStrictlyIncreasing, append-nil, false_from_ne_true, get_or_default, list_any, list_any_at, list_any_none, or_fails, or_left, or_right}
 use native.Mathlib.Nat.{add-mul}
 use Rattle.rdf_values.proofs.UnionLemmas.{length-below, slice_get-below}
@@ -73,11 +73,9 @@ above (x ∷ xs) lo to h zero d l = h.1
 above (x ∷ xs) lo to h (suc j) d l = let more = above xs x to h.2 j d (omega (arith, l)) in let some = h.1 in omega (arith, more, some)
 
 pub ends_rise : (ends : List ℕ) (lo to : ℕ) → Lead lo to (ranges_to lo ends) → (i j d : ℕ) → i ≤ j → j < length ends → get_or ends i d ≤ get_or ends j d
-ends_rise [] lo to h i j d le l = absurd (omega (arith, l))
-ends_rise (x ∷ xs) lo to h zero zero d le l = omega arith
 ends_rise (x ∷ xs) lo to h zero (suc j) d le l = let more = above xs x to h.2 j d (omega (arith, l)) in omega (arith, more)
-ends_rise (x ∷ xs) lo to h (suc i) zero d le l = absurd (omega (arith, le))
 ends_rise (x ∷ xs) lo to h (suc i) (suc j) d le l = ends_rise xs x to h.2 i j d (omega (arith, le)) (omega (arith, l))
+ends_rise xs lo to h i j d le l = grind arith
 
 first_by : (ends : List ℕ) (i number place : ℕ) → ((k : ℕ) → k < i → get_or ends k 0 ≤ number) → ((k : ℕ) → i ≤ k → k < length ends → number < get_or ends k 0) → place < length ends
     → get_or (0 ∷ ends) place 0 ≤ number → number < get_or ends place 0 → i ≡ place
@@ -154,13 +152,7 @@ at_or_after next k h = grind arith
 
 -- no mark is the entry, where the first that isn't below is not
 pub not_marked : (marks : List ℕ) (next entry : ℕ) → IsStrictlyIncreasing marks → IsPassed marks next entry → IsAhead marks next entry → (next < length marks → get_or marks next 0 ≢ entry) → list_any (nat_eq entry) marks ≡ false
-not_marked marks next entry rising passed ahead other = any_none marks entry (λ k l. go k l (lt_or_le k next))
-  where
-    after : (k : ℕ) → k < length marks → (k ≡ next) ⊎ (next < k) → get_or marks k 0 ≢ entry
-    after k l h = grind (arith, AllPairs-from_increasing)
-
-    go : (k : ℕ) → k < length marks → (k < next) ⊎ (next ≤ k) → get_or marks k 0 ≢ entry
-    go k l h = grind (arith, after, at_or_after)
+not_marked marks next entry rising passed ahead other = grind (arith, any_none, lt_or_le, at_or_after, AllPairs-from_increasing)
 
 pub marked_is : (marks : List ℕ) (next entry : ℕ) → IsStrictlyIncreasing marks → IsPassed marks next entry → IsAhead marks next entry → next < length marks → nat_eq (get_or marks next 0) entry ≡ list_any (nat_eq entry) marks
 marked_is marks next entry rising passed ahead l = grind (arith, list_any, any_at, not_marked)
@@ -169,19 +161,10 @@ pub none_left : (marks : List ℕ) (next entry : ℕ) → IsStrictlyIncreasing m
 none_left marks next entry rising passed ahead l = grind (arith, nat_tests, not_marked)
 
 pub ahead_one : (marks : List ℕ) (next entry : ℕ) → IsStrictlyIncreasing marks → IsAhead marks next (entry - 1) → next < length marks → IsAhead marks (next + 1) entry
-ahead_one marks next entry rising ahead l = record {
-  above = λ k h q.
-      let more = AllPairs-from_increasing marks rising next k 0 (omega (arith, h)) q in
-      let low = ahead.above next (omega arith) l in
-      omega (arith, more, low);
-}
+ahead_one marks next entry rising ahead l = grind (arith, AllPairs-from_increasing)
 
 pub ahead_still : (marks : List ℕ) (next entry : ℕ) → IsStrictlyIncreasing marks → (next < length marks → entry ≤ get_or marks next 0) → IsAhead marks next entry
-ahead_still marks next entry rising h = record { above = λ k q l. go k l (at_or_after next k q) }
-  where
-    go : (k : ℕ) → k < length marks → (k ≡ next) ⊎ (next < k) → entry ≤ get_or marks k 0
-    go k l (inl e) = subst (λ (n : ℕ). entry ≤ get_or marks n 0) (sym e) (h (omega (arith, e, l)))
-    go k l (inr q) = let more = AllPairs-from_increasing marks rising next k 0 q l in let low = h (omega (arith, q, l)) in omega (arith, more, low)
+ahead_still marks next entry rising h = grind (arith, at_or_after, AllPairs-from_increasing)
 
 -- ---- the ranges so far
 

@@ -167,12 +167,8 @@ entry_here n size marks numbers values entry c s e l held at =
 
 one_list : (xs ys : List ℤ) → map (λ z. Some (Value.Int z)) xs ≡ map (λ z. Some (Value.Int z)) ys → xs ≡ ys
 one_list [] [] h = refl
-one_list [] (y ∷ ys) h = cc h
-one_list (x ∷ xs) [] h = cc h
-one_list (x ∷ xs) (y ∷ ys) h =
-    let first : x ≡ y = cc h in
-    let rest : map (λ z. Some (Value.Int z)) xs ≡ map (λ z. Some (Value.Int z)) ys = cc h in
-    ap₂ (λ a b. a ∷ b) first (one_list xs ys rest)
+one_list (x ∷ xs) (y ∷ ys) h = grind (arith, one_list xs ys)
+one_list xs ys h = cc h
 
 pub cluster_numbers : (table : TableView) (col : ℕ) (spans : List Span) (values : List (List ℤ)) (numbers : List ℤ) (c : ℕ) (s : Span) → IsIntColumn table col (joined values) → IsIntColumn table col numbers
     → values ≡ cluster_values spans (joined values) → slice_get spans c ≡ Some s → get_or values c [] ≡ take (s.hi - s.lo) (drop s.lo numbers)
@@ -182,23 +178,18 @@ cluster_numbers table col spans values numbers c s h k e at =
 
 -- each of the columns that are taken in turn keeps so many values
 pub keep_next : (n : ℕ) (taken : List ColumnPieces) (x : ColumnPieces) (rest all : List ColumnPieces) → Keep n (map whole all) → all ≡ taken ++ x ∷ rest → count (whole x) ≡ n
-keep_next n taken x rest all h e = go taken (rw e at h)
-  where
-    go : (ys : List ColumnPieces) → Keep n (map whole (ys ++ x ∷ rest)) → count (whole x) ≡ n
-    go [] k = k.0
-    go (y ∷ ys) k = go ys k.1
+keep_next n [] x rest all h e = (rw e at h).0
+keep_next n (y ∷ ys) x rest all h e = keep_next n ys x rest (ys ++ x ∷ rest) (rw e at h).1 refl
 
 -- ---- columns in two halves
 
 pub keep_front : (n k : ℕ) (all : List ColumnPieces) → Keep n (map whole all) → Keep n (map whole (take k all))
-keep_front n zero all h = tt
-keep_front n (suc k) [] h = tt
 keep_front n (suc k) (x ∷ xs) h = (h.0, keep_front n k xs h.1)
+keep_front n k all h = grind arith
 
 pub keep_back : (n k : ℕ) (all : List ColumnPieces) → Keep n (map whole all) → Keep n (map whole (drop k all))
-keep_back n zero all h = h
-keep_back n (suc k) [] h = tt
 keep_back n (suc k) (x ∷ xs) h = keep_back n k xs h.1
+keep_back n k all h = grind arith
 
 pub halves_joined : (k : ℕ) (all first last : List ColumnPieces) (front back both : List Kept) → first ≡ take k all → last ≡ drop k all → map cells_of front ≡ map whole first → map cells_of back ≡ map whole last → both ≡ front ++ back
     → map cells_of both ≡ map whole all

@@ -1,5 +1,5 @@
 -- Packed bytes give their numbers back.
-use Rattle.std.proofs.Common.{◌≡◌, ◌≤◌, ◌<◌, ◌+◌, ◌*◌, ◌%◌, ◌^◌, ℕ, zero, suc, ℤ, pos, ◌+ℤ◌, ◌-ℤ◌, ◌≤ℤ◌, List, [], ◌∷◌, ◌++◌, length, drop, take, Some, refl, sym, ap, ap₂, ◌∙◌, ◌⊎◌, arith, append_assoc, length-append, unsigned_abs, slice_get, All}
+use Rattle.std.proofs.Common.{◌≡◌, ◌≤◌, ◌<◌, ◌*◌, ◌%◌, ◌^◌, ℕ, zero, suc, ℤ, pos, ◌+ℤ◌, ◌-ℤ◌, ◌≤ℤ◌, List, [], ◌∷◌, ◌++◌, length, drop, take, Some, refl, sym, ap, ap₂, ◌∙◌, arith, append_assoc, length-append, unsigned_abs, slice_get, All}
 use Rattle.lemmas.proofs.{All-from_recursion, All-head, All-tail, AllByRecursion, clamps, drop-append_seam, drop_plus, FitsSigned, from_le_bytes-to_le_bytes_2, from_le_bytes-to_le_bytes_4, from_le_bytes-to_le_bytes_8, int_max, int_min, ints, nat_tests, recursion_from_All, to_le_bytes}
 use mir.Syntax.{w64}
 use native.Mathlib.Nat.{add-mul}
@@ -7,9 +7,6 @@ use Rattle.columns.specs.{greatest_from, IsWidth, least_from, low_bytes, number_
 use Rattle.columns.specs.declared.packing.Packing.{Packing}
 
 -- ---- widths
-
-abbrev OneOf : ℕ → Type 0
-OneOf w = (w ≡ 0) ⊎ (w ≡ 1) ⊎ (w ≡ 2) ⊎ (w ≡ 4) ⊎ (w ≡ 8)
 
 pub width_is : (n : ℕ) → IsWidth (width_of n)
 width_is n = grind arith
@@ -99,10 +96,7 @@ AreWords zs = All (FitsSigned w64) zs
 
 each_fits : (a b : ℤ) (xs : List ℤ) → FitsSigned w64 a → FitsSigned w64 b → AllByRecursion (Between a b) xs → AllByRecursion (FitsAbove (record { least = a; width = width_of (unsigned_abs (b -ℤ a)) })) xs
 each_fits a b [] f g h = tt
-each_fits a b (x ∷ xs) f g h =
-    let near = nearer a b x h.0.0 h.0.1 in
-    let wide = fits_width (unsigned_abs (b -ℤ a)) (far a b f g) in
-    ((h.0.0, omega (arith, near, wide)), each_fits a b xs f g h.1)
+each_fits a b (x ∷ xs) f g h = grind (arith, nearer, fits_width, far, each_fits a b xs f g h.1)
 
 pub packing_fits : (zs : List ℤ) → AreWords zs → All (FitsAbove (packing_of zs)) zs
 packing_fits [] h = λ k d l. absurd (omega (arith, l))
@@ -122,18 +116,11 @@ packing_width zs = grind (arith, width_is)
 pub length-packed : (p : Packing) (zs : List ℤ) → IsWidth p.width → length (packed_by p zs) ≡ length zs * p.width
 length-packed p [] w = omega arith
 length-packed p (z ∷ zs) w =
-    let one = length-low_bytes p.width (unsigned_abs (z -ℤ p.least)) w in
-    let more = length-packed p zs w in
-    let wide : suc (length zs) * p.width ≡ p.width + length zs * p.width = suc_times (length zs) p.width in
-    omega (arith, length-append (low_bytes p.width (unsigned_abs (z -ℤ p.least))) (packed_by p zs), one, more, wide)
-  where
-    suc_times : (n w : ℕ) → suc n * w ≡ w + n * w
-    suc_times n w = omega (arith, add-mul n 1 w)
+    let first = low_bytes p.width (unsigned_abs (z -ℤ p.least)) in
+    omega (arith, add-mul (length zs) 1 p.width, length-append first (packed_by p zs), length-low_bytes p.width (unsigned_abs (z -ℤ p.least)) w, length-packed p zs w)
 
 -- the value at a place of those that the bytes spell
 pub value_at : (least : ℤ) (w n : ℕ) (bs : List ℕ) (i : ℕ) → i < n → slice_get (values_in least w n bs) i ≡ Some (least +ℤ pos (number_in w (drop (i * w) bs)))
 value_at least w zero bs i h = absurd (omega (arith, h))
 value_at least w (suc n) bs zero h = let none : 0 ≡ 0 * w = omega arith in ap (λ (k : ℕ). Some (least +ℤ pos (number_in w (drop k bs)))) none
-value_at least w (suc n) bs (suc i) h =
-    let wide : w + i * w ≡ suc i * w = omega (arith, add-mul i 1 w) in
-    value_at least w n (drop w bs) i (omega (arith, h)) ∙ ap (λ l. Some (least +ℤ pos (number_in w l))) (drop_plus w (i * w) bs ∙ ap (λ (k : ℕ). drop k bs) wide)
+value_at least w (suc n) bs (suc i) h = grind (arith, add-mul i 1 w, value_at least w n (drop w bs) i, drop_plus)

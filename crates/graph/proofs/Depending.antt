@@ -8,7 +8,7 @@ use Rattle.rdf_model.proofs.Accepted.{kind_known, checked_of, sound_path, visibl
 use Rattle.rdf_model.proofs.KnownColumns.{IsKnownColumn, known_columns, each_weaker}
 use Rattle.graph_numbers.specs.{column_place, holds_at, named_version, own_columns, own_version, version_at, version_count, version_or, depends_on, booked_statements, filter_sites, GraphView, IsGraph, own_filter_site, own_sites, result_depends_at, ResultAt, results, site_count, site_depends_at, SiteAt, sites}
 use Rattle.graph_numbers.proofs.Walks.{next_at, of_joined, AreBelow, filter_sites_below}
-use Rattle.graph_numbers.proofs.Meeting.{In, here, there, each_at}
+use Rattle.rdf_values.proofs.KeptLemmas.{In, here, there, each_at}
 use Rattle.graph.specs.{depends_at, expression_set, is_among_own, Numbers, own_version_sets, varied_set, version_sets, action_set, any_depends, own_result_sets, own_site_sets, result_sets, site_set, site_sets, VersionsDependAsColumns}
 use Rattle.graph.proofs.Listing.{any_map, named_at, no_place, any_none, got_first, holds_mapped, zip_both, zip_holds, zip_mapped}
 use Rattle.std.specs.Prelude.{⊤}

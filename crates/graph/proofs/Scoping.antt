@@ -9,7 +9,8 @@ use Rattle.expr_check.specs.{CallsFit, CheckedExpr, IsWellTyped, number_kind, nu
 use Rattle.graph.specs.{AreKinds, AreNoted, IsAlike, IsCheckedAt, IsFound, IsScopeAt, IsScopeOf}
 use Rattle.graph_numbers.specs.{named_version, version_at, version_count}
 use Rattle.rdf_model.proofs.KnownColumns.{IsKnownColumn, known_columns, each_weaker}
-use Rattle.graph_numbers.proofs.Meeting.{In, here, there, each_of, each_both, kind_count, visible_kind}
+use Rattle.rdf_values.proofs.KeptLemmas.{In, here, there, each_of}
+use Rattle.graph_numbers.proofs.Meeting.{each_both, kind_count, visible_kind}
 
 -- a name that isn't visible is unknown
 pub invisible : (scope : Scope) (name : List ℕ) → is_visible scope name ≡ false → column_kind scope name ≡ Err UnknownColumn

@@ -1,7 +1,7 @@
 -- No two sites of an accepted script have one node and places, and no two variations one name and tag.
-use Rattle.std.proofs.Common.{◌≡◌, ◌≢◌, ℕ, zero, suc, ◌+◌, ◌<◌, ◌≤◌, Bool, true, false, ◌||◌, ◌&&◌, List, [], ◌∷◌, ◌++◌, length, map, Option, Some, None, option_map, refl, sym, ◌∙◌, ap, arith, nat_eq, nat_lt, slice_get}
+use Rattle.std.proofs.Common.{◌≡◌, ◌≢◌, ℕ, zero, suc, ◌+◌, ◌<◌, ◌≤◌, Bool, true, false, ◌&&◌, List, [], ◌∷◌, ◌++◌, map, Option, Some, None, refl, sym, ◌∙◌, ap, arith, nat_eq, slice_get}
 use Rattle.lemmas.proofs.{and_holds, and_left_false, and_right_false, Decides-eqb, eq_itself, list_any, neither, never_true, or_left, or_right, slice_get_within}
-use Rattle.rdf_values.specs.{among, AreAccepted, check, check_node, check_tags, check_target, check_values, Column, first_refusal, FunctionNames, GraphCause, is_variation_name, makes, NamedTree, own_variations, path, place, refuse_if, repeats, same, same_variation, scope_at, scope_of, Statement, Variation, variations, VaryValues}
+use Rattle.rdf_values.specs.{AreAccepted, check, check_node, Column, first_refusal, FunctionNames, GraphCause, is_variation_name, makes, NamedTree, own_variations, place, repeats, same, same_variation, scope_of, Statement, Variation, variations, VaryValues}
 use Rattle.rdf_values.specs.declared.scripts.statement.Statement.TheVariants.{Vary}
 use Rattle.rdf_model.specs.{same_site, Site}
 use Rattle.rdf_model.proofs.Accepted.{all_none, both_none, if_fails, names_equal, itself, turned}
@@ -12,9 +12,9 @@ use Rattle.graph_numbers.proofs.Walks.{by_test, joined, only_at}
 
 place_is : {A : Type 0} (test : A → Bool) (xs : List A) (s : ℕ) (x : A) → slice_get xs s ≡ Some x → test x ≡ true → ((t : ℕ) (y : A) → t < s → slice_get xs t ≡ Some y → test y ≡ false) → place test xs ≡ Some s
 place_is test [] s x h k before = cc h
-place_is test (y ∷ xs) zero x h k before = let e : test y ≡ true = ap test (let is : y ≡ x = cc h in is) ∙ k in rw e refl
+place_is test (y ∷ xs) zero x h k before = grind arith
 place_is test (y ∷ xs) (suc s) x h k before =
-    let e : test y ≡ false = before 0 y (omega arith) refl in rw e (ap (option_map suc) (place_is test xs s x h k (λ t z l q. before (suc t) z (omega (arith, l)) q)))
+    let e = before 0 y (omega arith) refl in grind (arith, e, place_is test xs s x h k (λ t z l q. before (suc t) z (omega (arith, l)) q))
 
 abbrev pub AreApart : {A : Type 0} → (A → A → Bool) → List A → Type 0
 AreApart {A} alike xs = (s t : ℕ) (x y : A) → t < s → slice_get xs s ≡ Some x → slice_get xs t ≡ Some y → alike x y ≡ false
@@ -61,8 +61,7 @@ module _ (header : List Column) (names : FunctionNames) where
 
     list_places : (i k l : ℕ) (es : List NamedTree) (x : SiteAt) → slice_get (of_list i k es) l ≡ Some x → (x.site.node ≡ node) × (x.site.column ≡ i) × (x.site.tag ≡ k + l)
     list_places i k l [] x h = cc h
-    list_places i k zero (e ∷ es) x h = grind arith
-    list_places i k (suc l) (e ∷ es) x h = let p = list_places i (suc k) l es x h in let z : suc k + l ≡ k + suc l = omega arith in (p.0, p.1, p.2 ∙ z)
+    list_places i k l (e ∷ es) x h = grind (arith, λ (m : ℕ). list_places i (suc k) m es x)
 
     lists_places : (i l : ℕ) (lists : List (List NamedTree)) (x : SiteAt) → slice_get (of_lists i lists) l ≡ Some x → (x.site.node ≡ node) × (i ≤ x.site.column)
     lists_places i l [] x h = cc h
@@ -98,9 +97,7 @@ module _ (header : List Column) (names : FunctionNames) where
   -- each site's node was made
   site_made : (before : List Statement) → AreAccepted names (scope_of header) before → (s : ℕ) (x : SiteAt) → slice_get (sites header names before) s ≡ Some x → MadeBy before x.site.node ≡ true
   site_made [] good s x h = cc h
-  site_made (t ∷ before) good s x h =
-      joined (sites header names before) (own_sites header names before t) s x h (λ q. or_right (makes t x.site.node) (MadeBy before x.site.node) (site_made before good.1 s x q))
-      (λ k e q. or_left (makes t x.site.node) (MadeBy before x.site.node) (own_node before t k x good.0 q).0)
+  site_made (t ∷ before) good s x h = joined _ _ s x h (λ q. or_right _ _ (site_made before good.1 s x q)) (λ k e q. or_left _ _ (own_node before t k x good.0 q).0)
 
   own_apart : (before : List Statement) (s : Statement) → AreApart alike (own_sites header names before s)
   own_apart before s = grind (arith, one_apart, lists_apart)
@@ -123,17 +120,15 @@ module _ (header : List Column) (names : FunctionNames) where
 
 pub any_false : {A : Type 0} (p : A → Bool) (xs : List A) (k : ℕ) (a : A) → list_any p xs ≡ false → slice_get xs k ≡ Some a → p a ≡ false
 any_false p [] k a h q = cc q
-any_false p (x ∷ xs) zero a h q = let e : x ≡ a = cc q in ap p (sym e) ∙ (neither (p x) (list_any p xs) h).0
-any_false p (x ∷ xs) (suc k) a h q = any_false p xs k a (neither (p x) (list_any p xs) h).1 q
+any_false p (x ∷ xs) k a h q = grind (arith, neither, any_false p xs)
 
 pub other_way : (a b : List ℕ) → same a b ≡ false → same b a ≡ false
 other_way a b h = turned b a ∙ h
 
 tags_apart : (tags : List (List ℕ)) → repeats tags ≡ false → AreApart same tags
 tags_apart [] h m n a b lt p q = cc p
-tags_apart (x ∷ xs) h zero n a b lt p q = absurd (omega (arith, lt))
 tags_apart (x ∷ xs) h (suc m) zero a b lt p q = grind (arith, other_way, any_false, neither)
-tags_apart (x ∷ xs) h (suc m) (suc n) a b lt p q = tags_apart xs (neither (among x xs) (repeats xs) h).1 m n a b (omega (arith, lt)) p q
+tags_apart (x ∷ xs) h m n a b lt p q = grind (arith, neither, tags_apart xs)
 
 pub of_tags : (tags : List (List ℕ)) (name : List ℕ) (k : ℕ) (x : Variation) → slice_get (map (λ t. record { name = name; tag = t }) tags) k ≡ Some x → (x.name ≡ name) × (slice_get tags k ≡ Some x.tag)
 of_tags [] name k x h = cc h
@@ -144,13 +139,7 @@ module _ (header : List Column) (names : FunctionNames) where
   -- what was checked of a Vary's tags
   pub tags_checked : (before : List Statement) (node parent vary : List ℕ) (columns tags : List (List ℕ)) (values : VaryValues) → check names (scope_of header) before (Vary node parent columns values tags vary) ≡ None
       → (repeats tags ≡ false) × (is_variation_name before vary ≡ false)
-  tags_checked before node parent vary columns tags values ok =
-      let targets : Option GraphCause = first_refusal (map (check_target (scope_at names (scope_of header) before parent) (path before parent)) columns) in
-      let value : Option GraphCause = check_values names (scope_at names (scope_of header) before parent) (length tags) columns values in
-      let all = all_none (check_node before node parent ∷ refuse_if (repeats columns) GraphCause.NameTaken ∷ targets ∷ check_tags before tags vary ∷ value ∷ []) ok in
-      let many : Option GraphCause = refuse_if (nat_lt 16 (length tags) || nat_lt 128 (length (variations before) + length tags)) GraphCause.TooMany in
-      let own = all_none (refuse_if (repeats tags) GraphCause.NameTaken ∷ refuse_if (is_variation_name before vary) GraphCause.NameTaken ∷ many ∷ []) all.1.1.1.0 in
-      (if_fails (repeats tags) GraphCause.NameTaken own.0, if_fails (is_variation_name before vary) GraphCause.NameTaken own.1.0)
+  tags_checked before node parent vary columns tags values ok = grind (arith, all_none, if_fails)
 
   own_variations_apart : (before : List Statement) (s : Statement) → check names (scope_of header) before s ≡ None → AreApart same_variation (own_variations s)
   own_variations_apart before s ok = grind (arith, and_right_false, tags_apart, all_none, if_fails, of_tags)

@@ -1,9 +1,8 @@
 -- What a pass demands, as a set of sites: it has what is tried and read, and with each site those that its evaluation meets.
-use Rattle.std.proofs.Common.{◌≡◌, ℕ, Bool, true, false, List, [], ◌∷◌, ◌++◌, map, Option, Some, Ok, refl, sym, ◌∙◌, ap, subst, nat_eq, slice_get, if◌then◌else◌}
-use Rattle.std.specs.Prelude.{⊤}
-use Rattle.rdf_values.specs.{ActionAt, ActionKind, AreAccepted, callee, ColType, Column, column_kind, columns_in, columns_of, fn_names, Function, makes, parent_of, path, place, scope_at, scope_of, shape_of, Statement, target_of, Under, Value}
+use Rattle.std.proofs.Common.{arith, ◌≡◌, ℕ, Bool, true, List, [], ◌∷◌, ◌++◌, map, Option, Some, Ok, refl, sym, ◌∙◌, ap, subst, nat_eq, slice_get, if◌then◌else◌}
+use Rattle.rdf_values.specs.{ActionAt, ActionKind, AreAccepted, callee, ColType, Column, column_kind, columns_in, columns_of, fn_names, Function, parent_of, path, place, scope_at, scope_of, shape_of, Statement, target_of, Under, Value}
 use Rattle.rdf_values.specs.declared.scripts.statement.Statement.TheVariants.{Filter, Action}
-use Rattle.rdf_model.specs.{◌>>=◌, booking_demands, call_outcome, column_demands, column_value, Demand, demands_after, Faults, filter_demands, Gives, input_demands, is_need, IsKnown, met_columns, named_call, Needs, Outcome, same_site, site_at, site_demands, through, truth_of, with_needs, without}
+use Rattle.rdf_model.specs.{◌>>=◌, booking_demands, call_outcome, column_demands, column_value, Demand, demands_after, filter_demands, input_demands, is_need, IsKnown, met_columns, named_call, Outcome, same_site, site_at, site_demands, through, truth_of, with_needs, without}
 use Rattle.rdf_model.specs.Laws.{gives, faults, Alike}
 use Rattle.rdf_model.proofs.Evaluations.{evaluate_renamed, call_known}
 use Rattle.graph_numbers.specs.{filter_sites, HasFilters, HasInputs, HasSourceIn, IfGiven, IfPassed, meets, own_filter_site, site_count, site_in, SiteAt, sites, Source, source_in, sources, through_sites, version_at}
@@ -14,22 +13,18 @@ use Rattle.graph_numbers.proofs.ColumnSources.{HasDemandsOf, column_demanded, co
 use Rattle.graph_numbers.proofs.Demands.{demand_of, AreExplained, own_site}
 use Rattle.graph_numbers.proofs.Equations.{number_value, version_value, source_is, source_later}
 use Rattle.rdf_model.proofs.KnownColumns.{IsKnownColumn, known_columns, each_weaker}
-use Rattle.graph_numbers.proofs.Walks.{by_test}
-use Rattle.graph_numbers.proofs.Meeting.{each_at, In, here, in_left, in_right, met_name}
+use Rattle.rdf_values.proofs.KeptLemmas.{each_at, In, here, in_left, in_right}
+use Rattle.graph_numbers.proofs.Meeting.{met_name}
 use Rattle.rdf_model.specs.Laws as alike
 use Rattle.rdf_model.proofs.Missing.{named_alike, alike_is, call_alike}
 use Rattle.graph_numbers.proofs.Passing.{through_is, AreVisible, action_visible}
 use Rattle.graph_numbers.proofs.Origins as origin
 
 with_needs_known : {M A : Type 0} (o : Outcome ⊥ A) → IsKnown (with_needs {M = M} o)
-with_needs_known (Gives a) = gives
-with_needs_known (Faults k) = faults
-with_needs_known (Needs m) = elim m [ ]
+with_needs_known o = grind (arith, gives, faults)
 
 with_needs_alike : {M N A : Type 0} (o : Outcome ⊥ A) → Alike (with_needs {M = M} o) (with_needs {M = N} o)
-with_needs_alike (Gives a) = alike.gives
-with_needs_alike (Faults k) = alike.faults
-with_needs_alike (Needs m) = elim m [ ]
+with_needs_alike o = grind (arith, alike.gives, alike.faults)
 
 pub some_is : {A : Type 0} (a b : A) (o : Option A) → o ≡ Some a → o ≡ Some b → a ≡ b
 some_is a b o h k = let e : ◌≡◌ {A = Option _} (Some a) (Some b) = sym h ∙ k in cc e
@@ -74,13 +69,7 @@ module _ (fns : List Function) (columns : List Column) (row : List Value) (u : U
 
   -- what reading a version demands
   source_demanded : (ds small : List Demand) (c : ℕ) → HasDemandsOf fns columns row u before c small → ((e : Demand) → In e small → In e ds) → HasSourceIn (IsDemanded ds) (source_in (sources columns (fn_names fns) u before) c)
-  source_demanded ds small c h f =
-      subst (HasSourceIn (IsDemanded ds)) (sym (get_or_from_slice_get (sources columns (fn_names fns) u before) c h.0 (Source.Cell 0) h.1)) (go h.0 h.2)
-    where
-      go : (src : Source) → origin.IsGiven columns (fn_names fns) u (demands fns columns row u) before src small → HasSourceIn (IsDemanded ds) src
-      go (Source.Cell col) k = tt
-      go (Source.Site t) k = (k.0, k.1, f (demand_of fns columns row u before k.0) (subst (In (demand_of fns columns row u before k.0)) (sym k.2) here))
-      go (Source.Element t i tags) k = (k.0, k.1, f (demand_of fns columns row u before k.0) (subst (In (demand_of fns columns row u before k.0)) (sym k.2) here))
+  source_demanded ds small c h f = grind (arith, get_or_from_slice_get, here)
 
   -- with each demanded site those of the versions that its evaluation meets are demanded
   pub closed : (ds : List Demand) → AreExplained fns columns row u before ds → (s c : ℕ) (x : SiteAt) → slice_get (sites columns (fn_names fns) before) s ≡ Some x → IsDemanded ds s
@@ -103,12 +92,10 @@ module _ (fns : List Function) (columns : List Column) (row : List Value) (u : U
   -- ---- what a pass tries and reads
 
   pub then_wider : (o : Outcome ⊥ Bool) {P Q : Type 0} → (P → Q) → IfPassed o P → IfPassed o Q
-  then_wider (Gives true) f h = f h
-  then_wider o f h = tt
+  then_wider o f h = grind arith
 
   given_wider : (o : Outcome ⊥ Value) {P Q : Type 0} → (P → Q) → IfGiven o P → IfGiven o Q
-  given_wider (Gives v) f h = f h
-  given_wider o f h = tt
+  given_wider o f h = grind arith
 
   pub wider_filters : (D E : ℕ → Type 0) → ((s : ℕ) → D s → E s) → (site : ℕ → Outcome ⊥ Value) (ss : List ℕ) → HasFilters D site ss → HasFilters E site ss
   wider_filters D E f site [] h = tt
@@ -116,17 +103,8 @@ module _ (fns : List Function) (columns : List Column) (row : List Value) (u : U
 
   -- one more filter, tried where those before it are passed
   more_filters : (D : ℕ → Type 0) (site : ℕ → Outcome ⊥ Value) (ss : List ℕ) (s : ℕ) → HasFilters D site ss → IfPassed (through_sites site ss) (D s) → HasFilters D site (ss ++ s ∷ [])
-  more_filters D site [] s h k = (k, nothing (site s >>= truth_of))
-    where
-      nothing : (o : Outcome ⊥ Bool) → IfPassed o ⊤
-      nothing (Gives true) = tt
-      nothing o = tt
-  more_filters D site (t ∷ ss) s h k = (h.0, go (site t >>= truth_of) h.1 k (λ a b. more_filters D site ss s a b))
-    where
-      go : (o : Outcome ⊥ Bool) → IfPassed o (HasFilters D site ss) → IfPassed (o >>= λ passed. if passed then through_sites site ss else Gives false) (D s)
-          → (HasFilters D site ss → IfPassed (through_sites site ss) (D s) → HasFilters D site (ss ++ s ∷ [])) → IfPassed o (HasFilters D site (ss ++ s ∷ []))
-      go (Gives true) a b next = next a b
-      go o a b next = tt
+  more_filters D site [] s h k = grind arith
+  more_filters D site (t ∷ ss) s h k = grind (arith, more_filters D site ss s)
 
   abbrev site : ℕ → Outcome ⊥ Value
   site = number_value ⊥ fns columns row u before
@@ -136,8 +114,7 @@ module _ (fns : List Function) (columns : List Column) (row : List Value) (u : U
 
   -- what follows an outcome, where it is an answer that the test passes
   after_passed : (o : Outcome ⊥ Bool) (next : List Demand) (D : List Demand → Type 0) → D next → IfPassed o (D (demands_after o (λ passed. if passed then next else [])))
-  after_passed (Gives true) next D h = h
-  after_passed o next D h = tt
+  after_passed o next D h = grind arith
 
   pub filter_statement : (earlier : List Statement) (s : Statement) → Extends (s ∷ earlier) before
       → HasFilters (IsDemanded (filter_demands fns columns row (path earlier (parent_of s)) u)) site (filter_sites columns (fn_names fns) earlier (parent_of s))
@@ -149,7 +126,7 @@ module _ (fns : List Function) (columns : List Column) (row : List Value) (u : U
       let whole : List Demand = filter_demands fns columns row (Filter node parent expr label ∷ path earlier parent) u in
       let here_is : IsDemanded own n = (site_in columns (fn_names fns) earlier parent (site_at node) expr, own_site fns columns row u before earlier (Filter node parent expr label) parent node expr e refl, here) in
       let t : IfPassed (through fns columns row (path earlier parent) u) (IsDemanded whole n) =
-      then_wider (through fns columns row (path earlier parent) u) (demanded_wider _ whole (λ d k. in_right above _ k) n) (after_passed (through fns columns row (path earlier parent) u) own (λ ds. IsDemanded ds n) here_is) in
+      grind (arith, then_wider, demanded_wider, in_right, after_passed, here_is) in
       more_filters (IsDemanded whole) site (filter_sites columns (fn_names fns) earlier parent) n
       (wider_filters (IsDemanded above) (IsDemanded whole) (demanded_wider above whole (λ d k. in_left above _ k)) site (filter_sites columns (fn_names fns) earlier parent) h)
       (subst (λ (o : Outcome ⊥ Bool). IfPassed o (IsDemanded whole n)) (through_is ⊥ fns columns row u before earlier (shorter (Filter node parent expr label) earlier before e) parent) t)
@@ -159,9 +136,7 @@ module _ (fns : List Function) (columns : List Column) (row : List Value) (u : U
   -- the filters that are tried
   pub filters_demanded : (earlier : List Statement) → Extends earlier before → (node : List ℕ) → HasFilters (IsDemanded (filter_demands fns columns row (path earlier node) u)) site (filter_sites columns (fn_names fns) earlier node)
   filters_demanded [] e node = tt
-  filters_demanded (s ∷ earlier) e node =
-      by_test (makes s node) (λ t. rw t (filter_statement earlier s e (filters_demanded earlier (shorter s earlier before e) (parent_of s))))
-      (λ t. rw t (filters_demanded earlier (shorter s earlier before e) node))
+  filters_demanded (s ∷ earlier) e node = grind (arith, filter_statement, filters_demanded earlier (shorter s earlier before e))
 
   abbrev value : ℕ → Outcome ⊥ Value
   value = version_value ⊥ fns columns row u before
@@ -170,9 +145,7 @@ module _ (fns : List Function) (columns : List Column) (row : List Value) (u : U
   source c = source_in (sources columns (fn_names fns) u before) c
 
   source_wider : (D E : ℕ → Type 0) → ((s : ℕ) → D s → E s) → (x : Source) → HasSourceIn D x → HasSourceIn E x
-  source_wider D E f (Source.Cell col) h = tt
-  source_wider D E f (Source.Site s) h = f s h
-  source_wider D E f (Source.Element s k tags) h = f s h
+  source_wider D E f x h = grind arith
 
   pub wider_inputs : (D E : ℕ → Type 0) → ((s : ℕ) → D s → E s) → (cs : List ℕ) → HasInputs D source value cs → HasInputs E source value cs
   wider_inputs D E f [] h = tt
@@ -180,8 +153,7 @@ module _ (fns : List Function) (columns : List Column) (row : List Value) (u : U
 
   -- what follows an answer
   after_given : (o : Outcome ⊥ Value) (next : List Demand) (D : List Demand → Type 0) → D next → IfGiven o (D (demands_after o (λ v. next)))
-  after_given (Gives v) next D h = h
-  after_given o next D h = tt
+  after_given o next D h = grind arith
 
   -- the versions that an action reads
   inputs_demanded : (earlier : List Statement) → AreAccepted (fn_names fns) (scope_of columns) earlier → Extends earlier before → (node : List ℕ) (cs : List (List ℕ)) → AreVisible ⊥ fns columns row u before earlier node cs

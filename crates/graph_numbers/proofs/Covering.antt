@@ -23,7 +23,7 @@ module _ {X Y : Type 0} (of : X → Y) where
   at_append : (xs : List X) (ns ms : List ℕ) (ys zs : List Y) → AreAt xs ns ys → AreAt xs ms zs → AreAt xs (ns ++ ms) (ys ++ zs)
   at_append xs [] ms [] zs h k = k
   at_append xs (n ∷ ns) ms (y ∷ ys) zs h k = (h.0, at_append xs ns ms ys zs h.1 k)
-  at_append xs ns ms ys zs h k = elim h [ ]
+  at_append xs ns ms ys zs h k = grind arith
 
   at_kept : (xs more : List X) → ((k : ℕ) (x : X) → slice_get xs k ≡ Some x → slice_get more k ≡ Some x) → (ns : List ℕ) (ys : List Y) → AreAt xs ns ys → AreAt more ns ys
   at_kept xs more f [] [] h = tt
@@ -137,10 +137,9 @@ module _ (header : List Column) (names : FunctionNames) where
       → Numbered (Filter node parent expr label ∷ before) (filter_sites header names before parent ++ site_count header names before ∷ []) (Filter node parent expr label ∷ path before parent)
   with_own before node parent expr label h =
       let s : Statement = Filter node parent expr label in
-      let n : site_count header names before ≡ length (sites header names before) + 0 = omega arith in
       at_append _ (sites header names (s ∷ before)) (filter_sites header names before parent) (site_count header names before ∷ []) (conditions_on (path before parent)) (record { site = site_at node; at = path before parent; expr = expr } ∷ [])
       (further_list before s (filter_sites header names before parent) (path before parent) h)
-      ((site_in header names before parent (site_at node) expr, next_at (sites header names before) (own_sites header names before s) 0 _ n, refl), tt)
+      ((site_in header names before parent (site_at node) expr, next_at (sites header names before) (own_sites header names before s) 0 _ (omega arith), refl), tt)
 
   at_statement : (before : List Statement) (s : Statement) → Numbered before (filter_sites header names before (parent_of s)) (path before (parent_of s))
       → Numbered (s ∷ before) (filter_sites header names before (parent_of s) ++ own_filter_site s (site_count header names before)) (s ∷ path before (parent_of s))

@@ -1,13 +1,13 @@
 -- What a reading demands has with each site the sites of the columns that its evaluation meets.
-use Rattle.std.proofs.Common.{◌≡◌, ℕ, ◌+◌, Bool, List, [], ◌∷◌, ◌++◌, length, Option, Some, None, refl, ◌∙◌, ap, arith, slice_get, if◌then◌else◌, flat_map}
+use Rattle.std.proofs.Common.{◌≡◌, ℕ, ◌+◌, Bool, List, [], ◌∷◌, ◌++◌, Option, Some, None, refl, ◌∙◌, ap, arith, slice_get, if◌then◌else◌, flat_map}
 use Rattle.rdf_values.specs.{ActionAt, ActionKind, Column, fn_names, Function, makes, NamedTree, parent_of, path, place, same, Statement, target_of, Under, Value, VaryValues}
 use Rattle.rdf_values.specs.declared.scripts.statement.Statement.TheVariants.{Define, Redefine, Filter, Vary}
 use Rattle.rdf_values.specs.declared.scripts.statement.VaryValues.TheVariants.{Lists, Vector}
-use Rattle.rdf_model.specs.{booking_demands, column_demands, column_value, Demand, demands_after, expression_at, filter_demands, input_demands, met_columns, named_demands, Outcome, own_place, projected, site_at, site_demands, tag_demands, through, varied}
+use Rattle.rdf_model.specs.{booking_demands, column_demands, Demand, demands_after, expression_at, filter_demands, input_demands, met_columns, named_demands, Outcome, own_place, projected, site_at, site_demands, tag_demands, through, varied}
 use Rattle.graph_numbers.specs.{lists_sites, own_sites, site_count, site_in, SiteAt, sites}
 use Rattle.graph_numbers.proofs.Walks.{by_test, next_at}
 use Rattle.graph_numbers.proofs.Placing.{Extends, site_kept, shorter}
-use Rattle.graph_numbers.proofs.Meeting.{In, here, there, in_joined, in_left, in_right}
+use Rattle.rdf_values.proofs.KeptLemmas.{In, here, there, in_joined, in_left, in_right}
 use Rattle.graph_numbers.proofs.Origins.{lists_site_at}
 
 module _ (fns : List Function) (columns : List Column) (row : List Value) (u : Under) (before : List Statement) where
@@ -62,9 +62,8 @@ module _ (fns : List Function) (columns : List Column) (row : List Value) (u : U
       → own_sites columns (fn_names fns) earlier s ≡ site_in columns (fn_names fns) earlier parent (site_at node) expr ∷ []
       → slice_get (sites columns (fn_names fns) before) (site_count columns (fn_names fns) earlier) ≡ Some (site_in columns (fn_names fns) earlier parent (site_at node) expr)
   own_site earlier s parent node expr e own =
-      let n : site_count columns (fn_names fns) earlier ≡ length (sites columns (fn_names fns) earlier) + 0 = omega arith in
       site_kept columns (fn_names fns) (s ∷ earlier) before e (site_count columns (fn_names fns) earlier) _
-      (next_at (sites columns (fn_names fns) earlier) (own_sites columns (fn_names fns) earlier s) 0 _ n ∙ ap (λ xs. slice_get xs 0) own)
+      (next_at (sites columns (fn_names fns) earlier) (own_sites columns (fn_names fns) earlier s) 0 _ (omega arith) ∙ ap (λ xs. slice_get xs 0) own)
 
   tag_explained : (earlier : List Statement) (node parent vary : List ℕ) (cs tags : List (List ℕ)) (values : VaryValues) → Extends (Vary node parent cs values tags vary ∷ earlier) before → Reads earlier parent
       → (i k : ℕ) → AreExplained (tag_demands fns columns row (path earlier parent) u node values (column_demands fns columns row (path earlier parent) u) i k)
@@ -130,9 +129,7 @@ module _ (fns : List Function) (columns : List Column) (row : List Value) (u : U
 
   inputs_explained : (earlier : List Statement) → Extends earlier before → (node : List ℕ) (cs : List (List ℕ)) → AreExplained (input_demands fns columns row (path earlier node) u cs)
   inputs_explained earlier e node [] = none_explained
-  inputs_explained earlier e node (c ∷ cs) =
-      append_explained (column_demands fns columns row (path earlier node) u c) _ (column_explained earlier e node c)
-      (after_explained (column_value fns columns row (path earlier node) u c) _ (λ v. inputs_explained earlier e node cs))
+  inputs_explained earlier e node (c ∷ cs) = grind (arith, append_explained, column_explained, after_explained, inputs_explained earlier e node cs)
 
   -- an action: its filters, and where the entry passes them its columns
   pub action_explained : (earlier : List Statement) → Extends earlier before → (node : List ℕ) (k : ActionKind) → AreExplained (booking_demands fns columns row (ActionAt k (path earlier node)) u)

@@ -1,26 +1,14 @@
 -- What a site comes to, by what its columns' versions come to; and that the sites of these have lower numbers.
 use Rattle.std.proofs.Common.{◌≡◌, ℕ, ◌<◌, ◌≤◌, List, [], length, Some, sym, ◌∙◌, ap, subst, arith, slice_get}
 use Rattle.std.proofs.lemmas.Option.{get_or_from_slice_get, slice_get_within}
-use Rattle.rdf_values.specs.{AreAccepted, callee, Column, column_kind, EachColumn, fn_names, Function, path, renamed, scope_at, scope_of, shape_of, Statement, Tree, Under, Value}
+use Rattle.rdf_values.specs.{AreAccepted, callee, Column, column_kind, EachColumn, fn_names, Function, path, renamed, scope_at, scope_of, shape_of, Statement, Under, Value}
 use Rattle.rdf_model.specs.{call_outcome, column_value, evaluate, named_call, Outcome}
-use Rattle.rdf_model.proofs.Evaluations.{Close, same, missing, evaluate_close, evaluate_renamed}
+use Rattle.rdf_model.proofs.Evaluations.{agrees, evaluate_renamed}
 use Rattle.graph_numbers.specs.{IsBelow, site_count, site_in, site_outcome, site_value, SiteAt, sites, Source, source_in, source_value, sources, version_at, version_count}
 use Rattle.graph_numbers.proofs.Placing.{Extends, source_kept, source_count, each_version, placed}
 use Rattle.rdf_model.proofs.KnownColumns.{known_columns, each_weaker, IsKnownColumn}
 use Rattle.graph_numbers.proofs.Origins as origin
 use Rattle.graph_numbers.proofs.ColumnSources.{IsGiven, HasSource, column_source, values}
-
--- ---- looks that agree
-
-close_equal : {M : Type 0} {o p : Outcome M Value} → Close (λ _. ⊥) o p → o ≡ p
-close_equal h = grind (arith, same, missing)
-
-close_if : {M : Type 0} {o p : Outcome M Value} → o ≡ p → Close (λ (_ : M). ⊥) o p
-close_if {M} {o} h = subst (λ (x : Outcome M Value). Close (λ (_ : M). ⊥) o x) h same
-
--- two looks that agree on the columns of an expression give one outcome
-pub agrees : {C F M : Type 0} (look look' : C → Outcome M Value) (call : F → List Value → Outcome M Value) (e : Tree C F) → EachColumn (λ c. look c ≡ look' c) e → evaluate look call e ≡ evaluate look' call e
-agrees look look' call e h = grind (arith, close_equal, evaluate_close, each_weaker, close_if)
 
 module _ (M : Type 0) (fns : List Function) (columns : List Column) (row : List Value) (u : Under) where
   -- what a site and a version of the statements so far come to, by their numbers

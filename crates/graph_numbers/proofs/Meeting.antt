@@ -1,13 +1,12 @@
 -- A column that an evaluation over numbers meets is that of its name, and its version has its kind.
-use Rattle.std.proofs.Common.{◌≡◌, ◌≢◌, ℕ, Bool, true, false, List, [], ◌∷◌, ◌++◌, refl, sym, ◌∙◌, ap, subst, nat_eq, if◌then◌else◌, filter, ◌+◌, map, length, Option, Some, None, Ok, arith, slice_get}
+use Rattle.std.proofs.Common.{◌≡◌, ◌≢◌, ℕ, Bool, true, false, List, [], ◌∷◌, refl, sym, ◌∙◌, ap, subst, nat_eq, if◌then◌else◌, filter, map, length, Option, Some, None, Ok, arith, slice_get}
 use Rattle.std.proofs.lemmas.Bool.Decides.{Decides-eqb}
-use Rattle.rdf_values.specs.{Bin, Call, Col, columns_in, columns_in_all, Cond, EachArgument, EachColumn, End, Lit, More, Neg, Not, Pick, same, Tree, Trees, Value, aliases, AreAccepted, check_target, ColType, Column, column_kind, first_refusal, FitsRow, fn_names, FunctionNames, kind_or_int, made_columns, makes, parent_of, path, place, scope_at, scope_of, Statement, target_of, Under, visible_columns}
+use Rattle.rdf_values.specs.{columns_in, EachColumn, same, Tree, Value, aliases, AreAccepted, check_target, ColType, Column, column_kind, first_refusal, FitsRow, fn_names, FunctionNames, kind_or_int, made_columns, makes, parent_of, path, place, scope_at, scope_of, Statement, target_of, Under, visible_columns}
 use Rattle.rdf_model.specs.{evaluate, Faults, Gives, is_met, is_need, IsKnown, Needs, Outcome, untyped, without, column_value, Dataset, FitsOutcome, with_needs}
-use Rattle.rdf_values.specs.expressions.Expressions.{Truth}
 use Rattle.rdf_model.specs.Laws.{gives, faults, Alike}
 use Rattle.rdf_model.proofs.Accepted.{names_equal, itself, passed_over, checked_of, target_is_none, visible_resolved, sound_path, column_fits}
 use Rattle.rdf_model.proofs.Evaluations.{evaluate_known}
-use Rattle.rdf_values.proofs.KeptLemmas.{all_columns}
+use Rattle.rdf_values.proofs.KeptLemmas.{In, here, there, each_of, each_at, all_columns}
 use Rattle.graph_numbers.proofs.Walks.{by_test, next_at, place_gives}
 use Rattle.lemmas.proofs.{kept_at, length-append, length-map, mapped_at}
 use Rattle.rdf_values.specs.declared.scripts.statement.Statement.TheVariants.{Define, Redefine, Vary}
@@ -21,70 +20,9 @@ use Rattle.rdf_model.proofs.Evaluations as evaluations
 use Rattle.rdf_model.specs.Laws as alike
 use Rattle.rdf_model.proofs.Missing as missing
 
--- ---- elements of lists
-
-pub data In {A : Type 0} (x : A) : List A → Type 0 where
-  here : {xs : List A} → In x (x ∷ xs)
-  there : {y : A} {xs : List A} → In x xs → In x (y ∷ xs)
-
-pub in_left : {A : Type 0} {x : A} (xs ys : List A) → In x xs → In x (xs ++ ys)
-in_left xs ys (here {xs = zs}) = here
-in_left xs ys (there {xs = zs} h) = there (in_left zs ys h)
-
-pub in_right : {A : Type 0} {x : A} (xs ys : List A) → In x ys → In x (xs ++ ys)
-in_right [] ys h = h
-in_right (y ∷ xs) ys h = there (in_right xs ys h)
-
--- what stands in joined lists stands in one of them
-pub in_joined : {A P : Type 0} {x : A} (xs ys : List A) → In x (xs ++ ys) → (In x xs → P) → (In x ys → P) → P
-in_joined [] ys h f g = g h
-in_joined (y ∷ xs) ys here f g = f here
-in_joined (y ∷ xs) ys (there h) f g = in_joined xs ys h (λ k. f (there k)) g
-
 pub in_filter : {A : Type 0} {x : A} (p : A → Bool) (xs : List A) → In x xs → p x ≡ true → In x (filter p xs)
 in_filter p xs here e = rw e here
 in_filter {x = x} p xs (there {y = y} {xs = zs} h) e = by_test (p y) (λ t. rw t (there (in_filter p zs h e))) (λ t. rw t (in_filter p zs h e))
-
--- what holds of each column that stands in an expression
-module _ {C F : Type 0} (P : C → Type 0) where
-  mutual
-    pub each_of : (e : Tree C F) → ((c : C) → In c (columns_in e) → P c) → EachColumn P e
-    each_of (Lit z) h = tt
-    each_of (Truth b) h = tt
-    each_of (Col c) h = h c here
-    each_of (Neg a) h = each_of a h
-    each_of (Not a) h = each_of a h
-    each_of (Bin o a b) h = (each_of a (λ c k. h c (in_left (columns_in a) (columns_in b) k)), each_of b (λ c k. h c (in_right (columns_in a) (columns_in b) k)))
-    each_of (Cond c a b) h = (
-      each_of c (λ d k. h d (in_left (columns_in c ++ columns_in a) (columns_in b) (in_left (columns_in c) (columns_in a) k))),
-      each_of a (λ d k. h d (in_left (columns_in c ++ columns_in a) (columns_in b) (in_right (columns_in c) (columns_in a) k))),
-      each_of b (λ d k. h d (in_right (columns_in c ++ columns_in a) (columns_in b) k)),
-    )
-    each_of (Pick v i) h = (each_of v (λ c k. h c (in_left (columns_in v) (columns_in i) k)), each_of i (λ c k. h c (in_right (columns_in v) (columns_in i) k)))
-    each_of (Call f args) h = each_of_all args h
-
-    pub each_of_all : (es : Trees C F) → ((c : C) → In c (columns_in_all es) → P c) → EachArgument P es
-    each_of_all End h = tt
-    each_of_all (More a rest) h = (each_of a (λ c k. h c (in_left (columns_in a) (columns_in_all rest) k)), each_of_all rest (λ c k. h c (in_right (columns_in a) (columns_in_all rest) k)))
-
--- what holds of each column of an expression holds of each in its list
-module _ {C F : Type 0} (P : C → Type 0) where
-  mutual
-    pub each_at : (e : Tree C F) → EachColumn P e → (c : C) → In c (columns_in e) → P c
-    each_at (Lit z) h c k = elim k [ ]
-    each_at (Truth b) h c k = elim k [ ]
-    each_at (Col d) h c here = h
-    each_at (Col d) h c (there k) = elim k [ ]
-    each_at (Neg a) h c k = each_at a h c k
-    each_at (Not a) h c k = each_at a h c k
-    each_at (Bin o a b) h c k = in_joined (columns_in a) (columns_in b) k (each_at a h.0 c) (each_at b h.1 c)
-    each_at (Cond d a b) h c k = in_joined (columns_in d ++ columns_in a) (columns_in b) k (λ l. in_joined (columns_in d) (columns_in a) l (each_at d h.0 c) (each_at a h.1 c)) (each_at b h.2 c)
-    each_at (Pick v i) h c k = in_joined (columns_in v) (columns_in i) k (each_at v h.0 c) (each_at i h.1 c)
-    each_at (Call f args) h c k = each_argument_at args h c k
-
-    each_argument_at : (es : Trees C F) → EachArgument P es → (c : C) → In c (columns_in_all es) → P c
-    each_argument_at End h c k = elim k [ ]
-    each_argument_at (More a rest) h c k = in_joined (columns_in a) (columns_in_all rest) k (each_at a h.0 c) (each_argument_at rest h.1 c)
 
 -- two facts of each column
 pub each_both : {C F : Type 0} (P Q R : C → Type 0) → ((c : C) → P c → Q c → R c) → (e : Tree C F) → EachColumn P e → EachColumn Q e → EachColumn R e
@@ -107,8 +45,7 @@ module _ {C F M : Type 0} (look : C → Outcome M Value) (call : F → List Valu
   given (Needs m) = untyped
 
   given_known : (o : Outcome M Value) → IsKnown (given o)
-  given_known (Faults k) = faults
-  given_known o = gives
+  given_known o = grind (arith, gives, faults)
 
   abbrev IsNeeded : M → Type 0
   IsNeeded m = (c : C) × In c (columns_in e) × (look c ≡ Needs m)
@@ -185,7 +122,7 @@ module _ (header : List Column) (names : FunctionNames) where
   -- there is one kind for each version
   pub kind_count : (before : List Statement) → length (version_kinds header names before) ≡ version_count header before
   kind_count [] = length-map header (λ (c : Column). c.kind)
-  kind_count (s ∷ before) = length-append (version_kinds header names before) (own_kinds header names before s) ∙ (λ i. kind_count before i + own_count before s i)
+  kind_count (s ∷ before) = grind (arith, length-append, kind_count before, own_count)
 
   pub kind_later : (before after : List Statement) → Extends before after → (c : ℕ) (t : ColType) → slice_get (version_kinds header names before) c ≡ Some t → slice_get (version_kinds header names after) c ≡ Some t
   kind_later = kept (version_kinds header names) (own_kinds header names) (λ before s. refl)
@@ -201,8 +138,8 @@ module _ (header : List Column) (names : FunctionNames) where
       → (if b then Ok k else column_kind (made_columns names (scope_of header) (path before parent)) name) ≡ Ok t
       → slice_get (version_kinds header names (s ∷ before)) (if b then version_count header before else named_version header before parent name) ≡ Some t
   defined_kind before s parent name k t own above true h =
-      let n : version_count header before ≡ length (version_kinds header names before) + 0 = (let c = kind_count before in omega (arith, c)) in
-      next_at (version_kinds header names before) (own_kinds header names before s) 0 _ n ∙ ap (λ xs. slice_get xs 0) own ∙ ap Some (same_ok k t h)
+      next_at (version_kinds header names before) (own_kinds header names before s) 0 _ (omega (arith, kind_count before))
+      ∙ ap (λ xs. slice_get xs 0) own ∙ ap Some (same_ok k t h)
   defined_kind before s parent name k t own above false h = kept_at (version_kinds header names before) (own_kinds header names before s) _ t (above name t h)
 
   vary_kind : (before : List Statement) (s : Statement) (parent name : List ℕ) (cs : List (List ℕ)) (t : ColType)
@@ -213,11 +150,10 @@ module _ (header : List Column) (names : FunctionNames) where
       → slice_get (version_kinds header names (s ∷ before)) (version_or (version_count header before) o (named_version header before parent name)) ≡ Some t
   vary_kind before s parent name cs t own ok above h None p = kept_at (version_kinds header names before) (own_kinds header names before s) _ t (above name t h)
   vary_kind before s parent name cs t own ok above h (Some i) p =
-      let n : version_count header before + i ≡ length (version_kinds header names before) + i = (let c = kind_count before in omega (arith, c)) in
       let known : column_kind (scope_at names (scope_of header) before parent) name ≡ Ok t =
       passed_over (λ a. kind_or_int (column_kind (made_columns names (scope_of header) (path before parent)) (target_of (path before parent) a))) (made_columns names (scope_of header) (path before parent)) name t (aliases (path before parent))
       (target_is_none (visible_columns names (scope_of header) (path before parent)) (path before parent) cs name i p ok) h in
-      next_at (version_kinds header names before) (own_kinds header names before s) i _ n ∙ ap (λ xs. slice_get xs i) own
+      next_at (version_kinds header names before) (own_kinds header names before s) i _ (omega (arith, kind_count before)) ∙ ap (λ xs. slice_get xs i) own
       ∙ mapped_at (λ c. kind_or_int (column_kind (scope_at names (scope_of header) before parent) c)) cs i name (place_gives name cs i p) ∙ ap (λ r. Some (kind_or_int r)) known
 
   at_statement : (before : List Statement) (s : Statement) (name : List ℕ) (t : ColType) → AreAccepted names (scope_of header) (s ∷ before) → Above before (parent_of s)

@@ -20,14 +20,11 @@ cell_is {M} (c ∷ cs) (v ∷ vs) name t h = by_test (same c.name name) (λ e. r
 
 cell_source : (n : ℕ) (cs : List Column) (name : List ℕ) (t : ColType) → column_kind (scope_of cs) name ≡ Ok t → slice_get (cell_sources n cs) (column_place cs name) ≡ Some (Source.Cell (n + column_place cs name))
 cell_source n [] name t h = cc h
-cell_source n (c ∷ cs) name t h =
-    by_test (same c.name name) (λ e. let z : n ≡ n + 0 = omega arith in rw e (ap (λ k. Some (Source.Cell k)) z))
-    (λ e. let z : suc n + column_place cs name ≡ n + suc (column_place cs name) = omega arith in rw e (cell_source (suc n) cs name t (rw e at h) ∙ ap (λ k. Some (Source.Cell k)) z))
+cell_source n (c ∷ cs) name t h = grind (arith, cell_source (suc n) cs name t)
 
 place_within_columns : (cs : List Column) (name : List ℕ) (t : ColType) → column_kind (scope_of cs) name ≡ Ok t → column_place cs name < length cs
 place_within_columns [] name t h = cc h
-place_within_columns (c ∷ cs) name t h =
-    by_test (same c.name name) (λ e. rw e (omega arith)) (λ e. let lt = place_within_columns cs name t (rw e at h) in rw e (omega (arith, lt)))
+place_within_columns (c ∷ cs) name t h = grind (arith, place_within_columns cs name t)
 
 -- ---- the sites of a Vary
 
@@ -36,9 +33,7 @@ module _ (header : List Column) (names : FunctionNames) (before : List Statement
       → slice_get (list_sites header names before parent node i k es) l ≡ Some (site_in header names before parent (record { node = node; column = i; tag = k + l }) e)
   list_site_at i k l [] e h = cc h
   list_site_at i k zero (x ∷ es) e h = grind arith
-  list_site_at i k (suc l) (x ∷ es) e h =
-      let at : suc k + l ≡ k + suc l = omega arith in
-      list_site_at i (suc k) l es e h ∙ (λ j. Some (site_in header names before parent (record { node = node; column = i; tag = at j }) e))
+  list_site_at i k (suc l) (x ∷ es) e h = grind (arith, list_site_at i (suc k) l es e h)
 
   -- the site for the column at place i and the tag at place k
   pub lists_site_at : (j i k : ℕ) (lists : List (List NamedTree)) (e : NamedTree) → expression_at lists i k ≡ Some e
@@ -49,13 +44,7 @@ module _ (header : List Column) (names : FunctionNames) (before : List Statement
       ap (slice_get (lists_sites header names before parent node j (es ∷ lists))) n
       ∙ kept_at (list_sites header names before parent node j 0 es) (lists_sites header names before parent node (suc j) lists) k _ (list_site_at j 0 k es e h)
       ∙ (λ l. Some (site_in header names before parent (record { node = node; column = at l; tag = m l }) e))
-  lists_site_at j (suc i) k (es ∷ lists) e h =
-      let at : suc j + i ≡ j + suc i = omega arith in
-      let n : length es + list_start lists i + k ≡ length (list_sites header names before parent node j 0 es) + (list_start lists i + k) =
-      (let c = list_count header names before parent node j 0 es in omega (arith, c)) in
-      next_at (list_sites header names before parent node j 0 es) (lists_sites header names before parent node (suc j) lists) (list_start lists i + k) _ n
-      ∙ lists_site_at (suc j) i k lists e h
-      ∙ (λ l. Some (site_in header names before parent (record { node = node; column = at l; tag = k }) e))
+  lists_site_at j (suc i) k (es ∷ lists) e h = grind (arith, list_count, next_at, lists_site_at (suc j) i k lists e h)
 
 -- ---- readings
 
@@ -103,9 +92,7 @@ module _ {A : Type 0} (columns : List Column) (names : FunctionNames) (u : Under
 
   -- the only site of a statement, as it is booked
   own_site : (s : Statement) (before : List Statement) (x : SiteAt) → own_sites columns names before s ≡ x ∷ [] → slice_get (sites columns names (s ∷ before)) (site_count columns names before) ≡ Some x
-  own_site s before x its =
-      let m : site_count columns names before ≡ length (sites columns names before) + 0 = omega arith in
-      next_at (sites columns names before) (own_sites columns names before s) 0 _ m ∙ ap (λ xs. slice_get xs 0) its
+  own_site s before x its = next_at (sites columns names before) (own_sites columns names before s) 0 _ (omega arith) ∙ ap (λ xs. slice_get xs 0) its
 
   -- the source of a statement's version at a place
   own_version_source : (s : Statement) (before : List Statement) (i n : ℕ) → n ≡ version_count columns before + i → slice_get (sources columns names u (s ∷ before)) n ≡ slice_get (own_list before s) i
@@ -137,9 +124,8 @@ module _ {A : Type 0} (columns : List Column) (names : FunctionNames) (u : Under
   varied_source : (before : List Statement) (parent : List ℕ) (values : VaryValues) (tags : List (List ℕ)) (vary name : List ℕ) (j i : ℕ) (cs : List (List ℕ)) → slice_get cs i ≡ Some name
       → slice_get (varied_sources columns names u before (sources columns names u before) parent values tags vary j cs) i ≡ Some (own_of before parent values tags vary (j + i) name)
   varied_source before parent values tags vary name j i [] h = cc h
-  varied_source before parent values tags vary name j zero (c ∷ cs) h = let is : c ≡ name = cc h in let at : j ≡ j + 0 = omega arith in λ l. Some (own_of before parent values tags vary (at l) (is l))
-  varied_source before parent values tags vary name j (suc i) (c ∷ cs) h =
-      let at : suc j + i ≡ j + suc i = omega arith in varied_source before parent values tags vary name (suc j) i cs h ∙ (λ l. Some (own_of before parent values tags vary (at l) name))
+  varied_source before parent values tags vary name j zero (c ∷ cs) h = grind arith
+  varied_source before parent values tags vary name j (suc i) (c ∷ cs) h = grind (arith, varied_source before parent values tags vary name (suc j) i cs h)
 
   -- by the walk from the node up to the head
   module _ (heads : (name : List ℕ) (t : ColType) → column_kind (scope_of columns) name ≡ Ok t → r.read [] name ≡ r.of_cell (column_place columns name))

@@ -1,8 +1,8 @@
 -- Filters, actions and reports by numbers are those of the paths.
-use Rattle.std.proofs.Common.{◌≡◌, ℕ, ◌+◌, false, List, [], ◌∷◌, ◌++◌, length, map, Option, Some, None, Ok, Err, Result, refl, sym, ap, arith, if◌then◌else◌}
+use Rattle.std.proofs.Common.{◌≡◌, ℕ, false, List, [], ◌∷◌, ◌++◌, map, Option, None, Ok, refl, sym, ap, arith, if◌then◌else◌}
 use Rattle.std.specs.Prelude.{⊤}
 use Rattle.std.proofs.lemmas.List.{append-nil}
-use Rattle.rdf_values.specs.{ActionKind, AreAccepted, bookings, check_columns, check_edges, check_node, check_passes, check_results, ColType, Column, column_kind, columns_of, fn_names, Function, GraphCause, may_begin, NamedTree, parent_of, path, permitted_kinds, scope_at, scope_of, Statement, Under, Value}
+use Rattle.rdf_values.specs.{ActionKind, AreAccepted, bookings, check_columns, check_edges, check_node, check_passes, check_results, ColType, Column, column_kind, columns_of, fn_names, Function, GraphCause, NamedTree, parent_of, path, permitted_kinds, scope_at, scope_of, Statement, Under, Value}
 use Rattle.rdf_values.specs.declared.scripts.statement.Statement.TheVariants.{Filter, Action}
 use Rattle.rdf_model.specs.{◌>>=◌, action_outcome, column_value, expression_value, feed_outcome, for_all, Gives, Outcome, site_at, Skip, through, truth_of}
 use Rattle.rdf_model.proofs.Accepted.{all_none}
@@ -28,10 +28,9 @@ module _ (M : Type 0) (fns : List Function) (columns : List Column) (row : List 
   at_filter : (earlier : List Statement) (node parent : List ℕ) (expr : NamedTree) (label : Option (List ℕ)) → Extends (Filter node parent expr label ∷ earlier) before
       → numbered (site_count columns (fn_names fns) earlier) ≡ expression_value fns (column_value fns columns row (path earlier parent) u) expr
   at_filter earlier node parent expr label e =
-      let n : site_count columns (fn_names fns) earlier ≡ length (sites columns (fn_names fns) earlier) + 0 = omega arith in
       ap (site_value (λ x. site_outcome fns columns row x u))
       (site_kept columns (fn_names fns) (Filter node parent expr label ∷ earlier) before e (site_count columns (fn_names fns) earlier) (site_in columns (fn_names fns) earlier parent (site_at node) expr)
-      (next_at (sites columns (fn_names fns) earlier) (site_in columns (fn_names fns) earlier parent (site_at node) expr ∷ []) 0 _ n))
+      (next_at (sites columns (fn_names fns) earlier) (site_in columns (fn_names fns) earlier parent (site_at node) expr ∷ []) 0 _ (omega arith)))
 
   pub through_statement : (earlier : List Statement) (s : Statement) → Extends (s ∷ earlier) before
       → through fns columns row {M = M} (path earlier (parent_of s)) u ≡ through_sites numbered (filter_sites columns (fn_names fns) earlier (parent_of s))
@@ -56,14 +55,7 @@ module _ (M : Type 0) (fns : List Function) (columns : List Column) (row : List 
   pub checked_visible : (earlier : List Statement) (node : List ℕ) (permitted : List (List ColType)) (kinds : List ColType) (cs : List (List ℕ))
       → check_columns (scope_at (fn_names fns) (scope_of columns) earlier node) permitted kinds cs ≡ None → AreVisible earlier node cs
   checked_visible earlier node permitted kinds [] h = tt
-  checked_visible earlier node permitted kinds (c ∷ cs) h =
-      go (column_kind (scope_at (fn_names fns) (scope_of columns) earlier node) c) refl h (λ t k. checked_visible earlier node permitted (kinds ++ t ∷ []) cs k)
-    where
-      go : (r : Result ColType GraphCause) → column_kind (scope_at (fn_names fns) (scope_of columns) earlier node) c ≡ r
-          → (elim r as (λ _. Option GraphCause) [ Err e ↦ Some e | Ok t ↦ (if may_begin permitted (kinds ++ t ∷ []) then check_columns (scope_at (fn_names fns) (scope_of columns) earlier node) permitted (kinds ++ t ∷ []) cs else Some GraphCause.WrongType) ]) ≡ None
-          → ((t : ColType) → check_columns (scope_at (fn_names fns) (scope_of columns) earlier node) permitted (kinds ++ t ∷ []) cs ≡ None → AreVisible earlier node cs)
-          → AreVisible earlier node (c ∷ cs)
-      go r q k next = grind (arith, by_test)
+  checked_visible earlier node permitted kinds (c ∷ cs) h = grind (arith, by_test, λ (t : ColType). checked_visible earlier node permitted (kinds ++ t ∷ []) cs)
 
   pub values_are : (earlier : List Statement) → AreAccepted (fn_names fns) (scope_of columns) earlier → Extends earlier before → (node : List ℕ) (cs : List (List ℕ)) → AreVisible earlier node cs
       → for_all (column_value fns columns row {M = M} (path earlier node) u) cs ≡ for_all versioned (map (version_at columns earlier node) cs)

@@ -1,8 +1,8 @@
 -- Where each site stands, and that a script that goes on keeps the numbers of what it booked before.
-use Rattle.std.proofs.Common.{◌≡◌, ℕ, suc, ◌+◌, List, [], ◌∷◌, ◌++◌, length, Some, refl, ◌∙◌, ap, slice_get, length-append, sym, zero, ◌≤◌, map, None, Ok, arith, nat_eq}
+use Rattle.std.proofs.Common.{◌≡◌, ℕ, suc, List, [], ◌∷◌, ◌++◌, length, Some, refl, ap, slice_get, length-append, sym, zero, ◌≤◌, map, None, Ok, arith, nat_eq}
 use Rattle.lemmas.proofs.{kept_at}
 use Rattle.rdf_values.specs.{Column, FunctionNames, Statement, Under, VaryValues, AreAccepted, check, check_list, check_lists, check_vector_column, ColType, column_kind, EachColumn, expect_kind, first_refusal, GraphCause, kind_of, kind_or_int, NamedTree, refuse_unless, scope_at, scope_of}
-use Rattle.rdf_values.specs.declared.scripts.statement.Statement.TheVariants.{Vary, Define, Redefine, Filter}
+use Rattle.rdf_values.specs.declared.scripts.statement.Statement.TheVariants.{Vary}
 use Rattle.graph_numbers.specs.{cell_sources, cell_versions, own_columns, own_sites, own_sources, own_versions, SiteAt, sites, Source, sources, varied_sources, varied_versions, version_count, versions, list_sites, lists_sites, site_count, site_in, version_at}
 use Rattle.std.proofs.lemmas.Bool.Decides.{Decides-eqb}
 use Rattle.rdf_values.specs.declared.scripts.statement.VaryValues.TheVariants.{Lists, Vector}
@@ -49,9 +49,7 @@ module _ (header : List Column) (names : FunctionNames) where
     -- there is one source for each version
     pub source_count : (before : List Statement) → length (sources header names u before) ≡ version_count header before
     source_count [] = cell_sources_count 0 header
-    source_count (s ∷ before) =
-        length-append (sources header names u before) (own_sources header names u before (sources header names u before) s)
-        ∙ (λ i. source_count before i + own_count before (sources header names u before) s i)
+    source_count (s ∷ before) = grind (arith, length-append, source_count before, own_count)
 
   cell_versions_count : (n : ℕ) (cs : List Column) → length (cell_versions header names n cs) ≡ length cs
   cell_versions_count n [] = refl
@@ -68,7 +66,7 @@ module _ (header : List Column) (names : FunctionNames) where
   -- there are as many versions
   pub versions_count : (before : List Statement) → length (versions header names before) ≡ version_count header before
   versions_count [] = cell_versions_count 0 header
-  versions_count (s ∷ before) = length-append (versions header names before) (own_versions header names before s) ∙ (λ i. versions_count before i + own_versions_count before s i)
+  versions_count (s ∷ before) = grind (arith, length-append, versions_count before, own_versions_count)
 
 -- ---- Where each site stands: after those of the statements before its own, over columns that are visible there.
 
@@ -96,9 +94,7 @@ module _ (header : List Column) (names : FunctionNames) where
       → slice_get (list_sites header names before parent node i k es) l ≡ Some x → IsOwn before parent x
   list_own before parent node i k l t [] x ok h = cc h
   list_own before parent node i k zero t (e ∷ es) x ok h = grind (arith, both_none, kind_expected)
-  list_own before parent node i k (suc l) t (e ∷ es) x ok h =
-      let p = both_none (expect_kind t (kind_of (scope_at names (scope_of header) before parent) names e)) (map (λ e. expect_kind t (kind_of (scope_at names (scope_of header) before parent) names e)) es) ok in
-      list_own before parent node i (suc k) l t es x p.1 h
+  list_own before parent node i k (suc l) t (e ∷ es) x ok h = grind (arith, both_none, list_own before parent node i (suc k) l t es x)
 
   lists_own : (before : List Statement) (parent node : List ℕ) (tags i l : ℕ) (columns : List (List ℕ)) (lists : List (List NamedTree)) (x : SiteAt) → length lists ≡ length columns
       → first_refusal (check_lists names (scope_at names (scope_of header) before parent) tags columns lists) ≡ None
@@ -113,9 +109,6 @@ module _ (header : List Column) (names : FunctionNames) where
 
   -- the sites of a statement that was checked
   pub own_placed : (before : List Statement) (s : Statement) (k : ℕ) (x : SiteAt) → check names (scope_of header) before s ≡ None → slice_get (own_sites header names before s) k ≡ Some x → (parent : List ℕ) × IsOwn before parent x
-  own_placed before (Define node parent column expr) k x ok h = grind (arith, kind_known, checked_of, only_at)
-  own_placed before (Redefine node parent column expr) k x ok h = grind (arith, kind_known, checked_of, only_at)
-  own_placed before (Filter node parent expr label) k x ok h = grind (arith, all_none, only_at, kind_expected)
   own_placed before (Vary node parent columns (Lists lists) tags vary) k x ok h =
       let c = checked_of names (scope_of header) before (Vary node parent columns (Lists lists) tags vary) ok in
       let p = both_none (refuse_unless (nat_eq (length lists) (length columns)) GraphCause.WrongCount) (check_lists names (scope_at names (scope_of header) before parent) (length tags) columns lists) c.1 in
@@ -126,7 +119,7 @@ module _ (header : List Column) (names : FunctionNames) where
       let scope = scope_at names (scope_of header) before parent in
       let all = all_none (refuse_unless (nat_eq (length columns) 1) GraphCause.WrongCount ∷ expect_kind ColType.Vect (kind_of scope names e) ∷ check_vector_column scope columns ∷ []) c.1 in
       (parent, (site_at node, e, ColType.Vect, sym (only_at _ x k h), kind_expected ColType.Vect _ all.1.0))
-  own_placed before s k x ok h = cc h
+  own_placed before s k x ok h = grind (arith, kind_known, checked_of, only_at, all_none, kind_expected)
 
   placed_upto : (before upto : List Statement) → Extends upto before → AreAccepted names (scope_of header) upto → (s : ℕ) (x : SiteAt) → slice_get (sites header names upto) s ≡ Some x → IsPlaced before s x
   placed_upto before [] f good s x h = cc h

@@ -1,5 +1,5 @@
 -- Each result by its numbers comes to what its booking does.
-use Rattle.std.proofs.Common.{◌≡◌, ℕ, List, [], ◌∷◌, ◌++◌, map, Some, None, refl, ◌∙◌, slice_get}
+use Rattle.std.proofs.Common.{arith, ◌≡◌, ℕ, List, [], ◌∷◌, map, Some, None, refl, slice_get}
 use Rattle.std.proofs.lemmas.List.{map-append}
 use Rattle.rdf_values.specs.{AreAccepted, booked_by, bookings, Column, covered, fn_names, Function, FunctionNames, path, scope_of, Statement, Under, Value}
 use Rattle.rdf_values.specs.declared.scripts.statement.Statement.TheVariants.{Action, Report}
@@ -13,14 +13,12 @@ use Rattle.graph_numbers.proofs.Covering.{numbers_later, covered_numbers, report
 
 module _ (header : List Column) (names : FunctionNames) where
   own_booked : (before : List Statement) (s : Statement) → map (λ (r : ResultAt). r.booked) (own_results header names before s) ≡ booked_by before s
-  own_booked before (Action result parent k) = refl
-  own_booked before s = refl
+  own_booked before s = grind arith
 
   -- there is one for each that is booked
   pub booked_are : (before : List Statement) → map (λ (r : ResultAt). r.booked) (results header names before) ≡ bookings before
   booked_are [] = refl
-  booked_are (s ∷ before) =
-      map-append (λ (r : ResultAt). r.booked) (results header names before) (own_results header names before s) ∙ (λ i. booked_are before i ++ own_booked before s i)
+  booked_are (s ∷ before) = grind (arith, map-append, booked_are before, own_booked)
 
 module _ (M : Type 0) (fns : List Function) (columns : List Column) (row : List Value) (u : Under) (before : List Statement) where
   abbrev by_numbers : ResultAt → Outcome M Entry

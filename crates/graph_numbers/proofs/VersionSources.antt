@@ -1,15 +1,14 @@
 -- A version's source is what the version says.
-use Rattle.std.proofs.Common.{◌≡◌, ℕ, zero, suc, ◌+◌, ◌<◌, Bool, true, false, List, [], ◌∷◌, length, map, Option, Some, None, option_map, refl, sym, ◌∙◌, ap, subst, arith, slice_get, if◌then◌else◌}
+use Rattle.std.proofs.Common.{◌≡◌, ℕ, zero, suc, ◌+◌, ◌<◌, Bool, true, false, List, [], ◌∷◌, length, map, Option, Some, None, refl, sym, ◌∙◌, ap, subst, arith, slice_get, if◌then◌else◌}
 use Rattle.lemmas.proofs.{get_or_from_slice_get, mapped_at, slice_get_within, something_at}
 use Rattle.rdf_values.specs.{AreAccepted, check_target, Column, first_refusal, FunctionNames, GraphCause, is_alias, is_visible, own_variations, path, place, refuse_if, refuse_unless, same, scope_at, scope_of, Statement, target_of, Under, Variation, variations, VaryValues}
 use Rattle.rdf_values.specs.declared.scripts.statement.Statement.TheVariants.{Vary}
-use Rattle.rdf_values.specs.declared.scripts.statement.VaryValues.TheVariants.{Lists, Vector}
 use Rattle.rdf_model.specs.{own_place}
 use Rattle.rdf_model.proofs.Accepted.{all_none, both_none, checked_of, if_fails, itself as same_as_itself, names_equal, no_target, unless_holds, visible_known}
-use Rattle.graph_numbers.specs.{cell_sources, cell_versions, IsSourceOf, list_start, named_version, numbers_from, own_source, own_sources, own_versions, site_count, Source, source_in, sources, tag_source, under_at, varied_sources, varied_version, varied_versions, Version, version_kinds, versions}
+use Rattle.graph_numbers.specs.{cell_sources, cell_versions, IsSourceOf, named_version, numbers_from, own_source, own_sources, own_versions, site_count, Source, source_in, sources, tag_source, under_at, varied_sources, varied_version, varied_versions, Version, version_kinds, versions}
 use Rattle.graph_numbers.proofs.Apart.{variation_number}
 use Rattle.graph_numbers.proofs.Placing.{Extends, itself, further, kept, shorter, source_count, source_kept, versions_count}
-use Rattle.graph_numbers.proofs.Walks.{by_test, joined, next_at, place_gives}
+use Rattle.graph_numbers.proofs.Walks.{joined, next_at, place_gives}
 use Rattle.graph_numbers.proofs.Meeting.{kind_count, visible_kind}
 
 -- ---- places of names and numbers
@@ -17,16 +16,12 @@ use Rattle.graph_numbers.proofs.Meeting.{kind_count, visible_kind}
 -- a name that stands among others has a place
 place_found : (name : List ℕ) (names : List (List ℕ)) (k : ℕ) → slice_get names k ≡ Some name → place (same name) names ≡ None → ⊥
 place_found name [] k h none = cc h
-place_found name (x ∷ xs) zero h none = let is : same name x ≡ true = ap (same name) (let e : x ≡ name = cc h in e) ∙ same_as_itself name in cc (rw is at none)
-place_found name (x ∷ xs) (suc k) h none = by_test (same name x) (λ e. cc (rw e at none)) (λ e. place_found name xs k h (after (place (same name) xs) (rw e at none)))
-  where
-    after : (o : Option ℕ) → option_map suc o ≡ None → o ≡ None
-    after o q = grind arith
+place_found name (x ∷ xs) k h none = grind (arith, same_as_itself, λ (j : ℕ). place_found name xs j)
 
 number_at : {A : Type 0} (n : ℕ) (xs : List A) (k : ℕ) → k < length xs → slice_get (numbers_from n xs) k ≡ Some (n + k)
 number_at n [] k lt = absurd (omega (arith, lt))
-number_at n (x ∷ xs) zero lt = let e : n ≡ n + 0 = omega arith in ap Some e
-number_at n (x ∷ xs) (suc k) lt = let e : suc n + k ≡ n + suc k = omega arith in number_at (suc n) xs k (omega (arith, lt)) ∙ ap Some e
+number_at n (x ∷ xs) zero lt = grind arith
+number_at n (x ∷ xs) (suc k) lt = grind (arith, number_at (suc n) xs k)
 
 -- ---- variations
 
@@ -96,9 +91,7 @@ module _ (header : List Column) (names : FunctionNames) (script : List Statement
       × (((k : ℕ) → k < tags → v ≡ Some (first + k) → ⊥) → src ≡ b)
 
   says_further : (before : List Statement) (s : Statement) (x : Version) (src : Source) → Says before x src → Says (s ∷ before) x src
-  says_further before s (Version.Cell col) src h = h
-  says_further before s (Version.Computed site) src h = h
-  says_further before s (Version.Varied below first tags its vector) src h = (h.0, source_kept header names under before (s ∷ before) (further s itself) below h.0 h.1, h.2, h.3)
+  says_further before s x src h = let kept' = source_kept header names under before (s ∷ before) (further s itself) in grind (arith, kept')
 
   abbrev HasSaid : List Statement → List Source → Version → ℕ → Type 0
   HasSaid before list x c = (src : Source) × (slice_get list c ≡ Some src) × Says before x src
@@ -114,18 +107,7 @@ module _ (header : List Column) (names : FunctionNames) (script : List Statement
   said_by_vary : (before : List Statement) (values : VaryValues) (below first site i : ℕ) (tags : List (List ℕ)) (o : Option ℕ) (b : Source)
       → IsPlaceOf first (length tags) o → slice_get (list_of before) below ≡ Some b
       → Says before (varied_version header names values below first site tags i) (own_source values site i (length tags) o b)
-  said_by_vary before (Lists lists) below first site i tags None b own at = (b, at, (λ k lt is. absurd (own k lt is)), λ none. refl)
-  said_by_vary before (Vector e) below first site i tags None b own at = (b, at, (λ k lt is. absurd (own k lt is)), λ none. refl)
-  said_by_vary before (Lists lists) below first site i tags (Some k) b own at = (
-    b,
-    at,
-    (λ j lt is.
-        ap (λ n. Some (Source.Site (site + list_start lists i + n))) (sym (one_place first k j own.1 is))
-        ∙ sym (ap (option_map (λ s. Source.Site s)) (number_at (site + list_start lists i) tags j lt))),
-    λ none. absurd (none k own.0 own.1),
-  )
-  said_by_vary before (Vector e) below first site i tags (Some k) b own at =
-      (b, at, (λ j lt is. ap (λ n. Some (Source.Element site n (length tags))) (sym (one_place first k j own.1 is))), λ none. absurd (none k own.0 own.1))
+  said_by_vary before values below first site i tags o b own at = grind (arith, one_place, number_at)
 
   -- the version of a column that a Vary changes is there
   below_there : (before : List Statement) → AreAccepted names (scope_of header) before → (parent name : List ℕ)
@@ -159,8 +141,7 @@ module _ (header : List Column) (names : FunctionNames) (script : List Statement
             (said_by_vary before values (named_version header before parent name) (length (variations before)) (site_count header names before) i tags (own_place under vary tags) b.0 own b.1),
       )
   said_by_columns before ok parent values tags vary own i (suc c) (name ∷ cs) x free h =
-      let p = both_none (check_target (scope_at names (scope_of header) before parent) (path before parent) name) (map (check_target (scope_at names (scope_of header) before parent) (path before parent)) cs) free in
-      said_by_columns before ok parent values tags vary own (suc i) c cs x p.1 h
+      grind (arith, both_none, said_by_columns before ok parent values tags vary own (suc i) c cs x)
 
   said_by_site : (before : List Statement) (c : ℕ) (x : Version) → slice_get (Version.Computed (site_count header names before) ∷ []) c ≡ Some x → HasSaid before (Source.Site (site_count header names before) ∷ []) x c
   said_by_site before zero x h = let is : Version.Computed (site_count header names before) ≡ x = cc h in (Source.Site (site_count header names before), refl, subst (λ (y : Version). Says before y (Source.Site (site_count header names before))) is refl)
@@ -182,9 +163,7 @@ module _ (header : List Column) (names : FunctionNames) (script : List Statement
       (o.0, next_at (list_of before) (own_sources header names under before (list_of before) s) k c n ∙ o.1, says_further before s x o.0 o.2))
 
   in_words : (x : Version) (src : Source) (c : ℕ) → slice_get (list_of script) c ≡ Some src → Says script x src → IsSourceOf (slice_get (list_of script)) v x (slice_get (list_of script) c)
-  in_words (Version.Cell col) src c at h = at ∙ ap Some h
-  in_words (Version.Computed site) src c at h = at ∙ ap Some h
-  in_words (Version.Varied below first tags its vector) src c at h = ((λ k lt is. at ∙ h.2 k lt is), λ none. at ∙ ap Some (h.3 none) ∙ sym h.1)
+  in_words x src c at h = grind arith
 
 -- under nominal or the variation of that number each version has the source that it says
 pub version_source : (header : List Column) (names : FunctionNames) (script : List Statement) → AreAccepted names (scope_of header) script

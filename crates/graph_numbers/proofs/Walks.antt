@@ -1,9 +1,9 @@
 -- What holds of each named filter and of each result, place by place; the sites of filters are sites.
-use Rattle.std.proofs.Common.{◌≡◌, ◌⊎◌, inl, inr, ℕ, zero, suc, ◌+◌, Bool, true, false, List, [], ◌∷◌, ◌++◌, length, Some, sym, ◌∙◌, ap, arith, slice_get, zero-add, map, subst, ◌<◌, ◌≤◌, length-append}
+use Rattle.std.proofs.Common.{◌≡◌, ◌⊎◌, inl, inr, ℕ, ◌+◌, Bool, true, false, List, [], ◌∷◌, ◌++◌, length, Some, sym, ap, arith, slice_get, zero-add, map, ◌<◌, ◌≤◌, length-append}
 use Rattle.rdf_values.specs.{place, same, ActionAt, ActionKind, Column, columns_of, covered, FunctionNames, NamedTree, path, ReportOn, Statement, parent_of}
 use Rattle.rdf_model.proofs.Accepted.{names_equal, place_after}
 use Rattle.rdf_values.specs.declared.scripts.statement.Statement.TheVariants.{Filter, Action, Report}
-use Rattle.graph_numbers.specs.{covered_at, filter_sites, FilterAt, filters, own_filters, own_results, ResultAt, results, site_count, version_at, own_filter_site, own_sites, sites}
+use Rattle.graph_numbers.specs.{covered_at, filter_sites, FilterAt, filters, own_filters, own_results, ResultAt, results, site_count, version_at, own_filter_site}
 use Rattle.lemmas.proofs.{AllByRecursion, append-nil}
 
 pub by_test : {P : Type 0} (b : Bool) → (b ≡ true → P) → (b ≡ false → P) → P
@@ -11,15 +11,13 @@ by_test b f g = grind arith
 
 -- what stands in the second one
 pub next_at : {A : Type 0} (xs ys : List A) (k n : ℕ) → n ≡ length xs + k → slice_get (xs ++ ys) n ≡ slice_get ys k
-next_at [] ys k n h = ap (slice_get ys) (h ∙ zero-add k)
-next_at (x ∷ xs) ys k zero h = absurd (omega (arith, h))
-next_at (x ∷ xs) ys k (suc n) h = next_at xs ys k n (omega (arith, h))
+next_at [] ys k n h = grind arith
+next_at (x ∷ xs) ys k n h = grind (arith, next_at xs ys k)
 
 -- an element stands in the first list, or in the second one
 pub joined : {A P : Type 0} (xs ys : List A) (n : ℕ) (x : A) → slice_get (xs ++ ys) n ≡ Some x → (slice_get xs n ≡ Some x → P) → ((k : ℕ) → n ≡ length xs + k → slice_get ys k ≡ Some x → P) → P
 joined [] ys n x h first second = second n (sym (zero-add n)) h
-joined (y ∷ xs) ys zero x h first second = first h
-joined (y ∷ xs) ys (suc n) x h first second = joined xs ys n x h first (λ k e q. second k (omega (arith, e)) q)
+joined {P = P} (y ∷ xs) ys n x h first second = grind (arith, joined {P = P} xs ys)
 
 pub of_joined : {A : Type 0} (xs ys : List A) (n : ℕ) (x : A) → slice_get (xs ++ ys) n ≡ Some x → (slice_get xs n ≡ Some x) ⊎ ((k : ℕ) × (n ≡ length xs + k) × (slice_get ys k ≡ Some x))
 of_joined xs ys n x h = joined xs ys n x h (λ q. inl q) (λ k e q. inr (k, e, q))
@@ -100,13 +98,10 @@ one_further n s (t ∷ ss) lt h = (h.0, one_further n s ss lt h.1)
 
 module _ (header : List Column) (names : FunctionNames) where
   more_sites : (before : List Statement) (s : Statement) → site_count header names before ≤ site_count header names (s ∷ before)
-  more_sites before s = let e = length-append (sites header names before) (own_sites header names before s) in omega (arith, e)
+  more_sites before s = grind (arith, length-append)
 
   own_below : (before : List Statement) (s : Statement) (ss : List ℕ) → AreBelow (site_count header names before) ss → AreBelow (site_count header names (s ∷ before)) (ss ++ own_filter_site s (site_count header names before))
-  own_below before (Filter node parent expr label) ss h =
-      let e = length-append (sites header names before) (own_sites header names before (Filter node parent expr label)) in
-      one_further _ (site_count header names before) ss (omega (arith, e)) (further_below _ _ ss (more_sites before (Filter node parent expr label)) h)
-  own_below before s ss h = subst (AreBelow (site_count header names (s ∷ before))) (sym (append-nil ss)) (further_below _ _ ss (more_sites before s) h)
+  own_below before s ss h = grind (arith, length-append, one_further, further_below, more_sites, append-nil)
 
   pub filter_sites_below : (before : List Statement) (node : List ℕ) → AreBelow (site_count header names before) (filter_sites header names before node)
   filter_sites_below [] node = tt

@@ -37,9 +37,7 @@ all_bounded_with n cells i cell b all = All-set (IsBounded (n + 1)) cells i cell
 
 pub sum_from : (zs : List ℤ) (a : ℤ) → fold ◌+ℤ◌ a zs ≡ a +ℤ integer_sum zs
 sum_from [] a = sym (+ℤ_idr a)
-sum_from (z ∷ zs) a =
-    let head : pos 0 +ℤ z ≡ z = +ℤ_idl z in
-    sum_from zs (a +ℤ z) ∙ +ℤ_assoc a z (integer_sum zs) ∙ ap (λ s. a +ℤ s) (sym (rw head (sum_from zs z)))
+sum_from (z ∷ zs) a = grind (arith, +ℤ_idl, +ℤ_assoc, sum_from zs)
 
 pub integer_sum-append : (xs ys : List ℤ) → integer_sum (xs ++ ys) ≡ integer_sum xs +ℤ integer_sum ys
 integer_sum-append xs ys = fold-append ◌+ℤ◌ (pos 0) xs ys ∙ sum_from ys (integer_sum xs)
@@ -56,13 +54,7 @@ length-cells_on edges = length-below (suc (length edges)) ∙ sym (add-one (leng
 
 get_or-below : {X : Type 0} (f : ℕ → X) (n k : ℕ) (d : X) → k < n → get_or (map f (below n)) k d ≡ f k
 get_or-below f zero k d l = absurd (omega arith)
-get_or-below f (suc n) k d l =
-    let size : length (map f (below n)) ≡ n = length-map (below n) f ∙ length-below n in
-    rw (map-append f (below n) (n ∷ []))
-    (⊎_elim
-    (λ (e : k ≡ n). ap (λ i. get_or (map f (below n) ++ f n ∷ []) i d) e ∙ get_or_at (map f (below n)) (f n) [] d n size ∙ ap f (sym e))
-    (λ (ne : k ≡ n → ⊥). get_or_append_left (map f (below n)) (f n ∷ []) d k (omega arith) ∙ get_or-below f n k d (omega arith))
-    (cases_eq k n))
+get_or-below f (suc n) k d l = grind (arith, length-map, length-below, map-append, get_or_at, get_or_append_left, get_or-below f n k d)
 
 -- what stands at the place of a cell
 pub get_or-cells_on : {X : Type 0} (f : ℕ → X) (edges : List ℤ) (k : ℕ) (d : X) → k ≤ length edges → get_or (map f (cells_on edges)) k d ≡ f k

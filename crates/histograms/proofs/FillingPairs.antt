@@ -128,12 +128,7 @@ place_within xs ys i j place size e l m at = let inside = row_within (length ys 
 
 -- a row is as long as the second axis has cells
 pub length-row : (xs ys : List ℤ) (cells : List CellSum) (i : ℕ) → length cells ≡ (length xs + 1) * (length ys + 1) → i ≤ length xs → length (get_or (rows_on xs ys (map cell_seen cells)) i []) ≡ length ys + 1
-length-row xs ys cells i size l =
-    let w = length ys + 1 in
-    let fits = row_fits w (length xs) i l in
-    let long : length (map cell_seen cells) ≡ (length xs + 1) * w = length-map cells cell_seen ∙ size in
-    let room : w ≤ length (drop (i * w) (map cell_seen cells)) = rw (length-drop (i * w) (map cell_seen cells), long) (omega arith) in
-    ap length (get_or-cells_on (λ k. take w (drop (k * w) (map cell_seen cells))) xs i [] l) ∙ length-take-le w (drop (i * w) (map cell_seen cells)) room
+length-row xs ys cells i size l = grind (arith, row_fits, length-map, length-drop, get_or-cells_on, length-take-le)
 
 -- as many rows as the first axis has cells
 pub length-rows : (xs ys : List ℤ) (cells : List CellSum) → length (rows_on xs ys (map cell_seen cells)) ≡ length xs + 1

@@ -1,5 +1,5 @@
 -- Edges that rise, where the buckets of an axis begin, and the cell that is found by them.
-use Rattle.std.proofs.Common.{ℕ, zero, suc, ◌≡◌, ◌<◌, ◌≤◌, Bool, true, false, cond, ◌&&◌, length, get_or, List, [], ◌∷◌, ℤ, ◌<ℤ◌, arith, refl, sym, ◌∙◌, add-one, int_lt, int_le, count_by, nat_le, ◌+◌, ◌-◌, pos, ◌≤ℤ◌, FitsSigned, w64, to_z, of_z, subst, ap}
+use Rattle.std.proofs.Common.{ℕ, zero, suc, ◌≡◌, ◌<◌, ◌≤◌, Bool, true, false, cond, length, get_or, List, [], ◌∷◌, ℤ, ◌<ℤ◌, arith, refl, sym, ◌∙◌, add-one, int_lt, int_le, count_by, nat_le, ◌+◌, ◌-◌, pos, ◌≤ℤ◌, FitsSigned, w64, to_z, of_z, subst, ap}
 use Rattle.lemmas.proofs.{both_true, ints, IsAllAdjacentAnswer, IsPartitionedBy, IsPartitionPoint, leb-true, sum_by-cons, cases_Bool, cases_lt, false_from_ne_true, get_or_default, shr_mono, to_z-of_z}
 use Rattle.rdf_values.specs.{are_edges, rises, bin}
 use mir.Val.{bool_byte}
@@ -9,18 +9,12 @@ use Rattle.histograms.specs.declared.buckets.Buckets.{Buckets}
 rises_all : (xs : List ℤ) → ((k : ℕ) (d : ℤ) → suc k < length xs → true ≡ int_lt (get_or xs k d) (get_or xs (suc k) d)) → rises xs ≡ true
 rises_all [] h = refl
 rises_all (x ∷ []) h = refl
-rises_all (x ∷ y ∷ zs) h =
-    let first : true ≡ int_lt x y = h 0 x (omega arith) in
-    let rest : rises (y ∷ zs) ≡ true = rises_all (y ∷ zs) (λ k d l. h (suc k) d (omega arith)) in
-    rw (← first) rest
+rises_all (x ∷ y ∷ zs) h = let first = h 0 x (omega arith) in grind (arith, first, rises_all (y ∷ zs) (λ k d l. h (suc k) d (omega arith)))
 
 rises_not : (xs : List ℤ) (k : ℕ) → suc k < length xs → ((d : ℤ) → false ≡ int_lt (get_or xs k d) (get_or xs (suc k) d)) → rises xs ≡ false
-rises_not [] k l h = absurd (omega arith)
-rises_not (x ∷ []) k l h = absurd (omega arith)
 rises_not (x ∷ y ∷ zs) zero l h = let first : false ≡ int_lt x y = h x in rw (← first) refl
-rises_not (x ∷ y ∷ zs) (suc k) l h =
-    let rest : rises (y ∷ zs) ≡ false = rises_not (y ∷ zs) k (omega arith) h in
-    rw rest (elim (int_lt x y) as (λ b. (b && false) ≡ false) [ true ↦ refl | false ↦ refl ])
+rises_not (x ∷ y ∷ zs) (suc k) l h = grind (arith, rises_not (y ∷ zs) k)
+rises_not xs k l h = absurd (omega arith)
 
 pub rises-adjacent : (xs : List ℤ) (r : Bool) → IsAllAdjacentAnswer (λ x y b. b ≡ int_lt x y) xs r → r ≡ rises xs
 rises-adjacent xs true h = sym (rises_all xs (λ k d l. rw add-one at (h k d (omega arith))))
@@ -30,9 +24,7 @@ rises_head : (x : ℤ) (xs : List ℤ) → rises (x ∷ xs) ≡ true → (k : �
 rises_head x [] h k d l = absurd (omega arith)
 rises_head x (y ∷ zs) h zero d l = let first = (both_true (int_lt x y) (rises (y ∷ zs)) h).0 in grind (arith, ints)
 rises_head x (y ∷ zs) h (suc k) d l =
-    let first = (both_true (int_lt x y) (rises (y ∷ zs)) h).0 in
-    let more : y <ℤ get_or zs k d = rises_head y zs (both_true (int_lt x y) (rises (y ∷ zs)) h).1 k d (omega arith) in
-    grind (arith, ints)
+    let first = both_true (int_lt x y) (rises (y ∷ zs)) h in let more = rises_head y zs first.1 k d (omega arith) in grind (arith, ints, first)
 
 rises_tail : (x : ℤ) (xs : List ℤ) → rises (x ∷ xs) ≡ true → rises xs ≡ true
 rises_tail x xs h = grind (arith, both_true)

@@ -6,7 +6,7 @@ use Rattle.rdf_model.specs.{Demand, projected, demanded, distinct, pass_demands,
 use Rattle.graph_numbers.specs.{graph_sites, graph_under, graph_variations, HasSourceIn, SiteAt, Source}
 use Rattle.graph_numbers.proofs.Closing.{IsDemanded, closed}
 use Rattle.graph_numbers.proofs.Demands.{AreExplained}
-use Rattle.graph_numbers.proofs.Meeting.{In, here, there}
+use Rattle.rdf_values.proofs.KeptLemmas.{In, here, there}
 use Rattle.loop_keys.specs.{demand_key, HasAllKeys, IsClosed, IsJob, IsSourceIn, job_graph, JobView, key, key_or_first, keys_before, keys_in, row_of, slot, slot_at, source_at, under_number, entry_demands, HasAllDemands, passes_in}
 use Rattle.loop_keys.proofs.Elements.{any_in, at_in, in_any, each_in, in_flat}
 use Rattle.graph_numbers.proofs.Walks.{by_test}

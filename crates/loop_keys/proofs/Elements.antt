@@ -6,7 +6,7 @@ use Rattle.expr_check.specs.{CheckedExpr, distinct}
 use Rattle.expr_check.proofs.Distinct.{each_distinct}
 use Rattle.graph_numbers.proofs.Walks.{by_test, joined, only_at}
 use Rattle.loop_keys.specs.{AreEach}
-use Rattle.graph_numbers.proofs.Meeting.{In, here, there, in_left, in_right, each_at}
+use Rattle.rdf_values.proofs.KeptLemmas.{In, here, there, in_left, in_right, each_at}
 
 pub any_in : {A : Type 0} (test : A → Bool) (xs : List A) → list_any test xs ≡ true → (x : A) × In x xs × (test x ≡ true)
 any_in test [] h = cc h

@@ -5,7 +5,6 @@ use Rattle.rdf_values.specs.{same, same_variation, Under, Variation, Column, Fun
 use Rattle.rdf_model.specs.{Demand, same_demand, same_site, same_under, Site, ◌>>=◌, column_in, cutflow, Dataset, Entry, Feed, Gives, named_in, named_value, Outcome, passes_filters, report_in, Access, access_passes, access_printed, accesses, Course, first_fault, in_front_of, Printed, printed, result_lines, transcript}
 use Rattle.rdf_model.proofs.Accepted.{names_equal}
 use Rattle.std.proofs.lemmas.List.Sums.{sum_by-le-sum_by}
-use Rattle.rdf_values.specs.declared.scripts.statement.Statement.TheVariants.{Define, Redefine}
 
 site_is : (s t : Site) → same_site s t ≡ true → s ≡ t
 site_is s t h =
@@ -60,9 +59,7 @@ module _ (fns : List Function) (columns : List Column) (row : List Value) where
   -- a column that is no alias, under nominal
   named_from_maker : (at : Path) (name : List ℕ) → named_value fns columns row {M = ⊥} at None name ≡ named_value fns columns row (named_maker at name) None name
   named_from_maker [] name = refl
-  named_from_maker (Define node parent column expr ∷ up) name = grind (arith, named_from_maker up name)
-  named_from_maker (Redefine node parent column expr ∷ up) name = grind (arith, named_from_maker up name)
-  named_from_maker (s ∷ up) name = named_from_maker up name
+  named_from_maker (s ∷ up) name = grind (arith, named_from_maker up name)
 
 pub columns_come_from_their_maker : (d : Dataset) (row : List Value) (at : Path) (name : List ℕ) → column_in d row at None name ≡ named_in d row (maker at name) None (target_of at name)
 columns_come_from_their_maker d row at name = named_from_maker d.fns d.columns row at (target_of at name)

@@ -1,37 +1,26 @@
 -- Evaluation is the same whatever stands for what is missing.
-use Rattle.std.proofs.Common.{◌≡◌, ℕ, ℤ, Bool, true, false, List, [], ◌∷◌, Option, Some, None, refl, if◌then◌else◌, length, nat_eq, map, slice_get, ◌+ℤ◌, ◌-ℤ◌, ◌*ℤ◌, neg_ℤ, int_div, nat_abs, pos, negsuc}
-use Rattle.std.specs.Int.{int_min, int_max}
-use Rattle.rdf_values.specs.{Bin, BinOp, Call, Callee, callee, Col, Column, Cond, EachArgument, EachColumn, End, fn_names, Function, Lit, More, NamedTree, Neg, Not, Path, Pick, place, same, target_of, Tree, Trees, Under, Value, VaryValues}
+use Rattle.std.proofs.Common.{arith, ◌≡◌, ℕ, ℤ, Bool, true, false, List, [], ◌∷◌, Option, if◌then◌else◌, length, nat_eq, slice_get, ◌+ℤ◌, pos, negsuc}
+use Rattle.rdf_values.specs.{Bin, BinOp, Call, Callee, callee, Col, Column, Cond, EachArgument, EachColumn, End, fn_names, Function, More, NamedTree, Neg, Not, Path, Pick, place, same, target_of, Tree, Trees, Under, Value, VaryValues}
 use Rattle.rdf_values.proofs.KeptLemmas.{all_columns}
-use Rattle.rdf_values.specs.expressions.Expressions.{Truth}
-use Rattle.rdf_values.specs.declared.scripts.statement.VaryValues.TheVariants.{Lists, Vector}
 use Rattle.rdf_values.specs.declared.scripts.statement.Statement.TheVariants.{Define, Redefine, Vary}
-use Rattle.rdf_model.specs.{◌>>=◌, answer_outcome, argument, call_outcome, cell, checked, chosen_side, column_value, divided, element, element_outcome, evaluate, evaluate_all, expression_at, expression_value, extreme_element, fits, for_all, given_call, Gives, in_order, inversion, is_zero, mark, named_call, named_value, needs, negation, number_operation, operation, Outcome, own_place, pairs, picked, sum_from, tag_element, tag_value, value_if, value_operation, varied, vector_operation, with_needs}
+use Rattle.rdf_model.specs.{◌>>=◌, answer_outcome, call_outcome, cell, checked, chosen_side, column_value, divided, element, element_outcome, evaluate, evaluate_all, expression_value, extreme_element, for_all, given_call, Gives, in_order, inversion, is_zero, named_call, named_value, needs, negation, number_operation, operation, Outcome, own_place, pairs, picked, sum_from, tag_element, tag_value, value_if, value_operation, varied, vector_operation, with_needs}
 use Rattle.rdf_model.specs.Laws.{Alike, gives, faults}
 
 module _ (M N : Type 0) where
   pub bind_alike : {A B : Type 0} {o : Outcome M A} {p : Outcome N A} (f : A → Outcome M B) (g : A → Outcome N B) → Alike o p → ((a : A) → Alike (f a) (g a)) → Alike (o >>= f) (p >>= g)
-  bind_alike f g (gives {a = a}) h = h a
-  bind_alike f g faults h = faults
-  bind_alike f g needs h = needs
+  bind_alike f g k h = grind (arith, gives, faults, needs)
 
   if_alike : {A : Type 0} (b : Bool) {o o' : Outcome M A} {p p' : Outcome N A} → Alike o p → Alike o' p' → Alike (if b then o else o') (if b then p else p')
-  if_alike true h k = h
-  if_alike false h k = k
+  if_alike b h k = grind arith
 
   checked_alike : (z : ℤ) → Alike (checked {M = M} z) (checked {M = N} z)
-  checked_alike z = if_alike (fits z) gives faults
+  checked_alike z = grind (arith, gives, faults)
 
   divided_alike : (y : ℤ) {o : Outcome M ℤ} {p : Outcome N ℤ} → Alike o p → Alike (divided y o) (divided y p)
   divided_alike y h = if_alike (is_zero y) faults h
 
   number_alike : (o : BinOp) (x y : ℤ) → Alike (number_operation {M = M} o x y) (number_operation {M = N} o x y)
-  number_alike BinOp.Add x y = checked_alike (x +ℤ y)
-  number_alike BinOp.Sub x y = checked_alike (x -ℤ y)
-  number_alike BinOp.Mul x y = checked_alike (x *ℤ y)
-  number_alike BinOp.Div x y = divided_alike y (checked_alike (int_div x y))
-  number_alike BinOp.Rem x y = divided_alike y gives
-  number_alike o x y = gives
+  number_alike o x y = grind (arith, checked_alike, divided_alike, gives)
 
   pub for_all_alike : {A B : Type 0} (f : A → Outcome M B) (g : A → Outcome N B) → ((a : A) → Alike (f a) (g a)) → (xs : List A) → Alike (for_all f xs) (for_all g xs)
   for_all_alike f g h [] = gives
@@ -42,12 +31,7 @@ module _ (M N : Type 0) where
       if_alike (nat_eq (length xs) (length ys)) (bind_alike _ _ (for_all_alike (λ (p : ℤ × ℤ). number_operation o p.0 p.1) (λ (p : ℤ × ℤ). number_operation o p.0 p.1) (λ p. number_alike o p.0 p.1) (pairs xs ys)) (λ z. gives)) faults
 
   value_alike : (o : BinOp) (v w : Value) → Alike (value_operation {M = M} o v w) (value_operation {M = N} o v w)
-  value_alike o (Value.Int x) (Value.Int y) = bind_alike _ _ (number_alike o x y) (λ z. gives)
-  value_alike o (Value.Int x) (Value.Vect ys) = bind_alike _ _ (for_all_alike (number_operation o x) (number_operation o x) (number_alike o x) ys) (λ z. gives)
-  value_alike o (Value.Vect xs) (Value.Int y) = bind_alike _ _ (for_all_alike (λ x. number_operation o x y) (λ x. number_operation o x y) (λ x. number_alike o x y) xs) (λ z. gives)
-  value_alike o (Value.Vect xs) (Value.Vect ys) = vector_alike o xs ys
-  value_alike o (Value.Bool a) (Value.Bool b) = bind_alike _ _ (number_alike o (mark a) (mark b)) (λ z. gives)
-  value_alike o v w = gives
+  value_alike o v w = grind (arith, bind_alike, number_alike, for_all_alike, vector_alike, gives)
 
   in_order_alike : {o p : Outcome M Value} {o' p' : Outcome N Value} (f : Value → Value → Outcome M Value) (g : Value → Value → Outcome N Value) → ((v w : Value) → Alike (f v w) (g v w)) → Alike o o' → Alike p p'
       → Alike (in_order f o p) (in_order g o' p')
@@ -65,31 +49,23 @@ module _ (M N : Type 0) where
   operation_alike o h k = in_order_alike (value_operation o) (value_operation o) (value_alike o) h k
 
   negation_alike : (v : Value) → Alike (negation {M = M} v) (negation {M = N} v)
-  negation_alike (Value.Int x) = bind_alike _ _ (checked_alike (neg_ℤ x)) (λ z. gives)
-  negation_alike (Value.Vect xs) = bind_alike _ _ (for_all_alike (λ x. checked (neg_ℤ x)) (λ x. checked (neg_ℤ x)) (λ x. checked_alike (neg_ℤ x)) xs) (λ z. gives)
-  negation_alike (Value.Bool b) = gives
+  negation_alike v = grind (arith, bind_alike, checked_alike, for_all_alike, gives)
 
   inversion_alike : (v : Value) → Alike (inversion {M = M} v) (inversion {M = N} v)
-  inversion_alike (Value.Int x) = gives
-  inversion_alike v = gives
+  inversion_alike v = grind (arith, gives)
 
   chosen_alike : (v : Value) {a b : Outcome M Value} {a' b' : Outcome N Value} → Alike a a' → Alike b b' → Alike (chosen_side v a b) (chosen_side v a' b')
-  chosen_alike (Value.Bool true) h k = h
-  chosen_alike (Value.Bool false) h k = k
-  chosen_alike v h k = gives
+  chosen_alike v h k = grind (arith, gives)
 
   element_of_alike : (o : Option ℤ) → Alike (element_outcome {M = M} o) (element_outcome {M = N} o)
-  element_of_alike (Some z) = gives
-  element_of_alike None = faults
+  element_of_alike o = grind (arith, gives, faults)
 
   element_alike : (xs : List ℤ) (i : ℤ) → Alike (element {M = M} xs i) (element {M = N} xs i)
   element_alike xs (pos i) = element_of_alike (slice_get xs i)
   element_alike xs (negsuc i) = faults
 
   picked_alike : (v w : Value) → Alike (picked {M = M} v w) (picked {M = N} v w)
-  picked_alike (Value.Vect xs) (Value.Int i) = element_alike xs i
-  picked_alike (Value.Vect xs) (Value.Vect ms) = if_alike (nat_eq (length xs) (length ms)) gives faults
-  picked_alike v w = gives
+  picked_alike v w = grind (arith, element_alike, if_alike, gives, faults)
 
   sum_alike : (z : ℤ) (xs : List ℤ) → Alike (sum_from {M = M} z xs) (sum_from {M = N} z xs)
   sum_alike z [] = gives
@@ -100,24 +76,13 @@ module _ (M N : Type 0) where
   extreme_alike better (x ∷ xs) = gives
 
   answer_alike : (a : Option ℤ) → Alike (answer_outcome {M = M} a) (answer_outcome {M = N} a)
-  answer_alike (Some z) = gives
-  answer_alike None = faults
+  answer_alike a = grind (arith, gives, faults)
 
   given_alike : (f : Option Function) (zs : List ℤ) → Alike (given_call {M = M} f zs) (given_call {M = N} f zs)
-  given_alike None zs = gives
-  given_alike (Some f) zs = answer_alike (f.answer zs)
+  given_alike f zs = grind (arith, gives, answer_alike)
 
   pub call_alike : (fns : List Function) (f : Callee) (vs : List Value) → Alike (call_outcome {M = M} fns f vs) (call_outcome {M = N} fns f vs)
-  call_alike fns Callee.Sum (Value.Vect xs ∷ []) = bind_alike _ _ (sum_alike (pos 0) xs) (λ z. gives)
-  call_alike fns Callee.Min (Value.Vect xs ∷ []) = extreme_alike int_min xs
-  call_alike fns Callee.Max (Value.Vect xs ∷ []) = extreme_alike int_max xs
-  call_alike fns Callee.Size (Value.Vect xs ∷ []) = gives
-  call_alike fns Callee.Any (Value.Vect xs ∷ []) = gives
-  call_alike fns Callee.All (Value.Vect xs ∷ []) = gives
-  call_alike fns Callee.At (Value.Vect xs ∷ Value.Int i ∷ []) = element_alike xs i
-  call_alike fns Callee.Abs (Value.Int z ∷ []) = bind_alike _ _ (checked_alike (pos (nat_abs z))) (λ z. gives)
-  call_alike fns (Callee.Given i) vs = given_alike (slice_get fns i) (map argument vs)
-  call_alike fns f vs = gives
+  call_alike fns f vs = grind (arith, bind_alike, sum_alike, extreme_alike, element_alike, checked_alike, given_alike, gives)
 
   -- ---- expressions
 
@@ -125,8 +90,6 @@ module _ (M N : Type 0) where
       (calls : (f : F) (vs : List Value) → Alike (call f vs) (call' f vs)) where
     mutual
       pub evaluate_alike : (e : Tree C F) → EachColumn (λ c. Alike (look c) (look' c)) e → Alike (evaluate look call e) (evaluate look' call' e)
-      evaluate_alike (Lit z) h = gives
-      evaluate_alike (Truth b) h = gives
       evaluate_alike (Col c) h = h
       evaluate_alike (Neg a) h = bind_alike _ _ (evaluate_alike a h) negation_alike
       evaluate_alike (Not a) h = bind_alike _ _ (evaluate_alike a h) inversion_alike
@@ -134,6 +97,7 @@ module _ (M N : Type 0) where
       evaluate_alike (Cond c a b) h = bind_alike _ _ (evaluate_alike c h.0) (λ v. chosen_alike v (evaluate_alike a h.1) (evaluate_alike b h.2))
       evaluate_alike (Pick v i) h = in_order_alike picked picked picked_alike (evaluate_alike v h.0) (evaluate_alike i h.1)
       evaluate_alike (Call f args) h = bind_alike _ _ (evaluate_all_alike args h) (calls f)
+      evaluate_alike e h = gives
 
       pub evaluate_all_alike : (es : Trees C F) → EachArgument (λ c. Alike (look c) (look' c)) es → Alike (evaluate_all look call es) (evaluate_all look' call' es)
       evaluate_all_alike End h = gives
@@ -155,17 +119,14 @@ module _ (M N : Type 0) where
     tag_alike tags k v = gives
 
     value_if_alike : (o : Option NamedTree) (f : NamedTree → Outcome M Value) (g : NamedTree → Outcome N Value) → ((e : NamedTree) → Alike (f e) (g e)) → Alike (value_if f o) (value_if g o)
-    value_if_alike None f g h = gives
-    value_if_alike (Some e) f g h = h e
+    value_if_alike o f g h = grind (arith, gives)
 
     tag_value_alike : (values : VaryValues) (tags i k : ℕ) (f : NamedTree → Outcome M Value) (g : NamedTree → Outcome N Value) → ((e : NamedTree) → Alike (f e) (g e)) → Alike (tag_value values tags i k f) (tag_value values tags i k g)
-    tag_value_alike (Lists lists) tags i k f g h = value_if_alike (expression_at lists i k) f g h
-    tag_value_alike (Vector e) tags i k f g h = bind_alike _ _ (h e) (tag_alike tags k)
+    tag_value_alike values tags i k f g h = grind (arith, value_if_alike, bind_alike, tag_alike)
 
     varied_alike : (k i : Option ℕ) (own : ℕ → ℕ → Outcome M Value) (own' : ℕ → ℕ → Outcome N Value) {above : Outcome M Value} {above' : Outcome N Value} → ((i k : ℕ) → Alike (own i k) (own' i k)) → Alike above above'
         → Alike (varied k i own above) (varied k i own' above')
-    varied_alike (Some k) (Some i) own own' h a = h i k
-    varied_alike k i own own' h a = a
+    varied_alike k i own own' h a = grind arith
 
     pub named_alike : (at : Path) (u : Under) (name : List ℕ) → Alike (named_value fns columns row {M = M} at u name) (named_value fns columns row {M = N} at u name)
     named_alike [] u name = cell_alike columns row name
@@ -184,6 +145,4 @@ module _ (M N : Type 0) where
 
 -- where nothing can be missing, nothing is
 pub alike_is : {M A : Type 0} (o : Outcome ⊥ A) (p : Outcome M A) → Alike o p → p ≡ with_needs o
-alike_is o p gives = refl
-alike_is o p faults = refl
-alike_is o p (needs {m = m}) = absurd m
+alike_is o p h = grind arith

@@ -1,7 +1,7 @@
 -- The script that a text of at most 65,536 bytes is can be booked.
-use Rattle.std.proofs.Common.{◌≢◌, ◌≤◌, ◌<◌, List, [], ◌∷◌, ◌++◌, length, All, arith, sym, ◌+◌, ℕ, ◌≡◌, zero, suc, Bool, Some, None, Ok, Result, refl, ap, length-append, if◌then◌else◌, ℤ, ◌&&◌, ◌==◌}
-use Rattle.lemmas.proofs.{All-append, All-cons, All-head, All-tail, all_pairs_push, AllPairs-from_increasing, common_steps, All-from_recursion, AllByRecursion, length-map}
-use Rattle.rdf_values.specs.{AreFnNames, AreMarks, FnName, HaveDistinctNames, IsBuiltIn, LacksName, ActionKind, all_strings, AreLines, AreNames, AreRising, AreShortValues, arguments, begins_with, blank_line, Close, Comma, edges_tokens, expression_count, Form, form_tokens, IsAction, IsBookable, IsLine, IsScript, IsShort, last_item, last_list, Lexeme, lexeme, Line, lines_of, Mark, maybe_string, Method, more_edges, more_items, more_lists, more_names, more_strings, NamedTree, no_lines, no_names, one_list, PlacedToken, Punct, Quoted, QuotedText, ReadsList, ReadsLists, ReadsValues, ReadsValuesText, Says, Script, several_lists, Statement, statement_line, strings_tokens, Token, tokens_from, VaryValues, vector, with_byte, with_lexeme}
+use Rattle.std.proofs.Common.{◌≢◌, ◌≤◌, ◌<◌, List, [], ◌∷◌, ◌++◌, length, All, arith, sym, ◌+◌, ℕ, ◌≡◌, zero, suc, Some, None, Ok, Result, refl, ap, length-append, ℤ}
+use Rattle.lemmas.proofs.{All-append, All-cons, All-head, All-tail, common_steps, All-from_recursion, AllByRecursion, length-map}
+use Rattle.rdf_values.specs.{AreFnNames, FnName, HaveDistinctNames, IsBuiltIn, LacksName, ActionKind, all_strings, AreLines, AreNames, AreRising, AreShortValues, arguments, blank_line, Close, Comma, edges_tokens, expression_count, Form, form_tokens, IsAction, IsBookable, IsLine, IsScript, IsShort, last_item, last_list, Lexeme, lexeme, Line, lines_of, Mark, maybe_string, Method, more_edges, more_items, more_lists, more_names, more_strings, NamedTree, no_lines, no_names, one_list, PlacedToken, Punct, Quoted, QuotedText, ReadsList, ReadsLists, ReadsValues, ReadsValuesText, Says, Script, several_lists, Statement, statement_line, strings_tokens, Token, tokens_from, VaryValues, vector, with_lexeme}
 use Rattle.rdf_values.proofs.OneText.{few_tokens}
 use Rattle.rdf_values.specs.declared.scripts.statement.Statement.TheVariants.{Action}
 use Rattle.rdf_values.specs.scripts.LineForms as form
@@ -21,14 +21,6 @@ AreFnNames-push fs f a room arity lacks free = record {
   arities = All-append (λ h. h.arity ≤ 8) fs (f ∷ []) a.arities (All-one (λ h. h.arity ≤ 8) f arity);
   distinct = HaveDistinctNames-push fs f a.distinct lacks;
   not_built_in = All-append (λ h. IsBuiltIn h.name → ⊥) fs (f ∷ []) a.not_built_in (All-one (λ h. IsBuiltIn h.name → ⊥) f free);
-}
-
--- ---- marks
-
-pub AreMarks-push : (marks : List ℕ) (e : ℕ) → AreMarks marks → All (λ m. m < e) marks → e < 1000000 → AreMarks (marks ++ e ∷ [])
-AreMarks-push marks e a above few = record {
-  rising = (let pairs = all_pairs_push (λ x y. x < y) marks e (AllPairs-from_increasing marks a.rising) (λ k d h. above k d h) in λ k h. pairs k (k + 1) 0 (omega arith) h);
-  few = All-append (λ m. m < 1000000) marks (e ∷ []) a.few (All-cons (λ m. m < 1000000) e [] few (λ k d h. absurd (omega arith)));
 }
 
 -- ---- The script that a text of at most 65,536 bytes is can be booked.
@@ -125,10 +117,7 @@ longer m (l ∷ ls) h = (let q = h.0 in omega (arith, q), longer m ls h.1)
 lines_within : (text : List ℕ) → AreWithin (length text) (lines_of text)
 unfolding lines_of
 lines_within [] = tt
-lines_within (c ∷ cs) = go (c == 10) (c == 13 && begins_with 10 cs) (lines_within cs)
-  where
-    go : (a b : Bool) → AreWithin (length cs) (lines_of cs) → AreWithin (suc (length cs)) (if a then [] ∷ lines_of cs else (if b then lines_of cs else with_byte c (lines_of cs)))
-    go a b h = grind (arith, longer)
+lines_within (c ∷ cs) = grind (arith, longer, lines_within cs)
 
 -- ---- a script
 

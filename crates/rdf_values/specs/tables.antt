@@ -3,7 +3,5 @@ pub mod Generator
 pub mod Integers
 pub mod Kept
 pub mod Pieces
-pub mod StoredNumbers
 pub mod TableText
 pub mod Tables
-pub mod Values

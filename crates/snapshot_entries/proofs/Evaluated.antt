@@ -7,7 +7,7 @@ use Rattle.expr_check.specs.{CheckedExpr}
 use Rattle.expr_eval.specs.{EvalStop, scalar_outcome, scalar_value, ScalarStop, StopsAs}
 use Rattle.graph_numbers.specs.{booked_statements, graph_kinds, graph_sites, graph_versions, IsBelow, IsSiteExpr, SiteAt, Source}
 use Rattle.graph_numbers.proofs.Placing.{versions_count}
-use Rattle.graph_numbers.proofs.Meeting.{In, here, there}
+use Rattle.rdf_values.proofs.KeptLemmas.{In, here, there}
 use Rattle.snapshot_plan.specs.{PlanView}
 use Rattle.snapshot_entries.specs.{AreHeld, AreKnown, IsReadable, IsSourceHeld, IsWork, plan_graph, row_in, site_in, site_total, source_of, version_in}
 use Rattle.snapshot_entries.specs.declared.known.Known.{Known}

@@ -7,7 +7,8 @@ use Rattle.rdf_model.proofs.Missing.{site_alike, tag_alike, alike_is}
 use Rattle.expr_check.specs.{CheckedExpr, distinct, IsWellTyped}
 use Rattle.graph_numbers.specs.{cell_value, IsBelow, site_outcome, site_value, SiteAt, sites, Source, source_in, source_value, sources, version_count, version_kinds}
 use Rattle.graph_numbers.proofs.Equations.{columns_below, number_value, site_is, version_value}
-use Rattle.graph_numbers.proofs.Meeting.{In, here, there, each_at, FitsVersion, site_fits}
+use Rattle.rdf_values.proofs.KeptLemmas.{In, here, there, each_at}
+use Rattle.graph_numbers.proofs.Meeting.{FitsVersion, site_fits}
 
 -- ---- lists
 

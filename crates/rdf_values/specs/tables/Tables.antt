@@ -2,6 +2,7 @@
 use Rattle.std.specs.Prelude.{ℕ, ℤ, ◌≡◌, ◌≤◌, ◌<◌, ⊤, Bool, false, ◌||◌, length, map, List, [], ◌∷◌, ◌++◌, Option, Some, option_and_then, option_map, slice_get, bytes_eq}
 use Rattle.rdf_values.specs.scripts.Words.{IsBounded}
 use Rattle.rdf_values.specs.declared.tables.table.Column.{Column}
+use Rattle.rdf_values.specs.declared.tables.value.Cell.{Cell}
 use Rattle.rdf_values.specs.declared.tables.value.ColType.{ColType}
 use Rattle.rdf_values.specs.declared.tables.value.Value.{Value}
 
@@ -9,6 +10,11 @@ use Rattle.rdf_values.specs.declared.tables.value.Value.{Value}
 pub record TableView : Type 0 where
   pub columns : List Column
   pub rows : List (List Value)
+
+-- the value that a table gives
+abbrev pub value_of : Cell → Value
+value_of (Cell.Int n) = Value.Int n
+value_of (Cell.Vect ns) = Value.Vect ns.now
 
 -- a value is of a column's kind, and a vector has at most 4,096 elements
 abbrev pub FitsKind : ColType → Value → Type 0

@@ -23,7 +23,7 @@ pub struct Numbers {
 
 impl Model for Numbers {
     ghost use Rattle.std.specs.Prelude.{List, ℤ};
-    ghost use Rattle.rdf_values.specs.tables.StoredNumbers.{numbers_in};
+    ghost use Rattle.rdf_values.specs.tables.Pieces.{numbers_in};
 
     ghost Value = { List ℤ };
 
@@ -61,7 +61,7 @@ fn push_as_wide<T: Drop>(items: &mut Vec<T>, number: T) -> Result<(), Memory>
 }
 
 impl Numbers {
-    ghost use Rattle.rdf_values.specs.tables.StoredNumbers.{numbers_in};
+    ghost use Rattle.rdf_values.specs.tables.Pieces.{numbers_in};
 
     /// No numbers.
     pub fn new(alloc: Global) -> Numbers

@@ -32,8 +32,7 @@ impl Model for Table {
 
 impl Table {
     ghost use Rattle.rdf_values.specs.tables.Kept.{HoldsTable, rows_kept};
-    ghost use Rattle.rdf_values.specs.tables.Tables.{FitsRow, IsHeader, IsTable, cell};
-    ghost use Rattle.rdf_values.specs.tables.Values.{value_of};
+    ghost use Rattle.rdf_values.specs.tables.Tables.{FitsRow, IsHeader, IsTable, cell, value_of};
 
     /// A table of no rows.
     #[tactic(auto, using(crate::proofs::KeptLemmas::holds_new, crate::proofs::KeptLemmas::no_rows_kept))]
