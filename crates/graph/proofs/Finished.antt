@@ -1,15 +1,15 @@
 -- What a booked graph, or a refusal, says of the verdict, and the fields of a finished graph.
-use Rattle.std.proofs.Common.{◌≡◌, ◌∙◌, Err, None, Ok, Option, Result, Some, inl, inr, refl, ℕ, List, [], ◌∷◌, ◌++◌, map, option_map, sym, ap, subst, reverse, length, arith, ◌≤◌, Bool, slice_get, length-append, option_and_then}
+use Rattle.std.proofs.Common.{◌≡◌, ◌∙◌, Err, None, Ok, Option, Result, Some, inl, inr, refl, ℕ, List, [], ◌∷◌, ◌++◌, map, option_map, sym, ap, subst, reverse, length, arith, ◌≤◌, slice_get, length-append}
 use Rattle.rdf_values.specs.Answered.{Refuses}
-use Rattle.rdf_values.specs.{GraphCause, AreAccepted, check, Column, FunctionNames, history, Line, Scope, scope_of, Script, Statement, verdict, verdict_after, Booked, bookings, is_watched, IsBookable, IsHeader, IsShort, result_depends, variations, named_before}
-use Rattle.graph_numbers.specs.{booked_unless, GraphView, booked, booked_statements, graph_prints, graph_results, graph_sources, graph_variations, holds_at, IsGraph, ResultAt, Version, FilterAt, graph_filters, graph_sites, IsSiteExpr, result_depends_at, site_depends_at}
+use Rattle.rdf_values.specs.{GraphCause, AreAccepted, check, Column, FunctionNames, history, Line, Scope, scope_of, Script, Statement, verdict, verdict_after, Booked, bookings, IsBookable, IsHeader, IsShort, result_depends, variations, named_before}
+use Rattle.graph_numbers.specs.{booked_unless, GraphView, booked, booked_statements, graph_results, graph_sources, graph_variations, holds_at, IsGraph, ResultAt, Version, FilterAt, graph_filters, graph_sites, IsSiteExpr, result_depends_at, site_depends_at}
 use Rattle.graph.specs.{GraphRefusal, refused_at, IsRefusal, refused, refused_then, statements, AreAbove, AreLoops, AreNamedInTurn, AreRows as AreCheckRows, AreRowsOf, AreSourcesOf, AreTables, IsBooked, IsRow, IsRowOf, result_sets, view_of, filler_of, has, IsSet, labels, paths, result_path, VarSet}
 use Rattle.lemmas.proofs.{All, All-map, All-permutation, AllByRecursion, AllZip-long, IsPermutation-reverse, length-map, map_next, recursion_from_All, reverse-append, reverse-reverse, slice_get-map}
 use Rattle.rdf_model.proofs.Accepted.{onto}
 use Rattle.rdf_values.specs.declared.scripts.statement.Statement.TheVariants.{Print}
-use Rattle.rdf_model.specs.{Access, accesses, filled_by, loop_of, loop_results}
+use Rattle.rdf_model.specs.{Access, accesses, filled_by, loop_of}
 use Rattle.graph_numbers.proofs.Resulting.{booked_are}
-use Rattle.graph_numbers.proofs.Placing.{itself, versions_count}
+use Rattle.graph_numbers.proofs.Placing.{versions_count}
 use Rattle.graph.specs.declared.tables.ResultRow.{ResultRow}
 use Rattle.graph.specs.declared.tables.Tables.{Tables}
 use Rattle.graph.specs.declared.loops.LoopTables.{LoopTables}
@@ -17,7 +17,7 @@ use Rattle.graph.proofs.SiteTotals.{filters_few, versions_are, sites_fit, filter
 use Rattle.graph.proofs.Depending.{results_depend, site_set_count as sets_counted, sites_depend}
 use Rattle.graph.proofs.Filled.{all_in_turn}
 use Rattle.graph.proofs.Looped.{bookings_few, loops_few, unwrapped}
-use Rattle.graph.proofs.Listing.{zip_by, zip_map, zip_at, row_set, set_at}
+use Rattle.graph.proofs.Listing.{zip_by, zip_at, row_set, set_at}
 use Rattle.graph_numbers.proofs.VersionSources.{version_source}
 use Rattle.expr_check.specs.{CheckedExpr}
 use Rattle.graph.specs.declared.tables.ResultPath.{ResultPath}
@@ -161,8 +161,7 @@ module _ (ls all : List Line) (header : List Column) (names : FunctionNames) (t 
   length_here : length (booked_statements g) ≡ length ls
   length_here = sym (ap length (history_of ls header names)) ∙ length-map ls (λ (l : Line). l.statement)
 
-  module _ (short : AllByRecursion IsShort (statements ls)) (few : length ls ≤ 256) (loops : LoopTables) (watched : List Bool)
-      (are_loops : AreLoops (statements all) (statements all) loops) (are_watched : watched ≡ map (λ (r : ResultRow). is_watched (statements all) r.name) rs) where
+  module _ (short : AllByRecursion IsShort (statements ls)) (few : length ls ≤ 256) (loops : LoopTables) (are_loops : AreLoops (statements all) (statements all) loops) where
     loops_here : AreLoops (booked_statements g) (booked_statements g) loops
     loops_here = subst (λ (x : List Statement). AreLoops x x loops) (history_of ls header names) (subst (λ (xs : List Line). AreLoops (statements xs) (statements xs) loops) same_lines are_loops)
 
@@ -184,14 +183,11 @@ module _ (ls all : List Line) (header : List Column) (names : FunctionNames) (t 
     site_total : length t.sites.items ≤ 16777216
     site_total = sites_fit header names (statements ls) t h short (let k = length-map ls (λ (l : Line). l.statement) in omega (arith, k, few))
 
-    made : IsBooked g t loops watched
+    made : IsBooked g t loops
     made = record {
       graph = graph;
       tables = tables_of;
       loops = loops_here;
-      watches = are_watched ∙ (λ i. map (λ (r : ResultRow). is_watched (statements (same_lines i)) r.name) (same_rows i))
-          ∙ zip_map IsRow (λ (b : Booked). is_watched (statements ls) b.name) (λ (r : ResultRow). is_watched (statements ls) r.name) (bookings (statements ls)) t.results.items (λ b r row. ap (is_watched (statements ls)) row.name) h.results.0
-          ∙ (λ i. map (λ (c : Booked). is_watched (history_of ls header names i) c.name) (bookings (history_of ls header names i)));
       site_sets = λ s v. sites_depend g graph s v;
       result_sets = λ n v. results_depend g graph n v;
       sources = λ u. subst (λ (vs : List Version). AreSourcesOf vs u (graph_sources g u)) (sym tables_of.version_rows) (version_source header names (booked_statements g) accepted_here u);
@@ -205,13 +201,13 @@ module _ (ls all : List Line) (header : List Column) (names : FunctionNames) (t 
     }
 
     -- over copies of the columns and names
-    pub finished : (columns : List Column) (functions : FunctionNames) → columns ≡ header → functions ≡ names → IsBooked (view_of ls columns functions) t loops watched
+    pub finished : (columns : List Column) (functions : FunctionNames) → columns ≡ header → functions ≡ names → IsBooked (view_of ls columns functions) t loops
     finished columns functions c f =
-        subst (λ (xs : List Column). IsBooked (view_of ls xs functions) t loops watched) (sym c) (subst (λ (fs : FunctionNames). IsBooked (view_of ls header fs) t loops watched) (sym f) made)
+        subst (λ (xs : List Column). IsBooked (view_of ls xs functions) t loops) (sym c) (subst (λ (fs : FunctionNames). IsBooked (view_of ls header fs) t loops) (sym f) made)
 
 -- ---- lists
 
-twice : {A B C : Type 0} (f : A → B) (g : B → C) (o : Option A) → option_map (λ x. g (f x)) o ≡ option_map g (option_map f o)
+pub twice : {A B C : Type 0} (f : A → B) (g : B → C) (o : Option A) → option_map (λ x. g (f x)) o ≡ option_map g (option_map f o)
 twice f g None = refl
 twice f g (Some x) = refl
 
@@ -221,18 +217,15 @@ of_mapped f g xs ys n y e h = twice f g (slice_get xs n) ∙ ap (option_map g) (
 
 -- ---- the readers
 
-pub booked_now : {v g : GraphView} {t : Tables} {l : LoopTables} {w : List Bool} → v ≡ g → IsBooked v t l w → IsBooked g t l w
-booked_now {t = t} {l = l} {w = w} e h = subst (λ (x : GraphView). IsBooked x t l w) e h
+pub booked_now : {v g : GraphView} {t : Tables} {l : LoopTables} → v ≡ g → IsBooked v t l → IsBooked g t l
+booked_now {t = t} {l = l} e h = subst (λ (x : GraphView). IsBooked x t l) e h
 
 pub there_too : {A : Type 0} {xs ys : List A} (n : ℕ) {y : A} → xs ≡ ys → slice_get xs n ≡ Some y → slice_get ys n ≡ Some y
 there_too n e h = ap (λ zs. slice_get zs n) (sym e) ∙ h
 
-module _ {g : GraphView} {t : Tables} {l : LoopTables} {w : List Bool} (h : IsBooked g t l w) where
+module _ {g : GraphView} {t : Tables} {l : LoopTables} (h : IsBooked g t l) where
   pub row_count : length t.results.items ≡ length (graph_results g)
   row_count = AllZip-long IsRow _ t.results.items h.tables.results.0 ∙ sym (ap length (booked_are g.header g.names (booked_statements g))) ∙ length-map (graph_results g) (λ (x : ResultAt). x.booked)
-
-  pub watch_count : length w ≡ length (graph_results g)
-  watch_count = ap length h.watches ∙ length-map (bookings (booked_statements g)) _ ∙ sym (ap length (booked_are g.header g.names (booked_statements g))) ∙ length-map (graph_results g) (λ (x : ResultAt). x.booked)
 
   pub name_is : (n : ℕ) (row : ResultRow) → slice_get t.results.items n ≡ Some row → option_map (λ (x : ResultAt). x.booked.name) (slice_get (graph_results g) n) ≡ Some row.name
   name_is n row q =
@@ -241,12 +234,6 @@ module _ {g : GraphView} {t : Tables} {l : LoopTables} {w : List Bool} (h : IsBo
 
   pub set_is : (n : ℕ) (row : ResultRow) → slice_get t.results.items n ≡ Some row → (v : ℕ) → has row.set v ≡ result_depends_at g n v
   set_is n row q v = row_set _ _ t.results.items h.tables.results n row q v ∙ h.result_sets n v
-
-  pub watch_is : (n : ℕ) (b : Bool) → slice_get w n ≡ Some b → option_map (λ (x : ResultAt). is_watched (booked_statements g) x.booked.name) (slice_get (graph_results g) n) ≡ Some b
-  watch_is n b q =
-      twice (λ (x : ResultAt). x.booked) (λ (b : Booked). is_watched (booked_statements g) b.name) (slice_get (graph_results g) n)
-      ∙ ap (option_map (λ (b : Booked). is_watched (booked_statements g) b.name)) (sym (slice_get-map (λ (x : ResultAt). x.booked) (graph_results g) n) ∙ ap (λ bs. slice_get bs n) (booked_are g.header g.names (booked_statements g)))
-      ∙ sym (slice_get-map (λ (b : Booked). is_watched (booked_statements g) b.name) (bookings (booked_statements g)) n) ∙ ap (λ bs. slice_get bs n) (sym h.watches) ∙ q
 
   pub path_is : {B : Type 0} (f : ResultPath → B) (n : ℕ) (row : ResultRow) → slice_get t.results.items n ≡ Some row → option_map (λ (x : ResultAt). f (result_path x)) (slice_get (graph_results g) n) ≡ Some (f row.path)
   path_is f n row q = of_mapped result_path f (graph_results g) (paths t.results.items) n row.path h.tables.paths (slice_get-map (λ (r : ResultRow). r.path) t.results.items n ∙ ap (option_map (λ (r : ResultRow). r.path)) q)

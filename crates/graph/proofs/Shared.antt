@@ -85,7 +85,7 @@ inside_sync =
           record { shared = functions_sync.shared },
           (
             record { shared = tables_sync.shared },
-            (record { shared = loops_sync.shared }, (search (sendable, crosses) depth 40 fits 4000, tt)),
+            (record { shared = loops_sync.shared }, tt),
           ),
         ),
       ),

@@ -1,21 +1,12 @@
-use Rattle.std.proofs.Common.{subst, sym, ◌∙◌}
-use Rattle.rdf_values.specs.{kind_of, kinds_in, refusal_in}
-use Rattle.graph.specs.{IsStop, statements}
+use Rattle.graph.specs.{statements}
 use Rattle.graph.proofs.Checking.{kind_passed}
-use Rattle.graph.proofs.Scoping.{checked_at, scope_kind}
+use Rattle.graph.proofs.Scoping.{checked_at}
 use Rattle.graph.proofs.before.Before.expression.Goals as goal
 
 pub returns-in-Ok-clause-checked : goal.returns-in-Ok-clause-checked
 returns-in-Ok-clause-checked c =
-    checked_at c.args.self.now.header.now c.args.self.now.names.now (statements c.args.self.now.lines.now) c.args.node.now c.args.self.now.tables.now.kinds.items c.args.self.now.are.versions c.args.expr.now
-    c.in_ok-scope.scope c.in_ok-scope.ensures c.in-Ok.checked c.in-Ok.ensures.kind c.in-Ok.ensures.tree c.in-Ok.ensures.kinds c.in-Ok.ensures.typed c.in-Ok.ensures.calls
+    checked_at c.args.self.now.header.now c.args.self.now.names.now (statements c.args.self.now.lines.now) c.args.node.now c.args.self.now.tables.now.kinds.items c.args.self.now.are.versions
+    c.args.expr.now c.in-Ok.checked c.in-Ok.ensures.kind c.in-Ok.ensures.tree c.in-Ok.ensures.kinds c.in-Ok.ensures.typed c.in-Ok.ensures.calls
 
 pub returns-in-Ok-clause-decided : goal.returns-in-Ok-clause-decided
-returns-in-Ok-clause-decided c =
-    kind_passed _ _ (sym (scope_kind c.args.self.now.header.now c.args.self.now.names.now (statements c.args.self.now.lines.now) c.args.node.now c.args.self.now.tables.now.kinds.items c.args.self.now.are.versions c.args.expr.now
-    c.in_ok-scope.scope c.in_ok-scope.ensures) ∙ c.in-Ok.ensures.kind)
-
-pub returns-clause-decided : goal.returns-clause-decided
-returns-clause-decided c =
-    subst (λ k. IsStop (refusal_in k) c.stop_of.result) (scope_kind c.args.self.now.header.now c.args.self.now.names.now (statements c.args.self.now.lines.now) c.args.node.now c.args.self.now.tables.now.kinds.items c.args.self.now.are.versions c.args.expr.now
-    c.in_ok-scope.scope c.in_ok-scope.ensures) (c.stop_of.ensures (kind_of (kinds_in c.in_ok-scope.scope) c.args.self.now.names.now c.args.expr.now) c.in-Err.ensures.refused)
+returns-in-Ok-clause-decided c = kind_passed _ _ c.in-Ok.ensures.kind

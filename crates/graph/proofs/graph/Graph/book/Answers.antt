@@ -56,7 +56,7 @@ invariant_of-result c =
     let g = graph_is c.args.script ls c.args.header.now c.args.names.now c.reversed-lines.ensures c.requires.script c.requires.header t.versions.accepted in
     finished ls c.as_slice-all.result.now c.args.header.now c.args.names.now c.in-Ok.tables c.as_slice-results.result.now c.as_slice-all.ensures.value c.as_slice-results.ensures.value g t
     (all_short c.args.script ls c.reversed-lines.ensures c.requires.script) (lines_few c.args.script ls c.reversed-lines.ensures c.requires.script)
-    c.in_ok-loops.loops c.in_ok-watched.watched.items c.in_ok-loops.ensures c.in_ok-watched.ensures
+    c.in_ok-loops.loops c.in_ok-loops.ensures
     c.in_ok-columns.columns c.in_ok-functions.functions c.in_ok-columns.ensures (c.in_ok-functions.ensures ∙ c.as_slice-2.ensures.value)
 
 pub returns : goal.returns
