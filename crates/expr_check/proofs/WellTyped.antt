@@ -1,7 +1,7 @@
 -- A checked expression is well typed.
 use Rattle.std.proofs.Common.{◌≡◌, ℕ, true, List, [], ◌∷◌, length, map, Option, Some, None, Result, Ok, IsOk, refl, ap, sym, ◌∙◌, subst, nat_eq, All, slice_get, replicate, MatchOption}
 use Rattle.lemmas.proofs.{All-from_recursion, AllByRecursion, Decides-eqb, firsts-zip, length-map, length-replicate, zip}
-use Rattle.rdf_values.specs.{args_count, Bin, Call, Callee, callee, Col, ColType, columns_in, Cond, End, FnName, FunctionNames, GraphCause, kind_by, kinds_by, Lit, More, NamedTree, Neg, Not, NumTree, Pick, renamed, Shape, shape, shape_of, Trees}
+use Rattle.rdf_values.specs.{args_count, Bin, Call, Callee, callee, ColType, columns_in, Cond, End, FnName, FunctionNames, GraphCause, kind_by, kinds_by, More, NamedTree, Neg, Not, NumTree, Pick, renamed, Shape, shape, shape_of, Trees}
 use Rattle.expr_check.specs.{AllCallsFit, callee_shape, CallsFit, checked_expr, CheckedExpr, distinct, given_shape, HaveOneKind, IsCallOf, IsWellTyped, num_kind, number_kind}
 use Rattle.expr_check.proofs.Calls.{callee_shape-callee}
 use Rattle.expr_check.proofs.Distinct.{each_distinct, each_from_distinct}

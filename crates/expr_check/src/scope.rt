@@ -93,10 +93,19 @@ impl Scope {
     }
 
     fn numbered(&self, number: u32) -> Option<&Known>
-        ensures found { option_copied result ≡ find (λ c. nat_eq c.number number) self.now }
-        ensures one_kind { NumbersHaveKinds self.now }
+        ensures { option_copied result ≡ find (λ c. nat_eq c.number number) self.now }
     {
         self.columns.iter().find(|c| c.number == number)
+    }
+
+    fn number_kind(&self, number: u32) -> Option<ColType>
+        ensures { MatchOption result (number_kind (numbers_in self.now) number ≡ Err UnknownColumn)
+            (λ kind. number_kind (numbers_in self.now) number ≡ Ok kind) }
+    {
+        match self.numbered(number) {
+            None => None,
+            Some(column) => Some(column.kind),
+        }
     }
 
     /// The kind and the number of the column of that name.
@@ -108,19 +117,6 @@ impl Scope {
         match self.named(name) {
             None => None,
             Some(column) => Some((column.kind, column.number)),
-        }
-    }
-
-    /// The kind of the columns of that number, if there is one.
-    pub fn number_kind(&self, number: u32) -> Option<ColType>
-        ensures found { MatchOption result (number_kind (numbers_in self.now) number ≡ Err UnknownColumn)
-            (λ kind. number_kind (numbers_in self.now) number ≡ Ok kind) }
-        ensures kind { IfSome result (λ kind. NumberHasKind number kind self.now) }
-        ensures absent { IfNone result ((kind : _) → NumberHasKind number kind self.now) }
-    {
-        match self.numbered(number) {
-            None => None,
-            Some(column) => Some(column.kind),
         }
     }
 }

@@ -4,12 +4,13 @@ use Rattle.rdf_values.specs.Answered.{Refuses}
 use Rattle.rdf_values.specs.{GraphCause, AreAccepted, check, Column, FunctionNames, history, Line, Scope, scope_of, Script, Statement, verdict, verdict_after, Booked, bookings, IsBookable, IsHeader, IsShort, result_depends, variations, named_before}
 use Rattle.graph_numbers.specs.{booked_unless, GraphView, booked, booked_statements, graph_results, graph_sources, graph_variations, holds_at, IsGraph, ResultAt, Version, FilterAt, graph_filters, graph_sites, IsSiteExpr, result_depends_at, site_depends_at}
 use Rattle.graph.specs.{GraphRefusal, refused_at, IsRefusal, refused, refused_then, statements, AreAbove, AreLoops, AreNamedInTurn, AreRows as AreCheckRows, AreRowsOf, AreSourcesOf, AreTables, IsBooked, IsRow, IsRowOf, result_sets, view_of, filler_of, has, IsSet, labels, paths, result_path, VarSet}
-use Rattle.lemmas.proofs.{All, All-map, All-permutation, AllByRecursion, AllZip-long, IsPermutation-reverse, length-map, map_next, recursion_from_All, reverse-append, reverse-reverse, slice_get-map}
+use Rattle.lemmas.proofs.{All, All-map, All-permutation, AllByRecursion, AllZip-long, IsPermutation-reverse, length-map, length-reverse, map_next, recursion_from_All, reverse-append, reverse-reverse, slice_get-map}
 use Rattle.rdf_model.proofs.Accepted.{onto}
 use Rattle.rdf_values.specs.declared.scripts.statement.Statement.TheVariants.{Print}
 use Rattle.rdf_model.specs.{Access, accesses, filled_by, loop_of}
 use Rattle.graph_numbers.proofs.Resulting.{booked_are}
 use Rattle.graph_numbers.proofs.Placing.{versions_count}
+use Rattle.graph.specs.LoopRows.{IsScriptRows}
 use Rattle.graph.specs.declared.tables.ResultRow.{ResultRow}
 use Rattle.graph.specs.declared.tables.Tables.{Tables}
 use Rattle.graph.specs.declared.loops.LoopTables.{LoopTables}
@@ -131,10 +132,19 @@ accesses_few (s ∷ before) = let n = accesses_few before in omega (arith, n)
 
 -- ---- finishing
 
-module _ (ls all : List Line) (header : List Column) (names : FunctionNames) (t : Tables) (rs : List ResultRow) (same_lines : all ≡ ls) (same_rows : rs ≡ t.results.items)
-    (graph : IsGraph (view_of ls header names)) (h : AreTables header names (statements ls) t) where
+module _ (script : Script) (ls all booked : List Line) (header : List Column) (names : FunctionNames) (t : Tables) (rs : List ResultRow) (turned : ls ≡ reverse script.lines) (same_lines : all ≡ ls) (same_rows : rs ≡ t.results.items)
+    (bookable : IsBookable script) (head : IsHeader header) (same_booked : booked ≡ ls) (tables : AreTables header names (statements booked) t) where
   abbrev g : GraphView
   g = view_of ls header names
+
+  h : AreTables header names (statements ls) t
+  h = subst (λ (xs : List Line). AreTables header names (statements xs) t) same_booked tables
+
+  graph : IsGraph g
+  graph = graph_is script ls header names turned bookable head h.versions.accepted
+
+  few : length ls ≤ 256
+  few = let n = ap length turned in let r = length-reverse script.lines in let f = bookable.few in omega (arith, n, r, f)
 
   pub finish_named : AreNamedInTurn (statements all)
   finish_named = subst (λ (xs : List Line). AreNamedInTurn (statements xs)) (sym same_lines) (all_in_turn names (scope_of header) (statements ls) h.versions.accepted)
@@ -142,18 +152,19 @@ module _ (ls all : List Line) (header : List Column) (names : FunctionNames) (t 
   tables_of : AreTables header names (booked_statements g) t
   tables_of = subst (λ (x : List Statement). AreTables header names x t) (history_of ls header names) h
 
-  pub finish_rows : AreRowsOf (statements all) (bookings (statements all)) rs
+  finish_rows : AreRowsOf (statements all) (bookings (statements all)) rs
   finish_rows =
       subst (λ (xs : List ResultRow). AreRowsOf (statements all) (bookings (statements all)) xs) (sym same_rows)
       (subst (λ (xs : List Line). AreRowsOf (statements xs) (bookings (statements xs)) t.results.items) (sym same_lines)
       (subst (λ (x : List Statement). AreRowsOf x (bookings x) t.results.items) (sym (history_of ls header names)) (rows_of_graph g graph t.results.items tables_of.results)))
 
-  pub finish_count : length rs ≡ length (bookings (statements all))
-  finish_count = ap length same_rows ∙ AllZip-long IsRow _ t.results.items h.results.0 ∙ (λ i. length (bookings (statements (sym same_lines i))))
-
-  pub finish_few : length ls ≤ 256 → length rs ≤ 256
-  finish_few few =
-      let n = finish_count in let m = bookings_few (statements all) in let k = length-map all (λ (l : Line). l.statement) in let e = ap length same_lines in omega (arith, n, m, k, e, few)
+  pub finish_script : (n : ℕ) → (n ≡ length t.variations) × (n ≤ 128) → IsScriptRows (statements all) rs n
+  finish_script n count = record {
+    rows = finish_rows;
+    few_results = let n = AllZip-long (IsRowOf (statements all)) (bookings (statements all)) rs finish_rows in let m = bookings_few (statements all) in let k = length-map all (λ (l : Line). l.statement) in let e = ap length same_lines in omega (arith, n, m, k, e, few);
+    count = count.0 ∙ ap length h.variations ∙ ap (λ xs. length (variations (statements xs))) (sym same_lines);
+    few = count.1;
+  }
 
   accepted_here : AreAccepted names (scope_of header) (booked_statements g)
   accepted_here = subst (λ (x : List Statement). AreAccepted names (scope_of header) x) (history_of ls header names) h.versions.accepted
@@ -161,7 +172,7 @@ module _ (ls all : List Line) (header : List Column) (names : FunctionNames) (t 
   length_here : length (booked_statements g) ≡ length ls
   length_here = sym (ap length (history_of ls header names)) ∙ length-map ls (λ (l : Line). l.statement)
 
-  module _ (short : AllByRecursion IsShort (statements ls)) (few : length ls ≤ 256) (loops : LoopTables) (are_loops : AreLoops (statements all) (statements all) loops) where
+  module _ (loops : LoopTables) (are_loops : AreLoops (statements all) (statements all) loops) where
     loops_here : AreLoops (booked_statements g) (booked_statements g) loops
     loops_here = subst (λ (x : List Statement). AreLoops x x loops) (history_of ls header names) (subst (λ (xs : List Line). AreLoops (statements xs) (statements xs) loops) same_lines are_loops)
 
@@ -169,7 +180,7 @@ module _ (ls all : List Line) (header : List Column) (names : FunctionNames) (t 
     result_total = let n = AllZip-long IsRow _ t.results.items tables_of.results.0 in let f = bookings_few (booked_statements g) in let l = length_here in omega (arith, n, f, l, few)
 
     print_total : length loops.prints.items ≤ 256
-    print_total = grind (arith, length-map, accesses_few, length_here)
+    print_total = grind (arith, length-map, accesses_few, length_here, few)
 
     loop_total : length loops.loops.items ≤ 256
     loop_total = let n = ap length loops_here.loops in let f = loops_few (booked_statements g) (booked_statements g) in let l = length_here in omega (arith, n, f, l, few)
@@ -181,7 +192,7 @@ module _ (ls all : List Line) (header : List Column) (names : FunctionNames) (t 
     version_total = let n = ap length h.version_rows in let m = versions_count header names (statements ls) in let k = versions_are header names (statements ls) t h in let f = h.versions.few in omega (arith, n, m, k, f)
 
     site_total : length t.sites.items ≤ 16777216
-    site_total = sites_fit header names (statements ls) t h short (let k = length-map ls (λ (l : Line). l.statement) in omega (arith, k, few))
+    site_total = sites_fit header names (statements ls) t h (all_short script ls turned bookable) (let k = length-map ls (λ (l : Line). l.statement) in omega (arith, k, few))
 
     made : IsBooked g t loops
     made = record {
