@@ -1,9 +1,8 @@
-use Rattle.std.proofs.Common.{◌≡◌, ◌≤◌, ◌∙◌, ap, arith, length, List, Ok, Result, reverse, subst, sym, ℕ}
-use Rattle.std.proofs.lemmas.List.{length-reverse}
+use Rattle.std.proofs.Common.{◌≡◌, ◌∙◌, ap, List, Ok, Result, reverse, subst, sym, ℕ}
 use Rattle.lemmas.proofs.{reverse-reverse}
-use Rattle.rdf_values.specs.{AreAccepted, Column, FunctionNames, GraphCause, IsBookable, Line, scope_of, Script, variations}
+use Rattle.rdf_values.specs.{AreAccepted, Column, FunctionNames, GraphCause, Line, scope_of, Script}
 use Rattle.graph_numbers.specs.{booked, booked_unless, GraphView}
-use Rattle.graph.specs.{AreTables, statements, view_of}
+use Rattle.graph.specs.{statements, view_of}
 use Rattle.graph.proofs.Finished.{all_short, finish_named, finish_script, finished, none_refused, refusal_answered, verdict_of}
 use Rattle.graph.proofs.graph.Graph.book.Goals as goal
 
