@@ -70,11 +70,6 @@ module _ (names : FunctionNames) (header : Scope) where
   none_refused [] h = refl
   none_refused (l ∷ ls) h = (λ i. refused_then l.number (none_refused ls h.1 i) (h.0 i))
 
-  -- the latest line is refused where those before it were accepted
-  pub refused_last : (lines : List Line) (l : Line) (before : List Line) → lines ≡ l ∷ before → AreAccepted names header (statements before) → (r : GraphRefusal)
-      → IsRefusal (refused_then l.number None (check names header (statements before) l.statement)) r → IsRefusal (refused names header lines) r
-  refused_last lines l before e ok r h = grind (arith, none_refused)
-
 pub verdict_of : (names : FunctionNames) (header : List Column) (script : Script) (ls : List Line) → ls ≡ reverse script.lines → refused names (scope_of header) ls ≡ verdict names header script
 verdict_of names header script ls e =
     sym (verdict_is names (scope_of header) ls) ∙ ap (verdict_after names (scope_of header) []) (ap (λ (xs : List Line). reverse xs) e ∙ reverse-reverse script.lines)

@@ -1,5 +1,6 @@
+use Rattle.std.proofs.Common.{ap}
+use Rattle.rdf_values.specs.{refusal_in}
 use Rattle.graph.specs.{statements}
-use Rattle.graph.proofs.Checking.{kind_passed}
 use Rattle.graph.proofs.Scoping.{checked_at}
 use Rattle.graph.proofs.before.Before.expression.Goals as goal
 
@@ -9,4 +10,4 @@ returns-in-Ok-clause-checked c =
     c.args.expr.now c.in-Ok.checked c.in-Ok.ensures.kind c.in-Ok.ensures.tree c.in-Ok.ensures.kinds c.in-Ok.ensures.typed c.in-Ok.ensures.calls
 
 pub returns-in-Ok-clause-decided : goal.returns-in-Ok-clause-decided
-returns-in-Ok-clause-decided c = kind_passed _ _ c.in-Ok.ensures.kind
+returns-in-Ok-clause-decided c = ap refusal_in c.in-Ok.ensures.kind
