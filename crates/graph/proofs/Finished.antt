@@ -127,7 +127,8 @@ accesses_few (s ∷ before) = let n = accesses_few before in omega (arith, n)
 
 -- ---- finishing
 
-module _ (script : Script) (ls all booked : List Line) (header : List Column) (names : FunctionNames) (t : Tables) (rs : List ResultRow) (turned : ls ≡ reverse script.lines) (same_lines : all ≡ ls) (same_rows : rs ≡ t.results.items)
+module _ (script : Script) (ls all booked : List Line) (header : List Column) (names : FunctionNames) (t : Tables) (rs : List ResultRow)
+    (turned : ls ≡ reverse script.lines) (same_lines : all ≡ ls) (same_rows : rs ≡ t.results.items)
     (bookable : IsBookable script) (head : IsHeader header) (same_booked : booked ≡ ls) (tables : AreTables header names (statements booked) t) where
   abbrev g : GraphView
   g = view_of ls header names
@@ -156,7 +157,8 @@ module _ (script : Script) (ls all booked : List Line) (header : List Column) (n
   pub finish_script : (n : ℕ) → (n ≡ length t.variations) × (n ≤ 128) → IsScriptRows (statements all) rs n
   finish_script n count = record {
     rows = finish_rows;
-    few_results = let n = AllZip-long (IsRowOf (statements all)) (bookings (statements all)) rs finish_rows in let m = bookings_few (statements all) in let k = length-map all (λ (l : Line). l.statement) in let e = ap length same_lines in omega (arith, n, m, k, e, few);
+    few_results = let n = AllZip-long (IsRowOf (statements all)) (bookings (statements all)) rs finish_rows in
+        let m = bookings_few (statements all) in let k = length-map all (λ (l : Line). l.statement) in let e = ap length same_lines in omega (arith, n, m, k, e, few);
     count = count.0 ∙ ap length h.variations ∙ ap (λ xs. length (variations (statements xs))) (sym same_lines);
     few = count.1;
   }
@@ -187,7 +189,8 @@ module _ (script : Script) (ls all booked : List Line) (header : List Column) (n
     version_total = let n = ap length h.version_rows in let m = versions_count header names (statements ls) in let k = versions_are header names (statements ls) t h in let f = h.versions.few in omega (arith, n, m, k, f)
 
     site_total : length t.sites.items ≤ 16777216
-    site_total = sites_fit header names (statements ls) t h (all_short script ls turned bookable) (let k = length-map ls (λ (l : Line). l.statement) in omega (arith, k, few))
+    site_total = sites_fit header names (statements ls) t h (all_short script ls turned bookable)
+        (let k = length-map ls (λ (l : Line). l.statement) in omega (arith, k, few))
 
     made : IsBooked g t loops
     made = record {

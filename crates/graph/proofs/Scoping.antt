@@ -43,11 +43,13 @@ module _ (header : List Column) (names : FunctionNames) (before : List Statement
   kinds_counted k = ap length k.are ∙ kind_count header names before
 
   -- a visible column has the kind of its version
-  pub one_kind : AreKinds header names before kinds → HaveOneKind (column_kind (scope_at names (scope_of header) before node)) (version_at header before node) (λ n. ok_or (slice_get kinds n) UnknownColumn)
+  pub one_kind : AreKinds header names before kinds
+      → HaveOneKind (column_kind (scope_at names (scope_of header) before node)) (version_at header before node) (λ n. ok_or (slice_get kinds n) UnknownColumn)
   one_kind k name known = of_kind (column_kind (scope_at names (scope_of header) before node) name) refl known
     where
-      of_kind : (r : Result ColType GraphCause) → column_kind (scope_at names (scope_of header) before node) name ≡ r → IsOk r → r ≡ ok_or (slice_get kinds (version_at header before node name)) UnknownColumn
-      of_kind (Ok t) is known = ap (λ o. ok_or o UnknownColumn) (sym (ap (λ ks. slice_get ks (version_at header before node name)) k.are ∙ visible_kind header names before k.accepted node name t is))
+      of_kind : (r : Result ColType GraphCause) → column_kind (scope_at names (scope_of header) before node) name ≡ r → IsOk r
+          → r ≡ ok_or (slice_get kinds (version_at header before node name)) UnknownColumn
+      of_kind (Ok t) is known = let same = k.are in let own = visible_kind header names before k.accepted node name t is in grind arith
       of_kind (Err e) is known = cc known
 
   -- a number that has a kind is a version's
@@ -58,9 +60,11 @@ module _ (header : List Column) (names : FunctionNames) (before : List Statement
       within_by (Some t) is known = within kinds n t is
       within_by None is known = cc known
 
-  known_version : AreKinds header names before kinds → (n : ℕ × ColType) → ok_or (slice_get kinds n.0) UnknownColumn ≡ Ok n.1 → slice_get (version_kinds header names before) n.0 ≡ Some n.1
+  known_version : AreKinds header names before kinds → (n : ℕ × ColType) → ok_or (slice_get kinds n.0) UnknownColumn ≡ Ok n.1
+      → slice_get (version_kinds header names before) n.0 ≡ Some n.1
   known_version k n h = let same = k.are in grind arith
 
-  pub checked_at : AreKinds header names before kinds → (e : NamedTree) (c : CheckedExpr) → kind_of (scope_at names (scope_of header) before node) names e ≡ Ok c.kind → c.tree ≡ renamed (version_at header before node) (callee names) e
-      → All (λ (n : ℕ × ColType). ok_or (slice_get kinds n.0) UnknownColumn ≡ Ok n.1) c.kinds → IsWellTyped names c → CallsFit names c.tree → IsCheckedAt header names before node e c
+  pub checked_at : AreKinds header names before kinds → (e : NamedTree) (c : CheckedExpr) → kind_of (scope_at names (scope_of header) before node) names e ≡ Ok c.kind
+      → c.tree ≡ renamed (version_at header before node) (callee names) e → All (λ (n : ℕ × ColType). ok_or (slice_get kinds n.0) UnknownColumn ≡ Ok n.1) c.kinds
+      → IsWellTyped names c → CallsFit names c.tree → IsCheckedAt header names before node e c
   checked_at k e c kind tree ks typed calls = record { kind = kind; tree = tree; kinds = All-weaker _ _ (known_version k) c.kinds ks; typed = typed; calls = calls }

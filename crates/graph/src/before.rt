@@ -57,6 +57,7 @@ pub(crate) struct Before<'a> {
 impl Before<'_> {
     ghost use Rattle.graph.specs.{Decides, history, IsCheckedBefore, named_version_before, scope_before, sites_so_far};
 
+    #[tactic(auto, using(crate::proofs::SiteTotals::sites_are))]
     pub(crate) fn sites(&self) -> u32
         ensures value { result ≡ sites_so_far self.now }
         ensures few { result ≤ 16777216 }
@@ -81,6 +82,7 @@ impl Before<'_> {
         Ok(ListOf::from_vec(versions.collect(self.alloc)?))
     }
 
+    #[tactic(auto, using(crate::proofs::Scoping::kinds_counted, crate::proofs::Walking::named_few, crate::proofs::SiteTotals::versions_are))]
     pub(crate) fn named_version(&self, node: &Name, name: &Name) -> u32
         ensures { result ≡ named_version_before self.now node.now name.now }
     {

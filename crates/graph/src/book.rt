@@ -1,5 +1,5 @@
 // The booking of a script's lines: each is checked after those before it, and then added.
-#![tactic(auto, using(crate::proofs::Checking::no_memory, crate::proofs::Checking::handed_on))]
+#![tactic(auto, using(crate::proofs::Checking::no_memory, crate::proofs::Checking::handed_on, crate::proofs::Checking::stopped_before, crate::proofs::Checking::stopped_last, crate::proofs::Checking::passed_before, crate::proofs::Checking::alone))]
 
 ghost use Rattle.std.specs.Prelude.{◌≡◌, ◌≤◌, ◌∷◌, [], length, reverse, None, Ok, Option, Result, IfOk, IfErr};
 ghost use Rattle.std.specs.List.{AllByRecursion};

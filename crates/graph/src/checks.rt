@@ -1,5 +1,5 @@
 // The checks of a Vary, of what books a result, and of what asks for one.
-#![tactic(auto, using(crate::proofs::Checking::targets_more, crate::proofs::Checking::each_stop, crate::proofs::Checking::each_next, crate::proofs::Checking::handed_on, crate::proofs::Checking::no_memory, crate::proofs::Checking::decides_stop, crate::proofs::Checking::counted))]
+#![tactic(auto, using(crate::proofs::Checking::targets_more, crate::proofs::Checking::each_stop, crate::proofs::Checking::each_next, crate::proofs::Checking::handed_on, crate::proofs::Checking::no_memory, crate::proofs::Checking::decides_stop, crate::proofs::Checking::counted, crate::proofs::Checking::stops_for, crate::proofs::Checking::stopped_before, crate::proofs::Checking::passed_before, crate::proofs::Checking::alone, crate::proofs::SiteTotals::filters_are))]
 
 ghost use Rattle.std.specs.Prelude.{◌≡◌, ◌∷◌, ◌+◌, ◌++◌, ◌||◌, [], ℕ, List, length, map, nat_eq, nat_lt, IfOk, OnOk};
 ghost use Rattle.rdf_values.specs.{ActionKind, are_edges, begins, check_columns, check_edges, check_list, check_lists, check_results, check_tags, check_values, check_vector_column, columns_of, expect_kind, first_refusal, is_result, kind_of, may_begin, permitted_kinds, refuse_if, refuse_unless, repeats, rises, scope_of, Statement, variations, watched_results, weight_column};
@@ -115,7 +115,8 @@ fn check_lists(
 ) -> Result<Vec<Checked>, Stop>
     requires paired { length lists.now ≡ length columns.now }
     ensures checked { IfOk result (λ found. AreCheckedBefore before.now change.now.parent.now (all_expressions lists.now) found.items) }
-    ensures decided { Decides (first_refusal (check_lists before.now.names.now (scope_before before.now change.now.parent.now) (length change.now.tags.now) columns.now lists.now)) result }
+    ensures decided { Decides (first_refusal (check_lists before.now.names.now (scope_before before.now change.now.parent.now)
+        (length change.now.tags.now) columns.now lists.now)) result }
 {
     let Some((exprs, lists)) = lists.split_first() else {
         return Ok(Vec::new(before.alloc));
@@ -145,7 +146,8 @@ fn check_vector_column(before: &Before<'_>, node: &Name, columns: &[Name]) -> Op
 
 fn vector_value(before: &Before<'_>, change: &Change<'_>, expr: &Expr) -> Result<Vec<Checked>, Stop>
     ensures checked { IfOk result (λ found. AreCheckedBefore before.now change.now.parent.now (expr.now ∷ []) found.items) }
-    ensures decided { (tags : ℕ) → Decides (check_values before.now.names.now (scope_before before.now change.now.parent.now) tags change.now.columns.now (Vector expr.now)) result }
+    ensures decided { (tags : ℕ) → Decides (check_values before.now.names.now (scope_before before.now change.now.parent.now)
+        tags change.now.columns.now (Vector expr.now)) result }
 {
     if !has_count(change.columns, 1) {
         return Err(Stop::Cause(GraphCause::WrongCount));
@@ -158,7 +160,8 @@ fn vector_value(before: &Before<'_>, change: &Change<'_>, expr: &Expr) -> Result
 
 fn check_values(before: &Before<'_>, change: &Change<'_>) -> Result<Vec<Checked>, Stop>
     ensures checked { IfOk result (λ found. AreCheckedBefore before.now change.now.parent.now (value_expressions change.now.values.now) found.items) }
-    ensures decided { Decides (check_values before.now.names.now (scope_before before.now change.now.parent.now) (length change.now.tags.now) change.now.columns.now change.now.values.now) result }
+    ensures decided { Decides (check_values before.now.names.now (scope_before before.now change.now.parent.now)
+        (length change.now.tags.now) change.now.columns.now change.now.values.now) result }
 {
     match change.values {
         VaryValues::Lists(lists) => {
