@@ -138,7 +138,7 @@ impl Before<'_> {
     }
 
     /// An expression over the versions that its columns have at a node.
-    #[tactic(auto, using(crate::proofs::Checking::no_memory))]
+    #[tactic(auto, using(crate::proofs::Checking::no_memory, crate::proofs::Scoping::checked_at))]
     pub(crate) fn expression(&self, node: &Name, expr: &Expr) -> Result<Checked, Stop>
         ensures checked { IfOk result (IsCheckedBefore self.now node.now expr.now) }
         ensures decided { Decides (refusal_in (kind_of (scope_before self.now node.now) self.now.names.now expr.now)) result }

@@ -109,6 +109,7 @@ impl Graph {
     }
 
     /// The kinds of the versions, as look-ups of columns ask for them.
+    #[tactic(auto, using(crate::proofs::Finished::booked_now))]
     pub fn kinds(&self) -> &[ColType]
         ensures { AreKinds self.now.header self.now.names (booked_statements self.now) result.now }
     {
