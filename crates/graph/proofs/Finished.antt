@@ -25,11 +25,7 @@ use Rattle.graph.specs.declared.tables.ResultPath.{ResultPath}
 
 pub refusal_of : (wanted : Result GraphView (ℕ × GraphCause)) (line : ℕ) (cause : GraphCause) → Refuses refused_at GraphRefusal.Memory wanted (GraphRefusal.At line cause) → wanted ≡ Err (line, cause)
 refusal_of wanted line cause (inl e) = absurd (cc e)
-refusal_of wanted line cause (inr h) =
-    let e = h.1 in
-    let p : h.0.0 ≡ line = cc e in
-    let q : h.0.1 ≡ cause = cc e in
-    h.2 ∙ (λ i. Err (p i, q i))
+refusal_of wanted line cause (inr h) = grind arith
 
 pub refused_verdict : (g : GraphView) (v : Option (ℕ × GraphCause)) (c : ℕ × GraphCause) → ◌≡◌ {A = Result GraphView (ℕ × GraphCause)} (booked_unless g v) (Err c) → v ≡ Some c
 refused_verdict g None c e = absurd (cc e)

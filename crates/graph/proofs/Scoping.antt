@@ -1,5 +1,5 @@
 -- The columns at a node, by their names and by their versions.
-use Rattle.std.proofs.Common.{◌≡◌, ℕ, ◌<◌, Bool, true, false, List, [], ◌∷◌, All, length, Option, Some, None, Result, Ok, Err, IsOk, refl, sym, ◌∙◌, ap, slice_get, arith}
+use Rattle.std.proofs.Common.{◌≡◌, ℕ, ◌<◌, Bool, true, false, List, [], ◌∷◌, All, length, Some, Result, Ok, Err, IsOk, refl, sym, ◌∙◌, ap, slice_get, arith}
 use Rattle.std.specs.Option.{ok_or}
 use Rattle.lemmas.proofs.{All-weaker, within}
 use Rattle.rdf_values.specs.{callee, ColType, Column, column_kind, FunctionNames, GraphCause, is_visible, kind_of, NamedTree, path, renamed, Scope, scope_at, scope_of, Statement, target_of}
@@ -25,12 +25,7 @@ module _ (header : List Column) (names : FunctionNames) (before : List Statement
 
   pub found_as : AreKinds header names before kinds → (name target : List ℕ) → target ≡ target_of (path before node) name → (b : Bool) → b ≡ is_visible (scope_at names (scope_of header) before node) name → b ≡ true
       → (v : ℕ) → v ≡ named_version header before node target → (t : ColType) (n : ℕ) → (slice_get kinds v ≡ Some t) × (n ≡ v) → IsFound header names before node kinds name t n
-  found_as k name target is b e h v at t n s =
-      let f = found_at k name (sym e ∙ h) in
-      let q : v ≡ version_at header before node name = at ∙ ap (named_version header before node) is in
-      let same_kind : Some f.0 ≡ Some t = sym f.1.own ∙ ap (slice_get kinds) (sym q) ∙ s.0 in
-      let r : f.0 ≡ t = cc same_kind in
-      record { kind = f.1.kind ∙ ap Ok r; number = sym q ∙ sym s.1; own = ap (slice_get kinds) s.1 ∙ s.0 }
+  found_as k name target is b e h v l t n s = grind (arith, found_at)
 
   pub found_within : AreKinds header names before kinds → (name target : List ℕ) → target ≡ target_of (path before node) name → (b : Bool) → b ≡ is_visible (scope_at names (scope_of header) before node) name → b ≡ true
       → (v : ℕ) → v ≡ named_version header before node target → v < length kinds
@@ -54,11 +49,7 @@ module _ (header : List Column) (names : FunctionNames) (before : List Statement
 
   -- a number that has a kind is a version's
   pub kind_within : (n : ℕ) → IsOk (ok_or (slice_get kinds n) UnknownColumn) → n < length kinds
-  kind_within n known = within_by (slice_get kinds n) refl known
-    where
-      within_by : (o : Option ColType) → slice_get kinds n ≡ o → IsOk (ok_or o UnknownColumn) → n < length kinds
-      within_by (Some t) is known = within kinds n t is
-      within_by None is known = cc known
+  kind_within n known = grind (arith, within)
 
   known_version : AreKinds header names before kinds → (n : ℕ × ColType) → ok_or (slice_get kinds n.0) UnknownColumn ≡ Ok n.1
       → slice_get (version_kinds header names before) n.0 ≡ Some n.1
