@@ -21,20 +21,20 @@ returns-in-Err c = refusal_answered c.args.script c.as_slice.result.now c.args.h
 
 pub loop_tables-requires-clause-named : goal.loop_tables-requires-clause-named
 loop_tables-requires-clause-named c =
-    finish_named c.args.script _ _ _ c.args.header.now c.args.names.now c.in-Ok.tables _ c.reversed-lines.ensures c.as_slice-all.ensures.value c.as_slice-results.ensures.value
-    c.requires.script c.requires.header c.as_slice.ensures.value c.in-Ok.ensures.booked
+    finish_named c.args.script _ _ _ c.args.header.now c.args.names.now c.in-Ok.tables _ c.reversed-lines.ensures c.as_slice-all.ensures.value
+    c.as_slice-results.ensures.value c.requires.script c.requires.header c.as_slice.ensures.value c.in-Ok.ensures.booked
 
 pub invariant_of-script : goal.invariant_of-script
 invariant_of-script c = record {
-  are = finish_script c.args.script _ _ _ c.args.header.now c.args.names.now c.in-Ok.tables _ c.reversed-lines.ensures c.as_slice-all.ensures.value c.as_slice-results.ensures.value
-      c.requires.script c.requires.header c.as_slice.ensures.value c.in-Ok.ensures.booked
+  are = finish_script c.args.script _ _ _ c.args.header.now c.args.names.now c.in-Ok.tables _ c.reversed-lines.ensures c.as_slice-all.ensures.value
+      c.as_slice-results.ensures.value c.requires.script c.requires.header c.as_slice.ensures.value c.in-Ok.ensures.booked
       c.len-variations.result (c.len-variations.ensures.count, c.len-variations.ensures.few);
 }
 
 pub invariant_of-result : goal.invariant_of-result
 invariant_of-result c =
-    finished c.args.script _ _ _ c.args.header.now c.args.names.now c.in-Ok.tables _ c.reversed-lines.ensures c.as_slice-all.ensures.value c.as_slice-results.ensures.value
-    c.requires.script c.requires.header c.as_slice.ensures.value c.in-Ok.ensures.booked
+    finished c.args.script _ _ _ c.args.header.now c.args.names.now c.in-Ok.tables _ c.reversed-lines.ensures c.as_slice-all.ensures.value
+    c.as_slice-results.ensures.value c.requires.script c.requires.header c.as_slice.ensures.value c.in-Ok.ensures.booked
     c.in_ok-loops.loops c.in_ok-loops.ensures _ _ c.in_ok-columns.ensures (c.in_ok-functions.ensures ∙ c.as_slice-2.ensures.value)
 
 pub returns : goal.returns

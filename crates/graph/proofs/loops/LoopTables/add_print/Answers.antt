@@ -36,4 +36,5 @@ returns-in_ok-resize c =
     ∙ (λ i. passes_of_rows (statements c.args.script.now.lines.now) (c.args.script.now.are.count i) (length c.as_slice-filled.result.now) (take (c.result_count-booked.result - length c.as_slice-filled.result.now) (drop (length c.as_slice-filled.result.now) c.args.script.now.results.now)))
     ∙ open_passes (statements c.args.script.now.lines.now) (statements c.args.before.now) c.requires.named.1 c.requires.begins c.args.script.now.results.now c.args.script.now.are.rows _ _ (l ∙ c.requires.old.count) k)
     (let v = c.args.self.now.loops.ok.0 in let p = c.len-place.ensures in omega (arith, v, p)) (λ i. k i - l i) c.in_ok-push.ensures
-    (c.in_ok-resize.ensures.items ∙ (λ i. take_all old.fillers.items _ few i ++ replicate (c.result_count-booked.result - sym c.as_slice-filled.ensures.len i) c.len-place.result)) refl refl) c.note-else-n-filled.ensures
+    (c.in_ok-resize.ensures.items ∙ (λ i. take_all old.fillers.items _ few i
+    ++ replicate (c.result_count-booked.result - sym c.as_slice-filled.ensures.len i) c.len-place.result)) refl refl) c.note-else-n-filled.ensures
