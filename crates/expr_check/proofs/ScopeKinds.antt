@@ -36,8 +36,8 @@ number_kind-of_all [] number k l each is = cc is
 number_kind-of_all (c ∷ cs) number k l each is = grind (arith, Decides-eqb, each.0, number_kind-of_all cs number k l each.1)
 
 -- the number of a column has the column's kind
-pub number_kind-number_in : (cs : List ScopeColumn) (name : List ℕ) → NumbersHaveKinds cs → IsOk (column_kind (kinds_in cs) name) → column_kind (kinds_in cs) name ≡ number_kind (numbers_in cs) (number_in cs name)
-number_kind-number_in cs name one known = by_kind (column_kind (kinds_in cs) name) refl known
+pub named_kind : (cs : List ScopeColumn) (name : List ℕ) → NumbersHaveKinds cs → IsOk (column_kind (kinds_in cs) name) → column_kind (kinds_in cs) name ≡ number_kind (numbers_in cs) (number_in cs name)
+named_kind cs name one known = by_kind (column_kind (kinds_in cs) name) refl known
   where
     at : (k : ColType) → column_kind (kinds_in cs) name ≡ Ok k → Ok k ≡ number_kind (numbers_in cs) (number_in cs name)
     at k is =

@@ -1,7 +1,7 @@
 -- Kinds of an expression under other kinds of columns, and of the expression numbered.
 use Rattle.std.proofs.Common.{◌≡◌, ◌+◌, Bool, true, false, List, ◌++◌, length, Result, Ok, Err, IsOk, refl, ap, nat_eq, if◌then◌else◌}
 use Rattle.std.specs.List.{AllByRecursion}
-use Rattle.rdf_values.specs.{◌>>=◌, all_renamed, args_count, Bin, Call, Col, ColType, columns_in, columns_in_all, Cond, End, GraphCause, kind_by, kinds_by, Lit, More, Neg, Not, Pick, renamed, same_kinds, Shape, Tree, Trees}
+use Rattle.rdf_values.specs.{◌>>=◌, all_renamed, args_count, Bin, Call, Col, ColType, columns_in, columns_in_all, Cond, End, GraphCause, kind_by, kinds_by, More, Neg, Not, Pick, renamed, same_kinds, Shape, Tree, Trees}
 use Rattle.rdf_values.specs.declared.scripts.script_cause.GraphCause.TheVariants.{WrongType, WrongCount}
 use Rattle.expr_check.proofs.Distinct.{each_left, each_right, each_append}
 

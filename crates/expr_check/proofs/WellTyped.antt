@@ -1,11 +1,11 @@
 -- A checked expression is well typed.
 use Rattle.std.proofs.Common.{◌≡◌, ℕ, true, List, [], ◌∷◌, length, map, Option, Some, None, Result, Ok, IsOk, refl, ap, sym, ◌∙◌, subst, nat_eq, All, slice_get, replicate, MatchOption}
 use Rattle.lemmas.proofs.{All-from_recursion, AllByRecursion, Decides-eqb, firsts-zip, length-map, length-replicate, zip}
-use Rattle.rdf_values.specs.{args_count, Bin, Call, Callee, callee, Col, ColType, column_kind, columns_in, Cond, End, FnName, FunctionNames, GraphCause, kind_by, kind_of, kinds_by, kinds_in, Lit, More, NamedTree, Neg, Not, number_in, numbered, NumTree, Pick, ScopeColumn, Shape, shape, shape_of, Trees}
-use Rattle.expr_check.specs.{AllCallsFit, callee_shape, CallsFit, checked_expr, CheckedExpr, distinct, given_shape, IsCallOf, IsWellTyped, num_kind, number_kind, numbers_in, NumbersHaveKinds}
+use Rattle.rdf_values.specs.{args_count, Bin, Call, Callee, callee, ColType, columns_in, Cond, End, FnName, FunctionNames, GraphCause, kind_by, kinds_by, More, NamedTree, Neg, Not, NumTree, Pick, renamed, Shape, shape, shape_of, Trees}
+use Rattle.expr_check.specs.{AllCallsFit, callee_shape, CallsFit, checked_expr, CheckedExpr, distinct, given_shape, HaveOneKind, IsCallOf, IsWellTyped, num_kind, number_kind}
 use Rattle.expr_check.proofs.Calls.{callee_shape-callee}
 use Rattle.expr_check.proofs.Distinct.{each_distinct, each_from_distinct}
-use Rattle.expr_check.proofs.ScopeKinds.{number_kind-number_in, each_weaker, each_by_zip}
+use Rattle.expr_check.proofs.ScopeKinds.{each_weaker, each_by_zip}
 use Rattle.expr_check.proofs.Typed.{kind_by-renamed, kind_by-same, columns_known, bind_ok, call_ok}
 
 -- each column beside its kind
@@ -64,31 +64,30 @@ module _ (col : ℕ → Result ColType GraphCause) (names : FunctionNames) where
         (calls_fit a w.0 w.1, all_calls_fit rest v.0 v.1)
 
 -- what a check knows, at the tree that it built
-module _ (scope : List ScopeColumn) (names : FunctionNames) (e : NamedTree) (t : NumTree) (k : ColType) (typed : kind_of (kinds_in scope) names e ≡ Ok k) (is : t ≡ numbered scope names e) (reads : List ℕ) (are : reads ≡ distinct (columns_in t)) (one : NumbersHaveKinds scope) where
-  -- by the kinds that the scope gives to its numbers, the numbered expression has the same kind
-  typed_by_scope : kind_by (number_kind (numbers_in scope)) (callee_shape names) t ≡ Ok k
-  typed_by_scope =
-      ap (λ (u : NumTree). kind_by (number_kind (numbers_in scope)) (callee_shape names) u) is ∙ kind_by-renamed (number_in scope) (callee names) (number_kind (numbers_in scope)) (callee_shape names) e
-      ∙ sym (kind_by-same (column_kind (kinds_in scope)) (λ c. number_kind (numbers_in scope) (number_in scope c)) (shape_of names) (λ f. callee_shape names (callee names f)) (λ f. sym (callee_shape-callee names f)) e
-      (each_weaker (λ c. IsOk (column_kind (kinds_in scope) c)) (λ c. column_kind (kinds_in scope) c ≡ number_kind (numbers_in scope) (number_in scope c))
-      (λ c known. number_kind-number_in scope c one known) (columns_in e) (columns_known (column_kind (kinds_in scope)) (shape_of names) e k typed)))
+module _ (kind_named : List ℕ → Result ColType GraphCause) (number_named : List ℕ → ℕ) (kind_at : ℕ → Result ColType GraphCause) (names : FunctionNames) (e : NamedTree) (t : NumTree) (k : ColType)
+    (typed : kind_by kind_named (shape_of names) e ≡ Ok k) (is : t ≡ renamed number_named (callee names) e) (reads : List ℕ) (are : reads ≡ distinct (columns_in t)) (one : HaveOneKind kind_named number_named kind_at) where
+  -- by the kinds of its numbers, the numbered expression has the same kind
+  typed_by_numbers : kind_by kind_at (callee_shape names) t ≡ Ok k
+  typed_by_numbers =
+      ap (λ (u : NumTree). kind_by kind_at (callee_shape names) u) is ∙ kind_by-renamed number_named (callee names) kind_at (callee_shape names) e
+      ∙ sym (kind_by-same kind_named (λ c. kind_at (number_named c)) (shape_of names) (λ f. callee_shape names (callee names f)) (λ f. sym (callee_shape-callee names f)) e
+      (each_weaker (λ c. IsOk (kind_named c)) (λ c. kind_named c ≡ kind_at (number_named c)) one (columns_in e) (columns_known kind_named (shape_of names) e k typed)))
       ∙ typed
 
-  pub reads_known : All (λ i. IsOk (number_kind (numbers_in scope) i)) reads
+  pub reads_known : All (λ i. IsOk (kind_at i)) reads
   reads_known =
-      rw are (All-from_recursion (λ i. IsOk (number_kind (numbers_in scope) i)) (distinct (columns_in t))
-      (each_distinct (λ i. IsOk (number_kind (numbers_in scope) i)) (columns_in t) (columns_known (number_kind (numbers_in scope)) (callee_shape names) t k typed_by_scope)))
+      rw are (All-from_recursion (λ i. IsOk (kind_at i)) (distinct (columns_in t)) (each_distinct (λ i. IsOk (kind_at i)) (columns_in t) (columns_known kind_at (callee_shape names) t k typed_by_numbers)))
 
-  module _ (kinds : List ColType) (have : map (λ (c : ColType). Ok c) kinds ≡ map (number_kind (numbers_in scope)) reads) where
+  module _ (kinds : List ColType) (have : map (λ (c : ColType). Ok c) kinds ≡ map kind_at reads) where
     pub kinds_beside : length kinds ≡ length reads
-    kinds_beside = sym (length-map kinds (λ (c : ColType). Ok c)) ∙ ap length have ∙ length-map reads (number_kind (numbers_in scope))
+    kinds_beside = sym (length-map kinds (λ (c : ColType). Ok c)) ∙ ap length have ∙ length-map reads kind_at
 
     tree_typed : num_kind (zip reads kinds) names t ≡ Ok k
     tree_typed =
-        let P : List ℕ → Type 0 = AllByRecursion (λ i. number_kind (numbers_in scope) i ≡ number_kind (zip reads kinds) i) in
-        sym (kind_by-same (number_kind (numbers_in scope)) (number_kind (zip reads kinds)) (callee_shape names) (callee_shape names) (λ f. refl) t
-        (each_from_distinct (λ i. number_kind (numbers_in scope) i ≡ number_kind (zip reads kinds) i) (columns_in t) (subst P are (each_by_zip reads kinds (number_kind (numbers_in scope)) have))))
-        ∙ typed_by_scope
+        let P : List ℕ → Type 0 = AllByRecursion (λ i. kind_at i ≡ number_kind (zip reads kinds) i) in
+        sym (kind_by-same kind_at (number_kind (zip reads kinds)) (callee_shape names) (callee_shape names) (λ f. refl) t
+        (each_from_distinct (λ i. kind_at i ≡ number_kind (zip reads kinds) i) (columns_in t) (subst P are (each_by_zip reads kinds kind_at have))))
+        ∙ typed_by_numbers
 
     pub is_well_typed : IsWellTyped names (checked_expr t (zip reads kinds) k)
     is_well_typed = record { typed = tree_typed; columns = firsts-zip reads kinds kinds_beside ∙ are }

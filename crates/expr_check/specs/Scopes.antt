@@ -1,6 +1,6 @@
 -- Columns that can be read, with their kinds and numbers.
-use Rattle.std.specs.Prelude.{◌≡◌, ◌≢◌, ℕ, List, map, All}
-use Rattle.rdf_values.specs.{ColType, ScopeColumn}
+use Rattle.std.specs.Prelude.{◌≡◌, ◌≢◌, ℕ, List, map, All, Result, IsOk}
+use Rattle.rdf_values.specs.{ColType, GraphCause, ScopeColumn}
 
 -- no column has the name
 abbrev pub LacksColumn : List ℕ → List ScopeColumn → Type 0
@@ -17,3 +17,7 @@ NumbersHaveKinds columns = All (λ (c : ScopeColumn). NumberHasKind c.number c.k
 -- the columns by their numbers
 abbrev pub numbers_in : List ScopeColumn → List (ℕ × ColType)
 numbers_in columns = map (λ (c : ScopeColumn). (c.number, c.kind)) columns
+
+-- each column that is known by its name has the kind of its number
+abbrev pub HaveOneKind : (List ℕ → Result ColType GraphCause) → (List ℕ → ℕ) → (ℕ → Result ColType GraphCause) → Type 0
+HaveOneKind kind number kind_at = (name : List ℕ) → IsOk (kind name) → kind name ≡ kind_at (number name)

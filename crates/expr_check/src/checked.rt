@@ -1,15 +1,14 @@
 // Expressions that have a kind.
 ghost use Rattle.std.specs.Prelude.{◌≡◌, ◌↔◌, IsTrue, All, Ok, map, IfOk, IfErr};
 ghost use Rattle.std.specs.List.{list_any};
-ghost use Rattle.rdf_values.specs.{columns_in, kind_of, kinds_in, numbered};
-ghost use Rattle.expr_check.specs.NumKinds.{number_kind, distinct, IsTyped, IsWellTyped, CallsFit, HasNoVector, is_vector, is_plain};
-ghost use Rattle.expr_check.specs.Scopes.{numbers_in};
+ghost use Rattle.rdf_values.specs.{callee, columns_in, kind_by, renamed, shape_of};
+ghost use Rattle.expr_check.specs.NumKinds.{distinct, IsTyped, IsWellTyped, CallsFit, HasNoVector, is_vector, is_plain};
 ghost use Rattle.expr_check.specs.CheckAnswers.{RefusedAs};
 
 use crate::part::check_part;
 use crate::reads::reads;
 use crate::refusal::CheckRefusal;
-use crate::scope::Scope;
+use crate::scope::Columns;
 use rdf_values::{ColType, Expr, FnNames, NumExpr};
 use std::alloc::Global;
 use std::marker::Model;
@@ -80,22 +79,22 @@ fn has_vector(kinds: &[ColType]) -> bool
 
 /// The expression with its columns and functions numbered, or the first refusal: the parts of a node come from
 /// left to right before the node itself, and a call's function and the number of its arguments before these.
-pub fn check(
+pub fn check<C: Columns>(
     alloc: Global,
     expr: &Expr,
-    scope: &Scope,
+    columns: &C,
     names: &FnNames,
 ) -> Result<Checked, CheckRefusal>
-    ensures kind { IfOk result (λ c. kind_of (kinds_in scope.now) names.now expr.now ≡ Ok c.kind) }
-    ensures tree { IfOk result (λ c. c.tree ≡ numbered scope.now names.now expr.now) }
-    ensures kinds { IfOk result (λ c. All (λ k. number_kind (numbers_in scope.now) k.0 ≡ Ok k.1) c.kinds) }
+    ensures kind { IfOk result (λ c. kind_by (C.kind_named columns.now) (shape_of names.now) expr.now ≡ Ok c.kind) }
+    ensures tree { IfOk result (λ c. c.tree ≡ renamed (C.number_named columns.now) (callee names.now) expr.now) }
+    ensures kinds { IfOk result (λ c. All (λ k. C.kind_numbered columns.now k.0 ≡ Ok k.1) c.kinds) }
     ensures typed { IfOk result (IsWellTyped names.now) }
     ensures calls { IfOk result (λ c. CallsFit names.now c.tree) }
-    ensures refused { IfErr result (λ e. RefusedAs e (kind_of (kinds_in scope.now) names.now expr.now)) }
+    ensures refused { IfErr result (λ e. RefusedAs e (kind_by (C.kind_named columns.now) (shape_of names.now) expr.now)) }
 {
-    let part = check_part(alloc, &expr.node, scope, names)?;
+    let part = check_part(alloc, &expr.node, columns, names)?;
     let reads = reads(alloc, &part.node)?;
-    let kinds = scope.kinds_of(reads.as_slice())?;
+    let kinds = columns.kinds_of(reads.as_slice())?;
     Ok(Checked {
         expr: NumExpr { node: part.node },
         kind: part.kind,

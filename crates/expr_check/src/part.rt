@@ -1,12 +1,12 @@
 // The kinds of the parts of an expression, and the parts with their columns and functions numbered.
 ghost use Rattle.std.specs.Prelude.{◌≡◌, ◌≤◌, nat_eq, length, Ok, IfOk, IfErr};
-ghost use Rattle.rdf_values.specs.{all_renamed, args_count, Call as CallTree, callee, column_kind, kind_of, kinds_by, kinds_in, num_tree, num_trees, number_in, numbered, shape_of, tree_of, trees_of};
+ghost use Rattle.rdf_values.specs.{all_renamed, args_count, Call as CallTree, callee, kind_by, kinds_by, num_tree, num_trees, renamed, shape_of, tree_of, trees_of};
 ghost use Rattle.expr_check.specs.{arguments_fit, RefusedAs};
 
 use crate::callee::{find_callee, signature_of};
 use crate::kind::{chosen_kind, inverted_kind, negated_kind, operator_kind, picked_kind};
 use crate::refusal::CheckRefusal;
-use crate::scope::Scope;
+use crate::scope::Columns;
 use rdf_values::{Args, ColType, ExprNode, FnNames, Name, NumArgs, NumNode};
 use std::alloc::Global;
 
@@ -35,15 +35,15 @@ fn has_count(args: &Args, count: usize) -> bool
 
 #[cycle(check)]
 #[tactic(auto, using(crate::proofs::Refused::refused_then))]
-pub(crate) fn check_part(
+pub(crate) fn check_part<C: Columns>(
     alloc: Global,
     node: &ExprNode,
-    scope: &Scope,
+    columns: &C,
     names: &FnNames,
 ) -> Result<Part, CheckRefusal>
-    ensures kind { IfOk result (λ p. kind_of (kinds_in scope.now) names.now (tree_of node.now) ≡ Ok p.kind) }
-    ensures tree { IfOk result (λ p. num_tree p.node ≡ numbered scope.now names.now (tree_of node.now)) }
-    ensures refused { IfErr result (λ e. RefusedAs e (kind_of (kinds_in scope.now) names.now (tree_of node.now))) }
+    ensures kind { IfOk result (λ p. kind_by (C.kind_named columns.now) (shape_of names.now) (tree_of node.now) ≡ Ok p.kind) }
+    ensures tree { IfOk result (λ p. num_tree p.node ≡ renamed (C.number_named columns.now) (callee names.now) (tree_of node.now)) }
+    ensures refused { IfErr result (λ e. RefusedAs e (kind_by (C.kind_named columns.now) (shape_of names.now) (tree_of node.now))) }
 {
     match node {
         ExprNode::Lit(z) => Ok(Part {
@@ -54,7 +54,7 @@ pub(crate) fn check_part(
             node: NumNode::Truth(*b),
             kind: ColType::Bool,
         }),
-        ExprNode::Col(name) => match scope.find(name) {
+        ExprNode::Col(name) => match columns.column(name) {
             None => Err(CheckRefusal::UnknownColumn),
             Some((kind, number)) => Ok(Part {
                 node: NumNode::Col(number),
@@ -62,29 +62,29 @@ pub(crate) fn check_part(
             }),
         },
         ExprNode::Neg(a) => {
-            let a = check_part(alloc, a, scope, names)?;
+            let a = check_part(alloc, a, columns, names)?;
             let kind = negated_kind(a.kind)?;
             let node = NumNode::Neg(Box::new(alloc, a.node)?);
             Ok(Part { node, kind })
         }
         ExprNode::Not(a) => {
-            let a = check_part(alloc, a, scope, names)?;
+            let a = check_part(alloc, a, columns, names)?;
             let kind = inverted_kind(a.kind)?;
             let node = NumNode::Not(Box::new(alloc, a.node)?);
             Ok(Part { node, kind })
         }
         ExprNode::Bin(op, left, right) => {
-            let left = check_part(alloc, left, scope, names)?;
-            let right = check_part(alloc, right, scope, names)?;
+            let left = check_part(alloc, left, columns, names)?;
+            let right = check_part(alloc, right, columns, names)?;
             let kind = operator_kind(*op, left.kind, right.kind)?;
             let left = Box::new(alloc, left.node)?;
             let node = NumNode::Bin(*op, left, Box::new(alloc, right.node)?);
             Ok(Part { node, kind })
         }
         ExprNode::Cond(condition, first, second) => {
-            let condition = check_part(alloc, condition, scope, names)?;
-            let first = check_part(alloc, first, scope, names)?;
-            let second = check_part(alloc, second, scope, names)?;
+            let condition = check_part(alloc, condition, columns, names)?;
+            let first = check_part(alloc, first, columns, names)?;
+            let second = check_part(alloc, second, columns, names)?;
             let kind = chosen_kind(condition.kind, first.kind, second.kind)?;
             let condition = Box::new(alloc, condition.node)?;
             let first = Box::new(alloc, first.node)?;
@@ -92,29 +92,29 @@ pub(crate) fn check_part(
             Ok(Part { node, kind })
         }
         ExprNode::Pick(vector, index) => {
-            let vector = check_part(alloc, vector, scope, names)?;
-            let index = check_part(alloc, index, scope, names)?;
+            let vector = check_part(alloc, vector, columns, names)?;
+            let index = check_part(alloc, index, columns, names)?;
             let kind = picked_kind(vector.kind, index.kind)?;
             let vector = Box::new(alloc, vector.node)?;
             let node = NumNode::Pick(vector, Box::new(alloc, index.node)?);
             Ok(Part { node, kind })
         }
-        ExprNode::Call(name, args) => check_call(alloc, name, args, scope, names),
+        ExprNode::Call(name, args) => check_call(alloc, name, args, columns, names),
     }
 }
 
 #[cycle(check)]
 #[tactic(auto, using(crate::proofs::Refused::refused_then))]
-fn check_call(
+fn check_call<C: Columns>(
     alloc: Global,
     name: &Name,
     args: &Args,
-    scope: &Scope,
+    columns: &C,
     names: &FnNames,
 ) -> Result<Part, CheckRefusal>
-    ensures kind { IfOk result (λ p. kind_of (kinds_in scope.now) names.now (CallTree name.now (trees_of args.now)) ≡ Ok p.kind) }
-    ensures tree { IfOk result (λ p. num_tree p.node ≡ numbered scope.now names.now (CallTree name.now (trees_of args.now))) }
-    ensures refused { IfErr result (λ e. RefusedAs e (kind_of (kinds_in scope.now) names.now (CallTree name.now (trees_of args.now)))) }
+    ensures kind { IfOk result (λ p. kind_by (C.kind_named columns.now) (shape_of names.now) (CallTree name.now (trees_of args.now)) ≡ Ok p.kind) }
+    ensures tree { IfOk result (λ p. num_tree p.node ≡ renamed (C.number_named columns.now) (callee names.now) (CallTree name.now (trees_of args.now))) }
+    ensures refused { IfErr result (λ e. RefusedAs e (kind_by (C.kind_named columns.now) (shape_of names.now) (CallTree name.now (trees_of args.now)))) }
 {
     let Some(callee) = find_callee(name, names) else {
         return Err(CheckRefusal::UnknownFunction);
@@ -123,7 +123,7 @@ fn check_call(
     if !has_count(args, takes.len()) {
         return Err(CheckRefusal::WrongCount);
     }
-    let arguments = check_arguments(alloc, args, takes, scope, names)?;
+    let arguments = check_arguments(alloc, args, takes, columns, names)?;
     if arguments.fit {
         Ok(Part {
             node: NumNode::Call(callee, arguments.nodes),
@@ -136,17 +136,17 @@ fn check_call(
 
 #[cycle(check)]
 #[tactic(auto, using(crate::proofs::Refused::refused_then))]
-fn check_arguments(
+fn check_arguments<C: Columns>(
     alloc: Global,
     args: &Args,
     takes: &[ColType],
-    scope: &Scope,
+    columns: &C,
     names: &FnNames,
 ) -> Result<Arguments, CheckRefusal>
     requires { args_count (trees_of args.now) ≡ length takes.now }
-    ensures fit { IfOk result (λ a. arguments_fit (kinds_by (column_kind (kinds_in scope.now)) (shape_of names.now) (trees_of args.now)) takes.now ≡ Ok a.fit) }
-    ensures trees { IfOk result (λ a. num_trees a.nodes ≡ all_renamed (number_in scope.now) (callee names.now) (trees_of args.now)) }
-    ensures refused { IfErr result (λ e. RefusedAs e (kinds_by (column_kind (kinds_in scope.now)) (shape_of names.now) (trees_of args.now))) }
+    ensures fit { IfOk result (λ a. arguments_fit (kinds_by (C.kind_named columns.now) (shape_of names.now) (trees_of args.now)) takes.now ≡ Ok a.fit) }
+    ensures trees { IfOk result (λ a. num_trees a.nodes ≡ all_renamed (C.number_named columns.now) (callee names.now) (trees_of args.now)) }
+    ensures refused { IfErr result (λ e. RefusedAs e (kinds_by (C.kind_named columns.now) (shape_of names.now) (trees_of args.now))) }
 {
     match args {
         Args::End => Ok(Arguments {
@@ -154,8 +154,8 @@ fn check_arguments(
             fit: true,
         }),
         Args::More(first, rest) => {
-            let first = check_part(alloc, first, scope, names)?;
-            let rest = check_arguments(alloc, rest, &takes[1..], scope, names)?;
+            let first = check_part(alloc, first, columns, names)?;
+            let rest = check_arguments(alloc, rest, &takes[1..], columns, names)?;
             let fit = first.kind == takes[0] && rest.fit;
             let first = Box::new(alloc, first.node)?;
             let nodes = NumArgs::More(first, Box::new(alloc, rest.nodes)?);

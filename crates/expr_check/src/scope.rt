@@ -1,14 +1,34 @@
 // Columns that an expression may read.
-ghost use Rattle.std.specs.Prelude.{◌≡◌, ◌≢◌, ℕ, List, [], ◌∷◌, ◌++◌, All, Ok, Err, IsOk, IfOk, IfNone, IfSome, map, OnOk, OnErr, MatchOption, find, nat_eq};
+ghost use Rattle.std.specs.Prelude.{◌≡◌, ◌≢◌, ℕ, List, [], ◌∷◌, ◌++◌, All, Ok, Err, IsOk, IfOk, IfNone, IfSome, map, OnOk, OnErr, MatchOption, Result, find, nat_eq};
 ghost use Rattle.std.specs.Option.{option_copied};
-ghost use Rattle.rdf_values.specs.{column_kind, kinds_in, number_in, same, ScopeColumn};
+ghost use Rattle.rdf_values.specs.{ColType, column_kind, GraphCause, kinds_in, number_in, same, ScopeColumn};
 ghost use Rattle.rdf_values.specs.declared.scripts.script_cause.GraphCause.TheVariants.{UnknownColumn};
 ghost use Rattle.expr_check.specs.NumKinds.{number_kind};
-ghost use Rattle.expr_check.specs.Scopes.{LacksColumn, NumberHasKind, NumbersHaveKinds, numbers_in};
+ghost use Rattle.expr_check.specs.Scopes.{HaveOneKind, LacksColumn, NumberHasKind, NumbersHaveKinds, numbers_in};
 
 use rdf_values::{ColType, Memory, Name};
 use std::alloc::Global;
 use std::marker::Model;
+
+/// Columns that an expression may read, by their names and by their numbers.
+pub trait Columns {
+    ghost kind_named: { Self → List ℕ → Result ColType GraphCause };
+
+    ghost number_named: { Self → List ℕ → ℕ };
+
+    ghost kind_numbered: { Self → ℕ → Result ColType GraphCause };
+
+    /// The kind and the number of the column of that name.
+    fn column(&self, name: &Name) -> Option<(ColType, u32)>
+        ensures { MatchOption result (kind_named self.now name.now ≡ Err UnknownColumn)
+            (λ c. (kind_named self.now name.now ≡ Ok c.0) × (number_named self.now name.now ≡ c.1)) };
+
+    /// The kinds of columns by their numbers, each of which a column has.
+    fn kinds_of(&self, numbers: &[u32]) -> Result<Vec<ColType>, Memory>
+        requires known { HaveOneKind (kind_named self.now) (number_named self.now) (kind_numbered self.now) → All (λ i. IsOk (kind_numbered self.now i)) numbers.now }
+        ensures kinds { IfOk result (λ kinds. map (λ k. Ok k) kinds.items ≡ map (kind_numbered self.now) numbers.now) }
+        ensures one_kind { HaveOneKind (kind_named self.now) (number_named self.now) (kind_numbered self.now) };
+}
 
 #[derive(Drop)]
 struct Known {
@@ -73,10 +93,19 @@ impl Scope {
     }
 
     fn numbered(&self, number: u32) -> Option<&Known>
-        ensures found { option_copied result ≡ find (λ c. nat_eq c.number number) self.now }
-        ensures one_kind { NumbersHaveKinds self.now }
+        ensures { option_copied result ≡ find (λ c. nat_eq c.number number) self.now }
     {
         self.columns.iter().find(|c| c.number == number)
+    }
+
+    fn number_kind(&self, number: u32) -> Option<ColType>
+        ensures { MatchOption result (number_kind (numbers_in self.now) number ≡ Err UnknownColumn)
+            (λ kind. number_kind (numbers_in self.now) number ≡ Ok kind) }
+    {
+        match self.numbered(number) {
+            None => None,
+            Some(column) => Some(column.kind),
+        }
     }
 
     /// The kind and the number of the column of that name.
@@ -90,26 +119,21 @@ impl Scope {
             Some(column) => Some((column.kind, column.number)),
         }
     }
+}
 
-    /// The kind of the columns of that number, if there is one.
-    pub fn number_kind(&self, number: u32) -> Option<ColType>
-        ensures found { MatchOption result (number_kind (numbers_in self.now) number ≡ Err UnknownColumn)
-            (λ kind. number_kind (numbers_in self.now) number ≡ Ok kind) }
-        ensures kind { IfSome result (λ kind. NumberHasKind number kind self.now) }
-        ensures absent { IfNone result ((kind : _) → NumberHasKind number kind self.now) }
-    {
-        match self.numbered(number) {
-            None => None,
-            Some(column) => Some(column.kind),
-        }
+impl Columns for Scope {
+    ghost kind_named = { λ s name. column_kind (kinds_in s) name };
+
+    ghost number_named = { λ s name. number_in s name };
+
+    ghost kind_numbered = { λ s number. number_kind (numbers_in s) number };
+
+    fn column(&self, name: &Name) -> Option<(ColType, u32)> {
+        self.find(name)
     }
 
-    /// The kinds of columns by their numbers, each of which a column has.
-    pub(crate) fn kinds_of(&self, numbers: &[u32]) -> Result<Vec<ColType>, Memory>
-        requires known { NumbersHaveKinds self.now → All (λ i. IsOk (number_kind (numbers_in self.now) i)) numbers.now }
-        ensures kinds { IfOk result (λ kinds. map (λ k. Ok k) kinds.items ≡ map (number_kind (numbers_in self.now)) numbers.now) }
-        ensures one_kind { NumbersHaveKinds self.now }
-    {
+    #[tactic(auto, using(crate::proofs::ScopeKinds::named_kind))]
+    fn kinds_of(&self, numbers: &[u32]) -> Result<Vec<ColType>, Memory> {
         let mut kinds = Vec::new(self.alloc);
         for number in numbers {
             let Some(kind) = self.number_kind(*number) else {

@@ -1,6 +1,6 @@
 -- Members of sets, by the bits of a number.
-use Rattle.std.proofs.Common.{◌≡◌, ℕ, zero, suc, ◌+◌, ◌-◌, ◌*◌, ◌/◌, ◌%◌, ◌^◌, ◌<◌, ◌≤◌, max, Bool, true, false, ◌||◌, if◌then◌else◌, refl, sym, ◌∙◌, ap, subst, nat_eq, count_ones, bit_or, arith, shr-shr, nat_lt, Decides, bit_and}
-use Rattle.lemmas.proofs.{and_mask, bit_at, bit_at-lt, bit_at-trailing_zeros, bit_at-zero, bit_at_above, bit_at_or, bit_at_set_other, bit_at_set_same, Decides-eqb, Decides-ltb, mod-eq_of_lt, mod-pow-add, mod_below, one_shl, ones-ones, ones_cat, pow_pos, shr_le, trailing_zeros, w128}
+use Rattle.std.proofs.Common.{◌≡◌, ℕ, zero, suc, ◌+◌, ◌-◌, ◌*◌, ◌%◌, ◌^◌, ◌<◌, ◌≤◌, max, Bool, true, false, ◌||◌, if◌then◌else◌, refl, sym, ◌∙◌, ap, subst, nat_eq, count_ones, bit_or, arith, bit_and}
+use Rattle.lemmas.proofs.{and_mask, bit_at, bit_at-lt, bit_at-zero, bit_at_above, bit_at_or, bit_at_set_other, bit_at_set_same, Decides-eqb, mod-eq_of_lt, mod-pow-add, mod_below, one_shl, ones-ones, ones_cat, pow_pos, w128}
 use Rattle.graph.specs.{has, members_below, VarSet}
 
 pub none_in : (v : ℕ) → nat_eq (bit_at 0 v) 1 ≡ false

@@ -8,9 +8,6 @@ use Rattle.graph.specs.declared.refusals.Stop.{Stop}
 pub cause_refused : (k : Result ColType GraphCause) (c : GraphCause) → k ≡ Err c → refusal_in k ≡ Some c
 cause_refused k c h = ap refusal_in h
 
-pub kind_passed : (k : Result ColType GraphCause) (t : ColType) → k ≡ Ok t → refusal_in k ≡ None
-kind_passed k t h = ap refusal_in h
-
 -- the tests so far, and those after them
 pub refused_before : (xs rest : List (Option GraphCause)) (x : Option GraphCause) (c : GraphCause) → x ≡ first_refusal xs → x ≡ Some c → first_refusal (xs ++ rest) ≡ Some c
 refused_before [] rest x c h k = cc (sym h ∙ k)

@@ -1,15 +1,16 @@
 -- What a booked graph, or a refusal, says of the verdict, and the fields of a finished graph.
-use Rattle.std.proofs.Common.{◌≡◌, ◌∙◌, Err, None, Ok, Option, Result, Some, inl, inr, refl, ℕ, List, [], ◌∷◌, ◌++◌, map, option_map, sym, ap, subst, reverse, length, arith, ◌≤◌, Bool, slice_get, length-append, option_and_then}
+use Rattle.std.proofs.Common.{◌≡◌, ◌∙◌, Err, None, Ok, Option, Result, Some, inl, inr, refl, ℕ, List, [], ◌∷◌, ◌++◌, map, option_map, sym, ap, subst, reverse, length, arith, ◌≤◌, slice_get, length-append}
 use Rattle.rdf_values.specs.Answered.{Refuses}
-use Rattle.rdf_values.specs.{GraphCause, AreAccepted, check, Column, FunctionNames, history, Line, Scope, scope_of, Script, Statement, verdict, verdict_after, Booked, bookings, is_watched, IsBookable, IsHeader, IsShort, result_depends, variations, named_before}
-use Rattle.graph_numbers.specs.{booked_unless, GraphView, booked, booked_statements, graph_prints, graph_results, graph_sources, graph_variations, holds_at, IsGraph, ResultAt, Version, FilterAt, graph_filters, graph_sites, IsSiteExpr, result_depends_at, site_depends_at}
+use Rattle.rdf_values.specs.{GraphCause, AreAccepted, check, Column, FunctionNames, history, Line, Scope, scope_of, Script, Statement, verdict, verdict_after, Booked, bookings, IsBookable, IsHeader, IsShort, result_depends, variations, named_before}
+use Rattle.graph_numbers.specs.{booked_unless, GraphView, booked, booked_statements, graph_results, graph_sources, graph_variations, holds_at, IsGraph, ResultAt, Version, FilterAt, graph_filters, graph_sites, IsSiteExpr, result_depends_at, site_depends_at}
 use Rattle.graph.specs.{GraphRefusal, refused_at, IsRefusal, refused, refused_then, statements, AreAbove, AreLoops, AreNamedInTurn, AreRows as AreCheckRows, AreRowsOf, AreSourcesOf, AreTables, IsBooked, IsRow, IsRowOf, result_sets, view_of, filler_of, has, IsSet, labels, paths, result_path, VarSet}
-use Rattle.lemmas.proofs.{All, All-map, All-permutation, AllByRecursion, AllZip-long, IsPermutation-reverse, length-map, map_next, recursion_from_All, reverse-append, reverse-reverse, slice_get-map}
+use Rattle.lemmas.proofs.{All, All-map, All-permutation, AllByRecursion, AllZip-long, IsPermutation-reverse, length-map, length-reverse, map_next, recursion_from_All, reverse-append, reverse-reverse, slice_get-map}
 use Rattle.rdf_model.proofs.Accepted.{onto}
 use Rattle.rdf_values.specs.declared.scripts.statement.Statement.TheVariants.{Print}
-use Rattle.rdf_model.specs.{Access, accesses, filled_by, loop_of, loop_results}
+use Rattle.rdf_model.specs.{Access, accesses, filled_by, loop_of}
 use Rattle.graph_numbers.proofs.Resulting.{booked_are}
-use Rattle.graph_numbers.proofs.Placing.{itself, versions_count}
+use Rattle.graph_numbers.proofs.Placing.{versions_count}
+use Rattle.graph.specs.LoopRows.{IsScriptRows}
 use Rattle.graph.specs.declared.tables.ResultRow.{ResultRow}
 use Rattle.graph.specs.declared.tables.Tables.{Tables}
 use Rattle.graph.specs.declared.loops.LoopTables.{LoopTables}
@@ -17,18 +18,14 @@ use Rattle.graph.proofs.SiteTotals.{filters_few, versions_are, sites_fit, filter
 use Rattle.graph.proofs.Depending.{results_depend, site_set_count as sets_counted, sites_depend}
 use Rattle.graph.proofs.Filled.{all_in_turn}
 use Rattle.graph.proofs.Looped.{bookings_few, loops_few, unwrapped}
-use Rattle.graph.proofs.Listing.{zip_by, zip_map, zip_at, row_set, set_at}
+use Rattle.graph.proofs.Listing.{zip_by, zip_at, row_set, set_at}
 use Rattle.graph_numbers.proofs.VersionSources.{version_source}
 use Rattle.expr_check.specs.{CheckedExpr}
 use Rattle.graph.specs.declared.tables.ResultPath.{ResultPath}
 
 pub refusal_of : (wanted : Result GraphView (ℕ × GraphCause)) (line : ℕ) (cause : GraphCause) → Refuses refused_at GraphRefusal.Memory wanted (GraphRefusal.At line cause) → wanted ≡ Err (line, cause)
 refusal_of wanted line cause (inl e) = absurd (cc e)
-refusal_of wanted line cause (inr h) =
-    let e = h.1 in
-    let p : h.0.0 ≡ line = cc e in
-    let q : h.0.1 ≡ cause = cc e in
-    h.2 ∙ (λ i. Err (p i, q i))
+refusal_of wanted line cause (inr h) = grind arith
 
 pub refused_verdict : (g : GraphView) (v : Option (ℕ × GraphCause)) (c : ℕ × GraphCause) → ◌≡◌ {A = Result GraphView (ℕ × GraphCause)} (booked_unless g v) (Err c) → v ≡ Some c
 refused_verdict g None c e = absurd (cc e)
@@ -68,11 +65,6 @@ module _ (names : FunctionNames) (header : Scope) where
   pub none_refused : (ls : List Line) → AreAccepted names header (statements ls) → refused names header ls ≡ None
   none_refused [] h = refl
   none_refused (l ∷ ls) h = (λ i. refused_then l.number (none_refused ls h.1 i) (h.0 i))
-
-  -- the latest line is refused where those before it were accepted
-  pub refused_last : (lines : List Line) (l : Line) (before : List Line) → lines ≡ l ∷ before → AreAccepted names header (statements before) → (r : GraphRefusal)
-      → IsRefusal (refused_then l.number None (check names header (statements before) l.statement)) r → IsRefusal (refused names header lines) r
-  refused_last lines l before e ok r h = grind (arith, none_refused)
 
 pub verdict_of : (names : FunctionNames) (header : List Column) (script : Script) (ls : List Line) → ls ≡ reverse script.lines → refused names (scope_of header) ls ≡ verdict names header script
 verdict_of names header script ls e =
@@ -131,10 +123,20 @@ accesses_few (s ∷ before) = let n = accesses_few before in omega (arith, n)
 
 -- ---- finishing
 
-module _ (ls all : List Line) (header : List Column) (names : FunctionNames) (t : Tables) (rs : List ResultRow) (same_lines : all ≡ ls) (same_rows : rs ≡ t.results.items)
-    (graph : IsGraph (view_of ls header names)) (h : AreTables header names (statements ls) t) where
+module _ (script : Script) (ls all booked : List Line) (header : List Column) (names : FunctionNames) (t : Tables) (rs : List ResultRow)
+    (turned : ls ≡ reverse script.lines) (same_lines : all ≡ ls) (same_rows : rs ≡ t.results.items)
+    (bookable : IsBookable script) (head : IsHeader header) (same_booked : booked ≡ ls) (tables : AreTables header names (statements booked) t) where
   abbrev g : GraphView
   g = view_of ls header names
+
+  h : AreTables header names (statements ls) t
+  h = subst (λ (xs : List Line). AreTables header names (statements xs) t) same_booked tables
+
+  graph : IsGraph g
+  graph = graph_is script ls header names turned bookable head h.versions.accepted
+
+  few : length ls ≤ 256
+  few = let n = ap length turned in let r = length-reverse script.lines in let f = bookable.few in omega (arith, n, r, f)
 
   pub finish_named : AreNamedInTurn (statements all)
   finish_named = subst (λ (xs : List Line). AreNamedInTurn (statements xs)) (sym same_lines) (all_in_turn names (scope_of header) (statements ls) h.versions.accepted)
@@ -142,18 +144,20 @@ module _ (ls all : List Line) (header : List Column) (names : FunctionNames) (t 
   tables_of : AreTables header names (booked_statements g) t
   tables_of = subst (λ (x : List Statement). AreTables header names x t) (history_of ls header names) h
 
-  pub finish_rows : AreRowsOf (statements all) (bookings (statements all)) rs
+  finish_rows : AreRowsOf (statements all) (bookings (statements all)) rs
   finish_rows =
       subst (λ (xs : List ResultRow). AreRowsOf (statements all) (bookings (statements all)) xs) (sym same_rows)
       (subst (λ (xs : List Line). AreRowsOf (statements xs) (bookings (statements xs)) t.results.items) (sym same_lines)
       (subst (λ (x : List Statement). AreRowsOf x (bookings x) t.results.items) (sym (history_of ls header names)) (rows_of_graph g graph t.results.items tables_of.results)))
 
-  pub finish_count : length rs ≡ length (bookings (statements all))
-  finish_count = ap length same_rows ∙ AllZip-long IsRow _ t.results.items h.results.0 ∙ (λ i. length (bookings (statements (sym same_lines i))))
-
-  pub finish_few : length ls ≤ 256 → length rs ≤ 256
-  finish_few few =
-      let n = finish_count in let m = bookings_few (statements all) in let k = length-map all (λ (l : Line). l.statement) in let e = ap length same_lines in omega (arith, n, m, k, e, few)
+  pub finish_script : (n : ℕ) → (n ≡ length t.variations) × (n ≤ 128) → IsScriptRows (statements all) rs n
+  finish_script n count = record {
+    rows = finish_rows;
+    few_results = let n = AllZip-long (IsRowOf (statements all)) (bookings (statements all)) rs finish_rows in
+        let m = bookings_few (statements all) in let k = length-map all (λ (l : Line). l.statement) in let e = ap length same_lines in omega (arith, n, m, k, e, few);
+    count = count.0 ∙ ap length h.variations ∙ ap (λ xs. length (variations (statements xs))) (sym same_lines);
+    few = count.1;
+  }
 
   accepted_here : AreAccepted names (scope_of header) (booked_statements g)
   accepted_here = subst (λ (x : List Statement). AreAccepted names (scope_of header) x) (history_of ls header names) h.versions.accepted
@@ -161,8 +165,7 @@ module _ (ls all : List Line) (header : List Column) (names : FunctionNames) (t 
   length_here : length (booked_statements g) ≡ length ls
   length_here = sym (ap length (history_of ls header names)) ∙ length-map ls (λ (l : Line). l.statement)
 
-  module _ (short : AllByRecursion IsShort (statements ls)) (few : length ls ≤ 256) (loops : LoopTables) (watched : List Bool)
-      (are_loops : AreLoops (statements all) (statements all) loops) (are_watched : watched ≡ map (λ (r : ResultRow). is_watched (statements all) r.name) rs) where
+  module _ (loops : LoopTables) (are_loops : AreLoops (statements all) (statements all) loops) where
     loops_here : AreLoops (booked_statements g) (booked_statements g) loops
     loops_here = subst (λ (x : List Statement). AreLoops x x loops) (history_of ls header names) (subst (λ (xs : List Line). AreLoops (statements xs) (statements xs) loops) same_lines are_loops)
 
@@ -170,7 +173,7 @@ module _ (ls all : List Line) (header : List Column) (names : FunctionNames) (t 
     result_total = let n = AllZip-long IsRow _ t.results.items tables_of.results.0 in let f = bookings_few (booked_statements g) in let l = length_here in omega (arith, n, f, l, few)
 
     print_total : length loops.prints.items ≤ 256
-    print_total = grind (arith, length-map, accesses_few, length_here)
+    print_total = grind (arith, length-map, accesses_few, length_here, few)
 
     loop_total : length loops.loops.items ≤ 256
     loop_total = let n = ap length loops_here.loops in let f = loops_few (booked_statements g) (booked_statements g) in let l = length_here in omega (arith, n, f, l, few)
@@ -182,16 +185,14 @@ module _ (ls all : List Line) (header : List Column) (names : FunctionNames) (t 
     version_total = let n = ap length h.version_rows in let m = versions_count header names (statements ls) in let k = versions_are header names (statements ls) t h in let f = h.versions.few in omega (arith, n, m, k, f)
 
     site_total : length t.sites.items ≤ 16777216
-    site_total = sites_fit header names (statements ls) t h short (let k = length-map ls (λ (l : Line). l.statement) in omega (arith, k, few))
+    site_total = sites_fit header names (statements ls) t h (all_short script ls turned bookable)
+        (let k = length-map ls (λ (l : Line). l.statement) in omega (arith, k, few))
 
-    made : IsBooked g t loops watched
+    made : IsBooked g t loops
     made = record {
       graph = graph;
       tables = tables_of;
       loops = loops_here;
-      watches = are_watched ∙ (λ i. map (λ (r : ResultRow). is_watched (statements (same_lines i)) r.name) (same_rows i))
-          ∙ zip_map IsRow (λ (b : Booked). is_watched (statements ls) b.name) (λ (r : ResultRow). is_watched (statements ls) r.name) (bookings (statements ls)) t.results.items (λ b r row. ap (is_watched (statements ls)) row.name) h.results.0
-          ∙ (λ i. map (λ (c : Booked). is_watched (history_of ls header names i) c.name) (bookings (history_of ls header names i)));
       site_sets = λ s v. sites_depend g graph s v;
       result_sets = λ n v. results_depend g graph n v;
       sources = λ u. subst (λ (vs : List Version). AreSourcesOf vs u (graph_sources g u)) (sym tables_of.version_rows) (version_source header names (booked_statements g) accepted_here u);
@@ -205,13 +206,13 @@ module _ (ls all : List Line) (header : List Column) (names : FunctionNames) (t 
     }
 
     -- over copies of the columns and names
-    pub finished : (columns : List Column) (functions : FunctionNames) → columns ≡ header → functions ≡ names → IsBooked (view_of ls columns functions) t loops watched
+    pub finished : (columns : List Column) (functions : FunctionNames) → columns ≡ header → functions ≡ names → IsBooked (view_of ls columns functions) t loops
     finished columns functions c f =
-        subst (λ (xs : List Column). IsBooked (view_of ls xs functions) t loops watched) (sym c) (subst (λ (fs : FunctionNames). IsBooked (view_of ls header fs) t loops watched) (sym f) made)
+        subst (λ (xs : List Column). IsBooked (view_of ls xs functions) t loops) (sym c) (subst (λ (fs : FunctionNames). IsBooked (view_of ls header fs) t loops) (sym f) made)
 
 -- ---- lists
 
-twice : {A B C : Type 0} (f : A → B) (g : B → C) (o : Option A) → option_map (λ x. g (f x)) o ≡ option_map g (option_map f o)
+pub twice : {A B C : Type 0} (f : A → B) (g : B → C) (o : Option A) → option_map (λ x. g (f x)) o ≡ option_map g (option_map f o)
 twice f g None = refl
 twice f g (Some x) = refl
 
@@ -221,18 +222,15 @@ of_mapped f g xs ys n y e h = twice f g (slice_get xs n) ∙ ap (option_map g) (
 
 -- ---- the readers
 
-pub booked_now : {v g : GraphView} {t : Tables} {l : LoopTables} {w : List Bool} → v ≡ g → IsBooked v t l w → IsBooked g t l w
-booked_now {t = t} {l = l} {w = w} e h = subst (λ (x : GraphView). IsBooked x t l w) e h
+pub booked_now : {v g : GraphView} {t : Tables} {l : LoopTables} → v ≡ g → IsBooked v t l → IsBooked g t l
+booked_now {t = t} {l = l} e h = subst (λ (x : GraphView). IsBooked x t l) e h
 
 pub there_too : {A : Type 0} {xs ys : List A} (n : ℕ) {y : A} → xs ≡ ys → slice_get xs n ≡ Some y → slice_get ys n ≡ Some y
 there_too n e h = ap (λ zs. slice_get zs n) (sym e) ∙ h
 
-module _ {g : GraphView} {t : Tables} {l : LoopTables} {w : List Bool} (h : IsBooked g t l w) where
+module _ {g : GraphView} {t : Tables} {l : LoopTables} (h : IsBooked g t l) where
   pub row_count : length t.results.items ≡ length (graph_results g)
   row_count = AllZip-long IsRow _ t.results.items h.tables.results.0 ∙ sym (ap length (booked_are g.header g.names (booked_statements g))) ∙ length-map (graph_results g) (λ (x : ResultAt). x.booked)
-
-  pub watch_count : length w ≡ length (graph_results g)
-  watch_count = ap length h.watches ∙ length-map (bookings (booked_statements g)) _ ∙ sym (ap length (booked_are g.header g.names (booked_statements g))) ∙ length-map (graph_results g) (λ (x : ResultAt). x.booked)
 
   pub name_is : (n : ℕ) (row : ResultRow) → slice_get t.results.items n ≡ Some row → option_map (λ (x : ResultAt). x.booked.name) (slice_get (graph_results g) n) ≡ Some row.name
   name_is n row q =
@@ -241,12 +239,6 @@ module _ {g : GraphView} {t : Tables} {l : LoopTables} {w : List Bool} (h : IsBo
 
   pub set_is : (n : ℕ) (row : ResultRow) → slice_get t.results.items n ≡ Some row → (v : ℕ) → has row.set v ≡ result_depends_at g n v
   set_is n row q v = row_set _ _ t.results.items h.tables.results n row q v ∙ h.result_sets n v
-
-  pub watch_is : (n : ℕ) (b : Bool) → slice_get w n ≡ Some b → option_map (λ (x : ResultAt). is_watched (booked_statements g) x.booked.name) (slice_get (graph_results g) n) ≡ Some b
-  watch_is n b q =
-      twice (λ (x : ResultAt). x.booked) (λ (b : Booked). is_watched (booked_statements g) b.name) (slice_get (graph_results g) n)
-      ∙ ap (option_map (λ (b : Booked). is_watched (booked_statements g) b.name)) (sym (slice_get-map (λ (x : ResultAt). x.booked) (graph_results g) n) ∙ ap (λ bs. slice_get bs n) (booked_are g.header g.names (booked_statements g)))
-      ∙ sym (slice_get-map (λ (b : Booked). is_watched (booked_statements g) b.name) (bookings (booked_statements g)) n) ∙ ap (λ bs. slice_get bs n) (sym h.watches) ∙ q
 
   pub path_is : {B : Type 0} (f : ResultPath → B) (n : ℕ) (row : ResultRow) → slice_get t.results.items n ≡ Some row → option_map (λ (x : ResultAt). f (result_path x)) (slice_get (graph_results g) n) ≡ Some (f row.path)
   path_is f n row q = of_mapped result_path f (graph_results g) (paths t.results.items) n row.path h.tables.paths (slice_get-map (λ (r : ResultRow). r.path) t.results.items n ∙ ap (option_map (λ (r : ResultRow). r.path)) q)

@@ -1,9 +1,9 @@
 -- What accepted statements add to the tables, which is what the numbers of the script say.
-use Rattle.std.proofs.Common.{◌≡◌, ℕ, suc, ◌+◌, ◌||◌, List, [], ◌∷◌, ◌++◌, map, length, Some, refl, sym, ◌∙◌, ap, ◌≤◌, Option, None, Result, Ok, Err, IfOk, OnOk, subst, arith}
-use Rattle.rdf_values.specs.{Column, FunctionNames, path, Statement, variations, VaryValues, Booked, booked_by, bookings, check, check_node, check_target, ColType, first_refusal, GraphCause, is_visible, kind_of, kind_or_int, NamedTree, own_variations, refusal_in, refuse_if, scope_at, scope_of}
+use Rattle.std.proofs.Common.{◌≡◌, ℕ, suc, ◌+◌, ◌||◌, List, [], ◌∷◌, ◌++◌, map, length, Some, refl, sym, ap, ◌≤◌, Option, None, Result, Ok, Err, IfOk, OnOk, subst, arith}
+use Rattle.rdf_values.specs.{Column, FunctionNames, path, Statement, variations, VaryValues, Booked, booked_by, check, check_node, check_target, ColType, first_refusal, GraphCause, is_visible, kind_of, kind_or_int, NamedTree, own_variations, refusal_in, refuse_if, scope_at, scope_of}
 use Rattle.rdf_values.specs.declared.scripts.statement.Statement.TheVariants.{Define, Redefine, Filter, Vary}
-use Rattle.graph_numbers.specs.{FilterAt, named_version, own_filters, own_results, own_versions, filters, list_sites, lists_sites, own_kinds, own_sites, results, site_in, SiteAt, sites, version_kinds}
-use Rattle.graph.specs.{result_path, all_expressions, AllCheckedAt, AreRows, AreSets, AreSites, AreTables, changed_set, Decides, Gives, GrowBy, is_among_own, IsBookedRow, IsCheckedAt, IsEmptyGain, IsFilterGain, IsGain, IsMadeGain, IsRow, IsRowGain, IsSet, IsSite, IsVaryGain, named_rows, Numbers, own_result_sets, own_site_sets, own_version_sets, paths, read_sets, result_sets, site_set, site_sets, value_expressions, varied_set, VarSet, version_sets}
+use Rattle.graph_numbers.specs.{FilterAt, named_version, own_filters, own_results, own_versions, list_sites, lists_sites, own_kinds, own_sites, site_in, SiteAt, version_kinds}
+use Rattle.graph.specs.{result_path, all_expressions, AllCheckedAt, AreRows, AreSets, AreSites, AreTables, changed_set, Decides, Gives, GrowBy, is_among_own, IsBookedRow, IsCheckedAt, IsEmptyGain, IsFilterGain, IsGain, IsMadeGain, IsRow, IsRowGain, IsSet, IsSite, IsVaryGain, named_rows, Numbers, own_result_sets, own_site_sets, own_version_sets, paths, read_sets, site_set, value_expressions, varied_set, VarSet, version_sets}
 use Rattle.lemmas.proofs.{All-weaker, kept_at, length-append, map-append}
 use Rattle.rdf_model.specs.{Site, site_at}
 use Rattle.expr_check.specs.{CheckedExpr}
@@ -48,18 +48,7 @@ module _ (header : List Column) (names : FunctionNames) (before : List Statement
       → ((out : List VarSet) → AreSets es out → AreSets (own_site_sets header names before s) out)
       → AreSites (version_kinds header names before) names (own_sites header names before s) cs
       → AreRows (booked_by before s) (own_result_sets header names before s) rs → paths rs ≡ map result_path (own_results header names before s) → IsGain header names before s g
-  gained s g ok e kinds versions sites own rows ways = record {
-    accepted = ok;
-    version_rows = e.version_rows;
-    kinds = e.kinds ∙ kinds;
-    version_sets = versions g.version_sets.items e.version_sets;
-    sites = subst (AreSites (version_kinds header names before) names (own_sites header names before s)) (sym e.sites) own;
-    site_sets = sites g.site_sets.items e.site_sets;
-    filters = e.filters;
-    results = subst (AreRows (booked_by before s) (own_result_sets header names before s)) (sym e.results) rows;
-    paths = ap paths e.results ∙ ways;
-    variations = e.variations;
-  }
+  gained s g ok e kinds versions h own rows ways = grind arith
 
   -- what holds of a statement by its parts holds of it as it is given
   pub told : (s u : Statement) (r : Result Tables Stop) → s ≡ u → IfOk r (IsGain header names before u) → Decides (check names (scope_of header) before u) r → IfOk r (IsGain header names before s) × Decides (check names (scope_of header) before s) r
@@ -146,22 +135,7 @@ pub record AreAppended (old new : Tables) (g : Tables) : Type 0 where
   pub results : new.results.items ≡ old.results.items ++ g.results.items
 
 pub added : {E : Type 0} (r : Result Unit E) (old new : Tables) (g : Tables) → AreAppended old new g → OnOk r (new.variations ≡ old.variations ++ g.variations) → OnOk r (GrowBy old g new)
-added (Err e) old new g a v = tt
-added (Ok u) old new g a v = λ header names before s h k.
-    let n : length new.kinds.items ≡ length old.kinds.items + length g.kinds.items = ap length a.kinds ∙ length-append old.kinds.items g.kinds.items in
-    let m = a.few in
-    record {
-      version_rows = a.versions ∙ (λ i. h.version_rows i ++ k.version_rows i);
-      versions = record { accepted = (k.accepted, h.versions.accepted); are = a.kinds ∙ (λ i. h.versions.are i ++ k.kinds i); few = omega (arith, n, m) };
-      version_sets = subst (AreSets (version_sets header names (s ∷ before))) (sym a.version_sets) (zip_both IsSet _ _ _ _ h.version_sets k.version_sets);
-      sites = subst (AreSites (version_kinds header names (s ∷ before)) names (sites header names (s ∷ before))) (sym a.sites) (sites_grown _ _ names _ _ (zip_both (IsSite (version_kinds header names before) names) _ _ _ _ h.sites k.sites));
-      site_sets = subst (AreSets (site_sets header names (s ∷ before))) (sym a.site_sets) (zip_both IsSet _ _ _ _ h.site_sets k.site_sets);
-      filters = a.filters ∙ (λ i. h.filters i ++ k.filters i) ∙ sym (map-append (λ (f : FilterAt). f.sites) (filters header names before) (own_filters header names before s));
-      paths = ap paths a.results ∙ map-append (λ (r : ResultRow). r.path) old.results.items g.results.items
-          ∙ (λ i. h.paths i ++ k.paths i) ∙ sym (map-append result_path (results header names before) (own_results header names before s));
-      results = subst (AreRows (bookings (s ∷ before)) (result_sets header names (s ∷ before))) (sym a.results) (rows_both _ _ _ _ _ _ h.results k.results);
-      variations = v ∙ (λ i. h.variations i ++ k.variations i);
-    }
+added r old new g a v = grind (arith, length-append, zip_both, sites_grown, map-append, rows_both)
 
 -- the variations of an accepted script with those of a gain are few
 pub gain_fits : (header : List Column) (names : FunctionNames) (before : List Statement) (s : Statement) (t : Tables) (g : Tables) → AreTables header names before t → IsGain header names before s g → length t.variations + length g.variations ≤ 128

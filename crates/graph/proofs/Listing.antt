@@ -80,12 +80,6 @@ module _ {A B : Type 0} (R : A → B → Type 0) where
   zip_by S (x ∷ xs) [] f h = absurd h
   zip_by S (x ∷ xs) (y ∷ ys) f h = (f 0 x y refl refl h.0, zip_by S xs ys (λ n. f (suc n)) h.1)
 
-  pub zip_map : {C : Type 0} (f : A → C) (g : B → C) (xs : List A) (ys : List B) → ((x : A) (y : B) → R x y → g y ≡ f x) → AllZip R xs ys → map g ys ≡ map f xs
-  zip_map f g [] [] e h = refl
-  zip_map f g [] (y ∷ ys) e h = absurd h
-  zip_map f g (x ∷ xs) [] e h = absurd h
-  zip_map f g (x ∷ xs) (y ∷ ys) e h = λ i. e x y h.0 i ∷ zip_map f g xs ys e h.1 i
-
   -- tests that agree on each pair agree at each place
   pub zip_holds : (p : A → Bool) (q : B → Bool) → ((x : A) (y : B) → R x y → q y ≡ p x) → (xs : List A) (ys : List B) → AllZip R xs ys → (n : ℕ) → holds_at q (slice_get ys n) ≡ holds_at p (slice_get xs n)
   zip_holds p q e [] [] h n = refl

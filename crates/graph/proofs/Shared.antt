@@ -12,12 +12,9 @@ use Rattle.rdf_values.proofs.Shared.{name_sync, line_sync, list_sync, columns_sy
 use Rattle.rdf_values.proofs.SharedNum.{num_expr_sync}
 use Rattle.expr_check.specs.contracts.checked.Checked.{the_row as checked_row}
 use Rattle.expr_check.specs.contracts.checked.Checked.TheInside.{the_row as checked_inside_row}
-use Rattle.expr_check.specs.contracts.checked.Checked.TheInside as C
 use Rattle.graph.specs.contracts.tables.Tables.{the_row as tables_row}
-use Rattle.graph.specs.contracts.tables.Tables as T
 use Rattle.graph.specs.contracts.tables.ResultPath.{the_row as path_row}
 use Rattle.graph.specs.contracts.tables.ResultRow.{the_row as result_row}
-use Rattle.graph.specs.contracts.tables.ResultRow as R
 use Rattle.graph.specs.contracts.loops.LoopTables.{the_row as loops_row}
 use Rattle.graph.specs.contracts.graph.Graph.{the_row as graph_row}
 use Rattle.graph.specs.contracts.graph.Graph.TheInside.{the_row as inside_row}
@@ -33,7 +30,7 @@ functions_sync : IsSync (list_row fn_name_row)
 functions_sync = list_sync fn_name_row fn_name_sync
 
 checked_inside : IsSync checked_inside_row
-checked_inside = declared_sync C.the_type (search (sendable, crosses, num_expr_sync) depth 40 fits 4000)
+checked_inside = search (sendable, crosses, num_expr_sync) depth 40 fits 4000
 
 checked_sync : IsSync checked_row
 checked_sync = record { shared = λ d b o κ x. (checked_inside.shared x.0 b o κ, tt) }
@@ -45,13 +42,13 @@ path_sync : IsSync path_row
 path_sync = search (sendable, crosses) depth 40 fits 4000
 
 result_sync : IsSync result_row
-result_sync = declared_sync R.the_type (search (sendable, crosses, path_sync) depth 40 fits 4000)
+result_sync = search (sendable, crosses, path_sync) depth 40 fits 4000
 
 results_sync : IsSync (B.the_row result_row H.the_row ghosts)
 results_sync = Vec-sync result_row result_sync
 
 tables_sync : IsSync tables_row
-tables_sync = declared_sync T.the_type (search (sendable, crosses, sites_sync, results_sync) depth 40 fits 4000)
+tables_sync = search (sendable, crosses, sites_sync, results_sync) depth 40 fits 4000
 
 loops_sync : IsSync loops_row
 loops_sync = search (sendable, crosses) depth 40 fits 4000

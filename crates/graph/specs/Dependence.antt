@@ -1,5 +1,5 @@
 -- Sets of variations, and which variations versions, sites and results depend on, by numbers.
-use Rattle.std.specs.Prelude.{Some, Ok, ◌≡◌, ◌<◌, ◌≤◌, ℕ, zero, suc, ◌+◌, Bool, true, false, if◌then◌else◌, nat_eq, ◌||◌, ◌&&◌, List, [], ◌∷◌, ◌++◌, map, length, slice_get, nat_le, nat_lt}
+use Rattle.std.specs.Prelude.{Some, Ok, ◌≡◌, ℕ, zero, suc, ◌+◌, Bool, false, if◌then◌else◌, nat_eq, ◌||◌, ◌&&◌, List, [], ◌∷◌, ◌++◌, map, length, slice_get, nat_le, nat_lt}
 use Rattle.std.specs.Int.{bit_at}
 use Rattle.graph.specs.declared.sets.VarSet.{VarSet}
 use Rattle.std.specs.List.{list_any, AllZip}

@@ -16,7 +16,7 @@ pub use Contexts.{AppendsChecked, AreCheckedBefore, history, IsCheckedBefore, Is
 pub use Dependence.{action_set, any_depends, any_has, AreSets, changed_set, depends_at, expression_set, has, has_at, is_among_own, IsSet, Numbers, own_result_sets, own_site_sets, own_version_sets, read_sets, result_sets, site_set, site_sets, varied_set, version_sets, VersionsDependAsColumns}
 pub use Gains.{AreRows, AreSites, AreTables, Gives, GrowBy, IsBookedRow, IsColumnGain, IsEmptyGain, IsFilterGain, IsGain, IsMadeGain, IsRow, IsRowGain, IsSite, IsVaryGain, paths}
 pub use GraphFields.{IsBooked, view_of}
-pub use Lookups.{AreKinds, AreNoted, books, IsAlike, IsCheckedAt, IsFound, IsScopeAt, IsScopeOf, own_target, own_visible, result_in, statements}
+pub use Lookups.{AreKinds, books, IsCheckedAt, IsFound, own_target, own_visible, result_in, statements}
 pub use LoopRows.{AreLoops, AreNamedInTurn, AreRowsOf, BeginsWith, filled_count, filler_of, IsNamedInTurn, IsNoted, IsRowOf, members_from, passes_of_row, passes_of_rows}
 pub use Rows.{AreAbove, AreSourcesOf, cell_rows, count_from, expression_total, filter_numbers, HasSites, is_filter, is_named, IsAbove, labels, named, named_rows, own_label, own_number, own_site_total, result_path, site_total}
 unfoldable pub use Dependence.{members_below}

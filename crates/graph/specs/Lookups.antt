@@ -1,7 +1,7 @@
 -- Lines as look-ups walk them, the latest first, and what a statement adds to each answer.
 use Rattle.std.specs.Prelude.{◌≡◌, ◌≤◌, ℕ, Bool, false, List, map, length, All, Some, Ok, if◌then◌else◌, slice_get}
-use Rattle.std.specs.List.{AllByRecursion, list_any}
-use Rattle.rdf_values.specs.{AreAccepted, Booked, Booking, callee, ColType, Column, column_kind, EachColumn, FunctionNames, kind_of, kinds_in, Line, NamedTree, number_in, renamed, results_named, same, scope_at, scope_of, ScopeColumn, Statement}
+use Rattle.std.specs.List.{list_any}
+use Rattle.rdf_values.specs.{AreAccepted, Booked, Booking, callee, ColType, Column, column_kind, FunctionNames, kind_of, Line, NamedTree, renamed, results_named, same, scope_at, scope_of, Statement}
 use Rattle.rdf_values.specs.declared.scripts.statement.Statement.TheVariants.{Define, Redefine, Alias, Action, Report}
 use Rattle.expr_check.specs.{CallsFit, CheckedExpr, IsWellTyped}
 use Rattle.graph_numbers.specs.{version_at, version_kinds}
@@ -39,27 +39,6 @@ pub record IsFound (header : List Column) (names : FunctionNames) (before : List
   pub kind : column_kind (scope_at names (scope_of header) before node) name ≡ Ok t
   pub number : version_at header before node name ≡ n
   pub own : slice_get kinds n ≡ Some t
-
--- a name means in a scope what it does at the node
-pub record IsAlike (header : List Column) (names : FunctionNames) (before : List Statement) (node : List ℕ) (scope : List ScopeColumn) (name : List ℕ) : Type 0 where
-  pub kind : column_kind (kinds_in scope) name ≡ column_kind (scope_at names (scope_of header) before node) name
-  pub number : (t : ColType) → column_kind (scope_at names (scope_of header) before node) name ≡ Ok t → number_in scope name ≡ version_at header before node name
-
--- each column of a scope has the kind of its version, and means what it does at the node
-pub record IsScopeAt (header : List Column) (names : FunctionNames) (before : List Statement) (node : List ℕ) (kinds : List ColType) (scope : List ScopeColumn) : Type 0 where
-  pub own : All (λ (c : ScopeColumn). slice_get kinds c.number ≡ Some c.kind) scope
-  pub means : (x : List ℕ) (t : ColType) → column_kind (kinds_in scope) x ≡ Ok t → IsAlike header names before node scope x
-
--- a scope into which names were brought
-pub record AreNoted (header : List Column) (names : FunctionNames) (before : List Statement) (node : List ℕ) (kinds : List ColType) (old new : List ScopeColumn) (noted : List (List ℕ)) : Type 0 where
-  pub scope : IsScopeAt header names before node kinds new
-  pub kept : (x : List ℕ) → IsAlike header names before node old x → IsAlike header names before node new x
-  pub each : AllByRecursion (IsAlike header names before node new) noted
-
--- a scope with the columns of an expression
-pub record IsScopeOf (header : List Column) (names : FunctionNames) (before : List Statement) (node : List ℕ) (kinds : List ColType) (e : NamedTree) (scope : List ScopeColumn) : Type 0 where
-  pub scope_at_node : IsScopeAt header names before node kinds scope
-  pub each : EachColumn (IsAlike header names before node scope) e
 
 -- an expression that was checked at a node, by versions
 pub record IsCheckedAt (header : List Column) (names : FunctionNames) (before : List Statement) (node : List ℕ) (e : NamedTree) (c : CheckedExpr) : Type 0 where

@@ -1,8 +1,9 @@
 // What stands before a statement, the columns and expressions at its nodes, and the checks that several statements share.
-ghost use Rattle.std.specs.Prelude.{◌≡◌, ◌≤◌, ◌<◌, ◌++◌, ◌∷◌, [], length, map, Some, Err, Result, MatchOption, IfOk, OnOk};
+ghost use Rattle.std.specs.Prelude.{◌≡◌, ◌≤◌, length, map, slice_get, Ok, Err, Result, MatchOption, IfOk};
 ghost use Rattle.std.specs.List.{AllByRecursion};
-ghost use Rattle.rdf_values.specs.{check_node, check_target, ColType, column_kind, columns_in, columns_in_all, expect_kind, GraphCause, is_visible, IsShort, kind_of, kind_or_int, path, refusal_in, refuse_if, same_kind, tree_of, trees_of};
-ghost use Rattle.rdf_values.specs.declared.scripts.script_cause.GraphCause.TheVariants.{NameTaken, UnknownColumn};
+ghost use Rattle.std.specs.Option.{ok_or};
+ghost use Rattle.rdf_values.specs.{check_node, check_target, ColType, column_kind, expect_kind, GraphCause, is_visible, IsShort, kind_of, kind_or_int, path, refusal_in, same_kind};
+ghost use Rattle.rdf_values.specs.declared.scripts.script_cause.GraphCause.TheVariants.{UnknownColumn};
 ghost use Rattle.expr_check.specs.{RefusedAs};
 ghost use Rattle.graph_numbers.specs.{filter_sites, version_at};
 ghost use Rattle.graph.specs.Checks.{IsStop};
@@ -11,51 +12,14 @@ ghost use Rattle.graph.specs.Lookups.{statements};
 ghost use Rattle.graph.specs.OneProof.{tables-prop};
 ghost use Rattle.graph.specs.ShortProof.{short_all-prop};
 
-use crate::copies::push_name;
 use crate::lookup::{
     at, filter_sites, is_alias, is_in_use, is_node, is_visible, named_version, target_of,
 };
 use crate::refusals::{Stop, first_of, refuse_if, refuse_unless};
 use crate::tables::Tables;
-use expr_check::{CheckRefusal, Checked, Scope, check};
-use rdf_values::{
-    Args, ColType, Column, Expr, ExprNode, FnNames, GraphCause, Line, ListOf, Memory, Name,
-};
+use expr_check::{CheckRefusal, Checked, Columns, check};
+use rdf_values::{ColType, Column, Expr, FnNames, GraphCause, Line, ListOf, Memory, Name};
 use std::alloc::Global;
-
-#[cycle(names)]
-fn push_names(columns: &mut Vec<Name>, node: &ExprNode) -> Result<(), Memory>
-    ensures { OnOk result (columns.new.items ≡ columns.old.items ++ columns_in (tree_of node.now)) }
-{
-    match node {
-        ExprNode::Lit(_) | ExprNode::Truth(_) => Ok(()),
-        ExprNode::Col(name) => push_name(columns, name),
-        ExprNode::Neg(a) | ExprNode::Not(a) => push_names(columns, a),
-        ExprNode::Bin(_, a, b) | ExprNode::Pick(a, b) => {
-            push_names(columns, a)?;
-            push_names(columns, b)
-        }
-        ExprNode::Cond(condition, first, second) => {
-            push_names(columns, condition)?;
-            push_names(columns, first)?;
-            push_names(columns, second)
-        }
-        ExprNode::Call(_, args) => push_names_of_all(columns, args),
-    }
-}
-
-#[cycle(names)]
-fn push_names_of_all(columns: &mut Vec<Name>, args: &Args) -> Result<(), Memory>
-    ensures { OnOk result (columns.new.items ≡ columns.old.items ++ columns_in_all (trees_of args.now)) }
-{
-    match args {
-        Args::End => Ok(()),
-        Args::More(first, rest) => {
-            push_names(columns, first)?;
-            push_names_of_all(columns, rest)
-        }
-    }
-}
 
 #[tactic(auto, using(crate::proofs::Checking::cause_refused))]
 fn stop_of(refusal: CheckRefusal) -> Stop
@@ -91,8 +55,9 @@ pub(crate) struct Before<'a> {
 }
 
 impl Before<'_> {
-    ghost use Rattle.graph.specs.{AreNoted, Decides, history, IsCheckedBefore, IsFound, IsScopeAt, IsScopeOf, named_version_before, scope_before, sites_so_far};
+    ghost use Rattle.graph.specs.{Decides, history, IsCheckedBefore, named_version_before, scope_before, sites_so_far};
 
+    #[tactic(auto, using(crate::proofs::SiteTotals::sites_are))]
     pub(crate) fn sites(&self) -> u32
         ensures value { result ≡ sites_so_far self.now }
         ensures few { result ≤ 16777216 }
@@ -117,6 +82,7 @@ impl Before<'_> {
         Ok(ListOf::from_vec(versions.collect(self.alloc)?))
     }
 
+    #[tactic(auto, using(crate::proofs::Scoping::kinds_counted, crate::proofs::Walking::named_few, crate::proofs::SiteTotals::versions_are))]
     pub(crate) fn named_version(&self, node: &Name, name: &Name) -> u32
         ensures { result ≡ named_version_before self.now node.now name.now }
     {
@@ -126,7 +92,7 @@ impl Before<'_> {
 
     pub(crate) fn find_column(&self, node: &Name, name: &Name) -> Option<(ColType, u32)>
         ensures { MatchOption result (column_kind (scope_before self.now node.now) name.now ≡ Err UnknownColumn)
-            (λ c. IsFound self.now.header.now self.now.names.now (history self.now) node.now self.now.tables.now.kinds.items name.now c.0 c.1) }
+            (λ c. (column_kind (scope_before self.now node.now) name.now ≡ Ok c.0) × (version_at self.now.header.now (history self.now) node.now name.now ≡ c.1)) }
     {
         if !is_visible(self.lines, self.header, node, name) {
             return None;
@@ -142,41 +108,6 @@ impl Before<'_> {
     {
         let found = self.find_column(node, column);
         found.map_or(ColType::Int, |(kind, _)| kind)
-    }
-
-    /// Brings a column into a scope, unless it is there or isn't visible.
-    fn note(&self, node: &Name, scope: &mut Scope, name: &Name) -> Result<(), Memory>
-        requires scope { IsScopeAt self.now.header.now self.now.names.now (history self.now) node.now self.now.tables.now.kinds.items scope.old }
-        ensures { OnOk result (AreNoted self.now.header.now self.now.names.now (history self.now) node.now self.now.tables.now.kinds.items scope.old scope.new (name.now ∷ [])) }
-    {
-        match self.find_column(node, name) {
-            None => Ok(()),
-            Some((kind, number)) => match scope.find(name) {
-                Some(_) => Ok(()),
-                None => scope.add(name, kind, number),
-            },
-        }
-    }
-
-    fn note_all(&self, node: &Name, scope: &mut Scope, columns: &[Name]) -> Result<(), Memory>
-        requires scope { IsScopeAt self.now.header.now self.now.names.now (history self.now) node.now self.now.tables.now.kinds.items scope.old }
-        ensures { OnOk result (AreNoted self.now.header.now self.now.names.now (history self.now) node.now self.now.tables.now.kinds.items scope.old scope.new columns.now) }
-    {
-        let Some((first, rest)) = columns.split_first() else {
-            return Ok(());
-        };
-        self.note(node, scope, first)?;
-        self.note_all(node, scope, rest)
-    }
-
-    fn scope_for(&self, node: &Name, expr: &Expr) -> Result<Scope, Memory>
-        ensures { IfOk result (λ scope. IsScopeOf self.now.header.now self.now.names.now (history self.now) node.now self.now.tables.now.kinds.items expr.now scope) }
-    {
-        let mut columns = Vec::new(self.alloc);
-        push_names(&mut columns, &expr.node)?;
-        let mut scope = Scope::new(self.alloc);
-        self.note_all(node, &mut scope, columns.as_slice())?;
-        Ok(scope)
     }
 
     pub(crate) fn check_node(&self, node: &Name, parent: &Name) -> Option<GraphCause>
@@ -207,13 +138,13 @@ impl Before<'_> {
     }
 
     /// An expression over the versions that its columns have at a node.
-    #[tactic(auto, using(crate::proofs::Checking::no_memory))]
+    #[tactic(auto, using(crate::proofs::Checking::no_memory, crate::proofs::Scoping::checked_at))]
     pub(crate) fn expression(&self, node: &Name, expr: &Expr) -> Result<Checked, Stop>
         ensures checked { IfOk result (IsCheckedBefore self.now node.now expr.now) }
         ensures decided { Decides (refusal_in (kind_of (scope_before self.now node.now) self.now.names.now expr.now)) result }
     {
-        let scope = self.scope_for(node, expr)?;
-        match check(self.alloc, expr, &scope, self.names) {
+        let columns = At { before: self, node };
+        match check(self.alloc, expr, &columns, self.names) {
             Ok(checked) => Ok(checked),
             Err(refusal) => Err(stop_of(refusal)),
         }
@@ -230,5 +161,36 @@ impl Before<'_> {
         } else {
             Err(Stop::Cause(GraphCause::WrongType))
         }
+    }
+}
+
+/// The columns that an expression may read at a node.
+#[derive(Clone, Copy)]
+struct At<'a> {
+    before: &'a Before<'a>,
+    node: &'a Name,
+}
+
+impl Columns for At<'_> {
+    ghost use Rattle.graph.specs.{history, scope_before};
+
+    ghost kind_named = { λ at name. column_kind (scope_before at.before.now at.node.now) name };
+
+    ghost number_named = { λ at name. version_at at.before.now.header.now (history at.before.now) at.node.now name };
+
+    ghost kind_numbered = { λ at number. ok_or (slice_get at.before.now.tables.now.kinds.items number) UnknownColumn };
+
+    fn column(&self, name: &Name) -> Option<(ColType, u32)> {
+        self.before.find_column(self.node, name)
+    }
+
+    #[tactic(auto, using(crate::proofs::Scoping::one_kind, crate::proofs::Scoping::kind_within))]
+    fn kinds_of(&self, numbers: &[u32]) -> Result<Vec<ColType>, Memory> {
+        let kinds = self.before.tables.kinds.as_slice();
+        let mut found = Vec::new(self.before.alloc);
+        for number in numbers {
+            found.push(*at(kinds, *number))?;
+        }
+        Ok(found)
     }
 }

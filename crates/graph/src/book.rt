@@ -1,5 +1,5 @@
 // The booking of a script's lines: each is checked after those before it, and then added.
-#![tactic(auto, using(crate::proofs::Checking::no_memory, crate::proofs::Checking::handed_on))]
+#![tactic(auto, using(crate::proofs::Checking::no_memory, crate::proofs::Checking::handed_on, crate::proofs::Checking::stopped_before, crate::proofs::Checking::stopped_last, crate::proofs::Checking::passed_before, crate::proofs::Checking::alone))]
 
 ghost use Rattle.std.specs.Prelude.{◌≡◌, ◌≤◌, ◌∷◌, [], length, reverse, None, Ok, Option, Result, IfOk, IfErr};
 ghost use Rattle.std.specs.List.{AllByRecursion};
@@ -26,18 +26,6 @@ use rdf_values::{
 };
 use std::alloc::Global;
 
-fn refusal_of(line: &Line, stop: Stop) -> GraphRefusal
-    ensures { (wanted : Option GraphCause) → IsStop wanted stop → IsRefusal (refused_then line.now.number None wanted) result }
-{
-    match stop {
-        Stop::Cause(cause) => GraphRefusal::At {
-            line: line.number,
-            cause,
-        },
-        Stop::Memory => GraphRefusal::Memory,
-    }
-}
-
 pub(crate) fn book_lines(
     alloc: Global,
     lines: &[Line],
@@ -62,7 +50,11 @@ pub(crate) fn book_lines(
         tables: &tables,
     };
     match check_statement(&at, &last.statement) {
-        Err(stop) => Err(refusal_of(last, stop)),
+        Err(Stop::Memory) => Err(GraphRefusal::Memory),
+        Err(Stop::Cause(cause)) => Err(GraphRefusal::At {
+            line: last.number,
+            cause,
+        }),
         Ok(gain) => {
             tables.add(gain)?;
             Ok(tables)

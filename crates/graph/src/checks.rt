@@ -1,5 +1,5 @@
 // The checks of a Vary, of what books a result, and of what asks for one.
-#![tactic(auto, using(crate::proofs::Checking::targets_more, crate::proofs::Checking::each_stop, crate::proofs::Checking::each_next, crate::proofs::Checking::handed_on, crate::proofs::Checking::no_memory, crate::proofs::Checking::decides_stop, crate::proofs::Checking::counted))]
+#![tactic(auto, using(crate::proofs::Checking::targets_more, crate::proofs::Checking::each_stop, crate::proofs::Checking::each_next, crate::proofs::Checking::handed_on, crate::proofs::Checking::no_memory, crate::proofs::Checking::decides_stop, crate::proofs::Checking::counted, crate::proofs::Checking::stops_for, crate::proofs::Checking::stopped_before, crate::proofs::Checking::passed_before, crate::proofs::Checking::alone, crate::proofs::SiteTotals::filters_are))]
 
 ghost use Rattle.std.specs.Prelude.{◌≡◌, ◌∷◌, ◌+◌, ◌++◌, ◌||◌, [], ℕ, List, length, map, nat_eq, nat_lt, IfOk, OnOk};
 ghost use Rattle.rdf_values.specs.{ActionKind, are_edges, begins, check_columns, check_edges, check_list, check_lists, check_results, check_tags, check_values, check_vector_column, columns_of, expect_kind, first_refusal, is_result, kind_of, may_begin, permitted_kinds, refuse_if, refuse_unless, repeats, rises, scope_of, Statement, variations, watched_results, weight_column};
@@ -91,33 +91,32 @@ fn has_count<T>(items: &[T], count: usize) -> bool
 /// The list of a column: an expression of the column's kind for each tag.
 fn check_list(
     before: &Before<'_>,
-    node: &Name,
-    tags: usize,
+    change: &Change<'_>,
     column: &Name,
     exprs: &[Expr],
 ) -> Result<Vec<Checked>, Stop>
-    ensures checked { IfOk result (λ found. AreCheckedBefore before.now node.now exprs.now found.items) }
-    ensures decided { Decides (check_list before.now.names.now (scope_before before.now node.now) tags column.now exprs.now) result }
+    ensures checked { IfOk result (λ found. AreCheckedBefore before.now change.now.parent.now exprs.now found.items) }
+    ensures decided { Decides (check_list before.now.names.now (scope_before before.now change.now.parent.now) (length change.now.tags.now) column.now exprs.now) result }
 {
-    if !has_count(exprs, tags) {
+    if !has_count(exprs, change.tags.len()) {
         return Err(Stop::Cause(GraphCause::WrongCount));
     }
-    let kind = before.kind_at(node, column);
+    let kind = before.kind_at(change.parent, column);
     let mut found = Vec::new(before.alloc);
-    check_exprs(before, node, kind, exprs, &mut found)?;
+    check_exprs(before, change.parent, kind, exprs, &mut found)?;
     Ok(found)
 }
 
 fn check_lists(
     before: &Before<'_>,
-    node: &Name,
-    tags: usize,
+    change: &Change<'_>,
     columns: &[Name],
     lists: &[ListOf<Expr>],
 ) -> Result<Vec<Checked>, Stop>
     requires paired { length lists.now ≡ length columns.now }
-    ensures checked { IfOk result (λ found. AreCheckedBefore before.now node.now (all_expressions lists.now) found.items) }
-    ensures decided { Decides (first_refusal (check_lists before.now.names.now (scope_before before.now node.now) tags columns.now lists.now)) result }
+    ensures checked { IfOk result (λ found. AreCheckedBefore before.now change.now.parent.now (all_expressions lists.now) found.items) }
+    ensures decided { Decides (first_refusal (check_lists before.now.names.now (scope_before before.now change.now.parent.now)
+        (length change.now.tags.now) columns.now lists.now)) result }
 {
     let Some((exprs, lists)) = lists.split_first() else {
         return Ok(Vec::new(before.alloc));
@@ -125,8 +124,8 @@ fn check_lists(
     let Some((column, columns)) = columns.split_first() else {
         return Ok(Vec::new(before.alloc));
     };
-    let mut found = check_list(before, node, tags, column, exprs.as_slice())?;
-    let mut more = check_lists(before, node, tags, columns, lists)?;
+    let mut found = check_list(before, change, column, exprs.as_slice())?;
+    let mut more = check_lists(before, change, columns, lists)?;
     match found.append(&mut more) {
         Ok(()) => Ok(found),
         Err(_) => Err(Stop::Memory),
@@ -145,42 +144,33 @@ fn check_vector_column(before: &Before<'_>, node: &Name, columns: &[Name]) -> Op
     }
 }
 
-fn vector_value(
-    before: &Before<'_>,
-    node: &Name,
-    columns: &[Name],
-    expr: &Expr,
-) -> Result<Vec<Checked>, Stop>
-    ensures checked { IfOk result (λ found. AreCheckedBefore before.now node.now (expr.now ∷ []) found.items) }
-    ensures decided { (tags : ℕ) → Decides (check_values before.now.names.now (scope_before before.now node.now) tags columns.now (Vector expr.now)) result }
+fn vector_value(before: &Before<'_>, change: &Change<'_>, expr: &Expr) -> Result<Vec<Checked>, Stop>
+    ensures checked { IfOk result (λ found. AreCheckedBefore before.now change.now.parent.now (expr.now ∷ []) found.items) }
+    ensures decided { (tags : ℕ) → Decides (check_values before.now.names.now (scope_before before.now change.now.parent.now)
+        tags change.now.columns.now (Vector expr.now)) result }
 {
-    if !has_count(columns, 1) {
+    if !has_count(change.columns, 1) {
         return Err(Stop::Cause(GraphCause::WrongCount));
     }
-    let checked = before.expected(node, ColType::Vect, expr)?;
-    stop_if(check_vector_column(before, node, columns))?;
+    let checked = before.expected(change.parent, ColType::Vect, expr)?;
+    stop_if(check_vector_column(before, change.parent, change.columns))?;
     let found = alone(before.alloc, checked)?;
     Ok(found)
 }
 
-fn check_values(
-    before: &Before<'_>,
-    node: &Name,
-    tags: usize,
-    columns: &[Name],
-    values: &VaryValues,
-) -> Result<Vec<Checked>, Stop>
-    ensures checked { IfOk result (λ found. AreCheckedBefore before.now node.now (value_expressions values.now) found.items) }
-    ensures decided { Decides (check_values before.now.names.now (scope_before before.now node.now) tags columns.now values.now) result }
+fn check_values(before: &Before<'_>, change: &Change<'_>) -> Result<Vec<Checked>, Stop>
+    ensures checked { IfOk result (λ found. AreCheckedBefore before.now change.now.parent.now (value_expressions change.now.values.now) found.items) }
+    ensures decided { Decides (check_values before.now.names.now (scope_before before.now change.now.parent.now)
+        (length change.now.tags.now) change.now.columns.now change.now.values.now) result }
 {
-    match values {
+    match change.values {
         VaryValues::Lists(lists) => {
-            if !has_count(lists.as_slice(), columns.len()) {
+            if !has_count(lists.as_slice(), change.columns.len()) {
                 return Err(Stop::Cause(GraphCause::WrongCount));
             }
-            check_lists(before, node, tags, columns, lists.as_slice())
+            check_lists(before, change, change.columns, lists.as_slice())
         }
-        VaryValues::Vector(expr) => vector_value(before, node, columns, expr),
+        VaryValues::Vector(expr) => vector_value(before, change, expr),
     }
 }
 
@@ -192,16 +182,13 @@ pub(crate) fn check_vary(
     ensures checked { IfOk result (λ found. AreCheckedBefore before.now change.now.parent.now (value_expressions change.now.values.now) found.items) }
     ensures decided { Decides (verdict_after before.now (Vary node.now change.now.parent.now change.now.columns.now change.now.values.now change.now.tags.now change.now.name.now)) result }
 {
-    let parent = change.parent;
-    let columns = change.columns;
     stop_if(first_of(&[
-        before.check_node(node, parent),
-        refuse_if(repeats(columns), GraphCause::NameTaken),
-        check_targets(before, parent, columns),
+        before.check_node(node, change.parent),
+        refuse_if(repeats(change.columns), GraphCause::NameTaken),
+        check_targets(before, change.parent, change.columns),
         check_tags(&before.tables.variations, change.tags, change.name),
     ]))?;
-    let tags = change.tags.len();
-    check_values(before, parent, tags, columns, change.values)
+    check_values(before, change)
 }
 
 fn one_result_more(before: &[Line]) -> Option<GraphCause>

@@ -1,5 +1,5 @@
 // Copies of what a graph keeps of its script and table.
-ghost use Rattle.std.specs.Prelude.{◌≡◌, IfOk, ◌∷◌, ◌++◌, [], replicate, OnOk};
+ghost use Rattle.std.specs.Prelude.{◌≡◌, IfOk, ◌∷◌, ◌++◌, [], OnOk};
 
 use rdf_values::{Column, FnName, ListOf, Memory, Name};
 use std::alloc::Global;
@@ -21,16 +21,6 @@ pub(crate) fn push<T: Drop>(items: &mut Vec<T>, item: T) -> Result<(), Memory>
 {
     items.push(item)?;
     Ok(())
-}
-
-pub(crate) fn push_many(items: &mut Vec<u32>, item: u32, count: usize) -> Result<(), Memory>
-    ensures { OnOk result (items.new.items ≡ items.old.items ++ replicate count item) }
-{
-    if count == 0 {
-        return Ok(());
-    }
-    push(items, item)?;
-    push_many(items, item, count - 1)
 }
 
 pub(crate) fn push_name(names: &mut Vec<Name>, name: &Name) -> Result<(), Memory>

@@ -1,5 +1,5 @@
 // The booked graph.
-#![tactic(auto, using(crate::proofs::Finished::row_count, crate::proofs::Finished::name_is, crate::proofs::Finished::set_is, crate::proofs::Finished::watch_count, crate::proofs::Finished::site_count, crate::proofs::Finished::site_set_count, crate::proofs::Finished::site_set_is))]
+#![tactic(auto, using(crate::proofs::Finished::row_count, crate::proofs::Finished::name_is, crate::proofs::Finished::set_is, crate::proofs::Finished::site_count, crate::proofs::Finished::site_set_count, crate::proofs::Finished::site_set_is))]
 
 ghost use Rattle.std.specs.Prelude.{◌≡◌, ◌<◌, ◌≤◌, ℕ, length, Some, option_map, slice_get, IfOk};
 ghost use Rattle.rdf_values.specs.{Answers, is_watched, IsBookable, IsHeader};
@@ -8,8 +8,8 @@ ghost use Rattle.graph_numbers.specs.{booked, booked_statements, graph_filters, 
 
 use crate::book::{book_lines, reversed};
 use crate::copies::{copy_header, copy_names};
-use crate::lookup::{at, label_of};
-use crate::loops::{LoopTables, ScriptRows, loop_tables, watched_results};
+use crate::lookup::{at, is_watched, label_of};
+use crate::loops::{LoopTables, ScriptRows, loop_tables};
 use crate::refusals::GraphRefusal;
 use crate::sets::VarSet;
 use crate::tables::{ResultPath, Tables};
@@ -29,7 +29,6 @@ pub struct Graph {
     names: ListOf<FnName>,
     tables: Tables,
     loops: LoopTables,
-    watched: Vec<bool>,
 }
 
 impl Model for Graph {
@@ -44,7 +43,7 @@ impl Model for Graph {
 
     ghost view = { λ g. view_of g.lines.items g.header g.names };
 
-    ghost invariant = { λ g. IsBooked (view_of g.lines.items g.header g.names) g.tables g.loops g.watched.items };
+    ghost invariant = { λ g. IsBooked (view_of g.lines.items g.header g.names) g.tables g.loops };
 }
 
 impl Graph {
@@ -78,14 +77,12 @@ impl Graph {
             variations,
         };
         let loops = loop_tables(alloc, &script, all)?;
-        let watched = watched_results(alloc, all, results)?;
         Ok(Graph {
             lines,
             header: columns,
             names: functions,
             tables,
             loops,
-            watched,
         })
     }
 
@@ -112,6 +109,7 @@ impl Graph {
     }
 
     /// The kinds of the versions, as look-ups of columns ask for them.
+    #[tactic(auto, using(crate::proofs::Finished::booked_now))]
     pub fn kinds(&self) -> &[ColType]
         ensures { AreKinds self.now.header self.now.names (booked_statements self.now) result.now }
     {
@@ -158,7 +156,7 @@ impl Graph {
         requires { r < length (graph_results self.now) }
         ensures { option_map (λ x. is_watched (booked_statements self.now) x.booked.name) (slice_get (graph_results self.now) r) ≡ Some result }
     {
-        *at(self.watched.as_slice(), r)
+        is_watched(self.lines(), self.result_name(r))
     }
 
     /// The sites of the filters above a result, head first.

@@ -1,7 +1,7 @@
 // Look-ups in the statements so far, the latest first: each walks them as its definition does.
 ghost use Rattle.std.specs.Prelude.{◌^◌, ◌≡◌, ◌<◌, ◌≤◌, ◌+◌, true, false, codes, length, MatchOption, IfSome, Some, option_map, slice_get, IfOk, List, []};
-ghost use Rattle.std.specs.List.{list_any};
-ghost use Rattle.rdf_values.specs.{FunctionNames, is_alias, is_in_use, is_node, is_result, is_visible, makes, parent_of, path, place, same, scope_at, scope_of, target_of, expression_count, named_before, ActionAt, among, bookings, can_watch, filled, is_report, is_watched, names_of, Path, result_is, Statement, watched_results};
+ghost use Rattle.std.specs.List.{list_any, position};
+ghost use Rattle.rdf_values.specs.{FunctionNames, is_alias, is_in_use, is_node, is_result, is_visible, makes, parent_of, path, same, scope_at, scope_of, target_of, expression_count, named_before, ActionAt, among, bookings, can_watch, filled, is_report, is_watched, names_of, Path, result_is, Statement, watched_results};
 ghost use Rattle.graph.specs.{own_target, own_visible, statements, count_from, filter_numbers, labels, own_label, site_total, own_site_total};
 ghost use Rattle.graph_numbers.specs.{column_place, covered_at, filters_on, named_version, own_columns, own_version, version_count, list_start};
 ghost use Rattle.rdf_values.specs.declared.scripts.statement.Statement.TheVariants.{Watch};
@@ -145,17 +145,12 @@ pub fn is_visible(before: &[Line], header: &[Column], node: &Name, name: &Name) 
     }
 }
 
+#[tactic(auto, using(crate::proofs::Beginning::place_within))]
 fn place_of(columns: &[Name], name: &Name) -> Option<usize>
-    ensures value { result ≡ place (same name.now) columns.now }
+    ensures value { result ≡ position (same name.now) columns.now }
     ensures within { IfSome result (λ i. i < length columns.now) }
 {
-    let Some((first, rest)) = columns.split_first() else {
-        return None;
-    };
-    if name.is(first) {
-        return Some(0);
-    }
-    Some(place_of(rest, name)? + 1)
+    columns.iter().position(|column| name.is(column))
 }
 
 fn column_place(header: &[Column], name: &Name) -> usize
@@ -183,6 +178,7 @@ fn own_count(statement: &Statement) -> usize
 }
 
 /// The version of a column at the node of a statement, after which there are so many.
+#[tactic(auto, using(crate::proofs::Beginning::place_is))]
 fn own_version(statement: &Statement, first: usize, count: usize, name: &Name, over: usize) -> usize
     requires { first + length (own_columns statement.now) ≡ count }
     ensures { result ≡ own_version statement.now first name.now over }

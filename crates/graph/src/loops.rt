@@ -1,6 +1,7 @@
 // The event loops of a script and the loop that each Print runs.
 ghost use Rattle.std.specs.Prelude.{◌≡◌, ◌≤◌, ◌<◌, ◌+◌, ◌++◌, ◌∷◌, [], Some, length, map, List, IfOk, IfSome, OnOk};
-ghost use Rattle.rdf_values.specs.{is_watched, place, same, Statement};
+ghost use Rattle.std.specs.List.{position};
+ghost use Rattle.rdf_values.specs.{same, Statement};
 ghost use Rattle.graph_numbers.specs.{numbered_pass};
 ghost use Rattle.graph.specs.LoopRows.{AreNamedInTurn, members_from, IsNoted, IsScriptRows, passes_of_rows, AreLoops, BeginsWith};
 ghost use Rattle.graph.specs.OneProof.{script_rows-prop};
@@ -8,8 +9,8 @@ ghost use Rattle.graph.specs.Lookups.{statements};
 ghost use Rattle.graph.specs.Dependence.{has};
 
 use crate::amounts::has_variations;
-use crate::copies::{push, push_many};
-use crate::lookup::{at, is_watched, result_count};
+use crate::copies::push;
+use crate::lookup::{at, result_count};
 use crate::sets::VarSet;
 use crate::tables::ResultRow;
 use graph_numbers::Pass;
@@ -84,7 +85,7 @@ impl LoopTables {
             push_passes(&mut passes, script, filled as u32, open)?;
             let place = self.loops.len() as u32;
             push(&mut self.loops, passes)?;
-            push_many(&mut self.fillers, place, booked - filled)?;
+            self.fillers.resize(booked, place)?;
             self.note(n as u32, place)
         }
     }
@@ -114,17 +115,12 @@ pub(crate) fn loop_tables(
     }
 }
 
+#[tactic(auto, using(crate::proofs::Beginning::place_within))]
 fn number_of(results: &[ResultRow], name: &Name) -> Option<usize>
-    ensures value { result ≡ place (λ r. same r.name name.now) results.now }
+    ensures value { result ≡ position (λ r. same r.name name.now) results.now }
     ensures within { IfSome result (λ n. n < length results.now) }
 {
-    let Some((first, rest)) = results.split_first() else {
-        return None;
-    };
-    if first.name.is(name) {
-        return Some(0);
-    }
-    Some(number_of(rest, name)? + 1)
+    results.iter().position(|row| row.name.is(name))
 }
 
 /// Appends the passes of a result under those of so many variations from v on that are in the set.
@@ -164,15 +160,4 @@ fn push_passes(
         push_varied(passes, n, first.set, 0, script.variations)?;
     }
     push_passes(passes, script, n + 1, rest)
-}
-
-pub(crate) fn watched_results(
-    alloc: Global,
-    all: &[Line],
-    results: &[ResultRow],
-) -> Result<Vec<bool>, Memory>
-    ensures { IfOk result (λ w. w.items ≡ map (λ r. is_watched (statements all.now) r.name) results.now) }
-{
-    let watched = results.iter().map(|row| is_watched(all, &row.name));
-    Ok(watched.collect(alloc)?)
 }

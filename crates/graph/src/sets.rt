@@ -111,26 +111,18 @@ pub(crate) fn sets_of(before: &Before<'_>, sites: &[Checked]) -> Result<Vec<VarS
     Ok(sets)
 }
 
-/// What a column that a Vary changes depends on: the Vary's own variations, and what the version below does.
-fn changed_set(before: &Before<'_>, parent: &Name, tags: u32, column: &Name) -> VarSet
-    requires { variation_count before.now + tags ≤ 128 }
-    ensures { (v : ℕ) → has result v ≡ set_changed before.now parent.now tags column.now v }
-{
-    let first = before.tables.variations.len();
-    let versions = before.tables.version_sets.as_slice();
-    let below = before.named_version(parent, column);
-    own_set(first, tags).union(set_at(versions, below as usize))
-}
-
+/// What the columns that a Vary changes depend on: the Vary's own variations, and what the versions below do.
 #[tactic(auto, using(crate::proofs::Listing::set_more))]
 pub(crate) fn changed_sets(before: &Before<'_>, change: &Change<'_>) -> Result<Vec<VarSet>, Memory>
     requires { variation_count before.now + length change.now.tags.now ≤ 128 }
     ensures { IfOk result (λ sets. AreSets (map (set_changed before.now change.now.parent.now (length change.now.tags.now)) change.now.columns.now) sets.items) }
 {
-    let tags = change.tags.len() as u32;
+    let own = own_set(before.tables.variations.len(), change.tags.len() as u32);
+    let versions = before.tables.version_sets.as_slice();
     let mut sets = Vec::new(before.alloc);
     for column in change.columns {
-        sets.push(changed_set(before, change.parent, tags, column))?;
+        let below = before.named_version(change.parent, column);
+        sets.push(own.union(set_at(versions, below as usize)))?;
     }
     Ok(sets)
 }

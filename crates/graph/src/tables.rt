@@ -80,6 +80,7 @@ fn kinds_of(alloc: Global, header: &[Column]) -> Result<Vec<ColType>, Memory>
     Ok(header.iter().map(|column| column.kind).collect(alloc)?)
 }
 
+#[tactic(auto, using(crate::proofs::Listing::no_sets))]
 fn empty_sets(alloc: Global, header: &[Column]) -> Result<Vec<VarSet>, Memory>
     ensures { IfOk result (λ sets. AreSets (map (λ _ v. false) header.now) sets.items) }
 {

@@ -57,15 +57,6 @@ pub(crate) fn push_varied(
     push_varied(versions, before, change, i + 1, rest)
 }
 
-fn tag_at(under: Option<u32>, first: u32, tags: u32) -> Option<u32>
-    ensures { MatchOption result ((k : ℕ) → k < tags → under ≡ Some (first + k) → ⊥) (λ k. (k < tags) × (under ≡ Some (first + k))) }
-{
-    match under {
-        Some(v) if first <= v && v - first < tags => Some(v - first),
-        _ => None,
-    }
-}
-
 fn tag_source(sites: &[u32], vector: bool, tags: u32, k: u32) -> Source
     requires sites { HasSites vector (length sites.now) tags }
     requires tag { k < tags }
@@ -99,9 +90,11 @@ pub(crate) fn source_of(versions: &[Version], c: u32, under: Option<u32>) -> Sou
             tags,
             sites,
             vector,
-        } => match tag_at(under, *first, *tags) {
-            None => source_of(versions, *below, under),
-            Some(k) => tag_source(sites.as_slice(), *vector, *tags, k),
+        } => match under {
+            Some(v) if *first <= v && v - *first < *tags => {
+                tag_source(sites.as_slice(), *vector, *tags, v - *first)
+            }
+            _ => source_of(versions, *below, under),
         },
     }
 }

@@ -14,9 +14,6 @@ source_of-requires t c =
     let h = c.requires.above c.args.c (Varied c.in-Varied.below c.in-Varied.first c.in-Varied.tags c.in-Varied.sites c.in-Varied.vector) (c.at.ensures ∙ ap (λ x. Some x) c.in-Varied.is) in
     let l = h.0 in let w = c.requires.within in (omega (arith, l), (omega (arith, l, w), c.requires.above))
 
-pub returns-in-None : goal.returns-in-None
-returns-in-None = grind arith
-
 pub tag_source-requires-clause-sites : goal.tag_source-requires-clause-sites
 tag_source-requires-clause-sites t c =
     let h = c.requires.above c.args.c (Varied c.in-Varied.below c.in-Varied.first c.in-Varied.tags c.in-Varied.sites c.in-Varied.vector) (c.at.ensures ∙ ap (λ x. Some x) c.in-Varied.is) in

@@ -14,5 +14,6 @@ at-requires c =
 
 pub returns : goal.returns
 returns c =
-    found_as c.args.self.now.header.now c.args.self.now.names.now (statements c.args.self.now.lines.now) c.args.node.now c.args.self.now.tables.now.kinds.items c.args.self.now.are.versions c.args.name.now _ c.target_of-target.ensures _ (c.is_visible.ensures c.args.self.now.names.now) c.if-not-is_visible.false _ c.named_version-version.ensures _ _
-    (ap (λ (kinds : List ColType). slice_get kinds c.named_version-version.result) (sym c.as_slice.ensures.value) ∙ c.at.ensures, refl)
+    let found = found_as c.args.self.now.header.now c.args.self.now.names.now (statements c.args.self.now.lines.now) c.args.node.now c.args.self.now.tables.now.kinds.items c.args.self.now.are.versions c.args.name.now _ c.target_of-target.ensures _ (c.is_visible.ensures c.args.self.now.names.now) c.if-not-is_visible.false _ c.named_version-version.ensures _ _
+    (ap (λ (kinds : List ColType). slice_get kinds c.named_version-version.result) (sym c.as_slice.ensures.value) ∙ c.at.ensures, refl) in
+    (found.kind, found.number)

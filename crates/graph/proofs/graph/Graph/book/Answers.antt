@@ -1,10 +1,9 @@
-use Rattle.std.proofs.Common.{◌≡◌, ◌≤◌, ◌∙◌, ap, arith, length, List, Ok, Result, reverse, subst, sym, ℕ}
-use Rattle.std.proofs.lemmas.List.{length-reverse}
+use Rattle.std.proofs.Common.{◌≡◌, ◌∙◌, ap, List, Ok, Result, reverse, subst, sym, ℕ}
 use Rattle.lemmas.proofs.{reverse-reverse}
-use Rattle.rdf_values.specs.{AreAccepted, Column, FunctionNames, GraphCause, IsBookable, Line, scope_of, Script, variations}
+use Rattle.rdf_values.specs.{AreAccepted, Column, FunctionNames, GraphCause, Line, scope_of, Script}
 use Rattle.graph_numbers.specs.{booked, booked_unless, GraphView}
-use Rattle.graph.specs.{AreTables, statements, view_of}
-use Rattle.graph.proofs.Finished.{all_short, finish_few, finish_named, finish_rows, finished, graph_is, none_refused, refusal_answered, verdict_of}
+use Rattle.graph.specs.{statements, view_of}
+use Rattle.graph.proofs.Finished.{all_short, finish_named, finish_script, finished, none_refused, refusal_answered, verdict_of}
 use Rattle.graph.proofs.graph.Graph.book.Goals as goal
 
 -- the graph of accepted lines is what the script books
@@ -14,9 +13,6 @@ booked_as script ls header names e ok =
     ap (booked_unless (record { script = script; header = header; names = names })) (sym (verdict_of names header script ls e) ∙ none_refused names (scope_of header) ls ok)
     ∙ (λ i. Ok (record { script = record { lines = (sym (reverse-reverse script.lines) ∙ ap (λ (xs : List Line). reverse xs) (sym e)) i }; header = header; names = names }))
 
-lines_few : (script : Script) (ls : List Line) → ls ≡ reverse script.lines → IsBookable script → length ls ≤ 256
-lines_few script ls e h = let n = ap length e in let r = length-reverse script.lines in let f = h.few in omega (arith, n, r, f)
-
 pub book_lines-requires-clause-short : goal.book_lines-requires-clause-short
 book_lines-requires-clause-short c = all_short c.args.script c.as_slice.result.now (c.as_slice.ensures.value ∙ c.reversed-lines.ensures) c.requires.script
 
@@ -25,39 +21,21 @@ returns-in-Err c = refusal_answered c.args.script c.as_slice.result.now c.args.h
 
 pub loop_tables-requires-clause-named : goal.loop_tables-requires-clause-named
 loop_tables-requires-clause-named c =
-    let ls = c.reversed-lines.result.items in
-    let t : AreTables c.args.header.now c.args.names.now (statements ls) c.in-Ok.tables =
-    subst (λ xs. AreTables c.args.header.now c.args.names.now (statements xs) c.in-Ok.tables) c.as_slice.ensures.value c.in-Ok.ensures.booked in
-    let g = graph_is c.args.script ls c.args.header.now c.args.names.now c.reversed-lines.ensures c.requires.script c.requires.header t.versions.accepted in
-    finish_named ls c.as_slice-all.result.now c.args.header.now c.args.names.now c.in-Ok.tables c.as_slice-results.result.now c.as_slice-all.ensures.value c.as_slice-results.ensures.value g t
+    finish_named c.args.script _ _ _ c.args.header.now c.args.names.now c.in-Ok.tables _ c.reversed-lines.ensures c.as_slice-all.ensures.value
+    c.as_slice-results.ensures.value c.requires.script c.requires.header c.as_slice.ensures.value c.in-Ok.ensures.booked
 
 pub invariant_of-script : goal.invariant_of-script
-invariant_of-script c =
-    let ls = c.reversed-lines.result.items in
-    let t : AreTables c.args.header.now c.args.names.now (statements ls) c.in-Ok.tables =
-    subst (λ xs. AreTables c.args.header.now c.args.names.now (statements xs) c.in-Ok.tables) c.as_slice.ensures.value c.in-Ok.ensures.booked in
-    let g = graph_is c.args.script ls c.args.header.now c.args.names.now c.reversed-lines.ensures c.requires.script c.requires.header t.versions.accepted in
-    record {
-      are = record {
-        rows = finish_rows ls c.as_slice-all.result.now c.args.header.now c.args.names.now c.in-Ok.tables c.as_slice-results.result.now
-            c.as_slice-all.ensures.value c.as_slice-results.ensures.value g t;
-        few_results = finish_few ls c.as_slice-all.result.now c.args.header.now c.args.names.now c.in-Ok.tables c.as_slice-results.result.now
-            c.as_slice-all.ensures.value c.as_slice-results.ensures.value g t (lines_few c.args.script ls c.reversed-lines.ensures c.requires.script);
-        count = c.len-variations.ensures.count ∙ ap length t.variations ∙ ap (λ xs. length (variations (statements xs))) (sym c.as_slice-all.ensures.value);
-        few = c.len-variations.ensures.few;
-      };
-    }
+invariant_of-script c = record {
+  are = finish_script c.args.script _ _ _ c.args.header.now c.args.names.now c.in-Ok.tables _ c.reversed-lines.ensures c.as_slice-all.ensures.value
+      c.as_slice-results.ensures.value c.requires.script c.requires.header c.as_slice.ensures.value c.in-Ok.ensures.booked
+      c.len-variations.result (c.len-variations.ensures.count, c.len-variations.ensures.few);
+}
 
 pub invariant_of-result : goal.invariant_of-result
 invariant_of-result c =
-    let ls = c.reversed-lines.result.items in
-    let t : AreTables c.args.header.now c.args.names.now (statements ls) c.in-Ok.tables =
-    subst (λ xs. AreTables c.args.header.now c.args.names.now (statements xs) c.in-Ok.tables) c.as_slice.ensures.value c.in-Ok.ensures.booked in
-    let g = graph_is c.args.script ls c.args.header.now c.args.names.now c.reversed-lines.ensures c.requires.script c.requires.header t.versions.accepted in
-    finished ls c.as_slice-all.result.now c.args.header.now c.args.names.now c.in-Ok.tables c.as_slice-results.result.now c.as_slice-all.ensures.value c.as_slice-results.ensures.value g t
-    (all_short c.args.script ls c.reversed-lines.ensures c.requires.script) (lines_few c.args.script ls c.reversed-lines.ensures c.requires.script)
-    c.in_ok-loops.loops c.in_ok-watched.watched.items c.in_ok-loops.ensures c.in_ok-watched.ensures
-    c.in_ok-columns.columns c.in_ok-functions.functions c.in_ok-columns.ensures (c.in_ok-functions.ensures ∙ c.as_slice-2.ensures.value)
+    finished c.args.script _ _ _ c.args.header.now c.args.names.now c.in-Ok.tables _ c.reversed-lines.ensures c.as_slice-all.ensures.value
+    c.as_slice-results.ensures.value c.requires.script c.requires.header c.as_slice.ensures.value c.in-Ok.ensures.booked
+    c.in_ok-loops.loops c.in_ok-loops.ensures _ _ c.in_ok-columns.ensures (c.in_ok-functions.ensures ∙ c.as_slice-2.ensures.value)
 
 pub returns : goal.returns
 returns c =

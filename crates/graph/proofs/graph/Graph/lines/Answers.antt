@@ -1,5 +1,4 @@
-use Rattle.std.proofs.Common.{◌∙◌, ap, arith}
-use Rattle.std.proofs.lemmas.List.{length-reverse}
+use Rattle.std.proofs.Common.{◌∙◌, ap}
 use Rattle.graph.specs.{statements}
 use Rattle.graph_numbers.specs.{booked_statements}
 use Rattle.graph.proofs.Finished.{history_of}
@@ -8,6 +7,3 @@ use Rattle.graph.proofs.graph.Graph.lines.Goals as goal
 pub returns-clause-value : goal.returns-clause-value
 returns-clause-value c =
     ap statements c.as_slice.ensures.value ∙ history_of c.self.inside.lines.items c.self.inside.header c.self.inside.names ∙ ap booked_statements c.self.view_is
-
-pub returns-clause-few : goal.returns-clause-few
-returns-clause-few = grind (arith, length-reverse)
