@@ -28,7 +28,7 @@ use Rattle.loop_keys.proofs.PassNumbers.{pass_of}
 use Rattle.block_passes.proofs.Feeding.{filters_many}
 use Rattle.rdf_values.proofs.Evenly.{cuts_lead}
 use Rattle.columns.proofs.BlockSteps.{span_within}
-use Rattle.loop_pieces.specs.{begin_of, cluster_fault}
+use Rattle.loop_pieces.specs.{cluster_fault}
 use Rattle.block_laws.proofs.BlockCuts.{first_is}
 use Rattle.block_laws.proofs.BlockFaults.{block_then_rest}
 use Rattle.block_laws.proofs.Costs.{count_goes_on}
@@ -37,9 +37,6 @@ have_room : (n : ℕ) (before after : List LaneView) → rooms_of after ≡ room
 have_room n before after e h i d low =
     let there : i < length before = omega (arith, low, length-map after room_of, length-map before room_of, ap length e) in
     sym (get_or-map room_of after i d 0 low) ∙ ap (λ ns. get_or ns i 0) e ∙ get_or-map room_of before i d 0 there ∙ h i d there
-
-same_many : (before after : List LaneView) → kinds_of after ≡ kinds_of before → length after ≡ length before
-same_many before after e = sym (length-map after (λ (l : LaneView). l.kind)) ∙ ap length e ∙ length-map before (λ (l : LaneView). l.kind)
 
 -- lanes of the same kinds with as much room, and as many numbers, levels and selections
 pub state_stays : (j : JobView) (old : StateView) (cells : List (List ℤ)) (lanes : List LaneView) (scratch levels : ℕ) (found : Found) (kept : List Kept) → IsStateOf j old → length cells ≡ length old.cells → HaveCells old.size cells
@@ -53,7 +50,7 @@ state_stays j old cells lanes scratch levels found kept h columns room kinds roo
   rows = h.rows;
   cells = columns ∙ h.cells;
   cell_room = room;
-  lanes = same_many old.lanes lanes kinds ∙ h.lanes;
+  lanes = sym (length-map lanes (λ (l : LaneView). l.kind)) ∙ ap length kinds ∙ length-map old.lanes (λ (l : LaneView). l.kind) ∙ h.lanes;
   kinds = subst (λ (ks : List ColType). HaveKinds (job_graph j) (length (graph_sites (job_graph j))) ks) (sym kinds) h.kinds;
   lane_room = have_room old.size old.lanes lanes rooms h.lane_room;
   scratch = subst (λ (n : ℕ). AreDeepEnough (job_graph j) n) (sym deep) h.scratch;
@@ -62,8 +59,6 @@ state_stays j old cells lanes scratch levels found kept h columns room kinds roo
 }
 
 -- ---- A block that begins with what a slot reserves.
-
--- ---- nothing is known
 
 module _ (count : ℕ) (lanes : List LaneView) (unknown : AreUnknown count lanes) where
   never_begun : (k p : ℕ) → begun_at lanes k p ≡ true → ⊥
@@ -120,13 +115,10 @@ module _ (j : JobView) (job : IsJob j) (first count : ℕ) (s : StateView) (stat
     settled = λ q low k begun. absurd (never_begun count s.lanes unknown k q begun);
     kept_are = record {
       many = state.kept ∙ sym p.steps.many;
-      each = λ k made c m its at limit. absurd (never made (sym (all_get (λ (x : Kept). x.limit ≡ None) s.kept unmade k m at) ∙ limit));
+      each = λ k made c m its at limit. (let e : None ≡ Some made = sym (all_get (λ (x : Kept). x.limit ≡ None) s.kept unmade k m at) ∙ limit in cc e);
     };
     within = omega arith;
   }
-    where
-      never : (made : ℕ) → ◌≡◌ {A = Option ℕ} None (Some made) → ⊥
-      never made e = cc e
 
   source_loaded : (x : Source) → IsLoaded j first count s.cells x
   source_loaded x = grind arith
@@ -172,23 +164,19 @@ module _ (j : JobView) (job : IsJob j) (first count : ℕ) (s : StateView) (stat
 
 -- ---- Over a block of which nothing was known no more evaluations are begun than its entries demand.
 
--- ---- the marks of a lane
-
 abbrev mark : Bool → ℕ
 mark b = if b then 1 else 0
 
 abbrev own : List Bool → ℕ
 own l = count_by (λ b. b) l
 
-own_more : (b : Bool) (bs : List Bool) → own (b ∷ bs) ≡ mark b + own bs
-own_more b bs = sum_by-cons mark b bs
-
 -- all that are marked are among the first
 front_counts : (bs : List Bool) (n : ℕ) → ((p : ℕ) → is_marked bs p ≡ true → p < n) → own bs ≤ own (take n bs)
 front_counts [] n h = let e : own [] ≡ 0 = refl in omega (arith, e)
 front_counts (b ∷ bs) zero h = let e = count_none (b ∷ bs) (λ p. never_true (is_marked (b ∷ bs) p) (λ q. let l = h p q in omega (arith, l))) in omega (arith, e)
 front_counts (b ∷ bs) (suc n) h =
-    let a = own_more b bs in let c = own_more b (take n bs) in let r = front_counts bs n (λ p q. (let l = h (suc p) q in omega (arith, l))) in omega (arith, a, c, r)
+    let a = sum_by-cons mark b bs in let c = sum_by-cons mark b (take n bs) in
+    let r = front_counts bs n (λ p q. (let l = h (suc p) q in omega (arith, l))) in omega (arith, a, c, r)
 
 taken_mark : (bs : List Bool) (n p : ℕ) → is_marked (take n bs) p ≡ true → is_marked bs p ≡ true
 taken_mark bs n p e = grind (arith, cases_lt, get_or-take, get_or_past, take_at_most)
@@ -337,17 +325,8 @@ module _ (j : JobView) (job : IsJob j) (cluster size keys : ℕ) (some : 1 ≤ s
   abbrev all_demands : ℕ → ℕ
   all_demands lo = cluster_demands j.dataset (passes_in j) size keys lo span.hi
 
-  pub demands_are : span_demands j size keys cluster ≡ all_demands span.lo
-  demands_are = ap (demands_in j size keys) its
-
   pub at_first : (first : TallyView) (start : ℕ) → IsAtBlock j cluster size keys span first start span.lo first start
-  at_first first start = record {
-    holds = λ watched done h. (let none : 0 ≡ span.lo - span.lo = omega arith in subst (λ (n : ℕ). Holds (facts_in j) watched (at_entry done cluster n) first) none h);
-    fault = ap (λ (o : Option Span). first_fault_from j.dataset (begin_of o) (span_rows j.dataset.rows o) (passes_in j)) its;
-    cost = omega arith;
-    from = omega arith;
-    to = (let b = bounds.1 in omega (arith, b));
-  }
+  at_first first start = grind (arith, bounds)
 
   module _ (first : TallyView) (start lo : ℕ) (tally : TallyView) (steps : ℕ) (at : IsAtBlock j cluster size keys span first start lo tally steps) (lt : lo < span.hi)
       (hi : ℕ) (is : hi ≡ lo + first_length size 4194304 (map (row_elements keys) (slice_range j.dataset.rows lo span.hi))) where
@@ -369,11 +348,14 @@ module _ (j : JobView) (job : IsJob j) (cluster size keys : ℕ) (some : 1 ≤ s
     pub short : hi ≤ lo + size
     short = let s = first_block.small in omega (arith, s, is)
 
-    block_of : IsBlockOf j cluster (lo - span.lo) b
-    block_of = record { span = span; its_span = its; is = (let f = at.from in omega (arith, f)); some = has_entry; within = within; inside = ends_within }
-
     pub before : (watched done : List ℕ) → Holds (facts_in j) watched (at_begin done cluster) first → IsBefore j watched (at_entry done cluster (lo - span.lo)) cluster b tally
-    before watched done h = record { holds = at.holds watched done h; its_cluster = refl; next = block_of; no_pass = refl; no_filter = refl }
+    before watched done h = record {
+      holds = at.holds watched done h;
+      its_cluster = refl;
+      next = record { span = span; its_span = its; is = (let f = at.from in omega (arith, f)); some = has_entry; within = within; inside = ends_within };
+      no_pass = refl;
+      no_filter = refl;
+    }
 
     rest_fault : first_fault_from j.dataset lo (slice_range j.dataset.rows lo span.hi) (passes_in j)
         ≡ first_of (first_fault_from j.dataset lo (block_rows j b) (passes_in j)) (first_fault_from j.dataset hi (slice_range j.dataset.rows hi span.hi) (passes_in j))
@@ -403,20 +385,18 @@ module _ (j : JobView) (job : IsJob j) (cluster size keys : ℕ) (some : 1 ≤ s
 
     -- it stops the cluster
     pub cost_here : (last : ℕ) → last ≤ steps + 2 * block_demands j b → last ≤ start + 2 * span_demands j size keys cluster
-    cost_here last bound = let c = counts.2 in let a = at.cost in let e = demands_are in omega (arith, c, a, e, bound)
+    cost_here last bound =
+        let e : span_demands j size keys cluster ≡ all_demands span.lo = ap (demands_in j size keys) its in
+        let c = counts.2 in let a = at.cost in omega (arith, c, a, e, bound)
 
     pub answer_here : (why : BlockStop) → IsBlockAnswer j b (Err why) → IsClusterAnswer j cluster (Err why)
-    answer_here (BlockStop.Fault f) h = at.fault ∙ rest_fault ∙ ap (λ o. first_of o (first_fault_from j.dataset hi (slice_range j.dataset.rows hi span.hi) (passes_in j))) h
-    answer_here BlockStop.Memory h = tt
+    answer_here why h = grind (arith, rest_fault)
 
   -- ---- the end
 
   module _ (first : TallyView) (start lo : ℕ) (tally : TallyView) (steps : ℕ) (at : IsAtBlock j cluster size keys span first start lo tally steps) (end : span.hi ≤ lo) where
-    at_hi : lo ≡ span.hi
-    at_hi = let t = at.to in omega (arith, t, end)
-
     all_rows : lo - span.lo ≡ length (span_rows (map (spreads_of j.dataset (passes_in j)) j.dataset.rows) (slice_get (job_spans j) cluster))
-    all_rows = grind (arith, at_hi, ends_within, length-map, range_length)
+    all_rows = grind (arith, at.to, ends_within, length-map, range_length)
 
     pub holds_all : (watched done : List ℕ) → Holds (facts_in j) watched (at_begin done cluster) first → Holds (facts_in j) watched (at_end (facts_in j) done cluster) tally
     holds_all watched done h = subst (λ (n : ℕ). Holds (facts_in j) watched (at_entry done cluster n) tally) all_rows (at.holds watched done h)

@@ -1,16 +1,16 @@
 -- What a block feeds to a pass, what it does at a named filter, and that its batches are that.
-use Rattle.std.proofs.Common.{◌≡◌, ℕ, zero, suc, ◌+◌, ◌<◌, ◌≤◌, Bool, true, false, cond, List, [], ◌∷◌, ◌++◌, length, length-drop, map, take, drop, Option, None, Some, refl, sym, ◌∙◌, ap, subst, arith, slice_get, unwrap_or, if◌then◌else◌, get_or, count_by, flat_map, slice_range, filter, inl, inr, ◌||◌, nat_eq, nat_lt, All, OnErr, Result, MatchOption}
+use Rattle.std.proofs.Common.{◌≡◌, ℕ, zero, suc, ◌+◌, ◌<◌, ◌≤◌, Bool, true, false, cond, List, [], ◌∷◌, ◌++◌, length, length-drop, map, take, drop, Option, None, Some, refl, sym, ◌∙◌, ap, subst, arith, slice_get, unwrap_or, if◌then◌else◌, get_or, count_by, flat_map, slice_range, filter, ◌||◌, nat_eq, All, OnErr, Result, MatchOption}
 use Rattle.lemmas.proofs.{length-map, mapped_at, range_length, range_with_len, slice_get-get_or, slice_get_within, something_at, sum_by-cons, All-cons, All-nil, Decides-eqb, Decides-ltb, length-range_with_len, or_true}
 use Rattle.rdf_values.specs.{ActionKind, Booking, EntryFault, feed_fault, history, Item, named_before, Pass, Span, spread, Value, Memory}
-use Rattle.rdf_model.specs.{◌>>=◌, action_outcome, Entry, fault_in, Faults, feed_outcome, filter_reach, for_all, Gives, if_there, is_covered, is_passed, is_reached, is_true, items_fed, items_of, list_at, Needs, Outcome, Reach, reaches_of, Skip, span_rows, spreads_of, kinds_in}
-use Rattle.rdf_model.specs.declared.loop_facts.Reach.TheVariants.{Failed, Passed, Stopped}
+use Rattle.rdf_model.specs.{◌>>=◌, action_outcome, Entry, fault_in, feed_outcome, filter_reach, for_all, Gives, if_there, is_covered, is_passed, is_reached, is_true, items_fed, items_of, list_at, Outcome, Reach, reaches_of, Skip, span_rows, spreads_of, kinds_in}
+use Rattle.rdf_model.specs.declared.loop_facts.Reach.TheVariants.{Stopped}
 use Rattle.graph_numbers.specs.{action_numbers, booking_numbers, FilterAt, graph_filters, graph_under, Pass as NumberedPass, ResultAt, through_sites}
 use Rattle.cluster_tally.specs.{block_items, block_reaches, BlockStage, CanNoteCounts, counted, HoldsIn, IsWithin, TallyView, CanFeedBatch, pass_done}
 use Rattle.loop_keys.specs.{actions_before, covered_in, facts_in, IsJob, job_graph, job_spans, JobView, pass_outcome, passes_in, row_of, site_in, version_in, IsActionBooking, IsActionPass, IsNoTake}
 use Rattle.loop_keys.proofs.ReportTies.{stopped_answer, tried_answer, cover_at, covered_count}
 use Rattle.loop_keys.proofs.TableLaws.{row_there}
 use Rattle.loop_keys.proofs.PassNumbers.{at_place, covered_reach, uncovered_reach, pass_answer, pass_of, some_same}
-use Rattle.block_passes.specs.{AreAtHand, AreCountable, AreKept, AreLanesOf, at_filter, at_pass, CanFeedAny, Chain, feeding_fault, Found, IsActionOf, IsAmid, IsClear, IsFeedable, IsLast, IsMade, IsNamed, IsNarrowed, IsPlan, IsReadOf, IsServedTo, IsSettledAt, Kept, Lowers, NamedSteps, noted, of_batch, PlanView, through_chain, where_in}
+use Rattle.block_passes.specs.{AreAtHand, AreCountable, AreKept, AreLanesOf, at_filter, at_pass, CanFeedAny, Chain, feeding_fault, Found, IsActionOf, IsAmid, IsClear, IsFeedable, IsLast, IsMade, IsNamed, IsNarrowed, IsPlan, IsReadOf, IsServedTo, IsSettledAt, Kept, NamedSteps, noted, of_batch, PlanView, through_chain}
 use Rattle.block_passes.proofs.Searching.{get_dropped, row_in_block, through_more, last_through, filter_alike, flat_filtered_range, flat_first, over_lowers, chosen_below, in_chosen}
 use Rattle.loop_pieces.specs.{Counts}
 use Rattle.actions.specs.{Batch, batch_items, fault_or_later, first_fault_in, HasValues, IsTake, PlaceFault as BatchFault, places_of, Sources, SuitsAt, values_at}
@@ -31,24 +31,12 @@ given_items k o a vs t e f = grind arith
 none_items : (k : ActionKind) (o : Outcome ⊥ Bool) (x : Outcome ⊥ Entry) → is_true o ≡ false → items_fed k (o >>= λ passed. if passed then x else Gives Skip) ≡ []
 none_items k o x t = grind arith
 
-some_list : (lists : List (List Item)) (i : ℕ) (xs : List Item) → slice_get lists i ≡ Some xs → list_at lists i ≡ xs
-some_list lists i xs h = ap (λ (o : Option (List Item)). elim o [ None ↦ [] | Some ys ↦ ys ]) h
-
-reached_if : (b : Bool) → is_reached (if b then Passed else Failed) ≡ true
-reached_if true = refl
-reached_if false = refl
-
-passed_if : (b : Bool) → is_passed (if b then Passed else Failed) ≡ b
-passed_if true = refl
-passed_if false = refl
-
 count_singles : {A : Type 0} (t : A → Bool) (h : ℕ → A) (xs : List ℕ) → count_by t (flat_map (λ q. h q ∷ []) xs) ≡ length (filter (λ q. t (h q)) xs)
 count_singles t h [] = refl
 count_singles t h (x ∷ xs) = sum_by-cons (λ y. cond (t y) 1 0) (h x) (flat_map (λ q. h q ∷ []) xs) ∙ ap (λ n. cond (t (h x)) 1 0 + n) (count_singles t h xs) ∙ one (t (h x))
   where
     one : (b : Bool) → cond b 1 0 + length (filter (λ q. t (h q)) xs) ≡ length (cond b (x ∷ filter (λ q. t (h q)) xs) (filter (λ q. t (h q)) xs))
-    one true = omega arith
-    one false = omega arith
+    one b = grind arith
 
 -- ---- a block
 
@@ -77,12 +65,7 @@ module _ (j : JobView) (first count : ℕ) (s : BlockStage) (amid : IsAmid j fir
   left_at f q x lt h = grind (arith, some_same, left_is, get_dropped, row_in_block, mapped_at, row_here, its_within, amid.0.is, amid.0.inside)
 
   left_long : {A : Type 0} (f : List Value → A) → s.block ≤ length (rows_left f)
-  left_long f =
-      let m = length-map j.dataset.rows f in
-      let l = length-drop s.entries (slice_range (map f j.dataset.rows) span.lo span.hi) in
-      let r = range_length (map f j.dataset.rows) span.lo span.hi (omega (arith, its_within)) (omega (arith, amid.0.inside, m)) in
-      let e = ap length (left_is f) in
-      omega (arith, its_within, l, r, e)
+  left_long f = grind (arith, left_is, length-map, length-drop, range_length, its_within, amid.0.inside)
 
   block_flat : {A B : Type 0} (f : List Value → A) (h : A → List B) → flat_map h (take s.block (rows_left f)) ≡ flat_map (λ q. h (f (row_of j (entry_at q)))) (range_with_len 0 s.block)
   block_flat f h = flat_first h (λ q. h (f (row_of j (entry_at q)))) s.block (rows_left f) (left_long f) (λ i x lt q. ap h (left_at f i x lt q))
@@ -104,7 +87,8 @@ module _ (j : JobView) (first count : ℕ) (s : BlockStage) (amid : IsAmid j fir
     items_at q = items_of j.dataset k of.at (graph_under (job_graph j) m.variation) (row_of j (entry_at q))
 
     its_items : (q : ℕ) → list_at (spreads_of j.dataset (passes_in j) (row_of j (entry_at q))) (actions_before j n) ≡ items_at q
-    its_items q = some_list (spreads_of j.dataset (passes_in j) (row_of j (entry_at q))) (actions_before j n) (items_at q) (at_place j.dataset (row_of j (entry_at q)) n (passes_in j) its_pass k of.at there_is of.booking).1
+    its_items q = ap (λ (o : Option (List Item)). elim o [ None ↦ [] | Some ys ↦ ys ])
+        (at_place j.dataset (row_of j (entry_at q)) n (passes_in j) its_pass k of.at there_is of.booking).1
 
     outcome_by : (q : ℕ) → q < s.block → pass_outcome j (entry_at q) n ≡ action_outcome j.dataset.fns j.dataset.columns (row_of j (entry_at q)) k of.at (graph_under (job_graph j) m.variation)
     outcome_by q lt = grind (arith, row_here, there_is)
@@ -164,7 +148,7 @@ module _ (j : JobView) (first count : ℕ) (s : BlockStage) (amid : IsAmid j fir
 
       -- what the filter does at a place without a fault
       reached : (q : ℕ) → q < s.block → fault_in (all q) ≡ None → (is_reached (its_reach q) ≡ is_true (above q)) × (is_passed (its_reach q) ≡ is_true (all q))
-      reached q lt clear = grind (arith, through_more, stopped_answer, tried_answer, reached_if, passed_if)
+      reached q lt clear = grind (arith, through_more, stopped_answer, tried_answer)
 
       -- the counts are the sizes of two selections
       pub covered_counts : ((q : ℕ) → q < s.block → fault_in (all q) ≡ None)
@@ -216,9 +200,6 @@ module _ (j : JobView) (first count : ℕ) (s : BlockStage) (amid : IsAmid j fir
 module _ (j : JobView) (plan : PlanView) (p : IsPlan j plan) (f : ℕ) (inside : f < length (graph_filters (job_graph j))) where
   abbrev pub named_at : (x : FilterAt) × (slice_get (graph_filters (job_graph j)) f ≡ Some x)
   named_at = something_at (graph_filters (job_graph j)) f inside
-
-  pub planned_there : f < length plan.filters
-  planned_there = let many = p.many_filters in omega (arith, inside, many)
 
   module _ (first count : ℕ) (kept : List Kept) (can : AreCountable j first count p.chains plan kept) (o : Option NamedSteps) (at : slice_get plan.filters f ≡ Some o) where
     pub no_counts : o ≡ None → (job : IsJob j) (s : BlockStage) → IsAmid j first count s → record { all = 0; pass = 0 } ≡ counted (block_reaches (facts_in j) s f)
@@ -283,8 +264,7 @@ all_places P (p ∷ sel) h =
 -- ---- the first fault
 
 before_later : (p : ℕ) (o : Option EntryFault) (r : Option BatchFault) → of_batch (fault_or_later p o r) ≡ fault_before p o (of_batch r)
-before_later p (Some k) r = refl
-before_later p None r = refl
+before_later p o r = grind arith
 
 pub unfed_over : (k : ActionKind) (s : Sources) (f : ℕ → Option EntryFault) (sel : List ℕ) → EachPlace sel (λ p. feed_fault k (values_at s p) ≡ f p) → of_batch (first_fault_in k s sel) ≡ fault_over f sel
 unfed_over k s f [] h = refl
@@ -298,21 +278,8 @@ unfed_over k s f (p ∷ sel) h =
 module _ (j : JobView) (first count : ℕ) (f : ℕ → Option EntryFault) (pass : ℕ) (to now : Kept) (lanes : List LaneView) (old new : Found) (o : Option PlaceFault)
     (ready : AreReady j first count lanes) (settled : (p : ℕ) → p < old.limit → IsSettledAt lanes p) (rising : AreRising to.places) (inside : EachPlace to.places (λ p. p < old.limit))
     (is : o ≡ fault_over f to.places) (noted_is : new ≡ noted first pass old o) where
-  lowered : Lowers (where_in f to.places) first pass old new
-  lowered = subst (λ (x : Found). Lowers (where_in f to.places) first pass old x) (sym noted_is) (over_lowers f to.places first pass old o rising inside is)
-
-  left_of : to.limit ≡ Some old.limit → IsNarrowed new.limit old.limit to now → (now.limit ≡ Some new.limit) × (now.places ≡ filter (λ p. nat_lt p new.limit) to.places)
-  left_of made (inl n) =
-      let le = n.0 in
-      let falls = lowered.falls in
-      let same : old.limit ≡ new.limit = omega (arith, le, falls) in (
-        ap (λ (x : Kept). x.limit) n.1 ∙ made ∙ ap Some same,
-        ap (λ (x : Kept). x.places) n.1 ∙ sym (filter_all (λ p. nat_lt p new.limit) to.places (λ p i. (Decides-ltb p new.limit).1 (let l = inside p i in omega (arith, l, same)))),
-      )
-  left_of made (inr n) = (n.1, n.2)
-
   pub part_served : to.limit ≡ Some old.limit → IsNarrowed new.limit old.limit to now → IsServedTo j first count f pass to.places now lanes old new
-  part_served made narrowed = grind (arith, lowered, left_of)
+  part_served made narrowed = grind (arith, over_lowers, filter_all, Decides-ltb)
 
 -- ---- a batch
 
@@ -328,23 +295,10 @@ module _ (k : ActionKind) (s : Sources) (o : ℕ → Outcome ⊥ (List Value)) (
 
 -- ---- an action that reads fewer than two columns
 
-nothing_weighed : (k : ActionKind) (v : Value) → feed_fault k (v ∷ []) ≡ None
-nothing_weighed ActionKind.Count v = refl
-nothing_weighed k v = refl
-
-nothing_fed : (k : ActionKind) → feed_fault k [] ≡ None
-nothing_fed ActionKind.Count = refl
-nothing_fed k = refl
-
 -- one value that is there can be fed
 pub few_fed : (k : ActionKind) (f : ℕ → Outcome ⊥ Value) (cs : List ℕ) → length cs < 2 → feeding_fault k (for_all f cs) ≡ None
-few_fed k f [] h = nothing_fed k
-few_fed k f (c ∷ []) h = one (f c)
-  where
-    one : (o : Outcome ⊥ Value) → feeding_fault k (o >>= λ y. (for_all f [] >>= λ ys. Gives (y ∷ ys))) ≡ None
-    one (Gives v) = nothing_weighed k v
-    one (Faults e) = refl
-    one (Needs m) = elim m [ ]
+few_fed k f [] h = grind arith
+few_fed k f (c ∷ []) h = grind arith
 few_fed k f (c ∷ d ∷ cs) h = absurd (omega (arith, h))
 
 -- ---- A block's batch is what its places feed to an action's pass.
@@ -447,8 +401,7 @@ read_action j n k inputs u own =
     subst (λ (o : Option Pass). MatchOption o ⊥ (λ (p : Pass). IsActionBooking p.result.booking)) (sym (pass_of j n own.numbered own.action.its_pass own.result own.action.its_result)) (subst IsActionBooking (sym own.action.booking) tt)
 
 no_take : (k : ActionKind) → IsNoTake k → IsTake k → ⊥
-no_take (ActionKind.Take c) h take = h
-no_take k h take = take
+no_take k h take = grind arith
 
 -- no pass of a loop without Takes takes
 pub takes_none : (j : JobView) (n : ℕ) (k : ActionKind) (inputs : List ℕ) (u : Option ℕ) → IsReadOf j n k inputs u → All IsNoTake (kinds_in (passes_in j)) → IsTake k → ⊥

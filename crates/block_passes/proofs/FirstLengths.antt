@@ -1,5 +1,5 @@
 -- How many entries the next block has, entry by entry.
-use Rattle.std.proofs.Common.{◌≡◌, ◌⊎◌, inl, inr, ℕ, ℤ, zero, suc, ◌+◌, ◌-◌, ◌*◌, ◌<◌, ◌≤◌, Bool, true, ◌&&◌, List, [], ◌∷◌, length, map, min, take, drop, Some, refl, sym, ◌∙◌, ap, subst, arith, slice_get, if◌then◌else◌, nat_le, option_and_then, option_map, slice_range, sum_by, unwrap_or, drop-cons}
+use Rattle.std.proofs.Common.{◌≡◌, ◌⊎◌, ℕ, ℤ, zero, suc, ◌+◌, ◌-◌, ◌*◌, ◌<◌, ◌≤◌, Bool, true, ◌&&◌, List, [], ◌∷◌, length, map, take, drop, Some, refl, sym, ◌∙◌, ap, subst, arith, slice_get, if◌then◌else◌, nat_le, option_and_then, option_map, slice_range, sum_by, unwrap_or, drop-cons}
 use Rattle.lemmas.proofs.{get_or_from_slice_get, le-leb, lt-leb, lt-ltb, range_length, slice_get_within, something_at, sum_by-append, sum_by-cons, take_next}
 use Rattle.rdf_values.specs.{cell, ColType, Column, FitRows, FitsColumn, FitsKind, FitsRow, IsTable, kind_at, TableView, Value}
 use Rattle.block_laws.specs.{elements_in, first_length, more_fit, one_more_fits, row_elements}
@@ -77,13 +77,7 @@ module _ (rows : List (List Value)) (keys size most hi : ℕ) where
     pub within : end ≤ hi
 
   pub one_entry : (lo : ℕ) (row : List Value) → slice_get rows lo ≡ Some row → lo < hi → IsAtEnd lo (lo + 1) (keys * sum_by elements_in row)
-  one_entry lo row h lt =
-      let s : suc lo ≡ lo + 1 = omega arith in
-      let d : 1 ≡ lo + 1 - lo = omega arith in
-      let c = keys * sum_by elements_in row in
-      let a : first_length size most (costs_from lo) ≡ suc (more_fit size most 1 c (costs_from (suc lo))) = ap (first_length size most) (costs_head lo row h lt) in
-      let b : more_fit size most 1 c (costs_from (suc lo)) ≡ more_fit size most (lo + 1 - lo) c (costs_from (lo + 1)) = ap (λ e. more_fit size most 1 c (costs_from e)) s ∙ ap (λ n. more_fit size most n c (costs_from (lo + 1))) d in
-      record { first = omega (arith, a, b, d); above = omega arith; within = omega (arith, lt) }
+  one_entry lo row h lt = grind (arith, costs_head)
 
   module _ (lo end elements : ℕ) (at : IsAtEnd lo end elements) where
     module _ (row : List Value) (h : slice_get rows end ≡ Some row) (lt : end < hi) (room : end - lo < size) where
@@ -138,9 +132,4 @@ module _ (rows : List (List Value)) (keys size most hi : ℕ) where
 -- where no key is of vectors a block has as many entries as any, or all that are left
 pub plain_end : (size lo hi keys end : ℕ) (rows : List (List Value)) → 1 ≤ size → lo < hi → hi ≤ length rows → keys ≡ 0 → (end ≡ lo + size) ⊎ (end ≡ hi) → end ≤ hi → end ≤ lo + size
     → end ≡ lo + first_length size 4194304 (map (row_elements keys) (slice_range rows lo hi))
-plain_end size lo hi keys end rows some up within none whole inside short =
-    let long = range_length rows lo hi (omega (arith, up)) within in
-    let least : end - lo ≡ min size (hi - lo) = elim whole [ inl e ↦ omega (arith, e, inside, up) | inr e ↦ omega (arith, e, short, up) ] in
-    let all : end ≡ lo + (end - lo) = elim whole [ inl e ↦ omega (arith, e) | inr e ↦ omega (arith, e, up) ] in
-    all ∙ ap (λ k. lo + k) (least ∙ ap (λ k. min size k) (sym long) ∙ sym (plain_first size 4194304 (slice_range rows lo hi) some))
-    ∙ ap (λ k. lo + first_length size 4194304 (map (row_elements k) (slice_range rows lo hi))) (sym none)
+plain_end size lo hi keys end rows some up within none whole inside short = grind (arith, range_length, plain_first)

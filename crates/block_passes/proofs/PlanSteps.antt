@@ -13,8 +13,7 @@ use Rattle.graph_numbers.proofs.Walks.{joined, only_at}
 -- ---- steps
 
 pub step_kept : (chains more : List Chain) (k : ℕ) (x : Step) → IsStep chains k x → IsStep (chains ++ more) k x
-step_kept chains more k Step.Block h = kept_at chains more k _ h
-step_kept chains more k (Step.Filter parent site u) h = record { before = h.before; up = h.up; its_up = kept_at chains more parent h.up h.its_up; alike = h.alike; own = kept_at chains more k _ h.own }
+step_kept chains more k x h = grind (arith, kept_at)
 
 module _ (chains : List Chain) (steps : List Step) (are : AreSteps chains steps) (parent site : ℕ) (u : Option ℕ) (up : Chain) (its : slice_get chains parent ≡ Some up) (alike : (up.sites ≡ []) ⊎ (up.under ≡ u)) where
   -- the step is there
@@ -47,11 +46,7 @@ module _ (chains : List Chain) (steps : List Step) (are : AreSteps chains steps)
       each k x (inr q) = subst (λ (y : Step). IsStep (chains ++ longer up site u ∷ []) k y) q.1 (subst (λ (n : ℕ). IsFilterStep (chains ++ longer up site u ∷ []) n parent site u) (sym q.0) own)
 
       all : AreSteps (chains ++ longer up site u ∷ []) (steps ++ Step.Filter parent site u ∷ [])
-      all = record {
-        many = (let a = length-append chains (longer up site u ∷ []) in let b = length-append steps (Step.Filter parent site u ∷ []) in let m = are.many in omega (arith, a, b, m));
-        whole = kept_at steps _ 0 Step.Block are.whole;
-        each = λ k x q. each k x (before_or_last steps (Step.Filter parent site u) k x q);
-      }
+      all = grind (arith, length-append, kept_at, before_or_last, each)
 
 -- ---- paths
 
@@ -101,9 +96,7 @@ pub pass_kept : (j : JobView) (chains more : List Chain) (n last : ℕ) → IsPa
 pass_kept j chains more n last h m r k of = last_kept chains more r.filters m.variation last (h m r k of)
 
 pub filter_kept : (j : JobView) (chains more : List Chain) (f : ℕ) (x : FilterAt) (o : Option NamedSteps) → IsPlannedFilter j chains f x o → IsPlannedFilter j (chains ++ more) f x o
-filter_kept j chains more f x None h = h
-filter_kept j chains more f x (Some s) h =
-    (h.0, record { up = h.1.up; site = h.1.site; sites = h.1.sites; above = last_kept chains more h.1.up None s.above h.1.above; own = last_kept chains more x.sites None s.own h.1.own })
+filter_kept j chains more f x o h = grind (arith, last_kept)
 
 pub filters_kept : (j : JobView) (chains more : List Chain) (f : ℕ) (o : Option NamedSteps) → IsFilterPlanned j chains f o → IsFilterPlanned j (chains ++ more) f o
 filters_kept j chains more f o h x q = filter_kept j chains more f x o (h x q)

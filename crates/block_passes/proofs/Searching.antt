@@ -2,7 +2,7 @@
 use Rattle.std.proofs.Common.{◌≡◌, ◌⊎◌, inl, inr, ℕ, ◌+◌, ◌<◌, Option, None, Some, refl, sym, ◌∙◌, ap, subst, arith, if◌then◌else◌, Bool, true, false, ◌&&◌, List, [], ◌∷◌, ◌++◌, slice_get, zero, suc, ◌-◌, length, drop, slice_range, ◌^◌, ◌≤◌, cond, take, ap₂, nat_lt, nat_eq, ℤ, length-set, set, get_or, get_or-set_same, get_or-set_other, pos, flat_map, filter}
 use Rattle.rdf_values.specs.{ActionKind, EntryFault, Fault, Pass, Value, Span}
 use Rattle.block_passes.specs.{Chain, fault_at, feeding_fault, Found, GivesNumber, GivesVector, HasVector, IsLast, IsSearched, Lowers, noted, through_chain, where_in, where_passed}
-use Rattle.rdf_model.specs.{◌>>=◌, Entry, fault_in, fault_or, feed_outcome, first_fault_from, first_fault_in, first_of, for_all, Gives, is_true, Needs, Outcome, Skip, truth_of, unless_fault}
+use Rattle.rdf_model.specs.{◌>>=◌, fault_in, fault_or, first_fault_from, first_fault_in, first_of, for_all, Gives, is_true, Outcome, truth_of, unless_fault}
 use Rattle.graph_numbers.specs.{action_numbers, FilterAt, report_numbers, ResultAt, through_filter, through_sites}
 use Rattle.loop_keys.specs.{JobView, outcome_of, site_in}
 use Rattle.lemmas.proofs.{lt_or_last, and_false, and_left, and_true, cases_eq, cond_both, Decides-ltb, eq_says, lt_false, lt_true, or_cases, range_with_len}
@@ -30,20 +30,8 @@ fault_lowers part first pass s q kind lt is h = grind arith
 
 -- one part after another
 module _ (a b : ℕ → Option EntryFault) (first pass : ℕ) (old mid new : Found) (h : Lowers a first pass old mid) (k : Lowers b first pass mid new) where
-  both_clear : (p : ℕ) → p < new.limit → or_else (a p) (b p) ≡ None
-  both_clear p lt = let f = k.falls in ap (λ o. or_else o (b p)) (h.clear p (omega (arith, lt, f))) ∙ k.clear p lt
-
-  both_found : new.limit < old.limit → (kind : EntryFault) × (or_else (a new.limit) (b new.limit) ≡ Some kind) × (new ≡ fault_at first pass new.limit kind)
-  both_found lt = elim (let f = k.falls in lt_or_last new.limit mid.limit (omega (arith, f))) [
-    | inl q ↦ let w = k.found q in (w.0, ap (λ o. or_else o (b new.limit)) (h.clear new.limit q) ∙ w.1, w.2)
-    | inr q ↦
-        let e = k.same q in
-        let w = h.found (omega (arith, q, lt)) in
-        (w.0, ap (λ o. or_else o (b new.limit)) (ap a q ∙ w.1), e ∙ w.2 ∙ ap (λ n. fault_at first pass n w.0) (sym q))
-  ]
-
   pub both_lower : Lowers (λ p. or_else (a p) (b p)) first pass old new
-  both_lower = grind (arith, both_clear, both_found)
+  both_lower = grind (arith, lt_or_last)
 
 -- the same by other faults, which are alike below the limit
 pub lowers_as : (a b : ℕ → Option EntryFault) (first pass : ℕ) (old new : Found) → ((p : ℕ) → p < old.limit → a p ≡ b p) → Lowers a first pass old new → Lowers b first pass old new
@@ -82,74 +70,42 @@ module _ (fault : ℕ → ℕ → Option EntryFault) (first count pass : ℕ) (s
 
 -- ---- A pass in parts, by numbers: its filters one after another, the versions that it reads, and whether their values can be fed.
 
--- ---- one filter
-
 -- the truth of a value is no fault
 pub truth_fault : (o : Outcome ⊥ Value) → fault_in (o >>= truth_of) ≡ fault_in o
 truth_fault o = grind arith
 
-only_truth : (o : Outcome ⊥ Bool) → (o >>= λ passed. if passed then Gives true else Gives false) ≡ o
-only_truth o = grind arith
-
--- a choice of a choice
-chosen_twice : (o : Outcome ⊥ Bool) (a b : Outcome ⊥ Bool) (f : Bool → Outcome ⊥ Bool) → (a >>= f) ≡ b → (f false ≡ Gives false)
-    → (o >>= λ passed. if passed then b else Gives false) ≡ ((o >>= λ passed. if passed then a else Gives false) >>= f)
-chosen_twice o a b f h k = grind arith
-
 -- one filter more
 pub through_more : (site : ℕ → Outcome ⊥ Value) (path : List ℕ) (s : ℕ)
     → through_sites site (path ++ s ∷ []) ≡ (through_sites site path >>= λ passed. if passed then site s >>= truth_of else Gives false)
-through_more site [] s = only_truth (site s >>= truth_of)
-through_more site (t ∷ path) s =
-    chosen_twice (site t >>= truth_of) (through_sites site path) (through_sites site (path ++ s ∷ [])) (λ passed. if passed then site s >>= truth_of else Gives false) (sym (through_more site path s)) refl
-
-more_fault : (o : Outcome ⊥ Bool) (x : Outcome ⊥ Value)
-    → fault_in (o >>= λ passed. if passed then x >>= truth_of else Gives false) ≡ or_else (fault_in o) (where_passed o (fault_in x))
-more_fault o x = grind (arith, truth_fault)
+through_more site [] s = grind arith
+through_more site (t ∷ path) s = grind (arith, through_more site path s)
 
 pub step_fault : (site : ℕ → Outcome ⊥ Value) (path : List ℕ) (s : ℕ)
     → fault_in (through_sites site (path ++ s ∷ [])) ≡ or_else (fault_in (through_sites site path)) (where_passed (through_sites site path) (fault_in (site s)))
-step_fault site path s = ap (fault_in {A = Bool}) (through_more site path s) ∙ more_fault (through_sites site path) (site s)
-
-more_true : (o : Outcome ⊥ Bool) (x : Outcome ⊥ Value) → is_true (o >>= λ passed. if passed then x >>= truth_of else Gives false) ≡ (is_true o && is_true (x >>= truth_of))
-more_true o x = grind arith
+step_fault site path s = grind (arith, through_more, truth_fault)
 
 pub step_true : (site : ℕ → Outcome ⊥ Value) (path : List ℕ) (s : ℕ) → is_true (through_sites site (path ++ s ∷ [])) ≡ (is_true (through_sites site path) && is_true (site s >>= truth_of))
-step_true site path s = ap is_true (through_more site path s) ∙ more_true (through_sites site path) (site s)
+step_true site path s = grind (arith, through_more)
 
 -- ---- what is read
 
-all_fault : (x : Outcome ⊥ Value) (o : Outcome ⊥ (List Value)) → fault_in (x >>= λ v. o >>= λ vs. Gives (v ∷ vs)) ≡ or_else (fault_in x) (fault_in o)
-all_fault x o = grind arith
-
 pub inputs_fault : (version : ℕ → Outcome ⊥ Value) (c : ℕ) (cs : List ℕ) → fault_in (for_all version (c ∷ cs)) ≡ or_else (fault_in (version c)) (fault_in (for_all version cs))
-inputs_fault version c cs = all_fault (version c) (for_all version cs)
+inputs_fault version c cs = grind arith
 
 unless_fault_is : (vs : List Value) (o : Option EntryFault) → fault_in (unless_fault {M = ⊥} vs o) ≡ o
-unless_fault_is vs None = refl
-unless_fault_is vs (Some k) = refl
-
-fed_fault : (k : ActionKind) (o : Outcome ⊥ (List Value)) → fault_in (o >>= feed_outcome k) ≡ or_else (fault_in o) (feeding_fault k o)
-fed_fault k o = grind (arith, unless_fault_is)
-
-acted_fault : (o : Outcome ⊥ Bool) (x : Outcome ⊥ Entry) → fault_in (o >>= λ passed. if passed then x else Gives Skip) ≡ or_else (fault_in o) (where_passed o (fault_in x))
-acted_fault o x = grind arith
+unless_fault_is vs o = grind arith
 
 -- an action's pass: its filters, then what it reads, then whether it can be fed
 pub action_fault : (site version : ℕ → Outcome ⊥ Value) (k : ActionKind) (r : ResultAt)
     → fault_in (action_numbers site version k r)
     ≡ or_else (fault_in (through_sites site r.filters)) (where_passed (through_sites site r.filters) (or_else (fault_in (for_all version r.inputs)) (feeding_fault k (for_all version r.inputs))))
-action_fault site version k r = grind (arith, acted_fault, fed_fault)
+action_fault site version k r = grind (arith, unless_fault_is)
 
 -- ---- reports
 
-tried_fault : (o : Outcome ⊥ Bool) (x : Outcome ⊥ Entry) → fault_in (o >>= λ passed. x) ≡ or_else (fault_in o) (fault_in x)
-tried_fault (Needs m) x = elim m [ ]
-tried_fault o x = refl
-
 pub report_fault : (nominal : ℕ → Outcome ⊥ Value) (filters : List FilterAt) (f : ℕ) (fs : List ℕ)
     → fault_in (report_numbers nominal filters (f ∷ fs)) ≡ or_else (fault_in (through_filter nominal (slice_get filters f))) (fault_in (report_numbers nominal filters fs))
-report_fault nominal filters f fs = tried_fault (through_filter nominal (slice_get filters f)) (report_numbers nominal filters fs)
+report_fault nominal filters f fs = grind arith
 
 -- ---- parts where the filters are passed
 
@@ -160,8 +116,7 @@ where_split o a b = grind arith
 
 -- under the variation that it has, if it has filters
 pub chain_through : (j : JobView) (c : Chain) (u : Option ℕ) → (c.sites ≡ []) ⊎ (c.under ≡ u) → (e : ℕ) → through_chain j e c ≡ through_sites (site_in {M = ⊥} j e u) c.sites
-chain_through j c u (inl none) e = ap (through_sites (site_in {M = ⊥} j e c.under)) none ∙ sym (ap (through_sites (site_in {M = ⊥} j e u)) none)
-chain_through j c u (inr under) e = ap (λ (v : Option ℕ). through_sites (site_in {M = ⊥} j e v) c.sites) under
+chain_through j c u h e = grind arith
 
 pub last_through : (j : JobView) (chains : List Chain) (path : List ℕ) (u : Option ℕ) (k : ℕ) (last : IsLast chains path u k) (e : ℕ) → through_chain j e last.chain ≡ through_sites (site_in {M = ⊥} j e u) path
 last_through j chains path u k last e = chain_through j last.chain u last.alike e ∙ ap (through_sites (site_in {M = ⊥} j e u)) last.sites
@@ -252,8 +207,7 @@ filter_twice p q [] = refl
 filter_twice p q (x ∷ xs) = go (p x) (filter_twice p q xs)
   where
     go : (b : Bool) → filter q (filter p xs) ≡ filter (λ x. p x && q x) xs → filter q (cond b (x ∷ filter p xs) (filter p xs)) ≡ cond (b && q x) (x ∷ filter (λ x. p x && q x) xs) (filter (λ x. p x && q x) xs)
-    go true h = ap (λ l. cond (q x) (x ∷ l) l) h
-    go false h = h
+    go b h = grind arith
 
 -- the same test at each place from a on below a + n
 pub filter_alike : (p q : ℕ → Bool) (n a : ℕ) → ((i : ℕ) → a ≤ i → i < a + n → p i ≡ q i) → filter p (range_with_len a n) ≡ filter q (range_with_len a n)
@@ -285,10 +239,6 @@ narrowed p limit n h =
     filter_twice p (λ i. nat_lt i limit) (range_with_len 0 n)
     ∙ ap (λ k. filter (λ i. p i && nat_lt i k) (range_with_len 0 n)) e ∙ first_below p limit n 0 h
 
-pub all_pass : (n a : ℕ) → range_with_len a n ≡ filter (λ i. true) (range_with_len a n)
-all_pass zero a = refl
-all_pass (suc n) a = ap (λ l. a ∷ l) (all_pass n (a + 1))
-
 -- ---- what the places that pass give
 
 -- the same of the places from a on below a + n
@@ -315,8 +265,6 @@ pub flat_first : {A B : Type 0} (f : A → List B) (g : ℕ → List B) (n : ℕ
 flat_first f g n xs h e = flat_taken f g n xs 0 h (λ i x lt q. (let u : i ≡ 0 + i = omega arith in e i x lt q ∙ ap g u))
 
 -- ---- The first fault over a selection, as a part of a pass lowers the limit.
-
--- ---- places of selections
 
 -- a place below is in the selection of the first places that pass a test where it passes
 pub in_chosen : (f : ℕ → Bool) (p n : ℕ) → p < n → is_in p (filter f (range_with_len 0 n)) ≡ f p
@@ -360,8 +308,7 @@ module _ (f : ℕ → Option EntryFault) where
 
   -- left are those below the limit
   pub left_below : (sel : List ℕ) (first pass : ℕ) (s : Found) (o : Option PlaceFault) → EachPlace sel (λ p. p < s.limit) → below_fault o sel ≡ filter (λ p. nat_lt p (noted first pass s o).limit) sel
-  left_below sel first pass s None inside = sym (filter_all (λ p. nat_lt p s.limit) sel (λ p i. (Decides-ltb p s.limit).1 (inside p i)))
-  left_below sel first pass s (Some x) inside = refl
+  left_below sel first pass s o inside = grind (arith, filter_all, Decides-ltb)
 
 -- its entry has a small number
 pub fault_few : (f : ℕ → Option EntryFault) (sel : List ℕ) (limit count first : ℕ) → AreRising sel → EachPlace sel (λ p. p < limit) → limit ≤ count → first + count ≤ 1000000
@@ -370,8 +317,6 @@ fault_few f sel limit count first rising inside le few o e x q =
     let h : IsOver f sel (Some x) = subst (IsOver f sel) (sym e ∙ q) (over f sel rising) in let l = inside x.place h.0 in omega (arith, l, le, few)
 
 -- ---- Places one after another.
-
--- ---- the first fault
 
 pub first_at : (xs : List ℕ) (f : ℕ → Option EntryFault) (i : ℕ) (k : EntryFault) → i < length xs → ((m : ℕ) → m < i → f (get_or xs m 0) ≡ None) → f (get_or xs i 0) ≡ Some k → fault_over f xs ≡ Some (place_fault (get_or xs i 0) k)
 first_at [] f i k lt before here = absurd (omega (arith, lt))

@@ -1,5 +1,5 @@
 -- A step's selection from that of the step above it, and what stands after all passes.
-use Rattle.std.proofs.Common.{◌≡◌, ◌⊎◌, inl, inr, ℕ, ◌+◌, ◌≤◌, Bool, true, ◌&&◌, List, [], length, Option, None, Some, refl, sym, ◌∙◌, ap, subst, arith, if◌then◌else◌, zero, suc, ◌<◌, ◌∷◌, slice_get, get_or, ◌++◌, filter, slice_set, nat_lt, ◌-◌, slice_range}
+use Rattle.std.proofs.Common.{◌≡◌, ◌⊎◌, inl, inr, ℕ, ◌+◌, ◌≤◌, Bool, true, ◌&&◌, List, length, Option, None, Some, refl, sym, ◌∙◌, ap, subst, arith, zero, suc, ◌<◌, [], ◌∷◌, slice_get, get_or, ◌++◌, filter, slice_set, nat_lt, ◌-◌, slice_range}
 use Rattle.lemmas.proofs.{All-from_recursion, get_or_from_slice_get, kept_at, range_with_len, set-get_or, set_at, set_length, slice_get-get_or, slice_get_read, slice_get_within, something_at, AllByRecursion, list_any, lt_or_last, range_length}
 use Rattle.rdf_model.specs.{fault_in, is_true, Outcome, first_fault_from}
 use Rattle.graph_numbers.specs.{through_sites, FilterAt, graph_filters, graph_results}
@@ -7,9 +7,10 @@ use Rattle.expr_lanes.specs.{AreRising, EachPlace, is_in, IsSelected}
 use Rattle.block_cache.specs.{fault_over, IsPassedOver, IsSpentOver, LaneView, PlaceFault}
 use Rattle.loop_keys.specs.{HasAllDemands, IsJob, JobView, site_in, truth_in, is_covering, IsCovered, IsReportPass, job_graph, numbered_passes, outcome_of, pass_fault, passes_in, source_at}
 use Rattle.loop_keys.proofs.TableLaws.{row_there}
-use Rattle.block_passes.specs.{AreAtHand, AreKept, AreRemade, AreSteps, Chain, chosen, Demands, Found, IsFilteredTo, IsFilterStep, IsMade, IsMadeAt, IsMadeBelow, IsNamedMade, IsNarrowed, IsNextSelected, IsPassMade, IsPassTried, IsPlan, IsPlanMade, IsPlanOfTurn, IsReadBelow, IsReadyBelow, IsReadyInTurn, IsSearched, IsSearchedTo, IsSelectedInTurn, IsSelectedTo, IsSettledAt, IsTried, Kept, longer, Lowers, NamedSteps, noted, PlanView, Spends, Step, through_chain, turn_job, where_in, where_passed}
+use Rattle.block_cache.proofs.LaneSteps.{filter_all}
+use Rattle.block_passes.specs.{AreAtHand, AreKept, AreRemade, AreSteps, Chain, chosen, Demands, Found, IsFilteredTo, IsFilterStep, IsMade, IsMadeAt, IsMadeBelow, IsNamedMade, IsNarrowed, IsNextSelected, IsPassMade, IsPassTried, IsPlan, IsPlanMade, IsPlanOfTurn, IsReadBelow, IsReadyBelow, IsReadyInTurn, IsSearched, IsSearchedTo, IsSelectedInTurn, IsSelectedTo, IsSettledAt, IsTried, Kept, longer, Lowers, NamedSteps, noted, PlanView, Spends, Step, through_chain, turn_job, where_passed}
 use Rattle.block_passes.proofs.Demanding.{all_get, step_demanded}
-use Rattle.block_passes.proofs.Searching.{chosen_below, in_chosen, all_pass, filter_twice, narrowed, step_fault, step_true, truth_fault, chain_through, both_lower, lowers_as, or_else, none_lowers, row_in_block, searched, pass_searched}
+use Rattle.block_passes.proofs.Searching.{chosen_below, in_chosen, filter_twice, narrowed, step_fault, step_true, truth_fault, chain_through, both_lower, lowers_as, or_else, none_lowers, row_in_block, searched, pass_searched}
 use Rattle.block_passes.proofs.Serving.{spends_filled, filled_over, still_at_hand}
 use Rattle.loop_keys.proofs.PassNumbers.{some_same, passes_count}
 use Rattle.expr_lanes.specs.declared.TheConstants.{MAX_PLACES}
@@ -53,7 +54,7 @@ module _ (j : JobView) (first : ℕ) (c : Chain) (limit made : ℕ) where
 
 -- all places are selected
 pub whole_made : (j : JobView) (first limit : ℕ) (c : Chain) (places : List ℕ) → c ≡ record { sites = []; under = None } → places ≡ range_with_len 0 limit → IsMade j first c limit limit places
-whole_made j first limit c places e is = grind (arith, all_pass)
+whole_made j first limit c places e is = grind (arith, filter_all)
 
 -- where the limit falls, those made before are as right
 pub kept_lower : (j : JobView) (first : ℕ) (chains : List Chain) (limit lower : ℕ) (kept : List Kept) → lower ≤ limit → AreKept j first chains limit kept → AreKept j first chains lower kept
@@ -133,8 +134,6 @@ set_same xs k x h = ap (slice_set xs k) (sym (get_or_from_slice_get xs k x x h))
 
 -- ---- One more filter of a step, over the selections of all steps.
 
--- ---- lists in two parts
-
 -- of which the first of the latter was written
 pub set_behind : {A : Type 0} (xs ys : List A) (y : A) → xs ++ slice_set ys 0 y ≡ slice_set (xs ++ ys) (length xs) y
 set_behind [] ys y = refl
@@ -179,9 +178,7 @@ module _ (j : JobView) (job : IsJob j) (first count pass : ℕ) (plan : PlanView
     done = subst (λ (l : List ℕ). IsFilteredTo j first count u site pass l to after f1 f2) from_is h
 
     part : Lowers (λ q. where_passed (through_chain j (first + q) s.up) (fault_in (truth_in j (first + q) u site))) first pass f1 f2
-    part =
-        lowers_as (where_in (λ q. fault_in (truth_in j (first + q) u site)) (chosen j first s.up f1.limit)) (λ q. where_passed (through_chain j (first + q) s.up) (fault_in (truth_in j (first + q) u site))) first pass f1 f2
-        (λ q lt. ap (λ b. if b then fault_in (truth_in j (first + q) u site) else None) (in_chosen (λ n. is_true (through_chain j (first + n) s.up)) q f1.limit lt)) done.lowers
+    part = grind (arith, lowers_as, done, in_chosen)
 
     falls : f2.limit ≤ f1.limit
     falls = part.falls
@@ -198,12 +195,7 @@ module _ (j : JobView) (job : IsJob j) (first count pass : ℕ) (plan : PlanView
         to h.its_limit own_made (ap (λ ks. above ++ ks) written ∙ set_behind above own to ∙ ap (λ n. slice_set (above ++ own) n to) many)
 
     pub next_selected : IsNextSelected j first count p.chains pass k parent site u after (above ++ own) (above ++ now) f1 f2
-    next_selected = record {
-      ready = own_selected.ready;
-      lowers = λ c q. subst (λ (y : Chain). Lowers (λ n. where_passed (through_chain j (first + n) y) (fault_in (truth_in j (first + n) u site))) first pass f1 f2) (some_same s.up c (sym s.its_up ∙ q)) part;
-      made = own_selected.made;
-      remade = own_selected.remade;
-    }
+    next_selected = grind (arith, own_selected, part, some_same)
 
 -- ---- How selections are made.
 

@@ -1,21 +1,22 @@
 -- What filling sites spends, what the actions of a loop read, how filling it lowers the limit, and the lanes of what is read.
-use Rattle.std.proofs.Common.{◌≡◌, ◌⊎◌, inl, inr, ℕ, ◌+◌, ◌<◌, Bool, true, false, List, Option, refl, sym, ◌∙◌, ap, arith, [], ◌∷◌, length, map, option_map, Some, subst, slice_get, get_or, unwrap_or, ◌≤◌, ◌&&◌, None, nat_lt, if◌then◌else◌, ℤ, Result, pos, filter, suc, drop, drop-cons, length-drop, IfSome, option_and_then}
-use Rattle.block_cache.specs.{begun_at, cells_at, IsSpentOver, LaneView, AreReady, AreSiteKinds, below_fault, fault_over, held_value, holds_at, is_held, IsFilledTo, IsSettled, kinds_of, lane_holds, PlaceFault, site_fault, value_for, value_of}
+use Rattle.std.proofs.Common.{◌≡◌, ◌⊎◌, inl, inr, ℕ, ◌+◌, ◌<◌, Bool, true, false, List, Option, refl, sym, ◌∙◌, ap, arith, [], ◌∷◌, length, map, option_map, Some, subst, slice_get, get_or, unwrap_or, ◌≤◌, ◌&&◌, None, nat_lt, if◌then◌else◌, ℤ, pos, filter, suc, drop, drop-cons, length-drop, IfSome, option_and_then}
+use Rattle.block_cache.specs.{begun_at, cells_at, IsSpentOver, LaneView, AreReady, AreSiteKinds, below_fault, fault_over, held_value, holds_at, is_held, IsFilledTo, IsSettled, kinds_of, lane_holds, PlaceFault, site_fault, value_of}
 use Rattle.loop_keys.specs.{HasAllDemands, IsClosed, job_graph, job_of, JobView, key, key_count, ArePlain, IsJob, IsPlainLoop, IsPlainVersion, IsSourceIn, row_of, site_in, source_at, Held, held_in, IsRight, version_in, key_under, Place, place_of, row_in}
 use Rattle.expr_lanes.specs.{EachPlace, is_in, AreRising, at_place}
-use Rattle.block_passes.specs.{AreAtHand, AreLanesOf, ArePlainSources, CanServe, Demands, DemandsInputs, DemandsSource, element_fault, Found, HasHeld, inputs_fault, inputs_fault_in_turn, IsAtHand, IsKnown, IsLaneOf, IsNumberOf, IsPlainSource, IsReadOf, IsSelected, IsServable, IsServedInTurn, IsServedTo, IsSettledAt, IsSpentInTurn, IsWhole, KeepsRoom, Kept, Leaves, Lowers, noted, source_fault, source_fault_in_turn, source_in_turn, Spends, turn_job, where_in}
+use Rattle.block_passes.specs.{AreAtHand, AreHeldInTurn, AreLanesOf, ArePlainSources, CanGatherInTurn, CanServe, CanServeWith, Demands, DemandsInputs, DemandsSource, element_fault, Found, HasHeld, inputs_fault, inputs_fault_in_turn, IsAtHand, IsKnown, IsLaneOf, IsOver, IsPlainSource, IsReadOf, IsSelected, IsServable, IsServedInTurn, IsServedTo, IsSettledAt, IsSpentInTurn, IsWhole, KeepsRoom, Kept, Leaves, Lowers, noted, source_fault, source_fault_in_turn, source_in_turn, Spends, turn_job, where_in}
+use Rattle.block_passes.specs.declared.turn.ActionRead.{ActionRead}
 use Rattle.block_passes.specs.declared.turn.Turn.{Turn}
 use Rattle.block_passes.specs.declared.turn.Work.{Work}
 use Rattle.block_cache.proofs.GrownLaws.{other_places}
 use Rattle.block_cache.proofs.Knowns.{same_holds, holds_on, held_no_fault}
 use Rattle.loop_keys.proofs.FillLaws.{grows_on}
-use Rattle.lemmas.proofs.{AllByRecursion, get_or_from_slice_get, recursion_from_All, and_false, and_true, Decides-ltb, lt_says, nil_from_length, same_some, slice_get-get_or, slice_get_read, something_at, All-from_recursion, slice_get_within}
+use Rattle.lemmas.proofs.{AllByRecursion, get_or_from_slice_get, recursion_from_All, and_false, and_true, Decides-ltb, lt_says, nil_from_length, slice_get-get_or, slice_get_read, something_at, All-from_recursion, slice_get_within}
 use Rattle.rdf_values.specs.{ActionKind, AreAccepted, ColType, Column, columns_of, FitsKind, FitsRow, fn_names, history, kind_at, scope_of, Statement, Under, Value, EntryFault}
 use Rattle.rdf_values.specs.declared.scripts.statement.Statement.TheVariants.{Action}
 use Rattle.expr_check.specs.{CheckedExpr, is_vector}
 use Rattle.expr_check.proofs.Plain.{columns_scalar, plain_typed}
-use Rattle.rdf_model.specs.{Dataset, FitsOutcome, ◌>>=◌, fault_in, Faults, Gives, Needs, Outcome, tag_element, FitsFeed, for_all, is_set}
-use Rattle.graph_numbers.specs.{cell_value, graph_under, IsSiteExpr, ResultAt, results, Source, source_value, version_at, graph_sites, HasInputs, HasSourceIn, IfGiven}
+use Rattle.rdf_model.specs.{Dataset, FitsOutcome, ◌>>=◌, fault_in, Faults, Gives, Needs, Outcome, tag_element, FitsFeed, for_all}
+use Rattle.graph_numbers.specs.{cell_value, graph_under, IsSiteExpr, ResultAt, results, Source, source_value, version_at, graph_sites, HasInputs, IfGiven}
 use Rattle.graph_numbers.proofs.Placing.{Extends, itself, shorter}
 use Rattle.graph_numbers.proofs.Passing.{AreVisible, action_visible}
 use Rattle.graph_numbers.proofs.Meeting.{FitsVersion, visible_fits}
@@ -35,7 +36,7 @@ use Rattle.block_cache.proofs.OverLaws.{held_true}
 use Rattle.expr_lanes.proofs.Sequence.{filtered_in, in_filter}
 use Rattle.block_cache.proofs.Members.{filter_passes}
 use Rattle.rdf_values.proofs.KeptLemmas.{cell_of_column, column_length}
-use Rattle.actions.specs.{Lane, lane_value, SuitsAt, truth_of}
+use Rattle.actions.specs.{Lane, lane_value, Sources, SuitsAt, truth_of}
 use Rattle.actions.specs.declared.batch.Sources.TheVariants.{One, Weighted, Pair, WeightedPair}
 use Rattle.loop_keys.proofs.ActionLaws.{integer_fits, numeric_fits, pair_fits, single_fits, triple_fits, weighted_fits}
 
@@ -116,15 +117,13 @@ leaves_kept t a b c m n h same room = grind arith
 -- ---- a site without vectors
 
 pub no_vector : (t : ColType) → (t ≡ ColType.Int) ⊎ (t ≡ ColType.Bool) → t ≡ ColType.Vect → ⊥
-no_vector t (inl a) b = let f : ColType.Int ≡ ColType.Vect = sym a ∙ b in cc f
-no_vector t (inr a) b = let f : ColType.Bool ≡ ColType.Vect = sym a ∙ b in cc f
-
-pub no_vector_kind : (k : ColType) → is_vector k ≡ false → k ≡ ColType.Vect → ⊥
-no_vector_kind k h e = let f : true ≡ false = sym (ap is_vector e) ∙ h in cc f
+no_vector t h b = grind arith
 
 pub site_no_vector : (j : JobView) (used : ℕ → Bool) (s : ℕ) (e : CheckedExpr) → IsSiteExpr (job_graph j) s e → ArePlain j used → used s ≡ true → e.kind ≡ ColType.Vect → ⊥
-site_no_vector j used s e its plain u =
-    no_vector_kind e.kind (plain_typed e.kinds (job_graph j).names e.tree e.kind its.typed.typed (columns_scalar e.kinds e.tree (plain_expr j used s e plain u its))).1
+site_no_vector j used s e its plain u is =
+    let f : true ≡ false = sym (ap is_vector is) ∙
+    (plain_typed e.kinds (job_graph j).names e.tree e.kind its.typed.typed (columns_scalar e.kinds e.tree (plain_expr j used s e plain u its))).1 in
+    cc f
 
 -- ---- the kinds of what an action reads
 
@@ -147,11 +146,7 @@ module _ (d : Dataset) (row : List Value) (u : Under) (fits : FitsRow d.columns 
 -- ---- a column that a version without vectors is given by
 
 both_fit : (t k : ColType) (v : Value) → FitsKind t v → FitsKind k v → is_vector t ≡ false → (k ≡ ColType.Bool → ⊥) → k ≡ ColType.Int
-both_fit t ColType.Int v f g scalar nb = refl
-both_fit t ColType.Bool v f g scalar nb = absurd (nb refl)
-both_fit ColType.Vect ColType.Vect v f g scalar nb = cc scalar
-both_fit t ColType.Vect (Value.Vect zs) f g scalar nb = elim f [ ]
-both_fit t ColType.Vect v f g scalar nb = elim g [ ]
+both_fit t k v f g scalar nb = grind arith
 
 module _ (j : JobView) (job : IsJob j) (first : ℕ) (within : first < length j.dataset.rows) (u : Option ℕ) (loop : IsPlainLoop j) where
   row_fits : FitsRow j.dataset.columns (row_of j first)
@@ -165,10 +160,8 @@ module _ (j : JobView) (job : IsJob j) (first : ℕ) (within : first < length j.
       let c = cell_fits j.dataset.columns (row_of j first) col row_fits lt in
       ap (option_map (λ (x : Column). x.kind)) c.2
       ∙ ap Some (both_fit t c.0.kind c.1 (subst (λ (o : Option Value). FitsOutcome {M = ℕ} t (cell_value o)) c.3 fit) c.4.0 scalar
-      (λ b. not_stored j.dataset.columns j.dataset.columns refl job.table.header.distinct col lt c.0 (stored_kind col c.0 c.2 ∙ b)))
-    where
-      stored_kind : (col : ℕ) (c : Column) → slice_get j.dataset.columns col ≡ Some c → (get_or j.dataset.columns col c).kind ≡ c.kind
-      stored_kind col c q = ap (λ (x : Column). x.kind) (get_or_from_slice_get j.dataset.columns col c c q)
+      (λ b. not_stored j.dataset.columns j.dataset.columns refl job.table.header.distinct col lt c.0
+      (ap (λ (x : Column). x.kind) (get_or_from_slice_get j.dataset.columns col c.0 c.0 c.2) ∙ b)))
 
   plain_source : (c : ℕ) → IsPlainVersion (job_graph j) loop.used c → Fitting c → (count : ℕ) (kinds : List ColType) (cells : _) (scratch levels : ℕ) → CanServe j first u count kinds cells scratch levels c → IsPlainSource j loop.used (source_at j u c)
   plain_source c plain fit count kinds cells scratch levels can =
@@ -193,8 +186,6 @@ module _ (j : JobView) (job : IsJob j) (first : ℕ) (within : first < length j.
       each (c ∷ cs) p f h = (plain_source c p.0 f.0 count kinds cells scratch levels h.0, each cs p.1 f.1 h.1)
 
 -- ---- Filling what a pass reads lowers the limit at its first fault.
-
--- ---- one site
 
 -- what is filled over a selection, up to its first fault, which lowers the limit
 module _ (f : ℕ → Option EntryFault) (j : JobView) (first count : ℕ) (u : Option ℕ) (s pass : ℕ) (sel : List ℕ) (before after : List LaneView) (start end : ℕ) (old new : Found) (fault : Option PlaceFault)
@@ -242,25 +233,12 @@ source_leaves t u s limit x has sel le inside demanded old new start end spent r
 -- what faults at no selected place lowers nothing
 pub none_served : (j : JobView) (first count : ℕ) (part : ℕ → Option EntryFault) (pass : ℕ) (to : Kept) (lanes : List LaneView) (s : Found) → AreReady j first count lanes → to.limit ≡ Some s.limit → EachPlace to.places (λ p. p < s.limit) → ((p : ℕ) → p < s.limit → IsSettledAt lanes p)
     → EachPlace to.places (λ p. part p ≡ None) → IsServedTo j first count part pass to.places to lanes s s
-none_served j first count part pass to lanes s ready made inside settled none = record {
-  ready = ready;
-  settled = settled;
-  lowers = none_lowers (where_in part to.places) first pass s (λ p lt. selected_or_none part to.places p (none p));
-  its_limit = made;
-  left = sym (filter_all (λ p. nat_lt p s.limit) to.places (λ p i. (Decides-ltb p s.limit).1 (inside p i)));
-}
+none_served j first count part pass to lanes s ready made inside settled none = grind (arith, none_lowers, selected_or_none, filter_all, Decides-ltb)
 
--- a column is at hand, and never faults
+-- a column never faults
 module _ (j : JobView) (first : ℕ) (u : Option ℕ) (col : ℕ) (x : Source) (e : x ≡ Source.Cell col) where
   pub column_clear : (sel : List ℕ) → EachPlace sel (λ p. source_fault j first u x p ≡ None)
-  column_clear sel p i = ap (λ (y : Source). source_fault j first u y p) e ∙ none (slice_get (row_of j (first + p)) col)
-    where
-      none : (o : Option Value) → fault_in (cell_value {M = ⊥} o) ≡ None
-      none None = refl
-      none (Some v) = refl
-
-  pub column_held : (lanes : List LaneView) (sel : List ℕ) → EachPlace sel (λ p. IsAtHand j first lanes u p x)
-  column_held lanes sel p i = subst (λ (y : Source). IsAtHand j first lanes u p y) (sym e) tt
+  column_clear sel p i = grind arith
 
 -- the places that are left were selected, and are below the limit
 module _ (j : JobView) (first count : ℕ) (part : ℕ → Option EntryFault) (pass : ℕ) (sel : List ℕ) (to : Kept) (lanes : List LaneView) (old new : Found) (h : IsServedTo j first count part pass sel to lanes old new) where
@@ -274,9 +252,6 @@ module _ (j : JobView) (first count : ℕ) (part : ℕ → Option EntryFault) (p
 
 module _ (j : JobView) (first count : ℕ) (a b : ℕ → Option EntryFault) (pass : ℕ) (sel : List ℕ) (mid to : Kept) (between lanes : List LaneView) (f0 f1 f2 : Found)
     (h : IsServedTo j first count a pass sel mid between f0 f1) (k : IsServedTo j first count b pass mid.places to lanes f1 f2) where
-  same_below : (p : ℕ) → p < f1.limit → where_in b mid.places p ≡ where_in b sel p
-  same_below p lt = grind (arith, in_filter, Decides-ltb, and_true)
-
   below : (x : ℕ) → (nat_lt x f1.limit && nat_lt x f2.limit) ≡ nat_lt x f2.limit
   below x = grind (arith, by_test, and_true, Decides-ltb, and_false)
 
@@ -287,7 +262,8 @@ module _ (j : JobView) (first count : ℕ) (a b : ℕ → Option EntryFault) (pa
     settled = k.settled;
     lowers =
         lowers_as (λ p. or_else (where_in a sel p) (where_in b sel p)) (where_in part sel) first pass f0 f2 (λ p lt. split (is_in p sel) p)
-        (both_lower (where_in a sel) (where_in b sel) first pass f0 f1 f2 h.lowers (lowers_as (where_in b mid.places) (where_in b sel) first pass f1 f2 same_below k.lowers));
+        (both_lower (where_in a sel) (where_in b sel) first pass f0 f1 f2 h.lowers
+        (lowers_as (where_in b mid.places) (where_in b sel) first pass f1 f2 (λ p lt. grind (arith, in_filter, Decides-ltb, and_true)) k.lowers));
     its_limit = k.its_limit;
     left =
         k.left ∙ ap (filter (λ p. nat_lt p f2.limit)) h.left ∙ filter_twice (λ p. nat_lt p f1.limit) (λ p. nat_lt p f2.limit) sel
@@ -295,98 +271,71 @@ module _ (j : JobView) (first count : ℕ) (a b : ℕ → Option EntryFault) (pa
   }
     where
       split : (c : Bool) (p : ℕ) → or_else (if c then a p else None) (if c then b p else None) ≡ (if c then part p else None)
-      split true p = both p
-      split false p = refl
+      split c p = grind (arith, both)
 
 -- ---- Elements of a site's vector, where the site's value is held.
 
 pub given_none : (o : Outcome ⊥ Value) → fault_in o ≡ None → (v : Value) × (o ≡ Gives v)
 given_none o h = grind arith
 
--- a site has a lane
-pub lane_there : (j : JobView) (first count : ℕ) (u : Option ℕ) (s : ℕ) → s < length (graph_sites (job_graph j)) → (lanes : List LaneView) → AreReady j first count lanes → (l : LaneView) × (slice_get lanes (key (job_graph j) s u) ≡ Some l)
-lane_there j first count u s inside lanes ready = something_at lanes (key (job_graph j) s u) (let small = key_small (job_graph j) s u inside in let many = ready.many in omega (arith, small, many))
-
--- a value that an input tells
-vect_told : (i : Input) (w : Value) → input_outcome 0 i ≡ Gives w → (zs : _) → i ≡ Input.Vect zs → w ≡ Value.Vect zs.now
-vect_told i w e zs is = let f : ◌≡◌ {A = Outcome ℕ Value} (Gives (Value.Vect zs.now)) (Gives w) = sym (ap (input_outcome 0) is) ∙ e in cc f
-
 module _ (j : JobView) (first count : ℕ) (u : Option ℕ) (s : ℕ) (inside : s < length (graph_sites (job_graph j))) (lanes : List LaneView) (ready : AreReady j first count lanes) (p : ℕ) (low : p < count) where
   abbrev k : ℕ
   k = key (job_graph j) s u
 
-  abbrev cell : Held
-  cell = held_in (cells_at (key_count (job_graph j)) lanes p) k
-
   -- ---- the site
 
   module _ (l : LaneView) (at : slice_get lanes k ≡ Some l) (holds : holds_at lanes k p ≡ true) where
-    lane_is_held : is_held l p ≡ true
-    lane_is_held = ap (λ o. lane_holds o p) (sym at) ∙ holds
-
-    cell_is : cell ≡ held_value (value_of l p)
-    cell_is = held_of_lane (key_count (job_graph j)) lanes p k ∙ ap (λ o. lane_held o p) at ∙ held_true l p lane_is_held
+    cell_is : held_in (cells_at (key_count (job_graph j)) lanes p) k ≡ held_value (value_of l p)
+    cell_is = held_of_lane (key_count (job_graph j)) lanes p k ∙ ap (λ o. lane_held o p) at ∙ held_true l p (ap (λ o. lane_holds o p) (sym at) ∙ holds)
 
     pub site_gives : site_in {M = ⊥} j (first + p) u s ≡ Gives (value_of l p)
     site_gives = right_value (site_in j (first + p) u s) (value_of l p) (subst (λ (x : Held). IsRight (site_in j (first + p) u s) x) cell_is ((ready.sound p low).each u s inside))
 
-    -- what is told of it
-    module _ (i : Input) (input : (c : ℕ) → input_outcome c i ≡ (if is_held l p then Gives (value_of l p) else Needs c)) where
-      pub input_given : input_outcome 0 i ≡ Gives (value_of l p)
-      input_given = input 0 ∙ ap (λ b. if b then Gives (value_of l p) else Needs 0) lane_is_held
+-- what is told of a site's value by the lane that is read at its key
+module _ {V : Type 0} {D : V → Type 0} {g : _} (t : Turn V D g) (lanes : List LaneView) (over : IsOver t lanes) (u : Option ℕ) (s : ℕ)
+    (inside : s < length (graph_sites (job_graph (turn_job t)))) (p : ℕ) (low : p < t.count)
+    (holds : holds_at lanes (key (job_graph (turn_job t)) s u) p ≡ true) (k : ℕ) (is : k ≡ key (job_graph (turn_job t)) s u)
+    (small : k < key_count (job_graph (turn_job t))) (l : LaneView) (at : l ≡ get_or lanes k l)
+    (i : Input) (input : (c : ℕ) → input_outcome c i ≡ (if is_held l p then Gives (value_of l p) else Needs c)) where
+  its : slice_get lanes (key (job_graph (turn_job t)) s u) ≡ Some l
+  its = let many = over.ready.many in ap (slice_get lanes) (sym is) ∙ slice_get_read lanes (length lanes) k l refl (omega (arith, small, many)) at
 
-      pub input_vect : (zs : _) → i ≡ Input.Vect zs → site_in {M = ⊥} j (first + p) u s ≡ Gives (Value.Vect zs.now)
-      input_vect zs is = site_gives ∙ ap Gives (vect_told i (value_of l p) input_given zs is)
+  abbrev given : Outcome ⊥ Value
+  given = site_in {M = ⊥} (turn_job t) (t.first + p) u s
 
-      pub input_other : (tags n : ℕ) (v : Value) → input_outcome 0 i ≡ Gives v → tag_element {M = ⊥} tags n v ≡ Gives (Value.Int (pos 0)) → (site_in {M = ⊥} j (first + p) u s >>= tag_element tags n) ≡ Gives (Value.Int (pos 0))
-      input_other tags n v is none =
-          let same : value_of l p ≡ v = (let f : ◌≡◌ {A = Outcome ℕ Value} (Gives (value_of l p)) (Gives v) = sym input_given ∙ is in cc f) in
-          ap (λ (o : Outcome ⊥ Value). o >>= tag_element tags n) (site_gives ∙ ap Gives same) ∙ none
+  gives : given ≡ Gives (value_of l p)
+  gives = site_gives (turn_job t) t.first t.count u s inside lanes over.ready p low l its holds
 
-      pub never_stops : ((x : EntryFault) × (i ≡ Input.Faulted x)) ⊎ (i ≡ Input.Missing) → ⊥
-      never_stops (inl x) = let f : ◌≡◌ {A = Outcome ℕ Value} (Faults x.0) (Gives (value_of l p)) = sym (ap (input_outcome 0) x.1) ∙ input_given in cc f
-      never_stops (inr x) = let f : ◌≡◌ {A = Outcome ℕ Value} (Needs 0) (Gives (value_of l p)) = sym (ap (input_outcome 0) x) ∙ input_given in cc f
+  input_given : input_outcome 0 i ≡ Gives (value_of l p)
+  input_given = input 0 ∙ ap (λ b. if b then Gives (value_of l p) else Needs 0) (ap (λ o. lane_holds o p) (sym its) ∙ holds)
 
-      -- a lane of vectors tells a vector
-      tells : slice_get (kinds_of lanes) k ≡ Some ColType.Vect → input_outcome 0 i ≡ Gives (value_for ColType.Vect l.vectors (at_place l.numbers p))
-      tells vectors = input_given ∙ ap (λ t. Gives (value_for t l.vectors (at_place l.numbers p))) (same_some (sym (got_kind lanes k l at) ∙ vectors))
+  pub input_vect : (zs : _) → i ≡ Input.Vect zs → given ≡ Gives (Value.Vect zs.now)
+  input_vect zs e = grind (arith, gives, input_given)
 
-      pub vect_only : slice_get (kinds_of lanes) k ≡ Some ColType.Vect → ((x : ℤ) × (i ≡ Input.Int x)) ⊎ (((x : Bool) × (i ≡ Input.Bool x)) ⊎ (((x : EntryFault) × (i ≡ Input.Faulted x)) ⊎ (i ≡ Input.Missing))) → ⊥
-      vect_only vectors h = grind (arith, tells, never_stops)
+  pub never_stops : ((x : EntryFault) × (i ≡ Input.Faulted x)) ⊎ (i ≡ Input.Missing) → ⊥
+  never_stops h = grind (arith, input_given)
 
-      -- what has no elements has 0 for each
-      pub scalar_input : (tags n : ℕ) → ((x : ℤ) × (i ≡ Input.Int x)) ⊎ ((x : Bool) × (i ≡ Input.Bool x)) → (site_in {M = ⊥} j (first + p) u s >>= tag_element tags n) ≡ Gives (Value.Int (pos 0))
-      scalar_input tags n (inl x) = input_other tags n (Value.Int x.0) (ap (input_outcome 0) x.1) refl
-      scalar_input tags n (inr x) = input_other tags n (Value.Bool x.0) (ap (input_outcome 0) x.1) refl
+  pub vect_only : slice_get (kinds_of lanes) (key (job_graph (turn_job t)) s u) ≡ Some ColType.Vect →
+      ((x : ℤ) × (i ≡ Input.Int x)) ⊎ (((x : Bool) × (i ≡ Input.Bool x)) ⊎ (((x : EntryFault) × (i ≡ Input.Faulted x)) ⊎ (i ≡ Input.Missing))) → ⊥
+  vect_only vectors h = grind (arith, input_given, never_stops, got_kind, its)
 
--- the number of an element
-pub number_of : (o : Outcome ⊥ Value) (tags n : ℕ) (zs : List ℤ) (r : Result ℤ EntryFault) → o ≡ Gives (Value.Vect zs) → IsNumberOf (tag_element {M = ⊥} tags n (Value.Vect zs)) r → IsNumberOf (o >>= tag_element tags n) r
-number_of o tags n zs r e h = subst (λ (x : Outcome ⊥ Value). IsNumberOf (x >>= tag_element tags n) r) (sym e) h
+  -- what has no elements has 0 for each
+  pub scalar_input : (tags n : ℕ) → ((x : ℤ) × (i ≡ Input.Int x)) ⊎ ((x : Bool) × (i ≡ Input.Bool x)) → (given >>= tag_element tags n) ≡ Gives (Value.Int (pos 0))
+  scalar_input tags n h = grind (arith, gives, input_given)
 
 pub no_number : (o : Outcome ⊥ Value) (k : EntryFault) → (v : Value) × (o ≡ Gives v) → o ≡ Faults k → ⊥
 no_number o k v e = let f : ◌≡◌ {A = Outcome ⊥ Value} (Gives v.0) (Faults k) = sym v.1 ∙ e in cc f
 
-pub fault_is : (o : Outcome ⊥ Value) (k : EntryFault) → o ≡ Faults k → fault_in o ≡ Some k
-fault_is o k e = ap fault_in e
-
 pub lane_of_kind : (j : JobView) (first count : ℕ) (u : Option ℕ) (s : ℕ) → s < length (graph_sites (job_graph j)) → (lanes : List LaneView) → AreReady j first count lanes → (e : CheckedExpr) → IsSiteExpr (job_graph j) s e → AreSiteKinds (job_graph j) (kinds_of lanes)
     → slice_get (kinds_of lanes) (key (job_graph j) s u) ≡ Some e.kind
 lane_of_kind j first count u s inside lanes ready e its kinds =
-    let l = lane_there j first count u s inside lanes ready in
+    let l = something_at lanes (key (job_graph j) s u) (let small = key_small (job_graph j) s u inside in let many = ready.many in omega (arith, small, many)) in
     let got = got_kind lanes (key (job_graph j) s u) l.0 l.1 in
     got ∙ ap Some (sym (kinds s u e l.0.kind its got))
-
-pub lane_read : (j : JobView) (first count : ℕ) (u : Option ℕ) (s : ℕ) (lanes : List LaneView) → AreReady j first count lanes → (k : ℕ) (l : LaneView) → k ≡ key (job_graph j) s u → k < key_count (job_graph j) → l ≡ get_or lanes k l → slice_get lanes (key (job_graph j) s u) ≡ Some l
-lane_read j first count u s lanes ready k l is small at = let many = ready.many in ap (slice_get lanes) (sym is) ∙ slice_get_read lanes (length lanes) k l refl (omega (arith, small, many)) at
 
 -- the kind of a column
 pub kind_got : (cs now : List Column) → now ≡ cs → (i : ℕ) → i < length cs → (d : Column) (t : ColType) → (get_or now i d).kind ≡ t → kind_at cs i ≡ Some t
 kind_got cs now e i lt d t is = ap (option_map (λ (c : Column). c.kind)) (slice_get-get_or cs i d lt) ∙ ap (λ (xs : List Column). Some (get_or xs i d).kind) (sym e) ∙ ap Some is
-
--- the site's fault is first that of its element
-element_or : (o : Outcome ⊥ Value) (tags n : ℕ) → or_else (fault_in o) (fault_in (o >>= tag_element tags n)) ≡ fault_in (o >>= tag_element tags n)
-element_or (Needs m) tags n = elim m [ ]
-element_or o tags n = refl
 
 -- ---- the site is filled, and then its elements are tested
 
@@ -395,7 +344,7 @@ module _ (j : JobView) (first count : ℕ) (u : Option ℕ) (s n tags pass : ℕ
   pub element_served : IsServedTo j first count (element_fault j first u s n tags) pass sel to lanes f0 f2
   element_served =
       served_then j first count (site_fault j first u s) (element_fault j first u s n tags) pass sel mid to between lanes f0 f1 f2 h k (element_fault j first u s n tags)
-      (λ p. element_or (site_in {M = ⊥} j (first + p) u s) tags n)
+      (λ p. grind arith)
 
   -- the elements that are left are at hand
   pub element_held : s < length (graph_sites (job_graph j)) → f2.limit ≤ count → EachPlace mid.places (λ p. holds_at lanes (key (job_graph j) s u) p ≡ true) → EachPlace to.places (λ p. IsAtHand j first lanes u p (Source.Element s n tags))
@@ -414,25 +363,14 @@ still_at_hand j first count before after start end spends u p (Source.Cell col) 
 still_at_hand j first count before after start end spends u p (Source.Site s) h = holds_on (key_count (job_graph j)) before after (key (job_graph j) s u) p (spends.grows p) h
 still_at_hand j first count before after start end spends u p (Source.Element s k tags) h = (holds_on (key_count (job_graph j)) before after (key (job_graph j) s u) p (spends.grows p) h.0, h.1, h.2)
 
-of_set : (D : ℕ → Bool) (x : Source) → HasSourceIn (λ s. D s ≡ true) x → IsSourceIn D x
-of_set D (Source.Cell col) h = tt
-of_set D x h = h
-
 none_given : (o : Outcome ⊥ Value) (X : Type 0) → fault_in o ≡ None → IfGiven o X → X
 none_given o X h x = grind arith
-
--- none are read
-pub none_clear : (j : JobView) (first : ℕ) (u : Option ℕ) (inputs : List ℕ) → inputs ≡ [] → (sel : List ℕ) → EachPlace sel (λ p. inputs_fault j first u inputs p ≡ None)
-none_clear j first u inputs e sel p i = ap (λ l. inputs_fault j first u l p) e
-
-pub none_held : (j : JobView) (first : ℕ) (lanes : List LaneView) (u : Option ℕ) (inputs : List ℕ) → inputs ≡ [] → (sel : List ℕ) → EachPlace sel (AreAtHand j first lanes u inputs)
-none_held j first lanes u inputs e sel p i = subst (λ (l : List ℕ). AreAtHand j first lanes u l p) (sym e) tt
 
 module _ (j : JobView) (first : ℕ) (u : Option ℕ) (inputs cs : List ℕ) (c : ℕ) (e : inputs ≡ c ∷ cs) where
   -- ---- what is asked
 
   pub first_demanded : (entry : ℕ) (T : ℕ → Bool) → DemandsInputs j entry u T inputs → DemandsSource j entry u T (source_at j u c)
-  first_demanded entry T d = grind (arith, of_set)
+  first_demanded entry T d = grind arith
 
   -- ---- one after another
 
@@ -472,14 +410,7 @@ pub record AreServedTo {V : Type 0} {D : V → Type 0} {g : _} (t : Turn V D g) 
 module _ {V : Type 0} {D : V → Type 0} {g : _} (t : Turn V D g) (u : Option ℕ) (inputs : List ℕ) where
   pub begin_served : (w : Work) (to : Kept) (steps : ℕ) → IsKnown t w → IsSelected w.found.limit to
       → ((p : ℕ) (T : ℕ → Bool) → is_in p to.places ≡ true → HasAllDemands (turn_job t) (t.first + p) T → DemandsInputs (turn_job t) (t.first + p) u T inputs) → AreServedTo t u inputs to.places w steps 0 w to steps
-  begin_served w to steps known selected demanded = record {
-    leaves = record { spends = spends_none (turn_job t) t.first t.count w.lanes.items steps; scratch = refl; levels = refl };
-    known = known;
-    selected = selected;
-    demanded = demanded;
-    served = λ last lanes f k. k;
-    held = λ last lanes f k end spends h. h;
-  }
+  begin_served w to steps known selected demanded = grind (arith, spends_none)
 
   module _ (sel : List ℕ) (old : Work) (start n : ℕ) (w : Work) (to : Kept) (steps : ℕ) (h : AreServedTo t u inputs sel old start n w to steps) where
     -- the next one is served
@@ -522,12 +453,15 @@ module _ {V : Type 0} {D : V → Type 0} {g : _} (t : Turn V D g) (u : Option �
         let j = turn_job t in
         let e : drop n inputs ≡ [] = nil_from_length (drop n inputs) (let l = length-drop n inputs in omega (arith, l, le)) in
         let none =
-        none_served j t.first t.count (inputs_fault_in_turn t u (drop n inputs)) t.pass to w.lanes.items w.found h.known.ready h.selected.made h.selected.inside h.known.settled (none_clear j t.first u (drop n inputs) e to.places) in
-        (h.served to w.lanes.items w.found none, h.held to w.lanes.items w.found none steps (spends_none j t.first t.count w.lanes.items steps) (none_held j t.first w.lanes.items u (drop n inputs) e to.places))
+        none_served j t.first t.count (inputs_fault_in_turn t u (drop n inputs)) t.pass to w.lanes.items w.found h.known.ready h.selected.made h.selected.inside h.known.settled
+        (λ p i. ap (λ (l : List ℕ). inputs_fault j t.first u l p) e) in (
+          h.served to w.lanes.items w.found none,
+          h.held to w.lanes.items w.found none steps (spends_none j t.first t.count w.lanes.items steps)
+              (λ p i. subst (λ (l : List ℕ). AreAtHand j t.first w.lanes.items u l p) (sym e) tt),
+        )
 
 cell_given : (o : Option (List Value)) (col : ℕ) (v : Value) → option_and_then (λ row. slice_get row col) o ≡ Some v → cell_value {M = ⊥} (slice_get (unwrap_or o []) col) ≡ Gives v
-cell_given None col v h = cc h
-cell_given (Some row) col v h = ap (cell_value {M = ⊥}) h
+cell_given o col v h = grind arith
 
 module _ (rows : List (List Value)) (col : ℕ) (vectors : List (List ℤ)) (are : map (λ row. slice_get row col) rows ≡ map (λ zs. Some (Value.Vect zs)) vectors) (e : ℕ) (inside : e < length rows) where
   pub vector_there : e < length vectors
@@ -535,6 +469,8 @@ module _ (rows : List (List Value)) (col : ℕ) (vectors : List (List ℤ)) (are
 
   pub vector_given : cell_value {M = ⊥} (slice_get (row_in rows e) col) ≡ Gives (Value.Vect (get_or vectors e []))
   vector_given = cell_given (slice_get rows e) col _ (cell_of_column rows col e (λ zs. Value.Vect zs) vectors (get_or vectors e []) are (slice_get-get_or vectors e [] vector_there))
+
+pub ruleset column_laws = (kind_got, vector_there, vector_given)
 
 -- ---- The lanes that are gathered for an action suit it.
 
@@ -566,100 +502,103 @@ suits_triple : (k : ActionKind) (xs ys : List ℤ) (c d n : List ℕ) (x y w : L
     → FitsFeed k (lane_value x place ∷ lane_value y place ∷ lane_value w place ∷ []) → SuitsAt k (WeightedPair x y w) place
 suits_triple k xs ys c d n x y w place e f = rw e (let g = rw e at f in triple_fits g.kinds (lane_value x place) (lane_value y place) (lane_value w place) g.permitted g.fit)
 
-module _ (f : ℕ → Outcome ⊥ Value) (cs : List ℕ) where
-  module _ (P : ℕ → Type 0) (hand : AllByRecursion P cs) (place : ℕ) (k : ActionKind) (count : length cs ≡ length (columns_of k)) (fits : (vs : List Value) → for_all f cs ≡ Gives vs → FitsFeed k vs) where
-    pub lanes_one : length cs ≡ 1 → (x : Lane) → (P (get_or cs 0 0) → IsLaneOf (f (get_or cs 0 0)) x place) → AreLanesOf (for_all f cs) k (One x) place
-    lanes_one e x lx = grind (arith, All-from_recursion, one_given, suits_one)
+module _ {V : Type 0} {D : V → Type 0} {g : _} (t : Turn V D g) (own : ActionRead) (lanes : List LaneView) (can : CanGatherInTurn t own lanes)
+    (place : ℕ) (low : place < t.count) (hand : AreHeldInTurn t own lanes place) where
+  -- the lane is of the version of that number, where that is at hand
+  abbrev Has : ℕ → Lane → Type 0
+  Has n x = IsAtHand (turn_job t) t.first lanes own.under place (source_in_turn t own.under (get_or own.inputs.now n 0))
+      → IsLaneOf (version_in {M = ⊥} (turn_job t) (t.first + place) own.under (get_or own.inputs.now n 0)) x place
 
-    pub lanes_weighted : (edges : List ℤ) (c n : List ℕ) → k ≡ ActionKind.Histo1D edges c (Some n) → (x w : Lane) → (P (get_or cs 0 0) → IsLaneOf (f (get_or cs 0 0)) x place) → (P (get_or cs 1 0) → IsLaneOf (f (get_or cs 1 0)) w place)
-        → AreLanesOf (for_all f cs) k (Weighted x w) place
-    lanes_weighted edges c n e x w lx lw = grind (arith, All-from_recursion, two_given, suits_weighted)
+  abbrev AreLanes : Sources → Type 0
+  AreLanes s = AreLanesOf (for_all (version_in {M = ⊥} (turn_job t) (t.first + place) own.under) own.inputs.now) own.kind.now s place
 
-    pub lanes_pair : (xs ys : List ℤ) (c d : List ℕ) → k ≡ ActionKind.Histo2D xs ys c d None → (x y : Lane) → (P (get_or cs 0 0) → IsLaneOf (f (get_or cs 0 0)) x place) → (P (get_or cs 1 0) → IsLaneOf (f (get_or cs 1 0)) y place)
-        → AreLanesOf (for_all f cs) k (Pair x y) place
-    lanes_pair xs ys c d e x y lx ly = grind (arith, All-from_recursion, two_given, suits_pair)
+  pub lanes_one : (x : Lane) → length own.inputs.now ≡ 1 → Has 0 x → AreLanes (One x)
+  lanes_one x e lx = grind (arith, All-from_recursion, one_given, suits_one, can.fits place)
 
-    pub lanes_triple : (xs ys : List ℤ) (c d n : List ℕ) → k ≡ ActionKind.Histo2D xs ys c d (Some n) → (x y w : Lane)
-        → (P (get_or cs 0 0) → IsLaneOf (f (get_or cs 0 0)) x place) → (P (get_or cs 1 0) → IsLaneOf (f (get_or cs 1 0)) y place) → (P (get_or cs 2 0) → IsLaneOf (f (get_or cs 2 0)) w place)
-        → AreLanesOf (for_all f cs) k (WeightedPair x y w) place
-    lanes_triple xs ys c d n e x y w lx ly lw = grind (arith, All-from_recursion, three_given, suits_triple)
+  pub lanes_weighted : (x w : Lane) (edges : List ℤ) (c n : List ℕ) → own.kind.now ≡ ActionKind.Histo1D edges c (Some n) → Has 0 x → Has 1 w → AreLanes (Weighted x w)
+  lanes_weighted x w edges c n e lx lw = grind (arith, All-from_recursion, two_given, suits_weighted, can.fits place)
+
+  pub lanes_pair : (x y : Lane) (xs ys : List ℤ) (c d : List ℕ) → own.kind.now ≡ ActionKind.Histo2D xs ys c d None → Has 0 x → Has 1 y → AreLanes (Pair x y)
+  lanes_pair x y xs ys c d e lx ly = grind (arith, All-from_recursion, two_given, suits_pair, can.fits place)
+
+  pub lanes_triple : (x y w : Lane) (xs ys : List ℤ) (c d n : List ℕ) → own.kind.now ≡ ActionKind.Histo2D xs ys c d (Some n) → Has 0 x → Has 1 y → Has 2 w
+      → AreLanes (WeightedPair x y w)
+  lanes_triple x y w xs ys c d n e lx ly lw = grind (arith, All-from_recursion, three_given, suits_triple, can.fits place)
 
 -- ---- What the lane of a site has at a place.
 
--- a mark counts as true alike
-same_truth : (z : ℤ) → is_set z ≡ truth_of z
-same_truth z = grind arith
-
 -- a lane of numbers or truths has what is held of its key
 module _ (lanes : List LaneView) (k : ℕ) (r : LaneView) (its : slice_get lanes k ≡ Some r) (numbers : List ℤ) (are : numbers ≡ r.numbers) (long : r.count ≤ length numbers) where
-  same_lane : (l : LaneView) → slice_get lanes k ≡ Some l → r ≡ l
-  same_lane l at = let e : ◌≡◌ {A = Option LaneView} (Some r) (Some l) = sym its ∙ at in cc e
-
-  inside : (l : LaneView) → slice_get lanes k ≡ Some l → (p : ℕ) → p < l.count → p < length numbers
-  inside l at p low = let e = ap (λ (x : LaneView). x.count) (same_lane l at) in omega (arith, e, long, low)
-
   pub int_held : r.kind ≡ ColType.Int → (l : LaneView) → slice_get lanes k ≡ Some l → (p : ℕ) → p < l.count → (p < length numbers) × (Value.Int (at_place numbers p) ≡ value_of l p)
-  int_held is l h p low = grind (arith, inside, same_lane)
+  int_held is l h p low = grind arith
 
   pub bool_held : r.kind ≡ ColType.Bool → (l : LaneView) → slice_get lanes k ≡ Some l → (p : ℕ) → p < l.count → (p < length numbers) × (Value.Bool (truth_of (at_place numbers p)) ≡ value_of l p)
-  bool_held is l h p low = grind (arith, inside, same_truth, same_lane)
+  bool_held is l h p low = grind arith
 
 pub vector_kind : (lanes : List LaneView) (k : ℕ) (r : LaneView) → slice_get lanes k ≡ Some r → r.kind ≡ ColType.Vect → slice_get (kinds_of lanes) k ≡ Some ColType.Vect
 vector_kind lanes k r there is = got_kind lanes k r there ∙ ap Some is
 
+pub ruleset key_laws = (int_held, bool_held, vector_kind, slice_get_read)
+
 -- ---- where a version stands
 
 pub cell_source : (f : ℕ → ℕ) (x : Source) (col : ℕ) → place_of f x ≡ Place.Cell col → x ≡ Source.Cell col
-cell_source f (Source.Cell c) col e = let same : c ≡ col = cc e in ap Source.Cell same
-cell_source f x col e = cc e
-
-pub key_source : (f : ℕ → ℕ) (x : Source) (k : ℕ) → place_of f x ≡ Place.Key k → (s : ℕ) × (x ≡ Source.Site s) × (f s ≡ k)
-key_source f (Source.Site s) k e = (s, refl, cc e)
-key_source f x k e = cc e
+cell_source f x col e = grind arith
 
 pub element_source : (f : ℕ → ℕ) (x : Source) (k i n : ℕ) → place_of f x ≡ Place.Element k i n → (s : ℕ) × (x ≡ Source.Element s i n)
 element_source f (Source.Element s a b) k i n e = let first : a ≡ i = cc e in let second : b ≡ n = cc e in (s, λ t. Source.Element s (first t) (second t))
 element_source f x k i n e = cc e
 
+pub ruleset place_laws = (cell_source, element_source)
+
 -- a site that is read
-module _ (j : JobView) (first count : ℕ) (u : Option ℕ) (kinds : List ColType) (cells : List (List ℤ)) (scratch levels : ℕ) (x : Source) (can : IsServable j first u count kinds cells scratch levels x) (k : ℕ) (stood : place_of (key_under (job_graph j) u) x ≡ Place.Key k) where
-  pub site_is : (s : ℕ) × (x ≡ Source.Site s) × (key (job_graph j) s u ≡ k)
-  site_is = key_source (key_under (job_graph j) u) x k stood
+module _ {V : Type 0} {D : V → Type 0} {g : _} (t : Turn V D g) (lanes : List LaneView) (over : IsOver t lanes) (u : Option ℕ) (version : ℕ)
+    (can : (scratch levels : ℕ) × CanServeWith t u lanes scratch levels version)
+    (k : ℕ) (stood : place_of (key_under (job_graph (turn_job t)) u) (source_in_turn t u version) ≡ Place.Key k) where
+  abbrev j : JobView
+  j = turn_job t
 
-  pub site_inside : site_is.0 < length (graph_sites (job_graph j))
-  site_inside = (subst (IsServable j first u count kinds cells scratch levels) site_is.1 can).0
+  site_is : (s : ℕ) × (source_in_turn t u version ≡ Source.Site s) × (key (job_graph j) s u ≡ k)
+  site_is = grind arith
 
-  pub key_inside : (lanes : List LaneView) → AreReady j first count lanes → k < length lanes
-  key_inside lanes ready = let many = ready.many in let small = key_small (job_graph j) site_is.0 u site_inside in let same = site_is.2 in omega (arith, many, small, same)
+  site_inside : site_is.0 < length (graph_sites (job_graph j))
+  site_inside = (subst (IsServable j t.first u t.count (kinds_of lanes) t.cells.now can.0 can.1) site_is.1 can.2.1).0
 
-  pub lane_gives : (lanes : List LaneView) → AreReady j first count lanes → (fed : Lane) → ((l : LaneView) → slice_get lanes k ≡ Some l → HasHeld l fed)
-      → (p : ℕ) → p < count → IsAtHand j first lanes u p x → IsLaneOf (source_value {M = ⊥} (row_of j (first + p)) (site_in j (first + p) u) x) fed p
-  lane_gives lanes ready fed has p low hand =
-      let got = something_at lanes k (key_inside lanes ready) in
+  pub key_inside : k < length lanes
+  key_inside = let many = over.ready.many in let small = key_small (job_graph j) site_is.0 u site_inside in let same = site_is.2 in omega (arith, many, small, same)
+
+  pub lane_gives : (fed : Lane) → ((l : LaneView) → slice_get lanes k ≡ Some l → HasHeld l fed)
+      → (p : ℕ) → p < t.count → IsAtHand j t.first lanes u p (source_in_turn t u version) → IsLaneOf (version_in {M = ⊥} j (t.first + p) u version) fed p
+  lane_gives fed has p low hand =
+      let got = something_at lanes k key_inside in
       let l = got.0 in
-      let has_p = has l got.1 p (let c = ready.counts k l (slice_get_within lanes k l got.1) in let e = ap (λ (y : LaneView). y.count) (get_or_from_slice_get lanes k l l got.1) in omega (arith, c, e, low)) in
+      let has_p = has l got.1 p
+      (let c = over.ready.counts k l (slice_get_within lanes k l got.1) in let e = ap (λ (y : LaneView). y.count) (get_or_from_slice_get lanes k l l got.1) in omega (arith, c, e, low)) in
       let at : slice_get lanes (key (job_graph j) site_is.0 u) ≡ Some l = ap (slice_get lanes) site_is.2 ∙ got.1 in
-      let holds : holds_at lanes (key (job_graph j) site_is.0 u) p ≡ true = subst (IsAtHand j first lanes u p) site_is.1 hand in
+      let holds : holds_at lanes (key (job_graph j) site_is.0 u) p ≡ true = subst (IsAtHand j t.first lanes u p) site_is.1 hand in
       record {
         there = has_p.0;
-        value = ap (source_value {M = ⊥} (row_of j (first + p)) (site_in j (first + p) u)) site_is.1 ∙ site_gives j first count u site_is.0 site_inside lanes ready p low l at holds ∙ ap Gives (sym has_p.1);
+        value = ap (source_value {M = ⊥} (row_of j (t.first + p)) (site_in j (t.first + p) u)) site_is.1
+            ∙ site_gives j t.first t.count u site_is.0 site_inside lanes over.ready p low l at holds ∙ ap Gives (sym has_p.1);
       }
 
-  pub lanes_give : (lanes : List LaneView) → AreReady j first count lanes → (o : Option Lane) → ((l : LaneView) → slice_get lanes k ≡ Some l → IfSome o (HasHeld l))
-      → IfSome o (λ fed. (p : ℕ) → p < count → IsAtHand j first lanes u p x → IsLaneOf (source_value {M = ⊥} (row_of j (first + p)) (site_in j (first + p) u) x) fed p)
-  lanes_give lanes ready None has = tt
-  lanes_give lanes ready (Some fed) has = lane_gives lanes ready fed has
+  pub lanes_give : (o : Option Lane) → ((l : LaneView) → slice_get lanes k ≡ Some l → IfSome o (HasHeld l))
+      → IfSome o (λ fed. (p : ℕ) → p < t.count → IsAtHand j t.first lanes u p (source_in_turn t u version) →
+      IsLaneOf (version_in {M = ⊥} j (t.first + p) u version) fed p)
+  lanes_give None has = tt
+  lanes_give (Some fed) has = lane_gives fed has
 
-  pub no_vectors : IsWhole j u kinds x → slice_get kinds k ≡ Some ColType.Vect → ⊥
-  no_vectors whole vector = subst (IsWhole j u kinds) site_is.1 whole (ap (slice_get kinds) site_is.2 ∙ vector)
+  pub no_vectors : IsWhole j u (kinds_of lanes) (source_in_turn t u version) → slice_get (kinds_of lanes) k ≡ Some ColType.Vect → ⊥
+  no_vectors whole vector = subst (IsWhole j u (kinds_of lanes)) site_is.1 whole (ap (slice_get (kinds_of lanes)) site_is.2 ∙ vector)
 
   -- where its value is held it is at hand, and faults not
-  module _ (lanes : List LaneView) (sel : List ℕ) (held : EachPlace sel (λ p. holds_at lanes k p ≡ true)) where
+  module _ (sel : List ℕ) (held : EachPlace sel (λ p. holds_at lanes k p ≡ true)) where
     holds : EachPlace sel (λ p. holds_at lanes (key (job_graph j) site_is.0 u) p ≡ true)
     holds p i = ap (λ n. holds_at lanes n p) site_is.2 ∙ held p i
 
-    pub hand_held : EachPlace sel (λ p. IsAtHand j first lanes u p x)
-    hand_held p i = subst (IsAtHand j first lanes u p) (sym site_is.1) (holds p i)
+    pub hand_held : EachPlace sel (λ p. IsAtHand j t.first lanes u p (source_in_turn t u version))
+    hand_held p i = subst (IsAtHand j t.first lanes u p) (sym site_is.1) (holds p i)
 
-    pub hand_clear : AreReady j first count lanes → EachPlace sel (λ p. p < count) → EachPlace sel (λ p. source_fault j first u x p ≡ None)
-    hand_clear ready low p i = ap (λ (y : Source). source_fault j first u y p) site_is.1 ∙ held_no_fault j first u count site_is.0 site_inside lanes ready p (low p i) (holds p i)
+    pub hand_clear : EachPlace sel (λ p. p < t.count) → EachPlace sel (λ p. source_fault_in_turn t u version p ≡ None)
+    hand_clear low p i = ap (λ (y : Source). source_fault j t.first u y p) site_is.1
+        ∙ held_no_fault j t.first u t.count site_is.0 site_inside lanes over.ready p (low p i) (holds p i)

@@ -1,5 +1,5 @@
 -- The sites of filters come to truth values.
-use Rattle.std.proofs.Common.{◌≡◌, ◌⊎◌, inl, inr, ℕ, zero, suc, ◌+◌, Bool, false, List, [], ◌∷◌, ◌++◌, map, length, All, Option, Some, None, Result, Ok, Err, refl, sym, ◌∙◌, ap, subst, arith, nat_eq, option_map, slice_get, if◌then◌else◌, ◌<◌, ◌≤◌, length-append, replicate, IsOk, count_by}
+use Rattle.std.proofs.Common.{◌≡◌, ◌⊎◌, inl, inr, ℕ, zero, suc, ◌+◌, Bool, false, List, [], ◌∷◌, ◌++◌, map, length, All, Option, Some, None, Result, Ok, Err, refl, sym, ◌∙◌, ap, subst, arith, nat_eq, option_map, slice_get, if◌then◌else◌, ◌<◌, ◌≤◌, length-append, replicate, IsOk}
 use Rattle.lemmas.proofs.{AllByRecursion, append-nil, cases_eq, Decides-eqb, get_or-replicate, kept_at, length-replicate, recursion_from_All, slice_get-get_or, slice_get_within, something_at}
 use Rattle.rdf_values.specs.{AreAccepted, callee, check_node, check_vector_column, ColType, Column, column_kind, columns_in, expect_kind, fn_names, FunctionNames, GraphCause, history, kind_by, kind_of, makes, NamedTree, parent_of, refuse_unless, renamed, scope_at, scope_of, shape_of, Statement, Under, VaryValues}
 use Rattle.rdf_values.specs.declared.scripts.statement.Statement.TheVariants.{Action, Filter, Report, Vary}
@@ -9,7 +9,7 @@ use Rattle.expr_check.specs.{callee_shape, CheckedExpr, IsWellTyped, number_kind
 use Rattle.expr_check.proofs.Calls.{callee_shape-callee}
 use Rattle.expr_check.proofs.Distinct.{each_from_distinct}
 use Rattle.expr_check.proofs.Typed.{columns_known, kind_by-renamed, kind_by-same}
-use Rattle.graph_numbers.specs.{cell_sources, depends_on, filter_sites, FilterAt, filters, graph_kinds, graph_sites, graph_variations, GraphView, holds_at, IsSiteExpr, named_version, own_filter_site, own_sites, own_source, own_sources, ResultAt, results, site_count, site_depends_at, site_in, SiteAt, sites, Source, source_in, sources, varied_sources, version_at, version_kinds}
+use Rattle.graph_numbers.specs.{cell_sources, filter_sites, FilterAt, filters, graph_kinds, graph_sites, graph_variations, GraphView, IsSiteExpr, named_version, own_filter_site, own_sites, own_source, own_sources, ResultAt, results, site_count, site_depends_at, site_in, SiteAt, sites, Source, source_in, sources, varied_sources, version_at, version_kinds}
 use Rattle.graph_numbers.proofs.Placing.{further, itself, IsPlaced}
 use Rattle.graph_numbers.proofs.Walks.{by_test, next_at, of_joined, each_filter, each_result}
 use Rattle.graph_numbers.proofs.Meeting.{kind_later, visible_kind}
@@ -18,7 +18,7 @@ use Rattle.loop_keys.proofs.EvaluateLaws.{accepted_of}
 use Rattle.block_passes.specs.{Chain, HaveKinds, IsTried}
 use Rattle.block_passes.proofs.Demanding.{in_list, not_empty}
 use Rattle.loop_keys.proofs.PassNumbers.{some_same}
-use Rattle.rdf_values.specs.declared.scripts.statement.VaryValues.TheVariants.{Lists, Vector}
+use Rattle.rdf_values.specs.declared.scripts.statement.VaryValues.TheVariants.{Vector}
 use Rattle.graph.specs.{has, members_below, VarSet}
 use Rattle.loop_keys.proofs.KeyLaws.{members_all, keys_next, slot_small}
 use Rattle.block_cache.specs.{AreSiteKinds}
@@ -177,16 +177,9 @@ kind_of_site j t s h e its =
 -- ---- the filters that a loop tries
 
 module _ (j : JobView) (job : IsJob j) (c : Chain) (up : List ℕ) (s : ℕ) (e : c.sites ≡ up ++ s ∷ []) where
-  abbrev IsTruth : ℕ → Type 0
-  IsTruth t = IsFilterSite j.dataset.columns (fn_names j.dataset.fns) (history j.script) t
-
-  -- the last filter of a chain that is tried
-  filter_site : IsTried j c → IsTruth s
-  filter_site h = grind (arith, not_empty, in_list, result_filters, accepted_of, named_filters)
-
-  -- comes to truth values
+  -- the last filter of a chain that is tried comes to truth values
   pub filter_kind : IsTried j c → (x : CheckedExpr) → IsSiteExpr (job_graph j) s x → x.kind ≡ ColType.Bool
-  filter_kind tried x its = kind_of_site j ColType.Bool s (filter_site tried) x its
+  filter_kind tried x its = grind (arith, not_empty, in_list, result_filters, accepted_of, named_filters, kind_of_site)
 
 -- ---- The site of an element is one of vectors.
 
@@ -219,11 +212,7 @@ module _ (header : List Column) (names : FunctionNames) where
 
     from_own : (before after : List Statement) (values : VaryValues) → OfVectors before after → ((e : _) → values ≡ Vector e → IsVectorSite after (site_count header names before))
         → (i n : ℕ) (o : Option ℕ) (v t k tags : ℕ) → own_source values (site_count header names before) i n o (source_in (sources header names u before) v) ≡ Source.Element t k tags → IsVectorSite after t
-    from_own before after (Lists lists) old own i n (Some m) v t k tags h = cc h
-    from_own before after (Vector e) old own i n (Some m) v t k tags h =
-        let is : site_count header names before ≡ t = cc h in
-        subst (IsVectorSite after) is (own e refl)
-    from_own before after values old own i n o v t k tags h = old v t k tags (of_some (sources header names u before) v t k tags h)
+    from_own before after values old own i n o v t k tags h = grind (arith, of_some)
 
     from_varied : (before after : List Statement) (parent : List ℕ) (values : VaryValues) (names_of : List (List ℕ)) (vary : _) → OfVectors before after → ((e : _) → values ≡ Vector e → IsVectorSite after (site_count header names before))
         → (i : ℕ) (columns : List (List ℕ)) (c t k tags : ℕ) → slice_get (varied_sources header names u before (sources header names u before) parent values names_of vary i columns) c ≡ Some (Source.Element t k tags) → IsVectorSite after t
@@ -262,8 +251,6 @@ element_kind j job u c t k tags is e its = grind (arith, of_elements, accepted_o
 
 -- ---- The kinds of keys, site by site.
 
--- ---- a site has one kind
-
 pub one_kind : (g : GraphView) (s : ℕ) (e d : CheckedExpr) → IsSiteExpr g s e → IsSiteExpr g s d → e.kind ≡ d.kind
 one_kind g s e d its other =
     let trees : e.tree ≡ d.tree = some_same e.tree d.tree (sym its.tree ∙ other.tree) in
@@ -289,10 +276,7 @@ module _ (g : GraphView) (site : ℕ) (inside : site < length (graph_sites g)) (
   at = (something_at (graph_sites g) site inside).1
 
   own_count : 1 + count ≡ own_keys (graph_variations g) x
-  own_count =
-      let e : count ≡ count_by (depends_on x) (graph_variations g) = members ∙ members_all (depends_on x) (graph_variations g) depends (λ v. its v ∙ ap (holds_at (λ y. holds_at (depends_on y) (slice_get (graph_variations g) v))) at) above in
-      let own : own_keys (graph_variations g) x ≡ suc (count_by (depends_on x) (graph_variations g)) = refl in
-      omega (arith, e, own)
+  own_count = grind (arith, members_all, at)
 
   pub more_many : length more ≡ keys_before (graph_variations g) (graph_sites g) (site + 1)
   more_many =

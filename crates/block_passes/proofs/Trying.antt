@@ -9,7 +9,7 @@ use Rattle.block_cache.specs.{LaneView}
 use Rattle.loop_keys.specs.{ArePlainVersions, covered_in, covers_of, HasAllDemands, is_covering, IsCovered, IsJob, IsPlainLoop, IsPlainVersion, IsReportPass, job_graph, JobView, numbered_passes, pass_fault, passes_in, site_in, version_in}
 use Rattle.loop_keys.proofs.ActionLaws.{can_act}
 use Rattle.loop_keys.proofs.TableLaws.{row_there}
-use Rattle.block_passes.specs.{AreAtHand, AreKept, CanGather, CanServe, Chain, chosen, DemandsInputs, filter_fault, filters_fault, Found, inputs_fault, IsActionOf, IsLast, IsMade, IsNamed, IsPassTried, IsPlan, IsReadBelow, IsReadOf, IsReadyBelow, IsSelectedTo, IsServedTo, IsTriedTo, Kept, Lowers, NamedSteps, PlanView, through_chain, unfed, where_in, where_passed}
+use Rattle.block_passes.specs.{AreAtHand, AreKept, CanGather, CanServe, Chain, chosen, DemandsInputs, filter_fault, filters_fault, Found, inputs_fault, IsActionOf, IsLast, IsMade, IsNamed, IsPassTried, IsPlan, IsReadBelow, IsReadOf, IsReadyBelow, IsSelectedTo, IsServedTo, IsTriedTo, Kept, Lowers, NamedSteps, PlanView, through_chain, unfed, where_passed}
 use Rattle.block_passes.proofs.Demanding.{action_at, pass_set}
 use Rattle.block_passes.proofs.Searching.{chosen_below, in_chosen, narrowed, action_fault, where_split, last_through, report_fault, step_fault, both_lower, lowers_as, or_else}
 use Rattle.block_passes.proofs.Selecting.{written_selected, kept_lower, remade_then}
@@ -21,8 +21,7 @@ if_passed : (o : Outcome ⊥ Bool) (X : Type 0) → is_true o ≡ true → IfPas
 if_passed o X h x = grind arith
 
 or_else_twice : (a b c : Option EntryFault) → or_else (or_else a b) c ≡ or_else a (or_else b c)
-or_else_twice None b c = refl
-or_else_twice (Some k) b c = refl
+or_else_twice a b c = grind arith
 
 -- what an action of a loop without vectors reads
 pub read_plain : (j : JobView) → IsJob j → (pass : ℕ) (k : ActionKind) (inputs : List ℕ) (u : Option ℕ) → IsReadOf j pass k inputs u → (loop : IsPlainLoop j) → ArePlainVersions j loop.used u inputs
@@ -38,8 +37,7 @@ pub read_inside : (j : JobView) (n : ℕ) (k : ActionKind) (inputs : List ℕ) (
 read_inside j n k inputs u own = slice_get_within (passes_in j) n _ (pass_of j n own.numbered own.action.its_pass own.result own.action.its_result)
 
 last_none : (a b : Option EntryFault) → or_else a b ≡ None → b ≡ None
-last_none None b h = h
-last_none (Some k) b h = cc h
+last_none a b h = grind arith
 
 module _ (j : JobView) (job : IsJob j) (first count pass : ℕ) (plan : PlanView) (p : IsPlan j plan) (within : first + count ≤ length j.dataset.rows) (k : ActionKind) (inputs : List ℕ) (u : Option ℕ) (own : IsReadOf j pass k inputs u) where
   open own use {numbered as m, result as r}
@@ -129,13 +127,8 @@ module _ (j : JobView) (job : IsJob j) (first count pass : ℕ) (plan : PlanView
         is_second : to2.places ≡ chosen j first is_last.chain f2.limit
         is_second = s.left ∙ ap (filter (λ q. nat_lt q f2.limit)) made.is ∙ narrowed passes_at f2.limit f1.limit s.lowers.falls
 
-        is_third : to3.places ≡ chosen j first is_last.chain f3.limit
-        is_third = t.left ∙ ap (filter (λ q. nat_lt q f3.limit)) is_second ∙ narrowed passes_at f3.limit f2.limit t.lowers.falls
-
         read_part : Lowers (λ q. where_passed (through_chain j (first + q) is_last.chain) (inputs_fault j first u inputs q)) first pass f1 f2
-        read_part =
-            lowers_as (where_in (inputs_fault j first u inputs) to.places) (λ q. where_passed (through_chain j (first + q) is_last.chain) (inputs_fault j first u inputs q)) first pass f1 f2
-            (λ q lt. ap (λ b. if b then inputs_fault j first u inputs q else None) (ap (is_in q) made.is ∙ in_chosen passes_at q f1.limit lt)) s.lowers
+        read_part = grind (arith, lowers_as, made, in_chosen)
 
         fed_part : Lowers (λ q. where_passed (through_chain j (first + q) is_last.chain) (unfed j first k inputs u q)) first pass f2 f3
         fed_part = grind (arith, lowers_as, is_second, in_chosen)
@@ -153,7 +146,11 @@ module _ (j : JobView) (job : IsJob j) (first count pass : ℕ) (plan : PlanView
         lower = let a = s.lowers.falls in let b = t.lowers.falls in omega (arith, a, b)
 
         third_made : IsMade j first is_last.chain f3.limit f3.limit to3.places
-        third_made = record { under = omega arith; is = is_third; clear = λ q lt. (let a = lower in made.clear q (omega (arith, lt, a))) }
+        third_made = record {
+          under = omega arith;
+          is = t.left ∙ ap (filter (λ q. nat_lt q f3.limit)) is_second ∙ narrowed passes_at f3.limit f2.limit t.lowers.falls;
+          clear = λ q lt. (let a = lower in made.clear q (omega (arith, lt, a)));
+        }
 
         base : IsReadyBelow j first count p.chains f3.limit lanes2 kept
         base = record { ready = t.ready; settled = t.settled; kept_are = kept_lower j first p.chains f1.limit f3.limit kept lower h.ready.kept_are; within = (let a = lower in let b = h.ready.within in omega (arith, a, b)) }
@@ -169,8 +166,7 @@ module _ (j : JobView) (job : IsJob j) (first count pass : ℕ) (plan : PlanView
 -- ---- Named filters, tried one after another.
 
 or_else_same : (a b : Option EntryFault) → or_else a (or_else a b) ≡ or_else a b
-or_else_same None b = refl
-or_else_same (Some k) b = refl
+or_else_same a b = grind arith
 
 -- ---- covered filters
 

@@ -19,6 +19,7 @@ fn column_kind(columns: &Columns, col: u32) -> ColType
 }
 
 // How many elements a cell has.
+#[tactic(auto, using(crate::proofs::FirstLengths::vect_cell, crate::proofs::FirstLengths::plain_cell))]
 fn cell_elements(columns: &Columns, entry: u32, col: u32) -> u64
     requires entry { entry < length columns.now.table.rows }
     requires column { col < length columns.now.table.columns }
@@ -72,6 +73,7 @@ fn last_end(entries: Span, size: u32) -> u32
 }
 
 /// The end of the block that begins with the first of some entries, of so many at most, in a loop with so many keys of vectors.
+#[tactic(auto, using(crate::proofs::FirstLengths::begin_at, crate::proofs::FirstLengths::next_at))]
 pub(crate) fn block_end(columns: &Columns, entries: Span, size: u32, keys: u64) -> u32
     requires size { 1 ≤ size }
     requires keys { keys < 1099511627776 }

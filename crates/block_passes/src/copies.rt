@@ -130,6 +130,7 @@ fn copy_vectors(
 }
 
 /// The element of a site's vector at a place where it is at hand.
+#[tactic(auto, using(crate::proofs::Serving::no_number))]
 fn given_at(at: &Turn<'_>, lanes: &[Lane], of: &SiteElement, place: u32) -> i64
     requires over { IsOver at.now lanes.now }
     requires site { of.now.site < length (graph_sites (job_graph (turn_job at.now))) }
@@ -183,6 +184,7 @@ fn site_kind(at: &Turn<'_>, site: u32) -> ColType
 }
 
 /// Copies a version at the selected places, where it is at hand, unless it is read in place.
+#[tactic(auto, using(crate::proofs::Serving::no_vector))]
 fn copy_version(
     at: &Turn<'_>,
     lanes: &[Lane],

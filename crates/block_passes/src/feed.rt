@@ -23,6 +23,7 @@ use graph_numbers::Pass;
 use rdf_values::Memory;
 
 /// The places of a selection, as an action takes them.
+#[tactic(auto, using(crate::proofs::Feeding::dense_places))]
 pub(crate) fn batch_places(selection: &Selection) -> Places<'_>
     ensures { places_of result ≡ selection.now }
 {
@@ -83,9 +84,9 @@ fn first_unfed(
         places: batch_places(selection),
         sources: Sources::Entry,
     };
-    if !lanes_in_place(at, lanes, own, &mut batch.sources) {
+    let Some(()) = lanes_in_place(at, lanes, own, &mut batch.sources) else {
         return first_unfed_copy(at, lanes, selection, own);
-    }
+    };
     Ok(placed(batch.first_fault()))
 }
 
@@ -196,13 +197,14 @@ pub(crate) fn feed_action(
         places: batch_places(selection),
         sources: Sources::Entry,
     };
-    if !lanes_in_place(at, lanes, own, &mut batch.sources) {
+    let Some(()) = lanes_in_place(at, lanes, own, &mut batch.sources) else {
         return feed_copies(at, lanes, selection, tally, own, to);
-    }
+    };
     tally.feed_batch(to.place, to.cluster, &batch)
 }
 
 /// Feeds a pass, before which there are so many of actions, and says how many there are behind it.
+#[tactic(auto, using(loop_keys::proofs::EntryLaws::report_next, loop_keys::proofs::EntryLaws::actions_few))]
 fn feed_pass(
     at: &Turn<'_>,
     lanes: &[Lane],

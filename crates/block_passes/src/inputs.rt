@@ -129,6 +129,7 @@ fn is_held(at: &Turn<'_>, lanes: &[Lane], key: usize, selection: &Selection) -> 
 }
 
 /// Whether a version is seen to be at hand at each selected place, and to fault at none.
+#[tactic(auto, using(crate::proofs::Serving::place_laws, crate::proofs::Serving::key_inside, crate::proofs::Serving::hand_held, crate::proofs::Serving::hand_clear))]
 fn is_at_hand(
     at: &Turn<'_>,
     lanes: &[Lane],
@@ -275,6 +276,7 @@ fn serve_version<L: Ledger>(
 
 /// Fills what gives these versions their values, one after another: nearly always they are at hand.
 #[inline(always)]
+#[tactic(auto, using(crate::proofs::Serving::begin_served))]
 pub(crate) fn serve_inputs<L: Ledger>(
     at: &Turn<'_>,
     work: &mut Work,

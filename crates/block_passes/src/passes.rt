@@ -95,6 +95,7 @@ pub(crate) fn try_filters<L: Ledger>(
 }
 
 /// What the action of a pass reads; a report has none.
+#[tactic(auto, using(loop_keys::proofs::EntryLaws::found_report))]
 pub(crate) fn action_read<'a>(job: &Job<'a>, own: Pass, _pass: u32) -> Option<ActionRead<'a>>
     requires job { Fits job.now }
     requires own { numbered_in (job_of job.now) _pass ≡ Some own }
@@ -112,6 +113,7 @@ pub(crate) fn action_read<'a>(job: &Job<'a>, own: Pass, _pass: u32) -> Option<Ac
 }
 
 /// Tries a pass at the places below the limit.
+#[tactic(auto, using(std::proofs::lemmas::Result::on_ok_weaker, crate::proofs::Trying::no_action))]
 pub(crate) fn try_pass<L: Ledger>(
     at: &Turn<'_>,
     work: &mut Work,

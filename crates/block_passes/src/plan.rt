@@ -37,6 +37,7 @@ fn find(steps: &[Step], parent: u32, wanted: Step) -> Option<u32>
 }
 
 /// The step with one more filter after that of the parent; it is added unless it is there.
+#[tactic(auto, using(crate::proofs::PlanSteps::step_found, crate::proofs::PlanSteps::added))]
 pub(crate) fn next_step(
     steps: &mut ListOf<Step>,
     parent: u32,
@@ -64,6 +65,7 @@ pub(crate) fn next_step(
 }
 
 /// The last of the steps with the filters of these sites, head first, which are added unless they are there.
+#[tactic(auto, using(crate::proofs::PlanSteps::path_begins, crate::proofs::PlanSteps::led_there, std::proofs::lemmas::List::take_all))]
 pub(crate) fn path_steps(
     steps: &mut ListOf<Step>,
     path: &[u32],
@@ -123,6 +125,7 @@ fn is_among(number: u32, numbers: &[u32]) -> bool
 }
 
 // Whether a report of the loop covers the filter of that number.
+#[tactic(auto, using(loop_keys::proofs::PlainLaws::cover_next, loop_keys::proofs::PlainLaws::covering_is))]
 fn is_covered(job: &Job<'_>, filter: u32) -> bool
     requires job { Fits job.now }
     requires filter { filter < length (graph_filters (job_graph (job_of job.now))) }
@@ -138,6 +141,7 @@ fn is_covered(job: &Job<'_>, filter: u32) -> bool
 }
 
 // The last step of a pass: that of its action's filters, and of a report none.
+#[tactic(auto, using(crate::proofs::PlanSteps::report_led))]
 fn pass_step(job: &Job<'_>, _pass: u32, own: Pass, steps: &mut ListOf<Step>) -> Result<u32, Memory>
     requires job { Fits job.now }
     requires own { numbered_in (job_of job.now) _pass ≡ Some own }
@@ -151,6 +155,7 @@ fn pass_step(job: &Job<'_>, _pass: u32, own: Pass, steps: &mut ListOf<Step>) -> 
 }
 
 // The last step of each pass.
+#[tactic(auto, using(crate::proofs::PlanSteps::planned_none, loop_keys::proofs::EntryLaws::read_pass))]
 fn pass_steps(alloc: Global, job: &Job<'_>, steps: &mut ListOf<Step>) -> Result<ListOf<u32>, Memory>
     requires job { Fits job.now }
     requires steps { (chains : List Chain) × AreSteps chains steps.old }
@@ -166,6 +171,7 @@ fn pass_steps(alloc: Global, job: &Job<'_>, steps: &mut ListOf<Step>) -> Result<
 }
 
 // The steps of a named filter that a report covers.
+#[tactic(auto, using(crate::proofs::PlanSteps::led_there))]
 fn named_steps(job: &Job<'_>, filter: u32, steps: &mut ListOf<Step>) -> Result<NamedSteps, Memory>
     requires job { Fits job.now }
     requires filter { filter < length (graph_filters (job_graph (job_of job.now))) }
@@ -182,6 +188,7 @@ fn named_steps(job: &Job<'_>, filter: u32, steps: &mut ListOf<Step>) -> Result<N
 }
 
 // The steps of a named filter, where a report covers it.
+#[tactic(auto, using(crate::proofs::PlanSteps::uncovered_step))]
 fn filter_step(
     job: &Job<'_>,
     filter: u32,
@@ -193,13 +200,13 @@ fn filter_step(
     ensures { (chains : List Chain) → AreSteps chains steps.old → IfOk result (IsPlanned (job_of job.now) (λ cs. IsFilterPlanned (job_of job.now) cs filter) chains steps.new) }
 {
     if is_covered(job, filter) {
-        let named = named_steps(job, filter, steps)?;
-        return Ok(Some(named));
+        return Ok(Some(named_steps(job, filter, steps)?));
     }
     Ok(None)
 }
 
 // The steps of each named filter.
+#[tactic(auto, using(crate::proofs::PlanSteps::planned_none, crate::proofs::PlanSteps::filter_in))]
 fn filter_steps(
     alloc: Global,
     job: &Job<'_>,

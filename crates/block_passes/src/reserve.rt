@@ -36,10 +36,7 @@ pub(crate) fn deepest(graph: &Graph) -> Result<usize, Memory>
 {
     let mut deepest = 0;
     for site in 0..graph.sites() {
-        match levels_from(graph.site(site), deepest) {
-            Some(levels) => deepest = levels,
-            None => return Err(Memory),
-        }
+        deepest = levels_from(graph.site(site), deepest).ok_or(Memory)?;
     }
     Ok(deepest)
 }
@@ -55,6 +52,7 @@ fn push_kind(kinds: &mut ListOf<ColType>, kind: ColType, count: usize) -> Result
 }
 
 /// The kind of each key: that of its site.
+#[tactic(auto, using(loop_keys::proofs::KeyLaws::no_keys, crate::proofs::SiteKinds::no_kinds))]
 pub(crate) fn key_kinds(alloc: Global, graph: &Graph) -> Result<ListOf<ColType>, Memory>
     ensures many { IfOk result (λ kinds. length kinds ≡ key_count graph.now) }
     ensures kinds { IfOk result (HaveKinds graph.now (length (graph_sites graph.now))) }

@@ -18,6 +18,7 @@ use rdf_values::Memory;
 use std::sync::ledger::Ledger;
 
 /// Selects those of the places of a selection that pass a filter, below the first that faults in it.
+#[tactic(auto, using(crate::proofs::Selecting::selected))]
 pub(crate) fn filter_places<L: Ledger>(
     at: &Turn<'_>,
     work: &mut Work,
@@ -142,6 +143,7 @@ pub(crate) fn select_step<L: Ledger>(
 }
 
 /// Selects the places of a step below the limit likewise: nearly always they are selected, as those of a pass before.
+#[tactic(auto, using(crate::proofs::Selecting::kept_inside))]
 pub(crate) fn select_again<L: Ledger>(
     at: &Turn<'_>,
     work: &mut Work,

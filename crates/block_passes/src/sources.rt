@@ -20,6 +20,7 @@ use loop_keys::rows::{Place, row_at};
 use rdf_values::{ActionKind, ColType};
 
 /// The lane of a key, unless it has vectors.
+#[tactic(auto, using(crate::proofs::Serving::key_laws))]
 fn key_lane(lanes: &[Lane], key: usize) -> Option<FedLane<'_>>
     requires { key < length lanes.now }
     ensures given { (l : LaneView) → slice_get lanes.now key ≡ Some l → IfSome result (HasHeld l) }
@@ -62,6 +63,7 @@ fn version_lane<'a: 's, 's>(
 }
 
 /// The lane of a column of the table.
+#[tactic(auto, using(loop_keys::proofs::TableLaws::not_stored, crate::proofs::Serving::column_laws))]
 pub(crate) fn cell_lane<'a>(at: &Turn<'a>, col: u32, _under: Option<u32>) -> FedLane<'a>
     requires there { col < length at.now.job.now.columns.now.table.columns }
     requires numbers { kind_at at.now.job.now.columns.now.table.columns col ≡ Some kind.Int → HasColumn (turn_job at.now) at.now.first at.now.count at.now.cells.now col }
@@ -81,6 +83,7 @@ pub(crate) fn cell_lane<'a>(at: &Turn<'a>, col: u32, _under: Option<u32>) -> Fed
 }
 
 /// The lane of a version, unless it is a site's vectors or an element of these.
+#[tactic(auto, using(crate::proofs::Serving::place_laws, crate::proofs::Serving::key_inside, crate::proofs::Serving::no_vectors))]
 pub(crate) fn lane_in_place<'a: 's, 's>(
     at: &Turn<'a>,
     lanes: &'s [Lane],
@@ -158,24 +161,22 @@ pub(crate) fn gather<'a: 's, 's>(
     }
 }
 
-/// Takes the lane of the only version that an action reads, and says whether it could: not where it has to be copied.
+/// Takes the lane of the only version that an action reads; none where it has to be copied.
 #[inline(never)]
 fn one_in_place<'a: 's, 's>(
     at: &Turn<'a>,
     lanes: &'s [Lane],
     own: &ActionRead<'_>,
     to: &mut Sources<'s>,
-) -> bool
+) -> Option<()>
     requires over { IsOver at.now lanes.now }
     requires can { CanGatherInTurn at.now own.now lanes.now }
     requires one { length own.now.inputs.now ≡ 1 }
-    ensures { result ≡ true → AreInPlaceInTurn at.now own.now lanes.now to.new }
+    ensures { IfSome result (λ _. AreInPlaceInTurn at.now own.now lanes.now to.new) }
 {
-    let Some(x) = lane_in_place(at, lanes, own.inputs[0], own.under) else {
-        return false;
-    };
+    let x = lane_in_place(at, lanes, own.inputs[0], own.under)?;
     *to = Sources::One { x };
-    true
+    Some(())
 }
 
 /// Takes the lanes of the coordinates of a histogram and of its weight, if it has one, likewise.
@@ -185,61 +186,55 @@ fn several_in_place<'a: 's, 's>(
     lanes: &'s [Lane],
     own: &ActionRead<'_>,
     to: &mut Sources<'s>,
-) -> bool
+) -> Option<()>
     requires over { IsOver at.now lanes.now }
     requires can { CanGatherInTurn at.now own.now lanes.now }
     requires several { 1 < length own.now.inputs.now }
-    ensures { result ≡ true → AreInPlaceInTurn at.now own.now lanes.now to.new }
+    ensures { IfSome result (λ _. AreInPlaceInTurn at.now own.now lanes.now to.new) }
 {
-    let Some(x) = lane_in_place(at, lanes, own.inputs[0], own.under) else {
-        return false;
-    };
-    let Some(y) = lane_in_place(at, lanes, own.inputs[1], own.under) else {
-        return false;
-    };
+    let x = lane_in_place(at, lanes, own.inputs[0], own.under)?;
+    let y = lane_in_place(at, lanes, own.inputs[1], own.under)?;
     match own.kind {
         ActionKind::Histo1D {
             weight: Some(_),
             ..
         } => {
             *to = Sources::Weighted { x, w: y };
-            true
+            Some(())
         }
         ActionKind::Histo2D { weight: None, .. } => {
             *to = Sources::Pair { x, y };
-            true
+            Some(())
         }
         ActionKind::Histo2D {
             weight: Some(_),
             ..
         } => {
-            let Some(w) = lane_in_place(at, lanes, own.inputs[2], own.under) else {
-                return false;
-            };
+            let w = lane_in_place(at, lanes, own.inputs[2], own.under)?;
             *to = Sources::WeightedPair { x, y, w };
-            true
+            Some(())
         }
-        _ => false,
+        _ => None,
     }
 }
 
-/// Takes the lanes of all versions that an action reads, at places at which they are at hand, and says whether it could: not where one
-/// of them has to be copied. They are put where they are fed from, since to move them costs as much as to feed an entry.
+/// Takes the lanes of all versions that an action reads, at places at which they are at hand; none where one of them has to be copied.
+/// They are put where they are fed from, since to move them costs as much as to feed an entry.
 #[inline(always)]
 pub(crate) fn lanes_in_place<'a: 's, 's>(
     at: &Turn<'a>,
     lanes: &'s [Lane],
     own: &ActionRead<'_>,
     to: &mut Sources<'s>,
-) -> bool
+) -> Option<()>
     requires over { IsOver at.now lanes.now }
     requires can { CanGatherInTurn at.now own.now lanes.now }
-    ensures { result ≡ true → AreInPlaceInTurn at.now own.now lanes.now to.new }
+    ensures { IfSome result (λ _. AreInPlaceInTurn at.now own.now lanes.now to.new) }
 {
     match own.kind {
         ActionKind::Count => {
             *to = Sources::Entry;
-            true
+            Some(())
         }
         ActionKind::Sum(_)
         | ActionKind::Min(_)

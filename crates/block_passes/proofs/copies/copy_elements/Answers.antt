@@ -6,12 +6,6 @@ use Rattle.block_passes.specs.{GivesNumber, turn_job}
 use Rattle.block_passes.proofs.Searching.{each_at, numbers_more}
 use Rattle.block_passes.proofs.copies.copy_elements.Goals as goal
 
-pub write_number-requires : goal.write_number-requires
-write_number-requires g c =
-    let low = c.requires.inside _ c.place_at-place.ensures.among in
-    let room = c.loop-i.invariant.room in
-    omega (arith, low, room)
-
 pub loop-i-preserved : goal.loop-i-preserved
 loop-i-preserved g c =
     let q = c.place_at-place.result in

@@ -1,9 +1,8 @@
 use Rattle.std.proofs.Common.{◌∙◌, Some, ap, subst, sym}
-use Rattle.rdf_values.specs.{ColType}
 use Rattle.graph_numbers.specs.{Source}
 use Rattle.block_cache.specs.{kinds_of}
-use Rattle.block_passes.specs.{IsPlainSource, IsServable, IsWhole, turn_job}
-use Rattle.block_passes.proofs.Serving.{lane_of_kind, no_vector}
+use Rattle.block_passes.specs.{IsPlainSource, IsServable, turn_job}
+use Rattle.block_passes.proofs.Serving.{lane_of_kind}
 use Rattle.block_passes.proofs.SiteKinds.{element_kind}
 use Rattle.block_passes.proofs.copies.copy_version.Goals as goal
 
@@ -15,33 +14,6 @@ copy_vectors-requires-clause-vectors g c =
     let e = c.source_under.ensures ∙ c.in-Site.is in
     let there = subst (λ (y : Source). IsServable j c.args.at.now.first c.args.under c.args.at.now.count kinds c.args.at.now.cells.now c.requires.can.0 c.requires.can.1 y) e c.requires.can.2.1 in
     lane_of_kind j c.args.at.now.first c.args.at.now.count c.args.under c.in-Site.site there.0 c.args.lanes.now c.requires.over.ready w.0 w.1 there.1.kinds_are ∙ ap Some (sym w.2 ∙ c.in-Vect.is)
-
-pub copy_vectors-requires-clause-site : goal.copy_vectors-requires-clause-site
-copy_vectors-requires-clause-site g c =
-    let e = c.source_under.ensures ∙ c.in-Site.is in
-    (subst (λ (y : Source). IsServable (turn_job c.args.at.now) c.args.at.now.first c.args.under c.args.at.now.count (kinds_of c.args.lanes.now) c.args.at.now.cells.now c.requires.can.0 c.requires.can.1 y) e c.requires.can.2.1).0
-
-pub returns-in-Cell-clause-copied : goal.returns-in-Cell-clause-copied
-returns-in-Cell-clause-copied g c =
-    let e = c.source_under.ensures ∙ c.in-Cell.is in
-    subst (λ (y : Source). IsWhole (turn_job c.args.at.now) c.args.under (kinds_of c.args.lanes.now) y) (sym e) tt
-
-pub returns-in-Int : goal.returns-in-Int
-returns-in-Int g c =
-    let j = turn_job c.args.at.now in
-    let kinds = kinds_of c.args.lanes.now in
-    let w = c.site_kind.ensures.expr in
-    let e = c.source_under.ensures ∙ c.in-Site.is in
-    let there = subst (λ (y : Source). IsServable j c.args.at.now.first c.args.under c.args.at.now.count kinds c.args.at.now.cells.now c.requires.can.0 c.requires.can.1 y) e c.requires.can.2.1 in
-    record {
-      copied = subst (λ (y : Source). IsWhole j c.args.under kinds y) (sym e) (λ q. no_vector c.site_kind.result c.in-Int.is (w.2 ∙ there.1.kinds_are c.in-Site.site c.args.under w.0 ColType.Vect w.1 q));
-      plain = λ used p source. tt;
-    }
-
-pub returns-in_err-copy_vectors-in-Vect-clause-plain : goal.returns-in_err-copy_vectors-in-Vect-clause-plain
-returns-in_err-copy_vectors-in-Vect-clause-plain g c = λ used p source.
-    let e = c.source_under.ensures ∙ c.in-Site.is in
-    absurd (c.site_kind.ensures.plain used p (subst (IsPlainSource (turn_job c.args.at.now) used) e source) c.in-Vect.is)
 
 pub returns-in_err-copy_elements-in-Element-clause-plain : goal.returns-in_err-copy_elements-in-Element-clause-plain
 returns-in_err-copy_elements-in-Element-clause-plain g c = λ used p source.

@@ -18,9 +18,6 @@ feed_passes-requires-clause-begin g c =
       begun_holds j c.args.at.now.first c.args.at.now.count c.args.cluster b.0 b.1 c.args.tally.now b.2,
     )
 
-pub note_filters-requires-clause-countable : goal.note_filters-requires-clause-countable
-note_filters-requires-clause-countable g c = λ p. (c.requires.clear p).countable
-
 pub note_filters-requires-clause-begin : goal.note_filters-requires-clause-begin
 note_filters-requires-clause-begin g c =
     let j = turn_job c.args.at.now in

@@ -1,16 +1,15 @@
 use Rattle.std.proofs.Common.{◌∙◌, length}
-use Rattle.block_passes.specs.{turn_job}
 use Rattle.block_passes.proofs.ClusterBlocks.{searched_clear, spent_few}
 use Rattle.block_passes.proofs.ending.try_begun.Goals as goal
 
 pub returns-in-Err-clause-tried : goal.returns-in-Err-clause-tried
 returns-in-Err-clause-tried g c =
-    let bound = spent_few (turn_job c.args.at.now) c.args.at.now.first c.args.at.now.count c.args.work.now.lanes.items c.try_passes.new.work.lanes.items c.args.steps.now c.try_passes.new.steps c.requires.turn.within c.requires.unknown c.try_passes.ensures.leaves.spends in
+    let bound = spent_few _ c.args.at.now.first c.args.at.now.count c.args.work.now.lanes.items c.try_passes.new.work.lanes.items c.args.steps.now c.try_passes.new.steps c.requires.turn.within c.requires.unknown c.try_passes.ensures.leaves.spends in
     record { answer = tt; holds = λ watched s h. tt; bound = bound }
 
 pub returns-in-Some-clause-tried : goal.returns-in-Some-clause-tried
 returns-in-Some-clause-tried g c =
-    let bound = spent_few (turn_job c.args.at.now) c.args.at.now.first c.args.at.now.count c.args.work.now.lanes.items c.try_passes.new.work.lanes.items c.args.steps.now c.try_passes.new.steps c.requires.turn.within c.requires.unknown c.try_passes.ensures.leaves.spends in
+    let bound = spent_few _ c.args.at.now.first c.args.at.now.count c.args.work.now.lanes.items c.try_passes.new.work.lanes.items c.args.steps.now c.try_passes.new.steps c.requires.turn.within c.requires.unknown c.try_passes.ensures.leaves.spends in
     record { answer = c.in-Ok.ensures.fault ∙ c.in-Some.is; holds = λ watched s h. tt; bound = bound }
 
 pub take_in-requires-clause-serve : goal.take_in-requires-clause-serve
@@ -19,20 +18,14 @@ take_in-requires-clause-serve g c = (length c.args.work.now.scratch.items, lengt
 pub take_in-requires-clause-clear : goal.take_in-requires-clause-clear
 take_in-requires-clause-clear g c = λ p.
     rw c.deref.ensures.value
-    (searched_clear (turn_job c.args.at.now) c.args.at.now.first c.args.at.now.count c.args.at.now.plan.now p c.try_passes.new.work.lanes.items c.try_passes.new.kept c.try_passes.new.work.found (c.in-Ok.ensures.searched p) c.in-Ok.ensures.made c.in_default.is)
+    (searched_clear _ c.args.at.now.first c.args.at.now.count c.args.at.now.plan.now p c.try_passes.new.work.lanes.items c.try_passes.new.kept c.try_passes.new.work.found (c.in-Ok.ensures.searched p) c.in-Ok.ensures.made c.in_default.is)
 
 pub returns-in-Ok-take_in-clause-tried : goal.returns-in-Ok-take_in-clause-tried
 returns-in-Ok-take_in-clause-tried g c =
-    let bound = spent_few (turn_job c.args.at.now) c.args.at.now.first c.args.at.now.count c.args.work.now.lanes.items c.try_passes.new.work.lanes.items c.args.steps.now c.try_passes.new.steps c.requires.turn.within c.requires.unknown c.try_passes.ensures.leaves.spends in
+    let bound = spent_few _ c.args.at.now.first c.args.at.now.count c.args.work.now.lanes.items c.try_passes.new.work.lanes.items c.args.steps.now c.try_passes.new.steps c.requires.turn.within c.requires.unknown c.try_passes.ensures.leaves.spends in
     record { answer = c.in-Ok.ensures.fault ∙ c.in_default.is; holds = c.in-Ok-take_in.ensures.holds; bound = bound }
 
 pub returns-in-Err-take_in-clause-tried : goal.returns-in-Err-take_in-clause-tried
 returns-in-Err-take_in-clause-tried g c =
-    let bound = spent_few (turn_job c.args.at.now) c.args.at.now.first c.args.at.now.count c.args.work.now.lanes.items c.try_passes.new.work.lanes.items c.args.steps.now c.try_passes.new.steps c.requires.turn.within c.requires.unknown c.try_passes.ensures.leaves.spends in
+    let bound = spent_few _ c.args.at.now.first c.args.at.now.count c.args.work.now.lanes.items c.try_passes.new.work.lanes.items c.args.steps.now c.try_passes.new.steps c.requires.turn.within c.requires.unknown c.try_passes.ensures.leaves.spends in
     record { answer = tt; holds = λ watched s h. tt; bound = bound }
-
-pub returns-in-Err-clause-plain : goal.returns-in-Err-clause-plain
-returns-in-Err-clause-plain g c = λ plain none e. c.in-Err.ensures.plain plain
-
-pub returns-in-Err-take_in-clause-plain : goal.returns-in-Err-take_in-clause-plain
-returns-in-Err-take_in-clause-plain g c = λ plain none e. c.in-Err-take_in.ensures.plain plain none

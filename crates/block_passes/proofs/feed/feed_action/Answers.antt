@@ -19,17 +19,17 @@ feed_copies-requires-clause-hand g c = fed_hand (turn_job c.args.at.now) c.requi
 pub feed_copies-requires-clause-feed : goal.feed_copies-requires-clause-feed
 feed_copies-requires-clause-feed g c = let b = c.requires.begin in ((facts_in (turn_job c.args.at.now)), b.0, b.1, feeds_any (turn_job c.args.at.now) c.requires.over.turn.fits.job c.args.at.now.first c.args.at.now.count c.args.at.now.pass c.args.own.now.kind.now c.args.own.now.inputs.now c.args.own.now.under c.requires.own c.args.at.now.plan.now c.requires.over.turn.plan c.last_step-last.result c.last_step-last.ensures c.args.kept.now (c.requires.kept c.requires.over.turn.plan) c.args.lanes.now (c.requires.feedable c.last_step-last.result c.last_step-last.ensures) c.index-kept-last.result b.1 b.2 b.0 c.args.to.place c.args.to.cluster c.args.tally.now c.requires.place b.3 b.4 b.5)
 
-pub returns-then-not-lanes_in_place-clause-holds : goal.returns-then-not-lanes_in_place-clause-holds
-returns-then-not-lanes_in_place-clause-holds g c = λ watched s amid its at holds. c.feed_copies.ensures.holds (facts_in (turn_job c.args.at.now)) watched s (feeds_any (turn_job c.args.at.now) c.requires.over.turn.fits.job c.args.at.now.first c.args.at.now.count c.args.at.now.pass c.args.own.now.kind.now c.args.own.now.inputs.now c.args.own.now.under c.requires.own c.args.at.now.plan.now c.requires.over.turn.plan c.last_step-last.result c.last_step-last.ensures c.args.kept.now (c.requires.kept c.requires.over.turn.plan) c.args.lanes.now (c.requires.feedable c.last_step-last.result c.last_step-last.ensures) c.index-kept-last.result s amid watched c.args.to.place c.args.to.cluster c.args.tally.now c.requires.place its at holds)
+pub returns-in_default-clause-holds : goal.returns-in_default-clause-holds
+returns-in_default-clause-holds g c = λ watched s amid its at holds. c.feed_copies.ensures.holds (facts_in (turn_job c.args.at.now)) watched s (feeds_any (turn_job c.args.at.now) c.requires.over.turn.fits.job c.args.at.now.first c.args.at.now.count c.args.at.now.pass c.args.own.now.kind.now c.args.own.now.inputs.now c.args.own.now.under c.requires.own c.args.at.now.plan.now c.requires.over.turn.plan c.last_step-last.result c.last_step-last.ensures c.args.kept.now (c.requires.kept c.requires.over.turn.plan) c.args.lanes.now (c.requires.feedable c.last_step-last.result c.last_step-last.ensures) c.index-kept-last.result s amid watched c.args.to.place c.args.to.cluster c.args.tally.now c.requires.place its at holds)
 
 pub feed_batch-requires : goal.feed_batch-requires
-feed_batch-requires g c = let b = c.requires.begin in ((facts_in (turn_job c.args.at.now)), b.0, b.1, (feeds_any (turn_job c.args.at.now) c.requires.over.turn.fits.job c.args.at.now.first c.args.at.now.count c.args.at.now.pass c.args.own.now.kind.now c.args.own.now.inputs.now c.args.own.now.under c.requires.own c.args.at.now.plan.now c.requires.over.turn.plan c.last_step-last.result c.last_step-last.ensures c.args.kept.now (c.requires.kept c.requires.over.turn.plan) c.args.lanes.now (c.requires.feedable c.last_step-last.result c.last_step-last.ensures) c.index-kept-last.result b.1 b.2 b.0 c.args.to.place c.args.to.cluster c.args.tally.now c.requires.place b.3 b.4 b.5 (record { places = c.batch_places.result; sources = c.lanes_in_place.new.to }) (record { places = c.batch_places.ensures; gathered = λ p low among. c.lanes_in_place.ensures c.if-not-lanes_in_place.false p low })).0)
+feed_batch-requires g c = let b = c.requires.begin in ((facts_in (turn_job c.args.at.now)), b.0, b.1, (feeds_any (turn_job c.args.at.now) c.requires.over.turn.fits.job c.args.at.now.first c.args.at.now.count c.args.at.now.pass c.args.own.now.kind.now c.args.own.now.inputs.now c.args.own.now.under c.requires.own c.args.at.now.plan.now c.requires.over.turn.plan c.last_step-last.result c.last_step-last.ensures c.args.kept.now (c.requires.kept c.requires.over.turn.plan) c.args.lanes.now (c.requires.feedable c.last_step-last.result c.last_step-last.ensures) c.index-kept-last.result b.1 b.2 b.0 c.args.to.place c.args.to.cluster c.args.tally.now c.requires.place b.3 b.4 b.5 (record { places = c.batch_places.result; sources = c.lanes_in_place.new.to }) (record { places = c.batch_places.ensures; gathered = λ p low among. c.in-Some.ensures p low })).0)
 
 pub returns-clause-holds : goal.returns-clause-holds
-returns-clause-holds g c = λ watched s amid its at holds. c.feed_batch.ensures.holds (facts_in (turn_job c.args.at.now)) watched s (feeds_any (turn_job c.args.at.now) c.requires.over.turn.fits.job c.args.at.now.first c.args.at.now.count c.args.at.now.pass c.args.own.now.kind.now c.args.own.now.inputs.now c.args.own.now.under c.requires.own c.args.at.now.plan.now c.requires.over.turn.plan c.last_step-last.result c.last_step-last.ensures c.args.kept.now (c.requires.kept c.requires.over.turn.plan) c.args.lanes.now (c.requires.feedable c.last_step-last.result c.last_step-last.ensures) c.index-kept-last.result s amid watched c.args.to.place c.args.to.cluster c.args.tally.now c.requires.place its at holds (record { places = c.batch_places.result; sources = c.lanes_in_place.new.to }) (record { places = c.batch_places.ensures; gathered = λ p low among. c.lanes_in_place.ensures c.if-not-lanes_in_place.false p low })).0
+returns-clause-holds g c = λ watched s amid its at holds. c.feed_batch.ensures.holds (facts_in (turn_job c.args.at.now)) watched s (feeds_any (turn_job c.args.at.now) c.requires.over.turn.fits.job c.args.at.now.first c.args.at.now.count c.args.at.now.pass c.args.own.now.kind.now c.args.own.now.inputs.now c.args.own.now.under c.requires.own c.args.at.now.plan.now c.requires.over.turn.plan c.last_step-last.result c.last_step-last.ensures c.args.kept.now (c.requires.kept c.requires.over.turn.plan) c.args.lanes.now (c.requires.feedable c.last_step-last.result c.last_step-last.ensures) c.index-kept-last.result s amid watched c.args.to.place c.args.to.cluster c.args.tally.now c.requires.place its at holds (record { places = c.batch_places.result; sources = c.lanes_in_place.new.to }) (record { places = c.batch_places.ensures; gathered = λ p low among. c.in-Some.ensures p low })).0
 
 pub returns-clause-plain : goal.returns-clause-plain
 returns-clause-plain g c = λ used p sources.
     let b = c.requires.begin in
-    let can = feeds_any (turn_job c.args.at.now) c.requires.over.turn.fits.job c.args.at.now.first c.args.at.now.count c.args.at.now.pass c.args.own.now.kind.now c.args.own.now.inputs.now c.args.own.now.under c.requires.own c.args.at.now.plan.now c.requires.over.turn.plan c.last_step-last.result c.last_step-last.ensures c.args.kept.now (c.requires.kept c.requires.over.turn.plan) c.args.lanes.now (c.requires.feedable c.last_step-last.result c.last_step-last.ensures) c.index-kept-last.result b.1 b.2 b.0 c.args.to.place c.args.to.cluster c.args.tally.now c.requires.place b.3 b.4 b.5 (record { places = c.batch_places.result; sources = c.lanes_in_place.new.to }) (record { places = c.batch_places.ensures; gathered = λ p low among. c.lanes_in_place.ensures c.if-not-lanes_in_place.false p low }) in
+    let can = feeds_any (turn_job c.args.at.now) c.requires.over.turn.fits.job c.args.at.now.first c.args.at.now.count c.args.at.now.pass c.args.own.now.kind.now c.args.own.now.inputs.now c.args.own.now.under c.requires.own c.args.at.now.plan.now c.requires.over.turn.plan c.last_step-last.result c.last_step-last.ensures c.args.kept.now (c.requires.kept c.requires.over.turn.plan) c.args.lanes.now (c.requires.feedable c.last_step-last.result c.last_step-last.ensures) c.index-kept-last.result b.1 b.2 b.0 c.args.to.place c.args.to.cluster c.args.tally.now c.requires.place b.3 b.4 b.5 (record { places = c.batch_places.result; sources = c.lanes_in_place.new.to }) (record { places = c.batch_places.ensures; gathered = λ p low among. c.in-Some.ensures p low }) in
     only_takes c.args.own.now.kind.now can.0.kind can.1 c.feed_batch.result (c.feed_batch.ensures.memory (facts_in (turn_job c.args.at.now)) b.0 b.1 can.0)

@@ -1,9 +1,6 @@
 use Rattle.block_passes.proofs.Feeding.{only_takes}
 use Rattle.block_passes.proofs.feed.feed_copies.Goals as goal
 
-pub copy_inputs-requires-clause-can : goal.copy_inputs-requires-clause-can
-copy_inputs-requires-clause-can g c = (c.requires.can.scratch, c.requires.can.levels, c.requires.can.can)
-
 pub feed_batch-requires : goal.feed_batch-requires
 feed_batch-requires g c = let b = c.requires.feed in (b.0, b.1, b.2, (b.3 (record { places = c.batch_places-places.result; sources = c.gather-sources.result }) (record { places = c.batch_places-places.ensures; gathered = c.gather-sources.ensures })).0)
 

@@ -1,15 +1,11 @@
-use Rattle.std.proofs.Common.{arith, refl}
-use Rattle.loop_keys.specs.{passes_in}
-use Rattle.loop_keys.proofs.EntryLaws.{action_next, actions_few, report_next}
+use Rattle.std.proofs.Common.{arith}
+use Rattle.loop_keys.proofs.EntryLaws.{action_next}
 use Rattle.block_cache.specs.{kinds_of}
 use Rattle.block_passes.specs.{turn_job}
 use Rattle.block_passes.proofs.Feeding.{can_be_fed, one_further, read_action, takes_none}
 use Rattle.block_passes.proofs.Trying.{gathers}
 use Rattle.block_passes.proofs.Serving.{plain_reads}
 use Rattle.block_passes.proofs.feed.feed_pass.Goals as goal
-
-pub returns-in_default-clause-place : goal.returns-in_default-clause-place
-returns-in_default-clause-place g c = report_next (turn_job c.args.at.now) c.args.at.now.pass c.args.own.result c.args.to.place (c.in_default.ensures.report refl) c.requires.place
 
 pub feed_action-requires-clause-can : goal.feed_action-requires-clause-can
 feed_action-requires-clause-can g c =
@@ -20,9 +16,6 @@ feed_action-requires-clause-can g c =
 pub feed_action-requires-clause-feedable : goal.feed_action-requires-clause-feedable
 feed_action-requires-clause-feedable g c = λ last its.
     can_be_fed (turn_job c.args.at.now) c.requires.turn.fits.job c.args.at.now.first c.args.at.now.count c.args.at.now.plan.now c.requires.turn.plan c.args.lanes.now c.args.kept.now (c.requires.clear c.requires.turn.plan) c.args.at.now.pass c.in-Some.read.kind.now c.in-Some.read.inputs.now c.in-Some.read.under c.in-Some.ensures.action last its
-
-pub overflow_add-result : goal.overflow_add-result
-overflow_add-result g c = let f = actions_few c.args.at.now.pass (passes_in (turn_job c.args.at.now)) in let p = c.requires.place in let s = c.requires.few in omega (arith, f, p, s)
 
 pub returns-clause-place : goal.returns-clause-place
 returns-clause-place g c = action_next (turn_job c.args.at.now) c.args.at.now.pass c.args.to.place (read_action (turn_job c.args.at.now) c.args.at.now.pass c.in-Some.read.kind.now c.in-Some.read.inputs.now c.in-Some.read.under c.in-Some.ensures.action) c.requires.place

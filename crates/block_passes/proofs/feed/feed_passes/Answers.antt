@@ -28,9 +28,6 @@ loop-pass-preserved g c =
           holds watched (at_pass s c.loop-pass.place) amid its refl (c.loop-pass.invariant.taken watched s amid its none before);
     }
 
-pub returns-in_err-place-clause-plain : goal.returns-in_err-place-clause-plain
-returns-in_err-place-clause-plain g c = λ loop none. absurd ((rw c.go_to.ensures at c.in_err-place.ensures.plain) loop none)
-
 pub returns-clause-holds : goal.returns-clause-holds
 returns-clause-holds g c =
     let f = c.loop-pass-test.false in

@@ -1,7 +1,7 @@
 use Rattle.std.proofs.Common.{◌≡◌, ◌∙◌, ◌<◌, ℕ, None, Some, ap, arith, length, subst, sym}
+use Rattle.rdf_model.specs.{fault_in}
 use Rattle.block_cache.specs.{fault_at}
 use Rattle.block_passes.specs.{element_fault, turn_job}
-use Rattle.block_passes.proofs.Serving.{fault_is}
 use Rattle.block_passes.proofs.Searching.{first_at, each_at}
 use Rattle.block_cache.proofs.Members.{no_fault_over}
 use Rattle.block_passes.proofs.inputs.first_without.Goals as goal
@@ -18,4 +18,4 @@ returns-in-Err g c =
     let here = c.place_at-place.ensures.value in
     let inside : c.loop-i.i < length c.args.selection.now = omega arith in
     ap (λ (n : ℕ). Some (fault_at n c.in-Err.kind)) here
-    ∙ sym (first_at c.args.selection.now fault c.loop-i.i c.in-Err.kind inside c.loop-i.invariant (subst (λ (n : ℕ). fault n ≡ Some c.in-Err.kind) here (fault_is _ c.in-Err.kind c.in-Err.ensures)))
+    ∙ sym (first_at c.args.selection.now fault c.loop-i.i c.in-Err.kind inside c.loop-i.invariant (subst (λ (n : ℕ). fault n ≡ Some c.in-Err.kind) here (ap fault_in c.in-Err.ensures)))

@@ -1,25 +1,14 @@
 use Rattle.std.proofs.Common.{arith}
-use Rattle.block_passes.specs.{turn_job}
 use Rattle.block_passes.proofs.Serving.{element_held, element_served, served_inside}
 use Rattle.block_passes.proofs.inputs.serve_element.Goals as goal
 
-pub test_elements-requires-clause-known : goal.test_elements-requires-clause-known
-test_elements-requires-clause-known g c =
-    let served = c.in_ok-serve_site.ensures.served in
-    let f = served.lowers.falls in
-    let l = c.requires.known.limit in
-    record { turn = c.requires.known.turn; ready = served.ready; limit = omega (arith, f, l); settled = served.settled }
-
 pub test_elements-requires-clause-selected : goal.test_elements-requires-clause-selected
 test_elements-requires-clause-selected g c =
-    record { made = c.in_ok-serve_site.ensures.served.its_limit; inside = served_inside (turn_job c.args.at.now) c.args.at.now.first c.args.at.now.count _ c.args.at.now.pass _ c.serve_site.new.to c.serve_site.new.work.lanes.items c.args.work.now.found c.serve_site.new.work.found c.in_ok-serve_site.ensures.served }
-
-pub returns-clause-spent : goal.returns-clause-spent
-returns-clause-spent g c = rw c.test_elements.ensures.lanes c.serve_site.ensures.spent
+    record { made = c.in_ok-serve_site.ensures.served.its_limit; inside = served_inside _ c.args.at.now.first c.args.at.now.count _ c.args.at.now.pass _ c.serve_site.new.to c.serve_site.new.work.lanes.items c.args.work.now.found c.serve_site.new.work.found c.in_ok-serve_site.ensures.served }
 
 pub returns-clause-served : goal.returns-clause-served
 returns-clause-served g c =
-    element_served (turn_job c.args.at.now) c.args.at.now.first c.args.at.now.count c.args.of.now.under c.args.of.now.site c.args.of.now.nth c.args.of.now.tags c.args.at.now.pass
+    element_served _ c.args.at.now.first c.args.at.now.count c.args.of.now.under c.args.of.now.site c.args.of.now.nth c.args.of.now.tags c.args.at.now.pass
     c.args.to.now.places c.serve_site.new.to c.test_elements.new.to c.serve_site.new.work.lanes.items c.test_elements.new.work.lanes.items
     c.args.work.now.found c.serve_site.new.work.found c.test_elements.new.work.found c.in_ok-serve_site.ensures.served c.test_elements.ensures.tested
 
@@ -28,7 +17,7 @@ returns-clause-held g c =
     let a = c.in_ok-serve_site.ensures.served.lowers.falls in
     let b = c.test_elements.ensures.tested.lowers.falls in
     let l = c.requires.known.limit in
-    element_held (turn_job c.args.at.now) c.args.at.now.first c.args.at.now.count c.args.of.now.under c.args.of.now.site c.args.of.now.nth c.args.of.now.tags c.args.at.now.pass
+    element_held _ c.args.at.now.first c.args.at.now.count c.args.of.now.under c.args.of.now.site c.args.of.now.nth c.args.of.now.tags c.args.at.now.pass
     c.args.to.now.places c.serve_site.new.to c.test_elements.new.to c.serve_site.new.work.lanes.items c.test_elements.new.work.lanes.items
     c.args.work.now.found c.serve_site.new.work.found c.test_elements.new.work.found c.in_ok-serve_site.ensures.served c.test_elements.ensures.tested
     c.requires.site (omega (arith, a, b, l)) (rw c.test_elements.ensures.lanes c.in_ok-serve_site.ensures.held)

@@ -1,30 +1,19 @@
-use Rattle.std.proofs.Common.{arith, length}
+use Rattle.std.proofs.Common.{length}
 use Rattle.std.proofs.lemmas.List.Elements.{All-from_recursion}
 use Rattle.loop_keys.specs.{IsSourceIn, source_at}
 use Rattle.block_passes.specs.{CanServeInTurn, turn_job}
-use Rattle.block_passes.proofs.Serving.{all_served, begin_served, hand_served, next_demanded, next_served, leaves_then}
+use Rattle.block_passes.proofs.Serving.{all_served, hand_served, next_demanded, next_served, leaves_then}
 use Rattle.block_passes.proofs.inputs.serve_inputs.Goals as goal
-
-pub loop-version-init : goal.loop-version-init
-loop-version-init g c = begin_served c.args.at.now c.args.under c.args.inputs.now c.args.work.now c.args.to.now c.args.steps.now c.requires.known c.requires.selected c.requires.demanded
 
 pub is_at_hand-requires-clause-can : goal.is_at_hand-requires-clause-can
 is_at_hand-requires-clause-can g c =
     let leaves = c.loop-version.invariant.leaves in
     (length c.args.work.now.scratch.items, length c.args.work.now.levels.items, rw (c.deref.ensures.value, leaves.spends.kinds) (All-from_recursion (CanServeInTurn c.args.at.now c.args.under c.args.work.now) c.args.inputs.now c.requires.can c.loop-version.version-index 0 c.loop-version-test.true))
 
-pub is_at_hand-requires-clause-inside : goal.is_at_hand-requires-clause-inside
-is_at_hand-requires-clause-inside g c = λ p i. let low = c.loop-version.invariant.selected.inside p i in let le = c.loop-version.invariant.known.limit in omega (arith, low, le)
-
 pub loop-version-preserved-then-is_at_hand : goal.loop-version-preserved-then-is_at_hand
 loop-version-preserved-then-is_at_hand g c =
     let yes = c.if-is_at_hand.true in
     hand_served c.args.at.now c.args.under c.args.inputs.now c.args.to.now.places c.args.work.now c.args.steps.now c.loop-version.version-index c.loop-version.work c.loop-version.to c.loop-version.steps c.loop-version.invariant c.loop-version-test.true (c.is_at_hand.ensures.clear yes) (rw c.deref.ensures.value at (c.is_at_hand.ensures.held yes))
-
-pub serve_version-requires-clause-can : goal.serve_version-requires-clause-can
-serve_version-requires-clause-can g c =
-    let leaves = c.loop-version.invariant.leaves in
-    rw (leaves.spends.kinds, leaves.scratch, leaves.levels) (All-from_recursion (CanServeInTurn c.args.at.now c.args.under c.args.work.now) c.args.inputs.now c.requires.can c.loop-version.version-index 0 c.loop-version-test.true)
 
 pub serve_version-requires-clause-demanded : goal.serve_version-requires-clause-demanded
 serve_version-requires-clause-demanded g c = next_demanded c.args.at.now c.args.under c.args.inputs.now c.args.to.now.places c.args.work.now c.args.steps.now c.loop-version.version-index c.loop-version.work c.loop-version.to c.loop-version.steps c.loop-version.invariant c.loop-version-test.true

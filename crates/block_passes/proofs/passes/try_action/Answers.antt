@@ -49,9 +49,6 @@ pub test_feeding-requires-clause-selected : goal.test_feeding-requires-clause-se
 test_feeding-requires-clause-selected g c =
     record { made = c.in_ok-serve_inputs.ensures.served.its_limit; inside = served_inside (turn_job c.args.at.now) c.args.at.now.first c.args.at.now.count _ c.args.at.now.pass _ c.serve_inputs.new.to c.serve_inputs.new.work.lanes.items c.select_again.new.work.found c.serve_inputs.new.work.found c.in_ok-serve_inputs.ensures.served }
 
-pub returns-in_err-select_again-clause-plain : goal.returns-in_err-select_again-clause-plain
-returns-in_err-select_again-clause-plain g c = λ loop. absurd (c.in_err-select_again.ensures.plain loop)
-
 pub returns-in_err-serve_inputs-clause-plain : goal.returns-in_err-serve_inputs-clause-plain
 returns-in_err-serve_inputs-clause-plain g c = λ loop.
     absurd (c.in_err-serve_inputs.ensures.plain loop.used loop.sites

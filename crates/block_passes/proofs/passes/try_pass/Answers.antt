@@ -1,21 +1,10 @@
-use Rattle.std.proofs.Common.{◌≡◌, ◌∙◌, List, Some, ap, option_map, slice_get, subst, sym, ℕ}
+use Rattle.std.proofs.Common.{◌∙◌, List, ap, option_map, slice_get, subst, sym, ℕ}
 use Rattle.lemmas.proofs.{AllByRecursion, on_ok_weaker}
 use Rattle.graph_numbers.specs.{graph_results, GraphView, ResultAt}
 use Rattle.loop_keys.proofs.EntryLaws.{own_covers}
-use Rattle.block_passes.specs.{filters_fault, IsMadeAt, IsNamedMade, IsTriedTo, turn_job}
+use Rattle.block_passes.specs.{filters_fault, IsNamedMade, IsTriedTo, turn_job}
 use Rattle.block_passes.proofs.Trying.{no_action, report_tried, same_report}
 use Rattle.block_passes.proofs.passes.try_pass.Goals as goal
-
-pub returns-in-Some-clause-made : goal.returns-in-Some-clause-made
-returns-in-Some-clause-made g c =
-    let j = turn_job c.args.at.now in
-    on_ok_weaker c.try_action.result
-    (λ (h : (last : ℕ) → slice_get c.args.at.now.plan.now.passes c.args.at.now.pass ≡ Some last → IsMadeAt c.args.at.now.count c.try_action.new.kept last).
-    record {
-      action = λ k inputs u own last its. h last its;
-      report = λ own rep. absurd (let a = c.in-Some.ensures.action in no_action j c.args.at.now.pass own rep a.numbered a.result _ a.action);
-    })
-    c.try_action.ensures.made
 
 pub returns-in-None : goal.returns-in-None
 returns-in-None g c =

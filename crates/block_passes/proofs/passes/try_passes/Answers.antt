@@ -23,9 +23,6 @@ returns-in_err-try_pass-clause-leaves g c =
     let leaves : Leaves c.args.at.now c.loop-pass.work c.try_pass.new.work c.loop-pass.steps c.try_pass.new.steps = record { spends = left.spends; scratch = left.scratch; levels = left.levels } in
     leaves_then _ _ _ _ _ _ _ c.loop-pass.invariant.leaves leaves
 
-pub returns-in_err-try_pass-clause-plain : goal.returns-in_err-try_pass-clause-plain
-returns-in_err-try_pass-clause-plain g c = λ loop. absurd ((rw c.go_to.ensures at c.in_err-try_pass.ensures.plain) loop)
-
 pub loop-pass-preserved : goal.loop-pass-preserved
 loop-pass-preserved g c =
     let left = rw c.go_to.ensures at c.try_pass.ensures.leaves in

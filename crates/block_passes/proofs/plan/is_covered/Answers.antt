@@ -1,19 +1,11 @@
-use Rattle.std.proofs.Common.{None, false, refl, true, ◌∙◌, get_or}
+use Rattle.std.proofs.Common.{None, false, true, ◌∙◌, get_or}
 use Rattle.loop_keys.specs.{job_of}
-use Rattle.loop_keys.proofs.PlainLaws.{cover_found, cover_next, cover_none, covering_is, result_below}
+use Rattle.loop_keys.proofs.PlainLaws.{cover_found, cover_none, covering_is, result_below}
 use Rattle.block_passes.proofs.PlanSteps.{covered_is}
 use Rattle.block_passes.proofs.plan.is_covered.Goals as goal
 
-pub loop-pass-init : goal.loop-pass-init
-loop-pass-init g c = refl
-
 pub covered-requires : goal.covered-requires
 covered-requires g c = result_below (job_of c.args.job.now) c.loop_passes-passes.result.now c.loop_passes-passes.ensures.passes c.args.filter c.args.job.now.graph.now c.requires.job.graph c.loop-pass.pass-index (record { result = 0; variation = None }) c.loop-pass-test.true
-
-pub loop-pass-preserved : goal.loop-pass-preserved
-loop-pass-preserved g c =
-    cover_next (job_of c.args.job.now) c.loop_passes-passes.result.now c.loop_passes-passes.ensures.passes c.args.filter c.loop-pass.pass-index (record { result = 0; variation = None }) c.loop-pass-test.true c.loop-pass.invariant
-    (covering_is (job_of c.args.job.now) c.args.job.now.graph.now c.requires.job.graph c.args.filter (get_or c.loop_passes-passes.result.now c.loop-pass.pass-index (record { result = 0; variation = None })) c.covered.result.now c.covered.ensures c.is_among.result c.is_among.ensures ∙ c.if-is_among.false)
 
 pub returns-then-is_among : goal.returns-then-is_among
 returns-then-is_among g c =

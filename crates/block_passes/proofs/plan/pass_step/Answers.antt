@@ -3,7 +3,7 @@ use Rattle.graph_numbers.specs.{graph_results, GraphView}
 use Rattle.loop_keys.specs.{job_of}
 use Rattle.loop_keys.proofs.PassNumbers.{result_inside}
 use Rattle.block_passes.specs.{Chain, IsLed, IsPassLast, IsPlanned}
-use Rattle.block_passes.proofs.PlanSteps.{pass_led, report_led}
+use Rattle.block_passes.proofs.PlanSteps.{pass_led}
 use Rattle.std.proofs.lemmas.Result.{IfOk-weaker}
 use Rattle.block_passes.proofs.plan.pass_step.Goals as goal
 
@@ -18,7 +18,3 @@ returns-in-Action g c = λ chains are.
     IfOk-weaker c.path_steps.result (IsLed chains c.path.result.now c.args.own.variation c.path_steps.new.steps) (IsPlanned (job_of c.args.job.now) (λ (cs : List Chain). IsPassLast (job_of c.args.job.now) cs c.args._pass) chains c.path_steps.new.steps)
     (λ k led. pass_led (job_of c.args.job.now) c.args._pass c.args.own c.requires.own c.args.job.now.graph.now c.requires.job.graph c.kind.result.now c.kind.ensures c.in-Action.field-0 c.in-Action.is c.path.result.now c.path.ensures chains c.path_steps.new.steps k led)
     (c.path_steps.ensures chains are)
-
-pub returns-in-Report : goal.returns-in-Report
-returns-in-Report g c = λ chains are.
-    report_led (job_of c.args.job.now) c.args._pass c.args.own c.requires.own c.args.job.now.graph.now c.requires.job.graph c.kind.result.now c.kind.ensures c.in-Report.is chains c.args.steps.now are

@@ -1,15 +1,8 @@
 use Rattle.std.proofs.Common.{ℕ, List, get_or, subst, sym, take}
-use Rattle.std.proofs.lemmas.List.{take_all}
 use Rattle.lemmas.proofs.{slice_get-get_or, take_next}
 use Rattle.block_passes.specs.{IsLed}
-use Rattle.block_passes.proofs.PlanSteps.{led_there, path_begins, path_goes_on}
+use Rattle.block_passes.proofs.PlanSteps.{path_goes_on}
 use Rattle.block_passes.proofs.plan.path_steps.Goals as goal
-
-pub loop-site-init : goal.loop-site-init
-loop-site-init c = λ chains are. path_begins chains c.args.under c.args.steps.now are
-
-pub next_step-requires : goal.next_step-requires
-next_step-requires c = let w = c.requires in led_there w.0 _ _ c.loop-site.steps c.loop-site.last (c.loop-site.invariant w.0 w.1)
 
 pub loop-site-preserved : goal.loop-site-preserved
 loop-site-preserved c = λ chains are.
@@ -17,7 +10,3 @@ loop-site-preserved c = λ chains are.
     let site = get_or c.args.path.now c.loop-site.site-index 0 in
     subst (λ (l : List ℕ). IsLed chains l c.args.under c.next_step.new.steps c.in_ok-last.last) (sym (take_next c.args.path.now c.loop-site.site-index site (slice_get-get_or c.args.path.now c.loop-site.site-index 0 c.loop-site-test.true)))
     (path_goes_on chains (take c.loop-site.site-index c.args.path.now) c.args.under c.loop-site.steps c.next_step.new.steps c.loop-site.last c.in_ok-last.last site at (c.in_ok-last.ensures _ at.last at.are at.its at.alike))
-
-pub returns : goal.returns
-returns c = λ chains are.
-    subst (λ (l : List ℕ). IsLed chains l c.args.under c.loop-site.steps c.loop-site.last) (take_all c.loop-site.site-index c.args.path.now c.loop-site-test.false) (c.loop-site.invariant chains are)

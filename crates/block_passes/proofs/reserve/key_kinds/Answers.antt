@@ -1,12 +1,8 @@
 use Rattle.std.proofs.Common.{◌≡◌, ◌<◌, ◌+◌, ◌++◌, ◌∙◌, ap, arith, length, length-append, replicate}
 use Rattle.std.proofs.lemmas.List.{length-replicate}
 use Rattle.graph_numbers.specs.{graph_sites}
-use Rattle.loop_keys.proofs.KeyLaws.{no_keys}
-use Rattle.block_passes.proofs.SiteKinds.{more_kinds, more_many, no_kinds}
+use Rattle.block_passes.proofs.SiteKinds.{more_kinds, more_many}
 use Rattle.block_passes.proofs.reserve.key_kinds.Goals as goal
-
-pub loop-site-init : goal.loop-site-init
-loop-site-init c = record { many = ap length c.new-kinds.ensures ∙ no_keys c.args.graph.now; kinds = no_kinds c.args.graph.now c.new-kinds.result; few = (let e = ap length c.new-kinds.ensures in omega (arith, e)) }
 
 pub loop-site-preserved : goal.loop-site-preserved
 loop-site-preserved c =

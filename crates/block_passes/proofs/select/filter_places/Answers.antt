@@ -4,17 +4,13 @@ use Rattle.expr_lanes.specs.{is_in}
 use Rattle.block_cache.specs.{LaneView, site_fault}
 use Rattle.block_passes.specs.{IsFilteredTo, IsSettledAt, turn_job}
 use Rattle.block_passes.proofs.Searching.{fault_few}
-use Rattle.block_passes.proofs.Selecting.{filtered_to, selected}
+use Rattle.block_passes.proofs.Selecting.{filtered_to}
 use Rattle.block_passes.proofs.select.filter_places.Goals as goal
 
 pub note-requires : goal.note-requires
 note-requires g c =
     fault_few (site_fault (turn_job c.args.at.now) c.args.at.now.first c.args.filter.under c.args.filter.site) c.copy_from.new.self c.args.work.now.found.limit c.args.at.now.count c.args.at.now.first c.as_slice-rising.ensures.rising (λ p i. c.requires.inside p (sym (ap (is_in p) c.copy_from.ensures) ∙ i)) c.requires.known.limit c.requires.known.turn.few
     c.in_ok-fault.fault c.in_ok-fault.ensures.passed.fault
-
-pub pass_filter-requires-clause-selected : goal.pass_filter-requires-clause-selected
-pass_filter-requires-clause-selected g c =
-    selected c.args.at.now.count c.copy_from.new.self c.args.work.now.found.limit c.len-few.result c.requires.known.turn.small c.requires.known.limit (λ p i. c.requires.inside p (sym (ap (is_in p) c.copy_from.ensures) ∙ i)) c.len-few.ensures.count c.len-few.ensures.few
 
 pub returns-clause-filtered : goal.returns-clause-filtered
 returns-clause-filtered g c =

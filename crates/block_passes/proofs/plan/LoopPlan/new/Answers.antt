@@ -1,5 +1,4 @@
 use Rattle.std.proofs.Common.{◌++◌, ◌∙◌, ap, [], ◌∷◌}
-use Rattle.loop_keys.specs.{job_of}
 use Rattle.block_passes.specs.{Step}
 use Rattle.block_passes.proofs.PlanSteps.{planned, root, root_steps}
 use Rattle.block_passes.proofs.plan.LoopPlan.new.Goals as goal
@@ -14,4 +13,4 @@ filter_steps-requires-clause-steps g c =
 pub returns : goal.returns
 returns g c =
     let h = c.in_ok-passes.ensures root (root_steps c.push.new.self (c.in_ok-push.ensures.ok ∙ ap (λ xs. xs ++ Step.Block ∷ []) c.new-steps.ensures)) in
-    planned (job_of c.args.job.now) c.pass_steps.new.steps c.filter_steps.new.steps c.in_ok-passes.passes c.in_ok-filters.filters h (c.in_ok-filters.ensures (root ++ h.more) h.steps_of.are)
+    planned _ c.pass_steps.new.steps c.filter_steps.new.steps c.in_ok-passes.passes c.in_ok-filters.filters h (c.in_ok-filters.ensures (root ++ h.more) h.steps_of.are)

@@ -1,12 +1,11 @@
 use Rattle.std.proofs.Common.{◌∙◌, ap, length, subst, sym}
-use Rattle.loop_keys.specs.{job_of}
 use Rattle.block_passes.specs.{AreDeepEnough}
 use Rattle.block_passes.proofs.ClusterBlocks.{state_new}
 use Rattle.block_passes.proofs.state.BlockState.new.Goals as goal
 
 pub returns : goal.returns
 returns g c =
-    state_new (job_of c.args.job.now) c.args.job.now.graph.now c.requires.graph
+    state_new _ c.args.job.now.graph.now c.requires.graph
     (record {
       size = c.block_size-size.result;
       plan = c.in_ok-plan.plan;
