@@ -57,28 +57,23 @@ is_unequal (c ∷ cs) = not (nat_eq c 61)
 
 pub minus : (rest : List ℕ) → Spells (45 ∷ []) (Op BinOp.Sub ∷ []) rest
 unfolding first_token long_mark short_mark
-minus [] = token 45 [] (Op BinOp.Sub) [] refl refl
-minus (d ∷ rest) = token 45 [] (Op BinOp.Sub) (d ∷ rest) refl refl
+minus rest = grind (arith, token)
 
 pub open_paren : (rest : List ℕ) → Spells (40 ∷ []) (Punct Mark.Open ∷ []) rest
 unfolding first_token long_mark short_mark
-open_paren [] = token 40 [] (Punct Mark.Open) [] refl refl
-open_paren (d ∷ rest) = token 40 [] (Punct Mark.Open) (d ∷ rest) refl refl
+open_paren rest = grind (arith, token)
 
 pub close_paren : (rest : List ℕ) → Spells (41 ∷ []) (Punct Mark.Close ∷ []) rest
 unfolding first_token long_mark short_mark
-close_paren [] = token 41 [] (Punct Mark.Close) [] refl refl
-close_paren (d ∷ rest) = token 41 [] (Punct Mark.Close) (d ∷ rest) refl refl
+close_paren rest = grind (arith, token)
 
 pub open_bracket : (rest : List ℕ) → Spells (91 ∷ []) (Punct Mark.OpenBracket ∷ []) rest
 unfolding first_token long_mark short_mark
-open_bracket [] = token 91 [] (Punct Mark.OpenBracket) [] refl refl
-open_bracket (d ∷ rest) = token 91 [] (Punct Mark.OpenBracket) (d ∷ rest) refl refl
+open_bracket rest = grind (arith, token)
 
 pub close_bracket : (rest : List ℕ) → Spells (93 ∷ []) (Punct Mark.CloseBracket ∷ []) rest
 unfolding first_token long_mark short_mark
-close_bracket [] = token 93 [] (Punct Mark.CloseBracket) [] refl refl
-close_bracket (d ∷ rest) = token 93 [] (Punct Mark.CloseBracket) (d ∷ rest) refl refl
+close_bracket rest = grind (arith, token)
 
 pub comma : (rest : List ℕ) → Spells (codes ", ") (Punct Mark.Comma ∷ []) rest
 unfolding first_token long_mark short_mark

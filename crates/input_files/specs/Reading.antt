@@ -1,9 +1,10 @@
 -- What reading a script's file, or a table's, comes to.
-use Rattle.std.specs.Prelude.{◌≡◌, ◌<◌, ◌≤◌, ℕ, List, All, Option, Some, None, Ok, MatchResult, length}
+use Rattle.std.specs.Prelude.{◌≡◌, ◌<◌, ◌≤◌, ℕ, List, All, Option, Some, None, Result, Ok, Err, MatchResult, length}
 use Rattle.columns.specs.ColumnsView.{ColumnsView}
 use Rattle.rdf_outside.specs.{Rose}
-use Rattle.rdf_values.specs.{history, IsBookable, IsScript, MarkedTable, read_failed_line, RefusesScript, Script, script_cause_line, ScriptCause, StatementsHaveWords, table_cause_line, table_of}
+use Rattle.rdf_values.specs.{history, IsBookable, IsScript, MarkedTable, read_failed_line, RefusesScript, Script, script_cause_line, ScriptCause, StatementsHaveWords, table_cause_line, table_of, TableCause}
 use Rattle.table_csv.specs.{columns_over, csv_records, marked_in, MarkedPieces}
+use Rattle.table_csv.specs.declared.refusal.TableRefusal.{TableRefusal}
 use Rattle.input_files.specs.Due.{Due, FileStatuses, WithScriptFile, WithTableFile, due_of, max_script, max_table}
 use Rattle.input_files.specs.Fetching.{Tells}
 use Rattle.input_files.specs.declared.refuse.FileCause.{FileCause}
@@ -83,10 +84,10 @@ abbrev pub ReadsTableFile : Option (List ℕ → Option (List ℕ)) → List ℕ
 ReadsTableFile files name before now (Whole m) = IsTableRead files name m
 ReadsTableFile files name before now (Refused r) = Refuses (RefusesTableFile name) files name before now r.cause r.line
 
--- the table that the bytes spell, or the line of their refusal
-abbrev pub ReadsTableText : List ℕ → ReadFile MarkedPieces → Type 0
-ReadsTableText bytes (Whole m) = (table_of (csv_records bytes) ≡ Ok (marked_table m)) × All (λ e. e < length m.table.rows) m.marks
-ReadsTableText bytes (Refused r) = (r.cause ≡ TableRefused) × MatchResult (table_of (csv_records bytes)) (λ table. ⊥) (λ cause. r.line ≡ table_cause_line cause)
+-- what the bytes of a table were read as, or the line of their refusal
+abbrev pub IsSpelt : {T : Type 0} → Result T TableRefusal → ReadFile T → Type 0
+IsSpelt read (Whole x) = read ≡ Ok x
+IsSpelt read (Refused r) = (r.cause ≡ TableRefused) × ((cause : TableCause) × (read ≡ Err (TableRefusal.At cause)) × (r.line ≡ table_cause_line cause))
 
 -- ---- columns
 

@@ -206,16 +206,7 @@ module _ (words : List (List ℕ)) (o : Option Command) (c : Command) (read : o 
 -- ---- by what an answer is
 
 of_run_is_final : (s : Status) → IsOfRun s → IsFinal s
-of_run_is_final Done h = tt
-of_run_is_final Memory h = h
-of_run_is_final Words h = tt
-of_run_is_final ReadFault h = h
-of_run_is_final WriteFault h = h
-of_run_is_final NoFile h = tt
-of_run_is_final ScriptRefused h = tt
-of_run_is_final TableRefused h = tt
-of_run_is_final LoopFault h = tt
-of_run_is_final FriendRefused h = tt
+of_run_is_final s h = grind arith
 
 module _ (fns : List Function) (words : List (List ℕ)) (told : Told) (turns : List (List ℕ)) (f0 f1 : ℕ) (a : Answer) where
   -- what is due to all files that are meant, and no other status; or a failed read

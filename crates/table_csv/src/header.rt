@@ -12,26 +12,20 @@ use std::alloc::Global;
 
 const MAX_COLUMNS: usize = 64;
 
+#[tactic(auto, using(crate::proofs::HeaderSteps::any_named))]
 fn has_name(columns: &[Column], name: &[u8]) -> bool
     ensures { result ≡ has_name columns.now name.now }
 {
-    for column in columns {
-        if column.name.bytes() == name {
-            return true;
-        }
-    }
-    false
+    columns.iter().any(|column| column.name.bytes() == name)
 }
 
 fn type_of(word: &[u8]) -> Option<ColType>
     ensures { result ≡ type_of word.now }
 {
-    if word == b"int".as_slice() {
-        Some(ColType::Int)
-    } else if word == b"vec".as_slice() {
-        Some(ColType::Vect)
-    } else {
-        None
+    match word {
+        b"int" => Some(ColType::Int),
+        b"vec" => Some(ColType::Vect),
+        _ => None,
     }
 }
 
