@@ -97,10 +97,6 @@ maybe_label_or_bad (Some q) = turned ((q, ALabel) ∷ []) (λ x. (Some x.0, a_la
 
 -- ---- forms
 
--- two strings that are names
-two_names : (c d : QuotedText) → OrFirstBad (((x : List ℕ) × IsName c x) × ((y : List ℕ) × IsName d y)) ((c, AName) ∷ (d, AName) ∷ [])
-two_names c d = then_more (c, AName) ((d, AName) ∷ []) (name_or_bad c) (name_good c) (last (d, AName) (name_or_bad d))
-
 column_and_expression : (c e : QuotedText) → OrFirstBad (((x : List ℕ) × IsName c x) × ((a : NamedTree) × ReadsText e.content a)) ((c, AName) ∷ (e, AnExpression) ∷ [])
 column_and_expression c e = then_more (c, AName) ((e, AnExpression) ∷ []) (name_or_bad c) (name_good c) (last (e, AnExpression) (expression_or_bad e))
 
@@ -121,7 +117,9 @@ says_vary_one n p c v ts m x vs tags y a b d (a_name {x = z} e) = (Statement.Var
 method_says : (n p : List ℕ) (m : Method) → OrFirstBad ((s : Statement) × Says (form.Books n p m) s) (method_strings m)
 method_says n p (form.Define c e) = turned _ (λ a. (Statement.Define n p a.0.0 a.1.0, st.define a.0.1 a.1.1)) (column_and_expression c e)
 method_says n p (form.Redefine c e) = turned _ (λ a. (Statement.Redefine n p a.0.0 a.1.0, st.redefine a.0.1 a.1.1)) (column_and_expression c e)
-method_says n p (form.Alias c t) = turned _ (λ a. (Statement.Alias n p a.0.0 a.1.0, st.alias a.0.1 a.1.1)) (two_names c t)
+method_says n p (form.Alias c t) =
+    turned _ (λ a. (Statement.Alias n p a.0.0 a.1.0, st.alias a.0.1 a.1.1))
+    (then_more (c, AName) ((t, AName) ∷ []) (name_or_bad c) (name_good c) (last (t, AName) (name_or_bad t)))
 method_says n p (form.Filter e l) =
     turned _ (λ a. (Statement.Filter n p a.0.0 a.1.0, st.filter a.0.1 a.1.1))
     (then_more (e, AnExpression) (maybe_wanted l ALabel) (expression_or_bad e) (λ a. good_expression e a.0 a.1) (maybe_label_or_bad l))

@@ -20,9 +20,6 @@ took_none {old} {mid} {new} e isnt k = record {
   walks = λ ws. close_wanted old ws isnt ∙ ap (λ ts. walk_placed ts (AMark Mark.Close ∷ ws)) (sym e) ∙ k.walks ws;
 }
 
-pub some_wanted : (old mid : List PlacedToken) (k : List Want) → Begins t.Comma old mid → walk_placed old (MaybeString ∷ k) ≡ walk_placed mid (one_string_wants ++ k)
-some_wanted old mid k b = walk_over MaybeString one_string_wants k b refl
-
 pub none_wanted : (old mid : List PlacedToken) (k : List Want) → mid ≡ old → BeginsNot t.Comma old → walk_placed old (MaybeString ∷ k) ≡ walk_placed mid (AMark Mark.Close ∷ k)
 none_wanted old mid k e isnt = close_wanted old k isnt ∙ ap (λ ts. walk_placed ts (AMark Mark.Close ∷ k)) (sym e)
 

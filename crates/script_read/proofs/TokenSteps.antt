@@ -33,30 +33,22 @@ first_integer : (place c : ℕ) (cs : List ℕ) → (is_digit c || c == 45) ≡ 
 unfolding lexeme
 first_integer place c cs h = before_integer c _ _ _ _ _ h
 
-at_word : (place n c : ℕ) (cs : List ℕ) → is_word_start c ≡ true → n ≡ length (take_while is_word_byte (c ∷ cs)) → word_lexeme (take n (c ∷ cs)) ≡ lexeme place c cs
-at_word place n c cs h e = rw (take_run is_word_byte (c ∷ cs) n e, word_run c cs h) (sym (first_word place c cs h))
-
 pub lexeme_word : (place n c : ℕ) (text cs : List ℕ) → text ≡ c ∷ cs → is_word_start (get_or text 0 0) ≡ true → n ≡ length (take_while is_word_byte text)
     → word_lexeme (take n text) ≡ lexeme place c cs
 lexeme_word place n c text cs s h e =
-    let Same : List ℕ → Type 0 = λ t. is_word_start (get_or t 0 0) ≡ true → n ≡ length (take_while is_word_byte t) → word_lexeme (take n t) ≡ lexeme place c cs in
-    subst Same (sym s) (at_word place n c cs) h e
+    let starts : is_word_start c ≡ true = rw s at h in
+    rw (s, take_run is_word_byte (c ∷ cs) n (rw s at e), word_run c cs starts) (sym (first_word place c cs starts))
 
 integer_run : (n c : ℕ) (cs : List ℕ) → n ≡ length (take_while is_digit cs) → take (1 + n) (c ∷ cs) ≡ c ∷ take_while is_digit cs
 integer_run n c cs e = let more : 1 + n ≡ suc n = omega arith in rw more (ap (λ (ds : List ℕ). c ∷ ds) (take_run is_digit cs n e))
 
-at_integer : (place n c : ℕ) (cs : List ℕ) → (is_digit c || c == 45) ≡ true → n ≡ length (take_while is_digit cs)
-    → integer_lexeme (length (take (1 + n) (c ∷ cs)) - 1) (integer_of (take (1 + n) (c ∷ cs))) ≡ lexeme place c cs
-at_integer place n c cs h e =
-    let one : length (c ∷ take_while is_digit cs) - 1 ≡ length (take_while is_digit cs) = omega arith in
-    rw (integer_run n c cs e, one) (sym (first_integer place c cs h))
-
 pub lexeme_integer : (place n c : ℕ) (text cs : List ℕ) → text ≡ c ∷ cs → (is_digit (get_or text 0 0) || get_or text 0 0 == 45) ≡ true
     → n ≡ length (take_while is_digit (take (length text - 1) (drop 1 text))) → integer_lexeme (length (take (1 + n) text) - 1) (integer_of (take (1 + n) text)) ≡ lexeme place c cs
 lexeme_integer place n c text cs s h e =
-    let Same : List ℕ → Type 0 = λ t. (is_digit (get_or t 0 0) || get_or t 0 0 == 45) ≡ true → n ≡ length (take_while is_digit (drop 1 t))
-    → integer_lexeme (length (take (1 + n) t) - 1) (integer_of (take (1 + n) t)) ≡ lexeme place c cs in
-    subst Same (sym s) (at_integer place n c cs) h (e ∙ ap (λ (t : List ℕ). length (take_while is_digit t)) (take_rest text 1))
+    let starts : (is_digit c || c == 45) ≡ true = rw s at h in
+    let size : n ≡ length (take_while is_digit cs) = rw s at (e ∙ ap (λ (t : List ℕ). length (take_while is_digit t)) (take_rest text 1)) in
+    let one : length (c ∷ take_while is_digit cs) - 1 ≡ length (take_while is_digit cs) = omega arith in
+    rw (s, integer_run n c cs size, one) (sym (first_integer place c cs starts))
 
 -- ---- One more token of a line.
 
