@@ -1,6 +1,7 @@
 -- Answers to the words and to files, what is written of them, and that each is due.
 use Rattle.std.proofs.Common.{◌≡◌, ◌≤◌, ◌+◌, ℕ, Bool, false, ◌||◌, List, [], ◌∷◌, length, map, Option, Some, None, Ok, nat_lt, option_map, inl, inr, ap, refl, sym, subst, ◌∙◌, if◌then◌else◌, is_some, unwrap_or, Result, Err, ◌++◌, IfSome, arith, append_assoc, OnOk, ◌⊎◌, MatchOption}
 use Rattle.lemmas.proofs.{le-ltb, list_any}
+use Rattle.std.proofs.lemmas.Option.{IfSome_then}
 use Rattle.rdf_values.specs.{Booked, Fault, fn_names, Function, history, IsScript, MarkedTable, Script, Statement, table_of, Value, verdict, Column, FunctionNames, graph_cause_line, GraphCause}
 use Rattle.rdf_values.proofs.OneScript.{one_script, script_or_refusal}
 use Rattle.rdf_model.specs.{Access, access_passes, access_printed, accesses, Course, Dataset, first_fault, first_fault_from, loop_passes, Printed, printed}
@@ -65,11 +66,10 @@ module _ (script : List Statement) (d : Dataset) (course : Course) where
 -- ---- what is due
 
 module _ (fns : List Function) (size watch : ℕ) (script : Script) (table : MarkedTable) (accepted : verdict (fn_names fns) table.table.columns script ≡ None) (d : Due Status) where
-  over_table : IsPrinted fns size watch script table d → d.status ≡ status_of_run fns script table
-  over_table h = h.status ∙ status_by_loops (history script) (dataset_of fns size watch table.table) h.course (accesses (history script))
-
   over_accepted : IsDueOver fns size watch script table d → d.status ≡ status_of_run fns script table
-  over_accepted h = over_table (rw accepted at h)
+  over_accepted h =
+      let printed : IsPrinted fns size watch script table d = rw accepted at h in
+      printed.status ∙ status_by_loops (history script) (dataset_of fns size watch table.table) printed.course (accesses (history script))
 
   to_friend : (friend : Option Friend) (files : Files) (own : MarkedTable) → IsWithFriend friend files own table
       → WithFriend friend files own (λ t e. IsDueOver fns size watch script t e) d → d.status ≡ status_of_run fns script table
@@ -236,11 +236,7 @@ module _ (fns : List Function) (words : List (List ℕ)) (told : Told) (turns : 
     -- ---- what is written
 
     each : (P Q : Files → Type 0) → ((f : Files) → P f → Q f) → IfSome told P × ((NameFiles words → ⊥) → (f : Files) → P f) → OfFiles words told Q
-    each P Q step p = (one told p.0, λ none f. step f (p.1 none f))
-      where
-        one : (told : Told) → IfSome told P → IfSome told Q
-        one None p = tt
-        one (Some f) p = step f p
+    each P Q step p = (IfSome_then told p.0 step, λ none f. step f (p.1 none f))
 
     pub due_written : (before after : Option (List ℕ)) → IsFinal a.status → Appends before after a.text → OfFiles words told (WritesDue (IsDue fns words) a.status before after)
     due_written before after final w = go sorted

@@ -1,6 +1,6 @@
 -- One more field of a header, and answers behind it.
-use Rattle.std.proofs.Common.{if◌then◌else◌, ◌≡◌, ◌<◌, ◌≤◌, ◌+◌, ℕ, suc, List, [], ◌∷◌, ◌++◌, length, get_or, drop, Bool, true, false, None, Some, Option, Result, Ok, Err, arith, refl, ap, sym, ◌∙◌, append_assoc, length-append, not, ◌&&◌, nat_eq, bytes_eq, ◌||◌, option_and_then, option_map, ok_or, inl, inr, MatchResult}
-use Rattle.lemmas.proofs.{and_left, append-nil, at_drop_more, drop_all, length-drop, list_any, nat_tests, not_true}
+use Rattle.std.proofs.Common.{if◌then◌else◌, ◌≡◌, ◌<◌, ◌≤◌, ◌+◌, ℕ, suc, List, [], ◌∷◌, ◌++◌, length, get_or, drop, Bool, true, false, None, Some, Option, Result, Ok, Err, arith, refl, ap, sym, ◌∙◌, append_assoc, length-append, not, ◌&&◌, nat_eq, option_and_then, option_map, ok_or, inl, inr, MatchResult}
+use Rattle.lemmas.proofs.{and_left, append-nil, at_drop_more, drop_all, length-drop, nat_tests, not_true}
 use Rattle.rdf_values.specs.{AreColumns, ColType, Column, column_of, ends_in_cut, has_name, Header, header_from, if_new, is_cut, IsHeader, IsStored, next_column, on_ok, TableCause, with_column, table_of}
 use Rattle.std.specs.Borrow.{Bor}
 use Rattle.csv.specs.declared.reader.Reader.{Reader}
@@ -9,10 +9,6 @@ use Rattle.table_csv.specs.{IsHeaded, Leaves}
 use Rattle.table_csv.specs.declared.header.Heading.{Heading}
 use Rattle.table_csv.specs.declared.refusal.TableRefusal.{TableRefusal}
 use Rattle.table_csv.proofs.TableSteps.{table_bad}
-
-pub any_named : (columns : List Column) (name : List ℕ) → list_any (λ (c : Column). bytes_eq c.name name) columns ≡ has_name columns name
-any_named [] name = refl
-any_named (c ∷ cs) name = ap (λ b. bytes_eq c.name name || b) (any_named cs name)
 
 -- what is read, with the header of what is left behind it
 abbrev pub header_onto : List Column → Result Header TableCause → Result Header TableCause

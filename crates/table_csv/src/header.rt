@@ -12,11 +12,15 @@ use std::alloc::Global;
 
 const MAX_COLUMNS: usize = 64;
 
-#[tactic(auto, using(crate::proofs::HeaderSteps::any_named))]
 fn has_name(columns: &[Column], name: &[u8]) -> bool
     ensures { result ≡ has_name columns.now name.now }
 {
-    columns.iter().any(|column| column.name.bytes() == name)
+    for column in columns {
+        if column.name.bytes() == name {
+            return true;
+        }
+    }
+    false
 }
 
 fn type_of(word: &[u8]) -> Option<ColType>
