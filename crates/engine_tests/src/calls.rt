@@ -4,9 +4,10 @@ ghost use Rattle.std.specs.Prelude.{◌≡◌, length};
 ghost use Rattle.entry_fns.specs.{hyp2_of, square_of};
 
 use crate::answer::{scalar_answer, value_answer};
-use crate::cells::{faulted, int, missing, truth, vect};
+use crate::cells::cell;
 use entry_fns::shipped::{Hyp2, Square};
 use entry_fns::{Closure, FnList, Stored};
+use expr_eval::Input;
 use rdf_values::{ColType, EntryFault, Name};
 use std::alloc::Global;
 use std::sync::Arc;
@@ -71,12 +72,8 @@ fn what_is_met_is_called_once_or_needed(rt: HostRuntime) -> Result<(), Fail> {
             Square::answer(args)
         },
     )?;
-    add(
-        alloc,
-        &mut functions,
-        b"square",
-        Stored::new::<Square>(square),
-    )?;
+    let stored = Stored::new::<Square>(square);
+    add(alloc, &mut functions, b"square", stored)?;
     let hyp2: Closure = Box::new(
         alloc,
         move |args: &[i64]| -> Option<i64>
@@ -87,15 +84,16 @@ fn what_is_met_is_called_once_or_needed(rt: HostRuntime) -> Result<(), Fail> {
             Hyp2::answer(args)
         },
     )?;
-    add(alloc, &mut functions, b"hyp2", Stored::new::<Hyp2>(hyp2))?;
+    let pair = Stored::new::<Hyp2>(hyp2);
+    add(alloc, &mut functions, b"hyp2", pair)?;
     let cells = [
-        int("w", 3),
-        truth("no", false),
-        vect("v", &[1, 2, 3]),
-        missing("x", ColType::Int),
-        missing("unknown", ColType::Bool),
-        missing("gone", ColType::Vect),
-        faulted("broken", ColType::Int, EntryFault::Index),
+        cell("w", ColType::Int, Input::Int(3)),
+        cell("no", ColType::Bool, Input::Bool(false)),
+        cell("v", ColType::Vect, Input::Vect(&[1, 2, 3])),
+        cell("x", ColType::Int, Input::Missing),
+        cell("unknown", ColType::Bool, Input::Missing),
+        cell("gone", ColType::Vect, Input::Missing),
+        cell("broken", ColType::Int, Input::Faulted(EntryFault::Index)),
     ];
     for (text, want, times) in &ROWS {
         let before = calls.load(Ordering::SeqCst);

@@ -113,10 +113,6 @@ accepted_runs_end fns words files script table d is h =
 
 -- ---- Answers to files that were read, and the files that were turned to.
 
-pub always_ok : {A E : Type 0} (r : Result A E) (P : Type 0) → P → OnOk r P
-always_ok (Ok a) P p = p
-always_ok (Err e) P p = tt
-
 -- the files by their names, where the shelf tells them
 abbrev pub Told : Type 0
 Told = Option Files

@@ -57,12 +57,8 @@ fn counted_closure(rt: HostRuntime) -> Result<(), Fail> {
             Square::answer(args)
         },
     )?;
-    add(
-        alloc,
-        &mut functions,
-        b"square",
-        Stored::new::<Square>(square),
-    )?;
+    let stored = Stored::new::<Square>(square);
+    add(alloc, &mut functions, b"square", stored)?;
     for (script, table, output, demanded, most) in [
         (SHARED, TABLE, "s = 15\nt = 15\nm = 9\nn = 2\n", 4, 4),
         (VARIED, NUMBERS, UNDER_VARIATIONS, 34, 68),

@@ -182,12 +182,8 @@ fn bar_is_lowered(rt: HostRuntime) -> Result<(), Fail> {
         },
     )?;
     let mut functions = FnList::new(alloc);
-    add(
-        alloc,
-        &mut functions,
-        b"square",
-        Stored::new::<Square>(square),
-    )?;
+    let stored = Stored::new::<Square>(square);
+    add(alloc, &mut functions, b"square", stored)?;
     let gate = FaultIsMet {
         met,
         turns: AtomicU64::new(0),
