@@ -4,7 +4,7 @@ ghost use Rattle.std.specs.Prelude.{◌≡◌, length};
 ghost use Rattle.entry_fns.specs.{hyp2_of, square_of};
 
 use crate::answer::{scalar_answer, value_answer};
-use crate::cells::cell;
+use crate::cells::column;
 use entry_fns::shipped::{Hyp2, Square};
 use entry_fns::{Closure, FnList, Stored};
 use expr_eval::Input;
@@ -87,13 +87,13 @@ fn what_is_met_is_called_once_or_needed(rt: HostRuntime) -> Result<(), Fail> {
     let pair = Stored::new::<Hyp2>(hyp2);
     add(alloc, &mut functions, b"hyp2", pair)?;
     let cells = [
-        cell("w", ColType::Int, Input::Int(3)),
-        cell("no", ColType::Bool, Input::Bool(false)),
-        cell("v", ColType::Vect, Input::Vect(&[1, 2, 3])),
-        cell("x", ColType::Int, Input::Missing),
-        cell("unknown", ColType::Bool, Input::Missing),
-        cell("gone", ColType::Vect, Input::Missing),
-        cell("broken", ColType::Int, Input::Faulted(EntryFault::Index)),
+        column("w", ColType::Int, Input::Int(3)),
+        column("no", ColType::Bool, Input::Bool(false)),
+        column("v", ColType::Vect, Input::Vect(&[1, 2, 3])),
+        column("x", ColType::Int, Input::Missing),
+        column("unknown", ColType::Bool, Input::Missing),
+        column("gone", ColType::Vect, Input::Missing),
+        column("broken", ColType::Int, Input::Faulted(EntryFault::Index)),
     ];
     for (text, want, times) in &ROWS {
         let before = calls.load(Ordering::SeqCst);

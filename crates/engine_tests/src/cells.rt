@@ -20,7 +20,7 @@ pub struct Cell<'a> {
 }
 
 /// The column of that name and kind.
-pub fn cell<'a>(name: &'a str, kind: ColType, input: Input<'a>) -> Cell<'a> {
+pub fn column<'a>(name: &'a str, kind: ColType, input: Input<'a>) -> Cell<'a> {
     Cell { name, kind, input }
 }
 

@@ -54,11 +54,8 @@ stuck_inside o s [] h isnt nor = refl
 stuck_inside o s (p ∷ ts) h isnt nor =
     refused_at (Operator, o ∷ s) p ts (inside_step o s p.token h (first_is_not (Punct (closing o)) p ts isnt) (λ e. first_is_not (Punct Mark.Comma) p ts (nor e)))
 
-end_step : (t : Token) → continues 0 t ≡ false → operator t [] ≡ None
+pub end_step : (t : Token) → continues 0 t ≡ false → operator t [] ≡ None
 end_step t h = grind (arith, never)
-
-pub refused_end : (p : Placed) (ts : List Placed) → Stops 0 (p ∷ ts) → scan (Operator, []) (p ∷ ts) ≡ Refused p.place
-refused_end p ts h = refused_at (Operator, []) p ts (end_step p.token h)
 
 -- ---- where an expression stops
 

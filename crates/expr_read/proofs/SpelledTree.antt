@@ -121,16 +121,13 @@ apart_stops (c ∷ cs) h = not_true (is_word_byte c) h
 blank_by : (c : ℕ) (b d : Bool) → nat_eq c 32 ≡ b → nat_eq c 9 ≡ d → is_word_start c ≡ true → is_blank c ≡ false
 blank_by c b d e f h = grind (arith, eq_says)
 
-starts_byte : (c : ℕ) → is_word_start c ≡ true → is_word_byte c ≡ true
-starts_byte c h = ap (λ (b : Bool). b || is_digit c) h
-
 short_word : (w : List ℕ) → length w ≤ 64 → word_first w ≡ Ok (word_token w, length w)
 unfolding word_first
 short_word w h = let fits : nat_le (length w) 64 ≡ true = grind (arith, nat_tests) in rw fits refl
 
 pub word : (c : ℕ) (cs rest : List ℕ) → is_word_start c ≡ true → list_all is_word_byte cs ≡ true → length (c ∷ cs) ≤ 64 → is_apart rest ≡ true → Spells (c ∷ cs) (word_token (c ∷ cs) ∷ []) rest
 word c cs rest start all few apart =
-    let whole : list_all is_word_byte (c ∷ cs) ≡ true = ap (λ (b : Bool). b && list_all is_word_byte cs) (starts_byte c start) ∙ all in
+    let whole : list_all is_word_byte (c ∷ cs) ≡ true = ap (λ (b : Bool). (b || is_digit c) && list_all is_word_byte cs) start ∙ all in
     token c cs (word_token (c ∷ cs)) rest (blank_by c _ _ refl refl start)
     (first_word c (cs ++ rest) start ∙ ap word_first (taken is_word_byte (c ∷ cs) rest whole (apart_stops rest apart)) ∙ short_word (c ∷ cs) few)
 

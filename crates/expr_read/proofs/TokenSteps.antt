@@ -22,9 +22,6 @@ run_passes p (x ∷ xs) = rw take_while-cons (passes_by p x (take_while p xs) (p
 pub word_run : (c : ℕ) (cs : List ℕ) → is_word_start c ≡ true → take_while is_word_byte (c ∷ cs) ≡ c ∷ take_while is_word_byte cs
 word_run c cs h = let first : is_word_byte c ≡ true = ap (λ (b : Bool). b || is_digit c) h in rw (take_while-cons, first) refl
 
-whole_word : (c : ℕ) (cs : List ℕ) → is_word_start c ≡ true → is_word (take_while is_word_byte (c ∷ cs)) ≡ true
-whole_word c cs h = rw (word_run c cs h, h) (run_passes is_word_byte cs)
-
 pub run_size : (p : ℕ → Bool) (xs : List ℕ) → length (take_while p xs) ≤ length xs
 run_size p xs = omega (arith, length-take {A = ℕ})
 
@@ -103,7 +100,7 @@ first_mark c cs e h = rw (e, h) refl
 fine_by : (c : ℕ) (cs : List ℕ) (b d : Bool) → is_word_start c ≡ b → is_digit c ≡ d → IsFine (length cs + 1) (first_token c cs)
 fine_by c cs true d e h =
     let starts : is_word_byte c ≡ true = rw e refl in
-    subst (IsFine (length cs + 1)) (sym (first_word c cs e)) (word_fine (take_while is_word_byte (c ∷ cs)) (length cs + 1) _ refl (run_begins is_word_byte c cs starts) (omega (arith, run_size is_word_byte (c ∷ cs))) (whole_word c cs e))
+    subst (IsFine (length cs + 1)) (sym (first_word c cs e)) (word_fine (take_while is_word_byte (c ∷ cs)) (length cs + 1) _ refl (run_begins is_word_byte c cs starts) (omega (arith, run_size is_word_byte (c ∷ cs))) (rw (word_run c cs e, e) (run_passes is_word_byte cs)))
 fine_by c cs false true e h =
     subst (IsFine (length cs + 1)) (sym (first_number c cs e h)) (run_fine (take_while is_digit (c ∷ cs)) (length cs + 1) (run_begins is_digit c cs h) (omega (arith, run_size is_digit (c ∷ cs))))
 fine_by c cs false false e h = subst (IsFine (length cs + 1)) (sym (first_mark c cs e h)) (mark_fine c cs)

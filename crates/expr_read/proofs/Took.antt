@@ -5,7 +5,7 @@ use Rattle.rdf_values.specs.expressions.Expressions as e
 use Rattle.rdf_values.specs.expressions.Tokens.{Word, Truth, Number}
 use Rattle.rdf_values.specs.expressions.Grammar.{call}
 use Rattle.expr_read.specs.{Begins, BeginsNot, ends_at, in_list, Listing, Listings, Stops, stuck_at, Took, TookArgs, TookList, TookLists, TookValues}
-use Rattle.expr_read.proofs.Scanned.{scan_after, name_ends, argument_first, first_is_not, refused_at, refused_end, unless}
+use Rattle.expr_read.proofs.Scanned.{scan_after, name_ends, argument_first, end_step, first_is_not, refused_at, unless}
 use Rattle.rdf_values.specs.declared.scripts.statement.VaryValues.TheVariants.{Lists as ListsOf, Vector as VectorOf}
 
 pub bare_after : {t : Token} {old new : List Placed} → Begins t old new → bare old ≡ t ∷ bare new
@@ -182,7 +182,7 @@ item_first ts isnt = unless (Punct Mark.OpenBrace) (AfterBrace, InList ∷ []) (
 
 pub ends_operator : (ts : List Placed) → Stops 0 ts → scan (Operator, []) ts ≡ ends_at ts
 ends_operator [] h = refl
-ends_operator (p ∷ ts) h = refused_end p ts h
+ends_operator (p ∷ ts) h = refused_at (Operator, []) p ts (end_step p.token h)
 
 ends_nothing : (ts : List Placed) → scan (Nothing, []) ts ≡ ends_at ts
 ends_nothing ts = grind arith
