@@ -1,7 +1,7 @@
 // Tables in files.
-ghost use Rattle.std.specs.Prelude.{◌≡◌, ◌≤◌, ◌++◌, ◌∷◌, [], ℕ, List, Option, IfOk};
+ghost use Rattle.std.specs.Prelude.{◌≡◌, ◌≤◌, ◌++◌, ◌∷◌, [], IfOk};
 ghost use Rattle.columns.specs.{joined};
-ghost use Rattle.input_files.specs.{IsFetchedIn, IsSpelt, ReadsColumnsFile, ReadsColumnsText, ReadsTableFile, ReadsTableIn};
+ghost use Rattle.input_files.specs.{IsSpelt, IsTaken, ReadsColumnsFile, ReadsColumnsText, ReadsTableFile};
 
 use crate::refuse::{FileCause, ReadFile, absent, refused, unread};
 use crate::whole_file::{Fetched, fetch, fetch_parts};
@@ -51,7 +51,7 @@ fn whole_or_refused<T>(
     name: &str,
     fetched: Fetched<T>,
 ) -> Result<ReadFile<T>, Memory>
-    ensures { IfOk result (λ read. (bytes_of : T → List ℕ) (files : Option (List ℕ → Option (List ℕ))) (before now : ℕ) → IsFetchedIn bytes_of 67108864 files name.now before now fetched → ReadsTableIn bytes_of files name.now before now read) }
+    ensures { IfOk result (IsTaken name.now fetched) }
 {
     match fetched {
         Fetched::Whole(holder) => Ok(ReadFile::Whole(holder)),
