@@ -38,9 +38,7 @@ module _ {T : Type 0} (reads : List Token → T → Type 0) (begin : ScanState) 
   reads_these text ts x same r = let these : r.found ≡ ts = cc (same, r.tokens_are) in subst (λ (us : List Placed). reads (bare us) x) these r.reads_as
 
   pub not_both : (text : List ℕ) (x : T) (r : Refusal) → IsText reads text x → Refuses reads begin text r → ⊥
-  not_both text x r t (at_token e) = let never = sym e ∙ t.tokens_are in cc never
-  not_both text x r t (at_scan {ts} e g) = let never = sym g ∙ whole ts x (reads_these text ts x e t) in cc never
-  not_both text x r t (at_end {ts} e none h) = h x (reads_these text ts x e t)
+  not_both text x r t h = grind (arith, whole)
 
   -- a text that reads is refused for want of memory alone
   pub memory_alone : (text : List ℕ) (x : T) (e : ExprRefusal) → IsText reads text x → RefusesTextAs reads begin text e → e ≡ ExprRefusal.Memory

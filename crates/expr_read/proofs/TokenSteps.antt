@@ -1,7 +1,7 @@
 -- The tokens of a text, one by one: how many bytes each takes, and what holds of it.
 use Rattle.std.proofs.Common.{◌≡◌, ◌≤◌, ◌<◌, ◌+◌, ℕ, Bool, true, false, List, [], ◌∷◌, length, Option, Some, None, Ok, Err, arith, refl, sym, ap, subst, ◌∙◌, length-take, length-drop, ◌-◌, get_or, drop, take, take_while, nat_le, codes, ◌||◌, MatchResult, IfSome, if◌then◌else◌, suc, ◌++◌, add-zero, append_assoc, length-append, Result}
 use Rattle.lemmas.proofs.{both_true, common_steps, drop_more, list_all, nat_tests, prefix_len, take_while-cons, append-nil, drop-drop, drop_all}
-use Rattle.rdf_values.specs.{First, first_token, is_digit, is_name, is_word, is_word_byte, is_word_start, long_first, long_mark, long_marks, magnitude_of, mark_first, number_first, number_found, Refusal, same, short_first, short_mark, short_marks, Token, word_first, word_token, and_then, before, from, is_blank, Placed, tokens_at, tokens_within}
+use Rattle.rdf_values.specs.{First, first_token, is_digit, is_name, is_word, is_word_byte, is_word_start, long_first, long_mark, long_marks, magnitude_of, mark_first, number_first, number_found, Refusal, same, short_first, short_mark, short_marks, Token, word_first, and_then, before, from, is_blank, Placed, tokens_at, tokens_within}
 use Rattle.rdf_values.specs.expressions.Tokens.{mark_in, too_many}
 use Rattle.rdf_values.proofs.OneText.{magnitude_bound}
 use Rattle.expr_read.specs.{is_valid}
@@ -34,12 +34,9 @@ named : (w : List ℕ) → is_word w ≡ true → nat_le (length w) 64 ≡ true 
 unfolding is_name
 named w h few t f = rw (h, few, t, f) refl
 
-token_by : (w : List ℕ) (t f : Bool) → same w (codes "true") ≡ t → same w (codes "false") ≡ f → is_word w ≡ true → nat_le (length w) 64 ≡ true → is_valid (word_token w) ≡ true
-token_by w t f e g h few = grind (arith, named)
-
 word_fine : (w : List ℕ) (n : ℕ) (b : Bool) → nat_le (length w) 64 ≡ b → 0 < length w → length w ≤ n → is_word w ≡ true → IsFine n (word_first w)
 unfolding word_first
-word_fine w n true e h k r = rw e (h, k, token_by w (same w (codes "true")) (same w (codes "false")) refl refl r e)
+word_fine w n true e h k r = grind (arith, named)
 word_fine w n false e h k r = rw e (let long : 64 < length w = grind (arith, nat_tests) in omega arith)
 
 number_fine : (size n : ℕ) (o : Option ℕ) → ((m : ℕ) → o ≡ Some m → m ≤ 9223372036854775807) → 0 < size → size ≤ n → IsFine n (number_found size o)

@@ -436,11 +436,7 @@ impl<'t, 'a> Walk<'t, 'a> {
 fn stuck(left: &[Placed], end: u32) -> LineStop
     ensures { result ≡ LineStop.Syntax (place_from (map placed_of left.now) end) }
 {
-    let place = match left.first() {
-        Some(placed) => placed.place,
-        None => end,
-    };
-    LineStop::Syntax(place)
+    LineStop::Syntax(left.first().map_or(end, |placed| placed.place))
 }
 
 /// The form that the tokens of a line are; the line has so many bytes.
