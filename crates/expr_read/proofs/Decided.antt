@@ -51,18 +51,7 @@ module _ {T : Type 0} (reads : List Token → T → Type 0) (begin : ScanState) 
   same_tokens text ts us e f = cc (sym e ∙ f)
 
   pub one_refusal : (text : List ℕ) (r s : Refusal) → Refuses reads begin text r → Refuses reads begin text s → r ≡ s
-  one_refusal text r s (at_token e) (at_token f) = cc (sym e ∙ f)
-  one_refusal text r s (at_token e) (at_scan f g) = cc (sym e ∙ f)
-  one_refusal text r s (at_token e) (at_end f g h) = cc (sym e ∙ f)
-  one_refusal text r s (at_scan e g) (at_token f) = cc (sym e ∙ f)
-  one_refusal text r s (at_end e g h) (at_token f) = cc (sym e ∙ f)
-  one_refusal text r s (at_scan {ts} {p} e g) (at_scan {ts = us} {p = q} f h) =
-      let same : Refused p ≡ Refused q = sym g ∙ ap (scan begin) (same_tokens text ts us e f) ∙ h in
-      let there : p ≡ q = cc same in
-      ap (λ (n : ℕ). record { cause = ExprCause.Unexpected; place = n }) there
-  one_refusal text r s (at_scan {ts} {p} e g) (at_end {ts = us} f none h) = absurd (none p (ap (scan begin) (sym (same_tokens text ts us e f)) ∙ g))
-  one_refusal text r s (at_end {ts = us} f none h) (at_scan {ts} {p} e g) = absurd (none p (ap (scan begin) (sym (same_tokens text ts us e f)) ∙ g))
-  one_refusal text r s (at_end e g h) (at_end f k l) = refl
+  one_refusal text r s h k = grind arith
 
   abbrev pub Answered : List ℕ → Type 0
   Answered text = ((x : T) × IsText reads text x) ⊎ ((r : Refusal) × Refuses reads begin text r)

@@ -62,11 +62,7 @@ mark_valid (m ∷ ms) text h = let p = both_true (is_valid m.1) (are_marks ms) h
 
 short_fine : (c n : ℕ) → IsFine (n + 1) (short_first (short_mark c))
 unfolding short_mark
-short_fine c n = by_mark (short_mark c) (mark_valid short_marks (c ∷ []) refl)
-  where
-    by_mark : (o : Option Token) → IsValidMark o → IsFine (n + 1) (short_first o)
-    by_mark None v = omega arith
-    by_mark (Some t) v = (omega arith, omega arith, v)
+short_fine c n = grind (arith, mark_valid)
 
 long_fine : (c d n : ℕ) → IsFine (n + 2) (long_first c (long_mark c d))
 unfolding long_mark
@@ -95,9 +91,7 @@ unfolding first_token
 first_mark c cs e h = rw (e, h) refl
 
 fine_by : (c : ℕ) (cs : List ℕ) (b d : Bool) → is_word_start c ≡ b → is_digit c ≡ d → IsFine (length cs + 1) (first_token c cs)
-fine_by c cs true d e h =
-    let starts : is_word_byte c ≡ true = rw e refl in
-    subst (IsFine (length cs + 1)) (sym (first_word c cs e)) (word_fine (take_while is_word_byte (c ∷ cs)) (length cs + 1) _ refl (run_begins is_word_byte c cs starts) (omega (arith, run_size is_word_byte (c ∷ cs))) (rw (word_run c cs e, e) (run_passes is_word_byte cs)))
+fine_by c cs true d e h = grind (arith, first_word, word_fine, run_begins, run_size, word_run, run_passes)
 fine_by c cs false true e h =
     subst (IsFine (length cs + 1)) (sym (first_number c cs e h)) (run_fine (take_while is_digit (c ∷ cs)) (length cs + 1) (run_begins is_digit c cs h) (omega (arith, run_size is_digit (c ∷ cs))))
 fine_by c cs false false e h = subst (IsFine (length cs + 1)) (sym (first_mark c cs e h)) (mark_fine c cs)
