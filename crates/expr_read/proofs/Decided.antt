@@ -47,9 +47,6 @@ module _ {T : Type 0} (reads : List Token → T → Type 0) (begin : ScanState) 
 
   -- ---- each text has one answer
 
-  same_tokens : (text : List ℕ) (ts us : List Placed) → tokens text ≡ Ok ts → tokens text ≡ Ok us → ts ≡ us
-  same_tokens text ts us e f = cc (sym e ∙ f)
-
   pub one_refusal : (text : List ℕ) (r s : Refusal) → Refuses reads begin text r → Refuses reads begin text s → r ≡ s
   one_refusal text r s h k = grind arith
 
