@@ -19,6 +19,7 @@ const MAX_SIZE: u32 = 1_000_000;
 const MAX_ENTRIES: u32 = 1_000_000;
 
 // The words, borrowed one by one.
+#[tactic(auto, using(crate::proofs::Taken::map_more))]
 fn borrowed<'a>(alloc: Global, words: &'a WordList) -> Result<Vec<&'a str>, Memory>
     ensures { IfOk result (λ list. map (λ w. w.now) list.items ≡ words.entry.now) }
 {
