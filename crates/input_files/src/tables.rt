@@ -81,7 +81,8 @@ pub fn read_table_file<R: Threads + Sync, S: Shelf>(
     let fetched = fetch(alloc, shelf, name, MAX_TABLE)?;
     match whole_or_refused(alloc, name, fetched)? {
         ReadFile::Whole(bytes) => {
-            spelt(alloc, read_table_in_slots(rt, alloc, bytes.as_slice(), slots))
+            let read = read_table_in_slots(rt, alloc, bytes.as_slice(), slots);
+            spelt(alloc, read)
         }
         ReadFile::Refused(refusal) => Ok(ReadFile::Refused(refusal)),
     }

@@ -22,8 +22,7 @@ abbrev OrFirstBad : Type 0 → List (QuotedText × Wanted) → Type 0
 OrFirstBad A ws = A ⊎ ((r : LineRefusal) × FirstBad ws r)
 
 by_test : {A : Type 0} (w : QuotedText × Wanted) (b : Bool) → (b ≡ true → A) → (b ≡ false → (r : LineRefusal) × IsBad w r) → OrBad A w
-by_test w true f g = inl (f refl)
-by_test w false f g = inr (g refl)
+by_test w b f g = grind arith
 
 name_or_bad : (q : QuotedText) → OrBad ((x : List ℕ) × IsName q x) (q, AName)
 name_or_bad q = by_test (q, AName) (is_name q.content) (λ e. (q.content, record { content = refl; name = e })) (λ e. (st.Syntax q.place, st.no_name e))
@@ -69,13 +68,10 @@ last w (inl a) = inl a
 
 -- strings and those behind them
 then_all : {A B : Type 0} (vs ws : List (QuotedText × Wanted)) → OrFirstBad A vs → (A → AreGood vs) → OrFirstBad B ws → OrFirstBad (A × B) (vs ++ ws)
-then_all vs ws (inr b) good rest = inr (b.0, bad_before vs ws b.0 b.1)
-then_all vs ws (inl a) good (inl b) = inl (a, b)
-then_all vs ws (inl a) good (inr b) = inr (b.0, bad_after vs ws (good a) b.0 b.1)
+then_all vs ws h good rest = grind (arith, bad_before, bad_after)
 
 turned : {A B : Type 0} (ws : List (QuotedText × Wanted)) → (A → B) → OrFirstBad A ws → OrFirstBad B ws
-turned ws f (inl a) = inl (f a)
-turned ws f (inr b) = inr b
+turned ws f h = grind arith
 
 name_good : (q : QuotedText) → (x : List ℕ) × IsName q x → IsGood (q, AName)
 name_good q x = good_name q x.0 x.1

@@ -35,9 +35,7 @@ first_integer place c cs h = before_integer c _ _ _ _ _ h
 
 pub lexeme_word : (place n c : ℕ) (text cs : List ℕ) → text ≡ c ∷ cs → is_word_start (get_or text 0 0) ≡ true → n ≡ length (take_while is_word_byte text)
     → word_lexeme (take n text) ≡ lexeme place c cs
-lexeme_word place n c text cs s h e =
-    let starts : is_word_start c ≡ true = rw s at h in
-    rw (s, take_run is_word_byte (c ∷ cs) n (rw s at e), word_run c cs starts) (sym (first_word place c cs starts))
+lexeme_word place n c text cs s h e = grind (arith, take_run, word_run, first_word)
 
 integer_run : (n c : ℕ) (cs : List ℕ) → n ≡ length (take_while is_digit cs) → take (1 + n) (c ∷ cs) ≡ c ∷ take_while is_digit cs
 integer_run n c cs e = let more : 1 + n ≡ suc n = omega arith in rw more (ap (λ (ds : List ℕ). c ∷ ds) (take_run is_digit cs n e))
@@ -62,8 +60,7 @@ IsWithin most Bad = Unit {0}
 IsWithin most (Found token more) = more ≤ most
 
 fits_or : (most : ℕ) (b : Bool) (x y : Lexeme) → IsWithin most x → IsWithin most y → IsWithin most (if b then x else y)
-fits_or most true x y h k = h
-fits_or most false x y h k = k
+fits_or most b x y h k = grind arith
 
 word_fits : (c : ℕ) (cs : List ℕ) → IsWithin (length cs) (word_lexeme (c ∷ take_while is_word_byte cs))
 unfolding word_lexeme
@@ -73,22 +70,14 @@ integer_fits : (most more : ℕ) (z : Option ℤ) → more ≤ most → IsWithin
 integer_fits most more z h = grind arith
 
 string_by : (most size : ℕ) (token : LineToken) (b : Bool) → IsWithin most (if nat_lt size most && b then Found token (size + 1) else Bad)
-string_by most size token b = by_size (nat_lt size most) refl
-  where
-    by_size : (d : Bool) → nat_lt size most ≡ d → IsWithin most (if d && b then Found token (size + 1) else Bad)
-    by_size true e = let fits : size + 1 ≤ most = grind (arith, nat_tests) in fits_or most b _ _ fits tt
-    by_size false e = tt
+string_by most size token b = grind (arith, nat_tests, fits_or)
 
 string_fits : (place : ℕ) (cs : List ℕ) → IsWithin (length cs) (string_lexeme place cs)
 unfolding string_lexeme
 string_fits place cs = string_by (length cs) (length (content_of cs)) _ (list_all (between 32 126) (content_of cs))
 
 mark_fits : (most c : ℕ) → IsWithin most (mark_lexeme c)
-mark_fits most c =
-    let none : 0 ≤ most = omega arith in
-    fits_or most (c == 61) (Found Equals 0) _ none (fits_or most (c == 46) (Found Dot 0) _ none (fits_or most (c == 40) (Found Open 0) _ none
-    (fits_or most (c == 41) (Found Close 0) _ none (fits_or most (c == 91) (Found OpenBracket 0) _ none (fits_or most (c == 93) (Found CloseBracket 0) _ none
-    (fits_or most (c == 44) (Found Comma 0) _ none tt))))))
+mark_fits most c = grind (arith, fits_or)
 
 lexeme_fits : (place c : ℕ) (cs : List ℕ) → IsWithin (length cs) (lexeme place c cs)
 unfolding lexeme
