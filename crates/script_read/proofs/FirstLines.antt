@@ -1,8 +1,7 @@
 -- The first line of a text, and the reading of a script line by line.
-use Rattle.std.proofs.Common.{◌≡◌, ◌<◌, ◌≤◌, ◌+◌, ℕ, suc, List, [], ◌∷◌, ◌++◌, length, take, drop, get_or, drop-cons, add-one, subst, Bool, true, false, None, Some, Option, arith, refl, ap, sym, ◌∙◌, not, nat_lt, ◌==◌, position, cond, if◌then◌else◌, ◌⊎◌, inl, inr, length-append, append_assoc}
+use Rattle.std.proofs.Common.{◌≡◌, ◌<◌, ◌≤◌, ◌+◌, ℕ, suc, List, [], ◌∷◌, ◌++◌, length, take, drop, get_or, drop-cons, add-one, subst, Bool, true, false, None, Some, Option, arith, refl, ap, sym, ◌∙◌, not, nat_lt, ◌==◌, position, cond, ◌⊎◌, length-append, append_assoc}
 use Rattle.lemmas.proofs.{and_holds, list_all, nat_tests, position-Some, position_or_len, strip_last, append-nil}
 use Rattle.std.proofs.lemmas.List.{take_all, take-append-drop}
-use native.Mathlib.Numerals.{unary_clauses}
 use Rattle.rdf_values.specs.{lines_of, AreLines, IsScript, Line, RefusesLines, RefusesScript, Script, ScriptCause}
 use Rattle.rdf_values.proofs.ScriptSteps.{is_in_line, without_cr, lines_of_line, lines_of_last}
 use Rattle.rdf_values.proofs.OneScript.{script_or_refusal, one_cause}

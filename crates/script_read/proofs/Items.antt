@@ -1,6 +1,6 @@
 -- What stands where something is wanted: names, methods, expressions and what a Vary says.
 use Rattle.std.proofs.Common.{◌≡◌, ◌≤◌, ℕ, List, [], ◌∷◌, length, Option, Some, None, arith, subst, ◌∙◌, Bool, true, false, refl, sym, ap, if◌then◌else◌, ◌<◌, ◌+◌, ◌++◌, map, get_or, drop, append_assoc, ℤ, pos, codes, option_map}
-use Rattle.rdf_values.specs.{AfterName, at_end, at_scan, at_token, continued, ending, Nothing, OpenMark, Operator, Placed, Refusal, Refused, scan, scan_step, ScanState, Token, all_strings, AreNames, IsName, QuotedText, ReadsValuesText, Says, Statement, Strings, VaryValues, LineToken, PlacedToken, same, FirstBad, more_names, no_names, wanted_names, arguments, Form, form_tokens, has_free_names, is_free, maybe_string, Method, method_word, more_edges, more_strings}
+use Rattle.rdf_values.specs.{at_end, at_scan, at_token, continued, ending, OpenMark, Placed, Refusal, Refused, scan, scan_step, ScanState, Token, all_strings, AreNames, IsName, QuotedText, ReadsValuesText, Says, Statement, Strings, VaryValues, LineToken, PlacedToken, same, FirstBad, more_names, no_names, wanted_names, arguments, Form, form_tokens, has_free_names, is_free, maybe_string, Method, method_word, more_edges, more_strings}
 use Rattle.rdf_values.specs.expressions.Scans.{Wanted, Refuses}
 use Rattle.expr_read.specs.{ExprRefusal, RefusesTextAs}
 use Rattle.expr_read.proofs.ValidTokens.{StandBelow, no_tokens, more_tokens, all_fine}

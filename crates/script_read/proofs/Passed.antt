@@ -1,11 +1,11 @@
 -- The walk passes over every line.
-use Rattle.std.proofs.Common.{◌≡◌, ◌∙◌, ℕ, ℤ, List, [], ◌∷◌, ◌++◌, Option, Some, None, true, refl, ap, append_assoc, codes, arith}
+use Rattle.std.proofs.Common.{◌≡◌, ◌∙◌, ℕ, ℤ, List, [], ◌∷◌, ◌++◌, Option, Some, true, refl, ap, append_assoc, arith}
 use Rattle.lemmas.proofs.{append-nil, both_true}
 use Rattle.rdf_values.specs.{arguments, edges_tokens, Form, form_tokens, has_free_names, is_free, LineToken, maybe_string, Method, method_word, more_edges, more_strings, QuotedText, strings_tokens}
 use Rattle.rdf_values.specs.scripts.LineTokens as t
 use Rattle.rdf_values.specs.scripts.LineForms.{call}
 use Rattle.rdf_values.specs.scripts.LineForms as form
-use Rattle.script_read.specs.{ActionName, ALine, AMark, AMethod, arguments_wants, asking_wants, AString, AWord, booking_wants, Done, edges_wants, Mark, MaybeString, method_wants, MethodName, MoreEdges, MoreStrings, name_word, next, one_string_wants, variation_wants, walk, WalkEnd, Want}
+use Rattle.script_read.specs.{ActionName, ALine, AMark, AMethod, arguments_wants, asking_wants, AString, AWord, Done, edges_wants, Mark, MaybeString, MethodName, MoreEdges, MoreStrings, name_word, next, one_string_wants, variation_wants, walk, WalkEnd, Want}
 use Rattle.script_read.proofs.Walked.{is_name_next}
 use Rattle.script_read.proofs.Joined.{line_next, method_next}
 

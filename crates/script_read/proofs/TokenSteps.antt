@@ -1,7 +1,7 @@
 -- One more token of a line, its words and integers.
-use Rattle.std.proofs.Common.{◌≡◌, ◌∙◌, ◌+◌, ℕ, Bool, true, List, [], ◌∷◌, length, get_or, take, drop, ◌-◌, suc, arith, refl, ap, sym, subst, ◌==◌, ◌||◌, take_while, if◌then◌else◌, ◌≤◌, ◌<◌, false, Some, None, ◌++◌, Ok, Err, append_assoc, length-drop, Result, Option, ◌&&◌, ℤ, nat_lt}
+use Rattle.std.proofs.Common.{◌≡◌, ◌∙◌, ◌+◌, ℕ, Bool, true, List, [], ◌∷◌, length, get_or, take, drop, ◌-◌, suc, arith, refl, ap, sym, subst, ◌==◌, ◌||◌, take_while, if◌then◌else◌, ◌≤◌, ◌<◌, ◌++◌, Ok, Err, append_assoc, length-drop, Result, Option, ◌&&◌, ℤ, nat_lt}
 use Rattle.lemmas.proofs.{length-prefix_len, nat_tests, take_rest, append-nil, drop-drop, drop_all, drop_more, list_all}
-use Rattle.rdf_values.specs.{integer_lexeme, integer_of, is_blank, is_digit, is_word, is_word_byte, is_word_start, lexeme, word_lexeme, Bad, between, Blank, Close, CloseBracket, Comma, Comment, content_of, Dot, Equals, Found, is_name, Lexeme, LineToken, mark_lexeme, Open, OpenBracket, PlacedToken, string_lexeme, tokens_from, with_lexeme, with_token}
+use Rattle.rdf_values.specs.{integer_lexeme, integer_of, is_blank, is_digit, is_word, is_word_byte, is_word_start, lexeme, word_lexeme, Bad, between, Blank, Comment, content_of, Found, is_name, Lexeme, LineToken, mark_lexeme, PlacedToken, string_lexeme, tokens_from, with_lexeme, with_token}
 use Rattle.expr_read.proofs.TokenSteps.{run_passes, word_run, run_size as run_short}
 use Rattle.rdf_values.proofs.ScriptSteps.{tokens_behind}
 
