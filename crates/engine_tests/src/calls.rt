@@ -4,10 +4,9 @@ ghost use Rattle.std.specs.Prelude.{◌≡◌, length};
 ghost use Rattle.entry_fns.specs.{hyp2_of, square_of};
 
 use crate::answer::{scalar_answer, value_answer};
-use crate::cells::column;
+use crate::cells::{faulted, int, missing, truth, vect};
 use entry_fns::shipped::{Hyp2, Square};
 use entry_fns::{Closure, FnList, Stored};
-use expr_eval::Input;
 use rdf_values::{ColType, EntryFault, Name};
 use std::alloc::Global;
 use std::sync::Arc;
@@ -72,8 +71,12 @@ fn what_is_met_is_called_once_or_needed(rt: HostRuntime) -> Result<(), Fail> {
             Square::answer(args)
         },
     )?;
-    let stored = Stored::new::<Square>(square);
-    add(alloc, &mut functions, b"square", stored)?;
+    add(
+        alloc,
+        &mut functions,
+        b"square",
+        Stored::new::<Square>(square),
+    )?;
     let hyp2: Closure = Box::new(
         alloc,
         move |args: &[i64]| -> Option<i64>
@@ -84,16 +87,15 @@ fn what_is_met_is_called_once_or_needed(rt: HostRuntime) -> Result<(), Fail> {
             Hyp2::answer(args)
         },
     )?;
-    let pair = Stored::new::<Hyp2>(hyp2);
-    add(alloc, &mut functions, b"hyp2", pair)?;
+    add(alloc, &mut functions, b"hyp2", Stored::new::<Hyp2>(hyp2))?;
     let cells = [
-        column("w", ColType::Int, Input::Int(3)),
-        column("no", ColType::Bool, Input::Bool(false)),
-        column("v", ColType::Vect, Input::Vect(&[1, 2, 3])),
-        column("x", ColType::Int, Input::Missing),
-        column("unknown", ColType::Bool, Input::Missing),
-        column("gone", ColType::Vect, Input::Missing),
-        column("broken", ColType::Int, Input::Faulted(EntryFault::Index)),
+        int("w", 3),
+        truth("no", false),
+        vect("v", &[1, 2, 3]),
+        missing("x", ColType::Int),
+        missing("unknown", ColType::Bool),
+        missing("gone", ColType::Vect),
+        faulted("broken", ColType::Int, EntryFault::Index),
     ];
     for (text, want, times) in &ROWS {
         let before = calls.load(Ordering::SeqCst);

@@ -5,7 +5,7 @@ ghost use Rattle.engine_tests.specs.Scopes.{AreBefore};
 
 use expr_check::Scope;
 use expr_eval::{Input, Inputs};
-use rdf_values::{ColType, Name};
+use rdf_values::{ColType, EntryFault, Name};
 use std::alloc::Global;
 use std::test::Fail;
 
@@ -19,9 +19,49 @@ pub struct Cell<'a> {
     pub input: Input<'a>,
 }
 
-/// The column of that name and kind.
-pub fn column<'a>(name: &'a str, kind: ColType, input: Input<'a>) -> Cell<'a> {
-    Cell { name, kind, input }
+/// A column that holds a number.
+pub fn int(name: &str, value: i64) -> Cell<'_> {
+    Cell {
+        name,
+        kind: ColType::Int,
+        input: Input::Int(value),
+    }
+}
+
+/// A column that holds a truth value.
+pub fn truth(name: &str, value: bool) -> Cell<'_> {
+    Cell {
+        name,
+        kind: ColType::Bool,
+        input: Input::Bool(value),
+    }
+}
+
+/// A column that holds a vector of at most 4,096 elements.
+pub fn vect<'a>(name: &'a str, elements: &'a [i64]) -> Cell<'a> {
+    Cell {
+        name,
+        kind: ColType::Vect,
+        input: Input::Vect(elements),
+    }
+}
+
+/// A column of which nothing is known yet.
+pub fn missing(name: &str, kind: ColType) -> Cell<'_> {
+    Cell {
+        name,
+        kind,
+        input: Input::Missing,
+    }
+}
+
+/// A column whose own evaluation faulted.
+pub fn faulted(name: &str, kind: ColType, fault: EntryFault) -> Cell<'_> {
+    Cell {
+        name,
+        kind,
+        input: Input::Faulted(fault),
+    }
 }
 
 fn fits(cell: &Cell<'_>) -> bool
