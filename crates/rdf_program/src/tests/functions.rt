@@ -57,8 +57,12 @@ fn counted_closure(rt: HostRuntime) -> Result<(), Fail> {
             Square::answer(args)
         },
     )?;
-    let stored = Stored::new::<Square>(square);
-    add(alloc, &mut functions, b"square", stored)?;
+    add(
+        alloc,
+        &mut functions,
+        b"square",
+        Stored::new::<Square>(square),
+    )?;
     for (script, table, output, demanded, most) in [
         (SHARED, TABLE, "s = 15\nt = 15\nm = 9\nn = 2\n", 4, 4),
         (VARIED, NUMBERS, UNDER_VARIATIONS, 34, 68),

@@ -182,8 +182,12 @@ fn bar_is_lowered(rt: HostRuntime) -> Result<(), Fail> {
         },
     )?;
     let mut functions = FnList::new(alloc);
-    let stored = Stored::new::<Square>(square);
-    add(alloc, &mut functions, b"square", stored)?;
+    add(
+        alloc,
+        &mut functions,
+        b"square",
+        Stored::new::<Square>(square),
+    )?;
     let gate = FaultIsMet {
         met,
         turns: AtomicU64::new(0),
