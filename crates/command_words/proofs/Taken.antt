@@ -5,7 +5,11 @@ use Rattle.clap.specs.Words.{App, HasMatchesOf, IsAmong, Kinds, Text, fault_of, 
 use Rattle.clap.specs.declared.error.kind.ErrorKind.{ErrorKind}
 use Rattle.clap.specs.declared.parser.matches.ArgMatches.{ArgMatches}
 use Rattle.clap.proofs.OnLiterals.{clap_on_literals}
+use Rattle.clap.proofs.WalkLemmas.{first_value-rows}
 use Rattle.command_words.specs.{asked_in, asked_of, has_none, is_taken, rdf_command}
+
+-- what finds the first value of an argument
+pub ruleset values = (first_value-rows)
 
 pub rdf_simple : is_simple rdf_command ≡ true
 unfolding rdf_command clap_on_literals

@@ -1,6 +1,6 @@
 // Reading the command's words.
 ghost use Rattle.std.specs.Prelude.{◌≡◌, IfOk, option_map, map};
-ghost use Rattle.clap.specs.Words.{first_of, found_of, rows_of};
+ghost use Rattle.clap.specs.Words.{found_of, rows_of};
 ghost use Rattle.command_words.specs.{asked_in, asked_of, friend_from, input_from, number_of, setting_of};
 
 use crate::arguments::arguments;
@@ -19,6 +19,7 @@ const MAX_SIZE: u32 = 1_000_000;
 const MAX_ENTRIES: u32 = 1_000_000;
 
 // The words, borrowed one by one.
+#[tactic(auto, using(crate::proofs::Taken::map_more))]
 fn borrowed<'a>(alloc: Global, words: &'a WordList) -> Result<Vec<&'a str>, Memory>
     ensures { IfOk result (λ list. map (λ w. w.now) list.items ≡ words.entry.now) }
 {
@@ -47,13 +48,6 @@ fn setting(text: Option<&str>, usual: u32, most: u32) -> Option<u32>
     ensures { result ≡ setting_of usual most (option_map (λ s. s.now) text.entry) }
 {
     text.map_or(Some(usual), |text| number(text, 1, most))
-}
-
-// The first value of an argument.
-fn value<'a>(matches: &ArgMatches<'a>, id: &str) -> Option<&'a str>
-    ensures { option_map (λ s. s.now) result ≡ first_of id.now (rows_of (found_of matches.now)) }
-{
-    matches.get_str(id)
 }
 
 // The friend that is asked for, if one is. There is no answer where the file and the key don't come together, the number
@@ -111,22 +105,22 @@ fn input(
 }
 
 // What is asked by the values of a parse.
-#[tactic(auto, unfolding(crate::specs::Asked::asked_in, crate::specs::Asked::input_of))]
+#[tactic(auto, using(crate::proofs::Taken::values), unfolding(crate::specs::Asked::asked_in, crate::specs::Asked::input_of))]
 fn asked(alloc: Global, matches: &ArgMatches<'_>) -> Result<Option<Command>, Memory>
     ensures { IfOk result (λ command. command ≡ asked_in (rows_of (found_of matches.now))) }
 {
-    let slots = setting(value(matches, "slots"), 1, MAX_SLOTS);
-    let cluster = setting(value(matches, "cluster"), 10_000, MAX_SIZE);
-    let watch = setting(value(matches, "watch"), 1, MAX_SIZE);
+    let slots = setting(matches.get_str("slots"), 1, MAX_SLOTS);
+    let cluster = setting(matches.get_str("cluster"), 10_000, MAX_SIZE);
+    let watch = setting(matches.get_str("watch"), 1, MAX_SIZE);
     let (Some(slots), Some(cluster), Some(watch)) = (slots, cluster, watch) else {
         return Ok(None);
     };
-    let is_made = value(matches, "make").is_some_and(|text| text == "true");
+    let is_made = matches.get_str("make").is_some_and(|text| text == "true");
     let Some(friend) = friend_asked(
         alloc,
-        value(matches, "friend"),
-        value(matches, "key"),
-        value(matches, "missing"),
+        matches.get_str("friend"),
+        matches.get_str("key"),
+        matches.get_str("missing"),
     )?
     else {
         return Ok(None);
@@ -134,8 +128,8 @@ fn asked(alloc: Global, matches: &ArgMatches<'_>) -> Result<Option<Command>, Mem
     let Some(input) = input(
         alloc,
         is_made,
-        value(matches, "SCRIPT"),
-        value(matches, "TABLE"),
+        matches.get_str("SCRIPT"),
+        matches.get_str("TABLE"),
         friend,
     )?
     else {

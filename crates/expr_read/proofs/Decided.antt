@@ -38,9 +38,7 @@ module _ {T : Type 0} (reads : List Token → T → Type 0) (begin : ScanState) 
   reads_these text ts x same r = let these : r.found ≡ ts = cc (same, r.tokens_are) in subst (λ (us : List Placed). reads (bare us) x) these r.reads_as
 
   pub not_both : (text : List ℕ) (x : T) (r : Refusal) → IsText reads text x → Refuses reads begin text r → ⊥
-  not_both text x r t (at_token e) = let never = sym e ∙ t.tokens_are in cc never
-  not_both text x r t (at_scan {ts} e g) = let never = sym g ∙ whole ts x (reads_these text ts x e t) in cc never
-  not_both text x r t (at_end {ts} e none h) = h x (reads_these text ts x e t)
+  not_both text x r t h = grind (arith, whole)
 
   -- a text that reads is refused for want of memory alone
   pub memory_alone : (text : List ℕ) (x : T) (e : ExprRefusal) → IsText reads text x → RefusesTextAs reads begin text e → e ≡ ExprRefusal.Memory
@@ -49,22 +47,8 @@ module _ {T : Type 0} (reads : List Token → T → Type 0) (begin : ScanState) 
 
   -- ---- each text has one answer
 
-  same_tokens : (text : List ℕ) (ts us : List Placed) → tokens text ≡ Ok ts → tokens text ≡ Ok us → ts ≡ us
-  same_tokens text ts us e f = cc (sym e ∙ f)
-
   pub one_refusal : (text : List ℕ) (r s : Refusal) → Refuses reads begin text r → Refuses reads begin text s → r ≡ s
-  one_refusal text r s (at_token e) (at_token f) = cc (sym e ∙ f)
-  one_refusal text r s (at_token e) (at_scan f g) = cc (sym e ∙ f)
-  one_refusal text r s (at_token e) (at_end f g h) = cc (sym e ∙ f)
-  one_refusal text r s (at_scan e g) (at_token f) = cc (sym e ∙ f)
-  one_refusal text r s (at_end e g h) (at_token f) = cc (sym e ∙ f)
-  one_refusal text r s (at_scan {ts} {p} e g) (at_scan {ts = us} {p = q} f h) =
-      let same : Refused p ≡ Refused q = sym g ∙ ap (scan begin) (same_tokens text ts us e f) ∙ h in
-      let there : p ≡ q = cc same in
-      ap (λ (n : ℕ). record { cause = ExprCause.Unexpected; place = n }) there
-  one_refusal text r s (at_scan {ts} {p} e g) (at_end {ts = us} f none h) = absurd (none p (ap (scan begin) (sym (same_tokens text ts us e f)) ∙ g))
-  one_refusal text r s (at_end {ts = us} f none h) (at_scan {ts} {p} e g) = absurd (none p (ap (scan begin) (sym (same_tokens text ts us e f)) ∙ g))
-  one_refusal text r s (at_end e g h) (at_end f k l) = refl
+  one_refusal text r s h k = grind arith
 
   abbrev pub Answered : List ℕ → Type 0
   Answered text = ((x : T) × IsText reads text x) ⊎ ((r : Refusal) × Refuses reads begin text r)

@@ -54,12 +54,6 @@ stuck_inside o s [] h isnt nor = refl
 stuck_inside o s (p ∷ ts) h isnt nor =
     refused_at (Operator, o ∷ s) p ts (inside_step o s p.token h (first_is_not (Punct (closing o)) p ts isnt) (λ e. first_is_not (Punct Mark.Comma) p ts (nor e)))
 
-end_step : (t : Token) → continues 0 t ≡ false → operator t [] ≡ None
-end_step t h = grind (arith, never)
-
-pub refused_end : (p : Placed) (ts : List Placed) → Stops 0 (p ∷ ts) → scan (Operator, []) (p ∷ ts) ≡ Refused p.place
-refused_end p ts h = refused_at (Operator, []) p ts (end_step p.token h)
-
 -- ---- where an expression stops
 
 pub level_low : (o : BinOp) → level_of o ≤ 6
@@ -71,12 +65,9 @@ level_high o = grind arith
 pub positive : (n : ℕ) → 1 ≤ n → nat_eq n 0 ≡ false
 positive n h = grind (arith, nat_tests)
 
-postfix_step : (n : ℕ) (t : Token) → 7 ≤ n → n ≤ 8 → (t ≡ Punct Mark.OpenBracket → ⊥) → continues n t ≡ false
-postfix_step n t low high isnt = grind (arith, le_false, level_low, positive)
-
 pub stops_postfix : (n : ℕ) (ts : List Placed) → 7 ≤ n → n ≤ 8 → BeginsNot (Punct Mark.OpenBracket) ts → Stops n ts
 stops_postfix n [] low high isnt = tt
-stops_postfix n (p ∷ ts) low high isnt = postfix_step n p.token low high (first_is_not (Punct Mark.OpenBracket) p ts isnt)
+stops_postfix n (p ∷ ts) low high isnt = grind (arith, le_false, level_low, positive, first_is_not)
 
 sides_step : (n : ℕ) (t : Token) → 1 ≤ n → n ≤ 6 → continues (n + 1) t ≡ false → ((o : BinOp) → level_of o ≡ n → t ≡ Op o → ⊥) → continues n t ≡ false
 sides_step n t low high h isnt = grind (arith, le_not, le_false, positive)
@@ -85,9 +76,6 @@ pub stops_binary : (n : ℕ) (ts : List Placed) → 1 ≤ n → n ≤ 6 → Stop
 stops_binary n [] low high h isnt = tt
 stops_binary n (p ∷ ts) low high h isnt = sides_step n p.token low high h (λ o e. first_is_not (Op o) p ts (isnt o e))
 
-expr_step : (t : Token) → continues 1 t ≡ false → (t ≡ Punct Mark.Question → ⊥) → continues 0 t ≡ false
-expr_step t h isnt = grind (arith, le_not, level_high)
-
 pub stops_expr : (ts : List Placed) → Stops 1 ts → BeginsNot (Punct Mark.Question) ts → Stops 0 ts
 stops_expr [] h isnt = tt
-stops_expr (p ∷ ts) h isnt = expr_step p.token h (first_is_not (Punct Mark.Question) p ts isnt)
+stops_expr (p ∷ ts) h isnt = grind (arith, le_not, first_is_not)

@@ -57,28 +57,23 @@ is_unequal (c ∷ cs) = not (nat_eq c 61)
 
 pub minus : (rest : List ℕ) → Spells (45 ∷ []) (Op BinOp.Sub ∷ []) rest
 unfolding first_token long_mark short_mark
-minus [] = token 45 [] (Op BinOp.Sub) [] refl refl
-minus (d ∷ rest) = token 45 [] (Op BinOp.Sub) (d ∷ rest) refl refl
+minus rest = grind (arith, token)
 
 pub open_paren : (rest : List ℕ) → Spells (40 ∷ []) (Punct Mark.Open ∷ []) rest
 unfolding first_token long_mark short_mark
-open_paren [] = token 40 [] (Punct Mark.Open) [] refl refl
-open_paren (d ∷ rest) = token 40 [] (Punct Mark.Open) (d ∷ rest) refl refl
+open_paren rest = grind (arith, token)
 
 pub close_paren : (rest : List ℕ) → Spells (41 ∷ []) (Punct Mark.Close ∷ []) rest
 unfolding first_token long_mark short_mark
-close_paren [] = token 41 [] (Punct Mark.Close) [] refl refl
-close_paren (d ∷ rest) = token 41 [] (Punct Mark.Close) (d ∷ rest) refl refl
+close_paren rest = grind (arith, token)
 
 pub open_bracket : (rest : List ℕ) → Spells (91 ∷ []) (Punct Mark.OpenBracket ∷ []) rest
 unfolding first_token long_mark short_mark
-open_bracket [] = token 91 [] (Punct Mark.OpenBracket) [] refl refl
-open_bracket (d ∷ rest) = token 91 [] (Punct Mark.OpenBracket) (d ∷ rest) refl refl
+open_bracket rest = grind (arith, token)
 
 pub close_bracket : (rest : List ℕ) → Spells (93 ∷ []) (Punct Mark.CloseBracket ∷ []) rest
 unfolding first_token long_mark short_mark
-close_bracket [] = token 93 [] (Punct Mark.CloseBracket) [] refl refl
-close_bracket (d ∷ rest) = token 93 [] (Punct Mark.CloseBracket) (d ∷ rest) refl refl
+close_bracket rest = grind (arith, token)
 
 pub comma : (rest : List ℕ) → Spells (codes ", ") (Punct Mark.Comma ∷ []) rest
 unfolding first_token long_mark short_mark
@@ -126,16 +121,13 @@ apart_stops (c ∷ cs) h = not_true (is_word_byte c) h
 blank_by : (c : ℕ) (b d : Bool) → nat_eq c 32 ≡ b → nat_eq c 9 ≡ d → is_word_start c ≡ true → is_blank c ≡ false
 blank_by c b d e f h = grind (arith, eq_says)
 
-starts_byte : (c : ℕ) → is_word_start c ≡ true → is_word_byte c ≡ true
-starts_byte c h = ap (λ (b : Bool). b || is_digit c) h
-
 short_word : (w : List ℕ) → length w ≤ 64 → word_first w ≡ Ok (word_token w, length w)
 unfolding word_first
 short_word w h = let fits : nat_le (length w) 64 ≡ true = grind (arith, nat_tests) in rw fits refl
 
 pub word : (c : ℕ) (cs rest : List ℕ) → is_word_start c ≡ true → list_all is_word_byte cs ≡ true → length (c ∷ cs) ≤ 64 → is_apart rest ≡ true → Spells (c ∷ cs) (word_token (c ∷ cs) ∷ []) rest
 word c cs rest start all few apart =
-    let whole : list_all is_word_byte (c ∷ cs) ≡ true = ap (λ (b : Bool). b && list_all is_word_byte cs) (starts_byte c start) ∙ all in
+    let whole : list_all is_word_byte (c ∷ cs) ≡ true = ap (λ (b : Bool). (b || is_digit c) && list_all is_word_byte cs) start ∙ all in
     token c cs (word_token (c ∷ cs)) rest (blank_by c _ _ refl refl start)
     (first_word c (cs ++ rest) start ∙ ap word_first (taken is_word_byte (c ∷ cs) rest whole (apart_stops rest apart)) ∙ short_word (c ∷ cs) few)
 

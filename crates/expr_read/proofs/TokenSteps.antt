@@ -1,7 +1,7 @@
 -- The tokens of a text, one by one: how many bytes each takes, and what holds of it.
 use Rattle.std.proofs.Common.{◌≡◌, ◌≤◌, ◌<◌, ◌+◌, ℕ, Bool, true, false, List, [], ◌∷◌, length, Option, Some, None, Ok, Err, arith, refl, sym, ap, subst, ◌∙◌, length-take, length-drop, ◌-◌, get_or, drop, take, take_while, nat_le, codes, ◌||◌, MatchResult, IfSome, if◌then◌else◌, suc, ◌++◌, add-zero, append_assoc, length-append, Result}
 use Rattle.lemmas.proofs.{both_true, common_steps, drop_more, list_all, nat_tests, prefix_len, take_while-cons, append-nil, drop-drop, drop_all}
-use Rattle.rdf_values.specs.{First, first_token, is_digit, is_name, is_word, is_word_byte, is_word_start, long_first, long_mark, long_marks, magnitude_of, mark_first, number_first, number_found, Refusal, same, short_first, short_mark, short_marks, Token, word_first, word_token, and_then, before, from, is_blank, Placed, tokens_at, tokens_within}
+use Rattle.rdf_values.specs.{First, first_token, is_digit, is_name, is_word, is_word_byte, is_word_start, long_first, long_mark, long_marks, magnitude_of, mark_first, number_first, number_found, Refusal, same, short_first, short_mark, short_marks, Token, word_first, and_then, before, from, is_blank, Placed, tokens_at, tokens_within}
 use Rattle.rdf_values.specs.expressions.Tokens.{mark_in, too_many}
 use Rattle.rdf_values.proofs.OneText.{magnitude_bound}
 use Rattle.expr_read.specs.{is_valid}
@@ -22,9 +22,6 @@ run_passes p (x ∷ xs) = rw take_while-cons (passes_by p x (take_while p xs) (p
 pub word_run : (c : ℕ) (cs : List ℕ) → is_word_start c ≡ true → take_while is_word_byte (c ∷ cs) ≡ c ∷ take_while is_word_byte cs
 word_run c cs h = let first : is_word_byte c ≡ true = ap (λ (b : Bool). b || is_digit c) h in rw (take_while-cons, first) refl
 
-whole_word : (c : ℕ) (cs : List ℕ) → is_word_start c ≡ true → is_word (take_while is_word_byte (c ∷ cs)) ≡ true
-whole_word c cs h = rw (word_run c cs h, h) (run_passes is_word_byte cs)
-
 pub run_size : (p : ℕ → Bool) (xs : List ℕ) → length (take_while p xs) ≤ length xs
 run_size p xs = omega (arith, length-take {A = ℕ})
 
@@ -37,12 +34,9 @@ named : (w : List ℕ) → is_word w ≡ true → nat_le (length w) 64 ≡ true 
 unfolding is_name
 named w h few t f = rw (h, few, t, f) refl
 
-token_by : (w : List ℕ) (t f : Bool) → same w (codes "true") ≡ t → same w (codes "false") ≡ f → is_word w ≡ true → nat_le (length w) 64 ≡ true → is_valid (word_token w) ≡ true
-token_by w t f e g h few = grind (arith, named)
-
 word_fine : (w : List ℕ) (n : ℕ) (b : Bool) → nat_le (length w) 64 ≡ b → 0 < length w → length w ≤ n → is_word w ≡ true → IsFine n (word_first w)
 unfolding word_first
-word_fine w n true e h k r = rw e (h, k, token_by w (same w (codes "true")) (same w (codes "false")) refl refl r e)
+word_fine w n true e h k r = grind (arith, named)
 word_fine w n false e h k r = rw e (let long : 64 < length w = grind (arith, nat_tests) in omega arith)
 
 number_fine : (size n : ℕ) (o : Option ℕ) → ((m : ℕ) → o ≡ Some m → m ≤ 9223372036854775807) → 0 < size → size ≤ n → IsFine n (number_found size o)
@@ -68,11 +62,7 @@ mark_valid (m ∷ ms) text h = let p = both_true (is_valid m.1) (are_marks ms) h
 
 short_fine : (c n : ℕ) → IsFine (n + 1) (short_first (short_mark c))
 unfolding short_mark
-short_fine c n = by_mark (short_mark c) (mark_valid short_marks (c ∷ []) refl)
-  where
-    by_mark : (o : Option Token) → IsValidMark o → IsFine (n + 1) (short_first o)
-    by_mark None v = omega arith
-    by_mark (Some t) v = (omega arith, omega arith, v)
+short_fine c n = grind (arith, mark_valid)
 
 long_fine : (c d n : ℕ) → IsFine (n + 2) (long_first c (long_mark c d))
 unfolding long_mark
@@ -101,9 +91,7 @@ unfolding first_token
 first_mark c cs e h = rw (e, h) refl
 
 fine_by : (c : ℕ) (cs : List ℕ) (b d : Bool) → is_word_start c ≡ b → is_digit c ≡ d → IsFine (length cs + 1) (first_token c cs)
-fine_by c cs true d e h =
-    let starts : is_word_byte c ≡ true = rw e refl in
-    subst (IsFine (length cs + 1)) (sym (first_word c cs e)) (word_fine (take_while is_word_byte (c ∷ cs)) (length cs + 1) _ refl (run_begins is_word_byte c cs starts) (omega (arith, run_size is_word_byte (c ∷ cs))) (whole_word c cs e))
+fine_by c cs true d e h = grind (arith, first_word, word_fine, run_begins, run_size, word_run, run_passes)
 fine_by c cs false true e h =
     subst (IsFine (length cs + 1)) (sym (first_number c cs e h)) (run_fine (take_while is_digit (c ∷ cs)) (length cs + 1) (run_begins is_digit c cs h) (omega (arith, run_size is_digit (c ∷ cs))))
 fine_by c cs false false e h = subst (IsFine (length cs + 1)) (sym (first_mark c cs e h)) (mark_fine c cs)

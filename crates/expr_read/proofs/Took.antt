@@ -1,11 +1,11 @@
 -- What was read, from what its parts read.
 use Rattle.std.proofs.Common.{◌≡◌, ◌<◌, ◌+◌, ◌∙◌, ℕ, suc, ℤ, Bool, List, [], ◌∷◌, ◌++◌, length, arith, refl, sym, ap, subst, append_assoc, add-one, Some, None}
-use Rattle.rdf_values.specs.{after_list, AfterBrace, AfterList, bare, begin_values, between_lists, binary, BinOp, conditional, End, InCall, InChoice, InIndex, InList, InLists, InParens, last_argument, last_item, last_list, level_of, Mark, minus_sign, More, more_arguments, more_items, more_lists, name, NamedTree, NamedTrees, next_list, NextList, no_arguments, not_sign, Nothing, number, one_list, Op, OpenMark, Operand, Operator, parenthesized, pick, Placed, Punct, Reads, ReadsArgs, scan, scan_step, ScanState, several_lists, tighter, Token, truth, vector}
+use Rattle.rdf_values.specs.{after_list, AfterBrace, AfterList, bare, begin_values, binary, BinOp, conditional, End, InCall, InChoice, InIndex, InList, InLists, InParens, last_argument, last_item, last_list, level_of, Mark, minus_sign, More, more_arguments, more_items, more_lists, name, NamedTree, NamedTrees, next_list, NextList, no_arguments, not_sign, Nothing, number, one_list, Op, OpenMark, Operand, Operator, parenthesized, pick, Placed, Punct, Reads, ReadsArgs, scan, scan_step, ScanState, several_lists, tighter, Token, truth, vector}
 use Rattle.rdf_values.specs.expressions.Expressions as e
 use Rattle.rdf_values.specs.expressions.Tokens.{Word, Truth, Number}
 use Rattle.rdf_values.specs.expressions.Grammar.{call}
 use Rattle.expr_read.specs.{Begins, BeginsNot, ends_at, in_list, Listing, Listings, Stops, stuck_at, Took, TookArgs, TookList, TookLists, TookValues}
-use Rattle.expr_read.proofs.Scanned.{scan_after, name_ends, argument_first, first_is_not, refused_at, refused_end, unless}
+use Rattle.expr_read.proofs.Scanned.{scan_after, name_ends, argument_first, first_is_not, refused_at, unless, never}
 use Rattle.rdf_values.specs.declared.scripts.statement.VaryValues.TheVariants.{Lists as ListsOf, Vector as VectorOf}
 
 pub bare_after : {t : Token} {old new : List Placed} → Begins t old new → bare old ≡ t ∷ bare new
@@ -158,12 +158,9 @@ lists_done {es = es} l k b = record {
 
 -- ---- where the scan stops
 
-between_step : (s : List OpenMark) (t : Token) → (t ≡ Punct Mark.Comma → ⊥) → (t ≡ Punct Mark.CloseBrace → ⊥) → between_lists t s ≡ None
-between_step s t isnt nor = grind arith
-
 pub stuck_between : (ts : List Placed) → BeginsNot (Punct Mark.Comma) ts → BeginsNot (Punct Mark.CloseBrace) ts → scan (AfterList, InLists ∷ []) ts ≡ stuck_at ts
 stuck_between [] isnt nor = refl
-stuck_between (p ∷ ts) isnt nor = refused_at (AfterList, InLists ∷ []) p ts (between_step (InLists ∷ []) p.token (first_is_not (Punct Mark.Comma) p ts isnt) (first_is_not (Punct Mark.CloseBrace) p ts nor))
+stuck_between (p ∷ ts) isnt nor = grind (arith, refused_at, first_is_not)
 
 next_step : (s : List OpenMark) (t : Token) → (t ≡ Punct Mark.OpenBrace → ⊥) → next_list t s ≡ None
 next_step s t isnt = grind arith
@@ -181,8 +178,7 @@ pub item_first : (ts : List Placed) → BeginsNot (Punct Mark.OpenBrace) ts → 
 item_first ts isnt = unless (Punct Mark.OpenBrace) (AfterBrace, InList ∷ []) (Operand, InList ∷ []) ts refl (λ t no. grind arith) isnt
 
 pub ends_operator : (ts : List Placed) → Stops 0 ts → scan (Operator, []) ts ≡ ends_at ts
-ends_operator [] h = refl
-ends_operator (p ∷ ts) h = refused_end p ts h
+ends_operator ts h = grind (arith, refused_at, never)
 
 ends_nothing : (ts : List Placed) → scan (Nothing, []) ts ≡ ends_at ts
 ends_nothing ts = grind arith

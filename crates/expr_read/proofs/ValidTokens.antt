@@ -1,8 +1,7 @@
 -- The tokens of a text are at most 256 and stand in it; their words are names, and their numbers have 64 bits. A refusal stands in the text, or at its end.
-use Rattle.std.proofs.Common.{◌≡◌, ◌≤◌, ◌+◌, ℕ, zero, suc, Bool, true, false, List, [], ◌∷◌, length, drop, Ok, Err, arith, refl, subst, length-drop, Result, MatchResult, nat_le}
+use Rattle.std.proofs.Common.{◌≡◌, ◌≤◌, ◌+◌, ℕ, zero, suc, true, List, [], ◌∷◌, length, drop, Ok, Err, arith, refl, subst, length-drop, Result, MatchResult}
 use Rattle.lemmas.proofs.{and_holds, prefix_len-le-length}
-use Rattle.rdf_values.specs.{and_then, bare, before, behind, blanks, earlier, First, first_token, is_blank, Placed, Refusal, tokens, tokens_at}
-use Rattle.rdf_values.specs.expressions.Tokens.{too_many}
+use Rattle.rdf_values.specs.{and_then, bare, before, behind, blanks, First, first_token, is_blank, Placed, Refusal, tokens, tokens_at}
 use Rattle.expr_read.specs.{are_valid, is_valid}
 use Rattle.expr_read.proofs.TokenSteps.{IsFine, fine}
 
@@ -14,12 +13,6 @@ pub data StandBelow (end : ℕ) : List Placed → Type 0 where
 -- tokens are valid, stand there, and are so many at most; a refusal stands there
 abbrev pub AreFine : ℕ → ℕ → Result (List Placed) Refusal → Type 0
 AreFine most end tokens = MatchResult tokens (λ ts. (are_valid (bare ts) ≡ true) × (length ts ≤ most) × StandBelow end ts) (λ e. e.place ≤ end)
-
-earlier_below : (a b : Refusal) (end : ℕ) (c : Bool) → nat_le a.place b.place ≡ c → a.place ≤ end → b.place ≤ end → (earlier a b).place ≤ end
-earlier_below a b end c e h k = grind arith
-
-many_below : (place size : ℕ) (f : First) → IsFine size f → (too_many place f).place ≤ place + size
-many_below place size f h = grind (arith, earlier_below)
 
 before_fine : (most end : ℕ) (t : Placed) (tokens : Result (List Placed) Refusal) → is_valid t.token ≡ true → t.place ≤ end → AreFine most end tokens → AreFine (suc most) end (before (t ∷ []) tokens)
 before_fine most end t (Ok ts) v h k = (and_holds (is_valid t.token) (are_valid (bare ts)) v k.0, omega (arith, k.1), more_tokens h k.2)
@@ -39,7 +32,7 @@ then_fine most place text (Err e) others h k = omega arith
 tokens_fine : (most place : ℕ) (text : List ℕ) → AreFine most (place + length text) (tokens_at most place text)
 unfolding tokens_at
 tokens_fine most place [] = (refl, omega arith, no_tokens)
-tokens_fine zero place (c ∷ text) = let e : length (c ∷ text) ≡ length text + 1 = omega arith in rw e (many_below place (length text + 1) (first_token c text) (fine c text))
+tokens_fine zero place (c ∷ text) = grind (arith, fine)
 tokens_fine (suc most) place (c ∷ text) =
     let there : ℕ → ℕ = λ size. place + size + blanks (drop size (c ∷ text)) in
     let first : IsFine (length (c ∷ text)) (first_token c text) = let e : length (c ∷ text) ≡ length text + 1 = omega arith in rw e (fine c text) in

@@ -24,11 +24,8 @@ pass from to t (p ∷ ps) us e h = let same : p.token ≡ t = cc h in record { n
 after : {from mid to : ScanState} {old : List Placed} {us vs : List Token} → Passes from mid old us → ((new : List Placed) → bare new ≡ us → Passes mid to new vs) → Passes from to old vs
 after p f = let q = f p.new p.rest in record { new = q.new; rest = q.rest; scans = p.scans ∙ q.scans }
 
-isnt_first : (t : Token) (old : List Placed) (us : List Token) → bare old ≡ us → IsNo t us → BeginsNot t old
-isnt_first t old us e isnt new b = isnt (bare new) (sym e ∙ ap bare b.is)
-
 stay : {from to : ScanState} {old : List Placed} {us : List Token} → (t : Token) → bare old ≡ us → IsNo t us → (BeginsNot t old → scan from old ≡ scan to old) → Passes from to old us
-stay {old = old} {us = us} t e isnt same = record { new = old; rest = e; scans = same (isnt_first t old us e isnt) }
+stay {old = old} {us = us} t e isnt same = record { new = old; rest = e; scans = same (λ new b. isnt (bare new) (sym e ∙ ap bare b.is)) }
 
 abbrev pub is_close : Token → Bool
 is_close (Punct Mark.Close) = true

@@ -2,10 +2,11 @@
 ghost use Rattle.std.specs.Prelude.{◌≡◌, ◌≤◌, ◌<◌, [], ◌∷◌, ◌++◌, Err, List, ℕ, length, drop, OnOk, IfOk, IfErr, IfSome, map, true};
 ghost use Rattle.rdf_values.specs.{bare, begin_values, is_name, level_of, Op, Placed as At, Punct, scan, tree_of, trees_of};
 ghost use Rattle.rdf_values.specs.expressions.Tokens.{Word};
+ghost use Rattle.expr_read.specs.declared.parser.Fail.TheVariants.{Memory as OutOfMemory};
 ghost use Rattle.expr_read.specs.Views.{are_valid, placed_of};
 
 use crate::lexeme::{Placed, Token};
-use rdf_values::{Args, BinOp, Expr, ExprNode, ListOf, Mark, Name, VaryValues};
+use rdf_values::{Args, BinOp, Expr, ExprNode, ListOf, Mark, Memory, Name, VaryValues};
 use std::alloc::Global;
 
 // The level of `-` and `!`, tighter than all operators of two sides.
@@ -16,6 +17,14 @@ const UNARY: u8 = 7;
 pub(crate) enum Fail {
     Unexpected,
     Memory,
+}
+
+impl From<Memory> for Fail {
+    ghost from_gives = { λ _ fail. fail ≡ OutOfMemory };
+
+    fn from(_: Memory) -> Fail {
+        Fail::Memory
+    }
 }
 
 /// The level of an operator, from 1 for `||` to 6 for `*`.
@@ -32,14 +41,10 @@ pub(crate) fn level_of(op: BinOp) -> u8
     }
 }
 
-fn boxed<T: Drop>(alloc: Global, value: T) -> Result<Box<T>, Fail>
+fn boxed<T: Drop>(alloc: Global, value: T) -> Result<Box<T>, Memory>
     ensures ok { IfOk result (λ held. held.value ≡ value) }
-    ensures err { IfErr result (λ e. e ≡ Fail.Memory) }
 {
-    match Box::new(alloc, value) {
-        Ok(held) => Ok(held),
-        Err(_) => Err(Fail::Memory),
-    }
+    Ok(Box::new(alloc, value)?)
 }
 
 // The name that a word is.
@@ -48,20 +53,9 @@ fn name(alloc: Global, word: &[u8]) -> Result<Name, Fail>
     ensures ok { IfOk result (λ name. name ≡ word.now) }
     ensures err { IfErr result (λ e. e ≡ Fail.Memory) }
 {
-    match Name::read(alloc, word) {
-        Ok(Some(name)) => Ok(name),
-        Ok(None) => unreachable!(),
-        Err(_) => Err(Fail::Memory),
-    }
-}
-
-fn push<T: Drop>(items: &mut ListOf<T>, item: T) -> Result<(), Fail>
-    ensures ok { OnOk result (items.new ≡ items.old ++ item ∷ []) }
-    ensures err { IfErr result (λ e. e ≡ Fail.Memory) }
-{
-    match items.push(item) {
-        Ok(()) => Ok(()),
-        Err(_) => Err(Fail::Memory),
+    match Name::read(alloc, word)? {
+        Some(name) => Ok(name),
+        None => unreachable!(),
     }
 }
 
@@ -288,7 +282,7 @@ impl<'a> Parser<'a> {
         let mut items = ListOf::new(self.alloc);
         loop {
             let node = self.expr()?;
-            push(&mut items, Expr { node })?;
+            items.push(Expr { node })?;
             if !self.eat(Mark::Comma) {
                 self.expect(Mark::CloseBrace)?;
                 return Ok(items);
@@ -304,7 +298,7 @@ impl<'a> Parser<'a> {
         let mut lists = ListOf::new(self.alloc);
         loop {
             let list = self.list()?;
-            push(&mut lists, list)?;
+            lists.push(list)?;
             if !self.eat(Mark::Comma) {
                 self.expect(Mark::CloseBrace)?;
                 return Ok(lists);
@@ -328,7 +322,7 @@ impl<'a> Parser<'a> {
         }
         let list = self.list()?;
         let mut lists = ListOf::new(self.alloc);
-        push(&mut lists, list)?;
+        lists.push(list)?;
         Ok(VaryValues::Lists(lists))
     }
 }

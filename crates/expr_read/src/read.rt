@@ -13,13 +13,9 @@ use std::alloc::Global;
 fn unexpected(left: &[Placed], end: u32) -> ExprRefusal
     ensures { result ≡ ExprRefusal.At ExprCause.Unexpected (place_from (map placed_of left.now) end) }
 {
-    let place = match left.first() {
-        Some(placed) => placed.place,
-        None => end,
-    };
     ExprRefusal::At {
         cause: ExprCause::Unexpected,
-        place,
+        place: left.first().map_or(end, |placed| placed.place),
     }
 }
 

@@ -1,11 +1,13 @@
 -- What reading a script's file, or a table's, comes to.
-use Rattle.std.specs.Prelude.{◌≡◌, ◌<◌, ◌≤◌, ℕ, List, All, Option, Some, None, Ok, MatchResult, length}
+use Rattle.std.specs.Prelude.{◌≡◌, ◌<◌, ◌≤◌, ℕ, List, All, Option, Some, None, Result, Ok, Err, MatchResult, length}
 use Rattle.columns.specs.ColumnsView.{ColumnsView}
 use Rattle.rdf_outside.specs.{Rose}
-use Rattle.rdf_values.specs.{history, IsBookable, IsScript, MarkedTable, read_failed_line, RefusesScript, Script, script_cause_line, ScriptCause, StatementsHaveWords, table_cause_line, table_of}
+use Rattle.rdf_values.specs.{history, IsBookable, IsScript, long_table_line, MarkedTable, no_file_line, read_failed_line, RefusesScript, Script, script_cause_line, ScriptCause, StatementsHaveWords, table_cause_line, table_of, TableCause}
 use Rattle.table_csv.specs.{columns_over, csv_records, marked_in, MarkedPieces}
+use Rattle.table_csv.specs.declared.refusal.TableRefusal.{TableRefusal}
 use Rattle.input_files.specs.Due.{Due, FileStatuses, WithScriptFile, WithTableFile, due_of, max_script, max_table}
 use Rattle.input_files.specs.Fetching.{Tells}
+use Rattle.input_files.specs.declared.whole_file.Fetched.{Fetched}
 use Rattle.input_files.specs.declared.refuse.FileCause.{FileCause}
 use Rattle.input_files.specs.declared.refuse.FileCause.TheVariants.{ReadFailed, NoFile, ScriptRefused, TableRefused}
 use Rattle.input_files.specs.declared.refuse.ReadFile.{ReadFile}
@@ -68,10 +70,13 @@ HoldsTheTable table (Some bytes) = (length bytes ≤ max_table) × (table_of (cs
 abbrev pub RefusesTableFile : List ℕ → Option (List ℕ) → Due FileCause → Type 0
 RefusesTableFile name file due = WithTableFile causes name file (λ table d. ⊥) due
 
--- the whole file, if it has no more bytes than a table may have, as what holds them, or what is due to it
-abbrev pub ReadsTableIn : {T : Type 0} → (T → List ℕ) → Option (List ℕ → Option (List ℕ)) → List ℕ → ℕ → ℕ → ReadFile T → Type 0
-ReadsTableIn bytes_of files name before now (Whole holder) = Tells files name (λ file. file ≡ Some (bytes_of holder)) × (length (bytes_of holder) ≤ max_table)
-ReadsTableIn bytes_of files name before now (Refused r) = Refuses (RefusesTableFile name) files name before now r.cause r.line
+-- what was fetched of a table's file, or why it isn't the whole file
+abbrev pub IsTaken : {T : Type 0} → List ℕ → Fetched T → ReadFile T → Type 0
+IsTaken name (Fetched.Whole holder) read = read ≡ Whole holder
+IsTaken name fetched (Whole holder) = ⊥
+IsTaken name Fetched.Absent (Refused r) = (r.cause ≡ NoFile) × (r.line ≡ no_file_line name)
+IsTaken name Fetched.TooLong (Refused r) = (r.cause ≡ TableRefused) × (r.line ≡ long_table_line)
+IsTaken name Fetched.Failed (Refused r) = (r.cause ≡ ReadFailed) × (r.line ≡ read_failed_line name)
 
 -- a table whose marks are entries of it
 pub record IsTableRead (files : Option (List ℕ → Option (List ℕ))) (name : List ℕ) (m : MarkedPieces) : Type 0 where
@@ -83,10 +88,10 @@ abbrev pub ReadsTableFile : Option (List ℕ → Option (List ℕ)) → List ℕ
 ReadsTableFile files name before now (Whole m) = IsTableRead files name m
 ReadsTableFile files name before now (Refused r) = Refuses (RefusesTableFile name) files name before now r.cause r.line
 
--- the table that the bytes spell, or the line of their refusal
-abbrev pub ReadsTableText : List ℕ → ReadFile MarkedPieces → Type 0
-ReadsTableText bytes (Whole m) = (table_of (csv_records bytes) ≡ Ok (marked_table m)) × All (λ e. e < length m.table.rows) m.marks
-ReadsTableText bytes (Refused r) = (r.cause ≡ TableRefused) × MatchResult (table_of (csv_records bytes)) (λ table. ⊥) (λ cause. r.line ≡ table_cause_line cause)
+-- what the bytes of a table were read as, or the line of their refusal
+abbrev pub IsSpelt : {T : Type 0} → Result T TableRefusal → ReadFile T → Type 0
+IsSpelt read (Whole x) = read ≡ Ok x
+IsSpelt read (Refused r) = (r.cause ≡ TableRefused) × ((cause : TableCause) × (read ≡ Err (TableRefusal.At cause)) × (r.line ≡ table_cause_line cause))
 
 -- ---- columns
 

@@ -1,15 +1,13 @@
 // Tables in files.
-ghost use Rattle.std.specs.Prelude.{◌≡◌, ◌≤◌, ◌++◌, ◌∷◌, [], ℕ, List, Option, IfOk};
+ghost use Rattle.std.specs.Prelude.{◌≡◌, ◌≤◌, ◌++◌, ◌∷◌, [], IfOk};
 ghost use Rattle.columns.specs.{joined};
-ghost use Rattle.rdf_values.specs.{table_cause_line};
-ghost use Rattle.input_files.specs.{IsFetchedIn, ReadsColumnsFile, ReadsColumnsText, ReadsTableFile, ReadsTableIn, ReadsTableText};
-ghost use Rattle.input_files.specs.declared.refuse.FileCause.TheVariants.{TableRefused};
+ghost use Rattle.input_files.specs.{IsSpelt, IsTaken, ReadsColumnsFile, ReadsColumnsText, ReadsTableFile};
 
-use crate::refuse::{FileCause, FileRefusal, ReadFile, absent, refused, unread};
+use crate::refuse::{FileCause, ReadFile, absent, refused, unread};
 use crate::whole_file::{Fetched, fetch, fetch_parts};
 use columns::Columns;
 use rdf_outside::Shelf;
-use rdf_values::{Bytes, Memory, TableCause};
+use rdf_values::{Bytes, Memory};
 use result_text::Refusal;
 use std::alloc::Global;
 use std::thread::Threads;
@@ -18,26 +16,17 @@ use table_csv::{MarkedPieces, TableRefusal, read_columns, read_table_in_slots};
 /// The most bytes of a table.
 pub const MAX_TABLE: usize = 67_108_864;
 
-// The refusal of bytes that spell no table.
-fn no_table(alloc: Global, cause: TableCause) -> Result<FileRefusal, Memory>
-    ensures { IfOk result (λ r. (r.cause ≡ TableRefused) × (r.line ≡ table_cause_line cause)) }
+// What the bytes of a table spell, or their refusal.
+fn spelt<T>(alloc: Global, read: Result<T, TableRefusal>) -> Result<ReadFile<T>, Memory>
+    ensures { IfOk result (IsSpelt read) }
 {
-    refused(alloc, FileCause::TableRefused, &Refusal::Table(cause))
-}
-
-// The table that the bytes spell, read in pieces side by side where there are several slots, or its refusal.
-fn table_of<R: Threads + Sync>(
-    rt: &R,
-    alloc: Global,
-    bytes: &[u8],
-    slots: u32,
-) -> Result<ReadFile<MarkedPieces>, Memory>
-    ensures { IfOk result (ReadsTableText bytes.now) }
-{
-    match read_table_in_slots(rt, alloc, bytes, slots) {
-        Ok(marked) => Ok(ReadFile::Whole(marked)),
+    match read {
+        Ok(whole) => Ok(ReadFile::Whole(whole)),
         Err(TableRefusal::Memory) => Err(Memory),
-        Err(TableRefusal::At(cause)) => Ok(ReadFile::Refused(no_table(alloc, cause)?)),
+        Err(TableRefusal::At(cause)) => {
+            let refusal = refused(alloc, FileCause::TableRefused, &Refusal::Table(cause))?;
+            Ok(ReadFile::Refused(refusal))
+        }
     }
 }
 
@@ -53,11 +42,7 @@ pub fn columns_of<R: Threads + Sync>(
     requires size { 1 ≤ size }
     ensures { IfOk result (ReadsColumnsText (joined parts.items) size) }
 {
-    match read_columns(rt, alloc, parts, size, slots) {
-        Ok(columns) => Ok(ReadFile::Whole(columns)),
-        Err(TableRefusal::Memory) => Err(Memory),
-        Err(TableRefusal::At(cause)) => Ok(ReadFile::Refused(no_table(alloc, cause)?)),
-    }
+    spelt(alloc, read_columns(rt, alloc, parts, size, slots))
 }
 
 // What was fetched of a table, or the refusal where it isn't the whole file.
@@ -66,7 +51,7 @@ fn whole_or_refused<T>(
     name: &str,
     fetched: Fetched<T>,
 ) -> Result<ReadFile<T>, Memory>
-    ensures { IfOk result (λ read. (bytes_of : T → List ℕ) (files : Option (List ℕ → Option (List ℕ))) (before now : ℕ) → IsFetchedIn bytes_of 67108864 files name.now before now fetched → ReadsTableIn bytes_of files name.now before now read) }
+    ensures { IfOk result (IsTaken name.now fetched) }
 {
     match fetched {
         Fetched::Whole(holder) => Ok(ReadFile::Whole(holder)),
@@ -95,7 +80,10 @@ pub fn read_table_file<R: Threads + Sync, S: Shelf>(
 {
     let fetched = fetch(alloc, shelf, name, MAX_TABLE)?;
     match whole_or_refused(alloc, name, fetched)? {
-        ReadFile::Whole(bytes) => table_of(rt, alloc, bytes.as_slice(), slots),
+        ReadFile::Whole(bytes) => {
+            let read = read_table_in_slots(rt, alloc, bytes.as_slice(), slots);
+            spelt(alloc, read)
+        }
         ReadFile::Refused(refusal) => Ok(ReadFile::Refused(refusal)),
     }
 }

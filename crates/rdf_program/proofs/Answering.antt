@@ -1,6 +1,7 @@
 -- Answers to the words and to files, what is written of them, and that each is due.
 use Rattle.std.proofs.Common.{◌≡◌, ◌≤◌, ◌+◌, ℕ, Bool, false, ◌||◌, List, [], ◌∷◌, length, map, Option, Some, None, Ok, nat_lt, option_map, inl, inr, ap, refl, sym, subst, ◌∙◌, if◌then◌else◌, is_some, unwrap_or, Result, Err, ◌++◌, IfSome, arith, append_assoc, OnOk, ◌⊎◌, MatchOption}
 use Rattle.lemmas.proofs.{le-ltb, list_any}
+use Rattle.std.proofs.lemmas.Option.{IfSome_then}
 use Rattle.rdf_values.specs.{Booked, Fault, fn_names, Function, history, IsScript, MarkedTable, Script, Statement, table_of, Value, verdict, Column, FunctionNames, graph_cause_line, GraphCause}
 use Rattle.rdf_values.proofs.OneScript.{one_script, script_or_refusal}
 use Rattle.rdf_model.specs.{Access, access_passes, access_printed, accesses, Course, Dataset, first_fault, first_fault_from, loop_passes, Printed, printed}
@@ -65,11 +66,10 @@ module _ (script : List Statement) (d : Dataset) (course : Course) where
 -- ---- what is due
 
 module _ (fns : List Function) (size watch : ℕ) (script : Script) (table : MarkedTable) (accepted : verdict (fn_names fns) table.table.columns script ≡ None) (d : Due Status) where
-  over_table : IsPrinted fns size watch script table d → d.status ≡ status_of_run fns script table
-  over_table h = h.status ∙ status_by_loops (history script) (dataset_of fns size watch table.table) h.course (accesses (history script))
-
   over_accepted : IsDueOver fns size watch script table d → d.status ≡ status_of_run fns script table
-  over_accepted h = over_table (rw accepted at h)
+  over_accepted h =
+      let printed : IsPrinted fns size watch script table d = rw accepted at h in
+      printed.status ∙ status_by_loops (history script) (dataset_of fns size watch table.table) printed.course (accesses (history script))
 
   to_friend : (friend : Option Friend) (files : Files) (own : MarkedTable) → IsWithFriend friend files own table
       → WithFriend friend files own (λ t e. IsDueOver fns size watch script t e) d → d.status ≡ status_of_run fns script table
@@ -112,10 +112,6 @@ accepted_runs_end fns words files script table d is h =
     to_input fns c.cluster c.watch script table is.accepted d files c.input is.script_bytes is.table_bytes is.own is.texts is.short_script is.short_table is.is_script is.is_table is.with_friend asked
 
 -- ---- Answers to files that were read, and the files that were turned to.
-
-pub always_ok : {A E : Type 0} (r : Result A E) (P : Type 0) → P → OnOk r P
-always_ok (Ok a) P p = p
-always_ok (Err e) P p = tt
 
 -- the files by their names, where the shelf tells them
 abbrev pub Told : Type 0
@@ -206,16 +202,7 @@ module _ (words : List (List ℕ)) (o : Option Command) (c : Command) (read : o 
 -- ---- by what an answer is
 
 of_run_is_final : (s : Status) → IsOfRun s → IsFinal s
-of_run_is_final Done h = tt
-of_run_is_final Memory h = h
-of_run_is_final Words h = tt
-of_run_is_final ReadFault h = h
-of_run_is_final WriteFault h = h
-of_run_is_final NoFile h = tt
-of_run_is_final ScriptRefused h = tt
-of_run_is_final TableRefused h = tt
-of_run_is_final LoopFault h = tt
-of_run_is_final FriendRefused h = tt
+of_run_is_final s h = grind arith
 
 module _ (fns : List Function) (words : List (List ℕ)) (told : Told) (turns : List (List ℕ)) (f0 f1 : ℕ) (a : Answer) where
   -- what is due to all files that are meant, and no other status; or a failed read
@@ -245,11 +232,7 @@ module _ (fns : List Function) (words : List (List ℕ)) (told : Told) (turns : 
     -- ---- what is written
 
     each : (P Q : Files → Type 0) → ((f : Files) → P f → Q f) → IfSome told P × ((NameFiles words → ⊥) → (f : Files) → P f) → OfFiles words told Q
-    each P Q step p = (one told p.0, λ none f. step f (p.1 none f))
-      where
-        one : (told : Told) → IfSome told P → IfSome told Q
-        one None p = tt
-        one (Some f) p = step f p
+    each P Q step p = (IfSome_then told p.0 step, λ none f. step f (p.1 none f))
 
     pub due_written : (before after : Option (List ℕ)) → IsFinal a.status → Appends before after a.text → OfFiles words told (WritesDue (IsDue fns words) a.status before after)
     due_written before after final w = go sorted

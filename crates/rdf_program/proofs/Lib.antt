@@ -1,4 +1,3 @@
 mod Answering
 mod MadeEntries
 mod OneDue
-mod SomeDue

@@ -1,19 +1,21 @@
--- To the same words and files one status is due.
+-- To all words and files an answer is due, and to the same ones one status.
 use Rattle.std.proofs.Common.{◌≡◌, ℕ, Bool, true, false, List, [], ◌∷◌, length, Option, None, Some, Result, Ok, Err, MatchOption, MatchResult, nat_lt, inl, inr, ap, refl, sym, subst, ◌∙◌}
 use Rattle.std.specs.Bool.{MatchBool}
-use Rattle.rdf_values.specs.{Fault, fn_names, Function, generated_script, generated_table, graph_cause_line, GraphCause, history, long_script_line, long_table_line, MarkedTable, Script, script_cause_line, Statement, table_cause_line, table_of, verdict}
+use Rattle.rdf_values.specs.{cut, Fault, fn_names, Function, generated_script, generated_table, graph_cause_line, GraphCause, history, long_script_line, long_table_line, MarkedTable, Script, script_cause_line, Statement, stride, table_cause_line, table_of, verdict}
 use Rattle.rdf_values.proofs.OneScript.{one_cause, one_script, script_or_refusal}
-use Rattle.rdf_model.specs.{Access, access_passes, access_printed, accesses, Course, Dataset, first_fault, Printed, printed}
+use Rattle.rdf_model.specs.{Access, access_passes, access_printed, accesses, Course, Dataset, first_fault, Printed, printed, transcript}
 use Rattle.expr_read.proofs.Decided.{read_once}
+use Rattle.script_read.proofs.Answered.{answered}
 use Rattle.table_csv.specs.{csv_records}
+use Rattle.event_loop.proofs.SlotLemmas.{first_sets, first_sets_are_a_chain}
 use Rattle.command_words.specs.{asked_of, Command, Friend, Input}
 use Rattle.friend_join.specs.{join_of}
-use Rattle.result_text.specs.{friend_cause_line, join_cause_line, long_friend_line}
+use Rattle.result_text.specs.{friend_cause_line, join_cause_line, long_friend_line, usage_line}
 use Rattle.input_files.specs.{due_of, Files, max_script, max_table, ReadsScript, WithFile, WithScript, WithTable}
 use Rattle.input_files.specs.Due.{Due}
 use Rattle.rdf_program.specs.{dataset_of, IsDue, IsDueOver, IsDueToInput, IsDueToScript, IsPrinted, JoinsFriend, printed_status, ReadsFriend, statuses, WithFriend}
 use Rattle.rdf_program.specs.declared.status.Status.{Status}
-use Rattle.rdf_program.specs.declared.status.Status.TheVariants.{FriendRefused, ScriptRefused, TableRefused}
+use Rattle.rdf_program.specs.declared.status.Status.TheVariants.{FriendRefused, ScriptRefused, TableRefused, Words}
 
 -- ---- a transcript's status doesn't tell the course
 
@@ -27,94 +29,103 @@ module _ (script : List Statement) (d : Dataset) (one other : Course) where
   status_is_one [] = refl
   status_is_one (a ∷ accs) = status_of_access a (first_fault d (access_passes script d one a)) (printed script d one accs) (printed script d other accs) (status_is_one accs)
 
--- ---- each stage gives one status where the next does
+-- ---- each stage gives an answer of one status where the next does
 
--- two answers of one status
-abbrev Agree : Due Status → Due Status → Type 0
-Agree d e = d.status ≡ e.status
+-- there is an answer of which that holds, and all of them have one status
+pub record Settles (IsIts : Due Status → Type 0) : Type 0 where
+  pub some : (d : Due Status) × IsIts d
+  pub one : (d e : Due Status) → IsIts d → IsIts e → d.status ≡ e.status
 
-same_due : (d e line : Due Status) → d ≡ line → e ≡ line → Agree d e
-same_due d e line h g = ap (λ (x : Due Status). x.status) (h ∙ sym g)
+by_line : (line : Due Status) → Settles (λ d. d ≡ line)
+by_line line = record { some = (line, refl); one = λ d e h g. ap (λ (x : Due Status). x.status) (h ∙ sym g) }
 
-module _ (d e : Due Status) where
-  one_file : (name : List ℕ) (file : Option (List ℕ)) (Next : List ℕ → Due Status → Type 0) → ((bytes : List ℕ) → Next bytes d → Next bytes e → Agree d e)
-      → WithFile statuses name file Next d → WithFile statuses name file Next e → Agree d e
-  one_file name None Next one h g = same_due d e _ h g
-  one_file name (Some bytes) Next one h g = one bytes h g
+by_file : (name : List ℕ) (file : Option (List ℕ)) (Next : List ℕ → Due Status → Type 0) → ((bytes : List ℕ) → Settles (Next bytes)) → Settles (WithFile statuses name file Next)
+by_file name None Next rest = by_line _
+by_file name (Some bytes) Next rest = rest bytes
 
-  one_of_two : (test : Bool) (line : Due Status) (P Q : Type 0) → (P → Q → Agree d e) → MatchBool test (d ≡ line) P → MatchBool test (e ≡ line) Q → Agree d e
-  one_of_two true line P Q one h g = same_due d e line h g
-  one_of_two false line P Q one h g = one h g
+by_test : (test : Bool) (line : Due Status) (IsIts : Due Status → Type 0) → Settles IsIts → Settles (λ d. MatchBool test (d ≡ line) (IsIts d))
+by_test true line IsIts rest = by_line line
+by_test false line IsIts rest = rest
 
-  one_of_result : {A B : Type 0} (r : Result A B) (line : B → Due Status) (P Q : A → Type 0) → ((x : A) → P x → Q x → Agree d e) → MatchResult r P (λ cause. d ≡ line cause) → MatchResult r Q (λ cause. e ≡ line cause) → Agree d e
-  one_of_result (Ok x) line P Q one h g = one x h g
-  one_of_result (Err cause) line P Q one h g = same_due d e (line cause) h g
+by_result : {A B : Type 0} (r : Result A B) (line : B → Due Status) (Next : A → Due Status → Type 0) → ((x : A) → Settles (Next x)) → Settles (λ d. MatchResult r (λ x. Next x d) (λ cause. d ≡ line cause))
+by_result (Ok x) line Next rest = rest x
+by_result (Err cause) line Next rest = by_line (line cause)
 
-  one_reading : (bytes : List ℕ) (Next : Script → Due Status → Type 0) → ((s : Script) → Next s d → Next s e → Agree d e) → ReadsScript statuses bytes Next d → ReadsScript statuses bytes Next e → Agree d e
-  one_reading bytes Next one (inl h) (inl g) = ap (λ (x : Due Status). x.status) (h.2 ∙ ap (λ c. due_of ScriptRefused (script_cause_line c)) (one_cause read_once bytes h.0 g.0 h.1 g.1) ∙ sym g.2)
-  one_reading bytes Next one (inl h) (inr g) = absurd (script_or_refusal read_once bytes g.0 h.0 g.1 h.1)
-  one_reading bytes Next one (inr h) (inl g) = absurd (script_or_refusal read_once bytes h.0 g.0 h.1 g.1)
-  one_reading bytes Next one (inr h) (inr g) =
-      let same = one_script read_once bytes h.0 g.0 h.1 g.1 in
+module _ (bytes : List ℕ) (Next : Script → Due Status → Type 0) (rest : (s : Script) → Settles (Next s)) where
+  one_reading : (d e : Due Status) → ReadsScript statuses bytes Next d → ReadsScript statuses bytes Next e → d.status ≡ e.status
+  one_reading d e (inl h) (inl g) = ap (λ (x : Due Status). x.status) (h.2 ∙ ap (λ c. due_of ScriptRefused (script_cause_line c)) (one_cause read_once bytes h.0 g.0 h.1 g.1) ∙ sym g.2)
+  one_reading d e (inl h) (inr g) = absurd (script_or_refusal read_once bytes g.0 h.0 g.1 h.1)
+  one_reading d e (inr h) (inl g) = absurd (script_or_refusal read_once bytes h.0 g.0 h.1 g.1)
+  one_reading d e (inr h) (inr g) =
       let P : Script → Type 0 = λ s. Next s d in
-      one g.0 (subst P same h.2) g.2
+      (rest g.0).one d e (subst P (one_script read_once bytes h.0 g.0 h.1 g.1) h.2) g.2
 
-  one_text : (bytes : List ℕ) (Next : Script → Due Status → Type 0) → ((s : Script) → Next s d → Next s e → Agree d e) → WithScript statuses bytes Next d → WithScript statuses bytes Next e → Agree d e
-  one_text bytes Next one h g = one_of_two (nat_lt max_script (length bytes)) (due_of ScriptRefused long_script_line) _ _ (λ x y. one_reading bytes Next one x y) h g
+  by_reading : Settles (ReadsScript statuses bytes Next)
+  by_reading = record {
+    some = elim (answered bytes) [ inl s ↦ let d = (rest s.0).some in (d.0, inr (s.0, s.1, d.1)) | inr c ↦ (due_of ScriptRefused (script_cause_line c.0), inl (c.0, c.1, refl)) ];
+    one = one_reading;
+  }
 
-  one_table : (bytes : List ℕ) (Next : MarkedTable → Due Status → Type 0) → ((t : MarkedTable) → Next t d → Next t e → Agree d e) → WithTable statuses bytes Next d → WithTable statuses bytes Next e → Agree d e
-  one_table bytes Next one h g =
-      one_of_two (nat_lt max_table (length bytes)) (due_of TableRefused long_table_line) _ _
-      (λ x y. one_of_result (table_of (csv_records bytes)) (λ cause. due_of TableRefused (table_cause_line cause)) (λ t. Next t d) (λ t. Next t e) one x y) h g
+  by_text : Settles (WithScript statuses bytes Next)
+  by_text = by_test (nat_lt max_script (length bytes)) (due_of ScriptRefused long_script_line) (ReadsScript statuses bytes Next) by_reading
 
-  one_other : (bytes : List ℕ) (Next : MarkedTable → Due Status → Type 0) → ((t : MarkedTable) → Next t d → Next t e → Agree d e) → ReadsFriend bytes Next d → ReadsFriend bytes Next e → Agree d e
-  one_other bytes Next one h g =
-      one_of_two (nat_lt max_table (length bytes)) (due_of FriendRefused long_friend_line) _ _
-      (λ x y. one_of_result (table_of (csv_records bytes)) (λ cause. due_of FriendRefused (friend_cause_line cause)) (λ t. Next t d) (λ t. Next t e) one x y) h g
+by_table : (bytes : List ℕ) (Next : MarkedTable → Due Status → Type 0) → ((t : MarkedTable) → Settles (Next t)) → Settles (WithTable statuses bytes Next)
+by_table bytes Next rest = by_test (nat_lt max_table (length bytes)) (due_of TableRefused long_table_line) _ (by_result (table_of (csv_records bytes)) (λ cause. due_of TableRefused (table_cause_line cause)) Next rest)
 
-  one_joining : (friend : Friend) (own other : MarkedTable) (Next : MarkedTable → Due Status → Type 0) → ((t : MarkedTable) → Next t d → Next t e → Agree d e) → JoinsFriend friend own other Next d → JoinsFriend friend own other Next e → Agree d e
-  one_joining friend own other Next one h g =
-      one_of_result (join_of own.table other.table friend.key friend.missing) (λ cause. due_of FriendRefused (join_cause_line cause)) (λ joined. Next (record { table = joined; marks = own.marks }) d) (λ joined. Next (record { table = joined; marks = own.marks }) e)
-      (λ joined x y. one (record { table = joined; marks = own.marks }) x y) h g
+by_joining : (friend : Friend) (own other : MarkedTable) (Next : MarkedTable → Due Status → Type 0) → ((t : MarkedTable) → Settles (Next t)) → Settles (JoinsFriend friend own other Next)
+by_joining friend own other Next rest =
+    by_result (join_of own.table other.table friend.key friend.missing) (λ cause. due_of FriendRefused (join_cause_line cause)) (λ joined d. Next (record { table = joined; marks = own.marks }) d) (λ joined. rest (record { table = joined; marks = own.marks }))
 
-  one_friend : (friend : Option Friend) (files : Files) (own : MarkedTable) (Next : MarkedTable → Due Status → Type 0) → ((t : MarkedTable) → Next t d → Next t e → Agree d e) → WithFriend friend files own Next d → WithFriend friend files own Next e → Agree d e
-  one_friend None files own Next one h g = one own h g
-  one_friend (Some friend) files own Next one h g =
-      one_file friend.file (files friend.file) (λ bytes u. ReadsFriend bytes (λ other v. JoinsFriend friend own other Next v) u)
-      (λ bytes p q. one_other bytes (λ other v. JoinsFriend friend own other Next v) (λ other v w. one_joining friend own other Next one v w) p q) h g
+by_friend : (friend : Option Friend) (files : Files) (own : MarkedTable) (Next : MarkedTable → Due Status → Type 0) → ((t : MarkedTable) → Settles (Next t)) → Settles (WithFriend friend files own Next)
+by_friend None files own Next rest = rest own
+by_friend (Some friend) files own Next rest =
+    by_file friend.file (files friend.file) (λ bytes d. ReadsFriend bytes (λ other e. JoinsFriend friend own other Next e) d)
+    (λ bytes. by_test (nat_lt max_table (length bytes)) (due_of FriendRefused long_friend_line) _
+    (by_result (table_of (csv_records bytes)) (λ cause. due_of FriendRefused (friend_cause_line cause)) (λ other d. JoinsFriend friend own other Next d) (λ other. by_joining friend own other Next rest)))
 
-  one_verdict : (v : Option (ℕ × GraphCause)) (P Q : Type 0) → (P → Q → Agree d e)
-      → MatchOption v P (λ refused. d ≡ due_of ScriptRefused (graph_cause_line refused.0 refused.1)) → MatchOption v Q (λ refused. e ≡ due_of ScriptRefused (graph_cause_line refused.0 refused.1)) → Agree d e
-  one_verdict None P Q one h g = one h g
-  one_verdict (Some refused) P Q one h g = same_due d e _ h g
+by_verdict : (v : Option (ℕ × GraphCause)) (IsIts : Due Status → Type 0) → Settles IsIts → Settles (λ d. MatchOption v (IsIts d) (λ refused. d ≡ due_of ScriptRefused (graph_cause_line refused.0 refused.1)))
+by_verdict None IsIts rest = rest
+by_verdict (Some refused) IsIts rest = by_line _
 
-  module _ (fns : List Function) (size watch : ℕ) where
-    one_print : (script : Script) (table : MarkedTable) → IsPrinted fns size watch script table d → IsPrinted fns size watch script table e → Agree d e
-    one_print script table h g =
-        h.status ∙ ap printed_status (status_is_one (history script) (dataset_of fns size watch table.table) h.course g.course (accesses (history script))) ∙ sym g.status
+module _ (fns : List Function) (size watch : ℕ) where
+  -- the course in which each loop notes its clusters in file order
+  abbrev course_of : MarkedTable → Course
+  course_of table =
+      let spans = cut (length table.table.rows) size table.marks in
+      record { spans = spans; chains = λ l. first_sets (length spans) (stride (length spans) watch) }
 
-    over : (script : Script) (table : MarkedTable) → IsDueOver fns size watch script table d → IsDueOver fns size watch script table e → Agree d e
-    over script table h g = one_verdict (verdict (fn_names fns) table.table.columns script) _ _ (one_print script table) h g
+  by_print : (script : Script) (table : MarkedTable) → Settles (IsPrinted fns size watch script table)
+  by_print script table =
+      let t = transcript script (dataset_of fns size watch table.table) (course_of table) in
+      record {
+        some = (
+          due_of (printed_status t.status) t.bytes,
+          record { course = course_of table; is_course = record { spans = refl; chains = λ l results _ _. first_sets_are_a_chain _ _ }; bytes = refl; status = refl },
+        );
+        one = λ d e h g. h.status ∙ ap printed_status (status_is_one (history script) (dataset_of fns size watch table.table) h.course g.course (accesses (history script))) ∙ sym g.status;
+      }
 
-    to_script : (script : Script) (table : List ℕ) (friend : Option Friend) (files : Files) → IsDueToScript fns size watch script table friend files d → IsDueToScript fns size watch script table friend files e → Agree d e
-    to_script script table friend files h g =
-        one_file table (files table) (λ bytes u. WithTable statuses bytes (λ own v. WithFriend friend files own (λ t w. IsDueOver fns size watch script t w) v) u)
-        (λ bytes p q. one_table bytes (λ own v. WithFriend friend files own (λ t w. IsDueOver fns size watch script t w) v)
-        (λ own v w. one_friend friend files own (λ t x. IsDueOver fns size watch script t x) (λ t x y. over script t x y) v w) p q) h g
+  over : (script : Script) (table : MarkedTable) → Settles (IsDueOver fns size watch script table)
+  over script table = by_verdict (verdict (fn_names fns) table.table.columns script) (IsPrinted fns size watch script table) (by_print script table)
 
-    to_input : (files : Files) (named : Input) → IsDueToInput fns size watch files named d → IsDueToInput fns size watch files named e → Agree d e
-    to_input files (Input.Files script table friend) h g =
-        one_file script (files script) (λ bytes u. WithScript statuses bytes (λ s v. IsDueToScript fns size watch s table friend files v) u)
-        (λ bytes p q. one_text bytes (λ s v. IsDueToScript fns size watch s table friend files v) (λ s v w. to_script s table friend files v w) p q) h g
-    to_input files (Input.Generated entries seed) h g =
-        one_text generated_script (λ s u. WithTable statuses (generated_table entries seed) (λ t v. IsDueOver fns size watch s t v) u)
-        (λ s p q. one_table (generated_table entries seed) (λ t v. IsDueOver fns size watch s t v) (λ t v w. over s t v w) p q) h g
+  to_script : (script : Script) (table : List ℕ) (friend : Option Friend) (files : Files) → Settles (IsDueToScript fns size watch script table friend files)
+  to_script script table friend files =
+      by_file table (files table) (λ bytes d. WithTable statuses bytes (λ own e. WithFriend friend files own (λ t u. IsDueOver fns size watch script t u) e) d)
+      (λ bytes. by_table bytes (λ own e. WithFriend friend files own (λ t u. IsDueOver fns size watch script t u) e)
+      (λ own. by_friend friend files own (λ t u. IsDueOver fns size watch script t u) (λ t. over script t)))
 
-  to_asked : (fns : List Function) (asked : Option Command) (files : Files) (line : Due Status)
-      → MatchOption asked (d ≡ line) (λ command. IsDueToInput fns command.cluster command.watch files command.input d)
-      → MatchOption asked (e ≡ line) (λ command. IsDueToInput fns command.cluster command.watch files command.input e) → Agree d e
-  to_asked fns None files line h g = same_due d e line h g
-  to_asked fns (Some c) files line h g = to_input fns c.cluster c.watch files c.input h g
+  to_input : (files : Files) (named : Input) → Settles (IsDueToInput fns size watch files named)
+  to_input files (Input.Files script table friend) =
+      by_file script (files script) (λ bytes d. WithScript statuses bytes (λ s e. IsDueToScript fns size watch s table friend files e) d)
+      (λ bytes. by_text bytes (λ s e. IsDueToScript fns size watch s table friend files e) (λ s. to_script s table friend files))
+  to_input files (Input.Generated entries seed) =
+      by_text generated_script (λ s d. WithTable statuses (generated_table entries seed) (λ t e. IsDueOver fns size watch s t e) d)
+      (λ s. by_table (generated_table entries seed) (λ t e. IsDueOver fns size watch s t e) (λ t. over s t))
 
-pub one_due : (fns : List Function) (words : List (List ℕ)) (files : Files) (d e : Due Status) → IsDue fns words files d → IsDue fns words files e → Agree d e
-one_due fns words files d e h g = to_asked d e fns (asked_of words) files _ h g
+to_asked : (fns : List Function) (asked : Option Command) (files : Files) (line : Due Status)
+    → Settles (λ d. MatchOption asked (d ≡ line) (λ command. IsDueToInput fns command.cluster command.watch files command.input d))
+to_asked fns None files line = by_line line
+to_asked fns (Some c) files line = to_input fns c.cluster c.watch files c.input
+
+pub settled : (fns : List Function) (words : List (List ℕ)) (files : Files) → Settles (IsDue fns words files)
+settled fns words files = to_asked fns (asked_of words) files (due_of Words usage_line)

@@ -6,10 +6,10 @@ use Rattle.command_words.specs.{asked_of, Friend, Input}
 use Rattle.input_files.specs.{due_of, Files, HoldsTheScript, HoldsTheTable, IsLast, marked_table, ReadFile, RefusesTableFile, Tells}
 use Rattle.input_files.specs.Due.{Due}
 use Rattle.result_text.specs.{usage_line}
-use Rattle.rdf_program.specs.Due.{IsDueToFiles, IsDueToMade, ReadsFriend, WithFriendFile}
+use Rattle.rdf_program.specs.Due.{IsDueToFiles, IsDueToMade, IsFinal, ReadsFriend, WithFriendFile}
 use Rattle.rdf_program.specs.declared.answer.Answer.{Answer}
 use Rattle.rdf_program.specs.declared.status.Status.{Status}
-use Rattle.rdf_program.specs.declared.status.Status.TheVariants.{Memory, Words, ReadFault, WriteFault}
+use Rattle.rdf_program.specs.declared.status.Status.TheVariants.{Words, ReadFault}
 use Rattle.columns.specs.ColumnsView.{ColumnsView}
 use Rattle.table_csv.specs.{columns_over, csv_records, marked_in, MarkedPieces}
 use Rattle.input_files.specs.declared.refuse.FileCause.TheVariants.{TableRefused}
@@ -22,11 +22,8 @@ AreTaken words = IsSome (asked_of words)
 
 -- a status that is due once the words are taken
 abbrev pub IsOfRun : Status → Type 0
-IsOfRun Memory = ⊥
 IsOfRun Words = ⊥
-IsOfRun ReadFault = ⊥
-IsOfRun WriteFault = ⊥
-IsOfRun status = Unit {0}
+IsOfRun status = IsFinal status
 
 abbrev pub due_in : Answer → Due Status
 due_in answer = due_of answer.status answer.text

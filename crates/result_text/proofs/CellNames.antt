@@ -109,14 +109,6 @@ line_next before text now all edges i cells c h at is =
 pub line_last : (before text all : List ℕ) (edges : List ℤ) (i : ℕ) (cells : List Cell) → text ++ lines_on before edges i (drop i cells) ≡ all → length cells ≤ i → text ≡ all
 line_last before text all edges i cells h le = put_last all text (lines_on before edges i (drop i cells)) h (ap (lines_on before edges i) (drop_whole cells i le))
 
-pub plane_next : (text now all : List ℕ) (xs ys : List ℤ) (i : ℕ) (rows : List (List Cell)) → text ++ planes_on xs ys i (drop i rows) ≡ all → i < length rows → now ≡ text ++ plane_at xs ys i (get_or rows i [])
-    → now ++ planes_on xs ys (i + 1) (drop (i + 1) rows) ≡ all
-plane_next text now all xs ys i rows h lt is =
-    put_next all text now (plane_at xs ys i (get_or rows i [])) (planes_on xs ys (i + 1) (drop (i + 1) rows)) (planes_on xs ys i (drop i rows)) h (ap (planes_on xs ys i) (one_left rows i (get_or rows i []) (slice_get-get_or rows i [] lt))) is
-
-pub plane_last : (text all : List ℕ) (xs ys : List ℤ) (i : ℕ) (rows : List (List Cell)) → text ++ planes_on xs ys i (drop i rows) ≡ all → length rows ≤ i → text ≡ all
-plane_last text all xs ys i rows h le = put_last all text (planes_on xs ys i (drop i rows)) h (ap (planes_on xs ys i) (drop_whole rows i le))
-
 -- ---- Texts with something between each two.
 
 -- the first, and then each of the others behind a byte

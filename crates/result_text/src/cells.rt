@@ -2,23 +2,12 @@
 ghost use Rattle.std.specs.Prelude.{◌≡◌, ◌≤◌, ◌<◌, ◌+◌, ◌++◌, ℕ, List, [], OnOk, Some, codes, length, slice_index_or, unwrap_or};
 ghost use Rattle.rdf_model.specs.{cell_lines, cell_names, plane_lines};
 ghost use Rattle.histograms.specs.{cell_seen};
-ghost use Rattle.result_text.specs.{behind, bin_name, line_at, name_at, plane_at};
+ghost use Rattle.result_text.specs.{behind, line_at, name_at, plane_at};
 
 use crate::numbers::{put_number, put_sum};
 use histograms::{CellSum, Hist1, Hist2};
 use rdf_values::{Memory, Text};
 use std::alloc::Global;
-
-// Appends the name of the cell between two edges.
-fn put_bin(alloc: Global, text: &mut Text, lo: i64, hi: i64) -> Result<(), Memory>
-    ensures { OnOk result (text.new ≡ text.old ++ bin_name lo hi) }
-{
-    text.push(b'[')?;
-    put_number(alloc, text, lo)?;
-    text.push(b',')?;
-    put_number(alloc, text, hi)?;
-    text.push(b')')
-}
 
 // Appends the name of an axis's cell.
 fn put_cell_name(alloc: Global, text: &mut Text, edges: &[i64], i: usize) -> Result<(), Memory>
@@ -31,7 +20,11 @@ fn put_cell_name(alloc: Global, text: &mut Text, edges: &[i64], i: usize) -> Res
     if i == edges.len() {
         return text.extend(b"over");
     }
-    put_bin(alloc, text, edges[i - 1], edges[i])
+    text.push(b'[')?;
+    put_number(alloc, text, edges[i - 1])?;
+    text.push(b',')?;
+    put_number(alloc, text, edges[i])?;
+    text.push(b')')
 }
 
 // Appends the line of a cell, behind what is put before its name; a place that the axis doesn't have has no line.

@@ -38,8 +38,7 @@ pub fn text_of(alloc: Global, bytes: &[u8]) -> Result<Text, Memory>
 fn named(alloc: Global, label: &[u8], name: &Text) -> Result<Text, Memory>
     ensures { IfOk result (λ text. text ≡ line (label.now ++ name.now)) }
 {
-    let mut text = Text::new(alloc);
-    text.extend(label)?;
+    let mut text = text_of(alloc, label)?;
     text.extend(name.as_bytes())?;
     text.push(b'\n')?;
     Ok(text)
@@ -128,8 +127,7 @@ fn refused_for(alloc: Global, cause: TableCause) -> Result<String, Memory>
 fn refused(alloc: Global, name: &[u8], cause: TableCause) -> Result<Text, Memory>
     ensures { IfOk result (λ text. text ≡ name.now ++ refused_for cause) }
 {
-    let mut text = Text::new(alloc);
-    text.extend(name)?;
+    let mut text = text_of(alloc, name)?;
     text.extend(refused_for(alloc, cause)?.as_bytes())?;
     Ok(text)
 }

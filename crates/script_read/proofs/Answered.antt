@@ -8,12 +8,6 @@ use Rattle.script_read.specs.{ALine, Done, place_from, StuckAt, walk_placed, Wal
 use Rattle.script_read.proofs.Stuck.{line_walked, refuses_line}
 use Rattle.script_read.proofs.AnsweredStrings.{form_says}
 
--- ---- tokens
-
--- a walk that takes all tokens of a line takes a form
-walked_form : (ts : List PlacedToken) → walk_placed ts (ALine ∷ []) ≡ Done → (f : Form) × IsForm (bare_tokens ts) f
-walked_form ts e = let s = line_walked ts Done e in (s.0.0.0, record { tokens = s.1 ∙ append-nil _; free = s.0.0.1 })
-
 -- ---- lines
 
 -- the line says something or is refused
@@ -25,16 +19,13 @@ by_form line ts f e is (inl s) = inl (s.0, record { found = ts; tokens = e; form
 by_form line ts f e is (inr b) = inr (b.0, script.at_string e is b.1)
 
 by_walk : (line : List ℕ) (ts : List PlacedToken) (end : WalkEnd PlacedToken) → line_tokens line ≡ Ok ts → 0 < length ts → walk_placed ts (ALine ∷ []) ≡ end → IsAnswered line
-by_walk line ts Done e some h = let f = walked_form ts h in by_form line ts f.0 e f.1 (form_says f.0)
+by_walk line ts Done e some h = let s = line_walked ts Done h in by_form line ts s.0.0.0 e (record { tokens = s.1 ∙ append-nil _; free = s.0.0.1 }) (form_says s.0.0.0)
 by_walk line ts (StuckAt left) e some h = inr (refused.Syntax (place_from left (length line)), refuses_line ts left (length line) line h some e refl)
 
 by_tokens : (line : List ℕ) (found : Result (List PlacedToken) ℕ) → line_tokens line ≡ found → IsBlankLine line ⊎ IsAnswered line
 by_tokens line (Err place) e = inr (inr (refused.Syntax place, script.at_byte e))
 by_tokens line (Ok []) e = inl e
 by_tokens line (Ok (t ∷ ts)) e = let some : 0 < length (t ∷ ts) = omega arith in inr (by_walk line (t ∷ ts) (walk_placed (t ∷ ts) (ALine ∷ [])) e some refl)
-
-line_answered : (line : List ℕ) → IsBlankLine line ⊎ IsAnswered line
-line_answered line = by_tokens line (line_tokens line) refl
 
 -- ---- scripts
 
@@ -65,7 +56,7 @@ by_line line lines number before few go (inr (inl s)) =
 
 lines_answered : (lines : List (List ℕ)) (number before : ℕ) → before ≤ 256 → AreAnswered lines number before
 lines_answered [] number before few = let fewer : before + 0 ≤ 256 = omega arith in inl ([], script.no_lines, fewer)
-lines_answered (line ∷ lines) number before few = by_line line lines number before few (λ n b f. lines_answered lines n b f) (line_answered line)
+lines_answered (line ∷ lines) number before few = by_line line lines number before few (λ n b f. lines_answered lines n b f) (by_tokens line (line_tokens line) refl)
 
 by_lines : (text : List ℕ) → AreAnswered (lines_of text) 1 0 → ((s : Script) × IsScript text s) ⊎ ((c : ScriptCause) × RefusesScript text c)
 by_lines text (inl r) = let few = r.2 in let fewer : length r.0 ≤ 256 = omega arith in inl (record { lines = r.0 }, record { lines = r.1; few = fewer })

@@ -22,8 +22,7 @@ abbrev OrFirstBad : Type 0 → List (QuotedText × Wanted) → Type 0
 OrFirstBad A ws = A ⊎ ((r : LineRefusal) × FirstBad ws r)
 
 by_test : {A : Type 0} (w : QuotedText × Wanted) (b : Bool) → (b ≡ true → A) → (b ≡ false → (r : LineRefusal) × IsBad w r) → OrBad A w
-by_test w true f g = inl (f refl)
-by_test w false f g = inr (g refl)
+by_test w b f g = grind arith
 
 name_or_bad : (q : QuotedText) → OrBad ((x : List ℕ) × IsName q x) (q, AName)
 name_or_bad q = by_test (q, AName) (is_name q.content) (λ e. (q.content, record { content = refl; name = e })) (λ e. (st.Syntax q.place, st.no_name e))
@@ -69,13 +68,10 @@ last w (inl a) = inl a
 
 -- strings and those behind them
 then_all : {A B : Type 0} (vs ws : List (QuotedText × Wanted)) → OrFirstBad A vs → (A → AreGood vs) → OrFirstBad B ws → OrFirstBad (A × B) (vs ++ ws)
-then_all vs ws (inr b) good rest = inr (b.0, bad_before vs ws b.0 b.1)
-then_all vs ws (inl a) good (inl b) = inl (a, b)
-then_all vs ws (inl a) good (inr b) = inr (b.0, bad_after vs ws (good a) b.0 b.1)
+then_all vs ws h good rest = grind (arith, bad_before, bad_after)
 
 turned : {A B : Type 0} (ws : List (QuotedText × Wanted)) → (A → B) → OrFirstBad A ws → OrFirstBad B ws
-turned ws f (inl a) = inl (f a)
-turned ws f (inr b) = inr b
+turned ws f h = grind arith
 
 name_good : (q : QuotedText) → (x : List ℕ) × IsName q x → IsGood (q, AName)
 name_good q x = good_name q x.0 x.1
@@ -97,10 +93,6 @@ maybe_label_or_bad (Some q) = turned ((q, ALabel) ∷ []) (λ x. (Some x.0, a_la
 
 -- ---- forms
 
--- two strings that are names
-two_names : (c d : QuotedText) → OrFirstBad (((x : List ℕ) × IsName c x) × ((y : List ℕ) × IsName d y)) ((c, AName) ∷ (d, AName) ∷ [])
-two_names c d = then_more (c, AName) ((d, AName) ∷ []) (name_or_bad c) (name_good c) (last (d, AName) (name_or_bad d))
-
 column_and_expression : (c e : QuotedText) → OrFirstBad (((x : List ℕ) × IsName c x) × ((a : NamedTree) × ReadsText e.content a)) ((c, AName) ∷ (e, AnExpression) ∷ [])
 column_and_expression c e = then_more (c, AName) ((e, AnExpression) ∷ []) (name_or_bad c) (name_good c) (last (e, AnExpression) (expression_or_bad e))
 
@@ -121,7 +113,9 @@ says_vary_one n p c v ts m x vs tags y a b d (a_name {x = z} e) = (Statement.Var
 method_says : (n p : List ℕ) (m : Method) → OrFirstBad ((s : Statement) × Says (form.Books n p m) s) (method_strings m)
 method_says n p (form.Define c e) = turned _ (λ a. (Statement.Define n p a.0.0 a.1.0, st.define a.0.1 a.1.1)) (column_and_expression c e)
 method_says n p (form.Redefine c e) = turned _ (λ a. (Statement.Redefine n p a.0.0 a.1.0, st.redefine a.0.1 a.1.1)) (column_and_expression c e)
-method_says n p (form.Alias c t) = turned _ (λ a. (Statement.Alias n p a.0.0 a.1.0, st.alias a.0.1 a.1.1)) (two_names c t)
+method_says n p (form.Alias c t) =
+    turned _ (λ a. (Statement.Alias n p a.0.0 a.1.0, st.alias a.0.1 a.1.1))
+    (then_more (c, AName) ((t, AName) ∷ []) (name_or_bad c) (name_good c) (last (t, AName) (name_or_bad t)))
 method_says n p (form.Filter e l) =
     turned _ (λ a. (Statement.Filter n p a.0.0 a.1.0, st.filter a.0.1 a.1.1))
     (then_more (e, AnExpression) (maybe_wanted l ALabel) (expression_or_bad e) (λ a. good_expression e a.0 a.1) (maybe_label_or_bad l))

@@ -1,8 +1,7 @@
 -- The first line of a text, and the reading of a script line by line.
-use Rattle.std.proofs.Common.{◌≡◌, ◌<◌, ◌≤◌, ◌+◌, ℕ, suc, List, [], ◌∷◌, ◌++◌, length, take, drop, get_or, drop-cons, add-one, subst, Bool, true, false, None, Some, Option, arith, refl, ap, sym, ◌∙◌, not, nat_lt, ◌==◌, position, cond, if◌then◌else◌, ◌⊎◌, inl, inr, length-append, append_assoc}
+use Rattle.std.proofs.Common.{◌≡◌, ◌<◌, ◌≤◌, ◌+◌, ℕ, suc, List, [], ◌∷◌, ◌++◌, length, take, drop, get_or, drop-cons, add-one, subst, Bool, true, false, None, Some, Option, arith, refl, ap, sym, ◌∙◌, not, nat_lt, ◌==◌, position, cond, ◌⊎◌, length-append, append_assoc}
 use Rattle.lemmas.proofs.{and_holds, list_all, nat_tests, position-Some, position_or_len, strip_last, append-nil}
 use Rattle.std.proofs.lemmas.List.{take_all, take-append-drop}
-use native.Mathlib.Numerals.{unary_clauses}
 use Rattle.rdf_values.specs.{lines_of, AreLines, IsScript, Line, RefusesLines, RefusesScript, Script, ScriptCause}
 use Rattle.rdf_values.proofs.ScriptSteps.{is_in_line, without_cr, lines_of_line, lines_of_last}
 use Rattle.rdf_values.proofs.OneScript.{script_or_refusal, one_cause}
@@ -20,11 +19,7 @@ some : (n : ℕ) → nat_lt 0 (suc n) ≡ true
 some n = grind (arith, nat_tests)
 
 strip_more : (c d : ℕ) (cs : List ℕ) → c ∷ strip_last 13 (d ∷ cs) ≡ strip_last 13 (c ∷ d ∷ cs)
-strip_more c d cs = simp (unary_clauses, some) (at (get_or (d ∷ cs) (length cs) 0 == 13))
-  where
-    at : (b : Bool) → (c ∷ (if b then take (length cs) (d ∷ cs) else d ∷ cs)) ≡ (if b then take (suc (length cs)) (c ∷ d ∷ cs) else c ∷ d ∷ cs)
-    at true = refl
-    at false = refl
+strip_more c d cs = grind (arith, some)
 
 stripped : (line : List ℕ) → without_cr line ≡ strip_last 13 line
 stripped [] = refl
@@ -64,14 +59,7 @@ no_lf (c ∷ cs) none some =
     lines_of_last cs c (subst (λ l. list_all is_in_line l ≡ true) all (no_lf_before (c ∷ cs)))
 
 pub first_end : (text : List ℕ) → EndsAt text (position is_lf text)
-first_end text = at (nat_lt (position_or_len is_lf text) (length text)) refl
-  where
-    at : (b : Bool) → nat_lt (position_or_len is_lf text) (length text) ≡ b → EndsAt text (cond b (Some (position_or_len is_lf text)) None)
-    at true e =
-        let lt : position_or_len is_lf text < length text = grind (arith, nat_tests) in
-        let found : position is_lf text ≡ Some (position_or_len is_lf text) = rw e refl in
-        at_lf text (position_or_len is_lf text) refl lt (position-Some is_lf text _ 0 found).1
-    at false e = no_lf text (grind (arith, nat_tests))
+first_end text = grind (arith, position_or_len, nat_tests, at_lf, position-Some, no_lf)
 
 pub none_behind : lines_of [] ≡ []
 unfolding lines_of
@@ -109,8 +97,7 @@ reads_line text left line behind number found more r e shorter (adds_statement {
 
 pub reads_bad : (text left line behind : List ℕ) (number : ℕ) (found : List Line) (e : ScriptRefusal) → Reads text left number found → lines_of left ≡ line ∷ lines_of behind
     → RefusesFirstAs number (length found) line e → RefusesTextAs text e
-reads_bad text left line behind number found (ScriptRefusal.At c) r e bad = r.refused c (rw e (bad (lines_of behind)))
-reads_bad text left line behind number found ScriptRefusal.Memory r e bad = tt
+reads_bad text left line behind number found e r h bad = grind arith
 
 pub nothing_left : (left : List ℕ) (b : Bool) → b ≡ (length left == 0) → b ≡ true → left ≡ []
 nothing_left [] b e f = refl
@@ -126,10 +113,8 @@ reads_all text left number s r e = record {
 
 -- a text that is a script is refused for want of memory alone
 pub memory_alone : (text : List ℕ) (e : ScriptRefusal) (s : Script) → RefusesTextAs text e → IsScript text s → e ≡ ScriptRefusal.Memory
-memory_alone text (ScriptRefusal.At c) s bad is = absurd (script_or_refusal read_once text s c is bad)
-memory_alone text ScriptRefusal.Memory s bad is = refl
+memory_alone text e s bad is = grind (arith, script_or_refusal, read_once)
 
 -- a text that is refused is refused for that cause, or for want of memory
 pub cause_or_memory : (text : List ℕ) (e : ScriptRefusal) (c : ScriptCause) → RefusesTextAs text e → RefusesScript text c → (e ≡ ScriptRefusal.At c) ⊎ (e ≡ ScriptRefusal.Memory)
-cause_or_memory text (ScriptRefusal.At d) c bad is = inl (ap ScriptRefusal.At (one_cause read_once text d c bad is))
-cause_or_memory text ScriptRefusal.Memory c bad is = inr refl
+cause_or_memory text e c bad is = grind (arith, one_cause, read_once)

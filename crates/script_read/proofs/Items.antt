@@ -1,6 +1,6 @@
 -- What stands where something is wanted: names, methods, expressions and what a Vary says.
 use Rattle.std.proofs.Common.{◌≡◌, ◌≤◌, ℕ, List, [], ◌∷◌, length, Option, Some, None, arith, subst, ◌∙◌, Bool, true, false, refl, sym, ap, if◌then◌else◌, ◌<◌, ◌+◌, ◌++◌, map, get_or, drop, append_assoc, ℤ, pos, codes, option_map}
-use Rattle.rdf_values.specs.{AfterName, at_end, at_scan, at_token, continued, ending, Nothing, OpenMark, Operator, Placed, Refusal, Refused, scan, scan_step, ScanState, Token, all_strings, AreNames, IsName, QuotedText, ReadsValuesText, Says, Statement, Strings, VaryValues, LineToken, PlacedToken, same, FirstBad, more_names, no_names, wanted_names, arguments, Form, form_tokens, has_free_names, is_free, maybe_string, Method, method_word, more_edges, more_strings}
+use Rattle.rdf_values.specs.{at_end, at_scan, at_token, continued, ending, OpenMark, Placed, Refusal, Refused, scan, scan_step, ScanState, Token, all_strings, AreNames, IsName, QuotedText, ReadsValuesText, Says, Statement, Strings, VaryValues, LineToken, PlacedToken, same, FirstBad, more_names, no_names, wanted_names, arguments, Form, form_tokens, has_free_names, is_free, maybe_string, Method, method_word, more_edges, more_strings}
 use Rattle.rdf_values.specs.expressions.Scans.{Wanted, Refuses}
 use Rattle.expr_read.specs.{ExprRefusal, RefusesTextAs}
 use Rattle.expr_read.proofs.ValidTokens.{StandBelow, no_tokens, more_tokens, all_fine}
@@ -19,8 +19,7 @@ not_refused_at_end w stack p e = grind arith
 
 goes_below : (o : Option ScanState) (t : Placed) (ts : List Placed) (p end : ℕ) → t.place ≤ end → ((s : ScanState) → scan s ts ≡ Refused p → p ≤ end)
     → continued o t.place (λ s. scan s ts) ≡ Refused p → p ≤ end
-goes_below None t ts p end h k e = let same : t.place ≡ p = cc e in rw (← same) h
-goes_below (Some s) t ts p end h k e = k s e
+goes_below o t ts p end h k e = grind arith
 
 scan_below : (ts : List Placed) (s : ScanState) (p end : ℕ) → StandBelow end ts → scan s ts ≡ Refused p → p ≤ end
 scan_below [] s p end no_tokens e = absurd (not_refused_at_end s.0 s.1 p e)
@@ -32,8 +31,7 @@ refused_below reads begin text r (at_scan {ts = ts} {p = p} e f) = let fine = rw
 refused_below reads begin text r (at_end e f g) = omega arith
 
 pub stands_within : {T : Type 0} (reads : List Token → T → Type 0) (begin : ScanState) (text : List ℕ) (e : ExprRefusal) → RefusesTextAs reads begin text e → StandsWithin (length text) e
-stands_within reads begin text (ExprRefusal.At cause place) h = refused_below reads begin text (record { cause = cause; place = place }) h
-stands_within reads begin text ExprRefusal.Memory h = tt
+stands_within reads begin text e h = grind (arith, refused_below)
 
 -- ---- What a Vary of one column says.
 
@@ -45,11 +43,7 @@ says_vary n p c v ts (Some m) x vs tags y a b d e = st.vary_named a b d e
 -- ---- Which method a word names.
 
 named_first : {A : Type 0} (word_of : A → List ℕ) (word : List ℕ) (y : A) (ys : List A) (x : A) (b : Bool) → same word (word_of y) ≡ b → (named word_of word ys ≡ Some x → word ≡ word_of x) → named word_of word (y ∷ ys) ≡ Some x → word ≡ word_of x
-named_first word_of word y ys x true s later e =
-    let found : Some y ≡ Some x = sym (ap (λ (b : Bool). if b then Some y else named word_of word ys) s) ∙ e in
-    let name : y ≡ x = cc found in
-    (bytes_eq-Decides word (word_of y)).0 s ∙ ap word_of name
-named_first word_of word y ys x false s later e = later (sym (ap (λ (b : Bool). if b then Some y else named word_of word ys) s) ∙ e)
+named_first word_of word y ys x b s later e = grind (arith, bytes_eq-Decides)
 
 -- what is named has the word
 pub named_is : {A : Type 0} (word_of : A → List ℕ) (word : List ℕ) (xs : List A) (x : A) → named word_of word xs ≡ Some x → word ≡ word_of x
@@ -89,8 +83,7 @@ one_more {strings} {left} t x n is = record {
 -- the strings left begin with the one at the place
 pub at_place : {strings : List QuotedText} {names : List (List ℕ)} (qs : List Quoted) (i : ℕ) (q : Quoted) → i < length qs → q ≡ get_or qs i q
     → Naming strings (map quoted_of (drop i qs)) names → Naming strings (quoted_of q ∷ map quoted_of (drop (i + 1) qs)) names
-at_place {strings} {names} qs i q h e n =
-    subst (λ (ts : List QuotedText). Naming strings ts names) (ap (map quoted_of) (drop_more qs i q h ∙ ap (λ (x : Quoted). x ∷ drop (i + 1) qs) (sym e))) n
+at_place qs i q h e n = grind (arith, drop_more)
 
 pub all_read : {strings : List QuotedText} {names : List (List ℕ)} (qs : List Quoted) (i : ℕ) → length qs ≤ i → Naming strings (map quoted_of (drop i qs)) names → AreNames strings names
 all_read {strings} {names} qs i h n =
@@ -230,8 +223,7 @@ marked : (m : Mark) (u : LineToken) → is_mark m u ≡ true → mark_token m �
 marked m u e = grind arith
 
 mark_follows : (m : Mark) (u : LineToken) (b : Bool) → is_mark m u ≡ b → Follows (AMark m) u (if b then Some [] else None)
-mark_follows m u true e = λ xs. record { item = tt; tokens = ap (λ (v : LineToken). v ∷ []) (marked m u e) }
-mark_follows m u false e = tt
+mark_follows m u b e = grind (arith, marked)
 
 pub follows : (w : Want) (u : LineToken) → Follows w u (next w u)
 follows ALine (t.Word x) = line_follows x (is_free x) refl

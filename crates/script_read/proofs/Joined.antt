@@ -15,13 +15,7 @@ pub took_some : {q : QuotedText} {old mid new : List PlacedToken} → Begins t.C
 took_some b k = record { split = ap bare_tokens b.is ∙ ap (λ ts. t.Comma ∷ ts) k.split; walks = λ ws. walk_over MaybeString one_string_wants ws b refl ∙ k.walks ws }
 
 pub took_none : {old mid new : List PlacedToken} → mid ≡ old → BeginsNot t.Comma old → Took (AMark Mark.Close ∷ []) (t.Close ∷ []) mid new → Took (MaybeString ∷ []) (t.Close ∷ []) old new
-took_none {old} {mid} {new} e isnt k = record {
-  split = sym (ap bare_tokens e) ∙ k.split;
-  walks = λ ws. close_wanted old ws isnt ∙ ap (λ ts. walk_placed ts (AMark Mark.Close ∷ ws)) (sym e) ∙ k.walks ws;
-}
-
-pub some_wanted : (old mid : List PlacedToken) (k : List Want) → Begins t.Comma old mid → walk_placed old (MaybeString ∷ k) ≡ walk_placed mid (one_string_wants ++ k)
-some_wanted old mid k b = walk_over MaybeString one_string_wants k b refl
+took_none e isnt k = grind (arith, close_wanted)
 
 pub none_wanted : (old mid : List PlacedToken) (k : List Want) → mid ≡ old → BeginsNot t.Comma old → walk_placed old (MaybeString ∷ k) ≡ walk_placed mid (AMark Mark.Close ∷ k)
 none_wanted old mid k e isnt = close_wanted old k isnt ∙ ap (λ ts. walk_placed ts (AMark Mark.Close ∷ k)) (sym e)
@@ -131,9 +125,7 @@ took_histo2d xs ys x y w a b c d e f g h = record {
 
 pub name_word_is : (n : MethodName) → name_of (name_word n) ≡ Some n
 unfolding name_of
-name_word_is MethodName.Define = refl
-name_word_is (MethodName.Action ActionName.Count) = refl
-name_word_is n = refl
+name_word_is n = grind arith
 
 pub method_next : (n : MethodName) → next AMethod (t.Word (name_word n)) ≡ Some (method_wants n)
 method_next n = rw (name_word_is n) refl
@@ -161,14 +153,10 @@ took_line x f e b same free k = record { free = k.free; took = took_as (sym k.wh
 
 asked_case : (x r : List ℕ) (a b c : Bool) → (a ≡ true → x ≡ codes "Print") → (b ≡ true → x ≡ codes "VariationsFor") → (c ≡ true → x ≡ codes "Watch") → not (a || b || c) ≡ false
     → form_tokens (if a then form.Print r else (if b then form.VariationsFor r else form.Watch r)) ≡ call x (t.Word r ∷ [])
-asked_case x r true b c p q w h = ap (λ (y : List ℕ). call y (t.Word r ∷ [])) (sym (p refl))
-asked_case x r false true c p q w h = ap (λ (y : List ℕ). call y (t.Word r ∷ [])) (sym (q refl))
-asked_case x r false false true p q w h = ap (λ (y : List ℕ). call y (t.Word r ∷ [])) (sym (w refl))
-asked_case x r false false false p q w h = cc h
+asked_case x r a b c p q w h = grind arith
 
 pub asked_tokens : (x r : List ℕ) → is_free x ≡ false → form_tokens (asked_form x r) ≡ call x (t.Word r ∷ [])
-asked_tokens x r h =
-    asked_case x r (same x (codes "Print")) (same x (codes "VariationsFor")) (same x (codes "Watch")) (bytes_eq-Decides x (codes "Print")).0 (bytes_eq-Decides x (codes "VariationsFor")).0 (bytes_eq-Decides x (codes "Watch")).0 h
+asked_tokens x r h = grind (arith, asked_case, bytes_eq-Decides)
 
 pub asked_free : (a b : Bool) (r : List ℕ) → has_free_names (if a then form.Print r else (if b then form.VariationsFor r else form.Watch r)) ≡ is_free r
 asked_free a b r = grind arith

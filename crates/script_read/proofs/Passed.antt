@@ -1,11 +1,11 @@
 -- The walk passes over every line.
-use Rattle.std.proofs.Common.{◌≡◌, ◌∙◌, ℕ, ℤ, List, [], ◌∷◌, ◌++◌, Option, Some, None, true, refl, ap, append_assoc, codes, arith}
+use Rattle.std.proofs.Common.{◌≡◌, ◌∙◌, ℕ, ℤ, List, [], ◌∷◌, ◌++◌, Option, Some, true, refl, ap, append_assoc, arith}
 use Rattle.lemmas.proofs.{append-nil, both_true}
 use Rattle.rdf_values.specs.{arguments, edges_tokens, Form, form_tokens, has_free_names, is_free, LineToken, maybe_string, Method, method_word, more_edges, more_strings, QuotedText, strings_tokens}
 use Rattle.rdf_values.specs.scripts.LineTokens as t
 use Rattle.rdf_values.specs.scripts.LineForms.{call}
 use Rattle.rdf_values.specs.scripts.LineForms as form
-use Rattle.script_read.specs.{ActionName, ALine, AMark, AMethod, arguments_wants, asking_wants, AString, AWord, booking_wants, Done, edges_wants, Mark, MaybeString, method_wants, MethodName, MoreEdges, MoreStrings, name_word, next, one_string_wants, variation_wants, walk, WalkEnd, Want}
+use Rattle.script_read.specs.{ActionName, ALine, AMark, AMethod, arguments_wants, asking_wants, AString, AWord, Done, edges_wants, Mark, MaybeString, MethodName, MoreEdges, MoreStrings, name_word, next, one_string_wants, variation_wants, walk, WalkEnd, Want}
 use Rattle.script_read.proofs.Walked.{is_name_next}
 use Rattle.script_read.proofs.Joined.{line_next, method_next}
 
@@ -36,9 +36,7 @@ behind_edges zs ts k = ap (λ (us : List LineToken). walked us (MoreEdges ∷ k)
 -- ---- methods
 
 called : (n : MethodName) (m : Method) → method_word m ≡ name_word n → walked (arguments m ++ t.Close ∷ []) (arguments_wants n) ≡ Done → walked (call (method_word m) (arguments m)) (AMethod ∷ []) ≡ Done
-called n m w h =
-    passes_on AMethod (method_wants n) [] (t.Word (method_word m)) (t.Open ∷ (arguments m ++ t.Close ∷ [])) (ap (λ (x : List ℕ). next AMethod (t.Word x)) w ∙ method_next n)
-    ∙ ap (λ (ws : List Want). walked (arguments m ++ t.Close ∷ []) ws) (append-nil (arguments_wants n)) ∙ h
+called n m w h = grind (arith, passes_on, method_next, append-nil)
 
 method_passes : (m : Method) → walked (call (method_word m) (arguments m)) (AMethod ∷ []) ≡ Done
 method_passes (form.Define c e) = called MethodName.Define (form.Define c e) refl refl
@@ -71,12 +69,4 @@ asking_passes : (word r : List ℕ) → next ALine (t.Word word) ≡ Some asking
 asking_passes word r asks free = passes_on ALine asking_wants [] (t.Word word) (t.Open ∷ t.Word r ∷ t.Close ∷ []) asks ∙ passes_on AWord [] (AMark Mark.Close ∷ []) (t.Word r) (t.Close ∷ []) (is_name_next r free)
 
 pub line_passes : (f : Form) → has_free_names f ≡ true → walked (form_tokens f) (ALine ∷ []) ≡ Done
-line_passes (form.Books n p m) free =
-    let names = both_true (is_free n) (is_free p) free in
-    let body = call (method_word m) (arguments m) in
-    passes_on ALine booking_wants [] (t.Word n) (t.Equals ∷ t.Word p ∷ t.Dot ∷ body) (line_next n true names.0)
-    ∙ passes_on AWord [] (AMark Mark.Dot ∷ AMethod ∷ []) (t.Word p) (t.Dot ∷ body) (is_name_next p names.1)
-    ∙ method_passes m
-line_passes (form.Print r) free = asking_passes (codes "Print") r refl free
-line_passes (form.VariationsFor r) free = asking_passes (codes "VariationsFor") r refl free
-line_passes (form.Watch r) free = asking_passes (codes "Watch") r refl free
+line_passes f free = grind (arith, both_true, passes_on, line_next, is_name_next, method_passes, asking_passes)

@@ -1,7 +1,7 @@
 -- One more token of a line, its words and integers.
-use Rattle.std.proofs.Common.{◌≡◌, ◌∙◌, ◌+◌, ℕ, Bool, true, List, [], ◌∷◌, length, get_or, take, drop, ◌-◌, suc, arith, refl, ap, sym, subst, ◌==◌, ◌||◌, take_while, if◌then◌else◌, ◌≤◌, ◌<◌, false, Some, None, ◌++◌, Ok, Err, append_assoc, length-drop, Result, Option, ◌&&◌, ℤ, nat_lt}
+use Rattle.std.proofs.Common.{◌≡◌, ◌∙◌, ◌+◌, ℕ, Bool, true, List, [], ◌∷◌, length, get_or, take, drop, ◌-◌, suc, arith, refl, ap, sym, subst, ◌==◌, ◌||◌, take_while, if◌then◌else◌, ◌≤◌, ◌<◌, ◌++◌, Ok, Err, append_assoc, length-drop, Result, Option, ◌&&◌, ℤ, nat_lt}
 use Rattle.lemmas.proofs.{length-prefix_len, nat_tests, take_rest, append-nil, drop-drop, drop_all, drop_more, list_all}
-use Rattle.rdf_values.specs.{integer_lexeme, integer_of, is_blank, is_digit, is_word, is_word_byte, is_word_start, lexeme, word_lexeme, Bad, between, Blank, Close, CloseBracket, Comma, Comment, content_of, Dot, Equals, Found, is_name, Lexeme, LineToken, mark_lexeme, Open, OpenBracket, PlacedToken, string_lexeme, tokens_from, with_lexeme, with_token}
+use Rattle.rdf_values.specs.{integer_lexeme, integer_of, is_blank, is_digit, is_word, is_word_byte, is_word_start, lexeme, word_lexeme, Bad, between, Blank, Comment, content_of, Found, is_name, Lexeme, LineToken, mark_lexeme, PlacedToken, string_lexeme, tokens_from, with_lexeme, with_token}
 use Rattle.expr_read.proofs.TokenSteps.{run_passes, word_run, run_size as run_short}
 use Rattle.rdf_values.proofs.ScriptSteps.{tokens_behind}
 
@@ -33,30 +33,20 @@ first_integer : (place c : ℕ) (cs : List ℕ) → (is_digit c || c == 45) ≡ 
 unfolding lexeme
 first_integer place c cs h = before_integer c _ _ _ _ _ h
 
-at_word : (place n c : ℕ) (cs : List ℕ) → is_word_start c ≡ true → n ≡ length (take_while is_word_byte (c ∷ cs)) → word_lexeme (take n (c ∷ cs)) ≡ lexeme place c cs
-at_word place n c cs h e = rw (take_run is_word_byte (c ∷ cs) n e, word_run c cs h) (sym (first_word place c cs h))
-
 pub lexeme_word : (place n c : ℕ) (text cs : List ℕ) → text ≡ c ∷ cs → is_word_start (get_or text 0 0) ≡ true → n ≡ length (take_while is_word_byte text)
     → word_lexeme (take n text) ≡ lexeme place c cs
-lexeme_word place n c text cs s h e =
-    let Same : List ℕ → Type 0 = λ t. is_word_start (get_or t 0 0) ≡ true → n ≡ length (take_while is_word_byte t) → word_lexeme (take n t) ≡ lexeme place c cs in
-    subst Same (sym s) (at_word place n c cs) h e
+lexeme_word place n c text cs s h e = grind (arith, take_run, word_run, first_word)
 
 integer_run : (n c : ℕ) (cs : List ℕ) → n ≡ length (take_while is_digit cs) → take (1 + n) (c ∷ cs) ≡ c ∷ take_while is_digit cs
 integer_run n c cs e = let more : 1 + n ≡ suc n = omega arith in rw more (ap (λ (ds : List ℕ). c ∷ ds) (take_run is_digit cs n e))
 
-at_integer : (place n c : ℕ) (cs : List ℕ) → (is_digit c || c == 45) ≡ true → n ≡ length (take_while is_digit cs)
-    → integer_lexeme (length (take (1 + n) (c ∷ cs)) - 1) (integer_of (take (1 + n) (c ∷ cs))) ≡ lexeme place c cs
-at_integer place n c cs h e =
-    let one : length (c ∷ take_while is_digit cs) - 1 ≡ length (take_while is_digit cs) = omega arith in
-    rw (integer_run n c cs e, one) (sym (first_integer place c cs h))
-
 pub lexeme_integer : (place n c : ℕ) (text cs : List ℕ) → text ≡ c ∷ cs → (is_digit (get_or text 0 0) || get_or text 0 0 == 45) ≡ true
     → n ≡ length (take_while is_digit (take (length text - 1) (drop 1 text))) → integer_lexeme (length (take (1 + n) text) - 1) (integer_of (take (1 + n) text)) ≡ lexeme place c cs
 lexeme_integer place n c text cs s h e =
-    let Same : List ℕ → Type 0 = λ t. (is_digit (get_or t 0 0) || get_or t 0 0 == 45) ≡ true → n ≡ length (take_while is_digit (drop 1 t))
-    → integer_lexeme (length (take (1 + n) t) - 1) (integer_of (take (1 + n) t)) ≡ lexeme place c cs in
-    subst Same (sym s) (at_integer place n c cs) h (e ∙ ap (λ (t : List ℕ). length (take_while is_digit t)) (take_rest text 1))
+    let starts : (is_digit c || c == 45) ≡ true = rw s at h in
+    let size : n ≡ length (take_while is_digit cs) = rw s at (e ∙ ap (λ (t : List ℕ). length (take_while is_digit t)) (take_rest text 1)) in
+    let one : length (c ∷ take_while is_digit cs) - 1 ≡ length (take_while is_digit cs) = omega arith in
+    rw (s, integer_run n c cs size, one) (sym (first_integer place c cs starts))
 
 -- ---- One more token of a line.
 
@@ -70,8 +60,7 @@ IsWithin most Bad = Unit {0}
 IsWithin most (Found token more) = more ≤ most
 
 fits_or : (most : ℕ) (b : Bool) (x y : Lexeme) → IsWithin most x → IsWithin most y → IsWithin most (if b then x else y)
-fits_or most true x y h k = h
-fits_or most false x y h k = k
+fits_or most b x y h k = grind arith
 
 word_fits : (c : ℕ) (cs : List ℕ) → IsWithin (length cs) (word_lexeme (c ∷ take_while is_word_byte cs))
 unfolding word_lexeme
@@ -81,22 +70,14 @@ integer_fits : (most more : ℕ) (z : Option ℤ) → more ≤ most → IsWithin
 integer_fits most more z h = grind arith
 
 string_by : (most size : ℕ) (token : LineToken) (b : Bool) → IsWithin most (if nat_lt size most && b then Found token (size + 1) else Bad)
-string_by most size token b = by_size (nat_lt size most) refl
-  where
-    by_size : (d : Bool) → nat_lt size most ≡ d → IsWithin most (if d && b then Found token (size + 1) else Bad)
-    by_size true e = let fits : size + 1 ≤ most = grind (arith, nat_tests) in fits_or most b _ _ fits tt
-    by_size false e = tt
+string_by most size token b = grind (arith, nat_tests, fits_or)
 
 string_fits : (place : ℕ) (cs : List ℕ) → IsWithin (length cs) (string_lexeme place cs)
 unfolding string_lexeme
 string_fits place cs = string_by (length cs) (length (content_of cs)) _ (list_all (between 32 126) (content_of cs))
 
 mark_fits : (most c : ℕ) → IsWithin most (mark_lexeme c)
-mark_fits most c =
-    let none : 0 ≤ most = omega arith in
-    fits_or most (c == 61) (Found Equals 0) _ none (fits_or most (c == 46) (Found Dot 0) _ none (fits_or most (c == 40) (Found Open 0) _ none
-    (fits_or most (c == 41) (Found Close 0) _ none (fits_or most (c == 91) (Found OpenBracket 0) _ none (fits_or most (c == 93) (Found CloseBracket 0) _ none
-    (fits_or most (c == 44) (Found Comma 0) _ none tt))))))
+mark_fits most c = grind (arith, fits_or)
 
 lexeme_fits : (place c : ℕ) (cs : List ℕ) → IsWithin (length cs) (lexeme place c cs)
 unfolding lexeme

@@ -76,9 +76,7 @@ no_number t isnt = grind arith
 
 -- no word stands there
 pub no_word : (t : Token) → ((x : Word) → t ≡ Token.Word x → ⊥) → (next AWord (token_of t) ≡ None) × (next AMethod (token_of t) ≡ None) × (next ALine (token_of t) ≡ None)
-no_word (Token.Word x) isnt = absurd (isnt x refl)
-no_word (Token.Mark Mark.Equals) isnt = (refl, refl, refl)
-no_word t isnt = (refl, refl, refl)
+no_word t isnt = grind arith
 
 pub is_name_next : (x : List ℕ) → is_free x ≡ true → next AWord (t.Word x) ≡ Some []
 is_name_next x f = rw f refl

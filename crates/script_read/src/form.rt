@@ -45,6 +45,9 @@ pub(crate) struct Placed<'a> {
     pub(crate) place: u32,
 }
 
+/// Two strings in their order.
+pub(crate) type Pair<'a> = (Quoted<'a>, Quoted<'a>);
+
 /// Items of which there is one at least.
 #[derive(Drop)]
 pub(crate) struct OneOrMore<T> {
@@ -61,7 +64,7 @@ pub(crate) enum Action<'a> {
     Min(Quoted<'a>),
     Max(Quoted<'a>),
     Take(Quoted<'a>),
-    Reduce(Quoted<'a>, Quoted<'a>),
+    Reduce(Pair<'a>),
     Histo1D(OneOrMore<i64>, Quoted<'a>, Option<Quoted<'a>>),
     Histo2D(OneOrMore<i64>, OneOrMore<i64>, Quoted<'a>, Quoted<'a>, Option<Quoted<'a>>),
 }
@@ -70,9 +73,9 @@ pub(crate) enum Action<'a> {
 /// columns, the values, the tags and the name of a Vary.
 #[derive(Drop)]
 pub(crate) enum Method<'a> {
-    Define(Quoted<'a>, Quoted<'a>),
-    Redefine(Quoted<'a>, Quoted<'a>),
-    Alias(Quoted<'a>, Quoted<'a>),
+    Define(Pair<'a>),
+    Redefine(Pair<'a>),
+    Alias(Pair<'a>),
     Filter(Quoted<'a>, Option<Quoted<'a>>),
     VaryOne(Quoted<'a>, Quoted<'a>, OneOrMore<Quoted<'a>>, Option<Quoted<'a>>),
     VaryAll(OneOrMore<Quoted<'a>>, Quoted<'a>, OneOrMore<Quoted<'a>>, Quoted<'a>),

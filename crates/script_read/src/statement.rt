@@ -106,7 +106,7 @@ fn action_kind(alloc: Global, action: &Action<'_>) -> Result<ActionKind, LineSto
         Action::Min(column) => Ok(ActionKind::Min(strings::name(alloc, column)?)),
         Action::Max(column) => Ok(ActionKind::Max(strings::name(alloc, column)?)),
         Action::Take(column) => Ok(ActionKind::Take(strings::name(alloc, column)?)),
-        Action::Reduce(operation, column) => {
+        Action::Reduce((operation, column)) => {
             let operation = strings::operation(operation)?;
             Ok(ActionKind::Reduce(operation, strings::name(alloc, column)?))
         }
@@ -137,19 +137,19 @@ fn booking(
     ensures err { IfErr result (λ e. RefusedFor (FirstBad (method_strings (method_of method.now))) e) }
 {
     match method {
-        Method::Define(column, expr) => Ok(Statement::Define {
+        Method::Define((column, expr)) => Ok(Statement::Define {
             node,
             parent,
             column: strings::name(alloc, column)?,
             expr: strings::expression(alloc, expr)?,
         }),
-        Method::Redefine(column, expr) => Ok(Statement::Redefine {
+        Method::Redefine((column, expr)) => Ok(Statement::Redefine {
             node,
             parent,
             column: strings::name(alloc, column)?,
             expr: strings::expression(alloc, expr)?,
         }),
-        Method::Alias(column, target) => Ok(Statement::Alias {
+        Method::Alias((column, target)) => Ok(Statement::Alias {
             node,
             parent,
             column: strings::name(alloc, column)?,

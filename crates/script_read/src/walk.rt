@@ -6,7 +6,7 @@ ghost use Rattle.rdf_values.specs.scripts.LineTokens.{Word as AsWord, Number as 
 ghost use Rattle.script_read.specs.declared.walk.MethodName.{MethodName as AnyMethod};
 ghost use Rattle.script_read.specs.{action_of, ALine, AMark, AMethod, ANumber, arguments_wants, asked_form, asking_wants, AString, Ate, AWord, Begins, booking_wants, edges_of, edges_wants, form_of, IsStuck, mark_token, MaybeString, method_of, name_word, one_string_wants, place_from, placed_of, quoted_of, RefusedFor, SeesMethod, strings_of, strings_wants, token_of, Took, TookArguments, TookBooking, TookForm, two_string_wants, variation_wants, Want as AnyWant};
 
-use crate::form::{Action, Form, Mark, Method, OneOrMore, Placed, Quoted, Token, Word};
+use crate::form::{Action, Form, Mark, Method, OneOrMore, Pair, Placed, Quoted, Token, Word};
 use crate::refusal::LineStop;
 use std::alloc::Global;
 
@@ -203,7 +203,7 @@ impl<'t, 'a> Walk<'t, 'a> {
     }
 
     // Two strings and the `)` of the call.
-    fn two_strings(&mut self) -> Result<(Quoted<'a>, Quoted<'a>), Fail>
+    fn two_strings(&mut self) -> Result<Pair<'a>, Fail>
         ensures took { IfOk result (λ p. Took two_string_wants (AsQuoted (quoted_of p.0) ∷ AsComma ∷ AsQuoted (quoted_of p.1) ∷ AsClose ∷ []) (left_of self.old) (left_of self.new)) }
         ensures stuck { result ≡ Err Fail.Unexpected → IsStuck two_string_wants (left_of self.old) (left_of self.new) }
     {
@@ -345,10 +345,7 @@ impl<'t, 'a> Walk<'t, 'a> {
             ActionName::Min => Ok(Action::Min(self.last_string()?)),
             ActionName::Max => Ok(Action::Max(self.last_string()?)),
             ActionName::Take => Ok(Action::Take(self.last_string()?)),
-            ActionName::Reduce => {
-                let (operation, column) = self.two_strings()?;
-                Ok(Action::Reduce(operation, column))
-            }
+            ActionName::Reduce => Ok(Action::Reduce(self.two_strings()?)),
             ActionName::Histo1D => self.histo1d(),
             ActionName::Histo2D => self.histo2d(),
         }
@@ -360,18 +357,9 @@ impl<'t, 'a> Walk<'t, 'a> {
         ensures stuck { result ≡ Err Fail.Unexpected → IsStuck (arguments_wants name) (left_of self.old) (left_of self.new) }
     {
         match name {
-            MethodName::Define => {
-                let (column, expr) = self.two_strings()?;
-                Ok(Method::Define(column, expr))
-            }
-            MethodName::Redefine => {
-                let (column, expr) = self.two_strings()?;
-                Ok(Method::Redefine(column, expr))
-            }
-            MethodName::Alias => {
-                let (column, target) = self.two_strings()?;
-                Ok(Method::Alias(column, target))
-            }
+            MethodName::Define => Ok(Method::Define(self.two_strings()?)),
+            MethodName::Redefine => Ok(Method::Redefine(self.two_strings()?)),
+            MethodName::Alias => Ok(Method::Alias(self.two_strings()?)),
             MethodName::Filter => {
                 let expr = self.string()?;
                 let label = self.maybe_string()?;
@@ -448,11 +436,7 @@ impl<'t, 'a> Walk<'t, 'a> {
 fn stuck(left: &[Placed], end: u32) -> LineStop
     ensures { result ≡ LineStop.Syntax (place_from (map placed_of left.now) end) }
 {
-    let place = match left.first() {
-        Some(placed) => placed.place,
-        None => end,
-    };
-    LineStop::Syntax(place)
+    LineStop::Syntax(left.first().map_or(end, |placed| placed.place))
 }
 
 /// The form that the tokens of a line are; the line has so many bytes.

@@ -36,12 +36,6 @@ result_onto-cons read x (Ok xs) = ap Ok (sym (append_assoc read (x ∷ []) xs))
 
 -- ---- cells
 
-pub cells_stop : (e : ℕ) (row : List Value) (columns : List Column) (fields : List (List ℕ)) (i : ℕ) (c : Column) (bad : TableCause)
-    → i < length columns → i < length fields → c ≡ get_or columns i c → cell_of e i c.kind (get_or fields i []) ≡ Err bad
-    → result_onto row (cells_from e i (drop i columns) (drop i fields)) ≡ Err bad
-unfolding cells_from
-cells_stop e row columns fields i c bad hc hf same stop = rw (drop_more columns i c hc, drop_more fields i [] hf, ← same, stop) refl
-
 pub cells_more : (e : ℕ) (row : List Value) (columns : List Column) (fields : List (List ℕ)) (i : ℕ) (c : Column) (x : Value)
     → i < length columns → i < length fields → c ≡ get_or columns i c → cell_of e i c.kind (get_or fields i []) ≡ Ok x
     → result_onto row (cells_from e i (drop i columns) (drop i fields)) ≡ result_onto (row ++ x ∷ []) (cells_from e (i + 1) (drop (i + 1) columns) (drop (i + 1) fields))
@@ -77,13 +71,10 @@ pub row_plain : (e : ℕ) (columns : List Column) (marked : Bool) (fields : List
     → cells_from e 0 columns fields ≡ Ok row → row_of e (record { columns = columns; marked = marked }) fields ≡ Ok (record { row = row; marked = false })
 row_plain e columns marked fields row l q m b = row_whole e (record { columns = columns; marked = marked }) fields l q ∙ rw (b, m) refl
 
-mark_at : (e : ℕ) (columns : List Column) (fields : List (List ℕ)) → length columns < length fields → mark_in e (length columns) true (drop (length columns) fields) ≡ mark_of e (length columns) (get_or fields (length columns) [])
-mark_at e columns fields h = rw (drop_more fields (length columns) [] h) refl
-
 pub row_marked : (e : ℕ) (columns : List Column) (marked : Bool) (fields : List (List ℕ)) (row : List Value) (mark : Result Bool TableCause) → e < 1000000 → length fields ≡ field_count (record { columns = columns; marked = marked })
     → marked ≡ true → cells_from e 0 columns fields ≡ Ok row → mark_of e (length columns) (get_or fields (length columns) []) ≡ mark
     → row_of e (record { columns = columns; marked = marked }) fields ≡ on_ok mark (λ begins. Ok (record { row = row; marked = begins }))
-row_marked e columns true fields row mark l q m b k = row_whole e (record { columns = columns; marked = true }) fields l q ∙ rw (b, mark_at e columns fields (omega (arith, q)), k) refl
+row_marked e columns true fields row mark l q m b k = row_whole e (record { columns = columns; marked = true }) fields l q ∙ rw (b, drop_more fields (length columns) [] (omega (arith, q)), k) refl
 row_marked e columns false fields row mark l q m b k = cc m
 
 -- an entry that has a row is one of the first

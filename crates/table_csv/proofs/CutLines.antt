@@ -197,9 +197,6 @@ line_cut front rest n m =
     rw (whole, s.same [], no_mark rest m)
     (records_cut (length a + 1) (length (a ++ rest) + 1) (length rest + 1) st.StartRecord a rest refl (lines_end s.kept st.StartRecord refl s.plain) (omega arith) (omega arith) (omega arith))
 
-front_plain : (front rest : List ℕ) → list_any is_quote (front ++ rest) ≡ false → list_any is_quote front ≡ false
-front_plain front rest n = (neither (list_any is_quote front) (list_any is_quote rest) (rw list_any-append at n)).0
-
 no_records : csv_records [] ≡ []
 unfolding csv_records strip_bom records_from next_record
 no_records = refl
@@ -207,8 +204,8 @@ no_records = refl
 -- the records of bytes that are cut behind a line's end are those of the two parts
 pub csv_cut : (lines rest : List ℕ) → IsCut lines rest → list_any is_quote lines ≡ false → list_any is_special rest ≡ false → csv_records (lines ++ rest) ≡ csv_records lines ++ csv_records rest
 csv_cut lines rest (inl l) n m =
-    let plain = rw l.1 at n in
-    rw (l.1, append_assoc l.0 (10 ∷ []) rest) (line_cut l.0 rest (front_plain l.0 (10 ∷ []) plain) m)
+    let plain = neither (list_any is_quote l.0) (list_any is_quote (10 ∷ [])) (rw (l.1, list_any-append) at n) in
+    rw (l.1, append_assoc l.0 (10 ∷ []) rest) (line_cut l.0 rest plain.0 m)
 csv_cut lines rest (inr none) n m = rw (none, append-nil lines, no_records, append-nil (csv_records lines)) refl
 
 -- ---- Texts and parts that end where lines do.

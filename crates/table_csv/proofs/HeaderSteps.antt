@@ -5,10 +5,10 @@ use Rattle.rdf_values.specs.{AreColumns, ColType, Column, column_of, ends_in_cut
 use Rattle.std.specs.Borrow.{Bor}
 use Rattle.csv.specs.declared.reader.Reader.{Reader}
 use Rattle.rdf_values.specs.Answered.{Refuses}
-use Rattle.table_csv.specs.{entries_of, IsHeaded, Leaves}
+use Rattle.table_csv.specs.{IsHeaded, Leaves}
 use Rattle.table_csv.specs.declared.header.Heading.{Heading}
 use Rattle.table_csv.specs.declared.refusal.TableRefusal.{TableRefusal}
-use Rattle.table_csv.proofs.TableSteps.{table_bad, table_good}
+use Rattle.table_csv.proofs.TableSteps.{table_bad}
 
 -- what is read, with the header of what is left behind it
 abbrev pub header_onto : List Column → Result Header TableCause → Result Header TableCause
@@ -119,7 +119,3 @@ pub headed : (answer : Result Heading TableRefusal) (records : List (List (List 
 headed (Ok h) records fields left after first leaves some a = record { fields = fields; left = left; first = first; spells = a; leaves = leaves; header = header_is fields (record { columns = h.columns; marked = h.marked }) some a }
 headed (Err e) records fields left after first leaves some (inl memory) = inl memory
 headed (Err e) records fields left after first leaves some (inr bad) = inr (bad.0, bad.1, table_bad records fields left bad.0 first bad.2)
-
--- the entries behind a header come to its table
-pub headed_table : (records : List (List (List ℕ))) (h : Header) (after : Reader (Bor (List ℕ))) (i : IsHeaded records h after) → table_of records ≡ entries_of h i.left
-headed_table records h after i = table_good records i.fields i.left h i.first i.spells

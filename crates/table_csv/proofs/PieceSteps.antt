@@ -169,9 +169,11 @@ within_joined first second marks more h k =
     (λ i d l. let b = h i d l in omega (arith, b, size))
     (All-map (λ e. e < length (first ++ second)) (λ e. length first + e) more (λ i d l. let b = k i d l in omega (arith, b, size)))
 
-pub pieces_join : (head front back lines : List ℕ) (a b m : MarkedPieces) → IsHead head → front ++ back ≡ lines → IsCut front back → IsPiece head front a → IsPiece head back b → length a.table.rows + length b.table.rows ≤ 1000000
-    → m.table ≡ table_joined a.table b.table → m.marks ≡ a.marks ++ marks_behind (length a.table.rows) b.marks → IsPiece head lines m
-pieces_join head front back lines a b m one whole cut p q few t k =
+pub pieces_answer : (head front back lines : List ℕ) (a b : MarkedPieces) (answer : Option MarkedPieces) → IsHead head → front ++ back ≡ lines → IsCut front back → IsPiece head front a → IsPiece head back b
+    → IfSome answer (λ m. length a.table.rows + length b.table.rows ≤ 1000000) → IfSome answer (λ m. m.table ≡ table_joined a.table b.table) → IfSome answer (λ m. m.marks ≡ a.marks ++ marks_behind (length a.table.rows) b.marks)
+    → IfSome answer (λ m. IsPiece head lines m)
+pieces_answer head front back lines a b None one whole cut p q few t k = tt
+pieces_answer head front back lines a b (Some m) one whole cut p q few t k =
     let first = rw one.1 at p.read in
     let second = rw one.1 at q.read in
     let records : csv_records lines ≡ csv_records front ++ csv_records back = rw (← whole) (csv_cut front back cut (no_quote front p.plain) q.plain) in
@@ -183,18 +185,7 @@ pieces_join head front back lines a b m one whole cut p q few t k =
     }
 
 -- a table whose first line is the header
-pub table_by_head : (head lines bytes : List ℕ) (m : MarkedPieces) → head ++ lines ≡ bytes → IsCut head lines → list_any is_quote head ≡ false → IsPiece head lines m → table_of (csv_records bytes) ≡ Ok (record { table = m.table; marks = m.marks })
-table_by_head head lines bytes m whole cut plain p = rw (← whole, csv_cut head lines cut plain p.plain) p.read
-
--- ---- answers that may be none
-
-pub pieces_answer : (head front back lines : List ℕ) (a b : MarkedPieces) (answer : Option MarkedPieces) → IsHead head → front ++ back ≡ lines → IsCut front back → IsPiece head front a → IsPiece head back b
-    → IfSome answer (λ m. length a.table.rows + length b.table.rows ≤ 1000000) → IfSome answer (λ m. m.table ≡ table_joined a.table b.table) → IfSome answer (λ m. m.marks ≡ a.marks ++ marks_behind (length a.table.rows) b.marks)
-    → IfSome answer (λ m. IsPiece head lines m)
-pieces_answer head front back lines a b None one whole cut p q few t k = tt
-pieces_answer head front back lines a b (Some m) one whole cut p q few t k = pieces_join head front back lines a b m one whole cut p q few t k
-
 pub head_answer : (head lines bytes : List ℕ) (answer : Option MarkedPieces) → head ++ lines ≡ bytes → IsCut head lines → list_any is_quote head ≡ false → IfSome answer (λ m. IsPiece head lines m)
     → IfSome answer (λ m. table_of (csv_records bytes) ≡ Ok (record { table = m.table; marks = m.marks }))
 head_answer head lines bytes None whole cut plain p = tt
-head_answer head lines bytes (Some m) whole cut plain p = table_by_head head lines bytes m whole cut plain p
+head_answer head lines bytes (Some m) whole cut plain p = rw (← whole, csv_cut head lines cut plain p.plain) p.read

@@ -1,11 +1,11 @@
 -- What a read of a record takes, and one more value for a column.
 use Rattle.std.proofs.Common.{◌≡◌, ◌<◌, ◌≤◌, ◌+◌, ◌∙◌, ℕ, zero, suc, List, [], ◌∷◌, ◌++◌, length, get_or, set, drop, Result, Err, ap, arith, refl, sym, length-append, Bool, true, false, None, Some, Option, inl, if◌then◌else◌}
-use Rattle.lemmas.proofs.{cond_both}
+use Rattle.lemmas.proofs.{cond_both, drop_more}
 use Rattle.rdf_values.specs.{AreKept, Cells, cells_from, ColType, Column, IsKept, pushed, row_pushed, TableCause, Value}
 use Rattle.rdf_values.specs.tables.TableText.{cell_of}
 use Rattle.rdf_values.proofs.KeptLemmas.{kept_length}
 use Rattle.table_csv.specs.{AreCellsPushed, IsCellPushed, kind_of, Leaves, Took}
-use Rattle.table_csv.proofs.CellSteps.{cells_end, cells_more, cells_stop, result_onto, result_onto-none}
+use Rattle.table_csv.proofs.CellSteps.{cells_end, cells_more, result_onto, result_onto-none}
 use Rattle.std.specs.Borrow.{Bor}
 use Rattle.csv.specs.Machine.{Read, ends_at_end, is_end, step, next_record, fields_after, field_after}
 use Rattle.csv.specs.Reading.{NextIs, ReadsNext, ReadRecord, default_config, is_flexible, pending_of, records_from, reader_config, reader_state, reader_trim, records_next, Ready, source_of, took_first}
@@ -64,10 +64,11 @@ turn whole e columns fields i old now d p q =
 
 pub pushing_stop : (whole : Result (List Value) TableCause) (e : ℕ) (columns : List Column) (fields : List (List ℕ)) (i : ℕ) (old now : List Cells) (d : Cells) (bad : TableCause) → Pushing whole e columns fields i old now → AreKept e columns old
     → i < length columns → i < length fields → d ≡ get_or now i d → cell_of e i (kind_of d) (get_or fields i []) ≡ Err bad → whole ≡ Err bad
+unfolding cells_from
 pushing_stop whole e columns fields i old now d bad p h lc lf q b =
     let there = column_at columns old e i d h lc in
     let kind : there.0.kind ≡ kind_of d = there.2 ∙ ap kind_of (sym (turn whole e columns fields i old now d p q)) in
-    p.so_far ∙ cells_stop e p.row columns fields i there.0 bad lc lf there.1 (rw kind b)
+    p.so_far ∙ rw (drop_more columns i there.0 lc, drop_more fields i [] lf, ← there.1, kind, b) refl
 
 pub pushing_more : (whole : Result (List Value) TableCause) (e : ℕ) (columns : List Column) (fields : List (List ℕ)) (i : ℕ) (old now : List Cells) (d new : Cells) → Pushing whole e columns fields i old now → AreKept e columns old
     → i < length columns → i < length fields → d ≡ get_or now i d → IsCellPushed (cell_of e i (kind_of d) (get_or fields i [])) d new → Pushing whole e columns fields (i + 1) old (set now i new)

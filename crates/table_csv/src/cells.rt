@@ -39,12 +39,10 @@ fn push_cell(entry: u32, field: u32, cell: &[u8], column: &mut Cells) -> Result<
 fn read_mark(entry: u32, field: u32, cell: &[u8]) -> Result<bool, TableRefusal>
     ensures { Answers TableRefusal.At TableRefusal.Memory (mark_of entry field cell.now) result }
 {
-    if cell == b"0".as_slice() {
-        Ok(false)
-    } else if cell == b"1".as_slice() {
-        Ok(true)
-    } else {
-        Err(TableRefusal::At(TableCause::BadCut { entry, field }))
+    match cell {
+        b"0" => Ok(false),
+        b"1" => Ok(true),
+        _ => Err(TableRefusal::At(TableCause::BadCut { entry, field })),
     }
 }
 

@@ -26,12 +26,10 @@ fn has_name(columns: &[Column], name: &[u8]) -> bool
 fn type_of(word: &[u8]) -> Option<ColType>
     ensures { result ≡ type_of word.now }
 {
-    if word == b"int".as_slice() {
-        Some(ColType::Int)
-    } else if word == b"vec".as_slice() {
-        Some(ColType::Vect)
-    } else {
-        None
+    match word {
+        b"int" => Some(ColType::Int),
+        b"vec" => Some(ColType::Vect),
+        _ => None,
     }
 }
 

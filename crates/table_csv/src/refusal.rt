@@ -21,11 +21,3 @@ impl From<Memory> for TableRefusal {
         TableRefusal::Memory
     }
 }
-
-impl From<TableCause> for TableRefusal {
-    ghost from_gives = { λ cause e. e ≡ refusal.At cause };
-
-    fn from(cause: TableCause) -> TableRefusal {
-        TableRefusal::At(cause)
-    }
-}

@@ -1,7 +1,7 @@
 use Rattle.std.proofs.lemmas.Result.{IfOk-weaker}
 use Rattle.entry_fns.specs.{functions_in}
 use Rattle.input_files.specs.{marked_table}
-use Rattle.rdf_program.proofs.Answering.{always_ok, friend_answer, turned_to_friend, turned_to_table}
+use Rattle.rdf_program.proofs.Answering.{friend_answer, turned_to_friend, turned_to_table}
 use Rattle.rdf_program.proofs.input.answer_files.Goals as goal
 
 pub returns-in-Refused-2-clause-turns : goal.returns-in-Refused-2-clause-turns
@@ -12,7 +12,7 @@ returns-in-Refused-2-clause-turns g c =
 pub returns-in-Whole-2-clause-turns : goal.returns-in-Whole-2-clause-turns
 returns-in-Whole-2-clause-turns g c =
     let read = rw c.in-Whole.is at c.in_ok-script.ensures.read in
-    always_ok c.answer_script.result _ (turned_to_table c.args.script_name.now c.args.table_name.now c.args.friend.now (g.S.Shelf.files c.args.shelf.now) c.in-Whole.script read.holds _ _ _ c.in_ok-script.ensures.turns c.in_ok-columns-in-None.ensures.turns)
+    IfOk-weaker c.answer_script.result _ _ (λ _ _. turned_to_table c.args.script_name.now c.args.table_name.now c.args.friend.now (g.S.Shelf.files c.args.shelf.now) c.in-Whole.script read.holds _ _ _ c.in_ok-script.ensures.turns c.in_ok-columns-in-None.ensures.turns) c.answer_script.ensures
 
 pub returns-in-Refused-3-clause-turns : goal.returns-in-Refused-3-clause-turns
 returns-in-Refused-3-clause-turns g c =
@@ -23,9 +23,9 @@ pub returns-in-Whole-3-clause-turns : goal.returns-in-Whole-3-clause-turns
 returns-in-Whole-3-clause-turns g c =
     let read = rw c.in-Whole.is at c.in_ok-script.ensures.read in
     let table = rw c.in_ok-script.ensures.same at (rw c.in-Whole-3.is at c.in_ok-marked-in-Some.ensures.read) in
-    always_ok c.answer_with_friend.result _
-    (turned_to_friend c.args.script_name.now c.args.table_name.now c.args.friend.now (g.S.Shelf.files c.args.shelf.now) c.in-Whole.script read.holds (marked_table c.in-Whole-3.marked) table.holds c.in-Some.friend c.in-Some.is _ _ _ _ c.in_ok-script.ensures.turns
-    c.in_ok-marked-in-Some.ensures.turns c.answer_with_friend.ensures.turns)
+    IfOk-weaker c.answer_with_friend.result _ _
+    (λ _ _. turned_to_friend c.args.script_name.now c.args.table_name.now c.args.friend.now (g.S.Shelf.files c.args.shelf.now) c.in-Whole.script read.holds (marked_table c.in-Whole-3.marked) table.holds c.in-Some.friend c.in-Some.is _ _ _ _ c.in_ok-script.ensures.turns
+    c.in_ok-marked-in-Some.ensures.turns c.answer_with_friend.ensures.turns) c.answer_with_friend.ensures.answer
 
 pub returns-in-Whole-3-clause-answer : goal.returns-in-Whole-3-clause-answer
 returns-in-Whole-3-clause-answer g c =

@@ -1,6 +1,6 @@
 use Rattle.std.proofs.lemmas.Result.{err_from_is_err_and}
 use Rattle.table_csv.specs.{csv_records}
-use Rattle.table_csv.proofs.HeaderSteps.{headed_table}
+use Rattle.table_csv.proofs.TableSteps.{table_good}
 use Rattle.table_csv.proofs.entries.read_table.Goals as goal
 
 pub returns-in_err-heading-clause-value : goal.returns-in_err-heading-clause-value
@@ -19,4 +19,4 @@ read_entries-requires-clause-left c =
 pub returns-clause-value : goal.returns-clause-value
 returns-clause-value c =
     let i = c.in_ok-heading.ensures _ c.open-reader.ensures in
-    rw (headed_table (csv_records c.args.bytes.now) _ _ i) (c.read_entries.ensures.value i.left i.leaves)
+    rw (table_good (csv_records c.args.bytes.now) _ _ _ i.first i.spells) (c.read_entries.ensures.value i.left i.leaves)
