@@ -1,5 +1,5 @@
 -- The first fault, cluster by cluster.
-use Rattle.std.proofs.Common.{◌≡◌, ◌⊎◌, ℕ, suc, ◌+◌, ◌-◌, ◌<◌, ◌≤◌, List, [], ◌∷◌, ◌++◌, length, map, Option, None, Some, refl, sym, ap, ap₂, ◌∙◌, inl, inr, arith, slice_get, slice_range, option_map}
+use Rattle.std.proofs.Common.{◌≡◌, ◌⊎◌, ℕ, suc, ◌+◌, ◌<◌, ◌≤◌, List, [], ◌∷◌, ◌++◌, length, map, Option, None, Some, refl, sym, ap, ap₂, ◌∙◌, inl, inr, arith, slice_get, slice_range, option_map}
 use Rattle.lemmas.proofs.{range_length, same_some, slice_get-map, take_at_most}
 use Rattle.rdf_values.specs.{EntryFault, Fault, first_in, Lead, Pass, Span, Value}
 use Rattle.rdf_values.proofs.Evenly.{led_are_in_order}
