@@ -1,11 +1,11 @@
 -- A tally after a block fed a pass, and at the ends of a block.
-use Rattle.std.proofs.Common.{◌≡◌, ℕ, ◌+◌, ◌<◌, ◌≤◌, List, [], ◌++◌, length, map, Option, None, Some, inl, inr, refl, sym, ap, ap₂, ◌∙◌, subst, arith, append_assoc, Err, Ok, OnOk, Result, slice_get, slice_set}
+use Rattle.std.proofs.Common.{◌≡◌, ℕ, ◌+◌, ◌<◌, ◌≤◌, List, [], ◌++◌, length, map, Option, None, Some, inl, inr, sym, ap, ap₂, ◌∙◌, subst, arith, append_assoc, OnOk, Result, slice_get, slice_set}
 use Rattle.lemmas.proofs.{length-map, length-set, mapped_at, same_Some, slice_get_within, something_at}
 use Rattle.rdf_values.proofs.UnionLemmas.{map-below}
-use Rattle.rdf_values.specs.{ActionKind, feed_fault}
+use Rattle.rdf_values.specs.{ActionKind}
 use Rattle.rdf_model.specs.declared.loop_facts.LoopFacts.{LoopFacts}
-use Rattle.actions.specs.{Accumulator, Batch, batch_items, EachPlace, Fed, from_cluster, HasFed, IsTake, places_of, SuitsAt, values_at}
-use Rattle.loop_pieces.specs.{entries_over, fed_over}
+use Rattle.actions.specs.{Accumulator, Batch, batch_items, Fed, from_cluster, HasFed, IsTake, places_of}
+use Rattle.loop_pieces.specs.{entries_over}
 use Rattle.cluster_tally.specs.{block_items, BlockStage, CanFeedBatch, CanTakeIn, CanWatch, counts_by, fed_by, first_items, HoldsIn, HoldsUpTo, IsFedAlone, IsFedBy, pass_done, places_there, taken_in, TakesIn, TallyView, TookIn, TookInIfThere}
 use Rattle.cluster_tally.specs.Laws as law
 use Rattle.cluster_tally.proofs.Pieces.{at_set, kind_at, map_set_same, of_mapped, places_kept}

@@ -7,7 +7,7 @@ use Rattle.rdf_model.specs.{is_passed, is_reached, Reach}
 use Rattle.rdf_model.specs.declared.loop_facts.LoopFacts.{LoopFacts}
 use Rattle.rdf_model.specs.declared.loop_facts.Reach.TheVariants.{Failed, Passed, Stopped}
 use Rattle.loop_pieces.specs.{AreCounts, both, Counts, nothing}
-use Rattle.cluster_tally.specs.{block_reaches, BlockStage, CanNoteCounts, counted, counts_in, filter_done, HoldsIn, TallyView}
+use Rattle.cluster_tally.specs.{block_reaches, BlockStage, CanNoteCounts, counts_in, filter_done, HoldsIn, TallyView}
 use Rattle.cluster_tally.proofs.Steps.{counts_next, counts_room, counts_same}
 
 passed_few : (rs : List Reach) → count_by is_passed rs ≤ count_by is_reached rs

@@ -4,13 +4,13 @@ use Rattle.lemmas.proofs.{All-push, All-weaker, flat_map-append, IsStrictlyIncre
 use Rattle.std.proofs.lemmas.List.{drop-drop, drop-set-lt, drop_more, length-map, length-set, map-append, map_more, take_all, take_more_set}
 use Rattle.rdf_values.proofs.UnionLemmas.{map-below, rises_push}
 use Rattle.rdf_values.specs.{ActionKind, fold_items, Item, Span}
-use Rattle.rdf_model.specs.{if_there, list_at, Reach, reaches_over, rows_in, span_rows}
+use Rattle.rdf_model.specs.{if_there, list_at, Reach, span_rows}
 use Rattle.rdf_model.specs.declared.loop_facts.LoopFacts.{LoopFacts}
 use Rattle.actions.specs.{Accumulator, from_cluster, HasFed, in_file_order}
-use Rattle.loop_pieces.specs.{both, cluster_items, counts_at, fed_over, IsOfKind, IsTrail, watch_facts, watch_filled, WatchPiece, WatchStandsFor}
+use Rattle.loop_pieces.specs.{cluster_items, fed_over, IsOfKind, IsTrail, watch_facts, watch_filled, WatchPiece, WatchStandsFor}
 use Rattle.merge_core.specs.{Noted}
 use Rattle.loop_pieces.proofs.ByCluster.{items_in_order}
-use Rattle.cluster_tally.specs.{at_begin, CanWatch, counted, counts_by, fed_by, first_items, first_reaches, fresh_acc, Holds, IsAtEnd, IsFedAlone, note_of, noted_all, noted_at, piece_for, places_there, renewed, Stage, taken_in, TallyView, times_there}
+use Rattle.cluster_tally.specs.{at_begin, CanWatch, counts_by, fed_by, first_items, first_reaches, fresh_acc, Holds, IsAtEnd, IsFedAlone, note_of, noted_all, noted_at, piece_for, places_there, renewed, Stage, taken_in, TallyView, times_there}
 use Rattle.cluster_tally.proofs.Pieces.{of_mapped, ranges_same, counts_at_begin, fed_at_begin, fresh_alone}
 use Rattle.cluster_tally.proofs.Steps.{counted_both, entries_with, in_from}
 
@@ -106,9 +106,7 @@ noted_there c place (None ∷ ws) n ts w trail at is =
     record { i = suc r.i; its_place = omega (arith, r.its_place); acc = r.acc; its_acc = r.its_acc; before = r.before; was = r.was; now = r.now }
 noted_there c place (Some a ∷ ws) n [] w trail at is = absurd (cc)
 noted_there c place (Some a ∷ ws) n (t ∷ ts) zero trail at is =
-    let here : n ≡ place = cc in
-    let now : t ++ note_of c a ∷ [] ≡ trail = same_Some (t ++ note_of c a ∷ []) trail is in
-    record { i = 0; its_place = omega arith; acc = a; its_acc = refl; before = t; was = refl; now = sym now }
+    record { i = 0; its_place = omega (arith, same_Some n place at); acc = a; its_acc = refl; before = t; was = refl; now = sym (same_Some _ trail is) }
 noted_there c place (Some a ∷ ws) n (t ∷ ts) (suc w) trail at is =
     let r = noted_there c place ws (n + 1) ts w trail at is in
     record { i = suc r.i; its_place = omega (arith, r.its_place); acc = r.acc; its_acc = r.its_acc; before = r.before; was = r.was; now = r.now }

@@ -1,13 +1,13 @@
 -- A tally's first and last moments, and the lists that it begins clusters with.
-use Rattle.std.proofs.Common.{◌≡◌, ℕ, zero, suc, ◌+◌, List, [], ◌∷◌, ◌++◌, length, map, drop, set, Option, None, Some, ◌⊎◌, inl, inr, refl, sym, ap, ◌∙◌, arith, ◌-◌, slice_get, slice_range, ◌<◌, replicate, ap₂, subst, add-zero, append-nil, Bool, true, false}
+use Rattle.std.proofs.Common.{◌≡◌, ℕ, zero, suc, ◌+◌, List, [], ◌∷◌, ◌++◌, length, map, drop, set, Option, None, Some, ◌⊎◌, inl, inr, refl, sym, ap, ◌∙◌, arith, ◌-◌, slice_get, slice_range, ◌<◌, replicate, subst, append-nil, Bool, true, false}
 use Rattle.std.proofs.lemmas.List.{length-drop, length-take}
 use Rattle.rdf_values.specs.{ActionKind, Span, below}
 use Rattle.actions.specs.{Accumulator, HasFed}
 use Rattle.cluster_tally.specs.{places_there, CanWatch, counts_by, fed_by, fresh_acc, IsFedAlone, IsFedBy, taken_in, acc_if, at_begin, Holds, IsFresh, place_if, TallyView, with_trail}
-use Rattle.lemmas.proofs.{All-nil, length-map, map-id, map-map, before_or_last, kept_at, last_at, length_push, map-append, slice_get-get_or}
+use Rattle.lemmas.proofs.{All-nil, length-map, map-id, map-map, before_or_last, kept_at, last_at, length_push, map-append, slice_get-get_or, slice_get-map}
 use Rattle.rdf_values.proofs.UnionLemmas.{length-below, map-below, none_rises}
 use Rattle.rdf_model.specs.declared.loop_facts.LoopFacts.{LoopFacts}
-use Rattle.loop_pieces.specs.{counts_at, fed_over, HaveTrails, IsTrail, nothing, watch_facts, WatchPiece, WatchStandsFor, LoopPiece, StandsFor}
+use Rattle.loop_pieces.specs.{counts_at, fed_over, HaveTrails, nothing, WatchPiece, LoopPiece, StandsFor}
 use Rattle.merge_core.specs.{Noted}
 use Rattle.cluster_tally.proofs.Steps.{in_from}
 use Rattle.cluster_tally.specs.Laws as law
@@ -16,9 +16,7 @@ abbrev pub kind_at : Accumulator → ActionKind
 kind_at acc = acc.kind
 
 pub of_mapped : {A B : Type 0} (g : A → B) (xs : List A) (i : ℕ) (y : B) → slice_get (map g xs) i ≡ Some y → (x : A) × (slice_get xs i ≡ Some x) × (y ≡ g x)
-of_mapped g [] i y e = absurd (cc)
-of_mapped g (x ∷ xs) zero y e = let same : g x ≡ y = cc in (x, refl, sym same)
-of_mapped g (x ∷ xs) (suc i) y e = of_mapped g xs i y e
+of_mapped g xs i y e = grind (arith, slice_get-map)
 
 -- what stands at a place after a write
 pub at_set : {A : Type 0} (xs : List A) (i : ℕ) (v : A) (j : ℕ) (x : A) → slice_get (set xs i v) j ≡ Some x → ((j ≡ i) × (x ≡ v)) ⊎ ((j ≡ i → ⊥) × (slice_get xs j ≡ Some x))

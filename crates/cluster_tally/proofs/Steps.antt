@@ -1,14 +1,14 @@
 -- What is taken in of a cluster, and what a block adds.
-use Rattle.std.proofs.Common.{◌≡◌, ℕ, ◌+◌, ◌<◌, ◌≤◌, ◌^◌, List, [], ◌∷◌, ◌++◌, length, take, drop, cond, Option, None, Some, sym, ap, ap₂, ◌∙◌, arith, append-nil, add_assoc, length-append, ◌-◌, count_by, flat_map, slice_get}
+use Rattle.std.proofs.Common.{◌≡◌, ℕ, ◌+◌, ◌<◌, ◌≤◌, ◌^◌, List, [], ◌∷◌, ◌++◌, length, drop, cond, Option, None, Some, sym, ap, ap₂, ◌∙◌, arith, append-nil, add_assoc, length-append, ◌-◌, count_by, flat_map, slice_get}
 use Rattle.lemmas.proofs.{common_steps, flat_map-append, length-drop, length-take, map-append, sum_by-append, take_plus}
 use Rattle.rdf_values.proofs.UnionLemmas.{rises_push}
 use Rattle.rdf_values.specs.{Item, Span}
-use Rattle.rdf_model.specs.{if_there, is_passed, is_reached, list_at, Reach, rows_in, span_rows}
+use Rattle.rdf_model.specs.{if_there, is_passed, is_reached, Reach, rows_in, span_rows}
 use Rattle.rdf_model.specs.declared.loop_facts.LoopFacts.{LoopFacts}
 use Rattle.actions.specs.{from_cluster}
-use Rattle.loop_pieces.specs.{both, Counts, counts_at, entries_over}
+use Rattle.loop_pieces.specs.{both, Counts, entries_over}
 use Rattle.loop_pieces.proofs.ByCluster.{counts_few, entries_few}
-use Rattle.cluster_tally.specs.{block_items, block_reaches, BlockStage, counted, counts_by, counts_in, filter_done, first_items, first_reaches, HoldsIn, IsWithin, taken_in, TallyView}
+use Rattle.cluster_tally.specs.{block_items, block_reaches, BlockStage, counted, counts_by, counts_in, filter_done, first_items, HoldsIn, IsWithin, taken_in, TallyView}
 
 -- ---- how many entries are taken in
 
