@@ -141,8 +141,7 @@ module _ (f : LoopFacts) (watched : List ℕ) (s : Stage) (t : TallyView) (clust
   -- ---- counts
 
   span_same : (o : Option Span) → length (span_rows f.reaches o) ≡ length (span_rows f.spreads o)
-  span_same None = refl
-  span_same (Some r) = ranges_same f.reaches f.spreads r h.facts.rows
+  span_same o = grind (arith, ranges_same)
 
   reaches_all : (i : ℕ) → first_reaches f s.cluster (taken_in s.entries 1 s.filters i) i ≡ flat_map (λ (row : List Reach). if_there (slice_get row i)) (span_rows f.reaches (slice_get f.ranges s.cluster))
   reaches_all i = grind (arith, in_from, take_all, all_taken, span_same)
@@ -214,5 +213,4 @@ module _ (f : LoopFacts) (watched : List ℕ) (s : Stage) (t : TallyView) (clust
   holds_closed = subst (λ c. Holds f watched (at_begin (s.done ++ c ∷ []) next) (record { accs = t.accs; watched = map renewed t.watched; flow = t.flow; trails = noted_all c t.watched t.trails })) end.at_cluster at_own
 
 pub on_both_ok : {A E : Type 0} (r : Result A E) {P Q R : Type 0} → (P → Q → R) → OnOk r P → OnOk r Q → OnOk r R
-on_both_ok (Ok x) h p q = h p q
-on_both_ok (Err e) h p q = tt
+on_both_ok r h p q = grind arith

@@ -65,8 +65,7 @@ module _ (f : LoopFacts) (done : List ℕ) (c : ℕ) where
 -- ---- a fresh tally
 
 fresh_by : (f : LoopFacts) (c i : ℕ) (k : ActionKind) → IsFedBy f [] c (taken_in 0 1 0 i) i (fresh_acc k)
-fresh_by f c i k =
-    record { fed = subst (HasFed (fresh_acc k)) (sym (fed_at_begin f [] c i)) record { filled = refl; kept = refl; below = λ j x lt. absurd (omega arith) }; few = omega arith; last = omega arith }
+fresh_by f c i k = grind (arith, fed_at_begin)
 
 pub fresh_alone : (f : LoopFacts) (c i : ℕ) (k : ActionKind) → slice_get f.kinds i ≡ Some k → CanWatch k → IsFedAlone f c (taken_in 0 1 0 i) i (fresh_acc k)
 fresh_alone f c i k at watch = record { kind = at; watch = watch; held = fresh_by f c i k }
@@ -107,8 +106,7 @@ with_pass t b k = record { accs = t.accs ++ fresh_acc k ∷ []; watched = t.watc
 
 module _ (kinds : List ActionKind) (watched : List ℕ) (t : TallyView) (k : ActionKind) (h : IsFresh kinds watched t) where
   places_now : (b : Bool) → places_there (length t.watched) (acc_if b k ∷ []) ≡ place_if b kinds
-  places_now true = ap (λ n. n ∷ []) h.many
-  places_now false = refl
+  places_now b = grind arith
 
   alone_now : (b : Bool) → (b ≡ true → CanWatch k) → (i : ℕ) (acc : Accumulator) → slice_get (t.watched ++ acc_if b k ∷ []) i ≡ Some (Some acc)
       → (j : ActionKind) × (slice_get (kinds ++ k ∷ []) i ≡ Some j) × CanWatch j × (acc ≡ fresh_acc j)
@@ -118,8 +116,7 @@ module _ (kinds : List ActionKind) (watched : List ℕ) (t : TallyView) (k : Act
   ]
     where
       if_there : (b : Bool) → acc_if b k ≡ Some acc → (b ≡ true) × (acc ≡ fresh_acc k)
-      if_there true e = (refl, cc)
-      if_there false e = absurd (cc)
+      if_there b e = grind arith
 
   trails_now : (b : Bool) → with_trail b t.trails ≡ map (λ p. []) (watched ++ place_if b kinds)
   trails_now true = ap (λ l. l ++ [] ∷ []) h.trails ∙ sym (map-append (λ p. []) watched (length kinds ∷ []))
