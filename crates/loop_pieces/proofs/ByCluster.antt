@@ -32,8 +32,7 @@ one_past f c (i ∷ is) l n = put_swap f (record { cluster = c; item = i }) (by_
 
 run_past : (c d : ℕ) (is js : List Item) (l : List Fed) → (c ≡ d → ⊥) → by_cluster (from_cluster c is ++ (from_cluster d js ++ l)) ≡ by_cluster (from_cluster d js ++ (from_cluster c is ++ l))
 run_past c d [] js l n = refl
-run_past c d (i ∷ is) js l n =
-    ap (put (record { cluster = c; item = i })) (run_past c d is js l n) ∙ one_past (record { cluster = c; item = i }) d js (from_cluster c is ++ l) n
+run_past c d (i ∷ is) js l n = grind (arith, one_past, run_past c d is js l n)
 
 -- ---- what holds of each item
 
@@ -50,8 +49,7 @@ all_same : (P : Fed → Type 0) (a b : List Fed) → by_cluster a ≡ by_cluster
 all_same P a b e h = All-permutation P (by_cluster b) b (IsPermutation-sym _ _ (order_moves b)) (subst (All P) e (All-permutation P a (by_cluster a) (order_moves a) h))
 
 kept_same : (k : ActionKind) (a b : List Fed) → by_cluster a ≡ by_cluster b → kept_of k a ≡ kept_of k b
-kept_same (ActionKind.Take c) a b e = e
-kept_same k a b e = refl
+kept_same k a b e = grind arith
 
 -- an accumulator knows the items by their clusters alone
 pub has_fed_same : (acc : Accumulator) (a b : List Fed) → by_cluster a ≡ by_cluster b → HasFed acc a → HasFed acc b
@@ -233,8 +231,7 @@ counts_union f mine theirs all i u = (by_test is_reached, by_test is_passed)
     by_test p = counts_by_cluster f p all i ∙ sum_union (reached_in f p i) mine theirs all u ∙ sym (ap₂ (λ a b. a + b) (counts_by_cluster f p mine i) (counts_by_cluster f p theirs i))
 
 one_row : (p : Reach → Bool) (o : Option Reach) → count_by p (if_there o) ≤ 1
-one_row p None = omega arith
-one_row p (Some r) = grind (arith, common_steps)
+one_row p o = grind (arith, common_steps)
 
 pub counts_few : (f : LoopFacts) (set : List ℕ) (i : ℕ) → IsLoopFacts f → IsStrictlyIncreasing set → (counts_at f set i).all ≤ 1000000
 counts_few f set i facts up =

@@ -120,9 +120,7 @@ module _ (old theirs mine : List Accumulator) (i : ℕ) (acc merged e : Accumula
     (left : (k : ℕ) (d : Accumulator) → i ≤ k → get_or mine k d ≡ get_or old k d) (done : (k : ℕ) (d : Accumulator) → k < i → IsMerged (get_or old k d) (get_or theirs k d) (get_or mine k d))
     (acc_is : acc ≡ get_or theirs i acc) (merged_is : IsMerged (get_or mine i e) acc merged) where
   here : (d : Accumulator) → IsMerged (get_or old i d) (get_or theirs i d) merged
-  here d =
-      subst (λ a. IsMerged a (get_or theirs i d) merged) (get_or_default mine i e d within ∙ left i d (omega arith))
-      (subst (λ a. IsMerged (get_or mine i e) a merged) (acc_is ∙ get_or_default theirs i acc d (omega arith)) merged_is)
+  here d = grind (arith, get_or_default)
 
   pub done_next : (k : ℕ) (d : Accumulator) → k < i + 1 → IsMerged (get_or old k d) (get_or theirs k d) (get_or (set mine i merged) k d)
   done_next k d lt = ⊎_elim
