@@ -124,8 +124,7 @@ module _ {H : Type 0} (Rule : List ℕ → List H → Type 0) (again : (words : 
 
   -- a view is cut in two
   pub deals : (id : ℕ) (v : List H) → 0 < length v → Splits Holds id v (others v) (first_alone v)
-  deals id [] some_hand = absurd (omega arith)
-  deals id (h ∷ hs) some_hand = deal id h hs
+  deals id v some_hand = grind (arith, deal)
 
   -- a view takes in another
   pub gathers : (id : ℕ) (v : List H) (other : ℕ) (w : List H) → Joins Holds id v other w (w ++ v) []
