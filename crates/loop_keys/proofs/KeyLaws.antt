@@ -23,13 +23,13 @@ one_more p n xs = refl
 
 -- before a place whose element counts there are fewer than in all
 taken_fewer : {A : Type 0} (p : A → Bool) (v : ℕ) (xs : List A) → holds_at p (slice_get xs v) ≡ true → count_by p (take v xs) < count_by p xs
-taken_fewer p v xs h = omega (arith, one_more p v xs, ap (λ (q : Bool). if q then 1 else 0) h, sum_by-take-le (λ y. cond (p y) 1 0) xs (suc v))
+taken_fewer p v xs h = omega (arith, one_more p v xs, ap {B = ℕ} (λ q. if q then 1 else 0) h, sum_by-take-le (λ y. cond (p y) 1 0) xs (suc v))
 
 -- and fewer than before a later place
 taken_apart : {A : Type 0} (p : A → Bool) (v w : ℕ) (xs : List A) → v < w → holds_at p (slice_get xs v) ≡ true → count_by p (take v xs) < count_by p (take w xs)
 taken_apart p v w xs lt h =
     let front = ap (count_by p) (take-take (suc v) w xs (omega arith)) in
-    omega (arith, one_more p v xs, ap (λ (q : Bool). if q then 1 else 0) h, front, sum_by-take-le (λ y. cond (p y) 1 0) (take w xs) (suc v))
+    omega (arith, one_more p v xs, ap {B = ℕ} (λ q. if q then 1 else 0) h, front, sum_by-take-le (λ y. cond (p y) 1 0) (take w xs) (suc v))
 
 -- ---- slots
 
