@@ -5,7 +5,6 @@ use Rattle.slot_words.specs.{BookSeen, fresh_share, fresh_shares, IsReady, SeatS
 use Rattle.event_loop.specs.declared.workers.Shared.{Shared}
 use Rattle.event_loop.specs.declared.workers.Slot.{Slot}
 use Rattle.event_loop.specs.{AreBlank, HasNoted, IsBlank, IsFresh, AreFacts, CanFill, HasRoom, IsOpened, IsOutcome, job_facts, JobFacts}
-use Rattle.rdf_values.specs.{Fault, first_in}
 use Rattle.rdf_values.proofs.UnionLemmas.{length-below}
 use Rattle.rdf_values.proofs.Evenly.{cuts_lead}
 use Rattle.columns.proofs.Clusters.{few_ranges}
@@ -91,6 +90,3 @@ can_fill o c watched slots clusters job end made facts same many ended is some w
   booked = λ k e. (subst (IsOpened watched slots clusters) e opened).0 ∙ sym many;
   unbooked = λ e. subst (IsOpened watched slots clusters) e opened;
 }
-
-pub first_is : (o : Option BookSeen) (n : ℕ) (job : JobFacts) (end : Outcome) (fault : Fault) → IsOutcome o job n end → end ≡ Outcome.Faulted fault → first_in job.faults ≡ Some fault
-first_is o n job end fault ended is = subst (IsOutcome o job n) is ended
