@@ -153,13 +153,7 @@ module _ (j : JobView) (n : ℕ) (m : NumberedPass) (its : numbered_in j n ≡ S
   named = grind (arith, booked_is)
 
   pub is_its_pass : (g : GraphView) → g ≡ job_graph j → IsPassOf g m
-  is_its_pass g same =
-      let ps = of_chosen (slice_get (graph_loops (job_graph j)) j.number) n m its in
-      record {
-        its_result = result_within g same;
-        its_variation = subst (λ (h : GraphView). (v : ℕ) → m.variation ≡ Some v → v < length (graph_variations h)) (sym same)
-            (is_in_for (length (graph_variations (job_graph j))) m.variation (variation_within (job_graph j) j.number n ps.0 m ps.1 ps.2));
-      }
+  is_its_pass g h = grind (arith, of_chosen, result_within, is_in_for, variation_within)
 
   -- ---- what it is
 

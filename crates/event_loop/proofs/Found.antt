@@ -109,13 +109,7 @@ pub next_counts : (g : GraphView) (ps : List NumberedPass) (i : ℕ) (p : Number
     → option_map (λ (x : ResultAt). length (kind_in x.booked.booking)) (slice_get (graph_results g) p.result) ≡ Some a → w ≡ bool_byte b
     → ((n : ℕ) (q : Pass) → pass_at (booked_statements g) p ≡ Some q → place_if_watched (booked_statements g) n q ≡ (if b then n ∷ [] else []))
     → (qs : List Pass) → AreDecoded (booked_statements g) ps qs → (actions + a ≡ length (kinds_in (take (i + 1) qs))) × (watched_ones + w ≡ length (watched_places (booked_statements g) (take (i + 1) qs)))
-next_counts g ps i p actions watched_ones a w b h each own is told qs e =
-    let m = one_more (booked_statements g) ps qs i p e h in
-    let so_far = each qs e in
-    let mine = own_places (booked_statements g) m.0 b w is (told 0 m.0 m.1) in (
-      omega (arith, so_far.0, ap (λ (l : List Pass). length (kinds_in l)) m.2, kinds_more (take i qs) m.0, actions_are g p m.0 m.1 a own),
-      omega (arith, so_far.1, ap (λ (l : List Pass). length (watched_places (booked_statements g) l)) m.2, watched_more (booked_statements g) (take i qs) m.0, mine),
-    )
+next_counts g ps i p actions watched_ones a w b h each own is told qs e = grind (arith, one_more, own_places, kinds_more, actions_are, watched_more)
 
 -- ---- a loop
 

@@ -1,11 +1,11 @@
 -- The lines of what a session filled: of actions, of watched results and of reports.
-use Rattle.std.proofs.Common.{◌≡◌, ℕ, zero, suc, ◌+◌, ◌*◌, ◌<◌, List, [], ◌∷◌, ◌++◌, length, Some, refl, sym, ◌∙◌, ap, ap₂, subst, arith, append_assoc, length-append, flat_map, slice_get, ◌-◌, ◌≤◌, Bool, true, map, None, if◌then◌else◌, All, codes, inl, inr, Option, filter, option_map, unwrap_or, ◌^◌, append-nil}
+use Rattle.std.proofs.Common.{◌≡◌, ℕ, zero, suc, ◌+◌, ◌*◌, ◌<◌, List, [], ◌∷◌, ◌++◌, length, Some, refl, sym, ◌∙◌, ap, ap₂, subst, arith, append_assoc, length-append, flat_map, slice_get, ◌-◌, ◌≤◌, true, map, None, if◌then◌else◌, All, codes, inl, inr, Option, filter, option_map, unwrap_or, ◌^◌, append-nil}
 use Rattle.lemmas.proofs.{All-from_recursion, AllByRecursion, cond_both, eqb-true, join_with_byte, length-map, same_some, slice_get-map, something_at}
 use Rattle.rdf_values.specs.{ActionAt, ActionKind, Booked, Booking, Pass, Path, Span, Filled, line, below, Column, fn_names, Function, FunctionNames, has_variations, named_before, passes_of, ReportOn, result_depends, Statement, Variation, variations, varied_passes, cut, history, is_watched, Lead}
 use Rattle.rdf_model.specs.{action_pass, booking_lines, Dataset, filled_lines, kind_in, kinds_in, label, loop_facts, over_clusters, pass_lines, pass_result, in_front, maximal_runs, partial_line, partial_result, Run, run_text, value_text, cutflow, filter_label, first_fault, Course, flow_lines, partial_lines, result_lines}
 use Rattle.actions.specs.{Accumulator}
 use Rattle.graph_numbers.proofs.Walks.{by_test, joined, next_at, each_filter}
-use Rattle.loop_pieces.specs.{LoopPiece, StandsFor, ArePartialLines, IsPartialLine, PartialLine, span_of, Counts, counts_at, counts_of, cluster_fault, FilledResult, place_if_watched, watched_places}
+use Rattle.loop_pieces.specs.{LoopPiece, StandsFor, ArePartialLines, IsPartialLine, PartialLine, span_of, Counts, counts_at, counts_of, FilledResult, place_if_watched, watched_places}
 use Rattle.loop_pieces.proofs.WholeLoops.{piece_holds_results, watch_piece_is_partial_result, piece_holds_counts, all_clusters_are_the_table}
 use Rattle.result_text.specs.{acc_lines, lines_from, AreRuns, run_of, runs_text, watch_line, watch_lines, counts_seen, flow_at, booking_text, filled_text, FitsBooking, FitsResult}
 use Rattle.event_loop.proofs.Found.{AreOf, kinds-append, own_kinds, passes_are_of}
@@ -172,13 +172,7 @@ module _ (script : List Statement) (d : Dataset) (spans : List Span) (set : List
 
   module _ (p : Pass) (n : ℕ) (its : slice_get passes n ≡ Some p) (fs : List Path) (report : p.result.booking ≡ ReportOn fs) where
     counts_are : (i m : ℕ) (f : Path) → (f ≡ [] → ⊥) → slice_get fs i ≡ Some f → slice_get (named_before script) m ≡ Some f → slice_get piece.flow m ≡ Some (counts_of (cutflow d f))
-    counts_are i m [] some at named = absurd (some refl)
-    counts_are i m (s ∷ up) some at named =
-        let b = parted_at (named_before script) m (s ∷ up) named in
-        let split = subst (λ (l : List Path). StandsFor (loop_facts d l spans passes) set piece) b.2 stands in
-        let still = ap (λ (x : Dataset). first_fault x passes) whole ∙ sound in
-        ap (slice_get piece.flow) (sym b.3) ∙ piece_holds_counts d b.0 b.1 s up spans set passes n i p fs piece its report at still split
-        ∙ ap (λ (x : Dataset). Some (counts_of (cutflow x (s ∷ up)))) whole
+    counts_are i m f some h named = grind (arith, parted_at, stands, whole, sound, piece_holds_counts)
 
     pub flows_from : (header : List Column) (fns : List Function) (ns : List ℕ) (gs done : List Path) → fs ≡ done ++ gs → AreNumbersOf fns header script ns gs
         → (g : GraphView) → graph_filters g ≡ filters header (fn_names fns) script → map (flow_at g piece.flow) ns ≡ map (λ f. (filter_label f, cutflow d f)) gs
@@ -264,11 +258,7 @@ module _ (s : SessionView) (is : IsSession s) where
         ∙ ap₂ (λ (n : ℕ) (spans : List Span). flat_map (λ set. partial_line name set (partial_result spans s.dataset set k at)) (course.chains n)) (sym (ap (λ (o : Option ℕ). unwrap_or o 0) number)) (sym fits_course.spans)
 
     front_is : (course : Course) → FitsCourse s course → loop_filling script_of x.booked.name ≡ Some l → watch_lines x.booked.name lines ≡ front_of course x.booked
-    front_is course fits_course number = elim h.partials [
-      | inl p ↦ (let a = noted_action x.booked 0 (p.0 0) in action_lines p course fits_course number a.0 a.1 a.2 ∙ ap (partial_lines script_of s.dataset course x.booked.name) (sym a.2)
-          ∙ sym (ap (λ (t : Bool). if t then partial_lines script_of s.dataset course x.booked.name x.booked.booking else []) (noted_watch x.booked 0 (p.0 0))))
-      | inr q ↦ ap (watch_lines x.booked.name) q.1 ∙ sym (no_front x.booked course q.0)
-    ]
+    front_is course fits_course number = grind (arith, noted_action, action_lines, noted_watch, no_front)
 
     -- ---- filled results
 
@@ -276,9 +266,7 @@ module _ (s : SessionView) (is : IsSession s) where
     set_of = below (length (job_facts (session_job s l)).faults)
 
     whole : over_clusters spans_of s.dataset set_of ≡ s.dataset
-    whole =
-        ap (λ n. over_clusters spans_of s.dataset (below n)) (length-map (below (length spans_of)) (cluster_fault s.dataset spans_of passes) ∙ length-below (length spans_of))
-        ∙ all_clusters_are_the_table s.dataset spans_of leads
+    whole = grind (arith, length-map, length-below, all_clusters_are_the_table, leads)
 
     stands : StandsFor (loop_facts s.dataset (named_before script_of) spans_of passes) set_of f.piece.now
     stands = subst (StandsFor (loop_facts s.dataset (named_before script_of) spans_of passes) set_of) (sym h.piece) its_filling.stands

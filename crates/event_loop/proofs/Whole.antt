@@ -81,12 +81,4 @@ has_room (Some b) watched slots clusters n h is = let same = h.1 in omega arith
 pub can_fill : (o : Option BookSeen) (c : ClaimsSeen) (watched slots clusters : ℕ) (job : JobFacts) (end : Outcome) (made : Made)
     → AreFacts c.clusters job → c.clusters ≡ clusters → c.slots ≡ slots → IsOutcome o job c.slots end → end ≡ Outcome.Processed made → 0 < slots → length job.watched ≡ watched → IsOpened watched slots clusters o
     → CanFill o watched clusters job made
-can_fill o c watched slots clusters job end made facts same many ended is some watches opened = record {
-  facts = subst (λ (n : ℕ). AreFacts n job) same facts;
-  slots = c.slots;
-  some = omega (arith, many);
-  finished = subst (IsOutcome o job c.slots) is ended;
-  watches = watches;
-  booked = λ k e. (subst (IsOpened watched slots clusters) e opened).0 ∙ sym many;
-  unbooked = λ e. subst (IsOpened watched slots clusters) e opened;
-}
+can_fill o c watched slots clusters job end made facts same many ended is some watches opened = grind arith
