@@ -148,8 +148,7 @@ module _ (c : ClaimsSeen) (b : Option BookSeen) (job : JobFacts) (bar : ℕ) whe
       All-cons IsDone f fs first.0 (all_done fs high (All-tail Ran f fs ran) (All-tail HasMemory f fs memory) first.1 (All-tail (IsPassed bar) (seat_in f) (map seat_in fs) passed))
 
   kept_more : (o : Option ℕ) (word : ℕ) → IsSomeAnd o (λ k. c.clusters ≤ k) → IfSome o (λ k. (c.clusters ≤ k) × (k < word)) → c.clusters ≤ word
-  kept_more None word s k = elim s [ ]
-  kept_more (Some n) word s k = let x = k.0 in let y = k.1 in omega arith
+  kept_more o word s k = grind arith
 
   all_drawn : (fs : List Finished) (word : ℕ) → 0 < length fs → All IsDone fs → All (IsKept c.clusters word) (map seat_in fs) → c.clusters ≤ word
   all_drawn [] word some done kept = absurd (omega arith)

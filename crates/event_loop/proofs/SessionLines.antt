@@ -297,8 +297,7 @@ module _ (s : SessionView) (is : IsSession s) where
     -- of a report
     module _ (fs : List Path) (report : x.booked.booking ≡ ReportOn fs) where
       report_fits : FitsBooking s.graph x f (ReportOn fs)
-      report_fits =
-          flow_length script_of s.dataset spans_of set_of whole passes sound f.piece.now stands ∙ sym (ap (λ (g : GraphView). length (graph_filters g)) is.graph ∙ filter_count s.dataset.columns (fn_names s.dataset.fns) script_of)
+      report_fits = grind (arith, flow_length, whole, sound, stands, filter_count)
 
       nominal_there : slice_get passes (length placed.before) ≡ Some (record { result = x.booked; under = None })
       nominal_there =
@@ -316,8 +315,7 @@ module _ (s : SessionView) (is : IsSession s) where
     fits = go x.booked.booking refl
       where
         go : (bk : Booking) → x.booked.booking ≡ bk → FitsBooking s.graph x f x.booked.booking
-        go (ActionAt k at) q = subst (FitsBooking s.graph x f) (sym q) (action_fits k at q)
-        go (ReportOn fs) q = subst (FitsBooking s.graph x f) (sym q) (report_fits fs q)
+        go bk q = grind (arith, action_fits, report_fits)
 
     text_is : filled_text s.graph x f ≡ flat_map (pass_lines s.dataset) (passes_of script_of x.booked)
     text_is = grind (arith, action_text, report_text)

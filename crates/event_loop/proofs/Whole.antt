@@ -21,8 +21,7 @@ all_blank b n shares is = (ap length is ∙ many_shares b n, subst (All (IsBlank
 
 -- nothing comes of an empty vector
 pub none_popped : {S : Type 0} (r : Option S) (n m : ℕ) → MatchOption r ((n ≡ 0) × (m ≡ 0)) (λ _. m + 1 ≡ n) → r ≡ None → n ≡ 0
-none_popped None n m popped e = popped.0
-none_popped (Some s) n m popped e = absurd (cc)
+none_popped r n m popped e = grind arith
 
 -- the next share, where there is a book
 pub next_share : (b : Option BookSeen) (n : ℕ) (old new : List ShareSeen) (r : Option ShareSeen)
@@ -74,8 +73,7 @@ facts_of j n job is = grind (arith, length-map, length-below, lower_clusters_fau
 
 -- a book that was opened for so many clusters has room for them
 pub has_room : (o : Option BookSeen) (watched slots clusters n : ℕ) → IsOpened watched slots clusters o → n ≡ clusters → HasRoom n o
-has_room None watched slots clusters n h is = tt
-has_room (Some b) watched slots clusters n h is = let same = h.1 in omega arith
+has_room o watched slots clusters n h is = grind arith
 
 -- the outcome where all clusters are processed
 pub can_fill : (o : Option BookSeen) (c : ClaimsSeen) (watched slots clusters : ℕ) (job : JobFacts) (end : Outcome) (made : Made)
