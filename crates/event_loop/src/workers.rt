@@ -6,7 +6,8 @@ ghost use Rattle.loop_keys.specs.{Fits, IsJob, job_graph, job_of};
 ghost use Rattle.event_loop.specs.{CanRun, HasNoted, HasRoom, HasRun, HasStopped, IsFresh, job_facts, job_with};
 ghost use Rattle.event_loop.specs.declared.workers.Finished.{Finished};
 
-use crate::{Progress, SlotState, SlotStop};
+use crate::SlotState;
+use block_passes::BlockStop;
 use expr_eval::Steps;
 use loop_keys::Job;
 use loop_pieces::LoopPiece;
@@ -81,14 +82,15 @@ fn work<L: Ledger, G: Gate>(
     let mut steps: Steps<L> = Steps::open(blank);
     while let Some(cluster) = shared.claims.claim(&mut slot.seat) {
         gate.turn(slot.seat.slot(), cluster);
-        match state.process(job, cluster, &mut steps) {
-            Ok(Progress::Done) => note(&shared.book, &mut slot.share),
-            Ok(Progress::Faulted(fault)) => {
+        state = match state.process(job, cluster, &mut steps) {
+            Ok(next) => next,
+            Err(BlockStop::Fault(fault)) => {
                 shared.claims.lower(&mut slot.seat, cluster);
                 return End::Faulted(fault);
             }
-            Err(SlotStop::Memory) => return End::NoMemory,
-        }
+            Err(BlockStop::Memory) => return End::NoMemory,
+        };
+        note(&shared.book, &mut slot.share);
     }
     End::Over(state.into_piece())
 }
