@@ -239,7 +239,9 @@ module _ (s : SessionView) (is : IsSession s) where
 
     pub have_runs : All (λ (l : PartialLine). AreRuns l.runs) lines
     have_runs = elim h.partials [
-      | inl p ↦ (let over = its_filling.partials.over.are in All-from_recursion (λ (l : PartialLine). AreRuns l.runs) lines (lines_have_runs _ h.place.first over.sets lines (its_lines p over.sets over.each)))
+      | inl p ↦ (
+          let over = its_filling.partials.over.are in
+          All-from_recursion (λ (l : PartialLine). AreRuns l.runs) lines (lines_have_runs _ h.place.first over.sets lines (its_lines p over.sets over.each)))
       | inr q ↦ subst (All (λ (l : PartialLine). AreRuns l.runs)) (sym q.1) (λ k d lt. absurd (omega arith))
     ]
 

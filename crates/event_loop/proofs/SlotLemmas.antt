@@ -79,10 +79,12 @@ cluster_within j cluster lt = omega (arith, length-map (below (length (job_spans
 -- ---- a slot of a job
 
 -- what the finished clusters give to its tally
-pub its_tally : (job : JobFacts) (cluster : ℕ) (s t : SlotView) → t ≡ s → IsSlotOf job s → All (λ d. d < cluster) s.done → Holds job.facts job.watched (at_begin s.done cluster) t.tally
+pub its_tally : (job : JobFacts) (cluster : ℕ) (s t : SlotView) → t ≡ s → IsSlotOf job s → All (λ d. d < cluster) s.done
+    → Holds job.facts job.watched (at_begin s.done cluster) t.tally
 its_tally job cluster s t is h above = subst (λ (u : SlotView). Holds job.facts job.watched (at_begin s.done cluster) u.tally) (sym is) (h.holds cluster above)
 
-module _ (j : JobView) (s : SlotView) (h : IsSlotOf (job_facts j) s) (cluster : ℕ) (within : cluster < length (job_facts j).faults) (above : All (λ c. c < cluster) s.done) where
+module _ (j : JobView) (s : SlotView) (h : IsSlotOf (job_facts j) s) (cluster : ℕ)
+    (within : cluster < length (job_facts j).faults) (above : All (λ c. c < cluster) s.done) where
   pub has_room : length s.done < s.room
   has_room = let few = fewer s.done cluster (h.holds cluster above).rises above in let r = h.room in omega arith
 

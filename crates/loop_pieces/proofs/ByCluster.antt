@@ -28,9 +28,11 @@ put_swap f g (h ∷ hs) n = grind (arith, common_steps, nat_tests, put_swap f g 
 
 one_past : (f : Fed) (c : ℕ) (is : List Item) (l : List Fed) → (f.cluster ≡ c → ⊥) → by_cluster (f ∷ (from_cluster c is ++ l)) ≡ by_cluster (from_cluster c is ++ f ∷ l)
 one_past f c [] l n = refl
-one_past f c (i ∷ is) l n = put_swap f (record { cluster = c; item = i }) (by_cluster (from_cluster c is ++ l)) n ∙ ap (put (record { cluster = c; item = i })) (one_past f c is l n)
+one_past f c (i ∷ is) l n =
+    put_swap f (record { cluster = c; item = i }) (by_cluster (from_cluster c is ++ l)) n ∙ ap (put (record { cluster = c; item = i })) (one_past f c is l n)
 
-run_past : (c d : ℕ) (is js : List Item) (l : List Fed) → (c ≡ d → ⊥) → by_cluster (from_cluster c is ++ (from_cluster d js ++ l)) ≡ by_cluster (from_cluster d js ++ (from_cluster c is ++ l))
+run_past : (c d : ℕ) (is js : List Item) (l : List Fed) → (c ≡ d → ⊥)
+    → by_cluster (from_cluster c is ++ (from_cluster d js ++ l)) ≡ by_cluster (from_cluster d js ++ (from_cluster c is ++ l))
 run_past c d [] js l n = refl
 run_past c d (i ∷ is) js l n = grind (arith, one_past, run_past c d is js l n)
 
@@ -65,7 +67,8 @@ module _ (items : ℕ → List Item) where
   abbrev fed : List ℕ → List Fed
   fed set = flat_map (λ c. from_cluster c (items c)) set
 
-  swapped : (c d : ℕ) (l : List Fed) → by_cluster (from_cluster c (items c) ++ (from_cluster d (items d) ++ l)) ≡ by_cluster (from_cluster d (items d) ++ (from_cluster c (items c) ++ l))
+  swapped : (c d : ℕ) (l : List Fed)
+      → by_cluster (from_cluster c (items c) ++ (from_cluster d (items d) ++ l)) ≡ by_cluster (from_cluster d (items d) ++ (from_cluster c (items c) ++ l))
   swapped c d l = grind (arith, cases_eq, run_past)
 
   -- any cluster may come first
@@ -140,7 +143,8 @@ by_places g (s ∷ ss) =
 
 pub joined_places : {A : Type 0} (g : Option Span → List A) (spans : List Span) → flat_map (λ c. g (slice_get spans c)) (below (length spans)) ≡ flat_map (λ s. g (Some s)) spans
 joined_places g spans =
-    sym (flat_map-map (λ l. l) (λ c. g (slice_get spans c)) (below (length spans))) ∙ ap (flat_map (λ l. l)) (by_places g spans) ∙ flat_map-map (λ l. l) (λ s. g (Some s)) spans
+    sym (flat_map-map (λ l. l) (λ c. g (slice_get spans c)) (below (length spans)))
+    ∙ ap (flat_map (λ l. l)) (by_places g spans) ∙ flat_map-map (λ l. l) (λ s. g (Some s)) spans
 
 -- ---- ranges
 

@@ -116,8 +116,10 @@ are_counts old theirs e room a b = All-from_get_or AreCounts (added old theirs) 
 
 -- ---- One turn of merging accumulators.
 
-module _ (old theirs mine : List Accumulator) (i : ℕ) (acc merged e : Accumulator) (within : i < length mine) (same : length mine ≡ length old) (enough : length theirs ≡ length old)
-    (left : (k : ℕ) (d : Accumulator) → i ≤ k → get_or mine k d ≡ get_or old k d) (done : (k : ℕ) (d : Accumulator) → k < i → IsMerged (get_or old k d) (get_or theirs k d) (get_or mine k d))
+module _ (old theirs mine : List Accumulator) (i : ℕ) (acc merged e : Accumulator)
+    (within : i < length mine) (same : length mine ≡ length old) (enough : length theirs ≡ length old)
+    (left : (k : ℕ) (d : Accumulator) → i ≤ k → get_or mine k d ≡ get_or old k d)
+    (done : (k : ℕ) (d : Accumulator) → k < i → IsMerged (get_or old k d) (get_or theirs k d) (get_or mine k d))
     (acc_is : acc ≡ get_or theirs i acc) (merged_is : IsMerged (get_or mine i e) acc merged) where
   here : (d : Accumulator) → IsMerged (get_or old i d) (get_or theirs i d) merged
   here d = grind (arith, get_or_default)
@@ -127,5 +129,6 @@ module _ (old theirs mine : List Accumulator) (i : ℕ) (acc merged e : Accumula
       (λ (less : k < i). subst (IsMerged (get_or old k d) (get_or theirs k d)) (sym (get_or-set_other mine i k merged d (λ e. absurd (omega arith)))) (done k d less))
       (λ (least : i ≤ k).
       let is : i ≡ k = omega arith in
-      subst (λ j. IsMerged (get_or old j d) (get_or theirs j d) (get_or (set mine i merged) j d)) is (subst (IsMerged (get_or old i d) (get_or theirs i d)) (sym (get_or-set_same mine i merged d within)) (here d)))
+      subst (λ j. IsMerged (get_or old j d) (get_or theirs j d) (get_or (set mine i merged) j d)) is
+      (subst (IsMerged (get_or old i d) (get_or theirs i d)) (sym (get_or-set_same mine i merged d within)) (here d)))
       (cases_lt k i)

@@ -40,8 +40,10 @@ returns-clause-slot g c =
 
 pub returns-clause-done : goal.returns-clause-done
 returns-clause-done g c = (
-  fault_at (job_of c.args.job.now) c.args.cluster None c.requires.cluster (subst (IsClusterAnswer (job_of c.args.job.now) c.args.cluster) c.in_ok-try_cluster.was c.try_cluster.ensures.answer),
-  seen_with c.self.inside.done.items c.push_reserved.new.self.items c.args.cluster c.of.result c.of.ensures c.push_reserved.ensures.items ∙ ap (λ (s : SlotView). s.done ++ c.args.cluster ∷ []) c.self.view_is,
+  fault_at (job_of c.args.job.now) c.args.cluster None c.requires.cluster
+      (subst (IsClusterAnswer (job_of c.args.job.now) c.args.cluster) c.in_ok-try_cluster.was c.try_cluster.ensures.answer),
+  seen_with c.self.inside.done.items c.push_reserved.new.self.items c.args.cluster c.of.result c.of.ensures c.push_reserved.ensures.items
+      ∙ ap (λ (s : SlotView). s.done ++ c.args.cluster ∷ []) c.self.view_is,
 )
 
 pub returns-in-Err-clause-plain : goal.returns-in-Err-clause-plain
@@ -54,4 +56,5 @@ pub returns-in_err-try_cluster-clause-faulted : goal.returns-in_err-try_cluster-
 returns-in_err-try_cluster-clause-faulted g c = λ f e.
     let own : c.in_err-try_cluster.field-0.0 ≡ BlockStop.Fault f = (let h = rw e at c.from_residual.ensures.1 in cc h) in
     let was : c.try_cluster.result ≡ Err (BlockStop.Fault f) = c.in_err-try_cluster.was ∙ ap Err own in
-    fault_at (job_of c.args.job.now) c.args.cluster (Some f) c.requires.cluster (subst (IsClusterAnswer (job_of c.args.job.now) c.args.cluster) was c.try_cluster.ensures.answer)
+    fault_at (job_of c.args.job.now) c.args.cluster (Some f) c.requires.cluster
+    (subst (IsClusterAnswer (job_of c.args.job.now) c.args.cluster) was c.try_cluster.ensures.answer)
