@@ -1,4 +1,4 @@
-use Rattle.std.proofs.Common.{◌≡◌, arith, refl, subst}
+use Rattle.std.proofs.Common.{◌≡◌, ap, ◌∙◌, Ok, arith, refl, subst}
 use Rattle.loop_keys.specs.{facts_in, job_of}
 use Rattle.loop_pieces.specs.{StandsFor}
 use Rattle.event_loop.specs.{job_facts}
@@ -17,17 +17,23 @@ process-requires-clause-cluster g c = let top = c.requires.span.1 in let lt = c.
 pub process-requires-clause-above : goal.process-requires-clause-above
 process-requires-clause-above g c = all_below (job_of c.args.job.now) c.args.lo c.loop-cluster.cluster c.loop-cluster.state c.loop-cluster.invariant.0
 
+pub process-requires-clause-open : goal.process-requires-clause-open
+process-requires-clause-open g c = λ e. let going = c.loop-cluster.invariant.0.going in absurd (cc)
+
 pub loop-cluster-preserved : goal.loop-cluster-preserved
 loop-cluster-preserved g c =
-    let d = c.in-Ok.ensures.done in
+    let d = c.process.ensures.done (c.in-Ok-Done.is ∙ ap Ok c.in-Ok-Done.field-0-is) in
     let top = c.requires.span.1 in
     let lt = c.loop-cluster-test.true in
-    (goes_on (job_of c.args.job.now) c.args.lo c.loop-cluster.cluster _ c.loop-cluster.state c.in-Ok.next refl (omega arith) c.loop-cluster.invariant.0 c.in-Ok.ensures.slot d.0 d.1, omega arith)
+    (goes_on (job_of c.args.job.now) c.args.lo c.loop-cluster.cluster _ c.loop-cluster.state c.process.new.self refl (omega arith) c.loop-cluster.invariant.0 c.process.ensures.slot d.1 d.2 d.3, omega arith)
 
-pub returns-in-Err-Fault : goal.returns-in-Err-Fault
-returns-in-Err-Fault g c =
-    stops (job_of c.args.job.now) c.requires.job.job c.args.lo c.loop-cluster.cluster c.args.hi c.loop-cluster.state c.in-Err-Fault.fault c.loop-cluster-test.true c.requires.span.1 c.loop-cluster.invariant.0
-    (c.in-Err-Fault.ensures.faulted c.in-Err-Fault.fault (cc))
+pub returns-in-Ok-Faulted : goal.returns-in-Ok-Faulted
+returns-in-Ok-Faulted g c =
+    let f = c.process.ensures.faulted c.in-Ok-Faulted.fault (c.in-Ok-Faulted.is ∙ ap Ok c.in-Ok-Faulted.field-0-is) in
+    stops (job_of c.args.job.now) c.requires.job.job c.args.lo c.loop-cluster.cluster c.args.hi c.loop-cluster.state c.in-Ok-Faulted.fault c.loop-cluster-test.true c.requires.span.1 c.loop-cluster.invariant.0 f.1
+
+pub into_piece-requires : goal.into_piece-requires
+into_piece-requires g c = c.loop-cluster.invariant.0.going
 
 pub returns : goal.returns
 returns g c =
