@@ -6,7 +6,7 @@ use Rattle.rdf_model.specs.{IsChain, IsLoopFacts, kinds_in, loop_facts, loop_pas
 use Rattle.slot_words.specs.{chain_of}
 use Rattle.slot_words.proofs.Noting.{is_chain}
 use Rattle.slot_words.proofs.Steps.{rising_room}
-use Rattle.event_loop.specs.{AreSound, IsSlotOf, job_facts, JobFacts, SlotView, IsFreshSlot, IsOfPasses}
+use Rattle.event_loop.specs.{AreSound, IsSlotOf, job_facts, Phase, SlotView, IsFreshSlot, IsOfPasses}
 use Rattle.lemmas.proofs.{All-cons, All-contains, All-nil, All-weaker, AllPairs-from_increasing, common_steps, Contains-push, IsStrictlyIncreasing, length-map, map-append, mapped_at, something_at}
 use Rattle.std.specs.declared.snapshot.Snapshot.{Snapshot}
 use Rattle.block_passes.specs.{at_end, CountsVectors, IsStateOf}
@@ -19,6 +19,7 @@ use Rattle.graph_numbers.proofs.Placing.{itself}
 use Rattle.graph_numbers.proofs.Looping.{loops_are}
 use Rattle.loop_keys.proofs.EntryLaws.{all_taken}
 use Rattle.cluster_tally.proofs.Pieces.{fresh_holds}
+use Rattle.event_loop.specs.declared.state.Phase.TheVariants.{Going}
 
 -- one of two slots finishes all clusters in order
 abbrev by_one : ℕ → List (List ℕ)
@@ -65,6 +66,11 @@ fewer xs c up high = rising_room xs c (rises_push xs c up high)
 pub seen_with : (done more : List (Snapshot ℕ)) (cluster : ℕ) (s : Snapshot ℕ) → s.value ≡ cluster → more ≡ done ++ s ∷ [] → map (λ (d : Snapshot ℕ). d.value) more ≡ map (λ (d : Snapshot ℕ). d.value) done ++ cluster ∷ []
 seen_with done more cluster s shows is = ap (map (λ (d : Snapshot ℕ). d.value)) is ∙ map-append (λ (d : Snapshot ℕ). d.value) done (s ∷ []) ∙ ap (λ c. map (λ (d : Snapshot ℕ). d.value) done ++ c ∷ []) shows
 
+-- ---- phases
+
+pub goes_on : (p : Phase) → (p ≡ Phase.NoMemory → ⊥) → (p ≡ Phase.Faulted → ⊥) → p ≡ Phase.Going
+goes_on p a b = grind arith
+
 -- ---- faults
 
 pub fault_at : (j : JobView) (cluster : ℕ) (o : Option Fault) → cluster < length (job_facts j).faults → cluster_fault j.dataset (job_spans j) (passes_in j) cluster ≡ o → slice_get (job_facts j).faults cluster ≡ Some o
@@ -78,28 +84,30 @@ cluster_within j cluster lt = omega (arith, length-map (below (length (job_spans
 
 -- ---- a slot of a job
 
--- what the finished clusters give to its tally
-pub its_tally : (job : JobFacts) (cluster : ℕ) (s t : SlotView) → t ≡ s → IsSlotOf job s → All (λ d. d < cluster) s.done
-    → Holds job.facts job.watched (at_begin s.done cluster) t.tally
-its_tally job cluster s t is h above = subst (λ (u : SlotView). Holds job.facts job.watched (at_begin s.done cluster) u.tally) (sym is) (h.holds cluster above)
+module _ (j : JobView) (s : SlotView) (h : IsSlotOf (job_facts j) s) where
+  -- one that doesn't go on
+  pub stopped : (t : SlotView) → IsStateOf j t.blocks → t.vectors ≡ s.vectors → t.room ≡ s.room → (t.phase ≡ Phase.Going → ⊥) → IsSlotOf (job_facts j) t
+  stopped t state vectors room ended = grind arith
 
-module _ (j : JobView) (s : SlotView) (h : IsSlotOf (job_facts j) s) (cluster : ℕ)
-    (within : cluster < length (job_facts j).faults) (above : All (λ c. c < cluster) s.done) where
-  pub has_room : length s.done < s.room
-  has_room = let few = fewer s.done cluster (h.holds cluster above).rises above in let r = h.room in omega arith
+  module _ (going : s.phase ≡ Phase.Going) (cluster : ℕ) (within : cluster < length (job_facts j).faults) (above : All (λ c. c < cluster) s.done) where
+    pub begins : Holds (facts_in j) (job_facts j).watched (at_begin s.done cluster) s.tally
+    begins = h.holds going cluster above
 
-  -- after the cluster
-  pub went_on : (t : SlotView) → IsStateOf j t.blocks → t.vectors ≡ s.vectors → t.room ≡ s.room → t.done ≡ s.done ++ cluster ∷ []
-      → ((next : ℕ) → cluster < next → Holds (facts_in j) (job_facts j).watched (at_begin (s.done ++ cluster ∷ []) next) t.tally) → IsSlotOf (job_facts j) t
-  went_on t state vectors room done holds = record {
-    blocks = state;
-    vectors = subst (CountsVectors (job_graph j)) (sym vectors) h.vectors;
-    few = (let f = h.few in omega (arith, f, vectors));
-    room = (let r = h.room in omega (arith, room));
-    holds = λ c high. (
-        let all = subst (All (λ d. d < c)) done high in
-        subst (λ l. Holds (facts_in j) (job_facts j).watched (at_begin l c) t.tally) (sym done) (holds c (All-contains (λ d. d < c) (s.done ++ cluster ∷ []) cluster all (Contains-push s.done cluster))));
-  }
+    pub has_room : length s.done < s.room
+    has_room = let few = fewer s.done cluster begins.rises above in let r = h.room in omega arith
+
+    -- after the cluster
+    pub went_on : (t : SlotView) → IsStateOf j t.blocks → t.vectors ≡ s.vectors → t.room ≡ s.room → t.done ≡ s.done ++ cluster ∷ []
+        → ((next : ℕ) → cluster < next → Holds (facts_in j) (job_facts j).watched (at_begin (s.done ++ cluster ∷ []) next) t.tally) → IsSlotOf (job_facts j) t
+    went_on t state vectors room done holds = record {
+      blocks = state;
+      vectors = subst (CountsVectors (job_graph j)) (sym vectors) h.vectors;
+      few = (let f = h.few in omega (arith, f, vectors));
+      room = (let r = h.room in omega (arith, room));
+      holds = λ on c high. (
+          let all = subst (All (λ d. d < c)) done high in
+          subst (λ l. Holds (facts_in j) (job_facts j).watched (at_begin l c) t.tally) (sym done) (holds c (All-contains (λ d. d < c) (s.done ++ cluster ∷ []) cluster all (Contains-push s.done cluster))));
+    }
 
 pub is_at_end : (j : JobView) (done : List ℕ) (cluster : ℕ) → IsAtEnd (facts_in j) (at_end (facts_in j) done cluster) cluster
 is_at_end j done cluster = record { at_cluster = refl; entries = refl; passes = refl; filters = refl }
@@ -119,8 +127,9 @@ module _ (j : JobView) (job : IsJob j) where
       (loops_meet_limits j.dataset j.script (named_before (history j.script)) (job_spans j) j.number one.0 answers words job.table.fit job.table.few (cuts_are_in_order j.cuts.entries j.cuts.size j.cuts.marks) one.1)
 
   pub begun : AnswerIn64Bits j.dataset.fns → StatementsHaveWords (history j.script) → (s : SlotView) → IsStateOf j s.blocks → CountsVectors (job_graph j) s.vectors × (s.vectors < 1099511627776) → IsOfPasses j (length (passes_in j)) s.tally
-      → s.tally.flow ≡ replicate (length (named_before (history j.script))) nothing → length (job_spans j) ≤ s.room → s.done ≡ [] → IsFreshSlot (job_facts j) s
-  begun answers words s state vectors fresh flow room none =
+      → s.tally.flow ≡ replicate (length (named_before (history j.script))) nothing → length (job_spans j) ≤ s.room → s.done ≡ [] → s.phase ≡ Going
+      → IsFreshSlot (job_facts j) s
+  begun answers words s state vectors fresh flow room none going =
       let all = all_taken (passes_in j) in
       let of_all = subst (λ ps. IsFresh (kinds_in ps) (watched_places (history j.script) ps) s.tally) all fresh in
       record {
@@ -129,8 +138,9 @@ module _ (j : JobView) (job : IsJob j) where
           vectors = vectors.0;
           few = vectors.1;
           room = (let m = length-map (below (length (job_spans j))) (cluster_fault j.dataset (job_spans j) (passes_in j)) in omega (arith, room, m, length-below (length (job_spans j))));
-          holds = λ c high. subst (λ d. Holds (facts_in j) (job_facts j).watched (at_begin d c) s.tally) (sym none)
+          holds = λ on c high. subst (λ d. Holds (facts_in j) (job_facts j).watched (at_begin d c) s.tally) (sym none)
               (fresh_holds (facts_in j) (job_facts j).watched s.tally c (is_loop_facts answers words) of_all flow);
         };
         none = none;
+        going = going;
       }

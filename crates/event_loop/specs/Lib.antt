@@ -17,3 +17,4 @@ pub use Turns.{EndsAt, FitsCourse, GoesOn, IsTranscript, print_gives}
 pub use Workers.{AreSound, CanRun, HasNoted, HasRoom, HasRun, IsFresh, IsOver, MetFault, Stopped}
 pub use declared.one_loop.FilledLoop.{FilledLoop}
 pub use declared.one_loop.LoopEnd.{LoopEnd}
+pub use declared.state.Phase.{Phase}

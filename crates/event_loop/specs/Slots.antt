@@ -7,27 +7,31 @@ use Rattle.block_passes.specs.{CountsVectors, IsStateOf, StateView}
 use Rattle.cluster_tally.specs.{at_begin, Holds, IsFresh, TallyView}
 use Rattle.loop_pieces.specs.{watched_places}
 use Rattle.event_loop.specs.Jobs.{JobFacts, job_facts}
+use Rattle.event_loop.specs.declared.state.Phase.{Phase}
+use Rattle.event_loop.specs.declared.state.Phase.TheVariants.{Going}
 
--- what it reserves for blocks, how many keys of the graph have vectors for values, what the clusters gave, room for so many clusters, and those that the slot finished
+-- what it reserves for blocks, how many keys of the graph have vectors for values, what the clusters gave, room for so many clusters, those that the slot finished, and whether it goes on
 pub record SlotView : Type 0 where
   pub blocks : StateView
   pub vectors : ℕ
   pub tally : TallyView
   pub room : ℕ
   pub done : List ℕ
+  pub phase : Phase
 
--- the slot is one of the loop that is to give that, and its tally holds what the finished clusters give
+-- the slot is one of the loop that is to give that; while it goes on, its tally holds what the finished clusters give
 pub record IsSlotOf (job : JobFacts) (s : SlotView) : Type 0 where
   pub blocks : IsStateOf job.job s.blocks
   pub vectors : CountsVectors (job_graph job.job) s.vectors
   pub few : s.vectors < 1099511627776
   pub room : length job.faults ≤ s.room
-  pub holds : (c : ℕ) → All (λ d. d < c) s.done → Holds job.facts job.watched (at_begin s.done c) s.tally
+  pub holds : s.phase ≡ Going → (c : ℕ) → All (λ d. d < c) s.done → Holds job.facts job.watched (at_begin s.done c) s.tally
 
 -- and it finished no cluster
 pub record IsFreshSlot (job : JobFacts) (s : SlotView) : Type 0 where
   pub slot : IsSlotOf job s
   pub none : s.done ≡ []
+  pub going : s.phase ≡ Going
 
 -- ---- memory
 

@@ -1,5 +1,5 @@
 // The state of one slot.
-ghost use Rattle.std.specs.Prelude.{◌≡◌, ◌≢◌, ◌<◌, ◌≤◌, ◌+◌, ◌*◌, ◌++◌, ◌∷◌, [], ℕ, All, IfOk, None, Some, Err, length, slice_get};
+ghost use Rattle.std.specs.Prelude.{◌≡◌, ◌≢◌, ◌<◌, ◌≤◌, ◌+◌, ◌*◌, ◌++◌, ◌∷◌, [], ℕ, All, IfOk, None, Some, Ok, Err, length, slice_get};
 ghost use Rattle.rdf_values.specs.{Fault, history, StatementsHaveWords};
 ghost use Rattle.loop_keys.specs.{Fits, job_graph, job_of, key_count};
 ghost use Rattle.block_cache.specs.{size_for};
@@ -20,6 +20,27 @@ use std::marker::Model;
 use std::snapshot::Snapshot;
 use std::sync::ledger::Ledger;
 
+/// A cluster was processed to its end, or up to its first fault.
+#[derive(Clone, Copy, Debug, PartialEq, Eq)]
+pub enum Progress {
+    Done,
+    Faulted(Fault),
+}
+
+/// Why a cluster was not processed.
+#[derive(Clone, Copy, Debug, PartialEq, Eq)]
+pub enum SlotStop {
+    Memory,
+}
+
+/// Whether a slot goes on: not after a fault, nor after want of memory.
+#[derive(Clone, Copy, Debug, PartialEq, Eq)]
+pub enum Phase {
+    Going,
+    Faulted,
+    NoMemory,
+}
+
 /// One slot of a loop.
 #[derive(Drop)]
 pub struct SlotState {
@@ -28,6 +49,7 @@ pub struct SlotState {
     tally: Tally,
     // contracts alone read the finished clusters: a snapshot takes no bytes
     done: Vec<Snapshot<u32>>,
+    phase: Phase,
 }
 
 impl Model for SlotState {
@@ -36,7 +58,7 @@ impl Model for SlotState {
 
     ghost Value = { SlotView };
 
-    ghost view = { λ s. record { blocks = s.blocks; vectors = s.vectors; tally = s.tally; room = vec_capacity s.done; done = map (λ c. c.value) s.done.items } };
+    ghost view = { λ s. record { blocks = s.blocks; vectors = s.vectors; tally = s.tally; room = vec_capacity s.done; done = map (λ c. c.value) s.done.items; phase = s.phase } };
 }
 
 impl SlotState {
@@ -56,37 +78,63 @@ impl SlotState {
             vectors,
             tally,
             done,
+            phase: Phase::Going,
         })
     }
 
-    /// Processes a cluster above all that the slot finished. A fault ends the slot, and so does want of memory.
+    /// Processes a cluster above all that the slot finished.
     pub fn process<L: Ledger>(
-        mut self,
+        &mut self,
         job: &Job<'_>,
         cluster: u32,
         steps: &mut Steps<L>,
-    ) -> Result<SlotState, BlockStop>
+    ) -> Result<Progress, SlotStop>
         requires job { Fits job.now }
-        requires slot { IsSlotOf (job_facts (job_of job.now)) self }
+        requires slot { IsSlotOf (job_facts (job_of job.now)) self.old }
         requires cluster { cluster < length (job_facts (job_of job.now)).faults }
-        requires above { All (λ c. c < cluster) self.done }
-        ensures slot { IfOk result (λ s. IsSlotOf (job_facts (job_of job.now)) s) }
-        ensures done { IfOk result (λ s. (slice_get (job_facts (job_of job.now)).faults cluster ≡ Some None) × (s.done ≡ self.done ++ cluster ∷ [])) }
-        ensures faulted { (f : Fault) → result ≡ Err (BlockStop.Fault f) → slice_get (job_facts (job_of job.now)).faults cluster ≡ Some (Some f) }
-        ensures plain { IsPlainSlot (job_of job.now) → result ≢ Err BlockStop.Memory }
-        ensures bound { steps.new ≤ steps.old + 2 * span_demands (job_of job.now) (size_for (key_count (job_graph (job_of job.now)))) self.vectors cluster }
+        requires above { All (λ c. c < cluster) self.old.done }
+        requires open { self.old.phase ≢ Phase.Faulted }
+        ensures slot { IsSlotOf (job_facts (job_of job.now)) self.new }
+        ensures done { result ≡ Ok Progress.Done → (self.old.phase ≡ Phase.Going) × (slice_get (job_facts (job_of job.now)).faults cluster ≡ Some None)
+            × (self.new.done ≡ self.old.done ++ cluster ∷ []) × (self.new.phase ≡ Phase.Going) }
+        ensures faulted { (f : Fault) → result ≡ Ok (Progress.Faulted f) → (self.old.phase ≡ Phase.Going) × (slice_get (job_facts (job_of job.now)).faults cluster ≡ Some (Some f))
+            × (self.new.done ≡ self.old.done) × (self.new.phase ≡ Phase.Faulted) }
+        ensures memory { result ≡ Err SlotStop.Memory → (self.new.done ≡ self.old.done) × (self.new.phase ≡ Phase.NoMemory) }
+        ensures kept { self.old.phase ≡ Phase.NoMemory → result ≡ Err SlotStop.Memory }
+        ensures plain { IsPlainSlot (job_of job.now) → self.old.phase ≡ Phase.Going → result ≢ Err SlotStop.Memory }
+        ensures bound { steps.new ≤ steps.old + 2 * span_demands (job_of job.now) (size_for (key_count (job_graph (job_of job.now)))) self.old.vectors cluster }
     {
-        self.blocks
-            .try_cluster(job, cluster, self.vectors, &mut self.tally, steps)?;
-        if let Err(Memory) = self.tally.close(cluster) {
-            return Err(BlockStop::Memory);
+        if let Phase::NoMemory = self.phase {
+            return Err(SlotStop::Memory);
         }
-        self.done.push_reserved(Snapshot::of(&cluster));
-        Ok(self)
+        match self
+            .blocks
+            .try_cluster(job, cluster, self.vectors, &mut self.tally, steps)
+        {
+            Ok(()) => match self.tally.close(cluster) {
+                Ok(()) => {
+                    self.done.push_reserved(Snapshot::of(&cluster));
+                    Ok(Progress::Done)
+                }
+                Err(Memory) => {
+                    self.phase = Phase::NoMemory;
+                    Err(SlotStop::Memory)
+                }
+            },
+            Err(BlockStop::Fault(fault)) => {
+                self.phase = Phase::Faulted;
+                Ok(Progress::Faulted(fault))
+            }
+            Err(BlockStop::Memory) => {
+                self.phase = Phase::NoMemory;
+                Err(SlotStop::Memory)
+            }
+        }
     }
 
     /// What the clusters that the slot finished come to, with a trail for each watched result.
     pub fn into_piece(self) -> LoopPiece
+        requires { self.phase ≡ Phase.Going }
         ensures stands { (job : JobFacts) → IsSlotOf job self → StandsFor job.facts self.done result }
         ensures trails { (job : JobFacts) → IsSlotOf job self → HaveTrails job.facts job.watched self.done result.trails.items }
     {

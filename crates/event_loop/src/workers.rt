@@ -6,8 +6,7 @@ ghost use Rattle.loop_keys.specs.{Fits, IsJob, job_graph, job_of};
 ghost use Rattle.event_loop.specs.{CanRun, HasNoted, HasRoom, HasRun, HasStopped, IsFresh, job_facts, job_with};
 ghost use Rattle.event_loop.specs.declared.workers.Finished.{Finished};
 
-use crate::SlotState;
-use block_passes::BlockStop;
+use crate::{Progress, SlotState, SlotStop};
 use expr_eval::Steps;
 use loop_keys::Job;
 use loop_pieces::LoopPiece;
@@ -82,15 +81,14 @@ fn work<L: Ledger, G: Gate>(
     let mut steps: Steps<L> = Steps::open(blank);
     while let Some(cluster) = shared.claims.claim(&mut slot.seat) {
         gate.turn(slot.seat.slot(), cluster);
-        state = match state.process(job, cluster, &mut steps) {
-            Ok(next) => next,
-            Err(BlockStop::Fault(fault)) => {
+        match state.process(job, cluster, &mut steps) {
+            Ok(Progress::Done) => note(&shared.book, &mut slot.share),
+            Ok(Progress::Faulted(fault)) => {
                 shared.claims.lower(&mut slot.seat, cluster);
                 return End::Faulted(fault);
             }
-            Err(BlockStop::Memory) => return End::NoMemory,
-        };
-        note(&shared.book, &mut slot.share);
+            Err(SlotStop::Memory) => return End::NoMemory,
+        }
     }
     End::Over(state.into_piece())
 }

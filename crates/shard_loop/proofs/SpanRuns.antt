@@ -7,7 +7,7 @@ use Rattle.rdf_values.proofs.Evenly.{cuts_lead}
 use Rattle.rdf_model.specs.{first_of}
 use Rattle.loop_keys.specs.{IsJob, job_spans, JobView, passes_in}
 use Rattle.loop_pieces.specs.{cluster_fault}
-use Rattle.event_loop.specs.{IsFreshSlot, IsSlotOf, job_facts, SlotView}
+use Rattle.event_loop.specs.{IsFreshSlot, IsSlotOf, job_facts, Phase, SlotView}
 use Rattle.shard_spans.specs.{clusters_in}
 use Rattle.shard_spans.proofs.SpanFaults.{below_end, clusters_more, clusters_none, first_faulty_cluster_has_the_fault, first_next, first_stays}
 use Rattle.shard_loop.specs.{loop_fault}
@@ -16,10 +16,11 @@ use Rattle.shard_loop.specs.{loop_fault}
 abbrev pub fault_in : JobView → ℕ → Option Fault
 fault_in j = cluster_fault j.dataset (job_spans j) (passes_in j)
 
--- the slot finished the clusters from lo to below c, and none of them has a fault
+-- the slot goes on; it finished the clusters from lo to below c, and none of them has a fault
 pub record IsUpTo (j : JobView) (lo c : ℕ) (s : SlotView) : Type 0 where
   pub low : lo ≤ c
   pub slot : IsSlotOf (job_facts j) s
+  pub going : s.phase ≡ Phase.Going
   pub done : s.done ≡ clusters_in lo c
   pub sound : first_in (map (fault_in j) (clusters_in lo c)) ≡ None
 
@@ -34,6 +35,7 @@ module _ (j : JobView) where
   begun lo s fresh = record {
     low = omega arith;
     slot = fresh.slot;
+    going = fresh.going;
     done = fresh.none ∙ sym (clusters_none lo);
     sound = ap (λ l. first_in (map (fault_in j) l)) (clusters_none lo);
   }
@@ -43,12 +45,13 @@ module _ (j : JobView) where
 
   -- one more cluster, which has no fault
   pub goes_on : (lo c n : ℕ) (s t : SlotView) → n ≡ c + 1 → c < length (job_spans j) → IsUpTo j lo c s → IsSlotOf (job_facts j) t
-      → slice_get (job_facts j).faults c ≡ Some None → t.done ≡ s.done ++ c ∷ [] → IsUpTo j lo n t
-  goes_on lo c n s t next lt up slot none done =
+      → slice_get (job_facts j).faults c ≡ Some None → t.done ≡ s.done ++ c ∷ [] → t.phase ≡ Phase.Going → IsUpTo j lo n t
+  goes_on lo c n s t next lt up slot none done going =
       let low = up.low in
       record {
         low = omega arith;
         slot = slot;
+        going = going;
         done = done ∙ ap (λ l. l ++ c ∷ []) up.done ∙ sym (clusters_more lo c up.low) ∙ ap (clusters_in lo) (sym next);
         sound = ap (λ k. first_in (map (fault_in j) (clusters_in lo k))) next ∙ first_next (fault_in j) lo c up.low ∙ ap₂ first_of up.sound (its_fault c None lt none);
       }

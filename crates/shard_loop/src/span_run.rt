@@ -4,8 +4,7 @@ ghost use Rattle.rdf_values.specs.{history, StatementsHaveWords};
 ghost use Rattle.loop_keys.specs.{Fits, job_of, job_spans};
 ghost use Rattle.shard_loop.specs.{IsSpanned};
 
-use block_passes::BlockStop;
-use event_loop::SlotState;
+use event_loop::{Progress, SlotState, SlotStop};
 use expr_eval::Steps;
 use loop_keys::Job;
 use loop_pieces::LoopPiece;
@@ -40,11 +39,11 @@ fn process_span<L: Ledger>(
     let mut state = SlotState::new(alloc, job)?;
     let mut steps: Steps<L> = Steps::open(blank);
     for cluster in lo..hi {
-        state = match state.process(job, cluster, &mut steps) {
-            Ok(next) => next,
-            Err(BlockStop::Fault(fault)) => return Ok(Spanned::Faulted(fault)),
-            Err(BlockStop::Memory) => return Err(Memory),
-        };
+        match state.process(job, cluster, &mut steps) {
+            Ok(Progress::Done) => {}
+            Ok(Progress::Faulted(fault)) => return Ok(Spanned::Faulted(fault)),
+            Err(SlotStop::Memory) => return Err(Memory),
+        }
     }
     Ok(Spanned::Whole(state.into_piece()))
 }

@@ -1,4 +1,4 @@
-use Rattle.std.proofs.Common.{◌≡◌, ◌+◌, ◌∷◌, ◌++◌, List, [], ℕ, length, inl, inr, sym, ap, ◌∙◌, subst, length-append}
+use Rattle.std.proofs.Common.{◌≡◌, ◌+◌, ◌∷◌, ◌++◌, List, [], ℕ, Ok, length, inl, inr, sym, ap, ◌∙◌, subst, length-append}
 use Rattle.slot_words.specs.{SeatSeen}
 use Rattle.slot_words.specs.Seats.{IsOf}
 use Rattle.loop_keys.specs.{job_of}
@@ -15,23 +15,25 @@ loop-cluster-preserved g c =
     let faults = (job_facts (job_of c.args.job.now)).faults in
     let done = c.loop-cluster.state.done in
     let cluster = c.in-Some.cluster in
-    let d = c.in-Ok-process.ensures.done in
-    let more : length c.in-Ok-process.next.done ≡ length done + 1 = ap length d.1 ∙ length-append done (cluster ∷ []) in
+    let d = c.process.ensures.done (c.in-Ok-Done.is ∙ ap Ok c.in-Ok-Done.field-0-is) in
+    let more : length c.process.new.self.done ≡ length done + 1 = ap length d.2 ∙ length-append done (cluster ∷ []) in
     record {
       seat_of = c.in-Some.ensures.of.0;
       unkept = c.in-Some.ensures.some.2;
       unpassed = c.in-Some.ensures.some.3;
       unlowered = c.in-Some.ensures.of.2;
-      slot = c.in-Ok-process.ensures.slot;
+      slot = c.process.ensures.slot;
       noted = subst (λ (n : ℕ). HasNoted c.args.shared.now.book n c.note.new.share) (sym more) (c.note.ensures (length done) inv.noted);
-      sound = sound_more faults done c.in-Ok-process.next.done cluster inv.sound d.0 d.1;
-      done = d.1 ∙ ap (λ (l : List ℕ). l ++ cluster ∷ []) inv.done ∙ sym c.in-Some.ensures.some.1;
+      sound = sound_more faults done c.process.new.self.done cluster inv.sound d.1 d.2;
+      done = d.2 ∙ ap (λ (l : List ℕ). l ++ cluster ∷ []) inv.done ∙ sym c.in-Some.ensures.some.1;
+      going = d.3;
     }
 
-pub returns-in-Err-Fault : goal.returns-in-Err-Fault
-returns-in-Err-Fault g c =
+pub returns-in-Ok-Faulted : goal.returns-in-Ok-Faulted
+returns-in-Ok-Faulted g c =
     let inv = c.loop-cluster.invariant in
     let cluster = c.in-Some.cluster in
+    let f = c.process.ensures.faulted c.in-Ok-Faulted.fault (c.in-Ok-Faulted.is ∙ ap Ok c.in-Ok-Faulted.field-0-is) in
     record {
       seat_of = subst (IsOf c.args.shared.now.claims) (sym c.lower.ensures) c.in-Some.ensures.of.0;
       stopped = record {
@@ -40,7 +42,7 @@ returns-in-Err-Fault g c =
         others = ap (λ (s : SeatSeen). s.drawn) c.lower.ensures ∙ c.in-Some.ensures.some.1 ∙ ap (λ (l : List ℕ). l ++ cluster ∷ []) (sym inv.done);
         sound = inv.sound;
         noted = inv.noted;
-        its_fault = c.in-Err-Fault.ensures.faulted c.in-Err-Fault.fault (cc);
+        its_fault = f.1;
         lowered = ap (λ (s : SeatSeen). s.lowered) c.lower.ensures;
       };
     }
