@@ -13,8 +13,7 @@ use Rattle.cluster_tally.proofs.Steps.{entries_room, in_before, in_from, in_same
 
 -- an action that is watched keeps no values
 pub none_kept : (k : ActionKind) → CanWatch k → IsTake k → ⊥
-none_kept (ActionKind.Take c) w t = w
-none_kept k w t = assumption (w, t)
+none_kept k w t = grind arith
 
 -- ---- the ends of a block
 
@@ -161,8 +160,7 @@ module _ (f : LoopFacts) (watched : List ℕ) (s : BlockStage) (t : TallyView) (
     alone_after = let it = something_at t.watched pass within_watched in go it.0 it.1
       where
         go : (o : Option Accumulator) → slice_get t.watched pass ≡ Some o → AloneAfter
-        go None at = unwatched at
-        go (Some old) at = watched_one old at
+        go o h = grind (arith, unwatched, watched_one)
 
     pub holds_fed : HoldsIn f watched (pass_done s) (record { accs = accs; watched = alone; flow = t.flow; trails = t.trails })
     holds_fed =

@@ -1,7 +1,7 @@
 -- The end of a cluster.
 use Rattle.std.proofs.Common.{◌≡◌, ℕ, zero, suc, ◌+◌, ◌<◌, List, [], ◌∷◌, ◌++◌, length, map, take, drop, set, get_or, Option, None, Some, refl, sym, ap, ap₂, ◌∙◌, subst, arith, append_assoc, append-nil, All, Err, Ok, OnOk, Result, flat_map, slice_get}
 use Rattle.lemmas.proofs.{All-push, All-weaker, flat_map-append, IsStrictlyIncreasing, same_Some, slice_get-get_or}
-use Rattle.std.proofs.lemmas.List.{drop-drop, drop-set-lt, drop_more, length-map, length-set, map-append, map_more, take_all, take_more_set, length-take, length-drop}
+use Rattle.std.proofs.lemmas.List.{drop-drop, drop-set-lt, drop_more, length-map, length-set, map-append, map_more, take_all, take_more_set}
 use Rattle.rdf_values.proofs.UnionLemmas.{map-below, rises_push}
 use Rattle.rdf_values.specs.{ActionKind, fold_items, Item, Span}
 use Rattle.rdf_model.specs.{if_there, list_at, Reach, span_rows}
@@ -11,7 +11,7 @@ use Rattle.loop_pieces.specs.{cluster_items, fed_over, IsOfKind, IsTrail, watch_
 use Rattle.merge_core.specs.{Noted}
 use Rattle.loop_pieces.proofs.ByCluster.{items_in_order}
 use Rattle.cluster_tally.specs.{at_begin, CanWatch, counts_by, fed_by, first_items, first_reaches, fresh_acc, Holds, IsAtEnd, IsFedAlone, note_of, noted_all, noted_at, piece_for, places_there, renewed, Stage, taken_in, TallyView, times_there}
-use Rattle.cluster_tally.proofs.Pieces.{of_mapped, counts_at_begin, fed_at_begin, fresh_alone}
+use Rattle.cluster_tally.proofs.Pieces.{of_mapped, ranges_same, counts_at_begin, fed_at_begin, fresh_alone}
 use Rattle.cluster_tally.proofs.Steps.{counted_both, entries_with, in_from}
 
 -- ---- the loop over the watchers
@@ -106,9 +106,7 @@ noted_there c place (None ∷ ws) n ts w trail at is =
     record { i = suc r.i; its_place = omega (arith, r.its_place); acc = r.acc; its_acc = r.its_acc; before = r.before; was = r.was; now = r.now }
 noted_there c place (Some a ∷ ws) n [] w trail at is = absurd (cc)
 noted_there c place (Some a ∷ ws) n (t ∷ ts) zero trail at is =
-    let here : n ≡ place = cc in
-    let now : t ++ note_of c a ∷ [] ≡ trail = same_Some (t ++ note_of c a ∷ []) trail is in
-    record { i = 0; its_place = omega arith; acc = a; its_acc = refl; before = t; was = refl; now = sym now }
+    record { i = 0; its_place = omega (arith, same_Some n place at); acc = a; its_acc = refl; before = t; was = refl; now = sym (same_Some _ trail is) }
 noted_there c place (Some a ∷ ws) n (t ∷ ts) (suc w) trail at is =
     let r = noted_there c place ws (n + 1) ts w trail at is in
     record { i = suc r.i; its_place = omega (arith, r.its_place); acc = r.acc; its_acc = r.its_acc; before = r.before; was = r.was; now = r.now }
@@ -143,7 +141,7 @@ module _ (f : LoopFacts) (watched : List ℕ) (s : Stage) (t : TallyView) (clust
   -- ---- counts
 
   span_same : (o : Option Span) → length (span_rows f.reaches o) ≡ length (span_rows f.spreads o)
-  span_same o = grind (arith, length-take, length-drop)
+  span_same o = grind (arith, ranges_same)
 
   reaches_all : (i : ℕ) → first_reaches f s.cluster (taken_in s.entries 1 s.filters i) i ≡ flat_map (λ (row : List Reach). if_there (slice_get row i)) (span_rows f.reaches (slice_get f.ranges s.cluster))
   reaches_all i = grind (arith, in_from, take_all, all_taken, span_same)
@@ -215,5 +213,4 @@ module _ (f : LoopFacts) (watched : List ℕ) (s : Stage) (t : TallyView) (clust
   holds_closed = subst (λ c. Holds f watched (at_begin (s.done ++ c ∷ []) next) (record { accs = t.accs; watched = map renewed t.watched; flow = t.flow; trails = noted_all c t.watched t.trails })) end.at_cluster at_own
 
 pub on_both_ok : {A E : Type 0} (r : Result A E) {P Q R : Type 0} → (P → Q → R) → OnOk r P → OnOk r Q → OnOk r R
-on_both_ok (Ok x) h p q = h p q
-on_both_ok (Err e) h p q = tt
+on_both_ok r h p q = grind arith

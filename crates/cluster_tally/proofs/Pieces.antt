@@ -1,9 +1,10 @@
 -- A tally's first and last moments, and the lists that it begins clusters with.
-use Rattle.std.proofs.Common.{◌≡◌, ℕ, zero, suc, ◌+◌, List, [], ◌∷◌, ◌++◌, length, map, set, Option, None, Some, ◌⊎◌, inl, inr, refl, sym, ap, ◌∙◌, arith, slice_get, ◌<◌, replicate, subst, append-nil, Bool, true, false}
-use Rattle.rdf_values.specs.{ActionKind, below}
+use Rattle.std.proofs.Common.{◌≡◌, ℕ, zero, suc, ◌+◌, List, [], ◌∷◌, ◌++◌, length, map, drop, set, Option, None, Some, ◌⊎◌, inl, inr, refl, sym, ap, ◌∙◌, arith, ◌-◌, slice_get, slice_range, ◌<◌, replicate, subst, append-nil, Bool, true, false}
+use Rattle.std.proofs.lemmas.List.{length-drop, length-take}
+use Rattle.rdf_values.specs.{ActionKind, Span, below}
 use Rattle.actions.specs.{Accumulator, HasFed}
 use Rattle.cluster_tally.specs.{places_there, CanWatch, counts_by, fed_by, fresh_acc, IsFedAlone, IsFedBy, taken_in, acc_if, at_begin, Holds, IsFresh, place_if, TallyView, with_trail}
-use Rattle.lemmas.proofs.{All-nil, length-map, map-id, map-map, before_or_last, kept_at, last_at, length_push, map-append, slice_get-get_or}
+use Rattle.lemmas.proofs.{All-nil, length-map, map-id, map-map, before_or_last, kept_at, last_at, length_push, map-append, slice_get-get_or, slice_get-map}
 use Rattle.rdf_values.proofs.UnionLemmas.{length-below, map-below, none_rises}
 use Rattle.rdf_model.specs.declared.loop_facts.LoopFacts.{LoopFacts}
 use Rattle.loop_pieces.specs.{counts_at, fed_over, HaveTrails, nothing, WatchPiece, LoopPiece, StandsFor}
@@ -15,9 +16,7 @@ abbrev pub kind_at : Accumulator → ActionKind
 kind_at acc = acc.kind
 
 pub of_mapped : {A B : Type 0} (g : A → B) (xs : List A) (i : ℕ) (y : B) → slice_get (map g xs) i ≡ Some y → (x : A) × (slice_get xs i ≡ Some x) × (y ≡ g x)
-of_mapped g [] i y e = absurd (cc)
-of_mapped g (x ∷ xs) zero y e = let same : g x ≡ y = cc in (x, refl, sym same)
-of_mapped g (x ∷ xs) (suc i) y e = of_mapped g xs i y e
+of_mapped g xs i y e = grind (arith, slice_get-map)
 
 -- what stands at a place after a write
 pub at_set : {A : Type 0} (xs : List A) (i : ℕ) (v : A) (j : ℕ) (x : A) → slice_get (set xs i v) j ≡ Some x → ((j ≡ i) × (x ≡ v)) ⊎ ((j ≡ i → ⊥) × (slice_get xs j ≡ Some x))
@@ -39,6 +38,10 @@ places_kept (None ∷ xs) n zero v x at = absurd (cc)
 places_kept (Some a ∷ xs) n zero v x at = refl
 places_kept (None ∷ xs) n (suc i) v x at = places_kept xs (n + 1) i v x at
 places_kept (Some a ∷ xs) n (suc i) v x at = ap (λ l. n ∷ l) (places_kept xs (n + 1) i v x at)
+
+-- lists of one length have as many in a range
+pub ranges_same : {A B : Type 0} (xs : List A) (ys : List B) (r : Span) → length xs ≡ length ys → length (slice_range xs r.lo r.hi) ≡ length (slice_range ys r.lo r.hi)
+ranges_same xs ys r e = omega (arith, length-take (r.hi - r.lo) (drop r.lo xs), length-take (r.hi - r.lo) (drop r.lo ys), length-drop r.lo xs, length-drop r.lo ys)
 
 pub places_more : (xs : List (Option Accumulator)) (n : ℕ) (o : Option Accumulator) → places_there n (xs ++ o ∷ []) ≡ places_there n xs ++ places_there (n + length xs) (o ∷ [])
 places_more [] n o = let e : n ≡ n + 0 = omega arith in ap (λ k. places_there k (o ∷ [])) e
@@ -62,7 +65,7 @@ module _ (f : LoopFacts) (done : List ℕ) (c : ℕ) where
 -- ---- a fresh tally
 
 fresh_by : (f : LoopFacts) (c i : ℕ) (k : ActionKind) → IsFedBy f [] c (taken_in 0 1 0 i) i (fresh_acc k)
-fresh_by f c i k = grind (arith, in_from)
+fresh_by f c i k = grind (arith, fed_at_begin)
 
 pub fresh_alone : (f : LoopFacts) (c i : ℕ) (k : ActionKind) → slice_get f.kinds i ≡ Some k → CanWatch k → IsFedAlone f c (taken_in 0 1 0 i) i (fresh_acc k)
 fresh_alone f c i k at watch = record { kind = at; watch = watch; held = fresh_by f c i k }
@@ -103,8 +106,7 @@ with_pass t b k = record { accs = t.accs ++ fresh_acc k ∷ []; watched = t.watc
 
 module _ (kinds : List ActionKind) (watched : List ℕ) (t : TallyView) (k : ActionKind) (h : IsFresh kinds watched t) where
   places_now : (b : Bool) → places_there (length t.watched) (acc_if b k ∷ []) ≡ place_if b kinds
-  places_now true = ap (λ n. n ∷ []) h.many
-  places_now false = refl
+  places_now b = grind arith
 
   alone_now : (b : Bool) → (b ≡ true → CanWatch k) → (i : ℕ) (acc : Accumulator) → slice_get (t.watched ++ acc_if b k ∷ []) i ≡ Some (Some acc)
       → (j : ActionKind) × (slice_get (kinds ++ k ∷ []) i ≡ Some j) × CanWatch j × (acc ≡ fresh_acc j)
@@ -114,8 +116,7 @@ module _ (kinds : List ActionKind) (watched : List ℕ) (t : TallyView) (k : Act
   ]
     where
       if_there : (b : Bool) → acc_if b k ≡ Some acc → (b ≡ true) × (acc ≡ fresh_acc k)
-      if_there true e = (refl, cc)
-      if_there false e = absurd (cc)
+      if_there b e = grind arith
 
   trails_now : (b : Bool) → with_trail b t.trails ≡ map (λ p. []) (watched ++ place_if b kinds)
   trails_now true = ap (λ l. l ++ [] ∷ []) h.trails ∙ sym (map-append (λ p. []) watched (length kinds ∷ []))

@@ -31,8 +31,7 @@ items_next f s i = grind (arith, take_plus, flat_map-append, map-append)
 -- ---- counts
 
 pub counted_both : (rs more : List Reach) → counted (rs ++ more) ≡ both (counted rs) (counted more)
-counted_both rs more =
-    ap₂ (λ a p. record { all = a; pass = p }) (sum_by-append (λ r. cond (is_reached r) 1 0) rs more) (sum_by-append (λ r. cond (is_passed r) 1 0) rs more)
+counted_both rs more = grind (arith, sum_by-append)
 
 pub both_assoc : (a b c : Counts) → both a (both b c) ≡ both (both a b) c
 both_assoc a b c = ap₂ (λ x y. record { all = x; pass = y }) (sym (add_assoc a.all b.all c.all)) (sym (add_assoc a.pass b.pass c.pass))
@@ -53,8 +52,7 @@ entries_with f done c =
     ∙ ap (λ (l : List (List (List Item))). entries_over f done + length l) (append-nil (span_rows f.spreads (slice_get f.ranges c)))
 
 one_row : (o : Option Reach) → count_by is_reached (if_there o) ≤ 1
-one_row None = omega arith
-one_row (Some r) = grind (arith, common_steps)
+one_row o = grind (arith, common_steps)
 
 pub few_reached : (rows : List (List Reach)) (i : ℕ) → count_by is_reached (flat_map (λ (row : List Reach). if_there (slice_get row i)) rows) ≤ length rows
 few_reached [] i = omega arith
@@ -64,8 +62,7 @@ few_reached (row ∷ rows) i =
     omega (arith, sum_by-append (λ r. cond (is_reached r) 1 0) (if_there (slice_get row i)) (flat_map (λ (r : List Reach). if_there (slice_get r i)) rows))
 
 pub span_few : {A : Type 0} (rows : List A) (o : Option Span) → length (span_rows rows o) ≤ length rows
-span_few rows None = omega arith
-span_few rows (Some s) = omega (arith, length-take (s.hi - s.lo) (drop s.lo rows), length-drop s.lo rows)
+span_few rows o = grind (arith, length-take, length-drop)
 
 module _ (f : LoopFacts) (watched : List ℕ) (s : BlockStage) (t : TallyView) (h : HoldsIn f watched s t) where
   pub entries_room : IsWithin f s → entries_over f s.done + s.entries + s.block ≤ 1000000

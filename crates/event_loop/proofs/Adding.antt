@@ -11,7 +11,7 @@ use Rattle.graph_numbers.proofs.Walks.{by_test, of_joined, only_at}
 use Rattle.graph.proofs.Filled.{all_in_turn, later_named}
 use Rattle.cluster_tally.specs.{CanWatch, IsFresh, place_if, TallyView}
 use Rattle.event_loop.proofs.LoopResults.{kept_any, one_number}
-use Rattle.rdf_model.specs.{is_covered, kind_in, kinds_in}
+use Rattle.rdf_model.specs.{kind_in, kinds_in}
 use Rattle.graph_numbers.specs.{graph_filters, graph_loops, graph_results, graph_under, graph_variations, GraphView, kind_of_booking, Pass as NumberedPass, pass_at, ResultAt, ResultKind}
 use Rattle.graph_numbers.proofs.Resulting.{booked_are}
 use Rattle.loop_keys.specs.{IsJob, job_graph, JobView, numbered_in, numbered_passes, passes_in}
@@ -153,20 +153,13 @@ module _ (j : JobView) (n : ℕ) (m : NumberedPass) (its : numbered_in j n ≡ S
   named = grind (arith, booked_is)
 
   pub is_its_pass : (g : GraphView) → g ≡ job_graph j → IsPassOf g m
-  is_its_pass g same =
-      let ps = of_chosen (slice_get (graph_loops (job_graph j)) j.number) n m its in
-      record {
-        its_result = result_within g same;
-        its_variation = subst (λ (h : GraphView). (v : ℕ) → m.variation ≡ Some v → v < length (graph_variations h)) (sym same)
-            (is_in_for (length (graph_variations (job_graph j))) m.variation (variation_within (job_graph j) j.number n ps.0 m ps.1 ps.2));
-      }
+  is_its_pass g h = grind (arith, of_chosen, result_within, is_in_for, variation_within)
 
   -- ---- what it is
 
   module _ (kind : ResultKind) (g : GraphView) (same : g ≡ job_graph j) (is : option_map (λ (x : ResultAt). kind_of_booking x.booked.booking) (slice_get (graph_results g) m.result) ≡ Some kind) where
     kind_is : kind_of_booking its_result.booked.booking ≡ kind
-    kind_is = same_Some _ kind (sym (ap (option_map (λ (x : ResultAt). kind_of_booking x.booked.booking)) its_result_is)
-        ∙ ap (λ (h : GraphView). option_map (λ (x : ResultAt). kind_of_booking x.booked.booking) (slice_get (graph_results h) m.result)) (sym same) ∙ is)
+    kind_is = grind (arith, same_Some, its_result_is)
 
     pub of_action : (k : ActionKind) → kind ≡ ResultKind.Action k → (at : Path) × (its_result.booked.booking ≡ ActionAt k at)
     of_action k e = action_booking its_result.booked.booking k (kind_is ∙ e)
@@ -226,5 +219,4 @@ of_all j n t le h = subst (λ (ps : List Pass). IsFresh (kinds_in ps) (watched_p
 -- ---- named filters
 
 pub filters_same : (j : JobView) (g : GraphView) → g ≡ job_graph j → length (graph_filters g) ≡ length (named_before (history j.script))
-filters_same j g e =
-    ap (λ (h : GraphView). length (graph_filters h)) e ∙ sym (covered_count j) ∙ length-map (named_before (history j.script)) (is_covered (passes_in j))
+filters_same j g e = grind (arith, covered_count, length-map)

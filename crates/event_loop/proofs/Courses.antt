@@ -248,5 +248,4 @@ module _ (s0 s : SessionView) (is : IsSession s) (parts : HasSameParts s0 s) whe
 
 -- how many Prints there are
 pub prints_are : (g other : GraphView) (n : ℕ) → other ≡ g → n ≡ length (graph_prints other) → n ≡ length (accesses (history g.script))
-prints_are g other n same_graph e =
-    e ∙ ap (λ (h : GraphView). length (graph_prints h)) same_graph ∙ length-map (accesses (history g.script)) (λ (a : Access). result_number (history g.script) a.result)
+prints_are g other n same_graph e = grind (arith, length-map)

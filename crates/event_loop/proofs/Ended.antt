@@ -148,8 +148,7 @@ module _ (c : ClaimsSeen) (b : Option BookSeen) (job : JobFacts) (bar : ℕ) whe
       All-cons IsDone f fs first.0 (all_done fs high (All-tail Ran f fs ran) (All-tail HasMemory f fs memory) first.1 (All-tail (IsPassed bar) (seat_in f) (map seat_in fs) passed))
 
   kept_more : (o : Option ℕ) (word : ℕ) → IsSomeAnd o (λ k. c.clusters ≤ k) → IfSome o (λ k. (c.clusters ≤ k) × (k < word)) → c.clusters ≤ word
-  kept_more None word s k = elim s [ ]
-  kept_more (Some n) word s k = let x = k.0 in let y = k.1 in omega arith
+  kept_more o word s k = grind arith
 
   all_drawn : (fs : List Finished) (word : ℕ) → 0 < length fs → All IsDone fs → All (IsKept c.clusters word) (map seat_in fs) → c.clusters ≤ word
   all_drawn [] word some done kept = absurd (omega arith)
@@ -174,22 +173,11 @@ module _ (c : ClaimsSeen) (b : Option BookSeen) (job : JobFacts) (bar : ℕ) whe
 
   pub have_ended : (fs slots : List Finished) (word : ℕ) (told : Option Fault) (seats : List SeatSeen) → 0 < length fs → slots ≡ fs → All HasMemory slots → told ≡ least_fault (end_faults slots) → seats ≡ map seat_in fs
       → DrawnBy (map (λ (s : SeatSeen). s.drawn) seats) (min word c.clusters) → IsLeast c.clusters seats bar → All (IsPassed bar) seats → All (IsKept c.clusters word) seats → HaveEnded fs word told
-  have_ended fs slots word told seats some same memory least are drawn lowest passed kept = record {
-    some = some;
-    memory = subst (All HasMemory) same memory;
-    least = least ∙ ap (λ (l : List Finished). least_fault (end_faults l)) same;
-    drawn = subst (λ (l : List SeatSeen). DrawnBy (map (λ (s : SeatSeen). s.drawn) l) (min word c.clusters)) are drawn;
-    lowest = subst (λ (l : List SeatSeen). IsLeast c.clusters l bar) are lowest;
-    passed = subst (All (IsPassed bar)) are passed;
-    kept = subst (All (IsKept c.clusters word)) are kept;
-  }
+  have_ended fs slots word told seats some same memory least are drawn lowest passed kept = grind arith
 
   module _ (fs : List Finished) (word : ℕ) (told : Option Fault) (facts : AreFacts c.clusters job) (ran : All Ran fs) (h : HaveEnded fs word told) where
     high_bar : end_faults fs ≡ [] → c.clusters ≤ bar
-    high_bar none = elim (subst (λ (l : List Fault). (length job.faults ≤ bar) ⊎ IsReached l) none (reaches fs (sym facts.faults) ran h.memory h.lowest)) [
-      | inl le ↦ omega (arith, le, facts.faults)
-      | inr r ↦ elim r.1 [ ]
-    ]
+    high_bar none = grind (arith, reaches)
 
     done : end_faults fs ≡ [] → All IsDone fs
     done none = all_done fs (high_bar none) ran h.memory none h.passed

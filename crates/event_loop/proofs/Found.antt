@@ -1,5 +1,5 @@
 -- The passes of a loop by numbers and by names, and the place of a result among them.
-use Rattle.std.proofs.Common.{if◌then◌else◌, ◌≡◌, ℕ, ◌+◌, Bool, true, false, ◌&&◌, List, [], ◌∷◌, ◌++◌, map, take, drop, length, Option, None, Some, refl, sym, ap, ◌∙◌, subst, arith, length-append, append_assoc, is_none, option_map, slice_get, ◌*◌, ◌≤◌, filter, ap₂, count_by}
+use Rattle.std.proofs.Common.{if◌then◌else◌, ◌≡◌, ℕ, ◌+◌, Bool, true, ◌&&◌, List, [], ◌∷◌, ◌++◌, map, take, drop, length, Option, None, Some, refl, sym, ap, ◌∙◌, subst, arith, length-append, append_assoc, is_none, option_map, slice_get, ◌*◌, ◌≤◌, filter, ap₂, count_by}
 use Rattle.lemmas.proofs.{cond_both, flat_map-append, kept_at, length-map, mapped_at, nat_tests, position, same_some, slice_get-map, something_at, take-append-drop, take_front, take_next}
 use Rattle.rdf_values.specs.{Booked, bookings, is_watched, Pass, Statement, Under, has_variations, passes_of, result_depends, Variation, variations, scope_of}
 use Rattle.rdf_model.specs.{kind_in, kinds_in, loop_passes, loop_results}
@@ -40,8 +40,7 @@ booked_row g r x at = ap (λ (bs : List Booked). slice_get bs r) (sym (booked_ar
 
 -- what is known of the row is known of what was booked
 pub of_row : {A : Type 0} (f : Booked → A) (o : Option ResultAt) (b : Booked) (a : A) → option_map (λ (x : ResultAt). x.booked) o ≡ Some b → option_map (λ (x : ResultAt). f x.booked) o ≡ Some a → a ≡ f b
-of_row f None b a h k = absurd (cc)
-of_row f (Some x) b a h k = sym (same_some k) ∙ ap f (same_some h)
+of_row f o b a h k = grind (arith, same_some)
 
 -- ---- counts of a pass
 
@@ -72,8 +71,7 @@ watched-append script n (p ∷ ps) qs =
 
 -- how many places a pass has doesn't hang on which they are
 place_count : (script : List Statement) (n m : ℕ) (p : Pass) → length (place_if_watched script n p) ≡ length (place_if_watched script m p)
-place_count script n m p = by_test (is_none p.under && is_watched script p.result.name)
-    (λ e. rw e (length-map (kind_in p.result.booking) (λ k. n) ∙ sym (length-map (kind_in p.result.booking) (λ k. m)))) (λ e. rw e refl)
+place_count script n m p = grind (arith, by_test, length-map)
 
 -- ---- one pass more
 
@@ -96,12 +94,10 @@ watched_more script qs q =
 -- one place where the next pass is watched
 own_places : (script : List Statement) (q : Pass) (b : Bool) (w : ℕ) → w ≡ bool_byte b
     → place_if_watched script 0 q ≡ (if b then 0 ∷ [] else []) → w ≡ length (place_if_watched script 0 q)
-own_places script q true w is e = is ∙ sym (ap (λ (l : List ℕ). length l) e)
-own_places script q false w is e = is ∙ sym (ap (λ (l : List ℕ). length l) e)
+own_places script q b w is e = grind arith
 
 pub one_or_none : (b : Bool) (w : ℕ) → w ≡ bool_byte b → w ≤ 1
-one_or_none true w is = omega arith
-one_or_none false w is = omega arith
+one_or_none b w is = grind arith
 
 -- what the passes up to the next one count for
 pub next_counts : (g : GraphView) (ps : List NumberedPass) (i : ℕ) (p : NumberedPass) (actions watched_ones a w : ℕ) (b : Bool) → slice_get ps i ≡ Some p
@@ -109,13 +105,7 @@ pub next_counts : (g : GraphView) (ps : List NumberedPass) (i : ℕ) (p : Number
     → option_map (λ (x : ResultAt). length (kind_in x.booked.booking)) (slice_get (graph_results g) p.result) ≡ Some a → w ≡ bool_byte b
     → ((n : ℕ) (q : Pass) → pass_at (booked_statements g) p ≡ Some q → place_if_watched (booked_statements g) n q ≡ (if b then n ∷ [] else []))
     → (qs : List Pass) → AreDecoded (booked_statements g) ps qs → (actions + a ≡ length (kinds_in (take (i + 1) qs))) × (watched_ones + w ≡ length (watched_places (booked_statements g) (take (i + 1) qs)))
-next_counts g ps i p actions watched_ones a w b h each own is told qs e =
-    let m = one_more (booked_statements g) ps qs i p e h in
-    let so_far = each qs e in
-    let mine = own_places (booked_statements g) m.0 b w is (told 0 m.0 m.1) in (
-      omega (arith, so_far.0, ap (λ (l : List Pass). length (kinds_in l)) m.2, kinds_more (take i qs) m.0, actions_are g p m.0 m.1 a own),
-      omega (arith, so_far.1, ap (λ (l : List Pass). length (watched_places (booked_statements g) l)) m.2, watched_more (booked_statements g) (take i qs) m.0, mine),
-    )
+next_counts g ps i p actions watched_ones a w b h each own is told qs e = grind (arith, one_more, own_places, kinds_more, actions_are, watched_more)
 
 -- ---- a loop
 

@@ -172,8 +172,7 @@ module _ (script : List Statement) where
       go : (b : Bool) → (slice_get (loops script before) l ≡ Some ps → slice_get (loop_results before) l ≡ Some results → IsLoop ps results)
           → slice_get (loops script before ++ (if b then [] else passes_from script (waits before) 0 (bookings before) ∷ [])) l ≡ Some ps
           → slice_get (loop_results before ++ cons_option (if b then None else Some (waiting before)) []) l ≡ Some results → IsLoop ps results
-      go true next p q = next (ap (λ x. slice_get x l) (sym (append-nil (loops script before))) ∙ p) (ap (λ x. slice_get x l) (sym (append-nil (loop_results before))) ∙ q)
-      go false next p q = both next (before_or_last (loops script before) (passes_from script (waits before) 0 (bookings before)) l ps p) (before_or_last (loop_results before) (waiting before) l results q)
+      go b next p q = grind (arith, append-nil, both, before_or_last)
   loop_at (s ∷ before) e l ps results at there = loop_at before (shorter s before script e) l ps results (ap (λ x. slice_get x l) (sym (append-nil (loops script before))) ∙ at) there
 
   -- in a loop that fills the result all its passes stand together

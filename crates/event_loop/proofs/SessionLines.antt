@@ -1,11 +1,11 @@
 -- The lines of what a session filled: of actions, of watched results and of reports.
-use Rattle.std.proofs.Common.{◌≡◌, ℕ, zero, suc, ◌+◌, ◌*◌, ◌<◌, List, [], ◌∷◌, ◌++◌, length, Some, refl, sym, ◌∙◌, ap, ap₂, subst, arith, append_assoc, length-append, flat_map, slice_get, ◌-◌, ◌≤◌, Bool, true, map, None, if◌then◌else◌, All, codes, inl, inr, Option, filter, option_map, unwrap_or, ◌^◌, append-nil}
+use Rattle.std.proofs.Common.{◌≡◌, ℕ, zero, suc, ◌+◌, ◌*◌, ◌<◌, List, [], ◌∷◌, ◌++◌, length, Some, refl, sym, ◌∙◌, ap, ap₂, subst, arith, append_assoc, length-append, flat_map, slice_get, ◌-◌, ◌≤◌, true, map, None, if◌then◌else◌, All, codes, inl, inr, Option, filter, option_map, unwrap_or, ◌^◌, append-nil}
 use Rattle.lemmas.proofs.{All-from_recursion, AllByRecursion, cond_both, eqb-true, join_with_byte, length-map, same_some, slice_get-map, something_at}
 use Rattle.rdf_values.specs.{ActionAt, ActionKind, Booked, Booking, Pass, Path, Span, Filled, line, below, Column, fn_names, Function, FunctionNames, has_variations, named_before, passes_of, ReportOn, result_depends, Statement, Variation, variations, varied_passes, cut, history, is_watched, Lead}
 use Rattle.rdf_model.specs.{action_pass, booking_lines, Dataset, filled_lines, kind_in, kinds_in, label, loop_facts, over_clusters, pass_lines, pass_result, in_front, maximal_runs, partial_line, partial_result, Run, run_text, value_text, cutflow, filter_label, first_fault, Course, flow_lines, partial_lines, result_lines}
 use Rattle.actions.specs.{Accumulator}
 use Rattle.graph_numbers.proofs.Walks.{by_test, joined, next_at, each_filter}
-use Rattle.loop_pieces.specs.{LoopPiece, StandsFor, ArePartialLines, IsPartialLine, PartialLine, span_of, Counts, counts_at, counts_of, cluster_fault, FilledResult, place_if_watched, watched_places}
+use Rattle.loop_pieces.specs.{LoopPiece, StandsFor, ArePartialLines, IsPartialLine, PartialLine, span_of, Counts, counts_at, counts_of, FilledResult, place_if_watched, watched_places}
 use Rattle.loop_pieces.proofs.WholeLoops.{piece_holds_results, watch_piece_is_partial_result, piece_holds_counts, all_clusters_are_the_table}
 use Rattle.result_text.specs.{acc_lines, lines_from, AreRuns, run_of, runs_text, watch_line, watch_lines, counts_seen, flow_at, booking_text, filled_text, FitsBooking, FitsResult}
 use Rattle.event_loop.proofs.Found.{AreOf, kinds-append, own_kinds, passes_are_of}
@@ -122,22 +122,11 @@ lines_have_runs facts place [] (l ∷ ls) h = elim h [ ]
 lines_have_runs facts place (set ∷ sets) [] h = elim h [ ]
 lines_have_runs facts place (set ∷ sets) (l ∷ ls) h = (runs_of_set l.runs set h.0.runs, lines_have_runs facts place sets ls h.1)
 
-pub each_has_runs : (facts : _) (place : ℕ) (sets : List (List ℕ)) (lines : List PartialLine) → ArePartialLines facts place sets lines → All (λ (l : PartialLine). AreRuns l.runs) lines
-each_has_runs facts place sets lines h = All-from_recursion (λ (l : PartialLine). AreRuns l.runs) lines (lines_have_runs facts place sets lines h)
-
 -- what stands before and behind an element
-pub record IsBetween {A : Type 0} (xs : List A) (n : ℕ) (x : A) : Type 0 where
-  pub before : List A
-  pub after : List A
-  pub joined : xs ≡ before ++ x ∷ after
-  pub number : length before ≡ n
-
-between : {A : Type 0} (xs : List A) (n : ℕ) (x : A) → slice_get xs n ≡ Some x → IsBetween xs n x
-between [] n x at = absurd (cc)
-between (y ∷ ys) zero x at = record { before = []; after = ys; joined = ap (λ z. z ∷ ys) (same_some at); number = refl }
-between (y ∷ ys) (suc n) x at =
-    let rest = between ys n x at in
-    record { before = y ∷ rest.before; after = rest.after; joined = ap (λ l. y ∷ l) rest.joined; number = ap suc rest.number }
+parted_at : {A : Type 0} (xs : List A) (n : ℕ) (x : A) → slice_get xs n ≡ Some x → (before : List A) × (after : List A) × (xs ≡ before ++ x ∷ after) × (length before ≡ n)
+parted_at [] n x at = absurd (cc)
+parted_at (y ∷ ys) zero x at = ([], ys, ap (λ z. z ∷ ys) (same_some at), refl)
+parted_at (y ∷ ys) (suc n) x at = let rest = parted_at ys n x at in (y ∷ rest.0, rest.1, ap (λ l. y ∷ l) rest.2, ap suc rest.3)
 
 -- ---- named filters
 
@@ -183,15 +172,9 @@ module _ (script : List Statement) (d : Dataset) (spans : List Span) (set : List
 
   module _ (p : Pass) (n : ℕ) (its : slice_get passes n ≡ Some p) (fs : List Path) (report : p.result.booking ≡ ReportOn fs) where
     counts_are : (i m : ℕ) (f : Path) → (f ≡ [] → ⊥) → slice_get fs i ≡ Some f → slice_get (named_before script) m ≡ Some f → slice_get piece.flow m ≡ Some (counts_of (cutflow d f))
-    counts_are i m [] some at named = absurd (some refl)
-    counts_are i m (s ∷ up) some at named =
-        let b = between (named_before script) m (s ∷ up) named in
-        let split = subst (λ (l : List Path). StandsFor (loop_facts d l spans passes) set piece) b.joined stands in
-        let still = ap (λ (x : Dataset). first_fault x passes) whole ∙ sound in
-        ap (slice_get piece.flow) (sym b.number) ∙ piece_holds_counts d b.before b.after s up spans set passes n i p fs piece its report at still split
-        ∙ ap (λ (x : Dataset). Some (counts_of (cutflow x (s ∷ up)))) whole
+    counts_are i m f some h named = grind (arith, parted_at, stands, whole, sound, piece_holds_counts)
 
-    flows_from : (header : List Column) (fns : List Function) → (ns : List ℕ) (gs done : List Path) → fs ≡ done ++ gs → AreNumbersOf fns header script ns gs
+    pub flows_from : (header : List Column) (fns : List Function) (ns : List ℕ) (gs done : List Path) → fs ≡ done ++ gs → AreNumbersOf fns header script ns gs
         → (g : GraphView) → graph_filters g ≡ filters header (fn_names fns) script → map (flow_at g piece.flow) ns ≡ map (λ f. (filter_label f, cutflow d f)) gs
     flows_from header fns [] [] done joined h g same_filters = refl
     flows_from header fns [] (f ∷ gs) done joined h g same_filters = elim h [ ]
@@ -206,10 +189,6 @@ module _ (script : List Statement) (d : Dataset) (spans : List Span) (set : List
         let one : flow_at g piece.flow m ≡ (filter_label f, cutflow d f) =
         λ i. ((ap (λ (o : Option FilterAt). unwrap_or (option_map (λ (x : FilterAt). x.label) o) []) at ∙ its_label_is) i, ap (λ (o : Option Counts). counts_seen (unwrap_or o (record { all = 0; pass = 0 }))) counted i) in
         ap₂ (λ x xs. x ∷ xs) one (flows_from header fns ns gs (done ++ f ∷ []) (joined ∙ sym (append_assoc done (f ∷ []) gs)) h.1 g same_filters)
-
-    pub flows_are : (header : List Column) (fns : List Function) (ns : List ℕ) → AreNumbersOf fns header script ns fs → (g : GraphView) → graph_filters g ≡ filters header (fn_names fns) script
-        → map (flow_at g piece.flow) ns ≡ map (λ f. (filter_label f, cutflow d f)) fs
-    flows_are header fns ns h g same_filters = flows_from header fns ns fs [] refl h g same_filters
 
 module _ (s : SessionView) (is : IsSession s) where
   abbrev script_of : List Statement
@@ -260,7 +239,9 @@ module _ (s : SessionView) (is : IsSession s) where
 
     pub have_runs : All (λ (l : PartialLine). AreRuns l.runs) lines
     have_runs = elim h.partials [
-      | inl p ↦ each_has_runs _ h.place.first its_filling.partials.over.are.sets lines (its_lines p its_filling.partials.over.are.sets its_filling.partials.over.are.each)
+      | inl p ↦ (
+          let over = its_filling.partials.over.are in
+          All-from_recursion (λ (l : PartialLine). AreRuns l.runs) lines (lines_have_runs _ h.place.first over.sets lines (its_lines p over.sets over.each)))
       | inr q ↦ subst (All (λ (l : PartialLine). AreRuns l.runs)) (sym q.1) (λ k d lt. absurd (omega arith))
     ]
 
@@ -279,22 +260,15 @@ module _ (s : SessionView) (is : IsSession s) where
         ∙ ap₂ (λ (n : ℕ) (spans : List Span). flat_map (λ set. partial_line name set (partial_result spans s.dataset set k at)) (course.chains n)) (sym (ap (λ (o : Option ℕ). unwrap_or o 0) number)) (sym fits_course.spans)
 
     front_is : (course : Course) → FitsCourse s course → loop_filling script_of x.booked.name ≡ Some l → watch_lines x.booked.name lines ≡ front_of course x.booked
-    front_is course fits_course number = elim h.partials [
-      | inl p ↦ (let a = noted_action x.booked 0 (p.0 0) in action_lines p course fits_course number a.0 a.1 a.2 ∙ ap (partial_lines script_of s.dataset course x.booked.name) (sym a.2)
-          ∙ sym (ap (λ (t : Bool). if t then partial_lines script_of s.dataset course x.booked.name x.booked.booking else []) (noted_watch x.booked 0 (p.0 0))))
-      | inr q ↦ ap (watch_lines x.booked.name) q.1 ∙ sym (no_front x.booked course q.0)
-    ]
+    front_is course fits_course number = grind (arith, noted_action, action_lines, noted_watch, no_front)
 
     -- ---- filled results
 
     abbrev set_of : List ℕ
     set_of = below (length (job_facts (session_job s l)).faults)
 
-    whole_set : set_of ≡ below (length spans_of)
-    whole_set = ap below (length-map (below (length spans_of)) (cluster_fault s.dataset spans_of passes) ∙ length-below (length spans_of))
-
     whole : over_clusters spans_of s.dataset set_of ≡ s.dataset
-    whole = ap (over_clusters spans_of s.dataset) whole_set ∙ all_clusters_are_the_table s.dataset spans_of leads
+    whole = grind (arith, length-map, length-below, all_clusters_are_the_table, leads)
 
     stands : StandsFor (loop_facts s.dataset (named_before script_of) spans_of passes) set_of f.piece.now
     stands = subst (StandsFor (loop_facts s.dataset (named_before script_of) spans_of passes) set_of) (sym h.piece) its_filling.stands
@@ -324,12 +298,8 @@ module _ (s : SessionView) (is : IsSession s) where
 
     -- of a report
     module _ (fs : List Path) (report : x.booked.booking ≡ ReportOn fs) where
-      filters_same : graph_filters s.graph ≡ graph_filters (record { script = s.graph.script; header = s.dataset.columns; names = fn_names s.dataset.fns })
-      filters_same = ap graph_filters is.graph
-
       report_fits : FitsBooking s.graph x f (ReportOn fs)
-      report_fits =
-          flow_length script_of s.dataset spans_of set_of whole passes sound f.piece.now stands ∙ sym (ap (λ (l : List _). length l) filters_same ∙ filter_count s.dataset.columns (fn_names s.dataset.fns) script_of)
+      report_fits = grind (arith, flow_length, whole, sound, stands, filter_count)
 
       nominal_there : slice_get passes (length placed.before) ≡ Some (record { result = x.booked; under = None })
       nominal_there =
@@ -339,7 +309,7 @@ module _ (s : SessionView) (is : IsSession s) where
       report_text : booking_text s.graph x f (ReportOn fs) ≡ flat_map (pass_lines s.dataset) (passes_of script_of x.booked)
       report_text =
           let numbers = covers_are s.dataset.fns s.dataset.columns script_of r x fs (ap (λ (l : List ResultAt). slice_get l r) (sym (ap graph_results is.graph)) ∙ its) report in
-          let flows = flows_are script_of s.dataset spans_of set_of whole passes sound f.piece.now stands (record { result = x.booked; under = None }) (length placed.before) nominal_there fs report s.dataset.columns s.dataset.fns x.covers numbers s.graph filters_same in
+          let flows = flows_from script_of s.dataset spans_of set_of whole passes sound f.piece.now stands (record { result = x.booked; under = None }) (length placed.before) nominal_there fs report s.dataset.columns s.dataset.fns x.covers fs [] refl numbers s.graph (ap graph_filters is.graph) in
           ap (flow_lines x.booked.name) flows ∙ sym (ap (booking_lines s.dataset x.booked.name None) report) ∙ sym (append-nil (pass_lines s.dataset (record { result = x.booked; under = None })))
           ∙ ap (flat_map (pass_lines s.dataset)) (sym (report_pass script_of x.booked fs report))
 
@@ -347,8 +317,7 @@ module _ (s : SessionView) (is : IsSession s) where
     fits = go x.booked.booking refl
       where
         go : (bk : Booking) → x.booked.booking ≡ bk → FitsBooking s.graph x f x.booked.booking
-        go (ActionAt k at) q = subst (FitsBooking s.graph x f) (sym q) (action_fits k at q)
-        go (ReportOn fs) q = subst (FitsBooking s.graph x f) (sym q) (report_fits fs q)
+        go bk q = grind (arith, action_fits, report_fits)
 
     text_is : filled_text s.graph x f ≡ flat_map (pass_lines s.dataset) (passes_of script_of x.booked)
     text_is = grind (arith, action_text, report_text)

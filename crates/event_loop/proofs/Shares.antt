@@ -1,6 +1,6 @@
 -- The pieces, the shares and the trails of slots that finished all clusters.
-use Rattle.std.proofs.Common.{◌≡◌, List, ◌∷◌, ◌++◌, length, sym, ap, ◌∙◌, subst, arith, ℕ, zero, suc, map, [], Option, None, Some, refl, ap₂, slice_get, option_to_list}
-use Rattle.lemmas.proofs.{All-cons, All-nil, concat, concat_is, length-flat_map, length_permutation, sum_by}
+use Rattle.std.proofs.Common.{◌≡◌, List, ◌∷◌, ◌++◌, length, sym, ap, ◌∙◌, subst, arith, ℕ, zero, suc, map, [], Option, Some, refl, slice_get, option_to_list}
+use Rattle.lemmas.proofs.{All-nil, concat, concat_is, length-flat_map, length_permutation, sum_by}
 use Rattle.loop_pieces.specs.{HaveTrails, LoopPiece, PartialLine, StandsFor}
 use Rattle.slot_words.specs.{AreNoted, BookSeen, HavePartialsOver, many_in, noted_sets, ShareSeen}
 use Rattle.event_loop.specs.{AreMade, AreShares, CanFill, HasNoted, HaveNoted, JobFacts}
@@ -25,12 +25,7 @@ module _ (b : Option BookSeen) (job : JobFacts) where
     first_or (suc k) d q at there = h.trails.each k d q at there
 
     one_share : (k : BookSeen) (o : Option ShareSeen) → HasNoted (Some k) (length done) o → AreShares k dones shares → AreShares k (done ∷ dones) (option_to_list o ++ shares)
-    one_share k None noted rest = elim noted [ ]
-    one_share k (Some s) noted rest = record {
-      many = (let m = rest.many in omega arith);
-      of = All-cons (book.IsOf k) s shares noted.0 rest.of;
-      noted = ap₂ (λ (n : ℕ) (l : List ℕ). n ∷ l) noted.1 rest.noted;
-    }
+    one_share k o noted rest = grind arith
 
     -- one slot before others
     pub one_made : AreMade b job (done ∷ dones) (p ∷ ps) (option_to_list o ++ shares)
@@ -68,18 +63,10 @@ none_watched job k dones none = ([], record { noted = λ some. absurd (omega ari
 pub noted_partials : (job : JobFacts) (k clusters : ℕ) (orders dones : List (List ℕ)) (partials : List (List PartialLine))
     → length job.facts.ranges ≡ clusters → AreNoted orders dones clusters
     → HavePartialsOver job.facts job.watched k (noted_sets orders dones clusters k) partials → HaveNoted job k dones partials
-noted_partials job k clusters orders dones partials ranges noted over = (
-  orders,
-  record {
-    noted = λ some. subst (AreNoted orders dones) (sym ranges) noted;
-    over = subst (λ (n : ℕ). HavePartialsOver job.facts job.watched k (noted_sets orders dones n k) partials) (sym ranges) over;
-  },
-)
+noted_partials job k clusters orders dones partials ranges noted over = grind arith
 
 -- where there is a book
 pub noted_in : (b : BookSeen) (o : Option BookSeen) (watched clusters : ℕ) (job : JobFacts) (made : Made) (can : CanFill o watched clusters job made)
     → o ≡ Some b → (orders : List (List ℕ)) → orders ≡ map numbers_in made.shares
     → DrawnBy (map numbers_in made.shares) (many_in (map numbers_in made.shares)) → AreNoted orders can.finished.dones clusters
-noted_in b o watched clusters job made can is orders orders_are drawn = subst (λ (os : List (List ℕ)). AreNoted os can.finished.dones clusters) (sym orders_are)
-    (are_noted can.finished.dones (map numbers_in made.shares) clusters
-    (subst (λ (n : ℕ). IsUnion can.finished.dones (below n)) can.facts.faults can.finished.unite) (can.finished.are.noted b is).noted drawn)
+noted_in b o watched clusters job made can is orders orders_are drawn = grind (arith, are_noted)

@@ -5,7 +5,6 @@ use Rattle.slot_words.specs.{BookSeen, fresh_share, fresh_shares, IsReady, SeatS
 use Rattle.event_loop.specs.declared.workers.Shared.{Shared}
 use Rattle.event_loop.specs.declared.workers.Slot.{Slot}
 use Rattle.event_loop.specs.{AreBlank, HasNoted, IsBlank, IsFresh, AreFacts, CanFill, HasRoom, IsOpened, IsOutcome, job_facts, JobFacts}
-use Rattle.rdf_values.specs.{Fault, first_in}
 use Rattle.rdf_values.proofs.UnionLemmas.{length-below}
 use Rattle.rdf_values.proofs.Evenly.{cuts_lead}
 use Rattle.columns.proofs.Clusters.{few_ranges}
@@ -22,8 +21,7 @@ all_blank b n shares is = (ap length is ∙ many_shares b n, subst (All (IsBlank
 
 -- nothing comes of an empty vector
 pub none_popped : {S : Type 0} (r : Option S) (n m : ℕ) → MatchOption r ((n ≡ 0) × (m ≡ 0)) (λ _. m + 1 ≡ n) → r ≡ None → n ≡ 0
-none_popped None n m popped e = popped.0
-none_popped (Some s) n m popped e = absurd (cc)
+none_popped r n m popped e = grind arith
 
 -- the next share, where there is a book
 pub next_share : (b : Option BookSeen) (n : ℕ) (old new : List ShareSeen) (r : Option ShareSeen)
@@ -75,22 +73,10 @@ facts_of j n job is = grind (arith, length-map, length-below, lower_clusters_fau
 
 -- a book that was opened for so many clusters has room for them
 pub has_room : (o : Option BookSeen) (watched slots clusters n : ℕ) → IsOpened watched slots clusters o → n ≡ clusters → HasRoom n o
-has_room None watched slots clusters n h is = tt
-has_room (Some b) watched slots clusters n h is = let same = h.1 in omega arith
+has_room o watched slots clusters n h is = grind arith
 
 -- the outcome where all clusters are processed
 pub can_fill : (o : Option BookSeen) (c : ClaimsSeen) (watched slots clusters : ℕ) (job : JobFacts) (end : Outcome) (made : Made)
     → AreFacts c.clusters job → c.clusters ≡ clusters → c.slots ≡ slots → IsOutcome o job c.slots end → end ≡ Outcome.Processed made → 0 < slots → length job.watched ≡ watched → IsOpened watched slots clusters o
     → CanFill o watched clusters job made
-can_fill o c watched slots clusters job end made facts same many ended is some watches opened = record {
-  facts = subst (λ (n : ℕ). AreFacts n job) same facts;
-  slots = c.slots;
-  some = omega (arith, many);
-  finished = subst (IsOutcome o job c.slots) is ended;
-  watches = watches;
-  booked = λ k e. (subst (IsOpened watched slots clusters) e opened).0 ∙ sym many;
-  unbooked = λ e. subst (IsOpened watched slots clusters) e opened;
-}
-
-pub first_is : (o : Option BookSeen) (n : ℕ) (job : JobFacts) (end : Outcome) (fault : Fault) → IsOutcome o job n end → end ≡ Outcome.Faulted fault → first_in job.faults ≡ Some fault
-first_is o n job end fault ended is = subst (IsOutcome o job n) is ended
+can_fill o c watched slots clusters job end made facts same many ended is some watches opened = grind arith

@@ -1,10 +1,11 @@
--- What the slots of a loop give back.
-use Rattle.std.specs.Prelude.{◌≡◌, ⊤, ℕ, List, [], ◌∷◌, Option, Some, None, All, flat_map, length, map, option_to_list}
+-- What the slots of a loop begin with and give back.
+use Rattle.std.specs.Prelude.{◌≡◌, ◌<◌, ⊤, ℕ, List, [], ◌∷◌, Option, Some, None, All, flat_map, length, map, option_to_list}
 use Rattle.rdf_values.specs.{AreInEntryOrder, below, Fault, first_in, IsUnion}
-use Rattle.loop_pieces.specs.{LoopPiece, StandsFor}
+use Rattle.loop_pieces.specs.{LoopPiece, PartialLine, StandsFor}
 use Rattle.merge_core.specs.{Stand}
 use Rattle.slot_words.specs.{BookSeen, HaveAllTrails, SeatSeen, ShareSeen}
 use Rattle.slot_words.specs.Shares as book
+use Rattle.event_loop.specs.Ends.{AreNotedPartials}
 use Rattle.event_loop.specs.Jobs.{JobFacts}
 use Rattle.event_loop.specs.Workers.{HasRun}
 use Rattle.event_loop.specs.declared.gather.Made.{Made}
@@ -13,6 +14,25 @@ use Rattle.event_loop.specs.declared.workers.Finished.{Finished}
 use Rattle.event_loop.specs.declared.workers.End.{End}
 use Rattle.event_loop.specs.declared.workers.End.TheVariants.{Over, Faulted, NoMemory}
 use Rattle.event_loop.specs.declared.workers.Shared.{Shared}
+
+-- ---- what they begin with
+
+-- a share of this book that noted nothing
+pub record IsBlank (b : BookSeen) (s : ShareSeen) : Type 0 where
+  pub of : book.IsOf b s
+  pub unnoted : s.numbers ≡ []
+
+-- where there is a book, so many shares of it that noted nothing, and else none
+abbrev pub AreBlank : Option BookSeen → ℕ → List ShareSeen → Type 0
+AreBlank None n shares = shares ≡ []
+AreBlank (Some b) n shares = (length shares ≡ n) × All (IsBlank b) shares
+
+-- there is a book, for so many slots and clusters, where a result is watched
+abbrev pub IsOpened : ℕ → ℕ → ℕ → Option BookSeen → Type 0
+IsOpened watched slots clusters None = watched ≡ 0
+IsOpened watched slots clusters (Some b) = (b.slots ≡ slots) × (b.clusters ≡ clusters)
+
+-- ---- what they give back
 
 -- the fault with which a slot stopped
 abbrev pub fault_of : End → List Fault
@@ -84,3 +104,19 @@ pub record HaveFinished (b : Option BookSeen) (job : JobFacts) (n : ℕ) (made :
 abbrev pub IsOutcome : Option BookSeen → JobFacts → ℕ → Outcome → Type 0
 IsOutcome b job n (Outcome.Processed made) = HaveFinished b job n made
 IsOutcome b job n (Outcome.Faulted fault) = first_in job.faults ≡ Some fault
+
+-- ---- what a loop without a fault is filled with
+
+-- the slots finished all clusters of the job, which has so many watched results; where one is watched, there is a book of as many slots
+pub record CanFill (b : Option BookSeen) (watched clusters : ℕ) (job : JobFacts) (made : Made) : Type 0 where
+  pub facts : AreFacts clusters job
+  pub slots : ℕ
+  pub some : 0 < slots
+  pub finished : HaveFinished b job slots made
+  pub watches : length job.watched ≡ watched
+  pub booked : (k : BookSeen) → b ≡ Some k → k.slots ≡ slots
+  pub unbooked : b ≡ None → watched ≡ 0
+
+-- the partial results over what the slots noted, which finished these clusters
+abbrev pub HaveNoted : JobFacts → ℕ → List (List ℕ) → List (List PartialLine) → Type 0
+HaveNoted job k dones partials = (orders : List (List ℕ)) × AreNotedPartials job k orders dones partials

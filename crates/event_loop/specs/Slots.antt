@@ -1,9 +1,11 @@
 -- What a contract sees of a slot.
-use Rattle.std.specs.Prelude.{◌≡◌, ◌≤◌, ◌<◌, ℕ, List, [], All, length}
+use Rattle.std.specs.Prelude.{◌≡◌, ◌≤◌, ◌<◌, ℕ, List, [], All, length, take}
+use Rattle.rdf_values.specs.{history}
 use Rattle.rdf_model.specs.{kinds_in}
 use Rattle.loop_keys.specs.{IsNoTake, IsPlainLoop, job_graph, JobView, passes_in}
 use Rattle.block_passes.specs.{CountsVectors, IsStateOf, StateView}
-use Rattle.cluster_tally.specs.{at_begin, Holds, TallyView}
+use Rattle.cluster_tally.specs.{at_begin, Holds, IsFresh, TallyView}
+use Rattle.loop_pieces.specs.{watched_places}
 use Rattle.event_loop.specs.Jobs.{JobFacts, job_facts}
 use Rattle.event_loop.specs.declared.state.Phase.{Phase}
 use Rattle.event_loop.specs.declared.state.Phase.TheVariants.{Going}
@@ -38,3 +40,13 @@ pub record IsPlainSlot (j : JobView) : Type 0 where
   pub plain : IsPlainLoop j
   pub no_take : All IsNoTake (kinds_in (passes_in j))
   pub unwatched : (job_facts j).watched ≡ []
+
+-- ---- the passes of a loop, as they are added to a tally
+
+-- the places of the watched passes among the first so many passes
+abbrev pub places_before : JobView → ℕ → List ℕ
+places_before j n = watched_places (history j.script) (take n (passes_in j))
+
+-- nothing was told to the tally, and it is one of the first so many passes
+abbrev pub IsOfPasses : JobView → ℕ → TallyView → Type 0
+IsOfPasses j n t = IsFresh (kinds_in (take n (passes_in j))) (places_before j n) t

@@ -1,11 +1,13 @@
--- What one Print adds to a text.
-use Rattle.std.specs.Prelude.{◌≡◌, ℕ, ◌+◌, List, None, Some, slice_get}
-use Rattle.rdf_values.specs.{cut, history}
-use Rattle.rdf_model.specs.{Access, access_passes, access_printed, accesses, Course, first_fault, in_front_of, Printed}
+-- What one Print adds to a text, and when a text is what a script prints.
+use Rattle.std.specs.Prelude.{◌≡◌, ℕ, ◌+◌, List, None, Some, if◌then◌else◌, length, slice_get}
+use Rattle.rdf_values.specs.{cut, history, Script}
+use Rattle.rdf_model.specs.{Access, access_passes, access_printed, accesses, Course, Dataset, first_fault, in_front_of, IsCourse, Printed, transcript}
+use Rattle.columns.specs.CutsView.{CutsView}
 use Rattle.loop_pieces.specs.{ArePartialLines, PartialLine}
 use Rattle.event_loop.specs.Jobs.{job_facts}
 use Rattle.event_loop.specs.declared.one_loop.FilledLoop.{FilledLoop}
 use Rattle.event_loop.specs.Sessions.{SessionView, session_job}
+use Rattle.event_loop.specs.declared.prints.Transcript.{Transcript}
 
 -- the clusters are the session's, and the partial results of its loops are over the sets of the course
 pub record FitsCourse (s : SessionView) (course : Course) : Type 0 where
@@ -29,3 +31,11 @@ pub record GoesOn (old new : SessionView) (before after : List ℕ) (print : ℕ
 pub record EndsAt (old : SessionView) (before after : List ℕ) (print : ℕ) : Type 0 where
   pub lines : (course : Course) (a : Access) (rest : Printed) → slice_get (accesses (history old.graph.script)) print ≡ Some a
       → in_front_of before (print_gives old course a rest) ≡ record { bytes = after; status = 8 }
+
+-- it is the transcript of separate passes in some course of the loops: the sets of clusters over which watched results were noted
+-- are such chains, and they are those that its lines show
+pub record IsTranscript (script : Script) (d : Dataset) (cuts : CutsView) (watch : ℕ) (t : Transcript) : Type 0 where
+  pub course : Course
+  pub is_course : IsCourse (history script) (length d.rows) cuts.size cuts.marks watch course
+  pub bytes : t.text ≡ (transcript script d course).bytes
+  pub status : (if t.faulted then 8 else 0) ≡ (transcript script d course).status

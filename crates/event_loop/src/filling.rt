@@ -2,7 +2,7 @@
 ghost use Rattle.std.specs.Prelude.{◌<◌, ◌≤◌, IfOk};
 ghost use Rattle.event_loop.specs.Jobs.{JobFacts};
 ghost use Rattle.event_loop.specs.Ends.{IsFilled};
-ghost use Rattle.event_loop.specs.Filling.{CanFill, HaveNoted};
+ghost use Rattle.event_loop.specs.Gathered.{CanFill, HaveNoted};
 
 use crate::gather::Made;
 use crate::one_loop::FilledLoop;

@@ -117,8 +117,7 @@ module _ (j : JobView) (job : IsJob j) (entry : ℕ) (u : Option ℕ) (cells : L
           (evaluations.missing (λ i. cc (sym p ∙ (Decides-eqb c d).1 (sym i))))
 
       go : (o p : Outcome ℕ Value) → Needs c ≡ o → evaluations.Close (λ d. d ≢ c) o p → is_need p ≡ true
-      go o p q evaluations.same = ap is_need (sym q)
-      go o p q (evaluations.missing {d = d} n) = absurd (n (ap (number_in c) (sym q)))
+      go o p q h = grind arith
 
 -- ---- where nothing is held
 
@@ -139,4 +138,4 @@ met_each j job entry u s c P met each =
     alone d v false e = evaluations.same
 
     go : (o p : Outcome ℕ Value) → evaluations.Close N o p → is_need o ≡ true → p ≡ with_needs (site_in j entry u s) → P c
-    go o p h m w = grind arith
+    go o p h m w = grind (arith, known_never)

@@ -46,8 +46,7 @@ module _ (j : JobView) (entry : ℕ) (u : Option ℕ) (cells : List Held) (can :
     where
       go : (w : Option ℕ) (t : ℕ) → t < length (graph_sites (job_graph j)) → (key (job_graph j) t w ≡ key (job_graph j) s u) ⊎ (key (job_graph j) t w ≡ key (job_graph j) s u → ⊥)
           → IsRight (site_in j entry w t) (held_in (slice_set cells (key (job_graph j) s u) h) (key (job_graph j) t w))
-      go w t lt (inl e) = subst (λ (x : Held). IsRight (site_in j entry w t) x) (sym (ap (held_in (slice_set cells (key (job_graph j) s u) h)) e ∙ at_same)) (right_at w t lt e)
-      go w t lt (inr n) = subst (λ (x : Held). IsRight (site_in j entry w t) x) (sym (at_other (key (job_graph j) t w) n)) (sound.each w t lt)
+      go w t lt h = grind (arith, at_same, right_at, at_other)
 
   not_here : (k : ℕ) → is_held (held_in cells k) ≡ true → k ≡ key (job_graph j) s u → ⊥
   not_here k p e = absurd (cc (sym p ∙ ap (λ x. is_held (held_in cells x)) e ∙ ap is_held empty))

@@ -1,6 +1,7 @@
 -- The keys of sites: they differ, one after another, and where what is read of an entry stands under each.
 use Rattle.std.proofs.Common.{◌≡◌, ◌⊎◌, inl, inr, ℕ, zero, suc, ◌+◌, ◌<◌, ◌≤◌, Bool, true, false, cond, List, [], ◌∷◌, length, take, Option, Some, None, refl, sym, ◌∙◌, ap, arith, slice_get, if◌then◌else◌, count_by, add-one, ◌++◌, subst, get_or}
-use Rattle.lemmas.proofs.{cases_order, something_at, sum_by-cons, take_all, cases_lt, get_or_from_slice_get, get_or_past, slice_get_past}
+use Rattle.std.proofs.lemmas.List.Sums.{sum_by-take-le}
+use Rattle.lemmas.proofs.{cases_order, something_at, sum_by-cons, take_all, take-take, cases_lt, get_or_from_slice_get, get_or_past, slice_get_past}
 use Rattle.rdf_values.specs.{Column, Function, Statement, Under, Value, Variation, variations}
 use Rattle.rdf_model.specs.{Outcome}
 use Rattle.rdf_model.proofs.Variations.{unvaried_site}
@@ -15,20 +16,20 @@ use Rattle.loop_keys.proofs.Elements.{more_each, read_each}
 pub counted : {A : Type 0} (p : A → Bool) (x : A) (xs : List A) → count_by p (x ∷ xs) ≡ cond (p x) 1 0 + count_by p xs
 counted p x xs = sum_by-cons (λ y. cond (p y) 1 0) x xs
 
+one_more : {A : Type 0} (p : A → Bool) (n : ℕ) (xs : List A) → count_by p (take (suc n) xs) ≡ count_by p (take n xs) + (if holds_at p (slice_get xs n) then 1 else 0)
+one_more p zero (x ∷ xs) = grind (arith, counted)
+one_more p (suc n) (x ∷ xs) = let a = counted p x (take (suc n) xs) in let b = counted p x (take n xs) in let c = one_more p n xs in omega (arith, a, b, c)
+one_more p n xs = refl
+
 -- before a place whose element counts there are fewer than in all
 taken_fewer : {A : Type 0} (p : A → Bool) (v : ℕ) (xs : List A) → holds_at p (slice_get xs v) ≡ true → count_by p (take v xs) < count_by p xs
-taken_fewer p v [] h = cc h
-taken_fewer p zero (x ∷ xs) h = let b = counted p x xs in let c : ◌≡◌ {A = ℕ} (cond (p x) 1 0) 1 = ap (λ q. cond q 1 0) h in omega (arith, b, c)
-taken_fewer p (suc v) (x ∷ xs) h =
-    let a = counted p x (take v xs) in let b = counted p x xs in let c = taken_fewer p v xs h in omega (arith, a, b, c)
+taken_fewer p v xs h = omega (arith, one_more p v xs, ap {B = ℕ} (λ q. if q then 1 else 0) h, sum_by-take-le (λ y. cond (p y) 1 0) xs (suc v))
 
 -- and fewer than before a later place
 taken_apart : {A : Type 0} (p : A → Bool) (v w : ℕ) (xs : List A) → v < w → holds_at p (slice_get xs v) ≡ true → count_by p (take v xs) < count_by p (take w xs)
-taken_apart p v w [] lt h = cc h
-taken_apart p v zero (x ∷ xs) lt h = absurd (omega (arith, lt))
-taken_apart p zero (suc w) (x ∷ xs) lt h = let b = counted p x (take w xs) in let c : ◌≡◌ {A = ℕ} (cond (p x) 1 0) 1 = ap (λ q. cond q 1 0) h in omega (arith, b, c)
-taken_apart p (suc v) (suc w) (x ∷ xs) lt h =
-    let a = counted p x (take v xs) in let b = counted p x (take w xs) in let c = taken_apart p v w xs (omega (arith, lt)) h in omega (arith, a, b, c)
+taken_apart p v w xs lt h =
+    let front = ap (count_by p) (take-take (suc v) w xs (omega arith)) in
+    omega (arith, one_more p v xs, ap {B = ℕ} (λ q. if q then 1 else 0) h, front, sum_by-take-le (λ y. cond (p y) 1 0) (take w xs) (suc v))
 
 -- ---- slots
 
@@ -111,11 +112,6 @@ key_small g s u inside =
 -- ---- The keys of sites, one site after another.
 
 -- ---- members and places
-
-one_more : {A : Type 0} (p : A → Bool) (n : ℕ) (xs : List A) → count_by p (take (suc n) xs) ≡ count_by p (take n xs) + (if holds_at p (slice_get xs n) then 1 else 0)
-one_more p zero (x ∷ xs) = grind (arith, counted)
-one_more p (suc n) (x ∷ xs) = let a = counted p x (take (suc n) xs) in let b = counted p x (take n xs) in let c = one_more p n xs in omega (arith, a, b, c)
-one_more p n xs = refl
 
 module _ {A : Type 0} (p : A → Bool) (xs : List A) (s : VarSet) (all : (v : ℕ) → has s v ≡ holds_at p (slice_get xs v)) where
   -- as many members are below a number as elements before that place pass the test

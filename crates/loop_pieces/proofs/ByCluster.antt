@@ -1,85 +1,40 @@
 -- Items and counts by clusters: those of a set, and of each.
-use Rattle.std.proofs.Common.{◌≡◌, ℕ, ◌<◌, ◌≤◌, List, [], ◌∷◌, ◌++◌, map, false, refl, sym, ap, ap₂, ◌∙◌, subst, arith, ◌==◌, nat_le, IsPermutation, zero, suc, ◌+◌, inl, inr, append_assoc, flat_map, slice_get, ◌-◌, length, take, drop, Option, Some, slice_range, cond, Bool, None, append-nil, length-drop, count_by}
-use Rattle.std.specs.Prelude.{⊤}
-use Rattle.lemmas.proofs.{All, All-permutation, common_steps, cond-false, cond-true, cond_both, eq-eqb, filter, filter-append, IsPermutation-append_comm, IsPermutation-append_left, IsPermutation-cons, IsPermutation-refl, IsPermutation-sym, IsPermutation-trans, leb-false, leb-true, nat_tests, ne_eqb, cases_eq, flat_map-append, IsStrictlyIncreasing, map-append, drop_plus, flat_map-map, map-map, take_plus, length-flat_map, length-take, sum_by, sum_by-append, sum_by-cons, sum_by-IsPermutation, sum_by-le}
+use Rattle.std.proofs.Common.{◌≡◌, ℕ, ◌<◌, ◌≤◌, List, [], ◌∷◌, ◌++◌, map, refl, sym, ap, ap₂, ◌∙◌, subst, arith, nat_le, IsPermutation, zero, suc, ◌+◌, flat_map, slice_get, ◌-◌, length, take, drop, Option, Some, slice_range, cond, Bool, None, append-nil, length-drop, count_by, get_or}
+use Rattle.lemmas.proofs.{All, All-permutation, common_steps, cond_both, IsPermutation-append_comm, IsPermutation-append_left, IsPermutation-cons, IsPermutation-refl, IsPermutation-remove, IsPermutation-sym, IsPermutation-trans, nat_tests, cases_eq, flat_map-append, IsStrictlyIncreasing, map-append, drop_plus, flat_map-map, map-map, take_plus, length-flat_map, length-take, remove, sum_by, sum_by-append, sum_by-cons, sum_by-IsPermutation, sum_by-le}
 use Rattle.rdf_values.specs.{ActionKind, fold_items, IsUnion, Item, times, below, Lead, Span}
 use Rattle.actions.specs.{Accumulator, by_cluster, Fed, HasFed, kept_of, put, from_cluster, in_file_order}
+use Rattle.actions.proofs.Folds.{AreFrom, first_first, merged_is, put_all, Rises as AreSorted}
 use Rattle.rdf_model.specs.{items_over, list_at, span_rows, if_there, is_passed, is_reached, IsLoopFacts, Reach, reaches_over, rows_in}
 use Rattle.rdf_model.specs.declared.loop_facts.LoopFacts.{LoopFacts}
-use Rattle.rdf_values.proofs.UnionLemmas.{times_self, times_other, Above, Rises, rises_from, counted, two}
+use Rattle.rdf_values.proofs.UnionLemmas.{times_cons, times_contains, times_permuted, times_self, Above, Rises, rises_from}
 use Rattle.loop_pieces.specs.{cluster_items, fed_over, counts_at, entries_over}
 use Rattle.std.proofs.lemmas.List.{take_all}
 
--- the items of one cluster
-abbrev pub of_cluster : ℕ → List Fed → List Fed
-of_cluster c fed = filter (λ (f : Fed). f.cluster == c) fed
+-- ---- the order by cluster
 
-pub of_its : (c : ℕ) (f : Fed) (fs : List Fed) → f.cluster ≡ c → of_cluster c (f ∷ fs) ≡ f ∷ of_cluster c fs
-of_its c f fs e = cond-true (f.cluster == c) (f ∷ of_cluster c fs) (of_cluster c fs) (eq-eqb f.cluster c e)
+-- a list in that order stays as it is
+order_kept : (fs : List Fed) → AreSorted fs → by_cluster fs ≡ fs
+order_kept [] up = refl
+order_kept (f ∷ fs) up = ap (put f) (order_kept fs up.1) ∙ first_first f [] fs tt up.0
 
-pub of_other : (c : ℕ) (f : Fed) (fs : List Fed) → (f.cluster == c) ≡ false → of_cluster c (f ∷ fs) ≡ of_cluster c fs
-of_other c f fs e = cond-false (f.cluster == c) (f ∷ of_cluster c fs) (of_cluster c fs) e
+-- what stands behind others may stand there in order
+behind : (a b c : List Fed) → by_cluster b ≡ by_cluster c → by_cluster (a ++ b) ≡ by_cluster (a ++ c)
+behind a b c e = sym (merged_is a b) ∙ ap (put_all (by_cluster a)) e ∙ merged_is a c
 
-pub of_both : (c : ℕ) (xs ys : List Fed) → of_cluster c (xs ++ ys) ≡ of_cluster c xs ++ of_cluster c ys
-of_both c xs ys = filter-append (λ (f : Fed). f.cluster == c) xs ys
+-- items of two clusters are put in either order
+put_swap : (f g : Fed) (l : List Fed) → (f.cluster ≡ g.cluster → ⊥) → put f (put g l) ≡ put g (put f l)
+put_swap f g [] n = grind (arith, common_steps, nat_tests)
+put_swap f g (h ∷ hs) n = grind (arith, common_steps, nat_tests, put_swap f g hs n)
 
--- ---- the order by cluster moves no item past one of its own cluster
+one_past : (f : Fed) (c : ℕ) (is : List Item) (l : List Fed) → (f.cluster ≡ c → ⊥) → by_cluster (f ∷ (from_cluster c is ++ l)) ≡ by_cluster (from_cluster c is ++ f ∷ l)
+one_past f c [] l n = refl
+one_past f c (i ∷ is) l n =
+    put_swap f (record { cluster = c; item = i }) (by_cluster (from_cluster c is ++ l)) n ∙ ap (put (record { cluster = c; item = i })) (one_past f c is l n)
 
-put_of : (c : ℕ) (f : Fed) (l : List Fed) → of_cluster c (put f l) ≡ of_cluster c (f ∷ l)
-put_of c f [] = refl
-put_of c f (g ∷ gs) = grind (arith, common_steps, nat_tests, put_of c f gs)
-
-pub order_of : (c : ℕ) (fed : List Fed) → of_cluster c (by_cluster fed) ≡ of_cluster c fed
-order_of c [] = refl
-order_of c (f ∷ fs) = grind (arith, put_of c f (by_cluster fs), order_of c fs)
-
--- ---- sorted lists
-
-abbrev pub AllFrom : ℕ → List Fed → Type 0
-AllFrom n [] = ⊤
-AllFrom n (f ∷ fs) = (n ≤ f.cluster) × AllFrom n fs
-
-abbrev pub AreSorted : List Fed → Type 0
-AreSorted [] = ⊤
-AreSorted (f ∷ fs) = AllFrom f.cluster fs × AreSorted fs
-
-all_lower : (m n : ℕ) (l : List Fed) → m ≤ n → AllFrom n l → AllFrom m l
-all_lower m n [] le h = tt
-all_lower m n (f ∷ fs) le h = let first = h.0 in (omega arith, all_lower m n fs le h.1)
-
-put_from : (n : ℕ) (f : Fed) (l : List Fed) → n ≤ f.cluster → AllFrom n l → AllFrom n (put f l)
-put_from n f [] le h = (le, tt)
-put_from n f (g ∷ gs) le h = cond_both (nat_le f.cluster g.cluster) _ _ (AllFrom n) (λ _. (le, h)) (λ _. (h.0, put_from n f gs le h.1))
-
-put_sorted : (f : Fed) (l : List Fed) → AreSorted l → AreSorted (put f l)
-put_sorted f [] h = (tt, tt)
-put_sorted f (g ∷ gs) h = cond_both (nat_le f.cluster g.cluster) _ _ AreSorted
-    (λ t. let le = leb-true f.cluster g.cluster t in ((le, all_lower f.cluster g.cluster gs le h.0), h))
-    (λ e. let lt = leb-false f.cluster g.cluster e in (put_from g.cluster f gs (omega arith) h.0, put_sorted f gs h.1))
-
-pub order_sorted : (fed : List Fed) → AreSorted (by_cluster fed)
-order_sorted [] = tt
-order_sorted (f ∷ fs) = put_sorted f (by_cluster fs) (order_sorted fs)
-
-none_of : (c n : ℕ) (l : List Fed) → c < n → AllFrom n l → of_cluster c l ≡ []
-none_of c n [] lt h = refl
-none_of c n (f ∷ fs) lt h = let first = h.0 in of_other c f fs (ne_eqb f.cluster c (λ e. absurd (omega arith))) ∙ none_of c n fs lt h.1
-
--- sorted lists with the same items of each cluster are the same
-pub same_sorted : (xs ys : List Fed) → AreSorted xs → AreSorted ys → ((c : ℕ) → of_cluster c xs ≡ of_cluster c ys) → xs ≡ ys
-same_sorted [] [] up down same = refl
-same_sorted [] (y ∷ ys) up down same = let e = same y.cluster ∙ of_its y.cluster y ys refl in absurd (cc)
-same_sorted (x ∷ xs) [] up down same = let e = sym (same x.cluster) ∙ of_its x.cluster x xs refl in absurd (cc)
-same_sorted (x ∷ xs) (y ∷ ys) up down same =
-    let here : x.cluster ≡ y.cluster = grind (arith, nat_tests, same x.cluster, same y.cluster, none_of x.cluster y.cluster ys, none_of y.cluster x.cluster xs, up.0, down.0) in
-    let heads : x ≡ y = grind (arith, nat_tests, same x.cluster, here) in
-    ap₂ (λ a l. a ∷ l) heads (same_sorted xs ys up.1 down.1 (λ c. grind (arith, same c, heads)))
-
-pub order_same : (a b : List Fed) → ((c : ℕ) → of_cluster c a ≡ of_cluster c b) → by_cluster a ≡ by_cluster b
-order_same a b same = same_sorted (by_cluster a) (by_cluster b) (order_sorted a) (order_sorted b) (λ c. order_of c a ∙ same c ∙ sym (order_of c b))
-
-pub order_kept : (a : List Fed) → AreSorted a → by_cluster a ≡ a
-order_kept a up = same_sorted (by_cluster a) a (order_sorted a) up (λ c. order_of c a)
+run_past : (c d : ℕ) (is js : List Item) (l : List Fed) → (c ≡ d → ⊥)
+    → by_cluster (from_cluster c is ++ (from_cluster d js ++ l)) ≡ by_cluster (from_cluster d js ++ (from_cluster c is ++ l))
+run_past c d [] js l n = refl
+run_past c d (i ∷ is) js l n = grind (arith, one_past, run_past c d is js l n)
 
 -- ---- what holds of each item
 
@@ -96,8 +51,7 @@ all_same : (P : Fed → Type 0) (a b : List Fed) → by_cluster a ≡ by_cluster
 all_same P a b e h = All-permutation P (by_cluster b) b (IsPermutation-sym _ _ (order_moves b)) (subst (All P) e (All-permutation P a (by_cluster a) (order_moves a) h))
 
 kept_same : (k : ActionKind) (a b : List Fed) → by_cluster a ≡ by_cluster b → kept_of k a ≡ kept_of k b
-kept_same (ActionKind.Take c) a b e = e
-kept_same k a b e = refl
+kept_same k a b e = grind arith
 
 -- an accumulator knows the items by their clusters alone
 pub has_fed_same : (acc : Accumulator) (a b : List Fed) → by_cluster a ≡ by_cluster b → HasFed acc a → HasFed acc b
@@ -109,66 +63,61 @@ has_fed_same acc a b e h = record {
 
 -- ---- The items of the clusters in a set.
 
-abbrev pub copies : {A : Type 0} → ℕ → List A → List A
-copies zero xs = []
-copies (suc n) xs = xs ++ copies n xs
-
-copies_both : {A : Type 0} (m n : ℕ) (xs : List A) → copies (m + n) xs ≡ copies m xs ++ copies n xs
-copies_both zero n xs = let e : 0 + n ≡ n = omega arith in ap (λ k. copies k xs) e
-copies_both (suc m) n xs = let e : suc m + n ≡ suc (m + n) = omega arith in ap (λ k. copies k xs) e ∙ ap (λ l. xs ++ l) (copies_both m n xs) ∙ sym (append_assoc xs (copies m xs) (copies n xs))
-
-its_own : (c : ℕ) (items : List Item) → of_cluster c (from_cluster c items) ≡ from_cluster c items
-its_own c [] = refl
-its_own c (i ∷ is) = of_its c (record { cluster = c; item = i }) (from_cluster c is) refl ∙ ap (λ l. record { cluster = c; item = i } ∷ l) (its_own c is)
-
-of_another : (c d : ℕ) (items : List Item) → (d == c) ≡ false → of_cluster c (from_cluster d items) ≡ []
-of_another c d [] n = refl
-of_another c d (i ∷ is) n = of_other c (record { cluster = d; item = i }) (from_cluster d is) n ∙ of_another c d is n
-
 module _ (items : ℕ → List Item) where
-  pub cluster_of : (c : ℕ) (set : List ℕ) → of_cluster c (flat_map (λ d. from_cluster d (items d)) set) ≡ copies (times c set) (from_cluster c (items c))
-  cluster_of c [] = refl
-  cluster_of c (d ∷ ds) = of_both c (from_cluster d (items d)) (flat_map (λ k. from_cluster k (items k)) ds) ∙ elim (cases_eq d c) [
-    | inl e ↦ ap₂ (λ a b. a ++ b) (subst (λ k. of_cluster c (from_cluster k (items k)) ≡ from_cluster c (items c)) (sym e) (its_own c (items c))) (cluster_of c ds)
-        ∙ ap (λ n. copies n (from_cluster c (items c))) (sym (subst (λ k. times c (k ∷ ds) ≡ suc (times c ds)) (sym e) (times_self c ds)))
-    | inr n ↦ ap₂ (λ a b. a ++ b) (of_another c d (items d) (ne_eqb d c n)) (cluster_of c ds) ∙ ap (λ k. copies k (from_cluster c (items c))) (sym (times_other c d ds n))
-  ]
+  abbrev fed : List ℕ → List Fed
+  fed set = flat_map (λ c. from_cluster c (items c)) set
 
-  all_from : (c : ℕ) (k : ℕ) (is : List Item) (rest : List Fed) → c ≤ k → AllFrom c rest → AllFrom c (from_cluster k is ++ rest)
+  swapped : (c d : ℕ) (l : List Fed)
+      → by_cluster (from_cluster c (items c) ++ (from_cluster d (items d) ++ l)) ≡ by_cluster (from_cluster d (items d) ++ (from_cluster c (items c) ++ l))
+  swapped c d l = grind (arith, cases_eq, run_past)
+
+  -- any cluster may come first
+  to_front : (c : ℕ) (set : List ℕ) (k : ℕ) → k < length set → get_or set k c ≡ c → by_cluster (fed set) ≡ by_cluster (from_cluster c (items c) ++ fed (remove set k))
+  to_front c [] k lt e = absurd (omega arith)
+  to_front c (d ∷ ds) zero lt e = ap (λ n. by_cluster (fed (n ∷ ds))) e
+  to_front c (d ∷ ds) (suc k) lt e = behind (from_cluster d (items d)) _ _ (to_front c ds k (omega arith) e) ∙ swapped d c (fed (remove ds k))
+
+  -- which clusters there are tells the order
+  same_order : (ys xs : List ℕ) → ((x : ℕ) → times x xs ≡ times x ys) → by_cluster (fed xs) ≡ by_cluster (fed ys)
+  same_order [] [] same = refl
+  same_order [] (x ∷ xs) same = absurd (omega (arith, times_self x xs, same x))
+  same_order (y ∷ ys) xs same =
+      let there = times_contains y xs (omega (arith, times_self y ys, same y)) in
+      let moved = IsPermutation-remove xs there.0 y there.1 (sym there.2) in
+      to_front y xs there.0 there.1 there.2 ∙ behind (from_cluster y (items y)) _ _ (same_order ys (remove xs there.0) (λ x.
+      omega (arith, times_permuted x xs (y ∷ remove xs there.0) moved, times_cons x y (remove xs there.0), times_cons x y ys, same x)))
+
+  all_from : (c : ℕ) (k : ℕ) (is : List Item) (rest : List Fed) → c ≤ k → AreFrom c rest → AreFrom c (from_cluster k is ++ rest)
   all_from c k [] rest le h = h
   all_from c k (i ∷ is) rest le h = (le, all_from c k is rest le h)
 
-  all_above : (c : ℕ) (ds : List ℕ) → Above c ds → AllFrom c (flat_map (λ d. from_cluster d (items d)) ds)
+  all_above : (c : ℕ) (ds : List ℕ) → Above c ds → AreFrom c (fed ds)
   all_above c [] h = tt
-  all_above c (d ∷ ds) h = let first = h.0 in all_from c d (items d) (flat_map (λ k. from_cluster k (items k)) ds) (omega arith) (all_above c ds h.1)
+  all_above c (d ∷ ds) h = let first = h.0 in all_from c d (items d) (fed ds) (omega arith) (all_above c ds h.1)
 
-  run_sorted : (c : ℕ) (is : List Item) (rest : List Fed) → AllFrom c rest → AreSorted rest → AreSorted (from_cluster c is ++ rest)
+  run_sorted : (c : ℕ) (is : List Item) (rest : List Fed) → AreFrom c rest → AreSorted rest → AreSorted (from_cluster c is ++ rest)
   run_sorted c [] rest from up = up
   run_sorted c (i ∷ is) rest from up = (all_from c c is rest (omega arith) from, run_sorted c is rest from up)
 
-  pub rising_sorted : (set : List ℕ) → Rises set → AreSorted (flat_map (λ d. from_cluster d (items d)) set)
+  pub rising_sorted : (set : List ℕ) → Rises set → AreSorted (fed set)
   rising_sorted [] up = tt
-  rising_sorted (c ∷ cs) up = run_sorted c (items c) (flat_map (λ d. from_cluster d (items d)) cs) (all_above c cs up.0) (rising_sorted cs up.1)
+  rising_sorted (c ∷ cs) up = run_sorted c (items c) (fed cs) (all_above c cs up.0) (rising_sorted cs up.1)
 
   -- two sets one after the other are in the order of their union
-  pub order_union : (mine theirs all : List ℕ) → IsUnion (mine ∷ theirs ∷ []) all
-      → by_cluster (flat_map (λ d. from_cluster d (items d)) mine ++ flat_map (λ d. from_cluster d (items d)) theirs) ≡ by_cluster (flat_map (λ d. from_cluster d (items d)) all)
-  order_union mine theirs all u = order_same _ _ (λ c.
-      of_both c (flat_map (λ d. from_cluster d (items d)) mine) (flat_map (λ d. from_cluster d (items d)) theirs)
-      ∙ ap₂ (λ a b. a ++ b) (cluster_of c mine) (cluster_of c theirs)
-      ∙ sym (copies_both (times c mine) (times c theirs) (from_cluster c (items c)))
-      ∙ ap (λ n. copies n (from_cluster c (items c))) (sym (counted c (mine ∷ theirs ∷ []) all u ∙ two c mine theirs))
-      ∙ sym (cluster_of c all))
+  pub order_union : (mine theirs all : List ℕ) → IsUnion (mine ∷ theirs ∷ []) all → by_cluster (fed mine ++ fed theirs) ≡ by_cluster (fed all)
+  order_union mine theirs all u =
+      ap by_cluster (sym (flat_map-append (λ c. from_cluster c (items c)) mine (theirs ++ []) ∙ ap (λ l. fed mine ++ fed l) (append-nil theirs)))
+      ∙ same_order all (mine ++ (theirs ++ [])) (λ x. sym (times_permuted x (mine ++ (theirs ++ [])) all u.each_once))
 
   plain_run : (c : ℕ) (is : List Item) → map (λ (f : Fed). f.item) (from_cluster c is) ≡ is
   plain_run c [] = refl
   plain_run c (i ∷ is) = ap (λ l. i ∷ l) (plain_run c is)
 
-  plain : (set : List ℕ) → map (λ (f : Fed). f.item) (flat_map (λ d. from_cluster d (items d)) set) ≡ flat_map items set
+  plain : (set : List ℕ) → map (λ (f : Fed). f.item) (fed set) ≡ flat_map items set
   plain [] = refl
   plain (c ∷ cs) = grind (arith, map-append, plain_run, plain cs)
 
-  pub in_order : (set : List ℕ) → IsStrictlyIncreasing set → in_file_order (flat_map (λ d. from_cluster d (items d)) set) ≡ flat_map items set
+  pub in_order : (set : List ℕ) → IsStrictlyIncreasing set → in_file_order (fed set) ≡ flat_map items set
   in_order set up = ap (map (λ (f : Fed). f.item)) (order_kept _ (rising_sorted set (rises_from set up))) ∙ plain set
 
 flat_map-flat_map : {A B C : Type 0} (g : B → List C) (h : A → List B) (xs : List A) → flat_map g (flat_map h xs) ≡ flat_map (λ x. flat_map g (h x)) xs
@@ -193,10 +142,9 @@ by_places g (s ∷ ss) =
     ∙ ap (λ l. g (Some s) ∷ l) (map-map (λ c. g (slice_get (s ∷ ss) c)) (λ k. suc k) (below (length ss)) ∙ by_places g ss)
 
 pub joined_places : {A : Type 0} (g : Option Span → List A) (spans : List Span) → flat_map (λ c. g (slice_get spans c)) (below (length spans)) ≡ flat_map (λ s. g (Some s)) spans
-joined_places g [] = refl
-joined_places g (s ∷ ss) =
-    ap (flat_map (λ c. g (slice_get (s ∷ ss) c))) (below_front (length ss))
-    ∙ ap (λ l. g (Some s) ++ l) (flat_map-map (λ c. g (slice_get (s ∷ ss) c)) (λ k. suc k) (below (length ss)) ∙ joined_places g ss)
+joined_places g spans =
+    sym (flat_map-map (λ l. l) (λ c. g (slice_get spans c)) (below (length spans)))
+    ∙ ap (flat_map (λ l. l)) (by_places g spans) ∙ flat_map-map (λ l. l) (λ s. g (Some s)) spans
 
 -- ---- ranges
 
@@ -287,8 +235,7 @@ counts_union f mine theirs all i u = (by_test is_reached, by_test is_passed)
     by_test p = counts_by_cluster f p all i ∙ sum_union (reached_in f p i) mine theirs all u ∙ sym (ap₂ (λ a b. a + b) (counts_by_cluster f p mine i) (counts_by_cluster f p theirs i))
 
 one_row : (p : Reach → Bool) (o : Option Reach) → count_by p (if_there o) ≤ 1
-one_row p None = omega arith
-one_row p (Some r) = grind (arith, common_steps)
+one_row p o = grind (arith, common_steps)
 
 pub counts_few : (f : LoopFacts) (set : List ℕ) (i : ℕ) → IsLoopFacts f → IsStrictlyIncreasing set → (counts_at f set i).all ≤ 1000000
 counts_few f set i facts up =

@@ -1,5 +1,5 @@
 -- The first fault, cluster by cluster.
-use Rattle.std.proofs.Common.{◌≡◌, ◌⊎◌, ℕ, suc, ◌+◌, ◌-◌, ◌<◌, ◌≤◌, List, [], ◌∷◌, ◌++◌, length, map, Option, None, Some, refl, sym, ap, ap₂, ◌∙◌, inl, inr, arith, slice_get, slice_range, option_map}
+use Rattle.std.proofs.Common.{◌≡◌, ◌⊎◌, ℕ, suc, ◌+◌, ◌<◌, ◌≤◌, List, [], ◌∷◌, ◌++◌, length, map, Option, Some, refl, sym, ap, ap₂, ◌∙◌, inl, inr, arith, slice_get, slice_range, option_map}
 use Rattle.lemmas.proofs.{range_length, same_some, slice_get-map, take_at_most}
 use Rattle.rdf_values.specs.{EntryFault, Fault, first_in, Lead, Pass, Span, Value}
 use Rattle.rdf_values.proofs.Evenly.{led_are_in_order}
@@ -8,12 +8,10 @@ use Rattle.loop_pieces.specs.{begin_of, cluster_faults, FirstClusterHasFirstFaul
 use Rattle.loop_pieces.proofs.ByCluster.{by_places, lead_up, ranges_join, range_none, range_whole}
 
 pub first_of-assoc : (a b c : Option Fault) → first_of (first_of a b) c ≡ first_of a (first_of b c)
-first_of-assoc None b c = refl
-first_of-assoc (Some f) b c = refl
+first_of-assoc a b c = grind arith
 
 first_in-cons : (o : Option Fault) (os : List (Option Fault)) → first_in (o ∷ os) ≡ first_of o (first_in os)
-first_in-cons None os = refl
-first_in-cons (Some f) os = refl
+first_in-cons o os = grind arith
 
 module _ (d : Dataset) (ps : List Pass) where
   fault_from-append : (xs ys : List (List Value)) (e : ℕ) → first_fault_from d e (xs ++ ys) ps ≡ first_of (first_fault_from d e xs ps) (first_fault_from d (e + length xs) ys ps)
@@ -24,16 +22,14 @@ module _ (d : Dataset) (ps : List Pass) where
       ∙ sym (first_of-assoc (first_fault_in d e 0 x ps) (first_fault_from d (e + 1) xs ps) (first_fault_from d (e + suc (length xs)) ys ps))
 
   entry_or : (e n : ℕ) (o : Option EntryFault) (after : Option Fault) (f : Fault) → ((g : Fault) → after ≡ Some g → g.entry ≡ e) → fault_or e n o after ≡ Some f → f.entry ≡ e
-  entry_or e n None after f rest h = rest f h
-  entry_or e n (Some kind) after f rest h = sym (ap (λ (g : Fault). g.entry) (same_some h))
+  entry_or e n o after f rest h = grind (arith, same_some)
 
   entry_in : (qs : List Pass) (e n : ℕ) (row : List Value) (f : Fault) → first_fault_in d e n row qs ≡ Some f → f.entry ≡ e
   entry_in [] e n row f h = absurd (cc)
   entry_in (q ∷ qs) e n row f h = entry_or e n (fault_at d row q) (first_fault_in d e (n + 1) row qs) f (λ g is. entry_in qs e (n + 1) row g is) h
 
   entry_first : (a b : Option Fault) (f : Fault) → first_of a b ≡ Some f → (a ≡ Some f) ⊎ (b ≡ Some f)
-  entry_first None b f h = inr h
-  entry_first (Some g) b f h = inl h
+  entry_first a b f h = grind arith
 
   -- the fault of some rows lies among them
   fault_within : (rows : List (List Value)) (e : ℕ) (f : Fault) → first_fault_from d e rows ps ≡ Some f → (e ≤ f.entry) × (f.entry < e + length rows)

@@ -44,8 +44,7 @@ module _ (k : ActionKind) (i : ℕ) where
   rows_fit f facts at e d lt = let row = get_or f.spreads e d in go row (slice_get row i) refl (λ items its. facts.fit e i row items k (slice_get-get_or f.spreads e d lt) its at)
     where
       go : (row : List (List Item)) (o : Option (List Item)) → slice_get row i ≡ o → ((items : List Item) → slice_get row i ≡ Some items → FitsSpread k items) → FitsSpread k (elim o [ None ↦ [] | Some xs ↦ xs ])
-      go row None is h = nothing_fits
-      go row (Some items) is h = h items is
+      go row o is h = grind (arith, nothing_fits)
 
   few_of : (rows : List (List (List Item))) → All FitsRow rows → length (flat_map (λ row. list_at row i) rows) ≤ 4096 * length rows
   few_of [] h = omega arith

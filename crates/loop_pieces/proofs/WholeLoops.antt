@@ -1,9 +1,9 @@
 -- A piece gives what separate passes give over the rows of its clusters.
 use Rattle.std.proofs.Common.{◌≡◌, ℕ, zero, suc, ◌<◌, ◌≤◌, Bool, true, List, [], ◌∷◌, ◌++◌, length, get_or, Option, None, Some, refl, sym, ap, ◌∙◌, subst, arith, length-append, flat_map, slice_get, slice_range, option_map, All}
 use Rattle.lemmas.proofs.{any_at, get_or_from_slice_get, same_some, slice_get-get_or, slice_get-map, slice_get_within}
-use Rattle.rdf_values.specs.{ActionAt, ActionKind, below, Booking, fold_items, Lead, Pass, Path, ReportOn, same, Span, Under, Value}
+use Rattle.rdf_values.specs.{ActionKind, below, Booking, fold_items, Lead, Pass, Path, same, Span, Under, Value}
 use Rattle.rdf_values.proofs.UnionLemmas.{slice_get-below}
-use Rattle.rdf_model.specs.{◌>>=◌, action_pass, booking_outcome, Dataset, Entry, fault_in, filter_in, filter_node, FilterCounts, is_covered, kind_in, kinds_in, loop_facts, Outcome, over_clusters, report_in, reports_on, result_over, rows_in, span_rows}
+use Rattle.rdf_model.specs.{◌>>=◌, action_pass, booking_outcome, Dataset, Entry, fault_in, filter_in, filter_node, FilterCounts, is_covered, kinds_in, loop_facts, Outcome, over_clusters, report_in, reports_on, result_over, rows_in, span_rows}
 use Rattle.rdf_model.proofs.Accepted.{itself}
 use Rattle.rdf_model.proofs.Faults.{first_fault_is_least, facts_give_results, facts_give_counts}
 use Rattle.actions.specs.{Accumulator, in_file_order}
@@ -29,12 +29,7 @@ all_clusters_are_the_table d spans leads = ap (λ rows. record d { rows = rows }
 -- the kind of an action pass stands at its place
 kind_there : (before after : List Pass) (name : List ℕ) (k : ActionKind) (at : Path) (u : Under) → slice_get (kinds_in (before ++ action_pass name k at u ∷ after)) (length (kinds_in before)) ≡ Some k
 kind_there [] after name k at u = refl
-kind_there (q ∷ before) after name k at u = go q.result.booking (kind_there before after name k at u)
-  where
-    go : (b : Booking) → slice_get (kinds_in (before ++ action_pass name k at u ∷ after)) (length (kinds_in before)) ≡ Some k
-        → slice_get (kind_in b ++ kinds_in (before ++ action_pass name k at u ∷ after)) (length (kind_in b ++ kinds_in before)) ≡ Some k
-    go (ActionAt j p) h = h
-    go (ReportOn fs) h = h
+kind_there (q ∷ before) after name k at u = grind (arith, kind_there before after name k at u)
 
 pub piece_holds_results : PieceHoldsResults
 piece_holds_results d filters spans set before after name k at u piece acc stands there =

@@ -124,8 +124,7 @@ module _ {H : Type 0} (Rule : List ℕ → List H → Type 0) (again : (words : 
 
   -- a view is cut in two
   pub deals : (id : ℕ) (v : List H) → 0 < length v → Splits Holds id v (others v) (first_alone v)
-  deals id [] some_hand = absurd (omega arith)
-  deals id (h ∷ hs) some_hand = deal id h hs
+  deals id v some_hand = grind (arith, deal)
 
   -- a view takes in another
   pub gathers : (id : ℕ) (v : List H) (other : ℕ) (w : List H) → Joins Holds id v other w (w ++ v) []
@@ -170,11 +169,7 @@ module _ {S H : Type 0} where
     one_dealt some_hand = ap (λ m. first_alone m.0) d.undealt ∙ (let left_is : left ≡ suc (left - 1) = omega arith in ap (λ n. first_alone (replicate n h)) left_is)
 
     pub next_dealt : (fewer : ℕ) (now : List S) (s : S) (at' : TableId) (me' : Me ℕ (List H)) → left ≡ suc fewer → at' ≡ at → me' ≡ (others me.0, me.1) → now ≡ made ++ s ∷ [] → s ≡ fresh n → IsDealing fresh h table fewer (n + 1) now at' me'
-    next_dealt fewer now s at' me' less same rest more is = record {
-      of = same ∙ d.of;
-      undealt = rest ∙ ap (λ m. (others m.0, m.1)) d.undealt ∙ ap (λ n. (others (replicate n h), [])) less;
-      dealt = more ∙ dealt_more fresh n made s d.dealt is;
-    }
+    next_dealt fewer now s at' me' less same rest more is = grind (arith, dealt, dealt_more)
 
   -- the hands of those that are left and of those that were taken in are the hands of all
   pub record IsGathering (hand : S → H) (place : S → TableId) (table : TableId) (all left : List S) (at : TableId) (me : Me ℕ (List H)) : Type 0 where

@@ -40,12 +40,10 @@ have_last (l ∷ ls) r xs h =
     (t.0, here ++ t.1, t.2, h.3 ∙ ap (λ z. here ++ z) t.3 ∙ sym (append_assoc here t.1 (range_with_len r.first (suc t.0))), (h.0, t.1, h.2, refl, t.4))
 
 front_one : (x : ℕ) (rs : List Run) → in_front x rs ≡ run_in_front (record { first = x; last = x }) rs
-front_one x [] = refl
-front_one x (r ∷ rs) = refl
+front_one x rs = grind arith
 
 front_joins : (a k : ℕ) (rs : List Run) → in_front a (run_in_front (record { first = a + 1; last = k }) rs) ≡ run_in_front (record { first = a; last = k }) rs
-front_joins a k [] = rw (eq_itself (a + 1)) refl
-front_joins a k (s ∷ ss) = grind (arith, eq_itself)
+front_joins a k rs = grind (arith, eq_itself)
 
 -- a run's numbers in front of others
 runs_put : (a m k : ℕ) (done : List ℕ) → k ≡ a + m → maximal_runs (range_with_len a (suc m) ++ done) ≡ run_in_front (record { first = a; last = k }) (maximal_runs done)

@@ -24,15 +24,7 @@ module _ (ns : List ℕ) (low high s e : ℕ) (le : low ≤ high) (start : IsPar
   in_order = grind (arith, ltb-true, ltb-false, cases_lt)
 
   pub is_stretch : IsStretch ns low high s (e - s) × (s ≤ e)
-  is_stretch = let order = in_order in (
-    record {
-      fits = omega arith;
-      before = λ k lt. ltb-true (get_or ns k 0) low (start.0 k 0 (omega arith) lt);
-      inside = λ k most lt. (ltb-false (get_or ns k 0) low (start.1 k 0 most (omega arith)), ltb-true (get_or ns k 0) high (end.0 k 0 (omega arith) (omega arith)));
-      after = λ k most lt. ltb-false (get_or ns k 0) high (end.1 k 0 (omega arith) lt);
-    },
-    order,
-  )
+  is_stretch = grind (arith, in_order, ltb-true, ltb-false)
 
 -- without the first number
 shifted : (n : ℕ) (ns : List ℕ) (low high s m s' m' : ℕ) → s' ≡ s - 1 → suc (s' + m') ≡ s + m → IsStretch (n ∷ ns) low high s m → IsStretch ns low high s' m'

@@ -32,10 +32,7 @@ module _ (facts : LoopFacts) (places : List ℕ) (dones : List (List ℕ)) (piec
 -- the trail of that number of a piece
 pub trail_there : (w i : ℕ) (os : List (List ℕ)) (pieces : List LoopPiece) (p : LoopPiece) (t trail : List (Noted WatchPiece)) → HaveNumbers os (trails_at w pieces) → All (λ (q : LoopPiece). w < length q.trails.items) pieces → i < length os
     → t ≡ get_or (get_or pieces i p).trails.items w t → trail ≡ t → slice_get (trails_at w pieces) i ≡ Some trail
-trail_there w i os pieces p t trail have there lt is same =
-    let its_trail : LoopPiece → List (Noted WatchPiece) = λ (q : LoopPiece). get_or q.trails.items w [] in
-    let within : i < length pieces = omega (arith, as_many os (trails_at w pieces) have, length-map pieces its_trail, lt) in
-    slice_get-map its_trail pieces i ∙ ap (option_map its_trail) (slice_get-get_or pieces i p within) ∙ ap Some (get_or_default (get_or pieces i p).trails.items w [] t (there i p within) ∙ sym is ∙ sym same)
+trail_there w i os pieces p t trail have there lt is same = grind (arith, as_many, length-map, slice_get-map, slice_get-get_or, get_or_default)
 
 -- the lines of the results before place w
 pub record AreLinesUpTo (facts : LoopFacts) (places : List ℕ) (sets : List (List ℕ)) (w : ℕ) (all : List (List PartialLine)) : Type 0 where

@@ -1,7 +1,7 @@
 use Rattle.std.proofs.Common.{ℕ, sym, ◌∙◌, subst, arith}
 use Rattle.loop_keys.specs.{job_of}
-use Rattle.event_loop.specs.{AreBlank, job_facts}
-use Rattle.event_loop.proofs.Whole.{facts_of, has_room, can_fill, first_is}
+use Rattle.event_loop.specs.{AreBlank, IsOutcome, job_facts}
+use Rattle.event_loop.proofs.Whole.{facts_of, has_room, can_fill}
 use Rattle.event_loop.proofs.one_loop.run_loop.Goals as goal
 use Rattle.slot_words.proofs.Steps.{seats_many, seats_ready}
 
@@ -39,7 +39,7 @@ returns-in-Faulted g c =
     let facts = facts_of j claims.clusters c.requires.job.job (c.in_ok-claims.ensures.0 ∙ c.cluster_count-clusters.ensures.value) in
     let ok = c.in_ok-finished.finished.ok.0 in
     let ended = c.in_ok-fault.ensures c.in_ok-book.book (job_facts j) facts (λ k f lt. c.in_ok-finished.ensures.each k f (omega (arith, c.in_ok-finished.ensures.len))) in
-    first_is c.in_ok-book.book claims.slots (job_facts j) _ c.in-Faulted.fault ended c.in-Faulted.is
+    subst (IsOutcome c.in_ok-book.book (job_facts j) claims.slots) c.in-Faulted.is ended
 
 pub returns-in_ok-filled-in-Processed : goal.returns-in_ok-filled-in-Processed
 returns-in_ok-filled-in-Processed g c =

@@ -10,8 +10,7 @@ use Rattle.slot_words.proofs.lines.lines_of.Goals as goal
 -- the lines before the next one
 so_far : (os : List (List ℕ)) (clusters step n : ℕ) (ts : List (List (Noted WatchPiece))) (w : WatchedPlace os clusters ts) (ls now : List PartialLine) → clusters ≤ 1000000 → n < clusters / step → length ls ≡ n → now ≡ ls
     → ArePartialLines w.facts w.place (map (λ j. set_before os w.dones clusters ((j + 1) * step)) (below (length ls))) ls → AreLinesSoFar os clusters w.facts w.place w.dones step now
-so_far os clusters step n ts w ls now few lt many is are = subst (AreLinesSoFar os clusters w.facts w.place w.dones step) (sym is)
-    record { few = few; within = subst (λ (m : ℕ). (m + 1) * step ≤ clusters) (sym many) (multiple_below clusters step n lt); are = are }
+so_far os clusters step n ts w ls now few lt many is are = grind (arith, multiple_below)
 
 pub next_line-requires-clause-noted : goal.next_line-requires-clause-noted
 next_line-requires-clause-noted c = (c.args.clusters, c.requires.noted, so_far _ _ _ c.loop.counter _ c.requires.noted c.loop.lines _ c.requires.few c.loop-test.true c.loop.invariant.many c.as_slice.ensures (c.loop.invariant.are c.requires.noted))
