@@ -1,9 +1,8 @@
 -- How many entries the next block has, entry by entry.
-use Rattle.std.proofs.Common.{◌≡◌, ◌⊎◌, ℕ, ℤ, zero, suc, ◌+◌, ◌-◌, ◌*◌, ◌<◌, ◌≤◌, Bool, true, ◌&&◌, List, [], ◌∷◌, length, map, take, drop, Some, refl, sym, ◌∙◌, ap, subst, arith, slice_get, if◌then◌else◌, nat_le, option_and_then, option_map, slice_range, sum_by, unwrap_or, drop-cons}
-use Rattle.lemmas.proofs.{get_or_from_slice_get, le-leb, lt-leb, lt-ltb, range_length, slice_get_within, something_at, sum_by-append, sum_by-cons, take_next}
+use Rattle.std.proofs.Common.{◌≡◌, ℕ, ℤ, zero, suc, ◌+◌, ◌-◌, ◌*◌, ◌<◌, ◌≤◌, Bool, true, ◌&&◌, List, [], ◌∷◌, length, map, take, drop, Some, refl, sym, ◌∙◌, ap, subst, arith, slice_get, if◌then◌else◌, nat_le, option_and_then, option_map, slice_range, sum_by, unwrap_or, drop-cons}
+use Rattle.lemmas.proofs.{get_or_from_slice_get, le-leb, lt-leb, lt-ltb, slice_get_within, something_at, sum_by-append, sum_by-cons, take_next}
 use Rattle.rdf_values.specs.{cell, ColType, Column, FitRows, FitsColumn, FitsKind, FitsRow, IsTable, kind_at, TableView, Value}
 use Rattle.block_laws.specs.{elements_in, first_length, more_fit, one_more_fits, row_elements}
-use Rattle.block_laws.proofs.BlockCuts.{plain_first}
 use Rattle.std.proofs.lemmas.List.{take_all}
 use Rattle.rdf_values.proofs.KeptLemmas.{fits_length}
 use Rattle.loop_keys.proofs.PassNumbers.{some_same}
@@ -128,8 +127,3 @@ module _ (rows : List (List Value)) (keys size most hi : ℕ) where
         let e = is r.0 r.1 in no_more lo end elements at r.0 r.1 lt room (omega (arith, e, many))
 
 -- ---- without vectors
-
--- where no key is of vectors a block has as many entries as any, or all that are left
-pub plain_end : (size lo hi keys end : ℕ) (rows : List (List Value)) → 1 ≤ size → lo < hi → hi ≤ length rows → keys ≡ 0 → (end ≡ lo + size) ⊎ (end ≡ hi) → end ≤ hi → end ≤ lo + size
-    → end ≡ lo + first_length size 4194304 (map (row_elements keys) (slice_range rows lo hi))
-plain_end size lo hi keys end rows some up within none whole inside short = grind (arith, range_length, plain_first)

@@ -1,7 +1,7 @@
 -- How the search goes on, part after part and pass after pass, and places of a block in their order.
 use Rattle.std.proofs.Common.{◌≡◌, ◌⊎◌, inl, inr, ℕ, ◌+◌, ◌<◌, Option, None, Some, refl, sym, ◌∙◌, ap, subst, arith, if◌then◌else◌, Bool, true, false, ◌&&◌, List, [], ◌∷◌, ◌++◌, slice_get, zero, suc, ◌-◌, length, drop, slice_range, ◌^◌, ◌≤◌, cond, take, ap₂, nat_lt, nat_eq, ℤ, length-set, set, get_or, get_or-set_same, get_or-set_other, pos, flat_map, filter}
 use Rattle.rdf_values.specs.{ActionKind, EntryFault, Fault, Pass, Value, Span}
-use Rattle.block_passes.specs.{Chain, fault_at, feeding_fault, Found, GivesNumber, GivesVector, HasVector, IsLast, IsSearched, Lowers, noted, through_chain, where_in, where_passed}
+use Rattle.block_passes.specs.{Chain, feeding_fault, Found, GivesNumber, GivesVector, HasVector, IsLast, IsSearched, Lowers, noted, through_chain, where_in, where_passed}
 use Rattle.rdf_model.specs.{◌>>=◌, fault_in, fault_or, first_fault_from, first_fault_in, first_of, for_all, Gives, is_true, Outcome, truth_of, unless_fault}
 use Rattle.graph_numbers.specs.{action_numbers, FilterAt, report_numbers, ResultAt, through_filter, through_sites}
 use Rattle.loop_keys.specs.{JobView, outcome_of, site_in}
@@ -23,10 +23,6 @@ or_else (Some kind) later = Some kind
 
 pub none_lowers : (part : ℕ → Option EntryFault) (first pass : ℕ) (s : Found) → ((p : ℕ) → p < s.limit → part p ≡ None) → Lowers part first pass s s
 none_lowers part first pass s h = record { falls = omega arith; clear = h; same = λ e. refl; found = λ k. absurd (omega (arith, k)) }
-
-pub fault_lowers : (part : ℕ → Option EntryFault) (first pass : ℕ) (s : Found) (q : ℕ) (kind : EntryFault) → q < s.limit → part q ≡ Some kind → ((p : ℕ) → p < q → part p ≡ None)
-    → Lowers part first pass s (fault_at first pass q kind)
-fault_lowers part first pass s q kind lt is h = grind arith
 
 -- one part after another
 module _ (a b : ℕ → Option EntryFault) (first pass : ℕ) (old mid new : Found) (h : Lowers a first pass old mid) (k : Lowers b first pass mid new) where
@@ -286,25 +282,13 @@ module _ (f : ℕ → Option EntryFault) where
 
   pub over : (sel : List ℕ) → AreRising sel → IsOver sel (fault_over f sel)
   over [] rising = λ p h. cc h
-  over (p ∷ sel) rising = go (f p) refl (fault_over f sel) (over sel rising.1)
-    where
-      go : (o : Option EntryFault) → f p ≡ o → (rest : Option PlaceFault) → IsOver sel rest → IsOver (p ∷ sel) (fault_before p o rest)
-      go (Some k) e rest h = (
-        first_in p sel,
-        e,
-        λ q i lt. elim (first_or_rest p q sel i) [ inl x ↦ absurd (omega (arith, x, lt)) | inr x ↦ (let a = rising.0 q x in absurd (omega (arith, a, lt))) ],
-      )
-      go None e None h = λ q i. elim (first_or_rest p q sel i) [ inl x ↦ ap f x ∙ e | inr x ↦ h q x ]
-      go None e (Some x) h = (rest_in x.place p sel h.0, h.1, λ q i lt. elim (first_or_rest p q sel i) [ inl y ↦ ap f y ∙ e | inr y ↦ h.2 q y lt ])
+  over (p ∷ sel) rising = grind (arith, first_in, or_cases, eq_says, rest_in, over sel rising.1)
 
   pub selected_or_none : (sel : List ℕ) (p : ℕ) → (is_in p sel ≡ true → f p ≡ None) → where_in f sel p ≡ None
   selected_or_none sel p h = cond_both (is_in p sel) (f p) None (λ o. o ≡ None) h (λ e. refl)
 
   pub over_lowers : (sel : List ℕ) (first pass : ℕ) (s : Found) (o : Option PlaceFault) → AreRising sel → EachPlace sel (λ p. p < s.limit) → o ≡ fault_over f sel → Lowers (where_in f sel) first pass s (noted first pass s o)
-  over_lowers sel first pass s o rising inside e = go o (subst (IsOver sel) (sym e) (over sel rising))
-    where
-      go : (x : Option PlaceFault) → IsOver sel x → Lowers (where_in f sel) first pass s (noted first pass s x)
-      go x h = grind (arith, none_lowers, selected_or_none, fault_lowers)
+  over_lowers sel first pass s o rising inside e = grind (arith, over, clear, cond_both)
 
   -- left are those below the limit
   pub left_below : (sel : List ℕ) (first pass : ℕ) (s : Found) (o : Option PlaceFault) → EachPlace sel (λ p. p < s.limit) → below_fault o sel ≡ filter (λ p. nat_lt p (noted first pass s o).limit) sel

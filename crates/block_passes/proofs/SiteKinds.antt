@@ -1,15 +1,15 @@
 -- The sites of filters come to truth values.
-use Rattle.std.proofs.Common.{◌≡◌, ◌⊎◌, inl, inr, ℕ, zero, suc, ◌+◌, Bool, false, List, [], ◌∷◌, ◌++◌, map, length, All, Option, Some, None, Result, Ok, Err, refl, sym, ◌∙◌, ap, subst, arith, nat_eq, option_map, slice_get, if◌then◌else◌, ◌<◌, ◌≤◌, length-append, replicate, IsOk}
+use Rattle.std.proofs.Common.{◌≡◌, ◌⊎◌, inl, inr, ℕ, zero, suc, ◌+◌, false, List, [], ◌∷◌, ◌++◌, map, length, All, Option, Some, None, Result, Ok, Err, refl, sym, ◌∙◌, ap, subst, arith, nat_eq, option_map, slice_get, if◌then◌else◌, ◌<◌, ◌≤◌, length-append, replicate, IsOk}
 use Rattle.lemmas.proofs.{AllByRecursion, append-nil, cases_eq, Decides-eqb, get_or-replicate, kept_at, length-replicate, recursion_from_All, slice_get-get_or, slice_get_within, something_at}
 use Rattle.rdf_values.specs.{AreAccepted, callee, check_node, check_vector_column, ColType, Column, column_kind, columns_in, expect_kind, fn_names, FunctionNames, GraphCause, history, kind_by, kind_of, makes, NamedTree, parent_of, refuse_unless, renamed, scope_at, scope_of, shape_of, Statement, Under, VaryValues}
 use Rattle.rdf_values.specs.declared.scripts.statement.Statement.TheVariants.{Action, Filter, Report, Vary}
-use Rattle.rdf_model.specs.{own_place, Site, site_at}
+use Rattle.rdf_model.specs.{Site, site_at}
 use Rattle.rdf_model.proofs.Accepted.{both_none, kind_expected, checked_of}
 use Rattle.expr_check.specs.{callee_shape, CheckedExpr, IsWellTyped, number_kind}
 use Rattle.expr_check.proofs.Calls.{callee_shape-callee}
 use Rattle.expr_check.proofs.Distinct.{each_from_distinct}
 use Rattle.expr_check.proofs.Typed.{columns_known, kind_by-renamed, kind_by-same}
-use Rattle.graph_numbers.specs.{cell_sources, filter_sites, FilterAt, filters, graph_kinds, graph_sites, graph_variations, GraphView, IsSiteExpr, named_version, own_filter_site, own_sites, own_source, own_sources, ResultAt, results, site_count, site_depends_at, site_in, SiteAt, sites, Source, source_in, sources, varied_sources, version_at, version_kinds}
+use Rattle.graph_numbers.specs.{cell_sources, filter_sites, FilterAt, filters, graph_kinds, graph_sites, graph_variations, GraphView, IsSiteExpr, own_filter_site, own_sites, own_sources, ResultAt, results, site_count, site_depends_at, site_in, SiteAt, sites, Source, source_in, sources, varied_sources, version_at, version_kinds}
 use Rattle.graph_numbers.proofs.Placing.{further, itself, IsPlaced}
 use Rattle.graph_numbers.proofs.Walks.{by_test, next_at, of_joined, each_filter, each_result}
 use Rattle.graph_numbers.proofs.Meeting.{kind_later, visible_kind}
@@ -210,15 +210,10 @@ module _ (header : List Column) (names : FunctionNames) where
     abbrev OfVectors : List Statement → List Statement → Type 0
     OfVectors before after = (c t k tags : ℕ) → slice_get (sources header names u before) c ≡ Some (Source.Element t k tags) → IsVectorSite after t
 
-    from_own : (before after : List Statement) (values : VaryValues) → OfVectors before after → ((e : _) → values ≡ Vector e → IsVectorSite after (site_count header names before))
-        → (i n : ℕ) (o : Option ℕ) (v t k tags : ℕ) → own_source values (site_count header names before) i n o (source_in (sources header names u before) v) ≡ Source.Element t k tags → IsVectorSite after t
-    from_own before after values old own i n o v t k tags h = grind (arith, of_some)
-
     from_varied : (before after : List Statement) (parent : List ℕ) (values : VaryValues) (names_of : List (List ℕ)) (vary : _) → OfVectors before after → ((e : _) → values ≡ Vector e → IsVectorSite after (site_count header names before))
         → (i : ℕ) (columns : List (List ℕ)) (c t k tags : ℕ) → slice_get (varied_sources header names u before (sources header names u before) parent values names_of vary i columns) c ≡ Some (Source.Element t k tags) → IsVectorSite after t
     from_varied before after parent values names_of vary old own i [] c t k tags h = cc h
-    from_varied before after parent values names_of vary old own i (name ∷ columns) zero t k tags h =
-        from_own before after values old own i (length names_of) (own_place u vary names_of) (named_version header before parent name) t k tags (cc h)
+    from_varied before after parent values names_of vary old own i (name ∷ columns) zero t k tags h = grind (arith, own, of_some)
     from_varied before after parent values names_of vary old own i (name ∷ columns) (suc c) t k tags h = from_varied before after parent values names_of vary old own (suc i) columns c t k tags h
 
     from_statement : (before : List Statement) (s : Statement) → AreAccepted names (scope_of header) (s ∷ before) → OfVectors before (s ∷ before)

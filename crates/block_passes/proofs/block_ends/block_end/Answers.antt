@@ -1,6 +1,8 @@
 use Rattle.std.proofs.Common.{arith}
-use Rattle.block_passes.proofs.FirstLengths.{plain_end, stop_at}
+use Rattle.block_passes.proofs.FirstLengths.{stop_at}
 use Rattle.block_passes.proofs.block_ends.block_end.Goals as goal
+use Rattle.lemmas.proofs.{range_length}
+use Rattle.block_laws.proofs.BlockCuts.{plain_first}
 
 pub returns-then-elements-gt-MAX_ELEMENTS : goal.returns-then-elements-gt-MAX_ELEMENTS
 returns-then-elements-gt-MAX_ELEMENTS c =
@@ -14,6 +16,4 @@ returns-then-elements-gt-MAX_ELEMENTS c =
     (omega (arith, t, w)) (omega (arith, t, f, up)) c.key_elements-elements-in-loop-end.ensures.value many
 
 pub returns-then-keys-eq0 : goal.returns-then-keys-eq0
-returns-then-keys-eq0 c =
-    let last = c.last_end-last.ensures in
-    plain_end c.args.size c.args.entries.lo c.args.entries.hi c.args.keys c.last_end-last.result c.args.columns.now.table.rows c.requires.size c.requires.some c.requires.within c.if-keys-eq0.true last.whole last.within last.few
+returns-then-keys-eq0 = grind (arith, range_length, plain_first)
