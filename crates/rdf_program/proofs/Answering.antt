@@ -1,18 +1,18 @@
 -- Answers to the words and to files, what is written of them, and that each is due.
-use Rattle.std.proofs.Common.{◌≡◌, ◌≤◌, ◌+◌, ℕ, Bool, false, ◌||◌, List, [], ◌∷◌, length, map, Option, Some, None, Ok, nat_lt, option_map, inl, inr, ap, refl, sym, subst, ◌∙◌, if◌then◌else◌, is_some, unwrap_or, Result, Err, ◌++◌, IfSome, arith, append_assoc, OnOk, ◌⊎◌, MatchOption}
+use Rattle.std.proofs.Common.{◌≡◌, ◌≤◌, ◌+◌, ℕ, Bool, false, ◌||◌, List, [], ◌∷◌, length, map, Option, Some, None, Ok, nat_lt, option_map, inl, inr, ap, refl, sym, subst, ◌∙◌, if◌then◌else◌, ◌++◌, IfSome, arith, append_assoc, ◌⊎◌, MatchOption}
 use Rattle.lemmas.proofs.{le-ltb, list_any}
 use Rattle.std.proofs.lemmas.Option.{IfSome_then}
-use Rattle.rdf_values.specs.{Booked, Fault, fn_names, Function, history, IsScript, MarkedTable, Script, Statement, table_of, Value, verdict, Column, FunctionNames, graph_cause_line, GraphCause}
+use Rattle.rdf_values.specs.{fn_names, Function, IsScript, MarkedTable, Script, Statement, table_of, Value, verdict, Column, FunctionNames, graph_cause_line, GraphCause}
 use Rattle.rdf_values.proofs.OneScript.{one_script, script_or_refusal}
-use Rattle.rdf_model.specs.{Access, access_passes, access_printed, accesses, Course, Dataset, first_fault, first_fault_from, loop_passes, Printed, printed}
+use Rattle.rdf_model.specs.{Access, Course, Dataset, first_fault_from, loop_passes, printed}
 use Rattle.expr_read.proofs.Decided.{read_once}
 use Rattle.table_csv.specs.{csv_records}
 use Rattle.command_words.specs.{Friend, Input, asked_of, Command}
-use Rattle.rdf_program.specs.{AcceptedRunsEnd, AreTexts, dataset_of, friend_of, has_fault, IsDueOver, IsDueToInput, IsDueToScript, IsPrinted, IsWithFriend, printed_status, status_of_run, statuses, WithFriend, AreTurnsTo, CallsForFriend, CallsForTable, due_in, HoldsScript, HoldsTable, IsAnswer, IsDueToFiles, MayReadOf, AnswersInput, AnswersWords, AreSettings, AreTurnsIn, IsDue, IsFinal, IsOfRun, IsUnread, MayRead, MayReadIn, NameFiles, NamesFiles, OfFiles, TurnsBesides, WritesPart, WritesReadFailed}
+use Rattle.rdf_program.specs.{AcceptedRunsEnd, AreTexts, friend_of, has_fault, IsDueOver, IsDueToInput, IsWithFriend, printed_status, status_of_run, statuses, WithFriend, AreTurnsTo, CallsForFriend, CallsForTable, due_in, HoldsScript, HoldsTable, IsAnswer, IsDueToFiles, MayReadOf, AnswersInput, AnswersWords, AreSettings, AreTurnsIn, IsDue, IsFinal, IsUnread, MayRead, MayReadIn, NameFiles, NamesFiles, OfFiles, TurnsBesides, WritesPart, WritesReadFailed}
 use Rattle.input_files.specs.{Files, max_script, max_table, ReadsScript, WithScript, WithTable, HoldsTheScript, HoldsTheTable, Tells, due_of, WritesDue, WritesDuePart}
 use Rattle.input_files.specs.Due.{Due}
 use Rattle.rdf_program.specs.declared.status.Status.{Status}
-use Rattle.rdf_program.specs.declared.status.Status.TheVariants.{Done, LoopFault, Memory, Words, ReadFault, WriteFault, NoFile, ScriptRefused, TableRefused, FriendRefused}
+use Rattle.rdf_program.specs.declared.status.Status.TheVariants.{Done, LoopFault, Words, ReadFault, ScriptRefused}
 use Rattle.input_files.proofs.Staging.{script_read_due, table_read_due}
 use Rattle.rdf_program.specs.declared.answer.Answer.{Answer}
 use Rattle.rdf_outside.specs.{Appends, AppendsPart}
@@ -31,54 +31,26 @@ no_passes d e [] = refl
 no_passes d e (row ∷ rows) = no_passes d (e + 1) rows
 
 module _ (script : List Statement) (d : Dataset) (course : Course) where
-  -- the loop of a Print has a fault where the passes of the loop that it runs have one
-  fault_of_loop : (a : Access) → is_some (first_fault d (access_passes script d course a)) ≡ has_fault d (option_map (loop_passes script) a.fills)
-  fault_of_loop a = go a.fills
-    where
-      go : (fills : Option (List Booked)) → is_some (first_fault d (loop_passes script (unwrap_or fills []))) ≡ has_fault d (option_map (loop_passes script) fills)
-      go None = ap is_some (no_passes d 0 d.rows)
-      go (Some results) = refl
-
   abbrev status_where : Bool → Status
   status_where faulty = if faulty then LoopFault else Done
 
   abbrev has_loop_fault : Access → Bool
   has_loop_fault a = has_fault d (option_map (loop_passes script) a.fills)
 
-  at_access : (a : Access) (fault : Option Fault) (rest : Printed) (faulty : Bool) → printed_status rest.status ≡ status_where faulty
-      → printed_status (access_printed script d course a fault rest).status ≡ status_where (is_some fault || faulty)
-  at_access a None rest faulty h = h
-  at_access a (Some f) rest faulty h = refl
-
   status_is : (accs : List Access) → printed_status (printed script d course accs).status ≡ status_where (list_any has_loop_fault accs)
   status_is [] = refl
-  status_is (a ∷ accs) =
-      at_access a (first_fault d (access_passes script d course a)) (printed script d course accs) (list_any has_loop_fault accs) (status_is accs)
-      ∙ ap (λ b. status_where (b || list_any has_loop_fault accs)) (fault_of_loop a)
+  status_is (a ∷ accs) = grind (arith, list_any, no_passes, status_is accs)
 
   any_mapped : (accs : List Access) → list_any has_loop_fault accs ≡ list_any (has_fault d) (map (λ (a : Access). option_map (loop_passes script) a.fills) accs)
   any_mapped [] = refl
   any_mapped (a ∷ accs) = ap (λ b. has_loop_fault a || b) (any_mapped accs)
 
-  pub status_by_loops : (accs : List Access) → printed_status (printed script d course accs).status ≡ status_where (list_any (has_fault d) (map (λ (a : Access). option_map (loop_passes script) a.fills) accs))
-  status_by_loops accs = status_is accs ∙ ap status_where (any_mapped accs)
-
 -- ---- what is due
 
 module _ (fns : List Function) (size watch : ℕ) (script : Script) (table : MarkedTable) (accepted : verdict (fn_names fns) table.table.columns script ≡ None) (d : Due Status) where
-  over_accepted : IsDueOver fns size watch script table d → d.status ≡ status_of_run fns script table
-  over_accepted h =
-      let printed : IsPrinted fns size watch script table d = rw accepted at h in
-      printed.status ∙ status_by_loops (history script) (dataset_of fns size watch table.table) printed.course (accesses (history script))
-
   to_friend : (friend : Option Friend) (files : Files) (own : MarkedTable) → IsWithFriend friend files own table
       → WithFriend friend files own (λ t e. IsDueOver fns size watch script t e) d → d.status ≡ status_of_run fns script table
-  to_friend None files own w h = over_accepted (subst (λ (t : MarkedTable). IsDueOver fns size watch script t d) (sym w) h)
-  to_friend (Some friend) files own w h =
-      let fits : nat_lt max_table (length w.bytes) ≡ false = le-ltb max_table (length w.bytes) w.short in
-      let read = rw w.there at h in
-      let same : record { table = table.table; marks = own.marks } ≡ table = ap (λ (ms : List ℕ). let t : MarkedTable = record { table = table.table; marks = ms } in t) (sym w.marks) in
-      over_accepted (subst (λ (t : MarkedTable). IsDueOver fns size watch script t d) same (rw (fits, w.is_other, w.joins) at read))
+  to_friend friend files own w h = grind (arith, status_is, any_mapped, le-ltb)
 
   tabled : (bytes : List ℕ) (own : MarkedTable) (Next : MarkedTable → Due Status → Type 0) → length bytes ≤ max_table → table_of (csv_records bytes) ≡ Ok own → WithTable statuses bytes Next d → Next own d
   tabled bytes own Next short is h =
@@ -97,10 +69,7 @@ module _ (fns : List Function) (size watch : ℕ) (script : Script) (table : Mar
   to_input : (files : Files) (named : Input) (script_bytes table_bytes : List ℕ) (own : MarkedTable) → AreTexts files named script_bytes table_bytes
       → length script_bytes ≤ max_script → length table_bytes ≤ max_table → IsScript script_bytes script → table_of (csv_records table_bytes) ≡ Ok own → IsWithFriend (friend_of named) files own table
       → IsDueToInput fns size watch files named d → d.status ≡ status_of_run fns script table
-  to_input files (Input.Files s t friend) sb tb own texts short_script short_table is_script is_table w h =
-      let bytes = rw texts.0 at h in
-      let next : IsDueToScript fns size watch script t friend files d = reading sb (λ x e. IsDueToScript fns size watch x t friend files e) short_script is_script bytes in
-      to_friend friend files own w (tabled tb own (λ o e. WithFriend friend files o (λ x u. IsDueOver fns size watch script x u) e) short_table is_table (rw texts.1 at next))
+  to_input files (Input.Files s t friend) sb tb own texts short_script short_table is_script is_table w h = grind (arith, reading, status_is, any_mapped, le-ltb)
   to_input files (Input.Generated entries seed) sb tb own texts short_script short_table is_script is_table w h =
       let due : WithScript statuses sb (λ x e. WithTable statuses tb (λ t u. IsDueOver fns size watch x t u) e) d = rw (texts.0, texts.1) h in
       to_friend None files own w (tabled tb own (λ t u. IsDueOver fns size watch script t u) short_table is_table (reading sb (λ x e. WithTable statuses tb (λ t u. IsDueOver fns size watch x t u) e) short_script is_script due))
@@ -120,10 +89,6 @@ Told = Option Files
 two_told : (told : Told) (name other : List ℕ) (P R : Option (List ℕ) → Type 0) (Q : Files → Type 0) → Tells told name P → Tells told other R → ((f : Files) → P (f name) → R (f other) → Q f) → IfSome told Q
 two_told None name other P R Q t u step = tt
 two_told (Some f) name other P R Q t u step = step f t u
-
-step_told : (told : Told) (P Q : Files → Type 0) → IfSome told P → IfSome told (λ f. P f → Q f) → IfSome told Q
-step_told None P Q p step = tt
-step_told (Some f) P Q p step = step p
 
 module _ (script table : List ℕ) (friend : Option Friend) (told : Told) (s : Script) (is : Tells told script (HoldsTheScript s)) where
   calls_for_table : CallsForTable script table friend told
@@ -156,23 +121,9 @@ module _ (script table : List ℕ) (friend : Option Friend) (told : Told) (s : S
       may_read = (record { earlier = before; last = at ∙ ap (λ n. before ++ n ∷ []) (sym u.may_read) }, inr (inr (rw some u.may_read, calls_for_friend)));
       text = u.text;
     })
-    friend_answer fns size watch f0 f1 f2 f3 before turns a le later at (inl h) = inl (
-      h.0,
-      step_told told (λ f. WithFriend (Some named) f own (λ joined e. IsDueOver fns size watch s joined e) (due_in a)) (λ f. IsDueToFiles fns size watch script table friend f (due_in a)) h.1
-          (two_told told script table (HoldsTheScript s) (HoldsTheTable own)
-          (λ f. WithFriend (Some named) f own (λ joined e. IsDueOver fns size watch s joined e) (due_in a) → IsDueToFiles fns size watch script table friend f (due_in a)) is holds
-          (λ f x t due.
-          script_read_due statuses script (f script) s (λ y d. IsDueToScript fns size watch y table friend f d) (due_in a) x
-          (table_read_due statuses table (f table) own (λ o d. WithFriend friend f o (λ joined e. IsDueOver fns size watch s joined e) d) (due_in a) t
-          (subst (λ (n : Option Friend). WithFriend n f own (λ joined e. IsDueOver fns size watch s joined e) (due_in a)) (sym some) due)))),
-    )
+    friend_answer fns size watch f0 f1 f2 f3 before turns a le later at (inl h) = grind (arith, script_read_due, table_read_due)
 
 -- ---- Answers to the words, and what is written of them.
-
--- what holds of all files holds of those that are told
-whatever : (told : Told) (P : Files → Type 0) → ((f : Files) → P f) → IfSome told P
-whatever None P h = tt
-whatever (Some f) P h = h f
 
 -- ---- what the words ask for
 
@@ -201,29 +152,18 @@ module _ (words : List (List ℕ)) (o : Option Command) (c : Command) (read : o 
 
 -- ---- by what an answer is
 
-of_run_is_final : (s : Status) → IsOfRun s → IsFinal s
-of_run_is_final s h = grind arith
-
 module _ (fns : List Function) (words : List (List ℕ)) (told : Told) (turns : List (List ℕ)) (f0 f1 : ℕ) (a : Answer) where
   -- what is due to all files that are meant, and no other status; or a failed read
   abbrev Sorts : (Files → Type 0) → Type 0 → (List ℕ → Type 0) → Type 0
   Sorts IsIts Named May = (IsFinal a.status × (IfSome told IsIts × ((Named → ⊥) → (f : Files) → IsIts f))) ⊎ IsUnread May f0 f1 a
-
-  by_input : (size watch : ℕ) (i : Input) → AnswersInput fns size watch i told turns f0 f1 a → Sorts (λ f. IsDueToInput fns size watch f i (due_in a)) (NamesFiles i) (MayReadIn i told turns)
-  by_input size watch (Input.Files script table friend) (inl h) = inl (of_run_is_final a.status h.0, (h.1, λ none. absurd (none tt)))
-  by_input size watch (Input.Files script table friend) (inr u) = inr u
-  by_input size watch (Input.Generated entries seed) h =
-      inl (of_run_is_final a.status h.0, (whatever told (λ f. IsDueToInput fns size watch f (Input.Generated entries seed) (due_in a)) (λ f. h.1), λ none f. h.1))
 
   abbrev AnswersAsked : Option Command → Type 0
   AnswersAsked o = MatchOption o (due_in a ≡ due_of Words usage_line) (λ command. AnswersInput fns command.cluster command.watch command.input told turns f0 f1 a)
 
   by_asked : (o : Option Command) → AnswersAsked o
       → Sorts (λ f. MatchOption o (due_in a ≡ due_of Words usage_line) (λ command. IsDueToInput fns command.cluster command.watch f command.input (due_in a))) (MatchOption o ⊥ (λ command. NamesFiles command.input)) (λ name. MatchOption o ⊥ (λ command. MayReadIn command.input told turns name))
-  by_asked None h =
-      let s : a.status ≡ Words = ap (λ (d : Due Status). d.status) h in
-      inl (rw s tt, (whatever told (λ f. due_in a ≡ due_of Words usage_line) (λ f. h), λ none f. h))
-  by_asked (Some c) h = by_input c.cluster c.watch c.input h
+  by_asked None h = grind arith
+  by_asked (Some c) h = grind arith
 
   module _ (h : AnswersWords fns words told turns f0 f1 a) where
     sorted : Sorts (λ f. IsDue fns words f (due_in a)) (NameFiles words) (MayRead words told turns)
