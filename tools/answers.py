@@ -6,7 +6,7 @@ back, until the crate is proved again. A function where that saves fewer than th
     cd crates/NAME && ../../tools/answers.py [--jobs N] [WORD..]     (functions whose path has one of the words; all)
 
 What goes is printed. Read the diff: an answer whose steps a comment tells is better put back. What an attribute of the function or of its module names already
-stays named. It passes over cycles of functions, and over answers that another file cites.
+stays named. It passes over cycles of functions, over answers that another file cites, and over those of tests, which a check doesn't prove.
 """
 import argparse
 import glob
@@ -239,6 +239,8 @@ class Trial:
 def trials(crate, given):
     cited = "".join(map(read, glob.glob("proofs/**/*.antt", recursive=True)))
     for path in sorted(glob.glob("proofs/**/Answers.antt", recursive=True)):
+        if path.startswith("proofs/tests/"):
+            continue
         function, module = Function(path), f"Rattle.{crate}." + path.removesuffix(".antt").replace("/", ".")
         if (not given or any(word in path for word in given)) and function.file and module not in cited:
             answers = Answers(path, crate)
@@ -256,7 +258,7 @@ def check(jobs):
     for line in ran.stdout.split("\n"):
         help_of = re.match(r"help: (?:write|add these lines to) \./(proofs/\S+?/Answers\.antt)", line)
         path = help_of[1] if help_of else path if line.startswith(" ") else None
-        asked = re.match(r"    pub (\S+) : goal\.", line)
+        asked = re.match(r"    pub (\S+) :(?: goal\.|$)", line)
         if path and asked:
             goals.setdefault(path, set()).add(asked[1])
     return ran.returncode, goals
