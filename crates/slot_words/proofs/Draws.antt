@@ -1,5 +1,5 @@
 -- Each step keeps what the rule says of the claim word.
-use Rattle.std.proofs.Common.{◌≡◌, ℕ, ◌+◌, ◌^◌, ◌<◌, ◌≤◌, min, List, [], ◌∷◌, ◌++◌, map, get_or, ltb, Option, None, Some, ap, ◌∙◌, subst, arith, IsPermutation}
+use Rattle.std.proofs.Common.{◌≡◌, ℕ, ◌+◌, ◌^◌, ◌<◌, ◌≤◌, min, List, [], ◌∷◌, ◌++◌, map, ltb, Option, None, Some, ap, ◌∙◌, subst, arith, IsPermutation}
 use Rattle.lemmas.proofs.{All, All-cons, All-head, All-permutation, All-tail, All-weaker, cond_both, IfSome_then, IsStrictlyIncreasing, length_permutation, ltb-false, ltb-true, sum_by-cons, sum_by-IsPermutation, sum_by-le}
 use Rattle.rdf_values.specs.{DrawnBy}
 use Rattle.slot_words.specs.declared.seat.ClaimHand.{ClaimHand}
@@ -60,15 +60,7 @@ module _ (clusters slots n : ℕ) (h : ClaimHand) (rest : List ClaimHand) (c : I
 
 -- the word never wraps
 pub word_fits : (clusters slots n : ℕ) (hands : List ClaimHand) → IsClaimed clusters slots n hands → n + 1 < 2 ^ 64
-word_fits clusters slots n hands c =
-    let most = sum_by-le kept_in 1 hands (λ k d lt. at_most (get_or hands k d).kept) in
-    let many = c.many in
-    let room = c.room in
-    let small = c.small in
-    omega arith
-  where
-    at_most : (k : Option ℕ) → kept_count k ≤ 1
-    at_most k = grind arith
+word_fits clusters slots n hands c = omega (arith, sum_by-le kept_in 1 hands (λ k d lt. grind arith), c.many, c.room, c.small)
 
 pub claimed_again : (clusters slots n : ℕ) (hands now : List ClaimHand) → IsPermutation hands now → IsClaimed clusters slots n hands → IsClaimed clusters slots n now
 claimed_again clusters slots n hands now same c = record {

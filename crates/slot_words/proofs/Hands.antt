@@ -130,11 +130,8 @@ module _ {H : Type 0} (Rule : List ℕ → List H → Type 0) (again : (words : 
   pub gathers : (id : ℕ) (v : List H) (other : ℕ) (w : List H) → Joins Holds id v other w (w ++ v) []
   gathers id v other w s rule at apart there = again s.words _ _ (taken s.views id other v w at apart there) rule
 
-  abbrev KnowsNone : Me ℕ (List H) → Type 0
-  KnowsNone me = me ≡ ([], [])
-
   -- a view comes that has no hand
-  pub enters : (slots i : ℕ) → Enters Holds slots i (λ n v. KnowsNone (v, []))
+  pub enters : (slots i : ℕ) → Enters Holds slots i (λ n v. let me : Me ℕ (List H) = (v, []) in me ≡ ([], []))
   enters slots i s rule len fits = ([], subst (Rule s.words) (sym (entered s.views)) rule, refl)
 
   -- a seat's one hand is the first of those in the rule, and the word i becomes f of what it was

@@ -42,13 +42,10 @@ have_last (l ∷ ls) r xs h =
 front_one : (x : ℕ) (rs : List Run) → in_front x rs ≡ run_in_front (record { first = x; last = x }) rs
 front_one x rs = grind arith
 
-front_joins : (a k : ℕ) (rs : List Run) → in_front a (run_in_front (record { first = a + 1; last = k }) rs) ≡ run_in_front (record { first = a; last = k }) rs
-front_joins a k rs = grind (arith, eq_itself)
-
 -- a run's numbers in front of others
 runs_put : (a m k : ℕ) (done : List ℕ) → k ≡ a + m → maximal_runs (range_with_len a (suc m) ++ done) ≡ run_in_front (record { first = a; last = k }) (maximal_runs done)
 runs_put a zero k done is = let e : a ≡ k = omega arith in front_one a (maximal_runs done) ∙ ap (λ n. run_in_front (record { first = a; last = n }) (maximal_runs done)) e
-runs_put a (suc m) k done is = ap (in_front a) (runs_put (a + 1) m k done (omega arith)) ∙ front_joins a k (maximal_runs done)
+runs_put a (suc m) k done is = grind (arith, eq_itself, runs_put (a + 1) m k done (omega arith))
 
 -- each number between the ends is in the run
 in_run : (a m x : ℕ) → a ≤ x → x ≤ a + m → 0 < times x (range_with_len a (suc m))

@@ -13,12 +13,6 @@ use Rattle.slot_words.proofs.Hands.{all_in_one, many_drawn, next_drawn, next_ris
 abbrev pub noted_by : NoteHand → List ℕ
 noted_by h = h.drawn
 
-word_fits : (clusters slots n : ℕ) (hands : List NoteHand) → IsNoted clusters slots n hands → n + 1 < 2 ^ 64
-word_fits clusters slots n hands c =
-    let most = sum_by-le (λ h. length h.drawn) clusters hands c.fits in
-    let rows : length hands * clusters ≤ 16 * clusters = mul-le-mul_right clusters (omega (arith, c.many, c.small.1)) in
-    omega (arith, many_drawn (map noted_by hands) n c.shared, sum_by-map length noted_by hands, c.small.0)
-
 -- the rule says nothing of the hands' order
 pub again : (key : ℕ × ℕ) (words : List ℕ) (hands now : List NoteHand) → IsPermutation hands now → AreNotings key words hands → AreNotings key words now
 again key words hands now same noted =
@@ -31,8 +25,10 @@ pub notes : (key : ℕ × ℕ) (places id : ℕ) (me : Me ℕ (List NoteHand)) (
 notes key places id me numbers is room = let then = Drew (step places 0 1 0 none) me in steps (AreNotings key) (again key) places id me (hand_with numbers) 0 bump then is (λ words rest r.
     let w = r.0 in
     let c = r.2 in
-    let small = word_fits key.0 key.1 w (hand_with numbers ∷ rest) c in
-    let next : (w + 1) % 2 ^ 64 ≡ w + 1 = omega arith in
+    let hands = hand_with numbers ∷ rest in
+    let rows : length hands * key.0 ≤ 16 * key.0 = mul-le-mul_right key.0 (omega (arith, c.many, c.small.1)) in
+    let next : (w + 1) % 2 ^ 64 ≡ w + 1 =
+    omega (arith, sum_by-le (λ h. length h.drawn) key.0 hands c.fits, many_drawn (map noted_by hands) w c.shared, sum_by-map length noted_by hands, c.small.0) in
     let fits = λ (h : NoteHand). length h.drawn ≤ key.0 in
     let now = hand_with (numbers ++ w ∷ []) in
     let kept : IsNoted key.0 key.1 (w + 1) (now ∷ rest) = record {

@@ -1,13 +1,15 @@
 -- The clusters that were noted first, by their numbers, and the chain of their sets.
 use Rattle.std.proofs.Common.{◌≡◌, ℕ, ◌≤◌, List, [], ◌∷◌, map, eqb, false, refl, sym, ap, ◌∙◌, subst, arith, IsPermutation, zero, suc, ◌+◌, ◌++◌, length, min, Bool, not, cond, ap₂, flat_map, ◌<◌, get_or, nat_lt, Contains, ◌-◌, ◌*◌, ◌/◌, Some, mul-le-mul_right, slice_get, option_map}
 use Rattle.std.specs.List.{AllByRecursion, IsDistinct, concat, All as Every}
-use Rattle.lemmas.proofs.{All-head, All-map, All-tail, common_steps, IsNonDecreasing, IsStrictlyIncreasing, IsStrictlyIncreasing-from_distinct, All, All-append, All-cons, All-filter, All-nil, count_by, filter, filter-append, firsts-zip, length-filter, length-map, map-append, seconds-zip, sum_by, sum_by-cons, sum_by-filter_both, sum_by-IsPermutation, sum_by_push, zip, concat_is, IsStrictlyIncreasing-filter, length_permutation, nil_from_length, slice_get-get_or, same_some, slice_get-map, slice_get_within}
+use Rattle.lemmas.proofs.{All-head, All-map, All-tail, common_steps, IsNonDecreasing, IsStrictlyIncreasing, IsStrictlyIncreasing-from_distinct, All, All-append, All-filter, All-nil, count_by, filter, filter-append, firsts-zip, length-filter, length-map, map-append, seconds-zip, sum_by, sum_by-cons, sum_by-filter_both, sum_by-IsPermutation, sum_by_push, zip, concat_is, flat_map-map, IsStrictlyIncreasing-filter, length_permutation, nil_from_length, slice_get-get_or, same_some, slice_get-map, slice_get_within}
+use Rattle.std.proofs.lemmas.List.Concat.{flat_map_single}
 use Rattle.merge_core.specs.{Noted, Stand}
 use Rattle.rdf_values.specs.{IsUnion, times, below, once_below}
 use Rattle.rdf_values.proofs.UnionLemmas.{times_cons, times_self, times_permuted, one_if, sum_by-map, times_below, times_contains, permuted_by_counts, inside_once, below_rises, all_below, times_filter, rises_from, same_rising, by_counts, both_rise, two, length-below, slice_get-below}
 use Rattle.slot_words.specs.{AreAlone, AreLinesSoFar, AreOf, cluster_in, piece_in, added, AsManyAsTheBound, chosen, HaveNumbers, HigherBoundKeeps, is_between, kept, numbered, AreNoted, AreTrails, noted_before, set_before, WatchedPlace, chain_of}
 use Rattle.rdf_model.specs.declared.loop_facts.LoopFacts.{LoopFacts}
 use Rattle.loop_pieces.specs.{watch_facts, WatchPiece, WatchStandsFor, ArePartialLines, IsPartialLine, PartialLine}
+use Rattle.slot_words.proofs.Hands.{all_seen}
 use Rattle.slot_words.proofs.Joining.{stands_there}
 use Rattle.rdf_model.specs.{IsChain}
 
@@ -28,10 +30,6 @@ module _ {P : Type 0} where
   alone stands [] h = tt
   alone stands (n ∷ ns) h = let P = λ (m : Noted P). stands (single m) m.piece in (All-head P n ns h, alone stands ns (All-tail P n ns h))
 
-  joined : (ns : List (Noted P)) → concat (map single ns) ≡ map cluster_in ns
-  joined [] = refl
-  joined (n ∷ ns) = ap (λ l. n.cluster ∷ l) (joined ns)
-
   module _ (clusters : List ℕ) (pieces : List P) (ns : List (Noted P)) (of : AreOf clusters pieces ns) where
     pub stand_alone : (stands : List ℕ → P → Type 0) (own : List P) → own ≡ pieces → AreAlone stands ns → Stand stands (map single ns) own
     stand_alone stands own same h = subst (Stand stands (map single ns)) (sym (same ∙ of.pieces_are)) (alone stands ns h)
@@ -41,7 +39,7 @@ module _ {P : Type 0} where
     unite sorted up p once = record {
       sets_rise = All-map IsStrictlyIncreasing single ns (λ k d lt j within. absurd (omega arith));
       rising = IsStrictlyIncreasing-from_distinct sorted up (distinct sorted (λ x. omega (arith, once x, times_permuted x clusters sorted p, ap (times x) of.clusters_are)));
-      each_once = subst (λ l. IsPermutation l sorted) (of.clusters_are ∙ sym (joined ns)) p;
+      each_once = rw (concat_is (map single ns), flat_map-map (λ x. x) single ns, flat_map_single cluster_in ns, ← of.clusters_are) p;
     }
 
 -- ---- The entries with a number between two bounds, and how many there are.
@@ -78,21 +76,16 @@ module _ {A : Type 0} where
       let among = λ (e : ℕ × A). is_between low high e.0 in
       omega (arith, sum_by-filter_both among (λ e. not (among e)) (λ e. refl) (λ e. f e.1) es, sum_by-map f (λ (e : ℕ × A). e.1) (filter among es), sum_by-map f (λ (e : ℕ × A). e.1) es, ap (sum_by f) (parts_are os ts have).1)
 
-  all_beside : (P : A → Type 0) (o : List ℕ) (t : List A) → All P t → All (λ e. P e.1) (zip o t)
-  all_beside P [] t h = All-nil (λ e. P e.1)
-  all_beside P (n ∷ ns) [] h = All-nil (λ e. P e.1)
-  all_beside P (n ∷ ns) (x ∷ xs) h = All-cons (λ e. P e.1) (n, x) (zip ns xs) (All-head P x xs h) (all_beside P ns xs (All-tail P x xs h))
-
-  all_numbered : (P : A → Type 0) (os : List (List ℕ)) (ts : List (List A)) → All (All P) ts → All (λ e. P e.1) (numbered os ts)
-  all_numbered P [] ts h = All-nil (λ e. P e.1)
-  all_numbered P (o ∷ os) [] h = All-nil (λ e. P e.1)
-  all_numbered P (o ∷ os) (t ∷ ts) h = All-append (λ e. P e.1) (zip o t) (numbered os ts) (all_beside P o t (All-head (All P) t ts h)) (all_numbered P os ts (All-tail (All P) t ts h))
+  all_of : (P : A → Type 0) (ts : List (List A)) → All (All P) ts → All P (flat_map (λ t. t) ts)
+  all_of P [] h = All-nil P
+  all_of P (t ∷ ts) h = All-append P t (flat_map (λ t. t) ts) (All-head (All P) t ts h) (all_of P ts (All-tail (All P) t ts h))
 
   -- what holds of all entries
-  pub all_added : (P : A → Type 0) (os : List (List ℕ)) (ts : List (List A)) (low high : ℕ) → All (All P) ts → All P (added os low high ts)
-  all_added P os ts low high h =
+  pub all_added : (P : A → Type 0) (os : List (List ℕ)) (ts : List (List A)) (low high : ℕ) → HaveNumbers os ts → All (All P) ts → All P (added os low high ts)
+  all_added P os ts low high have h =
+      let each = all_seen (λ (e : ℕ × A). e.1) P (numbered os ts) (subst (All P) (sym (parts_are os ts have).1) (all_of P ts h)) in
       let among = λ (e : ℕ × A). is_between low high e.0 in
-      All-map P (λ (e : ℕ × A). e.1) (filter among (numbered os ts)) (All-filter among (λ e. P e.1) (numbered os ts) (all_numbered P os ts h))
+      All-map P (λ (e : ℕ × A). e.1) (filter among (numbered os ts)) (All-filter among (λ e. P e.1) (numbered os ts) each)
 
   module _ (f : A → ℕ) (low high : ℕ) (le : low ≤ high) where
     one_kept : (b : Bool) (e : ℕ × A) (es : List (ℕ × A)) → sum_by f (map (λ e. e.1) (cond b (e ∷ es) es)) ≡ cond b (f e.1) 0 + sum_by f (map (λ e. e.1) es)
@@ -146,24 +139,14 @@ lengths_mapped f (t ∷ ts) = ap₂ (λ n ns. n ∷ ns) (length-map t f) (length
 
 -- ---- The clusters that were noted first.
 
-contained : (xs ys : List ℕ) → ((x : ℕ) → times x xs ≤ times x ys) → Every (Contains ys) xs
-contained xs ys h = λ k d lt. times_contains (get_or xs k d) ys (omega (arith, h (get_or xs k d), stands_there xs k d lt))
-
 once_at_most : (x m : ℕ) → once_below x m ≤ 1
 once_at_most x m = grind (arith, common_steps)
-
-where_some : (some all : ℕ) → some ≤ all → all ≤ 1 → cond (nat_lt 0 some) all 0 ≡ some
-where_some some all le once = grind (arith, common_steps)
 
 -- ---- the sets
 
 module _ (os ds : List (List ℕ)) (clusters : ℕ) (noted : AreNoted os ds clusters) where
   within : (x b : ℕ) → times x (noted_before os ds b) ≤ once_below x clusters
   within x b = omega (arith, kept_among (one_if x) os ds 0 b noted.many, ap (times x) (concat_is ds), times_permuted x (concat ds) (below clusters) noted.unite.each_once, times_below x clusters)
-
-  -- each cluster is chosen once at most
-  chosen_once : (x b : ℕ) → times x (noted_before os ds b) ≤ 1
-  chosen_once x b = omega (arith, within x b, once_at_most x clusters)
 
   -- as many as the bound says
   chosen_many : (b : ℕ) → b ≤ clusters → length (noted_before os ds b) ≡ b
@@ -173,7 +156,7 @@ module _ (os ds : List (List ℕ)) (clusters : ℕ) (noted : AreNoted os ds clus
   IsChosenBefore b c = nat_lt 0 (times c (noted_before os ds b))
 
   set_times : (b x : ℕ) → times x (set_before os ds clusters b) ≡ times x (noted_before os ds b)
-  set_times b x = times_filter (IsChosenBefore b) x (below clusters) ∙ where_some (times x (noted_before os ds b)) (times x (below clusters)) (omega (arith, within x b, times_below x clusters)) (omega (arith, once_at_most x clusters, times_below x clusters))
+  set_times b x = grind (arith, common_steps, times_filter (IsChosenBefore b) x (below clusters), within x b, times_below x clusters, once_at_most x clusters)
 
   pub set_rises : (b : ℕ) → IsStrictlyIncreasing (set_before os ds clusters b)
   set_rises b = IsStrictlyIncreasing-filter (IsChosenBefore b) (below clusters) (below_rises clusters)
@@ -190,7 +173,9 @@ module _ (os ds : List (List ℕ)) (clusters : ℕ) (noted : AreNoted os ds clus
 
   -- a higher bound leaves none out
   pub set_grows : (low high : ℕ) → low ≤ high → Every (Contains (set_before os ds clusters high)) (set_before os ds clusters low)
-  set_grows low high le = contained (set_before os ds clusters low) (set_before os ds clusters high) (λ x. omega (arith, set_adds x low high le))
+  set_grows low high le = λ k d lt.
+      let xs = set_before os ds clusters low in
+      times_contains (get_or xs k d) (set_before os ds clusters high) (omega (arith, set_adds (get_or xs k d) low high le, stands_there xs k d lt))
 
 -- ---- a watched place
 
@@ -217,7 +202,7 @@ module _ (os : List (List ℕ)) (clusters : ℕ) (ts : List (List (Noted WatchPi
 
   -- each entry between two bounds stands for its cluster alone
   pub alone_added : (low high : ℕ) → AreAlone StandsAt (added os low high ts)
-  alone_added low high = all_added (λ (n : Noted WatchPiece). StandsAt (n.cluster ∷ []) n.piece) os ts low high
+  alone_added low high = all_added (λ (n : Noted WatchPiece). StandsAt (n.cluster ∷ []) n.piece) os ts low high have_numbers
       (λ k d lt. (let many = w.are.many in (w.are.each k (get_or w.dones k []) (get_or ts k d) (slice_get-get_or w.dones k [] (omega arith)) (slice_get-get_or ts k d lt)).alone))
 
   module _ (low high : ℕ) (le : low ≤ high) (bound : high ≤ clusters) where
@@ -231,7 +216,7 @@ module _ (os : List (List ℕ)) (clusters : ℕ) (ts : List (List (Noted WatchPi
     grows x = omega (arith, set_adds os w.dones clusters w.noted x low high le, ap (times x) news_are)
 
     pub added_once : (x : ℕ) → times x news ≤ 1
-    added_once x = omega (arith, grows x, set_times os w.dones clusters w.noted high x, chosen_once os w.dones clusters w.noted x high)
+    added_once x = omega (arith, grows x, set_times os w.dones clusters w.noted high x, within os w.dones clusters w.noted x high, once_at_most x clusters)
 
     pub added_some : low < high → 0 < length (added os low high ts)
     added_some lt = omega (

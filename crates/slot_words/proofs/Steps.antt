@@ -1,8 +1,8 @@
 -- Each step at the table keeps what the rules say of the claims, the bar and the book.
-use Rattle.std.proofs.Common.{◌≡◌, ℕ, zero, suc, ◌<◌, ◌≤◌, min, List, ◌∷◌, length, map, get_or, ltb, Option, None, Some, IfSome, refl, ap, subst, ⊎_elim, arith, IsPermutation, ◌+◌, ◌%◌, ◌^◌, [], ◌++◌, sym, ◌∙◌, length-append, append-nil, add-one, slice_index}
-use Rattle.lemmas.proofs.{All, All-cons, All-head, All-permutation, All-tail, All-weaker, cases_lt, cond_both, Contains, Contains-permutation, IfSome_then, IsPermutation-map, ltb-false, All-replicate, common_steps, cond-true, IsStrictlyIncreasing, length-replicate, lt-ltb, sum_by-le, All-map, length-map, length-range_with_len, range_with_len}
+use Rattle.std.proofs.Common.{◌≡◌, ℕ, zero, suc, ◌<◌, ◌≤◌, min, List, ◌∷◌, length, map, get_or, ltb, Option, None, Some, refl, ap, subst, ⊎_elim, arith, IsPermutation, ◌+◌, ◌%◌, ◌^◌, [], ◌++◌, sym, ◌∙◌, length-append, append-nil, add-one, slice_index}
+use Rattle.lemmas.proofs.{All, All-cons, All-head, All-permutation, All-tail, All-weaker, cases_lt, Contains, Contains-permutation, IfSome_then, IsPermutation-map, All-replicate, common_steps, cond-true, IsStrictlyIncreasing, length-replicate, lt-ltb, sum_by-le, All-map, length-map, length-range_with_len, range_with_len}
 use Rattle.slot_words.specs.declared.seat.ClaimHand.{ClaimHand}
-use Rattle.slot_words.specs.{IsBarred, IsOver, last_of, look, lower, AreClaimed, Claimed, empty_hand, hand_of, IsClaimed, IsHand, kept_count, Looked, Lowered, ClaimsSeen, fresh_seat, fresh_seats, IsReady, SeatSeen}
+use Rattle.slot_words.specs.{IsBarred, IsOver, look, lower, AreClaimed, Claimed, empty_hand, hand_of, IsClaimed, IsHand, kept_count, Looked, Lowered, ClaimsSeen, fresh_seat, fresh_seats, IsReady, SeatSeen}
 use Rattle.slot_words.specs.Seats.{draw}
 use Rattle.slot_words.proofs.Draws.{drawn_hand, drawn_by, drawn_rises, same_claimed, drawn_keeps, word_fits, claimed_again}
 use mathlib.Core.Option.{some, none, some-injective}
@@ -11,9 +11,6 @@ use Rattle.atomic_table.specs.Table.{Me, step, Final, Seen, Allows}
 use Rattle.rdf_values.specs.{DrawnBy}
 use Rattle.slot_words.specs.Claiming.{opening_hands, Drew}
 use Rattle.slot_words.proofs.Hands.{all_in_one, none_shared, Keeps, bump, steps}
-
-abbrev Passes : ℕ → List ℕ → Option ℕ → Type 0
-Passes b drawn o = IfSome o (λ p. (b ≤ p) × (0 < length drawn) × (p ≡ last_of drawn))
 
 lower_still : (a b : ℕ) (h : ClaimHand) → a ≤ b → IsOver b h → IsOver a h
 lower_still a b h le o = record {
@@ -40,10 +37,9 @@ module _ (clusters b : ℕ) (h : ClaimHand) (rest : List ClaimHand) (c : IsBarre
       (λ _. record { most = c.most; least = c.least; each = All-cons (IsOver b) _ rest (over _ _) theirs })
 
   pub look_barred : h.passed ≡ None → 0 < length h.drawn → IsBarred clusters b (look h b ∷ rest)
-  look_barred unpassed some_drawn = record { most = c.most; least = c.least; each = All-cons (IsOver b) (look h b) rest record { looked = omega arith; passed = passed; lowered = mine.lowered } theirs }
-    where
-      passed : Passes b h.drawn (look h b).passed
-      passed = cond_both (ltb (last_of h.drawn) b) h.passed (Some (last_of h.drawn)) (Passes b h.drawn) (λ _. rw unpassed tt) (λ f. (ltb-false (last_of h.drawn) b f, some_drawn, refl))
+  look_barred unpassed some_drawn =
+      let over : IsOver b (look h b) = record { looked = omega arith; passed = grind (arith, common_steps); lowered = mine.lowered } in
+      record { most = c.most; least = c.least; each = All-cons (IsOver b) (look h b) rest over theirs }
 
   pub lower_barred : (n : ℕ) → h.lowered ≡ None → IsBarred clusters (min b n) (lower h n ∷ rest)
   lower_barred n unlowered = record {

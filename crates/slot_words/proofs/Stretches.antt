@@ -1,6 +1,6 @@
 -- The entries whose number is between two bounds, trail by trail.
-use Rattle.std.proofs.Common.{◌≡◌, ℕ, zero, suc, ◌+◌, ◌-◌, ◌<◌, ◌≤◌, List, [], ◌∷◌, ◌++◌, length, map, drop, take, get_or, true, false, Some, refl, sym, ap, ap₂, ◌∙◌, subst, ⊎_elim, arith, append_assoc, append-nil, drop-cons, nat_lt, slice_get, option_map}
-use Rattle.lemmas.proofs.{AllPairs-from_increasing, cases_eq, cases_lt, common_steps, cond-false, cond-true, get_or_from_slice_get, IsNonDecreasingBy, IsPartitionPoint, IsStrictlyIncreasing, length-map, ltb-false, ltb-true, map-append, none_left, same_some, slice_get-map, slice_get_within, take-suc, zip}
+use Rattle.std.proofs.Common.{◌≡◌, ℕ, zero, suc, ◌+◌, ◌-◌, ◌<◌, ◌≤◌, List, [], ◌∷◌, ◌++◌, length, map, drop, take, get_or, true, false, Some, refl, sym, ap, ap₂, ◌∙◌, subst, arith, append_assoc, append-nil, drop-cons, nat_lt, slice_get, option_map}
+use Rattle.lemmas.proofs.{cases_lt, common_steps, cond-false, cond-true, get_or_from_slice_get, IsPartitionPoint, length-map, ltb-false, ltb-true, map-append, none_left, same_some, slice_get-map, slice_get_within, take-suc, zip}
 use Rattle.merge_core.specs.{Noted}
 use Rattle.slot_words.specs.{added, added_in, AreOf, cluster_in, HaveNumbers, is_between, kept, piece_in}
 use Rattle.slot_words.proofs.Noting.{kept_both}
@@ -14,17 +14,10 @@ pub record IsStretch (ns : List ℕ) (low bound s m : ℕ) : Type 0 where
   pub inside : (k : ℕ) → s ≤ k → k < s + m → (low ≤ get_or ns k 0) × (get_or ns k 0 < bound)
   pub after : (k : ℕ) → s + m ≤ k → k < length ns → bound ≤ get_or ns k 0
 
--- numbers that rise don't fall
-pub no_fall : (xs : List ℕ) → IsStrictlyIncreasing xs → IsNonDecreasingBy (λ x. x) xs
-no_fall xs up i j d le lt = ⊎_elim (λ (same : i ≡ j). omega (arith, ap (λ k. get_or xs k d) same)) (λ apart. (let less = AllPairs-from_increasing xs up i j d (omega arith) lt in omega arith)) (cases_eq i j)
-
 module _ (ns : List ℕ) (low high s e : ℕ) (le : low ≤ high) (start : IsPartitionPoint (λ y. nat_lt y low ≡ true) (λ y. nat_lt y low ≡ false) ns s)
     (end : IsPartitionPoint (λ y. nat_lt y high ≡ true) (λ y. nat_lt y high ≡ false) ns e) (within : s ≤ length ns) (within' : e ≤ length ns) where
-  in_order : s ≤ e
-  in_order = grind (arith, ltb-true, ltb-false, cases_lt)
-
   pub is_stretch : IsStretch ns low high s (e - s) × (s ≤ e)
-  is_stretch = grind (arith, in_order, ltb-true, ltb-false)
+  is_stretch = let in_order : s ≤ e = grind (arith, ltb-true, ltb-false, cases_lt) in grind (arith, ltb-true, ltb-false)
 
 -- without the first number
 shifted : (n : ℕ) (ns : List ℕ) (low high s m s' m' : ℕ) → s' ≡ s - 1 → suc (s' + m') ≡ s + m → IsStretch (n ∷ ns) low high s m → IsStretch ns low high s' m'

@@ -1,13 +1,10 @@
 -- The watched results, one after another: their trails in the pieces, and their lines.
 use Rattle.std.proofs.Common.{◌≡◌, ℕ, ◌+◌, ◌<◌, List, [], ◌∷◌, ◌++◌, length, get_or, Some, sym, ap, ◌∙◌, subst, ⊎_elim, arith, length-append, option_map, slice_get}
 use Rattle.lemmas.proofs.{All, before_or_last, get_or_default, length-map, same_some, slice_get-get_or, slice_get-map, slice_get_within, something_at}
-use Rattle.rdf_values.specs.{stride}
-use Rattle.rdf_model.specs.{IsChain}
 use Rattle.rdf_model.specs.declared.loop_facts.LoopFacts.{LoopFacts}
 use Rattle.merge_core.specs.{Noted}
 use Rattle.loop_pieces.specs.{ArePartialLines, LoopPiece, PartialLine, WatchPiece}
-use Rattle.slot_words.specs.{AreNoted, AreTrails, chain_of, HaveAllTrails, HaveNumbers, HavePartialsOver, noted_sets, trails_at}
-use Rattle.slot_words.proofs.Noting.{is_chain}
+use Rattle.slot_words.specs.{AreTrails, HaveAllTrails, HaveNumbers, trails_at}
 use Rattle.slot_words.proofs.Stretches.{as_many}
 
 module _ (facts : LoopFacts) (places : List ℕ) (dones : List (List ℕ)) (pieces : List LoopPiece) (have : HaveAllTrails facts places dones pieces) where
@@ -50,18 +47,4 @@ more_lines facts places sets w place all now lines h at one is = record {
       let same : place ≡ other = same_some (sym at ∙ ap (slice_get places) (sym i_is) ∙ a) in
       subst (λ (p : ℕ). ArePartialLines facts p sets ls) same (subst (ArePartialLines facts place sets) last.1 one))
       (before_or_last all lines i ls (subst (λ l. slice_get l i ≡ Some ls) is b));
-}
-
--- all lines are the partial results
-pub have_partials : (facts : LoopFacts) (places : List ℕ) (os ds : List (List ℕ)) (clusters step watch w : ℕ) (all : List (List PartialLine))
-    → AreNoted os ds clusters → step ≡ stride clusters watch → length facts.ranges ≡ clusters → w ≡ length places → AreLinesUpTo facts places (chain_of os ds clusters step) w all
-    → HavePartialsOver facts places watch (noted_sets os ds clusters watch) all
-have_partials facts places os ds clusters step watch w all noted step_is ranges w_is h = record {
-  are = record {
-    sets = chain_of os ds clusters step;
-    chain = λ any. subst (λ (c : ℕ). IsChain c (stride c watch) (chain_of os ds clusters step)) (sym ranges) (subst (λ (g : ℕ). IsChain clusters g (chain_of os ds clusters step)) step_is (is_chain os ds clusters step noted));
-    many = h.many ∙ w_is;
-    each = h.each;
-  };
-  sets_are = ap (chain_of os ds clusters) step_is;
 }

@@ -1,7 +1,7 @@
-use Rattle.std.proofs.Common.{◌≡◌, ◌≤◌, ◌++◌, ◌-◌, map, take, drop, ap, ◌∙◌, rules, nat_lt}
-use Rattle.lemmas.proofs.{IsPartitionedBy-ltb, IsPartitionPoint-from_clause, take_all}
+use Rattle.std.proofs.Common.{◌≡◌, ◌≤◌, ◌++◌, ◌-◌, map, take, drop, ap, ◌∙◌, arith, rules, nat_lt}
+use Rattle.lemmas.proofs.{AllPairs-from_increasing, cases_eq, IsNonDecreasingBy, IsPartitionedBy-ltb, IsPartitionPoint-from_clause, take_all}
 use Rattle.slot_words.specs.{added_in, cluster_in, piece_in}
-use Rattle.slot_words.proofs.Stretches.{IsStretch, is_stretch, no_fall, stretch}
+use Rattle.slot_words.proofs.Stretches.{IsStretch, is_stretch, stretch}
 use Rattle.slot_words.proofs.between.choose_between.Goals as goal
 use Rattle.slot_words.proofs.between.choose_between.Goals.{After-partition_point-end}
 use Rattle.slot_words.proofs.between.choose_between.Given.{Over}
@@ -12,7 +12,7 @@ found g c =
     let ns = c.args.numbers.now in
     let s = c.partition_point-start in
     let e = c.partition_point-end in
-    let up = no_fall ns c.requires.rises in
+    let up : IsNonDecreasingBy (λ x. x) ns = λ i j d le lt. grind (arith, AllPairs-from_increasing ns c.requires.rises i j d, cases_eq i j) in
     is_stretch ns c.args.low c.args.below s.result e.result c.requires.bounds
     (IsPartitionPoint-from_clause (λ x. nat_lt x c.args.low) ns s.result s.ensures.partitioned (IsPartitionedBy-ltb (λ x. x) ns c.args.low up) (λ a r q k. search rules))
     (IsPartitionPoint-from_clause (λ x. nat_lt x c.args.below) ns e.result e.ensures.partitioned (IsPartitionedBy-ltb (λ x. x) ns c.args.below up) (λ a r q k. search rules))

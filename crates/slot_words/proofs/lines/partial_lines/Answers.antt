@@ -1,7 +1,8 @@
-use Rattle.std.proofs.Common.{get_or, arith}
+use Rattle.std.proofs.Common.{ap, get_or, arith}
 use Rattle.std.proofs.lemmas.Option.{slice_get-get_or}
 use Rattle.slot_words.specs.{chain_of}
-use Rattle.slot_words.proofs.Watched.{trails_there, trails_are, more_lines, have_partials}
+use Rattle.slot_words.proofs.Noting.{is_chain}
+use Rattle.slot_words.proofs.Watched.{trails_there, trails_are, more_lines}
 use Rattle.slot_words.proofs.lines.partial_lines.Goals as goal
 
 pub lines_of-requires-clause-there : goal.lines_of-requires-clause-there
@@ -23,4 +24,15 @@ loop-w-preserved c = λ facts places dones noted have many.
 
 pub returns : goal.returns
 returns c = λ facts places dones noted have many ranges.
-    have_partials facts places c.args.orders.now.slots dones c.args.clusters c.stride-step.result c.args.watch c.loop-w.w c.loop-w.all noted c.stride-step.ensures ranges (omega (arith, many)) (c.loop-w.invariant facts places dones noted have many)
+    let os = c.args.orders.now.slots in
+    let lines = c.loop-w.invariant facts places dones noted have many in
+    let step_is = c.stride-step.ensures in
+    record {
+      are = record {
+        sets = chain_of os dones c.args.clusters c.stride-step.result;
+        chain = λ any. rw (ranges, ← step_is) (is_chain os dones c.args.clusters c.stride-step.result noted);
+        many = omega (arith, many, lines.many);
+        each = lines.each;
+      };
+      sets_are = ap (chain_of os dones c.args.clusters) step_is;
+    }
