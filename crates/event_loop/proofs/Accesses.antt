@@ -99,10 +99,6 @@ none_more script p a at none = omega (arith, run_more script p a at, ap (λ (o :
 pub one_loop_more : (script : List Statement) (p : ℕ) (a : Access) (results : List Booked) → slice_get (accesses script) p ≡ Some a → a.fills ≡ Some results → loops_before script (p + 1) ≡ loops_before script p + 1
 one_loop_more script p a results at some = omega (arith, run_more script p a at, ap (λ (o : Option (List Booked)). length (cons_option o [])) some)
 
--- what a push that took memory leaves
-pub pushed_items : {A : Type 0} (b : Bool) (xs ys zs : List A) → ys ≡ (if b then xs else zs) → b ≡ true → ys ≡ xs
-pushed_items b xs ys zs h e = h ∙ ap (λ (t : Bool). if t then xs else zs) e
-
 -- ---- sessions
 
 -- the parts stay
@@ -123,28 +119,7 @@ changed s n loops fault is filled few turn kept = record {
   kept = kept;
 }
 
-pub advanced : (s : SessionView) (n : ℕ) → IsSession s → (s.fault ≡ None → length s.loops ≡ loops_before (history s.graph.script) n) → IsSession (record s { next = n })
-advanced s n is turn = changed s n s.loops s.fault is is.filled is.few turn (IfSome_then s.fault is.kept (λ (k : Kept) h. record { number = h.number; there = h.there; first = h.first }))
-
-pub pushed : (s : SessionView) (n : ℕ) (f : FilledLoop) (loops : List FilledLoop) → IsSession s → s.fault ≡ None → loops ≡ s.loops ++ f ∷ [] → IsFilled (job_facts (session_job s (length s.loops))) s.watch f
-    → length s.loops < length (loop_results (history s.graph.script)) → length s.loops + 1 ≡ loops_before (history s.graph.script) n → IsSession (record s { next = n; loops = loops })
-pushed s n f loops is sound joined filled there turn =
-    let many = ap (λ (l : List FilledLoop). length l) joined ∙ length-append s.loops (f ∷ []) in
-    changed s n loops s.fault is (λ l g at. each l g (before_or_last s.loops f l g (ap (λ (x : List FilledLoop). slice_get x l) (sym joined) ∙ at))) (omega (arith, many, there)) (λ e. many ∙ turn)
-    (subst (λ (o : Option Kept). IfSome o (IsKept (record s { next = n; loops = loops }))) (sym sound) tt)
-  where
-    each : (l : ℕ) (g : FilledLoop) → (slice_get s.loops l ≡ Some g) ⊎ ((l ≡ length s.loops) × (f ≡ g)) → IsFilled (job_facts (session_job s l)) s.watch g
-    each l g (inl q) = is.filled l g q
-    each l g (inr q) = subst (λ (x : FilledLoop). IsFilled (job_facts (session_job s l)) s.watch x) q.1 (subst (λ (m : ℕ). IsFilled (job_facts (session_job s m)) s.watch f) (sym q.0) filled)
-
-pub faulted : (s : SessionView) (n : ℕ) (k : Kept) → IsSession s → k.loop_index ≡ length s.loops → k.loop_index < length (loop_results (history s.graph.script)) → first_fault s.dataset (passes_in (session_job s k.loop_index)) ≡ Some k.fault
-    → IsSession (record s { next = n; fault = Some k })
-faulted s n k is number there first = changed s n s.loops (Some k) is is.filled is.few (λ e. absurd (cc)) (record { number = number; there = there; first = first })
-
 -- ---- a Print, by what the graph tells of it
-
-access_of : (script : List Statement) (print l : ℕ) → option_map (λ (a : Access). loop_of script a.result) (slice_get (accesses script) print) ≡ Some l → (a : Access) × (slice_get (accesses script) print ≡ Some a) × (loop_of script a.result ≡ l)
-access_of script print l h = grind (arith, same_some)
 
 accesses_few : (before : List Statement) → length (accesses before) ≤ length before
 accesses_few [] = omega arith
@@ -157,7 +132,7 @@ print_few s is print lt = grind (arith, accesses_few, lines_few)
 module _ (s : SessionView) (is : IsSession s) (print : ℕ) (next : print ≡ s.next) (l : ℕ)
     (told : option_map (λ (a : Access). loop_of (history s.graph.script) a.result) (slice_get (accesses (history s.graph.script)) print) ≡ Some l) where
   its : (a : Access) × (slice_get (accesses (history s.graph.script)) print ≡ Some a) × (loop_of (history s.graph.script) a.result ≡ l)
-  its = access_of (history s.graph.script) print l told
+  its = grind (arith, told, same_some)
 
   abbrev a : Access
   a = its.0
@@ -192,7 +167,9 @@ module _ (s : SessionView) (is : IsSession s) (print : ℕ) (next : print ≡ s.
       go (Some results) e = let own = (turn.next results e).0 in let so_far = loops_are sound in absurd (omega (arith, filling, own, so_far, lt))
 
   pub after_old : l < length s.loops → IsSession (record s { next = print + 1 })
-  after_old lt = advanced s (print + 1) is (λ sound. loops_are sound ∙ sym (none_more (history s.graph.script) print a at (no_loop lt sound)))
+  after_old lt = changed s (print + 1) s.loops s.fault is is.filled is.few
+      (λ sound. loops_are sound ∙ sym (none_more (history s.graph.script) print a at (no_loop lt sound)))
+      (IfSome_then s.fault is.kept (λ (k : Kept) h. record { number = h.number; there = h.there; first = h.first }))
 
   pub accessed_old : (m : ℕ) → l ≡ m → l < length s.loops → IsAccessed s (record s { next = print + 1 }) print m
   accessed_old m same_loop lt = grind (arith, same_access, found_is, no_loop, no_pass_no_fault)
@@ -226,22 +203,28 @@ module _ (s : SessionView) (is : IsSession s) (print : ℕ) (next : print ≡ s.
     loop_within = slice_get_within (loop_results (history s.graph.script)) l next_loop.results next_loop.its_results
 
     module _ (f : FilledLoop) (loops : List FilledLoop) (joined : loops ≡ s.loops ++ f ∷ []) (filled : IsFilled (job_facts (session_job s l)) s.watch f) where
+      many_more : length loops ≡ length s.loops + 1
+      many_more = ap (λ (x : List FilledLoop). length x) joined ∙ length-append s.loops (f ∷ [])
+
       pub after_filled : IsSession (record s { next = print + 1; loops = loops })
       after_filled =
-          let number = next_loop.number in
-          let within = loop_within in
-          pushed s (print + 1) f loops is sound joined (subst (λ (m : ℕ). IsFilled (job_facts (session_job s m)) s.watch f) number filled) (omega (arith, number, within))
-          (ap (λ (m : ℕ). m + 1) (loops_are sound) ∙ sym (one_loop_more (history s.graph.script) print a next_loop.results at next_loop.fills))
+          changed s (print + 1) loops s.fault is
+          (λ m g there. each m g (before_or_last s.loops f m g (ap (λ (x : List FilledLoop). slice_get x m) (sym joined) ∙ there))) (omega (arith, many_more, next_loop.number, loop_within))
+          (λ e. many_more ∙ ap (λ (m : ℕ). m + 1) (loops_are sound) ∙ sym (one_loop_more (history s.graph.script) print a next_loop.results at next_loop.fills))
+          (subst (λ (o : Option Kept). IfSome o (IsKept (record s { next = print + 1; loops = loops }))) (sym sound) tt)
+        where
+          each : (m : ℕ) (g : FilledLoop) → (slice_get s.loops m ≡ Some g) ⊎ ((m ≡ length s.loops) × (f ≡ g)) → IsFilled (job_facts (session_job s m)) s.watch g
+          each m g (inl q) = is.filled m g q
+          each m g (inr q) = subst (λ (x : FilledLoop). IsFilled (job_facts (session_job s m)) s.watch x) q.1
+              (subst (λ (k : ℕ). IsFilled (job_facts (session_job s k)) s.watch f) (next_loop.number ∙ sym q.0) filled)
 
       pub accessed_filled : (m : ℕ) → l ≡ m → IsAccessed s (record s { next = print + 1; loops = loops }) print m
       accessed_filled m same_loop =
-          let number = next_loop.number in
-          let many = ap (λ (x : List FilledLoop). length x) joined ∙ length-append s.loops (f ∷ []) in
           record {
             next = ap (λ (m : ℕ). m + 1) next;
             fault = refl;
             stays = λ k g there. ap (λ (x : List FilledLoop). slice_get x k) joined ∙ kept_at s.loops (f ∷ []) k g there;
-            filled = λ b there. subst (λ (x : Access). IsFilledIn (record s { next = print + 1; loops = loops }) x.result m) (same_access b there) (found_is ∙ ap (λ (n : ℕ). Some n) same_loop, omega (arith, number, many));
+            filled = λ b there. subst (λ (x : Access). IsFilledIn (record s { next = print + 1; loops = loops }) x.result m) (same_access b there) (found_is ∙ ap (λ (n : ℕ). Some n) same_loop, omega (arith, next_loop.number, many_more));
             again = λ b k there h. (let le = unfilled ge b there k h.0 in let lt = h.1 in absurd (omega arith));
             sound = λ b there h. subst (λ (x : Access). first_fault s.dataset (passes_run (history s.graph.script) x) ≡ None) (same_access b there)
                 (ap (first_fault s.dataset) (sym passes_are) ∙ sym (job_fault s is l) ∙ filled.sound);
@@ -249,7 +232,8 @@ module _ (s : SessionView) (is : IsSession s) (print : ℕ) (next : print ≡ s.
 
     module _ (f : Fault) (first : first_in (job_facts (session_job s l)).faults ≡ Some f) where
       pub after_faulted : IsSession (record s { next = print + 1; fault = Some (record { loop_index = l; fault = f }) })
-      after_faulted = faulted s (print + 1) (record { loop_index = l; fault = f }) is next_loop.number loop_within (sym (job_fault s is l) ∙ first)
+      after_faulted = changed s (print + 1) s.loops (Some (record { loop_index = l; fault = f })) is is.filled is.few (λ e. absurd (cc))
+          (record { number = next_loop.number; there = loop_within; first = sym (job_fault s is l) ∙ first })
 
       pub faulted_new : (k : Kept) → record { loop_index = l; fault = f } ≡ k → IsFaulted s (record s { next = print + 1; fault = Some (record { loop_index = l; fault = f }) }) print k
       faulted_new k same_fault = record {

@@ -97,13 +97,12 @@ module _ (names : FunctionNames) (header : Scope) where
     | inr q ↦ absurd (both_ways (is_result before b.name) (new_name before s acc n b is (omega (arith, q.1))) (watched_named before acc.1 b.name h))
   ]
 
-kind_can : (k : ActionKind) (at : Path) → can_watch (ActionAt k at) ≡ true → CanWatch k
-kind_can k at h = grind arith
-
 -- what is watched can be
 pub can_be_watched : (names : FunctionNames) (header : Scope) (st : List Statement) → AreAccepted names header st → (n : ℕ) (b : Booked) (k : ActionKind) (at : Path) → slice_get (bookings st) n ≡ Some b → b.booking ≡ ActionAt k at
     → is_watched st b.name ≡ true → CanWatch k
-can_be_watched names header st acc n b k at is of h = kind_can k at (ap can_watch (sym of) ∙ watched_can names header st acc n b is h)
+can_be_watched names header st acc n b k at is of h =
+    let can : can_watch (ActionAt k at) ≡ true = ap can_watch (sym of) ∙ watched_can names header st acc n b is h in
+    grind (arith, can)
 
 -- ---- short statements
 

@@ -161,49 +161,37 @@ module _ (c : ClaimsSeen) (b : Option BookSeen) (job : JobFacts) (bar : ℕ) whe
       subst (λ (e : End). AreMade b job (f.slot.seat.drawn ∷ drawn_in fs) (piece_of e ++ pieces_in fs) (shares_in (f ∷ fs))) (sym d.is)
       (one_made b job f.slot.seat.drawn d.piece f.slot.share (drawn_in fs) (pieces_in fs) (shares_in fs) d.stands d.trails d.noted (are_made fs (All-tail IsDone f fs done)))
 
-  -- what the slots told, and the seats; the least of the faults is known
-  pub record HaveEnded (fs : List Finished) (word : ℕ) (told : Option Fault) : Type 0 where
-    pub some : 0 < length fs
-    pub memory : All HasMemory fs
-    pub least : told ≡ least_fault (end_faults fs)
-    pub drawn : DrawnBy (drawn_in fs) (min word c.clusters)
-    pub lowest : IsLeast c.clusters (map seat_in fs) bar
-    pub passed : All (IsPassed bar) (map seat_in fs)
-    pub kept : All (IsKept c.clusters word) (map seat_in fs)
-
-  pub have_ended : (fs slots : List Finished) (word : ℕ) (told : Option Fault) (seats : List SeatSeen) → 0 < length fs → slots ≡ fs → All HasMemory slots → told ≡ least_fault (end_faults slots) → seats ≡ map seat_in fs
-      → DrawnBy (map (λ (s : SeatSeen). s.drawn) seats) (min word c.clusters) → IsLeast c.clusters seats bar → All (IsPassed bar) seats → All (IsKept c.clusters word) seats → HaveEnded fs word told
-  have_ended fs slots word told seats some same memory least are drawn lowest passed kept = grind arith
-
-  module _ (fs : List Finished) (word : ℕ) (told : Option Fault) (facts : AreFacts c.clusters job) (ran : All Ran fs) (h : HaveEnded fs word told) where
+  module _ (fs : List Finished) (word : ℕ) (told : Option Fault) (facts : AreFacts c.clusters job) (ran : All Ran fs) (some : 0 < length fs) (memory : All HasMemory fs)
+      (least : told ≡ least_fault (end_faults fs)) (drawn : DrawnBy (drawn_in fs) (min word c.clusters)) (lowest : IsLeast c.clusters (map seat_in fs) bar)
+      (passed : All (IsPassed bar) (map seat_in fs)) (kept : All (IsKept c.clusters word) (map seat_in fs)) where
     high_bar : end_faults fs ≡ [] → c.clusters ≤ bar
     high_bar none = grind (arith, reaches)
 
     done : end_faults fs ≡ [] → All IsDone fs
-    done none = all_done fs (high_bar none) ran h.memory none h.passed
+    done none = all_done fs (high_bar none) ran memory none passed
 
     full : end_faults fs ≡ [] → c.clusters ≤ word
-    full none = all_drawn fs word h.some (done none) h.kept
+    full none = all_drawn fs word some (done none) kept
 
     -- the least of the slots' faults is that of the first cluster that has one
     pub first_is : first_in job.faults ≡ told
     first_is =
         let m = min word c.clusters in
-        let count : (k : ℕ) → times k (concat (drawn_in fs)) ≡ once_below k m = λ k. times_concat k (drawn_in fs) ∙ (counts_by_drawn (drawn_in fs) m h.drawn).1 k in
-        sym (first_told job.faults bar m (concat (drawn_in fs)) (end_faults fs) facts.order (slots_told fs ran h.memory h.passed) (reaches fs (sym facts.faults) ran h.memory h.lowest)
+        let count : (k : ℕ) → times k (concat (drawn_in fs)) ≡ once_below k m = λ k. times_concat k (drawn_in fs) ∙ (counts_by_drawn (drawn_in fs) m drawn).1 k in
+        sym (first_told job.faults bar m (concat (drawn_in fs)) (end_faults fs) facts.order (slots_told fs ran memory passed) (reaches fs (sym facts.faults) ran memory lowest)
         (λ k lt. omega (arith, count k, once_inside k m lt))
         (λ k there. inside_once k m (omega (arith, count k)))
-        (λ none. let w = full none in let f = facts.faults in omega arith)) ∙ sym h.least
+        (λ none. let w = full none in let f = facts.faults in omega arith)) ∙ sym least
 
     -- where no slot faulted, they finished all clusters
     pub have_finished : told ≡ None → (n : ℕ) → length fs ≡ n → (made : Made) → made.pieces ≡ pieces_in fs → made.shares ≡ shares_in fs → HaveFinished b job n made
     have_finished sound n size made pieces shares =
-        let none = left_none (end_faults fs) (sym sound ∙ h.least) in
+        let none = left_none (end_faults fs) (sym sound ∙ least) in
         let whole : min word c.clusters ≡ length job.faults = (let w = full none in let f = facts.faults in omega arith) in
         record {
           sound = first_is ∙ sound;
           dones = drawn_in fs;
-          unite = drawn_lists_unite (drawn_in fs) (length job.faults) (subst (DrawnBy (drawn_in fs)) whole h.drawn);
+          unite = drawn_lists_unite (drawn_in fs) (length job.faults) (subst (DrawnBy (drawn_in fs)) whole drawn);
           many = length-map (map seat_in fs) (λ (s : SeatSeen). s.drawn) ∙ length-map fs seat_in ∙ size;
           are = rw (pieces, shares) (are_made fs (done none));
         }

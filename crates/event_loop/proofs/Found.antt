@@ -1,6 +1,6 @@
 -- The passes of a loop by numbers and by names, and the place of a result among them.
-use Rattle.std.proofs.Common.{if◌then◌else◌, ◌≡◌, ℕ, ◌+◌, Bool, true, ◌&&◌, List, [], ◌∷◌, ◌++◌, map, take, drop, length, Option, None, Some, refl, sym, ap, ◌∙◌, subst, arith, length-append, append_assoc, is_none, option_map, slice_get, ◌*◌, ◌≤◌, filter, ap₂, count_by}
-use Rattle.lemmas.proofs.{cond_both, flat_map-append, kept_at, length-map, mapped_at, nat_tests, position, same_some, slice_get-map, something_at, take-append-drop, take_front, take_next}
+use Rattle.std.proofs.Common.{if◌then◌else◌, ◌≡◌, ℕ, ◌+◌, Bool, true, false, ◌&&◌, List, [], ◌∷◌, ◌++◌, map, take, drop, length, Option, None, Some, refl, sym, ap, ◌∙◌, subst, arith, length-append, append_assoc, is_none, option_map, slice_get, ◌*◌, ◌≤◌, filter, ap₂, count_by}
+use Rattle.lemmas.proofs.{cond_both, eq-eqb, flat_map-append, kept_at, length-map, mapped_at, nat_tests, position, same_some, slice_get-map, something_at, take-append-drop, take_front, take_next}
 use Rattle.rdf_values.specs.{Booked, bookings, is_watched, Pass, Statement, Under, has_variations, passes_of, result_depends, Variation, variations, scope_of}
 use Rattle.rdf_model.specs.{kind_in, kinds_in, loop_passes, loop_results}
 use Rattle.graph_numbers.specs.{booked_statements, graph_loops, graph_results, graph_variations, GraphView, Pass as NumberedPass, pass_at, ResultAt, under_at, result_passes, IsGraph}
@@ -13,7 +13,7 @@ use Rattle.event_loop.specs.{IsPassOf, IsPlaced, fills}
 use Rattle.loop_keys.proofs.Elements.{of_mapped}
 use Rattle.loop_keys.proofs.EntryLaws.{actions_few, all_taken}
 use Rattle.loop_keys.proofs.PassNumbers.{loop_few as passes_few}
-use Rattle.event_loop.proofs.LoopResults.{IsFound, NoneOf, count_own, is_found, is_of, own_all, position_first}
+use Rattle.event_loop.proofs.LoopResults.{IsFound, AllAre, all_are, count_own, is_found, is_of, position_first}
 use Rattle.std.specs.Prelude.{⊤}
 use mir.Val.{bool_byte}
 use Rattle.rdf_model.proofs.Accepted.{verdict_is_the_first_refusal}
@@ -91,21 +91,13 @@ watched_more script qs q =
     let same_count = place_count script (0 + length (kinds_in qs)) 0 q in
     omega (arith, all, both, own, same_count)
 
--- one place where the next pass is watched
-own_places : (script : List Statement) (q : Pass) (b : Bool) (w : ℕ) → w ≡ bool_byte b
-    → place_if_watched script 0 q ≡ (if b then 0 ∷ [] else []) → w ≡ length (place_if_watched script 0 q)
-own_places script q b w is e = grind arith
-
-pub one_or_none : (b : Bool) (w : ℕ) → w ≡ bool_byte b → w ≤ 1
-one_or_none b w is = grind arith
-
 -- what the passes up to the next one count for
 pub next_counts : (g : GraphView) (ps : List NumberedPass) (i : ℕ) (p : NumberedPass) (actions watched_ones a w : ℕ) (b : Bool) → slice_get ps i ≡ Some p
     → ((qs : List Pass) → AreDecoded (booked_statements g) ps qs → (actions ≡ length (kinds_in (take i qs))) × (watched_ones ≡ length (watched_places (booked_statements g) (take i qs))))
     → option_map (λ (x : ResultAt). length (kind_in x.booked.booking)) (slice_get (graph_results g) p.result) ≡ Some a → w ≡ bool_byte b
     → ((n : ℕ) (q : Pass) → pass_at (booked_statements g) p ≡ Some q → place_if_watched (booked_statements g) n q ≡ (if b then n ∷ [] else []))
     → (qs : List Pass) → AreDecoded (booked_statements g) ps qs → (actions + a ≡ length (kinds_in (take (i + 1) qs))) × (watched_ones + w ≡ length (watched_places (booked_statements g) (take (i + 1) qs)))
-next_counts g ps i p actions watched_ones a w b h each own is told qs e = grind (arith, one_more, own_places, kinds_more, actions_are, watched_more)
+next_counts g ps i p actions watched_ones a w b h each own is told qs e = grind (arith, one_more, kinds_more, actions_are, watched_more)
 
 -- ---- a loop
 
@@ -140,7 +132,7 @@ taken_at n xs i x at = ap (λ l. slice_get l i) (sym (take-append-drop n xs)) �
 
 -- ---- positions
 
-pub found_at : (r : ℕ) (xs : List NumberedPass) (p : NumberedPass) (ps : List NumberedPass) → NoneOf r xs → is_of r p ≡ true → position (is_of r) (xs ++ p ∷ ps) ≡ Some (length xs)
+pub found_at : (r : ℕ) (xs : List NumberedPass) (p : NumberedPass) (ps : List NumberedPass) → AllAre false r xs → is_of r p ≡ true → position (is_of r) (xs ++ p ∷ ps) ≡ Some (length xs)
 found_at r xs p ps h met = grind (arith, nat_tests, position_first r xs p ps h met, length-append xs (p ∷ ps))
 
 -- ---- the passes of a result
@@ -168,9 +160,6 @@ own_kinds b (p ∷ own) h =
 pub kinds-append : (ps qs : List Pass) → kinds_in (ps ++ qs) ≡ kinds_in ps ++ kinds_in qs
 kinds-append ps qs = flat_map-append (λ (p : Pass). kind_in p.result.booking) ps qs
 
-kinds_few : (ps : List Pass) → length (kinds_in ps) ≤ length ps
-kinds_few ps = subst (λ (qs : List Pass). length (kinds_in qs) ≤ length ps) (all_taken ps) (actions_few (length ps) ps)
-
 -- ---- a graph
 
 pub in_turn : (g : GraphView) → IsGraph g → AreNamedInTurn (booked_statements g)
@@ -186,13 +175,15 @@ module _ (g : GraphView) (is : IsGraph g) (l : ℕ) (ps : List NumberedPass) (lo
 
     -- the first of them is the nominal one
     pub at_start : position (is_of r) ps ≡ Some (length its_place.start)
-    at_start = ap (position (is_of r)) its_place.numbered ∙ found_at r its_place.start _ _ its_place.none_before (own_all (booked_statements g) r x.booked).0
+    at_start = ap (position (is_of r)) its_place.numbered ∙ found_at r its_place.start _ _ its_place.none_before
+        (all_are (booked_statements g) true r r x.booked (eq-eqb r r refl)).0
 
     own_many : count_by (is_of r) ps ≡ length (passes_of (booked_statements g) x.booked)
     own_many =
         let script = booked_statements g in
         let own = result_passes script r x.booked in
-        ap (count_by (is_of r)) its_place.numbered ∙ count_own r its_place.start own its_place.rest its_place.none_before (own_all script r x.booked) its_place.none_after
+        ap (count_by (is_of r)) its_place.numbered ∙ count_own r its_place.start own its_place.rest its_place.none_before
+        (all_are script true r r x.booked (eq-eqb r r refl)) its_place.none_after
         ∙ sym (length-map own (pass_at script)) ∙ ap length (result_are script r x.booked (booked_row g r x its)) ∙ length-map (passes_of script x.booked) (λ (q : Pass). Some q)
 
     pub place_is : (n : ℕ) → position (is_of r) ps ≡ Some n → length ps ≤ 33024 → (first watched own accumulators : ℕ)
@@ -219,7 +210,7 @@ module _ (g : GraphView) (is : IsGraph g) (l : ℕ) (ps : List NumberedPass) (lo
         let back = ap (λ (q : List _). length q) (kinds-append its_own behind.1) in
         let front_count = length-append (kinds_in parts.0) (kinds_in (its_own ++ behind.1)) in
         let back_count = length-append (kinds_in its_own) (kinds_in behind.1) in
-        let few_kinds = kinds_few passes in
+        let few_kinds = subst (λ (qs : List Pass). length (kinds_in qs) ≤ length passes) (all_taken passes) (actions_few (length passes) passes) in
         let same_length : length ps ≡ length passes = sym (length-map ps (pass_at script)) ∙ ap (λ (q : List _). length q) all_decoded ∙ length-map passes (λ (q : Pass). Some q) in
         record {
           before = parts.0;

@@ -1,5 +1,5 @@
 -- Which results a loop fills, and the passes of a result in a loop, by the numbers of results and by names.
-use Rattle.std.proofs.Common.{◌≡◌, ◌≢◌, ℕ, zero, suc, ◌+◌, ◌<◌, Bool, true, false, cond, List, [], ◌∷◌, ◌++◌, map, length, Some, refl, sym, ◌∙◌, ap, arith, slice_get, if◌then◌else◌, append_assoc, count_by, filter, nat_eq, ◌⊎◌, not, ◌||◌, take, None, subst}
+use Rattle.std.proofs.Common.{◌≡◌, ℕ, zero, suc, ◌+◌, ◌<◌, Bool, true, false, cond, List, [], ◌∷◌, ◌++◌, map, length, Some, refl, sym, ◌∙◌, ap, arith, slice_get, if◌then◌else◌, append_assoc, count_by, filter, nat_eq, ◌⊎◌, not, ◌||◌, take, None, subst}
 use Rattle.std.specs.Prelude.{⊤}
 use Rattle.lemmas.proofs.{append-nil, before_or_last, cond_both, cons_option, eq-eqb, filter_map-append, length-map, list_any, ne_eqb, or_right, position_or_len, same_some, slice_get_within, sum_by-append, sum_by-cons}
 use Rattle.rdf_values.specs.{Booked, has_variations, Statement, among, bookings, filled, names_of, same, waiting}
@@ -19,27 +19,18 @@ use Rattle.event_loop.specs.{fills}
 abbrev pub is_of : ℕ → NumberedPass → Bool
 is_of r p = nat_eq p.result r
 
--- none of the passes is
-abbrev pub NoneOf : ℕ → List NumberedPass → Type 0
-NoneOf r [] = ⊤
-NoneOf r (p ∷ ps) = (is_of r p ≡ false) × NoneOf r ps
+-- each of the passes is, or none
+abbrev pub AllAre : Bool → ℕ → List NumberedPass → Type 0
+AllAre b r [] = ⊤
+AllAre b r (p ∷ ps) = (is_of r p ≡ b) × AllAre b r ps
 
--- each is
-abbrev pub AllOf : ℕ → List NumberedPass → Type 0
-AllOf r [] = ⊤
-AllOf r (p ∷ ps) = (is_of r p ≡ true) × AllOf r ps
-
-pub none_both : (r : ℕ) (xs ys : List NumberedPass) → NoneOf r xs → NoneOf r ys → NoneOf r (xs ++ ys)
+pub none_both : (r : ℕ) (xs ys : List NumberedPass) → AllAre false r xs → AllAre false r ys → AllAre false r (xs ++ ys)
 none_both r [] ys h k = k
 none_both r (x ∷ xs) ys h k = (h.0, none_both r xs ys h.1 k)
 
-varied_all : (r : ℕ) (vs : List ℕ) → AllOf r (map (λ v. numbered_pass r (Some v)) vs)
-varied_all r [] = tt
-varied_all r (v ∷ vs) = (eq-eqb r r refl, varied_all r vs)
-
-varied_none : (r n : ℕ) → n ≢ r → (vs : List ℕ) → NoneOf r (map (λ v. numbered_pass n (Some v)) vs)
-varied_none r n ne [] = tt
-varied_none r n ne (v ∷ vs) = (ne_eqb n r ne, varied_none r n ne vs)
+varied_are : (b : Bool) (r n : ℕ) → nat_eq n r ≡ b → (vs : List ℕ) → AllAre b r (map (λ v. numbered_pass n (Some v)) vs)
+varied_are b r n is [] = tt
+varied_are b r n is (v ∷ vs) = (is, varied_are b r n is vs)
 
 -- what is met among those that pass a test stands in the list
 pub kept_any : (p test : Booked → Bool) (bs : List Booked) → list_any p (filter test bs) ≡ true → (k : ℕ) × (c : Booked) × (slice_get bs k ≡ Some c) × (test c ≡ true) × (p c ≡ true)
@@ -50,24 +41,23 @@ kept_any p test (c ∷ bs) h =
     by_test (test c) (λ met. by_test (p c) (λ is. (0, c, refl, met, is)) (λ not_it. later (rw (met, not_it) at h))) (λ other. later (rw other at h))
 
 module _ (script : List Statement) where
-  pub own_all : (r : ℕ) (b : Booked) → AllOf r (result_passes script r b)
-  own_all r b = (eq-eqb r r refl, cond_both (has_variations script b.name) _ _ (AllOf r) (λ _. varied_all r _) (λ _. tt))
-
-  pub other_none : (r n : ℕ) (b : Booked) → n ≢ r → NoneOf r (result_passes script n b)
-  other_none r n b ne = (ne_eqb n r ne, cond_both (has_variations script b.name) _ _ (NoneOf r) (λ _. varied_none r n ne _) (λ _. tt))
+  pub all_are : (t : Bool) (r n : ℕ) (b : Booked) → nat_eq n r ≡ t → AllAre t r (result_passes script n b)
+  all_are t r n b is = (is, cond_both (has_variations script b.name) _ _ (AllAre t r) (λ _. varied_are t r n is _) (λ _. tt))
 
   -- behind it no pass is of the result
-  pub later_none : (test : Booked → Bool) (r n : ℕ) → r < n → (bs : List Booked) → NoneOf r (passes_from script test n bs)
+  pub later_none : (test : Booked → Bool) (r n : ℕ) → r < n → (bs : List Booked) → AllAre false r (passes_from script test n bs)
   later_none test r n lt [] = tt
-  later_none test r n lt (b ∷ bs) = grind (arith, none_both, cond_both, other_none, later_none test r (suc n) (omega arith) bs)
+  later_none test r n lt (b ∷ bs) =
+      let own = all_are false r n b (ne_eqb n r (λ q. omega arith)) in
+      grind (arith, none_both, cond_both, own, later_none test r (suc n) (omega arith) bs)
 
   -- the passes of the result stand together in the loop
   pub record IsFound (r : ℕ) (b : Booked) (ps : List NumberedPass) : Type 0 where
     pub start : List NumberedPass
     pub rest : List NumberedPass
     pub numbered : ps ≡ start ++ (result_passes script r b ++ rest)
-    pub none_before : NoneOf r start
-    pub none_after : NoneOf r rest
+    pub none_before : AllAre false r start
+    pub none_after : AllAre false r rest
 
   pub split_at : (test : Booked → Bool) (r n k : ℕ) (bs : List Booked) (b : Booked) → n + k ≡ r → slice_get bs k ≡ Some b → test b ≡ true → IsFound r b (passes_from script test n bs)
   split_at test r n k [] b e at met = absurd (cc)
@@ -89,28 +79,29 @@ module _ (script : List Statement) where
         start = own ++ s.start;
         rest = s.rest;
         numbered = ap (λ l. own ++ l) s.numbered ∙ sym (append_assoc own s.start (result_passes script r b ++ s.rest));
-        none_before = none_both r own s.start (cond_both (test c) _ _ (NoneOf r) (λ _. other_none r n c (λ q. omega arith)) (λ _. tt)) s.none_before;
+        none_before = none_both r own s.start
+            (cond_both (test c) _ _ (AllAre false r) (λ _. all_are false r n c (ne_eqb n r (λ q. omega arith))) (λ _. tt)) s.none_before;
         none_after = s.none_after;
       }
 
 -- ---- what is found
 
-pub position_first : (r : ℕ) (xs : List NumberedPass) (p : NumberedPass) (ps : List NumberedPass) → NoneOf r xs → is_of r p ≡ true → position_or_len (is_of r) (xs ++ p ∷ ps) ≡ length xs
+pub position_first : (r : ℕ) (xs : List NumberedPass) (p : NumberedPass) (ps : List NumberedPass) → AllAre false r xs → is_of r p ≡ true → position_or_len (is_of r) (xs ++ p ∷ ps) ≡ length xs
 position_first r [] p ps h met = rw met refl
 position_first r (x ∷ xs) p ps h met = let first = h.0 in let rest = position_first r xs p ps h.1 met in rw first (omega (arith, rest))
 
 count_step : (r : ℕ) (p : NumberedPass) (l : List NumberedPass) (b : Bool) → is_of r p ≡ b → count_by (is_of r) (p ∷ l) ≡ cond {A = ℕ} b 1 0 + count_by (is_of r) l
 count_step r p l b e = sum_by-cons (λ x. cond {A = ℕ} (is_of r x) 1 0) p l ∙ ap (λ (x : Bool). cond {A = ℕ} x 1 0 + count_by (is_of r) l) e
 
-count_none : (r : ℕ) (ps : List NumberedPass) → NoneOf r ps → count_by (is_of r) ps ≡ 0
+count_none : (r : ℕ) (ps : List NumberedPass) → AllAre false r ps → count_by (is_of r) ps ≡ 0
 count_none r [] h = refl
 count_none r (p ∷ ps) h = let one = count_step r p ps false h.0 in let rest = count_none r ps h.1 in omega (arith, one, rest)
 
-count_all : (r : ℕ) (ps qs : List NumberedPass) → AllOf r ps → count_by (is_of r) (ps ++ qs) ≡ length ps + count_by (is_of r) qs
+count_all : (r : ℕ) (ps qs : List NumberedPass) → AllAre true r ps → count_by (is_of r) (ps ++ qs) ≡ length ps + count_by (is_of r) qs
 count_all r [] qs h = omega arith
 count_all r (p ∷ ps) qs h = let one = count_step r p (ps ++ qs) true h.0 in let rest = count_all r ps qs h.1 in omega (arith, one, rest)
 
-pub count_own : (r : ℕ) (xs ps ys : List NumberedPass) → NoneOf r xs → AllOf r ps → NoneOf r ys → count_by (is_of r) (xs ++ (ps ++ ys)) ≡ length ps
+pub count_own : (r : ℕ) (xs ps ys : List NumberedPass) → AllAre false r xs → AllAre true r ps → AllAre false r ys → count_by (is_of r) (xs ++ (ps ++ ys)) ≡ length ps
 count_own r xs ps ys h all k =
     let both = sum_by-append (λ x. cond {A = ℕ} (is_of r x) 1 0) xs (ps ++ ys) in
     let none = count_none r xs h in

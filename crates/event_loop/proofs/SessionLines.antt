@@ -2,7 +2,7 @@
 use Rattle.std.proofs.Common.{◌≡◌, ℕ, zero, suc, ◌+◌, ◌*◌, ◌<◌, List, [], ◌∷◌, ◌++◌, length, Some, refl, sym, ◌∙◌, ap, ap₂, subst, arith, append_assoc, length-append, flat_map, slice_get, ◌-◌, ◌≤◌, true, map, None, if◌then◌else◌, All, codes, inl, inr, Option, filter, option_map, unwrap_or, ◌^◌, append-nil}
 use Rattle.lemmas.proofs.{All-from_recursion, AllByRecursion, cond_both, eqb-true, join_with_byte, length-map, same_some, slice_get-map, something_at}
 use Rattle.rdf_values.specs.{ActionAt, ActionKind, Booked, Booking, Pass, Path, Span, Filled, line, below, Column, fn_names, Function, FunctionNames, has_variations, named_before, passes_of, ReportOn, result_depends, Statement, Variation, variations, varied_passes, cut, history, is_watched, Lead}
-use Rattle.rdf_model.specs.{action_pass, booking_lines, Dataset, filled_lines, kind_in, kinds_in, label, loop_facts, over_clusters, pass_lines, pass_result, in_front, maximal_runs, partial_line, partial_result, Run, run_text, value_text, cutflow, filter_label, first_fault, Course, flow_lines, partial_lines, result_lines}
+use Rattle.rdf_model.specs.{action_pass, booking_lines, Dataset, filled_lines, kind_in, kinds_in, label, loop_facts, over_clusters, pass_lines, pass_result, maximal_runs, partial_line, partial_result, Run, run_text, value_text, cutflow, filter_label, first_fault, Course, flow_lines, partial_lines, result_lines}
 use Rattle.actions.specs.{Accumulator}
 use Rattle.graph_numbers.proofs.Walks.{by_test, joined, next_at, each_filter}
 use Rattle.loop_pieces.specs.{LoopPiece, StandsFor, ArePartialLines, IsPartialLine, PartialLine, span_of, Counts, counts_at, counts_of, FilledResult, place_if_watched, watched_places}
@@ -17,6 +17,7 @@ use Rattle.loop_keys.proofs.ReportTies.{AreCovers, covers_are as booked_covers}
 use Rattle.rdf_values.proofs.Evenly.{cuts_lead}
 use Rattle.loop_keys.specs.{passes_in}
 use Rattle.event_loop.specs.{FitsCourse, IsFilled, IsPlaced, IsResult, IsSession, job_facts, loop_filling, session_job, SessionView}
+use Rattle.event_loop.proofs.Adding.{watched_at}
 use Rattle.event_loop.proofs.Accesses.{job_fault, noted_at}
 
 module _ (b : Booked) (k : ActionKind) (at : Path) (action : b.booking ≡ ActionAt k at) where
@@ -85,12 +86,9 @@ runs_back (r ∷ rs) = let e : r.last + 1 - 1 ≡ r.last = omega arith in ap₂ 
 abbrev AreRising : List Run → Type 0
 AreRising rs = AllByRecursion (λ (r : Run). r.first ≤ r.last) rs
 
-front_rises : (x : ℕ) (rs : List Run) → AreRising rs → AreRising (in_front x rs)
-front_rises x rs h = grind (arith, cond_both, eqb-true)
-
 runs_rise : (set : List ℕ) → AreRising (maximal_runs set)
 runs_rise [] = tt
-runs_rise (x ∷ xs) = front_rises x (maximal_runs xs) (runs_rise xs)
+runs_rise (x ∷ xs) = grind (arith, cond_both, eqb-true, runs_rise xs)
 
 spans_are_runs : (rs : List Run) → AreRising rs → AllByRecursion (λ (s : Span). s.lo < s.hi) (map span_of rs)
 spans_are_runs [] h = tt
@@ -111,16 +109,14 @@ module _ (d : Dataset) (filters : List Path) (spans : List Span) (before after :
   pub watched_are : (sets : List (List ℕ)) (lines : List PartialLine) → ArePartialLines (loop_facts d filters spans (before ++ action_pass name k at None ∷ after)) (length (kinds_in before)) sets lines
       → watch_lines name lines ≡ flat_map (λ set. partial_line name set (partial_result spans d set k at)) sets
   watched_are [] [] h = refl
-  watched_are [] (l ∷ ls) h = elim h [ ]
-  watched_are (set ∷ sets) [] h = elim h [ ]
   watched_are (set ∷ sets) (l ∷ ls) h = ap₂ (λ (x y : List ℕ). x ++ y) (one_partial set l h.0) (watched_are sets ls h.1)
+  watched_are sets lines h = elim h [ ]
 
 -- each line has runs
 lines_have_runs : (facts : _) (place : ℕ) (sets : List (List ℕ)) (lines : List PartialLine) → ArePartialLines facts place sets lines → AllByRecursion (λ (l : PartialLine). AreRuns l.runs) lines
 lines_have_runs facts place [] [] h = tt
-lines_have_runs facts place [] (l ∷ ls) h = elim h [ ]
-lines_have_runs facts place (set ∷ sets) [] h = elim h [ ]
 lines_have_runs facts place (set ∷ sets) (l ∷ ls) h = (runs_of_set l.runs set h.0.runs, lines_have_runs facts place sets ls h.1)
+lines_have_runs facts place sets lines h = elim h [ ]
 
 -- what stands before and behind an element
 parted_at : {A : Type 0} (xs : List A) (n : ℕ) (x : A) → slice_get xs n ≡ Some x → (before : List A) × (after : List A) × (xs ≡ before ++ x ∷ after) × (length before ≡ n)
@@ -177,8 +173,6 @@ module _ (script : List Statement) (d : Dataset) (spans : List Span) (set : List
     pub flows_from : (header : List Column) (fns : List Function) (ns : List ℕ) (gs done : List Path) → fs ≡ done ++ gs → AreNumbersOf fns header script ns gs
         → (g : GraphView) → graph_filters g ≡ filters header (fn_names fns) script → map (flow_at g piece.flow) ns ≡ map (λ f. (filter_label f, cutflow d f)) gs
     flows_from header fns [] [] done joined h g same_filters = refl
-    flows_from header fns [] (f ∷ gs) done joined h g same_filters = elim h [ ]
-    flows_from header fns (m ∷ ns) [] done joined h g same_filters = elim h [ ]
     flows_from header fns (m ∷ ns) (f ∷ gs) done joined h g same_filters =
         let y = h.0.0 in
         let at : slice_get (graph_filters g) m ≡ Some y = ap (λ l. slice_get l m) same_filters ∙ h.0.1 in
@@ -189,6 +183,7 @@ module _ (script : List Statement) (d : Dataset) (spans : List Span) (set : List
         let one : flow_at g piece.flow m ≡ (filter_label f, cutflow d f) =
         λ i. ((ap (λ (o : Option FilterAt). unwrap_or (option_map (λ (x : FilterAt). x.label) o) []) at ∙ its_label_is) i, ap (λ (o : Option Counts). counts_seen (unwrap_or o (record { all = 0; pass = 0 }))) counted i) in
         ap₂ (λ x xs. x ∷ xs) one (flows_from header fns ns gs (done ++ f ∷ []) (joined ∙ sym (append_assoc done (f ∷ []) gs)) h.1 g same_filters)
+    flows_from header fns ns gs done joined h g same_filters = elim h [ ]
 
 module _ (s : SessionView) (is : IsSession s) where
   abbrev script_of : List Statement
@@ -205,9 +200,6 @@ module _ (s : SessionView) (is : IsSession s) where
   -- a result that is noted is a watched action
   noted_action : (b : Booked) (n : ℕ) → place_if_watched script_of n (record { result = b; under = None }) ≡ n ∷ [] → (k : ActionKind) × (at : Path) × (b.booking ≡ ActionAt k at)
   noted_action b n e = grind (arith, by_test)
-
-  noted_watch : (b : Booked) (n : ℕ) → place_if_watched script_of n (record { result = b; under = None }) ≡ n ∷ [] → is_watched script_of b.name ≡ true
-  noted_watch b n e = by_test (is_watched script_of b.name) (λ w. w) (λ w. absurd (cc (rw w at e)))
 
   -- what is printed before the lines of the passes
   abbrev front_of : Course → Booked → List ℕ
@@ -260,7 +252,7 @@ module _ (s : SessionView) (is : IsSession s) where
         ∙ ap₂ (λ (n : ℕ) (spans : List Span). flat_map (λ set. partial_line name set (partial_result spans s.dataset set k at)) (course.chains n)) (sym (ap (λ (o : Option ℕ). unwrap_or o 0) number)) (sym fits_course.spans)
 
     front_is : (course : Course) → FitsCourse s course → loop_filling script_of x.booked.name ≡ Some l → watch_lines x.booked.name lines ≡ front_of course x.booked
-    front_is course fits_course number = grind (arith, noted_action, action_lines, noted_watch, no_front)
+    front_is course fits_course number = grind (arith, noted_action, action_lines, watched_at, no_front)
 
     -- ---- filled results
 

@@ -37,9 +37,8 @@ module _ (b : Option BookSeen) (job : JobFacts) where
 
 pub as_many_pieces : (stands : List ℕ → LoopPiece → Type 0) (dones : List (List ℕ)) (ps : List LoopPiece) → Stand stands dones ps → length ps ≡ length dones
 as_many_pieces stands [] [] stand = refl
-as_many_pieces stands [] (p ∷ ps) stand = elim stand [ ]
-as_many_pieces stands (d ∷ ds) [] stand = elim stand [ ]
 as_many_pieces stands (d ∷ ds) (p ∷ ps) stand = let r = as_many_pieces stands ds ps stand.1 in omega arith
+as_many_pieces stands ds ps stand = elim stand [ ]
 
 sum_lengths : (xs ys : List (List ℕ)) → map length xs ≡ map length ys → sum_by length xs ≡ sum_by length ys
 sum_lengths xs ys e = sym (sum_by-map (λ n. n) length xs) ∙ ap (sum_by (λ n. n)) e ∙ sum_by-map (λ n. n) length ys
@@ -58,12 +57,6 @@ none_over facts (p ∷ ps) k sets none = absurd (omega arith)
 
 pub none_watched : (job : JobFacts) (k : ℕ) (dones : List (List ℕ)) → length job.watched ≡ 0 → HaveNoted job k dones []
 none_watched job k dones none = ([], record { noted = λ some. absurd (omega arith); over = none_over job.facts job.watched k (noted_sets [] dones (length job.facts.ranges) k) none })
-
--- the partial results over the sets that the orders of the shares tell
-pub noted_partials : (job : JobFacts) (k clusters : ℕ) (orders dones : List (List ℕ)) (partials : List (List PartialLine))
-    → length job.facts.ranges ≡ clusters → AreNoted orders dones clusters
-    → HavePartialsOver job.facts job.watched k (noted_sets orders dones clusters k) partials → HaveNoted job k dones partials
-noted_partials job k clusters orders dones partials ranges noted over = grind arith
 
 -- where there is a book
 pub noted_in : (b : BookSeen) (o : Option BookSeen) (watched clusters : ℕ) (job : JobFacts) (made : Made) (can : CanFill o watched clusters job made)

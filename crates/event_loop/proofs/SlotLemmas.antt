@@ -46,9 +46,6 @@ below_last xs n up k d lt =
     let pairs = AllPairs-from_increasing (xs ++ n ∷ []) up k (length xs) d lt (omega (arith, length-append xs (n ∷ []))) in
     grind (arith, common_steps, pairs)
 
-pub below_drawn : (xs done drawn : List ℕ) (n : ℕ) → drawn ≡ xs ++ n ∷ [] → done ≡ xs → IsStrictlyIncreasing drawn → All (λ y. y < n) done
-below_drawn xs done drawn n is same up = subst (All (λ y. y < n)) (sym same) (below_last xs n (subst IsStrictlyIncreasing is up))
-
 -- there is a number above all of them
 pub one_above : (xs : List ℕ) → (c : ℕ) × All (λ d. d < c) xs
 one_above [] = (0, All-nil (λ d. d < 0))
@@ -58,18 +55,9 @@ one_above (x ∷ xs) =
       All-cons (λ d. d < x + 1 + rest.0) x xs (omega arith) (All-weaker (λ d. d < rest.0) (λ d. d < x + 1 + rest.0) (λ d lt. omega arith) xs rest.1),
     )
 
--- rising numbers below another are fewer
-pub fewer : (xs : List ℕ) (c : ℕ) → IsStrictlyIncreasing xs → All (λ d. d < c) xs → length xs ≤ c
-fewer xs c up high = rising_room xs c (rises_push xs c up high)
-
 -- what snapshots show, with one more
 pub seen_with : (done more : List (Snapshot ℕ)) (cluster : ℕ) (s : Snapshot ℕ) → s.value ≡ cluster → more ≡ done ++ s ∷ [] → map (λ (d : Snapshot ℕ). d.value) more ≡ map (λ (d : Snapshot ℕ). d.value) done ++ cluster ∷ []
 seen_with done more cluster s shows is = ap (map (λ (d : Snapshot ℕ). d.value)) is ∙ map-append (λ (d : Snapshot ℕ). d.value) done (s ∷ []) ∙ ap (λ c. map (λ (d : Snapshot ℕ). d.value) done ++ c ∷ []) shows
-
--- ---- phases
-
-pub goes_on : (p : Phase) → (p ≡ Phase.NoMemory → ⊥) → (p ≡ Phase.Faulted → ⊥) → p ≡ Phase.Going
-goes_on p a b = grind arith
 
 -- ---- faults
 
@@ -85,29 +73,33 @@ cluster_within j cluster lt = omega (arith, length-map (below (length (job_spans
 -- ---- a slot of a job
 
 module _ (j : JobView) (s : SlotView) (h : IsSlotOf (job_facts j) s) where
-  -- one that doesn't go on
-  pub stopped : (t : SlotView) → IsStateOf j t.blocks → t.vectors ≡ s.vectors → t.room ≡ s.room → (t.phase ≡ Phase.Going → ⊥) → IsSlotOf (job_facts j) t
-  stopped t state vectors room ended = grind arith
+  module _ (seen : SlotView) (is : seen ≡ s) (some : seen.phase ≡ Phase.NoMemory → ⊥) (sound : s.phase ≡ Phase.Faulted → ⊥)
+      (cluster : ℕ) (above : All (λ c. c < cluster) s.done) where
+    pub going : s.phase ≡ Phase.Going
+    going = let memory : s.phase ≡ Phase.NoMemory → ⊥ = λ e. some (ap (λ (v : SlotView). v.phase) is ∙ e) in grind (arith, memory, sound)
 
-  module _ (going : s.phase ≡ Phase.Going) (cluster : ℕ) (within : cluster < length (job_facts j).faults) (above : All (λ c. c < cluster) s.done) where
-    pub begins : Holds (facts_in j) (job_facts j).watched (at_begin s.done cluster) s.tally
-    begins = h.holds going cluster above
+    pub begins : Holds (facts_in j) (job_facts j).watched (at_begin s.done cluster) seen.tally
+    begins = subst (λ (v : SlotView). Holds (facts_in j) (job_facts j).watched (at_begin s.done cluster) v.tally) (sym is) (h.holds going cluster above)
 
-    pub has_room : length s.done < s.room
-    has_room = let few = fewer s.done cluster begins.rises above in let r = h.room in omega arith
+    pub has_room : cluster < length (job_facts j).faults → length seen.done < seen.room
+    has_room within = subst (λ (v : SlotView). length v.done < v.room) (sym is)
+        (omega (arith, within, h.room, rising_room s.done cluster (rises_push s.done cluster begins.rises above)))
 
     -- after the cluster
-    pub went_on : (t : SlotView) → IsStateOf j t.blocks → t.vectors ≡ s.vectors → t.room ≡ s.room → t.done ≡ s.done ++ cluster ∷ []
+    pub went_on : (t : SlotView) → IsStateOf j t.blocks → t.vectors ≡ seen.vectors → t.room ≡ seen.room → t.done ≡ seen.done ++ cluster ∷ []
         → ((next : ℕ) → cluster < next → Holds (facts_in j) (job_facts j).watched (at_begin (s.done ++ cluster ∷ []) next) t.tally) → IsSlotOf (job_facts j) t
-    went_on t state vectors room done holds = record {
-      blocks = state;
-      vectors = subst (CountsVectors (job_graph j)) (sym vectors) h.vectors;
-      few = (let f = h.few in omega (arith, f, vectors));
-      room = (let r = h.room in omega (arith, room));
-      holds = λ on c high. (
-          let all = subst (All (λ d. d < c)) done high in
-          subst (λ l. Holds (facts_in j) (job_facts j).watched (at_begin l c) t.tally) (sym done) (holds c (All-contains (λ d. d < c) (s.done ++ cluster ∷ []) cluster all (Contains-push s.done cluster))));
-    }
+    went_on t state vectors room done holds =
+        let same_vectors = vectors ∙ ap (λ (v : SlotView). v.vectors) is in
+        let same_done = done ∙ ap (λ (v : SlotView). v.done ++ cluster ∷ []) is in
+        record {
+          blocks = state;
+          vectors = subst (CountsVectors (job_graph j)) (sym same_vectors) h.vectors;
+          few = (let f = h.few in omega (arith, f, same_vectors));
+          room = (let r = h.room in omega (arith, room, ap (λ (v : SlotView). v.room) is));
+          holds = λ on c high. (
+              let all = subst (All (λ d. d < c)) same_done high in
+              subst (λ l. Holds (facts_in j) (job_facts j).watched (at_begin l c) t.tally) (sym same_done) (holds c (All-contains (λ d. d < c) (s.done ++ cluster ∷ []) cluster all (Contains-push s.done cluster))));
+        }
 
 pub is_at_end : (j : JobView) (done : List ℕ) (cluster : ℕ) → IsAtEnd (facts_in j) (at_end (facts_in j) done cluster) cluster
 is_at_end j done cluster = record { at_cluster = refl; entries = refl; passes = refl; filters = refl }

@@ -13,25 +13,17 @@ use Rattle.loop_pieces.proofs.ClusterFaults.{lower_clusters_fault_first}
 use Rattle.event_loop.specs.declared.gather.Made.{Made}
 use Rattle.event_loop.specs.declared.gather.Outcome.{Outcome}
 
-many_shares : (b : BookSeen) (n : ℕ) → length (fresh_shares b n) ≡ n
-many_shares b n = length-map (range_with_len 0 n) (fresh_share b) ∙ length-range_with_len 0 n
-
 pub all_blank : (b : BookSeen) (n : ℕ) (shares : List ShareSeen) → shares ≡ fresh_shares b n → AreBlank (Some b) n shares
-all_blank b n shares is = (ap length is ∙ many_shares b n, subst (All (IsBlank b)) (sym is) (All-map (IsBlank b) (fresh_share b) (range_with_len 0 n) (λ k d lt. record { of = (refl, refl); unnoted = refl })))
-
--- nothing comes of an empty vector
-pub none_popped : {S : Type 0} (r : Option S) (n m : ℕ) → MatchOption r ((n ≡ 0) × (m ≡ 0)) (λ _. m + 1 ≡ n) → r ≡ None → n ≡ 0
-none_popped r n m popped e = grind arith
+all_blank b n shares is = (
+  ap length is ∙ length-map (range_with_len 0 n) (fresh_share b) ∙ length-range_with_len 0 n,
+  subst (All (IsBlank b)) (sym is) (All-map (IsBlank b) (fresh_share b) (range_with_len 0 n) (λ k d lt. record { of = (refl, refl); unnoted = refl })),
+)
 
 -- the next share, where there is a book
 pub next_share : (b : Option BookSeen) (n : ℕ) (old new : List ShareSeen) (r : Option ShareSeen)
     → AreBlank b (n + 1) old → old ≡ new ++ option_to_list r → (r ≡ None → length old ≡ 0) → HasNoted b 0 r × AreBlank b n new
 next_share None n old new None blank popped none = (tt, sym (append-nil new) ∙ sym popped ∙ blank)
-next_share None n old new (Some s) blank popped some = absurd (none new (sym popped ∙ blank))
-  where
-    none : (xs : List ShareSeen) → xs ++ s ∷ [] ≡ [] → ⊥
-    none [] e = absurd (cc)
-    none (x ∷ xs) e = absurd (cc)
+next_share None n old new (Some s) blank popped some = absurd (omega (arith, ap length blank, ap length popped, length-append new (s ∷ [])))
 next_share (Some b) n old new None blank popped none = (let e = none refl in let m = blank.0 in absurd (omega arith))
 next_share (Some b) n old new (Some s) blank popped some =
     let all = All-pop (IsBlank b) old new (Some s) popped blank.1 in
@@ -70,10 +62,6 @@ few_clusters j n is few = omega (arith, few_ranges (job_spans j) 0 j.cuts.entrie
 
 pub facts_of : (j : JobView) (n : ℕ) → IsJob j → n ≡ length (job_spans j) → AreFacts n (job_facts j)
 facts_of j n job is = grind (arith, length-map, length-below, lower_clusters_fault_first, cuts_lead)
-
--- a book that was opened for so many clusters has room for them
-pub has_room : (o : Option BookSeen) (watched slots clusters n : ℕ) → IsOpened watched slots clusters o → n ≡ clusters → HasRoom n o
-has_room o watched slots clusters n h is = grind arith
 
 -- the outcome where all clusters are processed
 pub can_fill : (o : Option BookSeen) (c : ClaimsSeen) (watched slots clusters : ℕ) (job : JobFacts) (end : Outcome) (made : Made)

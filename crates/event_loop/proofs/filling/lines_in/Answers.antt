@@ -1,8 +1,8 @@
-use Rattle.std.proofs.Common.{◌∙◌, subst, sym}
+use Rattle.std.proofs.Common.{ℕ, ◌∙◌, subst, sym}
 use Rattle.std.proofs.lemmas.Result.{IfOk-weaker}
-use Rattle.slot_words.specs.{HaveAllTrails, HavePartialsOver, noted_sets}
+use Rattle.slot_words.specs.{AreNoted, HaveAllTrails, HavePartialsOver, noted_sets}
 use Rattle.event_loop.specs.{HaveNoted}
-use Rattle.event_loop.proofs.Shares.{none_watched, noted_in, noted_partials}
+use Rattle.event_loop.proofs.Shares.{none_watched, noted_in}
 use Rattle.event_loop.proofs.filling.lines_in.Goals as goal
 
 pub partial_lines-requires-clause-noted : goal.partial_lines-requires-clause-noted
@@ -23,7 +23,13 @@ returns c = λ job can.
     let dones = can.finished.dones in
     let noted = noted_in c.in-Some.book c.args.book c.args.noting.watched c.args.noting.clusters job _ can c.in-Some.is os c.in_ok-orders.ensures.orders c.in_ok-orders.ensures.drawn in
     IfOk-weaker c.partial_lines.result (HavePartialsOver job.facts job.watched c.args.noting.watch (noted_sets os dones c.args.noting.clusters c.args.noting.watch)) (HaveNoted job c.args.noting.watch dones)
-    (λ partials h. noted_partials job c.args.noting.watch c.args.noting.clusters os dones partials can.facts.ranges noted h)
+    (λ partials h. (
+      os,
+      record {
+        noted = λ _. subst (AreNoted os dones) (sym can.facts.ranges) noted;
+        over = subst (λ (n : ℕ). HavePartialsOver job.facts job.watched c.args.noting.watch (noted_sets os dones n c.args.noting.watch) partials) (sym can.facts.ranges) h;
+      },
+    ))
     (c.partial_lines.ensures job.facts job.watched dones noted (subst (HaveAllTrails job.facts job.watched dones) (sym c.as_slice.ensures) can.finished.are.trails) can.watches can.facts.ranges)
 
 pub returns-in_default : goal.returns-in_default

@@ -15,21 +15,18 @@ unreachable-requires c =
 pub counts_of-before-requires-clause-few : goal.counts_of-before-requires-clause-few
 counts_of-before-requires-clause-few c =
     let few = loop_few c.args.graph.now c.is_booked.ensures c.args.loop_index c.passes-passes.result.now c.passes-passes.ensures _ _ c.variations.ensures c.len-variations.ensures.count c.len-variations.ensures.few in
-    let front = take_no_longer c.in-Some.start c.passes-passes.result.now in
-    omega (arith, few, front)
+    omega (arith, few, take_no_longer c.in-Some.start c.passes-passes.result.now)
 
 pub overflow_cast-own : goal.overflow_cast-own
 overflow_cast-own c =
     let few = loop_few c.args.graph.now c.is_booked.ensures c.args.loop_index c.passes-passes.result.now c.passes-passes.ensures _ _ c.variations.ensures c.len-variations.ensures.count c.len-variations.ensures.few in
-    let own = c.pass_count-own.ensures.few in
-    omega (arith, few, own)
+    omega (arith, few, c.pass_count-own.ensures.few)
 
 pub overflow_mul-result : goal.overflow_mul-result
 overflow_mul-result c =
     let few = loop_few c.args.graph.now c.is_booked.ensures c.args.loop_index c.passes-passes.result.now c.passes-passes.ensures _ _ c.variations.ensures c.len-variations.ensures.count c.len-variations.ensures.few in
-    let own = c.pass_count-own.ensures.few in
     let product : c.pass_count-own.result * c.accumulators.result ≤ c.pass_count-own.result * 1 = mul-le-mul_left c.pass_count-own.result c.accumulators.ensures.few in
-    omega (arith, few, own, product)
+    omega (arith, few, c.pass_count-own.ensures.few, product)
 
 pub returns : goal.returns
 returns c = λ x results its there.

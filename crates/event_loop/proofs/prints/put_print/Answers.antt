@@ -13,13 +13,11 @@ put_result-requires-clause-filled g c =
 
 pub fault_line-requires-clause-its_loop : goal.fault_line-requires-clause-its_loop
 fault_line-requires-clause-its_loop g c =
-    let faulted = c.in-Err-Fault.ensures.fault c.in-Err-Fault.kept (cc) in
-    subst (λ (h : GraphView). c.in-Err-Fault.kept.loop_index < length (graph_loops h)) (sym c.graph.ensures) (fault_loop (session_of c.access.new.self) c.in-Err-Fault.kept c.access.ensures.session faulted.fault)
+    subst (λ (h : GraphView). c.in-Err-Fault.kept.loop_index < length (graph_loops h)) (sym c.graph.ensures) (fault_loop (session_of c.access.new.self) c.in-Err-Fault.kept c.access.ensures.session (c.in-Err-Fault.ensures.fault c.in-Err-Fault.kept (cc)).fault)
 
 pub fault_line-requires-clause-its_pass : goal.fault_line-requires-clause-its_pass
 fault_line-requires-clause-its_pass g c = λ ps at.
-    let faulted = c.in-Err-Fault.ensures.fault c.in-Err-Fault.kept (cc) in
-    fault_pass (session_of c.access.new.self) c.in-Err-Fault.kept c.access.ensures.session faulted.fault ps (ap (λ (h : GraphView). slice_get (graph_loops h) c.in-Err-Fault.kept.loop_index) (sym c.graph.ensures) ∙ at)
+    fault_pass (session_of c.access.new.self) c.in-Err-Fault.kept c.access.ensures.session (c.in-Err-Fault.ensures.fault c.in-Err-Fault.kept (cc)).fault ps (ap (λ (h : GraphView). slice_get (graph_loops h) c.in-Err-Fault.kept.loop_index) (sym c.graph.ensures) ∙ at)
 
 pub returns-in_ok-put_result-in-Ok-clause-more : goal.returns-in_ok-put_result-in-Ok-clause-more
 returns-in_ok-put_result-in-Ok-clause-more g c = λ e.

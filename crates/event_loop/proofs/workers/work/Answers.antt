@@ -1,13 +1,16 @@
 use Rattle.std.proofs.Common.{◌≡◌, ◌+◌, ◌∷◌, ◌++◌, List, [], ℕ, Ok, length, inl, inr, sym, ap, ◌∙◌, subst, length-append}
+use Rattle.lemmas.proofs.{IsStrictlyIncreasing}
 use Rattle.slot_words.specs.{SeatSeen}
 use Rattle.slot_words.specs.Seats.{IsOf}
 use Rattle.loop_keys.specs.{job_of}
 use Rattle.event_loop.specs.{HasNoted, job_facts}
-use Rattle.event_loop.proofs.SlotLemmas.{sound_more, below_drawn}
+use Rattle.event_loop.proofs.SlotLemmas.{sound_more, below_last}
 use Rattle.event_loop.proofs.workers.work.Goals as goal
 
 pub process-requires-clause-above : goal.process-requires-clause-above
-process-requires-clause-above g c = below_drawn c.loop-cluster.slot.seat.drawn c.loop-cluster.state.done c.claim.new.seat.drawn c.in-Some.cluster c.in-Some.ensures.some.1 c.loop-cluster.invariant.done c.in-Some.ensures.rises
+process-requires-clause-above g c =
+    below_last c.loop-cluster.state.done c.in-Some.cluster
+    (subst IsStrictlyIncreasing (c.in-Some.ensures.some.1 ∙ ap (λ (l : List ℕ). l ++ c.in-Some.cluster ∷ []) (sym c.loop-cluster.invariant.done)) c.in-Some.ensures.rises)
 
 pub loop-cluster-preserved : goal.loop-cluster-preserved
 loop-cluster-preserved g c =

@@ -1,6 +1,6 @@
-use Rattle.std.proofs.Common.{◌≡◌, ◌<◌, ◌≤◌, length, arith}
+use Rattle.std.proofs.Common.{arith}
 use Rattle.event_loop.specs.{session_of}
-use Rattle.event_loop.proofs.Accesses.{accessed_filled, accessed_old, after_faulted, after_filled, after_old, faulted_new, loop_within, print_few, pushed_items}
+use Rattle.event_loop.proofs.Accesses.{accessed_filled, accessed_old, after_faulted, after_filled, after_old, faulted_new, loop_within, print_few}
 use Rattle.event_loop.proofs.session.Session.access.Goals as goal
 
 pub overflow_add-next : goal.overflow_add-next
@@ -8,39 +8,30 @@ overflow_add-next g c = let few = print_few (session_of c.args.self.now) c.requi
 
 pub returns-then-l-len-clause-session : goal.returns-then-l-len-clause-session
 returns-then-l-len-clause-session g c =
-    let lt : c.filling-l.result < length c.args.self.now.loops.items = omega arith in
-    after_old (session_of c.args.self.now) c.requires.session c.args.print c.requires.print.0 c.filling-l.result c.filling-l.ensures lt
+    after_old (session_of c.args.self.now) c.requires.session c.args.print c.requires.print.0 c.filling-l.result c.filling-l.ensures (omega arith)
 
 pub returns-then-l-len-clause-ok : goal.returns-then-l-len-clause-ok
 returns-then-l-len-clause-ok g c = λ m e.
-    let lt : c.filling-l.result < length c.args.self.now.loops.items = omega arith in
-    let same_loop : c.filling-l.result ≡ m = cc in
-    accessed_old (session_of c.args.self.now) c.requires.session c.args.print c.requires.print.0 c.filling-l.result c.filling-l.ensures m same_loop lt
+    accessed_old (session_of c.args.self.now) c.requires.session c.args.print c.requires.print.0 c.filling-l.result c.filling-l.ensures m (cc) (omega arith)
 
 pub run-requires-clause-its_loop : goal.run-requires-clause-its_loop
 run-requires-clause-its_loop g c κs within =
-    let ge : length c.args.self.now.loops.items ≤ c.filling-l.result = omega arith in
-    loop_within (session_of c.args.self.now) c.requires.session c.args.print c.requires.print.0 c.filling-l.result c.filling-l.ensures ge c.in_default.is
+    loop_within (session_of c.args.self.now) c.requires.session c.args.print c.requires.print.0 c.filling-l.result c.filling-l.ensures (omega arith) c.in_default.is
 
 pub returns-else-is_err-clause-session : goal.returns-else-is_err-clause-session
 returns-else-is_err-clause-session g c =
-    let ge : length c.args.self.now.loops.items ≤ c.filling-l.result = omega arith in
-    after_filled (session_of c.args.self.now) c.requires.session c.args.print c.requires.print.0 c.filling-l.result c.filling-l.ensures ge c.in_default.is c.in-Ok-Filled.filled c.push.new.self.items
-    (pushed_items _ _ _ _ c.push.ensures.items c.if-is_err.ensures.negation) (rw c.in-Ok-Filled.field-0-is at c.in-Ok-Filled.ensures)
+    after_filled (session_of c.args.self.now) c.requires.session c.args.print c.requires.print.0 c.filling-l.result c.filling-l.ensures (omega arith) c.in_default.is c.in-Ok-Filled.filled c.push.new.self.items
+    (rw c.if-is_err.ensures.negation at c.push.ensures.items) (rw c.in-Ok-Filled.field-0-is at c.in-Ok-Filled.ensures)
 
 pub returns-else-is_err-clause-ok : goal.returns-else-is_err-clause-ok
 returns-else-is_err-clause-ok g c = λ m e.
-    let ge : length c.args.self.now.loops.items ≤ c.filling-l.result = omega arith in
-    let same_loop : c.filling-l.result ≡ m = cc in
-    accessed_filled (session_of c.args.self.now) c.requires.session c.args.print c.requires.print.0 c.filling-l.result c.filling-l.ensures ge c.in_default.is c.in-Ok-Filled.filled c.push.new.self.items
-    (pushed_items _ _ _ _ c.push.ensures.items c.if-is_err.ensures.negation) (rw c.in-Ok-Filled.field-0-is at c.in-Ok-Filled.ensures) m same_loop
+    accessed_filled (session_of c.args.self.now) c.requires.session c.args.print c.requires.print.0 c.filling-l.result c.filling-l.ensures (omega arith) c.in_default.is c.in-Ok-Filled.filled c.push.new.self.items
+    (rw c.if-is_err.ensures.negation at c.push.ensures.items) (rw c.in-Ok-Filled.field-0-is at c.in-Ok-Filled.ensures) m (cc)
 
 pub returns-in-Ok-Faulted-clause-session : goal.returns-in-Ok-Faulted-clause-session
 returns-in-Ok-Faulted-clause-session g c =
-    let ge : length c.args.self.now.loops.items ≤ c.filling-l.result = omega arith in
-    after_faulted (session_of c.args.self.now) c.requires.session c.args.print c.requires.print.0 c.filling-l.result c.filling-l.ensures ge c.in_default.is c.in-Ok-Faulted.fault (rw c.in-Ok-Faulted.field-0-is at c.in-Ok-Faulted.ensures)
+    after_faulted (session_of c.args.self.now) c.requires.session c.args.print c.requires.print.0 c.filling-l.result c.filling-l.ensures (omega arith) c.in_default.is c.in-Ok-Faulted.fault (rw c.in-Ok-Faulted.field-0-is at c.in-Ok-Faulted.ensures)
 
 pub returns-in-Ok-Faulted-clause-fault : goal.returns-in-Ok-Faulted-clause-fault
 returns-in-Ok-Faulted-clause-fault g c = λ k e.
-    let ge : length c.args.self.now.loops.items ≤ c.filling-l.result = omega arith in
-    faulted_new (session_of c.args.self.now) c.requires.session c.args.print c.requires.print.0 c.filling-l.result c.filling-l.ensures ge c.in_default.is c.in-Ok-Faulted.fault (rw c.in-Ok-Faulted.field-0-is at c.in-Ok-Faulted.ensures) k (cc)
+    faulted_new (session_of c.args.self.now) c.requires.session c.args.print c.requires.print.0 c.filling-l.result c.filling-l.ensures (omega arith) c.in_default.is c.in-Ok-Faulted.fault (rw c.in-Ok-Faulted.field-0-is at c.in-Ok-Faulted.ensures) k (cc)

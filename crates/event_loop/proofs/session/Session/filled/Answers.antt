@@ -15,9 +15,7 @@ place_in-place-requires-clause-filled g c = fills_it (session_of c.args.self.now
 
 pub index-its_loop-requires : goal.index-its_loop-requires
 index-its_loop-requires g c =
-    let lt = completed_at (session_of c.args.self.now) c.requires.session c.args.r c.requires.result c.args.loop_index c.requires.filled in
-    let same_length = c.args.self.now.loops.ok in
-    omega (arith, lt, same_length)
+    omega (arith, completed_at (session_of c.args.self.now) c.requires.session c.args.r c.requires.result c.args.loop_index c.requires.filled, c.args.self.now.loops.ok)
 
 pub lines_at-lines-requires : goal.lines_at-lines-requires
 lines_at-lines-requires g c =
