@@ -1,5 +1,5 @@
 -- Answers to the words and to files, what is written of them, and that each is due.
-use Rattle.std.proofs.Common.{◌≡◌, ◌≤◌, ◌+◌, ℕ, Bool, false, ◌||◌, List, [], ◌∷◌, length, map, Option, Some, None, Ok, nat_lt, option_map, inl, inr, ap, refl, sym, subst, ◌∙◌, if◌then◌else◌, ◌++◌, IfSome, arith, append_assoc, ◌⊎◌, MatchOption}
+use Rattle.std.proofs.Common.{◌≡◌, ◌≤◌, ◌+◌, ℕ, Bool, ◌||◌, List, [], ◌∷◌, length, map, Option, Some, None, Ok, option_map, inl, inr, ap, refl, sym, subst, ◌∙◌, if◌then◌else◌, ◌++◌, IfSome, arith, append_assoc, ◌⊎◌}
 use Rattle.lemmas.proofs.{le-ltb, list_any}
 use Rattle.std.proofs.lemmas.Option.{IfSome_then}
 use Rattle.rdf_values.specs.{fn_names, Function, IsScript, MarkedTable, Script, Statement, table_of, Value, verdict, Column, FunctionNames, graph_cause_line, GraphCause}
@@ -8,15 +8,14 @@ use Rattle.rdf_model.specs.{Access, Course, Dataset, first_fault_from, loop_pass
 use Rattle.expr_read.proofs.Decided.{read_once}
 use Rattle.table_csv.specs.{csv_records}
 use Rattle.command_words.specs.{Friend, Input, asked_of, Command}
-use Rattle.rdf_program.specs.{AcceptedRunsEnd, AreTexts, friend_of, has_fault, IsDueOver, IsDueToInput, IsWithFriend, printed_status, status_of_run, statuses, WithFriend, AreTurnsTo, CallsForFriend, CallsForTable, due_in, HoldsScript, HoldsTable, IsAnswer, IsDueToFiles, MayReadOf, AnswersInput, AnswersWords, AreSettings, AreTurnsIn, IsDue, IsFinal, IsUnread, MayRead, MayReadIn, NameFiles, NamesFiles, OfFiles, TurnsBesides, WritesPart, WritesReadFailed}
-use Rattle.input_files.specs.{Files, max_script, max_table, ReadsScript, WithScript, WithTable, HoldsTheScript, HoldsTheTable, Tells, due_of, WritesDue, WritesDuePart}
+use Rattle.rdf_program.specs.{AcceptedRunsEnd, AreTexts, friend_of, has_fault, IsDueOver, IsDueToInput, IsWithFriend, printed_status, status_of_run, statuses, WithFriend, AreTurnsTo, CallsForFriend, CallsForTable, due_in, HoldsScript, HoldsTable, IsAnswer, IsDueToFiles, MayReadOf, AnswersInput, AnswersWords, AreSettings, IsDue, IsFinal, IsUnread, MayRead, NameFiles, OfFiles, TurnsBesides, WritesPart, WritesReadFailed}
+use Rattle.input_files.specs.{Files, max_script, max_table, ReadsScript, WithScript, WithTable, HoldsTheScript, HoldsTheTable, Tells, WritesDue, WritesDuePart}
 use Rattle.input_files.specs.Due.{Due}
 use Rattle.rdf_program.specs.declared.status.Status.{Status}
-use Rattle.rdf_program.specs.declared.status.Status.TheVariants.{Done, LoopFault, Words, ReadFault, ScriptRefused}
+use Rattle.rdf_program.specs.declared.status.Status.TheVariants.{Done, LoopFault, ReadFault, ScriptRefused}
 use Rattle.input_files.proofs.Staging.{script_read_due, table_read_due}
 use Rattle.rdf_program.specs.declared.answer.Answer.{Answer}
 use Rattle.rdf_outside.specs.{Appends, AppendsPart}
-use Rattle.result_text.specs.{usage_line}
 use Rattle.command_words.proofs.Bounds.{asked_fits}
 use Rattle.rdf_values.specs.Answered.{Refuses}
 use Rattle.graph_numbers.specs.{booked}
@@ -53,18 +52,15 @@ module _ (fns : List Function) (size watch : ℕ) (script : Script) (table : Mar
   to_friend friend files own w h = grind (arith, status_is, any_mapped, le-ltb)
 
   tabled : (bytes : List ℕ) (own : MarkedTable) (Next : MarkedTable → Due Status → Type 0) → length bytes ≤ max_table → table_of (csv_records bytes) ≡ Ok own → WithTable statuses bytes Next d → Next own d
-  tabled bytes own Next short is h =
-      let fits : nat_lt max_table (length bytes) ≡ false = le-ltb max_table (length bytes) short in
-      rw (fits, is) at h
+  tabled bytes own Next short is h = rw (le-ltb max_table (length bytes) short, is) at h
 
   reading : (bytes : List ℕ) (Next : Script → Due Status → Type 0) → length bytes ≤ max_script → IsScript bytes script → WithScript statuses bytes Next d → Next script d
   reading bytes Next short is h =
-      let fits : nat_lt max_script (length bytes) ≡ false = le-ltb max_script (length bytes) short in
-      one (rw fits at h)
-    where
-      one : ReadsScript statuses bytes Next d → Next script d
-      one (inl r) = absurd (script_or_refusal read_once bytes script r.0 is r.1)
-      one (inr r) = subst (λ (s : Script). Next s d) (one_script read_once bytes r.0 script r.1 is) r.2
+      let r : ReadsScript statuses bytes Next d = rw (le-ltb max_script (length bytes) short) at h in
+      elim r [
+        | inl r ↦ absurd (script_or_refusal read_once bytes script r.0 is r.1)
+        | inr r ↦ subst (λ (s : Script). Next s d) (one_script read_once bytes r.0 script r.1 is) r.2
+      ]
 
   to_input : (files : Files) (named : Input) (script_bytes table_bytes : List ℕ) (own : MarkedTable) → AreTexts files named script_bytes table_bytes
       → length script_bytes ≤ max_script → length table_bytes ≤ max_table → IsScript script_bytes script → table_of (csv_records table_bytes) ≡ Ok own → IsWithFriend (friend_of named) files own table
@@ -123,9 +119,7 @@ module _ (script table : List ℕ) (friend : Option Friend) (told : Told) (s : S
     })
     friend_answer fns size watch f0 f1 f2 f3 before turns a le later at (inl h) = grind (arith, script_read_due, table_read_due)
 
--- ---- Answers to the words, and what is written of them.
-
--- ---- what the words ask for
+-- ---- Answers to the words: what the words ask for, and what is written.
 
 module _ (words : List (List ℕ)) (o : Option Command) (c : Command) (read : o ≡ asked_of words) (some : o ≡ Some c) where
   asked : asked_of words ≡ Some c
@@ -139,16 +133,12 @@ module _ (words : List (List ℕ)) (o : Option Command) (c : Command) (read : o 
 
   -- an answer to what is asked for is one to the words
   pub answers_words : (fns : List Function) (told : Told) (turns : List (List ℕ)) (f0 f1 : ℕ) (a : Answer) (i : Input) → c.input ≡ i → AnswersInput fns c.cluster c.watch i told turns f0 f1 a → AnswersWords fns words told turns f0 f1 a
-  answers_words fns told turns f0 f1 a i is h =
-      subst (λ (x : Option Command). MatchOption x (due_in a ≡ due_of Words usage_line) (λ command. AnswersInput fns command.cluster command.watch command.input told turns f0 f1 a)) (sym asked)
-      (subst (λ (x : Input). AnswersInput fns c.cluster c.watch x told turns f0 f1 a) (sym is) h)
+  answers_words fns told turns f0 f1 a i is h = grind (arith, asked)
 
   -- so are the files that it turned to
   pub turns_besides : (told : Told) (before after : List (List ℕ)) (script table script' table' : List ℕ) (friend friend' : Option Friend) → c.input ≡ Input.Files script table friend → script' ≡ script → table' ≡ table → friend' ≡ friend
       → (turns : List (List ℕ)) × (after ≡ before ++ turns) × AreTurnsTo script' table' friend' told turns → TurnsBesides words told before after
-  turns_besides told before after script table script' table' friend friend' i s t f h =
-      let to : AreTurnsTo script table friend told h.0 = rw (s, t, f) at h.2 in
-      (h.0, h.1, subst (λ (x : Option Command). MatchOption x (h.0 ≡ []) (λ command. AreTurnsIn command.input told h.0)) (sym asked) (subst (λ (x : Input). AreTurnsIn x told h.0) (sym i) to))
+  turns_besides told before after script table script' table' friend friend' i s t f h = grind (arith, asked)
 
 -- ---- by what an answer is
 
@@ -157,17 +147,9 @@ module _ (fns : List Function) (words : List (List ℕ)) (told : Told) (turns : 
   abbrev Sorts : (Files → Type 0) → Type 0 → (List ℕ → Type 0) → Type 0
   Sorts IsIts Named May = (IsFinal a.status × (IfSome told IsIts × ((Named → ⊥) → (f : Files) → IsIts f))) ⊎ IsUnread May f0 f1 a
 
-  abbrev AnswersAsked : Option Command → Type 0
-  AnswersAsked o = MatchOption o (due_in a ≡ due_of Words usage_line) (λ command. AnswersInput fns command.cluster command.watch command.input told turns f0 f1 a)
-
-  by_asked : (o : Option Command) → AnswersAsked o
-      → Sorts (λ f. MatchOption o (due_in a ≡ due_of Words usage_line) (λ command. IsDueToInput fns command.cluster command.watch f command.input (due_in a))) (MatchOption o ⊥ (λ command. NamesFiles command.input)) (λ name. MatchOption o ⊥ (λ command. MayReadIn command.input told turns name))
-  by_asked None h = grind arith
-  by_asked (Some c) h = grind arith
-
   module _ (h : AnswersWords fns words told turns f0 f1 a) where
     sorted : Sorts (λ f. IsDue fns words f (due_in a)) (NameFiles words) (MayRead words told turns)
-    sorted = by_asked (asked_of words) h
+    sorted = grind (arith, h)
 
     -- ---- what is written
 
@@ -175,25 +157,17 @@ module _ (fns : List Function) (words : List (List ℕ)) (told : Told) (turns : 
     each P Q step p = (IfSome_then told p.0 step, λ none f. step f (p.1 none f))
 
     pub due_written : (before after : Option (List ℕ)) → IsFinal a.status → Appends before after a.text → OfFiles words told (WritesDue (IsDue fns words) a.status before after)
-    due_written before after final w = go sorted
-      where
-        go : Sorts (λ f. IsDue fns words f (due_in a)) (NameFiles words) (MayRead words told turns) → OfFiles words told (WritesDue (IsDue fns words) a.status before after)
-        go (inl s) = each (λ f. IsDue fns words f (due_in a)) (WritesDue (IsDue fns words) a.status before after) (λ f d. (a.text, d, w)) s.1
-        go (inr u) = absurd (subst IsFinal u.status final)
+    due_written before after final w =
+        elim sorted [ inl s ↦ each _ (WritesDue (IsDue fns words) a.status before after) (λ f d. (a.text, d, w)) s.1 | inr u ↦ absurd (subst IsFinal u.status final) ]
 
     pub failed_read_written : (before after : Option (List ℕ)) → a.status ≡ ReadFault → Appends before after a.text → WritesReadFailed words told turns before after
-    failed_read_written before after e w = go sorted
-      where
-        go : Sorts (λ f. IsDue fns words f (due_in a)) (NameFiles words) (MayRead words told turns) → WritesReadFailed words told turns before after
-        go (inl s) = absurd (subst IsFinal e s.0)
-        go (inr u) = (u.name, u.may_read, subst (Appends before after) u.text w)
+    failed_read_written before after e w = elim sorted [ inl s ↦ absurd (subst IsFinal e s.0) | inr u ↦ (u.name, u.may_read, subst (Appends before after) u.text w) ]
 
     pub part_written : (before after : Option (List ℕ)) → AppendsPart before after a.text → WritesPart fns words told turns f0 f1 before after
-    part_written before after part = go sorted
-      where
-        go : Sorts (λ f. IsDue fns words f (due_in a)) (NameFiles words) (MayRead words told turns) → WritesPart fns words told turns f0 f1 before after
-        go (inl s) = inl (each (λ f. IsDue fns words f (due_in a)) (WritesDuePart (IsDue fns words) before after) (λ f d. (due_in a, d, part)) s.1)
-        go (inr u) = inr (u.rose, (u.name, u.may_read, subst (AppendsPart before after) u.text part))
+    part_written before after part = elim sorted [
+      | inl s ↦ inl (each _ (WritesDuePart (IsDue fns words) before after) (λ f d. (due_in a, d, part)) s.1)
+      | inr u ↦ inr (u.rose, (u.name, u.may_read, subst (AppendsPart before after) u.text part))
+    ]
 
 -- ---- A script that can't be booked over a table is refused.
 

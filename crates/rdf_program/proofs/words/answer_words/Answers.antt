@@ -1,5 +1,4 @@
 use Rattle.std.proofs.lemmas.Result.{IfOk-weaker, on_ok_weaker}
-use Rattle.entry_fns.specs.{functions_in}
 use Rattle.rdf_program.proofs.Answering.{answers_words, entries_fit, settings_fit, turns_besides}
 use Rattle.rdf_program.proofs.words.answer_words.Goals as goal
 
@@ -15,12 +14,9 @@ answer_made-requires-clause-settings g c κs within = settings_fit c.args.words.
 pub returns-in-Files-clause-turns : goal.returns-in-Files-clause-turns
 returns-in-Files-clause-turns g c =
     on_ok_weaker c.answer_files.result
-    (turns_besides c.args.words.now _ c.in-Some.command c.in_ok-command.ensures c.in-Some.is (g.S.Shelf.files c.args.shelf.now) (g.S.Shelf.turns c.args.shelf.now) (g.S.Shelf.turns c.answer_files.new.shelf) _ _ _ _ _ _ c.in-Files.is
+    (turns_besides _ _ _ c.in_ok-command.ensures c.in-Some.is _ _ _ _ _ _ _ _ _ c.in-Files.is
     (cc (c.as_str.ensures, c.in-Files.script-is)) (cc (c.as_str-in-Files.ensures, c.in-Files.table-is)) (cc c.in-Files.friend-is)) c.answer_files.ensures.turns
 
 pub returns-in-Generated-clause-answer : goal.returns-in-Generated-clause-answer
 returns-in-Generated-clause-answer g c =
-    IfOk-weaker c.answer_made.result _ _
-    (λ a h.
-    answers_words c.args.words.now _ c.in-Some.command c.in_ok-command.ensures c.in-Some.is (functions_in c.args.functions.now) (g.S.Shelf.files c.args.shelf.now) (g.S.Shelf.turns c.args.shelf.now) (g.S.Shelf.faults c.args.shelf.now) (g.S.Shelf.faults c.args.shelf.now) a _
-    c.in-Generated.is h) c.answer_made.ensures
+    IfOk-weaker c.answer_made.result _ _ (λ a h. answers_words _ _ _ c.in_ok-command.ensures c.in-Some.is _ _ _ _ _ a _ c.in-Generated.is h) c.answer_made.ensures
