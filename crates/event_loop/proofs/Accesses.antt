@@ -1,5 +1,5 @@
 -- The completed loop that fills a result, and what a session is after an access.
-use Rattle.std.proofs.Common.{if◌then◌else◌, ◌≡◌, ◌⊎◌, inl, inr, ℕ, ◌+◌, ◌<◌, ◌≤◌, Bool, true, List, [], ◌∷◌, ◌++◌, length, Option, Some, None, sym, ◌∙◌, ap, subst, arith, slice_get, unwrap_or, take, refl, length-append, IfSome, filter_map, option_map}
+use Rattle.std.proofs.Common.{◌≡◌, ◌⊎◌, inl, inr, ℕ, ◌+◌, ◌<◌, ◌≤◌, true, List, [], ◌∷◌, ◌++◌, length, Option, Some, None, sym, ◌∙◌, ap, subst, arith, slice_get, unwrap_or, take, refl, length-append, IfSome, filter_map, option_map}
 use Rattle.lemmas.proofs.{before_or_last, cons_option, filter_map-append, IfSome_then, kept_at, same_some, slice_get_within, something_at, take_next}
 use Rattle.rdf_values.specs.{Booked, history, Pass, passes_of, Fault, first_in, Statement}
 use Rattle.rdf_model.specs.{kind_in, kinds_in, loop_passes, loop_results, Access, accesses, ComesInTurn, Dataset, filled_by, first_fault, first_fault_from, loop_of, loops_before}
@@ -140,20 +140,16 @@ module _ (s : SessionView) (is : IsSession s) (print : ℕ) (next : print ≡ s.
   at : slice_get (accesses (history s.graph.script)) print ≡ Some a
   at = its.1
 
-  filling : loop_of (history s.graph.script) a.result ≡ l
-  filling = its.2
-
   same_access : (b : Access) → slice_get (accesses (history s.graph.script)) print ≡ Some b → a ≡ b
   same_access b there = same_some (sym at ∙ there)
 
   turn : ComesInTurn (history s.graph.script) print a
   turn = loops_come_in_turn s.graph.names s.graph.header s.graph.script print a is.booked.accepted at
 
-  its_filler : (l : ℕ) × (loop_filling (history s.graph.script) a.result ≡ Some l)
-  its_filler = printed_has_loop (history s.graph.script) (in_turn s.graph is.booked) print a at
-
   found_is : loop_filling (history s.graph.script) a.result ≡ Some l
-  found_is = its_filler.1 ∙ ap (λ (n : ℕ). Some n) (sym (ap (λ (o : Option ℕ). unwrap_or o 0) its_filler.1) ∙ filling)
+  found_is =
+      let filler = printed_has_loop (history s.graph.script) (in_turn s.graph is.booked) print a at in
+      filler.1 ∙ ap (λ (n : ℕ). Some n) (sym (ap (λ (o : Option ℕ). unwrap_or o 0) filler.1) ∙ its.2)
 
   loops_are : s.fault ≡ None → length s.loops ≡ loops_before (history s.graph.script) print
   loops_are sound = is.turn sound ∙ ap (loops_before (history s.graph.script)) (sym next)
@@ -164,7 +160,7 @@ module _ (s : SessionView) (is : IsSession s) (print : ℕ) (next : print ≡ s.
     where
       go : (o : Option (List Booked)) → a.fills ≡ o → o ≡ None
       go None e = refl
-      go (Some results) e = let own = (turn.next results e).0 in let so_far = loops_are sound in absurd (omega (arith, filling, own, so_far, lt))
+      go (Some results) e = let own = (turn.next results e).0 in let so_far = loops_are sound in absurd (omega (arith, its.2, own, so_far, lt))
 
   pub after_old : l < length s.loops → IsSession (record s { next = print + 1 })
   after_old lt = changed s (print + 1) s.loops s.fault is is.filled is.few
@@ -189,10 +185,10 @@ module _ (s : SessionView) (is : IsSession s) (print : ℕ) (next : print ≡ s.
     next_loop = go a.fills refl
       where
         go : (o : Option (List Booked)) → a.fills ≡ o → IsNext
-        go None e = let own = turn.filled_before e in let so_far = loops_are sound in absurd (omega (arith, filling, own, so_far, ge))
+        go None e = let own = turn.filled_before e in let so_far = loops_are sound in absurd (omega (arith, its.2, own, so_far, ge))
         go (Some results) e =
             let own = turn.next results e in
-            let same_number : loops_before (history s.graph.script) print ≡ l = sym own.0 ∙ filling in
+            let same_number : loops_before (history s.graph.script) print ≡ l = sym own.0 ∙ its.2 in
             record { results = results; fills = e; number = sym (loops_are sound ∙ same_number); its_results = ap (slice_get (loop_results (history s.graph.script))) (sym same_number) ∙ own.1 }
 
     -- its passes are those that the Print runs

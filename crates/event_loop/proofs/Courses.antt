@@ -71,14 +71,7 @@ with_parts old new = record new { graph = old.graph; dataset = old.dataset; cuts
 same_view : (old new : SessionView) → HasSameParts old new → new ≡ with_parts old new
 same_view old new parts = λ i. record new { graph = parts.graph i; dataset = parts.dataset i; cuts = parts.cuts i }
 
-pub fits_before : (old new : SessionView) → HasSameParts old new → ((l : ℕ) (f : FilledLoop) → slice_get old.loops l ≡ Some f → slice_get new.loops l ≡ Some f) → (course : Course) → FitsCourse new course → FitsCourse old course
-fits_before old new h stays course k = grind (arith, same_view)
-
 -- ---- the lines of a result
-
-in_front_of_both : (before lines after : List ℕ) (rest : Printed) → after ≡ before ++ lines → in_front_of before (in_front_of lines rest) ≡ in_front_of after rest
-in_front_of_both before lines after rest e =
-    ap (λ (b : List ℕ). record { bytes = b; status = rest.status }) (sym (append_assoc before lines rest.bytes) ∙ ap (λ (l : List ℕ). l ++ rest.bytes) (sym e))
 
 its_print : (old new : SessionView) (print r : ℕ) → HasSameParts old new → slice_get (graph_prints new.graph) print ≡ Some (Some r) → slice_get (graph_prints old.graph) print ≡ Some (Some r)
 its_print old new print r parts its = ap (λ (g : GraphView). slice_get (graph_prints g) print) (sym parts.graph) ∙ its
@@ -99,7 +92,7 @@ goes_on old new print l r before after is parts acc its sound lines = record {
       ap (flat_map (result_lines (history old.graph.script) old.dataset course)) p.alone ∙ append-nil (result_lines (history old.graph.script) old.dataset course p.row.booked) in
       ap (λ (o : Option Fault). in_front_of before (access_printed (history old.graph.script) old.dataset course a o rest)) (acc.sound a at sound)
       ∙ ap (λ (l : List ℕ). in_front_of before (in_front_of l rest)) alone
-      ∙ in_front_of_both before (result_lines (history old.graph.script) old.dataset course p.row.booked) after rest added
+      ∙ ap (λ (b : List ℕ). record { bytes = b; status = rest.status }) (sym (append_assoc before _ rest.bytes) ∙ ap (λ (l : List ℕ). l ++ rest.bytes) (sym added))
       );
 }
 
@@ -194,9 +187,6 @@ IsSoFar s0 s text n =
     (course : Course) → FitsCourse s course
     → in_front_of text (printed (history s0.graph.script) s0.dataset course (drop n (accesses (history s0.graph.script)))) ≡ printed (history s0.graph.script) s0.dataset course (accesses (history s0.graph.script))
 
-pub parts_further : (s0 old new : SessionView) → HasSameParts s0 old → HasSameParts old new → HasSameParts s0 new
-parts_further s0 old new h k = record { graph = k.graph ∙ h.graph; dataset = k.dataset ∙ h.dataset; cuts = k.cuts ∙ h.cuts; slots = k.slots ∙ h.slots; watch = k.watch ∙ h.watch }
-
 module _ (s0 old : SessionView) (parts : HasSameParts s0 old) (n : ℕ) (before after : List ℕ) (so_far : IsSoFar s0 old before n) where
   gives : Course → GraphView → Dataset → Access → Printed → Printed
   gives course g d a rest = access_printed (history g.script) d course a (first_fault d (access_passes (history g.script) d course a)) rest
@@ -218,7 +208,8 @@ module _ (s0 old : SessionView) (parts : HasSameParts s0 old) (n : ℕ) (before 
   further new parts_new lt on course fits =
       let a = something_at (accesses (history s0.graph.script)) n lt in
       let rest = printed (history s0.graph.script) s0.dataset course (drop (n + 1) (accesses (history s0.graph.script))) in
-      sym (on.lines course a.0 rest fits (its_access a.0 a.1)) ∙ sym (of_first course a.0 rest) ∙ split course (fits_before old new parts_new on.stays course fits) a.0 a.1
+      sym (on.lines course a.0 rest fits (its_access a.0 a.1)) ∙ sym (of_first course a.0 rest)
+      ∙ split course (grind (arith, same_view old new parts_new, on.stays, fits)) a.0 a.1
 
   pub ended : n < length (accesses (history s0.graph.script)) → EndsAt old before after n → (course : Course) → FitsCourse old course
       → ◌≡◌ {A = Printed} (record { bytes = after; status = 8 }) (printed (history s0.graph.script) s0.dataset course (accesses (history s0.graph.script)))
@@ -233,7 +224,7 @@ module _ (s0 s : SessionView) (is : IsSession s) (parts : HasSameParts s0 s) whe
   is_course : IsCourse (history s0.graph.script) (length s0.dataset.rows) s0.cuts.size s0.cuts.marks s0.watch (course_of s is)
   is_course = grind (arith, course_of, course_is)
 
-  whole : (text : List ℕ) (faulted : Bool) (status : ℕ) → (if faulted then 8 else 0) ≡ status
+  pub whole : (text : List ℕ) (faulted : Bool) (status : ℕ) → (if faulted then 8 else 0) ≡ status
       → ((course : Course) → FitsCourse s course → ◌≡◌ {A = Printed} (record { bytes = text; status = status }) (printed (history s0.graph.script) s0.dataset course (accesses (history s0.graph.script))))
       → IsTranscript s0.graph.script s0.dataset s0.cuts s0.watch (record { text = text; faulted = faulted })
   whole text faulted status e h = grind (arith, course_of, course_fits, is_course)
@@ -241,10 +232,6 @@ module _ (s0 s : SessionView) (is : IsSession s) (parts : HasSameParts s0 s) whe
   pub done : (text : List ℕ) (n : ℕ) → length (accesses (history s0.graph.script)) ≤ n → IsSoFar s0 s text n → IsTranscript s0.graph.script s0.dataset s0.cuts s0.watch (record { text = text; faulted = false })
   done text n le so_far = whole text false 0 refl
       (λ course fits. ap (λ (b : List ℕ). record { bytes = b; status = 0 }) (sym (append-nil text)) ∙ ap (λ (l : List Access). in_front_of text (printed (history s0.graph.script) s0.dataset course l)) (sym (none_left (accesses (history s0.graph.script)) n le)) ∙ so_far course fits)
-
-  pub faulted : (text : List ℕ) → ((course : Course) → FitsCourse s course → ◌≡◌ {A = Printed} (record { bytes = text; status = 8 }) (printed (history s0.graph.script) s0.dataset course (accesses (history s0.graph.script))))
-      → IsTranscript s0.graph.script s0.dataset s0.cuts s0.watch (record { text = text; faulted = true })
-  faulted text h = whole text true 8 refl h
 
 -- how many Prints there are
 pub prints_are : (g other : GraphView) (n : ℕ) → other ≡ g → n ≡ length (graph_prints other) → n ≡ length (accesses (history g.script))

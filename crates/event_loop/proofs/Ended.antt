@@ -9,7 +9,7 @@ use Rattle.event_loop.specs.declared.workers.End.TheVariants.{Over, Faulted, NoM
 use Rattle.rdf_values.proofs.UnionLemmas.{times_concat, times_push, counts_by_drawn, once_inside, inside_once, times_self, drawn_lists_unite}
 use Rattle.merge_core.proofs.Faults.{Among, Told, told_nothing, told_both, first_told, among_left, among_right}
 use Rattle.merge_core.proofs.Holding.{only}
-use Rattle.slot_words.specs.{BookSeen, ClaimsSeen, IsLeast, IsPassed, last_of, MetBar, RanOut, SeatSeen}
+use Rattle.slot_words.specs.{BookSeen, ClaimsSeen, IsLeast, IsPassed, last_of, RanOut, SeatSeen}
 use Rattle.event_loop.specs.declared.workers.Slot.{Slot}
 use Rattle.event_loop.specs.declared.gather.Made.{Made}
 use Rattle.event_loop.proofs.Shares.{none_made, one_made}
@@ -122,12 +122,9 @@ module _ (c : ClaimsSeen) (b : Option BookSeen) (job : JobFacts) (bar : ℕ) whe
   is_done : (f : Finished) (rest : List Fault) → c.clusters ≤ bar → Ran f → HasMemory f → fault_of f.end ++ rest ≡ [] → IsPassed bar f.slot.seat → IsDone f × (rest ≡ [])
   is_done f rest high ran memory none passed = go f.end refl ran.stopped memory none
     where
-      ran_out : (done : List ℕ) → RanOut c f.slot.seat done ⊎ MetBar c f.slot.seat done → RanOut c f.slot.seat done
-      ran_out done how = grind (arith, passed_above, high, passed)
-
       go : (end : End) → f.end ≡ end → Stopped c b job end f.slot → IsServed end → fault_of end ++ rest ≡ [] → IsDone f × (rest ≡ [])
       go (Over piece) is over served none =
-          let out = ran_out over.done over.left in (
+          let out : RanOut c f.slot.seat over.done = grind (arith, passed_above, high, passed, over.left) in (
             record {
               piece = piece;
               is = is;
@@ -147,12 +144,9 @@ module _ (c : ClaimsSeen) (b : Option BookSeen) (job : JobFacts) (bar : ℕ) whe
       let first = is_done f (end_faults fs) high (All-head Ran f fs ran) (All-head HasMemory f fs memory) none (All-head (IsPassed bar) (seat_in f) (map seat_in fs) passed) in
       All-cons IsDone f fs first.0 (all_done fs high (All-tail Ran f fs ran) (All-tail HasMemory f fs memory) first.1 (All-tail (IsPassed bar) (seat_in f) (map seat_in fs) passed))
 
-  kept_more : (o : Option ℕ) (word : ℕ) → IsSomeAnd o (λ k. c.clusters ≤ k) → IfSome o (λ k. (c.clusters ≤ k) × (k < word)) → c.clusters ≤ word
-  kept_more o word s k = grind arith
-
   all_drawn : (fs : List Finished) (word : ℕ) → 0 < length fs → All IsDone fs → All (IsKept c.clusters word) (map seat_in fs) → c.clusters ≤ word
   all_drawn [] word some done kept = absurd (omega arith)
-  all_drawn (f ∷ fs) word some done kept = kept_more f.slot.seat.kept word (All-head IsDone f fs done).past (All-head (IsKept c.clusters word) (seat_in f) (map seat_in fs) kept)
+  all_drawn (f ∷ fs) word some done kept = grind (arith, (All-head IsDone f fs done).past, All-head (IsKept c.clusters word) (seat_in f) (map seat_in fs) kept)
 
   are_made : (fs : List Finished) → All IsDone fs → AreMade b job (drawn_in fs) (pieces_in fs) (shares_in fs)
   are_made [] done = none_made b job
@@ -164,11 +158,8 @@ module _ (c : ClaimsSeen) (b : Option BookSeen) (job : JobFacts) (bar : ℕ) whe
   module _ (fs : List Finished) (word : ℕ) (told : Option Fault) (facts : AreFacts c.clusters job) (ran : All Ran fs) (some : 0 < length fs) (memory : All HasMemory fs)
       (least : told ≡ least_fault (end_faults fs)) (drawn : DrawnBy (drawn_in fs) (min word c.clusters)) (lowest : IsLeast c.clusters (map seat_in fs) bar)
       (passed : All (IsPassed bar) (map seat_in fs)) (kept : All (IsKept c.clusters word) (map seat_in fs)) where
-    high_bar : end_faults fs ≡ [] → c.clusters ≤ bar
-    high_bar none = grind (arith, reaches)
-
     done : end_faults fs ≡ [] → All IsDone fs
-    done none = all_done fs (high_bar none) ran memory none passed
+    done none = all_done fs (grind (arith, reaches)) ran memory none passed
 
     full : end_faults fs ≡ [] → c.clusters ≤ word
     full none = all_drawn fs word some (done none) kept

@@ -1,7 +1,7 @@
 -- Which results a loop fills, and the passes of a result in a loop, by the numbers of results and by names.
 use Rattle.std.proofs.Common.{◌≡◌, ℕ, zero, suc, ◌+◌, ◌<◌, Bool, true, false, cond, List, [], ◌∷◌, ◌++◌, map, length, Some, refl, sym, ◌∙◌, ap, arith, slice_get, if◌then◌else◌, append_assoc, count_by, filter, nat_eq, ◌⊎◌, not, ◌||◌, take, None, subst}
 use Rattle.std.specs.Prelude.{⊤}
-use Rattle.lemmas.proofs.{append-nil, before_or_last, cond_both, cons_option, eq-eqb, filter_map-append, length-map, list_any, ne_eqb, or_right, position_or_len, same_some, slice_get_within, sum_by-append, sum_by-cons}
+use Rattle.lemmas.proofs.{append-nil, before_or_last, cond_both, cons_option, filter_map-append, length-map, list_any, ne_eqb, or_right, position_or_len, same_some, slice_get_within, sum_by-append, sum_by-cons}
 use Rattle.rdf_values.specs.{Booked, has_variations, Statement, among, bookings, filled, names_of, same, waiting}
 use Rattle.rdf_model.specs.{Access, accesses, filled_by, loop_results}
 use Rattle.graph_numbers.specs.{numbered_pass, Pass as NumberedPass, passes_from, result_passes, loops}
@@ -90,24 +90,14 @@ pub position_first : (r : ℕ) (xs : List NumberedPass) (p : NumberedPass) (ps :
 position_first r [] p ps h met = rw met refl
 position_first r (x ∷ xs) p ps h met = let first = h.0 in let rest = position_first r xs p ps h.1 met in rw first (omega (arith, rest))
 
-count_step : (r : ℕ) (p : NumberedPass) (l : List NumberedPass) (b : Bool) → is_of r p ≡ b → count_by (is_of r) (p ∷ l) ≡ cond {A = ℕ} b 1 0 + count_by (is_of r) l
-count_step r p l b e = sum_by-cons (λ x. cond {A = ℕ} (is_of r x) 1 0) p l ∙ ap (λ (x : Bool). cond {A = ℕ} x 1 0 + count_by (is_of r) l) e
-
-count_none : (r : ℕ) (ps : List NumberedPass) → AllAre false r ps → count_by (is_of r) ps ≡ 0
-count_none r [] h = refl
-count_none r (p ∷ ps) h = let one = count_step r p ps false h.0 in let rest = count_none r ps h.1 in omega (arith, one, rest)
-
-count_all : (r : ℕ) (ps qs : List NumberedPass) → AllAre true r ps → count_by (is_of r) (ps ++ qs) ≡ length ps + count_by (is_of r) qs
-count_all r [] qs h = omega arith
-count_all r (p ∷ ps) qs h = let one = count_step r p (ps ++ qs) true h.0 in let rest = count_all r ps qs h.1 in omega (arith, one, rest)
+count_each : (b : Bool) (r : ℕ) (ps : List NumberedPass) → AllAre b r ps → count_by (is_of r) ps ≡ (if b then length ps else 0)
+count_each b r [] h = grind arith
+count_each b r (p ∷ ps) h = let one = sum_by-cons (λ x. cond {A = ℕ} (is_of r x) 1 0) p ps in grind (arith, one, h.0, count_each b r ps h.1)
 
 pub count_own : (r : ℕ) (xs ps ys : List NumberedPass) → AllAre false r xs → AllAre true r ps → AllAre false r ys → count_by (is_of r) (xs ++ (ps ++ ys)) ≡ length ps
 count_own r xs ps ys h all k =
-    let both = sum_by-append (λ x. cond {A = ℕ} (is_of r x) 1 0) xs (ps ++ ys) in
-    let none = count_none r xs h in
-    let own = count_all r ps ys all in
-    let rest = count_none r ys k in
-    omega (arith, both, none, own, rest)
+    let both = sum_by-append (λ x. cond {A = ℕ} (is_of r x) 1 0) in
+    omega (arith, both xs (ps ++ ys), both ps ys, count_each false r xs h, count_each true r ps all, count_each false r ys k)
 
 among_front : (bs : List Booked) (i k : ℕ) (b : Booked) (name : List ℕ) → slice_get bs i ≡ Some b → i < k → same name b.name ≡ true → among name (names_of (take k bs)) ≡ true
 among_front [] i k b name at lt is = absurd (cc)

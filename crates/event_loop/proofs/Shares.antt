@@ -1,7 +1,7 @@
 -- The pieces, the shares and the trails of slots that finished all clusters.
 use Rattle.std.proofs.Common.{◌≡◌, List, ◌∷◌, ◌++◌, length, sym, ap, ◌∙◌, subst, arith, ℕ, zero, suc, map, [], Option, Some, refl, slice_get, option_to_list}
 use Rattle.lemmas.proofs.{All-nil, concat, concat_is, length-flat_map, length_permutation, sum_by}
-use Rattle.loop_pieces.specs.{HaveTrails, LoopPiece, PartialLine, StandsFor}
+use Rattle.loop_pieces.specs.{HaveTrails, LoopPiece, StandsFor}
 use Rattle.slot_words.specs.{AreNoted, BookSeen, HavePartialsOver, many_in, noted_sets, ShareSeen}
 use Rattle.event_loop.specs.{AreMade, AreShares, CanFill, HasNoted, HaveNoted, JobFacts}
 use Rattle.event_loop.specs.declared.gather.Made.{Made}

@@ -1,17 +1,14 @@
 -- What the slots of a loop begin with, and what is known of a whole loop.
-use Rattle.std.proofs.Common.{◌≡◌, ℕ, ◌+◌, List, [], ◌∷◌, ◌++◌, length, Option, None, Some, refl, sym, ap, ◌∙◌, subst, arith, append-nil, length-append, MatchOption, option_to_list, ◌<◌, ◌≤◌}
+use Rattle.std.proofs.Common.{◌≡◌, ℕ, ◌+◌, List, [], ◌∷◌, ◌++◌, length, Option, None, Some, refl, sym, ap, ◌∙◌, subst, arith, append-nil, length-append, option_to_list}
 use Rattle.lemmas.proofs.{All, All-map, All-nil, All-pop, All-push, length-map, length-range_with_len, range_with_len}
-use Rattle.slot_words.specs.{BookSeen, fresh_share, fresh_shares, IsReady, SeatSeen, ShareSeen, ClaimsSeen}
+use Rattle.slot_words.specs.{BookSeen, fresh_share, fresh_shares, IsReady, SeatSeen, ShareSeen}
 use Rattle.event_loop.specs.declared.workers.Shared.{Shared}
 use Rattle.event_loop.specs.declared.workers.Slot.{Slot}
-use Rattle.event_loop.specs.{AreBlank, HasNoted, IsBlank, IsFresh, AreFacts, CanFill, HasRoom, IsOpened, IsOutcome, job_facts, JobFacts}
+use Rattle.event_loop.specs.{AreBlank, HasNoted, IsBlank, IsFresh, AreFacts, job_facts}
 use Rattle.rdf_values.proofs.UnionLemmas.{length-below}
 use Rattle.rdf_values.proofs.Evenly.{cuts_lead}
-use Rattle.columns.proofs.Clusters.{few_ranges}
 use Rattle.loop_keys.specs.{IsJob, job_spans, JobView}
 use Rattle.loop_pieces.proofs.ClusterFaults.{lower_clusters_fault_first}
-use Rattle.event_loop.specs.declared.gather.Made.{Made}
-use Rattle.event_loop.specs.declared.gather.Outcome.{Outcome}
 
 pub all_blank : (b : BookSeen) (n : ℕ) (shares : List ShareSeen) → shares ≡ fresh_shares b n → AreBlank (Some b) n shares
 all_blank b n shares is = (
@@ -56,15 +53,5 @@ next_seated shared seats seats' shares shares' slots slots' seat share slot h se
       });
     }
 
--- no more clusters than entries
-pub few_clusters : (j : JobView) (n : ℕ) → n ≡ length (job_spans j) → j.cuts.entries ≤ 1000000 → n ≤ 1000000
-few_clusters j n is few = omega (arith, few_ranges (job_spans j) 0 j.cuts.entries (cuts_lead j.cuts.entries j.cuts.size j.cuts.marks))
-
 pub facts_of : (j : JobView) (n : ℕ) → IsJob j → n ≡ length (job_spans j) → AreFacts n (job_facts j)
 facts_of j n job is = grind (arith, length-map, length-below, lower_clusters_fault_first, cuts_lead)
-
--- the outcome where all clusters are processed
-pub can_fill : (o : Option BookSeen) (c : ClaimsSeen) (watched slots clusters : ℕ) (job : JobFacts) (end : Outcome) (made : Made)
-    → AreFacts c.clusters job → c.clusters ≡ clusters → c.slots ≡ slots → IsOutcome o job c.slots end → end ≡ Outcome.Processed made → 0 < slots → length job.watched ≡ watched → IsOpened watched slots clusters o
-    → CanFill o watched clusters job made
-can_fill o c watched slots clusters job end made facts same many ended is some watches opened = grind arith

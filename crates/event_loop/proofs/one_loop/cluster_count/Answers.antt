@@ -1,11 +1,9 @@
-use Rattle.std.proofs.Common.{◌≡◌, ◌≤◌, length, subst}
-use Rattle.rdf_values.specs.{cut}
-use Rattle.columns.specs.CutsView.{CutsView}
-use Rattle.loop_keys.specs.{job_of}
-use Rattle.event_loop.proofs.Whole.{few_clusters}
+use Rattle.std.proofs.Common.{arith}
+use Rattle.columns.proofs.Clusters.{few_ranges}
+use Rattle.rdf_values.proofs.Evenly.{cuts_lead}
 use Rattle.event_loop.proofs.one_loop.cluster_count.Goals as goal
 
 pub returns-clause-few : goal.returns-clause-few
 returns-clause-few g c =
-    few_clusters (job_of c.args.job.now) c.count.result (subst (λ (v : CutsView). c.count.result ≡ length (cut v.entries v.size v.marks)) c.cuts.ensures.value c.count.ensures.value)
-    (subst (λ (v : CutsView). v.entries ≤ 1000000) c.cuts.ensures.value c.count.ensures.valid.few)
+    let v = c.cuts.result.now in
+    omega (arith, c.count.ensures.value, c.count.ensures.valid.few, few_ranges _ 0 v.entries (cuts_lead v.entries v.size v.marks))

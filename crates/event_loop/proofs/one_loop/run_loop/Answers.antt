@@ -1,7 +1,7 @@
 use Rattle.std.proofs.Common.{ℕ, sym, ◌∙◌, subst, arith}
 use Rattle.loop_keys.specs.{job_of}
 use Rattle.event_loop.specs.{AreBlank, IsOutcome, job_facts}
-use Rattle.event_loop.proofs.Whole.{facts_of, can_fill}
+use Rattle.event_loop.proofs.Whole.{facts_of}
 use Rattle.event_loop.proofs.one_loop.run_loop.Goals as goal
 use Rattle.slot_words.proofs.Steps.{seats_many, seats_ready}
 
@@ -24,26 +24,23 @@ pub filled-requires : goal.filled-requires
 filled-requires g c =
     let j = job_of c.args.job.now in
     let facts = facts_of j _ c.requires.job.job (c.in_ok-claims.ensures.0 ∙ c.cluster_count-clusters.ensures.value) in
-    let ok = c.in_ok-finished.finished.ok.0 in
-    let ended = c.in_ok-fault.ensures c.in_ok-book.book (job_facts j) facts (λ k f lt. c.in_ok-finished.ensures.each k f (omega (arith, c.in_ok-finished.ensures.len))) in (
-      job_facts j,
-      can_fill c.in_ok-book.book c.in_ok-claims.claims c.watched_in-watched.result c.args.slots c.cluster_count-clusters.result (job_facts j) _ c.in-Processed.made
-          facts c.in_ok-claims.ensures.0 c.in_ok-claims.ensures.1 ended c.in-Processed.is c.requires.slots.0 (sym c.watched_in-watched.ensures) c.in_ok-book.ensures.0,
-    )
+    let ended = c.in_ok-fault.ensures c.in_ok-book.book (job_facts j) facts
+    (λ k f lt. c.in_ok-finished.ensures.each k f (omega (arith, c.in_ok-finished.ensures.len, c.in_ok-finished.finished.ok.0))) in
+    (job_facts j, grind (arith, facts, ended, c.in_ok-claims.ensures, c.in-Processed.is, c.requires.slots, c.watched_in-watched.ensures, c.in_ok-book.ensures))
 
 pub returns-in-Faulted : goal.returns-in-Faulted
 returns-in-Faulted g c =
     let j = job_of c.args.job.now in
     let facts = facts_of j _ c.requires.job.job (c.in_ok-claims.ensures.0 ∙ c.cluster_count-clusters.ensures.value) in
-    let ok = c.in_ok-finished.finished.ok.0 in
-    let ended = c.in_ok-fault.ensures c.in_ok-book.book (job_facts j) facts (λ k f lt. c.in_ok-finished.ensures.each k f (omega (arith, c.in_ok-finished.ensures.len))) in
+    let ended = c.in_ok-fault.ensures c.in_ok-book.book (job_facts j) facts
+    (λ k f lt. c.in_ok-finished.ensures.each k f (omega (arith, c.in_ok-finished.ensures.len, c.in_ok-finished.finished.ok.0))) in
     subst (IsOutcome c.in_ok-book.book (job_facts j) c.in_ok-claims.claims.slots) c.in-Faulted.is ended
 
 pub returns-in_ok-filled-in-Processed : goal.returns-in_ok-filled-in-Processed
 returns-in_ok-filled-in-Processed g c =
     let j = job_of c.args.job.now in
     let facts = facts_of j _ c.requires.job.job (c.in_ok-claims.ensures.0 ∙ c.cluster_count-clusters.ensures.value) in
-    let ok = c.in_ok-finished.finished.ok.0 in
-    let ended = c.in_ok-fault.ensures c.in_ok-book.book (job_facts j) facts (λ k f lt. c.in_ok-finished.ensures.each k f (omega (arith, c.in_ok-finished.ensures.len))) in
-    c.in_ok-filled-in-Processed.ensures (job_facts j) (can_fill c.in_ok-book.book c.in_ok-claims.claims c.watched_in-watched.result c.args.slots c.cluster_count-clusters.result (job_facts j) _ c.in-Processed.made
-    facts c.in_ok-claims.ensures.0 c.in_ok-claims.ensures.1 ended c.in-Processed.is c.requires.slots.0 (sym c.watched_in-watched.ensures) c.in_ok-book.ensures.0)
+    let ended = c.in_ok-fault.ensures c.in_ok-book.book (job_facts j) facts
+    (λ k f lt. c.in_ok-finished.ensures.each k f (omega (arith, c.in_ok-finished.ensures.len, c.in_ok-finished.finished.ok.0))) in
+    c.in_ok-filled-in-Processed.ensures (job_facts j)
+    (grind (arith, facts, ended, c.in_ok-claims.ensures, c.in-Processed.is, c.requires.slots, c.watched_in-watched.ensures, c.in_ok-book.ensures))

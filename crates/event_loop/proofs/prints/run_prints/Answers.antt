@@ -1,8 +1,6 @@
-use Rattle.std.proofs.Common.{◌<◌, ◌≤◌, ◌+◌, ℕ, Ok, true, false, length, arith, ap, subst, ◌∙◌}
-use Rattle.rdf_values.specs.{history}
-use Rattle.rdf_model.specs.{accesses}
+use Rattle.std.proofs.Common.{◌+◌, ℕ, Ok, true, false, refl, arith, ap, subst, ◌∙◌}
 use Rattle.event_loop.specs.{IsTranscript, session_of, SessionView}
-use Rattle.event_loop.proofs.Courses.{done, ended, faulted, further, parts_further, prints_are}
+use Rattle.event_loop.proofs.Courses.{done, ended, further, prints_are, whole}
 use Rattle.event_loop.proofs.prints.run_prints.Goals as goal
 
 pub returns-then-not-branch : goal.returns-then-not-branch
@@ -10,8 +8,8 @@ returns-then-not-branch g c =
     let many = prints_are (session_of c.new-session.result).graph c.graph.result.now c.prints-prints.result c.graph.ensures c.prints-prints.ensures in
     let end = c.in_ok-put_print.ensures.end (ap (λ b. Ok b) c.if-not-branch.true) in
     subst (λ (s : SessionView). IsTranscript s.graph.script s.dataset s.cuts s.watch (record { text = c.put_print.new.text; faulted = true })) c.new-session.ensures.fresh
-    (faulted (session_of c.new-session.result) (session_of c.loop-print.session) c.loop-print.invariant.session c.loop-print.invariant.parts c.put_print.new.text
-    (ended (session_of c.new-session.result) (session_of c.loop-print.session) c.loop-print.invariant.parts c.loop-print.print c.loop-print.text c.put_print.new.text c.loop-print.invariant.so_far (omega (arith, many, c.loop-print-test.true)) end))
+    (whole (session_of c.new-session.result) (session_of c.loop-print.session) c.loop-print.invariant.session c.loop-print.invariant.parts c.put_print.new.text
+    true 8 refl (ended (session_of c.new-session.result) (session_of c.loop-print.session) c.loop-print.invariant.parts c.loop-print.print c.loop-print.text c.put_print.new.text c.loop-print.invariant.so_far (omega (arith, many, c.loop-print-test.true)) end))
 
 pub loop-print-preserved : goal.loop-print-preserved
 loop-print-preserved g c =
@@ -19,7 +17,7 @@ loop-print-preserved g c =
     let on = c.in_ok-put_print.ensures.more (ap (λ b. Ok b) c.if-not-branch.false) in
     record {
       session = c.in_ok-put_print.ensures.session;
-      parts = parts_further (session_of c.new-session.result) (session_of c.loop-print.session) (session_of c.put_print.new.session) c.loop-print.invariant.parts c.in_ok-put_print.ensures.parts;
+      parts = grind (arith, c.loop-print.invariant.parts, c.in_ok-put_print.ensures.parts);
       next = on.next ∙ ap (λ (n : ℕ). n + 1) c.loop-print.invariant.next;
       sound = on.sound;
       so_far = further (session_of c.new-session.result) (session_of c.loop-print.session) c.loop-print.invariant.parts c.loop-print.print c.loop-print.text c.put_print.new.text c.loop-print.invariant.so_far (session_of c.put_print.new.session) c.in_ok-put_print.ensures.parts (omega (arith, many, c.loop-print-test.true)) on;

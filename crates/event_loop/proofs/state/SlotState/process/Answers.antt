@@ -1,4 +1,4 @@
-use Rattle.std.proofs.Common.{ℕ, ◌≡◌, ◌∙◌, ◌<◌, ◌++◌, ◌∷◌, [], Err, None, Some, length, ap, arith, refl, subst, sym}
+use Rattle.std.proofs.Common.{ℕ, ◌≡◌, ◌∙◌, ◌++◌, ◌∷◌, [], Err, None, Some, length, ap, arith, refl, subst}
 use Rattle.std.proofs.lemmas.List.{length-map}
 use Rattle.std.specs.declared.snapshot.Snapshot.{Snapshot}
 use Rattle.loop_keys.specs.{facts_in, job_of}
