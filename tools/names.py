@@ -53,6 +53,11 @@ def begins_a_line(path, name):
     return re.search(r"(?m)^\s*(?:pub\s+)?" + re.escape(name) + r"(?=[\s:])", text_of(path)) is not None
 
 
+def given(names):
+    """The names under which these are passed on."""
+    return [each.split(" as ")[-1].strip().strip("«»") for each in names.split(",")]
+
+
 def split(names):
     return [name for name in (each.split(" as ")[0].strip().strip("«»") for each in names.split(",")) if name]
 
@@ -80,7 +85,7 @@ def lost_names(top, crate, known):
                 continue
             if not module:
                 root = os.path.join(top, "crates", other, part, "Lib.antt")
-                passed = {name for _, on in PASSED_ON.findall(text_of(root) if os.path.isfile(root) else "") for name in split(on)}
+                passed = {name for _, on in PASSED_ON.findall(text_of(root) if os.path.isfile(root) else "") for name in given(on)}
                 yield from (f"{shown}: the root of the {part} of {other} passes on no {name}" for name in split(names) if name not in passed)
                 continue
             home = os.path.join(top, "crates", other, part, *module.split(".")) + ".antt"

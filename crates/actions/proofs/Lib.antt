@@ -1,6 +1,3 @@
 pub mod Batching
-pub mod Points
-pub mod Folds
-pub mod Merges
-pub mod Reductions
 pub mod States
+pub mod Folds

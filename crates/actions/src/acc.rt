@@ -27,8 +27,7 @@ pub struct Acc {
 }
 
 impl Model for Acc {
-    ghost use Rattle.actions.specs.Holding.{kept, kind_of, made};
-    ghost use Rattle.actions.specs.Accumulators.{Accumulator, KeepsCount};
+    ghost use Rattle.actions.specs.Accumulators.{kept, kind_of, made, Accumulator, KeepsCount};
 
     ghost Value = { Accumulator };
 
@@ -40,12 +39,10 @@ impl Model for Acc {
 impl Acc {
     ghost use Rattle.std.specs.Prelude.{◌≡◌, ◌↔◌, ◌≤◌, ◌<◌, ◌+◌, ◌++◌, [], List, None, Some, Err, IfOk, OnErr, OnOk, length, max};
     ghost use Rattle.rdf_values.specs.{EntryFault, feed_fault, fold_items, spread};
-    ghost use Rattle.actions.specs.Accumulators.{HasFed};
+    ghost use Rattle.actions.specs.Accumulators.{HasFed, HasEdges, IsTake, kept_of};
     ghost use Rattle.actions.specs.Batches.{EachPlace, HasValues, SuitsAt, batch_items, places_of, values_at};
-    ghost use Rattle.actions.specs.Feeding.{Fed, from_cluster, in_file_order};
+    ghost use Rattle.actions.specs.Parts.{Fed, from_cluster, in_file_order, Suits, values_of};
     ghost use Rattle.actions.specs.Fillings.{filled_seen};
-    ghost use Rattle.actions.specs.Holding.{HasEdges, IsTake, kept_of};
-    ghost use Rattle.actions.specs.Parts.{Suits, values_of};
 
     /// An accumulator of the action, to which nothing was fed.
     pub fn new(alloc: Global, kind: &ActionKind) -> Result<Acc, Memory>

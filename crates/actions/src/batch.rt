@@ -85,7 +85,7 @@ impl<'a> Sources<'a> {
 }
 
 // Whether one of the weights at some places is out of range.
-#[tactic(auto, using(lemmas::proofs::Booleans::neither, crate::proofs::Batching::one_more_light, std::proofs::lemmas::List::take_all))]
+#[tactic(auto, using(lemmas::proofs::or_parts, crate::proofs::Batching::one_more_light, std::proofs::lemmas::List::take_all))]
 fn any_heavy(weights: &[i64], places: &Places<'_>) -> bool
     requires few { length (places_of places.now) ≤ 1000000 }
     requires there { EachPlace places.now (λ p. p < length weights.now) }

@@ -24,7 +24,7 @@ pub fn weight_at(weight: &Option<Part<'_>>, i: usize) -> i64
 }
 
 /// Fills the points of one entry, each with its weight.
-#[tactic(auto, using(crate::proofs::Points::points_filled))]
+#[tactic(auto, using(crate::proofs::States::points_filled))]
 pub fn fill_points(hist: &mut Hist1, xs: &[i64], weight: &Option<Part<'_>>)
     requires lengths { length (weights (length xs.now) (part_values weight.now)) ≡ length xs.now }
     requires weights { All IsWeight (weights (length xs.now) (part_values weight.now)) }
@@ -39,7 +39,7 @@ pub fn fill_points(hist: &mut Hist1, xs: &[i64], weight: &Option<Part<'_>>)
 }
 
 /// Fills the pairs of one entry, each with its weight.
-#[tactic(auto, using(crate::proofs::Points::points2_filled))]
+#[tactic(auto, using(crate::proofs::States::points2_filled))]
 pub fn fill_pairs(hist: &mut Hist2, xs: &[i64], ys: &[i64], weight: &Option<Part<'_>>)
     requires pairs { length ys.now ≡ length xs.now }
     requires lengths { length (weights (length xs.now) (part_values weight.now)) ≡ length xs.now }

@@ -4,7 +4,7 @@ ghost use Rattle.std.specs.Int.{int_max, int_min};
 ghost use Rattle.rdf_values.specs.{reduce_step};
 ghost use Rattle.actions.specs.Batches.{EachPlace, HasPlace, HasValues, first_numbers_in, numbers_in, places_of, values_at};
 ghost use Rattle.actions.specs.Parts.{first_numbers};
-ghost use Rattle.actions.specs.Extremes.{better_of};
+ghost use Rattle.actions.specs.Accumulators.{better_of};
 
 use crate::batch::Batch;
 use crate::lane::Lane;

@@ -127,7 +127,7 @@ impl<'a> Items<'a> {
     }
 
     /// Why an action can't be fed with the values: vectors of different lengths, and then a weight out of range.
-    #[tactic(auto, using(crate::proofs::Points::fault_weighted, crate::proofs::Points::fault_pair))]
+    #[tactic(auto, using(crate::proofs::States::fault_weighted, crate::proofs::States::fault_pair))]
     pub fn fault(&self) -> Option<EntryFault>
         ensures { (kind : ActionKind) → Suits kind self.now → result ≡ feed_fault kind (values_of self.now) }
     {

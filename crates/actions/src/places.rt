@@ -11,6 +11,7 @@ pub enum Places<'a> {
 
 impl Places<'_> {
     /// How many there are.
+    #[tactic(auto, using(crate::proofs::Batching::first_places))]
     pub fn len(&self) -> u32
         requires { length (places_of self.now) ≤ 1000000 }
         ensures { result ≡ length (places_of self.now) }
@@ -22,7 +23,7 @@ impl Places<'_> {
     }
 
     /// The one of a number, counted from 0.
-    #[tactic(auto, using(crate::proofs::Batching::first_at))]
+    #[tactic(auto, using(crate::proofs::Batching::first_places))]
     pub fn at(&self, i: u32) -> u32
         requires { i < length (places_of self.now) }
         ensures { slice_index_or (places_of self.now) i 0 ≡ result }

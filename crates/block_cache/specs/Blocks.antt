@@ -1,12 +1,12 @@
 -- What is held of the entries of a block.
 use Rattle.std.specs.Prelude.{◌≡◌, ◌<◌, ◌≤◌, ◌+◌, ◌-◌, ◌++◌, ℕ, ℤ, false, List, length, map, take, replicate, All, Option, Some, if◌then◌else◌, slice_get, slice_set}
-use Rattle.rdf_values.specs.{ColType, kind_at, NumTree, Value}
-use Rattle.rdf_model.specs.{◌>>=◌, call_outcome, evaluate, Faults, Gives, Needs, Outcome, tag_element}
+use Rattle.rdf_values.specs.{ColType, kind_at, Value}
+use Rattle.rdf_model.specs.{Faults, Gives, Needs, Outcome}
 use Rattle.expr_check.specs.{CheckedExpr, is_vector}
 use Rattle.expr_lanes.specs.{at_place, depth}
-use Rattle.graph_numbers.specs.{IsSiteExpr, Source}
+use Rattle.graph_numbers.specs.{Source}
 use Rattle.block_cache.specs.Lanes.{LaneView, is_held, value_of}
-use Rattle.loop_keys.specs.{Held, IsMissing, IsSound, job_graph, JobView, key, key_count, look_at, MeetsAt, row_in, site_in, source_at}
+use Rattle.loop_keys.specs.{Held, IsMissing, IsSound, job_graph, JobView, key, key_count, MeetsAt, row_in, site_in, source_at}
 
 -- a value that is held
 abbrev pub held_value : Value → Held
@@ -55,15 +55,7 @@ HasNumbers j first u count lanes cells (Source.Cell col) = HasColumn j first cou
 HasNumbers j first u count lanes cells (Source.Site s) = HasNumberLane count lanes (key (job_graph j) s u)
 HasNumbers j first u count lanes cells (Source.Element s k tags) = ⊥
 
--- the element of what a version with a vector comes to, at the place of a tag among so many
-abbrev pub element_of : Outcome ℕ Value → ℕ → ℕ → Outcome ℕ Value
-element_of o k tags = o >>= tag_element tags k
-
 -- ---- one evaluation of a site over a block
-
--- what a site's tree comes to at a place, by the lanes of the first keys
-abbrev pub outcome_at : JobView → ℕ → Option ℕ → List LaneView → NumTree → ℕ → Outcome ℕ Value
-outcome_at j first u lanes tree p = evaluate (look_at j (first + p) u (cells_at (key_count (job_graph j)) lanes p)) (call_outcome j.dataset.fns) tree
 
 -- a lane for each key, in a block of so many places, one at least, whose entries are of the table; and what is held is right
 pub record AreReady (j : JobView) (first count : ℕ) (lanes : List LaneView) : Type 0 where
@@ -79,10 +71,6 @@ pub record IsTriable (j : JobView) (first : ℕ) (u : Option ℕ) (count : ℕ) 
   pub kind : (l : LaneView) → slice_get lanes (key (job_graph j) s u) ≡ Some l → e.kind ≡ l.kind
   pub deep : depth e.tree ≤ levels
   pub sources : All (λ (c : ℕ × ColType). HasSource j first u count (take (key (job_graph j) s u) lanes) cells (source_at j u c.0)) e.kinds
-
--- so much for the site of that number
-abbrev pub CanTry : JobView → ℕ → Option ℕ → ℕ → List LaneView → List (List ℤ) → ℕ → ℕ → Type 0
-CanTry j first u count lanes cells levels s = (e : CheckedExpr) → IsSiteExpr (job_graph j) s e → IsTriable j first u count lanes cells levels s e
 
 -- an evaluation over what is held tells what the site comes to, or a version that it meets and that is missing
 abbrev pub IsTelling : JobView → ℕ → Option ℕ → List Held → ℕ → Outcome ℕ Value → Type 0

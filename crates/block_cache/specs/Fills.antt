@@ -1,16 +1,19 @@
 -- What filling a site over a block does.
-use Rattle.std.specs.Prelude.{◌≡◌, ◌⊎◌, ◌<◌, ◌≤◌, ◌+◌, ◌*◌, ⊤, ℕ, ℤ, Bool, true, false, not, List, [], ◌∷◌, Option, Some, None, count_by, nat_lt, slice_get}
-use Rattle.std.specs.List.{filter, sum_by}
-use Rattle.rdf_values.specs.{ColType, EachColumn, EntryFault, kind_at}
+use Rattle.std.specs.Prelude.{◌≡◌, ◌⊎◌, ◌<◌, ◌≤◌, ◌+◌, ◌*◌, ⊤, ℕ, ℤ, Bool, true, false, not, List, [], ◌∷◌, Option, Some, None, count_by, fold, nat_lt, slice_get, length, slice_index, slice_set}
+use Rattle.std.specs.List.{filter, sum_by, range_with_len}
+use Rattle.rdf_values.specs.{ColType, EachColumn, EntryFault, kind_at, Bin, Call, Col, Cond, End, Lit, More, Neg, Not, Pick, Tree, Trees}
 use Rattle.rdf_model.specs.{fault_in, is_true}
 use Rattle.expr_check.specs.{CheckedExpr}
-use Rattle.expr_lanes.specs.{depth, EachPlace, is_in}
-use Rattle.graph_numbers.specs.{graph_sites, GraphView, IsSiteExpr, SiteAt, Source}
+use Rattle.expr_eval.specs.{ScalarStop}
+use Rattle.expr_eval.specs.declared.stop.ScalarStop.TheVariants.{Fault, Need}
+use Rattle.expr_lanes.specs.{depth, EachPlace, is_in, Stopped}
+use Rattle.graph_numbers.specs.{graph_sites, GraphView, IsSiteExpr, SiteAt, Source, graph_versions}
 use Rattle.block_cache.specs.Lanes.{LaneView, is_held, is_tried, kinds_of, rooms_of, tried_count}
-use Rattle.loop_keys.specs.{Grows, held_in, IsClosed, IsSourceIn, job_graph, JobView, key, key_count, site_in, source_at, truth_in}
+use Rattle.loop_keys.specs.{Grows, held_in, IsClosed, IsSourceIn, job_graph, JobView, key, key_count, site_in, source_at, truth_in, IsSiteOf, MeetsAt}
 use Rattle.block_cache.specs.Blocks.{AreReady, HasColumn, cells_at}
-use Rattle.block_cache.specs.Faults.{fault_at}
+use Rattle.block_cache.specs.Values.{fault_at}
 use Rattle.block_cache.specs.declared.faults.PlaceFault.{PlaceFault}
+use Rattle.rdf_values.specs.expressions.Expressions.{Truth}
 
 -- ---- what is known of a key at a place
 
@@ -141,3 +144,69 @@ pub record IsPassedOver (j : JobView) (first : ℕ) (u : Option ℕ) (count s : 
   pub left_is : left ≡ filter (λ p. is_true (truth_in j (first + p) u s)) (below_fault found sel)
   pub ready : AreReady j first count after
   pub settled : IsSettled after (below_fault found sel)
+
+-- ---- how far the filling of a site over a block has come
+
+-- the version that the place waits for
+abbrev pub need_at : List ℕ → ℕ → ℕ
+need_at needs p = slice_index needs p
+
+-- one stop more is noted
+abbrev pub noted_at : List ℕ → ℕ → ScalarStop → List ℕ
+noted_at needs p (Fault k) = needs
+noted_at needs p (Need c) = slice_set needs p c
+
+-- and each of a list, one after another
+abbrev pub noted_in : List ℕ → List Stopped → List ℕ
+noted_in needs stops = fold (λ (ns : List ℕ) (s : Stopped). noted_at ns s.place s.stop) needs stops
+
+-- at the places of the selection all that was begun of the sites up to s holds its value
+abbrev pub IsSettledTo : JobView → Option ℕ → ℕ → List LaneView → List ℕ → Type 0
+IsSettledTo j u s lanes sel = EachPlace sel (λ p. (t : ℕ) → t ≤ s → begun_at lanes (key (job_graph j) t u) p ≡ true → holds_at lanes (key (job_graph j) t u) p ≡ true)
+
+-- the evaluation of s at the place meets the version, whose site, a lower one, isn't held there
+pub record IsWaiting (j : JobView) (first : ℕ) (u : Option ℕ) (s : ℕ) (lanes : List LaneView) (p c : ℕ) : Type 0 where
+  pub there : c < length (graph_versions (job_graph j))
+  pub site : ℕ
+  pub source : IsSiteOf site (source_at j u c)
+  pub lower : site < s
+  pub lacks : holds_at lanes (key (job_graph j) site u) p ≡ false
+  pub met : MeetsAt j (first + p) u s c
+
+-- no fault, or that of one of the places
+abbrev pub IsFaultOf : (ℕ → Option EntryFault) → List ℕ → Option PlaceFault → Type 0
+IsFaultOf f sel None = ⊤
+IsFaultOf f sel (Some x) = (is_in x.place sel ≡ true) × (f x.place ≡ Some x.kind)
+
+-- of two faults the one that was found, if one was
+abbrev pub found_or : Option PlaceFault → Option PlaceFault → Option PlaceFault
+found_or None fault = fault
+found_or (Some f) fault = Some f
+
+-- how many evaluations weren't begun in a block of so many places
+abbrev pub left_to_begin : ℕ → List LaneView → ℕ
+left_to_begin count lanes = sum_by (λ k. count_by (λ p. not (begun_at lanes k p)) (range_with_len 0 count)) (range_with_len 0 (length lanes))
+
+-- ---- what the evaluation of a site reads first
+
+-- a number reads nothing, and what stands behind it is read next
+abbrev pub or_behind : {C F : Type 0} → Tree C F → Option C → Option C → Option C
+or_behind (Lit z) own behind = behind
+or_behind a own behind = own
+
+abbrev mutual
+  -- the column that an evaluation reads before anything can fault, if it reads one so
+  pub first_read : {C F : Type 0} → Tree C F → Option C
+  first_read (Lit z) = None
+  first_read (Truth b) = None
+  first_read (Col c) = Some c
+  first_read (Neg a) = first_read a
+  first_read (Not a) = first_read a
+  first_read (Bin op a b) = or_behind a (first_read a) (first_read b)
+  first_read (Cond c a b) = first_read c
+  first_read (Pick v i) = first_read v
+  first_read (Call f args) = first_read_in args
+
+  pub first_read_in : {C F : Type 0} → Trees C F → Option C
+  first_read_in End = None
+  first_read_in (More a rest) = or_behind a (first_read a) (first_read_in rest)

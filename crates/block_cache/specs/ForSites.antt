@@ -1,18 +1,84 @@
 -- What filling a site does, from the struct that says which site is wanted over which block.
-use Rattle.std.specs.Prelude.{◌≡◌, ◌⊎◌, ◌<◌, ◌≤◌, ◌+◌, ◌*◌, ℕ, Bool, true, false, not, List, length, take, Option, count_by}
+use Rattle.std.specs.Prelude.{◌+◌, ℕ, List, All, slice_get, ◌≡◌, ◌⊎◌, ◌<◌, ◌≤◌, ◌*◌, Bool, true, false, not, length, take, Option, count_by}
+use Rattle.rdf_values.specs.{ColType, Column, fn_names, NumTree, Value}
+use Rattle.rdf_model.specs.{call_outcome, evaluate, FitsOutcome, Outcome}
+use Rattle.expr_check.specs.{CallsFit, CheckedExpr}
+use Rattle.graph_numbers.specs.{cell_value, GraphView, IsSiteExpr, Source}
+use Rattle.loop_keys.specs.{IsReadable, job_graph, job_of, JobView, key, key_count, look_at, row_of, source_at, ArePlain, IsSiteOf, MeetsAt}
+use Rattle.block_cache.specs.Blocks.{AreReady, HasColumn, HasNumbers, HasSource, cells_at, IsLaneSet, IsTelling, IsTriable}
+use Rattle.block_cache.specs.Lanes.{LaneView, IsBegun, IsEvaluated}
+use Rattle.block_cache.specs.declared.block.Block.{Block}
 use Rattle.std.specs.List.{filter}
-use Rattle.rdf_values.specs.{ColType, Value}
-use Rattle.rdf_model.specs.{Outcome}
 use Rattle.expr_lanes.specs.{EachPlace, is_in, Stopped}
 use Rattle.expr_lanes.specs.declared.TheConstants.{MAX_PLACES}
-use Rattle.loop_keys.specs.{ArePlain, IsSiteOf, job_graph, JobView, key, key_count, MeetsAt, source_at}
-use Rattle.block_cache.specs.Blocks.{AreReady, CanTry, cells_at, IsLaneSet, IsTelling}
-use Rattle.block_cache.specs.Fills.{begun_at, begun_count, below_fault, CanFill, holds_at, is_below, IsFilledTo, IsGrownOver, IsPaidOver, IsPassedOver, IsSameAt, IsSpentOver, site_fault}
-use Rattle.block_cache.specs.Lanes.{IsBegun, IsEvaluated, LaneView}
-use Rattle.block_cache.specs.OverBlocks.{block_job, key_over}
-use Rattle.block_cache.specs.Turns.{found_or, IsFaultOf, IsSettledTo, IsWaiting, need_at}
+use Rattle.block_cache.specs.Fills.{begun_at, begun_count, below_fault, CanFill, holds_at, is_below, IsFilledTo, IsGrownOver, IsPaidOver, IsPassedOver, IsSameAt, IsSpentOver, site_fault, found_or, IsFaultOf, IsSettledTo, IsWaiting, need_at}
 use Rattle.block_cache.specs.declared.faults.PlaceFault.{PlaceFault}
 use Rattle.block_cache.specs.declared.block.Wanted.{Wanted}
+
+-- ---- what is known of a block, from the struct that carries it
+
+module _ {V : Type 0} {D : V → Type 0} {g : _} (b : Block V D g) where
+  -- its job
+  abbrev pub block_job : JobView
+  block_job = job_of b.at.now.job.now
+
+  -- the graph of its job
+  abbrev pub block_graph : GraphView
+  block_graph = job_graph block_job
+
+  -- the key of a site in it
+  abbrev pub key_over : ℕ → ℕ
+  key_over s = key block_graph s b.at.now.under
+
+  -- the source of a version in it
+  abbrev pub source_over : ℕ → Source
+  source_over version = source_at block_job b.at.now.under version
+
+  -- its table's columns
+  abbrev pub columns_over : List Column
+  columns_over = block_job.dataset.columns
+
+  -- the table's value of a column at a place
+  abbrev pub cell_over : ℕ → ℕ → Outcome ℕ Value
+  cell_over p col = cell_value (slice_get (row_of block_job (b.at.now.entry + p)) col)
+
+  -- the calls of a tree fit its functions
+  abbrev pub CallsFitOver : NumTree → Type 0
+  CallsFitOver = CallsFit (fn_names block_job.dataset.fns)
+
+  -- a lane for each key, of as many places, and what they hold is what the sites come to
+  abbrev pub AreReadyOver : List LaneView → Type 0
+  AreReadyOver lanes = AreReady block_job b.at.now.entry b.count lanes
+
+  -- the column's numbers at its entries are there
+  abbrev pub HasNumbersOver : ℕ → Type 0
+  HasNumbersOver col = HasColumn block_job b.at.now.entry b.count b.cells.now col
+
+  -- the version is a column of the table, its numbers loaded, or of a site that has a lane
+  pub record IsReadOver (lanes : List LaneView) (version : ℕ) : Type 0 where
+    pub readable : IsReadable block_job b.at.now.under version
+    pub source : HasSource block_job b.at.now.entry b.at.now.under b.count lanes b.cells.now (source_over version)
+
+  -- and it can be read at all places at once: as numbers of the table, or in a lane without vectors
+  pub record IsWholeOver (lanes : List LaneView) (version : ℕ) : Type 0 where
+    pub readable : IsReadable block_job b.at.now.under version
+    pub source : HasNumbers block_job b.at.now.entry b.at.now.under b.count lanes b.cells.now (source_over version)
+
+  -- what a version comes to at a place by what the lanes hold: a version of which nothing is held is needed
+  abbrev pub look_over : List LaneView → ℕ → ℕ → Outcome ℕ Value
+  look_over lanes p version = look_at block_job (b.at.now.entry + p) b.at.now.under (cells_at (key_count block_graph) lanes p) version
+
+  -- what a tree comes to so
+  abbrev pub outcome_over : List LaneView → NumTree → ℕ → Outcome ℕ Value
+  outcome_over lanes tree p = evaluate (look_over lanes p) (call_outcome block_job.dataset.fns) tree
+
+  -- the columns of an expression can be read over it
+  abbrev pub AreReadOver : List LaneView → CheckedExpr → Type 0
+  AreReadOver lanes e = All (λ (c : ℕ × ColType). IsReadOver lanes c.0) e.kinds
+
+  -- and come to values of their kinds at a place
+  abbrev pub FitAt : List LaneView → CheckedExpr → ℕ → Type 0
+  FitAt lanes e p = All (λ (c : ℕ × ColType). FitsOutcome c.1 (look_over lanes p c.0)) e.kinds
 
 module _ {V : Type 0} {D : V → Type 0} {g : _} (w : Wanted V D g) where
   abbrev job : JobView
@@ -33,7 +99,7 @@ module _ {V : Type 0} {D : V → Type 0} {g : _} (w : Wanted V D g) where
 
   -- one evaluation of it can be tried, with so many levels of scratch
   abbrev pub CanTryFor : List LaneView → ℕ → Type 0
-  CanTryFor lanes scratch = CanTry job first under count lanes w.block.now.cells.now scratch w.site
+  CanTryFor lanes scratch = (e : CheckedExpr) → IsSiteExpr (job_graph job) w.site e → IsTriable job first under count lanes w.block.now.cells.now scratch w.site e
 
   -- it was evaluated at the selected places: those that are left hold its value, each other one is a stop, and what is held is right
   pub record IsTriedFor (sel left : List ℕ) (before after : List LaneView) (stops more : List Stopped) : Type 0 where

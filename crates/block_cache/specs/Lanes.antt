@@ -1,9 +1,9 @@
 -- What is known of keys over a block.
-use Rattle.std.specs.Prelude.{◌≡◌, ◌≤◌, ◌+◌, ◌/◌, ℕ, zero, suc, max, min, ℤ, Bool, true, false, ◌||◌, not, List, length, map, All, count_by}
+use Rattle.std.specs.Prelude.{◌≡◌, ◌++◌, ◌≤◌, ◌+◌, ◌/◌, ℕ, zero, suc, max, min, ℤ, Bool, true, false, ◌||◌, not, List, IsPermutation, length, map, All, count_by}
 use Rattle.rdf_values.specs.{ColType, Value}
 use Rattle.rdf_model.specs.{Gives, Outcome}
 use Rattle.expr_check.specs.{is_vector}
-use Rattle.expr_lanes.specs.{at_place, EachPlace, given_in, is_in, is_marked, IsJoined, lane_number, Stopped, stops_in}
+use Rattle.expr_lanes.specs.{at_place, EachPlace, given_in, is_in, is_marked, lane_number, Stopped, stops_in}
 use Rattle.expr_lanes.specs.declared.TheConstants.{MAX_PLACES}
 use Rattle.block_cache.specs.declared.sizes.TheConstants.{MAX_LANE_PLACES}
 use Rattle.block_cache.specs.Values.{HasNumbered, value_for}
@@ -87,7 +87,7 @@ pub record IsEvaluated (f : ℕ → Outcome ℕ Value) (sel left : List ℕ) (be
   pub held : (p : ℕ) → is_held after p ≡ (is_in p left || is_held before p)
   pub values : EachPlace left (λ p. f p ≡ Gives (value_of after p))
   pub kept : (p : ℕ) → is_in p sel ≡ false → is_held before p ≡ true → value_of after p ≡ value_of before p
-  pub joined : IsJoined stops (stops_in f sel) more
+  pub joined : IsPermutation (stops ++ stops_in f sel) more
 
 -- ---- the lanes of all keys
 

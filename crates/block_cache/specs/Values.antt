@@ -1,11 +1,14 @@
 -- The values of a lane's places, and how far an evaluation at one place after another has come.
-use Rattle.std.specs.Prelude.{◌≡◌, ◌≤◌, ◌<◌, ◌+◌, ◌-◌, ◌++◌, ⊤, ℕ, ℤ, Bool, true, not, List, [], length, take, drop, nat_abs, Result, Ok, Err, slice_index_or, false}
-use Rattle.rdf_values.specs.{ColType, FitsKind, Value}
+use Rattle.std.specs.Prelude.{◌≡◌, ◌≤◌, ◌<◌, ◌+◌, ◌-◌, ◌++◌, ⊤, ℕ, ℤ, Bool, true, not, List, [], length, take, drop, nat_abs, Result, Ok, Err, slice_index_or, false, Option, Some, None, All, Contains, if◌then◌else◌, nat_le, zero, suc, ◌∷◌}
+use Rattle.rdf_values.specs.{ColType, FitsKind, Value, EntryFault}
 use Rattle.rdf_model.specs.{Gives, is_set, mark, Outcome}
-use Rattle.expr_eval.specs.{EvalStop}
+use Rattle.expr_eval.specs.{EvalStop, ScalarStop}
 use Rattle.expr_eval.specs.declared.stop.EvalStop.TheVariants.{Memory}
-use Rattle.expr_lanes.specs.{at_place, EachPlace, is_given, is_in, is_marked, Stopped, stops_in, with_stop}
+use Rattle.expr_lanes.specs.{at_place, EachPlace, is_given, is_in, is_marked, Stopped, stops_in, with_stop, stopped}
 use Rattle.block_cache.specs.declared.vectors.Cells.{Cells}
+use Rattle.expr_eval.specs.declared.stop.ScalarStop.TheVariants.{Fault, Need}
+use Rattle.block_cache.specs.declared.faults.PlaceFault.{PlaceFault}
+use Rattle.block_cache.specs.declared.block_marks.Extent.{Extent}
 
 -- the cells of one vector among those of all
 abbrev pub cells_in : List ℤ → Cells → List ℤ
@@ -80,3 +83,59 @@ pub record HaveCome (kind : ColType) (f : ℕ → Outcome ℕ Value) (places : L
   pub marked : EachPlace places (λ p. is_marked marks p ≡ not (is_given (f p)))
   pub stopped : more ≡ stops ++ stops_in f places
   pub few : length more ≤ length stops + length places
+
+-- ---- the first fault among places that came to no value
+
+-- the fault of a stop, if it is one
+abbrev pub fault_of : ScalarStop → Option EntryFault
+fault_of (Fault k) = Some k
+fault_of (Need c) = None
+
+-- a fault at the place
+abbrev pub fault_at : ℕ → EntryFault → PlaceFault
+fault_at p k = record { place = p; kind = k }
+
+-- the stop is no fault at a place below
+abbrev pub IsNotBelow : ℕ → Stopped → Type 0
+IsNotBelow p s = (k : EntryFault) → fault_of s.stop ≡ Some k → p ≤ s.place
+
+-- no stop is a fault; or one of them is this fault, and none has a fault at a place below
+abbrev pub IsLeastFault : List Stopped → Option PlaceFault → Type 0
+IsLeastFault stops None = All (λ (s : Stopped). fault_of s.stop ≡ None) stops
+IsLeastFault stops (Some f) = Contains stops (stopped f.place (Fault f.kind)) × All (IsNotBelow f.place) stops
+
+-- the lesser of a fault and a stop, where that is a fault at a lower place
+abbrev pub lesser_fault : Option PlaceFault → ℕ → ScalarStop → Option PlaceFault
+lesser_fault least p (Need c) = least
+lesser_fault None p (Fault k) = Some (fault_at p k)
+lesser_fault (Some f) p (Fault k) = if nat_le f.place p then Some f else Some (fault_at p k)
+
+-- ---- marks of the places of a block
+
+-- how many places the block has, and for each that a block can have whether it is marked
+pub record MarksView : Type 0 where
+  pub count : ℕ
+  pub marks : List Bool
+
+-- the list with its first places marked
+abbrev pub marked_to : ℕ → List Bool → List Bool
+marked_to zero marks = marks
+marked_to (suc n) [] = []
+marked_to (suc n) (m ∷ marks) = true ∷ marked_to n marks
+
+-- the marks of a block of so many places, by those that are written: none need be where all of it is marked
+abbrev pub marks_of : Extent → ℕ → List Bool → List Bool
+marks_of Extent.Nothing count written = written
+marks_of Extent.Some count written = written
+marks_of Extent.All count written = marked_to count written
+
+-- unless some places are marked and others may not be, none is written
+abbrev pub IsBare : Extent → List Bool → Type 0
+IsBare Extent.Some written = Unit {0}
+IsBare e written = (p : ℕ) → is_marked written p ≡ false
+
+-- and none behind the block
+pub record AreWrittenMarks (e : Extent) (count : ℕ) (written : List Bool) : Type 0 where
+  pub within : count ≤ length written
+  pub behind : (p : ℕ) → count ≤ p → is_marked written p ≡ false
+  pub bare : IsBare e written

@@ -2,7 +2,7 @@
 ghost use Rattle.std.specs.Prelude.{◌≡◌, ◌<◌, ◌≤◌, ◌+◌, ℕ, ◌||◌, not, true, false, length, count_by, IfOk};
 ghost use Rattle.std.specs.List.{filter, range_with_len};
 ghost use Rattle.expr_lanes.specs.{AreRising, EachPlace, HasMarks, is_in, is_known, is_marked};
-ghost use Rattle.block_cache.specs.BlockMarks.{AreWrittenMarks};
+ghost use Rattle.block_cache.specs.Values.{AreWrittenMarks, marked_to};
 
 use expr_lanes::{Known, Selection};
 use rdf_values::Memory;
@@ -27,7 +27,7 @@ pub(crate) struct BlockMarks {
 }
 
 impl Model for BlockMarks {
-    ghost use Rattle.block_cache.specs.BlockMarks.{AreWrittenMarks, MarksView, marks_of};
+    ghost use Rattle.block_cache.specs.Values.{AreWrittenMarks, MarksView, marks_of};
 
     ghost Value = { MarksView };
 
@@ -52,7 +52,7 @@ impl BlockMarks {
     }
 
     /// Begins a block of so many places, none of which is marked.
-    #[tactic(auto, using(crate::proofs::LaneSteps::written, crate::proofs::Marking::long_seen))]
+    #[tactic(auto, using(crate::proofs::LaneSteps::written, crate::proofs::LaneSteps::long_seen))]
     pub(crate) fn begin(&mut self, count: usize)
         requires { count ≤ length self.old.marks }
         ensures count { self.new.count ≡ count }
@@ -65,7 +65,7 @@ impl BlockMarks {
     }
 
     /// Marks the selected places.
-    #[tactic(auto, using(crate::proofs::Marking::still_marked, crate::proofs::Marking::all_seen, crate::proofs::Marking::nothing_is, crate::proofs::Marking::marked_long, crate::proofs::Marking::long_seen, crate::proofs::Marking::whole_marked, crate::proofs::Marking::whole_newly))]
+    #[tactic(auto, using(crate::proofs::LaneSteps::still_marked, crate::proofs::LaneSteps::all_seen, crate::proofs::LaneSteps::nothing_is, crate::proofs::LaneSteps::marked_long, crate::proofs::LaneSteps::long_seen, crate::proofs::LaneSteps::whole_marked, crate::proofs::LaneSteps::whole_newly))]
     pub(crate) fn mark(&mut self, selection: &Selection)
         requires { EachPlace selection.now (λ p. p < self.old.count) }
         ensures count { self.new.count ≡ self.old.count }
@@ -90,7 +90,7 @@ impl BlockMarks {
     }
 
     /// Leaves the places selected that aren't marked.
-    #[tactic(auto, using(crate::proofs::LaneSteps::filter_all, crate::proofs::Marking::nothing_seen, crate::proofs::LaneSteps::filter_none, crate::proofs::Marking::all_seen))]
+    #[tactic(auto, using(expr_lanes::proofs::Composed::filter_all, crate::proofs::LaneSteps::nothing_seen, crate::proofs::LaneSteps::filter_none, crate::proofs::LaneSteps::all_seen))]
     pub(crate) fn keep_unmarked(&self, selection: &mut Selection)
         requires { EachPlace selection.old (λ p. p < self.now.count) }
         ensures { selection.new ≡ filter (λ p. not (is_marked self.now.marks p)) selection.old }
@@ -103,7 +103,7 @@ impl BlockMarks {
     }
 
     /// Whether each selected place is marked.
-    #[tactic(auto, using(crate::proofs::Marking::all_seen))]
+    #[tactic(auto, using(crate::proofs::LaneSteps::all_seen))]
     pub(crate) fn has_all(&self, selection: &Selection) -> bool
         requires { EachPlace selection.now (λ p. p < self.now.count) }
         ensures marked { result ≡ true → EachPlace selection.now (λ p. is_marked self.now.marks p ≡ true) }
@@ -116,7 +116,7 @@ impl BlockMarks {
     }
 
     /// Whether a place is marked.
-    #[tactic(auto, using(crate::proofs::Marking::all_seen))]
+    #[tactic(auto, using(crate::proofs::LaneSteps::all_seen))]
     pub(crate) fn has(&self, place: u32) -> bool
         requires { place < self.now.count }
         ensures { result ≡ is_marked self.now.marks place }
@@ -128,7 +128,7 @@ impl BlockMarks {
     }
 
     /// The places, as those at which a column is known.
-    #[tactic(auto, using(crate::proofs::Marking::all_seen))]
+    #[tactic(auto, using(crate::proofs::LaneSteps::all_seen))]
     pub(crate) fn known(&self) -> Known<'_>
         ensures marks { HasMarks self.now.count result }
         ensures known { (p : ℕ) → p < self.now.count → is_known result p ≡ is_marked self.now.marks p }
@@ -160,7 +160,7 @@ fn is_whole(selection: &Selection, count: usize) -> bool
 }
 
 /// Marks the places of a list.
-#[tactic(auto, using(crate::proofs::Marking::marked_to_none, crate::proofs::Marking::marked_all, std::proofs::lemmas::List::take_all, crate::proofs::Marking::newly_all))]
+#[tactic(auto, using(crate::proofs::LaneSteps::marked_to_none, crate::proofs::LaneSteps::marked_all, std::proofs::lemmas::List::take_all, crate::proofs::LaneSteps::newly_all))]
 fn mark_listed(places: &[u32], marks: &mut [bool])
     requires inside { EachPlace places.now (λ p. p < length marks.old) }
     requires rising { AreRising places.now }
@@ -173,10 +173,10 @@ fn mark_listed(places: &[u32], marks: &mut [bool])
 }
 
 /// Marks the first places.
+#[tactic(auto, using(crate::proofs::LaneSteps::marked_set))]
 fn mark_first(count: usize, marks: &mut [bool])
     requires { count ≤ length marks.old }
-    ensures marked { (p : ℕ) → is_marked marks.new p ≡ (is_in p (range_with_len 0 count) || is_marked marks.old p) }
-    ensures newly { count_by (λ b. b) marks.new ≡ count_by (λ b. b) marks.old + count_by (λ p. not (is_marked marks.old p)) (range_with_len 0 count) }
+    ensures { marks.new ≡ marked_to count marks.old }
 {
     for i in 0..count {
         marks[i] = true;
@@ -196,7 +196,7 @@ pub(crate) fn mark(selection: &Selection, marks: &mut [bool])
 }
 
 /// Whether each selected place is marked.
-#[tactic(auto, using(std::proofs::lemmas::List::take_all, expr_lanes::proofs::Selected::is_in_at, expr_lanes::proofs::Selected::in_more, std::proofs::lemmas::List::take_more))]
+#[tactic(auto, using(std::proofs::lemmas::List::take_all, expr_lanes::proofs::Composed::is_in_at, expr_lanes::proofs::Composed::in_more, std::proofs::lemmas::List::take_more))]
 pub(crate) fn are_marked(selection: &Selection, marks: &[bool]) -> bool
     requires { EachPlace selection.now (λ p. p < length marks.now) }
     ensures marked { result ≡ true → EachPlace selection.now (λ p. is_marked marks.now p ≡ true) }

@@ -46,7 +46,7 @@ fn turn(
 }
 
 /// Evaluates at the places of a list, in a step each: writes the value of each that comes to one, and marks the others.
-#[tactic(auto, using(crate::proofs::EachPlaces::written_on, expr_lanes::proofs::Selected::is_in_at))]
+#[tactic(auto, using(crate::proofs::LaneSteps::written_on, expr_lanes::proofs::Composed::is_in_at))]
 pub(crate) fn each_place<L: Ledger>(
     evaluation: &SiteValues<'_>,
     places: &[u32],

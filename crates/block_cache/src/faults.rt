@@ -14,7 +14,7 @@ pub struct PlaceFault {
 }
 
 /// The fault of the least place that has one.
-#[tactic(auto, using(crate::proofs::StopLists::least_next, std::proofs::lemmas::List::take_all))]
+#[tactic(auto, using(crate::proofs::LaneSteps::least_next, std::proofs::lemmas::List::take_all))]
 pub fn least_fault(stops: &[Stopped]) -> Option<PlaceFault>
     ensures { IsLeastFault stops.now result }
 {

@@ -7,7 +7,7 @@ ghost use Rattle.entry_fns.specs.{functions_in};
 ghost use Rattle.expr_check.specs.{CallsFit, is_plain, is_vector};
 ghost use Rattle.expr_eval.specs.{input_outcome};
 ghost use Rattle.expr_lanes.specs.{CanLane, depth, EachPlace, HasMarks, is_known, IsSelected};
-ghost use Rattle.block_cache.specs.OverBlocks.{AreReadOver, CallsFitOver, FitAt, outcome_over};
+ghost use Rattle.block_cache.specs.ForSites.{AreReadOver, CallsFitOver, FitAt, outcome_over};
 ghost use Rattle.block_cache.specs.Lanes.{is_held, room_of, value_of, AreNumbers, IsBegun, IsEvaluated, IsSameLane, IsUnknown, LaneView};
 
 use crate::block_marks::BlockMarks;
@@ -48,7 +48,7 @@ impl Model for Lane {
 
 impl Lane {
     /// The lane of a key, with all the memory that it takes for blocks of so many places, but for vectors.
-    #[tactic(auto, using(crate::proofs::Marking::count_none))]
+    #[tactic(auto, using(crate::proofs::LaneSteps::count_none))]
     pub fn new(alloc: Global, kind: ColType, room: usize) -> Result<Lane, Memory>
         requires { room ≤ MAX_PLACES }
         ensures kind { IfOk result (λ l. l.kind ≡ kind) }
@@ -71,7 +71,7 @@ impl Lane {
     }
 
     /// Begins a block of so many places, of which nothing is known yet.
-    #[tactic(auto, using(crate::proofs::Marking::count_none, crate::proofs::LaneSteps::unknown_lane))]
+    #[tactic(auto, using(crate::proofs::LaneSteps::count_none, crate::proofs::LaneSteps::unknown_lane))]
     pub fn begin(&mut self, count: usize)
         requires { count ≤ room_of self.old }
         ensures same { IsSameLane self.old self.new }
@@ -174,7 +174,7 @@ impl Lane {
 
     /// Evaluates the key at one selected place after another, in a step each. Where memory is wanted, what is held stays.
     #[inline(never)]
-    #[tactic(auto, using(expr_lanes::proofs::Sequence::filtered_in))]
+    #[tactic(auto, using(expr_lanes::proofs::Composed::filtered_in))]
     pub(crate) fn evaluate_each<L: Ledger>(
         &mut self,
         evaluation: &SiteValues<'_>,

@@ -64,7 +64,7 @@ fn site_of(block: &Block<'_>, version: u32) -> Option<u32>
 }
 
 /// The key of that site.
-#[tactic(auto, using(crate::proofs::LeadLaws::key_site, crate::proofs::LeadLaws::element_site))]
+#[tactic(auto, using(crate::proofs::UnderwayLaws::key_site, crate::proofs::UnderwayLaws::element_site))]
 fn key_read(block: &Block<'_>, version: u32) -> Option<usize>
     requires { version < length (graph_versions (block_graph block.now)) }
     ensures { IfSome result (λ k. (t : ℕ) × IsSiteOf t (source_over block.now version) × (k ≡ key_over block.now t)) }

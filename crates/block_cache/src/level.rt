@@ -1,9 +1,8 @@
 // What one level of nesting needs while a site is filled.
-ghost use Rattle.std.specs.Prelude.{◌≡◌, ◌<◌, ℕ, not, true, Some, nat_eq, length, slice_index, All, Contains};
+ghost use Rattle.std.specs.Prelude.{◌≡◌, ◌<◌, not, true, nat_eq, length, slice_index, All};
 ghost use Rattle.std.specs.List.{filter};
-ghost use Rattle.expr_eval.specs.declared.stop.ScalarStop.TheVariants.{Need};
-ghost use Rattle.expr_lanes.specs.{EachPlace, is_in, is_marked, stopped, Stopped as StoppedPlace};
-ghost use Rattle.block_cache.specs.{need_at};
+ghost use Rattle.expr_lanes.specs.{EachPlace, is_in, is_marked, Stopped as StoppedPlace};
+ghost use Rattle.block_cache.specs.{need_at, noted_at, noted_in};
 
 use arrayvec::ArrayVec;
 use expr_eval::ScalarStop;
@@ -32,7 +31,7 @@ impl Level {
     }
 
     /// Groups the lacking places that wait for the same version as the first of them, and answers that version.
-    #[tactic(auto, using(expr_lanes::proofs::SiftSteps::filter_alike, crate::proofs::Members::twice_not))]
+    #[tactic(auto, using(expr_lanes::proofs::Composed::filter_alike, crate::proofs::LaneSteps::twice_not))]
     pub(crate) fn next_group(&mut self) -> u32
         requires some { 0 < length self.old.lacking }
         requires inside { EachPlace self.old.lacking (λ p. p < MAX_PLACES) }
@@ -62,15 +61,24 @@ fn mark_others(places: &[u32], needs: &[u32], version: u32, others: &mut [bool])
     }
 }
 
+/// Notes which version a place waits for, where it stopped at one.
+#[inline(always)]
+fn note_need(stop: Stopped, needs: &mut [u32])
+    requires { stop.place < length needs.old }
+    ensures { needs.new ≡ noted_at needs.old stop.place stop.stop }
+{
+    if let ScalarStop::Need(version) = stop.stop {
+        needs[stop.place as usize] = version;
+    }
+}
+
 /// Notes for each place that stopped at a missing version which one it is.
+#[tactic(auto, using(std::proofs::lemmas::List::Sums::fold_more, std::proofs::lemmas::List::take_all))]
 pub(crate) fn note_needs(stops: &[Stopped], needs: &mut [u32])
     requires { All (λ (s : StoppedPlace). s.place < length needs.old) stops.now }
-    ensures noted { (p c : ℕ) → Contains stops.now (stopped p (Need c)) → ((x : StoppedPlace) → Contains stops.now x → x.place ≡ p → x.stop ≡ Need c) → need_at needs.new p ≡ c }
-    ensures others { (p : ℕ) → ((x : StoppedPlace) → Contains stops.now x → x.place ≡ p → ⊥) → need_at needs.new p ≡ need_at needs.old p }
+    ensures { needs.new ≡ noted_in needs.old stops.now }
 {
     for i in 0..stops.len() {
-        if let ScalarStop::Need(version) = stops[i].stop {
-            needs[stops[i].place as usize] = version;
-        }
+        note_need(stops[i], needs);
     }
 }

@@ -1,12 +1,13 @@
 // The columns of an evaluation at one place of a block, by what is held.
 ghost use Rattle.std.specs.Prelude.{◌≡◌, ◌<◌, ◌+◌, ℕ, Some, length, slice_get};
 ghost use Rattle.rdf_values.specs.{kind_at};
+ghost use Rattle.rdf_model.specs.{◌>>=◌ as ◌>>>◌, tag_element};
 ghost use Rattle.rdf_values.specs.declared.tables.value.ColType.TheVariants as kind;
 ghost use Rattle.expr_eval.specs.{input_outcome};
 ghost use Rattle.block_cache.specs.Lanes.{LaneView};
 ghost use Rattle.loop_keys.specs.{held_in, held_or_need};
-ghost use Rattle.block_cache.specs.Blocks.{cells_at, element_of};
-ghost use Rattle.block_cache.specs.OverBlocks.{HasNumbersOver, IsReadOver, cell_over, columns_over, look_over};
+ghost use Rattle.block_cache.specs.Blocks.{cells_at};
+ghost use Rattle.block_cache.specs.ForSites.{HasNumbersOver, IsReadOver, cell_over, columns_over, look_over};
 
 use crate::Lane;
 use crate::block::Block;
@@ -57,7 +58,7 @@ pub(crate) fn look<'a: 's, 's>(
 }
 
 /// The value of a column at a place: a number as it was loaded, or the elements where the table has them.
-#[tactic(auto, using(loop_keys::proofs::TableLaws::not_stored))]
+#[tactic(auto, using(loop_keys::proofs::ActionLaws::not_stored))]
 fn cell<'a>(block: &Block<'a>, place: u32, col: u32) -> Input<'a>
     requires place { place < block.now.count }
     requires column { col < length (columns_over block.now) }
@@ -83,7 +84,7 @@ fn known(lanes: &[Lane], key: usize, place: u32) -> Input<'_>
 
 /// What is known of the element of a vector at the place of a tag among so many.
 fn element<'s>(vector: Input<'s>, place: u32, tags: u32) -> Input<'s>
-    ensures { (c : ℕ) → input_outcome c result ≡ element_of (input_outcome c vector.entry) place tags }
+    ensures { (c : ℕ) → input_outcome c result ≡ (input_outcome c vector.entry >>> tag_element tags place) }
 {
     match vector {
         Input::Vect(zs) if zs.len() != tags as usize => Input::Faulted(EntryFault::VaryCount),

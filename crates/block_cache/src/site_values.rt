@@ -4,7 +4,7 @@ ghost use Rattle.rdf_values.specs.{ColType as KindOf, FitsKind};
 ghost use Rattle.expr_check.specs.{is_plain};
 ghost use Rattle.expr_eval.specs.{AnswersAs, scalar_outcome, scalar_value};
 ghost use Rattle.block_cache.specs.Values.{IsScalarAnswer};
-ghost use Rattle.block_cache.specs.OverBlocks.{AreReadOver, CallsFitOver, FitAt, outcome_over};
+ghost use Rattle.block_cache.specs.ForSites.{AreReadOver, CallsFitOver, FitAt, outcome_over};
 
 use crate::place_view::PlaceView;
 use crate::view::BlockView;

@@ -51,7 +51,7 @@ impl Vectors {
     }
 
     /// Appends a vector, and answers its number.
-    #[tactic(auto, using(crate::proofs::VectorLists::kept_all, crate::proofs::VectorLists::grown, crate::proofs::VectorLists::pushed))]
+    #[tactic(auto, using(crate::proofs::LaneSteps::kept_all, crate::proofs::LaneSteps::grown, crate::proofs::LaneSteps::pushed))]
     pub(crate) fn push(&mut self, vector: &[i64]) -> Result<i64, Memory>
         ensures pushed { OnOk result (self.new ≡ self.old ++ vector.now ∷ []) }
         ensures number { IfOk result (λ n. n ≡ pos (length self.old)) }

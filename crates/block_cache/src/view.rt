@@ -1,6 +1,6 @@
 // The columns of an evaluation over a block, by what is held.
 ghost use Rattle.std.specs.Prelude.{◌<◌};
-ghost use Rattle.block_cache.specs.OverBlocks.{IsReadOver, IsWholeOver, look_over};
+ghost use Rattle.block_cache.specs.ForSites.{IsReadOver, IsWholeOver, look_over};
 
 use crate::Lane;
 use crate::block::Block;

@@ -1,4 +1,1 @@
-pub mod Batches
-pub mod BlockCuts
-pub mod BlockFaults
 pub mod Costs

@@ -1,42 +1,32 @@
 -- What a slot reserves stays what it was while a block is tried, and a block that was searched without a fault is taken in.
-use Rattle.std.proofs.Common.{◌≡◌, ℕ, List, [], ◌∷◌, length, sym, ◌∙◌, ap, subst, ℤ, if◌then◌else◌, ◌+◌, ◌<◌, ◌≤◌, true, false, All, Option, Some, None, refl, arith, slice_get, inl, inr, zero, suc, ◌-◌, ◌*◌, Bool, map, take, unwrap_or, slice_index_or, count_by, get_or, slice_range, Err}
-use Rattle.lemmas.proofs.{All-from_recursion, All-weaker, AllByRecursion, cases_lt, get_or-map, get_or-take, get_or_past, length-map, never_true, range_length, slice_get_within, sum_by-cons, take_at_most, map_length, something_at}
-use Rattle.rdf_values.specs.{ColType, EachColumn, history, Value, Fault, Span}
-use Rattle.block_cache.specs.{AreReady, AreUnknown, begun_at, begun_count, CanFill, HaveRoom, held_value, is_tried, IsLoaded, IsUnknown, kinds_of, lane_begun, LaneView, room_of, rooms_of, size_for, tried_count, value_of}
-use Rattle.loop_keys.specs.{AreKeys, AreReadable, entry_demands, Held, IsJob, IsRight, job_graph, JobView, key, key_count, keys_in, passes_in, row_of, site_in, source_at, facts_in, job_spans}
-use Rattle.graph_numbers.specs.{graph_sites, graph_under, GraphView, IsBelow, SiteAt, Source, version_count, graph_filters}
-use Rattle.block_passes.specs.{after_block, AreDeepEnough, AreLoaded, at_end, at_entry, at_filter, at_pass, block_demands, block_rows, BlockStop, CanSelect, CanServe, CanServeAll, demands_in, entries_from, Found, HaveCells, HaveKinds, IsAmid, IsBefore, IsBegunBlock, IsBlockAnswer, IsBlockOf, IsClear, IsClusterAnswer, IsFilterStep, IsMadeAt, IsOverAll, IsPlan, IsPlanMade, IsReadyBelow, IsSearchedTo, IsServable, IsStateOf, Kept, longer, PlanView, span_demands, Spends, StateView, Step}
-use Rattle.rdf_model.proofs.KnownColumns.{each_weaker}
-use Rattle.expr_lanes.specs.declared.TheConstants.{MAX_PLACES}
-use Rattle.graph_numbers.proofs.Equations.{columns_below}
+use Rattle.lemmas.proofs.{◌≡◌, ℕ, List, [], ◌∷◌, length, sym, ◌∙◌, ap, subst, ℤ, if◌then◌else◌, ◌+◌, ◌<◌, ◌≤◌, true, false, All, Option, Some, None, refl, arith, slice_get, inl, inr, zero, suc, ◌-◌, ◌*◌, Bool, map, take, unwrap_or, slice_index_or, count_by, get_or, slice_range, Err, All-from_recursion, All-weaker, AllByRecursion, cases_lt, get_or-map, get_or-take, get_or_past, length-map, false_from_ne_true, range_length, slice_get_within, sum_by-cons, take_at_most, map_length}
+use Rattle.rdf_values.specs.{ColType, EachColumn, history, Value, Span}
+use Rattle.block_cache.specs.{AreReady, AreUnknown, begun_at, begun_count, CanFill, IsLoaded, IsUnknown, kinds_of, LaneView, room_of, rooms_of, tried_count}
+use Rattle.loop_keys.specs.{AreReadable, entry_demands, Held, IsJob, IsRight, job_graph, JobView, key, key_count, keys_in, passes_in, row_of, site_in, source_at, facts_in, job_spans}
+use Rattle.graph_numbers.specs.{graph_sites, graph_under, IsBelow, SiteAt, Source, version_count, graph_filters}
+use Rattle.block_passes.specs.{after_block, AreDeepEnough, AreLoaded, at_end, at_entry, at_filter, at_pass, block_demands, block_rows, BlockStop, CanSelect, CanServe, CanServeAll, demands_in, entries_from, Found, HaveCells, HaveKinds, IsAmid, IsBefore, IsBegunBlock, IsBlockAnswer, IsBlockOf, IsClear, IsClusterAnswer, IsFilterStep, IsMadeAt, IsOverAll, IsPlan, IsReadyBelow, IsSearchedTo, IsServable, IsStateOf, Kept, longer, PlanView, span_demands, Spends, StateView, Step}
+use Rattle.rdf_model.proofs.Typing.{each_weaker}
+use Rattle.graph_numbers.proofs.Closing.{columns_below}
 use Rattle.loop_keys.proofs.EvaluateLaws.{accepted_of}
-use Rattle.block_cache.proofs.BlockLaws.{held_of_lane, lane_held}
-use Rattle.block_cache.proofs.CanFills.{can_fill_site}
-use Rattle.block_passes.proofs.SiteKinds.{filter_kind, site_kinds}
-use Rattle.block_passes.proofs.Demanding.{action_at, all_get, site_there}
+use Rattle.block_cache.proofs.OverLaws.{held_of_lane, lane_held}
+use Rattle.block_cache.proofs.Attempts.{can_fill_site}
+use Rattle.block_passes.proofs.Demanding.{filter_kind, site_kinds, action_at, all_get, site_there}
 use Rattle.loop_keys.proofs.ActionLaws.{can_act}
-use Rattle.block_cache.proofs.Marking.{count_none}
+use Rattle.block_cache.proofs.LaneSteps.{count_none}
 use Rattle.expr_lanes.specs.{is_marked}
 use Rattle.block_laws.specs.{marked_at, marked_in, row_demands, cluster_demands, first_length, IsFirst, row_elements}
-use Rattle.block_laws.proofs.Batches.{marked_within}
-use Rattle.loop_keys.proofs.DemandSets.{few_keys, has_all, keys_of_all}
-use Rattle.block_passes.proofs.Searching.{row_in_block}
+use Rattle.block_laws.proofs.Costs.{marked_within, first_is, block_then_rest, count_goes_on}
+use Rattle.loop_keys.proofs.KeyLaws.{few_keys, has_all, keys_of_all}
+use Rattle.block_passes.proofs.PlanSteps.{row_in_block}
 use Rattle.rdf_model.specs.{first_fault_from, first_of, kinds_in, span_rows, spreads_of}
 use Rattle.cluster_tally.specs.{at_begin, block_begin, BlockStage, Holds, HoldsIn, Stage, TallyView}
 use Rattle.cluster_tally.proofs.BlockFeeds.{begins_block, ends_block}
 use Rattle.loop_keys.proofs.PassNumbers.{pass_of}
 use Rattle.block_passes.proofs.Feeding.{filters_many}
+use Rattle.block_passes.proofs.Selecting.{filters_made, read_inside}
 use Rattle.rdf_values.proofs.Evenly.{cuts_lead}
 use Rattle.columns.proofs.BlockSteps.{span_within}
 use Rattle.loop_pieces.specs.{cluster_fault}
-use Rattle.block_laws.proofs.BlockCuts.{first_is}
-use Rattle.block_laws.proofs.BlockFaults.{block_then_rest}
-use Rattle.block_laws.proofs.Costs.{count_goes_on}
-
-have_room : (n : ℕ) (before after : List LaneView) → rooms_of after ≡ rooms_of before → HaveRoom n before → HaveRoom n after
-have_room n before after e h i d low =
-    let there : i < length before = omega (arith, low, length-map after room_of, length-map before room_of, ap length e) in
-    sym (get_or-map room_of after i d 0 low) ∙ ap (λ ns. get_or ns i 0) e ∙ get_or-map room_of before i d 0 there ∙ h i d there
 
 -- lanes of the same kinds with as much room, and as many numbers, levels and selections
 pub state_stays : (j : JobView) (old : StateView) (cells : List (List ℤ)) (lanes : List LaneView) (scratch levels : ℕ) (found : Found) (kept : List Kept) → IsStateOf j old → length cells ≡ length old.cells → HaveCells old.size cells
@@ -52,7 +42,9 @@ state_stays j old cells lanes scratch levels found kept h columns room kinds roo
   cell_room = room;
   lanes = sym (length-map lanes (λ (l : LaneView). l.kind)) ∙ ap length kinds ∙ length-map old.lanes (λ (l : LaneView). l.kind) ∙ h.lanes;
   kinds = subst (λ (ks : List ColType). HaveKinds (job_graph j) (length (graph_sites (job_graph j))) ks) (sym kinds) h.kinds;
-  lane_room = have_room old.size old.lanes lanes rooms h.lane_room;
+  lane_room = λ i d low. (
+      let there : i < length old.lanes = omega (arith, low, length-map lanes room_of, length-map old.lanes room_of, ap length rooms) in
+      sym (get_or-map room_of lanes i d 0 low) ∙ ap (λ ns. get_or ns i 0) rooms ∙ get_or-map room_of old.lanes i d 0 there ∙ h.lane_room i d there);
   scratch = subst (λ (n : ℕ). AreDeepEnough (job_graph j) n) (sym deep) h.scratch;
   levels = high ∙ h.levels;
   kept = many ∙ h.kept;
@@ -62,18 +54,10 @@ state_stays j old cells lanes scratch levels found kept h columns room kinds roo
 
 module _ (count : ℕ) (lanes : List LaneView) (unknown : AreUnknown count lanes) where
   never_begun : (k p : ℕ) → begun_at lanes k p ≡ true → ⊥
-  never_begun k p begun = go (slice_get lanes k) refl begun
-    where
-      go : (o : Option LaneView) → slice_get lanes k ≡ o → lane_begun o p ≡ true → ⊥
-      go None q b = cc b
-      go (Some l) q b = let u = all_get (IsUnknown count) lanes unknown k l q in let n : is_tried l p ≡ false = u.tried p in cc (sym n ∙ b)
+  never_begun k p begun = grind (arith, λ (l : LaneView). all_get (IsUnknown count) lanes unknown k l)
 
   nothing_held : (k p : ℕ) → lane_held (slice_get lanes k) p ≡ Held.Nothing
-  nothing_held k p = go (slice_get lanes k) refl
-    where
-      go : (o : Option LaneView) → slice_get lanes k ≡ o → lane_held o p ≡ Held.Nothing
-      go None q = refl
-      go (Some l) q = let u = all_get (IsUnknown count) lanes unknown k l q in ap (λ b. if b then held_value (value_of l p) else Held.Nothing) (u.held p)
+  nothing_held k p = grind (arith, λ (l : LaneView). all_get (IsUnknown count) lanes unknown k l)
 
   pub unknown_ready : (j : JobView) (first : ℕ) → length lanes ≡ key_count (job_graph j) → 0 < count → first + count ≤ length j.dataset.rows → AreReady j first count lanes
   unknown_ready j first many some within = record {
@@ -87,26 +71,6 @@ module _ (count : ℕ) (lanes : List LaneView) (unknown : AreUnknown count lanes
     };
   }
 
--- all that is made for the graph of a job
-pub state_new : (j : JobView) (g : GraphView) → g ≡ job_graph j → (s : StateView) (keys : ℕ) → AreKeys g s.rows × (keys ≡ key_count g) → s.size ≡ size_for keys → 1 ≤ s.size → s.size ≤ MAX_PLACES → IsPlan j s.plan
-    → length s.cells ≡ length j.dataset.columns → HaveCells s.size s.cells → (kinds : List ColType) → length kinds ≡ key_count g → HaveKinds g (length (graph_sites g)) kinds → kinds_of s.lanes ≡ kinds → HaveRoom s.size s.lanes
-    → AreDeepEnough g s.scratch → s.levels ≡ length (graph_sites g) → length s.kept ≡ length s.plan.steps → IsStateOf j s
-state_new j g is s keys rows size least most plan cells cell_room kinds many have lanes room scratch levels kept = record {
-  size = size ∙ ap size_for (rows.1 ∙ ap key_count is);
-  least = least;
-  most = most;
-  plan = plan;
-  rows = subst (λ (v : GraphView). AreKeys v s.rows) is rows.0;
-  cells = cells;
-  cell_room = cell_room;
-  lanes = sym (length-map s.lanes (λ (l : LaneView). l.kind)) ∙ ap length lanes ∙ many ∙ ap key_count is;
-  kinds = subst (λ (v : GraphView). HaveKinds v (length (graph_sites v)) (kinds_of s.lanes)) is (subst (λ (ks : List ColType). HaveKinds g (length (graph_sites g)) ks) (sym lanes) have);
-  lane_room = room;
-  scratch = subst (λ (v : GraphView). AreDeepEnough v s.scratch) is scratch;
-  levels = levels ∙ ap (λ (v : GraphView). length (graph_sites v)) is;
-  kept = kept;
-}
-
 module _ (j : JobView) (job : IsJob j) (first count : ℕ) (s : StateView) (state : IsStateOf j s) (some : 0 < count) (within : first + count ≤ length j.dataset.rows) (unknown : AreUnknown count s.lanes)
     (unmade : All (λ (k : Kept). k.limit ≡ None) s.kept) (loaded : AreLoaded j first count s.cells) where
   begun_ready : (p : IsPlan j s.plan) → IsReadyBelow j first count p.chains count s.lanes s.kept
@@ -115,7 +79,7 @@ module _ (j : JobView) (job : IsJob j) (first count : ℕ) (s : StateView) (stat
     settled = λ q low k begun. absurd (never_begun count s.lanes unknown k q begun);
     kept_are = record {
       many = state.kept ∙ sym p.steps.many;
-      each = λ k made c m its at limit. (let e : None ≡ Some made = sym (all_get (λ (x : Kept). x.limit ≡ None) s.kept unmade k m at) ∙ limit in cc e);
+      each = λ k made m at limit. (let e : None ≡ Some made = sym (all_get (λ (x : Kept). x.limit ≡ None) s.kept unmade k m at) ∙ limit in cc e);
     };
     within = omega arith;
   }
@@ -160,7 +124,7 @@ module _ (j : JobView) (job : IsJob j) (first count : ℕ) (s : StateView) (stat
       each (c ∷ cs) h = ((h.0.0, servable (source_at j u c) h.0.1), each cs h.1)
 
   pub is_begun : s.found ≡ record { limit = count; best = None } → IsBegunBlock j first count s
-  is_begun found = record { found = found; unknown = unknown; unmade = unmade; ready = begun_ready; loaded = loaded; select = select; serve = serve }
+  is_begun found = record { found = found; unknown = unknown; ready = begun_ready; select = select; serve = serve }
 
 -- ---- Over a block of which nothing was known no more evaluations are begun than its entries demand.
 
@@ -173,7 +137,7 @@ own l = count_by (λ b. b) l
 -- all that are marked are among the first
 front_counts : (bs : List Bool) (n : ℕ) → ((p : ℕ) → is_marked bs p ≡ true → p < n) → own bs ≤ own (take n bs)
 front_counts [] n h = let e : own [] ≡ 0 = refl in omega (arith, e)
-front_counts (b ∷ bs) zero h = let e = count_none (b ∷ bs) (λ p. never_true (is_marked (b ∷ bs) p) (λ q. let l = h p q in omega (arith, l))) in omega (arith, e)
+front_counts (b ∷ bs) zero h = let e = count_none (b ∷ bs) (λ p. false_from_ne_true (is_marked (b ∷ bs) p) (λ q. let l = h p q in omega (arith, l))) in omega (arith, e)
 front_counts (b ∷ bs) (suc n) h =
     let a = sum_by-cons mark b bs in let c = sum_by-cons mark b (take n bs) in
     let r = front_counts bs n (λ p q. (let l = h (suc p) q in omega (arith, l))) in omega (arith, a, c, r)
@@ -236,23 +200,20 @@ module _ (j : JobView) (first count : ℕ) (before after : List LaneView) (start
       let c : entry_demands j (first + i) ≡ row_demands j.dataset (passes_in j) row = ap (row_demands j.dataset (passes_in j)) same in
       omega (arith, a, b, c)
 
-  few_begun : begun_count after ≤ block_demands j (entries_from first count)
-  few_begun =
+  -- at most two evaluations were made for each pair that is demanded
+  pub spent_few : end ≤ start + 2 * block_demands j (entries_from first count)
+  spent_few =
       let a = fronts count after (λ k p e. (newly k p e).0) in
       let l = long in
       let b : marked_in (map (front count) after) ≤ block_demands j (entries_from first count) =
       marked_within (map (front count) after) rows (row_demands j.dataset (passes_in j))
       (All-from_recursion (λ (x : List Bool). length x ≤ length rows) (map (front count) after) (short_fronts count (length rows) (omega (arith, l)) after)) row_few in
-      omega (arith, a, b)
-
-  -- at most two evaluations were made for each pair that is demanded
-  pub spent_few : end ≤ start + 2 * block_demands j (entries_from first count)
-  spent_few = let c = spends.cost in let f = few_begun in omega (arith, c, f)
+      let c = spends.cost in omega (arith, a, b, c)
 
 -- ---- the search
 
-module _ (j : JobView) (first count : ℕ) (plan : PlanView) (p : IsPlan j plan) (lanes : List LaneView) (kept : List Kept) (s : Found)
-    (h : IsSearchedTo j first count p.chains (length (passes_in j)) lanes kept s) (made : IsPlanMade j count plan kept) (none : s.best ≡ None) where
+module _ (j : JobView) (job : IsJob j) (first count : ℕ) (plan : PlanView) (p : IsPlan j plan) (lanes : List LaneView) (kept : List Kept) (s : Found)
+    (h : IsSearchedTo j first count plan p.chains (length (passes_in j)) lanes kept s) (none : s.best ≡ None) where
   whole : s.limit ≡ count
   whole = h.searched.whole none
 
@@ -263,10 +224,7 @@ module _ (j : JobView) (first count : ℕ) (plan : PlanView) (p : IsPlan j plan)
   over : (k : ℕ) → IsMadeAt count kept k → IsOverAll count kept k
   over k is m at =
       let w = is m at in
-      let low = slice_get_within kept k m at in
-      let many = ready.kept_are.many in
-      let c = something_at p.chains k (omega (arith, low, many)) in
-      let under = (ready.kept_are.each k w.0 c.0 m c.1 at w.1).under in
+      let under = (ready.kept_are.each k w.0 m at w.1).under in
       let le = w.2 in
       let same : w.0 ≡ count = omega (arith, under, le) in w.1 ∙ ap Some same
 
@@ -275,12 +233,12 @@ module _ (j : JobView) (first count : ℕ) (plan : PlanView) (p : IsPlan j plan)
     ready = ready.ready;
     countable = record {
       kept_are = ready.kept_are;
-      above = λ f x named its at. over named.above (made.filters f x its named at).0;
-      own = λ f x named its at. over named.own (made.filters f x its named at).1;
+      above = λ f x named its at. over named.above (filters_made j job count plan p kept h.made f x its named at).0;
+      own = λ f x named its at. over named.own (filters_made j job count plan p kept h.made f x its named at).1;
     };
     clear = λ n q inside lt. (let w = whole in h.searched.clear q n (omega (arith, lt, w)) inside);
     read = λ n m r k of q lt passed. (let w = whole in h.read n (slice_get_within (passes_in j) n _ (pass_of j n m of.its_pass r of.its_result)) m r k of q (omega (arith, lt, w)) passed);
-    over = λ n k inputs u own last its. over last (made.actions n k inputs u own last its);
+    over = λ n k inputs u own last its. over last ((h.made n (read_inside j n k inputs u own)).action k inputs u own last its);
   }
 
 -- ---- the stages of a tally
@@ -361,12 +319,6 @@ module _ (j : JobView) (job : IsJob j) (cluster size keys : ℕ) (some : 1 ≤ s
         ≡ first_of (first_fault_from j.dataset lo (block_rows j b) (passes_in j)) (first_fault_from j.dataset hi (slice_range j.dataset.rows hi span.hi) (passes_in j))
     rest_fault = block_then_rest j.dataset j.dataset.rows (passes_in j) lo hi span.hi (let m = has_entry in omega (arith, m)) within ends_within
 
-    counts : ((e : ℕ) (f : Fault) → first_fault_from j.dataset e (block_rows j b) (passes_in j) ≡ Some f → all_demands lo ≡ block_demands j b)
-        × ((e : ℕ) → first_fault_from j.dataset e (block_rows j b) (passes_in j) ≡ None → all_demands lo ≡ block_demands j b + all_demands hi)
-        × (block_demands j b ≤ all_demands lo)
-        × (cluster_demands j.dataset (passes_in j) size keys span.hi span.hi ≡ 0)
-    counts = count_goes_on j.dataset (passes_in j) size keys lo hi span.hi lt ends_within is within
-
     -- the block has no fault, and was taken in
     pub at_next : (now : TallyView) (last : ℕ)
         → ((watched done : List ℕ) → IsBefore j watched (at_entry done cluster (lo - span.lo)) cluster b tally → Holds (facts_in j) watched (after_block (at_entry done cluster (lo - span.lo)) b) now)
@@ -378,7 +330,7 @@ module _ (j : JobView) (job : IsJob j) (cluster size keys : ℕ) (some : 1 ≤ s
           let e : lo - span.lo + (hi - lo) ≡ hi - span.lo = omega (arith, f, m) in
           subst (λ (n : ℕ). Holds (facts_in j) watched (at_entry done cluster n) now) e (holds watched done (before watched done h)));
       fault = at.fault ∙ rest_fault ∙ ap (λ o. first_of o (first_fault_from j.dataset hi (slice_range j.dataset.rows hi span.hi) (passes_in j))) none;
-      cost = (let c = counts.1 lo none in let a = at.cost in omega (arith, c, a, bound));
+      cost = (let c = (count_goes_on j.dataset (passes_in j) size keys lo hi span.hi lt ends_within is within).1 lo none in let a = at.cost in omega (arith, c, a, bound));
       from = (let f = at.from in let m = has_entry in omega (arith, f, m));
       to = within;
     }
@@ -387,7 +339,7 @@ module _ (j : JobView) (job : IsJob j) (cluster size keys : ℕ) (some : 1 ≤ s
     pub cost_here : (last : ℕ) → last ≤ steps + 2 * block_demands j b → last ≤ start + 2 * span_demands j size keys cluster
     cost_here last bound =
         let e : span_demands j size keys cluster ≡ all_demands span.lo = ap (demands_in j size keys) its in
-        let c = counts.2 in let a = at.cost in omega (arith, c, a, e, bound)
+        let c = (count_goes_on j.dataset (passes_in j) size keys lo hi span.hi lt ends_within is within).2 in let a = at.cost in omega (arith, c, a, e, bound)
 
     pub answer_here : (why : BlockStop) → IsBlockAnswer j b (Err why) → IsClusterAnswer j cluster (Err why)
     answer_here why h = grind (arith, rest_fault)
@@ -395,18 +347,11 @@ module _ (j : JobView) (job : IsJob j) (cluster size keys : ℕ) (some : 1 ≤ s
   -- ---- the end
 
   module _ (first : TallyView) (start lo : ℕ) (tally : TallyView) (steps : ℕ) (at : IsAtBlock j cluster size keys span first start lo tally steps) (end : span.hi ≤ lo) where
-    all_rows : lo - span.lo ≡ length (span_rows (map (spreads_of j.dataset (passes_in j)) j.dataset.rows) (slice_get (job_spans j) cluster))
-    all_rows = grind (arith, at.to, ends_within, length-map, range_length)
-
     pub holds_all : (watched done : List ℕ) → Holds (facts_in j) watched (at_begin done cluster) first → Holds (facts_in j) watched (at_end (facts_in j) done cluster) tally
-    holds_all watched done h = subst (λ (n : ℕ). Holds (facts_in j) watched (at_entry done cluster n) tally) all_rows (at.holds watched done h)
-
--- ---- A block of a cluster, by the entries that it has.
+    holds_all watched done h =
+        let all_rows : lo - span.lo ≡ length (span_rows (map (spreads_of j.dataset (passes_in j)) j.dataset.rows) (slice_get (job_spans j) cluster)) = grind (arith, at.to, ends_within, length-map, range_length) in
+        subst (λ (n : ℕ). Holds (facts_in j) watched (at_entry done cluster n) tally) all_rows (at.holds watched done h)
 
 -- the block begins at an entry, and has so many
 pub as_entries : (b : Span) → b.lo < b.hi → entries_from b.lo (b.hi - b.lo) ≡ b
 as_entries b lt = let e : b.lo + (b.hi - b.lo) ≡ b.hi = omega (arith, lt) in λ i. record { lo = b.lo; hi = e i }
-
--- the end of a block, by the size that the slot has
-pub end_as : (rows : List (List Value)) (lo hi keys now size end : ℕ) → now ≡ size → end ≡ lo + first_length now 4194304 (map (row_elements keys) (slice_range rows lo hi)) → end ≡ lo + first_length size 4194304 (map (row_elements keys) (slice_range rows lo hi))
-end_as rows lo hi keys now size end same e = e ∙ ap (λ n. lo + first_length n 4194304 (map (row_elements keys) (slice_range rows lo hi))) same

@@ -1,26 +1,22 @@
 -- What a block feeds to a pass, what it does at a named filter, and that its batches are that.
-use Rattle.std.proofs.Common.{◌≡◌, ℕ, zero, suc, ◌+◌, ◌<◌, ◌≤◌, Bool, true, false, cond, List, [], ◌∷◌, ◌++◌, length, length-drop, map, take, drop, Option, None, Some, refl, sym, ◌∙◌, ap, subst, arith, slice_get, unwrap_or, if◌then◌else◌, get_or, count_by, flat_map, slice_range, filter, ◌||◌, nat_eq, All, OnErr, Result, MatchOption}
-use Rattle.lemmas.proofs.{length-map, mapped_at, range_length, range_with_len, slice_get-get_or, slice_get_within, something_at, sum_by-cons, All-cons, All-nil, Decides-eqb, Decides-ltb, length-range_with_len, or_true}
+use Rattle.lemmas.proofs.{◌≡◌, ℕ, zero, suc, ◌+◌, ◌<◌, ◌≤◌, Bool, true, false, cond, List, [], ◌∷◌, ◌++◌, length, length-drop, map, take, drop, Option, None, Some, refl, sym, ◌∙◌, ap, subst, arith, slice_get, unwrap_or, if◌then◌else◌, get_or, count_by, flat_map, slice_range, filter, ◌||◌, nat_eq, All, OnErr, Result, MatchOption, length-map, mapped_at, range_length, range_with_len, slice_get-get_or, something_at, sum_by-cons, Decides-eqb, Decides-ltb, length-range_with_len, or_true, same_Some}
+use Rattle.block_passes.proofs.PlanSteps.{last_inside, get_dropped, row_in_block, through_more, last_through, flat_filtered, flat_first, over_lowers, in_chosen}
+use Rattle.expr_lanes.proofs.Composed.{is_in_at, below_range, filter_alike, filter_all, filter_short}
 use Rattle.rdf_values.specs.{ActionKind, Booking, EntryFault, feed_fault, history, Item, named_before, Pass, Span, spread, Value, Memory}
 use Rattle.rdf_model.specs.{◌>>=◌, action_outcome, Entry, fault_in, feed_outcome, filter_reach, for_all, Gives, if_there, is_covered, is_passed, is_reached, is_true, items_fed, items_of, list_at, Outcome, Reach, reaches_of, Skip, span_rows, spreads_of, kinds_in}
 use Rattle.rdf_model.specs.declared.loop_facts.Reach.TheVariants.{Stopped}
 use Rattle.graph_numbers.specs.{action_numbers, booking_numbers, FilterAt, graph_filters, graph_under, Pass as NumberedPass, ResultAt, through_sites}
-use Rattle.cluster_tally.specs.{block_items, block_reaches, BlockStage, CanNoteCounts, counted, HoldsIn, IsWithin, TallyView, CanFeedBatch, pass_done}
+use Rattle.cluster_tally.specs.{block_items, block_reaches, BlockStage, CanNoteCounts, counted, HoldsIn, IsWithin, TallyView, pass_done}
 use Rattle.loop_keys.specs.{actions_before, covered_in, facts_in, IsJob, job_graph, job_spans, JobView, pass_outcome, passes_in, row_of, site_in, version_in, IsActionBooking, IsActionPass, IsNoTake}
-use Rattle.loop_keys.proofs.ReportTies.{stopped_answer, tried_answer, cover_at, covered_count}
-use Rattle.loop_keys.proofs.TableLaws.{row_there}
-use Rattle.loop_keys.proofs.PassNumbers.{at_place, covered_reach, uncovered_reach, pass_answer, pass_of, some_same}
-use Rattle.block_passes.specs.{AreAtHand, AreCountable, AreKept, AreLanesOf, at_filter, at_pass, CanFeedAny, Chain, feeding_fault, Found, IsActionOf, IsAmid, IsClear, IsFeedable, IsLast, IsMade, IsNamed, IsNarrowed, IsPlan, IsReadOf, IsServedTo, IsSettledAt, Kept, NamedSteps, noted, of_batch, PlanView, through_chain}
-use Rattle.block_passes.proofs.Searching.{get_dropped, row_in_block, through_more, last_through, filter_alike, flat_filtered_range, flat_first, over_lowers, chosen_below, in_chosen}
+use Rattle.loop_keys.proofs.PassNumbers.{stopped_answer, tried_answer, cover_at, covered_count, at_place, covered_reach, uncovered_reach, pass_answer, pass_of, all_actions}
+use Rattle.loop_keys.proofs.ActionLaws.{row_there}
+use Rattle.block_passes.specs.{AreAtHand, AreCountable, AreKept, AreLanesOf, at_filter, at_pass, CanFeedAny, Chain, feeding_fault, Found, IsActionOf, IsAmid, IsClear, IsLast, IsMade, IsNamed, IsNarrowed, IsPlan, IsReadOf, IsServedTo, IsSettledAt, Kept, NamedSteps, noted, of_batch, PlanView, through_chain, chain_at}
 use Rattle.loop_pieces.specs.{Counts}
 use Rattle.actions.specs.{Batch, batch_items, fault_or_later, first_fault_in, HasValues, IsTake, PlaceFault as BatchFault, places_of, Sources, SuitsAt, values_at}
 use Rattle.expr_lanes.specs.{AreRising, EachPlace, is_in}
 use Rattle.block_cache.specs.{AreReady, fault_before, fault_over, LaneView, PlaceFault}
-use Rattle.block_cache.proofs.LaneSteps.{filter_all}
-use Rattle.block_cache.proofs.Members.{filter_short}
-use Rattle.loop_keys.proofs.EntryLaws.{all_actions}
 use Rattle.block_passes.proofs.Demanding.{all_get}
-use Rattle.block_passes.proofs.Trying.{read_inside, placed, unfed_none}
+use Rattle.block_passes.proofs.Selecting.{read_inside, placed, unfed_none}
 
 -- ---- outcomes
 
@@ -62,7 +58,7 @@ module _ (j : JobView) (first count : ℕ) (s : BlockStage) (amid : IsAmid j fir
   left_is f = ap (λ o. drop s.entries (span_rows (map f j.dataset.rows) o)) amid.0.its_span
 
   left_at : {A : Type 0} (f : List Value → A) (q : ℕ) (x : A) → q < s.block → slice_get (rows_left f) q ≡ Some x → x ≡ f (row_of j (entry_at q))
-  left_at f q x lt h = grind (arith, some_same, left_is, get_dropped, row_in_block, mapped_at, row_here, its_within, amid.0.is, amid.0.inside)
+  left_at f q x lt h = grind (arith, same_Some, left_is, get_dropped, row_in_block, mapped_at, row_here, its_within, amid.0.is, amid.0.inside)
 
   left_long : {A : Type 0} (f : List Value → A) → s.block ≤ length (rows_left f)
   left_long f = grind (arith, left_is, length-map, length-drop, range_length, its_within, amid.0.inside)
@@ -90,16 +86,12 @@ module _ (j : JobView) (first count : ℕ) (s : BlockStage) (amid : IsAmid j fir
     its_items q = ap (λ (o : Option (List Item)). elim o [ None ↦ [] | Some ys ↦ ys ])
         (at_place j.dataset (row_of j (entry_at q)) n (passes_in j) its_pass k of.at there_is of.booking).1
 
-    outcome_by : (q : ℕ) → q < s.block → pass_outcome j (entry_at q) n ≡ action_outcome j.dataset.fns j.dataset.columns (row_of j (entry_at q)) k of.at (graph_under (job_graph j) m.variation)
-    outcome_by q lt = grind (arith, row_here, there_is)
-
-    numbers_by : (q : ℕ) → q < s.block → pass_outcome j (entry_at q) n ≡ action_numbers (site_in j (entry_at q) m.variation) (version_in j (entry_at q) m.variation) k r
-    numbers_by q lt =
-        pass_answer j job (entry_at q) (row_of j (entry_at q)) (row_here q lt) n m of.its_pass r of.its_result
-        ∙ ap (λ (c : Booking). booking_numbers {M = ⊥} (site_in j (entry_at q) None) (site_in j (entry_at q) m.variation) (version_in j (entry_at q) m.variation) (graph_filters (job_graph j)) r c) of.booking
-
     by_numbers : (q : ℕ) → q < s.block → items_at q ≡ items_fed k (action_numbers (site_in j (entry_at q) m.variation) (version_in j (entry_at q) m.variation) k r)
-    by_numbers q lt = ap (items_fed k) (sym (outcome_by q lt) ∙ numbers_by q lt)
+    by_numbers q lt =
+        let outcome : pass_outcome j (entry_at q) n ≡ action_outcome j.dataset.fns j.dataset.columns (row_of j (entry_at q)) k of.at (graph_under (job_graph j) m.variation) = grind (arith, row_here, there_is) in
+        ap (items_fed k)
+        (sym outcome ∙ pass_answer j job (entry_at q) (row_of j (entry_at q)) (row_here q lt) n m of.its_pass r of.its_result
+        ∙ ap (λ (c : Booking). booking_numbers {M = ⊥} (site_in j (entry_at q) None) (site_in j (entry_at q) m.variation) (version_in j (entry_at q) m.variation) (graph_filters (job_graph j)) r c) of.booking)
 
     -- the block feeds the values of the places that pass the filters
     pub block_fed : (values : ℕ → List Value)
@@ -108,15 +100,18 @@ module _ (j : JobView) (first count : ℕ) (s : BlockStage) (amid : IsAmid j fir
     block_fed values h =
         sym (block_flat (spreads_of j.dataset (passes_in j)) (λ row. list_at row (actions_before j n))
         ∙ (λ i. flat_map (λ q. its_items q i) (range_with_len 0 s.block))
-        ∙ flat_filtered_range items_at (λ q. spread k (values q)) passes s.block 0
-        (λ q a lt t. (let w = h q (omega (arith, lt)) t in by_numbers q (omega (arith, lt)) ∙ given_items k (through_sites (site_in j (entry_at q) m.variation) r.filters) (for_all (version_in j (entry_at q) m.variation) r.inputs) (values q) t w.0 w.1))
-        (λ q a lt t. by_numbers q (omega (arith, lt)) ∙ none_items k (through_sites (site_in j (entry_at q) m.variation) r.filters) _ t))
+        ∙ flat_filtered items_at (λ q. spread k (values q)) passes (range_with_len 0 s.block)
+        (λ q i. (
+        let lt = below_range s.block q i in (
+          (λ t. (let w = h q lt t in by_numbers q lt ∙ given_items k (through_sites (site_in j (entry_at q) m.variation) r.filters) (for_all (version_in j (entry_at q) m.variation) r.inputs) (values q) t w.0 w.1)),
+          (λ t. by_numbers q lt ∙ none_items k (through_sites (site_in j (entry_at q) m.variation) r.filters) _ t),
+        ))))
 
   -- ---- a named filter
 
   module _ (job : IsJob j) (f : ℕ) (x : FilterAt) (here : slice_get (graph_filters (job_graph j)) f ≡ Some x) where
     says : (b : Bool) → slice_get (covered_in j) f ≡ Some b → is_covered (passes_in j) x.at ≡ b
-    says b h = some_same (is_covered (passes_in j) x.at) b (sym (cover_at j job f x here) ∙ h)
+    says b h = same_Some (is_covered (passes_in j) x.at) b (sym (cover_at j job f x here) ∙ h)
 
     abbrev reach_at : ℕ → Option Reach
     reach_at q = slice_get (reaches_of j.dataset (passes_in j) (named_before (history j.script)) (row_of j (entry_at q))) f
@@ -155,26 +150,20 @@ module _ (j : JobView) (first count : ℕ) (s : BlockStage) (amid : IsAmid j fir
           → counted (block_reaches (facts_in j) s f) ≡ record { all = length (filter (λ q. is_true (above q)) (range_with_len 0 s.block)); pass = length (filter (λ q. is_true (all q)) (range_with_len 0 s.block)) }
       covered_counts clear =
           let e = reaches_are its_reach (λ q lt. covered_reach j (entry_at q) (row_of j (entry_at q)) (row_here q lt) f x here (says true covered) (its_reach q) refl) in
-          let one = count_singles is_reached its_reach (range_with_len 0 s.block) in
-          let two = count_singles is_passed its_reach (range_with_len 0 s.block) in
-          ap counted e ∙ (λ i. record { all = one i; pass = two i })
-          ∙ (λ i. record { all = length (same_one i); pass = length (same_two i) })
+          ap counted e ∙ (λ i. record { all = size is_reached (λ q. is_true (above q)) (λ q lt. (reached q lt (clear q lt)).0) i; pass = size is_passed (λ q. is_true (all q)) (λ q lt. (reached q lt (clear q lt)).1) i })
         where
-          same_one : filter (λ q. is_reached (its_reach q)) (range_with_len 0 s.block) ≡ filter (λ q. is_true (above q)) (range_with_len 0 s.block)
-          same_one = filter_alike _ _ s.block 0 (λ q a lt. (reached q (omega (arith, lt)) (clear q (omega (arith, lt)))).0)
-
-          same_two : filter (λ q. is_passed (its_reach q)) (range_with_len 0 s.block) ≡ filter (λ q. is_true (all q)) (range_with_len 0 s.block)
-          same_two = filter_alike _ _ s.block 0 (λ q a lt. (reached q (omega (arith, lt)) (clear q (omega (arith, lt)))).1)
+          size : (t : Reach → Bool) (g : ℕ → Bool) → ((q : ℕ) → q < s.block → t (its_reach q) ≡ g q) → count_by t (flat_map (λ q. its_reach q ∷ []) (range_with_len 0 s.block)) ≡ length (filter g (range_with_len 0 s.block))
+          size t g h = count_singles t its_reach (range_with_len 0 s.block) ∙ ap length (filter_alike (λ q. t (its_reach q)) g (range_with_len 0 s.block) (λ q i. h q (below_range s.block q i)))
 
 -- ---- The counts of named filters are sizes of selections.
 
 module _ (j : JobView) (first count : ℕ) (s : BlockStage) (amid : IsAmid j first count s) where
   -- the places of a chain that has these sites under nominal or a variation
   module _ (u : Option ℕ) (chains : List Chain) (kept : List Kept) (are : AreKept j first chains count kept) (sites : List ℕ) (k : ℕ) (last : IsLast chains sites u k) (m : Kept) (at : slice_get kept k ≡ Some m) (whole : m.limit ≡ Some count) where
-    made : IsMade j first last.chain count count m.places
-    made = are.each k count last.chain m last.its at whole
+    made : IsMade j first (chain_at chains k) count count m.places
+    made = are.each k count m at whole
 
-    alike : (e : ℕ) → through_chain j e last.chain ≡ through_sites (site_in j e u) sites
+    alike : (e : ℕ) → through_chain j e (chain_at chains k) ≡ through_sites (site_in j e u) sites
     alike = last_through j chains sites u k last
 
     pub its_places : m.places ≡ filter (λ q. is_true (through_sites (site_in j (first + q) u) sites)) (range_with_len 0 s.block)
@@ -182,18 +171,6 @@ module _ (j : JobView) (first count : ℕ) (s : BlockStage) (amid : IsAmid j fir
 
     pub its_clear : (q : ℕ) → q < s.block → fault_in (through_sites (site_in j (first + q) u) sites) ≡ None
     its_clear q low = sym (ap fault_in (alike (first + q))) ∙ made.clear q (subst (λ (n : ℕ). q < n) amid.1 low)
-
-  module _ (job : IsJob j) (f : ℕ) (x : FilterAt) (here : slice_get (graph_filters (job_graph j)) f ≡ Some x) where
-    pub counts_named : (chains : List Chain) (kept : List Kept) → AreKept j first chains count kept → (named : NamedSteps) → IsNamed chains x named → slice_get (covered_in j) f ≡ Some true
-        → (above own : Kept) → slice_get kept named.above ≡ Some above → above.limit ≡ Some count → slice_get kept named.own ≡ Some own → own.limit ≡ Some count
-        → record { all = length above.places; pass = length own.places } ≡ counted (block_reaches (facts_in j) s f)
-    counts_named chains kept are named h covered above own at_above whole_above at_own whole_own =
-        let own_last : IsLast chains (h.up ++ h.site ∷ []) None named.own = subst (λ (l : List ℕ). IsLast chains l None named.own) h.sites h.own in
-        (λ i. record {
-          all = length (its_places None chains kept are h.up named.above h.above above at_above whole_above i);
-          pass = length (its_places None chains kept are (h.up ++ h.site ∷ []) named.own own_last own at_own whole_own i);
-        })
-        ∙ sym (covered_counts j first count s amid job f x here covered h.up h.site h.sites (its_clear None chains kept are (h.up ++ h.site ∷ []) named.own own_last own at_own whole_own))
 
 -- ---- by the plan
 
@@ -213,17 +190,24 @@ module _ (j : JobView) (plan : PlanView) (p : IsPlan j plan) (f : ℕ) (inside :
       its_steps = p.filters f (Some named) its_at named_at.0 named_at.1
 
       pub above_there : named.above < length kept
-      above_there = let a = its_steps.1.above in let low = slice_get_within p.chains named.above a.chain a.its in let many = can.kept_are.many in omega (arith, low, many)
+      above_there = last_inside its_steps.1.above can.kept_are.many
 
       pub own_there : named.own < length kept
-      own_there = let a = its_steps.1.own in let low = slice_get_within p.chains named.own a.chain a.its in let many = can.kept_are.many in omega (arith, low, many)
+      own_there = last_inside its_steps.1.own can.kept_are.many
 
       pub sizes_counted : (d d' : Kept) (job : IsJob j) (s : BlockStage) → IsAmid j first count s
           → record { all = length (get_or kept named.above d).places; pass = length (get_or kept named.own d').places } ≡ counted (block_reaches (facts_in j) s f)
       sizes_counted d d' job s amid =
+          let h = its_steps.1 in
           let at_above = slice_get-get_or kept named.above d above_there in
           let at_own = slice_get-get_or kept named.own d' own_there in
-          counts_named j first count s amid job f named_at.0 named_at.1 p.chains kept can.kept_are named its_steps.1 its_steps.0 (get_or kept named.above d) (get_or kept named.own d') at_above (can.above f named_at.0 named named_at.1 its_at _ at_above) at_own (can.own f named_at.0 named named_at.1 its_at _ at_own)
+          let whole = can.own f named_at.0 named named_at.1 its_at _ at_own in
+          let own_last : IsLast p.chains (h.up ++ h.site ∷ []) None named.own = subst (λ (l : List ℕ). IsLast p.chains l None named.own) h.sites h.own in
+          (λ i. record {
+            all = length (its_places j first count s amid None p.chains kept can.kept_are h.up named.above h.above _ at_above (can.above f named_at.0 named named_at.1 its_at _ at_above) i);
+            pass = length (its_places j first count s amid None p.chains kept can.kept_are (h.up ++ h.site ∷ []) named.own own_last _ at_own whole i);
+          })
+          ∙ sym (covered_counts j first count s amid job f named_at.0 named_at.1 its_steps.0 h.up h.site h.sites (its_clear j first count s amid None p.chains kept can.kept_are (h.up ++ h.site ∷ []) named.own own_last _ at_own whole))
 
 -- ---- filter by filter
 
@@ -255,11 +239,8 @@ module _ (j : JobView) (first count : ℕ) where
 pub dense_places : (sel : List ℕ) (n m : ℕ) → sel ≡ range_with_len 0 m → n ≡ length sel → range_with_len 0 n ≡ sel
 dense_places sel n m e h = ap (range_with_len 0) (h ∙ ap length e ∙ length-range_with_len 0 m) ∙ sym e
 
-pub all_places : (P : ℕ → Type 0) (sel : List ℕ) → EachPlace sel P → All P sel
-all_places P [] h = All-nil P
-all_places P (p ∷ sel) h =
-    All-cons P p sel (h p (ap (λ b. b || is_in p sel) ((Decides-eqb p p).1 refl)))
-    (all_places P sel (λ q i. h q (ap (λ b. nat_eq q p || b) i ∙ or_true (nat_eq q p))))
+pub all_places : (P : ℕ → Type 0) (ps sel : List ℕ) → ps ≡ sel → EachPlace sel P → All P ps
+all_places P ps sel e h = subst (λ (l : List ℕ). All P l) (sym e) (λ i d lt. h (get_or sel i d) (is_in_at sel i d lt))
 
 -- ---- the first fault
 
@@ -284,16 +265,8 @@ module _ (j : JobView) (first count : ℕ) (f : ℕ → Option EntryFault) (pass
 -- ---- a batch
 
 module _ (k : ActionKind) (s : Sources) (o : ℕ → Outcome ⊥ (List Value)) (sel ps : List ℕ) (e : ps ≡ sel) (are : EachPlace sel (λ p. AreLanesOf (o p) k s p)) where
-  pub lanes_there : All (HasValues s) ps
-  lanes_there = subst (λ (l : List ℕ). All (HasValues s) l) (sym e) (all_places (HasValues s) sel (λ p i. (are p i).there))
-
-  pub lanes_suit : All (SuitsAt k s) ps
-  lanes_suit = subst (λ (l : List ℕ). All (SuitsAt k s) l) (sym e) (all_places (SuitsAt k s) sel (λ p i. (are p i).suits))
-
   pub first_is : (r : Option BatchFault) → r ≡ first_fault_in k s ps → of_batch r ≡ fault_over (λ p. feeding_fault k (o p)) sel
   first_is r h = ap of_batch (h ∙ ap (first_fault_in k s) e) ∙ unfed_over k s (λ p. feeding_fault k (o p)) sel (λ p i. sym (ap (feeding_fault k) (are p i).values))
-
--- ---- an action that reads fewer than two columns
 
 -- one value that is there can be fed
 pub few_fed : (k : ActionKind) (f : ℕ → Outcome ⊥ Value) (cs : List ℕ) → length cs < 2 → feeding_fault k (for_all f cs) ≡ None
@@ -308,86 +281,85 @@ kind_at : (j : JobView) (n : ℕ) (k : ActionKind) (inputs : List ℕ) (u : Opti
 kind_at j n k inputs u own = (at_place j.dataset [] n (passes_in j) _ k own.action.at (pass_of j n own.numbered own.action.its_pass own.result own.action.its_result) own.action.booking).0
 
 module _ (j : JobView) (job : IsJob j) (first count : ℕ) (pass : ℕ) (k : ActionKind) (inputs : List ℕ) (u : Option ℕ) (own : IsReadOf j pass k inputs u) where
-  -- ---- by the plan
+  module _ (plan : PlanView) (p : IsPlan j plan) (last : ℕ) (at : slice_get plan.passes pass ≡ Some last) (lanes : List LaneView) (kept : List Kept) (h : IsClear j first count p.chains plan lanes kept) where
+    last_led : IsLast p.chains own.result.filters u last
+    last_led = subst (λ (v : Option ℕ). IsLast p.chains own.result.filters v last) own.its_under (p.passes pass last at own.numbered own.result k own.action)
 
-  module _ (plan : PlanView) (p : IsPlan j plan) where
-    module _ (last : ℕ) (at : slice_get plan.passes pass ≡ Some last) (kept : List Kept) (are : AreKept j first p.chains count kept) where
-      pub last_led : IsLast p.chains own.result.filters u last
-      last_led = subst (λ (v : Option ℕ). IsLast p.chains own.result.filters v last) own.its_under (p.passes pass last at own.numbered own.result k own.action)
+    pub last_there : last < length kept
+    last_there = last_inside last_led h.countable.kept_are.many
 
-      pub last_there : last < length kept
-      last_there = let low = slice_get_within p.chains last last_led.chain last_led.its in let many = are.many in omega (arith, low, many)
+    -- ---- what is fed
 
-      -- ---- what is fed
+    module _ (d : Kept) where
+      abbrev sel : Kept
+      sel = get_or kept last d
 
-      module _ (lanes : List LaneView) (feedable : IsFeedable j first count lanes kept last k inputs u) (d : Kept) where
-        abbrev sel : Kept
-        sel = get_or kept last d
+      sel_at : slice_get kept last ≡ Some sel
+      sel_at = slice_get-get_or kept last d last_there
 
-        sel_at : slice_get kept last ≡ Some sel
-        sel_at = slice_get-get_or kept last d last_there
+      over_all : sel.limit ≡ Some count
+      over_all = h.over pass k inputs u own last at sel sel_at
 
-        pub fed_hand : EachPlace sel.places (AreAtHand j first lanes u inputs)
-        fed_hand q i = (feedable.each sel sel_at q i).hand
+      passed : (q : ℕ) → is_in q sel.places ≡ true → (q < count) × (is_true (through_sites (site_in j (first + q) own.numbered.variation) own.result.filters) ≡ true)
+      passed q i = placed j job first count pass plan p h.ready.within k inputs u own last at kept h.countable.kept_are sel sel_at over_all q i
 
-        module _ (s : BlockStage) (amid : IsAmid j first count s) where
-          abbrev passed_at : ℕ → Bool
-          passed_at q = is_true (through_sites (site_in j (first + q) u) own.result.filters)
+      pub fed_low : EachPlace sel.places (λ q. q < count)
+      fed_low q i = (passed q i).0
 
-          sel_is : sel.places ≡ filter passed_at (range_with_len 0 s.block)
-          sel_is = its_places j first count s amid u p.chains kept are own.result.filters last last_led sel sel_at (feedable.over_all sel sel_at)
+      pub fed_hand : EachPlace sel.places (AreAtHand j first lanes u inputs)
+      fed_hand q i =
+          subst (λ (v : Option ℕ). AreAtHand j first lanes v inputs q) own.its_under
+          (subst (λ (cs : List ℕ). AreAtHand j first lanes own.numbered.variation cs q) own.inputs_are (h.read pass own.numbered own.result k own.action q (passed q i).0 (passed q i).1))
 
-          pub fed_low : EachPlace sel.places (λ q. q < count)
-          fed_low q i = subst (λ (n : ℕ). q < n) amid.1 (chosen_below passed_at q s.block (subst (λ (l : List ℕ). is_in q l ≡ true) sel_is i))
+      module _ (s : BlockStage) (amid : IsAmid j first count s) where
+        abbrev passed_at : ℕ → Bool
+        passed_at q = is_true (through_sites (site_in j (first + q) u) own.result.filters)
 
-          in_sel : (q : ℕ) → q < s.block → passed_at q ≡ true → is_in q sel.places ≡ true
-          in_sel q low through = subst (λ (l : List ℕ). is_in q l ≡ true) (sym sel_is) (in_chosen passed_at q s.block low ∙ through)
+        sel_is : sel.places ≡ filter passed_at (range_with_len 0 s.block)
+        sel_is = its_places j first count s amid u p.chains kept h.countable.kept_are own.result.filters last last_led sel sel_at over_all
 
-          -- ---- a batch
+        in_sel : (q : ℕ) → q < s.block → passed_at q ≡ true → is_in q sel.places ≡ true
+        in_sel q low through = subst (λ (l : List ℕ). is_in q l ≡ true) (sym sel_is) (in_chosen passed_at q s.block low ∙ through)
 
-          module _ (batch : Batch) (places : places_of batch.places ≡ sel.places)
-              (gathered : (q : ℕ) → q < count → is_in q sel.places ≡ true → AreAtHand j first lanes u inputs q →
-              AreLanesOf (for_all (version_in {M = ⊥} j (first + q) u) inputs) k batch.sources q) where
-            lanes_at : (q : ℕ) → is_in q sel.places ≡ true → AreLanesOf (for_all (version_in {M = ⊥} j (first + q) u) inputs) k batch.sources q
-            lanes_at q i = gathered q (fed_low q i) i (fed_hand q i)
+        -- ---- a batch
 
-            clear_at : (q : ℕ) → is_in q sel.places ≡ true → feed_fault k (values_at batch.sources q) ≡ None
-            clear_at q i = ap (feeding_fault k) (sym (lanes_at q i).values) ∙ (feedable.each sel sel_at q i).clear
+        module _ (batch : Batch) (places : places_of batch.places ≡ sel.places)
+            (gathered : (q : ℕ) → q < count → is_in q sel.places ≡ true → AreAtHand j first lanes u inputs q →
+            AreLanesOf (for_all (version_in {M = ⊥} j (first + q) u) inputs) k batch.sources q) where
+          lanes_at : (q : ℕ) → is_in q sel.places ≡ true → AreLanesOf (for_all (version_in {M = ⊥} j (first + q) u) inputs) k batch.sources q
+          lanes_at q i = gathered q (fed_low q i) i (fed_hand q i)
 
-            over_places : (P : ℕ → Type 0) → EachPlace sel.places P → All P (places_of batch.places)
-            over_places P h = subst (λ (l : List ℕ). All P l) (sym places) (all_places P sel.places h)
+          clear_at : (q : ℕ) → is_in q sel.places ≡ true → feed_fault k (values_at batch.sources q) ≡ None
+          clear_at q i = ap (feeding_fault k) (sym (lanes_at q i).values) ∙ unfed_none j job first count pass plan p h.ready.within k inputs u own last at q (passed q i).0 (passed q i).1 (h.clear pass q (read_inside j pass k inputs u own) (passed q i).0)
 
-            batch_is : batch_items k batch ≡ block_items (facts_in j) s (actions_before j pass)
-            batch_is =
-                ap (flat_map (λ q. spread k (values_at batch.sources q))) (places ∙ sel_is)
-                ∙ (λ i. flat_map (λ q. spread k (values_at batch.sources q)) (filter (λ q. is_true (through_sites (site_in j (first + q) (sym own.its_under i)) own.result.filters)) (range_with_len 0 s.block)))
-                ∙ (block_fed j first count s amid job pass own.numbered own.result k own.action (λ q. values_at batch.sources q)
-                (λ q low through. fed_at q (in_sel q low (ap (λ (v : Option ℕ). is_true (through_sites (site_in j (first + q) v) own.result.filters)) (sym own.its_under) ∙ through))))
-              where
-                fed_at : (q : ℕ) → is_in q sel.places ≡ true
-                    → (for_all (version_in {M = ⊥} j (first + q) own.numbered.variation) own.result.inputs ≡ Gives (values_at batch.sources q)) × (feed_fault k (values_at batch.sources q) ≡ None)
-                fed_at q i = ((λ t. for_all (version_in {M = ⊥} j (first + q) (own.its_under t)) (own.inputs_are t)) ∙ (lanes_at q i).values, clear_at q i)
+          batch_is : batch_items k batch ≡ block_items (facts_in j) s (actions_before j pass)
+          batch_is =
+              ap (flat_map (λ q. spread k (values_at batch.sources q))) (places ∙ sel_is)
+              ∙ (λ i. flat_map (λ q. spread k (values_at batch.sources q)) (filter (λ q. is_true (through_sites (site_in j (first + q) (sym own.its_under i)) own.result.filters)) (range_with_len 0 s.block)))
+              ∙ (block_fed j first count s amid job pass own.numbered own.result k own.action (λ q. values_at batch.sources q)
+              (λ q low through. (
+              let i = in_sel q low (ap (λ (v : Option ℕ). is_true (through_sites (site_in j (first + q) v) own.result.filters)) (sym own.its_under) ∙ through) in
+              ((λ t. for_all (version_in {M = ⊥} j (first + q) (own.its_under t)) (own.inputs_are t)) ∙ (lanes_at q i).values, clear_at q i))))
 
-            can_feed : (watched : List ℕ) (place cluster : ℕ) (t : TallyView) → place ≡ actions_before j pass → s.cluster ≡ cluster → s.passes ≡ place → HoldsIn (facts_in j) watched s t → CanFeedBatch (facts_in j) watched s t place cluster batch
-            can_feed watched place cluster t is its at_pass holds = record {
-              holds = holds;
-              at_pass = at_pass;
-              at_cluster = its;
-              within = block_within j first count s amid;
-              kind = k;
-              its_kind = ap (slice_get (facts_in j).kinds) is ∙ kind_at j pass k inputs u own;
-              there = over_places (HasValues batch.sources) (λ q i. (lanes_at q i).there);
-              suits = over_places (SuitsAt k batch.sources) (λ q i. (lanes_at q i).suits);
-              no_fault = over_places (λ p. feed_fault k (values_at batch.sources p) ≡ None) clear_at;
-              few = (let a = ap (λ (l : List ℕ). length l) (places ∙ sel_is) in let b = filter_short passed_at (range_with_len 0 s.block) in let e = length-range_with_len 0 s.block in omega (arith, a, b, e));
-              fed = batch_is ∙ ap (block_items (facts_in j) s) (sym is);
-            }
-
-          -- so is each batch of what the action reads
-          pub feeds_any : (watched : List ℕ) (place cluster : ℕ) (t : TallyView) → place ≡ actions_before j pass → s.cluster ≡ cluster → s.passes ≡ place → HoldsIn (facts_in j) watched s t
-              → CanFeedAny j first count lanes k inputs u sel.places (facts_in j) watched s t place cluster
-          unfolding can_feed
-          feeds_any watched place cluster t is its at_pass holds b of = (can_feed b of.places of.gathered watched place cluster t is its at_pass holds, refl)
+        -- the tally can be fed each batch of what the action reads
+        pub feeds_any : (watched : List ℕ) (place cluster : ℕ) (t : TallyView) → place ≡ actions_before j pass → s.cluster ≡ cluster → s.passes ≡ place → HoldsIn (facts_in j) watched s t
+            → CanFeedAny j first count lanes k inputs u sel.places (facts_in j) watched s t place cluster
+        feeds_any watched place cluster t is its at_pass holds b of = (
+          record {
+            holds = holds;
+            at_pass = at_pass;
+            at_cluster = its;
+            within = block_within j first count s amid;
+            kind = k;
+            its_kind = ap (slice_get (facts_in j).kinds) is ∙ kind_at j pass k inputs u own;
+            there = all_places (HasValues b.sources) _ sel.places of.places (λ q i. (lanes_at b of.places of.gathered q i).there);
+            suits = all_places (SuitsAt k b.sources) _ sel.places of.places (λ q i. (lanes_at b of.places of.gathered q i).suits);
+            no_fault = all_places (λ p. feed_fault k (values_at b.sources p) ≡ None) _ sel.places of.places (clear_at b of.places of.gathered);
+            few = (let a = ap (λ (l : List ℕ). length l) (of.places ∙ sel_is) in let b = filter_short passed_at (range_with_len 0 s.block) in let e = length-range_with_len 0 s.block in omega (arith, a, b, e));
+            fed = batch_is b of.places of.gathered ∙ ap (block_items (facts_in j) s) (sym is);
+          },
+          refl,
+        )
 
 -- only a Take wants memory
 pub only_takes : (k kind : ActionKind) → kind ≡ k → (r : Result (Unit {0}) Memory) → OnErr r (IsTake kind) → OnErr r (IsTake k)
@@ -406,18 +378,6 @@ no_take k h take = grind arith
 -- no pass of a loop without Takes takes
 pub takes_none : (j : JobView) (n : ℕ) (k : ActionKind) (inputs : List ℕ) (u : Option ℕ) → IsReadOf j n k inputs u → All IsNoTake (kinds_in (passes_in j)) → IsTake k → ⊥
 takes_none j n k inputs u own none take = no_take k (all_get IsNoTake (kinds_in (passes_in j)) none (actions_before j n) k (kind_at j n k inputs u own)) take
-
-module _ (j : JobView) (job : IsJob j) (first count : ℕ) (plan : PlanView) (p : IsPlan j plan) (lanes : List LaneView) (kept : List Kept) (h : IsClear j first count p.chains plan lanes kept) where
-  pub can_be_fed : (n : ℕ) (k : ActionKind) (inputs : List ℕ) (u : Option ℕ) (own : IsReadOf j n k inputs u) (last : ℕ) → slice_get plan.passes n ≡ Some last → IsFeedable j first count lanes kept last k inputs u
-  can_be_fed n k inputs u own last its = record {
-    over_all = h.over n k inputs u own last its;
-    each = λ s at q i.
-        let low = placed j job first count n plan p h.ready.within k inputs u own last its kept h.countable.kept_are s at (h.over n k inputs u own last its s at) q i in
-        record {
-          hand = subst (λ (v : Option ℕ). AreAtHand j first lanes v inputs q) own.its_under (subst (λ (cs : List ℕ). AreAtHand j first lanes own.numbered.variation cs q) own.inputs_are (h.read n own.numbered own.result k own.action q low.0 low.1));
-          clear = unfed_none j job first count n plan p h.ready.within k inputs u own last its q low.0 low.1 (h.clear n q (read_inside j n k inputs u own) low.0);
-        };
-  }
 
 module _ (j : JobView) (first count cluster : ℕ) where
   -- what a tally that begins at the first pass holds after so many of the loop's actions

@@ -4,7 +4,4 @@ pub mod Feeding
 pub mod FirstLengths
 pub mod Serving
 pub mod PlanSteps
-pub mod Searching
 pub mod Selecting
-pub mod SiteKinds
-pub mod Trying

@@ -1,44 +1,30 @@
 -- What filling sites spends, what the actions of a loop read, how filling it lowers the limit, and the lanes of what is read.
-use Rattle.std.proofs.Common.{◌≡◌, ◌⊎◌, inl, inr, ℕ, ◌+◌, ◌<◌, Bool, true, false, List, Option, refl, sym, ◌∙◌, ap, arith, [], ◌∷◌, length, map, option_map, Some, subst, slice_get, get_or, unwrap_or, ◌≤◌, ◌&&◌, None, nat_lt, if◌then◌else◌, ℤ, pos, filter, suc, drop, drop-cons, length-drop, IfSome, option_and_then}
-use Rattle.block_cache.specs.{begun_at, cells_at, IsSpentOver, LaneView, AreReady, AreSiteKinds, below_fault, fault_over, held_value, holds_at, is_held, IsFilledTo, IsSettled, kinds_of, lane_holds, PlaceFault, site_fault, value_of}
-use Rattle.loop_keys.specs.{HasAllDemands, IsClosed, job_graph, job_of, JobView, key, key_count, ArePlain, IsJob, IsPlainLoop, IsPlainVersion, IsSourceIn, row_of, site_in, source_at, Held, held_in, IsRight, version_in, key_under, Place, place_of, row_in}
+use Rattle.lemmas.proofs.{◌++◌, take, ◌≡◌, ◌⊎◌, inl, inr, ℕ, ◌+◌, ◌<◌, Bool, true, false, List, Option, refl, sym, ◌∙◌, ap, arith, [], ◌∷◌, length, map, option_map, Some, subst, slice_get, get_or, unwrap_or, ◌≤◌, ◌&&◌, None, nat_lt, if◌then◌else◌, ℤ, pos, filter, suc, drop, drop-cons, option_and_then, get_or_from_slice_get, and_false, and_true, Decides-ltb, ltb-true, slice_get-get_or, slice_get_read, something_at, take_all, take_next, All-from_recursion, slice_get_within, each_append}
+use Rattle.block_cache.specs.{cells_at, IsSpentOver, LaneView, AreReady, AreSiteKinds, below_fault, fault_over, holds_at, is_held, IsSettled, kinds_of, lane_holds, PlaceFault, site_fault, value_of}
+use Rattle.loop_keys.specs.{HasAllDemands, job_graph, job_of, JobView, key, key_count, ArePlain, IsSourceIn, row_of, site_in, source_at, Held, IsRight, version_in, key_under, Place, place_of, row_in}
 use Rattle.expr_lanes.specs.{EachPlace, is_in, AreRising, at_place}
-use Rattle.block_passes.specs.{AreAtHand, AreHeldInTurn, AreLanesOf, ArePlainSources, CanGatherInTurn, CanServe, CanServeWith, Demands, DemandsInputs, DemandsSource, element_fault, Found, HasHeld, inputs_fault, inputs_fault_in_turn, IsAtHand, IsKnown, IsLaneOf, IsOver, IsPlainSource, IsReadOf, IsSelected, IsServable, IsServedInTurn, IsServedTo, IsSettledAt, IsSpentInTurn, IsWhole, KeepsRoom, Kept, Leaves, Lowers, noted, source_fault, source_fault_in_turn, source_in_turn, Spends, turn_job, where_in}
+use Rattle.block_passes.specs.{AreAtHand, AreHeldInTurn, AreLanesOf, CanGatherInTurn, CanServeWith, Demands, DemandsInputs, DemandsSource, Found, HasHeld, IsAtHand, IsDemandedAt, IsKnown, IsLaneOf, IsOver, IsSelected, IsServable, IsServedInTurn, IsServedTo, IsSettledAt, IsSpentInTurn, IsWhole, KeepsRoom, Kept, Leaves, Lowers, noted, source_fault, source_in_turn, Spends, turn_job, where_in, inputs_fault}
 use Rattle.block_passes.specs.declared.turn.ActionRead.{ActionRead}
 use Rattle.block_passes.specs.declared.turn.Turn.{Turn}
 use Rattle.block_passes.specs.declared.turn.Work.{Work}
-use Rattle.block_cache.proofs.GrownLaws.{other_places}
-use Rattle.block_cache.proofs.Knowns.{same_holds, holds_on, held_no_fault}
-use Rattle.loop_keys.proofs.FillLaws.{grows_on}
-use Rattle.lemmas.proofs.{AllByRecursion, get_or_from_slice_get, recursion_from_All, and_false, and_true, Decides-ltb, lt_says, nil_from_length, slice_get-get_or, slice_get_read, something_at, All-from_recursion, slice_get_within}
-use Rattle.rdf_values.specs.{ActionKind, AreAccepted, ColType, Column, columns_of, FitsKind, FitsRow, fn_names, history, kind_at, scope_of, Statement, Under, Value, EntryFault}
-use Rattle.rdf_values.specs.declared.scripts.statement.Statement.TheVariants.{Action}
+use Rattle.block_cache.proofs.Attempts.{other_places, got_kind}
+use Rattle.block_cache.proofs.OverLaws.{same_holds, holds_on, held_no_fault, held_of_lane, lane_held, right_value, held_true}
+use Rattle.loop_keys.proofs.KeyLaws.{grows_on, key_small}
+use Rattle.rdf_values.specs.{ActionKind, ColType, Column, columns_of, kind_at, Value, EntryFault}
 use Rattle.expr_check.specs.{CheckedExpr, is_vector}
-use Rattle.expr_check.proofs.Plain.{columns_scalar, plain_typed}
-use Rattle.rdf_model.specs.{Dataset, FitsOutcome, ◌>>=◌, fault_in, Faults, Gives, Needs, Outcome, tag_element, FitsFeed, for_all}
-use Rattle.graph_numbers.specs.{cell_value, graph_under, IsSiteExpr, ResultAt, results, Source, source_value, version_at, graph_sites, HasInputs, IfGiven}
-use Rattle.graph_numbers.proofs.Placing.{Extends, itself, shorter}
-use Rattle.graph_numbers.proofs.Passing.{AreVisible, action_visible}
-use Rattle.graph_numbers.proofs.Meeting.{FitsVersion, visible_fits}
-use Rattle.graph_numbers.proofs.Walks.{each_result, by_test}
-use Rattle.loop_keys.proofs.ColumnLaws.{fits_at}
-use Rattle.loop_keys.proofs.EvaluateLaws.{accepted_of}
-use Rattle.loop_keys.proofs.PlainLaws.{plain_expr}
-use Rattle.loop_keys.proofs.TableLaws.{not_stored}
-use Rattle.block_passes.proofs.FirstLengths.{fits_at as cell_fits}
-use Rattle.block_passes.proofs.Searching.{left_below, over_lowers, selected_or_none, filter_twice, none_lowers, both_lower, lowers_as, or_else, inputs_fault as all_fault}
-use Rattle.block_cache.proofs.LaneSteps.{filter_all}
+use Rattle.expr_check.proofs.Typed.{columns_scalar, plain_typed}
+use Rattle.expr_check.proofs.WellTyped.{each_weaker}
+use Rattle.rdf_model.specs.{◌>>=◌, fault_in, Faults, Gives, Needs, Outcome, tag_element, FitsFeed, for_all}
+use Rattle.graph_numbers.specs.{cell_value, IsSiteExpr, Source, source_value, graph_sites, HasInputs, IfGiven}
+use Rattle.graph_numbers.proofs.Placing.{by_test}
+use Rattle.loop_keys.proofs.ActionLaws.{plain_expr, integer_fits, numeric_fits, pair_fits, single_fits, triple_fits, weighted_fits}
+use Rattle.block_passes.proofs.PlanSteps.{left_below, over_lowers, selected_or_none, filter_twice, none_lowers, both_lower, lowers_as, or_else, last_fault}
+use Rattle.block_cache.proofs.LaneSteps.{filter_passes}
 use Rattle.expr_eval.specs.{Input, input_outcome}
-use Rattle.loop_keys.proofs.KeyLaws.{key_small}
-use Rattle.block_cache.proofs.BlockLaws.{held_of_lane, lane_held, right_value}
-use Rattle.block_cache.proofs.CanTries.{got_kind}
-use Rattle.block_cache.proofs.OverLaws.{held_true}
-use Rattle.expr_lanes.proofs.Sequence.{filtered_in, in_filter}
-use Rattle.block_cache.proofs.Members.{filter_passes}
+use Rattle.expr_lanes.proofs.Composed.{filtered_in, in_filter, filter_all}
 use Rattle.rdf_values.proofs.KeptLemmas.{cell_of_column, column_length}
 use Rattle.actions.specs.{Lane, lane_value, Sources, SuitsAt, truth_of}
 use Rattle.actions.specs.declared.batch.Sources.TheVariants.{One, Weighted, Pair, WeightedPair}
-use Rattle.loop_keys.proofs.ActionLaws.{integer_fits, numeric_fits, pair_fits, single_fits, triple_fits, weighted_fits}
 
 -- ---- one after another
 
@@ -49,7 +35,6 @@ pub spends_then : (j : JobView) (first count : ℕ) (a b c : List LaneView) (l m
 spends_then j first count a b c l m n h k = record {
   kinds = k.kinds ∙ h.kinds;
   rooms = k.rooms ∙ h.rooms;
-  stays = λ x p e. k.stays x p (h.stays x p e);
   grows = λ p. grows_on (cells_at (key_count (job_graph j)) a p) (cells_at (key_count (job_graph j)) b p) (cells_at (key_count (job_graph j)) c p) (h.grows p) (k.grows p);
   only = λ T all x p e. elim (k.only T all x p e) [ inl y ↦ h.only T all x p y | inr y ↦ inr y ];
   cost = (let x = h.cost in let y = k.cost in omega (arith, x, y));
@@ -64,42 +49,21 @@ module _ (j : JobView) (first count : ℕ) (u : Option ℕ) (s : ℕ) (sel : Lis
       let same = other_places j first u s sel before after spent.grown k p out in
       same_holds (key_count (job_graph j)) before after k p same ∙ h k (sym same.0 ∙ begun)
 
-  module _ (inside : EachPlace sel (λ p. p < count)) (demanded : (p : ℕ) (T : ℕ → Bool) → is_in p sel ≡ true → HasAllDemands j (first + p) T → Demands j (first + p) u T s) where
-    module _ (T : ℕ → ℕ → Bool) (all : (p : ℕ) → p < count → HasAllDemands j (first + p) (T p)) where
-      there : (p : ℕ) → is_in p sel ≡ true → Demands j (first + p) u (T p) s
-      there p i = demanded p (T p) i (all p (inside p i))
-
-      -- the sites that the loop demands at a place
-      pick : (p : ℕ) (b : Bool) → is_in p sel ≡ b → ℕ → Bool
-      unfolding there
-      pick p true e = (there p e).0
-      pick p false e = λ t. false
-
-      picked : (p : ℕ) (b : Bool) (e : is_in p sel ≡ b) → b ≡ true → IsClosed j (first + p) u (pick p b e) × (pick p b e s ≡ true)
-      unfolding pick
-      picked p true e q = ((there p e).1.closed, (there p e).2)
-      picked p false e q = cc q
-
-      picked_key : (p : ℕ) (b : Bool) (e : is_in p sel ≡ b) (t : ℕ) → pick p b e t ≡ true → T p (key (job_graph j) t u) ≡ true
-      unfolding pick
-      picked_key p true e t q = (there p e).1.keys t q
-      picked_key p false e t q = cc q
-
-      newly : (k p : ℕ) → begun_at after k p ≡ true → (begun_at before k p ≡ true) ⊎ ((p < count) × (T p k ≡ true))
-      newly k p begun = elim (spent.grown.only (λ q. pick q (is_in q sel) refl) (λ q i. picked q (is_in q sel) refl i) k p) [
-        | inl h ↦ inl (sym h.0 ∙ begun)
-        | inr h ↦ inr (inside p h.0, ap (T p) h.1.3 ∙ picked_key p (is_in p sel) refl h.1.0 h.1.2)
-      ]
-
-    pub spends_filled : Spends j first count before after start end
-    spends_filled = record {
-      kinds = spent.grown.kinds;
-      rooms = spent.grown.rooms;
-      stays = spent.grown.stays;
-      grows = spent.grown.grows;
-      only = λ T all k p h. newly T all k p h;
-      cost = spent.cost;
-    }
+  pub spends_filled : EachPlace sel (λ p. p < count) → ((p : ℕ) (T : ℕ → Bool) → is_in p sel ≡ true → HasAllDemands j (first + p) T → Demands j (first + p) u T s) → Spends j first count before after start end
+  spends_filled inside demanded = record {
+    kinds = spent.grown.kinds;
+    rooms = spent.grown.rooms;
+    grows = spent.grown.grows;
+    only = λ T all k p begun. elim (spent.grown.only (λ q. (pick T all q).0) (λ q i. (let d = (pick T all q).1 i in (d.0.closed, d.1))) k p) [
+      | inl h ↦ inl (sym h.0 ∙ begun)
+      | inr h ↦ inr (inside p h.0, ap (T p) h.1.3 ∙ ((pick T all p).1 h.0).0.keys h.1.0 h.1.2)
+    ];
+    cost = spent.cost;
+  }
+    where
+      -- the sites that the loop demands at a place, where it is selected
+      pick : (T : ℕ → ℕ → Bool) → ((p : ℕ) → p < count → HasAllDemands j (first + p) (T p)) → (p : ℕ) → (D : ℕ → Bool) × (is_in p sel ≡ true → IsDemandedAt j (first + p) u (T p) D × (D s ≡ true))
+      pick T all p = by_test (is_in p sel) (λ i. (let d = demanded p (T p) i (all p (inside p i)) in (d.0, λ e. (d.1, d.2)))) (λ i. ((λ t. false), λ e. cc (sym i ∙ e)))
 
 -- ---- What parts of a pass leave of a block, one after another.
 
@@ -125,66 +89,6 @@ site_no_vector j used s e its plain u is =
     (plain_typed e.kinds (job_graph j).names e.tree e.kind its.typed.typed (columns_scalar e.kinds e.tree (plain_expr j used s e plain u its))).1 in
     cc f
 
--- ---- the kinds of what an action reads
-
-module _ (d : Dataset) (row : List Value) (u : Under) (fits : FitsRow d.columns row) (before : List Statement) where
-  abbrev HaveFit : List ℕ → Type 0
-  HaveFit cs = AllByRecursion (FitsVersion d row u fits before) cs
-
-  inputs_fit : (earlier : List Statement) → AreAccepted (fn_names d.fns) (scope_of d.columns) earlier → Extends earlier before → (node : List ℕ) (cs : List (List ℕ))
-      → AreVisible ⊥ d.fns d.columns [] u before earlier node cs → HaveFit (map (version_at d.columns earlier node) cs)
-  inputs_fit earlier ok e node [] v = tt
-  inputs_fit earlier ok e node (c ∷ cs) v = (visible_fits d row u fits before earlier ok e node c v.0.0 v.0.1, inputs_fit earlier ok e node cs v.1)
-
-  result_fits : (earlier : List Statement) → AreAccepted (fn_names d.fns) (scope_of d.columns) earlier → Extends earlier before
-      → (n : ℕ) (r : ResultAt) → slice_get (results d.columns (fn_names d.fns) earlier) n ≡ Some r → HaveFit r.inputs
-  result_fits earlier good e n r h =
-      each_result d.columns (fn_names d.fns) (λ upto r. AreAccepted (fn_names d.fns) (scope_of d.columns) upto → Extends upto before → HaveFit r.inputs) (λ upto s r next ok i. next ok.1 (shorter s upto before i))
-      (λ upto result parent k ok i. inputs_fit upto ok.1 (shorter (Action result parent k) upto before i) parent (columns_of k) (action_visible ⊥ d.fns d.columns [] u before upto result parent k ok))
-      (λ upto result parent ok i. tt) earlier n r h good e
-
--- ---- a column that a version without vectors is given by
-
-both_fit : (t k : ColType) (v : Value) → FitsKind t v → FitsKind k v → is_vector t ≡ false → (k ≡ ColType.Bool → ⊥) → k ≡ ColType.Int
-both_fit t k v f g scalar nb = grind arith
-
-module _ (j : JobView) (job : IsJob j) (first : ℕ) (within : first < length j.dataset.rows) (u : Option ℕ) (loop : IsPlainLoop j) where
-  row_fits : FitsRow j.dataset.columns (row_of j first)
-  row_fits = fits_at j.dataset.columns j.dataset.rows first job.table.fit within
-
-  abbrev Fitting : ℕ → Type 0
-  Fitting c = FitsVersion j.dataset (row_of j first) (graph_under (job_graph j) u) row_fits (history j.script) c
-
-  cell_int : (col : ℕ) (t : ColType) → is_vector t ≡ false → col < length j.dataset.columns → FitsOutcome t (source_value {M = ℕ} (row_of j first) (site_in j first u) (Source.Cell col)) → kind_at j.dataset.columns col ≡ Some ColType.Int
-  cell_int col t scalar lt fit =
-      let c = cell_fits j.dataset.columns (row_of j first) col row_fits lt in
-      ap (option_map (λ (x : Column). x.kind)) c.2
-      ∙ ap Some (both_fit t c.0.kind c.1 (subst (λ (o : Option Value). FitsOutcome {M = ℕ} t (cell_value o)) c.3 fit) c.4.0 scalar
-      (λ b. not_stored j.dataset.columns j.dataset.columns refl job.table.header.distinct col lt c.0
-      (ap (λ (x : Column). x.kind) (get_or_from_slice_get j.dataset.columns col c.0 c.0 c.2) ∙ b)))
-
-  plain_source : (c : ℕ) → IsPlainVersion (job_graph j) loop.used c → Fitting c → (count : ℕ) (kinds : List ColType) (cells : _) (scratch levels : ℕ) → CanServe j first u count kinds cells scratch levels c → IsPlainSource j loop.used (source_at j u c)
-  plain_source c plain fit count kinds cells scratch levels can =
-      go (source_at j u c) fit.2 can.1 (plain.1 u)
-    where
-      plain_kind : is_vector fit.0 ≡ false
-      plain_kind = sym (ap (λ (o : Option ColType). is_vector (unwrap_or o ColType.Int)) fit.1) ∙ plain.0
-
-      go : (x : Source) → FitsOutcome fit.0 (source_value {M = ℕ} (row_of j first) (site_in j first u) x) → IsServable j first u count kinds cells scratch levels x → IsSourceIn loop.used x → IsPlainSource j loop.used x
-      go (Source.Cell col) f there i = cell_int col fit.0 plain_kind there.0 f
-      go x f there i = i
-
-  -- an action of a loop without vectors reads columns of numbers and sites without vectors
-  pub plain_reads : (pass : ℕ) (k : ActionKind) (inputs : List ℕ) → IsReadOf j pass k inputs u → (count : ℕ) (kinds : List ColType) (cells : _) (scratch levels : ℕ) → AllByRecursion (CanServe j first u count kinds cells scratch levels) inputs → ArePlainSources j loop.used u inputs
-  plain_reads pass k inputs own count kinds cells scratch levels can =
-      each inputs (subst (λ (cs : List ℕ). AllByRecursion (IsPlainVersion (job_graph j) loop.used) cs) own.inputs_are (recursion_from_All (IsPlainVersion (job_graph j) loop.used) own.result.inputs (loop.inputs pass own.numbered own.result own.action.its_pass own.action.its_result)))
-      (subst (λ (cs : List ℕ). AllByRecursion Fitting cs) own.inputs_are
-      (result_fits j.dataset (row_of j first) (graph_under (job_graph j) u) row_fits (history j.script) (history j.script) (accepted_of j job) itself own.numbered.result own.result own.action.its_result)) can
-    where
-      each : (cs : List ℕ) → AllByRecursion (IsPlainVersion (job_graph j) loop.used) cs → AllByRecursion Fitting cs → AllByRecursion (CanServe j first u count kinds cells scratch levels) cs → ArePlainSources j loop.used u cs
-      each [] p f h = tt
-      each (c ∷ cs) p f h = (plain_source c p.0 f.0 count kinds cells scratch levels h.0, each cs p.1 f.1 h.1)
-
 -- ---- Filling what a pass reads lowers the limit at its first fault.
 
 -- what is filled over a selection, up to its first fault, which lowers the limit
@@ -203,16 +107,8 @@ module _ (f : ℕ → Option EntryFault) (j : JobView) (first count : ℕ) (u : 
       (λ i. all_settled p (ap (is_in p) below_is ∙ in_filter (λ q. nat_lt q new.limit) p sel ∙ ap (λ b. b && nat_lt p new.limit) i ∙ (Decides-ltb p new.limit).1 lt))
       (λ i. (let l = lowered.falls in settled_outside j first count u s sel before after start end spent p i (known p (omega (arith, lt, l)))))
 
-  pub filled_over : (below_fault fault sel ≡ filter (λ p. nat_lt p new.limit) sel) × Lowers (where_in f sel) first pass old new × ((p : ℕ) → p < new.limit → IsSettledAt after p)
-  filled_over = (below_is, lowered, settled_at)
-
-module _ (j : JobView) (first count : ℕ) (u : Option ℕ) (s pass : ℕ) (sel left : List ℕ) (before after : List LaneView) (start end : ℕ) (old new : Found) (fault : Option PlaceFault)
-    (spent : IsSpentOver j first u s sel before after start end) (filled : IsFilledTo j first u count s sel left after fault) (all_settled : IsSettled after left)
-    (rising : AreRising sel) (inside : EachPlace sel (λ p. p < old.limit)) (known : (p : ℕ) → p < old.limit → IsSettledAt before p) (now : new ≡ noted first pass old fault) where
-  pub site_served : (to : Kept) → to.limit ≡ Some new.limit → to.places ≡ left → IsServedTo j first count (site_fault j first u s) pass sel to after old new
-  site_served to l p =
-      let w = filled_over (site_fault j first u s) j first count u s pass sel before after start end old new fault spent filled.fault (λ q i. all_settled q (ap (is_in q) filled.left_is ∙ i)) rising inside known now in
-      record { ready = filled.ready; settled = w.2; lowers = w.1; its_limit = l; left = p ∙ filled.left_is ∙ w.0 }
+  pub filled_over : AreReady j first count after → (to : Kept) → to.limit ≡ Some new.limit → to.places ≡ below_fault fault sel → IsServedTo j first count f pass sel to after old new
+  filled_over ready to limit left = record { ready = ready; settled = settled_at; lowers = lowered; its_limit = limit; left = left ∙ below_is }
 
 -- ---- what gives a version its value
 
@@ -235,18 +131,16 @@ pub none_served : (j : JobView) (first count : ℕ) (part : ℕ → Option Entry
     → EachPlace to.places (λ p. part p ≡ None) → IsServedTo j first count part pass to.places to lanes s s
 none_served j first count part pass to lanes s ready made inside settled none = grind (arith, none_lowers, selected_or_none, filter_all, Decides-ltb)
 
--- a column never faults
-module _ (j : JobView) (first : ℕ) (u : Option ℕ) (col : ℕ) (x : Source) (e : x ≡ Source.Cell col) where
-  pub column_clear : (sel : List ℕ) → EachPlace sel (λ p. source_fault j first u x p ≡ None)
-  column_clear sel p i = grind arith
-
 -- the places that are left were selected, and are below the limit
 module _ (j : JobView) (first count : ℕ) (part : ℕ → Option EntryFault) (pass : ℕ) (sel : List ℕ) (to : Kept) (lanes : List LaneView) (old new : Found) (h : IsServedTo j first count part pass sel to lanes old new) where
   pub served_among : EachPlace to.places (λ q. is_in q sel ≡ true)
   served_among q i = filtered_in (λ x. nat_lt x new.limit) q sel (sym (ap (is_in q) h.left) ∙ i)
 
   pub served_inside : EachPlace to.places (λ q. q < new.limit)
-  served_inside q i = lt_says q new.limit (filter_passes sel (λ x. nat_lt x new.limit) q (sym (ap (is_in q) h.left) ∙ i))
+  served_inside q i = ltb-true q new.limit (filter_passes sel (λ x. nat_lt x new.limit) q (sym (ap (is_in q) h.left) ∙ i))
+
+  pub served_selected : IsSelected new.limit to
+  served_selected = record { made = h.its_limit; inside = served_inside }
 
 -- ---- one part after another
 
@@ -278,18 +172,11 @@ module _ (j : JobView) (first count : ℕ) (a b : ℕ → Option EntryFault) (pa
 pub given_none : (o : Outcome ⊥ Value) → fault_in o ≡ None → (v : Value) × (o ≡ Gives v)
 given_none o h = grind arith
 
-module _ (j : JobView) (first count : ℕ) (u : Option ℕ) (s : ℕ) (inside : s < length (graph_sites (job_graph j))) (lanes : List LaneView) (ready : AreReady j first count lanes) (p : ℕ) (low : p < count) where
-  abbrev k : ℕ
-  k = key (job_graph j) s u
-
-  -- ---- the site
-
-  module _ (l : LaneView) (at : slice_get lanes k ≡ Some l) (holds : holds_at lanes k p ≡ true) where
-    cell_is : held_in (cells_at (key_count (job_graph j)) lanes p) k ≡ held_value (value_of l p)
-    cell_is = held_of_lane (key_count (job_graph j)) lanes p k ∙ ap (λ o. lane_held o p) at ∙ held_true l p (ap (λ o. lane_holds o p) (sym at) ∙ holds)
-
-    pub site_gives : site_in {M = ⊥} j (first + p) u s ≡ Gives (value_of l p)
-    site_gives = right_value (site_in j (first + p) u s) (value_of l p) (subst (λ (x : Held). IsRight (site_in j (first + p) u s) x) cell_is ((ready.sound p low).each u s inside))
+pub site_gives : (j : JobView) (first count : ℕ) (u : Option ℕ) (s : ℕ) → s < length (graph_sites (job_graph j)) → (lanes : List LaneView) → AreReady j first count lanes → (p : ℕ) → p < count
+    → (l : LaneView) → slice_get lanes (key (job_graph j) s u) ≡ Some l → holds_at lanes (key (job_graph j) s u) p ≡ true → site_in {M = ⊥} j (first + p) u s ≡ Gives (value_of l p)
+site_gives j first count u s inside lanes ready p low l at holds =
+    let cell_is = held_of_lane (key_count (job_graph j)) lanes p (key (job_graph j) s u) ∙ ap (λ o. lane_held o p) at ∙ held_true l p (ap (λ o. lane_holds o p) (sym at) ∙ holds) in
+    right_value (site_in j (first + p) u s) (value_of l p) (subst (λ (x : Held). IsRight (site_in j (first + p) u s) x) cell_is ((ready.sound p low).each u s inside))
 
 -- what is told of a site's value by the lane that is read at its key
 module _ {V : Type 0} {D : V → Type 0} {g : _} (t : Turn V D g) (lanes : List LaneView) (over : IsOver t lanes) (u : Option ℕ) (s : ℕ)
@@ -340,18 +227,18 @@ kind_got cs now e i lt d t is = ap (option_map (λ (c : Column). c.kind)) (slice
 -- ---- the site is filled, and then its elements are tested
 
 module _ (j : JobView) (first count : ℕ) (u : Option ℕ) (s n tags pass : ℕ) (sel : List ℕ) (mid to : Kept) (between lanes : List LaneView) (f0 f1 f2 : Found)
-    (h : IsServedTo j first count (site_fault j first u s) pass sel mid between f0 f1) (k : IsServedTo j first count (element_fault j first u s n tags) pass mid.places to lanes f1 f2) where
-  pub element_served : IsServedTo j first count (element_fault j first u s n tags) pass sel to lanes f0 f2
+    (h : IsServedTo j first count (site_fault j first u s) pass sel mid between f0 f1) (k : IsServedTo j first count (source_fault j first u (Source.Element s n tags)) pass mid.places to lanes f1 f2) where
+  pub element_served : IsServedTo j first count (source_fault j first u (Source.Element s n tags)) pass sel to lanes f0 f2
   element_served =
-      served_then j first count (site_fault j first u s) (element_fault j first u s n tags) pass sel mid to between lanes f0 f1 f2 h k (element_fault j first u s n tags)
+      served_then j first count (site_fault j first u s) (source_fault j first u (Source.Element s n tags)) pass sel mid to between lanes f0 f1 f2 h k (source_fault j first u (Source.Element s n tags))
       (λ p. grind arith)
 
   -- the elements that are left are at hand
   pub element_held : s < length (graph_sites (job_graph j)) → f2.limit ≤ count → EachPlace mid.places (λ p. holds_at lanes (key (job_graph j) s u) p ≡ true) → EachPlace to.places (λ p. IsAtHand j first lanes u p (Source.Element s n tags))
   element_held inside le holds p i =
-      let was = served_among j first count (element_fault j first u s n tags) pass mid.places to lanes f1 f2 k p i in
-      let lt = served_inside j first count (element_fault j first u s n tags) pass mid.places to lanes f1 f2 k p i in
-      let clear : element_fault j first u s n tags p ≡ None = sym (ap (λ b. if b then element_fault j first u s n tags p else None) was) ∙ k.lowers.clear p lt in
+      let was = served_among j first count (source_fault j first u (Source.Element s n tags)) pass mid.places to lanes f1 f2 k p i in
+      let lt = served_inside j first count (source_fault j first u (Source.Element s n tags)) pass mid.places to lanes f1 f2 k p i in
+      let clear : source_fault j first u (Source.Element s n tags) p ≡ None = sym (ap (λ b. if b then source_fault j first u (Source.Element s n tags) p else None) was) ∙ k.lowers.clear p lt in
       let v = given_none (site_in {M = ⊥} j (first + p) u s >>= tag_element tags n) clear in
       (holds p was, v.0, v.1)
 
@@ -363,102 +250,80 @@ still_at_hand j first count before after start end spends u p (Source.Cell col) 
 still_at_hand j first count before after start end spends u p (Source.Site s) h = holds_on (key_count (job_graph j)) before after (key (job_graph j) s u) p (spends.grows p) h
 still_at_hand j first count before after start end spends u p (Source.Element s k tags) h = (holds_on (key_count (job_graph j)) before after (key (job_graph j) s u) p (spends.grows p) h.0, h.1, h.2)
 
+pub all_still : (j : JobView) (first count : ℕ) (before after : List LaneView) (start end : ℕ) → Spends j first count before after start end → (u : Option ℕ) (p : ℕ) (cs : List ℕ) → AreAtHand j first before u cs p → AreAtHand j first after u cs p
+all_still j first count before after start end spends u p cs h =
+    each_weaker (λ c. IsAtHand j first before u p (source_at j u c)) (λ c. IsAtHand j first after u p (source_at j u c)) (λ c hand. still_at_hand j first count before after start end spends u p (source_at j u c) hand) cs h
+
 none_given : (o : Outcome ⊥ Value) (X : Type 0) → fault_in o ≡ None → IfGiven o X → X
 none_given o X h x = grind arith
 
-module _ (j : JobView) (first : ℕ) (u : Option ℕ) (inputs cs : List ℕ) (c : ℕ) (e : inputs ≡ c ∷ cs) where
-  -- ---- what is asked
-
-  pub first_demanded : (entry : ℕ) (T : ℕ → Bool) → DemandsInputs j entry u T inputs → DemandsSource j entry u T (source_at j u c)
-  first_demanded entry T d = grind arith
-
-  -- ---- one after another
-
-  module _ (count pass : ℕ) (sel : List ℕ) (mid : Kept) (before between : List LaneView) (f0 f1 : Found) (h : IsServedTo j first count (source_fault j first u (source_at j u c)) pass sel mid between f0 f1) where
-    pub rest_demanded : ((p : ℕ) (T : ℕ → Bool) → is_in p sel ≡ true → HasAllDemands j (first + p) T → DemandsInputs j (first + p) u T inputs)
-        → (p : ℕ) (T : ℕ → Bool) → is_in p mid.places ≡ true → HasAllDemands j (first + p) T → DemandsInputs j (first + p) u T cs
-    rest_demanded demanded p T i all =
-        let was = served_among j first count (source_fault j first u (source_at j u c)) pass sel mid between f0 f1 h p i in
-        let low = served_inside j first count (source_fault j first u (source_at j u c)) pass sel mid between f0 f1 h p i in
-        let w = subst (λ (l : List ℕ). DemandsInputs j (first + p) u T l) e (demanded p T was all) in
-        let clear : source_fault j first u (source_at j u c) p ≡ None =
-        sym (ap (λ b. if b then source_fault j first u (source_at j u c) p else None) was) ∙ h.lowers.clear p low in
-        (w.0, w.1, none_given (version_in j (first + p) u c) (HasInputs (λ s. w.0 s ≡ true) (source_at j u) (version_in j (first + p) u) cs) clear w.2.1)
-
-    module _ (to : Kept) (lanes : List LaneView) (f2 : Found) (k : IsServedTo j first count (inputs_fault j first u cs) pass mid.places to lanes f1 f2) where
-      pub inputs_served : IsServedTo j first count (inputs_fault j first u inputs) pass sel to lanes f0 f2
-      inputs_served =
-          served_then j first count (source_fault j first u (source_at j u c)) (inputs_fault j first u cs) pass sel mid to between lanes f0 f1 f2 h k (inputs_fault j first u inputs)
-          (λ p. sym (all_fault (version_in j (first + p) u) c cs) ∙ ap (λ l. inputs_fault j first u l p) (sym e))
-
-      pub inputs_held : (start end : ℕ) → Spends j first count between lanes start end → EachPlace mid.places (λ p. IsAtHand j first between u p (source_at j u c)) → EachPlace to.places (AreAtHand j first lanes u cs) → EachPlace to.places (AreAtHand j first lanes u inputs)
-      inputs_held start end spends one rest p i =
-          let was = served_among j first count (inputs_fault j first u cs) pass mid.places to lanes f1 f2 k p i in
-          subst (λ (l : List ℕ). AreAtHand j first lanes u l p) (sym e)
-          (still_at_hand j first count between lanes start end spends u p (source_at j u c) (one p was), rest p i)
-
--- so many of the versions were served at the places of a selection: what is left of it, and what follows where the others are served there
+-- so many of the versions were served at the places of a selection, and what is left of it
 pub record AreServedTo {V : Type 0} {D : V → Type 0} {g : _} (t : Turn V D g) (u : Option ℕ) (inputs sel : List ℕ) (old : Work) (start n : ℕ) (w : Work) (to : Kept) (steps : ℕ) : Type 0 where
   pub leaves : Leaves t old w start steps
   pub known : IsKnown t w
   pub selected : IsSelected w.found.limit to
   pub demanded : (p : ℕ) (T : ℕ → Bool) → is_in p to.places ≡ true → HasAllDemands (turn_job t) (t.first + p) T → DemandsInputs (turn_job t) (t.first + p) u T (drop n inputs)
-  pub served : (last : Kept) (lanes : List LaneView) (f : Found) → IsServedInTurn t (inputs_fault_in_turn t u (drop n inputs)) to.places last lanes w.found f → IsServedInTurn t (inputs_fault_in_turn t u inputs) sel last lanes old.found f
-  pub held : (last : Kept) (lanes : List LaneView) (f : Found) → IsServedInTurn t (inputs_fault_in_turn t u (drop n inputs)) to.places last lanes w.found f → (end : ℕ) → Spends (turn_job t) t.first t.count w.lanes.items lanes steps end
-      → EachPlace last.places (AreAtHand (turn_job t) t.first lanes u (drop n inputs)) → EachPlace last.places (AreAtHand (turn_job t) t.first lanes u inputs)
+  pub served : IsServedInTurn t (inputs_fault (turn_job t) t.first u (take n inputs)) sel to w.lanes.items old.found w.found
+  pub held : EachPlace to.places (AreAtHand (turn_job t) t.first w.lanes.items u (take n inputs))
 
 module _ {V : Type 0} {D : V → Type 0} {g : _} (t : Turn V D g) (u : Option ℕ) (inputs : List ℕ) where
   pub begin_served : (w : Work) (to : Kept) (steps : ℕ) → IsKnown t w → IsSelected w.found.limit to
       → ((p : ℕ) (T : ℕ → Bool) → is_in p to.places ≡ true → HasAllDemands (turn_job t) (t.first + p) T → DemandsInputs (turn_job t) (t.first + p) u T inputs) → AreServedTo t u inputs to.places w steps 0 w to steps
-  begin_served w to steps known selected demanded = grind (arith, spends_none)
+  begin_served w to steps known selected demanded = record {
+    leaves = record { spends = spends_none (turn_job t) t.first t.count w.lanes.items steps; scratch = refl; levels = refl };
+    known = known;
+    selected = selected;
+    demanded = demanded;
+    served = none_served (turn_job t) t.first t.count (inputs_fault (turn_job t) t.first u []) t.pass to w.lanes.items w.found known.ready selected.made selected.inside known.settled (λ p i. refl);
+    held = λ p i. tt;
+  }
 
   module _ (sel : List ℕ) (old : Work) (start n : ℕ) (w : Work) (to : Kept) (steps : ℕ) (h : AreServedTo t u inputs sel old start n w to steps) where
     -- the next one is served
-    pub next_served : n < length inputs → (now : Work) (left : Kept) (after : ℕ) → Leaves t w now steps after → IsServedInTurn t (source_fault_in_turn t u (get_or inputs n 0)) to.places left now.lanes.items w.found now.found
+    pub next_served : n < length inputs → (now : Work) (left : Kept) (after : ℕ) → Leaves t w now steps after → IsServedInTurn t (source_fault (turn_job t) t.first u (source_in_turn t u (get_or inputs n 0))) to.places left now.lanes.items w.found now.found
         → EachPlace left.places (λ p. IsAtHand (turn_job t) t.first now.lanes.items u p (source_in_turn t u (get_or inputs n 0))) → AreServedTo t u inputs sel old start (n + 1) now left after
     next_served low now left after l s one =
         let j = turn_job t in
         let c = get_or inputs n 0 in
         let m : suc n ≡ n + 1 = omega arith in
-        let e : drop n inputs ≡ c ∷ drop (n + 1) inputs = drop-cons inputs n 0 low ∙ ap (λ k. c ∷ drop k inputs) m in
+        let rest : drop n inputs ≡ c ∷ drop (n + 1) inputs = drop-cons inputs n 0 low ∙ ap (λ k. c ∷ drop k inputs) m in
+        let front : take n inputs ++ c ∷ [] ≡ take (n + 1) inputs = sym (take_next inputs n c (slice_get-get_or inputs n 0 low)) in
         let falls = s.lowers.falls in
         let le = h.known.limit in
-        let both : (last : Kept) (lanes : List LaneView) (f : Found) → IsServedInTurn t (inputs_fault_in_turn t u (drop (n + 1) inputs)) left.places last lanes now.found f → IsServedInTurn t (inputs_fault_in_turn t u (drop n inputs)) to.places last lanes w.found f =
-        λ last lanes f k. inputs_served j t.first u (drop n inputs) (drop (n + 1) inputs) c e t.count t.pass to.places left w.lanes.items now.lanes.items w.found now.found s last lanes f k in
         record {
           leaves = leaves_then t old w now start steps after h.leaves l;
           known = record { turn = h.known.turn; ready = s.ready; limit = omega (arith, falls, le); settled = s.settled };
-          selected = record { made = s.its_limit; inside = served_inside j t.first t.count (source_fault_in_turn t u c) t.pass to.places left now.lanes.items w.found now.found s };
-          demanded = rest_demanded j t.first u (drop n inputs) (drop (n + 1) inputs) c e t.count t.pass to.places left w.lanes.items now.lanes.items w.found now.found s h.demanded;
-          served = λ last lanes f k. h.served last lanes f (both last lanes f k);
-          held = λ last lanes f k end spends rest.
-              h.held last lanes f (both last lanes f k) end (spends_then j t.first t.count w.lanes.items now.lanes.items lanes steps after end l.spends spends)
-              (inputs_held j t.first u (drop n inputs) (drop (n + 1) inputs) c e t.count t.pass to.places left w.lanes.items now.lanes.items w.found now.found s last lanes f k after end spends one rest);
+          selected = served_selected j t.first t.count (source_fault (turn_job t) t.first u (source_in_turn t u c)) t.pass to.places left now.lanes.items w.found now.found s;
+          demanded = λ p T i all. (
+              let was = served_among j t.first t.count (source_fault (turn_job t) t.first u (source_in_turn t u c)) t.pass to.places left now.lanes.items w.found now.found s p i in
+              let under = served_inside j t.first t.count (source_fault (turn_job t) t.first u (source_in_turn t u c)) t.pass to.places left now.lanes.items w.found now.found s p i in
+              let d = subst (λ (cs : List ℕ). DemandsInputs j (t.first + p) u T cs) rest (h.demanded p T was all) in
+              let clear : source_fault (turn_job t) t.first u (source_in_turn t u c) p ≡ None = sym (ap (λ b. if b then source_fault (turn_job t) t.first u (source_in_turn t u c) p else None) was) ∙ s.lowers.clear p under in
+              (d.0, d.1, none_given (version_in j (t.first + p) u c) (HasInputs (λ s. d.0 s ≡ true) (source_at j u) (version_in j (t.first + p) u) (drop (n + 1) inputs)) clear d.2.1));
+          served = subst (λ (cs : List ℕ). IsServedInTurn t (inputs_fault (turn_job t) t.first u cs) sel left now.lanes.items old.found now.found) front
+              (served_then j t.first t.count (inputs_fault (turn_job t) t.first u (take n inputs)) (source_fault (turn_job t) t.first u (source_in_turn t u c)) t.pass sel to left w.lanes.items now.lanes.items old.found w.found now.found h.served s
+              (inputs_fault (turn_job t) t.first u (take n inputs ++ c ∷ [])) (λ p. sym (last_fault (version_in j (t.first + p) u) c (take n inputs))));
+          held = λ p i. (
+              let was = served_among j t.first t.count (source_fault (turn_job t) t.first u (source_in_turn t u c)) t.pass to.places left now.lanes.items w.found now.found s p i in
+              subst (λ (cs : List ℕ). AreAtHand j t.first now.lanes.items u cs p) front
+              (each_append (λ v. IsAtHand j t.first now.lanes.items u p (source_at j u v)) (take n inputs) (c ∷ [])
+              (all_still j t.first t.count w.lanes.items now.lanes.items steps after l.spends u p (take n inputs) (h.held p was)) (one p i, tt)));
         }
 
     -- which is at hand
-    pub hand_served : n < length inputs → EachPlace to.places (λ p. source_fault_in_turn t u (get_or inputs n 0) p ≡ None) → EachPlace to.places (λ p. IsAtHand (turn_job t) t.first w.lanes.items u p (source_in_turn t u (get_or inputs n 0)))
+    pub hand_served : n < length inputs → EachPlace to.places (λ p. source_fault (turn_job t) t.first u (source_in_turn t u (get_or inputs n 0)) p ≡ None) → EachPlace to.places (λ p. IsAtHand (turn_job t) t.first w.lanes.items u p (source_in_turn t u (get_or inputs n 0)))
         → AreServedTo t u inputs sel old start (n + 1) w to steps
     hand_served low clear hand =
         next_served low w to steps (record { spends = spends_none (turn_job t) t.first t.count w.lanes.items steps; scratch = refl; levels = refl })
-        (none_served (turn_job t) t.first t.count (source_fault_in_turn t u (get_or inputs n 0)) t.pass to w.lanes.items w.found h.known.ready h.selected.made h.selected.inside h.known.settled clear) hand
+        (none_served (turn_job t) t.first t.count (source_fault (turn_job t) t.first u (source_in_turn t u (get_or inputs n 0))) t.pass to w.lanes.items w.found h.known.ready h.selected.made h.selected.inside h.known.settled clear) hand
 
     pub next_demanded : n < length inputs → (p : ℕ) (T : ℕ → Bool) → is_in p to.places ≡ true → HasAllDemands (turn_job t) (t.first + p) T → DemandsSource (turn_job t) (t.first + p) u T (source_in_turn t u (get_or inputs n 0))
-    next_demanded low p T i all = first_demanded (turn_job t) t.first u (drop n inputs) (drop (suc n) inputs) (get_or inputs n 0) (drop-cons inputs n 0 low) (t.first + p) T (h.demanded p T i all)
+    next_demanded low p T i all = let d = subst (λ (cs : List ℕ). DemandsInputs (turn_job t) (t.first + p) u T cs) (drop-cons inputs n 0 low) (h.demanded p T i all) in (d.0, d.1, d.2.0)
 
     -- none is left
     pub all_served : length inputs ≤ n
-        → IsServedInTurn t (inputs_fault_in_turn t u inputs) sel to w.lanes.items old.found w.found × EachPlace to.places (AreAtHand (turn_job t) t.first w.lanes.items u inputs)
-    all_served le =
-        let j = turn_job t in
-        let e : drop n inputs ≡ [] = nil_from_length (drop n inputs) (let l = length-drop n inputs in omega (arith, l, le)) in
-        let none =
-        none_served j t.first t.count (inputs_fault_in_turn t u (drop n inputs)) t.pass to w.lanes.items w.found h.known.ready h.selected.made h.selected.inside h.known.settled
-        (λ p i. ap (λ (l : List ℕ). inputs_fault j t.first u l p) e) in (
-          h.served to w.lanes.items w.found none,
-          h.held to w.lanes.items w.found none steps (spends_none j t.first t.count w.lanes.items steps)
-              (λ p i. subst (λ (l : List ℕ). AreAtHand j t.first w.lanes.items u l p) (sym e) tt),
-        )
+        → IsServedInTurn t (inputs_fault (turn_job t) t.first u inputs) sel to w.lanes.items old.found w.found × EachPlace to.places (AreAtHand (turn_job t) t.first w.lanes.items u inputs)
+    all_served le = subst (λ (cs : List ℕ). IsServedInTurn t (inputs_fault (turn_job t) t.first u cs) sel to w.lanes.items old.found w.found × EachPlace to.places (AreAtHand (turn_job t) t.first w.lanes.items u cs)) (take_all n inputs le) (h.served, h.held)
 
 cell_given : (o : Option (List Value)) (col : ℕ) (v : Value) → option_and_then (λ row. slice_get row col) o ≡ Some v → cell_value {M = ⊥} (slice_get (unwrap_or o []) col) ≡ Gives v
 cell_given o col v h = grind arith
@@ -582,12 +447,6 @@ module _ {V : Type 0} {D : V → Type 0} {g : _} (t : Turn V D g) (lanes : List 
             ∙ site_gives j t.first t.count u site_is.0 site_inside lanes over.ready p low l at holds ∙ ap Gives (sym has_p.1);
       }
 
-  pub lanes_give : (o : Option Lane) → ((l : LaneView) → slice_get lanes k ≡ Some l → IfSome o (HasHeld l))
-      → IfSome o (λ fed. (p : ℕ) → p < t.count → IsAtHand j t.first lanes u p (source_in_turn t u version) →
-      IsLaneOf (version_in {M = ⊥} j (t.first + p) u version) fed p)
-  lanes_give None has = tt
-  lanes_give (Some fed) has = lane_gives fed has
-
   pub no_vectors : IsWhole j u (kinds_of lanes) (source_in_turn t u version) → slice_get (kinds_of lanes) k ≡ Some ColType.Vect → ⊥
   no_vectors whole vector = subst (IsWhole j u (kinds_of lanes)) site_is.1 whole (ap (slice_get (kinds_of lanes)) site_is.2 ∙ vector)
 
@@ -599,6 +458,6 @@ module _ {V : Type 0} {D : V → Type 0} {g : _} (t : Turn V D g) (lanes : List 
     pub hand_held : EachPlace sel (λ p. IsAtHand j t.first lanes u p (source_in_turn t u version))
     hand_held p i = subst (IsAtHand j t.first lanes u p) (sym site_is.1) (holds p i)
 
-    pub hand_clear : EachPlace sel (λ p. p < t.count) → EachPlace sel (λ p. source_fault_in_turn t u version p ≡ None)
+    pub hand_clear : EachPlace sel (λ p. p < t.count) → EachPlace sel (λ p. source_fault (turn_job t) t.first u (source_in_turn t u version) p ≡ None)
     hand_clear low p i = ap (λ (y : Source). source_fault j t.first u y p) site_is.1
         ∙ held_no_fault j t.first u t.count site_is.0 site_inside lanes over.ready p (low p i) (holds p i)

@@ -4,7 +4,7 @@ use Rattle.std.specs.List.{slice_range, AllByRecursion}
 use Rattle.rdf_values.specs.{ActionKind, ColType, columns_of, EntryFault, Span, Value}
 use Rattle.rdf_model.specs.{Faults, FitsFeed, for_all, Gives, Outcome}
 use Rattle.actions.specs.{HasPlace, HasValues, Lane, lane_value, PlaceFault as BatchFault, Sources, span_at, SuitsAt, values_at, Batch, places_of}
-use Rattle.expr_lanes.specs.{at_place, EachPlace, is_in}
+use Rattle.expr_lanes.specs.{at_place, is_in}
 use Rattle.loop_keys.specs.{JobView, version_in, job_graph, pass_fault, passes_in}
 use Rattle.block_passes.specs.Clusters.{entries_from, IsBlockOf}
 use Rattle.block_passes.specs.Inputs.{AreAtHand, CanServe}
@@ -13,7 +13,7 @@ use Rattle.block_passes.specs.Searches.{feeding_fault}
 use Rattle.graph_numbers.specs.{FilterAt, graph_filters}
 use Rattle.cluster_tally.specs.{BlockStage, CanFeedBatch, TallyView}
 use Rattle.block_passes.specs.Plans.{PlanView, Chain}
-use Rattle.block_passes.specs.Tries.{AreKept, IsReadBelow, IsReadOf}
+use Rattle.block_passes.specs.Tries.{AreKept, IsOverAll, IsReadBelow, IsReadOf}
 use Rattle.block_passes.specs.declared.turn.Kept.{Kept}
 use Rattle.block_passes.specs.declared.plan.NamedSteps.{NamedSteps}
 use Rattle.rdf_model.specs.declared.loop_facts.LoopFacts.{LoopFacts}
@@ -81,11 +81,7 @@ IsAmid j first count s = IsBlockOf j s.cluster s.entries (entries_from first cou
 abbrev pub at_filter : BlockStage → ℕ → BlockStage
 at_filter s n = record { done = s.done; cluster = s.cluster; entries = s.entries; block = s.block; passes = s.passes; filters = n }
 
--- the selection of a step was made over all of a block
-abbrev pub IsOverAll : ℕ → List Kept → ℕ → Type 0
-IsOverAll count kept k = (m : Kept) → slice_get kept k ≡ Some m → m.limit ≡ Some count
-
--- so were those of each named filter that is covered, and none of the filters faults in the block
+-- the selections of each named filter that is covered were made over all of a block, and none of the filters faults in it
 pub record AreCountable (j : JobView) (first count : ℕ) (chains : List Chain) (p : PlanView) (kept : List Kept) : Type 0 where
   pub kept_are : AreKept j first chains count kept
   pub above : (f : ℕ) (x : FilterAt) (s : NamedSteps) → slice_get (graph_filters (job_graph j)) f ≡ Some x → slice_get p.filters f ≡ Some (Some s) → IsOverAll count kept s.above
@@ -94,8 +90,6 @@ pub record AreCountable (j : JobView) (first count : ℕ) (chains : List Chain) 
 -- so many action passes have taken it in
 abbrev pub at_pass : BlockStage → ℕ → BlockStage
 at_pass s n = record { done = s.done; cluster = s.cluster; entries = s.entries; block = s.block; passes = n; filters = s.filters }
-
--- ---- What stands after a search over a block in which no pass faults.
 
 -- no pass faults at any place; the selections of all steps that are fed or counted were made over all of the block; and what the
 -- actions read is at hand where their filters are passed
@@ -107,16 +101,6 @@ pub record IsClear (j : JobView) (first count : ℕ) (chains : List Chain) (p : 
   pub over : (n : ℕ) (k : ActionKind) (inputs : List ℕ) (u : Option ℕ) → IsReadOf j n k inputs u → (last : ℕ) → slice_get p.passes n ≡ Some last → IsOverAll count kept last
 
 -- ---- What stands before the action passes of a block are fed.
-
--- all that an action reads is at hand at a place, and it can be fed with that
-pub record IsFeedableAt (j : JobView) (first : ℕ) (lanes : List LaneView) (k : ActionKind) (inputs : List ℕ) (u : Option ℕ) (p : ℕ) : Type 0 where
-  pub hand : AreAtHand j first lanes u inputs p
-  pub clear : unfed j first k inputs u p ≡ None
-
--- the selection of the action's last step was made over all of the block, and at each of its places the action can be fed
-pub record IsFeedable (j : JobView) (first count : ℕ) (lanes : List LaneView) (kept : List Kept) (last : ℕ) (k : ActionKind) (inputs : List ℕ) (u : Option ℕ) : Type 0 where
-  pub over_all : IsOverAll count kept last
-  pub each : (s : Kept) → slice_get kept last ≡ Some s → EachPlace s.places (IsFeedableAt j first lanes k inputs u)
 
 -- the batch has the selected places, and at each of them the lanes are of all that an action reads, where that is at hand
 pub record IsBatchOf (j : JobView) (first count : ℕ) (lanes : List LaneView) (k : ActionKind) (inputs : List ℕ) (u : Option ℕ) (sel : List ℕ) (b : Batch) : Type 0 where

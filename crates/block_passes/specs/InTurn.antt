@@ -3,10 +3,10 @@ use Rattle.std.specs.Prelude.{◌≡◌, ◌<◌, ◌≤◌, ◌+◌, ℕ, List,
 use Rattle.expr_lanes.specs.{EachPlace}
 use Rattle.expr_lanes.specs.declared.TheConstants.{MAX_PLACES}
 use Rattle.block_cache.specs.{AreReady, IsSpentOver, kinds_of, LaneView}
-use Rattle.loop_keys.specs.{AreKeys, Fits, IsPlainLoop, Job, job_graph, job_of, JobView, Row, source_at, version_in}
+use Rattle.loop_keys.specs.{AreKeys, ArePlainVersions, Fits, Job, job_graph, job_of, JobView, Row, source_at, version_in, ArePlain}
 use Rattle.rdf_model.specs.{for_all}
 use Rattle.block_passes.specs.Plans.{IsPlan, PlanView, Chain}
-use Rattle.block_passes.specs.Inputs.{IsSettledAt, Spends, AreAtHand, ArePlainSources, IsWhole, CanServe, IsServedTo, element_fault, inputs_fault, source_fault}
+use Rattle.block_passes.specs.Inputs.{IsSettledAt, Spends, AreAtHand, IsWhole, CanServe, IsServedTo}
 use Rattle.block_passes.specs.declared.turn.Kept.{Kept}
 use Rattle.block_passes.specs.declared.turn.Turn.{Turn}
 use Rattle.block_passes.specs.declared.turn.Work.{Work}
@@ -18,7 +18,6 @@ use Rattle.block_passes.specs.Feeds.{AreLanesOf, CanGather, GivesNumber, GivesVe
 use Rattle.block_passes.specs.Tries.{CanSelect, CanServeAll, IsReadyBelow, IsSelectedTo}
 use Rattle.block_passes.specs.declared.copies.Copied.{Copied}
 use Rattle.block_passes.specs.declared.copies.Copies.{Copies}
-use Rattle.block_passes.specs.declared.inputs.SiteElement.{SiteElement}
 use Rattle.block_passes.specs.declared.turn.Found.{Found}
 use Rattle.block_passes.specs.declared.turn.ActionRead.{ActionRead}
 
@@ -78,10 +77,6 @@ module _ {V : Type 0} {D : V → Type 0} {g : _} (t : Turn V D g) where
   abbrev pub IsPlanOfTurn : Type 0
   IsPlanOfTurn = IsPlan turn_job t.plan.now
 
-  -- no evaluation wants memory
-  abbrev pub IsPlainTurn : Type 0
-  IsPlainTurn = IsPlainLoop turn_job
-
   -- the tally is amid the block
   abbrev pub IsAmidTurn : BlockStage → Type 0
   IsAmidTurn = IsAmid turn_job t.first t.count
@@ -132,18 +127,6 @@ module _ {V : Type 0} {D : V → Type 0} {g : _} (t : Turn V D g) where
   IsCopyInTurn u lanes sel c (Copied.Numbers numbers) = EachPlace sel (λ p. GivesNumber numbers.items p (version_in turn_job (t.first + p) u c))
   IsCopyInTurn u lanes sel c (Copied.Vectors vectors) = EachPlace sel (λ p. GivesVector vectors.elements.items vectors.spans.items p (version_in turn_job (t.first + p) u c))
 
-  -- the fault of a version at a place
-  abbrev pub source_fault_in_turn : Option ℕ → ℕ → ℕ → Option EntryFault
-  source_fault_in_turn under version = source_fault turn_job t.first under (source_in_turn under version)
-
-  -- the first one of several
-  abbrev pub inputs_fault_in_turn : Option ℕ → List ℕ → ℕ → Option EntryFault
-  inputs_fault_in_turn = inputs_fault turn_job t.first
-
-  -- the fault of an element at a place
-  abbrev pub element_fault_in_turn : SiteElement → ℕ → Option EntryFault
-  element_fault_in_turn of = element_fault turn_job t.first of.under of.site of.nth of.tags
-
 -- ---- of what an action reads
 
 module _ {V : Type 0} {D : V → Type 0} {g : _} (t : Turn V D g) (own : ActionRead) where
@@ -151,9 +134,11 @@ module _ {V : Type 0} {D : V → Type 0} {g : _} (t : Turn V D g) (own : ActionR
   abbrev pub AreHeldInTurn : List LaneView → ℕ → Type 0
   AreHeldInTurn lanes = AreAtHand (turn_job t) t.first lanes own.under own.inputs.now
 
-  -- none of it wants memory
-  abbrev pub ArePlainInTurn : (ℕ → Bool) → Type 0
-  ArePlainInTurn used = ArePlainSources (turn_job t) used own.under own.inputs.now
+  -- it reads sites without vectors alone
+  pub record IsPlainRead : Type 0 where
+    pub used : ℕ → Bool
+    pub sites : ArePlain (turn_job t) used
+    pub inputs : ArePlainVersions (turn_job t) used own.under own.inputs.now
 
   -- all of it can be gathered
   abbrev pub CanGatherInTurn : List LaneView → Type 0

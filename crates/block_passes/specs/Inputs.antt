@@ -10,12 +10,11 @@ use Rattle.block_passes.specs.Searches.{Lowers, where_in}
 use Rattle.block_passes.specs.declared.turn.Found.{Found}
 use Rattle.block_passes.specs.declared.turn.Kept.{Kept}
 
--- what was begun stays so, what was held is held as it was, only what the loop demands is newly begun, and each evaluation that is newly
--- begun was made twice at most
+-- what was held is held as it was, only what the loop demands is newly begun, and each evaluation that is newly begun was made twice at
+-- most
 pub record Spends (j : JobView) (first count : ℕ) (before after : List LaneView) (start end : ℕ) : Type 0 where
   pub kinds : kinds_of after ≡ kinds_of before
   pub rooms : rooms_of after ≡ rooms_of before
-  pub stays : (k p : ℕ) → begun_at before k p ≡ true → begun_at after k p ≡ true
   pub grows : (p : ℕ) → Grows (cells_at (key_count (job_graph j)) before p) (cells_at (key_count (job_graph j)) after p)
   pub only : (T : ℕ → ℕ → Bool) → ((p : ℕ) → p < count → HasAllDemands j (first + p) (T p)) → (k p : ℕ) → begun_at after k p ≡ true → (begun_at before k p ≡ true) ⊎ ((p < count) × (T p k ≡ true))
   pub cost : end + 2 * begun_count before ≤ start + 2 * begun_count after
@@ -56,16 +55,6 @@ IsWhole j u kinds (Source.Cell col) = ⊤
 IsWhole j u kinds (Source.Site s) = slice_get kinds (key (job_graph j) s u) ≡ Some ColType.Vect → ⊥
 IsWhole j u kinds (Source.Element s k tags) = ⊥
 
--- a column of numbers, or a source of a site of the set
-abbrev pub IsPlainSource : JobView → (ℕ → Bool) → Source → Type 0
-IsPlainSource j used (Source.Cell col) = kind_at j.dataset.columns col ≡ Some ColType.Int
-IsPlainSource j used (Source.Site s) = used s ≡ true
-IsPlainSource j used (Source.Element s k tags) = used s ≡ true
-
--- so are the sources of all versions that are read
-abbrev pub ArePlainSources : JobView → (ℕ → Bool) → Option ℕ → List ℕ → Type 0
-ArePlainSources j used u inputs = AllByRecursion (λ c. IsPlainSource j used (source_at j u c)) inputs
-
 -- the site can be filled
 abbrev pub IsFillableSite : JobView → ℕ → Option ℕ → ℕ → List ColType → List (List ℤ) → ℕ → ℕ → ℕ → Type 0
 IsFillableSite j first u count kinds cells scratch levels s = (s < length (graph_sites (job_graph j))) × CanFill j first u count kinds cells scratch levels s
@@ -93,10 +82,6 @@ DemandsInputs j entry u T inputs = (D : ℕ → Bool) × IsDemandedAt j entry u 
 -- the fault of a source, and of what is read, at a place of a block that begins at this entry
 abbrev pub source_fault : JobView → ℕ → Option ℕ → Source → ℕ → Option EntryFault
 source_fault j first u x p = fault_in (source_value {M = ⊥} (row_of j (first + p)) (site_in j (first + p) u) x)
-
--- likewise of an element of a site's vector, at the place of a tag among so many
-abbrev pub element_fault : JobView → ℕ → Option ℕ → ℕ → ℕ → ℕ → ℕ → Option EntryFault
-element_fault j first u s k tags p = source_fault j first u (Source.Element s k tags) p
 
 abbrev pub inputs_fault : JobView → ℕ → Option ℕ → List ℕ → ℕ → Option EntryFault
 inputs_fault j first u inputs p = fault_in (for_all (version_in {M = ⊥} j (first + p) u) inputs)

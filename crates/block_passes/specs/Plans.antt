@@ -1,5 +1,5 @@
 -- The selections that the passes of a loop share, each made from the one above it.
-use Rattle.std.specs.Prelude.{◌≡◌, ◌⊎◌, ◌<◌, ℕ, List, [], ◌∷◌, ◌++◌, Option, None, Some, length, slice_get, Bool, true, false}
+use Rattle.std.specs.Prelude.{◌≡◌, ◌⊎◌, ◌<◌, ℕ, List, [], ◌∷◌, ◌++◌, Option, None, Some, length, slice_get, slice_index_or, Bool, true, false}
 use Rattle.block_passes.specs.declared.plan.Step.{Step}
 use Rattle.rdf_values.specs.{ActionAt, ActionKind, Path}
 use Rattle.rdf_model.specs.{Outcome}
@@ -11,6 +11,10 @@ use Rattle.block_passes.specs.declared.plan.NamedSteps.{NamedSteps}
 pub record Chain : Type 0 where
   pub sites : List ℕ
   pub under : Option ℕ
+
+-- the chain of that number, or one without filters
+abbrev pub chain_at : List Chain → ℕ → Chain
+chain_at chains k = slice_index_or chains k (record { sites = []; under = None })
 
 -- the chain with one more filter
 abbrev pub longer : Chain → ℕ → Option ℕ → Chain
@@ -34,12 +38,12 @@ pub record AreSteps (chains : List Chain) (steps : List Step) : Type 0 where
   pub whole : slice_get steps 0 ≡ Some Step.Block
   pub each : (k : ℕ) (x : Step) → slice_get steps k ≡ Some x → IsStep chains k x
 
--- the step of that number has these filters; no other was added
-pub record IsStepped (chains : List Chain) (c : Chain) (steps : List Step) (k : ℕ) : Type 0 where
-  pub more : List Chain
-  pub are : AreSteps (chains ++ more) steps
-  pub its : slice_get (chains ++ more) k ≡ Some c
-  pub only : (i : ℕ) (d : Chain) → slice_get more i ≡ Some d → d ≡ c
+-- the step of that number has the filters of a path under nominal or a variation
+pub record IsLast (chains : List Chain) (path : List ℕ) (u : Option ℕ) (k : ℕ) : Type 0 where
+  pub chain : Chain
+  pub its : slice_get chains k ≡ Some chain
+  pub sites : chain.sites ≡ path
+  pub alike : (chain.sites ≡ []) ⊎ (chain.under ≡ u)
 
 -- the path begins with the filters of the chain
 pub record IsBegin (path : List ℕ) (u : Option ℕ) (c : Chain) : Type 0 where
@@ -47,17 +51,20 @@ pub record IsBegin (path : List ℕ) (u : Option ℕ) (c : Chain) : Type 0 where
   pub rest : List ℕ
   pub begins : path ≡ c.sites ++ rest
 
--- the step of that number has the filters of a path; only steps with filters with which it begins were added
-pub record IsLed (chains : List Chain) (path : List ℕ) (u : Option ℕ) (steps : List Step) (k : ℕ) : Type 0 where
+-- chains were added to these, each as asked; the steps have these filters, and what is said of all chains is so
+pub record IsGrown (Q : Chain → Type 0) (P : List Chain → Type 0) (chains : List Chain) (steps : List Step) : Type 0 where
   pub more : List Chain
   pub are : AreSteps (chains ++ more) steps
-  pub last : Chain
-  pub its : slice_get (chains ++ more) k ≡ Some last
-  pub sites : last.sites ≡ path
-  pub alike : (last.sites ≡ []) ⊎ (last.under ≡ u)
-  pub only : (i : ℕ) (d : Chain) → slice_get more i ≡ Some d → IsBegin path u d
+  pub only : (i : ℕ) (d : Chain) → slice_get more i ≡ Some d → Q d
+  pub right : P (chains ++ more)
 
--- ---- What is the same for each block of a loop.
+-- the step of that number has these filters; no other was added
+abbrev pub IsStepped : List Chain → Chain → List Step → ℕ → Type 0
+IsStepped chains c steps k = IsGrown (λ d. d ≡ c) (λ cs. slice_get cs k ≡ Some c) chains steps
+
+-- the step of that number has the filters of a path; only steps with filters with which it begins were added
+abbrev pub IsLed : List Chain → List ℕ → Option ℕ → List Step → ℕ → Type 0
+IsLed chains path u steps k = IsGrown (IsBegin path u) (λ cs. IsLast cs path u k) chains steps
 
 -- an entry passes the filters of a chain
 abbrev pub through_chain : JobView → ℕ → Chain → Outcome ⊥ Bool
@@ -101,13 +108,6 @@ pub record PlanView : Type 0 where
   pub passes : List ℕ
   pub filters : List (Option NamedSteps)
 
--- the step of that number has the filters of a path under nominal or a variation
-pub record IsLast (chains : List Chain) (path : List ℕ) (u : Option ℕ) (k : ℕ) : Type 0 where
-  pub chain : Chain
-  pub its : slice_get chains k ≡ Some chain
-  pub sites : chain.sites ≡ path
-  pub alike : (chain.sites ≡ []) ⊎ (chain.under ≡ u)
-
 -- the step of that number has the filters of a pass, if it is of an action
 abbrev pub IsPassLast : JobView → List Chain → ℕ → ℕ → Type 0
 IsPassLast j chains n last = (m : NumberedPass) (r : ResultAt) (k : ActionKind) → IsActionOf j n m r k → IsLast chains r.filters m.variation last
@@ -141,20 +141,10 @@ pub record IsPlan (j : JobView) (p : PlanView) : Type 0 where
 
 -- ---- how it is made
 
--- these chains are there, and more, each of which a pass of the loop tries
-pub record AreStepsOf (j : JobView) (chains more : List Chain) (steps : List Step) : Type 0 where
-  pub are : AreSteps (chains ++ more) steps
-  pub tried : (i : ℕ) (c : Chain) → slice_get more i ≡ Some c → IsTried j c
-
--- a piece of the plan is right by these chains and more
-pub record IsPlanned {A : Type 0} (j : JobView) (P : List Chain → A → Type 0) (chains : List Chain) (steps : List Step) (piece : A) : Type 0 where
-  pub more : List Chain
-  pub steps_of : AreStepsOf j chains more steps
-  pub right : P (chains ++ more) piece
+-- a piece of the plan is right by these chains and more, each of which a pass of the loop tries
+abbrev pub IsPlanned : {A : Type 0} → JobView → (List Chain → A → Type 0) → List Chain → List Step → A → Type 0
+IsPlanned j P chains steps piece = IsGrown (IsTried j) (λ cs. P cs piece) chains steps
 
 -- so are the first so many pieces, each by its number
-pub record ArePlanned {A : Type 0} (j : JobView) (P : List Chain → ℕ → A → Type 0) (chains : List Chain) (steps : List Step) (count : ℕ) (pieces : List A) : Type 0 where
-  pub more : List Chain
-  pub steps_of : AreStepsOf j chains more steps
-  pub many : length pieces ≡ count
-  pub each : (n : ℕ) (piece : A) → slice_get pieces n ≡ Some piece → P (chains ++ more) n piece
+abbrev pub ArePlanned : {A : Type 0} → JobView → (List Chain → ℕ → A → Type 0) → List Chain → List Step → ℕ → List A → Type 0
+ArePlanned {A = A} j P chains steps count pieces = IsGrown (IsTried j) (λ cs. (length pieces ≡ count) × ((n : ℕ) (piece : A) → slice_get pieces n ≡ Some piece → P cs n piece)) chains steps

@@ -70,8 +70,6 @@ AreLoaded j first count cells = (col : ℕ) → kind_at j.dataset.columns col �
 pub record IsBegunBlock (j : JobView) (first count : ℕ) (s : StateView) : Type 0 where
   pub found : s.found ≡ record { limit = count; best = None }
   pub unknown : AreUnknown count s.lanes
-  pub unmade : All (λ (k : Kept). k.limit ≡ None) s.kept
   pub ready : (p : IsPlan j s.plan) → IsReadyBelow j first count p.chains count s.lanes s.kept
-  pub loaded : AreLoaded j first count s.cells
   pub select : CanSelect j first count s.plan (kinds_of s.lanes) s.cells s.scratch s.levels
   pub serve : CanServeAll j first count (kinds_of s.lanes) s.cells s.scratch s.levels

@@ -5,13 +5,13 @@ use Rattle.rdf_values.specs.{ActionKind, ColType, EntryFault}
 use Rattle.rdf_model.specs.{fault_in, is_true}
 use Rattle.block_cache.specs.{AreReady, CanFill, LaneView}
 use Rattle.loop_keys.specs.{IsReportPass, job_graph, JobView, key, pass_fault, site_in, truth_in}
-use Rattle.block_passes.specs.Searches.{where_passed, Lowers, where_in, IsSearched}
-use Rattle.block_passes.specs.Plans.{PlanView, through_chain, Chain, IsActionOf}
+use Rattle.block_passes.specs.Searches.{where_passed, Lowers, IsSearched}
+use Rattle.block_passes.specs.Plans.{chain_at, PlanView, through_chain, Chain, IsActionOf}
 use Rattle.block_passes.specs.declared.turn.Found.{Found}
 use Rattle.block_passes.specs.declared.turn.Kept.{Kept}
 use Rattle.block_passes.specs.declared.plan.Step.{Step}
-use Rattle.graph_numbers.specs.{FilterAt, graph_filters, Pass as NumberedPass, report_numbers, ResultAt, through_filter, through_sites}
-use Rattle.block_passes.specs.Inputs.{AreAtHand, CanServe, IsSettledAt}
+use Rattle.graph_numbers.specs.{graph_filters, Pass as NumberedPass, report_numbers, ResultAt, through_filter, through_sites}
+use Rattle.block_passes.specs.Inputs.{AreAtHand, CanServe, IsServedTo, IsSettledAt}
 use Rattle.block_passes.specs.declared.plan.NamedSteps.{NamedSteps}
 
 -- the places below a limit that pass the filters of a chain, in a block that begins at this entry
@@ -27,7 +27,7 @@ pub record IsMade (j : JobView) (first : ℕ) (c : Chain) (limit made : ℕ) (pl
 -- a selection for each chain, right where it was made
 pub record AreKept (j : JobView) (first : ℕ) (chains : List Chain) (limit : ℕ) (kept : List Kept) : Type 0 where
   pub many : length kept ≡ length chains
-  pub each : (k made : ℕ) (c : Chain) (s : Kept) → slice_get chains k ≡ Some c → slice_get kept k ≡ Some s → s.limit ≡ Some made → IsMade j first c limit made s.places
+  pub each : (k made : ℕ) (s : Kept) → slice_get kept k ≡ Some s → s.limit ≡ Some made → IsMade j first (chain_at chains k) limit made s.places
 
 -- what is known of a block before or after a part of a pass: what is held is right, below the limit all that was begun is held, and the
 -- selections are right
@@ -41,28 +41,32 @@ pub record IsReadyBelow (j : JobView) (first count : ℕ) (chains : List Chain) 
 abbrev pub IsNarrowed : ℕ → ℕ → Kept → Kept → Type 0
 IsNarrowed limit made old new = ((made ≤ limit) × (new ≡ old)) ⊎ ((limit < made) × (new.limit ≡ Some limit) × (new.places ≡ filter (λ p. nat_lt p limit) old.places))
 
--- a selection was made, below a limit of so many places at most
-abbrev pub IsMadeBelow : ℕ → Kept → Type 0
-IsMadeBelow count m = (limit : ℕ) × (m.limit ≡ Some limit) × (limit ≤ count)
-
--- each selection is as it was, or was made
-abbrev pub AreRemade : ℕ → List Kept → List Kept → Type 0
-AreRemade count old new = (k : ℕ) (m : Kept) → slice_get new k ≡ Some m → (slice_get old k ≡ Some m) ⊎ IsMadeBelow count m
-
--- the selection of a step was made
+-- the selection of a step was made, below a limit of so many places at most
 abbrev pub IsMadeAt : ℕ → List Kept → ℕ → Type 0
-IsMadeAt count kept k = (m : Kept) → slice_get kept k ≡ Some m → IsMadeBelow count m
+IsMadeAt count kept k = (m : Kept) → slice_get kept k ≡ Some m → (limit : ℕ) × (m.limit ≡ Some limit) × (limit ≤ count)
 
--- ---- one filter
+-- each that was made still is
+abbrev pub AreRemade : ℕ → List Kept → List Kept → Type 0
+AreRemade count old new = (k : ℕ) → IsMadeAt count old k → IsMadeAt count new k
 
--- left of a selection are the places that pass the filter of a site, below the first that faults in it, which lowers the limit; below it
--- all that was begun is held
+-- the selection of a step was made over all of so many places
+abbrev pub IsOverAll : ℕ → List Kept → ℕ → Type 0
+IsOverAll count kept k = (m : Kept) → slice_get kept k ≡ Some m → m.limit ≡ Some count
+
+-- a part of a pass was tried at the places below the limit, which its first fault lowered; below the new limit all is as before, and what
+-- the part makes was made
+pub record IsTriedTo (j : JobView) (first count : ℕ) (chains : List Chain) (part : ℕ → Option EntryFault) (pass : ℕ) (lanes : List LaneView) (was kept : List Kept) (old new : Found) (Made : Type 0) : Type 0 where
+  pub ready : IsReadyBelow j first count chains new.limit lanes kept
+  pub lowers : Lowers part first pass old new
+  pub remade : AreRemade count was kept
+  pub made : Made
+
+-- the places of a selection that pass the filter of a site are left below the first that faults in it, which lowers the limit
 pub record IsFilteredTo (j : JobView) (first count : ℕ) (u : Option ℕ) (s pass : ℕ) (sel : List ℕ) (to : Kept) (lanes : List LaneView) (old new : Found) : Type 0 where
-  pub ready : AreReady j first count lanes
-  pub settled : (p : ℕ) → p < new.limit → IsSettledAt lanes p
-  pub lowers : Lowers (where_in (λ p. fault_in (truth_in j (first + p) u s)) sel) first pass old new
+  pub tried : Kept
+  pub served : IsServedTo j first count (λ p. fault_in (truth_in j (first + p) u s)) pass sel tried lanes old new
   pub its_limit : to.limit ≡ Some new.limit
-  pub left : to.places ≡ filter (λ p. is_true (truth_in j (first + p) u s)) (filter (λ p. nat_lt p new.limit) sel)
+  pub left : to.places ≡ filter (λ p. is_true (truth_in j (first + p) u s)) tried.places
 
 -- ---- a step
 
@@ -71,20 +75,15 @@ pub record CanSelect (j : JobView) (first count : ℕ) (plan : PlanView) (kinds 
   pub each : (k parent site : ℕ) (u : Option ℕ) → slice_get plan.steps k ≡ Some (Step.Filter parent site u) → CanFill j first u count kinds cells scratch levels site
   pub truths : (k parent site : ℕ) (u : Option ℕ) → slice_get plan.steps k ≡ Some (Step.Filter parent site u) → slice_get kinds (key (job_graph j) site u) ≡ Some ColType.Bool
 
--- a step's selection was made below the limit, which its filters lowered; below the new limit all is as before
-pub record IsSelectedTo (j : JobView) (first count : ℕ) (chains : List Chain) (pass step : ℕ) (lanes : List LaneView) (was kept : List Kept) (old new : Found) : Type 0 where
-  pub ready : IsReadyBelow j first count chains new.limit lanes kept
-  pub lowers : (c : Chain) → slice_get chains step ≡ Some c → Lowers (λ p. fault_in (through_chain j (first + p) c)) first pass old new
-  pub made : (s : Kept) → slice_get kept step ≡ Some s → s.limit ≡ Some new.limit
-  pub remade : AreRemade count was kept
+-- the selection of a step was made below the limit, which its filters lowered
+abbrev pub IsSelectedTo : JobView → ℕ → ℕ → List Chain → ℕ → ℕ → List LaneView → List Kept → List Kept → Found → Found → Type 0
+IsSelectedTo j first count chains pass step lanes was kept old new =
+    IsTriedTo j first count chains (λ p. fault_in (through_chain j (first + p) (chain_at chains step))) pass lanes was kept old new (IsOverAll new.limit kept step)
 
 -- likewise of a step with one more filter than the step of the parent, which was selected below the limit
-pub record IsNextSelected (j : JobView) (first count : ℕ) (chains : List Chain) (pass step parent site : ℕ) (u : Option ℕ) (lanes : List LaneView)
-    (was kept : List Kept) (old new : Found) : Type 0 where
-  pub ready : IsReadyBelow j first count chains new.limit lanes kept
-  pub lowers : (c : Chain) → slice_get chains parent ≡ Some c → Lowers (λ p. where_passed (through_chain j (first + p) c) (fault_in (truth_in j (first + p) u site))) first pass old new
-  pub made : (s : Kept) → slice_get kept step ≡ Some s → s.limit ≡ Some new.limit
-  pub remade : AreRemade count was kept
+abbrev pub IsNextSelected : JobView → ℕ → ℕ → List Chain → ℕ → ℕ → ℕ → ℕ → Option ℕ → List LaneView → List Kept → List Kept → Found → Found → Type 0
+IsNextSelected j first count chains pass step parent site u lanes was kept old new =
+    IsTriedTo j first count chains (λ p. where_passed (through_chain j (first + p) (chain_at chains parent)) (fault_in (truth_in j (first + p) u site))) pass lanes was kept old new (IsOverAll new.limit kept step)
 
 -- ---- What trying a pass over a block does.
 
@@ -102,13 +101,6 @@ IsReadBelow j first lanes limit pass =
     (m : NumberedPass) (r : ResultAt) (k : ActionKind) → IsActionOf j pass m r k
     → (p : ℕ) → p < limit → is_true (through_sites (site_in j (first + p) m.variation) r.filters) ≡ true → AreAtHand j first lanes m.variation r.inputs p
 
--- a pass was tried at the places below the limit, which its first fault lowered; below the new limit all is as before
-pub record IsPassTried (j : JobView) (first count : ℕ) (chains : List Chain) (pass : ℕ) (lanes : List LaneView) (was kept : List Kept) (old new : Found) : Type 0 where
-  pub ready : IsReadyBelow j first count chains new.limit lanes kept
-  pub lowers : Lowers (λ p. pass_fault j (first + p) pass) first pass old new
-  pub read : IsReadBelow j first lanes new.limit pass
-  pub remade : AreRemade count was kept
-
 -- ---- reports
 
 -- the fault of a named filter, with those above it, at a place of a block that begins at this entry; and of several in order
@@ -117,12 +109,6 @@ filter_fault j first f p = fault_in (through_filter (site_in {M = ⊥} j (first 
 
 abbrev pub filters_fault : JobView → ℕ → List ℕ → ℕ → Option EntryFault
 filters_fault j first fs p = fault_in (report_numbers (site_in {M = ⊥} j (first + p) None) (graph_filters (job_graph j)) fs)
-
--- a part of a pass was tried at the places below the limit, which its first fault lowered; below the new limit all is as before
-pub record IsTriedTo (j : JobView) (first count : ℕ) (chains : List Chain) (part : ℕ → Option EntryFault) (pass : ℕ) (lanes : List LaneView) (was kept : List Kept) (old new : Found) : Type 0 where
-  pub ready : IsReadyBelow j first count chains new.limit lanes kept
-  pub lowers : Lowers part first pass old new
-  pub remade : AreRemade count was kept
 
 -- the selections of a named filter's steps were made
 abbrev pub IsNamedMade : ℕ → PlanView → List Kept → ℕ → Type 0
@@ -135,18 +121,20 @@ pub record IsPassMade (j : JobView) (count : ℕ) (plan : PlanView) (kept : List
   pub action : (k : ActionKind) (inputs : List ℕ) (u : Option ℕ) → IsReadOf j pass k inputs u → (last : ℕ) → slice_get plan.passes pass ≡ Some last → IsMadeAt count kept last
   pub report : (own : ℕ) (rep : IsReportPass j pass own) → AllByRecursion (IsNamedMade count plan kept) rep.result.covers
 
+-- a pass was tried: what its action reads is at hand
+abbrev pub IsPassTried : JobView → ℕ → ℕ → PlanView → List Chain → ℕ → List LaneView → List Kept → List Kept → Found → Found → Type 0
+IsPassTried j first count plan chains pass lanes was kept old new =
+    IsTriedTo j first count chains (λ p. pass_fault j (first + p) pass) pass lanes was kept old new (IsReadBelow j first lanes new.limit pass × IsPassMade j count plan kept pass)
+
 -- all that the actions of a loop read can be served
 abbrev pub CanServeAll : JobView → ℕ → ℕ → List ColType → List (List ℤ) → ℕ → ℕ → Type 0
 CanServeAll j first count kinds cells scratch levels =
     (n : ℕ) (k : ActionKind) (inputs : List ℕ) (u : Option ℕ) → IsReadOf j n k inputs u → AllByRecursion (CanServe j first u count kinds cells scratch levels) inputs
 
--- so many passes were tried over a block: what is known of it, the search so far, and what the actions among them read is at hand
-pub record IsSearchedTo (j : JobView) (first count : ℕ) (chains : List Chain) (passes : ℕ) (lanes : List LaneView) (kept : List Kept) (s : Found) : Type 0 where
+-- so many passes were tried over a block: what is known of it, the search so far, what the actions among them read is at hand, and the
+-- selections that they take were made
+pub record IsSearchedTo (j : JobView) (first count : ℕ) (plan : PlanView) (chains : List Chain) (passes : ℕ) (lanes : List LaneView) (kept : List Kept) (s : Found) : Type 0 where
   pub ready : IsReadyBelow j first count chains s.limit lanes kept
   pub searched : IsSearched (λ q n. pass_fault j (first + q) n) first count passes s
   pub read : (n : ℕ) → n < passes → IsReadBelow j first lanes s.limit n
-
--- the selections that the passes of a loop take were made: the last step's of each action, and both of each named filter that is covered
-pub record IsPlanMade (j : JobView) (count : ℕ) (plan : PlanView) (kept : List Kept) : Type 0 where
-  pub actions : (n : ℕ) (k : ActionKind) (inputs : List ℕ) (u : Option ℕ) → IsReadOf j n k inputs u → (last : ℕ) → slice_get plan.passes n ≡ Some last → IsMadeAt count kept last
-  pub filters : (f : ℕ) (x : FilterAt) → slice_get (graph_filters (job_graph j)) f ≡ Some x → IsNamedMade count plan kept f
+  pub made : (n : ℕ) → n < passes → IsPassMade j count plan kept n

@@ -8,9 +8,9 @@ ghost use Rattle.expr_check.specs.{CheckedExpr};
 ghost use Rattle.graph_numbers.specs.{graph_sites, IsSiteExpr, source_value};
 ghost use Rattle.expr_lanes.specs.{EachPlace};
 ghost use Rattle.block_cache.specs.{holds_at, kinds_of};
-ghost use Rattle.loop_keys.specs.{ArePlain, job_graph, key as key_of, row_of, site_in};
+ghost use Rattle.loop_keys.specs.{ArePlain, IsSourceIn, job_graph, key as key_of, row_of, site_in};
 ghost use Rattle.graph_numbers.specs.declared.version.Source.TheVariants as source;
-ghost use Rattle.block_passes.specs.{AreCopiedInTurn, AreHeldInTurn, ArePlainInTurn, CanServeWith, GivesNumber, GivesVector, HasVector, IsAtHand, IsCopyInTurn, IsOver, IsPlainSource, IsTurn, IsWhole, source_in_turn, turn_job};
+ghost use Rattle.block_passes.specs.{AreCopiedInTurn, AreHeldInTurn, IsPlainRead, CanServeWith, GivesNumber, GivesVector, HasVector, IsAtHand, IsCopyInTurn, IsOver, IsTurn, IsWhole, source_in_turn, turn_job};
 
 use crate::inputs::{SiteElement, element_at, place_at, source_under};
 use crate::turn::{ActionRead, Turn};
@@ -197,7 +197,7 @@ fn copy_version(
     requires inside { EachPlace selection.now (λ p. p < at.now.count) }
     requires hand { EachPlace selection.now (λ p. IsAtHand (turn_job at.now) at.now.first lanes.now under p (source_in_turn at.now under version)) }
     ensures copied { IfOk result (IsCopyInTurn at.now under lanes.now selection.now version) }
-    ensures plain { (used : ℕ → Bool) → ArePlain (turn_job at.now) used → IsPlainSource (turn_job at.now) used (source_in_turn at.now under version) → OnErr result ⊥ }
+    ensures plain { (used : ℕ → Bool) → ArePlain (turn_job at.now) used → IsSourceIn used (source_in_turn at.now under version) → OnErr result ⊥ }
 {
     match source_under(at, version, under) {
         Source::Cell { .. } => Ok(Copied::Whole),
@@ -231,7 +231,7 @@ fn copy_input(
     requires inside { EachPlace selection.now (λ p. p < at.now.count) }
     requires hand { EachPlace selection.now (AreHeldInTurn at.now own.now lanes.now) }
     ensures copied { nth < length own.now.inputs.now → IfOk result (IsCopyInTurn at.now own.now.under lanes.now selection.now (slice_index_or own.now.inputs.now nth 0)) }
-    ensures plain { (used : ℕ → Bool) → ArePlain (turn_job at.now) used → ArePlainInTurn at.now own.now used → OnErr result ⊥ }
+    ensures plain { IsPlainRead at.now own.now → OnErr result ⊥ }
 {
     match own.inputs.get(nth) {
         Some(version) => copy_version(at, lanes, selection, *version, own.under),
@@ -251,7 +251,7 @@ pub(crate) fn copy_inputs(
     requires inside { EachPlace selection.now (λ p. p < at.now.count) }
     requires hand { EachPlace selection.now (AreHeldInTurn at.now own.now lanes.now) }
     ensures copied { IfOk result (AreCopiedInTurn at.now own.now lanes.now selection.now) }
-    ensures plain { (used : ℕ → Bool) → ArePlain (turn_job at.now) used → ArePlainInTurn at.now own.now used → OnErr result ⊥ }
+    ensures plain { IsPlainRead at.now own.now → OnErr result ⊥ }
 {
     Ok(Copies {
         first: copy_input(at, lanes, selection, own, 0)?,

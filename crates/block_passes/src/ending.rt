@@ -2,10 +2,10 @@
 ghost use Rattle.std.specs.Prelude.{◌≡◌, ◌<◌, List, ℕ, length, Some, ◌≢◌, All, Err, OnErr, OnOk, None};
 ghost use Rattle.graph_numbers.specs.{graph_filters};
 ghost use Rattle.cluster_tally.specs.{block_reaches, BlockStage, counted, HoldsIn, Holds, Stage};
-ghost use Rattle.loop_keys.specs.{facts_in, job_graph, IsNoTake, passes_in};
-ghost use Rattle.block_passes.specs.{AreCountable, at_filter, IsAmidTurn, IsPlanOfTurn, IsTurn, turn_job, after_block, CanSelectInTurn, CanServeAllInTurn, CanServeAllWith, entries_from, IsBefore, IsBlockTried, IsClearInTurn, IsPlainTurn, IsReadyInTurn, KeepsRoom};
+ghost use Rattle.loop_keys.specs.{facts_in, job_graph, IsNoTake, passes_in, IsPlainLoop};
+ghost use Rattle.block_passes.specs.{AreCountable, at_filter, IsAmidTurn, IsPlanOfTurn, IsTurn, turn_job, after_block, CanSelectInTurn, CanServeAllInTurn, CanServeAllWith, entries_from, IsBefore, IsBlockTried, IsClearInTurn, IsReadyInTurn, Leaves};
 ghost use Rattle.rdf_model.specs.{kinds_in};
-ghost use Rattle.block_cache.specs.{AreUnknown, kinds_of, rooms_of};
+ghost use Rattle.block_cache.specs.{AreUnknown};
 
 use crate::feed::feed_passes;
 use crate::passes::try_passes;
@@ -61,7 +61,7 @@ fn take_in(
     requires before { (watched : List ℕ) × (s : Stage) × IsBefore (turn_job at.now) watched s cluster (entries_from at.now.first at.now.count) tally.old }
     ensures holds { (watched : List ℕ) (s : Stage) → IsBefore (turn_job at.now) watched s cluster (entries_from at.now.first at.now.count) tally.old
         → OnOk result (Holds (facts_in (turn_job at.now)) watched (after_block s (entries_from at.now.first at.now.count)) tally.new) }
-    ensures plain { IsPlainTurn at.now → All IsNoTake (kinds_in (passes_in (turn_job at.now))) → OnErr result ⊥ }
+    ensures plain { IsPlainLoop (turn_job at.now) → All IsNoTake (kinds_in (passes_in (turn_job at.now))) → OnErr result ⊥ }
 {
     feed_passes(at, lanes, kept, tally, cluster)?;
     note_filters(at, kept, tally);
@@ -85,11 +85,9 @@ pub(crate) fn try_begun<L: Ledger>(
     requires unknown { AreUnknown at.now.count work.old.lanes.items }
     requires before { (watched : List ℕ) × (s : Stage) × IsBefore (turn_job at.now) watched s cluster (entries_from at.now.first at.now.count) tally.old }
     ensures tried { IsBlockTried (turn_job at.now) cluster (entries_from at.now.first at.now.count) tally.old tally.new steps.old steps.new result }
-    ensures kinds { kinds_of work.new.lanes.items ≡ kinds_of work.old.lanes.items }
-    ensures rooms { rooms_of work.new.lanes.items ≡ rooms_of work.old.lanes.items }
-    ensures room { KeepsRoom work.old work.new }
+    ensures leaves { Leaves at.now work.old work.new steps.old steps.new }
     ensures kept { length kept.new ≡ length kept.old }
-    ensures plain { IsPlainTurn at.now → All IsNoTake (kinds_in (passes_in (turn_job at.now))) → result ≢ Err BlockStop.Memory }
+    ensures plain { IsPlainLoop (turn_job at.now) → All IsNoTake (kinds_in (passes_in (turn_job at.now))) → result ≢ Err BlockStop.Memory }
 {
     match try_passes(at, work, kept, steps) {
         Ok(()) => {}

@@ -1,10 +1,10 @@
 // Whether what an action reads can be fed, and feeding what the passes of a block give.
-ghost use Rattle.std.specs.Prelude.{◌≡◌, ◌<◌, ℕ, Bool, IfOk, OnErr, OnOk, Some, ◌+◌, All, List, length, slice_get};
+ghost use Rattle.std.specs.Prelude.{◌≡◌, ◌<◌, ℕ, IfOk, OnErr, OnOk, Some, ◌+◌, All, List, length, slice_get};
 ghost use Rattle.expr_lanes.specs.{EachPlace};
 ghost use Rattle.actions.specs.{places_of, IsTake};
-ghost use Rattle.loop_keys.specs.{ArePlain, actions_before, facts_in, IsNoTake, numbered_in, passes_in};
+ghost use Rattle.loop_keys.specs.{actions_before, facts_in, IsNoTake, numbered_in, passes_in, IsPlainLoop};
 ghost use Rattle.block_cache.specs.{fault_over};
-ghost use Rattle.block_passes.specs.{AreHeldInTurn, ArePlainInTurn, CanGatherInTurn, IsKnown, IsOver, IsSelected, IsServedInTurn, KeepsRoom, of_batch, turn_job, unfed_in_turn, AreKept, at_pass, CanFeedAny, CanServeAllWith, IsAmidTurn, IsClearInTurn, IsFeedable, IsPlainTurn, IsPlanOfTurn, IsReadOf, IsTurn};
+ghost use Rattle.block_passes.specs.{AreHeldInTurn, IsPlainRead, CanGatherInTurn, IsKnown, IsOver, IsSelected, IsServedInTurn, KeepsRoom, of_batch, turn_job, unfed_in_turn, at_pass, CanFeedAny, CanServeAllWith, IsAmidTurn, IsClearInTurn, IsPlanOfTurn, IsReadOf, IsTurn};
 ghost use Rattle.rdf_model.specs.{kinds_in};
 ghost use Rattle.rdf_model.specs.declared.loop_facts.LoopFacts.{LoopFacts};
 ghost use Rattle.cluster_tally.specs.{BlockStage, HoldsIn, pass_done};
@@ -55,7 +55,7 @@ fn first_unfed_copy(
     requires inside { EachPlace selection.now (λ p. p < at.now.count) }
     requires hand { EachPlace selection.now (AreHeldInTurn at.now own.now lanes.now) }
     ensures fault { IfOk result (λ f. f ≡ fault_over (unfed_in_turn at.now own.now) selection.now) }
-    ensures plain { (used : ℕ → Bool) → ArePlain (turn_job at.now) used → ArePlainInTurn at.now own.now used → OnErr result ⊥ }
+    ensures plain { IsPlainRead at.now own.now → OnErr result ⊥ }
 {
     let _few = selection.len();
     let copies = copy_inputs(at, lanes, selection, own)?;
@@ -77,7 +77,7 @@ fn first_unfed(
     requires inside { EachPlace selection.now (λ p. p < at.now.count) }
     requires hand { EachPlace selection.now (AreHeldInTurn at.now own.now lanes.now) }
     ensures fault { IfOk result (λ f. f ≡ fault_over (unfed_in_turn at.now own.now) selection.now) }
-    ensures plain { (used : ℕ → Bool) → ArePlain (turn_job at.now) used → ArePlainInTurn at.now own.now used → OnErr result ⊥ }
+    ensures plain { IsPlainRead at.now own.now → OnErr result ⊥ }
 {
     let _few = selection.len();
     let mut batch = Batch {
@@ -105,7 +105,7 @@ fn test_several(
     ensures tested { OnOk result (IsServedInTurn at.now (unfed_in_turn at.now own.now) to.old.places to.new work.old.lanes.items work.old.found work.new.found) }
     ensures lanes { work.new.lanes.items ≡ work.old.lanes.items }
     ensures room { KeepsRoom work.old work.new }
-    ensures plain { (used : ℕ → Bool) → ArePlain (turn_job at.now) used → ArePlainInTurn at.now own.now used → OnErr result ⊥ }
+    ensures plain { IsPlainRead at.now own.now → OnErr result ⊥ }
 {
     let _rising = to.places.as_slice();
     let fault = first_unfed(at, &work.lanes, &to.places, own)?;
@@ -129,7 +129,7 @@ pub(crate) fn test_feeding(
     ensures tested { OnOk result (IsServedInTurn at.now (unfed_in_turn at.now own.now) to.old.places to.new work.old.lanes.items work.old.found work.new.found) }
     ensures lanes { work.new.lanes.items ≡ work.old.lanes.items }
     ensures room { KeepsRoom work.old work.new }
-    ensures plain { (used : ℕ → Bool) → ArePlain (turn_job at.now) used → ArePlainInTurn at.now own.now used → OnErr result ⊥ }
+    ensures plain { IsPlainRead at.now own.now → OnErr result ⊥ }
 {
     // A single value that is there can be fed.
     if own.inputs.len() < 2 {
@@ -162,7 +162,7 @@ fn feed_copies(
     requires feed { (f : LoopFacts) × (watched : List ℕ) × (s : BlockStage) × CanFeedAny (turn_job at.now) at.now.first at.now.count lanes.now own.now.kind.now own.now.inputs.now own.now.under selection.now f watched s tally.old to.place to.cluster }
     ensures holds { (f : LoopFacts) (watched : List ℕ) (s : BlockStage) → CanFeedAny (turn_job at.now) at.now.first at.now.count lanes.now own.now.kind.now own.now.inputs.now own.now.under selection.now f watched s tally.old to.place to.cluster
         → OnOk result (HoldsIn f watched (pass_done s) tally.new) }
-    ensures plain { (used : ℕ → Bool) → ArePlain (turn_job at.now) used → ArePlainInTurn at.now own.now used → OnErr result (IsTake own.now.kind.now) }
+    ensures plain { IsPlainRead at.now own.now → OnErr result (IsTake own.now.kind.now) }
 {
     let copies = copy_inputs(at, lanes, selection, own)?;
     let places = batch_places(selection);
@@ -183,13 +183,11 @@ pub(crate) fn feed_action(
     requires own { IsReadOf (turn_job at.now) at.now.pass own.now.kind.now own.now.inputs.now own.now.under }
     requires place { to.place ≡ actions_before (turn_job at.now) at.now.pass }
     requires can { CanGatherInTurn at.now own.now lanes.now }
-    requires kept { (p : IsPlanOfTurn at.now) → AreKept (turn_job at.now) at.now.first p.chains at.now.count kept.now }
-    requires feedable { (last : ℕ) → slice_get at.now.plan.now.passes at.now.pass ≡ Some last
-        → IsFeedable (turn_job at.now) at.now.first at.now.count lanes.now kept.now last own.now.kind.now own.now.inputs.now own.now.under }
+    requires clear { (p : IsPlanOfTurn at.now) → IsClearInTurn at.now p.chains lanes.now kept.now }
     requires begin { (watched : List ℕ) × (s : BlockStage) × IsAmidTurn at.now s × (s.cluster ≡ to.cluster) × (s.passes ≡ to.place) × HoldsIn (facts_in (turn_job at.now)) watched s tally.old }
     ensures holds { (watched : List ℕ) (s : BlockStage) → IsAmidTurn at.now s → s.cluster ≡ to.cluster → s.passes ≡ to.place → HoldsIn (facts_in (turn_job at.now)) watched s tally.old
         → OnOk result (HoldsIn (facts_in (turn_job at.now)) watched (pass_done s) tally.new) }
-    ensures plain { (used : ℕ → Bool) → ArePlain (turn_job at.now) used → ArePlainInTurn at.now own.now used → OnErr result (IsTake own.now.kind.now) }
+    ensures plain { IsPlainRead at.now own.now → OnErr result (IsTake own.now.kind.now) }
 {
     let last = at.plan.last_step(at.pass);
     let selection = &kept[last as usize].places;
@@ -204,7 +202,7 @@ pub(crate) fn feed_action(
 }
 
 /// Feeds a pass, before which there are so many of actions, and says how many there are behind it.
-#[tactic(auto, using(loop_keys::proofs::EntryLaws::report_next, loop_keys::proofs::EntryLaws::actions_few))]
+#[tactic(auto, using(loop_keys::proofs::PassNumbers::report_next, loop_keys::proofs::PassNumbers::actions_few))]
 fn feed_pass(
     at: &Turn<'_>,
     lanes: &[Lane],
@@ -223,7 +221,7 @@ fn feed_pass(
     ensures place { IfOk result (λ next. next ≡ actions_before (turn_job at.now) (at.now.pass + 1)) }
     ensures holds { IfOk result (λ next. (watched : List ℕ) (s : BlockStage) → IsAmidTurn at.now s → s.cluster ≡ to.cluster → s.passes ≡ to.place → HoldsIn (facts_in (turn_job at.now)) watched s tally.old
         → HoldsIn (facts_in (turn_job at.now)) watched (at_pass s next) tally.new) }
-    ensures plain { IsPlainTurn at.now → All IsNoTake (kinds_in (passes_in (turn_job at.now))) → OnErr result ⊥ }
+    ensures plain { IsPlainLoop (turn_job at.now) → All IsNoTake (kinds_in (passes_in (turn_job at.now))) → OnErr result ⊥ }
 {
     let Some(read) = action_read(at.job, own, at.pass) else {
         return Ok(to.place);
@@ -246,7 +244,7 @@ pub(crate) fn feed_passes(
     requires begin { (watched : List ℕ) × (s : BlockStage) × IsAmidTurn at.now s × (s.cluster ≡ cluster) × (s.passes ≡ 0) × HoldsIn (facts_in (turn_job at.now)) watched s tally.old }
     ensures holds { (watched : List ℕ) (s : BlockStage) → IsAmidTurn at.now s → s.cluster ≡ cluster → s.passes ≡ 0 → HoldsIn (facts_in (turn_job at.now)) watched s tally.old
         → OnOk result (HoldsIn (facts_in (turn_job at.now)) watched (at_pass s (length (kinds_in (passes_in (turn_job at.now))))) tally.new) }
-    ensures plain { IsPlainTurn at.now → All IsNoTake (kinds_in (passes_in (turn_job at.now))) → OnErr result ⊥ }
+    ensures plain { IsPlainLoop (turn_job at.now) → All IsNoTake (kinds_in (passes_in (turn_job at.now))) → OnErr result ⊥ }
 {
     let mut place = 0;
     let passes = loop_passes(at.job);

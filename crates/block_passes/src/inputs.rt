@@ -5,7 +5,7 @@ ghost use Rattle.graph_numbers.specs.{graph_sites, source_value, graph_versions}
 ghost use Rattle.expr_lanes.specs.{EachPlace, is_in};
 ghost use Rattle.loop_keys.specs.{job_graph, key as key_of, row_of, site_in, ArePlain, ArePlainVersions, HasAllDemands, IsSourceIn};
 ghost use Rattle.block_cache.specs.{fault_over, holds_at, AreReady, CanFill, kinds_of, site_fault};
-ghost use Rattle.block_passes.specs.{element_fault_in_turn, IsKnown, IsNumberOf, IsOver, IsSelected, IsServedInTurn, KeepsRoom, turn_job, AreAtHand, CanServeInTurn, CanServeWith, DemandsInputs, DemandsSource, inputs_fault_in_turn, IsAtHand, IsSpentInTurn, IsTurn, Leaves, source_fault_in_turn, source_in_turn};
+ghost use Rattle.block_passes.specs.{IsKnown, IsNumberOf, IsOver, IsSelected, IsServedInTurn, KeepsRoom, turn_job, AreAtHand, CanServeInTurn, CanServeWith, DemandsInputs, DemandsSource, IsAtHand, IsSpentInTurn, IsTurn, Leaves, source_in_turn, inputs_fault, source_fault};
 ghost use Rattle.std.specs.List.{AllByRecursion};
 ghost use Rattle.rdf_values.specs.declared.tables.value.Value.TheVariants as val;
 ghost use Rattle.graph_numbers.specs.declared.version.Source.TheVariants as source;
@@ -69,7 +69,7 @@ pub(crate) fn element_at(
 }
 
 /// The place of that number among those that are selected.
-#[tactic(auto, using(expr_lanes::proofs::Selected::is_in_at))]
+#[tactic(auto, using(expr_lanes::proofs::Composed::is_in_at))]
 pub(crate) fn place_at(selection: &Selection, nth: usize) -> u32
     requires { nth < length selection.now }
     ensures among { is_in result selection.now ≡ true }
@@ -89,7 +89,7 @@ fn first_without(
     requires site { of.now.site < length (graph_sites (job_graph (turn_job at.now))) }
     requires inside { EachPlace selection.now (λ p. p < at.now.count) }
     requires held { EachPlace selection.now (λ p. holds_at lanes.now (key_of (job_graph (turn_job at.now)) of.now.site of.now.under) p ≡ true) }
-    ensures { result ≡ fault_over (element_fault_in_turn at.now of.now) selection.now }
+    ensures { result ≡ fault_over (source_fault (turn_job at.now) at.now.first of.now.under (source.Element of.now.site of.now.nth of.now.tags)) selection.now }
 {
     for i in 0..selection.len() {
         let place = place_at(selection, i);
@@ -108,7 +108,7 @@ pub(crate) fn test_elements(at: &Turn<'_>, work: &mut Work, to: &mut Kept, of: &
     requires known { IsKnown at.now work.old }
     requires selected { IsSelected work.old.found.limit to.old }
     requires held { EachPlace to.old.places (λ p. holds_at work.old.lanes.items (key_of (job_graph (turn_job at.now)) of.now.site of.now.under) p ≡ true) }
-    ensures tested { IsServedInTurn at.now (element_fault_in_turn at.now of.now) to.old.places to.new work.new.lanes.items work.old.found work.new.found }
+    ensures tested { IsServedInTurn at.now (source_fault (turn_job at.now) at.now.first of.now.under (source.Element of.now.site of.now.nth of.now.tags)) to.old.places to.new work.new.lanes.items work.old.found work.new.found }
     ensures lanes { work.new.lanes.items ≡ work.old.lanes.items }
     ensures room { KeepsRoom work.old work.new }
 {
@@ -141,7 +141,7 @@ fn is_at_hand(
     requires can { (scratch levels : ℕ) × CanServeWith at.now under lanes.now scratch levels version }
     requires inside { EachPlace selection.now (λ p. p < at.now.count) }
     ensures held { result ≡ true → EachPlace selection.now (λ p. IsAtHand (turn_job at.now) at.now.first lanes.now under p (source_in_turn at.now under version)) }
-    ensures clear { result ≡ true → EachPlace selection.now (λ p. source_fault_in_turn at.now under version p ≡ None) }
+    ensures clear { result ≡ true → EachPlace selection.now (λ p. source_fault (turn_job at.now) at.now.first under (source_in_turn at.now under version) p ≡ None) }
 {
     let reading = Reading {
         job: at.job,
@@ -229,7 +229,7 @@ fn serve_element<L: Ledger>(
     requires can { CanFill (turn_job at.now) at.now.first of.now.under at.now.count (kinds_of work.old.lanes.items) at.now.cells.now (length work.old.scratch.items) (length work.old.levels.items) of.now.site }
     requires inside { EachPlace to.old.places (λ p. p < work.old.found.limit) }
     ensures spent { IsSpentInTurn at.now of.now.under of.now.site to.old.places work.old work.new steps.old steps.new }
-    ensures served { OnOk result (IsServedInTurn at.now (element_fault_in_turn at.now of.now) to.old.places to.new work.new.lanes.items work.old.found work.new.found) }
+    ensures served { OnOk result (IsServedInTurn at.now (source_fault (turn_job at.now) at.now.first of.now.under (source.Element of.now.site of.now.nth of.now.tags)) to.old.places to.new work.new.lanes.items work.old.found work.new.found) }
     ensures held { OnOk result (EachPlace to.new.places (λ p. IsAtHand (turn_job at.now) at.now.first work.new.lanes.items of.now.under p (source.Element of.now.site of.now.nth of.now.tags))) }
     ensures room { KeepsRoom work.old work.new }
     ensures plain { (used : ℕ → Bool) → ArePlain (turn_job at.now) used → used of.now.site ≡ true → OnErr result ⊥ }
@@ -255,7 +255,7 @@ fn serve_version<L: Ledger>(
     requires demanded { (p : ℕ) (T : ℕ → Bool) → is_in p to.old.places ≡ true → HasAllDemands (turn_job at.now) (at.now.first + p) T
         → DemandsSource (turn_job at.now) (at.now.first + p) under T (source_in_turn at.now under version) }
     ensures leaves { Leaves at.now work.old work.new steps.old steps.new }
-    ensures served { OnOk result (IsServedInTurn at.now (source_fault_in_turn at.now under version) to.old.places to.new work.new.lanes.items work.old.found work.new.found) }
+    ensures served { OnOk result (IsServedInTurn at.now (source_fault (turn_job at.now) at.now.first under (source_in_turn at.now under version)) to.old.places to.new work.new.lanes.items work.old.found work.new.found) }
     ensures held { OnOk result (EachPlace to.new.places (λ p. IsAtHand (turn_job at.now) at.now.first work.new.lanes.items under p (source_in_turn at.now under version))) }
     ensures plain { (used : ℕ → Bool) → ArePlain (turn_job at.now) used → IsSourceIn used (source_in_turn at.now under version) → OnErr result ⊥ }
 {
@@ -276,7 +276,6 @@ fn serve_version<L: Ledger>(
 
 /// Fills what gives these versions their values, one after another: nearly always they are at hand.
 #[inline(always)]
-#[tactic(auto, using(crate::proofs::Serving::begin_served))]
 pub(crate) fn serve_inputs<L: Ledger>(
     at: &Turn<'_>,
     work: &mut Work,
@@ -291,7 +290,7 @@ pub(crate) fn serve_inputs<L: Ledger>(
     requires demanded { (p : ℕ) (T : ℕ → Bool) → is_in p to.old.places ≡ true → HasAllDemands (turn_job at.now) (at.now.first + p) T
         → DemandsInputs (turn_job at.now) (at.now.first + p) under T inputs.now }
     ensures leaves { Leaves at.now work.old work.new steps.old steps.new }
-    ensures served { OnOk result (IsServedInTurn at.now (inputs_fault_in_turn at.now under inputs.now) to.old.places to.new work.new.lanes.items work.old.found work.new.found) }
+    ensures served { OnOk result (IsServedInTurn at.now (inputs_fault (turn_job at.now) at.now.first under inputs.now) to.old.places to.new work.new.lanes.items work.old.found work.new.found) }
     ensures held { OnOk result (EachPlace to.new.places (AreAtHand (turn_job at.now) at.now.first work.new.lanes.items under inputs.now)) }
     ensures plain { (used : ℕ → Bool) → ArePlain (turn_job at.now) used → ArePlainVersions (turn_job at.now) used under inputs.now → OnErr result ⊥ }
 {

@@ -1,9 +1,8 @@
 // Trying the passes of a loop over a block.
-ghost use Rattle.std.specs.Prelude.{◌≡◌, ◌<◌, ℕ, OnOk, Some, slice_get, OnErr, ◌+◌, IfSome, None, length, slice_range};
+ghost use Rattle.std.specs.Prelude.{◌≡◌, ◌<◌, OnOk, Some, OnErr, IfSome, None, length};
 ghost use Rattle.std.specs.List.{AllByRecursion};
-ghost use Rattle.block_passes.specs.{CanSelectInTurn, CanServeInTurn, IsMadeAt, IsPassTried, IsPlainTurn, IsPlanOfTurn, IsReadyInTurn, IsTurn, Leaves, filter_fault, filters_fault, IsNamedMade, IsTriedTo, turn_job, CanServeAllInTurn, IsPassMade, IsPlanMade, IsReadOf, IsSearchedTo};
-ghost use Rattle.loop_keys.specs.{IsCovered, Fits, IsReportPass, job_of, numbered_in, passes_in};
-ghost use Rattle.rdf_model.specs.{first_fault_from};
+ghost use Rattle.block_passes.specs.{CanSelectInTurn, CanServeInTurn, IsPassTried, IsPlanOfTurn, IsReadyInTurn, IsTurn, Leaves, filter_fault, filters_fault, IsNamedMade, IsTriedTo, turn_job, CanServeAllInTurn, IsReadOf, IsSearchedTo};
+ghost use Rattle.loop_keys.specs.{IsCovered, Fits, IsReportPass, job_of, numbered_in, passes_in, IsPlainLoop};
 
 use crate::feed::test_feeding;
 use crate::inputs::serve_inputs;
@@ -31,9 +30,8 @@ pub(crate) fn try_action<L: Ledger>(
     requires ready { (p : IsPlanOfTurn at.now) → IsReadyInTurn at.now p.chains work.old.found.limit work.old.lanes.items kept.old }
     ensures leaves { Leaves at.now work.old work.new steps.old steps.new }
     ensures tried { (p : IsPlanOfTurn at.now)
-        → OnOk result (IsPassTried (turn_job at.now) at.now.first at.now.count p.chains at.now.pass work.new.lanes.items kept.old kept.new work.old.found work.new.found) }
-    ensures made { OnOk result ((last : ℕ) → slice_get at.now.plan.now.passes at.now.pass ≡ Some last → IsMadeAt at.now.count kept.new last) }
-    ensures plain { IsPlainTurn at.now → OnErr result ⊥ }
+        → OnOk result (IsPassTried (turn_job at.now) at.now.first at.now.count at.now.plan.now p.chains at.now.pass work.new.lanes.items kept.old kept.new work.old.found work.new.found) }
+    ensures plain { IsPlainLoop (turn_job at.now) → OnErr result ⊥ }
 {
     let last = at.plan.last_step(at.pass);
     select_again(at, work, kept, last, steps)?;
@@ -56,9 +54,8 @@ fn try_filter<L: Ledger>(
     requires ready { (p : IsPlanOfTurn at.now) → IsReadyInTurn at.now p.chains work.old.found.limit work.old.lanes.items kept.old }
     ensures leaves { Leaves at.now work.old work.new steps.old steps.new }
     ensures tried { (p : IsPlanOfTurn at.now)
-        → OnOk result (IsTriedTo (turn_job at.now) at.now.first at.now.count p.chains (filter_fault (turn_job at.now) at.now.first filter) at.now.pass work.new.lanes.items kept.old kept.new work.old.found work.new.found) }
-    ensures made { OnOk result (IsNamedMade at.now.count at.now.plan.now kept.new filter) }
-    ensures plain { IsPlainTurn at.now → OnErr result ⊥ }
+        → OnOk result (IsTriedTo (turn_job at.now) at.now.first at.now.count p.chains (filter_fault (turn_job at.now) at.now.first filter) at.now.pass work.new.lanes.items kept.old kept.new work.old.found work.new.found (IsNamedMade at.now.count at.now.plan.now kept.new filter)) }
+    ensures plain { IsPlainLoop (turn_job at.now) → OnErr result ⊥ }
 {
     match at.plan.named(filter) {
         Some(named) => match select_again(at, work, kept, named.above, steps) {
@@ -83,9 +80,8 @@ pub(crate) fn try_filters<L: Ledger>(
     requires ready { (p : IsPlanOfTurn at.now) → IsReadyInTurn at.now p.chains work.old.found.limit work.old.lanes.items kept.old }
     ensures leaves { Leaves at.now work.old work.new steps.old steps.new }
     ensures tried { (p : IsPlanOfTurn at.now)
-        → OnOk result (IsTriedTo (turn_job at.now) at.now.first at.now.count p.chains (filters_fault (turn_job at.now) at.now.first filters.now) at.now.pass work.new.lanes.items kept.old kept.new work.old.found work.new.found) }
-    ensures made { OnOk result (AllByRecursion (IsNamedMade at.now.count at.now.plan.now kept.new) filters.now) }
-    ensures plain { IsPlainTurn at.now → OnErr result ⊥ }
+        → OnOk result (IsTriedTo (turn_job at.now) at.now.first at.now.count p.chains (filters_fault (turn_job at.now) at.now.first filters.now) at.now.pass work.new.lanes.items kept.old kept.new work.old.found work.new.found (AllByRecursion (IsNamedMade at.now.count at.now.plan.now kept.new) filters.now)) }
+    ensures plain { IsPlainLoop (turn_job at.now) → OnErr result ⊥ }
 {
     let Some((filter, rest)) = filters.split_first() else {
         return Ok(());
@@ -95,7 +91,7 @@ pub(crate) fn try_filters<L: Ledger>(
 }
 
 /// What the action of a pass reads; a report has none.
-#[tactic(auto, using(loop_keys::proofs::EntryLaws::found_report))]
+#[tactic(auto, using(loop_keys::proofs::PassNumbers::found_report))]
 pub(crate) fn action_read<'a>(job: &Job<'a>, own: Pass, _pass: u32) -> Option<ActionRead<'a>>
     requires job { Fits job.now }
     requires own { numbered_in (job_of job.now) _pass ≡ Some own }
@@ -113,7 +109,6 @@ pub(crate) fn action_read<'a>(job: &Job<'a>, own: Pass, _pass: u32) -> Option<Ac
 }
 
 /// Tries a pass at the places below the limit.
-#[tactic(auto, using(std::proofs::lemmas::Result::on_ok_weaker, crate::proofs::Trying::no_action))]
 pub(crate) fn try_pass<L: Ledger>(
     at: &Turn<'_>,
     work: &mut Work,
@@ -128,9 +123,8 @@ pub(crate) fn try_pass<L: Ledger>(
     requires ready { (p : IsPlanOfTurn at.now) → IsReadyInTurn at.now p.chains work.old.found.limit work.old.lanes.items kept.old }
     ensures leaves { Leaves at.now work.old work.new steps.old steps.new }
     ensures tried { (p : IsPlanOfTurn at.now)
-        → OnOk result (IsPassTried (turn_job at.now) at.now.first at.now.count p.chains at.now.pass work.new.lanes.items kept.old kept.new work.old.found work.new.found) }
-    ensures made { OnOk result (IsPassMade (turn_job at.now) at.now.count at.now.plan.now kept.new at.now.pass) }
-    ensures plain { IsPlainTurn at.now → OnErr result ⊥ }
+        → OnOk result (IsPassTried (turn_job at.now) at.now.first at.now.count at.now.plan.now p.chains at.now.pass work.new.lanes.items kept.old kept.new work.old.found work.new.found) }
+    ensures plain { IsPlainLoop (turn_job at.now) → OnErr result ⊥ }
 {
     match action_read(at.job, own, at.pass) {
         Some(read) => try_action(at, work, kept, &read, steps),
@@ -152,10 +146,8 @@ pub(crate) fn try_passes<L: Ledger>(
     requires ready { (p : IsPlanOfTurn at.now) → IsReadyInTurn at.now p.chains at.now.count work.old.lanes.items kept.old }
     ensures leaves { Leaves at.now work.old work.new steps.old steps.new }
     ensures searched { (p : IsPlanOfTurn at.now)
-        → OnOk result (IsSearchedTo (turn_job at.now) at.now.first at.now.count p.chains (length (passes_in (turn_job at.now))) work.new.lanes.items kept.new work.new.found) }
-    ensures fault { OnOk result (first_fault_from (turn_job at.now).dataset at.now.first (slice_range (turn_job at.now).dataset.rows at.now.first (at.now.first + at.now.count)) (passes_in (turn_job at.now)) ≡ work.new.found.best) }
-    ensures made { OnOk result (IsPlanMade (turn_job at.now) at.now.count at.now.plan.now kept.new) }
-    ensures plain { IsPlainTurn at.now → OnErr result ⊥ }
+        → OnOk result (IsSearchedTo (turn_job at.now) at.now.first at.now.count at.now.plan.now p.chains (length (passes_in (turn_job at.now))) work.new.lanes.items kept.new work.new.found) }
+    ensures plain { IsPlainLoop (turn_job at.now) → OnErr result ⊥ }
 {
     let passes = loop_passes(at.job);
     let mut turn = *at;

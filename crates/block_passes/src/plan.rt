@@ -125,7 +125,7 @@ fn is_among(number: u32, numbers: &[u32]) -> bool
 }
 
 // Whether a report of the loop covers the filter of that number.
-#[tactic(auto, using(loop_keys::proofs::PlainLaws::cover_next, loop_keys::proofs::PlainLaws::covering_is))]
+#[tactic(auto, using(loop_keys::proofs::ActionLaws::cover_next, loop_keys::proofs::ActionLaws::covering_is))]
 fn is_covered(job: &Job<'_>, filter: u32) -> bool
     requires job { Fits job.now }
     requires filter { filter < length (graph_filters (job_graph (job_of job.now))) }
@@ -155,7 +155,7 @@ fn pass_step(job: &Job<'_>, _pass: u32, own: Pass, steps: &mut ListOf<Step>) -> 
 }
 
 // The last step of each pass.
-#[tactic(auto, using(crate::proofs::PlanSteps::planned_none, loop_keys::proofs::EntryLaws::read_pass))]
+#[tactic(auto, using(crate::proofs::PlanSteps::planned_none, loop_keys::proofs::PassNumbers::read_pass))]
 fn pass_steps(alloc: Global, job: &Job<'_>, steps: &mut ListOf<Step>) -> Result<ListOf<u32>, Memory>
     requires job { Fits job.now }
     requires steps { (chains : List Chain) × AreSteps chains steps.old }

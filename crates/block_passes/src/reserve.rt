@@ -52,7 +52,7 @@ fn push_kind(kinds: &mut ListOf<ColType>, kind: ColType, count: usize) -> Result
 }
 
 /// The kind of each key: that of its site.
-#[tactic(auto, using(loop_keys::proofs::KeyLaws::no_keys, crate::proofs::SiteKinds::no_kinds))]
+#[tactic(auto, using(loop_keys::proofs::KeyLaws::no_keys, crate::proofs::Demanding::no_kinds))]
 pub(crate) fn key_kinds(alloc: Global, graph: &Graph) -> Result<ListOf<ColType>, Memory>
     ensures many { IfOk result (λ kinds. length kinds ≡ key_count graph.now) }
     ensures kinds { IfOk result (HaveKinds graph.now (length (graph_sites graph.now))) }

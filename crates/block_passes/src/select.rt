@@ -4,8 +4,8 @@ ghost use Rattle.rdf_values.specs.declared.tables.value.ColType.TheVariants as k
 ghost use Rattle.graph_numbers.specs.{graph_sites};
 ghost use Rattle.expr_lanes.specs.{EachPlace};
 ghost use Rattle.block_cache.specs.{CanFill, kinds_of};
-ghost use Rattle.loop_keys.specs.{ArePlain, job_graph, key};
-ghost use Rattle.block_passes.specs.{CanSelectInTurn, IsFilteredTo, IsKnown, IsNextSelected, IsPlainTurn, IsPlanOfTurn, IsReadyInTurn, IsSelectedInTurn, IsSpentInTurn, IsTurn, KeepsRoom, Kept as KeptView, Leaves, turn_job};
+ghost use Rattle.loop_keys.specs.{ArePlain, job_graph, key, IsPlainLoop};
+ghost use Rattle.block_passes.specs.{CanSelectInTurn, IsFilteredTo, IsKnown, IsNextSelected, IsPlanOfTurn, IsReadyInTurn, IsSelectedInTurn, IsSpentInTurn, IsTurn, KeepsRoom, Kept as KeptView, Leaves, turn_job};
 
 use crate::plan::Step;
 use crate::turn::{Kept, NextStep, SiteFilter, Turn, Work};
@@ -87,7 +87,7 @@ pub(crate) fn next_places<L: Ledger>(
     ensures leaves { Leaves at.now work.old work.new steps.old steps.new }
     ensures selected { (p : IsPlanOfTurn at.now)
         → OnOk result (IsNextSelected (turn_job at.now) at.now.first at.now.count p.chains at.now.pass next.step next.parent next.filter.site next.filter.under work.new.lanes.items (above.now ++ own.old) (above.now ++ own.new) work.old.found work.new.found) }
-    ensures plain { IsPlainTurn at.now → OnErr result ⊥ }
+    ensures plain { IsPlainLoop (turn_job at.now) → OnErr result ⊥ }
 {
     filter_places(
         at,
@@ -114,7 +114,7 @@ pub(crate) fn select_step<L: Ledger>(
     ensures leaves { Leaves at.now work.old work.new steps.old steps.new }
     ensures selected { (p : IsPlanOfTurn at.now)
         → OnOk result (IsSelectedInTurn at.now p.chains step work.new.lanes.items kept.old kept.new work.old.found work.new.found) }
-    ensures plain { IsPlainTurn at.now → OnErr result ⊥ }
+    ensures plain { IsPlainLoop (turn_job at.now) → OnErr result ⊥ }
 {
     let limit = work.found.limit;
     if kept[step as usize].narrow(limit) {
@@ -158,7 +158,7 @@ pub(crate) fn select_again<L: Ledger>(
     ensures leaves { Leaves at.now work.old work.new steps.old steps.new }
     ensures selected { (p : IsPlanOfTurn at.now)
         → OnOk result (IsSelectedInTurn at.now p.chains step work.new.lanes.items kept.old kept.new work.old.found work.new.found) }
-    ensures plain { IsPlainTurn at.now → OnErr result ⊥ }
+    ensures plain { IsPlainLoop (turn_job at.now) → OnErr result ⊥ }
 {
     if kept[step as usize].is_made(work.found.limit) {
         return Ok(());

@@ -23,7 +23,7 @@ use rdf_values::{ActionKind, ColType};
 #[tactic(auto, using(crate::proofs::Serving::key_laws))]
 fn key_lane(lanes: &[Lane], key: usize) -> Option<FedLane<'_>>
     requires { key < length lanes.now }
-    ensures given { (l : LaneView) → slice_get lanes.now key ≡ Some l → IfSome result (HasHeld l) }
+    ensures given { IfSome result (λ fed. (l : LaneView) → slice_get lanes.now key ≡ Some l → HasHeld l fed) }
     ensures none { result ≡ None → slice_get (kinds_of lanes.now) key ≡ Some kind.Vect }
 {
     let lane = &lanes[key];
@@ -63,7 +63,7 @@ fn version_lane<'a: 's, 's>(
 }
 
 /// The lane of a column of the table.
-#[tactic(auto, using(loop_keys::proofs::TableLaws::not_stored, crate::proofs::Serving::column_laws))]
+#[tactic(auto, using(loop_keys::proofs::ActionLaws::not_stored, crate::proofs::Serving::column_laws))]
 pub(crate) fn cell_lane<'a>(at: &Turn<'a>, col: u32, _under: Option<u32>) -> FedLane<'a>
     requires there { col < length at.now.job.now.columns.now.table.columns }
     requires numbers { kind_at at.now.job.now.columns.now.table.columns col ≡ Some kind.Int → HasColumn (turn_job at.now) at.now.first at.now.count at.now.cells.now col }

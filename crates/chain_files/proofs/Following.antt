@@ -1,6 +1,5 @@
 -- What was read so far, line after line: the lines so far begin some part, and the lines of each part can be read.
-use Rattle.std.proofs.Common.{◌≡◌, ◌≤◌, ◌<◌, ◌*◌, ◌-◌, ℕ, true, false, ◌&&◌, Some, List, [], ◌∷◌, ◌++◌, length, map, flat_map, refl, ap, ap₂, ◌∙◌, sym, subst, arith, append_assoc, append-nil, codes, length-append, ◌||◌, nat_eq, nat_le, nat_lt}
-use Rattle.lemmas.proofs.{both_true, if_none, if_some, list_all, map_next, nat_tests, neither}
+use Rattle.lemmas.proofs.{◌≡◌, ◌≤◌, ◌<◌, ◌*◌, ◌-◌, ℕ, true, false, ◌&&◌, Some, List, [], ◌∷◌, ◌++◌, length, map, flat_map, refl, ap, ap₂, ◌∙◌, sym, subst, arith, append_assoc, append-nil, codes, length-append, ◌||◌, nat_eq, nat_le, nat_lt, both_true, if_none, if_some, list_all, map_next, nat_tests, or_parts}
 use Rattle.rdf_values.specs.{AreColumns, ColType, Column, has_name, is_name, IsHeader}
 use Rattle.shard_lines.specs.{EachFits, FitLines, FitsLine, ShardLine}
 use Rattle.chain_files.specs.{Begins, ChainFault, FitLoops, FitsFault, is_digest, is_within, IsPart, loop_lines, on_columns, on_within, part_limits, part_lines, part_of, PartLoop, PartView, step, step_at}
@@ -138,7 +137,7 @@ columns_follow p q (PartLine.Entries k) h f s e = cc e
 columns_follow p q (PartLine.Script w) h f s e = cc e
 columns_follow p q (PartLine.Column c) h f s e =
     let found = if_none (has_name p.columns c.name || nat_le 64 (length p.columns)) (record p { columns = p.columns ++ c ∷ [] }) q e in
-    let tests = neither (has_name p.columns c.name) (nat_le 64 (length p.columns)) found.0 in
+    let tests = or_parts (has_name p.columns c.name) (nat_le 64 (length p.columns)) found.0 in
     let room : length p.columns < 64 = let full = tests.1 in grind (arith, nat_tests) in
     let has = h.0 in
     let more : length (p.columns ++ c ∷ []) ≤ 64 = omega (arith, length-append p.columns (c ∷ []), room) in

@@ -1,6 +1,5 @@
 -- Parts may be joined in any groups.
-use Rattle.std.proofs.Common.{◌≡◌, ◌+◌, ◌+ℤ◌, ℕ, ℤ, Option, None, Some, List, [], ◌∷◌, ◌++◌, fold, refl, ap, ap₂, ◌∙◌, arith, append_assoc}
-use Rattle.lemmas.proofs.{int_max, int_min, ints}
+use Rattle.lemmas.proofs.{◌≡◌, ◌+◌, ◌+ℤ◌, ℕ, ℤ, Option, None, Some, List, [], ◌∷◌, ◌++◌, fold, refl, ap, ap₂, ◌∙◌, arith, append_assoc, int_max, int_min, ints}
 use Rattle.loop_pieces.specs.{Counts}
 use Rattle.histograms.specs.{CellSum}
 use Rattle.shard_lines.specs.{added_cells, added_counts, better_of, cells_of, count_of, counts_of, extreme_of, joined_line, joined_lines, number_of, PassShape, ShardLine, sum_of, taken_of}

@@ -1,6 +1,5 @@
 -- Parts that nothing refuses can be joined.
-use Rattle.std.proofs.Common.{◌≡◌, ◌+◌, ℕ, Bool, true, false, ◌&&◌, cond, None, Some, List, [], ◌∷◌, refl, ap, ap₂, ◌∙◌, sym, not, position}
-use Rattle.lemmas.proofs.{both_true, bytes_eq-Decides, list_all, position_from, position_from-zero}
+use Rattle.lemmas.proofs.{◌≡◌, ◌+◌, ℕ, Bool, true, false, ◌&&◌, cond, None, Some, List, [], ◌∷◌, refl, ap, ap₂, ◌∙◌, sym, not, position, both_true, bytes_eq-Decides, list_all, position_from, position_from-zero}
 use Rattle.rdf_values.specs.{ColType, Column, same}
 use Rattle.shard_lines.specs.{PassShape}
 use Rattle.shard_files.specs.{same_column, same_columns, same_kind}

@@ -1,5 +1,5 @@
 -- A text is of one part at most, and it breaks nowhere.
-use Rattle.std.proofs.Common.{◌≡◌, Some, List, [], ◌∷◌, ◌++◌, ap, ◌∙◌, refl, sym, append-nil, subst}
+use Rattle.lemmas.proofs.{◌≡◌, Some, List, [], ◌∷◌, ◌++◌, ap, ◌∙◌, refl, sym, append-nil, subst}
 use Rattle.shard_lines.specs.{EachFits}
 use Rattle.chain_files.specs.declared.part_line.PartLine.{PartLine}
 use Rattle.chain_files.specs.{IsPart, lines_text, part_lines, part_of, part_text, PartView, TextBreaksNowhere, TextIsOfOnePart}

@@ -1,5 +1,5 @@
 -- Lines of a part file are read back from their words, and from nothing else.
-use Rattle.std.proofs.Common.{◌≡◌, ◌≤◌, ◌<◌, ℕ, Bool, true, false, Option, None, Some, List, [], ◌∷◌, refl, ap, ap₂, ◌∙◌, sym, subst, arith, codes, decimal, if◌then◌else◌, option_map}
+use Rattle.lemmas.proofs.{◌≡◌, ◌≤◌, ◌<◌, ℕ, Bool, true, false, Option, None, Some, List, [], ◌∷◌, refl, ap, ap₂, ◌∙◌, sym, subst, arith, codes, decimal, if◌then◌else◌, option_map}
 use Rattle.rdf_values.specs.{ColType, EntryFault, is_name, IsStored, magnitude_of, same}
 use Rattle.shard_lines.specs.{AreLimits, both_of, FitsLine, line_of_words, line_words, lone, ShardLine}
 use Rattle.shard_lines.proofs.ReadBack.{both_say, count_reads, count_says, lines_read_back, mapped, read_lines_fit, same_says}

@@ -1,6 +1,5 @@
 -- The operations of a Reduce may be grouped in any way.
-use Rattle.std.proofs.Common.{ℕ, ◌≡◌, ◌+◌, ◌<◌, ◌^◌, ◌%◌, ℤ, arith, ap, sym, ◌∙◌, w64, bit_and, bit_or, bit_xor}
-use Rattle.lemmas.proofs.{and_comm, and_le_l, bit_at_and, bit_at_or, bit_at_xor, cast_signed, cast_unsigned, clamps, int_max, int_min, int_wrapping_add, ints, mod-add-mod, mod-eq_of_lt, of_z-to_z, or_comm, or_lt, same_from_bits, xor_comm, xor_lt}
+use Rattle.lemmas.proofs.{ℕ, ◌≡◌, ◌+◌, ◌<◌, ◌^◌, ◌%◌, ℤ, arith, ap, sym, ◌∙◌, w64, bit_and, bit_or, bit_xor, and_comm, and_le_l, bit_at_and, bit_at_or, bit_at_xor, cast_signed, cast_unsigned, clamps, int_max, int_min, int_wrapping_add, ints, mod-add-mod, mod-eq_of_lt, of_z-to_z, or_comm, or_lt, same_from_bits, xor_comm, xor_lt}
 use Rattle.rdf_values.specs.{on_bits, reduce_step, ReduceOp}
 
 pub min_assoc : (a x y : ℤ) → int_min (int_min a x) y ≡ int_min a (int_min x y)

@@ -1,5 +1,5 @@
 -- Texts of lines.
-use Rattle.std.proofs.Common.{◌≡◌, ℕ, List, [], ◌∷◌, ◌++◌, map, ap, ◌∙◌, sym, append_assoc, append-nil, codes, refl, flat_map}
+use Rattle.lemmas.proofs.{◌≡◌, ℕ, List, [], ◌∷◌, ◌++◌, map, ap, ◌∙◌, sym, append_assoc, append-nil, codes, refl, flat_map}
 use Rattle.shard_lines.proofs.Runs.{joins}
 use Rattle.chain_files.specs.{head_lines, line_text, lines_text, loop_lines, part_text, PartView}
 use Rattle.chain_files.specs.declared.part_line.PartLine.{PartLine}

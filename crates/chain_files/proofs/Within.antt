@@ -1,6 +1,5 @@
 -- Lines that so many entries can come to.
-use Rattle.std.proofs.Common.{◌≡◌, ◌≤◌, ◌*◌, ◌^◌, ℕ, Bool, true, ◌&&◌, List, [], ◌∷◌, length, refl, ap₂, arith, nat_abs, nat_le}
-use Rattle.lemmas.proofs.{both_true, le_says, le_true, list_all}
+use Rattle.lemmas.proofs.{◌≡◌, ◌≤◌, ◌*◌, ◌^◌, ℕ, Bool, true, ◌&&◌, List, [], ◌∷◌, length, refl, ap₂, arith, nat_abs, nat_le, both_true, leb-true, le-leb, list_all}
 use Rattle.loop_pieces.specs.{Counts}
 use Rattle.histograms.specs.{CellSum}
 use Rattle.shard_lines.specs.{EachFits, FitLines, FitsCell, FitsCount, FitsLine, ShardLine}
@@ -41,33 +40,33 @@ lines_grow n ls l h = all_grow (FitsLine (part_limits n)) (FitsLine widest) ls (
 -- ---- what the test says
 
 pub within_says : (n : ℕ) (l : ShardLine) → FitsLine widest l → is_within n l ≡ true → FitsLine (part_limits n) l
-within_says n (ShardLine.Count k) f h = le_says k n h
-within_says n (ShardLine.Sum z) f h = le_says (nat_abs z) (n * 2 ^ 75) h
+within_says n (ShardLine.Count k) f h = leb-true k n h
+within_says n (ShardLine.Sum z) f h = leb-true (nat_abs z) (n * 2 ^ 75) h
 within_says n (ShardLine.Number z) f h = f
 within_says n (ShardLine.Extreme z) f h = f
-within_says n (ShardLine.Take xs) f h = record { alike = f.alike; fit = f.fit; short = le_says (length xs) n h }
+within_says n (ShardLine.Take xs) f h = record { alike = f.alike; fit = f.fit; short = leb-true (length xs) n h }
 within_says n (ShardLine.Cells cs) f h = all_says (is_cell_within n) (FitsCell (part_limits n)) cs cell h
   where
     cell : (c : CellSum) → is_cell_within n c ≡ true → FitsCell (part_limits n) c
     cell c t =
         let both = both_true (nat_le (nat_abs c.sum) (n * 2 ^ 43)) (nat_le (nat_abs c.squares) (n * 2 ^ 74)) t in
-        (le_says (nat_abs c.sum) (n * 2 ^ 43) both.0, le_says (nat_abs c.squares) (n * 2 ^ 74) both.1)
+        (leb-true (nat_abs c.sum) (n * 2 ^ 43) both.0, leb-true (nat_abs c.squares) (n * 2 ^ 74) both.1)
 within_says n (ShardLine.Report cs) f h = all_says (is_count_within n) (FitsCount (part_limits n)) cs count h
   where
     count : (c : Counts) → is_count_within n c ≡ true → FitsCount (part_limits n) c
-    count c t = let both = both_true (nat_le c.all n) (nat_le c.pass n) t in (le_says c.all n both.0, le_says c.pass n both.1)
+    count c t = let both = both_true (nat_le c.all n) (nat_le c.pass n) t in (leb-true c.all n both.0, leb-true c.pass n both.1)
 
 pub is_within_true : (n : ℕ) (l : ShardLine) → FitsLine (part_limits n) l → is_within n l ≡ true
-is_within_true n (ShardLine.Count k) h = le_true k n h
-is_within_true n (ShardLine.Sum z) h = le_true (nat_abs z) (n * 2 ^ 75) h
+is_within_true n (ShardLine.Count k) h = le-leb k n h
+is_within_true n (ShardLine.Sum z) h = le-leb (nat_abs z) (n * 2 ^ 75) h
 is_within_true n (ShardLine.Number z) h = refl
 is_within_true n (ShardLine.Extreme z) h = refl
-is_within_true n (ShardLine.Take xs) h = le_true (length xs) n h.short
+is_within_true n (ShardLine.Take xs) h = le-leb (length xs) n h.short
 is_within_true n (ShardLine.Cells cs) h = all_true (is_cell_within n) (FitsCell (part_limits n)) cs cell h
   where
     cell : (c : CellSum) → FitsCell (part_limits n) c → is_cell_within n c ≡ true
-    cell c f = ap₂ (λ a b. a && b) (le_true (nat_abs c.sum) (n * 2 ^ 43) f.0) (le_true (nat_abs c.squares) (n * 2 ^ 74) f.1)
+    cell c f = ap₂ (λ a b. a && b) (le-leb (nat_abs c.sum) (n * 2 ^ 43) f.0) (le-leb (nat_abs c.squares) (n * 2 ^ 74) f.1)
 is_within_true n (ShardLine.Report cs) h = all_true (is_count_within n) (FitsCount (part_limits n)) cs count h
   where
     count : (c : Counts) → FitsCount (part_limits n) c → is_count_within n c ≡ true
-    count c f = ap₂ (λ a b. a && b) (le_true c.all n f.0) (le_true c.pass n f.1)
+    count c f = ap₂ (λ a b. a && b) (le-leb c.all n f.0) (le-leb c.pass n f.1)

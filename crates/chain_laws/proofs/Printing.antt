@@ -1,6 +1,5 @@
 -- Parts of a run, joined in whatever groups, and what is printed of them.
-use Rattle.std.proofs.Common.{Result, Ok, Err, ◌≡◌, ◌≤◌, ◌<◌, ◌+◌, ◌-◌, inl, inr, ℕ, zero, suc, Bool, true, false, ◌&&◌, cond, List, [], ◌∷◌, ◌++◌, length, map, take, drop, nat_lt, Option, None, Some, refl, sym, ap, ap₂, ◌∙◌, subst, arith, append_assoc, append-nil, MatchOption, MatchResult, slice_get, slice_range}
-use Rattle.lemmas.proofs.{All-from_recursion, AllByRecursion, le-ltb, le_true, length-map, lt_not, MatchBool, range_length, recursion_from_All}
+use Rattle.lemmas.proofs.{Result, Ok, Err, ◌≡◌, ◌≤◌, ◌<◌, ◌+◌, ◌-◌, inl, inr, ℕ, zero, suc, Bool, true, false, ◌&&◌, cond, List, [], ◌∷◌, ◌++◌, length, map, take, drop, nat_lt, Option, None, Some, refl, sym, ap, ap₂, ◌∙◌, subst, arith, append_assoc, append-nil, MatchOption, MatchResult, slice_get, slice_range, All-from_recursion, AllByRecursion, le-ltb, le-leb, length-map, ltb-false, MatchBool, range_length, recursion_from_All}
 use Rattle.rdf_values.specs.{Column, fn_names, Function, graph_cause_line, GraphCause, long_table_line, MarkedTable, Script, Span, table_cause_line, table_of, TableCause, Value, verdict}
 use Rattle.table_csv.specs.{csv_records}
 use Rattle.shard_runs.specs.{IsChecked}
@@ -85,7 +84,7 @@ module _ (P : PartView → Type 0) where
 -- ---- numbers
 
 not_longer : (n : ℕ) → nat_lt max_part n ≡ false → nat_lt max_parts (0 + n) ≡ false
-not_longer n h = (let few = lt_not max_part n h in le-ltb max_parts (0 + n) (omega (arith, few)))
+not_longer n h = (let few = ltb-false max_part n h in le-ltb max_parts (0 + n) (omega (arith, few)))
 
 -- ---- parts of a run
 
@@ -268,7 +267,7 @@ module _ (fns : List Function) (bytes : List ℕ) (script : Script) (columns : L
   holds_all : (g : ℕ) → holds g whole ≡ nat_lt g (length tables)
   holds_all g =
       let end : 0 + length c.tables ≡ length tables = omega (arith, same_number) in
-      ap₂ (λ a n. a && nat_lt g n) (le_true 0 g (omega arith)) end
+      ap₂ (λ a n. a && nat_lt g n) (le-leb 0 g (omega arith)) end
 
   print_due : (accepted : verdict (fn_names fns) columns script ≡ None) (name content : List ℕ) (d : ChainDue) → files name ≡ Some content → IsSpanText all_tables content
       → IsText (printed_status (printed_over fns script columns tables).status) (printed_over fns script columns tables).bytes d → IsPrintDue fns bytes script (length tables) name files d

@@ -1,6 +1,5 @@
 -- A run over a chain, stage by stage.
-use Rattle.std.proofs.Common.{Result, Ok, Err, ◌≡◌, ℕ, Bool, true, false, List, [], ◌∷◌, ◌++◌, length, nat_lt, Option, None, Some, refl, sym, subst, append_assoc, append-nil, MatchOption, MatchResult}
-use Rattle.lemmas.proofs.{le-ltb, MatchBool}
+use Rattle.lemmas.proofs.{Result, Ok, Err, ◌≡◌, ℕ, Bool, true, false, List, [], ◌∷◌, ◌++◌, length, nat_lt, Option, None, Some, refl, sym, subst, append_assoc, append-nil, MatchOption, MatchResult, le-ltb, MatchBool}
 use Rattle.rdf_values.specs.{Column, fn_names, Function, graph_cause_line, GraphCause, long_table_line, MarkedTable, Script, table_cause_line, table_of, TableCause, verdict}
 use Rattle.table_csv.specs.{csv_records}
 use Rattle.shard_files.specs.{same_columns}

@@ -1,6 +1,5 @@
 -- The loops of a graph over a table, one after another.
-use Rattle.std.proofs.Common.{◌≡◌, ℕ, ◌+◌, ◌<◌, ◌≤◌, true, false, List, [], ◌∷◌, ◌++◌, length, drop, refl, sym, ap, ◌∙◌, append-nil, append_assoc}
-use Rattle.lemmas.proofs.{none_left}
+use Rattle.lemmas.proofs.{◌≡◌, ℕ, ◌+◌, ◌<◌, ◌≤◌, true, false, List, [], ◌∷◌, ◌++◌, length, drop, refl, sym, ap, ◌∙◌, append-nil, append_assoc, drop_all}
 use Rattle.rdf_values.specs.{Script}
 use Rattle.shard_spans.specs.{loops_of}
 use Rattle.shard_loop.specs.{loop_in}
@@ -40,4 +39,4 @@ module _ (c : Chain) (file : ℕ) (script : Script) where
       pushed ∙ sym (ap (λ l. all ++ l) (left n one lt is ∙ after_fault one (chain_loops c file (drop (n + 1) (loops_of script))) faulty)) ∙ h
 
   pub no_loop_left : (n : ℕ) (all : List PartLoop) → length (loops_of script) ≤ n → IsUpToLoop n all → all ≡ chain_loops c file (loops_of script)
-  no_loop_left n all le h = sym (append-nil all) ∙ sym (ap (λ l. all ++ chain_loops c file l) (none_left (loops_of script) n le)) ∙ h
+  no_loop_left n all le h = sym (append-nil all) ∙ sym (ap (λ l. all ++ chain_loops c file l) (drop_all n (loops_of script) le)) ∙ h

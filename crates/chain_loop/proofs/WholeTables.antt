@@ -1,5 +1,5 @@
 -- A loop over all clusters of a table.
-use Rattle.std.proofs.Common.{◌≡◌, ℕ, ◌+◌, ◌-◌, List, [], ◌∷◌, length, map, Option, None, Some, refl, sym, ap, ap₂, ◌∙◌, subst, arith, append-nil, option_map}
+use Rattle.lemmas.proofs.{◌≡◌, ℕ, ◌+◌, ◌-◌, List, [], ◌∷◌, length, map, Option, None, Some, refl, sym, ap, ap₂, ◌∙◌, subst, arith, append-nil, option_map}
 use Rattle.std.proofs.lemmas.List.{length-map}
 use Rattle.rdf_values.specs.{below, Fault, first_in, Lead, Pass}
 use Rattle.rdf_values.proofs.UnionLemmas.{length-below}
@@ -7,8 +7,7 @@ use Rattle.rdf_values.proofs.Evenly.{cuts_lead}
 use Rattle.rdf_model.specs.{Dataset, first_fault, over_clusters}
 use Rattle.loop_keys.specs.{facts_in, IsJob, job_spans, JobView, passes_in}
 use Rattle.loop_pieces.specs.{cluster_fault, LoopPiece, StandsFor}
-use Rattle.loop_pieces.proofs.ClusterFaults.{first_cluster_has_first_fault}
-use Rattle.loop_pieces.proofs.WholeLoops.{all_clusters_are_the_table}
+use Rattle.loop_pieces.proofs.ByCluster.{first_cluster_has_first_fault, all_clusters_are_the_table}
 use Rattle.event_loop.specs.{FilledLoop, HasEnded, IsFilled, job_facts, LoopEnd}
 use Rattle.shard_lines.specs.{ShardLine}
 use Rattle.shard_spans.specs.{clusters_from, clusters_in, pass_line, span_fault}

@@ -1,5 +1,5 @@
 -- Scripts that are booked over columns, or refused.
-use Rattle.std.proofs.Common.{Ok, ◌≡◌, ℕ, List, None, Some, ap₂, refl, sym, ◌∙◌}
+use Rattle.lemmas.proofs.{Ok, ◌≡◌, ℕ, List, None, Some, ap₂, refl, sym, ◌∙◌}
 use Rattle.rdf_values.specs.Answered.{Refuses}
 use Rattle.rdf_values.specs.{Column, fn_names, Function, FunctionNames, graph_cause_line, GraphCause, Script, verdict}
 use Rattle.graph_numbers.specs.{booked, GraphView}

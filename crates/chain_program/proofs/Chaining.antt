@@ -1,11 +1,10 @@
 -- Tables of a chain, one after the other.
-use Rattle.std.proofs.Common.{◌≡◌, ◌≤◌, ◌<◌, ◌+◌, inl, ℕ, zero, suc, Bool, true, false, List, [], ◌∷◌, ◌++◌, length, drop, map, Option, None, Some, IfSome, arith, ap, ap₂, refl, sym, subst, ◌∙◌, slice_get}
-use Rattle.lemmas.proofs.{All-from_recursion, AllByRecursion, both_true, bytes_eq-Decides, length-append, length-map, list_all, map-append, MatchBool}
+use Rattle.lemmas.proofs.{◌≡◌, ◌≤◌, ◌<◌, ◌+◌, inl, ℕ, zero, suc, Bool, true, false, List, [], ◌∷◌, ◌++◌, length, drop, map, Option, None, Some, IfSome, arith, ap, ap₂, refl, sym, subst, ◌∙◌, slice_get, All-from_recursion, AllByRecursion, both_true, bytes_eq-Decides, length-append, length-map, list_all, map-append, MatchBool}
 use Rattle.rdf_values.specs.{AnswerIn64Bits, ColType, Column, FitRows, fn_names, Function, history, is_name, IsHeader, IsTable, MarkedTable, same, Script, StatementsHaveWords, TableView, Value, verdict}
 use Rattle.rdf_model.specs.{Printed}
 use Rattle.graph_numbers.specs.{GraphView}
 use Rattle.shard_files.specs.{same_column, same_columns, same_kind}
-use Rattle.columns.specs.ColumnsView.{ColumnsView}
+use Rattle.columns.specs.Views.{ColumnsView}
 use Rattle.shard_loop.specs.{table_of}
 use Rattle.shard_spans.specs.{loops_of, pass_shapes}
 use Rattle.shard_runs.specs.Kinds as runs

@@ -1,6 +1,5 @@
 -- Parts of a script, joined or printed.
-use Rattle.std.proofs.Common.{◌≡◌, ◌<◌, ◌+◌, ℕ, suc, Bool, true, false, ◌&&◌, cond, None, Some, List, [], ◌∷◌, length, refl, ap, ap₂, ◌∙◌, sym, subst, arith, not, position, slice_get}
-use Rattle.lemmas.proofs.{AllByRecursion, both_true, list_all, position_from, position_from-zero}
+use Rattle.lemmas.proofs.{◌≡◌, ◌<◌, ◌+◌, ℕ, suc, Bool, true, false, ◌&&◌, cond, None, Some, List, [], ◌∷◌, length, refl, ap, ap₂, ◌∙◌, sym, subst, arith, not, position, slice_get, AllByRecursion, both_true, list_all, position_from, position_from-zero}
 use Rattle.rdf_values.specs.{Column, Function, same, Script}
 use Rattle.graph_numbers.specs.{GraphView}
 use Rattle.shard_files.specs.{same_columns}

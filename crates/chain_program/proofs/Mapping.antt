@@ -1,5 +1,5 @@
 -- The part of one table.
-use Rattle.std.proofs.Common.{◌≡◌, ◌<◌, ◌+◌, ◌⊎◌, inl, inr, ℕ, List, [], ◌∷◌, ◌++◌, length, Option, arith, ap, refl, sym, subst, ◌∙◌, append-nil}
+use Rattle.lemmas.proofs.{◌≡◌, ◌<◌, ◌+◌, ◌⊎◌, inl, inr, ℕ, List, [], ◌∷◌, ◌++◌, length, Option, arith, ap, refl, sym, subst, ◌∙◌, append-nil}
 use Rattle.rdf_values.specs.{AnswerIn64Bits, Function, history, MarkedTable, Script, StatementsHaveWords, Value}
 use Rattle.input_files.specs.{due_of, HoldsTheTable, Tells}
 use Rattle.chain_files.specs.{digest_of, IsPart, part_text, PartView}

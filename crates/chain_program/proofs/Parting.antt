@@ -1,6 +1,5 @@
 -- Part files, one after the other, and parts of a script.
-use Rattle.std.proofs.Common.{◌≡◌, ◌≤◌, ◌<◌, ◌+◌, inl, inr, ℕ, Bool, true, false, nat_lt, List, [], ◌∷◌, ◌++◌, length, drop, Option, None, Some, IfSome, arith, ap, refl, sym, subst, ◌∙◌, append_assoc, append-nil, MatchOption, get_or, not, position, slice_get, unwrap_or}
-use Rattle.lemmas.proofs.{AllByRecursion, le-ltb, length-append, MatchBool}
+use Rattle.lemmas.proofs.{◌≡◌, ◌≤◌, ◌<◌, ◌+◌, inl, inr, ℕ, Bool, true, false, nat_lt, List, [], ◌∷◌, ◌++◌, length, drop, Option, None, Some, IfSome, arith, ap, refl, sym, subst, ◌∙◌, append_assoc, append-nil, MatchOption, get_or, not, position, slice_get, unwrap_or, AllByRecursion, le-ltb, length-append, MatchBool}
 use Rattle.rdf_values.specs.{Column, fn_names, Function, graph_cause_line, GraphCause, Script, verdict}
 use Rattle.graph_numbers.specs.{GraphView}
 use Rattle.shard_lines.specs.{PassShape}

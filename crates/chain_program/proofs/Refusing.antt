@@ -1,5 +1,5 @@
 -- Answers of the stages of tables and parts that refuse a file.
-use Rattle.std.proofs.Common.{◌≡◌, ℕ, List, [], ◌∷◌, Option}
+use Rattle.lemmas.proofs.{◌≡◌, ℕ, List, [], ◌∷◌, Option}
 use Rattle.rdf_values.specs.{Function, MarkedTable, Script}
 use Rattle.input_files.specs.{due_of, HoldsTheTable, Tells}
 use Rattle.chain_files.specs.{in_order, PartView}

@@ -1,6 +1,5 @@
 -- Answers from stage to stage.
-use Rattle.std.proofs.Common.{Result, Ok, Err, IfOk, ◌≡◌, ◌≤◌, inl, inr, ℕ, Bool, true, false, List, [], ◌∷◌, ◌++◌, length, nat_lt, Option, None, Some, IfSome, arith, sym, subst, MatchOption, MatchResult, OnOk}
-use Rattle.lemmas.proofs.{le-ltb, MatchBool}
+use Rattle.lemmas.proofs.{Result, Ok, Err, IfOk, ◌≡◌, ◌≤◌, inl, inr, ℕ, Bool, true, false, List, [], ◌∷◌, ◌++◌, length, nat_lt, Option, None, Some, IfSome, arith, sym, subst, MatchOption, MatchResult, OnOk, le-ltb, MatchBool}
 use Rattle.rdf_outside.specs.{Rose}
 use Rattle.rdf_values.specs.{Column, fn_names, Function, graph_cause_line, GraphCause, IsScript, long_script_line, long_table_line, MarkedTable, read_failed_line, Script, table_cause_line, table_of, TableCause, verdict}
 use Rattle.table_csv.specs.{csv_records}

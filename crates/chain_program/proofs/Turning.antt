@@ -1,5 +1,5 @@
 -- The files that the shelf was turned to, from stage to stage.
-use Rattle.std.proofs.Common.{◌≡◌, ◌≤◌, ◌<◌, ◌+◌, inl, inr, ℕ, zero, suc, List, [], ◌∷◌, ◌++◌, length, drop, Some, arith, ap, refl, sym, subst, ◌∙◌, append_assoc, append-nil, MatchOption, slice_get}
+use Rattle.lemmas.proofs.{◌≡◌, ◌≤◌, ◌<◌, ◌+◌, inl, inr, ℕ, zero, suc, List, [], ◌∷◌, ◌++◌, length, drop, Some, arith, ap, refl, sym, subst, ◌∙◌, append_assoc, append-nil, MatchOption, slice_get}
 use Rattle.input_files.specs.{AreTurnedTo}
 use Rattle.chain_program.specs.{AreTurned}
 

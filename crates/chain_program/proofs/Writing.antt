@@ -1,5 +1,5 @@
 -- What is written of an answer to the words.
-use Rattle.std.proofs.Common.{◌≡◌, ◌⊎◌, inl, inr, ℕ, List, Option, None, Some, IfSome, refl, sym, subst, MatchOption}
+use Rattle.lemmas.proofs.{◌≡◌, ◌⊎◌, inl, inr, ℕ, List, Option, None, Some, IfSome, refl, sym, subst, MatchOption}
 use Rattle.rdf_outside.specs.{Appends, AppendsPart}
 use Rattle.rdf_values.specs.{Function}
 use Rattle.input_files.specs.{due_of, WritesDue, WritesDuePart, WritesPart, WritesReadFailed}

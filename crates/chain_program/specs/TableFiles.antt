@@ -4,7 +4,7 @@ use Rattle.std.specs.Bool.{MatchBool}
 use Rattle.std.specs.List.{AllByRecursion, list_all}
 use Rattle.rdf_values.specs.{Column, fn_names, Function, is_name, IsTable, MarkedTable, Script, verdict}
 use Rattle.table_csv.specs.{columns_over, marked_in}
-use Rattle.columns.specs.ColumnsView.{ColumnsView}
+use Rattle.columns.specs.Views.{ColumnsView}
 use Rattle.shard_files.specs.{same_columns}
 use Rattle.shard_loop.specs.{table_of}
 use Rattle.shard_spans.specs.{loops_of}

@@ -1,5 +1,5 @@
 -- The first fault of a chain is that of its rows.
-use Rattle.std.proofs.Common.{◌≡◌, ℕ, suc, ◌+◌, ◌-◌, ◌<◌, ◌≤◌, List, [], ◌∷◌, ◌++◌, length, take, Option, None, Some, refl, sym, ap, ap₂, ◌∙◌, arith, length-append, option_map}
+use Rattle.lemmas.proofs.{◌≡◌, ℕ, suc, ◌+◌, ◌-◌, ◌<◌, ◌≤◌, List, [], ◌∷◌, ◌++◌, length, take, Option, None, Some, refl, sym, ap, ap₂, ◌∙◌, arith, length-append, option_map}
 use Rattle.std.specs.List.{AllByRecursion}
 use Rattle.rdf_values.specs.{EntryFault, Fault, Pass, Value}
 use Rattle.rdf_model.specs.{Dataset, fault_at, fault_or, first_fault, first_fault_from, first_fault_in}

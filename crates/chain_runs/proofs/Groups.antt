@@ -1,7 +1,6 @@
 -- Parts over some files each of one chain, named in any order.
-use Rattle.std.proofs.Common.{◌≡◌, ℕ, zero, suc, ◌+◌, ◌-◌, ◌<◌, ◌≤◌, Bool, true, false, not, ◌&&◌, List, [], ◌∷◌, length, map, drop, take, fold, None, refl, sym, ap, ap₂, ◌∙◌, subst, arith, if◌then◌else◌, slice_range}
+use Rattle.lemmas.proofs.{◌≡◌, ℕ, zero, suc, ◌+◌, ◌-◌, ◌<◌, ◌≤◌, Bool, true, false, not, ◌&&◌, List, [], ◌∷◌, length, map, drop, take, fold, None, refl, sym, ap, ap₂, ◌∙◌, subst, arith, if◌then◌else◌, slice_range, All-from_recursion, AllByRecursion, range_length, recursion_from_All}
 use Rattle.std.specs.Prelude.{⊤}
-use Rattle.lemmas.proofs.{All-from_recursion, AllByRecursion, range_length, recursion_from_All}
 use Rattle.rdf_values.specs.{ColType, Pass, Script, Span, Value}
 use Rattle.rdf_model.proofs.Accepted.{itself}
 use Rattle.loop_pieces.proofs.ByCluster.{ranges_join}

@@ -1,6 +1,5 @@
 -- What a run over a chain finds is a part.
-use Rattle.std.proofs.Common.{◌≡◌, ℕ, ◌+◌, ◌-◌, ◌*◌, ◌<◌, ◌≤◌, List, [], ◌∷◌, ◌++◌, length, map, Option, None, Some, refl, ap, ◌∙◌, arith, length-append, flat_map}
-use Rattle.lemmas.proofs.{AllByRecursion, count_by-le-length, flat_map-append, length-map, recursion_from_All}
+use Rattle.lemmas.proofs.{◌≡◌, ℕ, ◌+◌, ◌-◌, ◌*◌, ◌<◌, ◌≤◌, List, [], ◌∷◌, ◌++◌, length, map, Option, None, Some, refl, ap, ◌∙◌, arith, length-append, flat_map, AllByRecursion, count_by-le-length, flat_map-append, length-map, recursion_from_All}
 use Rattle.rdf_values.specs.{ActionAt, ActionKind, Booking, FitRows, Item, Pass, Path, ReportOn, scalar_of, Script, Under, Value}
 use Rattle.rdf_model.specs.{action_outcome, cutflow, Dataset, Entry, Faults, Feed, Gives, items_fed, items_of, Needs, Outcome, passes_filters, Skip}
 use Rattle.loop_pieces.specs.{counts_of}

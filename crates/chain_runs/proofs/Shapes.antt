@@ -1,6 +1,5 @@
 -- The loops of a run over a chain have the shapes of the script's passes.
-use Rattle.std.proofs.Common.{◌≡◌, ℕ, ◌<◌, true, ◌&&◌, List, [], ◌∷◌, length, map, Option, None, Some, refl, ap₂, ap, ◌∙◌, arith}
-use Rattle.lemmas.proofs.{AllByRecursion, length-map, lt_true, recursion_from_All}
+use Rattle.lemmas.proofs.{◌≡◌, ℕ, ◌<◌, true, ◌&&◌, List, [], ◌∷◌, length, map, Option, None, Some, refl, ap₂, ap, ◌∙◌, arith, AllByRecursion, length-map, lt-ltb, recursion_from_All}
 use Rattle.rdf_values.specs.{ActionAt, Booking, ColType, Pass, ReportOn, Script, Value}
 use Rattle.shard_lines.specs.{booking_shape, PassShape}
 use Rattle.shard_spans.specs.{loops_of, pass_line, pass_shapes}
@@ -40,7 +39,7 @@ module _ (script : Script) (c : Chain) (tables : List (List (List Value))) (chec
           let shape_of : Pass → PassShape = λ p. booking_shape (kinds p) p.result.booking in
           let same_number : length (map shape_of ps) ≡ length ps = length-map ps shape_of in
           let pass = at.pass in
-          lt_true f.pass (length (map shape_of ps)) (omega arith)
+          lt-ltb f.pass (length (map shape_of ps)) (omega arith)
 
 pub chains_have_shapes : ChainsHaveShapes
 chains_have_shapes bytes script c first checked some = go c.tables (recursion_from_All (λ rows. IsChecked script (with_rows c rows)) c.tables checked) some

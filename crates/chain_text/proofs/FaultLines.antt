@@ -1,6 +1,5 @@
 -- The line of a fault with its file, from the line without.
-use Rattle.std.proofs.Common.{◌≡◌, ◌-◌, ◌++◌, ℕ, List, [], ◌∷◌, length, drop, take, sym, ap, ◌∙◌, append_assoc, codes, decimal, slice_get}
-use Rattle.lemmas.proofs.{length-drop, take-length}
+use Rattle.lemmas.proofs.{◌≡◌, ◌-◌, ◌++◌, ℕ, List, [], ◌∷◌, length, drop, take, sym, ap, ◌∙◌, append_assoc, codes, decimal, slice_get, length-drop, take-length}
 use Rattle.rdf_values.specs.{Fault, Pass}
 use Rattle.rdf_model.specs.{fault_line, fault_name, pass_label}
 use Rattle.chain_files.specs.{ChainFault}

@@ -1,11 +1,10 @@
 -- Loops with the shapes of a graph's passes fit the graph.
-use Rattle.std.proofs.Common.{◌≡◌, ℕ, zero, suc, ◌<◌, ◌≤◌, true, ◌&&◌, List, [], ◌∷◌, length, map, Option, None, Some, refl, sym, ap, ◌∙◌, arith, option_map, slice_get, unwrap_or}
-use Rattle.lemmas.proofs.{and_right, length-map, lt_says, same_Some, slice_get-map}
+use Rattle.lemmas.proofs.{◌≡◌, ℕ, zero, suc, ◌<◌, ◌≤◌, true, ◌&&◌, List, [], ◌∷◌, length, map, Option, None, Some, refl, sym, ap, ◌∙◌, arith, option_map, slice_get, unwrap_or, and_right, length-map, ltb-true, same_Some, slice_get-map}
 use Rattle.rdf_values.specs.{Booked, ColType, history, Pass}
 use Rattle.rdf_model.specs.{loop_passes, loop_results}
 use Rattle.graph_numbers.specs.{graph_loops, GraphView, pass_at}
 use Rattle.graph_numbers.proofs.Placing.{itself}
-use Rattle.graph_numbers.proofs.Looping.{loops_are}
+use Rattle.graph_numbers.proofs.Covering.{loops_are}
 use Rattle.result_text.specs.{passes_at}
 use Rattle.shard_lines.specs.{booking_shape, have_shapes, PassShape}
 use Rattle.shard_spans.specs.{loops_of, pass_shapes}
@@ -32,7 +31,7 @@ module _ (column : Pass → ColType) (first end n : ℕ) where
       let same : g ≡ f = cc in
       let shape_of : Pass → PassShape = λ p. booking_shape (column p) p.result.booking in
       let many : length (map shape_of ps) ≡ length ps = length-map ps shape_of in
-      let lt = lt_says g.pass (length (map shape_of ps)) h in
+      let lt = ltb-true g.pass (length (map shape_of ps)) h in
       let pass : g.pass ≡ f.pass = ap (λ (x : ChainFault). x.pass) same in
       (ps, refl, omega arith)
   fault_inside (ps ∷ L) (Faulted g ∷ []) (suc l) f h fit at = absurd (cc)

@@ -1,10 +1,9 @@
 -- The Prints in order, and what each gives.
-use Rattle.std.proofs.Common.{◌≡◌, ℕ, ◌+◌, ◌≤◌, List, [], ◌++◌, length, drop, Option, Some, sym, ap, ◌∙◌, append-nil, option_map, slice_get}
-use Rattle.lemmas.proofs.{none_left, same_Some}
+use Rattle.lemmas.proofs.{◌≡◌, ℕ, ◌+◌, ◌≤◌, List, [], ◌++◌, length, drop, Option, Some, sym, ap, ◌∙◌, append-nil, option_map, slice_get, drop_all, same_Some}
 use Rattle.rdf_model.specs.{Access, accesses, in_front_of, loop_of, Printed}
 use Rattle.graph_numbers.specs.{booked_statements, GraphView}
 use Rattle.result_text.specs.{passes_at}
-use Rattle.result_text.proofs.CellNames.{one_left}
+use Rattle.result_text.proofs.PassLines.{one_left}
 use Rattle.shard_lines.specs.{ShardLine}
 use Rattle.merged_text.specs.{lines_of_result}
 use Rattle.chain_files.specs.{ChainFault, PartLoop}
@@ -50,7 +49,7 @@ module _ (g : GraphView) (loops : List PartLoop) (whole : Printed) where
   ends_there text now print a at gives h = sym (gives (prints_text g loops (drop (print + 1) (accesses (booked_statements g))))) ∙ sym (ap (in_front_of text) (left print a at)) ∙ h
 
   pub all_written : (text : List ℕ) (print : ℕ) → length (accesses (booked_statements g)) ≤ print → IsWritten text print → record { bytes = text; status = 0 } ≡ whole
-  all_written text print le h = ap (λ t. record { bytes = t; status = 0 }) (sym (append-nil text)) ∙ sym (ap (λ l. in_front_of text (prints_text g loops l)) (none_left (accesses (booked_statements g)) print le)) ∙ h
+  all_written text print le h = ap (λ t. record { bytes = t; status = 0 }) (sym (append-nil text)) ∙ sym (ap (λ l. in_front_of text (prints_text g loops l)) (drop_all print (accesses (booked_statements g)) le)) ∙ h
 
 -- nothing is written yet
 pub begin_written : (g : GraphView) (loops : List PartLoop) (text : List ℕ) → text ≡ [] → IsWritten g loops (prints_text g loops (accesses (booked_statements g))) text 0

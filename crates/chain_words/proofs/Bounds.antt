@@ -1,5 +1,5 @@
 -- The numbers of a command are within their limits.
-use Rattle.std.proofs.Common.{◌≡◌, ◌≤◌, ◌<◌, ℕ, ℤ, pos, negsuc, Bool, true, false, not, ◌&&◌, ◌==◌, leb, List, [], ◌∷◌, ◌++◌, length, drop, nat_lt, Option, None, Some, if◌then◌else◌, codes, refl, arith, subst, unwrap_or}
+use Rattle.lemmas.proofs.{◌≡◌, ◌≤◌, ◌<◌, ℕ, ℤ, pos, negsuc, Bool, true, false, not, ◌&&◌, ◌==◌, leb, List, [], ◌∷◌, ◌++◌, length, drop, nat_lt, Option, None, Some, if◌then◌else◌, codes, refl, arith, subst, unwrap_or}
 use Rattle.std.proofs.lemmas.Bool.Decides.{nat_tests}
 use Rattle.rdf_values.specs.{integer_of, same}
 use Rattle.command_words.specs.{within}
@@ -8,7 +8,7 @@ use Rattle.chain_words.specs.declared.command.ChainCommand.TheVariants.{Run, Map
 use Rattle.chain_words.specs.declared.command.Settings.{Settings}
 use Rattle.chain_words.specs.declared.reading.Awaits.{Awaits}
 use Rattle.chain_words.specs.declared.reading.Reading.{Reading}
-use Rattle.command_words.proofs.Bounds.{if_within}
+use Rattle.command_words.proofs.Taken.{if_within}
 
 -- a number that stands in an option
 abbrev Is : ℕ → ℕ → Option ℕ → Type 0

@@ -1,5 +1,5 @@
 -- The definitions computed: words that are taken, and words that aren't.
-use Rattle.std.proofs.Common.{◌≡◌, [], ◌∷◌, Some, None, refl, codes}
+use Rattle.lemmas.proofs.{◌≡◌, [], ◌∷◌, Some, None, refl, codes}
 use Rattle.rdf_values.specs.{integer_of, magnitude_of}
 use Rattle.chain_words.specs.{asked_of}
 use Rattle.chain_words.specs.declared.command.ChainCommand.TheVariants.{Run, Map, Join, Print}

@@ -1,5 +1,5 @@
 -- Words read one after another.
-use Rattle.std.proofs.Common.{◌≡◌, ℕ, zero, suc, ◌+◌, ◌<◌, Bool, true, false, List, [], ◌∷◌, length, drop, get_or, Option, None, Some, sym, ap, ◌∙◌, arith, if◌then◌else◌}
+use Rattle.lemmas.proofs.{◌≡◌, ℕ, zero, suc, ◌+◌, ◌<◌, Bool, true, false, List, [], ◌∷◌, length, drop, get_or, Option, None, Some, sym, ap, ◌∙◌, arith, if◌then◌else◌}
 use Rattle.chain_words.specs.{after, asked_of, ChainCommand, command_by, command_of, is_over, no_words, word_read, words_read}
 use Rattle.chain_words.specs.declared.reading.Reading.{Reading}
 

@@ -1,15 +1,15 @@
 -- A tally after a block fed a pass, and at the ends of a block.
-use Rattle.std.proofs.Common.{◌≡◌, ℕ, ◌+◌, ◌<◌, ◌≤◌, List, [], ◌++◌, length, map, Option, None, Some, inl, inr, sym, ap, ap₂, ◌∙◌, subst, arith, append_assoc, OnOk, Result, slice_get, slice_set}
-use Rattle.lemmas.proofs.{length-map, length-set, mapped_at, same_Some, slice_get_within, something_at}
-use Rattle.rdf_values.proofs.UnionLemmas.{map-below}
-use Rattle.rdf_values.specs.{ActionKind}
+use Rattle.lemmas.proofs.{◌≡◌, ℕ, ◌+◌, ◌<◌, ◌≤◌, List, [], ◌++◌, length, map, Option, None, Some, inl, inr, sym, ap, ap₂, ◌∙◌, subst, arith, append_assoc, OnOk, Result, slice_get, slice_set, ◌^◌, ◌∷◌, set, get_or, ⊎_elim, get_or-set_same, get_or-set_other, count_by, length-map, length-set, mapped_at, same_Some, slice_get_within, something_at, cases_eq, common_steps, get_or-map, get_or_from_slice_get, map-set_same, same_lists}
+use Rattle.rdf_values.proofs.UnionLemmas.{map-below, length-below, slice_get-below}
+use Rattle.rdf_values.specs.{ActionKind, below}
 use Rattle.rdf_model.specs.declared.loop_facts.LoopFacts.{LoopFacts}
 use Rattle.actions.specs.{Accumulator, Batch, batch_items, Fed, from_cluster, HasFed, IsTake, places_of}
-use Rattle.loop_pieces.specs.{entries_over}
-use Rattle.cluster_tally.specs.{block_items, BlockStage, CanFeedBatch, CanTakeIn, CanWatch, counts_by, fed_by, first_items, HoldsIn, HoldsUpTo, IsFedAlone, IsFedBy, pass_done, places_there, taken_in, TakesIn, TallyView, TookIn, TookInIfThere}
+use Rattle.loop_pieces.specs.{entries_over, AreCounts, both, Counts, nothing}
+use Rattle.cluster_tally.specs.{block_items, BlockStage, CanFeedBatch, CanTakeIn, CanWatch, counts_by, fed_by, first_items, HoldsIn, HoldsUpTo, IsFedAlone, IsFedBy, pass_done, places_there, taken_in, TakesIn, TallyView, TookIn, TookInIfThere, block_reaches, CanNoteCounts, counts_in, filter_done}
+use Rattle.cluster_tally.proofs.Closing.{at_set, kind_at, of_mapped, places_kept, entries_room, in_before, in_from, in_same, items_next, counts_next, counts_room, counts_same}
+use Rattle.rdf_model.specs.{is_passed, is_reached, Reach}
+use Rattle.rdf_model.specs.declared.loop_facts.Reach.TheVariants.{Failed, Passed, Stopped}
 use Rattle.cluster_tally.specs.Laws as law
-use Rattle.cluster_tally.proofs.Pieces.{at_set, kind_at, map_set_same, of_mapped, places_kept}
-use Rattle.cluster_tally.proofs.Steps.{entries_room, in_before, in_from, in_same, items_next}
 
 -- an action that is watched keeps no values
 pub none_kept : (k : ActionKind) → CanWatch k → IsTake k → ⊥
@@ -37,18 +37,10 @@ held_alike f watched done cluster fed told fed' told' t items counts h = record 
     kinds_many = sym (length-map t.accs kind_at) ∙ ap length h.kinds
 
 pub begins_block : law.BeginsBlock
-begins_block f watched s t block passes filters h =
-    held_alike f watched s.done s.cluster (taken_in s.entries 1 s.passes) (taken_in s.entries 1 s.filters) (taken_in s.entries block 0) (taken_in s.entries block 0) t
-    (λ i lt. in_from s.entries 1 s.passes i (omega (arith, passes)) ∙ sym (in_from s.entries block 0 i (omega arith)))
-    (λ i lt. in_from s.entries 1 s.filters i (omega (arith, filters)) ∙ sym (in_from s.entries block 0 i (omega arith)))
-    h
+begins_block f watched s t block passes filters h = held_alike f watched s.done s.cluster _ _ _ _ t (λ i lt. grind (arith, in_from)) (λ i lt. grind (arith, in_from)) h
 
 pub ends_block : law.EndsBlock
-ends_block f watched s t passes filters h =
-    held_alike f watched s.done s.cluster (taken_in s.entries s.block s.passes) (taken_in s.entries s.block s.filters) (taken_in (s.entries + s.block) 1 0) (taken_in (s.entries + s.block) 1 0) t
-    (λ i lt. in_before s.entries s.block s.passes i (omega (arith, passes)) ∙ sym (in_from (s.entries + s.block) 1 0 i (omega arith)))
-    (λ i lt. in_before s.entries s.block s.filters i (omega (arith, filters)) ∙ sym (in_from (s.entries + s.block) 1 0 i (omega arith)))
-    h
+ends_block f watched s t passes filters h = held_alike f watched s.done s.cluster _ _ _ _ t (λ i lt. grind (arith, in_before, in_from)) (λ i lt. grind (arith, in_before, in_from)) h
 
 -- ---- a pass that is fed
 
@@ -170,7 +162,7 @@ module _ (f : LoopFacts) (watched : List ℕ) (s : BlockStage) (t : TallyView) (
           facts = h.facts;
           rises = h.rises;
           above = h.above;
-          kinds = ap (map kind_at) are.rest ∙ map_set_same kind_at t.accs pass are.now are.acc are.its_place are.takes.kind ∙ h.kinds;
+          kinds = ap (map kind_at) are.rest ∙ map-set_same kind_at t.accs pass are.now are.acc (are.takes.kind ∙ ap kind_at (sym (get_or_from_slice_get t.accs pass are.acc are.acc are.its_place))) ∙ h.kinds;
           accs = fed_all;
           flow = h.flow;
           many = a.many ∙ h.many ∙ sym (ap length are.rest ∙ length-set t.accs pass are.now);
@@ -185,3 +177,55 @@ pub took : {T E : Type 0} (r : Result T E) (place cluster : ℕ) (batch : Batch)
     → ((fed : List Fed) → HasFed old fed → OnOk r (HasFed now (fed ++ from_cluster cluster (batch_items old.kind batch))))
     → OnOk r (TookIn place cluster batch accs (slice_set accs place now))
 took r place cluster batch accs acc old now h is kind entries last fed = grind arith
+
+-- ---- a tally after a block's counts were noted of a filter
+
+passed_few : (rs : List Reach) → count_by is_passed rs ≤ count_by is_reached rs
+passed_few [] = omega arith
+passed_few (r ∷ rs) = grind (arith, common_steps, passed_few rs)
+
+at_below : {A : Type 0} (g : ℕ → A) (n i : ℕ) (d : A) → i < n → get_or (map g (below n)) i d ≡ g i
+at_below g n i d lt = get_or-map g (below n) i i d (omega (arith, length-below n)) ∙ ap g (get_or_from_slice_get (below n) i i i (slice_get-below n i lt))
+
+module _ (f : LoopFacts) (watched : List ℕ) (s : BlockStage) (t : TallyView) (filter : ℕ) (counts : Counts) (can : CanNoteCounts f watched s t filter counts) where
+  many : length t.flow ≡ f.filters
+  many = ap length can.holds.flow ∙ length-map (below f.filters) (counts_in f s) ∙ length-below f.filters
+
+  pub filter_within : filter < length t.flow
+  filter_within = omega (arith, can.inside, many)
+
+  at_place : (i : ℕ) (d : Counts) → i < f.filters → get_or t.flow i d ≡ counts_in f s i
+  at_place i d lt = ap (λ l. get_or l i d) can.holds.flow ∙ at_below (counts_in f s) f.filters i d lt
+
+  pub are_counts : AreCounts counts
+  are_counts =
+      let all = ap (λ (c : Counts). c.all) can.come_to in
+      let pass = ap (λ (c : Counts). c.pass) can.come_to in
+      record {
+        few = omega (arith, all, counts_room f watched s t can.holds filter);
+        pass = omega (arith, all, pass, passed_few (block_reaches f s filter));
+      }
+
+  pub has_room : (get_or t.flow filter nothing).all + counts.all ≤ 2 ^ 32
+  has_room = omega (arith, ap (λ (c : Counts). c.all) (at_place filter nothing can.inside), ap (λ (c : Counts). c.all) can.come_to, counts_room f watched s t can.holds filter)
+
+  now_there : counts_in f (filter_done s) filter ≡ both (counts_in f s filter) counts
+  now_there = grind (arith, counts_next)
+
+  flow_now : (flow : List Counts) → flow ≡ set t.flow filter (both (get_or t.flow filter nothing) counts) → flow ≡ map (counts_in f (filter_done s)) (below f.filters)
+  flow_now flow is = is ∙ same_lists (set t.flow filter one) all (length-set t.flow filter one ∙ many ∙ sym (length-map (below f.filters) (counts_in f (filter_done s)) ∙ length-below f.filters)) (λ i d lt. each i d (omega (arith, length-set t.flow filter one, many)))
+    where
+      one : Counts
+      one = both (get_or t.flow filter nothing) counts
+
+      all : List Counts
+      all = map (counts_in f (filter_done s)) (below f.filters)
+
+      wanted : (i : ℕ) (d : Counts) → i < f.filters → get_or all i d ≡ counts_in f (filter_done s) i
+      wanted = at_below (counts_in f (filter_done s)) f.filters
+
+      each : (i : ℕ) (d : Counts) → i < f.filters → get_or (set t.flow filter one) i d ≡ get_or all i d
+      each i d lt = grind (arith, cases_eq i filter, get_or-set_same, get_or-set_other, filter_within, at_place, wanted, now_there, counts_same)
+
+  pub holds_noted : (flow : List Counts) → flow ≡ set t.flow filter (both (get_or t.flow filter nothing) counts) → HoldsIn f watched (filter_done s) (record { accs = t.accs; watched = t.watched; flow = flow; trails = t.trails })
+  holds_noted flow is = grind (arith, flow_now, many)

@@ -1,5 +1,2 @@
 pub mod BlockFeeds
-pub mod BlockNotes
 pub mod Closing
-pub mod Pieces
-pub mod Steps

@@ -5,8 +5,7 @@ use Rattle.rdf_model.specs.{if_there, list_at, Reach, span_rows}
 use Rattle.rdf_model.specs.declared.loop_facts.LoopFacts.{LoopFacts}
 use Rattle.actions.specs.{Accumulator, Batch, batch_items, EachPlace, Fed, from_cluster, HasFed, HasValues, places_of, SuitsAt, values_at}
 use Rattle.loop_pieces.specs.{Counts}
-use Rattle.cluster_tally.specs.Stages.{Stage, counted, counts_by, taken_in}
-use Rattle.cluster_tally.specs.Tallies.{HoldsUpTo, TallyView}
+use Rattle.cluster_tally.specs.Tallies.{Stage, counted, counts_by, taken_in, HoldsUpTo, TallyView}
 
 -- the clusters that were finished, the cluster that is worked on, how many of its entries were taken in before the block, how many the
 -- block has, and the action passes and the named filters before these places, which took the block in too

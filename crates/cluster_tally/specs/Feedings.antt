@@ -8,8 +8,7 @@ use Rattle.actions.specs.{Accumulator, kept_of}
 use Rattle.merge_core.specs.{Noted}
 use Rattle.loop_pieces.specs.{WatchPiece}
 use Rattle.loop_pieces.specs.declared.watch_piece.WatchPiece.TheVariants.{Count, Sum, Least, Greatest}
-use Rattle.cluster_tally.specs.Stages.{Stage}
-use Rattle.cluster_tally.specs.Tallies.{CanWatch, TallyView, places_there}
+use Rattle.cluster_tally.specs.Tallies.{Stage, CanWatch, TallyView, places_there}
 
 -- to which nothing was fed
 abbrev pub fresh_acc : ActionKind → Accumulator

@@ -5,8 +5,7 @@ use Rattle.rdf_model.specs.declared.loop_facts.LoopFacts.{LoopFacts}
 use Rattle.loop_pieces.specs.{nothing}
 use Rattle.cluster_tally.specs.Blocks.{BlockStage, HoldsIn, block_begin, block_end}
 use Rattle.cluster_tally.specs.Feedings.{IsFresh}
-use Rattle.cluster_tally.specs.Stages.{Stage, at_begin}
-use Rattle.cluster_tally.specs.Tallies.{Holds, TallyView}
+use Rattle.cluster_tally.specs.Tallies.{Stage, at_begin, Holds, TallyView}
 
 -- a fresh tally of all passes holds what no cluster gives
 abbrev pub FreshHolds : Type 0

@@ -6,8 +6,7 @@ ghost use Rattle.actions.specs.{Accumulator, EachPlace, Fed, HasEdges, HasFed, H
 ghost use Rattle.loop_pieces.specs.{HaveTrails, nothing, StandsFor};
 ghost use Rattle.cluster_tally.specs.Blocks.{BlockStage, CanFeedBatch, CanNoteCounts, CanTakeIn, HoldsIn, TookIn, TookInIfThere, filter_done, pass_done};
 ghost use Rattle.cluster_tally.specs.Feedings.{IsAtEnd, IsFresh, acc_if, noted_all, noted_at, place_if, renewed, times_there, with_trail};
-ghost use Rattle.cluster_tally.specs.Stages.{Stage, at_begin};
-ghost use Rattle.cluster_tally.specs.Tallies.{CanWatch, Holds, places_there};
+ghost use Rattle.cluster_tally.specs.Tallies.{Stage, at_begin, CanWatch, Holds, places_there};
 
 use crate::watcher::Watcher;
 use actions::{Acc, Batch};
@@ -172,7 +171,7 @@ impl Tally {
     }
 
     /// Takes in how many entries of a block reach the next named filter, and how many pass it.
-    #[tactic(auto, using(crate::proofs::BlockNotes::within, crate::proofs::BlockNotes::are_counts, crate::proofs::BlockNotes::has_room))]
+    #[tactic(auto, using(crate::proofs::BlockFeeds::filter_within, crate::proofs::BlockFeeds::are_counts, crate::proofs::BlockFeeds::has_room))]
     pub fn note_counts(&mut self, filter: u32, counts: Counts)
         requires { (f : LoopFacts) × (watched : List ℕ) × (s : BlockStage) × CanNoteCounts f watched s self.old filter counts }
         ensures { (f : LoopFacts) (watched : List ℕ) (s : BlockStage) → CanNoteCounts f watched s self.old filter counts → HoldsIn f watched (filter_done s) self.new }

@@ -1,6 +1,5 @@
 -- The ranges of clusters: of one size, by their ends, one behind the other, and along marks.
-use Rattle.std.proofs.Common.{◌≡◌, ◌≤◌, ◌<◌, ◌+◌, ◌*◌, ◌/◌, ℕ, List, [], length, min, Some, arith, refl, ◌∙◌, ap, slice_get, ◌≢◌, ◌-◌, zero, suc, true, false, leb, ◌∷◌, ◌++◌, get_or, sym, ◌⊎◌, inl, inr, if◌then◌else◌, Bool, nat_eq, nat_lt}
-use Rattle.lemmas.proofs.{div_ceil, div_ceil_times, length-map, mul-le, mul_comm, slice_get-map, AllWithin, le_or_lt, nat_tests, IsNonDecreasingBy, lt_or_le, AllPairs-from_increasing, Decides-eqb, IsStrictlyIncreasing, append-nil, false_from_ne_true, get_or_default, list_any, list_any_at, list_any_none, or_fails, or_left, or_right}
+use Rattle.lemmas.proofs.{◌≡◌, ◌≤◌, ◌<◌, ◌+◌, ◌*◌, ◌/◌, ℕ, List, [], length, min, Some, arith, refl, ◌∙◌, ap, slice_get, ◌≢◌, ◌-◌, zero, suc, true, false, leb, ◌∷◌, ◌++◌, get_or, sym, ◌⊎◌, inl, inr, if◌then◌else◌, Bool, nat_eq, nat_lt, div_ceil, div_ceil_times, length-map, mul-le, mul_comm, slice_get-map, AllWithin, le_or_lt, nat_tests, IsNonDecreasingBy, lt_or_le, AllPairs-from_increasing, Decides-eqb, IsStrictlyIncreasing, append-nil, false_from_ne_true, get_or_default, list_any, list_any_at, list_any_none, or_from, or_left, or_right}
 use native.Mathlib.Nat.{add-mul}
 use Rattle.rdf_values.proofs.UnionLemmas.{length-below, slice_get-below}
 use Rattle.rdf_values.proofs.Evenly.{unmarked_cuts_are_even, cuts_lead}
@@ -137,9 +136,7 @@ holds_first ends n size marks number i h l low high =
     let same : i ≡ one.0 = first_above ends i number one.0 low high one.1 in
     rw (same, ← h) one.1
 
--- ---- One more entry of a walk along marks.
-
--- ---- marks
+-- ---- One more entry of a walk along marks: marks
 
 pub any_at : (xs : List ℕ) (e k : ℕ) → k < length xs → get_or xs k 0 ≡ e → list_any (nat_eq e) xs ≡ true
 any_at xs e k l h = list_any_at (nat_eq e) xs k 0 l ((Decides-eqb e (get_or xs k 0)).1 (sym h))
@@ -205,7 +202,7 @@ walk_begin n size marks ends lo entry old next w h p a b = grind (arith, fewer, 
 
 pub walk_on : (n size : ℕ) (marks ends : List ℕ) (lo entry old next : ℕ) → Walked n size marks ends lo entry old → entry < n → IsPassed marks next entry → IsAhead marks next entry → list_any (nat_eq entry) marks ≡ false → entry - lo ≢ size
     → Walked n size marks ends lo (entry + 1) next
-walk_on n size marks ends lo entry old next w h p a m s = grind (arith, fewer, cut_step, or_fails, list_any, off_size, passed_on, ahead_on)
+walk_on n size marks ends lo entry old next w h p a m s = grind (arith, fewer, cut_step, or_from, list_any, off_size, passed_on, ahead_on)
 
 pub walk_end : (n size : ℕ) (marks ends : List ℕ) (lo entry next : ℕ) → Walked n size marks ends lo entry next → entry ≡ n → ranges_to 0 (ends ++ n ∷ []) ≡ cut n size marks
 walk_end n size marks ends lo entry next w h = grind (arith, append-nil, ranges_push)

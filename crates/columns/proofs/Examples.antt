@@ -1,5 +1,5 @@
 -- How some numbers are packed.
-use Rattle.std.proofs.Common.{◌≡◌, ℤ, pos, negsuc, List, [], ◌∷◌, refl}
+use Rattle.lemmas.proofs.{◌≡◌, ℤ, pos, negsuc, List, [], ◌∷◌, refl}
 use Rattle.columns.specs.{packed_of, packing_of, values_in}
 
 four_numbers : packing_of (pos 10 ∷ pos 25 ∷ pos 40 ∷ pos 5 ∷ []) ≡ record { least = pos 5; width = 1 }

@@ -1,14 +1,19 @@
 -- Numbers in pieces, and the columns that are kept of a table.
-use Rattle.std.proofs.Common.{◌≡◌, ◌≤◌, ◌<◌, ◌+◌, ◌-◌, ℕ, ℤ, List, [], ◌∷◌, ◌++◌, length, get_or, drop, take, max, min, refl, sym, ap, ap₂, ◌∙◌, arith, append-nil, length-append, zero, suc, map, Some, slice_get}
+use Rattle.lemmas.proofs.{◌≡◌, ◌≤◌, ◌<◌, ◌+◌, ◌-◌, ℕ, ℤ, List, [], ◌∷◌, ◌++◌, length, get_or, drop, take, max, min, refl, sym, ap, ap₂, ◌∙◌, arith, append-nil, length-append, zero, suc, map, Some, slice_get, pos, set, append_assoc, ◌*◌, ◌%◌, ◌^◌, ◌+ℤ◌, subst, All, drop-append-add, flat_map-append, take-put_mid, All-from_recursion, AllByRecursion, get_or_from_slice_get, slice_get-get_or, slice_get-map, slice_get_within, All-drop, All-take, drop_plus, Fits-lt-pow, Fits-of_z, FitsSigned, int_wrap-add_right, int_wrap_fits, to_z-of_z, wrapping_add-bits, each_append}
 use borrow.Rule.Slice.PartMut.{mid_len, mid_of, put_mid}
-use Rattle.std.proofs.lemmas.List.{drop-append-le, length-drop, length-take-le, take-append-drop, take-append-le, take_all, take_more}
-use Rattle.lemmas.proofs.{drop-append-add, flat_map-append, take-put_mid, All-from_recursion, AllByRecursion, get_or_from_slice_get, length-map, length-take, map-append, slice_get-get_or, slice_get-map, slice_get_within}
-use Rattle.columns.specs.{joined, cells_of, cluster_values, ColumnPieces, Holds, IsByCluster, whole}
-use Rattle.rdf_values.specs.{AreKept, ColType, Column, count, cut, IsIntColumn, Keep, kind_at, rows_kept, Span, TableView, Value}
+use Rattle.std.proofs.lemmas.List.{drop-append-le, length-drop, length-take-le, take-append-drop, take-append-le, take_all, take_more, get_or-append-add, get_or_append_left, get_or-map, length-map, length-set, map-append, map-set, length-take, take_more_set}
+use Rattle.columns.specs.{joined, cells_of, cluster_values, ColumnPieces, Holds, IsByCluster, whole, cells_joined, columns_joined, AreBlocks, AreNumbers, block_values, IsBlock, number_in, values_in}
+use Rattle.rdf_values.specs.{AreKept, ColType, Column, count, cut, IsIntColumn, Keep, kind_at, rows_kept, Span, TableView, Value, below, cell_at, Cells, FitRows, HoldsTable, IsKept}
 use Rattle.rdf_values.proofs.Evenly.{cuts_lead}
-use Rattle.rdf_values.proofs.KeptLemmas.{ints_column, kept_within, no_ints, no_vects, vects_column}
+use Rattle.rdf_values.proofs.KeptLemmas.{ints_column, kept_within, no_ints, no_vects, vects_column, kept_length}
 use Rattle.columns.specs.declared.kept.Kept.{Kept}
-use Rattle.columns.proofs.BlockSteps.{ranges_joined, span_within, values_of_cluster}
+use Rattle.columns.proofs.BlockSteps.{ranges_joined, span_within, values_of_cluster, block_back, block_of, block_size, block_width, value_at}
+use Rattle.rdf_values.proofs.UnionLemmas.{map-below}
+use Rattle.std.specs.Int.{cast_signed, cast_unsigned, int_wrap}
+use mir.Syntax.{w64}
+use native.Mathlib.Nat.{add-mul}
+use Rattle.columns.specs.declared.packed_ints.Block.{Block}
+use Rattle.columns.specs.declared.packing.Packing.{Packing}
 
 -- ---- the first pieces
 
@@ -196,9 +201,229 @@ pub halves_joined : (k : ℕ) (all first last : List ColumnPieces) (front back b
 halves_joined k all first last front back both t d f b e =
     ap (map cells_of) e ∙ map-append cells_of front back ∙ ap₂ (λ xs ys. xs ++ ys) (f ∙ ap (map whole) t) (b ∙ ap (map whole) d) ∙ sym (map-append whole (take k all) (drop k all)) ∙ ap (map whole) (take-append-drop k all)
 
-all_behind : (P : Kept → Type 0) (front back : List Kept) → AllByRecursion P front → AllByRecursion P back → AllByRecursion P (front ++ back)
-all_behind P [] back f b = b
-all_behind P (x ∷ xs) back f b = (f.0, all_behind P xs back f.1 b)
-
 pub halves_by_cluster : (spans : List Span) (front back both : List Kept) → AllByRecursion (IsByCluster spans) front → AllByRecursion (IsByCluster spans) back → both ≡ front ++ back → AllByRecursion (IsByCluster spans) both
-halves_by_cluster spans front back both f b e = rw e (all_behind (IsByCluster spans) front back f b)
+halves_by_cluster spans front back both f b e = rw e (each_append (IsByCluster spans) front back f b)
+
+-- ---- columns of a table with those of another behind them: the first columns have others behind them
+
+pub alone : (xs more : List Cells) (n : ℕ) → n ≡ 0 → columns_joined xs (take n more) ≡ xs
+alone [] more n e = refl
+alone (x ∷ xs) more n e = rw e refl
+
+joined_set : (i : ℕ) (xs more : List Cells) (x y : Cells) → i < length xs → i < length more
+    → set (columns_joined xs (take i more)) i (cells_joined (get_or (columns_joined xs (take i more)) i x) (get_or more i y)) ≡ columns_joined xs (take (suc i) more)
+joined_set i [] more x y h l = absurd (omega arith)
+joined_set i (w ∷ ws) [] x y h l = absurd (omega arith)
+joined_set zero (w ∷ ws) (u ∷ more) x y h l = ap (λ t. cells_joined w u ∷ t) (sym (alone ws more 0 refl))
+joined_set (suc i) (w ∷ ws) (u ∷ more) x y h l = ap (λ t. cells_joined w u ∷ t) (joined_set i ws more x y (omega arith) (omega arith))
+
+columns_more : (i : ℕ) (xs at more : List Cells) (d new y : Cells) → at ≡ columns_joined xs (take i more) → i < length more → length more ≡ length xs → y ≡ get_or more i y → new ≡ cells_joined (get_or at i d) y
+    → set at i new ≡ columns_joined xs (take (i + 1) more)
+columns_more i xs at more d new y a l w q n = grind (arith, joined_set)
+
+-- ---- the rows of the second stand behind those of the first
+
+-- a column with another behind it
+record CellsJoin (kind : ColType) (x y : Cells) (n m : ℕ) : Type 0 where
+  kept : IsKept kind (n + m) (cells_joined x y)
+  first : (e : ℕ) → e < n → cell_at e (cells_joined x y) ≡ cell_at e x
+  second : (e : ℕ) → cell_at (n + e) (cells_joined x y) ≡ cell_at e y
+
+cells_join : (kind : ColType) (x y : Cells) (n m : ℕ) → IsKept kind n x → IsKept kind m y → CellsJoin kind x y n m
+cells_join ColType.Int (Cells.Ints ns) (Cells.Ints ms) n m h l = record {
+  kept = omega (arith, h, l, length-append ns ms);
+  first = λ e t. ap Value.Int (get_or_append_left ns ms (pos 0) e (omega (arith, h)));
+  second = λ e. rw (← h) (ap Value.Int (get_or-append-add ns ms e (pos 0)));
+}
+cells_join ColType.Int (Cells.Ints ns) (Cells.Vects ws) n m h l = absurd l
+cells_join ColType.Vect (Cells.Vects vs) (Cells.Ints ms) n m h l = absurd l
+cells_join ColType.Vect (Cells.Vects vs) (Cells.Vects ws) n m h l = record {
+  kept = omega (arith, h, l, length-append vs ws);
+  first = λ e t. ap Value.Vect (get_or_append_left vs ws [] e (omega (arith, h)));
+  second = λ e. rw (← h) (ap Value.Vect (get_or-append-add vs ws e []));
+}
+cells_join k x y n m h l = absurd h
+
+-- columns with others behind them
+record ColumnsJoin (columns : List Column) (xs ys : List Cells) (n m : ℕ) : Type 0 where
+  kept : AreKept (n + m) columns (columns_joined xs ys)
+  first : (e : ℕ) → e < n → map (cell_at e) (columns_joined xs ys) ≡ map (cell_at e) xs
+  second : (e : ℕ) → map (cell_at (n + e)) (columns_joined xs ys) ≡ map (cell_at e) ys
+
+columns_join : (columns : List Column) (xs ys : List Cells) (n m : ℕ) → AreKept n columns xs → AreKept m columns ys → ColumnsJoin columns xs ys n m
+columns_join [] [] [] n m h l = record { kept = tt; first = λ e t. refl; second = λ e. refl }
+columns_join [] [] (y ∷ ys) n m h l = absurd l
+columns_join [] (x ∷ xs) ys n m h l = absurd h
+columns_join (c ∷ cs) [] ys n m h l = absurd h
+columns_join (c ∷ cs) (x ∷ xs) [] n m h l = absurd l
+columns_join (c ∷ cs) (x ∷ xs) (y ∷ ys) n m h l =
+    let one = cells_join c.kind x y n m h.0 l.0 in
+    let others = columns_join cs xs ys n m h.1 l.1 in
+    record {
+      kept = (one.kept, others.kept);
+      first = λ e t. ap₂ (λ z zs. z ∷ zs) (one.first e t) (others.first e t);
+      second = λ e. ap₂ (λ z zs. z ∷ zs) (one.second e) (others.second e);
+    }
+
+rows_below : (columns : List Column) (xs ys : List Cells) (n m t : ℕ) → AreKept n columns xs → AreKept m columns ys
+    → map (λ e. map (cell_at e) (columns_joined xs ys)) (below (n + t)) ≡ map (λ e. map (cell_at e) xs) (below n) ++ map (λ e. map (cell_at e) ys) (below t)
+rows_below columns xs ys n m zero h l =
+    let none : n + 0 ≡ n = omega arith in
+    rw (none, append-nil (map (λ e. map (cell_at e) xs) (below n))) (map-below n (λ e. map (cell_at e) (columns_joined xs ys)) (λ e. map (cell_at e) xs) (columns_join columns xs ys n m h l).first)
+rows_below columns xs ys n m (suc t) h l =
+    let next : n + suc t ≡ suc (n + t) = omega arith in
+    rw (next, map-append (λ e. map (cell_at e) (columns_joined xs ys)) (below (n + t)) ((n + t) ∷ []), map-append (λ e. map (cell_at e) ys) (below t) (t ∷ []), rows_below columns xs ys n m t h l, (columns_join columns xs ys n m h l).second t)
+    (append_assoc (map (λ e. map (cell_at e) xs) (below n)) (map (λ e. map (cell_at e) ys) (below t)) (map (cell_at t) ys ∷ []))
+
+pub rows_joined : (columns : List Column) (xs ys : List Cells) (n m : ℕ) → AreKept n columns xs → AreKept m columns ys → rows_kept (n + m) (columns_joined xs ys) ≡ rows_kept n xs ++ rows_kept m ys
+unfolding rows_kept
+rows_joined columns xs ys n m h l = rows_below columns xs ys n m m h l
+
+fit_append : (columns : List Column) (xs ys : List (List Value)) → FitRows columns xs → FitRows columns ys → FitRows columns (xs ++ ys)
+fit_append columns [] ys h l = l
+fit_append columns (x ∷ xs) ys h l = (h.0, fit_append columns xs ys h.1 l)
+
+pub holds_joined : (columns : List Column) (xs ys at : List Cells) (n m t : ℕ) → HoldsTable columns xs n → HoldsTable columns ys m → n + m ≤ 1000000 → at ≡ columns_joined xs ys → t ≡ n + m → HoldsTable columns at t
+holds_joined columns xs ys at n m t h l few a s = grind (arith, columns_join, rows_joined, fit_append)
+
+-- two tables of one header
+pub same_count : (columns others : List Column) (xs ys : List Cells) (n m : ℕ) → AreKept n columns xs → AreKept m others ys → others ≡ columns → length ys ≡ length xs
+same_count columns others xs ys n m h l e = kept_length others ys m l ∙ ap length e ∙ sym (kept_length columns xs n h)
+
+-- ---- the pieces of one more column
+
+piece_next : (more rest : List ColumnPieces) (i : ℕ) (y d : ColumnPieces) → drop i more ≡ y ∷ rest → (i < length more) × (get_or more i d ≡ y) × (drop (i + 1) more ≡ rest)
+piece_next more rest zero y d e = rw e (omega arith, refl, refl)
+piece_next [] rest (suc i) y d e = cc e
+piece_next (x ∷ more) rest (suc i) y d e =
+    let next = piece_next more rest i y d e in
+    let lt = next.0 in
+    let on : suc i + 1 ≡ suc (i + 1) = omega arith in
+    (omega (arith, lt), next.1, ap (λ (k : ℕ). drop k (x ∷ more)) on ∙ next.2)
+
+pub pieces_more : (xs at more rest : List ColumnPieces) (i col j : ℕ) (new old y : ColumnPieces) → map whole at ≡ columns_joined (map whole xs) (take i (map whole more)) → drop i more ≡ y ∷ rest → length more ≡ length xs → length at ≡ length xs → col ≡ i → j ≡ i + 1
+    → old ≡ get_or at col old → whole new ≡ cells_joined (whole old) (whole y) → (map whole (set at col new) ≡ columns_joined (map whole xs) (take j (map whole more))) × (drop j more ≡ rest) × (length (set at col new) ≡ length xs)
+pieces_more xs at more rest i col j new old y a e l k c n o w =
+    let next = piece_next more rest i y new e in
+    let lt = next.0 in
+    let here : i < length at = omega (arith, lt, l, k) in
+    let there : i < length (map whole more) = omega (arith, lt, length-map more whole) in
+    let wide : length (map whole more) ≡ length (map whole xs) = omega (arith, l, length-map more whole, length-map xs whole) in
+    let his : whole y ≡ get_or (map whole more) i (whole y) = sym (get_or-map whole more i new (whole y) lt ∙ ap whole next.1) in
+    let was : old ≡ get_or at i old = o ∙ ap (λ (k : ℕ). get_or at k old) c in
+    let own : whole new ≡ cells_joined (get_or (map whole at) i (whole new)) (whole y) = w ∙ ap (λ z. cells_joined z (whole y)) (ap whole was ∙ sym (get_or-map whole at i old (whole new) here)) in
+    rw (c, n) (map-set whole at i new ∙ columns_more i (map whole xs) (map whole at) (map whole more) (whole new) (whole new) (whole y) a there wide his own, next.2, omega (arith, k, length-set at i new))
+
+pub pieces_all : (xs more rest : List ColumnPieces) (i : ℕ) → drop i more ≡ rest → length rest ≡ 0 → columns_joined (map whole xs) (take i (map whole more)) ≡ columns_joined (map whole xs) (map whole more)
+pieces_all xs more rest i e n = grind (arith, length-drop, take_all, length-map)
+
+pub same_pieces : (xs more : List ColumnPieces) → length (map whole more) ≡ length (map whole xs) → length more ≡ length xs
+same_pieces xs more l = omega (arith, l, length-map more whole, length-map xs whole)
+
+-- ---- numbers are read from their bytes: one number more
+
+pub length-values_in : (least : ℤ) (w n : ℕ) (bs : List ℕ) → length (values_in least w n bs) ≡ n
+length-values_in least w zero bs = refl
+length-values_in least w (suc n) bs = omega (arith, length-values_in least w n (drop w bs))
+
+wrapped_small : (d : ℕ) → d < 2 ^ 64 → int_wrap w64 (pos d) ≡ cast_signed w64 d
+unfolding int_wrap
+wrapped_small d l = let same : d % 2 ^ 64 ≡ d = omega (arith, l) in ap (cast_signed w64) same
+
+-- a sum in 64 bits
+sum_back : (a : ℤ) (d : ℕ) → FitsSigned w64 a → d < 2 ^ 64 → FitsSigned w64 (a +ℤ pos d) → cast_signed w64 ((cast_unsigned w64 a + d) % 2 ^ 64) ≡ a +ℤ pos d
+sum_back a d f l g = grind (arith, Fits-lt-pow, Fits-of_z, wrapped_small, wrapping_add-bits, to_z-of_z, int_wrap-add_right, int_wrap_fits)
+
+pub read_step : (least : ℤ) (w n : ℕ) (bs : List ℕ) (numbers : List ℤ) (i d : ℕ) (z : ℤ) → length numbers ≡ n → i < n → FitsSigned w64 least → All (FitsSigned w64) (values_in least w n bs) → d < 2 ^ 64 → d ≡ number_in w (drop (i * w) bs)
+    → z ≡ cast_signed w64 ((cast_unsigned w64 least + d) % 2 ^ 64) → take i numbers ≡ take i (values_in least w n bs) → take (i + 1) (set numbers i z) ≡ take (i + 1) (values_in least w n bs)
+read_step least w n bs numbers i d z long low f words l e sum so_far =
+    let values = values_in least w n bs in
+    let within : i < length values = omega (arith, length-values_in least w n bs, low) in
+    let room : i < length numbers = omega (arith, long, low) in
+    let at : get_or values i (pos 0) ≡ least +ℤ pos d = cc (sym (slice_get-get_or values i (pos 0) within) ∙ value_at least w n bs i low ∙ ap (λ k. Some (least +ℤ pos k)) (sym e)) in
+    let word : FitsSigned w64 (least +ℤ pos d) = subst (FitsSigned w64) at (words i (pos 0) within) in
+    let same : z ≡ get_or values i (pos 0) = sum ∙ sum_back least d f l word ∙ sym at in
+    take_more_set numbers i z room ∙ ap₂ (λ xs y. xs ++ y ∷ []) so_far same ∙ sym (take_more values i (pos 0) within)
+
+-- ---- numbers of a block
+
+first_values : (least : ℤ) (w m n : ℕ) (bs : List ℕ) → n ≤ m → take n (values_in least w m bs) ≡ values_in least w n bs
+first_values least w m zero bs l = refl
+first_values least w zero (suc n) bs l = absurd (omega (arith, l))
+first_values least w (suc m) (suc n) bs l = ap (λ xs. (least +ℤ pos (number_in w bs)) ∷ xs) (first_values least w m n (drop w bs) (omega (arith, l)))
+
+later_values : (least : ℤ) (w i n : ℕ) (bs : List ℕ) → drop i (values_in least w (i + n) bs) ≡ values_in least w n (drop (i * w) bs)
+later_values least w zero n bs = let none : 0 ≡ 0 * w = omega arith in let all : 0 + n ≡ n = omega arith in ap₂ (λ (m k : ℕ). values_in least w m (drop k bs)) all none
+later_values least w (suc i) n bs =
+    let all : suc i + n ≡ suc (i + n) = omega arith in
+    let wide : w + i * w ≡ suc i * w = omega (arith, add-mul i 1 w) in
+    ap (λ (m : ℕ). drop (suc i) (values_in least w m bs)) all ∙ later_values least w i n (drop w bs) ∙ ap (values_in least w n) (drop_plus w (i * w) bs ∙ ap (λ (k : ℕ). drop k bs) wide)
+
+-- some of a block's numbers, and their bytes
+some_inside : (bytes : List ℕ) (b : Block) (values : List ℤ) (i n : ℕ) → IsBlock bytes b values → i + n ≤ length values → b.begin + i * b.packing.width + n * b.packing.width ≤ length bytes
+some_inside bytes b values i n h l = grind (arith, block_size)
+
+some_values : (bytes : List ℕ) (b : Block) (values : List ℤ) (i n : ℕ) → IsBlock bytes b values → i + n ≤ length values → values_in b.packing.least b.packing.width n (drop (b.begin + i * b.packing.width) bytes) ≡ take n (drop i values)
+some_values bytes b values i n h l =
+    let p = b.packing in
+    let m = b.entries - i in
+    let all : i + m ≡ b.entries = omega (arith, l, h.entries) in
+    let whole : values_in p.least p.width (i + m) (drop b.begin bytes) ≡ values = ap (λ (k : ℕ). values_in p.least p.width k (drop b.begin bytes)) all ∙ block_back bytes b values h in
+    let later : drop i values ≡ values_in p.least p.width m (drop (b.begin + i * p.width) bytes) =
+    ap (drop i) (sym whole) ∙ later_values p.least p.width i m (drop b.begin bytes) ∙ ap (values_in p.least p.width m) (drop_plus b.begin (i * p.width) bytes) in
+    sym (ap (take n) later ∙ first_values p.least p.width m n (drop (b.begin + i * p.width) bytes) (omega (arith, l, h.entries)))
+
+-- a block's numbers from a place on
+pub record FromPlace (bytes : List ℕ) (b : Block) (values : List ℤ) (i : ℕ) : Type 0 where
+  pub inside : b.begin + i * b.packing.width ≤ length bytes
+  pub numbers : (n : ℕ) → i + n ≤ length values → AreNumbers b.packing (drop (b.begin + i * b.packing.width) bytes) n (take n (drop i values))
+
+from_place : (bytes : List ℕ) (b : Block) (values : List ℤ) (i : ℕ) → IsBlock bytes b values → i ≤ length values → FromPlace bytes b values i
+from_place bytes b values i h l = record {
+  inside = omega (arith, some_inside bytes b values i 0 h (omega (arith, l)));
+  numbers = λ n m. record {
+    inside = omega (arith, some_inside bytes b values i n h m, length-drop (b.begin + i * b.packing.width) bytes);
+    width = block_width bytes b values h;
+    spelt = some_values bytes b values i n h m;
+    words = rw (some_values bytes b values i n h m) (All-take (FitsSigned w64) n (drop i values) (All-drop (FitsSigned w64) i values h.words));
+  };
+}
+
+pub there : (bytes : List ℕ) (bs : List Block) (c i : ℕ) (b : Block) (views : List (List ℤ)) → AreBlocks bytes bs (map (block_values bytes) bs) → map (block_values bytes) bs ≡ views → c < length views → b ≡ get_or bs c b → i ≤ length (get_or views c [])
+    → FromPlace bytes b (get_or views c []) i
+there bytes bs c i b views h v l e many =
+    from_place bytes b (get_or views c []) i
+    (subst (λ (vs : List (List ℤ)). IsBlock bytes b (get_or vs c [])) v (block_of bytes bs c b h (rw v l) e)) many
+
+-- the first of them, which stands at the place
+pub number_there : (p : Packing) (bytes : List ℕ) (values : List ℤ) (i d : ℕ) (z : ℤ) → AreNumbers p bytes 1 (take 1 (drop i values)) → FitsSigned w64 p.least → d < 2 ^ 64 → d ≡ number_in p.width bytes
+    → z ≡ cast_signed w64 ((cast_unsigned w64 p.least + d) % 2 ^ 64) → slice_get values i ≡ Some z
+number_there p bytes values i d z h f l e sum =
+    let word : FitsSigned w64 (p.least +ℤ pos d) = rw e (h.words 0 (pos 0) (omega arith)) in
+    let here : i + 0 ≡ i = omega arith in
+    rw (sum ∙ sum_back p.least d f l word, e) (sym (ap (slice_get values) here) ∙ sym (get_dropped values i 0) ∙ sym (get_taken (drop i values) 1 0 (omega arith)) ∙ ap (λ (zs : List ℤ). slice_get zs 0) (sym h.spelt))
+
+-- the bytes from a place on
+pub bytes_from : (bytes : List ℕ) (k : ℕ) → take (length bytes - k) (drop k bytes) ≡ drop k bytes
+bytes_from bytes k = take_all (length bytes - k) (drop k bytes) (omega (arith, length-drop k bytes))
+
+-- ---- numbers of a column
+
+pub cluster_long : (n size : ℕ) (marks : List ℕ) (numbers : List ℤ) (values : List (List ℤ)) (c : ℕ) (s : Span) → values ≡ cluster_values (cut n size marks) numbers → length numbers ≡ n → slice_get (cut n size marks) c ≡ Some s
+    → (c < length values) × (s.hi - s.lo ≤ length (get_or values c []))
+cluster_long n size marks numbers values c s e l at =
+    let spans = cut n size marks in
+    let top = (span_within spans 0 n c s (cuts_lead n size marks) at).2 in
+    rw (e, cluster_at spans numbers c s at) (cluster_there spans numbers c s at, omega (arith, top, l, length-take (s.hi - s.lo) (drop s.lo numbers), length-drop s.lo numbers))
+
+pub number_read : (n size : ℕ) (marks : List ℕ) (numbers : List ℤ) (values : List (List ℤ)) (c : ℕ) (s : Span) (lo count : ℕ) (new more : List ℤ) → values ≡ cluster_values (cut n size marks) numbers → length numbers ≡ n → slice_get (cut n size marks) c ≡ Some s → s.lo ≤ lo
+    → lo + count ≤ s.hi → new ≡ take count (drop (lo - s.lo) (get_or values c [])) → (p : ℕ) → p < count → slice_get numbers (lo + p) ≡ Some (get_or (new ++ more) p (pos 0))
+number_read n size marks numbers values c s lo count new more e l at from within is p low =
+    let xs = get_or values c [] in
+    let f = lo - s.lo in
+    let long = (cluster_long n size marks numbers values c s e l at).1 in
+    let here = entry_here n size marks numbers values (lo + p) c s e l (record { range = s; stands = at; from = omega (arith, from); below = omega (arith, within, low) }) at in
+    let place : f + p ≡ lo + p - s.lo = omega (arith, from) in
+    let size : p < length new = rw is (omega (arith, low, from, within, long, length-take count (drop f xs), length-drop f xs)) in
+    sym here.3 ∙ ap (λ (k : ℕ). slice_get xs k) (sym place) ∙ sym (get_dropped xs f p) ∙ sym (get_taken (drop f xs) count p low) ∙ ap (λ zs. slice_get zs p) (sym is) ∙ slice_get-get_or new p (pos 0) size
+    ∙ ap Some (sym (get_or_append_left new more (pos 0) p size))

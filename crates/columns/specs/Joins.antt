@@ -1,6 +1,11 @@
 -- Tables of the same columns, one behind the other.
-use Rattle.std.specs.Prelude.{List, [], ◌∷◌, ◌++◌}
-use Rattle.rdf_values.specs.{Cells, TableView}
+use Rattle.std.specs.Prelude.{List, [], ◌∷◌, ◌++◌, flat_map, ◌≡◌, ⊤, map}
+use Rattle.rdf_values.specs.{Cells, TableView, Column, cut, HoldsTable, Span}
+use Rattle.columns.specs.declared.column_pieces.ColumnPieces.{ColumnPieces}
+use Rattle.std.specs.List.{AllByRecursion}
+use Rattle.columns.specs.Views.{CutsView}
+use Rattle.columns.specs.Packings.{cluster_values}
+use Rattle.columns.specs.declared.kept.Kept.{Kept}
 
 -- the values of a column, with more of its type behind them
 abbrev pub cells_joined : Cells → Cells → Cells
@@ -18,3 +23,30 @@ columns_joined (x ∷ xs) (y ∷ more) = cells_joined x y ∷ columns_joined xs 
 -- the rows of the second behind those of the first
 abbrev pub table_joined : TableView → TableView → TableView
 table_joined a b = record a { rows = a.rows ++ b.rows }
+
+-- ---- what the pieces of a column hold together
+
+-- the values of all pieces, one after the other
+abbrev pub joined : {A : Type 0} → List (List A) → List A
+joined lists = flat_map (λ l. l) lists
+
+abbrev pub whole : ColumnPieces → Cells
+whole (ColumnPieces.Ints numbers) = Cells.Ints (joined numbers.items)
+whole (ColumnPieces.Vects vectors) = Cells.Vects (joined vectors.items)
+
+-- ---- how columns are kept over clusters
+
+-- the values for which a column stands
+abbrev pub cells_of : Kept → Cells
+cells_of (Kept.Ints values) = Cells.Ints (joined values)
+cells_of (Kept.Vects vectors) = Cells.Vects vectors
+
+-- numbers are kept cluster by cluster
+abbrev pub IsByCluster : List Span → Kept → Type 0
+IsByCluster spans (Kept.Ints values) = values ≡ cluster_values spans (joined values)
+IsByCluster spans (Kept.Vects vectors) = ⊤
+
+-- what is kept is a table over the ranges of the cuts
+pub record HoldColumns (columns : List Column) (all : List Kept) (cuts : CutsView) : Type 0 where
+  pub table : HoldsTable columns (map cells_of all) cuts.entries
+  pub clusters : AllByRecursion (IsByCluster (cut cuts.entries cuts.size cuts.marks)) all

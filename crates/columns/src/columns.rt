@@ -3,9 +3,8 @@ ghost use Rattle.std.specs.Prelude.{◌≡◌, ◌<◌, ℤ, List, IfOk, Some, l
 ghost use Rattle.rdf_values.specs.{cell, cut, IsIntColumn, IsTable, IsVectColumn, kind_at, Span};
 ghost use Rattle.rdf_values.specs.declared.tables.value.ColType.TheVariants as k;
 ghost use Rattle.rdf_values.specs.declared.tables.value.Value.TheVariants as v;
-ghost use Rattle.columns.specs.Blocks.{cluster_values};
-ghost use Rattle.columns.specs.Packings.{packed_of, packing_of};
-ghost use Rattle.columns.specs.Wholes.{joined};
+ghost use Rattle.columns.specs.Packings.{cluster_values, packed_of, packing_of};
+ghost use Rattle.columns.specs.Joins.{joined};
 
 use crate::cuts::Cuts;
 use crate::kept::{Kept, keep_in_slots};
@@ -28,8 +27,8 @@ pub struct Columns {
 impl Model for Columns {
     ghost use Rattle.std.specs.Prelude.{map};
     ghost use Rattle.rdf_values.specs.{rows_kept};
-    ghost use Rattle.columns.specs.ColumnsView.{ColumnsView};
-    ghost use Rattle.columns.specs.KeptColumns.{HoldColumns, cells_of};
+    ghost use Rattle.columns.specs.Views.{ColumnsView};
+    ghost use Rattle.columns.specs.Joins.{HoldColumns, cells_of};
 
     ghost Value = { ColumnsView };
 

@@ -2,8 +2,7 @@
 ghost use Rattle.std.specs.Prelude.{◌≡◌, ◌≤◌, ◌<◌, All, IfOk, Some, length, slice_get};
 ghost use Rattle.rdf_values.specs.{cut, even_cut, Lead};
 ghost use Rattle.columns.specs.{ranges_to};
-ghost use Rattle.columns.specs.CutsView.{AreCuts};
-ghost use Rattle.columns.specs.Ranges.{Holds, IsInOne};
+ghost use Rattle.columns.specs.Views.{AreCuts, Holds, IsInOne};
 
 use crate::marked::ends;
 use rdf_values::{ListOf, Marks, Memory, Span};
@@ -27,7 +26,7 @@ pub struct Cuts {
 }
 
 impl Model for Cuts {
-    ghost use Rattle.columns.specs.CutsView.{CutsView, HoldCuts};
+    ghost use Rattle.columns.specs.Views.{CutsView, HoldCuts};
 
     ghost Value = { CutsView };
 

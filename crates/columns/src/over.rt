@@ -1,6 +1,6 @@
 // The columns over one cluster.
 ghost use Rattle.std.specs.Prelude.{◌≡◌, ◌≤◌, ◌<◌, ◌-◌, Some, length, slice_get};
-ghost use Rattle.columns.specs.ReadInts.{AreInts};
+ghost use Rattle.columns.specs.Packings.{AreInts};
 ghost use Rattle.rdf_values.specs.{cut, kind_at};
 ghost use Rattle.rdf_values.specs.declared.tables.value.ColType.TheVariants as k;
 

@@ -1,9 +1,8 @@
 // The numbers of an int column, packed.
 ghost use Rattle.std.specs.Prelude.{◌≡◌, ◌≤◌, ◌<◌, ◌+◌, ◌++◌, ℕ, [], IfOk, Some, length, slice_get, slice_index_or, slice_range, drop, take};
 ghost use Rattle.rdf_values.specs.{cut};
-ghost use Rattle.columns.specs.Blocks.{AreNumbers, IsBlock, cluster_values};
-ghost use Rattle.columns.specs.Packings.{packed_of, packing_of};
-ghost use Rattle.columns.specs.Wholes.{joined};
+ghost use Rattle.columns.specs.Packings.{AreNumbers, IsBlock, cluster_values, packed_of, packing_of};
+ghost use Rattle.columns.specs.Joins.{joined};
 
 use crate::bytes::{number_at, push_packed, read_packed};
 use crate::cuts::Cuts;
@@ -30,7 +29,7 @@ pub(crate) struct PackedInts {
 
 impl Model for PackedInts {
     ghost use Rattle.std.specs.Prelude.{List, ℤ, map};
-    ghost use Rattle.columns.specs.Blocks.{AreBlocks, block_values};
+    ghost use Rattle.columns.specs.Packings.{AreBlocks, block_values};
 
     ghost Value = { List (List ℤ) };
 
@@ -40,7 +39,7 @@ impl Model for PackedInts {
 }
 
 // Appends the bytes of a cluster's numbers, and tells where they stand.
-#[tactic(auto, using(crate::proofs::Unpacking::packing_width, crate::proofs::BlockSteps::block_made))]
+#[tactic(auto, using(crate::proofs::BlockSteps::packing_width, crate::proofs::BlockSteps::block_made))]
 fn pack_cluster(values: &[i64], bytes: Vec<u8>) -> Result<(Block, Vec<u8>), Memory>
     requires some { 0 < length values.now }
     requires few { length values.now ≤ 1000000 }
@@ -97,7 +96,7 @@ impl PackedInts {
     }
 
     // How a cluster's numbers are packed, and their bytes from a place on, with all that stand behind these.
-    #[tactic(auto, using(crate::proofs::Reading::there, crate::proofs::Reading::bytes_from))]
+    #[tactic(auto, using(crate::proofs::InPieces::there, crate::proofs::InPieces::bytes_from))]
     fn packed_from(&self, cluster: usize, place: usize) -> (Packing, &[u8])
         requires cluster { cluster < length self.now }
         requires place { place ≤ length (slice_index_or self.now cluster []) }

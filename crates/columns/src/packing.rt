@@ -24,7 +24,7 @@ fn width_of(difference: u64) -> u32
 }
 
 /// A law: a packing has the least number, and no fewer bytes hold every difference to it.
-#[tactic(auto, using(crate::proofs::Tight::packings_are_tight))]
+#[tactic(auto, using(crate::proofs::BlockSteps::packings_are_tight))]
 pub fn packings_are_tight()
     ensures { (values : List ℤ) → 0 < length values → All (FitsSigned w64) values → IsTight values (packing_of values) }
 {}

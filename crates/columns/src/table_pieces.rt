@@ -1,8 +1,7 @@
 // A table in pieces.
 ghost use Rattle.std.specs.Prelude.{◌≡◌, ◌≤◌, ◌+◌, IfOk, length, map};
 ghost use Rattle.rdf_values.specs.{HoldsTable, IsTable, rows_kept};
-ghost use Rattle.columns.specs.Joins.{columns_joined, table_joined};
-ghost use Rattle.columns.specs.Wholes.{whole};
+ghost use Rattle.columns.specs.Joins.{columns_joined, table_joined, whole};
 
 use crate::column_pieces::ColumnPieces;
 use rdf_values::{Cells, Column, ListOf, Memory, Table};
@@ -20,7 +19,7 @@ pub struct TablePieces {
 impl Model for TablePieces {
     ghost use Rattle.std.specs.Prelude.{map};
     ghost use Rattle.rdf_values.specs.{HoldsTable, rows_kept, TableView};
-    ghost use Rattle.columns.specs.Wholes.{whole};
+    ghost use Rattle.columns.specs.Joins.{whole};
 
     ghost Value = { TableView };
 
@@ -49,7 +48,7 @@ fn one_piece_each(alloc: Global, cells: Vec<Cells>) -> Result<Vec<ColumnPieces>,
 }
 
 // Columns with the pieces of other columns behind their own.
-#[tactic(auto, using(crate::proofs::JoiningPieces::alone))]
+#[tactic(auto, using(crate::proofs::InPieces::alone))]
 fn append_columns(
     mut columns: Vec<ColumnPieces>,
     more: Vec<ColumnPieces>,
@@ -77,7 +76,7 @@ impl TablePieces {
     }
 
     /// The rows of another table behind those of this one.
-    #[tactic(auto, using(crate::proofs::JoiningPieces::same_pieces, crate::proofs::JoiningPieces::same_count, crate::proofs::JoiningPieces::rows_joined))]
+    #[tactic(auto, using(crate::proofs::InPieces::same_pieces, crate::proofs::InPieces::same_count, crate::proofs::InPieces::rows_joined))]
     pub fn append(self, more: TablePieces) -> Result<TablePieces, Memory>
         requires same { more.columns ≡ self.columns }
         requires few { length self.rows + length more.rows ≤ 1000000 }

@@ -65,8 +65,6 @@ words_ask_for_a_friend : AreDue (
 unfolding asked_of asked_in input_of number_of rdf_command is_taken integer_of magnitude_of is_name clap_on_literals
 words_ask_for_a_friend = refl
 
--- ---- why some words are not taken
-
 words_have_faults : AreDue (
     shown "help word" (fault_of rdf_command) ("s.txt" ∷ "a.csv" ∷ "--help" ∷ []) (kind.DisplayHelp ∷ [])
     ∷ shown "dash word" (fault_of rdf_command) ("-s.txt" ∷ "a.csv" ∷ []) (kind.UnknownArgument ∷ [])

@@ -1,3 +1,2 @@
-pub mod Bounds
-pub mod Examples
 pub mod Taken
+pub mod Examples

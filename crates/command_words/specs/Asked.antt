@@ -1,12 +1,44 @@
 -- What the command's words ask for.
-use Rattle.std.specs.Prelude.{ℕ, ℤ, pos, Bool, true, false, ◌&&◌, leb, List, Option, Some, None, option_map, if◌then◌else◌, codes, bytes_eq, ◌≡◌, ◌≤◌, ⊤}
-use Rattle.clap.specs.Words.{Row, Text, first_of, matches_of}
+use Rattle.std.specs.Prelude.{Bool, true, false, List, [], ◌∷◌, Some, codes, ℕ, ℤ, pos, ◌&&◌, leb, Option, None, option_map, if◌then◌else◌, bytes_eq, ◌≡◌, ◌≤◌, ⊤}
+use Rattle.clap.specs.Words.{App, Kinds, Rule, Text, new_app, new_rule, with_rule, fault_of, Row, first_of, matches_of}
+use Rattle.clap.specs.Simple.{on_top}
+use Rattle.clap.specs.declared.builder.action.ArgAction.TheVariants.{Set, SetTrue}
 use Rattle.rdf_values.specs.{integer_of, is_name}
-use Rattle.command_words.specs.Arguments.{is_taken, rdf_command}
 use Rattle.command_words.specs.declared.command.Command.{Command}
 use Rattle.command_words.specs.declared.command.Friend.{Friend}
 use Rattle.command_words.specs.declared.command.Input.{Input}
 use Rattle.command_words.specs.declared.command.Input.TheVariants.{Files, Generated}
+
+-- ---- the command of the program, and when it takes the words
+
+-- a required positional
+abbrev pub positional : Text → Rule
+positional id = record (new_rule id) { required = true }
+
+-- `--id VALUE`
+abbrev pub option : Text → Rule
+option id = record (new_rule id) { long = Some id; action = Some Set }
+
+-- `--id`
+abbrev pub flag : Text → Rule
+flag id = record (new_rule id) { long = Some id; action = Some SetTrue }
+
+-- `rdf SCRIPT TABLE [--slots N] [--cluster N] [--watch K] [--make] [--friend FILE] [--key NAME] [--missing N]`, over the words after the program's name
+unfoldable pub rdf_command : App
+rdf_command =
+    with_rule (with_rule (with_rule (with_rule (with_rule (with_rule (with_rule (with_rule (with_rule
+    (on_top (λ s. record s { no_binary_name = true }) (new_app (codes "rdf")))
+    (positional (codes "SCRIPT"))) (positional (codes "TABLE")))
+    (option (codes "slots"))) (option (codes "cluster"))) (option (codes "watch"))) (flag (codes "make")))
+    (option (codes "friend"))) (option (codes "key"))) (option (codes "missing"))
+
+abbrev pub has_none : Kinds → Bool
+has_none [] = true
+has_none (k ∷ ks) = false
+
+-- no step of the parse refuses the words
+unfoldable pub is_taken : List Text → Bool
+is_taken words = has_none (fault_of rdf_command words)
 
 abbrev pub within : ℕ → ℕ → Option ℤ → Option ℕ
 within least most (Some (pos n)) = if leb least n && leb n most then Some n else None

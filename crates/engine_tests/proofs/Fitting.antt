@@ -1,7 +1,6 @@
 -- Columns of a test that are of the kinds that a scope says.
-use Rattle.std.proofs.Common.{◌≡◌, ◌≤◌, ◌+◌, ℕ, Bool, true, false, List, [], ◌∷◌, ◌++◌, Some, Result, Ok, All, refl, subst, cond, nat_eq, nat_le, length, arith, slice_get}
-use Rattle.lemmas.proofs.{All-from_recursion, AllByRecursion, Decides-eqb, recursion_from_All}
-use Rattle.expr_check.proofs.ScopeKinds.{each_weaker}
+use Rattle.lemmas.proofs.{◌≡◌, ◌≤◌, ◌+◌, ℕ, Bool, true, false, List, [], ◌∷◌, ◌++◌, Some, Result, Ok, All, refl, subst, cond, nat_eq, nat_le, length, arith, slice_get, All-from_recursion, AllByRecursion, Decides-eqb, recursion_from_All}
+use Rattle.expr_check.proofs.WellTyped.{each_weaker}
 use Rattle.rdf_values.specs.{ColType, GraphCause, ScopeColumn, Value}
 use Rattle.rdf_model.specs.{FitsOutcome, Needs, Outcome}
 use Rattle.expr_check.specs.{number_kind, NumberHasKind, numbers_in}

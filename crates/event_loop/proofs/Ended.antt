@@ -1,19 +1,91 @@
 -- What the slots of a loop tell once all have stopped.
-use Rattle.std.proofs.Common.{◌≡◌, ℕ, suc, ◌-◌, ◌<◌, ◌≤◌, List, ◌∷◌, ◌++◌, length, get_or, drop, Option, Some, sym, ap, ◌∙◌, subst, arith, drop-cons, ◌⊎◌, zero, min, [], map, None, refl, inl, inr, ⊎_elim, slice_get, IfSome, IsSomeAnd}
-use Rattle.lemmas.proofs.{All, All-cons, All-head, All-nil, All-tail, cases_lt, concat, length-map, same_some, slice_get-get_or}
-use Rattle.rdf_values.specs.{Fault, least_fault, DrawnBy, first_in, once_below, times}
-use Rattle.event_loop.specs.{AreFacts, AreMade, end_faults, fault_of, HasMemory, HasNoted, HasStopped, HaveFinished, IsOver, IsServed, JobFacts, piece_of, pieces_in, seat_in, shares_in, Stopped}
+use Rattle.lemmas.proofs.{◌≡◌, List, ◌∷◌, ◌++◌, length, sym, ap, ◌∙◌, subst, arith, ℕ, zero, suc, map, [], Option, Some, refl, slice_get, option_to_list, ◌-◌, ◌<◌, ◌≤◌, get_or, drop, drop-cons, ◌⊎◌, min, None, inl, inr, ⊎_elim, IfSome, IsSomeAnd, ◌+◌, append-nil, length-append, All, replicate, unwrap_or, take-length, All-nil, concat, concat_is, length-flat_map, length_permutation, sum_by, All-cons, All-head, All-tail, cases_lt, length-map, same_some, slice_get-get_or, All-map, All-pop, All-push, length-range_with_len, range_with_len, All-contains, All-weaker, AllPairs-from_increasing, common_steps, Contains-push, IsStrictlyIncreasing, map-append, mapped_at, something_at}
+use Rattle.loop_pieces.specs.{HaveTrails, LoopPiece, StandsFor, cluster_fault, nothing, watched_places}
+use Rattle.slot_words.specs.{AreNoted, BookSeen, HavePartialsOver, many_in, noted_sets, ShareSeen, ClaimsSeen, IsLeast, IsPassed, last_of, RanOut, SeatSeen, fresh_share, fresh_shares, IsReady, chain_of}
+use Rattle.event_loop.specs.{AreMade, AreShares, CanFill, HasNoted, HaveNoted, JobFacts, AreFacts, end_faults, fault_of, HasMemory, HasStopped, HaveFinished, IsOver, IsServed, piece_of, pieces_in, seat_in, shares_in, Stopped, AreBlank, IsBlank, IsFresh, job_facts, AreSound, IsSlotOf, Phase, SlotView, IsFreshSlot, IsOfPasses}
+use Rattle.event_loop.specs.declared.gather.Made.{Made}
+use Rattle.rdf_values.proofs.UnionLemmas.{sum_by-map, length-below, times_concat, times_push, counts_by_drawn, once_inside, inside_once, times_self, drawn_lists_unite, below_rises, both_rise, by_counts, none_rises, two, rises_push, slice_get-below}
+use Rattle.rdf_values.specs.{below, DrawnBy, IsUnion, Fault, least_fault, first_in, once_below, times, AnswerIn64Bits, Booked, history, named_before, Pass, StatementsHaveWords}
+use Rattle.rdf_model.specs.declared.loop_facts.LoopFacts.{LoopFacts}
+use Rattle.merge_core.specs.{Stand}
 use Rattle.event_loop.specs.declared.workers.Finished.{Finished}
 use Rattle.event_loop.specs.declared.workers.End.{End}
 use Rattle.event_loop.specs.declared.workers.End.TheVariants.{Over, Faulted, NoMemory}
-use Rattle.rdf_values.proofs.UnionLemmas.{times_concat, times_push, counts_by_drawn, once_inside, inside_once, times_self, drawn_lists_unite}
-use Rattle.merge_core.proofs.Faults.{Among, Told, told_nothing, told_both, first_told, among_left, among_right}
+use Rattle.merge_core.proofs.Merging.{Among, Told, told_nothing, told_both, first_told, among_left, among_right}
 use Rattle.merge_core.proofs.Holding.{only}
-use Rattle.slot_words.specs.{BookSeen, ClaimsSeen, IsLeast, IsPassed, last_of, RanOut, SeatSeen}
 use Rattle.event_loop.specs.declared.workers.Slot.{Slot}
-use Rattle.event_loop.specs.declared.gather.Made.{Made}
-use Rattle.event_loop.proofs.Shares.{none_made, one_made}
-use Rattle.loop_pieces.specs.{HaveTrails, LoopPiece, StandsFor}
+use Rattle.event_loop.specs.declared.workers.Shared.{Shared}
+use Rattle.rdf_values.proofs.Evenly.{cuts_lead}
+use Rattle.loop_keys.specs.{IsJob, job_spans, JobView, facts_in, job_graph, passes_in}
+use Rattle.loop_pieces.proofs.ByCluster.{lower_clusters_fault_first}
+use Rattle.rdf_model.specs.{IsChain, IsLoopFacts, kinds_in, loop_facts, loop_passes, loop_results}
+use Rattle.slot_words.proofs.Noting.{is_chain}
+use Rattle.slot_words.proofs.Steps.{rising_room}
+use Rattle.std.specs.declared.snapshot.Snapshot.{Snapshot}
+use Rattle.block_passes.specs.{at_end, CountsVectors, IsStateOf}
+use Rattle.cluster_tally.specs.{at_begin, Holds, IsAtEnd, IsFresh as IsFreshTally}
+use Rattle.rdf_model.proofs.Limits.{cuts_are_in_order, loops_meet_limits}
+use Rattle.graph_numbers.specs.{graph_loops, pass_at}
+use Rattle.graph_numbers.proofs.Placing.{itself}
+use Rattle.graph_numbers.proofs.Covering.{loops_are}
+use Rattle.cluster_tally.proofs.Closing.{fresh_holds}
+use Rattle.event_loop.specs.declared.state.Phase.TheVariants.{Going}
+use Rattle.slot_words.specs.Shares as book
+
+-- ---- the pieces, the shares and the trails of slots that finished all clusters
+
+abbrev numbers_in : ShareSeen → List ℕ
+numbers_in s = s.numbers
+
+module _ (b : Option BookSeen) (job : JobFacts) where
+  pub none_made : AreMade b job [] [] []
+  none_made = record { stand = tt; trails = record { many = refl; each = λ k done p at there. absurd (cc) }; noted = λ k is. record { many = refl; of = All-nil (book.IsOf k); noted = refl } }
+
+  module _ (done : List ℕ) (p : LoopPiece) (o : Option ShareSeen) (dones : List (List ℕ)) (ps : List LoopPiece) (shares : List ShareSeen) (stands : StandsFor job.facts done p)
+      (trails : HaveTrails job.facts job.watched done p.trails.items) (noted : HasNoted b (length done) o) (h : AreMade b job dones ps shares) where
+    first_or : (k : ℕ) (d : List ℕ) (q : LoopPiece) → slice_get (done ∷ dones) k ≡ Some d → slice_get (p ∷ ps) k ≡ Some q → HaveTrails job.facts job.watched d q.trails.items
+    first_or zero d q at there = grind (arith, trails)
+    first_or (suc k) d q at there = h.trails.each k d q at there
+
+    one_share : (k : BookSeen) (o : Option ShareSeen) → HasNoted (Some k) (length done) o → AreShares k dones shares → AreShares k (done ∷ dones) (option_to_list o ++ shares)
+    one_share k o noted rest = grind arith
+
+    -- one slot before others
+    pub one_made : AreMade b job (done ∷ dones) (p ∷ ps) (option_to_list o ++ shares)
+    one_made = record {
+      stand = (stands, h.stand);
+      trails = record { many = (let m = h.trails.many in omega arith); each = first_or };
+      noted = λ k is. one_share k o (subst (λ (x : Option BookSeen). HasNoted x (length done) o) is noted) (h.noted k is);
+    }
+
+pub as_many_pieces : (stands : List ℕ → LoopPiece → Type 0) (dones : List (List ℕ)) (ps : List LoopPiece) → Stand stands dones ps → length ps ≡ length dones
+as_many_pieces stands [] [] stand = refl
+as_many_pieces stands (d ∷ ds) (p ∷ ps) stand = let r = as_many_pieces stands ds ps stand.1 in omega arith
+as_many_pieces stands ds ps stand = elim stand [ ]
+
+sum_lengths : (xs ys : List (List ℕ)) → map length xs ≡ map length ys → sum_by length xs ≡ sum_by length ys
+sum_lengths xs ys e = sym (sum_by-map (λ n. n) length xs) ∙ ap (sum_by (λ n. n)) e ∙ sum_by-map (λ n. n) length ys
+
+-- as many as there are clusters
+many_finished : (dones : List (List ℕ)) (n : ℕ) → IsUnion dones (below n) → sum_by length dones ≡ n
+many_finished dones n u = sym (ap length (concat_is dones) ∙ length-flat_map (λ (x : List ℕ). x) dones) ∙ sym (length_permutation (concat dones) (below n) u.each_once) ∙ length-below n
+
+are_noted : (dones orders : List (List ℕ)) (n : ℕ) → IsUnion dones (below n) → map length orders ≡ map length dones → DrawnBy orders (many_in orders) → AreNoted orders dones n
+are_noted dones orders n u same drawn = grind (arith, sum_lengths, many_finished)
+
+-- nothing is watched
+none_over : (facts : LoopFacts) (places : List ℕ) (k : ℕ) (sets : List (List ℕ)) → length places ≡ 0 → HavePartialsOver facts places k sets []
+none_over facts [] k sets none = record { are = record { sets = sets; chain = λ some. absurd (omega arith); many = refl; each = λ w place lines a c. absurd (cc) }; sets_are = refl }
+none_over facts (p ∷ ps) k sets none = absurd (omega arith)
+
+pub none_watched : (job : JobFacts) (k : ℕ) (dones : List (List ℕ)) → length job.watched ≡ 0 → HaveNoted job k dones []
+none_watched job k dones none = ([], record { noted = λ some. absurd (omega arith); over = none_over job.facts job.watched k (noted_sets [] dones (length job.facts.ranges) k) none })
+
+-- where there is a book
+pub noted_in : (b : BookSeen) (o : Option BookSeen) (watched clusters : ℕ) (job : JobFacts) (made : Made) (can : CanFill o watched clusters job made)
+    → o ≡ Some b → (orders : List (List ℕ)) → orders ≡ map numbers_in made.shares
+    → DrawnBy (map numbers_in made.shares) (many_in (map numbers_in made.shares)) → AreNoted orders can.finished.dones clusters
+noted_in b o watched clusters job made can is orders orders_are drawn = grind (arith, are_noted)
 
 -- what is known of the slots from place i on
 pub record IsLeastFrom (fs : List Finished) (i : ℕ) (least : Option Fault) : Type 0 where
@@ -186,3 +258,169 @@ module _ (c : ClaimsSeen) (b : Option BookSeen) (job : JobFacts) (bar : ℕ) whe
           many = length-map (map seat_in fs) (λ (s : SeatSeen). s.drawn) ∙ length-map fs seat_in ∙ size;
           are = rw (pieces, shares) (are_made fs (done none));
         }
+
+-- ---- what the slots of a loop begin with, and what is known of a whole loop
+
+pub all_blank : (b : BookSeen) (n : ℕ) (shares : List ShareSeen) → shares ≡ fresh_shares b n → AreBlank (Some b) n shares
+all_blank b n shares is = (
+  ap length is ∙ length-map (range_with_len 0 n) (fresh_share b) ∙ length-range_with_len 0 n,
+  subst (All (IsBlank b)) (sym is) (All-map (IsBlank b) (fresh_share b) (range_with_len 0 n) (λ k d lt. record { of = (refl, refl); unnoted = refl })),
+)
+
+-- the next share, where there is a book
+pub next_share : (b : Option BookSeen) (n : ℕ) (old new : List ShareSeen) (r : Option ShareSeen)
+    → AreBlank b (n + 1) old → old ≡ new ++ option_to_list r → (r ≡ None → length old ≡ 0) → HasNoted b 0 r × AreBlank b n new
+next_share None n old new None blank popped none = (tt, sym (append-nil new) ∙ sym popped ∙ blank)
+next_share None n old new (Some s) blank popped some = absurd (omega (arith, ap length blank, ap length popped, length-append new (s ∷ [])))
+next_share (Some b) n old new None blank popped none = (let e = none refl in let m = blank.0 in absurd (omega arith))
+next_share (Some b) n old new (Some s) blank popped some =
+    let all = All-pop (IsBlank b) old new (Some s) popped blank.1 in
+    let m = blank.0 in
+    ((all.1.of, ap length all.1.unnoted), (omega (arith, ap length popped, length-append new (s ∷ [])), all.0))
+
+-- what is left, and what is seated
+pub record AreSeated (shared : Shared) (seats : List SeatSeen) (shares : List ShareSeen) (slots : List Slot) : Type 0 where
+  pub ready : All (IsReady shared.claims) seats
+  pub blank : AreBlank shared.book (length seats) shares
+  pub done : All (IsFresh shared) slots
+
+pub none_seated : (shared : Shared) (seats : List SeatSeen) (shares : List ShareSeen) → All (IsReady shared.claims) seats → AreBlank shared.book (length seats) shares → AreSeated shared seats shares []
+none_seated shared seats shares ready blank = record { ready = ready; blank = blank; done = All-nil (IsFresh shared) }
+
+pub next_seated : (shared : Shared) (seats seats' : List SeatSeen) (shares shares' : List ShareSeen) (slots slots' : List Slot) (seat : SeatSeen) (share : Option ShareSeen) (slot : Slot)
+    → AreSeated shared seats shares slots → seats ≡ seats' ++ seat ∷ [] → shares ≡ shares' ++ option_to_list share → (share ≡ None → length shares ≡ 0)
+    → slots' ≡ slots ++ slot ∷ [] → slot.seat ≡ seat → slot.share ≡ share
+    → AreSeated shared seats' shares' slots'
+next_seated shared seats seats' shares shares' slots slots' seat share slot h seats_are shares_are none slots_are seat_is share_is =
+    let ready = All-pop (IsReady shared.claims) seats seats' (Some seat) seats_are h.ready in
+    let many : length seats ≡ length seats' + 1 = omega (arith, ap length seats_are, length-append seats' (seat ∷ [])) in
+    let noted = next_share shared.book (length seats') shares shares' share (subst (λ (n : ℕ). AreBlank shared.book n shares) many h.blank) shares_are none in
+    record {
+      ready = ready.0;
+      blank = noted.1;
+      done = subst (All (IsFresh shared)) (sym slots_are) (All-push (IsFresh shared) slots slot h.done record {
+        seat = subst (IsReady shared.claims) (sym seat_is) ready.1;
+        share = subst (HasNoted shared.book 0) (sym share_is) noted.0;
+      });
+    }
+
+pub facts_of : (j : JobView) (n : ℕ) → IsJob j → n ≡ length (job_spans j) → AreFacts n (job_facts j)
+facts_of j n job is = grind (arith, length-map, length-below, lower_clusters_fault_first, cuts_lead)
+
+-- ---- what a slot begins with, and one before and after a cluster
+
+-- one of two slots finishes all clusters in order
+abbrev by_one : ℕ → List (List ℕ)
+by_one c = [] ∷ below c ∷ []
+
+-- the sets that the slots note then
+abbrev pub first_sets : ℕ → ℕ → List (List ℕ)
+first_sets c g = chain_of (by_one c) (by_one c) c g
+
+pub first_sets_are_a_chain : (c g : ℕ) → IsChain c g (first_sets c g)
+first_sets_are_a_chain c g =
+    let u = by_counts (by_one c) (below c) (both_rise [] (below c) none_rises (below_rises c)) (below_rises c) (λ x. sym (two x [] (below c) ∙ omega arith)) in
+    is_chain (by_one c) (by_one c) c g record { unite = u; drawn = record { rising = u.sets_rise; each_once = u.each_once }; many = refl }
+
+-- ---- A slot that finished no cluster, and one before and after a cluster.
+
+-- one more cluster without a fault
+pub sound_more : (faults : List (Option Fault)) (done more : List ℕ) (n : ℕ) → AreSound faults done → slice_get faults n ≡ Some None → more ≡ done ++ n ∷ [] → AreSound faults more
+sound_more faults done more n sound its is = λ k some. grind (arith, common_steps, sound k, ap (times k) is, times_push k done n)
+
+-- all before the last are below it
+pub below_last : (xs : List ℕ) (n : ℕ) → IsStrictlyIncreasing (xs ++ n ∷ []) → All (λ y. y < n) xs
+below_last xs n up k d lt =
+    let pairs = AllPairs-from_increasing (xs ++ n ∷ []) up k (length xs) d lt (omega (arith, length-append xs (n ∷ []))) in
+    grind (arith, common_steps, pairs)
+
+-- there is a number above all of them
+pub one_above : (xs : List ℕ) → (c : ℕ) × All (λ d. d < c) xs
+one_above [] = (0, All-nil (λ d. d < 0))
+one_above (x ∷ xs) =
+    let rest = one_above xs in (
+      x + 1 + rest.0,
+      All-cons (λ d. d < x + 1 + rest.0) x xs (omega arith) (All-weaker (λ d. d < rest.0) (λ d. d < x + 1 + rest.0) (λ d lt. omega arith) xs rest.1),
+    )
+
+-- what snapshots show, with one more
+pub seen_with : (done more : List (Snapshot ℕ)) (cluster : ℕ) (s : Snapshot ℕ) → s.value ≡ cluster → more ≡ done ++ s ∷ [] → map (λ (d : Snapshot ℕ). d.value) more ≡ map (λ (d : Snapshot ℕ). d.value) done ++ cluster ∷ []
+seen_with done more cluster s shows is = ap (map (λ (d : Snapshot ℕ). d.value)) is ∙ map-append (λ (d : Snapshot ℕ). d.value) done (s ∷ []) ∙ ap (λ c. map (λ (d : Snapshot ℕ). d.value) done ++ c ∷ []) shows
+
+-- ---- faults
+
+pub fault_at : (j : JobView) (cluster : ℕ) (o : Option Fault) → cluster < length (job_facts j).faults → cluster_fault j.dataset (job_spans j) (passes_in j) cluster ≡ o → slice_get (job_facts j).faults cluster ≡ Some o
+fault_at j cluster o lt is =
+    let many = length-map (below (length (job_spans j))) (cluster_fault j.dataset (job_spans j) (passes_in j)) in
+    mapped_at (cluster_fault j.dataset (job_spans j) (passes_in j)) (below (length (job_spans j))) cluster cluster (slice_get-below (length (job_spans j)) cluster (omega (arith, length-below (length (job_spans j)))))
+    ∙ ap Some is
+
+pub cluster_within : (j : JobView) (cluster : ℕ) → cluster < length (job_facts j).faults → cluster < length (job_spans j)
+cluster_within j cluster lt = omega (arith, length-map (below (length (job_spans j))) (cluster_fault j.dataset (job_spans j) (passes_in j)), length-below (length (job_spans j)))
+
+-- ---- a slot of a job
+
+module _ (j : JobView) (s : SlotView) (h : IsSlotOf (job_facts j) s) where
+  module _ (seen : SlotView) (is : seen ≡ s) (some : seen.phase ≡ Phase.NoMemory → ⊥) (sound : s.phase ≡ Phase.Faulted → ⊥)
+      (cluster : ℕ) (above : All (λ c. c < cluster) s.done) where
+    pub going : s.phase ≡ Phase.Going
+    going = let memory : s.phase ≡ Phase.NoMemory → ⊥ = λ e. some (ap (λ (v : SlotView). v.phase) is ∙ e) in grind (arith, memory, sound)
+
+    pub begins : Holds (facts_in j) (job_facts j).watched (at_begin s.done cluster) seen.tally
+    begins = subst (λ (v : SlotView). Holds (facts_in j) (job_facts j).watched (at_begin s.done cluster) v.tally) (sym is) (h.holds going cluster above)
+
+    pub has_room : cluster < length (job_facts j).faults → length seen.done < seen.room
+    has_room within = subst (λ (v : SlotView). length v.done < v.room) (sym is)
+        (omega (arith, within, h.room, rising_room s.done cluster (rises_push s.done cluster begins.rises above)))
+
+    -- after the cluster
+    pub went_on : (t : SlotView) → IsStateOf j t.blocks → t.vectors ≡ seen.vectors → t.room ≡ seen.room → t.done ≡ seen.done ++ cluster ∷ []
+        → ((next : ℕ) → cluster < next → Holds (facts_in j) (job_facts j).watched (at_begin (s.done ++ cluster ∷ []) next) t.tally) → IsSlotOf (job_facts j) t
+    went_on t state vectors room done holds =
+        let same_vectors = vectors ∙ ap (λ (v : SlotView). v.vectors) is in
+        let same_done = done ∙ ap (λ (v : SlotView). v.done ++ cluster ∷ []) is in
+        record {
+          blocks = state;
+          vectors = subst (CountsVectors (job_graph j)) (sym same_vectors) h.vectors;
+          few = (let f = h.few in omega (arith, f, same_vectors));
+          room = (let r = h.room in omega (arith, room, ap (λ (v : SlotView). v.room) is));
+          holds = λ on c high. (
+              let all = subst (All (λ d. d < c)) same_done high in
+              subst (λ l. Holds (facts_in j) (job_facts j).watched (at_begin l c) t.tally) (sym same_done) (holds c (All-contains (λ d. d < c) (s.done ++ cluster ∷ []) cluster all (Contains-push s.done cluster))));
+        }
+
+pub is_at_end : (j : JobView) (done : List ℕ) (cluster : ℕ) → IsAtEnd (facts_in j) (at_end (facts_in j) done cluster) cluster
+is_at_end j done cluster = record { at_cluster = refl; entries = refl; passes = refl; filters = refl }
+
+module _ (j : JobView) (job : IsJob j) where
+  loop_there : (results : List Booked) × (slice_get (loop_results (history j.script)) j.number ≡ Some results)
+  loop_there =
+      let all = loops_are (history j.script) (history j.script) itself in
+      let many = sym (length-map (graph_loops (job_graph j)) (map (pass_at (history j.script)))) ∙ ap length all
+      ∙ length-map (loop_results (history j.script)) (λ results. map (λ (p : Pass). Some p) (loop_passes (history j.script) results)) in
+      something_at (loop_results (history j.script)) j.number (let lt = job.loop in omega (arith, lt, many))
+
+  pub is_loop_facts : AnswerIn64Bits j.dataset.fns → StatementsHaveWords (history j.script) → IsLoopFacts (facts_in j)
+  is_loop_facts answers words =
+      let one = loop_there in
+      subst (λ ps. IsLoopFacts (loop_facts j.dataset (named_before (history j.script)) (job_spans j) ps)) (ap (λ o. loop_passes (history j.script) (unwrap_or o [])) (sym one.1))
+      (loops_meet_limits j.dataset j.script (named_before (history j.script)) (job_spans j) j.number one.0 answers words job.table.fit job.table.few (cuts_are_in_order j.cuts.entries j.cuts.size j.cuts.marks) one.1)
+
+  pub begun : AnswerIn64Bits j.dataset.fns → StatementsHaveWords (history j.script) → (s : SlotView) → IsStateOf j s.blocks → CountsVectors (job_graph j) s.vectors × (s.vectors < 1099511627776) → IsOfPasses j (length (passes_in j)) s.tally
+      → s.tally.flow ≡ replicate (length (named_before (history j.script))) nothing → length (job_spans j) ≤ s.room → s.done ≡ [] → s.phase ≡ Going
+      → IsFreshSlot (job_facts j) s
+  begun answers words s state vectors fresh flow room none going =
+      let all = take-length (passes_in j) in
+      let of_all = subst (λ ps. IsFreshTally (kinds_in ps) (watched_places (history j.script) ps) s.tally) all fresh in
+      record {
+        slot = record {
+          blocks = state;
+          vectors = vectors.0;
+          few = vectors.1;
+          room = (let m = length-map (below (length (job_spans j))) (cluster_fault j.dataset (job_spans j) (passes_in j)) in omega (arith, room, m, length-below (length (job_spans j))));
+          holds = λ on c high. subst (λ d. Holds (facts_in j) (job_facts j).watched (at_begin d c) s.tally) (sym none)
+              (fresh_holds (facts_in j) (job_facts j).watched s.tally c (is_loop_facts answers words) of_all flow);
+        };
+        none = none;
+        going = going;
+      }

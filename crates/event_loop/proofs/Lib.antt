@@ -1,12 +1,5 @@
-pub mod Accesses
-pub mod Adding
 pub mod Courses
-pub mod Ended
 pub mod Found
-pub mod LoopResults
-pub mod Printed
+pub mod Ended
 pub mod SessionLines
-pub mod Shares
 pub mod Sharing
-pub mod SlotLemmas
-pub mod Whole

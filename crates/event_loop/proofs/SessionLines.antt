@@ -1,24 +1,21 @@
 -- The lines of what a session filled: of actions, of watched results and of reports.
-use Rattle.std.proofs.Common.{◌≡◌, ℕ, zero, suc, ◌+◌, ◌*◌, ◌<◌, List, [], ◌∷◌, ◌++◌, length, Some, refl, sym, ◌∙◌, ap, ap₂, subst, arith, append_assoc, length-append, flat_map, slice_get, ◌-◌, ◌≤◌, true, map, None, if◌then◌else◌, All, codes, inl, inr, Option, filter, option_map, unwrap_or, ◌^◌, append-nil}
-use Rattle.lemmas.proofs.{All-from_recursion, AllByRecursion, cond_both, eqb-true, join_with_byte, length-map, same_some, slice_get-map, something_at}
+use Rattle.lemmas.proofs.{◌≡◌, ℕ, zero, suc, ◌+◌, ◌*◌, ◌<◌, List, [], ◌∷◌, ◌++◌, length, Some, refl, sym, ◌∙◌, ap, ap₂, subst, arith, append_assoc, length-append, flat_map, slice_get, ◌-◌, ◌≤◌, true, map, None, if◌then◌else◌, All, codes, inl, inr, Option, filter, option_map, unwrap_or, ◌^◌, append-nil, All-from_recursion, AllByRecursion, cond_both, eqb-true, join_with_byte, length-map, same_some, slice_get-map, something_at}
 use Rattle.rdf_values.specs.{ActionAt, ActionKind, Booked, Booking, Pass, Path, Span, Filled, line, below, Column, fn_names, Function, FunctionNames, has_variations, named_before, passes_of, ReportOn, result_depends, Statement, Variation, variations, varied_passes, cut, history, is_watched, Lead}
 use Rattle.rdf_model.specs.{action_pass, booking_lines, Dataset, filled_lines, kind_in, kinds_in, label, loop_facts, over_clusters, pass_lines, pass_result, maximal_runs, partial_line, partial_result, Run, run_text, value_text, cutflow, filter_label, first_fault, Course, flow_lines, partial_lines, result_lines}
 use Rattle.actions.specs.{Accumulator}
-use Rattle.graph_numbers.proofs.Walks.{by_test, joined, next_at, each_filter}
+use Rattle.graph_numbers.proofs.Placing.{by_test, joined, next_at, each_filter, itself}
 use Rattle.loop_pieces.specs.{LoopPiece, StandsFor, ArePartialLines, IsPartialLine, PartialLine, span_of, Counts, counts_at, counts_of, FilledResult, place_if_watched, watched_places}
-use Rattle.loop_pieces.proofs.WholeLoops.{piece_holds_results, watch_piece_is_partial_result, piece_holds_counts, all_clusters_are_the_table}
+use Rattle.loop_pieces.proofs.ByCluster.{piece_holds_results, watch_piece_is_partial_result, piece_holds_counts, all_clusters_are_the_table}
 use Rattle.result_text.specs.{acc_lines, lines_from, AreRuns, run_of, runs_text, watch_line, watch_lines, counts_seen, flow_at, booking_text, filled_text, FitsBooking, FitsResult}
-use Rattle.event_loop.proofs.Found.{AreOf, kinds-append, own_kinds, passes_are_of}
+use Rattle.event_loop.proofs.Found.{AreOf, kinds-append, own_kinds, passes_are_of, watched_at}
 use Rattle.rdf_values.proofs.UnionLemmas.{length-below}
 use Rattle.graph_numbers.specs.{FilterAt, filters, graph_filters, GraphView, ResultAt, results, graph_results}
 use Rattle.graph_numbers.proofs.Covering.{AreNumbersOf, filters_are}
-use Rattle.graph_numbers.proofs.Placing.{itself}
-use Rattle.loop_keys.proofs.ReportTies.{AreCovers, covers_are as booked_covers}
+use Rattle.loop_keys.proofs.PassNumbers.{AreCovers, covers_are as booked_covers}
 use Rattle.rdf_values.proofs.Evenly.{cuts_lead}
 use Rattle.loop_keys.specs.{passes_in}
 use Rattle.event_loop.specs.{FitsCourse, IsFilled, IsPlaced, IsResult, IsSession, job_facts, loop_filling, session_job, SessionView}
-use Rattle.event_loop.proofs.Adding.{watched_at}
-use Rattle.event_loop.proofs.Accesses.{job_fault, noted_at}
+use Rattle.event_loop.proofs.Courses.{job_fault, noted_at}
 
 module _ (b : Booked) (k : ActionKind) (at : Path) (action : b.booking ≡ ActionAt k at) where
   its_kinds : (p : Pass) → p.result ≡ b → kind_in p.result.booking ≡ k ∷ []
@@ -141,13 +138,10 @@ module _ (header : List Column) (names : FunctionNames) where
   pub filter_count : (before : List Statement) → length (filters header names before) ≡ length (named_before before)
   filter_count before = sym (length-map (filters header names before) (λ (f : FilterAt). f.at)) ∙ ap (λ (l : List Path). length l) (filters_are header names before)
 
--- ---- what a report covers
-
+-- what a report covers
 pub covers_are : (fns : List Function) (columns : List Column) (script : List Statement) (r : ℕ) (x : ResultAt) (fs : List Path) → slice_get (results columns (fn_names fns) script) r ≡ Some x → x.booked.booking ≡ ReportOn fs
     → AreNumbersOf fns columns script x.covers fs
 covers_are fns columns script r x fs at report = subst (λ (b : Booking). AreCovers fns columns script b x.covers) report (booked_covers fns columns script script itself r x at)
-
--- ---- passes
 
 -- a report has no pass under a variation
 pub report_pass : (script : List Statement) (b : Booked) (fs : List Path) → b.booking ≡ ReportOn fs → passes_of script b ≡ record { result = b; under = None } ∷ []

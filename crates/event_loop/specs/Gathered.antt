@@ -5,8 +5,7 @@ use Rattle.loop_pieces.specs.{LoopPiece, PartialLine, StandsFor}
 use Rattle.merge_core.specs.{Stand}
 use Rattle.slot_words.specs.{BookSeen, HaveAllTrails, SeatSeen, ShareSeen}
 use Rattle.slot_words.specs.Shares as book
-use Rattle.event_loop.specs.Ends.{AreNotedPartials}
-use Rattle.event_loop.specs.Jobs.{JobFacts}
+use Rattle.event_loop.specs.EventLoops.{AreNotedPartials, JobFacts}
 use Rattle.event_loop.specs.Workers.{HasRun}
 use Rattle.event_loop.specs.declared.gather.Made.{Made}
 use Rattle.event_loop.specs.declared.gather.Outcome.{Outcome}

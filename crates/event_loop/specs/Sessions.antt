@@ -1,20 +1,18 @@
 -- What a contract sees of a session.
-use Rattle.std.specs.Prelude.{◌≡◌, ℕ, ◌+◌, ◌<◌, ◌≤◌, ◌⊎◌, List, [], ◌∷◌, Option, None, Some, IfSome, length, slice_get, unwrap_or}
-use Rattle.rdf_values.specs.{Booked, Function, history, IsTable, Pass, Statement, StatementsHaveWords}
-use Rattle.rdf_model.specs.{Access, accesses, Dataset, first_fault, loop_passes, loop_results, loops_before}
-use Rattle.columns.specs.CutsView.{CutsView}
-use Rattle.columns.specs.ColumnsView.{ColumnsView}
+use Rattle.std.specs.Prelude.{◌≡◌, ℕ, ◌+◌, ◌<◌, ◌≤◌, ◌⊎◌, List, [], ◌∷◌, Option, None, Some, IfSome, length, slice_get, unwrap_or, if◌then◌else◌}
+use Rattle.rdf_values.specs.{Booked, Function, history, IsTable, Pass, Statement, StatementsHaveWords, cut, Script}
+use Rattle.rdf_model.specs.{Access, accesses, Dataset, first_fault, loop_passes, loop_results, loops_before, access_passes, access_printed, Course, in_front_of, IsCourse, Printed, transcript}
+use Rattle.columns.specs.Views.{CutsView, ColumnsView}
 use Rattle.entry_fns.specs.{functions_in}
 use Rattle.graph_numbers.specs.{graph_of, GraphView, IsGraph}
 use Rattle.loop_keys.specs.{JobView, passes_in}
-use Rattle.loop_pieces.specs.{FilledResult, PartialLine, place_if_watched}
-use Rattle.event_loop.specs.Jobs.{job_facts}
-use Rattle.event_loop.specs.Ends.{IsFilled}
+use Rattle.loop_pieces.specs.{FilledResult, PartialLine, place_if_watched, ArePartialLines}
+use Rattle.event_loop.specs.EventLoops.{job_facts, IsFilled, IsPlaced, loop_filling}
 use Rattle.event_loop.specs.declared.one_loop.FilledLoop.{FilledLoop}
-use Rattle.event_loop.specs.Places.{IsPlaced, loop_filling}
 use Rattle.event_loop.specs.declared.session.Kept.{Kept}
 use Rattle.event_loop.specs.declared.place.Place.{Place}
 use Rattle.event_loop.specs.declared.session.Session.{Session}
+use Rattle.event_loop.specs.declared.prints.Transcript.{Transcript}
 
 -- the graph, the functions and the table, its cuts, the limits, the next Print, the completed loops, and the fault of the one after them
 pub record SessionView : Type 0 where
@@ -147,3 +145,36 @@ pub record IsRefused (old new : SessionView) (print : ℕ) : Type 0 where
   pub same : new ≡ old
   pub sound : old.fault ≡ None
   pub unfilled : (a : Access) → slice_get (accesses (history old.graph.script)) print ≡ Some a → IsUnfilled old a.result
+
+-- ---- what one Print adds to a text, and when a text is what a script prints
+
+-- the clusters are the session's, and the partial results of its loops are over the sets of the course
+pub record FitsCourse (s : SessionView) (course : Course) : Type 0 where
+  pub spans : course.spans ≡ cut s.cuts.entries s.cuts.size s.cuts.marks
+  pub lines : (l w place : ℕ) (f : FilledLoop) (ls : List PartialLine) → slice_get s.loops l ≡ Some f → slice_get (job_facts (session_job s l)).watched w ≡ Some place → slice_get f.partials w ≡ Some ls
+      → ArePartialLines (job_facts (session_job s l)).facts place (course.chains l) ls
+
+-- what the Print gives before what else is printed, in a course
+abbrev pub print_gives : SessionView → Course → Access → Printed → Printed
+print_gives s course a rest = access_printed (history s.graph.script) s.dataset course a (first_fault s.dataset (access_passes (history s.graph.script) s.dataset course a)) rest
+
+-- the next Print is made without a fault, and its lines are added
+pub record GoesOn (old new : SessionView) (before after : List ℕ) (print : ℕ) : Type 0 where
+  pub next : new.next ≡ old.next + 1
+  pub sound : new.fault ≡ None
+  pub stays : (l : ℕ) (f : FilledLoop) → slice_get old.loops l ≡ Some f → slice_get new.loops l ≡ Some f
+  pub lines : (course : Course) (a : Access) (rest : Printed) → FitsCourse new course → slice_get (accesses (history old.graph.script)) print ≡ Some a
+      → in_front_of before (print_gives old course a rest) ≡ in_front_of after rest
+
+-- its loop faults, and the line of the fault is added
+pub record EndsAt (old : SessionView) (before after : List ℕ) (print : ℕ) : Type 0 where
+  pub lines : (course : Course) (a : Access) (rest : Printed) → slice_get (accesses (history old.graph.script)) print ≡ Some a
+      → in_front_of before (print_gives old course a rest) ≡ record { bytes = after; status = 8 }
+
+-- it is the transcript of separate passes in some course of the loops: the sets of clusters over which watched results were noted
+-- are such chains, and they are those that its lines show
+pub record IsTranscript (script : Script) (d : Dataset) (cuts : CutsView) (watch : ℕ) (t : Transcript) : Type 0 where
+  pub course : Course
+  pub is_course : IsCourse (history script) (length d.rows) cuts.size cuts.marks watch course
+  pub bytes : t.text ≡ (transcript script d course).bytes
+  pub status : (if t.faulted then 8 else 0) ≡ (transcript script d course).status

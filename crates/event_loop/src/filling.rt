@@ -1,7 +1,6 @@
 // What a loop without a fault is filled with.
 ghost use Rattle.std.specs.Prelude.{◌<◌, ◌≤◌, IfOk};
-ghost use Rattle.event_loop.specs.Jobs.{JobFacts};
-ghost use Rattle.event_loop.specs.Ends.{IsFilled};
+ghost use Rattle.event_loop.specs.EventLoops.{JobFacts, IsFilled};
 ghost use Rattle.event_loop.specs.Gathered.{CanFill, HaveNoted};
 
 use crate::gather::Made;
@@ -47,7 +46,7 @@ fn lines_in(
 }
 
 /// The piece of all clusters, and the partial results of the watched results, where there are any.
-#[tactic(auto, using(crate::proofs::Shares::as_many_pieces))]
+#[tactic(auto, using(crate::proofs::Ended::as_many_pieces))]
 pub fn filled(
     alloc: Global,
     book: Option<Book>,

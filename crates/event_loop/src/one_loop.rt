@@ -33,7 +33,7 @@ pub enum LoopEnd {
 }
 
 // A book with a share for each slot, where a result is watched; it takes the memory for all numbers.
-#[tactic(auto, using(crate::proofs::Whole::all_blank))]
+#[tactic(auto, using(crate::proofs::Ended::all_blank))]
 fn opened(
     alloc: Global,
     watched: u32,
@@ -52,7 +52,7 @@ fn opened(
 }
 
 // The slots, each with a seat and, where there is a book, a share.
-#[tactic(auto, using(crate::proofs::Whole::none_seated))]
+#[tactic(auto, using(crate::proofs::Ended::none_seated))]
 fn seated(alloc: Global, seats: SeatList, shares: ShareList) -> Result<Vec<Slot>, Memory>
     ensures many { IfOk result (λ v. vec_len v ≡ length seats) }
     ensures fresh { (shared : Shared) → All (IsReady shared.claims) seats → AreBlank shared.book (length seats) shares → IfOk result (λ v. All (IsFresh shared) v.items) }

@@ -5,8 +5,8 @@ ghost use Rattle.loop_keys.specs.{Fits, job_graph, job_of, key_count};
 ghost use Rattle.block_cache.specs.{size_for};
 ghost use Rattle.block_passes.specs.{span_demands};
 ghost use Rattle.loop_pieces.specs.{HaveTrails, StandsFor};
-ghost use Rattle.event_loop.specs.Jobs.{JobFacts, job_facts};
-ghost use Rattle.event_loop.specs.Slots.{IsFreshSlot, IsPlainSlot, IsSlotOf};
+ghost use Rattle.event_loop.specs.EventLoops.{JobFacts, job_facts};
+ghost use Rattle.event_loop.specs.Workers.{IsFreshSlot, IsPlainSlot, IsSlotOf};
 
 use crate::passes::tally_of;
 use block_passes::{BlockState, BlockStop, vector_keys};
@@ -54,7 +54,7 @@ pub struct SlotState {
 
 impl Model for SlotState {
     ghost use Rattle.std.specs.Prelude.{map, vec_capacity};
-    ghost use Rattle.event_loop.specs.Slots.{SlotView};
+    ghost use Rattle.event_loop.specs.Workers.{SlotView};
 
     ghost Value = { SlotView };
 

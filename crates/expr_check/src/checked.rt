@@ -3,7 +3,7 @@ ghost use Rattle.std.specs.Prelude.{◌≡◌, ◌↔◌, IsTrue, All, Ok, map, 
 ghost use Rattle.std.specs.List.{list_any};
 ghost use Rattle.rdf_values.specs.{callee, columns_in, kind_by, renamed, shape_of};
 ghost use Rattle.expr_check.specs.NumKinds.{distinct, IsTyped, IsWellTyped, CallsFit, HasNoVector, is_vector, is_plain};
-ghost use Rattle.expr_check.specs.CheckAnswers.{RefusedAs};
+ghost use Rattle.expr_check.specs.Scopes.{RefusedAs};
 
 use crate::part::check_part;
 use crate::reads::reads;

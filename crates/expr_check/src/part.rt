@@ -34,7 +34,7 @@ fn has_count(args: &Args, count: usize) -> bool
 }
 
 #[cycle(check)]
-#[tactic(auto, using(crate::proofs::Refused::refused_then))]
+#[tactic(auto, using(crate::proofs::WellTyped::refused_then))]
 pub(crate) fn check_part<C: Columns>(
     alloc: Global,
     node: &ExprNode,
@@ -104,7 +104,7 @@ pub(crate) fn check_part<C: Columns>(
 }
 
 #[cycle(check)]
-#[tactic(auto, using(crate::proofs::Refused::refused_then))]
+#[tactic(auto, using(crate::proofs::WellTyped::refused_then))]
 fn check_call<C: Columns>(
     alloc: Global,
     name: &Name,
@@ -135,7 +135,7 @@ fn check_call<C: Columns>(
 }
 
 #[cycle(check)]
-#[tactic(auto, using(crate::proofs::Refused::refused_then))]
+#[tactic(auto, using(crate::proofs::WellTyped::refused_then))]
 fn check_arguments<C: Columns>(
     alloc: Global,
     args: &Args,

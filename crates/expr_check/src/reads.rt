@@ -56,7 +56,7 @@ fn push_new(seen: &mut Vec<u32>, number: u32) -> Result<(), Memory>
     Ok(seen.push(number)?)
 }
 
-#[tactic(auto, using(crate::proofs::Distinct::distinct_more))]
+#[tactic(auto, using(crate::proofs::Typed::distinct_more))]
 fn distinct(alloc: Global, numbers: &[u32]) -> Result<Vec<u32>, Memory>
     ensures { IfOk result (λ v. v.items ≡ distinct numbers.now) }
 {

@@ -132,7 +132,7 @@ impl Columns for Scope {
         self.find(name)
     }
 
-    #[tactic(auto, using(crate::proofs::ScopeKinds::named_kind))]
+    #[tactic(auto, using(crate::proofs::WellTyped::named_kind))]
     fn kinds_of(&self, numbers: &[u32]) -> Result<Vec<ColType>, Memory> {
         let mut kinds = Vec::new(self.alloc);
         for number in numbers {

@@ -1,2 +1,1 @@
-pub mod OfItsKind
 pub mod InOrder

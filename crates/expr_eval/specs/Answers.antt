@@ -1,10 +1,13 @@
 -- What is told of a column, and what an evaluation answers, as outcomes.
-use Rattle.std.specs.Prelude.{◌≡◌, ℕ, ℤ, pos, List, ◌++◌, Result, Ok, Err}
-use Rattle.rdf_values.specs.{EntryFault, Scalar, Value}
+use Rattle.std.specs.Prelude.{◌≡◌, ℕ, ℤ, pos, List, ◌++◌, Result, Ok, Err, Bool, true, false, Option, Some, None, ◌<◌, ◌≤◌, length, HoldsAt}
+use Rattle.rdf_values.specs.{EntryFault, Scalar, Value, BinOp, args_count, Bin, Call, Callee, Col, Cond, End, Function, Lit, More, Neg, Not, NumTree, Pick, Trees}
 use Rattle.rdf_model.specs.{◌>>=◌, Faults, Gives, gives_int, gives_vect, Needs, Outcome, sum_from}
 use Rattle.expr_eval.specs.declared.inputs.Input.{Input}
 use Rattle.expr_eval.specs.declared.stop.EvalStop.{EvalStop}
 use Rattle.expr_eval.specs.declared.stop.ScalarStop.{ScalarStop}
+use Rattle.expr_eval.specs.declared.operand.Operand.{Operand}
+use Rattle.expr_eval.specs.declared.operand.View.{View}
+use Rattle.rdf_values.specs.expressions.Expressions.{Truth}
 
 -- what is told of the column, as an outcome
 abbrev pub input_outcome : ℕ → Input → Outcome ℕ Value
@@ -62,3 +65,55 @@ AppendsAs o before after (Err stop) = StopsAs o stop
 -- the elements as a value
 abbrev pub vector_outcome : Outcome ℕ (List ℤ) → Outcome ℕ Value
 vector_outcome o = o >>= gives_vect
+
+-- ---- the values of operands
+
+-- an operand, as a value
+abbrev pub operand_value : Operand → Value
+operand_value (Operand.Int z) = Value.Int z
+operand_value (Operand.Bool b) = Value.Bool b
+operand_value (Operand.Lent zs) = Value.Vect zs.now
+operand_value (Operand.Owned zs) = Value.Vect zs.items
+
+-- what is seen of an operand, as a value
+abbrev pub view_value : View → Value
+view_value (View.Int z) = Value.Int z
+view_value (View.Bool b) = Value.Bool b
+view_value (View.Vect zs) = Value.Vect zs.now
+
+-- what the left side of && or || decides by itself
+abbrev pub decision : BinOp → Value → Option Bool
+decision BinOp.And (Value.Bool false) = Some false
+decision BinOp.Or (Value.Bool true) = Some true
+decision o v = None
+
+-- ---- calls that a list of functions can answer
+
+-- a call of a built-in function
+abbrev pub IsBuiltIn : Callee → Type 0
+IsBuiltIn (Callee.Given i) = ⊥
+IsBuiltIn callee = Unit {0}
+
+-- a function of the list is one of its places, and takes that many numbers
+abbrev pub CallFits : List Function → Callee → ℕ → Type 0
+CallFits functions (Callee.Given i) count = (i < length functions) × HoldsAt (λ f. count ≡ f.arity) functions i
+CallFits functions callee count = Unit {0}
+
+module _ (functions : List Function) where
+  abbrev mutual
+    -- each call is of a function that is there, with as many arguments as it takes and at most 8
+    pub CanCall : NumTree → Type 0
+    CanCall (Lit z) = Unit {0}
+    CanCall (Truth b) = Unit {0}
+    CanCall (Col c) = Unit {0}
+    CanCall (Neg a) = CanCall a
+    CanCall (Not a) = CanCall a
+    CanCall (Bin op a b) = CanCall a × CanCall b
+    CanCall (Cond c a b) = CanCall c × CanCall a × CanCall b
+    CanCall (Pick v i) = CanCall v × CanCall i
+    CanCall (Call f args) = CallFits functions f (args_count args) × (args_count args ≤ 8) × ArgumentsCanCall args
+
+    -- each call in the arguments is
+    pub ArgumentsCanCall : Trees ℕ Callee → Type 0
+    ArgumentsCanCall End = Unit {0}
+    ArgumentsCanCall (More a rest) = CanCall a × ArgumentsCanCall rest

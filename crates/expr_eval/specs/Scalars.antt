@@ -2,7 +2,7 @@
 use Rattle.std.specs.Prelude.{◌≡◌, Bool, true, false, ℕ, ℤ, pos, nat_abs, List, [], ◌∷◌, ◌++◌, map, slice_get, Result, Ok, Err}
 use Rattle.rdf_values.specs.{Bin, Callee, Col, EachColumn, Function, Lit, NumTree, Value}
 use Rattle.rdf_model.specs.{◌>>=◌, argument, checked, Faults, given_call, Gives, gives_int, Needs, Outcome, untyped}
-use Rattle.expr_eval.specs.CanCall.{CanCall}
+use Rattle.expr_eval.specs.Answers.{CanCall}
 use Rattle.expr_eval.specs.declared.stop.ScalarAnswer.{ScalarAnswer}
 use Rattle.expr_eval.specs.declared.stop.ScalarStop.{ScalarStop}
 use Rattle.expr_eval.specs.declared.stop.ScalarStop.TheVariants.{Fault, Need}

@@ -4,8 +4,7 @@ ghost use Rattle.rdf_values.specs.{fn_names, Function, num_tree};
 ghost use Rattle.rdf_model.specs.{given_call};
 ghost use Rattle.entry_fns.specs.{functions_in};
 ghost use Rattle.expr_check.specs.{CallsFit, IsTyped};
-ghost use Rattle.expr_eval.specs.Answers.{number_value};
-ghost use Rattle.expr_eval.specs.CanCall.{CallFits, CanCall};
+ghost use Rattle.expr_eval.specs.Answers.{number_value, CallFits, CanCall};
 
 use entry_fns::FnList;
 use expr_check::Checked;

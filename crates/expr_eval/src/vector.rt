@@ -5,7 +5,7 @@ ghost use Rattle.rdf_model.specs.{argument, call_outcome, evaluate, evaluate_all
 ghost use Rattle.entry_fns.specs.{functions_in};
 ghost use Rattle.expr_check.specs.{CallsFit};
 ghost use Rattle.expr_eval.specs.{AnswersAs, AppendsAs, ArgumentsCanCall, CallFits, decision as decided, input_outcome, IsBuiltIn, number_value, operand_value, vector_outcome, view_value};
-ghost use Rattle.expr_eval.specs.CanCall.{CanCall};
+ghost use Rattle.expr_eval.specs.Answers.{CanCall};
 
 use crate::calls::{Calls, answer, callable};
 use crate::elements::{

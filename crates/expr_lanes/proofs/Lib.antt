@@ -1,5 +1,2 @@
 pub mod Agreement
 pub mod Composed
-pub mod Selected
-pub mod Sequence
-pub mod SiftSteps

@@ -1,11 +1,14 @@
 -- What an evaluation over a block asks of an expression, and how many levels of scratch it takes.
-use Rattle.std.specs.Prelude.{ℕ, ◌+◌, ◌≤◌, max, List}
-use Rattle.rdf_values.specs.{args_count, Bin, Call, Callee, Col, Cond, End, Function, Lit, More, Neg, Not, num_tree, NumTree, Pick, Trees}
+use Rattle.std.specs.Prelude.{ℕ, ◌+◌, ◌≤◌, max, List, ◌≡◌, ◌<◌, ℤ, Bool, true, false, Some, length, slice_get, slice_index_or}
+use Rattle.rdf_values.specs.{args_count, Bin, Call, Callee, Col, Cond, End, Function, Lit, More, Neg, Not, num_tree, NumTree, Pick, Trees, Value}
 use Rattle.rdf_values.specs.expressions.Expressions.{Truth}
 use Rattle.expr_eval.specs.{ArgumentsCanCall}
-use Rattle.expr_eval.specs.CanCall.{CanCall}
+use Rattle.expr_eval.specs.Answers.{CanCall}
 use Rattle.expr_lanes.specs.declared.nodes.Branch.{Branch}
 use Rattle.expr_lanes.specs.Folds.{CanLane, CanLaneAll}
+use Rattle.rdf_model.specs.{Gives, Outcome}
+use Rattle.expr_lanes.specs.declared.lane_inputs.Known.{Known}
+use Rattle.expr_lanes.specs.declared.lane_inputs.Known.TheVariants.{Everywhere, Marked}
 
 abbrev mutual
   -- one for each part that stands in another, at the deepest
@@ -43,3 +46,20 @@ module _ {S : Type 0} (IsNumbers IsTold : S → ℕ → Type 0) (functions : S �
   abbrev pub IsAbleBranch : Branch → Type 0
   IsAbleBranch (Branch.Node e) = IsAble (num_tree e.now)
   IsAbleBranch Branch.Same = Unit {0}
+
+-- ---- what an evaluation over a block is told of a column
+
+-- the column is known at the place
+abbrev pub is_known : Known → ℕ → Bool
+is_known Everywhere p = true
+is_known (Marked marks) p = slice_index_or marks.now p false
+
+-- a mask has a mark for each place of the block
+abbrev pub HasMarks : ℕ → Known → Type 0
+HasMarks count Everywhere = Unit {0}
+HasMarks count (Marked marks) = count ≤ length marks.now
+
+-- an outcome is the vector at a place of a list
+pub record IsVectorAt (vectors : List (List ℤ)) (i : ℕ) (o : Outcome ℕ Value) : Type 0 where
+  pub there : i < length vectors
+  pub told : (zs : List ℤ) → slice_get vectors i ≡ Some zs → o ≡ Gives (Value.Vect zs)

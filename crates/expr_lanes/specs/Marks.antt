@@ -1,5 +1,5 @@
 -- Expressions over numbers, where a truth value is its mark: what a lane holds of them, and what their evaluation over a block comes to.
-use Rattle.std.specs.Prelude.{◌≡◌, ℕ, ℤ, pos, false, neg_ℤ, nat_abs, List, [], ◌∷◌, map, if◌then◌else◌, slice_get, Option, Some, None}
+use Rattle.std.specs.Prelude.{◌≡◌, ◌++◌, ℕ, ℤ, pos, false, neg_ℤ, nat_abs, List, [], ◌∷◌, IsPermutation, map, if◌then◌else◌, slice_get, Option, Some, None}
 use Rattle.rdf_values.specs.{Bin, BinOp, Call, Callee, Col, ColType, Cond, End, Function, Lit, More, Neg, Not, NumTree, Pick, Trees, Value}
 use Rattle.rdf_values.specs.expressions.Expressions.{Truth}
 use Rattle.rdf_model.specs.{◌>>=◌, answer_outcome, checked, Faults, Gives, is_set, is_zero, mark, Needs, number_operation, Outcome}
@@ -7,7 +7,7 @@ use Rattle.expr_lanes.specs.declared.folds.FoldCall.{FoldCall}
 use Rattle.expr_lanes.specs.declared.scratch.Scratch.{Scratch}
 use Rattle.expr_lanes.specs.declared.parting.Stopped.{Stopped}
 use Rattle.expr_lanes.specs.Folds.{fold_read, fold_told}
-use Rattle.expr_lanes.specs.Places.{at_place, given_in, is_in, stops_in, EachPlace, IsJoined}
+use Rattle.expr_lanes.specs.Places.{at_place, given_in, is_in, stops_in, EachPlace}
 
 -- the number that a lane holds for a value: 1 or 0 for a truth value
 abbrev pub lane_number : Value → ℤ
@@ -102,4 +102,4 @@ pub record HasValues (kind : ColType) (f : ℕ → Outcome ℕ Value) (sel left 
   pub values : EachPlace left (λ p. f p ≡ Gives (lane_value kind (at_place after p)))
   pub exact : EachPlace left (λ p. lane_outcome (f p) ≡ Gives (at_place after p))
   pub others : (p : ℕ) → is_in p sel ≡ false → at_place after p ≡ at_place before p
-  pub joined : IsJoined stops (stops_in f sel) more
+  pub joined : IsPermutation (stops ++ stops_in f sel) more

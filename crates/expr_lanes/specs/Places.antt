@@ -1,5 +1,5 @@
 -- What comes of the places of a selection.
-use Rattle.std.specs.Prelude.{◌≡◌, ◌+◌, ◌<◌, ◌≤◌, ℕ, ℤ, pos, Bool, true, false, cond, List, [], ◌∷◌, Result, Ok, Err, nat_eq, length, slice_index_or}
+use Rattle.std.specs.Prelude.{◌≡◌, ◌+◌, ◌++◌, ◌<◌, ◌≤◌, ℕ, ℤ, pos, Bool, true, false, List, [], ◌∷◌, IsPermutation, Result, Ok, Err, nat_eq, length, slice_index_or}
 use Rattle.std.specs.List.{filter, list_any}
 use Rattle.rdf_model.specs.{Faults, Gives, Needs, Outcome}
 use Rattle.expr_eval.specs.{ScalarStop}
@@ -59,21 +59,12 @@ module _ {A : Type 0} (f : ℕ → Outcome ℕ A) where
   stops_in [] = []
   stops_in (p ∷ sel) = with_stop p (f p) (stops_in sel)
 
--- how many of them pass the test
-abbrev pub times : (Stopped → Bool) → List Stopped → ℕ
-times test [] = 0
-times test (s ∷ stops) = cond (test s) 1 0 + times test stops
-
--- the list after holds what the list before held and the stops that were added, each as often, in any order
-abbrev pub IsJoined : List Stopped → List Stopped → List Stopped → Type 0
-IsJoined before added after = (test : Stopped → Bool) → times test after ≡ times test before + times test added
-
 -- the places of a selection came to their outcomes: left are those that came to a value, in order, which the numbers are at each of
--- them; the others are stops
+-- them; the others are stops beside those that there were, in any order
 pub record HasCome {A : Type 0} (f : ℕ → Outcome ℕ A) (sel left : List ℕ) (number : ℕ → A) (stops more : List Stopped) : Type 0 where
   pub left_in : left ≡ given_in f sel
   pub values : EachPlace left (λ p. f p ≡ Gives (number p))
-  pub joined : IsJoined stops (stops_in f sel) more
+  pub joined : IsPermutation (stops ++ stops_in f sel) more
 
 -- the same where a lane holds the numbers, which is as it was at each place that wasn't selected
 pub record Evaluated (f : ℕ → Outcome ℕ ℤ) (sel left : List ℕ) (before after : List ℤ) (stops more : List Stopped) : Type 0 where

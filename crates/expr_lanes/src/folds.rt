@@ -4,7 +4,7 @@ ghost use Rattle.rdf_values.specs.{End, num_trees};
 ghost use Rattle.rdf_values.specs.declared.tables.value.Value.TheVariants as val;
 ghost use Rattle.expr_eval.specs.{input_outcome};
 ghost use Rattle.expr_lanes.specs.Folds.{fold_named, fold_outcome, fold_read, fold_told, only_column};
-ghost use Rattle.expr_lanes.specs.LaneInputs.{IsVectorAt};
+ghost use Rattle.expr_lanes.specs.Able.{IsVectorAt};
 ghost use Rattle.expr_lanes.specs.Marks.{lane_outcome};
 ghost use Rattle.expr_lanes.specs.Places.{answered_at, EachPlace, Evaluated, IsReady};
 

@@ -3,7 +3,7 @@ ghost use Rattle.std.specs.Prelude.{◌≡◌, ◌<◌, ◌≤◌, ◌+◌, ℕ,
 ghost use Rattle.rdf_model.specs.{Gives, Outcome};
 ghost use Rattle.rdf_values.specs.{Value};
 ghost use Rattle.expr_eval.specs.{input_outcome};
-ghost use Rattle.expr_lanes.specs.LaneInputs.{is_known, HasMarks, IsVectorAt};
+ghost use Rattle.expr_lanes.specs.Able.{is_known, HasMarks, IsVectorAt};
 ghost use Rattle.expr_lanes.specs.Marks.{lane_outcome};
 ghost use Rattle.expr_lanes.specs.Places.{at_place, is_given, answered_at};
 

@@ -1,18 +1,15 @@
 -- Each text reads as one thing, or has one refusal, and a canonical text reads back.
-use Rattle.std.proofs.Common.{◌≡◌, ◌∙◌, ℕ, List, Ok, inl, inr, sym, subst, length, refl, Err, ap, Result, ◌⊎◌, true, [], ◌++◌, ◌≤◌, ◌+◌, ◌-◌, arith}
+use Rattle.lemmas.proofs.{◌≡◌, ◌∙◌, ℕ, List, Ok, inl, inr, sym, subst, length, refl, Err, ap, Result, ◌⊎◌, true, [], ◌++◌, ◌≤◌, ◌+◌, ◌-◌, arith, append-nil, both_true, length-map}
 use Rattle.rdf_values.specs.{at_end, at_scan, at_token, bare, is_name, begin_expr, begin_values, ExprCause, IsText, NamedTree, Partial, Placed, Reads, ReadsText, ReadsValues, ReadsValuesText, Refusal, Refused, scan, ScanEnd, ScanState, Token, tokens, VaryValues, Whole, before, binary, conditional, last_argument, minus_sign, more_arguments, name, NamedTrees, no_arguments, not_sign, number, parenthesized, pick, ReadsArgs, text_of, tighter, tokens_of, tokens_within, truth}
 use Rattle.rdf_values.specs.expressions.Scans.{Refuses}
 use Rattle.expr_read.specs.{ExprRefusal, IsRefusalOf, RefusesTextAs, RefusesTokensAs, are_valid, is_number}
-use Rattle.expr_read.proofs.Whole.{whole, whole_values}
+use Rattle.expr_read.proofs.WholeReads.{whole, whole_values}
 use Rattle.expr_read.proofs.Unique.{unique, unique_values}
 use Rattle.rdf_values.proofs.OneScript.{AreReadOnce}
-use Rattle.lemmas.proofs.{append-nil, both_true, length-map}
 use Rattle.std.proofs.lemmas.List.Folds.{list_all-append}
 use Rattle.rdf_values.specs.expressions.Grammar.{call}
-use Rattle.expr_read.proofs.SpelledTree.{IsReadable, AreReadable, spells_tree}
-use Rattle.expr_read.proofs.Shown.{reads_shown, no_fewer, shown_whole}
-use Rattle.expr_read.proofs.TokenSteps.{no_tokens}
-use Rattle.expr_read.proofs.ValidTokens.{valid_tokens}
+use Rattle.expr_read.proofs.SpelledTree.{IsReadable, AreReadable, spells_tree, reads_shown, no_fewer, shown_whole}
+use Rattle.expr_read.proofs.TokenSteps.{none_within, valid_tokens}
 use Rattle.rdf_values.proofs.OneText.{few_tokens}
 
 -- what reads by the grammar is refused by no scan that begins so, and leaves nothing open
@@ -42,8 +39,7 @@ module _ {T : Type 0} (reads : List Token → T → Type 0) (begin : ScanState) 
 
   -- a text that reads is refused for want of memory alone
   pub memory_alone : (text : List ℕ) (x : T) (e : ExprRefusal) → IsText reads text x → RefusesTextAs reads begin text e → e ≡ ExprRefusal.Memory
-  memory_alone text x ExprRefusal.Memory t h = refl
-  memory_alone text x (ExprRefusal.At why place) t h = absurd (not_both text x _ t h)
+  memory_alone text x e t h = grind (arith, not_both)
 
   -- ---- each text has one answer
 
@@ -72,8 +68,7 @@ one_tree text ts a b same r q = unique (bare ts) a b r (reads_these (Reads 0) be
 pub one_value : (text : List ℕ) (ts : List Placed) (v w : VaryValues) → tokens text ≡ Ok ts → ReadsValues (bare ts) v → ReadsValuesText text w → v ≡ w
 one_value text ts v w same r q = unique_values (bare ts) v w r (reads_these ReadsValues begin_values whole_values text ts w same q)
 
--- ---- What the laws of scripts ask of the texts of expressions.
-
+-- What the laws of scripts ask of the texts of expressions
 pub read_once : AreReadOnce
 read_once = record {
   one_tree = λ text a b r q. one_tree text r.found a b r.tokens_are r.reads_as q;
@@ -111,7 +106,7 @@ spelled_back a r few =
     let p = (spells_tree a r [] refl).spells (256 - length (tokens_of a)) 0 in
     let room : length (tokens_of a) + (256 - length (tokens_of a)) ≡ 256 = omega arith in
     let all : tokens_within (length (tokens_of a) + (256 - length (tokens_of a))) 0 (text_of a ++ []) ≡ Ok p.0
-    = p.2 ∙ ap (before p.0) (no_tokens (256 - length (tokens_of a)) (0 + length (text_of a))) ∙ ap Ok (append-nil p.0) in
+    = p.2 ∙ ap (before p.0) (none_within (256 - length (tokens_of a)) (0 + length (text_of a))) ∙ ap Ok (append-nil p.0) in
     record {
       found = p.0;
       tokens_are = ap tokens (sym (append-nil (text_of a))) ∙ ap (λ (n : ℕ). tokens_within n 0 (text_of a ++ [])) (sym room) ∙ all;

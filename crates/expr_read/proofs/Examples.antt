@@ -1,9 +1,9 @@
 -- Some texts, worked out by hand.
-use Rattle.std.proofs.Common.{◌≡◌, ℕ, pos, List, [], ◌∷◌, ◌++◌, arith, refl, ap, codes}
+use Rattle.lemmas.proofs.{◌≡◌, ℕ, pos, List, [], ◌∷◌, ◌++◌, arith, refl, ap, codes}
 use Rattle.std.proofs.lemmas.Fmt.{decimal_digit}
 use Rattle.rdf_values.specs.{at_end, at_token, bare, Bin, binary, BinOp, Col, ExprCause, first_token, Lit, long_mark, magnitude_of, Mark, minus_sign, name, NamedTree, Neg, number, number_first, Op, parenthesized, Partial, Placed, Punct, Reads, ReadsText, Refusal, RefusesText, short_mark, text_of, tighter, Token, tokens_at, Whole, word_first}
 use Rattle.rdf_values.specs.expressions.Tokens.{Word, Number}
-use Rattle.expr_read.proofs.Whole.{whole}
+use Rattle.expr_read.proofs.WholeReads.{whole}
 
 abbrev at : ℕ → Token → Placed
 at place t = record { token = t; place = place }

@@ -1,11 +1,6 @@
 pub mod Decided
 pub mod Examples
 pub mod TokenSteps
-pub mod Scanned
-pub mod Shown
-pub mod SpelledTree
-pub mod Took
-pub mod Unique
-pub mod ValidTokens
-pub mod Whole
 pub mod WholeReads
+pub mod SpelledTree
+pub mod Unique

@@ -1,10 +1,9 @@
 -- The tokens of a text, one by one: how many bytes each takes, and what holds of it.
-use Rattle.std.proofs.Common.{◌≡◌, ◌≤◌, ◌<◌, ◌+◌, ℕ, Bool, true, false, List, [], ◌∷◌, length, Option, Some, None, Ok, Err, arith, refl, sym, ap, subst, ◌∙◌, length-take, length-drop, ◌-◌, get_or, drop, take, take_while, nat_le, codes, ◌||◌, MatchResult, IfSome, if◌then◌else◌, suc, ◌++◌, add-zero, append_assoc, length-append, Result}
-use Rattle.lemmas.proofs.{both_true, common_steps, drop_more, list_all, nat_tests, prefix_len, take_while-cons, append-nil, drop-drop, drop_all}
-use Rattle.rdf_values.specs.{First, first_token, is_digit, is_name, is_word, is_word_byte, is_word_start, long_first, long_mark, long_marks, magnitude_of, mark_first, number_first, number_found, Refusal, same, short_first, short_mark, short_marks, Token, word_first, and_then, before, from, is_blank, Placed, tokens_at, tokens_within}
+use Rattle.lemmas.proofs.{◌≡◌, ◌≤◌, ◌<◌, ◌+◌, ℕ, Bool, true, false, List, [], ◌∷◌, length, Option, Some, None, Ok, Err, arith, refl, sym, ap, subst, ◌∙◌, length-take, length-drop, ◌-◌, get_or, drop, take, take_while, nat_le, codes, ◌||◌, MatchResult, IfSome, if◌then◌else◌, suc, ◌++◌, add-zero, append_assoc, length-append, Result, zero, both_true, common_steps, drop_more, list_all, nat_tests, prefix_len, take_while-cons, append-nil, drop-drop, drop_all, and_from, prefix_len-le-length}
+use Rattle.rdf_values.specs.{First, first_token, is_digit, is_name, is_word, is_word_byte, is_word_start, long_first, long_mark, long_marks, magnitude_of, mark_first, number_first, number_found, Refusal, same, short_first, short_mark, short_marks, Token, word_first, and_then, before, from, is_blank, Placed, tokens_at, tokens_within, bare, behind, blanks, tokens}
 use Rattle.rdf_values.specs.expressions.Tokens.{mark_in, too_many}
 use Rattle.rdf_values.proofs.OneText.{magnitude_bound}
-use Rattle.expr_read.specs.{is_valid}
+use Rattle.expr_read.specs.{is_valid, are_valid}
 
 -- a token has at least one byte, no more than there are, and is valid; a refusal stands within them
 abbrev pub IsFine : ℕ → First → Type 0
@@ -36,12 +35,10 @@ named w h few t f = rw (h, few, t, f) refl
 
 word_fine : (w : List ℕ) (n : ℕ) (b : Bool) → nat_le (length w) 64 ≡ b → 0 < length w → length w ≤ n → is_word w ≡ true → IsFine n (word_first w)
 unfolding word_first
-word_fine w n true e h k r = grind (arith, named)
-word_fine w n false e h k r = rw e (let long : 64 < length w = grind (arith, nat_tests) in omega arith)
+word_fine w n b e h k r = grind (arith, named, nat_tests)
 
 number_fine : (size n : ℕ) (o : Option ℕ) → ((m : ℕ) → o ≡ Some m → m ≤ 9223372036854775807) → 0 < size → size ≤ n → IsFine n (number_found size o)
-number_fine size n None low h k = omega arith
-number_fine size n (Some m) low h k = (h, k, let small = low m refl in grind (arith, nat_tests))
+number_fine size n o low h k = grind (arith, nat_tests)
 
 run_fine : (ds : List ℕ) (n : ℕ) → 0 < length ds → length ds ≤ n → IsFine n (number_first ds)
 unfolding number_first
@@ -50,15 +47,12 @@ run_fine ds n h k = number_fine (length ds) n (magnitude_of 9223372036854775807 
 abbrev IsValidMark : Option Token → Type 0
 IsValidMark o = IfSome o (λ t. is_valid t ≡ true)
 
-mark_by : (b : Bool) (t : Token) (o : Option Token) → is_valid t ≡ true → IsValidMark o → IsValidMark (if b then Some t else o)
-mark_by b t o h k = grind arith
-
 abbrev are_marks : List (List ℕ × Token) → Bool
 are_marks ms = list_all (λ m. is_valid m.1) ms
 
 mark_valid : (ms : List (List ℕ × Token)) (text : List ℕ) → are_marks ms ≡ true → IsValidMark (mark_in ms text)
 mark_valid [] text h = tt
-mark_valid (m ∷ ms) text h = let p = both_true (is_valid m.1) (are_marks ms) h in mark_by (same text m.0) m.1 (mark_in ms text) p.0 (mark_valid ms text p.1)
+mark_valid (m ∷ ms) text h = let p = both_true (is_valid m.1) (are_marks ms) h in grind (arith, p.0, mark_valid ms text p.1)
 
 short_fine : (c n : ℕ) → IsFine (n + 1) (short_first (short_mark c))
 unfolding short_mark
@@ -124,8 +118,7 @@ before_more ts us (Ok vs) = ap Ok (sym (append_assoc ts us vs))
 before_more ts us (Err e) = refl
 
 pub before_none : (r : Result (List Placed) Refusal) → before [] r ≡ r
-before_none (Ok vs) = refl
-before_none (Err e) = refl
+before_none r = grind arith
 
 -- ---- at the first byte
 
@@ -153,9 +146,9 @@ at_limit place c cs = refl
 first_many : (place c : ℕ) (cs : List ℕ) → is_blank c ≡ false → tokens_within 0 place (c ∷ cs) ≡ Err (too_many place (first_token c cs))
 first_many place c cs b = begins 0 place c cs b ∙ at_limit place c cs
 
-pub no_tokens : (most place : ℕ) → tokens_within most place [] ≡ Ok []
+pub none_within : (most place : ℕ) → tokens_within most place [] ≡ Ok []
 unfolding tokens_at
-no_tokens most place = refl
+none_within most place = refl
 
 -- ---- at a place of a text, after the tokens found
 
@@ -192,4 +185,47 @@ step_token found text i t h b f few =
     ∙ ap (λ (xs : List ℕ). before (found ++ this) (tokens_within left (i + t.1) xs)) (ap (drop t.1) (sym (drop_more text i 0 h)) ∙ there)
 
 pub at_end : (found : List Placed) (text : List ℕ) (i : ℕ) → length text ≤ i → goes_on found text i ≡ Ok found
-at_end found text i h = rw (drop_all i text h) (ap (before found) (no_tokens (256 - length found) i) ∙ ap Ok (append-nil found))
+at_end found text i h = rw (drop_all i text h) (ap (before found) (none_within (256 - length found) i) ∙ ap Ok (append-nil found))
+
+-- ---- the tokens of a text are at most 256 and stand in it; their words are names, and their numbers have 64 bits. A refusal stands in the text, or at its end
+
+-- each token stands before a place, or at it
+pub data StandBelow (end : ℕ) : List Placed → Type 0 where
+  no_tokens : StandBelow end []
+  more_tokens : {t : Placed} {ts : List Placed} → t.place ≤ end → StandBelow end ts → StandBelow end (t ∷ ts)
+
+-- tokens are valid, stand there, and are so many at most; a refusal stands there
+abbrev pub AreFine : ℕ → ℕ → Result (List Placed) Refusal → Type 0
+AreFine most end tokens = MatchResult tokens (λ ts. (are_valid (bare ts) ≡ true) × (length ts ≤ most) × StandBelow end ts) (λ e. e.place ≤ end)
+
+before_fine : (most end : ℕ) (t : Placed) (tokens : Result (List Placed) Refusal) → is_valid t.token ≡ true → t.place ≤ end → AreFine most end tokens → AreFine (suc most) end (before (t ∷ []) tokens)
+before_fine most end t (Ok ts) v h k = (and_from (is_valid t.token) (are_valid (bare ts)) v k.0, omega (arith, k.1), more_tokens h k.2)
+before_fine most end t (Err e) v h k = k
+
+-- what is behind a token and the blanks after it ends where the text does
+same_end : (place size : ℕ) (text : List ℕ) → size ≤ length text → (place + size + blanks (drop size text)) + length (behind size text) ≡ place + length text
+same_end place size text h =
+    let fewer = prefix_len-le-length is_blank (drop size text) in
+    omega (arith, length-drop size text, length-drop (blanks (drop size text)) (drop size text), fewer)
+
+then_fine : (most place : ℕ) (text : List ℕ) (f : First) (others : ℕ → Result (List Placed) Refusal) → IsFine (length text) f
+    → ((size : ℕ) → size ≤ length text → AreFine most (place + length text) (others size)) → AreFine (suc most) (place + length text) (and_then place f others)
+then_fine most place text f others h k = grind (arith, before_fine)
+
+tokens_fine : (most place : ℕ) (text : List ℕ) → AreFine most (place + length text) (tokens_at most place text)
+unfolding tokens_at
+tokens_fine most place [] = (refl, omega arith, no_tokens)
+tokens_fine zero place (c ∷ text) = grind (arith, fine)
+tokens_fine (suc most) place (c ∷ text) =
+    let there : ℕ → ℕ = λ size. place + size + blanks (drop size (c ∷ text)) in
+    let first : IsFine (length (c ∷ text)) (first_token c text) = let e : length (c ∷ text) ≡ length text + 1 = omega arith in rw e (fine c text) in
+    then_fine most place (c ∷ text) (first_token c text) (λ size. tokens_at most (there size) (behind size (c ∷ text))) first
+    (λ size h. subst (λ (end : ℕ). AreFine most end (tokens_at most (there size) (behind size (c ∷ text)))) (same_end place size (c ∷ text) h) (tokens_fine most (there size) (behind size (c ∷ text))))
+
+pub all_fine : (text : List ℕ) → AreFine 256 (length text) (tokens text)
+all_fine text =
+    let end : (0 + blanks text) + length (behind 0 text) ≡ length text = omega (arith, length-drop (blanks text) text, prefix_len-le-length is_blank text) in
+    subst (λ (n : ℕ). AreFine 256 n (tokens text)) end (tokens_fine 256 (0 + blanks text) (behind 0 text))
+
+pub valid_tokens : (text : List ℕ) (ts : List Placed) → tokens text ≡ Ok ts → are_valid (bare ts) ≡ true
+valid_tokens text ts e = let h = rw e at (all_fine text) in h.0

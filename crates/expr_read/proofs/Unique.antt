@@ -1,12 +1,11 @@
 -- Tokens read as one tree, and as one value of a Vary: a machine that shifts and reduces comes to it.
-use Rattle.std.proofs.Common.{◌≡◌, ◌<◌, ◌≤◌, ◌∙◌, ℕ, suc, true, List, [], ◌∷◌, ◌++◌, arith, refl, sym, ap, append_assoc, nat_eq, nat_le, if◌then◌else◌}
-use Rattle.lemmas.proofs.{le_false, le_true, nat_tests}
+use Rattle.lemmas.proofs.{◌≡◌, ◌<◌, ◌≤◌, ◌∙◌, ℕ, suc, true, List, [], ◌∷◌, ◌++◌, arith, refl, sym, ap, append_assoc, nat_eq, nat_le, if◌then◌else◌, lt-leb, le-leb, nat_tests}
 use Rattle.rdf_values.specs.{Bin, binary, BinOp, Call, Col, Cond, conditional, End, last_argument, last_item, last_list, level_of, Lit, Mark, minus_sign, More, more_arguments, more_items, more_lists, name, NamedTree, NamedTrees, Neg, no_arguments, Not, not_sign, number, one_list, Op, parenthesized, Pick, pick, Punct, Reads, ReadsArgs, ReadsList, ReadsLists, ReadsValues, several_lists, tighter, Token, truth, VaryValues, vector}
 use Rattle.rdf_values.specs.expressions.Expressions as e
 use Rattle.rdf_values.specs.expressions.Tokens.{Word, Truth, Number}
 use Rattle.rdf_values.specs.expressions.Grammar.{call}
 use Rattle.rdf_values.specs.declared.scripts.statement.VaryValues.TheVariants.{Lists, Vector}
-use Rattle.expr_read.proofs.Scanned.{positive, level_low, level_high}
+use Rattle.expr_read.proofs.WholeReads.{positive, level_low, level_high}
 
 -- what waits for the tree that is being read
 data Frame : Type 0 where
@@ -133,11 +132,11 @@ looser n fs h = grind (arith, Left)
 
 -- such frames go on waiting
 waits : (n : ℕ) (fs : List Frame) (t : NamedTree) → 1 ≤ n → n ≤ 6 → Loose n fs → reduce n fs t ≡ (t, fs)
-waits n fs t low high h = grind (arith, Left, le_false, Other, positive)
+waits n fs t low high h = grind (arith, Left, lt-leb, Other, positive)
 
 waits_postfix : (fs : List Frame) (t : NamedTree) → reduce 8 fs t ≡ (t, fs)
 waits_postfix [] t = refl
-waits_postfix (Left a o ∷ fs) t = let far : level_of o < 8 = omega (arith, level_low o) in rw (le_false 8 (level_of o) far) refl
+waits_postfix (Left a o ∷ fs) t = let far : level_of o < 8 = omega (arith, level_low o) in rw (lt-leb 8 (level_of o) far) refl
 waits_postfix (f ∷ fs) t = refl
 
 zero_is : (n : ℕ) → n ≤ 0 → nat_eq n 0 ≡ true
@@ -176,10 +175,10 @@ mutual
       have (rw e (through (Want fs) _ ts _ x.state ∙ fed on_index (us ++ Punct Mark.CloseBracket ∷ []) here ∙ through (Want (Bracket a ∷ fs)) _ us (Punct Mark.CloseBracket ∷ []) y.state ∙ fed on_bracket [] (y.folds 0 (omega arith))))
   built (minus_sign {a = a} r) fs h =
       let x = built r (Minus ∷ fs) (omega arith) in
-      record { top = x.top; frames = x.frames; state = x.state; folds = λ m k. x.folds m k ∙ rw (le_true m 7 k) refl }
+      record { top = x.top; frames = x.frames; state = x.state; folds = λ m k. x.folds m k ∙ rw (le-leb m 7 k) refl }
   built (not_sign {a = a} r) fs h =
       let x = built r (Bang ∷ fs) (omega arith) in
-      record { top = x.top; frames = x.frames; state = x.state; folds = λ m k. x.folds m k ∙ rw (le_true m 7 k) refl }
+      record { top = x.top; frames = x.frames; state = x.state; folds = λ m k. x.folds m k ∙ rw (le-leb m 7 k) refl }
   built (binary {o} {n} {ts} {us} {a = a} {b = b} r q l e) fs h =
       let x = built r fs h in
       let y = built q (Left a o ∷ fs) (omega arith) in
@@ -188,7 +187,7 @@ mutual
         top = y.top;
         frames = y.frames;
         state = rw e (through (Want fs) _ ts _ x.state ∙ fed (on_side o) us here ∙ y.state);
-        folds = λ m k. y.folds m (omega arith) ∙ (let tight : m ≤ level_of o = omega arith in rw (le_true m (level_of o) tight) refl);
+        folds = λ m k. y.folds m (omega arith) ∙ (let tight : m ≤ level_of o = omega arith in rw (le-leb m (level_of o) tight) refl);
       }
   built (conditional {ts} {us} {ws} {c = c} {a = a} {b = b} r q w e) fs h =
       let x = built r fs (looser 0 fs h) in

@@ -10,7 +10,7 @@ pub fn one_tree()
 {}
 
 /// Tokens read exactly where the scan refuses none of them and ends with nothing wanted but an operator and nothing open.
-#[tactic(auto, using(crate::proofs::Whole::whole, crate::proofs::WholeReads::reads_expr, crate::proofs::Whole::whole_values, crate::proofs::WholeReads::reads_values))]
+#[tactic(auto, using(crate::proofs::WholeReads::whole, crate::proofs::WholeReads::reads_expr, crate::proofs::WholeReads::whole_values, crate::proofs::WholeReads::reads_values))]
 pub fn scan_decides()
     ensures taken { (ts : List Placed) (a : NamedTree) → Reads 0 (bare ts) a → scan begin_expr ts ≡ Whole }
     ensures reads { (ts : List Placed) → scan begin_expr ts ≡ Whole → (a : NamedTree) × Reads 0 (bare ts) a }

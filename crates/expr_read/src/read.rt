@@ -38,7 +38,7 @@ fn parse(alloc: Global, tokens: &[Placed], end: u32) -> Result<ExprNode, ExprRef
 
 /// The expression that a text is. A text of no expression is refused at its first fault, with a cause and a place: a byte
 /// or a number that makes no token, the 257th token, a token that can't stand where it does, or the end of the text.
-#[tactic(auto, using(std::proofs::lemmas::Result::err_from_is_err_and, crate::proofs::Decided::tokens_refused, crate::proofs::Whole::whole, crate::proofs::Decided::text_refused, crate::proofs::Decided::memory_alone, crate::proofs::ValidTokens::valid_tokens))]
+#[tactic(auto, using(std::proofs::lemmas::Result::err_from_is_err_and, crate::proofs::Decided::tokens_refused, crate::proofs::WholeReads::whole, crate::proofs::Decided::text_refused, crate::proofs::Decided::memory_alone, crate::proofs::TokenSteps::valid_tokens))]
 pub fn read_expr(alloc: Global, text: &[u8]) -> Result<Expr, ExprRefusal>
     requires { length text.now ≤ 65536 }
     ensures ok { IfOk result (λ e. ReadsText text.now e) }
@@ -69,7 +69,7 @@ fn parse_values(alloc: Global, tokens: &[Placed], end: u32) -> Result<VaryValues
 
 /// The values of a variation that a text is: one list or several in braces, or one expression for a vector. A text of no
 /// values is refused as by `read_expr`.
-#[tactic(auto, using(std::proofs::lemmas::Result::err_from_is_err_and, crate::proofs::Decided::tokens_refused, crate::proofs::Whole::whole_values, crate::proofs::Decided::text_refused, crate::proofs::ValidTokens::valid_tokens))]
+#[tactic(auto, using(std::proofs::lemmas::Result::err_from_is_err_and, crate::proofs::Decided::tokens_refused, crate::proofs::WholeReads::whole_values, crate::proofs::Decided::text_refused, crate::proofs::TokenSteps::valid_tokens))]
 pub fn read_values(alloc: Global, text: &[u8]) -> Result<VaryValues, ExprRefusal>
     requires { length text.now ≤ 65536 }
     ensures ok { IfOk result (λ v. ReadsValuesText text.now v) }

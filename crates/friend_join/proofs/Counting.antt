@@ -1,7 +1,6 @@
 -- How many elements the vectors of a table have: row by row, and column by column.
-use Rattle.std.proofs.Common.{◌≡◌, ◌≤◌, ◌<◌, ◌+◌, ℕ, ℤ, zero, suc, pos, All, List, [], ◌∷◌, ◌++◌, length, map, get_or, take, drop, refl, ap, ap₂, ◌∙◌, sym, arith, Option, None, Some, subst, length-append, append_assoc, MatchOption, slice_get}
+use Rattle.lemmas.proofs.{◌≡◌, ◌≤◌, ◌<◌, ◌+◌, ℕ, ℤ, zero, suc, pos, All, List, [], ◌∷◌, ◌++◌, length, map, get_or, take, drop, refl, ap, ap₂, ◌∙◌, sym, arith, Option, None, Some, subst, length-append, append_assoc, MatchOption, slice_get, flat_map-append, get_or-append-add, get_or_append_left, remove, sum_by, sum_by-append, sum_by-cons, sum_by_more, take-append-drop}
 use Rattle.std.specs.Prelude.{⊤}
-use Rattle.lemmas.proofs.{flat_map-append, get_or-append-add, get_or_append_left, remove, sum_by, sum_by-append, sum_by-cons, sum_by_more, take-append-drop}
 use Rattle.rdf_values.specs.{AreKept, below, cell_at, Cells, ColType, Column, count, FitRows, FitsColumn, HoldsTable, IsKept, rows_kept, Value}
 use Rattle.rdf_values.proofs.UnionLemmas.{slice_get-below, sum_by-map as sum_map}
 use Rattle.rdf_values.proofs.KeptLemmas.{map_below}

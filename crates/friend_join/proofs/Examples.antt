@@ -1,5 +1,5 @@
 -- The definitions computed on small tables.
-use Rattle.std.proofs.Common.{◌≡◌, ℕ, ℤ, pos, negsuc, false, List, [], ◌∷◌, ◌++◌, refl, Ok, Err, codes}
+use Rattle.lemmas.proofs.{◌≡◌, ℕ, ℤ, pos, negsuc, false, List, [], ◌∷◌, ◌++◌, refl, Ok, Err, codes}
 use Rattle.rdf_values.specs.{ColType, Column, TableView, Value}
 use Rattle.friend_join.specs.{join_columns, join_entries, join_of, JoinCause}
 

@@ -1,6 +1,5 @@
 -- A table with a friend's columns holds together.
-use Rattle.std.proofs.Common.{◌≡◌, ℕ, ℤ, zero, suc, pos, negsuc, Bool, true, false, List, [], ◌∷◌, ◌++◌, length, map, filter, sym, arith, Option, cond, subst, w64, FitsSigned}
-use Rattle.lemmas.proofs.{length-map, remove}
+use Rattle.lemmas.proofs.{◌≡◌, ℕ, ℤ, zero, suc, pos, negsuc, Bool, true, false, List, [], ◌∷◌, ◌++◌, length, map, filter, sym, arith, Option, cond, subst, w64, FitsSigned, length-map, remove}
 use Rattle.rdf_values.specs.{AreColumns, AreKept, Cells, ColType, Column, count, FitRows, FitsColumn, FitsRow, Has64Bits, HoldsTable, IsHeader, IsKept, IsStored, rows_kept, Value}
 use Rattle.friend_join.specs.{AreBelow, AreEntries, first_or, friend_rows, gained, joined_row, KeyedTable, matched_cells, missing_row, missing_value, number_at, number_for, vector_for}
 

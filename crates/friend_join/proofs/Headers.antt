@@ -1,6 +1,5 @@
 -- The header of two tables together.
-use Rattle.std.proofs.Common.{◌≡◌, ◌≤◌, ◌<◌, ◌+◌, ◌-◌, ℕ, zero, suc, Bool, true, false, ◌||◌, ◌&&◌, List, [], ◌∷◌, ◌++◌, length, refl, ap, ◌∙◌, sym, arith, None, Some, length-append, append-nil, append_assoc, cond, subst, not, position, slice_get, option_map}
-use Rattle.lemmas.proofs.{and_left, and_right, bytes_eq-Decides, false_from_ne_true, left_false, length-remove, or_fails, position_from, position_from-zero, remove, right_false, within}
+use Rattle.lemmas.proofs.{◌≡◌, ◌≤◌, ◌<◌, ◌+◌, ◌-◌, ℕ, zero, suc, Bool, true, false, ◌||◌, ◌&&◌, List, [], ◌∷◌, ◌++◌, length, refl, ap, ◌∙◌, sym, arith, None, Some, length-append, append-nil, append_assoc, cond, subst, not, position, slice_get, option_map, and_left, and_right, bytes_eq-Decides, false_from_ne_true, left_false, length-remove, or_from, position_from, position_from-zero, remove, right_false, slice_get_within}
 use Rattle.rdf_values.specs.{AreColumns, ColType, Column, has_name, IsHeader, kind_at, same}
 use Rattle.friend_join.specs.{first_taken, has_column, is_int, is_key, is_taken, key_place}
 use Rattle.friend_join.proofs.Removing.{remove_nil}
@@ -13,11 +12,11 @@ named_any (c ∷ cs) name = ap (λ b. same c.name name || b) (named_any cs name)
 
 has_append : (os bs : List Column) (name : List ℕ) → has_name os name ≡ false → has_name bs name ≡ false → has_name (os ++ bs) name ≡ false
 has_append [] bs name h l = l
-has_append (a ∷ os) bs name h l = or_fails (same a.name name) (has_name (os ++ bs) name) (left_false (same a.name name) (has_name os name) h) (has_append os bs name (right_false (same a.name name) (has_name os name) h) l)
+has_append (a ∷ os) bs name h l = or_from (same a.name name) (has_name (os ++ bs) name) (left_false (same a.name name) (has_name os name) h) (has_append os bs name (right_false (same a.name name) (has_name os name) h) l)
 
 has_left : (os bs : List Column) (name : List ℕ) → has_name (os ++ bs) name ≡ false → has_name os name ≡ false
 has_left [] bs name h = refl
-has_left (a ∷ os) bs name h = or_fails (same a.name name) (has_name os name) (left_false (same a.name name) (has_name (os ++ bs) name) h) (has_left os bs name (right_false (same a.name name) (has_name (os ++ bs) name) h))
+has_left (a ∷ os) bs name h = or_from (same a.name name) (has_name os name) (left_false (same a.name name) (has_name (os ++ bs) name) h) (has_left os bs name (right_false (same a.name name) (has_name (os ++ bs) name) h))
 
 has_last : (os : List Column) (b : Column) (name : List ℕ) → has_name (os ++ b ∷ []) name ≡ false → same b.name name ≡ false
 has_last [] b name h = left_false (same b.name name) false h
@@ -113,7 +112,7 @@ behind s t [] h f = tt
 behind s t (c ∷ cs) h f = (
   f c.name h.0,
   h.1,
-  behind (s ++ c ∷ []) (t ++ c ∷ []) cs h.2 (λ name g. has_append t (c ∷ []) name (f name (has_left s (c ∷ []) name g)) (or_fails (same c.name name) false (has_last s c name g) refl)),
+  behind (s ++ c ∷ []) (t ++ c ∷ []) cs h.2 (λ name g. has_append t (c ∷ []) name (f name (has_left s (c ∷ []) name g)) (or_from (same c.name name) false (has_last s c name g) refl)),
 )
 
 new_behind : (os s t cs : List Column) → AreColumns s cs → AllNew os cs → ((name : List ℕ) → has_name s name ≡ false → has_name os name ≡ false → has_name t name ≡ false) → AreColumns t cs
@@ -121,7 +120,7 @@ new_behind os s t [] h n f = tt
 new_behind os s t (c ∷ cs) h n f = (
   f c.name h.0 n.0,
   h.1,
-  new_behind os (s ++ c ∷ []) (t ++ c ∷ []) cs h.2 n.1 (λ name g o. has_append t (c ∷ []) name (f name (has_left s (c ∷ []) name g) o) (or_fails (same c.name name) false (has_last s c name g) refl)),
+  new_behind os (s ++ c ∷ []) (t ++ c ∷ []) cs h.2 n.1 (λ name g o. has_append t (c ∷ []) name (f name (has_left s (c ∷ []) name g) o) (or_from (same c.name name) false (has_last s c name g) refl)),
 )
 
 remove_columns : (s bs : List Column) (p : ℕ) → AreColumns s bs → AreColumns s (remove bs p)
@@ -139,7 +138,7 @@ joined_header os bs key p h l at free few =
     let name : here.0.name ≡ key = (bytes_eq-Decides here.0.name key).0 (and_left (same here.0.name key) (is_int here.0.kind) here.2) in
     let new = all_new os [] bs key here.0 p l.distinct here.1 name (none_pass (is_taken os key) bs free) in
     let size = length-append os (remove bs p) in
-    let less = length-remove bs p (within bs p here.0 here.1) in
+    let less = length-remove bs p (slice_get_within bs p here.0 here.1) in
     let some = h.some in
     record {
       some = omega arith;

@@ -1,6 +1,5 @@
 -- The rows of a table with a friend's columns that are laid out anew.
-use Rattle.std.proofs.Common.{◌≡◌, ◌<◌, ◌+◌, ℕ, ℤ, zero, suc, pos, Bool, true, false, List, [], ◌∷◌, ◌++◌, length, map, filter, get_or, refl, ap, ap₂, ◌∙◌, sym, arith, Option, None, Some, length-append, cond, subst, option_map, slice_get, unwrap_or}
-use Rattle.lemmas.proofs.{int_eq, map-append, map-map, position_from, position_from-zero, remove, slice_get-map}
+use Rattle.lemmas.proofs.{◌≡◌, ◌<◌, ◌+◌, ℕ, ℤ, zero, suc, pos, Bool, true, false, List, [], ◌∷◌, ◌++◌, length, map, filter, get_or, refl, ap, ap₂, ◌∙◌, sym, arith, Option, None, Some, length-append, cond, subst, option_map, slice_get, unwrap_or, int_eq, map-append, map-map, position_from, position_from-zero, remove, slice_get-map}
 use Rattle.rdf_values.specs.{AreKept, below, cell_at, Cells, ColType, Column, IsKept, rows_kept, TableView, Value}
 use Rattle.rdf_values.proofs.UnionLemmas.{map-below, slice_get-below}
 use Rattle.rdf_values.proofs.KeptLemmas.{map_below}

@@ -1,5 +1,5 @@
 -- The answers of a join, cause by cause.
-use Rattle.std.proofs.Common.{◌≡◌, ◌≤◌, ◌<◌, ◌+◌, ◌-◌, ℕ, ℤ, true, false, cond, List, length, ap, ◌∙◌, sym, None, Some, Result, Ok, Err, ok_or}
+use Rattle.lemmas.proofs.{◌≡◌, ◌≤◌, ◌<◌, ◌+◌, ◌-◌, ℕ, ℤ, true, false, cond, List, length, ap, ◌∙◌, sym, None, Some, Result, Ok, Err, ok_or}
 use Rattle.std.proofs.lemmas.Bool.{le-ltb, lt-ltb}
 use Rattle.rdf_values.specs.{on_ok, TableView}
 use Rattle.friend_join.specs.{elements, first_repeat, first_taken, join_columns, join_entries, join_of, JoinCause, joined_table, key_place, KeyedTable, keys_of, most_columns, most_elements, unless_above, unless_at}

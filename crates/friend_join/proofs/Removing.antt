@@ -1,6 +1,5 @@
 -- Lists without the element at a place, and elements that are there.
-use Rattle.std.proofs.Common.{◌≡◌, ◌<◌, ℕ, zero, suc, List, [], ◌∷◌, length, map, get_or, refl, ap, ◌∙◌, sym, arith, Some, slice_get}
-use Rattle.lemmas.proofs.{get_or-map, remove}
+use Rattle.lemmas.proofs.{◌≡◌, ◌<◌, ℕ, zero, suc, List, [], ◌∷◌, length, map, get_or, refl, ap, ◌∙◌, sym, arith, Some, slice_get, get_or-map, remove}
 use Rattle.columns.specs.{ColumnPieces, whole}
 
 pub remove_nil : {A : Type 0} (p : ℕ) → remove {X = A} [] p ≡ []

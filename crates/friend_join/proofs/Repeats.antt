@@ -1,6 +1,5 @@
 -- Numbers that stood before.
-use Rattle.std.proofs.Common.{◌≡◌, ◌<◌, ◌+◌, ℕ, ℤ, suc, true, false, Bool, cond, List, [], ◌∷◌, ◌++◌, length, get_or, take, drop, Option, Some, ap, ◌∙◌, sym, add-one, drop-cons, if◌then◌else◌, not}
-use Rattle.lemmas.proofs.{int_eq, list_any, not_false, not_true, take_more}
+use Rattle.lemmas.proofs.{◌≡◌, ◌<◌, ◌+◌, ℕ, ℤ, suc, true, false, Bool, cond, List, [], ◌∷◌, ◌++◌, length, get_or, take, drop, Option, Some, ap, ◌∙◌, sym, add-one, drop-cons, if◌then◌else◌, not, int_eq, list_any, not-false, not-true, take_more}
 use Rattle.friend_join.specs.{repeat_from}
 
 -- a new number goes on
@@ -20,11 +19,11 @@ repeat_here ns e n r l q old h =
 
 -- an insertion that added nothing
 pub old_key : (n : ℤ) (keys seen : List ℤ) (added : Bool) → keys ≡ seen → added ≡ not (list_any (int_eq n) keys) → added ≡ false → list_any (int_eq n) seen ≡ true
-old_key n keys seen added s a f = ap (list_any (int_eq n)) (sym s) ∙ not_false (list_any (int_eq n) keys) (sym a ∙ f)
+old_key n keys seen added s a f = ap (list_any (int_eq n)) (sym s) ∙ not-false (list_any (int_eq n) keys) (sym a ∙ f)
 
 -- an insertion that added the number
 pub new_key : (n : ℤ) (keys seen : List ℤ) (added : Bool) → keys ≡ seen → added ≡ not (list_any (int_eq n) keys) → added ≡ true → list_any (int_eq n) seen ≡ false
-new_key n keys seen added s a t = ap (list_any (int_eq n)) (sym s) ∙ not_true (list_any (int_eq n) keys) (sym a ∙ t)
+new_key n keys seen added s a t = ap (list_any (int_eq n)) (sym s) ∙ not-true (list_any (int_eq n) keys) (sym a ∙ t)
 
 pub grown : (ns : List ℤ) (e : ℕ) (n : ℤ) (keys now : List ℤ) → e < length ns → n ≡ get_or ns e n → keys ≡ take e ns → list_any (int_eq n) (take e ns) ≡ false
     → now ≡ (if list_any (int_eq n) keys then keys else keys ++ n ∷ []) → now ≡ take (e + 1) ns

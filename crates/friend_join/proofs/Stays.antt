@@ -1,6 +1,5 @@
 -- The laws of a join.
-use Rattle.std.proofs.Common.{◌≡◌, ◌≤◌, ◌+◌, ◌-◌, ℕ, ℤ, Bool, true, false, true≢false, ◌||◌, cond, List, [], ◌∷◌, ◌++◌, length, map, filter, take, refl, ap, ap₂, ◌∙◌, sym, arith, Option, None, Some, Ok, Err, nat_lt, ok_or}
-use Rattle.lemmas.proofs.{Decides-int_eq, int_eq, length-map, list_any, list_any-append}
+use Rattle.lemmas.proofs.{◌≡◌, ◌≤◌, ◌+◌, ◌-◌, ℕ, ℤ, Bool, true, false, true≢false, ◌||◌, cond, List, [], ◌∷◌, ◌++◌, length, map, filter, take, refl, ap, ap₂, ◌∙◌, sym, arith, Option, None, Some, Ok, Err, nat_lt, ok_or, Decides-int_eq, int_eq, length-map, list_any, list_any-append}
 use Rattle.rdf_values.specs.{Column, FitRows, on_ok, TableView, Value}
 use Rattle.rdf_values.proofs.KeptLemmas.{fits_length}
 use Rattle.friend_join.specs.{EachEntryStays, elements, first_repeat, first_taken, gained, join_columns, join_entries, join_of, JoinCause, joined_row, joined_table, key_place, KeyedTable, KeyHasOneRow, keys_of, most_columns, most_elements, number_at, repeat_from, unless_above, unless_at}

@@ -1,6 +1,5 @@
 -- A friend that is joined by its keys: what the columns hold, and the table that they are.
-use Rattle.std.proofs.Common.{◌≡◌, ◌≤◌, ◌<◌, ◌+◌, ℕ, ℤ, List, ◌++◌, length, map, get_or, refl, ap, ap₂, ◌∙◌, sym, arith, subst, Option, Some, slice_get}
-use Rattle.lemmas.proofs.{length-map, length-remove, remove, sum_by}
+use Rattle.lemmas.proofs.{◌≡◌, ◌≤◌, ◌<◌, ◌+◌, ℕ, ℤ, List, ◌++◌, length, map, get_or, refl, ap, ap₂, ◌∙◌, sym, arith, subst, Option, Some, slice_get, length-map, length-remove, remove, sum_by}
 use Rattle.rdf_values.specs.{AreKept, Cells, ColType, Column, count, Has64Bits, HoldsTable, IsHeader, IsKept, kind_at, rows_kept, TableView, Value}
 use Rattle.rdf_values.proofs.KeptLemmas.{found_cells, kept_at, kept_within, kept_length}
 use Rattle.columns.specs.{ColumnPieces, whole}

@@ -1,21 +1,19 @@
 -- A column, a site or a result depends on a variation exactly where its set has its number.
-use Rattle.std.proofs.Common.{if◌then◌else◌, ◌≡◌, ℕ, suc, ◌+◌, Bool, true, false, ◌&&◌, ◌||◌, List, [], ◌∷◌, ◌++◌, map, length, Option, Some, None, Ok, slice_get, refl, sym, ◌∙◌, ap, subst, arith, ◌⊎◌, inl, inr, ◌<◌, ◌≤◌, nat_le, nat_lt, zero, Err, Result}
-use Rattle.lemmas.proofs.{AllByRecursion, AllZip, and_holds, and_left_false, and_right_false, any_at, append-nil, kept_at, le-leb, le_false, length-append, length-map, list_any, list_any-append, map-append, mapped_at, neither, or_false, slice_get_within}
+use Rattle.lemmas.proofs.{if◌then◌else◌, ◌≡◌, ℕ, suc, ◌+◌, Bool, true, false, ◌&&◌, ◌||◌, List, [], ◌∷◌, ◌++◌, map, length, Option, Some, None, Ok, slice_get, refl, sym, ◌∙◌, ap, subst, arith, ◌⊎◌, inl, inr, ◌<◌, ◌≤◌, nat_le, nat_lt, zero, Err, Result, AllByRecursion, AllZip, and_from, and_left_false, and_right_false, any_passes_from_place, append-nil, kept_at, le-leb, lt-leb, length-append, length-map, list_any, list_any-append, map-append, mapped_at, or_parts, or_false, slice_get_within}
 use Rattle.rdf_values.specs.{all_renamed, among, AreAccepted, Bin, Call, callee, check, Col, ColType, Column, column_depends, column_kind, columns_in, columns_in_all, Cond, EachColumn, End, FunctionNames, is_own, is_variation_name, kind_of, Lit, made_columns, makes, More, named_depends, NamedTree, Neg, Not, own_variations, parent_of, path, Pick, place, renamed, same, scope_at, scope_of, shape_of, site_depends, Statement, target_of, Tree, Trees, Variation, variations, VaryValues, ActionAt, ActionKind, Booked, booked_by, bookings, check_columns, check_node, columns_of, expect_kind, filters_depend, GraphCause, history, may_begin, permitted_kinds, result_depends}
 use Rattle.rdf_values.specs.expressions.Expressions.{Truth}
 use Rattle.rdf_values.specs.declared.scripts.statement.Statement.TheVariants.{Define, Redefine, Vary, Filter, Action, Report}
 use Rattle.rdf_model.proofs.Accepted.{kind_known, checked_of, sound_path, visible_resolved, itself, both_none, kind_expected, verdict_is_the_first_refusal}
-use Rattle.rdf_model.proofs.KnownColumns.{IsKnownColumn, known_columns, each_weaker}
+use Rattle.rdf_model.proofs.Typing.{IsKnownColumn, known_columns, each_weaker}
 use Rattle.graph_numbers.specs.{column_place, holds_at, named_version, own_columns, own_version, version_at, version_count, version_or, depends_on, booked_statements, filter_sites, GraphView, IsGraph, own_filter_site, own_sites, result_depends_at, ResultAt, results, site_count, site_depends_at, SiteAt, sites}
-use Rattle.graph_numbers.proofs.Walks.{next_at, of_joined, AreBelow, filter_sites_below}
+use Rattle.graph_numbers.proofs.Placing.{next_at, of_joined, AreBelow, filter_sites_below, own_placed}
 use Rattle.rdf_values.proofs.KeptLemmas.{In, here, there, each_at}
 use Rattle.graph.specs.{depends_at, expression_set, is_among_own, Numbers, own_version_sets, varied_set, version_sets, action_set, any_depends, own_result_sets, own_site_sets, result_sets, site_set, site_sets, VersionsDependAsColumns}
 use Rattle.graph.proofs.Listing.{any_map, named_at, no_place, any_none, got_first, holds_mapped, zip_both, zip_holds, zip_mapped}
 use Rattle.std.specs.Prelude.{⊤}
 use Rattle.graph_numbers.proofs.Apart.{any_false, other_way, of_tags, tags_checked}
 use Rattle.rdf_values.specs.declared.scripts.script_cause.GraphCause.TheVariants.{WrongType}
-use Rattle.graph_numbers.proofs.Placing.{own_placed}
-use Rattle.graph_numbers.proofs.Resulting.{booked_are}
+use Rattle.graph_numbers.proofs.Covering.{booked_are}
 
 -- the variation w of number v is one of a Vary's own by its name exactly where it is by its number
 abbrev pub OwnTells : ℕ → Variation → Statement → ℕ → Type 0
@@ -29,13 +27,13 @@ Tells v w (s ∷ before) = OwnTells v w s (length (variations before)) × Tells 
 -- ---- numbers
 
 before_own : (first count v : ℕ) → v < first → is_among_own first count v ≡ false
-before_own first count v h = and_left_false (nat_le first v) (nat_lt v (first + count)) (le_false first v h)
+before_own first count v h = and_left_false (nat_le first v) (nat_lt v (first + count)) (lt-leb first v h)
 
 pub after_own : (first count v : ℕ) → first + count ≤ v → is_among_own first count v ≡ false
-after_own first count v h = and_right_false (nat_le first v) (nat_lt v (first + count)) (le_false (suc v) (first + count) (omega (arith, h)))
+after_own first count v h = and_right_false (nat_le first v) (nat_lt v (first + count)) (lt-leb (suc v) (first + count) (omega (arith, h)))
 
 in_own : (first count k v : ℕ) → v ≡ first + k → k < count → is_among_own first count v ≡ true
-in_own first count k v e h = and_holds (nat_le first v) (nat_lt v (first + count)) (le-leb first v (omega (arith, e))) (le-leb (suc v) (first + count) (omega (arith, e, h)))
+in_own first count k v e h = and_from (nat_le first v) (nat_lt v (first + count)) (le-leb first v (omega (arith, e))) (le-leb (suc v) (first + count) (omega (arith, e, h)))
 
 -- ---- names
 
@@ -45,13 +43,13 @@ tags_count vary tags = length-map tags (λ t. record { name = vary; tag = t })
 -- a Vary of another name has no variation of that name
 other_vary : (w : Variation) (vary : List ℕ) (tags : List (List ℕ)) → list_any (λ (x : Variation). same x.name w.name) (map (λ t. record { name = vary; tag = t }) tags) ≡ false → is_own w vary tags ≡ false
 other_vary w vary [] h = and_right_false (same w.name vary) false refl
-other_vary w vary (t ∷ tags) h = and_left_false (same w.name vary) (among w.tag (t ∷ tags)) (other_way vary w.name (neither (same vary w.name) _ h).0)
+other_vary w vary (t ∷ tags) h = and_left_false (same w.name vary) (among w.tag (t ∷ tags)) (other_way vary w.name (or_parts (same vary w.name) _ h).0)
 
 -- the statements before have none of the name, and the number is above theirs
 foreign : (v : ℕ) (w : Variation) (before : List Statement) → is_variation_name before w.name ≡ false → length (variations before) ≤ v → Tells v w before
 foreign v w [] h le = tt
 foreign v w (s ∷ before) h le =
-    let parts = neither (is_variation_name before w.name) (list_any (λ (x : Variation). same x.name w.name) (own_variations s)) (sym (list_any-append (λ (x : Variation). same x.name w.name) (variations before) (own_variations s)) ∙ h) in
+    let parts = or_parts (is_variation_name before w.name) (list_any (λ (x : Variation). same x.name w.name) (own_variations s)) (sym (list_any-append (λ (x : Variation). same x.name w.name) (variations before) (own_variations s)) ∙ h) in
     let n : length (variations before) + length (own_variations s) ≤ v = let c = length-append (variations before) (own_variations s) in omega (arith, c, le) in
     (own s parts.1 n, foreign v w before parts.0 (omega (arith, n)))
   where
@@ -74,7 +72,7 @@ module _ (header : List Column) (names : FunctionNames) where
           let t = of_tags tags vary q.0 w q.2 in
           let l = slice_get_within tags q.0 w.tag t.1 in
           let n : length (variations before) ≤ v = let e = q.1 in omega (arith, e) in (
-            and_holds (same w.name vary) (among w.tag tags) (ap (λ x. same x vary) t.0 ∙ itself vary) (any_at (same w.tag) tags q.0 w.tag t.1 (itself w.tag)) ∙ sym (in_own (length (variations before)) (length tags) q.0 v q.1 l),
+            and_from (same w.name vary) (among w.tag tags) (ap (λ x. same x vary) t.0 ∙ itself vary) (any_passes_from_place (same w.tag) tags q.0 w.tag t.1 (itself w.tag)) ∙ sym (in_own (length (variations before)) (length tags) q.0 v q.1 l),
             foreign v w before (ap (is_variation_name before) t.0 ∙ (tags_checked header names before node parent vary columns tags values ok).1) n,
           )
       go t next ok (inl q) = (tt, next q)

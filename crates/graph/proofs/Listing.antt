@@ -1,11 +1,10 @@
 -- Tests over lists, places in lists, lists paired with lists, and lists of sets of variations.
-use Rattle.std.proofs.Common.{◌≡◌, ◌+◌, add-one, get_or, replicate, ℕ, zero, suc, Bool, true, false, ◌||◌, List, [], ◌∷◌, ◌++◌, map, length, Some, None, refl, sym, ◌∙◌, ap, subst, arith, slice_get, take, drop, if◌then◌else◌, not, nat_eq, ◌<◌}
-use Rattle.lemmas.proofs.{AllZip, any_at, eq_says, filter, kept_at, list_any, mapped_at, something_at}
+use Rattle.lemmas.proofs.{◌≡◌, ◌+◌, add-one, get_or, replicate, ℕ, zero, suc, Bool, true, false, ◌||◌, List, [], ◌∷◌, ◌++◌, map, length, Some, None, refl, sym, ◌∙◌, ap, subst, arith, slice_get, take, drop, if◌then◌else◌, not, nat_eq, ◌<◌, ◌-◌, ◌*◌, ◌%◌, ◌^◌, ◌≤◌, max, count_ones, bit_or, bit_and, AllZip, any_passes_from_place, eqb-true, filter, kept_at, list_any, mapped_at, something_at, and_mask, bit_at, bit_at-lt, bit_at-zero, bit_at_above, bit_at_or, bit_at_set_other, bit_at_set_same, Decides-eqb, mod-eq_of_lt, mod-pow-add, mod_below, one_shl, ones-ones, ones_cat, pow_pos, w128}
 use Rattle.rdf_values.specs.{among, place, same, Booked, ColType, Column, columns_in, FunctionNames, Statement}
 use Rattle.rdf_model.proofs.Accepted.{names_equal}
 use Rattle.expr_check.specs.{CheckedExpr, distinct}
-use Rattle.graph_numbers.specs.{holds_at, SiteAt}
-use Rattle.graph.specs.{any_depends, any_has, AreRows, AreSets, AreSites, depends_at, has, has_at, IsSet, Numbers, read_sets, site_set, VarSet, version_sets}
+use Rattle.graph_numbers.specs.{holds_at, SiteAt, Version}
+use Rattle.graph.specs.{any_depends, any_has, AreRows, cell_rows, AreSets, AreSites, depends_at, has, has_at, IsSet, Numbers, read_sets, site_set, VarSet, version_sets, members_below}
 use Rattle.graph.specs.declared.tables.ResultRow.{ResultRow}
 
 pub any_map : {A B : Type 0} (f : A → B) (p : B → Bool) (xs : List A) → list_any p (map f xs) ≡ list_any (λ x. p (f x)) xs
@@ -41,7 +40,7 @@ no_place t (x ∷ xs) h = grind (arith, no_place t xs)
 
 -- a name stands at its place, and is among them
 pub named_at : (xs : List (List ℕ)) (x : List ℕ) (j : ℕ) → place (same x) xs ≡ Some j → (slice_get xs j ≡ Some x) × (among x xs ≡ true)
-named_at xs x j h = let p = place_at (same x) xs j h in (p.1 ∙ ap Some (sym (names_equal x p.0 p.2)), any_at (same x) xs j p.0 p.1 p.2)
+named_at xs x j h = let p = place_at (same x) xs j h in (p.1 ∙ ap Some (sym (names_equal x p.0 p.2)), any_passes_from_place (same x) xs j p.0 p.1 p.2)
 
 -- ---- pairs
 
@@ -101,7 +100,7 @@ holds_mapped f test (x ∷ xs) (suc n) = holds_mapped f test xs n
 -- a test of distinct numbers
 any_filtered : (p : ℕ → Bool) (x : ℕ) (ys : List ℕ) → p x ≡ false → list_any p (filter (λ y. not (nat_eq x y)) ys) ≡ list_any p ys
 any_filtered p x [] h = refl
-any_filtered p x (y ∷ ys) h = grind (arith, eq_says, any_filtered p x ys h)
+any_filtered p x (y ∷ ys) h = grind (arith, eqb-true, any_filtered p x ys h)
 
 any_distinct_by : (p : ℕ → Bool) (xs : List ℕ) → list_any p (distinct xs) ≡ list_any p xs
 any_distinct_by p [] = refl
@@ -120,6 +119,17 @@ set_next f (y ∷ xs) (suc k) x (r ∷ ss) s lt is h a = (a.0, set_next f xs k x
 
 pub set_more : {A : Type 0} (f : A → Numbers) (xs : List A) (k : ℕ) (x : A) (ss : List VarSet) (s : VarSet) → k < length xs → x ≡ get_or xs k x → IsSet (f x) s → AreSets (map f (take k xs)) ss → AreSets (map f (take (k + 1) xs)) (ss ++ s ∷ [])
 set_more f xs k x ss s lt is h a = rw add-one (set_next f xs k x ss s lt is h a)
+
+-- one of the table's columns more
+cells_next : (n k : ℕ) (cs : List Column) → k < length cs → cell_rows n (take (suc k) cs) ≡ cell_rows n (take k cs) ++ Version.Cell (n + k) ∷ []
+cells_next n k [] h = absurd (omega (arith, h))
+cells_next n zero (c ∷ cs) h = let e : n ≡ n + 0 = omega arith in ap (λ m. Version.Cell m ∷ []) e
+cells_next n (suc k) (c ∷ cs) h =
+    let e : suc n + k ≡ n + suc k = omega arith in
+    ap (λ vs. Version.Cell n ∷ vs) (cells_next (suc n) k cs (omega (arith, h)) ∙ ap (λ m. cell_rows (suc n) (take k cs) ++ Version.Cell m ∷ []) e)
+
+pub cells_more : (k : ℕ) (cs : List Column) → k < length cs → cell_rows 0 (take (k + 1) cs) ≡ cell_rows 0 (take k cs) ++ Version.Cell k ∷ []
+cells_more k cs h = let e : 0 + k ≡ k = omega arith in rw add-one (cells_next 0 k cs h ∙ ap (λ m. cell_rows 0 (take k cs) ++ Version.Cell m ∷ []) e)
 
 -- no variations at each place
 pub no_sets : {A : Type 0} (xs : List A) (s : VarSet) → IsSet (λ v. false) s → AreSets (map (λ _ v. false) xs) (replicate (length xs) s)
@@ -157,3 +167,66 @@ module _ (header : List Column) (names : FunctionNames) (before : List Statement
     λ v. o.0 v ∙ sets_any (version_sets header names before) ss h (columns_in c.tree) v ∙ ap (λ t. any_depends (version_sets header names before) (columns_in t) v) (sym k.0.tree),
     sites_read kinds xs cs out k.1 o.1,
   )
+
+-- ---- members of sets, by the bits of a number
+
+pub none_in : (v : ℕ) → nat_eq (bit_at 0 v) 1 ≡ false
+none_in v = ap (λ n. nat_eq n 1) (bit_at-zero v)
+
+either : (a b : ℕ) → a < 2 → b < 2 → nat_eq (max a b) 1 ≡ (nat_eq a 1 || nat_eq b 1)
+either a b p q = grind arith
+
+pub either_in : (a b v : ℕ) → nat_eq (bit_at (bit_or a b) v) 1 ≡ (nat_eq (bit_at a v) 1 || nat_eq (bit_at b v) 1)
+either_in a b v = ap (λ n. nat_eq n 1) (bit_at_or a b v) ∙ either (bit_at a v) (bit_at b v) (bit_at-lt a v) (bit_at-lt b v)
+
+-- one number more
+pub more_in : (a v : ℕ) → v < 128 → (u : ℕ) → nat_eq (bit_at (bit_or a (1 * 2 ^ v % 2 ^ 128)) u) 1 ≡ (nat_eq u v || nat_eq (bit_at a u) 1)
+more_in a v h u = go (nat_eq u v) refl
+  where
+    go : (b : Bool) → nat_eq u v ≡ b → nat_eq (bit_at (bit_or a (1 * 2 ^ v % 2 ^ 128)) u) 1 ≡ (b || nat_eq (bit_at a u) 1)
+    go true e = let same : u ≡ v = (Decides-eqb u v).0 e in subst (λ n. nat_eq (bit_at (bit_or a (1 * 2 ^ v % 2 ^ 128)) n) 1 ≡ true) (sym same) (ap (λ n. nat_eq n 1) (bit_at_set_same w128 a v h))
+    go false e = ap (λ n. nat_eq n 1) (bit_at_set_other w128 a v h u (λ q. cc (sym e ∙ (Decides-eqb u v).1 q)))
+
+-- there is no member from 128 on
+pub none_above : (n v : ℕ) → n < 2 ^ 128 → 128 ≤ v → (u : ℕ) → v ≤ u → nat_eq (bit_at n u) 1 ≡ false
+none_above n v h p u q = ap (λ b. nat_eq b 1) (bit_at_above n 128 u h (omega arith))
+
+-- a bit that is counted
+bit_ones : (d : ℕ) → d < 2 → count_ones d ≡ (if nat_eq d 1 then 1 else 0)
+bit_ones zero lt = ones-ones 0
+bit_ones (suc zero) lt = ones-ones 1
+bit_ones (suc (suc d)) lt = absurd (omega (arith, lt))
+
+-- the low bits with one more
+low_step : (n v : ℕ) → n % 2 ^ suc v ≡ bit_at n v * 2 ^ v + n % 2 ^ v
+low_step n v = let e : suc v ≡ 1 + v = omega arith in ap (λ k. n % 2 ^ k) e ∙ mod-pow-add n 1 v
+
+-- members below a number are the bits that stand below it
+low_ones : (s : VarSet) (v : ℕ) → count_ones (s.bits % 2 ^ v) ≡ members_below s v
+unfolding members_below
+low_ones s zero = let z : s.bits % 1 ≡ 0 = omega arith in ap count_ones z ∙ ones-ones 0
+low_ones s (suc v) =
+    let a : count_ones (s.bits % 2 ^ suc v) ≡ count_ones (bit_at s.bits v) + count_ones (s.bits % 2 ^ v) = ap count_ones (low_step s.bits v) ∙ ones_cat v (bit_at s.bits v) (s.bits % 2 ^ v) (mod_below s.bits (2 ^ v) (pow_pos v)) in
+    let b = bit_ones (bit_at s.bits v) (bit_at-lt s.bits v) in
+    let c = low_ones s v in omega (arith, a, b, c)
+
+pub counted_below : (s : VarSet) (v : ℕ) → count_ones (bit_and s.bits (2 ^ v - 1)) ≡ members_below s v
+counted_below s v = ap count_ones (and_mask s.bits v) ∙ low_ones s v
+
+pub counted : (s : VarSet) (v : ℕ) → v < 128 → count_ones (bit_and s.bits (1 * 2 ^ v % 2 ^ 128 - 1)) ≡ members_below s v
+counted s v lt = ap (λ m. count_ones (bit_and s.bits (m - 1))) (one_shl v 128 lt) ∙ counted_below s v
+
+pub one_at_least : (v : ℕ) → v < 128 → 1 ≤ 1 * 2 ^ v % 2 ^ 128
+one_at_least v lt = let e = one_shl v 128 lt in let p = pow_pos v in omega (arith, e, p)
+
+pub counted_all : (s : VarSet) → s.bits < 2 ^ 128 → count_ones s.bits ≡ members_below s 128
+counted_all s lt = ap count_ones (sym (mod-eq_of_lt lt)) ∙ low_ones s 128
+
+one_more : (b : Bool) → (if b then 1 else 0) ≤ ◌+◌ 0 1
+one_more true = omega arith
+one_more false = omega arith
+
+pub below_few : (s : VarSet) (v : ℕ) → members_below s v ≤ v
+unfolding members_below
+below_few s zero = omega arith
+below_few s (suc v) = let a = below_few s v in let b = one_more (has s v) in omega (arith, a, b)

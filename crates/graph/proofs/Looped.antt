@@ -1,19 +1,180 @@
 -- What a line adds to the lists of loops and Prints.
-use Rattle.std.proofs.Common.{if◌then◌else◌, ◌≡◌, ◌⊎◌, inl, inr, ℕ, zero, suc, ◌+◌, ◌-◌, ◌<◌, ◌≤◌, Bool, true, false, not, List, [], ◌∷◌, ◌++◌, map, length, take, drop, replicate, Option, Some, None, option_map, refl, sym, ◌∙◌, ap, subst, arith, slice_get, length-append, filter, filter_map, unwrap_or}
-use Rattle.lemmas.proofs.{AllZip-long, append-nil, drop-take, filter_map-append, length-replicate, map-append, map-id, map-map, neither, take-append-drop, take_front, take_no_longer}
-use Rattle.rdf_values.specs.{among, Booked, booked_by, bookings, filled, Line, names_of, place, same, Statement, variations, waiting}
+use Rattle.lemmas.proofs.{if◌then◌else◌, ◌≡◌, ◌⊎◌, inl, inr, ℕ, zero, suc, ◌+◌, ◌<◌, ◌≤◌, Bool, true, false, not, List, [], ◌∷◌, ◌++◌, map, length, take, drop, Some, None, refl, sym, ◌∙◌, ap, arith, slice_get, length-append, append_assoc, nat_lt, ◌-◌, replicate, Option, option_map, subst, filter, filter_map, unwrap_or, append-nil, le-ltb, lt-ltb, or_parts, take-append-drop, take-append-le, take-append_seam, length-take-le, slice_get_within, AllZip-long, drop-take, filter_map-append, length-replicate, map-append, map-id, map-map, take_no_longer, same_Some, take-take}
+use Rattle.rdf_values.specs.{among, AreAccepted, Booked, booked_by, bookings, check, check_node, filled, FunctionNames, GraphCause, has_variations, is_in_use, is_node, is_result, names_of, place, refuse_if, result_depends, same, Scope, Statement, Variation, variations, Line, waiting}
 use Rattle.rdf_values.specs.declared.scripts.statement.Statement.TheVariants.{Print}
-use Rattle.rdf_model.proofs.Accepted.{names_equal, itself}
-use Rattle.rdf_model.specs.{Access, accesses, filled_by, loop_results}
-use Rattle.graph_numbers.proofs.Walks.{of_joined}
-use Rattle.graph_numbers.specs.{loops, own_loop, Pass, passes_from, result_number}
-use Rattle.graph.specs.{AreLoops, AreNamedInTurn, AreRowsOf, BeginsWith, filled_count, filler_of, IsNamedInTurn, IsNoted, IsRowOf, passes_of_rows, statements}
+use Rattle.rdf_model.proofs.Accepted.{both_none, if_fails, unless_holds, itself, names_equal, place_in_more, turned}
+use Rattle.graph_numbers.proofs.Placing.{of_joined}
+use Rattle.graph_numbers.specs.{holds_at, numbered_pass, passes_from, places_from, result_passes, loops, own_loop, Pass, result_number}
 use Rattle.graph.specs.declared.tables.ResultRow.{ResultRow}
+use Rattle.graph.specs.{AreNamedInTurn, AreRowsOf, filled_count, has, IsNamedInTurn, IsRowOf, members_from, passes_of_row, passes_of_rows, AreLoops, AreLoopsOf, BeginsWith, filler_of, statements}
+use Rattle.graph.proofs.Listing.{zip_last, place_at, place_end, zip_first}
+use Rattle.rdf_model.specs.{Access, accesses, filled_by, loop_results}
 use Rattle.graph.specs.declared.loops.LoopTables.{LoopTables}
-use Rattle.graph.proofs.Filled.{among_less, filled_few, filled_first, later_named, loop_is, is_filled, is_waiting}
-use Rattle.graph.proofs.Listing.{place_at, place_end, zip_first}
-use Rattle.graph.proofs.Walking.{same_back}
-use Rattle.rdf_model.proofs.Turns.{place_within as place_kept}
+
+-- ---- which results are filled, and the passes of a loop, by the numbers of results: names in turn
+
+module _ (names : FunctionNames) (header : Scope) where
+  not_in_use : (before : List Statement) (result parent : List ℕ) → check_node before result parent ≡ None → is_result before result ≡ false
+  not_in_use before result parent h =
+      (or_parts (is_node before result) (is_result before result) (if_fails (is_in_use before result) GraphCause.NameTaken (both_none (refuse_if (is_in_use before result) GraphCause.NameTaken) _ h).0)).1
+
+  named_in_turn : (before : List Statement) (s : Statement) → check names header before s ≡ None → IsNamedInTurn before s
+  named_in_turn before s h = grind (arith, not_in_use, both_none, unless_holds)
+
+  -- in accepted statements a result that is booked is new, and one that is printed isn't
+  pub all_in_turn : (before : List Statement) → AreAccepted names header before → AreNamedInTurn before
+  all_in_turn [] h = tt
+  all_in_turn (s ∷ before) h = (named_in_turn before s h.0, all_in_turn before h.1)
+
+-- ---- lists
+
+-- a name is among the first so many exactly where its place is below
+among_first : (bs : List Booked) (r : List ℕ) (n k : ℕ) → place (λ (b : Booked). same b.name r) bs ≡ Some n → nat_lt n k ≡ among r (names_of (take k bs))
+among_first [] r n k h = cc h
+among_first (b ∷ bs) r n zero h = grind arith
+among_first (b ∷ bs) r zero (suc k) h = grind (arith, turned)
+among_first (b ∷ bs) r (suc n) (suc k) h = grind (arith, turned, among_first bs r n k)
+
+-- what isn't among all of a list isn't among its first
+pub among_less : (x : List ℕ) (bs : List Booked) (k : ℕ) → among x (names_of bs) ≡ false → among x (names_of (take k bs)) ≡ false
+among_less x bs zero h = refl
+among_less x [] (suc k) h = refl
+among_less x (b ∷ bs) (suc k) h = grind (arith, or_parts, among_less x bs)
+
+-- the name of a result is among theirs
+among_there : (bs : List Booked) (j : ℕ) (b : Booked) → slice_get bs j ≡ Some b → among b.name (names_of bs) ≡ true
+among_there [] j b h = cc h
+among_there (c ∷ bs) zero b h = grind (arith, itself)
+among_there (c ∷ bs) (suc j) b h = grind (arith, among_there bs j b h)
+
+-- ---- what is filled
+
+IsFilled : List Statement → Type 0
+IsFilled before = (filled before ≡ names_of (take (filled_count before) (bookings before))) × (filled_count before ≤ length (bookings before))
+
+further_filled : (before : List Statement) (s : Statement) → filled (s ∷ before) ≡ filled before → filled_count (s ∷ before) ≡ filled_count before → IsFilled before → IsFilled (s ∷ before)
+unfolding IsFilled
+further_filled before s e f h =
+    let c = length-append (bookings before) (booked_by before s) in let l = h.1 in (
+      e ∙ h.0 ∙ ap (λ bs. names_of bs) (sym (take-append-le (filled_count before) (bookings before) (booked_by before s) h.1))
+          ∙ ap (λ k. names_of (take k (bookings before ++ booked_by before s))) (sym f),
+      omega (arith, c, f, l),
+    )
+
+-- the results that are filled are the first ones
+filled_is : (before : List Statement) → IsFilled before
+unfolding IsFilled
+filled_is [] = (refl, omega arith)
+filled_is (Print p ∷ before) = go (among p (filled before)) (filled_is before)
+  where
+    nothing_more : bookings before ++ [] ≡ bookings before
+    nothing_more = append-nil (bookings before)
+
+    all : take (length (bookings before)) (bookings before ++ []) ≡ bookings before
+    all = take-append_seam (bookings before) []
+
+    go : (b : Bool) → (filled before ≡ names_of (take (filled_count before) (bookings before))) × (filled_count before ≤ length (bookings before))
+        → ((if b then filled before else names_of (bookings before)) ≡ names_of (take (if b then filled_count before else length (bookings before)) (bookings before ++ [])))
+        × ((if b then filled_count before else length (bookings before)) ≤ length (bookings before ++ []))
+    go b h = grind (arith, nothing_more, all)
+filled_is (s ∷ before) = further_filled before s refl refl (filled_is before)
+
+pub filled_few : (before : List Statement) → filled_count before ≤ length (bookings before)
+unfolding IsFilled
+filled_few before = (filled_is before).1
+
+pub filled_first : (before : List Statement) → filled before ≡ names_of (take (filled_count before) (bookings before))
+unfolding IsFilled
+filled_first before = (filled_is before).0
+
+-- ---- results have names of their own
+
+-- a result has another name than each before it
+pub later_named : (before : List Statement) → AreNamedInTurn before → (j : ℕ) (b : Booked) → slice_get (bookings before) j ≡ Some b → (k : ℕ) → k ≤ j → among b.name (names_of (take k (bookings before))) ≡ false
+later_named [] h j b q k le = cc q
+later_named (s ∷ before) h j b q k le = go (λ e l. later_named before h.1 j b e k l) (of_joined (bookings before) (booked_by before s) j b q)
+  where
+    own : (s : Statement) → IsNamedInTurn before s → (i : ℕ) → slice_get (booked_by before s) i ≡ Some b → (i ≡ 0) × (among b.name (names_of (bookings before)) ≡ false)
+    own s new i e = grind (arith, same_Some)
+
+    go : (slice_get (bookings before) j ≡ Some b → k ≤ j → among b.name (names_of (take k (bookings before))) ≡ false)
+        → (slice_get (bookings before) j ≡ Some b) ⊎ ((i : ℕ) × (j ≡ length (bookings before) + i) × (slice_get (booked_by before s) i ≡ Some b))
+        → among b.name (names_of (take k (bookings before ++ booked_by before s))) ≡ false
+    go next (inl e) = grind (arith, slice_get_within, take-append-le)
+    go next (inr p) = grind (arith, own, take-append-le, among_less)
+
+-- ---- passes by rows
+
+module _ (script : List Statement) where
+  members_are : (test : Variation → Bool) (p : ℕ → Bool) (n : ℕ) (vs : List Variation) → ((k : ℕ) → p (n + k) ≡ holds_at test (slice_get vs k)) → places_from test n vs ≡ members_from p n (length vs)
+  members_are test p n [] h = refl
+  members_are test p n (v ∷ vs) h =
+      let z : n + 0 ≡ n = omega arith in
+      let e : test v ≡ p n = sym (h 0) ∙ ap p z in
+      λ i. if e i then n ∷ members_are test p (suc n) vs next i else members_are test p (suc n) vs next i
+    where
+      next : (k : ℕ) → p (suc n + k) ≡ holds_at test (slice_get vs k)
+      next k = let s : suc n + k ≡ n + suc k = omega arith in ap p s ∙ h (suc k)
+
+  row_passes : (n : ℕ) (b : Booked) (r : ResultRow) → IsRowOf script b r → result_passes script n b ≡ passes_of_row script (length (variations script)) n r
+  row_passes n b r h =
+      λ i. numbered_pass n None
+      ∷ (if has_variations script (sym h.name i) then map (λ v. numbered_pass n (Some v)) (members_are (λ v. result_depends v b.booking) (has r.set) 0 (variations script) (λ k. ap (has r.set) (zero_first k) ∙ h.set k) i) else [])
+    where
+      zero_first : (k : ℕ) → 0 + k ≡ k
+      zero_first k = omega arith
+
+  no_passes : (test : Booked → Bool) (n : ℕ) (bs : List Booked) → ((j : ℕ) (b : Booked) → slice_get bs j ≡ Some b → test b ≡ false) → passes_from script test n bs ≡ []
+  no_passes test n [] h = refl
+  no_passes test n (b ∷ bs) h = λ i. (if h 0 b refl i then result_passes script n b else []) ++ no_passes test (suc n) bs (λ j c e. h (suc j) c e) i
+
+  all_passes : (test : Booked → Bool) (n : ℕ) (bs : List Booked) (rows : List ResultRow) → AreRowsOf script bs rows → ((j : ℕ) (b : Booked) → slice_get bs j ≡ Some b → test b ≡ true)
+      → passes_from script test n bs ≡ passes_of_rows script (length (variations script)) n rows
+  all_passes test n [] [] rs h = refl
+  all_passes test n [] (r ∷ rows) rs h = absurd rs
+  all_passes test n (b ∷ bs) [] rs h = absurd rs
+  all_passes test n (b ∷ bs) (r ∷ rows) rs h =
+      λ i. (ap (λ t. if t then result_passes script n b else []) (h 0 b refl) ∙ row_passes n b r rs.0) i ++ all_passes test (suc n) bs rows rs.1 (λ j c e. h (suc j) c e) i
+
+  passes_joined : (test : Booked → Bool) (n : ℕ) (bs cs : List Booked) → passes_from script test n (bs ++ cs) ≡ passes_from script test n bs ++ passes_from script test (n + length bs) cs
+  passes_joined test n [] cs = let z : n ≡ n + 0 = omega arith in ap (λ m. passes_from script test m cs) z
+  passes_joined test n (b ∷ bs) cs =
+      let s : suc n + length bs ≡ n + length (b ∷ bs) = omega arith in
+      ap (λ ps. (if test b then result_passes script n b else []) ++ ps) (passes_joined test (suc n) bs cs ∙ ap (λ m. passes_from script test (suc n) bs ++ passes_from script test m cs) s)
+      ∙ sym (append_assoc (if test b then result_passes script n b else []) (passes_from script test (suc n) bs) (passes_from script test (n + length (b ∷ bs)) cs))
+
+  pub at_last : (k j : ℕ) (bs : List Booked) (b : Booked) → slice_get (drop k bs) j ≡ Some b → slice_get bs (k + j) ≡ Some b
+  at_last zero j bs b h = let z : 0 + j ≡ j = omega arith in ap (slice_get bs) z ∙ h
+  at_last (suc k) j [] b h = cc h
+  at_last (suc k) j (c ∷ bs) b h = let z : suc k + j ≡ suc (k + j) = omega arith in ap (slice_get (c ∷ bs)) z ∙ at_last k j bs b h
+
+  abbrev waits : List Statement → Booked → Bool
+  waits before b = not (among b.name (filled before))
+
+  -- the passes of a loop: of all results so far but those that are filled
+  pub loop_is : (before : List Statement) → AreNamedInTurn before → (rows : List ResultRow) → AreRowsOf script (bookings before) rows
+      → passes_from script (λ (b : Booked). not (among b.name (filled before))) 0 (bookings before) ≡ passes_of_rows script (length (variations script)) (filled_count before) (drop (filled_count before) rows)
+  loop_is before turn rows rs =
+      ap (passes_from script (waits before) 0) (sym (take-append-drop (filled_count before) (bookings before)))
+      ∙ passes_joined (waits before) 0 (take (filled_count before) (bookings before)) (drop (filled_count before) (bookings before))
+      ∙ (λ i. none i ++ passes_from script (waits before) (count i) (drop (filled_count before) (bookings before)))
+      ∙ all_passes (waits before) (filled_count before) (drop (filled_count before) (bookings before)) (drop (filled_count before) rows) (zip_last (IsRowOf script) (filled_count before) (bookings before) rows rs) all
+    where
+      none : passes_from script (waits before) 0 (take (filled_count before) (bookings before)) ≡ []
+      none = grind (arith, no_passes, filled_first, among_there)
+
+      count : 0 + length (take (filled_count before) (bookings before)) ≡ filled_count before
+      count = let c = length-take-le (filled_count before) (bookings before) (filled_few before) in omega (arith, c)
+
+      all : (j : ℕ) (b : Booked) → slice_get (drop (filled_count before) (bookings before)) j ≡ Some b → waits before b ≡ true
+      all j b e = grind (arith, filled_first, later_named, at_last)
+
+  -- whether a result is filled, by its number
+  pub is_filled : (before : List Statement) (r : List ℕ) (n : ℕ) → place (λ (b : Booked). same b.name r) (bookings before) ≡ Some n → n < filled_count before → among r (filled before) ≡ true
+  is_filled before r n h lt = ap (among r) (filled_first before) ∙ sym (among_first (bookings before) r n (filled_count before) h) ∙ lt-ltb n (filled_count before) lt
+
+  pub is_waiting : (before : List Statement) (r : List ℕ) (n : ℕ) → place (λ (b : Booked). same b.name r) (bookings before) ≡ Some n → filled_count before ≤ n → among r (filled before) ≡ false
+  is_waiting before r n h le = ap (among r) (filled_first before) ∙ sym (among_first (bookings before) r n (filled_count before) h) ∙ le-ltb n (filled_count before) le
 
 -- ---- lists
 
@@ -49,7 +210,7 @@ place_of_row script (b ∷ bs) (r ∷ rows) x h = λ i. if same (h.0.name i) x t
 -- a name among those of results has a place
 placed : (bs : List Booked) (x : List ℕ) → among x (names_of bs) ≡ true → place (λ (b : Booked). same b.name x) bs ≡ None → ⊥
 placed [] x h e = cc h
-placed (b ∷ bs) x h e = grind (arith, same_back, placed bs x)
+placed (b ∷ bs) x h e = grind (arith, turned, placed bs x)
 
 -- the result of a Print that comes in turn has the same place among all
 pub printed_place : (script before : List Statement) (r : List ℕ) → IsNamedInTurn before (Print r) → BeginsWith script before
@@ -61,7 +222,7 @@ printed_place script before r turn begins = go (place (λ (b : Booked). same b.n
     go (Some n) e =
         ap (place (λ (b : Booked). same b.name r)) (sym (take-append-drop (length (bookings before)) (bookings script)))
         ∙ ap (λ xs. place (λ (b : Booked). same b.name r) (xs ++ drop (length (bookings before)) (bookings script))) begins
-        ∙ place_kept (λ (b : Booked). same b.name r) (bookings before) (drop (length (bookings before)) (bookings script)) n e ∙ sym e
+        ∙ place_in_more (λ (b : Booked). same b.name r) (bookings before) (drop (length (bookings before)) (bookings script)) n e ∙ sym e
 
 -- ---- the loops
 
@@ -103,7 +264,7 @@ among_waiting test (c ∷ bs) (suc j) b h e = grind (arith, among_waiting test b
 
 among_fewer : (test : Booked → Bool) (x : List ℕ) (bs : List Booked) → among x (names_of bs) ≡ false → among x (names_of (filter test bs)) ≡ false
 among_fewer test x [] h = refl
-among_fewer test x (b ∷ bs) h = grind (arith, neither, among_fewer test x bs)
+among_fewer test x (b ∷ bs) h = grind (arith, or_parts, among_fewer test x bs)
 
 -- what isn't filled has no loop
 no_filler : (before : List Statement) (x : List ℕ) → among x (filled before) ≡ false → filler_of before x ≡ None
@@ -127,62 +288,63 @@ module _ (script before : List Statement) where
   loops_kept s t is h = unchanged s t h refl refl refl
 
   module _ (r : List ℕ) (turn : IsNamedInTurn before (Print r)) (begins : BeginsWith script before) (n : ℕ) (number : place (λ (b : Booked). same b.name r) (bookings script) ≡ Some n) where
-    own_place : place (λ (b : Booked). same b.name r) (bookings before) ≡ Some n
+    pub own_place : place (λ (b : Booked). same b.name r) (bookings before) ≡ Some n
     own_place = sym (printed_place script before r turn begins) ∙ number
 
-    -- the result at the number has the Print's name
-    named_so : (b : Booked) → slice_get (bookings script) n ≡ Some b → b.name ≡ r
-    named_so b q = grind (arith, place_at, names_equal)
-
-    -- a Print of a result that was filled before
-    pub print_again : (old new : LoopTables) (l : ℕ) → AreLoops script before old → n < length old.fillers.items → slice_get old.fillers.items n ≡ Some l → IsNoted old n l new → AreLoops script (Print r ∷ before) new
-    print_again old new l h lt at e = record {
-      loops = e.loops ∙ h.loops ∙ sym (ap (λ b. loops script before ++ (if b then [] else passes_from script (λ (c : Booked). not (among c.name (filled before))) 0 (bookings before) ∷ [])) filled_now ∙ append-nil (loops script before));
-      prints = ap (map (λ m. Some m)) e.prints ∙ map-append (λ m. Some m) old.prints.items (n ∷ []) ∙ (λ i. h.prints i ++ sym number i ∷ [])
-          ∙ sym (map-append (λ (a : Access). result_number script a.result) (accesses before) (access ∷ []));
-      filling = ap (map (λ m. Some m)) e.filling ∙ map-append (λ m. Some m) old.filling.items (l ∷ []) ∙ (λ i. h.filling i ++ sym mine i ∷ [])
-          ∙ sym (map-append (λ (a : Access). filler_of before a.result) (accesses before) (access ∷ [])) ∙ (λ i. map (λ (a : Access). sym (same_filler a.result) i) (accesses before ++ access ∷ []));
-      count = ap length e.fillers ∙ h.count ∙ sym (ap (λ b. if b then filled_count before else length (bookings before)) filled_now);
-      fillers = λ m k b p q. same_filler b.name ∙ h.fillers m k b (ap (λ xs. slice_get xs m) (sym e.fillers) ∙ p) q;
+    -- a Print of a result that was filled before runs no loop
+    pub print_again : (t : LoopTables) → AreLoops script before t → n < length t.fillers.items → AreLoopsOf script (Print r ∷ before) (accesses before) t
+    print_again t h lt = record {
+      loops = h.loops ∙ sym (ap (λ b. loops script before ++ (if b then [] else passes_from script (λ (c : Booked). not (among c.name (filled before))) 0 (bookings before) ∷ [])) filled_now ∙ append-nil (loops script before));
+      prints = h.prints;
+      filling = h.filling ∙ (λ i. map (λ (a : Access). sym (same_filler a.result) i) (accesses before));
+      count = h.count ∙ sym (ap (λ b. if b then filled_count before else length (bookings before)) filled_now);
+      fillers = λ m k b p q. same_filler b.name ∙ h.fillers m k b p q;
     }
       where
-        access : Access
-        access = record { result = r; fills = filled_by before r }
-
         filled_now : among r (filled before) ≡ true
         filled_now = let c = h.count in is_filled script before r n own_place (omega (arith, c, lt))
 
         same_filler : (x : List ℕ) → filler_of (Print r ∷ before) x ≡ filler_of before x
         same_filler x = ap (place (λ bs. among x (names_of bs))) (again before r filled_now)
 
-        mine : filler_of before r ≡ Some l
-        mine = grind (arith, place_at, named_so)
-
-    -- a Print that fills all results that wait
-    pub print_fills : (old mid new : LoopTables) (passes : List Pass) (spot count : ℕ) → AreNamedInTurn before → AreLoops script before old → length old.fillers.items ≤ n
-        → passes ≡ passes_from script (λ (c : Booked). not (among c.name (filled before))) 0 (bookings before) → spot ≡ length old.loops.items → count ≡ length (bookings before) - length old.fillers.items
-        → mid.loops.items ≡ old.loops.items ++ passes ∷ [] → mid.fillers.items ≡ old.fillers.items ++ replicate count spot
-        → mid.prints.items ≡ old.prints.items → mid.filling.items ≡ old.filling.items → IsNoted mid n spot new → AreLoops script (Print r ∷ before) new
-    print_fills old mid new passes spot count named h le ps at many more_loops more_fillers prints_so filling_so e = record {
-      loops = e.loops ∙ more_loops ∙ (λ i. h.loops i ++ ps i ∷ []) ∙ sym (ap (λ b. loops script before ++ (if b then [] else passes_from script (λ (c : Booked). not (among c.name (filled before))) 0 (bookings before) ∷ [])) waits_now);
-      prints = ap (map (λ m. Some m)) e.prints ∙ map-append (λ m. Some m) mid.prints.items (n ∷ []) ∙ (λ i. (ap (map (λ m. Some m)) prints_so ∙ h.prints) i ++ sym number i ∷ [])
+    -- the Print itself, whose result and loop are listed last
+    pub noted : (mid new : LoopTables) (l : ℕ) → AreLoopsOf script (Print r ∷ before) (accesses before) mid → slice_get mid.fillers.items n ≡ Some l → new.loops.items ≡ mid.loops.items → new.fillers.items ≡ mid.fillers.items
+        → new.prints.items ≡ mid.prints.items ++ n ∷ [] → new.filling.items ≡ mid.filling.items ++ l ∷ [] → AreLoops script (Print r ∷ before) new
+    noted mid new l h at loops_so fillers_so prints_so filling_so = record {
+      loops = loops_so ∙ h.loops;
+      prints = ap (map (λ m. Some m)) prints_so ∙ map-append (λ m. Some m) mid.prints.items (n ∷ []) ∙ (λ i. h.prints i ++ sym number i ∷ [])
           ∙ sym (map-append (λ (a : Access). result_number script a.result) (accesses before) (access ∷ []));
-      filling = ap (map (λ m. Some m)) e.filling ∙ map-append (λ m. Some m) mid.filling.items (spot ∷ [])
-          ∙ (λ i. (ap (map (λ m. Some m)) filling_so ∙ some_kept (λ (a : Access). filler_of before a.result) (λ (a : Access). filler_of (Print r ∷ before) a.result) old.filling.items (accesses before) (λ a l e. kept a.result l e) h.filling) i ++ sym mine i ∷ [])
+      filling = ap (map (λ m. Some m)) filling_so ∙ map-append (λ m. Some m) mid.filling.items (l ∷ []) ∙ (λ i. h.filling i ++ sym mine i ∷ [])
           ∙ sym (map-append (λ (a : Access). filler_of (Print r ∷ before) a.result) (accesses before) (access ∷ []));
-      count = ap length now ∙ length-append old.fillers.items _ ∙ ap (λ m. length old.fillers.items + m) (length-replicate count spot) ∙ whole
-          ∙ sym (ap (λ b. if b then filled_count before else length (bookings before)) waits_now);
-      fillers = λ m l b p q. filler m l b (of_joined old.fillers.items (replicate count spot) m l (ap (λ xs. slice_get xs m) (sym now) ∙ p)) q;
+      count = ap length fillers_so ∙ h.count;
+      fillers = λ m k b p q. h.fillers m k b (ap (λ xs. slice_get xs m) (sym fillers_so) ∙ p) q;
     }
       where
         access : Access
         access = record { result = r; fills = filled_by before r }
 
+        mine : filler_of (Print r ∷ before) r ≡ Some l
+        mine =
+            let p = place_at (λ (b : Booked). same b.name r) (bookings script) n number in
+            subst (λ (x : List ℕ). filler_of (Print r ∷ before) x ≡ Some l) (names_equal p.0.name r p.2) (h.fillers n l p.0 at p.1)
+
+    -- a Print that fills all results that wait
+    pub print_fills : (old mid : LoopTables) (passes : List Pass) (spot count : ℕ) → AreNamedInTurn before → AreLoops script before old → length old.fillers.items ≤ n
+        → passes ≡ passes_from script (λ (c : Booked). not (among c.name (filled before))) 0 (bookings before) → spot ≡ length old.loops.items → count ≡ length (bookings before) - length old.fillers.items
+        → mid.loops.items ≡ old.loops.items ++ passes ∷ [] → mid.fillers.items ≡ old.fillers.items ++ replicate count spot
+        → mid.prints.items ≡ old.prints.items → mid.filling.items ≡ old.filling.items → AreLoopsOf script (Print r ∷ before) (accesses before) mid
+    print_fills old mid passes spot count named h le ps at many more_loops more_fillers prints_so filling_so = record {
+      loops = more_loops ∙ (λ i. h.loops i ++ ps i ∷ []) ∙ sym (ap (λ b. loops script before ++ (if b then [] else passes_from script (λ (c : Booked). not (among c.name (filled before))) 0 (bookings before) ∷ [])) waits_now);
+      prints = ap (map (λ m. Some m)) prints_so ∙ h.prints;
+      filling = ap (map (λ m. Some m)) filling_so
+          ∙ some_kept (λ (a : Access). filler_of before a.result) (λ (a : Access). filler_of (Print r ∷ before) a.result) old.filling.items (accesses before) (λ a l e. kept a.result l e) h.filling;
+      count = ap length more_fillers ∙ length-append old.fillers.items _ ∙ ap (λ m. length old.fillers.items + m) (length-replicate count spot) ∙ whole
+          ∙ sym (ap (λ b. if b then filled_count before else length (bookings before)) waits_now);
+      fillers = λ m l b p q. filler m l b (of_joined old.fillers.items (replicate count spot) m l (ap (λ xs. slice_get xs m) (sym more_fillers) ∙ p)) q;
+    }
+      where
         waits_now : among r (filled before) ≡ false
         waits_now = let c = h.count in is_waiting script before r n own_place (omega (arith, c, le))
-
-        now : new.fillers.items ≡ old.fillers.items ++ replicate count spot
-        now = e.fillers ∙ more_fillers
 
         place_now : spot ≡ length (loop_results before)
         place_now = at ∙ ap length h.loops ∙ loops_count script before
@@ -191,17 +353,11 @@ module _ (script before : List Statement) where
         whole = let c = h.count in let f = filled_few before in omega (arith, c, f, many)
 
         kept : (x : List ℕ) (l : ℕ) → filler_of before x ≡ Some l → filler_of (Print r ∷ before) x ≡ Some l
-        kept x l e = ap (place (λ bs. among x (names_of bs))) (anew before r waits_now) ∙ place_kept (λ bs. among x (names_of bs)) (loop_results before) (waiting before ∷ []) l e
+        kept x l e = ap (place (λ bs. among x (names_of bs))) (anew before r waits_now) ∙ place_in_more (λ bs. among x (names_of bs)) (loop_results before) (waiting before ∷ []) l e
 
         -- a result that waits is filled by the new loop
         next : (m : ℕ) (b : Booked) → slice_get (bookings before) m ≡ Some b → filled_count before ≤ m → filler_of (Print r ∷ before) b.name ≡ Some spot
         next m b q l = grind (arith, filled_first, later_named, anew, waits_now, place_end, no_filler, among_waiting, place_now)
-
-        mine : filler_of (Print r ∷ before) r ≡ Some spot
-        mine =
-            let p = place_at (λ (c : Booked). same c.name r) (bookings before) n own_place in
-            let c = h.count in
-            subst (λ (x : List ℕ). filler_of (Print r ∷ before) x ≡ Some spot) (names_equal p.0.name r p.2) (next n p.0 p.1 (omega (arith, c, le)))
 
         repeated : (k i x y : ℕ) → slice_get (replicate k x) i ≡ Some y → (x ≡ y) × (i < k)
         repeated zero i x y e = cc e
@@ -234,13 +390,7 @@ open_passes script before turn begins rows rs k m e f =
 pub begins_further : (script before : List Statement) (s : Statement) → BeginsWith script (s ∷ before) → BeginsWith script before
 begins_further script before s h =
     let c = length-append (bookings before) (booked_by before s) in
-    sym (take_short (length (bookings before)) (length (bookings before ++ booked_by before s)) (bookings script) (omega (arith, c))) ∙ ap (take (length (bookings before))) h ∙ take_front (bookings before) (booked_by before s)
-  where
-    take_short : {A : Type 0} (k m : ℕ) (xs : List A) → k ≤ m → take k (take m xs) ≡ take k xs
-    take_short zero m xs l = refl
-    take_short (suc k) zero xs l = absurd (omega (arith, l))
-    take_short (suc k) (suc m) [] l = refl
-    take_short (suc k) (suc m) (x ∷ xs) l = ap (λ ys. x ∷ ys) (take_short k m xs (omega (arith, l)))
+    sym (take-take (length (bookings before)) (length (bookings before ++ booked_by before s)) (bookings script) (omega (arith, c))) ∙ ap (take (length (bookings before))) h ∙ take-append_seam (bookings before) (booked_by before s)
 
 -- the lists before the first line
 pub none_yet : (script : List Statement) (t : LoopTables) → t.loops.items ≡ [] → t.prints.items ≡ [] → t.filling.items ≡ [] → t.fillers.items ≡ [] → AreLoops script [] t

@@ -13,7 +13,6 @@ use Rattle.rdf_values.proofs.SharedNum.{num_expr_sync}
 use Rattle.expr_check.specs.contracts.checked.Checked.{the_row as checked_row}
 use Rattle.expr_check.specs.contracts.checked.Checked.TheInside.{the_row as checked_inside_row}
 use Rattle.graph.specs.contracts.tables.Tables.{the_row as tables_row}
-use Rattle.graph.specs.contracts.tables.ResultPath.{the_row as path_row}
 use Rattle.graph.specs.contracts.tables.ResultRow.{the_row as result_row}
 use Rattle.graph.specs.contracts.loops.LoopTables.{the_row as loops_row}
 use Rattle.graph.specs.contracts.graph.Graph.{the_row as graph_row}
@@ -38,11 +37,8 @@ checked_sync = record { shared = λ d b o κ x. (checked_inside.shared x.0 b o �
 sites_sync : IsSync (B.the_row checked_row H.the_row ghosts)
 sites_sync = Vec-sync checked_row checked_sync
 
-path_sync : IsSync path_row
-path_sync = search (sendable, crosses) depth 40 fits 4000
-
 result_sync : IsSync result_row
-result_sync = search (sendable, crosses, path_sync) depth 40 fits 4000
+result_sync = search (sendable, crosses) depth 40 fits 4000
 
 results_sync : IsSync (B.the_row result_row H.the_row ghosts)
 results_sync = Vec-sync result_row result_sync

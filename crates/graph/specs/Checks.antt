@@ -6,7 +6,7 @@ use Rattle.graph.specs.declared.refusals.Stop.TheVariants.{Cause, Memory}
 use Rattle.std.specs.List.{AllZip}
 use Rattle.rdf_values.specs.declared.scripts.statement.VaryValues.TheVariants.{Lists, Vector}
 use Rattle.expr_check.specs.{CheckedExpr}
-use Rattle.graph.specs.Lookups.{IsCheckedAt, statements}
+use Rattle.graph.specs.Gains.{IsCheckedAt, statements}
 use Rattle.graph.specs.declared.refusals.GraphRefusal.{GraphRefusal}
 use Rattle.graph.specs.declared.refusals.GraphRefusal.TheVariants.{At}
 

@@ -3,8 +3,7 @@ use Rattle.std.specs.Prelude.{ℕ, List, length, Option}
 use Rattle.rdf_values.specs.{check, GraphCause, NamedTree, Scope, scope_at, scope_of, Statement, variations}
 use Rattle.expr_check.specs.{CheckedExpr}
 use Rattle.graph_numbers.specs.{named_version, site_count, varied_versions, Version}
-use Rattle.graph.specs.Gains.{IsBookedRow, IsGain}
-use Rattle.graph.specs.Lookups.{IsCheckedAt, statements}
+use Rattle.graph.specs.Gains.{IsBookedRow, IsGain, IsCheckedAt, statements}
 use Rattle.graph.specs.Checks.{AllCheckedAt, Appends}
 use Rattle.graph.specs.Dependence.{changed_set, Numbers}
 use Rattle.graph.specs.declared.before.Before.{Before}

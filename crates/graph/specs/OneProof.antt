@@ -12,7 +12,6 @@ use Rattle.graph_numbers.specs.{SiteAt}
 use Rattle.graph.specs.declared.sets.VarSet.{VarSet}
 use Rattle.graph.specs.Dependence.{Numbers, AreSets, IsSet as IsSetOf}
 use Rattle.graph.specs.Gains.{IsSite, AreSites, IsRow, AreTables}
-use Rattle.graph.specs.LoopRows.{IsRowOf, AreRowsOf, IsScriptRows}
 use Rattle.graph.specs.declared.tables.ResultRow.{ResultRow}
 use Rattle.graph.specs.declared.tables.Tables.{Tables}
 
@@ -75,9 +74,3 @@ rows-prop bs rs = zip-prop IsRow (λ b r. hlevel known) bs rs
 
 pub tables-prop : (header : List Column) (names : FunctionNames) (before : List Statement) (t : Tables) → IsProp (AreTables header names before t)
 tables-prop header names before t = hlevel (known, accepted-prop names header before, sets-prop, sites-prop names, rows-prop)
-
-rows_of-prop : (script : List Statement) (bs : List Booked) (rs : List ResultRow) → IsProp (AreRowsOf script bs rs)
-rows_of-prop script bs rs = zip-prop (IsRowOf script) (λ b r. hlevel known) bs rs
-
-pub script_rows-prop : (script : List Statement) (rows : List ResultRow) (count : ℕ) → IsProp (IsScriptRows script rows count)
-script_rows-prop script rows count = hlevel (known, rows_of-prop)

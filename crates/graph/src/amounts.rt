@@ -1,9 +1,9 @@
 // How many histogram cells and Takes the passes of results have.
-ghost use Rattle.std.specs.Prelude.{◌≡◌, ◌∷◌, ◌++◌, ◌+◌, ◌≤◌, [], length, nat_lt, IfOk};
+ghost use Rattle.std.specs.Prelude.{◌≡◌, ◌∷◌, ◌+◌, ◌≤◌, [], length, nat_lt, IfOk};
 ghost use Rattle.std.specs.Option.{option_copied};
 ghost use Rattle.rdf_values.specs.{ActionAt, bookings, cells_of, first_refusal, has_variations, Path, refuse_if, takes_of};
 ghost use Rattle.rdf_values.specs.declared.scripts.script_cause.GraphCause.TheVariants as cause_of;
-ghost use Rattle.graph.specs.{asked_after, IsAmount, printed_rows, rows_named, statements};
+ghost use Rattle.graph.specs.{asked_after, IsAmount, printed_rows, rows_of, statements};
 
 use crate::lookup::result_count;
 use crate::refusals::refuse_if;
@@ -55,7 +55,11 @@ pub(crate) fn has_variations(before: &[Line], name: &Name) -> bool
     own || has_variations(rest, name)
 }
 
-fn row_amounts(before: &[Line], more: Option<&Name>, row: &ResultRow) -> Result<Amounts, Memory>
+pub(crate) fn row_amounts(
+    before: &[Line],
+    more: Option<&Name>,
+    row: &ResultRow,
+) -> Result<Amounts, Memory>
     ensures { IfOk result (IsAmount (asked_after (option_copied more.entry) (statements before.now)) (row.now ∷ [])) }
 {
     let own = more.is_some_and(|name| name.is(&row.name));
@@ -68,7 +72,7 @@ fn row_amounts(before: &[Line], more: Option<&Name>, row: &ResultRow) -> Result<
     })
 }
 
-fn both(first: Amounts, second: Amounts) -> Result<Amounts, Memory>
+pub(crate) fn both(first: Amounts, second: Amounts) -> Result<Amounts, Memory>
     ensures { IfOk result (λ a. (a.cells ≡ first.cells + second.cells) × (a.takes ≡ first.takes + second.takes)) }
 {
     Ok(Amounts {
@@ -77,39 +81,32 @@ fn both(first: Amounts, second: Amounts) -> Result<Amounts, Memory>
     })
 }
 
+/// Those of all the results or of those of a name, after lines and where a result is given one more that asks for its variations.
 pub(crate) fn amounts_of(
     before: &[Line],
     more: Option<&Name>,
+    only: Option<&Name>,
     rows: &[ResultRow],
 ) -> Result<Amounts, Memory>
-    ensures { IfOk result (IsAmount (asked_after (option_copied more.entry) (statements before.now)) rows.now) }
+    ensures { IfOk result (IsAmount (asked_after (option_copied more.entry) (statements before.now)) (rows_of (option_copied only.entry) rows.now)) }
 {
     let Some((first, rest)) = rows.split_first() else {
         return Ok(Amounts { cells: 0, takes: 0 });
     };
-    let own = row_amounts(before, more, first)?;
-    let others = amounts_of(before, more, rest)?;
-    both(own, others)
-}
-
-fn amounts_named(before: &[Line], rows: &[ResultRow], name: &Name) -> Result<Amounts, Memory>
-    ensures { IfOk result (IsAmount (statements before.now) (rows_named name.now rows.now)) }
-{
-    let Some((first, rest)) = rows.split_first() else {
-        return Ok(Amounts { cells: 0, takes: 0 });
-    };
-    let others = amounts_named(before, rest, name)?;
-    if first.name.is(name) {
-        let own = row_amounts(before, None, first)?;
-        both(own, others)
-    } else {
-        Ok(others)
+    let others = amounts_of(before, more, only, rest)?;
+    if only.is_some_and(|name| !first.name.is(name)) {
+        return Ok(others);
     }
+    both(row_amounts(before, more, first)?, others)
 }
 
 /// Those of the results that lines print, each of which was booked before.
 #[tactic(auto, using(crate::proofs::Walking::count_step))]
-fn amounts_printed(before: &[Line], lines: &[Line], rows: &[ResultRow]) -> Result<Amounts, Memory>
+pub(crate) fn amounts_printed(
+    before: &[Line],
+    lines: &[Line],
+    rows: &[ResultRow],
+) -> Result<Amounts, Memory>
     requires { length (bookings (statements lines.now)) ≤ length rows.now }
     ensures { IfOk result (IsAmount (statements before.now) (printed_rows (statements lines.now) rows.now)) }
 {
@@ -119,36 +116,12 @@ fn amounts_printed(before: &[Line], lines: &[Line], rows: &[ResultRow]) -> Resul
     let others = amounts_printed(before, rest, rows)?;
     match &last.statement {
         Statement::Print { result } => {
-            let own = amounts_named(before, &rows[..result_count(rest)], result)?;
+            let rows = &rows[..result_count(rest)];
+            let own = amounts_of(before, None, Some(result), rows)?;
             both(own, others)
         }
         _ => Ok(others),
     }
-}
-
-pub(crate) fn amounts_printed_with(
-    before: &[Line],
-    rows: &[ResultRow],
-    name: &Name,
-) -> Result<Amounts, Memory>
-    requires { length (bookings (statements before.now)) ≤ length rows.now }
-    ensures { IfOk result (IsAmount (statements before.now) (rows_named name.now rows.now ++ printed_rows (statements before.now) rows.now)) }
-{
-    let own = amounts_named(before, rows, name)?;
-    let others = amounts_printed(before, before, rows)?;
-    both(own, others)
-}
-
-pub(crate) fn amounts_with(
-    before: &[Line],
-    rows: &[ResultRow],
-    row: &ResultRow,
-) -> Result<Amounts, Memory>
-    ensures { IfOk result (IsAmount (statements before.now) (rows.now ++ row.now ∷ [])) }
-{
-    let others = amounts_of(before, None, rows)?;
-    let own = row_amounts(before, None, row)?;
-    both(others, own)
 }
 
 pub(crate) fn too_many(a: Amounts) -> Option<GraphCause>

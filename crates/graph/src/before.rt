@@ -7,13 +7,12 @@ ghost use Rattle.rdf_values.specs.declared.scripts.script_cause.GraphCause.TheVa
 ghost use Rattle.expr_check.specs.{RefusedAs};
 ghost use Rattle.graph_numbers.specs.{filter_sites, version_at};
 ghost use Rattle.graph.specs.Checks.{IsStop};
-ghost use Rattle.graph.specs.Gains.{AreTables};
-ghost use Rattle.graph.specs.Lookups.{statements};
+ghost use Rattle.graph.specs.Gains.{AreTables, statements};
 ghost use Rattle.graph.specs.OneProof.{tables-prop};
 ghost use Rattle.graph.specs.ShortProof.{short_all-prop};
 
 use crate::lookup::{
-    at, filter_sites, is_alias, is_in_use, is_node, is_visible, named_version, target_of,
+    at, filter_sites, is_alias, is_node, is_result, is_visible, named_version, target_of,
 };
 use crate::refusals::{Stop, first_of, refuse_if, refuse_unless};
 use crate::tables::Tables;
@@ -21,7 +20,7 @@ use expr_check::{CheckRefusal, Checked, Columns, check};
 use rdf_values::{ColType, Column, Expr, FnNames, GraphCause, Line, ListOf, Memory, Name};
 use std::alloc::Global;
 
-#[tactic(auto, using(crate::proofs::Checking::cause_refused))]
+#[tactic(auto, using(crate::proofs::Walking::cause_refused))]
 fn stop_of(refusal: CheckRefusal) -> Stop
     ensures { (wanted : Result ColType GraphCause) → RefusedAs refusal wanted → IsStop (refusal_in wanted) result }
 {
@@ -57,7 +56,7 @@ pub(crate) struct Before<'a> {
 impl Before<'_> {
     ghost use Rattle.graph.specs.{Decides, history, IsCheckedBefore, named_version_before, scope_before, sites_so_far};
 
-    #[tactic(auto, using(crate::proofs::SiteTotals::sites_are))]
+    #[tactic(auto, using(crate::proofs::Finished::sites_are))]
     pub(crate) fn sites(&self) -> u32
         ensures value { result ≡ sites_so_far self.now }
         ensures few { result ≤ 16777216 }
@@ -65,7 +64,7 @@ impl Before<'_> {
         self.tables.sites.as_slice().len() as u32
     }
 
-    #[tactic(auto, using(crate::proofs::SiteTotals::numbers_are, crate::proofs::SiteTotals::total_is))]
+    #[tactic(auto, using(crate::proofs::Finished::numbers_are, crate::proofs::Finished::total_is))]
     pub(crate) fn filters_above(&self, node: &Name) -> Result<ListOf<u32>, Memory>
         ensures { IfOk result (λ l. l ≡ filter_sites self.now.header.now self.now.names.now (history self.now) node.now) }
     {
@@ -82,7 +81,7 @@ impl Before<'_> {
         Ok(ListOf::from_vec(versions.collect(self.alloc)?))
     }
 
-    #[tactic(auto, using(crate::proofs::Scoping::kinds_counted, crate::proofs::Walking::named_few, crate::proofs::SiteTotals::versions_are))]
+    #[tactic(auto, using(crate::proofs::Walking::kinds_counted, crate::proofs::Walking::named_few, crate::proofs::Finished::versions_are))]
     pub(crate) fn named_version(&self, node: &Name, name: &Name) -> u32
         ensures { result ≡ named_version_before self.now node.now name.now }
     {
@@ -113,8 +112,9 @@ impl Before<'_> {
     pub(crate) fn check_node(&self, node: &Name, parent: &Name) -> Option<GraphCause>
         ensures { result ≡ check_node (history self.now) node.now parent.now }
     {
+        let taken = is_node(self.lines, node) || is_result(self.lines, node);
         first_of(&[
-            refuse_if(is_in_use(self.lines, node), GraphCause::NameTaken),
+            refuse_if(taken, GraphCause::NameTaken),
             refuse_unless(is_node(self.lines, parent), GraphCause::UnknownName),
         ])
     }
@@ -138,7 +138,7 @@ impl Before<'_> {
     }
 
     /// An expression over the versions that its columns have at a node.
-    #[tactic(auto, using(crate::proofs::Checking::no_memory, crate::proofs::Scoping::checked_at))]
+    #[tactic(auto, using(crate::proofs::Walking::no_memory, crate::proofs::Walking::checked_at))]
     pub(crate) fn expression(&self, node: &Name, expr: &Expr) -> Result<Checked, Stop>
         ensures checked { IfOk result (IsCheckedBefore self.now node.now expr.now) }
         ensures decided { Decides (refusal_in (kind_of (scope_before self.now node.now) self.now.names.now expr.now)) result }
@@ -150,7 +150,7 @@ impl Before<'_> {
         }
     }
 
-    #[tactic(auto, using(crate::proofs::Checking::kind_is, crate::proofs::Checking::kind_isnt, crate::proofs::Checking::kind_stopped, crate::proofs::Checking::handed_on))]
+    #[tactic(auto, using(crate::proofs::Walking::kind_is, crate::proofs::Walking::kind_isnt, crate::proofs::Walking::kind_stopped, crate::proofs::Walking::handed_on))]
     pub(crate) fn expected(&self, node: &Name, kind: ColType, expr: &Expr) -> Result<Checked, Stop>
         ensures checked { IfOk result (IsCheckedBefore self.now node.now expr.now) }
         ensures decided { Decides (expect_kind kind (kind_of (scope_before self.now node.now) self.now.names.now expr.now)) result }
@@ -184,7 +184,7 @@ impl Columns for At<'_> {
         self.before.find_column(self.node, name)
     }
 
-    #[tactic(auto, using(crate::proofs::Scoping::one_kind, crate::proofs::Scoping::kind_within))]
+    #[tactic(auto, using(crate::proofs::Walking::one_kind, crate::proofs::Walking::kind_within))]
     fn kinds_of(&self, numbers: &[u32]) -> Result<Vec<ColType>, Memory> {
         let kinds = self.before.tables.kinds.as_slice();
         let mut found = Vec::new(self.before.alloc);

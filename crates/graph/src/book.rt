@@ -1,7 +1,7 @@
 // The booking of a script's lines: each is checked after those before it, and then added.
-#![tactic(auto, using(crate::proofs::Checking::no_memory, crate::proofs::Checking::handed_on, crate::proofs::Checking::stopped_before, crate::proofs::Checking::stopped_last, crate::proofs::Checking::passed_before, crate::proofs::Checking::alone))]
+#![tactic(auto, using(crate::proofs::Walking::no_memory, crate::proofs::Walking::handed_on, crate::proofs::Walking::stopped_before, crate::proofs::Walking::stopped_last, crate::proofs::Walking::passed_before, crate::proofs::Walking::alone))]
 
-ghost use Rattle.std.specs.Prelude.{◌≡◌, ◌≤◌, ◌∷◌, [], length, reverse, None, Ok, Option, Result, IfOk, IfErr};
+ghost use Rattle.std.specs.Prelude.{◌≡◌, ◌≤◌, ◌∷◌, [], length, None, Ok, Option, Result, IfOk, IfErr};
 ghost use Rattle.std.specs.List.{AllByRecursion};
 ghost use Rattle.rdf_values.specs.{check_node, first_refusal, GraphCause, IsShort, kind_of, refusal_in, scope_of};
 ghost use Rattle.graph.specs.{AreTables, IsRefusal, IsStop, refused, refused_then, statements, Decides, IsGainAfter, verdict_after, history, IsEmptyGain, IsMadeGain, IsRowGain, named_rows, scope_before};
@@ -12,12 +12,11 @@ use crate::before::Before;
 use crate::checks::{
     check_action, check_print, check_report, check_variations_for, check_vary, check_watch,
 };
-use crate::copies::alone;
 use crate::refusals::{GraphRefusal, Stop, first_of, refuse_if, refuse_unless, stop_if};
 use crate::sets::{changed_sets, kinds_at, sets_of};
 use crate::tables::{Change, ResultRow, Tables};
 use crate::variations::full_names;
-use crate::versions::push_varied;
+use crate::versions::varied_versions;
 use expr_check::Checked;
 use graph_numbers::Version;
 use rdf_values::{
@@ -60,14 +59,6 @@ pub(crate) fn book_lines(
             Ok(tables)
         }
     }
-}
-
-pub(crate) fn reversed(lines: ListOf<Line>) -> Vec<Line>
-    ensures { result.items ≡ reverse lines }
-{
-    let mut lines = lines.into_vec();
-    lines.reverse();
-    lines
 }
 
 /// Checks a statement after what stands before it: what it adds, or why it is refused.
@@ -161,7 +152,7 @@ fn named_filter(
     };
     let mut sites = before.filters_above(parent)?;
     sites.push(before.sites())?;
-    alone(before.alloc, sites)
+    Ok(vec![in before.alloc; sites]?)
 }
 
 fn filter_gain(
@@ -177,7 +168,7 @@ fn filter_gain(
     stop_if(before.check_node(node, parent))?;
     let site = before.expected(parent, ColType::Bool, expr)?;
     let filters = named_filter(before, parent, label)?;
-    let sites = alone(before.alloc, site)?;
+    let sites = vec![in before.alloc; site]?;
     let site_sets = sets_of(before, sites.as_slice())?;
     Ok(Tables {
         sites,
@@ -201,9 +192,9 @@ fn made_gain(
     stop_if(first_of(&[before.check_node(node, parent), wrong]))?;
     let site = before.expression(parent, expr)?;
     let site_number = before.sites();
-    let versions = alone(before.alloc, Version::Computed { site: site_number })?;
-    let kinds = alone(before.alloc, site.kind())?;
-    let sites = alone(before.alloc, site)?;
+    let versions = vec![in before.alloc; Version::Computed { site: site_number }]?;
+    let kinds = vec![in before.alloc; site.kind()]?;
+    let sites = vec![in before.alloc; site]?;
     let site_sets = sets_of(before, sites.as_slice())?;
     let version_sets = sets_of(before, sites.as_slice())?;
     Ok(Tables {
@@ -220,21 +211,20 @@ fn row_gain(alloc: Global, row: Result<ResultRow, Stop>) -> Result<Tables, Stop>
     ensures gained { (r : ResultRow) → row ≡ Ok r → IfOk result (IsRowGain r) }
     ensures decided { (wanted : Option GraphCause) → Decides wanted row → Decides wanted result }
 {
-    let results = alone(alloc, row?)?;
+    let results = vec![in alloc; row?]?;
     Ok(Tables {
         results,
         ..Tables::empty(alloc)
     })
 }
 
-#[tactic(auto, using(crate::proofs::Checking::no_memory, crate::proofs::Checking::handed_on, crate::proofs::Counting::few_with))]
+#[tactic(auto, using(crate::proofs::Walking::no_memory, crate::proofs::Walking::handed_on, crate::proofs::Finished::few_with))]
 fn vary_gain(before: &Before<'_>, node: &Name, change: &Change<'_>) -> Result<Tables, Stop>
     ensures gained { IfOk result (IsGainAfter before.now (Vary node.now change.now.parent.now change.now.columns.now change.now.values.now change.now.tags.now change.now.name.now)) }
     ensures decided { Decides (verdict_after before.now (Vary node.now change.now.parent.now change.now.columns.now change.now.values.now change.now.tags.now change.now.name.now)) result }
 {
     let sites = check_vary(before, node, change)?;
-    let mut versions = Vec::new(before.alloc);
-    push_varied(&mut versions, before, change, 0, change.columns)?;
+    let versions = varied_versions(before, change)?;
     let kinds = kinds_at(before, change)?;
     let version_sets = changed_sets(before, change)?;
     let site_sets = sets_of(before, sites.as_slice())?;

@@ -1,8 +1,8 @@
 // The checks of a Vary, of what books a result, and of what asks for one.
-#![tactic(auto, using(crate::proofs::Checking::targets_more, crate::proofs::Checking::each_stop, crate::proofs::Checking::each_next, crate::proofs::Checking::handed_on, crate::proofs::Checking::no_memory, crate::proofs::Checking::decides_stop, crate::proofs::Checking::counted, crate::proofs::Checking::stops_for, crate::proofs::Checking::stopped_before, crate::proofs::Checking::passed_before, crate::proofs::Checking::alone, crate::proofs::SiteTotals::filters_are))]
+#![tactic(auto, using(crate::proofs::Walking::targets_more, crate::proofs::Walking::handed_on, crate::proofs::Walking::no_memory, crate::proofs::Walking::stops_for, crate::proofs::Walking::stopped_before, crate::proofs::Walking::passed_before, crate::proofs::Walking::alone, crate::proofs::Finished::filters_are))]
 
-ghost use Rattle.std.specs.Prelude.{◌≡◌, ◌∷◌, ◌+◌, ◌++◌, ◌||◌, [], ℕ, List, length, map, nat_eq, nat_lt, IfOk, OnOk};
-ghost use Rattle.rdf_values.specs.{ActionKind, are_edges, begins, check_columns, check_edges, check_list, check_lists, check_results, check_tags, check_values, check_vector_column, columns_of, expect_kind, first_refusal, is_result, kind_of, may_begin, permitted_kinds, refuse_if, refuse_unless, repeats, rises, scope_of, Statement, variations, watched_results, weight_column};
+ghost use Rattle.std.specs.Prelude.{◌≡◌, ◌∷◌, [], ℕ, List, length, nat_lt, IfOk, OnOk};
+ghost use Rattle.rdf_values.specs.{ActionKind, among, are_edges, begins, check_columns, check_edges, check_list, check_lists, check_results, check_tags, check_values, check_vector_column, columns_of, expect_kind, first_refusal, is_result, kind_of, may_begin, permitted_kinds, refuse_if, refuse_unless, repeats, rises, scope_of, Statement, variations, watched_results};
 ghost use Rattle.rdf_values.specs.declared.scripts.script_cause.GraphCause.TheVariants as cause_of;
 ghost use Rattle.rdf_values.specs.declared.scripts.statement.Statement.TheVariants.{Action, Print, Report, VariationsFor, Vary, Watch};
 ghost use Rattle.rdf_values.specs.declared.tables.value.ColType.TheVariants as a_kind;
@@ -10,13 +10,11 @@ ghost use Rattle.rdf_values.specs.declared.scripts.statement.VaryValues.TheVaria
 ghost use Rattle.graph.specs.{all_expressions, AppendsChecked, AreCheckedBefore, Decides, history, IsRowAfter, scope_before, statements, targets_at, value_expressions, verdict_after};
 
 use crate::amounts::{
-    amounts_of, amounts_printed_with, amounts_with, cells_of, takes_of, too_many,
+    amounts_of, amounts_printed, both, cells_of, row_amounts, takes_of, too_many,
 };
 use crate::before::{Before, same_kind};
-use crate::copies::{alone, push, push_name};
 use crate::lookup::{
-    covered, is_among, is_filled, is_report, is_result, is_watchable, is_watched, result_count,
-    watched_count,
+    covered, is_filled, is_report, is_result, is_watchable, is_watched, result_count, watched_count,
 };
 use crate::refusals::{Stop, first_of, refuse_if, refuse_unless, stop_if};
 use crate::sets::{VarSet, set_of};
@@ -32,6 +30,12 @@ use std::alloc::Global;
 const MOST_TAGS: usize = 16;
 
 const MOST_VARIATIONS: usize = 128;
+
+fn is_among(names: &[Name], name: &Name) -> bool
+    ensures { result ≡ among name.now names.now }
+{
+    names.iter().any(|n| name.is(n))
+}
 
 fn repeats(names: &[Name]) -> bool
     ensures { result ≡ repeats names.now }
@@ -56,55 +60,29 @@ fn check_tags(known: &Variations, tags: &[Name], name: &Name) -> Option<GraphCau
 fn check_targets(before: &Before<'_>, parent: &Name, columns: &[Name]) -> Option<GraphCause>
     ensures { result ≡ targets_at before.now.names.now (scope_of before.now.header.now) (history before.now) parent.now columns.now }
 {
-    let Some((first, rest)) = columns.split_first() else {
-        return None;
-    };
-    first_of(&[
-        before.check_target(parent, first),
-        check_targets(before, parent, rest),
-    ])
+    let (first, rest) = columns.split_first()?;
+    let target = before.check_target(parent, first);
+    target.or(check_targets(before, parent, rest))
 }
 
-fn check_exprs(
-    before: &Before<'_>,
-    node: &Name,
-    kind: ColType,
-    exprs: &[Expr],
-    found: &mut Vec<Checked>,
-) -> Result<(), Stop>
-    ensures checked { OnOk result (AppendsChecked before.now node.now exprs.now found.old.items found.new.items) }
-    ensures decided { Decides (first_refusal (map (λ e. expect_kind kind (kind_of (scope_before before.now node.now) before.now.names.now e)) exprs.now)) result }
-{
-    let Some((first, rest)) = exprs.split_first() else {
-        return Ok(());
-    };
-    push(found, before.expected(node, kind, first)?)?;
-    check_exprs(before, node, kind, rest, found)
-}
-
-fn has_count<T>(items: &[T], count: usize) -> bool
-    ensures { result ≡ nat_eq (length items.now) count }
-{
-    items.len() == count
-}
-
-/// The list of a column: an expression of the column's kind for each tag.
+/// Appends the list of a column: an expression of the column's kind for each tag.
 fn check_list(
     before: &Before<'_>,
     change: &Change<'_>,
     column: &Name,
     exprs: &[Expr],
-) -> Result<Vec<Checked>, Stop>
-    ensures checked { IfOk result (λ found. AreCheckedBefore before.now change.now.parent.now exprs.now found.items) }
+    found: &mut Vec<Checked>,
+) -> Result<(), Stop>
+    ensures checked { OnOk result (AppendsChecked before.now change.now.parent.now exprs.now found.old.items found.new.items) }
     ensures decided { Decides (check_list before.now.names.now (scope_before before.now change.now.parent.now) (length change.now.tags.now) column.now exprs.now) result }
 {
-    if !has_count(exprs, change.tags.len()) {
-        return Err(Stop::Cause(GraphCause::WrongCount));
-    }
+    let paired = exprs.len() == change.tags.len();
+    stop_if(refuse_unless(paired, GraphCause::WrongCount))?;
     let kind = before.kind_at(change.parent, column);
-    let mut found = Vec::new(before.alloc);
-    check_exprs(before, change.parent, kind, exprs, &mut found)?;
-    Ok(found)
+    for expr in exprs {
+        found.push(before.expected(change.parent, kind, expr)?)?;
+    }
+    Ok(())
 }
 
 fn check_lists(
@@ -112,24 +90,21 @@ fn check_lists(
     change: &Change<'_>,
     columns: &[Name],
     lists: &[ListOf<Expr>],
-) -> Result<Vec<Checked>, Stop>
+    found: &mut Vec<Checked>,
+) -> Result<(), Stop>
     requires paired { length lists.now ≡ length columns.now }
-    ensures checked { IfOk result (λ found. AreCheckedBefore before.now change.now.parent.now (all_expressions lists.now) found.items) }
+    ensures checked { OnOk result (AppendsChecked before.now change.now.parent.now (all_expressions lists.now) found.old.items found.new.items) }
     ensures decided { Decides (first_refusal (check_lists before.now.names.now (scope_before before.now change.now.parent.now)
         (length change.now.tags.now) columns.now lists.now)) result }
 {
     let Some((exprs, lists)) = lists.split_first() else {
-        return Ok(Vec::new(before.alloc));
+        return Ok(());
     };
     let Some((column, columns)) = columns.split_first() else {
-        return Ok(Vec::new(before.alloc));
+        return Ok(());
     };
-    let mut found = check_list(before, change, column, exprs.as_slice())?;
-    let mut more = check_lists(before, change, columns, lists)?;
-    match found.append(&mut more) {
-        Ok(()) => Ok(found),
-        Err(_) => Err(Stop::Memory),
-    }
+    check_list(before, change, column, exprs.as_slice(), found)?;
+    check_lists(before, change, columns, lists, found)
 }
 
 fn check_vector_column(before: &Before<'_>, node: &Name, columns: &[Name]) -> Option<GraphCause>
@@ -149,13 +124,11 @@ fn vector_value(before: &Before<'_>, change: &Change<'_>, expr: &Expr) -> Result
     ensures decided { (tags : ℕ) → Decides (check_values before.now.names.now (scope_before before.now change.now.parent.now)
         tags change.now.columns.now (Vector expr.now)) result }
 {
-    if !has_count(change.columns, 1) {
-        return Err(Stop::Cause(GraphCause::WrongCount));
-    }
+    let alone = change.columns.len() == 1;
+    stop_if(refuse_unless(alone, GraphCause::WrongCount))?;
     let checked = before.expected(change.parent, ColType::Vect, expr)?;
     stop_if(check_vector_column(before, change.parent, change.columns))?;
-    let found = alone(before.alloc, checked)?;
-    Ok(found)
+    Ok(vec![in before.alloc; checked]?)
 }
 
 fn check_values(before: &Before<'_>, change: &Change<'_>) -> Result<Vec<Checked>, Stop>
@@ -165,10 +138,11 @@ fn check_values(before: &Before<'_>, change: &Change<'_>) -> Result<Vec<Checked>
 {
     match change.values {
         VaryValues::Lists(lists) => {
-            if !has_count(lists.as_slice(), change.columns.len()) {
-                return Err(Stop::Cause(GraphCause::WrongCount));
-            }
-            check_lists(before, change, change.columns, lists.as_slice())
+            let paired = lists.len() == change.columns.len();
+            stop_if(refuse_unless(paired, GraphCause::WrongCount))?;
+            let mut found = Vec::new(before.alloc);
+            check_lists(before, change, change.columns, lists.as_slice(), &mut found)?;
+            Ok(found)
         }
         VaryValues::Vector(expr) => vector_value(before, change, expr),
     }
@@ -263,15 +237,17 @@ pub(crate) fn check_action(
     let columns = columns_of(before.alloc, action)?;
     let mut kinds = Vec::new(before.alloc);
     let wrong = check_columns(before, parent, action, &mut kinds, columns.as_slice())?;
+    let row = action_row(before, name, parent, action)?;
+    let rows = before.tables.results.as_slice();
+    let others = amounts_of(before.lines, None, None, rows)?;
+    let own = row_amounts(before.lines, None, &row)?;
     stop_if(first_of(&[
         before.check_node(name, parent),
         wrong,
         check_edges(action),
         one_result_more(before.lines),
+        too_many(both(others, own)?),
     ]))?;
-    let row = action_row(before, name, parent, action)?;
-    let amounts = amounts_with(before.lines, before.tables.results.as_slice(), &row)?;
-    stop_if(too_many(amounts))?;
     Ok(row)
 }
 
@@ -302,7 +278,7 @@ pub(crate) fn check_variations_for(
     ensures { IfOk result (λ o. o ≡ verdict_after before.now (VariationsFor name.now)) }
 {
     let rows = before.tables.results.as_slice();
-    let amounts = amounts_of(before.lines, Some(name), rows)?;
+    let amounts = amounts_of(before.lines, Some(name), None, rows)?;
     Ok(first_of(&[
         refuse_unless(is_result(before.lines, name), GraphCause::UnknownName),
         refuse_if(is_report(before.lines, name), GraphCause::WrongKind),
@@ -315,14 +291,16 @@ pub(crate) fn check_print(before: &Before<'_>, name: &Name) -> Result<Option<Gra
     ensures { IfOk result (λ o. o ≡ verdict_after before.now (Print name.now)) }
 {
     let rows = before.tables.results.as_slice();
-    let amounts = amounts_printed_with(before.lines, rows, name)?;
+    let own = amounts_of(before.lines, None, Some(name), rows)?;
+    let others = amounts_printed(before.lines, before.lines, rows)?;
+    let amounts = both(own, others)?;
     Ok(first_of(&[
         refuse_unless(is_result(before.lines, name), GraphCause::UnknownName),
         too_many(amounts),
     ]))
 }
 
-#[tactic(auto, using(crate::proofs::Beginning::begins_is))]
+#[tactic(auto, using(crate::proofs::Walking::begins_is))]
 fn begins(kinds: &[ColType], permitted: &[ColType]) -> bool
     ensures { result ≡ begins kinds.now permitted.now }
 {
@@ -376,16 +354,7 @@ fn check_columns(
     check_columns(before, node, action, kinds, rest)
 }
 
-fn push_weight(names: &mut Vec<Name>, weight: &Option<Name>) -> Result<(), Memory>
-    ensures { OnOk result (names.new.items ≡ names.old.items ++ weight_column weight.now) }
-{
-    match weight {
-        None => Ok(()),
-        Some(name) => push_name(names, name),
-    }
-}
-
-pub(crate) fn columns_of(alloc: Global, action: &ActionKind) -> Result<Vec<Name>, Memory>
+fn columns_of(alloc: Global, action: &ActionKind) -> Result<Vec<Name>, Memory>
     ensures { IfOk result (λ v. v.items ≡ columns_of action.now) }
 {
     let mut names = Vec::new(alloc);
@@ -395,16 +364,17 @@ pub(crate) fn columns_of(alloc: Global, action: &ActionKind) -> Result<Vec<Name>
         | ActionKind::Min(x)
         | ActionKind::Max(x)
         | ActionKind::Take(x)
-        | ActionKind::Reduce(_, x) => push_name(&mut names, x)?,
-        ActionKind::Histo1D { x, weight, .. } => {
-            push_name(&mut names, x)?;
-            push_weight(&mut names, weight)?;
+        | ActionKind::Reduce(_, x)
+        | ActionKind::Histo1D { x, .. } => names.push(x.copy()?)?,
+        ActionKind::Histo2D { x, y, .. } => {
+            names.push(x.copy()?)?;
+            names.push(y.copy()?)?;
         }
-        ActionKind::Histo2D { x, y, weight, .. } => {
-            push_name(&mut names, x)?;
-            push_name(&mut names, y)?;
-            push_weight(&mut names, weight)?;
-        }
+    }
+    if let ActionKind::Histo1D { weight, .. } | ActionKind::Histo2D { weight, .. } = action
+        && let Some(weight) = weight
+    {
+        names.push(weight.copy()?)?;
     }
     Ok(names)
 }
@@ -415,10 +385,7 @@ fn rises(edges: &[i64]) -> bool
     let Some((first, rest)) = edges.split_first() else {
         return true;
     };
-    match rest.first() {
-        None => true,
-        Some(next) => *first < *next && rises(rest),
-    }
+    rest.first().is_none_or(|next| *first < *next) && rises(rest)
 }
 
 fn are_edges(edges: &IntList) -> bool
@@ -427,7 +394,7 @@ fn are_edges(edges: &IntList) -> bool
     edges.len() >= 2 && rises(edges.as_slice())
 }
 
-pub(crate) fn check_edges(action: &ActionKind) -> Option<GraphCause>
+fn check_edges(action: &ActionKind) -> Option<GraphCause>
     ensures { result ≡ check_edges action.now }
 {
     let fit = match action {

@@ -1,18 +1,18 @@
 // The booked graph.
-#![tactic(auto, using(crate::proofs::Finished::row_count, crate::proofs::Finished::name_is, crate::proofs::Finished::set_is, crate::proofs::Finished::site_count, crate::proofs::Finished::site_set_count, crate::proofs::Finished::site_set_is))]
+#![tactic(auto, using(crate::proofs::Finished::row_count, crate::proofs::Finished::name_is, crate::proofs::Finished::set_is, crate::proofs::Finished::kind_is, crate::proofs::Finished::path_filters, crate::proofs::Finished::path_inputs, crate::proofs::Finished::path_covers, crate::proofs::Finished::site_count, crate::proofs::Finished::site_set_count, crate::proofs::Finished::site_set_is))]
 
 ghost use Rattle.std.specs.Prelude.{◌≡◌, ◌<◌, ◌≤◌, ℕ, length, Some, option_map, slice_get, IfOk};
 ghost use Rattle.rdf_values.specs.{Answers, is_watched, IsBookable, IsHeader};
 ghost use Rattle.rdf_model.specs.{accesses, loop_of};
 ghost use Rattle.graph_numbers.specs.{booked, booked_statements, graph_filters, graph_loops, graph_prints, graph_results, graph_sites, graph_sources, graph_variations, graph_versions, IsGraph, IsSiteExpr, kind_of_booking, result_depends_at, site_depends_at};
 
-use crate::book::{book_lines, reversed};
-use crate::copies::{copy_header, copy_names};
+use crate::before::Before;
+use crate::book::book_lines;
 use crate::lookup::{at, is_watched, label_of};
-use crate::loops::{LoopTables, ScriptRows, loop_tables};
+use crate::loops::{LoopTables, loop_tables};
 use crate::refusals::GraphRefusal;
 use crate::sets::VarSet;
-use crate::tables::{ResultPath, Tables};
+use crate::tables::Tables;
 use crate::variations::Variations;
 use crate::versions::source_of;
 use expr_check::Checked;
@@ -35,7 +35,7 @@ impl Model for Graph {
     ghost use Rattle.std.specs.Coded.{codes};
     ghost use Rattle.rdf_values.specs.{named_code};
     ghost use Rattle.graph_numbers.specs.{GraphView};
-    ghost use Rattle.graph.specs.GraphFields.{view_of, IsBooked};
+    ghost use Rattle.graph.specs.Gains.{view_of, IsBooked};
 
     ghost Value = { GraphView };
 
@@ -61,26 +61,22 @@ impl Graph {
         requires header { IsHeader header.now }
         ensures { Answers refused_at GraphRefusal.Memory (booked script header.now names.now) result }
     {
-        let lines = reversed(script.lines);
-        let tables = match book_lines(alloc, lines.as_slice(), header, names) {
-            Ok(tables) => tables,
-            Err(refusal) => return Err(refusal),
-        };
-        let columns = copy_header(alloc, header)?;
-        let functions = copy_names(alloc, names.as_slice())?;
+        let mut lines = script.lines.into_vec();
+        lines.reverse();
         let all = lines.as_slice();
-        let results = tables.results.as_slice();
-        let variations = tables.variations.len();
-        let script = ScriptRows {
+        let tables = book_lines(alloc, all, header, names)?;
+        let script = Before {
+            alloc,
+            header,
+            names,
             lines: all,
-            results,
-            variations,
+            tables: &tables,
         };
-        let loops = loop_tables(alloc, &script, all)?;
+        let loops = loop_tables(&script, all)?;
         Ok(Graph {
+            header: ListOf::from_clones(alloc, header)?,
+            names: ListOf::from_clones(alloc, names.as_slice())?,
             lines,
-            header: columns,
-            names: functions,
             tables,
             loops,
         })
@@ -124,23 +120,12 @@ impl Graph {
         &at(self.tables.results.as_slice(), r).name
     }
 
-    /// What the loop reads of a result.
-    fn result_path(&self, r: u32) -> &ResultPath
-        requires { r < length (graph_results self.now) }
-        ensures kind { option_map (λ x. kind_of_booking x.booked.booking) (slice_get (graph_results self.now) r) ≡ Some result.now.kind }
-        ensures filters { option_map (λ x. x.filters) (slice_get (graph_results self.now) r) ≡ Some result.now.filters }
-        ensures inputs { option_map (λ x. x.inputs) (slice_get (graph_results self.now) r) ≡ Some result.now.inputs }
-        ensures covers { option_map (λ x. x.covers) (slice_get (graph_results self.now) r) ≡ Some result.now.covers }
-    {
-        &at(self.tables.results.as_slice(), r).path
-    }
-
     /// What a result is.
     pub fn kind(&self, r: u32) -> &ResultKind
         requires { r < length (graph_results self.now) }
         ensures { option_map (λ x. kind_of_booking x.booked.booking) (slice_get (graph_results self.now) r) ≡ Some result.now }
     {
-        &self.result_path(r).kind
+        &at(self.tables.results.as_slice(), r).path.kind
     }
 
     /// The variations on which a result depends.
@@ -164,7 +149,8 @@ impl Graph {
         requires { r < length (graph_results self.now) }
         ensures { option_map (λ x. x.filters) (slice_get (graph_results self.now) r) ≡ Some result.now }
     {
-        self.result_path(r).filters.as_slice()
+        let results = self.tables.results.as_slice();
+        at(results, r).path.filters.as_slice()
     }
 
     /// The versions that an action reads, in written order.
@@ -172,7 +158,7 @@ impl Graph {
         requires { r < length (graph_results self.now) }
         ensures { option_map (λ x. x.inputs) (slice_get (graph_results self.now) r) ≡ Some result.now }
     {
-        self.result_path(r).inputs.as_slice()
+        at(self.tables.results.as_slice(), r).path.inputs.as_slice()
     }
 
     /// The named filters that a report covers.
@@ -180,7 +166,7 @@ impl Graph {
         requires { r < length (graph_results self.now) }
         ensures { option_map (λ x. x.covers) (slice_get (graph_results self.now) r) ≡ Some result.now }
     {
-        self.result_path(r).covers.as_slice()
+        at(self.tables.results.as_slice(), r).path.covers.as_slice()
     }
 
     /// How many Prints there are.

@@ -7,7 +7,6 @@ mod amounts;
 mod before;
 mod book;
 mod checks;
-mod copies;
 pub mod graph;
 pub mod laws;
 pub mod lookup;

@@ -1,8 +1,8 @@
 // Look-ups in the statements so far, the latest first: each walks them as its definition does.
-ghost use Rattle.std.specs.Prelude.{◌^◌, ◌≡◌, ◌<◌, ◌≤◌, ◌+◌, true, false, codes, length, MatchOption, IfSome, Some, option_map, slice_get, IfOk, List, []};
+ghost use Rattle.std.specs.Prelude.{◌^◌, ◌≡◌, ◌<◌, ◌≤◌, ◌+◌, true, false, codes, length, MatchOption, IfSome, Some, slice_get, IfOk, List, []};
 ghost use Rattle.std.specs.List.{list_any, position};
-ghost use Rattle.rdf_values.specs.{FunctionNames, is_alias, is_in_use, is_node, is_result, is_visible, makes, parent_of, path, same, scope_at, scope_of, target_of, expression_count, named_before, ActionAt, among, bookings, can_watch, filled, is_report, is_watched, names_of, Path, result_is, Statement, watched_results};
-ghost use Rattle.graph.specs.{own_target, own_visible, statements, count_from, filter_numbers, labels, own_label, site_total, own_site_total};
+ghost use Rattle.rdf_values.specs.{FunctionNames, is_alias, is_node, is_result, is_visible, makes, parent_of, path, same, scope_at, scope_of, target_of, expression_count, named_before, ActionAt, among, bookings, can_watch, filled, is_report, is_watched, names_of, Path, result_is, Statement, watched_results};
+ghost use Rattle.graph.specs.{own_target, own_visible, statements, count_from, filter_numbers, labels, site_total, own_site_total};
 ghost use Rattle.graph_numbers.specs.{column_place, covered_at, filters_on, named_version, own_columns, own_version, version_count, list_start};
 ghost use Rattle.rdf_values.specs.declared.scripts.statement.Statement.TheVariants.{Watch};
 
@@ -87,13 +87,6 @@ pub fn is_result(before: &[Line], name: &Name) -> bool
     own || is_result(rest, name)
 }
 
-/// Whether the name is a node's or a result's.
-pub fn is_in_use(before: &[Line], name: &Name) -> bool
-    ensures { result ≡ is_in_use (statements before.now) name.now }
-{
-    is_node(before, name) || is_result(before, name)
-}
-
 /// Whether the name is an alias at a node.
 pub fn is_alias(before: &[Line], node: &Name, name: &Name) -> bool
     ensures { result ≡ is_alias (path (statements before.now) node.now) name.now }
@@ -111,12 +104,9 @@ pub fn is_alias(before: &[Line], node: &Name, name: &Name) -> bool
 }
 
 fn is_cell(header: &[Column], name: &Name) -> bool
-    ensures { result ≡ is_visible (scope_of header.now) name.now }
+    ensures { result ≡ list_any (λ c. same c.name name.now) header.now }
 {
-    let Some((first, rest)) = header.split_first() else {
-        return false;
-    };
-    first.name.is(name) || is_cell(rest, name)
+    header.iter().any(|column| column.name.is(name))
 }
 
 fn own_visible(statement: &Statement, name: &Name) -> bool
@@ -130,7 +120,7 @@ fn own_visible(statement: &Statement, name: &Name) -> bool
 }
 
 /// Whether the column is visible at a node.
-#[tactic(auto, using(crate::proofs::Walking::visible_step))]
+#[tactic(auto, using(crate::proofs::Walking::visible_step, crate::proofs::Walking::column_seen))]
 pub fn is_visible(before: &[Line], header: &[Column], node: &Name, name: &Name) -> bool
     ensures { (names : FunctionNames) → result ≡ is_visible (scope_at names (scope_of header.now) (statements before.now) node.now) name.now }
 {
@@ -145,7 +135,7 @@ pub fn is_visible(before: &[Line], header: &[Column], node: &Name, name: &Name) 
     }
 }
 
-#[tactic(auto, using(crate::proofs::Beginning::place_within))]
+#[tactic(auto, using(crate::proofs::Walking::position_within))]
 fn place_of(columns: &[Name], name: &Name) -> Option<usize>
     ensures value { result ≡ position (same name.now) columns.now }
     ensures within { IfSome result (λ i. i < length columns.now) }
@@ -178,7 +168,7 @@ fn own_count(statement: &Statement) -> usize
 }
 
 /// The version of a column at the node of a statement, after which there are so many.
-#[tactic(auto, using(crate::proofs::Beginning::place_is))]
+#[tactic(auto, using(crate::proofs::Walking::place_is))]
 fn own_version(statement: &Statement, first: usize, count: usize, name: &Name, over: usize) -> usize
     requires { first + length (own_columns statement.now) ≡ count }
     ensures { result ≡ own_version statement.now first name.now over }
@@ -250,7 +240,7 @@ pub(crate) fn list_start(lists: &[ListOf<Expr>], i: usize) -> usize
 }
 
 /// How many sites a statement has, at most so many.
-#[tactic(auto, using(crate::proofs::Beginning::all_lists))]
+#[tactic(auto, using(crate::proofs::Walking::all_lists))]
 pub fn own_site_total(statement: &Statement, most: usize) -> usize
     requires { own_site_total statement.now ≤ most }
     ensures { result ≡ own_site_total statement.now }
@@ -291,18 +281,6 @@ pub(crate) fn filter_sites(
     }
 }
 
-fn own_label(statement: &Statement) -> Option<&Label>
-    ensures { option_map (λ l. l.now) result ≡ own_label statement.now }
-{
-    match statement {
-        Statement::Filter {
-            label: Some(label),
-            ..
-        } => Some(label),
-        _ => None,
-    }
-}
-
 pub(crate) fn label_of(lines: &[Line], f: usize, count: usize) -> &Label
     requires all { count ≡ length (named_before (statements lines.now)) }
     requires within { f < count }
@@ -311,15 +289,18 @@ pub(crate) fn label_of(lines: &[Line], f: usize, count: usize) -> &Label
     let Some((last, rest)) = lines.split_first() else {
         unreachable!()
     };
-    match own_label(&last.statement) {
-        None => label_of(rest, f, count),
-        Some(label) => {
+    match &last.statement {
+        Statement::Filter {
+            label: Some(label),
+            ..
+        } => {
             if f == count - 1 {
                 label
             } else {
                 label_of(rest, f, count - 1)
             }
         }
+        _ => label_of(rest, f, count),
     }
 }
 
@@ -362,12 +343,6 @@ pub(crate) fn covered(
     } else {
         numbers(alloc, 0, count)
     }
-}
-
-pub(crate) fn is_among(names: &[Name], name: &Name) -> bool
-    ensures { result ≡ among name.now names.now }
-{
-    names.iter().any(|n| name.is(n))
 }
 
 /// The lines before the last Print that filled any results: the results that they book are filled.

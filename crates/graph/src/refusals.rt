@@ -6,6 +6,7 @@ ghost use Rattle.graph.specs.declared.refusals.Stop.TheVariants.{Memory as OutOf
 ghost use Rattle.graph.specs.declared.refusals.GraphRefusal.TheVariants as refusal;
 
 use rdf_values::{GraphCause, Memory};
+use std::alloc::AllocFailed;
 
 pub(crate) fn refuse_if(refused: bool, cause: GraphCause) -> Option<GraphCause>
     ensures { result ≡ refuse_if refused cause }
@@ -19,16 +20,12 @@ pub(crate) fn refuse_unless(holds: bool, cause: GraphCause) -> Option<GraphCause
     if holds { None } else { Some(cause) }
 }
 
+#[tactic(auto, using(crate::proofs::Walking::or_refusal))]
 pub(crate) fn first_of(refusals: &[Option<GraphCause>]) -> Option<GraphCause>
     ensures { result ≡ first_refusal refusals.now }
 {
-    let Some((first, rest)) = refusals.split_first() else {
-        return None;
-    };
-    match first {
-        Some(cause) => Some(*cause),
-        None => first_of(rest),
-    }
+    let (first, rest) = refusals.split_first()?;
+    (*first).or(first_of(rest))
 }
 
 pub(crate) fn stop_if(refusal: Option<GraphCause>) -> Result<(), Stop>
@@ -51,6 +48,14 @@ impl From<Memory> for Stop {
     ghost from_gives = { λ _ stop. stop ≡ OutOfMemory };
 
     fn from(_: Memory) -> Stop {
+        Stop::Memory
+    }
+}
+
+impl<T: Drop> From<AllocFailed<T>> for Stop {
+    ghost from_gives = { λ _ stop. stop ≡ OutOfMemory };
+
+    fn from(_: AllocFailed<T>) -> Stop {
         Stop::Memory
     }
 }

@@ -16,14 +16,14 @@ pub struct VarSet {
 
 impl VarSet {
     /// No numbers.
-    #[tactic(auto, using(crate::proofs::Bits::none_in))]
+    #[tactic(auto, using(crate::proofs::Listing::none_in))]
     pub fn empty() -> VarSet
         ensures { (v : ℕ) → has result v ≡ false }
     {
         VarSet { bits: 0 }
     }
 
-    #[tactic(auto, using(crate::proofs::Bits::more_in))]
+    #[tactic(auto, using(crate::proofs::Listing::more_in))]
     fn with(self, v: u32) -> VarSet
         requires { v < 128 }
         ensures { (u : ℕ) → has result u ≡ (nat_eq u v || has self u) }
@@ -34,7 +34,7 @@ impl VarSet {
     }
 
     /// The numbers of either set.
-    #[tactic(auto, using(crate::proofs::Bits::either_in))]
+    #[tactic(auto, using(crate::proofs::Listing::either_in))]
     pub fn union(self, other: VarSet) -> VarSet
         ensures { (v : ℕ) → has result v ≡ (has self v || has other v) }
     {
@@ -52,7 +52,7 @@ impl VarSet {
     }
 
     /// How many numbers are in the set.
-    #[tactic(auto, using(crate::proofs::Bits::counted_all))]
+    #[tactic(auto, using(crate::proofs::Listing::counted_all))]
     pub fn count(self) -> u32
         ensures members { result ≡ members_below self 128 }
         ensures bound { result ≤ 128 }
@@ -62,7 +62,7 @@ impl VarSet {
     }
 
     /// How many numbers of the set are below a number.
-    #[tactic(auto, using(crate::proofs::Bits::below_few, crate::proofs::Bits::counted, crate::proofs::Bits::one_at_least))]
+    #[tactic(auto, using(crate::proofs::Listing::below_few, crate::proofs::Listing::counted, crate::proofs::Listing::one_at_least))]
     pub fn count_below(self, v: u32) -> u32
         requires { v < 128 }
         ensures value { result ≡ members_below self v }

@@ -1,11 +1,8 @@
 // The tables that are kept while statements are booked.
-ghost use Rattle.std.specs.Prelude.{◌≤◌, length, ◌≡◌, ◌+◌, ◌++◌, [], false, map, IfOk, OnOk};
+ghost use Rattle.std.specs.Prelude.{◌≤◌, length, ◌≡◌, ◌+◌, [], map, IfOk, OnOk};
 ghost use Rattle.rdf_values.specs.{AreShortValues, FunctionNames};
-ghost use Rattle.graph.specs.Dependence.{AreSets};
-ghost use Rattle.graph.specs.Rows.{cell_rows};
 ghost use Rattle.graph.specs.ShortProof.{short-prop};
 
-use crate::copies::push;
 use crate::sets::VarSet;
 use crate::variations::Variations;
 use expr_check::Checked;
@@ -62,46 +59,29 @@ pub struct Tables {
     pub variations: Variations,
 }
 
-/// Appends the table's columns, numbered from n on.
-fn push_cells(versions: &mut Vec<Version>, n: u32, header: &[Column]) -> Result<(), Memory>
-    requires { n + length header.now ≤ 64 }
-    ensures { OnOk result (versions.new.items ≡ versions.old.items ++ cell_rows n header.now) }
-{
-    let Some((_, rest)) = header.split_first() else {
-        return Ok(());
-    };
-    push(versions, Version::Cell { col: n })?;
-    push_cells(versions, n + 1, rest)
-}
-
 fn kinds_of(alloc: Global, header: &[Column]) -> Result<Vec<ColType>, Memory>
     ensures { IfOk result (λ kinds. kinds.items ≡ map (λ c. c.kind) header.now) }
 {
     Ok(header.iter().map(|column| column.kind).collect(alloc)?)
 }
 
-#[tactic(auto, using(crate::proofs::Listing::no_sets))]
-fn empty_sets(alloc: Global, header: &[Column]) -> Result<Vec<VarSet>, Memory>
-    ensures { IfOk result (λ sets. AreSets (map (λ _ v. false) header.now) sets.items) }
-{
-    let sets = vec![in alloc; VarSet::empty(); header.len()]?;
-    Ok(sets)
-}
-
 impl Tables {
     ghost use Rattle.graph.specs.{AreTables, GrowBy, IsEmptyGain};
 
     /// The tables before the first statement.
+    #[tactic(auto, using(crate::proofs::Listing::no_sets, crate::proofs::Listing::cells_more))]
     pub fn start(alloc: Global, header: &[Column]) -> Result<Tables, Memory>
         requires few { length header.now ≤ 64 }
         ensures { IfOk result (λ t. (names : FunctionNames) → AreTables header.now names [] t) }
     {
         let mut versions = Vec::new(alloc);
-        push_cells(&mut versions, 0, header)?;
+        for col in 0..header.len() as u32 {
+            versions.push(Version::Cell { col })?;
+        }
         Ok(Tables {
             versions,
             kinds: kinds_of(alloc, header)?,
-            version_sets: empty_sets(alloc, header)?,
+            version_sets: vec![in alloc; VarSet::empty(); header.len()]?,
             ..Tables::empty(alloc)
         })
     }

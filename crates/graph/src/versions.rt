@@ -1,10 +1,9 @@
 // The versions that the table and a Vary make.
-ghost use Rattle.std.specs.Prelude.{◌≡◌, ◌≤◌, ◌+◌, ◌++◌, length, IfOk, OnOk, ◌<◌, List, Some, slice_get, MatchOption, ℕ};
+ghost use Rattle.std.specs.Prelude.{◌≡◌, length, IfOk, ◌<◌, List, Some, slice_get};
 ghost use Rattle.graph.specs.{named_version_before, sites_so_far, variation_count, versions_changed, AreAbove, AreSourcesOf, HasSites};
 ghost use Rattle.graph_numbers.specs.{Source, tag_source, varied_version};
 
 use crate::before::Before;
-use crate::copies::push;
 use crate::lookup::{at, list_start, numbers};
 use crate::tables::Change;
 use graph_numbers::{Source, Version};
@@ -40,21 +39,18 @@ fn varied_version(
     })
 }
 
-pub(crate) fn push_varied(
-    versions: &mut Vec<Version>,
+/// The versions that a Vary makes, one for each column.
+pub(crate) fn varied_versions(
     before: &Before<'_>,
     change: &Change<'_>,
-    i: usize,
-    columns: &[Name],
-) -> Result<(), Memory>
-    requires { i + length columns.now ≤ 65536 }
-    ensures { OnOk result (versions.new.items ≡ versions.old.items ++ versions_changed before.now change.now i columns.now) }
+) -> Result<Vec<Version>, Memory>
+    ensures { IfOk result (λ versions. versions.items ≡ versions_changed before.now change.now 0 change.now.columns.now) }
 {
-    let Some((column, rest)) = columns.split_first() else {
-        return Ok(());
-    };
-    push(versions, varied_version(before, change, i, column)?)?;
-    push_varied(versions, before, change, i + 1, rest)
+    let mut versions = Vec::new(before.alloc);
+    for (i, column) in change.columns.iter().enumerate() {
+        versions.push(varied_version(before, change, i, column)?)?;
+    }
+    Ok(versions)
 }
 
 fn tag_source(sites: &[u32], vector: bool, tags: u32, k: u32) -> Source

@@ -1,20 +1,18 @@
 -- No two sites of an accepted script have one node and places, and no two variations one name and tag.
-use Rattle.std.proofs.Common.{◌≡◌, ◌≢◌, ℕ, zero, suc, ◌+◌, ◌<◌, ◌≤◌, Bool, true, false, ◌&&◌, List, [], ◌∷◌, ◌++◌, map, Option, Some, None, refl, sym, ◌∙◌, ap, arith, nat_eq, slice_get}
-use Rattle.lemmas.proofs.{and_holds, and_left_false, and_right_false, Decides-eqb, eq_itself, list_any, neither, never_true, or_left, or_right, slice_get_within}
+use Rattle.lemmas.proofs.{◌≡◌, ◌≢◌, ℕ, zero, suc, ◌+◌, ◌<◌, ◌≤◌, Bool, true, false, ◌&&◌, List, [], ◌∷◌, ◌++◌, map, Option, Some, None, refl, sym, ◌∙◌, ap, arith, nat_eq, slice_get, and_from, and_left_false, and_right_false, Decides-eqb, eq_itself, list_any, or_parts, false_from_ne_true, or_left, or_right, slice_get_within}
 use Rattle.rdf_values.specs.{AreAccepted, check, check_node, Column, first_refusal, FunctionNames, GraphCause, is_variation_name, makes, NamedTree, own_variations, place, repeats, same, same_variation, scope_of, Statement, Variation, variations, VaryValues}
 use Rattle.rdf_values.specs.declared.scripts.statement.Statement.TheVariants.{Vary}
 use Rattle.rdf_model.specs.{same_site, Site}
 use Rattle.rdf_model.proofs.Accepted.{all_none, both_none, if_fails, names_equal, itself, turned}
 use Rattle.graph_numbers.specs.{list_sites, lists_sites, own_sites, SiteAt, sites}
-use Rattle.graph_numbers.proofs.Walks.{by_test, joined, only_at}
+use Rattle.graph_numbers.proofs.Placing.{by_test, joined, only_at}
 
 -- ---- lists without two elements that are alike
 
 place_is : {A : Type 0} (test : A → Bool) (xs : List A) (s : ℕ) (x : A) → slice_get xs s ≡ Some x → test x ≡ true → ((t : ℕ) (y : A) → t < s → slice_get xs t ≡ Some y → test y ≡ false) → place test xs ≡ Some s
-place_is test [] s x h k before = cc h
-place_is test (y ∷ xs) zero x h k before = grind arith
 place_is test (y ∷ xs) (suc s) x h k before =
     let e = before 0 y (omega arith) refl in grind (arith, e, place_is test xs s x h k (λ t z l q. before (suc t) z (omega (arith, l)) q))
+place_is test xs s x h k before = grind arith
 
 abbrev pub AreApart : {A : Type 0} → (A → A → Bool) → List A → Type 0
 AreApart {A} alike xs = (s t : ℕ) (x y : A) → t < s → slice_get xs s ≡ Some x → slice_get xs t ≡ Some y → alike x y ≡ false
@@ -32,16 +30,13 @@ one_apart alike a s t x y lt h k = let l = slice_get_within (a ∷ []) s x h in 
 -- ---- sites that differ
 
 pub eq_false : (m n : ℕ) → m ≢ n → nat_eq m n ≡ false
-eq_false m n h = never_true (nat_eq m n) (λ e. h ((Decides-eqb m n).0 e))
-
-other_node : (a b : Site) → same a.node b.node ≡ false → same_site a b ≡ false
-other_node a b h = rw h refl
+eq_false m n h = false_from_ne_true (nat_eq m n) (λ e. h ((Decides-eqb m n).0 e))
 
 other_column : (a b : Site) → a.column ≢ b.column → same_site a b ≡ false
 other_column a b h = and_left_false (same a.node b.node && nat_eq a.column b.column) _ (and_right_false (same a.node b.node) _ (eq_false a.column b.column h))
 
 same_itself : (a : Site) → same_site a a ≡ true
-same_itself a = and_holds (same a.node a.node && nat_eq a.column a.column) _ (and_holds (same a.node a.node) _ (itself a.node) (eq_itself a.column)) (eq_itself a.tag)
+same_itself a = and_from (same a.node a.node && nat_eq a.column a.column) _ (and_from (same a.node a.node) _ (itself a.node) (eq_itself a.column)) (eq_itself a.tag)
 
 abbrev alike : SiteAt → SiteAt → Bool
 alike x y = same_site x.site y.site
@@ -70,18 +65,15 @@ module _ (header : List Column) (names : FunctionNames) where
         (λ q. let p = list_places i 0 l es x q in (p.0, (let e = p.1 in omega (arith, e))))
         (λ k e q. let p = lists_places (suc i) k lists x q in (p.0, (let d = p.1 in omega (arith, d))))
 
-    list_apart : (i k : ℕ) (es : List NamedTree) → AreApart alike (of_list i k es)
-    list_apart i k es = grind (arith, and_right_false, eq_false, list_places)
-
     lists_apart : (i : ℕ) (lists : List (List NamedTree)) → AreApart alike (of_lists i lists)
     lists_apart i [] s t x y lt h k = cc h
     lists_apart i (es ∷ lists) s t x y lt h k =
-        both_apart alike (of_list i 0 es) (of_lists (suc i) lists) (list_apart i 0 es) (lists_apart (suc i) lists)
+        both_apart alike (of_list i 0 es) (of_lists (suc i) lists) (grind (arith, and_right_false, eq_false, list_places)) (lists_apart (suc i) lists)
         (λ m t x y p q. other_column x.site y.site (λ e. let a = (lists_places (suc i) m lists x p).1 in let b = (list_places i 0 t es y q).1 in absurd (omega (arith, a, b, e)))) s t x y lt h k
 
   -- a node that was checked is new
   pub is_new : (before : List Statement) (node parent : List ℕ) (rest : List (Option GraphCause)) → first_refusal (check_node before node parent ∷ rest) ≡ None → MadeBy before node ≡ false
-  is_new before node parent rest ok = grind (arith, both_none, if_fails, neither)
+  is_new before node parent rest ok = grind (arith, both_none, if_fails, or_parts)
 
   -- the node is the statement's own, and new
   abbrev IsOwn : List Statement → Statement → List ℕ → Type 0
@@ -99,16 +91,13 @@ module _ (header : List Column) (names : FunctionNames) where
   site_made [] good s x h = cc h
   site_made (t ∷ before) good s x h = joined _ _ s x h (λ q. or_right _ _ (site_made before good.1 s x q)) (λ k e q. or_left _ _ (own_node before t k x good.0 q).0)
 
-  own_apart : (before : List Statement) (s : Statement) → AreApart alike (own_sites header names before s)
-  own_apart before s = grind (arith, one_apart, lists_apart)
-
   -- two sites differ
   apart : (before : List Statement) → AreAccepted names (scope_of header) before → AreApart alike (sites header names before)
   apart [] good s t x y lt h k = cc h
   apart (st ∷ before) good s t x y lt h k =
-      both_apart alike (sites header names before) (own_sites header names before st) (apart before good.1) (own_apart before st)
+      both_apart alike (sites header names before) (own_sites header names before st) (apart before good.1) (grind (arith, one_apart, lists_apart))
       (λ m n a b p q. by_test (same a.site.node b.site.node)
-      (λ e. cc (sym (site_made before good.1 n b q) ∙ ap (MadeBy before) (sym (names_equal a.site.node b.site.node e)) ∙ (own_node before st m a good.0 p).1)) (other_node a.site b.site))
+      (λ e. cc (sym (site_made before good.1 n b q) ∙ ap (MadeBy before) (sym (names_equal a.site.node b.site.node e)) ∙ (own_node before st m a good.0 p).1)) (λ h. rw h refl))
       s t x y lt h k
 
   -- a site's number is its place by its node, column and tag
@@ -120,29 +109,25 @@ module _ (header : List Column) (names : FunctionNames) where
 
 pub any_false : {A : Type 0} (p : A → Bool) (xs : List A) (k : ℕ) (a : A) → list_any p xs ≡ false → slice_get xs k ≡ Some a → p a ≡ false
 any_false p [] k a h q = cc q
-any_false p (x ∷ xs) k a h q = grind (arith, neither, any_false p xs)
+any_false p (x ∷ xs) k a h q = grind (arith, or_parts, any_false p xs)
 
 pub other_way : (a b : List ℕ) → same a b ≡ false → same b a ≡ false
 other_way a b h = turned b a ∙ h
 
 tags_apart : (tags : List (List ℕ)) → repeats tags ≡ false → AreApart same tags
 tags_apart [] h m n a b lt p q = cc p
-tags_apart (x ∷ xs) h (suc m) zero a b lt p q = grind (arith, other_way, any_false, neither)
-tags_apart (x ∷ xs) h m n a b lt p q = grind (arith, neither, tags_apart xs)
+tags_apart (x ∷ xs) h (suc m) zero a b lt p q = grind (arith, other_way, any_false, or_parts)
+tags_apart (x ∷ xs) h m n a b lt p q = grind (arith, or_parts, tags_apart xs)
 
 pub of_tags : (tags : List (List ℕ)) (name : List ℕ) (k : ℕ) (x : Variation) → slice_get (map (λ t. record { name = name; tag = t }) tags) k ≡ Some x → (x.name ≡ name) × (slice_get tags k ≡ Some x.tag)
-of_tags [] name k x h = cc h
-of_tags (t ∷ tags) name zero x h = grind arith
 of_tags (t ∷ tags) name (suc k) x h = of_tags tags name k x h
+of_tags tags name k x h = grind arith
 
 module _ (header : List Column) (names : FunctionNames) where
   -- what was checked of a Vary's tags
   pub tags_checked : (before : List Statement) (node parent vary : List ℕ) (columns tags : List (List ℕ)) (values : VaryValues) → check names (scope_of header) before (Vary node parent columns values tags vary) ≡ None
       → (repeats tags ≡ false) × (is_variation_name before vary ≡ false)
   tags_checked before node parent vary columns tags values ok = grind (arith, all_none, if_fails)
-
-  own_variations_apart : (before : List Statement) (s : Statement) → check names (scope_of header) before s ≡ None → AreApart same_variation (own_variations s)
-  own_variations_apart before s ok = grind (arith, and_right_false, tags_apart, all_none, if_fails, of_tags)
 
   own_variation_new : (before : List Statement) (s : Statement) (m n : ℕ) (x y : Variation) → check names (scope_of header) before s ≡ None → slice_get (own_variations s) m ≡ Some x → slice_get (variations before) n ≡ Some y → same_variation x y ≡ false
   own_variation_new before (Vary node parent columns values tags vary) m n x y ok p q =
@@ -152,9 +137,9 @@ module _ (header : List Column) (names : FunctionNames) where
   variations_apart : (before : List Statement) → AreAccepted names (scope_of header) before → AreApart same_variation (variations before)
   variations_apart [] good s t x y lt h k = cc h
   variations_apart (st ∷ before) good s t x y lt h k =
-      both_apart same_variation (variations before) (own_variations st) (variations_apart before good.1) (own_variations_apart before st good.0)
+      both_apart same_variation (variations before) (own_variations st) (variations_apart before good.1) (grind (arith, and_right_false, tags_apart, all_none, if_fails, of_tags, good.0))
       (λ m n a b p q. own_variation_new before st m n a b good.0 p q) s t x y lt h k
 
   -- a variation's number is its place by its name and tag
   pub variation_number : (before : List Statement) → AreAccepted names (scope_of header) before → (v : ℕ) (x : Variation) → slice_get (variations before) v ≡ Some x → place (same_variation x) (variations before) ≡ Some v
-  variation_number before good v x h = grind (arith, place_is, and_holds, itself, variations_apart)
+  variation_number before good v x h = grind (arith, place_is, and_from, itself, variations_apart)

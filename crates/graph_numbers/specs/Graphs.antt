@@ -3,9 +3,7 @@ use Rattle.std.specs.Prelude.{◌≡◌, ℕ, Bool, false, List, map, All, Optio
 use Rattle.rdf_values.specs.{ColType, Column, FunctionNames, GraphCause, history, IsBookable, IsHeader, result_depends, Script, Statement, Under, Variation, variations, verdict}
 use Rattle.rdf_model.specs.{Access, accesses}
 use Rattle.expr_check.specs.{CallsFit, CheckedExpr, IsWellTyped}
-use Rattle.graph_numbers.specs.Sites.{SiteAt, sites, depends_on}
-use Rattle.graph_numbers.specs.Sources.{sources, versions}
-use Rattle.graph_numbers.specs.Versions.{version_kinds}
+use Rattle.graph_numbers.specs.Sites.{SiteAt, sites, depends_on, sources, versions, version_kinds}
 use Rattle.graph_numbers.specs.Results.{FilterAt, ResultAt, filters, results, loops, runs, result_number, under_at}
 use Rattle.graph_numbers.specs.declared.pass.Pass.{Pass as NumberedPass}
 use Rattle.graph_numbers.specs.declared.version.Source.{Source}
@@ -90,8 +88,6 @@ site_depends_at g s v = holds_at (λ x. holds_at (depends_on x) (slice_get (grap
 -- the result of that number depends on the variation of that number
 abbrev pub result_depends_at : GraphView → ℕ → ℕ → Bool
 result_depends_at g r v = holds_at (λ (x : ResultAt). holds_at (λ w. result_depends w x.booked.booking) (slice_get (graph_variations g) v)) (slice_get (graph_results g) r)
-
--- ---- a site's expression
 
 -- the expression over versions, with the kinds of the versions that it reads and its own
 pub record IsSiteExpr (g : GraphView) (s : ℕ) (e : CheckedExpr) : Type 0 where

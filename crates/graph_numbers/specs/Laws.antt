@@ -3,11 +3,8 @@ use Rattle.std.specs.Prelude.{◌≡◌, ◌<◌, ℕ, List, length, map, Option
 use Rattle.rdf_values.specs.{ActionAt, ActionKind, bookings, ColType, column_kind, EachColumn, fn_names, history, named_before, Path, path, place, ReportOn, same_variation, scope_at, scope_of, Script, Under, Value, Variation}
 use Rattle.rdf_model.specs.{Access, accesses, booking_outcome, call_outcome, column_value, Dataset, evaluate, loop_passes, loop_results, Outcome, same_site}
 use Rattle.graph_numbers.specs.Graphs.{GraphView, IsGraph, graph_filters, graph_loops, graph_results, graph_runs, graph_sites, graph_sources, graph_variations, graph_versions}
-use Rattle.graph_numbers.specs.Outcomes.{booking_numbers}
-use Rattle.graph_numbers.specs.Results.{FilterAt, ResultAt, pass_at}
-use Rattle.graph_numbers.specs.Sites.{SiteAt, condition_in, conditions_on, site_outcome}
-use Rattle.graph_numbers.specs.Sources.{IsBelow, IsSourceOf, site_value, source_in, source_value, sources}
-use Rattle.graph_numbers.specs.Versions.{version_at}
+use Rattle.graph_numbers.specs.Results.{booking_numbers, FilterAt, ResultAt, pass_at}
+use Rattle.graph_numbers.specs.Sites.{SiteAt, condition_in, conditions_on, site_outcome, IsBelow, IsSourceOf, site_value, source_in, source_value, sources, version_at}
 use Rattle.graph_numbers.specs.declared.version.Source.{Source}
 use Rattle.graph_numbers.specs.declared.version.Version.{Version}
 

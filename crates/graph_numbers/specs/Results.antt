@@ -1,11 +1,9 @@
 -- The results, named filters and loops of a script by numbers.
-use Rattle.std.specs.Prelude.{ℕ, suc, Bool, not, List, [], ◌∷◌, ◌++◌, map, length, Option, Some, None, if◌then◌else◌, slice_get, option_map}
-use Rattle.rdf_values.specs.{ActionAt, among, Booked, Booking, bookings, Column, columns_of, covered, filled, FunctionNames, has_variations, makes, named_before, parent_of, Pass, Path, path, place, ReportOn, result_depends, same, Statement, Under, variations}
+use Rattle.std.specs.Prelude.{ℕ, suc, Bool, not, List, [], ◌∷◌, ◌++◌, map, length, Option, Some, None, if◌then◌else◌, slice_get, option_map, true, false}
+use Rattle.rdf_values.specs.{ActionAt, among, Booked, Booking, bookings, Column, columns_of, covered, filled, FunctionNames, has_variations, makes, named_before, parent_of, Pass, Path, path, place, ReportOn, result_depends, same, Statement, Under, variations, ActionKind, NamedTree, Value}
 use Rattle.rdf_values.specs.declared.scripts.statement.Statement.TheVariants.{Filter, Action, Report, Print}
-use Rattle.rdf_model.specs.{loop_results}
-use Rattle.graph_numbers.specs.Versions.{version_at}
-use Rattle.graph_numbers.specs.Sites.{filter_sites, site_count}
-use Rattle.graph_numbers.specs.Sources.{numbers_from}
+use Rattle.rdf_model.specs.{loop_results, ◌>>=◌, Entry, feed_outcome, for_all, Gives, Outcome, Skip, truth_of}
+use Rattle.graph_numbers.specs.Sites.{version_at, filter_sites, site_count, numbers_from}
 use Rattle.graph_numbers.specs.declared.pass.ResultKind.{ResultKind}
 use Rattle.graph_numbers.specs.declared.pass.Pass.{Pass as NumberedPass}
 
@@ -65,15 +63,18 @@ kind_of_booking (ReportOn filters) = ResultKind.Report
 
 -- over a table with these columns, with the caller's functions
 module _ (header : List Column) (names : FunctionNames) where
-  -- the named filters of a statement after those before it
-  abbrev pub own_filters : List Statement → Statement → List FilterAt
-  own_filters before (Filter node parent expr (Some label)) =
+  -- a named filter of that node after the statements before it
+  abbrev pub filter_at : List Statement → List ℕ → List ℕ → NamedTree → List ℕ → FilterAt
+  filter_at before node parent expr label =
       record {
         label = label;
         at = Filter node parent expr (Some label) ∷ path before parent;
         sites = filter_sites header names before parent ++ site_count header names before ∷ [];
       }
-      ∷ []
+
+  -- the named filters of a statement after those before it
+  abbrev pub own_filters : List Statement → Statement → List FilterAt
+  own_filters before (Filter node parent expr (Some label)) = filter_at before node parent expr label ∷ []
   own_filters before s = []
 
   -- the named filters of the statements so far, in the order of booking
@@ -81,24 +82,30 @@ module _ (header : List Column) (names : FunctionNames) where
   filters [] = []
   filters (s ∷ before) = filters before ++ own_filters before s
 
-  -- the results of a statement after those before it
-  abbrev pub own_results : List Statement → Statement → List ResultAt
-  own_results before (Action result parent k) =
+  -- the result of an action on a node after the statements before it
+  abbrev pub action_at : List Statement → List ℕ → List ℕ → ActionKind → ResultAt
+  action_at before result parent k =
       record {
         booked = record { name = result; booking = ActionAt k (path before parent) };
         filters = filter_sites header names before parent;
         inputs = map (version_at header before parent) (columns_of k);
         covers = [];
       }
-      ∷ []
-  own_results before (Report result parent) =
+
+  -- and that of a Report
+  abbrev pub report_at : List Statement → List ℕ → List ℕ → ResultAt
+  report_at before result parent =
       record {
         booked = record { name = result; booking = ReportOn (covered before (path before parent)) };
         filters = filter_sites header names before parent;
         inputs = [];
         covers = covered_at before parent;
       }
-      ∷ []
+
+  -- the results of a statement after those before it
+  abbrev pub own_results : List Statement → Statement → List ResultAt
+  own_results before (Action result parent k) = action_at before result parent k ∷ []
+  own_results before (Report result parent) = report_at before result parent ∷ []
   own_results before s = []
 
   -- the results of the statements so far, in the order of booking
@@ -153,3 +160,31 @@ own_run before s = []
 abbrev pub runs : List Statement → List (Option ℕ)
 runs [] = []
 runs (s ∷ before) = runs before ++ own_run before s
+
+-- ---- what an entry comes to in a pass, by the numbers of its filters' sites and of the versions that it reads
+
+-- with what each site comes to
+module _ {M : Type 0} (site : ℕ → Outcome M Value) where
+  -- the entry passes the filters of these sites, head first
+  abbrev pub through_sites : List ℕ → Outcome M Bool
+  through_sites [] = Gives true
+  through_sites (s ∷ ss) = site s >>= truth_of >>= λ passed. if passed then through_sites ss else Gives false
+
+  -- the named filter of that number; nothing is tried where there is none
+  abbrev pub through_filter : Option FilterAt → Outcome M Bool
+  through_filter None = Gives true
+  through_filter (Some f) = through_sites f.sites
+
+  -- the named filters of these numbers in order, each with those above it
+  abbrev pub report_numbers : List FilterAt → List ℕ → Outcome M Entry
+  report_numbers filters [] = Gives Skip
+  report_numbers filters (f ∷ fs) = through_filter (slice_get filters f) >>= λ passed. report_numbers filters fs
+
+-- an action, with what each site and each version comes to: skipped where its filters stop the entry, and otherwise its versions in order
+abbrev pub action_numbers : {M : Type 0} → (ℕ → Outcome M Value) → (ℕ → Outcome M Value) → ActionKind → ResultAt → Outcome M Entry
+action_numbers site version k r = through_sites site r.filters >>= λ passed. if passed then for_all version r.inputs >>= feed_outcome k else Gives Skip
+
+-- a result of that booking: an action by its filters and versions, a report by the filters that it covers, tried under nominal
+abbrev pub booking_numbers : {M : Type 0} → (ℕ → Outcome M Value) → (ℕ → Outcome M Value) → (ℕ → Outcome M Value) → List FilterAt → ResultAt → Booking → Outcome M Entry
+booking_numbers nominal site version filters r (ActionAt k at) = action_numbers site version k r
+booking_numbers nominal site version filters r (ReportOn paths) = report_numbers nominal filters r.covers

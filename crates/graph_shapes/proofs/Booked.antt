@@ -1,16 +1,13 @@
 -- What was booked: the kind of the column that a Take reads, how many cells a histogram has, and how many filters a report.
-use Rattle.std.proofs.Common.{◌≡◌, ◌⊎◌, inl, inr, ℕ, zero, suc, ◌+◌, ◌*◌, ◌≤◌, Bool, true, false, List, [], ◌∷◌, ◌++◌, length, map, Option, Some, None, Ok, refl, ap, subst, arith, length-append, if◌then◌else◌, nat_lt, slice_get, sum_by}
+use Rattle.lemmas.proofs.{◌≡◌, ◌⊎◌, inl, inr, ℕ, zero, suc, ◌+◌, ◌*◌, ◌≤◌, Bool, true, false, List, [], ◌∷◌, ◌++◌, length, map, Option, Some, None, Ok, refl, ap, subst, arith, length-append, if◌then◌else◌, nat_lt, slice_get, sum_by, nat_tests, sum_by-cons}
 use Rattle.std.specs.Prelude.{⊤}
-use Rattle.lemmas.proofs.{nat_tests, sum_by-cons}
 use Rattle.rdf_values.specs.{ActionAt, ActionKind, AreAccepted, Booked, booked_by, Booking, bookings, cells_of, check_columns, check_edges, check_node, check_passes, check_results, ColType, Column, column_kind, columns_of, covered, FunctionNames, GraphCause, kind_or_int, makes, named_on, over_passes, parent_of, passes_of, Path, path, permitted_kinds, refuse_if, ReportOn, Scope, scope_at, scope_of, Statement, takes_of, visible_columns}
 use Rattle.rdf_values.specs.declared.scripts.statement.Statement.TheVariants.{Action, Alias, Define, Filter, Print, Redefine, Report, VariationsFor, Vary, Watch}
 use Rattle.rdf_model.proofs.Accepted.{both_none, if_fails}
 use Rattle.graph_numbers.specs.{covered_at, filter_sites, own_results, ResultAt, results, version_at, version_kinds}
-use Rattle.graph_numbers.proofs.Placing.{Extends, shorter}
-use Rattle.graph_numbers.proofs.Walks.{of_joined}
-use Rattle.graph_numbers.proofs.Meeting.{kind_later, visible_kind}
+use Rattle.graph_numbers.proofs.Placing.{Extends, shorter, of_joined, kind_later, visible_kind}
 use Rattle.shard_runs.specs.{first_kind}
-use Rattle.graph.proofs.SiteTotals.{named_few}
+use Rattle.graph.proofs.Finished.{named_few}
 use Rattle.shard_runs.proofs.Takes.{column_known}
 
 -- ---- the checks of an action

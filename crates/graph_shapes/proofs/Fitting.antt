@@ -1,7 +1,6 @@
 -- Joined loops are printed for the graph whose shapes their files have.
-use Rattle.std.proofs.Common.{◌≡◌, ℕ, zero, suc, ◌<◌, ◌≤◌, ◌+◌, Bool, cond, true, false, not, ◌&&◌, List, [], ◌∷◌, length, map, Option, None, Some, Result, Ok, refl, sym, ap, ◌∙◌, subst, arith, if◌then◌else◌, nat_lt, option_map, slice_get, unwrap_or}
+use Rattle.lemmas.proofs.{◌≡◌, ℕ, zero, suc, ◌<◌, ◌≤◌, ◌+◌, Bool, cond, true, false, not, ◌&&◌, List, [], ◌∷◌, length, map, Option, None, Some, Result, Ok, refl, sym, ap, ◌∙◌, subst, arith, if◌then◌else◌, nat_lt, option_map, slice_get, unwrap_or, and_right, length-map, ltb-true, position_from, position_from-zero, slice_get-map}
 use Rattle.std.specs.Prelude.{⊤}
-use Rattle.lemmas.proofs.{and_right, length-map, lt_says, position_from, position_from-zero, slice_get-map}
 use Rattle.rdf_values.specs.{Booked, Fault}
 use Rattle.rdf_model.specs.{loop_passes, loop_results}
 use Rattle.graph_numbers.specs.{booked_statements, GraphView}
@@ -69,7 +68,7 @@ HaveLoops shapes (f ∷ fs) = (are_loops shapes f ≡ true) × HaveLoops shapes 
 first_fits : (ss : List PassShape) (shapes : List (List PassShape)) (f : List ShardLoop) → are_loops (ss ∷ shapes) f ≡ true → FitsFault (length ss) (first_loop f)
 first_fits ss shapes [] h = tt
 first_fits ss shapes (Whole ps ∷ ls) h = tt
-first_fits ss shapes (Faulted f ∷ ls) h = lt_says f.pass (length ss) h
+first_fits ss shapes (Faulted f ∷ ls) h = ltb-true f.pass (length ss) h
 
 all_first : (ss : List PassShape) (shapes : List (List PassShape)) (files : List (List ShardLoop)) → HaveLoops (ss ∷ shapes) files → AllFit (length ss) (map first_loop files)
 all_first ss shapes [] h = tt

@@ -1,12 +1,11 @@
 -- The shapes of a loop, pass by pass, and of a graph, loop by loop.
-use Rattle.std.proofs.Common.{◌≡◌, ◌≤◌, ◌<◌, ◌+◌, ℕ, List, [], ◌∷◌, ◌++◌, length, map, take, Option, Some, sym, ap, ap₂, ◌∙◌, arith, option_map, slice_get, unwrap_or}
+use Rattle.lemmas.proofs.{◌≡◌, ◌≤◌, ◌<◌, ◌+◌, ℕ, List, [], ◌∷◌, ◌++◌, length, map, take, Option, Some, sym, ap, ap₂, ◌∙◌, arith, option_map, slice_get, unwrap_or, slice_get-map, something_at, take_next}
 use Rattle.std.proofs.lemmas.List.{length-map, map-append, take_all}
-use Rattle.lemmas.proofs.{slice_get-map, something_at, take_next}
 use Rattle.rdf_values.specs.{Booked, ColType, Pass}
 use Rattle.rdf_model.specs.{loop_passes, loop_results}
 use Rattle.graph_numbers.specs.{booked_statements, graph_loops, GraphView, pass_at}
 use Rattle.graph_numbers.proofs.Placing.{itself}
-use Rattle.graph_numbers.proofs.Looping.{loops_are}
+use Rattle.graph_numbers.proofs.Covering.{loops_are}
 use Rattle.result_text.specs.{passes_at}
 use Rattle.shard_lines.specs.{booking_shape, PassShape}
 use Rattle.shard_spans.specs.{loops_of, pass_shapes}

@@ -1,11 +1,10 @@
 -- The shape of a pass by its numbers.
-use Rattle.std.proofs.Common.{◌≡◌, ℕ, ◌≤◌, List, [], length, map, Option, None, Some, refl, sym, ap, ◌∙◌, subst, arith, option_map, slice_get, unwrap_or}
-use Rattle.lemmas.proofs.{length-map, length-reverse, same_some, slice_get-map}
+use Rattle.lemmas.proofs.{◌≡◌, ℕ, ◌≤◌, List, [], length, map, Option, None, Some, refl, sym, ap, ◌∙◌, subst, arith, option_map, slice_get, unwrap_or, length-map, length-reverse, same_some, slice_get-map}
 use Rattle.rdf_values.specs.{ActionAt, ActionKind, AreAccepted, Booked, Booking, bookings, cells_of, ColType, history, Line, named_before, Pass, Path, ReportOn, scope_of}
 use Rattle.rdf_model.proofs.Accepted.{verdict_is_the_first_refusal}
 use Rattle.graph_numbers.specs.{booked_statements, graph_results, GraphView, IsGraph, kind_of_booking, Pass as NumberedPass, ResultAt, ResultKind}
 use Rattle.graph_numbers.proofs.Placing.{itself}
-use Rattle.graph_numbers.proofs.Resulting.{booked_are}
+use Rattle.graph_numbers.proofs.Covering.{booked_are}
 use Rattle.result_text.specs.{passes_at}
 use Rattle.result_text.proofs.PassLines.{IsPassAt}
 use Rattle.shard_lines.specs.{action_shape, booking_shape, PassShape}

@@ -1,16 +1,11 @@
 -- What a cell of two axes holds after one more point, and rows kept in one list.
-use Rattle.std.proofs.Common.{ℕ, suc, ◌≡◌, ◌+◌, ◌*◌, ◌<◌, ◌≤◌, length, get_or, set, map, take, drop, List, [], ◌∷◌, ◌++◌, ℤ, pos, ◌*ℤ◌, arith, refl, ap, sym, ◌∙◌, ⊎_elim, length-drop, flat_map}
-use Rattle.lemmas.proofs.{+ℤ_idl, append-nil, cases_eq, eq-eqb, flat_map-append, get_or-drop, get_or-map, get_or-set_other, get_or-set_same, get_or-take, length-map, length-set, length-take-le, ne_eqb, rows, same_from_place, same_lists}
+use Rattle.lemmas.proofs.{ℕ, suc, ◌≡◌, ◌+◌, ◌*◌, ◌<◌, ◌≤◌, length, get_or, set, map, take, drop, List, [], ◌∷◌, ◌++◌, ℤ, pos, arith, refl, ap, sym, ◌∙◌, length-drop, flat_map, drop-map, eq-eqb, eqb_tells, get_or-drop, get_or-take, length-map, length-set, length-take-le, rows, same_from_place, take-map}
 use Rattle.rdf_values.proofs.UnionLemmas.{map-below}
 use Rattle.rdf_values.specs.{bin, cells_on, Item, square_cell, weight_in2}
 use Rattle.rdf_values.specs.declared.results.Item.TheVariants.{Point2}
-use Rattle.rdf_values.specs.results.Fold.{Cell, cell_of}
+use Rattle.rdf_values.specs.results.Fold.{Cell}
 use Rattle.histograms.specs.{cell_seen, CellSum, rows_on, square_cells, together, with_weight}
-use Rattle.histograms.proofs.Filling.{cell_of-append, get_or-cells_on, joined, length-cells_on}
-
--- functions that agree at each cell give the same list
-map-cells_on : {X : Type 0} (f g : ℕ → X) (edges : List ℤ) → ((i : ℕ) → i ≤ length edges → f i ≡ g i) → map f (cells_on edges) ≡ map g (cells_on edges)
-map-cells_on f g edges h = map-below (suc (length edges)) f g (λ i l. h i (omega arith))
+use Rattle.histograms.proofs.Filling.{AreOf, from_places, get_or-cells_on, kept_at, length-cells_on, of_both, with_item}
 
 -- the places of the row i lie in the list
 row_within : (w h i j : ℕ) → i ≤ h → j < w → i * w + j < (h + 1) * w
@@ -20,81 +15,52 @@ row_fits : (w h i : ℕ) → i ≤ h → i * w + w ≤ (h + 1) * w
 row_fits w h i a = grind (arith, rows)
 
 module _ (xs ys : List ℤ) where
+  -- a row, as it is kept
+  row_kept : (cells : List CellSum) (i : ℕ) → take (length ys + 1) (drop (i * (length ys + 1)) (map cell_seen cells)) ≡ map cell_seen (take (length ys + 1) (drop (i * (length ys + 1)) cells))
+  row_kept cells i = ap (take (length ys + 1)) (drop-map cell_seen (i * (length ys + 1)) cells) ∙ take-map cell_seen (length ys + 1) (drop (i * (length ys + 1)) cells)
+
+  row_long : (cells : List CellSum) (i : ℕ) → length cells ≡ (length xs + 1) * (length ys + 1) → i ≤ length xs → length (take (length ys + 1) (drop (i * (length ys + 1)) cells)) ≡ length ys + 1
+  row_long cells i size l = grind (arith, row_fits, length-drop, length-take-le)
+
+  -- a cell of two axes by its place
+  row_place : (cells : List CellSum) (i j : ℕ) (d : CellSum) → j ≤ length ys → get_or (take (length ys + 1) (drop (i * (length ys + 1)) cells)) j d ≡ get_or cells (i * (length ys + 1) + j) d
+  row_place cells i j d m = grind (arith, get_or-take, get_or-drop)
+
+  abbrev Within2 : ℕ × ℕ → Type 0
+  Within2 p = (p.0 ≤ length xs) × (p.1 ≤ length ys)
+
+  abbrev place2 : ℕ × ℕ → ℕ
+  place2 p = p.0 * (length ys + 1) + p.1
+
+  abbrev weights2 : ℕ × ℕ → Item → List ℤ
+  weights2 p = weight_in2 xs ys p.0 p.1
+
   -- rows are the cells of points, where each cell is
-  from_places : (points : List Item) (cells : List CellSum) → length cells ≡ (length xs + 1) * (length ys + 1)
-      → ((i j : ℕ) (d : CellSum) → i ≤ length xs → j ≤ length ys → cell_seen (get_or cells (i * (length ys + 1) + j) d) ≡ square_cell xs ys points i j)
-      → rows_on xs ys (map cell_seen cells) ≡ square_cells xs ys points
-  from_places points cells size each =
-      let w = length ys + 1 in
-      let zero_cell : CellSum = record { sum = pos 0; squares = pos 0 } in
-      let long : length (map cell_seen cells) ≡ (length xs + 1) * w = length-map cells cell_seen ∙ size in
-      map-cells_on (λ i. take w (drop (i * w) (map cell_seen cells))) (λ i. map (square_cell xs ys points i) (cells_on ys)) xs
-      (λ i l.
-      let fits = row_fits w (length xs) i l in
-      let room : w ≤ length (drop (i * w) (map cell_seen cells)) = rw (length-drop (i * w) (map cell_seen cells), long) (omega arith) in
-      let size' : length (take w (drop (i * w) (map cell_seen cells))) ≡ w = length-take-le w (drop (i * w) (map cell_seen cells)) room in
-      same_lists (take w (drop (i * w) (map cell_seen cells))) (map (square_cell xs ys points i) (cells_on ys))
-      (size' ∙ sym (length-map (cells_on ys) (square_cell xs ys points i) ∙ length-cells_on ys))
-      (λ j d below.
-      let short : j < w = omega arith in
-      let inside = row_within w (length xs) i j l short in
-      get_or-take w (drop (i * w) (map cell_seen cells)) j d short ∙ get_or-drop (i * w) (map cell_seen cells) j d
-      ∙ get_or-map cell_seen cells (i * w + j) zero_cell d (omega arith) ∙ each i j zero_cell l (omega arith) ∙ sym (get_or-cells_on (square_cell xs ys points i) ys j d (omega arith))))
+  rows_from_places : (points : List Item) (cells : List CellSum) → length cells ≡ (length xs + 1) * (length ys + 1) → AreOf Within2 place2 weights2 cells points → rows_on xs ys (map cell_seen cells) ≡ square_cells xs ys points
+  rows_from_places points cells size each = map-below (suc (length xs)) _ _ (λ i l. row_kept cells i ∙ from_places (square_cell xs ys points i) ys _ (row_long cells i size (omega arith)) (λ j d m. ap cell_seen (row_place cells i j d m) ∙ each (i, j) d (omega arith, m)))
 
   -- a cell that is kept, where the rows are the cells of points
-  kept_at : (points : List Item) (cells : List CellSum) (i j : ℕ) (d : CellSum) → length cells ≡ (length xs + 1) * (length ys + 1)
-      → rows_on xs ys (map cell_seen cells) ≡ square_cells xs ys points → i ≤ length xs → j ≤ length ys
-      → cell_seen (get_or cells (i * (length ys + 1) + j) d) ≡ square_cell xs ys points i j
-  kept_at points cells i j d size same l m =
-      let w = length ys + 1 in
-      let e = cell_seen d in
-      let short : j < w = omega arith in
-      let inside = row_within w (length xs) i j l short in
-      let row : take w (drop (i * w) (map cell_seen cells)) ≡ map (square_cell xs ys points i) (cells_on ys)
-      = sym (get_or-cells_on (λ k. take w (drop (k * w) (map cell_seen cells))) xs i [] l) ∙ ap (λ rs. get_or rs i []) same ∙ get_or-cells_on (λ k. map (square_cell xs ys points k) (cells_on ys)) xs i [] l in
-      sym (get_or-map cell_seen cells (i * w + j) d e (omega arith)) ∙ sym (get_or-drop (i * w) (map cell_seen cells) j e) ∙ sym (get_or-take w (drop (i * w) (map cell_seen cells)) j e short)
-      ∙ ap (λ cs. get_or cs j e) row ∙ get_or-cells_on (square_cell xs ys points i) ys j e m
+  kept_in_row : (points : List Item) (cells : List CellSum) → length cells ≡ (length xs + 1) * (length ys + 1) → rows_on xs ys (map cell_seen cells) ≡ square_cells xs ys points → AreOf Within2 place2 weights2 cells points
+  kept_in_row points cells size same p d within =
+      let row = get_or-cells_on (λ k. take (length ys + 1) (drop (k * (length ys + 1)) (map cell_seen cells))) xs p.0 [] within.0 in
+      let seen = get_or-cells_on (λ k. map (square_cell xs ys points k) (cells_on ys)) xs p.0 [] within.0 in
+      ap cell_seen (sym (row_place cells p.0 p.1 d within.1)) ∙ kept_at (square_cell xs ys points p.0) ys _ p.1 d (row_long cells p.0 size within.0) (sym (row_kept cells p.0) ∙ sym row ∙ ap (λ rs. get_or rs p.0 []) same ∙ seen) within.1
 
   weights_yes : (x y w : ℤ) (i j : ℕ) → i ≡ bin xs x → j ≡ bin ys y → flat_map (weight_in2 xs ys i j) (Point2 x y w ∷ []) ≡ w ∷ []
   weights_yes x y w i j e f = rw (eq-eqb (bin xs x) i (sym e), eq-eqb (bin ys y) j (sym f)) refl
 
-  weights_no_x : (x y w : ℤ) (i j : ℕ) → (i ≡ bin xs x → ⊥) → flat_map (weight_in2 xs ys i j) (Point2 x y w ∷ []) ≡ []
-  weights_no_x x y w i j ne = rw (ne_eqb (bin xs x) i (λ e. ne (sym e))) refl
-
-  weights_no_y : (x y w : ℤ) (i j : ℕ) → i ≡ bin xs x → (j ≡ bin ys y → ⊥) → flat_map (weight_in2 xs ys i j) (Point2 x y w ∷ []) ≡ []
-  weights_no_y x y w i j e ne = rw (eq-eqb (bin xs x) i (sym e), ne_eqb (bin ys y) j (λ e. ne (sym e))) refl
-
-  cell_yes : (points : List Item) (x y w : ℤ) (i j : ℕ) → i ≡ bin xs x → j ≡ bin ys y
-      → square_cell xs ys (points ++ Point2 x y w ∷ []) i j ≡ joined (square_cell xs ys points i j) (record { sum = w; squares = w *ℤ w })
-  cell_yes points x y w i j e f = grind (arith, flat_map-append, weights_yes, cell_of-append, +ℤ_idl)
-
-  cell_no : (points : List Item) (x y w : ℤ) (i j : ℕ) → flat_map (weight_in2 xs ys i j) (Point2 x y w ∷ []) ≡ [] → square_cell xs ys (points ++ Point2 x y w ∷ []) i j ≡ square_cell xs ys points i j
-  cell_no points x y w i j none = grind (arith, flat_map-append, append-nil)
+  weights_no : (x y w : ℤ) (i j : ℕ) → (i * (length ys + 1) + j ≡ bin xs x * (length ys + 1) + bin ys y → ⊥) → flat_map (weight_in2 xs ys i j) (Point2 x y w ∷ []) ≡ []
+  weights_no x y w i j ne = grind (arith, eqb_tells)
 
   -- the cells after one more point
   pub square_cells-point : (points : List Item) (x y w : ℤ) (cells : List CellSum) (cell : CellSum) (place : ℕ) → length cells ≡ (length xs + 1) * (length ys + 1) → bin xs x ≤ length xs → bin ys y ≤ length ys
       → place ≡ bin xs x * (length ys + 1) + bin ys y → cell ≡ get_or cells place cell → rows_on xs ys (map cell_seen cells) ≡ square_cells xs ys points
       → rows_on xs ys (map cell_seen (set cells place (with_weight cell w))) ≡ square_cells xs ys (points ++ Point2 x y w ∷ [])
   square_cells-point points x y w cells cell place size within within' at read same =
-      let width = length ys + 1 in
-      let inside = row_within width (length xs) (bin xs x) (bin ys y) within (omega arith) in
-      from_places (points ++ Point2 x y w ∷ []) (set cells place (with_weight cell w)) (length-set cells place (with_weight cell w) ∙ size)
-      (λ i j d l m. ⊎_elim
-      (λ (e : i * width + j ≡ place).
-      let both = same_from_place i j (bin xs x) (bin ys y) width (omega arith) (omega arith) (e ∙ at) in
-      let here : cell_seen cell ≡ square_cell xs ys points i j = ap cell_seen (read ∙ ap (λ k. get_or cells k cell) (sym e)) ∙ kept_at points cells i j cell size same l m in
-      let now : get_or (set cells place (with_weight cell w)) (i * width + j) d ≡ with_weight cell w = ap (λ k. get_or (set cells place (with_weight cell w)) k d) e ∙ get_or-set_same cells place (with_weight cell w) d (omega arith) in
-      ap cell_seen now ∙ ap (λ c. joined c (record { sum = w; squares = w *ℤ w })) here ∙ sym (cell_yes points x y w i j both.0 both.1))
-      (λ (ne : i * width + j ≡ place → ⊥).
-      let none : flat_map (weight_in2 xs ys i j) (Point2 x y w ∷ []) ≡ [] = ⊎_elim
-      (λ (e : i ≡ bin xs x). ⊎_elim
-      (λ (f : j ≡ bin ys y). absurd (ne (ap (λ a. a * width + j) e ∙ ap (λ b. bin xs x * width + b) f ∙ sym at)))
-      (λ (f : j ≡ bin ys y → ⊥). weights_no_y x y w i j e f)
-      (cases_eq j (bin ys y)))
-      (λ (e : i ≡ bin xs x → ⊥). weights_no_x x y w i j e)
-      (cases_eq i (bin xs x)) in
-      ap cell_seen (get_or-set_other cells place (i * width + j) (with_weight cell w) d ne) ∙ kept_at points cells i j d size same l m ∙ sym (cell_no points x y w i j none))
-      (cases_eq (i * width + j) place))
+      let inside = row_within (length ys + 1) (length xs) (bin xs x) (bin ys y) within (omega arith) in
+      rows_from_places (points ++ Point2 x y w ∷ []) _ (length-set cells place (with_weight cell w) ∙ size) (with_item Within2 place2 weights2 cells points (Point2 x y w) w place cell (omega arith) read
+      (λ p h e. let both = same_from_place p.0 p.1 (bin xs x) (bin ys y) (length ys + 1) (omega arith) (omega arith) (e ∙ at) in weights_yes x y w p.0 p.1 both.0 both.1)
+      (λ p h ne. weights_no x y w p.0 p.1 (λ e. ne (e ∙ sym at))) (kept_in_row points cells size same))
 
   -- the cells of two lists of points
   pub square_cells-append : (points more : List Item) (cells others all : List CellSum) → length cells ≡ (length xs + 1) * (length ys + 1) → length others ≡ (length xs + 1) * (length ys + 1) → length all ≡ (length xs + 1) * (length ys + 1)
@@ -102,20 +68,14 @@ module _ (xs ys : List ℤ) where
       → rows_on xs ys (map cell_seen cells) ≡ square_cells xs ys points → rows_on xs ys (map cell_seen others) ≡ square_cells xs ys more
       → rows_on xs ys (map cell_seen all) ≡ square_cells xs ys (points ++ more)
   square_cells-append points more cells others all size size' size'' each same same' =
-      let width = length ys + 1 in
-      from_places (points ++ more) all size''
-      (λ i j d l m.
-      let inside = row_within width (length xs) i j l (omega arith) in
-      ap cell_seen (each (i * width + j) d (omega arith)) ∙ ap (λ c. joined c (cell_seen (get_or others (i * width + j) d))) (kept_at points cells i j d size same l m)
-      ∙ ap (λ c. joined (square_cell xs ys points i j) c) (kept_at more others i j d size' same' l m)
-      ∙ sym (ap cell_of (flat_map-append (weight_in2 xs ys i j) points more) ∙ cell_of-append (flat_map (weight_in2 xs ys i j) points) (flat_map (weight_in2 xs ys i j) more)))
+      rows_from_places (points ++ more) all size'' (of_both Within2 place2 weights2 cells others all points more
+      (λ p h. let inside = row_within (length ys + 1) (length xs) p.0 p.1 h.0 (omega arith) in omega arith) each (kept_in_row points cells size same) (kept_in_row more others size' same'))
 
   -- cells without weights are those of no points
   pub square_cells-none : (cells : List CellSum) → length cells ≡ (length xs + 1) * (length ys + 1)
       → ((k : ℕ) (d : CellSum) → k < length cells → get_or cells k d ≡ record { sum = pos 0; squares = pos 0 }) → rows_on xs ys (map cell_seen cells) ≡ square_cells xs ys []
   square_cells-none cells size each =
-      let width = length ys + 1 in
-      from_places [] cells size (λ i j d l m. let inside = row_within width (length xs) i j l (omega arith) in ap cell_seen (each (i * width + j) d (omega arith)))
+      rows_from_places [] cells size (λ p d h. let inside = row_within (length ys + 1) (length xs) p.0 p.1 h.0 (omega arith) in ap cell_seen (each (place2 p) d (omega arith)))
 
   -- one row of the cells that are seen
   pub cell_of_row : (cells : List CellSum) (i j : ℕ) (d : Cell) → i ≤ length xs → j ≤ length ys

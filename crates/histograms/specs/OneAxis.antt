@@ -20,8 +20,6 @@ flat_cells edges points = map (flat_cell edges points) (cells_on edges)
 pub record HasFilled (hist : Flat) (points : List Item) : Type 0 where
   pub cells : hist.cells ≡ flat_cells hist.edges points
 
--- ---- how it is kept
-
 -- one cell for each place, and sums that so many fills can give
 pub record KeepsFlat (edges : List ℤ) (fills : ℕ) (cells : List CellSum) : Type 0 where
   pub axis : IsAxis edges

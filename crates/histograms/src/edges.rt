@@ -1,7 +1,7 @@
 // The edges of an axis.
 ghost use Rattle.std.specs.Prelude.{◌≡◌, ◌↔◌, ◌<◌, ◌-◌, ◌^◌, ◌+◌, ◌*◌, ◌≤◌, ℤ, List, length, true, false, IfOk};
 ghost use Rattle.rdf_values.specs.{are_edges, bin, rises};
-ghost use Rattle.histograms.specs.Buckets.{KeepsEdges};
+ghost use Rattle.histograms.specs.Axis.{KeepsEdges};
 
 use crate::buckets::Buckets;
 use std::alloc::Global;

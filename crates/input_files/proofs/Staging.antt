@@ -1,6 +1,5 @@
 -- What is due to a file, by what reading it came to.
-use Rattle.std.proofs.Common.{◌≡◌, inr, ℕ, Bool, true, false, List, length, nat_lt, Option, None, Some, Result, Ok, Err, sym, subst, MatchResult}
-use Rattle.lemmas.proofs.{le-ltb, MatchBool}
+use Rattle.lemmas.proofs.{◌≡◌, inr, ℕ, Bool, true, false, List, length, nat_lt, Option, None, Some, Result, Ok, Err, sym, subst, MatchResult, le-ltb, MatchBool}
 use Rattle.rdf_values.specs.{long_script_line, long_table_line, MarkedTable, Script, table_cause_line, table_of, TableCause}
 use Rattle.table_csv.specs.{csv_records}
 use Rattle.input_files.specs.{due_of, FileStatuses, HoldsTheScript, HoldsTheTable, max_script, max_table, ReadsScript, WithScriptFile, WithTableFile}

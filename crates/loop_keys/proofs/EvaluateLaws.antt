@@ -1,16 +1,19 @@
 -- One evaluation of a site over what is held: its outcome, or a version that it meets and of whose site nothing is held.
-use Rattle.std.proofs.Common.{◌≡◌, ◌≢◌, ◌⊎◌, inl, inr, ℕ, ◌<◌, Bool, true, false, List, [], length, Option, Some, None, refl, sym, ◌∙◌, ap, subst, arith, nat_eq, slice_get, if◌then◌else◌}
-use Rattle.lemmas.proofs.{Decides-eqb, slice_get_within}
-use Rattle.rdf_values.specs.{AreAccepted, EachColumn, fn_names, history, scope_of, Value}
+use Rattle.lemmas.proofs.{◌≡◌, ◌≢◌, ◌⊎◌, inl, inr, ℕ, ◌<◌, Bool, true, false, List, [], length, Option, Some, refl, sym, ◌∙◌, ap, subst, arith, nat_eq, slice_get, if◌then◌else◌, zero, suc, ◌||◌, ◌∷◌, map, option_map, unwrap_or, ◌+◌, ◌++◌, get_or, flat_map, All, Decides-eqb, slice_get_within, All-from_recursion, AllByRecursion, length_push, list_any, or_right, slice_get-get_or, slice_get-map}
+use Rattle.rdf_values.specs.{AreAccepted, EachColumn, fn_names, history, scope_of, Value, ColType, columns_in}
 use Rattle.rdf_model.specs.{◌>>=◌, call_outcome, evaluate, is_need, Needs, Outcome, tag_element, with_needs, without}
-use Rattle.rdf_model.proofs.Evaluations as evaluations
 use Rattle.rdf_model.proofs.Accepted.{verdict_is_the_first_refusal}
 use Rattle.graph_numbers.specs.{graph_sites, graph_under, IsBelow, site_outcome, site_value, SiteAt, Source, source_value, version_count}
-use Rattle.graph_numbers.proofs.Equations as equations
-use Rattle.graph_numbers.proofs.Placing.{versions_count}
-use Rattle.rdf_model.proofs.KnownColumns.{each_weaker}
+use Rattle.graph_numbers.proofs.Placing.{versions_count, by_test, joined, only_at}
+use Rattle.rdf_model.proofs.Typing.{each_weaker}
 use Rattle.rdf_model.proofs.Missing.{site_alike, alike_is}
-use Rattle.loop_keys.specs.{Held, held_in, held_or_need, is_held, IsJob, IsMissing, IsMissingSource, IsRight, IsSound, job_graph, JobView, key, look_at, looked_source, MeetsAt, row_of, site_in, source_at, version_in}
+use Rattle.loop_keys.specs.{Held, held_in, held_or_need, is_held, IsJob, IsMissing, IsMissingSource, IsRight, IsSound, job_graph, JobView, key, look_at, looked_source, MeetsAt, row_of, site_in, source_at, version_in, AreEach}
+use Rattle.expr_check.specs.{CheckedExpr, distinct}
+use Rattle.expr_check.proofs.Typed.{each_distinct}
+use Rattle.rdf_values.proofs.KeptLemmas.{In, here, there, in_left, in_right, each_at}
+use Rattle.rdf_model.proofs.Evaluations as evaluations
+use Rattle.graph_numbers.proofs.Closing as equations
+use Rattle.graph_numbers.proofs.Covering.{site_is}
 
 pub accepted_of : (j : JobView) → IsJob j → AreAccepted (fn_names j.dataset.fns) (scope_of j.dataset.columns) (history j.script)
 accepted_of j job = (verdict_is_the_first_refusal (fn_names j.dataset.fns) j.dataset.columns j.script).0 job.graph.accepted
@@ -20,12 +23,9 @@ known_never o e = grind arith
 
 -- nothing is missing of a site
 pub site_known : (j : JobView) (entry : ℕ) (u : Option ℕ) (t : ℕ) → site_in {M = ℕ} j entry u t ≡ with_needs (site_in j entry u t)
-site_known j entry u t = go (slice_get (graph_sites (job_graph j)) t)
-  where
-    go : (o : Option SiteAt) → site_value {M = ℕ} (λ x. site_outcome j.dataset.fns j.dataset.columns (row_of j entry) x (graph_under (job_graph j) u)) o
-        ≡ with_needs (site_value (λ x. site_outcome j.dataset.fns j.dataset.columns (row_of j entry) x (graph_under (job_graph j) u)) o)
-    go None = refl
-    go (Some x) = alike_is _ _ (site_alike ⊥ ℕ j.dataset.fns j.dataset.columns (row_of j entry) x.at (graph_under (job_graph j) u) x.expr)
+site_known j entry u t =
+    let alike = λ (x : SiteAt). alike_is _ _ (site_alike ⊥ ℕ j.dataset.fns j.dataset.columns (row_of j entry) x.at (graph_under (job_graph j) u) x.expr) in
+    grind (arith, alike)
 
 module _ (j : JobView) (job : IsJob j) (entry : ℕ) (u : Option ℕ) (cells : List Held) (sound : IsSound j entry cells) (s : ℕ) (x : SiteAt) (its : slice_get (graph_sites (job_graph j)) s ≡ Some x) where
   -- a column is told as it is, or is missing
@@ -59,7 +59,7 @@ module _ (j : JobView) (job : IsJob j) (entry : ℕ) (u : Option ℕ) (cells : L
   -- the site by its versions
   pub whole : evaluate (version_in {M = ℕ} j entry u) (call_outcome j.dataset.fns) x.tree ≡ with_needs (site_in j entry u s)
   whole =
-      sym (equations.site_is ℕ j.dataset.fns j.dataset.columns (row_of j entry) (graph_under (job_graph j) u) (history j.script) (accepted_of j job) s x its)
+      sym (site_is ℕ j.dataset.fns j.dataset.columns (row_of j entry) (graph_under (job_graph j) u) (history j.script) (accepted_of j job) s x its)
       ∙ ap (site_value (λ x. site_outcome j.dataset.fns j.dataset.columns (row_of j entry) x (graph_under (job_graph j) u))) (sym its) ∙ site_known j entry u s
 
   abbrev looked : Outcome ℕ Value
@@ -139,3 +139,63 @@ met_each j job entry u s c P met each =
 
     go : (o p : Outcome ℕ Value) → evaluations.Close N o p → is_need o ≡ true → p ≡ with_needs (site_in j entry u s) → P c
     go o p h m w = grind (arith, known_never)
+
+-- ---- what stands in a list, and tests and facts of its elements; and from what an answer comes
+
+pub any_in : {A : Type 0} (test : A → Bool) (xs : List A) → list_any test xs ≡ true → (x : A) × In x xs × (test x ≡ true)
+any_in test [] h = cc h
+any_in test (x ∷ xs) h = by_test (test x) (λ e. (x, here, e)) (λ e. let w = any_in test xs (rw e at h) in (w.0, there w.1, w.2))
+
+pub in_any : {A : Type 0} (test : A → Bool) (x : A) (xs : List A) → In x xs → test x ≡ true → list_any test xs ≡ true
+in_any test x xs (here {xs = ys}) e = ap (λ b. b || list_any test ys) e
+in_any test x xs (there {y = y} {xs = ys} h) e = or_right (test y) (list_any test ys) (in_any test x ys h e)
+
+pub each_in : {A : Type 0} (P : A → Type 0) (xs : List A) → ((x : A) → In x xs → P x) → AllByRecursion P xs
+each_in P [] h = tt
+each_in P (x ∷ xs) h = (h x here, each_in P xs (λ y k. h y (there k)))
+
+pub at_in : {A : Type 0} (P : A → Type 0) (x : A) (xs : List A) → AllByRecursion P xs → In x xs → P x
+at_in P x xs h (here {xs = ys}) = h.0
+at_in P x xs h (there {xs = ys} k) = at_in P x ys h.1 k
+
+each_first : (P : ℕ → Type 0) (ks : List (ℕ × ColType)) → AllByRecursion P (map (λ (c : ℕ × ColType). c.0) ks) → AllByRecursion (λ (c : ℕ × ColType). P c.0) ks
+each_first P [] h = tt
+each_first P (c ∷ ks) h = (h.0, each_first P ks h.1)
+
+-- what holds of each column of an expression holds of each whose kind it lists
+pub each_kind : (P : ℕ → Type 0) (e : CheckedExpr) → map (λ (c : ℕ × ColType). c.0) e.kinds ≡ distinct (columns_in e.tree) → EachColumn P e.tree → All (λ (c : ℕ × ColType). P c.0) e.kinds
+each_kind P e are h =
+    All-from_recursion (λ (c : ℕ × ColType). P c.0) e.kinds
+    (each_first P e.kinds (subst (AllByRecursion P) (sym are) (each_distinct P (columns_in e.tree) (each_in P (columns_in e.tree) (each_at P e.tree h)))))
+
+pub in_flat : {A B : Type 0} (f : A → List B) (xs : List A) (n : ℕ) (x : A) (y : B) → slice_get xs n ≡ Some x → In y (f x) → In y (flat_map f xs)
+in_flat f [] n x y h k = cc h
+in_flat f (z ∷ xs) zero x y h k = let e : z ≡ x = cc h in in_left (f z) (flat_map f xs) (subst (λ (w : _). In y (f w)) (sym e) k)
+in_flat f (z ∷ xs) (suc n) x y h k = in_right (f z) (flat_map f xs) (in_flat f xs n x y h k)
+
+pub of_chosen : {A : Type 0} (o : Option (List A)) (n : ℕ) (x : A) → slice_get (unwrap_or o []) n ≡ Some x → (xs : List A) × (o ≡ Some xs) × (slice_get xs n ≡ Some x)
+of_chosen o n x h = grind arith
+
+pub of_option : {A B : Type 0} (f : A → B) (o : Option A) (y : B) → option_map f o ≡ Some y → (x : A) × (o ≡ Some x) × (f x ≡ y)
+of_option f o y h = grind arith
+
+pub of_mapped : {A B : Type 0} (f : A → B) (xs : List A) (n : ℕ) (y : B) → slice_get (map f xs) n ≡ Some y → (x : A) × (slice_get xs n ≡ Some x) × (f x ≡ y)
+of_mapped f xs n y h = of_option f (slice_get xs n) y (sym (slice_get-map f xs n) ∙ h)
+
+-- ---- lists that are right at each place
+
+module _ {A : Type 0} (P : ℕ → A → Type 0) where
+  pub none_each : AreEach P 0 []
+  none_each = record { many = refl; each = λ i x h. cc h }
+
+  module _ (n : ℕ) (xs : List A) (all : AreEach P n xs) where
+    -- one more
+    pub more_each : (x : A) (ys : List A) → P n x → ys ≡ xs ++ x ∷ [] → AreEach P (n + 1) ys
+    more_each x ys h is = subst (AreEach P (n + 1)) (sym is) record {
+      many = (let e = length_push xs x in let m = all.many in omega (arith, e, m));
+      each = λ i y q. joined xs (x ∷ []) i y q (all.each i y) (λ k e r. let b : n ≡ i = grind (arith, all.many) in subst (λ (m : ℕ). P m y) b (subst (P n) (only_at x y k r) h));
+    }
+
+    -- the element at a place
+    pub read_each : (i : ℕ) (d : A) → i < n → P i (get_or xs i d)
+    read_each i d lt = all.each i (get_or xs i d) (slice_get-get_or xs i d (let m = all.many in omega (arith, m, lt)))

@@ -1,12 +1,4 @@
 pub mod ActionLaws
-pub mod ColumnLaws
-pub mod ReportTies
-pub mod DemandSets
-pub mod Elements
-pub mod EntryLaws
-pub mod EvaluateLaws
-pub mod FillLaws
-pub mod KeyLaws
 pub mod PassNumbers
-pub mod PlainLaws
-pub mod TableLaws
+pub mod KeyLaws
+pub mod EvaluateLaws

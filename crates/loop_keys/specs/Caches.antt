@@ -5,7 +5,7 @@ use Rattle.rdf_model.specs.{Demand, filter_demands, pass_demands}
 use Rattle.graph_numbers.specs.{FilterAt, graph_filters, graph_loops, graph_results, Pass as NumberedPass, ResultAt}
 use Rattle.loop_keys.specs.Jobs.{JobView, job_graph, passes_in}
 use Rattle.loop_keys.specs.Keys.{demand_key}
-use Rattle.loop_keys.specs.Plain.{ArePlain, IsPlainVersion}
+use Rattle.loop_keys.specs.Store.{ArePlain, IsPlainVersion}
 
 -- ---- what is demanded
 

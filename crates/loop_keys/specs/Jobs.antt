@@ -2,7 +2,7 @@
 use Rattle.std.specs.Prelude.{◌≡◌, ◌<◌, ℕ, List, [], length, Option, Some, None, slice_get, unwrap_or}
 use Rattle.rdf_values.specs.{fn_names, history, IsTable, Pass, Script, Value}
 use Rattle.rdf_model.specs.{Dataset, Entry, entry_outcome, Gives, loop_passes, loop_results, Outcome, Skip}
-use Rattle.columns.specs.CutsView.{CutsView}
+use Rattle.columns.specs.Views.{CutsView}
 use Rattle.entry_fns.specs.{functions_in}
 use Rattle.graph_numbers.specs.{graph_loops, GraphView, IsGraph}
 use Rattle.loop_keys.specs.declared.job.Job.{Job}

@@ -1,12 +1,14 @@
 -- What is held of the sites of an entry, and what an evaluation is told of it.
 use Rattle.std.specs.Prelude.{if◌then◌else◌, ◌≡◌, ⊤, ◌≤◌, ◌<◌, ◌⊎◌, ℕ, zero, suc, ◌+◌, Bool, true, false, List, [], length, Option, Some, None, slice_get, slice_index_or, count_by, unwrap_or, MatchOption, All}
-use Rattle.rdf_values.specs.{ColType, Value}
-use Rattle.rdf_model.specs.{◌>>=◌, Faults, FitsOutcome, Gives, Needs, Outcome, tag_element, truth_of}
-use Rattle.expr_check.specs.{CheckedExpr}
-use Rattle.graph_numbers.specs.{cell_value, graph_sites, graph_sources, graph_under, graph_versions, HasFilters, HasInputs, IfPassed, IsBelow, meets, site_outcome, site_value, SiteAt, Source, source_in, source_value, through_sites}
-use Rattle.loop_keys.specs.Jobs.{JobView, job_graph}
+use Rattle.rdf_values.specs.{ColType, Value, ActionKind, cut, history, named_before, Span, EachColumn}
+use Rattle.rdf_model.specs.{◌>>=◌, Faults, FitsOutcome, Gives, Needs, Outcome, tag_element, truth_of, demanded, loop_facts}
+use Rattle.expr_check.specs.{CheckedExpr, is_plain, is_vector}
+use Rattle.graph_numbers.specs.{cell_value, graph_sites, graph_sources, graph_under, graph_versions, HasFilters, HasInputs, IfPassed, IsBelow, meets, site_outcome, site_value, SiteAt, Source, source_in, source_value, through_sites, graph_kinds, GraphView}
+use Rattle.loop_keys.specs.Jobs.{JobView, job_graph, passes_in}
 use Rattle.loop_keys.specs.Keys.{key, key_count}
 use Rattle.loop_keys.specs.declared.reading.Held.{Held}
+use Rattle.rdf_model.specs.declared.loop_facts.LoopFacts.{LoopFacts}
+use Rattle.std.specs.List.{AllByRecursion}
 
 -- something is held
 abbrev pub is_held : Held → Bool
@@ -170,3 +172,45 @@ HasTried j entry u path D = HasFilters (λ s. D s ≡ true) (site_in j entry u) 
 abbrev pub HasPassed : JobView → ℕ → Option ℕ → List ℕ → List ℕ → (ℕ → Bool) → Type 0
 HasPassed j entry u path inputs D =
     HasTried j entry u path D × IfPassed (through_sites (site_in j entry u) path) (HasInputs (λ s. D s ≡ true) (source_at j u) (version_in j entry u) inputs)
+
+-- ---- what an entry gives to a loop
+
+-- the clusters of a job
+abbrev pub job_spans : JobView → List Span
+job_spans j = cut j.cuts.entries j.cuts.size j.cuts.marks
+
+-- what its loop is to give
+abbrev pub facts_in : JobView → LoopFacts
+facts_in j = loop_facts j.dataset (named_before (history j.script)) (job_spans j) (passes_in j)
+
+-- how many evaluations its passes demand of an entry
+abbrev pub entry_demands : JobView → ℕ → ℕ
+entry_demands j entry = length (demanded j.dataset.fns j.dataset.columns (row_of j entry) (passes_in j))
+
+-- not a Take
+abbrev pub IsNoTake : ActionKind → Type 0
+IsNoTake (ActionKind.Take c) = ⊥
+IsNoTake k = ⊤
+
+-- ---- sites without vectors, of which no evaluation wants memory
+
+-- the version of that number is a vector
+abbrev pub is_vector_at : List ColType → ℕ → Bool
+is_vector_at kinds c = is_vector (unwrap_or (slice_get kinds c) ColType.Int)
+
+-- the version is no vector, and its source under each variation is no site outside the set
+abbrev pub IsPlainVersion : GraphView → (ℕ → Bool) → ℕ → Type 0
+IsPlainVersion g used c = (is_vector_at (graph_kinds g) c ≡ false) × ((u : Option ℕ) → IsSourceIn used (source_in (graph_sources g u) c))
+
+-- the site's expression reads only such versions, and nothing in it picks from a vector or calls a function of one
+pub record IsPlainSite (g : GraphView) (used : ℕ → Bool) (x : SiteAt) : Type 0 where
+  pub columns : EachColumn (IsPlainVersion g used) x.tree
+  pub parts : is_plain [] x.tree ≡ true
+
+-- so is each site of the set
+abbrev pub ArePlain : JobView → (ℕ → Bool) → Type 0
+ArePlain j used = (s : ℕ) (x : SiteAt) → used s ≡ true → slice_get (graph_sites (job_graph j)) s ≡ Some x → IsPlainSite (job_graph j) used x
+
+-- the sources of the versions are no sites outside the set
+abbrev pub ArePlainVersions : JobView → (ℕ → Bool) → Option ℕ → List ℕ → Type 0
+ArePlainVersions j used u cs = AllByRecursion (λ c. IsSourceIn used (source_at j u c)) cs

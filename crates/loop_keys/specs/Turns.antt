@@ -13,8 +13,6 @@ use Rattle.loop_keys.specs.Store.{IsReadable, version_in}
 abbrev pub HasAllDemands : JobView → ℕ → (ℕ → Bool) → Type 0
 HasAllDemands j entry T = (pass : ℕ) → HasDemands j entry pass T
 
--- ---- faults
-
 -- the fault of an entry in a pass
 abbrev pub pass_fault : JobView → ℕ → ℕ → Option EntryFault
 pass_fault j entry pass = fault_in (pass_outcome j entry pass)

@@ -48,7 +48,7 @@ fn place_of(keys: &[usize], count: usize, source: Source) -> Place
 }
 
 /// The place of nominal or a variation among the keys of a site: that of nominal where the site doesn't depend on the variation.
-#[tactic(auto, using(graph::proofs::Bits::none_above))]
+#[tactic(auto, using(graph::proofs::Listing::none_above))]
 fn slot(depends: VarSet, under: Option<u32>) -> usize
     ensures value { result ≡ slot_in depends under }
     ensures bound { result ≤ 128 }
@@ -79,6 +79,7 @@ fn keys_under(
 }
 
 /// The places of the versions under nominal or a variation.
+#[tactic(auto, using(crate::proofs::KeyLaws::more_places))]
 fn places_under(
     alloc: Global,
     graph: &Graph,

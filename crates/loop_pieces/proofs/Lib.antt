@@ -1,5 +1,2 @@
-pub mod Joined
 pub mod ByCluster
-pub mod ClusterFaults
 pub mod WatchLemmas
-pub mod WholeLoops

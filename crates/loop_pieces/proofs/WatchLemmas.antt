@@ -1,14 +1,14 @@
 -- Pieces of a watched result.
-use Rattle.std.proofs.Common.{◌≡◌, ℕ, ◌+◌, ◌-◌, ◌*◌, ◌^◌, ◌≤◌, ℤ, pos, ◌+ℤ◌, List, [], ◌∷◌, ◌++◌, length, map, get_or, drop, Option, None, Some, refl, sym, ap, ◌∙◌, subst, arith, length-append, flat_map, fold, nat_abs, slice_get}
-use Rattle.lemmas.proofs.{abs_add, All, All-append, All-drop, All-head, All-nil, All-tail, All-take, AllByRecursion, int_max, int_min, ints, IsStrictlyIncreasing, recursion_from_All, same_some, slice_get-get_or}
+use Rattle.lemmas.proofs.{◌≡◌, ℕ, ◌+◌, ◌-◌, ◌*◌, ◌^◌, ◌≤◌, ℤ, pos, ◌+ℤ◌, List, [], ◌∷◌, ◌++◌, length, map, get_or, drop, Option, None, Some, refl, sym, ap, ◌∙◌, subst, arith, flat_map, fold, nat_abs, slice_get, length-flat_map, sum_by-le, abs_add, All, All-append, All-drop, All-head, All-nil, All-tail, All-take, AllByRecursion, int_max, int_min, ints, IsStrictlyIncreasing, recursion_from_All, same_some, slice_get-get_or}
 use Rattle.rdf_values.specs.{ActionKind, Filled, fold_items, Has64Bits, IsUnion, Item, numbers_of, Span}
 use Rattle.rdf_values.specs.results.Fold as filled
 use Rattle.rdf_model.specs.{FitsAction, FitsSpread, IsLoopFacts, items_over, list_at, result_over, rows_in, span_rows}
 use Rattle.rdf_model.specs.declared.loop_facts.LoopFacts.{LoopFacts}
-use Rattle.actions.specs.{better_of_two, Fed, in_file_order}
-use Rattle.actions.proofs.Merges.{merge_count, merge_max, merge_min, merge_sum}
+use Rattle.actions.specs.{Fed, in_file_order}
+use Rattle.actions.proofs.Folds.{max_comm, max_swap, min_comm, min_swap}
+use Rattle.actions.proofs.States.{merge_count, merge_extremes, merge_sum}
 use Rattle.loop_pieces.specs.{CanAdd, cluster_items, entries_over, fed_over, IsOfKind, watch_filled, WatchPiece, WatchPiecesOfOneSetAgree, WatchStandsFor}
-use Rattle.loop_pieces.specs.Watching.{added}
+use Rattle.loop_pieces.specs.Trails.{added}
 use Rattle.loop_pieces.specs.declared.watch_piece.WatchFacts.{WatchFacts}
 use Rattle.loop_pieces.specs.declared.watch_piece.WatchPiece.TheVariants.{Count, Sum, Least, Greatest}
 use Rattle.loop_pieces.proofs.ByCluster.{items_in_order, order_union, entries_few, entries_union}
@@ -47,10 +47,7 @@ module _ (k : ActionKind) (i : ℕ) where
       go row o is h = grind (arith, nothing_fits)
 
   few_of : (rows : List (List (List Item))) → All FitsRow rows → length (flat_map (λ row. list_at row i) rows) ≤ 4096 * length rows
-  few_of [] h = omega arith
-  few_of (row ∷ rows) h =
-      let first = (All-head FitsRow row rows h).few in
-      let rest = few_of rows (All-tail FitsRow row rows h) in omega (arith, length-append (list_at row i) (flat_map (λ r. list_at r i) rows))
+  few_of rows h = omega (arith, length-flat_map (λ (row : List (List Item)). list_at row i) rows, sum_by-le (λ (row : List (List Item)). length (list_at row i)) 4096 rows (λ e d lt. (h e d lt).few))
 
   fit_of : (rows : List (List (List Item))) → All FitsRow rows → All (FitsAction k) (flat_map (λ row. list_at row i) rows)
   fit_of [] h = All-nil (FitsAction k)
@@ -100,8 +97,7 @@ module _ (f : LoopFacts) (i : ℕ) (mine theirs all : List ℕ) (facts : IsLoopF
       let m_is : m ≡ length (items_over f theirs i) = cc in (
         omega arith,
         tt,
-        of_union ActionKind.Count (filled.Count (n + m))
-            (merge_count (fed_over f mine i) (fed_over f theirs i) n m (record { made = in_fed ActionKind.Count (filled.Count n) mine up a; kept = refl }) (record { made = in_fed ActionKind.Count (filled.Count m) theirs down b; kept = refl })).made,
+        of_union ActionKind.Count _ (ap filled.Count (merge_count (fed_over f mine i) (fed_over f theirs i) n m (cc (in_fed ActionKind.Count (filled.Count n) mine up a)) (cc (in_fed ActionKind.Count (filled.Count m) theirs down b)))),
       )
 
   join_sums : (c : List ℕ) (y z : ℤ) → Joins (ActionKind.Sum c) (Sum y) (Sum z)
@@ -115,25 +111,16 @@ module _ (f : LoopFacts) (i : ℕ) (mine theirs all : List ℕ) (facts : IsLoopF
       let high = sum_few c (items_over f theirs i) (pos 0) 0 (items_fit (ActionKind.Sum c) theirs at) (omega arith) in (
         omega (arith, ap nat_abs y_is, ap nat_abs z_is, low, high),
         tt,
-        of_union (ActionKind.Sum c) (filled.Sum (y +ℤ z))
-            (merge_sum (fed_over f mine i) (fed_over f theirs i) c c (record { sum = y }) (record { sum = z }) (y +ℤ z) refl (record { made = in_fed (ActionKind.Sum c) (filled.Sum y) mine up a; kept = refl }) (record { made = in_fed (ActionKind.Sum c) (filled.Sum z) theirs down b; kept = refl })).made,
+        of_union (ActionKind.Sum c) _ (ap filled.Sum (merge_sum (fed_over f mine i) (fed_over f theirs i) y z (cc (in_fed (ActionKind.Sum c) (filled.Sum y) mine up a)) (cc (in_fed (ActionKind.Sum c) (filled.Sum z) theirs down b)))),
       )
 
   join_leasts : (c : List ℕ) (y z : Option ℤ) → Joins (ActionKind.Min c) (Least y) (Least z)
-  join_leasts c y z at a b = (
-    tt,
-    tt,
-    of_union (ActionKind.Min c) (filled.Extreme (better_of_two int_min y z))
-        (merge_min (fed_over f mine i) (fed_over f theirs i) c c (record { best = y }) (record { best = z }) (better_of_two int_min y z) refl (record { made = in_fed (ActionKind.Min c) (filled.Extreme y) mine up a; kept = refl }) (record { made = in_fed (ActionKind.Min c) (filled.Extreme z) theirs down b; kept = refl })).made,
-  )
+  join_leasts c y z at a b = let merged = merge_extremes (fed_over f mine i) (fed_over f theirs i) int_min min_swap min_comm y z (cc (in_fed (ActionKind.Min c) (filled.Extreme y) mine up a)) (cc (in_fed (ActionKind.Min c) (filled.Extreme z) theirs down b)) in
+      (tt, tt, of_union (ActionKind.Min c) _ (ap filled.Extreme merged))
 
   join_greatests : (c : List ℕ) (y z : Option ℤ) → Joins (ActionKind.Max c) (Greatest y) (Greatest z)
-  join_greatests c y z at a b = (
-    tt,
-    tt,
-    of_union (ActionKind.Max c) (filled.Extreme (better_of_two int_max y z))
-        (merge_max (fed_over f mine i) (fed_over f theirs i) c c (record { best = y }) (record { best = z }) (better_of_two int_max y z) refl (record { made = in_fed (ActionKind.Max c) (filled.Extreme y) mine up a; kept = refl }) (record { made = in_fed (ActionKind.Max c) (filled.Extreme z) theirs down b; kept = refl })).made,
-  )
+  join_greatests c y z at a b = let merged = merge_extremes (fed_over f mine i) (fed_over f theirs i) int_max max_swap max_comm y z (cc (in_fed (ActionKind.Max c) (filled.Extreme y) mine up a)) (cc (in_fed (ActionKind.Max c) (filled.Extreme z) theirs down b)) in
+      (tt, tt, of_union (ActionKind.Max c) _ (ap filled.Extreme merged))
 
   joins : (k : ActionKind) (p q : WatchPiece) → IsOfKind k p → IsOfKind k q → Joins k p q
   joins = of_one_kind Joins join_counts join_sums join_leasts join_greatests

@@ -1,5 +1,6 @@
 -- Counts of filters.
-use Rattle.std.specs.Prelude.{ℕ, ◌<◌, ◌≤◌, ◌+◌, ◌^◌, List, [], ◌∷◌, length, slice_index_or}
+use Rattle.std.specs.Prelude.{ℕ, ◌<◌, ◌≤◌, ◌+◌, ◌^◌, List, length, map, slice_index_or}
+use Rattle.std.specs.List.{zip}
 use Rattle.loop_pieces.specs.declared.flow.Counts.{Counts}
 
 abbrev pub nothing : Counts
@@ -11,9 +12,7 @@ both a b = record { all = a.all + b.all; pass = a.pass + b.pass }
 
 -- filter by filter
 abbrev pub added : List Counts → List Counts → List Counts
-added [] ys = []
-added (a ∷ xs) [] = []
-added (a ∷ xs) (b ∷ ys) = both a b ∷ added xs ys
+added xs ys = map (λ p. both p.0 p.1) (zip xs ys)
 
 -- what all counts keep
 pub record AreCounts (c : Counts) : Type 0 where

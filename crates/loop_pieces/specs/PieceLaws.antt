@@ -5,7 +5,7 @@ use Rattle.rdf_values.specs.{Filled, IsUnion}
 use Rattle.rdf_model.specs.declared.loop_facts.LoopFacts.{LoopFacts}
 use Rattle.actions.specs.{Accumulator}
 use Rattle.loop_pieces.specs.LoopPieces.{StandsFor}
-use Rattle.loop_pieces.specs.Watching.{WatchStandsFor}
+use Rattle.loop_pieces.specs.Trails.{WatchStandsFor}
 use Rattle.loop_pieces.specs.declared.loop_piece.LoopPiece.{LoopPiece}
 use Rattle.loop_pieces.specs.declared.watch_piece.WatchFacts.{WatchFacts}
 use Rattle.loop_pieces.specs.declared.watch_piece.WatchPiece.{WatchPiece}

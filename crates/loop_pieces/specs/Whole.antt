@@ -5,8 +5,7 @@ use Rattle.rdf_model.specs.{action_pass, cutflow, Dataset, FilterCounts, first_f
 use Rattle.loop_pieces.specs.declared.flow.Counts.{Counts}
 use Rattle.actions.specs.{Accumulator}
 use Rattle.loop_pieces.specs.LoopPieces.{StandsFor}
-use Rattle.loop_pieces.specs.Trails.{watch_facts}
-use Rattle.loop_pieces.specs.Watching.{WatchStandsFor, watch_filled}
+use Rattle.loop_pieces.specs.Trails.{watch_facts, WatchStandsFor, watch_filled}
 use Rattle.loop_pieces.specs.declared.loop_piece.LoopPiece.{LoopPiece}
 use Rattle.loop_pieces.specs.declared.watch_piece.WatchPiece.{WatchPiece}
 

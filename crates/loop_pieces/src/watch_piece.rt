@@ -1,6 +1,6 @@
 // Pieces of a watched result, and their joining.
 ghost use Rattle.std.specs.Prelude.{◌≡◌};
-ghost use Rattle.loop_pieces.specs.Watching.{CanAdd, added};
+ghost use Rattle.loop_pieces.specs.Trails.{CanAdd, added};
 
 use actions::numbers::{greatest_of, least_of};
 use merge_core::Piece;
@@ -40,7 +40,7 @@ fn add(mine: WatchPiece, theirs: WatchPiece) -> WatchPiece
 }
 
 impl Piece for WatchPiece {
-    ghost use Rattle.loop_pieces.specs.Watching.{WatchStandsFor};
+    ghost use Rattle.loop_pieces.specs.Trails.{WatchStandsFor};
 
     type Job = WatchFacts;
 

@@ -1,8 +1,7 @@
 -- Pieces that are joined one after another.
-use Rattle.std.proofs.Common.{◌≡◌, ℕ, ◌+◌, List, [], ◌∷◌, ◌++◌, refl, ap, ◌∙◌, subst, arith, Some}
-use Rattle.lemmas.proofs.{All, All-cons, All-pop, IsStrictlyIncreasing, sum_by, sum_by-cons, sum_by_push}
-use Rattle.rdf_values.specs.{IsUnion, times}
-use Rattle.rdf_values.proofs.UnionLemmas.{counted, united, by_counts, first_rises, rest_rise, both_rise, alone}
+use Rattle.lemmas.proofs.{◌≡◌, ℕ, ◌+◌, List, [], ◌∷◌, ◌++◌, ap, ◌∙◌, subst, arith, reverse, sym, ◌⊎◌, zero, suc, ◌<◌, ◌≤◌, length, Option, None, Some, refl, inl, inr, ⊎_elim, slice_get, nat_le, reverse-append, reverse-reverse, sum_by-cons, cases_lt, cond-false, cond-true, le-leb, le_or_lt, lt-leb, slice_get_within}
+use Rattle.rdf_values.specs.{IsUnion, times, AreInEntryOrder, Fault, first_in, least_fault, lesser_fault}
+use Rattle.rdf_values.proofs.UnionLemmas.{counted, united, first_rises, rest_rise, both_rise, alone, times_append}
 use Rattle.merge_core.specs.{Stand}
 
 module _ {P : Type 0} (stands : List ℕ → P → Type 0) where
@@ -14,50 +13,113 @@ module _ {P : Type 0} (stands : List ℕ → P → Type 0) where
     pub there : Stand stands rest left
     pub together : IsUnion (done ∷ rest) all
 
-  turned : (rest : List (List ℕ)) (last : List ℕ) → All IsStrictlyIncreasing (rest ++ last ∷ []) → All IsStrictlyIncreasing (last ∷ rest)
-  turned rest last ups = let popped = All-pop IsStrictlyIncreasing (rest ++ last ∷ []) rest (Some last) refl ups in All-cons IsStrictlyIncreasing last rest popped.1 popped.0
-
-  -- the last piece of those that stand
-  stand_pop : (sets : List (List ℕ)) (before : List P) (p : P) → Stand stands sets (before ++ p ∷ []) → (rest : List (List ℕ)) × (last : List ℕ) × (sets ≡ rest ++ last ∷ []) × Stand stands rest before × stands last p
-  stand_pop [] [] p h = elim h [ ]
-  stand_pop [] (q ∷ qs) p h = elim h [ ]
-  stand_pop (s ∷ []) [] p h = ([], s, refl, tt, h.0)
-  stand_pop (s ∷ t ∷ ts) [] p h = elim h.1 [ ]
-  stand_pop (s ∷ ss) (q ∷ qs) p h =
-      let r = stand_pop ss qs p h.1 in
-      (s ∷ r.0, r.1, ap (λ l. s ∷ l) r.2, (h.0, r.3), r.4)
-
-  pub merged_first : (sets : List (List ℕ)) (pieces left : List P) (p : P) (all : List ℕ) → pieces ≡ left ++ p ∷ [] → Stand stands sets pieces → IsUnion sets all → IsMerged p left all
-  merged_first sets pieces left p all is h u =
-      let r = stand_pop sets left p (subst (Stand stands sets) is h) in
-      let front : (x : ℕ) → sum_by (times x) sets ≡ sum_by (times x) (r.1 ∷ r.0) = λ x. ap (sum_by (times x)) r.2 ∙ sum_by_push (times x) r.0 r.1 ∙ omega (arith, sum_by-cons (times x) r.1 r.0) in
-      record { done = r.1; rest = r.0; here = r.4; there = r.3; together = by_counts (r.1 ∷ r.0) all (turned r.0 r.1 (subst (All IsStrictlyIncreasing) r.2 u.sets_rise)) u.rising (λ x. counted x sets all u ∙ front x) }
+  -- the pieces stand last first in what is left
+  pub merged_first : (sets : List (List ℕ)) (pieces now left : List P) (p : P) (all : List ℕ) → now ≡ reverse pieces → now ≡ left ++ p ∷ [] → Stand stands sets pieces → IsUnion sets all → IsMerged p (reverse left) all
+  merged_first sets pieces now left p all turned is h u = go sets (subst (Stand stands sets) (sym (reverse-reverse pieces) ∙ ap reverse (sym turned ∙ is) ∙ reverse-append left (p ∷ [])) h) u
+    where
+      go : (sets : List (List ℕ)) → Stand stands sets (p ∷ reverse left) → IsUnion sets all → IsMerged p (reverse left) all
+      go [] h u = elim h [ ]
+      go (s ∷ ss) h u = record { done = s; rest = ss; here = h.0; there = h.1; together = u }
 
   -- the sets of the next two, and their union
-  pub record IsNext (merged p : P) (left : List P) (all : List ℕ) : Type 0 where
-    pub mine : List ℕ
-    pub theirs : List ℕ
-    pub both : List ℕ
-    pub rest : List (List ℕ)
-    pub here : stands mine merged
-    pub there : stands theirs p
-    pub united : IsUnion (mine ∷ theirs ∷ []) both
-    pub others : Stand stands rest left
-    pub together : IsUnion (both ∷ rest) all
-
-  pub next : (merged p : P) (pieces left : List P) (all : List ℕ) → pieces ≡ left ++ p ∷ [] → IsMerged merged pieces all → IsNext merged p left all
-  next merged p pieces left all is m =
-      let r = stand_pop m.rest left p (subst (Stand stands m.rest) is m.there) in
-      let sums : (x : ℕ) → sum_by (times x) (m.done ∷ m.rest) ≡ (times x m.done + times x r.1) + sum_by (times x) r.0 =
-      λ x. sum_by-cons (times x) m.done m.rest ∙ ap (λ n. times x m.done + n) (ap (sum_by (times x)) r.2 ∙ sum_by_push (times x) r.0 r.1) ∙ omega arith in
-      let ups = turned r.0 r.1 (subst (All IsStrictlyIncreasing) r.2 (rest_rise m.done m.rest m.together.sets_rise)) in
-      let u = united m.done r.1 r.0 all (both_rise m.done r.1 (first_rises m.done m.rest m.together.sets_rise) (first_rises r.1 r.0 ups)) (rest_rise r.1 r.0 ups) m.together.rising (λ x. counted x (m.done ∷ m.rest) all m.together ∙ sums x) in
-      record { mine = m.done; theirs = r.1; both = u.0; rest = r.0; here = m.here; there = r.4; united = u.1; others = r.3; together = u.2 }
+  pub next : (merged p : P) (pieces left : List P) (all : List ℕ) → pieces ≡ left ++ p ∷ [] → IsMerged merged (reverse pieces) all
+      → (mine theirs both : List ℕ) × stands mine merged × stands theirs p × IsUnion (mine ∷ theirs ∷ []) both × ((now : P) → stands both now → IsMerged now (reverse left) all)
+  next merged p pieces left all is m = go m.rest (subst (Stand stands m.rest) (ap reverse is ∙ reverse-append left (p ∷ [])) m.there) m.together
+    where
+      go : (rest : List (List ℕ)) → Stand stands rest (p ∷ reverse left) → IsUnion (m.done ∷ rest) all
+          → (mine theirs both : List ℕ) × stands mine merged × stands theirs p × IsUnion (mine ∷ theirs ∷ []) both × ((now : P) → stands both now → IsMerged now (reverse left) all)
+      go [] h u = elim h [ ]
+      go (s ∷ ss) h u =
+          let ups = rest_rise m.done (s ∷ ss) u.sets_rise in
+          let v = united m.done s ss all (both_rise m.done s (first_rises m.done (s ∷ ss) u.sets_rise) (first_rises s ss ups)) (rest_rise s ss ups) u.rising
+          (λ x. omega (arith, counted x (m.done ∷ s ∷ ss) all u, sum_by-cons (times x) m.done (s ∷ ss), sum_by-cons (times x) s ss)) in
+          (m.done, s, v.0, m.here, h.0, v.1, λ now is. record { done = v.0; rest = ss; here = is; there = h.1; together = v.2 })
 
   -- nothing is left
   pub merged_all : (merged : P) (all : List ℕ) → IsMerged merged [] all → stands all merged
-  merged_all merged all m = subst (λ s. stands s merged) (done_all m.rest m.there m.together) m.here
+  merged_all merged all m = go m.rest m.there m.together
     where
-      done_all : (rest : List (List ℕ)) → Stand stands rest [] → IsUnion (m.done ∷ rest) all → m.done ≡ all
-      done_all [] h u = alone m.done all u
-      done_all (s ∷ ss) h u = elim h [ ]
+      go : (rest : List (List ℕ)) → Stand stands rest [] → IsUnion (m.done ∷ rest) all → stands all merged
+      go [] h u = subst (λ s. stands s merged) (alone m.done all u) m.here
+      go (s ∷ ss) h u = elim h [ ]
+
+-- ---- the first fault, from what is known of the clusters that were drawn
+
+-- it is one of the faults
+abbrev pub Among : Fault → List Fault → Type 0
+Among f [] = ⊥
+Among f (g ∷ gs) = (f ≡ g) ⊎ Among f gs
+
+pub among_left : (f : Fault) (fs gs : List Fault) → Among f fs → Among f (fs ++ gs)
+among_left f [] gs h = elim h [ ]
+among_left f (g ∷ fs) gs h = grind (arith, among_left f fs gs)
+
+pub among_right : (f : Fault) (fs gs : List Fault) → Among f gs → Among f (fs ++ gs)
+among_right f [] gs h = h
+among_right f (g ∷ fs) gs h = inr (among_right f fs gs h)
+
+pub among_either : (f : Fault) (fs gs : List Fault) → Among f (fs ++ gs) → Among f fs ⊎ Among f gs
+among_either f [] gs h = inr h
+among_either f (g ∷ fs) gs h = grind (arith, among_either f fs gs)
+
+-- the least is one of them, and none lies lower
+pub least_is : (f : Fault) (fs : List Fault) → (g : Fault) × (least_fault (f ∷ fs) ≡ Some g) × Among g (f ∷ fs) × ((h : Fault) → Among h (f ∷ fs) → g.entry ≤ h.entry)
+least_is f [] = (f, refl, inl refl, λ h a. ⊎_elim (λ (e : h ≡ f). let same = ap (λ (x : Fault). x.entry) e in omega arith) (λ (n : ⊥). absurd n) a)
+least_is f (k ∷ ks) =
+    let r = least_is k ks in
+    elim (le_or_lt f.entry r.0.entry) [
+      | inl le ↦ (f, ap (λ o. Some (lesser_fault f o)) r.1 ∙ ap Some (cond-true (nat_le f.entry r.0.entry) f r.0 (le-leb f.entry r.0.entry le)), inl refl, λ h a. ⊎_elim (λ (e : h ≡ f). let same = ap (λ (x : Fault). x.entry) e in omega arith) (λ (in' : Among h (k ∷ ks)). let more = r.3 h in' in omega arith) a)
+      | inr lt ↦ (r.0, ap (λ o. Some (lesser_fault f o)) r.1 ∙ ap Some (cond-false (nat_le f.entry r.0.entry) f r.0 (lt-leb f.entry r.0.entry lt)), inr r.2, λ h a. ⊎_elim (λ (e : h ≡ f). let same = ap (λ (x : Fault). x.entry) e in omega arith) (λ (in' : Among h (k ∷ ks)). r.3 h in') a)
+    ]
+
+none_first : (faults : List (Option Fault)) → ((c : ℕ) → c < length faults → slice_get faults c ≡ Some None) → first_in faults ≡ None
+none_first [] h = refl
+none_first (None ∷ fs) h = none_first fs (λ c lt. h (suc c) (omega arith))
+none_first (Some f ∷ fs) h = cc (h 0 (omega arith))
+
+first_at : (faults : List (Option Fault)) (c : ℕ) (f : Fault) → slice_get faults c ≡ Some (Some f) → ((j : ℕ) → j < c → slice_get faults j ≡ Some None) → first_in faults ≡ Some f
+first_at [] c f at before = absurd (cc)
+first_at (None ∷ fs) zero f at before = absurd (cc)
+first_at (None ∷ fs) (suc c) f at before = first_at fs c f at (λ j lt. before (suc j) (omega arith))
+first_at (Some g ∷ fs) zero f at before = (cc)
+first_at (Some g ∷ fs) (suc c) f at before = let e = before 0 (omega arith) in absurd (cc)
+
+-- what is known of the clusters that were drawn: each that lies below the bar has no fault, or one of these; and each of these is the fault of one
+pub record Told (faults : List (Option Fault)) (bar : ℕ) (drawn : List ℕ) (mine : List Fault) : Type 0 where
+  pub sound : (c : ℕ) → 0 < times c drawn → c < bar → (slice_get faults c ≡ Some None) ⊎ ((f : Fault) × Among f mine × (slice_get faults c ≡ Some (Some f)))
+  pub own : (f : Fault) → Among f mine → (c : ℕ) × (0 < times c drawn) × (slice_get faults c ≡ Some (Some f))
+
+-- the bar isn't below the first fault: it is the number of clusters, or at a cluster with one of these faults
+abbrev pub Reaches : List (Option Fault) → ℕ → List Fault → Type 0
+Reaches faults bar mine = (length faults ≤ bar) ⊎ ((g : Fault) × Among g mine × (slice_get faults bar ≡ Some (Some g)))
+
+-- where the numbers below m are drawn, the fault at the least entry is the first
+pub first_told : (faults : List (Option Fault)) (bar m : ℕ) (drawn : List ℕ) (mine : List Fault)
+    → AreInEntryOrder faults → Told faults bar drawn mine → Reaches faults bar mine
+    → ((c : ℕ) → c < m → 0 < times c drawn) → ((c : ℕ) → 0 < times c drawn → c < m) → (mine ≡ [] → length faults ≤ m)
+    → least_fault mine ≡ first_in faults
+first_told faults bar m drawn [] order told reaches all only enough =
+    let long = enough refl in
+    let high = ⊎_elim (λ (le : length faults ≤ bar). le) (λ (g : (g : Fault) × ⊥ × (slice_get faults bar ≡ Some (Some g))). absurd g.1) reaches in
+    sym (none_first faults (λ c lt. ⊎_elim (λ (none : slice_get faults c ≡ Some None). none) (λ (x : (f : Fault) × ⊥ × (slice_get faults c ≡ Some (Some f))). absurd x.1) (told.sound c (all c (omega arith)) (omega arith))))
+first_told faults bar m drawn (g ∷ gs) order told reaches all only enough =
+    let least = least_is g gs in
+    let f = least.0 in
+    let own = told.own f least.2 in
+    let c = own.0 in
+    let within = slice_get_within faults c (Some f) own.2 in
+    let below_bar : c ≤ bar = grind (arith, reaches, order bar c, own.2, least.3) in
+    let m_above = only c own.1 in
+    least.1 ∙ sym (first_at faults c f own.2 (λ j lt. grind (arith, told.sound j (all j (omega arith)) (omega arith), order j c, own.2, least.3)))
+
+pub told_nothing : (faults : List (Option Fault)) (bar : ℕ) → Told faults bar [] []
+told_nothing faults bar = record { sound = λ c more lt. absurd (omega arith); own = λ f h. elim h [ ] }
+
+pub told_both : (faults : List (Option Fault)) (bar : ℕ) (drawn more : List ℕ) (mine others : List Fault) → Told faults bar drawn mine → Told faults bar more others → Told faults bar (drawn ++ more) (mine ++ others)
+told_both faults bar drawn more mine others t u = record {
+  sound = λ c some lt. grind (arith, cases_lt 0 (times c drawn), times_append c drawn more, t.sound c, u.sound c, among_left, among_right);
+  own = λ f h. ⊎_elim
+      (λ (a : Among f mine). let r = t.own f a in (r.0, omega (arith, r.1, times_append r.0 drawn more), r.2))
+      (λ (b : Among f others). let r = u.own f b in (r.0, omega (arith, r.1, times_append r.0 drawn more), r.2))
+      (among_either f mine others h);
+}

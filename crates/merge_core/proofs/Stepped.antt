@@ -1,8 +1,13 @@
 -- What a step of the machine did, case by case.
-use Rattle.std.proofs.Common.{◌≡◌, ℕ, ◌+◌, ◌<◌, ◌≤◌, List, [], ◌∷◌, ◌++◌, min, Option, None, Some, refl, sym, subst, append-nil, append_assoc, arith, Result, Ok, Err, slice_get, slice_set}
+use Rattle.lemmas.proofs.{◌≡◌, ℕ, ◌+◌, ◌<◌, ◌≤◌, List, [], ◌∷◌, ◌++◌, min, Option, None, Some, refl, sym, subst, append-nil, append_assoc, arith, Result, Ok, Err, slice_get, slice_set, length, get_or, set, ap, ◌∙◌, option_map, map-set, set-get_or, slice_get-get_or, slice_get-map}
 use Rattle.std.proofs.lemmas.Bool.Decides.{nat_tests}
 use Rattle.rdf_values.specs.{claim_next, claim_step, end_slot, Ended, Event, Faulted, give_up, if_running, Left, Machine, pass_over, Phase, replay_from, Running, running_step, Slot, slot_of, step_of, StepCause, with_slot}
 use Rattle.rdf_values.specs.declared.clusters.event.Event.TheVariants.{Claim, Finish, Fault, Skip, End}
+use Rattle.merge_core.specs.declared.slot.Front.{Front}
+use Rattle.merge_core.specs.declared.slot.Slot.{Slot as CoreSlot}
+use Rattle.merge_core.specs.declared.refusal.StepRefusal.{StepRefusal}
+use Rattle.merge_core.specs.declared.refusal.StepRefusal.TheVariants.{Cause, Memory}
+use Rattle.merge_core.specs.{Refused, seen_machine, seen_slot, seen_slots, Steps}
 
 abbrev pub slot_with : List ℕ → Option ℕ → Phase → Slot
 slot_with drawn held phase = record { drawn = drawn; held = held; phase = phase }
@@ -57,8 +62,7 @@ stepped_at clusters m e after o h k = grind (arith, slotted, running, how)
 pub stepped : (clusters : ℕ) (m : Machine) (e : Event) (after : Machine) → claim_step clusters m e ≡ Ok after → IsStepped clusters m e after
 stepped clusters m e after h = stepped_at clusters m e after (slice_get m.slots (slot_of e)) refl h
 
--- ---- what steps keep is kept by all events
-
+-- what steps keep is kept by all events
 pub replays : (clusters : ℕ) (P : List Event → Machine → Type 0)
     → ((past : List Event) (m : Machine) (e : Event) (after : Machine) → P past m → IsStepped clusters m e after → P (past ++ e ∷ []) after)
     → (n : ℕ) (past es : List Event) (m after : Machine) → P past m → replay_from clusters n m es ≡ Ok after → P (past ++ es) after
@@ -70,3 +74,32 @@ replays clusters P keeps n past (e ∷ es) m after p h =
         → (r : Result Machine StepCause) → claim_step clusters m e ≡ r → ◌≡◌ {A = Result Machine (ℕ × StepCause)} (elim r [ Err cause ↦ Err (n, cause) | Ok next ↦ replay_from clusters (n + 1) next es ]) (Ok after) → P (past ++ e ∷ es) after
     go rest (Err cause) is k = absurd (cc)
     go rest (Ok next) is k = subst (λ l. P l after) (append_assoc past (e ∷ []) es) (rest next is k)
+
+-- ---- a step of one slot among all
+
+module _ (clusters number : ℕ) (front : Front) (slots : List CoreSlot) (e : Event) (d now : CoreSlot) (is : number ≡ slot_of e) (within : number < length slots) where
+  found : slice_get (seen_slots slots) number ≡ Some (seen_slot (get_or slots number d))
+  found = slice_get-map seen_slot slots number ∙ ap (option_map seen_slot) (slice_get-get_or slots number d within)
+
+  -- the slot of that number, as it steps under this number
+  abbrev slot_step : ℕ → Result Left StepCause
+  slot_step n = if_running n (seen_slot (get_or slots number d)).phase (running_step clusters front.next front.bar (seen_slot (get_or slots number d)) e)
+
+  slot_stepped : claim_step clusters (seen_machine front slots) e ≡ with_slot (seen_machine front slots) number (slot_step number)
+  slot_stepped =
+      ap (λ n. step_of clusters (seen_machine front slots) e (slice_get (seen_slots slots) n)) (sym is)
+      ∙ ap (step_of clusters (seen_machine front slots) e) found
+      ∙ ap (λ n. with_slot (seen_machine front slots) n (slot_step n)) (sym is)
+
+  unchanged : now ≡ get_or slots number d → set slots number now ≡ slots
+  unchanged same = ap (set slots number) same ∙ set-get_or slots number d
+
+  -- the machine's step by that of the slot
+  abbrev pub StepsAmong : Result Front StepRefusal → Type 0
+  StepsAmong (Ok after) = claim_step clusters (seen_machine front slots) e ≡ Ok (seen_machine after (set slots number now))
+  StepsAmong (Err refusal) = (set slots number now ≡ slots) × Refused (claim_step clusters (seen_machine front slots) e) refusal
+
+  pub among : (r : Result Front StepRefusal) → Steps (slot_step number) (get_or slots number d) now r → StepsAmong r
+  among (Ok after) steps = slot_stepped ∙ ap (with_slot (seen_machine front slots) number) steps ∙ ap (λ l. Ok (record { next = after.next; bar = after.bar; slots = l })) (sym (map-set seen_slot slots number now))
+  among (Err (Cause c)) steps = (unchanged steps.0, slot_stepped ∙ ap (with_slot (seen_machine front slots) number) steps.1)
+  among (Err Memory) steps = (unchanged steps.0, tt)

@@ -1,14 +1,14 @@
 -- The machine and its slots as contracts see them, and what a step and a replay answer.
-use Rattle.std.specs.Prelude.{◌≡◌, ℕ, List, [], None, Result, Ok, Err, map, MatchResult}
+use Rattle.std.specs.Prelude.{◌≡◌, ℕ, List, [], None, Result, Ok, Err, map, MatchResult, ◌∷◌}
 use Rattle.rdf_values.specs.{Ended, Faulted, Left, Machine, Phase, Running, Slot, StepCause}
 use Rattle.merge_core.specs.declared.slot.Front.{Front}
 use Rattle.merge_core.specs.declared.slot.Phase.{Phase as CorePhase}
-use Rattle.merge_core.specs.declared.slot.Phase.TheVariants as core
 use Rattle.merge_core.specs.declared.slot.Slot.{Slot as CoreSlot}
 use Rattle.merge_core.specs.declared.refusal.ReplayRefusal.{ReplayRefusal}
-use Rattle.merge_core.specs.declared.refusal.ReplayRefusal.TheVariants as replay
 use Rattle.merge_core.specs.declared.refusal.StepRefusal.{StepRefusal}
 use Rattle.merge_core.specs.declared.refusal.StepRefusal.TheVariants.{Cause, Memory}
+use Rattle.merge_core.specs.declared.slot.Phase.TheVariants as core
+use Rattle.merge_core.specs.declared.refusal.ReplayRefusal.TheVariants as replay
 
 abbrev pub seen_phase : CorePhase → Phase
 seen_phase core.Running = Running
@@ -59,3 +59,9 @@ RefusedAt wanted replay.Memory = Unit {0}
 -- over these clusters the machine is the wanted one
 abbrev pub Replays : ℕ → Result Machine (ℕ × StepCause) → Result CoreView ReplayRefusal → Type 0
 Replays clusters wanted answer = MatchResult answer (λ core. (core.clusters ≡ clusters) × (wanted ≡ Ok core.machine)) (λ refusal. RefusedAt wanted refusal)
+
+-- as many pieces as sets, each of which stands for its set
+abbrev pub Stand : {P : Type 0} → (List ℕ → P → Type 0) → List (List ℕ) → List P → Type 0
+Stand stands [] [] = Unit {0}
+Stand stands (set ∷ sets) (p ∷ ps) = stands set p × Stand stands sets ps
+Stand stands sets ps = ⊥

@@ -49,7 +49,7 @@ impl Core {
     }
 
     /// One event. After a refusal nothing has changed.
-    #[tactic(auto, using(crate::proofs::Stepping::among))]
+    #[tactic(auto, using(crate::proofs::Stepped::among))]
     pub fn step(&mut self, event: Event) -> Result<(), StepRefusal>
         ensures { IsStep (claim_step self.old.clusters self.old.machine event) self.old self.new result }
     {

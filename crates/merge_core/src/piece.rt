@@ -40,6 +40,7 @@ pub fn merge_all<P: Piece>(pieces: ListOf<P>) -> Result<P, Memory>
     ensures { (job : P.Job) (sets : List (List ℕ)) (all : List ℕ) → Stand (P.stands job) sets pieces → IsUnion sets all → IfOk result (λ piece. P.stands job all piece) }
 {
     let mut left = pieces.into_vec();
+    left.reverse();
     let Some(mut merged) = left.pop() else {
         unreachable!()
     };

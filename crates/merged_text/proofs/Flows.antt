@@ -1,13 +1,12 @@
 -- The lines of a report's filters, by their numbers.
-use Rattle.std.proofs.Common.{◌≡◌, ◌⊎◌, inl, inr, ℕ, ◌+◌, ◌<◌, ◌≤◌, List, [], ◌∷◌, ◌++◌, length, map, drop, Option, None, Some, refl, sym, ap, ap₂, ◌∙◌, arith, append_assoc, append-nil, codes, flat_map, option_map, slice_get, unwrap_or}
-use Rattle.lemmas.proofs.{map-append, none_left, same_Some, slice_get-map}
+use Rattle.lemmas.proofs.{◌≡◌, ◌⊎◌, inl, inr, ℕ, ◌+◌, ◌<◌, ◌≤◌, List, [], ◌∷◌, ◌++◌, length, map, drop, Option, None, Some, refl, sym, ap, ap₂, ◌∙◌, arith, append_assoc, append-nil, codes, flat_map, option_map, slice_get, unwrap_or, map-append, drop_all, same_Some, slice_get-map}
 use Rattle.rdf_values.specs.{Column, FunctionNames, named_before, Path, path, Statement}
 use Rattle.rdf_values.specs.declared.scripts.statement.Statement.TheVariants.{Filter}
 use Rattle.rdf_model.specs.{filter_label, FilterCounts, flow_line, flow_lines}
 use Rattle.loop_pieces.specs.{Counts}
 use Rattle.graph_numbers.specs.{FilterAt, filters, own_filters}
 use Rattle.result_text.specs.{counts_seen}
-use Rattle.result_text.proofs.CellNames.{one_left, put_last, put_next}
+use Rattle.result_text.proofs.PassLines.{one_left, put_last, put_next}
 use Rattle.merged_text.specs.{filter_counts, label_of, with_labels}
 
 -- the lines of filters, of which the first shown was reached by so many entries
@@ -53,8 +52,8 @@ module _ (fs : List FilterAt) where
   flow_end text all name reached i ns cs past h = put_last all text (flows name reached (filter_counts fs (drop i ns) (drop i cs))) h (ap (flows name reached) (go past))
     where
       go : (length ns ≤ i) ⊎ (length cs ≤ i) → ◌≡◌ {A = List (List ℕ × FilterCounts)} (filter_counts fs (drop i ns) (drop i cs)) []
-      go (inl le) = ap (λ l. filter_counts fs l (drop i cs)) (none_left ns i le)
-      go (inr le) = ap (filter_counts fs (drop i ns)) (none_left cs i le) ∙ none_counted (drop i ns)
+      go (inl le) = ap (λ l. filter_counts fs l (drop i cs)) (drop_all i ns le)
+      go (inr le) = ap (filter_counts fs (drop i ns)) (drop_all i cs le) ∙ none_counted (drop i ns)
 
 -- ---- labels
 

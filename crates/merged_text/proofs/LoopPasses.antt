@@ -1,13 +1,10 @@
 -- A pass of a graph's loop by its number, and its printed lines.
-use Rattle.std.proofs.Common.{◌≡◌, ℕ, List, [], ◌∷◌, ◌++◌, length, map, Option, None, Some, refl, sym, ap, ap₂, ◌∙◌, subst, codes, option_map, slice_get, unwrap_or}
-use Rattle.lemmas.proofs.{length-map, same_Some, slice_get-map}
+use Rattle.lemmas.proofs.{◌≡◌, ℕ, List, [], ◌∷◌, ◌++◌, length, map, Option, None, Some, refl, sym, ap, ap₂, ◌∙◌, subst, codes, option_map, slice_get, unwrap_or, length-map, same_Some, slice_get-map}
 use Rattle.rdf_values.specs.{ActionAt, ActionKind, Booked, Booking, bookings, fn_names, FnName, Function, FunctionNames, history, named_before, Pass, Path, ReportOn}
 use Rattle.rdf_model.specs.{Dataset, filled_lines, flow_lines, label, loop_passes, loop_results}
 use Rattle.graph_numbers.specs.{booked_statements, FilterAt, graph_filters, graph_loops, graph_of, graph_results, graph_variations, GraphView, kind_of_booking, Pass as NumberedPass, pass_at, ResultAt, ResultKind, under_at}
-use Rattle.graph_numbers.proofs.Covering.{filters_are_the_scripts, reports_cover_filters}
+use Rattle.graph_numbers.proofs.Covering.{filters_are_the_scripts, reports_cover_filters, loops_are, booked_are}
 use Rattle.graph_numbers.proofs.Placing.{itself}
-use Rattle.graph_numbers.proofs.Looping.{loops_are}
-use Rattle.graph_numbers.proofs.Resulting.{booked_are}
 use Rattle.result_text.specs.{passes_at, under_in, value_lines}
 use Rattle.result_text.proofs.PassLines.{filled_is, IsPassAt}
 use Rattle.shard_lines.specs.{counts_of, ShardLine}

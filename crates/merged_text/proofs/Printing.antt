@@ -1,14 +1,12 @@
 -- The Prints in order, and the lines of each.
-use Rattle.std.proofs.Common.{if◌then◌else◌, ◌≡◌, ◌⊎◌, inl, inr, ℕ, suc, ◌+◌, ◌<◌, ◌≤◌, Bool, true, false, List, [], ◌∷◌, ◌++◌, length, drop, Option, None, Some, refl, sym, ap, ap₂, ◌∙◌, arith, append_assoc, append-nil, option_map, slice_get}
-use Rattle.lemmas.proofs.{length-map, none_left, same_Some, slice_get-map, slice_get_within, something_at}
+use Rattle.lemmas.proofs.{if◌then◌else◌, ◌≡◌, ◌⊎◌, inl, inr, ℕ, suc, ◌+◌, ◌<◌, ◌≤◌, Bool, true, false, List, [], ◌∷◌, ◌++◌, length, drop, Option, None, Some, refl, sym, ap, ap₂, ◌∙◌, arith, append_assoc, append-nil, option_map, slice_get, length-map, drop_all, same_Some, slice_get-map, slice_get_within, something_at}
 use Rattle.rdf_values.specs.{Booked, bookings, Fault, Pass, place, same}
 use Rattle.rdf_model.specs.{Access, accesses, fault_line, in_front_of, loop_of, Printed}
 use Rattle.rdf_model.proofs.Accepted.{names_equal}
 use Rattle.graph_numbers.specs.{booked_statements, graph_prints, graph_results, GraphView, result_number, ResultAt}
-use Rattle.graph_numbers.proofs.Resulting.{booked_are}
+use Rattle.graph_numbers.proofs.Covering.{booked_are}
 use Rattle.result_text.specs.{passes_at}
-use Rattle.result_text.proofs.CellNames.{one_left, put_last, put_next}
-use Rattle.result_text.proofs.PassLines.{name_is}
+use Rattle.result_text.proofs.PassLines.{one_left, put_last, put_next, name_is}
 use Rattle.shard_lines.specs.{ShardLine}
 use Rattle.shard_files.specs.{ShardLoop}
 use Rattle.shard_files.specs.declared.shard_loop.ShardLoop.TheVariants.{Whole, Faulted}
@@ -36,8 +34,8 @@ pub line_end : (text all name : List ℕ) (i : ℕ) (ps : List Pass) (ls : List 
 line_end text all name i ps ls past h = put_last all text (lines_of_result name (drop i ps) (drop i ls)) h (go past)
   where
     go : (length ps ≤ i) ⊎ (length ls ≤ i) → lines_of_result name (drop i ps) (drop i ls) ≡ []
-    go (inl le) = ap (λ l. lines_of_result name l (drop i ls)) (none_left ps i le)
-    go (inr le) = ap (lines_of_result name (drop i ps)) (none_left ls i le) ∙ no_lines name (drop i ps)
+    go (inl le) = ap (λ l. lines_of_result name l (drop i ls)) (drop_all i ps le)
+    go (inr le) = ap (lines_of_result name (drop i ps)) (drop_all i ls le) ∙ no_lines name (drop i ps)
 
 -- ---- the result of a Print
 
@@ -116,7 +114,7 @@ module _ (g : GraphView) (loops : List ShardLoop) (whole : Printed) where
   ends_there text now print a at gives h = sym (gives (prints_text g loops (drop (print + 1) (accesses (booked_statements g))))) ∙ sym (ap (in_front_of text) (left print a at)) ∙ h
 
   pub all_written : (text : List ℕ) (print : ℕ) → length (accesses (booked_statements g)) ≤ print → IsWritten text print → record { bytes = text; status = 0 } ≡ whole
-  all_written text print le h = ap (λ t. record { bytes = t; status = 0 }) (sym (append-nil text)) ∙ sym (ap (λ l. in_front_of text (prints_text g loops l)) (none_left (accesses (booked_statements g)) print le)) ∙ h
+  all_written text print le h = ap (λ t. record { bytes = t; status = 0 }) (sym (append-nil text)) ∙ sym (ap (λ l. in_front_of text (prints_text g loops l)) (drop_all print (accesses (booked_statements g)) le)) ∙ h
 
 -- nothing is written yet
 pub begin_written : (g : GraphView) (loops : List ShardLoop) (text : List ℕ) → text ≡ [] → IsWritten g loops (prints_text g loops (accesses (booked_statements g))) text 0

@@ -1,9 +1,9 @@
 -- The rows of the cells of a plane.
-use Rattle.std.proofs.Common.{◌≡◌, ℕ, ℤ, zero, suc, ◌+◌, ◌-◌, ◌<◌, ◌≤◌, append-nil, List, [], ◌∷◌, ◌++◌, map, take, drop, refl, sym, ap, ◌∙◌, arith}
+use Rattle.lemmas.proofs.{◌≡◌, ℕ, ℤ, zero, suc, ◌+◌, ◌-◌, ◌<◌, ◌≤◌, append-nil, List, [], ◌∷◌, ◌++◌, map, take, drop, refl, sym, ap, ◌∙◌, arith}
 use Rattle.rdf_values.specs.results.Fold.{Cell}
 use Rattle.histograms.specs.{cell_seen, CellSum}
 use Rattle.result_text.specs.{plane_at, planes_on}
-use Rattle.result_text.proofs.CellNames.{put_next}
+use Rattle.result_text.proofs.PassLines.{put_next}
 use Rattle.merged_text.specs.{rows_of}
 
 pub map-take : {A B : Type 0} (f : A → B) (n : ℕ) (xs : List A) → map f (take n xs) ≡ take n (map f xs)

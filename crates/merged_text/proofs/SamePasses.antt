@@ -1,5 +1,5 @@
 -- A pass by its line prints what it prints by itself.
-use Rattle.std.proofs.Common.{◌≡◌, ℕ, zero, suc, List, [], ◌∷◌, ◌++◌, length, map, take, drop, refl, sym, ap, ap₂, ◌∙◌, arith, if◌then◌else◌, flat_map}
+use Rattle.lemmas.proofs.{◌≡◌, ℕ, zero, suc, List, [], ◌∷◌, ◌++◌, length, map, take, drop, refl, sym, ap, ap₂, ◌∙◌, arith, if◌then◌else◌, flat_map}
 use Rattle.std.proofs.lemmas.List.{length-map, map-append}
 use Rattle.rdf_values.specs.{ActionAt, ActionKind, Booking, cells_on, flat_cell, fold_items, Item, Pass, Path, ReportOn, same, square_cell}
 use Rattle.rdf_values.specs.results.Fold.{Cell}

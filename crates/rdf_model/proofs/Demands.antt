@@ -1,8 +1,7 @@
 -- What rows demand, what reports come to, and what a run's output depends on.
-use Rattle.std.proofs.Common.{◌≡◌, true, ◌&&◌, Some, None, refl, ap, nat_eq, ℕ, ◌≤◌, Bool, false, List, [], ◌∷◌, arith, count_by, ◌⊎◌, inl, Option, flat_map}
-use Rattle.lemmas.proofs.{both_true, Decides-eqb}
-use Rattle.rdf_values.specs.{same, same_variation, Under, Variation, Column, Function, maker, named_maker, Path, Statement, target_of, Value, Booked, bookings, Fault, history, is_watched, results_named, Script}
-use Rattle.rdf_model.specs.{Demand, same_demand, same_site, same_under, Site, ◌>>=◌, column_in, cutflow, Dataset, Entry, Feed, Gives, named_in, named_value, Outcome, passes_filters, report_in, Access, access_passes, access_printed, accesses, Course, first_fault, in_front_of, Printed, printed, result_lines, transcript}
+use Rattle.lemmas.proofs.{◌≡◌, true, ◌&&◌, Some, None, refl, ap, nat_eq, ℕ, ◌≤◌, Bool, false, List, [], ◌∷◌, arith, ◌⊎◌, inl, Option, both_true, Decides-eqb}
+use Rattle.rdf_values.specs.{same, same_variation, Under, Variation, Column, Function, maker, named_maker, Path, Statement, target_of, Value, Fault, history, is_watched, Script}
+use Rattle.rdf_model.specs.{Demand, same_demand, same_site, same_under, Site, ◌>>=◌, column_in, cutflow, Dataset, Entry, Feed, Gives, named_in, named_value, Outcome, passes_filters, report_in, Access, access_passes, access_printed, accesses, Course, first_fault, Printed, printed, transcript}
 use Rattle.rdf_model.proofs.Accepted.{names_equal}
 use Rattle.std.proofs.lemmas.List.Sums.{sum_by-le-sum_by}
 
@@ -38,11 +37,8 @@ module _ (d : Dataset) where
   passed_above : (s : Statement) (up : Path) (row : List Value) → passes_filters d (s ∷ up) row ≡ true → passes_filters d up row ≡ true
   passed_above s up row h = grind arith
 
-count_le : {A : Type 0} (p q : A → Bool) → ((a : A) → p a ≡ true → q a ≡ true) → (xs : List A) → count_by p xs ≤ count_by q xs
-count_le p q h xs = grind (arith, sum_by-le-sum_by)
-
 pub passed_are_among_reached : (d : Dataset) (filter : Path) → (cutflow d filter).pass ≤ (cutflow d filter).all
-passed_are_among_reached d filter = grind (arith, count_le, passed_above)
+passed_are_among_reached d filter = grind (arith, sum_by-le-sum_by, passed_above)
 
 -- ---- reports
 
@@ -67,12 +63,9 @@ columns_come_from_their_maker d row at name = named_from_maker d.fns d.columns r
 -- ---- What the output of a run depends on.
 
 module _ (script : List Statement) (d : Dataset) (one other : Course) (unwatched : (name : List ℕ) → is_watched script name ≡ false) where
-  result_lines_alike : (b : Booked) → result_lines script d one b ≡ result_lines script d other b
-  result_lines_alike b = grind arith
-
   access_alike : (a : Access) (f : Option Fault) (rest : Printed) → access_printed script d one a f rest ≡ access_printed script d other a f rest
   access_alike a (Some f) rest = refl
-  access_alike a None rest = λ i. in_front_of (flat_map (λ b. result_lines_alike b i) (results_named a.result (bookings script))) rest
+  access_alike a None rest = grind arith
 
   printed_alike : (as' : List Access) → printed script d one as' ≡ printed script d other as'
   printed_alike [] = refl

@@ -1,5 +1,5 @@
 -- Evaluation is the same whatever stands for what is missing.
-use Rattle.std.proofs.Common.{arith, ◌≡◌, ℕ, ℤ, Bool, true, false, List, [], ◌∷◌, Option, if◌then◌else◌, length, nat_eq, slice_get, ◌+ℤ◌, pos, negsuc}
+use Rattle.lemmas.proofs.{arith, ◌≡◌, ℕ, ℤ, Bool, true, false, List, [], ◌∷◌, Option, if◌then◌else◌, length, nat_eq, slice_get, ◌+ℤ◌, pos, negsuc}
 use Rattle.rdf_values.specs.{Bin, BinOp, Call, Callee, callee, Col, Column, Cond, EachArgument, EachColumn, End, fn_names, Function, More, NamedTree, Neg, Not, Path, Pick, place, same, target_of, Tree, Trees, Under, Value, VaryValues}
 use Rattle.rdf_values.proofs.KeptLemmas.{all_columns}
 use Rattle.rdf_values.specs.declared.scripts.statement.Statement.TheVariants.{Define, Redefine, Vary}
@@ -48,20 +48,8 @@ module _ (M N : Type 0) where
   operation_alike BinOp.Or needs k = needs
   operation_alike o h k = in_order_alike (value_operation o) (value_operation o) (value_alike o) h k
 
-  negation_alike : (v : Value) → Alike (negation {M = M} v) (negation {M = N} v)
-  negation_alike v = grind (arith, bind_alike, checked_alike, for_all_alike, gives)
-
-  inversion_alike : (v : Value) → Alike (inversion {M = M} v) (inversion {M = N} v)
-  inversion_alike v = grind (arith, gives)
-
-  chosen_alike : (v : Value) {a b : Outcome M Value} {a' b' : Outcome N Value} → Alike a a' → Alike b b' → Alike (chosen_side v a b) (chosen_side v a' b')
-  chosen_alike v h k = grind (arith, gives)
-
-  element_of_alike : (o : Option ℤ) → Alike (element_outcome {M = M} o) (element_outcome {M = N} o)
-  element_of_alike o = grind (arith, gives, faults)
-
   element_alike : (xs : List ℤ) (i : ℤ) → Alike (element {M = M} xs i) (element {M = N} xs i)
-  element_alike xs (pos i) = element_of_alike (slice_get xs i)
+  element_alike xs (pos i) = grind (arith, gives, faults)
   element_alike xs (negsuc i) = faults
 
   picked_alike : (v w : Value) → Alike (picked {M = M} v w) (picked {M = N} v w)
@@ -91,10 +79,10 @@ module _ (M N : Type 0) where
     mutual
       pub evaluate_alike : (e : Tree C F) → EachColumn (λ c. Alike (look c) (look' c)) e → Alike (evaluate look call e) (evaluate look' call' e)
       evaluate_alike (Col c) h = h
-      evaluate_alike (Neg a) h = bind_alike _ _ (evaluate_alike a h) negation_alike
-      evaluate_alike (Not a) h = bind_alike _ _ (evaluate_alike a h) inversion_alike
+      evaluate_alike (Neg a) h = bind_alike _ _ (evaluate_alike a h) (λ v. grind (arith, bind_alike, checked_alike, for_all_alike, gives))
+      evaluate_alike (Not a) h = bind_alike _ _ (evaluate_alike a h) (λ v. grind (arith, gives))
       evaluate_alike (Bin o a b) h = operation_alike o (evaluate_alike a h.0) (evaluate_alike b h.1)
-      evaluate_alike (Cond c a b) h = bind_alike _ _ (evaluate_alike c h.0) (λ v. chosen_alike v (evaluate_alike a h.1) (evaluate_alike b h.2))
+      evaluate_alike (Cond c a b) h = bind_alike _ _ (evaluate_alike c h.0) (λ v. grind (arith, gives, evaluate_alike a h.1, evaluate_alike b h.2))
       evaluate_alike (Pick v i) h = in_order_alike picked picked picked_alike (evaluate_alike v h.0) (evaluate_alike i h.1)
       evaluate_alike (Call f args) h = bind_alike _ _ (evaluate_all_alike args h) (calls f)
       evaluate_alike e h = gives

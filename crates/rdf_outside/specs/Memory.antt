@@ -1,12 +1,28 @@
 -- What a shelf in memory holds.
-use Rattle.std.specs.Prelude.{◌≡◌, nat_eq, ℕ, zero, suc, ◌+◌, ◌-◌, ◌^◌, min, List, [], ◌∷◌, Option, Some, None, Bool, true, false, Result, Ok, Err, if◌then◌else◌, drop}
+use Rattle.std.specs.Prelude.{◌≡◌, nat_eq, ℕ, ◌+◌, ◌-◌, ◌^◌, min, Bool, if◌then◌else◌, zero, suc, List, [], ◌∷◌, Option, Some, None, true, false, Result, Ok, Err, drop}
+use Rattle.std.specs.List.{list_any}
+use Rattle.rdf_outside.specs.declared.call_list.CallList.{CallList}
 use Rattle.std.specs.Cmp.Lexicographic.{pointwise}
 use Rattle.rdf_outside.specs.declared.memory_shelf.MemoryFile.{MemoryFile}
 use Rattle.rdf_outside.specs.declared.memory_shelf.MemoryShelf.{MemoryShelf}
 use Rattle.rdf_outside.specs.declared.memory_shelf.Place.{Place}
 use Rattle.rdf_outside.specs.declared.shelf.TurnStop.{TurnStop}
 use Rattle.rdf_outside.specs.declared.shelf.TurnStop.TheVariants.{Failed}
-use Rattle.rdf_outside.specs.Calls.{is_listed, faults_after, Counts}
+
+-- ---- the calls of a shelf or a sink in memory, and which of them fail
+
+-- the number of the next call is among those that are to fail
+abbrev pub is_listed : CallList → Bool
+is_listed c = list_any (λ call. nat_eq call c.made) c.listed.items
+
+-- one more call was made, and those that are to fail are the same
+pub record Counts (before after : CallList) : Type 0 where
+  pub made : after.made ≡ min (before.made + 1) (2 ^ 64 - 1)
+  pub listed : after.listed.items ≡ before.listed.items
+
+-- the count of faults, one higher where this call failed
+abbrev pub faults_after : ℕ → Bool → ℕ
+faults_after faults failed = if failed then min (faults + 1) (2 ^ 64 - 1) else faults
 
 -- two texts have the same bytes
 abbrev pub same_bytes : List ℕ → List ℕ → Bool

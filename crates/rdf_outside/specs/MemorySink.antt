@@ -1,6 +1,6 @@
 -- What a sink in memory holds, and what a write does to it.
 use Rattle.std.specs.Prelude.{◌≡◌, ◌<◌, ℕ, ◌+◌, ◌-◌, ◌^◌, ◌⊎◌, min, List, [], ◌++◌, Result, Ok, Err, true, length, take}
-use Rattle.rdf_outside.specs.Calls.{is_listed, Counts}
+use Rattle.rdf_outside.specs.Memory.{is_listed, Counts}
 use Rattle.rdf_outside.specs.declared.shelf.Failed.{Failed}
 use Rattle.rdf_outside.specs.declared.memory_sink.MemorySink.{MemorySink}
 

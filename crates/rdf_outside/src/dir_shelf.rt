@@ -38,8 +38,7 @@ impl<R: Files> Shelf for DirShelf<'_, R>
 where
     R::File: FileParts,
 {
-    ghost use Rattle.rdf_outside.specs.Answers.{KeepsFound, ReadsOn};
-    ghost use Rattle.rdf_outside.specs.Outside.{HasCause, ReadsFrom, TurnHasCause};
+    ghost use Rattle.rdf_outside.specs.Outside.{KeepsFound, ReadsOn, HasCause, ReadsFrom, TurnHasCause};
 
     ghost files = { λ _. None };
 

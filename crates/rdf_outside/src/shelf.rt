@@ -1,8 +1,7 @@
 // What gives files, and the names that it was turned to.
 ghost use Rattle.std.specs.Prelude.{◌≡◌, ◌∷◌, ◌++◌, [], ℕ, List, Option, IfSome, IfNone};
 ghost use Rattle.std.specs.Thread.{IsSync};
-ghost use Rattle.rdf_outside.specs.Outside.{HasCause, TurnHasCause, TurnsTo, ReadsFrom};
-ghost use Rattle.rdf_outside.specs.Whole.{ReadsParts};
+ghost use Rattle.rdf_outside.specs.Outside.{HasCause, TurnHasCause, TurnsTo, ReadsFrom, ReadsParts};
 ghost use Rattle.std.specs.Borrow.{ftrue};
 
 use rdf_values::Bytes;

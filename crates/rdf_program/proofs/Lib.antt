@@ -1,3 +1,2 @@
 mod Answering
 mod MadeEntries
-mod OneDue

@@ -1,5 +1,5 @@
 -- Entries and the script's length, computed.
-use Rattle.std.proofs.Common.{◌≡◌, codes, length, refl}
+use Rattle.lemmas.proofs.{◌≡◌, codes, length, refl}
 use Rattle.std.specs.Fmt.{digits}
 use Rattle.rdf_values.specs.{entry_line, generated_script}
 

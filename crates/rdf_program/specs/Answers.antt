@@ -1,20 +1,21 @@
 -- What the program answers before anything is written.
-use Rattle.std.specs.Prelude.{◌≡◌, ◌⊎◌, ℕ, List, [], ◌∷◌, Option, Some, None, IfSome, IsSome, MatchOption, Ok}
-use Rattle.rdf_outside.specs.{Rose}
+use Rattle.std.specs.Prelude.{◌≡◌, ◌⊎◌, ℕ, List, [], ◌∷◌, Option, Some, None, IfSome, IsSome, MatchOption, Ok, ◌++◌, ◌<◌, ◌≤◌}
+use Rattle.rdf_outside.specs.{Rose, Appends, AppendsPart}
 use Rattle.rdf_values.specs.{Function, MarkedTable, read_failed_line, Script, generated_table, table_of}
 use Rattle.command_words.specs.{asked_of, Friend, Input}
-use Rattle.input_files.specs.{due_of, Files, HoldsTheScript, HoldsTheTable, IsLast, marked_table, ReadFile, RefusesTableFile, Tells}
+use Rattle.input_files.specs.{due_of, Files, HoldsTheScript, HoldsTheTable, IsLast, marked_table, ReadFile, RefusesTableFile, Tells, WritesDuePart}
 use Rattle.input_files.specs.Due.{Due}
 use Rattle.result_text.specs.{usage_line}
-use Rattle.rdf_program.specs.Due.{IsDueToFiles, IsDueToMade, IsFinal, ReadsFriend, WithFriendFile}
+use Rattle.rdf_program.specs.Due.{IsDueToFiles, IsDueToMade, IsFinal, ReadsFriend, WithFriendFile, IsDue}
 use Rattle.rdf_program.specs.declared.answer.Answer.{Answer}
 use Rattle.rdf_program.specs.declared.status.Status.{Status}
 use Rattle.rdf_program.specs.declared.status.Status.TheVariants.{Words, ReadFault}
-use Rattle.columns.specs.ColumnsView.{ColumnsView}
+use Rattle.columns.specs.Views.{ColumnsView}
 use Rattle.table_csv.specs.{columns_over, csv_records, marked_in, MarkedPieces}
 use Rattle.input_files.specs.declared.refuse.FileCause.TheVariants.{TableRefused}
 use Rattle.rdf_program.specs.declared.answer.Read.{Read}
 use Rattle.rdf_program.specs.declared.answer.Read.TheVariants.{Whole, Refused}
+use Rattle.rdf_program.specs.declared.means.Settings.{Settings}
 
 -- the words ask for a run
 abbrev pub AreTaken : List (List ℕ) → Type 0
@@ -122,3 +123,42 @@ ReadsFriendFile told name before now (Refused a) = IsAnswer (λ files d. WithFri
 abbrev pub ReadsMade : ℕ → ℕ → ℕ → ReadFile ColumnsView → Type 0
 ReadsMade entries seed size (ReadFile.Whole columns) = HoldsTheTable (marked_in columns) (Some (generated_table entries seed)) × (columns ≡ columns_over (marked_in columns) size)
 ReadsMade entries seed size (ReadFile.Refused r) = (r.cause ≡ TableRefused) × RefusesTableFile [] (Some (generated_table entries seed)) (due_of r.cause r.line)
+
+-- ---- what the top call leaves written where a read or a write failed, and the files that it turned to
+
+-- the words ask for a run over two files
+abbrev pub NamesFiles : Input → Type 0
+NamesFiles (Input.Files script table friend) = Unit {0}
+NamesFiles (Input.Generated entries seed) = ⊥
+
+abbrev pub NameFiles : List (List ℕ) → Type 0
+NameFiles words = MatchOption (asked_of words) ⊥ (λ command. NamesFiles command.input)
+
+-- what holds of the files of a shelf that tells them, and of all files where the words name none
+abbrev pub OfFiles : List (List ℕ) → Option Files → (Files → Type 0) → Type 0
+OfFiles words told P = IfSome told P × ((NameFiles words → ⊥) → (files : Files) → P files)
+
+-- the line of a failed read, with the name of the file that the shelf was turned to
+abbrev pub WritesReadFailed : List (List ℕ) → Option Files → List (List ℕ) → Option (List ℕ) → Option (List ℕ) → Type 0
+WritesReadFailed words told turns before after = (name : List ℕ) × MayRead words told turns name × Appends before after (read_failed_line name)
+
+-- a first part of that line
+abbrev pub WritesPartOfReadFailed : List (List ℕ) → Option Files → List (List ℕ) → Option (List ℕ) → Option (List ℕ) → Type 0
+WritesPartOfReadFailed words told turns before after = (name : List ℕ) × MayRead words told turns name × AppendsPart before after (read_failed_line name)
+
+-- a first part of what is due, or of the line of a failed read where the shelf failed
+abbrev pub WritesPart : List Function → List (List ℕ) → Option Files → List (List ℕ) → ℕ → ℕ → Option (List ℕ) → Option (List ℕ) → Type 0
+WritesPart fns words told turns faults faults' before after =
+    OfFiles words told (WritesDuePart (IsDue fns words) before after)
+    ⊎ (Rose faults faults' × WritesPartOfReadFailed words told turns before after)
+
+-- the shelf was turned to these files besides
+abbrev pub TurnsBesides : List (List ℕ) → Option Files → List (List ℕ) → List (List ℕ) → Type 0
+TurnsBesides words told before after = (turns : List (List ℕ)) × (after ≡ before ++ turns) × AreTurns words told turns
+
+-- the settings are within their limits
+pub record AreSettings (s : Settings) : Type 0 where
+  pub some_slots : 0 < s.slots
+  pub few_slots : s.slots ≤ 16
+  pub cluster : 1 ≤ s.cluster
+  pub watch : 0 < s.watch

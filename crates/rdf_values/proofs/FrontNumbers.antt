@@ -1,6 +1,5 @@
 -- The number at the front of a text.
-use Rattle.std.proofs.Common.{◌≡◌, ◌≢◌, ◌≤◌, ◌<◌, ◌+◌, ◌*◌, ◌^◌, ◌-◌, ◌-ℤ◌, ℕ, ℤ, negsuc, of_z, to_z, w64, zero, suc, List, [], ◌∷◌, ◌++◌, length, take, get_or, Bool, true, false, None, Some, ◌&&◌, add-one, arith, refl, ◌==◌, if◌then◌else◌}
-use Rattle.lemmas.proofs.{all_ascii_digits, digit_value, digit_value_digit, digits_value_after, ints, is_ascii_digit, nat_tests, pow-le-pow_right, take_more}
+use Rattle.lemmas.proofs.{◌≡◌, ◌≢◌, ◌≤◌, ◌<◌, ◌+◌, ◌*◌, ◌^◌, ◌-◌, ◌-ℤ◌, ℕ, ℤ, negsuc, of_z, to_z, w64, zero, suc, List, [], ◌∷◌, ◌++◌, length, take, get_or, Bool, true, false, None, Some, ◌&&◌, add-one, arith, refl, ◌==◌, if◌then◌else◌, all_ascii_digits, digit_value, digit_value_digit, digits_value_after, ints, is_ascii_digit, nat_tests, pow-le-pow_right, take_more}
 use Rattle.rdf_values.specs.{AreLeading, begins_badly, digits_up_to, integer_of, IsDigit, IsLeading, magnitude_of, negative, positive, written_after}
 use Rattle.rdf_values.proofs.Fronts.{one_more_digit}
 
@@ -47,14 +46,11 @@ leading_magnitude text n count most h m =
     let few = h.few in
     rw h.canonical (up_to (take count text) n most h.written (omega (arith, few)))
 
-not_minus : (b n : ℕ) (ds : List ℕ) → written_after 0 (b ∷ ds) ≡ Some n → (b == 45) ≡ false
-not_minus b n ds w = grind (arith, is_ascii_digit, all_ascii_digits, digits_value_after, digit_value, nat_tests)
-
 pub leading_positive : (text : List ℕ) (count n : ℕ) (z : ℤ) → AreLeading text n count → positive (Some n) ≡ Some z → IsLeading text z count
 unfolding integer_of
 leading_positive [] zero n z h p = cc h.canonical
 leading_positive (b ∷ bs) (suc count) n z h p =
-    let plus : (b == 45) ≡ false = not_minus b n (take count bs) h.written in
+    let plus : (b == 45) ≡ false = grind (arith, is_ascii_digit, all_ascii_digits, digits_value_after, digit_value, nat_tests, h.written) in
     let magnitude : magnitude_of 9223372036854775807 (b ∷ take count bs) ≡ Some n = leading_magnitude (b ∷ bs) n (suc count) 9223372036854775807 h (omega arith) in
     record { within = h.within; spelt = rw (plus, magnitude) p }
 leading_positive text count n z h p = cc h.canonical

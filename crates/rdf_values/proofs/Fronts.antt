@@ -1,6 +1,5 @@
 -- The first items of a list, its parts, and how many digits a number has.
-use Rattle.std.proofs.Common.{◌≡◌, ◌+◌, ◌∙◌, ◌++◌, ◌∷◌, [], ℕ, List, Some, ap, append_assoc, length, sym, take, slice_get, ◌<◌, ◌≤◌, ◌-◌, drop, Bool, false, None, Option, arith, refl, suc, not, nat_lt, position, cond, ◌*◌, ◌^◌, add-one, leb}
-use Rattle.lemmas.proofs.{take_next, nat_tests, onto_first, position_or_len, slice_split, slice_split_first, and_false, digit_value, digits_value_after, pow-le-pow_right, pow-succ'}
+use Rattle.lemmas.proofs.{◌≡◌, ◌+◌, ◌∙◌, ◌++◌, ◌∷◌, [], ℕ, List, Some, ap, append_assoc, length, sym, take, slice_get, ◌<◌, ◌≤◌, ◌-◌, drop, Bool, false, None, Option, arith, refl, suc, not, nat_lt, position, cond, ◌*◌, ◌^◌, add-one, leb, take_next, nat_tests, onto_first, position_or_len, slice_split, slice_split_first, and_false, digit_value, digits_value_after, pow-le-pow_right, pow-succ'}
 use Rattle.std.proofs.lemmas.List.{take_all, length-drop}
 use Rattle.rdf_values.specs.{digits_up_to}
 

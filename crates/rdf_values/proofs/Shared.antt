@@ -90,10 +90,5 @@ statement_sync = variants_sync S.enum (search (sendable, crosses, name_sync, nam
 pub line_sync : IsSync line_row
 line_sync = declared_sync L.the_type (search (sendable, crosses, statement_sync) depth 40 fits 4000)
 
--- ---- the header
-
-pub column_sync : IsSync column_row
-column_sync = search (sendable, crosses) depth 40 fits 4000
-
 pub columns_sync : IsSync (list_row column_row)
-columns_sync = list_sync column_row column_sync
+columns_sync = list_sync column_row (search (sendable, crosses) depth 40 fits 4000)

@@ -1,6 +1,5 @@
 -- The script that a text of at most 65,536 bytes is can be booked.
-use Rattle.std.proofs.Common.{◌≢◌, ◌≤◌, ◌<◌, List, [], ◌∷◌, ◌++◌, length, All, arith, sym, ◌+◌, ℕ, ◌≡◌, zero, suc, Some, None, Ok, Result, refl, ap, length-append, ℤ}
-use Rattle.lemmas.proofs.{All-append, All-cons, All-head, All-tail, common_steps, All-from_recursion, AllByRecursion, length-map}
+use Rattle.lemmas.proofs.{◌≢◌, ◌≤◌, ◌<◌, List, [], ◌∷◌, ◌++◌, length, All, arith, sym, ◌+◌, ℕ, ◌≡◌, zero, suc, Some, None, Ok, Result, refl, ap, length-append, ℤ, All-append, All-cons, All-head, All-tail, common_steps, All-from_recursion, AllByRecursion, length-map}
 use Rattle.rdf_values.specs.{AreFnNames, FnName, HaveDistinctNames, IsBuiltIn, LacksName, ActionKind, all_strings, AreLines, AreNames, AreRising, AreShortValues, arguments, blank_line, Close, Comma, edges_tokens, expression_count, Form, form_tokens, IsAction, IsBookable, IsLine, IsScript, IsShort, last_item, last_list, Lexeme, lexeme, Line, lines_of, Mark, maybe_string, Method, more_edges, more_items, more_lists, more_names, more_strings, NamedTree, no_lines, no_names, one_list, PlacedToken, Punct, Quoted, QuotedText, ReadsList, ReadsLists, ReadsValues, ReadsValuesText, Says, Script, several_lists, Statement, statement_line, strings_tokens, Token, tokens_from, VaryValues, vector, with_lexeme}
 use Rattle.rdf_values.proofs.OneText.{few_tokens}
 use Rattle.rdf_values.specs.declared.scripts.statement.Statement.TheVariants.{Action}
@@ -23,9 +22,7 @@ AreFnNames-push fs f a room arity lacks free = record {
   not_built_in = All-append (λ h. IsBuiltIn h.name → ⊥) fs (f ∷ []) a.not_built_in (All-one (λ h. IsBuiltIn h.name → ⊥) f free);
 }
 
--- ---- The script that a text of at most 65,536 bytes is can be booked.
-
--- ---- an expression has at most 256 tokens, so the lists of a Vary are short
+-- ---- The script that a text of at most 65,536 bytes is can be booked: an expression has at most 256 tokens, so the lists of a Vary are short
 
 list_few : (ts : List Token) (es : List NamedTree) → ReadsList ts es → length es ≤ suc (length ts)
 list_few ts es (last_item h) = omega arith

@@ -1,9 +1,7 @@
 -- Rising lists, unions of sets, and how often numbers stand in lists.
-use Rattle.std.proofs.Common.{◌≡◌, ◌<◌, ℕ, zero, suc, [], ◌∷◌, ◌++◌, length, map, Some, arith, refl, ap₂, ◌∙◌, length-append, inl, inr, sym, slice_get, ◌+◌, List, cond, true, false, ap, ⊎_elim, get_or, ◌==◌, IsPermutation, ◌≤◌, Bool, add-one}
-use Rattle.lemmas.proofs.{kept_at, last_at, lt_or_last, map-append, All, cases_Bool, common_steps, concat, cond-false, cond-true, Contains, Contains-append_right, eqb-true, IsPermutation-cons, IsPermutation-refl, IsPermutation-remove, IsPermutation-trans, IsStrictlyIncreasing, le-ltb, lt-ltb, remove, sum_by, sum_by-append, sum_by-cons, sum_by-IsPermutation, sum_by_push, All-cons, All-head, All-nil, All-push, All-tail, All-weaker, filter, IsStrictlyIncreasing-filter}
+use Rattle.lemmas.proofs.{◌≡◌, ◌<◌, ℕ, zero, suc, [], ◌∷◌, ◌++◌, length, map, Some, arith, refl, ap₂, ◌∙◌, length-append, inl, inr, sym, slice_get, ◌+◌, List, cond, true, false, ap, ⊎_elim, get_or, ◌==◌, IsPermutation, ◌≤◌, Bool, add-one, kept_at, last_at, lt_or_last, map-append, All, cases_Bool, common_steps, concat, cond-false, cond-true, Contains, Contains-append_right, eqb-true, IsPermutation-cons, IsPermutation-refl, IsPermutation-remove, IsPermutation-trans, IsStrictlyIncreasing, le-ltb, lt-ltb, remove, sum_by, sum_by-append, sum_by-cons, sum_by-IsPermutation, sum_by_push, All-cons, All-head, All-nil, All-push, All-tail, All-weaker, filter, IsStrictlyIncreasing-filter}
 use Rattle.rdf_values.specs.{below, DrawnBy, once_below, SharedOut, times, DrawnListsUnite, IsUnion, NoneIsNeutral, OrderDoesNotMatter, UnionIsOne, UniteFromEitherSide}
 use lib.Dec.{ltb}
-use Rattle.std.specs.Prelude.{⊤}
 use native.Mathlib.Numerals.{unary_clauses}
 
 pub length-below : (n : ℕ) → length (below n) ≡ n
@@ -105,17 +103,15 @@ pub sum_by-map : {A B : Type 0} (g : B → ℕ) (f : A → B) (xs : List A) → 
 sum_by-map g f [] = refl
 sum_by-map g f (x ∷ xs) = let rest = sum_by-map g f xs in omega (arith, sum_by-cons g (f x) (map f xs), sum_by-cons (λ y. g (f y)) x xs)
 
--- ---- Rising lists, and unions of sets.
-
--- ---- rising lists
+-- ---- Rising lists, and unions of sets: rising lists
 
 -- every element is above x
 abbrev pub Above : ℕ → List ℕ → Type 0
-Above x [] = ⊤
+Above x [] = Unit {0}
 Above x (y ∷ ys) = (x < y) × Above x ys
 
 abbrev pub Rises : List ℕ → Type 0
-Rises [] = ⊤
+Rises [] = Unit {0}
 Rises (x ∷ xs) = Above x xs × Rises xs
 
 pub rises_tail : (x : ℕ) (xs : List ℕ) → IsStrictlyIncreasing (x ∷ xs) → IsStrictlyIncreasing xs

@@ -1,4 +1,2 @@
 pub mod PassLines
-pub mod CellNames
-pub mod Covers
 pub mod Within

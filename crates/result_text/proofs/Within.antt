@@ -1,11 +1,9 @@
 -- The numbers in a graph's tables are in range.
-use Rattle.std.proofs.Common.{◌≡◌, ℕ, suc, ◌+◌, ◌<◌, ◌≤◌, Bool, true, false, List, [], ◌∷◌, length, Option, None, Some, subst, arith, if◌then◌else◌, not, slice_get, All}
-use Rattle.std.specs.Prelude.{⊤}
-use Rattle.lemmas.proofs.{All-append, All-cons, All-map, All-nil, cond_both, get_or_from_slice_get, slice_get_within}
+use Rattle.lemmas.proofs.{◌≡◌, ℕ, suc, ◌+◌, ◌<◌, ◌≤◌, Bool, true, false, List, [], ◌∷◌, length, Option, None, Some, subst, arith, if◌then◌else◌, not, slice_get, All, All-append, All-cons, All-map, All-nil, cond_both, get_or_from_slice_get, slice_get_within}
 use Rattle.rdf_values.specs.{among, Booked, bookings, filled, has_variations, result_depends, Statement, variations}
 use Rattle.rdf_values.specs.declared.scripts.statement.Statement.TheVariants.{Print}
 use Rattle.graph_numbers.specs.{booked_statements, graph_loops, graph_variations, GraphView, loops, numbered_pass, own_loop, Pass as NumberedPass, passes_from, places_from, result_passes}
-use Rattle.graph_numbers.proofs.Walks.{joined, only_at}
+use Rattle.graph_numbers.proofs.Placing.{joined, only_at}
 
 -- ---- variations of passes
 
@@ -19,7 +17,7 @@ places_below test n (x ∷ xs) top le =
     cond_both (test x) _ _ (Below top) (λ _. All-cons (λ v. v < top) n (places_from test (suc n) xs) (omega arith) rest) (λ _. rest)
 
 abbrev pub IsIn : ℕ → Option ℕ → Type 0
-IsIn top None = ⊤
+IsIn top None = Unit {0}
 IsIn top (Some v) = v < top
 
 module _ (script : List Statement) where

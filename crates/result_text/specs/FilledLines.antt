@@ -1,12 +1,13 @@
 -- What is printed of a filled result.
-use Rattle.std.specs.Prelude.{◌≡◌, ◌<◌, ◌+◌, ◌++◌, ◌≤◌, ◌^◌, ℕ, ℤ, Bool, if◌then◌else◌, codes, decimal, flat_map, List, [], ◌∷◌, Option, Some, None, length, map, option_map, slice_get, unwrap_or}
+use Rattle.std.specs.Prelude.{◌≡◌, ◌<◌, ◌+◌, ◌++◌, ◌≤◌, ◌^◌, ℕ, ℤ, Bool, if◌then◌else◌, codes, decimal, flat_map, List, [], ◌∷◌, Option, Some, None, length, map, option_map, slice_get, unwrap_or, ◌-◌, All}
 use Rattle.std.specs.Fmt.{signed_decimal}
-use Rattle.rdf_values.specs.{ActionAt, ActionKind, Booking, Extreme, Filled, Flat, line, Pass, passes_of, Reduced, ReportOn, Scalar, Square, Taken, Under, Variation}
+use Rattle.rdf_values.specs.{ActionAt, ActionKind, Booking, Extreme, Filled, Flat, line, Pass, passes_of, Reduced, ReportOn, Scalar, Square, Taken, Under, Variation, Span}
 use Rattle.rdf_values.specs.results.Fold.{Count, Sum, Cell}
-use Rattle.rdf_model.specs.{cell_line, cell_lines, cell_names, filled_lines, FilterCounts, flow_lines, label, loop_passes, loop_results, option_text, plane_lines, scalar_text, taken_text, x_edges_of, y_edges_of}
+use Rattle.rdf_model.specs.{cell_line, cell_lines, cell_names, filled_lines, FilterCounts, flow_lines, label, loop_passes, loop_results, option_text, plane_lines, scalar_text, taken_text, x_edges_of, y_edges_of, Run, run_text, value_text}
 use Rattle.actions.specs.{Accumulator}
-use Rattle.loop_pieces.specs.{Counts, FilledResult}
+use Rattle.loop_pieces.specs.{Counts, FilledResult, PartialLine, watch_filled}
 use Rattle.graph_numbers.specs.{booked_statements, FilterAt, graph_filters, GraphView, ResultAt}
+use Rattle.std.specs.List.{join_with_byte}
 
 -- the passes of a loop
 abbrev pub passes_at : GraphView → ℕ → List Pass
@@ -109,3 +110,29 @@ FitsBooking g r filled (ReportOn filters) = length filled.piece.now.flow ≡ len
 
 abbrev pub FitsResult : GraphView → ResultAt → FilledResult → Type 0
 FitsResult g r filled = FitsBooking g r filled r.booked.booking
+
+-- ---- what is printed of partial results
+
+-- the numbers of a span, as a run
+abbrev pub run_of : Span → Run
+run_of s = record { first = s.lo; last = s.hi - 1 }
+
+-- each has a number
+abbrev pub AreRuns : List Span → Type 0
+AreRuns runs = All (λ (s : Span). s.lo < s.hi) runs
+
+-- the text of the set of these runs
+abbrev pub runs_text : List Span → List ℕ
+runs_text runs = join_with_byte 44 (map run_text (map run_of runs))
+
+-- the texts of these runs, each behind a comma
+abbrev pub more_runs : List Span → List ℕ
+more_runs runs = flat_map (λ (s : Span). 44 ∷ run_text (run_of s)) runs
+
+-- the line of one partial result
+abbrev pub watch_line : List ℕ → PartialLine → List ℕ
+watch_line name l = line (codes "partial " ++ name ++ codes " over " ++ runs_text l.runs ++ codes " = " ++ value_text (watch_filled l.value))
+
+-- the lines of several
+abbrev pub watch_lines : List ℕ → List PartialLine → List ℕ
+watch_lines name lines = flat_map (watch_line name) lines

@@ -47,7 +47,7 @@ fn fault_name(kind: EntryFault) -> &'static str
 }
 
 /// The line of a fault in a loop of the graph.
-#[tactic(auto, using(crate::proofs::PassLines::pass_there, crate::proofs::Within::is_in_for, crate::proofs::Within::variation_within, crate::proofs::CellNames::fault_put, crate::proofs::PassLines::label_is, crate::proofs::PassLines::is_pass_at))]
+#[tactic(auto, using(crate::proofs::PassLines::pass_there, crate::proofs::Within::is_in_for, crate::proofs::Within::variation_within, crate::proofs::PassLines::fault_put, crate::proofs::PassLines::label_is, crate::proofs::PassLines::is_pass_at))]
 pub fn fault_line(
     alloc: Global,
     graph: &Graph,

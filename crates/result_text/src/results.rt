@@ -97,7 +97,7 @@ fn put_action(
 }
 
 /// The lines of a result of the graph: of an action its passes, nominal first, then its variations in their order; or of a report.
-#[tactic(auto, using(lemmas::proofs::Places::something_at, crate::proofs::PassLines::its_covers, crate::proofs::Covers::covers_within))]
+#[tactic(auto, using(lemmas::proofs::Lists::something_at, crate::proofs::PassLines::its_covers, crate::proofs::PassLines::covers_within))]
 pub fn result_lines(
     alloc: Global,
     graph: &Graph,

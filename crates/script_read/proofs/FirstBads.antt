@@ -1,9 +1,9 @@
 -- Refusals of the first bad string of several.
-use Rattle.std.proofs.Common.{◌≡◌, ◌∙◌, ℕ, List, [], ◌∷◌, ◌++◌, ap, Result, IfErr}
-use Rattle.lemmas.proofs.{err_from_is_err_and, IsErrAnd}
+use Rattle.lemmas.proofs.{◌≡◌, ◌∙◌, ℕ, List, [], ◌∷◌, ◌++◌, ap, Result, IfErr, err_from_is_err_and, IsErrAnd}
 use Rattle.rdf_values.specs.{AName, AnExpression, AnOperation, AreNames, begin_expr, begin_values, FirstBad, here, is_name, IsBad, IsName, later, LineRefusal, more_names, NamedTree, no_names, operation_text, QuotedText, Reads, ReadsText, ReadsValues, ReadsValuesText, ReduceOp, SomeValues, VaryValues, wanted_names}
 use Rattle.rdf_values.specs.scripts.Statements.{Wanted}
 use Rattle.rdf_values.specs.scripts.Statements as st
+use Rattle.rdf_values.proofs.OneScript.{IsGood, AreGood, no_strings, more_strings, good_name, good_operation, good_names}
 use Rattle.expr_read.specs.{ExprRefusal, RefusesTextAs}
 use Rattle.expr_read.proofs.Decided.{read_once}
 use Rattle.script_read.specs.{LineStop, RefusedFor, stop_in}
@@ -12,30 +12,11 @@ use Rattle.script_read.specs.{LineStop, RefusedFor, stop_in}
 pub handed_on : {T : Type 0} (P : LineStop → Type 0) (r : Result T LineStop) (e : LineStop) → IsErrAnd r (λ d. d ≡ e) → P e → IfErr r P
 handed_on P r e is h = let p = err_from_is_err_and r is in rw (p.1, p.2) h
 
--- ---- good strings
-
-abbrev pub IsGood : QuotedText × Wanted → Type 0
-IsGood w = (q : LineRefusal) → IsBad w q → ⊥
-
-pub data AreGood : List (QuotedText × Wanted) → Type 0 where
-  no_strings : AreGood []
-  more_strings : {w : QuotedText × Wanted} {ws : List (QuotedText × Wanted)} → IsGood w → AreGood ws → AreGood (w ∷ ws)
-
-pub good_name : (t : QuotedText) (x : List ℕ) → IsName t x → IsGood (t, AName)
-good_name t x a q (st.no_name e) = let named = ap is_name a.content ∙ a.name in cc (named, e)
-
-pub good_operation : (t : QuotedText) (o : ReduceOp) → t.content ≡ operation_text o → IsGood (t, AnOperation)
-good_operation t o e q (st.no_operation f) = f o e
-
 pub good_expression : (t : QuotedText) (a : NamedTree) → ReadsText t.content a → IsGood (t, AnExpression)
 good_expression t a e q (st.no_expression {r = r} f) = read_once.tree_or_refusal t.content a r e f
 
 pub good_values : (t : QuotedText) (a : VaryValues) → ReadsValuesText t.content a → IsGood (t, SomeValues)
 good_values t a e q (st.no_values {r = r} f) = read_once.values_or_refusal t.content a r e f
-
-pub good_names : (ts : List QuotedText) (xs : List (List ℕ)) → AreNames ts xs → AreGood (wanted_names ts)
-good_names ts xs no_names = no_strings
-good_names ts xs (more_names {t = t} {ts = us} {x = x} {xs = ys} a ns) = more_strings (good_name t x a) (good_names us ys ns)
 
 -- ---- refusals
 

@@ -1,6 +1,5 @@
 -- The first line of a text, and the reading of a script line by line.
-use Rattle.std.proofs.Common.{◌≡◌, ◌<◌, ◌≤◌, ◌+◌, ℕ, suc, List, [], ◌∷◌, ◌++◌, length, take, drop, get_or, drop-cons, add-one, subst, Bool, true, false, None, Some, Option, arith, refl, ap, sym, ◌∙◌, not, nat_lt, ◌==◌, position, cond, ◌⊎◌, length-append, append_assoc}
-use Rattle.lemmas.proofs.{and_holds, list_all, nat_tests, position-Some, position_or_len, strip_last, append-nil}
+use Rattle.lemmas.proofs.{◌≡◌, ◌<◌, ◌≤◌, ◌+◌, ℕ, suc, List, [], ◌∷◌, ◌++◌, length, take, drop, get_or, drop-cons, add-one, subst, Bool, true, false, None, Some, Option, arith, refl, ap, sym, ◌∙◌, not, nat_lt, ◌==◌, position, cond, ◌⊎◌, length-append, append_assoc, and_from, list_all, nat_tests, position-Some, position_or_len, strip_last, append-nil}
 use Rattle.std.proofs.lemmas.List.{take_all, take-append-drop}
 use Rattle.rdf_values.specs.{lines_of, AreLines, IsScript, Line, RefusesLines, RefusesScript, Script, ScriptCause}
 use Rattle.rdf_values.proofs.ScriptSteps.{is_in_line, without_cr, lines_of_line, lines_of_last}
@@ -37,7 +36,7 @@ no_lf_before (x ∷ xs) = at (x == 10) refl (no_lf_before xs)
     at true e h = refl
     at false e h =
         let one : suc (position_or_len is_lf xs) ≡ 1 + position_or_len is_lf xs = omega arith in
-        subst (λ n. list_all is_in_line (take n (x ∷ xs)) ≡ true) one (and_holds (not (x == 10)) (list_all is_in_line (take (position_or_len is_lf xs) xs)) (ap not e) h)
+        subst (λ n. list_all is_in_line (take n (x ∷ xs)) ≡ true) one (and_from (not (x == 10)) (list_all is_in_line (take (position_or_len is_lf xs) xs)) (ap not e) h)
 
 -- the first line ends at that place, or at the text's end
 abbrev pub EndsAt : List ℕ → Option ℕ → Type 0

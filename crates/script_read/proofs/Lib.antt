@@ -1,10 +1,5 @@
 pub mod Answered
-pub mod AnsweredStrings
 pub mod FirstBads
 pub mod FirstLines
-pub mod Items
-pub mod Joined
-pub mod TokenSteps
-pub mod Passed
-pub mod Stuck
 pub mod Walked
+pub mod TokenSteps

@@ -1,6 +1,5 @@
 -- One more token of a line, its words and integers.
-use Rattle.std.proofs.Common.{◌≡◌, ◌∙◌, ◌+◌, ℕ, Bool, true, List, [], ◌∷◌, length, get_or, take, drop, ◌-◌, suc, arith, refl, ap, sym, subst, ◌==◌, ◌||◌, take_while, if◌then◌else◌, ◌≤◌, ◌<◌, ◌++◌, Ok, Err, append_assoc, length-drop, Result, Option, ◌&&◌, ℤ, nat_lt}
-use Rattle.lemmas.proofs.{length-prefix_len, nat_tests, take_rest, append-nil, drop-drop, drop_all, drop_more, list_all}
+use Rattle.lemmas.proofs.{◌≡◌, ◌∙◌, ◌+◌, ℕ, Bool, true, List, [], ◌∷◌, length, get_or, take, drop, ◌-◌, suc, arith, refl, ap, sym, subst, ◌==◌, ◌||◌, take_while, if◌then◌else◌, ◌≤◌, ◌<◌, ◌++◌, Ok, Err, append_assoc, length-drop, Result, Option, ◌&&◌, ℤ, nat_lt, length-prefix_len, nat_tests, take_rest, append-nil, drop-drop, drop_all, drop_more, list_all}
 use Rattle.rdf_values.specs.{integer_lexeme, integer_of, is_blank, is_digit, is_word, is_word_byte, is_word_start, lexeme, word_lexeme, Bad, between, Blank, Comment, content_of, Found, is_name, Lexeme, LineToken, mark_lexeme, PlacedToken, string_lexeme, tokens_from, with_lexeme, with_token}
 use Rattle.expr_read.proofs.TokenSteps.{run_passes, word_run, run_size as run_short}
 use Rattle.rdf_values.proofs.ScriptSteps.{tokens_behind}
@@ -48,9 +47,7 @@ lexeme_integer place n c text cs s h e =
     let one : length (c ∷ take_while is_digit cs) - 1 ≡ length (take_while is_digit cs) = omega arith in
     rw (s, integer_run n c cs size, one) (sym (first_integer place c cs starts))
 
--- ---- One more token of a line.
-
--- ---- how many bytes a lexeme has
+-- ---- One more token of a line: how many bytes a lexeme has
 
 -- the lexeme has no more than so many bytes behind its first
 abbrev IsWithin : ℕ → Lexeme → Type 0

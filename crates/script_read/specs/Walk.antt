@@ -8,8 +8,6 @@ use Rattle.script_read.specs.declared.walk.MethodName.{MethodName}
 use Rattle.script_read.specs.declared.walk.ActionName.{ActionName}
 use Rattle.script_read.specs.declared.form.Mark.{Mark}
 
--- ---- marks
-
 -- whether the token is the mark
 abbrev pub is_mark : Mark → LineToken → Bool
 is_mark Mark.Equals t.Equals = true

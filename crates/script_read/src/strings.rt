@@ -36,7 +36,7 @@ pub(crate) fn maybe_name(
 }
 
 /// Names, of which there is one at least.
-#[tactic(auto, using(crate::proofs::FirstBads::handed_on, crate::proofs::FirstBads::refused_here, crate::proofs::Items::all_read))]
+#[tactic(auto, using(crate::proofs::FirstBads::handed_on, crate::proofs::FirstBads::refused_here, crate::proofs::Walked::all_read))]
 pub(crate) fn names(
     alloc: Global,
     strings: &OneOrMore<Quoted<'_>>,
@@ -100,7 +100,7 @@ fn in_line(quoted: &Quoted<'_>, refusal: ExprRefusal) -> LineStop
 }
 
 /// An expression.
-#[tactic(auto, using(crate::proofs::Items::stands_within, crate::proofs::FirstBads::no_expression))]
+#[tactic(auto, using(crate::proofs::Walked::stands_within, crate::proofs::FirstBads::no_expression))]
 pub(crate) fn expression(alloc: Global, quoted: &Quoted<'_>) -> Result<Expr, LineStop>
     ensures ok { IfOk result (λ a. ReadsText quoted.now.content.now a) }
     ensures err { IfErr result (λ e. RefusedFor (IsBad (quoted_of quoted.now, AnExpression)) e) }
@@ -112,7 +112,7 @@ pub(crate) fn expression(alloc: Global, quoted: &Quoted<'_>) -> Result<Expr, Lin
 }
 
 /// The values of a Vary.
-#[tactic(auto, using(crate::proofs::Items::stands_within, crate::proofs::FirstBads::no_values))]
+#[tactic(auto, using(crate::proofs::Walked::stands_within, crate::proofs::FirstBads::no_values))]
 pub(crate) fn values(alloc: Global, quoted: &Quoted<'_>) -> Result<VaryValues, LineStop>
     ensures ok { IfOk result (λ v. ReadsValuesText quoted.now.content.now v) }
     ensures err { IfErr result (λ e. RefusedFor (IsBad (quoted_of quoted.now, SomeValues)) e) }

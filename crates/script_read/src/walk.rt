@@ -214,7 +214,7 @@ impl<'t, 'a> Walk<'t, 'a> {
     }
 
     // A further string or none, and the `)` of the call.
-    #[tactic(auto, using(crate::proofs::Joined::none_wanted, std::proofs::lemmas::Grind::common_steps, crate::proofs::Joined::took_none))]
+    #[tactic(auto, using(crate::proofs::Walked::none_wanted, std::proofs::lemmas::Grind::common_steps, crate::proofs::Walked::took_none))]
     fn maybe_string(&mut self) -> Result<Option<Quoted<'a>>, Fail>
         ensures took { IfOk result (λ o. Took (MaybeString ∷ []) (maybe_string (option_map quoted_of o) ++ AsClose ∷ []) (left_of self.old) (left_of self.new)) }
         ensures stuck { result ≡ Err Fail.Unexpected → IsStuck (MaybeString ∷ []) (left_of self.old) (left_of self.new) }
@@ -386,7 +386,7 @@ impl<'t, 'a> Walk<'t, 'a> {
     }
 
     // What books the name, behind it.
-    #[tactic(auto, using(crate::proofs::Joined::took_booking))]
+    #[tactic(auto, using(crate::proofs::Walked::took_booking))]
     fn booking(&mut self, name: Word<'a>) -> Result<Form<'a>, Fail>
         requires { is_free_word name.bytes.now ≡ true }
         ensures took { IfOk result (λ f. TookBooking name.entry.bytes.now (form_of f) (left_of self.old) (left_of self.new)) }
@@ -414,7 +414,7 @@ impl<'t, 'a> Walk<'t, 'a> {
         Ok(name)
     }
 
-    #[tactic(auto, using(crate::proofs::Walked::stuck_token, crate::proofs::Walked::no_word, crate::proofs::Joined::took_line))]
+    #[tactic(auto, using(crate::proofs::Walked::stuck_token, crate::proofs::Walked::no_word, crate::proofs::Walked::took_line))]
     fn line(&mut self) -> Result<Form<'a>, Fail>
         ensures took { IfOk result (λ f. TookForm (form_of f) (left_of self.old) (left_of self.new)) }
         ensures stuck { result ≡ Err Fail.Unexpected → IsStuck (ALine ∷ []) (left_of self.old) (left_of self.new) }

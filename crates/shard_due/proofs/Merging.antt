@@ -1,6 +1,5 @@
 -- That merging what runs are due is due the transcript of one run.
-use Rattle.std.proofs.Common.{◌≡◌, inr, ◌≤◌, ◌<◌, ◌+◌, ℕ, Bool, true, false, ◌&&◌, List, [], ◌∷◌, ◌++◌, length, map, nat_lt, Option, None, Some, Result, Ok, refl, sym, ap, ◌∙◌, subst, arith, append-nil, append_assoc, All, MatchOption, MatchResult, nat_le, unwrap_or}
-use Rattle.lemmas.proofs.{All-cons, All-nil, le-ltb, MatchBool, nat_tests, sum_by-cons}
+use Rattle.lemmas.proofs.{◌≡◌, inr, ◌≤◌, ◌<◌, ◌+◌, ℕ, Bool, true, false, ◌&&◌, List, [], ◌∷◌, ◌++◌, length, map, nat_lt, Option, None, Some, Result, Ok, refl, sym, ap, ◌∙◌, subst, arith, append-nil, append_assoc, All, MatchOption, MatchResult, nat_le, unwrap_or, All-cons, All-nil, le-ltb, MatchBool, nat_tests, sum_by-cons}
 use Rattle.rdf_values.specs.{Function, graph_cause_line, Lead, long_script_line, MarkedTable, no_file_line, Script, Span}
 use Rattle.rdf_values.proofs.Evenly.{cuts_lead}
 use Rattle.rdf_values.proofs.ShortLists.{scripts_are_bookable}

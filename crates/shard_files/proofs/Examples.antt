@@ -1,5 +1,5 @@
 -- The definitions computed: the files of two spans, and what they come to together.
-use Rattle.std.proofs.Common.{◌≡◌, ℕ, true, pos, negsuc, List, [], ◌∷◌, refl, Ok, Err, codes, flat_map}
+use Rattle.lemmas.proofs.{◌≡◌, ℕ, true, pos, negsuc, List, [], ◌∷◌, refl, Ok, Err, codes, flat_map}
 use Rattle.std.specs.Fmt.{digits}
 use Rattle.rdf_values.specs.{ColType, Column, line, Scalar}
 use Rattle.rdf_values.specs.declared.results.EntryFault.TheVariants.{ZeroDivisor}

@@ -1,5 +1,5 @@
 -- Lines of a file are read back from their words, and from nothing else.
-use Rattle.std.proofs.Common.{◌≡◌, ◌≤◌, ℕ, Bool, true, false, Option, None, Some, List, [], ◌∷◌, refl, ap, ap₂, ◌∙◌, sym, subst, arith, codes, decimal, if◌then◌else◌, nat_eq, option_and_then, option_map}
+use Rattle.lemmas.proofs.{◌≡◌, ◌≤◌, ℕ, Bool, true, false, Option, None, Some, List, [], ◌∷◌, refl, ap, ap₂, ◌∙◌, sym, subst, arith, codes, decimal, if◌then◌else◌, nat_eq, option_and_then, option_map}
 use Rattle.std.proofs.lemmas.Bool.{eqb-true}
 use Rattle.rdf_values.specs.{ColType, EntryFault, is_name, IsStored, magnitude_of, same}
 use Rattle.rdf_values.specs.declared.results.EntryFault.TheVariants.{Overflow, ZeroDivisor, Index, EmptyVector, Lengths, VaryCount, Weight, Function}

@@ -1,6 +1,5 @@
 -- What was read so far, line after line: the lines so far begin some shard, and the lines of each shard can be read.
-use Rattle.std.proofs.Common.{◌≡◌, ◌≤◌, ◌<◌, ℕ, true, false, ◌&&◌, Some, List, [], ◌∷◌, ◌++◌, length, map, flat_map, refl, ap, ap₂, ◌∙◌, sym, subst, arith, append_assoc, append-nil, codes, length-append, ◌||◌, nat_eq, nat_le, nat_lt}
-use Rattle.lemmas.proofs.{both_true, if_none, if_some, list_all, map_next, nat_tests, neither}
+use Rattle.lemmas.proofs.{◌≡◌, ◌≤◌, ◌<◌, ℕ, true, false, ◌&&◌, Some, List, [], ◌∷◌, ◌++◌, length, map, flat_map, refl, ap, ap₂, ◌∙◌, sym, subst, arith, append_assoc, append-nil, codes, length-append, ◌||◌, nat_eq, nat_le, nat_lt, both_true, if_none, if_some, list_all, map_next, nat_tests, or_parts}
 use Rattle.rdf_values.specs.{AreColumns, ColType, Column, Fault, has_name, is_name, IsHeader}
 use Rattle.shard_lines.specs.{EachFits, FitLines, FitsLine, ShardLine}
 use Rattle.shard_files.specs.{Begins, file_lines, FitLoops, FitsFault, IsShard, loop_lines, on_between, on_columns, on_within, shard_limits, shard_of, ShardLoop, ShardView, step, step_at}
@@ -109,7 +108,7 @@ columns_follow p q FileLine.Version h f s e = cc e
 columns_follow p q (FileLine.Table a b) h f s e = cc e
 columns_follow p q (FileLine.Column c) h f s e =
     let found = if_none (has_name p.columns c.name || nat_le 64 (length p.columns)) (record p { columns = p.columns ++ c ∷ [] }) q e in
-    let tests = neither (has_name p.columns c.name) (nat_le 64 (length p.columns)) found.0 in
+    let tests = or_parts (has_name p.columns c.name) (nat_le 64 (length p.columns)) found.0 in
     let room : length p.columns < 64 = let full = tests.1 in grind (arith, nat_tests) in
     let has = h.0 in
     let more : length (p.columns ++ c ∷ []) ≤ 64 = omega (arith, length-append p.columns (c ∷ []), room) in

@@ -1,5 +1,5 @@
 -- A text is of one shard at most, and it breaks nowhere.
-use Rattle.std.proofs.Common.{◌≡◌, Some, List, [], ◌∷◌, ◌++◌, ap, ◌∙◌, refl, sym, append-nil, subst}
+use Rattle.lemmas.proofs.{◌≡◌, Some, List, [], ◌∷◌, ◌++◌, ap, ◌∙◌, refl, sym, append-nil, subst}
 use Rattle.shard_lines.specs.{EachFits}
 use Rattle.shard_files.specs.declared.file_line.FileLine.{FileLine}
 use Rattle.shard_files.specs.{file_lines, IsShard, lines_text, shard_of, shard_text, ShardView, TextBreaksNowhere, TextIsOfOneShard}

@@ -1,5 +1,5 @@
 -- Reading a shard: what holds before each line, and what is refused.
-use Rattle.std.proofs.Common.{◌≡◌, ◌≢◌, ◌≤◌, ◌<◌, ◌+◌, ◌↔◌, IsTrue, ℕ, Bool, true, false, Option, None, Some, List, [], ◌∷◌, ◌++◌, length, refl, ap, ◌∙◌, sym, subst, arith, append_assoc, append-nil, length-append, option_and_then}
+use Rattle.lemmas.proofs.{◌≡◌, ◌≢◌, ◌≤◌, ◌<◌, ◌+◌, ◌↔◌, IsTrue, ℕ, Bool, true, false, Option, None, Some, List, [], ◌∷◌, ◌++◌, length, refl, ap, ◌∙◌, sym, subst, arith, append_assoc, append-nil, length-append, option_and_then}
 use Rattle.shard_lines.specs.{EachFits, joined_words, words_in}
 use Rattle.shard_lines.proofs.Runs.{joins}
 use Rattle.shard_files.specs.Endless.{Endless}

@@ -1,5 +1,5 @@
 -- Texts of lines.
-use Rattle.std.proofs.Common.{◌≡◌, ℕ, List, [], ◌∷◌, ◌++◌, map, ap, ◌∙◌, sym, append_assoc, append-nil, codes, decimal, flat_map}
+use Rattle.lemmas.proofs.{◌≡◌, ℕ, List, [], ◌∷◌, ◌++◌, map, ap, ◌∙◌, sym, append_assoc, append-nil, codes, decimal, flat_map}
 use Rattle.rdf_values.specs.{line}
 use Rattle.shard_lines.specs.{joined_words}
 use Rattle.shard_lines.proofs.Runs.{joins}

@@ -1,6 +1,5 @@
 -- A text is split into lines, and a line into words, in one way.
-use Rattle.std.proofs.Common.{◌≡◌, ◌≢◌, ◌<◌, ℕ, Bool, true, false, ◌&&◌, List, [], ◌∷◌, ◌++◌, length, map, flat_map, refl, ap, ap₂, ◌∙◌, sym, arith, append_assoc, codes, ◌==◌, nat_le, not}
-use Rattle.lemmas.proofs.{and_left, and_right, join_with_byte-slice_split, list_all, nat_tests}
+use Rattle.lemmas.proofs.{◌≡◌, ◌≢◌, ◌<◌, ℕ, Bool, true, false, ◌&&◌, List, [], ◌∷◌, ◌++◌, length, map, flat_map, refl, ap, ap₂, ◌∙◌, sym, arith, append_assoc, codes, ◌==◌, nat_le, not, and_left, and_right, join_with_byte-slice_split, list_all, nat_tests}
 use Rattle.rdf_values.specs.{AreColumns, ColType, Column, is_name, is_word, is_word_byte, is_word_start, same}
 use Rattle.shard_lines.specs.{EachFits, FitLines, joined_words, ShardLine, words_in}
 use Rattle.shard_lines.proofs.Plain.{AllPlain, Plain, decimal_plain, line_plain, line_some, words_found, written}

@@ -1,6 +1,5 @@
 -- No byte of a word is a space or a line's end, so that the words of a line are found again.
-use Rattle.std.proofs.Common.{◌≡◌, ◌≢◌, ◌<◌, ℕ, suc, pos, negsuc, ℤ, Bool, true, false, ◌&&◌, List, [], ◌∷◌, length, map, flat_map, refl, ap, ◌∙◌, arith, codes, decimal, Option, None, Some, ◌==◌, nat_lt}
-use Rattle.lemmas.proofs.{both_true, ltb-true, nat_tests, signed_decimal}
+use Rattle.lemmas.proofs.{◌≡◌, ◌≢◌, ◌<◌, ℕ, suc, pos, negsuc, ℤ, Bool, true, false, ◌&&◌, List, [], ◌∷◌, length, map, flat_map, refl, ap, ◌∙◌, arith, codes, decimal, Option, None, Some, ◌==◌, nat_lt, both_true, ltb-true, nat_tests, signed_decimal}
 use Rattle.rdf_values.specs.{Scalar}
 use Rattle.loop_pieces.specs.{Counts}
 use Rattle.histograms.specs.{CellSum}

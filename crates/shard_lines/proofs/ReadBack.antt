@@ -1,6 +1,5 @@
 -- Lines are read back from their words, and from nothing else.
-use Rattle.std.proofs.Common.{◌≡◌, ◌≤◌, ◌<◌, ◌^◌, ℕ, ℤ, pos, negsuc, zero, suc, Bool, true, false, ◌&&◌, Option, None, Some, List, [], ◌∷◌, length, map, flat_map, refl, ap, ap₂, ◌∙◌, sym, subst, arith, codes, decimal, ◌==◌, bytes_eq, if◌then◌else◌, option_map}
-use Rattle.lemmas.proofs.{bytes_eq-Decides, nat_tests, signed_decimal}
+use Rattle.lemmas.proofs.{◌≡◌, ◌≤◌, ◌<◌, ◌^◌, ℕ, ℤ, pos, negsuc, zero, suc, Bool, true, false, ◌&&◌, Option, None, Some, List, [], ◌∷◌, length, map, flat_map, refl, ap, ap₂, ◌∙◌, sym, subst, arith, codes, decimal, ◌==◌, bytes_eq, if◌then◌else◌, option_map, bytes_eq-Decides, nat_tests, signed_decimal}
 use Rattle.rdf_values.proofs.OneText.{integer_of_text, magnitude_bound, text_of_integer}
 use Rattle.rdf_values.specs.{Has64Bits, integer_of, magnitude_of, negative, positive, same, Scalar}
 use Rattle.loop_pieces.specs.{Counts}

@@ -1,12 +1,11 @@
 -- A pass of a job by its number: how many accumulators it has, and which filters it covers.
-use Rattle.std.proofs.Common.{◌≡◌, ℕ, ◌+◌, List, [], ◌∷◌, ◌++◌, length, map, take, Some, refl, sym, ap, ◌∙◌, append-nil, length-append, option_map, slice_get}
-use Rattle.lemmas.proofs.{flat_map-append, map-append, same_Some, slice_get-map, take_next}
+use Rattle.lemmas.proofs.{◌≡◌, ℕ, ◌+◌, List, [], ◌∷◌, ◌++◌, length, map, take, Some, refl, sym, ap, ◌∙◌, append-nil, length-append, option_map, slice_get, flat_map-append, map-append, same_Some, slice_get-map, take_next}
 use Rattle.rdf_values.specs.{ActionAt, ActionKind, Booking, history, named_before, Pass, Path, ReportOn}
 use Rattle.rdf_model.specs.{kind_in, kinds_in}
 use Rattle.graph_numbers.specs.{FilterAt, graph_filters, graph_results, graph_under, GraphView, kind_of_booking, Pass as NumberedPass, ResultAt, ResultKind}
 use Rattle.graph_numbers.proofs.Covering.{filters_are_the_scripts, reports_cover_filters}
 use Rattle.loop_keys.specs.{job_graph, JobView, numbered_in, passes_in}
-use Rattle.event_loop.proofs.Adding.{its_pass, its_result, of_action, of_report, its_result_is}
+use Rattle.event_loop.proofs.Found.{its_pass, its_result, of_action, of_report, its_result_is}
 use Rattle.shard_loop.proofs.PassLines.{AreNumbered}
 
 kinds_next : (ps : List Pass) (n : ℕ) (p : Pass) → slice_get ps n ≡ Some p → kinds_in (take (n + 1) ps) ≡ kinds_in (take n ps) ++ kind_in p.result.booking

@@ -1,11 +1,10 @@
 -- The loops of a graph over a span, one after another.
-use Rattle.std.proofs.Common.{◌≡◌, ℕ, zero, suc, ◌+◌, ◌<◌, ◌≤◌, true, false, List, [], ◌∷◌, ◌++◌, length, map, drop, Option, Some, refl, sym, ap, ◌∙◌, subst, arith, append-nil, append_assoc, option_map, slice_get, unwrap_or}
-use Rattle.lemmas.proofs.{length-map, none_left, slice_get-map, something_at}
+use Rattle.lemmas.proofs.{◌≡◌, ℕ, zero, suc, ◌+◌, ◌<◌, ◌≤◌, true, false, List, [], ◌∷◌, ◌++◌, length, map, drop, Option, Some, refl, sym, ap, ◌∙◌, subst, arith, append-nil, append_assoc, option_map, slice_get, unwrap_or, length-map, drop_all, slice_get-map, something_at}
 use Rattle.rdf_values.specs.{Booked, Fault, history, Pass, Script, Span}
 use Rattle.rdf_model.specs.{Dataset, loop_passes, loop_results}
 use Rattle.graph_numbers.specs.{graph_loops, GraphView, pass_at}
 use Rattle.graph_numbers.proofs.Placing.{itself}
-use Rattle.graph_numbers.proofs.Looping.{loops_are}
+use Rattle.graph_numbers.proofs.Covering.{loops_are}
 use Rattle.loop_keys.specs.{job_spans, JobView, passes_in}
 use Rattle.loop_pieces.specs.{LoopPiece}
 use Rattle.shard_lines.specs.{ShardLine}
@@ -83,4 +82,4 @@ module _ (spans : List Span) (d : Dataset) (lo hi : ℕ) (script : Script) where
       pushed ∙ sym (ap (λ l. all ++ l) (left n one lt is ∙ after_fault one (span_loops spans d lo hi (drop (n + 1) (loops_of script))) faulty)) ∙ h
 
   pub no_loop_left : (n : ℕ) (all : List ShardLoop) → length (loops_of script) ≤ n → IsUpToLoop n all → all ≡ span_loops spans d lo hi (loops_of script)
-  no_loop_left n all le h = sym (append-nil all) ∙ sym (ap (λ l. all ++ span_loops spans d lo hi l) (none_left (loops_of script) n le)) ∙ h
+  no_loop_left n all le h = sym (append-nil all) ∙ sym (ap (λ l. all ++ span_loops spans d lo hi l) (drop_all n (loops_of script) le)) ∙ h

@@ -1,14 +1,13 @@
 -- The lines of passes, from what a piece holds.
-use Rattle.std.proofs.Common.{◌≡◌, ◌⊎◌, inl, inr, ℕ, zero, suc, ◌+◌, ◌<◌, List, [], ◌∷◌, ◌++◌, length, map, take, drop, get_or, Option, None, Some, refl, sym, ap, ap₂, ◌∙◌, subst, arith, append_assoc, length-append, All, slice_get}
-use Rattle.lemmas.proofs.{All-from_recursion, AllByRecursion, flat_map-append, get_or_from_slice_get, length-map, same_Some, slice_get_within, something_at}
+use Rattle.lemmas.proofs.{◌≡◌, ◌⊎◌, inl, inr, ℕ, zero, suc, ◌+◌, ◌<◌, List, [], ◌∷◌, ◌++◌, length, map, take, drop, get_or, Option, None, Some, refl, sym, ap, ap₂, ◌∙◌, subst, arith, append_assoc, length-append, All, slice_get, All-from_recursion, AllByRecursion, flat_map-append, get_or_from_slice_get, length-map, same_Some, slice_get_within, something_at}
 use Rattle.rdf_values.specs.{ActionAt, ActionKind, below, Booking, EntryFault, Fault, named_before, Pass, Path, path, ReportOn, Span, Statement, Value}
 use Rattle.rdf_values.specs.declared.scripts.statement.Statement.TheVariants.{Filter}
 use Rattle.rdf_values.proofs.UnionLemmas.{length-below}
 use Rattle.rdf_model.specs.{action_pass, cutflow, Dataset, fault_at, fault_or, first_fault, first_fault_from, first_fault_in, first_of, kind_in, kinds_in, loop_facts, over_clusters, pass_result}
 use Rattle.actions.specs.{Accumulator}
 use Rattle.loop_pieces.specs.{Counts, counts_at, counts_of, LoopPiece, nothing, StandsFor}
-use Rattle.graph_numbers.proofs.Walks.{next_at, of_joined}
-use Rattle.loop_pieces.proofs.WholeLoops.{piece_holds_counts, piece_holds_results}
+use Rattle.graph_numbers.proofs.Placing.{next_at, of_joined}
+use Rattle.loop_pieces.proofs.ByCluster.{piece_holds_counts, piece_holds_results}
 use Rattle.shard_spans.specs.{booking_line, filled_line, pass_line}
 
 -- ---- lists

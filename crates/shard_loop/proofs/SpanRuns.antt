@@ -1,6 +1,5 @@
 -- A loop over the clusters of a span, one after another.
-use Rattle.std.proofs.Common.{◌≡◌, ℕ, ◌+◌, ◌<◌, ◌≤◌, ◌∷◌, [], ◌++◌, length, map, Option, None, Some, sym, ap, ap₂, ◌∙◌, subst, arith, All, option_map, slice_get}
-use Rattle.lemmas.proofs.{length-map, same_Some, slice_get-map}
+use Rattle.lemmas.proofs.{◌≡◌, ℕ, ◌+◌, ◌<◌, ◌≤◌, ◌∷◌, [], ◌++◌, length, map, Option, None, Some, sym, ap, ap₂, ◌∙◌, subst, arith, All, option_map, slice_get, length-map, same_Some, slice_get-map}
 use Rattle.rdf_values.specs.{below, Fault, first_in, Lead}
 use Rattle.rdf_values.proofs.UnionLemmas.{length-below, slice_get-below}
 use Rattle.rdf_values.proofs.Evenly.{cuts_lead}

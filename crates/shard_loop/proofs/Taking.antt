@@ -1,6 +1,5 @@
 -- Lists that take in one item after another.
-use Rattle.std.proofs.Common.{◌≡◌, ℕ, ◌+◌, List, [], ◌∷◌, ◌++◌, map, take, get_or, Some, sym, ap, ◌∙◌, append_assoc, slice_get}
-use Rattle.lemmas.proofs.{get_or_from_slice_get, map-append, take_next}
+use Rattle.lemmas.proofs.{◌≡◌, ℕ, ◌+◌, List, [], ◌∷◌, ◌++◌, map, take, get_or, Some, sym, ap, ◌∙◌, append_assoc, slice_get, get_or_from_slice_get, map-append, take_next}
 use Rattle.loop_pieces.specs.{Counts, nothing}
 
 -- one more item, behind others

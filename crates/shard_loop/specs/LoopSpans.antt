@@ -2,7 +2,7 @@
 use Rattle.std.specs.Prelude.{◌≡◌, ℕ, List, [], Option, Some, None, slice_get, unwrap_or}
 use Rattle.rdf_values.specs.{cut, Fault, Function, history, Pass, Script, Span}
 use Rattle.rdf_model.specs.{Dataset, loop_passes, loop_results}
-use Rattle.columns.specs.ColumnsView.{ColumnsView}
+use Rattle.columns.specs.Views.{ColumnsView}
 use Rattle.loop_keys.specs.{facts_in, job_spans, JobView, passes_in}
 use Rattle.loop_pieces.specs.{LoopPiece, StandsFor}
 use Rattle.shard_spans.specs.{clusters_in, over_span, span_fault}

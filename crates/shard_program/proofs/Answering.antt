@@ -1,5 +1,5 @@
 -- What is due to a script and shards, and to a command.
-use Rattle.std.proofs.Common.{◌≡◌, ℕ, List, [], ◌∷◌, None, Some, Result, Ok, IfOk, sym, ap, ◌∙◌, subst, MatchOption, slice_get}
+use Rattle.lemmas.proofs.{◌≡◌, ℕ, List, [], ◌∷◌, None, Some, Result, Ok, IfOk, sym, ap, ◌∙◌, subst, MatchOption, slice_get}
 use Rattle.rdf_values.specs.{Column, fn_names, Function, FunctionNames, IsHeader, Script}
 use Rattle.graph_numbers.specs.{booked, GraphView}
 use Rattle.input_files.specs.{due_of}

@@ -1,11 +1,11 @@
 -- The numbers and names of a command are within their limits.
-use Rattle.std.proofs.Common.{◌≡◌, ◌≤◌, ℕ, ℤ, pos, negsuc, Bool, true, false, ◌&&◌, leb, List, [], ◌∷◌, length, Option, None, Some, if◌then◌else◌, refl, arith, subst, sym, ◌∙◌, bytes_eq, codes, nat_le, nat_lt}
+use Rattle.lemmas.proofs.{◌≡◌, ◌≤◌, ℕ, ℤ, pos, negsuc, Bool, true, false, ◌&&◌, leb, List, [], ◌∷◌, length, Option, None, Some, if◌then◌else◌, refl, arith, subst, sym, ◌∙◌, bytes_eq, codes, nat_le, nat_lt}
 use Rattle.std.proofs.lemmas.Bool.Decides.{nat_tests}
 use Rattle.rdf_values.specs.{integer_of}
 use Rattle.command_words.specs.{number_of, within}
 use Rattle.shard_words.specs.{asked_of, merge_of, run_of, run_with, ShardCommand, SpanRun}
 use Rattle.shard_words.specs.declared.command.ShardCommand.TheVariants.{Run, Merge}
-use Rattle.command_words.proofs.Bounds.{some_is}
+use Rattle.command_words.proofs.Taken.{found_is}
 
 -- clusters have some entry, and a merging has 1 to 64 files
 abbrev IsFit : ShardCommand → Type 0
@@ -37,7 +37,7 @@ run_with_fits : (script table : List ℕ) (size lo hi : Option ℕ) → ((n : �
 run_with_fits script table None lo hi some = λ c e. absurd (cc e)
 run_with_fits script table (Some size) None hi some = λ c e. absurd (cc e)
 run_with_fits script table (Some size) (Some lo) None some = λ c e. absurd (cc e)
-run_with_fits script table (Some size) (Some lo) (Some hi) some = λ c e. subst IsFit (some_is _ _ e) (some size refl)
+run_with_fits script table (Some size) (Some lo) (Some hi) some = λ c e. subst IsFit (found_is _ _ e) (some size refl)
 
 run_fits : (words : List (List ℕ)) → Fits (run_of words)
 run_fits [] = λ c e. absurd (cc e)
@@ -52,7 +52,7 @@ run_fits (script ∷ table ∷ size ∷ lo ∷ hi ∷ more ∷ words) = λ c e. 
 
 merge_if : (script : List ℕ) (files : List (List ℕ)) (low high : Bool) → nat_lt 0 (length files) ≡ low → nat_le (length files) 64 ≡ high
     → Fits (if low && high then Some (Merge (record { script = script; files = files })) else None)
-merge_if script files true true l h = λ c e. subst IsFit (some_is _ _ e) (grind (arith, nat_tests, l), grind (arith, nat_tests, h))
+merge_if script files true true l h = λ c e. subst IsFit (found_is _ _ e) (grind (arith, nat_tests, l), grind (arith, nat_tests, h))
 merge_if script files true false l h = λ c e. absurd (cc e)
 merge_if script files false high l h = λ c e. absurd (cc e)
 

@@ -1,5 +1,5 @@
 -- Answers to a script's file and to a table's.
-use Rattle.std.proofs.Common.{◌≡◌, ◌≤◌, ℕ, List, Option, None, Some, Result, Ok, Err, IfOk, IfSome, subst, arith}
+use Rattle.lemmas.proofs.{◌≡◌, ◌≤◌, ℕ, List, Option, None, Some, Result, Ok, Err, IfOk, IfSome, subst, arith}
 use Rattle.rdf_values.specs.{Script}
 use Rattle.input_files.proofs.Staging.{script_read_due}
 use Rattle.input_files.specs.{HoldsTheScript, Tells, WithScriptFile}

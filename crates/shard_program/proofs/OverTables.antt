@@ -1,9 +1,9 @@
 -- A booked script over a table, and the shard of a run.
-use Rattle.std.proofs.Common.{◌≡◌, ◌≤◌, ℕ, List, length, None, Result, Ok, IfOk, sym, ap, ◌∙◌, subst, MatchOption}
+use Rattle.lemmas.proofs.{◌≡◌, ◌≤◌, ℕ, List, length, None, Result, Ok, IfOk, sym, ap, ◌∙◌, subst, MatchOption}
 use Rattle.rdf_values.specs.Answered.{Refuses}
 use Rattle.rdf_values.specs.{AnswerIn64Bits, Column, fn_names, Function, FunctionNames, graph_cause_line, GraphCause, history, IsTable, Lead, MarkedTable, Script, Span, StatementsHaveWords, verdict}
 use Rattle.rdf_values.proofs.Evenly.{cuts_lead}
-use Rattle.columns.specs.ColumnsView.{ColumnsView}
+use Rattle.columns.specs.Views.{ColumnsView}
 use Rattle.graph_numbers.specs.{booked, GraphView, IsGraph}
 use Rattle.input_files.specs.{due_of}
 use Rattle.graph.specs.{GraphRefusal, refused_at}

@@ -1,6 +1,5 @@
 -- The files of a merging, one after the other.
-use Rattle.std.proofs.Common.{◌≡◌, ◌≤◌, ◌<◌, ◌+◌, inl, inr, ℕ, zero, suc, Bool, true, false, List, [], ◌∷◌, ◌++◌, length, take, drop, Option, None, Some, Result, IfOk, IfSome, refl, sym, ap, ◌∙◌, subst, arith, add-one, get_or, append-nil, append_assoc, nat_lt, slice_get, unwrap_or}
-use Rattle.lemmas.proofs.{le-ltb, MatchBool, sum_by-append, sum_by-cons, take-append-drop}
+use Rattle.lemmas.proofs.{◌≡◌, ◌≤◌, ◌<◌, ◌+◌, inl, inr, ℕ, zero, suc, Bool, true, false, List, [], ◌∷◌, ◌++◌, length, take, drop, Option, None, Some, Result, IfOk, IfSome, refl, sym, ap, ◌∙◌, subst, arith, add-one, get_or, append-nil, append_assoc, nat_lt, slice_get, unwrap_or, le-ltb, MatchBool, sum_by-append, sum_by-cons, take-append-drop}
 use Rattle.rdf_values.specs.{Function, Script}
 use Rattle.input_files.specs.{AreTurnedTo, due_of, Tells, WithFile}
 use Rattle.shard_files.specs.{IsShard, ShardView}

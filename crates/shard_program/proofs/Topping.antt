@@ -1,5 +1,5 @@
 -- What the words are answered, and what is written.
-use Rattle.std.proofs.Common.{◌≡◌, ◌⊎◌, inl, inr, ℕ, List, Option, None, Some, Result, Ok, Err, IfOk, IfSome, refl, sym, ap, ◌∙◌, subst, MatchOption}
+use Rattle.lemmas.proofs.{◌≡◌, ◌⊎◌, inl, inr, ℕ, List, Option, None, Some, Result, Ok, Err, IfOk, IfSome, refl, sym, ap, ◌∙◌, subst, MatchOption}
 use Rattle.rdf_outside.specs.{Appends, AppendsPart}
 use Rattle.rdf_values.specs.{Function}
 use Rattle.input_files.specs.{due_of, WritesDue, WritesDuePart, WritesPart}

@@ -1,5 +1,5 @@
 -- The files that are turned to, one after the other.
-use Rattle.std.proofs.Common.{◌≡◌, ◌≤◌, ◌<◌, ◌+◌, ℕ, zero, suc, List, [], ◌∷◌, ◌++◌, length, take, drop, Option, None, Some, IfSome, sym, ap, arith, slice_get}
+use Rattle.lemmas.proofs.{◌≡◌, ◌≤◌, ◌<◌, ◌+◌, ℕ, zero, suc, List, [], ◌∷◌, ◌++◌, length, take, drop, Option, None, Some, IfSome, sym, ap, arith, slice_get}
 use Rattle.std.proofs.lemmas.List.{length-take-le, take-append-drop}
 use Rattle.input_files.specs.{AreTurnedTo}
 use Rattle.shard_due.specs.{Files, name_at}

@@ -1,5 +1,5 @@
 -- The definitions computed: two runs over one table, the file of each, and what they merge to.
-use Rattle.std.proofs.Common.{◌≡◌, true, false, pos, List, [], ◌∷◌, Ok, Err, refl, arith, codes, flat_map}
+use Rattle.lemmas.proofs.{◌≡◌, true, false, pos, List, [], ◌∷◌, Ok, Err, refl, arith, codes, flat_map}
 use Rattle.std.specs.Fmt.{digits}
 use Rattle.rdf_values.specs.{ColType, cut, is_name, line, Scalar, Script}
 use Rattle.rdf_values.specs.declared.results.EntryFault.TheVariants.{ZeroDivisor}
@@ -9,7 +9,7 @@ use Rattle.shard_files.specs.{line_text, merge_of, MergeCause, shard_text, Shard
 use Rattle.shard_files.specs.declared.shard_loop.ShardLoop.TheVariants.{Whole, Faulted}
 use Rattle.shard_spans.specs.{span_shard}
 use Rattle.shard_runs.specs.{IsChecked, script_shapes}
-use Rattle.rdf_model.proofs.Bounded.{of_elements as few_words}
+use Rattle.rdf_model.proofs.Limits.{of_elements as few_words}
 
 -- t = df.Take("pt")
 -- s = df.Sum("w")

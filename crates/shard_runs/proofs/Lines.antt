@@ -1,7 +1,6 @@
 -- The line of an action's items is within limits that are wide enough.
-use Rattle.std.proofs.Common.{◌≡◌, ℕ, suc, ◌*◌, ◌^◌, ◌≤◌, ℤ, Bool, true, false, ◌&&◌, List, [], ◌∷◌, ◌++◌, length, map, Option, refl, ap, ◌∙◌, arith, if◌then◌else◌, nat_eq, flat_map, ◌||◌}
+use Rattle.lemmas.proofs.{◌≡◌, ℕ, suc, ◌*◌, ◌^◌, ◌≤◌, ℤ, Bool, true, false, ◌&&◌, List, [], ◌∷◌, ◌++◌, length, map, Option, refl, ap, ◌∙◌, arith, if◌then◌else◌, nat_eq, flat_map, ◌||◌, AllByRecursion, list_all, or_true}
 use Rattle.std.specs.Prelude.{⊤}
-use Rattle.lemmas.proofs.{AllByRecursion, list_all, or_true}
 use Rattle.rdf_values.specs.{ActionKind, bin, cells_on, ColType, flat_cell, fold_items, Has64Bits, Item, numbers_of, Scalar, scalar_of, square_cell, weight_in, weight_in2}
 use Rattle.rdf_values.specs.results.Fold.{Cell, cell_of}
 use Rattle.rdf_model.specs.{FitsAction}

@@ -1,6 +1,5 @@
 -- The loops of an accepted script: each fills 1 to 64 results, and so has 1 to 8,256 passes.
-use Rattle.std.proofs.Common.{◌≡◌, ℕ, suc, ◌+◌, ◌*◌, ◌<◌, ◌≤◌, Bool, true, false, not, ◌||◌, List, [], ◌∷◌, ◌++◌, length, map, filter, filter_map, Option, Some, None, refl, sym, ◌∙◌, ap, subst, arith, if◌then◌else◌, length-append, nat_lt}
-use Rattle.lemmas.proofs.{AllByRecursion, cons_option, length-map, nat_tests}
+use Rattle.lemmas.proofs.{◌≡◌, ℕ, suc, ◌+◌, ◌*◌, ◌<◌, ◌≤◌, Bool, true, false, not, ◌||◌, List, [], ◌∷◌, ◌++◌, length, map, filter, filter_map, Option, Some, None, refl, sym, ◌∙◌, ap, subst, arith, if◌then◌else◌, length-append, nat_lt, AllByRecursion, cons_option, length-map, nat_tests}
 use Rattle.rdf_values.specs.{among, AreAccepted, Booked, booked_by, bookings, check_columns, check_edges, check_node, check_passes, check_results, check_tags, check_target, check_values, filled, first_refusal, FunctionNames, GraphCause, has_variations, is_result, is_variation_name, names_of, own_variations, Pass, passes_of, path, permitted_kinds, printed_results, refuse_if, refuse_unless, repeats, result_depends, same, Scope, scope_at, Statement, StatementsHaveWords, Variation, variations, varied_passes, waiting}
 use Rattle.rdf_values.specs.declared.scripts.script_cause.GraphCause.TheVariants.{NameTaken, TooMany, UnknownName}
 use Rattle.rdf_values.specs.declared.scripts.statement.Statement.TheVariants.{Action, Alias, Define, Filter, Print, Redefine, Report, VariationsFor, Vary, Watch}

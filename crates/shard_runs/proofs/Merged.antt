@@ -1,6 +1,5 @@
 -- Shards of runs are merged to one run: their heads agree, and their loops have the script's shapes.
-use Rattle.std.proofs.Common.{◌≡◌, ℕ, suc, ◌+◌, ◌<◌, ◌≤◌, Bool, true, false, not, ◌&&◌, List, [], ◌∷◌, length, map, Option, None, Some, Result, Ok, refl, sym, ap, ap₂, ◌∙◌, arith, cond, All, position}
-use Rattle.lemmas.proofs.{AllByRecursion, eq_itself, position_from, position_from-zero}
+use Rattle.lemmas.proofs.{◌≡◌, ℕ, suc, ◌+◌, ◌<◌, ◌≤◌, Bool, true, false, not, ◌&&◌, List, [], ◌∷◌, length, map, Option, None, Some, Result, Ok, refl, sym, ap, ap₂, ◌∙◌, arith, cond, All, position, AllByRecursion, eq_itself, position_from, position_from-zero}
 use Rattle.rdf_values.specs.{ColType, Column, Lead, Script, Span}
 use Rattle.rdf_model.specs.{Dataset}
 use Rattle.rdf_model.proofs.Accepted.{itself}

@@ -1,6 +1,5 @@
 -- The rows of a span, and the first fault in them.
-use Rattle.std.proofs.Common.{◌≡◌, ℕ, zero, suc, ◌+◌, ◌-◌, ◌<◌, ◌≤◌, List, [], ◌∷◌, ◌++◌, length, drop, take, Option, None, Some, refl, sym, ap, ◌∙◌, arith, length-append, slice_get, slice_range}
-use Rattle.lemmas.proofs.{range_length}
+use Rattle.lemmas.proofs.{◌≡◌, ℕ, zero, suc, ◌+◌, ◌-◌, ◌<◌, ◌≤◌, List, [], ◌∷◌, ◌++◌, length, drop, take, Option, None, Some, refl, sym, ap, ◌∙◌, arith, length-append, slice_get, slice_range, range_length}
 use Rattle.rdf_values.specs.{Column, EntryFault, Fault, FitRows, Lead, Pass, Span, Value}
 use Rattle.rdf_model.specs.{Dataset, fault_at, fault_or, first_fault_from, first_fault_in, first_of, rows_in, span_rows}
 use Rattle.loop_pieces.specs.{begin_of}

@@ -1,6 +1,5 @@
 -- What a run over a span finds is a shard.
-use Rattle.std.proofs.Common.{◌≡◌, ℕ, ◌*◌, ◌<◌, ◌≤◌, List, [], ◌∷◌, ◌++◌, length, map, Option, None, Some, refl, arith, length-append, flat_map, slice_get}
-use Rattle.lemmas.proofs.{AllByRecursion, count_by-le-length, length-map, recursion_from_All}
+use Rattle.lemmas.proofs.{◌≡◌, ℕ, ◌*◌, ◌<◌, ◌≤◌, List, [], ◌∷◌, ◌++◌, length, map, Option, None, Some, refl, arith, length-append, flat_map, slice_get, AllByRecursion, count_by-le-length, length-map, recursion_from_All}
 use Rattle.rdf_values.specs.{ActionAt, ActionKind, AreAccepted, Booked, Booking, ColType, Fault, FitRows, fn_names, history, Item, Lead, Pass, Path, ReportOn, scope_of, Script, Span, Under, Value}
 use Rattle.rdf_model.specs.{cutflow, Dataset, FitsAction, items_of, loop_passes, loop_results, passes_filters, rows_in}
 use Rattle.rdf_model.proofs.Accepted.{verdict_is_the_first_refusal}

@@ -1,6 +1,5 @@
 -- The lines of a run have the shapes of the script's passes.
-use Rattle.std.proofs.Common.{◌≡◌, ℕ, suc, ◌+◌, ◌*◌, ◌<◌, true, ◌&&◌, List, [], ◌∷◌, length, map, Option, None, Some, refl, ap, ap₂, ◌∙◌, arith, length-append, flat_map, nat_eq, slice_get}
-use Rattle.lemmas.proofs.{AllByRecursion, length-map, lt_true, nat_tests}
+use Rattle.lemmas.proofs.{◌≡◌, ℕ, suc, ◌+◌, ◌*◌, ◌<◌, true, ◌&&◌, List, [], ◌∷◌, length, map, Option, None, Some, refl, ap, ap₂, ◌∙◌, arith, length-append, flat_map, nat_eq, slice_get, AllByRecursion, length-map, lt-ltb, nat_tests}
 use Rattle.rdf_values.specs.{ActionAt, ActionKind, Booking, cells_on, Fault, FitRows, flat_cell, Item, Pass, Path, ReportOn, Span, square_cell, Value}
 use Rattle.rdf_values.specs.results.Fold.{Cell}
 use Rattle.rdf_values.proofs.UnionLemmas.{length-below}
@@ -84,7 +83,7 @@ module _ (d : Dataset) (spans : List Span) (fit : FitRows d.columns d.rows) (lo 
           let shape_of : Pass → PassShape = λ p. booking_shape (pass_kind d p) p.result.booking in
           let same_number : length (map shape_of ps) ≡ length ps = length-map ps shape_of in
           let pass = at.2 in
-          lt_true f.pass (length (map shape_of ps)) (omega arith)
+          lt-ltb f.pass (length (map shape_of ps)) (omega arith)
 
 pub runs_have_shapes : RunsHaveShapes
 runs_have_shapes script d spans lo hi checked = loops_shaped d spans checked.fit lo hi (loops_of script) (all_passes script d checked)

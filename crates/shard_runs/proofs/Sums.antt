@@ -1,6 +1,5 @@
 -- How large sums, extremes and reductions of some numbers are.
-use Rattle.std.proofs.Common.{◌≡◌, ℕ, suc, ◌+◌, ◌*◌, ◌^◌, ◌%◌, ◌<◌, ◌≤◌, ℤ, pos, negsuc, ◌+ℤ◌, ◌*ℤ◌, List, [], ◌∷◌, ◌++◌, length, map, Bool, true, false, cond, refl, sym, ap, ◌∙◌, subst, arith, w64, FitsSigned, nat_abs, int_lt, fold, bit_and, bit_or, bit_xor}
-use Rattle.lemmas.proofs.{abs_add, AllByRecursion, and_le_l, cast_signed, cast_unsigned, int_max, int_min, mod-eq_of_lt, mod-lt, mul-le, or_lt, SFits-int_wrap, unsigned_abs-mul, wrapping_add-bits, xor_lt}
+use Rattle.lemmas.proofs.{◌≡◌, ℕ, suc, ◌+◌, ◌*◌, ◌^◌, ◌%◌, ◌<◌, ◌≤◌, ℤ, pos, negsuc, ◌+ℤ◌, ◌*ℤ◌, List, [], ◌∷◌, ◌++◌, length, map, Bool, true, false, cond, refl, sym, ap, ◌∙◌, subst, arith, w64, FitsSigned, nat_abs, int_lt, fold, bit_and, bit_or, bit_xor, abs_add, AllByRecursion, and_le_l, cast_signed, cast_unsigned, int_max, int_min, mod-eq_of_lt, mod-lt, mul-le, or_lt, SFits-int_wrap, unsigned_abs-mul, wrapping_add-bits, xor_lt}
 use Rattle.rdf_values.specs.{extreme, Has64Bits, integer_sum, reduce_start, reduce_step, ReduceOp}
 use Rattle.rdf_values.specs.results.Fold.{cell_of}
 use Rattle.shard_lines.specs.{FitsExtreme}

@@ -1,5 +1,5 @@
 -- What the rows of an accepted script feed to its actions: few items of 64 bits, and to a Take values of its column's kind.
-use Rattle.std.proofs.Common.{◌≡◌, ℕ, Bool, true, false, List, [], ◌∷◌, ◌++◌, map, Option, Some, None, Ok, Err, Result, refl, arith, if◌then◌else◌}
+use Rattle.lemmas.proofs.{◌≡◌, ℕ, Bool, true, false, List, [], ◌∷◌, ◌++◌, map, Option, Some, None, Ok, Err, Result, refl, arith, if◌then◌else◌}
 use Rattle.std.specs.Prelude.{⊤}
 use Rattle.std.specs.List.{AllByRecursion}
 use Rattle.rdf_values.specs.{ActionAt, ActionKind, AnswerIn64Bits, AreAccepted, Booked, booked_by, Booking, bookings, check_columns, check_edges, check_node, check_passes, check_results, ColType, column_kind, columns_of, EntryFault, feed_fault, FitsKind, FitsRow, fn_names, FunctionNames, GraphCause, Item, kind_or_int, may_begin, Pass, Path, path, permitted_kinds, ReportOn, scalar_value, Scope, scope_at, scope_of, spread, Statement, StatementsHaveWords, Under, Value}

@@ -1,7 +1,6 @@
 -- Spans in order that hold each cluster once follow one another.
-use Rattle.std.proofs.Common.{◌≡◌, ◌⊎◌, inl, inr, ℕ, ◌+◌, ◌<◌, ◌≤◌, Bool, true, false, ◌&&◌, List, [], ◌∷◌, cond, refl, sym, ap, ap₂, ◌∙◌, arith, if◌then◌else◌, ⊎_elim, nat_le, nat_lt}
+use Rattle.lemmas.proofs.{◌≡◌, ◌⊎◌, inl, inr, ℕ, ◌+◌, ◌<◌, ◌≤◌, Bool, true, false, ◌&&◌, List, [], ◌∷◌, cond, refl, sym, ap, ap₂, ◌∙◌, arith, if◌then◌else◌, ⊎_elim, nat_le, nat_lt, cases_lt, nat_tests, sum_by-cons}
 use Rattle.std.specs.Prelude.{⊤}
-use Rattle.lemmas.proofs.{cases_lt, nat_tests, sum_by-cons}
 use Rattle.shard_files.specs.{in_order, not_behind, placed, ShardView, spans_with}
 
 -- ---- in order by their first clusters

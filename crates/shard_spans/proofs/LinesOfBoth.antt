@@ -1,13 +1,11 @@
 -- The lines of a pass over two lists of rows, one behind the other.
-use Rattle.std.proofs.Common.{◌≡◌, ℕ, suc, ◌+◌, ℤ, ◌+ℤ◌, ◌*ℤ◌, Bool, List, [], ◌∷◌, ◌++◌, length, map, Option, None, Some, refl, sym, ap, ap₂, ◌∙◌, arith, cond, length-append, count_by, flat_map, fold}
-use Rattle.lemmas.proofs.{flat_map-append, fold-append, int_max, int_min, map-append, sum_by-append}
+use Rattle.lemmas.proofs.{◌≡◌, ℕ, suc, ◌+◌, ℤ, ◌+ℤ◌, ◌*ℤ◌, Bool, List, [], ◌∷◌, ◌++◌, length, map, Option, None, Some, refl, sym, ap, ap₂, ◌∙◌, arith, cond, length-append, count_by, flat_map, fold, flat_map-append, fold-append, int_max, int_min, map-append, sum_by-append}
 use Rattle.rdf_values.specs.{ActionAt, ActionKind, Booking, cells_on, ColType, extreme, flat_cell, fold_items, integer_sum, Item, number_of, numbers_of, Pass, Path, reduce_start, reduce_step, ReduceOp, ReportOn, scalar_of, square_cell, Value, weight_in, weight_in2}
 use Rattle.rdf_values.specs.results.Fold.{Cell, cell_of}
 use Rattle.rdf_model.specs.{cutflow, Dataset, items_of, passes_filters}
 use Rattle.actions.specs.{better_of_two, by_cluster, Fed, from_cluster, in_file_order, put}
-use Rattle.actions.specs.Extremes as extremes
-use Rattle.actions.proofs.Folds.{extreme_fold, sum_both, map-flat_map}
-use Rattle.actions.proofs.Reductions.{extreme_from, max_comm, max_swap, min_comm, min_swap, reduce_both}
+use Rattle.actions.specs.Accumulators as extremes
+use Rattle.actions.proofs.Folds.{extreme_fold, sum_both, map-flat_map, extreme_from, max_comm, max_swap, min_comm, min_swap, reduce_both}
 use Rattle.loop_pieces.specs.{Counts, counts_of}
 use Rattle.histograms.specs.{CellSum}
 use Rattle.shard_lines.specs.{action_shape, added_cells, added_counts, better_of, booking_shape, joined_line, ShardLine}

@@ -1,6 +1,5 @@
 -- Shards of spans that hold each cluster once are joined to one run over all clusters.
-use Rattle.std.proofs.Common.{◌≡◌, ℕ, zero, suc, ◌+◌, ◌<◌, ◌≤◌, Bool, true, false, cond, List, [], ◌∷◌, length, map, None, Some, refl, sym, ap, ap₂, ◌∙◌, arith, if◌then◌else◌, All, nat_eq, not, slice_get}
-use Rattle.lemmas.proofs.{nat_tests, position_from, position_from-zero}
+use Rattle.lemmas.proofs.{◌≡◌, ℕ, zero, suc, ◌+◌, ◌<◌, ◌≤◌, Bool, true, false, cond, List, [], ◌∷◌, length, map, None, Some, refl, sym, ap, ap₂, ◌∙◌, arith, if◌then◌else◌, All, nat_eq, not, slice_get, nat_tests, position_from, position_from-zero}
 use Rattle.rdf_values.specs.{below, ColType, Lead, Pass, Script, Span}
 use Rattle.rdf_values.proofs.UnionLemmas.{slice_get-below}
 use Rattle.rdf_model.specs.{Dataset}

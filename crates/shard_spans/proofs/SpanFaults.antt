@@ -1,12 +1,11 @@
 -- The first fault of a span, cluster by cluster.
-use Rattle.std.proofs.Common.{◌≡◌, ℕ, zero, suc, ◌+◌, ◌-◌, ◌<◌, ◌≤◌, List, [], ◌∷◌, ◌++◌, length, map, Option, None, Some, refl, sym, ap, ap₂, ◌∙◌, subst, arith, append-nil, length-append, All, slice_get, slice_range}
-use Rattle.lemmas.proofs.{All-nil, All-push, flat_map-append, map-append, range_length}
+use Rattle.rdf_values.proofs.Evenly.{lead_up}
+use Rattle.rdf_model.proofs.Faults.{first_of-assoc}
+use Rattle.lemmas.proofs.{◌≡◌, ℕ, zero, suc, ◌+◌, ◌-◌, ◌<◌, ◌≤◌, List, [], ◌∷◌, ◌++◌, length, map, Option, None, Some, refl, sym, ap, ap₂, ◌∙◌, subst, arith, append-nil, length-append, All, slice_get, slice_range, All-nil, All-push, flat_map-append, map-append, range_length}
 use Rattle.rdf_values.specs.{Fault, first_in, Lead, Pass, Span, Value}
 use Rattle.rdf_model.specs.{Dataset, first_fault_from, first_fault_in, first_of, rows_in, span_rows}
 use Rattle.loop_pieces.specs.{begin_of, cluster_fault}
-use Rattle.loop_pieces.proofs.ByCluster.{lead_up}
 use Rattle.shard_spans.specs.{clusters_from, clusters_in, FirstFaultyClusterHasTheFault, span_fault}
-use Rattle.loop_pieces.proofs.ClusterFaults.{first_of-assoc}
 
 -- ---- clusters
 

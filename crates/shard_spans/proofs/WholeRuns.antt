@@ -1,11 +1,10 @@
 -- The loops of spans that follow one another come to those of one run over all clusters.
-use Rattle.std.proofs.Common.{if◌then◌else◌, ◌≡◌, ◌⊎◌, inl, inr, ℕ, zero, suc, ◌+◌, ◌-◌, ◌<◌, ◌≤◌, Bool, false, List, [], ◌∷◌, ◌++◌, length, map, Option, None, Some, refl, sym, ap, ap₂, ◌∙◌, subst, arith, append-nil, append_assoc, ⊎_elim, flat_map, fold, nat_lt, slice_get}
-use Rattle.lemmas.proofs.{flat_map-append, map-append, nat_tests, slice_get-map}
+use Rattle.lemmas.proofs.{if◌then◌else◌, ◌≡◌, ◌⊎◌, inl, inr, ℕ, zero, suc, ◌+◌, ◌-◌, ◌<◌, ◌≤◌, Bool, false, List, [], ◌∷◌, ◌++◌, length, map, Option, None, Some, refl, sym, ap, ap₂, ◌∙◌, subst, arith, append-nil, append_assoc, ⊎_elim, flat_map, fold, nat_lt, slice_get, flat_map-append, map-append, nat_tests, slice_get-map}
 use Rattle.rdf_values.specs.{below, ColType, Fault, first_in, Lead, Pass, Span, Value}
 use Rattle.rdf_values.proofs.UnionLemmas.{slice_get-below}
 use Rattle.rdf_model.specs.{Dataset, first_of, rows_in, span_rows}
 use Rattle.loop_pieces.specs.{cluster_fault, cluster_faults}
-use Rattle.loop_pieces.proofs.ClusterFaults.{lower_clusters_fault_first}
+use Rattle.loop_pieces.proofs.ByCluster.{lower_clusters_fault_first}
 use Rattle.shard_lines.specs.{joined_lines, PassShape, ShardLine}
 use Rattle.shard_files.specs.{all_lines, fault_or_lines, first_loop, joined_loop, joined_loops, least_fault, lines_in, or_earlier, other_loops, ShardLoop, ShardView, up_to_fault}
 use Rattle.shard_files.specs.declared.shard_loop.ShardLoop.TheVariants.{Whole, Faulted}

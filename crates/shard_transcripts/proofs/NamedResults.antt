@@ -1,14 +1,12 @@
 -- The result of a Print among those that its loop fills.
-use Rattle.std.proofs.Common.{◌≡◌, ℕ, zero, suc, Bool, true, false, not, ◌||◌, List, [], ◌∷◌, ◌++◌, Some, refl, sym, ap, ap₂, ◌∙◌, arith, if◌then◌else◌, filter, flat_map, slice_get}
-use Rattle.lemmas.proofs.{flat_map-append, same_some}
+use Rattle.lemmas.proofs.{◌≡◌, ℕ, zero, suc, Bool, true, false, not, ◌||◌, List, [], ◌∷◌, ◌++◌, Some, refl, sym, ap, ap₂, ◌∙◌, arith, if◌then◌else◌, filter, flat_map, slice_get, flat_map-append, same_some}
 use Rattle.rdf_values.specs.{ActionAt, among, Booked, Booking, bookings, filled, is_watched, names_of, Pass, passes_of, ReportOn, results_named, same, Statement, waiting}
 use Rattle.rdf_model.specs.{Course, Dataset, loop_of, loop_passes, named_lines, partial_line, partial_lines, partial_result, pass_lines, result_lines}
 use Rattle.rdf_model.proofs.Accepted.{names_equal}
 use Rattle.graph_numbers.proofs.Placing.{Extends, itself}
 use Rattle.graph.specs.{AreNamedInTurn}
-use Rattle.event_loop.proofs.LoopResults.{one_number}
-use Rattle.event_loop.proofs.Found.{AreOf, passes_are_of}
-use Rattle.graph_numbers.proofs.Looping.{booked_kept}
+use Rattle.event_loop.proofs.Found.{one_number, AreOf, passes_are_of}
+use Rattle.graph_numbers.proofs.Covering.{booked_kept}
 
 -- ---- the only one that passes a test
 

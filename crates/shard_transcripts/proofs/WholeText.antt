@@ -1,20 +1,15 @@
 -- What the loops of one run over all clusters print.
-use Rattle.std.proofs.Common.{◌≡◌, ◌⊎◌, ℕ, zero, suc, ◌+◌, ◌-◌, ◌<◌, List, [], ◌∷◌, length, map, drop, Option, None, Some, refl, sym, ap, ap₂, ◌∙◌, subst, arith, ⊎_elim, option_map, slice_get, unwrap_or}
-use Rattle.lemmas.proofs.{lt_or_last, same_Some, slice_get-map, slice_get_within, something_at}
+use Rattle.lemmas.proofs.{◌≡◌, ◌⊎◌, ℕ, zero, suc, ◌+◌, ◌-◌, ◌<◌, List, [], ◌∷◌, length, map, drop, Option, None, Some, refl, sym, ap, ap₂, ◌∙◌, subst, arith, ⊎_elim, option_map, slice_get, unwrap_or, lt_or_last, same_Some, slice_get-map, slice_get_within, something_at}
 use Rattle.rdf_values.specs.{below, Booked, bookings, Fault, first_in, fn_names, history, Lead, Pass, results_named, Script, Span, Statement, Value}
 use Rattle.rdf_model.specs.{Access, access_passes, access_printed, accesses, ComesInTurn, Course, Dataset, fault_line, first_fault, first_fault_from, in_front_of, loop_of, loop_passes, loop_results, loops_before, named_lines, over_clusters, Printed, printed, transcript}
-use Rattle.rdf_model.proofs.Turns.{loops_come_in_turn}
+use Rattle.rdf_model.proofs.Accepted.{loops_come_in_turn}
 use Rattle.graph_numbers.specs.{graph_of, GraphView, IsGraph, loops}
 use Rattle.graph_numbers.proofs.Placing.{itself}
 use Rattle.loop_pieces.specs.{cluster_fault}
-use Rattle.loop_pieces.proofs.ClusterFaults.{first_cluster_has_first_fault}
-use Rattle.loop_pieces.proofs.WholeLoops.{all_clusters_are_the_table}
+use Rattle.loop_pieces.proofs.ByCluster.{first_cluster_has_first_fault, all_clusters_are_the_table}
 use Rattle.event_loop.specs.{fills}
-use Rattle.event_loop.proofs.Accesses.{none_more, one_loop_more}
-use Rattle.event_loop.proofs.LoopResults.{many}
-use Rattle.event_loop.proofs.LoopResults as filling
-use Rattle.event_loop.proofs.Found.{in_turn}
-use Rattle.event_loop.proofs.Printed.{printed_has_loop}
+use Rattle.event_loop.proofs.Courses.{none_more, one_loop_more}
+use Rattle.event_loop.proofs.Found.{loop_at, many, in_turn, printed_has_loop}
 use Rattle.graph.proofs.Listing.{place_at}
 use Rattle.shard_lines.specs.{ShardLine}
 use Rattle.shard_files.specs.{fault_or_lines, ShardLoop, up_to_fault}
@@ -124,7 +119,7 @@ module _ (script : Script) (d : Dataset) (spans : List Span) (course : Course) (
       let number : loop_of h a.result ≡ found.0 = ap (λ (o : Option ℕ). unwrap_or o 0) found.1 in
       let lt = slice_get_within (loop_results h) found.0 placed.0 placed.1 in
       let numbered = something_at (loops h h) found.0 (omega (arith, many h h itself)) in
-      let one = filling.loop_at h h itself found.0 numbered.0 placed.0 numbered.1 placed.1 in
+      let one = loop_at h h itself found.0 numbered.0 placed.0 numbered.1 placed.1 in
       record {
         results = placed.0;
         there = ap (slice_get (loop_results h)) number ∙ placed.1;

@@ -1,11 +1,10 @@
 -- The hands of views, seats and shares as they are made and as they are handed back.
-use Rattle.std.proofs.Common.{◌≡◌, ◌≢◌, ℕ, zero, suc, ◌+◌, List, [], ◌∷◌, ◌++◌, length, set, map, get_or, replicate, sym, ap, ◌∙◌, subst, arith, append_assoc, append-nil, length-append, IsPermutation, ◌-◌, ◌%◌, ◌^◌, ◌<◌, refl, Some, slice_index, slice_set}
-use Rattle.lemmas.proofs.{All-cons, All-head, All-nil, All-permutation, All-tail, concat, concat_is, flat_map-append, IsPermutation-append_comm, IsPermutation-append_left, IsPermutation-append_right, IsPermutation-cons, IsPermutation-map, IsPermutation-refl, IsPermutation-sym, IsPermutation-to_front, IsPermutation-trans, IsStrictlyIncreasing, length-flat_map, length_permutation, map-append, map-range_with_len_more, nil_from_length, range_with_len, set_comm, sum_by-cons, sum_by-IsPermutation, All, All-pop, get_or-map, length-map, length-replicate}
+use Rattle.lemmas.proofs.{◌≡◌, ◌≢◌, ℕ, zero, suc, ◌+◌, List, [], ◌∷◌, ◌++◌, length, set, map, get_or, replicate, sym, ap, ◌∙◌, subst, arith, append_assoc, append-nil, length-append, IsPermutation, ◌-◌, ◌%◌, ◌^◌, ◌<◌, refl, Some, slice_index, slice_set, All-cons, All-nil, All-permutation, All-tail, concat, concat_is, flat_map-append, IsPermutation-append_comm, IsPermutation-append_left, IsPermutation-append_right, IsPermutation-cons, IsPermutation-map, IsPermutation-refl, IsPermutation-sym, IsPermutation-to_front, IsPermutation-trans, IsStrictlyIncreasing, length-flat_map, length_permutation, map-append, map-range_with_len_more, nil_from_length, range_with_len, set_comm, sum_by-cons, sum_by-IsPermutation, All, All-pop, get_or-map, length-map, length-replicate}
 use mathlib.Core.Option.{some, some-injective, some-ne-none}
 use lib.ListN.{get_elem?}
 use Rattle.atomic_table.proofs.Lists.{set_else}
 use Rattle.rdf_values.specs.{below, DrawnBy, times}
-use Rattle.rdf_values.proofs.UnionLemmas.{length-below, counts_by_drawn, drawn_by_counts, inside_once, once_next, rises_push, times_push, none_rises}
+use Rattle.rdf_values.proofs.UnionLemmas.{first_rises, length-below, counts_by_drawn, drawn_by_counts, inside_once, once_next, rises_push, times_push, none_rises}
 use Rattle.slot_words.specs.{hands_in, many_in, first_alone, others}
 use Rattle.slot_words.proofs.Joining.{stands_there}
 use Rattle.atomic_table.specs.Seated.{TableId}
@@ -65,12 +64,9 @@ module _ {H : Type 0} where
 -- ---- numbers that lists share out
 
 module _ (d : List ℕ) (rest : List (List ℕ)) (m : ℕ) (drawn : DrawnBy (d ∷ rest) m) where
-  pub first_rises : IsStrictlyIncreasing d
-  first_rises = All-head IsStrictlyIncreasing d rest drawn.rising
-
   pub next_rises : (n : ℕ) → m ≡ n → IsStrictlyIncreasing (d ++ n ∷ [])
   next_rises n is = subst (λ k. IsStrictlyIncreasing (d ++ k ∷ [])) is
-      (rises_push d m first_rises (λ k e lt. inside_once (get_or d k e) m (omega (arith, stands_there d k e lt, sum_by-cons (times (get_or d k e)) d rest, (counts_by_drawn (d ∷ rest) m drawn).1 (get_or d k e)))))
+      (rises_push d m (first_rises d rest drawn.rising) (λ k e lt. inside_once (get_or d k e) m (omega (arith, stands_there d k e lt, sum_by-cons (times (get_or d k e)) d rest, (counts_by_drawn (d ∷ rest) m drawn).1 (get_or d k e)))))
 
   -- one of them has the next number too
   pub next_drawn : (n k : ℕ) → m ≡ n → n + 1 ≡ k → DrawnBy ((d ++ n ∷ []) ∷ rest) k

@@ -1,20 +1,16 @@
 -- Runs and further numbers, put together.
-use Rattle.std.proofs.Common.{◌≡◌, ℕ, zero, suc, ◌<◌, List, [], ◌∷◌, length, get_or, refl, ap, arith, slice_get, ◌+◌, ◌≤◌, ◌++◌, Some, sym, ◌∙◌, subst, ⊎_elim, length-append, ◌-◌, map, take, append_assoc, append-nil, reverse, nat_eq, option_map}
+use Rattle.lemmas.proofs.{◌≡◌, ℕ, zero, suc, ◌<◌, List, [], ◌∷◌, length, get_or, refl, ap, arith, slice_get, ◌+◌, ◌≤◌, ◌++◌, Some, sym, ◌∙◌, subst, ⊎_elim, length-append, ◌-◌, map, take, append_assoc, append-nil, reverse, nat_eq, option_map, cases_lt, common_steps, cond_both, eq_itself, eqb-true, get_or-append_right, get_or-range_with_len, IsStrictlyIncreasing, length-map, length-range_with_len, range_with_len, slice_get-get_or, slice_get-map, take-suc, take_all}
 use Rattle.rdf_values.specs.{times, IsUnion, Span}
-use Rattle.rdf_values.proofs.UnionLemmas.{times_cons, times_self, times_append, rises_from, once_rising, same_rising, counted, two, first_rises, rest_rise}
-use Rattle.lemmas.proofs.{cases_lt, common_steps, cond_both, eq_itself, eqb-true, get_or-append_right, get_or-range_with_len, IsStrictlyIncreasing, length-map, length-range_with_len, range_with_len, slice_get-get_or, slice_get-map, take-suc, take_all}
+use Rattle.rdf_values.proofs.UnionLemmas.{one_if, times_self, times_append, rises_from, once_rising, same_rising, counted, two, first_rises, rest_rise}
+use Rattle.std.proofs.lemmas.List.Sums.{get_or-le-sum_by}
 use Rattle.loop_pieces.specs.{span_of}
 use Rattle.slot_words.specs.{run_in_front}
 use Rattle.rdf_model.specs.{in_front, maximal_runs, Run}
 
 pub stands_there : (xs : List ℕ) (k d : ℕ) → k < length xs → 0 < times (get_or xs k d) xs
-stands_there [] k d lt = absurd (omega arith)
-stands_there (x ∷ xs) zero d lt = omega (arith, times_self x xs)
-stands_there (x ∷ xs) (suc k) d lt = omega (arith, times_cons (get_or xs k d) x xs, stands_there xs k d (omega arith))
+stands_there xs k d lt = let x = get_or xs k d in grind (arith, common_steps, get_or-le-sum_by (one_if x) xs k d lt)
 
--- ---- Runs and further numbers, put together from the greatest on.
-
--- ---- the numbers of runs
+-- ---- Runs and further numbers, put together from the greatest on: the numbers of runs
 
 -- the runs have these numbers, one run after the other
 abbrev pub Have : List Run → List ℕ → Type 0
@@ -49,9 +45,7 @@ runs_put a (suc m) k done is = grind (arith, eq_itself, runs_put (a + 1) m k don
 
 -- each number between the ends is in the run
 in_run : (a m x : ℕ) → a ≤ x → x ≤ a + m → 0 < times x (range_with_len a (suc m))
-in_run a m x le lt =
-    let lists = range_with_len a (suc m) in
-    subst (λ n. 0 < times n lists) (get_or-range_with_len a (suc m) (x - a) 0 (omega arith) ∙ omega arith) (stands_there lists (x - a) 0 (omega (arith, length-range_with_len a (suc m))))
+in_run a m x le lt = grind (arith, stands_there (range_with_len a (suc m)) (x - a) 0, length-range_with_len a (suc m), get_or-range_with_len a (suc m) (x - a) 0)
 
 -- ---- rising lists
 
@@ -67,10 +61,7 @@ glued xs a es up down low k lt = grind (arith, common_steps, up k, down (k - len
 
 -- the last of a list that ends with a run
 last_in_run : (ys : List ℕ) (a m : ℕ) → let xs = ys ++ range_with_len a (suc m) in get_or xs (length xs - 1) 0 ≡ a + m
-last_in_run ys a m =
-    let run = range_with_len a (suc m) in
-    let at : length (ys ++ run) - 1 ≡ length ys + m = omega (arith, length-append ys run, length-range_with_len a (suc m)) in
-    ap (λ k. get_or (ys ++ run) k 0) at ∙ get_or-append_right ys run (length ys + m) 0 (omega arith) ∙ ap (λ k. get_or run k 0) (omega arith) ∙ get_or-range_with_len a (suc m) m 0 (omega arith)
+last_in_run ys a m = grind (arith, length-append ys (range_with_len a (suc m)), length-range_with_len a (suc m), get_or-append_right ys (range_with_len a (suc m)) (length ys + m) 0, get_or-range_with_len a (suc m) m 0)
 
 -- ---- one after another, from the greatest on
 
@@ -131,20 +122,19 @@ module _ (xs all numbers : List ℕ) (runs : List Span) (i k : ℕ) (joined now 
           let l = last_run there in
           let least = low (span_of run) there (run_at there) in
           let end = ap (λ ys. get_or ys (length ys - 1) 0) l.3 ∙ last_in_run l.1 run.first l.0 in
-          ⊎_elim
-          (λ (lt : run.first + l.0 < number). omega (arith, end))
-          (λ (le : number ≤ run.first + l.0). absurd (omega (
+          grind (
             arith,
+            cases_lt (run.first + l.0) number,
+            end,
             h.counts number,
             once_rising number all (rises_from all rise),
             ap (times number) l.3,
             times_append number l.1 (range_with_len run.first (suc l.0)),
-            in_run run.first l.0 number least le,
+            in_run run.first l.0 number least,
             ap (times number) (take_last numbers k 0 some within'),
             times_append number (take (k - 1) numbers) (number ∷ []),
             times_self number [],
-          )))
-          (cases_lt (run.first + l.0) number))
+          ))
           (λ (none : i ≤ 0). let e : i ≡ 0 = omega arith in let gone : h.olds ≡ [] = subst (λ j. Have (take j (maximal_runs xs)) h.olds) e h.have in absurd (omega (arith, ap length gone)))
           (cases_lt 0 i)
 
@@ -167,7 +157,7 @@ module _ (xs all numbers : List ℕ) (runs : List Span) (i k : ℕ) (joined now 
 pub none_yet : (xs all numbers : List ℕ) (runs joined : List Span) → runs ≡ map span_of (maximal_runs xs) → IsUnion (xs ∷ numbers ∷ []) all → joined ≡ [] → IsJoining all (take (length runs) (maximal_runs xs)) (take (length numbers) numbers) joined
 none_yet xs all numbers runs joined are u none =
     let long = ap length are ∙ length-map (maximal_runs xs) span_of in
-    rw (take_all (maximal_runs xs) (length runs) (omega arith), take_all numbers (length numbers) (omega arith)) record {
+    rw (take_all (length runs) (maximal_runs xs) (omega arith), take_all (length numbers) numbers (omega arith)) record {
       olds = xs;
       done = [];
       have = have_all xs;
@@ -181,5 +171,4 @@ pub none_left : (xs all numbers : List ℕ) (i k : ℕ) (joined : List Span) →
 none_left xs all numbers zero zero joined u h no_run no_number =
     let up : IsStrictlyIncreasing h.done = back_part h.olds h.done h.olds_rise in
     h.runs_are ∙ ap (λ l. map span_of (maximal_runs l)) (same_rising h.done all (rises_from h.done up) (rises_from all u.rising) (λ x. omega (arith, h.counts x, ap (times x) h.have)))
-none_left xs all numbers zero (suc k) joined u h no_run no_number = absurd (omega arith)
-none_left xs all numbers (suc i) k joined u h no_run no_number = absurd (omega arith)
+none_left xs all numbers i k joined u h no_run no_number = absurd (omega arith)

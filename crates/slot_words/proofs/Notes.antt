@@ -1,6 +1,5 @@
 -- A noting keeps the rule of the book's word.
-use Rattle.std.proofs.Common.{◌≡◌, ℕ, map, ◌+◌, ◌*◌, ◌%◌, ◌^◌, ◌<◌, ◌≤◌, List, [], ◌∷◌, ◌++◌, length, refl, sym, ap, ◌∙◌, subst, arith, length-append, append-nil, mul-le-mul_right, IsPermutation}
-use Rattle.lemmas.proofs.{All-cons, All-permutation, All-replicate, All-tail, length-replicate, length_permutation, sum_by-le}
+use Rattle.lemmas.proofs.{◌≡◌, ℕ, map, ◌+◌, ◌*◌, ◌%◌, ◌^◌, ◌<◌, ◌≤◌, List, [], ◌∷◌, ◌++◌, length, refl, sym, ap, ◌∙◌, subst, arith, length-append, append-nil, mul-le-mul_right, IsPermutation, All-cons, All-permutation, All-replicate, All-tail, length-replicate, length_permutation, sum_by-le}
 use mathlib.Core.Option.{none}
 use Rattle.atomic_table.specs.Table.{Me, step, Final, Seen, Allows}
 use Rattle.rdf_values.specs.{DrawnBy}

@@ -1,26 +1,17 @@
 -- The clusters that were noted first, by their numbers, and the chain of their sets.
-use Rattle.std.proofs.Common.{◌≡◌, ℕ, ◌≤◌, List, [], ◌∷◌, map, eqb, false, refl, sym, ap, ◌∙◌, subst, arith, IsPermutation, zero, suc, ◌+◌, ◌++◌, length, min, Bool, not, cond, ap₂, flat_map, ◌<◌, get_or, nat_lt, Contains, ◌-◌, ◌*◌, ◌/◌, Some, mul-le-mul_right, slice_get, option_map}
-use Rattle.std.specs.List.{AllByRecursion, IsDistinct, concat, All as Every}
-use Rattle.lemmas.proofs.{All-head, All-map, All-tail, common_steps, IsNonDecreasing, IsStrictlyIncreasing, IsStrictlyIncreasing-from_distinct, All, All-append, All-filter, All-nil, count_by, filter, filter-append, firsts-zip, length-filter, length-map, map-append, seconds-zip, sum_by, sum_by-cons, sum_by-filter_both, sum_by-IsPermutation, sum_by_push, zip, concat_is, flat_map-map, IsStrictlyIncreasing-filter, length_permutation, nil_from_length, slice_get-get_or, same_some, slice_get-map, slice_get_within}
+use Rattle.lemmas.proofs.{◌≡◌, ℕ, ◌≤◌, List, [], ◌∷◌, map, refl, sym, ap, ◌∙◌, subst, arith, IsPermutation, zero, suc, ◌+◌, ◌++◌, length, min, Bool, not, cond, ap₂, flat_map, ◌<◌, get_or, nat_lt, Contains, ◌-◌, ◌*◌, ◌/◌, Some, mul-le-mul_right, slice_get, option_map, All-head, All-map, All-tail, common_steps, IsNonDecreasing, IsStrictlyIncreasing, All, All-append, All-filter, All-nil, count_by, filter, filter-append, firsts-zip, length-filter, length-map, map-append, map-map, seconds-zip, sum_by, sum_by-cons, sum_by-filter_both, sum_by-IsPermutation, sum_by_push, zip, concat_is, flat_map-map, IsStrictlyIncreasing-filter, length_permutation, nil_from_length, slice_get-get_or, same_some, slice_get-map, slice_get_within}
+use Rattle.std.specs.List.{concat, All as Every}
 use Rattle.std.proofs.lemmas.List.Concat.{flat_map_single}
+use Rattle.std.proofs.lemmas.List.Sums.{sum_by_more, sum_by_more_le}
 use Rattle.merge_core.specs.{Noted, Stand}
 use Rattle.rdf_values.specs.{IsUnion, times, below, once_below}
-use Rattle.rdf_values.proofs.UnionLemmas.{times_cons, times_self, times_permuted, one_if, sum_by-map, times_below, times_contains, permuted_by_counts, inside_once, below_rises, all_below, times_filter, rises_from, same_rising, by_counts, both_rise, two, length-below, slice_get-below}
+use Rattle.rdf_values.proofs.UnionLemmas.{times_permuted, one_if, sum_by-map, times_below, times_contains, permuted_by_counts, inside_once, below_rises, all_below, times_filter, rises_from, same_rising, by_counts, both_rise, two, length-below, slice_get-below}
 use Rattle.slot_words.specs.{AreAlone, AreLinesSoFar, AreOf, cluster_in, piece_in, added, AsManyAsTheBound, chosen, HaveNumbers, HigherBoundKeeps, is_between, kept, numbered, AreNoted, AreTrails, noted_before, set_before, WatchedPlace, chain_of}
 use Rattle.rdf_model.specs.declared.loop_facts.LoopFacts.{LoopFacts}
 use Rattle.loop_pieces.specs.{watch_facts, WatchPiece, WatchStandsFor, ArePartialLines, IsPartialLine, PartialLine}
 use Rattle.slot_words.proofs.Hands.{all_seen}
 use Rattle.slot_words.proofs.Joining.{stands_there}
 use Rattle.rdf_model.specs.{IsChain}
-
-absent : (x : ℕ) (xs : List ℕ) → times x xs ≡ 0 → AllByRecursion (λ y. eqb x y ≡ false) xs
-absent x [] none = tt
-absent x (y ∷ ys) none = (grind (arith, common_steps, times_cons x y ys), absent x ys (omega (arith, times_cons x y ys)))
-
-distinct : (xs : List ℕ) → ((x : ℕ) → times x xs ≤ 1) → IsDistinct eqb xs
-unfolding IsDistinct
-distinct [] once = tt
-distinct (y ∷ ys) once = (absent y ys (omega (arith, once y, times_self y ys)), distinct ys (λ x. omega (arith, once x, times_cons x y ys)))
 
 module _ {P : Type 0} where
   abbrev pub single : Noted P → List ℕ
@@ -38,7 +29,10 @@ module _ {P : Type 0} where
     pub unite : (sorted : List ℕ) → IsNonDecreasing sorted → IsPermutation clusters sorted → ((x : ℕ) → times x (map cluster_in ns) ≤ 1) → IsUnion (map single ns) sorted
     unite sorted up p once = record {
       sets_rise = All-map IsStrictlyIncreasing single ns (λ k d lt j within. absurd (omega arith));
-      rising = IsStrictlyIncreasing-from_distinct sorted up (distinct sorted (λ x. omega (arith, once x, times_permuted x clusters sorted p, ap (times x) of.clusters_are)));
+      rising = λ k lt.
+          (let x = get_or sorted k 0 in
+          let few : times x sorted ≤ 1 = omega (arith, once x, times_permuted x clusters sorted p, ap (times x) of.clusters_are) in
+          grind (arith, common_steps, up k (k + 1) 0, sum_by_more (one_if x) sorted k 0, sum_by_more_le (one_if x) sorted (k + 1) 0 lt));
       each_once = rw (concat_is (map single ns), flat_map-map (λ x. x) single ns, flat_map_single cluster_in ns, ← of.clusters_are) p;
     }
 
@@ -52,9 +46,6 @@ less_below : (b m : ℕ) → less_in b (below m) ≡ min b m
 less_below b zero = omega arith
 less_below b (suc m) = grind (arith, common_steps, sum_by_push (λ n. cond (is_between 0 b n) 1 0) (below m) m, less_below b m)
 
-pub same_lengths : {A : Type 0} (o : List ℕ) (t : List A) (os : List (List ℕ)) (ts : List (List A)) → HaveNumbers (o ∷ os) (t ∷ ts) → (length o ≡ length t) × HaveNumbers os ts
-same_lengths o t os ts e = (cc, cc)
-
 module _ {A : Type 0} where
   pub kept_both : (low high : ℕ) (xs ys : List (ℕ × A)) → kept low high (xs ++ ys) ≡ kept low high xs ++ kept low high ys
   kept_both low high xs ys = ap (map (λ (e : ℕ × A). e.1)) (filter-append _ xs ys) ∙ map-append _ (filter _ xs) (filter _ ys)
@@ -62,12 +53,10 @@ module _ {A : Type 0} where
   -- the numbers and the entries, one trail after another
   parts_are : (os : List (List ℕ)) (ts : List (List A)) → HaveNumbers os ts → (map (λ (e : ℕ × A). e.0) (numbered os ts) ≡ concat os) × (map (λ (e : ℕ × A). e.1) (numbered os ts) ≡ flat_map (λ t. t) ts)
   parts_are [] [] have = (refl, refl)
-  parts_are [] (t ∷ ts) have = absurd (cc)
-  parts_are (o ∷ os) [] have = absurd (cc)
   parts_are (o ∷ os) (t ∷ ts) have =
-      let s = same_lengths o t os ts have in
-      let rest = parts_are os ts s.1 in
-      (map-append _ (zip o t) (numbered os ts) ∙ ap₂ (λ x y. x ++ y) (firsts-zip o t (sym s.0)) rest.0, map-append _ (zip o t) (numbered os ts) ∙ ap₂ (λ x y. x ++ y) (seconds-zip o t (sym s.0)) rest.1)
+      let same : length o ≡ length t = cc in
+      grind (arith, map-append, firsts-zip o t (sym same), seconds-zip o t (sym same), parts_are os ts)
+  parts_are os ts have = absurd (cc)
 
   -- what is kept is among the entries
   pub kept_among : (f : A → ℕ) (os : List (List ℕ)) (ts : List (List A)) (low high : ℕ) → HaveNumbers os ts → sum_by f (added os low high ts) ≤ sum_by f (flat_map (λ t. t) ts)
@@ -124,27 +113,20 @@ higher_bound_keeps P orders trails low high c le =
 
 module _ {A B : Type 0} (f : A → B) (low high : ℕ) where
   kept_mapped : (ns : List ℕ) (ts : List A) → map f (kept low high (zip ns ts)) ≡ kept low high (zip ns (map f ts))
-  kept_mapped [] ts = refl
-  kept_mapped (n ∷ ns) [] = refl
   kept_mapped (n ∷ ns) (t ∷ ts) = grind (arith, kept_mapped ns ts)
+  kept_mapped ns ts = refl
 
   pub added_mapped : (os : List (List ℕ)) (ts : List (List A)) → map f (added os low high ts) ≡ added os low high (map (map f) ts)
-  added_mapped [] ts = refl
-  added_mapped (o ∷ os) [] = refl
   added_mapped (o ∷ os) (t ∷ ts) = grind (arith, kept_both, map-append, kept_mapped, added_mapped os ts)
+  added_mapped os ts = refl
 
-pub lengths_mapped : {A B : Type 0} (f : A → B) (ts : List (List A)) → map length (map (map f) ts) ≡ map length ts
-lengths_mapped f [] = refl
-lengths_mapped f (t ∷ ts) = ap₂ (λ n ns. n ∷ ns) (length-map t f) (lengths_mapped f ts)
-
--- ---- The clusters that were noted first.
-
+-- The clusters that were noted first
 once_at_most : (x m : ℕ) → once_below x m ≤ 1
 once_at_most x m = grind (arith, common_steps)
 
 -- ---- the sets
 
-module _ (os ds : List (List ℕ)) (clusters : ℕ) (noted : AreNoted os ds clusters) where
+module _ {os ds : List (List ℕ)} {clusters : ℕ} (noted : AreNoted os ds clusters) where
   within : (x b : ℕ) → times x (noted_before os ds b) ≤ once_below x clusters
   within x b = omega (arith, kept_among (one_if x) os ds 0 b noted.many, ap (times x) (concat_is ds), times_permuted x (concat ds) (below clusters) noted.unite.each_once, times_below x clusters)
 
@@ -182,12 +164,31 @@ module _ (os ds : List (List ℕ)) (clusters : ℕ) (noted : AreNoted os ds clus
 module _ (facts : LoopFacts) (place : ℕ) where
   trails_told : (ds : List (List ℕ)) (ts : List (List (Noted WatchPiece))) → AreTrails facts place ds ts → map (map cluster_in) ts ≡ ds
   trails_told [] [] h = refl
-  trails_told [] (t ∷ ts) h = (let m = h.many in absurd (omega arith))
-  trails_told (d ∷ ds) [] h = (let m = h.many in absurd (omega arith))
   trails_told (d ∷ ds) (t ∷ ts) h =
       ap₂ (λ x y. x ∷ y) (h.each 0 d t refl refl).clusters (trails_told ds ts record { many = (let m = h.many in omega arith); each = λ k e s a b. h.each (suc k) e s a b })
+  trails_told ds ts h = (let m = h.many in absurd (omega arith))
 
-module _ (os : List (List ℕ)) (clusters : ℕ) (ts : List (List (Noted WatchPiece))) (w : WatchedPlace os clusters ts) where
+-- ---- lines
+
+module _ (facts : LoopFacts) (place : ℕ) where
+  lines_push : (sets : List (List ℕ)) (ls : List PartialLine) (set : List ℕ) (l : PartialLine) → ArePartialLines facts place sets ls → IsPartialLine facts place set l → ArePartialLines facts place (sets ++ set ∷ []) (ls ++ l ∷ [])
+  lines_push [] [] set l h k = (k, tt)
+  lines_push (s ∷ ss) (m ∷ ms) set l h k = (h.0, lines_push ss ms set l h.1 k)
+  lines_push ss ms set l h k = elim h [ ]
+
+  pub lines_next : (f : ℕ → List ℕ) (j : ℕ) (ls now : List PartialLine) (l : PartialLine)
+      → ArePartialLines facts place (map f (below j)) ls → IsPartialLine facts place (f j) l → now ≡ ls ++ l ∷ [] → ArePartialLines facts place (map f (below (j + 1))) now
+  lines_next f j ls now l h one is = grind (arith, map-append, lines_push)
+
+  line_in : (sets : List (List ℕ)) (ls : List PartialLine) (j : ℕ) (set : List ℕ) (l : PartialLine) → ArePartialLines facts place sets ls → slice_get sets j ≡ Some set → slice_get ls j ≡ Some l → IsPartialLine facts place set l
+  line_in [] ls j set l h at there = absurd (cc)
+  line_in (s ∷ ss) [] j set l h at there = elim h [ ]
+  line_in (s ∷ ss) (m ∷ ms) zero set l h at there = grind arith
+  line_in (s ∷ ss) (m ∷ ms) (suc j) set l h at there = line_in ss ms j set l h.1 at there
+
+-- ---- the next line of a watched place
+
+module _ {os : List (List ℕ)} {clusters : ℕ} {ts : List (List (Noted WatchPiece))} (w : WatchedPlace os clusters ts) where
   abbrev pub set_at : ℕ → List ℕ
   set_at b = set_before os w.dones clusters b
 
@@ -198,54 +199,79 @@ module _ (os : List (List ℕ)) (clusters : ℕ) (ts : List (List (Noted WatchPi
   told = trails_told w.facts w.place w.dones ts w.are
 
   pub have_numbers : HaveNumbers os ts
-  have_numbers = w.noted.many ∙ ap (map length) (sym told) ∙ lengths_mapped cluster_in ts
+  have_numbers = w.noted.many ∙ ap (map length) (sym told) ∙ map-map length (map cluster_in) ts ∙ (λ i. map (λ (t : List (Noted WatchPiece)). length-map t cluster_in i) ts)
 
   -- each entry between two bounds stands for its cluster alone
   pub alone_added : (low high : ℕ) → AreAlone StandsAt (added os low high ts)
   alone_added low high = all_added (λ (n : Noted WatchPiece). StandsAt (n.cluster ∷ []) n.piece) os ts low high have_numbers
       (λ k d lt. (let many = w.are.many in (w.are.each k (get_or w.dones k []) (get_or ts k d) (slice_get-get_or w.dones k [] (omega arith)) (slice_get-get_or ts k d lt)).alone))
 
-  module _ (low high : ℕ) (le : low ≤ high) (bound : high ≤ clusters) where
+  module _ (step : ℕ) (ls : List PartialLine) (some : 0 < step) (so_far : AreLinesSoFar os clusters w.facts w.place w.dones step ls) where
+    abbrev low : ℕ
+    low = length ls * step
+
+    bound : low + step ≤ clusters
+    bound = omega (arith, so_far.within)
+
+    -- the clusters that the last line has, and those that the next one has
+    abbrev pub olds : List ℕ
+    olds = set_at low
+
+    abbrev pub grown : List ℕ
+    grown = set_at ((length ls + 1) * step)
+
     abbrev pub news : List ℕ
-    news = map cluster_in (added os low high ts)
+    news = map cluster_in (added os low (low + step) ts)
 
-    news_are : news ≡ added os low high w.dones
-    news_are = added_mapped cluster_in low high os ts ∙ ap (added os low high) told
+    news_are : news ≡ added os low (low + step) w.dones
+    news_are = added_mapped cluster_in low (low + step) os ts ∙ ap (added os low (low + step)) told
 
-    grows : (x : ℕ) → times x (set_at high) ≡ times x (set_at low) + times x news
-    grows x = omega (arith, set_adds os w.dones clusters w.noted x low high le, ap (times x) news_are)
+    grows : (x : ℕ) → times x grown ≡ times x olds + times x news
+    grows x = let next : (length ls + 1) * step ≡ low + step = omega arith in ap (λ b. times x (set_at b)) next ∙ omega (arith, set_adds w.noted x low (low + step) (omega arith), ap (times x) news_are)
+
+    -- each of the next line is a cluster, and stands there once
+    once_in : (x : ℕ) → times x grown ≤ once_below x clusters
+    once_in x = omega (arith, set_times w.noted ((length ls + 1) * step) x, within w.noted x ((length ls + 1) * step))
 
     pub added_once : (x : ℕ) → times x news ≤ 1
-    added_once x = omega (arith, grows x, set_times os w.dones clusters w.noted high x, within os w.dones clusters w.noted x high, once_at_most x clusters)
+    added_once x = omega (arith, grows x, once_in x, once_at_most x clusters)
 
-    pub added_some : low < high → 0 < length (added os low high ts)
-    added_some lt = omega (
+    pub added_some : 0 < length (added os low (low + step) ts)
+    added_some = omega (
       arith,
-      length-map (added os low high ts) cluster_in,
+      length-map (added os low (low + step) ts) cluster_in,
       ap length news_are,
-      length_added low high le os w.dones,
-      chosen_many os w.dones clusters w.noted low (omega arith),
-      chosen_many os w.dones clusters w.noted high bound,
+      length_added low (low + step) (omega arith) os w.dones,
+      chosen_many w.noted low (omega (arith, bound)),
+      chosen_many w.noted (low + step) bound,
     )
 
     module _ (cs : List ℕ) (named : IsStrictlyIncreasing cs × IsPermutation news cs) where
-      -- from the first number on they are the set
-      pub first_set : low ≡ 0 → cs ≡ set_at high
+      -- the first line has these alone
+      pub first_set : length ls ≡ 0 → cs ≡ grown
       first_set first =
-          let none : set_at low ≡ [] = nil_from_length (set_at low) (set_many os w.dones clusters w.noted low (omega arith) ∙ first) in
-          same_rising cs (set_at high) (rises_from cs named.0) (rises_from (set_at high) (set_rises os w.dones clusters w.noted high)) (λ x. omega (arith, grows x, times_permuted x news cs named.1, ap (times x) none))
+          let none : olds ≡ [] = nil_from_length olds (set_many w.noted low (omega (arith, bound)) ∙ ap (λ n. n * step) first ∙ omega arith) in
+          same_rising cs grown (rises_from cs named.0) (rises_from grown (set_rises w.noted ((length ls + 1) * step))) (λ x. omega (arith, grows x, times_permuted x news cs named.1, ap (times x) none))
 
-      -- the next set has the members of the one before, and those that were added
-      pub set_grown : IsUnion (set_at low ∷ cs ∷ []) (set_at high)
+      -- the next one has those of the one before, and those that were added
+      pub set_grown : IsUnion (olds ∷ cs ∷ []) grown
       set_grown =
-          by_counts (set_at low ∷ cs ∷ []) (set_at high) (both_rise (set_at low) cs (set_rises os w.dones clusters w.noted low) named.0) (set_rises os w.dones clusters w.noted high)
-          (λ x. omega (arith, grows x, times_permuted x news cs named.1, two x (set_at low) cs))
+          by_counts (olds ∷ cs ∷ []) grown (both_rise olds cs (set_rises w.noted low) named.0) (set_rises w.noted ((length ls + 1) * step)) (λ x. omega (arith, grows x, times_permuted x news cs named.1, two x olds cs))
 
-      pub few_added : clusters ≤ 1000000 → Every (λ x. x < 4294967295) cs
-      few_added few = λ k d lt.
+      pub few_added : Every (λ x. x < 4294967295) cs
+      few_added = λ k d lt.
           let x = get_or cs k d in
-          let inside = inside_once x clusters (omega (arith, stands_there cs k d lt, times_permuted x news cs named.1, grows x, set_times os w.dones clusters w.noted high x, within os w.dones clusters w.noted x high)) in
-          omega arith
+          let inside = inside_once x clusters (omega (arith, stands_there cs k d lt, times_permuted x news cs named.1, grows x, once_in x)) in
+          omega (arith, so_far.few)
+
+    -- the last of the lines so far
+    pub line_before : (l : PartialLine) → (length ls ≡ 0 → ⊥) → l ≡ get_or ls (length ls - 1) l → IsPartialLine w.facts w.place olds l
+    line_before l any is =
+        let n = length ls in
+        let f = λ (j : ℕ). set_at ((j + 1) * step) in
+        let same : n - 1 + 1 ≡ n = omega arith in
+        subst (λ (k : ℕ). IsPartialLine w.facts w.place (set_at (k * step)) l) same (line_in w.facts w.place (map f (below n)) ls (n - 1) (f (n - 1)) l so_far.are
+        (slice_get-map f (below n) (n - 1) ∙ ap (option_map f) (slice_get-below n (n - 1) (omega arith))) (slice_get-get_or ls (n - 1) l (omega arith) ∙ ap Some (sym is)))
 
 -- ---- The sets after every so many clusters are a chain.
 
@@ -264,41 +290,12 @@ module _ (os ds : List (List ℕ)) (clusters step : ℕ) (noted : AreNoted os ds
   pub is_chain : IsChain clusters step (chain_of os ds clusters step)
   is_chain = record {
     count = length-map (below (clusters / step)) set_after ∙ length-below (clusters / step);
-    sizes = λ j set at. (let b = at_below set_after (clusters / step) j set at in ap length (sym b.1) ∙ set_many os ds clusters noted ((j + 1) * step) (multiple_below clusters step j b.0));
-    rising = λ j set at. (let b = at_below set_after (clusters / step) j set at in subst IsStrictlyIncreasing b.1 (set_rises os ds clusters noted ((j + 1) * step)));
-    clusters = λ j set at. (let b = at_below set_after (clusters / step) j set at in subst (All (λ x. x < clusters)) b.1 (set_within os ds clusters noted ((j + 1) * step)));
+    sizes = λ j set at. (let b = at_below set_after (clusters / step) j set at in ap length (sym b.1) ∙ set_many noted ((j + 1) * step) (multiple_below clusters step j b.0));
+    rising = λ j set at. (let b = at_below set_after (clusters / step) j set at in subst IsStrictlyIncreasing b.1 (set_rises noted ((j + 1) * step)));
+    clusters = λ j set at. (let b = at_below set_after (clusters / step) j set at in subst (All (λ x. x < clusters)) b.1 (set_within noted ((j + 1) * step)));
     nested = λ j set next at after.
         (let b = at_below set_after (clusters / step) j set at in
         let a = at_below set_after (clusters / step) (j + 1) next after in
         let more : (j + 1) * step ≤ (j + 1 + 1) * step = mul-le-mul_right step (omega arith) in
-        subst (λ (l : List ℕ). All (Contains l) set) a.1 (subst (All (Contains (set_after (j + 1)))) b.1 (set_grows os ds clusters noted ((j + 1) * step) ((j + 1 + 1) * step) more)));
+        subst (λ (l : List ℕ). All (Contains l) set) a.1 (subst (All (Contains (set_after (j + 1)))) b.1 (set_grows noted ((j + 1) * step) ((j + 1 + 1) * step) more)));
   }
-
--- ---- lines
-
-module _ (facts : LoopFacts) (place : ℕ) where
-  lines_push : (sets : List (List ℕ)) (ls : List PartialLine) (set : List ℕ) (l : PartialLine) → ArePartialLines facts place sets ls → IsPartialLine facts place set l → ArePartialLines facts place (sets ++ set ∷ []) (ls ++ l ∷ [])
-  lines_push [] [] set l h k = (k, tt)
-  lines_push [] (m ∷ ms) set l h k = elim h [ ]
-  lines_push (s ∷ ss) [] set l h k = elim h [ ]
-  lines_push (s ∷ ss) (m ∷ ms) set l h k = (h.0, lines_push ss ms set l h.1 k)
-
-  pub lines_next : (f : ℕ → List ℕ) (j : ℕ) (ls now : List PartialLine) (l : PartialLine)
-      → ArePartialLines facts place (map f (below j)) ls → IsPartialLine facts place (f j) l → now ≡ ls ++ l ∷ [] → ArePartialLines facts place (map f (below (j + 1))) now
-  lines_next f j ls now l h one is = grind (arith, map-append, lines_push)
-
-  line_in : (sets : List (List ℕ)) (ls : List PartialLine) (j : ℕ) (set : List ℕ) (l : PartialLine) → ArePartialLines facts place sets ls → slice_get sets j ≡ Some set → slice_get ls j ≡ Some l → IsPartialLine facts place set l
-  line_in [] ls j set l h at there = absurd (cc)
-  line_in (s ∷ ss) [] j set l h at there = elim h [ ]
-  line_in (s ∷ ss) (m ∷ ms) zero set l h at there = grind arith
-  line_in (s ∷ ss) (m ∷ ms) (suc j) set l h at there = line_in ss ms j set l h.1 at there
-
--- the last of the lines so far
-pub line_before : (os : List (List ℕ)) (clusters : ℕ) (ts : List (List (Noted WatchPiece))) (w : WatchedPlace os clusters ts) (step : ℕ) (ls : List PartialLine) (l : PartialLine) → AreLinesSoFar os clusters w.facts w.place w.dones step ls
-    → (length ls ≡ 0 → ⊥) → l ≡ get_or ls (length ls - 1) l → IsPartialLine w.facts w.place (set_at os clusters ts w (length ls * step)) l
-line_before os clusters ts w step ls l so_far some is =
-    let n = length ls in
-    let f = λ (j : ℕ). set_before os w.dones clusters ((j + 1) * step) in
-    let same : n - 1 + 1 ≡ n = omega arith in
-    subst (λ (k : ℕ). IsPartialLine w.facts w.place (set_at os clusters ts w (k * step)) l) same (line_in w.facts w.place (map f (below n)) ls (n - 1) (f (n - 1)) l so_far.are
-    (slice_get-map f (below n) (n - 1) ∙ ap (option_map f) (slice_get-below n (n - 1) (omega arith))) (slice_get-get_or ls (n - 1) l (omega arith) ∙ ap Some (sym is)))

@@ -1,16 +1,86 @@
 -- Each step at the table keeps what the rules say of the claims, the bar and the book.
-use Rattle.std.proofs.Common.{◌≡◌, ℕ, zero, suc, ◌<◌, ◌≤◌, min, List, ◌∷◌, length, map, get_or, ltb, Option, None, Some, refl, ap, subst, ⊎_elim, arith, IsPermutation, ◌+◌, ◌%◌, ◌^◌, [], ◌++◌, sym, ◌∙◌, length-append, append-nil, add-one, slice_index}
-use Rattle.lemmas.proofs.{All, All-cons, All-head, All-permutation, All-tail, All-weaker, cases_lt, Contains, Contains-permutation, IfSome_then, IsPermutation-map, All-replicate, common_steps, cond-true, IsStrictlyIncreasing, length-replicate, lt-ltb, sum_by-le, All-map, length-map, length-range_with_len, range_with_len}
+use Rattle.lemmas.proofs.{◌≡◌, ℕ, ◌+◌, ◌^◌, ◌<◌, ◌≤◌, min, List, [], ◌∷◌, ◌++◌, map, ltb, Option, None, Some, ap, ◌∙◌, subst, arith, IsPermutation, zero, suc, length, get_or, refl, ◌%◌, sym, length-append, append-nil, slice_index, ◌-◌, drop, take, true, false, ap₂, append_assoc, nat_lt, slice_get, option_map, All, All-cons, All-head, All-permutation, All-tail, All-weaker, cond_both, IfSome_then, IsStrictlyIncreasing, length_permutation, ltb-false, ltb-true, sum_by-cons, sum_by-IsPermutation, sum_by-le, cases_lt, Contains, Contains-permutation, IsPermutation-map, All-replicate, common_steps, cond-true, length-replicate, lt-ltb, All-map, length-map, length-range_with_len, range_with_len, drop_more, get_or_from_slice_get, IsPartitionPoint, map-append, drop_all, same_some, slice_get-map, slice_get_within, zip, before_or_last, get_or_default, slice_get-get_or, something_at}
+use Rattle.rdf_values.specs.{DrawnBy}
+use Rattle.rdf_values.proofs.UnionLemmas.{first_rises}
 use Rattle.slot_words.specs.declared.seat.ClaimHand.{ClaimHand}
-use Rattle.slot_words.specs.{IsBarred, IsOver, look, lower, AreClaimed, Claimed, empty_hand, hand_of, IsClaimed, IsHand, kept_count, Looked, Lowered, ClaimsSeen, fresh_seat, fresh_seats, IsReady, SeatSeen}
+use Rattle.slot_words.specs.{IsClaimed, IsHand, kept_count, IsBarred, IsOver, look, lower, AreClaimed, Claimed, empty_hand, hand_of, Looked, Lowered, ClaimsSeen, fresh_seat, fresh_seats, IsReady, SeatSeen, added, added_in, AreOf, cluster_in, HaveNumbers, piece_in, AreTrails, HaveAllTrails, trails_at}
 use Rattle.slot_words.specs.Seats.{draw}
-use Rattle.slot_words.proofs.Draws.{drawn_hand, drawn_by, drawn_rises, same_claimed, drawn_keeps, word_fits, claimed_again}
+use Rattle.slot_words.proofs.Hands.{next_rises, next_drawn, shared_again, all_in_one, none_shared, Keeps, bump, steps}
 use mathlib.Core.Option.{some, none, some-injective}
 use lib.ListN.{get_elem?}
 use Rattle.atomic_table.specs.Table.{Me, step, Final, Seen, Allows}
-use Rattle.rdf_values.specs.{DrawnBy}
 use Rattle.slot_words.specs.Claiming.{opening_hands, Drew}
-use Rattle.slot_words.proofs.Hands.{all_in_one, none_shared, Keeps, bump, steps}
+use Rattle.std.proofs.lemmas.List.{map_more}
+use Rattle.merge_core.specs.{Noted}
+use Rattle.slot_words.proofs.Noting.{kept_both}
+use Rattle.rdf_model.specs.declared.loop_facts.LoopFacts.{LoopFacts}
+use Rattle.loop_pieces.specs.{ArePartialLines, LoopPiece, PartialLine, WatchPiece}
+
+-- ---- each step keeps what the rule says of the claim word
+
+abbrev pub drawn_by : ClaimHand → List ℕ
+drawn_by h = h.drawn
+
+abbrev kept_in : ClaimHand → ℕ
+kept_in h = kept_count h.kept
+
+later : (clusters w v : ℕ) (h : ClaimHand) → w ≤ v → IsHand clusters w h → IsHand clusters v h
+later clusters w v h le i = record { same = i.same; past = IfSome_then h.kept i.past (λ k p. (p.0, omega (arith, p.1))) }
+
+-- the hand after a draw is one of two
+pub drawn_hand : (P : ClaimHand → Type 0) (h : ClaimHand) (n : ℕ) → (n < h.clusters → P record h { drawn = h.drawn ++ n ∷ []; looked = None }) → (h.clusters ≤ n → P record h { kept = Some n; looked = None }) → P (draw h n)
+drawn_hand P h n hit miss = cond_both (ltb n h.clusters) _ _ P (λ t. hit (ltb-true n h.clusters t)) (λ f. miss (ltb-false n h.clusters f))
+
+module _ (clusters slots n : ℕ) (h : ClaimHand) (rest : List ClaimHand) (c : IsClaimed clusters slots n (h ∷ rest)) where
+  my_hand : IsHand clusters n h
+  my_hand = All-head (IsHand clusters n) h rest c.each
+
+  their_hands : All (IsHand clusters n) rest
+  their_hands = All-tail (IsHand clusters n) h rest c.each
+
+  pub drawn_rises : IsStrictlyIncreasing (draw h n).drawn
+  drawn_rises = let same = my_hand.same in drawn_hand (λ g. IsStrictlyIncreasing g.drawn) h n
+      (λ lt. next_rises h.drawn (map drawn_by rest) (min n clusters) c.shared n (omega arith))
+      (λ _. first_rises h.drawn (map drawn_by rest) c.shared.rising)
+
+  -- a hand that differs in what it knows of the bar
+  pub same_claimed : (looked passed lowered : Option ℕ) → IsClaimed clusters slots n (record h { looked = looked; passed = passed; lowered = lowered } ∷ rest)
+  same_claimed looked passed lowered = record { small = c.small; many = c.many; shared = c.shared; room = c.room; each = All-cons (IsHand clusters n) _ rest record { same = my_hand.same; past = my_hand.past } their_hands }
+
+  pub drawn_keeps : h.kept ≡ None → IsClaimed clusters slots (n + 1) (draw h n ∷ rest)
+  drawn_keeps free =
+      let same = my_hand.same in
+      let more = All-weaker (IsHand clusters n) (IsHand clusters (n + 1)) (λ u. later clusters n (n + 1) u (omega arith)) rest their_hands in
+      let room = c.room ∙ ap (λ k. min n clusters + k) (sum_by-cons kept_in h rest) in
+      let none : kept_in h ≡ 0 = ap kept_count free in
+      drawn_hand (λ g. IsClaimed clusters slots (n + 1) (g ∷ rest)) h n
+      (λ lt. record {
+        small = c.small;
+        many = c.many;
+        shared = next_drawn h.drawn (map drawn_by rest) (min n clusters) c.shared n _ (omega arith) (omega arith);
+        room = omega (arith, room, sum_by-cons kept_in (record h { drawn = h.drawn ++ n ∷ []; looked = None }) rest);
+        each = All-cons (IsHand clusters (n + 1)) _ rest record { same = same; past = (later clusters n (n + 1) h (omega arith) my_hand).past } more;
+      })
+      (λ le. record {
+        small = c.small;
+        many = c.many;
+        shared = subst (DrawnBy (map drawn_by (h ∷ rest))) (omega arith) c.shared;
+        room = omega (arith, room, sum_by-cons kept_in (record h { kept = Some n; looked = None }) rest);
+        each = All-cons (IsHand clusters (n + 1)) _ rest record { same = same; past = (omega arith, omega arith) } more;
+      })
+
+-- the word never wraps
+pub word_fits : (clusters slots n : ℕ) (hands : List ClaimHand) → IsClaimed clusters slots n hands → n + 1 < 2 ^ 64
+word_fits clusters slots n hands c = omega (arith, sum_by-le kept_in 1 hands (λ k d lt. grind arith), c.many, c.room, c.small)
+
+pub claimed_again : (clusters slots n : ℕ) (hands now : List ClaimHand) → IsPermutation hands now → IsClaimed clusters slots n hands → IsClaimed clusters slots n now
+claimed_again clusters slots n hands now same c = record {
+  small = c.small;
+  many = length_permutation hands now same ∙ c.many;
+  shared = shared_again drawn_by (min n clusters) hands now same c.shared;
+  room = omega (arith, c.room, sum_by-IsPermutation kept_in hands now same);
+  each = All-permutation (IsHand clusters n) hands now same c.each;
+}
 
 lower_still : (a b : ℕ) (h : ClaimHand) → a ≤ b → IsOver b h → IsOver a h
 lower_still a b h le o = record {
@@ -44,10 +114,7 @@ module _ (clusters b : ℕ) (h : ClaimHand) (rest : List ClaimHand) (c : IsBarre
   pub lower_barred : (n : ℕ) → h.lowered ≡ None → IsBarred clusters (min b n) (lower h n ∷ rest)
   lower_barred n unlowered = record {
     most = (let m = c.most in omega arith);
-    least = λ less. ⊎_elim
-        (λ (lt : n < b). let is : n ≡ min b n = omega arith in (0, omega arith, ap Some is))
-        (λ (le : b ≤ n). let is : b ≡ min b n = omega arith in let old = c.least (omega arith) in subst (λ k. Contains (map lowered_by (lower h n ∷ rest)) (Some k)) is (still old.0 old.1 old.2))
-        (cases_lt n b);
+    least = λ less. grind (arith, cases_lt n b, c.least, still);
     each = All-cons (IsOver (min b n)) (lower h n) rest record { looked = under.looked; passed = under.passed; lowered = omega arith }
         (All-weaker (IsOver b) (IsOver (min b n)) (λ u o. lower_still (min b n) b u (omega arith) o) rest theirs);
   }
@@ -140,10 +207,7 @@ rising_room xs n up =
   where
     at_least : (ys : List ℕ) → IsStrictlyIncreasing ys → (k : ℕ) → k < length ys → k ≤ slice_index ys k
     at_least ys up zero lt = omega arith
-    at_least ys up (suc k) lt =
-        let before = at_least ys up k (omega arith) in
-        let next : slice_index ys k < slice_index ys (suc k) = rw add-one at (up k (omega arith)) in
-        omega arith
+    at_least ys up (suc k) lt = grind (arith, at_least ys up k, up k)
 
 pub draw_room : (h : ClaimHand) (n : ℕ) → n < h.clusters → IsStrictlyIncreasing (draw h n).drawn → length h.drawn ≤ n
 draw_room h n lt up = rising_room h.drawn n (subst (λ (g : ClaimHand). IsStrictlyIncreasing g.drawn) (cond-true (ltb n h.clusters) _ _ (lt-ltb n h.clusters lt)) up)
@@ -157,3 +221,120 @@ pub seats_ready : (c : ClaimsSeen) (n : ℕ) (seats : List SeatSeen) → seats �
 seats_ready c n seats is =
     subst (All (IsReady c)) (sym is)
     (All-map (IsReady c) (fresh_seat c) (range_with_len 0 n) (λ k d lt. record { of = (refl, refl); undrawn = refl; unkept = refl; unpassed = refl; unlowered = refl }))
+
+-- ---- the entries whose number is between two bounds, trail by trail: one trail
+
+-- of numbers, the m ones from place s on are those that are less than a bound, but not less than a lower one
+pub record IsStretch (ns : List ℕ) (low bound s m : ℕ) : Type 0 where
+  pub fits : s + m ≤ length ns
+  pub before : (k : ℕ) → k < s → get_or ns k 0 < low
+  pub inside : (k : ℕ) → s ≤ k → k < s + m → (low ≤ get_or ns k 0) × (get_or ns k 0 < bound)
+  pub after : (k : ℕ) → s + m ≤ k → k < length ns → bound ≤ get_or ns k 0
+
+module _ (ns : List ℕ) (low high s e : ℕ) (le : low ≤ high) (start : IsPartitionPoint (λ y. nat_lt y low ≡ true) (λ y. nat_lt y low ≡ false) ns s)
+    (end : IsPartitionPoint (λ y. nat_lt y high ≡ true) (λ y. nat_lt y high ≡ false) ns e) (within : s ≤ length ns) (within' : e ≤ length ns) where
+  pub is_stretch : IsStretch ns low high s (e - s) × (s ≤ e)
+  is_stretch = let in_order : s ≤ e = grind (arith, ltb-true, ltb-false, cases_lt) in grind (arith, ltb-true, ltb-false)
+
+-- without the first number
+shifted : (n : ℕ) (ns : List ℕ) (low high s m s' m' : ℕ) → s' ≡ s - 1 → suc (s' + m') ≡ s + m → IsStretch (n ∷ ns) low high s m → IsStretch ns low high s' m'
+shifted n ns low high s m s' m' less same h = record {
+  fits = (let f = h.fits in omega arith);
+  before = λ k lt. h.before (suc k) (omega arith);
+  inside = λ k le lt. h.inside (suc k) (omega arith) (omega arith);
+  after = λ k le lt. h.after (suc k) (omega arith) (omega arith);
+}
+
+module _ {P : Type 0} where
+  none_kept : (low high : ℕ) (ns : List ℕ) (ts : List P) → ((k : ℕ) → k < length ns → high ≤ get_or ns k 0) → added_in ns low high ts ≡ []
+  none_kept low high (n ∷ ns) (t ∷ ts) h = grind (arith, common_steps, h 0, none_kept low high ns ts (λ k lt. h (suc k) (omega arith)))
+  none_kept low high ns ts h = refl
+
+  -- they stand together
+  pub stretch : (ns : List ℕ) (low high : ℕ) (ts : List P) (s m : ℕ) → length ns ≡ length ts → IsStretch ns low high s m → take m (drop s ts) ≡ added_in ns low high ts
+  stretch ns low high ts zero zero same h = sym (none_kept low high ns ts (λ k lt. h.after k (omega arith) lt))
+  stretch [] low high ts s m same h = (let f = h.fits in grind (arith, common_steps))
+  stretch (n ∷ ns) low high [] s m same h = absurd (omega arith)
+  stretch (n ∷ ns) low high (t ∷ ts) (suc s) m same h = grind (arith, common_steps, h.before 0, stretch ns low high ts s m (omega arith) (shifted n ns low high (suc s) m s m (omega arith) (omega arith) h))
+  stretch (n ∷ ns) low high (t ∷ ts) zero (suc m) same h = grind (arith, common_steps, h.inside 0, stretch ns low high ts zero m (omega arith) (shifted n ns low high zero (suc m) zero m (omega arith) (omega arith) h))
+
+  -- ---- all trails, of which those from place i on are left
+
+  module _ (os : List (List ℕ)) (ts : List (List (Noted P))) (have : HaveNumbers os ts) where
+    pub as_many : length os ≡ length ts
+    as_many = sym (length-map os length) ∙ ap length have ∙ length-map ts length
+
+    pub as_long : (i : ℕ) (o : List ℕ) (t : List (Noted P)) → slice_get os i ≡ Some o → slice_get ts i ≡ Some t → length o ≡ length t
+    as_long i o t at there =
+        same_some (sym (slice_get-map length os i ∙ ap (option_map length) at) ∙ ap (λ l. slice_get l i) have ∙ slice_get-map length ts i ∙ ap (option_map length) there)
+
+  abbrev left : List (List ℕ) → List (List (Noted P)) → ℕ → ℕ → ℕ → List (Noted P)
+  left os ts low high i = added (drop i os) low high (drop i ts)
+
+  -- so far there are the clusters and the pieces of these entries
+  pub record AreSoFar (os : List (List ℕ)) (ts : List (List (Noted P))) (low high i : ℕ) (clusters : List ℕ) (pieces : List P) : Type 0 where
+    pub here : List (Noted P)
+    pub are : AreOf clusters pieces here
+    pub whole : here ++ left os ts low high i ≡ added os low high ts
+
+  pub trail_added : (os : List (List ℕ)) (ts : List (List (Noted P))) (low high i : ℕ) (o : List ℕ) (t : List (Noted P)) (clusters clusters' : List ℕ) (pieces pieces' : List P)
+      → AreSoFar os ts low high i clusters pieces → slice_get os i ≡ Some o → slice_get ts i ≡ Some t
+      → clusters' ≡ clusters ++ map cluster_in (added_in o low high t) → pieces' ≡ pieces ++ map piece_in (added_in o low high t) → AreSoFar os ts low high (i + 1) clusters' pieces'
+  trail_added os ts low high i o t clusters clusters' pieces pieces' f at there c p =
+      let more = added_in o low high t in
+      let os_are = drop_more os i o (slice_get_within os i o at) ∙ ap (λ y. y ∷ drop (i + 1) os) (get_or_from_slice_get os i o o at) in
+      let ts_are = drop_more ts i t (slice_get_within ts i t there) ∙ ap (λ y. y ∷ drop (i + 1) ts) (get_or_from_slice_get ts i t t there) in
+      let split = ap₂ (λ x y. added x low high y) os_are ts_are ∙ kept_both low high (zip o t) _ in
+      record {
+        here = f.here ++ more;
+        are = grind (arith, map-append, f.are.clusters_are, f.are.pieces_are);
+        whole = append_assoc f.here more (left os ts low high (i + 1)) ∙ ap (λ l. f.here ++ l) (sym split) ∙ f.whole;
+      }
+
+  -- once all trails are gone through
+  pub all_added : (os : List (List ℕ)) (ts : List (List (Noted P))) (low high i : ℕ) (clusters : List ℕ) (pieces : List P) → length os ≤ i → AreSoFar os ts low high i clusters pieces → AreOf clusters pieces (added os low high ts)
+  all_added os ts low high i clusters pieces le f = subst (AreOf clusters pieces) (sym (append-nil f.here) ∙ ap (λ l. f.here ++ added l low high (drop i ts)) (sym (drop_all i os le)) ∙ f.whole) f.are
+
+  -- one more entry was appended
+  pub entry_appended : {B : Type 0} (f : Noted P → B) (old new all : List B) (entries : List (Noted P)) (i : ℕ) (e : Noted P)
+      → i < length entries → e ≡ get_or entries i e → new ≡ all ++ f e ∷ [] → all ≡ old ++ map f (take i entries) → new ≡ old ++ map f (take (i + 1) entries)
+  entry_appended f old new all entries i e lt is more before =
+      more ∙ ap (λ l. l ++ f e ∷ []) before ∙ append_assoc old (map f (take i entries)) (f e ∷ []) ∙ ap (λ l. old ++ l) (ap (λ x. map f (take i entries) ++ f x ∷ []) is ∙ sym (map_more f entries i e lt))
+
+-- ---- the watched results, one after another: their trails in the pieces, and their lines
+
+module _ (facts : LoopFacts) (places : List ℕ) (dones : List (List ℕ)) (pieces : List LoopPiece) (have : HaveAllTrails facts places dones pieces) where
+  -- each piece has a trail at each watched place
+  pub trails_there : (w : ℕ) → w < length places → All (λ (p : LoopPiece). w < length p.trails.items) pieces
+  trails_there w lt = λ k d inside.
+      let many = (have.each k (get_or dones k []) (get_or pieces k d) (slice_get-get_or dones k [] (omega (arith, have.many))) (slice_get-get_or pieces k d inside)).many in
+      omega (arith, many)
+
+  -- the trails at a watched place
+  pub trails_are : (w place : ℕ) → slice_get places w ≡ Some place → AreTrails facts place dones (trails_at w pieces)
+  trails_are w place at = record {
+    many = length-map pieces (λ (p : LoopPiece). get_or p.trails.items w []) ∙ have.many;
+    each = λ k done t a b.
+        (let p = something_at pieces k (omega (arith, slice_get_within dones k done a, have.many)) in
+        let its = have.each k done p.0 a p.1 in
+        let there = slice_get-get_or p.0.trails.items w [] (omega (arith, its.many, slice_get_within places w place at)) in
+        let same = sym (slice_get-map (λ (q : LoopPiece). get_or q.trails.items w []) pieces k ∙ ap (option_map (λ (q : LoopPiece). get_or q.trails.items w [])) p.1) ∙ b in
+        its.each w place t at (there ∙ same));
+  }
+
+-- the trail of that number of a piece
+pub trail_there : (w i : ℕ) (os : List (List ℕ)) (pieces : List LoopPiece) (p : LoopPiece) (t trail : List (Noted WatchPiece)) → HaveNumbers os (trails_at w pieces) → All (λ (q : LoopPiece). w < length q.trails.items) pieces → i < length os
+    → t ≡ get_or (get_or pieces i p).trails.items w t → trail ≡ t → slice_get (trails_at w pieces) i ≡ Some trail
+trail_there w i os pieces p t trail have there lt is same = grind (arith, as_many, length-map, slice_get-map, slice_get-get_or, get_or_default)
+
+-- the lines of the results before place w
+pub record AreLinesUpTo (facts : LoopFacts) (places : List ℕ) (sets : List (List ℕ)) (w : ℕ) (all : List (List PartialLine)) : Type 0 where
+  pub many : length all ≡ w
+  pub each : (i place : ℕ) (lines : List PartialLine) → slice_get places i ≡ Some place → slice_get all i ≡ Some lines → ArePartialLines facts place sets lines
+
+pub more_lines : (facts : LoopFacts) (places : List ℕ) (sets : List (List ℕ)) (w place : ℕ) (all now : List (List PartialLine)) (lines : List PartialLine)
+    → AreLinesUpTo facts places sets w all → slice_get places w ≡ Some place → ArePartialLines facts place sets lines → now ≡ all ++ lines ∷ [] → AreLinesUpTo facts places sets (w + 1) now
+more_lines facts places sets w place all now lines h at one is = record {
+  many = ap length is ∙ omega (arith, length-append all (lines ∷ []), h.many);
+  each = λ i other ls a b. grind (arith, before_or_last all lines i ls, h.each i other ls a, h.many, same_some, at, is, b, one);
+}

@@ -5,8 +5,7 @@ use Rattle.std.specs.List.Sorted.{IsStrictlyIncreasing}
 use Rattle.atomic_table.specs.Table.{State, Me, Step}
 use Rattle.rdf_values.specs.{DrawnBy}
 use Rattle.slot_words.specs.declared.seat.ClaimHand.{ClaimHand}
-use Rattle.slot_words.specs.Hands.{hands_in}
-use Rattle.slot_words.specs.Seats.{empty_hand, hand_of, draw, look, lower, last_of, kept_count}
+use Rattle.slot_words.specs.Seats.{hands_in, empty_hand, hand_of, draw, look, lower, last_of, kept_count}
 
 -- what the rule says of one hand, where the claim word is w
 pub record IsHand (clusters w : ℕ) (h : ClaimHand) : Type 0 where

@@ -5,7 +5,7 @@ use Rattle.std.specs.List.Sorted.{IsStrictlyIncreasing}
 use Rattle.atomic_table.specs.Table.{State, Me, Step}
 use Rattle.rdf_values.specs.{DrawnBy}
 use Rattle.slot_words.specs.declared.seat.NoteHand.{NoteHand}
-use Rattle.slot_words.specs.Hands.{hands_in}
+use Rattle.slot_words.specs.Seats.{hands_in}
 use Rattle.slot_words.specs.Shares.{hand_with}
 
 -- the hands share out the numbers below w, each once, and none has more than there are clusters

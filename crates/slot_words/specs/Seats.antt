@@ -1,5 +1,5 @@
 -- What contracts see of the claims and of a seat; how a slot's seat begins, and how it ends where no fault was met.
-use Rattle.std.specs.Prelude.{◌≡◌, ℕ, List, [], ◌∷◌, ◌++◌, Option, None, Some, map, min, ◌+◌, ◌-◌, length, slice_index, ◌<◌, ◌≤◌, nat_lt, if◌then◌else◌, IfSome, IsSomeAnd}
+use Rattle.std.specs.Prelude.{◌≡◌, ℕ, List, [], ◌∷◌, ◌++◌, Option, None, Some, map, min, ◌+◌, ◌-◌, length, slice_index, ◌<◌, ◌≤◌, nat_lt, if◌then◌else◌, IfSome, IsSomeAnd, flat_map}
 use Rattle.std.specs.List.{All, Contains, range_with_len, sum_by}
 use Rattle.atomic_table.specs.Seated.{TableId}
 use Rattle.slot_words.specs.declared.seat.ClaimHand.{ClaimHand}
@@ -119,3 +119,19 @@ pub record MetBar (c : ClaimsSeen) (seat : SeatSeen) (done : List ℕ) : Type 0 
   pub cluster : last < c.clusters
   pub others : seat.drawn ≡ done ++ last ∷ []
   pub passed : seat.passed ≡ Some last
+
+-- ---- hands and views. A hand is what one drawer of numbers knows. A holder of a word has a view, a list of hands: one at first, and more after a join
+
+-- the hands of all views
+abbrev pub hands_in : {H : Type 0} → List (List H) → List H
+hands_in views = flat_map (λ v. v) views
+
+-- all hands but the first
+abbrev pub others : {H : Type 0} → List H → List H
+others [] = []
+others (h ∷ hs) = hs
+
+-- the first hand alone
+abbrev pub first_alone : {H : Type 0} → List H → List H
+first_alone [] = []
+first_alone (h ∷ hs) = h ∷ []

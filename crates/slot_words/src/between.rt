@@ -20,7 +20,7 @@ pub struct PartialPiece {
 }
 
 // Appends the clusters and the pieces of one trail's entries whose number is less than a bound, but not less than a lower one.
-#[tactic(auto, using(crate::proofs::Stretches::entry_appended))]
+#[tactic(auto, using(crate::proofs::Steps::entry_appended))]
 fn choose_between<P: Copy>(
     clusters: &mut Vec<u32>,
     pieces: &mut Vec<P>,
@@ -46,7 +46,7 @@ fn choose_between<P: Copy>(
 
 /// The clusters whose number is less than a bound, but not less than a lower one, rising, and the join of their pieces in the trails of
 /// a watched result. The number of a trail's entry stands at the same place of its slot's list, and rises: no other entries are looked at.
-#[tactic(auto, using(crate::proofs::Watched::trail_there, crate::proofs::Stretches::trail_added))]
+#[tactic(auto, using(crate::proofs::Steps::trail_there, crate::proofs::Steps::trail_added))]
 pub fn partial_between(
     alloc: Global,
     orders: &Orders,

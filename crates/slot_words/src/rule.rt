@@ -65,7 +65,7 @@ impl Play<u8, NoteHands> for Note {
 pub struct Deal;
 
 impl<H> Split<LinkedList<H>> for Deal {
-    ghost use Rattle.slot_words.specs.Hands.{others, first_alone};
+    ghost use Rattle.slot_words.specs.Seats.{others, first_alone};
 
     ghost left = { others };
 

@@ -1,6 +1,5 @@
 -- That a text that is due as done reads back.
-use Rattle.std.proofs.Common.{◌≡◌, ◌≤◌, ℕ, Bool, true, false, List, [], length, nat_lt, Option, None, Some, Result, Ok, Err, inl, inr, refl, sym, ap, subst, arith, MatchOption, MatchResult}
-use Rattle.lemmas.proofs.{MatchBool, nat_tests}
+use Rattle.lemmas.proofs.{◌≡◌, ◌≤◌, ℕ, Bool, true, false, List, [], length, nat_lt, Option, None, Some, Result, Ok, Err, inl, inr, refl, sym, ap, subst, arith, MatchOption, MatchResult, MatchBool, nat_tests}
 use Rattle.rdf_values.specs.{AnswerIn64Bits, Column, fn_names, Function, graph_cause_line, GraphCause, IsScript, IsTable, long_script_line, long_table_line, MarkedTable, Script, table_cause_line, table_of, TableCause, TableView, verdict}
 use Rattle.rdf_values.proofs.OneText.{scripts_have_words}
 use Rattle.rdf_values.proofs.ShortLists.{scripts_are_bookable}

@@ -1,6 +1,5 @@
 -- What the records of bytes spell is a table.
-use Rattle.std.proofs.Common.{◌≡◌, ◌<◌, ◌≤◌, ◌+◌, ℕ, suc, Bool, true, false, List, [], ◌∷◌, length, map, Option, None, Some, Result, Ok, Err, refl, subst, arith, add-one, nat_le, if◌then◌else◌}
-use Rattle.lemmas.proofs.{length-map, nat_tests}
+use Rattle.lemmas.proofs.{◌≡◌, ◌<◌, ◌≤◌, ◌+◌, ℕ, suc, Bool, true, false, List, [], ◌∷◌, length, map, Option, None, Some, Result, Ok, Err, refl, subst, arith, add-one, nat_le, if◌then◌else◌, length-map, nat_tests}
 use Rattle.csv.specs.Machine.{Read, next_record}
 use Rattle.csv.specs.declared.parser.State.{State}
 use Rattle.csv.specs.declared.parser.State.TheVariants as st
@@ -8,8 +7,8 @@ use Rattle.csv.specs.Reading.{default_config, records_from, records_next, strip_
 use Rattle.rdf_values.specs.{Column, FitRows, FitsRow, Header, header_from, IsHeader, IsTable, MarkedRow, MarkedTable, marks_from, on_ok, result_cons, row_of, rows_from, table_of, table_with, TableCause, Value}
 use Rattle.rdf_values.proofs.KeptLemmas.{row_fits_columns}
 use Rattle.table_csv.specs.{csv_records}
-use Rattle.table_csv.proofs.HeaderSteps.{header_is}
-use Rattle.table_csv.proofs.PushSteps.{Shrinks, shrinks}
+use Rattle.table_csv.proofs.TableSteps.{header_is}
+use Rattle.table_csv.proofs.RecordSteps.{Shrinks, shrinks}
 
 -- ---- the first record
 

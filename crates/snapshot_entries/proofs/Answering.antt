@@ -1,6 +1,5 @@
 -- Answers, one after another.
-use Rattle.std.proofs.Common.{if◌then◌else◌, ◌≡◌, ℕ, zero, suc, ◌+◌, ◌<◌, Bool, true, false, List, [], ◌∷◌, ◌++◌, map, take, length, get_or, Option, Some, None, Result, Ok, Err, refl, sym, ◌∙◌, ap, subst, arith, pos}
-use Rattle.lemmas.proofs.{AllByRecursion, append-nil, map-append}
+use Rattle.lemmas.proofs.{if◌then◌else◌, ◌≡◌, ℕ, zero, suc, ◌+◌, ◌<◌, Bool, true, false, List, [], ◌∷◌, ◌++◌, map, take, length, get_or, Option, Some, None, Result, Ok, Err, refl, sym, ◌∙◌, ap, subst, arith, pos, AllByRecursion, append-nil, map-append}
 use Rattle.rdf_values.specs.{EntryFault, Value, value_of}
 use Rattle.rdf_model.specs.{◌>>=◌, Dataset, Faults, for_all, Gives, Needs, Outcome, with_needs}
 use Rattle.snapshot_plan.specs.{PlanView}

@@ -1,6 +1,5 @@
 -- What is evaluated of a site, where all that it reads is known.
-use Rattle.std.proofs.Common.{◌≡◌, ℕ, zero, suc, ◌<◌, List, [], ◌∷◌, map, length, Option, Some, None, Ok, Err, refl, sym, ◌∙◌, ap, subst, arith, option_map, slice_get, unwrap_or}
-use Rattle.lemmas.proofs.{All, All-from_recursion, AllByRecursion, recursion_from_All, slice_get_within}
+use Rattle.lemmas.proofs.{◌≡◌, ℕ, zero, suc, ◌<◌, List, [], ◌∷◌, map, length, Option, Some, None, Ok, Err, refl, sym, ◌∙◌, ap, subst, arith, option_map, slice_get, unwrap_or, All, All-from_recursion, AllByRecursion, recursion_from_All, slice_get_within}
 use Rattle.rdf_values.specs.{ColType, Column, columns_in, EntryFault, FitRows, FitsRow, fn_names, NumTree, Scalar, Value}
 use Rattle.rdf_model.specs.{call_outcome, Dataset, evaluate, Faults, FitsOutcome, Gives, Needs, Outcome, with_needs}
 use Rattle.expr_check.specs.{CheckedExpr}

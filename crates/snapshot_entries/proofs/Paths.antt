@@ -1,14 +1,12 @@
 -- The filters above a node and its columns, by the numbers of sites and versions.
-use Rattle.std.proofs.Common.{◌≡◌, ℕ, ◌<◌, List, map, length, Ok, sym, subst}
+use Rattle.lemmas.proofs.{◌≡◌, ℕ, ◌<◌, List, map, length, Ok, sym, subst}
 use Rattle.std.proofs.lemmas.Option.{get_or_from_slice_get, slice_get_within}
 use Rattle.rdf_values.specs.{ColType, column_kind, FitsRow, fn_names, IsStored, path, scope_at, scope_of, Statement, Under, Value}
 use Rattle.rdf_model.specs.{column_value, Dataset, Faults, FitsOutcome, for_all, Gives, Needs, Outcome, through}
 use Rattle.rdf_model.proofs.Accepted.{column_fits}
 use Rattle.graph_numbers.specs.{filter_sites, IsBelow, sites, Source, source_in, sources, through_sites, version_at, version_count}
-use Rattle.graph_numbers.proofs.ColumnSources.{IsGiven, column_source}
-use Rattle.graph_numbers.proofs.Equations.{source_is}
 use Rattle.graph_numbers.proofs.Placing.{itself, source_count}
-use Rattle.graph_numbers.proofs.Passing.{AreVisible, through_is, values_are}
+use Rattle.graph_numbers.proofs.Covering.{AreVisible, through_is, values_are, IsGiven, column_source, source_is}
 use Rattle.snapshot_entries.specs.{IsStoredOutcome}
 use Rattle.snapshot_entries.proofs.Sites.{Accepted, number, version}
 

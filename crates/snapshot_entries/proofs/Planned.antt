@@ -1,12 +1,11 @@
 -- What a plan reads of an entry, by the numbers of sites and versions.
-use Rattle.std.proofs.Common.{◌≡◌, ℕ, ◌+◌, ◌<◌, Bool, true, false, ◌||◌, List, [], ◌∷◌, ◌++◌, map, Some, None, Result, Ok, Err, refl, sym, ◌∙◌, ap, subst, if◌then◌else◌, not}
+use Rattle.lemmas.proofs.{◌≡◌, ℕ, ◌+◌, ◌<◌, Bool, true, false, ◌||◌, List, [], ◌∷◌, ◌++◌, map, Some, None, Result, Ok, Err, refl, sym, ◌∙◌, ap, subst, if◌then◌else◌, not}
 use Rattle.std.specs.List.{AllByRecursion}
 use Rattle.rdf_values.specs.{among, ColType, column_kind, fn_names, GraphCause, is_node, IsStored, Scope, scope_at, scope_of, Value}
 use Rattle.rdf_model.specs.{◌>>=◌, Dataset, for_all, Gives}
 use Rattle.graph_numbers.specs.{booked_statements, GraphView, through_sites, version_at}
-use Rattle.graph_numbers.proofs.Placing.{versions_count}
-use Rattle.graph_numbers.proofs.Passing.{AreVisible}
-use Rattle.graph_numbers.proofs.Walks.{filter_sites_below}
+use Rattle.graph_numbers.proofs.Placing.{versions_count, filter_sites_below}
+use Rattle.graph_numbers.proofs.Covering.{AreVisible}
 use Rattle.snapshot_plan.specs.{first_bad, is_bad, is_stored, PlanView, scope_in}
 use Rattle.snapshot_rows.specs.{kept_cells}
 use Rattle.snapshot_entries.specs.{IsColumn, IsWanted, IsWork, outcome_at, row_in, site_in, site_total, version_in}

@@ -1,6 +1,5 @@
 -- The entries of a range, one after another.
-use Rattle.std.proofs.Common.{◌≡◌, ℕ, zero, suc, ◌+◌, ◌-◌, ◌<◌, ◌≤◌, List, [], ◌∷◌, ◌++◌, length, get_or, take, drop, Option, Some, None, Err, refl, sym, ◌∙◌, ap, subst, arith, length-drop, slice_range}
-use Rattle.lemmas.proofs.{append-nil, append_assoc, cons_option, flat_map-append, take_full, unwrap_or-slice_get}
+use Rattle.lemmas.proofs.{◌≡◌, ℕ, zero, suc, ◌+◌, ◌-◌, ◌<◌, ◌≤◌, List, [], ◌∷◌, ◌++◌, length, get_or, take, drop, Option, Some, None, Err, refl, sym, ◌∙◌, ap, subst, arith, length-drop, slice_range, append-nil, append_assoc, cons_option, flat_map-append, length-take-le, unwrap_or-slice_get}
 use Rattle.rdf_values.specs.{EntryFault, Span, Value}
 use Rattle.rdf_model.specs.{Dataset, Faults, Gives}
 use Rattle.snapshot_plan.specs.{PlanView}
@@ -39,7 +38,7 @@ module _ (rows : List (List Value)) (lo e : ℕ) (low : lo ≤ e) (lt : e < leng
       ap (λ k. take k (drop lo rows)) s ∙ take_next (drop lo rows) (e - lo) [] inside ∙ ap (λ r. slice_range rows lo e ++ r ∷ []) at_row
 
   range_long : e ≡ lo + length (slice_range rows lo e)
-  range_long = (let n = length-drop lo rows in let m = take_full (e - lo) (drop lo rows) (omega (arith, low, lt, n)) in omega (arith, low, m))
+  range_long = (let n = length-drop lo rows in let m = length-take-le (e - lo) (drop lo rows) (omega (arith, low, lt, n)) in omega (arith, low, m))
 
   range_split : (hi : ℕ) → e < hi → hi ≤ length rows → (rest : List (List Value)) × (slice_range rows lo hi ≡ slice_range rows lo e ++ row_in rows e ∷ rest)
   range_split hi up most =

@@ -1,5 +1,5 @@
 -- Rows one after another: their first fault, and the entries that are kept.
-use Rattle.std.proofs.Common.{◌≡◌, ℕ, suc, ◌+◌, ◌<◌, ◌≤◌, List, [], ◌∷◌, ◌++◌, length, Option, Some, None, refl, sym, ◌∙◌, ap, ap₂, arith, filter_map}
+use Rattle.lemmas.proofs.{◌≡◌, ℕ, suc, ◌+◌, ◌<◌, ◌≤◌, List, [], ◌∷◌, ◌++◌, length, Option, Some, None, refl, sym, ◌∙◌, ap, ap₂, arith, filter_map}
 use Rattle.std.specs.List.{cons_option}
 use Rattle.rdf_values.specs.{EntryFault, Path, Under, Value}
 use Rattle.rdf_model.specs.{Dataset, fault_in, Faults, Gives}

@@ -1,14 +1,14 @@
 -- What a site comes to, by what its versions come to; and what is known of the versions that it reads.
-use Rattle.std.proofs.Common.{if◌then◌else◌, ◌≡◌, ℕ, ◌<◌, Bool, true, false, not, List, [], ◌∷◌, map, length, Option, Some, None, refl, sym, ◌∙◌, ap, subst, nat_eq, slice_get, filter}
+use Rattle.lemmas.proofs.{if◌then◌else◌, ◌≡◌, ℕ, ◌<◌, Bool, true, false, not, List, [], ◌∷◌, map, length, Option, Some, None, refl, sym, ◌∙◌, ap, subst, nat_eq, slice_get, filter}
 use Rattle.std.specs.List.{AllByRecursion}
 use Rattle.rdf_values.specs.{AreAccepted, ColType, columns_in, EntryFault, FitsRow, fn_names, FunctionNames, NumTree, scope_of, Statement, Under, Value}
 use Rattle.rdf_model.specs.{◌>>=◌, call_outcome, Dataset, evaluate, Faults, FitsOutcome, Gives, Needs, Outcome, tag_element, with_needs}
 use Rattle.rdf_model.proofs.Missing.{site_alike, tag_alike, alike_is}
 use Rattle.expr_check.specs.{CheckedExpr, distinct, IsWellTyped}
 use Rattle.graph_numbers.specs.{cell_value, IsBelow, site_outcome, site_value, SiteAt, sites, Source, source_in, source_value, sources, version_count, version_kinds}
-use Rattle.graph_numbers.proofs.Equations.{columns_below, number_value, site_is, version_value}
+use Rattle.graph_numbers.proofs.Closing.{columns_below, FitsVersion, site_fits}
+use Rattle.graph_numbers.proofs.Covering.{number_value, site_is, version_value}
 use Rattle.rdf_values.proofs.KeptLemmas.{In, here, there, each_at}
-use Rattle.graph_numbers.proofs.Meeting.{FitsVersion, site_fits}
 
 -- ---- lists
 

@@ -1,5 +1,5 @@
 -- The columns of a table.
-use Rattle.std.proofs.Common.{◌≡◌, ℕ, zero, suc, ◌<◌, List, [], ◌∷◌, ◌++◌, length, get_or, sym, ◌∙◌, ap, subst, arith}
+use Rattle.lemmas.proofs.{◌≡◌, ℕ, zero, suc, ◌<◌, List, [], ◌∷◌, ◌++◌, length, get_or, sym, ◌∙◌, ap, subst, arith}
 use Rattle.rdf_values.specs.{AreColumns, ColType, Column, IsStored}
 
 stored : (seen cs : List Column) → AreColumns seen cs → (i : ℕ) → i < length cs → (d : Column) → IsStored (get_or cs i d).kind

@@ -1,5 +1,5 @@
 -- What is told of the versions of an entry, by what is known of their sites.
-use Rattle.std.proofs.Common.{◌≡◌, ℕ, ◌<◌, List, length, get_or, Option, Some, None, Result, Ok, Err, refl, sym, ◌∙◌, ap, subst, arith, MatchOption, slice_get}
+use Rattle.lemmas.proofs.{◌≡◌, ℕ, ◌<◌, List, length, get_or, Option, Some, None, Result, Ok, Err, refl, sym, ◌∙◌, ap, subst, arith, MatchOption, slice_get}
 use Rattle.std.proofs.lemmas.Option.{slice_get-get_or}
 use Rattle.rdf_values.specs.{AreAccepted, EntryFault, fn_names, scope_of, Value}
 use Rattle.rdf_model.specs.{◌>>=◌, Dataset, Outcome, tag_element, with_needs}

@@ -1,11 +1,11 @@
 -- The numbers of a plan's versions and sites, by what the graph answers.
-use Rattle.std.proofs.Common.{◌≡◌, ℕ, ◌≤◌, List, length, sym, ap, ap₂, ◌∙◌, arith}
+use Rattle.lemmas.proofs.{◌≡◌, ℕ, ◌≤◌, List, length, sym, ap, ap₂, ◌∙◌, arith}
 use Rattle.rdf_values.specs.{Column, fn_names, Statement}
 use Rattle.rdf_model.specs.{Dataset}
 use Rattle.graph_numbers.specs.{booked_statements, filter_sites, graph_sites, graph_versions, named_version, version_count}
 use Rattle.graph_numbers.proofs.Placing.{versions_count}
 use Rattle.graph.specs.{filter_numbers, site_total}
-use Rattle.graph.proofs.SiteTotals.{numbers_are, total_is}
+use Rattle.graph.proofs.Finished.{numbers_are, total_is}
 use Rattle.graph.proofs.Walking.{named_few}
 use Rattle.snapshot_plan.specs.{PlanView}
 use Rattle.snapshot_entries.specs.{IsWork}

@@ -1,9 +1,8 @@
 -- What slots tell once all have stopped.
-use Rattle.std.proofs.Common.{◌≡◌, ◌⊎◌, ℕ, zero, suc, ◌<◌, ◌≤◌, min, List, [], ◌∷◌, ◌++◌, length, map, Option, None, Some, refl, sym, ap, ap₂, ◌∙◌, subst, inl, inr, ⊎_elim, arith, flat_map, slice_get, IfSome, IsSomeAnd}
-use Rattle.lemmas.proofs.{All, All-append, All-cons, All-head, All-nil, All-tail, cases_lt, concat, map-append, slice_get-get_or}
+use Rattle.lemmas.proofs.{◌≡◌, ◌⊎◌, ℕ, zero, suc, ◌<◌, ◌≤◌, min, List, [], ◌∷◌, ◌++◌, length, map, Option, None, Some, refl, sym, ap, ap₂, ◌∙◌, subst, inl, inr, ⊎_elim, arith, flat_map, slice_get, IfSome, IsSomeAnd, All, All-append, All-cons, All-head, All-nil, All-tail, cases_lt, concat, map-append, slice_get-get_or}
 use Rattle.rdf_values.specs.{DrawnBy, Fault, first_in, least_fault, once_below, times}
 use Rattle.rdf_values.proofs.UnionLemmas.{times_concat, times_push, counts_by_drawn, once_inside, inside_once, times_self}
-use Rattle.merge_core.proofs.Faults.{Among, Told, told_nothing, told_both, first_told, among_left, among_right}
+use Rattle.merge_core.proofs.Merging.{Among, Told, told_nothing, told_both, first_told, among_left, among_right}
 use Rattle.merge_core.proofs.Holding.{only}
 use Rattle.slot_words.specs.{ClaimsSeen, IsLeast, IsPassed, last_of, MetBar, RanOut, SeatSeen}
 use Rattle.snapshot_pieces.specs.{AreFacts, AreMade, clusters_of, end_faults, fault_of, Finished, HasAll, HasMemory, HasStopped, IsPieceOf, IsServed, Piece, pieces_in, pieces_of, seat_in, SnapFacts, Stopped}

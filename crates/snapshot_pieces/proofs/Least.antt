@@ -1,6 +1,5 @@
 -- The least of the faults from the last slot on.
-use Rattle.std.proofs.Common.{◌≡◌, ℕ, suc, ◌-◌, ◌<◌, ◌≤◌, List, ◌∷◌, ◌++◌, length, get_or, drop, Option, Some, sym, ap, ◌∙◌, subst, arith, drop-cons}
-use Rattle.lemmas.proofs.{All, All-cons}
+use Rattle.lemmas.proofs.{◌≡◌, ℕ, suc, ◌-◌, ◌<◌, ◌≤◌, List, ◌∷◌, ◌++◌, length, get_or, drop, Option, Some, sym, ap, ◌∙◌, subst, arith, drop-cons, All, All-cons}
 use Rattle.rdf_values.specs.{Fault, least_fault, lesser_fault}
 use Rattle.snapshot_pieces.specs.{end_faults, fault_of, Finished, HasMemory, IsServed, Piece}
 use Rattle.snapshot_pieces.specs.declared.finished.End.{End}

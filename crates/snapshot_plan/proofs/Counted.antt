@@ -1,5 +1,5 @@
 -- One more statement is counted.
-use Rattle.std.proofs.Common.{◌≡◌, ◌+◌, Bool, true, false, List, ◌∷◌, length, refl, arith, filter, if◌then◌else◌}
+use Rattle.lemmas.proofs.{◌≡◌, ◌+◌, Bool, true, false, List, ◌∷◌, length, refl, arith, filter, if◌then◌else◌}
 use Rattle.rdf_values.specs.{Statement}
 use Rattle.snapshot_plan.specs.{makes_node}
 

@@ -1,10 +1,10 @@
 -- The kind of a column at a node, by what look-ups answer.
-use Rattle.std.proofs.Common.{◌≡◌, ◌<◌, ℕ, Bool, true, false, List, length, Some, Ok, Err, refl, ap, ap₂, sym, ◌∙◌, slice_get}
+use Rattle.lemmas.proofs.{◌≡◌, ◌<◌, ℕ, Bool, true, false, List, length, Some, Ok, Err, refl, ap, ap₂, sym, ◌∙◌, slice_get}
 use Rattle.rdf_values.specs.{ColType, Column, column_kind, is_visible, path, scope_at, scope_of, Statement, target_of}
 use Rattle.rdf_values.specs.declared.scripts.script_cause.GraphCause.TheVariants.{UnknownColumn}
 use Rattle.graph_numbers.specs.{booked_statements, GraphView, named_version, version_count}
 use Rattle.graph.specs.{AreKinds}
-use Rattle.graph.proofs.Scoping.{found_as, found_none, found_within, kinds_counted}
+use Rattle.graph.proofs.Walking.{found_as, found_none, found_within, kinds_counted}
 use Rattle.snapshot_plan.specs.{scope_in}
 
 module _ (g : GraphView) (h : List Column) (b : List Statement) (node : List ℕ) (kinds : List ColType) (eh : h ≡ g.header) (eb : b ≡ booked_statements g) (k : AreKinds g.header g.names (booked_statements g) kinds) where

@@ -1,9 +1,9 @@
 -- The columns of a plan are a header.
-use Rattle.std.proofs.Common.{◌≡◌, ◌+◌, ℕ, Bool, true, false, ◌||◌, List, [], ◌∷◌, ◌++◌, map, Option, Some, None, Result, Ok, Err, refl, ap₂, subst, ◌∙◌, arith, not, if◌then◌else◌}
+use Rattle.rdf_model.proofs.Accepted.{turned}
+use Rattle.lemmas.proofs.{◌≡◌, ◌+◌, ℕ, Bool, true, false, ◌||◌, List, [], ◌∷◌, ◌++◌, map, Option, Some, None, Result, Ok, Err, refl, ap₂, subst, ◌∙◌, arith, not, if◌then◌else◌}
 use Rattle.std.proofs.lemmas.List.{length-map, map-append}
 use Rattle.rdf_values.specs.{among, AreColumns, ColType, column_kind, GraphCause, has_name, is_node, IsStored, kind_or_int, Scope}
 use Rattle.graph_numbers.specs.{booked_statements}
-use Rattle.graph.proofs.Walking.{same_back}
 use Rattle.snapshot_plan.specs.{column_at, first_bad, is_bad, is_stored, PlansHaveHeaders, scope_in, SnapCause, unless_bad}
 
 pub kept : (b : Bool) (o : Option ℕ) (rest : Option SnapCause) → (if not b then Some SnapCause.BadNode else unless_bad o rest) ≡ None → o ≡ None
@@ -24,7 +24,7 @@ good false b h = cc h
 
 named : (scope : Scope) (name : List ℕ) (before : List (List ℕ)) → has_name (map (column_at scope) before) name ≡ among name before
 named scope name [] = refl
-named scope name (x ∷ xs) = ap₂ (λ a b. a || b) (same_back x name) (named scope name xs)
+named scope name (x ∷ xs) = ap₂ (λ a b. a || b) (turned x name) (named scope name xs)
 
 fits : (scope : Scope) (names : List (List ℕ)) (i : ℕ) (before : List (List ℕ)) → first_bad scope i before names ≡ None → AreColumns (map (column_at scope) before) (map (column_at scope) names)
 fits scope [] i before h = tt

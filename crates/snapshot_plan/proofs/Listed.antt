@@ -1,5 +1,5 @@
 -- Lists that are made of others, one more each time.
-use Rattle.std.proofs.Common.{◌≡◌, ◌+◌, ◌<◌, ℕ, zero, suc, List, [], ◌∷◌, ◌++◌, length, get_or, map, take, refl, ap, ap₂, ◌∙◌, arith}
+use Rattle.lemmas.proofs.{◌≡◌, ◌+◌, ◌<◌, ℕ, zero, suc, List, [], ◌∷◌, ◌++◌, length, get_or, map, take, refl, ap, ap₂, ◌∙◌, arith}
 use Rattle.rdf_values.specs.{ColType, Column, column_kind, kind_or_int, Scope}
 use Rattle.snapshot_plan.specs.{column_at}
 

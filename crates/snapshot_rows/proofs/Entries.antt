@@ -1,5 +1,5 @@
 -- The entries of a snapshot are those that pass, with what the columns come to.
-use Rattle.std.proofs.Common.{◌≡◌, ℕ, ◌+◌, Bool, true, false, cond, List, [], ◌∷◌, Option, Some, None, Ok, Err, refl, ap, subst, if◌then◌else◌, filter}
+use Rattle.lemmas.proofs.{◌≡◌, ℕ, ◌+◌, Bool, true, false, cond, List, [], ◌∷◌, Option, Some, None, Ok, Err, refl, ap, subst, if◌then◌else◌, filter}
 use Rattle.std.specs.List.{AllZip, cons_option}
 use Rattle.rdf_values.specs.{Path, TableView, Under, Value}
 use Rattle.rdf_model.specs.{◌>>=◌, Dataset, fault_in, Faults, Gives, is_true, Needs, Outcome, through}

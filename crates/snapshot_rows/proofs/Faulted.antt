@@ -1,5 +1,5 @@
 -- A snapshot's fault is that of the least entry which has one.
-use Rattle.std.proofs.Common.{◌≡◌, ◌⊎◌, inl, inr, ℕ, zero, suc, ◌+◌, ◌<◌, Bool, true, false, List, [], ◌∷◌, Option, Some, None, refl, sym, ◌∙◌, ap, subst, arith, slice_get}
+use Rattle.lemmas.proofs.{◌≡◌, ◌⊎◌, inl, inr, ℕ, zero, suc, ◌+◌, ◌<◌, Bool, true, false, List, [], ◌∷◌, Option, Some, None, refl, sym, ◌∙◌, ap, subst, arith, slice_get}
 use Rattle.rdf_values.specs.{EntryFault, Value}
 use Rattle.rdf_model.specs.{Dataset, fault_in, Faults, Gives, Needs, Outcome}
 use Rattle.snapshot_plan.specs.{PlanView}

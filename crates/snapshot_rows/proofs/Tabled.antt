@@ -1,11 +1,10 @@
 -- A snapshot is a table, whose text reads back.
-use Rattle.std.proofs.Common.{◌≡◌, ◌≤◌, ℕ, ◌+◌, Bool, true, false, ◌||◌, List, [], ◌∷◌, ◌++◌, length, map, Option, Some, None, Result, Ok, Err, refl, sym, ◌∙◌, ap, ap₂, subst, arith, not, if◌then◌else◌, filter_map}
+use Rattle.lemmas.proofs.{◌≡◌, ◌≤◌, ℕ, ◌+◌, Bool, true, false, ◌||◌, List, [], ◌∷◌, ◌++◌, length, map, Option, Some, None, Result, Ok, Err, refl, sym, ◌∙◌, ap, ap₂, subst, arith, not, if◌then◌else◌, filter_map, cons_option, list_all-map}
 use Rattle.std.specs.Prelude.{⊤}
-use Rattle.lemmas.proofs.{cons_option, list_all-map}
 use Rattle.rdf_values.specs.{among, AreBounded, ColType, Column, column_kind, FitRows, FitsColumn, FitsKind, FitsRow, fn_names, GraphCause, is_name, is_node, IsBounded, IsTable, kind_or_int, Scope, scope_at, scope_of, TableView, Value, verdict}
 use Rattle.rdf_model.specs.{◌>>=◌, column_in, Dataset, Faults, for_all, Gives, Meets, Needs, Outcome, through}
 use Rattle.rdf_model.proofs.Accepted.{accepted_columns_fit}
-use Rattle.rdf_model.proofs.Bounded.{columns_are_bounded}
+use Rattle.rdf_model.proofs.Limits.{columns_are_bounded, path_words}
 use Rattle.rdf_model.proofs.Typing.{meets_bind}
 use Rattle.graph_numbers.specs.{booked_statements}
 use Rattle.snapshot_plan.specs.{column_at, first_bad, is_bad, is_stored, plan_columns, PlanView, scope_in}
@@ -14,7 +13,6 @@ use Rattle.snapshot_text.specs.{AreNamed}
 use Rattle.snapshot_text.proofs.TextBack.{text_reads_back}
 use Rattle.snapshot_rows.specs.{cells_in, columns_outcome, IsPlanOver, kept_row, plan_path, snapshot_entries, snapshot_fault, SnapshotIsATable, SnapshotReadsBack}
 use Rattle.snapshot_rows.proofs.Entries.{both, is_taken}
-use Rattle.rdf_model.proofs.Limits.{path_words}
 
 -- ---- the columns that are asked for are visible
 

@@ -1,10 +1,9 @@
 -- The clusters of a table, one after another: their first fault, and their records.
-use Rattle.std.proofs.Common.{◌≡◌, ℕ, ◌+◌, ◌-◌, ◌<◌, ◌≤◌, List, [], ◌∷◌, ◌++◌, length, map, drop, Option, Some, None, refl, sym, ◌∙◌, ap, ap₂, arith, slice_get, flat_map, option_map, slice_range}
-use Rattle.lemmas.proofs.{range_length, slice_get-map, take_at_most}
+use Rattle.lemmas.proofs.{◌≡◌, ℕ, ◌+◌, ◌-◌, ◌<◌, ◌≤◌, List, [], ◌∷◌, ◌++◌, length, map, drop, Option, Some, None, refl, sym, ◌∙◌, ap, ap₂, arith, slice_get, flat_map, option_map, slice_range, range_length, slice_get-map, take_at_most}
 use Rattle.rdf_values.specs.{AreInEntryOrder, Fault, first_in, Lead, Path, Span, Under, Value}
-use Rattle.rdf_values.proofs.Evenly.{led_are_in_order}
+use Rattle.rdf_values.proofs.Evenly.{led_are_in_order, lead_up}
 use Rattle.rdf_model.specs.{Dataset}
-use Rattle.loop_pieces.proofs.ByCluster.{lead_up, ranges_join, range_none, range_whole}
+use Rattle.loop_pieces.proofs.ByCluster.{ranges_join, range_none, range_whole}
 use Rattle.snapshot_rows.specs.{fault_from, kept_row, kept_rows, SnapFault}
 use Rattle.snapshot_run.specs.{as_fault}
 use Rattle.snapshot_entries.proofs.Rows.{fault_append, fault_within, first_of, kept_append}

@@ -1,14 +1,12 @@
 -- What one cluster gives.
-use Rattle.std.proofs.Common.{◌≡◌, ℕ, zero, suc, ◌<◌, ◌≤◌, List, [], ◌∷◌, ◌++◌, length, Some, None, Ok, Err, refl, sym, ap, ◌∙◌, subst, arith, ⊎_elim, option_map, slice_get}
-use Rattle.lemmas.proofs.{All, All-push, cases_lt, map-append, slice_get-map}
+use Rattle.lemmas.proofs.{◌≡◌, ℕ, zero, suc, ◌<◌, ◌≤◌, List, [], ◌∷◌, ◌++◌, length, Some, None, Ok, Err, refl, sym, ap, ◌∙◌, subst, arith, ⊎_elim, option_map, slice_get, All, All-push, cases_lt, map-append, slice_get-map}
 use Rattle.rdf_values.specs.{Lead, Span, times}
 use Rattle.rdf_values.proofs.UnionLemmas.{times_push}
 use Rattle.merge_core.proofs.Holding.{only}
 use Rattle.snapshot_pieces.specs.{AreMade, clusters_of, IsPieceOf, Piece, SnapFacts}
-use Rattle.rdf_values.proofs.Evenly.{cuts_lead}
+use Rattle.rdf_values.proofs.Evenly.{cuts_lead, lead_up}
 use Rattle.rdf_model.specs.{Dataset}
-use Rattle.loop_pieces.proofs.ByCluster.{lead_up}
-use Rattle.columns.specs.CutsView.{CutsView}
+use Rattle.columns.specs.Views.{CutsView}
 use Rattle.snapshot_plan.specs.{PlanView}
 use Rattle.snapshot_text.specs.{entries_text}
 use Rattle.snapshot_rows.specs.{snapshot_entries, snapshot_fault}

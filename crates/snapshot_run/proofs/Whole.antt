@@ -1,10 +1,9 @@
 -- What is known of a whole run.
-use Rattle.std.proofs.Common.{◌≡◌, ℕ, ◌≤◌, ◌++◌, List, [], ◌∷◌, length, map, Option, None, Some, Ok, Err, refl, sym, ap, ap₂, ◌∙◌, subst, flat_map, option_map, Result}
-use Rattle.lemmas.proofs.{flat_map-append, length-map}
+use Rattle.lemmas.proofs.{◌≡◌, ℕ, ◌≤◌, ◌++◌, List, [], ◌∷◌, length, map, Option, None, Some, Ok, Err, refl, sym, ap, ap₂, ◌∙◌, subst, flat_map, option_map, Result, flat_map-append, length-map}
 use Rattle.rdf_values.specs.{Column, Fault, first_in, fn_names, FunctionNames, IsTable, Lead, Span, TableView, Value}
 use Rattle.rdf_values.proofs.Evenly.{cuts_lead}
 use Rattle.rdf_model.specs.{Dataset}
-use Rattle.columns.specs.CutsView.{CutsView}
+use Rattle.columns.specs.Views.{CutsView}
 use Rattle.graph_numbers.specs.{graph_of, GraphView, IsGraph}
 use Rattle.snapshot_plan.specs.{IsPlan, plan_columns, PlanView}
 use Rattle.snapshot_text.specs.{entries_text, entry_text, header_text, table_text}

@@ -2,8 +2,7 @@
 use Rattle.std.specs.Prelude.{◌≡◌, ⊤, ℕ, List, map, option_map, Some, None, Result, Ok, Err, slice_get}
 use Rattle.rdf_values.specs.{cut, Fault, Function, Span}
 use Rattle.rdf_model.specs.{Dataset}
-use Rattle.columns.specs.ColumnsView.{ColumnsView}
-use Rattle.columns.specs.CutsView.{CutsView}
+use Rattle.columns.specs.Views.{ColumnsView, CutsView}
 use Rattle.snapshot_plan.specs.{PlanView}
 use Rattle.snapshot_text.specs.{entries_text}
 use Rattle.snapshot_rows.specs.{SnapFault, snapshot_entries, snapshot_fault}

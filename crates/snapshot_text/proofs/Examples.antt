@@ -1,5 +1,5 @@
 -- The definitions computed: the text of a table of two columns, and of one whose first vector is empty.
-use Rattle.std.proofs.Common.{◌≡◌, pos, [], ◌∷◌, refl, codes, flat_map}
+use Rattle.lemmas.proofs.{◌≡◌, pos, [], ◌∷◌, refl, codes, flat_map}
 use Rattle.std.specs.Fmt.{digits}
 use Rattle.rdf_values.specs.{ColType, line, Value}
 use Rattle.snapshot_text.specs.{table_text}

@@ -1,6 +1,5 @@
 -- Texts with a byte between them are the first, and each other one behind that byte.
-use Rattle.std.proofs.Common.{◌≡◌, ℕ, ℤ, List, [], ◌∷◌, ◌++◌, length, map, flat_map, refl, ap, sym, ◌∙◌, append_assoc}
-use Rattle.lemmas.proofs.{append-nil, join_with_byte, signed_decimal}
+use Rattle.lemmas.proofs.{◌≡◌, ℕ, ℤ, List, [], ◌∷◌, ◌++◌, length, map, flat_map, refl, ap, sym, ◌∙◌, append_assoc, append-nil, join_with_byte, signed_decimal}
 use Rattle.rdf_values.specs.{Column, value_of}
 use Rattle.rdf_values.specs.declared.tables.value.Cell.{Cell}
 use Rattle.snapshot_text.specs.{cell_field, column_field, record_text}

@@ -1,6 +1,5 @@
 -- What is asked for is within its limits.
-use Rattle.std.proofs.Common.{◌≡◌, ◌≤◌, ◌<◌, ℕ, ℤ, pos, negsuc, Bool, true, false, ◌&&◌, leb, List, length, Option, None, Some, if◌then◌else◌, refl, arith, subst, nat_le}
-use Rattle.lemmas.proofs.{length-slice_split, list_all, nat_tests, slice_split}
+use Rattle.lemmas.proofs.{◌≡◌, ◌≤◌, ◌<◌, ℕ, ℤ, pos, negsuc, Bool, true, false, ◌&&◌, leb, List, length, Option, None, Some, if◌then◌else◌, refl, arith, subst, nat_le, length-slice_split, list_all, nat_tests, slice_split}
 use Rattle.clap.specs.Words.{Row, Text, matches_of}
 use Rattle.command_words.specs.{number_of, setting_of, within}
 use Rattle.rdf_values.specs.{integer_of, is_name}
@@ -8,7 +7,7 @@ use Rattle.snapshot_plan.specs.{Under}
 use Rattle.snapshot_words.specs.{asked_by, asked_in, asked_of, command_of, files_of, is_comma, is_taken, IsAsked, names_of, shown_by, shown_of, SnapCommand, snapshot_command, under_in}
 use Rattle.snapshot_words.specs.declared.read.Files.{Files}
 use Rattle.snapshot_words.specs.declared.read.Shown.{Shown}
-use Rattle.command_words.proofs.Bounds.{if_within, some_is}
+use Rattle.command_words.proofs.Taken.{if_within, found_is}
 
 -- ---- numbers
 
@@ -37,7 +36,7 @@ record AreNames (names : List Text) : Type 0 where
   named : list_all is_name names ≡ true
 
 if_all : (parts names : List Text) (named few : Bool) → list_all is_name parts ≡ named → nat_le (length parts) 64 ≡ few → 0 < length parts → (if named && few then Some parts else None) ≡ Some names → AreNames names
-if_all parts names true true n f some e = subst AreNames (some_is parts names e) (record { some = some; few = grind (arith, nat_tests); named = n })
+if_all parts names true true n f some e = subst AreNames (found_is parts names e) (record { some = some; few = grind (arith, nat_tests); named = n })
 if_all parts names true false n f some e = absurd (cc e)
 if_all parts names false few n f some e = absurd (cc e)
 
@@ -55,7 +54,7 @@ Shows o = (s : Shown) → o ≡ Some s → AreNames s.columns
 by_names : (node : Text) (columns : Option (List Text)) (under : Option Under) → ((names : List Text) → columns ≡ Some names → AreNames names) → Shows (shown_by node columns under)
 by_names node None under h = λ s e. absurd (cc e)
 by_names node (Some columns) None h = λ s e. absurd (cc e)
-by_names node (Some columns) (Some under) h = λ s e. subst (λ (x : Shown). AreNames x.columns) (some_is (record { node = node; columns = columns; under = under }) s e) (h columns refl)
+by_names node (Some columns) (Some under) h = λ s e. subst (λ (x : Shown). AreNames x.columns) (found_is (record { node = node; columns = columns; under = under }) s e) (h columns refl)
 
 if_node : (node columns under : Text) (named : Bool) → Shows (if named then shown_by node (names_of columns) (under_in under) else None)
 if_node node columns under true = by_names node (names_of columns) (under_in under) (are_names columns)
@@ -77,7 +76,7 @@ asked_by_fits (Some files) (Some shown) (Some slots) None w s k c e = absurd (cc
 asked_by_fits (Some files) (Some shown) (Some slots) (Some cluster) w s k c e =
     let names = w shown refl in
     let n = s slots refl in
-    subst IsAsked (some_is (command_of files shown slots cluster) c e) (record { some = names.some; few = names.few; named = names.named; slots = (omega (arith, n.0), n.1); cluster = k cluster refl })
+    subst IsAsked (found_is (command_of files shown slots cluster) c e) (record { some = names.some; few = names.few; named = names.named; slots = (omega (arith, n.0), n.1); cluster = k cluster refl })
 
 asked_in_fits : (rows : List Row) (c : SnapCommand) → asked_in rows ≡ Some c → IsAsked c
 unfolding asked_in

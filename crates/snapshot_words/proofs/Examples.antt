@@ -1,5 +1,5 @@
 -- The definitions computed: words that are taken, and words that aren't.
-use Rattle.std.proofs.Common.{◌≡◌, [], ◌∷◌, Some, None, refl, codes}
+use Rattle.lemmas.proofs.{◌≡◌, [], ◌∷◌, Some, None, refl, codes}
 use Rattle.clap.proofs.OnLiterals.{clap_on_literals}
 use Rattle.rdf_values.specs.{integer_of, is_name, magnitude_of}
 use Rattle.command_words.specs.{number_of}

@@ -1,6 +1,5 @@
 -- Names between commas, part by part.
-use Rattle.std.proofs.Common.{if◌then◌else◌, ◌≡◌, ◌<◌, ◌≤◌, ◌+◌, ℕ, List, [], ◌∷◌, ◌++◌, length, Bool, true, false, ◌&&◌, None, Some, Option, arith, refl, suc, ap, ◌∙◌, length-append, append-nil, MatchOption, cond, nat_le, nat_lt, position}
-use Rattle.lemmas.proofs.{after_first, before_first, Bor, drop_all, list_all, nat_tests, position_or_len, slice_split}
+use Rattle.lemmas.proofs.{if◌then◌else◌, ◌≡◌, ◌<◌, ◌≤◌, ◌+◌, ℕ, List, [], ◌∷◌, ◌++◌, length, Bool, true, false, ◌&&◌, None, Some, Option, arith, refl, suc, ap, ◌∙◌, length-append, append-nil, MatchOption, cond, nat_le, nat_lt, position, after_first, before_first, Bor, drop_all, list_all, nat_tests, position_or_len, slice_split}
 use Rattle.rdf_values.specs.{is_colon, is_name}
 use Rattle.snapshot_plan.specs.{Under}
 use Rattle.snapshot_plan.specs.declared.under.Under.TheVariants.{Varied}

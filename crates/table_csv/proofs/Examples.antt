@@ -1,6 +1,6 @@
 -- What some bytes spell.
 use Prim.Native.String.{String}
-use Rattle.std.proofs.Common.{ℕ, List, [], ◌∷◌, ◌++◌, Ok, Err, refl, codes, pos, negsuc, Result}
+use Rattle.lemmas.proofs.{ℕ, List, [], ◌∷◌, ◌++◌, Ok, Err, refl, codes, pos, negsuc, Result}
 use Rattle.csv.proofs.OnLiterals.{csv_on_literals}
 use Rattle.rdf_values.proofs.Examples.{AreDue}
 use Rattle.rdf_values.specs.{cells_from, ColType, Column, column_of, header_from, integer_of, integers_of, is_cut, is_name, magnitude_of, mark_of, MarkedTable, next_column, row_of, rows_from, table_of, TableCause, Value, vector_of}

@@ -1,7 +1,3 @@
-pub mod CutLines
-pub mod CellSteps
+pub mod RecordSteps
 pub mod Examples
-pub mod HeaderSteps
-pub mod PushSteps
-pub mod PieceSteps
 pub mod TableSteps

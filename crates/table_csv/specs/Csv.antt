@@ -4,8 +4,8 @@ use Rattle.std.specs.Borrow.{Bor}
 use Rattle.csv.specs.Machine.{ends_at_end}
 use Rattle.csv.specs.Reading.{Ready, default_config, is_flexible, reader_config, reader_state, reader_trim, records, records_from, source_of, strip_bom}
 use Rattle.csv.specs.declared.reader.Reader.{Reader}
+use Rattle.rdf_values.specs.{Header, header_from, IsHeader, MarkedTable, on_ok, rows_from, table_with, TableCause, Cells, ColType, MarkedRow, pushed, row_pushed, Value}
 use Rattle.csv.specs.declared.reader.Trim.TheVariants as trim
-use Rattle.rdf_values.specs.{Header, header_from, IsHeader, MarkedTable, on_ok, rows_from, table_with, TableCause}
 
 -- the records that `csv` gives for the bytes, by its default comma and double quote; a byte order mark at their start is skipped
 unfoldable pub csv_records : List ℕ → List (List (List ℕ))
@@ -41,3 +41,28 @@ pub record IsHeaded (records : List (List (List ℕ))) (h : Header) (after : Rea
   pub spells : header_from 0 [] fields ≡ Ok h
   pub leaves : Leaves after left
   pub header : IsHeader h.columns
+
+-- ---- columns that have one more value each
+
+-- the type of a column whose values are kept
+abbrev pub kind_of : Cells → ColType
+kind_of (Cells.Ints ns) = ColType.Int
+kind_of (Cells.Vects vs) = ColType.Vect
+
+-- the value that a cell spells stands behind the others of its column
+pub record IsCellPushed (cell : Result Value TableCause) (old new : Cells) : Type 0 where
+  pub value : Value
+  pub spelt : cell ≡ Ok value
+  pub added : new ≡ pushed old value
+
+-- the values that cells spell stand behind the others of their columns
+pub record AreCellsPushed (cells : Result (List Value) TableCause) (old new : List Cells) : Type 0 where
+  pub row : List Value
+  pub spelt : cells ≡ Ok row
+  pub added : new ≡ row_pushed old row
+
+-- the values of the row that an entry spells stand behind the others of their columns
+pub record IsRowPushed (entry : Result MarkedRow TableCause) (begins : Bool) (old new : List Cells) : Type 0 where
+  pub row : List Value
+  pub spelt : entry ≡ Ok (record { row = row; marked = begins })
+  pub added : new ≡ row_pushed old row

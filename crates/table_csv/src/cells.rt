@@ -47,7 +47,7 @@ fn read_mark(entry: u32, field: u32, cell: &[u8]) -> Result<bool, TableRefusal>
 }
 
 // Puts the values of an entry's cells behind the others of their columns.
-#[tactic(auto, using(crate::proofs::PushSteps::pushing_start, rdf_values::proofs::KeptLemmas::kept_length, crate::proofs::PushSteps::pushing_more))]
+#[tactic(auto, using(crate::proofs::RecordSteps::pushing_start, rdf_values::proofs::KeptLemmas::kept_length, crate::proofs::RecordSteps::pushing_more))]
 fn push_cells(
     entry: u32,
     columns: &[Column],

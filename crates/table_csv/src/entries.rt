@@ -31,7 +31,7 @@ pub(crate) fn read_heading(
 }
 
 /// The table of a header and of all records that are left, in one piece, with its marks.
-#[tactic(auto, using(crate::proofs::TableSteps::same_columns, crate::proofs::TableSteps::reading_opened, crate::proofs::CellSteps::row_early))]
+#[tactic(auto, using(crate::proofs::TableSteps::same_columns, crate::proofs::TableSteps::reading_opened, crate::proofs::RecordSteps::row_early))]
 pub(crate) fn read_entries(
     alloc: Global,
     heading: Heading,

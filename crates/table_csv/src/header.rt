@@ -86,7 +86,7 @@ pub(crate) struct Heading {
 }
 
 /// What the fields of a header say, or the first field that can't stand there.
-#[tactic(auto, using(crate::proofs::HeaderSteps::header_cut, crate::proofs::HeaderSteps::header_stop, crate::proofs::HeaderSteps::header_end))]
+#[tactic(auto, using(crate::proofs::TableSteps::header_cut, crate::proofs::TableSteps::header_stop, crate::proofs::TableSteps::header_end))]
 pub(crate) fn read_header(alloc: Global, header: &ByteRecord) -> Result<Heading, TableRefusal>
     ensures value { MatchResult result (λ h. header_from 0 [] (fields_of header.now) ≡ Ok (record { columns = h.columns; marked = h.marked }))
         (Refuses TableRefusal.At TableRefusal.Memory (header_from 0 [] (fields_of header.now))) }

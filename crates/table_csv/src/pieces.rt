@@ -65,7 +65,7 @@ pub(crate) fn read_piece(alloc: Global, head: &[u8], lines: &[u8]) -> Option<Mar
 }
 
 // Puts the marks of entries behind those of so many entries before them.
-#[tactic(auto, using(crate::proofs::CellSteps::marks_above, crate::proofs::CellSteps::mark_few, crate::proofs::CellSteps::marks_more))]
+#[tactic(auto, using(crate::proofs::RecordSteps::marks_above, crate::proofs::RecordSteps::mark_few, crate::proofs::RecordSteps::marks_more))]
 fn append_marks(marks: &mut Marks, entries: u32, more: &Marks) -> Result<(), Memory>
     requires before { All (λ m. m < entries) marks.old }
     requires few { All (λ m. entries + m < 1000000) more.now }

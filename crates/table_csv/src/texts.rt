@@ -2,7 +2,7 @@
 ghost use Rattle.std.specs.List.{list_any};
 ghost use Rattle.std.specs.Prelude.{◌≡◌, ◌≤◌, ◌++◌, All, IfOk, OnOk, drop, length, position};
 ghost use Rattle.columns.specs.{joined};
-ghost use Rattle.table_csv.specs.Lines.{EndsLine, is_line_end, is_quote, is_special, IsCut};
+ghost use Rattle.table_csv.specs.Pieces.{EndsLine, is_line_end, is_quote, is_special, IsCut};
 
 use memchr::{memchr, memchr2};
 use rdf_values::{Bytes, Memory};
@@ -10,7 +10,7 @@ use std::alloc::Global;
 use std::marker::Model;
 
 /// Whether a double quote stands in the bytes.
-#[tactic(auto, using(crate::proofs::CutLines::found_any))]
+#[tactic(auto, using(crate::proofs::RecordSteps::found_any))]
 pub(crate) fn has_quote(bytes: &[u8]) -> bool
     ensures { result ≡ list_any is_quote bytes.now }
 {
@@ -18,7 +18,7 @@ pub(crate) fn has_quote(bytes: &[u8]) -> bool
 }
 
 /// Whether a double quote stands in the bytes, or the byte with which a byte order mark begins.
-#[tactic(auto, using(crate::proofs::CutLines::found_any))]
+#[tactic(auto, using(crate::proofs::RecordSteps::found_any))]
 pub(crate) fn has_special(bytes: &[u8]) -> bool
     ensures { result ≡ list_any is_special bytes.now }
 {
@@ -32,7 +32,7 @@ fn find_line_end(bytes: &[u8]) -> Option<usize>
 }
 
 /// The bytes up to the first line's end from a place on, and those behind it.
-#[tactic(auto, using(crate::proofs::CutLines::lines_to, rdf_values::proofs::Fronts::rest_of))]
+#[tactic(auto, using(crate::proofs::RecordSteps::lines_to, rdf_values::proofs::Fronts::rest_of))]
 pub(crate) fn cut_lines(bytes: &[u8], from: usize) -> (&[u8], &[u8])
     requires { from ≤ length bytes.now }
     ensures whole { result.0.now ++ result.1.now ≡ bytes.now }
@@ -116,7 +116,7 @@ fn share(bytes: usize, some: u32, all: u32) -> usize
 }
 
 /// The first half of the texts and the other half. A single text is cut behind a line, by the slots of either half.
-#[tactic(auto, using(crate::proofs::CutLines::halves_whole, crate::proofs::CutLines::behind_ends))]
+#[tactic(auto, using(crate::proofs::RecordSteps::halves_whole, crate::proofs::RecordSteps::behind_ends))]
 pub(crate) fn halved(texts: Texts<'_>, some: u32, all: u32) -> (Texts<'_>, Texts<'_>)
     requires some { some ≤ all }
     requires lines { All EndsLine texts.lines.now }

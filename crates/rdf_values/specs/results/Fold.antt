@@ -104,8 +104,6 @@ flat_cell edges items i = cell_of (flat_map (weight_in edges i) items)
 abbrev pub square_cell : List ℤ → List ℤ → List Item → ℕ → ℕ → Cell
 square_cell xs ys items i j = cell_of (flat_map (weight_in2 xs ys i j) items)
 
--- ---- all actions
-
 -- what the action makes of the items
 abbrev pub fold_items : ActionKind → List Item → Filled
 fold_items ActionKind.Count items = Count (length items)

@@ -1,4 +1,4 @@
-use Rattle.std.proofs.Common.{◌≡◌, ◌<◌, ◌^◌, All, false, get_or, pos, take, nat_abs}
+use Rattle.lemmas.proofs.{◌≡◌, ◌<◌, ◌^◌, All, false, get_or, pos, take, nat_abs}
 use Rattle.actions.specs.{places_of}
 use Rattle.actions.proofs.batch.any_heavy.Given as goal
 

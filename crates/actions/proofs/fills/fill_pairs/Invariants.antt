@@ -1,4 +1,4 @@
-use Rattle.std.proofs.Common.{◌≡◌, ◌+◌, ◌++◌, take, length, List}
+use Rattle.lemmas.proofs.{◌≡◌, ◌+◌, ◌++◌, take, length, List}
 use Rattle.rdf_values.specs.{Item, points2, weights}
 use Rattle.histograms.specs.{HasFilled2}
 use Rattle.actions.specs.{part_values}

@@ -1,4 +1,4 @@
-use Rattle.std.proofs.Common.{◌≡◌, ◌+◌, ◌++◌, List, get_or, map, pos, take}
+use Rattle.lemmas.proofs.{◌≡◌, ◌+◌, ◌++◌, List, get_or, map, pos, take}
 use Rattle.rdf_values.specs.{Item}
 use Rattle.rdf_values.specs.declared.results.Item.TheVariants.{Point}
 use Rattle.histograms.specs.{HasFilled}

@@ -1,4 +1,4 @@
-use Rattle.std.proofs.Common.{arith, ℤ, ◌++◌, List, append-nil, sym, subst, ◌∙◌, ap}
+use Rattle.lemmas.proofs.{arith, ℤ, ◌++◌, List, append-nil, sym, subst, ◌∙◌, ap}
 use Rattle.actions.specs.{places_of}
 use Rattle.actions.proofs.Batching.{few_numbers, no_numbers_in}
 use Rattle.actions.proofs.folding.fold_batch.Goals as goal

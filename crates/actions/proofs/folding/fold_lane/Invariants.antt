@@ -1,4 +1,4 @@
-use Rattle.std.proofs.Common.{ℤ, ◌≤◌, ◌+◌, ◌*◌, ◌^◌, ◌++◌, List, length, take}
+use Rattle.lemmas.proofs.{ℤ, ◌≤◌, ◌+◌, ◌*◌, ◌^◌, ◌++◌, List, length, take}
 use Rattle.actions.specs.{numbers_in, places_of}
 use Rattle.actions.proofs.folding.fold_lane.Given as goal
 

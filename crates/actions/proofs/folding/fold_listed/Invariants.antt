@@ -1,4 +1,4 @@
-use Rattle.std.proofs.Common.{ℤ, ◌≤◌, ◌+◌, ◌*◌, ◌^◌, ◌++◌, List, get_or, map, pos, take}
+use Rattle.lemmas.proofs.{ℤ, ◌≤◌, ◌+◌, ◌*◌, ◌^◌, ◌++◌, List, get_or, map, pos, take}
 use Rattle.actions.proofs.folding.fold_listed.Given as goal
 
 abbrev pub invariant-loop-place : goal.invariant-loop-place

@@ -1,6 +1,6 @@
-use Rattle.std.proofs.Common.{◌∙◌, sym, subst}
+use Rattle.lemmas.proofs.{◌∙◌, sym, subst}
 use Rattle.rdf_values.specs.{EachColumn, NumTree}
-use Rattle.expr_eval.proofs.OfItsKind.{known_columns}
+use Rattle.expr_eval.proofs.InOrder.{known_columns}
 use Rattle.block_cache.proofs.able.can_evaluate.Goals as goal
 
 pub is_operator_able-requires : goal.is_operator_able-requires

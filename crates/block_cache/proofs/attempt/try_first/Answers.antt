@@ -1,7 +1,7 @@
-use Rattle.std.proofs.Common.{refl}
+use Rattle.lemmas.proofs.{refl}
 use Rattle.std.proofs.lemmas.Result.{on_err_weaker, on_ok_weaker}
 use Rattle.loop_keys.specs.{job_of}
-use Rattle.loop_keys.proofs.PlainLaws.{plain_expr}
+use Rattle.loop_keys.proofs.ActionLaws.{plain_expr}
 use Rattle.block_cache.proofs.OverLaws.{begun_over, fits_over, own_at, reads_over, tried_over}
 use Rattle.block_cache.proofs.attempt.try_first.Goals as goal
 

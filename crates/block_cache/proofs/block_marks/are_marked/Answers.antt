@@ -1,5 +1,5 @@
-use Rattle.std.proofs.Common.{◌<◌, ℕ, List, get_or, length, arith, subst, sym, ap}
-use Rattle.expr_lanes.proofs.Selected.{is_in_at}
+use Rattle.lemmas.proofs.{◌<◌, ℕ, List, get_or, length, arith, subst, sym, ap}
+use Rattle.expr_lanes.proofs.Composed.{is_in_at}
 use Rattle.block_cache.proofs.block_marks.are_marked.Goals as goal
 
 pub bounds-marks-place : goal.bounds-marks-place

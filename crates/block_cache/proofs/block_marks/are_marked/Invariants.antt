@@ -1,4 +1,4 @@
-use Rattle.std.proofs.Common.{◌≡◌, true, take}
+use Rattle.lemmas.proofs.{◌≡◌, true, take}
 use Rattle.expr_lanes.specs.{EachPlace, is_marked}
 use Rattle.block_cache.proofs.block_marks.are_marked.Given as goal
 

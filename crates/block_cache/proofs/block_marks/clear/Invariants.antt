@@ -1,4 +1,4 @@
-use Rattle.std.proofs.Common.{◌≡◌, ◌<◌, ◌≤◌, ℕ, false}
+use Rattle.lemmas.proofs.{◌≡◌, ◌<◌, ◌≤◌, ℕ, false}
 use Rattle.expr_lanes.specs.{is_marked}
 use Rattle.block_cache.proofs.block_marks.clear.Given as goal
 

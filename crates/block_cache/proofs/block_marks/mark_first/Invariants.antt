@@ -1,6 +1,6 @@
-use Rattle.std.specs.List.{range_with_len}
-use Rattle.block_cache.proofs.Marking.{IsMarkedTo}
+use Rattle.lemmas.proofs.{◌≡◌}
+use Rattle.block_cache.specs.{marked_to}
 use Rattle.block_cache.proofs.block_marks.mark_first.Given as goal
 
 abbrev pub invariant-loop-i : goal.invariant-loop-i
-invariant-loop-i l = IsMarkedTo (range_with_len 0 l.count) l.initial.marks l.marks l.i
+invariant-loop-i l = l.marks ≡ marked_to l.i l.initial.marks

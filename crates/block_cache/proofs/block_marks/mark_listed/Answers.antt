@@ -1,6 +1,6 @@
-use Rattle.std.proofs.Common.{◌<◌, arith, refl, get_or, length}
-use Rattle.block_cache.proofs.Marking.{mark_one}
-use Rattle.expr_lanes.proofs.Selected.{is_in_at}
+use Rattle.lemmas.proofs.{◌<◌, arith, refl, get_or, length}
+use Rattle.block_cache.proofs.LaneSteps.{mark_one}
+use Rattle.expr_lanes.proofs.Composed.{is_in_at}
 use Rattle.block_cache.proofs.block_marks.mark_listed.Goals as goal
 
 pub bounds-marks-places : goal.bounds-marks-places

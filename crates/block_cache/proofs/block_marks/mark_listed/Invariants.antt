@@ -1,4 +1,4 @@
-use Rattle.block_cache.proofs.Marking.{IsMarkedTo}
+use Rattle.block_cache.proofs.LaneSteps.{IsMarkedTo}
 use Rattle.block_cache.proofs.block_marks.mark_listed.Given as goal
 
 abbrev pub invariant-loop-i : goal.invariant-loop-i

@@ -1,7 +1,7 @@
-use Rattle.std.proofs.Common.{◌≡◌, ◌<◌, arith, get_or, length}
+use Rattle.lemmas.proofs.{◌≡◌, ◌<◌, arith, get_or, length}
 use Rattle.std.proofs.lemmas.List.{get_or_default}
-use Rattle.expr_lanes.proofs.Selected.{is_in_at}
-use Rattle.block_cache.proofs.EachPlaces.{turned_more}
+use Rattle.expr_lanes.proofs.Composed.{is_in_at}
+use Rattle.block_cache.proofs.LaneSteps.{turned_more}
 use Rattle.block_cache.proofs.each_place.each_place.Goals as goal
 
 pub at-answer-requires-clause-inside : goal.at-answer-requires-clause-inside

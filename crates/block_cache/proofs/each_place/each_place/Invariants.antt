@@ -1,6 +1,6 @@
-use Rattle.std.proofs.Common.{◌≡◌, ◌+◌}
+use Rattle.lemmas.proofs.{◌≡◌, ◌+◌}
 use Rattle.block_cache.specs.{outcome_over}
-use Rattle.block_cache.proofs.EachPlaces.{AreTurnedTo}
+use Rattle.block_cache.proofs.LaneSteps.{AreTurnedTo}
 use Rattle.block_cache.proofs.each_place.each_place.Given as goal
 
 abbrev pub invariant-loop-i : goal.invariant-loop-i

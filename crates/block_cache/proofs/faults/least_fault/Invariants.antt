@@ -1,4 +1,4 @@
-use Rattle.std.proofs.Common.{take}
+use Rattle.lemmas.proofs.{take}
 use Rattle.block_cache.specs.{IsLeastFault}
 use Rattle.block_cache.proofs.faults.least_fault.Given as goal
 

@@ -1,9 +1,8 @@
-use Rattle.std.proofs.Common.{◌≡◌, ◌+◌, ◌∙◌, arith, length, rules}
+use Rattle.lemmas.proofs.{◌≡◌, ◌+◌, ◌∙◌, arith, length, rules}
 use Rattle.loop_keys.specs.{job_of}
-use Rattle.block_cache.proofs.CanFills.{can_below, can_moved, met_used}
-use Rattle.block_cache.proofs.CanTries.{can_try}
-use Rattle.block_cache.proofs.StopLists.{on_err}
-use Rattle.block_cache.proofs.UnderwayLaws.{ended_filled, ended_settled, left_lacks, left_selected, resumed_as, turn_broken, turn_lower, turn_selected, turn_settled, turn_spent, turn_waits, turned, turned_less}
+use Rattle.block_cache.proofs.Attempts.{can_below, can_moved, met_used, can_try}
+use Rattle.block_cache.proofs.LaneSteps.{on_err}
+use Rattle.block_cache.proofs.UnderwayLaws.{ended_filled, ended_settled, left_lacks, left_selected, turn_broken, turn_lower, turn_selected, turn_settled, turn_spent, turn_waits, turned, turned_less}
 use Rattle.block_cache.proofs.fill.+fill_site.Goals as goal
 
 pub begin-requires-clause-can : goal.begin-requires-clause-can
@@ -66,13 +65,13 @@ pub loop-level-smaller : goal.loop-level-smaller
 loop-level-smaller g t c =
     turned_less c.args.wanted.now c.loop-level.invariant c.next_group.result c.next_group.ensures.group _ c.next_group.ensures.first c.needed_site-site.result c.needed_site-site.ensures
     c.in_ok-below-in-Some.ensures.spent c.in_ok-below-in-Some.ensures.filled c.in_ok-below-in-Some.ensures.settled c.in_ok-below-in-Some.ensures.begun
-    (resumed_as c.args.wanted.now c.in_ok-fault-2.ensures.resumed c.lowered.ensures c.next_group.ensures.lacking c.next_group.ensures.needs) c.in_ok-fault-2.ensures.steps
+    (rw (c.lowered.ensures, c.next_group.ensures.lacking, c.next_group.ensures.needs) at c.in_ok-fault-2.ensures.resumed) c.in_ok-fault-2.ensures.steps
 
 pub loop-level-preserved : goal.loop-level-preserved
 loop-level-preserved g t c =
     turned c.args.wanted.now c.loop-level.invariant c.next_group.result c.next_group.ensures.group _ c.next_group.ensures.first c.needed_site-site.result c.needed_site-site.ensures
     c.in_ok-below-in-Some.ensures.spent c.in_ok-below-in-Some.ensures.filled c.in_ok-below-in-Some.ensures.settled c.in_ok-below-in-Some.ensures.begun
-    (resumed_as c.args.wanted.now c.in_ok-fault-2.ensures.resumed c.lowered.ensures c.next_group.ensures.lacking c.next_group.ensures.needs) c.in_ok-fault-2.ensures.steps
+    (rw (c.lowered.ensures, c.next_group.ensures.lacking, c.next_group.ensures.needs) at c.in_ok-fault-2.ensures.resumed) c.in_ok-fault-2.ensures.steps
 
 pub returns-clause-filled : goal.returns-clause-filled
 returns-clause-filled g t c = ended_filled c.args.wanted.now c.loop-level.invariant (omega (arith, c.len.ensures.count, c.loop-level-test.false)) c.begin.ensures.rising c.keep_below.ensures

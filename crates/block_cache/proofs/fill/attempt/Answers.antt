@@ -1,10 +1,9 @@
-use Rattle.std.proofs.Common.{arith, ap, ◌∙◌, subst, List, get_or, Contains}
+use Rattle.lemmas.proofs.{ℕ, ap, arith, length, subst, List, get_or, Contains}
 use Rattle.std.proofs.lemmas.List.Elements.{Contains-get_or}
 use Rattle.expr_lanes.specs.{Stopped}
-use Rattle.block_cache.specs.{need_at}
-use Rattle.block_cache.proofs.StopLists.{on_err}
-use Rattle.block_cache.proofs.Attempts.{attempted, place_inside, whole}
-use Rattle.block_cache.proofs.BegunLanes.{broken_off}
+use Rattle.block_cache.proofs.LaneSteps.{on_err}
+use Rattle.block_cache.proofs.Attempts.{attempted, place_inside, all_held}
+use Rattle.block_cache.proofs.OverLaws.{broken_off}
 use Rattle.block_cache.proofs.fill.attempt.Goals as goal
 
 pub note_needs-requires : goal.note_needs-requires
@@ -16,11 +15,10 @@ note_needs-requires g c = λ k d low.
 pub returns-clause-attempted : goal.returns-clause-attempted
 returns-clause-attempted g c =
     let tried = rw c.clear.ensures at c.in_ok-try_lane.ensures.tried in
-    attempted c.args.wanted.now tried c.requires.selected.inside c.requires.lacks _ (rw c.as_slice-2.ensures.value at c.least_fault.ensures) _ _ (rw c.as_slice.ensures.value at c.note_needs.ensures.noted)
-    (λ p none. (rw c.as_slice.ensures.value at c.note_needs.ensures.others) p none ∙ ap (λ n. need_at n p) c.try_lane.ensures.needs)
+    attempted c.args.wanted.now tried c.requires.selected.inside c.requires.lacks _ (rw c.as_slice-2.ensures.value at c.least_fault.ensures) _ _ (omega (arith, c.requires.selected.small, ap (λ (l : List ℕ). length l) c.try_lane.ensures.needs)) (rw (c.as_slice.ensures.value, c.try_lane.ensures.needs) at c.note_needs.ensures)
 
 pub returns-in_err-try_lane-clause-broken : goal.returns-in_err-try_lane-clause-broken
 returns-in_err-try_lane-clause-broken g c = on_err c.from_residual.result (broken_off c.args.wanted.now c.in_err-try_lane.ensures.begun c.try_lane.ensures.few)
 
 pub returns-clause-whole : goal.returns-clause-whole
-returns-clause-whole g c = whole c.args.wanted.now (rw c.clear.ensures at c.in_ok-try_lane.ensures.tried) c.requires.selected.inside c.requires.lacks
+returns-clause-whole g c = all_held c.args.wanted.now (rw c.clear.ensures at c.in_ok-try_lane.ensures.tried) c.requires.selected.inside c.requires.lacks

@@ -1,11 +1,9 @@
-use Rattle.std.proofs.Common.{◌≡◌, ◌==◌, ◌∷◌, [], List, arith, length, refl, sym, true}
+use Rattle.lemmas.proofs.{◌≡◌, ◌==◌, ◌∷◌, [], List, arith, length, refl, sym, true, not-true}
 use Rattle.std.proofs.lemmas.Bool.Decides.{Decides-eqb}
 use Rattle.expr_lanes.specs.{Stopped}
-use Rattle.block_cache.proofs.StopLists.{on_err}
+use Rattle.block_cache.proofs.LaneSteps.{on_err, filter_passes}
 use Rattle.block_cache.proofs.UnderwayLaws.{began, began_broken, began_rest, began_selected, began_whole}
 use Rattle.block_cache.proofs.fill.begin.Goals as goal
-use Rattle.lemmas.proofs.{not_true}
-use Rattle.block_cache.proofs.Members.{filter_passes}
 
 none_stopped : (stops : List Stopped) → (length stops == 0) ≡ true → stops ≡ []
 none_stopped [] h = refl
@@ -16,7 +14,7 @@ attempt-requires-clause-selected g c =
     began_selected c.args.wanted.now c.requires.ready c.requires.selected c.requires.settled (rw c.copy_from.ensures at c.keep_lacking.ensures)
 
 pub attempt-requires-clause-lacks : goal.attempt-requires-clause-lacks
-attempt-requires-clause-lacks = grind (arith, not_true, filter_passes)
+attempt-requires-clause-lacks = grind (arith, not-true, filter_passes)
 
 pub returns-in_err-found-clause-spent : goal.returns-in_err-found-clause-spent
 returns-in_err-found-clause-spent g c =

@@ -1,5 +1,5 @@
-use Rattle.std.proofs.Common.{arith}
-use Rattle.block_cache.proofs.LaneLists.{begun_more}
+use Rattle.lemmas.proofs.{arith}
+use Rattle.block_cache.proofs.LaneSteps.{begun_more}
 use Rattle.block_cache.proofs.lanes.begin_block.Goals as goal
 
 pub loop-i-preserved : goal.loop-i-preserved

@@ -1,4 +1,4 @@
-use Rattle.block_cache.proofs.LaneLists.{AreBegunTo}
+use Rattle.block_cache.proofs.LaneSteps.{AreBegunTo}
 use Rattle.block_cache.proofs.lanes.begin_block.Given as goal
 
 abbrev pub invariant-loop-i : goal.invariant-loop-i

@@ -1,5 +1,5 @@
-use Rattle.std.proofs.Common.{arith}
-use Rattle.block_cache.proofs.LaneLists.{made_more}
+use Rattle.lemmas.proofs.{arith}
+use Rattle.block_cache.proofs.LaneSteps.{made_more}
 use Rattle.block_cache.proofs.lanes.new_lanes.Goals as goal
 
 pub loop-i-preserved : goal.loop-i-preserved

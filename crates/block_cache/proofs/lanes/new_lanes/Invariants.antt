@@ -1,4 +1,4 @@
-use Rattle.block_cache.proofs.LaneLists.{AreMade}
+use Rattle.block_cache.proofs.LaneSteps.{AreMade}
 use Rattle.block_cache.proofs.lanes.new_lanes.Given as goal
 
 abbrev pub invariant-loop-i : goal.invariant-loop-i

@@ -1,5 +1,5 @@
-use Rattle.std.proofs.Common.{arith, rules}
-use Rattle.block_cache.proofs.LeadLaws.{can_lead, held_filled, lead_lower, lead_used, led_begun, led_filled, led_selected, led_spent}
+use Rattle.lemmas.proofs.{arith, rules}
+use Rattle.block_cache.proofs.UnderwayLaws.{can_lead, held_filled, lead_lower, lead_used, led_begun, led_filled, led_selected, led_spent}
 use Rattle.block_cache.proofs.leads.+fill_led.Goals as goal
 
 pub returns-then-is_held-clause-filled : goal.returns-then-is_held-clause-filled

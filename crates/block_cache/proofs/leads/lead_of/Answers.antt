@@ -1,7 +1,7 @@
-use Rattle.std.proofs.Common.{ap, arith, sym, ◌∙◌}
+use Rattle.lemmas.proofs.{ap, arith, sym, ◌∙◌}
 use Rattle.std.proofs.lemmas.Option.{IfSome_then}
 use Rattle.block_cache.specs.{first_read}
-use Rattle.block_cache.proofs.LeadLaws.{lead_key, met_by, met_there}
+use Rattle.block_cache.proofs.UnderwayLaws.{lead_key, met_by, met_there}
 use Rattle.block_cache.proofs.leads.lead_of.Goals as goal
 
 pub key_read-requires : goal.key_read-requires

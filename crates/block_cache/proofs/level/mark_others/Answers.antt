@@ -1,7 +1,7 @@
-use Rattle.std.proofs.Common.{◌<◌, arith, get_or, length, nat_eq, not}
-use Rattle.expr_lanes.proofs.Selected.{is_in_at}
+use Rattle.lemmas.proofs.{◌<◌, arith, get_or, length, nat_eq, not}
+use Rattle.expr_lanes.proofs.Composed.{is_in_at}
 use Rattle.block_cache.specs.{need_at}
-use Rattle.block_cache.proofs.StopLists.{marked_at}
+use Rattle.block_cache.proofs.LaneSteps.{marked_at}
 use Rattle.block_cache.proofs.level.mark_others.Goals as goal
 
 pub bounds-needs-place : goal.bounds-needs-place

@@ -1,4 +1,4 @@
-use Rattle.std.proofs.Common.{◌≡◌, not, nat_eq, take}
+use Rattle.lemmas.proofs.{◌≡◌, not, nat_eq, take}
 use Rattle.expr_lanes.specs.{EachPlace, is_marked}
 use Rattle.block_cache.specs.{need_at}
 use Rattle.block_cache.proofs.level.mark_others.Given as goal

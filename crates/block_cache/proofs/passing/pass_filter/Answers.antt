@@ -1,8 +1,8 @@
-use Rattle.std.proofs.Common.{◌≡◌, ◌∙◌, ap, arith, get_or, List, slice_get}
+use Rattle.lemmas.proofs.{◌≡◌, ◌∙◌, ap, arith, get_or, List, slice_get}
 use Rattle.rdf_values.specs.{ColType}
 use Rattle.block_cache.specs.{own_key}
-use Rattle.block_cache.proofs.Members.{below_selected}
-use Rattle.block_cache.proofs.PassedLaws.{passed_with, truth_scalar}
+use Rattle.block_cache.proofs.LaneSteps.{below_selected}
+use Rattle.block_cache.proofs.Attempts.{passed_with, truth_scalar}
 use Rattle.block_cache.proofs.passing.pass_filter.Goals as goal
 
 pub returns-in_err-fault-clause-plain : goal.returns-in_err-fault-clause-plain

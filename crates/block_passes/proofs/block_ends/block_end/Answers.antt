@@ -1,8 +1,7 @@
-use Rattle.std.proofs.Common.{arith}
+use Rattle.lemmas.proofs.{arith, range_length}
 use Rattle.block_passes.proofs.FirstLengths.{stop_at}
 use Rattle.block_passes.proofs.block_ends.block_end.Goals as goal
-use Rattle.lemmas.proofs.{range_length}
-use Rattle.block_laws.proofs.BlockCuts.{plain_first}
+use Rattle.block_laws.proofs.Costs.{plain_first}
 
 pub returns-then-elements-gt-MAX_ELEMENTS : goal.returns-then-elements-gt-MAX_ELEMENTS
 returns-then-elements-gt-MAX_ELEMENTS c =

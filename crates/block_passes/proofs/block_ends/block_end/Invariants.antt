@@ -1,4 +1,4 @@
-use Rattle.std.proofs.Common.{◌≤◌}
+use Rattle.lemmas.proofs.{◌≤◌}
 use Rattle.block_passes.proofs.FirstLengths.{IsAtEnd}
 use Rattle.block_passes.proofs.block_ends.block_end.Given as goal
 

@@ -1,4 +1,4 @@
-use Rattle.std.proofs.Common.{◌∙◌, ap, arith, length}
+use Rattle.lemmas.proofs.{◌∙◌, ap, arith, length}
 use Rattle.block_passes.proofs.FirstLengths.{all_cells, next_cells}
 use Rattle.block_passes.proofs.block_ends.entry_elements.Goals as goal
 

@@ -1,4 +1,4 @@
-use Rattle.std.proofs.Common.{◌≡◌, ◌*◌, ◌≤◌, List, Some, slice_get, take, sum_by}
+use Rattle.lemmas.proofs.{◌≡◌, ◌*◌, ◌≤◌, List, Some, slice_get, take, sum_by}
 use Rattle.rdf_values.specs.{Value}
 use Rattle.block_laws.specs.{elements_in}
 use Rattle.block_passes.proofs.block_ends.entry_elements.Given as goal

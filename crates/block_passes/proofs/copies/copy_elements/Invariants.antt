@@ -1,4 +1,4 @@
-use Rattle.std.proofs.Common.{◌≡◌, ◌+◌, ◌<◌, ℕ, get_or, length}
+use Rattle.lemmas.proofs.{◌≡◌, ◌+◌, ◌<◌, ℕ, get_or, length}
 use Rattle.graph_numbers.specs.{Source, source_value}
 use Rattle.loop_keys.specs.{row_of, site_in}
 use Rattle.block_passes.specs.{GivesNumber, turn_job}

@@ -1,7 +1,7 @@
-use Rattle.std.proofs.Common.{◌∙◌, ◌+◌, ℕ, arith}
+use Rattle.lemmas.proofs.{◌∙◌, ◌+◌, ℕ, arith}
 use Rattle.loop_keys.specs.{site_in}
 use Rattle.block_passes.specs.{GivesVector, turn_job}
-use Rattle.block_passes.proofs.Searching.{each_at, vectors_more}
+use Rattle.block_passes.proofs.PlanSteps.{each_at, vectors_more}
 use Rattle.block_passes.proofs.copies.copy_vectors.Goals as goal
 
 pub loop-i-preserved : goal.loop-i-preserved

@@ -1,4 +1,4 @@
-use Rattle.std.proofs.Common.{◌≡◌, ◌+◌, ◌<◌, ℕ, get_or, length}
+use Rattle.lemmas.proofs.{◌≡◌, ◌+◌, ◌<◌, ℕ, get_or, length}
 use Rattle.loop_keys.specs.{site_in}
 use Rattle.block_passes.specs.{GivesVector, turn_job}
 use Rattle.block_passes.proofs.copies.copy_vectors.Given as goal

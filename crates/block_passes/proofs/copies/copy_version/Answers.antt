@@ -1,9 +1,10 @@
-use Rattle.std.proofs.Common.{◌∙◌, Some, ap, subst, sym}
+use Rattle.lemmas.proofs.{◌∙◌, Some, ap, subst, sym}
 use Rattle.graph_numbers.specs.{Source}
 use Rattle.block_cache.specs.{kinds_of}
-use Rattle.block_passes.specs.{IsPlainSource, IsServable, turn_job}
+use Rattle.loop_keys.specs.{IsSourceIn}
+use Rattle.block_passes.specs.{IsServable, turn_job}
 use Rattle.block_passes.proofs.Serving.{lane_of_kind}
-use Rattle.block_passes.proofs.SiteKinds.{element_kind}
+use Rattle.block_passes.proofs.Demanding.{element_kind}
 use Rattle.block_passes.proofs.copies.copy_version.Goals as goal
 
 pub copy_vectors-requires-clause-vectors : goal.copy_vectors-requires-clause-vectors
@@ -20,4 +21,4 @@ returns-in_err-copy_elements-in-Element-clause-plain g c = λ used p source.
     let e = c.source_under.ensures ∙ c.in-Element.is in
     let w = c.site_kind-kind.ensures.expr in
     let vectors = element_kind (turn_job c.args.at.now) c.requires.over.turn.fits.job c.args.under c.args.version c.in-Element.site c.in-Element.place c.in-Element.tags e w.0 w.1 in
-    absurd (c.site_kind-kind.ensures.plain used p (subst (IsPlainSource (turn_job c.args.at.now) used) e source) (w.2 ∙ vectors))
+    absurd (c.site_kind-kind.ensures.plain used p (subst (IsSourceIn used) e source) (w.2 ∙ vectors))

@@ -1,4 +1,4 @@
-use Rattle.std.proofs.Common.{◌∙◌, subst, sym}
+use Rattle.lemmas.proofs.{◌∙◌, subst, sym}
 use Rattle.graph_numbers.specs.{GraphView, IsSiteExpr}
 use Rattle.block_passes.specs.{turn_job}
 use Rattle.block_passes.proofs.Serving.{site_no_vector}

@@ -1,4 +1,4 @@
-use Rattle.std.proofs.Common.{◌≡◌, ◌∙◌, ap, arith, length, subst, ℕ}
+use Rattle.lemmas.proofs.{◌≡◌, ◌∙◌, ap, arith, length, subst, ℕ}
 use Rattle.graph_numbers.specs.{graph_filters, GraphView}
 use Rattle.loop_keys.specs.{facts_in, job_graph}
 use Rattle.cluster_tally.specs.{HoldsIn}

@@ -1,4 +1,4 @@
-use Rattle.std.proofs.Common.{length, refl}
+use Rattle.lemmas.proofs.{length, refl}
 use Rattle.rdf_model.specs.{kinds_in}
 use Rattle.cluster_tally.specs.{block_begin}
 use Rattle.loop_keys.specs.{passes_in}
@@ -8,14 +8,13 @@ use Rattle.block_passes.proofs.ending.take_in.Goals as goal
 
 pub feed_passes-requires-clause-begin : goal.feed_passes-requires-clause-begin
 feed_passes-requires-clause-begin g c =
-    let j = turn_job c.args.at.now in
     let b = c.requires.before in (
       b.0,
       block_begin b.1 c.args.at.now.count,
-      begun_amid j c.args.at.now.first c.args.at.now.count c.args.cluster b.0 b.1 c.args.tally.now b.2,
+      begun_amid _ c.args.at.now.first c.args.at.now.count c.args.cluster b.0 b.1 c.args.tally.now b.2,
       b.2.its_cluster,
       refl,
-      begun_holds j c.args.at.now.first c.args.at.now.count c.args.cluster b.0 b.1 c.args.tally.now b.2,
+      begun_holds _ c.args.at.now.first c.args.at.now.count c.args.cluster b.0 b.1 c.args.tally.now b.2,
     )
 
 pub note_filters-requires-clause-begin : goal.note_filters-requires-clause-begin

@@ -8,10 +8,7 @@ pub returns-clause-holds : goal.returns-clause-holds
 returns-clause-holds g c = λ f watched s any. c.feed_batch.ensures.holds f watched s (any (record { places = c.batch_places-places.result; sources = c.gather-sources.result }) (record { places = c.batch_places-places.ensures; gathered = c.gather-sources.ensures })).0
 
 pub returns-clause-plain : goal.returns-clause-plain
-returns-clause-plain g c = λ used p sources.
+returns-clause-plain g c = λ plain.
     let b = c.requires.feed in
     let can = b.3 (record { places = c.batch_places-places.result; sources = c.gather-sources.result }) (record { places = c.batch_places-places.ensures; gathered = c.gather-sources.ensures }) in
     only_takes c.args.own.now.kind.now can.0.kind can.1 c.feed_batch.result (c.feed_batch.ensures.memory b.0 b.1 b.2 can.0)
-
-pub returns-in_err-copies-clause-plain : goal.returns-in_err-copies-clause-plain
-returns-in_err-copies-clause-plain g c = λ used plain its. absurd (c.in_err-copies.ensures.plain used plain its)

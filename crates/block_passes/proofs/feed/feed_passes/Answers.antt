@@ -1,6 +1,6 @@
-use Rattle.std.proofs.Common.{◌≡◌, None, arith, length, refl}
+use Rattle.lemmas.proofs.{◌≡◌, None, arith, length, refl}
 use Rattle.loop_keys.specs.{passes_in}
-use Rattle.loop_keys.proofs.EntryLaws.{read_pass}
+use Rattle.loop_keys.proofs.PassNumbers.{read_pass}
 use Rattle.block_passes.specs.{at_pass, turn_job}
 use Rattle.block_passes.proofs.Feeding.{fed_all}
 use Rattle.block_passes.proofs.feed.feed_passes.Goals as goal

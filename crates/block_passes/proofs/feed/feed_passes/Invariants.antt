@@ -1,4 +1,4 @@
-use Rattle.std.proofs.Common.{◌≡◌}
+use Rattle.lemmas.proofs.{◌≡◌}
 use Rattle.loop_keys.specs.{actions_before}
 use Rattle.block_passes.specs.{turn_job}
 use Rattle.block_passes.proofs.Feeding.{IsFedTo}

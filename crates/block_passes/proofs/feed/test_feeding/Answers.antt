@@ -1,4 +1,4 @@
-use Rattle.std.proofs.Common.{◌+◌, arith}
+use Rattle.lemmas.proofs.{◌+◌, arith}
 use Rattle.loop_keys.specs.{version_in}
 use Rattle.block_passes.specs.{unfed, turn_job}
 use Rattle.block_passes.proofs.Feeding.{few_fed}

@@ -1,5 +1,5 @@
 use Rattle.block_passes.specs.{unfed, turn_job}
-use Rattle.block_passes.proofs.Searching.{fault_few}
+use Rattle.block_passes.proofs.PlanSteps.{fault_few}
 use Rattle.block_passes.proofs.Feeding.{part_served}
 use Rattle.block_passes.proofs.feed.test_several.Goals as goal
 
@@ -13,6 +13,3 @@ returns-clause-tested g c =
     part_served (turn_job c.args.at.now) c.args.at.now.first c.args.at.now.count (unfed (turn_job c.args.at.now) c.args.at.now.first c.args.own.now.kind.now c.args.own.now.inputs.now c.args.own.now.under) c.args.at.now.pass c.args.to.now c.narrow-made.new.self c.args.work.now.lanes.items c.args.work.now.found c.note.new.self
     c.in_ok-fault.fault c.requires.known.ready c.requires.known.settled c.as_slice-rising.ensures.rising c.requires.selected.inside c.in_ok-fault.ensures.fault c.note.ensures
     c.requires.selected.made (c.narrow-made.ensures.some c.args.work.now.found.limit c.requires.selected.made)
-
-pub returns-in_err-fault-clause-plain : goal.returns-in_err-fault-clause-plain
-returns-in_err-fault-clause-plain g c = λ used p sources. absurd (c.in_err-fault.ensures.plain used p sources)

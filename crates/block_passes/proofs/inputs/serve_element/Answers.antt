@@ -1,10 +1,9 @@
-use Rattle.std.proofs.Common.{arith}
-use Rattle.block_passes.proofs.Serving.{element_held, element_served, served_inside}
+use Rattle.lemmas.proofs.{arith}
+use Rattle.block_passes.proofs.Serving.{element_held, element_served, served_selected}
 use Rattle.block_passes.proofs.inputs.serve_element.Goals as goal
 
 pub test_elements-requires-clause-selected : goal.test_elements-requires-clause-selected
-test_elements-requires-clause-selected g c =
-    record { made = c.in_ok-serve_site.ensures.served.its_limit; inside = served_inside _ c.args.at.now.first c.args.at.now.count _ c.args.at.now.pass _ c.serve_site.new.to c.serve_site.new.work.lanes.items c.args.work.now.found c.serve_site.new.work.found c.in_ok-serve_site.ensures.served }
+test_elements-requires-clause-selected g c = served_selected _ _ _ _ _ _ _ _ _ _ c.in_ok-serve_site.ensures.served
 
 pub returns-clause-served : goal.returns-clause-served
 returns-clause-served g c =

@@ -1,9 +1,12 @@
-use Rattle.std.proofs.Common.{length}
+use Rattle.lemmas.proofs.{length}
 use Rattle.std.proofs.lemmas.List.Elements.{All-from_recursion}
 use Rattle.loop_keys.specs.{IsSourceIn, source_at}
 use Rattle.block_passes.specs.{CanServeInTurn, turn_job}
-use Rattle.block_passes.proofs.Serving.{all_served, hand_served, next_demanded, next_served, leaves_then}
+use Rattle.block_passes.proofs.Serving.{all_served, begin_served, hand_served, next_demanded, next_served, leaves_then}
 use Rattle.block_passes.proofs.inputs.serve_inputs.Goals as goal
+
+pub loop-version-init : goal.loop-version-init
+loop-version-init g c = begin_served c.args.at.now c.args.under c.args.inputs.now c.args.work.now c.args.to.now c.args.steps.now c.requires.known c.requires.selected c.requires.demanded
 
 pub is_at_hand-requires-clause-can : goal.is_at_hand-requires-clause-can
 is_at_hand-requires-clause-can g c =

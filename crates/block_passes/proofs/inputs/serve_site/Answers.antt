@@ -1,9 +1,10 @@
-use Rattle.std.proofs.Common.{List, Some, arith, refl, subst, sym}
+use Rattle.lemmas.proofs.{Some, ap, arith, refl, ◌∙◌}
 use Rattle.std.proofs.lemmas.List.{with_items_is}
-use Rattle.block_cache.specs.{LaneView, site_fault}
-use Rattle.block_passes.specs.{IsServedTo, IsSettledAt, turn_job}
-use Rattle.block_passes.proofs.Searching.{fault_few}
-use Rattle.block_passes.proofs.Serving.{site_served}
+use Rattle.expr_lanes.specs.{is_in}
+use Rattle.block_cache.specs.{site_fault}
+use Rattle.block_passes.specs.{turn_job}
+use Rattle.block_passes.proofs.PlanSteps.{fault_few}
+use Rattle.block_passes.proofs.Serving.{filled_over}
 use Rattle.block_passes.proofs.inputs.serve_site.Goals as goal
 
 pub note-requires : goal.note-requires
@@ -13,16 +14,12 @@ note-requires g c =
 
 pub returns-clause-served : goal.returns-clause-served
 returns-clause-served g c =
-    let j = turn_job c.args.at.now in
     let auto = c.fill_led.auto.lanes in
     let len = c.deref_mut.ensures.len in
-    let lanes = with_items_is c.args.work.now.lanes c.fill_led.new.lanes (omega (arith, auto, len)) in
-    let done =
-    site_served j c.args.at.now.first c.args.at.now.count c.args.under c.args.site c.args.at.now.pass c.args.to.now.places c.fill_led.new.selection c.deref_mut.result.now c.fill_led.new.lanes _ _ c.args.work.now.found c.note.new.self c.in_ok-fault.fault
-    c.in_ok-fault.ensures.spent c.in_ok-fault.ensures.filled c.in_ok-fault.ensures.settled c.as_slice-rising.ensures.rising c.requires.inside
-    (λ p lt. subst (λ (ls : List LaneView). IsSettledAt ls p) (sym c.deref_mut.ensures.value) (c.requires.known.settled p lt)) c.note.ensures
-    (record { limit = Some c.note.new.self.limit; places = c.fill_led.new.selection }) refl refl in
-    subst (λ (ls : List LaneView). IsServedTo j c.args.at.now.first c.args.at.now.count (site_fault j c.args.at.now.first c.args.under c.args.site) c.args.at.now.pass c.args.to.now.places (record { limit = Some c.note.new.self.limit; places = c.fill_led.new.selection }) ls c.args.work.now.found c.note.new.self) (sym lanes) done
+    rw (with_items_is c.args.work.now.lanes c.fill_led.new.lanes (omega (arith, auto, len)))
+    (filled_over (site_fault (turn_job c.args.at.now) c.args.at.now.first c.args.under c.args.site) (turn_job c.args.at.now) c.args.at.now.first c.args.at.now.count c.args.under c.args.site c.args.at.now.pass c.args.to.now.places c.deref_mut.result.now c.fill_led.new.lanes _ _ c.args.work.now.found c.note.new.self c.in_ok-fault.fault
+    c.in_ok-fault.ensures.spent c.in_ok-fault.ensures.filled.fault (λ q i. c.in_ok-fault.ensures.settled q (ap (is_in q) c.in_ok-fault.ensures.filled.left_is ∙ i)) c.as_slice-rising.ensures.rising c.requires.inside
+    (rw c.deref_mut.ensures.value c.requires.known.settled) c.note.ensures c.in_ok-fault.ensures.filled.ready (record { limit = Some c.note.new.self.limit; places = c.fill_led.new.selection }) refl c.in_ok-fault.ensures.filled.left_is)
 
 pub returns-in_err-fault-clause-plain : goal.returns-in_err-fault-clause-plain
 returns-in_err-fault-clause-plain g c = λ used p u. absurd (c.in_err-fault.ensures.plain used p u)

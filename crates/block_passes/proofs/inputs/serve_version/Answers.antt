@@ -1,15 +1,14 @@
-use Rattle.std.proofs.Common.{◌∙◌, subst}
+use Rattle.lemmas.proofs.{◌∙◌, arith, subst}
 use Rattle.loop_keys.specs.{IsSourceIn, source_at}
 use Rattle.block_passes.specs.{source_fault, turn_job}
-use Rattle.block_passes.proofs.Serving.{column_clear, none_served, source_leaves}
+use Rattle.block_passes.proofs.Serving.{none_served, source_leaves}
 use Rattle.block_passes.proofs.inputs.serve_version.Goals as goal
 
 pub returns-in-Cell-clause-served : goal.returns-in-Cell-clause-served
 returns-in-Cell-clause-served g c =
-    let j = turn_job c.args.at.now in
     let e = c.source_under.ensures ∙ c.in-Cell.is in
-    none_served j c.args.at.now.first c.args.at.now.count (source_fault j c.args.at.now.first c.args.under (source_at j c.args.under c.args.version)) c.args.at.now.pass c.args.to.now c.args.work.now.lanes.items c.args.work.now.found
-    c.requires.known.ready c.requires.selected.made c.requires.selected.inside c.requires.known.settled (column_clear j c.args.at.now.first c.args.under c.in-Cell.col (source_at j c.args.under c.args.version) e c.args.to.now.places)
+    none_served (turn_job c.args.at.now) c.args.at.now.first c.args.at.now.count (source_fault (turn_job c.args.at.now) c.args.at.now.first c.args.under (source_at (turn_job c.args.at.now) c.args.under c.args.version)) c.args.at.now.pass c.args.to.now c.args.work.now.lanes.items c.args.work.now.found
+    c.requires.known.ready c.requires.selected.made c.requires.selected.inside c.requires.known.settled (λ p i. grind (arith, e))
 
 pub returns-in-Site-clause-leaves : goal.returns-in-Site-clause-leaves
 returns-in-Site-clause-leaves g c =

@@ -1,4 +1,4 @@
-use Rattle.std.proofs.Common.{List}
+use Rattle.lemmas.proofs.{List}
 use Rattle.loop_keys.specs.{job_of}
 use Rattle.block_passes.specs.{ArePlanned, AreSteps, Chain, IsFilterPlanned}
 use Rattle.block_passes.proofs.plan.filter_steps.Given as goal

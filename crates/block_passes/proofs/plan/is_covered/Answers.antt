@@ -1,6 +1,6 @@
-use Rattle.std.proofs.Common.{None, false, true, ◌∙◌, get_or}
+use Rattle.lemmas.proofs.{None, false, true, ◌∙◌, get_or}
 use Rattle.loop_keys.specs.{job_of}
-use Rattle.loop_keys.proofs.PlainLaws.{cover_found, cover_none, covering_is, result_below}
+use Rattle.loop_keys.proofs.ActionLaws.{cover_found, cover_none, covering_is, result_below}
 use Rattle.block_passes.proofs.PlanSteps.{covered_is}
 use Rattle.block_passes.proofs.plan.is_covered.Goals as goal
 

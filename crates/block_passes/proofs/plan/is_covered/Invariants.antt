@@ -1,4 +1,4 @@
-use Rattle.std.proofs.Common.{◌≡◌, false, take}
+use Rattle.lemmas.proofs.{◌≡◌, false, take}
 use Rattle.std.specs.List.{list_any}
 use Rattle.graph_numbers.specs.{graph_results}
 use Rattle.loop_keys.specs.{is_covering, job_graph, job_of}

@@ -1,4 +1,4 @@
-use Rattle.std.proofs.Common.{◌≡◌, ◌≤◌, ℕ, List, [], length, Some, sym, ◌∙◌, ap, slice_get, unwrap_or, arith}
+use Rattle.lemmas.proofs.{◌≡◌, ◌≤◌, ℕ, List, [], length, Some, sym, ◌∙◌, ap, slice_get, unwrap_or, arith}
 use Rattle.graph_numbers.specs.{graph_loops, graph_variations, GraphView, Pass as NumberedPass}
 use Rattle.loop_keys.specs.{IsJob, job_graph, job_of, JobView, numbered_passes}
 use Rattle.loop_keys.proofs.PassNumbers.{passes_count, few_passes}

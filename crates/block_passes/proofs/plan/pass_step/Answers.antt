@@ -1,17 +1,15 @@
-use Rattle.std.proofs.Common.{◌<◌, List, length, subst, sym}
-use Rattle.graph_numbers.specs.{graph_results, GraphView}
+use Rattle.lemmas.proofs.{List}
 use Rattle.loop_keys.specs.{job_of}
-use Rattle.loop_keys.proofs.PassNumbers.{result_inside}
 use Rattle.block_passes.specs.{Chain, IsLed, IsPassLast, IsPlanned}
-use Rattle.block_passes.proofs.PlanSteps.{pass_led}
+use Rattle.block_passes.proofs.PlanSteps.{pass_led, result_in}
 use Rattle.std.proofs.lemmas.Result.{IfOk-weaker}
 use Rattle.block_passes.proofs.plan.pass_step.Goals as goal
 
 pub kind-requires : goal.kind-requires
-kind-requires g c = subst (λ (v : GraphView). c.args.own.result < length (graph_results v)) (sym c.requires.job.graph) (result_inside (job_of c.args.job.now) c.args._pass c.args.own c.requires.own)
+kind-requires g c = result_in (job_of c.args.job.now) c.args.job.now.graph.now c.requires.job.graph c.args._pass c.args.own c.requires.own
 
 pub path-requires : goal.path-requires
-path-requires g c = subst (λ (v : GraphView). c.args.own.result < length (graph_results v)) (sym c.requires.job.graph) (result_inside (job_of c.args.job.now) c.args._pass c.args.own c.requires.own)
+path-requires g c = result_in (job_of c.args.job.now) c.args.job.now.graph.now c.requires.job.graph c.args._pass c.args.own c.requires.own
 
 pub returns-in-Action : goal.returns-in-Action
 returns-in-Action g c = λ chains are.

@@ -1,4 +1,4 @@
-use Rattle.std.proofs.Common.{List, take}
+use Rattle.lemmas.proofs.{List, take}
 use Rattle.block_passes.specs.{AreSteps, Chain, IsLed}
 use Rattle.block_passes.proofs.plan.path_steps.Given as goal
 

@@ -1,4 +1,4 @@
-use Rattle.std.proofs.Common.{◌≡◌, ℕ, ◌<◌, ◌≤◌, Some, slice_get}
+use Rattle.lemmas.proofs.{◌≡◌, ℕ, ◌<◌, ◌≤◌, Some, slice_get}
 use Rattle.expr_lanes.specs.{depth}
 use Rattle.graph_numbers.specs.{graph_sites, SiteAt}
 use Rattle.block_passes.proofs.reserve.deepest.Given as goal

@@ -1,4 +1,4 @@
-use Rattle.std.proofs.Common.{◌≡◌, length, None}
+use Rattle.lemmas.proofs.{◌≡◌, length, None}
 use Rattle.std.specs.List.{AllWithin}
 use Rattle.block_passes.specs.{Kept as KeptPlaces}
 use Rattle.block_passes.proofs.reserve.forget.Given as goal

@@ -1,7 +1,7 @@
-use Rattle.std.proofs.Common.{◌≡◌, ◌<◌, ◌+◌, ◌++◌, ◌∙◌, ap, arith, length, length-append, replicate}
+use Rattle.lemmas.proofs.{◌≡◌, ◌<◌, ◌+◌, ◌++◌, ◌∙◌, ap, arith, length, length-append, replicate}
 use Rattle.std.proofs.lemmas.List.{length-replicate}
 use Rattle.graph_numbers.specs.{graph_sites}
-use Rattle.block_passes.proofs.SiteKinds.{more_kinds, more_many}
+use Rattle.block_passes.proofs.Demanding.{more_kinds, more_many}
 use Rattle.block_passes.proofs.reserve.key_kinds.Goals as goal
 
 pub loop-site-preserved : goal.loop-site-preserved

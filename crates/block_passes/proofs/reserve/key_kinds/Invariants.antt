@@ -1,4 +1,4 @@
-use Rattle.std.proofs.Common.{◌≡◌, ◌≤◌, ◌*◌, length}
+use Rattle.lemmas.proofs.{◌≡◌, ◌≤◌, ◌*◌, length}
 use Rattle.graph_numbers.specs.{graph_sites, graph_variations}
 use Rattle.loop_keys.specs.{keys_before}
 use Rattle.block_passes.specs.{HaveKinds}

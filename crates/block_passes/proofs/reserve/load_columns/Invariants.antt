@@ -1,4 +1,4 @@
-use Rattle.std.proofs.Common.{◌≡◌, ◌<◌, ◌-◌, ℕ, Some, length}
+use Rattle.lemmas.proofs.{◌≡◌, ◌<◌, ◌-◌, ℕ, Some, length}
 use Rattle.rdf_values.specs.{ColType, kind_at}
 use Rattle.block_cache.specs.{HasColumn}
 use Rattle.loop_keys.specs.{job_of}

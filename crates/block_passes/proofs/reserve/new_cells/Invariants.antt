@@ -1,4 +1,4 @@
-use Rattle.std.proofs.Common.{◌≡◌, length}
+use Rattle.lemmas.proofs.{◌≡◌, length}
 use Rattle.block_passes.specs.{HaveCells}
 use Rattle.block_passes.proofs.reserve.new_cells.Given as goal
 

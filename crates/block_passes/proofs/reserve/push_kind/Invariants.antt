@@ -1,4 +1,4 @@
-use Rattle.std.proofs.Common.{◌≡◌, ◌++◌, replicate}
+use Rattle.lemmas.proofs.{◌≡◌, ◌++◌, replicate}
 use Rattle.block_passes.proofs.reserve.push_kind.Given as goal
 
 abbrev pub invariant-loop : goal.invariant-loop

@@ -1,4 +1,4 @@
-use Rattle.std.proofs.Common.{◌∙◌, ap, count_by}
+use Rattle.lemmas.proofs.{◌∙◌, ap, count_by}
 use Rattle.expr_check.specs.{is_vector}
 use Rattle.block_passes.proofs.reserve.vector_keys.Goals as goal
 

@@ -1,6 +1,6 @@
-use Rattle.std.proofs.Common.{◌∙◌, ◌++◌, List, Some, ap, arith, rules, subst, sym}
+use Rattle.lemmas.proofs.{◌∙◌, ◌++◌, List, Some, ap, arith, rules, subst, sym}
 use Rattle.std.proofs.lemmas.Result.{on_ok_weaker}
-use Rattle.block_passes.specs.{IsReadyInTurn, IsSelectedInTurn, Kept as KeptView, Step, turn_job}
+use Rattle.block_passes.specs.{IsReadyInTurn, IsSelectedInTurn, Kept as KeptView, Step}
 use Rattle.block_passes.proofs.Selecting.{block_selected, none_there, narrowed_selected, filter_selected}
 use Rattle.block_passes.proofs.Serving.{leaves_then}
 use Rattle.block_passes.proofs.select.+select_step.Goals as goal
@@ -35,7 +35,7 @@ returns-in_ok-select_step-in-Filter-clause-selected g t c = λ p.
     (λ (ks : List KeptView). IsSelectedInTurn c.args.at.now p.chains c.in-Filter.parent c.select_step.new.work.lanes.items ks c.select_step.new.kept c.args.work.now.found c.select_step.new.work.found)
     same (c.in_ok-select_step-in-Filter.ensures.selected p) in
     on_ok_weaker c.next_places.result
-    (filter_selected (turn_job c.args.at.now) c.args.at.now.first c.args.at.now.count p.chains c.args.at.now.pass c.args.step c.in-Filter.parent c.in-Filter.site c.in-Filter.under filter
+    (filter_selected _ c.args.at.now.first c.args.at.now.count p.chains c.args.at.now.pass c.args.step c.in-Filter.parent c.in-Filter.site c.in-Filter.under filter
     c.select_step.new.work.lanes.items c.next_places.new.work.lanes.items c.args.kept.now c.select_step.new.kept _ (c.split_at_mut-above.result.0.now ++ c.next_places.new.own)
     c.args.work.now.found c.select_step.new.work.found c.next_places.new.work.found (sym c.split_at_mut-above.ensures.value) above)
     (c.next_places.ensures.selected p)

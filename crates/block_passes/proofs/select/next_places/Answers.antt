@@ -1,6 +1,6 @@
-use Rattle.std.proofs.Common.{arith, refl}
+use Rattle.lemmas.proofs.{arith, refl}
 use Rattle.std.proofs.lemmas.Result.{on_ok_weaker}
-use Rattle.block_passes.specs.{IsFilteredTo, longer, Step, turn_job}
+use Rattle.block_passes.specs.{longer, Step, turn_job}
 use Rattle.block_passes.proofs.Selecting.{from_inside, next_selected, next_spends}
 use Rattle.block_passes.proofs.Demanding.{site_there, site_used}
 use Rattle.block_passes.proofs.select.next_places.Goals as goal
@@ -41,12 +41,11 @@ returns g c =
       };
       selected = λ p.
           on_ok_weaker c.filter_places.result
-          (λ (h : IsFilteredTo (turn_job c.args.at.now) c.args.at.now.first c.args.at.now.count c.args.next.filter.under c.args.next.filter.site c.args.at.now.pass c.index-above-next.result.places c.filter_places.new.to c.filter_places.new.work.lanes.items c.args.work.now.found c.filter_places.new.work.found).
-          next_selected (turn_job c.args.at.now) c.requires.turn.fits.job c.args.at.now.first c.args.at.now.count c.args.at.now.pass c.args.at.now.plan.now p c.args.next.step c.args.next.parent c.args.next.filter.site c.args.next.filter.under c.requires.step
+          (next_selected (turn_job c.args.at.now) c.requires.turn.fits.job c.args.at.now.first c.args.at.now.count c.args.at.now.pass c.args.at.now.plan.now p c.args.next.step c.args.next.parent c.args.next.filter.site c.args.next.filter.under c.requires.step
           c.requires.turn.within c.args.above.now c.args.own.now c.requires.above c.args.work.now.lanes.items c.args.work.now.found (c.requires.ready p) c.requires.made c.index-above-next.result c.index-above-next.is
-          c.filter_places.new.to _ c.filter_places.new.work.lanes.items c.filter_places.new.work.found h refl)
+          c.filter_places.new.to _ c.filter_places.new.work.lanes.items c.filter_places.new.work.found refl)
           c.filter_places.ensures.filtered;
       plain = λ loop.
           c.filter_places.ensures.plain loop.used loop.sites
-          (site_used (turn_job c.args.at.now) c.requires.turn.fits.job (longer s.up c.args.next.filter.site c.args.next.filter.under) s.up.sites c.args.next.filter.site refl loop (plan.tried c.args.next.step _ s.own));
+          (site_used (turn_job c.args.at.now) c.requires.turn.fits.job (longer s.up c.args.next.filter.site c.args.next.filter.under) s.up.sites c.args.next.filter.site refl (plan.tried c.args.next.step _ s.own) loop);
     }

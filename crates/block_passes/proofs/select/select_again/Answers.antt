@@ -1,4 +1,4 @@
-use Rattle.std.proofs.Common.{refl}
+use Rattle.lemmas.proofs.{refl}
 use Rattle.block_passes.proofs.Selecting.{made_again}
 use Rattle.block_passes.proofs.select.select_again.Goals as goal
 

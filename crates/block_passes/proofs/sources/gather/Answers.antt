@@ -1,4 +1,4 @@
-use Rattle.std.proofs.Common.{◌≡◌, ◌∙◌, ap, length, rules}
+use Rattle.lemmas.proofs.{◌≡◌, ◌∙◌, ap, length, rules}
 use Rattle.rdf_values.specs.{ActionKind}
 use Rattle.block_passes.proofs.Serving.{lanes_one, lanes_pair, lanes_triple, lanes_weighted}
 use Rattle.block_passes.proofs.sources.gather.Goals as goal

@@ -1,4 +1,4 @@
-use Rattle.std.proofs.Common.{◌∙◌, ap}
+use Rattle.lemmas.proofs.{◌∙◌, ap}
 use Rattle.rdf_values.specs.{ActionKind}
 use Rattle.block_passes.proofs.Serving.{lanes_pair, lanes_triple, lanes_weighted}
 use Rattle.block_passes.proofs.sources.several_in_place.Goals as goal

@@ -1,4 +1,4 @@
-use Rattle.std.proofs.Common.{◌≡◌, take, fold}
+use Rattle.lemmas.proofs.{◌≡◌, take, fold}
 use Rattle.chain_files.specs.{hash_step}
 use Rattle.chain_files.proofs.digest.hash_of.Given as goal
 

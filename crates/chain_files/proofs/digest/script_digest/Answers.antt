@@ -1,4 +1,4 @@
-use Rattle.std.proofs.Common.{rules, ◌≡◌, ◌∙◌, ap}
+use Rattle.lemmas.proofs.{rules, ◌≡◌, ◌∙◌, ap}
 use Rattle.chain_files.specs.{digest_of, is_digest}
 use Rattle.chain_files.proofs.HexDigits.{are_digits}
 use Rattle.chain_files.proofs.digest.script_digest.Goals as goal

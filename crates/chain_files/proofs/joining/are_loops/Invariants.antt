@@ -1,4 +1,4 @@
-use Rattle.std.proofs.Common.{◌≡◌, ◌≤◌, drop, length}
+use Rattle.lemmas.proofs.{◌≡◌, ◌≤◌, drop, length}
 use Rattle.chain_files.specs.{are_loops}
 use Rattle.chain_files.proofs.joining.are_loops.Given as goal
 

@@ -1,4 +1,4 @@
-use Rattle.std.proofs.Common.{◌≡◌}
+use Rattle.lemmas.proofs.{◌≡◌}
 use Rattle.chain_files.specs.{CanJoinAll, joined_parts}
 use Rattle.chain_files.proofs.joining.join_all.Given as goal
 

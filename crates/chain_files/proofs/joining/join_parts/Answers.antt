@@ -1,4 +1,4 @@
-use Rattle.std.proofs.Common.{ap, ◌∙◌}
+use Rattle.lemmas.proofs.{ap, ◌∙◌}
 use Rattle.chain_files.specs.{joined_loops}
 use Rattle.chain_files.proofs.Keeping.{fields_join}
 use Rattle.chain_files.proofs.joining.join_parts.Goals as goal

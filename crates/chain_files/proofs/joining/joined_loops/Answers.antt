@@ -1,4 +1,4 @@
-use Rattle.std.proofs.Common.{inl, inr, sym, ◌∙◌}
+use Rattle.lemmas.proofs.{inl, inr, sym, ◌∙◌}
 use Rattle.chain_files.proofs.JoinedLoops.{loops_end, loops_over}
 use Rattle.chain_files.proofs.joining.joined_loops.Goals as goal
 use Rattle.chain_files.proofs.joining.joined_loops.Goals.{then-number-loops-via-then-number-loops, then-number-loops-via-else-number-loops+then-number-later}

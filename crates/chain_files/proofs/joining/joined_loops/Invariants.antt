@@ -1,4 +1,4 @@
-use Rattle.std.proofs.Common.{◌≡◌, ◌++◌, drop}
+use Rattle.lemmas.proofs.{◌≡◌, ◌++◌, drop}
 use Rattle.chain_files.specs.{joined_loops}
 use Rattle.chain_files.proofs.joining.joined_loops.Given as goal
 

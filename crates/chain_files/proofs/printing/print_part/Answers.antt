@@ -1,4 +1,4 @@
-use Rattle.std.proofs.Common.{◌∙◌, ap, ap₂, ◌++◌, codes, flat_map, map}
+use Rattle.lemmas.proofs.{◌∙◌, ap, ap₂, ◌++◌, codes, flat_map, map}
 use Rattle.chain_files.specs.{line_text, lines_text, loop_lines}
 use Rattle.chain_files.proofs.Runs.{whole_text}
 use Rattle.chain_files.specs.declared.part_line.PartLine.{PartLine}

@@ -1,5 +1,4 @@
-use Rattle.std.proofs.Common.{◌∙◌, ap, ◌++◌, ◌∷◌, [], map, sym}
-use Rattle.lemmas.proofs.{on_ok}
+use Rattle.lemmas.proofs.{◌∙◌, ap, ◌++◌, ◌∷◌, [], map, sym, on_ok}
 use Rattle.chain_files.specs.{lines_text, loop_lines}
 use Rattle.chain_files.proofs.Runs.{behind_loop, one_line}
 use Rattle.chain_files.specs.declared.part_line.PartLine.{PartLine}

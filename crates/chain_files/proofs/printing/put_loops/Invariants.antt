@@ -1,4 +1,4 @@
-use Rattle.std.proofs.Common.{◌≡◌, ◌++◌, take, flat_map}
+use Rattle.lemmas.proofs.{◌≡◌, ◌++◌, take, flat_map}
 use Rattle.chain_files.specs.{lines_text, loop_lines}
 use Rattle.chain_files.proofs.printing.put_loops.Given as goal
 

@@ -1,4 +1,4 @@
-use Rattle.std.proofs.Common.{◌≡◌, ◌++◌, map, take}
+use Rattle.lemmas.proofs.{◌≡◌, ◌++◌, map, take}
 use Rattle.chain_files.specs.{lines_text}
 use Rattle.chain_files.specs.declared.part_line.PartLine.{PartLine}
 use Rattle.chain_files.proofs.printing.put_passes.Given as goal

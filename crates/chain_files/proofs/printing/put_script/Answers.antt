@@ -1,5 +1,4 @@
-use Rattle.std.proofs.Common.{List, ℕ, [], ◌∷◌, codes}
-use Rattle.lemmas.proofs.{on_ok}
+use Rattle.lemmas.proofs.{List, ℕ, [], ◌∷◌, codes, on_ok}
 use Rattle.chain_files.specs.{line_text}
 use Rattle.chain_files.proofs.Runs.{line_on}
 use Rattle.shard_lines.proofs.Runs.{words_on}

@@ -1,4 +1,4 @@
-use Rattle.std.proofs.Common.{◌∙◌, sym, arith}
+use Rattle.lemmas.proofs.{◌∙◌, sym, arith}
 use Rattle.std.proofs.lemmas.Bool.Decides.{nat_tests}
 use Rattle.chain_files.proofs.Refused.{breaks_at_end, breaks_at_line, full, read_next, unended}
 use Rattle.chain_files.proofs.reading.read_part.Goals as goal

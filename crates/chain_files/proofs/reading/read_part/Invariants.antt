@@ -1,4 +1,4 @@
-use Rattle.std.proofs.Common.{length}
+use Rattle.lemmas.proofs.{length}
 use Rattle.chain_files.proofs.Refused.{Read}
 use Rattle.chain_files.proofs.reading.read_part.Given as goal
 

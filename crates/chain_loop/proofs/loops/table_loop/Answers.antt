@@ -1,5 +1,5 @@
-use Rattle.std.proofs.Common.{◌≡◌, ◌<◌, ◌∙◌, ap, length, subst, sym}
-use Rattle.columns.specs.CutsView.{CutsView}
+use Rattle.lemmas.proofs.{◌≡◌, ◌<◌, ◌∙◌, ap, length, subst, sym}
+use Rattle.columns.specs.Views.{CutsView}
 use Rattle.entry_fns.specs.{functions_in}
 use Rattle.graph_numbers.specs.{graph_loops, GraphView, IsGraph}
 use Rattle.rdf_values.specs.{fn_names}

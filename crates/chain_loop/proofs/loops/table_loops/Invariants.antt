@@ -1,4 +1,4 @@
-use Rattle.std.proofs.Common.{◌≡◌, length}
+use Rattle.lemmas.proofs.{◌≡◌, length}
 use Rattle.entry_fns.specs.{functions_in}
 use Rattle.shard_spans.specs.{loops_of}
 use Rattle.shard_loop.specs.{table_of}

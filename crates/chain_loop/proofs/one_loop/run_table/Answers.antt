@@ -1,4 +1,4 @@
-use Rattle.std.proofs.Common.{length, refl, ap, ◌∙◌}
+use Rattle.lemmas.proofs.{length, refl, ap, ◌∙◌}
 use Rattle.loop_keys.specs.{job_of, job_spans}
 use Rattle.chain_files.specs.{ChainFault, PartLoop}
 use Rattle.chain_loop.proofs.WholeTables.{faulted_loop, is_piece, whole_loop}

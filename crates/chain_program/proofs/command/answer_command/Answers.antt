@@ -1,4 +1,4 @@
-use Rattle.std.proofs.Common.{OnOk, subst, sym}
+use Rattle.lemmas.proofs.{OnOk, subst, sym}
 use Rattle.chain_program.specs.{AreTurned, IsOtherRead, others_in}
 use Rattle.chain_program.proofs.command.answer_command.Goals as goal
 

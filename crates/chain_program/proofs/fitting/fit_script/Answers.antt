@@ -1,4 +1,4 @@
-use Rattle.std.proofs.Common.{◌≡◌, ◌∙◌, Some, ap, arith, length, refl, subst, sym, None}
+use Rattle.lemmas.proofs.{◌≡◌, ◌∙◌, Some, ap, arith, length, refl, subst, sym, None}
 use Rattle.std.proofs.lemmas.Option.{slice_get_read}
 use Rattle.entry_fns.specs.{functions_in}
 use Rattle.chain_files.specs.{digest_of, first_differing, first_misshapen}

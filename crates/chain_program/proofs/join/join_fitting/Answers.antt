@@ -1,4 +1,4 @@
-use Rattle.std.proofs.Common.{◌≡◌, ◌∙◌, arith, length, rules, vec_len}
+use Rattle.lemmas.proofs.{◌≡◌, ◌∙◌, arith, length, rules, vec_len}
 use Rattle.chain_program.proofs.Joining.{some_in_order}
 use Rattle.chain_program.proofs.join.join_fitting.Goals as goal
 

@@ -1,4 +1,4 @@
-use Rattle.std.proofs.Common.{◌∙◌, ◌++◌, ℕ, List, ap, ap₂, append_assoc, codes, decimal, sym}
+use Rattle.lemmas.proofs.{◌∙◌, ◌++◌, ℕ, List, ap, ap₂, append_assoc, codes, decimal, sym}
 use Rattle.rdf_values.specs.{line}
 use Rattle.chain_program.proofs.lines.refused_file.Goals as goal
 

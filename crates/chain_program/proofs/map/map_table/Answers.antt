@@ -1,4 +1,4 @@
-use Rattle.std.proofs.Common.{◌∙◌, ◌⊎◌, ◌≡◌, [], ◌∷◌, ap, subst, sym}
+use Rattle.lemmas.proofs.{◌∙◌, ◌⊎◌, ◌≡◌, [], ◌∷◌, ap, subst, sym}
 use Rattle.entry_fns.specs.{functions_in}
 use Rattle.input_files.specs.{due_of}
 use Rattle.chain_files.specs.{digest_of, IsPart}

@@ -1,4 +1,4 @@
-use Rattle.std.proofs.Common.{◌∙◌, refl, sym}
+use Rattle.lemmas.proofs.{◌∙◌, refl, sym}
 use Rattle.entry_fns.specs.{functions_in}
 use Rattle.table_csv.specs.{marked_in}
 use Rattle.chain_program.proofs.Chaining.{columns_equal, next_of}

@@ -1,4 +1,4 @@
-use Rattle.std.proofs.Common.{◌≡◌, ◌+◌, ◌∙◌, List, Some, ap, arith, drop, length, refl, subst, sym}
+use Rattle.lemmas.proofs.{◌≡◌, ◌+◌, ◌∙◌, List, Some, ap, arith, drop, length, refl, subst, sym}
 use Rattle.std.proofs.lemmas.Option.{slice_get_read}
 use Rattle.entry_fns.specs.{functions_in}
 use Rattle.input_files.specs.{HoldsTheTable}

@@ -1,4 +1,4 @@
-use Rattle.std.proofs.Common.{◌≡◌, ◌≤◌, ℕ, List, drop, length}
+use Rattle.lemmas.proofs.{◌≡◌, ◌≤◌, ℕ, List, drop, length}
 use Rattle.entry_fns.specs.{functions_in}
 use Rattle.chain_program.specs.{AreRun, AreTurned, IsTableFile}
 use Rattle.chain_program.proofs.other_tables.other_tables.Given as goal

@@ -1,4 +1,4 @@
-use Rattle.std.proofs.Common.{◌∙◌, ◌+◌, Some, ap, arith, drop, length, refl, subst, sym}
+use Rattle.lemmas.proofs.{◌∙◌, ◌+◌, Some, ap, arith, drop, length, refl, subst, sym}
 use Rattle.std.proofs.lemmas.Option.{slice_get_read}
 use Rattle.chain_program.specs.{AreTurned, IsPartFile}
 use Rattle.chain_program.proofs.Parting.{all_parts, is_part_file, one_part_more, parts_refused}

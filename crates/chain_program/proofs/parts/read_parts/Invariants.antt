@@ -1,4 +1,4 @@
-use Rattle.std.proofs.Common.{◌≡◌, ◌≤◌, ℕ, List, drop, length}
+use Rattle.lemmas.proofs.{◌≡◌, ◌≤◌, ℕ, List, drop, length}
 use Rattle.chain_program.specs.{AreRead, AreTurned, IsPartFile}
 use Rattle.chain_program.proofs.parts.read_parts.Given as goal
 

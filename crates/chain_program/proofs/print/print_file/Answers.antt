@@ -1,4 +1,4 @@
-use Rattle.std.proofs.Common.{[], ◌∷◌}
+use Rattle.lemmas.proofs.{[], ◌∷◌}
 use Rattle.entry_fns.specs.{functions_in}
 use Rattle.chain_due.specs.{IsEachPrinted, IsPrintDue}
 use Rattle.chain_program.specs.{AreTurned, IsAnswer, IsPartFile, IsPrintedBy}

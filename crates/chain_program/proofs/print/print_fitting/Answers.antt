@@ -1,4 +1,4 @@
-use Rattle.std.proofs.Common.{subst, sym}
+use Rattle.lemmas.proofs.{subst, sym}
 use Rattle.chain_text.specs.{FitGraph}
 use Rattle.chain_program.proofs.Joining.{prints_fit}
 use Rattle.chain_program.proofs.print.print_fitting.Goals as goal

@@ -1,4 +1,4 @@
-use Rattle.std.proofs.Common.{◌∙◌, Some, ap, sym}
+use Rattle.lemmas.proofs.{◌∙◌, Some, ap, sym}
 use Rattle.entry_fns.specs.{functions_in}
 use Rattle.input_files.specs.{HoldsTheTable}
 use Rattle.chain_program.specs.{HoldsTable, IsTableFile}

@@ -1,4 +1,4 @@
-use Rattle.std.proofs.Common.{◌≡◌, ◌++◌, true, drop}
+use Rattle.lemmas.proofs.{◌≡◌, ◌++◌, true, drop}
 use Rattle.std.specs.List.{list_all}
 use Rattle.rdf_values.specs.{Column, is_name}
 use Rattle.chain_program.proofs.table_columns.copied_columns.Given as goal

@@ -1,4 +1,4 @@
-use Rattle.std.proofs.Common.{◌∙◌, sym}
+use Rattle.lemmas.proofs.{◌∙◌, sym}
 use Rattle.chain_words.proofs.Bounds.{asked_fits}
 use Rattle.chain_program.proofs.words.answer_words.Goals as goal
 

@@ -1,4 +1,4 @@
-use Rattle.std.proofs.Common.{◌≡◌, length}
+use Rattle.lemmas.proofs.{◌≡◌, length}
 use Rattle.graph_numbers.specs.{graph_prints}
 use Rattle.chain_text.specs.{chain_text}
 use Rattle.chain_text.proofs.Printing.{IsWritten}

@@ -1,5 +1,4 @@
-use Rattle.std.proofs.Common.{◌++◌, ◌∙◌, ap, decimal}
-use Rattle.lemmas.proofs.{on_ok}
+use Rattle.lemmas.proofs.{◌++◌, ◌∙◌, ap, decimal, on_ok}
 use Rattle.result_text.specs.{passes_at}
 use Rattle.chain_text.proofs.FaultLines.{put_behind}
 use Rattle.chain_text.proofs.prints.put_fault.Goals as goal

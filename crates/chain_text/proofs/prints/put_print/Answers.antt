@@ -1,4 +1,4 @@
-use Rattle.std.proofs.Common.{◌++◌, Some, length, refl, arith, ap, ◌∙◌}
+use Rattle.lemmas.proofs.{◌++◌, Some, length, refl, arith, ap, ◌∙◌}
 use Rattle.std.proofs.lemmas.Option.{slice_get_read}
 use Rattle.result_text.specs.{passes_at}
 use Rattle.merged_text.specs.{lines_of_result}

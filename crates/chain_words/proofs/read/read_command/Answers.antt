@@ -1,4 +1,4 @@
-use Rattle.std.proofs.Common.{◌∙◌, sym, arith}
+use Rattle.lemmas.proofs.{◌∙◌, sym, arith}
 use Rattle.chain_words.proofs.Words.{asked}
 use Rattle.chain_words.proofs.read.read_command.Goals as goal
 

@@ -1,4 +1,4 @@
-use Rattle.std.proofs.Common.{◌∙◌, sym, arith}
+use Rattle.lemmas.proofs.{◌∙◌, sym, arith}
 use Rattle.chain_words.proofs.Words.{goes_on, stops}
 use Rattle.chain_words.proofs.read.words_read.Goals as goal
 

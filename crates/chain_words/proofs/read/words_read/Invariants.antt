@@ -1,4 +1,4 @@
-use Rattle.std.proofs.Common.{◌≡◌, drop}
+use Rattle.lemmas.proofs.{◌≡◌, drop}
 use Rattle.chain_words.specs.{no_words, words_read}
 use Rattle.chain_words.proofs.read.words_read.Given as goal
 

@@ -1,5 +1,4 @@
-use Rattle.std.proofs.Common.{ap, ◌∙◌, sym, take, drop}
-use Rattle.lemmas.proofs.{length-drop, take-length}
+use Rattle.lemmas.proofs.{ap, ◌∙◌, sym, take, drop, length-drop, take-length}
 use Rattle.chain_words.proofs.reading.behind.Goals as goal
 
 pub returns : goal.returns

@@ -1,5 +1,5 @@
 use Rattle.cluster_tally.proofs.BlockFeeds.{begins_block, ends_block}
-use Rattle.cluster_tally.proofs.Pieces.{fresh_holds}
+use Rattle.cluster_tally.proofs.Closing.{fresh_holds}
 use Rattle.cluster_tally.proofs.laws.laws_hold.Goals as goal
 
 pub returns : goal.returns

@@ -1,5 +1,5 @@
-use Rattle.std.proofs.Common.{◌∙◌, ◌<◌, Some, length, ap, arith}
-use Rattle.cluster_tally.proofs.Closing.{begun, closed_by, has_trail, there_is}
+use Rattle.lemmas.proofs.{◌∙◌, ◌<◌, Some, length, ap, arith}
+use Rattle.cluster_tally.proofs.Closing.{begun, closed_next, has_trail, there_is}
 use Rattle.cluster_tally.proofs.tally.close_all.Goals as goal
 
 pub loop-i-init : goal.loop-i-init
@@ -17,4 +17,4 @@ loop-i-preserved c =
     let b = c.loop-i.invariant in
     let lt : c.loop-i.i < length c.args.watched.now = omega (arith, b.same) in
     let e = c.in_ok-trail.ensures in
-    closed_by c.args.cluster c.args.watched.now c.args.trails.now c.loop-i.i c.loop-i.trail c.loop-i.watched c.loop-i.trails b lt c.index-watched-i.result c.in_ok-trail.trail c.close_one.new.watcher c.close_one.new.trails e.next e.watcher e.trails
+    rw (e.next, e.watcher, e.trails) (closed_next c.args.cluster c.args.watched.now c.args.trails.now c.loop-i.i c.loop-i.trail c.loop-i.watched c.loop-i.trails b lt c.index-watched-i.result)

@@ -1,5 +1,4 @@
-use Rattle.std.proofs.Common.{◌∙◌, length, Some, refl, sym}
-use Rattle.lemmas.proofs.{same_Some, set-get_or, slice_get_read}
+use Rattle.lemmas.proofs.{◌∙◌, length, Some, refl, sym, same_Some, set-get_or, slice_get_read}
 use Rattle.cluster_tally.proofs.tally.feed_watched_batch.Goals as goal
 
 pub returns-in_default : goal.returns-in_default

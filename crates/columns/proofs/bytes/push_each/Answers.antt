@@ -1,12 +1,10 @@
-use Rattle.std.proofs.Common.{◌≡◌, ◌∙◌, ◌++◌, ◌+◌, ◌*◌, ap, arith, get_or, pos, rules, take}
-use Rattle.lemmas.proofs.{FitsSigned, take_at_most}
+use Rattle.lemmas.proofs.{◌≡◌, ◌∙◌, ◌++◌, ◌+◌, ◌*◌, ap, arith, get_or, pos, rules, take, FitsSigned, take_at_most}
 use Rattle.std.proofs.Math.Facts.{to_z-of_z}
 use mir.Syntax.{w64}
 use native.Mathlib.Nat.{add-mul}
 use Rattle.std.proofs.lemmas.List.{take_all}
 use Rattle.columns.specs.{low_bytes}
-use Rattle.columns.proofs.BlockSteps.{pack_step, words_step}
-use Rattle.columns.proofs.Unpacking.{first_bytes}
+use Rattle.columns.proofs.BlockSteps.{pack_step, words_step, first_bytes}
 use Rattle.columns.proofs.bytes.push_each.Goals as goal
 
 pub loop-value-preserved : goal.loop-value-preserved

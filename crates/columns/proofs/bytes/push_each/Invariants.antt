@@ -1,4 +1,4 @@
-use Rattle.std.proofs.Common.{◌≡◌, ◌≤◌, ◌+◌, ◌*◌, ◌++◌, All, length, take, vec_capacity, vec_len}
+use Rattle.lemmas.proofs.{◌≡◌, ◌≤◌, ◌+◌, ◌*◌, ◌++◌, All, length, take, vec_capacity, vec_len}
 use Rattle.std.specs.Int.RustNames.{FitsSigned}
 use mir.Syntax.{w64}
 use Rattle.columns.specs.{packed_by}

@@ -1,7 +1,7 @@
-use Rattle.std.proofs.Common.{arith}
+use Rattle.lemmas.proofs.{arith}
 use Rattle.std.proofs.Math.Facts.{to_z-of_z}
 use Rattle.std.proofs.lemmas.List.{take_all}
-use Rattle.columns.proofs.Reading.{length-values_in, read_step}
+use Rattle.columns.proofs.InPieces.{length-values_in, read_step}
 use Rattle.columns.proofs.bytes.read_each.Goals as goal
 
 pub loop-place-preserved : goal.loop-place-preserved

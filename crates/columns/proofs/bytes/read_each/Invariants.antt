@@ -1,4 +1,4 @@
-use Rattle.std.proofs.Common.{◌≡◌, length, take}
+use Rattle.lemmas.proofs.{◌≡◌, length, take}
 use Rattle.columns.specs.{values_in}
 use Rattle.columns.proofs.bytes.read_each.Given as goal
 

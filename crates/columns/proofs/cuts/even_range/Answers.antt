@@ -1,4 +1,4 @@
-use Rattle.std.proofs.Common.{arith}
+use Rattle.lemmas.proofs.{arith}
 use Rattle.columns.proofs.Clusters.{length-even, even_at, starts_below}
 use Rattle.columns.proofs.cuts.even_range.Goals as goal
 

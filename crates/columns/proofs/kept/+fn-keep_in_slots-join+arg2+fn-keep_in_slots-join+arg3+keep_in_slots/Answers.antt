@@ -1,4 +1,4 @@
-use Rattle.std.proofs.Common.{map, rules}
+use Rattle.lemmas.proofs.{map, rules}
 use Rattle.rdf_values.specs.{Keep}
 use Rattle.columns.specs.{whole}
 use Rattle.columns.proofs.InPieces.{halves_by_cluster, halves_joined, keep_back, keep_front}

@@ -1,4 +1,4 @@
-use Rattle.std.proofs.Common.{◌≡◌, ◌++◌}
+use Rattle.lemmas.proofs.{◌≡◌, ◌++◌}
 use Rattle.columns.specs.{joined}
 use Rattle.columns.proofs.kept.join_vectors.Given as goal
 

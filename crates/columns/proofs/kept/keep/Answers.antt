@@ -1,4 +1,4 @@
-use Rattle.std.proofs.Common.{ap}
+use Rattle.lemmas.proofs.{ap}
 use Rattle.rdf_values.specs.{Cells}
 use Rattle.columns.specs.{joined}
 use Rattle.columns.proofs.BlockSteps.{packed_is_by}

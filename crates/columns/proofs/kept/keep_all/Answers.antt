@@ -1,4 +1,4 @@
-use Rattle.std.proofs.Common.{◌∙◌, ◌++◌, ap}
+use Rattle.lemmas.proofs.{◌∙◌, ◌++◌, ap}
 use Rattle.columns.proofs.InPieces.{keep_next}
 use Rattle.columns.proofs.kept.keep_all.Goals as goal
 

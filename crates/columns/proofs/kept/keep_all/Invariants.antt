@@ -1,4 +1,4 @@
-use Rattle.std.proofs.Common.{◌≡◌, ◌++◌, map}
+use Rattle.lemmas.proofs.{◌≡◌, ◌++◌, map}
 use Rattle.std.specs.List.{AllByRecursion}
 use Rattle.rdf_values.specs.{cut}
 use Rattle.columns.specs.{cells_of, IsByCluster, whole}

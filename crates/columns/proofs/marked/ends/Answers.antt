@@ -1,4 +1,4 @@
-use Rattle.std.proofs.Common.{inl, inr, sym, ◌∙◌}
+use Rattle.lemmas.proofs.{inl, inr, sym, ◌∙◌}
 use Rattle.columns.proofs.Clusters.{walk_begin, walk_on}
 use Rattle.columns.proofs.marked.ends.Goals as goal
 use Rattle.columns.proofs.marked.ends.Goals.{then-is_marked+in_ok-push, then-is_marked-via-then-is_marked, then-is_marked-via-else-is_marked+then-entry-lo, else-is_marked+else-entry-lo}

@@ -1,6 +1,5 @@
-use Rattle.std.proofs.Common.{◌∙◌, arith}
+use Rattle.lemmas.proofs.{◌∙◌, arith, common_steps, take_next}
 use Rattle.std.proofs.lemmas.List.{length-map, take_all}
-use Rattle.lemmas.proofs.{common_steps, take_next}
 use Rattle.rdf_values.specs.{cut}
 use Rattle.columns.specs.{cluster_values, joined}
 use Rattle.columns.proofs.BlockSteps.{block_more, blocks_back, blocks_hold, cluster_within, values_of_cluster}

@@ -1,4 +1,4 @@
-use Rattle.std.proofs.Common.{take}
+use Rattle.lemmas.proofs.{take}
 use Rattle.rdf_values.specs.{cut}
 use Rattle.columns.specs.{AreBlocks, cluster_values, joined}
 use Rattle.columns.proofs.packed_ints.pack.Given as goal

@@ -1,4 +1,4 @@
-use Rattle.std.proofs.Common.{arith, length}
+use Rattle.lemmas.proofs.{arith, length}
 use Rattle.columns.proofs.InPieces.{read_more, read_on}
 use Rattle.columns.proofs.pieces.read_from.Goals as goal
 use Rattle.columns.proofs.pieces.read_from.Goals.{then-lo-end, else-lo-end}

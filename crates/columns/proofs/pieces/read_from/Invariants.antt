@@ -1,4 +1,4 @@
-use Rattle.std.proofs.Common.{length}
+use Rattle.lemmas.proofs.{length}
 use Rattle.columns.proofs.InPieces.{AreReadUpTo}
 use Rattle.columns.proofs.pieces.read_from.Given as goal
 

@@ -1,5 +1,5 @@
-use Rattle.std.proofs.Common.{◌≡◌, ◌∙◌, length, rules, sym}
-use Rattle.columns.proofs.JoiningPieces.{pieces_all, pieces_more}
+use Rattle.lemmas.proofs.{◌≡◌, ◌∙◌, length, rules, sym}
+use Rattle.columns.proofs.InPieces.{pieces_all, pieces_more}
 use Rattle.columns.proofs.table_pieces.append_columns.Goals as goal
 
 pub loop-col-preserved : goal.loop-col-preserved

@@ -1,4 +1,4 @@
-use Rattle.std.proofs.Common.{◌≡◌, drop, length, map, take}
+use Rattle.lemmas.proofs.{◌≡◌, drop, length, map, take}
 use Rattle.columns.specs.{columns_joined, whole}
 use Rattle.columns.proofs.table_pieces.append_columns.Given as goal
 

@@ -1,4 +1,4 @@
-use Rattle.std.proofs.Common.{◌≡◌, ◌++◌, map}
+use Rattle.lemmas.proofs.{◌≡◌, ◌++◌, map}
 use Rattle.columns.specs.{whole}
 use Rattle.columns.proofs.table_pieces.one_piece_each.Given as goal
 

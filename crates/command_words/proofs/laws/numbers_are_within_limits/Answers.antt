@@ -1,4 +1,4 @@
-use Rattle.command_words.proofs.Bounds.{asked_fits}
+use Rattle.command_words.proofs.Taken.{asked_fits}
 use Rattle.command_words.proofs.laws.numbers_are_within_limits.Goals as goal
 
 pub returns : goal.returns

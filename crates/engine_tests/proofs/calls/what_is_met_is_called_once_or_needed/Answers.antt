@@ -1,4 +1,4 @@
-use Rattle.std.proofs.Common.{refl}
+use Rattle.lemmas.proofs.{refl}
 use Rattle.entry_fns.proofs.Meanings.{boxed_answers}
 use Rattle.engine_tests.proofs.calls.what_is_met_is_called_once_or_needed.OwnLists.{own-1, at-1-1, at-1-2}
 use Rattle.engine_tests.proofs.calls.what_is_met_is_called_once_or_needed.Goals as goal

@@ -1,4 +1,4 @@
-use Rattle.std.proofs.Common.{length}
+use Rattle.lemmas.proofs.{length}
 use Rattle.rdf_values.specs.{below}
 use Rattle.event_loop.proofs.filling.filled.Goals as goal
 

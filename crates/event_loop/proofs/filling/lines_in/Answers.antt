@@ -1,8 +1,8 @@
-use Rattle.std.proofs.Common.{ℕ, ◌∙◌, subst, sym}
+use Rattle.lemmas.proofs.{ℕ, ◌∙◌, subst, sym}
 use Rattle.std.proofs.lemmas.Result.{IfOk-weaker}
 use Rattle.slot_words.specs.{AreNoted, HaveAllTrails, HavePartialsOver, noted_sets}
 use Rattle.event_loop.specs.{HaveNoted}
-use Rattle.event_loop.proofs.Shares.{none_watched, noted_in}
+use Rattle.event_loop.proofs.Ended.{none_watched, noted_in}
 use Rattle.event_loop.proofs.filling.lines_in.Goals as goal
 
 pub partial_lines-requires-clause-noted : goal.partial_lines-requires-clause-noted

@@ -1,5 +1,4 @@
-use Rattle.std.proofs.Common.{List, ap, sym, ◌∙◌, subst, arith}
-use Rattle.lemmas.proofs.{All, All-map}
+use Rattle.lemmas.proofs.{List, ap, sym, ◌∙◌, subst, arith, All, All-map}
 use Rattle.rdf_values.specs.{least_fault}
 use Rattle.slot_words.specs.Seats.{IsOf}
 use Rattle.event_loop.specs.{end_faults, HasMemory, seat_in}

@@ -1,4 +1,4 @@
-use Rattle.std.proofs.Common.{◌≡◌, ◌++◌, map, vec_len}
+use Rattle.lemmas.proofs.{◌≡◌, ◌++◌, map, vec_len}
 use Rattle.event_loop.specs.{pieces_in, seat_in, shares_in}
 use Rattle.event_loop.proofs.gather.taken_apart.Given as goal
 

@@ -1,4 +1,4 @@
-use Rattle.std.proofs.Common.{arith}
+use Rattle.lemmas.proofs.{arith}
 use Rattle.columns.proofs.Clusters.{few_ranges}
 use Rattle.rdf_values.proofs.Evenly.{cuts_lead}
 use Rattle.event_loop.proofs.one_loop.cluster_count.Goals as goal

@@ -1,7 +1,7 @@
-use Rattle.std.proofs.Common.{ℕ, sym, ◌∙◌, subst, arith}
+use Rattle.lemmas.proofs.{ℕ, sym, ◌∙◌, subst, arith}
 use Rattle.loop_keys.specs.{job_of}
 use Rattle.event_loop.specs.{AreBlank, IsOutcome, job_facts}
-use Rattle.event_loop.proofs.Whole.{facts_of}
+use Rattle.event_loop.proofs.Ended.{facts_of}
 use Rattle.event_loop.proofs.one_loop.run_loop.Goals as goal
 use Rattle.slot_words.proofs.Steps.{seats_many, seats_ready}
 

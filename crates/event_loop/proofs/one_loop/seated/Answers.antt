@@ -1,5 +1,5 @@
-use Rattle.std.proofs.Common.{[], ◌∷◌, length, length-append, ap, refl, arith}
-use Rattle.event_loop.proofs.Whole.{next_seated}
+use Rattle.lemmas.proofs.{[], ◌∷◌, length, length-append, ap, refl, arith}
+use Rattle.event_loop.proofs.Ended.{next_seated}
 use Rattle.event_loop.proofs.one_loop.seated.Goals as goal
 
 pub loop-seat-preserved : goal.loop-seat-preserved

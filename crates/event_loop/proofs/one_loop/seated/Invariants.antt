@@ -1,8 +1,8 @@
-use Rattle.std.proofs.Common.{◌≡◌, ◌+◌, length, vec_len}
+use Rattle.lemmas.proofs.{◌≡◌, ◌+◌, length, vec_len}
 use Rattle.std.specs.List.{All}
 use Rattle.event_loop.specs.{AreBlank}
 use Rattle.event_loop.specs.declared.workers.Shared.{Shared}
-use Rattle.event_loop.proofs.Whole.{AreSeated}
+use Rattle.event_loop.proofs.Ended.{AreSeated}
 use Rattle.event_loop.proofs.one_loop.seated.Given as goal
 use Rattle.slot_words.specs.{IsReady}
 

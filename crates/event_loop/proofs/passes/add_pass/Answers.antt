@@ -1,10 +1,9 @@
-use Rattle.std.proofs.Common.{[], ◌∙◌, ap, length, take}
-use Rattle.lemmas.proofs.{on_ok}
+use Rattle.lemmas.proofs.{[], ◌∙◌, ap, length, take, on_ok}
 use Rattle.rdf_model.specs.{kinds_in}
 use Rattle.loop_keys.specs.{job_of, passes_in}
 use Rattle.cluster_tally.specs.{place_if}
 use Rattle.event_loop.specs.{places_before}
-use Rattle.event_loop.proofs.Adding.{added, edges, is_its_pass, its_pass, kept, may_watch, named, of_action, of_report, result_within}
+use Rattle.event_loop.proofs.Found.{added, edges, is_its_pass, its_pass, kept, may_watch, named, of_action, of_report, result_within}
 use Rattle.event_loop.proofs.passes.add_pass.Goals as goal
 
 pub kind-requires : goal.kind-requires

@@ -1,7 +1,7 @@
-use Rattle.std.proofs.Common.{◌∙◌, ap, arith, replicate}
+use Rattle.lemmas.proofs.{◌∙◌, ap, arith, replicate}
 use Rattle.loop_pieces.specs.{nothing}
 use Rattle.loop_keys.specs.{job_of}
-use Rattle.event_loop.proofs.Adding.{counted, filters_same, of_all, read}
+use Rattle.event_loop.proofs.Found.{counted, filters_same, of_all, read}
 use Rattle.event_loop.proofs.passes.tally_of.Goals as goal
 
 pub loop-pass-init : goal.loop-pass-init

@@ -1,4 +1,4 @@
-use Rattle.std.proofs.Common.{◌≡◌, length, replicate}
+use Rattle.lemmas.proofs.{◌≡◌, length, replicate}
 use Rattle.rdf_values.specs.{history, named_before}
 use Rattle.loop_pieces.specs.{nothing}
 use Rattle.loop_keys.specs.{job_of}

@@ -1,9 +1,8 @@
-use Rattle.std.proofs.Common.{map, ◌∙◌, ap, arith}
+use Rattle.lemmas.proofs.{map, ◌∙◌, ap, arith}
 use Rattle.graph_numbers.specs.{booked_statements, pass_at}
 use Rattle.loop_keys.specs.{job_of, passes_in}
 use Rattle.loop_keys.proofs.PassNumbers.{passes_are}
-use Rattle.event_loop.proofs.Adding.{read}
-use Rattle.event_loop.proofs.Found.{loop_few, pass_of}
+use Rattle.event_loop.proofs.Found.{read, loop_few, pass_of}
 use Rattle.event_loop.proofs.passes.watched_in.Goals as goal
 
 pub counts_of-counts-requires-clause-passes : goal.counts_of-counts-requires-clause-passes

@@ -1,4 +1,4 @@
-use Rattle.std.proofs.Common.{arith}
+use Rattle.lemmas.proofs.{arith}
 use Rattle.std.proofs.lemmas.Option.{slice_get-get_or}
 use Rattle.event_loop.proofs.Found.{next_counts}
 use Rattle.event_loop.proofs.place.counts_of.Goals as goal

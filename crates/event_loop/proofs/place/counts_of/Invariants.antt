@@ -1,4 +1,4 @@
-use Rattle.std.proofs.Common.{◌≡◌, ◌≤◌, List, Some, length, map, take}
+use Rattle.lemmas.proofs.{◌≡◌, ◌≤◌, List, Some, length, map, take}
 use Rattle.rdf_values.specs.{Pass as NamedPass}
 use Rattle.rdf_model.specs.{kinds_in}
 use Rattle.graph_numbers.specs.{booked_statements, pass_at}

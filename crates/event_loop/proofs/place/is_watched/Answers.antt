@@ -1,5 +1,4 @@
-use Rattle.std.proofs.Common.{◌≡◌, [], ◌∷◌, if◌then◌else◌, subst}
-use Rattle.lemmas.proofs.{something_at}
+use Rattle.lemmas.proofs.{◌≡◌, [], ◌∷◌, if◌then◌else◌, subst, something_at}
 use Rattle.rdf_values.specs.{Pass as NamedPass}
 use Rattle.graph_numbers.specs.{booked_statements, graph_results}
 use Rattle.loop_pieces.specs.{place_if_watched}

@@ -1,5 +1,4 @@
-use Rattle.std.proofs.Common.{◌≡◌, ◌≤◌, ◌*◌, ◌∙◌, List, ap₂, arith, sym}
-use Rattle.lemmas.proofs.{same_some, take_no_longer}
+use Rattle.lemmas.proofs.{◌≡◌, ◌≤◌, ◌*◌, ◌∙◌, List, ap₂, arith, sym, same_some, take_no_longer}
 use Rattle.rdf_values.specs.{Booked}
 use Rattle.graph_numbers.specs.{ResultAt}
 use Rattle.event_loop.specs.{fills}

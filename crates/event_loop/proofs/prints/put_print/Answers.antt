@@ -1,4 +1,4 @@
-use Rattle.std.proofs.Common.{◌<◌, length, refl, sym, ap, subst, ◌∙◌, slice_get}
+use Rattle.lemmas.proofs.{◌<◌, length, refl, sym, ap, subst, ◌∙◌, slice_get}
 use Rattle.graph_numbers.specs.{graph_loops, GraphView}
 use Rattle.event_loop.specs.{session_of}
 use Rattle.event_loop.proofs.Courses.{fault_loop, fault_pass, goes_on, row_filled, row_within}

@@ -1,5 +1,4 @@
-use Rattle.std.proofs.Common.{◌++◌, List, ℕ, append_assoc, ap, ap₂, sym, subst, ◌∙◌, slice_get}
-use Rattle.lemmas.proofs.{on_ok, something_at}
+use Rattle.lemmas.proofs.{◌++◌, List, ℕ, append_assoc, ap, ap₂, sym, subst, ◌∙◌, slice_get, on_ok, something_at}
 use Rattle.graph_numbers.specs.{graph_results, GraphView}
 use Rattle.result_text.specs.{filled_text, FitsResult}
 use Rattle.event_loop.specs.{session_of}

@@ -1,4 +1,4 @@
-use Rattle.std.proofs.Common.{◌+◌, ℕ, Ok, true, false, refl, arith, ap, subst, ◌∙◌}
+use Rattle.lemmas.proofs.{◌+◌, ℕ, Ok, true, false, refl, arith, ap, subst, ◌∙◌}
 use Rattle.event_loop.specs.{IsTranscript, session_of, SessionView}
 use Rattle.event_loop.proofs.Courses.{done, ended, further, prints_are, whole}
 use Rattle.event_loop.proofs.prints.run_prints.Goals as goal

@@ -1,4 +1,4 @@
-use Rattle.std.proofs.Common.{◌≡◌, None}
+use Rattle.lemmas.proofs.{◌≡◌, None}
 use Rattle.event_loop.specs.{HasSameParts, IsSession, session_of}
 use Rattle.event_loop.proofs.Courses.{IsSoFar}
 use Rattle.event_loop.proofs.prints.run_prints.Given as goal

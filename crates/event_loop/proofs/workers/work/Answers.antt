@@ -1,10 +1,9 @@
-use Rattle.std.proofs.Common.{◌≡◌, ◌+◌, ◌∷◌, ◌++◌, List, [], ℕ, Ok, length, inl, inr, sym, ap, ◌∙◌, subst, length-append}
-use Rattle.lemmas.proofs.{IsStrictlyIncreasing}
+use Rattle.lemmas.proofs.{◌≡◌, ◌+◌, ◌∷◌, ◌++◌, List, [], ℕ, Ok, length, inl, inr, sym, ap, ◌∙◌, subst, length-append, IsStrictlyIncreasing}
 use Rattle.slot_words.specs.{SeatSeen}
 use Rattle.slot_words.specs.Seats.{IsOf}
 use Rattle.loop_keys.specs.{job_of}
 use Rattle.event_loop.specs.{HasNoted, job_facts}
-use Rattle.event_loop.proofs.SlotLemmas.{sound_more, below_last}
+use Rattle.event_loop.proofs.Ended.{sound_more, below_last}
 use Rattle.event_loop.proofs.workers.work.Goals as goal
 
 pub process-requires-clause-above : goal.process-requires-clause-above

@@ -1,4 +1,4 @@
-use Rattle.std.proofs.Common.{◌≡◌, ◌-◌, None, length}
+use Rattle.lemmas.proofs.{◌≡◌, ◌-◌, None, length}
 use Rattle.slot_words.specs.Seats as claims
 use Rattle.loop_keys.specs.{job_of}
 use Rattle.event_loop.specs.{AreSound, HasNoted, IsSlotOf, job_facts, Phase}

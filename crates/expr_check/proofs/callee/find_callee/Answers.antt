@@ -1,4 +1,4 @@
-use Rattle.expr_check.proofs.Calls.{found_built_in, found_none, found_given}
+use Rattle.expr_check.proofs.WellTyped.{found_built_in, found_none, found_given}
 use Rattle.expr_check.proofs.callee.find_callee.Goals as goal
 
 pub returns-in-Some : goal.returns-in-Some

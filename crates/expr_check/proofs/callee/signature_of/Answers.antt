@@ -1,4 +1,4 @@
-use Rattle.expr_check.proofs.Calls.{given_shape-take}
+use Rattle.expr_check.proofs.WellTyped.{given_shape-take}
 use Rattle.expr_check.proofs.callee.signature_of.Goals as goal
 
 pub returns-in-Given : goal.returns-in-Given

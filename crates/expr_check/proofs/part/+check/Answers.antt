@@ -1,6 +1,6 @@
 use Rattle.std.proofs.lemmas.Result.{err_from_is_err_and}
 use Rattle.rdf_values.specs.{trees_of}
-use Rattle.expr_check.proofs.Calls.{call_miscounted, call_refused, call_mistyped, call_typed}
+use Rattle.expr_check.proofs.WellTyped.{call_miscounted, call_refused, call_mistyped, call_typed}
 use Rattle.expr_check.proofs.part.+check.Goals as goal
 
 pub check_call-returns-then-not-has_count-clause-refused : goal.check_call-returns-then-not-has_count-clause-refused

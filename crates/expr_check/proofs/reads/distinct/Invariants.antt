@@ -1,4 +1,4 @@
-use Rattle.std.proofs.Common.{◌≡◌, take}
+use Rattle.lemmas.proofs.{◌≡◌, take}
 use Rattle.expr_check.specs.{distinct}
 use Rattle.expr_check.proofs.reads.distinct.Given as goal
 

@@ -1,6 +1,6 @@
-use Rattle.std.proofs.Common.{◌∙◌, subst}
+use Rattle.lemmas.proofs.{◌∙◌, subst}
 use Rattle.rdf_values.specs.{AreFnNames}
-use Rattle.expr_eval.proofs.OfItsKind.{can_call}
+use Rattle.expr_eval.proofs.InOrder.{can_call}
 use Rattle.expr_eval.proofs.calls.callable.Goals as goal
 
 pub returns-clause-node : goal.returns-clause-node

@@ -1,4 +1,4 @@
-use Rattle.std.proofs.Common.{◌≡◌, drop}
+use Rattle.lemmas.proofs.{◌≡◌, drop}
 use Rattle.rdf_model.specs.{for_all, number_operation, pairs}
 use Rattle.expr_eval.specs.{following}
 use Rattle.expr_eval.proofs.elements.each_pair.Given as goal

@@ -1,5 +1,4 @@
-use Rattle.std.proofs.Common.{rules, FitsSigned, w64, get_or, pos}
-use Rattle.lemmas.proofs.{int_min, to_z-of_z}
+use Rattle.lemmas.proofs.{rules, FitsSigned, w64, get_or, pos, int_min, to_z-of_z}
 use Rattle.expr_eval.proofs.InOrder.{extreme_goes_on}
 use Rattle.expr_eval.proofs.elements.least.Goals as goal
 

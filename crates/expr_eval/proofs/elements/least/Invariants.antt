@@ -1,4 +1,4 @@
-use Rattle.std.proofs.Common.{◌≡◌, ℕ, drop, fold}
+use Rattle.lemmas.proofs.{◌≡◌, ℕ, drop, fold}
 use Rattle.std.specs.Int.{int_min}
 use Rattle.rdf_model.specs.{extreme_element, gives_int}
 use Rattle.expr_eval.proofs.elements.least.Given as goal

@@ -1,4 +1,4 @@
-use Rattle.std.proofs.Common.{rules, FitsSigned, w64, get_or, pos, ap, arith, to_z, of_z}
+use Rattle.lemmas.proofs.{rules, FitsSigned, w64, get_or, pos, ap, arith, to_z, of_z}
 use Rattle.std.proofs.lemmas.Int.{to_z-of_z}
 use Rattle.rdf_model.specs.{is_set}
 use Rattle.expr_eval.proofs.InOrder.{marked_kept, marked_left_out, set_mark}

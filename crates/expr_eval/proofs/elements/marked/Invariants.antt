@@ -1,4 +1,4 @@
-use Rattle.std.proofs.Common.{◌≡◌, drop, ◌++◌}
+use Rattle.lemmas.proofs.{◌≡◌, drop, ◌++◌}
 use Rattle.rdf_model.specs.{marked}
 use Rattle.expr_eval.proofs.elements.marked.Given as goal
 

@@ -1,4 +1,4 @@
-use Rattle.std.proofs.Common.{rules, FitsSigned, w64, get_or, pos, ap, sym}
+use Rattle.lemmas.proofs.{rules, FitsSigned, w64, get_or, pos, ap, sym}
 use Rattle.std.proofs.lemmas.Int.{to_z-of_z}
 use Rattle.rdf_model.specs.{◌>>=◌, gives_int}
 use Rattle.expr_eval.proofs.InOrder.{sum_stops, sum_goes_on}

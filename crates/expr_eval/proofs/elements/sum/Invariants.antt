@@ -1,4 +1,4 @@
-use Rattle.std.proofs.Common.{◌≡◌, drop, pos, ℕ}
+use Rattle.lemmas.proofs.{◌≡◌, drop, pos, ℕ}
 use Rattle.rdf_model.specs.{sum_from}
 use Rattle.expr_eval.proofs.elements.sum.Given as goal
 

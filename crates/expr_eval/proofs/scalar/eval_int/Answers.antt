@@ -1,5 +1,5 @@
-use Rattle.std.proofs.Common.{◌∙◌}
-use Rattle.expr_eval.proofs.OfItsKind.{known_columns, plain_columns, scalar_fits}
+use Rattle.lemmas.proofs.{◌∙◌}
+use Rattle.expr_eval.proofs.InOrder.{known_columns, plain_columns, scalar_fits}
 use Rattle.expr_eval.proofs.scalar.eval_int.Goals as goal
 
 pub eval_node-requires : goal.eval_node-requires

@@ -1,4 +1,4 @@
-use Rattle.std.proofs.Common.{sym}
+use Rattle.lemmas.proofs.{sym}
 use Rattle.expr_eval.proofs.InOrder.{both_sides}
 use Rattle.expr_eval.specs.{operand_value}
 use Rattle.expr_eval.proofs.vector.+node.Goals as goal

@@ -1,5 +1,5 @@
 use Rattle.entry_fns.specs.{functions_in}
-use Rattle.expr_eval.proofs.OfItsKind.{known_columns, value_fits}
+use Rattle.expr_eval.proofs.InOrder.{known_columns, value_fits}
 use Rattle.expr_eval.proofs.vector.eval.Goals as goal
 
 pub eval_node-requires-clause-can : goal.eval_node-requires-clause-can

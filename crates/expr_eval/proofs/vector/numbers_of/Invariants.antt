@@ -1,4 +1,4 @@
-use Rattle.std.proofs.Common.{◌≡◌, ◌++◌, drop, map, length}
+use Rattle.lemmas.proofs.{◌≡◌, ◌++◌, drop, map, length}
 use Rattle.rdf_model.specs.{argument}
 use Rattle.expr_eval.specs.{operand_value}
 use Rattle.expr_eval.proofs.vector.numbers_of.Given as goal

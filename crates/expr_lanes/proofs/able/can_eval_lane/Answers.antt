@@ -1,6 +1,6 @@
-use Rattle.std.proofs.Common.{◌∙◌, sym, subst}
+use Rattle.lemmas.proofs.{◌∙◌, sym, subst}
 use Rattle.rdf_values.specs.{EachColumn, NumTree}
-use Rattle.expr_eval.proofs.OfItsKind.{known_columns}
+use Rattle.expr_eval.proofs.InOrder.{known_columns}
 use Rattle.expr_lanes.proofs.able.can_eval_lane.Goals as goal
 
 pub is_node_able-requires : goal.is_node_able-requires

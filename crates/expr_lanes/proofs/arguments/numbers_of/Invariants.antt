@@ -1,4 +1,4 @@
-use Rattle.std.proofs.Common.{◌≡◌, ◌++◌, take}
+use Rattle.lemmas.proofs.{◌≡◌, ◌++◌, take}
 use Rattle.expr_lanes.specs.{numbers_at}
 use Rattle.expr_lanes.proofs.arguments.numbers_of.Given as goal
 

@@ -1,7 +1,7 @@
-use Rattle.std.proofs.Common.{sym, ap}
+use Rattle.lemmas.proofs.{sym, ap}
 use Rattle.rdf_model.specs.{Gives}
 use Rattle.expr_lanes.specs.{at_place, is_known, lane_outcome}
-use Rattle.expr_lanes.proofs.Sequence.{alike}
+use Rattle.expr_lanes.proofs.Composed.{alike}
 use Rattle.expr_lanes.proofs.columns.read_column.Goals as goal
 
 pub returns-in-Everywhere : goal.returns-in-Everywhere

@@ -1,4 +1,4 @@
-use Rattle.std.proofs.Common.{◌≡◌, ◌<◌, ◌≤◌, ℕ}
+use Rattle.lemmas.proofs.{◌≡◌, ◌<◌, ◌≤◌, ℕ}
 use Rattle.rdf_model.specs.{Gives}
 use Rattle.expr_lanes.specs.{at_place}
 use Rattle.expr_lanes.proofs.kernel.cover.Given as goal

@@ -1,4 +1,4 @@
-use Rattle.std.proofs.Common.{◌≡◌, ℕ, false, take}
+use Rattle.lemmas.proofs.{◌≡◌, ℕ, false, take}
 use Rattle.rdf_model.specs.{Gives}
 use Rattle.expr_lanes.specs.{at_place, EachPlace, is_in}
 use Rattle.expr_lanes.proofs.kernel.cover_listed.Given as goal

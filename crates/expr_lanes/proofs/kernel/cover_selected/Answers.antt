@@ -1,4 +1,4 @@
-use Rattle.expr_lanes.proofs.Selected.{below_range, dense_each, dense_long, outside_range}
+use Rattle.expr_lanes.proofs.Composed.{below_range, dense_each, dense_long, outside_range}
 use Rattle.expr_lanes.proofs.kernel.cover_selected.Goals as goal
 
 pub cover-requires-clause-can : goal.cover-requires-clause-can

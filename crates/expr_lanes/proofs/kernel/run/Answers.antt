@@ -1,5 +1,5 @@
-use Rattle.std.proofs.Common.{arith}
-use Rattle.expr_lanes.proofs.Selected.{covered, sifted_anew, rising_left}
+use Rattle.lemmas.proofs.{arith}
+use Rattle.expr_lanes.proofs.Composed.{covered, sifted_anew, rising_left}
 use Rattle.expr_lanes.proofs.kernel.run.Goals as goal
 
 pub returns-then-cover_selected : goal.returns-then-cover_selected

@@ -1,6 +1,6 @@
-use Rattle.std.proofs.Common.{rules, ◌≡◌, ◌<◌, length, get_or, arith}
+use Rattle.lemmas.proofs.{rules, ◌≡◌, ◌<◌, length, get_or, arith}
 use Rattle.std.proofs.lemmas.List.{get_or_default}
-use Rattle.expr_lanes.proofs.SiftSteps.{read_in, sift_given, sift_stopped, sifted}
+use Rattle.expr_lanes.proofs.Composed.{read_in, sift_given, sift_stopped, sifted}
 use Rattle.expr_lanes.proofs.kernel.sift.Goals as goal
 use Rattle.expr_lanes.proofs.kernel.sift.Goals.{in-Ok, in-Err}
 

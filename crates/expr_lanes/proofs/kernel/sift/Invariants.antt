@@ -1,4 +1,4 @@
-use Rattle.expr_lanes.proofs.SiftSteps.{SiftedTo}
+use Rattle.expr_lanes.proofs.Composed.{SiftedTo}
 use Rattle.expr_lanes.proofs.kernel.sift.Given as goal
 
 abbrev pub invariant-loop-i : goal.invariant-loop-i

@@ -1,6 +1,5 @@
-use Rattle.std.proofs.Common.{arith, ◌≡◌, ◌<◌, ◌∙◌, sym, get_or, length}
-use Rattle.lemmas.proofs.{FiltersInPlace-more_no, FiltersInPlace-more_set, get_or_default}
-use Rattle.expr_lanes.proofs.SiftSteps.{read_in}
+use Rattle.lemmas.proofs.{arith, ◌≡◌, ◌<◌, ◌∙◌, sym, get_or, length, FiltersInPlace-more_no, FiltersInPlace-more_set, get_or_default}
+use Rattle.expr_lanes.proofs.Composed.{read_in}
 use Rattle.expr_lanes.proofs.narrowing.keep_places.Goals as goal
 use Rattle.expr_lanes.proofs.narrowing.keep_places.Goals.{then-passes_at, else-passes_at}
 

@@ -1,10 +1,8 @@
-use Rattle.std.proofs.Common.{rules, arith, ◌≡◌, ◌<◌, ◌∙◌, [], refl, sym, None}
+use Rattle.lemmas.proofs.{rules, arith, ◌≡◌, ◌<◌, ◌∙◌, [], refl, sym, None}
 use Rattle.rdf_values.specs.{Bin, num_tree, num_trees}
 use Rattle.expr_lanes.specs.declared.TheConstants.{MAX_PLACES}
 use Rattle.expr_lanes.specs.{fold_read, IsReady, IsSelected, lane_call, with_zero}
-use Rattle.expr_lanes.proofs.Sequence.{gathered_more, come_from, come_told, go_on}
-use Rattle.expr_lanes.proofs.Composed.{choice, idle, able_sides, at_hand, called, has_at_hand, operated, same_depth, with_sides, rest_left, whole}
-use Rattle.expr_lanes.proofs.Selected.{selected_next, selected_part, selected_other}
+use Rattle.expr_lanes.proofs.Composed.{gathered_more, come_from, come_told, go_on, choice, idle, able_sides, at_hand, called, has_at_hand, operated, same_depth, with_sides, rest_left, whole, selected_next, selected_part, selected_other}
 use Rattle.expr_lanes.proofs.nodes.+lanes.Goals as goal
 use Rattle.expr_lanes.proofs.nodes.+lanes.Goals.{eval_unary-in-Neg, eval_unary-in-Not}
 

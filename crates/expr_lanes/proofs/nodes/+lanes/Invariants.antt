@@ -1,4 +1,4 @@
-use Rattle.std.proofs.Common.{◌+◌, ◌*◌, max}
+use Rattle.lemmas.proofs.{◌+◌, ◌*◌, max}
 use Rattle.rdf_values.specs.{args_count, num_tree, num_trees}
 use Rattle.expr_lanes.specs.{depth, depth_of_all}
 use Rattle.expr_lanes.proofs.Composed.{branch_depth}

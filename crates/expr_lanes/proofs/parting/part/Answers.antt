@@ -1,6 +1,6 @@
-use Rattle.std.proofs.Common.{arith}
+use Rattle.lemmas.proofs.{arith}
 use Rattle.expr_lanes.proofs.parting.part.Goals as goal
-use Rattle.expr_lanes.proofs.Selected.{rising_left}
+use Rattle.expr_lanes.proofs.Composed.{rising_left}
 
 pub invariant_of-zeros : goal.invariant_of-zeros
 invariant_of-zeros c = (omega (arith, c.selection.invariant.0), λ all. absurd (cc all), rising_left _ _ _ c.selection.invariant.2 c.part_places-parted.ensures.zeros)

@@ -1,5 +1,5 @@
-use Rattle.std.proofs.Common.{arith, refl}
-use Rattle.expr_lanes.proofs.SiftSteps.{read_in}
+use Rattle.lemmas.proofs.{arith, refl}
+use Rattle.expr_lanes.proofs.Composed.{read_in}
 use Rattle.expr_lanes.proofs.parting.part_places.Goals as goal
 
 pub bounds-lane-place : goal.bounds-lane-place

@@ -1,4 +1,4 @@
-use Rattle.std.proofs.Common.{◌≡◌, ◌+◌, not, take}
+use Rattle.lemmas.proofs.{◌≡◌, ◌+◌, not, take}
 use Rattle.std.specs.List.{filter}
 use Rattle.rdf_model.specs.{is_zero}
 use Rattle.expr_lanes.specs.{at_place}

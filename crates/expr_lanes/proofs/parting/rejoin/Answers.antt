@@ -1,6 +1,5 @@
-use Rattle.std.proofs.Common.{◌∙◌, arith}
-use Rattle.expr_lanes.proofs.SiftSteps.{rejoined, rejoined_as}
-use Rattle.expr_lanes.proofs.Selected.{rising_left}
+use Rattle.lemmas.proofs.{◌∙◌, arith}
+use Rattle.expr_lanes.proofs.Composed.{rejoined, rejoined_as, rising_left}
 use Rattle.expr_lanes.proofs.parting.rejoin.Goals as goal
 
 pub returns : goal.returns

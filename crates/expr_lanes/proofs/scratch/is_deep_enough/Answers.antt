@@ -1,4 +1,4 @@
-use Rattle.std.proofs.Common.{◌∙◌, ◌≤◌, ◌↔◌, IsTrue, subst}
+use Rattle.lemmas.proofs.{◌∙◌, ◌≤◌, ◌↔◌, IsTrue, subst}
 use Rattle.rdf_values.specs.{NumTree}
 use Rattle.expr_lanes.specs.{depth}
 use Rattle.expr_lanes.proofs.scratch.is_deep_enough.Goals as goal

@@ -1,5 +1,5 @@
-use Rattle.std.proofs.Common.{arith}
-use Rattle.expr_lanes.proofs.Selected.{number_more}
+use Rattle.lemmas.proofs.{arith}
+use Rattle.expr_lanes.proofs.Composed.{number_more}
 use Rattle.expr_lanes.proofs.selection.number_places.Goals as goal
 
 pub loop-i-preserved : goal.loop-i-preserved

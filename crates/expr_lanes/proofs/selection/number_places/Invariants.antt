@@ -1,4 +1,4 @@
-use Rattle.std.proofs.Common.{◌≡◌, take}
+use Rattle.lemmas.proofs.{◌≡◌, take}
 use Rattle.std.specs.List.{range_with_len}
 use Rattle.expr_lanes.proofs.selection.number_places.Given as goal
 

@@ -1,6 +1,5 @@
 use Rattle.rdf_values.specs.{begin_expr, begin_values, Reads, ReadsValues}
-use Rattle.expr_read.proofs.Whole.{whole, whole_values}
-use Rattle.expr_read.proofs.WholeReads.{reads_expr, reads_values}
+use Rattle.expr_read.proofs.WholeReads.{whole, whole_values, reads_expr, reads_values}
 use Rattle.expr_read.proofs.Decided.{answered, one_refusal, read_once}
 use Rattle.expr_read.proofs.laws.one_answer.Goals as goal
 

@@ -1,6 +1,6 @@
-use Rattle.std.proofs.Common.{Ok, Err, Result, IfOk, IfErr, MatchResult}
+use Rattle.lemmas.proofs.{Ok, Err, Result, IfOk, IfErr, MatchResult}
 use Rattle.rdf_values.specs.{begin_values, ReadsValues}
-use Rattle.expr_read.proofs.Whole.{whole_values}
+use Rattle.expr_read.proofs.WholeReads.{whole_values}
 use Rattle.expr_read.proofs.Decided.{text_refused, memory_alone, one_value}
 use Rattle.expr_read.proofs.read.read_values.Goals as goal
 

@@ -1,6 +1,5 @@
-use Rattle.std.proofs.Common.{◌≡◌, ◌<◌, ◌∙◌, List, [], ◌∷◌, ◌++◌, map, length, arith, rules, refl, ap, Err, Result}
+use Rattle.lemmas.proofs.{◌≡◌, ◌<◌, ◌∙◌, List, [], ◌∷◌, ◌++◌, map, length, arith, rules, refl, ap, Err, Result, common_steps, map-append}
 use Rattle.rdf_values.specs.{Placed, Refusal}
-use Rattle.lemmas.proofs.{common_steps, map-append}
 use Rattle.expr_read.specs.{placed_of}
 use Rattle.expr_read.proofs.TokenSteps.{step_blank, step_bad, step_many, step_token, at_end, token_sized, refusal_sized}
 use Rattle.expr_read.proofs.tokenizer.tokenize.Goals as goal

@@ -1,4 +1,4 @@
-use Rattle.std.proofs.Common.{◌<◌, arith, length, map, subst, sym}
+use Rattle.lemmas.proofs.{◌<◌, arith, length, map, subst, sym}
 use Rattle.std.proofs.lemmas.List.{length-map}
 use Rattle.columns.specs.{whole}
 use Rattle.friend_join.specs.{column_elements, IsSmall}

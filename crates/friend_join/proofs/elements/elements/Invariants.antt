@@ -1,4 +1,4 @@
-use Rattle.std.proofs.Common.{◌≡◌, ◌≤◌, ◌*◌, map, take}
+use Rattle.lemmas.proofs.{◌≡◌, ◌≤◌, ◌*◌, map, take}
 use Rattle.std.specs.List.{sum_by}
 use Rattle.columns.specs.{whole}
 use Rattle.friend_join.specs.{column_elements}

@@ -1,4 +1,4 @@
-use Rattle.std.proofs.Common.{subst, sym}
+use Rattle.lemmas.proofs.{subst, sym}
 use Rattle.rdf_values.specs.{Cells, count}
 use Rattle.friend_join.specs.{AreBelow, IsSmall}
 use Rattle.friend_join.proofs.Counting.{entries_at, small_at}

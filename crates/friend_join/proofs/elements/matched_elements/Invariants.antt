@@ -1,4 +1,4 @@
-use Rattle.std.proofs.Common.{◌≡◌, ◌≤◌, ◌*◌, take}
+use Rattle.lemmas.proofs.{◌≡◌, ◌≤◌, ◌*◌, take}
 use Rattle.std.specs.List.{sum_by}
 use Rattle.friend_join.specs.{matched_elements}
 use Rattle.friend_join.proofs.elements.matched_elements.Given as goal

@@ -1,4 +1,4 @@
-use Rattle.std.proofs.Common.{◌≡◌, ◌≤◌, ◌*◌, take}
+use Rattle.lemmas.proofs.{◌≡◌, ◌≤◌, ◌*◌, take}
 use Rattle.std.specs.List.{sum_by}
 use Rattle.friend_join.specs.{length_for}
 use Rattle.friend_join.proofs.elements.matched_vectors.Given as goal

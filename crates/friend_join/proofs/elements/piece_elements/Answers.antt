@@ -1,4 +1,4 @@
-use Rattle.std.proofs.Common.{◌≤◌, arith, length, subst, sym, List, ℤ}
+use Rattle.lemmas.proofs.{◌≤◌, arith, length, subst, sym, List, ℤ}
 use Rattle.friend_join.proofs.Counting.{sum_next}
 use Rattle.friend_join.proofs.Removing.{got}
 use Rattle.friend_join.proofs.elements.piece_elements.Goals as goal

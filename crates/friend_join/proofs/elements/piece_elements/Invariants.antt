@@ -1,4 +1,4 @@
-use Rattle.std.proofs.Common.{◌≡◌, ◌≤◌, ◌*◌, length, take}
+use Rattle.lemmas.proofs.{◌≡◌, ◌≤◌, ◌*◌, length, take}
 use Rattle.std.specs.List.{sum_by}
 use Rattle.friend_join.proofs.elements.piece_elements.Given as goal
 

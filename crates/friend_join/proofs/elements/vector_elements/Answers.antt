@@ -1,4 +1,4 @@
-use Rattle.std.proofs.Common.{arith}
+use Rattle.lemmas.proofs.{arith}
 use Rattle.friend_join.proofs.Counting.{piece_few, piece_small}
 use Rattle.friend_join.proofs.elements.vector_elements.Goals as goal
 

@@ -1,4 +1,4 @@
-use Rattle.std.proofs.Common.{◌<◌, ℕ, Option, length, subst, sym, MatchOption}
+use Rattle.lemmas.proofs.{◌<◌, ℕ, Option, length, subst, sym, MatchOption}
 use Rattle.std.specs.Prelude.{⊤}
 use Rattle.friend_join.proofs.Counting.{match_below}
 use Rattle.friend_join.proofs.gathered.ints_at.Goals as goal

@@ -1,4 +1,4 @@
-use Rattle.std.proofs.Common.{◌∙◌, pos, rules, sym, w64, FitsSigned}
+use Rattle.lemmas.proofs.{◌∙◌, pos, rules, sym, w64, FitsSigned}
 use Rattle.std.proofs.lemmas.Int.{to_z-of_z}
 use Rattle.friend_join.proofs.Removing.{got}
 use Rattle.friend_join.proofs.gathered.number_for.Goals as goal

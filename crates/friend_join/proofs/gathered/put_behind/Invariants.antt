@@ -1,4 +1,4 @@
-use Rattle.std.proofs.Common.{◌≡◌, ◌++◌, map}
+use Rattle.lemmas.proofs.{◌≡◌, ◌++◌, map}
 use Rattle.columns.specs.{whole}
 use Rattle.friend_join.specs.{AreEntries, matched_cells}
 use Rattle.friend_join.proofs.gathered.put_behind.Given as goal

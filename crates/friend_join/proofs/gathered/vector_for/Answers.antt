@@ -1,4 +1,4 @@
-use Rattle.std.proofs.Common.{◌∙◌, [], sym}
+use Rattle.lemmas.proofs.{◌∙◌, [], sym}
 use Rattle.friend_join.proofs.Removing.{got}
 use Rattle.friend_join.proofs.gathered.vector_for.Goals as goal
 

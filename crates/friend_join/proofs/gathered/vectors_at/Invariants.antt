@@ -1,4 +1,4 @@
-use Rattle.std.proofs.Common.{◌≡◌, map, take}
+use Rattle.lemmas.proofs.{◌≡◌, map, take}
 use Rattle.friend_join.specs.{vector_for}
 use Rattle.friend_join.proofs.gathered.vectors_at.Given as goal
 

@@ -1,4 +1,4 @@
-use Rattle.std.proofs.Common.{◌≡◌, ◌+◌, ◌-◌, ◌∙◌, ap, ap₂, arith, inr, length, refl, rules, sym, subst, List, Result, w64, FitsSigned}
+use Rattle.lemmas.proofs.{◌≡◌, ◌+◌, ◌-◌, ◌∙◌, ap, ap₂, arith, inr, length, refl, rules, sym, subst, List, Result, w64, FitsSigned}
 use Rattle.std.proofs.lemmas.Int.{to_z-of_z}
 use Rattle.rdf_values.specs.{Answers, Column, TableView}
 use Rattle.friend_join.specs.{first_taken, join_entries, join_of, JoinCause, key_place, keyed_in, table_in}

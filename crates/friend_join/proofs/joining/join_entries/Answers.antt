@@ -1,5 +1,4 @@
-use Rattle.std.proofs.Common.{◌≡◌, ◌<◌, ◌+◌, ◌^◌, ◌∙◌, ap, arith, get_or, inl, inr, length, map, refl, rules, sym, vec_len, w64, FitsSigned, None, Ok, Some}
-use Rattle.lemmas.proofs.{length-map, remove, sum_by, to_z-of_z}
+use Rattle.lemmas.proofs.{◌≡◌, ◌<◌, ◌+◌, ◌^◌, ◌∙◌, ap, arith, get_or, inl, inr, length, map, refl, rules, sym, vec_len, w64, FitsSigned, None, Ok, Some, length-map, remove, sum_by, to_z-of_z}
 use Rattle.columns.specs.{whole}
 use Rattle.friend_join.specs.{column_elements, JoinCause, keyed_in}
 use Rattle.friend_join.proofs.Fitting.{bits}

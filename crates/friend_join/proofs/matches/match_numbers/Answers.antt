@@ -1,5 +1,4 @@
-use Rattle.std.proofs.Common.{◌∙◌, ◌++◌, ◌∷◌, [], ap, append_assoc, map, rules, sym, take, w64, FitsSigned}
-use Rattle.lemmas.proofs.{map_push, take_next, to_z-of_z}
+use Rattle.lemmas.proofs.{◌∙◌, ◌++◌, ◌∷◌, [], ap, append_assoc, map, rules, sym, take, w64, FitsSigned, map_push, take_next, to_z-of_z}
 use Rattle.friend_join.specs.{entry_of}
 use Rattle.friend_join.proofs.matches.match_numbers.Goals as goal
 

@@ -1,4 +1,4 @@
-use Rattle.std.proofs.Common.{◌≡◌, map, take}
+use Rattle.lemmas.proofs.{◌≡◌, map, take}
 use Rattle.columns.specs.{joined}
 use Rattle.friend_join.specs.{entry_of}
 use Rattle.friend_join.proofs.matches.matches_in.Given as goal

@@ -1,5 +1,4 @@
-use Rattle.std.proofs.Common.{◌≡◌, get_or, inr, refl, rules, sym, w64, FitsSigned}
-use Rattle.lemmas.proofs.{get_or_from_slice_get, slice_get_within, to_z-of_z}
+use Rattle.lemmas.proofs.{◌≡◌, get_or, inr, refl, rules, sym, w64, FitsSigned, get_or_from_slice_get, slice_get_within, to_z-of_z}
 use Rattle.friend_join.proofs.Repeats.{grown, new_key, old_key, repeat_here, repeat_more}
 use Rattle.friend_join.proofs.matches.numbered_keys.Goals as goal
 

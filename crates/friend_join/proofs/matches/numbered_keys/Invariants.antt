@@ -1,4 +1,4 @@
-use Rattle.std.proofs.Common.{◌≡◌, drop, take}
+use Rattle.lemmas.proofs.{◌≡◌, drop, take}
 use Rattle.friend_join.specs.{first_repeat, repeat_from}
 use Rattle.friend_join.proofs.matches.numbered_keys.Given as goal
 

@@ -1,4 +1,4 @@
-use Rattle.std.proofs.Common.{◌≡◌, ◌++◌, map}
+use Rattle.lemmas.proofs.{◌≡◌, ◌++◌, map}
 use Rattle.columns.specs.{whole}
 use Rattle.friend_join.proofs.one_piece.in_one_piece.Given as goal
 

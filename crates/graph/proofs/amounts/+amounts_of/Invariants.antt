@@ -1,4 +1,4 @@
-use Rattle.std.proofs.Common.{length}
+use Rattle.lemmas.proofs.{length}
 use Rattle.graph.proofs.amounts.+amounts_of.Given as goal
 
 abbrev pub decreases-amounts_of : goal.decreases-amounts_of

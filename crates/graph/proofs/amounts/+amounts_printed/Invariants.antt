@@ -1,4 +1,4 @@
-use Rattle.std.proofs.Common.{length}
+use Rattle.lemmas.proofs.{length}
 use Rattle.graph.proofs.amounts.+amounts_printed.Given as goal
 
 abbrev pub decreases-amounts_printed : goal.decreases-amounts_printed

@@ -1,4 +1,4 @@
-use Rattle.std.proofs.Common.{length}
+use Rattle.lemmas.proofs.{length}
 use Rattle.graph.proofs.amounts.+has_variations.Given as goal
 
 abbrev pub decreases-has_variations : goal.decreases-has_variations

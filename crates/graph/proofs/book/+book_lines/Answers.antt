@@ -1,7 +1,6 @@
-use Rattle.std.proofs.Common.{arith, subst}
+use Rattle.lemmas.proofs.{arith, subst}
 use Rattle.graph.specs.{AreTables, statements}
-use Rattle.graph.proofs.Gaining.{gain_fits}
-use Rattle.graph.proofs.Finished.{empty, none_refused}
+use Rattle.graph.proofs.Finished.{gain_fits, empty, none_refused}
 use Rattle.graph.proofs.book.+book_lines.Goals as goal
 
 pub returns-in_default-clause-booked : goal.returns-in_default-clause-booked

@@ -1,4 +1,4 @@
-use Rattle.std.proofs.Common.{length}
+use Rattle.lemmas.proofs.{length}
 use Rattle.graph.proofs.book.+book_lines.Given as goal
 
 abbrev pub decreases-book_lines : goal.decreases-book_lines

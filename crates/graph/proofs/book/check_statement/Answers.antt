@@ -1,8 +1,8 @@
-use Rattle.std.proofs.Common.{ap, refl, subst, sym, ◌∙◌}
+use Rattle.lemmas.proofs.{ap, refl, subst, sym, ◌∙◌}
 use Rattle.rdf_values.specs.{GraphCause, refuse_if}
 use Rattle.rdf_values.specs.declared.scripts.statement.Statement.TheVariants.{Action, Alias, Report, Vary, VariationsFor, Watch, Print}
 use Rattle.graph.specs.{Decides, statements}
-use Rattle.graph.proofs.Gaining.{decided_at, define_made, gained, nothing_gained, redefine_made, row_gained, told}
+use Rattle.graph.proofs.Finished.{decided_at, define_made, gained, nothing_gained, redefine_made, row_gained, told}
 use Rattle.graph.proofs.book.check_statement.Goals as goal
 
 pub returns-in-Define : goal.returns-in-Define

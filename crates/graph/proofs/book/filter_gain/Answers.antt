@@ -1,8 +1,8 @@
-use Rattle.std.proofs.Common.{[], ◌∷◌, ◌∙◌, rules, sym}
+use Rattle.lemmas.proofs.{[], ◌∷◌, ◌∙◌, rules, sym}
 use Rattle.rdf_values.specs.{check_node, ColType, expect_kind, kind_of, scope_at, scope_of}
 use Rattle.graph.specs.{statements}
-use Rattle.graph.proofs.Checking.{alone, passed_before}
-use Rattle.graph.proofs.Gaining.{filter_gained}
+use Rattle.graph.proofs.Walking.{alone, passed_before}
+use Rattle.graph.proofs.Finished.{filter_gained}
 use Rattle.graph.proofs.book.filter_gain.Goals as goal
 
 pub returns-clause-gained : goal.returns-clause-gained

@@ -1,6 +1,6 @@
-use Rattle.std.proofs.Common.{rules}
+use Rattle.lemmas.proofs.{rules}
 use Rattle.graph.specs.{statements}
-use Rattle.graph.proofs.Gaining.{vary_gained}
+use Rattle.graph.proofs.Finished.{vary_gained}
 use Rattle.graph.proofs.book.vary_gain.Goals as goal
 
 pub returns-clause-gained : goal.returns-clause-gained

@@ -1,4 +1,4 @@
-use Rattle.std.proofs.Common.{length}
+use Rattle.lemmas.proofs.{length}
 use Rattle.graph.proofs.checks.+check_lists.Given as goal
 
 abbrev pub decreases-check_lists : goal.decreases-check_lists

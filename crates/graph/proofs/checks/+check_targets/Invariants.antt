@@ -1,4 +1,4 @@
-use Rattle.std.proofs.Common.{length}
+use Rattle.lemmas.proofs.{length}
 use Rattle.graph.proofs.checks.+check_targets.Given as goal
 
 abbrev pub decreases-check_targets : goal.decreases-check_targets

@@ -1,4 +1,4 @@
-use Rattle.std.proofs.Common.{length}
+use Rattle.lemmas.proofs.{length}
 use Rattle.graph.proofs.checks.+repeats.Given as goal
 
 abbrev pub decreases-repeats : goal.decreases-repeats

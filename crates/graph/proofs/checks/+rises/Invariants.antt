@@ -1,4 +1,4 @@
-use Rattle.std.proofs.Common.{length}
+use Rattle.lemmas.proofs.{length}
 use Rattle.graph.proofs.checks.+rises.Given as goal
 
 abbrev pub decreases-rises : goal.decreases-rises

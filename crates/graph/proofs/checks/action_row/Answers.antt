@@ -1,8 +1,8 @@
-use Rattle.std.proofs.Common.{[], ◌∷◌, map, ap, ◌∙◌}
+use Rattle.lemmas.proofs.{[], ◌∷◌, map, ap, ◌∙◌}
 use Rattle.graph_numbers.specs.{ResultKind, version_at}
 use Rattle.graph.specs.{any_has, statements}
 use Rattle.rdf_values.specs.{columns_of, path}
-use Rattle.graph.proofs.Counting.{action_set_is}
+use Rattle.graph.proofs.Finished.{action_set_is}
 use Rattle.graph.proofs.checks.action_row.Goals as goal
 
 pub returns : goal.returns

@@ -1,4 +1,4 @@
-use Rattle.std.proofs.Common.{length, subst, sym}
+use Rattle.lemmas.proofs.{length, subst, sym}
 use Rattle.rdf_values.specs.{check_values, scope_at, scope_of}
 use Rattle.graph.specs.{Decides, statements}
 use Rattle.graph.proofs.checks.check_values.Goals as goal

@@ -1,9 +1,9 @@
-use Rattle.std.proofs.Common.{[], ◌∷◌, ◌∙◌, ap, subst, sym}
+use Rattle.lemmas.proofs.{[], ◌∷◌, ◌∙◌, ap, subst, sym}
 use Rattle.std.proofs.lemmas.List.{append-nil}
 use Rattle.rdf_values.specs.{bookings, first_refusal, GraphCause, refuse_if, refuse_unless, variations}
 use Rattle.rdf_values.specs.declared.scripts.statement.Statement.TheVariants.{VariationsFor}
 use Rattle.graph.specs.{statements}
-use Rattle.graph.proofs.Counting.{AllPassed, passes_checked, rows_passed}
+use Rattle.graph.proofs.Finished.{AllPassed, passes_checked, rows_passed}
 use Rattle.graph.proofs.checks.check_variations_for.Goals as goal
 
 pub returns : goal.returns

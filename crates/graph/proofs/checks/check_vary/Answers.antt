@@ -1,7 +1,7 @@
-use Rattle.std.proofs.Common.{[], ◌∷◌, ◌∙◌, ap, length}
+use Rattle.lemmas.proofs.{[], ◌∷◌, ◌∙◌, ap, length}
 use Rattle.rdf_values.specs.{check_node, check_tags, check_values, first_refusal, GraphCause, refuse_if, repeats, scope_at, scope_of}
 use Rattle.graph.specs.{statements, targets_at}
-use Rattle.graph.proofs.Checking.{stopped_before, decided_last, handed_on}
+use Rattle.graph.proofs.Walking.{stopped_before, decided_last, handed_on}
 use Rattle.graph.proofs.checks.check_vary.Goals as goal
 
 pub returns-in_err-stop_if-clause-decided : goal.returns-in_err-stop_if-clause-decided

@@ -1,4 +1,4 @@
-use Rattle.std.proofs.Common.{length}
+use Rattle.lemmas.proofs.{length}
 use Rattle.graph.proofs.lookup.+column_place.Given as goal
 
 abbrev pub decreases-column_place : goal.decreases-column_place

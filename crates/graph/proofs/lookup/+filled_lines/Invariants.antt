@@ -1,4 +1,4 @@
-use Rattle.std.proofs.Common.{length}
+use Rattle.lemmas.proofs.{length}
 use Rattle.graph.proofs.lookup.+filled_lines.Given as goal
 
 abbrev pub decreases-filled_lines : goal.decreases-filled_lines

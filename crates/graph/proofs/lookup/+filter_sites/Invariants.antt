@@ -1,4 +1,4 @@
-use Rattle.std.proofs.Common.{length}
+use Rattle.lemmas.proofs.{length}
 use Rattle.graph.proofs.lookup.+filter_sites.Given as goal
 
 abbrev pub decreases-filter_sites : goal.decreases-filter_sites

@@ -1,4 +1,4 @@
-use Rattle.std.proofs.Common.{length}
+use Rattle.lemmas.proofs.{length}
 use Rattle.graph.proofs.lookup.+is_report.Given as goal
 
 abbrev pub decreases-is_report : goal.decreases-is_report

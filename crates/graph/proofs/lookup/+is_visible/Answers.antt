@@ -1,6 +1,14 @@
-use Rattle.rdf_values.specs.{scope_of}
-use Rattle.graph.proofs.Walking.{visible_above, visible_past}
+use Rattle.lemmas.proofs.{◌∙◌, ap}
+use Rattle.rdf_values.specs.{is_visible, scope_at, scope_of}
+use Rattle.graph.specs.{statements}
+use Rattle.graph.proofs.Finished.{empty}
+use Rattle.graph.proofs.Walking.{column_seen, visible_above, visible_past}
 use Rattle.graph.proofs.lookup.+is_visible.Goals as goal
+
+pub returns-in_default : goal.returns-in_default
+returns-in_default t c names =
+    c.is_cell.ensures ∙ column_seen c.args.header.now c.args.name.now
+    ∙ ap (λ ls. is_visible (scope_at names (scope_of c.args.header.now) (statements ls) c.args.node.now) c.args.name.now) (empty c.args.before.now c.in_default.ensures.cases)
 
 pub returns-in-None : goal.returns-in-None
 returns-in-None t c names =

@@ -1,4 +1,4 @@
-use Rattle.std.proofs.Common.{length}
+use Rattle.lemmas.proofs.{length}
 use Rattle.graph.proofs.lookup.+is_visible.Given as goal
 
 abbrev pub decreases-is_visible : goal.decreases-is_visible

@@ -1,4 +1,4 @@
-use Rattle.std.proofs.Common.{length}
+use Rattle.lemmas.proofs.{length}
 use Rattle.graph.proofs.lookup.+is_watchable.Given as goal
 
 abbrev pub decreases-is_watchable : goal.decreases-is_watchable

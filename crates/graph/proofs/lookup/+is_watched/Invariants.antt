@@ -1,4 +1,4 @@
-use Rattle.std.proofs.Common.{length}
+use Rattle.lemmas.proofs.{length}
 use Rattle.graph.proofs.lookup.+is_watched.Given as goal
 
 abbrev pub decreases-is_watched : goal.decreases-is_watched

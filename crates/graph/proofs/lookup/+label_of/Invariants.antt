@@ -1,4 +1,4 @@
-use Rattle.std.proofs.Common.{length}
+use Rattle.lemmas.proofs.{length}
 use Rattle.graph.proofs.lookup.+label_of.Given as goal
 
 abbrev pub decreases-label_of : goal.decreases-label_of

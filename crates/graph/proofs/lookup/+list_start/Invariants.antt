@@ -1,4 +1,4 @@
-use Rattle.std.proofs.Common.{length}
+use Rattle.lemmas.proofs.{length}
 use Rattle.graph.proofs.lookup.+list_start.Given as goal
 
 abbrev pub decreases-list_start : goal.decreases-list_start

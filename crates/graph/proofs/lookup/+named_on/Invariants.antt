@@ -1,4 +1,4 @@
-use Rattle.std.proofs.Common.{length}
+use Rattle.lemmas.proofs.{length}
 use Rattle.graph.proofs.lookup.+named_on.Given as goal
 
 abbrev pub decreases-named_on : goal.decreases-named_on

@@ -1,4 +1,4 @@
-use Rattle.std.proofs.Common.{length}
+use Rattle.lemmas.proofs.{length}
 use Rattle.graph.proofs.lookup.+named_version.Given as goal
 
 abbrev pub decreases-named_version : goal.decreases-named_version

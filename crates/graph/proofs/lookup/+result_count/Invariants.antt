@@ -1,4 +1,4 @@
-use Rattle.std.proofs.Common.{length}
+use Rattle.lemmas.proofs.{length}
 use Rattle.graph.proofs.lookup.+result_count.Given as goal
 
 abbrev pub decreases-result_count : goal.decreases-result_count

@@ -1,4 +1,4 @@
-use Rattle.std.proofs.Common.{length}
+use Rattle.lemmas.proofs.{length}
 use Rattle.graph.proofs.lookup.+target_of.Given as goal
 
 abbrev pub decreases-target_of : goal.decreases-target_of

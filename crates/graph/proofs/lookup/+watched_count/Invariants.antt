@@ -1,4 +1,4 @@
-use Rattle.std.proofs.Common.{length}
+use Rattle.lemmas.proofs.{length}
 use Rattle.graph.proofs.lookup.+watched_count.Given as goal
 
 abbrev pub decreases-watched_count : goal.decreases-watched_count

@@ -1,4 +1,4 @@
-use Rattle.std.proofs.Common.{◌≡◌}
+use Rattle.lemmas.proofs.{◌≡◌}
 use Rattle.graph.specs.{count_from}
 use Rattle.graph.proofs.lookup.numbers.Given as goal
 

@@ -1,4 +1,4 @@
-use Rattle.std.proofs.Common.{length}
+use Rattle.lemmas.proofs.{length}
 use Rattle.graph.proofs.loops.+loop_tables.Given as goal
 
 abbrev pub decreases-loop_tables : goal.decreases-loop_tables

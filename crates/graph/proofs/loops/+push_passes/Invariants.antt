@@ -1,4 +1,4 @@
-use Rattle.std.proofs.Common.{length}
+use Rattle.lemmas.proofs.{length}
 use Rattle.graph.proofs.loops.+push_passes.Given as goal
 
 abbrev pub decreases-push_passes : goal.decreases-push_passes

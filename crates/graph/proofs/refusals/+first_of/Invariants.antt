@@ -1,4 +1,4 @@
-use Rattle.std.proofs.Common.{length}
+use Rattle.lemmas.proofs.{length}
 use Rattle.graph.proofs.refusals.+first_of.Given as goal
 
 abbrev pub decreases-first_of : goal.decreases-first_of

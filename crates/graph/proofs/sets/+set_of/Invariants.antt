@@ -1,4 +1,4 @@
-use Rattle.std.proofs.Common.{length}
+use Rattle.lemmas.proofs.{length}
 use Rattle.graph.proofs.sets.+set_of.Given as goal
 
 abbrev pub decreases-set_of : goal.decreases-set_of

@@ -1,4 +1,4 @@
-use Rattle.std.proofs.Common.{length, map, take}
+use Rattle.lemmas.proofs.{length, map, take}
 use Rattle.graph.specs.{AreSets, set_changed}
 use Rattle.graph.proofs.sets.changed_sets.Given as goal
 

@@ -1,4 +1,4 @@
-use Rattle.std.proofs.Common.{◌≡◌, ◌-◌, ℕ}
+use Rattle.lemmas.proofs.{◌≡◌, ◌-◌, ℕ}
 use Rattle.graph.specs.{has, is_among_own}
 use Rattle.graph.proofs.sets.own_set.Given as goal
 

@@ -1,4 +1,4 @@
-use Rattle.std.proofs.Common.{take}
+use Rattle.lemmas.proofs.{take}
 use Rattle.graph.specs.{AreSets, read_sets}
 use Rattle.graph.proofs.sets.sets_of.Given as goal
 

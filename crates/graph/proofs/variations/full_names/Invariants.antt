@@ -1,4 +1,4 @@
-use Rattle.std.proofs.Common.{◌≡◌, take}
+use Rattle.lemmas.proofs.{◌≡◌, take}
 use Rattle.graph.specs.{named}
 use Rattle.graph.proofs.variations.full_names.Given as goal
 

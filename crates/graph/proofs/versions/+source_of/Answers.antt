@@ -1,4 +1,4 @@
-use Rattle.std.proofs.Common.{Some, ap, ◌∙◌, sym, subst, arith, ℕ, List, length}
+use Rattle.lemmas.proofs.{Some, ap, ◌∙◌, sym, subst, arith, ℕ, List, length}
 use Rattle.graph_numbers.specs.declared.version.Version.TheVariants.{Cell, Computed, Varied}
 use Rattle.graph.specs.{HasSites}
 use Rattle.graph.proofs.versions.+source_of.Goals as goal

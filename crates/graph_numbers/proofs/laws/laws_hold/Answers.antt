@@ -1,17 +1,14 @@
-use Rattle.std.proofs.Common.{arith, sym}
+use Rattle.lemmas.proofs.{arith, sym}
 use Rattle.rdf_values.specs.{AreAccepted, fn_names, history, scope_of, Script}
 use Rattle.rdf_model.specs.{Dataset}
-use Rattle.rdf_model.proofs.KnownColumns.{each_weaker}
+use Rattle.rdf_model.proofs.Typing.{each_weaker}
 use Rattle.rdf_model.proofs.Accepted.{verdict_is_the_first_refusal}
 use Rattle.graph_numbers.specs.{graph_of, IsGraph}
 use Rattle.graph_numbers.proofs.Apart.{site_number, variation_number}
-use Rattle.graph_numbers.proofs.ColumnSources.{column_source}
-use Rattle.graph_numbers.proofs.Covering.{action_conditions, filter_conditions, filters_are_the_scripts, reports_cover_filters}
-use Rattle.graph_numbers.proofs.Equations.{columns_below, site_is, source_is}
+use Rattle.graph_numbers.proofs.Closing.{columns_below}
+use Rattle.graph_numbers.proofs.Covering.{column_source, site_is, source_is, actions_have_sites, filters_have_sites, filters_are_the_scripts, reports_cover_filters, loops_are, runs_are, booked_are, result_is}
 use Rattle.graph_numbers.proofs.Placing.{itself, versions_count}
-use Rattle.graph_numbers.proofs.Looping.{loops_are, runs_are}
-use Rattle.graph_numbers.proofs.Resulting.{booked_are, result_is}
-use Rattle.graph_numbers.proofs.VersionSources.{version_source}
+use Rattle.graph_numbers.proofs.Origins.{version_source}
 use Rattle.graph_numbers.proofs.laws.laws_hold.Goals as goal
 
 accepted : (script : Script) (d : Dataset) → IsGraph (graph_of script d) → AreAccepted (fn_names d.fns) (scope_of d.columns) (history script)
@@ -34,7 +31,7 @@ returns c =
       prints = λ g. runs_are (history g.script) (history g.script) itself;
       sources = λ g is u c x h. version_source g.header g.names (history g.script) ((verdict_is_the_first_refusal g.names g.header g.script).0 is.accepted) u c x h;
       filters = filters_are_the_scripts;
-      filter_sites = λ g n f h. filter_conditions g.header g.names (history g.script) n f h;
-      action_sites = λ g n r k at h is. action_conditions g.header g.names (history g.script) n r h k at is;
+      filter_sites = filters_have_sites;
+      action_sites = actions_have_sites;
       covered = reports_cover_filters;
     }

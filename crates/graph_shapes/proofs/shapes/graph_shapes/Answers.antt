@@ -1,4 +1,4 @@
-use Rattle.std.proofs.Common.{arith}
+use Rattle.lemmas.proofs.{arith}
 use Rattle.graph_shapes.proofs.Looped.{loop_more, loops_all}
 use Rattle.graph_shapes.proofs.shapes.graph_shapes.Goals as goal
 

@@ -1,4 +1,4 @@
-use Rattle.std.proofs.Common.{◌≡◌, length, take}
+use Rattle.lemmas.proofs.{◌≡◌, length, take}
 use Rattle.graph_numbers.specs.{graph_loops}
 use Rattle.graph_shapes.specs.{graph_shapes}
 use Rattle.graph_shapes.proofs.shapes.graph_shapes.Given as goal

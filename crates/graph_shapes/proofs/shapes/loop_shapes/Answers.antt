@@ -1,5 +1,4 @@
-use Rattle.std.proofs.Common.{None, arith, slice_index_or}
-use Rattle.lemmas.proofs.{something_at}
+use Rattle.lemmas.proofs.{None, arith, slice_index_or, something_at}
 use Rattle.graph_numbers.specs.{Pass}
 use Rattle.result_text.specs.{passes_at}
 use Rattle.result_text.proofs.PassLines.{pass_there}

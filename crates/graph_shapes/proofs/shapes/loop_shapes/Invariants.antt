@@ -1,4 +1,4 @@
-use Rattle.std.proofs.Common.{◌≡◌, take}
+use Rattle.lemmas.proofs.{◌≡◌, take}
 use Rattle.result_text.specs.{passes_at}
 use Rattle.shard_spans.specs.{pass_shapes}
 use Rattle.graph_shapes.specs.{pass_kind}

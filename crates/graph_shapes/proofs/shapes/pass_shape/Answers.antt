@@ -1,4 +1,4 @@
-use Rattle.std.proofs.Common.{◌∙◌, arith}
+use Rattle.lemmas.proofs.{◌∙◌, arith}
 use Rattle.result_text.proofs.PassLines.{is_pass_at, result_within}
 use Rattle.graph_shapes.proofs.Shaping.{action_shaped, cells_within, report_shaped}
 use Rattle.graph_shapes.proofs.shapes.pass_shape.Goals as goal

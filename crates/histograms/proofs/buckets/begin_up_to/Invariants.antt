@@ -1,4 +1,4 @@
-use Rattle.std.proofs.Common.{ℕ, suc, ◌≡◌, ◌<◌, ◌≤◌, ◌-◌, get_or, length}
+use Rattle.lemmas.proofs.{ℕ, suc, ◌≡◌, ◌<◌, ◌≤◌, ◌-◌, get_or, length}
 use Rattle.histograms.proofs.buckets.begin_up_to.Given as goal
 
 abbrev pub invariant-loop-starts : goal.invariant-loop-starts

@@ -1,4 +1,4 @@
-use Rattle.std.proofs.Common.{ℕ, ◌≡◌, ◌<◌, ◌≤◌, get_or}
+use Rattle.lemmas.proofs.{ℕ, ◌≡◌, ◌<◌, ◌≤◌, get_or}
 use Rattle.histograms.specs.{CellSum, together}
 use Rattle.histograms.proofs.cell_sum.add_all.Given as goal
 

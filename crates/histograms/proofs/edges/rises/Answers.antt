@@ -1,6 +1,6 @@
-use Rattle.std.proofs.Common.{◌≡◌, rules, int_lt}
+use Rattle.lemmas.proofs.{◌≡◌, rules, int_lt}
 use Rattle.std.proofs.lemmas.Fn.{always_returns_same}
-use Rattle.histograms.proofs.Starts.{rises-adjacent}
+use Rattle.histograms.proofs.Filling.{rises-adjacent}
 use Rattle.histograms.proofs.edges.rises.Goals as goal
 
 pub returns : goal.returns

@@ -1,4 +1,4 @@
-use Rattle.std.proofs.Common.{◌<◌, ℕ, List, get_or, subst, sym}
+use Rattle.lemmas.proofs.{◌<◌, ℕ, List, get_or, subst, sym}
 use Rattle.loop_keys.specs.{job_graph, job_of, key_count}
 use Rattle.loop_keys.proofs.KeyLaws.{key_read}
 use Rattle.loop_keys.proofs.reading.key.Goals as goal

@@ -1,7 +1,7 @@
-use Rattle.std.proofs.Common.{◌≡◌, ◌<◌, ◌+◌, length, sym, subst, ◌∙◌, ap, arith}
+use Rattle.lemmas.proofs.{◌≡◌, ◌<◌, ◌+◌, length, ◌∙◌, ap, arith}
 use Rattle.graph_numbers.specs.{graph_sites}
-use Rattle.loop_keys.specs.{AreEach, key}
-use Rattle.loop_keys.proofs.Elements.{more_each, none_each}
+use Rattle.loop_keys.specs.{key}
+use Rattle.loop_keys.proofs.EvaluateLaws.{more_each, none_each}
 use Rattle.loop_keys.proofs.KeyLaws.{here_key, next_first, no_keys}
 use Rattle.loop_keys.proofs.rows.keys_under.Goals as goal
 
@@ -23,7 +23,7 @@ loop-site-preserved c =
     let depends = c.site_depends-depends in
     let own : c.loop-site.first + c.slot.result ≡ key g s c.args.under = ap (λ n. c.loop-site.first + n) c.slot.ensures.value ∙ here_key g s inside depends.result depends.ensures c.loop-site.first i.next c.args.under in
     record {
-      each = subst (AreEach (λ s k. k ≡ key g s c.args.under) (s + 1)) (sym c.in_ok-push.ensures.ok) (more_each (λ s k. k ≡ key g s c.args.under) s c.loop-site.keys i.each (c.loop-site.first + c.slot.result) own);
+      each = more_each (λ s k. k ≡ key g s c.args.under) s c.loop-site.keys i.each (c.loop-site.first + c.slot.result) _ own c.in_ok-push.ensures.ok;
       next = next_first g s inside depends.result depends.ensures c.loop-site.first i.next c.count.result c.count.ensures.members c.count.ensures.above;
       small = (let a = i.small in let b = c.count.ensures.bound in omega (arith, a, b));
     }

@@ -1,4 +1,4 @@
-use Rattle.std.proofs.Common.{◌≡◌, ◌*◌, ◌≤◌}
+use Rattle.lemmas.proofs.{◌≡◌, ◌*◌, ◌≤◌}
 use Rattle.graph_numbers.specs.{graph_sites, graph_variations}
 use Rattle.loop_keys.specs.{AreEach, key, keys_before}
 use Rattle.loop_keys.proofs.rows.keys_under.Given as goal

@@ -1,4 +1,4 @@
-use Rattle.std.proofs.Common.{◌≡◌}
+use Rattle.lemmas.proofs.{◌≡◌}
 use Rattle.graph_numbers.specs.{graph_sources, source_in}
 use Rattle.loop_keys.specs.{AreEach, key_under, place_of}
 use Rattle.loop_keys.proofs.rows.places_under.Given as goal

@@ -1,4 +1,4 @@
-use Rattle.std.proofs.Common.{arith}
+use Rattle.lemmas.proofs.{arith}
 use Rattle.loop_keys.proofs.KeyLaws.{row_of_nominal, row_of_none, row_of_some}
 use Rattle.loop_keys.proofs.rows.row_at.Goals as goal
 

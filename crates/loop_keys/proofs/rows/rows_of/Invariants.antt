@@ -1,4 +1,4 @@
-use Rattle.std.proofs.Common.{suc}
+use Rattle.lemmas.proofs.{suc}
 use Rattle.loop_keys.specs.{AreEach, IsRow, row_under}
 use Rattle.loop_keys.proofs.rows.rows_of.Given as goal
 

@@ -1,7 +1,7 @@
-use Rattle.std.proofs.Common.{arith, sym, subst}
+use Rattle.lemmas.proofs.{arith, sym, subst}
 use Rattle.std.specs.List.{All}
 use Rattle.loop_pieces.specs.{AreCounts}
-use Rattle.loop_pieces.proofs.Joined.{sum_is, are_counts}
+use Rattle.loop_pieces.proofs.ByCluster.{sum_is, are_counts}
 use Rattle.loop_pieces.proofs.flow.add_counts.Goals as goal
 
 pub returns-clause-sum : goal.returns-clause-sum

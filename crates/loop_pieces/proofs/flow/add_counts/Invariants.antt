@@ -1,4 +1,4 @@
-use Rattle.std.proofs.Common.{◌≡◌, ℕ, ◌<◌, ◌≤◌, length, get_or}
+use Rattle.lemmas.proofs.{◌≡◌, ℕ, ◌<◌, ◌≤◌, length, get_or}
 use Rattle.loop_pieces.specs.{both, nothing}
 use Rattle.loop_pieces.proofs.flow.add_counts.Given as goal
 

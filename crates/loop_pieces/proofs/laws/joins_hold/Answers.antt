@@ -1,4 +1,4 @@
-use Rattle.loop_pieces.proofs.Joined.{joins_from_either_side, joins_in_either_order, no_cluster_is_neutral}
+use Rattle.loop_pieces.proofs.ByCluster.{joins_from_either_side, joins_in_either_order, no_cluster_is_neutral}
 use Rattle.loop_pieces.proofs.laws.joins_hold.Goals as goal
 
 pub returns : goal.returns

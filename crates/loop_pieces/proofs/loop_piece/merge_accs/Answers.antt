@@ -1,6 +1,6 @@
-use Rattle.std.proofs.Common.{◌∙◌, arith, get_or-set_other}
+use Rattle.lemmas.proofs.{◌∙◌, arith, get_or-set_other}
 use Rattle.std.proofs.lemmas.List.{length-set}
-use Rattle.loop_pieces.proofs.Joined.{done_next}
+use Rattle.loop_pieces.proofs.ByCluster.{done_next}
 use Rattle.loop_pieces.proofs.loop_piece.merge_accs.Goals as goal
 
 pub loop-i-preserved : goal.loop-i-preserved

@@ -1,7 +1,6 @@
-use Rattle.std.proofs.Common.{◌++◌, sym, ap, ◌∙◌, append-nil, rules, FitsSigned}
-use Rattle.lemmas.proofs.{on_ok, to_z-of_z, w128}
+use Rattle.lemmas.proofs.{◌++◌, sym, ap, ◌∙◌, append-nil, rules, FitsSigned, on_ok, to_z-of_z, w128}
 use Rattle.histograms.specs.{cell_seen}
-use Rattle.result_text.proofs.CellNames.{cell_put, no_line}
+use Rattle.result_text.proofs.PassLines.{cell_put, no_line}
 use Rattle.merged_text.proofs.cells.put_cell.Goals as goal
 
 pub returns-then-i-edges : goal.returns-then-i-edges

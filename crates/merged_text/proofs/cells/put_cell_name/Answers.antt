@@ -1,7 +1,6 @@
-use Rattle.std.proofs.Common.{◌-◌, Some, pos, get_or, sym, ap, ◌∙◌, arith, rules, w64, FitsSigned}
-use Rattle.lemmas.proofs.{on_ok, to_z-of_z}
+use Rattle.lemmas.proofs.{◌-◌, Some, pos, get_or, sym, ap, ◌∙◌, arith, rules, w64, FitsSigned, on_ok, to_z-of_z}
 use Rattle.result_text.specs.{behind}
-use Rattle.result_text.proofs.CellNames.{bin_at, last_name}
+use Rattle.result_text.proofs.PassLines.{bin_at, last_name}
 use Rattle.merged_text.proofs.cells.put_cell_name.Goals as goal
 
 pub returns-then-i-edges : goal.returns-then-i-edges

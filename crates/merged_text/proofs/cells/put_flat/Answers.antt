@@ -1,7 +1,6 @@
-use Rattle.std.proofs.Common.{◌++◌, ap, ◌∙◌, map}
-use Rattle.lemmas.proofs.{on_ok}
+use Rattle.lemmas.proofs.{◌++◌, ap, ◌∙◌, map, on_ok}
 use Rattle.histograms.specs.{cell_seen}
-use Rattle.result_text.proofs.CellNames.{flat_lines}
+use Rattle.result_text.proofs.PassLines.{flat_lines}
 use Rattle.merged_text.proofs.cells.put_flat.Goals as goal
 
 pub returns : goal.returns

@@ -1,7 +1,6 @@
-use Rattle.std.proofs.Common.{map}
-use Rattle.lemmas.proofs.{on_ok}
+use Rattle.lemmas.proofs.{map, on_ok}
 use Rattle.histograms.specs.{cell_seen}
-use Rattle.result_text.proofs.CellNames.{plane_put}
+use Rattle.result_text.proofs.PassLines.{plane_put}
 use Rattle.merged_text.proofs.cells.put_named_row.Goals as goal
 
 pub returns : goal.returns

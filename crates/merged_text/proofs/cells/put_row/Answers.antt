@@ -1,7 +1,7 @@
-use Rattle.std.proofs.Common.{ap, ◌∙◌, map, option_map}
+use Rattle.lemmas.proofs.{ap, ◌∙◌, map, option_map}
 use Rattle.std.proofs.lemmas.Option.{slice_get-get_or, slice_get-map}
 use Rattle.histograms.specs.{cell_seen}
-use Rattle.result_text.proofs.CellNames.{line_next}
+use Rattle.result_text.proofs.PassLines.{line_next}
 use Rattle.merged_text.proofs.cells.put_row.Goals as goal
 
 pub loop-i-preserved : goal.loop-i-preserved

@@ -1,4 +1,4 @@
-use Rattle.std.proofs.Common.{◌≡◌, ◌++◌, drop, map}
+use Rattle.lemmas.proofs.{◌≡◌, ◌++◌, drop, map}
 use Rattle.histograms.specs.{cell_seen}
 use Rattle.result_text.specs.{lines_on}
 use Rattle.merged_text.proofs.cells.put_row.Given as goal

@@ -1,6 +1,6 @@
-use Rattle.std.proofs.Common.{◌≡◌, ◌++◌, ◌+◌, suc, ap, ◌∙◌, arith, drop, length, map, take}
+use Rattle.lemmas.proofs.{◌≡◌, ◌++◌, ◌+◌, suc, ap, ◌∙◌, arith, drop, length, map, take}
 use Rattle.histograms.specs.{cell_seen}
-use Rattle.result_text.proofs.CellNames.{planes_are}
+use Rattle.result_text.proofs.PassLines.{planes_are}
 use Rattle.merged_text.specs.{rows_of}
 use Rattle.merged_text.proofs.Rows.{row_next, rows_begin, rows_end}
 use Rattle.merged_text.proofs.cells.put_square.Goals as goal

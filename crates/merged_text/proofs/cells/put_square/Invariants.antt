@@ -1,4 +1,4 @@
-use Rattle.std.proofs.Common.{◌≡◌, ◌++◌, ◌-◌, length, map, suc}
+use Rattle.lemmas.proofs.{◌≡◌, ◌++◌, ◌-◌, length, map, suc}
 use Rattle.histograms.specs.{cell_seen}
 use Rattle.result_text.specs.{planes_on}
 use Rattle.merged_text.specs.{rows_of}

@@ -1,4 +1,4 @@
-use Rattle.std.proofs.Common.{Ok, ap, arith}
+use Rattle.lemmas.proofs.{Ok, ap, arith}
 use Rattle.std.proofs.lemmas.List.{length-map}
 use Rattle.graph_numbers.specs.{booked_statements, result_number}
 use Rattle.rdf_model.specs.{Access, accesses, Printed}

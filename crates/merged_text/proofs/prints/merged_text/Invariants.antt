@@ -1,4 +1,4 @@
-use Rattle.std.proofs.Common.{◌≡◌, length}
+use Rattle.lemmas.proofs.{◌≡◌, length}
 use Rattle.graph_numbers.specs.{graph_prints}
 use Rattle.merged_text.specs.{merged_text}
 use Rattle.merged_text.proofs.Printing.{IsWritten}

@@ -1,5 +1,4 @@
-use Rattle.std.proofs.Common.{◌++◌, ap, ◌∙◌, inl, inr, arith, sym}
-use Rattle.lemmas.proofs.{on_ok, slice_get-get_or}
+use Rattle.lemmas.proofs.{◌++◌, ap, ◌∙◌, inl, inr, arith, sym, on_ok, slice_get-get_or}
 use Rattle.graph_numbers.specs.{graph_filters}
 use Rattle.merged_text.proofs.Flows.{first_flow, flow_end, flow_next, no_flows}
 use Rattle.merged_text.proofs.told.put_flows.Goals as goal

@@ -1,4 +1,4 @@
-use Rattle.std.proofs.Common.{◌≡◌, ◌++◌, drop}
+use Rattle.lemmas.proofs.{◌≡◌, ◌++◌, drop}
 use Rattle.graph_numbers.specs.{graph_filters}
 use Rattle.merged_text.specs.{filter_counts}
 use Rattle.merged_text.proofs.Flows.{flows}

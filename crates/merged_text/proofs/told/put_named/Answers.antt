@@ -1,5 +1,4 @@
-use Rattle.std.proofs.Common.{◌++◌, sym, ap, ◌∙◌, append-nil}
-use Rattle.lemmas.proofs.{on_ok}
+use Rattle.lemmas.proofs.{◌++◌, sym, ap, ◌∙◌, append-nil, on_ok}
 use Rattle.rdf_values.specs.{same}
 use Rattle.result_text.proofs.PassLines.{is_pass_at, result_within}
 use Rattle.merged_text.proofs.LoopPasses.{name_of}

@@ -1,10 +1,8 @@
-use Rattle.std.proofs.Common.{◌<◌, ◌++◌, All, length, subst, sym, ap, ◌∙◌, append_assoc, codes}
-use Rattle.lemmas.proofs.{on_ok, something_at}
+use Rattle.lemmas.proofs.{◌<◌, ◌++◌, All, length, subst, sym, ap, ◌∙◌, append_assoc, codes, on_ok, something_at}
 use Rattle.graph_numbers.specs.{graph_filters, graph_results}
 use Rattle.rdf_model.specs.{flow_lines, label}
 use Rattle.result_text.specs.{under_in, value_lines}
-use Rattle.result_text.proofs.PassLines.{its_covers, is_pass_at, result_within}
-use Rattle.result_text.proofs.Covers.{covers_within}
+use Rattle.result_text.proofs.PassLines.{its_covers, is_pass_at, result_within, covers_within}
 use Rattle.result_text.proofs.Within.{IsIn, is_in_for, variation_within}
 use Rattle.merged_text.specs.{filter_counts, line_filled}
 use Rattle.merged_text.proofs.LoopPasses.{action_text, report_on, report_text}

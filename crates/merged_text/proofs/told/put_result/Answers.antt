@@ -1,5 +1,4 @@
-use Rattle.std.proofs.Common.{None, arith, inl, inr, length, refl, slice_index_or}
-use Rattle.lemmas.proofs.{slice_get_read, something_at}
+use Rattle.lemmas.proofs.{None, arith, inl, inr, length, refl, slice_index_or, slice_get_read, something_at}
 use Rattle.graph_numbers.specs.{Pass}
 use Rattle.result_text.specs.{passes_at}
 use Rattle.result_text.proofs.PassLines.{pass_there}

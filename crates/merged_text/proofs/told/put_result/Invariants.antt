@@ -1,4 +1,4 @@
-use Rattle.std.proofs.Common.{◌≡◌, ◌++◌, drop}
+use Rattle.lemmas.proofs.{◌≡◌, ◌++◌, drop}
 use Rattle.result_text.specs.{passes_at}
 use Rattle.merged_text.specs.{lines_of_result}
 use Rattle.merged_text.proofs.told.put_result.Given as goal

@@ -1,4 +1,4 @@
-use Rattle.std.proofs.Common.{◌≡◌, ◌++◌, take}
+use Rattle.lemmas.proofs.{◌≡◌, ◌++◌, take}
 use Rattle.result_text.specs.{more_taken}
 use Rattle.merged_text.proofs.values.put_others.Given as goal
 

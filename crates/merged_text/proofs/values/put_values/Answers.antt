@@ -1,8 +1,7 @@
-use Rattle.std.proofs.Common.{◌++◌, sym, ap, ◌∙◌, append_assoc}
-use Rattle.lemmas.proofs.{on_ok}
+use Rattle.lemmas.proofs.{◌++◌, sym, ap, ◌∙◌, append_assoc, on_ok}
 use Rattle.rdf_model.specs.{scalar_text, taken_text}
 use Rattle.result_text.specs.{more_taken}
-use Rattle.result_text.proofs.CellNames.{joined_front}
+use Rattle.result_text.proofs.PassLines.{joined_front}
 use Rattle.merged_text.proofs.values.put_values.Goals as goal
 
 pub returns : goal.returns

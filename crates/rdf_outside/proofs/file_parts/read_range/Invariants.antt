@@ -1,4 +1,4 @@
-use Rattle.std.proofs.Common.{◌≤◌, ◌-◌, length}
+use Rattle.lemmas.proofs.{◌≤◌, ◌-◌, length}
 use Rattle.rdf_outside.proofs.file_parts.read_range.Given as goal
 
 abbrev pub invariant-loop-buffer : goal.invariant-loop-buffer

@@ -1,10 +1,10 @@
-use Rattle.std.proofs.Common.{arith}
-use Rattle.rdf_outside.proofs.Files.{bytes_at_is, bytes_past, nothing_left, some_left}
+use Rattle.lemmas.proofs.{arith}
+use Rattle.rdf_outside.proofs.Outside.{bytes_at_is, bytes_past, none_left, some_left}
 use Rattle.rdf_outside.proofs.memory_shelf.rest_at.Goals as goal
 
 pub returns-then-place-items : goal.returns-then-place-items
 returns-then-place-items c =
-    nothing_left _ _ c.in-Some.place _ c.in-Some.is (bytes_past c.args.items.now c.in-Some.place.file c.if-place-items.true) (omega arith)
+    none_left _ _ c.in-Some.place _ c.in-Some.is (bytes_past c.args.items.now c.in-Some.place.file c.if-place-items.true) (omega arith)
 
 pub returns : goal.returns
 returns c =

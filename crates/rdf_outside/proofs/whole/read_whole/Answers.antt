@@ -1,4 +1,4 @@
-use Rattle.std.proofs.Common.{rules}
+use Rattle.lemmas.proofs.{rules}
 use Rattle.rdf_outside.proofs.Outside.{reads}
 use Rattle.rdf_outside.proofs.whole.read_whole.Goals as goal
 

@@ -1,4 +1,4 @@
-use Rattle.std.proofs.Common.{◌≡◌, ◌≤◌, ◌+◌, ◌-◌, ℕ, List, length, Some}
+use Rattle.lemmas.proofs.{◌≡◌, ◌≤◌, ◌+◌, ◌-◌, ℕ, List, length, Some}
 use Rattle.rdf_outside.specs.{Joins}
 use Rattle.rdf_outside.proofs.whole.read_whole.Given as goal
 

@@ -1,4 +1,4 @@
-use Rattle.std.proofs.Common.{◌<◌, ℕ, All, subst, sym}
+use Rattle.lemmas.proofs.{◌<◌, ℕ, All, subst, sym}
 use Rattle.friend_join.proofs.Stays.{entries_stay}
 use Rattle.rdf_program.proofs.friend.answer_with_friend.Goals as goal
 

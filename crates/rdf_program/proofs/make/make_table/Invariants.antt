@@ -1,4 +1,4 @@
-use Rattle.std.proofs.Common.{◌≡◌, ◌++◌, codes}
+use Rattle.lemmas.proofs.{◌≡◌, ◌++◌, codes}
 use Rattle.std.specs.List.{flat_map}
 use Rattle.rdf_values.specs.{below, entry_line}
 use Rattle.rdf_program.proofs.make.make_table.Given as goal

@@ -1,4 +1,4 @@
-use Rattle.rdf_program.proofs.OneDue.{settled}
+use Rattle.rdf_program.proofs.Answering.{settled}
 use Rattle.rdf_program.proofs.one_due.one_status_is_due.Goals as goal
 
 pub returns : goal.returns

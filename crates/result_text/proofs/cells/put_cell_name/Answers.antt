@@ -1,7 +1,6 @@
-use Rattle.std.proofs.Common.{Some, sym, ap, ◌∙◌, arith}
-use Rattle.lemmas.proofs.{common_steps, on_ok, to_z-of_z}
+use Rattle.lemmas.proofs.{Some, sym, ap, ◌∙◌, arith, common_steps, on_ok, to_z-of_z}
 use Rattle.result_text.specs.{behind}
-use Rattle.result_text.proofs.CellNames.{bin_at, last_name}
+use Rattle.result_text.proofs.PassLines.{bin_at, last_name}
 use Rattle.result_text.proofs.cells.put_cell_name.Goals as goal
 
 pub returns-then-i-edges : goal.returns-then-i-edges

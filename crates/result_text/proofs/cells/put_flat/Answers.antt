@@ -1,6 +1,6 @@
-use Rattle.std.proofs.Common.{◌++◌, [], ap, ◌∙◌, arith}
+use Rattle.lemmas.proofs.{◌++◌, [], ap, ◌∙◌, arith}
 use Rattle.histograms.specs.{cell_seen}
-use Rattle.result_text.proofs.CellNames.{flat_lines, line_last, line_next}
+use Rattle.result_text.proofs.PassLines.{flat_lines, line_last, line_next}
 use Rattle.result_text.proofs.cells.put_flat.Goals as goal
 
 pub loop-i-preserved : goal.loop-i-preserved

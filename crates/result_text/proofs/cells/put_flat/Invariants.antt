@@ -1,4 +1,4 @@
-use Rattle.std.proofs.Common.{◌≡◌, ◌++◌, [], drop}
+use Rattle.lemmas.proofs.{◌≡◌, ◌++◌, [], drop}
 use Rattle.result_text.specs.{lines_on}
 use Rattle.result_text.proofs.cells.put_flat.Given as goal
 

@@ -1,6 +1,6 @@
-use Rattle.std.proofs.Common.{◌++◌, [], get_or, sym, ap, ◌∙◌, append-nil, arith}
+use Rattle.lemmas.proofs.{◌++◌, [], get_or, sym, ap, ◌∙◌, append-nil, arith}
 use Rattle.histograms.specs.{cell_seen}
-use Rattle.result_text.proofs.CellNames.{line_last, line_next, no_plane, plane_put}
+use Rattle.result_text.proofs.PassLines.{line_last, line_next, no_plane, plane_put}
 use Rattle.result_text.proofs.cells.put_row.Goals as goal
 
 pub returns-then-i-x_edges : goal.returns-then-i-x_edges

@@ -1,4 +1,4 @@
-use Rattle.std.proofs.Common.{◌≡◌, ◌++◌, [], drop, get_or}
+use Rattle.lemmas.proofs.{◌≡◌, ◌++◌, [], drop, get_or}
 use Rattle.result_text.specs.{lines_on}
 use Rattle.result_text.proofs.cells.put_row.Given as goal
 

@@ -1,7 +1,6 @@
-use Rattle.std.proofs.Common.{◌++◌, [], ap, ◌∙◌, arith, get_or}
-use Rattle.lemmas.proofs.{none_left, slice_get-get_or}
+use Rattle.lemmas.proofs.{◌++◌, [], ap, ◌∙◌, arith, get_or, drop_all, slice_get-get_or}
 use Rattle.result_text.specs.{planes_on}
-use Rattle.result_text.proofs.CellNames.{one_left, planes_are, put_last, put_next}
+use Rattle.result_text.proofs.PassLines.{one_left, planes_are, put_last, put_next}
 use Rattle.result_text.proofs.cells.put_square.Goals as goal
 
 pub loop-i-preserved : goal.loop-i-preserved
@@ -12,5 +11,5 @@ loop-i-preserved c =
 
 pub returns : goal.returns
 returns c =
-    put_last _ _ _ c.loop-i.invariant (ap (planes_on c.args.x_edges.now c.args.y_edges.now c.loop-i.i) (none_left c.args.hist.now.cells c.loop-i.i (omega arith)))
+    put_last _ _ _ c.loop-i.invariant (ap (planes_on c.args.x_edges.now c.args.y_edges.now c.loop-i.i) (drop_all c.loop-i.i c.args.hist.now.cells (omega arith)))
     ∙ ap (λ l. c.args.text.now ++ l) (planes_are c.args.x_edges.now c.args.y_edges.now 0 c.args.hist.now.cells)

@@ -1,4 +1,4 @@
-use Rattle.std.proofs.Common.{◌≡◌, ◌++◌, drop}
+use Rattle.lemmas.proofs.{◌≡◌, ◌++◌, drop}
 use Rattle.result_text.specs.{planes_on}
 use Rattle.result_text.proofs.cells.put_square.Given as goal
 

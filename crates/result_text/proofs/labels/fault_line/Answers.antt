@@ -1,4 +1,4 @@
-use Rattle.std.proofs.Common.{None, slice_index_or}
+use Rattle.lemmas.proofs.{None, slice_index_or}
 use Rattle.graph_numbers.specs.{Pass}
 use Rattle.result_text.proofs.PassLines.{is_pass_at, pass_there, result_within}
 use Rattle.result_text.proofs.labels.fault_line.Goals as goal

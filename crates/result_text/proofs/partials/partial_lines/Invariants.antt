@@ -1,4 +1,4 @@
-use Rattle.std.proofs.Common.{◌≡◌, ◌++◌, drop}
+use Rattle.lemmas.proofs.{◌≡◌, ◌++◌, drop}
 use Rattle.result_text.specs.{watch_lines}
 use Rattle.result_text.proofs.partials.partial_lines.Given as goal
 

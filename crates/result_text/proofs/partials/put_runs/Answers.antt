@@ -1,8 +1,7 @@
-use Rattle.std.proofs.Common.{◌≡◌, ◌<◌, ◌++◌, sym, ap, ◌∙◌, append_assoc, arith}
-use Rattle.lemmas.proofs.{All-tail, common_steps, drop_all}
+use Rattle.lemmas.proofs.{◌≡◌, ◌<◌, ◌++◌, sym, ap, ◌∙◌, append_assoc, arith, All-tail, common_steps, drop_all}
 use Rattle.rdf_values.specs.{Span}
 use Rattle.result_text.specs.{more_runs, runs_text}
-use Rattle.result_text.proofs.CellNames.{put_last, runs_front}
+use Rattle.result_text.proofs.PassLines.{put_last, runs_front}
 use Rattle.result_text.proofs.partials.put_runs.Goals as goal
 
 pub put_run-requires-in-loop-run : goal.put_run-requires-in-loop-run

@@ -1,4 +1,4 @@
-use Rattle.std.proofs.Common.{◌≡◌, ◌++◌, drop}
+use Rattle.lemmas.proofs.{◌≡◌, ◌++◌, drop}
 use Rattle.result_text.specs.{more_runs}
 use Rattle.result_text.proofs.partials.put_runs.Given as goal
 

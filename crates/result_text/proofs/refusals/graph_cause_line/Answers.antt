@@ -1,4 +1,4 @@
-use Rattle.std.proofs.Common.{append_assoc}
+use Rattle.lemmas.proofs.{append_assoc}
 use Rattle.result_text.proofs.refusals.graph_cause_line.Goals as goal
 
 pub returns : goal.returns

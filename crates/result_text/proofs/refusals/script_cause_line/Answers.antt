@@ -1,4 +1,4 @@
-use Rattle.std.proofs.Common.{append_assoc}
+use Rattle.lemmas.proofs.{append_assoc}
 use Rattle.result_text.proofs.refusals.script_cause_line.Goals as goal
 
 pub returns-in_ok-format-in-Syntax : goal.returns-in_ok-format-in-Syntax

@@ -1,5 +1,4 @@
-use Rattle.std.proofs.Common.{◌++◌, ◌+◌, None, length, sym, ap, ◌∙◌, arith, append_assoc}
-use Rattle.lemmas.proofs.{on_ok, something_at}
+use Rattle.lemmas.proofs.{◌++◌, ◌+◌, None, length, sym, ap, ◌∙◌, arith, append_assoc, on_ok, something_at}
 use Rattle.rdf_model.specs.{filled_lines, label}
 use Rattle.graph.specs.{has}
 use Rattle.graph_numbers.specs.{graph_results}

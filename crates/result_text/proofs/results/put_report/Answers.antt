@@ -1,9 +1,7 @@
-use Rattle.std.proofs.Common.{◌++◌, ap, ◌∙◌, arith, flat_map}
-use Rattle.lemmas.proofs.{none_left}
+use Rattle.lemmas.proofs.{◌++◌, ap, ◌∙◌, arith, flat_map, drop_all}
 use Rattle.rdf_model.specs.{flow_line}
 use Rattle.result_text.specs.{flow_at}
-use Rattle.result_text.proofs.CellNames.{put_last}
-use Rattle.result_text.proofs.PassLines.{report_lines}
+use Rattle.result_text.proofs.PassLines.{put_last, report_lines}
 use Rattle.result_text.proofs.results.put_report.Goals as goal
 
 pub returns : goal.returns
@@ -13,5 +11,5 @@ returns c =
     let counts = c.counts-reached.result in
     let g = report.graph.now in
     let flow = report.flow.now in
-    put_last _ _ _ c.loop-f.invariant (ap (flat_map (λ f. flow_line report.name.now counts.all (flow_at g flow f).0 (flow_at g flow f).1)) (none_left covered c.loop-f.f-index (omega arith)))
+    put_last _ _ _ c.loop-f.invariant (ap (flat_map (λ f. flow_line report.name.now counts.all (flow_at g flow f).0 (flow_at g flow f).1)) (drop_all c.loop-f.f-index covered (omega arith)))
     ∙ ap (λ l. c.args.text.now ++ l) (report_lines g flow report.name.now c.in-Some.first.now _ covered counts c.in-Some.ensures.cases.0 c.counts-reached.ensures)

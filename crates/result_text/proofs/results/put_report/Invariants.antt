@@ -1,4 +1,4 @@
-use Rattle.std.proofs.Common.{◌≡◌, ◌++◌, drop, flat_map}
+use Rattle.lemmas.proofs.{◌≡◌, ◌++◌, drop, flat_map}
 use Rattle.rdf_model.specs.{flow_line}
 use Rattle.result_text.specs.{flow_at}
 use Rattle.result_text.proofs.results.put_report.Given as goal

@@ -1,5 +1,4 @@
-use Rattle.std.proofs.Common.{◌+◌, length, drop, sym, ap, ◌∙◌, arith}
-use Rattle.lemmas.proofs.{something_at}
+use Rattle.lemmas.proofs.{◌+◌, length, drop, sym, ap, ◌∙◌, arith, something_at}
 use Rattle.graph.specs.{has}
 use Rattle.result_text.specs.{members_from}
 use Rattle.result_text.proofs.PassLines.{members_few, members_no, members_yes, stays, varied_next}

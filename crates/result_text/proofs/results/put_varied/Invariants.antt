@@ -1,4 +1,4 @@
-use Rattle.std.proofs.Common.{◌≡◌, ◌+◌, ◌≤◌, ◌++◌, drop, length}
+use Rattle.lemmas.proofs.{◌≡◌, ◌+◌, ◌≤◌, ◌++◌, drop, length}
 use Rattle.graph.specs.{has}
 use Rattle.result_text.specs.{members_from, under_lines}
 use Rattle.result_text.proofs.results.put_varied.Given as goal

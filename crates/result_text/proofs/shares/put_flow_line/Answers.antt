@@ -1,5 +1,4 @@
-use Rattle.std.proofs.Common.{◌≡◌, ◌++◌, ◌∷◌, [], append_assoc}
-use Rattle.lemmas.proofs.{on_ok}
+use Rattle.lemmas.proofs.{◌≡◌, ◌++◌, ◌∷◌, [], append_assoc, on_ok}
 use Rattle.result_text.proofs.shares.put_flow_line.Goals as goal
 
 pub returns : goal.returns

@@ -1,7 +1,6 @@
-use Rattle.std.proofs.Common.{◌++◌, drop, sym, ap, ◌∙◌, append_assoc, arith}
-use Rattle.lemmas.proofs.{none_left}
+use Rattle.lemmas.proofs.{◌++◌, drop, sym, ap, ◌∙◌, append_assoc, arith, drop_all}
 use Rattle.result_text.specs.{more_taken}
-use Rattle.result_text.proofs.CellNames.{put_last, taken_front, taken_next}
+use Rattle.result_text.proofs.PassLines.{put_last, taken_front, taken_next}
 use Rattle.result_text.proofs.values.put_taken.Goals as goal
 
 pub loop-i-preserved : goal.loop-i-preserved
@@ -13,6 +12,6 @@ loop-i-preserved c = record {
 pub returns : goal.returns
 returns c =
     let others = more_taken (drop 1 c.args.taken.now) in
-    put_last _ _ _ c.loop-i.invariant.text (ap more_taken (none_left c.args.taken.now c.loop-i.i (omega arith)))
+    put_last _ _ _ c.loop-i.invariant.text (ap more_taken (drop_all c.loop-i.i c.args.taken.now (omega arith)))
     ∙ ap (λ l. l ++ others) c.in_ok-put_scalar.ensures ∙ append_assoc c.args.text.now _ others
     ∙ ap (λ l. c.args.text.now ++ l) (sym (taken_front c.args.taken.now c.at.result c.at.ensures))

@@ -1,4 +1,4 @@
-use Rattle.std.proofs.Common.{◌≡◌, ◌≤◌, ◌++◌, drop}
+use Rattle.lemmas.proofs.{◌≡◌, ◌≤◌, ◌++◌, drop}
 use Rattle.result_text.specs.{more_taken}
 use Rattle.result_text.proofs.values.put_taken.Given as goal
 

@@ -1,4 +1,4 @@
-use Rattle.std.proofs.Common.{◌∙◌, sym}
+use Rattle.lemmas.proofs.{◌∙◌, sym}
 use Rattle.std.proofs.lemmas.List.{take_rest}
 use Rattle.script_read.proofs.TokenSteps.{word_taken, lexeme_word, lexeme_integer}
 use Rattle.script_read.proofs.lexeme.lexeme_at.Goals as goal

@@ -1,5 +1,4 @@
-use Rattle.std.proofs.Common.{◌≡◌, ◌∙◌, ◌∷◌, ◌++◌, [], map, refl, arith}
-use Rattle.lemmas.proofs.{common_steps, map-append}
+use Rattle.lemmas.proofs.{◌≡◌, ◌∙◌, ◌∷◌, ◌++◌, [], map, refl, arith, common_steps, map-append}
 use Rattle.rdf_values.specs.{at_byte, Bad, Blank}
 use Rattle.script_read.specs.{placed_of}
 use Rattle.script_read.proofs.TokenSteps.{at_place, step_token, token_within}

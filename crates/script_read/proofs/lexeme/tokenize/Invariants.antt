@@ -1,4 +1,4 @@
-use Rattle.std.proofs.Common.{length, ◌-◌, ◌≡◌, ◌≤◌, map}
+use Rattle.lemmas.proofs.{length, ◌-◌, ◌≡◌, ◌≤◌, map}
 use Rattle.rdf_values.specs.{line_tokens}
 use Rattle.script_read.specs.{placed_of}
 use Rattle.script_read.proofs.TokenSteps.{goes_on}

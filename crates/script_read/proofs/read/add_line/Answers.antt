@@ -1,6 +1,6 @@
 use Rattle.rdf_values.specs.scripts.Scripts.{too_many}
 use Rattle.script_read.specs.{adds_nothing, adds_statement}
-use Rattle.std.proofs.Common.{sym, ◌∙◌, arith}
+use Rattle.lemmas.proofs.{sym, ◌∙◌, arith}
 use Rattle.script_read.proofs.read.add_line.Goals as goal
 
 pub returns-in-Ok-None-clause-ok : goal.returns-in-Ok-None-clause-ok

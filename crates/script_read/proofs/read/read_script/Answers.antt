@@ -1,4 +1,4 @@
-use Rattle.std.proofs.Common.{add-one}
+use Rattle.lemmas.proofs.{add-one}
 use Rattle.std.proofs.lemmas.Result.{err_from_is_err_and}
 use Rattle.rdf_values.proofs.OneScript.{one_script, script_or_refusal}
 use Rattle.expr_read.proofs.Decided.{read_once}

@@ -1,4 +1,4 @@
-use Rattle.std.proofs.Common.{length}
+use Rattle.lemmas.proofs.{length}
 use Rattle.script_read.proofs.FirstLines.{Reads}
 use Rattle.script_read.proofs.read.read_script.Given as goal
 

@@ -1,4 +1,5 @@
-use Rattle.script_read.proofs.FirstBads.{handed_on, refused_here, refused_later, refused_before, refused_after, good_values, good_names}
+use Rattle.rdf_values.proofs.OneScript.{good_names}
+use Rattle.script_read.proofs.FirstBads.{handed_on, refused_here, refused_later, refused_before, refused_after, good_values}
 use Rattle.script_read.proofs.statement.vary_all.Goals as goal
 
 pub returns-in_err-names-2-clause-err : goal.returns-in_err-names-2-clause-err

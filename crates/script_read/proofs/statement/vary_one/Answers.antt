@@ -1,5 +1,6 @@
-use Rattle.script_read.proofs.FirstBads.{handed_on, refused_later, refused_before, refused_after, good_name, good_values, good_names}
-use Rattle.script_read.proofs.Items.{says_vary}
+use Rattle.rdf_values.proofs.OneScript.{good_name, good_names}
+use Rattle.script_read.proofs.FirstBads.{handed_on, refused_later, refused_before, refused_after, good_values}
+use Rattle.script_read.proofs.Walked.{says_vary}
 use Rattle.script_read.proofs.statement.vary_one.Goals as goal
 
 pub returns-clause-ok : goal.returns-clause-ok

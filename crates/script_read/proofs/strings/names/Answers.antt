@@ -1,6 +1,6 @@
-use Rattle.std.proofs.Common.{◌<◌, length}
+use Rattle.lemmas.proofs.{◌<◌, length}
 use Rattle.script_read.proofs.FirstBads.{handed_on, refused_here}
-use Rattle.script_read.proofs.Items.{begun, one_more, at_place}
+use Rattle.script_read.proofs.Walked.{begun, one_more, at_place}
 use Rattle.script_read.proofs.strings.names.Goals as goal
 
 pub loop-quoted-init : goal.loop-quoted-init

@@ -1,7 +1,7 @@
-use Rattle.std.proofs.Common.{map, drop}
+use Rattle.lemmas.proofs.{map, drop}
 use Rattle.rdf_values.specs.{all_strings}
 use Rattle.script_read.specs.{quoted_of, strings_of}
-use Rattle.script_read.proofs.Items.{Naming}
+use Rattle.script_read.proofs.Walked.{Naming}
 use Rattle.script_read.proofs.strings.names.Given as goal
 
 abbrev pub invariant-loop-quoted : goal.invariant-loop-quoted

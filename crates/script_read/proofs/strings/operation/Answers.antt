@@ -1,4 +1,4 @@
-use Rattle.std.proofs.Common.{rules}
+use Rattle.lemmas.proofs.{rules}
 use Rattle.rdf_values.specs.scripts.Statements as st
 use Rattle.script_read.proofs.strings.operation.Goals as goal
 

@@ -1,6 +1,6 @@
-use Rattle.std.proofs.Common.{◌∙◌, [], Err, map, sym, ap}
+use Rattle.lemmas.proofs.{◌∙◌, [], Err, map, sym, ap}
 use Rattle.script_read.specs.{placed_of}
-use Rattle.script_read.proofs.Stuck.{refused_for, left_over}
+use Rattle.script_read.proofs.Walked.{refused_for, left_over}
 use Rattle.script_read.proofs.walk.read_form.Goals as goal
 
 pub returns-in-Ok-2-clause-err : goal.returns-in-Ok-2-clause-err

@@ -1,4 +1,4 @@
-use Rattle.std.proofs.Common.{◌∙◌, ap, ap₂, ◌++◌, ◌∷◌, [], codes, decimal, flat_map, map}
+use Rattle.lemmas.proofs.{◌∙◌, ap, ap₂, ◌++◌, ◌∷◌, [], codes, decimal, flat_map, map}
 use Rattle.rdf_values.specs.{line}
 use Rattle.shard_files.specs.{lines_text, loop_lines}
 use Rattle.shard_files.proofs.Runs.{whole_text}

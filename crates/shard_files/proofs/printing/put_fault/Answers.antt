@@ -1,5 +1,4 @@
-use Rattle.std.proofs.Common.{List, ℕ, ◌∙◌, ap, ◌++◌, ◌∷◌, [], codes, decimal}
-use Rattle.lemmas.proofs.{on_ok}
+use Rattle.lemmas.proofs.{List, ℕ, ◌∙◌, ap, ◌++◌, ◌∷◌, [], codes, decimal, on_ok}
 use Rattle.shard_files.specs.{fault_number, line_text}
 use Rattle.shard_lines.specs.{joined_words, spaced}
 use Rattle.shard_files.proofs.Runs.{line_on}

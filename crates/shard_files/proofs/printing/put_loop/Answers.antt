@@ -1,5 +1,4 @@
-use Rattle.std.proofs.Common.{◌∙◌, ap, ◌++◌, ◌∷◌, [], map, sym}
-use Rattle.lemmas.proofs.{on_ok}
+use Rattle.lemmas.proofs.{◌∙◌, ap, ◌++◌, ◌∷◌, [], map, sym, on_ok}
 use Rattle.shard_files.specs.{lines_text, loop_lines}
 use Rattle.shard_files.proofs.Runs.{behind_loop, one_line}
 use Rattle.shard_files.specs.declared.file_line.FileLine.{FileLine}

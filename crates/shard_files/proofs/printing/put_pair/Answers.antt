@@ -1,5 +1,4 @@
-use Rattle.std.proofs.Common.{List, ℕ, [], ◌∷◌, decimal}
-use Rattle.lemmas.proofs.{on_ok}
+use Rattle.lemmas.proofs.{List, ℕ, [], ◌∷◌, decimal, on_ok}
 use Rattle.shard_files.proofs.Runs.{line_on}
 use Rattle.shard_lines.proofs.Runs.{spaced_on, words_on}
 use Rattle.shard_lines.specs.{joined_words}

@@ -1,4 +1,4 @@
-use Rattle.std.proofs.Common.{◌≡◌, ◌++◌, map, take}
+use Rattle.lemmas.proofs.{◌≡◌, ◌++◌, map, take}
 use Rattle.shard_files.specs.{lines_text}
 use Rattle.shard_files.specs.declared.file_line.FileLine.{FileLine}
 use Rattle.shard_files.proofs.printing.put_passes.Given as goal

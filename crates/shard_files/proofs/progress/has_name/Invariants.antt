@@ -1,4 +1,4 @@
-use Rattle.std.proofs.Common.{◌≡◌, drop}
+use Rattle.lemmas.proofs.{◌≡◌, drop}
 use Rattle.rdf_values.specs.{has_name}
 use Rattle.shard_files.proofs.progress.has_name.Given as goal
 

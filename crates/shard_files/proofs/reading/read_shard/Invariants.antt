@@ -1,4 +1,4 @@
-use Rattle.std.proofs.Common.{length}
+use Rattle.lemmas.proofs.{length}
 use Rattle.shard_files.proofs.Refused.{Read}
 use Rattle.shard_files.proofs.reading.read_shard.Given as goal
 

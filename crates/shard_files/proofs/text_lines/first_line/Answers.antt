@@ -1,4 +1,4 @@
-use Rattle.std.proofs.Common.{◌≡◌, true, false, get_or, arith, ◌==◌}
+use Rattle.lemmas.proofs.{◌≡◌, true, false, get_or, arith, ◌==◌}
 use Rattle.std.proofs.lemmas.Bool.Decides.{nat_tests}
 use Rattle.shard_files.proofs.LineEnds.{endless_all, endless_more, line_here}
 use Rattle.shard_files.proofs.text_lines.first_line.Goals as goal

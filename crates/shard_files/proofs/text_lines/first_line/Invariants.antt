@@ -1,4 +1,4 @@
-use Rattle.std.proofs.Common.{take}
+use Rattle.lemmas.proofs.{take}
 use Rattle.shard_files.specs.Endless.{Endless}
 use Rattle.shard_files.proofs.text_lines.first_line.Given as goal
 

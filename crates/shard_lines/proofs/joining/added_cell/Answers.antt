@@ -1,5 +1,4 @@
-use Rattle.std.proofs.Common.{◌+ℤ◌, ◌∙◌, ap₂, rules, FitsSigned, ℤ}
-use Rattle.lemmas.proofs.{to_z-of_z, w128}
+use Rattle.lemmas.proofs.{◌+ℤ◌, ◌∙◌, ap₂, rules, FitsSigned, ℤ, to_z-of_z, w128}
 use Rattle.histograms.specs.{CellSum}
 use Rattle.shard_lines.proofs.joining.added_cell.Goals as goal
 

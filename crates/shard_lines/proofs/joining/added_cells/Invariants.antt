@@ -1,4 +1,4 @@
-use Rattle.std.proofs.Common.{◌≡◌, ◌++◌, drop}
+use Rattle.lemmas.proofs.{◌≡◌, ◌++◌, drop}
 use Rattle.shard_lines.specs.{added_cells}
 use Rattle.shard_lines.proofs.joining.added_cells.Given as goal
 

@@ -1,4 +1,4 @@
-use Rattle.std.proofs.Common.{◌≡◌, take}
+use Rattle.lemmas.proofs.{◌≡◌, take}
 use Rattle.shard_lines.proofs.joining.copied_lines.Given as goal
 
 abbrev pub invariant-loop-line : goal.invariant-loop-line

@@ -1,4 +1,4 @@
-use Rattle.std.proofs.Common.{inl, inr, sym, ◌∙◌}
+use Rattle.lemmas.proofs.{inl, inr, sym, ◌∙◌}
 use Rattle.shard_lines.proofs.Ending.{lines_end, lines_over}
 use Rattle.shard_lines.proofs.joining.joined_lines.Goals as goal
 use Rattle.shard_lines.proofs.joining.joined_lines.Goals.{then-i-shapes-via-then-i-shapes, then-i-shapes-via-else-i-shapes+then-i-others}

@@ -1,4 +1,4 @@
-use Rattle.std.proofs.Common.{◌≡◌, ◌++◌, drop}
+use Rattle.lemmas.proofs.{◌≡◌, ◌++◌, drop}
 use Rattle.shard_lines.specs.{joined_lines}
 use Rattle.shard_lines.proofs.joining.joined_lines.Given as goal
 

@@ -1,4 +1,4 @@
-use Rattle.std.proofs.Common.{◌≡◌, ◌≤◌, drop}
+use Rattle.lemmas.proofs.{◌≡◌, ◌≤◌, drop}
 use Rattle.rdf_values.specs.{digits_up_to}
 use Rattle.shard_lines.proofs.numbers.read_digits.Given as goal
 

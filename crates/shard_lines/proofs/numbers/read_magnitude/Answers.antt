@@ -1,4 +1,4 @@
-use Rattle.std.proofs.Common.{rules}
+use Rattle.lemmas.proofs.{rules}
 use Rattle.rdf_values.specs.{magnitude_of}
 use Rattle.shard_lines.proofs.numbers.read_magnitude.Goals as goal
 

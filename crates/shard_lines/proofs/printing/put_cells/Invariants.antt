@@ -1,4 +1,4 @@
-use Rattle.std.proofs.Common.{◌≡◌, ◌++◌, take, flat_map}
+use Rattle.lemmas.proofs.{◌≡◌, ◌++◌, take, flat_map}
 use Rattle.shard_lines.specs.{cell_words, spaced}
 use Rattle.shard_lines.proofs.printing.put_cells.Given as goal
 

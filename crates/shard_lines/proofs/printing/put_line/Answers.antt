@@ -1,5 +1,4 @@
-use Rattle.std.proofs.Common.{◌∙◌, ap, ◌++◌, ◌∷◌, [], codes, decimal, length, map, sym, flat_map}
-use Rattle.lemmas.proofs.{on_ok}
+use Rattle.lemmas.proofs.{◌∙◌, ap, ◌++◌, ◌∷◌, [], codes, decimal, length, map, sym, flat_map, on_ok}
 use Rattle.shard_lines.specs.{cell_words, count_words, joined_words, line_words, scalar_word, spaced}
 use Rattle.shard_lines.proofs.Runs.{spaced_on, words_on}
 use Rattle.shard_lines.proofs.printing.put_line.Goals as goal

@@ -1,4 +1,4 @@
-use Rattle.std.proofs.Common.{◌≡◌, ◌++◌, map, take}
+use Rattle.lemmas.proofs.{◌≡◌, ◌++◌, map, take}
 use Rattle.shard_lines.specs.{scalar_word, spaced}
 use Rattle.shard_lines.proofs.printing.put_scalars.Given as goal
 

@@ -1,4 +1,4 @@
-use Rattle.std.proofs.Common.{sym}
+use Rattle.lemmas.proofs.{sym}
 use Rattle.shard_lines.specs.{cell_of, words_behind}
 use Rattle.shard_lines.proofs.Growing.{pairs_next}
 use Rattle.shard_lines.proofs.reading.read_cells.Goals as goal

@@ -1,4 +1,4 @@
-use Rattle.std.proofs.Common.{◌≡◌, length}
+use Rattle.lemmas.proofs.{◌≡◌, length}
 use Rattle.shard_lines.specs.{cell_of, pairs_of, words_behind}
 use Rattle.shard_lines.proofs.Growing.{all_on}
 use Rattle.shard_lines.proofs.reading.read_cells.Given as goal

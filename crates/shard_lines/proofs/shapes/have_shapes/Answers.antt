@@ -1,4 +1,4 @@
-use Rattle.std.proofs.Common.{sym}
+use Rattle.lemmas.proofs.{sym}
 use Rattle.shard_lines.proofs.OtherLengths.{other_passes}
 use Rattle.shard_lines.proofs.shapes.have_shapes.Goals as goal
 

@@ -1,4 +1,4 @@
-use Rattle.std.proofs.Common.{◌≡◌, drop, length}
+use Rattle.lemmas.proofs.{◌≡◌, drop, length}
 use Rattle.shard_lines.specs.{have_shapes}
 use Rattle.shard_lines.proofs.shapes.have_shapes.Given as goal
 

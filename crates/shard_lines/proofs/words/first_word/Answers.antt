@@ -1,4 +1,4 @@
-use Rattle.std.proofs.Common.{◌≡◌, true, false, get_or, arith, ◌==◌}
+use Rattle.lemmas.proofs.{◌≡◌, true, false, get_or, arith, ◌==◌}
 use Rattle.std.proofs.lemmas.Bool.Decides.{nat_tests}
 use Rattle.shard_lines.proofs.Cutting.{cut_here, cut_nowhere, spaceless_more}
 use Rattle.shard_lines.proofs.words.first_word.Goals as goal

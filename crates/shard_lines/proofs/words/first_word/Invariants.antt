@@ -1,4 +1,4 @@
-use Rattle.std.proofs.Common.{take}
+use Rattle.lemmas.proofs.{take}
 use Rattle.shard_lines.proofs.Cutting.{Spaceless}
 use Rattle.shard_lines.proofs.words.first_word.Given as goal
 

@@ -1,4 +1,4 @@
-use Rattle.std.proofs.Common.{◌≡◌, get_or, map, take}
+use Rattle.lemmas.proofs.{◌≡◌, get_or, map, take}
 use Rattle.loop_pieces.specs.{nothing}
 use Rattle.shard_loop.proofs.filled_lines.counts_at.Given as goal
 

@@ -1,4 +1,4 @@
-use Rattle.std.proofs.Common.{[], refl}
+use Rattle.lemmas.proofs.{[], refl}
 use Rattle.histograms.specs.{cell_seen}
 use Rattle.shard_spans.specs.{cell_sum}
 use Rattle.shard_loop.proofs.Taking.{made_next}

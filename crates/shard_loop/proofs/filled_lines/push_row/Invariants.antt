@@ -1,4 +1,4 @@
-use Rattle.std.proofs.Common.{◌≡◌, ◌++◌, [], get_or, map, take}
+use Rattle.lemmas.proofs.{◌≡◌, ◌++◌, [], get_or, map, take}
 use Rattle.shard_spans.specs.{cell_sum}
 use Rattle.shard_loop.proofs.filled_lines.push_row.Given as goal
 

@@ -1,4 +1,4 @@
-use Rattle.std.proofs.Common.{◌≡◌, map, take, flat_map}
+use Rattle.lemmas.proofs.{◌≡◌, map, take, flat_map}
 use Rattle.shard_spans.specs.{cell_sum}
 use Rattle.shard_loop.proofs.filled_lines.square_cells.Given as goal
 

@@ -1,4 +1,4 @@
-use Rattle.std.proofs.Common.{◌≡◌, take}
+use Rattle.lemmas.proofs.{◌≡◌, take}
 use Rattle.shard_loop.proofs.filled_lines.taken_values.Given as goal
 
 abbrev pub invariant-loop-i : goal.invariant-loop-i

@@ -1,4 +1,4 @@
-use Rattle.std.proofs.Common.{◌∙◌, sym, arith}
+use Rattle.lemmas.proofs.{◌∙◌, sym, arith}
 use Rattle.entry_fns.specs.{functions_in}
 use Rattle.shard_loop.specs.{cuts_of, table_of}
 use Rattle.shard_loop.proofs.Looping.{begin_loops, last_loop, loops_many, next_loop, no_loop_left}

@@ -1,5 +1,5 @@
 use Rattle.loop_keys.specs.{job_of}
-use Rattle.event_loop.proofs.Adding.{result_within}
+use Rattle.event_loop.proofs.Found.{result_within}
 use Rattle.shard_loop.proofs.JobPasses.{no_accumulator, one_accumulator}
 use Rattle.shard_loop.proofs.passes.accumulators.Goals as goal
 

@@ -1,6 +1,6 @@
-use Rattle.std.proofs.Common.{arith}
+use Rattle.lemmas.proofs.{arith}
 use Rattle.loop_keys.specs.{job_of}
-use Rattle.event_loop.proofs.Adding.{counted, numbered_at, read}
+use Rattle.event_loop.proofs.Found.{counted, numbered_at, read}
 use Rattle.shard_loop.proofs.passes.pass_at.Goals as goal
 
 pub bounds-passes-number : goal.bounds-passes-number

@@ -1,6 +1,6 @@
-use Rattle.std.proofs.Common.{◌∙◌, ap, arith, length}
+use Rattle.lemmas.proofs.{◌∙◌, ap, arith, length}
 use Rattle.loop_keys.specs.{job_of}
-use Rattle.event_loop.proofs.Adding.{counted, fewer, read}
+use Rattle.event_loop.proofs.Found.{counted, fewer, read}
 use Rattle.shard_loop.proofs.passes.pass_count.Goals as goal
 
 pub overflow_cast-result : goal.overflow_cast-result

@@ -1,9 +1,8 @@
-use Rattle.std.proofs.Common.{◌<◌, sym, ap, ◌∙◌, subst, arith, get_or, length, map, take, All, slice_get}
-use Rattle.lemmas.proofs.{IfOk-weaker, same_Some, slice_get_within}
+use Rattle.lemmas.proofs.{◌<◌, sym, ap, ◌∙◌, subst, arith, get_or, length, map, take, All, slice_get, IfOk-weaker, same_Some, slice_get_within}
 use Rattle.rdf_values.specs.{history, named_before}
 use Rattle.rdf_model.specs.{kinds_in}
 use Rattle.loop_keys.specs.{job_of, job_spans, passes_in}
-use Rattle.event_loop.proofs.Adding.{of_action, result_within}
+use Rattle.event_loop.proofs.Found.{of_action, result_within}
 use Rattle.loop_pieces.specs.{nothing}
 use Rattle.shard_lines.specs.{ShardLine}
 use Rattle.shard_spans.specs.{booking_line, clusters_in, filled_line, pass_line}

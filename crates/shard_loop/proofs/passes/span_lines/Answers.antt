@@ -1,6 +1,5 @@
-use Rattle.std.proofs.Common.{◌∙◌, ◌+◌, ◌≤◌, ap, arith, length, map, refl, sym}
+use Rattle.lemmas.proofs.{◌∙◌, ◌+◌, ◌≤◌, ap, arith, length, map, refl, sym, something_at}
 use Rattle.std.proofs.lemmas.List.{take_all}
-use Rattle.lemmas.proofs.{something_at}
 use Rattle.loop_keys.specs.{job_of, passes_in}
 use Rattle.shard_spans.specs.{pass_line}
 use Rattle.shard_loop.specs.{span_rows_of}

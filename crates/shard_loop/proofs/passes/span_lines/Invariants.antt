@@ -1,4 +1,4 @@
-use Rattle.std.proofs.Common.{◌≡◌, ◌≤◌, ℕ, length, map, take}
+use Rattle.lemmas.proofs.{◌≡◌, ◌≤◌, ℕ, length, map, take}
 use Rattle.rdf_model.specs.{kinds_in}
 use Rattle.loop_keys.specs.{job_of, passes_in}
 use Rattle.shard_spans.specs.{pass_line}

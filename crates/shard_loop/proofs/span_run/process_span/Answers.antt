@@ -1,4 +1,4 @@
-use Rattle.std.proofs.Common.{◌≡◌, ap, ◌∙◌, Ok, arith, refl, subst}
+use Rattle.lemmas.proofs.{◌≡◌, ap, ◌∙◌, Ok, arith, refl, subst}
 use Rattle.loop_keys.specs.{facts_in, job_of}
 use Rattle.loop_pieces.specs.{StandsFor}
 use Rattle.event_loop.specs.{job_facts}

@@ -1,4 +1,4 @@
-use Rattle.std.proofs.Common.{◌≤◌}
+use Rattle.lemmas.proofs.{◌≤◌}
 use Rattle.loop_keys.specs.{job_of}
 use Rattle.shard_loop.proofs.SpanRuns.{IsUpTo}
 use Rattle.shard_loop.proofs.span_run.process_span.Given as goal

@@ -1,4 +1,4 @@
-use Rattle.std.proofs.Common.{◌∙◌}
+use Rattle.lemmas.proofs.{◌∙◌}
 use Rattle.shard_program.proofs.Answering.{loops_fit}
 use Rattle.shard_program.proofs.merging.answer_graph.Goals as goal
 

@@ -1,4 +1,4 @@
-use Rattle.std.proofs.Common.{subst, sym}
+use Rattle.lemmas.proofs.{subst, sym}
 use Rattle.rdf_values.specs.{IsHeader}
 use Rattle.entry_fns.specs.{functions_in}
 use Rattle.shard_program.proofs.Answering.{first_header, shards_due}

@@ -1,4 +1,4 @@
-use Rattle.std.proofs.Common.{arith}
+use Rattle.lemmas.proofs.{arith}
 use Rattle.shard_program.proofs.ShardReading.{item_at, one_read, refused_there, turned_there, turned_to_all}
 use Rattle.shard_program.proofs.shards.read_shards.Goals as goal
 

@@ -1,4 +1,4 @@
-use Rattle.std.proofs.Common.{◌≡◌, take}
+use Rattle.lemmas.proofs.{◌≡◌, take}
 use Rattle.shard_program.specs.{AreNamed}
 use Rattle.shard_program.proofs.span_file.named_columns.Given as goal
 

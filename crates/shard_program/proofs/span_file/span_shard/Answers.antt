@@ -1,7 +1,7 @@
-use Rattle.std.proofs.Common.{◌∙◌, ap, length, refl, subst, sym}
+use Rattle.lemmas.proofs.{◌∙◌, ap, length, refl, subst, sym}
 use Rattle.entry_fns.specs.{functions_in}
 use Rattle.rdf_values.specs.{cut}
-use Rattle.columns.specs.CutsView.{CutsView}
+use Rattle.columns.specs.Views.{CutsView}
 use Rattle.shard_files.specs.{IsShard}
 use Rattle.shard_program.specs.{AreNamed}
 use Rattle.shard_program.proofs.OverTables.{found_is_shard, parts_are}

@@ -1,4 +1,4 @@
-use Rattle.std.proofs.Common.{◌∙◌, ap, Some}
+use Rattle.lemmas.proofs.{◌∙◌, ap, Some}
 use Rattle.entry_fns.specs.{functions_in}
 use Rattle.shard_words.specs.declared.command.ShardCommand.TheVariants.{Run}
 use Rattle.shard_program.proofs.Asking.{run_fits_asked}

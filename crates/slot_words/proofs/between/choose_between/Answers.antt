@@ -1,7 +1,6 @@
-use Rattle.std.proofs.Common.{◌≡◌, ◌≤◌, ◌++◌, ◌-◌, map, take, drop, ap, ◌∙◌, arith, rules, nat_lt}
-use Rattle.lemmas.proofs.{AllPairs-from_increasing, cases_eq, IsNonDecreasingBy, IsPartitionedBy-ltb, IsPartitionPoint-from_clause, take_all}
+use Rattle.lemmas.proofs.{◌≡◌, ◌≤◌, ◌++◌, ◌-◌, map, take, drop, ap, ◌∙◌, arith, rules, nat_lt, AllPairs-from_increasing, cases_eq, IsNonDecreasingBy, IsPartitionedBy-ltb, IsPartitionPoint-from_clause, take_all}
 use Rattle.slot_words.specs.{added_in, cluster_in, piece_in}
-use Rattle.slot_words.proofs.Stretches.{IsStretch, is_stretch, stretch}
+use Rattle.slot_words.proofs.Steps.{IsStretch, is_stretch, stretch}
 use Rattle.slot_words.proofs.between.choose_between.Goals as goal
 use Rattle.slot_words.proofs.between.choose_between.Goals.{After-partition_point-end}
 use Rattle.slot_words.proofs.between.choose_between.Given.{Over}
@@ -31,10 +30,10 @@ ended g c = stretch c.args.numbers.now c.args.low c.args.below c.args.trail.now 
 
 pub returns-clause-clusters : goal.returns-clause-clusters
 returns-clause-clusters g c =
-    let all = take_all _ c.loop-noted.noted-index c.loop-noted-test.false ∙ ended g (goal.at.returns-clause-clusters g c).After-partition_point-end in
+    let all = take_all c.loop-noted.noted-index _ c.loop-noted-test.false ∙ ended g (goal.at.returns-clause-clusters g c).After-partition_point-end in
     c.loop-noted.invariant.clusters ∙ ap (λ l. c.args.clusters.now.items ++ map cluster_in l) all
 
 pub returns-clause-pieces : goal.returns-clause-pieces
 returns-clause-pieces g c =
-    let all = take_all _ c.loop-noted.noted-index c.loop-noted-test.false ∙ ended g (goal.at.returns-clause-pieces g c).After-partition_point-end in
+    let all = take_all c.loop-noted.noted-index _ c.loop-noted-test.false ∙ ended g (goal.at.returns-clause-pieces g c).After-partition_point-end in
     c.loop-noted.invariant.pieces ∙ ap (λ l. c.args.pieces.now.items ++ map piece_in l) all

@@ -1,4 +1,4 @@
-use Rattle.std.proofs.Common.{◌≡◌, ◌++◌, map, take}
+use Rattle.lemmas.proofs.{◌≡◌, ◌++◌, map, take}
 use Rattle.slot_words.specs.{cluster_in, piece_in}
 use Rattle.slot_words.proofs.between.choose_between.Given as goal
 

@@ -1,11 +1,9 @@
-use Rattle.std.proofs.Common.{◌<◌, map, length, [], ap, sym, ◌∙◌, subst, arith, IsPermutation}
-use Rattle.lemmas.proofs.{get_or_from_slice_get, IsNonDecreasingBy-from_sort, IsStrictlyIncreasing, length-map}
+use Rattle.lemmas.proofs.{◌<◌, map, length, [], ap, sym, ◌∙◌, subst, arith, IsPermutation, get_or_from_slice_get, IsNonDecreasingBy-from_sort, IsStrictlyIncreasing, length-map}
 use Rattle.rdf_values.specs.{IsUnion}
 use Rattle.loop_pieces.specs.{WatchStandsFor}
 use Rattle.slot_words.specs.{added, AreOf, cluster_in, piece_in, trails_at}
 use Rattle.slot_words.proofs.Noting.{single, stand_alone, unite}
-use Rattle.slot_words.proofs.Stretches.{all_added, as_long}
-use Rattle.slot_words.proofs.Watched.{trail_there}
+use Rattle.slot_words.proofs.Steps.{all_added, as_long, trail_there}
 use Rattle.slot_words.proofs.between.partial_between.Goals as goal
 use Rattle.slot_words.proofs.between.partial_between.Goals.{After-sort_unstable}
 

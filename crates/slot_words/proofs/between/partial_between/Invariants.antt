@@ -1,5 +1,5 @@
 use Rattle.slot_words.specs.{trails_at}
-use Rattle.slot_words.proofs.Stretches.{AreSoFar}
+use Rattle.slot_words.proofs.Steps.{AreSoFar}
 use Rattle.slot_words.proofs.between.partial_between.Given as goal
 
 abbrev pub invariant-loop-i : goal.invariant-loop-i

@@ -1,5 +1,4 @@
-use Rattle.std.proofs.Common.{◌≡◌, ℕ, List, ◌<◌, ◌≤◌, ◌+◌, ◌*◌, ◌/◌, length, map, sym, ap, ◌∙◌, subst, arith}
-use Rattle.lemmas.proofs.{length_push}
+use Rattle.lemmas.proofs.{◌≡◌, ℕ, List, ◌<◌, ◌≤◌, ◌+◌, ◌*◌, ◌/◌, length, map, sym, ap, ◌∙◌, subst, arith, length_push}
 use Rattle.rdf_values.specs.{below}
 use Rattle.merge_core.specs.{Noted}
 use Rattle.loop_pieces.specs.{ArePartialLines, IsPartialLine, PartialLine, WatchPiece}

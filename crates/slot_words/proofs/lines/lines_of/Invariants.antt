@@ -1,4 +1,4 @@
-use Rattle.std.proofs.Common.{◌≡◌, ◌+◌, ◌*◌, length, map}
+use Rattle.lemmas.proofs.{◌≡◌, ◌+◌, ◌*◌, length, map}
 use Rattle.rdf_values.specs.{below}
 use Rattle.loop_pieces.specs.{ArePartialLines}
 use Rattle.slot_words.specs.{set_before, trails_at, WatchedPlace}

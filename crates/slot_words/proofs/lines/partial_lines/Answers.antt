@@ -1,8 +1,8 @@
-use Rattle.std.proofs.Common.{ap, get_or, arith}
+use Rattle.lemmas.proofs.{ap, get_or, arith}
 use Rattle.std.proofs.lemmas.Option.{slice_get-get_or}
 use Rattle.slot_words.specs.{chain_of}
 use Rattle.slot_words.proofs.Noting.{is_chain}
-use Rattle.slot_words.proofs.Watched.{trails_there, trails_are, more_lines}
+use Rattle.slot_words.proofs.Steps.{trails_there, trails_are, more_lines}
 use Rattle.slot_words.proofs.lines.partial_lines.Goals as goal
 
 pub lines_of-requires-clause-there : goal.lines_of-requires-clause-there

@@ -1,7 +1,7 @@
-use Rattle.std.proofs.Common.{◌≡◌, ℕ, List, length}
+use Rattle.lemmas.proofs.{◌≡◌, ℕ, List, length}
 use Rattle.rdf_model.specs.declared.loop_facts.LoopFacts.{LoopFacts}
 use Rattle.slot_words.specs.{AreNoted, chain_of, HaveAllTrails}
-use Rattle.slot_words.proofs.Watched.{AreLinesUpTo}
+use Rattle.slot_words.proofs.Steps.{AreLinesUpTo}
 use Rattle.slot_words.proofs.lines.partial_lines.Given as goal
 
 abbrev pub invariant-loop-w : goal.invariant-loop-w

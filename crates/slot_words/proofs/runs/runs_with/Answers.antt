@@ -1,4 +1,4 @@
-use Rattle.std.proofs.Common.{◌-◌, ◌<◌, refl, ◌∙◌, arith}
+use Rattle.lemmas.proofs.{◌-◌, ◌<◌, refl, ◌∙◌, arith}
 use Rattle.std.proofs.lemmas.Option.{get_or_from_slice_get}
 use Rattle.loop_pieces.specs.{span_of}
 use Rattle.slot_words.proofs.Joining.{none_yet, next_number, next_run, none_left}

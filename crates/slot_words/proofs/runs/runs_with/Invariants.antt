@@ -1,4 +1,4 @@
-use Rattle.std.proofs.Common.{◌≡◌, ◌+◌, ◌≤◌, ℕ, List, [], ◌∷◌, length, map, take}
+use Rattle.lemmas.proofs.{◌≡◌, ◌+◌, ◌≤◌, ℕ, List, [], ◌∷◌, length, map, take}
 use Rattle.rdf_values.specs.{IsUnion}
 use Rattle.rdf_model.specs.{maximal_runs}
 use Rattle.loop_pieces.specs.{span_of}

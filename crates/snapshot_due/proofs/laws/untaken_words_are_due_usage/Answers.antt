@@ -1,4 +1,4 @@
-use Rattle.std.proofs.Common.{refl, subst, sym, MatchOption, ◌≡◌}
+use Rattle.lemmas.proofs.{refl, subst, sym, MatchOption, ◌≡◌}
 use Rattle.input_files.specs.{due_of}
 use Rattle.snapshot_due.specs.{IsDueToFiles, usage_line}
 use Rattle.snapshot_due.specs.declared.status.SnapshotStatus.TheVariants.{Words}

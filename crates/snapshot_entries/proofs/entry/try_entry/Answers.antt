@@ -1,4 +1,4 @@
-use Rattle.std.proofs.Common.{◌≡◌, ◌<◌, Bool, true, false, Err, refl, sym, ap, ◌∙◌, subst}
+use Rattle.lemmas.proofs.{◌≡◌, ◌<◌, Bool, true, false, Err, refl, sym, ap, ◌∙◌, subst}
 use Rattle.std.specs.List.{AllByRecursion}
 use Rattle.rdf_model.specs.{for_all, Gives}
 use Rattle.graph_numbers.specs.{through_sites}

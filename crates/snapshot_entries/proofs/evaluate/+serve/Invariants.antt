@@ -1,4 +1,4 @@
-use Rattle.std.proofs.Common.{ℕ, ◌<◌, get_or}
+use Rattle.lemmas.proofs.{ℕ, ◌<◌, get_or}
 use Rattle.snapshot_entries.specs.{AreKnown, data_of, Grows, IsSourceHeld, plan_of, source_of}
 use Rattle.snapshot_entries.proofs.evaluate.+serve.Given as goal
 

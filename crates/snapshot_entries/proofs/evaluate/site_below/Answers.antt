@@ -1,4 +1,4 @@
-use Rattle.std.proofs.Common.{◌≡◌, ◌<◌, ℕ, map, Option, Some, None, ◌∙◌, sym, ap, IfSome}
+use Rattle.lemmas.proofs.{◌≡◌, ◌<◌, ℕ, map, Option, Some, None, ◌∙◌, sym, ap, IfSome}
 use Rattle.rdf_values.specs.{ColType}
 use Rattle.rdf_model.specs.{Dataset}
 use Rattle.snapshot_plan.specs.{PlanView}

@@ -1,4 +1,4 @@
-use Rattle.std.proofs.Common.{length}
+use Rattle.lemmas.proofs.{length}
 use Rattle.snapshot_entries.proofs.filters.+pass_filters.Given as goal
 
 abbrev pub decreases-pass_filters : goal.decreases-pass_filters

@@ -1,4 +1,4 @@
-use Rattle.std.proofs.Common.{◌≡◌, vec_len}
+use Rattle.lemmas.proofs.{◌≡◌, vec_len}
 use Rattle.snapshot_entries.proofs.known.none_known.Given as goal
 use Rattle.snapshot_entries.proofs.None.{AllOfNone}
 

@@ -1,4 +1,4 @@
-use Rattle.std.proofs.Common.{sym, subst}
+use Rattle.lemmas.proofs.{sym, subst}
 use Rattle.snapshot_entries.specs.{AreServed, data_of, plan_of}
 use Rattle.snapshot_entries.proofs.Answering.{served_more}
 use Rattle.snapshot_entries.proofs.values.+serve_columns.Goals as goal

@@ -1,4 +1,4 @@
-use Rattle.std.proofs.Common.{length}
+use Rattle.lemmas.proofs.{length}
 use Rattle.snapshot_entries.proofs.values.+serve_columns.Given as goal
 
 abbrev pub decreases-serve_columns : goal.decreases-serve_columns

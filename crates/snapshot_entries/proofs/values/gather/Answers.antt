@@ -1,4 +1,4 @@
-use Rattle.std.proofs.Common.{◌<◌, ◌≡◌, length, get_or, refl, arith}
+use Rattle.lemmas.proofs.{◌<◌, ◌≡◌, length, get_or, refl, arith}
 use Rattle.snapshot_entries.specs.{data_of, plan_of, version_in}
 use Rattle.snapshot_entries.proofs.Answering.{cell_given, gathered_all, gathered_next, given_value}
 use Rattle.snapshot_entries.proofs.values.gather.Goals as goal

@@ -1,4 +1,4 @@
-use Rattle.std.proofs.Common.{◌≡◌, List, map, take}
+use Rattle.lemmas.proofs.{◌≡◌, List, map, take}
 use Rattle.rdf_values.specs.{Value, value_of}
 use Rattle.rdf_model.specs.{for_all, Gives}
 use Rattle.snapshot_entries.specs.{data_of, plan_of, version_in}

@@ -1,4 +1,4 @@
-use Rattle.std.proofs.Common.{length, ap, ◌∙◌, arith}
+use Rattle.lemmas.proofs.{length, ap, ◌∙◌, arith}
 use Rattle.graph_numbers.specs.{booked_statements, graph_versions, GraphView}
 use Rattle.graph.specs.{statements}
 use Rattle.snapshot_entries.specs.{data_of, plan_of}

@@ -1,4 +1,4 @@
-use Rattle.std.proofs.Common.{◌≡◌, ◌<◌, ◌∷◌, ◌++◌, [], length, get_or, map, take, ap, ◌∙◌, arith}
+use Rattle.lemmas.proofs.{◌≡◌, ◌<◌, ◌∷◌, ◌++◌, [], length, get_or, map, take, ap, ◌∙◌, arith}
 use Rattle.graph_numbers.specs.{booked_statements, version_at}
 use Rattle.snapshot_plan.proofs.Listed.{next_mapped}
 use Rattle.snapshot_entries.specs.{data_of, plan_of}

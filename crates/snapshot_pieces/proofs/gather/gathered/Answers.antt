@@ -1,5 +1,4 @@
-use Rattle.std.proofs.Common.{◌≡◌, ◌<◌, length, map, min, sym, ap, ◌∙◌, subst, arith}
-use Rattle.lemmas.proofs.{All, All-map}
+use Rattle.lemmas.proofs.{◌≡◌, ◌<◌, length, map, min, sym, ap, ◌∙◌, subst, arith, All, All-map}
 use Rattle.rdf_values.specs.{DrawnBy, least_fault}
 use Rattle.slot_words.specs.{IsLeast, IsPassed, SeatSeen}
 use Rattle.slot_words.specs.Seats.{IsOf}

@@ -1,4 +1,4 @@
-use Rattle.std.proofs.Common.{arith}
+use Rattle.lemmas.proofs.{arith}
 use Rattle.snapshot_pieces.proofs.Least.{next_over, next_faulted}
 use Rattle.snapshot_pieces.proofs.gather.least_of.Goals as goal
 

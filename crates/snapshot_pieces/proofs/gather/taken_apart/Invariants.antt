@@ -1,4 +1,4 @@
-use Rattle.std.proofs.Common.{◌≡◌, ◌++◌, map, vec_len, flat_map}
+use Rattle.lemmas.proofs.{◌≡◌, ◌++◌, map, vec_len, flat_map}
 use Rattle.snapshot_pieces.specs.{pieces_in, seat_in}
 use Rattle.snapshot_pieces.proofs.gather.taken_apart.Given as goal
 

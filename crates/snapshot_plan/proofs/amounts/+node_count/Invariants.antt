@@ -1,4 +1,4 @@
-use Rattle.std.proofs.Common.{length}
+use Rattle.lemmas.proofs.{length}
 use Rattle.snapshot_plan.proofs.amounts.+node_count.Given as goal
 
 abbrev pub decreases-node_count : goal.decreases-node_count

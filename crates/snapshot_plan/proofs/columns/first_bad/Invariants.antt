@@ -1,4 +1,4 @@
-use Rattle.std.proofs.Common.{◌≡◌, [], take, drop}
+use Rattle.lemmas.proofs.{◌≡◌, [], take, drop}
 use Rattle.snapshot_plan.specs.{first_bad, scope_in}
 use Rattle.snapshot_plan.proofs.columns.first_bad.Given as goal
 

@@ -1,4 +1,4 @@
-use Rattle.std.proofs.Common.{subst, sym, Some}
+use Rattle.lemmas.proofs.{subst, sym, Some}
 use Rattle.snapshot_plan.specs.{IsNumber, Under, under_of}
 use Rattle.snapshot_plan.proofs.Varied.{number_is}
 use Rattle.snapshot_plan.proofs.under.number_under.Goals as goal

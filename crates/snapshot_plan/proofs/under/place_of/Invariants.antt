@@ -1,4 +1,4 @@
-use Rattle.std.proofs.Common.{◌≡◌, false, take}
+use Rattle.lemmas.proofs.{◌≡◌, false, take}
 use Rattle.std.specs.List.{list_any}
 use Rattle.rdf_values.specs.{same_variation}
 use Rattle.snapshot_plan.proofs.under.place_of.Given as goal

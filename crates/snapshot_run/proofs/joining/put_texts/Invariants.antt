@@ -1,4 +1,4 @@
-use Rattle.std.proofs.Common.{◌≡◌, ◌++◌, take, flat_map}
+use Rattle.lemmas.proofs.{◌≡◌, ◌++◌, take, flat_map}
 use Rattle.snapshot_run.proofs.joining.put_texts.Given as goal
 
 abbrev pub invariant-loop-text : goal.invariant-loop-text

@@ -1,4 +1,4 @@
-use Rattle.std.proofs.Common.{◌≡◌, ◌+◌, length, take, flat_map}
+use Rattle.lemmas.proofs.{◌≡◌, ◌+◌, length, take, flat_map}
 use Rattle.snapshot_run.proofs.joining.total.Given as goal
 
 abbrev pub invariant-loop-text : goal.invariant-loop-text

@@ -1,5 +1,5 @@
-use Rattle.std.proofs.Common.{Ok, sym, ap, ◌∙◌, subst, slice_get}
-use Rattle.columns.specs.CutsView.{CutsView}
+use Rattle.lemmas.proofs.{Ok, sym, ap, ◌∙◌, subst, slice_get}
+use Rattle.columns.specs.Views.{CutsView}
 use Rattle.snapshot_entries.specs.{data_of, IsSkimAnswer, plan_of}
 use Rattle.snapshot_run.specs.{spans_of}
 use Rattle.snapshot_run.proofs.Making.{is_range, piece_made, piece_stopped}

@@ -1,6 +1,6 @@
-use Rattle.std.proofs.Common.{ℕ, sym, ◌∙◌, ap, subst, arith, length}
+use Rattle.lemmas.proofs.{ℕ, sym, ◌∙◌, ap, subst, arith, length}
 use Rattle.std.specs.List.{All}
-use Rattle.columns.specs.CutsView.{CutsView}
+use Rattle.columns.specs.Views.{CutsView}
 use Rattle.snapshot_entries.specs.{data_of, plan_of}
 use Rattle.snapshot_pieces.specs.{AreFacts, HasStopped}
 use Rattle.snapshot_run.specs.{facts_of, spans_of}

@@ -1,4 +1,4 @@
-use Rattle.std.proofs.Common.{List, Ok, ℕ, subst, sym}
+use Rattle.lemmas.proofs.{List, Ok, ℕ, subst, sym}
 use Rattle.graph_numbers.specs.{IsGraph}
 use Rattle.snapshot_entries.specs.{data_of, plan_of}
 use Rattle.snapshot_run.specs.{AreRecords}

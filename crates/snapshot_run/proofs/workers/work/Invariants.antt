@@ -1,4 +1,4 @@
-use Rattle.std.proofs.Common.{◌≡◌, ◌-◌, None, length}
+use Rattle.lemmas.proofs.{◌≡◌, ◌-◌, None, length}
 use Rattle.slot_words.specs.Seats as claims
 use Rattle.snapshot_entries.specs.{data_of, IsSkimOf, plan_of}
 use Rattle.snapshot_pieces.specs.{AreMade, clusters_of}

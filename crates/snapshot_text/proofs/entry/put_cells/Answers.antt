@@ -1,5 +1,4 @@
-use Rattle.std.proofs.Common.{rules, ◌≡◌, ◌∷◌, length}
-use Rattle.lemmas.proofs.{on_ok}
+use Rattle.lemmas.proofs.{rules, ◌≡◌, ◌∷◌, length, on_ok}
 use Rattle.snapshot_text.proofs.Joined.{cells_grown}
 use Rattle.snapshot_text.proofs.entry.put_cells.Goals as goal
 

@@ -1,4 +1,4 @@
-use Rattle.std.proofs.Common.{◌≡◌, ◌++◌, ◌∷◌, flat_map, take}
+use Rattle.lemmas.proofs.{◌≡◌, ◌++◌, ◌∷◌, flat_map, take}
 use Rattle.rdf_values.specs.{value_of}
 use Rattle.snapshot_text.specs.{cell_field}
 use Rattle.snapshot_text.proofs.entry.put_more_cells.Given as goal

@@ -1,5 +1,4 @@
-use Rattle.std.proofs.Common.{rules, ◌≡◌, ◌∷◌}
-use Rattle.lemmas.proofs.{on_ok}
+use Rattle.lemmas.proofs.{rules, ◌≡◌, ◌∷◌, on_ok}
 use Rattle.snapshot_text.specs.{column_field}
 use Rattle.snapshot_text.proofs.Joined.{grown_by}
 use Rattle.snapshot_text.proofs.header.put_columns.Goals as goal

@@ -1,4 +1,4 @@
-use Rattle.std.proofs.Common.{◌≡◌, ◌++◌, ◌∷◌, flat_map, take}
+use Rattle.lemmas.proofs.{◌≡◌, ◌++◌, ◌∷◌, flat_map, take}
 use Rattle.snapshot_text.specs.{column_field}
 use Rattle.snapshot_text.proofs.header.put_more_columns.Given as goal
 

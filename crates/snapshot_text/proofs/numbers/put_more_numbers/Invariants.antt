@@ -1,4 +1,4 @@
-use Rattle.std.proofs.Common.{◌≡◌, ◌++◌, ◌∷◌, flat_map, take}
+use Rattle.lemmas.proofs.{◌≡◌, ◌++◌, ◌∷◌, flat_map, take}
 use Rattle.std.specs.Fmt.{signed_decimal}
 use Rattle.snapshot_text.proofs.numbers.put_more_numbers.Given as goal
 

@@ -1,5 +1,4 @@
-use Rattle.std.proofs.Common.{rules, ◌≡◌, ◌∷◌, FitsSigned}
-use Rattle.lemmas.proofs.{on_ok, signed_decimal, to_z-of_z, w64}
+use Rattle.lemmas.proofs.{rules, ◌≡◌, ◌∷◌, FitsSigned, on_ok, signed_decimal, to_z-of_z, w64}
 use Rattle.snapshot_text.proofs.Joined.{grown_by}
 use Rattle.snapshot_text.proofs.numbers.put_numbers.Goals as goal
 

@@ -1,4 +1,4 @@
-use Rattle.std.proofs.Common.{◌+◌, arith, sym}
+use Rattle.lemmas.proofs.{◌+◌, arith, sym}
 use Rattle.std.proofs.lemmas.List.{length-drop}
 use Rattle.rdf_values.proofs.Fronts.{cut_at, rest_of}
 use Rattle.snapshot_words.specs.{is_comma}

@@ -1,4 +1,4 @@
-use Rattle.std.proofs.Common.{arith, length, sym}
+use Rattle.lemmas.proofs.{arith, length, sym}
 use Rattle.std.specs.List.{slice_split}
 use Rattle.snapshot_words.specs.{is_comma}
 use Rattle.snapshot_words.proofs.Parts.{all_read, bad_part, nothing_read, parts_first, parts_of, too_many}

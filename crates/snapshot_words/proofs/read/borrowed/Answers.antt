@@ -1,4 +1,4 @@
-use Rattle.std.proofs.Common.{◌≡◌, ◌<◌, ◌+◌, ◌++◌, ◌∷◌, ◌∙◌, [], ℕ, List, HoldsAt, ap, arith, length, map, sym, take}
+use Rattle.lemmas.proofs.{◌≡◌, ◌<◌, ◌+◌, ◌++◌, ◌∷◌, ◌∙◌, [], ℕ, List, HoldsAt, ap, arith, length, map, sym, take}
 use Rattle.std.proofs.lemmas.List.{map-append, take_more}
 use Rattle.snapshot_words.proofs.read.borrowed.Goals as goal
 

@@ -1,4 +1,4 @@
-use Rattle.std.proofs.Common.{◌≡◌, map, take}
+use Rattle.lemmas.proofs.{◌≡◌, map, take}
 use Rattle.snapshot_words.proofs.read.borrowed.Given as goal
 
 abbrev pub invariant-loop-i : goal.invariant-loop-i

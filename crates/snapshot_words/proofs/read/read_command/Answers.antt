@@ -1,4 +1,4 @@
-use Rattle.std.proofs.Common.{◌∙◌, ap, inl, inr, map, sym}
+use Rattle.lemmas.proofs.{◌∙◌, ap, inl, inr, map, sym}
 use Rattle.std.proofs.lemmas.Result.{IfOk-weaker}
 use Rattle.clap.specs.Words.{is_simple_and_free}
 use Rattle.snapshot_words.proofs.Taken.{is_free, refused_by, taken_by}

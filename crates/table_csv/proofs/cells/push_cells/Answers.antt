@@ -1,6 +1,6 @@
-use Rattle.std.proofs.Common.{arith, inl, inr}
+use Rattle.lemmas.proofs.{arith, inl, inr}
 use Rattle.std.proofs.lemmas.Result.{err_from_is_err_and}
-use Rattle.table_csv.proofs.PushSteps.{pushing_end, pushing_stop}
+use Rattle.table_csv.proofs.RecordSteps.{pushing_end, pushing_stop}
 use Rattle.table_csv.proofs.cells.push_cells.Goals as goal
 
 pub returns-in_err-push_cell : goal.returns-in_err-push_cell

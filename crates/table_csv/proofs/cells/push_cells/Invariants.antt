@@ -1,6 +1,6 @@
 use Rattle.csv.specs.Records.{fields_of}
 use Rattle.rdf_values.specs.{cells_from}
-use Rattle.table_csv.proofs.PushSteps.{Pushing}
+use Rattle.table_csv.proofs.RecordSteps.{Pushing}
 use Rattle.table_csv.proofs.cells.push_cells.Given as goal
 
 abbrev pub invariant-loop-i : goal.invariant-loop-i

@@ -1,8 +1,8 @@
-use Rattle.std.proofs.Common.{◌≡◌, arith, inl, inr, length, refl}
+use Rattle.lemmas.proofs.{◌≡◌, arith, inl, inr, length, refl}
 use Rattle.std.proofs.lemmas.Result.{err_from_is_err_and}
 use Rattle.csv.specs.Records.{fields_of}
 use Rattle.rdf_values.specs.{field_count}
-use Rattle.table_csv.proofs.CellSteps.{after_mark, one_if, row_bad, row_many, row_marked, row_plain, row_short}
+use Rattle.table_csv.proofs.RecordSteps.{after_mark, one_if, row_bad, row_many, row_marked, row_plain, row_short}
 use Rattle.table_csv.proofs.cells.push_row.Goals as goal
 
 pub returns-then-entry-ge-MAX_ENTRIES : goal.returns-then-entry-ge-MAX_ENTRIES

@@ -1,9 +1,9 @@
-use Rattle.std.proofs.Common.{◌≡◌, ◌∙◌, ◌<◌, ◌++◌, ap, inl, inr, length, rules, refl, append-nil, sym}
+use Rattle.lemmas.proofs.{◌≡◌, ◌∙◌, ◌<◌, ◌++◌, ap, inl, inr, length, rules, refl, append-nil, sym}
 use Rattle.std.proofs.lemmas.Result.{err_from_is_err_and}
 use Rattle.csv.specs.Records.{fields_of}
 use Rattle.rdf_values.specs.{rows_kept}
 use Rattle.rdf_values.proofs.KeptLemmas.{row_fits_columns, holds_push, length-rows_kept, pushed_back, rows_after_push}
-use Rattle.table_csv.proofs.CellSteps.{row_early}
+use Rattle.table_csv.proofs.RecordSteps.{row_early}
 use Rattle.table_csv.proofs.TableSteps.{mark_if, reading_end, reading_marks, reading_more, reading_stop, same_columns}
 use Rattle.table_csv.proofs.entries.read_entries.Goals as goal
 use Rattle.table_csv.proofs.entries.read_entries.Goals.{then-begins+in_ok-push, else-begins}

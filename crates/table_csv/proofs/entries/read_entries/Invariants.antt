@@ -1,4 +1,4 @@
-use Rattle.std.proofs.Common.{◌-◌, ℕ, List}
+use Rattle.lemmas.proofs.{◌-◌, ℕ, List}
 use Rattle.rdf_values.specs.{HoldsTable, rows_kept}
 use Rattle.table_csv.specs.{entries_of, Leaves}
 use Rattle.table_csv.proofs.TableSteps.{Reading}

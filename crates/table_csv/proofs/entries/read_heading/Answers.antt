@@ -1,7 +1,6 @@
-use Rattle.std.proofs.Common.{inr, refl}
+use Rattle.lemmas.proofs.{inr, refl}
 use Rattle.csv.specs.Records.{fields_of}
-use Rattle.table_csv.proofs.HeaderSteps.{headed}
-use Rattle.table_csv.proofs.TableSteps.{table_none}
+use Rattle.table_csv.proofs.TableSteps.{headed, table_none}
 use Rattle.table_csv.proofs.entries.read_heading.Goals as goal
 
 pub returns-then-not-branch : goal.returns-then-not-branch

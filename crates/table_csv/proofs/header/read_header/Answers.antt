@@ -1,6 +1,6 @@
-use Rattle.std.proofs.Common.{◌<◌, ◌∙◌, [], ◌∷◌, arith, sym, length, length-append}
+use Rattle.lemmas.proofs.{◌<◌, ◌∙◌, [], ◌∷◌, arith, sym, length, length-append}
 use Rattle.csv.specs.Records.{fields_of}
-use Rattle.table_csv.proofs.HeaderSteps.{NoCut, header_more}
+use Rattle.table_csv.proofs.TableSteps.{NoCut, header_more}
 use Rattle.table_csv.proofs.header.read_header.Goals as goal
 use Rattle.table_csv.proofs.header.read_header.Goals.{else-i-len-via-then-i-len+in_ok-is_cut+else-branch, else-i-len-via-else-i-len}
 

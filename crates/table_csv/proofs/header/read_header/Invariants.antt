@@ -1,7 +1,7 @@
-use Rattle.std.proofs.Common.{◌≡◌, ◌≤◌, [], drop, length}
+use Rattle.lemmas.proofs.{◌≡◌, ◌≤◌, [], drop, length}
 use Rattle.csv.specs.Records.{fields_of}
 use Rattle.rdf_values.specs.{header_from}
-use Rattle.table_csv.proofs.HeaderSteps.{header_onto}
+use Rattle.table_csv.proofs.TableSteps.{header_onto}
 use Rattle.table_csv.proofs.header.read_header.Given as goal
 
 abbrev pub invariant-loop-i : goal.invariant-loop-i

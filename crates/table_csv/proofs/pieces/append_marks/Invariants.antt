@@ -1,4 +1,4 @@
-use Rattle.std.proofs.Common.{◌≡◌, ◌++◌, take}
+use Rattle.lemmas.proofs.{◌≡◌, ◌++◌, take}
 use Rattle.table_csv.specs.{marks_behind}
 use Rattle.table_csv.proofs.pieces.append_marks.Given as goal
 

@@ -1,5 +1,5 @@
 use Rattle.csv.specs.Records.{fields_of}
-use Rattle.table_csv.proofs.PieceSteps.{one_record}
+use Rattle.table_csv.proofs.TableSteps.{one_record}
 use Rattle.table_csv.proofs.pieces.is_head.Goals as goal
 
 pub next-requires-2 : goal.next-requires-2

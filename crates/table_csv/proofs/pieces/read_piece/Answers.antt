@@ -1,6 +1,6 @@
-use Rattle.std.proofs.Common.{◌∙◌, sym}
+use Rattle.lemmas.proofs.{◌∙◌, sym}
 use Rattle.table_csv.specs.{csv_records}
-use Rattle.table_csv.proofs.PieceSteps.{behind_head, good_answer, piece_of}
+use Rattle.table_csv.proofs.TableSteps.{behind_head, good_answer, piece_of}
 use Rattle.table_csv.proofs.pieces.read_piece.Goals as goal
 
 pub read_entries-requires-clause-header : goal.read_entries-requires-clause-header

@@ -1,6 +1,6 @@
-use Rattle.std.proofs.Common.{◌∙◌}
+use Rattle.lemmas.proofs.{◌∙◌}
 use Rattle.csv.specs.Records.{fields_of}
-use Rattle.table_csv.proofs.CellSteps.{field_at-get_or, some_field}
+use Rattle.table_csv.proofs.RecordSteps.{field_at-get_or, some_field}
 use Rattle.table_csv.proofs.records.field.Goals as goal
 
 pub unwrap-requires : goal.unwrap-requires

@@ -1,5 +1,5 @@
 use Rattle.csv.specs.Records.{fields_of}
-use Rattle.table_csv.proofs.PushSteps.{takes}
+use Rattle.table_csv.proofs.RecordSteps.{takes}
 use Rattle.table_csv.proofs.records.next.Goals as goal
 
 pub returns-in-Ok : goal.returns-in-Ok

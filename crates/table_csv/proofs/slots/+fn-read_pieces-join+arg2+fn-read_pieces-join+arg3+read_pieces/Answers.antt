@@ -1,6 +1,6 @@
-use Rattle.std.proofs.Common.{◌++◌}
+use Rattle.lemmas.proofs.{◌++◌}
 use Rattle.columns.specs.{joined}
-use Rattle.table_csv.proofs.PieceSteps.{pieces_answer, same_columns}
+use Rattle.table_csv.proofs.TableSteps.{pieces_answer, pieces_columns}
 use Rattle.table_csv.proofs.slots.+fn-read_pieces-join+arg2+fn-read_pieces-join+arg3+read_pieces.Goals as goal
 
 pub append_pieces-requires-clause-same : goal.append_pieces-requires-clause-same
@@ -9,7 +9,7 @@ append_pieces-requires-clause-same g t c =
     let second = rw c.in_ok-second.was at c.join-first.ensures.second in
     let front = joined c.halved.result.0.lines.now ++ c.halved.result.0.last.now in
     let back = joined c.halved.result.1.lines.now ++ c.halved.result.1.last.now in
-    same_columns c.args.head.now front back c.in_ok-first.field-0 c.in_ok-second.field-0 c.requires.head first second
+    pieces_columns c.args.head.now front back c.in_ok-first.field-0 c.in_ok-second.field-0 c.requires.head first second
 
 pub returns : goal.returns
 returns g t c =

@@ -1,6 +1,6 @@
-use Rattle.std.proofs.Common.{◌∙◌, ◌++◌, refl, sym}
+use Rattle.lemmas.proofs.{◌∙◌, ◌++◌, refl, sym}
 use Rattle.columns.specs.{joined}
-use Rattle.table_csv.proofs.PieceSteps.{head_answer}
+use Rattle.table_csv.proofs.TableSteps.{head_answer}
 use Rattle.table_csv.proofs.slots.read_behind.Goals as goal
 
 pub returns-clause-value : goal.returns-clause-value

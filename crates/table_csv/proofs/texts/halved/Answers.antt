@@ -1,7 +1,7 @@
-use Rattle.std.proofs.Common.{◌<◌, ◌/◌, arith, length}
+use Rattle.lemmas.proofs.{◌<◌, ◌/◌, arith, length}
 use Rattle.std.proofs.lemmas.List.Elements.{All-take}
 use Rattle.table_csv.specs.{EndsLine}
-use Rattle.table_csv.proofs.CutLines.{halves_cut}
+use Rattle.table_csv.proofs.RecordSteps.{halves_cut}
 use Rattle.table_csv.proofs.texts.halved.Goals as goal
 
 pub returns-clause-cut : goal.returns-clause-cut

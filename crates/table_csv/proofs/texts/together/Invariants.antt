@@ -1,4 +1,4 @@
-use Rattle.std.proofs.Common.{◌≡◌, take}
+use Rattle.lemmas.proofs.{◌≡◌, take}
 use Rattle.columns.specs.{joined}
 use Rattle.table_csv.proofs.texts.together.Given as goal
 

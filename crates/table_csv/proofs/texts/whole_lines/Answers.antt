@@ -1,6 +1,6 @@
-use Rattle.std.proofs.Common.{◌<◌, ◌≡◌, ◌++◌, arith, length}
+use Rattle.lemmas.proofs.{◌<◌, ◌≡◌, ◌++◌, arith, length}
 use Rattle.std.proofs.lemmas.Bool.Decides.{nat_tests}
-use Rattle.table_csv.proofs.CutLines.{lines_more, part_cut}
+use Rattle.table_csv.proofs.RecordSteps.{lines_more, part_cut}
 use Rattle.table_csv.proofs.texts.whole_lines.Goals as goal
 
 pub loop-part-preserved-then-not-is_empty : goal.loop-part-preserved-then-not-is_empty

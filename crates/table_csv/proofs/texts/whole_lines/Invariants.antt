@@ -1,4 +1,4 @@
-use Rattle.std.proofs.Common.{◌≡◌, ◌++◌, All}
+use Rattle.lemmas.proofs.{◌≡◌, ◌++◌, All}
 use Rattle.columns.specs.{joined}
 use Rattle.table_csv.specs.{EndsLine}
 use Rattle.table_csv.proofs.texts.whole_lines.Given as goal

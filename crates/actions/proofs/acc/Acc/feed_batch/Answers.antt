@@ -1,4 +1,4 @@
-use Rattle.std.proofs.Common.{arith}
+use Rattle.lemmas.proofs.{arith}
 use Rattle.actions.proofs.Batching.{within_more}
 use Rattle.actions.proofs.Folds.{all_below, all_below-feed}
 use Rattle.actions.proofs.acc.Acc.feed_batch.Goals as goal

@@ -1,4 +1,4 @@
-use Rattle.std.proofs.Common.{arith}
+use Rattle.lemmas.proofs.{arith}
 use Rattle.actions.proofs.acc.Acc.merge.Goals as goal
 
 pub invariant_of-self-2 : goal.invariant_of-self-2

@@ -1,4 +1,4 @@
-use Rattle.std.proofs.Common.{◌≡◌, drop}
+use Rattle.lemmas.proofs.{◌≡◌, drop}
 use Rattle.rdf_values.specs.{ActionKind}
 use Rattle.actions.specs.{EachPlace, first_fault_in, places_of, SuitsAt}
 use Rattle.actions.proofs.batch.Batch.first_fault.Given as goal

@@ -1,4 +1,4 @@
-use Rattle.std.proofs.Common.{◌≡◌, take, fold}
+use Rattle.lemmas.proofs.{◌≡◌, take, fold}
 use Rattle.std.specs.Int.{int_max}
 use Rattle.actions.specs.{better_of}
 use Rattle.actions.proofs.folding.GreatestFolds.take_in.Given as goal

@@ -1,8 +1,8 @@
-use Rattle.std.proofs.Common.{rules, arith, ◌<◌, ◌++◌, ◌∙◌, subst, get_or, length, map, pos, take, w64, FitsSigned}
+use Rattle.lemmas.proofs.{ap, rules, arith, ◌<◌, ◌++◌, ◌∙◌, subst, get_or, length, map, pos, take, w64, FitsSigned}
 use Rattle.std.proofs.lemmas.Int.{to_z-of_z}
 use Rattle.rdf_values.specs.declared.results.Item.TheVariants.{Point}
 use Rattle.histograms.specs.{HasFilled}
-use Rattle.actions.proofs.Points.{one_filled}
+use Rattle.actions.proofs.Batching.{one_point_more}
 use Rattle.actions.proofs.folding.Hist1Folds.take_in.Goals as goal
 
 pub fill-requires-clause-room : goal.fill-requires-clause-room
@@ -18,6 +18,6 @@ loop-number-preserved c =
     record {
       edges = c.fill.ensures.edges ∙ c.loop-number.invariant.edges;
       fills = c.fill.ensures.fills ∙ (let f = c.loop-number.invariant.fills in omega arith);
-      filled = λ before held. subst (HasFilled c.fill.new.self) (one_filled xs i before _ below (to_z-of_z w64 x fits_x))
+      filled = λ before held. subst (HasFilled c.fill.new.self) (one_point_more before (λ z. Point z (pos 1)) xs i (pos 0) _ below (ap (λ z. Point z (pos 1)) (to_z-of_z w64 x fits_x)))
           (c.fill.ensures.filled (before ++ map (λ z. Point z (pos 1)) (take i xs)) (c.loop-number.invariant.filled before held));
     }

@@ -1,4 +1,4 @@
-use Rattle.std.proofs.Common.{◌≡◌, take, fold}
+use Rattle.lemmas.proofs.{◌≡◌, take, fold}
 use Rattle.std.specs.Int.{int_min}
 use Rattle.actions.specs.{better_of}
 use Rattle.actions.proofs.folding.LeastFolds.take_in.Given as goal

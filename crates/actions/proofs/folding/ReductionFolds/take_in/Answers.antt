@@ -1,5 +1,4 @@
-use Rattle.std.proofs.Common.{rules, ◌<◌, ◌∙◌, ap, sym, get_or, length, pos, w64, FitsSigned}
-use Rattle.lemmas.proofs.{fold_more, to_z-of_z}
+use Rattle.lemmas.proofs.{rules, ◌<◌, ◌∙◌, ap, sym, get_or, length, pos, w64, FitsSigned, fold_more, to_z-of_z}
 use Rattle.rdf_values.specs.{reduce_step}
 use Rattle.actions.proofs.folding.ReductionFolds.take_in.Goals as goal
 

@@ -1,4 +1,4 @@
-use Rattle.std.proofs.Common.{◌≡◌, take, fold}
+use Rattle.lemmas.proofs.{◌≡◌, take, fold}
 use Rattle.rdf_values.specs.{reduce_step}
 use Rattle.actions.proofs.folding.ReductionFolds.take_in.Given as goal
 

@@ -1,6 +1,5 @@
-use Rattle.std.proofs.Common.{arith}
-use Rattle.lemmas.proofs.{fold_more, to_z-of_z}
-use Rattle.actions.proofs.Points.{fits_sum, sum_bound}
+use Rattle.lemmas.proofs.{arith, fold_more, to_z-of_z}
+use Rattle.actions.proofs.States.{fits_sum, sum_bound}
 use Rattle.actions.proofs.folding.SummedFolds.take_in.Goals as goal
 use Rattle.histograms.proofs.Filling.{abs_of_fit}
 

@@ -1,4 +1,4 @@
-use Rattle.std.proofs.Common.{◌≡◌, ◌≤◌, ◌+◌, ◌*◌, ◌^◌, ◌+ℤ◌, take, fold, nat_abs}
+use Rattle.lemmas.proofs.{◌≡◌, ◌≤◌, ◌+◌, ◌*◌, ◌^◌, ◌+ℤ◌, take, fold, nat_abs}
 use Rattle.actions.proofs.folding.SummedFolds.take_in.Given as goal
 
 abbrev pub invariant-loop-number : goal.invariant-loop-number

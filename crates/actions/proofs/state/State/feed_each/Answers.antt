@@ -1,7 +1,8 @@
-use Rattle.std.proofs.Common.{rules, arith, ℕ, ◌≡◌, ◌≤◌, ◌<◌, ◌+◌, ◌++◌, List, length, take, get_or, ap, sym, subst, ◌∙◌, flat_map}
+use Rattle.lemmas.proofs.{[], rules, arith, ℕ, ◌≡◌, ◌≤◌, ◌<◌, ◌+◌, ◌++◌, List, length, take, get_or, ap, sym, subst, ◌∙◌, flat_map}
+use Rattle.std.proofs.lemmas.List.{flat_map_more, take_more}
 use Rattle.rdf_values.specs.{Item, spread}
 use Rattle.actions.specs.{from_cluster, Holds, kind_of, places_of, values_at, values_of}
-use Rattle.actions.proofs.Batching.{one_more_fed, one_place_more, within_more}
+use Rattle.actions.proofs.Batching.{one_more_fed, within_more}
 use Rattle.actions.proofs.Folds.{all_below-feed}
 use Rattle.actions.proofs.state.State.feed_each.Goals as goal
 
@@ -24,7 +25,7 @@ loop-i-preserved c =
       kind = c.feed.ensures.kind ∙ c.loop-i.invariant.kind;
       within = λ n w. within_more c.feed.new.self _ _ (omega arith) (c.feed.ensures.within (n + i) (c.loop-i.invariant.within n w));
       fed = λ fed below held. subst (Holds c.feed.new.self)
-          (one_more_fed fed c.args.cluster (flat_map f (take i ps)) _ (flat_map f (take (i + 1) ps)) (one_place_more f ps i below_i ∙ ap (λ l. flat_map f (take i ps) ++ l) (sym same)))
+          (one_more_fed fed c.args.cluster (flat_map f (take i ps)) _ (flat_map f (take (i + 1) ps)) (ap (flat_map f) (take_more ps i 0 below_i) ∙ sym (flat_map_more f [] (take i ps) (get_or ps i 0)) ∙ ap (λ l. flat_map f (take i ps) ++ l) (sym same)))
           (c.in-Ok.ensures.fed (fed ++ from_cluster c.args.cluster (flat_map f (take i ps))) (all_below-feed fed c.args.cluster (flat_map f (take i ps)) below) (c.loop-i.invariant.fed fed below held));
     }
 

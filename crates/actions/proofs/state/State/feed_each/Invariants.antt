@@ -1,4 +1,4 @@
-use Rattle.std.proofs.Common.{◌≡◌, ◌≤◌, ◌+◌, ◌++◌, ℕ, List, All, take, flat_map}
+use Rattle.lemmas.proofs.{◌≡◌, ◌≤◌, ◌+◌, ◌++◌, ℕ, List, All, take, flat_map}
 use Rattle.rdf_values.specs.{spread}
 use Rattle.actions.specs.{Fed, from_cluster, Holds, IsWithin, kind_of, places_of, values_at}
 use Rattle.actions.proofs.state.State.feed_each.Given as goal

@@ -1,4 +1,4 @@
-use Rattle.std.proofs.Common.{◌≡◌, rules}
+use Rattle.lemmas.proofs.{◌≡◌, rules}
 use Rattle.actions.proofs.state.State.new.Goals as goal
 
 pub returns-in_ok-clone-in-Histo2D : goal.returns-in_ok-clone-in-Histo2D

@@ -1,4 +1,4 @@
-use Rattle.block_cache.proofs.Marking.{all_seen, none_newly}
+use Rattle.block_cache.proofs.LaneSteps.{all_seen, none_newly}
 use Rattle.block_cache.proofs.block_marks.BlockMarks.mark.Goals as goal
 
 pub returns-in-All-clause-newly : goal.returns-in-All-clause-newly

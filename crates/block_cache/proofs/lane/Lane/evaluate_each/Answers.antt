@@ -1,8 +1,6 @@
-use Rattle.std.proofs.Common.{◌∙◌}
+use Rattle.lemmas.proofs.{◌∙◌}
 use Rattle.block_cache.specs.{outcome_over}
-use Rattle.block_cache.proofs.StopLists.{on_err}
-use Rattle.block_cache.proofs.EachPlaces.{left_given}
-use Rattle.block_cache.proofs.LaneSteps.{begun_after, each_joined, each_value, evaluated_after, lane_after, lane_begun}
+use Rattle.block_cache.proofs.LaneSteps.{on_err, left_given, begun_after, each_joined, each_value, evaluated_after, lane_after, lane_begun}
 use Rattle.block_cache.proofs.lane.Lane.evaluate_each.Goals as goal
 
 pub invariant_of-self : goal.invariant_of-self

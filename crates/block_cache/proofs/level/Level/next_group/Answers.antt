@@ -1,5 +1,5 @@
-use Rattle.std.proofs.Common.{◌<◌, get_or, List, ℕ, subst, sym}
-use Rattle.expr_lanes.proofs.Selected.{is_in_at}
+use Rattle.lemmas.proofs.{◌<◌, get_or, List, ℕ, subst, sym}
+use Rattle.expr_lanes.proofs.Composed.{is_in_at}
 use Rattle.block_cache.proofs.level.Level.next_group.Goals as goal
 
 pub bounds-self-places : goal.bounds-self-places

@@ -1,6 +1,6 @@
-use Rattle.std.proofs.Common.{◌++◌, ◌∷◌, [], ◌∙◌, ap, arith, length, map}
+use Rattle.lemmas.proofs.{◌++◌, ◌∷◌, [], ◌∙◌, ap, arith, length, map}
 use Rattle.block_cache.specs.{cells_in}
-use Rattle.block_cache.proofs.VectorLists.{kept_more, pushed}
+use Rattle.block_cache.proofs.LaneSteps.{kept_more, pushed}
 use Rattle.block_cache.proofs.vectors.Vectors.push.Goals as goal
 
 pub returns-clause-kept : goal.returns-clause-kept

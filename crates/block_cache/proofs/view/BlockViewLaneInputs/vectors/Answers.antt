@@ -1,8 +1,8 @@
-use Rattle.std.proofs.Common.{◌+◌, ℕ, arith, subst}
+use Rattle.lemmas.proofs.{◌+◌, ℕ, arith, subst}
 use Rattle.rdf_values.specs.{Value}
 use Rattle.rdf_model.specs.{Outcome}
 use Rattle.expr_lanes.specs.{IsVectorAt}
-use Rattle.block_cache.proofs.TableVectors.{column_seen, vector_of_entry}
+use Rattle.block_cache.proofs.OverLaws.{column_seen, vector_of_entry}
 use Rattle.block_cache.specs.{block_job}
 use Rattle.block_cache.proofs.view.BlockViewLaneInputs.vectors.Goals as goal
 

@@ -1,4 +1,4 @@
-use Rattle.std.proofs.Common.{◌-◌, ◌∙◌, ap, arith, length, subst, sym, refl}
+use Rattle.lemmas.proofs.{◌-◌, ◌∙◌, ap, arith, length, subst, sym, refl}
 use Rattle.std.proofs.lemmas.List.{with_items_is}
 use Rattle.block_cache.specs.{kinds_of, rooms_of}
 use Rattle.loop_keys.specs.{job_of}

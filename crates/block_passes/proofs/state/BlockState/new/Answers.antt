@@ -1,21 +1,27 @@
-use Rattle.std.proofs.Common.{◌∙◌, ap, length, subst, sym}
-use Rattle.block_passes.specs.{AreDeepEnough}
-use Rattle.block_passes.proofs.ClusterBlocks.{state_new}
+use Rattle.lemmas.proofs.{List, ◌∙◌, ap, length, subst, sym, length-map}
+use Rattle.rdf_values.specs.{ColType}
+use Rattle.block_cache.specs.{LaneView, size_for, kinds_of}
+use Rattle.graph_numbers.specs.{graph_sites, GraphView}
+use Rattle.loop_keys.specs.{AreKeys, key_count}
+use Rattle.block_passes.specs.{AreDeepEnough, HaveKinds}
 use Rattle.block_passes.proofs.state.BlockState.new.Goals as goal
 
 pub returns : goal.returns
 returns g c =
-    state_new _ c.args.job.now.graph.now c.requires.graph
-    (record {
-      size = c.block_size-size.result;
-      plan = c.in_ok-plan.plan;
-      rows = c.in_ok-rows.rows;
-      cells = c.in_ok-cells.cells.items;
-      lanes = c.in_ok-new_lanes.field-0.items;
-      scratch = length c.in_ok-new_scratch.field-0.items;
-      levels = length c.in_ok-new_levels.field-0.items;
-      found = c.begin.result;
-      kept = c.in_ok-kept.kept.items;
-    }) c.in_ok-rows.keys c.in_ok-rows.ensures c.block_size-size.ensures.value c.block_size-size.ensures.least c.block_size-size.ensures.most c.in_ok-plan.ensures
-    (c.in_ok-cells.ensures.many ∙ ap length c.columns.ensures.value) c.in_ok-cells.ensures.room c.in_ok-kinds.kinds c.in_ok-kinds.ensures.many c.in_ok-kinds.ensures.kinds (c.in_ok-new_lanes.ensures.kinds ∙ c.as_slice.ensures) c.in_ok-new_lanes.ensures.rooms
-    (subst (AreDeepEnough c.args.job.now.graph.now) (sym c.in_ok-new_scratch.ensures) c.in_ok-deepest.ensures) (c.in_ok-new_levels.ensures ∙ c.sites.ensures) (c.in_ok-kept.ensures ∙ c.steps.ensures)
+    let is = c.requires.graph in
+    let kinds = c.in_ok-new_lanes.ensures.kinds ∙ c.as_slice.ensures in
+    record {
+      size = c.block_size-size.ensures.value ∙ ap size_for (c.in_ok-rows.ensures.1 ∙ ap key_count is);
+      least = c.block_size-size.ensures.least;
+      most = c.block_size-size.ensures.most;
+      plan = c.in_ok-plan.ensures;
+      rows = subst (λ (v : GraphView). AreKeys v c.in_ok-rows.rows) is c.in_ok-rows.ensures.0;
+      cells = c.in_ok-cells.ensures.many ∙ ap length c.columns.ensures.value;
+      cell_room = c.in_ok-cells.ensures.room;
+      lanes = sym (length-map c.in_ok-new_lanes.field-0.items (λ (l : LaneView). l.kind)) ∙ ap length kinds ∙ c.in_ok-kinds.ensures.many ∙ ap key_count is;
+      kinds = subst (λ (v : GraphView). HaveKinds v (length (graph_sites v)) (kinds_of c.in_ok-new_lanes.field-0.items)) is (subst (λ (ks : List ColType). HaveKinds c.args.job.now.graph.now (length (graph_sites c.args.job.now.graph.now)) ks) (sym kinds) c.in_ok-kinds.ensures.kinds);
+      lane_room = c.in_ok-new_lanes.ensures.rooms;
+      scratch = subst (λ (v : GraphView). AreDeepEnough v (length c.in_ok-new_scratch.field-0.items)) is (subst (AreDeepEnough c.args.job.now.graph.now) (sym c.in_ok-new_scratch.ensures) c.in_ok-deepest.ensures);
+      levels = c.in_ok-new_levels.ensures ∙ c.sites.ensures ∙ ap (λ (v : GraphView). length (graph_sites v)) is;
+      kept = c.in_ok-kept.ensures ∙ c.steps.ensures;
+    }

@@ -1,5 +1,4 @@
-use Rattle.std.proofs.Common.{arith, List, ◌-◌, ◌∙◌, ap, length, subst, sym, ℤ, refl}
-use Rattle.lemmas.proofs.{with_items, with_items_is}
+use Rattle.lemmas.proofs.{arith, List, ◌-◌, ◌∙◌, ap, length, subst, sym, ℤ, refl, with_items, with_items_is}
 use Rattle.block_cache.specs.{kinds_of}
 use Rattle.rdf_values.specs.{Span}
 use Rattle.loop_keys.specs.{job_of}
@@ -26,7 +25,7 @@ returns-clause-state g c =
     let is = with_items_is c.self.inside.kept c.try_begun.new.kept (omega (arith, len, many, same)) in
     let state = subst (λ (s : StateView). IsStateOf (job_of c.args.job.now) s) (sym c.self.view_is) c.begin.ensures.state in
     state_stays (job_of c.args.job.now) (the_view c.self.inside) (the_view c.self.inside).cells c.try_begun.new.work.lanes.items (length c.try_begun.new.work.scratch.items) (length c.try_begun.new.work.levels.items) c.try_begun.new.work.found (with_items c.self.inside.kept c.try_begun.new.kept).items
-    state refl state.cell_room c.try_begun.ensures.kinds c.try_begun.ensures.rooms c.try_begun.ensures.room.scratch c.try_begun.ensures.room.levels (ap length is ∙ many ∙ same)
+    state refl state.cell_room c.try_begun.ensures.leaves.spends.kinds c.try_begun.ensures.leaves.spends.rooms c.try_begun.ensures.leaves.scratch c.try_begun.ensures.leaves.levels (ap length is ∙ many ∙ same)
 
 pub returns-clause-tried : goal.returns-clause-tried
 returns-clause-tried g c =

@@ -1,4 +1,4 @@
-use Rattle.std.proofs.Common.{◌≡◌, ◌-◌}
+use Rattle.lemmas.proofs.{◌-◌}
 use Rattle.loop_keys.specs.{job_of}
 use Rattle.block_passes.specs.{IsStateOf}
 use Rattle.block_passes.proofs.ClusterBlocks.{IsAtBlock}
@@ -8,7 +8,6 @@ abbrev pub invariant-loop-lo : goal.invariant-loop-lo
 invariant-loop-lo g l = record {
   at : IsAtBlock (job_of l.job) l.cluster l.fn.self.size l.keys l.span l.fn.tally l.fn.steps l.lo l.tally l.steps;
   state : IsStateOf (job_of l.job) l.self;
-  size : l.self.size ≡ l.fn.self.size;
 }
 
 abbrev pub decreases-loop-lo : goal.decreases-loop-lo

@@ -1,4 +1,4 @@
-use Rattle.std.proofs.Common.{◌∙◌, ap, subst, sym, slice_get}
+use Rattle.lemmas.proofs.{◌∙◌, ap, subst, sym, slice_get}
 use Rattle.cluster_tally.specs.{Holds, TallyView}
 use Rattle.cluster_tally.proofs.tally.Tally.close.Goals as goal
 

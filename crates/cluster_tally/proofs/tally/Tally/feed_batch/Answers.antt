@@ -1,5 +1,4 @@
-use Rattle.std.proofs.Common.{◌∙◌, length, ap, arith, subst, sym, slice_get}
-use Rattle.lemmas.proofs.{on_err_weaker, on_ok_weaker, with_items, with_items_is}
+use Rattle.lemmas.proofs.{◌∙◌, length, ap, arith, subst, sym, slice_get, on_err_weaker, on_ok_weaker, with_items, with_items_is}
 use Rattle.actions.specs.{IsTake}
 use Rattle.cluster_tally.specs.{CanFeedBatch, TallyView, TookIn, TookInIfThere}
 use Rattle.cluster_tally.specs.contracts.tally.Tally.{the_view}

@@ -1,7 +1,7 @@
-use Rattle.std.proofs.Common.{refl, subst, sym}
+use Rattle.lemmas.proofs.{refl, subst, sym}
 use Rattle.cluster_tally.specs.{at_begin, Holds, TallyView}
 use Rattle.cluster_tally.specs.contracts.tally.Tally.{the_view}
-use Rattle.cluster_tally.proofs.Pieces.{stands}
+use Rattle.cluster_tally.proofs.Closing.{stands}
 use Rattle.cluster_tally.proofs.tally.Tally.into_piece.Goals as goal
 
 pub returns-clause-stands : goal.returns-clause-stands

@@ -1,7 +1,7 @@
-use Rattle.std.proofs.Common.{subst, sym}
+use Rattle.lemmas.proofs.{subst, sym}
 use Rattle.cluster_tally.specs.{CanNoteCounts, TallyView}
 use Rattle.cluster_tally.specs.contracts.tally.Tally.{the_view}
-use Rattle.cluster_tally.proofs.BlockNotes.{holds_noted}
+use Rattle.cluster_tally.proofs.BlockFeeds.{holds_noted}
 use Rattle.cluster_tally.proofs.tally.Tally.note_counts.Goals as goal
 
 pub returns : goal.returns

@@ -1,4 +1,4 @@
-use Rattle.std.proofs.Common.{arith}
+use Rattle.lemmas.proofs.{arith}
 use Rattle.rdf_values.proofs.KeptLemmas.{keep, length-rows_kept}
 use Rattle.columns.proofs.columns.Columns.build_in_slots.Goals as goal
 

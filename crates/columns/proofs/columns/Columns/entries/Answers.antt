@@ -1,4 +1,4 @@
-use Rattle.std.proofs.Common.{◌∙◌, map, sym}
+use Rattle.lemmas.proofs.{◌∙◌, map, sym}
 use Rattle.rdf_values.proofs.KeptLemmas.{holds_table, length-rows_kept}
 use Rattle.columns.specs.{cells_of}
 use Rattle.columns.proofs.columns.Columns.entries.Goals as goal

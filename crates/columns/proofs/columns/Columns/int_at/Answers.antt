@@ -1,10 +1,9 @@
-use Rattle.std.proofs.Common.{◌≡◌, ◌∙◌, arith, ap, length, map, rules, sym}
-use Rattle.lemmas.proofs.{FitsSigned, slice_get_within}
+use Rattle.lemmas.proofs.{◌≡◌, ◌∙◌, arith, ap, length, map, rules, sym, FitsSigned, slice_get_within}
 use Rattle.std.proofs.Math.Facts.{to_z-of_z}
 use mir.Syntax.{w64}
 use Rattle.rdf_values.specs.{Value}
 use Rattle.rdf_values.proofs.KeptLemmas.{cell_of_column, column_length, length-rows_kept}
-use Rattle.columns.specs.ColumnsView.{ColumnsView}
+use Rattle.columns.specs.Views.{ColumnsView}
 use Rattle.columns.specs.{cells_of, joined}
 use Rattle.columns.proofs.InPieces.{entry_here}
 use Rattle.columns.proofs.columns.Columns.int_at.Goals as goal

@@ -1,4 +1,4 @@
-use Rattle.std.proofs.Common.{leb, rules}
+use Rattle.lemmas.proofs.{leb, rules}
 use Rattle.std.proofs.lemmas.List.Sorted.{IsPartitionPoint-from_clause, IsPartitionedBy-leb}
 use Rattle.columns.proofs.Clusters.{holds_first, they_rise}
 use Rattle.columns.proofs.cuts.Cuts.cluster_of.Goals as goal

@@ -1,4 +1,4 @@
-use Rattle.std.proofs.Common.{arith}
+use Rattle.lemmas.proofs.{arith}
 use Rattle.columns.proofs.Clusters.{is_even, length-even}
 use Rattle.columns.proofs.cuts.Cuts.count.Goals as goal
 

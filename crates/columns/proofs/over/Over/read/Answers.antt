@@ -1,9 +1,9 @@
-use Rattle.std.proofs.Common.{◌≡◌, ◌∙◌, ◌-◌, arith, length, sym, take}
+use Rattle.lemmas.proofs.{◌≡◌, ◌∙◌, ◌-◌, arith, length, sym, take}
 use Rattle.std.proofs.lemmas.List.{length-take}
 use Rattle.rdf_values.specs.{Value}
 use Rattle.rdf_values.proofs.KeptLemmas.{cell_of_column, column_length}
 use Rattle.columns.specs.{joined}
-use Rattle.columns.proofs.Reading.{cluster_long, number_read}
+use Rattle.columns.proofs.InPieces.{cluster_long, number_read}
 use Rattle.columns.proofs.over.Over.read.Goals as goal
 
 pub read-requires-clause-within : goal.read-requires-clause-within

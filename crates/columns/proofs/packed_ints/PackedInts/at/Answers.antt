@@ -1,8 +1,8 @@
-use Rattle.std.proofs.Common.{arith, rules}
+use Rattle.lemmas.proofs.{arith, rules}
 use Rattle.std.specs.Int.RustNames.{FitsSigned}
 use Rattle.std.proofs.Math.Facts.{to_z-of_z}
 use mir.Syntax.{w64}
-use Rattle.columns.proofs.Reading.{number_there}
+use Rattle.columns.proofs.InPieces.{number_there}
 use Rattle.columns.proofs.packed_ints.PackedInts.at.Goals as goal
 
 pub number_at-difference-requires : goal.number_at-difference-requires

@@ -1,4 +1,4 @@
-use Rattle.std.proofs.Common.{arith}
+use Rattle.lemmas.proofs.{arith}
 use Rattle.columns.proofs.BlockSteps.{block_bytes, block_of, block_size}
 use Rattle.columns.proofs.packed_ints.PackedInts.packed.Goals as goal
 

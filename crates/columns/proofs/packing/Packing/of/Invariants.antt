@@ -1,4 +1,4 @@
-use Rattle.std.proofs.Common.{◌≡◌, pos, get_or, drop}
+use Rattle.lemmas.proofs.{◌≡◌, pos, get_or, drop}
 use Rattle.columns.specs.{greatest_from, least_from}
 use Rattle.columns.proofs.packing.Packing.of.Given as goal
 

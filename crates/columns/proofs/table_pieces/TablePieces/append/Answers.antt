@@ -1,7 +1,7 @@
-use Rattle.std.proofs.Common.{◌≡◌, ◌≤◌, ◌+◌, ◌∙◌, ap, map, refl, sym}
+use Rattle.lemmas.proofs.{◌≡◌, ◌≤◌, ◌+◌, ◌∙◌, ap, map, refl, sym}
 use Rattle.rdf_values.proofs.KeptLemmas.{length-rows_kept}
 use Rattle.columns.specs.{whole}
-use Rattle.columns.proofs.JoiningPieces.{holds_joined}
+use Rattle.columns.proofs.InPieces.{holds_joined}
 use Rattle.columns.proofs.table_pieces.TablePieces.append.Goals as goal
 
 pub invariant_of-result : goal.invariant_of-result

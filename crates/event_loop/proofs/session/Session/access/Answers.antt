@@ -1,6 +1,6 @@
-use Rattle.std.proofs.Common.{arith}
+use Rattle.lemmas.proofs.{arith}
 use Rattle.event_loop.specs.{session_of}
-use Rattle.event_loop.proofs.Accesses.{accessed_filled, accessed_old, after_faulted, after_filled, after_old, faulted_new, loop_within, print_few}
+use Rattle.event_loop.proofs.Courses.{accessed_filled, accessed_old, after_faulted, after_filled, after_old, faulted_new, loop_within, print_few}
 use Rattle.event_loop.proofs.session.Session.access.Goals as goal
 
 pub overflow_add-next : goal.overflow_add-next

@@ -1,8 +1,8 @@
-use Rattle.std.proofs.Common.{◌∙◌, Bool, [], ◌∷◌, Some, ap, arith, if◌then◌else◌, inl, inr, length, refl, sym}
+use Rattle.lemmas.proofs.{◌∙◌, Bool, [], ◌∷◌, Some, ap, arith, if◌then◌else◌, inl, inr, length, refl, sym}
 use Rattle.std.proofs.lemmas.Option.{slice_get_read}
 use Rattle.loop_pieces.specs.declared.loop_piece.PartialLines.{PartialLines}
 use Rattle.event_loop.specs.{session_of}
-use Rattle.event_loop.proofs.Accesses.{completed_at, fills_it, lines_there, loop_there, placed_at}
+use Rattle.event_loop.proofs.Courses.{completed_at, fills_it, lines_there, loop_there, placed_at}
 use Rattle.event_loop.proofs.session.Session.filled.Goals as goal
 use Rattle.event_loop.proofs.session.Session.filled.Goals.{then-is_noted, else-is_noted}
 

@@ -1,6 +1,6 @@
-use Rattle.std.proofs.Common.{arith}
+use Rattle.lemmas.proofs.{arith}
 use Rattle.graph_numbers.proofs.Placing.{itself}
-use Rattle.event_loop.proofs.LoopResults.{many}
+use Rattle.event_loop.proofs.Found.{many}
 use Rattle.event_loop.proofs.session.Session.run.Goals as goal
 
 pub run_loop-requires-clause-job : goal.run_loop-requires-clause-job

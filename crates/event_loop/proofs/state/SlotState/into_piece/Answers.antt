@@ -1,7 +1,7 @@
-use Rattle.std.proofs.Common.{ap, sym, subst}
+use Rattle.lemmas.proofs.{ap, sym, subst}
 use Rattle.cluster_tally.specs.{at_begin, Holds, TallyView}
 use Rattle.event_loop.specs.{SlotView}
-use Rattle.event_loop.proofs.SlotLemmas.{one_above}
+use Rattle.event_loop.proofs.Ended.{one_above}
 use Rattle.event_loop.proofs.state.SlotState.into_piece.Goals as goal
 
 pub returns-clause-stands : goal.returns-clause-stands

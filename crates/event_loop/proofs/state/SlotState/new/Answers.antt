@@ -1,13 +1,13 @@
-use Rattle.std.proofs.Common.{ap, arith, length, map, refl, subst, ℕ}
+use Rattle.lemmas.proofs.{ap, arith, length, map, refl, subst, ℕ}
 use Rattle.std.specs.declared.snapshot.Snapshot.{Snapshot}
 use Rattle.rdf_values.specs.{cut}
-use Rattle.columns.specs.CutsView.{CutsView}
+use Rattle.columns.specs.Views.{CutsView}
 use Rattle.block_passes.specs.{CountsVectors}
 use Rattle.loop_keys.specs.{job_of}
 use Rattle.graph_numbers.specs.{GraphView}
 use Rattle.event_loop.specs.contracts.state.SlotState.{the_view}
 use Rattle.event_loop.specs.{Phase}
-use Rattle.event_loop.proofs.SlotLemmas.{begun}
+use Rattle.event_loop.proofs.Ended.{begun}
 use Rattle.event_loop.proofs.state.SlotState.new.Goals as goal
 
 pub returns : goal.returns

@@ -1,11 +1,11 @@
-use Rattle.std.proofs.Common.{ℕ, ◌≡◌, ◌∙◌, ◌++◌, ◌∷◌, [], Err, None, Some, length, ap, arith, refl, subst}
+use Rattle.lemmas.proofs.{ℕ, ◌≡◌, ◌∙◌, ◌++◌, ◌∷◌, [], Err, None, Some, length, ap, arith, refl, subst}
 use Rattle.std.proofs.lemmas.List.{length-map}
 use Rattle.std.specs.declared.snapshot.Snapshot.{Snapshot}
 use Rattle.loop_keys.specs.{facts_in, job_of}
 use Rattle.block_passes.specs.{at_end, IsClusterAnswer}
 use Rattle.event_loop.specs.{job_facts, SlotView}
 use Rattle.event_loop.specs.contracts.state.SlotState.{the_view}
-use Rattle.event_loop.proofs.SlotLemmas.{begins, cluster_within, fault_at, going, has_room, is_at_end, seen_with, went_on}
+use Rattle.event_loop.proofs.Ended.{begins, cluster_within, fault_at, going, has_room, is_at_end, seen_with, went_on}
 use Rattle.event_loop.proofs.state.SlotState.process.Goals as goal
 
 pub try_cluster-requires-clause-cluster : goal.try_cluster-requires-clause-cluster

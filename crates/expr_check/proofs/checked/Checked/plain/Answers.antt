@@ -1,6 +1,6 @@
-use Rattle.std.proofs.Common.{◌≡◌, ◌∙◌, ap, not}
+use Rattle.lemmas.proofs.{◌≡◌, ◌∙◌, ap, not}
 use Rattle.expr_check.specs.{CheckedExpr, is_plain}
-use Rattle.expr_check.proofs.Plain.{test_of_parts, plain_by_kinds}
+use Rattle.expr_check.proofs.Typed.{test_of_parts, plain_by_kinds}
 use Rattle.expr_check.proofs.checked.Checked.plain.Goals as goal
 
 value : (c : goal.After-has_vector) → not c.has_vector.result ≡ is_plain c.args.self.now.kinds c.args.self.now.tree

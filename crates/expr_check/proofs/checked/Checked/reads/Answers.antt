@@ -1,4 +1,4 @@
-use Rattle.std.proofs.Common.{◌∙◌, ap, refl}
+use Rattle.lemmas.proofs.{◌∙◌, ap, refl}
 use Rattle.rdf_values.specs.{columns_in}
 use Rattle.expr_check.specs.{CheckedExpr, distinct}
 use Rattle.expr_check.proofs.WellTyped.{reads_are}

@@ -1,5 +1,5 @@
-use Rattle.std.proofs.Common.{None, Some, ap, ◌∙◌}
-use Rattle.expr_check.proofs.Distinct.{found_by_name, lacks_column}
+use Rattle.lemmas.proofs.{None, Some, ap, ◌∙◌}
+use Rattle.expr_check.proofs.Typed.{found_by_name, lacks_column}
 use Rattle.expr_check.proofs.scope.Scope.find.Goals as goal
 
 pub returns-in-None : goal.returns-in-None

@@ -1,5 +1,5 @@
-use Rattle.std.proofs.Common.{None, Some, ap, ◌∙◌}
-use Rattle.expr_check.proofs.Distinct.{found_by_number}
+use Rattle.lemmas.proofs.{None, Some, ap, ◌∙◌}
+use Rattle.expr_check.proofs.Typed.{found_by_number}
 use Rattle.expr_check.proofs.scope.Scope.number_kind.Goals as goal
 
 pub returns-in-None : goal.returns-in-None

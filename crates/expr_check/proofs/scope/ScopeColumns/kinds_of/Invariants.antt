@@ -1,4 +1,4 @@
-use Rattle.std.proofs.Common.{◌≡◌, Ok, map, take}
+use Rattle.lemmas.proofs.{◌≡◌, Ok, map, take}
 use Rattle.rdf_values.specs.{ColType}
 use Rattle.expr_check.specs.{number_kind, numbers_in}
 use Rattle.expr_check.proofs.scope.ScopeColumns.kinds_of.Given as goal

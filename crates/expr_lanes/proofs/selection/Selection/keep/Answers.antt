@@ -1,5 +1,5 @@
-use Rattle.std.proofs.Common.{arith}
-use Rattle.expr_lanes.proofs.Selected.{dense_left, rising_left}
+use Rattle.lemmas.proofs.{arith}
+use Rattle.expr_lanes.proofs.Composed.{dense_left, rising_left}
 use Rattle.expr_lanes.proofs.selection.Selection.keep.Goals as goal
 use Rattle.expr_lanes.proofs.selection.Selection.keep.Goals.{then-self, else-self}
 

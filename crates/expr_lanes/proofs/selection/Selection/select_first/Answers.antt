@@ -1,4 +1,4 @@
-use Rattle.expr_lanes.proofs.Selected.{rising_range}
+use Rattle.expr_lanes.proofs.Composed.{rising_range}
 use Rattle.expr_lanes.proofs.selection.Selection.select_first.Goals as goal
 
 pub invariant_of-self : goal.invariant_of-self

@@ -1,9 +1,7 @@
-use Rattle.lemmas.proofs.{common_steps, IfOk-weaker, to_z-of_z}
-use Rattle.std.proofs.Common.{◌∷◌, ◌∙◌, List, sym, subst, ap, refl, arith, rules}
+use Rattle.lemmas.proofs.{common_steps, IfOk-weaker, to_z-of_z, ◌∷◌, ◌∙◌, List, sym, subst, ap, refl, arith, rules}
 use Rattle.rdf_values.specs.{BinOp, InCall, InChoice, InIndex, Mark, Op, Operand, Operator, Placed, Punct}
 use Rattle.expr_read.specs.{BeginsNot, Stops, stuck_at, token_of}
-use Rattle.expr_read.proofs.Took.{took_tighter, took_next, took_number, took_truth, took_name, took_minus_sign, took_not_sign, took_binary, took_conditional, took_pick, took_parens, took_call_none, took_call, took_last, took_more, begins_seen}
-use Rattle.expr_read.proofs.Scanned.{scan_after, argument_first, stuck_inside, stops_postfix, stops_binary, stops_expr}
+use Rattle.expr_read.proofs.WholeReads.{took_tighter, took_next, took_number, took_truth, took_name, took_minus_sign, took_not_sign, took_binary, took_conditional, took_pick, took_parens, took_call_none, took_call, took_last, took_more, begins_seen, scan_after, argument_first, stuck_inside, stops_postfix, stops_binary, stops_expr}
 use Rattle.expr_read.proofs.parser.Parser.+parse.Goals as goal
 
 pub args-returns-in_err-expect-clause-stuck : goal.args-returns-in_err-expect-clause-stuck

@@ -1,4 +1,4 @@
-use Rattle.std.proofs.Common.{◌+◌, ◌-◌, ◌*◌, length}
+use Rattle.lemmas.proofs.{◌+◌, ◌-◌, ◌*◌, length}
 use Rattle.rdf_values.specs.{tree_of}
 use Rattle.expr_read.specs.{left_of, Stops, Took}
 use Rattle.expr_read.proofs.parser.Parser.+parse.Given as goal

@@ -1,8 +1,7 @@
-use Rattle.std.proofs.Common.{◌∙◌, List, ◌∷◌, sym, subst, ap}
+use Rattle.lemmas.proofs.{◌∙◌, List, ◌∷◌, sym, subst, ap}
 use Rattle.rdf_values.specs.{InList, Mark, Placed, Punct}
 use Rattle.expr_read.specs.{BeginsNot, stuck_at}
-use Rattle.expr_read.proofs.Scanned.{stuck_inside}
-use Rattle.expr_read.proofs.Took.{list_more, list_done}
+use Rattle.expr_read.proofs.WholeReads.{stuck_inside, list_more, list_done}
 use Rattle.expr_read.proofs.parser.Parser.list.Goals as goal
 
 pub returns-in_err-expect-clause-stuck : goal.returns-in_err-expect-clause-stuck

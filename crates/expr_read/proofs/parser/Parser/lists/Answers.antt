@@ -1,8 +1,7 @@
-use Rattle.std.proofs.Common.{◌∙◌, List, [], ◌∷◌, sym, subst, ap, refl}
+use Rattle.lemmas.proofs.{◌∙◌, List, [], ◌∷◌, sym, subst, ap, refl}
 use Rattle.rdf_values.specs.{AfterList, InLists, Mark, NextList, Placed, Punct}
 use Rattle.expr_read.specs.{BeginsNot, stuck_at}
-use Rattle.expr_read.proofs.Scanned.{scan_after}
-use Rattle.expr_read.proofs.Took.{lists_more, lists_done, stuck_between, stuck_next}
+use Rattle.expr_read.proofs.WholeReads.{scan_after, lists_more, lists_done, stuck_between, stuck_next}
 use Rattle.expr_read.proofs.parser.Parser.lists.Goals as goal
 
 pub returns-in_err-expect-clause-stuck : goal.returns-in_err-expect-clause-stuck

@@ -1,4 +1,4 @@
-use Rattle.std.proofs.Common.{length}
+use Rattle.lemmas.proofs.{length}
 use Rattle.expr_read.specs.{left_of, Listings}
 use Rattle.expr_read.proofs.parser.Parser.lists.Given as goal
 

@@ -1,6 +1,6 @@
-use Rattle.std.proofs.Common.{arith}
+use Rattle.lemmas.proofs.{arith}
 use Rattle.std.proofs.lemmas.Grind.{common_steps}
-use Rattle.expr_read.proofs.Took.{vector_first, item_first, took_vector, took_lists, took_list}
+use Rattle.expr_read.proofs.WholeReads.{vector_first, item_first, took_vector, took_lists, took_list}
 use Rattle.expr_read.proofs.parser.Parser.values.Goals as goal
 
 pub returns-in_err-node-clause-stuck : goal.returns-in_err-node-clause-stuck

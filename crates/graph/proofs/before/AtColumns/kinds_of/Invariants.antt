@@ -1,4 +1,4 @@
-use Rattle.std.proofs.Common.{◌≡◌, Ok, map, slice_get, take}
+use Rattle.lemmas.proofs.{◌≡◌, Ok, map, slice_get, take}
 use Rattle.std.specs.Option.{ok_or}
 use Rattle.rdf_values.specs.{ColType}
 use Rattle.rdf_values.specs.declared.scripts.script_cause.GraphCause.TheVariants.{UnknownColumn}

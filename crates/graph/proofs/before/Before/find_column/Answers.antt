@@ -1,7 +1,7 @@
-use Rattle.std.proofs.Common.{◌<◌, ◌∙◌, ap, length, List, refl, slice_get, subst, sym}
+use Rattle.lemmas.proofs.{◌<◌, ◌∙◌, ap, length, List, refl, slice_get, subst, sym}
 use Rattle.rdf_values.specs.{ColType}
 use Rattle.graph.specs.{statements}
-use Rattle.graph.proofs.Scoping.{found_as, found_none, found_within}
+use Rattle.graph.proofs.Walking.{found_as, found_none, found_within}
 use Rattle.graph.proofs.before.Before.find_column.Goals as goal
 
 pub returns-then-not-is_visible : goal.returns-then-not-is_visible

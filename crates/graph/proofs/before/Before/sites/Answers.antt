@@ -1,6 +1,6 @@
-use Rattle.std.proofs.Common.{arith}
+use Rattle.lemmas.proofs.{arith}
 use Rattle.std.proofs.lemmas.List.{length-map}
-use Rattle.graph.proofs.SiteTotals.{sites_fit}
+use Rattle.graph.proofs.Finished.{sites_fit}
 use Rattle.graph.proofs.before.Before.sites.Goals as goal
 
 pub returns-clause-few : goal.returns-clause-few

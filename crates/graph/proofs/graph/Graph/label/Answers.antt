@@ -1,4 +1,4 @@
-use Rattle.std.proofs.Common.{ap, length, ◌∙◌, sym, slice_get}
+use Rattle.lemmas.proofs.{ap, length, ◌∙◌, sym, slice_get}
 use Rattle.rdf_values.specs.{named_before}
 use Rattle.graph.specs.{labels, statements}
 use Rattle.graph.proofs.Finished.{history_of, label_count, label_is, booked_now}

@@ -1,4 +1,4 @@
-use Rattle.std.proofs.Common.{◌∙◌, ap}
+use Rattle.lemmas.proofs.{◌∙◌, ap}
 use Rattle.graph.specs.{statements}
 use Rattle.graph_numbers.specs.{booked_statements}
 use Rattle.graph.proofs.Finished.{history_of}

@@ -1,4 +1,4 @@
-use Rattle.std.proofs.Common.{subst, sym}
+use Rattle.lemmas.proofs.{subst, sym}
 use Rattle.graph_numbers.specs.{graph_sources}
 use Rattle.graph.specs.{AreSourcesOf}
 use Rattle.graph.proofs.Finished.{booked_now}

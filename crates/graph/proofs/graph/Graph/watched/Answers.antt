@@ -1,4 +1,4 @@
-use Rattle.std.proofs.Common.{◌∙◌, ap, Some, sym, option_map, slice_get}
+use Rattle.lemmas.proofs.{◌∙◌, ap, Some, sym, option_map, slice_get}
 use Rattle.rdf_values.specs.{is_watched}
 use Rattle.graph_numbers.specs.{booked_statements, graph_results, ResultAt}
 use Rattle.graph.proofs.Finished.{twice}

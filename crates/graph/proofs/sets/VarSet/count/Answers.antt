@@ -1,5 +1,5 @@
-use Rattle.std.proofs.Common.{arith}
-use Rattle.graph.proofs.Bits.{none_above}
+use Rattle.lemmas.proofs.{arith}
+use Rattle.graph.proofs.Listing.{none_above}
 use Rattle.graph.proofs.sets.VarSet.count.Goals as goal
 
 pub returns-clause-above : goal.returns-clause-above

@@ -1,5 +1,5 @@
-use Rattle.std.proofs.Common.{arith}
-use Rattle.graph.proofs.Gaining.{added}
+use Rattle.lemmas.proofs.{arith}
+use Rattle.graph.proofs.Finished.{added}
 use Rattle.graph.proofs.tables.Tables.add.Goals as goal
 
 pub returns : goal.returns

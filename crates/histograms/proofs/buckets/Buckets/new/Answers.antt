@@ -1,6 +1,6 @@
-use Rattle.std.proofs.Common.{◌-◌, length, get_or, pos, arith, sym, rules, w64, FitsSigned}
+use Rattle.lemmas.proofs.{◌-◌, length, get_or, pos, arith, sym, rules, w64, FitsSigned}
 use Rattle.std.proofs.lemmas.Int.{to_z-of_z}
-use Rattle.histograms.proofs.Starts.{starts-more}
+use Rattle.histograms.proofs.Filling.{starts-more}
 use Rattle.histograms.proofs.buckets.Buckets.new.Goals as goal
 
 pub loop-cell-preserved : goal.loop-cell-preserved

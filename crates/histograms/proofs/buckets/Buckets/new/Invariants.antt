@@ -1,4 +1,4 @@
-use Rattle.std.proofs.Common.{length}
+use Rattle.lemmas.proofs.{length}
 use Rattle.histograms.specs.{AreStarts, bucket_of_edge}
 use Rattle.histograms.proofs.buckets.Buckets.new.Given as goal
 

@@ -1,5 +1,4 @@
-use Rattle.std.proofs.Common.{rules, w64, FitsSigned}
-use Rattle.lemmas.proofs.{to_z-of_z, w128}
+use Rattle.lemmas.proofs.{rules, w64, FitsSigned, to_z-of_z, w128}
 use Rattle.histograms.proofs.Filling.{widened}
 use Rattle.histograms.proofs.cell_sum.CellSum.with.Goals as goal
 

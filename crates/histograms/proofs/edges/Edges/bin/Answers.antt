@@ -1,6 +1,6 @@
-use Rattle.std.proofs.Common.{◌≡◌, ◌∙◌, ◌+◌, length, arith, rules, sym, w64, FitsSigned, vec_len}
+use Rattle.lemmas.proofs.{◌≡◌, ◌∙◌, ◌+◌, length, arith, rules, sym, w64, FitsSigned, vec_len}
 use Rattle.std.proofs.lemmas.Int.{to_z-of_z}
-use Rattle.histograms.proofs.Starts.{rises_of_axis, two_of_axis, bin-above, bin-found, bin-reached, bucket-within, exceeds_it, is_at_most, is_below, IsReached, not_below, reached-cell, reached-start}
+use Rattle.histograms.proofs.Filling.{rises_of_axis, two_of_axis, bin-above, bin-found, bin-reached, bucket-within, exceeds_it, is_at_most, is_below, IsReached, not_below, reached-cell, reached-start}
 use Rattle.histograms.proofs.edges.Edges.bin.Goals as goal
 use Rattle.histograms.proofs.edges.Edges.bin.Goals.{After-from}
 

@@ -1,7 +1,7 @@
-use Rattle.std.proofs.Common.{◌≡◌, rules, ◌∙◌, sym, ap, true, int_le}
+use Rattle.lemmas.proofs.{◌≡◌, rules, ◌∙◌, sym, ap, true, int_le}
 use Rattle.std.proofs.lemmas.List.Sorted.{IsPartitionPoint-from_clause}
 use Rattle.rdf_values.specs.{bin, rises}
-use Rattle.histograms.proofs.Starts.{rises_of_axis, partitioned_by_rise, count_by-partition}
+use Rattle.histograms.proofs.Filling.{rises_of_axis, partitioned_by_rise, count_by-partition}
 use Rattle.histograms.proofs.edges.Edges.halve.Goals as goal
 
 pub returns-clause-value : goal.returns-clause-value

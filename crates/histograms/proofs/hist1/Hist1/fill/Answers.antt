@@ -1,4 +1,4 @@
-use Rattle.std.proofs.Common.{◌≡◌, ◌<◌, ◌+◌, ◌∙◌, length, arith, ap, sym, subst, w64, length-set}
+use Rattle.lemmas.proofs.{◌≡◌, ◌<◌, ◌+◌, ◌∙◌, length, arith, ap, sym, subst, w64, length-set}
 use Rattle.std.proofs.lemmas.Int.{to_z-of_z}
 use Rattle.histograms.specs.{IsBounded, with_weight}
 use Rattle.histograms.proofs.Filling.{all_bounded_with, bounded_with, flat_cells-point}

@@ -1,4 +1,4 @@
-use Rattle.std.proofs.Common.{rules, ℕ, ◌≡◌, ◌<◌, ◌+◌, ◌∙◌, length, map, get_or, ap}
+use Rattle.lemmas.proofs.{rules, ℕ, ◌≡◌, ◌<◌, ◌+◌, ◌∙◌, length, map, get_or, ap}
 use Rattle.histograms.specs.{cell_seen, CellSum, flat_cells, together}
 use Rattle.std.proofs.lemmas.List.{take_at}
 use Rattle.histograms.proofs.Filling.{flat_cells-append}

@@ -1,4 +1,4 @@
-use Rattle.std.proofs.Common.{arith}
+use Rattle.lemmas.proofs.{arith}
 use Rattle.std.proofs.lemmas.List.{get_or-replicate, length-replicate}
 use Rattle.histograms.proofs.Filling.{flat_cells-none}
 use Rattle.histograms.proofs.hist1.Hist1.new.Goals as goal

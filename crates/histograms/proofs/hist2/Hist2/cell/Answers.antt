@@ -1,5 +1,4 @@
-use Rattle.std.proofs.Common.{◌≡◌, ◌≤◌, ◌+◌, ◌*◌, ◌∙◌, length, map, get_or, arith, ap, sym, []}
-use Rattle.lemmas.proofs.{get_or-map, slice_get_read}
+use Rattle.lemmas.proofs.{◌≡◌, ◌≤◌, ◌+◌, ◌*◌, ◌∙◌, length, map, get_or, arith, ap, sym, [], get_or-map, slice_get_read}
 use Rattle.histograms.specs.{cell_seen, rows_on}
 use Rattle.histograms.proofs.FillingPairs.{cell_of_row, length-row, length-rows, place_within}
 use Rattle.histograms.proofs.hist2.Hist2.cell.Goals as goal

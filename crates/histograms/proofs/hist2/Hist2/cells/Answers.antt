@@ -1,4 +1,4 @@
-use Rattle.std.proofs.Common.{arith, ◌∙◌, sym}
+use Rattle.lemmas.proofs.{arith, ◌∙◌, sym}
 use Rattle.histograms.proofs.FillingPairs.{length-row, length-rows}
 use Rattle.histograms.proofs.hist2.Hist2.cells.Goals as goal
 

@@ -1,4 +1,4 @@
-use Rattle.std.proofs.Common.{ℕ, ◌≡◌, ◌<◌, ◌≤◌, ◌+◌, ◌*◌, ◌∙◌, length, map, get_or, set, arith, ap, sym, subst, List, ℤ, w64, length-set, refl}
+use Rattle.lemmas.proofs.{ℕ, ◌≡◌, ◌<◌, ◌≤◌, ◌+◌, ◌*◌, ◌∙◌, length, map, get_or, set, arith, ap, sym, subst, List, ℤ, w64, length-set, refl}
 use Rattle.std.proofs.lemmas.Int.{to_z-of_z}
 use Rattle.rdf_values.specs.{bin}
 use Rattle.histograms.specs.{cell_seen, CellSum, IsBounded, IsWeight, rows_on, with_weight}

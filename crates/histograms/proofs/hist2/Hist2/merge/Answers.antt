@@ -1,4 +1,4 @@
-use Rattle.std.proofs.Common.{rules, ℕ, ◌≡◌, ◌<◌, ◌+◌, ◌*◌, ◌∙◌, length, map, get_or, ap, subst, List, ℤ}
+use Rattle.lemmas.proofs.{rules, ℕ, ◌≡◌, ◌<◌, ◌+◌, ◌*◌, ◌∙◌, length, map, get_or, ap, subst, List, ℤ}
 use Rattle.std.proofs.lemmas.List.{take_at}
 use Rattle.histograms.specs.{cell_seen, CellSum, rows_on, square_cells, together}
 use Rattle.histograms.proofs.FillingPairs.{square_cells-append}

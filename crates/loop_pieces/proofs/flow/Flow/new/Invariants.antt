@@ -1,4 +1,4 @@
-use Rattle.std.proofs.Common.{◌≡◌, replicate}
+use Rattle.lemmas.proofs.{◌≡◌, replicate}
 use Rattle.loop_pieces.specs.{nothing}
 use Rattle.loop_pieces.proofs.flow.Flow.new.Given as goal
 

@@ -1,7 +1,6 @@
-use Rattle.std.proofs.Common.{subst, sym, arith}
-use Rattle.lemmas.proofs.{on_ok, with_items, with_items_is}
+use Rattle.lemmas.proofs.{subst, sym, arith, on_ok, with_items, with_items_is}
 use Rattle.loop_pieces.specs.{AreMerged, CanMerge, LoopPiece}
-use Rattle.loop_pieces.proofs.Joined.{can_merge, have_room, joined}
+use Rattle.loop_pieces.proofs.ByCluster.{can_merge, have_room, joined}
 use Rattle.loop_pieces.proofs.loop_piece.LoopPiecePiece.join.Goals as goal
 
 pub merge-requires-clause-room : goal.merge-requires-clause-room

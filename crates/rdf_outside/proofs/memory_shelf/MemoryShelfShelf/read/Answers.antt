@@ -1,5 +1,5 @@
-use Rattle.std.proofs.Common.{refl}
-use Rattle.rdf_outside.proofs.Files.{left_moved, reads_where_told, takes}
+use Rattle.lemmas.proofs.{refl}
+use Rattle.rdf_outside.proofs.Outside.{left_moved, reads_where_told, takes}
 use Rattle.rdf_outside.proofs.memory_shelf.MemoryShelfShelf.read.Goals as goal
 
 pub returns-clause-bytes : goal.returns-clause-bytes

@@ -1,4 +1,4 @@
-use Rattle.rdf_outside.proofs.Files.{finds_at, finds_none}
+use Rattle.rdf_outside.proofs.Outside.{finds_at, finds_none}
 use Rattle.rdf_outside.proofs.memory_shelf.MemoryShelfShelf.turn_to.Goals as goal
 
 pub returns-in-Some-clause-turned : goal.returns-in-Some-clause-turned

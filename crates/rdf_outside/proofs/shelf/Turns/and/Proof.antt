@@ -1,5 +1,5 @@
 -- `and` makes the empty struct, with the names that its clause says. Assumes `Logic`.
-use Rattle.std.proofs.Common.{List, [], ◌∷◌, ◌++◌, length, refl}
+use Rattle.lemmas.proofs.{List, [], ◌∷◌, ◌++◌, length, refl}
 use seplogic.Ra.Ura.{Ura}
 use mir.Val.{Val, vptr}
 use base.Logic.{SProp, ent}

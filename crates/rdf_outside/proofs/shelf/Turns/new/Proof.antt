@@ -1,5 +1,5 @@
 -- `new` makes the empty struct, with no names. Assumes `Logic`.
-use Rattle.std.proofs.Common.{[], ◌∷◌, refl}
+use Rattle.lemmas.proofs.{[], ◌∷◌, refl}
 use seplogic.Ra.Ura.{Ura}
 use mir.Val.{Val}
 use base.Logic.{SProp, ent}

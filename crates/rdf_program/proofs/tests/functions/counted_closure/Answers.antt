@@ -1,4 +1,4 @@
-use Rattle.std.proofs.Common.{refl}
+use Rattle.lemmas.proofs.{refl}
 use Rattle.entry_fns.proofs.Meanings.{boxed_answers}
 use Rattle.rdf_program.proofs.tests.functions.counted_closure.OwnLists.{own-1, at-1-1}
 use Rattle.rdf_program.proofs.tests.functions.counted_closure.Goals as goal

@@ -1,4 +1,4 @@
-use Rattle.std.proofs.Common.{refl}
+use Rattle.lemmas.proofs.{refl}
 use Rattle.entry_fns.proofs.Meanings.{boxed_answers}
 use Rattle.rdf_program.proofs.tests.side_by_side.two_slots_evaluate_at_once.OwnLists.{own-1, at-1-1}
 use Rattle.rdf_program.proofs.tests.side_by_side.two_slots_evaluate_at_once.Goals as goal

@@ -1,4 +1,4 @@
-use Rattle.std.proofs.Common.{◌≡◌}
+use Rattle.lemmas.proofs.{◌≡◌}
 use Rattle.rdf_values.proofs.KeptLemmas.{partly_cut}
 use Rattle.rdf_values.proofs.tables.filling.cut_back.Given as goal
 

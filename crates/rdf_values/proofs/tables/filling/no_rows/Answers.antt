@@ -1,4 +1,4 @@
-use Rattle.std.proofs.Common.{arith}
+use Rattle.lemmas.proofs.{arith}
 use Rattle.rdf_values.proofs.KeptLemmas.{kept_more, stored_at, take_next}
 use Rattle.rdf_values.proofs.tables.filling.no_rows.Goals as goal
 

@@ -1,4 +1,4 @@
-use Rattle.std.proofs.Common.{take}
+use Rattle.lemmas.proofs.{take}
 use Rattle.rdf_values.specs.{AreKept}
 use Rattle.rdf_values.proofs.tables.filling.no_rows.Given as goal
 

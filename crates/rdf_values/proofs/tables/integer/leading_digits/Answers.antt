@@ -1,4 +1,4 @@
-use Rattle.std.proofs.Common.{◌≡◌, ◌∷◌, ◌+◌, arith, rules}
+use Rattle.lemmas.proofs.{◌≡◌, ◌∷◌, ◌+◌, arith, rules}
 use Rattle.rdf_values.proofs.Fronts.{one_more_digit}
 use Rattle.rdf_values.proofs.FrontNumbers.{front_found, front_more}
 use Rattle.rdf_values.proofs.tables.integer.leading_digits.Goals as goal

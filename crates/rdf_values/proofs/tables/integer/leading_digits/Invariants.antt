@@ -1,4 +1,4 @@
-use Rattle.std.proofs.Common.{◌≡◌, ◌<◌, ◌+◌, ◌^◌, Some, take}
+use Rattle.lemmas.proofs.{◌≡◌, ◌<◌, ◌+◌, ◌^◌, Some, take}
 use Rattle.rdf_values.specs.{written_after}
 use Rattle.rdf_values.proofs.tables.integer.leading_digits.Given as goal
 

@@ -1,4 +1,4 @@
-use Rattle.std.proofs.Common.{◌≡◌, ◌∷◌, Some, arith, rules, to_z, true, w64, ◌==◌}
+use Rattle.lemmas.proofs.{◌≡◌, ◌∷◌, Some, arith, rules, to_z, true, w64, ◌==◌}
 use Rattle.rdf_values.specs.{positive}
 use Rattle.rdf_values.proofs.FrontNumbers.{leading_negative, leading_positive, number_below}
 use Rattle.rdf_values.proofs.tables.integer.leading_integer.Goals as goal

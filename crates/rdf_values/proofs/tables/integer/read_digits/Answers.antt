@@ -1,5 +1,4 @@
-use Rattle.std.proofs.Common.{◌∙◌, sym, get_or, drop, ◌+◌, arith, rules}
-use Rattle.lemmas.proofs.{at_drop_more, digit_value_digit}
+use Rattle.lemmas.proofs.{◌∙◌, sym, get_or, drop, ◌+◌, arith, rules, at_drop_more, digit_value_digit}
 use Rattle.rdf_values.specs.{digits_up_to}
 use Rattle.rdf_values.proofs.Fronts.{stops_at_digit}
 use Rattle.rdf_values.proofs.tables.integer.read_digits.Goals as goal

@@ -1,4 +1,4 @@
-use Rattle.std.proofs.Common.{◌≡◌, ◌≤◌, drop}
+use Rattle.lemmas.proofs.{◌≡◌, ◌≤◌, drop}
 use Rattle.rdf_values.specs.{digits_up_to}
 use Rattle.rdf_values.proofs.tables.integer.read_digits.Given as goal
 

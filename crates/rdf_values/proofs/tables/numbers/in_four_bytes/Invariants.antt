@@ -1,4 +1,4 @@
-use Rattle.std.proofs.Common.{◌≡◌, take}
+use Rattle.lemmas.proofs.{◌≡◌, take}
 use Rattle.rdf_values.proofs.tables.numbers.in_four_bytes.Given as goal
 
 abbrev pub invariant-loop-item : goal.invariant-loop-item

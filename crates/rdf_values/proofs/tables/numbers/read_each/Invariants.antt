@@ -1,4 +1,4 @@
-use Rattle.std.proofs.Common.{◌≡◌, map, take}
+use Rattle.lemmas.proofs.{◌≡◌, map, take}
 use Rattle.rdf_values.proofs.tables.numbers.read_each.Given as goal
 
 abbrev pub invariant-loop-place : goal.invariant-loop-place

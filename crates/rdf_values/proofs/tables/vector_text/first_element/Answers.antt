@@ -1,4 +1,4 @@
-use Rattle.std.proofs.Common.{◌≡◌, ◌+◌, arith, drop, get_or, of_z, refl, rules, to_z, true, w64}
+use Rattle.lemmas.proofs.{◌≡◌, ◌+◌, arith, drop, get_or, of_z, refl, rules, to_z, true, w64}
 use Rattle.rdf_values.specs.{is_semicolon}
 use Rattle.rdf_values.proofs.PieceLemmas.{element_before, element_last}
 use Rattle.rdf_values.proofs.Fronts.{rest_of}

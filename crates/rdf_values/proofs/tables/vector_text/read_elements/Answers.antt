@@ -1,4 +1,4 @@
-use Rattle.std.proofs.Common.{arith, rules}
+use Rattle.lemmas.proofs.{arith, rules}
 use Rattle.std.proofs.lemmas.Bool.Decides.{nat_tests}
 use Rattle.rdf_values.proofs.PieceLemmas.{element_shorter, reading_bad, reading_empty, reading_end, reading_long, reading_more, reading_start}
 use Rattle.rdf_values.proofs.tables.vector_text.read_elements.Goals as goal

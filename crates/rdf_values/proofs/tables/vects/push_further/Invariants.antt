@@ -1,4 +1,4 @@
-use Rattle.std.proofs.Common.{◌≡◌, ◌≤◌, ◌+◌, ◌++◌, length, map, take, vec_len, vec_capacity}
+use Rattle.lemmas.proofs.{◌≡◌, ◌≤◌, ◌+◌, ◌++◌, length, map, take, vec_len, vec_capacity}
 use Rattle.rdf_values.proofs.tables.vects.push_further.Given as goal
 
 abbrev pub invariant-loop-end : goal.invariant-loop-end

@@ -1,4 +1,4 @@
-use Rattle.std.proofs.Common.{sym, subst}
+use Rattle.lemmas.proofs.{sym, subst}
 use Rattle.script_read.specs.{ActionName, arguments_wants, IsStuck, left_of, MethodName}
 use Rattle.script_read.proofs.walk.Walk.action_arguments.Goals as goal
 

@@ -1,6 +1,5 @@
-use Rattle.std.proofs.Common.{◌≡◌, ◌∷◌, ◌++◌, [], ◌∙◌, ℤ, w64, SFits, to_z, of_z, ap, arith, rules}
-use Rattle.lemmas.proofs.{common_steps, to_z-of_z}
-use Rattle.script_read.proofs.Joined.{items_more, items_done, items_go, items_close}
+use Rattle.lemmas.proofs.{◌≡◌, ◌∷◌, ◌++◌, [], ◌∙◌, ℤ, w64, SFits, to_z, of_z, ap, arith, rules, common_steps, to_z-of_z}
+use Rattle.script_read.proofs.Walked.{items_more, items_done, items_go, items_close}
 use Rattle.script_read.proofs.walk.Walk.edges.Goals as goal
 
 pub returns-in_err-edge-clause-stuck : goal.returns-in_err-edge-clause-stuck

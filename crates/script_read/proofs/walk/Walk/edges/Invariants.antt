@@ -1,6 +1,6 @@
-use Rattle.std.proofs.Common.{length}
+use Rattle.lemmas.proofs.{length}
 use Rattle.script_read.specs.{left_of}
-use Rattle.script_read.proofs.Joined.{edges, TookItems}
+use Rattle.script_read.proofs.Walked.{edges, TookItems}
 use Rattle.script_read.proofs.walk.Walk.edges.Given as goal
 
 abbrev pub invariant-loop-self : goal.invariant-loop-self

@@ -1,7 +1,7 @@
-use Rattle.std.proofs.Common.{◌∷◌, ◌∙◌, arith, option_map}
+use Rattle.lemmas.proofs.{◌∷◌, ◌∙◌, arith, option_map}
 use Rattle.std.proofs.lemmas.Grind.{common_steps}
 use Rattle.script_read.specs.{edges_of, MaybeString, quoted_of}
-use Rattle.script_read.proofs.Joined.{took_histo2d}
+use Rattle.script_read.proofs.Walked.{took_histo2d}
 use Rattle.script_read.proofs.walk.Walk.histo2d.Goals as goal
 
 pub returns-in_err-weight-clause-stuck : goal.returns-in_err-weight-clause-stuck

@@ -1,7 +1,6 @@
-use Rattle.std.proofs.Common.{◌∙◌, ap, sym, true, false, arith}
-use Rattle.lemmas.proofs.{common_steps}
+use Rattle.lemmas.proofs.{◌∙◌, ap, sym, true, false, arith, common_steps}
 use Rattle.script_read.specs.{token_of}
-use Rattle.script_read.proofs.Joined.{line_wanted, took_asking}
+use Rattle.script_read.proofs.Walked.{line_wanted, took_asking}
 use Rattle.script_read.proofs.walk.Walk.line.Goals as goal
 
 pub returns-in_err-name-clause-stuck : goal.returns-in_err-name-clause-stuck

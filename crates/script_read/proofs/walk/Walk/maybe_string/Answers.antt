@@ -1,8 +1,7 @@
-use Rattle.std.proofs.Common.{arith, refl}
+use Rattle.lemmas.proofs.{arith, refl}
 use Rattle.std.proofs.lemmas.Grind.{common_steps}
 use Rattle.script_read.specs.{MaybeString, one_string_wants}
-use Rattle.script_read.proofs.Joined.{took_some}
-use Rattle.script_read.proofs.Walked.{walk_over}
+use Rattle.script_read.proofs.Walked.{took_some, walk_over}
 use Rattle.script_read.proofs.walk.Walk.maybe_string.Goals as goal
 
 pub returns-in_err-text-clause-stuck : goal.returns-in_err-text-clause-stuck

@@ -1,7 +1,6 @@
-use Rattle.std.proofs.Common.{◌∙◌, arith}
-use Rattle.lemmas.proofs.{common_steps, IfOk-weaker}
+use Rattle.lemmas.proofs.{◌∙◌, arith, common_steps, IfOk-weaker}
 use Rattle.script_read.specs.{method_of}
-use Rattle.script_read.proofs.Joined.{method_wanted, took_method}
+use Rattle.script_read.proofs.Walked.{method_wanted, took_method}
 use Rattle.script_read.proofs.walk.Walk.method.Goals as goal
 
 pub returns-in_err-expect-clause-stuck : goal.returns-in_err-expect-clause-stuck

@@ -1,4 +1,4 @@
-use Rattle.std.proofs.Common.{◌∙◌, ap, sym}
+use Rattle.lemmas.proofs.{◌∙◌, ap, sym}
 use Rattle.script_read.specs.{AWord, token_of}
 use Rattle.script_read.proofs.Walked.{took_seen, is_name_next}
 use Rattle.script_read.proofs.walk.Walk.name.Goals as goal

@@ -1,5 +1,4 @@
-use Rattle.std.proofs.Common.{◌≡◌, ◌∙◌, sym, w64, SFits, to_z, of_z, ap, refl, arith, rules}
-use Rattle.lemmas.proofs.{common_steps, to_z-of_z}
+use Rattle.lemmas.proofs.{◌≡◌, ◌∙◌, sym, w64, SFits, to_z, of_z, ap, refl, arith, rules, common_steps, to_z-of_z}
 use Rattle.rdf_values.specs.scripts.LineTokens.{Number}
 use Rattle.script_read.specs.{ANumber, token_of}
 use Rattle.script_read.proofs.Walked.{took_seen, no_number, stuck_token}

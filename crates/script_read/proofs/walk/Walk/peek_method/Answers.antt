@@ -1,7 +1,6 @@
-use Rattle.std.proofs.Common.{ap}
+use Rattle.lemmas.proofs.{ap}
 use Rattle.script_read.specs.{AMethod, token_of}
-use Rattle.script_read.proofs.Walked.{no_word, stuck_token}
-use Rattle.script_read.proofs.Items.{no_method_named, method_seen}
+use Rattle.script_read.proofs.Walked.{no_word, stuck_token, no_method_named, method_seen}
 use Rattle.script_read.proofs.walk.Walk.peek_method.Goals as goal
 
 pub returns-in_default-clause-stuck : goal.returns-in_default-clause-stuck

@@ -1,4 +1,4 @@
-use Rattle.std.proofs.Common.{ap, refl}
+use Rattle.lemmas.proofs.{ap, refl}
 use Rattle.script_read.specs.{AString, token_of}
 use Rattle.script_read.proofs.Walked.{took_seen, no_string, stuck_token}
 use Rattle.script_read.proofs.walk.Walk.string.Goals as goal

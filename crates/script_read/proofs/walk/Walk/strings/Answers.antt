@@ -1,7 +1,6 @@
-use Rattle.std.proofs.Common.{◌∷◌, ◌∙◌, [], ap, arith, map}
-use Rattle.lemmas.proofs.{common_steps, map-append}
+use Rattle.lemmas.proofs.{◌∷◌, ◌∙◌, [], ap, arith, map, common_steps, map-append}
 use Rattle.script_read.specs.{quoted_of}
-use Rattle.script_read.proofs.Joined.{items_more, items_done, items_go, items_close}
+use Rattle.script_read.proofs.Walked.{items_more, items_done, items_go, items_close}
 use Rattle.script_read.proofs.walk.Walk.strings.Goals as goal
 
 pub returns-in_err-text-clause-stuck : goal.returns-in_err-text-clause-stuck

@@ -1,6 +1,6 @@
-use Rattle.std.proofs.Common.{length, map}
+use Rattle.lemmas.proofs.{length, map}
 use Rattle.script_read.specs.{left_of, quoted_of}
-use Rattle.script_read.proofs.Joined.{strings, TookItems}
+use Rattle.script_read.proofs.Walked.{strings, TookItems}
 use Rattle.script_read.proofs.walk.Walk.strings.Given as goal
 
 abbrev pub invariant-loop-self : goal.invariant-loop-self

@@ -1,8 +1,7 @@
-use Rattle.std.proofs.Common.{◌∷◌, ◌++◌, [], ◌∙◌, ap, refl, arith, option_map}
+use Rattle.lemmas.proofs.{◌∷◌, ◌++◌, [], ◌∙◌, ap, refl, arith, option_map}
 use Rattle.std.proofs.lemmas.Grind.{common_steps}
 use Rattle.script_read.specs.{AMark, Mark, MaybeString, one_string_wants, quoted_of, strings_of, token_of, variation_wants, VaryArguments}
-use Rattle.script_read.proofs.Walked.{columns_wanted}
-use Rattle.script_read.proofs.Joined.{walk_seen, took_vary_one, took_vary_all}
+use Rattle.script_read.proofs.Walked.{columns_wanted, walk_seen, took_vary_one, took_vary_all}
 use Rattle.script_read.proofs.walk.Walk.vary.Goals as goal
 
 pub returns-in_err-values-in-Quoted-clause-stuck : goal.returns-in_err-values-in-Quoted-clause-stuck

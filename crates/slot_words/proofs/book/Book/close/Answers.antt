@@ -1,5 +1,4 @@
-use Rattle.std.proofs.Common.{ℕ, List, ◌≡◌, [], ◌∷◌, ◌++◌, map, length, sym, ap, ◌∙◌, subst, arith, reverse}
-use Rattle.lemmas.proofs.{length-map, map-map, nil_from_length, reverse-append}
+use Rattle.lemmas.proofs.{ℕ, List, ◌≡◌, [], ◌∷◌, ◌++◌, map, length, sym, ap, ◌∙◌, subst, arith, reverse, length-map, map-map, nil_from_length, reverse-append}
 use Rattle.rdf_values.specs.{DrawnBy}
 use Rattle.slot_words.specs.{AreNotings, many_in, ShareSeen}
 use Rattle.slot_words.specs.Shares.{hand_seen}

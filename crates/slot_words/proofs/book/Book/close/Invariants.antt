@@ -1,4 +1,4 @@
-use Rattle.std.proofs.Common.{◌≡◌, ◌++◌, map, length, reverse}
+use Rattle.lemmas.proofs.{◌≡◌, ◌++◌, map, length, reverse}
 use Rattle.slot_words.specs.Shares.{hand_seen}
 use Rattle.slot_words.proofs.Hands.{IsGathering}
 use Rattle.slot_words.proofs.book.Book.close.Given as goal

@@ -1,4 +1,4 @@
-use Rattle.std.proofs.Common.{◌+◌, ◌-◌, [], ap, ◌∙◌, arith}
+use Rattle.lemmas.proofs.{◌+◌, ◌-◌, [], ap, ◌∙◌, arith}
 use Rattle.slot_words.specs.{AreNotings}
 use Rattle.slot_words.proofs.Notes.{again, opens}
 use Rattle.slot_words.proofs.Hands.{deals, many_left, next_dealt}

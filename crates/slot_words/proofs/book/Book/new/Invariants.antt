@@ -1,4 +1,4 @@
-use Rattle.std.proofs.Common.{◌-◌, []}
+use Rattle.lemmas.proofs.{◌-◌, []}
 use Rattle.slot_words.specs.{fresh_share, hand_with}
 use Rattle.slot_words.proofs.Hands.{IsDealing}
 use Rattle.slot_words.proofs.book.Book.new.Given as goal

@@ -1,4 +1,4 @@
-use Rattle.std.proofs.Common.{length, sym, ap, ◌∙◌, arith}
+use Rattle.lemmas.proofs.{length, sym, ap, ◌∙◌, arith}
 use Rattle.slot_words.proofs.Notes.{notes}
 use Rattle.slot_words.proofs.book.Book.note.Goals as goal
 

@@ -1,4 +1,4 @@
-use Rattle.std.proofs.Common.{◌≡◌, ◌<◌, length, IfSome, subst, sym, ap, ◌∙◌, arith}
+use Rattle.lemmas.proofs.{◌≡◌, ◌<◌, length, IfSome, subst, sym, ap, ◌∙◌, arith}
 use Rattle.slot_words.specs.{hand_of}
 use Rattle.slot_words.proofs.Steps.{draws, draw_room, looks, may_look}
 use Rattle.slot_words.proofs.claims.Claims.claim.Goals as goal

@@ -1,12 +1,10 @@
-use Rattle.std.proofs.Common.{◌≡◌, [], ◌∷◌, ◌+◌, map, length, min, subst₂, Some, sym, ap, ◌∙◌, subst, arith}
-use Rattle.lemmas.proofs.{All-weaker, Contains, length-map, map-map}
+use Rattle.lemmas.proofs.{◌≡◌, [], ◌∷◌, ◌+◌, map, length, min, subst₂, Some, sym, ap, ◌∙◌, subst, arith, All-weaker, Contains, length-map, map-map}
 use Rattle.rdf_values.specs.{DrawnBy}
 use Rattle.rdf_values.proofs.UnionLemmas.{sum_by-map}
 use Rattle.slot_words.specs.declared.seat.ClaimHand.{ClaimHand}
 use Rattle.slot_words.specs.{AreClaimed, IsBarred, IsClaimed, IsHand, IsOver, kept_count, SeatSeen}
 use Rattle.slot_words.specs.Seats.{IsOf, hand_seen}
-use Rattle.slot_words.proofs.Steps.{again, finished}
-use Rattle.slot_words.proofs.Draws.{drawn_by}
+use Rattle.slot_words.proofs.Steps.{again, finished, drawn_by}
 use Rattle.slot_words.proofs.Hands.{IsGathering, all_gathered, all_seen, enters, gathers, next_gathered, next_of, none_gathered}
 use Rattle.slot_words.proofs.claims.Claims.finish.Goals as goal
 

@@ -1,4 +1,4 @@
-use Rattle.std.proofs.Common.{length}
+use Rattle.lemmas.proofs.{length}
 use Rattle.slot_words.specs.Seats.{hand_seen}
 use Rattle.slot_words.proofs.Hands.{IsGathering}
 use Rattle.slot_words.proofs.claims.Claims.finish.Given as goal

@@ -1,4 +1,4 @@
-use Rattle.std.proofs.Common.{sym, ap, ◌∙◌, arith}
+use Rattle.lemmas.proofs.{sym, ap, ◌∙◌, arith}
 use Rattle.slot_words.proofs.Steps.{lowers}
 use Rattle.slot_words.proofs.claims.Claims.lower.Goals as goal
 

@@ -1,8 +1,5 @@
-use Rattle.std.proofs.Common.{◌≡◌, ℕ, ◌+◌, ◌-◌, List, [], ◌∷◌, ap, ◌∙◌, arith}
-use Rattle.atomic_table.specs.Seated.{TableId}
-use Rattle.atomic_table.specs.Table.{Me}
-use Rattle.slot_words.specs.declared.seat.ClaimHand.{ClaimHand}
-use Rattle.slot_words.specs.{AreClaimed, ClaimsSeen, empty_hand, fresh_seat, hand_of, seat_seen}
+use Rattle.lemmas.proofs.{◌+◌, ◌-◌, ap, ◌∙◌, arith}
+use Rattle.slot_words.specs.{AreClaimed, hand_of, seat_seen}
 use Rattle.slot_words.proofs.Steps.{again, opens}
 use Rattle.slot_words.proofs.Hands.{deals, many_left, next_dealt, one_dealt}
 use Rattle.slot_words.proofs.claims.Claims.new.Goals as goal
@@ -16,13 +13,9 @@ split_seat-seat-requires c =
     let left = many_left _ _ _ _ _ _ _ _ c.loop-slot.invariant in
     (c.loop-slot.invariant.of, omega (arith, c.in_ok-table.ensures), deals (AreClaimed key) (again key) c.loop-slot.first.id c.loop-slot.first.me.0 (omega arith))
 
-fresh_value : (c : ClaimsSeen) (slot : ℕ) (t : TableId) (me : Me ℕ (List ClaimHand)) → t ≡ c.table → me.0 ≡ empty_hand c.clusters ∷ [] → seat_seen t slot (hand_of me.0) ≡ fresh_seat c slot
-fresh_value c slot t me table hands = λ i. seat_seen (table i) slot (hand_of (hands i))
-
 pub loop-slot-preserved : goal.loop-slot-preserved
 loop-slot-preserved c =
     let i = c.loop-slot.invariant in
     let s = c.split_seat-seat.ensures in
-    let claims : ClaimsSeen = record { table = c.in_ok-table.table.shared.table_id; clusters = c.args.clusters; slots = c.args.slots } in
     let one = ap (λ m. m.0) s.4 ∙ one_dealt _ _ _ _ _ _ _ _ i (omega arith) in
-    next_dealt _ _ _ _ _ _ _ _ i (c.args.slots - (c.loop-slot.slot + 1)) _ _ _ _ (omega arith) s.0 s.2 c.in_ok-push.ensures.ok (fresh_value claims c.loop-slot.slot c.split_seat-seat.result.table_id c.split_seat-seat.result.me (s.3 ∙ i.of) one)
+    next_dealt _ _ _ _ _ _ _ _ i (c.args.slots - (c.loop-slot.slot + 1)) _ _ _ _ (omega arith) s.0 s.2 c.in_ok-push.ensures.ok (λ k. seat_seen ((s.3 ∙ i.of) k) c.loop-slot.slot (hand_of (one k)))

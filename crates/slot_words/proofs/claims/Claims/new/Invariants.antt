@@ -1,4 +1,4 @@
-use Rattle.std.proofs.Common.{◌-◌}
+use Rattle.lemmas.proofs.{◌-◌}
 use Rattle.slot_words.specs.{empty_hand, fresh_seat}
 use Rattle.slot_words.proofs.Hands.{IsDealing}
 use Rattle.slot_words.proofs.claims.Claims.new.Given as goal

@@ -1,4 +1,4 @@
-use Rattle.std.proofs.Common.{◌<◌, ◌≤◌, length, arith}
+use Rattle.lemmas.proofs.{◌<◌, ◌≤◌, length, arith}
 use Rattle.snapshot_entries.specs.{data_of, plan_of}
 use Rattle.snapshot_entries.proofs.Ranging.{next_entry, skim_stopped}
 use Rattle.snapshot_entries.proofs.skim.Skim.cluster.Goals as goal

@@ -1,4 +1,4 @@
-use Rattle.std.proofs.Common.{◌≡◌, ◌++◌, None}
+use Rattle.lemmas.proofs.{◌≡◌, ◌++◌, None}
 use Rattle.snapshot_text.specs.{entries_text}
 use Rattle.snapshot_rows.specs.{snapshot_entries, snapshot_fault}
 use Rattle.snapshot_entries.specs.{data_of, IsSkimOf, plan_of}

@@ -1,4 +1,4 @@
-use Rattle.std.proofs.Common.{length, sym, ap, ◌∙◌, arith}
+use Rattle.lemmas.proofs.{length, sym, ap, ◌∙◌, arith}
 use Rattle.graph_numbers.specs.{graph_sites, GraphView}
 use Rattle.snapshot_entries.specs.{data_of, plan_of}
 use Rattle.snapshot_entries.proofs.skim.Skim.new.Goals as goal

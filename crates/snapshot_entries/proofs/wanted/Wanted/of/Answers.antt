@@ -1,4 +1,4 @@
-use Rattle.std.proofs.Common.{length, refl, ap, ◌∙◌}
+use Rattle.lemmas.proofs.{length, refl, ap, ◌∙◌}
 use Rattle.graph_numbers.specs.{booked_statements, graph_sites, GraphView}
 use Rattle.graph.specs.{statements}
 use Rattle.snapshot_entries.specs.{data_of, plan_of}

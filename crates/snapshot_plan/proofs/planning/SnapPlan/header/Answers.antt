@@ -1,4 +1,4 @@
-use Rattle.std.proofs.Common.{◌≡◌, ◌<◌, length, get_or, ap, ◌∙◌, arith}
+use Rattle.lemmas.proofs.{◌≡◌, ◌<◌, length, get_or, ap, ◌∙◌, arith}
 use Rattle.rdf_values.specs.{column_kind, kind_or_int}
 use Rattle.snapshot_plan.specs.{PlanView, scope_in}
 use Rattle.snapshot_plan.proofs.Listed.{next_column}

@@ -1,4 +1,4 @@
-use Rattle.std.proofs.Common.{◌≡◌, map, take}
+use Rattle.lemmas.proofs.{◌≡◌, map, take}
 use Rattle.snapshot_plan.specs.{column_at, scope_in}
 use Rattle.snapshot_plan.proofs.planning.SnapPlan.header.Given as goal
 

@@ -1,4 +1,4 @@
-use Rattle.std.proofs.Common.{subst}
+use Rattle.lemmas.proofs.{subst}
 use Rattle.snapshot_plan.specs.{IsPlan}
 use Rattle.snapshot_plan.proofs.planning.SnapPlan.is_planned.Goals as goal
 

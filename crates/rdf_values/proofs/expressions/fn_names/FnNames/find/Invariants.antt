@@ -1,4 +1,4 @@
-use Rattle.std.proofs.Common.{◌≡◌, ◌<◌, ℕ, slice_index_or}
+use Rattle.lemmas.proofs.{◌≡◌, ◌<◌, ℕ, slice_index_or}
 use Rattle.rdf_values.proofs.expressions.fn_names.FnNames.find.Given as goal
 
 abbrev pub invariant-loop-i : goal.invariant-loop-i

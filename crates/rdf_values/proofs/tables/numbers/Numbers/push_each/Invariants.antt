@@ -1,4 +1,4 @@
-use Rattle.std.proofs.Common.{◌≡◌, ◌++◌, take}
+use Rattle.lemmas.proofs.{◌≡◌, ◌++◌, take}
 use Rattle.rdf_values.proofs.tables.numbers.Numbers.push_each.Given as goal
 
 abbrev pub invariant-loop-place : goal.invariant-loop-place

@@ -1,4 +1,4 @@
-use Rattle.std.proofs.Common.{ap, length, ◌∙◌, sym}
+use Rattle.lemmas.proofs.{ap, length, ◌∙◌, sym}
 use Rattle.rdf_values.proofs.KeptLemmas.{length-rows_kept, holds_table}
 use Rattle.rdf_values.proofs.tables.table.Table.entries.Goals as goal
 

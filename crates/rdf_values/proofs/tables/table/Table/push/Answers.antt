@@ -1,4 +1,4 @@
-use Rattle.std.proofs.Common.{◌≡◌, length, refl, rules}
+use Rattle.lemmas.proofs.{◌≡◌, length, refl, rules}
 use Rattle.rdf_values.proofs.KeptLemmas.{holds_push, pushed_back}
 use Rattle.rdf_values.proofs.tables.table.Table.push.Goals as goal
 

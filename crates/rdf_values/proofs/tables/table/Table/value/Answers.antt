@@ -1,8 +1,6 @@
-use Rattle.std.proofs.Common.{◌∙◌, arith, rules}
-use Rattle.std.specs.Int.RustNames.{FitsSigned}
+use Rattle.lemmas.proofs.{◌∙◌, arith, rules, get_or_from_slice_get, FitsSigned}
 use Rattle.std.proofs.Math.Facts.{to_z-of_z}
 use mir.Syntax.{w64}
-use Rattle.lemmas.proofs.{get_or_from_slice_get}
 use Rattle.rdf_values.proofs.KeptLemmas.{value_at}
 use Rattle.rdf_values.proofs.tables.table.Table.value.Goals as goal
 

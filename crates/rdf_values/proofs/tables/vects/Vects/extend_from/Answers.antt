@@ -1,4 +1,4 @@
-use Rattle.std.proofs.Common.{arith, rules}
+use Rattle.lemmas.proofs.{arith, rules}
 use Rattle.rdf_values.proofs.PieceLemmas.{ascend_joined, ends_within, pieces_after_more}
 use Rattle.rdf_values.proofs.tables.vects.Vects.extend_from.Goals as goal
 

@@ -1,4 +1,4 @@
-use Rattle.std.proofs.Common.{rules, ◌≡◌, ◌∙◌, sym, ap, length}
+use Rattle.lemmas.proofs.{rules, ◌≡◌, ◌∙◌, sym, ap, length}
 use Rattle.rdf_values.proofs.PieceLemmas.{length-pieces}
 use Rattle.rdf_values.proofs.tables.vects.Vects.len.Goals as goal
 

@@ -1,5 +1,0 @@
-use Rattle.std.proofs.Common.{length}
-use Rattle.graph.proofs.lookup.+is_cell.Given as goal
-
-abbrev pub decreases-is_cell : goal.decreases-is_cell
-decreases-is_cell l = length l.header.now
