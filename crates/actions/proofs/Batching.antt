@@ -6,7 +6,7 @@ use Rattle.std.proofs.lemmas.List.Elements.{All-more}
 use Rattle.std.proofs.lemmas.List.Folds.{length-flat_map-take}
 use Rattle.rdf_values.specs.{ActionKind, feed_fault, Item, numbers, Scalar, spread, Value}
 use Rattle.rdf_values.specs.declared.results.Item.TheVariants.{Point}
-use Rattle.actions.specs.{fault_or_later, Fed, first_fault_in, first_lane, first_numbers, first_scalar, from_cluster, IsNumeric, IsWithin, Lane, lane_value, numbers_in, Sources, SuitsAt, values_at, values_from}
+use Rattle.actions.specs.{fault_or_later, Fed, first_fault_in, first_lane, first_numbers, first_scalar, from_cluster, IsNumeric, IsWithin, FedLane, lane_value, numbers_in, Sources, SuitsAt, values_at, values_from}
 use Rattle.actions.specs.declared.batch.Sources.TheVariants.{One}
 use Rattle.actions.specs.declared.state.State.{State}
 use Rattle.actions.specs.declared.taken.TakenValue.{TakenValue}
@@ -59,14 +59,14 @@ numbers_of_first zs n there = let h : n ≤ length zs = grind (arith, length-ran
 
 -- ---- the first lane
 
-pub lane_numbers_in : (s : Sources) (x : Lane) (ps : List ℕ) → first_lane s ≡ Some x → flat_map (λ p. first_numbers (values_at s p)) ps ≡ numbers_in x ps
+pub lane_numbers_in : (s : Sources) (x : FedLane) (ps : List ℕ) → first_lane s ≡ Some x → flat_map (λ p. first_numbers (values_at s p)) ps ≡ numbers_in x ps
 lane_numbers_in s x ps h = let one : (p : ℕ) → first_numbers (values_at s p) ≡ numbers (lane_value x p) = λ p. grind arith in λ i. flat_map (λ p. one p i) ps
 
 pub no_numbers_in : (s : Sources) (ps : List ℕ) → first_lane s ≡ None → flat_map (λ p. first_numbers (values_at s p)) ps ≡ []
 no_numbers_in s [] h = refl
 no_numbers_in s (p ∷ ps) h = let none : first_numbers (values_at s p) ≡ [] = grind arith in ap (λ l. l ++ flat_map (λ q. first_numbers (values_at s q)) ps) none ∙ no_numbers_in s ps h
 
-pub few_numbers : (s : Sources) (x : Lane) (ps : List ℕ) → first_lane s ≡ Some x → All (λ p. length (first_numbers (values_at s p)) ≤ 4096) ps → length (numbers_in x ps) ≤ length ps * 4096
+pub few_numbers : (s : Sources) (x : FedLane) (ps : List ℕ) → first_lane s ≡ Some x → All (λ p. length (first_numbers (values_at s p)) ≤ 4096) ps → length (numbers_in x ps) ≤ length ps * 4096
 few_numbers s x ps h all = subst (λ l. length l ≤ length ps * 4096) (lane_numbers_in s x ps h) (few_each (λ p. first_numbers (values_at s p)) 4096 ps all)
 
 -- where each place gives one
@@ -93,13 +93,13 @@ pub one_point_more : {A : Type 0} (before : List Item) (f : A → Item) (xs : Li
 one_point_more before f xs i d item h e = append_assoc before (map f (take i xs)) (item ∷ []) ∙ ap (λ x. before ++ (map f (take i xs) ++ x ∷ [])) e ∙ ap (λ l. before ++ l) (sym (map_more f xs i d h))
 
 -- a histogram without weights is filled with a point for each number
-pub lane_points : (edges : List ℤ) (c : List ℕ) (o : Option (List ℕ)) (s : Sources) (x : Lane) (ps : List ℕ) → s ≡ One x
+pub lane_points : (edges : List ℤ) (c : List ℕ) (o : Option (List ℕ)) (s : Sources) (x : FedLane) (ps : List ℕ) → s ≡ One x
     → flat_map (λ p. spread (ActionKind.Histo1D edges c o) (values_at s p)) ps ≡ map (λ z. Point z (pos 1)) (numbers_in x ps)
 lane_points edges c o s x [] e = refl
 lane_points edges c o s x (p ∷ ps) e = grind (arith, points_of_ones, map-append, lane_points edges c o s x ps e)
 
 -- such a place has few numbers
-pub few_points : (edges : List ℤ) (c : List ℕ) (o : Option (List ℕ)) (s : Sources) (x : Lane) (ps : List ℕ) → s ≡ One x → All (SuitsAt (ActionKind.Histo1D edges c o) s) ps → length (numbers_in x ps) ≤ length ps * 4096
+pub few_points : (edges : List ℤ) (c : List ℕ) (o : Option (List ℕ)) (s : Sources) (x : FedLane) (ps : List ℕ) → s ≡ One x → All (SuitsAt (ActionKind.Histo1D edges c o) s) ps → length (numbers_in x ps) ≤ length ps * 4096
 few_points edges c o s x ps e h = few_each (λ p. numbers (lane_value x p)) 4096 ps (λ k d lt.
     let short : (v : Value) → IsNumeric v → length (numbers v) ≤ 4096 = λ v n. grind arith in
     short _ (subst (λ t. SuitsAt (ActionKind.Histo1D edges c o) t (get_or ps k d)) e (h k d lt)))

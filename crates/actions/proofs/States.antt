@@ -10,7 +10,7 @@ use Rattle.actions.specs.declared.folding.Greatest.{Greatest}
 use Rattle.actions.specs.declared.folding.Reduction.{Reduction}
 use Rattle.actions.specs.declared.taken.TakenValue.{TakenValue}
 use Rattle.actions.specs.declared.state.State.{State}
-use Rattle.actions.specs.declared.items.Part.{Part}
+use Rattle.actions.specs.declared.items.ColumnValue.{ColumnValue}
 use Rattle.actions.specs.declared.items.Items.{Items}
 use Rattle.actions.specs.declared.items.Items.TheVariants.{One, Pair, Weighted}
 use Rattle.actions.specs.{better_of, Fed, fed_value, first_numbers, first_scalar, from_cluster, Holds, in_file_order, part_values, second_part, Suits, values_from, values_of, weight_part, part_value, better_of_two, by_cluster}
@@ -83,8 +83,8 @@ module _ (fed : List Fed) (cluster : ℕ) (below : All (λ f. f.cluster ≤ clus
 
 -- one column gives at most 4,096 numbers
 pub first_short : (c : List ℕ) (items : Items) → Suits (ActionKind.Sum c) items → length (first_numbers (values_of items)) ≤ 4096
-first_short c (One (Part.Int z)) h = lit≤ tt
-first_short c (One (Part.Vect zs)) h = h
+first_short c (One (ColumnValue.Int z)) h = lit≤ tt
+first_short c (One (ColumnValue.Vect zs)) h = h
 first_short c items h = absurd h
 
 -- the points of an entry
@@ -147,10 +147,10 @@ points_of_ones (x ∷ xs) = ap (λ ps. Point x (pos 1) ∷ ps) (points_of_ones x
 abbrev pub fault_by : Bool → Bool → Option EntryFault
 fault_by b w = if b then weight_fault w else Some Lengths
 
-pub fault_weighted : (k : ActionKind) (x w : Part) (b : Bool) → Suits k (Weighted x w) → b ≡ as_long_as (part_value x) (part_value w) → fault_by b (is_weight (part_value w)) ≡ feed_fault k (part_value x ∷ part_value w ∷ [])
+pub fault_weighted : (k : ActionKind) (x w : ColumnValue) (b : Bool) → Suits k (Weighted x w) → b ≡ as_long_as (part_value x) (part_value w) → fault_by b (is_weight (part_value w)) ≡ feed_fault k (part_value x ∷ part_value w ∷ [])
 fault_weighted k x w b s e = grind arith
 
-pub fault_pair : (k : ActionKind) (x y : Part) (b : Bool) → Suits k (Pair x y) → b ≡ as_long_as (part_value x) (part_value y) → fault_by b true ≡ feed_fault k (part_value x ∷ part_value y ∷ [])
+pub fault_pair : (k : ActionKind) (x y : ColumnValue) (b : Bool) → Suits k (Pair x y) → b ≡ as_long_as (part_value x) (part_value y) → fault_by b true ≡ feed_fault k (part_value x ∷ part_value y ∷ [])
 fault_pair k x y b s e = grind arith
 
 -- ---- what a state holds after the items of another

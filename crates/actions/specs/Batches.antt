@@ -3,10 +3,10 @@ use Rattle.std.specs.Prelude.{ℕ, zero, ◌+◌, ◌<◌, ◌≤◌, ⊤, Bool,
 use Rattle.std.specs.List.{range_with_len}
 use Rattle.rdf_values.specs.{ActionKind, EntryFault, feed_fault, Item, numbers, Span, spread, Value}
 use Rattle.actions.specs.declared.batch.Batch.{Batch}
-use Rattle.actions.specs.declared.batch.PlaceFault.{PlaceFault}
+use Rattle.actions.specs.declared.batch.BatchFault.{BatchFault}
 use Rattle.actions.specs.declared.batch.Sources.{Sources}
 use Rattle.actions.specs.declared.batch.Sources.TheVariants.{Entry, One, Weighted, Pair, WeightedPair}
-use Rattle.actions.specs.declared.lane.Lane.{Lane}
+use Rattle.actions.specs.declared.lane.FedLane.{FedLane}
 use Rattle.actions.specs.declared.places.Places.{Places}
 use Rattle.actions.specs.declared.places.Places.TheVariants.{First, Listed}
 use Rattle.actions.specs.Parts.{AreAlike, IsInteger, IsNumeric, IsSingle, WeightSuits, first_numbers}
@@ -32,19 +32,19 @@ abbrev pub span_at : List Span → ℕ → Span
 span_at spans p = slice_index_or spans p (record { lo = 0; hi = 0 })
 
 -- the value of a place
-abbrev pub lane_value : Lane → ℕ → Value
-lane_value (Lane.Int zs) p = Value.Int (slice_index_or zs.now p (pos 0))
-lane_value (Lane.Bool zs) p = Value.Bool (truth_of (slice_index_or zs.now p (pos 0)))
-lane_value (Lane.Vects elements spans) p = Value.Vect (slice_range elements.now (span_at spans.now p).lo (span_at spans.now p).hi)
-lane_value (Lane.Column vectors first) p = Value.Vect (slice_index_or vectors.now (first + p) [])
+abbrev pub lane_value : FedLane → ℕ → Value
+lane_value (FedLane.Int zs) p = Value.Int (slice_index_or zs.now p (pos 0))
+lane_value (FedLane.Bool zs) p = Value.Bool (truth_of (slice_index_or zs.now p (pos 0)))
+lane_value (FedLane.Vects elements spans) p = Value.Vect (slice_range elements.now (span_at spans.now p).lo (span_at spans.now p).hi)
+lane_value (FedLane.Column vectors first) p = Value.Vect (slice_index_or vectors.now (first + p) [])
 
 -- there is one at the place
-abbrev pub HasPlace : Lane → ℕ → Type 0
-HasPlace (Lane.Int zs) p = p < length zs.now
-HasPlace (Lane.Bool zs) p = p < length zs.now
-HasPlace (Lane.Vects elements spans) p =
+abbrev pub HasPlace : FedLane → ℕ → Type 0
+HasPlace (FedLane.Int zs) p = p < length zs.now
+HasPlace (FedLane.Bool zs) p = p < length zs.now
+HasPlace (FedLane.Vects elements spans) p =
     (p < length spans.now) × ((span_at spans.now p).lo ≤ (span_at spans.now p).hi) × ((span_at spans.now p).hi ≤ length elements.now)
-HasPlace (Lane.Column vectors first) p = first + p < length vectors.now
+HasPlace (FedLane.Column vectors first) p = first + p < length vectors.now
 
 -- the values of the columns at a place, in written order
 abbrev pub values_at : Sources → ℕ → List Value
@@ -55,7 +55,7 @@ values_at (Pair x y) p = lane_value x p ∷ lane_value y p ∷ []
 values_at (WeightedPair x y w) p = lane_value x p ∷ lane_value y p ∷ lane_value w p ∷ []
 
 -- the lane of the first column
-abbrev pub first_lane : Sources → Option Lane
+abbrev pub first_lane : Sources → Option FedLane
 first_lane Entry = None
 first_lane (One x) = Some x
 first_lane (Weighted x w) = Some x
@@ -73,7 +73,7 @@ HasValues (WeightedPair x y w) p = HasPlace x p × HasPlace y p × HasPlace w p
 -- ---- what is fed
 
 -- the numbers of a lane at these places, one place after another
-abbrev pub numbers_in : Lane → List ℕ → List ℤ
+abbrev pub numbers_in : FedLane → List ℕ → List ℤ
 numbers_in x ps = flat_map (λ p. numbers (lane_value x p)) ps
 
 -- the numbers of the first column there
@@ -85,11 +85,11 @@ abbrev pub batch_items : ActionKind → Batch → List Item
 batch_items k b = flat_map (λ p. spread k (values_at b.sources p)) (places_of b.places)
 
 -- the first of the places whose values can't be fed, and why
-abbrev pub fault_or_later : ℕ → Option EntryFault → Option PlaceFault → Option PlaceFault
+abbrev pub fault_or_later : ℕ → Option EntryFault → Option BatchFault → Option BatchFault
 fault_or_later p (Some kind) later = Some (record { place = p; kind = kind })
 fault_or_later p None later = later
 
-abbrev pub first_fault_in : ActionKind → Sources → List ℕ → Option PlaceFault
+abbrev pub first_fault_in : ActionKind → Sources → List ℕ → Option BatchFault
 first_fault_in k s [] = None
 first_fault_in k s (p ∷ ps) = fault_or_later p (feed_fault k (values_at s p)) (first_fault_in k s ps)
 

@@ -8,6 +8,6 @@ pub use Batches.{batch_items, EachPlace, fault_or_later, first_fault_in, first_l
 pub use Parts.{by_cluster, Fed, from_cluster, in_file_order, put, AreAlike, first_numbers, first_scalar, HasWeight, IsInteger, IsNumeric, IsSingle, part_value, part_values, second_part, Suits, values_of, weight_part, WeightSuits}
 pub use Fillings.{filled_seen}
 pub use declared.batch.Batch.{Batch}
-pub use declared.batch.PlaceFault.{PlaceFault}
+pub use declared.batch.BatchFault.{BatchFault}
 pub use declared.batch.Sources.{Sources}
-pub use declared.lane.Lane.{Lane}
+pub use declared.lane.FedLane.{FedLane}

@@ -1,14 +1,14 @@
 -- What an entry feeds to an action, as values.
 use Rattle.std.specs.Prelude.{ℕ, ◌≤◌, ◌<◌, ⊤, List, [], ◌∷◌, length, ℤ, Option, Some, None, map, if◌then◌else◌, nat_le}
 use Rattle.rdf_values.specs.{ActionKind, numbers, Scalar, scalar_value, Value, Item}
-use Rattle.actions.specs.declared.items.Part.{Part}
+use Rattle.actions.specs.declared.items.ColumnValue.{ColumnValue}
 use Rattle.actions.specs.declared.items.Items.{Items}
 use Rattle.actions.specs.declared.items.Items.TheVariants.{Entry, One, Weighted, Pair, WeightedPair}
 
-abbrev pub part_value : Part → Value
-part_value (Part.Int z) = Value.Int z
-part_value (Part.Bool b) = Value.Bool b
-part_value (Part.Vect zs) = Value.Vect zs.now
+abbrev pub part_value : ColumnValue → Value
+part_value (ColumnValue.Int z) = Value.Int z
+part_value (ColumnValue.Bool b) = Value.Bool b
+part_value (ColumnValue.Vect zs) = Value.Vect zs.now
 
 -- the values of the columns, in written order
 abbrev pub values_of : Items → List Value
@@ -19,7 +19,7 @@ values_of (Pair x y) = part_value x ∷ part_value y ∷ []
 values_of (WeightedPair x y w) = part_value x ∷ part_value y ∷ part_value w ∷ []
 
 -- a value that may be missing
-abbrev pub part_values : Option Part → List Value
+abbrev pub part_values : Option ColumnValue → List Value
 part_values None = []
 part_values (Some p) = part_value p ∷ []
 
@@ -42,7 +42,7 @@ first_scalar [] = []
 first_scalar (v ∷ vs) = scalar_value v
 
 -- the weight, where one is given
-abbrev pub weight_part : Items → Option Part
+abbrev pub weight_part : Items → Option ColumnValue
 weight_part Entry = None
 weight_part (One x) = None
 weight_part (Weighted x w) = Some w
@@ -50,11 +50,11 @@ weight_part (Pair x y) = None
 weight_part (WeightedPair x y w) = Some w
 
 -- there is a weight for the point of this place
-abbrev pub HasWeight : ℕ → Option Part → Type 0
+abbrev pub HasWeight : ℕ → Option ColumnValue → Type 0
 HasWeight i None = ⊤
-HasWeight i (Some (Part.Int w)) = ⊤
-HasWeight i (Some (Part.Bool b)) = ⊥
-HasWeight i (Some (Part.Vect ws)) = i < length ws.now
+HasWeight i (Some (ColumnValue.Int w)) = ⊤
+HasWeight i (Some (ColumnValue.Bool b)) = ⊥
+HasWeight i (Some (ColumnValue.Vect ws)) = i < length ws.now
 
 -- ---- the values that a kind takes
 

@@ -4,7 +4,7 @@ ghost use Rattle.rdf_values.specs.{ActionKind, feed_fault};
 ghost use Rattle.actions.specs.{EachPlace, first_fault_in, first_lane, HasValues, places_of, Suits, SuitsAt, values_at, values_of};
 
 use crate::items::Items;
-use crate::lane::Lane;
+use crate::lane::FedLane;
 use crate::places::Places;
 use rdf_values::EntryFault;
 
@@ -13,20 +13,20 @@ use rdf_values::EntryFault;
 pub enum Sources<'a> {
     Entry,
     One {
-        x: Lane<'a>,
+        x: FedLane<'a>,
     },
     Weighted {
-        x: Lane<'a>,
-        w: Lane<'a>,
+        x: FedLane<'a>,
+        w: FedLane<'a>,
     },
     Pair {
-        x: Lane<'a>,
-        y: Lane<'a>,
+        x: FedLane<'a>,
+        y: FedLane<'a>,
     },
     WeightedPair {
-        x: Lane<'a>,
-        y: Lane<'a>,
-        w: Lane<'a>,
+        x: FedLane<'a>,
+        y: FedLane<'a>,
+        w: FedLane<'a>,
     },
 }
 
@@ -39,14 +39,14 @@ pub struct Batch<'a> {
 
 /// A place whose values can't be fed, and why.
 #[derive(Clone, Copy, Debug, PartialEq, Eq)]
-pub struct PlaceFault {
+pub struct BatchFault {
     pub place: u32,
     pub kind: EntryFault,
 }
 
 impl<'a> Sources<'a> {
     /// The lane of the first column; a Count has none.
-    pub fn first(&self) -> Option<Lane<'a>>
+    pub fn first(&self) -> Option<FedLane<'a>>
         ensures { result ≡ first_lane self.now }
     {
         match self {
@@ -108,17 +108,17 @@ impl Batch<'_> {
         match &self.sources {
             Sources::Entry | Sources::One { .. } => false,
             Sources::Weighted {
-                x: Lane::Int(_),
-                w: Lane::Int(weights),
+                x: FedLane::Int(_),
+                w: FedLane::Int(weights),
             } => any_heavy(weights, &self.places),
             Sources::Pair {
-                x: Lane::Int(_),
-                y: Lane::Int(_),
+                x: FedLane::Int(_),
+                y: FedLane::Int(_),
             } => false,
             Sources::WeightedPair {
-                x: Lane::Int(_),
-                y: Lane::Int(_),
-                w: Lane::Int(weights),
+                x: FedLane::Int(_),
+                y: FedLane::Int(_),
+                w: FedLane::Int(weights),
             } => any_heavy(weights, &self.places),
             _ => true,
         }
@@ -126,7 +126,7 @@ impl Batch<'_> {
 
     /// The first of the places whose values an action can't be fed with, and why.
     #[tactic(auto, using(crate::proofs::Batching::none_found))]
-    pub fn first_fault(&self) -> Option<PlaceFault>
+    pub fn first_fault(&self) -> Option<BatchFault>
         requires few { length (places_of self.now.places) ≤ 1000000 }
         requires there { EachPlace self.now.places (HasValues self.now.sources) }
         ensures { (kind : ActionKind) → EachPlace self.now.places (SuitsAt kind self.now.sources) → result ≡ first_fault_in kind self.now.sources (places_of self.now.places) }
@@ -137,7 +137,7 @@ impl Batch<'_> {
         for i in 0..self.places.len() {
             let place = self.places.at(i);
             if let Some(kind) = self.sources.items(place).fault() {
-                return Some(PlaceFault { place, kind });
+                return Some(BatchFault { place, kind });
             }
         }
         None

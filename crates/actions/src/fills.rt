@@ -5,27 +5,27 @@ ghost use Rattle.rdf_values.specs.declared.results.Item.TheVariants.{Point, Poin
 ghost use Rattle.histograms.specs.{HasFilled, HasFilled2, IsWeight};
 ghost use Rattle.actions.specs.{EachPlace, HasWeight, part_values, places_of};
 
-use crate::items::Part;
+use crate::items::ColumnValue;
 use crate::places::Places;
 use histograms::{Hist1, Hist2, MOST_FILLS};
 
 /// The weight of an entry's point by its place: 1 where none is given, or the number for each, or the vector's.
-pub fn weight_at(weight: &Option<Part<'_>>, i: usize) -> i64
+pub fn weight_at(weight: &Option<ColumnValue<'_>>, i: usize) -> i64
     requires small { i < 2 ^ 60 }
     requires there { HasWeight i weight.now }
     ensures { (n : ℕ) → i < n → slice_index_or (weights n (part_values weight.now)) i (pos 0) ≡ result }
 {
     match weight {
         None => 1,
-        Some(Part::Int(weight)) => *weight,
-        Some(Part::Vect(weights)) => weights[i],
-        Some(Part::Bool(_)) => unreachable!(),
+        Some(ColumnValue::Int(weight)) => *weight,
+        Some(ColumnValue::Vect(weights)) => weights[i],
+        Some(ColumnValue::Bool(_)) => unreachable!(),
     }
 }
 
 /// Fills the points of one entry, each with its weight.
 #[tactic(auto, using(crate::proofs::States::points_filled))]
-pub fn fill_points(hist: &mut Hist1, xs: &[i64], weight: &Option<Part<'_>>)
+pub fn fill_points(hist: &mut Hist1, xs: &[i64], weight: &Option<ColumnValue<'_>>)
     requires lengths { length (weights (length xs.now) (part_values weight.now)) ≡ length xs.now }
     requires weights { All IsWeight (weights (length xs.now) (part_values weight.now)) }
     requires room { hist.old.fills + length xs.now ≤ MOST_FILLS }
@@ -40,7 +40,7 @@ pub fn fill_points(hist: &mut Hist1, xs: &[i64], weight: &Option<Part<'_>>)
 
 /// Fills the pairs of one entry, each with its weight.
 #[tactic(auto, using(crate::proofs::States::points2_filled))]
-pub fn fill_pairs(hist: &mut Hist2, xs: &[i64], ys: &[i64], weight: &Option<Part<'_>>)
+pub fn fill_pairs(hist: &mut Hist2, xs: &[i64], ys: &[i64], weight: &Option<ColumnValue<'_>>)
     requires pairs { length ys.now ≡ length xs.now }
     requires lengths { length (weights (length xs.now) (part_values weight.now)) ≡ length xs.now }
     requires weights { All IsWeight (weights (length xs.now) (part_values weight.now)) }

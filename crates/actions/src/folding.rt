@@ -7,7 +7,7 @@ ghost use Rattle.actions.specs.Parts.{first_numbers};
 ghost use Rattle.actions.specs.Accumulators.{better_of};
 
 use crate::batch::Batch;
-use crate::lane::Lane;
+use crate::lane::FedLane;
 use crate::numbers::{greatest, least, reduce};
 use crate::places::Places;
 use histograms::Hist1;
@@ -143,7 +143,7 @@ fn fold_listed<F: Folds>(folder: &mut F, numbers: &[i64], listed: &[u32])
 }
 
 /// Takes in the numbers of a lane at some places.
-pub(crate) fn fold_lane<F: Folds>(folder: &mut F, lane: &Lane<'_>, places: &Places<'_>)
+pub(crate) fn fold_lane<F: Folds>(folder: &mut F, lane: &FedLane<'_>, places: &Places<'_>)
     requires few { length (places_of places.now) ≤ 1000000 }
     requires there { EachPlace places.now (HasPlace lane.now) }
     requires room { F.size folder.old + length (numbers_in lane.now (places_of places.now)) * 2 ^ 63 < 2 ^ 127 }
@@ -151,8 +151,10 @@ pub(crate) fn fold_lane<F: Folds>(folder: &mut F, lane: &Lane<'_>, places: &Plac
     ensures bounded { F.size folder.new ≤ F.size folder.old + length (numbers_in lane.now (places_of places.now)) * 2 ^ 63 }
 {
     match (lane, places) {
-        (Lane::Int(numbers), Places::First(count)) => folder.take_in(&numbers[..*count as usize]),
-        (Lane::Int(numbers), Places::Listed(listed)) => fold_listed(folder, numbers, listed),
+        (FedLane::Int(numbers), Places::First(count)) => folder.take_in(
+            &numbers[..*count as usize],
+        ),
+        (FedLane::Int(numbers), Places::Listed(listed)) => fold_listed(folder, numbers, listed),
         _ => {
             let (lane, places) = (*lane, *places);
             for i in 0..places.len() {

@@ -10,7 +10,7 @@ use std::slice;
 
 /// A value of one column: a vector is borrowed.
 #[derive(Clone, Copy, Debug)]
-pub enum Part<'a> {
+pub enum ColumnValue<'a> {
     Int(i64),
     Bool(bool),
     Vect(&'a [i64]),
@@ -21,41 +21,41 @@ pub enum Part<'a> {
 pub enum Items<'a> {
     Entry,
     One {
-        x: Part<'a>,
+        x: ColumnValue<'a>,
     },
     Weighted {
-        x: Part<'a>,
-        w: Part<'a>,
+        x: ColumnValue<'a>,
+        w: ColumnValue<'a>,
     },
     Pair {
-        x: Part<'a>,
-        y: Part<'a>,
+        x: ColumnValue<'a>,
+        y: ColumnValue<'a>,
     },
     WeightedPair {
-        x: Part<'a>,
-        y: Part<'a>,
-        w: Part<'a>,
+        x: ColumnValue<'a>,
+        y: ColumnValue<'a>,
+        w: ColumnValue<'a>,
     },
 }
 
-impl Part<'_> {
+impl ColumnValue<'_> {
     /// The numbers of the value: one, or the elements of the vector, or none for a truth value.
     pub fn numbers(&self) -> &[i64]
         ensures { result.now ≡ numbers (part_value self.now) }
     {
         match self {
-            Part::Int(number) => slice::from_ref(number),
-            Part::Bool(_) => &[],
-            Part::Vect(numbers) => numbers,
+            ColumnValue::Int(number) => slice::from_ref(number),
+            ColumnValue::Bool(_) => &[],
+            ColumnValue::Vect(numbers) => numbers,
         }
     }
 
     /// Whether both are vectors of one length, or one of them is no vector.
-    pub fn is_as_long_as(&self, other: &Part<'_>) -> bool
+    pub fn is_as_long_as(&self, other: &ColumnValue<'_>) -> bool
         ensures { result ≡ as_long_as (part_value self.now) (part_value other.now) }
     {
         match (self, other) {
-            (Part::Vect(xs), Part::Vect(ys)) => xs.len() == ys.len(),
+            (ColumnValue::Vect(xs), ColumnValue::Vect(ys)) => xs.len() == ys.len(),
             _ => true,
         }
     }
@@ -72,9 +72,9 @@ impl Part<'_> {
         ensures { option_to_list result ≡ scalar_value (part_value self.now) }
     {
         match self {
-            Part::Int(number) => Some(Scalar::Int(*number)),
-            Part::Bool(truth) => Some(Scalar::Bool(*truth)),
-            Part::Vect(_) => None,
+            ColumnValue::Int(number) => Some(Scalar::Int(*number)),
+            ColumnValue::Bool(truth) => Some(Scalar::Bool(*truth)),
+            ColumnValue::Vect(_) => None,
         }
     }
 }
@@ -117,7 +117,7 @@ impl<'a> Items<'a> {
     }
 
     /// The weight, if one is given.
-    pub fn weight(&self) -> Option<Part<'a>>
+    pub fn weight(&self) -> Option<ColumnValue<'a>>
         ensures { result ≡ weight_part self.now }
     {
         match self {
@@ -143,7 +143,7 @@ impl<'a> Items<'a> {
 }
 
 // The fault of values of one length or not, and of a weight.
-fn fault_of(one_length: bool, weight: &Part<'_>) -> Option<EntryFault>
+fn fault_of(one_length: bool, weight: &ColumnValue<'_>) -> Option<EntryFault>
     ensures { result ≡ (if one_length then weight_fault (is_weight (part_value weight.now)) else Some Lengths) }
 {
     if !one_length {

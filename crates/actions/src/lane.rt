@@ -3,13 +3,13 @@ ghost use Rattle.std.specs.Prelude.{◌≡◌};
 ghost use Rattle.rdf_values.specs.{numbers};
 ghost use Rattle.actions.specs.{HasPlace, lane_value, part_value};
 
-use crate::items::Part;
+use crate::items::ColumnValue;
 use rdf_values::{Span, Vects};
 use std::slice;
 
 /// The values of a column at the places of a block, each at its own place.
 #[derive(Clone, Copy)]
-pub enum Lane<'a> {
+pub enum FedLane<'a> {
     Int(&'a [i64]),
     /// 0 for false, and 1 for true.
     Bool(&'a [i64]),
@@ -25,21 +25,23 @@ pub enum Lane<'a> {
     },
 }
 
-impl<'a> Lane<'a> {
+impl<'a> FedLane<'a> {
     /// The value of a place.
-    pub fn part(&self, place: u32) -> Part<'a>
+    pub fn part(&self, place: u32) -> ColumnValue<'a>
         requires { HasPlace self.now place }
         ensures { part_value result ≡ lane_value self.now place }
     {
         let at = place as usize;
         match self {
-            Lane::Int(numbers) => Part::Int(numbers[at]),
-            Lane::Bool(marks) => Part::Bool(marks[at] != 0),
-            Lane::Vects { elements, spans } => {
+            FedLane::Int(numbers) => ColumnValue::Int(numbers[at]),
+            FedLane::Bool(marks) => ColumnValue::Bool(marks[at] != 0),
+            FedLane::Vects { elements, spans } => {
                 let span = spans[at];
-                Part::Vect(&elements[span.lo as usize..span.hi as usize])
+                ColumnValue::Vect(&elements[span.lo as usize..span.hi as usize])
             }
-            Lane::Column { vectors, first } => Part::Vect(vectors.at(*first as usize + at)),
+            FedLane::Column { vectors, first } => ColumnValue::Vect(vectors.at(
+                *first as usize + at,
+            )),
         }
     }
 
@@ -50,13 +52,13 @@ impl<'a> Lane<'a> {
     {
         let at = place as usize;
         match self {
-            Lane::Int(numbers) => slice::from_ref(&numbers[at]),
-            Lane::Bool(_) => &[],
-            Lane::Vects { elements, spans } => {
+            FedLane::Int(numbers) => slice::from_ref(&numbers[at]),
+            FedLane::Bool(_) => &[],
+            FedLane::Vects { elements, spans } => {
                 let span = spans[at];
                 &elements[span.lo as usize..span.hi as usize]
             }
-            Lane::Column { vectors, first } => vectors.at(*first as usize + at),
+            FedLane::Column { vectors, first } => vectors.at(*first as usize + at),
         }
     }
 }

@@ -14,8 +14,8 @@ pub mod state;
 pub mod taken;
 
 pub use crate::acc::{Acc, FeedStop, Filled};
-pub use crate::batch::{Batch, PlaceFault, Sources};
-pub use crate::items::{Items, Part};
-pub use crate::lane::Lane;
+pub use crate::batch::{Batch, BatchFault, Sources};
+pub use crate::items::{ColumnValue, Items};
+pub use crate::lane::FedLane;
 pub use crate::places::Places;
 pub use crate::taken::Taken;

@@ -9,7 +9,7 @@ use crate::fills::{
 };
 use crate::folding::{Folds, Greatest, Least, Reduction, Summed, fold_batch, fold_lane};
 use crate::items::Items;
-use crate::lane::Lane;
+use crate::lane::FedLane;
 use crate::numbers::{greatest_of, least_of, reduce, start};
 use crate::taken::{Taken, TakenValue, gathered, merged};
 use histograms::{EdgeRefusal, Edges, Hist1, Hist2};
@@ -191,8 +191,8 @@ impl State {
                     return true;
                 }
                 Sources::Weighted {
-                    x: Lane::Int(numbers),
-                    w: Lane::Int(weights),
+                    x: FedLane::Int(numbers),
+                    w: FedLane::Int(weights),
                 } => {
                     fill_weighted(hist, numbers, weights, &batch.places);
                     return true;
@@ -201,16 +201,16 @@ impl State {
             },
             State::Histo2D { hist, .. } => match &batch.sources {
                 Sources::Pair {
-                    x: Lane::Int(xs),
-                    y: Lane::Int(ys),
+                    x: FedLane::Int(xs),
+                    y: FedLane::Int(ys),
                 } => {
                     fill_number_pairs(hist, xs, ys, &batch.places);
                     return true;
                 }
                 Sources::WeightedPair {
-                    x: Lane::Int(xs),
-                    y: Lane::Int(ys),
-                    w: Lane::Int(weights),
+                    x: FedLane::Int(xs),
+                    y: FedLane::Int(ys),
+                    w: FedLane::Int(weights),
                 } => {
                     fill_weighted_pairs(hist, xs, ys, weights, &batch.places);
                     return true;

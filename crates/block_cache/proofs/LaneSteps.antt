@@ -1,8 +1,8 @@
 -- A lane before and after an evaluation.
-use Rattle.lemmas.proofs.{◌≡◌, ◌++◌, ℤ, suc, List, [], ◌∷◌, length, drop, add-one, map, All, ◌∙◌, refl, ap, arith, ◌<◌, ◌≤◌, ◌+◌, ◌⊎◌, inl, inr, not, ℕ, Bool, true, false, get_or, take, sym, subst, append_assoc, cond, ◌||◌, ◌&&◌, Option, Some, None, nat_eq, nat_lt, count_by, zero, set, if◌then◌else◌, length-set, IsPermutation, nat_le, Result, OnErr, Contains, get_or-set_same, get_or-set_other, filter, take_more, and_right, Decides-eqb, length-filter, lt-ltb, not-true, left_false, false_from_ne_true, or_from, right_false, take-append_seam, drop-append_seam, eqb_tells, sum_by-cons, sum_by-set, sum_by_more, get_or-range_with_len, length-range_with_len, range_with_len, All-push, All-set, AllWithin, AllWithin-more_set, map-set_same, map_next, IsPermutation-refl, All-cons, All-contains, All-nil, All-permutation, Contains-append_left, Contains-append_right, Contains-permutation, Contains-push, Contains-push_cases, leb-false, leb-true, cases_eq, cases_lt, get_or_past}
+use Rattle.lemmas.proofs.{◌≡◌, ◌++◌, ℤ, suc, List, [], ◌∷◌, length, drop, add-one, map, All, ◌∙◌, refl, ap, arith, ◌<◌, ◌≤◌, ◌+◌, ◌⊎◌, inl, inr, not, ℕ, Bool, true, false, get_or, take, sym, subst, append_assoc, cond, ◌||◌, ◌&&◌, Option, Some, None, nat_eq, nat_lt, count_by, zero, set, if◌then◌else◌, length-set, IsPermutation, nat_le, Result, OnErr, Contains, get_or-set_same, get_or-set_other, filter, take_more, and_right, Decides-eqb, length-filter, lt-ltb, not-true, left_false, false_from_ne_true, or_from, right_false, take-append_seam, drop-append_seam, eqb_tells, sum_by-cons, sum_by-set, sum_by_more, get_or-range_with_len, length-range_with_len, range_with_len, All-push, All-set, AllWithin, AllWithin-more_set, map-set_same, map_next, IsPermutation-refl, All-cons, All-contains, All-nil, All-permutation, Contains-append_left, Contains-append_right, Contains-permutation, Contains-push, leb-false, leb-true, cases_eq, cases_lt, get_or_past}
 use Rattle.std.proofs.lemmas.List.{take-append-le, drop-append-le, length-append, length-drop, map-append, take_all, get_or_append_left}
 use Rattle.block_cache.specs.{AreKept, AreThere, cells_in, AreWritten, HasNumber, HasNumbered, HaveCome, IsNumberOf, IsTurned, IsWritten, value_for, below_fault, fault_before, fault_over, is_below, IsFaultOf, PlaceFault, is_held, IsBegun, IsBegunAt, IsEvaluated, IsLane, IsUnknown, LaneView, room_of, AreWrittenMarks, IsBare, marked_to, marks_of, MarksView, AreUnknown, HaveRoom, IsSameLane, kinds_of, rooms_of, fault_at, fault_of, IsLeastFault, IsNotBelow, lesser_fault, need_at, noted_at, noted_in}
-use Rattle.block_cache.specs.declared.vectors.Cells.{Cells}
+use Rattle.block_cache.specs.declared.vectors.CellRange.{CellRange}
 use Rattle.rdf_values.specs.{ColType, FitsKind, Value, EntryFault}
 use Rattle.rdf_model.specs.{is_set, mark, Outcome, Gives, Faults, Needs}
 use Rattle.expr_check.specs.{is_vector}
@@ -15,20 +15,20 @@ use Rattle.expr_eval.specs.declared.stop.ScalarStop.TheVariants.{Fault, Need}
 
 -- ---- vectors that are appended, with their cells behind those that there were
 
-same_cells : (all more : List ℤ) (c : Cells) → AreThere all c → cells_in (all ++ more) c ≡ cells_in all c
+same_cells : (all more : List ℤ) (c : CellRange) → AreThere all c → cells_in (all ++ more) c ≡ cells_in all c
 same_cells all more c there = grind (arith, drop-append-le, take-append-le, length-drop)
 
 -- those that there were
-pub grown : (ranges : List Cells) (all more : List ℤ) → All (AreThere all) ranges → map (cells_in (all ++ more)) ranges ≡ map (cells_in all) ranges
+pub grown : (ranges : List CellRange) (all more : List ℤ) → All (AreThere all) ranges → map (cells_in (all ++ more)) ranges ≡ map (cells_in all) ranges
 grown [] all more each = refl
 grown (c ∷ ranges) all more each =
     ap (λ x. x ∷ map (cells_in (all ++ more)) ranges) (same_cells all more c (each 0 c (omega arith))) ∙ ap (λ xs. cells_in all c ∷ xs) (grown ranges all more (λ k d low. each (suc k) d (omega (arith, low))))
 
-own_cells : (all more : List ℤ) (c : Cells) → c.from ≡ length all → c.to ≡ length (all ++ more) → cells_in (all ++ more) c ≡ more
+own_cells : (all more : List ℤ) (c : CellRange) → c.from ≡ length all → c.to ≡ length (all ++ more) → cells_in (all ++ more) c ≡ more
 own_cells all more c from to = grind (arith, drop-append_seam, take_all, length-append)
 
 -- and one more
-pub pushed : (ranges : List Cells) (all more : List ℤ) (c : Cells) → All (AreThere all) ranges → c.from ≡ length all → c.to ≡ length (all ++ more) → map (cells_in (all ++ more)) (ranges ++ c ∷ []) ≡ map (cells_in all) ranges ++ more ∷ []
+pub pushed : (ranges : List CellRange) (all more : List ℤ) (c : CellRange) → All (AreThere all) ranges → c.from ≡ length all → c.to ≡ length (all ++ more) → map (cells_in (all ++ more)) (ranges ++ c ∷ []) ≡ map (cells_in all) ranges ++ more ∷ []
 pushed ranges all more c each from to = grind (arith, map-append, grown, own_cells)
 
 -- a vector more loses none

@@ -1,12 +1,12 @@
 -- A site's lane after it was evaluated over a block.
-use Rattle.lemmas.proofs.{◌≡◌, ◌≤◌, ◌+◌, ◌-◌, ◌++◌, ℕ, zero, suc, true, List, [], ◌∷◌, length, map, take, replicate, get_or, Option, Some, None, refl, sym, ◌∙◌, ap, subst, arith, slice_get, ◌<◌, ◌||◌, Bool, false, length-set, set, All, if◌then◌else◌, get_or-set_same, get_or-set_other, ◌⊎◌, inl, inr, not, count_by, ℤ, unwrap_or, All-set, cases_eq, get_or_from_slice_get, length-append, length-map, set-append_right, set_at, slice_get_within, take-append_seam, false_from_ne_true, map-set_same, or_right, sum_by-set}
+use Rattle.lemmas.proofs.{◌≡◌, ◌≤◌, ◌+◌, ◌-◌, ◌++◌, ℕ, zero, suc, true, List, [], ◌∷◌, length, map, take, replicate, get_or, Option, Some, None, refl, sym, ◌∙◌, ap, subst, arith, slice_get, ◌<◌, ◌||◌, Bool, false, length-set, set, All, if◌then◌else◌, get_or-set_same, get_or-set_other, ◌⊎◌, inl, inr, not, count_by, ℤ, unwrap_or, All-set, All-weaker, cases_eq, get_or_from_slice_get, length-append, length-map, set-append_right, set_at, slice_get_within, take-append_seam, false_from_ne_true, map-set_same, or_right, sum_by-set}
 use Rattle.std.proofs.lemmas.List.{length-replicate}
 use Rattle.rdf_values.specs.{NumTree, Value, ColType}
 use Rattle.rdf_model.specs.{call_outcome, evaluate, Faults, Gives, Needs, Outcome, fault_in}
 use Rattle.expr_check.specs.{CheckedExpr}
 use Rattle.graph_numbers.specs.{IsSiteExpr, graph_sites, cell_value}
 use Rattle.block_cache.specs.{cells_at, held_at, held_value, IsTelling, LaneView, block_job, own_key, AreReadOver, AreReadyOver, FitAt, HasSource, is_held, IsBegun, IsBegunFor, IsEvaluated, IsLaneSet, IsTriedFor, outcome_over, value_of, AreReady, holds_at, IsSameAt, lane_holds, site_fault, begun_at, begun_count, IsBegunAt, IsBrokenOffFor, IsGrownOver, IsOnlyCalled, kinds_of, lane_begun, room_of, rooms_of, tried_count}
-use Rattle.loop_keys.specs.{Held, held_in, held_or_need, is_held as has_held, IsJob, IsRight, IsSound, job_graph, JobView, key, look_at, site_in, key_count, CanEvaluate, CanLook, held_count, IsFilled, source_at, Grows, key_under, Place, place_of, row_in, row_of}
+use Rattle.loop_keys.specs.{Held, held_in, held_or_need, is_held as has_held, IsJob, IsRight, IsSound, job_graph, JobView, key, look_at, site_in, key_count, CanEvaluate, CanLook, held_count, IsFilled, source_at, Grows, key_under, ValuePlace, place_of, row_in, row_of}
 use Rattle.loop_keys.proofs.EvaluateLaws.{found_right, needed_met, needed_missing}
 use Rattle.loop_keys.proofs.KeyLaws.{HasTree, has_tree, written, key_small}
 use Rattle.block_cache.specs.declared.block.Wanted.{Wanted}
@@ -121,6 +121,9 @@ pub by_key : (own : ℕ) (P : ℕ → Type 0) → P own → ((k : ℕ) → (k �
 by_key own P here other k = grind (arith, cases_eq)
 
 -- ---- what it holds
+
+pub selected_inside : {j : JobView} {first count : ℕ} {lanes : List LaneView} (sel : List ℕ) → AreReady j first count lanes → EachPlace sel (λ p. p < count) → All (λ (l : LaneView). EachPlace sel (λ p. p < l.count)) lanes
+selected_inside {count = count} {lanes = lanes} sel ready inside = All-weaker (λ (l : LaneView). l.count ≡ count) (λ l. EachPlace sel (λ p. p < l.count)) (λ l e p i. rw e (inside p i)) lanes ready.counts
 
 pub held_true : (l : LaneView) (p : ℕ) → is_held l p ≡ true → held_at l p ≡ held_value (value_of l p)
 held_true l p h = ap (λ b. if b then held_value (value_of l p) else Held.Nothing) h
@@ -385,5 +388,5 @@ vector_of_entry rows col e vectors h low = record {
 }
 
 -- a version that stands in a column comes to the column's value
-pub column_seen : (j : JobView) (entry : ℕ) (u : Option ℕ) (cells : List Held) (c col : ℕ) → place_of (key_under (job_graph j) u) (source_at j u c) ≡ Place.Cell col → cell_value (slice_get (row_of j entry) col) ≡ look_at j entry u cells c
+pub column_seen : (j : JobView) (entry : ℕ) (u : Option ℕ) (cells : List Held) (c col : ℕ) → place_of (key_under (job_graph j) u) (source_at j u c) ≡ ValuePlace.Cell col → cell_value (slice_get (row_of j entry) col) ≡ look_at j entry u cells c
 column_seen j entry u cells c col stood = grind arith

@@ -7,7 +7,7 @@ use Rattle.expr_lanes.proofs.Composed.{filter_all, filter_short, filtered_in}
 use Rattle.graph_numbers.specs.{Source, graph_sites, graph_under, graph_versions, IsBelow, IsSiteExpr, SiteAt, version_count}
 use Rattle.block_cache.specs.{AreReadyOver, begun_at, below_fault, found_or, holds_at, is_below, IsAttemptedFor, IsBrokenOffFor, IsFaultOf, IsGrownOver, IsPaidFor, IsPaidOver, IsResumedFor, IsSameAt, IsSettled, IsSettledFor, IsSettledTo, IsSpentFor, IsSpentOver, IsUnderwayFor, IsWaiting, LaneView, left_to_begin, need_at, own_key, PlaceFault, site_fault, block_graph, block_job, CanFill, CanFillFor, first_read, first_read_in, IsFilledFor, IsFilledTo, IsLeadFor, IsOnlyCalled, IsRankedBelow, key_over}
 use Rattle.block_cache.proofs.LaneSteps.{filter_none, below_among, below_in, below_low, below_selected, below_short, fault_first, filter_in, filter_passes, filter_selected, open_among, open_few, open_lacks, open_low, open_rest, over_first, no_fault_over}
-use Rattle.loop_keys.specs.{IsJob, IsSiteOf, job_graph, JobView, key, MeetsAt, site_in, source_at, ArePlain, key_count, Place, place_of, version_in}
+use Rattle.loop_keys.specs.{IsJob, IsSiteOf, job_graph, JobView, key, MeetsAt, site_in, source_at, ArePlain, key_count, ValuePlace, place_of, version_in}
 use Rattle.block_cache.specs.declared.block.Wanted.{Wanted}
 use Rattle.block_cache.proofs.OverLaws.{parts_of, held_no_fault, lacks_before, same_holds, same_on}
 use Rattle.block_cache.proofs.Attempts.{key_lower, grown_below, grown_on, later_keys, other_places, settled_all, less_left, met_fault, can_below, falls_by_number, met_used, ranked, site_tree}
@@ -369,11 +369,11 @@ settled_if w left (Err e) was spent settled paid = tt
 
 -- ---- what an evaluation reads first is met in every entry, and a site may be filled behind it: where what is read stands
 
-pub key_site : (f : ℕ → ℕ) (x : Source) (k : ℕ) → place_of f x ≡ Place.Key k → (t : ℕ) × IsSiteOf t x × (k ≡ f t)
+pub key_site : (f : ℕ → ℕ) (x : Source) (k : ℕ) → place_of f x ≡ ValuePlace.Key k → (t : ℕ) × IsSiteOf t x × (k ≡ f t)
 key_site f (Source.Site s) k e = (s, refl, cc e)
 key_site f x k e = cc e
 
-pub element_site : (f : ℕ → ℕ) (x : Source) (k i n : ℕ) → place_of f x ≡ Place.Element k i n → (t : ℕ) × IsSiteOf t x × (k ≡ f t)
+pub element_site : (f : ℕ → ℕ) (x : Source) (k i n : ℕ) → place_of f x ≡ ValuePlace.Element k i n → (t : ℕ) × IsSiteOf t x × (k ≡ f t)
 element_site f (Source.Element s a b) k i n e = (s, refl, cc e)
 element_site f x k i n e = cc e
 

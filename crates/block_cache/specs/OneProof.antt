@@ -7,8 +7,8 @@ use Rattle.rdf_values.specs.contracts.scripts.script_cause.GraphCause.{the_row a
 use Rattle.rdf_values.specs.declared.scripts.statement.Statement.TheVariants.{Vary, Action}
 use Rattle.rdf_values.specs.declared.scripts.statement.VaryValues.TheVariants.{Lists, Vector}
 use Rattle.graph_numbers.specs.{GraphView}
-use Rattle.loop_keys.specs.{Fits, IsRow, Job, Place, Row}
-use Rattle.loop_keys.specs.contracts.rows.Place.{the_row as place_row}
+use Rattle.loop_keys.specs.{Fits, IsRow, Job, ValuePlace, Row}
+use Rattle.loop_keys.specs.contracts.rows.ValuePlace.{the_row as place_row}
 
 graph-set : IsSet GraphView
 graph-set = Coded-set (hlevel (codes, named_code))
@@ -16,7 +16,7 @@ graph-set = Coded-set (hlevel (codes, named_code))
 cause-set : IsSet (Option GraphCause)
 cause-set = Coded-set (coded_option cause_row.coded)
 
-place-set : IsSet Place
+place-set : IsSet ValuePlace
 place-set = Coded-set place_row.coded
 
 ruleset known = (props, graph-set, cause-set, place-set)

@@ -5,17 +5,17 @@ use Rattle.rdf_model.specs.{Gives, is_set, mark, Outcome}
 use Rattle.expr_eval.specs.{EvalStop, ScalarStop}
 use Rattle.expr_eval.specs.declared.stop.EvalStop.TheVariants.{Memory}
 use Rattle.expr_lanes.specs.{at_place, EachPlace, is_given, is_in, is_marked, Stopped, stops_in, with_stop, stopped}
-use Rattle.block_cache.specs.declared.vectors.Cells.{Cells}
+use Rattle.block_cache.specs.declared.vectors.CellRange.{CellRange}
 use Rattle.expr_eval.specs.declared.stop.ScalarStop.TheVariants.{Fault, Need}
 use Rattle.block_cache.specs.declared.faults.PlaceFault.{PlaceFault}
 use Rattle.block_cache.specs.declared.block_marks.Extent.{Extent}
 
 -- the cells of one vector among those of all
-abbrev pub cells_in : List ℤ → Cells → List ℤ
+abbrev pub cells_in : List ℤ → CellRange → List ℤ
 cells_in all c = take (c.to - c.from) (drop c.from all)
 
 -- they are there
-abbrev pub AreThere : List ℤ → Cells → Type 0
+abbrev pub AreThere : List ℤ → CellRange → Type 0
 AreThere all c = (c.from ≤ c.to) × (c.to ≤ length all)
 
 -- the value of that kind with the number of a place: a vector's number is its own among those of the block

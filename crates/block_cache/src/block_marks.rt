@@ -4,7 +4,7 @@ ghost use Rattle.std.specs.List.{filter, range_with_len};
 ghost use Rattle.expr_lanes.specs.{AreRising, EachPlace, HasMarks, is_in, is_known, is_marked};
 ghost use Rattle.block_cache.specs.Values.{AreWrittenMarks, marked_to};
 
-use expr_lanes::{Known, Selection};
+use expr_lanes::{KnownPlaces, Selection};
 use rdf_values::Memory;
 use std::alloc::Global;
 use std::marker::Model;
@@ -129,13 +129,13 @@ impl BlockMarks {
 
     /// The places, as those at which a column is known.
     #[tactic(auto, using(crate::proofs::LaneSteps::all_seen))]
-    pub(crate) fn known(&self) -> Known<'_>
+    pub(crate) fn known(&self) -> KnownPlaces<'_>
         ensures marks { HasMarks self.now.count result }
         ensures known { (p : ℕ) → p < self.now.count → is_known result p ≡ is_marked self.now.marks p }
     {
         match self.extent {
-            Extent::All => Known::Everywhere,
-            Extent::Nothing | Extent::Some => Known::Marked(self.written.as_slice()),
+            Extent::All => KnownPlaces::Everywhere,
+            Extent::Nothing | Extent::Some => KnownPlaces::Marked(self.written.as_slice()),
         }
     }
 }

@@ -16,7 +16,7 @@ use crate::site_values::SiteValues;
 use crate::values::Values;
 use crate::vectors::Vectors;
 use arrayvec::ArrayVec;
-use expr_eval::{Input, Steps};
+use expr_eval::{ColumnInput, Steps};
 use expr_lanes::{
     Evaluation, LaneColumn, LaneInputs, MAX_PLACES, Scratch, Selection, Stopped, eval_lane,
 };
@@ -112,14 +112,14 @@ impl Lane {
     }
 
     /// What is known of the key at a place.
-    pub fn input(&self, place: u32) -> Input<'_>
+    pub fn input(&self, place: u32) -> ColumnInput<'_>
         requires { place < self.now.count }
         ensures { (c : ℕ) → input_outcome c result ≡ (if is_held self.now place then Gives (value_of self.now place) else Needs c) }
     {
         if self.held.has(place) {
             self.values.input(self.kind, place)
         } else {
-            Input::Missing
+            ColumnInput::Missing
         }
     }
 

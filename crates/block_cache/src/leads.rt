@@ -1,5 +1,5 @@
 // Filling a site behind what its evaluation reads first.
-ghost use Rattle.std.specs.Prelude.{◌≡◌, ◌<◌, ℕ, true, [], length, IfOk, IfSome, OnErr, OnOk};
+ghost use Rattle.std.specs.Prelude.{◌≡◌, ◌<◌, ℕ, true, [], All, length, IfOk, IfSome, OnErr, OnOk};
 ghost use Rattle.rdf_values.specs.{num_tree, num_trees};
 ghost use Rattle.graph_numbers.specs.{graph_versions};
 ghost use Rattle.expr_lanes.specs.{EachPlace, IsSelected};
@@ -15,7 +15,7 @@ use expr_eval::Steps;
 use expr_lanes::{Scratch, Selection};
 use graph_numbers::Source;
 use loop_keys::reading::{expression, key, place, source_of};
-use loop_keys::rows::Place;
+use loop_keys::rows::ValuePlace;
 use rdf_values::{Memory, NumArgs, NumNode};
 use std::sync::ledger::Ledger;
 
@@ -70,17 +70,16 @@ fn key_read(block: &Block<'_>, version: u32) -> Option<usize>
     ensures { IfSome result (λ k. (t : ℕ) × IsSiteOf t (source_over block.now version) × (k ≡ key_over block.now t)) }
 {
     match place(block.at, version) {
-        Place::Cell { .. } => None,
-        Place::Key { key } => Some(key),
-        Place::Element { key, .. } => Some(key),
+        ValuePlace::Cell { .. } => None,
+        ValuePlace::Key { key } => Some(key),
+        ValuePlace::Element { key, .. } => Some(key),
     }
 }
 
 /// Whether a key's value is held at each selected place.
-fn is_held(block: &Block<'_>, lanes: &[Lane], key: usize, selection: &Selection) -> bool
+pub fn is_held(lanes: &[Lane], key: usize, selection: &Selection) -> bool
     requires key { key < length lanes.now }
-    requires ready { AreReadyOver block.now lanes.now }
-    requires inside { EachPlace selection.now (λ p. p < block.now.count) }
+    requires inside { All (λ lane. EachPlace selection.now (λ p. p < lane.count)) lanes.now }
     ensures held { result ≡ true → EachPlace selection.now (λ p. holds_at lanes.now key p ≡ true) }
     ensures exact { EachPlace selection.now (λ p. holds_at lanes.now key p ≡ true) → result ≡ true }
 {
@@ -88,6 +87,7 @@ fn is_held(block: &Block<'_>, lanes: &[Lane], key: usize, selection: &Selection)
 }
 
 /// The site of what a site's evaluation reads first, unless its value is held at each selected place.
+#[tactic(auto, using(crate::proofs::OverLaws::selected_inside))]
 fn lead_of(wanted: &Wanted<'_>, lanes: &[Lane], selection: &Selection) -> Option<u32>
     requires ready { AreReadyOver wanted.now.block.now lanes.now }
     requires inside { EachPlace selection.now (λ p. p < wanted.now.block.now.count) }
@@ -95,13 +95,14 @@ fn lead_of(wanted: &Wanted<'_>, lanes: &[Lane], selection: &Selection) -> Option
 {
     let version = first_read(&expression(wanted.block.at, wanted.site).tree().node)?;
     let key = key_read(wanted.block, version)?;
-    if is_held(wanted.block, lanes, key, selection) {
+    if is_held(lanes, key, selection) {
         return None;
     }
     site_of(wanted.block, version)
 }
 
 /// Fills a site as `fill` does, and before it the site of what its evaluation reads first, so that this isn't begun anew for that.
+#[tactic(auto, using(crate::proofs::OverLaws::selected_inside))]
 pub fn fill_led<L: Ledger>(
     wanted: &Wanted<'_>,
     lanes: &mut [Lane],
@@ -121,7 +122,7 @@ pub fn fill_led<L: Ledger>(
 {
     let _rising = selection.as_slice();
     let own = key(wanted.block.at, wanted.site);
-    if is_held(wanted.block, lanes, own, selection) {
+    if is_held(lanes, own, selection) {
         return Ok(None);
     }
     let Some(site) = lead_of(wanted, lanes, selection) else {

@@ -12,9 +12,9 @@ ghost use Rattle.block_cache.specs.ForSites.{HasNumbersOver, IsReadOver, cell_ov
 use crate::Lane;
 use crate::block::Block;
 use crate::cells::CellLane;
-use expr_eval::{Input, Inputs};
+use expr_eval::{ColumnInput, Inputs};
 use loop_keys::reading::place as place_of;
-use loop_keys::rows::Place;
+use loop_keys::rows::ValuePlace;
 use rdf_values::{ColType, EntryFault};
 
 /// What is read of one place of a block, by the lanes of the first keys.
@@ -30,7 +30,7 @@ impl<'a> Inputs for PlaceView<'a> {
 
     ghost look = { λ v c. look_over v.block.now v.lanes.now v.place c };
 
-    fn at(&self, col: u32) -> Input<'_> {
+    fn at(&self, col: u32) -> ColumnInput<'_> {
         look(self.block, self.lanes, self.place, col)
     }
 }
@@ -41,15 +41,15 @@ pub(crate) fn look<'a: 's, 's>(
     lanes: &'s [Lane],
     place: u32,
     version: u32,
-) -> Input<'s>
+) -> ColumnInput<'s>
     requires place { place < block.now.count }
     requires version { IsReadOver block.now lanes.now version }
     ensures { input_outcome version result ≡ look_over block.now lanes.now place version }
 {
     match place_of(block.at, version) {
-        Place::Cell { col } => cell(block, place, col),
-        Place::Key { key } => known(lanes, key, place),
-        Place::Element {
+        ValuePlace::Cell { col } => cell(block, place, col),
+        ValuePlace::Key { key } => known(lanes, key, place),
+        ValuePlace::Element {
             key,
             place: nth,
             tags,
@@ -59,7 +59,7 @@ pub(crate) fn look<'a: 's, 's>(
 
 /// The value of a column at a place: a number as it was loaded, or the elements where the table has them.
 #[tactic(auto, using(loop_keys::proofs::ActionLaws::not_stored))]
-fn cell<'a>(block: &Block<'a>, place: u32, col: u32) -> Input<'a>
+fn cell<'a>(block: &Block<'a>, place: u32, col: u32) -> ColumnInput<'a>
     requires place { place < block.now.count }
     requires column { col < length (columns_over block.now) }
     requires loaded { kind_at (columns_over block.now) col ≡ Some kind.Int → HasNumbersOver block.now col }
@@ -67,14 +67,14 @@ fn cell<'a>(block: &Block<'a>, place: u32, col: u32) -> Input<'a>
 {
     let columns = block.at.job.columns;
     match columns.columns()[col as usize].kind {
-        ColType::Int => Input::Int(block.cells[col as usize].as_slice()[place as usize]),
-        ColType::Vect => Input::Vect(columns.vec_at(block.at.entry + place, col)),
+        ColType::Int => ColumnInput::Int(block.cells[col as usize].as_slice()[place as usize]),
+        ColType::Vect => ColumnInput::Vect(columns.vec_at(block.at.entry + place, col)),
         ColType::Bool => unreachable!(),
     }
 }
 
 /// What is held of a key at a place.
-fn known(lanes: &[Lane], key: usize, place: u32) -> Input<'_>
+fn known(lanes: &[Lane], key: usize, place: u32) -> ColumnInput<'_>
     requires key { key < length lanes.now }
     requires place { (l : LaneView) → slice_get lanes.now key ≡ Some l → place < l.count }
     ensures { (n c : ℕ) → input_outcome c result ≡ held_or_need c (held_in (cells_at n lanes.now place) key) }
@@ -83,17 +83,19 @@ fn known(lanes: &[Lane], key: usize, place: u32) -> Input<'_>
 }
 
 /// What is known of the element of a vector at the place of a tag among so many.
-fn element<'s>(vector: Input<'s>, place: u32, tags: u32) -> Input<'s>
+fn element<'s>(vector: ColumnInput<'s>, place: u32, tags: u32) -> ColumnInput<'s>
     ensures { (c : ℕ) → input_outcome c result ≡ (input_outcome c vector.entry >>> tag_element tags place) }
 {
     match vector {
-        Input::Vect(zs) if zs.len() != tags as usize => Input::Faulted(EntryFault::VaryCount),
-        Input::Vect(zs) => match zs.get(place as usize) {
-            Some(z) => Input::Int(*z),
-            None => Input::Faulted(EntryFault::Index),
+        ColumnInput::Vect(zs) if zs.len() != tags as usize => ColumnInput::Faulted(
+            EntryFault::VaryCount,
+        ),
+        ColumnInput::Vect(zs) => match zs.get(place as usize) {
+            Some(z) => ColumnInput::Int(*z),
+            None => ColumnInput::Faulted(EntryFault::Index),
         },
-        Input::Int(_) | Input::Bool(_) => Input::Int(0),
-        Input::Faulted(kind) => Input::Faulted(kind),
-        Input::Missing => Input::Missing,
+        ColumnInput::Int(_) | ColumnInput::Bool(_) => ColumnInput::Int(0),
+        ColumnInput::Faulted(kind) => ColumnInput::Faulted(kind),
+        ColumnInput::Missing => ColumnInput::Missing,
     }
 }

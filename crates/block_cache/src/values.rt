@@ -6,7 +6,7 @@ ghost use Rattle.expr_lanes.specs.{at_place};
 ghost use Rattle.block_cache.specs.{AreKept, IsNumberOf, IsScalar, value_for};
 
 use crate::vectors::Vectors;
-use expr_eval::Input;
+use expr_eval::ColumnInput;
 use expr_eval::number::mark;
 use rdf_values::{ColType, Memory, Value};
 
@@ -37,15 +37,15 @@ impl Values {
     }
 
     /// The value of a place, where it is of that kind.
-    pub(crate) fn input(&self, kind: ColType, place: u32) -> Input<'_>
+    pub(crate) fn input(&self, kind: ColType, place: u32) -> ColumnInput<'_>
         requires { place < length self.now.numbers.items }
         ensures { (c : ℕ) → input_outcome c result ≡ Gives (value_for kind self.now.vectors (at_place self.now.numbers.items place)) }
     {
         let number = self.numbers[place as usize];
         match kind {
-            ColType::Int => Input::Int(number),
-            ColType::Bool => Input::Bool(number != 0),
-            ColType::Vect => Input::Vect(self.vectors.at(number)),
+            ColType::Int => ColumnInput::Int(number),
+            ColType::Bool => ColumnInput::Bool(number != 0),
+            ColType::Vect => ColumnInput::Vect(self.vectors.at(number)),
         }
     }
 }

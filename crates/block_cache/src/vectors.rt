@@ -8,7 +8,7 @@ use std::marker::Model;
 
 /// Where the cells of a vector stand: from one on to below another.
 #[derive(Clone, Copy, Debug)]
-struct Cells {
+struct CellRange {
     from: usize,
     to: usize,
 }
@@ -16,7 +16,7 @@ struct Cells {
 /// Vectors in the order in which they were pushed, with their cells one after another.
 #[derive(Drop)]
 pub(crate) struct Vectors {
-    ranges: Vec<Cells>,
+    ranges: Vec<CellRange>,
     cells: Vec<i64>,
 }
 
@@ -61,7 +61,7 @@ impl Vectors {
         let from = self.cells.len();
         self.cells.extend_from_slice(vector)?;
         let to = self.cells.len();
-        self.ranges.push(Cells { from, to })?;
+        self.ranges.push(CellRange { from, to })?;
         Ok(number as i64)
     }
 

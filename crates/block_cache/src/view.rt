@@ -5,10 +5,10 @@ ghost use Rattle.block_cache.specs.ForSites.{IsReadOver, IsWholeOver, look_over}
 use crate::Lane;
 use crate::block::Block;
 use crate::place_view::look;
-use expr_eval::{Input, ScalarStop};
-use expr_lanes::{Known, LaneColumn, LaneInputs, LaneVectors};
+use expr_eval::{ColumnInput, ScalarStop};
+use expr_lanes::{KnownPlaces, LaneColumn, LaneInputs, LaneVectors};
 use loop_keys::reading::place;
-use loop_keys::rows::Place;
+use loop_keys::rows::ValuePlace;
 use rdf_values::ColType;
 
 /// What is read of a block: the lanes of the first keys, and the table's columns.
@@ -29,12 +29,12 @@ impl<'a> LaneInputs for BlockView<'a> {
 
     fn column(&self, col: u32) -> LaneColumn<'_> {
         match place(self.block.at, col) {
-            Place::Cell { col } => LaneColumn {
+            ValuePlace::Cell { col } => LaneColumn {
                 numbers: self.block.cells[col as usize].as_slice(),
-                known: Known::Everywhere,
+                known: KnownPlaces::Everywhere,
             },
-            Place::Key { key } => self.lanes[key].column(),
-            Place::Element { .. } => unreachable!(),
+            ValuePlace::Key { key } => self.lanes[key].column(),
+            ValuePlace::Element { .. } => unreachable!(),
         }
     }
 
@@ -42,12 +42,12 @@ impl<'a> LaneInputs for BlockView<'a> {
         ScalarStop::Need(col)
     }
 
-    fn tell(&self, col: u32, place: u32) -> Input<'_> {
+    fn tell(&self, col: u32, place: u32) -> ColumnInput<'_> {
         look(self.block, self.lanes, place, col)
     }
 
     fn vectors(&self, col: u32) -> Option<LaneVectors<'_>> {
-        let Place::Cell { col } = place(self.block.at, col) else {
+        let ValuePlace::Cell { col } = place(self.block.at, col) else {
             return None;
         };
         let columns = self.block.at.job.columns;
@@ -62,12 +62,12 @@ impl<'a> LaneInputs for BlockView<'a> {
 
     fn has_numbers(&self, col: u32) -> bool {
         match place(self.block.at, col) {
-            Place::Cell { col } => matches!(
+            ValuePlace::Cell { col } => matches!(
                 self.block.at.job.columns.columns()[col as usize].kind,
                 ColType::Int
             ),
-            Place::Key { key } => !matches!(self.lanes[key].kind(), ColType::Vect),
-            Place::Element { .. } => false,
+            ValuePlace::Key { key } => !matches!(self.lanes[key].kind(), ColType::Vect),
+            ValuePlace::Element { .. } => false,
         }
     }
 }

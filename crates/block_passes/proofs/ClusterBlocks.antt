@@ -4,7 +4,7 @@ use Rattle.rdf_values.specs.{ColType, EachColumn, history, Value, Span}
 use Rattle.block_cache.specs.{AreReady, AreUnknown, begun_at, begun_count, CanFill, IsLoaded, IsUnknown, kinds_of, LaneView, room_of, rooms_of, tried_count}
 use Rattle.loop_keys.specs.{AreReadable, entry_demands, Held, IsJob, IsRight, job_graph, JobView, key, key_count, keys_in, passes_in, row_of, site_in, source_at, facts_in, job_spans}
 use Rattle.graph_numbers.specs.{graph_sites, graph_under, IsBelow, SiteAt, Source, version_count, graph_filters}
-use Rattle.block_passes.specs.{after_block, AreDeepEnough, AreLoaded, at_end, at_entry, at_filter, at_pass, block_demands, block_rows, BlockStop, CanSelect, CanServe, CanServeAll, demands_in, entries_from, Found, HaveCells, HaveKinds, IsAmid, IsBefore, IsBegunBlock, IsBlockAnswer, IsBlockOf, IsClear, IsClusterAnswer, IsFilterStep, IsMadeAt, IsOverAll, IsPlan, IsReadyBelow, IsSearchedTo, IsServable, IsStateOf, Kept, longer, PlanView, span_demands, Spends, StateView, Step}
+use Rattle.block_passes.specs.{after_block, AreDeepEnough, AreLoaded, at_end, at_entry, at_filter, at_pass, block_demands, block_rows, BlockStop, CanSelect, CanServe, CanServeAll, demands_in, entries_from, Found, HaveCells, HaveKinds, IsAmid, IsBefore, IsBegunBlock, IsBlockAnswer, IsBlockOf, IsClear, IsClusterAnswer, IsFilterStep, IsMadeAt, IsOverAll, IsPlan, IsReadyBelow, IsSearchedTo, IsServable, IsStateOf, KeptPlaces, longer, PlanView, span_demands, Spends, StateView, Step}
 use Rattle.rdf_model.proofs.Typing.{each_weaker}
 use Rattle.graph_numbers.proofs.Closing.{columns_below}
 use Rattle.loop_keys.proofs.EvaluateLaws.{accepted_of}
@@ -29,7 +29,7 @@ use Rattle.columns.proofs.BlockSteps.{span_within}
 use Rattle.loop_pieces.specs.{cluster_fault}
 
 -- lanes of the same kinds with as much room, and as many numbers, levels and selections
-pub state_stays : (j : JobView) (old : StateView) (cells : List (List ℤ)) (lanes : List LaneView) (scratch levels : ℕ) (found : Found) (kept : List Kept) → IsStateOf j old → length cells ≡ length old.cells → HaveCells old.size cells
+pub state_stays : (j : JobView) (old : StateView) (cells : List (List ℤ)) (lanes : List LaneView) (scratch levels : ℕ) (found : Found) (kept : List KeptPlaces) → IsStateOf j old → length cells ≡ length old.cells → HaveCells old.size cells
     → kinds_of lanes ≡ kinds_of old.lanes → rooms_of lanes ≡ rooms_of old.lanes → scratch ≡ old.scratch → levels ≡ old.levels → length kept ≡ length old.kept
     → IsStateOf j (record { size = old.size; plan = old.plan; rows = old.rows; cells = cells; lanes = lanes; scratch = scratch; levels = levels; found = found; kept = kept })
 state_stays j old cells lanes scratch levels found kept h columns room kinds rooms deep high many = record {
@@ -72,14 +72,14 @@ module _ (count : ℕ) (lanes : List LaneView) (unknown : AreUnknown count lanes
   }
 
 module _ (j : JobView) (job : IsJob j) (first count : ℕ) (s : StateView) (state : IsStateOf j s) (some : 0 < count) (within : first + count ≤ length j.dataset.rows) (unknown : AreUnknown count s.lanes)
-    (unmade : All (λ (k : Kept). k.limit ≡ None) s.kept) (loaded : AreLoaded j first count s.cells) where
+    (unmade : All (λ (k : KeptPlaces). k.limit ≡ None) s.kept) (loaded : AreLoaded j first count s.cells) where
   begun_ready : (p : IsPlan j s.plan) → IsReadyBelow j first count p.chains count s.lanes s.kept
   begun_ready p = record {
     ready = unknown_ready count s.lanes unknown j first state.lanes some within;
     settled = λ q low k begun. absurd (never_begun count s.lanes unknown k q begun);
     kept_are = record {
       many = state.kept ∙ sym p.steps.many;
-      each = λ k made m at limit. (let e : None ≡ Some made = sym (all_get (λ (x : Kept). x.limit ≡ None) s.kept unmade k m at) ∙ limit in cc e);
+      each = λ k made m at limit. (let e : None ≡ Some made = sym (all_get (λ (x : KeptPlaces). x.limit ≡ None) s.kept unmade k m at) ∙ limit in cc e);
     };
     within = omega arith;
   }
@@ -212,7 +212,7 @@ module _ (j : JobView) (first count : ℕ) (before after : List LaneView) (start
 
 -- ---- the search
 
-module _ (j : JobView) (job : IsJob j) (first count : ℕ) (plan : PlanView) (p : IsPlan j plan) (lanes : List LaneView) (kept : List Kept) (s : Found)
+module _ (j : JobView) (job : IsJob j) (first count : ℕ) (plan : PlanView) (p : IsPlan j plan) (lanes : List LaneView) (kept : List KeptPlaces) (s : Found)
     (h : IsSearchedTo j first count plan p.chains (length (passes_in j)) lanes kept s) (none : s.best ≡ None) where
   whole : s.limit ≡ count
   whole = h.searched.whole none

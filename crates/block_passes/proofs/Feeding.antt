@@ -10,9 +10,9 @@ use Rattle.cluster_tally.specs.{block_items, block_reaches, BlockStage, CanNoteC
 use Rattle.loop_keys.specs.{actions_before, covered_in, facts_in, IsJob, job_graph, job_spans, JobView, pass_outcome, passes_in, row_of, site_in, version_in, IsActionBooking, IsActionPass, IsNoTake}
 use Rattle.loop_keys.proofs.PassNumbers.{stopped_answer, tried_answer, cover_at, covered_count, at_place, covered_reach, uncovered_reach, pass_answer, pass_of, all_actions}
 use Rattle.loop_keys.proofs.ActionLaws.{row_there}
-use Rattle.block_passes.specs.{AreAtHand, AreCountable, AreKept, AreLanesOf, at_filter, at_pass, CanFeedAny, Chain, feeding_fault, Found, IsActionOf, IsAmid, IsClear, IsLast, IsMade, IsNamed, IsNarrowed, IsPlan, IsReadOf, IsServedTo, IsSettledAt, Kept, NamedSteps, noted, of_batch, PlanView, through_chain, chain_at}
+use Rattle.block_passes.specs.{AreAtHand, AreCountable, AreKept, AreLanesOf, at_filter, at_pass, CanFeedAny, Chain, feeding_fault, Found, IsActionOf, IsAmid, IsClear, IsLast, IsMade, IsNamed, IsNarrowed, IsPlan, IsReadOf, IsServedTo, IsSettledAt, KeptPlaces, NamedSteps, noted, of_batch, PlanView, through_chain, chain_at}
 use Rattle.loop_pieces.specs.{Counts}
-use Rattle.actions.specs.{Batch, batch_items, fault_or_later, first_fault_in, HasValues, IsTake, PlaceFault as BatchFault, places_of, Sources, SuitsAt, values_at}
+use Rattle.actions.specs.{Batch, batch_items, fault_or_later, first_fault_in, HasValues, IsTake, BatchFault, places_of, Sources, SuitsAt, values_at}
 use Rattle.expr_lanes.specs.{AreRising, EachPlace, is_in}
 use Rattle.block_cache.specs.{AreReady, fault_before, fault_over, LaneView, PlaceFault}
 use Rattle.block_passes.proofs.Demanding.{all_get}
@@ -159,7 +159,7 @@ module _ (j : JobView) (first count : ℕ) (s : BlockStage) (amid : IsAmid j fir
 
 module _ (j : JobView) (first count : ℕ) (s : BlockStage) (amid : IsAmid j first count s) where
   -- the places of a chain that has these sites under nominal or a variation
-  module _ (u : Option ℕ) (chains : List Chain) (kept : List Kept) (are : AreKept j first chains count kept) (sites : List ℕ) (k : ℕ) (last : IsLast chains sites u k) (m : Kept) (at : slice_get kept k ≡ Some m) (whole : m.limit ≡ Some count) where
+  module _ (u : Option ℕ) (chains : List Chain) (kept : List KeptPlaces) (are : AreKept j first chains count kept) (sites : List ℕ) (k : ℕ) (last : IsLast chains sites u k) (m : KeptPlaces) (at : slice_get kept k ≡ Some m) (whole : m.limit ≡ Some count) where
     made : IsMade j first (chain_at chains k) count count m.places
     made = are.each k count m at whole
 
@@ -178,7 +178,7 @@ module _ (j : JobView) (plan : PlanView) (p : IsPlan j plan) (f : ℕ) (inside :
   abbrev pub named_at : (x : FilterAt) × (slice_get (graph_filters (job_graph j)) f ≡ Some x)
   named_at = something_at (graph_filters (job_graph j)) f inside
 
-  module _ (first count : ℕ) (kept : List Kept) (can : AreCountable j first count p.chains plan kept) (o : Option NamedSteps) (at : slice_get plan.filters f ≡ Some o) where
+  module _ (first count : ℕ) (kept : List KeptPlaces) (can : AreCountable j first count p.chains plan kept) (o : Option NamedSteps) (at : slice_get plan.filters f ≡ Some o) where
     pub no_counts : o ≡ None → (job : IsJob j) (s : BlockStage) → IsAmid j first count s → record { all = 0; pass = 0 } ≡ counted (block_reaches (facts_in j) s f)
     no_counts none job s amid = sym (uncovered_counts j first count s amid job f named_at.0 named_at.1 (p.filters f None (at ∙ ap Some none) named_at.0 named_at.1))
 
@@ -195,7 +195,7 @@ module _ (j : JobView) (plan : PlanView) (p : IsPlan j plan) (f : ℕ) (inside :
       pub own_there : named.own < length kept
       own_there = last_inside its_steps.1.own can.kept_are.many
 
-      pub sizes_counted : (d d' : Kept) (job : IsJob j) (s : BlockStage) → IsAmid j first count s
+      pub sizes_counted : (d d' : KeptPlaces) (job : IsJob j) (s : BlockStage) → IsAmid j first count s
           → record { all = length (get_or kept named.above d).places; pass = length (get_or kept named.own d').places } ≡ counted (block_reaches (facts_in j) s f)
       sizes_counted d d' job s amid =
           let h = its_steps.1 in
@@ -256,7 +256,7 @@ unfed_over k s f (p ∷ sel) h =
 
 -- ---- it lowers the limit
 
-module _ (j : JobView) (first count : ℕ) (f : ℕ → Option EntryFault) (pass : ℕ) (to now : Kept) (lanes : List LaneView) (old new : Found) (o : Option PlaceFault)
+module _ (j : JobView) (first count : ℕ) (f : ℕ → Option EntryFault) (pass : ℕ) (to now : KeptPlaces) (lanes : List LaneView) (old new : Found) (o : Option PlaceFault)
     (ready : AreReady j first count lanes) (settled : (p : ℕ) → p < old.limit → IsSettledAt lanes p) (rising : AreRising to.places) (inside : EachPlace to.places (λ p. p < old.limit))
     (is : o ≡ fault_over f to.places) (noted_is : new ≡ noted first pass old o) where
   pub part_served : to.limit ≡ Some old.limit → IsNarrowed new.limit old.limit to now → IsServedTo j first count f pass to.places now lanes old new
@@ -281,7 +281,7 @@ kind_at : (j : JobView) (n : ℕ) (k : ActionKind) (inputs : List ℕ) (u : Opti
 kind_at j n k inputs u own = (at_place j.dataset [] n (passes_in j) _ k own.action.at (pass_of j n own.numbered own.action.its_pass own.result own.action.its_result) own.action.booking).0
 
 module _ (j : JobView) (job : IsJob j) (first count : ℕ) (pass : ℕ) (k : ActionKind) (inputs : List ℕ) (u : Option ℕ) (own : IsReadOf j pass k inputs u) where
-  module _ (plan : PlanView) (p : IsPlan j plan) (last : ℕ) (at : slice_get plan.passes pass ≡ Some last) (lanes : List LaneView) (kept : List Kept) (h : IsClear j first count p.chains plan lanes kept) where
+  module _ (plan : PlanView) (p : IsPlan j plan) (last : ℕ) (at : slice_get plan.passes pass ≡ Some last) (lanes : List LaneView) (kept : List KeptPlaces) (h : IsClear j first count p.chains plan lanes kept) where
     last_led : IsLast p.chains own.result.filters u last
     last_led = subst (λ (v : Option ℕ). IsLast p.chains own.result.filters v last) own.its_under (p.passes pass last at own.numbered own.result k own.action)
 
@@ -290,8 +290,8 @@ module _ (j : JobView) (job : IsJob j) (first count : ℕ) (pass : ℕ) (k : Act
 
     -- ---- what is fed
 
-    module _ (d : Kept) where
-      abbrev sel : Kept
+    module _ (d : KeptPlaces) where
+      abbrev sel : KeptPlaces
       sel = get_or kept last d
 
       sel_at : slice_get kept last ≡ Some sel

@@ -8,7 +8,7 @@ use Rattle.expr_lanes.specs.{AreRising, EachPlace, is_in, IsSelected}
 use Rattle.block_cache.specs.{fault_over, IsPassedOver, IsSpentOver, LaneView, PlaceFault, below_fault}
 use Rattle.loop_keys.specs.{HasAllDemands, IsJob, JobView, site_in, truth_in, is_covering, IsCovered, IsReportPass, job_graph, numbered_passes, outcome_of, pass_fault, passes_in, source_at, ArePlainVersions, covered_in, covers_of, IsPlainLoop, version_in, IsSourceIn}
 use Rattle.loop_keys.proofs.ActionLaws.{row_there, can_act}
-use Rattle.block_passes.specs.{AreAtHand, AreKept, AreRemade, AreSteps, Chain, chosen, Demands, Found, IsFilteredTo, IsFilterStep, IsMade, IsMadeAt, IsNamedMade, IsNarrowed, IsNextSelected, IsPassMade, IsPassTried, IsPlan, IsPlanOfTurn, IsReadBelow, IsReadyBelow, IsReadyInTurn, IsSearched, IsSearchedTo, IsSelectedInTurn, IsSelectedTo, IsSettledAt, Kept, longer, Lowers, NamedSteps, noted, PlanView, Spends, Step, through_chain, turn_job, where_passed, CanGather, CanServe, DemandsInputs, filter_fault, filters_fault, inputs_fault, IsActionOf, IsLast, IsNamed, IsReadOf, IsServedTo, IsTriedTo, unfed, chain_at, IsOverAll, IsSelected as IsSelectedBelow, where_in}
+use Rattle.block_passes.specs.{AreAtHand, AreKept, AreRemade, AreSteps, Chain, chosen, Demands, Found, IsFilteredTo, IsFilterStep, IsMade, IsMadeAt, IsNamedMade, IsNarrowed, IsNextSelected, IsPassMade, IsPassTried, IsPlan, IsPlanOfTurn, IsReadBelow, IsReadyBelow, IsReadyInTurn, IsSearched, IsSearchedTo, IsSelectedInTurn, IsSelectedTo, IsSettledAt, KeptPlaces, longer, Lowers, NamedSteps, noted, PlanView, Spends, Step, through_chain, turn_job, where_passed, CanGather, CanServe, DemandsInputs, filter_fault, filters_fault, inputs_fault, IsActionOf, IsLast, IsNamed, IsReadOf, IsServedTo, IsTriedTo, unfed, chain_at, IsOverAll, IsSelected as IsSelectedBelow, where_in}
 use Rattle.block_passes.proofs.Demanding.{all_get, step_demanded, action_at, pass_set}
 use Rattle.block_passes.proofs.PlanSteps.{chosen_below, in_chosen, filter_twice, narrowed, step_fault, step_true, truth_fault, chain_through, both_lower, lowers_as, or_else, none_lowers, row_in_block, searched, pass_searched, action_fault, where_split, last_through, report_fault, covered_is, one_result, last_inside}
 use Rattle.block_passes.proofs.Serving.{spends_filled, filled_over, all_still}
@@ -19,7 +19,7 @@ use Rattle.block_passes.specs.declared.turn.Work.{Work}
 use Rattle.rdf_values.specs.{EntryFault, ActionKind, ColType}
 
 -- one part after another
-pub tried_then : {j : JobView} {first count : ℕ} {chains : List Chain} {a b : ℕ → Option EntryFault} {pass : ℕ} {mid lanes : List LaneView} {was between kept : List Kept} {f0 f1 f2 : Found} {A B M : Type 0} (part : ℕ → Option EntryFault)
+pub tried_then : {j : JobView} {first count : ℕ} {chains : List Chain} {a b : ℕ → Option EntryFault} {pass : ℕ} {mid lanes : List LaneView} {was between kept : List KeptPlaces} {f0 f1 f2 : Found} {A B M : Type 0} (part : ℕ → Option EntryFault)
     → IsTriedTo j first count chains a pass mid was between f0 f1 A → IsTriedTo j first count chains b pass lanes between kept f1 f2 B → ((p : ℕ) → or_else (a p) (b p) ≡ part p) → M → IsTriedTo j first count chains part pass lanes was kept f0 f2 M
 tried_then {first = first} {a = a} {b = b} {pass = pass} {f0 = f0} {f1 = f1} {f2 = f2} part h k both made = record {
   ready = k.ready;
@@ -43,7 +43,7 @@ module _ (j : JobView) (first : ℕ) (up : Chain) (site : ℕ) (u : Option ℕ) 
 
 module _ (j : JobView) (first : ℕ) (c : Chain) (limit made : ℕ) where
   -- a selection that is there, narrowed
-  pub narrowed_made : (old new : Kept) → old.limit ≡ Some made → IsMade j first c limit made old.places → IsNarrowed limit made old new → (new.limit ≡ Some limit) × IsMade j first c limit limit new.places
+  pub narrowed_made : (old new : KeptPlaces) → old.limit ≡ Some made → IsMade j first c limit made old.places → IsNarrowed limit made old new → (new.limit ≡ Some limit) × IsMade j first c limit limit new.places
   narrowed_made old new l h k = grind (arith, narrowed)
 
 -- all places are selected
@@ -51,7 +51,7 @@ whole_made : (j : JobView) (first limit : ℕ) (c : Chain) (places : List ℕ) �
 whole_made j first limit c places e is = grind (arith, filter_all)
 
 -- where the limit falls, those made before are as right
-pub kept_lower : (j : JobView) (first : ℕ) (chains : List Chain) (limit lower : ℕ) (kept : List Kept) → lower ≤ limit → AreKept j first chains limit kept → AreKept j first chains lower kept
+pub kept_lower : (j : JobView) (first : ℕ) (chains : List Chain) (limit lower : ℕ) (kept : List KeptPlaces) → lower ≤ limit → AreKept j first chains limit kept → AreKept j first chains lower kept
 kept_lower j first chains limit lower kept le h = record {
   many = h.many;
   each = λ k made s r l. (
@@ -67,9 +67,9 @@ set_other (z ∷ xs) zero y zero x h = inr (refl, cc h)
 set_other (z ∷ xs) (suc k) y (suc i) x h = elim (set_other xs k y i x h) [ inl q ↦ inl q | inr q ↦ inr (ap (λ n. suc n) q.0, q.1) ]
 set_other xs k y i x h = inl h
 
-module _ (j : JobView) (first count : ℕ) (chains : List Chain) (pass k : ℕ) (lanes : List LaneView) (kept now : List Kept) (s : Found)
-    (ready : IsReadyBelow j first count chains s.limit lanes kept) (inside : k < length kept) (x : Kept) (limit : x.limit ≡ Some s.limit) (made : IsMade j first (chain_at chains k) s.limit s.limit x.places) (written : now ≡ slice_set kept k x) where
-  at_now : (i : ℕ) (y : Kept) → slice_get now i ≡ Some y → (slice_get kept i ≡ Some y) ⊎ ((i ≡ k) × (y ≡ x))
+module _ (j : JobView) (first count : ℕ) (chains : List Chain) (pass k : ℕ) (lanes : List LaneView) (kept now : List KeptPlaces) (s : Found)
+    (ready : IsReadyBelow j first count chains s.limit lanes kept) (inside : k < length kept) (x : KeptPlaces) (limit : x.limit ≡ Some s.limit) (made : IsMade j first (chain_at chains k) s.limit s.limit x.places) (written : now ≡ slice_set kept k x) where
+  at_now : (i : ℕ) (y : KeptPlaces) → slice_get now i ≡ Some y → (slice_get kept i ≡ Some y) ⊎ ((i ≡ k) × (y ≡ x))
   at_now i y q = set_other kept k x i y (ap (λ ks. slice_get ks i) (sym written) ∙ q)
 
   -- right where it was written, and nothing is lowered
@@ -82,16 +82,16 @@ module _ (j : JobView) (first count : ℕ) (chains : List Chain) (pass k : ℕ) 
       within = ready.within;
     };
     lowers = none_lowers (λ p. fault_in (through_chain j (first + p) (chain_at chains k))) first pass s made.clear;
-    remade = λ i m y q. elim (at_now i y q) [ inl r ↦ m y r | inr r ↦ (s.limit, ap (λ (z : Kept). z.limit) r.1 ∙ limit, ready.within) ];
-    made = λ y q. (let e : x ≡ y = same_Some x y (sym (set_at kept k x inside) ∙ ap (λ ks. slice_get ks k) (sym written) ∙ q) in ap (λ (z : Kept). z.limit) (sym e) ∙ limit);
+    remade = λ i m y q. elim (at_now i y q) [ inl r ↦ m y r | inr r ↦ (s.limit, ap (λ (z : KeptPlaces). z.limit) r.1 ∙ limit, ready.within) ];
+    made = λ y q. (let e : x ≡ y = same_Some x y (sym (set_at kept k x inside) ∙ ap (λ ks. slice_get ks k) (sym written) ∙ q) in ap (λ (z : KeptPlaces). z.limit) (sym e) ∙ limit);
   }
     where
-      one : (i m : ℕ) (y : Kept) → y.limit ≡ Some m → (slice_get kept i ≡ Some y) ⊎ ((i ≡ k) × (y ≡ x)) → IsMade j first (chain_at chains i) s.limit m y.places
+      one : (i m : ℕ) (y : KeptPlaces) → y.limit ≡ Some m → (slice_get kept i ≡ Some y) ⊎ ((i ≡ k) × (y ≡ x)) → IsMade j first (chain_at chains i) s.limit m y.places
       one i m y l (inl r) = ready.kept_are.each i m y r l
       one i m y l (inr r) =
-          let same : s.limit ≡ m = same_Some s.limit m (sym limit ∙ ap (λ (z : Kept). z.limit) (sym r.1) ∙ l) in
+          let same : s.limit ≡ m = same_Some s.limit m (sym limit ∙ ap (λ (z : KeptPlaces). z.limit) (sym r.1) ∙ l) in
           subst (λ (n : ℕ). IsMade j first (chain_at chains n) s.limit m y.places) (sym r.0)
-          (subst (λ (n : ℕ). IsMade j first (chain_at chains k) s.limit n y.places) same (subst (λ (z : Kept). IsMade j first (chain_at chains k) s.limit s.limit z.places) (sym r.1) made))
+          (subst (λ (n : ℕ). IsMade j first (chain_at chains k) s.limit n y.places) same (subst (λ (z : KeptPlaces). IsMade j first (chain_at chains k) s.limit s.limit z.places) (sym r.1) made))
 
 -- the chains of a step with one more filter and of the step above it
 module _ (chains : List Chain) (k parent site : ℕ) (u : Option ℕ) (step : IsFilterStep chains k parent site u) where
@@ -105,21 +105,21 @@ module _ (chains : List Chain) (k parent site : ℕ) (u : Option ℕ) (step : Is
   up_under = subst (λ (c : Chain). (c.sites ≡ []) ⊎ (c.under ≡ u)) (sym up_is) step.alike
 
 -- one more filter
-pub filter_selected : (j : JobView) (first count : ℕ) (chains : List Chain) (pass k parent site : ℕ) (u : Option ℕ) → IsFilterStep chains k parent site u → (mid after : List LaneView) (was between split now : List Kept) (a b c : Found) → split ≡ between
+pub filter_selected : (j : JobView) (first count : ℕ) (chains : List Chain) (pass k parent site : ℕ) (u : Option ℕ) → IsFilterStep chains k parent site u → (mid after : List LaneView) (was between split now : List KeptPlaces) (a b c : Found) → split ≡ between
     → IsSelectedTo j first count chains pass parent mid was between a b → IsNextSelected j first count chains pass k parent site u after split now b c → IsSelectedTo j first count chains pass k after was now a c
 filter_selected j first count chains pass k parent site u step mid after was between split now a b c same h n =
-    tried_then (λ p. fault_in (through_chain j (first + p) (chain_at chains k))) h (subst (λ (ks : List Kept). IsNextSelected j first count chains pass k parent site u after ks now b c) same n)
+    tried_then (λ p. fault_in (through_chain j (first + p) (chain_at chains k))) h (subst (λ (ks : List KeptPlaces). IsNextSelected j first count chains pass k parent site u after ks now b c) same n)
     (λ p. own_fault j first (chain_at chains parent) site u (up_under chains k parent site u step) p ∙ ap (λ (d : Chain). fault_in (through_chain j (first + p) d)) (own_is chains k parent site u step)) n.made
 
 -- whether it was there
-pub kept_inside : (j : JobView) (first limit : ℕ) (chains : List Chain) (steps : List Step) (kept : List Kept) (k : ℕ) → AreSteps chains steps → AreKept j first chains limit kept → k < length steps → k < length kept
+pub kept_inside : (j : JobView) (first limit : ℕ) (chains : List Chain) (steps : List Step) (kept : List KeptPlaces) (k : ℕ) → AreSteps chains steps → AreKept j first chains limit kept → k < length steps → k < length kept
 kept_inside j first limit chains steps kept k are h lt = let a = are.many in let b = h.many in omega (arith, a, b, lt)
 
 -- ---- One more filter of a step, over the selections of all steps.
 
 module _ (j : JobView) (job : IsJob j) (first count pass : ℕ) (plan : PlanView) (p : IsPlan j plan) (k parent site : ℕ) (u : Option ℕ) (its : slice_get plan.steps k ≡ Some (Step.Filter parent site u))
-    (within : first + count ≤ length j.dataset.rows) (above own : List Kept) (many : length above ≡ k) (before : List LaneView) (f1 : Found) (ready : IsReadyBelow j first count p.chains f1.limit before (above ++ own))
-    (limits : IsOverAll f1.limit (above ++ own) parent) (from : Kept) (read : from ≡ get_or above parent from) where
+    (within : first + count ≤ length j.dataset.rows) (above own : List KeptPlaces) (many : length above ≡ k) (before : List LaneView) (f1 : Found) (ready : IsReadyBelow j first count p.chains f1.limit before (above ++ own))
+    (limits : IsOverAll f1.limit (above ++ own) parent) (from : KeptPlaces) (read : from ≡ get_or above parent from) where
   abbrev s : IsFilterStep p.chains k parent site u
   s = p.steps.each k (Step.Filter parent site u) its
 
@@ -151,7 +151,7 @@ module _ (j : JobView) (job : IsJob j) (first count pass : ℕ) (plan : PlanView
           let passed = ap (λ (c : Chain). is_true (through_chain j (first + q) c)) (sym (up_is p.chains k parent site u s)) ∙ sym (passed_in q l) ∙ i in
           step_demanded j job (first + q) row.0 row.1 T all (longer s.up site u) (p.tried k (longer s.up site u) s.own) s.up.sites site refl (ap is_true (sym (up_alike j first s.up site u s.alike q)) ∙ passed)
 
-  module _ (to : Kept) (now : List Kept) (after : List LaneView) (f2 : Found) (written : now ≡ slice_set own 0 to) (h : IsFilteredTo j first count u site pass from.places to after f1 f2) where
+  module _ (to : KeptPlaces) (now : List KeptPlaces) (after : List LaneView) (f2 : Found) (written : now ≡ slice_set own 0 to) (h : IsFilteredTo j first count u site pass from.places to after f1 f2) where
     part : Lowers (λ q. where_passed (through_chain j (first + q) up) (fault_in (truth_in j (first + q) u site))) first pass f1 f2
     part = lowers_as (where_in (λ q. fault_in (truth_in j (first + q) u site)) from.places) (λ q. where_passed (through_chain j (first + q) up) (fault_in (truth_in j (first + q) u site))) first pass f1 f2
         (λ q lt. ap (λ b. if b then fault_in (truth_in j (first + q) u site) else None) (passed_in q lt)) h.served.lowers
@@ -189,7 +189,7 @@ selected count sel limit n small le h many few = grind arith
 module _ (j : JobView) (first count : ℕ) (u : Option ℕ) (s pass : ℕ) (sel left : List ℕ) (before after : List LaneView) (start end : ℕ) (old new : Found) (fault : Option PlaceFault)
     (spent : IsSpentOver j first u s sel before after start end) (passed : IsPassedOver j first u count s sel left after fault)
     (rising : AreRising sel) (inside : EachPlace sel (λ p. p < old.limit)) (known : (p : ℕ) → p < old.limit → IsSettledAt before p) (now : new ≡ noted first pass old fault) where
-  pub filtered_to : (to : Kept) → to.limit ≡ Some new.limit → to.places ≡ left → IsFilteredTo j first count u s pass sel to after old new
+  pub filtered_to : (to : KeptPlaces) → to.limit ≡ Some new.limit → to.places ≡ left → IsFilteredTo j first count u s pass sel to after old new
   filtered_to to l is = record {
     tried = record { limit = Some new.limit; places = below_fault fault sel };
     served =
@@ -199,17 +199,17 @@ module _ (j : JobView) (first count : ℕ) (u : Option ℕ) (s pass : ℕ) (sel 
     left = is ∙ passed.left_is;
   }
 
-pub named_stays : (count : ℕ) (plan : PlanView) (a b : List Kept) (f : ℕ) → AreRemade count a b → IsNamedMade count plan a f → IsNamedMade count plan b f
+pub named_stays : (count : ℕ) (plan : PlanView) (a b : List KeptPlaces) (f : ℕ) → AreRemade count a b → IsNamedMade count plan a f → IsNamedMade count plan b f
 named_stays count plan a b f h made s its = let w = made s its in (h s.above w.0, h s.own w.1)
 
 -- ---- The selection of a step, as `narrow` leaves it, where the search is at a limit.
 
-module _ {V : Type 0} {D : V → Type 0} {g : _} (t : Turn V D g) (p : IsPlanOfTurn t) (w : Work) (kept : List Kept) (k : ℕ) (inside : k < length t.plan.now.steps) (ready : IsReadyInTurn t p.chains w.found.limit w.lanes.items kept) (d : Kept) where
+module _ {V : Type 0} {D : V → Type 0} {g : _} (t : Turn V D g) (p : IsPlanOfTurn t) (w : Work) (kept : List KeptPlaces) (k : ℕ) (inside : k < length t.plan.now.steps) (ready : IsReadyInTurn t p.chains w.found.limit w.lanes.items kept) (d : KeptPlaces) where
   low : k < length kept
   low = kept_inside (turn_job t) t.first w.found.limit p.chains t.plan.now.steps kept k p.steps ready.kept_are inside
 
   -- one that was there
-  pub narrowed_selected : (new : Kept) (made : ℕ) → (get_or kept k d).limit ≡ Some made → IsNarrowed w.found.limit made (get_or kept k d) new
+  pub narrowed_selected : (new : KeptPlaces) (made : ℕ) → (get_or kept k d).limit ≡ Some made → IsNarrowed w.found.limit made (get_or kept k d) new
       → IsSelectedInTurn t p.chains k w.lanes.items kept (slice_set kept k new) w.found w.found
   narrowed_selected new made limit narrowed =
       let m = narrowed_made (turn_job t) t.first (chain_at p.chains k) w.found.limit made (get_or kept k d) new limit (ready.kept_are.each k made (get_or kept k d) (slice_get-get_or kept k d low) limit) narrowed in
@@ -218,29 +218,29 @@ module _ {V : Type 0} {D : V → Type 0} {g : _} (t : Turn V D g) (p : IsPlanOfT
   -- one that was made below the limit
   pub made_again : (made : ℕ) → (get_or kept k d).limit ≡ Some made → made ≤ w.found.limit → IsSelectedInTurn t p.chains k w.lanes.items kept kept w.found w.found
   made_again made limit le =
-      subst (λ (ks : List Kept). IsSelectedInTurn t p.chains k w.lanes.items kept ks w.found w.found) (set-get_or kept k d) (narrowed_selected (get_or kept k d) made limit (inl (le, refl)))
+      subst (λ (ks : List KeptPlaces). IsSelectedInTurn t p.chains k w.lanes.items kept ks w.found w.found) (set-get_or kept k d) (narrowed_selected (get_or kept k d) made limit (inl (le, refl)))
 
-  module _ (new : Kept) (same : new ≡ get_or kept k d) where
+  module _ (new : KeptPlaces) (same : new ≡ get_or kept k d) where
     -- where none was, all is as before
     pub none_there : slice_set kept k new ≡ kept
     none_there = ap (slice_set kept k) same ∙ set-get_or kept k d
 
     -- and all places are selected
-    pub block_selected : slice_get t.plan.now.steps k ≡ Some Step.Block → (all : Kept) → all.limit ≡ Some w.found.limit → all.places ≡ range_with_len 0 w.found.limit
+    pub block_selected : slice_get t.plan.now.steps k ≡ Some Step.Block → (all : KeptPlaces) → all.limit ≡ Some w.found.limit → all.places ≡ range_with_len 0 w.found.limit
         → IsSelectedInTurn t p.chains k w.lanes.items kept (slice_set (slice_set kept k new) k all) w.found w.found
     block_selected block all limit places =
         written_selected (turn_job t) t.first t.count p.chains t.pass k w.lanes.items kept (slice_set (slice_set kept k new) k all) w.found ready low
-        all limit (whole_made (turn_job t) t.first w.found.limit (chain_at p.chains k) all.places (get_or_from_slice_get p.chains k _ _ (p.steps.each k Step.Block block)) places) (ap (λ (ks : List Kept). slice_set ks k all) none_there)
+        all limit (whole_made (turn_job t) t.first w.found.limit (chain_at p.chains k) all.places (get_or_from_slice_get p.chains k _ _ (p.steps.each k Step.Block block)) places) (ap (λ (ks : List KeptPlaces). slice_set ks k all) none_there)
 
 -- what a pass takes stays so
-pub pass_stays : (j : JobView) (count : ℕ) (plan : PlanView) (a b : List Kept) (n : ℕ) → AreRemade count a b → IsPassMade j count plan a n → IsPassMade j count plan b n
+pub pass_stays : (j : JobView) (count : ℕ) (plan : PlanView) (a b : List KeptPlaces) (n : ℕ) → AreRemade count a b → IsPassMade j count plan a n → IsPassMade j count plan b n
 pass_stays j count plan a b n h made = record {
   action = λ k inputs u own last its. h last (made.action k inputs u own last its);
   report = λ own rep. each_weaker (IsNamedMade count plan a) (IsNamedMade count plan b) (λ f m. named_stays count plan a b f h m) rep.result.covers (made.report own rep);
 }
 
 -- after all passes the selections of each named filter that is covered were made
-pub filters_made : (j : JobView) (job : IsJob j) (count : ℕ) (plan : PlanView) (p : IsPlan j plan) (kept : List Kept) → ((n : ℕ) → n < length (passes_in j) → IsPassMade j count plan kept n)
+pub filters_made : (j : JobView) (job : IsJob j) (count : ℕ) (plan : PlanView) (p : IsPlan j plan) (kept : List KeptPlaces) → ((n : ℕ) → n < length (passes_in j) → IsPassMade j count plan kept n)
     → (f : ℕ) (x : FilterAt) → slice_get (graph_filters (job_graph j)) f ≡ Some x → IsNamedMade count plan kept f
 filters_made j job count plan p kept made f x its s named =
     let c = plan_covered j job f (p.filters f (Some s) named x its).0 in
@@ -261,7 +261,7 @@ module _ (j : JobView) (first count : ℕ) (before after : List LaneView) (start
   still_read limit lower n le h m r k of p lt passed = all_still j first count before after start end spends m.variation p r.inputs (h m r k of p (omega (arith, lt, le)) passed)
 
   -- the next pass was tried
-  pub next_searched : (plan : PlanView) (chains : List Chain) (n : ℕ) (kept now : List Kept) (s t : Found) → IsSearchedTo j first count plan chains n before kept s → IsPassTried j first count plan chains n after kept now s t
+  pub next_searched : (plan : PlanView) (chains : List Chain) (n : ℕ) (kept now : List KeptPlaces) (s t : Found) → IsSearchedTo j first count plan chains n before kept s → IsPassTried j first count plan chains n after kept now s t
       → IsSearchedTo j first count plan chains (n + 1) after now t
   next_searched plan chains n kept now s t h k = record {
     ready = k.ready;
@@ -352,7 +352,7 @@ module _ (j : JobView) (job : IsJob j) (first count pass : ℕ) (plan : PlanView
     unfed_none q lt passed none = (λ i. if (sym passed ∙ sym (ap is_true (through_is (first + q)))) i then unfed j first k inputs u q else None) ∙ last_none _ _ (last_none _ _ (whole_fault q lt ∙ none))
 
     -- the places of its last step, where that was selected over all of the block
-    pub placed : (kept : List Kept) → AreKept j first p.chains count kept → (s : Kept) → slice_get kept last ≡ Some s → s.limit ≡ Some count → (q : ℕ) → is_in q s.places ≡ true
+    pub placed : (kept : List KeptPlaces) → AreKept j first p.chains count kept → (s : KeptPlaces) → slice_get kept last ≡ Some s → s.limit ≡ Some count → (q : ℕ) → is_in q s.places ≡ true
         → (q < count) × (is_true (through_sites (site_in {M = ⊥} j (first + q) m.variation) r.filters) ≡ true)
     placed kept are s at over q i =
         let made = are.each last count s at over in
@@ -361,8 +361,8 @@ module _ (j : JobView) (job : IsJob j) (first count pass : ℕ) (plan : PlanView
 
     -- ---- its selection
 
-    module _ (was kept : List Kept) (lanes1 : List LaneView) (f0 f1 : Found) (h : IsSelectedTo j first count p.chains pass last lanes1 was kept f0 f1) (d : Kept) where
-      abbrev to : Kept
+    module _ (was kept : List KeptPlaces) (lanes1 : List LaneView) (f0 f1 : Found) (h : IsSelectedTo j first count p.chains pass last lanes1 was kept f0 f1) (d : KeptPlaces) where
+      abbrev to : KeptPlaces
       to = get_or kept last d
 
       pub last_kept : last < length kept
@@ -390,7 +390,7 @@ module _ (j : JobView) (job : IsJob j) (first count pass : ℕ) (plan : PlanView
 
       -- ---- what it reads, and whether it can be fed that
 
-      module _ (low : f0.limit ≤ count) (to2 to3 : Kept) (lanes2 : List LaneView) (f2 f3 : Found) (s : IsServedTo j first count (inputs_fault j first u inputs) pass to.places to2 lanes2 f1 f2)
+      module _ (low : f0.limit ≤ count) (to2 to3 : KeptPlaces) (lanes2 : List LaneView) (f2 f3 : Found) (s : IsServedTo j first count (inputs_fault j first u inputs) pass to.places to2 lanes2 f1 f2)
           (held : EachPlace to2.places (AreAtHand j first lanes2 u inputs)) (t : IsServedTo j first count (unfed j first k inputs u) pass to2.places to3 lanes2 f2 f3) where
         is_second : to2.places ≡ chosen j first c f2.limit
         is_second = s.left ∙ ap (filter (λ q. nat_lt q f2.limit)) made.is ∙ narrowed passes_at f2.limit f1.limit s.lowers.falls
@@ -420,7 +420,7 @@ module _ (j : JobView) (job : IsJob j) (first count pass : ℕ) (plan : PlanView
         all_read : IsReadBelow j first lanes2 f3.limit pass
         all_read = grind (arith, one_result, is_second, in_chosen, through_is)
 
-        pub action_tried : (now : List Kept) → now ≡ slice_set kept last to3 → IsPassTried j first count plan p.chains pass lanes2 was now f0 f3
+        pub action_tried : (now : List KeptPlaces) → now ≡ slice_set kept last to3 → IsPassTried j first count plan p.chains pass lanes2 was now f0 f3
         action_tried now e =
             let w = h.ready.within in
             let a = lower in
@@ -490,7 +490,7 @@ module _ (j : JobView) (job : IsJob j) (f : ℕ) (covered : IsCovered j f) where
           ∙ ap (λ (l : List ℕ). fault_in (through_sites (site_in {M = ⊥} j e None) l)) (sym named.sites)
           ∙ ap (λ o. fault_in (through_filter (site_in {M = ⊥} j e None) o)) (sym filter_stands.1)
 
-      pub filter_tried : (first count pass : ℕ) (mid lanes : List LaneView) (was between kept : List Kept) (a b c : Found)
+      pub filter_tried : (first count pass : ℕ) (mid lanes : List LaneView) (was between kept : List KeptPlaces) (a b c : Found)
           → IsSelectedTo j first count p.chains pass s.above mid was between a b → IsSelectedTo j first count p.chains pass s.own lanes between kept b c
           → IsTriedTo j first count p.chains (filter_fault j first f) pass lanes was kept a c (IsNamedMade count plan kept f)
       filter_tried first count pass mid lanes was between kept a b c h k =
@@ -498,7 +498,7 @@ module _ (j : JobView) (job : IsJob j) (f : ℕ) (covered : IsCovered j f) where
           (λ other at. subst (λ (n : NamedSteps). IsMadeAt count kept n.above × IsMadeAt count kept n.own) (same_Some s other (same_Some (Some s) (Some other) (sym its ∙ at)))
           (k.remade s.above (λ x e. (b.limit, h.made x e, h.ready.within)), λ x e. (c.limit, k.made x e, k.ready.within)))
 
-pub filters_tried : (j : JobView) (first count : ℕ) (plan : PlanView) (chains : List Chain) (pass : ℕ) (filters fs : List ℕ) (f : ℕ) → filters ≡ f ∷ fs → (lanes after : List LaneView) (was kept now : List Kept) (a b c : Found)
+pub filters_tried : (j : JobView) (first count : ℕ) (plan : PlanView) (chains : List Chain) (pass : ℕ) (filters fs : List ℕ) (f : ℕ) → filters ≡ f ∷ fs → (lanes after : List LaneView) (was kept now : List KeptPlaces) (a b c : Found)
     → IsTriedTo j first count chains (filter_fault j first f) pass lanes was kept a b (IsNamedMade count plan kept f) → IsTriedTo j first count chains (filters_fault j first fs) pass after kept now b c (AllByRecursion (IsNamedMade count plan now) fs)
     → IsTriedTo j first count chains (filters_fault j first filters) pass after was now a c (AllByRecursion (IsNamedMade count plan now) filters)
 filters_tried j first count plan chains pass filters fs f e lanes after was kept now a b c h k =
@@ -513,7 +513,7 @@ same_report j pass own other rep rep2 = grind (arith, one_result)
 
 -- its pass was tried
 pub report_tried : (j : JobView) (job : IsJob j) (first count : ℕ) (plan : PlanView) (chains : List Chain) (pass own : ℕ) (rep : IsReportPass j pass own) (ns : List ℕ) → rep.result.covers ≡ ns → first + count ≤ length j.dataset.rows
-    → (lanes : List LaneView) (was kept : List Kept) (a b : Found) → a.limit ≤ count → IsTriedTo j first count chains (filters_fault j first ns) pass lanes was kept a b (AllByRecursion (IsNamedMade count plan kept) ns)
+    → (lanes : List LaneView) (was kept : List KeptPlaces) (a b : Found) → a.limit ≤ count → IsTriedTo j first count chains (filters_fault j first ns) pass lanes was kept a b (AllByRecursion (IsNamedMade count plan kept) ns)
     → IsPassTried j first count plan chains pass lanes was kept a b
 report_tried j job first count plan chains pass own rep ns e within lanes was kept a b low t = record {
   ready = t.ready;

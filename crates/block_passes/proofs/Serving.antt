@@ -1,9 +1,9 @@
 -- What filling sites spends, what the actions of a loop read, how filling it lowers the limit, and the lanes of what is read.
 use Rattle.lemmas.proofs.{◌++◌, take, ◌≡◌, ◌⊎◌, inl, inr, ℕ, ◌+◌, ◌<◌, Bool, true, false, List, Option, refl, sym, ◌∙◌, ap, arith, [], ◌∷◌, length, map, option_map, Some, subst, slice_get, get_or, unwrap_or, ◌≤◌, ◌&&◌, None, nat_lt, if◌then◌else◌, ℤ, pos, filter, suc, drop, drop-cons, option_and_then, get_or_from_slice_get, and_false, and_true, Decides-ltb, ltb-true, slice_get-get_or, slice_get_read, something_at, take_all, take_next, All-from_recursion, slice_get_within, each_append}
 use Rattle.block_cache.specs.{cells_at, IsSpentOver, LaneView, AreReady, AreSiteKinds, below_fault, fault_over, holds_at, is_held, IsSettled, kinds_of, lane_holds, PlaceFault, site_fault, value_of}
-use Rattle.loop_keys.specs.{HasAllDemands, job_graph, job_of, JobView, key, key_count, ArePlain, IsSourceIn, row_of, site_in, source_at, Held, IsRight, version_in, key_under, Place, place_of, row_in}
+use Rattle.loop_keys.specs.{HasAllDemands, job_graph, job_of, JobView, key, key_count, ArePlain, IsSourceIn, row_of, site_in, source_at, Held, IsRight, version_in, key_under, ValuePlace, place_of, row_in}
 use Rattle.expr_lanes.specs.{EachPlace, is_in, AreRising, at_place}
-use Rattle.block_passes.specs.{AreAtHand, AreHeldInTurn, AreLanesOf, CanGatherInTurn, CanServeWith, Demands, DemandsInputs, DemandsSource, Found, HasHeld, IsAtHand, IsDemandedAt, IsKnown, IsLaneOf, IsOver, IsSelected, IsServable, IsServedInTurn, IsServedTo, IsSettledAt, IsSpentInTurn, IsWhole, KeepsRoom, Kept, Leaves, Lowers, noted, source_fault, source_in_turn, Spends, turn_job, where_in, inputs_fault}
+use Rattle.block_passes.specs.{AreAtHand, AreHeldInTurn, AreLanesOf, CanGatherInTurn, CanServeWith, Demands, DemandsInputs, DemandsSource, Found, HasHeld, IsAtHand, IsDemandedAt, IsKnown, IsLaneOf, IsOver, IsSelected, IsServable, IsServedInTurn, IsServedTo, IsSettledAt, IsSpentInTurn, IsWhole, KeepsRoom, KeptPlaces, Leaves, Lowers, noted, source_fault, source_in_turn, Spends, turn_job, where_in, inputs_fault}
 use Rattle.block_passes.specs.declared.turn.ActionRead.{ActionRead}
 use Rattle.block_passes.specs.declared.turn.Turn.{Turn}
 use Rattle.block_passes.specs.declared.turn.Work.{Work}
@@ -20,10 +20,10 @@ use Rattle.graph_numbers.proofs.Placing.{by_test}
 use Rattle.loop_keys.proofs.ActionLaws.{plain_expr, integer_fits, numeric_fits, pair_fits, single_fits, triple_fits, weighted_fits}
 use Rattle.block_passes.proofs.PlanSteps.{left_below, over_lowers, selected_or_none, filter_twice, none_lowers, both_lower, lowers_as, or_else, last_fault}
 use Rattle.block_cache.proofs.LaneSteps.{filter_passes}
-use Rattle.expr_eval.specs.{Input, input_outcome}
+use Rattle.expr_eval.specs.{ColumnInput, input_outcome}
 use Rattle.expr_lanes.proofs.Composed.{filtered_in, in_filter, filter_all}
 use Rattle.rdf_values.proofs.KeptLemmas.{cell_of_column, column_length}
-use Rattle.actions.specs.{Lane, lane_value, Sources, SuitsAt, truth_of}
+use Rattle.actions.specs.{FedLane, lane_value, Sources, SuitsAt, truth_of}
 use Rattle.actions.specs.declared.batch.Sources.TheVariants.{One, Weighted, Pair, WeightedPair}
 
 -- ---- one after another
@@ -67,6 +67,9 @@ module _ (j : JobView) (first count : ℕ) (u : Option ℕ) (s : ℕ) (sel : Lis
 
 -- ---- What parts of a pass leave of a block, one after another.
 
+pub goes_to : {V : Type 0} {D : V → Type 0} {g : _} (at turn : Turn V D g) (pass : ℕ) → turn ≡ record at { pass = turn.pass } → record turn { pass = pass } ≡ record at { pass = pass }
+goes_to {V = V} {D = D} {g = g} at turn pass same = ap (λ (t : Turn V D g). record t { pass = pass }) same
+
 pub leaves_then : {V : Type 0} {D : V → Type 0} {g : _} (t : Turn V D g) (a b c : Work) (l m n : ℕ) → Leaves t a b l m → Leaves t b c m n → Leaves t a c l n
 leaves_then t a b c l m n h k = record {
   spends = spends_then (job_of t.job.now) t.first t.count a.lanes.items b.lanes.items c.lanes.items l m n h.spends k.spends;
@@ -107,7 +110,7 @@ module _ (f : ℕ → Option EntryFault) (j : JobView) (first count : ℕ) (u : 
       (λ i. all_settled p (ap (is_in p) below_is ∙ in_filter (λ q. nat_lt q new.limit) p sel ∙ ap (λ b. b && nat_lt p new.limit) i ∙ (Decides-ltb p new.limit).1 lt))
       (λ i. (let l = lowered.falls in settled_outside j first count u s sel before after start end spent p i (known p (omega (arith, lt, l)))))
 
-  pub filled_over : AreReady j first count after → (to : Kept) → to.limit ≡ Some new.limit → to.places ≡ below_fault fault sel → IsServedTo j first count f pass sel to after old new
+  pub filled_over : AreReady j first count after → (to : KeptPlaces) → to.limit ≡ Some new.limit → to.places ≡ below_fault fault sel → IsServedTo j first count f pass sel to after old new
   filled_over ready to limit left = record { ready = ready; settled = settled_at; lowers = lowered; its_limit = limit; left = left ∙ below_is }
 
 -- ---- what gives a version its value
@@ -127,12 +130,12 @@ source_leaves t u s limit x has sel le inside demanded old new start end spent r
 }
 
 -- what faults at no selected place lowers nothing
-pub none_served : (j : JobView) (first count : ℕ) (part : ℕ → Option EntryFault) (pass : ℕ) (to : Kept) (lanes : List LaneView) (s : Found) → AreReady j first count lanes → to.limit ≡ Some s.limit → EachPlace to.places (λ p. p < s.limit) → ((p : ℕ) → p < s.limit → IsSettledAt lanes p)
+pub none_served : (j : JobView) (first count : ℕ) (part : ℕ → Option EntryFault) (pass : ℕ) (to : KeptPlaces) (lanes : List LaneView) (s : Found) → AreReady j first count lanes → to.limit ≡ Some s.limit → EachPlace to.places (λ p. p < s.limit) → ((p : ℕ) → p < s.limit → IsSettledAt lanes p)
     → EachPlace to.places (λ p. part p ≡ None) → IsServedTo j first count part pass to.places to lanes s s
 none_served j first count part pass to lanes s ready made inside settled none = grind (arith, none_lowers, selected_or_none, filter_all, Decides-ltb)
 
 -- the places that are left were selected, and are below the limit
-module _ (j : JobView) (first count : ℕ) (part : ℕ → Option EntryFault) (pass : ℕ) (sel : List ℕ) (to : Kept) (lanes : List LaneView) (old new : Found) (h : IsServedTo j first count part pass sel to lanes old new) where
+module _ (j : JobView) (first count : ℕ) (part : ℕ → Option EntryFault) (pass : ℕ) (sel : List ℕ) (to : KeptPlaces) (lanes : List LaneView) (old new : Found) (h : IsServedTo j first count part pass sel to lanes old new) where
   pub served_among : EachPlace to.places (λ q. is_in q sel ≡ true)
   served_among q i = filtered_in (λ x. nat_lt x new.limit) q sel (sym (ap (is_in q) h.left) ∙ i)
 
@@ -144,7 +147,7 @@ module _ (j : JobView) (first count : ℕ) (part : ℕ → Option EntryFault) (p
 
 -- ---- one part after another
 
-module _ (j : JobView) (first count : ℕ) (a b : ℕ → Option EntryFault) (pass : ℕ) (sel : List ℕ) (mid to : Kept) (between lanes : List LaneView) (f0 f1 f2 : Found)
+module _ (j : JobView) (first count : ℕ) (a b : ℕ → Option EntryFault) (pass : ℕ) (sel : List ℕ) (mid to : KeptPlaces) (between lanes : List LaneView) (f0 f1 f2 : Found)
     (h : IsServedTo j first count a pass sel mid between f0 f1) (k : IsServedTo j first count b pass mid.places to lanes f1 f2) where
   below : (x : ℕ) → (nat_lt x f1.limit && nat_lt x f2.limit) ≡ nat_lt x f2.limit
   below x = grind (arith, by_test, and_true, Decides-ltb, and_false)
@@ -183,7 +186,7 @@ module _ {V : Type 0} {D : V → Type 0} {g : _} (t : Turn V D g) (lanes : List 
     (inside : s < length (graph_sites (job_graph (turn_job t)))) (p : ℕ) (low : p < t.count)
     (holds : holds_at lanes (key (job_graph (turn_job t)) s u) p ≡ true) (k : ℕ) (is : k ≡ key (job_graph (turn_job t)) s u)
     (small : k < key_count (job_graph (turn_job t))) (l : LaneView) (at : l ≡ get_or lanes k l)
-    (i : Input) (input : (c : ℕ) → input_outcome c i ≡ (if is_held l p then Gives (value_of l p) else Needs c)) where
+    (i : ColumnInput) (input : (c : ℕ) → input_outcome c i ≡ (if is_held l p then Gives (value_of l p) else Needs c)) where
   its : slice_get lanes (key (job_graph (turn_job t)) s u) ≡ Some l
   its = let many = over.ready.many in ap (slice_get lanes) (sym is) ∙ slice_get_read lanes (length lanes) k l refl (omega (arith, small, many)) at
 
@@ -196,18 +199,18 @@ module _ {V : Type 0} {D : V → Type 0} {g : _} (t : Turn V D g) (lanes : List 
   input_given : input_outcome 0 i ≡ Gives (value_of l p)
   input_given = input 0 ∙ ap (λ b. if b then Gives (value_of l p) else Needs 0) (ap (λ o. lane_holds o p) (sym its) ∙ holds)
 
-  pub input_vect : (zs : _) → i ≡ Input.Vect zs → given ≡ Gives (Value.Vect zs.now)
+  pub input_vect : (zs : _) → i ≡ ColumnInput.Vect zs → given ≡ Gives (Value.Vect zs.now)
   input_vect zs e = grind (arith, gives, input_given)
 
-  pub never_stops : ((x : EntryFault) × (i ≡ Input.Faulted x)) ⊎ (i ≡ Input.Missing) → ⊥
+  pub never_stops : ((x : EntryFault) × (i ≡ ColumnInput.Faulted x)) ⊎ (i ≡ ColumnInput.Missing) → ⊥
   never_stops h = grind (arith, input_given)
 
   pub vect_only : slice_get (kinds_of lanes) (key (job_graph (turn_job t)) s u) ≡ Some ColType.Vect →
-      ((x : ℤ) × (i ≡ Input.Int x)) ⊎ (((x : Bool) × (i ≡ Input.Bool x)) ⊎ (((x : EntryFault) × (i ≡ Input.Faulted x)) ⊎ (i ≡ Input.Missing))) → ⊥
+      ((x : ℤ) × (i ≡ ColumnInput.Int x)) ⊎ (((x : Bool) × (i ≡ ColumnInput.Bool x)) ⊎ (((x : EntryFault) × (i ≡ ColumnInput.Faulted x)) ⊎ (i ≡ ColumnInput.Missing))) → ⊥
   vect_only vectors h = grind (arith, input_given, never_stops, got_kind, its)
 
   -- what has no elements has 0 for each
-  pub scalar_input : (tags n : ℕ) → ((x : ℤ) × (i ≡ Input.Int x)) ⊎ ((x : Bool) × (i ≡ Input.Bool x)) → (given >>= tag_element tags n) ≡ Gives (Value.Int (pos 0))
+  pub scalar_input : (tags n : ℕ) → ((x : ℤ) × (i ≡ ColumnInput.Int x)) ⊎ ((x : Bool) × (i ≡ ColumnInput.Bool x)) → (given >>= tag_element tags n) ≡ Gives (Value.Int (pos 0))
   scalar_input tags n h = grind (arith, gives, input_given)
 
 pub no_number : (o : Outcome ⊥ Value) (k : EntryFault) → (v : Value) × (o ≡ Gives v) → o ≡ Faults k → ⊥
@@ -226,7 +229,7 @@ kind_got cs now e i lt d t is = ap (option_map (λ (c : Column). c.kind)) (slice
 
 -- ---- the site is filled, and then its elements are tested
 
-module _ (j : JobView) (first count : ℕ) (u : Option ℕ) (s n tags pass : ℕ) (sel : List ℕ) (mid to : Kept) (between lanes : List LaneView) (f0 f1 f2 : Found)
+module _ (j : JobView) (first count : ℕ) (u : Option ℕ) (s n tags pass : ℕ) (sel : List ℕ) (mid to : KeptPlaces) (between lanes : List LaneView) (f0 f1 f2 : Found)
     (h : IsServedTo j first count (site_fault j first u s) pass sel mid between f0 f1) (k : IsServedTo j first count (source_fault j first u (Source.Element s n tags)) pass mid.places to lanes f1 f2) where
   pub element_served : IsServedTo j first count (source_fault j first u (Source.Element s n tags)) pass sel to lanes f0 f2
   element_served =
@@ -258,7 +261,7 @@ none_given : (o : Outcome ⊥ Value) (X : Type 0) → fault_in o ≡ None → If
 none_given o X h x = grind arith
 
 -- so many of the versions were served at the places of a selection, and what is left of it
-pub record AreServedTo {V : Type 0} {D : V → Type 0} {g : _} (t : Turn V D g) (u : Option ℕ) (inputs sel : List ℕ) (old : Work) (start n : ℕ) (w : Work) (to : Kept) (steps : ℕ) : Type 0 where
+pub record AreServedTo {V : Type 0} {D : V → Type 0} {g : _} (t : Turn V D g) (u : Option ℕ) (inputs sel : List ℕ) (old : Work) (start n : ℕ) (w : Work) (to : KeptPlaces) (steps : ℕ) : Type 0 where
   pub leaves : Leaves t old w start steps
   pub known : IsKnown t w
   pub selected : IsSelected w.found.limit to
@@ -267,7 +270,7 @@ pub record AreServedTo {V : Type 0} {D : V → Type 0} {g : _} (t : Turn V D g) 
   pub held : EachPlace to.places (AreAtHand (turn_job t) t.first w.lanes.items u (take n inputs))
 
 module _ {V : Type 0} {D : V → Type 0} {g : _} (t : Turn V D g) (u : Option ℕ) (inputs : List ℕ) where
-  pub begin_served : (w : Work) (to : Kept) (steps : ℕ) → IsKnown t w → IsSelected w.found.limit to
+  pub begin_served : (w : Work) (to : KeptPlaces) (steps : ℕ) → IsKnown t w → IsSelected w.found.limit to
       → ((p : ℕ) (T : ℕ → Bool) → is_in p to.places ≡ true → HasAllDemands (turn_job t) (t.first + p) T → DemandsInputs (turn_job t) (t.first + p) u T inputs) → AreServedTo t u inputs to.places w steps 0 w to steps
   begin_served w to steps known selected demanded = record {
     leaves = record { spends = spends_none (turn_job t) t.first t.count w.lanes.items steps; scratch = refl; levels = refl };
@@ -278,9 +281,9 @@ module _ {V : Type 0} {D : V → Type 0} {g : _} (t : Turn V D g) (u : Option �
     held = λ p i. tt;
   }
 
-  module _ (sel : List ℕ) (old : Work) (start n : ℕ) (w : Work) (to : Kept) (steps : ℕ) (h : AreServedTo t u inputs sel old start n w to steps) where
+  module _ (sel : List ℕ) (old : Work) (start n : ℕ) (w : Work) (to : KeptPlaces) (steps : ℕ) (h : AreServedTo t u inputs sel old start n w to steps) where
     -- the next one is served
-    pub next_served : n < length inputs → (now : Work) (left : Kept) (after : ℕ) → Leaves t w now steps after → IsServedInTurn t (source_fault (turn_job t) t.first u (source_in_turn t u (get_or inputs n 0))) to.places left now.lanes.items w.found now.found
+    pub next_served : n < length inputs → (now : Work) (left : KeptPlaces) (after : ℕ) → Leaves t w now steps after → IsServedInTurn t (source_fault (turn_job t) t.first u (source_in_turn t u (get_or inputs n 0))) to.places left now.lanes.items w.found now.found
         → EachPlace left.places (λ p. IsAtHand (turn_job t) t.first now.lanes.items u p (source_in_turn t u (get_or inputs n 0))) → AreServedTo t u inputs sel old start (n + 1) now left after
     next_served low now left after l s one =
         let j = turn_job t in
@@ -352,41 +355,41 @@ three_given : (f : ℕ → Outcome ⊥ Value) (cs : List ℕ) → length cs ≡ 
 three_given f (a ∷ b ∷ c ∷ []) e v w x p q r = λ i. p i >>= λ y. (q i >>= λ z. (r i >>= λ s. Gives (s ∷ [])) >>= λ ys. Gives (z ∷ ys)) >>= λ ys. Gives (y ∷ ys)
 three_given f cs e v w x p q r = absurd (omega (arith, e))
 
-suits_one : (k : ActionKind) (x : Lane) (place : ℕ) → length (columns_of k) ≡ 1 → FitsFeed k (lane_value x place ∷ []) → SuitsAt k (One x) place
+suits_one : (k : ActionKind) (x : FedLane) (place : ℕ) → length (columns_of k) ≡ 1 → FitsFeed k (lane_value x place ∷ []) → SuitsAt k (One x) place
 suits_one k x place n f = grind (arith, numeric_fits, single_fits, integer_fits)
 
-suits_weighted : (k : ActionKind) (edges : List ℤ) (c n : List ℕ) (x w : Lane) (place : ℕ) → k ≡ ActionKind.Histo1D edges c (Some n) → FitsFeed k (lane_value x place ∷ lane_value w place ∷ [])
+suits_weighted : (k : ActionKind) (edges : List ℤ) (c n : List ℕ) (x w : FedLane) (place : ℕ) → k ≡ ActionKind.Histo1D edges c (Some n) → FitsFeed k (lane_value x place ∷ lane_value w place ∷ [])
     → SuitsAt k (Weighted x w) place
 suits_weighted k edges c n x w place e f = rw e (let g = rw e at f in weighted_fits g.kinds (lane_value x place) (lane_value w place) g.permitted g.fit)
 
-suits_pair : (k : ActionKind) (xs ys : List ℤ) (c d : List ℕ) (x y : Lane) (place : ℕ) → k ≡ ActionKind.Histo2D xs ys c d None → FitsFeed k (lane_value x place ∷ lane_value y place ∷ [])
+suits_pair : (k : ActionKind) (xs ys : List ℤ) (c d : List ℕ) (x y : FedLane) (place : ℕ) → k ≡ ActionKind.Histo2D xs ys c d None → FitsFeed k (lane_value x place ∷ lane_value y place ∷ [])
     → SuitsAt k (Pair x y) place
 suits_pair k xs ys c d x y place e f = rw e (let g = rw e at f in pair_fits g.kinds (lane_value x place) (lane_value y place) g.permitted g.fit)
 
-suits_triple : (k : ActionKind) (xs ys : List ℤ) (c d n : List ℕ) (x y w : Lane) (place : ℕ) → k ≡ ActionKind.Histo2D xs ys c d (Some n)
+suits_triple : (k : ActionKind) (xs ys : List ℤ) (c d n : List ℕ) (x y w : FedLane) (place : ℕ) → k ≡ ActionKind.Histo2D xs ys c d (Some n)
     → FitsFeed k (lane_value x place ∷ lane_value y place ∷ lane_value w place ∷ []) → SuitsAt k (WeightedPair x y w) place
 suits_triple k xs ys c d n x y w place e f = rw e (let g = rw e at f in triple_fits g.kinds (lane_value x place) (lane_value y place) (lane_value w place) g.permitted g.fit)
 
 module _ {V : Type 0} {D : V → Type 0} {g : _} (t : Turn V D g) (own : ActionRead) (lanes : List LaneView) (can : CanGatherInTurn t own lanes)
     (place : ℕ) (low : place < t.count) (hand : AreHeldInTurn t own lanes place) where
   -- the lane is of the version of that number, where that is at hand
-  abbrev Has : ℕ → Lane → Type 0
+  abbrev Has : ℕ → FedLane → Type 0
   Has n x = IsAtHand (turn_job t) t.first lanes own.under place (source_in_turn t own.under (get_or own.inputs.now n 0))
       → IsLaneOf (version_in {M = ⊥} (turn_job t) (t.first + place) own.under (get_or own.inputs.now n 0)) x place
 
   abbrev AreLanes : Sources → Type 0
   AreLanes s = AreLanesOf (for_all (version_in {M = ⊥} (turn_job t) (t.first + place) own.under) own.inputs.now) own.kind.now s place
 
-  pub lanes_one : (x : Lane) → length own.inputs.now ≡ 1 → Has 0 x → AreLanes (One x)
+  pub lanes_one : (x : FedLane) → length own.inputs.now ≡ 1 → Has 0 x → AreLanes (One x)
   lanes_one x e lx = grind (arith, All-from_recursion, one_given, suits_one, can.fits place)
 
-  pub lanes_weighted : (x w : Lane) (edges : List ℤ) (c n : List ℕ) → own.kind.now ≡ ActionKind.Histo1D edges c (Some n) → Has 0 x → Has 1 w → AreLanes (Weighted x w)
+  pub lanes_weighted : (x w : FedLane) (edges : List ℤ) (c n : List ℕ) → own.kind.now ≡ ActionKind.Histo1D edges c (Some n) → Has 0 x → Has 1 w → AreLanes (Weighted x w)
   lanes_weighted x w edges c n e lx lw = grind (arith, All-from_recursion, two_given, suits_weighted, can.fits place)
 
-  pub lanes_pair : (x y : Lane) (xs ys : List ℤ) (c d : List ℕ) → own.kind.now ≡ ActionKind.Histo2D xs ys c d None → Has 0 x → Has 1 y → AreLanes (Pair x y)
+  pub lanes_pair : (x y : FedLane) (xs ys : List ℤ) (c d : List ℕ) → own.kind.now ≡ ActionKind.Histo2D xs ys c d None → Has 0 x → Has 1 y → AreLanes (Pair x y)
   lanes_pair x y xs ys c d e lx ly = grind (arith, All-from_recursion, two_given, suits_pair, can.fits place)
 
-  pub lanes_triple : (x y w : Lane) (xs ys : List ℤ) (c d n : List ℕ) → own.kind.now ≡ ActionKind.Histo2D xs ys c d (Some n) → Has 0 x → Has 1 y → Has 2 w
+  pub lanes_triple : (x y w : FedLane) (xs ys : List ℤ) (c d n : List ℕ) → own.kind.now ≡ ActionKind.Histo2D xs ys c d (Some n) → Has 0 x → Has 1 y → Has 2 w
       → AreLanes (WeightedPair x y w)
   lanes_triple x y w xs ys c d n e lx ly lw = grind (arith, All-from_recursion, three_given, suits_triple, can.fits place)
 
@@ -407,10 +410,10 @@ pub ruleset key_laws = (int_held, bool_held, vector_kind, slice_get_read)
 
 -- ---- where a version stands
 
-pub cell_source : (f : ℕ → ℕ) (x : Source) (col : ℕ) → place_of f x ≡ Place.Cell col → x ≡ Source.Cell col
+pub cell_source : (f : ℕ → ℕ) (x : Source) (col : ℕ) → place_of f x ≡ ValuePlace.Cell col → x ≡ Source.Cell col
 cell_source f x col e = grind arith
 
-pub element_source : (f : ℕ → ℕ) (x : Source) (k i n : ℕ) → place_of f x ≡ Place.Element k i n → (s : ℕ) × (x ≡ Source.Element s i n)
+pub element_source : (f : ℕ → ℕ) (x : Source) (k i n : ℕ) → place_of f x ≡ ValuePlace.Element k i n → (s : ℕ) × (x ≡ Source.Element s i n)
 element_source f (Source.Element s a b) k i n e = let first : a ≡ i = cc e in let second : b ≡ n = cc e in (s, λ t. Source.Element s (first t) (second t))
 element_source f x k i n e = cc e
 
@@ -419,7 +422,7 @@ pub ruleset place_laws = (cell_source, element_source)
 -- a site that is read
 module _ {V : Type 0} {D : V → Type 0} {g : _} (t : Turn V D g) (lanes : List LaneView) (over : IsOver t lanes) (u : Option ℕ) (version : ℕ)
     (can : (scratch levels : ℕ) × CanServeWith t u lanes scratch levels version)
-    (k : ℕ) (stood : place_of (key_under (job_graph (turn_job t)) u) (source_in_turn t u version) ≡ Place.Key k) where
+    (k : ℕ) (stood : place_of (key_under (job_graph (turn_job t)) u) (source_in_turn t u version) ≡ ValuePlace.Key k) where
   abbrev j : JobView
   j = turn_job t
 
@@ -432,7 +435,7 @@ module _ {V : Type 0} {D : V → Type 0} {g : _} (t : Turn V D g) (lanes : List 
   pub key_inside : k < length lanes
   key_inside = let many = over.ready.many in let small = key_small (job_graph j) site_is.0 u site_inside in let same = site_is.2 in omega (arith, many, small, same)
 
-  pub lane_gives : (fed : Lane) → ((l : LaneView) → slice_get lanes k ≡ Some l → HasHeld l fed)
+  pub lane_gives : (fed : FedLane) → ((l : LaneView) → slice_get lanes k ≡ Some l → HasHeld l fed)
       → (p : ℕ) → p < t.count → IsAtHand j t.first lanes u p (source_in_turn t u version) → IsLaneOf (version_in {M = ⊥} j (t.first + p) u version) fed p
   lane_gives fed has p low hand =
       let got = something_at lanes k key_inside in

@@ -3,7 +3,7 @@ use Rattle.std.specs.Prelude.{◌≡◌, ◌<◌, ◌≤◌, ◌+◌, ℕ, ℤ, 
 use Rattle.std.specs.List.{slice_range, AllByRecursion}
 use Rattle.rdf_values.specs.{ActionKind, ColType, columns_of, EntryFault, Span, Value}
 use Rattle.rdf_model.specs.{Faults, FitsFeed, for_all, Gives, Outcome}
-use Rattle.actions.specs.{HasPlace, HasValues, Lane, lane_value, PlaceFault as BatchFault, Sources, span_at, SuitsAt, values_at, Batch, places_of}
+use Rattle.actions.specs.{HasPlace, HasValues, FedLane, lane_value, BatchFault, Sources, span_at, SuitsAt, values_at, Batch, places_of}
 use Rattle.expr_lanes.specs.{at_place, is_in}
 use Rattle.loop_keys.specs.{JobView, version_in, job_graph, pass_fault, passes_in}
 use Rattle.block_passes.specs.Clusters.{entries_from, IsBlockOf}
@@ -14,7 +14,7 @@ use Rattle.graph_numbers.specs.{FilterAt, graph_filters}
 use Rattle.cluster_tally.specs.{BlockStage, CanFeedBatch, TallyView}
 use Rattle.block_passes.specs.Plans.{PlanView, Chain}
 use Rattle.block_passes.specs.Tries.{AreKept, IsOverAll, IsReadBelow, IsReadOf}
-use Rattle.block_passes.specs.declared.turn.Kept.{Kept}
+use Rattle.block_passes.specs.declared.turn.KeptPlaces.{KeptPlaces}
 use Rattle.block_passes.specs.declared.plan.NamedSteps.{NamedSteps}
 use Rattle.rdf_model.specs.declared.loop_facts.LoopFacts.{LoopFacts}
 
@@ -40,12 +40,12 @@ GivesVector elements spans p o = (vector : List ℤ) × HasVector elements spans
 -- ---- What the passes of a block feed.
 
 -- the lane has what the outcome gives at the place
-pub record IsLaneOf (o : Outcome ⊥ Value) (l : Lane) (p : ℕ) : Type 0 where
+pub record IsLaneOf (o : Outcome ⊥ Value) (l : FedLane) (p : ℕ) : Type 0 where
   pub there : HasPlace l p
   pub value : o ≡ Gives (lane_value l p)
 
 -- the lane has what is held of a key at each place of its block
-abbrev pub HasHeld : LaneView → Lane → Type 0
+abbrev pub HasHeld : LaneView → FedLane → Type 0
 HasHeld l fed = (p : ℕ) → p < l.count → HasPlace fed p × (lane_value fed p ≡ value_of l p)
 
 -- so have the lanes of all that an action reads, and it takes these values
@@ -82,7 +82,7 @@ abbrev pub at_filter : BlockStage → ℕ → BlockStage
 at_filter s n = record { done = s.done; cluster = s.cluster; entries = s.entries; block = s.block; passes = s.passes; filters = n }
 
 -- the selections of each named filter that is covered were made over all of a block, and none of the filters faults in it
-pub record AreCountable (j : JobView) (first count : ℕ) (chains : List Chain) (p : PlanView) (kept : List Kept) : Type 0 where
+pub record AreCountable (j : JobView) (first count : ℕ) (chains : List Chain) (p : PlanView) (kept : List KeptPlaces) : Type 0 where
   pub kept_are : AreKept j first chains count kept
   pub above : (f : ℕ) (x : FilterAt) (s : NamedSteps) → slice_get (graph_filters (job_graph j)) f ≡ Some x → slice_get p.filters f ≡ Some (Some s) → IsOverAll count kept s.above
   pub own : (f : ℕ) (x : FilterAt) (s : NamedSteps) → slice_get (graph_filters (job_graph j)) f ≡ Some x → slice_get p.filters f ≡ Some (Some s) → IsOverAll count kept s.own
@@ -93,7 +93,7 @@ at_pass s n = record { done = s.done; cluster = s.cluster; entries = s.entries; 
 
 -- no pass faults at any place; the selections of all steps that are fed or counted were made over all of the block; and what the
 -- actions read is at hand where their filters are passed
-pub record IsClear (j : JobView) (first count : ℕ) (chains : List Chain) (p : PlanView) (lanes : List LaneView) (kept : List Kept) : Type 0 where
+pub record IsClear (j : JobView) (first count : ℕ) (chains : List Chain) (p : PlanView) (lanes : List LaneView) (kept : List KeptPlaces) : Type 0 where
   pub ready : AreReady j first count lanes
   pub countable : AreCountable j first count chains p kept
   pub clear : (n q : ℕ) → n < length (passes_in j) → q < count → pass_fault j (first + q) n ≡ None

@@ -7,7 +7,7 @@ use Rattle.loop_keys.specs.{AreKeys, ArePlainVersions, Fits, Job, job_graph, job
 use Rattle.rdf_model.specs.{for_all}
 use Rattle.block_passes.specs.Plans.{IsPlan, PlanView, Chain}
 use Rattle.block_passes.specs.Inputs.{IsSettledAt, Spends, AreAtHand, IsWhole, CanServe, IsServedTo}
-use Rattle.block_passes.specs.declared.turn.Kept.{Kept}
+use Rattle.block_passes.specs.declared.turn.KeptPlaces.{KeptPlaces}
 use Rattle.block_passes.specs.declared.turn.Turn.{Turn}
 use Rattle.block_passes.specs.declared.turn.Work.{Work}
 use Rattle.rdf_values.specs.{EntryFault}
@@ -16,7 +16,7 @@ use Rattle.cluster_tally.specs.{BlockStage}
 use Rattle.graph_numbers.specs.{Source}
 use Rattle.block_passes.specs.Feeds.{AreLanesOf, CanGather, GivesNumber, GivesVector, IsAmid, IsClear, unfed}
 use Rattle.block_passes.specs.Tries.{CanSelect, CanServeAll, IsReadyBelow, IsSelectedTo}
-use Rattle.block_passes.specs.declared.copies.Copied.{Copied}
+use Rattle.block_passes.specs.declared.copies.CopiedVersion.{CopiedVersion}
 use Rattle.block_passes.specs.declared.copies.Copies.{Copies}
 use Rattle.block_passes.specs.declared.turn.Found.{Found}
 use Rattle.block_passes.specs.declared.turn.ActionRead.{ActionRead}
@@ -47,7 +47,7 @@ pub record IsKnown {V : Type 0} {D : V → Type 0} {g : _} (t : Turn V D g) (w :
   pub settled : (p : ℕ) → p < w.found.limit → IsSettledAt w.lanes.items p
 
 -- the selection was made below the limit
-pub record IsSelected (limit : ℕ) (to : Kept) : Type 0 where
+pub record IsSelected (limit : ℕ) (to : KeptPlaces) : Type 0 where
   pub made : to.limit ≡ Some limit
   pub inside : EachPlace to.places (λ p. p < limit)
 
@@ -106,26 +106,26 @@ module _ {V : Type 0} {D : V → Type 0} {g : _} (t : Turn V D g) where
   IsSpentInTurn under site sel old new = IsSpentOver turn_job t.first under site sel old.lanes.items new.lanes.items
 
   -- the selections are right below a limit
-  abbrev pub IsReadyInTurn : List Chain → ℕ → List LaneView → List Kept → Type 0
+  abbrev pub IsReadyInTurn : List Chain → ℕ → List LaneView → List KeptPlaces → Type 0
   IsReadyInTurn = IsReadyBelow turn_job t.first t.count
 
   -- no pass has a fault
-  abbrev pub IsClearInTurn : List Chain → List LaneView → List Kept → Type 0
+  abbrev pub IsClearInTurn : List Chain → List LaneView → List KeptPlaces → Type 0
   IsClearInTurn chains = IsClear turn_job t.first t.count chains t.plan.now
 
   -- a selection is served up to its first fault
-  abbrev pub IsServedInTurn : (ℕ → Option EntryFault) → List ℕ → Kept → List LaneView → Found → Found → Type 0
+  abbrev pub IsServedInTurn : (ℕ → Option EntryFault) → List ℕ → KeptPlaces → List LaneView → Found → Found → Type 0
   IsServedInTurn fault = IsServedTo turn_job t.first t.count fault t.pass
 
   -- a step is selected
-  abbrev pub IsSelectedInTurn : List Chain → ℕ → List LaneView → List Kept → List Kept → Found → Found → Type 0
+  abbrev pub IsSelectedInTurn : List Chain → ℕ → List LaneView → List KeptPlaces → List KeptPlaces → Found → Found → Type 0
   IsSelectedInTurn chains = IsSelectedTo turn_job t.first t.count chains t.pass
 
   -- nothing is copied of a version that is read in place; else there is what it gives at each place of the selection
-  abbrev pub IsCopyInTurn : Option ℕ → List LaneView → List ℕ → ℕ → Copied → Type 0
-  IsCopyInTurn u lanes sel c Copied.Whole = IsWhole turn_job u (kinds_of lanes) (source_in_turn u c)
-  IsCopyInTurn u lanes sel c (Copied.Numbers numbers) = EachPlace sel (λ p. GivesNumber numbers.items p (version_in turn_job (t.first + p) u c))
-  IsCopyInTurn u lanes sel c (Copied.Vectors vectors) = EachPlace sel (λ p. GivesVector vectors.elements.items vectors.spans.items p (version_in turn_job (t.first + p) u c))
+  abbrev pub IsCopyInTurn : Option ℕ → List LaneView → List ℕ → ℕ → CopiedVersion → Type 0
+  IsCopyInTurn u lanes sel c CopiedVersion.Whole = IsWhole turn_job u (kinds_of lanes) (source_in_turn u c)
+  IsCopyInTurn u lanes sel c (CopiedVersion.Numbers numbers) = EachPlace sel (λ p. GivesNumber numbers.items p (version_in turn_job (t.first + p) u c))
+  IsCopyInTurn u lanes sel c (CopiedVersion.Vectors vectors) = EachPlace sel (λ p. GivesVector vectors.elements.items vectors.spans.items p (version_in turn_job (t.first + p) u c))
 
 -- ---- of what an action reads
 

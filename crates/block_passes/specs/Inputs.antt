@@ -8,7 +8,7 @@ use Rattle.block_cache.specs.{AreReady, CanFill, cells_at, HasColumn, holds_at, 
 use Rattle.loop_keys.specs.{IsSourceIn, job_graph, JobView, key, key_count, row_of, site_in, source_at, version_in, Grows, HasAllDemands, HasAllKeys, IsClosed}
 use Rattle.block_passes.specs.Searches.{Lowers, where_in}
 use Rattle.block_passes.specs.declared.turn.Found.{Found}
-use Rattle.block_passes.specs.declared.turn.Kept.{Kept}
+use Rattle.block_passes.specs.declared.turn.KeptPlaces.{KeptPlaces}
 
 -- what was held is held as it was, only what the loop demands is newly begun, and each evaluation that is newly begun was made twice at
 -- most
@@ -88,7 +88,7 @@ inputs_fault j first u inputs p = fault_in (for_all (version_in {M = ⊥} j (fir
 
 -- a part of a pass was tried at the places of a selection, with the fault of each place in it: the first that faults lowers the limit,
 -- below which the places are left; what is held is right, and below the limit all that was begun is held
-pub record IsServedTo (j : JobView) (first count : ℕ) (part : ℕ → Option EntryFault) (pass : ℕ) (sel : List ℕ) (to : Kept) (lanes : List LaneView) (old new : Found) : Type 0 where
+pub record IsServedTo (j : JobView) (first count : ℕ) (part : ℕ → Option EntryFault) (pass : ℕ) (sel : List ℕ) (to : KeptPlaces) (lanes : List LaneView) (old new : Found) : Type 0 where
   pub ready : AreReady j first count lanes
   pub settled : (p : ℕ) → p < new.limit → IsSettledAt lanes p
   pub lowers : Lowers (where_in part sel) first pass old new

@@ -19,4 +19,4 @@ pub use declared.plan.NamedSteps.{NamedSteps}
 pub use declared.plan.Step.{Step}
 pub use declared.turn.BlockStop.{BlockStop}
 pub use declared.turn.Found.{Found}
-pub use declared.turn.Kept.{Kept}
+pub use declared.turn.KeptPlaces.{KeptPlaces}

@@ -10,7 +10,7 @@ use Rattle.loop_keys.specs.{AreKeys, job_graph, JobView, key, key_count, Row}
 use Rattle.block_passes.specs.Plans.{IsPlan, PlanView}
 use Rattle.block_passes.specs.Tries.{CanSelect, IsReadyBelow, CanServeAll}
 use Rattle.block_passes.specs.declared.turn.Found.{Found}
-use Rattle.block_passes.specs.declared.turn.Kept.{Kept}
+use Rattle.block_passes.specs.declared.turn.KeptPlaces.{KeptPlaces}
 
 -- how many places a block has at most; the plan; where what is read stands; the numbers of the table's columns; what is known of each key;
 -- how many levels there are for evaluations and for sites within one another; the search; and the selection of each step
@@ -23,7 +23,7 @@ pub record StateView : Type 0 where
   pub scratch : ℕ
   pub levels : ℕ
   pub found : Found
-  pub kept : List Kept
+  pub kept : List KeptPlaces
 
 -- so many levels are enough for each site's expression
 abbrev pub AreDeepEnough : GraphView → ℕ → Type 0

@@ -8,7 +8,7 @@ use Rattle.loop_keys.specs.{IsReportPass, job_graph, JobView, key, pass_fault, s
 use Rattle.block_passes.specs.Searches.{where_passed, Lowers, IsSearched}
 use Rattle.block_passes.specs.Plans.{chain_at, PlanView, through_chain, Chain, IsActionOf}
 use Rattle.block_passes.specs.declared.turn.Found.{Found}
-use Rattle.block_passes.specs.declared.turn.Kept.{Kept}
+use Rattle.block_passes.specs.declared.turn.KeptPlaces.{KeptPlaces}
 use Rattle.block_passes.specs.declared.plan.Step.{Step}
 use Rattle.graph_numbers.specs.{graph_filters, Pass as NumberedPass, report_numbers, ResultAt, through_filter, through_sites}
 use Rattle.block_passes.specs.Inputs.{AreAtHand, CanServe, IsServedTo, IsSettledAt}
@@ -25,45 +25,45 @@ pub record IsMade (j : JobView) (first : ℕ) (c : Chain) (limit made : ℕ) (pl
   pub clear : (p : ℕ) → p < limit → fault_in (through_chain j (first + p) c) ≡ None
 
 -- a selection for each chain, right where it was made
-pub record AreKept (j : JobView) (first : ℕ) (chains : List Chain) (limit : ℕ) (kept : List Kept) : Type 0 where
+pub record AreKept (j : JobView) (first : ℕ) (chains : List Chain) (limit : ℕ) (kept : List KeptPlaces) : Type 0 where
   pub many : length kept ≡ length chains
-  pub each : (k made : ℕ) (s : Kept) → slice_get kept k ≡ Some s → s.limit ≡ Some made → IsMade j first (chain_at chains k) limit made s.places
+  pub each : (k made : ℕ) (s : KeptPlaces) → slice_get kept k ≡ Some s → s.limit ≡ Some made → IsMade j first (chain_at chains k) limit made s.places
 
 -- what is known of a block before or after a part of a pass: what is held is right, below the limit all that was begun is held, and the
 -- selections are right
-pub record IsReadyBelow (j : JobView) (first count : ℕ) (chains : List Chain) (limit : ℕ) (lanes : List LaneView) (kept : List Kept) : Type 0 where
+pub record IsReadyBelow (j : JobView) (first count : ℕ) (chains : List Chain) (limit : ℕ) (lanes : List LaneView) (kept : List KeptPlaces) : Type 0 where
   pub ready : AreReady j first count lanes
   pub settled : (p : ℕ) → p < limit → IsSettledAt lanes p
   pub kept_are : AreKept j first chains limit kept
   pub within : limit ≤ count
 
 -- left are the places below the limit, unless it is no lower than where the selection was made
-abbrev pub IsNarrowed : ℕ → ℕ → Kept → Kept → Type 0
+abbrev pub IsNarrowed : ℕ → ℕ → KeptPlaces → KeptPlaces → Type 0
 IsNarrowed limit made old new = ((made ≤ limit) × (new ≡ old)) ⊎ ((limit < made) × (new.limit ≡ Some limit) × (new.places ≡ filter (λ p. nat_lt p limit) old.places))
 
 -- the selection of a step was made, below a limit of so many places at most
-abbrev pub IsMadeAt : ℕ → List Kept → ℕ → Type 0
-IsMadeAt count kept k = (m : Kept) → slice_get kept k ≡ Some m → (limit : ℕ) × (m.limit ≡ Some limit) × (limit ≤ count)
+abbrev pub IsMadeAt : ℕ → List KeptPlaces → ℕ → Type 0
+IsMadeAt count kept k = (m : KeptPlaces) → slice_get kept k ≡ Some m → (limit : ℕ) × (m.limit ≡ Some limit) × (limit ≤ count)
 
 -- each that was made still is
-abbrev pub AreRemade : ℕ → List Kept → List Kept → Type 0
+abbrev pub AreRemade : ℕ → List KeptPlaces → List KeptPlaces → Type 0
 AreRemade count old new = (k : ℕ) → IsMadeAt count old k → IsMadeAt count new k
 
 -- the selection of a step was made over all of so many places
-abbrev pub IsOverAll : ℕ → List Kept → ℕ → Type 0
-IsOverAll count kept k = (m : Kept) → slice_get kept k ≡ Some m → m.limit ≡ Some count
+abbrev pub IsOverAll : ℕ → List KeptPlaces → ℕ → Type 0
+IsOverAll count kept k = (m : KeptPlaces) → slice_get kept k ≡ Some m → m.limit ≡ Some count
 
 -- a part of a pass was tried at the places below the limit, which its first fault lowered; below the new limit all is as before, and what
 -- the part makes was made
-pub record IsTriedTo (j : JobView) (first count : ℕ) (chains : List Chain) (part : ℕ → Option EntryFault) (pass : ℕ) (lanes : List LaneView) (was kept : List Kept) (old new : Found) (Made : Type 0) : Type 0 where
+pub record IsTriedTo (j : JobView) (first count : ℕ) (chains : List Chain) (part : ℕ → Option EntryFault) (pass : ℕ) (lanes : List LaneView) (was kept : List KeptPlaces) (old new : Found) (Made : Type 0) : Type 0 where
   pub ready : IsReadyBelow j first count chains new.limit lanes kept
   pub lowers : Lowers part first pass old new
   pub remade : AreRemade count was kept
   pub made : Made
 
 -- the places of a selection that pass the filter of a site are left below the first that faults in it, which lowers the limit
-pub record IsFilteredTo (j : JobView) (first count : ℕ) (u : Option ℕ) (s pass : ℕ) (sel : List ℕ) (to : Kept) (lanes : List LaneView) (old new : Found) : Type 0 where
-  pub tried : Kept
+pub record IsFilteredTo (j : JobView) (first count : ℕ) (u : Option ℕ) (s pass : ℕ) (sel : List ℕ) (to : KeptPlaces) (lanes : List LaneView) (old new : Found) : Type 0 where
+  pub tried : KeptPlaces
   pub served : IsServedTo j first count (λ p. fault_in (truth_in j (first + p) u s)) pass sel tried lanes old new
   pub its_limit : to.limit ≡ Some new.limit
   pub left : to.places ≡ filter (λ p. is_true (truth_in j (first + p) u s)) tried.places
@@ -76,12 +76,12 @@ pub record CanSelect (j : JobView) (first count : ℕ) (plan : PlanView) (kinds 
   pub truths : (k parent site : ℕ) (u : Option ℕ) → slice_get plan.steps k ≡ Some (Step.Filter parent site u) → slice_get kinds (key (job_graph j) site u) ≡ Some ColType.Bool
 
 -- the selection of a step was made below the limit, which its filters lowered
-abbrev pub IsSelectedTo : JobView → ℕ → ℕ → List Chain → ℕ → ℕ → List LaneView → List Kept → List Kept → Found → Found → Type 0
+abbrev pub IsSelectedTo : JobView → ℕ → ℕ → List Chain → ℕ → ℕ → List LaneView → List KeptPlaces → List KeptPlaces → Found → Found → Type 0
 IsSelectedTo j first count chains pass step lanes was kept old new =
     IsTriedTo j first count chains (λ p. fault_in (through_chain j (first + p) (chain_at chains step))) pass lanes was kept old new (IsOverAll new.limit kept step)
 
 -- likewise of a step with one more filter than the step of the parent, which was selected below the limit
-abbrev pub IsNextSelected : JobView → ℕ → ℕ → List Chain → ℕ → ℕ → ℕ → ℕ → Option ℕ → List LaneView → List Kept → List Kept → Found → Found → Type 0
+abbrev pub IsNextSelected : JobView → ℕ → ℕ → List Chain → ℕ → ℕ → ℕ → ℕ → Option ℕ → List LaneView → List KeptPlaces → List KeptPlaces → Found → Found → Type 0
 IsNextSelected j first count chains pass step parent site u lanes was kept old new =
     IsTriedTo j first count chains (λ p. where_passed (through_chain j (first + p) (chain_at chains parent)) (fault_in (truth_in j (first + p) u site))) pass lanes was kept old new (IsOverAll new.limit kept step)
 
@@ -111,18 +111,18 @@ abbrev pub filters_fault : JobView → ℕ → List ℕ → ℕ → Option Entry
 filters_fault j first fs p = fault_in (report_numbers (site_in {M = ⊥} j (first + p) None) (graph_filters (job_graph j)) fs)
 
 -- the selections of a named filter's steps were made
-abbrev pub IsNamedMade : ℕ → PlanView → List Kept → ℕ → Type 0
+abbrev pub IsNamedMade : ℕ → PlanView → List KeptPlaces → ℕ → Type 0
 IsNamedMade count plan kept f = (s : NamedSteps) → slice_get plan.filters f ≡ Some (Some s) → IsMadeAt count kept s.above × IsMadeAt count kept s.own
 
 -- ---- all passes
 
 -- the selections that a pass takes were made
-pub record IsPassMade (j : JobView) (count : ℕ) (plan : PlanView) (kept : List Kept) (pass : ℕ) : Type 0 where
+pub record IsPassMade (j : JobView) (count : ℕ) (plan : PlanView) (kept : List KeptPlaces) (pass : ℕ) : Type 0 where
   pub action : (k : ActionKind) (inputs : List ℕ) (u : Option ℕ) → IsReadOf j pass k inputs u → (last : ℕ) → slice_get plan.passes pass ≡ Some last → IsMadeAt count kept last
   pub report : (own : ℕ) (rep : IsReportPass j pass own) → AllByRecursion (IsNamedMade count plan kept) rep.result.covers
 
 -- a pass was tried: what its action reads is at hand
-abbrev pub IsPassTried : JobView → ℕ → ℕ → PlanView → List Chain → ℕ → List LaneView → List Kept → List Kept → Found → Found → Type 0
+abbrev pub IsPassTried : JobView → ℕ → ℕ → PlanView → List Chain → ℕ → List LaneView → List KeptPlaces → List KeptPlaces → Found → Found → Type 0
 IsPassTried j first count plan chains pass lanes was kept old new =
     IsTriedTo j first count chains (λ p. pass_fault j (first + p) pass) pass lanes was kept old new (IsReadBelow j first lanes new.limit pass × IsPassMade j count plan kept pass)
 
@@ -133,7 +133,7 @@ CanServeAll j first count kinds cells scratch levels =
 
 -- so many passes were tried over a block: what is known of it, the search so far, what the actions among them read is at hand, and the
 -- selections that they take were made
-pub record IsSearchedTo (j : JobView) (first count : ℕ) (plan : PlanView) (chains : List Chain) (passes : ℕ) (lanes : List LaneView) (kept : List Kept) (s : Found) : Type 0 where
+pub record IsSearchedTo (j : JobView) (first count : ℕ) (plan : PlanView) (chains : List Chain) (passes : ℕ) (lanes : List LaneView) (kept : List KeptPlaces) (s : Found) : Type 0 where
   pub ready : IsReadyBelow j first count chains s.limit lanes kept
   pub searched : IsSearched (λ q n. pass_fault j (first + q) n) first count passes s
   pub read : (n : ℕ) → n < passes → IsReadBelow j first lanes s.limit n

@@ -15,11 +15,10 @@ ghost use Rattle.block_passes.specs.{AreCopiedInTurn, AreHeldInTurn, IsPlainRead
 use crate::inputs::{SiteElement, element_at, place_at, source_under};
 use crate::turn::{ActionRead, Turn};
 use block_cache::Lane;
-use expr_eval::Input;
+use expr_eval::ColumnInput;
 use expr_lanes::Selection;
 use graph_numbers::Source;
 use loop_keys::reading::{Reading, key};
-use loop_keys::rows::row_at;
 use rdf_values::{ColType, Memory, Span};
 use std::alloc::Global;
 
@@ -65,7 +64,7 @@ impl CopiedVectors {
 
 /// What is copied of a version over a selection: nothing where it is read in place, or numbers or vectors by their places.
 #[derive(Drop)]
-pub(crate) enum Copied {
+pub(crate) enum CopiedVersion {
     Whole,
     Numbers(Vec<i64>),
     Vectors(CopiedVectors),
@@ -74,9 +73,9 @@ pub(crate) enum Copied {
 /// What is copied of the versions that an action reads, in their order.
 #[derive(Drop)]
 pub(crate) struct Copies {
-    pub(crate) first: Copied,
-    pub(crate) second: Copied,
-    pub(crate) third: Copied,
+    pub(crate) first: CopiedVersion,
+    pub(crate) second: CopiedVersion,
+    pub(crate) third: CopiedVersion,
 }
 
 /// The vector of a site at a place where it is held.
@@ -96,13 +95,16 @@ fn site_vector<'s>(
 {
     let reading = Reading {
         job: at.job,
-        row: row_at(at.rows, at.job.graph, under),
+        row: at.row(under),
         entry: at.first,
         under,
     };
     match lanes[key(&reading, site)].input(place) {
-        Input::Vect(zs) => zs,
-        Input::Int(_) | Input::Bool(_) | Input::Faulted(_) | Input::Missing => unreachable!(),
+        ColumnInput::Vect(zs) => zs,
+        ColumnInput::Int(_)
+        | ColumnInput::Bool(_)
+        | ColumnInput::Faulted(_)
+        | ColumnInput::Missing => unreachable!(),
     }
 }
 
@@ -191,7 +193,7 @@ fn copy_version(
     selection: &Selection,
     version: u32,
     under: Option<u32>,
-) -> Result<Copied, Memory>
+) -> Result<CopiedVersion, Memory>
     requires over { IsOver at.now lanes.now }
     requires can { (scratch levels : ℕ) × CanServeWith at.now under lanes.now scratch levels version }
     requires inside { EachPlace selection.now (λ p. p < at.now.count) }
@@ -200,10 +202,12 @@ fn copy_version(
     ensures plain { (used : ℕ → Bool) → ArePlain (turn_job at.now) used → IsSourceIn used (source_in_turn at.now under version) → OnErr result ⊥ }
 {
     match source_under(at, version, under) {
-        Source::Cell { .. } => Ok(Copied::Whole),
+        Source::Cell { .. } => Ok(CopiedVersion::Whole),
         Source::Site { site } => match site_kind(at, site) {
-            ColType::Int | ColType::Bool => Ok(Copied::Whole),
-            ColType::Vect => Ok(Copied::Vectors(copy_vectors(at, lanes, selection, site, under)?)),
+            ColType::Int | ColType::Bool => Ok(CopiedVersion::Whole),
+            ColType::Vect => Ok(CopiedVersion::Vectors(copy_vectors(
+                at, lanes, selection, site, under,
+            )?)),
         },
         Source::Element { site, place, tags } => {
             let of = SiteElement {
@@ -213,7 +217,7 @@ fn copy_version(
                 tags,
             };
             let _kind = site_kind(at, site);
-            Ok(Copied::Numbers(copy_elements(at, lanes, selection, &of)?))
+            Ok(CopiedVersion::Numbers(copy_elements(at, lanes, selection, &of)?))
         }
     }
 }
@@ -225,7 +229,7 @@ fn copy_input(
     selection: &Selection,
     own: &ActionRead<'_>,
     nth: usize,
-) -> Result<Copied, Memory>
+) -> Result<CopiedVersion, Memory>
     requires over { IsOver at.now lanes.now }
     requires can { (scratch levels : ℕ) × AllByRecursion (CanServeWith at.now own.now.under lanes.now scratch levels) own.now.inputs.now }
     requires inside { EachPlace selection.now (λ p. p < at.now.count) }
@@ -235,7 +239,7 @@ fn copy_input(
 {
     match own.inputs.get(nth) {
         Some(version) => copy_version(at, lanes, selection, *version, own.under),
-        None => Ok(Copied::Whole),
+        None => Ok(CopiedVersion::Whole),
     }
 }
 

@@ -9,7 +9,7 @@ ghost use Rattle.block_cache.specs.{AreUnknown};
 
 use crate::feed::feed_passes;
 use crate::passes::try_passes;
-use crate::turn::{BlockStop, Kept, Turn, Work};
+use crate::turn::{BlockStop, KeptPlaces, Turn, Work};
 use block_cache::Lane;
 use cluster_tally::Tally;
 use expr_eval::Steps;
@@ -18,7 +18,7 @@ use rdf_values::Memory;
 use std::sync::ledger::Ledger;
 
 /// How many entries of the block reach a named filter, and how many pass it: the sizes of two selections.
-fn counts_of(at: &Turn<'_>, kept: &[Kept], filter: u32) -> Counts
+fn counts_of(at: &Turn<'_>, kept: &[KeptPlaces], filter: u32) -> Counts
     requires turn { IsTurn at.now }
     requires filter { filter < length (graph_filters (job_graph (turn_job at.now))) }
     requires countable { (p : IsPlanOfTurn at.now) → AreCountable (turn_job at.now) at.now.first at.now.count p.chains at.now.plan.now kept.now }
@@ -34,7 +34,7 @@ fn counts_of(at: &Turn<'_>, kept: &[Kept], filter: u32) -> Counts
 }
 
 /// Takes in what a block without a fault does at the named filters.
-pub(crate) fn note_filters(at: &Turn<'_>, kept: &[Kept], tally: &mut Tally)
+pub(crate) fn note_filters(at: &Turn<'_>, kept: &[KeptPlaces], tally: &mut Tally)
     requires turn { IsTurn at.now }
     requires countable { (p : IsPlanOfTurn at.now) → AreCountable (turn_job at.now) at.now.first at.now.count p.chains at.now.plan.now kept.now }
     requires begin { (watched : List ℕ) × (s : BlockStage) × IsAmidTurn at.now s × (s.filters ≡ 0) × HoldsIn (facts_in (turn_job at.now)) watched s tally.old }
@@ -51,7 +51,7 @@ pub(crate) fn note_filters(at: &Turn<'_>, kept: &[Kept], tally: &mut Tally)
 fn take_in(
     at: &Turn<'_>,
     lanes: &[Lane],
-    kept: &[Kept],
+    kept: &[KeptPlaces],
     tally: &mut Tally,
     cluster: u32,
 ) -> Result<(), Memory>
@@ -72,7 +72,7 @@ fn take_in(
 pub(crate) fn try_begun<L: Ledger>(
     at: &Turn<'_>,
     work: &mut Work,
-    kept: &mut [Kept],
+    kept: &mut [KeptPlaces],
     tally: &mut Tally,
     cluster: u32,
     steps: &mut Steps<L>,

@@ -10,11 +10,10 @@ ghost use Rattle.rdf_model.specs.declared.loop_facts.LoopFacts.{LoopFacts};
 ghost use Rattle.cluster_tally.specs.{BlockStage, HoldsIn, pass_done};
 
 use crate::copies::copy_inputs;
-use crate::passes::action_read;
 use crate::plan::loop_passes;
 use crate::sources::{gather, lanes_in_place};
-use crate::turn::{ActionRead, Kept, Turn, Work};
-use actions::{Batch, PlaceFault as BatchFault, Places, Sources};
+use crate::turn::{ActionRead, KeptPlaces, Turn, Work};
+use actions::{Batch, BatchFault, Places, Sources};
 use block_cache::Lane;
 use block_cache::faults::PlaceFault;
 use cluster_tally::Tally;
@@ -60,7 +59,7 @@ fn first_unfed_copy(
     let _few = selection.len();
     let copies = copy_inputs(at, lanes, selection, own)?;
     let places = batch_places(selection);
-    let sources = gather(at, lanes, selection, &copies, own);
+    let sources = gather(at, lanes, &copies, own);
     Ok(placed(Batch { places, sources }.first_fault()))
 }
 
@@ -95,7 +94,7 @@ fn first_unfed(
 fn test_several(
     at: &Turn<'_>,
     work: &mut Work,
-    to: &mut Kept,
+    to: &mut KeptPlaces,
     own: &ActionRead<'_>,
 ) -> Result<(), Memory>
     requires known { IsKnown at.now work.old }
@@ -119,7 +118,7 @@ fn test_several(
 pub(crate) fn test_feeding(
     at: &Turn<'_>,
     work: &mut Work,
-    to: &mut Kept,
+    to: &mut KeptPlaces,
     own: &ActionRead<'_>,
 ) -> Result<(), Memory>
     requires known { IsKnown at.now work.old }
@@ -166,7 +165,7 @@ fn feed_copies(
 {
     let copies = copy_inputs(at, lanes, selection, own)?;
     let places = batch_places(selection);
-    let sources = gather(at, lanes, selection, &copies, own);
+    let sources = gather(at, lanes, &copies, own);
     tally.feed_batch(to.place, to.cluster, &Batch { places, sources })
 }
 
@@ -174,7 +173,7 @@ fn feed_copies(
 pub(crate) fn feed_action(
     at: &Turn<'_>,
     lanes: &[Lane],
-    kept: &[Kept],
+    kept: &[KeptPlaces],
     tally: &mut Tally,
     own: &ActionRead<'_>,
     to: FedPass,
@@ -206,7 +205,7 @@ pub(crate) fn feed_action(
 fn feed_pass(
     at: &Turn<'_>,
     lanes: &[Lane],
-    kept: &[Kept],
+    kept: &[KeptPlaces],
     tally: &mut Tally,
     own: Pass,
     to: FedPass,
@@ -223,7 +222,7 @@ fn feed_pass(
         → HoldsIn (facts_in (turn_job at.now)) watched (at_pass s next) tally.new) }
     ensures plain { IsPlainLoop (turn_job at.now) → All IsNoTake (kinds_in (passes_in (turn_job at.now))) → OnErr result ⊥ }
 {
-    let Some(read) = action_read(at.job, own, at.pass) else {
+    let Some(read) = at.action_read(own) else {
         return Ok(to.place);
     };
     feed_action(at, lanes, kept, tally, &read, to)?;
@@ -234,7 +233,7 @@ fn feed_pass(
 pub(crate) fn feed_passes(
     at: &Turn<'_>,
     lanes: &[Lane],
-    kept: &[Kept],
+    kept: &[KeptPlaces],
     tally: &mut Tally,
     cluster: u32,
 ) -> Result<(), Memory>
@@ -250,7 +249,7 @@ pub(crate) fn feed_passes(
     let passes = loop_passes(at.job);
     let mut turn = *at;
     for (pass, own) in passes.iter().enumerate() {
-        turn.go_to(at, pass as u32);
+        turn.go_to(pass as u32);
         place = feed_pass(&turn, lanes, kept, tally, *own, FedPass { place, cluster })?;
     }
     Ok(())

@@ -4,22 +4,22 @@ ghost use Rattle.rdf_model.specs.{tag_element};
 ghost use Rattle.graph_numbers.specs.{graph_sites, source_value, graph_versions};
 ghost use Rattle.expr_lanes.specs.{EachPlace, is_in};
 ghost use Rattle.loop_keys.specs.{job_graph, key as key_of, row_of, site_in, ArePlain, ArePlainVersions, HasAllDemands, IsSourceIn};
-ghost use Rattle.block_cache.specs.{fault_over, holds_at, AreReady, CanFill, kinds_of, site_fault};
+ghost use Rattle.block_cache.specs.{fault_over, holds_at, CanFill, kinds_of, site_fault};
 ghost use Rattle.block_passes.specs.{IsKnown, IsNumberOf, IsOver, IsSelected, IsServedInTurn, KeepsRoom, turn_job, AreAtHand, CanServeInTurn, CanServeWith, DemandsInputs, DemandsSource, IsAtHand, IsSpentInTurn, IsTurn, Leaves, source_in_turn, inputs_fault, source_fault};
 ghost use Rattle.std.specs.List.{AllByRecursion};
 ghost use Rattle.rdf_values.specs.declared.tables.value.Value.TheVariants as val;
 ghost use Rattle.graph_numbers.specs.declared.version.Source.TheVariants as source;
 
-use crate::turn::{Kept, Turn, Work};
+use crate::turn::{KeptPlaces, Turn, Work};
 use block_cache::Lane;
 use block_cache::block::{Block, Wanted};
 use block_cache::faults::PlaceFault;
-use block_cache::leads::fill_led;
-use expr_eval::{Input, Steps};
+use block_cache::leads::{fill_led, is_held};
+use expr_eval::{ColumnInput, Steps};
 use expr_lanes::Selection;
 use graph_numbers::Source;
 use loop_keys::reading::{Reading, key, place};
-use loop_keys::rows::{Place, row_at};
+use loop_keys::rows::ValuePlace;
 use rdf_values::{EntryFault, Memory};
 use std::sync::ledger::Ledger;
 
@@ -57,14 +57,14 @@ pub(crate) fn element_at(
 {
     let reading = Reading {
         job: at.job,
-        row: row_at(at.rows, at.job.graph, of.under),
+        row: at.row(of.under),
         entry: at.first,
         under: of.under,
     };
     match lanes[key(&reading, of.site)].input(place) {
-        Input::Vect(zs) => tagged(zs, of.nth, of.tags),
-        Input::Int(_) | Input::Bool(_) => Ok(0),
-        Input::Faulted(_) | Input::Missing => unreachable!(),
+        ColumnInput::Vect(zs) => tagged(zs, of.nth, of.tags),
+        ColumnInput::Int(_) | ColumnInput::Bool(_) => Ok(0),
+        ColumnInput::Faulted(_) | ColumnInput::Missing => unreachable!(),
     }
 }
 
@@ -103,7 +103,7 @@ fn first_without(
 
 /// Tests whether there is an element for each tag at the selected places, where the site's value is held: the first at which there isn't
 /// lowers the limit, below which the places are left.
-pub(crate) fn test_elements(at: &Turn<'_>, work: &mut Work, to: &mut Kept, of: &SiteElement)
+pub(crate) fn test_elements(at: &Turn<'_>, work: &mut Work, to: &mut KeptPlaces, of: &SiteElement)
     requires site { of.now.site < length (graph_sites (job_graph (turn_job at.now))) }
     requires known { IsKnown at.now work.old }
     requires selected { IsSelected work.old.found.limit to.old }
@@ -118,18 +118,8 @@ pub(crate) fn test_elements(at: &Turn<'_>, work: &mut Work, to: &mut Kept, of: &
     let _made = to.narrow(work.found.limit);
 }
 
-/// Whether a key's value is held at each selected place.
-fn is_held(at: &Turn<'_>, lanes: &[Lane], key: usize, selection: &Selection) -> bool
-    requires key { key < length lanes.now }
-    requires ready { AreReady (turn_job at.now) at.now.first at.now.count lanes.now }
-    requires inside { EachPlace selection.now (λ p. p < at.now.count) }
-    ensures { result ≡ true → EachPlace selection.now (λ p. holds_at lanes.now key p ≡ true) }
-{
-    lanes[key].holds_all(selection)
-}
-
 /// Whether a version is seen to be at hand at each selected place, and to fault at none.
-#[tactic(auto, using(crate::proofs::Serving::place_laws, crate::proofs::Serving::key_inside, crate::proofs::Serving::hand_held, crate::proofs::Serving::hand_clear))]
+#[tactic(auto, using(block_cache::proofs::OverLaws::selected_inside, crate::proofs::Serving::place_laws, crate::proofs::Serving::key_inside, crate::proofs::Serving::hand_held, crate::proofs::Serving::hand_clear))]
 fn is_at_hand(
     at: &Turn<'_>,
     lanes: &[Lane],
@@ -145,14 +135,14 @@ fn is_at_hand(
 {
     let reading = Reading {
         job: at.job,
-        row: row_at(at.rows, at.job.graph, under),
+        row: at.row(under),
         entry: at.first,
         under,
     };
     match place(&reading, version) {
-        Place::Cell { .. } => true,
-        Place::Key { key } => is_held(at, lanes, key, selection),
-        Place::Element { .. } => false,
+        ValuePlace::Cell { .. } => true,
+        ValuePlace::Key { key } => is_held(lanes, key, selection),
+        ValuePlace::Element { .. } => false,
     }
 }
 
@@ -161,7 +151,7 @@ fn is_at_hand(
 fn serve_site<L: Ledger>(
     at: &Turn<'_>,
     work: &mut Work,
-    to: &mut Kept,
+    to: &mut KeptPlaces,
     site: u32,
     under: Option<u32>,
     steps: &mut Steps<L>,
@@ -180,7 +170,7 @@ fn serve_site<L: Ledger>(
     let _few = to.places.len();
     let reading = Reading {
         job: at.job,
-        row: row_at(at.rows, at.job.graph, under),
+        row: at.row(under),
         entry: at.first,
         under,
     };
@@ -220,7 +210,7 @@ pub(crate) fn source_under(at: &Turn<'_>, version: u32, under: Option<u32>) -> S
 fn serve_element<L: Ledger>(
     at: &Turn<'_>,
     work: &mut Work,
-    to: &mut Kept,
+    to: &mut KeptPlaces,
     of: &SiteElement,
     steps: &mut Steps<L>,
 ) -> Result<(), Memory>
@@ -244,7 +234,7 @@ fn serve_element<L: Ledger>(
 fn serve_version<L: Ledger>(
     at: &Turn<'_>,
     work: &mut Work,
-    to: &mut Kept,
+    to: &mut KeptPlaces,
     version: u32,
     under: Option<u32>,
     steps: &mut Steps<L>,
@@ -279,7 +269,7 @@ fn serve_version<L: Ledger>(
 pub(crate) fn serve_inputs<L: Ledger>(
     at: &Turn<'_>,
     work: &mut Work,
-    to: &mut Kept,
+    to: &mut KeptPlaces,
     inputs: &[u32],
     under: Option<u32>,
     steps: &mut Steps<L>,

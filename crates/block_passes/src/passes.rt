@@ -1,17 +1,16 @@
 // Trying the passes of a loop over a block.
-ghost use Rattle.std.specs.Prelude.{◌≡◌, ◌<◌, OnOk, Some, OnErr, IfSome, None, length};
+ghost use Rattle.std.specs.Prelude.{◌≡◌, ◌<◌, OnOk, Some, OnErr, None, length};
 ghost use Rattle.std.specs.List.{AllByRecursion};
 ghost use Rattle.block_passes.specs.{CanSelectInTurn, CanServeInTurn, IsPassTried, IsPlanOfTurn, IsReadyInTurn, IsTurn, Leaves, filter_fault, filters_fault, IsNamedMade, IsTriedTo, turn_job, CanServeAllInTurn, IsReadOf, IsSearchedTo};
-ghost use Rattle.loop_keys.specs.{IsCovered, Fits, IsReportPass, job_of, numbered_in, passes_in, IsPlainLoop};
+ghost use Rattle.loop_keys.specs.{IsCovered, numbered_in, passes_in, IsPlainLoop};
 
 use crate::feed::test_feeding;
 use crate::inputs::serve_inputs;
 use crate::plan::loop_passes;
 use crate::select::select_again;
-use crate::turn::{ActionRead, Kept, Turn, Work};
+use crate::turn::{ActionRead, KeptPlaces, Turn, Work};
 use expr_eval::Steps;
-use graph_numbers::{Pass, ResultKind};
-use loop_keys::Job;
+use graph_numbers::Pass;
 use rdf_values::Memory;
 use std::sync::ledger::Ledger;
 
@@ -19,7 +18,7 @@ use std::sync::ledger::Ledger;
 pub(crate) fn try_action<L: Ledger>(
     at: &Turn<'_>,
     work: &mut Work,
-    kept: &mut [Kept],
+    kept: &mut [KeptPlaces],
     own: &ActionRead<'_>,
     steps: &mut Steps<L>,
 ) -> Result<(), Memory>
@@ -44,7 +43,7 @@ pub(crate) fn try_action<L: Ledger>(
 fn try_filter<L: Ledger>(
     at: &Turn<'_>,
     work: &mut Work,
-    kept: &mut [Kept],
+    kept: &mut [KeptPlaces],
     filter: u32,
     steps: &mut Steps<L>,
 ) -> Result<(), Memory>
@@ -70,7 +69,7 @@ fn try_filter<L: Ledger>(
 pub(crate) fn try_filters<L: Ledger>(
     at: &Turn<'_>,
     work: &mut Work,
-    kept: &mut [Kept],
+    kept: &mut [KeptPlaces],
     filters: &[u32],
     steps: &mut Steps<L>,
 ) -> Result<(), Memory>
@@ -90,29 +89,11 @@ pub(crate) fn try_filters<L: Ledger>(
     try_filters(at, work, kept, rest, steps)
 }
 
-/// What the action of a pass reads; a report has none.
-#[tactic(auto, using(loop_keys::proofs::PassNumbers::found_report))]
-pub(crate) fn action_read<'a>(job: &Job<'a>, own: Pass, _pass: u32) -> Option<ActionRead<'a>>
-    requires job { Fits job.now }
-    requires own { numbered_in (job_of job.now) _pass ≡ Some own }
-    ensures action { IfSome result (λ a. IsReadOf (job_of job.now) _pass a.kind.now a.inputs.now a.under) }
-    ensures report { result ≡ None → IsReportPass (job_of job.now) _pass own.result }
-{
-    match job.graph.kind(own.result) {
-        ResultKind::Action(kind) => Some(ActionRead {
-            kind,
-            inputs: job.graph.inputs(own.result),
-            under: own.variation,
-        }),
-        ResultKind::Report => None,
-    }
-}
-
 /// Tries a pass at the places below the limit.
 pub(crate) fn try_pass<L: Ledger>(
     at: &Turn<'_>,
     work: &mut Work,
-    kept: &mut [Kept],
+    kept: &mut [KeptPlaces],
     own: Pass,
     steps: &mut Steps<L>,
 ) -> Result<(), Memory>
@@ -126,7 +107,7 @@ pub(crate) fn try_pass<L: Ledger>(
         → OnOk result (IsPassTried (turn_job at.now) at.now.first at.now.count at.now.plan.now p.chains at.now.pass work.new.lanes.items kept.old kept.new work.old.found work.new.found) }
     ensures plain { IsPlainLoop (turn_job at.now) → OnErr result ⊥ }
 {
-    match action_read(at.job, own, at.pass) {
+    match at.action_read(own) {
         Some(read) => try_action(at, work, kept, &read, steps),
         None => try_filters(at, work, kept, at.job.graph.covered(own.result), steps),
     }
@@ -136,7 +117,7 @@ pub(crate) fn try_pass<L: Ledger>(
 pub(crate) fn try_passes<L: Ledger>(
     at: &Turn<'_>,
     work: &mut Work,
-    kept: &mut [Kept],
+    kept: &mut [KeptPlaces],
     steps: &mut Steps<L>,
 ) -> Result<(), Memory>
     requires turn { IsTurn at.now }
@@ -152,7 +133,7 @@ pub(crate) fn try_passes<L: Ledger>(
     let passes = loop_passes(at.job);
     let mut turn = *at;
     for (pass, own) in passes.iter().enumerate() {
-        turn.go_to(at, pass as u32);
+        turn.go_to(pass as u32);
         try_pass(&turn, work, kept, *own, steps)?;
     }
     Ok(())

@@ -1,5 +1,5 @@
 // The selections that the passes of a loop share: what is the same for each of its blocks.
-ghost use Rattle.std.specs.Prelude.{◌≡◌, ◌⊎◌, ◌<◌, ◌^◌, [], ◌++◌, ◌∷◌, List, IfOk, IfSome, Some, length, slice_get, true, nat_eq};
+ghost use Rattle.std.specs.Prelude.{◌≡◌, ◌⊎◌, ◌<◌, ◌^◌, [], ◌++◌, ◌∷◌, ℕ, List, IfOk, IfSome, Some, length, slice_get, true, nat_eq};
 ghost use Rattle.std.specs.List.{list_any};
 ghost use Rattle.graph_numbers.specs.{graph_filters};
 ghost use Rattle.loop_keys.specs.{covered_in, Fits, job_graph, job_of, numbered_in, numbered_passes, passes_in};
@@ -142,11 +142,11 @@ fn is_covered(job: &Job<'_>, filter: u32) -> bool
 
 // The last step of a pass: that of its action's filters, and of a report none.
 #[tactic(auto, using(crate::proofs::PlanSteps::report_led))]
-fn pass_step(job: &Job<'_>, _pass: u32, own: Pass, steps: &mut ListOf<Step>) -> Result<u32, Memory>
+fn pass_step(job: &Job<'_>, own: Pass, steps: &mut ListOf<Step>) -> Result<u32, Memory>
     requires job { Fits job.now }
-    requires own { numbered_in (job_of job.now) _pass ≡ Some own }
+    requires own { (pass : ℕ) × (numbered_in (job_of job.now) pass ≡ Some own) }
     requires steps { (chains : List Chain) × AreSteps chains steps.old }
-    ensures { (chains : List Chain) → AreSteps chains steps.old → IfOk result (IsPlanned (job_of job.now) (λ cs. IsPassLast (job_of job.now) cs _pass) chains steps.new) }
+    ensures { (chains : List Chain) (pass : ℕ) → AreSteps chains steps.old → numbered_in (job_of job.now) pass ≡ Some own → IfOk result (IsPlanned (job_of job.now) (λ cs. IsPassLast (job_of job.now) cs pass) chains steps.new) }
 {
     match job.graph.kind(own.result) {
         ResultKind::Action(_) => path_steps(steps, job.graph.path(own.result), own.variation),
@@ -163,8 +163,8 @@ fn pass_steps(alloc: Global, job: &Job<'_>, steps: &mut ListOf<Step>) -> Result<
 {
     let mut last_steps = ListOf::new(alloc);
     let passes = loop_passes(job);
-    for (pass, own) in passes.iter().enumerate() {
-        let last = pass_step(job, pass as u32, *own, steps)?;
+    for own in passes {
+        let last = pass_step(job, *own, steps)?;
         last_steps.push(last)?;
     }
     Ok(last_steps)

@@ -2,11 +2,11 @@
 ghost use Rattle.std.specs.Prelude.{◌≤◌, IfOk, IfSome, ◌≡◌, ◌<◌, ◌++◌, OnOk, length, replicate, ◌-◌, All, None, count_by};
 ghost use Rattle.expr_check.specs.{is_vector};
 ghost use Rattle.expr_lanes.specs.{depth};
-ghost use Rattle.block_passes.specs.{AreDeepEnough, AreLoaded, CountsVectors, HaveCells, HaveKinds, Kept as KeptPlaces};
+ghost use Rattle.block_passes.specs.{AreDeepEnough, AreLoaded, CountsVectors, HaveCells, HaveKinds, KeptPlaces};
 ghost use Rattle.graph_numbers.specs.{graph_sites};
 ghost use Rattle.loop_keys.specs.{key_count, Fits, job_of};
 
-use crate::turn::Kept;
+use crate::turn::KeptPlaces;
 use block_cache::cells::CellLane;
 use block_cache::level::Level;
 use columns::Over;
@@ -111,10 +111,10 @@ pub(crate) fn new_levels(alloc: Global, count: usize) -> Result<Vec<Level>, Memo
 }
 
 /// Room for the selections of so many steps, of which none was made.
-pub(crate) fn new_kept(alloc: Global, count: usize) -> Result<Vec<Kept>, Memory>
+pub(crate) fn new_kept(alloc: Global, count: usize) -> Result<Vec<KeptPlaces>, Memory>
     ensures { IfOk result (λ kept. length kept.items ≡ count) }
 {
-    let none = (0..count).map(|_| Kept {
+    let none = (0..count).map(|_| KeptPlaces {
         limit: None,
         places: Selection::new(),
     });
@@ -122,7 +122,7 @@ pub(crate) fn new_kept(alloc: Global, count: usize) -> Result<Vec<Kept>, Memory>
 }
 
 /// No selection is made any more.
-pub(crate) fn forget(kept: &mut [Kept])
+pub(crate) fn forget(kept: &mut [KeptPlaces])
     ensures many { length kept.new ≡ length kept.old }
     ensures none { All (λ (k : KeptPlaces). k.limit ≡ None) kept.new }
 {

@@ -5,15 +5,14 @@ ghost use Rattle.graph_numbers.specs.{graph_sites};
 ghost use Rattle.expr_lanes.specs.{EachPlace};
 ghost use Rattle.block_cache.specs.{CanFill, kinds_of};
 ghost use Rattle.loop_keys.specs.{ArePlain, job_graph, key, IsPlainLoop};
-ghost use Rattle.block_passes.specs.{CanSelectInTurn, IsFilteredTo, IsKnown, IsNextSelected, IsPlanOfTurn, IsReadyInTurn, IsSelectedInTurn, IsSpentInTurn, IsTurn, KeepsRoom, Kept as KeptView, Leaves, turn_job};
+ghost use Rattle.block_passes.specs.{CanSelectInTurn, IsFilteredTo, IsKnown, IsNextSelected, IsPlanOfTurn, IsReadyInTurn, IsSelectedInTurn, IsSpentInTurn, IsTurn, KeepsRoom, KeptPlaces as KeptView, Leaves, turn_job};
 
 use crate::plan::Step;
-use crate::turn::{Kept, NextStep, SiteFilter, Turn, Work};
+use crate::turn::{KeptPlaces, NextStep, SiteFilter, Turn, Work};
 use block_cache::block::{Block, Wanted};
 use block_cache::passing::pass_filter;
 use expr_eval::Steps;
 use loop_keys::reading::Reading;
-use loop_keys::rows::row_at;
 use rdf_values::Memory;
 use std::sync::ledger::Ledger;
 
@@ -22,8 +21,8 @@ use std::sync::ledger::Ledger;
 pub(crate) fn filter_places<L: Ledger>(
     at: &Turn<'_>,
     work: &mut Work,
-    from: &Kept,
-    to: &mut Kept,
+    from: &KeptPlaces,
+    to: &mut KeptPlaces,
     filter: SiteFilter,
     steps: &mut Steps<L>,
 ) -> Result<(), Memory>
@@ -42,7 +41,7 @@ pub(crate) fn filter_places<L: Ledger>(
     let _few = to.places.len();
     let reading = Reading {
         job: at.job,
-        row: row_at(at.rows, at.job.graph, filter.under),
+        row: at.row(filter.under),
         entry: at.first,
         under: filter.under,
     };
@@ -72,8 +71,8 @@ pub(crate) fn filter_places<L: Ledger>(
 pub(crate) fn next_places<L: Ledger>(
     at: &Turn<'_>,
     work: &mut Work,
-    above: &[Kept],
-    own: &mut [Kept],
+    above: &[KeptPlaces],
+    own: &mut [KeptPlaces],
     next: NextStep,
     steps: &mut Steps<L>,
 ) -> Result<(), Memory>
@@ -103,7 +102,7 @@ pub(crate) fn next_places<L: Ledger>(
 pub(crate) fn select_step<L: Ledger>(
     at: &Turn<'_>,
     work: &mut Work,
-    kept: &mut [Kept],
+    kept: &mut [KeptPlaces],
     step: u32,
     steps: &mut Steps<L>,
 ) -> Result<(), Memory>
@@ -147,7 +146,7 @@ pub(crate) fn select_step<L: Ledger>(
 pub(crate) fn select_again<L: Ledger>(
     at: &Turn<'_>,
     work: &mut Work,
-    kept: &mut [Kept],
+    kept: &mut [KeptPlaces],
     step: u32,
     steps: &mut Steps<L>,
 ) -> Result<(), Memory>

@@ -1,22 +1,20 @@
 // The lanes that an action reads.
-ghost use Rattle.std.specs.Prelude.{◌≡◌, ◌<◌, ◌+◌, ℕ, IfSome, None, Some, length, slice_get, true};
+ghost use Rattle.std.specs.Prelude.{◌≡◌, ◌<◌, ◌+◌, ℕ, IfSome, List, None, Some, length, slice_get, true};
 ghost use Rattle.rdf_values.specs.{kind_at};
 ghost use Rattle.rdf_model.specs.{for_all};
-ghost use Rattle.graph_numbers.specs.{source_value};
+ghost use Rattle.graph_numbers.specs.{cell_value};
 ghost use Rattle.block_cache.specs.{HasColumn, kinds_of, LaneView};
 ghost use Rattle.expr_lanes.specs.{is_in};
-ghost use Rattle.loop_keys.specs.{row_of, site_in, version_in};
+ghost use Rattle.loop_keys.specs.{row_of, version_in};
 ghost use Rattle.block_passes.specs.{AreCopiedInTurn, AreHeldInTurn, AreLanesOf, CanGatherInTurn, CanServeWith, HasHeld, IsAtHand, IsCopyInTurn, IsLaneOf, IsOver, IsTurn, IsWhole, source_in_turn, turn_job, AreInPlaceInTurn};
 ghost use Rattle.rdf_values.specs.declared.tables.value.ColType.TheVariants as kind;
-ghost use Rattle.graph_numbers.specs.declared.version.Source.TheVariants as source;
 
-use crate::copies::{Copied, Copies};
+use crate::copies::{CopiedVersion, Copies};
 use crate::turn::{ActionRead, Turn};
-use actions::{Lane as FedLane, Sources};
+use actions::{FedLane, Sources};
 use block_cache::Lane;
-use expr_lanes::Selection;
 use loop_keys::reading::{Reading, place};
-use loop_keys::rows::{Place, row_at};
+use loop_keys::rows::ValuePlace;
 use rdf_values::{ActionKind, ColType};
 
 /// The lane of a key, unless it has vectors.
@@ -34,28 +32,27 @@ fn key_lane(lanes: &[Lane], key: usize) -> Option<FedLane<'_>>
     }
 }
 
-/// The lane of a version over a selection, by what was copied of it there.
+/// The lane of a version, by what was copied of it over a selection.
 fn version_lane<'a: 's, 's>(
     at: &Turn<'a>,
     lanes: &'s [Lane],
-    _selection: &Selection,
-    copied: &'s Copied,
+    copied: &'s CopiedVersion,
     version: u32,
     under: Option<u32>,
 ) -> FedLane<'s>
     requires over { IsOver at.now lanes.now }
     requires can { (scratch levels : ℕ) × CanServeWith at.now under lanes.now scratch levels version }
-    requires copied { IsCopyInTurn at.now under lanes.now _selection.now version copied.now }
-    ensures { (p : ℕ) → p < at.now.count → is_in p _selection.now ≡ true → IsAtHand (turn_job at.now) at.now.first lanes.now under p (source_in_turn at.now under version)
+    requires copied { (selection : List ℕ) × IsCopyInTurn at.now under lanes.now selection version copied.now }
+    ensures { (selection : List ℕ) → IsCopyInTurn at.now under lanes.now selection version copied.now → (p : ℕ) → p < at.now.count → is_in p selection ≡ true → IsAtHand (turn_job at.now) at.now.first lanes.now under p (source_in_turn at.now under version)
         → IsLaneOf (version_in {M = ⊥} (turn_job at.now) (at.now.first + p) under version) result p }
 {
     match copied {
-        Copied::Whole => match lane_in_place(at, lanes, version, under) {
+        CopiedVersion::Whole => match lane_in_place(at, lanes, version, under) {
             Some(lane) => lane,
             None => unreachable!(),
         },
-        Copied::Numbers(numbers) => FedLane::Int(numbers.as_slice()),
-        Copied::Vectors(vectors) => FedLane::Vects {
+        CopiedVersion::Numbers(numbers) => FedLane::Int(numbers.as_slice()),
+        CopiedVersion::Vectors(vectors) => FedLane::Vects {
             elements: vectors.elements.as_slice(),
             spans: vectors.spans.as_slice(),
         },
@@ -64,12 +61,11 @@ fn version_lane<'a: 's, 's>(
 
 /// The lane of a column of the table.
 #[tactic(auto, using(loop_keys::proofs::ActionLaws::not_stored, crate::proofs::Serving::column_laws))]
-pub(crate) fn cell_lane<'a>(at: &Turn<'a>, col: u32, _under: Option<u32>) -> FedLane<'a>
+fn cell_lane<'a>(at: &Turn<'a>, col: u32) -> FedLane<'a>
     requires there { col < length at.now.job.now.columns.now.table.columns }
     requires numbers { kind_at at.now.job.now.columns.now.table.columns col ≡ Some kind.Int → HasColumn (turn_job at.now) at.now.first at.now.count at.now.cells.now col }
     requires turn { IsTurn at.now }
-    ensures { (p : ℕ) → p < at.now.count
-        → IsLaneOf (source_value {M = ⊥} (row_of (turn_job at.now) (at.now.first + p)) (site_in (turn_job at.now) (at.now.first + p) _under) (source.Cell col)) result p }
+    ensures { (p : ℕ) → p < at.now.count → IsLaneOf (cell_value {M = ⊥} (slice_get (row_of (turn_job at.now) (at.now.first + p)) col)) result p }
 {
     let columns = at.job.columns;
     match columns.columns()[col as usize].kind {
@@ -98,14 +94,14 @@ pub(crate) fn lane_in_place<'a: 's, 's>(
 {
     let reading = Reading {
         job: at.job,
-        row: row_at(at.rows, at.job.graph, under),
+        row: at.row(under),
         entry: at.first,
         under,
     };
     match place(&reading, version) {
-        Place::Cell { col } => Some(cell_lane(at, col, under)),
-        Place::Key { key } => key_lane(lanes, key),
-        Place::Element { .. } => None,
+        ValuePlace::Cell { col } => Some(cell_lane(at, col)),
+        ValuePlace::Key { key } => key_lane(lanes, key),
+        ValuePlace::Element { .. } => None,
     }
 }
 
@@ -113,14 +109,13 @@ pub(crate) fn lane_in_place<'a: 's, 's>(
 pub(crate) fn gather<'a: 's, 's>(
     at: &Turn<'a>,
     lanes: &'s [Lane],
-    selection: &Selection,
     copies: &'s Copies,
     own: &ActionRead<'_>,
 ) -> Sources<'s>
     requires over { IsOver at.now lanes.now }
     requires can { CanGatherInTurn at.now own.now lanes.now }
-    requires copied { AreCopiedInTurn at.now own.now lanes.now selection.now copies.now }
-    ensures { (p : ℕ) → p < at.now.count → is_in p selection.now ≡ true → AreHeldInTurn at.now own.now lanes.now p
+    requires copied { (selection : List ℕ) × AreCopiedInTurn at.now own.now lanes.now selection copies.now }
+    ensures { (selection : List ℕ) → AreCopiedInTurn at.now own.now lanes.now selection copies.now → (p : ℕ) → p < at.now.count → is_in p selection ≡ true → AreHeldInTurn at.now own.now lanes.now p
         → AreLanesOf (for_all (version_in {M = ⊥} (turn_job at.now) (at.now.first + p) own.now.under) own.now.inputs.now) own.now.kind.now result p }
 {
     let inputs = own.inputs;
@@ -133,29 +128,29 @@ pub(crate) fn gather<'a: 's, 's>(
         | ActionKind::Take(_)
         | ActionKind::Reduce(..)
         | ActionKind::Histo1D { weight: None, .. } => {
-            let x = version_lane(at, lanes, selection, &copies.first, inputs[0], under);
+            let x = version_lane(at, lanes, &copies.first, inputs[0], under);
             Sources::One { x }
         }
         ActionKind::Histo1D {
             weight: Some(_),
             ..
         } => {
-            let x = version_lane(at, lanes, selection, &copies.first, inputs[0], under);
-            let w = version_lane(at, lanes, selection, &copies.second, inputs[1], under);
+            let x = version_lane(at, lanes, &copies.first, inputs[0], under);
+            let w = version_lane(at, lanes, &copies.second, inputs[1], under);
             Sources::Weighted { x, w }
         }
         ActionKind::Histo2D { weight: None, .. } => {
-            let x = version_lane(at, lanes, selection, &copies.first, inputs[0], under);
-            let y = version_lane(at, lanes, selection, &copies.second, inputs[1], under);
+            let x = version_lane(at, lanes, &copies.first, inputs[0], under);
+            let y = version_lane(at, lanes, &copies.second, inputs[1], under);
             Sources::Pair { x, y }
         }
         ActionKind::Histo2D {
             weight: Some(_),
             ..
         } => {
-            let x = version_lane(at, lanes, selection, &copies.first, inputs[0], under);
-            let y = version_lane(at, lanes, selection, &copies.second, inputs[1], under);
-            let w = version_lane(at, lanes, selection, &copies.third, inputs[2], under);
+            let x = version_lane(at, lanes, &copies.first, inputs[0], under);
+            let y = version_lane(at, lanes, &copies.second, inputs[1], under);
+            let w = version_lane(at, lanes, &copies.third, inputs[2], under);
             Sources::WeightedPair { x, y, w }
         }
     }

@@ -11,7 +11,7 @@ use crate::plan::LoopPlan;
 use crate::reserve::{
     deepest, forget, key_kinds, load_columns, new_cells, new_kept, new_levels, new_scratch,
 };
-use crate::turn::{BlockStop, Found, Kept, Turn, Work};
+use crate::turn::{BlockStop, Found, KeptPlaces, Turn, Work};
 use block_cache::cells::CellLane;
 use block_cache::{begin_block, block_size, new_lanes};
 use cluster_tally::Tally;
@@ -32,7 +32,7 @@ pub struct BlockState {
     pub(crate) rows: ListOf<Row>,
     pub(crate) cells: Vec<CellLane>,
     pub(crate) work: Work,
-    pub(crate) kept: Vec<Kept>,
+    pub(crate) kept: Vec<KeptPlaces>,
 }
 
 impl Model for BlockState {

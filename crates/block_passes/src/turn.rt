@@ -1,7 +1,8 @@
 // The block whose turn it is, and the search for its first fault.
-ghost use Rattle.std.specs.Prelude.{◌≡◌, ◌<◌, ◌+◌, ◌^◌, None, Some, ◌≤◌, ℕ, false, true};
+ghost use Rattle.std.specs.Prelude.{◌≡◌, ◌<◌, ◌+◌, ◌^◌, IfSome, None, Some, ◌≤◌, ℕ, false, true};
 ghost use Rattle.block_cache.specs.{PlaceFault as FaultAt};
-ghost use Rattle.block_passes.specs.{noted, IsNarrowed};
+ghost use Rattle.loop_keys.specs.{Fits, IsReportPass, IsRow, job_graph, numbered_in};
+ghost use Rattle.block_passes.specs.{noted, IsNarrowed, IsReadOf, IsTurn, turn_job};
 ghost use Rattle.std.specs.List.{range_with_len};
 ghost use Rattle.expr_lanes.specs.declared.TheConstants.{MAX_PLACES};
 
@@ -11,6 +12,7 @@ use block_cache::cells::CellLane;
 use block_cache::faults::PlaceFault;
 use block_cache::level::Level;
 use expr_lanes::{Scratch, Selection};
+use graph_numbers::{Pass, ResultKind};
 use loop_keys::Job;
 use loop_keys::rows::Row;
 use rdf_values::{ActionKind, Fault};
@@ -53,12 +55,12 @@ impl Found {
 
 /// The places of a step, as they were selected below a limit; none are yet where there is no limit.
 #[derive(Drop)]
-pub struct Kept {
+pub struct KeptPlaces {
     pub(crate) limit: Option<u32>,
     pub(crate) places: Selection,
 }
 
-impl Kept {
+impl KeptPlaces {
     /// Whether a selection was made; only the places below the limit are left of it.
     pub(crate) fn narrow(&mut self, limit: u32) -> bool
         ensures made { result ≡ true → (made : ℕ) × (self.old.limit ≡ Some made) × IsNarrowed limit made self.old self.new }
@@ -118,11 +120,46 @@ pub(crate) struct Turn<'a> {
 
 impl<'a> Turn<'a> {
     /// Goes on to another pass over the same block.
-    pub(crate) fn go_to(&mut self, _at: &Turn<'a>, pass: u32)
-        requires { self.old ≡ record _at.now { pass = self.old.pass } }
-        ensures { self.new ≡ record _at.now { pass = pass } }
+    pub(crate) fn go_to(&mut self, pass: u32)
+        ensures { self.new ≡ record self.old { pass = pass } }
     {
         self.pass = pass;
+    }
+
+    /// The row of nominal or a variation. Under a variation that isn't there all is as under nominal.
+    pub(crate) fn row(&self, under: Option<u32>) -> &'a Row
+        requires { IsTurn self.now }
+        ensures { IsRow (job_graph (turn_job self.now)) under result.now }
+    {
+        let rows = self.rows;
+        let Some(v) = under else {
+            return &rows[0];
+        };
+        let place = v as usize + 1;
+        let count = rows.len();
+        if place < count {
+            &rows[place]
+        } else {
+            &rows[0]
+        }
+    }
+
+    /// What the action of a pass reads; a report has none.
+    #[tactic(auto, using(loop_keys::proofs::PassNumbers::found_report))]
+    pub(crate) fn action_read(&self, own: Pass) -> Option<ActionRead<'a>>
+        requires job { Fits self.now.job.now }
+        requires own { numbered_in (turn_job self.now) self.now.pass ≡ Some own }
+        ensures action { IfSome result (λ a. IsReadOf (turn_job self.now) self.now.pass a.kind.now a.inputs.now a.under) }
+        ensures report { result ≡ None → IsReportPass (turn_job self.now) self.now.pass own.result }
+    {
+        match self.job.graph.kind(own.result) {
+            ResultKind::Action(kind) => Some(ActionRead {
+                kind,
+                inputs: self.job.graph.inputs(own.result),
+                under: own.variation,
+            }),
+            ResultKind::Report => None,
+        }
     }
 }
 

@@ -4,8 +4,8 @@ use Rattle.rdf_values.specs.{AreColumns, ColType, Column, has_name, is_name, IsH
 use Rattle.shard_lines.specs.{EachFits, FitLines, FitsLine, ShardLine}
 use Rattle.chain_files.specs.{Begins, ChainFault, FitLoops, FitsFault, is_digest, is_within, IsPart, loop_lines, on_columns, on_within, part_limits, part_lines, part_of, PartLoop, PartView, step, step_at}
 use Rattle.chain_files.specs.declared.part_line.PartLine.{PartLine}
-use Rattle.chain_files.specs.declared.progress.Progress.{Progress}
-use Rattle.chain_files.specs.declared.progress.Stage.{Stage}
+use Rattle.chain_files.specs.declared.progress.PartProgress.{PartProgress}
+use Rattle.chain_files.specs.declared.progress.PartStage.{PartStage}
 use Rattle.chain_files.specs.declared.part_loop.PartLoop.TheVariants.{Whole, Faulted}
 use Rattle.chain_files.proofs.PartLines.{FitsPartLine}
 use Rattle.chain_files.proofs.Within.{within_says}
@@ -13,25 +13,25 @@ use Rattle.chain_files.proofs.Within.{within_says}
 -- ---- what was read so far, as a part
 
 -- the part with these loops
-abbrev pub with_loops : Progress → List PartLoop → PartView
+abbrev pub with_loops : PartProgress → List PartLoop → PartView
 with_loops p loops = record { first_file = p.first_file; end_file = p.end_file; entries = p.entries; script = p.script; columns = p.columns; loops = loops }
 
 -- up to the columns
-abbrev top : Progress → List PartLine
+abbrev top : PartProgress → List PartLine
 top p = PartLine.Version ∷ PartLine.Files p.first_file p.end_file ∷ PartLine.Entries p.entries ∷ PartLine.Script p.script ∷ map PartLine.Column p.columns
 
-abbrev pub lines_at : Stage → Progress → List PartLine
-lines_at Stage.First p = []
-lines_at Stage.Files p = PartLine.Version ∷ []
-lines_at Stage.Entries p = PartLine.Version ∷ PartLine.Files p.first_file p.end_file ∷ []
-lines_at Stage.Script p = PartLine.Version ∷ PartLine.Files p.first_file p.end_file ∷ PartLine.Entries p.entries ∷ []
-lines_at Stage.Columns p = top p
-lines_at Stage.Within p = top p ++ (flat_map loop_lines p.loops ++ PartLine.Loop ∷ map PartLine.Pass p.lines)
-lines_at Stage.Faulted p = top p ++ flat_map loop_lines p.loops
-lines_at Stage.Ended p = top p ++ (flat_map loop_lines p.loops ++ PartLine.End ∷ [])
+abbrev pub lines_at : PartStage → PartProgress → List PartLine
+lines_at PartStage.First p = []
+lines_at PartStage.Files p = PartLine.Version ∷ []
+lines_at PartStage.Entries p = PartLine.Version ∷ PartLine.Files p.first_file p.end_file ∷ []
+lines_at PartStage.Script p = PartLine.Version ∷ PartLine.Files p.first_file p.end_file ∷ PartLine.Entries p.entries ∷ []
+lines_at PartStage.Columns p = top p
+lines_at PartStage.Within p = top p ++ (flat_map loop_lines p.loops ++ PartLine.Loop ∷ map PartLine.Pass p.lines)
+lines_at PartStage.Faulted p = top p ++ flat_map loop_lines p.loops
+lines_at PartStage.Ended p = top p ++ (flat_map loop_lines p.loops ++ PartLine.End ∷ [])
 
 -- the lines so far
-abbrev pub lines_so_far : Progress → List PartLine
+abbrev pub lines_so_far : PartProgress → List PartLine
 lines_so_far p = lines_at p.stage p
 
 -- ---- what holds of it
@@ -42,21 +42,21 @@ WholeLoops n [] = Unit {0}
 WholeLoops n (Whole ls ∷ loops) = (0 < length ls) × FitLines (part_limits n) ls × WholeLoops n loops
 WholeLoops n (Faulted f ∷ loops) = ⊥
 
-abbrev pub Nothing : Progress → Type 0
+abbrev pub Nothing : PartProgress → Type 0
 Nothing p = (p.loops ≡ []) × (p.lines ≡ [])
 
 -- nothing behind the head was read
-abbrev pub NoColumns : Progress → Type 0
+abbrev pub NoColumns : PartProgress → Type 0
 NoColumns p = (p.columns ≡ []) × Nothing p
 
-pub record HasFiles (p : Progress) : Type 0 where
+pub record HasFiles (p : PartProgress) : Type 0 where
   pub files : p.first_file < p.end_file
   pub within : p.end_file ≤ 16777216
 
-abbrev pub FewEntries : Progress → Type 0
+abbrev pub FewEntries : PartProgress → Type 0
 FewEntries p = p.entries ≤ 1000000 * (p.end_file - p.first_file)
 
-pub record HasColumns (p : Progress) : Type 0 where
+pub record HasColumns (p : PartProgress) : Type 0 where
   pub files : HasFiles p
   pub entries : FewEntries p
   pub digest : is_digest p.script ≡ true
@@ -64,20 +64,20 @@ pub record HasColumns (p : Progress) : Type 0 where
   pub distinct : AreColumns [] p.columns
   pub named : list_all (λ (c : Column). is_name c.name) p.columns ≡ true
 
-abbrev pub FitAll : Progress → List PartLoop → Type 0
+abbrev pub FitAll : PartProgress → List PartLoop → Type 0
 FitAll p loops = FitLoops p.first_file p.end_file p.entries loops
 
-abbrev pub Holds : Stage → Progress → Type 0
-Holds Stage.First p = NoColumns p
-Holds Stage.Files p = NoColumns p
-Holds Stage.Entries p = HasFiles p × NoColumns p
-Holds Stage.Script p = (HasFiles p × FewEntries p) × NoColumns p
-Holds Stage.Columns p = HasColumns p × Nothing p
-Holds Stage.Within p = IsPart (with_loops p []) × WholeLoops p.entries p.loops × FitLines (part_limits p.entries) p.lines
-Holds Stage.Faulted p = IsPart (with_loops p []) × FitAll p p.loops
-Holds Stage.Ended p = IsPart (with_loops p []) × FitAll p p.loops
+abbrev pub Holds : PartStage → PartProgress → Type 0
+Holds PartStage.First p = NoColumns p
+Holds PartStage.Files p = NoColumns p
+Holds PartStage.Entries p = HasFiles p × NoColumns p
+Holds PartStage.Script p = (HasFiles p × FewEntries p) × NoColumns p
+Holds PartStage.Columns p = HasColumns p × Nothing p
+Holds PartStage.Within p = IsPart (with_loops p []) × WholeLoops p.entries p.loops × FitLines (part_limits p.entries) p.lines
+Holds PartStage.Faulted p = IsPart (with_loops p []) × FitAll p p.loops
+Holds PartStage.Ended p = IsPart (with_loops p []) × FitAll p p.loops
 
-abbrev pub IsProgress : Progress → Type 0
+abbrev pub IsProgress : PartProgress → Type 0
 IsProgress p = Holds p.stage p
 
 -- ---- lists
@@ -116,21 +116,21 @@ flat_push (y ∷ loops) x = ap (λ t. loop_lines y ++ t) (flat_push loops x) ∙
 
 -- ---- a line that follows
 
-abbrev Followed : List PartLine → PartLine → Progress → Type 0
+abbrev Followed : List PartLine → PartLine → PartProgress → Type 0
 Followed before l q = IsProgress q × (lines_so_far q ≡ before ++ l ∷ [])
 
 some_is : {A : Type 0} (P : A → Type 0) (x y : A) → Some x ≡ Some y → P x → P y
 some_is P x y e h = let same : x ≡ y = cc e in subst P same h
 
 -- the head is whole where there is a column
-headed : (p : Progress) → HasColumns p → nat_lt 0 (length p.columns) ≡ true → IsPart (with_loops p [])
+headed : (p : PartProgress) → HasColumns p → nat_lt 0 (length p.columns) ≡ true → IsPart (with_loops p [])
 headed p has t =
     let some : 0 < length p.columns = grind (arith, nat_tests) in
     let had = has.files in
     let header : IsHeader p.columns = record { some = some; few = has.few; distinct = has.distinct } in
     record { files = had.files; within = had.within; entries = has.entries; digest = has.digest; header = header; named = has.named; loops = tt }
 
-columns_follow : (p q : Progress) (l : PartLine) → Holds Stage.Columns p → FitsPartLine l → p.stage ≡ Stage.Columns → on_columns p l ≡ Some q → Followed (top p) l q
+columns_follow : (p q : PartProgress) (l : PartLine) → Holds PartStage.Columns p → FitsPartLine l → p.stage ≡ PartStage.Columns → on_columns p l ≡ Some q → Followed (top p) l q
 columns_follow p q PartLine.Version h f s e = cc e
 columns_follow p q (PartLine.Files a b) h f s e = cc e
 columns_follow p q (PartLine.Entries k) h f s e = cc e
@@ -144,52 +144,52 @@ columns_follow p q (PartLine.Column c) h f s e =
     let files : HasFiles (record p { columns = p.columns ++ c ∷ [] }) = let had = has.files in record { files = had.files; within = had.within } in
     let kept : HasColumns (record p { columns = p.columns ++ c ∷ [] }) =
     record { files = files; entries = has.entries; digest = has.digest; few = more; distinct = columns_push [] p.columns c has.distinct tests.0 f; named = named_push p.columns c has.named f.0 } in
-    let lines : lines_at Stage.Columns (record p { columns = p.columns ++ c ∷ [] }) ≡ top p ++ PartLine.Column c ∷ [] =
+    let lines : lines_at PartStage.Columns (record p { columns = p.columns ++ c ∷ [] }) ≡ top p ++ PartLine.Column c ∷ [] =
     ap (λ t. PartLine.Version ∷ PartLine.Files p.first_file p.end_file ∷ PartLine.Entries p.entries ∷ PartLine.Script p.script ∷ t) (map_next PartLine.Column p.columns c) in
     subst (Followed (top p) (PartLine.Column c)) found.1
-    (subst (λ (t : Stage). Holds t (record p { columns = p.columns ++ c ∷ [] }) × (lines_at t (record p { columns = p.columns ++ c ∷ [] }) ≡ top p ++ PartLine.Column c ∷ [])) (sym s) ((kept, h.1), lines))
+    (subst (λ (t : PartStage). Holds t (record p { columns = p.columns ++ c ∷ [] }) × (lines_at t (record p { columns = p.columns ++ c ∷ [] }) ≡ top p ++ PartLine.Column c ∷ [])) (sym s) ((kept, h.1), lines))
 columns_follow p q PartLine.Loop h f s e =
-    let n = record p { stage = Stage.Within } in
+    let n = record p { stage = PartStage.Within } in
     let found = if_some (nat_lt 0 (length p.columns)) n q e in
     let nothing = h.1 in
-    let lines : lines_at Stage.Within n ≡ top p ++ PartLine.Loop ∷ [] = ap₂ (λ ls ms. top p ++ (flat_map loop_lines ls ++ PartLine.Loop ∷ map PartLine.Pass ms)) nothing.0 nothing.1 in
+    let lines : lines_at PartStage.Within n ≡ top p ++ PartLine.Loop ∷ [] = ap₂ (λ ls ms. top p ++ (flat_map loop_lines ls ++ PartLine.Loop ∷ map PartLine.Pass ms)) nothing.0 nothing.1 in
     subst (Followed (top p) PartLine.Loop) found.1 ((headed p h.0 found.0, subst (WholeLoops p.entries) (sym nothing.0) tt, subst (FitLines (part_limits p.entries)) (sym nothing.1) tt), lines)
 columns_follow p q (PartLine.Pass l) h f s e = cc e
 columns_follow p q (PartLine.Fault g) h f s e = cc e
 columns_follow p q PartLine.End h f s e =
-    let n = record p { stage = Stage.Ended } in
+    let n = record p { stage = PartStage.Ended } in
     let found = if_some (nat_lt 0 (length p.columns)) n q e in
     let nothing = h.1 in
-    let lines : lines_at Stage.Ended n ≡ top p ++ PartLine.End ∷ [] = ap (λ ls. top p ++ (flat_map loop_lines ls ++ PartLine.End ∷ [])) nothing.0 in
+    let lines : lines_at PartStage.Ended n ≡ top p ++ PartLine.End ∷ [] = ap (λ ls. top p ++ (flat_map loop_lines ls ++ PartLine.End ∷ [])) nothing.0 in
     subst (Followed (top p) PartLine.End) found.1 ((headed p h.0 found.0, subst (FitAll p) (sym nothing.0) tt), lines)
 
 -- the lines of a loop that is whole, and one more
 closed_lines : (t : List PartLine) (loops : List PartLoop) (ls : List ShardLine) (more : List PartLine) → t ++ (flat_map loop_lines (loops ++ Whole ls ∷ []) ++ more) ≡ (t ++ (flat_map loop_lines loops ++ PartLine.Loop ∷ map PartLine.Pass ls)) ++ more
 closed_lines t loops ls more = ap (λ u. t ++ (u ++ more)) (flat_push loops (Whole ls)) ∙ sym (append_assoc t (flat_map loop_lines loops ++ PartLine.Loop ∷ map PartLine.Pass ls) more)
 
-within_follow : (p q : Progress) (l : PartLine) → Holds Stage.Within p → FitsPartLine l → p.stage ≡ Stage.Within → on_within p l ≡ Some q → Followed (lines_at Stage.Within p) l q
+within_follow : (p q : PartProgress) (l : PartLine) → Holds PartStage.Within p → FitsPartLine l → p.stage ≡ PartStage.Within → on_within p l ≡ Some q → Followed (lines_at PartStage.Within p) l q
 within_follow p q PartLine.Version h f s e = cc e
 within_follow p q (PartLine.Files a b) h f s e = cc e
 within_follow p q (PartLine.Entries k) h f s e = cc e
 within_follow p q (PartLine.Script w) h f s e = cc e
 within_follow p q (PartLine.Column c) h f s e = cc e
 within_follow p q PartLine.Loop h f s e =
-    let n = record p { stage = Stage.Within; loops = p.loops ++ Whole p.lines ∷ []; lines = [] } in
+    let n = record p { stage = PartStage.Within; loops = p.loops ++ Whole p.lines ∷ []; lines = [] } in
     let found = if_some (nat_lt 0 (length p.lines)) n q e in
     let some : 0 < length p.lines = let t = found.0 in grind (arith, nat_tests) in
-    subst (Followed (lines_at Stage.Within p) PartLine.Loop) found.1 ((h.0, whole_push p.first_file p.end_file p.entries p.loops p.lines h.1 some h.2, tt), closed_lines (top p) p.loops p.lines (PartLine.Loop ∷ []))
+    subst (Followed (lines_at PartStage.Within p) PartLine.Loop) found.1 ((h.0, whole_push p.first_file p.end_file p.entries p.loops p.lines h.1 some h.2, tt), closed_lines (top p) p.loops p.lines (PartLine.Loop ∷ []))
 within_follow p q (PartLine.Pass l) h f s e =
     let n = record p { lines = p.lines ++ l ∷ [] } in
     let found = if_some (is_within p.entries l) n q e in
     let fits : FitsLine (part_limits p.entries) l = within_says p.entries l f found.0 in
     let before = flat_map loop_lines p.loops in
-    let lines : lines_at Stage.Within n ≡ lines_at Stage.Within p ++ PartLine.Pass l ∷ [] =
+    let lines : lines_at PartStage.Within n ≡ lines_at PartStage.Within p ++ PartLine.Pass l ∷ [] =
     ap (λ t. top p ++ (before ++ PartLine.Loop ∷ t)) (map_next PartLine.Pass p.lines l)
     ∙ ap (λ t. top p ++ t) (sym (append_assoc before (PartLine.Loop ∷ map PartLine.Pass p.lines) (PartLine.Pass l ∷ []))) ∙ sym (append_assoc (top p) (before ++ PartLine.Loop ∷ map PartLine.Pass p.lines) (PartLine.Pass l ∷ [])) in
-    subst (Followed (lines_at Stage.Within p) (PartLine.Pass l)) found.1
-    (subst (λ (t : Stage). Holds t n × (lines_at t n ≡ lines_at Stage.Within p ++ PartLine.Pass l ∷ [])) (sym s) ((h.0, h.1, fits_push (FitsLine (part_limits p.entries)) p.lines l h.2 fits), lines))
+    subst (Followed (lines_at PartStage.Within p) (PartLine.Pass l)) found.1
+    (subst (λ (t : PartStage). Holds t n × (lines_at t n ≡ lines_at PartStage.Within p ++ PartLine.Pass l ∷ [])) (sym s) ((h.0, h.1, fits_push (FitsLine (part_limits p.entries)) p.lines l h.2 fits), lines))
 within_follow p q (PartLine.Fault g) h f s e =
-    let n = record p { stage = Stage.Faulted; loops = p.loops ++ Faulted g ∷ [] } in
+    let n = record p { stage = PartStage.Faulted; loops = p.loops ++ Faulted g ∷ [] } in
     let found = if_some (nat_eq (length p.lines) 0 && (nat_le p.first_file g.file && nat_lt g.file p.end_file)) n q e in
     let tests = both_true (nat_eq (length p.lines) 0) (nat_le p.first_file g.file && nat_lt g.file p.end_file) found.0 in
     let place = both_true (nat_le p.first_file g.file) (nat_lt g.file p.end_file) tests.1 in
@@ -197,65 +197,65 @@ within_follow p q (PartLine.Fault g) h f s e =
     let high : g.file < p.end_file = let t = place.1 in grind (arith, nat_tests) in
     let empty : p.lines ≡ [] = none p.lines tests.0 in
     let before = flat_map loop_lines p.loops in
-    let lines : lines_at Stage.Faulted n ≡ lines_at Stage.Within p ++ PartLine.Fault g ∷ [] =
+    let lines : lines_at PartStage.Faulted n ≡ lines_at PartStage.Within p ++ PartLine.Fault g ∷ [] =
     ap (λ t. top p ++ t) (flat_push p.loops (Faulted g) ∙ sym (append_assoc before (PartLine.Loop ∷ []) (PartLine.Fault g ∷ []))) ∙ sym (append_assoc (top p) (before ++ PartLine.Loop ∷ []) (PartLine.Fault g ∷ []))
     ∙ ap (λ ls. (top p ++ (before ++ PartLine.Loop ∷ map PartLine.Pass ls)) ++ PartLine.Fault g ∷ []) (sym empty) in
-    subst (Followed (lines_at Stage.Within p) (PartLine.Fault g)) found.1 ((h.0, fault_fits p.first_file p.end_file p.entries p.loops g h.1 (low, high, f.1, f.2)), lines)
+    subst (Followed (lines_at PartStage.Within p) (PartLine.Fault g)) found.1 ((h.0, fault_fits p.first_file p.end_file p.entries p.loops g h.1 (low, high, f.1, f.2)), lines)
   where
     none : (ls : List ShardLine) → nat_eq (length ls) 0 ≡ true → ls ≡ []
     none [] e = refl
     none (x ∷ ls) e = absurd (grind (arith, nat_tests))
 within_follow p q PartLine.End h f s e =
-    let n = record p { stage = Stage.Ended; loops = p.loops ++ Whole p.lines ∷ []; lines = [] } in
+    let n = record p { stage = PartStage.Ended; loops = p.loops ++ Whole p.lines ∷ []; lines = [] } in
     let found = if_some (nat_lt 0 (length p.lines)) n q e in
     let some : 0 < length p.lines = let t = found.0 in grind (arith, nat_tests) in
     let fits = whole_fits p.first_file p.end_file p.entries (p.loops ++ Whole p.lines ∷ []) (whole_push p.first_file p.end_file p.entries p.loops p.lines h.1 some h.2) in
-    subst (Followed (lines_at Stage.Within p) PartLine.End) found.1 ((h.0, fits), closed_lines (top p) p.loops p.lines (PartLine.End ∷ []))
+    subst (Followed (lines_at PartStage.Within p) PartLine.End) found.1 ((h.0, fits), closed_lines (top p) p.loops p.lines (PartLine.End ∷ []))
 
-follow_at : (s : Stage) (p q : Progress) (l : PartLine) → p.stage ≡ s → Holds s p → FitsPartLine l → step_at s p l ≡ Some q → Followed (lines_at s p) l q
-follow_at Stage.First p q PartLine.Version s h f e = some_is (Followed [] PartLine.Version) (record p { stage = Stage.Files }) q e (h, refl)
-follow_at Stage.First p q (PartLine.Files a b) s h f e = cc e
-follow_at Stage.First p q (PartLine.Entries k) s h f e = cc e
-follow_at Stage.First p q (PartLine.Script w) s h f e = cc e
-follow_at Stage.First p q (PartLine.Column c) s h f e = cc e
-follow_at Stage.First p q PartLine.Loop s h f e = cc e
-follow_at Stage.First p q (PartLine.Pass l) s h f e = cc e
-follow_at Stage.First p q (PartLine.Fault g) s h f e = cc e
-follow_at Stage.First p q PartLine.End s h f e = cc e
-follow_at Stage.Files p q PartLine.Version s h f e = cc e
-follow_at Stage.Files p q (PartLine.Files a b) s h f e =
-    let n = record p { stage = Stage.Entries; first_file = a; end_file = b } in
+follow_at : (s : PartStage) (p q : PartProgress) (l : PartLine) → p.stage ≡ s → Holds s p → FitsPartLine l → step_at s p l ≡ Some q → Followed (lines_at s p) l q
+follow_at PartStage.First p q PartLine.Version s h f e = some_is (Followed [] PartLine.Version) (record p { stage = PartStage.Files }) q e (h, refl)
+follow_at PartStage.First p q (PartLine.Files a b) s h f e = cc e
+follow_at PartStage.First p q (PartLine.Entries k) s h f e = cc e
+follow_at PartStage.First p q (PartLine.Script w) s h f e = cc e
+follow_at PartStage.First p q (PartLine.Column c) s h f e = cc e
+follow_at PartStage.First p q PartLine.Loop s h f e = cc e
+follow_at PartStage.First p q (PartLine.Pass l) s h f e = cc e
+follow_at PartStage.First p q (PartLine.Fault g) s h f e = cc e
+follow_at PartStage.First p q PartLine.End s h f e = cc e
+follow_at PartStage.Files p q PartLine.Version s h f e = cc e
+follow_at PartStage.Files p q (PartLine.Files a b) s h f e =
+    let n = record p { stage = PartStage.Entries; first_file = a; end_file = b } in
     let found = if_some (nat_lt a b) n q e in
     let below : a < b = let t = found.0 in grind (arith, nat_tests) in
     let files : HasFiles n = record { files = below; within = f.1 } in
     subst (Followed (PartLine.Version ∷ []) (PartLine.Files a b)) found.1 ((files, h), refl)
-follow_at Stage.Files p q (PartLine.Entries k) s h f e = cc e
-follow_at Stage.Files p q (PartLine.Script w) s h f e = cc e
-follow_at Stage.Files p q (PartLine.Column c) s h f e = cc e
-follow_at Stage.Files p q PartLine.Loop s h f e = cc e
-follow_at Stage.Files p q (PartLine.Pass l) s h f e = cc e
-follow_at Stage.Files p q (PartLine.Fault g) s h f e = cc e
-follow_at Stage.Files p q PartLine.End s h f e = cc e
-follow_at Stage.Entries p q PartLine.Version s h f e = cc e
-follow_at Stage.Entries p q (PartLine.Files a b) s h f e = cc e
-follow_at Stage.Entries p q (PartLine.Entries k) s h f e =
-    let n = record p { stage = Stage.Script; entries = k } in
+follow_at PartStage.Files p q (PartLine.Entries k) s h f e = cc e
+follow_at PartStage.Files p q (PartLine.Script w) s h f e = cc e
+follow_at PartStage.Files p q (PartLine.Column c) s h f e = cc e
+follow_at PartStage.Files p q PartLine.Loop s h f e = cc e
+follow_at PartStage.Files p q (PartLine.Pass l) s h f e = cc e
+follow_at PartStage.Files p q (PartLine.Fault g) s h f e = cc e
+follow_at PartStage.Files p q PartLine.End s h f e = cc e
+follow_at PartStage.Entries p q PartLine.Version s h f e = cc e
+follow_at PartStage.Entries p q (PartLine.Files a b) s h f e = cc e
+follow_at PartStage.Entries p q (PartLine.Entries k) s h f e =
+    let n = record p { stage = PartStage.Script; entries = k } in
     let found = if_some (nat_le k (1000000 * (p.end_file - p.first_file))) n q e in
     let few : FewEntries n = let t = found.0 in grind (arith, nat_tests) in
     let had = h.0 in
     let files : HasFiles n = record { files = had.files; within = had.within } in
-    subst (Followed (lines_at Stage.Entries p) (PartLine.Entries k)) found.1 (((files, few), h.1), refl)
-follow_at Stage.Entries p q (PartLine.Script w) s h f e = cc e
-follow_at Stage.Entries p q (PartLine.Column c) s h f e = cc e
-follow_at Stage.Entries p q PartLine.Loop s h f e = cc e
-follow_at Stage.Entries p q (PartLine.Pass l) s h f e = cc e
-follow_at Stage.Entries p q (PartLine.Fault g) s h f e = cc e
-follow_at Stage.Entries p q PartLine.End s h f e = cc e
-follow_at Stage.Script p q PartLine.Version s h f e = cc e
-follow_at Stage.Script p q (PartLine.Files a b) s h f e = cc e
-follow_at Stage.Script p q (PartLine.Entries k) s h f e = cc e
-follow_at Stage.Script p q (PartLine.Script w) s h f e =
-    let n = record p { stage = Stage.Columns; script = w } in
+    subst (Followed (lines_at PartStage.Entries p) (PartLine.Entries k)) found.1 (((files, few), h.1), refl)
+follow_at PartStage.Entries p q (PartLine.Script w) s h f e = cc e
+follow_at PartStage.Entries p q (PartLine.Column c) s h f e = cc e
+follow_at PartStage.Entries p q PartLine.Loop s h f e = cc e
+follow_at PartStage.Entries p q (PartLine.Pass l) s h f e = cc e
+follow_at PartStage.Entries p q (PartLine.Fault g) s h f e = cc e
+follow_at PartStage.Entries p q PartLine.End s h f e = cc e
+follow_at PartStage.Script p q PartLine.Version s h f e = cc e
+follow_at PartStage.Script p q (PartLine.Files a b) s h f e = cc e
+follow_at PartStage.Script p q (PartLine.Entries k) s h f e = cc e
+follow_at PartStage.Script p q (PartLine.Script w) s h f e =
+    let n = record p { stage = PartStage.Columns; script = w } in
     let held = h.0 in
     let had = held.0 in
     let rest = h.1 in
@@ -263,27 +263,27 @@ follow_at Stage.Script p q (PartLine.Script w) s h f e =
     let few : length p.columns ≤ 64 = omega (arith, ap length none) in
     let files : HasFiles n = record { files = had.files; within = had.within } in
     let has : HasColumns n = record { files = files; entries = held.1; digest = f; few = few; distinct = subst (AreColumns []) (sym none) tt; named = subst (λ cs. list_all (λ (c : Column). is_name c.name) cs ≡ true) (sym none) refl } in
-    some_is (Followed (lines_at Stage.Script p) (PartLine.Script w)) n q e ((has, rest.1), ap (λ cs. PartLine.Version ∷ PartLine.Files p.first_file p.end_file ∷ PartLine.Entries p.entries ∷ PartLine.Script w ∷ map PartLine.Column cs) none)
-follow_at Stage.Script p q (PartLine.Column c) s h f e = cc e
-follow_at Stage.Script p q PartLine.Loop s h f e = cc e
-follow_at Stage.Script p q (PartLine.Pass l) s h f e = cc e
-follow_at Stage.Script p q (PartLine.Fault g) s h f e = cc e
-follow_at Stage.Script p q PartLine.End s h f e = cc e
-follow_at Stage.Columns p q l s h f e = columns_follow p q l h f s e
-follow_at Stage.Within p q l s h f e = within_follow p q l h f s e
-follow_at Stage.Faulted p q PartLine.Version s h f e = cc e
-follow_at Stage.Faulted p q (PartLine.Files a b) s h f e = cc e
-follow_at Stage.Faulted p q (PartLine.Entries k) s h f e = cc e
-follow_at Stage.Faulted p q (PartLine.Script w) s h f e = cc e
-follow_at Stage.Faulted p q (PartLine.Column c) s h f e = cc e
-follow_at Stage.Faulted p q PartLine.Loop s h f e = cc e
-follow_at Stage.Faulted p q (PartLine.Pass l) s h f e = cc e
-follow_at Stage.Faulted p q (PartLine.Fault g) s h f e = cc e
-follow_at Stage.Faulted p q PartLine.End s h f e = some_is (Followed (lines_at Stage.Faulted p) PartLine.End) (record p { stage = Stage.Ended }) q e (h, sym (append_assoc (top p) (flat_map loop_lines p.loops) (PartLine.End ∷ [])))
-follow_at Stage.Ended p q l s h f e = cc e
+    some_is (Followed (lines_at PartStage.Script p) (PartLine.Script w)) n q e ((has, rest.1), ap (λ cs. PartLine.Version ∷ PartLine.Files p.first_file p.end_file ∷ PartLine.Entries p.entries ∷ PartLine.Script w ∷ map PartLine.Column cs) none)
+follow_at PartStage.Script p q (PartLine.Column c) s h f e = cc e
+follow_at PartStage.Script p q PartLine.Loop s h f e = cc e
+follow_at PartStage.Script p q (PartLine.Pass l) s h f e = cc e
+follow_at PartStage.Script p q (PartLine.Fault g) s h f e = cc e
+follow_at PartStage.Script p q PartLine.End s h f e = cc e
+follow_at PartStage.Columns p q l s h f e = columns_follow p q l h f s e
+follow_at PartStage.Within p q l s h f e = within_follow p q l h f s e
+follow_at PartStage.Faulted p q PartLine.Version s h f e = cc e
+follow_at PartStage.Faulted p q (PartLine.Files a b) s h f e = cc e
+follow_at PartStage.Faulted p q (PartLine.Entries k) s h f e = cc e
+follow_at PartStage.Faulted p q (PartLine.Script w) s h f e = cc e
+follow_at PartStage.Faulted p q (PartLine.Column c) s h f e = cc e
+follow_at PartStage.Faulted p q PartLine.Loop s h f e = cc e
+follow_at PartStage.Faulted p q (PartLine.Pass l) s h f e = cc e
+follow_at PartStage.Faulted p q (PartLine.Fault g) s h f e = cc e
+follow_at PartStage.Faulted p q PartLine.End s h f e = some_is (Followed (lines_at PartStage.Faulted p) PartLine.End) (record p { stage = PartStage.Ended }) q e (h, sym (append_assoc (top p) (flat_map loop_lines p.loops) (PartLine.End ∷ [])))
+follow_at PartStage.Ended p q l s h f e = cc e
 
 -- a line that may follow comes behind the lines so far
-pub follows : (p q : Progress) (l : PartLine) → IsProgress p → FitsPartLine l → step p l ≡ Some q → Followed (lines_so_far p) l q
+pub follows : (p q : PartProgress) (l : PartLine) → IsProgress p → FitsPartLine l → step p l ≡ Some q → Followed (lines_so_far p) l q
 follows p q l h f e = follow_at p.stage p q l refl h f e
 
 -- ---- the lines so far begin some part
@@ -324,25 +324,25 @@ begin_columns a b n w (x ∷ cs) l m few g short d named =
     let header : IsHeader (x ∷ cs) = record { some = omega arith; few = short; distinct = d } in
     record { part = small a b n w (x ∷ cs); valid = small_valid a b n w (x ∷ cs) l m few g header named; more = PartLine.End ∷ []; lines = refl }
 
-revalid : (p : Progress) (loops : List PartLoop) → IsPart (with_loops p []) → FitAll p loops → IsPart (with_loops p loops)
+revalid : (p : PartProgress) (loops : List PartLoop) → IsPart (with_loops p []) → FitAll p loops → IsPart (with_loops p loops)
 revalid p loops h f = record { files = h.files; within = h.within; entries = h.entries; digest = h.digest; header = h.header; named = h.named; loops = f }
 
-begin_at : (s : Stage) (p : Progress) → Holds s p → Begins (lines_at s p)
-begin_at Stage.First p h = record { part = lone_part 0 1 0; valid = lone_valid 0 1 0 (omega arith) (omega arith) (omega arith); more = part_lines (lone_part 0 1 0); lines = refl }
-begin_at Stage.Files p h =
+begin_at : (s : PartStage) (p : PartProgress) → Holds s p → Begins (lines_at s p)
+begin_at PartStage.First p h = record { part = lone_part 0 1 0; valid = lone_valid 0 1 0 (omega arith) (omega arith) (omega arith); more = part_lines (lone_part 0 1 0); lines = refl }
+begin_at PartStage.Files p h =
     record { part = lone_part 0 1 0; valid = lone_valid 0 1 0 (omega arith) (omega arith) (omega arith); more = PartLine.Files 0 1 ∷ PartLine.Entries 0 ∷ PartLine.Script a_digest ∷ PartLine.Column a_column ∷ PartLine.End ∷ []; lines = refl }
-begin_at Stage.Entries p h =
+begin_at PartStage.Entries p h =
     let had = h.0 in
     record { part = lone_part p.first_file p.end_file 0; valid = lone_valid p.first_file p.end_file 0 had.files had.within (omega arith); more = PartLine.Entries 0 ∷ PartLine.Script a_digest ∷ PartLine.Column a_column ∷ PartLine.End ∷ []; lines = refl }
-begin_at Stage.Script p h =
+begin_at PartStage.Script p h =
     let held = h.0 in
     let had = held.0 in
     record { part = lone_part p.first_file p.end_file p.entries; valid = lone_valid p.first_file p.end_file p.entries had.files had.within held.1; more = PartLine.Script a_digest ∷ PartLine.Column a_column ∷ PartLine.End ∷ []; lines = refl }
-begin_at Stage.Columns p h =
+begin_at PartStage.Columns p h =
     let has = h.0 in
     let had = has.files in
     begin_columns p.first_file p.end_file p.entries p.script p.columns had.files had.within has.entries has.digest has.few has.distinct has.named
-begin_at Stage.Within p h =
+begin_at PartStage.Within p h =
     let one : FitsLine (part_limits p.entries) (ShardLine.Count 0) = omega arith in
     let lines = p.lines ++ ShardLine.Count 0 ∷ [] in
     let some : 0 < length lines = omega (arith, length-append p.lines (ShardLine.Count 0 ∷ [])) in
@@ -359,8 +359,8 @@ begin_at Stage.Within p h =
           ∙ ap (λ t. t ++ PartLine.End ∷ []) (sym (append_assoc (top p) (before ++ PartLine.Loop ∷ map PartLine.Pass p.lines) (PartLine.Pass (ShardLine.Count 0) ∷ [])))
           ∙ append_assoc (top p ++ (before ++ PartLine.Loop ∷ map PartLine.Pass p.lines)) (PartLine.Pass (ShardLine.Count 0) ∷ []) (PartLine.End ∷ []);
     }
-begin_at Stage.Faulted p h = record { part = part_of p; valid = revalid p p.loops h.0 h.1; more = PartLine.End ∷ []; lines = sym (append_assoc (top p) (flat_map loop_lines p.loops) (PartLine.End ∷ [])) }
-begin_at Stage.Ended p h = record { part = part_of p; valid = revalid p p.loops h.0 h.1; more = []; lines = sym (append-nil (lines_at Stage.Ended p)) }
+begin_at PartStage.Faulted p h = record { part = part_of p; valid = revalid p p.loops h.0 h.1; more = PartLine.End ∷ []; lines = sym (append_assoc (top p) (flat_map loop_lines p.loops) (PartLine.End ∷ [])) }
+begin_at PartStage.Ended p h = record { part = part_of p; valid = revalid p p.loops h.0 h.1; more = []; lines = sym (append-nil (lines_at PartStage.Ended p)) }
 
-pub begins : (p : Progress) → IsProgress p → Begins (lines_so_far p)
+pub begins : (p : PartProgress) → IsProgress p → Begins (lines_so_far p)
 begins p h = begin_at p.stage p h

@@ -1,11 +1,12 @@
 -- Parts may be joined in any groups.
 use Rattle.lemmas.proofs.{◌≡◌, ◌+◌, ◌+ℤ◌, ℕ, ℤ, Option, None, Some, List, [], ◌∷◌, ◌++◌, fold, refl, ap, ap₂, ◌∙◌, arith, append_assoc, int_max, int_min, ints}
+use Rattle.rdf_values.specs.{ReduceOp}
 use Rattle.loop_pieces.specs.{Counts}
 use Rattle.histograms.specs.{CellSum}
 use Rattle.shard_lines.specs.{added_cells, added_counts, better_of, cells_of, count_of, counts_of, extreme_of, joined_line, joined_lines, number_of, PassShape, ShardLine, sum_of, taken_of}
 use Rattle.chain_files.specs.{GroupsAreFree, joined_loops, joined_part, JoiningIsAssociative, PartLoop, PartView}
 use Rattle.chain_files.specs.declared.part_loop.PartLoop.TheVariants.{Whole, Faulted}
-use Rattle.chain_files.proofs.Reductions.{max_assoc, min_assoc, step_assoc}
+use Rattle.actions.proofs.Folds.{step_assoc}
 
 -- ---- what lines hold
 
@@ -44,8 +45,8 @@ counts (c ∷ cs) (d ∷ ds) (e ∷ es) = ap₂ (λ x xs. x ∷ xs) (ap₂ count
 one_line : (s : PassShape) (p q r : ShardLine) → joined_line s (joined_line s p q) r ≡ joined_line s p (joined_line s q r)
 one_line PassShape.Count p q r = ap ShardLine.Count (numbers (count_of p) (count_of q) (count_of r))
 one_line PassShape.Sum p q r = ap ShardLine.Sum (sums (sum_of p) (sum_of q) (sum_of r))
-one_line PassShape.Least p q r = ap ShardLine.Extreme (best int_min min_assoc (extreme_of p) (extreme_of q) (extreme_of r))
-one_line PassShape.Greatest p q r = ap ShardLine.Extreme (best int_max max_assoc (extreme_of p) (extreme_of q) (extreme_of r))
+one_line PassShape.Least p q r = ap ShardLine.Extreme (best int_min (step_assoc ReduceOp.Min) (extreme_of p) (extreme_of q) (extreme_of r))
+one_line PassShape.Greatest p q r = ap ShardLine.Extreme (best int_max (step_assoc ReduceOp.Max) (extreme_of p) (extreme_of q) (extreme_of r))
 one_line (PassShape.Take column) p q r = ap ShardLine.Take (append_assoc (taken_of p) (taken_of q) (taken_of r))
 one_line (PassShape.Number o) p q r = ap ShardLine.Number (step_assoc o (number_of p) (number_of q) (number_of r))
 one_line (PassShape.Cells n) p q r = ap ShardLine.Cells (cells (cells_of p) (cells_of q) (cells_of r))

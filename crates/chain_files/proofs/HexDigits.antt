@@ -1,5 +1,5 @@
 -- A digest's digits, and digests computed.
-use Rattle.lemmas.proofs.{◌≡◌, ◌<◌, ◌+◌, ◌/◌, ◌%◌, ◌++◌, ℕ, zero, suc, Bool, true, false, ◌&&◌, cond, List, [], ◌∷◌, length, length-append, refl, ap, ap₂, ◌∙◌, arith, ◌||◌, nat_eq, nat_lt, list_all, nat_tests}
+use Rattle.lemmas.proofs.{◌≡◌, ◌<◌, ◌+◌, ◌/◌, ◌%◌, ◌++◌, ℕ, zero, suc, Bool, true, false, ◌&&◌, cond, List, [], ◌∷◌, length, length-append, refl, ap, ap₂, arith, nat_eq, nat_lt, list_all, nat_tests}
 use Rattle.chain_files.specs.{digest_of, hash_of, hex_digit, hex_digits, is_digest, is_hex}
 
 all_joined : (xs ys : List ℕ) → list_all is_hex xs ≡ true → list_all is_hex ys ≡ true → list_all is_hex (xs ++ ys) ≡ true

@@ -1,5 +1,5 @@
 -- What two parts come to is within the limits of their entries together.
-use Rattle.lemmas.proofs.{◌≡◌, ◌≤◌, ◌<◌, ◌+◌, ◌*◌, ◌-◌, ◌^◌, ◌+ℤ◌, ℕ, ℤ, pos, negsuc, Bool, true, false, ◌&&◌, cond, Option, None, Some, List, [], ◌∷◌, ◌++◌, length, refl, ap, ap₂, ◌∙◌, sym, subst, arith, length-append, w64, ◌||◌, nat_abs, nat_eq, int_lt, abs_add, both_true, cast_signed, int_max, int_min, list_all, nat_tests, or_true}
+use Rattle.lemmas.proofs.{◌≡◌, ◌≤◌, ◌<◌, ◌+◌, ◌*◌, ◌-◌, ◌^◌, ℕ, ℤ, pos, negsuc, Bool, true, false, ◌&&◌, cond, Option, None, Some, List, [], ◌∷◌, ◌++◌, length, refl, ap, ap₂, ◌∙◌, sym, subst, arith, length-append, w64, ◌||◌, nat_abs, nat_eq, int_lt, abs_add, both_true, cast_signed, int_max, int_min, list_all, nat_tests, or_true}
 use borrow.Author.Differences.{read_fits, up, down}
 use Rattle.rdf_values.specs.{ColType, Has64Bits, reduce_step, ReduceOp, Scalar}
 use Rattle.loop_pieces.specs.{Counts}

@@ -7,7 +7,6 @@ mod Keeping
 mod Joinable
 pub mod OnePart
 mod Ordering
-mod Reductions
 mod Refused
 mod Running
 mod Runs

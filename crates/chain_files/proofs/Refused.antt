@@ -6,15 +6,15 @@ use Rattle.shard_files.specs.Endless.{Endless}
 use Rattle.shard_files.proofs.Splitting.{ends_same, joined_again, no_line}
 use Rattle.chain_files.specs.{Begins, BreaksAt, IsAll, line_text, lines_text, part_line_of, step, step_on, words_of}
 use Rattle.chain_files.specs.declared.part_line.PartLine.{PartLine}
-use Rattle.chain_files.specs.declared.progress.Progress.{Progress}
-use Rattle.chain_files.specs.declared.progress.Stage.{Stage}
+use Rattle.chain_files.specs.declared.progress.PartProgress.{PartProgress}
+use Rattle.chain_files.specs.declared.progress.PartStage.{PartStage}
 use Rattle.chain_files.proofs.PartLines.{FitsPartLine, part_reads, part_says}
 use Rattle.chain_files.proofs.Following.{IsProgress, begins, follows, lines_so_far}
 use Rattle.chain_files.proofs.Running.{agrees, ended, run, runs_on, start}
 use Rattle.chain_files.proofs.Splitting.{endless_line, fit_front, fit_last, found_again, lines_fit, text_is}
 
 -- what was read of the bytes, the bytes that are left, and the number of the next line
-pub record Read (bytes : List ℕ) (p : Progress) (rest : List ℕ) (number : ℕ) : Type 0 where
+pub record Read (bytes : List ℕ) (p : PartProgress) (rest : List ℕ) (number : ℕ) : Type 0 where
   pub text : bytes ≡ lines_text (lines_so_far p) ++ rest
   pub ran : run start (lines_so_far p) ≡ Some p
   pub holds : IsProgress p
@@ -24,9 +24,9 @@ pub record Read (bytes : List ℕ) (p : Progress) (rest : List ℕ) (number : �
 lines_push : (ls : List PartLine) (l : PartLine) → lines_text (ls ++ l ∷ []) ≡ lines_text ls ++ line_text l
 lines_push ls l = joins line_text ls (l ∷ []) ∙ ap (λ t. lines_text ls ++ t) (append-nil (line_text l))
 
-module _ (bytes : List ℕ) (p : Progress) (rest line more : List ℕ) (number : ℕ) (so : Read bytes p rest number) (split : rest ≡ line ++ 10 ∷ more) where
+module _ (bytes : List ℕ) (p : PartProgress) (rest line more : List ℕ) (number : ℕ) (so : Read bytes p rest number) (split : rest ≡ line ++ 10 ∷ more) where
   -- the line was read
-  read_line : (l : PartLine) (q : Progress) → part_line_of (words_in line) ≡ Some l → step p l ≡ Some q → Read bytes q more (number + 1)
+  read_line : (l : PartLine) (q : PartProgress) → part_line_of (words_in line) ≡ Some l → step p l ≡ Some q → Read bytes q more (number + 1)
   read_line l q e h =
       let says = part_says (words_in line) l e in
       let next = follows p q l so.holds says.1 h in
@@ -41,7 +41,7 @@ module _ (bytes : List ℕ) (p : Progress) (rest line more : List ℕ) (number :
       let room : number + 1 + length more ≤ length bytes + 1 = omega (arith, size, so.room) in
       record { text = text; ran = ran; holds = next.0; count = count; room = room }
 
-  pub read_next : (q : Progress) → step_on p (part_line_of (words_in line)) ≡ Some q → Read bytes q more (number + 1)
+  pub read_next : (q : PartProgress) → step_on p (part_line_of (words_in line)) ≡ Some q → Read bytes q more (number + 1)
   read_next q h = by (part_line_of (words_in line)) refl h
     where
       by : (o : Option PartLine) → part_line_of (words_in line) ≡ o → step_on p o ≡ Some q → Read bytes q more (number + 1)
@@ -71,9 +71,9 @@ module _ (bytes : List ℕ) (p : Progress) (rest line more : List ℕ) (number :
   breaks_at_line endless none =
       record { before = lines_so_far p; rest = rest; text = so.text; count = so.count; begins = begins p so.holds; no_next = refuses endless none; not_over = λ e all. split_some e }
 
-module _ (bytes : List ℕ) (p : Progress) (rest : List ℕ) (number : ℕ) (so : Read bytes p rest number) where
+module _ (bytes : List ℕ) (p : PartProgress) (rest : List ℕ) (number : ℕ) (so : Read bytes p rest number) where
   -- no line is left, but the end wasn't read, or bytes are left
-  pub breaks_at_end : Endless rest → (rest ≡ [] → p.stage ≢ Stage.Ended) → BreaksAt bytes number
+  pub breaks_at_end : Endless rest → (rest ≡ [] → p.stage ≢ PartStage.Ended) → BreaksAt bytes number
   breaks_at_end endless unended =
       record {
         before = lines_so_far p;
@@ -85,11 +85,11 @@ module _ (bytes : List ℕ) (p : Progress) (rest : List ℕ) (number : ℕ) (so 
         not_over = λ e all. unended e (over all);
       }
     where
-      over : IsAll (lines_so_far p) → p.stage ≡ Stage.Ended
+      over : IsAll (lines_so_far p) → p.stage ≡ PartStage.Ended
       over all =
           let goes : Some p ≡ Some (ended all.part all.part.loops) = agrees (lines_so_far p) [] p all.part so.ran all.valid (all.lines ∙ sym (append-nil (lines_so_far p))) in
           let same : p ≡ ended all.part all.part.loops = cc goes in
-          ap (λ (q : Progress). q.stage) same
+          ap (λ (q : PartProgress). q.stage) same
 
 pub unended : (b : Bool) (P : Type 0) → IsTrue b ↔ P → b ≡ false → P → ⊥
 unended true P h e p = cc e

@@ -6,38 +6,38 @@ use Rattle.shard_lines.specs.{FitLines, ShardLine}
 use Rattle.chain_files.specs.{ChainFault, FitLoops, FitsFault, IsPart, loop_lines, part_limits, part_lines, PartLoop, PartView, step}
 use Rattle.chain_files.proofs.Within.{is_within_true}
 use Rattle.chain_files.specs.declared.part_line.PartLine.{PartLine}
-use Rattle.chain_files.specs.declared.progress.Progress.{Progress}
-use Rattle.chain_files.specs.declared.progress.Stage.{Stage}
+use Rattle.chain_files.specs.declared.progress.PartProgress.{PartProgress}
+use Rattle.chain_files.specs.declared.progress.PartStage.{PartStage}
 use Rattle.chain_files.specs.declared.part_loop.PartLoop.TheVariants.{Whole, Faulted}
 
 -- what is read after these lines
-abbrev pub run : Progress → List PartLine → Option Progress
+abbrev pub run : PartProgress → List PartLine → Option PartProgress
 run p [] = Some p
 run p (l ∷ ls) = option_and_then (λ q. run q ls) (step p l)
 
-pub run_append : (p : Progress) (ls ms : List PartLine) → run p (ls ++ ms) ≡ option_and_then (λ q. run q ms) (run p ls)
+pub run_append : (p : PartProgress) (ls ms : List PartLine) → run p (ls ++ ms) ≡ option_and_then (λ q. run q ms) (run p ls)
 run_append p [] ms = refl
 run_append p (l ∷ ls) ms = by (step p l) (λ q. run_append q ls ms)
   where
-    by : (o : Option Progress) → ((q : Progress) → run q (ls ++ ms) ≡ option_and_then (λ r. run r ms) (run q ls)) → option_and_then (λ q. run q (ls ++ ms)) o ≡ option_and_then (λ q. run q ms) (option_and_then (λ q. run q ls) o)
+    by : (o : Option PartProgress) → ((q : PartProgress) → run q (ls ++ ms) ≡ option_and_then (λ r. run r ms) (run q ls)) → option_and_then (λ q. run q (ls ++ ms)) o ≡ option_and_then (λ q. run q ms) (option_and_then (λ q. run q ls) o)
     by None f = refl
     by (Some q) f = f q
 
-abbrev pub start : Progress
-start = record { stage = Stage.First; first_file = 0; end_file = 0; entries = 0; script = []; columns = []; loops = []; lines = [] }
+abbrev pub start : PartProgress
+start = record { stage = PartStage.First; first_file = 0; end_file = 0; entries = 0; script = []; columns = []; loops = []; lines = [] }
 
 module _ (s : PartView) where
-  abbrev at_columns : List Column → Progress
-  at_columns cs = record { stage = Stage.Columns; first_file = s.first_file; end_file = s.end_file; entries = s.entries; script = s.script; columns = cs; loops = []; lines = [] }
+  abbrev at_columns : List Column → PartProgress
+  at_columns cs = record { stage = PartStage.Columns; first_file = s.first_file; end_file = s.end_file; entries = s.entries; script = s.script; columns = cs; loops = []; lines = [] }
 
-  abbrev within : List PartLoop → List ShardLine → Progress
-  within loops lines = record { stage = Stage.Within; first_file = s.first_file; end_file = s.end_file; entries = s.entries; script = s.script; columns = s.columns; loops = loops; lines = lines }
+  abbrev within : List PartLoop → List ShardLine → PartProgress
+  within loops lines = record { stage = PartStage.Within; first_file = s.first_file; end_file = s.end_file; entries = s.entries; script = s.script; columns = s.columns; loops = loops; lines = lines }
 
-  abbrev pub ended : List PartLoop → Progress
-  ended loops = record { stage = Stage.Ended; first_file = s.first_file; end_file = s.end_file; entries = s.entries; script = s.script; columns = s.columns; loops = loops; lines = [] }
+  abbrev pub ended : List PartLoop → PartProgress
+  ended loops = record { stage = PartStage.Ended; first_file = s.first_file; end_file = s.end_file; entries = s.entries; script = s.script; columns = s.columns; loops = loops; lines = [] }
 
-  abbrev faulted : List PartLoop → Progress
-  faulted loops = record { stage = Stage.Faulted; first_file = s.first_file; end_file = s.end_file; entries = s.entries; script = s.script; columns = s.columns; loops = loops; lines = [] }
+  abbrev faulted : List PartLoop → PartProgress
+  faulted loops = record { stage = PartStage.Faulted; first_file = s.first_file; end_file = s.end_file; entries = s.entries; script = s.script; columns = s.columns; loops = loops; lines = [] }
 
   columns_run : (done cs : List Column) (tail : List PartLine) → AreColumns done cs → length done + length cs ≤ 64 → run (at_columns done) (map PartLine.Column cs ++ tail) ≡ run (at_columns (done ++ cs)) tail
   columns_run done [] tail h l = ap (λ t. run (at_columns t) tail) (sym (append-nil done))
@@ -96,11 +96,11 @@ module _ (s : PartView) where
   abbrev behind_entries : List PartLine
   behind_entries = PartLine.Script s.script ∷ (map PartLine.Column s.columns ++ end_of s.loops)
 
-  abbrev at_entries : Progress
-  at_entries = record { stage = Stage.Entries; first_file = s.first_file; end_file = s.end_file; entries = 0; script = []; columns = []; loops = []; lines = [] }
+  abbrev at_entries : PartProgress
+  at_entries = record { stage = PartStage.Entries; first_file = s.first_file; end_file = s.end_file; entries = 0; script = []; columns = []; loops = []; lines = [] }
 
-  abbrev at_script : Progress
-  at_script = record { stage = Stage.Script; first_file = s.first_file; end_file = s.end_file; entries = s.entries; script = []; columns = []; loops = []; lines = [] }
+  abbrev at_script : PartProgress
+  at_script = record { stage = PartStage.Script; first_file = s.first_file; end_file = s.end_file; entries = s.entries; script = []; columns = []; loops = []; lines = [] }
 
   pub whole_runs : IsPart s → run start (part_lines s) ≡ Some (ended s.loops)
   whole_runs v =
@@ -112,8 +112,8 @@ module _ (s : PartView) where
       ∙ columns_run [] s.columns (end_of s.loops) header.distinct few ∙ first_run s.loops header.some v.loops
 
 -- what follows the lines so far in a part is read
-pub agrees : (before more : List PartLine) (p : Progress) (s : PartView) → run start before ≡ Some p → IsPart s → part_lines s ≡ before ++ more → run p more ≡ Some (ended s s.loops)
+pub agrees : (before more : List PartLine) (p : PartProgress) (s : PartView) → run start before ≡ Some p → IsPart s → part_lines s ≡ before ++ more → run p more ≡ Some (ended s s.loops)
 agrees before more p s ran v lines = ap (option_and_then (λ q. run q more)) (sym ran) ∙ sym (run_append start before more) ∙ ap (run start) (sym lines) ∙ whole_runs s v
 
-pub runs_on : (before : List PartLine) (l : PartLine) (p q : Progress) → run start before ≡ Some p → step p l ≡ Some q → run start (before ++ l ∷ []) ≡ Some q
+pub runs_on : (before : List PartLine) (l : PartLine) (p q : PartProgress) → run start before ≡ Some p → step p l ≡ Some q → run start (before ++ l ∷ []) ≡ Some q
 runs_on before l p q ran h = run_append start before (l ∷ []) ∙ ap (option_and_then (λ r. run r (l ∷ []))) ran ∙ ap (option_and_then (λ r. run r [])) h

@@ -1,5 +1,5 @@
 -- A text is split into lines, and a line into words, in one way.
-use Rattle.lemmas.proofs.{◌≡◌, ◌≢◌, ◌≤◌, ◌<◌, ◌*◌, ◌-◌, ℕ, true, List, [], ◌∷◌, ◌++◌, length, map, flat_map, refl, ap, ap₂, ◌∙◌, sym, arith, append_assoc, codes, nat_eq, and_left, and_right, list_all, nat_tests}
+use Rattle.lemmas.proofs.{◌≡◌, ◌≢◌, ◌≤◌, ◌<◌, ℕ, true, List, [], ◌∷◌, ◌++◌, length, map, flat_map, refl, ap, ap₂, ◌∙◌, sym, arith, append_assoc, codes, nat_eq, and_left, and_right, list_all, nat_tests}
 use Rattle.rdf_values.specs.{AreColumns, Column, is_name}
 use Rattle.shard_lines.specs.{EachFits, FitLines, joined_words, ShardLine, words_in}
 use Rattle.shard_lines.proofs.Plain.{AllPlain, Plain, decimal_plain, line_plain, line_some, words_found, written}

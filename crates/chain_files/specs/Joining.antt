@@ -1,5 +1,5 @@
 -- Parts of one script, joined in the order of their files.
-use Rattle.std.specs.Prelude.{◌≡◌, ◌+◌, ⊤, Bool, true, false, ◌&&◌, List, [], ◌∷◌, ◌++◌, length, fold, nat_lt}
+use Rattle.std.specs.Prelude.{◌≡◌, ◌+◌, ⊤, Bool, true, false, ◌&&◌, List, [], ◌∷◌, length, fold, nat_lt}
 use Rattle.shard_lines.specs.{have_shapes, joined_lines, PassShape}
 use Rattle.chain_files.specs.Parts.{PartView}
 use Rattle.chain_files.specs.declared.part_loop.PartLoop.{PartLoop}

@@ -9,8 +9,8 @@ use Rattle.shard_files.specs.{fault_kind_of, name_of, stored_kind_of}
 use Rattle.chain_files.specs.Parts.{PartView, is_digest, widest}
 use Rattle.chain_files.specs.declared.part_line.PartLine.{PartLine}
 use Rattle.chain_files.specs.declared.part_word.PartWord.{PartWord}
-use Rattle.chain_files.specs.declared.progress.Progress.{Progress}
-use Rattle.chain_files.specs.declared.progress.Stage.{Stage}
+use Rattle.chain_files.specs.declared.progress.PartProgress.{PartProgress}
+use Rattle.chain_files.specs.declared.progress.PartStage.{PartStage}
 use Rattle.chain_files.specs.declared.part_loop.PartLoop.TheVariants.{Whole, Faulted}
 
 -- ---- lines
@@ -116,66 +116,66 @@ is_within n (ShardLine.Report cs) = list_all (is_count_within n) cs
 
 -- ---- what was read so far
 
-abbrev pub on_first : Progress → PartLine → Option Progress
-on_first p PartLine.Version = Some (record p { stage = Stage.Files })
+abbrev pub on_first : PartProgress → PartLine → Option PartProgress
+on_first p PartLine.Version = Some (record p { stage = PartStage.Files })
 on_first p l = None
 
-abbrev pub on_files : Progress → PartLine → Option Progress
-on_files p (PartLine.Files first end) = if nat_lt first end then Some (record p { stage = Stage.Entries; first_file = first; end_file = end }) else None
+abbrev pub on_files : PartProgress → PartLine → Option PartProgress
+on_files p (PartLine.Files first end) = if nat_lt first end then Some (record p { stage = PartStage.Entries; first_file = first; end_file = end }) else None
 on_files p l = None
 
-abbrev pub on_entries : Progress → PartLine → Option Progress
-on_entries p (PartLine.Entries n) = if nat_le n (1000000 * (p.end_file - p.first_file)) then Some (record p { stage = Stage.Script; entries = n }) else None
+abbrev pub on_entries : PartProgress → PartLine → Option PartProgress
+on_entries p (PartLine.Entries n) = if nat_le n (1000000 * (p.end_file - p.first_file)) then Some (record p { stage = PartStage.Script; entries = n }) else None
 on_entries p l = None
 
-abbrev pub on_script : Progress → PartLine → Option Progress
-on_script p (PartLine.Script w) = Some (record p { stage = Stage.Columns; script = w })
+abbrev pub on_script : PartProgress → PartLine → Option PartProgress
+on_script p (PartLine.Script w) = Some (record p { stage = PartStage.Columns; script = w })
 on_script p l = None
 
 -- the columns are read, and there is one
-abbrev pub behind_columns : Stage → Progress → Option Progress
+abbrev pub behind_columns : PartStage → PartProgress → Option PartProgress
 behind_columns next p = if nat_lt 0 (length p.columns) then Some (record p { stage = next }) else None
 
-abbrev pub on_columns : Progress → PartLine → Option Progress
+abbrev pub on_columns : PartProgress → PartLine → Option PartProgress
 on_columns p (PartLine.Column c) = if has_name p.columns c.name || nat_le 64 (length p.columns) then None else Some (record p { columns = p.columns ++ c ∷ [] })
-on_columns p PartLine.Loop = behind_columns Stage.Within p
-on_columns p PartLine.End = behind_columns Stage.Ended p
+on_columns p PartLine.Loop = behind_columns PartStage.Within p
+on_columns p PartLine.End = behind_columns PartStage.Ended p
 on_columns p l = None
 
 -- the loop is whole
-abbrev pub closed : Stage → Progress → Option Progress
+abbrev pub closed : PartStage → PartProgress → Option PartProgress
 closed next p = if nat_lt 0 (length p.lines) then Some (record p { stage = next; loops = p.loops ++ Whole p.lines ∷ []; lines = [] }) else None
 
-abbrev pub on_within : Progress → PartLine → Option Progress
+abbrev pub on_within : PartProgress → PartLine → Option PartProgress
 on_within p (PartLine.Pass l) = if is_within p.entries l then Some (record p { lines = p.lines ++ l ∷ [] }) else None
 on_within p (PartLine.Fault f) =
-    if nat_eq (length p.lines) 0 && (nat_le p.first_file f.file && nat_lt f.file p.end_file) then Some (record p { stage = Stage.Faulted; loops = p.loops ++ Faulted f ∷ [] }) else None
-on_within p PartLine.Loop = closed Stage.Within p
-on_within p PartLine.End = closed Stage.Ended p
+    if nat_eq (length p.lines) 0 && (nat_le p.first_file f.file && nat_lt f.file p.end_file) then Some (record p { stage = PartStage.Faulted; loops = p.loops ++ Faulted f ∷ [] }) else None
+on_within p PartLine.Loop = closed PartStage.Within p
+on_within p PartLine.End = closed PartStage.Ended p
 on_within p l = None
 
-abbrev pub on_faulted : Progress → PartLine → Option Progress
-on_faulted p PartLine.End = Some (record p { stage = Stage.Ended })
+abbrev pub on_faulted : PartProgress → PartLine → Option PartProgress
+on_faulted p PartLine.End = Some (record p { stage = PartStage.Ended })
 on_faulted p l = None
 
-abbrev pub step_at : Stage → Progress → PartLine → Option Progress
-step_at Stage.First p l = on_first p l
-step_at Stage.Files p l = on_files p l
-step_at Stage.Entries p l = on_entries p l
-step_at Stage.Script p l = on_script p l
-step_at Stage.Columns p l = on_columns p l
-step_at Stage.Within p l = on_within p l
-step_at Stage.Faulted p l = on_faulted p l
-step_at Stage.Ended p l = None
+abbrev pub step_at : PartStage → PartProgress → PartLine → Option PartProgress
+step_at PartStage.First p l = on_first p l
+step_at PartStage.Files p l = on_files p l
+step_at PartStage.Entries p l = on_entries p l
+step_at PartStage.Script p l = on_script p l
+step_at PartStage.Columns p l = on_columns p l
+step_at PartStage.Within p l = on_within p l
+step_at PartStage.Faulted p l = on_faulted p l
+step_at PartStage.Ended p l = None
 
 -- what was read with one more line, where it may follow
-abbrev pub step : Progress → PartLine → Option Progress
+abbrev pub step : PartProgress → PartLine → Option PartProgress
 step p l = step_at p.stage p l
 
-abbrev pub step_on : Progress → Option PartLine → Option Progress
+abbrev pub step_on : PartProgress → Option PartLine → Option PartProgress
 step_on p None = None
 step_on p (Some l) = step p l
 
 -- the part that was read
-abbrev pub part_of : Progress → PartView
+abbrev pub part_of : PartProgress → PartView
 part_of p = record { first_file = p.first_file; end_file = p.end_file; entries = p.entries; script = p.script; columns = p.columns; loops = p.loops }

@@ -33,7 +33,7 @@ const TABLE_ENTRIES: u64 = 1_000_000;
 /// What may follow the lines so far: the version; the files; the entries; the script; columns, a loop or the end; the lines
 /// of a loop; the end behind a fault; nothing.
 #[derive(Clone, Copy, Debug, PartialEq, Eq)]
-pub(crate) enum Stage {
+pub(crate) enum PartStage {
     First,
     Files,
     Entries,
@@ -46,8 +46,8 @@ pub(crate) enum Stage {
 
 /// What the lines so far say; `lines` are those of the loop that is being read.
 #[derive(Drop)]
-pub(crate) struct Progress {
-    pub(crate) stage: Stage,
+pub(crate) struct PartProgress {
+    pub(crate) stage: PartStage,
     pub(crate) first_file: u32,
     pub(crate) end_file: u32,
     pub(crate) entries: u64,
@@ -57,13 +57,13 @@ pub(crate) struct Progress {
     pub(crate) lines: ListOf<ShardLine>,
 }
 
-impl Progress {
+impl PartProgress {
     /// Nothing was read.
-    pub(crate) fn new(alloc: Global) -> Progress
-        ensures { result ≡ record { stage = Stage.First; first_file = 0; end_file = 0; entries = 0; script = []; columns = []; loops = []; lines = [] } }
+    pub(crate) fn new(alloc: Global) -> PartProgress
+        ensures { result ≡ record { stage = PartStage.First; first_file = 0; end_file = 0; entries = 0; script = []; columns = []; loops = []; lines = [] } }
     {
-        Progress {
-            stage: Stage::First,
+        PartProgress {
+            stage: PartStage::First,
             first_file: 0,
             end_file: 0,
             entries: 0,
@@ -74,19 +74,19 @@ impl Progress {
         }
     }
 
-    fn on_first(mut self, line: PartLine) -> Option<Progress>
+    fn on_first(mut self, line: PartLine) -> Option<PartProgress>
         ensures { result ≡ on_first self line }
     {
         match line {
             PartLine::Version => {
-                self.stage = Stage::Files;
+                self.stage = PartStage::Files;
                 Some(self)
             }
             _ => None,
         }
     }
 
-    fn on_files(mut self, line: PartLine) -> Option<Progress>
+    fn on_files(mut self, line: PartLine) -> Option<PartProgress>
         ensures { result ≡ on_files self line }
     {
         match line {
@@ -94,7 +94,7 @@ impl Progress {
                 if first >= end {
                     return None;
                 }
-                self.stage = Stage::Entries;
+                self.stage = PartStage::Entries;
                 self.first_file = first;
                 self.end_file = end;
                 Some(self)
@@ -103,7 +103,7 @@ impl Progress {
         }
     }
 
-    fn on_entries(mut self, line: PartLine) -> Option<Progress>
+    fn on_entries(mut self, line: PartLine) -> Option<PartProgress>
         ensures { result ≡ on_entries self line }
     {
         match line {
@@ -112,7 +112,7 @@ impl Progress {
                 if entries > TABLE_ENTRIES * files as u64 {
                     return None;
                 }
-                self.stage = Stage::Script;
+                self.stage = PartStage::Script;
                 self.entries = entries;
                 Some(self)
             }
@@ -120,12 +120,12 @@ impl Progress {
         }
     }
 
-    fn on_script(mut self, line: PartLine) -> Option<Progress>
+    fn on_script(mut self, line: PartLine) -> Option<PartProgress>
         ensures { result ≡ on_script self line }
     {
         match line {
             PartLine::Script(script) => {
-                self.stage = Stage::Columns;
+                self.stage = PartStage::Columns;
                 self.script = script;
                 Some(self)
             }
@@ -134,7 +134,7 @@ impl Progress {
     }
 
     // The columns are read, if there is one.
-    fn behind_columns(mut self, next: Stage) -> Option<Progress>
+    fn behind_columns(mut self, next: PartStage) -> Option<PartProgress>
         ensures { result ≡ behind_columns next self }
     {
         if self.columns.len() == 0 {
@@ -144,7 +144,7 @@ impl Progress {
         Some(self)
     }
 
-    fn on_columns(mut self, line: PartLine) -> Result<Option<Progress>, Memory>
+    fn on_columns(mut self, line: PartLine) -> Result<Option<PartProgress>, Memory>
         ensures { IfOk result (λ next. next ≡ on_columns self line) }
     {
         match line {
@@ -157,14 +157,14 @@ impl Progress {
                 self.columns.push(column)?;
                 Ok(Some(self))
             }
-            PartLine::Loop => Ok(self.behind_columns(Stage::Within)),
-            PartLine::End => Ok(self.behind_columns(Stage::Ended)),
+            PartLine::Loop => Ok(self.behind_columns(PartStage::Within)),
+            PartLine::End => Ok(self.behind_columns(PartStage::Ended)),
             _ => Ok(None),
         }
     }
 
     // The loop that is being read is whole, if it has a line.
-    fn closed(mut self, alloc: Global, next: Stage) -> Result<Option<Progress>, Memory>
+    fn closed(mut self, alloc: Global, next: PartStage) -> Result<Option<PartProgress>, Memory>
         ensures { IfOk result (λ progress. progress ≡ closed next self) }
     {
         if self.lines.len() == 0 {
@@ -177,7 +177,7 @@ impl Progress {
     }
 
     // The loop that is being read has one more line, if so many entries can come to it.
-    fn passed(mut self, line: ShardLine) -> Result<Option<Progress>, Memory>
+    fn passed(mut self, line: ShardLine) -> Result<Option<PartProgress>, Memory>
         ensures { IfOk result (λ next. next ≡ on_within self (PartLine.Pass line)) }
     {
         if !is_within(self.entries, &line) {
@@ -188,35 +188,35 @@ impl Progress {
     }
 
     // The loop that is being read is a faulty one, if it has no line and the fault is in one of the files.
-    fn faulted(mut self, fault: ChainFault) -> Result<Option<Progress>, Memory>
+    fn faulted(mut self, fault: ChainFault) -> Result<Option<PartProgress>, Memory>
         ensures { IfOk result (λ next. next ≡ on_within self (PartLine.Fault fault)) }
     {
         if self.lines.len() != 0 || fault.file < self.first_file || fault.file >= self.end_file {
             return Ok(None);
         }
         self.loops.push(PartLoop::Faulted(fault))?;
-        self.stage = Stage::Faulted;
+        self.stage = PartStage::Faulted;
         Ok(Some(self))
     }
 
-    fn on_within(self, alloc: Global, line: PartLine) -> Result<Option<Progress>, Memory>
+    fn on_within(self, alloc: Global, line: PartLine) -> Result<Option<PartProgress>, Memory>
         ensures { IfOk result (λ next. next ≡ on_within self line) }
     {
         match line {
             PartLine::Pass(line) => self.passed(line),
             PartLine::Fault(fault) => self.faulted(fault),
-            PartLine::Loop => self.closed(alloc, Stage::Within),
-            PartLine::End => self.closed(alloc, Stage::Ended),
+            PartLine::Loop => self.closed(alloc, PartStage::Within),
+            PartLine::End => self.closed(alloc, PartStage::Ended),
             _ => Ok(None),
         }
     }
 
-    fn on_faulted(mut self, line: PartLine) -> Option<Progress>
+    fn on_faulted(mut self, line: PartLine) -> Option<PartProgress>
         ensures { result ≡ on_faulted self line }
     {
         match line {
             PartLine::End => {
-                self.stage = Stage::Ended;
+                self.stage = PartStage::Ended;
                 Some(self)
             }
             _ => None,
@@ -224,26 +224,26 @@ impl Progress {
     }
 
     /// What was read with one more line, where it may follow.
-    pub(crate) fn step(self, alloc: Global, line: PartLine) -> Result<Option<Progress>, Memory>
+    pub(crate) fn step(self, alloc: Global, line: PartLine) -> Result<Option<PartProgress>, Memory>
         ensures { IfOk result (λ next. next ≡ step self line) }
     {
         match self.stage {
-            Stage::First => Ok(self.on_first(line)),
-            Stage::Files => Ok(self.on_files(line)),
-            Stage::Entries => Ok(self.on_entries(line)),
-            Stage::Script => Ok(self.on_script(line)),
-            Stage::Columns => self.on_columns(line),
-            Stage::Within => self.on_within(alloc, line),
-            Stage::Faulted => Ok(self.on_faulted(line)),
-            Stage::Ended => Ok(None),
+            PartStage::First => Ok(self.on_first(line)),
+            PartStage::Files => Ok(self.on_files(line)),
+            PartStage::Entries => Ok(self.on_entries(line)),
+            PartStage::Script => Ok(self.on_script(line)),
+            PartStage::Columns => self.on_columns(line),
+            PartStage::Within => self.on_within(alloc, line),
+            PartStage::Faulted => Ok(self.on_faulted(line)),
+            PartStage::Ended => Ok(None),
         }
     }
 
     /// Whether the end was read.
     pub(crate) fn is_ended(&self) -> bool
-        ensures { IsTrue result ↔ (self.now.stage ≡ Stage.Ended) }
+        ensures { IsTrue result ↔ (self.now.stage ≡ PartStage.Ended) }
     {
-        matches!(self.stage, Stage::Ended)
+        matches!(self.stage, PartStage::Ended)
     }
 
     /// The part that was read.

@@ -1,5 +1,5 @@
 -- Loops with the shapes of a graph's passes fit the graph.
-use Rattle.lemmas.proofs.{◌≡◌, ℕ, zero, suc, ◌<◌, ◌≤◌, true, ◌&&◌, List, [], ◌∷◌, length, map, Option, None, Some, refl, sym, ap, ◌∙◌, arith, option_map, slice_get, unwrap_or, and_right, length-map, ltb-true, same_Some, slice_get-map}
+use Rattle.lemmas.proofs.{◌≡◌, ℕ, zero, suc, ◌<◌, ◌≤◌, true, List, [], ◌∷◌, length, map, Option, None, Some, refl, sym, ap, ◌∙◌, arith, option_map, slice_get, unwrap_or, and_right, length-map, ltb-true, same_Some, slice_get-map}
 use Rattle.rdf_values.specs.{Booked, ColType, history, Pass}
 use Rattle.rdf_model.specs.{loop_passes, loop_results}
 use Rattle.graph_numbers.specs.{graph_loops, GraphView, pass_at}

@@ -7,7 +7,7 @@ ghost use Rattle.chain_text.specs.{access_printed, chain_fault_line, chain_text,
 
 use chain_files::{ChainFault, PartLoop};
 use graph::Graph;
-use merged_text::{Merging, put_result};
+use merged_text::{MergedText, put_result};
 use rdf_values::{Fault, Memory, Text};
 use result_text::fault_line;
 use result_text::numbers::put_count;
@@ -72,7 +72,7 @@ fn put_print(
 }
 
 /// What the Prints give over the loops of a part, up to the first one whose loop is faulty.
-pub fn chain_text(alloc: Global, graph: &Graph, loops: &[PartLoop]) -> Result<Merging, Memory>
+pub fn chain_text(alloc: Global, graph: &Graph, loops: &[PartLoop]) -> Result<MergedText, Memory>
     requires { FitGraph graph.now loops.now }
     ensures bytes { IfOk result (λ m. m.text ≡ (chain_text graph.now loops.now).bytes) }
     ensures status { IfOk result (λ m. (if m.faulted then 8 else 0) ≡ (chain_text graph.now loops.now).status) }
@@ -80,13 +80,13 @@ pub fn chain_text(alloc: Global, graph: &Graph, loops: &[PartLoop]) -> Result<Me
     let mut text = Text::new(alloc);
     for print in 0..graph.prints() {
         if !put_print(alloc, &mut text, graph, loops, print)? {
-            return Ok(Merging {
+            return Ok(MergedText {
                 text,
                 faulted: true,
             });
         }
     }
-    Ok(Merging {
+    Ok(MergedText {
         text,
         faulted: false,
     })

@@ -1,13 +1,13 @@
 -- The numbers of a command are within their limits.
-use Rattle.lemmas.proofs.{◌≡◌, ◌≤◌, ◌<◌, ℕ, ℤ, pos, negsuc, Bool, true, false, not, ◌&&◌, ◌==◌, leb, List, [], ◌∷◌, ◌++◌, length, drop, nat_lt, Option, None, Some, if◌then◌else◌, codes, refl, arith, subst, unwrap_or}
+use Rattle.lemmas.proofs.{◌≡◌, ◌≤◌, ◌<◌, ℕ, ℤ, pos, negsuc, Bool, true, false, leb, List, [], ◌∷◌, length, drop, nat_lt, Option, None, Some, if◌then◌else◌, codes, refl, arith, subst, unwrap_or}
 use Rattle.std.proofs.lemmas.Bool.Decides.{nat_tests}
 use Rattle.rdf_values.specs.{integer_of, same}
 use Rattle.command_words.specs.{within}
-use Rattle.chain_words.specs.{after, any_word, AreSettings, AreWithinLimits, asked_of, awaiting, begins, ChainCommand, cluster_by, command_by, command_of, has_options, is_over, is_plain, join_of, joined_word, map_of, map_with, named, no_words, number_in, once, option_word, print_of, print_with, run_of, settings_of, slots_by, with_cluster, with_slots, word_read, words_read}
+use Rattle.chain_words.specs.{after, AreSettings, AreWithinLimits, asked_of, awaiting, begins, ChainCommand, cluster_by, command_by, command_of, has_options, is_over, is_plain, join_of, joined_word, map_of, map_with, named, no_words, number_in, once, option_word, print_of, print_with, run_of, settings_of, slots_by, with_cluster, with_slots, word_read, words_read}
 use Rattle.chain_words.specs.declared.command.ChainCommand.TheVariants.{Run, Map, Join, Print}
 use Rattle.chain_words.specs.declared.command.Settings.{Settings}
 use Rattle.chain_words.specs.declared.reading.Awaits.{Awaits}
-use Rattle.chain_words.specs.declared.reading.Reading.{Reading}
+use Rattle.chain_words.specs.declared.reading.WordsRead.{WordsRead}
 use Rattle.command_words.proofs.Taken.{if_within}
 
 -- a number that stands in an option
@@ -24,62 +24,62 @@ is_number least most text = is_within least most (integer_of text)
 
 -- ---- what was read
 
-abbrev Fits : Reading → Type 0
+abbrev Fits : WordsRead → Type 0
 Fits r = Is 1 16 r.slots × Is 1 1000000 r.cluster
 
-abbrev AllFit : Option Reading → Type 0
-AllFit o = (q : Reading) → o ≡ Some q → Fits q
+abbrev AllFit : Option WordsRead → Type 0
+AllFit o = (q : WordsRead) → o ≡ Some q → Fits q
 
 none_fits : AllFit None
 none_fits = λ q e. absurd (cc e)
 
-one_fits : (r : Reading) → Fits r → AllFit (Some r)
+one_fits : (r : WordsRead) → Fits r → AllFit (Some r)
 one_fits r h = λ q e. (let same : r ≡ q = cc e in subst Fits same h)
 
-slots_fit : (r : Reading) (o : Option ℕ) → Fits r → Is 1 16 o → AllFit (with_slots r o)
+slots_fit : (r : WordsRead) (o : Option ℕ) → Fits r → Is 1 16 o → AllFit (with_slots r o)
 slots_fit r None h i = none_fits
 slots_fit r (Some n) h i = one_fits (record { awaits = Awaits.Any; names = r.names; slots = Some n; cluster = r.cluster }) (i, h.1)
 
-cluster_fits : (r : Reading) (o : Option ℕ) → Fits r → Is 1 1000000 o → AllFit (with_cluster r o)
+cluster_fits : (r : WordsRead) (o : Option ℕ) → Fits r → Is 1 1000000 o → AllFit (with_cluster r o)
 cluster_fits r None h i = none_fits
 cluster_fits r (Some n) h i = one_fits (record { awaits = Awaits.Any; names = r.names; slots = r.slots; cluster = Some n }) (h.0, i)
 
-once_fits : (o : Option ℕ) (r : Option Reading) → AllFit r → AllFit (once o r)
+once_fits : (o : Option ℕ) (r : Option WordsRead) → AllFit r → AllFit (once o r)
 once_fits None r h = h
 once_fits (Some n) r h = none_fits
 
-by_test : (b : Bool) (p q : Option Reading) → AllFit p → AllFit q → AllFit (if b then p else q)
+by_test : (b : Bool) (p q : Option WordsRead) → AllFit p → AllFit q → AllFit (if b then p else q)
 by_test true p q h g = h
 by_test false p q h g = g
 
-joined_fits : (r : Reading) (w : List ℕ) → Fits r → AllFit (joined_word r w)
+joined_fits : (r : WordsRead) (w : List ℕ) → Fits r → AllFit (joined_word r w)
 joined_fits r w h =
     by_test (begins (codes "--slots=") w) _ _ (once_fits r.slots (slots_by r (drop 8 w)) (slots_fit r (number_in 1 16 (drop 8 w)) h (is_number 1 16 (drop 8 w))))
     (by_test (begins (codes "--cluster=") w) _ _ (once_fits r.cluster (cluster_by r (drop 10 w)) (cluster_fits r (number_in 1 1000000 (drop 10 w)) h (is_number 1 1000000 (drop 10 w)))) none_fits)
 
-option_fits : (r : Reading) (w : List ℕ) → Fits r → AllFit (option_word r w)
+option_fits : (r : WordsRead) (w : List ℕ) → Fits r → AllFit (option_word r w)
 option_fits r w h =
     by_test (same w (codes "--slots")) _ _ (once_fits r.slots (Some (awaiting Awaits.Slots r)) (one_fits (awaiting Awaits.Slots r) h))
     (by_test (same w (codes "--cluster")) _ _ (once_fits r.cluster (Some (awaiting Awaits.Cluster r)) (one_fits (awaiting Awaits.Cluster r) h)) (joined_fits r w h))
 
-word_fits : (a : Awaits) (r : Reading) (w : List ℕ) → Fits r → AllFit (word_read a r w)
+word_fits : (a : Awaits) (r : WordsRead) (w : List ℕ) → Fits r → AllFit (word_read a r w)
 word_fits Awaits.Any r w h =
     by_test (same w (codes "--")) _ _ (one_fits (awaiting Awaits.Name r) h) (by_test (is_plain w) _ _ (one_fits (named r w) h) (option_fits r w h))
 word_fits Awaits.Name r w h = one_fits (named r w) h
 word_fits Awaits.Slots r w h = by_test (is_plain w) _ _ (slots_fit r (number_in 1 16 w) h (is_number 1 16 w)) none_fits
 word_fits Awaits.Cluster r w h = by_test (is_plain w) _ _ (cluster_fits r (number_in 1 1000000 w) h (is_number 1 1000000 w)) none_fits
 
-words_fit : (ws : List (List ℕ)) (r : Reading) → Fits r → AllFit (words_read r ws)
+words_fit : (ws : List (List ℕ)) (r : WordsRead) → Fits r → AllFit (words_read r ws)
 words_fit [] r h = one_fits r h
 words_fit (w ∷ ws) r h = go (word_read r.awaits r w) (word_fits r.awaits r w h) (λ q f. words_fit ws q f)
   where
-    go : (o : Option Reading) → AllFit o → ((q : Reading) → Fits q → AllFit (words_read q ws)) → AllFit (after o (λ q. words_read q ws))
+    go : (o : Option WordsRead) → AllFit o → ((q : WordsRead) → Fits q → AllFit (words_read q ws)) → AllFit (after o (λ q. words_read q ws))
     go None g step = none_fits
     go (Some q) g step = step q (g q refl)
 
 -- ---- the command
 
-settings_fit : (r : Reading) → Fits r → AreSettings (settings_of r)
+settings_fit : (r : WordsRead) → Fits r → AreSettings (settings_of r)
 settings_fit r h = record { some_slots = slots r.slots h.0; few_slots = few r.slots h.0; cluster = cut r.cluster h.1 }
   where
     slots : (o : Option ℕ) → Is 1 16 o → 0 < unwrap_or o 1
@@ -147,7 +147,7 @@ either_limited : (b : Bool) (p q : Option ChainCommand) → Limited p → Limite
 either_limited true p q h g = h
 either_limited false p q h g = g
 
-by_limited : (word : List ℕ) (r : Reading) → Fits r → Limited (command_by word r)
+by_limited : (word : List ℕ) (r : WordsRead) → Fits r → Limited (command_by word r)
 by_limited word r h =
     either_limited (same word (codes "run")) _ _ (run_limited r.names (settings_of r) (settings_fit r h))
     (either_limited (same word (codes "map")) _ _ (all_map_limited r.names (settings_of r) (settings_fit r h))
@@ -158,6 +158,6 @@ pub asked_fits : (words : List (List ℕ)) (c : ChainCommand) → asked_of words
 asked_fits [] c e = absurd (cc e)
 asked_fits (word ∷ words) c e = go (words_read no_words words) (words_fit words no_words (λ n z. absurd (cc z), λ n z. absurd (cc z))) c e
   where
-    go : (o : Option Reading) → AllFit o → Limited (command_of word o)
+    go : (o : Option WordsRead) → AllFit o → Limited (command_of word o)
     go None g = none_limited
     go (Some r) g = either_limited (is_over r.awaits) _ _ (by_limited word r (g r refl)) none_limited

@@ -6,12 +6,12 @@ use Rattle.chain_words.specs.declared.command.ChainCommand.{ChainCommand}
 use Rattle.chain_words.specs.declared.command.ChainCommand.TheVariants.{Run, Map, Join, Print}
 use Rattle.chain_words.specs.declared.command.Settings.{Settings}
 use Rattle.chain_words.specs.declared.reading.Awaits.{Awaits}
-use Rattle.chain_words.specs.declared.reading.Reading.{Reading}
+use Rattle.chain_words.specs.declared.reading.WordsRead.{WordsRead}
 
-abbrev pub settings_of : Reading → Settings
+abbrev pub settings_of : WordsRead → Settings
 settings_of r = record { slots = unwrap_or r.slots 1; cluster = unwrap_or r.cluster 10000 }
 
-abbrev pub has_options : Reading → Bool
+abbrev pub has_options : WordsRead → Bool
 has_options r = is_some r.slots || is_some r.cluster
 
 -- ---- the four commands, by what was read behind them
@@ -45,7 +45,7 @@ print_of (script ∷ count ∷ part ∷ []) = print_with script (number_in 1 167
 print_of names = None
 
 -- join and print take no options
-abbrev pub command_by : List ℕ → Reading → Option ChainCommand
+abbrev pub command_by : List ℕ → WordsRead → Option ChainCommand
 command_by word r =
     if same word (codes "run") then run_of r.names (settings_of r)
     else (if same word (codes "map") then map_of r.names (settings_of r)
@@ -61,7 +61,7 @@ is_over Awaits.Name = true
 is_over Awaits.Slots = false
 is_over Awaits.Cluster = false
 
-abbrev pub command_of : List ℕ → Option Reading → Option ChainCommand
+abbrev pub command_of : List ℕ → Option WordsRead → Option ChainCommand
 command_of word None = None
 command_of word (Some r) = if is_over r.awaits then command_by word r else None
 

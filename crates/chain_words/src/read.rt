@@ -3,7 +3,7 @@ ghost use Rattle.std.specs.Prelude.{◌≡◌, ◌≤◌, ◌<◌, IfOk, drop, l
 ghost use Rattle.chain_words.specs.{asked_of, command_by, has_options, is_over, join_of, map_of, no_words, print_of, run_of, settings_of, words_read};
 
 use crate::command::{ChainCommand, Joining, Mapping, Printing, Running, Settings};
-use crate::reading::{Awaits, Reading, number, word_read};
+use crate::reading::{Awaits, WordsRead, number, word_read};
 use command_words::FileName;
 use rdf_outside::WordList;
 use rdf_values::{ListOf, Memory};
@@ -18,11 +18,11 @@ const MAX_PARTS: usize = 4_096;
 const MAX_FILES: u32 = 16_777_216;
 
 // The words behind the first one.
-fn words_read(alloc: Global, words: &WordList) -> Result<Option<Reading>, Memory>
+fn words_read(alloc: Global, words: &WordList) -> Result<Option<WordsRead>, Memory>
     requires { 1 ≤ length words.now }
     ensures { IfOk result (λ r. r ≡ words_read no_words (drop 1 words.now)) }
 {
-    let mut reading = Reading {
+    let mut reading = WordsRead {
         awaits: Awaits::Any,
         names: ListOf::new(alloc),
         slots: None,
@@ -37,7 +37,7 @@ fn words_read(alloc: Global, words: &WordList) -> Result<Option<Reading>, Memory
     Ok(Some(reading))
 }
 
-fn settings_of(reading: &Reading) -> Settings
+fn settings_of(reading: &WordsRead) -> Settings
     ensures { result ≡ settings_of reading.now }
 {
     Settings {
@@ -46,7 +46,7 @@ fn settings_of(reading: &Reading) -> Settings
     }
 }
 
-fn has_options(reading: &Reading) -> bool
+fn has_options(reading: &WordsRead) -> bool
     ensures { result ≡ has_options reading.now }
 {
     reading.slots.is_some() || reading.cluster.is_some()
@@ -121,7 +121,7 @@ fn print_of(names: ListOf<FileName>) -> Option<ChainCommand>
 }
 
 // The command of the word, by what was read behind it.
-fn command_by(word: &str, reading: Reading) -> Option<ChainCommand>
+fn command_by(word: &str, reading: WordsRead) -> Option<ChainCommand>
     ensures { result ≡ command_by word.now reading }
 {
     let settings = settings_of(&reading);

@@ -21,7 +21,7 @@ pub(crate) enum Awaits {
 
 /// What was read so far: what the next word is, the names, and the options that are set.
 #[derive(Drop)]
-pub(crate) struct Reading {
+pub(crate) struct WordsRead {
     pub(crate) awaits: Awaits,
     pub(crate) names: ListOf<FileName>,
     pub(crate) slots: Option<u32>,
@@ -53,13 +53,13 @@ fn begins(text: &[u8], word: &[u8]) -> bool
     word.len() >= text.len() && &word[..text.len()] == text
 }
 
-fn named(alloc: Global, reading: Reading, word: &str) -> Result<Reading, Memory>
+fn named(alloc: Global, reading: WordsRead, word: &str) -> Result<WordsRead, Memory>
     ensures { IfOk result (λ r. r ≡ named reading word.now) }
 {
     let name = FileName::of(alloc, word)?;
     let mut names = reading.names;
     names.push(name)?;
-    Ok(Reading {
+    Ok(WordsRead {
         awaits: reading.awaits,
         names,
         slots: reading.slots,
@@ -67,10 +67,10 @@ fn named(alloc: Global, reading: Reading, word: &str) -> Result<Reading, Memory>
     })
 }
 
-fn awaiting(awaits: Awaits, reading: Reading) -> Reading
+fn awaiting(awaits: Awaits, reading: WordsRead) -> WordsRead
     ensures { result ≡ awaiting awaits reading }
 {
-    Reading {
+    WordsRead {
         awaits,
         names: reading.names,
         slots: reading.slots,
@@ -78,11 +78,11 @@ fn awaiting(awaits: Awaits, reading: Reading) -> Reading
     }
 }
 
-fn slots_by(reading: Reading, text: &[u8]) -> Option<Reading>
+fn slots_by(reading: WordsRead, text: &[u8]) -> Option<WordsRead>
     ensures { result ≡ slots_by reading text.now }
 {
     match number(text, 1, MAX_SLOTS) {
-        Some(n) => Some(Reading {
+        Some(n) => Some(WordsRead {
             awaits: Awaits::Any,
             names: reading.names,
             slots: Some(n),
@@ -92,11 +92,11 @@ fn slots_by(reading: Reading, text: &[u8]) -> Option<Reading>
     }
 }
 
-fn cluster_by(reading: Reading, text: &[u8]) -> Option<Reading>
+fn cluster_by(reading: WordsRead, text: &[u8]) -> Option<WordsRead>
     ensures { result ≡ cluster_by reading text.now }
 {
     match number(text, 1, MAX_CLUSTER) {
-        Some(n) => Some(Reading {
+        Some(n) => Some(WordsRead {
             awaits: Awaits::Any,
             names: reading.names,
             slots: reading.slots,
@@ -115,7 +115,7 @@ fn behind(word: &[u8], n: usize) -> &[u8]
 }
 
 // An option with its value behind '='.
-fn joined_word(reading: Reading, word: &[u8]) -> Option<Reading>
+fn joined_word(reading: WordsRead, word: &[u8]) -> Option<WordsRead>
     ensures { result ≡ joined_word reading word.now }
 {
     let slots_set = reading.slots.is_some();
@@ -138,7 +138,7 @@ fn joined_word(reading: Reading, word: &[u8]) -> Option<Reading>
 }
 
 // An option: its value is the next word, or stands behind '='.
-fn option_word(reading: Reading, word: &[u8]) -> Option<Reading>
+fn option_word(reading: WordsRead, word: &[u8]) -> Option<WordsRead>
     ensures { result ≡ option_word reading word.now }
 {
     let slots_set = reading.slots.is_some();
@@ -160,7 +160,7 @@ fn option_word(reading: Reading, word: &[u8]) -> Option<Reading>
     }
 }
 
-fn any_word(alloc: Global, reading: Reading, word: &str) -> Result<Option<Reading>, Memory>
+fn any_word(alloc: Global, reading: WordsRead, word: &str) -> Result<Option<WordsRead>, Memory>
     ensures { IfOk result (λ r. r ≡ any_word reading word.now) }
 {
     if word == "--" {
@@ -175,9 +175,9 @@ fn any_word(alloc: Global, reading: Reading, word: &str) -> Result<Option<Readin
 /// What was read with one word more.
 pub(crate) fn word_read(
     alloc: Global,
-    reading: Reading,
+    reading: WordsRead,
     word: &str,
-) -> Result<Option<Reading>, Memory>
+) -> Result<Option<WordsRead>, Memory>
     ensures { IfOk result (λ r. r ≡ word_read reading.awaits reading word.now) }
 {
     match reading.awaits {

@@ -1,5 +1,5 @@
 -- A tally after a block fed a pass, and at the ends of a block.
-use Rattle.lemmas.proofs.{◌≡◌, ℕ, ◌+◌, ◌<◌, ◌≤◌, List, [], ◌++◌, length, map, Option, None, Some, inl, inr, sym, ap, ap₂, ◌∙◌, subst, arith, append_assoc, OnOk, Result, slice_get, slice_set, ◌^◌, ◌∷◌, set, get_or, ⊎_elim, get_or-set_same, get_or-set_other, count_by, length-map, length-set, mapped_at, same_Some, slice_get_within, something_at, cases_eq, common_steps, get_or-map, get_or_from_slice_get, map-set_same, same_lists}
+use Rattle.lemmas.proofs.{◌≡◌, ℕ, ◌+◌, ◌<◌, ◌≤◌, List, [], ◌++◌, length, map, Option, None, Some, inl, inr, sym, ap, ap₂, ◌∙◌, subst, arith, append_assoc, OnOk, Result, slice_get, slice_set, ◌^◌, ◌∷◌, set, get_or, get_or-set_same, get_or-set_other, count_by, length-map, length-set, mapped_at, same_Some, slice_get_within, something_at, cases_eq, common_steps, get_or-map, get_or_from_slice_get, map-set_same, same_lists}
 use Rattle.rdf_values.proofs.UnionLemmas.{map-below, length-below, slice_get-below}
 use Rattle.rdf_values.specs.{ActionKind, below}
 use Rattle.rdf_model.specs.declared.loop_facts.LoopFacts.{LoopFacts}
@@ -8,7 +8,6 @@ use Rattle.loop_pieces.specs.{entries_over, AreCounts, both, Counts, nothing}
 use Rattle.cluster_tally.specs.{block_items, BlockStage, CanFeedBatch, CanTakeIn, CanWatch, counts_by, fed_by, first_items, HoldsIn, HoldsUpTo, IsFedAlone, IsFedBy, pass_done, places_there, taken_in, TakesIn, TallyView, TookIn, TookInIfThere, block_reaches, CanNoteCounts, counts_in, filter_done}
 use Rattle.cluster_tally.proofs.Closing.{at_set, kind_at, of_mapped, places_kept, entries_room, in_before, in_from, in_same, items_next, counts_next, counts_room, counts_same}
 use Rattle.rdf_model.specs.{is_passed, is_reached, Reach}
-use Rattle.rdf_model.specs.declared.loop_facts.Reach.TheVariants.{Failed, Passed, Stopped}
 use Rattle.cluster_tally.specs.Laws as law
 
 -- an action that is watched keeps no values

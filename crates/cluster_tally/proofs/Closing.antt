@@ -1,8 +1,8 @@
 -- The end of a cluster.
-use Rattle.lemmas.proofs.{◌≡◌, ℕ, ◌+◌, ◌<◌, ◌≤◌, ◌^◌, List, [], ◌∷◌, ◌++◌, length, drop, cond, Option, None, Some, sym, ap, ap₂, ◌∙◌, arith, append-nil, add_assoc, length-append, ◌-◌, count_by, flat_map, slice_get, zero, suc, map, set, ◌⊎◌, inl, inr, refl, replicate, subst, Bool, true, false, take, get_or, append_assoc, All, Err, Ok, OnOk, Result, common_steps, flat_map-append, length-drop, length-take, map-append, sum_by-append, take-add, All-nil, length-map, map-id, map-map, before_or_last, kept_at, last_at, length_push, slice_get-get_or, slice_get-map, All-push, All-weaker, IsStrictlyIncreasing, same_Some}
+use Rattle.lemmas.proofs.{◌≡◌, ℕ, ◌+◌, ◌<◌, ◌≤◌, ◌^◌, List, [], ◌∷◌, ◌++◌, length, drop, Option, None, Some, sym, ap, ap₂, ◌∙◌, arith, append-nil, add_assoc, length-append, ◌-◌, count_by, flat_map, slice_get, zero, suc, map, set, ◌⊎◌, inl, inr, refl, replicate, subst, Bool, true, take, get_or, append_assoc, All, OnOk, Result, common_steps, flat_map-append, length-drop, length-take, map-append, sum_by-append, take-add, All-nil, length-map, map-id, map-map, before_or_last, kept_at, last_at, length_push, slice_get-get_or, slice_get-map, All-push, All-weaker, IsStrictlyIncreasing, same_Some}
 use Rattle.rdf_values.proofs.UnionLemmas.{rises_push, length-below, map-below, none_rises}
 use Rattle.rdf_values.specs.{Item, Span, ActionKind, below, fold_items}
-use Rattle.rdf_model.specs.{if_there, is_passed, is_reached, Reach, rows_in, span_rows, list_at}
+use Rattle.rdf_model.specs.{if_there, is_reached, Reach, span_rows, list_at}
 use Rattle.rdf_model.specs.declared.loop_facts.LoopFacts.{LoopFacts}
 use Rattle.actions.specs.{from_cluster, Accumulator, HasFed, in_file_order}
 use Rattle.loop_pieces.specs.{both, Counts, entries_over, counts_at, fed_over, HaveTrails, nothing, WatchPiece, LoopPiece, StandsFor, cluster_items, IsOfKind, IsTrail, watch_facts, watch_filled, WatchStandsFor}

@@ -5,7 +5,7 @@ use native.Mathlib.Nat.{add-mul}
 use Rattle.columns.specs.{greatest_from, IsWidth, least_from, low_bytes, number_in, packed_by, packing_of, values_in, width_of, AreBlocks, block_values, IsBlock, packed_of, cluster_values, joined, IsTight}
 use Rattle.columns.specs.declared.packing.Packing.{Packing}
 use Rattle.std.proofs.lemmas.List.{drop-append-le, length-drop, take-append-drop, take-append-le, take_all, take_more}
-use Rattle.columns.specs.declared.packed_ints.Block.{Block}
+use Rattle.columns.specs.declared.packed_ints.PackedCluster.{PackedCluster}
 use Rattle.rdf_values.specs.{cut, Lead, Span}
 use Rattle.rdf_values.proofs.Evenly.{cuts_lead, lead_up}
 
@@ -141,23 +141,23 @@ value_at least w zero bs i h = absurd (omega (arith, h))
 value_at least w (suc n) bs zero h = let none : 0 ≡ 0 * w = omega arith in ap (λ (k : ℕ). Some (least +ℤ pos (number_in w (drop k bs)))) none
 value_at least w (suc n) bs (suc i) h = grind (arith, add-mul i 1 w, value_at least w n (drop w bs) i, drop_plus)
 
-pub block_back : (bytes : List ℕ) (b : Block) (values : List ℤ) → IsBlock bytes b values → block_values bytes b ≡ values
+pub block_back : (bytes : List ℕ) (b : PackedCluster) (values : List ℤ) → IsBlock bytes b values → block_values bytes b ≡ values
 block_back bytes b values h =
     let split : packed_of values ++ drop (length (packed_of values)) (drop b.begin bytes) ≡ drop b.begin bytes = subst (λ (l : List ℕ). l ++ drop (length (packed_of values)) (drop b.begin bytes) ≡ drop b.begin bytes) h.kept (take-append-drop (length (packed_of values)) (drop b.begin bytes)) in
     let back = values_back (packing_of values) values (drop (length (packed_of values)) (drop b.begin bytes)) (packing_width values) (packing_fits values h.words) in
     rw (h.packing, h.entries, ← split) back
 
-pub blocks_back : (bytes : List ℕ) (bs : List Block) (vs : List (List ℤ)) → AreBlocks bytes bs vs → map (block_values bytes) bs ≡ vs
+pub blocks_back : (bytes : List ℕ) (bs : List PackedCluster) (vs : List (List ℤ)) → AreBlocks bytes bs vs → map (block_values bytes) bs ≡ vs
 blocks_back bytes [] [] h = refl
 blocks_back bytes (b ∷ bs) (v ∷ vs) h = ap₂ (λ x xs. x ∷ xs) (block_back bytes b v h.0) (blocks_back bytes bs vs h.1)
 blocks_back bytes bs vs h = absurd h
 
-pub blocks_hold : (bytes : List ℕ) (bs : List Block) (vs : List (List ℤ)) → AreBlocks bytes bs vs → AreBlocks bytes bs (map (block_values bytes) bs)
+pub blocks_hold : (bytes : List ℕ) (bs : List PackedCluster) (vs : List (List ℤ)) → AreBlocks bytes bs vs → AreBlocks bytes bs (map (block_values bytes) bs)
 blocks_hold bytes bs vs h = rw (blocks_back bytes bs vs h) h
 
 -- ---- one more
 
-still : (bytes more : List ℕ) (b : Block) (values : List ℤ) → IsBlock bytes b values → IsBlock (bytes ++ more) b values
+still : (bytes more : List ℕ) (b : PackedCluster) (values : List ℤ) → IsBlock bytes b values → IsBlock (bytes ++ more) b values
 still bytes more b values h =
     let inside = h.inside in
     let begins : b.begin ≤ length bytes = omega (arith, inside) in
@@ -170,21 +170,21 @@ still bytes more b values h =
       words = h.words;
     }
 
-grown : (bytes more : List ℕ) (bs : List Block) (vs : List (List ℤ)) → AreBlocks bytes bs vs → AreBlocks (bytes ++ more) bs vs
+grown : (bytes more : List ℕ) (bs : List PackedCluster) (vs : List (List ℤ)) → AreBlocks bytes bs vs → AreBlocks (bytes ++ more) bs vs
 grown bytes more (b ∷ bs) (v ∷ vs) h = (still bytes more b v h.0, grown bytes more bs vs h.1)
 grown bytes more [] [] h = h
 grown bytes more bs vs h = absurd h
 
-one_more : (bytes : List ℕ) (bs : List Block) (vs : List (List ℤ)) (b : Block) (v : List ℤ) → AreBlocks bytes bs vs → IsBlock bytes b v → AreBlocks bytes (bs ++ b ∷ []) (vs ++ v ∷ [])
+one_more : (bytes : List ℕ) (bs : List PackedCluster) (vs : List (List ℤ)) (b : PackedCluster) (v : List ℤ) → AreBlocks bytes bs vs → IsBlock bytes b v → AreBlocks bytes (bs ++ b ∷ []) (vs ++ v ∷ [])
 one_more bytes [] [] b v h k = (k, tt)
 one_more bytes (c ∷ cs) (w ∷ ws) b v h k = (h.0, one_more bytes cs ws b v h.1 k)
 one_more bytes bs vs b v h k = absurd h
 
-pub block_more : (bytes new : List ℕ) (bs : List Block) (vs : List (List ℤ)) (b : Block) (v : List ℤ) → AreBlocks bytes bs vs → new ≡ bytes ++ packed_of v → IsBlock new b v → AreBlocks new (bs ++ b ∷ []) (vs ++ v ∷ [])
+pub block_more : (bytes new : List ℕ) (bs : List PackedCluster) (vs : List (List ℤ)) (b : PackedCluster) (v : List ℤ) → AreBlocks bytes bs vs → new ≡ bytes ++ packed_of v → IsBlock new b v → AreBlocks new (bs ++ b ∷ []) (vs ++ v ∷ [])
 block_more bytes new bs vs b v h e k = one_more new bs vs b v (rw e (grown bytes (packed_of v) bs vs h)) k
 
 -- a block whose bytes were just appended
-pub block_made : (bytes new : List ℕ) (b : Block) (values : List ℤ) → new ≡ bytes ++ packed_of values → b.begin ≡ length bytes → b.entries ≡ length values → b.packing ≡ packing_of values
+pub block_made : (bytes new : List ℕ) (b : PackedCluster) (values : List ℤ) → new ≡ bytes ++ packed_of values → b.begin ≡ length bytes → b.entries ≡ length values → b.packing ≡ packing_of values
     → All (FitsSigned w64) values → IsBlock new b values
 block_made bytes new b values e at many p words = record {
   entries = many;
@@ -196,25 +196,25 @@ block_made bytes new b values e at many p words = record {
 
 -- ---- one block
 
-pub block_at : (bytes : List ℕ) (bs : List Block) (vs : List (List ℤ)) (c : ℕ) (d : Block) → AreBlocks bytes bs vs → c < length vs → IsBlock bytes (get_or bs c d) (get_or vs c [])
+pub block_at : (bytes : List ℕ) (bs : List PackedCluster) (vs : List (List ℤ)) (c : ℕ) (d : PackedCluster) → AreBlocks bytes bs vs → c < length vs → IsBlock bytes (get_or bs c d) (get_or vs c [])
 block_at bytes [] [] c d h l = absurd (omega (arith, l))
 block_at bytes [] (v ∷ vs) c d h l = absurd h
 block_at bytes (b ∷ bs) [] c d h l = absurd h
 block_at bytes (b ∷ bs) (v ∷ vs) zero d h l = h.0
 block_at bytes (b ∷ bs) (v ∷ vs) (suc c) d h l = block_at bytes bs vs c d h.1 (omega (arith, l))
 
-pub block_width : (bytes : List ℕ) (b : Block) (values : List ℤ) → IsBlock bytes b values → IsWidth b.packing.width
+pub block_width : (bytes : List ℕ) (b : PackedCluster) (values : List ℤ) → IsBlock bytes b values → IsWidth b.packing.width
 block_width bytes b values h = rw h.packing (packing_width values)
 
 -- ---- what the functions ask
 
-pub block_of : (bytes : List ℕ) (bs : List Block) (c : ℕ) (b : Block) → AreBlocks bytes bs (map (block_values bytes) bs) → c < length (map (block_values bytes) bs) → b ≡ get_or bs c b → IsBlock bytes b (get_or (map (block_values bytes) bs) c [])
-block_of bytes bs c b h l e = subst (λ (x : Block). IsBlock bytes x (get_or (map (block_values bytes) bs) c [])) (sym e) (block_at bytes bs (map (block_values bytes) bs) c b h l)
+pub block_of : (bytes : List ℕ) (bs : List PackedCluster) (c : ℕ) (b : PackedCluster) → AreBlocks bytes bs (map (block_values bytes) bs) → c < length (map (block_values bytes) bs) → b ≡ get_or bs c b → IsBlock bytes b (get_or (map (block_values bytes) bs) c [])
+block_of bytes bs c b h l e = subst (λ (x : PackedCluster). IsBlock bytes x (get_or (map (block_values bytes) bs) c [])) (sym e) (block_at bytes bs (map (block_values bytes) bs) c b h l)
 
-pub block_size : (bytes : List ℕ) (b : Block) (values : List ℤ) → IsBlock bytes b values → b.entries * b.packing.width ≡ length (packed_of values)
+pub block_size : (bytes : List ℕ) (b : PackedCluster) (values : List ℤ) → IsBlock bytes b values → b.entries * b.packing.width ≡ length (packed_of values)
 block_size bytes b values h = grind (arith, length-packed, packing_width)
 
-pub block_bytes : (bytes : List ℕ) (b : Block) (values : List ℤ) → IsBlock bytes b values → take (b.begin + b.entries * b.packing.width - b.begin) (drop b.begin bytes) ≡ packed_of values
+pub block_bytes : (bytes : List ℕ) (b : PackedCluster) (values : List ℤ) → IsBlock bytes b values → take (b.begin + b.entries * b.packing.width - b.begin) (drop b.begin bytes) ≡ packed_of values
 block_bytes bytes b values h = grind (arith, block_size)
 
 -- ---- bytes that are appended

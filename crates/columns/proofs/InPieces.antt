@@ -6,13 +6,13 @@ use Rattle.columns.specs.{joined, cells_of, cluster_values, ColumnPieces, Holds,
 use Rattle.rdf_values.specs.{AreKept, ColType, Column, count, cut, IsIntColumn, Keep, kind_at, rows_kept, Span, TableView, Value, below, cell_at, Cells, FitRows, HoldsTable, IsKept}
 use Rattle.rdf_values.proofs.Evenly.{cuts_lead}
 use Rattle.rdf_values.proofs.KeptLemmas.{ints_column, kept_within, no_ints, no_vects, vects_column, kept_length}
-use Rattle.columns.specs.declared.kept.Kept.{Kept}
+use Rattle.columns.specs.declared.kept.PackedColumn.{PackedColumn}
 use Rattle.columns.proofs.BlockSteps.{ranges_joined, span_within, values_of_cluster, block_back, block_of, block_size, block_width, value_at}
 use Rattle.rdf_values.proofs.UnionLemmas.{map-below}
 use Rattle.std.specs.Int.{cast_signed, cast_unsigned, int_wrap}
 use mir.Syntax.{w64}
 use native.Mathlib.Nat.{add-mul}
-use Rattle.columns.specs.declared.packed_ints.Block.{Block}
+use Rattle.columns.specs.declared.packed_ints.PackedCluster.{PackedCluster}
 use Rattle.columns.specs.declared.packing.Packing.{Packing}
 
 -- ---- the first pieces
@@ -101,30 +101,30 @@ read_to_the_end pieces lo n i before numbers r long e h = grind (arith, take_all
 
 -- ---- What is kept gives the table's columns.
 
-pub col_within : (columns : List Column) (all : List Kept) (n col : ℕ) (kind : ColType) → AreKept n columns (map cells_of all) → kind_at columns col ≡ Some kind → col < length all
+pub col_within : (columns : List Column) (all : List PackedColumn) (n col : ℕ) (kind : ColType) → AreKept n columns (map cells_of all) → kind_at columns col ≡ Some kind → col < length all
 col_within columns all n col kind h e = let l = kept_within columns (map cells_of all) n col kind h e in omega (arith, l, length-map all cells_of)
 
-found : (columns : List Column) (all : List Kept) (n col : ℕ) (kind : ColType) (x : Kept) → AreKept n columns (map cells_of all) → kind_at columns col ≡ Some kind → x ≡ get_or all col x → slice_get (map cells_of all) col ≡ Some (cells_of x)
+found : (columns : List Column) (all : List PackedColumn) (n col : ℕ) (kind : ColType) (x : PackedColumn) → AreKept n columns (map cells_of all) → kind_at columns col ≡ Some kind → x ≡ get_or all col x → slice_get (map cells_of all) col ≡ Some (cells_of x)
 found columns all n col kind x h e q = grind (arith, slice_get-get_or, col_within, slice_get-map)
 
-pub ints_found : (columns : List Column) (all : List Kept) (n col : ℕ) (x : Kept) (values : List (List ℤ)) → AreKept n columns (map cells_of all) → kind_at columns col ≡ Some ColType.Int → x ≡ get_or all col x → x ≡ Kept.Ints values
+pub ints_found : (columns : List Column) (all : List PackedColumn) (n col : ℕ) (x : PackedColumn) (values : List (List ℤ)) → AreKept n columns (map cells_of all) → kind_at columns col ≡ Some ColType.Int → x ≡ get_or all col x → x ≡ PackedColumn.Ints values
     → map (λ row. slice_get row col) (rows_kept n (map cells_of all)) ≡ map (λ z. Some (Value.Int z)) (joined values)
 ints_found columns all n col x values h e q i = ints_column columns (map cells_of all) n col (cells_of x) (joined values) h e (found columns all n col ColType.Int x h e q) (ap cells_of i)
 
-pub vects_found : (columns : List Column) (all : List Kept) (n col : ℕ) (x : Kept) (vectors : List (List ℤ)) → AreKept n columns (map cells_of all) → kind_at columns col ≡ Some ColType.Vect → x ≡ get_or all col x → x ≡ Kept.Vects vectors
+pub vects_found : (columns : List Column) (all : List PackedColumn) (n col : ℕ) (x : PackedColumn) (vectors : List (List ℤ)) → AreKept n columns (map cells_of all) → kind_at columns col ≡ Some ColType.Vect → x ≡ get_or all col x → x ≡ PackedColumn.Vects vectors
     → map (λ row. slice_get row col) (rows_kept n (map cells_of all)) ≡ map (λ zs. Some (Value.Vect zs)) vectors
 vects_found columns all n col x vectors h e q i = vects_column columns (map cells_of all) n col (cells_of x) vectors h e (found columns all n col ColType.Vect x h e q) (ap cells_of i)
 
-pub not_vects : (columns : List Column) (all : List Kept) (n col : ℕ) (x : Kept) (vectors : List (List ℤ)) → AreKept n columns (map cells_of all) → kind_at columns col ≡ Some ColType.Int → x ≡ get_or all col x → x ≡ Kept.Vects vectors → ⊥
+pub not_vects : (columns : List Column) (all : List PackedColumn) (n col : ℕ) (x : PackedColumn) (vectors : List (List ℤ)) → AreKept n columns (map cells_of all) → kind_at columns col ≡ Some ColType.Int → x ≡ get_or all col x → x ≡ PackedColumn.Vects vectors → ⊥
 not_vects columns all n col x vectors h e q i = no_vects columns (map cells_of all) n col (cells_of x) vectors h e (found columns all n col ColType.Int x h e q) (ap cells_of i)
 
-pub not_ints : (columns : List Column) (all : List Kept) (n col : ℕ) (x : Kept) (values : List (List ℤ)) → AreKept n columns (map cells_of all) → kind_at columns col ≡ Some ColType.Vect → x ≡ get_or all col x → x ≡ Kept.Ints values → ⊥
+pub not_ints : (columns : List Column) (all : List PackedColumn) (n col : ℕ) (x : PackedColumn) (values : List (List ℤ)) → AreKept n columns (map cells_of all) → kind_at columns col ≡ Some ColType.Vect → x ≡ get_or all col x → x ≡ PackedColumn.Ints values → ⊥
 not_ints columns all n col x values h e q i = no_ints columns (map cells_of all) n col (cells_of x) (joined values) h e (found columns all n col ColType.Vect x h e q) (ap cells_of i)
 
-at_by : (P : Kept → Type 0) (all : List Kept) (col : ℕ) (d : Kept) → AllByRecursion P all → col < length all → P (get_or all col d)
+at_by : (P : PackedColumn → Type 0) (all : List PackedColumn) (col : ℕ) (d : PackedColumn) → AllByRecursion P all → col < length all → P (get_or all col d)
 at_by P all col d h l = All-from_recursion P all h col d l
 
-pub by_cluster : (columns : List Column) (all : List Kept) (n col : ℕ) (x : Kept) (values : List (List ℤ)) (spans : List Span) → AreKept n columns (map cells_of all) → kind_at columns col ≡ Some ColType.Int → x ≡ get_or all col x → x ≡ Kept.Ints values
+pub by_cluster : (columns : List Column) (all : List PackedColumn) (n col : ℕ) (x : PackedColumn) (values : List (List ℤ)) (spans : List Span) → AreKept n columns (map cells_of all) → kind_at columns col ≡ Some ColType.Int → x ≡ get_or all col x → x ≡ PackedColumn.Ints values
     → AllByRecursion (IsByCluster spans) all → values ≡ cluster_values spans (joined values)
 by_cluster columns all n col x values spans h e q i a = grind (arith, at_by, col_within)
 
@@ -196,12 +196,12 @@ pub keep_back : (n k : ℕ) (all : List ColumnPieces) → Keep n (map whole all)
 keep_back n (suc k) (x ∷ xs) h = keep_back n k xs h.1
 keep_back n k all h = grind arith
 
-pub halves_joined : (k : ℕ) (all first last : List ColumnPieces) (front back both : List Kept) → first ≡ take k all → last ≡ drop k all → map cells_of front ≡ map whole first → map cells_of back ≡ map whole last → both ≡ front ++ back
+pub halves_joined : (k : ℕ) (all first last : List ColumnPieces) (front back both : List PackedColumn) → first ≡ take k all → last ≡ drop k all → map cells_of front ≡ map whole first → map cells_of back ≡ map whole last → both ≡ front ++ back
     → map cells_of both ≡ map whole all
 halves_joined k all first last front back both t d f b e =
     ap (map cells_of) e ∙ map-append cells_of front back ∙ ap₂ (λ xs ys. xs ++ ys) (f ∙ ap (map whole) t) (b ∙ ap (map whole) d) ∙ sym (map-append whole (take k all) (drop k all)) ∙ ap (map whole) (take-append-drop k all)
 
-pub halves_by_cluster : (spans : List Span) (front back both : List Kept) → AllByRecursion (IsByCluster spans) front → AllByRecursion (IsByCluster spans) back → both ≡ front ++ back → AllByRecursion (IsByCluster spans) both
+pub halves_by_cluster : (spans : List Span) (front back both : List PackedColumn) → AllByRecursion (IsByCluster spans) front → AllByRecursion (IsByCluster spans) back → both ≡ front ++ back → AllByRecursion (IsByCluster spans) both
 halves_by_cluster spans front back both f b e = rw e (each_append (IsByCluster spans) front back f b)
 
 -- ---- columns of a table with those of another behind them: the first columns have others behind them
@@ -360,10 +360,10 @@ later_values least w (suc i) n bs =
     ap (λ (m : ℕ). drop (suc i) (values_in least w m bs)) all ∙ later_values least w i n (drop w bs) ∙ ap (values_in least w n) (drop_plus w (i * w) bs ∙ ap (λ (k : ℕ). drop k bs) wide)
 
 -- some of a block's numbers, and their bytes
-some_inside : (bytes : List ℕ) (b : Block) (values : List ℤ) (i n : ℕ) → IsBlock bytes b values → i + n ≤ length values → b.begin + i * b.packing.width + n * b.packing.width ≤ length bytes
+some_inside : (bytes : List ℕ) (b : PackedCluster) (values : List ℤ) (i n : ℕ) → IsBlock bytes b values → i + n ≤ length values → b.begin + i * b.packing.width + n * b.packing.width ≤ length bytes
 some_inside bytes b values i n h l = grind (arith, block_size)
 
-some_values : (bytes : List ℕ) (b : Block) (values : List ℤ) (i n : ℕ) → IsBlock bytes b values → i + n ≤ length values → values_in b.packing.least b.packing.width n (drop (b.begin + i * b.packing.width) bytes) ≡ take n (drop i values)
+some_values : (bytes : List ℕ) (b : PackedCluster) (values : List ℤ) (i n : ℕ) → IsBlock bytes b values → i + n ≤ length values → values_in b.packing.least b.packing.width n (drop (b.begin + i * b.packing.width) bytes) ≡ take n (drop i values)
 some_values bytes b values i n h l =
     let p = b.packing in
     let m = b.entries - i in
@@ -374,11 +374,11 @@ some_values bytes b values i n h l =
     sym (ap (take n) later ∙ first_values p.least p.width m n (drop (b.begin + i * p.width) bytes) (omega (arith, l, h.entries)))
 
 -- a block's numbers from a place on
-pub record FromPlace (bytes : List ℕ) (b : Block) (values : List ℤ) (i : ℕ) : Type 0 where
+pub record FromPlace (bytes : List ℕ) (b : PackedCluster) (values : List ℤ) (i : ℕ) : Type 0 where
   pub inside : b.begin + i * b.packing.width ≤ length bytes
   pub numbers : (n : ℕ) → i + n ≤ length values → AreNumbers b.packing (drop (b.begin + i * b.packing.width) bytes) n (take n (drop i values))
 
-from_place : (bytes : List ℕ) (b : Block) (values : List ℤ) (i : ℕ) → IsBlock bytes b values → i ≤ length values → FromPlace bytes b values i
+from_place : (bytes : List ℕ) (b : PackedCluster) (values : List ℤ) (i : ℕ) → IsBlock bytes b values → i ≤ length values → FromPlace bytes b values i
 from_place bytes b values i h l = record {
   inside = omega (arith, some_inside bytes b values i 0 h (omega (arith, l)));
   numbers = λ n m. record {
@@ -389,7 +389,7 @@ from_place bytes b values i h l = record {
   };
 }
 
-pub there : (bytes : List ℕ) (bs : List Block) (c i : ℕ) (b : Block) (views : List (List ℤ)) → AreBlocks bytes bs (map (block_values bytes) bs) → map (block_values bytes) bs ≡ views → c < length views → b ≡ get_or bs c b → i ≤ length (get_or views c [])
+pub there : (bytes : List ℕ) (bs : List PackedCluster) (c i : ℕ) (b : PackedCluster) (views : List (List ℤ)) → AreBlocks bytes bs (map (block_values bytes) bs) → map (block_values bytes) bs ≡ views → c < length views → b ≡ get_or bs c b → i ≤ length (get_or views c [])
     → FromPlace bytes b (get_or views c []) i
 there bytes bs c i b views h v l e many =
     from_place bytes b (get_or views c []) i

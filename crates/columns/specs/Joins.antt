@@ -5,7 +5,7 @@ use Rattle.columns.specs.declared.column_pieces.ColumnPieces.{ColumnPieces}
 use Rattle.std.specs.List.{AllByRecursion}
 use Rattle.columns.specs.Views.{CutsView}
 use Rattle.columns.specs.Packings.{cluster_values}
-use Rattle.columns.specs.declared.kept.Kept.{Kept}
+use Rattle.columns.specs.declared.kept.PackedColumn.{PackedColumn}
 
 -- the values of a column, with more of its type behind them
 abbrev pub cells_joined : Cells → Cells → Cells
@@ -37,16 +37,16 @@ whole (ColumnPieces.Vects vectors) = Cells.Vects (joined vectors.items)
 -- ---- how columns are kept over clusters
 
 -- the values for which a column stands
-abbrev pub cells_of : Kept → Cells
-cells_of (Kept.Ints values) = Cells.Ints (joined values)
-cells_of (Kept.Vects vectors) = Cells.Vects vectors
+abbrev pub cells_of : PackedColumn → Cells
+cells_of (PackedColumn.Ints values) = Cells.Ints (joined values)
+cells_of (PackedColumn.Vects vectors) = Cells.Vects vectors
 
 -- numbers are kept cluster by cluster
-abbrev pub IsByCluster : List Span → Kept → Type 0
-IsByCluster spans (Kept.Ints values) = values ≡ cluster_values spans (joined values)
-IsByCluster spans (Kept.Vects vectors) = ⊤
+abbrev pub IsByCluster : List Span → PackedColumn → Type 0
+IsByCluster spans (PackedColumn.Ints values) = values ≡ cluster_values spans (joined values)
+IsByCluster spans (PackedColumn.Vects vectors) = ⊤
 
 -- what is kept is a table over the ranges of the cuts
-pub record HoldColumns (columns : List Column) (all : List Kept) (cuts : CutsView) : Type 0 where
+pub record HoldColumns (columns : List Column) (all : List PackedColumn) (cuts : CutsView) : Type 0 where
   pub table : HoldsTable columns (map cells_of all) cuts.entries
   pub clusters : AllByRecursion (IsByCluster (cut cuts.entries cuts.size cuts.marks)) all

@@ -5,7 +5,7 @@ use Rattle.columns.specs.declared.packing.Packing.{Packing}
 use Rattle.rdf_values.specs.{cell, TableView, Value, Span}
 use Rattle.std.specs.Int.RustNames.{FitsSigned}
 use mir.Syntax.{w64 as bits64}
-use Rattle.columns.specs.declared.packed_ints.Block.{Block}
+use Rattle.columns.specs.declared.packed_ints.PackedCluster.{PackedCluster}
 
 -- ---- the widths of packed numbers
 
@@ -72,11 +72,11 @@ abbrev pub cluster_values : List Span → List ℤ → List (List ℤ)
 cluster_values spans numbers = map (λ s. slice_range numbers s.lo s.hi) spans
 
 -- the numbers that a block's bytes spell
-abbrev pub block_values : List ℕ → Block → List ℤ
+abbrev pub block_values : List ℕ → PackedCluster → List ℤ
 block_values bytes b = values_in b.packing.least b.packing.width b.entries (drop b.begin bytes)
 
 -- a block holds these numbers, packed
-pub record IsBlock (bytes : List ℕ) (b : Block) (values : List ℤ) : Type 0 where
+pub record IsBlock (bytes : List ℕ) (b : PackedCluster) (values : List ℤ) : Type 0 where
   pub entries : b.entries ≡ length values
   pub packing : b.packing ≡ packing_of values
   pub inside : b.begin + length (packed_of values) ≤ length bytes
@@ -91,7 +91,7 @@ pub record AreNumbers (p : Packing) (bytes : List ℕ) (n : ℕ) (values : List 
   pub words : All (FitsSigned bits64) (values_in p.least p.width n bytes)
 
 -- each block holds the numbers of its cluster
-abbrev pub AreBlocks : List ℕ → List Block → List (List ℤ) → Type 0
+abbrev pub AreBlocks : List ℕ → List PackedCluster → List (List ℤ) → Type 0
 AreBlocks bytes [] [] = ⊤
 AreBlocks bytes [] (v ∷ vs) = ⊥
 AreBlocks bytes (b ∷ bs) [] = ⊥

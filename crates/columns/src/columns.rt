@@ -7,7 +7,7 @@ ghost use Rattle.columns.specs.Packings.{cluster_values, packed_of, packing_of};
 ghost use Rattle.columns.specs.Joins.{joined};
 
 use crate::cuts::Cuts;
-use crate::kept::{Kept, keep_in_slots};
+use crate::kept::{PackedColumn, keep_in_slots};
 use crate::packed_ints::PackedInts;
 use crate::packing::Packing;
 use crate::table_pieces::TablePieces;
@@ -20,7 +20,7 @@ use std::thread::Threads;
 #[derive(Drop)]
 pub struct Columns {
     columns: ListOf<Column>,
-    kept: Vec<Kept>,
+    kept: Vec<PackedColumn>,
     cuts: Cuts,
 }
 
@@ -92,8 +92,8 @@ impl Columns {
         ensures clusters { result.now ≡ cluster_values (cut self.now.cuts.entries self.now.cuts.size self.now.cuts.marks) (joined result.now) }
     {
         match &self.kept[col as usize] {
-            Kept::Ints(numbers) => numbers,
-            Kept::Vects(_) => unreachable!(),
+            PackedColumn::Ints(numbers) => numbers,
+            PackedColumn::Vects(_) => unreachable!(),
         }
     }
 
@@ -104,8 +104,8 @@ impl Columns {
         ensures { IsVectColumn self.now.table col result.now }
     {
         match &self.kept[col as usize] {
-            Kept::Vects(vectors) => vectors,
-            Kept::Ints(_) => unreachable!(),
+            PackedColumn::Vects(vectors) => vectors,
+            PackedColumn::Ints(_) => unreachable!(),
         }
     }
 

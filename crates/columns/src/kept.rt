@@ -14,7 +14,7 @@ use std::thread::{Threads, join};
 
 /// The numbers of an int column, packed by cluster, or the vectors of a vec column.
 #[derive(Drop)]
-pub(crate) enum Kept {
+pub(crate) enum PackedColumn {
     Ints(PackedInts),
     Vects(Vects),
 }
@@ -33,20 +33,28 @@ fn join_vectors(alloc: Global, pieces: Vec<Vects>) -> Result<Vects, Memory>
     Ok(vectors)
 }
 
-fn keep(alloc: Global, pieces: ColumnPieces, cuts: &Cuts) -> Result<Kept, Memory>
+fn keep(alloc: Global, pieces: ColumnPieces, cuts: &Cuts) -> Result<PackedColumn, Memory>
     requires size { count (whole pieces) ≡ cuts.now.entries }
     requires few { cuts.now.entries ≤ 1000000 }
     ensures same { IfOk result (λ kept. cells_of kept ≡ whole pieces) }
     ensures clusters { IfOk result (IsByCluster (cut cuts.now.entries cuts.now.size cuts.now.marks)) }
 {
     match pieces {
-        ColumnPieces::Ints(numbers) => Ok(Kept::Ints(pack(alloc, numbers.as_slice(), cuts)?)),
-        ColumnPieces::Vects(vectors) => Ok(Kept::Vects(join_vectors(alloc, vectors)?)),
+        ColumnPieces::Ints(numbers) => Ok(PackedColumn::Ints(pack(
+            alloc,
+            numbers.as_slice(),
+            cuts,
+        )?)),
+        ColumnPieces::Vects(vectors) => Ok(PackedColumn::Vects(join_vectors(alloc, vectors)?)),
     }
 }
 
 // The columns as they are kept; each one's pieces go as soon as it is packed.
-fn keep_all(alloc: Global, pieces: Vec<ColumnPieces>, cuts: &Cuts) -> Result<Vec<Kept>, Memory>
+fn keep_all(
+    alloc: Global,
+    pieces: Vec<ColumnPieces>,
+    cuts: &Cuts,
+) -> Result<Vec<PackedColumn>, Memory>
     requires keep { Keep cuts.now.entries (map whole pieces.items) }
     requires few { cuts.now.entries ≤ 1000000 }
     ensures same { IfOk result (λ kept. map cells_of kept.items ≡ map whole pieces.items) }
@@ -102,7 +110,7 @@ pub(crate) fn keep_in_slots<R: Threads + Sync>(
     mut pieces: Vec<ColumnPieces>,
     cuts: &Cuts,
     slots: u32,
-) -> Result<Vec<Kept>, Memory>
+) -> Result<Vec<PackedColumn>, Memory>
     requires keep { Keep cuts.now.entries (map whole pieces.items) }
     requires few { cuts.now.entries ≤ 1000000 }
     ensures same { IfOk result (λ kept. map cells_of kept.items ≡ map whole pieces.items) }
@@ -116,12 +124,12 @@ pub(crate) fn keep_in_slots<R: Threads + Sync>(
     let front = pieces;
     let (first, second) = join(
         rt,
-        move || -> Result<Vec<Kept>, Memory>
+        move || -> Result<Vec<PackedColumn>, Memory>
             requires { IsSync R.row × Keep cuts.now.entries (map whole front.items) × (cuts.now.entries ≤ 1000000) }
             ensures same { IfOk result (λ kept. map cells_of kept.items ≡ map whole front.items) }
             ensures clusters { IfOk result (λ kept. AllByRecursion (IsByCluster (cut cuts.entry.now.entries cuts.entry.now.size cuts.entry.now.marks)) kept.items) }
         { keep_in_slots(rt, alloc, front, cuts, half) },
-        move || -> Result<Vec<Kept>, Memory>
+        move || -> Result<Vec<PackedColumn>, Memory>
             requires { IsSync R.row × Keep cuts.now.entries (map whole back.items) × (cuts.now.entries ≤ 1000000) }
             ensures same { IfOk result (λ kept. map cells_of kept.items ≡ map whole back.items) }
             ensures clusters { IfOk result (λ kept. AllByRecursion (IsByCluster (cut cuts.entry.now.entries cuts.entry.now.size cuts.entry.now.marks)) kept.items) }

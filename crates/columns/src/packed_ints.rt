@@ -14,7 +14,7 @@ use std::marker::Model;
 
 /// How a cluster's numbers are packed, where their bytes begin, and how many they are.
 #[derive(Clone, Copy)]
-pub(crate) struct Block {
+pub(crate) struct PackedCluster {
     packing: Packing,
     begin: usize,
     entries: u32,
@@ -23,7 +23,7 @@ pub(crate) struct Block {
 /// The numbers of a column by cluster. Each cluster's bytes stand behind those of the one before.
 #[derive(Drop)]
 pub(crate) struct PackedInts {
-    blocks: Vec<Block>,
+    blocks: Vec<PackedCluster>,
     bytes: Vec<u8>,
 }
 
@@ -40,14 +40,14 @@ impl Model for PackedInts {
 
 // Appends the bytes of a cluster's numbers, and tells where they stand.
 #[tactic(auto, using(crate::proofs::BlockSteps::packing_width, crate::proofs::BlockSteps::block_made))]
-fn pack_cluster(values: &[i64], bytes: Vec<u8>) -> Result<(Block, Vec<u8>), Memory>
+fn pack_cluster(values: &[i64], bytes: Vec<u8>) -> Result<(PackedCluster, Vec<u8>), Memory>
     requires some { 0 < length values.now }
     requires few { length values.now ≤ 1000000 }
     ensures block { IfOk result (λ g. IsBlock g.1.items g.0 values.now) }
     ensures grown { IfOk result (λ g. g.1.items ≡ bytes.items ++ packed_of values.now) }
 {
     let packing = Packing::of(values);
-    let block = Block {
+    let block = PackedCluster {
         packing,
         begin: bytes.len(),
         entries: values.len() as u32,

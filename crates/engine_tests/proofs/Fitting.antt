@@ -4,8 +4,8 @@ use Rattle.expr_check.proofs.WellTyped.{each_weaker}
 use Rattle.rdf_values.specs.{ColType, GraphCause, ScopeColumn, Value}
 use Rattle.rdf_model.specs.{FitsOutcome, Needs, Outcome}
 use Rattle.expr_check.specs.{number_kind, NumberHasKind, numbers_in}
-use Rattle.expr_eval.specs.{Input, input_outcome}
-use Rattle.engine_tests.specs.declared.cells.Cell.{Cell}
+use Rattle.expr_eval.specs.{ColumnInput, input_outcome}
+use Rattle.engine_tests.specs.declared.cells.TestCell.{TestCell}
 use Rattle.engine_tests.specs.{AllFit, AreBefore, cell_outcome, fits, IsBefore, look_in}
 
 -- ---- one column
@@ -13,24 +13,24 @@ use Rattle.engine_tests.specs.{AllFit, AreBefore, cell_outcome, fits, IsBefore, 
 le_from : (m : ℕ) → nat_le m 4096 ≡ true → m ≤ 4096
 le_from m e = grind arith
 
-input_fits : (c : ℕ) (k : ColType) (input : Input) → fits k input ≡ true → FitsOutcome k (input_outcome c input)
-input_fits c ColType.Int (Input.Int z) e = tt
-input_fits c ColType.Int (Input.Bool b) e = cc e
-input_fits c ColType.Int (Input.Vect zs) e = cc e
-input_fits c ColType.Int (Input.Faulted f) e = tt
-input_fits c ColType.Int Input.Missing e = tt
-input_fits c ColType.Bool (Input.Int z) e = cc e
-input_fits c ColType.Bool (Input.Bool b) e = tt
-input_fits c ColType.Bool (Input.Vect zs) e = cc e
-input_fits c ColType.Bool (Input.Faulted f) e = tt
-input_fits c ColType.Bool Input.Missing e = tt
-input_fits c ColType.Vect (Input.Int z) e = cc e
-input_fits c ColType.Vect (Input.Bool b) e = cc e
-input_fits c ColType.Vect (Input.Vect zs) e = le_from (length zs.now) e
-input_fits c ColType.Vect (Input.Faulted f) e = tt
-input_fits c ColType.Vect Input.Missing e = tt
+input_fits : (c : ℕ) (k : ColType) (input : ColumnInput) → fits k input ≡ true → FitsOutcome k (input_outcome c input)
+input_fits c ColType.Int (ColumnInput.Int z) e = tt
+input_fits c ColType.Int (ColumnInput.Bool b) e = cc e
+input_fits c ColType.Int (ColumnInput.Vect zs) e = cc e
+input_fits c ColType.Int (ColumnInput.Faulted f) e = tt
+input_fits c ColType.Int ColumnInput.Missing e = tt
+input_fits c ColType.Bool (ColumnInput.Int z) e = cc e
+input_fits c ColType.Bool (ColumnInput.Bool b) e = tt
+input_fits c ColType.Bool (ColumnInput.Vect zs) e = cc e
+input_fits c ColType.Bool (ColumnInput.Faulted f) e = tt
+input_fits c ColType.Bool ColumnInput.Missing e = tt
+input_fits c ColType.Vect (ColumnInput.Int z) e = cc e
+input_fits c ColType.Vect (ColumnInput.Bool b) e = cc e
+input_fits c ColType.Vect (ColumnInput.Vect zs) e = le_from (length zs.now) e
+input_fits c ColType.Vect (ColumnInput.Faulted f) e = tt
+input_fits c ColType.Vect ColumnInput.Missing e = tt
 
-cell_fits : (c : ℕ) (cell : Cell) → FitsOutcome cell.kind (cell_outcome c (Some cell))
+cell_fits : (c : ℕ) (cell : TestCell) → FitsOutcome cell.kind (cell_outcome c (Some cell))
 cell_fits c cell = by_test (fits cell.kind cell.input) (input_fits c cell.kind cell.input)
   where
     by_test : (b : Bool) → (b ≡ true → FitsOutcome cell.kind (input_outcome c cell.input)) → FitsOutcome cell.kind (cond b (input_outcome c cell.input) (Needs c))
@@ -38,13 +38,13 @@ cell_fits c cell = by_test (fits cell.kind cell.input) (input_fits c cell.kind c
     by_test false f = tt
 
 -- the column at a place comes to a value of its kind, or to none
-pub column_fits : (cells : List Cell) (place : ℕ) (cell : Cell) → slice_get cells place ≡ Some cell → FitsOutcome cell.kind (look_in cells place)
+pub column_fits : (cells : List TestCell) (place : ℕ) (cell : TestCell) → slice_get cells place ≡ Some cell → FitsOutcome cell.kind (look_in cells place)
 column_fits cells place cell at = rw at (cell_fits place cell)
 
 -- ---- scopes
 
 -- no column before a place has its number
-pub new_number : (cells : List Cell) (place : ℕ) (k : ColType) (columns : List ScopeColumn) → AreBefore cells place columns → NumberHasKind place k columns
+pub new_number : (cells : List TestCell) (place : ℕ) (k : ColType) (columns : List ScopeColumn) → AreBefore cells place columns → NumberHasKind place k columns
 new_number cells place k columns before =
     All-from_recursion (λ (c : ScopeColumn). c.number ≡ place → c.kind ≡ k) columns
     (each_weaker (IsBefore cells place) (λ (c : ScopeColumn). c.number ≡ place → c.kind ≡ k) (λ c b e. let l = b.0 in absurd (omega arith)) columns (recursion_from_All (IsBefore cells place) columns before))
@@ -54,7 +54,7 @@ with_last P Q f last l [] h = (l, tt)
 with_last P Q f last l (c ∷ cs) h = (f c h.0, with_last P Q f last l cs h.1)
 
 -- the columns before a place, and the one at it
-pub one_more : (cells : List Cell) (place : ℕ) (cell : Cell) (name : List ℕ) (columns : List ScopeColumn) → slice_get cells place ≡ Some cell → AreBefore cells place columns
+pub one_more : (cells : List TestCell) (place : ℕ) (cell : TestCell) (name : List ℕ) (columns : List ScopeColumn) → slice_get cells place ≡ Some cell → AreBefore cells place columns
     → AreBefore cells (place + 1) (columns ++ record { name = name; kind = cell.kind; number = place } ∷ [])
 one_more cells place cell name columns at before =
     let last : ScopeColumn = record { name = name; kind = cell.kind; number = place } in
@@ -73,7 +73,7 @@ kind_fits look (c ∷ cs) n k each is = by_test (nat_eq c.number n) c.kind (numb
     by_test false l r here below is = below is
 
 -- what an expression reads comes to values of the kinds that it was checked with
-pub all_fit : (cells : List Cell) (place : ℕ) (columns : List ScopeColumn) (kinds : List (ℕ × ColType)) → AreBefore cells place columns
+pub all_fit : (cells : List TestCell) (place : ℕ) (columns : List ScopeColumn) (kinds : List (ℕ × ColType)) → AreBefore cells place columns
     → All (λ (k : ℕ × ColType). number_kind (numbers_in columns) k.0 ≡ Ok k.1) kinds → AllFit cells kinds
 all_fit cells place columns kinds before known =
     let each = each_weaker (IsBefore cells place) (λ (c : ScopeColumn). FitsOutcome c.kind (look_in cells c.number)) (λ c b. b.1) columns (recursion_from_All (IsBefore cells place) columns before) in

@@ -5,7 +5,7 @@ ghost use Rattle.entry_fns.specs.{functions_in};
 ghost use Rattle.expr_check.specs.{CallsFit, is_plain};
 ghost use Rattle.engine_tests.specs.{AllFit};
 
-use crate::cells::{Cell, Cells, scope_of};
+use crate::cells::{TestCell, TestCells, scope_of};
 use crate::words::{scalar_words, value_words};
 use entry_fns::FnList;
 use expr_check::{Checked, check};
@@ -23,7 +23,7 @@ fn counted_value<L: Ledger>(
     blank: Blank,
     alloc: Global,
     expr: &Checked,
-    cells: &[Cell<'_>],
+    cells: &[TestCell<'_>],
     functions: &FnList,
 ) -> Result<Value, EvalStop>
     requires name { blank.name ≡ L.name }
@@ -33,13 +33,13 @@ fn counted_value<L: Ledger>(
     requires calls { CallsFit (fn_names (functions_in functions.now)) expr.now.tree }
 {
     let mut steps: Steps<L> = Steps::open(blank);
-    eval(alloc, expr, &Cells { cells }, functions, &mut steps)
+    eval(alloc, expr, &TestCells { cells }, functions, &mut steps)
 }
 
 fn counted_scalar<L: Ledger>(
     blank: Blank,
     expr: &Checked,
-    cells: &[Cell<'_>],
+    cells: &[TestCell<'_>],
     functions: &FnList,
 ) -> Result<Scalar, ScalarStop>
     requires name { blank.name ≡ L.name }
@@ -50,14 +50,14 @@ fn counted_scalar<L: Ledger>(
     requires calls { CallsFit (fn_names (functions_in functions.now)) expr.now.tree }
 {
     let mut steps: Steps<L> = Steps::open(blank);
-    eval_int(expr, &Cells { cells }, functions, &mut steps)
+    eval_int(expr, &TestCells { cells }, functions, &mut steps)
 }
 
 /// The expression that a text is, checked over the columns and functions.
 pub fn checked(
     alloc: Global,
     text: &str,
-    cells: &[Cell<'_>],
+    cells: &[TestCell<'_>],
     functions: &FnList,
 ) -> Result<Checked, Fail>
     ensures fit { IfOk result (λ e. AllFit cells.now e.kinds) }
@@ -75,7 +75,7 @@ pub fn checked(
 pub fn value_answer(
     alloc: Global,
     text: &str,
-    cells: &[Cell<'_>],
+    cells: &[TestCell<'_>],
     functions: &FnList,
 ) -> Result<String, Fail> {
     let expr = checked(alloc, text, cells, functions)?;
@@ -87,7 +87,7 @@ pub fn value_answer(
 pub fn scalar_answer(
     alloc: Global,
     text: &str,
-    cells: &[Cell<'_>],
+    cells: &[TestCell<'_>],
     functions: &FnList,
 ) -> Result<Option<String>, Fail> {
     let expr = checked(alloc, text, cells, functions)?;

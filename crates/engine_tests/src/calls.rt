@@ -6,7 +6,7 @@ ghost use Rattle.entry_fns.specs.{hyp2_of, square_of};
 use crate::answer::{scalar_answer, value_answer};
 use crate::cells::{faulted, int, missing, truth, vect};
 use entry_fns::shipped::{Hyp2, Square};
-use entry_fns::{Closure, FnList, Stored};
+use entry_fns::{Closure, FnList, StoredFn};
 use rdf_values::{ColType, EntryFault, Name};
 use std::alloc::Global;
 use std::sync::Arc;
@@ -47,7 +47,7 @@ const ROWS: [(&str, &str, u64); 29] = [
 ];
 
 // Adds the function under that name.
-fn add(alloc: Global, functions: &mut FnList, name: &[u8], function: Stored) -> Result<(), Fail> {
+fn add(alloc: Global, functions: &mut FnList, name: &[u8], function: StoredFn) -> Result<(), Fail> {
     let name = Name::read(alloc, name)?.ok_or("no name")?;
     match functions.add(name, function) {
         Ok(()) => Ok(()),
@@ -75,7 +75,7 @@ fn what_is_met_is_called_once_or_needed(rt: HostRuntime) -> Result<(), Fail> {
         alloc,
         &mut functions,
         b"square",
-        Stored::new::<Square>(square),
+        StoredFn::new::<Square>(square),
     )?;
     let hyp2: Closure = Box::new(
         alloc,
@@ -87,7 +87,7 @@ fn what_is_met_is_called_once_or_needed(rt: HostRuntime) -> Result<(), Fail> {
             Hyp2::answer(args)
         },
     )?;
-    add(alloc, &mut functions, b"hyp2", Stored::new::<Hyp2>(hyp2))?;
+    add(alloc, &mut functions, b"hyp2", StoredFn::new::<Hyp2>(hyp2))?;
     let cells = [
         int("w", 3),
         truth("no", false),

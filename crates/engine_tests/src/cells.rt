@@ -4,7 +4,7 @@ ghost use Rattle.engine_tests.specs.Cells.{fits, look_in};
 ghost use Rattle.engine_tests.specs.Scopes.{AreBefore};
 
 use expr_check::Scope;
-use expr_eval::{Input, Inputs};
+use expr_eval::{ColumnInput, Inputs};
 use rdf_values::{ColType, EntryFault, Name};
 use std::alloc::Global;
 use std::test::Fail;
@@ -13,83 +13,83 @@ const MOST_ELEMENTS: usize = 4_096;
 
 /// A column by its name and kind, and what is known of it.
 #[derive(Clone, Copy)]
-pub struct Cell<'a> {
+pub struct TestCell<'a> {
     pub name: &'a str,
     pub kind: ColType,
-    pub input: Input<'a>,
+    pub input: ColumnInput<'a>,
 }
 
 /// A column that holds a number.
-pub fn int(name: &str, value: i64) -> Cell<'_> {
-    Cell {
+pub fn int(name: &str, value: i64) -> TestCell<'_> {
+    TestCell {
         name,
         kind: ColType::Int,
-        input: Input::Int(value),
+        input: ColumnInput::Int(value),
     }
 }
 
 /// A column that holds a truth value.
-pub fn truth(name: &str, value: bool) -> Cell<'_> {
-    Cell {
+pub fn truth(name: &str, value: bool) -> TestCell<'_> {
+    TestCell {
         name,
         kind: ColType::Bool,
-        input: Input::Bool(value),
+        input: ColumnInput::Bool(value),
     }
 }
 
 /// A column that holds a vector of at most 4,096 elements.
-pub fn vect<'a>(name: &'a str, elements: &'a [i64]) -> Cell<'a> {
-    Cell {
+pub fn vect<'a>(name: &'a str, elements: &'a [i64]) -> TestCell<'a> {
+    TestCell {
         name,
         kind: ColType::Vect,
-        input: Input::Vect(elements),
+        input: ColumnInput::Vect(elements),
     }
 }
 
 /// A column of which nothing is known yet.
-pub fn missing(name: &str, kind: ColType) -> Cell<'_> {
-    Cell {
+pub fn missing(name: &str, kind: ColType) -> TestCell<'_> {
+    TestCell {
         name,
         kind,
-        input: Input::Missing,
+        input: ColumnInput::Missing,
     }
 }
 
 /// A column whose own evaluation faulted.
-pub fn faulted(name: &str, kind: ColType, fault: EntryFault) -> Cell<'_> {
-    Cell {
+pub fn faulted(name: &str, kind: ColType, fault: EntryFault) -> TestCell<'_> {
+    TestCell {
         name,
         kind,
-        input: Input::Faulted(fault),
+        input: ColumnInput::Faulted(fault),
     }
 }
 
-fn fits(cell: &Cell<'_>) -> bool
+fn fits(cell: &TestCell<'_>) -> bool
     ensures { result ≡ fits cell.now.kind cell.now.input }
 {
     match (cell.kind, cell.input) {
-        (_, Input::Faulted(_)) | (_, Input::Missing) => true,
-        (ColType::Int, Input::Int(_)) | (ColType::Bool, Input::Bool(_)) => true,
-        (ColType::Vect, Input::Vect(elements)) => elements.len() <= MOST_ELEMENTS,
+        (_, ColumnInput::Faulted(_)) | (_, ColumnInput::Missing) => true,
+        (ColType::Int, ColumnInput::Int(_)) | (ColType::Bool, ColumnInput::Bool(_)) => true,
+        (ColType::Vect, ColumnInput::Vect(elements)) => elements.len() <= MOST_ELEMENTS,
         _ => false,
     }
 }
 
 /// Columns numbered by their places; one whose value isn't of its kind counts as missing.
 #[derive(Drop)]
-pub struct Cells<'a> {
-    pub cells: &'a [Cell<'a>],
+pub struct TestCells<'a> {
+    pub cells: &'a [TestCell<'a>],
 }
 
-impl<'a> Inputs for Cells<'a> {
+impl<'a> Inputs for TestCells<'a> {
     ghost can = { λ row c. Unit {0} };
 
     ghost look = { λ row c. look_in row.cells.now c };
 
-    fn at(&self, col: u32) -> Input<'_> {
+    fn at(&self, col: u32) -> ColumnInput<'_> {
         match self.cells.get(col as usize) {
             Some(cell) if fits(cell) => cell.input,
-            _ => Input::Missing,
+            _ => ColumnInput::Missing,
         }
     }
 }
@@ -99,7 +99,7 @@ impl<'a> Inputs for Cells<'a> {
 fn add_column(
     alloc: Global,
     scope: &mut Scope,
-    cells: &[Cell<'_>],
+    cells: &[TestCell<'_>],
     place: usize,
 ) -> Result<(), Fail>
     requires place { place < length cells.now }
@@ -116,7 +116,7 @@ fn add_column(
 }
 
 /// The columns by their names, with their places as numbers.
-pub fn scope_of(alloc: Global, cells: &[Cell<'_>]) -> Result<Scope, Fail>
+pub fn scope_of(alloc: Global, cells: &[TestCell<'_>]) -> Result<Scope, Fail>
     ensures { IfOk result (λ s. AreBefore cells.now (length cells.now) s) }
 {
     let mut scope = Scope::new(alloc);

@@ -3,7 +3,7 @@ ghost use Rattle.std.specs.Prelude.{◌≡◌, None, length};
 ghost use Rattle.entry_fns.specs.{square_of};
 
 use entry_fns::shipped::Square;
-use entry_fns::{Closure, FnCause, FnList, Rule, Stored};
+use entry_fns::{Closure, FnCause, FnList, Rule, StoredFn};
 use rdf_values::Name;
 use std::test::Fail;
 
@@ -32,7 +32,7 @@ fn nine_arguments_are_too_many(rt: HostRuntime) -> Result<(), Fail> {
         },
     )?;
     let name = Name::read(alloc, b"nine")?.ok_or("no name")?;
-    match FnList::new(alloc).add(name, Stored::new::<Nine>(nine)) {
+    match FnList::new(alloc).add(name, StoredFn::new::<Nine>(nine)) {
         Ok(()) => assert!(rt; false),
         Err(refusal) => assert_eq!(rt; refusal.cause, FnCause::Arity),
     }
@@ -60,7 +60,7 @@ fn taken_names_and_a_65th_function_are_refused(rt: HostRuntime) -> Result<(), Fa
             { Square::answer(args) },
         )?;
         let name = Name::read(alloc, bytes)?.ok_or("no name")?;
-        match functions.add(name, Stored::new::<Square>(square)) {
+        match functions.add(name, StoredFn::new::<Square>(square)) {
             Ok(()) => assert_eq!(rt; wanted, None, "at {i}"),
             Err(refusal) => assert_eq!(rt; Some(refusal.cause), wanted, "at {i}"),
         }

@@ -1,11 +1,11 @@
 // Answers in words.
-use crate::cells::Cell;
+use crate::cells::TestCell;
 use expr_eval::{EvalStop, ScalarStop};
 use rdf_values::{Scalar, Value};
 use std::alloc::{AllocError, Global};
 
 // The need of a column, by its name.
-fn need_words(alloc: Global, number: u32, cells: &[Cell<'_>]) -> Result<String, AllocError> {
+fn need_words(alloc: Global, number: u32, cells: &[TestCell<'_>]) -> Result<String, AllocError> {
     match cells.get(number as usize) {
         Some(cell) => format!(in alloc; "need {}", cell.name),
         None => format!(in alloc; "need column {number}"),
@@ -28,7 +28,7 @@ fn vector_words(alloc: Global, elements: &[i64]) -> Result<String, AllocError> {
 pub fn value_words(
     alloc: Global,
     answer: Result<Value, EvalStop>,
-    cells: &[Cell<'_>],
+    cells: &[TestCell<'_>],
 ) -> Result<String, AllocError> {
     match answer {
         Ok(Value::Int(number)) => format!(in alloc; "{number}"),
@@ -44,7 +44,7 @@ pub fn value_words(
 pub fn scalar_words(
     alloc: Global,
     answer: Result<Scalar, ScalarStop>,
-    cells: &[Cell<'_>],
+    cells: &[TestCell<'_>],
 ) -> Result<String, AllocError> {
     match answer {
         Ok(Scalar::Int(number)) => format!(in alloc; "{number}"),

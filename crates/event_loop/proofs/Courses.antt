@@ -9,14 +9,14 @@ use Rattle.graph_numbers.proofs.Placing.{itself as all_of_it, by_test, itself, n
 use Rattle.graph_numbers.proofs.Covering.{booked_are}
 use Rattle.loop_keys.specs.{passes_in}
 use Rattle.event_loop.specs.{FilledLoop, FitsCourse, GoesOn, HasSameParts, IsAccessed, IsFilledIn, IsKept, IsSession, session_job, SessionView, EndsAt, IsTranscript, job_facts, print_gives, fills, IsPlaced, IsUnfilled, IsFaulted, IsFilled, loop_filling, passes_run}
-use Rattle.event_loop.specs.declared.session.Kept.{Kept}
+use Rattle.event_loop.specs.declared.session.FaultyLoop.{FaultyLoop}
 use Rattle.event_loop.proofs.Found.{booked_row, decoded, in_turn, many, one_number, watched-append, printed_has_loop}
 use Rattle.graph.proofs.Listing.{place_at}
 use Rattle.loop_pieces.specs.{ArePartialLines, PartialLine, place_if_watched, watched_from, watched_places}
 use Rattle.result_text.proofs.PassLines.{one_left}
 use Rattle.event_loop.proofs.Ended.{first_sets, first_sets_are_a_chain}
 use Rattle.loop_keys.proofs.PassNumbers.{lines_few}
-use Rattle.event_loop.specs.declared.place.Place.{Place}
+use Rattle.event_loop.specs.declared.place.PassSpan.{PassSpan}
 use Rattle.rdf_values.specs.declared.scripts.statement.Statement.TheVariants.{Print}
 use Rattle.rdf_values.proofs.Evenly.{cuts_lead}
 use Rattle.loop_pieces.proofs.ByCluster.{first_cluster_has_first_fault}
@@ -115,13 +115,13 @@ row_filled old new print l r is parts acc its lt x at =
 
 -- ---- the line of a fault
 
-kept_is : (new : SessionView) (k : Kept) → IsSession new → new.fault ≡ Some k → IsKept new k
-kept_is new k is e = subst (λ (o : Option Kept). IfSome o (IsKept new)) e is.kept
+kept_is : (new : SessionView) (k : FaultyLoop) → IsSession new → new.fault ≡ Some k → IsKept new k
+kept_is new k is e = subst (λ (o : Option FaultyLoop). IfSome o (IsKept new)) e is.kept
 
-pub fault_loop : (new : SessionView) (k : Kept) → IsSession new → new.fault ≡ Some k → k.loop_index < length (graph_loops new.graph)
+pub fault_loop : (new : SessionView) (k : FaultyLoop) → IsSession new → new.fault ≡ Some k → k.loop_index < length (graph_loops new.graph)
 fault_loop new k is e = grind (arith, kept_is, many, all_of_it)
 
-pub fault_pass : (new : SessionView) (k : Kept) → IsSession new → new.fault ≡ Some k → (ps : List NumberedPass) → slice_get (graph_loops new.graph) k.loop_index ≡ Some ps → k.fault.pass < length ps
+pub fault_pass : (new : SessionView) (k : FaultyLoop) → IsSession new → new.fault ≡ Some k → (ps : List NumberedPass) → slice_get (graph_loops new.graph) k.loop_index ≡ Some ps → k.fault.pass < length ps
 fault_pass new k is e ps at =
     let l = k.loop_index in
     let f = k.fault in
@@ -248,7 +248,7 @@ module _ (s : SessionView) (is : IsSession s) where
   -- ---- watched results
 
   -- the place of a result that is noted, among the watched ones
-  pub noted_at : (b : Booked) (ps : List Pass) (place : Place) → IsPlaced (history s.graph.script) ps b place
+  pub noted_at : (b : Booked) (ps : List Pass) (place : PassSpan) → IsPlaced (history s.graph.script) ps b place
       → ((n : ℕ) → place_if_watched (history s.graph.script) n (record { result = b; under = None }) ≡ n ∷ []) → slice_get (watched_places (history s.graph.script) ps) place.watched ≡ Some place.first
   noted_at b ps place h noted =
       let script = history s.graph.script in
@@ -282,7 +282,7 @@ module _ (s : SessionView) (is : IsSession s) (r : ℕ) (lt : r < length (graph_
   pub fills_it : (x : ResultAt) × (results : List Booked) × (slice_get (graph_results s.graph) r ≡ Some x) × (slice_get (loop_results (history s.graph.script)) l ≡ Some results) × (fills x.booked.name results ≡ true)
   fills_it = let p = place_at (fills row.0.booked.name) (loop_results (history s.graph.script)) l (filled row.0 row.1).0 in (row.0, p.0, row.1, p.1, p.2)
 
-  module _ (place : Place) (told : (x : ResultAt) (results : List Booked) → slice_get (graph_results s.graph) r ≡ Some x → slice_get (loop_results (history s.graph.script)) l ≡ Some results → IsPlaced (history s.graph.script) (loop_passes (history s.graph.script) results) x.booked place) where
+  module _ (place : PassSpan) (told : (x : ResultAt) (results : List Booked) → slice_get (graph_results s.graph) r ≡ Some x → slice_get (loop_results (history s.graph.script)) l ≡ Some results → IsPlaced (history s.graph.script) (loop_passes (history s.graph.script) results) x.booked place) where
     pub placed_at : (x : ResultAt) → slice_get (graph_results s.graph) r ≡ Some x → IsPlaced (history s.graph.script) (passes_in (session_job s l)) x.booked place
     placed_at x at = let there = fills_it.3 in subst (λ (ps : List Pass). IsPlaced (history s.graph.script) ps x.booked place) (sym (ap (λ (o : Option (List Booked)). loop_passes (history s.graph.script) (unwrap_or o [])) there)) (told x fills_it.1 at there)
 
@@ -318,7 +318,7 @@ pub one_loop_more : (script : List Statement) (p : ℕ) (a : Access) (results : 
 one_loop_more script p a results at some = omega (arith, run_more script p a at, ap (λ (o : Option (List Booked)). length (cons_option o [])) some)
 
 -- the parts stay
-changed : (s : SessionView) (n : ℕ) (loops : List FilledLoop) (fault : Option Kept) → IsSession s → ((l : ℕ) (f : FilledLoop) → slice_get loops l ≡ Some f → IsFilled (job_facts (session_job s l)) s.watch f)
+changed : (s : SessionView) (n : ℕ) (loops : List FilledLoop) (fault : Option FaultyLoop) → IsSession s → ((l : ℕ) (f : FilledLoop) → slice_get loops l ≡ Some f → IsFilled (job_facts (session_job s l)) s.watch f)
     → length loops ≤ length (loop_results (history s.graph.script)) → (fault ≡ None → length loops ≡ loops_before (history s.graph.script) n) → IfSome fault (IsKept (record s { next = n; loops = loops; fault = fault }))
     → IsSession (record s { next = n; loops = loops; fault = fault })
 changed s n loops fault is filled few turn kept = record {
@@ -381,7 +381,7 @@ module _ (s : SessionView) (is : IsSession s) (print : ℕ) (next : print ≡ s.
   pub after_old : l < length s.loops → IsSession (record s { next = print + 1 })
   after_old lt = changed s (print + 1) s.loops s.fault is is.filled is.few
       (λ sound. loops_are sound ∙ sym (none_more (history s.graph.script) print a at (no_loop lt sound)))
-      (IfSome_then s.fault is.kept (λ (k : Kept) h. record { number = h.number; there = h.there; first = h.first }))
+      (IfSome_then s.fault is.kept (λ (k : FaultyLoop) h. record { number = h.number; there = h.there; first = h.first }))
 
   pub accessed_old : (m : ℕ) → l ≡ m → l < length s.loops → IsAccessed s (record s { next = print + 1 }) print m
   accessed_old m same_loop lt = grind (arith, same_access, found_is, no_loop, no_pass_no_fault)
@@ -423,7 +423,7 @@ module _ (s : SessionView) (is : IsSession s) (print : ℕ) (next : print ≡ s.
           changed s (print + 1) loops s.fault is
           (λ m g there. each m g (before_or_last s.loops f m g (ap (λ (x : List FilledLoop). slice_get x m) (sym joined) ∙ there))) (omega (arith, many_more, next_loop.number, loop_within))
           (λ e. many_more ∙ ap (λ (m : ℕ). m + 1) (loops_are sound) ∙ sym (one_loop_more (history s.graph.script) print a next_loop.results at next_loop.fills))
-          (subst (λ (o : Option Kept). IfSome o (IsKept (record s { next = print + 1; loops = loops }))) (sym sound) tt)
+          (subst (λ (o : Option FaultyLoop). IfSome o (IsKept (record s { next = print + 1; loops = loops }))) (sym sound) tt)
         where
           each : (m : ℕ) (g : FilledLoop) → (slice_get s.loops m ≡ Some g) ⊎ ((m ≡ length s.loops) × (f ≡ g)) → IsFilled (job_facts (session_job s m)) s.watch g
           each m g (inl q) = is.filled m g q
@@ -447,12 +447,12 @@ module _ (s : SessionView) (is : IsSession s) (print : ℕ) (next : print ≡ s.
       after_faulted = changed s (print + 1) s.loops (Some (record { loop_index = l; fault = f })) is is.filled is.few (λ e. absurd (cc))
           (record { number = next_loop.number; there = loop_within; first = sym (job_fault s is l) ∙ first })
 
-      pub faulted_new : (k : Kept) → record { loop_index = l; fault = f } ≡ k → IsFaulted s (record s { next = print + 1; fault = Some (record { loop_index = l; fault = f }) }) print k
+      pub faulted_new : (k : FaultyLoop) → record { loop_index = l; fault = f } ≡ k → IsFaulted s (record s { next = print + 1; fault = Some (record { loop_index = l; fault = f }) }) print k
       faulted_new k same_fault = record {
         next = ap (λ (m : ℕ). m + 1) next;
         loops = refl;
-        fault = ap (λ (j : Kept). Some j) same_fault;
+        fault = ap (λ (j : FaultyLoop). Some j) same_fault;
         kept = λ j e. absurd (cc);
         unfilled = unfilled ge;
-        ran = λ b there h. ap (λ (j : Kept). slice_get (loop_results (history s.graph.script)) j.loop_index) (sym same_fault) ∙ next_loop.its_results ∙ sym next_loop.fills ∙ ap (λ (x : Access). x.fills) (same_access b there);
+        ran = λ b there h. ap (λ (j : FaultyLoop). slice_get (loop_results (history s.graph.script)) j.loop_index) (sym same_fault) ∙ next_loop.its_results ∙ sym next_loop.fills ∙ ap (λ (x : Access). x.fills) (same_access b there);
       }

@@ -2,18 +2,18 @@
 use Rattle.lemmas.proofs.{◌≡◌, List, ◌∷◌, ◌++◌, length, sym, ap, ◌∙◌, subst, arith, ℕ, zero, suc, map, [], Option, Some, refl, slice_get, option_to_list, ◌-◌, ◌<◌, ◌≤◌, get_or, drop, drop-cons, ◌⊎◌, min, None, inl, inr, ⊎_elim, IfSome, IsSomeAnd, ◌+◌, append-nil, length-append, All, replicate, unwrap_or, take-length, All-nil, concat, concat_is, length-flat_map, length_permutation, sum_by, All-cons, All-head, All-tail, cases_lt, length-map, same_some, slice_get-get_or, All-map, All-pop, All-push, length-range_with_len, range_with_len, All-contains, All-weaker, AllPairs-from_increasing, common_steps, Contains-push, IsStrictlyIncreasing, map-append, mapped_at, something_at}
 use Rattle.loop_pieces.specs.{HaveTrails, LoopPiece, StandsFor, cluster_fault, nothing, watched_places}
 use Rattle.slot_words.specs.{AreNoted, BookSeen, HavePartialsOver, many_in, noted_sets, ShareSeen, ClaimsSeen, IsLeast, IsPassed, last_of, RanOut, SeatSeen, fresh_share, fresh_shares, IsReady, chain_of}
-use Rattle.event_loop.specs.{AreMade, AreShares, CanFill, HasNoted, HaveNoted, JobFacts, AreFacts, end_faults, fault_of, HasMemory, HasStopped, HaveFinished, IsOver, IsServed, piece_of, pieces_in, seat_in, shares_in, Stopped, AreBlank, IsBlank, IsFresh, job_facts, AreSound, IsSlotOf, Phase, SlotView, IsFreshSlot, IsOfPasses}
+use Rattle.event_loop.specs.{AreMade, AreShares, CanFill, HasNoted, HaveNoted, JobFacts, AreFacts, end_faults, fault_of, HasMemory, HasStopped, HaveFinished, IsOver, IsServed, piece_of, pieces_in, seat_in, shares_in, Stopped, AreBlank, IsBlank, IsFresh, job_facts, AreSound, IsSlotOf, SlotPhase, SlotView, IsFreshSlot, IsOfPasses}
 use Rattle.event_loop.specs.declared.gather.Made.{Made}
 use Rattle.rdf_values.proofs.UnionLemmas.{sum_by-map, length-below, times_concat, times_push, counts_by_drawn, once_inside, inside_once, times_self, drawn_lists_unite, below_rises, both_rise, by_counts, none_rises, two, rises_push, slice_get-below}
 use Rattle.rdf_values.specs.{below, DrawnBy, IsUnion, Fault, least_fault, first_in, once_below, times, AnswerIn64Bits, Booked, history, named_before, Pass, StatementsHaveWords}
 use Rattle.rdf_model.specs.declared.loop_facts.LoopFacts.{LoopFacts}
 use Rattle.merge_core.specs.{Stand}
-use Rattle.event_loop.specs.declared.workers.Finished.{Finished}
-use Rattle.event_loop.specs.declared.workers.End.{End}
-use Rattle.event_loop.specs.declared.workers.End.TheVariants.{Over, Faulted, NoMemory}
+use Rattle.event_loop.specs.declared.workers.FinishedSlot.{FinishedSlot}
+use Rattle.event_loop.specs.declared.workers.SlotEnd.{SlotEnd}
+use Rattle.event_loop.specs.declared.workers.SlotEnd.TheVariants.{Over, Faulted, NoMemory}
 use Rattle.merge_core.proofs.Merging.{Among, Told, told_nothing, told_both, first_told, among_left, among_right}
 use Rattle.merge_core.proofs.Holding.{only}
-use Rattle.event_loop.specs.declared.workers.Slot.{Slot}
+use Rattle.event_loop.specs.declared.workers.SlotRights.{SlotRights}
 use Rattle.event_loop.specs.declared.workers.Shared.{Shared}
 use Rattle.rdf_values.proofs.Evenly.{cuts_lead}
 use Rattle.loop_keys.specs.{IsJob, job_spans, JobView, facts_in, job_graph, passes_in}
@@ -29,7 +29,7 @@ use Rattle.graph_numbers.specs.{graph_loops, pass_at}
 use Rattle.graph_numbers.proofs.Placing.{itself}
 use Rattle.graph_numbers.proofs.Covering.{loops_are}
 use Rattle.cluster_tally.proofs.Closing.{fresh_holds}
-use Rattle.event_loop.specs.declared.state.Phase.TheVariants.{Going}
+use Rattle.event_loop.specs.declared.state.SlotPhase.TheVariants.{Going}
 use Rattle.slot_words.specs.Shares as book
 
 -- ---- the pieces, the shares and the trails of slots that finished all clusters
@@ -88,21 +88,21 @@ pub noted_in : (b : BookSeen) (o : Option BookSeen) (watched clusters : ℕ) (jo
 noted_in b o watched clusters job made can is orders orders_are drawn = grind (arith, are_noted)
 
 -- what is known of the slots from place i on
-pub record IsLeastFrom (fs : List Finished) (i : ℕ) (least : Option Fault) : Type 0 where
+pub record IsLeastFrom (fs : List FinishedSlot) (i : ℕ) (least : Option Fault) : Type 0 where
   pub within : i ≤ length fs
   pub told : least ≡ least_fault (end_faults (drop i fs))
   pub memory : All HasMemory (drop i fs)
 
-one_more : (fs : List Finished) (i : ℕ) (d : Finished) → 0 < i → i ≤ length fs → drop (i - 1) fs ≡ get_or fs (i - 1) d ∷ drop i fs
+one_more : (fs : List FinishedSlot) (i : ℕ) (d : FinishedSlot) → 0 < i → i ≤ length fs → drop (i - 1) fs ≡ get_or fs (i - 1) d ∷ drop i fs
 one_more fs i d some within = drop-cons fs (i - 1) d (omega arith) ∙ (let e : suc (i - 1) ≡ i = omega arith in ap (λ k. get_or fs (i - 1) d ∷ drop k fs) e)
 
 -- one slot before them
-pub next_slot : (fs : List Finished) (i : ℕ) (d : Finished) (least now : Option Fault) → 0 < i → IsLeastFrom fs i least → IsServed (get_or fs (i - 1) d).end
+pub next_slot : (fs : List FinishedSlot) (i : ℕ) (d : FinishedSlot) (least now : Option Fault) → 0 < i → IsLeastFrom fs i least → IsServed (get_or fs (i - 1) d).end
     → now ≡ least_fault (fault_of (get_or fs (i - 1) d).end ++ end_faults (drop i fs)) → IsLeastFrom fs (i - 1) now
 next_slot fs i d least now some h served is = grind (arith, one_more)
 
 -- the clusters that each slot drew
-abbrev pub drawn_in : List Finished → List (List ℕ)
+abbrev pub drawn_in : List FinishedSlot → List (List ℕ)
 drawn_in fs = map (λ (s : SeatSeen). s.drawn) (map seat_in fs)
 
 -- what is known of the number with which a slot ran out
@@ -114,7 +114,7 @@ left_none [] is = refl
 left_none (f ∷ fs) is = absurd (cc)
 
 module _ (c : ClaimsSeen) (b : Option BookSeen) (job : JobFacts) (bar : ℕ) where
-  abbrev pub Ran : Finished → Type 0
+  abbrev pub Ran : FinishedSlot → Type 0
   Ran f = HasStopped (record { claims = c; book = b }) job f
 
   -- the last of a list, which isn't among the others
@@ -124,7 +124,7 @@ module _ (c : ClaimsSeen) (b : Option BookSeen) (job : JobFacts) (bar : ℕ) whe
   passed_above : (seat : SeatSeen) (last : ℕ) → seat.passed ≡ Some last → IsPassed bar seat → bar ≤ last
   passed_above seat last is h = (subst (λ (o : Option ℕ). IfSome o (λ p. (bar ≤ p) × (0 < length seat.drawn) × (p ≡ last_of seat.drawn))) is h).0
 
-  over_sound : (s : Slot) (piece : LoopPiece) (k : ℕ) → IsOver c b job s piece → IsPassed bar s.seat → 0 < times k s.seat.drawn → k < bar → slice_get job.faults k ≡ Some None
+  over_sound : (s : SlotRights) (piece : LoopPiece) (k : ℕ) → IsOver c b job s piece → IsPassed bar s.seat → 0 < times k s.seat.drawn → k < bar → slice_get job.faults k ≡ Some None
   over_sound s piece k over passed some lt = elim over.left [
     | inl r ↦ over.sound k (subst (λ (l : List ℕ). 0 < times k l) r.all some)
     | inr m ↦ elim (cases_lt 0 (times k over.done)) [
@@ -133,7 +133,7 @@ module _ (c : ClaimsSeen) (b : Option BookSeen) (job : JobFacts) (bar : ℕ) whe
     ]
   ]
 
-  slot_told : (end : End) (s : Slot) → Stopped c b job end s → IsServed end → IsPassed bar s.seat → Told job.faults bar s.seat.drawn (fault_of end)
+  slot_told : (end : SlotEnd) (s : SlotRights) → Stopped c b job end s → IsServed end → IsPassed bar s.seat → Told job.faults bar s.seat.drawn (fault_of end)
   slot_told (Over piece) s over served passed = record { sound = λ k some lt. inl (over_sound s piece k over passed some lt); own = λ f a. elim a [ ] }
   slot_told (Faulted g) s met served passed =
       record {
@@ -149,7 +149,7 @@ module _ (c : ClaimsSeen) (b : Option BookSeen) (job : JobFacts) (bar : ℕ) whe
       }
   slot_told NoMemory s stopped served passed = elim served [ ]
 
-  slots_told : (fs : List Finished) → All Ran fs → All HasMemory fs → All (IsPassed bar) (map seat_in fs) → Told job.faults bar (concat (drawn_in fs)) (end_faults fs)
+  slots_told : (fs : List FinishedSlot) → All Ran fs → All HasMemory fs → All (IsPassed bar) (map seat_in fs) → Told job.faults bar (concat (drawn_in fs)) (end_faults fs)
   slots_told [] ran memory passed = told_nothing job.faults bar
   slots_told (f ∷ fs) ran memory passed =
       told_both job.faults bar f.slot.seat.drawn (concat (drawn_in fs)) (fault_of f.end) (end_faults fs)
@@ -160,14 +160,14 @@ module _ (c : ClaimsSeen) (b : Option BookSeen) (job : JobFacts) (bar : ℕ) whe
   abbrev IsReached : List Fault → Type 0
   IsReached mine = (g : Fault) × Among g mine × (slice_get job.faults bar ≡ Some (Some g))
 
-  one_lowered : (end : End) (s : Slot) → Stopped c b job end s → IsServed end → s.seat.lowered ≡ Some bar → IsReached (fault_of end)
+  one_lowered : (end : SlotEnd) (s : SlotRights) → Stopped c b job end s → IsServed end → s.seat.lowered ≡ Some bar → IsReached (fault_of end)
   one_lowered (Over piece) s over served is = (let none = over.unlowered in absurd (cc))
   one_lowered (Faulted g) s met served is =
       let same : met.last ≡ bar = same_some (sym met.lowered ∙ is) in
       (g, inl refl, subst (λ (j : ℕ). slice_get job.faults j ≡ Some (Some g)) same met.its_fault)
   one_lowered NoMemory s stopped served is = elim served [ ]
 
-  reached_at : (fs : List Finished) (k : ℕ) → All Ran fs → All HasMemory fs → slice_get (map (λ (s : SeatSeen). s.lowered) (map seat_in fs)) k ≡ Some (Some bar) → IsReached (end_faults fs)
+  reached_at : (fs : List FinishedSlot) (k : ℕ) → All Ran fs → All HasMemory fs → slice_get (map (λ (s : SeatSeen). s.lowered) (map seat_in fs)) k ≡ Some (Some bar) → IsReached (end_faults fs)
   reached_at [] k ran memory h = absurd (cc)
   reached_at (f ∷ fs) zero ran memory h =
       let r = one_lowered f.end f.slot (All-head Ran f fs ran).stopped (All-head HasMemory f fs memory) (same_some h) in
@@ -177,13 +177,13 @@ module _ (c : ClaimsSeen) (b : Option BookSeen) (job : JobFacts) (bar : ℕ) whe
       (r.0, among_right r.0 (fault_of f.end) (end_faults fs) r.1, r.2)
 
   -- the bar isn't below the number of clusters, or a slot met a fault there
-  reaches : (fs : List Finished) → c.clusters ≡ length job.faults → All Ran fs → All HasMemory fs → IsLeast c.clusters (map seat_in fs) bar → (length job.faults ≤ bar) ⊎ IsReached (end_faults fs)
+  reaches : (fs : List FinishedSlot) → c.clusters ≡ length job.faults → All Ran fs → All HasMemory fs → IsLeast c.clusters (map seat_in fs) bar → (length job.faults ≤ bar) ⊎ IsReached (end_faults fs)
   reaches fs few ran memory least = grind (arith, reached_at, slice_get-get_or, cases_lt)
 
   -- ---- where no slot faulted
 
   -- the slot finished all clusters that it drew, of which the piece is made, and no number is left that is a cluster
-  record IsDone (f : Finished) : Type 0 where
+  record IsDone (f : FinishedSlot) : Type 0 where
     pub piece : LoopPiece
     pub is : f.end ≡ Over piece
     pub stands : StandsFor job.facts f.slot.seat.drawn piece
@@ -191,10 +191,10 @@ module _ (c : ClaimsSeen) (b : Option BookSeen) (job : JobFacts) (bar : ℕ) whe
     pub noted : HasNoted b (length f.slot.seat.drawn) f.slot.share
     pub past : IsSomeAnd f.slot.seat.kept (λ k. c.clusters ≤ k)
 
-  is_done : (f : Finished) (rest : List Fault) → c.clusters ≤ bar → Ran f → HasMemory f → fault_of f.end ++ rest ≡ [] → IsPassed bar f.slot.seat → IsDone f × (rest ≡ [])
+  is_done : (f : FinishedSlot) (rest : List Fault) → c.clusters ≤ bar → Ran f → HasMemory f → fault_of f.end ++ rest ≡ [] → IsPassed bar f.slot.seat → IsDone f × (rest ≡ [])
   is_done f rest high ran memory none passed = go f.end refl ran.stopped memory none
     where
-      go : (end : End) → f.end ≡ end → Stopped c b job end f.slot → IsServed end → fault_of end ++ rest ≡ [] → IsDone f × (rest ≡ [])
+      go : (end : SlotEnd) → f.end ≡ end → Stopped c b job end f.slot → IsServed end → fault_of end ++ rest ≡ [] → IsDone f × (rest ≡ [])
       go (Over piece) is over served none =
           let out : RanOut c f.slot.seat over.done = grind (arith, passed_above, high, passed, over.left) in (
             record {
@@ -210,24 +210,24 @@ module _ (c : ClaimsSeen) (b : Option BookSeen) (job : JobFacts) (bar : ℕ) whe
       go (Faulted g) is met served none = absurd (cc)
       go NoMemory is stopped served none = elim served [ ]
 
-  all_done : (fs : List Finished) → c.clusters ≤ bar → All Ran fs → All HasMemory fs → end_faults fs ≡ [] → All (IsPassed bar) (map seat_in fs) → All IsDone fs
+  all_done : (fs : List FinishedSlot) → c.clusters ≤ bar → All Ran fs → All HasMemory fs → end_faults fs ≡ [] → All (IsPassed bar) (map seat_in fs) → All IsDone fs
   all_done [] high ran memory none passed = All-nil IsDone
   all_done (f ∷ fs) high ran memory none passed =
       let first = is_done f (end_faults fs) high (All-head Ran f fs ran) (All-head HasMemory f fs memory) none (All-head (IsPassed bar) (seat_in f) (map seat_in fs) passed) in
       All-cons IsDone f fs first.0 (all_done fs high (All-tail Ran f fs ran) (All-tail HasMemory f fs memory) first.1 (All-tail (IsPassed bar) (seat_in f) (map seat_in fs) passed))
 
-  all_drawn : (fs : List Finished) (word : ℕ) → 0 < length fs → All IsDone fs → All (IsKept c.clusters word) (map seat_in fs) → c.clusters ≤ word
+  all_drawn : (fs : List FinishedSlot) (word : ℕ) → 0 < length fs → All IsDone fs → All (IsKept c.clusters word) (map seat_in fs) → c.clusters ≤ word
   all_drawn [] word some done kept = absurd (omega arith)
   all_drawn (f ∷ fs) word some done kept = grind (arith, (All-head IsDone f fs done).past, All-head (IsKept c.clusters word) (seat_in f) (map seat_in fs) kept)
 
-  are_made : (fs : List Finished) → All IsDone fs → AreMade b job (drawn_in fs) (pieces_in fs) (shares_in fs)
+  are_made : (fs : List FinishedSlot) → All IsDone fs → AreMade b job (drawn_in fs) (pieces_in fs) (shares_in fs)
   are_made [] done = none_made b job
   are_made (f ∷ fs) done =
       let d = All-head IsDone f fs done in
-      subst (λ (e : End). AreMade b job (f.slot.seat.drawn ∷ drawn_in fs) (piece_of e ++ pieces_in fs) (shares_in (f ∷ fs))) (sym d.is)
+      subst (λ (e : SlotEnd). AreMade b job (f.slot.seat.drawn ∷ drawn_in fs) (piece_of e ++ pieces_in fs) (shares_in (f ∷ fs))) (sym d.is)
       (one_made b job f.slot.seat.drawn d.piece f.slot.share (drawn_in fs) (pieces_in fs) (shares_in fs) d.stands d.trails d.noted (are_made fs (All-tail IsDone f fs done)))
 
-  module _ (fs : List Finished) (word : ℕ) (told : Option Fault) (facts : AreFacts c.clusters job) (ran : All Ran fs) (some : 0 < length fs) (memory : All HasMemory fs)
+  module _ (fs : List FinishedSlot) (word : ℕ) (told : Option Fault) (facts : AreFacts c.clusters job) (ran : All Ran fs) (some : 0 < length fs) (memory : All HasMemory fs)
       (least : told ≡ least_fault (end_faults fs)) (drawn : DrawnBy (drawn_in fs) (min word c.clusters)) (lowest : IsLeast c.clusters (map seat_in fs) bar)
       (passed : All (IsPassed bar) (map seat_in fs)) (kept : All (IsKept c.clusters word) (map seat_in fs)) where
     done : end_faults fs ≡ [] → All IsDone fs
@@ -279,7 +279,7 @@ next_share (Some b) n old new (Some s) blank popped some =
     ((all.1.of, ap length all.1.unnoted), (omega (arith, ap length popped, length-append new (s ∷ [])), all.0))
 
 -- what is left, and what is seated
-pub record AreSeated (shared : Shared) (seats : List SeatSeen) (shares : List ShareSeen) (slots : List Slot) : Type 0 where
+pub record AreSeated (shared : Shared) (seats : List SeatSeen) (shares : List ShareSeen) (slots : List SlotRights) : Type 0 where
   pub ready : All (IsReady shared.claims) seats
   pub blank : AreBlank shared.book (length seats) shares
   pub done : All (IsFresh shared) slots
@@ -287,7 +287,7 @@ pub record AreSeated (shared : Shared) (seats : List SeatSeen) (shares : List Sh
 pub none_seated : (shared : Shared) (seats : List SeatSeen) (shares : List ShareSeen) → All (IsReady shared.claims) seats → AreBlank shared.book (length seats) shares → AreSeated shared seats shares []
 none_seated shared seats shares ready blank = record { ready = ready; blank = blank; done = All-nil (IsFresh shared) }
 
-pub next_seated : (shared : Shared) (seats seats' : List SeatSeen) (shares shares' : List ShareSeen) (slots slots' : List Slot) (seat : SeatSeen) (share : Option ShareSeen) (slot : Slot)
+pub next_seated : (shared : Shared) (seats seats' : List SeatSeen) (shares shares' : List ShareSeen) (slots slots' : List SlotRights) (seat : SeatSeen) (share : Option ShareSeen) (slot : SlotRights)
     → AreSeated shared seats shares slots → seats ≡ seats' ++ seat ∷ [] → shares ≡ shares' ++ option_to_list share → (share ≡ None → length shares ≡ 0)
     → slots' ≡ slots ++ slot ∷ [] → slot.seat ≡ seat → slot.share ≡ share
     → AreSeated shared seats' shares' slots'
@@ -361,10 +361,10 @@ cluster_within j cluster lt = omega (arith, length-map (below (length (job_spans
 -- ---- a slot of a job
 
 module _ (j : JobView) (s : SlotView) (h : IsSlotOf (job_facts j) s) where
-  module _ (seen : SlotView) (is : seen ≡ s) (some : seen.phase ≡ Phase.NoMemory → ⊥) (sound : s.phase ≡ Phase.Faulted → ⊥)
+  module _ (seen : SlotView) (is : seen ≡ s) (some : seen.phase ≡ SlotPhase.NoMemory → ⊥) (sound : s.phase ≡ SlotPhase.Faulted → ⊥)
       (cluster : ℕ) (above : All (λ c. c < cluster) s.done) where
-    pub going : s.phase ≡ Phase.Going
-    going = let memory : s.phase ≡ Phase.NoMemory → ⊥ = λ e. some (ap (λ (v : SlotView). v.phase) is ∙ e) in grind (arith, memory, sound)
+    pub going : s.phase ≡ SlotPhase.Going
+    going = let memory : s.phase ≡ SlotPhase.NoMemory → ⊥ = λ e. some (ap (λ (v : SlotView). v.phase) is ∙ e) in grind (arith, memory, sound)
 
     pub begins : Holds (facts_in j) (job_facts j).watched (at_begin s.done cluster) seen.tally
     begins = subst (λ (v : SlotView). Holds (facts_in j) (job_facts j).watched (at_begin s.done cluster) v.tally) (sym is) (h.holds going cluster above)

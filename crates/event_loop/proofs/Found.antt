@@ -8,8 +8,8 @@ use Rattle.rdf_values.specs.declared.scripts.statement.Statement.TheVariants.{Pr
 use Rattle.rdf_model.proofs.Accepted.{itself, names_equal, verdict_is_the_first_refusal, place_in_more, both_none, third, unless_holds, filled_is_booked}
 use Rattle.graph_numbers.proofs.Placing.{Extends, itself as all_of_it, shorter, by_test, itself as same_itself, of_joined, only_at}
 use Rattle.graph_numbers.proofs.Covering.{booked_kept, loops_are, result_are, booked_are}
-use Rattle.graph.specs.{AreNamedInTurn, filled_count}
-use Rattle.graph.proofs.Looped.{later_named, all_in_turn, filled_first}
+use Rattle.graph.specs.{AreNamedInTurn}
+use Rattle.graph.proofs.Looped.{later_named, all_in_turn}
 use Rattle.graph.proofs.Listing.{any_map}
 use Rattle.event_loop.specs.{fills, IsPassOf, IsPlaced, loop_filling, IsOfPasses, places_before}
 use Rattle.loop_pieces.specs.{place_if_watched, watched_from, watched_places}

@@ -12,7 +12,7 @@ use Rattle.event_loop.specs.declared.one_loop.LoopEnd.{LoopEnd}
 use Rattle.event_loop.specs.declared.one_loop.LoopEnd.TheVariants.{Filled, Faulted}
 use Rattle.std.specs.Option.{ForSome}
 use Rattle.rdf_model.specs.{kinds_in, loop_results}
-use Rattle.event_loop.specs.declared.place.Place.{Place}
+use Rattle.event_loop.specs.declared.place.PassSpan.{PassSpan}
 
 -- ---- what a loop is to give, as plain data
 
@@ -78,7 +78,7 @@ abbrev pub loop_filling : List Statement → List ℕ → Option ℕ
 loop_filling script name = place (fills name) (loop_results script)
 
 -- the passes of the result stand together in the loop, behind those that are counted
-pub record IsPlaced (script : List Statement) (ps : List Pass) (b : Booked) (p : Place) : Type 0 where
+pub record IsPlaced (script : List Statement) (ps : List Pass) (b : Booked) (p : PassSpan) : Type 0 where
   pub before : List Pass
   pub after : List Pass
   pub passes_are : ps ≡ before ++ (passes_of script b ++ after)

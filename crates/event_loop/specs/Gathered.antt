@@ -8,10 +8,10 @@ use Rattle.slot_words.specs.Shares as book
 use Rattle.event_loop.specs.EventLoops.{AreNotedPartials, JobFacts}
 use Rattle.event_loop.specs.Workers.{HasRun}
 use Rattle.event_loop.specs.declared.gather.Made.{Made}
-use Rattle.event_loop.specs.declared.gather.Outcome.{Outcome}
-use Rattle.event_loop.specs.declared.workers.Finished.{Finished}
-use Rattle.event_loop.specs.declared.workers.End.{End}
-use Rattle.event_loop.specs.declared.workers.End.TheVariants.{Over, Faulted, NoMemory}
+use Rattle.event_loop.specs.declared.gather.LoopOutcome.{LoopOutcome}
+use Rattle.event_loop.specs.declared.workers.FinishedSlot.{FinishedSlot}
+use Rattle.event_loop.specs.declared.workers.SlotEnd.{SlotEnd}
+use Rattle.event_loop.specs.declared.workers.SlotEnd.TheVariants.{Over, Faulted, NoMemory}
 use Rattle.event_loop.specs.declared.workers.Shared.{Shared}
 
 -- ---- what they begin with
@@ -34,43 +34,43 @@ IsOpened watched slots clusters (Some b) = (b.slots ≡ slots) × (b.clusters �
 -- ---- what they give back
 
 -- the fault with which a slot stopped
-abbrev pub fault_of : End → List Fault
+abbrev pub fault_of : SlotEnd → List Fault
 fault_of (Over piece) = []
 fault_of (Faulted fault) = fault ∷ []
 fault_of NoMemory = []
 
 -- the faults with which slots stopped
-abbrev pub end_faults : List Finished → List Fault
-end_faults fs = flat_map (λ (f : Finished). fault_of f.end) fs
+abbrev pub end_faults : List FinishedSlot → List Fault
+end_faults fs = flat_map (λ (f : FinishedSlot). fault_of f.end) fs
 
 -- no want of memory stopped it
-abbrev pub IsServed : End → Type 0
+abbrev pub IsServed : SlotEnd → Type 0
 IsServed NoMemory = ⊥
 IsServed e = ⊤
 
 -- nor the slot that stopped so
-abbrev pub HasMemory : Finished → Type 0
+abbrev pub HasMemory : FinishedSlot → Type 0
 HasMemory f = IsServed f.end
 
 -- the seat of a slot
-abbrev pub seat_in : Finished → SeatSeen
+abbrev pub seat_in : FinishedSlot → SeatSeen
 seat_in f = f.slot.seat
 
 -- its piece, where it is over
-abbrev pub piece_of : End → List LoopPiece
+abbrev pub piece_of : SlotEnd → List LoopPiece
 piece_of (Over piece) = piece ∷ []
 piece_of (Faulted fault) = []
 piece_of NoMemory = []
 
-abbrev pub pieces_in : List Finished → List LoopPiece
-pieces_in fs = flat_map (λ (f : Finished). piece_of f.end) fs
+abbrev pub pieces_in : List FinishedSlot → List LoopPiece
+pieces_in fs = flat_map (λ (f : FinishedSlot). piece_of f.end) fs
 
 -- the shares of slots, where they have some
-abbrev pub shares_in : List Finished → List ShareSeen
-shares_in fs = flat_map (λ (f : Finished). option_to_list f.slot.share) fs
+abbrev pub shares_in : List FinishedSlot → List ShareSeen
+shares_in fs = flat_map (λ (f : FinishedSlot). option_to_list f.slot.share) fs
 
 -- the slot ran and stopped
-abbrev pub HasStopped : Shared → JobFacts → Finished → Type 0
+abbrev pub HasStopped : Shared → JobFacts → FinishedSlot → Type 0
 HasStopped shared job f = HasRun shared job f.end f.slot
 
 -- the job has so many clusters, and a fault of a lower one has a lower entry
@@ -100,9 +100,9 @@ pub record HaveFinished (b : Option BookSeen) (job : JobFacts) (n : ℕ) (made :
   pub are : AreMade b job dones made.pieces made.shares
 
 -- the slots finished all clusters, or the fault is that of the first cluster that has one
-abbrev pub IsOutcome : Option BookSeen → JobFacts → ℕ → Outcome → Type 0
-IsOutcome b job n (Outcome.Processed made) = HaveFinished b job n made
-IsOutcome b job n (Outcome.Faulted fault) = first_in job.faults ≡ Some fault
+abbrev pub IsOutcome : Option BookSeen → JobFacts → ℕ → LoopOutcome → Type 0
+IsOutcome b job n (LoopOutcome.Processed made) = HaveFinished b job n made
+IsOutcome b job n (LoopOutcome.Faulted fault) = first_in job.faults ≡ Some fault
 
 -- ---- what a loop without a fault is filled with
 

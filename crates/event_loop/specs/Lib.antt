@@ -9,4 +9,4 @@ pub use Sessions.{ArePartials, dataset_of, fresh_session, HasSameParts, IsAccess
 pub use Workers.{IsFreshSlot, IsOfPasses, IsSlotOf, places_before, SlotView, AreSound, CanRun, HasNoted, HasRoom, HasRun, IsFresh, IsOver, MetFault, Stopped}
 pub use declared.one_loop.FilledLoop.{FilledLoop}
 pub use declared.one_loop.LoopEnd.{LoopEnd}
-pub use declared.state.Phase.{Phase}
+pub use declared.state.SlotPhase.{SlotPhase}

@@ -9,8 +9,8 @@ use Rattle.loop_keys.specs.{JobView, passes_in}
 use Rattle.loop_pieces.specs.{FilledResult, PartialLine, place_if_watched, ArePartialLines}
 use Rattle.event_loop.specs.EventLoops.{job_facts, IsFilled, IsPlaced, loop_filling}
 use Rattle.event_loop.specs.declared.one_loop.FilledLoop.{FilledLoop}
-use Rattle.event_loop.specs.declared.session.Kept.{Kept}
-use Rattle.event_loop.specs.declared.place.Place.{Place}
+use Rattle.event_loop.specs.declared.session.FaultyLoop.{FaultyLoop}
+use Rattle.event_loop.specs.declared.place.PassSpan.{PassSpan}
 use Rattle.event_loop.specs.declared.session.Session.{Session}
 use Rattle.event_loop.specs.declared.prints.Transcript.{Transcript}
 
@@ -23,7 +23,7 @@ pub record SessionView : Type 0 where
   pub watch : ℕ
   pub next : ℕ
   pub loops : List FilledLoop
-  pub fault : Option Kept
+  pub fault : Option FaultyLoop
 
 -- the functions, and the table of the columns
 abbrev pub dataset_of : ColumnsView → List Function → Dataset
@@ -66,7 +66,7 @@ passes_run script a = loop_passes script (unwrap_or a.fills [])
 -- ---- what holds of a session
 
 -- the fault is the first one of the loop after the completed ones
-pub record IsKept (s : SessionView) (k : Kept) : Type 0 where
+pub record IsKept (s : SessionView) (k : FaultyLoop) : Type 0 where
   pub number : k.loop_index ≡ length s.loops
   pub there : k.loop_index < length (loop_results (history s.graph.script))
   pub first : first_fault s.dataset (passes_in (session_job s k.loop_index)) ≡ Some k.fault
@@ -96,7 +96,7 @@ abbrev pub IsUnfilled : SessionView → List ℕ → Type 0
 IsUnfilled s name = (l : ℕ) → loop_filling (history s.graph.script) name ≡ Some l → length s.loops ≤ l
 
 -- the partial results of a result that is noted, in that place of its loop; of another there are none
-abbrev pub ArePartials : SessionView → Booked → FilledLoop → Place → List PartialLine → Type 0
+abbrev pub ArePartials : SessionView → Booked → FilledLoop → PassSpan → List PartialLine → Type 0
 ArePartials s b f place lines =
     (((n : ℕ) → place_if_watched (history s.graph.script) n (record { result = b; under = None }) ≡ n ∷ []) × (slice_get f.partials place.watched ≡ Some lines))
     ⊎ ((place_if_watched (history s.graph.script) 0 (record { result = b; under = None }) ≡ []) × (lines ≡ []))
@@ -104,7 +104,7 @@ ArePartials s b f place lines =
 -- the result's passes stand in a place of that loop: the loop's piece, with the numbers of the result's accumulators, and its partial results
 pub record IsResult (s : SessionView) (b : Booked) (l : ℕ) (f : FilledResult) (lines : List PartialLine) : Type 0 where
   pub filled : FilledLoop
-  pub place : Place
+  pub place : PassSpan
   pub its_loop : slice_get s.loops l ≡ Some filled
   pub placed : IsPlaced (history s.graph.script) (passes_in (session_job s l)) b place
   pub piece : f.piece.now ≡ filled.piece
@@ -132,11 +132,11 @@ pub record IsAccessed (old new : SessionView) (print l : ℕ) : Type 0 where
   pub sound : (a : Access) → slice_get (accesses (history old.graph.script)) print ≡ Some a → old.fault ≡ None → first_fault old.dataset (passes_run (history old.graph.script) a) ≡ None
 
 -- the Print's result isn't filled, and the fault is the kept one, or that of the loop which was to fill it
-pub record IsFaulted (old new : SessionView) (print : ℕ) (k : Kept) : Type 0 where
+pub record IsFaulted (old new : SessionView) (print : ℕ) (k : FaultyLoop) : Type 0 where
   pub next : new.next ≡ old.next + 1
   pub loops : new.loops ≡ old.loops
   pub fault : new.fault ≡ Some k
-  pub kept : (j : Kept) → old.fault ≡ Some j → old.fault ≡ new.fault
+  pub kept : (j : FaultyLoop) → old.fault ≡ Some j → old.fault ≡ new.fault
   pub unfilled : (a : Access) → slice_get (accesses (history old.graph.script)) print ≡ Some a → IsUnfilled old a.result
   pub ran : (a : Access) → slice_get (accesses (history old.graph.script)) print ≡ Some a → old.fault ≡ None → slice_get (loop_results (history old.graph.script)) k.loop_index ≡ a.fills
 

@@ -6,14 +6,14 @@ use Rattle.loop_pieces.specs.{HaveTrails, LoopPiece, StandsFor, watched_places}
 use Rattle.slot_words.specs.{BookSeen, ClaimsSeen, IsReady, MetBar, RanOut, ShareSeen}
 use Rattle.event_loop.specs.EventLoops.{JobFacts, job_facts}
 use Rattle.event_loop.specs.declared.workers.Shared.{Shared}
-use Rattle.event_loop.specs.declared.workers.Slot.{Slot}
-use Rattle.event_loop.specs.declared.workers.End.{End}
-use Rattle.event_loop.specs.declared.workers.End.TheVariants.{Over, Faulted, NoMemory}
+use Rattle.event_loop.specs.declared.workers.SlotRights.{SlotRights}
+use Rattle.event_loop.specs.declared.workers.SlotEnd.{SlotEnd}
+use Rattle.event_loop.specs.declared.workers.SlotEnd.TheVariants.{Over, Faulted, NoMemory}
 use Rattle.rdf_model.specs.{kinds_in}
 use Rattle.block_passes.specs.{CountsVectors, IsStateOf, StateView}
 use Rattle.cluster_tally.specs.{at_begin, Holds, IsFresh as IsFreshTally, TallyView}
-use Rattle.event_loop.specs.declared.state.Phase.{Phase}
-use Rattle.event_loop.specs.declared.state.Phase.TheVariants.{Going}
+use Rattle.event_loop.specs.declared.state.SlotPhase.{SlotPhase}
+use Rattle.event_loop.specs.declared.state.SlotPhase.TheVariants.{Going}
 use Rattle.slot_words.specs.Seats as claims
 use Rattle.slot_words.specs.Shares as book
 
@@ -39,13 +39,13 @@ pub record CanRun (job : JobView) (shared : Shared) : Type 0 where
   pub room : HasRoom shared.claims.clusters shared.book
 
 -- the slot has a seat of these claims and a share of the book, and did nothing with them yet
-pub record IsFresh (shared : Shared) (s : Slot) : Type 0 where
+pub record IsFresh (shared : Shared) (s : SlotRights) : Type 0 where
   pub seat : IsReady shared.claims s.seat
   pub share : HasNoted shared.book 0 s.share
 
 -- no cluster is left for the slot; those that it finished are sound and noted, and the piece is what they come to, with a trail for each
 -- watched result
-pub record IsOver (c : ClaimsSeen) (b : Option BookSeen) (job : JobFacts) (s : Slot) (piece : LoopPiece) : Type 0 where
+pub record IsOver (c : ClaimsSeen) (b : Option BookSeen) (job : JobFacts) (s : SlotRights) (piece : LoopPiece) : Type 0 where
   pub done : List ℕ
   pub stands : StandsFor job.facts done piece
   pub trails : HaveTrails job.facts job.watched done piece.trails.items
@@ -56,7 +56,7 @@ pub record IsOver (c : ClaimsSeen) (b : Option BookSeen) (job : JobFacts) (s : S
 
 -- the slot stopped at the last cluster that it drew, which has that fault; it finished all others, which are sound and noted; and the bar
 -- was lowered to the last
-pub record MetFault (b : Option BookSeen) (job : JobFacts) (s : Slot) (fault : Fault) : Type 0 where
+pub record MetFault (b : Option BookSeen) (job : JobFacts) (s : SlotRights) (fault : Fault) : Type 0 where
   pub done : List ℕ
   pub last : ℕ
   pub others : s.seat.drawn ≡ done ++ last ∷ []
@@ -66,13 +66,13 @@ pub record MetFault (b : Option BookSeen) (job : JobFacts) (s : Slot) (fault : F
   pub lowered : s.seat.lowered ≡ Some last
 
 -- how the slot stopped
-abbrev pub Stopped : ClaimsSeen → Option BookSeen → JobFacts → End → Slot → Type 0
+abbrev pub Stopped : ClaimsSeen → Option BookSeen → JobFacts → SlotEnd → SlotRights → Type 0
 Stopped c b job (Over piece) s = IsOver c b job s piece
 Stopped c b job (Faulted fault) s = MetFault b job s fault
 Stopped c b job NoMemory s = ⊤
 
 -- the slot stopped in that way
-pub record HasRun (shared : Shared) (job : JobFacts) (end : End) (s : Slot) : Type 0 where
+pub record HasRun (shared : Shared) (job : JobFacts) (end : SlotEnd) (s : SlotRights) : Type 0 where
   pub seat_of : claims.IsOf shared.claims s.seat
   pub stopped : Stopped shared.claims shared.book job end s
 
@@ -85,7 +85,7 @@ pub record SlotView : Type 0 where
   pub tally : TallyView
   pub room : ℕ
   pub done : List ℕ
-  pub phase : Phase
+  pub phase : SlotPhase
 
 -- the slot is one of the loop that is to give that; while it goes on, its tally holds what the finished clusters give
 pub record IsSlotOf (job : JobFacts) (s : SlotView) : Type 0 where

@@ -5,7 +5,7 @@ ghost use Rattle.slot_words.specs.Seats.{IsOf};
 ghost use Rattle.slot_words.specs.{BookSeen};
 ghost use Rattle.event_loop.specs.{AreFacts, end_faults, HasMemory, HasStopped, IsOutcome, JobFacts, piece_of, pieces_in, seat_in, shares_in};
 
-use crate::workers::{End, Finished, Slot};
+use crate::workers::{FinishedSlot, SlotEnd, SlotRights};
 use loop_pieces::LoopPiece;
 use rdf_values::{Fault, ListOf, Memory};
 use slot_words::{Claims, SeatList, Share, ShareList};
@@ -30,7 +30,7 @@ fn lesser(fault: Fault, least: Option<Fault>) -> Fault
 
 /// The fault at the least entry among those with which slots stopped, or want of memory where a slot met it.
 #[tactic(auto, using(crate::proofs::Ended::next_slot))]
-pub fn least_of(finished: &[Finished]) -> Result<Option<Fault>, Memory>
+pub fn least_of(finished: &[FinishedSlot]) -> Result<Option<Fault>, Memory>
     ensures least { IfOk result (λ least. least ≡ least_fault (end_faults finished.now)) }
     ensures memory { IfOk result (λ _. All HasMemory finished.now) }
 {
@@ -39,19 +39,19 @@ pub fn least_of(finished: &[Finished]) -> Result<Option<Fault>, Memory>
     while i > 0 {
         i -= 1;
         match finished[i].end {
-            End::Over(_) => {}
-            End::Faulted(fault) => least = Some(lesser(fault, least)),
-            End::NoMemory => return Err(Memory),
+            SlotEnd::Over(_) => {}
+            SlotEnd::Faulted(fault) => least = Some(lesser(fault, least)),
+            SlotEnd::NoMemory => return Err(Memory),
         }
     }
     Ok(least)
 }
 
 // Appends the piece of a slot that is over.
-fn keep_piece(pieces: &mut ListOf<LoopPiece>, end: End) -> Result<(), Memory>
+fn keep_piece(pieces: &mut ListOf<LoopPiece>, end: SlotEnd) -> Result<(), Memory>
     ensures { OnOk result (pieces.new ≡ pieces.old ++ piece_of end) }
 {
-    if let End::Over(piece) = end {
+    if let SlotEnd::Over(piece) = end {
         pieces.push(piece)?;
     }
     Ok(())
@@ -68,7 +68,7 @@ fn keep_share(shares: &mut ShareList, share: Option<Share>) -> Result<(), Memory
 }
 
 /// The seats of all slots, the pieces of those that are over, and the shares, in their order.
-pub fn taken_apart(alloc: Global, finished: Vec<Finished>) -> Result<(SeatList, Made), Memory>
+pub fn taken_apart(alloc: Global, finished: Vec<FinishedSlot>) -> Result<(SeatList, Made), Memory>
     ensures seats { IfOk result (λ r. r.0 ≡ map seat_in finished.items) }
     ensures pieces { IfOk result (λ r. r.1.pieces ≡ pieces_in finished.items) }
     ensures shares { IfOk result (λ r. r.1.shares ≡ shares_in finished.items) }
@@ -78,8 +78,8 @@ pub fn taken_apart(alloc: Global, finished: Vec<Finished>) -> Result<(SeatList, 
     let mut pieces = ListOf::new(alloc);
     let mut shares = ShareList::new(alloc);
     while !left.is_empty() {
-        let Finished { end, slot } = left.remove(0);
-        let Slot { seat, share } = slot;
+        let FinishedSlot { end, slot } = left.remove(0);
+        let SlotRights { seat, share } = slot;
         seats.push(seat)?;
         keep_piece(&mut pieces, end)?;
         keep_share(&mut shares, share)?;
@@ -89,13 +89,17 @@ pub fn taken_apart(alloc: Global, finished: Vec<Finished>) -> Result<(SeatList, 
 
 /// What the slots of a loop came to: all clusters are processed, or there is a first fault.
 #[derive(Drop)]
-pub enum Outcome {
+pub enum LoopOutcome {
     Processed(Made),
     Faulted(Fault),
 }
 
 /// The outcome of a loop of which all slots stopped.
-pub fn gathered(alloc: Global, claims: Claims, finished: Vec<Finished>) -> Result<Outcome, Memory>
+pub fn gathered(
+    alloc: Global,
+    claims: Claims,
+    finished: Vec<FinishedSlot>,
+) -> Result<LoopOutcome, Memory>
     requires some { 0 < vec_len finished }
     requires many { vec_len finished ≡ claims.slots }
     requires of { All (λ f. IsOf claims f.slot.seat) finished.items }
@@ -105,7 +109,7 @@ pub fn gathered(alloc: Global, claims: Claims, finished: Vec<Finished>) -> Resul
     let (seats, made) = taken_apart(alloc, finished)?;
     claims.finish(seats);
     match least {
-        Some(fault) => Ok(Outcome::Faulted(fault)),
-        None => Ok(Outcome::Processed(made)),
+        Some(fault) => Ok(LoopOutcome::Faulted(fault)),
+        None => Ok(LoopOutcome::Processed(made)),
     }
 }

@@ -21,4 +21,4 @@ pub use crate::one_loop::{FilledLoop, LoopEnd, run_loop};
 pub use crate::passes::watched_in;
 pub use crate::prints::{Transcript, run_prints};
 pub use crate::session::{BookedGraph, LoopRefusal, Session};
-pub use crate::state::{Phase, Progress, SlotState, SlotStop};
+pub use crate::state::{ClusterProgress, SlotPhase, SlotState, SlotStop};

@@ -7,9 +7,9 @@ ghost use Rattle.event_loop.specs.declared.workers.Shared.{Shared};
 ghost use Rattle.slot_words.specs.{IsReady};
 
 use crate::filling::{Noting, filled};
-use crate::gather::{Outcome, gathered};
+use crate::gather::{LoopOutcome, gathered};
 use crate::watched_in;
-use crate::workers::{Shared, Slot, run_slots};
+use crate::workers::{Shared, SlotRights, run_slots};
 use loop_keys::Job;
 use loop_pieces::{LoopPiece, PartialLine};
 use rdf_outside::Gate;
@@ -53,7 +53,7 @@ fn opened(
 
 // The slots, each with a seat and, where there is a book, a share.
 #[tactic(auto, using(crate::proofs::Ended::none_seated))]
-fn seated(alloc: Global, seats: SeatList, shares: ShareList) -> Result<Vec<Slot>, Memory>
+fn seated(alloc: Global, seats: SeatList, shares: ShareList) -> Result<Vec<SlotRights>, Memory>
     ensures many { IfOk result (λ v. vec_len v ≡ length seats) }
     ensures fresh { (shared : Shared) → All (IsReady shared.claims) seats → AreBlank shared.book (length seats) shares → IfOk result (λ v. All (IsFresh shared) v.items) }
 {
@@ -62,7 +62,7 @@ fn seated(alloc: Global, seats: SeatList, shares: ShareList) -> Result<Vec<Slot>
     let mut slots = Vec::new(alloc);
     while let Some(seat) = seats.pop() {
         let share = shares.pop();
-        slots.push(Slot { seat, share })?;
+        slots.push(SlotRights { seat, share })?;
     }
     Ok(slots)
 }
@@ -106,8 +106,8 @@ pub fn run_loop<R: Threads + Sync, G: Gate>(
     let finished = run_slots(rt, alloc, job, &shared, fresh, gate)?;
     let Shared { claims, book } = shared;
     match gathered(alloc, claims, finished)? {
-        Outcome::Faulted(fault) => Ok(LoopEnd::Faulted(fault)),
-        Outcome::Processed(made) => {
+        LoopOutcome::Faulted(fault) => Ok(LoopEnd::Faulted(fault)),
+        LoopOutcome::Processed(made) => {
             let filled = filled(alloc, book, made, noting)?;
             Ok(LoopEnd::Filled(filled))
         }

@@ -13,7 +13,7 @@ use graph_numbers::{Pass, ResultKind};
 /// How many action passes of the loop come before those of the result, how many are its own, and how many
 /// watched ones come before them.
 #[derive(Clone, Copy, Debug)]
-pub struct Place {
+pub struct PassSpan {
     pub first: u32,
     pub passes: u32,
     pub watched: u32,
@@ -94,7 +94,7 @@ fn pass_count(passes: &[Pass], r: u32) -> usize
 
 /// The place of a result's passes in a loop that fills it.
 #[tactic(auto, using(crate::proofs::Found::pass_of, crate::proofs::Found::taken_at))]
-pub fn place_in(graph: &Graph, loop_index: u32, r: u32) -> Place
+pub fn place_in(graph: &Graph, loop_index: u32, r: u32) -> PassSpan
     requires its_loop { loop_index < length (graph_loops graph.now) }
     requires result { r < length (graph_results graph.now) }
     requires filled { (x : ResultAt) × (results : List Booked) × (slice_get (graph_results graph.now) r ≡ Some x) × (slice_get (loop_results (booked_statements graph.now)) loop_index ≡ Some results) × (fills x.booked.name results ≡ true) }
@@ -109,7 +109,7 @@ pub fn place_in(graph: &Graph, loop_index: u32, r: u32) -> Place
     };
     let before = counts_of(graph, &passes[..start]);
     let own = pass_count(passes, r) as u32;
-    Place {
+    PassSpan {
         first: before.actions,
         passes: own * accumulators(graph, r),
         watched: before.watched,

@@ -28,7 +28,7 @@ pub struct BookedGraph<'a> {
 
 /// The loop that faulted, and its first fault.
 #[derive(Clone, Copy, Debug)]
-pub struct Kept {
+pub struct FaultyLoop {
     pub loop_index: u32,
     pub fault: Fault,
 }
@@ -36,7 +36,7 @@ pub struct Kept {
 /// The first fault of a loop, which stands for every result that isn't filled; or want of memory.
 #[derive(Clone, Copy, Debug)]
 pub enum LoopRefusal {
-    Fault(Kept),
+    Fault(FaultyLoop),
     Memory,
 }
 
@@ -50,7 +50,7 @@ pub struct Session<'a> {
     watch: u32,
     next: u32,
     loops: Vec<FilledLoop>,
-    fault: Option<Kept>,
+    fault: Option<FaultyLoop>,
 }
 
 // The partial results of that watched result of a loop.
@@ -110,7 +110,7 @@ impl<'a> Session<'a> {
         ensures session { IsSession (session_of self.new) }
         ensures parts { HasSameParts (session_of self.old) (session_of self.new) }
         ensures ok { (l : ℕ) → result ≡ Ok l → IsAccessed (session_of self.old) (session_of self.new) print l }
-        ensures fault { (k : Kept) → result ≡ Err (LoopRefusal.Fault k) → IsFaulted (session_of self.old) (session_of self.new) print k }
+        ensures fault { (k : FaultyLoop) → result ≡ Err (LoopRefusal.Fault k) → IsFaulted (session_of self.old) (session_of self.new) print k }
         ensures memory { result ≡ Err LoopRefusal.Memory → IsRefused (session_of self.old) (session_of self.new) print }
     {
         let l = self.graph.filling(print);
@@ -132,7 +132,7 @@ impl<'a> Session<'a> {
                 Ok(l)
             }
             Ok(LoopEnd::Faulted(fault)) => {
-                let kept = Kept {
+                let kept = FaultyLoop {
                     loop_index: l,
                     fault,
                 };

@@ -22,7 +22,7 @@ use std::sync::ledger::Ledger;
 
 /// A cluster was processed to its end, or up to its first fault.
 #[derive(Clone, Copy, Debug, PartialEq, Eq)]
-pub enum Progress {
+pub enum ClusterProgress {
     Done,
     Faulted(Fault),
 }
@@ -35,7 +35,7 @@ pub enum SlotStop {
 
 /// Whether a slot goes on: not after a fault, nor after want of memory.
 #[derive(Clone, Copy, Debug, PartialEq, Eq)]
-pub enum Phase {
+pub enum SlotPhase {
     Going,
     Faulted,
     NoMemory,
@@ -49,7 +49,7 @@ pub struct SlotState {
     tally: Tally,
     // contracts alone read the finished clusters: a snapshot takes no bytes
     done: Vec<Snapshot<u32>>,
-    phase: Phase,
+    phase: SlotPhase,
 }
 
 impl Model for SlotState {
@@ -78,7 +78,7 @@ impl SlotState {
             vectors,
             tally,
             done,
-            phase: Phase::Going,
+            phase: SlotPhase::Going,
         })
     }
 
@@ -88,23 +88,23 @@ impl SlotState {
         job: &Job<'_>,
         cluster: u32,
         steps: &mut Steps<L>,
-    ) -> Result<Progress, SlotStop>
+    ) -> Result<ClusterProgress, SlotStop>
         requires job { Fits job.now }
         requires slot { IsSlotOf (job_facts (job_of job.now)) self.old }
         requires cluster { cluster < length (job_facts (job_of job.now)).faults }
         requires above { All (λ c. c < cluster) self.old.done }
-        requires open { self.old.phase ≢ Phase.Faulted }
+        requires open { self.old.phase ≢ SlotPhase.Faulted }
         ensures slot { IsSlotOf (job_facts (job_of job.now)) self.new }
-        ensures done { result ≡ Ok Progress.Done → (self.old.phase ≡ Phase.Going) × (slice_get (job_facts (job_of job.now)).faults cluster ≡ Some None)
-            × (self.new.done ≡ self.old.done ++ cluster ∷ []) × (self.new.phase ≡ Phase.Going) }
-        ensures faulted { (f : Fault) → result ≡ Ok (Progress.Faulted f) → (self.old.phase ≡ Phase.Going) × (slice_get (job_facts (job_of job.now)).faults cluster ≡ Some (Some f))
-            × (self.new.done ≡ self.old.done) × (self.new.phase ≡ Phase.Faulted) }
-        ensures memory { result ≡ Err SlotStop.Memory → (self.new.done ≡ self.old.done) × (self.new.phase ≡ Phase.NoMemory) }
-        ensures kept { self.old.phase ≡ Phase.NoMemory → result ≡ Err SlotStop.Memory }
-        ensures plain { IsPlainSlot (job_of job.now) → self.old.phase ≡ Phase.Going → result ≢ Err SlotStop.Memory }
+        ensures done { result ≡ Ok ClusterProgress.Done → (self.old.phase ≡ SlotPhase.Going) × (slice_get (job_facts (job_of job.now)).faults cluster ≡ Some None)
+            × (self.new.done ≡ self.old.done ++ cluster ∷ []) × (self.new.phase ≡ SlotPhase.Going) }
+        ensures faulted { (f : Fault) → result ≡ Ok (ClusterProgress.Faulted f) → (self.old.phase ≡ SlotPhase.Going) × (slice_get (job_facts (job_of job.now)).faults cluster ≡ Some (Some f))
+            × (self.new.done ≡ self.old.done) × (self.new.phase ≡ SlotPhase.Faulted) }
+        ensures memory { result ≡ Err SlotStop.Memory → (self.new.done ≡ self.old.done) × (self.new.phase ≡ SlotPhase.NoMemory) }
+        ensures kept { self.old.phase ≡ SlotPhase.NoMemory → result ≡ Err SlotStop.Memory }
+        ensures plain { IsPlainSlot (job_of job.now) → self.old.phase ≡ SlotPhase.Going → result ≢ Err SlotStop.Memory }
         ensures bound { steps.new ≤ steps.old + 2 * span_demands (job_of job.now) (size_for (key_count (job_graph (job_of job.now)))) self.old.vectors cluster }
     {
-        if let Phase::NoMemory = self.phase {
+        if let SlotPhase::NoMemory = self.phase {
             return Err(SlotStop::Memory);
         }
         match self
@@ -114,19 +114,19 @@ impl SlotState {
             Ok(()) => match self.tally.close(cluster) {
                 Ok(()) => {
                     self.done.push_reserved(Snapshot::of(&cluster));
-                    Ok(Progress::Done)
+                    Ok(ClusterProgress::Done)
                 }
                 Err(Memory) => {
-                    self.phase = Phase::NoMemory;
+                    self.phase = SlotPhase::NoMemory;
                     Err(SlotStop::Memory)
                 }
             },
             Err(BlockStop::Fault(fault)) => {
-                self.phase = Phase::Faulted;
-                Ok(Progress::Faulted(fault))
+                self.phase = SlotPhase::Faulted;
+                Ok(ClusterProgress::Faulted(fault))
             }
             Err(BlockStop::Memory) => {
-                self.phase = Phase::NoMemory;
+                self.phase = SlotPhase::NoMemory;
                 Err(SlotStop::Memory)
             }
         }
@@ -134,7 +134,7 @@ impl SlotState {
 
     /// What the clusters that the slot finished come to, with a trail for each watched result.
     pub fn into_piece(self) -> LoopPiece
-        requires { self.phase ≡ Phase.Going }
+        requires { self.phase ≡ SlotPhase.Going }
         ensures stands { (job : JobFacts) → IsSlotOf job self → StandsFor job.facts self.done result }
         ensures trails { (job : JobFacts) → IsSlotOf job self → HaveTrails job.facts job.watched self.done result.trails.items }
     {

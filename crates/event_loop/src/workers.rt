@@ -4,9 +4,9 @@ ghost use Rattle.std.specs.List.{All};
 ghost use Rattle.entry_fns.specs.{functions_in};
 ghost use Rattle.loop_keys.specs.{Fits, IsJob, job_graph, job_of};
 ghost use Rattle.event_loop.specs.{CanRun, HasNoted, HasRoom, HasRun, HasStopped, IsFresh, job_facts, job_with};
-ghost use Rattle.event_loop.specs.declared.workers.Finished.{Finished};
+ghost use Rattle.event_loop.specs.declared.workers.FinishedSlot.{FinishedSlot};
 
-use crate::{Progress, SlotState, SlotStop};
+use crate::{ClusterProgress, SlotState, SlotStop};
 use expr_eval::Steps;
 use loop_keys::Job;
 use loop_pieces::LoopPiece;
@@ -27,14 +27,14 @@ pub struct Shared {
 
 /// What one slot of a loop is given: its right to draw clusters and, where a result is watched, its right to note them.
 #[derive(Drop)]
-pub struct Slot {
+pub struct SlotRights {
     pub seat: ClaimSeat,
     pub share: Option<Share>,
 }
 
 /// Why a slot stopped: no cluster is left for it, and its own come to this piece; it met its first fault; or it had no memory.
 #[derive(Drop)]
-pub enum End {
+pub enum SlotEnd {
     Over(LoopPiece),
     Faulted(Fault),
     NoMemory,
@@ -42,9 +42,9 @@ pub enum End {
 
 /// A slot that stopped.
 #[derive(Drop)]
-pub struct Finished {
-    pub end: End,
-    pub slot: Slot,
+pub struct FinishedSlot {
+    pub end: SlotEnd,
+    pub slot: SlotRights,
 }
 
 // Notes a cluster, where a result is watched.
@@ -64,9 +64,9 @@ fn work<L: Ledger, G: Gate>(
     alloc: Global,
     job: &Job<'_>,
     shared: &Shared,
-    slot: &mut Slot,
+    slot: &mut SlotRights,
     gate: &G,
-) -> End
+) -> SlotEnd
     requires name { blank.name ≡ L.name }
     requires parts { blank.parts ≡ L.parts }
     requires some { 0 < L.parts }
@@ -76,21 +76,21 @@ fn work<L: Ledger, G: Gate>(
     ensures { HasRun shared.now (job_facts (job_of job.now)) result slot.new }
 {
     let Ok(mut state) = SlotState::new(alloc, job) else {
-        return End::NoMemory;
+        return SlotEnd::NoMemory;
     };
     let mut steps: Steps<L> = Steps::open(blank);
     while let Some(cluster) = shared.claims.claim(&mut slot.seat) {
         gate.turn(slot.seat.slot(), cluster);
         match state.process(job, cluster, &mut steps) {
-            Ok(Progress::Done) => note(&shared.book, &mut slot.share),
-            Ok(Progress::Faulted(fault)) => {
+            Ok(ClusterProgress::Done) => note(&shared.book, &mut slot.share),
+            Ok(ClusterProgress::Faulted(fault)) => {
                 shared.claims.lower(&mut slot.seat, cluster);
-                return End::Faulted(fault);
+                return SlotEnd::Faulted(fault);
             }
-            Err(SlotStop::Memory) => return End::NoMemory,
+            Err(SlotStop::Memory) => return SlotEnd::NoMemory,
         }
     }
-    End::Over(state.into_piece())
+    SlotEnd::Over(state.into_piece())
 }
 
 // Runs one slot. Its evaluations are counted in a ledger of its own.
@@ -98,9 +98,9 @@ fn run_slot<G: Gate>(
     alloc: Global,
     job: &Job<'_>,
     shared: &Shared,
-    slot: Slot,
+    slot: SlotRights,
     gate: &G,
-) -> Finished
+) -> FinishedSlot
     requires job { Fits job.now }
     requires can { CanRun (job_of job.now) shared.now }
     requires fresh { IsFresh shared.now slot }
@@ -108,7 +108,7 @@ fn run_slot<G: Gate>(
 {
     let mut slot = slot;
     let end = work::<Brand, G>(Blank::new(1), alloc, job, shared, &mut slot, gate);
-    Finished { end, slot }
+    FinishedSlot { end, slot }
 }
 
 /// Runs each slot. Where threads can be made, each has one of its own; no clause says so.
@@ -117,14 +117,14 @@ pub fn run_slots<R: Threads + Sync, G: Gate>(
     alloc: Global,
     job: &Job<'_>,
     shared: &Shared,
-    slots: Vec<Slot>,
+    slots: Vec<SlotRights>,
     gate: &G,
-) -> Result<Vec<Finished>, Memory>
+) -> Result<Vec<FinishedSlot>, Memory>
     requires job { Fits job.now }
     requires can { CanRun (job_of job.now) shared.now }
     requires fresh { All (IsFresh shared.now) slots.items }
     ensures len { IfOk result (λ v. vec_len v ≡ vec_len slots) }
-    ensures each { IfOk result (λ v. (i : ℕ) (f : Finished) → i < vec_len slots → HasStopped shared.now (job_facts (job_of job.now)) (slice_index_or v.items i f)) }
+    ensures each { IfOk result (λ v. (i : ℕ) (f : FinishedSlot) → i < vec_len slots → HasStopped shared.now (job_facts (job_of job.now)) (slice_index_or v.items i f)) }
 {
     let Job {
         graph,
@@ -135,7 +135,7 @@ pub fn run_slots<R: Threads + Sync, G: Gate>(
     let finished = map_vec(
         rt,
         slots,
-        &|slot: Slot| -> Finished
+        &|slot: SlotRights| -> FinishedSlot
             requires { (graph.now ≡ job_graph (job_with graph.now loop_index columns.now (functions_in functions.now)))
                 × IsJob (job_with graph.now loop_index columns.now (functions_in functions.now))
                 × CanRun (job_with graph.now loop_index columns.now (functions_in functions.now)) shared.now

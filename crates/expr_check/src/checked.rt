@@ -8,7 +8,7 @@ ghost use Rattle.expr_check.specs.Scopes.{RefusedAs};
 use crate::part::check_part;
 use crate::reads::reads;
 use crate::refusal::CheckRefusal;
-use crate::scope::Columns;
+use crate::scope::ReadableColumns;
 use rdf_values::{ColType, Expr, FnNames, NumExpr};
 use std::alloc::Global;
 use std::marker::Model;
@@ -79,7 +79,7 @@ fn has_vector(kinds: &[ColType]) -> bool
 
 /// The expression with its columns and functions numbered, or the first refusal: the parts of a node come from
 /// left to right before the node itself, and a call's function and the number of its arguments before these.
-pub fn check<C: Columns>(
+pub fn check<C: ReadableColumns>(
     alloc: Global,
     expr: &Expr,
     columns: &C,

@@ -12,4 +12,4 @@ pub mod scope;
 
 pub use crate::checked::{Checked, check};
 pub use crate::refusal::CheckRefusal;
-pub use crate::scope::{Columns, Scope};
+pub use crate::scope::{ReadableColumns, Scope};

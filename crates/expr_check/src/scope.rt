@@ -11,7 +11,7 @@ use std::alloc::Global;
 use std::marker::Model;
 
 /// Columns that an expression may read, by their names and by their numbers.
-pub trait Columns {
+pub trait ReadableColumns {
     ghost kind_named: { Self → List ℕ → Result ColType GraphCause };
 
     ghost number_named: { Self → List ℕ → ℕ };
@@ -31,13 +31,13 @@ pub trait Columns {
 }
 
 #[derive(Drop)]
-struct Known {
+struct ScopedColumn {
     name: Name,
     kind: ColType,
     number: u32,
 }
 
-impl Model for Known {
+impl Model for ScopedColumn {
     ghost use Rattle.rdf_values.specs.{ScopeColumn};
 
     ghost Value = { ScopeColumn };
@@ -49,7 +49,7 @@ impl Model for Known {
 #[derive(Drop)]
 pub struct Scope {
     alloc: Global,
-    columns: Vec<Known>,
+    columns: Vec<ScopedColumn>,
 }
 
 impl Model for Scope {
@@ -83,16 +83,16 @@ impl Scope {
         ensures err { OnErr result (self.new ≡ self.old) }
     {
         let name = name.copy()?;
-        Ok(self.columns.push(Known { name, kind, number })?)
+        Ok(self.columns.push(ScopedColumn { name, kind, number })?)
     }
 
-    fn named(&self, name: &Name) -> Option<&Known>
+    fn named(&self, name: &Name) -> Option<&ScopedColumn>
         ensures { option_copied result ≡ find (λ c. same c.name name.now) self.now }
     {
         self.columns.iter().find(|c| c.name.is(name))
     }
 
-    fn numbered(&self, number: u32) -> Option<&Known>
+    fn numbered(&self, number: u32) -> Option<&ScopedColumn>
         ensures { option_copied result ≡ find (λ c. nat_eq c.number number) self.now }
     {
         self.columns.iter().find(|c| c.number == number)
@@ -121,7 +121,7 @@ impl Scope {
     }
 }
 
-impl Columns for Scope {
+impl ReadableColumns for Scope {
     ghost kind_named = { λ s name. column_kind (kinds_in s) name };
 
     ghost number_named = { λ s name. number_in s name };

@@ -2,20 +2,20 @@
 use Rattle.std.specs.Prelude.{◌≡◌, ℕ, ℤ, pos, List, ◌++◌, Result, Ok, Err, Bool, true, false, Option, Some, None, ◌<◌, ◌≤◌, length, HoldsAt}
 use Rattle.rdf_values.specs.{EntryFault, Scalar, Value, BinOp, args_count, Bin, Call, Callee, Col, Cond, End, Function, Lit, More, Neg, Not, NumTree, Pick, Trees}
 use Rattle.rdf_model.specs.{◌>>=◌, Faults, Gives, gives_int, gives_vect, Needs, Outcome, sum_from}
-use Rattle.expr_eval.specs.declared.inputs.Input.{Input}
+use Rattle.expr_eval.specs.declared.inputs.ColumnInput.{ColumnInput}
 use Rattle.expr_eval.specs.declared.stop.EvalStop.{EvalStop}
 use Rattle.expr_eval.specs.declared.stop.ScalarStop.{ScalarStop}
 use Rattle.expr_eval.specs.declared.operand.Operand.{Operand}
-use Rattle.expr_eval.specs.declared.operand.View.{View}
+use Rattle.expr_eval.specs.declared.operand.OperandView.{OperandView}
 use Rattle.rdf_values.specs.expressions.Expressions.{Truth}
 
 -- what is told of the column, as an outcome
-abbrev pub input_outcome : ℕ → Input → Outcome ℕ Value
-input_outcome c (Input.Int z) = Gives (Value.Int z)
-input_outcome c (Input.Bool b) = Gives (Value.Bool b)
-input_outcome c (Input.Vect zs) = Gives (Value.Vect zs.now)
-input_outcome c (Input.Faulted kind) = Faults kind
-input_outcome c Input.Missing = Needs c
+abbrev pub input_outcome : ℕ → ColumnInput → Outcome ℕ Value
+input_outcome c (ColumnInput.Int z) = Gives (Value.Int z)
+input_outcome c (ColumnInput.Bool b) = Gives (Value.Bool b)
+input_outcome c (ColumnInput.Vect zs) = Gives (Value.Vect zs.now)
+input_outcome c (ColumnInput.Faulted kind) = Faults kind
+input_outcome c ColumnInput.Missing = Needs c
 
 -- a number or truth value, as a value
 abbrev pub scalar_value : Scalar → Value
@@ -76,10 +76,10 @@ operand_value (Operand.Lent zs) = Value.Vect zs.now
 operand_value (Operand.Owned zs) = Value.Vect zs.items
 
 -- what is seen of an operand, as a value
-abbrev pub view_value : View → Value
-view_value (View.Int z) = Value.Int z
-view_value (View.Bool b) = Value.Bool b
-view_value (View.Vect zs) = Value.Vect zs.now
+abbrev pub view_value : OperandView → Value
+view_value (OperandView.Int z) = Value.Int z
+view_value (OperandView.Bool b) = Value.Bool b
+view_value (OperandView.Vect zs) = Value.Vect zs.now
 
 -- what the left side of && or || decides by itself
 abbrev pub decision : BinOp → Value → Option Bool

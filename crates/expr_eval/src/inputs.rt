@@ -8,7 +8,7 @@ use rdf_values::EntryFault;
 
 /// What is known of a column: its value, its fault, or that it is missing.
 #[derive(Clone, Copy, Debug)]
-pub enum Input<'a> {
+pub enum ColumnInput<'a> {
     Int(i64),
     Bool(bool),
     Vect(&'a [i64]),
@@ -23,7 +23,7 @@ pub trait Inputs {
     ghost look: { Self → ℕ → Outcome ℕ Value };
 
     /// What is known of the column.
-    fn at(&self, col: u32) -> Input<'_>
+    fn at(&self, col: u32) -> ColumnInput<'_>
         requires { can self.now col }
         ensures { input_outcome col result ≡ look self.now col };
 }

@@ -14,7 +14,7 @@ pub mod stop;
 mod vector;
 
 pub use crate::calls::{Calls, callable};
-pub use crate::inputs::{Input, Inputs};
+pub use crate::inputs::{ColumnInput, Inputs};
 pub use crate::scalar::eval_int;
 pub use crate::steps::Steps;
 pub use crate::stop::{EvalStop, ScalarStop};

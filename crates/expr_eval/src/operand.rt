@@ -18,7 +18,7 @@ pub(crate) enum Operand<'a> {
 
 /// What is seen of an operand.
 #[derive(Clone, Copy)]
-pub(crate) enum View<'b> {
+pub(crate) enum OperandView<'b> {
     Int(i64),
     Bool(bool),
     Vect(&'b [i64]),
@@ -32,14 +32,14 @@ impl<'a> Default for Operand<'a> {
 
 impl<'a> Operand<'a> {
     /// The value that it is, whoever owns its elements.
-    pub(crate) fn view(&self) -> View<'_>
+    pub(crate) fn view(&self) -> OperandView<'_>
         ensures { view_value result ≡ operand_value self.now }
     {
         match self {
-            Operand::Int(z) => View::Int(*z),
-            Operand::Bool(b) => View::Bool(*b),
-            Operand::Lent(zs) => View::Vect(zs),
-            Operand::Owned(zs) => View::Vect(zs.as_slice()),
+            Operand::Int(z) => OperandView::Int(*z),
+            Operand::Bool(b) => OperandView::Bool(*b),
+            Operand::Lent(zs) => OperandView::Vect(zs),
+            Operand::Owned(zs) => OperandView::Vect(zs.as_slice()),
         }
     }
 
@@ -60,10 +60,7 @@ impl<'a> Operand<'a> {
         match self {
             Operand::Int(z) => Ok(Value::Int(z)),
             Operand::Bool(b) => Ok(Value::Bool(b)),
-            Operand::Lent(zs) => match IntList::from_slice(alloc, zs) {
-                Ok(list) => Ok(Value::Vect(list)),
-                Err(_) => Err(EvalStop::Memory),
-            },
+            Operand::Lent(zs) => Ok(Value::Vect(IntList::from_vec(Vec::from_slice(alloc, zs)?))),
             Operand::Owned(zs) => Ok(Value::Vect(IntList::from_vec(zs))),
         }
     }

@@ -8,7 +8,7 @@ ghost use Rattle.expr_check.specs.{CallsFit, is_plain};
 ghost use Rattle.expr_eval.specs.{answered, ArgumentsCanCall, CallFits, Gathers, GivesScalar, input_outcome, is_other, IsScalarPart, number_call, number_value, scalar_outcome, scalar_value};
 
 use crate::calls::{Calls, answer, callable};
-use crate::inputs::{Input, Inputs};
+use crate::inputs::{ColumnInput, Inputs};
 use crate::number::{absolute, is_arithmetic, mark, negate, operate};
 use crate::steps::Steps;
 use crate::stop::{ScalarAnswer, ScalarStop};
@@ -228,16 +228,16 @@ fn gather<I: Inputs, C: Calls>(
 
 /// The value of a column that is no vector.
 #[inline(always)]
-fn column(number: u32, input: Input<'_>) -> ScalarAnswer
+fn column(number: u32, input: ColumnInput<'_>) -> ScalarAnswer
     requires { GivesScalar (input_outcome number input) }
     ensures { answered result ≡ input_outcome number input.entry }
 {
     match input {
-        Input::Int(z) => ScalarAnswer::Int(z),
-        Input::Bool(b) => ScalarAnswer::Bool(b),
-        Input::Vect(_) => unreachable!(),
-        Input::Faulted(kind) => ScalarAnswer::Fault(kind),
-        Input::Missing => ScalarAnswer::Need(number),
+        ColumnInput::Int(z) => ScalarAnswer::Int(z),
+        ColumnInput::Bool(b) => ScalarAnswer::Bool(b),
+        ColumnInput::Vect(_) => unreachable!(),
+        ColumnInput::Faulted(kind) => ScalarAnswer::Fault(kind),
+        ColumnInput::Missing => ScalarAnswer::Need(number),
     }
 }
 

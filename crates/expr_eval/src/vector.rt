@@ -12,9 +12,9 @@ use crate::elements::{
     Elementwise, LeftNumber, Minus, RightNumber, all, any, each, each_pair, element, greatest,
     inverted, least, marked, sum,
 };
-use crate::inputs::{Input, Inputs};
+use crate::inputs::{ColumnInput, Inputs};
 use crate::number::{absolute, is_arithmetic, mark, negate, operate};
-use crate::operand::{Operand, View};
+use crate::operand::{Operand, OperandView};
 use crate::steps::Steps;
 use crate::stop::EvalStop;
 use arrayvec::ArrayVec;
@@ -121,15 +121,15 @@ fn gather<'a, I: Inputs, C: Calls>(
 }
 
 /// The value of a column.
-fn column<'a>(number: u32, input: Input<'a>) -> Result<Operand<'a>, EvalStop>
+fn column<'a>(number: u32, input: ColumnInput<'a>) -> Result<Operand<'a>, EvalStop>
     ensures { AnswersAs operand_value (input_outcome number input.entry) result }
 {
     match input {
-        Input::Int(z) => Ok(Operand::Int(z)),
-        Input::Bool(b) => Ok(Operand::Bool(b)),
-        Input::Vect(zs) => Ok(Operand::Lent(zs)),
-        Input::Faulted(kind) => Err(EvalStop::Fault(kind)),
-        Input::Missing => Err(EvalStop::Need(number)),
+        ColumnInput::Int(z) => Ok(Operand::Int(z)),
+        ColumnInput::Bool(b) => Ok(Operand::Bool(b)),
+        ColumnInput::Vect(zs) => Ok(Operand::Lent(zs)),
+        ColumnInput::Faulted(kind) => Err(EvalStop::Fault(kind)),
+        ColumnInput::Missing => Err(EvalStop::Need(number)),
     }
 }
 
@@ -149,9 +149,9 @@ fn negative<'a>(alloc: Global, value: &Operand<'_>) -> Result<Operand<'a>, EvalS
     ensures { AnswersAs operand_value (negation (operand_value value.now)) result }
 {
     match value.view() {
-        View::Int(x) => number_answer(negate(x)),
-        View::Vect(xs) => each_of(alloc, &Minus, xs),
-        View::Bool(_) => Ok(Operand::Int(0)),
+        OperandView::Int(x) => number_answer(negate(x)),
+        OperandView::Vect(xs) => each_of(alloc, &Minus, xs),
+        OperandView::Bool(_) => Ok(Operand::Int(0)),
     }
 }
 
@@ -159,9 +159,9 @@ fn inverse<'a>(alloc: Global, value: &Operand<'_>) -> Result<Operand<'a>, EvalSt
     ensures { AnswersAs operand_value (inversion (operand_value value.now)) result }
 {
     match value.view() {
-        View::Bool(b) => Ok(Operand::Bool(!b)),
-        View::Vect(xs) => Ok(Operand::Owned(inverted(alloc, xs)?)),
-        View::Int(_) => Ok(Operand::Int(0)),
+        OperandView::Bool(b) => Ok(Operand::Bool(!b)),
+        OperandView::Vect(xs) => Ok(Operand::Owned(inverted(alloc, xs)?)),
+        OperandView::Int(_) => Ok(Operand::Int(0)),
     }
 }
 
@@ -185,14 +185,22 @@ fn combine<'a>(
     ensures { AnswersAs operand_value (value_operation op (operand_value left.now) (operand_value right.now)) result }
 {
     match (left.view(), right.view()) {
-        (View::Int(x), View::Int(y)) => match operate(op, x, y) {
+        (OperandView::Int(x), OperandView::Int(y)) => match operate(op, x, y) {
             Ok(z) => Ok(operation_value(op, z)),
             Err(kind) => Err(EvalStop::Fault(kind)),
         },
-        (View::Int(x), View::Vect(ys)) => each_of(alloc, &LeftNumber { op, left: x }, ys),
-        (View::Vect(xs), View::Int(y)) => each_of(alloc, &RightNumber { op, right: y }, xs),
-        (View::Vect(xs), View::Vect(ys)) => combine_vectors(alloc, op, xs, ys),
-        (View::Bool(a), View::Bool(b)) => match operate(op, mark(a), mark(b)) {
+        (OperandView::Int(x), OperandView::Vect(ys)) => each_of(
+            alloc,
+            &LeftNumber { op, left: x },
+            ys,
+        ),
+        (OperandView::Vect(xs), OperandView::Int(y)) => each_of(
+            alloc,
+            &RightNumber { op, right: y },
+            xs,
+        ),
+        (OperandView::Vect(xs), OperandView::Vect(ys)) => combine_vectors(alloc, op, xs, ys),
+        (OperandView::Bool(a), OperandView::Bool(b)) => match operate(op, mark(a), mark(b)) {
             Ok(z) => Ok(Operand::Bool(z != 0)),
             Err(kind) => Err(EvalStop::Fault(kind)),
         },
@@ -243,8 +251,8 @@ fn pick<'a>(
     ensures { AnswersAs operand_value (picked (operand_value vector.now) (operand_value place.now)) result }
 {
     match (vector.view(), place.view()) {
-        (View::Vect(xs), View::Int(i)) => number_answer(element(xs, i)),
-        (View::Vect(xs), View::Vect(marks)) => {
+        (OperandView::Vect(xs), OperandView::Int(i)) => number_answer(element(xs, i)),
+        (OperandView::Vect(xs), OperandView::Vect(marks)) => {
             if xs.len() != marks.len() {
                 return Err(EvalStop::Fault(EntryFault::Lengths));
             }
@@ -299,7 +307,7 @@ fn call_at<'a>(vector: &Operand<'_>, place: &Operand<'_>) -> Result<Operand<'a>,
     ensures { AnswersAs operand_value (call_outcome [] Callee.At (operand_value vector.now ∷ operand_value place.now ∷ [])) result }
 {
     match (vector.view(), place.view()) {
-        (View::Vect(xs), View::Int(i)) => number_answer(element(xs, i)),
+        (OperandView::Vect(xs), OperandView::Int(i)) => number_answer(element(xs, i)),
         _ => Ok(Operand::Int(0)),
     }
 }
@@ -310,13 +318,13 @@ fn call_one<'a>(callee: Callee, value: &Operand<'_>) -> Result<Operand<'a>, Eval
     ensures { AnswersAs operand_value (call_outcome [] callee (operand_value value.now ∷ [])) result }
 {
     match (callee, value.view()) {
-        (Callee::Sum, View::Vect(xs)) => number_answer(sum(xs)),
-        (Callee::Min, View::Vect(xs)) => number_answer(least(xs)),
-        (Callee::Max, View::Vect(xs)) => number_answer(greatest(xs)),
-        (Callee::Size, View::Vect(xs)) => Ok(Operand::Int(xs.len() as i64)),
-        (Callee::Any, View::Vect(xs)) => Ok(Operand::Bool(any(xs))),
-        (Callee::All, View::Vect(xs)) => Ok(Operand::Bool(all(xs))),
-        (Callee::Abs, View::Int(x)) => number_answer(absolute(x)),
+        (Callee::Sum, OperandView::Vect(xs)) => number_answer(sum(xs)),
+        (Callee::Min, OperandView::Vect(xs)) => number_answer(least(xs)),
+        (Callee::Max, OperandView::Vect(xs)) => number_answer(greatest(xs)),
+        (Callee::Size, OperandView::Vect(xs)) => Ok(Operand::Int(xs.len() as i64)),
+        (Callee::Any, OperandView::Vect(xs)) => Ok(Operand::Bool(any(xs))),
+        (Callee::All, OperandView::Vect(xs)) => Ok(Operand::Bool(all(xs))),
+        (Callee::Abs, OperandView::Int(x)) => number_answer(absolute(x)),
         _ => Ok(Operand::Int(0)),
     }
 }

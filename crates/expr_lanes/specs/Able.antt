@@ -7,8 +7,8 @@ use Rattle.expr_eval.specs.Answers.{CanCall}
 use Rattle.expr_lanes.specs.declared.nodes.Branch.{Branch}
 use Rattle.expr_lanes.specs.Folds.{CanLane, CanLaneAll}
 use Rattle.rdf_model.specs.{Gives, Outcome}
-use Rattle.expr_lanes.specs.declared.lane_inputs.Known.{Known}
-use Rattle.expr_lanes.specs.declared.lane_inputs.Known.TheVariants.{Everywhere, Marked}
+use Rattle.expr_lanes.specs.declared.lane_inputs.KnownPlaces.{KnownPlaces}
+use Rattle.expr_lanes.specs.declared.lane_inputs.KnownPlaces.TheVariants.{Everywhere, Marked}
 
 abbrev mutual
   -- one for each part that stands in another, at the deepest
@@ -50,12 +50,12 @@ module _ {S : Type 0} (IsNumbers IsTold : S → ℕ → Type 0) (functions : S �
 -- ---- what an evaluation over a block is told of a column
 
 -- the column is known at the place
-abbrev pub is_known : Known → ℕ → Bool
+abbrev pub is_known : KnownPlaces → ℕ → Bool
 is_known Everywhere p = true
 is_known (Marked marks) p = slice_index_or marks.now p false
 
 -- a mask has a mark for each place of the block
-abbrev pub HasMarks : ℕ → Known → Type 0
+abbrev pub HasMarks : ℕ → KnownPlaces → Type 0
 HasMarks count Everywhere = Unit {0}
 HasMarks count (Marked marks) = count ≤ length marks.now
 

@@ -7,7 +7,7 @@ ghost use Rattle.expr_lanes.specs.Places.{EachPlace, Evaluated};
 
 use crate::MAX_PLACES;
 use crate::kernel::{Kernel, run};
-use crate::kernels::{Copied, Lane, Magnitude, Same};
+use crate::kernels::{Copied, LaneNumbers, Magnitude, Same};
 use crate::parting::Stopped;
 use crate::scratch::Scratch;
 use crate::selection::Selection;
@@ -68,7 +68,12 @@ pub(crate) fn call_lanes<C: Calls>(
 {
     match (callee, lanes) {
         (Callee::Abs, [argument]) => {
-            run(&Magnitude(Lane(&argument.left)), selection, lane, stops)
+            run(
+                &Magnitude(LaneNumbers(&argument.left)),
+                selection,
+                lane,
+                stops,
+            )
         }
         (Callee::Given(number), _) => {
             let step = Called {

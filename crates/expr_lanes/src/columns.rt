@@ -6,8 +6,8 @@ ghost use Rattle.expr_lanes.specs.Places.{at_place, is_given, is_marked, IsReady
 
 use crate::MAX_PLACES;
 use crate::kernel::{Kernel, run};
-use crate::kernels::{Copied, Lane};
-use crate::lane_inputs::{Known, LaneInputs};
+use crate::kernels::{Copied, LaneNumbers};
+use crate::lane_inputs::{KnownPlaces, LaneInputs};
 use crate::parting::Stopped;
 use crate::selection::Selection;
 use arrayvec::ArrayVec;
@@ -54,8 +54,8 @@ pub(crate) fn read_column<S: LaneInputs>(
     let column = scope.column(number);
     let numbers = column.numbers;
     match column.known {
-        Known::Everywhere => run(&Copied(Lane(numbers)), selection, lane, stops),
-        Known::Marked(marks) => {
+        KnownPlaces::Everywhere => run(&Copied(LaneNumbers(numbers)), selection, lane, stops),
+        KnownPlaces::Marked(marks) => {
             let part = PartOfColumn {
                 scope,
                 number,

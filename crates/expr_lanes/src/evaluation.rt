@@ -15,7 +15,7 @@ use crate::selection::Selection;
 use arrayvec::ArrayVec;
 use entry_fns::FnList;
 use expr_check::Checked;
-use expr_eval::{Calls, Input, ScalarStop, Steps, callable};
+use expr_eval::{Calls, ColumnInput, ScalarStop, Steps, callable};
 use std::sync::ledger::Ledger;
 
 /// An expression that is evaluated over a block: with what it reads and the functions that it calls.
@@ -43,7 +43,7 @@ impl<'a, I: LaneInputs> LaneInputs for Evaluation<'a, I> {
         self.inputs.stop(col, place)
     }
 
-    fn tell(&self, col: u32, place: u32) -> Input<'_> {
+    fn tell(&self, col: u32, place: u32) -> ColumnInput<'_> {
         self.inputs.tell(col, place)
     }
 

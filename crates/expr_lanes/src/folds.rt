@@ -16,7 +16,7 @@ use crate::parting::Stopped;
 use crate::selection::Selection;
 use arrayvec::ArrayVec;
 use expr_eval::elements::{greatest, least, sum};
-use expr_eval::{Input, ScalarStop};
+use expr_eval::{ColumnInput, ScalarStop};
 use rdf_values::{Callee, NumArgs, NumNode};
 
 /// A function of the elements of a vector.
@@ -158,15 +158,15 @@ pub(crate) fn fold_column<S: LaneInputs>(
 }
 
 /// What the function comes to with what is known of a column.
-fn fold_input(fold: Fold, input: Input<'_>, column: u32) -> Result<i64, ScalarStop>
+fn fold_input(fold: Fold, input: ColumnInput<'_>, column: u32) -> Result<i64, ScalarStop>
     ensures { answered_at result ≡ lane_outcome (fold_told fold (input_outcome column input.entry)) }
 {
     match input {
-        Input::Vect(xs) => fold_elements(fold, xs),
+        ColumnInput::Vect(xs) => fold_elements(fold, xs),
         // What no checked expression comes to is 0, as the definition of evaluation says.
-        Input::Int(_) | Input::Bool(_) => Ok(0),
-        Input::Faulted(kind) => Err(ScalarStop::Fault(kind)),
-        Input::Missing => Err(ScalarStop::Need(column)),
+        ColumnInput::Int(_) | ColumnInput::Bool(_) => Ok(0),
+        ColumnInput::Faulted(kind) => Err(ScalarStop::Fault(kind)),
+        ColumnInput::Missing => Err(ScalarStop::Need(column)),
     }
 }
 

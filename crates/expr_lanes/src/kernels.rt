@@ -11,7 +11,7 @@ use expr_eval::number::{absolute, operate};
 use rdf_values::{BinOp, EntryFault};
 
 /// A number at each place.
-pub(crate) trait Numbers: Copy {
+pub(crate) trait PlaceNumbers: Copy {
     ghost has: { Self → ℕ → Type 0 };
 
     ghost number: { Self → ℕ → ℤ };
@@ -25,7 +25,7 @@ pub(crate) trait Numbers: Copy {
 #[derive(Clone, Copy)]
 pub(crate) struct Same(pub(crate) i64);
 
-impl Numbers for Same {
+impl PlaceNumbers for Same {
     ghost has = { λ s p. Unit {0} };
 
     ghost number = { λ s p. s.0 };
@@ -38,9 +38,9 @@ impl Numbers for Same {
 
 /// What a lane holds.
 #[derive(Clone, Copy)]
-pub(crate) struct Lane<'a>(pub(crate) &'a [i64]);
+pub(crate) struct LaneNumbers<'a>(pub(crate) &'a [i64]);
 
-impl<'a> Numbers for Lane<'a> {
+impl<'a> PlaceNumbers for LaneNumbers<'a> {
     ghost has = { λ s p. p < length s.0.now };
 
     ghost number = { λ s p. at_place s.0.now p };
@@ -72,9 +72,9 @@ pub(crate) fn stop_at_fault(answer: Result<i64, EntryFault>) -> Result<i64, Scal
 
 /// The numbers themselves.
 #[derive(Clone, Copy)]
-pub(crate) struct Copied<N: Numbers>(pub(crate) N);
+pub(crate) struct Copied<N: PlaceNumbers>(pub(crate) N);
 
-impl<N: Numbers> Kernel for Copied<N> {
+impl<N: PlaceNumbers> Kernel for Copied<N> {
     ghost can = { λ s p. N.has s.0 p };
 
     ghost gives = { λ s p. Gives (N.number s.0 p) };
@@ -87,9 +87,9 @@ impl<N: Numbers> Kernel for Copied<N> {
 
 /// The numbers without their signs.
 #[derive(Clone, Copy)]
-pub(crate) struct Magnitude<N: Numbers>(pub(crate) N);
+pub(crate) struct Magnitude<N: PlaceNumbers>(pub(crate) N);
 
-impl<N: Numbers> Kernel for Magnitude<N> {
+impl<N: PlaceNumbers> Kernel for Magnitude<N> {
     ghost can = { λ s p. N.has s.0 p };
 
     ghost gives = { λ s p. checked (pos (nat_abs (N.number s.0 p))) };
@@ -102,9 +102,13 @@ impl<N: Numbers> Kernel for Magnitude<N> {
 
 /// An operator between two numbers of each place.
 #[derive(Clone, Copy)]
-pub(crate) struct Combined<A: Numbers, B: Numbers>(pub(crate) BinOp, pub(crate) A, pub(crate) B);
+pub(crate) struct Combined<A: PlaceNumbers, B: PlaceNumbers>(
+    pub(crate) BinOp,
+    pub(crate) A,
+    pub(crate) B,
+);
 
-impl<A: Numbers, B: Numbers> Kernel for Combined<A, B> {
+impl<A: PlaceNumbers, B: PlaceNumbers> Kernel for Combined<A, B> {
     ghost can = { λ s p. A.has s.1 p × B.has s.2 p };
 
     ghost gives = { λ s p. number_operation s.0 (A.number s.1 p) (B.number s.2 p) };

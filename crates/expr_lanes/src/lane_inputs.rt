@@ -7,12 +7,12 @@ ghost use Rattle.expr_lanes.specs.Able.{is_known, HasMarks, IsVectorAt};
 ghost use Rattle.expr_lanes.specs.Marks.{lane_outcome};
 ghost use Rattle.expr_lanes.specs.Places.{at_place, is_given, answered_at};
 
-use expr_eval::{Input, ScalarStop};
+use expr_eval::{ColumnInput, ScalarStop};
 use rdf_values::Vects;
 
 /// The places at which a column is known.
 #[derive(Clone, Copy, Debug)]
-pub enum Known<'a> {
+pub enum KnownPlaces<'a> {
     Everywhere,
     Marked(&'a [bool]),
 }
@@ -21,7 +21,7 @@ pub enum Known<'a> {
 #[derive(Clone, Copy, Debug)]
 pub struct LaneColumn<'a> {
     pub numbers: &'a [i64],
-    pub known: Known<'a>,
+    pub known: KnownPlaces<'a>,
 }
 
 /// A column over a block whose vectors stand in one list: the vector of the first place, and then those of the others.
@@ -57,7 +57,7 @@ pub trait LaneInputs {
         ensures { lane_outcome (look self.now place col) ≡ answered_at (Err result) };
 
     /// What is known of the column at the place.
-    fn tell(&self, col: u32, place: u32) -> Input<'_>
+    fn tell(&self, col: u32, place: u32) -> ColumnInput<'_>
         requires can { can_tell self.now col }
         requires inside { place < size self.now }
         ensures { input_outcome col result ≡ look self.now place col };

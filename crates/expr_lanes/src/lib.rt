@@ -23,7 +23,7 @@ pub mod selection;
 pub use crate::able::can_eval_lane;
 pub use crate::evaluation::{Evaluation, eval_lane};
 pub use crate::folds::{Fold, FoldCall, fold_call};
-pub use crate::lane_inputs::{Known, LaneColumn, LaneInputs, LaneVectors};
+pub use crate::lane_inputs::{KnownPlaces, LaneColumn, LaneInputs, LaneVectors};
 pub use crate::parting::Stopped;
 pub use crate::scratch::{Scratch, is_deep_enough};
 pub use crate::selection::Selection;

@@ -10,7 +10,7 @@ use crate::columns::read_column;
 use crate::folds::{fold_call, fold_column};
 use crate::kernel::run;
 use crate::kernels::{Copied, Same, Side};
-use crate::lane_inputs::{Known, LaneInputs};
+use crate::lane_inputs::{KnownPlaces, LaneInputs};
 use crate::operators::combine_sides;
 use crate::parting::{Stopped, part, rejoin};
 use crate::scratch::Scratch;
@@ -173,8 +173,8 @@ fn side_at_hand<'a, S: LaneInputs + Calls>(node: &NumNode, scope: &'a S) -> Opti
         NumNode::Col(number) => {
             let column = scope.column(*number);
             match column.known {
-                Known::Everywhere => Some(Side::Lane(column.numbers)),
-                Known::Marked(_) => None,
+                KnownPlaces::Everywhere => Some(Side::Lane(column.numbers)),
+                KnownPlaces::Marked(_) => None,
             }
         }
         _ => None,

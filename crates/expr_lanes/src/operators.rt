@@ -5,7 +5,7 @@ ghost use Rattle.expr_lanes.specs.{EachPlace, Evaluated, HasNumber, side_number}
 
 use crate::MAX_PLACES;
 use crate::kernel::run;
-use crate::kernels::{Combined, Lane, Numbers, Same, Side};
+use crate::kernels::{Combined, LaneNumbers, PlaceNumbers, Same, Side};
 use crate::parting::Stopped;
 use crate::selection::Selection;
 use arrayvec::ArrayVec;
@@ -15,7 +15,7 @@ use rdf_values::BinOp;
 // kernel's operator is a constant in each arm.
 
 /// The operator between two numbers of each selected place.
-fn combine<A: Numbers, B: Numbers>(
+fn combine<A: PlaceNumbers, B: PlaceNumbers>(
     op: BinOp,
     left: A,
     right: B,
@@ -66,13 +66,13 @@ pub(crate) fn combine_sides(
             combine(op, Same(x), Same(y), selection, lane, stops)
         }
         (Side::Number(x), Side::Lane(ys)) => {
-            combine(op, Same(x), Lane(ys), selection, lane, stops)
+            combine(op, Same(x), LaneNumbers(ys), selection, lane, stops)
         }
         (Side::Lane(xs), Side::Number(y)) => {
-            combine(op, Lane(xs), Same(y), selection, lane, stops)
+            combine(op, LaneNumbers(xs), Same(y), selection, lane, stops)
         }
         (Side::Lane(xs), Side::Lane(ys)) => {
-            combine(op, Lane(xs), Lane(ys), selection, lane, stops)
+            combine(op, LaneNumbers(xs), LaneNumbers(ys), selection, lane, stops)
         }
     }
 }

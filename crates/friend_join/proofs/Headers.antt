@@ -1,5 +1,5 @@
 -- The header of two tables together.
-use Rattle.lemmas.proofs.{◌≡◌, ◌≤◌, ◌<◌, ◌+◌, ◌-◌, ℕ, zero, suc, Bool, true, false, ◌||◌, ◌&&◌, List, [], ◌∷◌, ◌++◌, length, refl, ap, ◌∙◌, sym, arith, None, Some, length-append, append-nil, append_assoc, cond, subst, not, position, slice_get, option_map, and_left, and_right, bytes_eq-Decides, false_from_ne_true, left_false, length-remove, or_from, position_from, position_from-zero, remove, right_false, slice_get_within}
+use Rattle.lemmas.proofs.{◌≡◌, ◌≤◌, ◌+◌, ◌-◌, ℕ, zero, suc, Bool, true, false, ◌||◌, ◌&&◌, List, [], ◌∷◌, ◌++◌, length, refl, ap, ◌∙◌, sym, arith, None, Some, length-append, append-nil, append_assoc, cond, subst, not, position, slice_get, option_map, and_left, and_right, bytes_eq-Decides, false_from_ne_true, left_false, length-remove, or_from, position_from, position_from-zero, remove, right_false, slice_get_within}
 use Rattle.rdf_values.specs.{AreColumns, ColType, Column, has_name, IsHeader, kind_at, same}
 use Rattle.friend_join.specs.{first_taken, has_column, is_int, is_key, is_taken, key_place}
 use Rattle.friend_join.proofs.Removing.{remove_nil}

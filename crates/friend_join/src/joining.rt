@@ -60,13 +60,8 @@ fn join_entries(
     requires header { IsHeader (main.columns ++ remove friend.columns other) }
     ensures { Answers JoinRefusal.At JoinRefusal.Memory (join_entries (keyed_in main own) (keyed_in friend other) missing) result }
 {
-    let Ok(mut others) = in_one_piece(alloc, friend.pieces) else {
-        return Err(JoinRefusal::Memory);
-    };
-    let matches = match matches_of(alloc, &main.pieces[own], others.remove(other)) {
-        Ok(matches) => matches,
-        Err(refusal) => return Err(refusal),
-    };
+    let mut others = in_one_piece(alloc, friend.pieces)?;
+    let matches = matches_of(alloc, &main.pieces[own], others.remove(other))?;
     let elements = elements(main.pieces.as_slice())
         + matched_elements(others.as_slice(), matches.as_slice());
     if elements > MOST_ELEMENTS {
@@ -74,10 +69,8 @@ fn join_entries(
     }
     let mut columns = friend.columns.into_vec();
     columns.remove(other);
-    match put_together(alloc, main, columns, others, matches.as_slice(), missing) {
-        Ok(table) => Ok(table),
-        Err(_) => Err(JoinRefusal::Memory),
-    }
+    let table = put_together(alloc, main, columns, others, matches.as_slice(), missing)?;
+    Ok(table)
 }
 
 /// Joins a friend's columns other than the key to a table, entry by entry, where the key is equal. An entry without a

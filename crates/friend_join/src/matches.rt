@@ -81,14 +81,8 @@ pub(crate) fn matches_of(
 {
     match (column, keys) {
         (ColumnPieces::Ints(pieces), Cells::Ints(keys)) => {
-            let keys = match numbered_keys(alloc, &keys) {
-                Ok(keys) => keys,
-                Err(refusal) => return Err(refusal),
-            };
-            match matches_in(alloc, &keys, pieces.as_slice()) {
-                Ok(matches) => Ok(matches),
-                Err(_) => Err(JoinRefusal::Memory),
-            }
+            let keys = numbered_keys(alloc, &keys)?;
+            Ok(matches_in(alloc, &keys, pieces.as_slice())?)
         }
         _ => unreachable!(),
     }

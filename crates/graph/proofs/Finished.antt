@@ -3,12 +3,12 @@ use Rattle.lemmas.proofs.{◌≡◌, ℕ, suc, ◌+◌, List, [], ◌∷◌, ◌
 use Rattle.rdf_values.specs.{ColType, Column, FunctionNames, makes, NamedTree, parent_of, Statement, IsShort, Line, named_before, AreAccepted, check_target, first_refusal, GraphCause, is_alias, is_visible, path, refuse_if, refuse_unless, scope_at, scope_of, variations, VaryValues, check, history, Scope, Script, verdict, verdict_after, Booked, bookings, IsBookable, IsHeader, result_depends, ActionAt, ActionKind, Booking, cells_of, check_columns, check_edges, check_node, check_passes, check_results, check_tags, check_values, columns_of, is_variation_name, over_passes, own_variations, passes_of, permitted_kinds, printed_results, repeats, results_named, same, takes_of, Variation, varied_passes, booked_by, kind_of, kind_or_int, refusal_in}
 use Rattle.rdf_values.specs.declared.scripts.statement.Statement.TheVariants.{Filter, Print, Action, Vary, Define, Redefine}
 use Rattle.expr_check.specs.{CheckedExpr}
-use Rattle.graph_numbers.specs.{filter_sites, list_sites, lists_sites, own_filter_site, own_sites, site_count as count_of_sites, SiteAt, sites, FilterAt, filters, own_filters, version_count, cell_versions, list_start, named_version, numbers_from, own_versions, varied_version, varied_versions, Version, version_at, version_kinds, versions, booked_unless, GraphView, booked, booked_statements, graph_results, graph_sources, graph_variations, holds_at, IsGraph, kind_of_booking, ResultAt, graph_filters, graph_sites, IsSiteExpr, result_depends_at, site_depends_at, own_results, own_kinds, site_in}
+use Rattle.graph_numbers.specs.{filter_sites, list_sites, lists_sites, own_filter_site, own_sites, site_count as count_of_sites, SiteAt, sites, FilterAt, filters, own_filters, version_count, cell_versions, list_start, named_version, numbers_from, own_versions, varied_version, varied_versions, Version, version_at, version_kinds, versions, booked_unless, GraphView, booked, booked_statements, graph_results, graph_sources, holds_at, IsGraph, kind_of_booking, ResultAt, graph_filters, graph_sites, IsSiteExpr, result_depends_at, site_depends_at, own_results, own_kinds, site_in}
 use Rattle.graph.specs.{AreSites, expression_total, filter_numbers, is_filter, IsSite, own_number, own_site_total, site_total, AreTables, labels, own_label, statements, AreAbove, IsAbove, GraphRefusal, refused_at, IsRefusal, refused, refused_then, AreLoops, AreRowsOf, AreSourcesOf, IsBooked, IsRow, IsRowOf, result_sets, view_of, filler_of, has, IsSet, paths, result_path, VarSet, action_set, any_has, AreRows, BeginsWith, Decides as Settles, depends_at, IsAmount, IsBookedRow, members_below, Numbers, printed_rows, row_passes, rows_named, all_expressions, AllCheckedAt, AreSets, changed_set, Gives, GrowBy, is_among_own, IsCheckedAt, IsEmptyGain, IsFilterGain, IsGain, IsMadeGain, IsRowGain, IsVaryGain, named_rows, own_result_sets, own_site_sets, own_version_sets, read_sets, site_set, value_expressions, varied_set, version_sets}
 use Rattle.graph_numbers.proofs.Placing.{list_count, sites_few, next_at, joined, only_at, versions_count}
 use Rattle.graph_numbers.proofs.Placing.{kind_count, visible_kind}
 use Rattle.graph.specs.declared.tables.Tables.{Tables}
-use Rattle.graph.proofs.Walking.{named_more, decided_last}
+use Rattle.graph.proofs.Walking.{named_more}
 use Rattle.rdf_values.specs.declared.scripts.statement.VaryValues.TheVariants.{Lists, Vector}
 use Rattle.rdf_model.proofs.Accepted.{both_none, checked_of, if_fails, no_target, unless_holds, visible_known, onto}
 use Rattle.rdf_values.specs.Answered.{Refuses}
@@ -17,7 +17,7 @@ use Rattle.graph_numbers.proofs.Covering.{booked_are}
 use Rattle.graph.specs.declared.tables.ResultRow.{ResultRow}
 use Rattle.graph.specs.declared.loops.LoopTables.{LoopTables}
 use Rattle.graph.proofs.Depending.{results_depend, site_set_count as sets_counted, sites_depend, action_is, known_at, result_is, tags_count}
-use Rattle.graph.proofs.Looped.{all_in_turn, bookings_few, in_bounds, loops_few, unwrapped, begins_further}
+use Rattle.graph.proofs.Looped.{bookings_few, in_bounds, loops_few, unwrapped, begins_further}
 use Rattle.graph.proofs.Listing.{zip_by, zip_at, row_set, set_at, zip_both, zip_first, sets_any, sets_at, sets_same, sites_read}
 use Rattle.graph_numbers.proofs.Origins.{version_source}
 use Rattle.graph.specs.declared.tables.ResultPath.{ResultPath}

@@ -1,6 +1,6 @@
 -- Steps of the look-ups that walk the statements so far.
 use Rattle.lemmas.proofs.{◌≡◌, ℕ, Bool, true, false, ◌||◌, List, [], ◌∷◌, ◌++◌, map, refl, sym, ◌∙◌, ap, arith, ◌+◌, if◌then◌else◌, length, zero, suc, ◌≤◌, Some, add-one, ◌<◌, Option, None, Result, Ok, Err, subst, nat_eq, All, IsOk, slice_get, get_or, take, drop, drop-cons, length-append, list_any, list_any-append, map-append, or_false, All-weaker, take-append-drop, take_more, append_assoc, slice_get_within}
-use Rattle.rdf_values.specs.{aliases, among, Booked, booked_by, Booking, bookings, ColType, column_kind, FunctionNames, is_alias, is_result, is_visible, is_watched, kind_or_int, Line, made_columns, names_of, Path, result_is, same, Scope, scope_at, Statement, target_of, visible_columns, watched_results, Column, makes, named_before, parent_of, path, begins, NamedTree, place, same_kind, check_list, check_lists, check_target, expect_kind, first_refusal, GraphCause, refusal_in, refuse_unless, callee, kind_of, renamed, scope_of, variations, VaryValues}
+use Rattle.rdf_values.specs.{aliases, among, Booked, booked_by, Booking, bookings, ColType, column_kind, FunctionNames, is_alias, is_result, is_visible, is_watched, kind_or_int, Line, made_columns, names_of, Path, result_is, same, Scope, scope_at, Statement, target_of, visible_columns, watched_results, Column, makes, named_before, parent_of, path, begins, NamedTree, place, same_kind, check_list, check_target, expect_kind, first_refusal, GraphCause, refusal_in, refuse_unless, callee, kind_of, renamed, scope_of, variations, VaryValues}
 use Rattle.rdf_values.specs.declared.scripts.statement.Statement.TheVariants.{Watch, Filter}
 use Rattle.rdf_model.proofs.Accepted.{itself, names_equal, place_within, visible_known, turned}
 use Rattle.graph.specs.{books, result_in, count_from, is_named, own_number, own_visible, statements, expression_total, Decides, IsStop, targets_at, AreKinds, IsCheckedAt, IsFound}

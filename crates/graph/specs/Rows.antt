@@ -1,5 +1,5 @@
 -- How many sites statements have, the numbers of their filters, and what is kept of columns, named filters, results and variations.
-use Rattle.std.specs.Prelude.{◌≡◌, ⊤, ◌<◌, slice_get, ℕ, ◌+◌, Bool, true, false, List, [], ◌∷◌, ◌++◌, length, if◌then◌else◌, zero, suc, map, Option, Some, None, option_to_list, ◌*◌, take, sum_by, filter, ◌≤◌}
+use Rattle.std.specs.Prelude.{◌≡◌, ⊤, ◌<◌, slice_get, ℕ, ◌+◌, Bool, true, false, List, [], ◌∷◌, ◌++◌, length, if◌then◌else◌, zero, suc, map, Option, Some, None, option_to_list, ◌*◌, take, sum_by, filter}
 use Rattle.rdf_values.specs.{Column, FunctionNames, makes, NamedTree, parent_of, same, Statement, Variation, bookings, has_variations, among, Booked, filled, is_result, names_of, place, result_depends, variations}
 use Rattle.rdf_values.specs.declared.scripts.statement.VaryValues.TheVariants.{Lists, Vector}
 use Rattle.rdf_values.specs.declared.scripts.statement.Statement.TheVariants.{Define, Redefine, Filter, Vary, Print, VariationsFor, Action, Report}

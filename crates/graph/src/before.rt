@@ -16,7 +16,7 @@ use crate::lookup::{
 };
 use crate::refusals::{Stop, first_of, refuse_if, refuse_unless};
 use crate::tables::Tables;
-use expr_check::{CheckRefusal, Checked, Columns, check};
+use expr_check::{CheckRefusal, Checked, ReadableColumns, check};
 use rdf_values::{ColType, Column, Expr, FnNames, GraphCause, Line, ListOf, Memory, Name};
 use std::alloc::Global;
 
@@ -171,7 +171,7 @@ struct At<'a> {
     node: &'a Name,
 }
 
-impl Columns for At<'_> {
+impl ReadableColumns for At<'_> {
     ghost use Rattle.graph.specs.{history, scope_before};
 
     ghost kind_named = { λ at name. column_kind (scope_before at.before.now at.node.now) name };

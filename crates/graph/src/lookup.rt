@@ -167,10 +167,10 @@ fn own_count(statement: &Statement) -> usize
     }
 }
 
-/// The version of a column at the node of a statement, after which there are so many.
+/// The version of a column at the node of a statement, before which there are so many.
 #[tactic(auto, using(crate::proofs::Walking::place_is))]
-fn own_version(statement: &Statement, first: usize, count: usize, name: &Name, over: usize) -> usize
-    requires { first + length (own_columns statement.now) ≡ count }
+fn own_version(statement: &Statement, first: usize, name: &Name, over: usize) -> usize
+    requires { first + length (own_columns statement.now) < 2 ^ 64 }
     ensures { result ≡ own_version statement.now first name.now over }
 {
     match statement {
@@ -202,13 +202,10 @@ pub fn named_version(
     let first = count - own_count(&last.statement);
     match made_from(&last.statement, node) {
         None => named_version(rest, header, first, node, name),
-        Some(parent) => own_version(
-            &last.statement,
-            first,
-            count,
-            name,
-            named_version(rest, header, first, parent, name),
-        ),
+        Some(parent) => {
+            let over = named_version(rest, header, first, parent, name);
+            own_version(&last.statement, first, name, over)
+        }
     }
 }
 
@@ -239,10 +236,10 @@ pub(crate) fn list_start(lists: &[ListOf<Expr>], i: usize) -> usize
     first.len() + list_start(rest, i - 1)
 }
 
-/// How many sites a statement has, at most so many.
+/// How many sites a statement has.
 #[tactic(auto, using(crate::proofs::Walking::all_lists))]
-pub fn own_site_total(statement: &Statement, most: usize) -> usize
-    requires { own_site_total statement.now ≤ most }
+fn own_site_total(statement: &Statement) -> usize
+    requires { own_site_total statement.now < 2 ^ 64 }
     ensures { result ≡ own_site_total statement.now }
 {
     match statement {
@@ -256,7 +253,7 @@ pub fn own_site_total(statement: &Statement, most: usize) -> usize
 }
 
 /// The sites of the filters above a node, head first, where there are so many sites.
-pub(crate) fn filter_sites(
+pub fn filter_sites(
     alloc: Global,
     before: &[Line],
     count: u32,
@@ -268,7 +265,7 @@ pub(crate) fn filter_sites(
     let Some((last, rest)) = before.split_first() else {
         return Ok(ListOf::new(alloc));
     };
-    let first = count - own_site_total(&last.statement, count as usize) as u32;
+    let first = count - own_site_total(&last.statement) as u32;
     match made_from(&last.statement, node) {
         None => filter_sites(alloc, rest, first, node),
         Some(parent) => {

@@ -1,15 +1,15 @@
 -- What a pass demands, as a set of sites: it has what is tried and read, and with each site those that its evaluation meets.
-use Rattle.lemmas.proofs.{◌≡◌, ℕ, List, [], ◌∷◌, Ok, refl, ap, slice_get, ◌<◌, ◌≤◌, length, Some, sym, ◌∙◌, subst, arith, ◌≢◌, Bool, true, false, nat_eq, if◌then◌else◌, filter, map, Option, None, ◌++◌, Decides-eqb, kept_at, length-append, length-map, mapped_at, append-nil}
-use Rattle.rdf_values.specs.{AreAccepted, ColType, Column, column_kind, fn_names, Function, parent_of, path, scope_at, scope_of, Statement, Under, Value, callee, EachColumn, renamed, shape_of, columns_in, same, Tree, aliases, check_target, first_refusal, FitsRow, FunctionNames, kind_or_int, made_columns, makes, place, target_of, visible_columns, ActionAt, ActionKind, columns_of, Booking, ReportOn}
-use Rattle.rdf_values.specs.declared.scripts.statement.Statement.TheVariants.{Define, Redefine, Vary, Filter, Action}
-use Rattle.rdf_model.specs.{◌>>=◌, column_demands, column_value, Demand, expression_value, named_demands, named_value, Outcome, site_demands, tag_demands, tag_element, tag_value, value_if, call_outcome, evaluate, named_call, Faults, Gives, is_met, is_need, IsKnown, Needs, untyped, without, Dataset, FitsOutcome, with_needs, booking_demands, demands_after, filter_demands, input_demands, met_columns, same_site, site_at, through, truth_of}
-use Rattle.graph_numbers.specs.{cell_value, site_outcome, Source, version_at, IsBelow, site_count, site_in, site_value, SiteAt, sites, source_in, source_value, sources, version_count, column_place, named_version, own_columns, own_kinds, own_version, version_kinds, version_or, filter_sites, HasFilters, HasInputs, HasSourceIn, IfGiven, IfPassed, meets, own_filter_site, through_sites, FilterAt, filters, ResultAt, results}
+use Rattle.lemmas.proofs.{◌≡◌, ℕ, List, [], ◌∷◌, Ok, refl, ap, slice_get, ◌<◌, ◌≤◌, length, Some, sym, ◌∙◌, subst, arith, ◌≢◌, Bool, true, false, nat_eq, if◌then◌else◌, filter, map, Option, None, ◌++◌, Decides-eqb, append-nil}
+use Rattle.rdf_values.specs.{AreAccepted, ColType, Column, column_kind, fn_names, Function, parent_of, path, scope_at, scope_of, Statement, Under, Value, callee, EachColumn, shape_of, columns_in, same, Tree, FitsRow, place, target_of, ActionAt, ActionKind, columns_of, Booking, ReportOn}
+use Rattle.rdf_values.specs.declared.scripts.statement.Statement.TheVariants.{Filter, Action}
+use Rattle.rdf_model.specs.{◌>>=◌, column_demands, column_value, Demand, Outcome, site_demands, call_outcome, evaluate, named_call, Faults, Gives, is_met, is_need, IsKnown, Needs, untyped, without, Dataset, FitsOutcome, with_needs, booking_demands, demands_after, filter_demands, input_demands, met_columns, same_site, site_at, through, truth_of}
+use Rattle.graph_numbers.specs.{Source, version_at, IsBelow, site_count, site_in, SiteAt, sites, source_in, sources, version_count, version_kinds, filter_sites, HasFilters, HasInputs, HasSourceIn, IfGiven, IfPassed, meets, own_filter_site, through_sites, FilterAt, filters, ResultAt, results}
 use Rattle.std.proofs.lemmas.Option.{get_or_from_slice_get, slice_get_within}
-use Rattle.rdf_model.proofs.Evaluations.{agrees, evaluate_renamed, evaluate_known, call_known}
-use Rattle.graph_numbers.proofs.Placing.{kind_later, visible_kind, Extends, source_kept, source_count, each_version, placed, by_test, next_at, place_gives, each_filter, each_result, kept, shorter, IsPlaced, demand_of, AreExplained, own_site, action_explained, filter_statement as filter_explained, filters_explained}
-use Rattle.rdf_model.proofs.Typing.{known_columns, each_weaker, IsKnownColumn, same_ok}
+use Rattle.rdf_model.proofs.Evaluations.{evaluate_renamed, evaluate_known, call_known}
+use Rattle.graph_numbers.proofs.Placing.{kind_later, visible_kind, Extends, source_kept, source_count, each_version, placed, by_test, each_filter, each_result, shorter, IsPlaced, demand_of, AreExplained, own_site, action_explained, filter_statement as filter_explained, filters_explained}
+use Rattle.rdf_model.proofs.Typing.{known_columns, each_weaker, IsKnownColumn}
 use Rattle.rdf_model.specs.Laws.{gives, faults, Alike}
-use Rattle.rdf_model.proofs.Accepted.{names_equal, itself, passed_over, checked_of, target_is_none, visible_resolved, sound_path, column_fits}
+use Rattle.rdf_model.proofs.Accepted.{names_equal, itself, column_fits}
 use Rattle.rdf_values.proofs.KeptLemmas.{In, here, there, each_of, each_at, all_columns, in_left, in_right}
 use Rattle.rdf_model.proofs.Missing.{named_alike, alike_is, call_alike}
 use Rattle.graph_numbers.proofs.Apart.{site_number}

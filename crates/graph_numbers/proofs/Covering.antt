@@ -4,12 +4,11 @@ use Rattle.rdf_values.specs.{ActionKind, AreAccepted, bookings, check_columns, c
 use Rattle.rdf_values.specs.declared.scripts.statement.Statement.TheVariants.{Filter, Action, Report, Print, Define}
 use Rattle.rdf_model.specs.{◌>>=◌, action_outcome, column_value, expression_value, feed_outcome, for_all, Gives, Outcome, site_at, Skip, through, truth_of, report_outcome, booking_outcome, Entry, Access, accesses, filled_by, loop_passes, loop_results, column_demands, Demand, named_demands, named_value, site_demands, tag_demands, tag_element, tag_value, value_if, call_outcome, evaluate, named_call}
 use Rattle.rdf_model.proofs.Accepted.{all_none}
-use Rattle.graph_numbers.specs.{filter_sites, own_filter_site, site_count, site_in, site_outcome, site_value, sites, through_sites, version_at, all_or, ActionsHaveSites, condition_of, conditions_on, covered_at, FilterAt, filters, FiltersAreTheScripts, FiltersHaveSites, filters_on, graph_sites, numbers_from, own_filter, own_filters, own_sites, report_numbers, ReportsCoverFilters, ResultAt, results, through_filter, booking_numbers, own_results, loops, numbered_pass, own_loop, own_run, Pass as NumberedPass, pass_at, passes_from, places_from, result_passes, runs, cell_value, Source, SiteAt, source_in, source_value, sources, meets}
-use Rattle.graph_numbers.proofs.Placing.{source_kept, source_count, each_version, by_test, next_at, each_filter, each_result, shorter, Extends, site_kept, itself, further, kept, placed}
+use Rattle.graph_numbers.specs.{filter_sites, own_filter_site, site_count, site_in, site_outcome, site_value, sites, through_sites, version_at, all_or, ActionsHaveSites, condition_of, conditions_on, covered_at, FilterAt, filters, FiltersAreTheScripts, FiltersHaveSites, filters_on, graph_sites, numbers_from, own_filter, own_filters, own_sites, report_numbers, ReportsCoverFilters, ResultAt, results, through_filter, booking_numbers, own_results, loops, numbered_pass, own_loop, own_run, Pass as NumberedPass, pass_at, passes_from, places_from, result_passes, runs, cell_value, Source, SiteAt, source_in, source_value, sources}
+use Rattle.graph_numbers.proofs.Placing.{by_test, next_at, each_filter, each_result, shorter, Extends, site_kept, itself, further, kept, placed}
 use Rattle.std.proofs.lemmas.Option.{get_or_from_slice_get}
 use Rattle.rdf_model.proofs.Evaluations.{agrees, evaluate_renamed}
 use Rattle.rdf_model.proofs.Typing.{known_columns, each_weaker, IsKnownColumn}
-use Rattle.rdf_model.specs.Laws.{gives}
 use Rattle.graph_numbers.proofs.Origins as origin
 
 -- ---- what a site comes to, by what its columns' versions come to; and that the sites of these have lower numbers: the version of a visible column is given by what gives the column its value at that node, and demands what reading the column demands

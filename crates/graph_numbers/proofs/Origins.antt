@@ -1,12 +1,12 @@
 -- The version of a visible column is given by what gives the column its value at that node.
-use Rattle.lemmas.proofs.{◌≡◌, ℕ, zero, suc, ◌+◌, ◌<◌, Bool, true, false, List, [], ◌∷◌, length, map, Option, Some, None, Ok, refl, sym, ◌∙◌, ap, subst, arith, nat_eq, slice_get, if◌then◌else◌, Decides-eqb, get_or_from_slice_get, kept_at, mapped_at, slice_get_within, something_at}
+use Rattle.lemmas.proofs.{◌≡◌, ℕ, zero, suc, ◌+◌, ◌<◌, Bool, true, false, List, [], ◌∷◌, length, map, Option, Some, None, Ok, refl, sym, ◌∙◌, ap, subst, arith, nat_eq, slice_get, if◌then◌else◌, Decides-eqb, get_or_from_slice_get, mapped_at, slice_get_within, something_at}
 use Rattle.rdf_values.specs.{aliases, AreAccepted, check_lists, check_target, check_values, ColType, Column, column_kind, first_refusal, FunctionNames, GraphCause, kind_or_int, made_columns, makes, NamedTree, parent_of, Path, path, place, refuse_unless, same, scope_at, scope_of, Statement, target_of, Under, Value, VaryValues, visible_columns, is_alias, is_visible, own_variations, refuse_if, Variation, variations}
 use Rattle.rdf_values.specs.declared.scripts.statement.Statement.TheVariants.{Define, Redefine, Vary}
 use Rattle.rdf_values.specs.declared.scripts.statement.VaryValues.TheVariants.{Lists, Vector}
 use Rattle.rdf_model.specs.{cell, expression_at, own_place, site_at, varied}
 use Rattle.rdf_model.proofs.Accepted.{both_none, unless_holds, passed_over, sound_path, checked_of, target_is_none, own_within, lists_kind, visible_resolved, all_none, if_fails, itself as same_as_itself, names_equal, no_target, visible_known}
-use Rattle.graph_numbers.specs.{cell_sources, cell_value, column_place, list_sites, list_start, lists_sites, named_version, own_sites, own_source, own_sources, own_version, site_count, site_in, SiteAt, sites, Source, source_in, sources, varied_sources, version_at, version_count, version_or, cell_versions, IsSourceOf, numbers_from, own_versions, tag_source, under_at, varied_version, varied_versions, Version, version_kinds, versions}
-use Rattle.graph_numbers.proofs.Placing.{kind_count, visible_kind, list_count, lists_site_at, by_test, next_at, place_gives, Extends, itself, further, site_kept, source_kept, source_count, kept, shorter, versions_count, joined}
+use Rattle.graph_numbers.specs.{cell_sources, cell_value, column_place, list_start, lists_sites, named_version, own_sites, own_source, own_sources, own_version, site_count, site_in, SiteAt, sites, Source, source_in, sources, varied_sources, version_at, version_count, version_or, cell_versions, IsSourceOf, numbers_from, own_versions, tag_source, under_at, varied_version, varied_versions, Version, version_kinds, versions}
+use Rattle.graph_numbers.proofs.Placing.{kind_count, visible_kind, lists_site_at, by_test, next_at, place_gives, Extends, itself, further, site_kept, source_kept, source_count, kept, shorter, versions_count, joined}
 use Rattle.graph_numbers.proofs.Apart.{variation_number}
 
 -- ---- the table's columns

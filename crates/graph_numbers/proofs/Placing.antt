@@ -1,9 +1,9 @@
 -- Where each site stands, and that a script that goes on keeps the numbers of what it booked before.
 use Rattle.lemmas.proofs.{◌≡◌, ◌⊎◌, inl, inr, ℕ, ◌+◌, Bool, true, false, List, [], ◌∷◌, ◌++◌, length, Some, sym, ap, arith, slice_get, zero-add, map, ◌<◌, ◌≤◌, length-append, suc, refl, zero, None, Ok, nat_eq, ◌*◌, ◌∙◌, Option, if◌then◌else◌, flat_map, AllByRecursion, append-nil, Decides-eqb, kept_at, length-map, mapped_at}
-use Rattle.rdf_values.specs.{place, same, ActionAt, ActionKind, Column, columns_of, covered, FunctionNames, NamedTree, path, ReportOn, Statement, parent_of, Under, VaryValues, AreAccepted, check, check_list, check_lists, check_vector_column, ColType, column_kind, EachColumn, expect_kind, first_refusal, GraphCause, kind_of, kind_or_int, refuse_unless, scope_at, scope_of, before, expression_count, IsShort, fn_names, Function, makes, target_of, Value, aliases, check_target, made_columns, visible_columns}
+use Rattle.rdf_values.specs.{place, same, ActionAt, ActionKind, Column, FunctionNames, NamedTree, path, Statement, parent_of, Under, VaryValues, AreAccepted, check, check_list, check_lists, check_vector_column, ColType, column_kind, EachColumn, expect_kind, first_refusal, GraphCause, kind_of, kind_or_int, refuse_unless, scope_at, scope_of, before, expression_count, IsShort, fn_names, Function, makes, target_of, Value, aliases, check_target, made_columns, visible_columns}
 use Rattle.rdf_model.proofs.Accepted.{names_equal, place_after, all_none, both_none, kind_known, kind_expected, unless_holds, checked_of, passed_over, target_is_none, visible_resolved, sound_path}
 use Rattle.rdf_values.specs.declared.scripts.statement.Statement.TheVariants.{Filter, Action, Report, Vary, Define, Redefine}
-use Rattle.graph_numbers.specs.{action_at, filter_at, report_at, covered_at, filter_sites, FilterAt, filters, own_filters, own_results, ResultAt, results, site_count, version_at, own_filter_site, cell_sources, cell_versions, own_columns, own_sites, own_sources, own_versions, SiteAt, sites, Source, sources, varied_sources, varied_versions, version_count, versions, list_sites, lists_sites, list_start, site_in, column_place, named_version, own_kinds, own_version, version_kinds, version_or}
+use Rattle.graph_numbers.specs.{action_at, filter_at, report_at, filter_sites, FilterAt, filters, own_filters, own_results, ResultAt, results, site_count, version_at, own_filter_site, cell_sources, cell_versions, own_columns, own_sites, own_sources, own_versions, SiteAt, sites, Source, sources, varied_sources, varied_versions, version_count, versions, list_sites, lists_sites, list_start, site_in, column_place, named_version, own_kinds, own_version, version_kinds, version_or}
 use Rattle.rdf_values.specs.declared.scripts.statement.VaryValues.TheVariants.{Lists, Vector}
 use Rattle.rdf_model.specs.{Site, site_at, booking_demands, column_demands, Demand, demands_after, expression_at, filter_demands, input_demands, met_columns, named_demands, Outcome, own_place, projected, site_demands, tag_demands, through, varied}
 pub use Rattle.rdf_model.proofs.Typing.{by_test}

@@ -1,5 +1,5 @@
 -- Joined loops are printed for the graph whose shapes their files have.
-use Rattle.lemmas.proofs.{◌≡◌, ℕ, zero, suc, ◌<◌, ◌≤◌, ◌+◌, Bool, cond, true, false, not, ◌&&◌, List, [], ◌∷◌, length, map, Option, None, Some, Result, Ok, refl, sym, ap, ◌∙◌, subst, arith, if◌then◌else◌, nat_lt, option_map, slice_get, unwrap_or, and_right, length-map, ltb-true, position_from, position_from-zero, slice_get-map}
+use Rattle.lemmas.proofs.{◌≡◌, ℕ, zero, suc, ◌<◌, ◌≤◌, ◌+◌, Bool, cond, true, false, not, List, [], ◌∷◌, length, map, Option, None, Some, Result, Ok, refl, sym, ap, ◌∙◌, subst, arith, if◌then◌else◌, nat_lt, option_map, slice_get, unwrap_or, and_right, length-map, ltb-true, position_from, position_from-zero, slice_get-map}
 use Rattle.std.specs.Prelude.{⊤}
 use Rattle.rdf_values.specs.{Booked, Fault}
 use Rattle.rdf_model.specs.{loop_passes, loop_results}

@@ -6,7 +6,7 @@ use Rattle.rdf_model.specs.{Outcome, Demand, projected, demanded, distinct, pass
 use Rattle.rdf_model.proofs.Analyses.{unvaried_site}
 use Rattle.graph_numbers.specs.{depends_on, graph_sites, graph_variations, GraphView, holds_at, site_outcome, SiteAt, under_at, site_depends_at, graph_sources, Source, source_in, graph_under, HasSourceIn, IsSiteExpr}
 use Rattle.graph_numbers.proofs.Placing.{by_test, AreExplained}
-use Rattle.loop_keys.specs.{key, key_count, keys_before, own_keys, slot, slot_at, slot_in, AreEach, AreKeys, AreUnder, IsRow, key_or_count, key_under, Place, place_of, Row, row_under, demand_key, HasAllKeys, IsClosed, IsJob, IsSourceIn, job_graph, JobView, keys_in, row_of, source_at, under_number, entry_demands, HasAllDemands, passes_in, CanLook, Grows, Held, held_count, held_in, is_held, IsFilled, IsRight, IsSiteOf, IsSound, OnlyIn, site_in}
+use Rattle.loop_keys.specs.{key, key_count, keys_before, own_keys, slot, slot_at, slot_in, AreEach, AreKeys, AreUnder, IsRow, key_or_count, key_under, ValuePlace, place_of, Row, row_under, demand_key, HasAllKeys, IsClosed, IsJob, IsSourceIn, job_graph, JobView, keys_in, row_of, source_at, under_number, entry_demands, HasAllDemands, passes_in, CanLook, Grows, Held, held_count, held_in, is_held, IsFilled, IsRight, IsSiteOf, IsSound, OnlyIn, site_in}
 use Rattle.graph.specs.{has, members_below, VarSet}
 use Rattle.loop_keys.proofs.EvaluateLaws.{more_each, read_each, any_in, at_in, in_any, each_in, in_flat, of_option, accepted_of}
 use Rattle.graph_numbers.proofs.Closing.{IsDemanded, closed}
@@ -180,8 +180,8 @@ module _ (g : GraphView) (u : Option ℕ) (keys : List ℕ) (all : AreUnder g u 
   place_found x = grind (arith, key_found)
 
   -- one more version
-  pub more_places : (n : ℕ) (ps : List Place) → AreEach (λ c p. p ≡ place_of (key_under g u) (source_in (graph_sources g u) c)) n ps → (x : Source) → slice_get (graph_sources g u) n ≡ Some x
-      → (p : Place) → p ≡ place_of (key_or_count keys count) x → (qs : List Place) → qs ≡ ps ++ p ∷ [] → AreEach (λ c q. q ≡ place_of (key_under g u) (source_in (graph_sources g u) c)) (n + 1) qs
+  pub more_places : (n : ℕ) (ps : List ValuePlace) → AreEach (λ c p. p ≡ place_of (key_under g u) (source_in (graph_sources g u) c)) n ps → (x : Source) → slice_get (graph_sources g u) n ≡ Some x
+      → (p : ValuePlace) → p ≡ place_of (key_or_count keys count) x → (qs : List ValuePlace) → qs ≡ ps ++ p ∷ [] → AreEach (λ c q. q ≡ place_of (key_under g u) (source_in (graph_sources g u) c)) (n + 1) qs
   more_places n ps each x at p e qs q =
       let h : p ≡ place_of (key_under g u) (source_in (graph_sources g u) n) = e ∙ place_found x ∙ ap (place_of (key_under g u)) (sym (get_or_from_slice_get (graph_sources g u) n x (Source.Cell 0) at)) in
       more_each (λ c r. r ≡ place_of (key_under g u) (source_in (graph_sources g u) c)) n ps each p qs h q

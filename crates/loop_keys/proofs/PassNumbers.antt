@@ -1,6 +1,6 @@
 -- The passes of a loop by their numbers: how many there are, what they come to and give to a tally.
 use Rattle.lemmas.proofs.{◌≡◌, ℕ, suc, ◌*◌, ◌<◌, ◌≤◌, ◌^◌, Bool, List, [], ◌∷◌, length, map, Option, Some, None, refl, arith, slice_get, unwrap_or, if◌then◌else◌, length-append, sym, ◌∙◌, ap, zero, ◌+◌, true, false, ◌++◌, take, ◌||◌, nat_eq, Contains, subst, All, flat_map, option_map, get_or, MatchOption, length-map, length-reverse, mul-le-mul, mul-le-mul_right, mapped_at, slice_get_within, append-nil, flat_map-append, take_next, cases_order, Contains-from_any, Decides-eqb, list_any, or_left, or_right, something_at, All-from_recursion, recursion_from_All, slice_get-get_or, take-length, same_Some}
-use Rattle.rdf_values.specs.{among, Booked, bookings, history, Script, Statement, variations, fn_names, Pass, Value, ActionAt, ActionKind, Booking, named_before, Path, AreAccepted, check, Column, Function, FunctionNames, makes, ReportOn, same, scope_of, path}
+use Rattle.rdf_values.specs.{Booked, bookings, history, Script, Statement, variations, fn_names, Pass, Value, ActionAt, ActionKind, Booking, named_before, Path, AreAccepted, check, Column, Function, FunctionNames, makes, ReportOn, same, scope_of, path}
 use Rattle.rdf_values.specs.declared.scripts.statement.Statement.TheVariants.{Print, Filter, Report}
 use Rattle.graph_numbers.specs.{booked_statements, graph_loops, graph_variations, GraphView, IsGraph, loops, own_loop, Pass as NumberedPass, passes_from, places_from, result_passes, booking_numbers, graph_filters, graph_results, graph_under, pass_at, ResultAt, FilterAt, filters, own_filters, results, filter_sites, through_sites, report_numbers, kind_of_booking, ResultKind}
 use Rattle.graph_numbers.proofs.Placing.{by_test, joined, itself, Extends, shorter, only_at, each_filter, each_result}

@@ -4,7 +4,7 @@ use Rattle.rdf_values.specs.{place, same_variation, Under, Variation}
 use Rattle.rdf_model.specs.{Demand, same_site}
 use Rattle.graph.specs.{has, members_below, VarSet}
 use Rattle.graph_numbers.specs.{depends_on, graph_sites, graph_sources, graph_variations, graph_versions, GraphView, holds_at, SiteAt, Source, source_in}
-use Rattle.loop_keys.specs.declared.rows.Place.{Place}
+use Rattle.loop_keys.specs.declared.rows.ValuePlace.{ValuePlace}
 use Rattle.loop_keys.specs.declared.rows.Row.{Row}
 
 -- how many keys a site has
@@ -69,17 +69,17 @@ abbrev pub key_under : GraphView → Option ℕ → ℕ → ℕ
 key_under g u s = key g s u
 
 -- where a version stands that this source gives its value
-abbrev pub place_of : (ℕ → ℕ) → Source → Place
-place_of key (Source.Cell col) = Place.Cell col
-place_of key (Source.Site s) = Place.Key (key s)
-place_of key (Source.Element s k tags) = Place.Element (key s) k tags
+abbrev pub place_of : (ℕ → ℕ) → Source → ValuePlace
+place_of key (Source.Cell col) = ValuePlace.Cell col
+place_of key (Source.Site s) = ValuePlace.Key (key s)
+place_of key (Source.Element s k tags) = ValuePlace.Element (key s) k tags
 
 -- the key of each site under nominal or a variation
 abbrev pub AreUnder : GraphView → Option ℕ → List ℕ → Type 0
 AreUnder g u ks = AreEach (λ s k. k ≡ key g s u) (length (graph_sites g)) ks
 
 -- where each version stands under nominal or a variation
-abbrev pub ArePlaces : GraphView → Option ℕ → List Place → Type 0
+abbrev pub ArePlaces : GraphView → Option ℕ → List ValuePlace → Type 0
 ArePlaces g u ps = AreEach (λ c p. p ≡ place_of (key_under g u) (source_in (graph_sources g u) c)) (length (graph_versions g)) ps
 
 pub record IsRow (g : GraphView) (u : Option ℕ) (r : Row) : Type 0 where

@@ -11,5 +11,5 @@ pub use Keys.{AreEach, AreKeys, ArePlaces, AreUnder, demand_key, IsRow, key, key
 pub use Turns.{AreReadable, CanAct, IsActionAt, actions_before, covered_in, covers_of, HasAllDemands, is_covering, IsReportPass, numbered_passes, pass_fault}
 pub use declared.reading.Held.{Held}
 pub use declared.job.Job.{Job}
-pub use declared.rows.Place.{Place}
+pub use declared.rows.ValuePlace.{ValuePlace}
 pub use declared.rows.Row.{Row}

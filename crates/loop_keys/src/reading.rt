@@ -5,7 +5,7 @@ ghost use Rattle.graph_numbers.specs.{graph_filters, graph_results, graph_sites,
 ghost use Rattle.loop_keys.specs.{Fits, IsRow, job_graph, job_of, key as key_of, key_count, key_under, place_of, source_at};
 
 use crate::job::Job;
-use crate::rows::{Place, Row};
+use crate::rows::{Row, ValuePlace};
 use expr_check::Checked;
 use graph_numbers::Source;
 use rdf_values::{EntryFault, IntList};
@@ -48,7 +48,7 @@ pub fn source_of(at: &Reading<'_>, version: u32) -> Source
 }
 
 /// Where the value of a version stands.
-pub fn place(at: &Reading<'_>, version: u32) -> Place
+pub fn place(at: &Reading<'_>, version: u32) -> ValuePlace
     requires row { IsRow (job_graph (job_of at.now.job.now)) at.now.under at.now.row.now }
     requires version { version < length (graph_versions (job_graph (job_of at.now.job.now))) }
     ensures { place_of (key_under (job_graph (job_of at.now.job.now)) at.now.under) (source_at (job_of at.now.job.now) at.now.under version) ≡ result }

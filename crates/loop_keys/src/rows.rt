@@ -10,7 +10,7 @@ use std::alloc::Global;
 /// Where the value of a version stands: in a column of the table, at a key, or at a key in a vector, as the element at the
 /// place of a tag among so many.
 #[derive(Clone, Copy, Debug)]
-pub enum Place {
+pub enum ValuePlace {
     Cell { col: u32 },
     Key { key: usize },
     Element { key: usize, place: u32, tags: u32 },
@@ -20,7 +20,7 @@ pub enum Place {
 #[derive(Drop)]
 pub struct Row {
     pub(crate) keys: ListOf<usize>,
-    pub(crate) places: ListOf<Place>,
+    pub(crate) places: ListOf<ValuePlace>,
 }
 
 /// The key of a site, or how many keys there are where there is no such site.
@@ -31,15 +31,15 @@ fn key_of(keys: &[usize], count: usize, site: u32) -> usize
 }
 
 /// Where a version stands that this source gives its value.
-fn place_of(keys: &[usize], count: usize, source: Source) -> Place
+fn place_of(keys: &[usize], count: usize, source: Source) -> ValuePlace
     ensures { result ≡ place_in (key_or_count keys.now count) source }
 {
     match source {
-        Source::Cell { col } => Place::Cell { col },
-        Source::Site { site } => Place::Key {
+        Source::Cell { col } => ValuePlace::Cell { col },
+        Source::Site { site } => ValuePlace::Key {
             key: key_of(keys, count, site),
         },
-        Source::Element { site, place, tags } => Place::Element {
+        Source::Element { site, place, tags } => ValuePlace::Element {
             key: key_of(keys, count, site),
             place,
             tags,
@@ -86,7 +86,7 @@ fn places_under(
     keys: &[usize],
     count: usize,
     under: Option<u32>,
-) -> Result<ListOf<Place>, Memory>
+) -> Result<ListOf<ValuePlace>, Memory>
     requires keys { AreUnder graph.now under keys.now }
     requires count { count ≡ key_count graph.now }
     ensures { IfOk result (λ ps. ArePlaces graph.now under ps) }
@@ -119,21 +119,4 @@ pub fn rows_of(alloc: Global, graph: &Graph) -> Result<(ListOf<Row>, usize), Mem
         rows.push(row)?;
     }
     Ok((rows, count))
-}
-
-/// The row of nominal or a variation. Under a variation that isn't there all is as under nominal.
-pub fn row_at<'a>(rows: &'a [Row], _graph: &Graph, under: Option<u32>) -> &'a Row
-    requires rows { AreKeys _graph.now rows.now }
-    ensures { IsRow _graph.now under result.now }
-{
-    let Some(v) = under else {
-        return &rows[0];
-    };
-    let place = v as usize + 1;
-    let count = rows.len();
-    if place < count {
-        &rows[place]
-    } else {
-        &rows[0]
-    }
 }

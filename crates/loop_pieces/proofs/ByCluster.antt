@@ -420,7 +420,7 @@ first_in-cons : (o : Option Fault) (os : List (Option Fault)) → first_in (o �
 first_in-cons o os = grind arith
 
 module _ (d : Dataset) (ps : List Pass) where
-  fault_from-append : (xs ys : List (List Value)) (e : ℕ) → first_fault_from d e (xs ++ ys) ps ≡ first_of (first_fault_from d e xs ps) (first_fault_from d (e + length xs) ys ps)
+  pub fault_from-append : (xs ys : List (List Value)) (e : ℕ) → first_fault_from d e (xs ++ ys) ps ≡ first_of (first_fault_from d e xs ps) (first_fault_from d (e + length xs) ys ps)
   fault_from-append [] ys e = let same : e ≡ e + 0 = omega arith in ap (λ k. first_fault_from d k ys ps) same
   fault_from-append (x ∷ xs) ys e =
       let same : (e + 1) + length xs ≡ e + suc (length xs) = omega arith in

@@ -9,5 +9,5 @@ mod told;
 mod values;
 
 pub use crate::laws::lines_print_their_passes;
-pub use crate::prints::{Merging, merged_text};
+pub use crate::prints::{MergedText, merged_text};
 pub use crate::told::put_result;

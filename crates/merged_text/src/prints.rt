@@ -13,7 +13,7 @@ use std::alloc::Global;
 
 /// What merged loops print, and whether one of them is faulty.
 #[derive(Drop)]
-pub struct Merging {
+pub struct MergedText {
     pub text: Text,
     pub faulted: bool,
 }
@@ -52,7 +52,7 @@ fn put_print(
 }
 
 /// What the Prints give over the loops of merged shards, up to the first one whose loop is faulty.
-pub fn merged_text(alloc: Global, graph: &Graph, loops: &[ShardLoop]) -> Result<Merging, Memory>
+pub fn merged_text(alloc: Global, graph: &Graph, loops: &[ShardLoop]) -> Result<MergedText, Memory>
     requires { FitGraph graph.now loops.now }
     ensures bytes { IfOk result (λ m. m.text ≡ (merged_text graph.now loops.now).bytes) }
     ensures status { IfOk result (λ m. (if m.faulted then 8 else 0) ≡ (merged_text graph.now loops.now).status) }
@@ -60,13 +60,13 @@ pub fn merged_text(alloc: Global, graph: &Graph, loops: &[ShardLoop]) -> Result<
     let mut text = Text::new(alloc);
     for print in 0..graph.prints() {
         if !put_print(alloc, &mut text, graph, loops, print)? {
-            return Ok(Merging {
+            return Ok(MergedText {
                 text,
                 faulted: true,
             });
         }
     }
-    Ok(Merging {
+    Ok(MergedText {
         text,
         faulted: false,
     })

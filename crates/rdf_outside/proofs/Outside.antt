@@ -11,7 +11,7 @@ use Rattle.std.proofs.lemmas.List.{take-append-drop, nil_from_length, drop-drop,
 use Rattle.rdf_outside.specs.{Appends, Joins, Reads, bytes_at, file_of, Finds, has_name, left_at, moved, ReadsFrom, Takes}
 use Rattle.rdf_outside.specs.declared.shelf.Failed.{Failed}
 use Rattle.rdf_outside.specs.declared.memory_shelf.MemoryFile.{MemoryFile}
-use Rattle.rdf_outside.specs.declared.memory_shelf.Place.{Place}
+use Rattle.rdf_outside.specs.declared.memory_shelf.ReadPlace.{ReadPlace}
 
 -- a struct without fields: what it owns does not read its name
 abbrev pub plain_none : RattleType
@@ -112,13 +112,13 @@ drop_min bs k top h =
     (λ (gt : top ≤ k). drop_of_length-le bs (let e : length bs ≤ min k top = omega arith in e) ∙ sym (drop_of_length-le bs (let e : length bs ≤ k = omega arith in e)))
     (cases_lt k top)
 
-pub left_moved : (fs : List MemoryFile) (place : Option Place) (n : ℕ) → left_at fs (moved place n) ≡ drop n (left_at fs place)
+pub left_moved : (fs : List MemoryFile) (place : Option ReadPlace) (n : ℕ) → left_at fs (moved place n) ≡ drop n (left_at fs place)
 left_moved fs None n = sym (drop_of_length-le [] (omega arith))
 left_moved fs (Some p) n =
     let fits = bytes_fit fs p.file in
     drop_min (bytes_at fs p.file) (p.read + n) (2 ^ 64 - 1) (omega arith) ∙ sym (drop-drop n p.read (bytes_at fs p.file))
 
-pub left_is : (fs : List MemoryFile) (place : Option Place) (p : Place) (bs : List ℕ) → place ≡ Some p → bytes_at fs p.file ≡ bs → left_at fs place ≡ drop p.read bs
+pub left_is : (fs : List MemoryFile) (place : Option ReadPlace) (p : ReadPlace) (bs : List ℕ) → place ≡ Some p → bytes_at fs p.file ≡ bs → left_at fs place ≡ drop p.read bs
 left_is fs place p bs e b = rw (e, b) refl
 
 take_front : (n : ℕ) (xs ys : List ℕ) → length xs ≡ n → take n (xs ++ ys) ≡ xs
@@ -139,10 +139,10 @@ takes left after n m buf buf' e a b =
       },
     )
 
-pub none_left : (fs : List MemoryFile) (place : Option Place) (p : Place) (bs : List ℕ) → place ≡ Some p → bytes_at fs p.file ≡ bs → length bs ≤ p.read → ◌≡◌ {A = List ℕ} [] (left_at fs place)
+pub none_left : (fs : List MemoryFile) (place : Option ReadPlace) (p : ReadPlace) (bs : List ℕ) → place ≡ Some p → bytes_at fs p.file ≡ bs → length bs ≤ p.read → ◌≡◌ {A = List ℕ} [] (left_at fs place)
 none_left fs place p bs e b h = sym (left_is fs place p bs e b ∙ drop_of_length-le bs h)
 
-pub some_left : (fs : List MemoryFile) (place : Option Place) (p : Place) (bs slice : List ℕ) (n : ℕ) → place ≡ Some p → bytes_at fs p.file ≡ bs → slice ≡ bs → n ≡ min p.read (length slice) → take (length slice - n) (drop n slice) ≡ left_at fs place
+pub some_left : (fs : List MemoryFile) (place : Option ReadPlace) (p : ReadPlace) (bs slice : List ℕ) (n : ℕ) → place ≡ Some p → bytes_at fs p.file ≡ bs → slice ≡ bs → n ≡ min p.read (length slice) → take (length slice - n) (drop n slice) ≡ left_at fs place
 some_left fs place p bs slice n e b s m =
     rw (left_is fs place p bs e b, m, s)
     (take_all (length bs - min p.read (length bs)) (drop (min p.read (length bs)) bs) (simp length-drop (omega arith)) ∙ drop_min bs p.read (length bs) (omega arith))

@@ -5,7 +5,7 @@ use Rattle.rdf_outside.specs.declared.call_list.CallList.{CallList}
 use Rattle.std.specs.Cmp.Lexicographic.{pointwise}
 use Rattle.rdf_outside.specs.declared.memory_shelf.MemoryFile.{MemoryFile}
 use Rattle.rdf_outside.specs.declared.memory_shelf.MemoryShelf.{MemoryShelf}
-use Rattle.rdf_outside.specs.declared.memory_shelf.Place.{Place}
+use Rattle.rdf_outside.specs.declared.memory_shelf.ReadPlace.{ReadPlace}
 use Rattle.rdf_outside.specs.declared.shelf.TurnStop.{TurnStop}
 use Rattle.rdf_outside.specs.declared.shelf.TurnStop.TheVariants.{Failed}
 
@@ -43,12 +43,12 @@ bytes_at (f ∷ fs) zero = f.bytes.items
 bytes_at (f ∷ fs) (suc i) = bytes_at fs i
 
 -- what is not yet read of the file turned to; nothing where there is none
-abbrev pub left_at : List MemoryFile → Option Place → List ℕ
+abbrev pub left_at : List MemoryFile → Option ReadPlace → List ℕ
 left_at files None = []
 left_at files (Some p) = drop p.read (bytes_at files p.file)
 
 -- the place after so many more bytes
-abbrev pub moved : Option Place → ℕ → Option Place
+abbrev pub moved : Option ReadPlace → ℕ → Option ReadPlace
 moved None n = None
 moved (Some p) n = Some record { file = p.file; read = min (p.read + n) (2 ^ 64 - 1) }
 

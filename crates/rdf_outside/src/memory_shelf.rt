@@ -16,7 +16,7 @@ struct MemoryFile {
 
 // The file turned to, and how many of its bytes were read.
 #[derive(Clone, Copy, Debug)]
-struct Place {
+struct ReadPlace {
     file: usize,
     read: usize,
 }
@@ -26,7 +26,7 @@ struct Place {
 pub struct MemoryShelf {
     alloc: Global,
     items: Vec<MemoryFile>,
-    turned: Option<Place>,
+    turned: Option<ReadPlace>,
     is_lost: bool,
     calls: CallList,
     faults: u64,
@@ -95,7 +95,7 @@ fn find(items: &[MemoryFile], name: &[u8]) -> Option<usize>
 }
 
 // What is left of the file at a place.
-fn rest_at(items: &[MemoryFile], place: Option<Place>) -> &[u8]
+fn rest_at(items: &[MemoryFile], place: Option<ReadPlace>) -> &[u8]
     ensures { result.now ≡ left_at items.now place }
 {
     let Some(place) = place else {
@@ -108,12 +108,12 @@ fn rest_at(items: &[MemoryFile], place: Option<Place>) -> &[u8]
     &bytes[place.read.min(bytes.len())..]
 }
 
-fn further(place: Option<Place>, count: usize) -> Option<Place>
+fn further(place: Option<ReadPlace>, count: usize) -> Option<ReadPlace>
     ensures { result ≡ moved place count }
 {
-    let Place { file, read } = place?;
+    let ReadPlace { file, read } = place?;
     let read = read.saturating_add(count);
-    Some(Place { file, read })
+    Some(ReadPlace { file, read })
 }
 
 impl Shelf for MemoryShelf {
@@ -148,7 +148,7 @@ impl Shelf for MemoryShelf {
         match find(&self.items, name) {
             None => Ok(false),
             Some(file) => {
-                self.turned = Some(Place { file, read: 0 });
+                self.turned = Some(ReadPlace { file, read: 0 });
                 Ok(true)
             }
         }

@@ -15,7 +15,7 @@ use Rattle.table_csv.specs.{columns_over, csv_records, marked_in, MarkedPieces}
 use Rattle.input_files.specs.declared.refuse.FileCause.TheVariants.{TableRefused}
 use Rattle.rdf_program.specs.declared.answer.Read.{Read}
 use Rattle.rdf_program.specs.declared.answer.Read.TheVariants.{Whole, Refused}
-use Rattle.rdf_program.specs.declared.means.Settings.{Settings}
+use Rattle.rdf_program.specs.declared.means.LoopSettings.{LoopSettings}
 
 -- the words ask for a run
 abbrev pub AreTaken : List (List ℕ) → Type 0
@@ -157,7 +157,7 @@ abbrev pub TurnsBesides : List (List ℕ) → Option Files → List (List ℕ) �
 TurnsBesides words told before after = (turns : List (List ℕ)) × (after ≡ before ++ turns) × AreTurns words told turns
 
 -- the settings are within their limits
-pub record AreSettings (s : Settings) : Type 0 where
+pub record AreSettings (s : LoopSettings) : Type 0 where
   pub some_slots : 0 < s.slots
   pub few_slots : s.slots ≤ 16
   pub cluster : 1 ≤ s.cluster

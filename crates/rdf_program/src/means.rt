@@ -8,13 +8,13 @@ pub(crate) struct Means<'a, R, G> {
     pub(crate) rt: &'a R,
     pub(crate) alloc: Global,
     pub(crate) functions: &'a FnList,
-    pub(crate) settings: Settings,
+    pub(crate) settings: LoopSettings,
     pub(crate) gate: &'a G,
 }
 
 /// So many slots over clusters of at most `cluster` entries; watched results are noted after every `watch`-th cluster.
 #[derive(Clone, Copy)]
-pub(crate) struct Settings {
+pub(crate) struct LoopSettings {
     pub(crate) slots: u32,
     pub(crate) cluster: u32,
     pub(crate) watch: u32,

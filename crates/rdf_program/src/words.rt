@@ -5,7 +5,7 @@ ghost use Rattle.rdf_program.specs.{AnswersWords, TurnsBesides};
 
 use crate::answer::Answer;
 use crate::input::{answer_files, answer_made};
-use crate::means::{Means, Settings};
+use crate::means::{LoopSettings, Means};
 use crate::status::Status;
 use command_words::{Input, read_command};
 use entry_fns::FnList;
@@ -29,7 +29,7 @@ pub(crate) fn answer_words<R: Threads + Sync, S: Shelf, G: Gate>(
     let Some(command) = read_command(alloc, words)? else {
         return Answer::refused(alloc, Status::Words, &Refusal::Words);
     };
-    let settings = Settings {
+    let settings = LoopSettings {
         slots: command.slots,
         cluster: command.cluster,
         watch: command.watch,

@@ -5,7 +5,7 @@ ghost use Rattle.std.specs.Prelude.{◌≡◌, length};
 ghost use Rattle.entry_fns.specs.{clampto_of, hyp2_of, square_of};
 
 use entry_fns::shipped::{Clampto, Hyp2, Square};
-use entry_fns::{Closure, FnList, Stored};
+use entry_fns::{Closure, FnList, StoredFn};
 use rdf_outside::{DirShelf, Host, OpenGate, StdSink, WordList};
 use rdf_values::{Memory, Name};
 use snapshot_due::SnapshotStatus;
@@ -80,9 +80,9 @@ fn main(rt: HostRuntime) -> ExitCode {
     };
     let mut functions = FnList::new(alloc);
     for (name, function) in [
-        (b"square".as_slice(), Stored::new::<Square>(square)),
-        (b"hyp2".as_slice(), Stored::new::<Hyp2>(hyp2)),
-        (b"clampto".as_slice(), Stored::new::<Clampto>(clampto)),
+        (b"square".as_slice(), StoredFn::new::<Square>(square)),
+        (b"hyp2".as_slice(), StoredFn::new::<Hyp2>(hyp2)),
+        (b"clampto".as_slice(), StoredFn::new::<Clampto>(clampto)),
     ] {
         let Ok(name) = name_of(alloc, name) else {
             return no_memory();

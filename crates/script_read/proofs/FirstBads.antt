@@ -1,6 +1,6 @@
 -- Refusals of the first bad string of several.
-use Rattle.lemmas.proofs.{◌≡◌, ◌∙◌, ℕ, List, [], ◌∷◌, ◌++◌, ap, Result, IfErr, err_from_is_err_and, IsErrAnd}
-use Rattle.rdf_values.specs.{AName, AnExpression, AnOperation, AreNames, begin_expr, begin_values, FirstBad, here, is_name, IsBad, IsName, later, LineRefusal, more_names, NamedTree, no_names, operation_text, QuotedText, Reads, ReadsText, ReadsValues, ReadsValuesText, ReduceOp, SomeValues, VaryValues, wanted_names}
+use Rattle.lemmas.proofs.{◌≡◌, List, [], ◌∷◌, ◌++◌, Result, IfErr, err_from_is_err_and, IsErrAnd}
+use Rattle.rdf_values.specs.{AnExpression, begin_expr, begin_values, FirstBad, here, IsBad, later, LineRefusal, NamedTree, QuotedText, Reads, ReadsText, ReadsValues, ReadsValuesText, SomeValues, VaryValues}
 use Rattle.rdf_values.specs.scripts.Statements.{Wanted}
 use Rattle.rdf_values.specs.scripts.Statements as st
 use Rattle.rdf_values.proofs.OneScript.{IsGood, AreGood, no_strings, more_strings, good_name, good_operation, good_names}

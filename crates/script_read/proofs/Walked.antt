@@ -1,8 +1,8 @@
 -- Steps of the walk over tokens.
 use Rattle.rdf_values.proofs.OneScript.{good_name}
-use Rattle.lemmas.proofs.{arith, ◌≡◌, ◌∙◌, ℕ, ℤ, List, [], ◌∷◌, ◌++◌, Option, Some, None, Bool, true, false, refl, sym, ap, subst, if◌then◌else◌, append_assoc, codes, not, ◌||◌, ◌≤◌, length, ◌<◌, ◌+◌, map, get_or, drop, pos, option_map, suc, take, Ok, slice_get, ◌==◌, both_true}
+use Rattle.lemmas.proofs.{arith, ◌≡◌, ◌∙◌, ℕ, ℤ, List, [], ◌∷◌, ◌++◌, Option, Some, None, Bool, true, false, refl, sym, ap, subst, if◌then◌else◌, append_assoc, codes, not, ◌||◌, ◌≤◌, length, ◌<◌, ◌+◌, map, get_or, drop, pos, option_map, take, Ok, slice_get, ◌==◌, both_true}
 use Rattle.rdf_values.specs.{bare_tokens, is_free, LineToken, PlacedToken, maybe_string, more_edges, more_strings, QuotedText, arguments, edges_tokens, Form, form_tokens, has_free_names, Method, method_word, same, Strings, strings_tokens, at_end, at_scan, at_token, continued, ending, OpenMark, Placed as ExprPlaced, Refusal, Refused, scan, scan_step, ScanState, Token as ExprToken, all_strings, AreNames, IsName, ReadsValuesText, Says, Statement, VaryValues, FirstBad, more_names, no_names, wanted_names, BeginsLine, IsForm, line_tokens, RefusesLine, StopsAt}
-use Rattle.script_read.specs.{ALine, AMark, AMethod, ANumber, AString, AWord, Begins, BeginsNot, is_mark, IsStuck, Mark, mark_token, MaybeString, MoreEdges, MoreStrings, next, one_string_wants, Quoted, strings_wants, Token, token_of, Took, variation_wants, VaryArguments, walk, walk_on, walk_placed, Want, ActionName, arguments_wants, asked_form, asking_wants, booking_wants, edges_wants, method_wants, MethodName, name_of, name_word, TookArguments, TookBooking, TookForm, all_names, IsNamed, LineStop, named, quoted_of, RefusedFor, StandsWithin, Done, WalkEnd, place_from, placed_of, StuckAt}
+use Rattle.script_read.specs.{ALine, AMark, AMethod, ANumber, AString, AWord, Begins, BeginsNot, is_mark, IsStuck, FormMark, mark_token, MaybeString, MoreEdges, MoreStrings, next, one_string_wants, Quoted, strings_wants, FormToken, token_of, Took, variation_wants, VaryArguments, walk, walk_on, walk_placed, Want, ActionName, arguments_wants, asked_form, asking_wants, booking_wants, edges_wants, method_wants, MethodName, name_of, name_word, TookArguments, TookBooking, TookForm, all_names, IsNamed, LineStop, named, quoted_of, RefusedFor, StandsWithin, Done, WalkEnd, place_from, placed_of, StuckAt}
 use Rattle.script_read.specs.declared.form.Word.{Word}
 use Rattle.std.proofs.Math.Seq.{take-append_seam, take-append-add}
 use Rattle.std.proofs.lemmas.List.{append-nil, drop_more, drop_all, length-map, map-append}
@@ -12,7 +12,7 @@ use Rattle.rdf_values.specs.expressions.Scans.{Wanted, Refuses}
 use Rattle.expr_read.specs.{ExprRefusal, RefusesTextAs}
 use Rattle.expr_read.proofs.TokenSteps.{StandBelow, no_tokens, more_tokens, all_fine}
 use Rattle.script_read.proofs.FirstBads.{refused_later}
-use Rattle.script_read.specs.declared.form.Placed.{Placed}
+use Rattle.script_read.specs.declared.form.TokenAt.{TokenAt}
 use Rattle.rdf_values.specs.scripts.LineTokens as t
 use Rattle.rdf_values.specs.scripts.LineForms as form
 use Rattle.rdf_values.specs.scripts.Statements as st
@@ -42,20 +42,20 @@ stuck_token w old b e k = rw (b.is, e) refl
 
 -- ---- marks
 
-mark_next : (m : Mark) → next (AMark m) (mark_token m) ≡ Some []
+mark_next : (m : FormMark) → next (AMark m) (mark_token m) ≡ Some []
 mark_next m = grind arith
 
-no_mark_next : (m : Mark) (t : LineToken) → (t ≡ mark_token m → ⊥) → next (AMark m) t ≡ None
+no_mark_next : (m : FormMark) (t : LineToken) → (t ≡ mark_token m → ⊥) → next (AMark m) t ≡ None
 no_mark_next m t isnt = grind arith
 
 -- the first token isn't this one
 pub first_is_not : (t u : LineToken) (old new : List PlacedToken) → BeginsNot t old → Begins u old new → u ≡ t → ⊥
 first_is_not t u old new isnt b e = isnt new (record { place = b.place; is = b.is ∙ ap (λ (k : LineToken). record { token = k; place = b.place } ∷ new) e })
 
-pub took_mark : {old new : List PlacedToken} → (m : Mark) → Begins (mark_token m) old new → Took (AMark m ∷ []) (mark_token m ∷ []) old new
+pub took_mark : {old new : List PlacedToken} → (m : FormMark) → Begins (mark_token m) old new → Took (AMark m ∷ []) (mark_token m ∷ []) old new
 took_mark m b = took_one (AMark m) b (mark_next m)
 
-pub stuck_mark : {old new : List PlacedToken} → (m : Mark) → new ≡ old → BeginsNot (mark_token m) old → IsStuck (AMark m ∷ []) old new
+pub stuck_mark : {old new : List PlacedToken} → (m : FormMark) → new ≡ old → BeginsNot (mark_token m) old → IsStuck (AMark m ∷ []) old new
 stuck_mark {old} {new} m e isnt =
     subst (λ (x : List PlacedToken). IsStuck (AMark m ∷ []) old x) (sym e)
     (stuck_none (AMark m) old (λ t rest b. no_mark_next m t (first_is_not (mark_token m) t old rest isnt b)))
@@ -78,21 +78,21 @@ same_first b c = let e = ap first_token (sym b.is ∙ c.is) in cc e
 
 -- ---- tokens that can't stand there
 
-pub no_string : (t : Token) → ((q : Quoted) → t ≡ Token.Quoted q → ⊥) → next AString (token_of t) ≡ None
+pub no_string : (t : FormToken) → ((q : Quoted) → t ≡ FormToken.Quoted q → ⊥) → next AString (token_of t) ≡ None
 no_string t isnt = grind arith
 
-pub no_number : (t : Token) → ((z : ℤ) → t ≡ Token.Number z → ⊥) → next ANumber (token_of t) ≡ None
+pub no_number : (t : FormToken) → ((z : ℤ) → t ≡ FormToken.Number z → ⊥) → next ANumber (token_of t) ≡ None
 no_number t isnt = grind arith
 
 -- no word stands there
-pub no_word : (t : Token) → ((x : Word) → t ≡ Token.Word x → ⊥) → (next AWord (token_of t) ≡ None) × (next AMethod (token_of t) ≡ None) × (next ALine (token_of t) ≡ None)
+pub no_word : (t : FormToken) → ((x : Word) → t ≡ FormToken.Word x → ⊥) → (next AWord (token_of t) ≡ None) × (next AMethod (token_of t) ≡ None) × (next ALine (token_of t) ≡ None)
 no_word t isnt = grind arith
 
 pub is_name_next : (x : List ℕ) → is_free x ≡ true → next AWord (t.Word x) ≡ Some []
 is_name_next x f = rw f refl
 
 -- a name that is one of the words that begin other lines
-pub not_free : (t : Token) (x : Word) → t ≡ Token.Word x → false ≡ is_free x.bytes.now → next AWord (token_of t) ≡ None
+pub not_free : (t : FormToken) (x : Word) → t ≡ FormToken.Word x → false ≡ is_free x.bytes.now → next AWord (token_of t) ≡ None
 not_free t x e f = rw (e, sym f) refl
 
 -- ---- what is wanted like a mark
@@ -101,7 +101,7 @@ instead_on : (b : Bool) (p : PlacedToken) (ps : List PlacedToken) (ws k : List W
     → walk_on (p ∷ ps) (if b then Some ws else None) (λ vs. walk (λ (q : PlacedToken). q.token) ps (vs ++ k)) ≡ walk_on (p ∷ ps) (if b then Some [] else None) (λ vs. walk (λ (q : PlacedToken). q.token) ps (vs ++ (ws ++ k)))
 instead_on b p ps ws k = grind arith
 
-instead : (w : Want) (m : Mark) (ws : List Want) (old : List PlacedToken) (k : List Want) → ((t : LineToken) (new : List PlacedToken) → Begins t old new → next w t ≡ (if is_mark m t then Some ws else None))
+instead : (w : Want) (m : FormMark) (ws : List Want) (old : List PlacedToken) (k : List Want) → ((t : LineToken) (new : List PlacedToken) → Begins t old new → next w t ≡ (if is_mark m t then Some ws else None))
     → walk_placed old (w ∷ k) ≡ walk_placed old (AMark m ∷ (ws ++ k))
 unfolding walk_placed
 instead w m ws [] k h = refl
@@ -109,7 +109,7 @@ instead w m ws (p ∷ ps) k h =
     let e = h p.token ps (record { place = p.place; is = refl }) in
     rw e (instead_on (is_mark m p.token) p ps ws k)
 
-close_next : (u : LineToken) → (u ≡ t.Comma → ⊥) → next MaybeString u ≡ (if is_mark Mark.Close u then Some [] else None)
+close_next : (u : LineToken) → (u ≡ t.Comma → ⊥) → next MaybeString u ≡ (if is_mark FormMark.Close u then Some [] else None)
 close_next u isnt = grind arith
 
 -- what is wanted for an item of a list, and behind it
@@ -121,38 +121,38 @@ pub next_item : {item more : Want} → IsList item more → next more t.Comma �
 next_item a_string = refl
 next_item an_edge = refl
 
-list_next : {item more : Want} (u : LineToken) → IsList item more → (u ≡ t.Comma → ⊥) → next more u ≡ (if is_mark Mark.CloseBracket u then Some [] else None)
+list_next : {item more : Want} (u : LineToken) → IsList item more → (u ≡ t.Comma → ⊥) → next more u ≡ (if is_mark FormMark.CloseBracket u then Some [] else None)
 list_next u a_string isnt = grind arith
 list_next u an_edge isnt = grind arith
 
-vary_next : (t : Token) → ((q : Quoted) → t ≡ Token.Quoted q → ⊥)
-    → next VaryArguments (token_of t) ≡ (if is_mark Mark.OpenBracket (token_of t) then Some (AString ∷ MoreStrings ∷ (variation_wants ++ AMark Mark.Comma ∷ one_string_wants)) else None)
+vary_next : (t : FormToken) → ((q : Quoted) → t ≡ FormToken.Quoted q → ⊥)
+    → next VaryArguments (token_of t) ≡ (if is_mark FormMark.OpenBracket (token_of t) then Some (AString ∷ MoreStrings ∷ (variation_wants ++ AMark FormMark.Comma ∷ one_string_wants)) else None)
 vary_next t isnt = grind arith
 
 -- without a comma the call ends
-pub close_wanted : (old : List PlacedToken) (k : List Want) → BeginsNot t.Comma old → walk_placed old (MaybeString ∷ k) ≡ walk_placed old (AMark Mark.Close ∷ k)
-close_wanted old k isnt = instead MaybeString Mark.Close [] old k (λ u new b. close_next u (first_is_not t.Comma u old new isnt b))
+pub close_wanted : (old : List PlacedToken) (k : List Want) → BeginsNot t.Comma old → walk_placed old (MaybeString ∷ k) ≡ walk_placed old (AMark FormMark.Close ∷ k)
+close_wanted old k isnt = instead MaybeString FormMark.Close [] old k (λ u new b. close_next u (first_is_not t.Comma u old new isnt b))
 
 -- without a comma the list ends
-pub list_end : {item more : Want} (old : List PlacedToken) (k : List Want) → IsList item more → BeginsNot t.Comma old → walk_placed old (more ∷ k) ≡ walk_placed old (AMark Mark.CloseBracket ∷ k)
-list_end {more = more} old k l isnt = instead more Mark.CloseBracket [] old k (λ u new b. list_next u l (first_is_not t.Comma u old new isnt b))
+pub list_end : {item more : Want} (old : List PlacedToken) (k : List Want) → IsList item more → BeginsNot t.Comma old → walk_placed old (more ∷ k) ≡ walk_placed old (AMark FormMark.CloseBracket ∷ k)
+list_end {more = more} old k l isnt = instead more FormMark.CloseBracket [] old k (λ u new b. list_next u l (first_is_not t.Comma u old new isnt b))
 
 -- a variation begins with a list of columns unless with a string
-pub columns_wanted : {s : Token} {seen : List PlacedToken} → (old : List PlacedToken) (k : List Want) → Begins (token_of s) old seen → ((q : Quoted) → s ≡ Token.Quoted q → ⊥)
-    → walk_placed old (VaryArguments ∷ k) ≡ walk_placed old (strings_wants ++ ((variation_wants ++ AMark Mark.Comma ∷ one_string_wants) ++ k))
+pub columns_wanted : {s : FormToken} {seen : List PlacedToken} → (old : List PlacedToken) (k : List Want) → Begins (token_of s) old seen → ((q : Quoted) → s ≡ FormToken.Quoted q → ⊥)
+    → walk_placed old (VaryArguments ∷ k) ≡ walk_placed old (strings_wants ++ ((variation_wants ++ AMark FormMark.Comma ∷ one_string_wants) ++ k))
 columns_wanted {s} {seen} old k b isnt =
-    instead VaryArguments Mark.OpenBracket (AString ∷ MoreStrings ∷ (variation_wants ++ AMark Mark.Comma ∷ one_string_wants)) old k (λ u new c. let e = same_first b c in rw (sym e) (vary_next s isnt))
+    instead VaryArguments FormMark.OpenBracket (AString ∷ MoreStrings ∷ (variation_wants ++ AMark FormMark.Comma ∷ one_string_wants)) old k (λ u new c. let e = same_first b c in rw (sym e) (vary_next s isnt))
 
 -- ---- what was taken, from what its parts took: arguments, methods and lines: a further string, or none
 
 pub took_some : {q : QuotedText} {old mid new : List PlacedToken} → Begins t.Comma old mid → Took one_string_wants (t.Quoted q ∷ t.Close ∷ []) mid new → Took (MaybeString ∷ []) (maybe_string (Some q) ++ t.Close ∷ []) old new
 took_some b k = record { split = ap bare_tokens b.is ∙ ap (λ ts. t.Comma ∷ ts) k.split; walks = λ ws. walk_over MaybeString one_string_wants ws b refl ∙ k.walks ws }
 
-pub took_none : {old mid new : List PlacedToken} → mid ≡ old → BeginsNot t.Comma old → Took (AMark Mark.Close ∷ []) (t.Close ∷ []) mid new → Took (MaybeString ∷ []) (t.Close ∷ []) old new
+pub took_none : {old mid new : List PlacedToken} → mid ≡ old → BeginsNot t.Comma old → Took (AMark FormMark.Close ∷ []) (t.Close ∷ []) mid new → Took (MaybeString ∷ []) (t.Close ∷ []) old new
 took_none e isnt k = grind (arith, close_wanted)
 
-pub none_wanted : (old mid : List PlacedToken) (k : List Want) → mid ≡ old → BeginsNot t.Comma old → walk_placed old (MaybeString ∷ k) ≡ walk_placed mid (AMark Mark.Close ∷ k)
-none_wanted old mid k e isnt = close_wanted old k isnt ∙ ap (λ ts. walk_placed ts (AMark Mark.Close ∷ k)) (sym e)
+pub none_wanted : (old mid : List PlacedToken) (k : List Want) → mid ≡ old → BeginsNot t.Comma old → walk_placed old (MaybeString ∷ k) ≡ walk_placed mid (AMark FormMark.Close ∷ k)
+none_wanted old mid k e isnt = close_wanted old k isnt ∙ ap (λ ts. walk_placed ts (AMark FormMark.Close ∷ k)) (sym e)
 
 -- ---- lists
 
@@ -175,15 +175,15 @@ edges = record { item = ANumber; more = MoreEdges; listed = an_edge; token = λ 
 -- items of a list were taken, up to a comma or its end
 pub record TookItems {A : Type 0} (l : ListKind A) (first : A) (rest : List A) (old new : List PlacedToken) : Type 0 where
   pub split : (us : List A) (ts : List LineToken) → bare_tokens new ≡ l.tokens us ++ ts → bare_tokens old ≡ t.OpenBracket ∷ l.token first ∷ (l.tokens (rest ++ us) ++ ts)
-  pub walks : (k : List Want) → walk_placed old (AMark Mark.OpenBracket ∷ l.item ∷ l.more ∷ k) ≡ walk_placed new (l.more ∷ k)
+  pub walks : (k : List Want) → walk_placed old (AMark FormMark.OpenBracket ∷ l.item ∷ l.more ∷ k) ≡ walk_placed new (l.more ∷ k)
 
 pub items_go : {A : Type 0} {l : ListKind A} {first : A} {rest : List A} {old m1 : List PlacedToken} (m2 : List PlacedToken) (k : List Want) → TookItems l first rest old m1 → Begins t.Comma m1 m2
-    → walk_placed old (AMark Mark.OpenBracket ∷ l.item ∷ l.more ∷ k) ≡ walk_placed m2 (l.item ∷ l.more ∷ k)
+    → walk_placed old (AMark FormMark.OpenBracket ∷ l.item ∷ l.more ∷ k) ≡ walk_placed m2 (l.item ∷ l.more ∷ k)
 items_go {l = l} m2 k i b = i.walks k ∙ walk_over l.more (l.item ∷ l.more ∷ []) k b (next_item l.listed)
 
 pub items_close : {A : Type 0} {l : ListKind A} {first : A} {rest : List A} {old m1 : List PlacedToken} (m2 : List PlacedToken) (k : List Want) → TookItems l first rest old m1 → m2 ≡ m1 → BeginsNot t.Comma m1
-    → walk_placed old (AMark Mark.OpenBracket ∷ l.item ∷ l.more ∷ k) ≡ walk_placed m2 (AMark Mark.CloseBracket ∷ k)
-items_close {l = l} {m1 = m1} m2 k i e isnt = i.walks k ∙ list_end m1 k l.listed isnt ∙ ap (λ (ts : List PlacedToken). walk_placed ts (AMark Mark.CloseBracket ∷ k)) (sym e)
+    → walk_placed old (AMark FormMark.OpenBracket ∷ l.item ∷ l.more ∷ k) ≡ walk_placed m2 (AMark FormMark.CloseBracket ∷ k)
+items_close {l = l} {m1 = m1} m2 k i e isnt = i.walks k ∙ list_end m1 k l.listed isnt ∙ ap (λ (ts : List PlacedToken). walk_placed ts (AMark FormMark.CloseBracket ∷ k)) (sym e)
 
 pub items_more : {A : Type 0} {l : ListKind A} {first x : A} {rest more : List A} {old m1 m2 new : List PlacedToken}
     → TookItems l first rest old m1 → Begins t.Comma m1 m2 → Took (l.item ∷ []) (l.token x ∷ []) m2 new → more ≡ rest ++ x ∷ [] → TookItems l first more old new
@@ -195,8 +195,8 @@ items_more {l = l} {first} {x} {rest} {more} {old} {m1} {m2} {new} i b k e = rec
 }
 
 pub items_done : {A : Type 0} {l : ListKind A} {first : A} {rest : List A} {old m1 m2 new : List PlacedToken}
-    → TookItems l first rest old m1 → m2 ≡ m1 → BeginsNot t.Comma m1 → Took (AMark Mark.CloseBracket ∷ []) (t.CloseBracket ∷ []) m2 new
-    → Took (AMark Mark.OpenBracket ∷ l.item ∷ l.more ∷ []) (t.OpenBracket ∷ l.token first ∷ l.tokens rest) old new
+    → TookItems l first rest old m1 → m2 ≡ m1 → BeginsNot t.Comma m1 → Took (AMark FormMark.CloseBracket ∷ []) (t.CloseBracket ∷ []) m2 new
+    → Took (AMark FormMark.OpenBracket ∷ l.item ∷ l.more ∷ []) (t.OpenBracket ∷ l.token first ∷ l.tokens rest) old new
 items_done {l = l} {first} {rest} {old} {m1} {m2} {new} i e isnt k = record {
   split = i.split [] (bare_tokens new) (rw l.ends (sym (ap bare_tokens e) ∙ k.split)) ∙ ap (λ us. t.OpenBracket ∷ l.token first ∷ (l.tokens us ++ bare_tokens new)) (append-nil rest);
   walks = λ ws. items_close m2 ws i e isnt ∙ k.walks ws;
@@ -235,16 +235,16 @@ took_vary_one c v ts n e b same x y = record {
   took = took_as (ap (λ (us : List LineToken). t.Quoted c ∷ t.Comma ∷ t.Quoted v ∷ t.Comma ∷ us) (sym (append_assoc (strings_tokens ts) (maybe_string n) (t.Close ∷ [])))) (took_first VaryArguments e b same refl (took_then x y));
 }
 
-pub took_vary_all : {s : Token} {old seen m1 m2 m3 new : List PlacedToken} (cs : Strings) (v : QuotedText) (ts : Strings) (n : QuotedText) → Begins (token_of s) old seen → ((q : Quoted) → s ≡ Token.Quoted q → ⊥)
-    → Took strings_wants (strings_tokens cs) old m1 → Took variation_wants (t.Comma ∷ t.Quoted v ∷ t.Comma ∷ strings_tokens ts) m1 m2 → Took (AMark Mark.Comma ∷ []) (t.Comma ∷ []) m2 m3 → Took one_string_wants (t.Quoted n ∷ t.Close ∷ []) m3 new
+pub took_vary_all : {s : FormToken} {old seen m1 m2 m3 new : List PlacedToken} (cs : Strings) (v : QuotedText) (ts : Strings) (n : QuotedText) → Begins (token_of s) old seen → ((q : Quoted) → s ≡ FormToken.Quoted q → ⊥)
+    → Took strings_wants (strings_tokens cs) old m1 → Took variation_wants (t.Comma ∷ t.Quoted v ∷ t.Comma ∷ strings_tokens ts) m1 m2 → Took (AMark FormMark.Comma ∷ []) (t.Comma ∷ []) m2 m3 → Took one_string_wants (t.Quoted n ∷ t.Close ∷ []) m3 new
     → TookArguments MethodName.Vary (form.VaryAll cs v ts n) old new
 took_vary_all {s} {old} {seen} {m1} {m2} {m3} {new} cs v ts n b isnt x y z w =
-    let parts : Took (strings_wants ++ (variation_wants ++ (AMark Mark.Comma ∷ one_string_wants))) (arguments (form.VaryAll cs v ts n) ++ t.Close ∷ []) old new = took_as (simp append_assoc refl) (took_then x (took_then y (took_then z w))) in
+    let parts : Took (strings_wants ++ (variation_wants ++ (AMark FormMark.Comma ∷ one_string_wants))) (arguments (form.VaryAll cs v ts n) ++ t.Close ∷ []) old new = took_as (simp append_assoc refl) (took_then x (took_then y (took_then z w))) in
     record { word = refl; took = record { split = parts.split; walks = λ k. columns_wanted old k b isnt ∙ parts.walks k } }
 
 pub took_histo2d : {old m1 m2 m3 m4 m5 m6 m7 new : List PlacedToken} (xs ys : Edges) (x y : QuotedText) (w : Option QuotedText)
-    → Took edges_wants (edges_tokens xs) old m1 → Took (AMark Mark.Comma ∷ []) (t.Comma ∷ []) m1 m2 → Took edges_wants (edges_tokens ys) m2 m3 → Took (AMark Mark.Comma ∷ []) (t.Comma ∷ []) m3 m4
-    → Took (AString ∷ []) (t.Quoted x ∷ []) m4 m5 → Took (AMark Mark.Comma ∷ []) (t.Comma ∷ []) m5 m6 → Took (AString ∷ []) (t.Quoted y ∷ []) m6 m7 → Took (MaybeString ∷ []) (maybe_string w ++ t.Close ∷ []) m7 new
+    → Took edges_wants (edges_tokens xs) old m1 → Took (AMark FormMark.Comma ∷ []) (t.Comma ∷ []) m1 m2 → Took edges_wants (edges_tokens ys) m2 m3 → Took (AMark FormMark.Comma ∷ []) (t.Comma ∷ []) m3 m4
+    → Took (AString ∷ []) (t.Quoted x ∷ []) m4 m5 → Took (AMark FormMark.Comma ∷ []) (t.Comma ∷ []) m5 m6 → Took (AString ∷ []) (t.Quoted y ∷ []) m6 m7 → Took (MaybeString ∷ []) (maybe_string w ++ t.Close ∷ []) m7 new
     → TookArguments (MethodName.Action ActionName.Histo2D) (form.Histo2D xs ys x y w) old new
 took_histo2d xs ys x y w a b c d e f g h = record {
   word = refl;
@@ -260,10 +260,10 @@ name_word_is n = grind arith
 pub method_next : (n : MethodName) → next AMethod (t.Word (name_word n)) ≡ Some (method_wants n)
 method_next n = rw (name_word_is n) refl
 
-pub method_wanted : {old seen : List PlacedToken} (new : List PlacedToken) (n : MethodName) (k : List Want) → Begins (t.Word (name_word n)) old seen → new ≡ seen → walk_placed old (AMethod ∷ k) ≡ walk_placed new (AMark Mark.Open ∷ (arguments_wants n ++ k))
+pub method_wanted : {old seen : List PlacedToken} (new : List PlacedToken) (n : MethodName) (k : List Want) → Begins (t.Word (name_word n)) old seen → new ≡ seen → walk_placed old (AMethod ∷ k) ≡ walk_placed new (AMark FormMark.Open ∷ (arguments_wants n ++ k))
 method_wanted new n k b same = walk_seen AMethod (method_wants n) k refl b same (method_next n)
 
-pub took_method : {old seen m1 m2 new : List PlacedToken} (n : MethodName) (m : Method) → Begins (t.Word (name_word n)) old seen → m1 ≡ seen → Took (AMark Mark.Open ∷ []) (t.Open ∷ []) m1 m2 → TookArguments n m m2 new
+pub took_method : {old seen m1 m2 new : List PlacedToken} (n : MethodName) (m : Method) → Begins (t.Word (name_word n)) old seen → m1 ≡ seen → Took (AMark FormMark.Open ∷ []) (t.Open ∷ []) m1 m2 → TookArguments n m m2 new
     → Took (AMethod ∷ []) (call (method_word m) (arguments m)) old new
 took_method n m b same x y =
     took_as (ap (λ (w : List ℕ). t.Word w ∷ t.Open ∷ (arguments m ++ t.Close ∷ [])) (sym y.word)) (took_first AMethod refl b same (method_next n) (took_then x y.took))
@@ -271,7 +271,7 @@ took_method n m b same x y =
 -- ---- lines
 
 pub took_booking : {old m1 m2 m3 new : List PlacedToken} (n p : List ℕ) (m : Method) → is_free n ≡ true → is_free p ≡ true
-    → Took (AMark Mark.Equals ∷ []) (t.Equals ∷ []) old m1 → Took (AWord ∷ []) (t.Word p ∷ []) m1 m2 → Took (AMark Mark.Dot ∷ []) (t.Dot ∷ []) m2 m3 → Took (AMethod ∷ []) (call (method_word m) (arguments m)) m3 new
+    → Took (AMark FormMark.Equals ∷ []) (t.Equals ∷ []) old m1 → Took (AWord ∷ []) (t.Word p ∷ []) m1 m2 → Took (AMark FormMark.Dot ∷ []) (t.Dot ∷ []) m2 m3 → Took (AMethod ∷ []) (call (method_word m) (arguments m)) m3 new
     → TookBooking n (form.Books n p m) old new
 took_booking n p m f g a b c d = record { free = rw (f, g) refl; rest = t.Equals ∷ t.Word p ∷ t.Dot ∷ call (method_word m) (arguments m); whole = refl; took = took_then a (took_then b (took_then c d)) }
 
@@ -508,10 +508,10 @@ word_follows : (x : List ℕ) (b : Bool) → is_free x ≡ b → Follows AWord (
 word_follows x true e = λ xs. record { item = (x, e); tokens = refl }
 word_follows x false e = tt
 
-marked : (m : Mark) (u : LineToken) → is_mark m u ≡ true → mark_token m ≡ u
+marked : (m : FormMark) (u : LineToken) → is_mark m u ≡ true → mark_token m ≡ u
 marked m u e = grind arith
 
-mark_follows : (m : Mark) (u : LineToken) (b : Bool) → is_mark m u ≡ b → Follows (AMark m) u (if b then Some [] else None)
+mark_follows : (m : FormMark) (u : LineToken) (b : Bool) → is_mark m u ≡ b → Follows (AMark m) u (if b then Some [] else None)
 mark_follows m u b e = grind (arith, marked)
 
 pub follows : (w : Want) (u : LineToken) → Follows w u (next w u)
@@ -576,8 +576,8 @@ method_passes (form.Filter e l) = called MethodName.Filter (form.Filter e l) ref
 method_passes (form.VaryOne c v ts n) = called MethodName.Vary (form.VaryOne c v ts n) refl (behind_strings ts.rest (maybe_string n) (MaybeString ∷ []) ∙ passes_last n)
 method_passes (form.VaryAll cs v ts n) =
     called MethodName.Vary (form.VaryAll cs v ts n) refl
-    (behind_strings cs.rest (t.Comma ∷ t.Quoted v ∷ t.Comma ∷ (strings_tokens ts ++ t.Comma ∷ t.Quoted n ∷ [])) (variation_wants ++ AMark Mark.Comma ∷ one_string_wants)
-    ∙ behind_strings ts.rest (t.Comma ∷ t.Quoted n ∷ []) (AMark Mark.Comma ∷ one_string_wants))
+    (behind_strings cs.rest (t.Comma ∷ t.Quoted v ∷ t.Comma ∷ (strings_tokens ts ++ t.Comma ∷ t.Quoted n ∷ [])) (variation_wants ++ AMark FormMark.Comma ∷ one_string_wants)
+    ∙ behind_strings ts.rest (t.Comma ∷ t.Quoted n ∷ []) (AMark FormMark.Comma ∷ one_string_wants))
 method_passes form.Count = called (MethodName.Action ActionName.Count) form.Count refl refl
 method_passes form.Report = called MethodName.Report form.Report refl refl
 method_passes (form.Sum c) = called (MethodName.Action ActionName.Sum) (form.Sum c) refl refl
@@ -586,17 +586,17 @@ method_passes (form.Max c) = called (MethodName.Action ActionName.Max) (form.Max
 method_passes (form.Take c) = called (MethodName.Action ActionName.Take) (form.Take c) refl refl
 method_passes (form.Reduce o c) = called (MethodName.Action ActionName.Reduce) (form.Reduce o c) refl refl
 method_passes (form.Histo1D xs x w) =
-    called (MethodName.Action ActionName.Histo1D) (form.Histo1D xs x w) refl (behind_edges xs.rest (t.Comma ∷ t.Quoted x ∷ maybe_string w) (AMark Mark.Comma ∷ AString ∷ MaybeString ∷ []) ∙ passes_last w)
+    called (MethodName.Action ActionName.Histo1D) (form.Histo1D xs x w) refl (behind_edges xs.rest (t.Comma ∷ t.Quoted x ∷ maybe_string w) (AMark FormMark.Comma ∷ AString ∷ MaybeString ∷ []) ∙ passes_last w)
 method_passes (form.Histo2D xs ys x y w) =
     called (MethodName.Action ActionName.Histo2D) (form.Histo2D xs ys x y w) refl
     (behind_edges xs.rest (t.Comma ∷ (edges_tokens ys ++ t.Comma ∷ t.Quoted x ∷ t.Comma ∷ t.Quoted y ∷ maybe_string w))
-    (AMark Mark.Comma ∷ (edges_wants ++ AMark Mark.Comma ∷ AString ∷ AMark Mark.Comma ∷ AString ∷ MaybeString ∷ []))
-    ∙ behind_edges ys.rest (t.Comma ∷ t.Quoted x ∷ t.Comma ∷ t.Quoted y ∷ maybe_string w) (AMark Mark.Comma ∷ AString ∷ AMark Mark.Comma ∷ AString ∷ MaybeString ∷ []) ∙ passes_last w)
+    (AMark FormMark.Comma ∷ (edges_wants ++ AMark FormMark.Comma ∷ AString ∷ AMark FormMark.Comma ∷ AString ∷ MaybeString ∷ []))
+    ∙ behind_edges ys.rest (t.Comma ∷ t.Quoted x ∷ t.Comma ∷ t.Quoted y ∷ maybe_string w) (AMark FormMark.Comma ∷ AString ∷ AMark FormMark.Comma ∷ AString ∷ MaybeString ∷ []) ∙ passes_last w)
 
 -- ---- lines
 
 asking_passes : (word r : List ℕ) → next ALine (t.Word word) ≡ Some asking_wants → is_free r ≡ true → walked (call word (t.Word r ∷ [])) (ALine ∷ []) ≡ Done
-asking_passes word r asks free = passes_on ALine asking_wants [] (t.Word word) (t.Open ∷ t.Word r ∷ t.Close ∷ []) asks ∙ passes_on AWord [] (AMark Mark.Close ∷ []) (t.Word r) (t.Close ∷ []) (is_name_next r free)
+asking_passes word r asks free = passes_on ALine asking_wants [] (t.Word word) (t.Open ∷ t.Word r ∷ t.Close ∷ []) asks ∙ passes_on AWord [] (AMark FormMark.Close ∷ []) (t.Word r) (t.Close ∷ []) (is_name_next r free)
 
 pub line_passes : (f : Form) → has_free_names f ≡ true → walked (form_tokens f) (ALine ∷ []) ≡ Done
 line_passes f free = grind (arith, both_true, passes_on, line_next, is_name_next, method_passes, asking_passes)
@@ -707,14 +707,14 @@ refused_there ts (p ∷ ps) end line s some h e =
 pub refuses_line : (ts left : List PlacedToken) (end : ℕ) (line : List ℕ) → walk_placed ts (ALine ∷ []) ≡ StuckAt left → 0 < length ts → line_tokens line ≡ Ok ts → length line ≡ end → RefusesLine line (st.Syntax (place_from left end))
 refuses_line ts left end line e some h n = refused_there ts left end line (line_walked ts (StuckAt left) e) some h n
 
-pub refused_for : (tokens : List Placed) (left : List PlacedToken) (end : ℕ) (s : LineStop) → s ≡ LineStop.Syntax (place_from left end) → walk_placed (map placed_of tokens) (ALine ∷ []) ≡ StuckAt left → 0 < length tokens
+pub refused_for : (tokens : List TokenAt) (left : List PlacedToken) (end : ℕ) (s : LineStop) → s ≡ LineStop.Syntax (place_from left end) → walk_placed (map placed_of tokens) (ALine ∷ []) ≡ StuckAt left → 0 < length tokens
     → (line : List ℕ) → line_tokens line ≡ Ok (map placed_of tokens) → length line ≡ end → RefusedFor (RefusesLine line) s
 refused_for tokens left end s is e some line h n =
     let some_tokens : 0 < length (map placed_of tokens) = subst (λ (k : ℕ). 0 < k) (sym (length-map tokens placed_of)) some in
     subst (λ (x : LineStop). RefusedFor (RefusesLine line) x) (sym is) (refuses_line (map placed_of tokens) left end line e some_tokens h n)
 
 -- a walk with nothing wanted is stuck before what is left
-pub left_over : (tokens : List Placed) → (length tokens == 0) ≡ false → walk_placed (map placed_of tokens) [] ≡ StuckAt (map placed_of tokens)
+pub left_over : (tokens : List TokenAt) → (length tokens == 0) ≡ false → walk_placed (map placed_of tokens) [] ≡ StuckAt (map placed_of tokens)
 unfolding walk_placed
 left_over [] some = cc some
 left_over (p ∷ ps) some = refl

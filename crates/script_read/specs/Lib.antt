@@ -7,6 +7,6 @@ unfoldable pub use Walk.{name_of, walk_placed}
 pub use declared.walk.ActionName.{ActionName}
 pub use declared.walk.MethodName.{MethodName}
 pub use declared.refusal.LineStop.{LineStop}
-pub use declared.form.Mark.{Mark}
+pub use declared.form.FormMark.{FormMark}
 pub use declared.form.Quoted.{Quoted}
-pub use declared.form.Token.{Token}
+pub use declared.form.FormToken.{FormToken}

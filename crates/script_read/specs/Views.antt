@@ -2,10 +2,10 @@
 use Rattle.std.specs.Prelude.{ℤ, List, map, option_map, ◌≡◌, ◌<◌, ◌≤◌, ◌+◌, ℕ, [], ◌∷◌, ◌++◌, length, Option, Some, None}
 use Rattle.rdf_values.specs.{LineToken, PlacedToken, QuotedText, Strings, IsBlankLine, IsLine, IsName, Line, LineRefusal, RefusesLines, RefusesScript, Statement}
 use Rattle.rdf_values.specs.scripts.LineForms.{Edges}
-use Rattle.script_read.specs.declared.form.Mark.{Mark}
-use Rattle.script_read.specs.declared.form.Token.{Token}
+use Rattle.script_read.specs.declared.form.FormMark.{FormMark}
+use Rattle.script_read.specs.declared.form.FormToken.{FormToken}
 use Rattle.script_read.specs.declared.form.Quoted.{Quoted}
-use Rattle.script_read.specs.declared.form.Placed.{Placed}
+use Rattle.script_read.specs.declared.form.TokenAt.{TokenAt}
 use Rattle.script_read.specs.declared.lexeme.Lexeme.{Lexeme}
 use Rattle.script_read.specs.declared.form.OneOrMore.{OneOrMore}
 use Rattle.script_read.specs.declared.form.Action.{Action}
@@ -26,24 +26,24 @@ abbrev pub quoted_of : Quoted → QuotedText
 quoted_of q = record { place = q.place; content = q.content.now }
 
 -- a mark as a token
-abbrev pub mark_token : Mark → LineToken
-mark_token Mark.Equals = t.Equals
-mark_token Mark.Dot = t.Dot
-mark_token Mark.Open = t.Open
-mark_token Mark.Close = t.Close
-mark_token Mark.OpenBracket = t.OpenBracket
-mark_token Mark.CloseBracket = t.CloseBracket
-mark_token Mark.Comma = t.Comma
+abbrev pub mark_token : FormMark → LineToken
+mark_token FormMark.Equals = t.Equals
+mark_token FormMark.Dot = t.Dot
+mark_token FormMark.Open = t.Open
+mark_token FormMark.Close = t.Close
+mark_token FormMark.OpenBracket = t.OpenBracket
+mark_token FormMark.CloseBracket = t.CloseBracket
+mark_token FormMark.Comma = t.Comma
 
 -- a token
-abbrev pub token_of : Token → LineToken
-token_of (Token.Word w) = t.Word w.bytes.now
-token_of (Token.Number z) = t.Number z
-token_of (Token.Quoted q) = t.Quoted (quoted_of q)
-token_of (Token.Mark m) = mark_token m
+abbrev pub token_of : FormToken → LineToken
+token_of (FormToken.Word w) = t.Word w.bytes.now
+token_of (FormToken.Number z) = t.Number z
+token_of (FormToken.Quoted q) = t.Quoted (quoted_of q)
+token_of (FormToken.Mark m) = mark_token m
 
 -- a token at its place
-abbrev pub placed_of : Placed → PlacedToken
+abbrev pub placed_of : TokenAt → PlacedToken
 placed_of p = record { token = token_of p.token; place = p.place }
 
 -- the tokens that a walk has left

@@ -6,17 +6,17 @@ use Rattle.rdf_values.specs.scripts.LineForms as form
 use Rattle.script_read.specs.Views.{mark_token}
 use Rattle.script_read.specs.declared.walk.MethodName.{MethodName}
 use Rattle.script_read.specs.declared.walk.ActionName.{ActionName}
-use Rattle.script_read.specs.declared.form.Mark.{Mark}
+use Rattle.script_read.specs.declared.form.FormMark.{FormMark}
 
 -- whether the token is the mark
-abbrev pub is_mark : Mark → LineToken → Bool
-is_mark Mark.Equals t.Equals = true
-is_mark Mark.Dot t.Dot = true
-is_mark Mark.Open t.Open = true
-is_mark Mark.Close t.Close = true
-is_mark Mark.OpenBracket t.OpenBracket = true
-is_mark Mark.CloseBracket t.CloseBracket = true
-is_mark Mark.Comma t.Comma = true
+abbrev pub is_mark : FormMark → LineToken → Bool
+is_mark FormMark.Equals t.Equals = true
+is_mark FormMark.Dot t.Dot = true
+is_mark FormMark.Open t.Open = true
+is_mark FormMark.Close t.Close = true
+is_mark FormMark.OpenBracket t.OpenBracket = true
+is_mark FormMark.CloseBracket t.CloseBracket = true
+is_mark FormMark.Comma t.Comma = true
 is_mark m t = false
 
 -- ---- methods by their names
@@ -56,15 +56,15 @@ name_of word = named name_word word all_names
 -- what can stand next: a line, a part of one, or the further items and the end of a list; `MaybeString` and `VaryArguments` have their closing parenthesis with them
 pub data Want : Type 0 where
   ALine AWord AMethod AString ANumber MoreStrings MoreEdges MaybeString VaryArguments : Want
-  AMark : (mark : Mark) → Want
+  AMark : (mark : FormMark) → Want
 
 -- a name, and what is called on it
 abbrev pub booking_wants : List Want
-booking_wants = AMark Mark.Equals ∷ AWord ∷ AMark Mark.Dot ∷ AMethod ∷ []
+booking_wants = AMark FormMark.Equals ∷ AWord ∷ AMark FormMark.Dot ∷ AMethod ∷ []
 
 -- the name of a result
 abbrev pub asking_wants : List Want
-asking_wants = AMark Mark.Open ∷ AWord ∷ AMark Mark.Close ∷ []
+asking_wants = AMark FormMark.Open ∷ AWord ∷ AMark FormMark.Close ∷ []
 
 -- what follows the first word of a line
 abbrev pub line_wants : List ℕ → List Want
@@ -72,39 +72,39 @@ line_wants word = if is_free word then booking_wants else asking_wants
 
 -- a list of strings
 abbrev pub strings_wants : List Want
-strings_wants = AMark Mark.OpenBracket ∷ AString ∷ MoreStrings ∷ []
+strings_wants = AMark FormMark.OpenBracket ∷ AString ∷ MoreStrings ∷ []
 
 -- a list of integers
 abbrev pub edges_wants : List Want
-edges_wants = AMark Mark.OpenBracket ∷ ANumber ∷ MoreEdges ∷ []
+edges_wants = AMark FormMark.OpenBracket ∷ ANumber ∷ MoreEdges ∷ []
 
 -- a string that ends a call
 abbrev pub one_string_wants : List Want
-one_string_wants = AString ∷ AMark Mark.Close ∷ []
+one_string_wants = AString ∷ AMark FormMark.Close ∷ []
 
 -- two strings that end a call
 abbrev pub two_string_wants : List Want
-two_string_wants = AString ∷ AMark Mark.Comma ∷ one_string_wants
+two_string_wants = AString ∷ AMark FormMark.Comma ∷ one_string_wants
 
 -- the values and the tags of a variation, behind its columns
 abbrev pub variation_wants : List Want
-variation_wants = AMark Mark.Comma ∷ AString ∷ AMark Mark.Comma ∷ strings_wants
+variation_wants = AMark FormMark.Comma ∷ AString ∷ AMark FormMark.Comma ∷ strings_wants
 
 -- what stands in a method's parentheses, with the closing one
 abbrev pub arguments_wants : MethodName → List Want
 arguments_wants MethodName.Filter = AString ∷ MaybeString ∷ []
 arguments_wants MethodName.Vary = VaryArguments ∷ []
-arguments_wants MethodName.Report = AMark Mark.Close ∷ []
-arguments_wants (MethodName.Action ActionName.Count) = AMark Mark.Close ∷ []
-arguments_wants (MethodName.Action ActionName.Histo1D) = edges_wants ++ AMark Mark.Comma ∷ AString ∷ MaybeString ∷ []
-arguments_wants (MethodName.Action ActionName.Histo2D) = edges_wants ++ AMark Mark.Comma ∷ (edges_wants ++ AMark Mark.Comma ∷ AString ∷ AMark Mark.Comma ∷ AString ∷ MaybeString ∷ [])
+arguments_wants MethodName.Report = AMark FormMark.Close ∷ []
+arguments_wants (MethodName.Action ActionName.Count) = AMark FormMark.Close ∷ []
+arguments_wants (MethodName.Action ActionName.Histo1D) = edges_wants ++ AMark FormMark.Comma ∷ AString ∷ MaybeString ∷ []
+arguments_wants (MethodName.Action ActionName.Histo2D) = edges_wants ++ AMark FormMark.Comma ∷ (edges_wants ++ AMark FormMark.Comma ∷ AString ∷ AMark FormMark.Comma ∷ AString ∷ MaybeString ∷ [])
 arguments_wants (MethodName.Action ActionName.Reduce) = two_string_wants
 arguments_wants (MethodName.Action a) = one_string_wants
 arguments_wants n = two_string_wants
 
 -- what follows the name of a method
 abbrev pub method_wants : MethodName → List Want
-method_wants n = AMark Mark.Open ∷ arguments_wants n
+method_wants n = AMark FormMark.Open ∷ arguments_wants n
 
 -- what asks for the result by that word, which is not free
 abbrev pub asked_form : List ℕ → List ℕ → Form
@@ -126,7 +126,7 @@ next MoreEdges t.CloseBracket = Some []
 next MaybeString t.Comma = Some one_string_wants
 next MaybeString t.Close = Some []
 next VaryArguments (t.Quoted q) = Some (variation_wants ++ MaybeString ∷ [])
-next VaryArguments t.OpenBracket = Some (AString ∷ MoreStrings ∷ (variation_wants ++ AMark Mark.Comma ∷ one_string_wants))
+next VaryArguments t.OpenBracket = Some (AString ∷ MoreStrings ∷ (variation_wants ++ AMark FormMark.Comma ∷ one_string_wants))
 next (AMark m) t = if is_mark m t then Some [] else None
 next w t = None
 
@@ -167,7 +167,7 @@ abbrev pub BeginsNot : LineToken → List PlacedToken → Type 0
 BeginsNot t old = (new : List PlacedToken) → Begins t old new → ⊥
 
 -- whether the mark was passed over
-abbrev pub Ate : Mark → Bool → List PlacedToken → List PlacedToken → Type 0
+abbrev pub Ate : FormMark → Bool → List PlacedToken → List PlacedToken → Type 0
 Ate m true old new = Begins (mark_token m) old new
 Ate m false old new = (new ≡ old) × BeginsNot (mark_token m) old
 

@@ -19,7 +19,7 @@ pub(crate) struct Quoted<'a> {
 
 /// A token that is the same wherever it stands.
 #[derive(Clone, Copy, Debug, PartialEq, Eq)]
-pub(crate) enum Mark {
+pub(crate) enum FormMark {
     Equals,
     Dot,
     Open,
@@ -31,17 +31,17 @@ pub(crate) enum Mark {
 
 /// A word, a canonical integer, a string, or a mark.
 #[derive(Clone, Copy)]
-pub(crate) enum Token<'a> {
+pub(crate) enum FormToken<'a> {
     Word(Word<'a>),
     Number(i64),
     Quoted(Quoted<'a>),
-    Mark(Mark),
+    Mark(FormMark),
 }
 
 /// A token and its place in the line.
 #[derive(Clone, Copy)]
-pub(crate) struct Placed<'a> {
-    pub(crate) token: Token<'a>,
+pub(crate) struct TokenAt<'a> {
+    pub(crate) token: FormToken<'a>,
     pub(crate) place: u32,
 }
 

@@ -4,7 +4,7 @@ ghost use Rattle.std.specs.List.{list_all};
 ghost use Rattle.rdf_values.specs.{between, integer_lexeme, integer_of, is_digit, is_name, is_word, lexeme, line_tokens, mark_lexeme, RefusesLine, string_lexeme, word_lexeme};
 ghost use Rattle.script_read.specs.{lexeme_of, placed_of, RefusedFor};
 
-use crate::form::{Mark, Placed, Quoted, Token, Word};
+use crate::form::{FormMark, FormToken, Quoted, TokenAt, Word};
 use crate::refusal::LineStop;
 use rdf_values::read_integer;
 use rdf_values::scripts::name::{digits_size, is_digit, is_word_start, word_size};
@@ -18,7 +18,7 @@ enum Lexeme<'a> {
     Blank,
     Comment,
     Bad,
-    Found(Token<'a>, usize),
+    Found(FormToken<'a>, usize),
 }
 
 fn begins_integer(byte: u8) -> bool
@@ -49,7 +49,7 @@ fn word(bytes: &[u8]) -> Lexeme<'_>
     if bytes.len() > LONGEST_NAME || is_truth {
         return Lexeme::Bad;
     }
-    Lexeme::Found(Token::Word(Word { bytes }), bytes.len() - 1)
+    Lexeme::Found(FormToken::Word(Word { bytes }), bytes.len() - 1)
 }
 
 // The lexeme of some digits, maybe behind a `-`.
@@ -58,7 +58,7 @@ fn integer(text: &[u8]) -> Lexeme<'static>
     ensures { lexeme_of result ≡ integer_lexeme (length text.now - 1) (integer_of text.now) }
 {
     match read_integer(text) {
-        Some(number) => Lexeme::Found(Token::Number(number), text.len() - 1),
+        Some(number) => Lexeme::Found(FormToken::Number(number), text.len() - 1),
         None => Lexeme::Bad,
     }
 }
@@ -76,23 +76,23 @@ fn string(place: u32, text: &[u8]) -> Lexeme<'_>
     if !are_printable(content) {
         return Lexeme::Bad;
     }
-    Lexeme::Found(Token::Quoted(Quoted { place, content }), end + 1)
+    Lexeme::Found(FormToken::Quoted(Quoted { place, content }), end + 1)
 }
 
 fn mark(byte: u8) -> Lexeme<'static>
     ensures { lexeme_of result ≡ mark_lexeme byte }
 {
     let mark = match byte {
-        b'=' => Mark::Equals,
-        b'.' => Mark::Dot,
-        b'(' => Mark::Open,
-        b')' => Mark::Close,
-        b'[' => Mark::OpenBracket,
-        b']' => Mark::CloseBracket,
-        b',' => Mark::Comma,
+        b'=' => FormMark::Equals,
+        b'.' => FormMark::Dot,
+        b'(' => FormMark::Open,
+        b')' => FormMark::Close,
+        b'[' => FormMark::OpenBracket,
+        b']' => FormMark::CloseBracket,
+        b',' => FormMark::Comma,
         _ => return Lexeme::Bad,
     };
-    Lexeme::Found(Token::Mark(mark), 0)
+    Lexeme::Found(FormToken::Mark(mark), 0)
 }
 
 // What the line has at the place.
@@ -115,7 +115,7 @@ fn lexeme_at(line: &[u8], place: usize) -> Lexeme<'_>
 
 /// The tokens of a line.
 #[tactic(auto, using(crate::proofs::TokenSteps::at_end, crate::proofs::TokenSteps::step_comment))]
-pub(crate) fn tokenize(alloc: Global, line: &[u8]) -> Result<Vec<Placed<'_>>, LineStop>
+pub(crate) fn tokenize(alloc: Global, line: &[u8]) -> Result<Vec<TokenAt<'_>>, LineStop>
     requires { length line.now ≤ 65536 }
     ensures ok { IfOk result (λ v. line_tokens line.now ≡ Ok (map placed_of v.items)) }
     ensures err { IfErr result (λ e. RefusedFor (RefusesLine line.now) e) }
@@ -128,7 +128,7 @@ pub(crate) fn tokenize(alloc: Global, line: &[u8]) -> Result<Vec<Placed<'_>>, Li
             Lexeme::Comment => break,
             Lexeme::Bad => return Err(LineStop::Syntax(place as u32)),
             Lexeme::Found(token, more) => {
-                found.push(Placed {
+                found.push(TokenAt {
                     token,
                     place: place as u32,
                 })?;

@@ -34,16 +34,22 @@ fn variation(alloc: Global, column: &Name, name: &Option<Quoted<'_>>) -> Result<
     }
 }
 
-fn vary_one(
-    alloc: Global,
+// The node that a line makes, and the one from which it makes it.
+#[derive(Drop)]
+struct NewNode {
     node: Name,
     parent: Name,
+}
+
+fn vary_one(
+    alloc: Global,
+    at: NewNode,
     column: &Quoted<'_>,
     values: &Quoted<'_>,
     tags: &OneOrMore<Quoted<'_>>,
     name: &Option<Quoted<'_>>,
 ) -> Result<Statement, LineStop>
-    ensures ok { IfOk result (λ s. Says (line.Books node parent (line.VaryOne (quoted_of column.now) (quoted_of values.now) (strings_of tags.now) (option_map quoted_of name.now))) s) }
+    ensures ok { IfOk result (λ s. Says (line.Books at.node at.parent (line.VaryOne (quoted_of column.now) (quoted_of values.now) (strings_of tags.now) (option_map quoted_of name.now))) s) }
     ensures err { IfErr result (λ e. RefusedFor (FirstBad (method_strings (line.VaryOne (quoted_of column.now) (quoted_of values.now) (strings_of tags.now) (option_map quoted_of name.now)))) e) }
 {
     let column = strings::name(alloc, column)?;
@@ -52,6 +58,7 @@ fn vary_one(
     let name = variation(alloc, &column, name)?;
     let mut columns = ListOf::new(alloc);
     columns.push(column)?;
+    let NewNode { node, parent } = at;
     Ok(Statement::Vary {
         node,
         parent,
@@ -64,16 +71,16 @@ fn vary_one(
 
 fn vary_all(
     alloc: Global,
-    node: Name,
-    parent: Name,
+    at: NewNode,
     columns: &OneOrMore<Quoted<'_>>,
     values: &Quoted<'_>,
     tags: &OneOrMore<Quoted<'_>>,
     name: &Quoted<'_>,
 ) -> Result<Statement, LineStop>
-    ensures ok { IfOk result (λ s. Says (line.Books node parent (line.VaryAll (strings_of columns.now) (quoted_of values.now) (strings_of tags.now) (quoted_of name.now))) s) }
+    ensures ok { IfOk result (λ s. Says (line.Books at.node at.parent (line.VaryAll (strings_of columns.now) (quoted_of values.now) (strings_of tags.now) (quoted_of name.now))) s) }
     ensures err { IfErr result (λ e. RefusedFor (FirstBad (method_strings (line.VaryAll (strings_of columns.now) (quoted_of values.now) (strings_of tags.now) (quoted_of name.now)))) e) }
 {
+    let NewNode { node, parent } = at;
     Ok(Statement::Vary {
         node,
         parent,
@@ -162,10 +169,10 @@ fn booking(
             label: strings::maybe_label(alloc, label)?,
         }),
         Method::VaryOne(column, values, tags, name) => {
-            vary_one(alloc, node, parent, column, values, tags, name)
+            vary_one(alloc, NewNode { node, parent }, column, values, tags, name)
         }
         Method::VaryAll(columns, values, tags, name) => {
-            vary_all(alloc, node, parent, columns, values, tags, name)
+            vary_all(alloc, NewNode { node, parent }, columns, values, tags, name)
         }
         Method::Report => Ok(Statement::Report {
             result: node,

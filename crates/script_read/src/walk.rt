@@ -4,17 +4,28 @@ ghost use Rattle.rdf_values.specs.{arguments, bare_tokens, Close as AsClose, Com
 ghost use Rattle.rdf_values.specs.scripts.LineForms.{call};
 ghost use Rattle.rdf_values.specs.scripts.LineTokens.{Word as AsWord, Number as AsNumber};
 ghost use Rattle.script_read.specs.declared.walk.MethodName.{MethodName as AnyMethod};
+ghost use Rattle.script_read.specs.declared.walk.WalkFail.TheVariants.{Memory as OutOfMemory};
 ghost use Rattle.script_read.specs.{action_of, ALine, AMark, AMethod, ANumber, arguments_wants, asked_form, asking_wants, AString, Ate, AWord, Begins, booking_wants, edges_of, edges_wants, form_of, IsStuck, mark_token, MaybeString, method_of, name_word, one_string_wants, place_from, placed_of, quoted_of, RefusedFor, SeesMethod, strings_of, strings_wants, token_of, Took, TookArguments, TookBooking, TookForm, two_string_wants, variation_wants, Want as AnyWant};
 
-use crate::form::{Action, Form, Mark, Method, OneOrMore, Pair, Placed, Quoted, Token, Word};
+use crate::form::{
+    Action, Form, FormMark, FormToken, Method, OneOrMore, Pair, Quoted, TokenAt, Word,
+};
 use crate::refusal::LineStop;
-use std::alloc::Global;
+use std::alloc::{AllocFailed, Global};
 
 /// The next token can't stand there, or no memory could be had.
 #[derive(Clone, Copy, Debug, PartialEq, Eq)]
-enum Fail {
+enum WalkFail {
     Unexpected,
     Memory,
+}
+
+impl<T: Drop> From<AllocFailed<T>> for WalkFail {
+    ghost from_gives = { λ _ fail. fail ≡ OutOfMemory };
+
+    fn from(_: AllocFailed<T>) -> WalkFail {
+        WalkFail::Memory
+    }
 }
 
 /// What an action is called.
@@ -88,21 +99,11 @@ fn asked<'a>(word: &[u8], name: Word<'a>) -> Form<'a>
     }
 }
 
-fn push<T: Drop>(items: &mut Vec<T>, item: T) -> Result<(), Fail>
-    ensures ok { OnOk result (items.new.items ≡ items.old.items ++ item ∷ []) }
-    ensures err { IfErr result (λ e. e ≡ Fail.Memory) }
-{
-    match items.push(item) {
-        Ok(()) => Ok(()),
-        Err(_) => Err(Fail::Memory),
-    }
-}
-
 /// The tokens that are left.
 #[derive(Drop)]
 struct Walk<'t, 'a> {
     alloc: Global,
-    left: &'t [Placed<'a>],
+    left: &'t [TokenAt<'a>],
 }
 
 impl<'t, 'a> Walk<'t, 'a> {
@@ -110,14 +111,14 @@ impl<'t, 'a> Walk<'t, 'a> {
 
     // The next token.
     #[tactic(auto, using(std::proofs::lemmas::Grind::common_steps, crate::proofs::Walked::stuck_empty))]
-    fn peek(&self) -> Result<Token<'a>, Fail>
+    fn peek(&self) -> Result<FormToken<'a>, WalkFail>
         ensures sees { IfOk result (λ t. Begins (token_of t) (left_of self.now) (drop 1 (left_of self.now))) }
         ensures ends { IfErr result (λ e. left_of self.now ≡ []) }
         ensures stuck { IfErr result (λ e. (w : AnyWant) → IsStuck (w ∷ []) (left_of self.now) (left_of self.now)) }
     {
         match self.left.first() {
             Some(placed) => Ok(placed.token),
-            None => Err(Fail::Unexpected),
+            None => Err(WalkFail::Unexpected),
         }
     }
 
@@ -130,11 +131,11 @@ impl<'t, 'a> Walk<'t, 'a> {
     }
 
     // Passes over the mark if it comes next.
-    fn eat(&mut self, mark: Mark) -> bool
+    fn eat(&mut self, mark: FormMark) -> bool
         ensures { Ate mark result (left_of self.old) (left_of self.new) }
     {
         match self.peek() {
-            Ok(Token::Mark(next)) if next == mark => {
+            Ok(FormToken::Mark(next)) if next == mark => {
                 self.advance();
                 true
             }
@@ -143,34 +144,34 @@ impl<'t, 'a> Walk<'t, 'a> {
     }
 
     #[tactic(auto, using(crate::proofs::Walked::took_mark, crate::proofs::Walked::stuck_mark))]
-    fn expect(&mut self, mark: Mark) -> Result<(), Fail>
+    fn expect(&mut self, mark: FormMark) -> Result<(), WalkFail>
         ensures took { OnOk result (Took (AMark mark ∷ []) (mark_token mark ∷ []) (left_of self.old) (left_of self.new)) }
-        ensures stuck { result ≡ Err Fail.Unexpected → IsStuck (AMark mark ∷ []) (left_of self.old) (left_of self.new) }
+        ensures stuck { result ≡ Err WalkFail.Unexpected → IsStuck (AMark mark ∷ []) (left_of self.old) (left_of self.new) }
     {
         if self.eat(mark) {
             Ok(())
         } else {
-            Err(Fail::Unexpected)
+            Err(WalkFail::Unexpected)
         }
     }
 
-    fn string(&mut self) -> Result<Quoted<'a>, Fail>
+    fn string(&mut self) -> Result<Quoted<'a>, WalkFail>
         ensures took { IfOk result (λ q. Took (AString ∷ []) (AsQuoted (quoted_of q) ∷ []) (left_of self.old) (left_of self.new)) }
-        ensures stuck { result ≡ Err Fail.Unexpected → IsStuck (AString ∷ []) (left_of self.old) (left_of self.new) }
+        ensures stuck { result ≡ Err WalkFail.Unexpected → IsStuck (AString ∷ []) (left_of self.old) (left_of self.new) }
     {
-        let Token::Quoted(text) = self.peek()? else {
-            return Err(Fail::Unexpected);
+        let FormToken::Quoted(text) = self.peek()? else {
+            return Err(WalkFail::Unexpected);
         };
         self.advance();
         Ok(text)
     }
 
-    fn number(&mut self) -> Result<i64, Fail>
+    fn number(&mut self) -> Result<i64, WalkFail>
         ensures took { IfOk result (λ z. Took (ANumber ∷ []) (AsNumber z ∷ []) (left_of self.old) (left_of self.new)) }
-        ensures stuck { result ≡ Err Fail.Unexpected → IsStuck (ANumber ∷ []) (left_of self.old) (left_of self.new) }
+        ensures stuck { result ≡ Err WalkFail.Unexpected → IsStuck (ANumber ∷ []) (left_of self.old) (left_of self.new) }
     {
-        let Token::Number(n) = self.peek()? else {
-            return Err(Fail::Unexpected);
+        let FormToken::Number(n) = self.peek()? else {
+            return Err(WalkFail::Unexpected);
         };
         self.advance();
         Ok(n)
@@ -178,119 +179,119 @@ impl<'t, 'a> Walk<'t, 'a> {
 
     // The name of a node or a result.
     #[tactic(auto, using(crate::proofs::Walked::stuck_token, crate::proofs::Walked::not_free, crate::proofs::Walked::no_word))]
-    fn name(&mut self) -> Result<Word<'a>, Fail>
+    fn name(&mut self) -> Result<Word<'a>, WalkFail>
         ensures took { IfOk result (λ w. Took (AWord ∷ []) (AsWord w.bytes.now ∷ []) (left_of self.old) (left_of self.new)) }
         ensures free { IfOk result (λ w. is_free_word w.bytes.now ≡ true) }
-        ensures stuck { result ≡ Err Fail.Unexpected → IsStuck (AWord ∷ []) (left_of self.old) (left_of self.new) }
+        ensures stuck { result ≡ Err WalkFail.Unexpected → IsStuck (AWord ∷ []) (left_of self.old) (left_of self.new) }
     {
         match self.peek()? {
-            Token::Word(word) if is_free(word.bytes) => {
+            FormToken::Word(word) if is_free(word.bytes) => {
                 self.advance();
                 Ok(word)
             }
-            _ => Err(Fail::Unexpected),
+            _ => Err(WalkFail::Unexpected),
         }
     }
 
     // A string and the `)` of the call.
-    fn last_string(&mut self) -> Result<Quoted<'a>, Fail>
+    fn last_string(&mut self) -> Result<Quoted<'a>, WalkFail>
         ensures took { IfOk result (λ q. Took one_string_wants (AsQuoted (quoted_of q) ∷ AsClose ∷ []) (left_of self.old) (left_of self.new)) }
-        ensures stuck { result ≡ Err Fail.Unexpected → IsStuck one_string_wants (left_of self.old) (left_of self.new) }
+        ensures stuck { result ≡ Err WalkFail.Unexpected → IsStuck one_string_wants (left_of self.old) (left_of self.new) }
     {
         let text = self.string()?;
-        self.expect(Mark::Close)?;
+        self.expect(FormMark::Close)?;
         Ok(text)
     }
 
     // Two strings and the `)` of the call.
-    fn two_strings(&mut self) -> Result<Pair<'a>, Fail>
+    fn two_strings(&mut self) -> Result<Pair<'a>, WalkFail>
         ensures took { IfOk result (λ p. Took two_string_wants (AsQuoted (quoted_of p.0) ∷ AsComma ∷ AsQuoted (quoted_of p.1) ∷ AsClose ∷ []) (left_of self.old) (left_of self.new)) }
-        ensures stuck { result ≡ Err Fail.Unexpected → IsStuck two_string_wants (left_of self.old) (left_of self.new) }
+        ensures stuck { result ≡ Err WalkFail.Unexpected → IsStuck two_string_wants (left_of self.old) (left_of self.new) }
     {
         let first = self.string()?;
-        self.expect(Mark::Comma)?;
+        self.expect(FormMark::Comma)?;
         let second = self.last_string()?;
         Ok((first, second))
     }
 
     // A further string or none, and the `)` of the call.
     #[tactic(auto, using(crate::proofs::Walked::none_wanted, std::proofs::lemmas::Grind::common_steps, crate::proofs::Walked::took_none))]
-    fn maybe_string(&mut self) -> Result<Option<Quoted<'a>>, Fail>
+    fn maybe_string(&mut self) -> Result<Option<Quoted<'a>>, WalkFail>
         ensures took { IfOk result (λ o. Took (MaybeString ∷ []) (maybe_string (option_map quoted_of o) ++ AsClose ∷ []) (left_of self.old) (left_of self.new)) }
-        ensures stuck { result ≡ Err Fail.Unexpected → IsStuck (MaybeString ∷ []) (left_of self.old) (left_of self.new) }
+        ensures stuck { result ≡ Err WalkFail.Unexpected → IsStuck (MaybeString ∷ []) (left_of self.old) (left_of self.new) }
     {
-        if self.eat(Mark::Comma) {
+        if self.eat(FormMark::Comma) {
             let text = self.last_string()?;
             return Ok(Some(text));
         }
-        self.expect(Mark::Close)?;
+        self.expect(FormMark::Close)?;
         Ok(None)
     }
 
     // A list of strings.
-    fn strings(&mut self) -> Result<OneOrMore<Quoted<'a>>, Fail>
+    fn strings(&mut self) -> Result<OneOrMore<Quoted<'a>>, WalkFail>
         ensures took { IfOk result (λ s. Took strings_wants (strings_tokens (strings_of s)) (left_of self.old) (left_of self.new)) }
-        ensures stuck { result ≡ Err Fail.Unexpected → IsStuck strings_wants (left_of self.old) (left_of self.new) }
+        ensures stuck { result ≡ Err WalkFail.Unexpected → IsStuck strings_wants (left_of self.old) (left_of self.new) }
     {
-        self.expect(Mark::OpenBracket)?;
+        self.expect(FormMark::OpenBracket)?;
         let first = self.string()?;
         let mut rest = Vec::new(self.alloc);
-        while self.eat(Mark::Comma) {
+        while self.eat(FormMark::Comma) {
             let text = self.string()?;
-            push(&mut rest, text)?;
+            rest.push(text)?;
         }
-        self.expect(Mark::CloseBracket)?;
+        self.expect(FormMark::CloseBracket)?;
         Ok(OneOrMore { first, rest })
     }
 
     // A list of edges.
-    fn edges(&mut self) -> Result<OneOrMore<i64>, Fail>
+    fn edges(&mut self) -> Result<OneOrMore<i64>, WalkFail>
         ensures took { IfOk result (λ s. Took edges_wants (edges_tokens (edges_of s)) (left_of self.old) (left_of self.new)) }
-        ensures stuck { result ≡ Err Fail.Unexpected → IsStuck edges_wants (left_of self.old) (left_of self.new) }
+        ensures stuck { result ≡ Err WalkFail.Unexpected → IsStuck edges_wants (left_of self.old) (left_of self.new) }
     {
-        self.expect(Mark::OpenBracket)?;
+        self.expect(FormMark::OpenBracket)?;
         let first = self.number()?;
         let mut rest = Vec::new(self.alloc);
-        while self.eat(Mark::Comma) {
+        while self.eat(FormMark::Comma) {
             let edge = self.number()?;
-            push(&mut rest, edge)?;
+            rest.push(edge)?;
         }
-        self.expect(Mark::CloseBracket)?;
+        self.expect(FormMark::CloseBracket)?;
         Ok(OneOrMore { first, rest })
     }
 
     // The name of the method that comes next.
-    fn peek_method(&self) -> Result<MethodName, Fail>
+    fn peek_method(&self) -> Result<MethodName, WalkFail>
         ensures sees { IfOk result (λ n. SeesMethod n (left_of self.now)) }
-        ensures stuck { result ≡ Err Fail.Unexpected → IsStuck (AMethod ∷ []) (left_of self.now) (left_of self.now) }
+        ensures stuck { result ≡ Err WalkFail.Unexpected → IsStuck (AMethod ∷ []) (left_of self.now) (left_of self.now) }
     {
-        let Token::Word(word) = self.peek()? else {
-            return Err(Fail::Unexpected);
+        let FormToken::Word(word) = self.peek()? else {
+            return Err(WalkFail::Unexpected);
         };
         match method_name(word.bytes) {
             Some(name) => Ok(name),
-            None => Err(Fail::Unexpected),
+            None => Err(WalkFail::Unexpected),
         }
     }
 
     // The values and the tags of a variation, behind its columns.
-    fn variation(&mut self) -> Result<(Quoted<'a>, OneOrMore<Quoted<'a>>), Fail>
+    fn variation(&mut self) -> Result<(Quoted<'a>, OneOrMore<Quoted<'a>>), WalkFail>
         ensures took { IfOk result (λ p. Took variation_wants (AsComma ∷ AsQuoted (quoted_of p.0) ∷ AsComma ∷ strings_tokens (strings_of p.1)) (left_of self.old) (left_of self.new)) }
-        ensures stuck { result ≡ Err Fail.Unexpected → IsStuck variation_wants (left_of self.old) (left_of self.new) }
+        ensures stuck { result ≡ Err WalkFail.Unexpected → IsStuck variation_wants (left_of self.old) (left_of self.new) }
     {
-        self.expect(Mark::Comma)?;
+        self.expect(FormMark::Comma)?;
         let values = self.string()?;
-        self.expect(Mark::Comma)?;
+        self.expect(FormMark::Comma)?;
         let tags = self.strings()?;
         Ok((values, tags))
     }
 
-    fn vary(&mut self) -> Result<Method<'a>, Fail>
+    fn vary(&mut self) -> Result<Method<'a>, WalkFail>
         ensures took { IfOk result (λ m. TookArguments MethodName.Vary (method_of m) (left_of self.old) (left_of self.new)) }
-        ensures stuck { result ≡ Err Fail.Unexpected → IsStuck (arguments_wants MethodName.Vary) (left_of self.old) (left_of self.new) }
+        ensures stuck { result ≡ Err WalkFail.Unexpected → IsStuck (arguments_wants MethodName.Vary) (left_of self.old) (left_of self.new) }
     {
         match self.peek()? {
-            Token::Quoted(column) => {
+            FormToken::Quoted(column) => {
                 self.advance();
                 let (values, tags) = self.variation()?;
                 let name = self.maybe_string()?;
@@ -299,46 +300,46 @@ impl<'t, 'a> Walk<'t, 'a> {
             _ => {
                 let columns = self.strings()?;
                 let (values, tags) = self.variation()?;
-                self.expect(Mark::Comma)?;
+                self.expect(FormMark::Comma)?;
                 let name = self.last_string()?;
                 Ok(Method::VaryAll(columns, values, tags, name))
             }
         }
     }
 
-    fn histo1d(&mut self) -> Result<Action<'a>, Fail>
+    fn histo1d(&mut self) -> Result<Action<'a>, WalkFail>
         ensures took { IfOk result (λ a. TookArguments (MethodName.Action ActionName.Histo1D) (action_of a) (left_of self.old) (left_of self.new)) }
-        ensures stuck { result ≡ Err Fail.Unexpected → IsStuck (arguments_wants (MethodName.Action ActionName.Histo1D)) (left_of self.old) (left_of self.new) }
+        ensures stuck { result ≡ Err WalkFail.Unexpected → IsStuck (arguments_wants (MethodName.Action ActionName.Histo1D)) (left_of self.old) (left_of self.new) }
     {
         let x_edges = self.edges()?;
-        self.expect(Mark::Comma)?;
+        self.expect(FormMark::Comma)?;
         let x = self.string()?;
         let weight = self.maybe_string()?;
         Ok(Action::Histo1D(x_edges, x, weight))
     }
 
-    fn histo2d(&mut self) -> Result<Action<'a>, Fail>
+    fn histo2d(&mut self) -> Result<Action<'a>, WalkFail>
         ensures took { IfOk result (λ a. TookArguments (MethodName.Action ActionName.Histo2D) (action_of a) (left_of self.old) (left_of self.new)) }
-        ensures stuck { result ≡ Err Fail.Unexpected → IsStuck (arguments_wants (MethodName.Action ActionName.Histo2D)) (left_of self.old) (left_of self.new) }
+        ensures stuck { result ≡ Err WalkFail.Unexpected → IsStuck (arguments_wants (MethodName.Action ActionName.Histo2D)) (left_of self.old) (left_of self.new) }
     {
         let x_edges = self.edges()?;
-        self.expect(Mark::Comma)?;
+        self.expect(FormMark::Comma)?;
         let y_edges = self.edges()?;
-        self.expect(Mark::Comma)?;
+        self.expect(FormMark::Comma)?;
         let x = self.string()?;
-        self.expect(Mark::Comma)?;
+        self.expect(FormMark::Comma)?;
         let y = self.string()?;
         let weight = self.maybe_string()?;
         Ok(Action::Histo2D(x_edges, y_edges, x, y, weight))
     }
 
-    fn action_arguments(&mut self, name: ActionName) -> Result<Action<'a>, Fail>
+    fn action_arguments(&mut self, name: ActionName) -> Result<Action<'a>, WalkFail>
         ensures took { IfOk result (λ a. TookArguments (MethodName.Action name) (action_of a) (left_of self.old) (left_of self.new)) }
-        ensures stuck { result ≡ Err Fail.Unexpected → IsStuck (arguments_wants (MethodName.Action name)) (left_of self.old) (left_of self.new) }
+        ensures stuck { result ≡ Err WalkFail.Unexpected → IsStuck (arguments_wants (MethodName.Action name)) (left_of self.old) (left_of self.new) }
     {
         match name {
             ActionName::Count => {
-                self.expect(Mark::Close)?;
+                self.expect(FormMark::Close)?;
                 Ok(Action::Count)
             }
             ActionName::Sum => Ok(Action::Sum(self.last_string()?)),
@@ -352,9 +353,9 @@ impl<'t, 'a> Walk<'t, 'a> {
     }
 
     // What stands in the parentheses of a method, and the `)`.
-    fn arguments(&mut self, name: MethodName) -> Result<Method<'a>, Fail>
+    fn arguments(&mut self, name: MethodName) -> Result<Method<'a>, WalkFail>
         ensures took { IfOk result (λ m. TookArguments name (method_of m) (left_of self.old) (left_of self.new)) }
-        ensures stuck { result ≡ Err Fail.Unexpected → IsStuck (arguments_wants name) (left_of self.old) (left_of self.new) }
+        ensures stuck { result ≡ Err WalkFail.Unexpected → IsStuck (arguments_wants name) (left_of self.old) (left_of self.new) }
     {
         match name {
             MethodName::Define => Ok(Method::Define(self.two_strings()?)),
@@ -367,7 +368,7 @@ impl<'t, 'a> Walk<'t, 'a> {
             }
             MethodName::Vary => self.vary(),
             MethodName::Report => {
-                self.expect(Mark::Close)?;
+                self.expect(FormMark::Close)?;
                 Ok(Method::Report)
             }
             MethodName::Action(action) => Ok(Method::Action(self.action_arguments(action)?)),
@@ -375,26 +376,26 @@ impl<'t, 'a> Walk<'t, 'a> {
     }
 
     // A method, from its name to its `)`.
-    fn method(&mut self) -> Result<Method<'a>, Fail>
+    fn method(&mut self) -> Result<Method<'a>, WalkFail>
         ensures took { IfOk result (λ m. Took (AMethod ∷ []) (call (method_word (method_of m)) (arguments (method_of m))) (left_of self.old) (left_of self.new)) }
-        ensures stuck { result ≡ Err Fail.Unexpected → IsStuck (AMethod ∷ []) (left_of self.old) (left_of self.new) }
+        ensures stuck { result ≡ Err WalkFail.Unexpected → IsStuck (AMethod ∷ []) (left_of self.old) (left_of self.new) }
     {
         let name = self.peek_method()?;
         self.advance();
-        self.expect(Mark::Open)?;
+        self.expect(FormMark::Open)?;
         self.arguments(name)
     }
 
     // What books the name, behind it.
     #[tactic(auto, using(crate::proofs::Walked::took_booking))]
-    fn booking(&mut self, name: Word<'a>) -> Result<Form<'a>, Fail>
+    fn booking(&mut self, name: Word<'a>) -> Result<Form<'a>, WalkFail>
         requires { is_free_word name.bytes.now ≡ true }
         ensures took { IfOk result (λ f. TookBooking name.entry.bytes.now (form_of f) (left_of self.old) (left_of self.new)) }
-        ensures stuck { result ≡ Err Fail.Unexpected → IsStuck booking_wants (left_of self.old) (left_of self.new) }
+        ensures stuck { result ≡ Err WalkFail.Unexpected → IsStuck booking_wants (left_of self.old) (left_of self.new) }
     {
-        self.expect(Mark::Equals)?;
+        self.expect(FormMark::Equals)?;
         let parent = self.name()?;
-        self.expect(Mark::Dot)?;
+        self.expect(FormMark::Dot)?;
         let method = self.method()?;
         Ok(Form::Books {
             name,
@@ -404,23 +405,23 @@ impl<'t, 'a> Walk<'t, 'a> {
     }
 
     // The result that is asked for, in parentheses.
-    fn asking(&mut self) -> Result<Word<'a>, Fail>
+    fn asking(&mut self) -> Result<Word<'a>, WalkFail>
         ensures took { IfOk result (λ w. (is_free_word w.bytes.now ≡ true) × Took asking_wants (AsOpen ∷ AsWord w.bytes.now ∷ AsClose ∷ []) (left_of self.old) (left_of self.new)) }
-        ensures stuck { result ≡ Err Fail.Unexpected → IsStuck asking_wants (left_of self.old) (left_of self.new) }
+        ensures stuck { result ≡ Err WalkFail.Unexpected → IsStuck asking_wants (left_of self.old) (left_of self.new) }
     {
-        self.expect(Mark::Open)?;
+        self.expect(FormMark::Open)?;
         let name = self.name()?;
-        self.expect(Mark::Close)?;
+        self.expect(FormMark::Close)?;
         Ok(name)
     }
 
     #[tactic(auto, using(crate::proofs::Walked::stuck_token, crate::proofs::Walked::no_word, crate::proofs::Walked::took_line))]
-    fn line(&mut self) -> Result<Form<'a>, Fail>
+    fn line(&mut self) -> Result<Form<'a>, WalkFail>
         ensures took { IfOk result (λ f. TookForm (form_of f) (left_of self.old) (left_of self.new)) }
-        ensures stuck { result ≡ Err Fail.Unexpected → IsStuck (ALine ∷ []) (left_of self.old) (left_of self.new) }
+        ensures stuck { result ≡ Err WalkFail.Unexpected → IsStuck (ALine ∷ []) (left_of self.old) (left_of self.new) }
     {
-        let Token::Word(first) = self.peek()? else {
-            return Err(Fail::Unexpected);
+        let FormToken::Word(first) = self.peek()? else {
+            return Err(WalkFail::Unexpected);
         };
         self.advance();
         if is_free(first.bytes) {
@@ -433,7 +434,7 @@ impl<'t, 'a> Walk<'t, 'a> {
 }
 
 // The refusal of the next token, or of what is missing where the line ends.
-fn stuck(left: &[Placed], end: u32) -> LineStop
+fn stuck(left: &[TokenAt], end: u32) -> LineStop
     ensures { result ≡ LineStop.Syntax (place_from (map placed_of left.now) end) }
 {
     LineStop::Syntax(left.first().map_or(end, |placed| placed.place))
@@ -442,7 +443,7 @@ fn stuck(left: &[Placed], end: u32) -> LineStop
 /// The form that the tokens of a line are; the line has so many bytes.
 pub(crate) fn read_form<'a>(
     alloc: Global,
-    tokens: &[Placed<'a>],
+    tokens: &[TokenAt<'a>],
     end: u32,
 ) -> Result<Form<'a>, LineStop>
     requires { 0 < length tokens.now }
@@ -456,7 +457,7 @@ pub(crate) fn read_form<'a>(
     match walk.line() {
         Ok(form) if walk.left.is_empty() => Ok(form),
         Ok(_) => Err(stuck(walk.left, end)),
-        Err(Fail::Unexpected) => Err(stuck(walk.left, end)),
-        Err(Fail::Memory) => Err(LineStop::Memory),
+        Err(WalkFail::Unexpected) => Err(stuck(walk.left, end)),
+        Err(WalkFail::Memory) => Err(LineStop::Memory),
     }
 }

@@ -30,10 +30,9 @@ pub fn read_shard(alloc: Global, bytes: &[u8]) -> Result<Shard, ShardRefusal>
     let mut rest = bytes;
     let mut number: u32 = 1;
     while let Some((line, more)) = first_line(rest) {
-        match read_next(alloc, progress, line) {
-            Ok(Some(next)) => progress = next,
-            Ok(None) => return Err(ShardRefusal::Syntax { line: number }),
-            Err(_) => return Err(ShardRefusal::Memory),
+        match read_next(alloc, progress, line)? {
+            Some(next) => progress = next,
+            None => return Err(ShardRefusal::Syntax { line: number }),
         }
         rest = more;
         number += 1;

@@ -1,5 +1,5 @@
 -- Lists of different lengths.
-use Rattle.lemmas.proofs.{◌≡◌, ◌≢◌, false, ◌&&◌, List, [], ◌∷◌, length, refl, ap, suc, and_right_false}
+use Rattle.lemmas.proofs.{◌≡◌, ◌≢◌, false, List, [], ◌∷◌, length, refl, ap, suc, and_right_false}
 use Rattle.shard_lines.specs.{has_shape, have_shapes, PassShape, ShardLine}
 
 pub other_passes : (ss : List PassShape) (ps : List ShardLine) → length ss ≢ length ps → have_shapes ss ps ≡ false

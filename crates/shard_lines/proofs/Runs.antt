@@ -1,5 +1,5 @@
 -- Texts that grow piece by piece.
-use Rattle.lemmas.proofs.{◌≡◌, ◌≤◌, ◌<◌, ◌+◌, ℕ, List, [], ◌∷◌, ◌++◌, refl, ap, ◌∙◌, sym, append_assoc, append-nil, flat_map}
+use Rattle.lemmas.proofs.{◌≡◌, ◌+◌, ℕ, List, [], ◌∷◌, ◌++◌, refl, ap, ◌∙◌, sym, append_assoc, append-nil, flat_map}
 use Rattle.shard_lines.specs.{joined_words, spaced}
 
 -- a map of lists joins what it makes of two parts

@@ -22,15 +22,6 @@ use std::alloc::Global;
 
 // ---- copies
 
-fn copied<T: Copy + Drop>(alloc: Global, items: &[T]) -> Result<ListOf<T>, Memory>
-    ensures { IfOk result (λ list. list ≡ items.now) }
-{
-    match Vec::from_slice(alloc, items) {
-        Ok(items) => Ok(ListOf::from_vec(items)),
-        Err(_) => Err(Memory),
-    }
-}
-
 fn copied_line(alloc: Global, line: &ShardLine) -> Result<ShardLine, Memory>
     ensures { IfOk result (λ copy. copy ≡ line.now) }
 {
@@ -39,9 +30,18 @@ fn copied_line(alloc: Global, line: &ShardLine) -> Result<ShardLine, Memory>
         ShardLine::Sum(z) => Ok(ShardLine::Sum(*z)),
         ShardLine::Number(z) => Ok(ShardLine::Number(*z)),
         ShardLine::Extreme(z) => Ok(ShardLine::Extreme(*z)),
-        ShardLine::Take(values) => Ok(ShardLine::Take(copied(alloc, values.as_slice())?)),
-        ShardLine::Cells(cells) => Ok(ShardLine::Cells(copied(alloc, cells.as_slice())?)),
-        ShardLine::Report(counts) => Ok(ShardLine::Report(copied(alloc, counts.as_slice())?)),
+        ShardLine::Take(values) => Ok(ShardLine::Take(ListOf::from_slice(
+            alloc,
+            values.as_slice(),
+        )?)),
+        ShardLine::Cells(cells) => Ok(ShardLine::Cells(ListOf::from_slice(
+            alloc,
+            cells.as_slice(),
+        )?)),
+        ShardLine::Report(counts) => Ok(ShardLine::Report(ListOf::from_slice(
+            alloc,
+            counts.as_slice(),
+        )?)),
     }
 }
 

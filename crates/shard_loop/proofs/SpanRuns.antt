@@ -6,7 +6,7 @@ use Rattle.rdf_values.proofs.Evenly.{cuts_lead}
 use Rattle.rdf_model.specs.{first_of}
 use Rattle.loop_keys.specs.{IsJob, job_spans, JobView, passes_in}
 use Rattle.loop_pieces.specs.{cluster_fault}
-use Rattle.event_loop.specs.{IsFreshSlot, IsSlotOf, job_facts, Phase, SlotView}
+use Rattle.event_loop.specs.{IsFreshSlot, IsSlotOf, job_facts, SlotPhase, SlotView}
 use Rattle.shard_spans.specs.{clusters_in}
 use Rattle.shard_spans.proofs.SpanFaults.{below_end, clusters_more, clusters_none, first_faulty_cluster_has_the_fault, first_next, first_stays}
 use Rattle.shard_loop.specs.{loop_fault}
@@ -19,7 +19,7 @@ fault_in j = cluster_fault j.dataset (job_spans j) (passes_in j)
 pub record IsUpTo (j : JobView) (lo c : ℕ) (s : SlotView) : Type 0 where
   pub low : lo ≤ c
   pub slot : IsSlotOf (job_facts j) s
-  pub going : s.phase ≡ Phase.Going
+  pub going : s.phase ≡ SlotPhase.Going
   pub done : s.done ≡ clusters_in lo c
   pub sound : first_in (map (fault_in j) (clusters_in lo c)) ≡ None
 
@@ -44,7 +44,7 @@ module _ (j : JobView) where
 
   -- one more cluster, which has no fault
   pub goes_on : (lo c n : ℕ) (s t : SlotView) → n ≡ c + 1 → c < length (job_spans j) → IsUpTo j lo c s → IsSlotOf (job_facts j) t
-      → slice_get (job_facts j).faults c ≡ Some None → t.done ≡ s.done ++ c ∷ [] → t.phase ≡ Phase.Going → IsUpTo j lo n t
+      → slice_get (job_facts j).faults c ≡ Some None → t.done ≡ s.done ++ c ∷ [] → t.phase ≡ SlotPhase.Going → IsUpTo j lo n t
   goes_on lo c n s t next lt up slot none done going =
       let low = up.low in
       record {

@@ -4,7 +4,7 @@ ghost use Rattle.rdf_values.specs.{history, StatementsHaveWords};
 ghost use Rattle.loop_keys.specs.{Fits, job_of, job_spans};
 ghost use Rattle.shard_loop.specs.{IsSpanned};
 
-use event_loop::{Progress, SlotState, SlotStop};
+use event_loop::{ClusterProgress, SlotState, SlotStop};
 use expr_eval::Steps;
 use loop_keys::Job;
 use loop_pieces::LoopPiece;
@@ -40,8 +40,8 @@ fn process_span<L: Ledger>(
     let mut steps: Steps<L> = Steps::open(blank);
     for cluster in lo..hi {
         match state.process(job, cluster, &mut steps) {
-            Ok(Progress::Done) => {}
-            Ok(Progress::Faulted(fault)) => return Ok(Spanned::Faulted(fault)),
+            Ok(ClusterProgress::Done) => {}
+            Ok(ClusterProgress::Faulted(fault)) => return Ok(Spanned::Faulted(fault)),
             Err(SlotStop::Memory) => return Err(Memory),
         }
     }

@@ -1,5 +1,5 @@
 -- The lines of a run have the shapes of the script's passes.
-use Rattle.lemmas.proofs.{◌≡◌, ℕ, suc, ◌+◌, ◌*◌, ◌<◌, true, ◌&&◌, List, [], ◌∷◌, length, map, Option, None, Some, refl, ap, ap₂, ◌∙◌, arith, length-append, flat_map, nat_eq, slice_get, AllByRecursion, length-map, lt-ltb, nat_tests}
+use Rattle.lemmas.proofs.{◌≡◌, ℕ, suc, ◌+◌, ◌*◌, true, ◌&&◌, List, [], ◌∷◌, length, map, Option, None, Some, refl, ap, ap₂, ◌∙◌, arith, length-append, flat_map, nat_eq, slice_get, AllByRecursion, length-map, lt-ltb, nat_tests}
 use Rattle.rdf_values.specs.{ActionAt, ActionKind, Booking, cells_on, Fault, FitRows, flat_cell, Item, Pass, Path, ReportOn, Span, square_cell, Value}
 use Rattle.rdf_values.specs.results.Fold.{Cell}
 use Rattle.rdf_values.proofs.UnionLemmas.{length-below}

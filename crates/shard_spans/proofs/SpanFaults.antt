@@ -1,9 +1,9 @@
 -- The first fault of a span, cluster by cluster.
 use Rattle.rdf_values.proofs.Evenly.{lead_up}
-use Rattle.rdf_model.proofs.Faults.{first_of-assoc}
+use Rattle.loop_pieces.proofs.ByCluster.{fault_from-append}
 use Rattle.lemmas.proofs.{◌≡◌, ℕ, zero, suc, ◌+◌, ◌-◌, ◌<◌, ◌≤◌, List, [], ◌∷◌, ◌++◌, length, map, Option, None, Some, refl, sym, ap, ap₂, ◌∙◌, subst, arith, append-nil, length-append, All, slice_get, slice_range, All-nil, All-push, flat_map-append, map-append, range_length}
-use Rattle.rdf_values.specs.{Fault, first_in, Lead, Pass, Span, Value}
-use Rattle.rdf_model.specs.{Dataset, first_fault_from, first_fault_in, first_of, rows_in, span_rows}
+use Rattle.rdf_values.specs.{Fault, first_in, Lead, Pass, Span}
+use Rattle.rdf_model.specs.{Dataset, first_fault_from, first_of, rows_in, span_rows}
 use Rattle.loop_pieces.specs.{begin_of, cluster_fault}
 use Rattle.shard_spans.specs.{clusters_from, clusters_in, FirstFaultyClusterHasTheFault, span_fault}
 
@@ -88,13 +88,6 @@ range_of (s ∷ ss) a n (suc c) leads lt =
     record { span = r.span; there = r.there; up = r.up; within = r.within; next = λ more. r.next (omega arith) }
 
 module _ (d : Dataset) (ps : List Pass) where
-  fault_from-append : (xs ys : List (List Value)) (e : ℕ) → first_fault_from d e (xs ++ ys) ps ≡ first_of (first_fault_from d e xs ps) (first_fault_from d (e + length xs) ys ps)
-  fault_from-append [] ys e = let same : e ≡ e + 0 = omega arith in ap (λ k. first_fault_from d k ys ps) same
-  fault_from-append (x ∷ xs) ys e =
-      let same : (e + 1) + length xs ≡ e + suc (length xs) = omega arith in
-      ap (first_of (first_fault_in d e 0 x ps)) (fault_from-append xs ys (e + 1) ∙ ap (λ k. first_of (first_fault_from d (e + 1) xs ps) (first_fault_from d k ys ps)) same)
-      ∙ sym (first_of-assoc (first_fault_in d e 0 x ps) (first_fault_from d (e + 1) xs ps) (first_fault_from d (e + suc (length xs)) ys ps))
-
   module _ (spans : List Span) (leads : Lead 0 (length d.rows) spans) (lo : ℕ) where
     -- the clusters from lo on are the rows from where the first of them begins
     pub long : (n : ℕ) → lo + n < length spans → begin_of (slice_get spans lo) + length (rows_in spans d.rows (clusters_in lo (lo + n))) ≡ begin_of (slice_get spans (lo + n))
@@ -132,7 +125,7 @@ module _ (d : Dataset) (ps : List Pass) where
         ap (λ k. first_in (map (cluster_fault d spans ps) (clusters_in lo k))) same
         ∙ first_next (cluster_fault d spans ps) lo (lo + n) (omega arith)
         ∙ ap₂ first_of (faults n (omega arith)) (ap (λ k. first_fault_from d k here ps) (sym (long n (omega arith))))
-        ∙ sym (fault_from-append before here begin)
+        ∙ sym (fault_from-append d ps before here begin)
         ∙ sym (ap (λ l. first_fault_from d begin l ps) (ap (λ k. rows_in spans d.rows (clusters_in lo k)) same ∙ rows_next spans d.rows lo (lo + n) (omega arith)))
 
 pub first_faulty_cluster_has_the_fault : FirstFaultyClusterHasTheFault

@@ -4,7 +4,7 @@ use Rattle.rdf_values.specs.{EntryFault, Value, value_of}
 use Rattle.rdf_model.specs.{◌>>=◌, Dataset, Faults, for_all, Gives, Needs, Outcome, with_needs}
 use Rattle.snapshot_plan.specs.{PlanView}
 use Rattle.rdf_values.specs.declared.tables.value.Cell.{Cell}
-use Rattle.expr_eval.specs.{Input, input_outcome}
+use Rattle.expr_eval.specs.{ColumnInput, input_outcome}
 use Rattle.snapshot_rows.specs.{kept_cells}
 use Rattle.snapshot_entries.specs.{AreServed, Grows, IsAnswer, IsColumn, IsEntryAnswer, IsRowAnswer, IsServed, IsStoredOutcome, IsStoredValue, outcome_at, source_of, version_in}
 use Rattle.snapshot_entries.specs.declared.known.Known.{Known}
@@ -18,7 +18,7 @@ fault_told (Gives w) k e = cc e
 fault_told (Faults l) k e = let i : k ≡ l = cc e in ap Faults (sym i)
 fault_told (Needs m) k e = elim m [ ]
 
-pub given_value : (o : Outcome ⊥ Value) (c : ℕ) (i : Input) (v : Value) → o ≡ Gives v → input_outcome c i ≡ with_needs o → input_outcome c i ≡ Gives v
+pub given_value : (o : Outcome ⊥ Value) (c : ℕ) (i : ColumnInput) (v : Value) → o ≡ Gives v → input_outcome c i ≡ with_needs o → input_outcome c i ≡ Gives v
 given_value o c i v is e = e ∙ ap with_needs is
 
 pub stored_value : (o : Outcome ⊥ Value) (v : Value) → o ≡ Gives v → IsStoredOutcome o → IsStoredValue v
@@ -134,7 +134,7 @@ gathered_next f cs vs i c cell row more h lt is its so_far grown =
 pub gathered_all : (f : ℕ → Outcome ⊥ Value) (cs : List ℕ) (vs : List Value) (n : ℕ) (row : List Cell) → for_all f cs ≡ Gives vs → n ≡ length cs → map value_of row ≡ take n vs → map value_of row ≡ vs
 gathered_all f cs vs n row h is so_far = so_far ∙ take_all vs n (all_given f cs vs h ∙ sym is)
 
-pub cell_given : (p : PlanView) (d : Dataset) (e : ℕ) (lt : e < length d.rows) (cs : List ℕ) (vs : List Value) (i c : ℕ) (input : Input) → for_all (version_in p d e) cs ≡ Gives vs → i < length cs → c ≡ get_or cs i 0
+pub cell_given : (p : PlanView) (d : Dataset) (e : ℕ) (lt : e < length d.rows) (cs : List ℕ) (vs : List Value) (i c : ℕ) (input : ColumnInput) → for_all (version_in p d e) cs ≡ Gives vs → i < length cs → c ≡ get_or cs i 0
     → AllByRecursion (IsColumn p d) cs → input_outcome c input ≡ with_needs (version_in p d e c) → (n : ℕ) × (v : Value) × (input_outcome n input ≡ Gives v) × IsStoredValue v
 cell_given p d e lt cs vs i c input h within is columns told =
     let g = each_given (version_in p d e) cs vs i c 0 (Value.Int (pos 0)) h within is in

@@ -1,5 +1,5 @@
 -- Cells of which nothing is known.
-use Rattle.lemmas.proofs.{◌≡◌, ℕ, zero, suc, ◌<◌, List, [], ◌∷◌, ◌++◌, Some, sym, ap, ◌∙◌, slice_get}
+use Rattle.lemmas.proofs.{◌≡◌, ℕ, zero, suc, List, [], ◌∷◌, Some, sym, ap, ◌∙◌, slice_get}
 use Rattle.std.specs.List.{AllByRecursion}
 use Rattle.snapshot_entries.specs.declared.known.Known.{Known}
 

@@ -9,7 +9,7 @@ use Rattle.graph_numbers.proofs.Covering.{AreVisible}
 use Rattle.snapshot_plan.specs.{first_bad, is_bad, is_stored, PlanView, scope_in}
 use Rattle.snapshot_rows.specs.{kept_cells}
 use Rattle.snapshot_entries.specs.{IsColumn, IsWanted, IsWork, outcome_at, row_in, site_in, site_total, version_in}
-use Rattle.snapshot_entries.specs.declared.wanted.Wanted.{Wanted}
+use Rattle.snapshot_entries.specs.declared.wanted.WantedSites.{WantedSites}
 use Rattle.snapshot_entries.proofs.Evaluated.{row_fits}
 use Rattle.snapshot_entries.proofs.Paths.{column_stored, column_there, columns_are, filters_are}
 use Rattle.snapshot_entries.proofs.Told.{accepted_of}
@@ -58,7 +58,7 @@ module _ (p : PlanView) (d : Dataset) (work : IsWork p d) where
   each_column [] h = tt
   each_column (name ∷ names) h = (is_column name h.0, each_column names h.1)
 
-  module _ (w : Wanted) (wanted : IsWanted p d w) where
+  module _ (w : WantedSites) (wanted : IsWanted p d w) where
     pub filters_below : AllByRecursion (λ s. s < site_total p d) w.filters
     filters_below = subst (AllByRecursion (λ s. s < site_total p d)) (sym wanted.filters) (filter_sites_below d.columns (fn_names d.fns) (booked_statements p.graph) p.node)
 

@@ -1,5 +1,5 @@
 -- Sites that are evaluated, one after another.
-use Rattle.lemmas.proofs.{◌≡◌, ◌⊎◌, ⊎_elim, ℕ, zero, suc, ◌+◌, ◌<◌, ◌≤◌, List, [], ◌∷◌, length, get_or, Some, sym, ◌∙◌, subst, arith, Contains}
+use Rattle.lemmas.proofs.{◌≡◌, ℕ, zero, suc, ◌<◌, List, [], ◌∷◌, length, get_or, Some, sym, subst, arith, Contains}
 use Rattle.graph_numbers.specs.{IsBelow, Source}
 use Rattle.rdf_values.proofs.KeptLemmas.{In, here, there}
 use Rattle.snapshot_entries.specs.{Grows, IsSourceHeld, site_behind}

@@ -8,10 +8,10 @@ ghost use Rattle.snapshot_entries.specs.{AreHeld, AreKnown, data_of, IsColumn, I
 
 use crate::filters::pass_filters;
 use crate::known::Known;
-use crate::reading::Reading;
+use crate::reading::EntryReading;
 use crate::stop::EntryStop;
 use crate::values::{gather, serve_columns};
-use crate::wanted::Wanted;
+use crate::wanted::WantedSites;
 use expr_eval::Steps;
 use rdf_values::{Memory, Text};
 use snapshot_text::put_entry;
@@ -21,7 +21,7 @@ use std::sync::ledger::Ledger;
 /// Appends the record of columns whose values are at hand.
 fn append_row(
     alloc: Global,
-    at: &Reading<'_>,
+    at: &EntryReading<'_>,
     columns: &[u32],
     cells: &[Known],
     text: &mut Text,
@@ -41,7 +41,7 @@ fn append_row(
 /// Appends the record of the entry's columns.
 fn put_row<L: Ledger>(
     alloc: Global,
-    at: &Reading<'_>,
+    at: &EntryReading<'_>,
     columns: &[u32],
     cells: &mut [Known],
     text: &mut Text,
@@ -66,8 +66,8 @@ fn put_row<L: Ledger>(
 /// Appends the record of an entry that passes.
 pub(crate) fn try_entry<L: Ledger>(
     alloc: Global,
-    at: &Reading<'_>,
-    wanted: &Wanted,
+    at: &EntryReading<'_>,
+    wanted: &WantedSites,
     cells: &mut [Known],
     text: &mut Text,
     steps: &mut Steps<L>,

@@ -7,7 +7,7 @@ ghost use Rattle.expr_eval.specs.{scalar_value};
 ghost use Rattle.snapshot_entries.specs.{AreHeld, AreKnown, data_of, Grows, IsHeld, IsWork, outcome_of, plan_graph, plan_of, site_behind, site_in, site_total, source_of as source_in};
 
 use crate::known::Known;
-use crate::reading::{Reading, expression, source_of};
+use crate::reading::{EntryReading, expression, source_of};
 use crate::view::View;
 use expr_check::Checked;
 use expr_eval::{EvalStop, ScalarStop, Steps, eval, eval_int};
@@ -59,7 +59,7 @@ fn evaluate<L: Ledger>(
 /// What a site comes to in the entry, where all that it reads is known.
 fn try_site<L: Ledger>(
     alloc: Global,
-    at: &Reading<'_>,
+    at: &EntryReading<'_>,
     cells: &[Known],
     site: u32,
     steps: &mut Steps<L>,
@@ -86,7 +86,7 @@ pub(crate) fn site_behind(source: Source) -> Option<u32>
 }
 
 /// The site that gives a version, where one does: it has a lower number than the site that reads it.
-fn site_below(at: &Reading<'_>, _expr: &Checked, _site: u32, version: u32) -> Option<u32>
+fn site_below(at: &EntryReading<'_>, _expr: &Checked, _site: u32, version: u32) -> Option<u32>
     requires work { IsWork (plan_of at.now.job.now) (data_of at.now.job.now) }
     requires expr { IsSiteExpr (plan_graph (plan_of at.now.job.now) (data_of at.now.job.now)) _site _expr.now }
     requires read { Contains (map (λ c. c.0) _expr.now.kinds) version }
@@ -99,7 +99,7 @@ fn site_below(at: &Reading<'_>, _expr: &Checked, _site: u32, version: u32) -> Op
 /// Evaluates a site in the entry, unless it was, and before it the sites that it reads.
 pub(crate) fn serve<L: Ledger>(
     alloc: Global,
-    at: &Reading<'_>,
+    at: &EntryReading<'_>,
     cells: &mut [Known],
     site: u32,
     steps: &mut Steps<L>,

@@ -6,7 +6,7 @@ ghost use Rattle.snapshot_entries.specs.{AreKnown, data_of, IsAnswer, IsWork, ou
 
 use crate::evaluate::serve;
 use crate::known::Known;
-use crate::reading::Reading;
+use crate::reading::EntryReading;
 use crate::stop::EntryStop;
 use expr_eval::Steps;
 use rdf_values::{EntryFault, Memory, Value};
@@ -27,7 +27,7 @@ fn lets_through(outcome: &Result<Value, EntryFault>) -> Result<bool, EntryStop>
 /// Whether the entry passes the filter of that site.
 fn try_filter<L: Ledger>(
     alloc: Global,
-    at: &Reading<'_>,
+    at: &EntryReading<'_>,
     cells: &mut [Known],
     site: u32,
     steps: &mut Steps<L>,
@@ -48,7 +48,7 @@ fn try_filter<L: Ledger>(
 /// Whether the entry passes the filters of these sites, head first.
 pub(crate) fn pass_filters<L: Ledger>(
     alloc: Global,
-    at: &Reading<'_>,
+    at: &EntryReading<'_>,
     cells: &mut [Known],
     sites: &[u32],
     steps: &mut Steps<L>,

@@ -9,13 +9,13 @@ use graph_numbers::Source;
 
 /// An entry of a snapshot's table.
 #[derive(Clone, Copy)]
-pub(crate) struct Reading<'a> {
+pub(crate) struct EntryReading<'a> {
     pub(crate) job: &'a SnapJob<'a>,
     pub(crate) entry: u32,
 }
 
 /// A site's expression.
-pub(crate) fn expression<'a>(at: &Reading<'a>, site: u32) -> &'a Checked
+pub(crate) fn expression<'a>(at: &EntryReading<'a>, site: u32) -> &'a Checked
     requires work { IsWork (plan_of at.now.job.now) (data_of at.now.job.now) }
     requires site { site < site_total (plan_of at.now.job.now) (data_of at.now.job.now) }
     ensures { IsSiteExpr (plan_graph (plan_of at.now.job.now) (data_of at.now.job.now)) site result.now }
@@ -24,7 +24,7 @@ pub(crate) fn expression<'a>(at: &Reading<'a>, site: u32) -> &'a Checked
 }
 
 /// What gives a version its value.
-pub(crate) fn source_of(at: &Reading<'_>, version: u32) -> Source
+pub(crate) fn source_of(at: &EntryReading<'_>, version: u32) -> Source
     requires work { IsWork (plan_of at.now.job.now) (data_of at.now.job.now) }
     requires version { version < length (graph_versions (plan_graph (plan_of at.now.job.now) (data_of at.now.job.now))) }
     ensures { result ≡ source_in (plan_of at.now.job.now) (data_of at.now.job.now) version }

@@ -5,9 +5,9 @@ ghost use Rattle.snapshot_entries.specs.{data_of, IsEntryAnswer, IsRange, IsSkim
 use crate::entry::try_entry;
 use crate::job::SnapJob;
 use crate::known::{Known, none_known};
-use crate::reading::Reading;
+use crate::reading::EntryReading;
 use crate::stop::{EntryStop, SkimStop};
-use crate::wanted::Wanted;
+use crate::wanted::WantedSites;
 use expr_eval::Steps;
 use rdf_values::{Memory, Span, Text};
 use std::alloc::Global;
@@ -16,7 +16,7 @@ use std::sync::ledger::Ledger;
 /// What one slot keeps from entry to entry.
 #[derive(Drop)]
 pub struct Skim {
-    pub(crate) wanted: Wanted,
+    pub(crate) wanted: WantedSites,
     pub(crate) cells: Vec<Known>,
 }
 
@@ -36,7 +36,7 @@ impl Skim {
         requires work { IsWork (plan_of job.now) (data_of job.now) }
         ensures { IfOk result (IsSkimOf (plan_of job.now) (data_of job.now)) }
     {
-        let wanted = Wanted::of(alloc, job)?;
+        let wanted = WantedSites::of(alloc, job)?;
         let cells = none_known(alloc, job.plan.graph().sites())?;
         Ok(Skim { wanted, cells })
     }
@@ -56,7 +56,7 @@ impl Skim {
         ensures of { IsSkimOf (plan_of job.now) (data_of job.now) self.new }
         ensures answer { IsEntryAnswer (plan_of job.now) (data_of job.now) entry text.old text.new result }
     {
-        let at = Reading { job, entry };
+        let at = EntryReading { job, entry };
         try_entry(alloc, &at, &self.wanted, &mut self.cells, text, steps)
     }
 

@@ -8,10 +8,10 @@ ghost use Rattle.snapshot_entries.specs.{AreHeld, AreKnown, AreServed, data_of, 
 
 use crate::evaluate::{serve, site_behind};
 use crate::known::Known;
-use crate::reading::{Reading, source_of};
+use crate::reading::{EntryReading, source_of};
 use crate::stop::EntryStop;
 use crate::view::look;
-use expr_eval::{Input, Steps};
+use expr_eval::{ColumnInput, Steps};
 use rdf_values::{Cell, Memory};
 use std::alloc::Global;
 use std::sync::ledger::Ledger;
@@ -19,7 +19,7 @@ use std::sync::ledger::Ledger;
 /// Evaluates what gives a version its value, and finds its fault.
 fn serve_column<L: Ledger>(
     alloc: Global,
-    at: &Reading<'_>,
+    at: &EntryReading<'_>,
     cells: &mut [Known],
     column: u32,
     steps: &mut Steps<L>,
@@ -36,7 +36,7 @@ fn serve_column<L: Ledger>(
         serve(alloc, at, cells, site, steps)?;
     }
     match look(at, cells, column) {
-        Input::Faulted(kind) => Err(EntryStop::Fault(kind)),
+        ColumnInput::Faulted(kind) => Err(EntryStop::Fault(kind)),
         _ => Ok(()),
     }
 }
@@ -44,7 +44,7 @@ fn serve_column<L: Ledger>(
 /// Evaluates what gives these versions their values, in order, up to the first fault.
 pub(crate) fn serve_columns<L: Ledger>(
     alloc: Global,
-    at: &Reading<'_>,
+    at: &EntryReading<'_>,
     cells: &mut [Known],
     columns: &[u32],
     steps: &mut Steps<L>,
@@ -67,21 +67,21 @@ pub(crate) fn serve_columns<L: Ledger>(
 }
 
 /// A value that is known.
-fn cell_of<'a>(input: Input<'a>) -> Cell<'a>
+fn cell_of<'a>(input: ColumnInput<'a>) -> Cell<'a>
     requires { (c : ℕ) × (v : Value) × (input_outcome c input ≡ Gives v) × IsStoredValue v }
     ensures { (c : ℕ) (v : Value) → input_outcome c input.entry ≡ Gives v → value_of result ≡ v }
 {
     match input {
-        Input::Int(z) => Cell::Int(z),
-        Input::Vect(zs) => Cell::Vect(zs),
-        Input::Bool(_) | Input::Faulted(_) | Input::Missing => unreachable!(),
+        ColumnInput::Int(z) => Cell::Int(z),
+        ColumnInput::Vect(zs) => Cell::Vect(zs),
+        ColumnInput::Bool(_) | ColumnInput::Faulted(_) | ColumnInput::Missing => unreachable!(),
     }
 }
 
 /// The cells of these versions.
 pub(crate) fn gather<'a: 's, 's>(
     alloc: Global,
-    at: &Reading<'a>,
+    at: &EntryReading<'a>,
     cells: &'s [Known],
     columns: &[u32],
 ) -> Result<Vec<Cell<'s>>, Memory>

@@ -5,7 +5,7 @@ use Rattle.rdf_values.proofs.UnionLemmas.{times_concat, times_push, counts_by_dr
 use Rattle.merge_core.proofs.Merging.{Among, Told, told_nothing, told_both, first_told, among_left, among_right}
 use Rattle.merge_core.proofs.Holding.{only}
 use Rattle.slot_words.specs.{ClaimsSeen, IsLeast, IsPassed, last_of, MetBar, RanOut, SeatSeen}
-use Rattle.snapshot_pieces.specs.{AreFacts, AreMade, clusters_of, end_faults, fault_of, Finished, HasAll, HasMemory, HasStopped, IsPieceOf, IsServed, Piece, pieces_in, pieces_of, seat_in, SnapFacts, Stopped}
+use Rattle.snapshot_pieces.specs.{AreFacts, AreMade, clusters_of, end_faults, fault_of, Finished, HasAll, HasMemory, HasStopped, IsPieceOf, IsServed, TextPiece, pieces_in, pieces_of, seat_in, SnapFacts, Stopped}
 use Rattle.snapshot_pieces.specs.declared.finished.End.{End}
 use Rattle.snapshot_pieces.specs.declared.finished.End.TheVariants.{Over, Faulted, NoMemory}
 
@@ -28,7 +28,7 @@ module _ (c : ClaimsSeen) (facts : SnapFacts) (bar : ℕ) where
   passed_above : (seat : SeatSeen) (last : ℕ) → seat.passed ≡ Some last → IsPassed bar seat → bar ≤ last
   passed_above seat last is h = (subst (λ (o : Option ℕ). IfSome o (λ p. (bar ≤ p) × (0 < length seat.drawn) × (p ≡ last_of seat.drawn))) is h).0
 
-  over_sound : (seat : SeatSeen) (ps : List Piece) (k : ℕ) → AreMade facts ps → RanOut c seat (clusters_of ps) ⊎ MetBar c seat (clusters_of ps) → IsPassed bar seat → 0 < times k seat.drawn → k < bar → slice_get facts.faults k ≡ Some None
+  over_sound : (seat : SeatSeen) (ps : List TextPiece) (k : ℕ) → AreMade facts ps → RanOut c seat (clusters_of ps) ⊎ MetBar c seat (clusters_of ps) → IsPassed bar seat → 0 < times k seat.drawn → k < bar → slice_get facts.faults k ≡ Some None
   over_sound seat ps k made how passed some lt = ⊎_elim
       (λ (r : RanOut c seat (clusters_of ps)). made.sound k (subst (λ (l : List ℕ). 0 < times k l) r.all some))
       (λ (m : MetBar c seat (clusters_of ps)). ⊎_elim
@@ -103,9 +103,9 @@ module _ (c : ClaimsSeen) (facts : SnapFacts) (bar : ℕ) where
 
   -- the pieces with which a slot is over
   abbrev pub IsOver : Finished → Type 0
-  IsOver f = (ps : List Piece) × (f.end ≡ Over ps)
+  IsOver f = (ps : List TextPiece) × (f.end ≡ Over ps)
 
-  is_over : (end : End) (rest : List Fault) → IsServed end → fault_of end ++ rest ≡ [] → ((ps : List Piece) × (end ≡ Over ps)) × (rest ≡ [])
+  is_over : (end : End) (rest : List Fault) → IsServed end → fault_of end ++ rest ≡ [] → ((ps : List TextPiece) × (end ≡ Over ps)) × (rest ≡ [])
   is_over (Over ps) rest served none = ((ps, refl), none)
   is_over (Faulted f) rest served none = absurd (cc)
   is_over NoMemory rest served none = elim served [ ]
@@ -119,7 +119,7 @@ module _ (c : ClaimsSeen) (facts : SnapFacts) (bar : ℕ) where
   was_over : (f : Finished) → Ran f → (over : IsOver f) → Stopped c facts (Over over.0) f.seat
   was_over f ran over = subst (λ (e : End). Stopped c facts e f.seat) over.1 ran.stopped
 
-  ran_out : (seat : SeatSeen) (ps : List Piece) → c.clusters ≤ bar → RanOut c seat (clusters_of ps) ⊎ MetBar c seat (clusters_of ps) → IsPassed bar seat → RanOut c seat (clusters_of ps)
+  ran_out : (seat : SeatSeen) (ps : List TextPiece) → c.clusters ≤ bar → RanOut c seat (clusters_of ps) ⊎ MetBar c seat (clusters_of ps) → IsPassed bar seat → RanOut c seat (clusters_of ps)
   ran_out seat ps high how passed = ⊎_elim
       (λ (r : RanOut c seat (clusters_of ps)). r)
       (λ (m : MetBar c seat (clusters_of ps)).
@@ -148,7 +148,7 @@ module _ (c : ClaimsSeen) (facts : SnapFacts) (bar : ℕ) where
       let was = was_over f (All-head Ran f fs ran) first in
       let out = ran_out f.seat first.0 high was.1 (All-head (IsPassed bar) (seat_in f) (map seat_in fs) passed) in
       let rest = made_all fs high (All-tail Ran f fs ran) (All-tail IsOver f fs over) (All-tail (IsPassed bar) (seat_in f) (map seat_in fs) passed) in
-      ap₂ (λ a b. a ++ b) out.all rest ∙ sym (map-append (λ (p : Piece). p.cluster) first.0 (flat_map pieces_in fs)) ∙ ap (λ (e : End). clusters_of (pieces_of e ++ flat_map pieces_in fs)) (sym first.1)
+      ap₂ (λ a b. a ++ b) out.all rest ∙ sym (map-append (λ (p : TextPiece). p.cluster) first.0 (flat_map pieces_in fs)) ∙ ap (λ (e : End). clusters_of (pieces_of e ++ flat_map pieces_in fs)) (sym first.1)
 
   each_made : (fs : List Finished) → All Ran fs → All IsOver fs → All (IsPieceOf facts) (flat_map pieces_in fs)
   each_made [] ran over = All-nil (IsPieceOf facts)

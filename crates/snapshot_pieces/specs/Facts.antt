@@ -1,7 +1,7 @@
 -- What clusters are to give.
 use Rattle.std.specs.Prelude.{◌≡◌, ◌<◌, ℕ, List, Option, Some, None, length, slice_get}
 use Rattle.rdf_values.specs.{AreInEntryOrder, Fault, times}
-use Rattle.snapshot_pieces.specs.declared.piece.Piece.{Piece}
+use Rattle.snapshot_pieces.specs.declared.piece.TextPiece.{TextPiece}
 
 -- for each cluster its first fault or none, and the records of its entries
 pub record SnapFacts : Type 0 where
@@ -15,7 +15,7 @@ pub record AreFacts (clusters : ℕ) (facts : SnapFacts) : Type 0 where
   pub order : AreInEntryOrder facts.faults
 
 -- the piece has its cluster's records
-abbrev pub IsPieceOf : SnapFacts → Piece → Type 0
+abbrev pub IsPieceOf : SnapFacts → TextPiece → Type 0
 IsPieceOf facts p = slice_get facts.texts p.cluster ≡ Some p.text
 
 -- none of the clusters has a fault

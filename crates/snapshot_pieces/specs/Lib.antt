@@ -6,5 +6,5 @@ pub use Facts.{AreFacts, IsPieceOf, SnapFacts}
 pub use Gathered.{end_faults, fault_of, HasAll, HasMemory, IsOutcome, IsServed, pieces_in, pieces_of, seat_in}
 pub use Stopping.{AreMade, clusters_of, HasStopped, Stopped}
 pub use declared.finished.Finished.{Finished}
-pub use declared.gather.Outcome.{Outcome}
-pub use declared.piece.Piece.{Piece}
+pub use declared.gather.SnapshotOutcome.{SnapshotOutcome}
+pub use declared.piece.TextPiece.{TextPiece}

@@ -7,14 +7,14 @@ use Rattle.snapshot_pieces.specs.Facts.{AreSound, IsPieceOf, SnapFacts}
 use Rattle.snapshot_pieces.specs.declared.finished.End.{End}
 use Rattle.snapshot_pieces.specs.declared.finished.End.TheVariants.{Over, Faulted, NoMemory}
 use Rattle.snapshot_pieces.specs.declared.finished.Finished.{Finished}
-use Rattle.snapshot_pieces.specs.declared.piece.Piece.{Piece}
+use Rattle.snapshot_pieces.specs.declared.piece.TextPiece.{TextPiece}
 
 -- the clusters of pieces
-abbrev pub clusters_of : List Piece → List ℕ
-clusters_of ps = map (λ (p : Piece). p.cluster) ps
+abbrev pub clusters_of : List TextPiece → List ℕ
+clusters_of ps = map (λ (p : TextPiece). p.cluster) ps
 
 -- each piece has the records of its cluster, which has no fault
-pub record AreMade (facts : SnapFacts) (ps : List Piece) : Type 0 where
+pub record AreMade (facts : SnapFacts) (ps : List TextPiece) : Type 0 where
   pub each : All (IsPieceOf facts) ps
   pub sound : AreSound facts.faults (clusters_of ps)
 

@@ -1,12 +1,12 @@
 // How a slot stopped.
-use crate::piece::Piece;
+use crate::piece::TextPiece;
 use rdf_values::{Fault, ListOf};
 use slot_words::ClaimSeat;
 
 /// Why a slot stopped: no cluster is left for it, and it made these pieces; it met its first fault; or it had no memory.
 #[derive(Drop)]
 pub enum End {
-    Over(ListOf<Piece>),
+    Over(ListOf<TextPiece>),
     Faulted(Fault),
     NoMemory,
 }

@@ -5,7 +5,7 @@ ghost use Rattle.slot_words.specs.Seats.{IsOf};
 ghost use Rattle.snapshot_pieces.specs.{AreFacts, end_faults, HasMemory, HasStopped, IsOutcome, pieces_in, pieces_of, seat_in, SnapFacts};
 
 use crate::finished::{End, Finished};
-use crate::piece::Piece;
+use crate::piece::TextPiece;
 use rdf_values::{Fault, ListOf, Memory};
 use slot_words::{Claims, SeatList};
 use std::alloc::Global;
@@ -39,7 +39,7 @@ fn least_of(finished: &[Finished]) -> Result<Option<Fault>, Memory>
 }
 
 // Appends the pieces of the slot that stopped so, where it is over.
-fn keep_pieces(pieces: &mut ListOf<Piece>, end: End) -> Result<(), Memory>
+fn keep_pieces(pieces: &mut ListOf<TextPiece>, end: End) -> Result<(), Memory>
     ensures { OnOk result (pieces.new ≡ pieces.old ++ pieces_of end) }
 {
     match end {
@@ -49,7 +49,10 @@ fn keep_pieces(pieces: &mut ListOf<Piece>, end: End) -> Result<(), Memory>
 }
 
 // The seats of all slots, and the pieces of those that are over, in their order.
-fn taken_apart(alloc: Global, finished: Vec<Finished>) -> Result<(SeatList, ListOf<Piece>), Memory>
+fn taken_apart(
+    alloc: Global,
+    finished: Vec<Finished>,
+) -> Result<(SeatList, ListOf<TextPiece>), Memory>
     ensures seats { IfOk result (λ r. r.0 ≡ map seat_in finished.items) }
     ensures pieces { IfOk result (λ r. r.1 ≡ flat_map pieces_in finished.items) }
 {
@@ -66,13 +69,17 @@ fn taken_apart(alloc: Global, finished: Vec<Finished>) -> Result<(SeatList, List
 
 /// What the slots came to: the pieces of all clusters, in the order of the slots, or the first fault.
 #[derive(Drop)]
-pub enum Outcome {
-    Made(ListOf<Piece>),
+pub enum SnapshotOutcome {
+    Made(ListOf<TextPiece>),
     Faulted(Fault),
 }
 
 /// The outcome of slots that all stopped.
-pub fn gathered(alloc: Global, claims: Claims, finished: Vec<Finished>) -> Result<Outcome, Memory>
+pub fn gathered(
+    alloc: Global,
+    claims: Claims,
+    finished: Vec<Finished>,
+) -> Result<SnapshotOutcome, Memory>
     requires some { 0 < vec_len finished }
     requires many { vec_len finished ≡ claims.slots }
     requires of { All (λ f. IsOf claims f.seat) finished.items }
@@ -82,7 +89,7 @@ pub fn gathered(alloc: Global, claims: Claims, finished: Vec<Finished>) -> Resul
     let (seats, pieces) = taken_apart(alloc, finished)?;
     claims.finish(seats);
     match least {
-        Some(fault) => Ok(Outcome::Faulted(fault)),
-        None => Ok(Outcome::Made(pieces)),
+        Some(fault) => Ok(SnapshotOutcome::Faulted(fault)),
+        None => Ok(SnapshotOutcome::Made(pieces)),
     }
 }

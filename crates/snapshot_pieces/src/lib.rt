@@ -8,6 +8,6 @@ pub mod piece;
 pub mod place;
 
 pub use crate::finished::{End, Finished};
-pub use crate::gather::{Outcome, gathered};
-pub use crate::piece::Piece;
+pub use crate::gather::{SnapshotOutcome, gathered};
+pub use crate::piece::TextPiece;
 pub use crate::place::placed;

@@ -1,5 +1,5 @@
 -- The variation that is asked for, among those of a graph.
-use Rattle.lemmas.proofs.{◌≡◌, ◌<◌, ℕ, true, ◌&&◌, List, length, get_or, Some, ap, ap₂, sym, ◌∙◌, both_true, bytes_eq-Decides, list_any_at, slice_get-get_or}
+use Rattle.lemmas.proofs.{◌≡◌, ◌<◌, ℕ, true, List, length, get_or, Some, ap, ap₂, sym, ◌∙◌, both_true, bytes_eq-Decides, list_any_at, slice_get-get_or}
 use Rattle.rdf_values.specs.{same, same_variation, Variation}
 use Rattle.snapshot_plan.specs.{IsNumber, no_variation}
 

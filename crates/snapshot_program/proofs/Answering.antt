@@ -10,7 +10,7 @@ use Rattle.snapshot_due.specs.declared.status.SnapshotStatus.TheVariants.{Memory
 use Rattle.snapshot_program.specs.{AreInputs, IsAnswer, IsOfTable, IsPlanned, IsRefusal, IsScriptFile, RefusesFiles, TurnsBesides}
 use Rattle.snapshot_program.specs.Answers.{Answers}
 use Rattle.snapshot_program.specs.declared.answer.Answer.{Answer}
-use Rattle.snapshot_program.specs.declared.inputs.Inputs.{Inputs}
+use Rattle.snapshot_program.specs.declared.inputs.SnapshotInputs.{SnapshotInputs}
 use Rattle.snapshot_program.specs.declared.planning.Planned.{Planned}
 use Rattle.snapshot_program.proofs.Staging.{more_of_plan, more_of_script, more_of_table}
 
@@ -53,7 +53,7 @@ module _ (fns : List Function) (words : List (List ℕ)) (c : SnapCommand) (aske
           (λ script. more_of_table statuses c.table d (f c.table) (λ t g. ⊥) (λ t g. IsDueOver fns c script t.table g) (λ t none. absurd none)) h)
 
   -- both files were read
-  pub inputs_answer : (told : Told) (turns : List (List ℕ)) (first now : ℕ) (inputs : Inputs) (a : Answer) → AreInputs c told inputs → Answers (IsDueOver fns c inputs.script inputs.columns.table) a → IsAnswer fns words told turns first now a
+  pub inputs_answer : (told : Told) (turns : List (List ℕ)) (first now : ℕ) (inputs : SnapshotInputs) (a : Answer) → AreInputs c told inputs → Answers (IsDueOver fns c inputs.script inputs.columns.table) a → IsAnswer fns words told turns first now a
   inputs_answer told turns first now inputs a i h = record {
     untaken = λ e. absurd (of_table a.status Words h.0 (λ x. x) e);
     taken = λ e. not_untaken e;

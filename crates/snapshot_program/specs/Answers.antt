@@ -9,7 +9,7 @@ use Rattle.snapshot_words.specs.{asked_of, SnapCommand}
 use Rattle.snapshot_due.specs.{cause_over, IsDue, IsFinal, plan_over, SnapshotDue, SnapshotStatus, statuses, usage_line, WithPlan}
 use Rattle.snapshot_due.specs.declared.status.SnapshotStatus.TheVariants.{Memory, Words, ReadFault, WriteFault}
 use Rattle.snapshot_program.specs.declared.answer.Answer.{Answer}
-use Rattle.snapshot_program.specs.declared.inputs.Inputs.{Inputs}
+use Rattle.snapshot_program.specs.declared.inputs.SnapshotInputs.{SnapshotInputs}
 use Rattle.snapshot_program.specs.declared.inputs.ReadInputs.{ReadInputs}
 use Rattle.snapshot_program.specs.declared.planning.Planned.{Planned}
 
@@ -59,7 +59,7 @@ abbrev pub IsScriptFile : Option Files → List ℕ → ℕ → Type 0
 IsScriptFile files name i = IfSome files (λ f. (s : Script) × HoldsTheScript s (f name))
 
 -- the script of its file, and the columns of the table of its file over the clusters that are asked for
-pub record AreInputs (c : SnapCommand) (files : Option Files) (inputs : Inputs) : Type 0 where
+pub record AreInputs (c : SnapCommand) (files : Option Files) (inputs : SnapshotInputs) : Type 0 where
   pub script : Tells files c.script (HoldsTheScript inputs.script)
   pub table : Tells files c.table (HoldsTheTable (marked_in inputs.columns))
   pub bookable : IsBookable inputs.script

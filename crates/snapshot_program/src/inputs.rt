@@ -15,7 +15,7 @@ use std::thread::Threads;
 
 /// A script, and a table's columns.
 #[derive(Drop)]
-pub(crate) struct Inputs {
+pub(crate) struct SnapshotInputs {
     pub(crate) script: Script,
     pub(crate) columns: Columns,
 }
@@ -23,7 +23,7 @@ pub(crate) struct Inputs {
 /// Both that the command names, or the answer where one isn't there or is refused.
 #[derive(Drop)]
 pub(crate) enum ReadInputs {
-    Both(Inputs),
+    Both(SnapshotInputs),
     Refused(Answer),
 }
 
@@ -45,7 +45,7 @@ pub(crate) fn read_inputs<R: Threads + Sync, S: Shelf>(
     };
     let (size, slots) = (command.cluster, command.slots);
     match read_columns_file(rt, alloc, shelf, command.table.as_str(), size, slots)? {
-        ReadFile::Whole(columns) => Ok(ReadInputs::Both(Inputs { script, columns })),
+        ReadFile::Whole(columns) => Ok(ReadInputs::Both(SnapshotInputs { script, columns })),
         ReadFile::Refused(refusal) => Ok(ReadInputs::Refused(Answer::of(refusal))),
     }
 }

@@ -8,7 +8,7 @@ ghost use Rattle.snapshot_words.specs.{IsAsked};
 ghost use Rattle.snapshot_program.specs.Answers.{Answers};
 
 use crate::answer::Answer;
-use crate::inputs::Inputs;
+use crate::inputs::SnapshotInputs;
 use crate::lines::{fault_line, long_line};
 use crate::planning::{Planned, plan_for};
 use entry_fns::FnList;
@@ -70,7 +70,7 @@ fn answer_run<R: Threads + Sync, G: Gate>(
 pub(crate) fn answer_over<R: Threads + Sync, G: Gate>(
     host: &Host<'_, R, G>,
     alloc: Global,
-    inputs: Inputs,
+    inputs: SnapshotInputs,
     command: &SnapCommand,
     functions: &FnList,
 ) -> Result<Answer, Memory>
@@ -78,7 +78,7 @@ pub(crate) fn answer_over<R: Threads + Sync, G: Gate>(
     requires asked { IsAsked command.now }
     ensures { IfOk result (Answers (IsDueOver (functions_in functions.now) command.now inputs.script inputs.columns.table)) }
 {
-    let Inputs { script, columns } = inputs;
+    let SnapshotInputs { script, columns } = inputs;
     let plan = match plan_for(alloc, script, &columns, functions, command)? {
         Planned::Plan(plan) => plan,
         Planned::Refused(answer) => return Ok(answer),

@@ -3,7 +3,7 @@ use Rattle.lemmas.proofs.{◌≡◌, ℕ, zero, suc, ◌<◌, ◌≤◌, List, [
 use Rattle.rdf_values.specs.{Lead, Span, times}
 use Rattle.rdf_values.proofs.UnionLemmas.{times_push}
 use Rattle.merge_core.proofs.Holding.{only}
-use Rattle.snapshot_pieces.specs.{AreMade, clusters_of, IsPieceOf, Piece, SnapFacts}
+use Rattle.snapshot_pieces.specs.{AreMade, clusters_of, IsPieceOf, TextPiece, SnapFacts}
 use Rattle.rdf_values.proofs.Evenly.{cuts_lead, lead_up}
 use Rattle.rdf_model.specs.{Dataset}
 use Rattle.columns.specs.Views.{CutsView}
@@ -44,18 +44,18 @@ module _ (p : PlanView) (d : Dataset) (spans : List Span) (c : ℕ) (s : Span) (
   piece_stopped before after SkimStop.Memory h = tt
 
 -- one more piece
-pub made_more : (facts : SnapFacts) (ps more : List Piece) (piece : Piece) (n : ℕ) → AreMade facts ps → more ≡ ps ++ piece ∷ [] → IsMade facts n (Ok piece) → AreMade facts more
+pub made_more : (facts : SnapFacts) (ps more : List TextPiece) (piece : TextPiece) (n : ℕ) → AreMade facts ps → more ≡ ps ++ piece ∷ [] → IsMade facts n (Ok piece) → AreMade facts more
 made_more facts ps more piece n made is one = record {
   each = subst (All (IsPieceOf facts)) (sym is) (All-push (IsPieceOf facts) ps piece made.each one.1);
   sound = λ k some. ⊎_elim
       (λ (here : 0 < times k (clusters_of ps)). made.sound k here)
       (λ (none : times k (clusters_of ps) ≤ 0).
-      let clusters : clusters_of more ≡ clusters_of ps ++ piece.cluster ∷ [] = ap clusters_of is ∙ map-append (λ (p : Piece). p.cluster) ps (piece ∷ []) in
+      let clusters : clusters_of more ≡ clusters_of ps ++ piece.cluster ∷ [] = ap clusters_of is ∙ map-append (λ (p : TextPiece). p.cluster) ps (piece ∷ []) in
       let same : piece.cluster ≡ k = only k piece.cluster (omega (arith, ap (times k) clusters, times_push k (clusters_of ps) piece.cluster, some, none)) in
       subst (λ (j : ℕ). slice_get facts.faults j ≡ Some None) (sym one.0 ∙ same) one.2)
       (cases_lt 0 (times k (clusters_of ps)));
 }
 
-pub done_more : (facts : SnapFacts) (ps more : List Piece) (piece : Piece) (n : ℕ) (drawn now : List ℕ) → clusters_of ps ≡ drawn → more ≡ ps ++ piece ∷ [] → IsMade facts n (Ok piece) → now ≡ drawn ++ n ∷ [] → clusters_of more ≡ now
+pub done_more : (facts : SnapFacts) (ps more : List TextPiece) (piece : TextPiece) (n : ℕ) (drawn now : List ℕ) → clusters_of ps ≡ drawn → more ≡ ps ++ piece ∷ [] → IsMade facts n (Ok piece) → now ≡ drawn ++ n ∷ [] → clusters_of more ≡ now
 done_more facts ps more piece n drawn now done is one grown =
-    ap clusters_of is ∙ map-append (λ (p : Piece). p.cluster) ps (piece ∷ []) ∙ ap (λ l. l ++ piece.cluster ∷ []) done ∙ ap (λ j. drawn ++ j ∷ []) one.0 ∙ sym grown
+    ap clusters_of is ∙ map-append (λ (p : TextPiece). p.cluster) ps (piece ∷ []) ∙ ap (λ l. l ++ piece.cluster ∷ []) done ∙ ap (λ j. drawn ++ j ∷ []) one.0 ∙ sym grown

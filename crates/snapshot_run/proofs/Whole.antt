@@ -9,7 +9,7 @@ use Rattle.snapshot_plan.specs.{IsPlan, plan_columns, PlanView}
 use Rattle.snapshot_text.specs.{entries_text, entry_text, header_text, table_text}
 use Rattle.snapshot_rows.specs.{plan_path, SnapFault, snapshot_entries, snapshot_fault, unless_fault}
 use Rattle.snapshot_entries.specs.{IsWork, plan_graph, rows_of}
-use Rattle.snapshot_pieces.specs.{AreFacts, HasAll, IsOutcome, Outcome}
+use Rattle.snapshot_pieces.specs.{AreFacts, HasAll, IsOutcome, SnapshotOutcome}
 use Rattle.snapshot_run.specs.{AreRecords, as_fault, facts_of, IsRun, IsTogether, most_bytes, spans_of}
 use Rattle.snapshot_run.specs.declared.stop.SnapStop.{SnapStop}
 use Rattle.snapshot_run.proofs.Clusters.{first_cluster, in_entry_order, kept_of_all}
@@ -46,13 +46,13 @@ module _ (p : PlanView) (d : Dataset) (cuts : CutsView) (all : cuts.entries ≡ 
   first_is : first_in (facts_of p d (spans_of cuts)).faults ≡ option_map as_fault (snapshot_fault p d 0 d.rows)
   first_is = first_cluster d (plan_path p) p.columns p.under (spans_of cuts) leads
 
-  pub is_fault : (end : Outcome) (fault : Fault) → IsOutcome (facts_of p d (spans_of cuts)) end → end ≡ Outcome.Faulted fault → AreRecords p d (Err (SnapStop.Fault fault.entry fault.kind))
+  pub is_fault : (end : SnapshotOutcome) (fault : Fault) → IsOutcome (facts_of p d (spans_of cuts)) end → end ≡ SnapshotOutcome.Faulted fault → AreRecords p d (Err (SnapStop.Fault fault.entry fault.kind))
   is_fault end fault ended is = fault_as (snapshot_fault p d 0 d.rows) fault (sym first_is ∙ subst (IsOutcome (facts_of p d (spans_of cuts))) is ended)
 
-  pub has_all : (end : Outcome) (ps : _) → IsOutcome (facts_of p d (spans_of cuts)) end → end ≡ Outcome.Made ps → HasAll (facts_of p d (spans_of cuts)) ps
+  pub has_all : (end : SnapshotOutcome) (ps : _) → IsOutcome (facts_of p d (spans_of cuts)) end → end ≡ SnapshotOutcome.Made ps → HasAll (facts_of p d (spans_of cuts)) ps
   has_all end ps ended is = (subst (IsOutcome (facts_of p d (spans_of cuts))) is ended).1
 
-  pub are_records : (end : Outcome) (ps : _) (texts : List (List ℕ)) → IsOutcome (facts_of p d (spans_of cuts)) end → end ≡ Outcome.Made ps → texts ≡ (facts_of p d (spans_of cuts)).texts → AreRecords p d (Ok texts)
+  pub are_records : (end : SnapshotOutcome) (ps : _) (texts : List (List ℕ)) → IsOutcome (facts_of p d (spans_of cuts)) end → end ≡ SnapshotOutcome.Made ps → texts ≡ (facts_of p d (spans_of cuts)).texts → AreRecords p d (Ok texts)
   are_records end ps texts ended is same = (
     none_as (snapshot_fault p d 0 d.rows) (sym first_is ∙ (subst (IsOutcome (facts_of p d (spans_of cuts))) is ended).0),
     ap (flat_map (λ t. t)) same ∙ texts_join (λ (s : Span). snapshot_entries p d (rows_of d s)) (spans_of cuts) ∙ ap entries_text (kept_of_all d (plan_path p) p.columns p.under (spans_of cuts) leads),

@@ -7,7 +7,7 @@ use Rattle.snapshot_plan.specs.{PlanView}
 use Rattle.snapshot_text.specs.{entries_text}
 use Rattle.snapshot_rows.specs.{SnapFault, snapshot_entries, snapshot_fault}
 use Rattle.snapshot_entries.specs.{rows_of, SkimStop}
-use Rattle.snapshot_pieces.specs.{IsPieceOf, Piece, SnapFacts}
+use Rattle.snapshot_pieces.specs.{IsPieceOf, TextPiece, SnapFacts}
 
 -- the clusters
 abbrev pub spans_of : CutsView → List Span
@@ -25,7 +25,7 @@ facts_of p d spans = record {
 }
 
 -- a cluster without a fault has that piece; or the fault is the cluster's; or memory was wanted
-abbrev pub IsMade : SnapFacts → ℕ → Result Piece SkimStop → Type 0
+abbrev pub IsMade : SnapFacts → ℕ → Result TextPiece SkimStop → Type 0
 IsMade facts c (Ok piece) = (piece.cluster ≡ c) × IsPieceOf facts piece × (slice_get facts.faults c ≡ Some None)
 IsMade facts c (Err (SkimStop.Fault entry kind)) = slice_get facts.faults c ≡ Some (Some (record { entry = entry; pass = 0; kind = kind }))
 IsMade facts c (Err SkimStop.Memory) = ⊤

@@ -6,7 +6,7 @@ ghost use Rattle.snapshot_run.specs.{facts_of, IsMade, spans_of};
 use expr_eval::Steps;
 use rdf_values::Text;
 use snapshot_entries::{Skim, SkimStop, SnapJob};
-use snapshot_pieces::Piece;
+use snapshot_pieces::TextPiece;
 use std::alloc::Global;
 use std::sync::ledger::Ledger;
 
@@ -17,7 +17,7 @@ pub(crate) fn make_piece<L: Ledger>(
     skim: &mut Skim,
     cluster: u32,
     steps: &mut Steps<L>,
-) -> Result<Piece, SkimStop>
+) -> Result<TextPiece, SkimStop>
     requires work { IsWork (plan_of job.now) (data_of job.now) }
     requires of { IsSkimOf (plan_of job.now) (data_of job.now) skim.old }
     requires cluster { cluster < length (spans_of job.now.columns.now.cuts) }
@@ -27,7 +27,7 @@ pub(crate) fn make_piece<L: Ledger>(
     let span = job.columns.cuts().range(cluster);
     let mut text = Text::new(alloc);
     match skim.cluster(alloc, job, span, &mut text, steps) {
-        Ok(()) => Ok(Piece { cluster, text }),
+        Ok(()) => Ok(TextPiece { cluster, text }),
         Err(stop) => Err(stop),
     }
 }

@@ -9,7 +9,7 @@ use rdf_outside::Gate;
 use rdf_values::{ListOf, Text};
 use slot_words::Claims;
 use snapshot_entries::SnapJob;
-use snapshot_pieces::{Outcome, gathered, placed};
+use snapshot_pieces::{SnapshotOutcome, gathered, placed};
 use std::alloc::Global;
 use std::thread::Threads;
 
@@ -30,11 +30,11 @@ pub(crate) fn make_records<R: Threads + Sync, G: Gate>(
     let ready = seats.into_vec();
     let finished = run_slots(rt, alloc, job, &claims, ready, gate)?;
     match gathered(alloc, claims, finished)? {
-        Outcome::Faulted(fault) => Err(SnapStop::Fault {
+        SnapshotOutcome::Faulted(fault) => Err(SnapStop::Fault {
             entry: fault.entry,
             kind: fault.kind,
         }),
-        Outcome::Made(pieces) => {
+        SnapshotOutcome::Made(pieces) => {
             let texts = placed(alloc, clusters, pieces)?;
             Ok(texts)
         }

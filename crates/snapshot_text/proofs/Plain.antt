@@ -1,5 +1,5 @@
 -- No byte of a field is a comma, a double quote or a line's end.
-use Rattle.lemmas.proofs.{◌≡◌, ◌<◌, ◌⊎◌, ◌^◌, ℕ, ℤ, pos, negsuc, suc, true, false, ◌&&◌, ◌||◌, List, [], ◌∷◌, ◌++◌, length, refl, ◌∙◌, arith, decimal, ◌==◌, all_ascii_digits, both_true, decimal_nonempty, digits_decimal, is_ascii_digit, join_with_byte, list_all, list_any, nat_tests, signed_decimal}
+use Rattle.lemmas.proofs.{◌≡◌, ◌<◌, ◌^◌, ℕ, ℤ, pos, negsuc, suc, true, false, List, [], ◌∷◌, ◌++◌, length, refl, arith, decimal, ◌==◌, all_ascii_digits, both_true, decimal_nonempty, digits_decimal, is_ascii_digit, join_with_byte, list_all, list_any, nat_tests, signed_decimal}
 use Rattle.csv.specs.Writing.{default_writer, needs_byte}
 use Rattle.rdf_values.specs.{Has64Bits, is_name, is_word_byte, is_word_start}
 use Rattle.rdf_values.proofs.OneText.{own}

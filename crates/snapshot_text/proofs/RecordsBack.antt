@@ -1,5 +1,5 @@
 -- The records of a table's text are the fields that were written.
-use Rattle.lemmas.proofs.{◌≡◌, ◌<◌, ◌+◌, ℕ, zero, suc, false, ◌&&◌, ◌||◌, List, [], ◌∷◌, ◌++◌, length, refl, ap, sym, ◌∙◌, arith, codes, length-append, ◌==◌, if◌then◌else◌, append-nil, join_with_byte, nat_tests}
+use Rattle.lemmas.proofs.{◌≡◌, ◌<◌, ◌+◌, ℕ, zero, suc, false, List, [], ◌∷◌, ◌++◌, length, refl, ap, sym, arith, codes, length-append, ◌==◌, if◌then◌else◌, append-nil, join_with_byte, nat_tests}
 use Rattle.csv.specs.Machine.{next_record}
 use Rattle.csv.specs.Reading.{default_config, records_from, strip_bom}
 use Rattle.csv.specs.Writing.{default_writer, fields_text, is_blank, read_back, row_body, row_text}

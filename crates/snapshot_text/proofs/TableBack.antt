@@ -1,5 +1,5 @@
 -- The fields that were written spell the table.
-use Rattle.lemmas.proofs.{◌≡◌, ◌≤◌, ◌<◌, ◌+◌, ℕ, ℤ, pos, negsuc, suc, ◌^◌, Bool, true, false, ◌&&◌, List, [], ◌∷◌, ◌++◌, length, map, take, drop, All, refl, ap, ◌∙◌, arith, codes, cond, length-append, Some, Ok, not, ◌==◌, if◌then◌else◌, nat_eq, nat_le, nat_lt, after_first, All-head, All-tail, before_first, both_true, join_with_byte, length-map, list_all, nat_tests, onto_first, position_or_len, signed_decimal, slice_split}
+use Rattle.lemmas.proofs.{◌≡◌, ◌≤◌, ◌<◌, ◌+◌, ℕ, ℤ, pos, negsuc, suc, ◌^◌, Bool, true, false, ◌&&◌, List, [], ◌∷◌, ◌++◌, length, map, take, drop, All, refl, ap, ◌∙◌, arith, codes, cond, length-append, Some, Ok, not, nat_eq, nat_le, nat_lt, after_first, All-head, All-tail, before_first, both_true, join_with_byte, length-map, list_all, nat_tests, onto_first, position_or_len, signed_decimal, slice_split}
 use lib.Signed.{mag}
 use Rattle.rdf_values.proofs.OneText.{integer_of_text}
 use Rattle.rdf_values.specs.{AreColumns, cells_from, ColType, Column, column_of, ends_in_cut, FitRows, FitsColumn, FitsRow, Has64Bits, has_name, header_from, integer_of, integers_of, is_colon, is_cut, is_name, is_semicolon, IsStored, IsTable, MarkedRow, marks_from, next_column, row_of, rows_from, same, table_of, TableView, type_of, Value, vector_of}

@@ -1,5 +1,5 @@
 -- A table's text reads as the table.
-use Rattle.lemmas.proofs.{◌≡◌, ◌≤◌, ◌<◌, ℕ, Bool, true, ◌&&◌, List, [], ◌∷◌, ◌++◌, length, map, refl, ap, ap₂, subst, ◌∙◌, arith, length-append, All-head, both_true, flat_map-append, join_with_byte, length-map, list_all, signed_decimal}
+use Rattle.lemmas.proofs.{◌≡◌, ◌<◌, ℕ, Bool, true, List, [], ◌∷◌, ◌++◌, length, map, refl, ap, ap₂, subst, ◌∙◌, arith, length-append, All-head, both_true, flat_map-append, join_with_byte, length-map, list_all, signed_decimal}
 use Rattle.csv.specs.Writing.{default_writer, row_text}
 use Rattle.csv.proofs.RoundTrip.{rows_text}
 use Rattle.table_csv.specs.{csv_records}

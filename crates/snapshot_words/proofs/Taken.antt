@@ -1,5 +1,5 @@
 -- What the clauses of a parse say of the words.
-use Rattle.lemmas.proofs.{◌≡◌, List, [], ◌∷◌, true, false, None, refl, sym}
+use Rattle.lemmas.proofs.{◌≡◌, List, [], true, false, None, refl, sym}
 use Rattle.clap.specs.Words.{App, HasMatchesOf, IsAmong, Kinds, Text, fault_of, found_of, is_simple, is_simple_and_free, rows_of}
 use Rattle.clap.specs.declared.error.kind.ErrorKind.{ErrorKind}
 use Rattle.clap.specs.declared.parser.matches.ArgMatches.{ArgMatches}

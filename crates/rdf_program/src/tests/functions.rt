@@ -4,7 +4,7 @@ ghost use Rattle.entry_fns.specs.{square_of};
 
 use super::*;
 use entry_fns::shipped::Square;
-use entry_fns::{Closure, Stored};
+use entry_fns::{Closure, StoredFn};
 use rdf_values::Name;
 use std::sync::Arc;
 use std::sync::atomic::{AtomicU64, Ordering};
@@ -14,7 +14,7 @@ pub(super) fn add(
     alloc: Global,
     functions: &mut FnList,
     name: &[u8],
-    function: Stored,
+    function: StoredFn,
 ) -> Result<(), Fail> {
     let name = Name::read(alloc, name)?.ok_or("no name")?;
     match functions.add(name, function) {
@@ -61,7 +61,7 @@ fn counted_closure(rt: HostRuntime) -> Result<(), Fail> {
         alloc,
         &mut functions,
         b"square",
-        Stored::new::<Square>(square),
+        StoredFn::new::<Square>(square),
     )?;
     for (script, table, output, demanded, most) in [
         (SHARED, TABLE, "s = 15\nt = 15\nm = 9\nn = 2\n", 4, 4),

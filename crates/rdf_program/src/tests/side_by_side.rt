@@ -5,7 +5,7 @@ ghost use Rattle.entry_fns.specs.{square_of};
 use super::*;
 use crate::tests::functions::add;
 use entry_fns::shipped::Square;
-use entry_fns::{Closure, Rule, Stored};
+use entry_fns::{Closure, Rule, StoredFn};
 use std::sync::Arc;
 use std::sync::atomic::{AtomicBool, AtomicU64, Ordering};
 
@@ -26,9 +26,9 @@ fn was_set(flag: &AtomicBool) -> bool {
 }
 
 // A function that answers its argument.
-struct Same;
+struct ItsArgument;
 
-impl Rule for Same {
+impl Rule for ItsArgument {
     ghost ARITY = { 1 };
 
     const ARITY: u32 = 1;
@@ -78,7 +78,7 @@ fn two_slots_evaluate_at_once(rt: HostRuntime) -> Result<(), Fail> {
             Some(args[0])
         },
     )?;
-    let stored = Stored::new::<Same>(meet);
+    let stored = StoredFn::new::<ItsArgument>(meet);
     let mut functions = FnList::new(alloc);
     add(alloc, &mut functions, b"meet", stored)?;
     let case = Case {
@@ -186,7 +186,7 @@ fn bar_is_lowered(rt: HostRuntime) -> Result<(), Fail> {
         alloc,
         &mut functions,
         b"square",
-        Stored::new::<Square>(square),
+        StoredFn::new::<Square>(square),
     )?;
     let gate = FaultIsMet {
         met,

@@ -1,6 +1,6 @@
 use Rattle.lemmas.proofs.{◌≡◌, length, None}
 use Rattle.std.specs.List.{AllWithin}
-use Rattle.block_passes.specs.{Kept as KeptPlaces}
+use Rattle.block_passes.specs.{KeptPlaces}
 use Rattle.block_passes.proofs.reserve.forget.Given as goal
 
 abbrev pub invariant-loop-i : goal.invariant-loop-i

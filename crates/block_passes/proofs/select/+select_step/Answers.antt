@@ -1,6 +1,6 @@
 use Rattle.lemmas.proofs.{◌∙◌, ◌++◌, List, Some, ap, arith, rules, subst, sym}
 use Rattle.std.proofs.lemmas.Result.{on_ok_weaker}
-use Rattle.block_passes.specs.{IsReadyInTurn, IsSelectedInTurn, Kept as KeptView, Step}
+use Rattle.block_passes.specs.{IsReadyInTurn, IsSelectedInTurn, KeptPlaces as KeptView, Step}
 use Rattle.block_passes.proofs.Selecting.{block_selected, none_there, narrowed_selected, filter_selected}
 use Rattle.block_passes.proofs.Serving.{leaves_then}
 use Rattle.block_passes.proofs.select.+select_step.Goals as goal

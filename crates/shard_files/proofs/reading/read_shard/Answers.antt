@@ -4,14 +4,14 @@ use Rattle.shard_files.proofs.Refused.{breaks_at_end, breaks_at_line, full, read
 use Rattle.shard_files.proofs.reading.read_shard.Goals as goal
 use Rattle.shard_files.proofs.reading.read_shard.Goals.{else-is_empty-via-then-is_empty+else-is_ended, else-is_empty-via-else-is_empty}
 
-pub returns-in-Ok-None : goal.returns-in-Ok-None
-returns-in-Ok-None c =
+pub returns-in-None : goal.returns-in-None
+returns-in-None c =
     breaks_at_line c.args.bytes.now c.loop-line.progress c.loop-line.rest.now c.in-Some.line.now c.in-Some.more.now c.loop-line.number c.loop-line.invariant c.in-Some.ensures.cases.0 c.in-Some.ensures.cases.1
-    (sym c.in-Ok-None.ensures ∙ c.in-Ok-None.field-0-is)
+    (sym c.in_ok-next.ensures ∙ c.in-None.is)
 
 pub loop-line-preserved : goal.loop-line-preserved
 loop-line-preserved c =
-    read_next c.args.bytes.now c.loop-line.progress c.loop-line.rest.now c.in-Some.line.now c.in-Some.more.now c.loop-line.number c.loop-line.invariant c.in-Some.ensures.cases.0 c.in-Ok-Some.next (sym c.in-Ok-Some.ensures ∙ c.in-Ok-Some.field-0-is)
+    read_next c.args.bytes.now c.loop-line.progress c.loop-line.rest.now c.in-Some.line.now c.in-Some.more.now c.loop-line.number c.loop-line.invariant c.in-Some.ensures.cases.0 c.in-Some-2.next (sym c.in_ok-next.ensures ∙ c.in-Some-2.is)
 
 pub returns-else-is_empty : goal.returns-else-is_empty
 returns-else-is_empty c =

@@ -2,7 +2,7 @@ use Rattle.lemmas.proofs.{arith, List, ◌-◌, ◌∙◌, ap, length, subst, sy
 use Rattle.block_cache.specs.{kinds_of}
 use Rattle.rdf_values.specs.{Span}
 use Rattle.loop_keys.specs.{job_of}
-use Rattle.block_passes.specs.{CanServeAll, IsBlockTried, IsPlan, IsReadyBelow, IsStateOf, Kept, StateView}
+use Rattle.block_passes.specs.{CanServeAll, IsBlockTried, IsPlan, IsReadyBelow, IsStateOf, KeptPlaces, StateView}
 use Rattle.block_passes.specs.contracts.state.BlockState.{the_view}
 use Rattle.block_passes.proofs.ClusterBlocks.{as_entries, state_stays}
 use Rattle.block_passes.proofs.state.BlockState.try_block.Goals as goal
@@ -14,7 +14,7 @@ try_begun-requires-clause-serve g c =
 
 pub try_begun-requires-clause-ready : goal.try_begun-requires-clause-ready
 try_begun-requires-clause-ready g c =
-    subst (λ (kept : List Kept). (p : IsPlan (job_of c.args.job.now) c.self.inside.plan) → IsReadyBelow (job_of c.args.job.now) c.args.entries.lo (c.args.entries.hi - c.args.entries.lo) p.chains (c.args.entries.hi - c.args.entries.lo) c.self.inside.work.lanes.items kept) (sym c.deref_mut.ensures.value)
+    subst (λ (kept : List KeptPlaces). (p : IsPlan (job_of c.args.job.now) c.self.inside.plan) → IsReadyBelow (job_of c.args.job.now) c.args.entries.lo (c.args.entries.hi - c.args.entries.lo) p.chains (c.args.entries.hi - c.args.entries.lo) c.self.inside.work.lanes.items kept) (sym c.deref_mut.ensures.value)
     (subst (λ (s : StateView). (p : IsPlan (job_of c.args.job.now) s.plan) → IsReadyBelow (job_of c.args.job.now) c.args.entries.lo (c.args.entries.hi - c.args.entries.lo) p.chains (c.args.entries.hi - c.args.entries.lo) s.lanes s.kept) (sym c.self.view_is) c.begin.ensures.begun.ready)
 
 pub returns-clause-state : goal.returns-clause-state

@@ -9,7 +9,7 @@ pub loop-self-preserved : goal.loop-self-preserved
 loop-self-preserved c =
     let fits : SFits w64 c.in_ok-edge.edge = first_of (search rules, grind (arith, common_steps)) in
     let same : to_z w64 (of_z w64 c.in_ok-edge.edge) ≡ c.in_ok-edge.edge = to_z-of_z w64 c.in_ok-edge.edge fits in
-    items_more c.loop-self.invariant c.loop-self-test.ensures c.in_ok-edge.ensures.took (c.in_ok-push.ensures.ok ∙ ap (λ (z : ℤ). c.loop-self.rest.items ++ z ∷ []) same)
+    items_more c.loop-self.invariant c.loop-self-test.ensures c.in_ok-edge.ensures.took (c.in_ok-push.ensures.items ∙ ap (λ (z : ℤ). c.loop-self.rest.items ++ z ∷ []) same)
 
 pub returns-in_err-expect-2-clause-stuck : goal.returns-in_err-expect-2-clause-stuck
 returns-in_err-expect-2-clause-stuck c h k =

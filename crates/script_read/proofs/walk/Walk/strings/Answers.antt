@@ -7,7 +7,7 @@ pub returns-in_err-text-clause-stuck : goal.returns-in_err-text-clause-stuck
 returns-in_err-text-clause-stuck c h k = let so_far = items_go _ k c.loop-self.invariant c.loop-self-test.ensures in grind (arith, common_steps)
 
 pub loop-self-preserved : goal.loop-self-preserved
-loop-self-preserved c = items_more c.loop-self.invariant c.loop-self-test.ensures c.in_ok-text.ensures.took (ap (map quoted_of) c.in_ok-push.ensures.ok ∙ map-append quoted_of c.loop-self.rest.items (c.in_ok-text.text ∷ []))
+loop-self-preserved c = items_more c.loop-self.invariant c.loop-self-test.ensures c.in_ok-text.ensures.took (ap (map quoted_of) c.in_ok-push.ensures.items ∙ map-append quoted_of c.loop-self.rest.items (c.in_ok-text.text ∷ []))
 
 pub returns-in_err-expect-2-clause-stuck : goal.returns-in_err-expect-2-clause-stuck
 returns-in_err-expect-2-clause-stuck c h k =

@@ -3,7 +3,7 @@ use Rattle.graph_numbers.specs.{booked_statements, graph_sites, GraphView}
 use Rattle.graph.specs.{statements}
 use Rattle.snapshot_entries.specs.{data_of, plan_of}
 use Rattle.snapshot_entries.proofs.Versions.{filters_are, sites_many}
-use Rattle.snapshot_entries.proofs.wanted.Wanted.of.Goals as goal
+use Rattle.snapshot_entries.proofs.wanted.WantedSites.of.Goals as goal
 
 pub filter_sites-requires : goal.filter_sites-requires
 filter_sites-requires g c =
