@@ -1,8 +1,9 @@
 #!/usr/bin/env python3
-"""What proofs and contracts bring in is there, by a look at the text alone, in two seconds: each name that a `use` line takes from
-the specs or proofs of a crate here stands in that module, or is passed on by the root, which passes on what is there; each file of proofs/ has another name than the modules of its crate, and
-`if .. then ..` is brought in where it stands. It proves nothing; run it after crates were merged or lemmas removed, before a gate that
-would find the first such line in ten minutes. Ends with 1 where something is missing.
+"""What proofs and contracts bring in is there, by a look at the text alone, in two seconds: each name that a `use` line takes
+from the specs or proofs of a crate here stands in that module, or is passed on by the root, which passes on what is there; each
+file of proofs/ has another name than the modules of its crate, `if .. then ..` is brought in where it stands, and no two crates
+name a type alike. It proves nothing; run it after crates were merged or lemmas removed, before a gate that would find the first
+such line in ten minutes. Ends with 1 where something is missing.
 
     tools/names.py [FOLDER]        the repository in FOLDER (this one)
 """
@@ -18,6 +19,9 @@ MODIFIERS = r"(?:(?:pub|abbrev|unfoldable|opaque|data|record|ruleset)\s+)*"
 DEFINED = re.compile(r"(?m)^\s*" + MODIFIERS + r"([^\s:(){},]+(?: [^\s:(){},]+)*)\s*(?:\{[^}]*\}\s*|\([^)]*\)\s*)*:(?=\s)")
 HEADED = re.compile(r"(?m)^\s*(?:pub\s+)?(?:data|record|ruleset|module)\s+([^\s:(){},]+)")
 CHOICE = re.compile(r"(?<![\w-])if\s[^\n]*\n?[^\n]*\sthen\s")
+TYPE = re.compile(r"(?m)^\s*(?:pub(?:\([a-z]+\))? )?(?:struct|enum|trait) (\w+)")
+# Types that each program has for the same thing, with its own status.
+OF_PROGRAMS = {"Answer", "Means", "Read"}
 # Modules that the checker writes.
 WRITTEN = ("Goals", "Given", "Lts", "Reads", "OwnLists", "TheLaws")
 
@@ -116,10 +120,23 @@ def shared_names(top, crate):
             yield f"crates/{crate}/proofs/{name} is named as a module of the crate"
 
 
+def types_alike(top, known):
+    """Types that two crates name alike."""
+    homes = {}
+    for crate in known:
+        for folder, _, files in os.walk(os.path.join(top, "crates", crate, "src")):
+            for name in sorted(files):
+                for each in TYPE.findall(text_of(os.path.join(folder, name))) if name.endswith(".rt") else ():
+                    homes.setdefault(each, set()).add(crate)
+    for each in sorted(set(homes) - OF_PROGRAMS):
+        if len(homes[each]) > 1:
+            yield f"{each} is a type in {', '.join(sorted(homes[each]))}"
+
+
 def main(words):
     top = os.path.abspath(words[0]) if words else TOP
     known = crates(top)
-    faults = []
+    faults = [*types_alike(top, known)]
     for crate in known:
         faults += [*lost_names(top, crate, known), *lost_choices(top, crate), *shared_names(top, crate)]
     print("\n".join([*faults, f"names: {len(faults)} faults"]))

@@ -27,12 +27,21 @@ def found(changes: dict[str, str]) -> list[str]:
             with open(path, "w", encoding="utf-8") as file:
                 file.write(text)
         known = names.crates(top)
-        return [it for crate in known for it in [*names.lost_names(top, crate, known), *names.lost_choices(top, crate), *names.shared_names(top, crate)]]
+        each = [it for crate in known for it in [*names.lost_names(top, crate, known), *names.lost_choices(top, crate), *names.shared_names(top, crate)]]
+        return [*names.types_alike(top, known), *each]
 
 
 class Names(unittest.TestCase):
     def test_what_is_there_is_found(self) -> None:
         self.assertEqual(found({}), [])
+
+    def test_a_type_in_two_crates(self) -> None:
+        row = "#[derive(Drop)]\npub struct Row {\n}\n"
+        self.assertEqual(found({"crates/low/src/row.rt": row, "crates/high/src/row.rt": row}), ["Row is a type in high, low"])
+
+    def test_a_type_of_each_program(self) -> None:
+        answer = "pub(crate) enum Answer {\n}\n"
+        self.assertEqual(found({"crates/low/src/answer.rt": answer, "crates/high/src/answer.rt": answer}), [])
 
     def test_a_name_that_went(self) -> None:
         self.assertEqual(
